@@ -1,0 +1,100 @@
+-- The laws of fractions.
+use Rattle.std.specs.Prelude.{◌≡◌, ℕ, ◌*◌, ℤ, pos, ◌+ℤ◌, ◌*ℤ◌, refl, List, [], ◌∷◌}
+use Rattle.std.proofs.Common.{arith, ap, ◌∙◌, subst}
+use Rattle.std.proofs.Math.Nat.{zero-lt-suc, mul-pos}
+use Rattle.std.proofs.Math.IntN.{neg_ℤ, nat_abs}
+use Rattle.fraction_theory.specs.Ring.{Ring, by_ring, by_ring1, by_ring2, by_ring3, Poly, at, pnil, pone, padd, pmul, pneg}
+use Rattle.fraction_theory.specs.Integers.{ring_ℤ}
+use Rattle.fraction_theory.specs.Fraction.{Fraction, Is, same_value, itself, whole, over, ◌+ℚ◌, ◌*ℚ◌, neg_ℚ, plus_is, times_is, neg_is}
+
+abbrev by_ℤ : (vs : List ℤ) (p q : Poly) → Rattle.fraction_theory.specs.Ring.normal p ≡ Rattle.fraction_theory.specs.Ring.normal q → Rattle.fraction_theory.specs.Ring.value ring_ℤ vs p ≡ Rattle.fraction_theory.specs.Ring.value ring_ℤ vs q
+by_ℤ = by_ring ring_ℤ
+
+-- x stands for n over d as it does for m over e, where n e = m d
+restate : (x : Fraction) (n m : ℤ) (d e : ℕ) → n ≡ m → d ≡ e → Is x n d → Is x m e
+restate x n m d e p q h = subst (λ t. Is x t e) p (subst (λ t. Is x n t) q h)
+
+pub whole_is : (n : ℤ) → Is (whole n) n 1
+unfolding whole
+whole_is n = record { cross = refl }
+
+pub +ℚ_assoc : (x y z : Fraction) → (x +ℚ y) +ℚ z ≡ x +ℚ (y +ℚ z)
++ℚ_assoc x y z =
+    let l = plus_is (x +ℚ y) z (x.num *ℤ pos y.den +ℤ y.num *ℤ pos x.den) z.num (x.den * y.den) z.den (plus_is x y x.num y.num x.den y.den (itself x) (itself y)) (itself z) in
+    let r = plus_is x (y +ℚ z) x.num (y.num *ℤ pos z.den +ℤ z.num *ℤ pos y.den) x.den (y.den * z.den) (itself x) (plus_is y z y.num z.num y.den z.den (itself y) (itself z)) in
+    same_value ((x +ℚ y) +ℚ z) (x +ℚ (y +ℚ z)) (x.num *ℤ pos (y.den * z.den) +ℤ (y.num *ℤ pos z.den +ℤ z.num *ℤ pos y.den) *ℤ pos x.den) (x.den * (y.den * z.den)) (mul-pos x.above (mul-pos y.above z.above))
+    (restate ((x +ℚ y) +ℚ z) ((x.num *ℤ pos y.den +ℤ y.num *ℤ pos x.den) *ℤ pos z.den +ℤ z.num *ℤ pos (x.den * y.den)) (x.num *ℤ pos (y.den * z.den) +ℤ (y.num *ℤ pos z.den +ℤ z.num *ℤ pos y.den) *ℤ pos x.den) (x.den * y.den * z.den) (x.den * (y.den * z.den))
+    (by_ℤ (x.num ∷ pos x.den ∷ y.num ∷ pos y.den ∷ z.num ∷ pos z.den ∷ [])
+    (padd (pmul (padd (pmul (at 0) (at 3)) (pmul (at 2) (at 1))) (at 5)) (pmul (at 4) (pmul (at 1) (at 3))))
+    (padd (pmul (at 0) (pmul (at 3) (at 5))) (pmul (padd (pmul (at 2) (at 5)) (pmul (at 4) (at 3))) (at 1))) refl)
+    (Prim.omega arith) l) r
+
+pub +ℚ_comm : (x y : Fraction) → x +ℚ y ≡ y +ℚ x
+unfolding ◌+ℚ◌
++ℚ_comm x y = ap (λ t. over t (x.den * y.den)) (by_ℤ ((x.num *ℤ pos y.den) ∷ (y.num *ℤ pos x.den) ∷ []) (padd (at 0) (at 1)) (padd (at 1) (at 0)) refl) ∙ ap (λ t. over (y.num *ℤ pos x.den +ℤ x.num *ℤ pos y.den) t) (Rattle.std.proofs.Math.Nat.mul_comm x.den y.den)
+
+pub +ℚ_nil : (x : Fraction) → x +ℚ whole (pos 0) ≡ x
++ℚ_nil x = same_value (x +ℚ whole (pos 0)) x x.num x.den x.above
+    (restate (x +ℚ whole (pos 0)) (x.num *ℤ pos 1 +ℤ pos 0 *ℤ pos x.den) x.num (x.den * 1) x.den
+    (by_ℤ (x.num ∷ pos x.den ∷ []) (padd (pmul (at 0) pone) (pmul pnil (at 1))) (at 0) refl) (Prim.omega arith)
+    (plus_is x (whole (pos 0)) x.num (pos 0) x.den 1 (itself x) (whole_is (pos 0))))
+    (itself x)
+
+pub zero_is : (n : ℤ) (d : ℕ) → n ≡ pos 0 → Is (whole (pos 0)) n d
+unfolding whole
+zero_is n d e = record { cross = by_ring1 ring_ℤ (pos d ∷ n ∷ []) (pmul pnil (at 0)) (pmul (at 1) pone) (pneg pone) (at 1) pnil e refl }
+
+pub +ℚ_neg : (x : Fraction) → x +ℚ neg_ℚ x ≡ whole (pos 0)
++ℚ_neg x = same_value (x +ℚ neg_ℚ x) (whole (pos 0)) (x.num *ℤ pos x.den +ℤ neg_ℤ x.num *ℤ pos x.den) (x.den * x.den) (mul-pos x.above x.above)
+    (plus_is x (neg_ℚ x) x.num (neg_ℤ x.num) x.den x.den (itself x) (neg_is x x.num x.den (itself x)))
+    (zero_is (x.num *ℤ pos x.den +ℤ neg_ℤ x.num *ℤ pos x.den) (x.den * x.den) (by_ℤ (x.num ∷ pos x.den ∷ []) (padd (pmul (at 0) (at 1)) (pmul (pneg (at 0)) (at 1))) pnil refl))
+
+pub *ℚ_assoc : (x y z : Fraction) → (x *ℚ y) *ℚ z ≡ x *ℚ (y *ℚ z)
+*ℚ_assoc x y z = same_value ((x *ℚ y) *ℚ z) (x *ℚ (y *ℚ z)) (x.num *ℤ (y.num *ℤ z.num)) (x.den * (y.den * z.den)) (mul-pos x.above (mul-pos y.above z.above))
+    (restate ((x *ℚ y) *ℚ z) (x.num *ℤ y.num *ℤ z.num) (x.num *ℤ (y.num *ℤ z.num)) (x.den * y.den * z.den) (x.den * (y.den * z.den))
+    (by_ℤ (x.num ∷ y.num ∷ z.num ∷ []) (pmul (pmul (at 0) (at 1)) (at 2)) (pmul (at 0) (pmul (at 1) (at 2))) refl) (Prim.omega arith)
+    (times_is (x *ℚ y) z (x.num *ℤ y.num) z.num (x.den * y.den) z.den (times_is x y x.num y.num x.den y.den (itself x) (itself y)) (itself z)))
+    (times_is x (y *ℚ z) x.num (y.num *ℤ z.num) x.den (y.den * z.den) (itself x) (times_is y z y.num z.num y.den z.den (itself y) (itself z)))
+
+pub *ℚ_comm : (x y : Fraction) → x *ℚ y ≡ y *ℚ x
+unfolding ◌*ℚ◌
+*ℚ_comm x y = ap (λ t. over t (x.den * y.den)) (by_ℤ (x.num ∷ y.num ∷ []) (pmul (at 0) (at 1)) (pmul (at 1) (at 0)) refl) ∙ ap (λ t. over (y.num *ℤ x.num) t) (Rattle.std.proofs.Math.Nat.mul_comm x.den y.den)
+
+pub *ℚ_one : (x : Fraction) → x *ℚ whole (pos 1) ≡ x
+*ℚ_one x = same_value (x *ℚ whole (pos 1)) x x.num x.den x.above
+    (restate (x *ℚ whole (pos 1)) (x.num *ℤ pos 1) x.num (x.den * 1) x.den
+    (by_ℤ (x.num ∷ []) (pmul (at 0) pone) (at 0) refl) (Prim.omega arith)
+    (times_is x (whole (pos 1)) x.num (pos 1) x.den 1 (itself x) (whole_is (pos 1))))
+    (itself x)
+
+-- x stands for n over d and for k n over k d
+pub widen : (x : Fraction) (n : ℤ) (d k : ℕ) → Is x n d → Is x (n *ℤ pos k) (d * k)
+widen x n d k h = record { cross = by_ring1 ring_ℤ (x.num ∷ pos d ∷ pos k ∷ n ∷ pos x.den ∷ []) (pmul (at 0) (pmul (at 1) (at 2))) (pmul (pmul (at 3) (at 2)) (at 4)) (at 2) (pmul (at 0) (at 1)) (pmul (at 3) (at 4)) h.cross refl }
+
+pub *ℚ-+ℚ : (x y z : Fraction) → x *ℚ (y +ℚ z) ≡ x *ℚ y +ℚ x *ℚ z
+*ℚ-+ℚ x y z =
+    let l = widen (x *ℚ (y +ℚ z)) (x.num *ℤ (y.num *ℤ pos z.den +ℤ z.num *ℤ pos y.den)) (x.den * (y.den * z.den)) x.den (times_is x (y +ℚ z) x.num (y.num *ℤ pos z.den +ℤ z.num *ℤ pos y.den) x.den (y.den * z.den) (itself x) (plus_is y z y.num z.num y.den z.den (itself y) (itself z))) in
+    let r = plus_is (x *ℚ y) (x *ℚ z) (x.num *ℤ y.num) (x.num *ℤ z.num) (x.den * y.den) (x.den * z.den) (times_is x y x.num y.num x.den y.den (itself x) (itself y)) (times_is x z x.num z.num x.den z.den (itself x) (itself z)) in
+    same_value (x *ℚ (y +ℚ z)) (x *ℚ y +ℚ x *ℚ z) ((x.num *ℤ y.num) *ℤ pos (x.den * z.den) +ℤ (x.num *ℤ z.num) *ℤ pos (x.den * y.den)) (x.den * y.den * (x.den * z.den)) (mul-pos (mul-pos x.above y.above) (mul-pos x.above z.above))
+    (restate (x *ℚ (y +ℚ z)) (x.num *ℤ (y.num *ℤ pos z.den +ℤ z.num *ℤ pos y.den) *ℤ pos x.den) ((x.num *ℤ y.num) *ℤ pos (x.den * z.den) +ℤ (x.num *ℤ z.num) *ℤ pos (x.den * y.den)) (x.den * (y.den * z.den) * x.den) (x.den * y.den * (x.den * z.den))
+    (by_ℤ (x.num ∷ pos x.den ∷ y.num ∷ pos y.den ∷ z.num ∷ pos z.den ∷ [])
+    (pmul (pmul (at 0) (padd (pmul (at 2) (at 5)) (pmul (at 4) (at 3)))) (at 1))
+    (padd (pmul (pmul (at 0) (at 2)) (pmul (at 1) (at 5))) (pmul (pmul (at 0) (at 4)) (pmul (at 1) (at 3)))) refl)
+    (Prim.omega arith) l) r
+
+abbrev pub ring_ℚ : Ring Fraction
+ring_ℚ = record {
+  nil = whole (pos 0);
+  one = whole (pos 1);
+  plus = ◌+ℚ◌;
+  times = ◌*ℚ◌;
+  neg = neg_ℚ;
+  plus_assoc = +ℚ_assoc;
+  plus_comm = +ℚ_comm;
+  plus_nil = +ℚ_nil;
+  plus_neg = +ℚ_neg;
+  times_assoc = *ℚ_assoc;
+  times_comm = *ℚ_comm;
+  times_one = *ℚ_one;
+  times_plus = *ℚ-+ℚ;
+}
