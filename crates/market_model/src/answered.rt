@@ -1,0 +1,96 @@
+//! Answers to a market. MW are in 10^-9, prices and an answer's duals in 10^-6 per MWh, money
+//! and welfare in 10^-15.
+
+use exact_fraction::Passed;
+use plain_list::List;
+
+/// A limit: of a branch in the base, where the outage is 0, or after the loss of another branch.
+/// Both are rows of the case's branch matrix.
+#[derive(Clone, Copy, PartialEq, Eq, Debug)]
+pub struct RowId {
+    pub branch: u32,
+    pub outage: u32,
+}
+
+/// The prices of a limit: of its upper and of its lower side, of which one is 0.
+#[derive(Clone, Copy, Debug)]
+pub struct Dual<N> {
+    pub row: RowId,
+    pub up: N,
+    pub down: N,
+}
+
+/// The price of energy, and of each limit that has one.
+#[derive(Drop, Debug)]
+pub struct Duals<N> {
+    pub energy: N,
+    pub limits: List<Dual<N>>,
+}
+
+/// A bus price in its two parts.
+#[derive(Clone, Copy, Debug)]
+pub struct Price<N> {
+    pub energy: N,
+    pub congestion: N,
+    pub total: N,
+}
+
+/// A unit's output and what it is paid.
+#[derive(Clone, Copy, Debug)]
+pub struct UnitPay<N> {
+    pub mw: N,
+    pub paid: N,
+}
+
+/// A bus's demand and what it pays.
+#[derive(Clone, Copy, Debug)]
+pub struct Load<N> {
+    pub mw: N,
+    pub pays: N,
+}
+
+/// What a limit earns, with the flow that it bounds.
+#[derive(Clone, Copy, Debug)]
+pub struct Rent<N> {
+    pub row: RowId,
+    pub flow: N,
+    pub rent: N,
+}
+
+/// The settlement: an entry for each live unit, each live bus and each limit with a dual.
+#[derive(Drop, Debug)]
+pub struct Money<N> {
+    pub units: List<UnitPay<N>>,
+    pub loads: List<Load<N>>,
+    pub rents: List<Rent<N>>,
+    /// What loads pay less what units are paid.
+    pub surplus: N,
+}
+
+/// A cleared market.
+#[derive(Drop, Debug)]
+pub struct Answer<N> {
+    /// The accepted MW of each block.
+    pub dispatch: List<N>,
+    pub duals: Duals<N>,
+    /// One for each live bus.
+    pub prices: List<Price<N>>,
+    pub welfare: N,
+    pub money: Money<N>,
+}
+
+/// Duals that show that no dispatch is feasible: their bound is below 0.
+#[derive(Drop, Debug)]
+pub struct Farkas<N> {
+    pub duals: Duals<N>,
+    /// In 10^-9 MW.
+    pub bound: N,
+}
+
+/// What a clear came to.
+#[derive(Drop, Debug)]
+pub enum Outcome<N> {
+    Cleared(Answer<N>),
+    Infeasible(Farkas<N>),
+    Range(Passed<N>),
+}
