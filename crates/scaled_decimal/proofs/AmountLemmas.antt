@@ -150,14 +150,14 @@ same_under negative n exact zeros places shift exponent length e s ends few shor
       ]
     ]
 
-pub units_up : (d : Decimal) (places size zeros shift : ℕ) → d.lowers ≡ false → (s : IsSignificand (digits_of d) size zeros) → shift ≡ min (digits_value 10 d.exponent) (2 ^ 100) → length d.part < 2 ^ 64
+pub units_up : (d : Decimal) (places size zeros shift : ℕ) → d.exponent_negative ≡ false → (s : IsSignificand (digits_of d) size zeros) → shift ≡ min (digits_value 10 d.exponent) (2 ^ 100) → length d.part < 2 ^ 64
     → whole_number d.negative (s.exact * 10 ^ (places + zeros + shift)) (10 ^ length d.part) ≡ units_in places d
 unfolding units_in
 units_up d places size zeros shift up s e short =
     let at : length d.part + 0 ≡ length d.part = Prim.omega arith in
     Prim.rw up (Prim.rw at (same_above d.negative (digits_of d) s.exact zeros places shift (digits_value 10 d.exponent) (length d.part) s.number e short))
 
-pub units_down : (d : Decimal) (places size zeros shift : ℕ) → d.lowers ≡ true → (s : IsSignificand (digits_of d) size zeros) → shift ≡ min (digits_value 10 d.exponent) (2 ^ 100) → places ≤ 18 → zeros < 2 ^ 64
+pub units_down : (d : Decimal) (places size zeros shift : ℕ) → d.exponent_negative ≡ true → (s : IsSignificand (digits_of d) size zeros) → shift ≡ min (digits_value 10 d.exponent) (2 ^ 100) → places ≤ 18 → zeros < 2 ^ 64
     → whole_number d.negative (s.exact * 10 ^ (places + zeros)) (10 ^ (length d.part + shift)) ≡ units_in places d
 unfolding units_in
 units_down d places size zeros shift down s e few short =

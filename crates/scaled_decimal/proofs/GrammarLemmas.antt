@@ -148,21 +148,21 @@ mantissa_cut text whole part m =
           })
     ]
 
-record TailCut (mantissa tail : List ℕ) (lowers : Bool) (exponent : List ℕ) : Type 0 where
+record TailCut (mantissa tail : List ℕ) (exponent_negative : Bool) (exponent : List ℕ) : Type 0 where
   before : before_first is_mark (mantissa ++ tail) ≡ mantissa
-  lowers_is : is_negative (after_first is_mark (mantissa ++ tail)) ≡ lowers
+  exponent_negative_is : is_negative (after_first is_mark (mantissa ++ tail)) ≡ exponent_negative
   exponent_is : without_sign (after_first is_mark (mantissa ++ tail)) ≡ exponent
   digits : list_all is_ascii_digit exponent ≡ true
   some_digit : not (has_mark (mantissa ++ tail) && length exponent == 0) ≡ true
 
-tail_cut : (mantissa tail : List ℕ) (lowers : Bool) (exponent : List ℕ) → Lacks is_mark mantissa → IsExponent tail lowers exponent → TailCut mantissa tail lowers exponent
-tail_cut mantissa tail lowers exponent lacks e = elim e [
+tail_cut : (mantissa tail : List ℕ) (exponent_negative : Bool) (exponent : List ℕ) → Lacks is_mark mantissa → IsExponent tail exponent_negative exponent → TailCut mantissa tail exponent_negative exponent
+tail_cut mantissa tail exponent_negative exponent lacks e = elim e [
   | inl a ↦
       let same : mantissa ≡ mantissa ++ tail = sym (append-nil mantissa) ∙ ap (λ t. mantissa ++ t) (sym a.0) in
       let after : after_first is_mark (mantissa ++ tail) ≡ [] = ap (after_first is_mark) (sym same) ∙ after-Lacks is_mark mantissa lacks in
       record {
         before = ap (before_first is_mark) (sym same) ∙ before-Lacks is_mark mantissa lacks;
-        lowers_is = ap is_negative after ∙ sym a.1;
+        exponent_negative_is = ap is_negative after ∙ sym a.1;
         exponent_is = ap without_sign after ∙ sym a.2;
         digits = ap (list_all is_ascii_digit) a.2;
         some_digit = not_from_false _ (and_left _ _ (ap has_mark (sym same) ∙ le-ltb (position_or_len is_mark mantissa) (length mantissa) (passed-Lacks is_mark mantissa lacks)));
@@ -170,11 +170,11 @@ tail_cut mantissa tail lowers exponent lacks e = elim e [
   | inr m ↦
       let w : list_all is_ascii_digit exponent ≡ true = list_all-from_AllPass is_ascii_digit exponent m.digits in
       let starts : is_sign (slice_index exponent 0) ≡ false = ap (λ t. is_sign (slice_index t 0)) (sym (append-nil exponent)) ∙ digits_head exponent [] m.some_digit w in
-      let at = sign_cut m.sign lowers exponent m.signs starts in
+      let at = sign_cut m.sign exponent_negative exponent m.signs starts in
       let after : after_first is_mark (mantissa ++ tail) ≡ m.sign ++ exponent = ap (λ t. after_first is_mark (mantissa ++ t)) m.text_is ∙ after-at is_mark mantissa m.mark (m.sign ++ exponent) lacks m.marks in
       record {
         before = ap (λ t. before_first is_mark (mantissa ++ t)) m.text_is ∙ before-at is_mark mantissa m.mark (m.sign ++ exponent) lacks m.marks;
-        lowers_is = ap is_negative after ∙ at.1;
+        exponent_negative_is = ap is_negative after ∙ at.1;
         exponent_is = ap without_sign after ∙ at.0;
         digits = w;
         some_digit = not_from_false _ (and_right _ _ (ne_eqb (length exponent) 0 (λ z. Prim.omega (arith, m.some_digit))));
@@ -182,22 +182,22 @@ tail_cut mantissa tail lowers exponent lacks e = elim e [
 ]
 
 same_decimal : (n n' : Bool) (w w' p p' : List ℕ) (l l' : Bool) (e e' : List ℕ) → n ≡ n' → w ≡ w' → p ≡ p' → l ≡ l' → e ≡ e'
-    → ◌≡◌ {A = Decimal} (record { negative = n; whole = w; part = p; lowers = l; exponent = e }) (record { negative = n'; whole = w'; part = p'; lowers = l'; exponent = e' })
+    → ◌≡◌ {A = Decimal} (record { negative = n; whole = w; part = p; exponent_negative = l; exponent = e }) (record { negative = n'; whole = w'; part = p'; exponent_negative = l'; exponent = e' })
 same_decimal n n' w w' p p' l l' e e' a b c d f = Prim.rw (a, b, c, d, f) refl
 
 pub decimal_in-Spells : (text : List ℕ) (d : Decimal) → Spells text d → decimal_in text ≡ Some d
 unfolding decimal_in
 decimal_in-Spells text d s =
     let m = mantissa_cut s.mantissa d.whole d.part s.mantissas in
-    let t = tail_cut s.mantissa s.tail d.lowers d.exponent m.no_mark s.exponents in
+    let t = tail_cut s.mantissa s.tail d.exponent_negative d.exponent m.no_mark s.exponents in
     let g = sign_cut s.sign d.negative (s.mantissa ++ s.tail) s.signs (m.no_sign s.tail) in
     let body : without_sign text ≡ s.mantissa ++ s.tail = ap without_sign s.text_is ∙ g.0 in
     let mantissa : before_first is_mark (without_sign text) ≡ s.mantissa = ap (before_first is_mark) body ∙ t.before in
     let parts : cut text ≡ d = same_decimal (is_negative text) d.negative
     (before_first is_point (before_first is_mark (without_sign text))) d.whole (after_first is_point (before_first is_mark (without_sign text))) d.part
-    (is_negative (after_first is_mark (without_sign text))) d.lowers (without_sign (after_first is_mark (without_sign text))) d.exponent
+    (is_negative (after_first is_mark (without_sign text))) d.exponent_negative (without_sign (after_first is_mark (without_sign text))) d.exponent
     (ap is_negative s.text_is ∙ g.1) (ap (before_first is_point) mantissa ∙ m.before) (ap (after_first is_point) mantissa ∙ m.after)
-    (ap (λ b. is_negative (after_first is_mark b)) body ∙ t.lowers_is) (ap (λ b. without_sign (after_first is_mark b)) body ∙ t.exponent_is) in
+    (ap (λ b. is_negative (after_first is_mark b)) body ∙ t.exponent_negative_is) (ap (λ b. without_sign (after_first is_mark b)) body ∙ t.exponent_is) in
     let good : is_well_formed (has_mark (s.mantissa ++ s.tail)) d ≡ true =
     and_from _ _ (and_from _ _ (and_from _ _ (and_from _ _ m.whole_digits m.part_digits) t.digits) m.some_digit) t.some_digit in
     let yet : is_well_formed (has_mark (without_sign text)) (cut text) ≡ true = ap (λ b. is_well_formed (has_mark b) (cut text)) body ∙ (ap (is_well_formed (has_mark (s.mantissa ++ s.tail))) parts ∙ good) in

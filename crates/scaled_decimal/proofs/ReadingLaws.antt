@@ -1,5 +1,5 @@
 -- The functions give the readings that the relations name, and each text has one reading.
-use Rattle.std.specs.Prelude.{◌≡◌, ◌≢◌, ℕ, ◌+◌, ◌*◌, ◌/◌, ◌%◌, ◌^◌, ◌↔◌, ◌||◌, ℤ, pos, ◌*ℤ◌, refl, unsigned_abs, Bool, true, false, List, Option, Some, None, Result, Ok, Err, is_some, IsTrue}
+use Rattle.std.specs.Prelude.{◌<◌, ◌≡◌, ◌≢◌, ℕ, ◌+◌, ◌*◌, ◌/◌, ◌%◌, ◌^◌, ◌↔◌, ◌||◌, ℤ, pos, ◌*ℤ◌, refl, unsigned_abs, Bool, true, false, List, Option, Some, None, Result, Ok, Err, is_some, IsTrue}
 use Rattle.std.proofs.Common.{arith, ap, sym, subst, ◌∙◌, inl, inr}
 use Rattle.std.proofs.Math.Nat.{mul_assoc, mul-mod_left}
 use Rattle.std.proofs.lemmas.Nat.{pow-add, div-add-mod'}
@@ -9,7 +9,7 @@ use Rattle.fraction_theory.specs.Fraction.{Fraction, over}
 use Rattle.fraction_theory.specs.declared.Sign.{Sign}
 use Rattle.scaled_decimal.specs.declared.DecimalFault.{DecimalFault}
 use Rattle.scaled_decimal.specs.declared.DecimalFault.TheVariants.{BadNumber, NotFinite, TooFine, OutOfRange}
-use Rattle.scaled_decimal.specs.Decimal.{Decimal, Spells, IsNumber, signed, digits_of, tens_above, tens_under, value_of}
+use Rattle.scaled_decimal.specs.Decimal.{Denotes, Decimal, Spells, IsNumber, signed, digits_of, tens_above, tens_under, value_of}
 use Rattle.scaled_decimal.specs.Reading.{Reads, OneReading, HasSign, OneSign, sign_of_number, sign_of_decimal, decimal_in, is_not_finite, of_decimal, fault_of_text, in_range, units_in, units_of, sign_in, is_number_text}
 use Rattle.scaled_decimal.proofs.AmountLemmas.{ten_above, whole_exact, whole_not, in_range_yes, in_range_no}
 use Rattle.scaled_decimal.proofs.ScaleLemmas.{scale_cancel, cross_from_over, over_from_cross, signed_times, abs_signed, sign_of_over, sign_scale}
@@ -188,3 +188,20 @@ one_reading places bytes r s h k = sym (units_of-Reads places bytes r h) ∙ uni
 
 pub one_sign : OneSign
 one_sign bytes r s h k = sym (sign_in-HasSign bytes r h) ∙ sign_in-HasSign bytes s k
+
+-- ---- for other crates
+-- a number of units that is read is in range
+pub units_of-in_range : (places : ℕ) (bytes : List ℕ) (n : ℤ) → units_of places bytes ≡ Ok n → unsigned_abs n < 2 ^ 63
+units_of-in_range places bytes n e = (subst (Reads places bytes) e (Reads-units_of places bytes)).1
+
+-- a text that is a number is never read as none
+pub units_of-IsNumber : (places : ℕ) (bytes : List ℕ) → IsNumber bytes → units_of places bytes ≢ Err BadNumber
+units_of-IsNumber places bytes is e = subst (Reads places bytes) e (Reads-units_of places bytes) is
+
+-- a text has one value at most
+pub Denotes_unique : (bytes : List ℕ) (x y : Fraction) → Denotes bytes x → Denotes bytes y → x ≡ y
+Denotes_unique bytes x y h k =
+    let e = decimal_in-Spells bytes h.0 h.1 in
+    let f = decimal_in-Spells bytes k.0 k.1 in
+    let same : h.0 ≡ k.0 = Prim.cc in
+    h.2 ∙ (ap value_of same ∙ sym k.2)

@@ -53,11 +53,11 @@ abbrev pub has_mark : List ℕ → Bool
 has_mark text = nat_lt (position_or_len is_mark text) (length text)
 
 abbrev pub cut_at_point : Bool → List ℕ → Bool → List ℕ → Decimal
-cut_at_point negative mantissa lowers exponent = record {
+cut_at_point negative mantissa exponent_negative exponent = record {
   negative = negative;
   whole = before_first is_point mantissa;
   part = after_first is_point mantissa;
-  lowers = lowers;
+  exponent_negative = exponent_negative;
   exponent = exponent;
 }
 

@@ -5,7 +5,7 @@ use Rattle.scaled_decimal.specs.declared.text.Numeral.{Numeral}
 use Rattle.scaled_decimal.specs.Decimal.{Decimal}
 
 abbrev pub view : Numeral → Decimal
-view n = record { negative = n.negative; whole = n.whole.now; part = n.part.now; lowers = n.lowers; exponent = n.exponent.now }
+view n = record { negative = n.negative; whole = n.whole.now; part = n.part.now; exponent_negative = n.exponent_negative; exponent = n.exponent.now }
 
 pub record HasDigits (d : Decimal) : Type 0 where
   pub whole : AllPass is_ascii_digit d.whole

@@ -146,7 +146,7 @@ pub fn units(numeral: &Numeral<'_>, places: u8) -> Result<i64, DecimalFault>
     let shift = exponent_size(numeral.exponent);
     let above = u128::from(places) + u128::from(digits.zeros);
     let under = numeral.part.len() as u128;
-    if numeral.lowers {
+    if numeral.exponent_negative {
         shifted(numeral.negative, digits.size, above, under + shift)
     } else {
         shifted(numeral.negative, digits.size, above + shift, under)

@@ -1,4 +1,8 @@
 //! Reads decimals as whole numbers of units, exactly.
+//!
+//! A number is `[+ or -] (digits [. [digits]] | . digits) [(e or E) [+ or -] digits]`, or
+//! `[+ or -]` followed by `Inf`, `inf`, `NaN` or `nan`. Digits are one or more ASCII digits.
+//! Nothing here takes memory, and texts and exponents may have any length.
 #![tactic(auto)]
 
 ghost use Rattle.std.specs.Prelude.{◌≡◌, ◌≤◌, ◌↔◌, None, Some, IsTrue, MatchResult, IfErr, IfOk};
@@ -41,7 +45,7 @@ fn decimal(bytes: &[u8]) -> Result<Numeral<'_>, DecimalFault>
     }
 }
 
-/// The number of units of `10^-places` that the bytes write, with any exponent.
+/// The number of units of `10^-places` that the decimal's value is.
 pub fn read(bytes: &[u8], places: u8) -> Result<i64, DecimalFault>
     requires { places ≤ 18 }
 

@@ -46,6 +46,10 @@ fn reads_units(rt: HostRuntime) {
         assert!(rt; places <= 18);
         assert_eq!(rt; read(text, places), want, "{text:?}");
     }
+    let nines = [b'9'; 3000];
+    assert_eq!(rt; read(&nines, 0), Err(DecimalFault::OutOfRange));
+    let zeros = [b'0'; 3000];
+    assert_eq!(rt; read(&zeros, 18), Ok(0));
 }
 
 #[test]

@@ -16,7 +16,7 @@ pub struct Numeral<'a> {
     /// Digits behind the point.
     pub part: &'a [u8],
     /// Whether the exponent is negative.
-    pub lowers: bool,
+    pub exponent_negative: bool,
     /// Digits of the exponent.
     pub exponent: &'a [u8],
 }
@@ -85,7 +85,7 @@ fn cut_text(bytes: &[u8]) -> (Numeral<'_>, bool)
 {
     let (negative, body) = behind_sign(bytes);
     let mark = mark_place(body);
-    let (lowers, exponent) = behind_sign(behind(body, mark));
+    let (exponent_negative, exponent) = behind_sign(behind(body, mark));
     let mantissa = &body[..mark];
     let point = point_place(mantissa);
     let whole = &mantissa[..point];
@@ -95,7 +95,7 @@ fn cut_text(bytes: &[u8]) -> (Numeral<'_>, bool)
             negative,
             whole,
             part,
-            lowers,
+            exponent_negative,
             exponent,
         },
         mark < body.len(),
