@@ -1,0 +1,5 @@
+pub mod AmountLemmas
+pub mod CutLemmas
+pub mod GrammarLemmas
+pub mod ReadingLaws
+pub mod ScaleLemmas

@@ -1,0 +1,5 @@
+use Rattle.scaled_decimal.proofs.ReadingLaws as readings
+use Rattle.scaled_decimal.proofs.laws.one_sign.Goals as goal
+
+pub returns : goal.returns
+returns c = readings.one_sign

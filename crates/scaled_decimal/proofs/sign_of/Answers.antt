@@ -1,0 +1,20 @@
+use Rattle.std.proofs.Common.{sym, subst, ap, ◌∙◌, Ok, Err}
+use Rattle.std.proofs.lemmas.Result.{err_from_is_err_and}
+use Rattle.scaled_decimal.specs.Reading.{HasSign}
+use Rattle.scaled_decimal.specs.View.{view}
+use Rattle.scaled_decimal.proofs.ReadingLaws.{sign_in-Some, sign_in-None, HasSign-sign_in}
+use Rattle.scaled_decimal.proofs.sign_of.Goals as goal
+
+pub returns-in_err-found-clause-is : goal.returns-in_err-found-clause-is
+returns-in_err-found-clause-is c =
+    let p = err_from_is_err_and c.from_residual.result c.from_residual.ensures.1 in
+    Prim.rw (p.1, p.2) (ap Err c.in_err-found.ensures.fault ∙ sym (sign_in-None c.args.bytes.now c.in_err-found.ensures.parts))
+
+pub returns-in_err-found-clause-means : goal.returns-in_err-found-clause-means
+returns-in_err-found-clause-means c = subst (HasSign c.args.bytes.now) (sym (returns-in_err-found-clause-is c)) (HasSign-sign_in c.args.bytes.now)
+
+pub returns-clause-is : goal.returns-clause-is
+returns-clause-is c = ap Ok c.sign_of_parts.ensures ∙ sym (sign_in-Some c.args.bytes.now (view c.in_ok-found.found) c.in_ok-found.ensures.parts)
+
+pub returns-clause-means : goal.returns-clause-means
+returns-clause-means c = subst (HasSign c.args.bytes.now) (sym (returns-clause-is c)) (HasSign-sign_in c.args.bytes.now)

@@ -1,0 +1,4 @@
+pub mod Amount
+pub mod Decimal
+pub mod Reading
+pub mod View
