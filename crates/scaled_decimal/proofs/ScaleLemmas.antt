@@ -3,7 +3,8 @@ use Rattle.std.specs.Prelude.{◌≡◌, ℕ, ◌*◌, ◌/◌, ◌<◌, ℤ, po
 use Rattle.std.proofs.Common.{zero, suc, arith, ap, sym, subst, ◌∙◌}
 use Rattle.std.proofs.Math.IntN.{neg_ℤ}
 use Rattle.std.proofs.Math.Nat.{mul_assoc, mul_comm, zero-mul, mul-pos, mul-div_cancel}
-use Rattle.fraction_theory.specs.Fraction.{Fraction, over, over_is, Is, same_value}
+use Rattle.fraction_theory.specs.Fraction.{Fraction, over}
+use Rattle.fraction_theory.proofs.FractionLaws.{over_is, Is, same_value}
 use Rattle.fraction_theory.specs.declared.Sign.TheVariants.{Below, Above}
 use Rattle.scaled_decimal.specs.Decimal.{signed}
 use Rattle.scaled_decimal.specs.Reading.{sign_of_number}
