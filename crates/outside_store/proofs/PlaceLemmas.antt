@@ -1,12 +1,12 @@
 -- The file of a name, before and after it is written.
-use Rattle.std.specs.Prelude.{◌≡◌, ◌≢◌, ℕ, ◌+◌, ◌<◌, ◌≤◌, ◌∷◌, List, [], length, Some, None, Bool, true, false, is_some, cond, ◌++◌, map}
-use Rattle.std.proofs.Common.{suc, arith, ap, sym, ◌∙◌, refl, subst, get_or, take, length-take}
+use Rattle.std.specs.Prelude.{◌≡◌, ◌≢◌, ℕ, ◌+◌, ◌-◌, ◌<◌, ◌≤◌, ◌∷◌, List, [], length, Some, None, Bool, true, false, is_some, cond, ◌++◌, map}
+use Rattle.std.proofs.Common.{suc, arith, ap, sym, ◌∙◌, refl, subst, get_or, take, length-take, length-set}
 use Rattle.std.proofs.Math.ListN.{set}
 use Rattle.std.proofs.Math.Seq.{take-set-lt}
 use Rattle.std.specs.List.{position, position_from}
 use Rattle.std.specs.Str.{bytes_eq}
 use Rattle.std.proofs.lemmas.Iterator.Adapters.{position_from-zero}
-use Rattle.std.proofs.lemmas.List.{take_more_set}
+use Rattle.std.proofs.lemmas.List.{take_more_set, get_or-take}
 use Rattle.std.proofs.lemmas.Slice.Eq.{bytes_eq-Decides}
 use Rattle.outside_store.specs.Memory.{find}
 use Rattle.outside_store.specs.Places.{shown, shown_all}
@@ -103,7 +103,9 @@ find_some files name k any e = (found files name [] k any any e).was
 -- the place of the name is given new bytes
 pub replaced : (places : List NamedFile) (used k : ℕ) (name bytes : List ℕ) (old new : NamedFile) → position (is_of name) (take used places) ≡ Some k → old ≡ get_or places k old → shown new ≡ (old.name.bytes, bytes)
     → Changed name bytes (shown_all (take used places)) (shown_all (take used (set places k new)))
-replaced places used k name bytes old new e is h = ?
+replaced places used k name bytes old new e is h = let f = found (take used places) name bytes k old new e in
+    let below : k < used = Prim.omega (arith, f.within, length-take used places) in
+    subst (λ files. Changed name bytes (shown_all (take used places)) (shown_all files)) (sym (take-set-lt used places k new below)) (f.changed (is ∙ sym (get_or-take used places k old below)) h)
 
 -- ---- a place for a new name
 
@@ -127,3 +129,17 @@ pub put_at_end : (places : List NamedFile) (used : ℕ) (name bytes : List ℕ) 
     → Changed name bytes (shown_all (take used places)) (shown_all (take (used + 1) (set places used new)))
 put_at_end places used name bytes new h e is = subst (λ files. Changed name bytes (shown_all (take used places)) (shown_all files)) (sym (take_more_set places used new h))
     (appended (take used places) name bytes new (find_none (take used places) name e) is)
+
+-- ---- room
+
+-- a name that is there is not one that is missing
+pub is_there : (files : List (List ℕ × List ℕ)) (name : List ℕ) → is_some (find files name) ≡ true → find files name ≡ None → ⊥
+is_there files name e none = let f : is_some (find files name) ≡ false = ap is_some none in Prim.cc
+
+-- no place is taken or given back where a name that was there is written
+pub free_kept : (places : List NamedFile) (used k : ℕ) (new : NamedFile) (t : Bool) → t ≡ true → length (set places k new) - used ≡ (length places - used) - cond t 0 1
+free_kept places used k new t e = let l = length-set places k new in let q : (length places - used) - cond t 0 1 ≡ (length places - used) - 0 = ap (λ (b : Bool). (length places - used) - cond b 0 1) e in Prim.omega (arith, l, q)
+
+-- one place is taken where a new name is written
+pub free_taken : (places : List NamedFile) (used : ℕ) (new : NamedFile) (t : Bool) → t ≡ false → length (set places used new) - (used + 1) ≡ (length places - used) - cond t 0 1
+free_taken places used new t e = let l = length-set places used new in let q : (length places - used) - cond t 0 1 ≡ (length places - used) - 1 = ap (λ (b : Bool). (length places - used) - cond b 0 1) e in Prim.omega (arith, l, q)

@@ -1,5 +1,5 @@
 // A store in memory, for trying out what a caller does where a call fails.
-ghost use Rattle.std.specs.Prelude.{◌≡◌, ℕ, ◌<◌, ◌≤◌, ◌+◌, ◌^◌, ◌↔◌, ◌⊎◌, [], length, Some, None, MatchOption, IfOk, OnOk, OnErr, IsErr};
+ghost use Rattle.std.specs.Prelude.{◌≡◌, ℕ, ◌<◌, ◌≤◌, ◌+◌, ◌^◌, ◌↔◌, ◌⊎◌, [], length, Some, None, MatchOption, IfOk, OnOk, OnErr, IsErr, MatchResult, take};
 ghost use Rattle.std.specs.Result.{IsErrOf};
 ghost use Rattle.outside_store.specs.Causes.{CountsFault, Still};
 ghost use Rattle.outside_store.specs.Files.{SameFiles, Reads, Wrote};
@@ -123,6 +123,13 @@ impl MemoryStore {
     }
 }
 
+/// A copy of at most so many of the first bytes.
+fn copy_up_to(alloc: Global, bytes: &[u8], most: usize) -> Result<Vec<u8>, ReadStop>
+    ensures { MatchResult result (λ copy. copy.items ≡ take most bytes.now) (λ stop. stop ≡ ReadStop.Memory) }
+{
+    Vec::from_slice(alloc, &bytes[..bytes.len().min(most)]).map_err(|_| ReadStop::Memory)
+}
+
 impl Store for MemoryStore {
     ghost use Rattle.std.specs.Prelude.{Some};
     ghost use Rattle.outside_store.specs.Memory.{find};
@@ -150,7 +157,7 @@ impl Store for MemoryStore {
             self.read_faults = self.read_faults.saturating_add(1);
             return Err(ReadStop::Failed);
         };
-        Vec::from_slice(alloc, &bytes[..bytes.len().min(limit + 1)]).map_err(|_| ReadStop::Memory)
+        copy_up_to(alloc, bytes, limit + 1)
     }
 
     fn write(&mut self, name: &str, bytes: &[u8]) -> Result<(), Failed>

@@ -16,7 +16,11 @@ pub(crate) struct NamedFile {
 
 impl NamedFile {
     /// A place that holds nothing yet.
-    pub(crate) fn new(alloc: Global, name_room: usize, byte_room: usize) -> Result<NamedFile, AllocError>
+    pub(crate) fn new(
+        alloc: Global,
+        name_room: usize,
+        byte_room: usize,
+    ) -> Result<NamedFile, AllocError>
         ensures { IfOk result (IsRoomy name_room byte_room) }
     {
         let name = BoundedBytes::new(alloc, name_room)?;
