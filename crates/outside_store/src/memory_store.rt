@@ -1,7 +1,7 @@
 // A store in memory, for trying out what a caller does where a call fails.
 ghost use Rattle.std.specs.Prelude.{◌≡◌, ℕ, ◌<◌, ◌≤◌, ◌+◌, ◌^◌, ◌↔◌, ◌⊎◌, [], length, Some, None, MatchOption, IfOk, OnOk, OnErr, IsErr, MatchResult, take};
 ghost use Rattle.std.specs.Result.{IsErrOf};
-ghost use Rattle.outside_store.specs.Causes.{CountsFault, Still};
+ghost use Rattle.outside_store.specs.Causes.{CountsFault, Still, raised};
 ghost use Rattle.outside_store.specs.Files.{SameFiles, Reads, Wrote};
 ghost use Rattle.outside_store.specs.Memory.{find, IsPastRoom, Stores};
 ghost use Rattle.outside_store.specs.Plan.{IsNextListed, advanced};
@@ -147,7 +147,8 @@ impl Store for MemoryStore {
         ensures cause { CountsFault (IsErrOf result ReadStop.Failed) name.now (λ _. self.old.failed_reads) (λ _. self.new.failed_reads) }
         ensures writes { Still (λ _. self.old.failed_writes) (λ _. self.new.failed_writes) }
         ensures refused { IsErrOf result ReadStop.Failed ↔ ((IsNextListed self.old.plan) ⊎ (find self.old.files name.now ≡ None)) }
-        ensures rest { self.new ≡ record self.old { plan = advanced self.old.plan; failed_reads = self.new.failed_reads } }
+        ensures failed { IsErrOf result ReadStop.Failed → self.new ≡ record self.old { plan = advanced self.old.plan; failed_reads = raised self.old.failed_reads } }
+        ensures answered { ¬ IsErrOf result ReadStop.Failed → self.new ≡ record self.old { plan = advanced self.old.plan } }
     {
         if self.schedule.next_fails() {
             self.read_faults = self.read_faults.saturating_add(1);
@@ -166,8 +167,8 @@ impl Store for MemoryStore {
         ensures reads { Still (λ _. self.old.failed_reads) (λ _. self.new.failed_reads) }
         ensures refused { IsErr result ↔ ((IsNextListed self.old.plan) ⊎ (IsPastRoom self.old name.now bytes.now)) }
         ensures stored { OnOk result (Stores name.now bytes.now self.old self.new) }
-        ensures kept { OnErr result (self.new.files ≡ self.old.files) }
-        ensures rest { self.new ≡ record self.old { files = self.new.files; free = self.new.free; plan = advanced self.old.plan; failed_writes = self.new.failed_writes } }
+        ensures rest { OnOk result (self.new ≡ record self.old { files = self.new.files; free = self.new.free; plan = advanced self.old.plan }) }
+        ensures failed { OnErr result (self.new ≡ record self.old { plan = advanced self.old.plan; failed_writes = raised self.old.failed_writes }) }
     {
         if self.schedule.next_fails() || self.add(name, bytes).is_err() {
             self.write_faults = self.write_faults.saturating_add(1);

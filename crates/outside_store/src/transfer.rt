@@ -1,49 +1,48 @@
 // Bytes to and from the system, piece by piece.
-ghost use Rattle.std.specs.Prelude.{◌≡◌, ℕ, ◌<◌, ◌≤◌, ◌+◌, ◌^◌, length, IfOk, IfErr};
+ghost use Rattle.std.specs.Prelude.{◌≡◌, ℕ, ◌<◌, ◌≤◌, ◌+◌, take, vec_len, IfOk, IfSome, IsTrue};
+ghost use Rattle.std.specs.Io.KnownBytes.{Appends};
 
 use crate::ReadStop;
 use std::alloc::Global;
 use std::io::{Read, Write};
 
-/// What a reader gives, at most so many bytes. A read that gives nothing ends the input.
+const PIECE: usize = 4096;
+
+/// The first bytes that a reader gives, at most so many. A read that gives nothing ends the input.
 pub(crate) fn read_up_to<F: Read>(
     alloc: Global,
     file: &mut F,
     most: usize,
 ) -> Result<Vec<u8>, ReadStop>
-    ensures { IfOk result (λ bytes. length bytes.items ≤ most) }
+    ensures most { IfOk result (λ bytes. vec_len bytes ≤ most) }
+    ensures first { IfOk result (λ bytes. IfSome (F.remaining file.old) (λ given. bytes.items ≡ take most given)) }
 {
     let mut bytes = Vec::new(alloc);
-    let mut chunk = [0u8; 4096];
-    for _ in 0..u64::MAX {
-        let wanted = most - bytes.len();
-        if wanted == 0 {
+    let mut piece = [0u8; PIECE];
+    while bytes.len() < most {
+        let room = PIECE.min(most - bytes.len());
+        let Ok(count) = file.read(&mut piece[..room]) else {
+            return Err(ReadStop::Failed);
+        };
+        if count == 0 {
             break;
         }
-        match file.read(&mut chunk) {
-            Ok(0) => break,
-            Ok(count) => {
-                if bytes
-                    .extend_from_slice(&chunk[..count.min(wanted)])
-                    .is_err()
-                {
-                    return Err(ReadStop::Memory);
-                }
-            }
-            Err(_) => return Err(ReadStop::Failed),
+        if bytes.extend_from_slice(&piece[..count]).is_err() {
+            return Err(ReadStop::Memory);
         }
     }
     Ok(bytes)
 }
 
 /// Whether a writer took all the bytes. One that takes nothing of a piece that is not empty has failed.
-pub(crate) fn write_whole<F: Write>(file: &mut F, bytes: &[u8]) -> bool {
+pub(crate) fn write_whole<F: Write>(file: &mut F, bytes: &[u8]) -> bool
+    ensures { IsTrue result → Appends (F.contents file.old) (F.contents file.new) bytes.now }
+{
     let mut rest = bytes;
     while !rest.is_empty() {
         match file.write(rest) {
-            Ok(0) => return false,
-            Ok(count) => rest = &rest[count..],
-            Err(_) => return false,
+            Ok(count) if count > 0 => rest = &rest[count..],
+            _ => return false,
         }
     }
     true
