@@ -1,5 +1,5 @@
 // Bytes within a room that is taken when they are made, so that no later call asks for memory.
-ghost use Rattle.std.specs.Prelude.{◌≡◌, ℕ, ◌+◌, ◌≤◌, ◌<◌, [], ◌++◌, length, IfOk, MatchResult};
+ghost use Rattle.std.specs.Prelude.{◌≡◌, ◌≤◌, ◌↔◌, [], ◌++◌, length, IfOk, OnOk, OnErr, IsErr};
 ghost use Rattle.outside_store.specs.Recorder.{IsFull};
 
 use std::alloc::{AllocError, Global};
@@ -23,7 +23,8 @@ impl Model for BoundedBytes {
 
     ghost view = { λ held. record { bytes = held.items.items; room = held.limit } };
 
-    ghost invariant = { λ held. (vec_len held.items ≤ held.limit) × (held.limit ≤ vec_capacity held.items) };
+    ghost invariant = { λ held. (vec_len held.items ≤ held.limit)
+        × (held.limit ≤ vec_capacity held.items) };
 }
 
 impl BoundedBytes {
@@ -42,8 +43,9 @@ impl BoundedBytes {
 
     /// Adds the bytes at the end, if there is room for all of them.
     pub(crate) fn append(&mut self, more: &[u8]) -> Result<(), NoRoom>
-        ensures fits { MatchResult result (λ _. length self.old.bytes + length more.now ≤ self.old.room) (λ _. IsFull self.old more.now) }
-        ensures items { MatchResult result (λ _. self.new ≡ record self.old { bytes = self.old.bytes ++ more.now }) (λ _. self.new ≡ self.old) }
+        ensures full { IsErr result ↔ IsFull self.old more.now }
+        ensures ok { OnOk result (self.new ≡ record self.old { bytes = self.old.bytes ++ more.now }) }
+        ensures err { OnErr result (self.new ≡ self.old) }
     {
         if more.len() > self.limit - self.items.len() {
             return Err(NoRoom);

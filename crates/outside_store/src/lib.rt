@@ -51,14 +51,15 @@ pub trait Store {
     // How many writes of a name failed.
     ghost failed_writes: { Self → List ℕ → ℕ };
 
-    /// The whole of a file, cut after its first `limit + 1` bytes, so that a longer file is told from one of `limit` bytes.
+    /// The whole of a file, cut after its first `limit + 1` bytes.
     ///
-    /// A name that is not there is a failed read.
+    /// So a file of more than `limit` bytes shows as one. A name that is not there is a failed read.
     fn read(&mut self, alloc: Global, name: &str, limit: usize) -> Result<Vec<u8>, ReadStop>
         requires { limit + 1 < 2 ^ 64 }
         ensures same { SameFiles (files self.old) (files self.new) }
         ensures bytes { IfOk result (λ v. Reads (files self.old) name.now limit v.items) }
-        ensures cause { CountsFault (IsErrOf result ReadStop.Failed) name.now (failed_reads self.old) (failed_reads self.new) }
+        ensures cause { CountsFault (IsErrOf result ReadStop.Failed) name.now
+            (failed_reads self.old) (failed_reads self.new) }
         ensures writes { Still (failed_writes self.old) (failed_writes self.new) };
 
     /// Gives a name these bytes in place of what it had.
@@ -66,7 +67,8 @@ pub trait Store {
     /// After a failed write the name has what it had, or a prefix of the bytes.
     fn write(&mut self, name: &str, bytes: &[u8]) -> Result<(), Failed>
         ensures wrote { Wrote (IsErr result) name.now bytes.now (files self.old) (files self.new) }
-        ensures cause { CountsFault (IsErr result) name.now (failed_writes self.old) (failed_writes self.new) }
+        ensures cause { CountsFault (IsErr result) name.now
+            (failed_writes self.old) (failed_writes self.new) }
         ensures reads { Still (failed_reads self.old) (failed_reads self.new) };
 }
 

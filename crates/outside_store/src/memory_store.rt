@@ -1,5 +1,5 @@
 // A store in memory, for trying out what a caller does where a call fails.
-ghost use Rattle.std.specs.Prelude.{◌≡◌, ℕ, ◌<◌, ◌≤◌, ◌+◌, ◌^◌, ◌↔◌, ◌⊎◌, [], length, Some, None, MatchOption, IfOk, OnOk, OnErr, IsErr, MatchResult, take};
+ghost use Rattle.std.specs.Prelude.{◌≡◌, ℕ, ◌<◌, ◌+◌, ◌^◌, ◌↔◌, ◌⊎◌, [], take, MatchOption, IfOk, IfErr, OnOk, OnErr, IsErr};
 ghost use Rattle.std.specs.Result.{IsErrOf};
 ghost use Rattle.outside_store.specs.Causes.{CountsFault, Still, raised};
 ghost use Rattle.outside_store.specs.Files.{SameFiles, Reads, Wrote};
@@ -45,15 +45,34 @@ impl Model for MemoryStore {
 
     ghost use Rattle.outside_store.specs.Places.{shown_all, IsRoomy};
 
-    ghost view = { λ store. record { files = shown_all (take store.used store.places.items); free = length store.places.items - store.used; name_room = store.room.name; byte_room = store.room.bytes; plan = store.schedule; failed_reads = store.read_faults; failed_writes = store.write_faults } };
+    ghost view = { λ store. record {
+      files = shown_all (take store.used store.places.items);
+      free = length store.places.items - store.used;
+      name_room = store.room.name;
+      byte_room = store.room.bytes;
+      plan = store.schedule;
+      failed_reads = store.read_faults;
+      failed_writes = store.write_faults;
+    } };
 
-    ghost invariant = { λ store. (store.used ≤ length store.places.items) × (All (IsRoomy store.room.name store.room.bytes) store.places.items) };
+    ghost invariant = { λ store. (store.used ≤ length store.places.items)
+        × (All (IsRoomy store.room.name store.room.bytes) store.places.items) };
 }
 
 impl MemoryStore {
-    /// A store with no file yet. `failing` has the numbers of the calls that are to fail, the first read or write being number 0.
+    /// A store with no file yet.
+    ///
+    /// `failing` has the numbers of the calls that are to fail, the first read or write being number 0.
     pub fn new(alloc: Global, room: Room, failing: &[u64]) -> Result<MemoryStore, AllocError>
-        ensures { IfOk result (λ store. store ≡ record { files = []; free = room.files; name_room = room.name; byte_room = room.bytes; plan = record { failing = failing.now; calls = 0 }; failed_reads = 0; failed_writes = 0 }) }
+        ensures { IfOk result (λ store. store ≡ record {
+          files = [];
+          free = room.files;
+          name_room = room.name;
+          byte_room = room.bytes;
+          plan = record { failing = failing.now; calls = 0 };
+          failed_reads = 0;
+          failed_writes = 0;
+        }) }
     {
         let mut places = Vec::with_capacity(alloc, room.files)?;
         for _ in 0..room.files {
@@ -70,7 +89,9 @@ impl MemoryStore {
         })
     }
 
-    /// Puts a file there, in place of what the name had. This is no call: it is not numbered, and never made to fail.
+    /// Puts a file there, in place of what the name had.
+    ///
+    /// This is for setting a store up: it is not numbered among the calls, and fails only where there is no room.
     pub fn add(&mut self, name: &str, bytes: &[u8]) -> Result<(), NoRoom>
         ensures refused { IsErr result ↔ IsPastRoom self.old name.now bytes.now }
         ensures stored { OnOk result (Stores name.now bytes.now self.old self.new) }
@@ -96,7 +117,8 @@ impl MemoryStore {
 
     /// The bytes of a name.
     pub fn bytes(&self, name: &str) -> Option<&[u8]>
-        ensures { MatchOption result (find self.now.files name.now ≡ None) (λ bytes. find self.now.files name.now ≡ Some bytes.now) }
+        ensures { let there = find self.now.files name.now in
+            MatchOption result (there ≡ None) (λ bytes. there ≡ Some bytes.now) }
     {
         bytes_of(&self.places[..self.used], name.as_bytes())
     }
@@ -125,7 +147,8 @@ impl MemoryStore {
 
 /// A copy of at most so many of the first bytes.
 fn copy_up_to(alloc: Global, bytes: &[u8], most: usize) -> Result<Vec<u8>, ReadStop>
-    ensures { MatchResult result (λ copy. copy.items ≡ take most bytes.now) (λ stop. stop ≡ ReadStop.Memory) }
+    ensures copy { IfOk result (λ copy. copy.items ≡ take most bytes.now) }
+    ensures memory { IfErr result (λ stop. stop ≡ ReadStop.Memory) }
 {
     Vec::from_slice(alloc, &bytes[..bytes.len().min(most)]).map_err(|_| ReadStop::Memory)
 }
@@ -144,31 +167,50 @@ impl Store for MemoryStore {
         requires { limit + 1 < 2 ^ 64 }
         ensures same { SameFiles (Some (find self.old.files)) (Some (find self.new.files)) }
         ensures bytes { IfOk result (λ v. Reads (Some (find self.old.files)) name.now limit v.items) }
-        ensures cause { CountsFault (IsErrOf result ReadStop.Failed) name.now (λ _. self.old.failed_reads) (λ _. self.new.failed_reads) }
+        ensures cause { CountsFault (IsErrOf result ReadStop.Failed) name.now
+            (λ _. self.old.failed_reads) (λ _. self.new.failed_reads) }
         ensures writes { Still (λ _. self.old.failed_writes) (λ _. self.new.failed_writes) }
-        ensures refused { IsErrOf result ReadStop.Failed ↔ ((IsNextListed self.old.plan) ⊎ (find self.old.files name.now ≡ None)) }
-        ensures failed { IsErrOf result ReadStop.Failed → self.new ≡ record self.old { plan = advanced self.old.plan; failed_reads = raised self.old.failed_reads } }
-        ensures answered { ¬ IsErrOf result ReadStop.Failed → self.new ≡ record self.old { plan = advanced self.old.plan } }
+
+        // Exactly when a read fails, and what else a call changes.
+        ensures refused { IsErrOf result ReadStop.Failed
+            ↔ ((IsNextListed self.old.plan) ⊎ (find self.old.files name.now ≡ None)) }
+        ensures failed { IsErrOf result ReadStop.Failed → self.new ≡ record self.old {
+          plan = advanced self.old.plan;
+          failed_reads = raised self.old.failed_reads;
+        } }
+        ensures answered { ¬ IsErrOf result ReadStop.Failed
+            → self.new ≡ record self.old { plan = advanced self.old.plan } }
     {
-        if self.schedule.next_fails() {
-            self.read_faults = self.read_faults.saturating_add(1);
-            return Err(ReadStop::Failed);
+        let fails = self.schedule.next_fails();
+        match bytes_of(&self.places[..self.used], name.as_bytes()) {
+            Some(bytes) if !fails => copy_up_to(alloc, bytes, limit + 1),
+            _ => {
+                self.read_faults = self.read_faults.saturating_add(1);
+                Err(ReadStop::Failed)
+            }
         }
-        let Some(bytes) = bytes_of(&self.places[..self.used], name.as_bytes()) else {
-            self.read_faults = self.read_faults.saturating_add(1);
-            return Err(ReadStop::Failed);
-        };
-        copy_up_to(alloc, bytes, limit + 1)
     }
 
     fn write(&mut self, name: &str, bytes: &[u8]) -> Result<(), Failed>
-        ensures wrote { Wrote (IsErr result) name.now bytes.now (Some (find self.old.files)) (Some (find self.new.files)) }
-        ensures cause { CountsFault (IsErr result) name.now (λ _. self.old.failed_writes) (λ _. self.new.failed_writes) }
+        ensures wrote { Wrote (IsErr result) name.now bytes.now
+            (Some (find self.old.files)) (Some (find self.new.files)) }
+        ensures cause { CountsFault (IsErr result) name.now
+            (λ _. self.old.failed_writes) (λ _. self.new.failed_writes) }
         ensures reads { Still (λ _. self.old.failed_reads) (λ _. self.new.failed_reads) }
-        ensures refused { IsErr result ↔ ((IsNextListed self.old.plan) ⊎ (IsPastRoom self.old name.now bytes.now)) }
+
+        // Exactly when a write fails, and what else a call changes.
+        ensures refused { IsErr result
+            ↔ ((IsNextListed self.old.plan) ⊎ (IsPastRoom self.old name.now bytes.now)) }
         ensures stored { OnOk result (Stores name.now bytes.now self.old self.new) }
-        ensures rest { OnOk result (self.new ≡ record self.old { files = self.new.files; free = self.new.free; plan = advanced self.old.plan }) }
-        ensures failed { OnErr result (self.new ≡ record self.old { plan = advanced self.old.plan; failed_writes = raised self.old.failed_writes }) }
+        ensures rest { OnOk result (self.new ≡ record self.old {
+          files = self.new.files;
+          free = self.new.free;
+          plan = advanced self.old.plan;
+        }) }
+        ensures failed { OnErr result (self.new ≡ record self.old {
+          plan = advanced self.old.plan;
+          failed_writes = raised self.old.failed_writes;
+        }) }
     {
         if self.schedule.next_fails() || self.add(name, bytes).is_err() {
             self.write_faults = self.write_faults.saturating_add(1);

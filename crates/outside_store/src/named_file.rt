@@ -58,7 +58,8 @@ pub(crate) fn place_of(files: &[NamedFile], name: &[u8]) -> Option<usize>
 
 /// The bytes of a name.
 pub(crate) fn bytes_of<'a>(files: &'a [NamedFile], name: &[u8]) -> Option<&'a [u8]>
-    ensures { MatchOption result (find (shown_all files.now) name.now ≡ None) (λ bytes. find (shown_all files.now) name.now ≡ Some bytes.now) }
+    ensures { let there = find (shown_all files.now) name.now in
+        MatchOption result (there ≡ None) (λ bytes. there ≡ Some bytes.now) }
 {
     for file in files {
         if file.name.as_slice() == name {

@@ -14,8 +14,9 @@ pub(crate) fn read_up_to<F: Read>(
     file: &mut F,
     most: usize,
 ) -> Result<Vec<u8>, ReadStop>
-    ensures most { IfOk result (λ bytes. vec_len bytes ≤ most) }
-    ensures first { IfOk result (λ bytes. IfSome (F.remaining file.old) (λ given. bytes.items ≡ take most given)) }
+    ensures within { IfOk result (λ bytes. vec_len bytes ≤ most) }
+    ensures first { IfOk result (λ bytes.
+        IfSome (F.remaining file.old) (λ given. bytes.items ≡ take most given)) }
 {
     let mut bytes = Vec::new(alloc);
     let mut piece = [0u8; PIECE];
