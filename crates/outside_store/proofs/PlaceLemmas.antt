@@ -1,5 +1,5 @@
 -- The file of a name, before and after it is written.
-use Rattle.std.specs.Prelude.{◌≡◌, ◌≢◌, ℕ, ◌+◌, ◌-◌, ◌<◌, ◌≤◌, ◌∷◌, List, [], length, Some, None, Bool, true, false, is_some, cond, ◌++◌, map}
+use Rattle.std.specs.Prelude.{◌≡◌, ◌≢◌, ℕ, ◌+◌, ◌-◌, ◌<◌, ◌∷◌, List, [], length, Some, None, Bool, true, false, is_some, cond, ◌++◌}
 use Rattle.std.proofs.Common.{suc, arith, ap, sym, ◌∙◌, refl, subst, get_or, take, length-take, length-set}
 use Rattle.std.proofs.Math.ListN.{set}
 use Rattle.std.proofs.Math.Seq.{take-set-lt}

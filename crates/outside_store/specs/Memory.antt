@@ -1,5 +1,5 @@
 -- What a store in memory holds.
-use Rattle.std.specs.Prelude.{◌≡◌, ◌≢◌, ℕ, ◌-◌, ◌<◌, ◌∷◌, List, [], length, Option, Some, None, IsNone, is_some, ◌⊎◌, cond, if◌then◌else◌}
+use Rattle.std.specs.Prelude.{◌≡◌, ◌≢◌, ℕ, ◌-◌, ◌<◌, ◌∷◌, List, [], length, Option, Some, None, is_some, ◌⊎◌, cond, if◌then◌else◌}
 use Rattle.std.specs.Str.{bytes_eq}
 use Rattle.outside_store.specs.Plan.{Plan}
 
@@ -19,9 +19,13 @@ abbrev pub find : List (List ℕ × List ℕ) → List ℕ → Option (List ℕ)
 find [] name = None
 find (file ∷ files) name = cond (bytes_eq file.0 name) (Some file.1) (find files name)
 
+-- the name is not there, and no place can be given to it
+abbrev pub HasNoPlace : Memory → List ℕ → Type 0
+HasNoPlace store name = (find store.files name ≡ None) × ((store.name_room < length name) ⊎ (store.free ≡ 0))
+
 -- there is no room for these bytes under this name
 abbrev pub IsPastRoom : Memory → List ℕ → List ℕ → Type 0
-IsPastRoom store name bytes = (store.byte_room < length bytes) ⊎ ((find store.files name ≡ None) × ((store.name_room < length name) ⊎ (store.free ≡ 0)))
+IsPastRoom store name bytes = (store.byte_room < length bytes) ⊎ HasNoPlace store name
 
 -- the name has the bytes, other names have what they had, and a name that was not there took one of the free places
 pub record Stores (name bytes : List ℕ) (old new : Memory) : Type 0 where

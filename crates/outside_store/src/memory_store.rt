@@ -1,5 +1,6 @@
 // A store in memory, for trying out what a caller does where a call fails.
-ghost use Rattle.std.specs.Prelude.{◌≡◌, ℕ, ◌<◌, ◌+◌, ◌^◌, ◌↔◌, ◌⊎◌, [], take, MatchOption, IfOk, IfErr, OnOk, OnErr, IsErr};
+ghost use Rattle.std.specs.Prelude.{◌≡◌, ℕ, ◌<◌, ◌+◌, ◌^◌, ◌↔◌, ◌⊎◌, [], take};
+ghost use Rattle.std.specs.Prelude.{MatchOption, IfOk, IfErr, OnOk, OnErr, IsErr};
 ghost use Rattle.std.specs.Result.{IsErrOf};
 ghost use Rattle.outside_store.specs.Causes.{CountsFault, Still, raised};
 ghost use Rattle.outside_store.specs.Files.{SameFiles, Reads, Wrote};

@@ -33,17 +33,17 @@ impl NamedFile {
         requires name { length name.now ≤ self.old.name.room }
         requires bytes { length bytes.now ≤ self.old.bytes.room }
         ensures shown { shown self.new ≡ (name.now, bytes.now) }
-        ensures roomy { (n : ℕ) (b : ℕ) → IsRoomy n b self.old → IsRoomy n b self.new }
+        ensures roomy { (n b : ℕ) → IsRoomy n b self.old → IsRoomy n b self.new }
     {
         self.name.replace(name);
-        self.bytes.replace(bytes);
+        self.replace(bytes);
     }
 
     /// Replaces the bytes of the file.
     pub(crate) fn replace(&mut self, bytes: &[u8])
         requires { length bytes.now ≤ self.old.bytes.room }
         ensures shown { shown self.new ≡ (self.old.name.bytes, bytes.now) }
-        ensures roomy { (n : ℕ) (b : ℕ) → IsRoomy n b self.old → IsRoomy n b self.new }
+        ensures roomy { (n b : ℕ) → IsRoomy n b self.old → IsRoomy n b self.new }
     {
         self.bytes.replace(bytes);
     }

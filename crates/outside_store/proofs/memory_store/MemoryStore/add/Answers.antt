@@ -1,4 +1,4 @@
-use Rattle.std.proofs.Common.{◌≡◌, ◌+◌, ◌<◌, ◌≤◌, arith, sym, ◌∙◌, ap, refl, length, inl, inr, take, Some, None, is_some, false, ⊎_elim}
+use Rattle.std.proofs.Common.{◌≡◌, arith, sym, ◌∙◌, ap, refl, inl, inr, take, Some, None, is_some, ⊎_elim}
 use Rattle.std.specs.List.{position}
 use Rattle.outside_store.specs.Places.{shown_all}
 use Rattle.outside_store.proofs.PlaceLemmas.{is_of, is_there, find_none, find_some, replaced, put_at_end, free_kept, free_taken}
