@@ -1,5 +1,0 @@
-use Rattle.std.proofs.Common.{◌≤◌, vec_len}
-use Rattle.outside_store.proofs.file_store.read_up_to.Given as goal
-
-abbrev pub invariant-loop : goal.invariant-loop
-invariant-loop g l = vec_len l.bytes ≤ l.most
