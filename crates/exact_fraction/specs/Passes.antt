@@ -5,9 +5,6 @@ use Rattle.fraction_theory.specs.Divisors.{lcm}
 use Rattle.exact_fraction.specs.declared.Op.{Op}
 use Rattle.exact_fraction.specs.declared.Op.TheVariants.{Plus, Minus, Times}
 use Rattle.exact_fraction.specs.declared.Passed.{Passed}
-use Rattle.exact_fraction.specs.declared.Sign.{Sign}
-use Rattle.exact_fraction.specs.declared.Sign.TheVariants.{Below, Zero, Above}
-use Rattle.std.specs.Prelude.{◌<ℤ◌}
 
 -- Over the least common denominator, a numerator, their sum or the denominator itself passes the bound.
 unfoldable pub SumPasses : ℕ → Fraction → Fraction → Type 0
@@ -46,8 +43,3 @@ pub record IsPassed {N : Type 0} (value : N → Fraction) (bound : ℕ) (op : Op
 -- the exact outcome, or, exactly where it passes the bound, the operation with its two sides
 abbrev pub IsExact : {N : Type 0} → (N → Fraction) → ℕ → Op → N → N → Result N (Passed N) → Type 0
 IsExact value bound op left right result = MatchResult result (IsOutcome value bound op left right) (IsPassed value bound op left right)
-
-abbrev pub IsSign : Sign → Fraction → Type 0
-IsSign Below x = x.num <ℤ pos 0
-IsSign Zero x = x.num ≡ pos 0
-IsSign Above x = pos 0 <ℤ x.num
