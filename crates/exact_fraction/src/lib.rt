@@ -34,8 +34,8 @@ pub struct Passed<N> {
 /// Fractions in lowest terms whose numerators and denominators have a size of at most the type's bound.
 /// No call takes memory, and only `plus`, `minus` and `times` can pass the bound.
 pub trait Exact: Copy {
-    ghost use Rattle.fraction_theory.specs.Fraction.{Fraction, neg_ℚ, over, whole};
-    ghost use Rattle.fraction_theory.specs.Order.{recip_ℚ, ◌<ℚ◌};
+    ghost use Rattle.fraction_theory.specs.Fraction.{Fraction, neg_ℚ, over, recip_ℚ, whole};
+    ghost use Rattle.fraction_theory.specs.Order.{◌<ℚ◌};
     ghost use Rattle.fraction_theory.specs.Signs.{sign_of};
     ghost use Rattle.std.specs.Ordering.{MatchOrdering};
     ghost use Rattle.exact_fraction.specs.Passes.{IsExact};

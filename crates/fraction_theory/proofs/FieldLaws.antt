@@ -1,13 +1,13 @@
--- The laws of fractions.
-use Rattle.std.specs.Prelude.{◌≡◌, ℕ, ◌*◌, ℤ, pos, ◌+ℤ◌, ◌*ℤ◌, refl, List, [], ◌∷◌}
-use Rattle.std.proofs.Common.{arith, ap, ◌∙◌, subst}
+-- Fractions are a field.
+use Rattle.std.specs.Prelude.{◌≡◌, ℕ, ◌*◌, ℤ, pos, negsuc, ◌+ℤ◌, ◌*ℤ◌, neg_ℤ, refl, List, [], ◌∷◌}
+use Rattle.std.proofs.Common.{zero, suc, arith, ap, ◌∙◌, subst}
 use Rattle.std.proofs.Math.Nat.{zero-lt-suc, mul-pos}
-use Rattle.std.proofs.Math.IntN.{neg_ℤ, nat_abs}
-use Rattle.fraction_theory.specs.Ring.{Ring, by_ring, by_ring1, by_ring2, by_ring3, Poly, at, pnil, pone, padd, pmul, pneg}
-use Rattle.fraction_theory.specs.Integers.{ring_ℤ}
-use Rattle.fraction_theory.specs.Fraction.{Fraction, Is, same_value, itself, whole, over, ◌+ℚ◌, ◌*ℚ◌, neg_ℚ, plus_is, times_is, neg_is}
+use Rattle.fraction_theory.proofs.Ring.{Ring, by_ring, by_ring1, by_ring2, by_ring3, Poly, at, pnil, pone, padd, pmul, pneg}
+use Rattle.fraction_theory.proofs.IntegerLaws.{ring_ℤ}
+use Rattle.fraction_theory.specs.Fraction.{Fraction, whole, over, ◌+ℚ◌, ◌*ℚ◌, neg_ℚ, recip_ℚ, turned_over}
+use Rattle.fraction_theory.proofs.FractionLaws.{Is, same_value, itself, over_is, plus_is, times_is, neg_is}
 
-abbrev by_ℤ : (vs : List ℤ) (p q : Poly) → Rattle.fraction_theory.specs.Ring.normal p ≡ Rattle.fraction_theory.specs.Ring.normal q → Rattle.fraction_theory.specs.Ring.value ring_ℤ vs p ≡ Rattle.fraction_theory.specs.Ring.value ring_ℤ vs q
+abbrev by_ℤ : (vs : List ℤ) (p q : Poly) → Rattle.fraction_theory.proofs.Ring.normal p ≡ Rattle.fraction_theory.proofs.Ring.normal q → Rattle.fraction_theory.proofs.Ring.value ring_ℤ vs p ≡ Rattle.fraction_theory.proofs.Ring.value ring_ℤ vs q
 by_ℤ = by_ring ring_ℤ
 
 -- x stands for n over d as it does for m over e, where n e = m d
@@ -98,3 +98,26 @@ ring_ℚ = record {
   times_one = *ℚ_one;
   times_plus = *ℚ-+ℚ;
 }
+
+pub one_is : (n : ℤ) (d : ℕ) → n ≡ pos d → Is (whole (pos 1)) n d
+unfolding whole
+one_is n d e = record { cross = by_ring1 ring_ℤ (pos d ∷ n ∷ []) (pmul pone (at 0)) (pmul (at 1) pone) (pneg pone) (at 1) (at 0) e refl }
+
+recip_at : (x : Fraction) (n : ℤ) → x.num ≡ n → ¬ (n ≡ pos 0) → x *ℚ turned_over n x.den ≡ whole (pos 1)
+recip_at x (pos zero) e h = absurd (h refl)
+recip_at x (pos (suc n)) e h = same_value (x *ℚ over (pos x.den) (suc n)) (whole (pos 1)) (x.num *ℤ pos x.den) (x.den * suc n) (mul-pos x.above (zero-lt-suc n))
+    (times_is x (over (pos x.den) (suc n)) x.num (pos x.den) x.den (suc n) (itself x) (over_is (pos x.den) (suc n) (zero-lt-suc n)))
+    (one_is (x.num *ℤ pos x.den) (x.den * suc n) (ap (λ t. t *ℤ pos x.den) e ∙ ap pos (Prim.omega arith)))
+recip_at x (negsuc n) e h = same_value (x *ℚ over (neg_ℤ (pos x.den)) (suc n)) (whole (pos 1)) (x.num *ℤ neg_ℤ (pos x.den)) (x.den * suc n) (mul-pos x.above (zero-lt-suc n))
+    (times_is x (over (neg_ℤ (pos x.den)) (suc n)) x.num (neg_ℤ (pos x.den)) x.den (suc n) (itself x) (over_is (neg_ℤ (pos x.den)) (suc n) (zero-lt-suc n)))
+    (one_is (x.num *ℤ neg_ℤ (pos x.den)) (x.den * suc n) (ap (λ t. t *ℤ neg_ℤ (pos x.den)) e ∙ by_ring ring_ℤ (pos (suc n) ∷ pos x.den ∷ []) (pmul (pneg (at 0)) (pneg (at 1))) (pmul (at 1) (at 0)) refl))
+
+pub *ℚ-recip : (x : Fraction) → ¬ (x ≡ whole (pos 0)) → x *ℚ recip_ℚ x ≡ whole (pos 1)
+unfolding recip_ℚ
+*ℚ-recip x h = recip_at x x.num refl (λ e. h (same_value x (whole (pos 0)) x.num x.den x.above (itself x) (zero_is x.num x.den e)))
+
+-- the only number that times x is 1
+pub recip_unique : (x v : Fraction) → ¬ (x ≡ whole (pos 0)) → x.num *ℤ v.num ≡ pos (x.den * v.den) → v ≡ recip_ℚ x
+recip_unique x v n e =
+    let one : x *ℚ v ≡ whole (pos 1) = same_value (x *ℚ v) (whole (pos 1)) (x.num *ℤ v.num) (x.den * v.den) (mul-pos x.above v.above) (times_is x v x.num v.num x.den v.den (itself x) (itself v)) (one_is (x.num *ℤ v.num) (x.den * v.den) e) in
+    by_ring2 ring_ℚ (x ∷ v ∷ recip_ℚ x ∷ []) (at 1) (at 2) (at 2) (pmul (at 0) (at 1)) pone (pneg (at 1)) (pmul (at 0) (at 2)) pone one (*ℚ-recip x n) refl

@@ -1,12 +1,14 @@
--- Weak duality, as a trial of the laws.
+-- Weak duality of linear programs, and columns that their prices support.
 use Rattle.std.specs.Prelude.{◌≡◌, pos, List, [], ◌∷◌, refl}
 use Rattle.std.proofs.Common.{sym, ◌∙◌, subst, inl, inr}
 use Rattle.std.specs.List.{AllByRecursion}
-use Rattle.fraction_theory.specs.Ring.{by_ring, by_ring1, at, pnil, padd, pmul, pneg}
+use Rattle.fraction_theory.proofs.Ring.{by_ring, by_ring1, at, pnil, padd, pmul, pneg}
 use Rattle.fraction_theory.specs.Fraction.{Fraction, whole, ◌-ℚ◌, ◌*ℚ◌}
-use Rattle.fraction_theory.specs.Field.{ring_ℚ}
-use Rattle.fraction_theory.specs.Order.{◌≤ℚ◌, NonNeg, ≤ℚ_trans, *ℚ-≤ℚ, by_rest, NonNeg-times, le_to, ≤ℚ-or-<ℚ, <ℚ-not-≤ℚ, <ℚ-≤ℚ, ≤ℚ_antisym, ≤ℚ_of_same}
-use Rattle.fraction_theory.specs.Sums.{sum_by, sum_by-exchange, sum_by-≤, sum_by-same, sum_by-times}
+use Rattle.fraction_theory.proofs.FieldLaws.{ring_ℚ}
+use Rattle.fraction_theory.specs.Order.{◌≤ℚ◌, NonNeg}
+use Rattle.fraction_theory.proofs.OrderLaws.{≤ℚ_trans, *ℚ-≤ℚ, by_rest, NonNeg-times, le_to, ≤ℚ-or-<ℚ, <ℚ-not-≤ℚ, <ℚ-≤ℚ, ≤ℚ_antisym, ≤ℚ_of_same}
+use Rattle.fraction_theory.specs.Sums.{sum_by}
+use Rattle.fraction_theory.proofs.SumLaws.{sum_by-exchange, sum_by-≤, sum_by-same, sum_by-times}
 
 module _ {S T : Type 0} (rows : List S) (columns : List T) (a : S → T → Fraction) (bound : S → Fraction) (price : T → Fraction) (x : T → Fraction) (y : S → Fraction) where
   pub record Feasible : Type 0 where
