@@ -6,6 +6,7 @@ ghost use Rattle.std.specs.Prelude.{◌≡◌, ◌≢◌, ℕ, ◌<◌, ◌≤�
 pub use fraction_theory::Sign;
 use std::cmp::Ordering;
 
+pub mod laws;
 pub mod ratio;
 mod text;
 pub mod word;

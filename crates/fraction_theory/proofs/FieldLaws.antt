@@ -1,7 +1,7 @@
 -- Fractions are a field.
-use Rattle.std.specs.Prelude.{◌≡◌, ℕ, ◌*◌, ℤ, pos, negsuc, ◌+ℤ◌, ◌*ℤ◌, neg_ℤ, refl, List, [], ◌∷◌}
-use Rattle.std.proofs.Common.{zero, suc, arith, ap, ◌∙◌, subst}
-use Rattle.std.proofs.Math.Nat.{zero-lt-suc, mul-pos}
+use Rattle.std.specs.Prelude.{◌≡◌, ℕ, ◌*◌, ◌<◌, ℤ, pos, negsuc, ◌+ℤ◌, ◌*ℤ◌, neg_ℤ, refl, List, [], ◌∷◌}
+use Rattle.std.proofs.Common.{zero, suc, arith, ap, sym, ◌∙◌, subst}
+use Rattle.std.proofs.Math.Nat.{zero-lt-suc, mul-pos, mul_comm}
 use Rattle.fraction_theory.proofs.Ring.{Ring, by_ring, by_ring1, by_ring2, by_ring3, Poly, at, pnil, pone, padd, pmul, pneg}
 use Rattle.fraction_theory.proofs.IntegerLaws.{ring_ℤ}
 use Rattle.fraction_theory.specs.Fraction.{Fraction, whole, over, ◌+ℚ◌, ◌*ℚ◌, neg_ℚ, recip_ℚ, turned_over}
@@ -121,3 +121,24 @@ pub recip_unique : (x v : Fraction) → ¬ (x ≡ whole (pos 0)) → x.num *ℤ 
 recip_unique x v n e =
     let one : x *ℚ v ≡ whole (pos 1) = same_value (x *ℚ v) (whole (pos 1)) (x.num *ℤ v.num) (x.den * v.den) (mul-pos x.above v.above) (times_is x v x.num v.num x.den v.den (itself x) (itself v)) (one_is (x.num *ℤ v.num) (x.den * v.den) e) in
     by_ring2 ring_ℚ (x ∷ v ∷ recip_ℚ x ∷ []) (at 1) (at 2) (at 2) (pmul (at 0) (at 1)) pone (pneg (at 1)) (pmul (at 0) (at 2)) pone one (*ℚ-recip x n) refl
+
+-- whole numbers
+pub whole-+ℚ : (m n : ℤ) → whole (m +ℤ n) ≡ whole m +ℚ whole n
+whole-+ℚ m n = same_value (whole (m +ℤ n)) (whole m +ℚ whole n) (m *ℤ pos 1 +ℤ n *ℤ pos 1) (1 * 1) (zero-lt-suc 0)
+    (restate (whole (m +ℤ n)) (m +ℤ n) (m *ℤ pos 1 +ℤ n *ℤ pos 1) 1 (1 * 1) (by_ring ring_ℤ (m ∷ n ∷ []) (padd (at 0) (at 1)) (padd (pmul (at 0) pone) (pmul (at 1) pone)) refl) refl (whole_is (m +ℤ n)))
+    (plus_is (whole m) (whole n) m n 1 1 (whole_is m) (whole_is n))
+
+pub whole-*ℚ : (m n : ℤ) → whole (m *ℤ n) ≡ whole m *ℚ whole n
+whole-*ℚ m n = same_value (whole (m *ℤ n)) (whole m *ℚ whole n) (m *ℤ n) 1 (zero-lt-suc 0) (whole_is (m *ℤ n)) (times_is (whole m) (whole n) m n 1 1 (whole_is m) (whole_is n))
+
+pub whole-neg : (n : ℤ) → whole (neg_ℤ n) ≡ neg_ℚ (whole n)
+whole-neg n = same_value (whole (neg_ℤ n)) (neg_ℚ (whole n)) (neg_ℤ n) 1 (zero-lt-suc 0) (whole_is (neg_ℤ n)) (neg_is (whole n) n 1 (whole_is n))
+
+pub over-one : (n : ℤ) → over n 1 ≡ whole n
+over-one n = same_value (over n 1) (whole n) n 1 (zero-lt-suc 0) (over_is n 1 (zero-lt-suc 0)) (whole_is n)
+
+-- fractions with equal cross products are one
+pub over-same : (a c : ℤ) (b d : ℕ) → 0 < b → 0 < d → a *ℤ pos d ≡ c *ℤ pos b → over a b ≡ over c d
+over-same a c b d hb hd e = same_value (over a b) (over c d) (a *ℤ pos d) (b * d) (mul-pos hb hd)
+    (widen (over a b) a b d (over_is a b hb))
+    (restate (over c d) (c *ℤ pos b) (a *ℤ pos d) (d * b) (b * d) (sym e) (mul_comm d b) (widen (over c d) c d b (over_is c d hd)))

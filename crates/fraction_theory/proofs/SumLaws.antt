@@ -1,6 +1,8 @@
 -- The laws of sums.
-use Rattle.std.specs.Prelude.{◌≡◌, pos, List, [], ◌∷◌, ◌++◌, refl}
-use Rattle.std.proofs.Common.{ap, sym, ◌∙◌}
+use Rattle.std.specs.Prelude.{◌≡◌, ℕ, ◌+◌, ◌<◌, pos, List, [], ◌∷◌, ◌++◌, length, map, take, refl}
+use Rattle.std.proofs.Common.{get_or, ap, sym, ◌∙◌}
+use Rattle.std.proofs.Math.Seq.{take-length}
+use Rattle.std.proofs.lemmas.List.{take_more}
 use mathlib.Core.Path.{ap₂}
 use Rattle.fraction_theory.proofs.Ring.{by_ring, at, padd, nil_plus, times_nil}
 use Rattle.fraction_theory.specs.Fraction.{Fraction, whole, ◌+ℚ◌, ◌*ℚ◌}
@@ -39,3 +41,30 @@ sum_by-≤ f g (x ∷ xs) h = +ℚ-≤ℚ (f x) (g x) (sum_by f xs) (sum_by g xs
 pub sum_by-same : {T : Type 0} (f g : T → Fraction) (xs : List T) → ((x : T) → f x ≡ g x) → sum_by f xs ≡ sum_by g xs
 sum_by-same f g [] h = refl
 sum_by-same f g (x ∷ xs) h = ap₂ ◌+ℚ◌ (h x) (sum_by-same f g xs h)
+
+-- sums of named terms
+pub total-append : (ts us : List Term) → total (ts ++ us) ≡ total ts +ℚ total us
+total-append ts us = sum_by-append term_value ts us
+
+-- the total of a list's terms is the sum of their values
+pub total-map : {T : Type 0} (t : T → Term) (xs : List T) → total (map t xs) ≡ sum_by (λ x. term_value (t x)) xs
+total-map t [] = refl
+total-map t (x ∷ xs) = ap (λ r. term_value (t x) +ℚ r) (total-map t xs)
+
+pub total-Plain : {T : Type 0} (f : T → Fraction) (xs : List T) → total (map (λ x. Plain (f x)) xs) ≡ sum_by f xs
+total-Plain f xs = total-map (λ x. Plain (f x)) xs
+
+pub total-Product : {T : Type 0} (f g : T → Fraction) (xs : List T) → total (map (λ x. Product (f x) (g x)) xs) ≡ sum_by (λ x. f x *ℚ g x) xs
+total-Product f g xs = total-map (λ x. Product (f x) (g x)) xs
+
+-- prefix sums: of none, of one more, and of all
+pub prefix-none : (ts : List Term) → prefix 0 ts ≡ whole (pos 0)
+prefix-none ts = refl
+
+pub prefix-more : (k : ℕ) (ts : List Term) (t : Term) → k < length ts → prefix (k + 1) ts ≡ prefix k ts +ℚ term_value (get_or ts k t)
+prefix-more k ts t h =
+    ap total (take_more ts k t h) ∙ total-append (take k ts) (get_or ts k t ∷ [])
+    ∙ ap (λ r. prefix k ts +ℚ r) (ring_ℚ.plus_nil (term_value (get_or ts k t)))
+
+pub prefix-all : (ts : List Term) → prefix (length ts) ts ≡ total ts
+prefix-all ts = ap total (take-length ts)
