@@ -1,5 +1,5 @@
 -- The text of a sign.
-use Rattle.std.specs.Prelude.{◌≡◌, ℤ, pos, negsuc, ◌<ℤ◌, ◌↔◌, IsTrue, List, [], ◌∷◌, Bool, true, false, if◌then◌else◌}
+use Rattle.std.specs.Prelude.{◌≡◌, ℤ, pos, negsuc, ◌<ℤ◌, ◌↔◌, IsTrue, [], ◌∷◌, Bool, true, false, if◌then◌else◌}
 use Rattle.std.proofs.Common.{arith, sym, refl, subst, rules}
 use Rattle.std.proofs.lemmas.Int.{ints}
 use Rattle.exact_fraction.specs.Written.{sign_text}

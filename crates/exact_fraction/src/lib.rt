@@ -90,34 +90,4 @@ pub trait Exact: Copy {
 }
 
 #[cfg(test)]
-mod tests {
-    use super::*;
-
-    fn third<N: Exact>() -> N {
-        N::of_parts(1, 3)
-    }
-
-    fn doubled<N: Exact>(x: N) -> Result<N, Passed<N>> {
-        x.plus(x)
-    }
-
-    #[test]
-    fn adds_thirds(rt: HostRuntime) {
-        let x: Frac = third();
-        match doubled(x) {
-            Ok(sum) => match sum.plus(x) {
-                Ok(_one) => {}
-                Err(_) => assert!(rt; false),
-            },
-            Err(_) => assert!(rt; false),
-        }
-    }
-
-    #[test]
-    fn passes_63_bits(rt: HostRuntime) {
-        let x = Frac63::of_parts(9223372036854775807, 1);
-        assert!(rt; doubled(x).is_err());
-        let y = Frac::of_parts(9223372036854775807, 1);
-        assert!(rt; doubled(y).is_ok());
-    }
-}
+mod tests;

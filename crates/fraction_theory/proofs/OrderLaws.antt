@@ -1,13 +1,13 @@
 -- The laws of the order of fractions.
-use Rattle.std.specs.Prelude.{◌≡◌, ℕ, ◌*◌, ◌<◌, ℤ, pos, negsuc, ◌+ℤ◌, ◌*ℤ◌, ◌≤ℤ◌, ◌<ℤ◌, neg_ℤ, refl, List, [], ◌∷◌, ◌⊎◌}
-use Rattle.std.proofs.Common.{zero, suc, arith, ap, sym, ◌∙◌, subst, subst₂, inl, inr}
-use Rattle.std.proofs.Math.Nat.{zero-lt-suc, mul-pos}
+use Rattle.std.specs.Prelude.{◌≡◌, ℕ, ◌*◌, ◌<◌, ℤ, pos, ◌+ℤ◌, ◌*ℤ◌, ◌≤ℤ◌, neg_ℤ, refl, List, [], ◌∷◌, ◌⊎◌}
+use Rattle.std.proofs.Common.{arith, sym, subst, subst₂, inl, inr}
+use Rattle.std.proofs.Math.Nat.{mul-pos}
 use Rattle.std.proofs.lemmas.Int.{ints, by_lt_z}
 use Rattle.fraction_theory.proofs.Ring.{by_ring, by_ring1, by_ring2, ◌⊕◌, ◌⊗◌, value, normal, Poly, at, pnil, pone, padd, pmul, pneg}
 use Rattle.fraction_theory.proofs.IntegerLaws.{ring_ℤ, zero≤-cancel, zero≤-times, zero≤*ℤ, zero≤+ℤ, le_by_difference, difference_by_le, zero≤_or, zero≤_antisym}
-use Rattle.fraction_theory.specs.Fraction.{Fraction, whole, over, ◌+ℚ◌, ◌-ℚ◌, ◌*ℚ◌, neg_ℚ, recip_ℚ}
+use Rattle.fraction_theory.specs.Fraction.{Fraction, whole, ◌+ℚ◌, ◌-ℚ◌, ◌*ℚ◌, neg_ℚ, recip_ℚ}
 use Rattle.fraction_theory.specs.Order.{◌≤ℚ◌, ◌<ℚ◌, NonNeg}
-use Rattle.fraction_theory.proofs.FractionLaws.{Is, same_value, itself, over_is, plus_is, times_is, neg_is}
+use Rattle.fraction_theory.proofs.FractionLaws.{Is, same_value, itself, plus_is, times_is, neg_is}
 use Rattle.fraction_theory.proofs.FieldLaws.{ring_ℚ, zero_is, *ℚ-recip}
 
 NonNeg_by : (x : Fraction) (n : ℤ) (d : ℕ) → 0 < d → Is x n d → pos 0 ≤ℤ n → NonNeg x

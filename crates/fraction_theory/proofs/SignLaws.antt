@@ -55,3 +55,11 @@ sign_of_is x s e = subst (λ t. IsSign t x) (sym e) (by_num x.num refl)
     by_num (pos zero) f = same_value x (whole (pos 0)) x.num x.den x.above (itself x) (zero_is x.num x.den f)
     by_num (pos (suc n)) f = above_nil x (subst (λ t. pos 0 <ℤ t) (sym f) (Prim.omega (arith, ints)))
     by_num (negsuc n) f = below_nil x (subst (λ t. t <ℤ pos 0) (sym f) (Prim.omega (arith, ints)))
+
+sign_of-nil : sign_of (whole (pos 0)) ≡ Zero
+unfolding sign_of whole
+sign_of-nil = refl
+
+-- a number whose sign is another is not 0
+pub not_nil_by_sign : (x : Fraction) (s : Sign) → s ≡ sign_of x → ¬ (s ≡ Zero) → ¬ (x ≡ whole (pos 0))
+not_nil_by_sign x s e n f = n (e ∙ ap sign_of f ∙ sign_of-nil)

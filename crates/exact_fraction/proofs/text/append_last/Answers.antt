@@ -1,4 +1,4 @@
-use Rattle.std.proofs.Common.{◌≡◌, ◌∙◌, sym, ap, arith, refl, ◌++◌, ◌+◌, ◌-◌, ◌<◌, take, length, replicate, append_assoc}
+use Rattle.std.proofs.Common.{◌≡◌, ◌∙◌, arith, refl}
 use Rattle.exact_fraction.specs.Written.{digits}
 use Rattle.exact_fraction.proofs.Digits.{decimal_short, short, one_more, no_zeros, after_zeros}
 use Rattle.exact_fraction.proofs.text.append_last.Goals as goal
