@@ -3,15 +3,15 @@ use Rattle.std.specs.Prelude.{◌≡◌, ℕ, ◌<◌, ◌≤◌, ◌+◌, ◌*�
 use Rattle.std.specs.Int.{IsGcd}
 use Rattle.std.specs.Int.Digits.{digits_of}
 use Rattle.std.specs.List.{AllByRecursion}
-use Rattle.std.proofs.Common.{zero, suc, get_or, arith, ap, sym, ◌∙◌, subst, inl, inr, append_assoc, pow-add}
+use Rattle.std.proofs.Common.{zero, suc, get_or, arith, ap, sym, ◌∙◌, subst, inl, inr, append_assoc}
 use Rattle.std.proofs.Math.Nat.{mod-lt, div-add-mod, dvd_refl, eq-one_of_dvd-one, one-le-pow}
 use Rattle.std.proofs.lemmas.Bool.Decides.{nat_tests}
 use Rattle.std.proofs.lemmas.Int.Digits.{all_below_base_digits_of, first_digits_of, same_from_digits_of}
 use Rattle.std.proofs.lemmas.List.{length-append}
 use Rattle.std.proofs.lemmas.Nat.Gcd.{dvd_of_mod-eq-zero}
 use Rattle.fraction_theory.specs.Fraction.{Fraction, same_fraction}
-use Rattle.exact_fraction.specs.Written.{digits, last_digits, trimmed_places, all_places, rest_text, units_text, sign_text, written, parts_text}
-use Rattle.exact_fraction.proofs.Digits.{length-last_digits}
+use Rattle.exact_fraction.specs.Written.{number_text, last_digits, trimmed_places, all_places, rest_text, units_text, sign_text, written, parts_text}
+use Rattle.exact_fraction.proofs.Digits.{length-last_digits, front_below}
 
 -- c is a decimal digit
 record IsDigit (c : ℕ) : Type 0 where
@@ -57,10 +57,10 @@ OnlyDigits-map : (ds : List ℕ) → AllByRecursion (λ d. d < 10) ds → OnlyDi
 OnlyDigits-map [] h = tt
 OnlyDigits-map (d ∷ ds) h = ((one_digit d h.0).0, OnlyDigits-map ds h.1)
 
-OnlyDigits-digits : (n : ℕ) → OnlyDigits (digits n)
-unfolding digits
-OnlyDigits-digits zero = one_digit 0 (Prim.omega arith)
-OnlyDigits-digits (suc n) = OnlyDigits-map (digits_of 10 (suc n)) (all_below_base_digits_of 10 (suc n) (Prim.omega arith))
+OnlyDigits-number_text : (n : ℕ) → OnlyDigits (number_text n)
+unfolding number_text
+OnlyDigits-number_text zero = one_digit 0 (Prim.omega arith)
+OnlyDigits-number_text (suc n) = OnlyDigits-map (digits_of 10 (suc n)) (all_below_base_digits_of 10 (suc n) (Prim.omega arith))
 
 OnlyDigits-last_digits : (k n : ℕ) → OnlyDigits (last_digits k n)
 OnlyDigits-last_digits zero n = tt
@@ -79,12 +79,12 @@ not_zero : (ds : List ℕ) → 0 < get_or ds 0 0 → ¬ (48 ∷ [] ≡ map (λ d
 not_zero [] h e = Prim.cc
 not_zero (d ∷ ds) h e = Prim.omega (arith, head_of 48 (48 + d) [] (map (λ d. 48 + d) ds) e)
 
-digits-apart : (m n : ℕ) → digits m ≡ digits n → m ≡ n
-unfolding digits
-digits-apart zero zero e = refl
-digits-apart zero (suc n) e = absurd (not_zero (digits_of 10 (suc n)) (first_digits_of 10 (suc n) (Prim.omega arith) (Prim.omega arith)) e)
-digits-apart (suc m) zero e = absurd (not_zero (digits_of 10 (suc m)) (first_digits_of 10 (suc m) (Prim.omega arith) (Prim.omega arith)) (sym e))
-digits-apart (suc m) (suc n) e = same_from_digits_of 10 (suc m) (suc n) (Prim.omega arith) (map-apart (digits_of 10 (suc m)) (digits_of 10 (suc n)) e)
+number_text-apart : (m n : ℕ) → number_text m ≡ number_text n → m ≡ n
+unfolding number_text
+number_text-apart zero zero e = refl
+number_text-apart zero (suc n) e = absurd (not_zero (digits_of 10 (suc n)) (first_digits_of 10 (suc n) (Prim.omega arith) (Prim.omega arith)) e)
+number_text-apart (suc m) zero e = absurd (not_zero (digits_of 10 (suc m)) (first_digits_of 10 (suc m) (Prim.omega arith) (Prim.omega arith)) (sym e))
+number_text-apart (suc m) (suc n) e = same_from_digits_of 10 (suc m) (suc n) (Prim.omega arith) (map-apart (digits_of 10 (suc m)) (digits_of 10 (suc n)) e)
 
 push_apart : (xs ys : List ℕ) (a b : ℕ) → xs ++ a ∷ [] ≡ ys ++ b ∷ [] → (xs ≡ ys) × (a ≡ b)
 push_apart [] [] a b e = (refl, head_of a b [] [] e)
@@ -96,9 +96,6 @@ push_apart (x ∷ xs) (y ∷ ys) a b e =
     let h = head_of x y (xs ++ a ∷ []) (ys ++ b ∷ []) e in
     let t = push_apart xs ys a b (tail_of x y (xs ++ a ∷ []) (ys ++ b ∷ []) e) in
     (Prim.cc (h, t.0), t.1)
-
-front_below : (k n : ℕ) → n < 10 ^ suc k → n / 10 < 10 ^ k
-front_below k n h = Prim.omega (arith, pow-add 10 k 1)
 
 same_parts : (m n d : ℕ) → m / d ≡ n / d → m % d ≡ n % d → m ≡ n
 same_parts m n d e f = sym (div-add-mod m d) ∙ ap (λ (t : ℕ). d * t + m % d) e ∙ ap (λ (t : ℕ). d * (n / d) + t) f ∙ div-add-mod n d
@@ -164,8 +161,8 @@ EndsDigits-all (suc k) n r d = point
 -- a rest of a unit
 rest-apart : (r s d e : ℕ) → rest_text r d ≡ rest_text s e → (r ≡ s) × (d ≡ e)
 rest-apart r s d e h =
-    let t = split (digits r) (digits s) (47 ∷ digits d) (47 ∷ digits e) (OnlyDigits-digits r) (OnlyDigits-digits s) slash slash (tail_of 58 58 (digits r ++ 47 ∷ digits d) (digits s ++ 47 ∷ digits e) h) in
-    (digits-apart r s t.0, digits-apart d e (tail_of 47 47 (digits d) (digits e) t.1))
+    let t = split (number_text r) (number_text s) (47 ∷ number_text d) (47 ∷ number_text e) (OnlyDigits-number_text r) (OnlyDigits-number_text s) slash slash (tail_of 58 58 (number_text r ++ 47 ∷ number_text d) (number_text s ++ 47 ∷ number_text e) h) in
+    (number_text-apart r s t.0, number_text-apart d e (tail_of 47 47 (number_text d) (number_text e) t.1))
 
 all-apart : (k m n r s d e : ℕ) → m < 10 ^ k → n < 10 ^ k → all_places k m ++ rest_text r d ≡ all_places k n ++ rest_text s e → (m ≡ n) × (rest_text r d ≡ rest_text s e)
 all-apart zero m n r s d e p q h = (Prim.omega arith, h)
@@ -181,7 +178,7 @@ length-all-ge (suc k) n = Prim.omega (arith, length-last_digits (suc k) n)
 -- a text with a rest is longer than any without
 no_rest-apart : (k m n r d : ℕ) → ¬ (trimmed_places k m ≡ all_places k n ++ rest_text r d)
 no_rest-apart k m n r d e =
-    Prim.omega (arith, length-trimmed-le k m, length-all-ge k n, ap (length {A = ℕ}) e, length-append (all_places k n) (rest_text r d), length-append (digits r) (47 ∷ digits d))
+    Prim.omega (arith, length-trimmed-le k m, length-all-ge k n, ap (length {A = ℕ}) e, length-append (all_places k n) (rest_text r d), length-append (number_text r) (47 ∷ number_text d))
 
 -- what comes after the whole units
 abbrev places_text : ℕ → ℕ → ℕ → ℕ → List ℕ
@@ -215,15 +212,15 @@ units-apart : (k q q' r r' d d' : ℕ) → units_text k q r d ≡ units_text k q
 unfolding units_text
 units-apart k q q' r r' d d' e =
     let h : 0 < 10 ^ k = one-le-pow k 10 (Prim.omega arith) in
-    let t = split (digits (q / 10 ^ k)) (digits (q' / 10 ^ k)) (places_text k (q % 10 ^ k) r d) (places_text k (q' % 10 ^ k) r' d')
-    (OnlyDigits-digits (q / 10 ^ k)) (OnlyDigits-digits (q' / 10 ^ k)) (EndsDigits-places k (q % 10 ^ k) r d) (EndsDigits-places k (q' % 10 ^ k) r' d') e in
+    let t = split (number_text (q / 10 ^ k)) (number_text (q' / 10 ^ k)) (places_text k (q % 10 ^ k) r d) (places_text k (q' % 10 ^ k) r' d')
+    (OnlyDigits-number_text (q / 10 ^ k)) (OnlyDigits-number_text (q' / 10 ^ k)) (EndsDigits-places k (q % 10 ^ k) r d) (EndsDigits-places k (q' % 10 ^ k) r' d') e in
     let u = places-apart k (q % 10 ^ k) (q' % 10 ^ k) r r' d d' (mod-lt q h) (mod-lt q' h) t.1 in
-    record { places = same_parts q q' (10 ^ k) (digits-apart (q / 10 ^ k) (q' / 10 ^ k) t.0) u.places; rest = u.rest; parts = u.parts }
+    record { places = same_parts q q' (10 ^ k) (number_text-apart (q / 10 ^ k) (q' / 10 ^ k) t.0) u.places; rest = u.rest; parts = u.parts }
 
-BeginsDigits-digits : (n : ℕ) (ys : List ℕ) → BeginsDigits (digits n ++ ys)
-unfolding digits
-BeginsDigits-digits zero ys = (one_digit 0 (Prim.omega arith)).0
-BeginsDigits-digits (suc n) ys = front (digits_of 10 (suc n)) (all_below_base_digits_of 10 (suc n) (Prim.omega arith)) (first_digits_of 10 (suc n) (Prim.omega arith) (Prim.omega arith))
+BeginsDigits-number_text : (n : ℕ) (ys : List ℕ) → BeginsDigits (number_text n ++ ys)
+unfolding number_text
+BeginsDigits-number_text zero ys = (one_digit 0 (Prim.omega arith)).0
+BeginsDigits-number_text (suc n) ys = front (digits_of 10 (suc n)) (all_below_base_digits_of 10 (suc n) (Prim.omega arith)) (first_digits_of 10 (suc n) (Prim.omega arith) (Prim.omega arith))
   where
     front : (ds : List ℕ) → AllByRecursion (λ d. d < 10) ds → 0 < get_or ds 0 0 → BeginsDigits (map (λ d. 48 + d) ds ++ ys)
     front [] h p = absurd (Prim.omega arith)
@@ -231,7 +228,7 @@ BeginsDigits-digits (suc n) ys = front (digits_of 10 (suc n)) (all_below_base_di
 
 BeginsDigits-units : (k q r d : ℕ) → BeginsDigits (units_text k q r d)
 unfolding units_text
-BeginsDigits-units k q r d = BeginsDigits-digits (q / 10 ^ k) (places_text k (q % 10 ^ k) r d)
+BeginsDigits-units k q r d = BeginsDigits-number_text (q / 10 ^ k) (places_text k (q % 10 ^ k) r d)
 
 sign-apart : (m n : ℤ) (us vs : List ℕ) → BeginsDigits us → BeginsDigits vs → sign_text m ++ us ≡ sign_text n ++ vs → (sign_text m ≡ sign_text n) × (us ≡ vs)
 sign-apart (pos m) (pos n) us vs p q e = (refl, e)
@@ -266,7 +263,7 @@ unfolding parts_text
 parts_apart x y e =
     let m : ℕ = unsigned_abs x.num in
     let n : ℕ = unsigned_abs y.num in
-    let t = sign-apart x.num y.num (digits m ++ 47 ∷ digits x.den) (digits n ++ 47 ∷ digits y.den) (BeginsDigits-digits m (47 ∷ digits x.den)) (BeginsDigits-digits n (47 ∷ digits y.den))
-    (sym (append_assoc (sign_text x.num) (digits m) (47 ∷ digits x.den)) ∙ e ∙ append_assoc (sign_text y.num) (digits n) (47 ∷ digits y.den)) in
-    let u = split (digits m) (digits n) (47 ∷ digits x.den) (47 ∷ digits y.den) (OnlyDigits-digits m) (OnlyDigits-digits n) slash slash t.1 in
-    same_fraction x y (number-apart x.num y.num t.0 (digits-apart m n u.0)) (digits-apart x.den y.den (tail_of 47 47 (digits x.den) (digits y.den) u.1))
+    let t = sign-apart x.num y.num (number_text m ++ 47 ∷ number_text x.den) (number_text n ++ 47 ∷ number_text y.den) (BeginsDigits-number_text m (47 ∷ number_text x.den)) (BeginsDigits-number_text n (47 ∷ number_text y.den))
+    (sym (append_assoc (sign_text x.num) (number_text m) (47 ∷ number_text x.den)) ∙ e ∙ append_assoc (sign_text y.num) (number_text n) (47 ∷ number_text y.den)) in
+    let u = split (number_text m) (number_text n) (47 ∷ number_text x.den) (47 ∷ number_text y.den) (OnlyDigits-number_text m) (OnlyDigits-number_text n) slash slash t.1 in
+    same_fraction x y (number-apart x.num y.num t.0 (number_text-apart m n u.0)) (number_text-apart x.den y.den (tail_of 47 47 (number_text x.den) (number_text y.den) u.1))

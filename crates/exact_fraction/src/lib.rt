@@ -7,16 +7,17 @@ pub use fraction_theory::Sign;
 use std::cmp::Ordering;
 
 pub mod laws;
-pub mod ratio;
+mod ratio;
 mod text;
-pub mod word;
+mod word;
 
-/// Numerators and denominators of 127 bits.
+/// Fractions of numbers of 127 bits: the bound is 2^127 - 1.
 pub type Frac = ratio::Ratio<i128>;
 
-/// Numerators and denominators of 63 bits.
+/// Fractions of numbers of 63 bits, the bound being 2^63 - 1, which meet it early.
 pub type Frac63 = ratio::Ratio<i64>;
 
+/// The three operations that may pass a bound.
 #[derive(Clone, Copy, PartialEq, Eq, Debug)]
 pub enum Op {
     Plus,
@@ -42,22 +43,28 @@ pub trait Exact: Copy {
     ghost use Rattle.exact_fraction.specs.Passes.{IsExact};
     ghost use Rattle.exact_fraction.specs.Written.{written, parts_text};
 
+    /// The fraction that a number is, whatever its type.
     ghost value: { Self → Fraction };
 
+    /// The greatest size of a numerator or a denominator.
     ghost bound: { ℕ };
 
+    /// `num/den`, in lowest terms.
     fn of_parts(num: i64, den: u64) -> Self
         requires num { unsigned_abs num < 2 ^ 63 }
         requires den { (0 < den) × (den < 2 ^ 63) }
         ensures { value result ≡ over num den };
 
+    /// The opposite, which never passes since the bound is that of sizes.
     fn neg(self) -> Self
         ensures { value result ≡ neg_ℚ (value self) };
 
+    /// One over a number that is not 0.
     fn recip(self) -> Self
         requires { value self ≢ whole (pos 0) }
         ensures { value result ≡ recip_ℚ (value self) };
 
+    /// Where the number stands against 0.
     fn sign(self) -> Sign
         ensures { result ≡ sign_of (value self) };
 
@@ -65,12 +72,15 @@ pub trait Exact: Copy {
     fn order(self, other: Self) -> Ordering
         ensures { MatchOrdering result (value self <ℚ value other) (value self ≡ value other) (value other <ℚ value self) };
 
+    /// The exact sum, or, exactly where it passes the bound over the least common denominator, the two sides.
     fn plus(self, other: Self) -> Result<Self, Passed<Self>>
         ensures { IsExact value bound Op.Plus self other result };
 
+    /// The exact difference, or the two sides, where it passes as a sum does.
     fn minus(self, other: Self) -> Result<Self, Passed<Self>>
         ensures { IsExact value bound Op.Minus self other result };
 
+    /// The exact product, or, exactly where it passes the bound in lowest terms, the two sides.
     fn times(self, other: Self) -> Result<Self, Passed<Self>>
         ensures { IsExact value bound Op.Times self other result };
 
@@ -84,6 +94,9 @@ pub trait Exact: Copy {
     fn write_parts(self, buf: &mut [u8; 128]) -> usize
         ensures room { result ≤ 128 }
         ensures text { take result buf.new ≡ parts_text (value self) };
+
+    /// Every value is within the bound.
+    ghost value_fits: { (x : Self) → (unsigned_abs (value x).num ≤ bound) × ((value x).den ≤ bound) };
 
     /// Numbers of one value are one.
     ghost value_apart: { (x y : Self) → value x ≡ value y → x ≡ y };

@@ -1,6 +1,6 @@
 //! The texts of whole numbers and their fractions, in a buffer of the caller.
 ghost use Rattle.std.specs.Prelude.{◌≡◌, ℕ, ◌<◌, ◌≤◌, ◌+◌, ◌-◌, ◌*◌, ◌/◌, ◌%◌, ◌^◌, List, [], ◌∷◌, ◌++◌, length, take, if◌then◌else◌};
-ghost use Rattle.exact_fraction.specs.Written.{digits, last_digits, trimmed_places, all_places, rest_text, units_text};
+ghost use Rattle.exact_fraction.specs.Written.{number_text, last_digits, trimmed_places, all_places, rest_text, units_text};
 
 use itoa::Buffer;
 
@@ -25,9 +25,9 @@ pub fn write_sign(negative: bool, buf: &mut [u8; 128]) -> usize
 
 /// Puts the digits of `n`.
 fn append_digits(buf: &mut [u8; 128], at: usize, n: u128) -> usize
-    requires { at + length (digits n) ≤ 128 }
-    ensures end { result ≡ at + length (digits n) }
-    ensures text { take result buf.new ≡ take at buf.old ++ digits n }
+    requires { at + length (number_text n) ≤ 128 }
+    ensures end { result ≡ at + length (number_text n) }
+    ensures text { take result buf.new ≡ take at buf.old ++ number_text n }
 {
     let mut text = Buffer::new();
     append(buf, at, text.format(n).as_bytes())
@@ -122,7 +122,7 @@ pub fn append_parts(buf: &mut [u8; 128], at: usize, num: u128, den: u128) -> usi
     requires start { at ≤ 1 }
     requires sizes { (num < 2 ^ 127) × (den < 2 ^ 127) }
     ensures room { result ≤ 128 }
-    ensures text { take result buf.new ≡ take at buf.old ++ (digits num ++ 47 ∷ digits den) }
+    ensures text { take result buf.new ≡ take at buf.old ++ (number_text num ++ 47 ∷ number_text den) }
 {
     let rest = append_digits(buf, at, num);
     let slash = append(buf, rest, b"/");

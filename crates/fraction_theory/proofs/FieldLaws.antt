@@ -2,12 +2,13 @@
 use Rattle.std.specs.Prelude.{◌≡◌, ℕ, ◌*◌, ◌<◌, ℤ, pos, negsuc, ◌+ℤ◌, ◌*ℤ◌, neg_ℤ, refl, List, [], ◌∷◌}
 use Rattle.std.proofs.Common.{zero, suc, arith, ap, sym, ◌∙◌, subst}
 use Rattle.std.proofs.Math.Nat.{zero-lt-suc, mul-pos, mul_comm}
-use Rattle.fraction_theory.proofs.Ring.{Ring, by_ring, by_ring1, by_ring2, by_ring3, Poly, at, pnil, pone, padd, pmul, pneg}
+use Rattle.fraction_theory.proofs.Ring.{Ring, normal, value, by_ring, by_ring1, by_ring2, Poly, at, pnil, pone, padd, pmul, pneg}
 use Rattle.fraction_theory.proofs.IntegerLaws.{ring_ℤ}
 use Rattle.fraction_theory.specs.Fraction.{Fraction, whole, over, ◌+ℚ◌, ◌*ℚ◌, neg_ℚ, recip_ℚ, turned_over}
 use Rattle.fraction_theory.proofs.FractionLaws.{Is, same_value, itself, over_is, plus_is, times_is, neg_is}
 
-abbrev by_ℤ : (vs : List ℤ) (p q : Poly) → Rattle.fraction_theory.proofs.Ring.normal p ≡ Rattle.fraction_theory.proofs.Ring.normal q → Rattle.fraction_theory.proofs.Ring.value ring_ℤ vs p ≡ Rattle.fraction_theory.proofs.Ring.value ring_ℤ vs q
+-- an identity of whole numbers
+abbrev by_ℤ : (vs : List ℤ) (p q : Poly) → normal p ≡ normal q → value ring_ℤ vs p ≡ value ring_ℤ vs q
 by_ℤ = by_ring ring_ℤ
 
 -- x stands for n over d as it does for m over e, where n e = m d
@@ -31,7 +32,7 @@ pub +ℚ_assoc : (x y z : Fraction) → (x +ℚ y) +ℚ z ≡ x +ℚ (y +ℚ z)
 
 pub +ℚ_comm : (x y : Fraction) → x +ℚ y ≡ y +ℚ x
 unfolding ◌+ℚ◌
-+ℚ_comm x y = ap (λ t. over t (x.den * y.den)) (by_ℤ ((x.num *ℤ pos y.den) ∷ (y.num *ℤ pos x.den) ∷ []) (padd (at 0) (at 1)) (padd (at 1) (at 0)) refl) ∙ ap (λ t. over (y.num *ℤ pos x.den +ℤ x.num *ℤ pos y.den) t) (Rattle.std.proofs.Math.Nat.mul_comm x.den y.den)
++ℚ_comm x y = ap (λ t. over t (x.den * y.den)) (by_ℤ ((x.num *ℤ pos y.den) ∷ (y.num *ℤ pos x.den) ∷ []) (padd (at 0) (at 1)) (padd (at 1) (at 0)) refl) ∙ ap (λ t. over (y.num *ℤ pos x.den +ℤ x.num *ℤ pos y.den) t) (mul_comm x.den y.den)
 
 pub +ℚ_nil : (x : Fraction) → x +ℚ whole (pos 0) ≡ x
 +ℚ_nil x = same_value (x +ℚ whole (pos 0)) x x.num x.den x.above
@@ -58,7 +59,7 @@ pub *ℚ_assoc : (x y z : Fraction) → (x *ℚ y) *ℚ z ≡ x *ℚ (y *ℚ z)
 
 pub *ℚ_comm : (x y : Fraction) → x *ℚ y ≡ y *ℚ x
 unfolding ◌*ℚ◌
-*ℚ_comm x y = ap (λ t. over t (x.den * y.den)) (by_ℤ (x.num ∷ y.num ∷ []) (pmul (at 0) (at 1)) (pmul (at 1) (at 0)) refl) ∙ ap (λ t. over (y.num *ℤ x.num) t) (Rattle.std.proofs.Math.Nat.mul_comm x.den y.den)
+*ℚ_comm x y = ap (λ t. over t (x.den * y.den)) (by_ℤ (x.num ∷ y.num ∷ []) (pmul (at 0) (at 1)) (pmul (at 1) (at 0)) refl) ∙ ap (λ t. over (y.num *ℤ x.num) t) (mul_comm x.den y.den)
 
 pub *ℚ_one : (x : Fraction) → x *ℚ whole (pos 1) ≡ x
 *ℚ_one x = same_value (x *ℚ whole (pos 1)) x x.num x.den x.above
@@ -82,6 +83,7 @@ pub *ℚ-+ℚ : (x y z : Fraction) → x *ℚ (y +ℚ z) ≡ x *ℚ y +ℚ x *�
     (padd (pmul (pmul (at 0) (at 2)) (pmul (at 1) (at 5))) (pmul (pmul (at 0) (at 4)) (pmul (at 1) (at 3)))) refl)
     (Prim.omega arith) l) r
 
+-- the ring of fractions
 abbrev pub ring_ℚ : Ring Fraction
 ring_ℚ = record {
   nil = whole (pos 0);
@@ -112,6 +114,7 @@ recip_at x (negsuc n) e h = same_value (x *ℚ over (neg_ℤ (pos x.den)) (suc n
     (times_is x (over (neg_ℤ (pos x.den)) (suc n)) x.num (neg_ℤ (pos x.den)) x.den (suc n) (itself x) (over_is (neg_ℤ (pos x.den)) (suc n) (zero-lt-suc n)))
     (one_is (x.num *ℤ neg_ℤ (pos x.den)) (x.den * suc n) (ap (λ t. t *ℤ neg_ℤ (pos x.den)) e ∙ by_ring ring_ℤ (pos (suc n) ∷ pos x.den ∷ []) (pmul (pneg (at 0)) (pneg (at 1))) (pmul (at 1) (at 0)) refl))
 
+-- x times its inverse
 pub *ℚ-recip : (x : Fraction) → ¬ (x ≡ whole (pos 0)) → x *ℚ recip_ℚ x ≡ whole (pos 1)
 unfolding recip_ℚ
 *ℚ-recip x h = recip_at x x.num refl (λ e. h (same_value x (whole (pos 0)) x.num x.den x.above (itself x) (zero_is x.num x.den e)))

@@ -2,7 +2,7 @@
 use Rattle.std.specs.Prelude.{◌≡◌, ℕ, ◌+◌, ◌*◌, ◌<◌, ◌≤ℤ◌, ◌/◌, ◌⊎◌, ℤ, pos, negsuc, ◌+ℤ◌, ◌*ℤ◌, neg_ℤ, unsigned_abs, int_div}
 use Rattle.std.proofs.Common.{inl, inr, zero, suc, arith, ap}
 use Rattle.std.proofs.Math.IntN.{+ℤ_assoc, +ℤ_comm, +ℤ_idr, +ℤ_invr, *ℤ_comm}
-use Rattle.std.proofs.lemmas.Int.{ints}
+use Rattle.std.proofs.lemmas.Int.{ints, unsigned_abs-mul}
 use borrow.Author.Differences.{up, down, sum_is_lem, product_is, same_in}
 use Prim.Native.Nat.{◌∣◌}
 use Rattle.std.proofs.Math.Nat.{div-mul_cancel, eq_of_mul-eq-mul_right}
@@ -17,6 +17,7 @@ pub *ℤ-+ℤ : (x y z : ℤ) → x *ℤ (y +ℤ z) ≡ x *ℤ y +ℤ x *ℤ z
 pub *ℤ-pos_one : (x : ℤ) → x *ℤ pos 1 ≡ x
 *ℤ-pos_one x = same_in (x *ℤ pos 1) x (Prim.omega (arith, product_is x (pos 1)))
 
+-- the ring of whole numbers
 abbrev pub ring_ℤ : Ring ℤ
 ring_ℤ = record {
   nil = pos 0;
@@ -41,7 +42,7 @@ pub *ℤ_cancel : (x y : ℤ) (d : ℕ) → 0 < d → x *ℤ pos d ≡ y *ℤ po
     (Prim.omega (arith, product_is x (pos d), product_is y (pos d), ap up e, ap down e)))
 
 pub unsigned_abs-*ℤ : (x : ℤ) (d : ℕ) → unsigned_abs (x *ℤ pos d) ≡ unsigned_abs x * d
-unsigned_abs-*ℤ x d = Rattle.std.proofs.lemmas.Int.unsigned_abs-mul x (pos d)
+unsigned_abs-*ℤ x d = unsigned_abs-mul x (pos d)
 
 -- exact division by a number above 0
 pub int_div-exact : (x : ℤ) (g : ℕ) → g ∣ unsigned_abs x → int_div x (pos g) *ℤ pos g ≡ x

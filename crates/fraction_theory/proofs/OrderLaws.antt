@@ -22,6 +22,7 @@ difference_is x y = plus_is y (neg_ℚ x) y.num (neg_ℤ x.num) y.den x.den (its
 neg-times : (x y : ℤ) → neg_ℤ x *ℤ y ≡ neg_ℤ (x *ℤ y)
 neg-times x y = by_ring ring_ℤ (x ∷ y ∷ []) (pmul (pneg (at 0)) (at 1)) (pneg (pmul (at 0) (at 1))) refl
 
+-- x is at most y exactly where y - x is 0 or above
 pub le_from : (x y : Fraction) → NonNeg (y -ℚ x) → x ≤ℚ y
 le_from x y p = record {
   cross = le_by_difference (x.num *ℤ pos y.den) (y.num *ℤ pos x.den)
@@ -56,7 +57,7 @@ pub NonNeg_antisym : (x : Fraction) → NonNeg x → NonNeg (neg_ℚ x) → x �
 unfolding neg_ℚ
 NonNeg_antisym x p q = same_value x (whole (pos 0)) x.num x.den x.above (itself x) (zero_is x.num x.den (zero≤_antisym x.num p.sign q.sign))
 
--- an inequality: what is left over is a sum of products that are 0 or above
+-- an inequality: q - p has the normal form of r, which is 0 or above
 pub by_rest : (vs : List Fraction) (p q r : Poly) → NonNeg (value ring_ℚ vs r) → normal (padd q (pneg p)) ≡ normal r → value ring_ℚ vs p ≤ℚ value ring_ℚ vs q
 by_rest vs p q r h e = le_from (value ring_ℚ vs p) (value ring_ℚ vs q) (subst NonNeg (sym (by_ring ring_ℚ vs (padd q (pneg p)) r e)) h)
 
@@ -101,11 +102,12 @@ pub <ℚ_irrefl : (x : Fraction) → ¬ (x <ℚ x)
 pub ≤ℚ_of_same : (x y : Fraction) → x ≡ y → x ≤ℚ y
 ≤ℚ_of_same x y e = subst (λ t. x ≤ℚ t) e (≤ℚ_refl x)
 
--- an inequality from one other, taken k times, and from two
+-- an inequality from another, l ≤ r, taken k times: q - p and k (r - l) have one normal form
 pub by_le1 : (vs : List Fraction) (p q k l r : Poly) → NonNeg (value ring_ℚ vs k) → value ring_ℚ vs l ≤ℚ value ring_ℚ vs r
     → normal (padd q (pneg p)) ≡ normal (pmul k (padd r (pneg l))) → value ring_ℚ vs p ≤ℚ value ring_ℚ vs q
 by_le1 vs p q k l r hk h e = by_rest vs p q (pmul k (padd r (pneg l))) (NonNeg-times (value ring_ℚ vs k) (value ring_ℚ vs r -ℚ value ring_ℚ vs l) hk (le_to (value ring_ℚ vs l) (value ring_ℚ vs r) h)) e
 
+-- from two others
 pub by_le2 : (vs : List Fraction) (p q k l r k' l' r' : Poly) → NonNeg (value ring_ℚ vs k) → value ring_ℚ vs l ≤ℚ value ring_ℚ vs r → NonNeg (value ring_ℚ vs k') → value ring_ℚ vs l' ≤ℚ value ring_ℚ vs r'
     → normal (padd q (pneg p)) ≡ normal (padd (pmul k (padd r (pneg l))) (pmul k' (padd r' (pneg l')))) → value ring_ℚ vs p ≤ℚ value ring_ℚ vs q
 by_le2 vs p q k l r k' l' r' hk h hk' h' e = by_rest vs p q (padd (pmul k (padd r (pneg l))) (pmul k' (padd r' (pneg l'))))
