@@ -2,7 +2,7 @@
 use Rattle.std.specs.Prelude.{◌≡◌, ℤ, pos, negsuc, ◌<ℤ◌, ◌↔◌, IsTrue, [], ◌∷◌, Bool, true, false, if◌then◌else◌}
 use Rattle.std.proofs.Common.{arith, sym, refl, subst, rules}
 use Rattle.std.proofs.lemmas.Int.{ints}
-use Rattle.exact_fraction.proofs.Tests.{no}
+use Rattle.exact_fraction.proofs.Refuted.{no}
 use Rattle.exact_fraction.specs.Written.{sign_text}
 
 -- by a test of the number

@@ -26,7 +26,7 @@ pub enum Op {
 }
 
 /// An operation whose outcome passes the bound of its type, with its two sides.
-#[derive(Clone, Copy, Debug)]
+#[derive(Clone, Copy, PartialEq, Eq, Debug)]
 pub struct Passed<N> {
     pub op: Op,
     pub left: N,
