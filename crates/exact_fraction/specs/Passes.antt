@@ -1,13 +1,10 @@
 -- Which sums, differences and products of fractions pass a bound.
-use Rattle.std.specs.Prelude.{◌≡◌, ℕ, ◌<◌, ◌/◌, ℤ, pos, ◌+ℤ◌, ◌*ℤ◌, ◌⊎◌, Result, MatchResult, unsigned_abs}
+use Rattle.std.specs.Prelude.{◌≡◌, ℕ, ◌<◌, ◌/◌, ℤ, pos, ◌+ℤ◌, ◌*ℤ◌, ◌⊎◌, Option, MatchOption, Result, MatchResult, unsigned_abs}
 use Rattle.fraction_theory.specs.Fraction.{Fraction, ◌+ℚ◌, ◌-ℚ◌, ◌*ℚ◌, neg_ℚ}
 use Rattle.fraction_theory.specs.Divisors.{lcm}
 use Rattle.exact_fraction.specs.declared.Op.{Op}
 use Rattle.exact_fraction.specs.declared.Op.TheVariants.{Plus, Minus, Times}
 use Rattle.exact_fraction.specs.declared.Passed.{Passed}
-use Rattle.exact_fraction.specs.declared.Sign.{Sign}
-use Rattle.exact_fraction.specs.declared.Sign.TheVariants.{Below, Zero, Above}
-use Rattle.std.specs.Prelude.{◌<ℤ◌}
 
 -- Over the least common denominator, a numerator, their sum or the denominator itself passes the bound.
 unfoldable pub SumPasses : ℕ → Fraction → Fraction → Type 0
@@ -21,11 +18,13 @@ SumPasses bound x y =
 unfoldable pub ProductPasses : ℕ → Fraction → Fraction → Type 0
 ProductPasses bound x y = (bound < unsigned_abs (x *ℚ y).num) ⊎ (bound < (x *ℚ y).den)
 
+-- The outcome passes the bound. A difference is the sum with the opposite, whose numerator has the same size.
 abbrev pub Passes : ℕ → Op → Fraction → Fraction → Type 0
 Passes bound Plus x y = SumPasses bound x y
 Passes bound Minus x y = SumPasses bound x (neg_ℚ y)
 Passes bound Times x y = ProductPasses bound x y
 
+-- the exact outcome
 abbrev pub outcome : Op → Fraction → Fraction → Fraction
 outcome Plus x y = x +ℚ y
 outcome Minus x y = x -ℚ y
@@ -43,11 +42,10 @@ pub record IsPassed {N : Type 0} (value : N → Fraction) (bound : ℕ) (op : Op
   pub same_right : e.right ≡ right
   pub passes : Passes bound op (value left) (value right)
 
+-- the exact outcome, and nothing exactly where it passes the bound
+abbrev pub IsExactOrNone : {N : Type 0} → (N → Fraction) → ℕ → Op → N → N → Option N → Type 0
+IsExactOrNone value bound op left right result = MatchOption result (Passes bound op (value left) (value right)) (IsOutcome value bound op left right)
+
 -- the exact outcome, or, exactly where it passes the bound, the operation with its two sides
 abbrev pub IsExact : {N : Type 0} → (N → Fraction) → ℕ → Op → N → N → Result N (Passed N) → Type 0
 IsExact value bound op left right result = MatchResult result (IsOutcome value bound op left right) (IsPassed value bound op left right)
-
-abbrev pub IsSign : Sign → Fraction → Type 0
-IsSign Below x = x.num <ℤ pos 0
-IsSign Zero x = x.num ≡ pos 0
-IsSign Above x = pos 0 <ℤ x.num

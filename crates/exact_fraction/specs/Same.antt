@@ -2,7 +2,9 @@
 use Rattle.std.specs.Prelude.{◌≡◌, ◌≤◌, pos, ◌<ℤ◌, unsigned_abs}
 use Rattle.std.proofs.Common.{ap, sym, ◌∙◌, subst}
 use Rattle.std.specs.Int.{IsGcd}
-use Rattle.std.proofs.Props.{props}
+use Rattle.std.proofs.Math.Bridge.{le_prop}
+use lib.Dec.{T_prop}
+use lib.Signed.{lt_z}
 use Rattle.fraction_theory.specs.Divisors.{IsGcd_prop}
 use Rattle.fraction_theory.specs.Fraction.{Fraction}
 use Rattle.exact_fraction.specs.Sizes.{fraction_of, same_size}
@@ -10,13 +12,20 @@ use Rattle.exact_fraction.specs.declared.word.Word.{Ghosts}
 use Rattle.exact_fraction.specs.declared.ratio.Ratio.{Ratio}
 
 module _ (X : Type 0) (g : Ghosts X) where
+  -- n over d within the bound, in lowest terms
   IsSound : X → X → Type 0
   IsSound n d = (pos 0 <ℤ g.int d) × (unsigned_abs (g.int n) ≤ g.bound) × (unsigned_abs (g.int d) ≤ g.bound) × IsGcd (unsigned_abs (g.int n)) (unsigned_abs (g.int d)) 1
 
   IsSound_prop : (n d : X) → IsProp (IsSound n d)
   unfolding IsSound
-  IsSound_prop n d = Prim.hlevel (props, IsGcd_prop)
+  IsSound_prop n d p q = λ i. (
+    record { lt = T_prop (lt_z (pos 0) (g.int d)) p.0.lt q.0.lt i },
+    le_prop p.1 q.1 i,
+    le_prop p.2 q.2 i,
+    IsGcd_prop (unsigned_abs (g.int n)) (unsigned_abs (g.int d)) 1 p.3 q.3 i,
+  )
 
+  -- the fraction of these words
   make : (n d : X) → IsSound n d → Ratio X g
   unfolding IsSound
   make n d s = record { num = n; den = d; above = s.0; num_fits = s.1; den_fits = s.2; lowest = s.3 }

@@ -1,17 +1,23 @@
-// Exact fractions of whole numbers.
+//! Exact fractions of whole numbers: operations that answer exactly or say that the bound of the type is passed.
 #![tactic(auto)]
 
-ghost use Rattle.std.specs.Prelude.{◌≡◌, ◌≢◌, ℕ, ◌<◌, ◌≤◌, ◌*◌, ◌^◌, ℤ, pos, negsuc, ◌<ℤ◌, unsigned_abs};
+ghost use Rattle.std.specs.Prelude.{◌≡◌, ◌≢◌, ℕ, ◌<◌, ◌≤◌, ◌^◌, pos, unsigned_abs, take};
 
+pub use fraction_theory::Sign;
 use std::cmp::Ordering;
 
-pub mod ratio;
-pub mod word;
+pub mod laws;
+mod ratio;
+mod text;
+mod word;
 
+/// Fractions of numbers of 127 bits: the bound is 2^127 - 1.
 pub type Frac = ratio::Ratio<i128>;
 
+/// Fractions of numbers of 63 bits, the bound being 2^63 - 1, which meet it early.
 pub type Frac63 = ratio::Ratio<i64>;
 
+/// The three operations that may pass a bound.
 #[derive(Clone, Copy, PartialEq, Eq, Debug)]
 pub enum Op {
     Plus,
@@ -19,91 +25,82 @@ pub enum Op {
     Times,
 }
 
-#[derive(Clone, Copy, PartialEq, Eq, Debug)]
-pub enum Sign {
-    Below,
-    Zero,
-    Above,
-}
-
 /// An operation whose outcome passes the bound of its type, with its two sides.
-#[derive(Clone, Copy, Debug)]
+#[derive(Clone, Copy, PartialEq, Eq, Debug)]
 pub struct Passed<N> {
     pub op: Op,
     pub left: N,
     pub right: N,
 }
 
+/// Fractions in lowest terms whose numerators and denominators have a size of at most the type's bound.
+/// No call takes memory, and only `plus`, `minus` and `times` can pass the bound.
 pub trait Exact: Copy {
-    ghost use Rattle.fraction_theory.specs.Fraction.{Fraction, neg_ℚ, over, whole};
+    ghost use Rattle.fraction_theory.specs.Fraction.{Fraction, neg_ℚ, over, recip_ℚ, whole};
+    ghost use Rattle.fraction_theory.specs.Order.{◌<ℚ◌};
+    ghost use Rattle.fraction_theory.specs.Signs.{sign_of};
     ghost use Rattle.std.specs.Ordering.{MatchOrdering};
-    ghost use Rattle.fraction_theory.specs.Order.{recip_ℚ, ◌<ℚ◌};
-    ghost use Rattle.exact_fraction.specs.Passes.{IsExact, IsSign};
+    ghost use Rattle.exact_fraction.specs.Passes.{IsExact};
+    ghost use Rattle.exact_fraction.specs.Written.{written, parts_text};
 
+    /// The fraction that a number is, whatever its type.
     ghost value: { Self → Fraction };
 
+    /// The greatest size of a numerator or a denominator.
     ghost bound: { ℕ };
 
-    fn of_parts(num: i64, den: i64) -> Self
+    /// `num/den`, in lowest terms.
+    fn of_parts(num: i64, den: u64) -> Self
         requires num { unsigned_abs num < 2 ^ 63 }
-        requires den { pos 0 <ℤ den }
-        ensures { value result ≡ over num (unsigned_abs den) };
+        requires den { (0 < den) × (den < 2 ^ 63) }
+        ensures { value result ≡ over num den };
 
+    /// The opposite, which never passes since the bound is that of sizes.
     fn neg(self) -> Self
         ensures { value result ≡ neg_ℚ (value self) };
 
+    /// One over a number that is not 0.
     fn recip(self) -> Self
         requires { value self ≢ whole (pos 0) }
         ensures { value result ≡ recip_ℚ (value self) };
 
+    /// Where the number stands against 0.
     fn sign(self) -> Sign
-        ensures { IsSign result (value self) };
+        ensures { result ≡ sign_of (value self) };
 
+    /// The true order of the values. Nothing is multiplied, so nothing passes the bound.
     fn order(self, other: Self) -> Ordering
         ensures { MatchOrdering result (value self <ℚ value other) (value self ≡ value other) (value other <ℚ value self) };
 
-    fn minus(self, other: Self) -> Result<Self, Passed<Self>>
-        ensures { IsExact value bound Op.Minus self other result };
-
+    /// The exact sum, or, exactly where it passes the bound over the least common denominator, the two sides.
     fn plus(self, other: Self) -> Result<Self, Passed<Self>>
         ensures { IsExact value bound Op.Plus self other result };
 
+    /// The exact difference, or the two sides, where it passes as a sum does.
+    fn minus(self, other: Self) -> Result<Self, Passed<Self>>
+        ensures { IsExact value bound Op.Minus self other result };
+
+    /// The exact product, or, exactly where it passes the bound in lowest terms, the two sides.
     fn times(self, other: Self) -> Result<Self, Passed<Self>>
         ensures { IsExact value bound Op.Times self other result };
+
+    /// Writes the value in units, of which `10^places` are a whole, and gives the length of the text.
+    fn write_exact(self, places: u8, buf: &mut [u8; 128]) -> usize
+        requires { places ≤ 15 }
+        ensures room { result ≤ 128 }
+        ensures text { take result buf.new ≡ written places (value self) };
+
+    /// Writes `num/den` in lowest terms, and gives the length of the text.
+    fn write_parts(self, buf: &mut [u8; 128]) -> usize
+        ensures room { result ≤ 128 }
+        ensures text { take result buf.new ≡ parts_text (value self) };
+
+    /// Every value is within the bound.
+    ghost value_fits: { (x : Self) → (unsigned_abs (value x).num ≤ bound) × ((value x).den ≤ bound) };
 
     /// Numbers of one value are one.
     ghost value_apart: { (x y : Self) → value x ≡ value y → x ≡ y };
 }
 
 #[cfg(test)]
-mod tests {
-    use super::*;
-
-    fn third<N: Exact>() -> N {
-        N::of_parts(1, 3)
-    }
-
-    fn doubled<N: Exact>(x: N) -> Result<N, Passed<N>> {
-        x.plus(x)
-    }
-
-    #[test]
-    fn adds_thirds(rt: HostRuntime) {
-        let x: Frac = third();
-        match doubled(x) {
-            Ok(sum) => match sum.plus(x) {
-                Ok(_one) => {}
-                Err(_) => assert!(rt; false),
-            },
-            Err(_) => assert!(rt; false),
-        }
-    }
-
-    #[test]
-    fn passes_63_bits(rt: HostRuntime) {
-        let x = Frac63::of_parts(9223372036854775807, 1);
-        assert!(rt; doubled(x).is_err());
-        let y = Frac::of_parts(9223372036854775807, 1);
-        assert!(rt; doubled(y).is_ok());
-    }
-}
+mod tests;

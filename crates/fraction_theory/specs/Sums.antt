@@ -1,44 +1,26 @@
--- Sums over lists of fractions.
-use Rattle.std.specs.Prelude.{◌≡◌, pos, List, [], ◌∷◌, ◌++◌, refl}
-use Rattle.std.proofs.Common.{ap, sym, ◌∙◌}
-use mathlib.Core.Path.{ap₂}
-use Rattle.fraction_theory.specs.Ring.{by_ring, at, padd, nil_plus, times_nil}
+-- Sums over lists, and named sums of terms in order with their prefix sums.
+use Rattle.std.specs.Prelude.{ℕ, pos, List, [], ◌∷◌, take}
 use Rattle.fraction_theory.specs.Fraction.{Fraction, whole, ◌+ℚ◌, ◌*ℚ◌}
-use Rattle.fraction_theory.specs.Field.{ring_ℚ}
-use Rattle.fraction_theory.specs.Order.{◌≤ℚ◌, ≤ℚ_refl, +ℚ-≤ℚ}
-use Rattle.std.specs.List.{AllByRecursion}
 
 -- the sum of f over a list
 abbrev pub sum_by : {T : Type 0} → (T → Fraction) → List T → Fraction
 sum_by f [] = whole (pos 0)
 sum_by f (x ∷ xs) = f x +ℚ sum_by f xs
 
-pub sum_by-append : {T : Type 0} (f : T → Fraction) (xs ys : List T) → sum_by f (xs ++ ys) ≡ sum_by f xs +ℚ sum_by f ys
-sum_by-append f [] ys = sym (nil_plus ring_ℚ (sum_by f ys))
-sum_by-append f (x ∷ xs) ys = ap (λ t. f x +ℚ t) (sum_by-append f xs ys) ∙ sym (ring_ℚ.plus_assoc (f x) (sum_by f xs) (sum_by f ys))
+-- one term of a sum: a number, or a product of two
+pub data Term : Type 0 where
+  Plain : Fraction → Term
+  Product : Fraction → Fraction → Term
 
-pub sum_by-plus : {T : Type 0} (f g : T → Fraction) (xs : List T) → sum_by (λ x. f x +ℚ g x) xs ≡ sum_by f xs +ℚ sum_by g xs
-sum_by-plus f g [] = sym (nil_plus ring_ℚ (whole (pos 0)))
-sum_by-plus f g (x ∷ xs) = ap (λ t. (f x +ℚ g x) +ℚ t) (sum_by-plus f g xs)
-    ∙ by_ring ring_ℚ (f x ∷ g x ∷ sum_by f xs ∷ sum_by g xs ∷ []) (padd (padd (at 0) (at 1)) (padd (at 2) (at 3))) (padd (padd (at 0) (at 2)) (padd (at 1) (at 3))) refl
+-- the value of a term
+abbrev pub term_value : Term → Fraction
+term_value (Plain x) = x
+term_value (Product x y) = x *ℚ y
 
-pub sum_by-times : {T : Type 0} (k : Fraction) (f : T → Fraction) (xs : List T) → sum_by (λ x. k *ℚ f x) xs ≡ k *ℚ sum_by f xs
-sum_by-times k f [] = sym (times_nil ring_ℚ k)
-sum_by-times k f (x ∷ xs) = ap (λ t. (k *ℚ f x) +ℚ t) (sum_by-times k f xs) ∙ sym (ring_ℚ.times_plus k (f x) (sum_by f xs))
+-- the sum of the terms
+abbrev pub total : List Term → Fraction
+total ts = sum_by term_value ts
 
-pub sum_by-nil : {T : Type 0} (xs : List T) → sum_by (λ x. whole (pos 0)) xs ≡ whole (pos 0)
-sum_by-nil [] = refl
-sum_by-nil (x ∷ xs) = nil_plus ring_ℚ (sum_by (λ y. whole (pos 0)) xs) ∙ sum_by-nil xs
-
--- sums in either order
-pub sum_by-exchange : {S T : Type 0} (f : S → T → Fraction) (xs : List S) (ys : List T) → sum_by (λ x. sum_by (f x) ys) xs ≡ sum_by (λ y. sum_by (λ x. f x y) xs) ys
-sum_by-exchange f [] ys = sym (sum_by-nil ys)
-sum_by-exchange f (x ∷ xs) ys = ap (λ t. sum_by (f x) ys +ℚ t) (sum_by-exchange f xs ys) ∙ sym (sum_by-plus (f x) (λ y. sum_by (λ x. f x y) xs) ys)
-
-pub sum_by-≤ : {T : Type 0} (f g : T → Fraction) (xs : List T) → AllByRecursion (λ x. f x ≤ℚ g x) xs → sum_by f xs ≤ℚ sum_by g xs
-sum_by-≤ f g [] h = ≤ℚ_refl (whole (pos 0))
-sum_by-≤ f g (x ∷ xs) h = +ℚ-≤ℚ (f x) (g x) (sum_by f xs) (sum_by g xs) h.0 (sum_by-≤ f g xs h.1)
-
-pub sum_by-same : {T : Type 0} (f g : T → Fraction) (xs : List T) → ((x : T) → f x ≡ g x) → sum_by f xs ≡ sum_by g xs
-sum_by-same f g [] h = refl
-sum_by-same f g (x ∷ xs) h = ap₂ ◌+ℚ◌ (h x) (sum_by-same f g xs h)
+-- the sum of the first k terms
+abbrev pub prefix : ℕ → List Term → Fraction
+prefix k ts = total (take k ts)

@@ -1,18 +1,22 @@
--- Weak duality, as a trial of the laws.
+-- Weak duality of linear programs, and columns that their prices support.
 use Rattle.std.specs.Prelude.{◌≡◌, pos, List, [], ◌∷◌, refl}
 use Rattle.std.proofs.Common.{sym, ◌∙◌, subst, inl, inr}
 use Rattle.std.specs.List.{AllByRecursion}
-use Rattle.fraction_theory.specs.Ring.{by_ring, by_ring1, at, pnil, padd, pmul, pneg}
+use Rattle.fraction_theory.proofs.Ring.{by_ring, by_ring1, at, pnil, pneg, ◌⊕◌, ◌⊗◌}
 use Rattle.fraction_theory.specs.Fraction.{Fraction, whole, ◌-ℚ◌, ◌*ℚ◌}
-use Rattle.fraction_theory.specs.Field.{ring_ℚ}
-use Rattle.fraction_theory.specs.Order.{◌≤ℚ◌, NonNeg, ≤ℚ_trans, *ℚ-≤ℚ, by_rest, NonNeg-times, le_to, ≤ℚ-or-<ℚ, <ℚ-not-≤ℚ, <ℚ-≤ℚ, ≤ℚ_antisym, ≤ℚ_of_same}
-use Rattle.fraction_theory.specs.Sums.{sum_by, sum_by-exchange, sum_by-≤, sum_by-same, sum_by-times}
+use Rattle.fraction_theory.proofs.FieldLaws.{ring_ℚ}
+use Rattle.fraction_theory.specs.Order.{◌≤ℚ◌, NonNeg}
+use Rattle.fraction_theory.proofs.OrderLaws.{≤ℚ_trans, *ℚ-≤ℚ, by_rest, NonNeg-times, le_to, ≤ℚ-or-<ℚ, <ℚ-not-≤ℚ, <ℚ-≤ℚ, ≤ℚ_antisym, ≤ℚ_of_same}
+use Rattle.fraction_theory.specs.Sums.{sum_by}
+use Rattle.fraction_theory.proofs.SumLaws.{sum_by-exchange, sum_by-≤, sum_by-same, sum_by-times}
 
 module _ {S T : Type 0} (rows : List S) (columns : List T) (a : S → T → Fraction) (bound : S → Fraction) (price : T → Fraction) (x : T → Fraction) (y : S → Fraction) where
+  -- x is 0 or above, and meets each row's bound
   pub record Feasible : Type 0 where
     pub above : AllByRecursion (λ j. NonNeg (x j)) columns
     pub rows_hold : AllByRecursion (λ i. sum_by (λ j. a i j *ℚ x j) columns ≤ℚ bound i) rows
 
+  -- y is 0 or above, and covers each column's price
   pub record DualFeasible : Type 0 where
     pub above : AllByRecursion (λ i. NonNeg (y i)) rows
     pub columns_hold : AllByRecursion (λ j. price j ≤ℚ sum_by (λ i. y i *ℚ a i j) rows) columns
@@ -31,9 +35,10 @@ module _ {S T : Type 0} (rows : List S) (columns : List T) (a : S → T → Frac
       ∙ sum_by-exchange (λ j i. x j *ℚ (y i *ℚ a i j)) columns rows
       ∙ sum_by-same (λ i. sum_by (λ j. x j *ℚ (y i *ℚ a i j)) columns) (λ i. y i *ℚ sum_by (λ j. a i j *ℚ x j) columns) rows
       (λ i. sum_by-same (λ j. x j *ℚ (y i *ℚ a i j)) (λ j. y i *ℚ (a i j *ℚ x j)) columns
-      (λ j. by_ring ring_ℚ (x j ∷ y i ∷ a i j ∷ []) (pmul (at 0) (pmul (at 1) (at 2))) (pmul (at 1) (pmul (at 2) (at 0))) refl)
+      (λ j. by_ring ring_ℚ (x j ∷ y i ∷ a i j ∷ []) (at 0 ⊗ (at 1 ⊗ at 2)) (at 1 ⊗ (at 2 ⊗ at 0)) refl)
       ∙ sum_by-times (y i) (λ j. a i j *ℚ x j) columns)
 
+  -- no x within the bounds is worth more than any y that covers the prices costs
   pub weak_duality : Feasible → DualFeasible → sum_by (λ j. x j *ℚ price j) columns ≤ℚ sum_by (λ i. y i *ℚ bound i) rows
   weak_duality f d =
       ≤ℚ_trans (sum_by (λ j. x j *ℚ price j) columns) (sum_by (λ j. x j *ℚ sum_by (λ i. y i *ℚ a i j) rows) columns) (sum_by (λ i. y i *ℚ bound i) rows)
@@ -41,21 +46,21 @@ module _ {S T : Type 0} (rows : List S) (columns : List T) (a : S → T → Frac
       (subst (λ t. t ≤ℚ sum_by (λ i. y i *ℚ bound i) rows) (sym middle)
       (sum_by-≤ (λ i. y i *ℚ sum_by (λ j. a i j *ℚ x j) columns) (λ i. y i *ℚ bound i) rows (both_rows rows d.above f.rows_hold)))
 
--- A column that its price supports: against any other point within its bounds it loses nothing.
--- Below the price it is full, above it is empty.
-pub record Supported (b p x q : Fraction) : Type 0 where
-  pub full : ¬ (b ≤ℚ p) → x ≡ q
-  pub empty : ¬ (p ≤ℚ b) → x ≡ whole (pos 0)
+-- A quantity that its price supports: where it is worth more than the price all of it is taken, where less none.
+pub record Supported (worth price taken most : Fraction) : Type 0 where
+  pub full : ¬ (worth ≤ℚ price) → taken ≡ most
+  pub empty : ¬ (price ≤ℚ worth) → taken ≡ whole (pos 0)
 
+-- against any other quantity within its bounds it loses nothing
 pub supports_best : (b p x q z : Fraction) → Supported b p x q → NonNeg z → z ≤ℚ q → ((b -ℚ p) *ℚ z) ≤ℚ ((b -ℚ p) *ℚ x)
 supports_best b p x q z s h k = elim (≤ℚ-or-<ℚ b p) [
   | inr below ↦ subst (λ t. ((b -ℚ p) *ℚ z) ≤ℚ ((b -ℚ p) *ℚ t)) (sym (s.full (<ℚ-not-≤ℚ p b below)))
       (*ℚ-≤ℚ (b -ℚ p) z q (le_to p b (<ℚ-≤ℚ p b below)) k)
   | inl not_above ↦ elim (≤ℚ-or-<ℚ p b) [
     | inr above ↦ subst (λ t. ((b -ℚ p) *ℚ z) ≤ℚ ((b -ℚ p) *ℚ t)) (sym (s.empty (<ℚ-not-≤ℚ b p above)))
-        (by_rest (b ∷ p ∷ z ∷ []) (pmul (padd (at 0) (pneg (at 1))) (at 2)) (pmul (padd (at 0) (pneg (at 1))) pnil) (pmul (padd (at 1) (pneg (at 0))) (at 2))
+        (by_rest (b ∷ p ∷ z ∷ []) ((at 0 ⊕ pneg (at 1)) ⊗ at 2) ((at 0 ⊕ pneg (at 1)) ⊗ pnil) ((at 1 ⊕ pneg (at 0)) ⊗ at 2)
         (NonNeg-times (p -ℚ b) z (le_to b p (<ℚ-≤ℚ b p above)) h) refl)
     | inl not_below ↦ ≤ℚ_of_same ((b -ℚ p) *ℚ z) ((b -ℚ p) *ℚ x)
-        (by_ring1 ring_ℚ (b ∷ p ∷ z ∷ x ∷ []) (pmul (padd (at 0) (pneg (at 1))) (at 2)) (pmul (padd (at 0) (pneg (at 1))) (at 3)) (padd (at 2) (pneg (at 3))) (at 0) (at 1) (≤ℚ_antisym b p not_above not_below) refl)
+        (by_ring1 ring_ℚ (b ∷ p ∷ z ∷ x ∷ []) ((at 0 ⊕ pneg (at 1)) ⊗ at 2) ((at 0 ⊕ pneg (at 1)) ⊗ at 3) (at 2 ⊕ pneg (at 3)) (at 0) (at 1) (≤ℚ_antisym b p not_above not_below) refl)
   ]
 ]

@@ -1,13 +1,12 @@
 -- The whole numbers are a ring.
-use Rattle.std.specs.Prelude.{◌≡◌, ℕ, ◌+◌, ◌*◌, ◌<◌, ◌≤ℤ◌, ◌/◌, ℤ, pos, negsuc, ◌+ℤ◌, ◌*ℤ◌, refl}
-use Rattle.std.proofs.Common.{◌⊎◌, inl, inr, zero, suc, arith, ap}
-use Rattle.std.proofs.Math.IntN.{neg_ℤ, nat_abs, +ℤ_assoc, +ℤ_comm, +ℤ_idr, +ℤ_invr, *ℤ_comm}
-use Rattle.std.proofs.lemmas.Int.{ints}
+use Rattle.std.specs.Prelude.{◌≡◌, ℕ, ◌+◌, ◌*◌, ◌<◌, ◌≤ℤ◌, ◌/◌, ◌⊎◌, ℤ, pos, negsuc, ◌+ℤ◌, ◌*ℤ◌, neg_ℤ, unsigned_abs, int_div}
+use Rattle.std.proofs.Common.{inl, inr, zero, suc, arith, ap}
+use Rattle.std.proofs.Math.IntN.{+ℤ_assoc, +ℤ_comm, +ℤ_idr, +ℤ_invr, *ℤ_comm}
+use Rattle.std.proofs.lemmas.Int.{ints, unsigned_abs-mul}
 use borrow.Author.Differences.{up, down, sum_is_lem, product_is, same_in}
 use Prim.Native.Nat.{◌∣◌}
-use lib.Signed.{quot_z}
 use Rattle.std.proofs.Math.Nat.{div-mul_cancel, eq_of_mul-eq-mul_right}
-use Rattle.fraction_theory.specs.Ring.{Ring}
+use Rattle.fraction_theory.proofs.Ring.{Ring}
 
 pub *ℤ_assoc : (x y z : ℤ) → (x *ℤ y) *ℤ z ≡ x *ℤ (y *ℤ z)
 *ℤ_assoc x y z = same_in ((x *ℤ y) *ℤ z) (x *ℤ (y *ℤ z)) (Prim.omega (arith, product_is (x *ℤ y) z, product_is x (y *ℤ z), ap (λ t. t * up z) (product_is x y).0, ap (λ t. t * down z) (product_is x y).0, ap (λ t. t * up z) (product_is x y).1, ap (λ t. t * down z) (product_is x y).1, ap (λ t. up x * t) (product_is y z).0, ap (λ t. down x * t) (product_is y z).0, ap (λ t. up x * t) (product_is y z).1, ap (λ t. down x * t) (product_is y z).1))
@@ -18,6 +17,7 @@ pub *ℤ-+ℤ : (x y z : ℤ) → x *ℤ (y +ℤ z) ≡ x *ℤ y +ℤ x *ℤ z
 pub *ℤ-pos_one : (x : ℤ) → x *ℤ pos 1 ≡ x
 *ℤ-pos_one x = same_in (x *ℤ pos 1) x (Prim.omega (arith, product_is x (pos 1)))
 
+-- the ring of whole numbers
 abbrev pub ring_ℤ : Ring ℤ
 ring_ℤ = record {
   nil = pos 0;
@@ -41,30 +41,17 @@ pub *ℤ_cancel : (x y : ℤ) (d : ℕ) → 0 < d → x *ℤ pos d ≡ y *ℤ po
     same_in x y (eq_of_mul-eq-mul_right d h (up x + down y) (up y + down x)
     (Prim.omega (arith, product_is x (pos d), product_is y (pos d), ap up e, ap down e)))
 
-pub nat_abs-*ℤ : (x : ℤ) (d : ℕ) → nat_abs (x *ℤ pos d) ≡ nat_abs x * d
-nat_abs-*ℤ x d = Rattle.std.proofs.lemmas.Int.unsigned_abs-mul x (pos d)
+pub unsigned_abs-*ℤ : (x : ℤ) (d : ℕ) → unsigned_abs (x *ℤ pos d) ≡ unsigned_abs x * d
+unsigned_abs-*ℤ x d = unsigned_abs-mul x (pos d)
 
 -- exact division by a number above 0
-pub quot_z-exact : (x : ℤ) (g : ℕ) → g ∣ nat_abs x → quot_z x (pos g) *ℤ pos g ≡ x
-quot_z-exact (pos n) g h = ap pos (div-mul_cancel g h)
-quot_z-exact (negsuc n) g h = zero_or (suc n / g) (div-mul_cancel g h)
+pub int_div-exact : (x : ℤ) (g : ℕ) → g ∣ unsigned_abs x → int_div x (pos g) *ℤ pos g ≡ x
+int_div-exact (pos n) g h = ap pos (div-mul_cancel g h)
+int_div-exact (negsuc n) g h = zero_or (suc n / g) (div-mul_cancel g h)
   where
     zero_or : (q : ℕ) → q * g ≡ suc n → neg_ℤ (pos q) *ℤ pos g ≡ negsuc n
     zero_or zero e = absurd (Prim.omega arith)
     zero_or (suc q) e = Prim.rw e
-
-pub nat_abs-quot_z : (x : ℤ) (g : ℕ) → nat_abs (quot_z x (pos g)) ≡ nat_abs x / g
-nat_abs-quot_z (pos n) g = refl
-nat_abs-quot_z (negsuc n) g = abs_neg (suc n / g)
-  where
-    abs_neg : (q : ℕ) → nat_abs (neg_ℤ (pos q)) ≡ q
-    abs_neg zero = refl
-    abs_neg (suc q) = refl
-
-pub nat_abs-neg : (x : ℤ) → nat_abs (neg_ℤ x) ≡ nat_abs x
-nat_abs-neg (pos zero) = refl
-nat_abs-neg (pos (suc n)) = refl
-nat_abs-neg (negsuc n) = refl
 
 pub zero≤*ℤ : (x y : ℤ) → pos 0 ≤ℤ x → pos 0 ≤ℤ y → pos 0 ≤ℤ (x *ℤ y)
 zero≤*ℤ (pos a) (pos b) p q = Prim.omega (arith, ints)

@@ -1,0 +1,162 @@
+//! What no clause says: numbers at the edges of the two types, texts, and each call once at both types.
+ghost use Rattle.std.specs.Prelude.{◌≤◌};
+
+use crate::{Exact, Frac, Frac63, Op, Passed, Sign};
+use std::cmp::Ordering;
+use std::process::Abort;
+
+/// `num/den`, where a fraction may be made of these.
+fn fraction<N: Exact>(num: i64, den: u64) -> Option<N> {
+    if num > i64::MIN && den > 0 && den < 1 << 63 {
+        Some(N::of_parts(num, den))
+    } else {
+        None
+    }
+}
+
+fn apply<N: Exact>(op: Op, left: N, right: N) -> Result<N, Passed<N>> {
+    match op {
+        Op::Plus => left.plus(right),
+        Op::Minus => left.minus(right),
+        Op::Times => left.times(right),
+    }
+}
+
+fn is<N: Exact>(answer: Result<N, Passed<N>>, value: N) -> bool {
+    match answer {
+        Ok(found) => found.order(value) == Ordering::Equal,
+        Err(_) => false,
+    }
+}
+
+fn inverse<N: Exact>(x: N) -> Option<N> {
+    match x.sign() {
+        Sign::Zero => None,
+        _ => Some(x.recip()),
+    }
+}
+
+fn is_written<N: Exact>(x: N, places: u8, text: &str) -> bool
+    requires { places ≤ 15 }
+{
+    let mut buf = [0; 128];
+    let end = x.write_exact(places, &mut buf);
+    &buf[..end] == text.as_bytes()
+}
+
+fn is_in_parts<N: Exact>(x: N, text: &str) -> bool {
+    let mut buf = [0; 128];
+    let end = x.write_parts(&mut buf);
+    &buf[..end] == text.as_bytes()
+}
+
+/// Each call once, on its happy path.
+fn calls<N: Exact>(rt: &impl Abort) {
+    let third = N::of_parts(1, 3);
+    let half = N::of_parts(-2, 4);
+    assert!(rt; is_in_parts(half, "-1/2"));
+    assert!(rt; is(third.plus(half), N::of_parts(-1, 6)));
+    assert!(rt; is(third.minus(half), N::of_parts(5, 6)));
+    assert!(rt; is(third.times(half), N::of_parts(-1, 6)));
+    assert!(rt; is(Ok(half.neg()), N::of_parts(1, 2)));
+    assert!(rt; third.order(half) == Ordering::Greater);
+    assert!(rt; half.sign() == Sign::Below && third.sign() == Sign::Above);
+    match inverse(half) {
+        Some(inverse) => assert!(rt; is_written(inverse, 0, "-2")),
+        None => assert!(rt; false),
+    }
+}
+
+#[test]
+fn each_call_at_both_types(rt: HostRuntime) {
+    calls::<Frac>(&rt);
+    calls::<Frac63>(&rt);
+}
+
+/// Sides whose parts have 63 bits: at `Frac` none of these passes.
+#[test]
+fn edges_of_63_bits(rt: HostRuntime) {
+    const MOST: i64 = i64::MAX;
+    for (op, (a, b), (c, d), passes) in [
+        (Op::Plus, (MOST, 1), (0, 1), false),
+        (Op::Plus, (MOST, 1), (1, 1), true),
+        (Op::Plus, (-MOST, 1), (-1, 1), true),
+        (Op::Minus, (-MOST, 1), (1, 1), true),
+        (Op::Minus, (MOST, 1), (MOST, 1), false),
+        (Op::Plus, (1, 1 << 62), (1, 1 << 62), false),
+        (Op::Plus, (1, 1 << 62), (1, 3), true),
+        (Op::Times, (1 << 32, 1), (1 << 31, 1), true),
+        (Op::Times, (1 << 32, 1), ((1 << 31) - 1, 1), false),
+        (Op::Times, (MOST, 2), (2, MOST as u64), false),
+        (Op::Times, (1, 1 << 62), (1, 2), true),
+    ] {
+        match (fraction::<Frac63>(a, b), fraction::<Frac63>(c, d)) {
+            (Some(left), Some(right)) => {
+                let result = apply(op, left, right);
+                assert_eq!(rt; result == Err(Passed { op, left, right }), passes);
+                assert_eq!(rt; result.is_err(), passes);
+            }
+            _ => assert!(rt; false),
+        }
+        match (fraction::<Frac>(a, b), fraction::<Frac>(c, d)) {
+            (Some(left), Some(right)) => assert!(rt; apply(op, left, right).is_ok()),
+            _ => assert!(rt; false),
+        }
+    }
+}
+
+#[test]
+fn edges_of_127_bits(rt: HostRuntime) {
+    let small = Frac::of_parts(1, 1 << 50);
+    let big = Frac::of_parts(1 << 32, 1);
+    match (
+        small.times(small),
+        big.times(big),
+        big.times(Frac::of_parts(1 << 31, 1)),
+    ) {
+        (Ok(tiny), Ok(power_64), Ok(power_63)) => {
+            assert!(rt; is_in_parts(tiny, "1/1267650600228229401496703205376"));
+            assert!(rt; tiny.plus(tiny).is_ok());
+            let passed = Passed {
+                op: Op::Times,
+                left: power_64,
+                right: power_63,
+            };
+            assert_eq!(rt; power_64.times(power_63), Err(passed));
+            assert!(rt; power_64.times(Frac::of_parts(i64::MAX, 1)).is_ok());
+        }
+        _ => assert!(rt; false),
+    }
+}
+
+/// Amounts in units, as reports print them.
+fn texts<N: Exact>(rt: &impl Abort) {
+    for (num, den, places, text) in [
+        (60000000000, 1, 9, "60"),
+        (160000000000, 3, 9, "53.333333333:1/3"),
+        (-1, 1, 9, "-0.000000001"),
+        (-2200000000000000000, 3, 15, "-733.333333333333333:1/3"),
+        (0, 5, 6, "0"),
+        (-10, 1, 0, "-10"),
+        (10, 3, 0, "3:1/3"),
+        (1200, 1, 3, "1.2"),
+        (i64::MAX, 1, 15, "9223.372036854775807"),
+        (
+            -1,
+            i64::MAX as u64,
+            15,
+            "-0.000000000000000:1/9223372036854775807",
+        ),
+    ] {
+        match fraction::<N>(num, den) {
+            Some(x) if places <= 15 => assert!(rt; is_written(x, places, text), "{text}"),
+            _ => assert!(rt; false),
+        }
+    }
+}
+
+#[test]
+fn texts_at_both_types(rt: HostRuntime) {
+    texts::<Frac>(&rt);
+    texts::<Frac63>(&rt);
+}
