@@ -1,0 +1,14 @@
+use Rattle.std.proofs.Common.{arith, pos}
+use Rattle.std.proofs.lemmas.Int.{ints}
+use Rattle.market_model.specs.declared.participants.Side.TheVariants.{Sell}
+use Rattle.sced.specs.Filling.{bought_of}
+use Rattle.sced.proofs.IntSums.{int_sum_more}
+use Rattle.sced.proofs.clearing.bought.Goals as goal
+
+pub loop-block-preserved : goal.loop-block-preserved
+loop-block-preserved c =
+    let more = int_sum_more bought_of c.args.blocks.now c.loop-block.block-index (record { unit = 0; side = Sell; quantity = pos 0; price = pos 0 }) c.loop-block-test.true in
+    record {
+      value = omega (arith, ints, more);
+      bound = omega (arith, ints);
+    }

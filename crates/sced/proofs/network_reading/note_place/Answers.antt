@@ -1,0 +1,7 @@
+use Rattle.std.proofs.Common.{◌∙◌}
+use Rattle.std.specs.Prelude.{◌==◌}
+use Rattle.indexmap.proofs.CallerLemmas.{insert_entry-new}
+use Rattle.sced.proofs.network_reading.note_place.Goals as goal
+
+pub returns-in-Ok : goal.returns-in-Ok
+returns-in-Ok c = c.in-Ok.ensures.entries ∙ insert_entry-new ◌==◌ c.args.places.now c.args.number c.args.place c.requires

@@ -1,0 +1,7 @@
+use Rattle.std.proofs.Common.{rules, append_assoc}
+use Rattle.sced.specs.Fitting.{head_text}
+use Rattle.sced.proofs.report.head_lines.Goals as goal
+
+pub returns : goal.returns
+unfolding head_text
+returns g c = search (rules, append_assoc)

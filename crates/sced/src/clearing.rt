@@ -1,0 +1,347 @@
+//! Clearing in price order, where no branch has a limit.
+//!
+//! A buy block counts as accepted, and as given back at its price. So one ascending order over
+//! all blocks by price fills what the fixed parts and the demands leave: a sell block fills by
+//! selling, a buy block by giving back. Ties go by block order.
+
+ghost use Rattle.std.specs.Prelude.{◌≡◌, ◌≤◌, ◌<◌, ◌*◌, ◌^◌, ◌⊎◌, pos, ◌≤ℤ◌, ◌<ℤ◌, ◌+◌, ◌-ℤ◌, unsigned_abs, [], length, vec_len, All, IfOk, IfSome, IfNone};
+ghost use Rattle.market_model.specs.Market.{most_buses, most_units, most_blocks, IsDatum, IsBus};
+ghost use Rattle.sced.specs.Filling.{int_sum, demand_of, fixed_of, bought_of, below_of, on_side, IsFillingPrice};
+ghost use Rattle.sced.specs.Fitting.{FitsMarket};
+
+use crate::settling::settle;
+use exact_fraction::{Exact, Passed};
+use market_model::{Answer, Block, Bus, Duals, Farkas, List, Market, Memory, Price, Side, Unit};
+use std::alloc::Global;
+
+/// Why a market was not cleared.
+#[derive(Drop, Debug)]
+pub enum ClearFault<N> {
+    Infeasible(Farkas<N>),
+    Range(Passed<N>),
+    Memory,
+}
+
+impl<N> From<Memory> for ClearFault<N> {
+    fn from(_refused: Memory) -> ClearFault<N> {
+        ClearFault::Memory
+    }
+}
+
+impl<N> From<Passed<N>> for ClearFault<N> {
+    fn from(passed: Passed<N>) -> ClearFault<N> {
+        ClearFault::Range(passed)
+    }
+}
+
+/// What the demands of buses come to.
+fn demand(buses: &[Bus]) -> i128
+    requires { length buses.now ≤ most_buses }
+    ensures value { result ≡ int_sum demand_of buses.now }
+    ensures bound { unsigned_abs result ≤ 2 ^ 64 * most_buses }
+{
+    let mut sum = 0i128;
+    for bus in buses {
+        sum += i128::from(bus.pd) + i128::from(bus.gs);
+    }
+    sum
+}
+
+/// What the fixed parts of units come to.
+fn fixed_output(units: &[Unit]) -> i128
+    requires { length units.now ≤ most_units }
+    ensures value { result ≡ int_sum fixed_of units.now }
+    ensures bound { unsigned_abs result ≤ 2 ^ 64 * most_units }
+{
+    let mut sum = 0i128;
+    for unit in units {
+        sum += i128::from(unit.fixed);
+    }
+    sum
+}
+
+/// What a block buys where it is accepted whole.
+fn bought_by(block: &Block) -> i128
+    ensures value { result ≡ bought_of block.now }
+    ensures bound { unsigned_abs result ≤ 2 ^ 64 }
+{
+    match block.side {
+        Side::Sell => 0,
+        Side::Buy => i128::from(block.quantity),
+    }
+}
+
+/// What the buy blocks come to.
+fn bought(blocks: &[Block]) -> i128
+    requires { length blocks.now ≤ most_blocks }
+    ensures value { result ≡ int_sum bought_of blocks.now }
+    ensures bound { unsigned_abs result ≤ 2 ^ 64 * most_blocks }
+{
+    let mut sum = 0i128;
+    for block in blocks {
+        sum += bought_by(block);
+    }
+    sum
+}
+
+/// The first price, of prices in ascending order with their quantities, at which the quantities
+/// up to it fill what is to be filled.
+fn filling_price(stairs: &[(i64, i64)], left: i128) -> Option<i64>
+    requires few { length stairs.now ≤ most_blocks }
+    requires prices { All (λ stair. IsDatum stair.0) stairs.now }
+    ensures price { IfSome result IsDatum }
+    ensures filled { IfSome result (λ price. IsFillingPrice stairs.now left price) }
+    ensures short { IfNone result (int_sum (λ stair. stair.1) stairs.now <ℤ left ⊎ (stairs.now ≡ [])) }
+{
+    let mut filled = 0i128;
+    for (price, quantity) in stairs {
+        filled += i128::from(*quantity);
+        if left <= filled {
+            return Some(*price);
+        }
+    }
+    None
+}
+
+/// The prices of blocks with their quantities, in ascending order.
+fn stairs(alloc: Global, blocks: &[Block]) -> Result<Vec<(i64, i64)>, Memory>
+    requires { All (λ block. IsDatum block.price) blocks.now }
+    ensures count { IfOk result (λ stairs. vec_len stairs ≡ length blocks.now) }
+    ensures prices { IfOk result (λ stairs. All (λ stair. IsDatum stair.0) stairs.items) }
+{
+    let mut stairs = Vec::new(alloc);
+    for block in blocks {
+        if stairs.push((block.price, block.quantity)).is_err() {
+            return Err(Memory);
+        }
+    }
+    if stairs.sort().is_err() {
+        return Err(Memory);
+    }
+    Ok(stairs)
+}
+
+/// The price of energy, where blocks can fill what is to be filled: 0 where there is nothing to
+/// fill and no block.
+fn energy_price(alloc: Global, blocks: &[Block], left: i128) -> Result<Option<i64>, Memory>
+    requires few { length blocks.now ≤ most_blocks }
+    requires prices { All (λ block. IsDatum block.price) blocks.now }
+    ensures { IfOk result (λ price. IfSome price IsDatum) }
+{
+    if left < 0 {
+        return Ok(None);
+    }
+    if left == 0 && blocks.is_empty() {
+        return Ok(Some(0));
+    }
+    let stairs = stairs(alloc, blocks)?;
+    Ok(filling_price(stairs.as_slice(), left))
+}
+
+/// What a block can fill at a price below that of energy.
+fn filled_below(block: &Block, energy: i64) -> i128
+    ensures value { result ≡ below_of energy block.now }
+    ensures bound { unsigned_abs result ≤ 2 ^ 64 }
+{
+    if block.price < energy {
+        i128::from(block.quantity)
+    } else {
+        0
+    }
+}
+
+/// How much of the blocks with a price below that of energy there is.
+fn below(blocks: &[Block], energy: i64) -> i128
+    requires { length blocks.now ≤ most_blocks }
+    ensures value { result ≡ int_sum (below_of energy) blocks.now }
+    ensures bound { unsigned_abs result ≤ 2 ^ 64 * most_blocks }
+{
+    let mut sum = 0i128;
+    for block in blocks {
+        sum += filled_below(block, energy);
+    }
+    sum
+}
+
+/// How much a block fills, where so much is left for those at the price of energy.
+fn filled_by(block: &Block, energy: i64, left: i128) -> i64
+    requires { pos 0 ≤ℤ block.now.quantity }
+    ensures low { pos 0 ≤ℤ result }
+    ensures high { result ≤ℤ block.now.quantity }
+    ensures cheap { block.now.price <ℤ energy → result ≡ block.now.quantity }
+    ensures dear { energy <ℤ block.now.price → result ≡ pos 0 }
+{
+    if block.price < energy {
+        block.quantity
+    } else if energy < block.price || left <= 0 {
+        0
+    } else if left < i128::from(block.quantity) {
+        left as i64
+    } else {
+        block.quantity
+    }
+}
+
+/// The accepted MW of a block that fills so much.
+fn accepted_by(block: &Block, filled: i64) -> i64
+    requires low { pos 0 ≤ℤ filled }
+    requires high { filled ≤ℤ block.now.quantity }
+    ensures value { result ≡ on_side block.now.side filled (block.now.quantity -ℤ filled) }
+    ensures bound { unsigned_abs result < 2 ^ 63 }
+{
+    match block.side {
+        Side::Sell => filled,
+        Side::Buy => block.quantity - filled,
+    }
+}
+
+/// What is left to the blocks at the price of energy behind one that fills so much.
+fn left_behind(block: &Block, energy: i64, left: i128, filled: i64) -> i128
+    requires { unsigned_abs left < 2 ^ 100 }
+    ensures { unsigned_abs result ≤ unsigned_abs left + 2 ^ 64 }
+{
+    if block.price == energy {
+        left - i128::from(filled)
+    } else {
+        left
+    }
+}
+
+/// The accepted MW of each block at a price of energy.
+fn dispatch<N: Exact>(
+    alloc: Global,
+    blocks: &[Block],
+    energy: i64,
+    left: i128,
+) -> Result<List<N>, Memory>
+    requires few { length blocks.now ≤ most_blocks }
+    requires blocks { All (λ block. pos 0 ≤ℤ block.quantity) blocks.now }
+    requires left { unsigned_abs left ≤ 2 ^ 64 * 6000 }
+    ensures { IfOk result (λ accepted. length accepted ≡ length blocks.now) }
+{
+    let mut accepted = List::new(alloc);
+    let mut at_price = left - below(blocks, energy);
+    for block in blocks {
+        let filled = filled_by(block, energy, at_price);
+        at_price = left_behind(block, energy, at_price, filled);
+        accepted.push(N::of_parts(accepted_by(block, filled), 1))?;
+    }
+    Ok(accepted)
+}
+
+/// The duals of a price of energy, where no limit has a price.
+fn duals<N: Exact>(alloc: Global, energy: N) -> Duals<N>
+    ensures energy { result.energy ≡ energy }
+    ensures limits { result.limits ≡ [] }
+{
+    Duals {
+        energy,
+        limits: List::new(alloc),
+    }
+}
+
+/// What a bus injects where no block is accepted: the fixed parts of its units less its demand.
+#[tactic(auto, using(market_model::proofs::Data::datum_read))]
+fn empty_injection<N: Exact>(units: &[Unit], place: usize, bus: &Bus) -> Result<N, Passed<N>>
+    requires units { All (λ unit. IsDatum unit.fixed) units.now }
+    requires bus { IsBus bus.now }
+{
+    let mut injection = N::of_parts(0, 1);
+    for unit in units {
+        if unit.bus == place {
+            injection = injection.plus(N::of_parts(unit.fixed, 1))?;
+        }
+    }
+    let less_load = injection.minus(N::of_parts(bus.pd, 1))?;
+    less_load.minus(N::of_parts(bus.gs, 1))
+}
+
+/// What each bus injects where no block is accepted, all added up.
+fn empty_balance<N: Exact>(buses: &[Bus], units: &[Unit]) -> Result<N, Passed<N>>
+    requires buses { All IsBus buses.now }
+    requires units { All (λ unit. IsDatum unit.fixed) units.now }
+{
+    let mut balance = N::of_parts(0, 1);
+    for (place, bus) in buses.iter().enumerate() {
+        let injection = empty_injection(units, place, bus)?;
+        balance = balance.plus(injection)?;
+    }
+    Ok(balance)
+}
+
+/// The duals that show that no dispatch is feasible: an energy of 1 where all blocks serve less
+/// than the demand, of -1 where the fixed parts and the buy blocks take less than is fixed.
+fn farkas<N: Exact>(alloc: Global, market: &Market, short: bool) -> Result<Farkas<N>, Passed<N>> {
+    let balance: N = empty_balance(market.buses().slice(), market.units().slice())?;
+    let energy = if short { 1 } else { -1 };
+    let energy = N::of_parts(energy, 1);
+    let weighing = if short { Side::Sell } else { Side::Buy };
+    let mut bound = energy.times(balance)?;
+    for block in market.blocks().slice() {
+        if block.side == weighing {
+            bound = bound.plus(N::of_parts(block.quantity, 1))?;
+        }
+    }
+    Ok(Farkas {
+        duals: duals(alloc, energy),
+        bound,
+    })
+}
+
+/// The bus prices: without limits each is that of energy.
+fn prices<N: Exact>(alloc: Global, buses: usize, energy: N) -> Result<List<Price<N>>, Memory>
+    ensures { IfOk result (λ prices. length prices ≡ buses) }
+{
+    let mut prices = List::new(alloc);
+    for _bus in 0..buses {
+        prices.push(Price {
+            energy,
+            congestion: N::of_parts(0, 1),
+            total: energy,
+        })?;
+    }
+    Ok(prices)
+}
+
+/// The value of what is bought less the cost of what is sold, added in block order.
+#[tactic(auto, using(market_model::proofs::Data::datum_read))]
+fn welfare<N: Exact>(blocks: &[Block], dispatch: &[N]) -> Result<N, Passed<N>>
+    requires prices { All (λ block. IsDatum block.price) blocks.now }
+    requires dispatch { length dispatch.now ≡ length blocks.now }
+{
+    let mut welfare = N::of_parts(0, 1);
+    for (place, block) in blocks.iter().enumerate() {
+        let price = N::of_parts(block.price, 1);
+        let value = match block.side {
+            Side::Sell => price.neg(),
+            Side::Buy => price,
+        };
+        welfare = welfare.plus(value.times(dispatch[place])?)?;
+    }
+    Ok(welfare)
+}
+
+/// Clears a market.
+pub fn clear<N: Exact>(alloc: Global, market: &Market) -> Result<Answer<N>, ClearFault<N>>
+    ensures { IfOk result (λ answer. FitsMarket market.now answer) }
+{
+    let blocks = market.blocks().slice();
+    let taken = demand(market.buses().slice()) + bought(blocks);
+    let left = taken - fixed_output(market.units().slice());
+    let energy = match energy_price(alloc, blocks, left)? {
+        Some(energy) => energy,
+        None => return Err(ClearFault::Infeasible(farkas(alloc, market, left >= 0)?)),
+    };
+    let dispatch: List<N> = dispatch(alloc, blocks, energy, left)?;
+    let energy = N::of_parts(energy, 1);
+    let prices = prices(alloc, market.buses().len(), energy)?;
+    let welfare = welfare(blocks, dispatch.slice())?;
+    let money = settle(alloc, market, dispatch.slice(), prices.slice())?;
+    Ok(Answer {
+        dispatch,
+        duals: duals(alloc, energy),
+        prices,
+        welfare,
+        money,
+    })
+}

@@ -1,0 +1,52 @@
+//! `sced`: clears the market of one interval of an electricity network.
+#![tactic(auto)]
+
+mod clearing;
+mod live_parts;
+mod network_reading;
+mod offer_table;
+mod plain_case;
+mod report;
+pub mod run;
+mod settling;
+pub mod status;
+mod words;
+
+use outside_store::{FileStore, OutSink};
+use run::run;
+use status::Status;
+use std::process::ExitCode;
+use std::{env, io};
+
+/// The words of this run. Words that are no text are none that the program takes, so an empty
+/// list stands for them.
+fn collected(rt: &HostRuntime) -> Result<Vec<String>, Status> {
+    let mut words = Vec::new(rt.alloc());
+    match env::args(rt) {
+        Ok(args) => {
+            for word in args {
+                if words.push(word).is_err() {
+                    return Err(Status::Memory);
+                }
+            }
+            Ok(words)
+        }
+        Err(error) if error.kind() == io::ErrorKind::OutOfMemory => Err(Status::Memory),
+        Err(_) => Ok(words),
+    }
+}
+
+fn main(rt: HostRuntime) -> ExitCode {
+    let status = match collected(&rt) {
+        Ok(words) => {
+            let mut store = FileStore::new(rt);
+            let mut out = OutSink::new(rt);
+            run(rt.alloc(), words.as_slice(), &mut store, &mut out)
+        }
+        Err(status) => status,
+    };
+    ExitCode::from(status.code())
+}
+
+#[cfg(test)]
+mod tests;

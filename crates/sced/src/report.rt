@@ -1,0 +1,240 @@
+//! The text of an answer.
+
+ghost use Rattle.std.specs.Prelude.{◌≡◌, ◌≤◌, ◌<◌, ◌++◌, ◌+◌, List, ℕ, [], ◌∷◌, length, codes, decimal, take, IfOk};
+ghost use Rattle.exact_fraction.specs.Written.{written};
+ghost use Rattle.market_model.specs.Market.{most_blocks};
+ghost use Rattle.sced.specs.Fitting.{FitsMarket, Extends, side_text, head_text};
+
+use exact_fraction::Exact;
+use itoa::Buffer;
+use market_model::{Answer, Block, Bus, Load, Market, Memory, Price, Side, UnitPay};
+use std::alloc::Global;
+use std::marker::Model;
+
+/// Decimal places of a MW, of a price and of money.
+const MW_PLACES: u8 = 9;
+
+const PRICE_PLACES: u8 = 6;
+
+const MONEY_PLACES: u8 = 15;
+
+/// A text in the making.
+#[derive(Drop)]
+pub struct Text {
+    bytes: Vec<u8>,
+}
+
+impl Model for Text {
+    ghost Value = { List ℕ };
+
+    ghost view = { λ text. text.bytes.items };
+}
+
+impl Text {
+    pub fn new(alloc: Global) -> Text
+        ensures { result ≡ [] }
+    {
+        Text {
+            bytes: Vec::new(alloc),
+        }
+    }
+
+    pub fn into_bytes(self) -> Vec<u8>
+        ensures { result.items ≡ self }
+    {
+        self.bytes
+    }
+
+    pub fn word(&mut self, word: &[u8]) -> Result<(), Memory>
+        ensures { IfOk result (λ _. self.new ≡ self.old ++ word.now) }
+    {
+        match self.bytes.extend_from_slice(word) {
+            Ok(()) => Ok(()),
+            Err(_) => Err(Memory),
+        }
+    }
+
+    fn number(&mut self, number: u32) -> Result<(), Memory>
+        ensures { IfOk result (λ _. self.new ≡ self.old ++ decimal number) }
+    {
+        let mut digits = Buffer::new();
+        self.word(digits.format(number).as_bytes())
+    }
+
+    /// An exact number of units, of which `10^places` are a whole.
+    fn exact<N: Exact>(&mut self, value: N, places: u8) -> Result<(), Memory>
+        requires { places ≤ 15 }
+        ensures { IfOk result (λ _. self.new ≡ self.old ++ written places (N.value value)) }
+    {
+        let mut buffer = [0u8; 128];
+        let end = value.write_exact(places, &mut buffer);
+        self.word(&buffer[..end])
+    }
+
+    /// A word and an exact number of units behind it.
+    fn named<N: Exact>(&mut self, word: &[u8], value: N, places: u8) -> Result<(), Memory>
+        requires { places ≤ 15 }
+        ensures { IfOk result (λ _. self.new ≡ self.old ++ word.now ++ written places (N.value value)) }
+    {
+        self.word(word)?;
+        self.exact(value, places)
+    }
+}
+
+fn side_word(side: Side) -> &'static [u8]
+    ensures { result.now ≡ side_text side }
+{
+    match side {
+        Side::Sell => b" sell ",
+        Side::Buy => b" buy ",
+    }
+}
+
+/// The place of a block among those of its unit and side, from 1.
+fn number_of(blocks: &[Block], place: usize) -> u32
+    requires few { length blocks.now ≤ most_blocks }
+    requires place { place < length blocks.now }
+    ensures low { 1 ≤ result }
+    ensures high { result ≤ place + 1 }
+{
+    let block = blocks[place];
+    let mut number = 1;
+    for other in &blocks[..place] {
+        if other.unit == block.unit && other.side == block.side {
+            number += 1;
+        }
+    }
+    number
+}
+
+/// The price of a bus.
+fn bus_line<N: Exact>(text: &mut Text, bus: &Bus, price: &Price<N>) -> Result<(), Memory>
+    ensures { IfOk result (λ _. text.new ≡ text.old ++ codes "bus " ++ decimal bus.now.number
+        ++ codes " price " ++ written 6 (N.value price.now.total)
+        ++ codes " congestion " ++ written 6 (N.value price.now.congestion) ++ codes "\n") }
+{
+    text.word(b"bus ")?;
+    text.number(bus.number)?;
+    text.named(b" price ", price.total, PRICE_PLACES)?;
+    text.named(b" congestion ", price.congestion, PRICE_PLACES)?;
+    text.word(b"\n")
+}
+
+/// The accepted MW of a block, the so-manieth of its unit and side.
+fn block_line<N: Exact>(
+    text: &mut Text,
+    row: u32,
+    side: Side,
+    number: u32,
+    mw: N,
+) -> Result<(), Memory>
+    ensures { IfOk result (λ _. text.new ≡ text.old ++ codes "block " ++ decimal row ++ side_text side
+        ++ decimal number ++ codes " mw " ++ written 9 (N.value mw) ++ codes "\n") }
+{
+    text.word(b"block ")?;
+    text.number(row)?;
+    text.word(side_word(side))?;
+    text.number(number)?;
+    text.named(b" mw ", mw, MW_PLACES)?;
+    text.word(b"\n")
+}
+
+/// A unit's output and what it is paid.
+fn unit_line<N: Exact>(text: &mut Text, row: u32, pay: &UnitPay<N>) -> Result<(), Memory>
+    ensures { IfOk result (λ _. text.new ≡ text.old ++ codes "unit " ++ decimal row
+        ++ codes " mw " ++ written 9 (N.value pay.now.mw)
+        ++ codes " paid " ++ written 15 (N.value pay.now.paid) ++ codes "\n") }
+{
+    text.word(b"unit ")?;
+    text.number(row)?;
+    text.named(b" mw ", pay.mw, MW_PLACES)?;
+    text.named(b" paid ", pay.paid, MONEY_PLACES)?;
+    text.word(b"\n")
+}
+
+/// A bus's demand and what it pays.
+fn load_line<N: Exact>(text: &mut Text, number: u32, load: &Load<N>) -> Result<(), Memory>
+    ensures { IfOk result (λ _. text.new ≡ text.old ++ codes "load " ++ decimal number
+        ++ codes " mw " ++ written 9 (N.value load.now.mw)
+        ++ codes " pays " ++ written 15 (N.value load.now.pays) ++ codes "\n") }
+{
+    text.word(b"load ")?;
+    text.number(number)?;
+    text.named(b" mw ", load.mw, MW_PLACES)?;
+    text.named(b" pays ", load.pays, MONEY_PLACES)?;
+    text.word(b"\n")
+}
+
+fn bus_lines<N: Exact>(text: &mut Text, market: &Market, answer: &Answer<N>) -> Result<(), Memory>
+    requires { FitsMarket market.now answer.now }
+    ensures { IfOk result (λ _. Extends text.old text.new) }
+{
+    for (place, bus) in market.buses().slice().iter().enumerate() {
+        bus_line(text, bus, answer.prices.at(place))?;
+    }
+    Ok(())
+}
+
+fn block_lines<N: Exact>(text: &mut Text, market: &Market, answer: &Answer<N>) -> Result<(), Memory>
+    requires { FitsMarket market.now answer.now }
+    ensures { IfOk result (λ _. Extends text.old text.new) }
+{
+    let blocks = market.blocks().slice();
+    let units = market.units().slice();
+    for (place, block) in blocks.iter().enumerate() {
+        let row = units[block.unit].row;
+        let number = number_of(blocks, place);
+        block_line(text, row, block.side, number, *answer.dispatch.at(place))?;
+    }
+    Ok(())
+}
+
+fn unit_lines<N: Exact>(text: &mut Text, market: &Market, answer: &Answer<N>) -> Result<(), Memory>
+    requires { FitsMarket market.now answer.now }
+    ensures { IfOk result (λ _. Extends text.old text.new) }
+{
+    for (place, unit) in market.units().slice().iter().enumerate() {
+        unit_line(text, unit.row, answer.money.units.at(place))?;
+    }
+    Ok(())
+}
+
+fn load_lines<N: Exact>(text: &mut Text, market: &Market, answer: &Answer<N>) -> Result<(), Memory>
+    requires { FitsMarket market.now answer.now }
+    ensures { IfOk result (λ _. Extends text.old text.new) }
+{
+    for (place, bus) in market.buses().slice().iter().enumerate() {
+        load_line(text, bus.number, answer.money.loads.at(place))?;
+    }
+    Ok(())
+}
+
+/// That the market is cleared, its welfare and the price of energy.
+fn head_lines<N: Exact>(text: &mut Text, answer: &Answer<N>) -> Result<(), Memory>
+    ensures { IfOk result (λ _. text.new ≡ text.old ++ head_text (N.value answer.now.welfare) (N.value answer.now.duals.energy)) }
+{
+    text.named(b"cleared\nwelfare ", answer.welfare, MONEY_PLACES)?;
+    text.named(b"\nenergy ", answer.duals.energy, PRICE_PLACES)?;
+    text.word(b"\n")?;
+    Ok(())
+}
+
+/// The report of a cleared market.
+pub fn cleared<N: Exact>(
+    alloc: Global,
+    market: &Market,
+    answer: &Answer<N>,
+) -> Result<Vec<u8>, Memory>
+    requires { FitsMarket market.now answer.now }
+    ensures { IfOk result (λ bytes. Extends (head_text (N.value answer.now.welfare) (N.value answer.now.duals.energy)) bytes.items) }
+{
+    let mut text = Text::new(alloc);
+    head_lines(&mut text, answer)?;
+    bus_lines(&mut text, market, answer)?;
+    block_lines(&mut text, market, answer)?;
+    unit_lines(&mut text, market, answer)?;
+    load_lines(&mut text, market, answer)?;
+    text.named(b"surplus ", answer.money.surplus, MONEY_PLACES)?;
+    text.word(b"\n")?;
+    Ok(text.into_bytes())
+}

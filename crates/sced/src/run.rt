@@ -1,0 +1,222 @@
+//! From words and files to the text that is put.
+
+ghost use Rattle.std.specs.Prelude.{◌≡◌, ◌⊎◌, ℕ, List, map, string_bytes, Ok, Err, IfOk, IfErr, MatchResult};
+ghost use Rattle.outside_store.specs.Causes.{Rose, Still};
+ghost use Rattle.outside_store.specs.Sinks.{Took, CountFault};
+ghost use Rattle.sced.specs.Runs.{AsksNothing, IsSilent, IsTold, IsOfFiles, NamedReadFailed};
+
+use crate::clearing::{ClearFault, clear};
+use crate::live_parts::NetFault;
+use crate::network_reading::network;
+use crate::offer_table::{OfferFault, blocks};
+use crate::plain_case::{CaseFault, read_case};
+use crate::report::cleared;
+use crate::status::Status;
+use crate::words::{PoolFiles, pool_files};
+use exact_fraction::{Exact, Frac};
+use market_model::{Market, Memory, Parts, assemble};
+use outside_store::{ReadStop, Sink, Store};
+use std::alloc::Global;
+
+/// The most bytes of a file.
+const MOST_BYTES: usize = 33_554_432;
+
+/// Why no market was made of the files.
+enum Refusal {
+    Case,
+    Offers,
+    Memory,
+}
+
+impl From<Memory> for Refusal {
+    fn from(_refused: Memory) -> Refusal {
+        Refusal::Memory
+    }
+}
+
+impl From<CaseFault> for Refusal {
+    fn from(fault: CaseFault) -> Refusal {
+        match fault {
+            CaseFault::Plain { line: _ } => Refusal::Case,
+            CaseFault::Memory => Refusal::Memory,
+        }
+    }
+}
+
+impl From<NetFault> for Refusal {
+    fn from(fault: NetFault) -> Refusal {
+        match fault {
+            NetFault::Memory => Refusal::Memory,
+            _ => Refusal::Case,
+        }
+    }
+}
+
+impl From<OfferFault> for Refusal {
+    fn from(fault: OfferFault) -> Refusal {
+        match fault {
+            OfferFault::Memory => Refusal::Memory,
+            _ => Refusal::Offers,
+        }
+    }
+}
+
+/// The market of a case and its offers.
+fn market(alloc: Global, case: &[u8], offers: &[u8]) -> Result<Market, Refusal> {
+    if case.len() > MOST_BYTES {
+        return Err(Refusal::Case);
+    }
+    let raw = read_case(alloc, case)?;
+    let network = network(alloc, &raw)?;
+    let units = network.unit_list(alloc)?;
+    if offers.len() > MOST_BYTES {
+        return Err(Refusal::Offers);
+    }
+    let blocks = blocks(alloc, &units, offers)?;
+    let parts = Parts {
+        buses: network.buses,
+        units: units.units,
+        blocks,
+    };
+    Ok(assemble(alloc, parts)?)
+}
+
+/// A status and the text that goes with it.
+#[derive(Drop)]
+struct Outcome {
+    status: Status,
+    text: Vec<u8>,
+}
+
+/// A line of its own, with a status.
+fn line(alloc: Global, status: Status, words: &[u8]) -> Result<Outcome, Memory>
+    ensures { IfOk result (λ outcome. (outcome.status ≡ status) × (outcome.text.items ≡ words.now)) }
+{
+    match Vec::from_slice(alloc, words) {
+        Ok(text) => Ok(Outcome { status, text }),
+        Err(_) => Err(Memory),
+    }
+}
+
+/// What clearing a market comes to.
+fn clear_outcome<N: Exact>(alloc: Global, market: &Market) -> Result<Outcome, Memory>
+    ensures { IfOk result (λ outcome. IsOfFiles outcome.status) }
+{
+    match clear::<N>(alloc, market) {
+        Ok(answer) => Ok(Outcome {
+            status: Status::Done,
+            text: cleared(alloc, market, &answer)?,
+        }),
+        Err(ClearFault::Infeasible(_farkas)) => line(alloc, Status::Infeasible, b"infeasible\n"),
+        Err(ClearFault::Range(_passed)) => line(alloc, Status::Range, b"range\n"),
+        Err(ClearFault::Memory) => Err(Memory),
+    }
+}
+
+/// What the bytes of a case and of offers come to.
+fn pool(alloc: Global, case: &[u8], offers: &[u8]) -> Result<Outcome, Memory>
+    ensures { IfOk result (λ outcome. IsOfFiles outcome.status) }
+{
+    match market(alloc, case, offers) {
+        Ok(market) => clear_outcome::<Frac>(alloc, &market),
+        Err(Refusal::Case) => line(alloc, Status::Refused, b"refused case\n"),
+        Err(Refusal::Offers) => line(alloc, Status::Refused, b"refused offers\n"),
+        Err(Refusal::Memory) => Err(Memory),
+    }
+}
+
+/// Puts the text, once.
+fn put<K: Sink>(out: &mut K, outcome: &Outcome) -> Status
+    requires { IsTold outcome.now.status }
+    ensures status { (result ≡ outcome.now.status) ⊎ (result ≡ Status.WriteFailed) }
+    ensures took { Took (result ≡ Status.WriteFailed) outcome.now.text.items (K.taken out.old) (K.taken out.new) }
+    ensures faults { CountFault (result ≡ Status.WriteFailed) (K.faults out.old) (K.faults out.new) }
+{
+    match out.put(outcome.text.as_slice()) {
+        Ok(()) => outcome.status,
+        Err(_) => Status::WriteFailed,
+    }
+}
+
+/// The bytes of a named file, cut behind the first too many.
+fn read_file<S: Store>(alloc: Global, store: &mut S, name: &str) -> Result<Vec<u8>, Status>
+    ensures stop { IfErr result IsSilent }
+    ensures failed { result ≡ Err Status.ReadFailed → Rose (S.failed_reads store.old name.now) (S.failed_reads store.new name.now) }
+    ensures reads { ¬ (result ≡ Err Status.ReadFailed) → Still (S.failed_reads store.old) (S.failed_reads store.new) }
+    ensures writes { Still (S.failed_writes store.old) (S.failed_writes store.new) }
+{
+    match store.read(alloc, name, MOST_BYTES) {
+        Ok(bytes) => Ok(bytes),
+        Err(ReadStop::Failed) => Err(Status::ReadFailed),
+        Err(ReadStop::Memory) => Err(Status::Memory),
+    }
+}
+
+/// The status of an outcome that there was no memory for.
+fn told(outcome: Result<Outcome, Memory>) -> Result<Outcome, Status>
+    ensures { MatchResult result (λ outcome_made. outcome ≡ Ok outcome_made) (λ status. status ≡ Status.Memory) }
+{
+    match outcome {
+        Ok(outcome) => Ok(outcome),
+        Err(Memory) => Err(Status::Memory),
+    }
+}
+
+/// What the two files come to.
+fn pool_outcome<S: Store>(
+    alloc: Global,
+    files: &PoolFiles<'_>,
+    store: &mut S,
+) -> Result<Outcome, Status>
+    ensures told { MatchResult result (λ outcome. IsOfFiles outcome.status) IsSilent }
+    ensures failed { result ≡ Err Status.ReadFailed → Rose (S.failed_reads store.old files.now.case.now) (S.failed_reads store.new files.now.case.now) ⊎ Rose (S.failed_reads store.old files.now.offers.now) (S.failed_reads store.new files.now.offers.now) }
+    ensures reads { ¬ (result ≡ Err Status.ReadFailed) → Still (S.failed_reads store.old) (S.failed_reads store.new) }
+    ensures writes { Still (S.failed_writes store.old) (S.failed_writes store.new) }
+{
+    let case = read_file(alloc, store, files.case)?;
+    let offers = read_file(alloc, store, files.offers)?;
+    told(pool(alloc, case.as_slice(), offers.as_slice()))
+}
+
+/// What the words and the files that they name come to.
+fn asked_outcome<S: Store>(
+    alloc: Global,
+    words: &[String],
+    store: &mut S,
+) -> Result<Outcome, Status>
+    ensures usage { IfOk result (λ outcome. outcome.status ≡ Status.Usage → AsksNothing (map string_bytes words.entry.now)) }
+    ensures nothing_asked { AsksNothing (map string_bytes words.entry.now) → MatchResult result (λ outcome. outcome.status ≡ Status.Usage) (λ status. status ≡ Status.Memory) }
+    ensures told { MatchResult result (λ outcome. IsTold outcome.status) IsSilent }
+    ensures failed { result ≡ Err Status.ReadFailed → NamedReadFailed (map string_bytes words.entry.now) (S.failed_reads store.old) (S.failed_reads store.new) }
+    ensures reads { ¬ (result ≡ Err Status.ReadFailed) → Still (S.failed_reads store.old) (S.failed_reads store.new) }
+    ensures writes { Still (S.failed_writes store.old) (S.failed_writes store.new) }
+{
+    match pool_files(words) {
+        None => told(line(alloc, Status::Usage, b"refused words\n")),
+        Some(files) => pool_outcome(alloc, &files, store),
+    }
+}
+
+/// Runs the command that the words ask for, over the files of a store, and puts its text.
+///
+/// The whole text is made first and put once.
+pub fn run<S: Store, K: Sink>(alloc: Global, words: &[String], store: &mut S, out: &mut K) -> Status
+    // The words are refused only where they are none that the program takes, and then always.
+    ensures usage { result ≡ Status.Usage → AsksNothing (map string_bytes words.entry.now) }
+    ensures nothing_asked { AsksNothing (map string_bytes words.entry.now) → (result ≡ Status.Usage) ⊎ (result ≡ Status.WriteFailed) ⊎ (result ≡ Status.Memory) }
+
+    // A read or a put failed only where its count rose, and else the counts stay.
+    ensures read_failed { result ≡ Status.ReadFailed → NamedReadFailed (map string_bytes words.entry.now) (S.failed_reads store.old) (S.failed_reads store.new) }
+    ensures reads { ¬ (result ≡ Status.ReadFailed) → Still (S.failed_reads store.old) (S.failed_reads store.new) }
+    ensures writes { Still (S.failed_writes store.old) (S.failed_writes store.new) }
+    ensures faults { CountFault (result ≡ Status.WriteFailed) (K.faults out.old) (K.faults out.new) }
+
+    // A text is put once, and none where a read failed or memory was refused.
+    ensures silent { IsSilent result → K.taken out.new ≡ K.taken out.old }
+    ensures told { ¬ IsSilent result → (text : List ℕ) × Took (result ≡ Status.WriteFailed) text (K.taken out.old) (K.taken out.new) }
+{
+    match asked_outcome(alloc, words, store) {
+        Ok(outcome) => put(out, &outcome),
+        Err(status) => status,
+    }
+}

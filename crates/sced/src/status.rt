@@ -1,0 +1,43 @@
+//! How a run ended.
+
+ghost use Rattle.std.specs.Prelude.{◌≡◌};
+
+/// The exit status of a run.
+#[derive(Clone, Copy, PartialEq, Eq, Debug)]
+pub enum Status {
+    /// Cleared.
+    Done,
+    /// The words are none that the program takes.
+    Usage,
+    /// A file is at fault.
+    Refused,
+    /// No dispatch is feasible.
+    Infeasible,
+    /// Numbers passed 127 bits.
+    Range,
+    /// A named file could not be read.
+    ReadFailed,
+    /// The text could not be put.
+    WriteFailed,
+    /// Memory was refused.
+    Memory,
+}
+
+impl Status {
+    ghost use Rattle.sced.specs.Status.{code_of};
+
+    pub fn code(self) -> u8
+        ensures { result ≡ code_of self }
+    {
+        match self {
+            Status::Done => 0,
+            Status::Usage => 1,
+            Status::Refused => 2,
+            Status::Infeasible => 3,
+            Status::Range => 4,
+            Status::ReadFailed => 5,
+            Status::WriteFailed => 6,
+            Status::Memory => 7,
+        }
+    }
+}

@@ -1,0 +1,245 @@
+use crate::run::run;
+use crate::status::Status;
+use outside_store::{MemorySink, MemoryStore, Room};
+use std::process::Abort;
+use std::test::Fail;
+
+const HEAD: &str = "function mpc = t3\nmpc.version = '2';\nmpc.baseMVA = 100;\nmpc.bus = [\n";
+
+const BUSES: &str =
+    "1 3 0 0 0 0 1 1 0 230 1 1.1 0.9;\n2 1 0 0 0 0 1 1 0 230 1 1.1 0.9;\n3 1 60 0 0 0 1 1 0 230 1 1.1 0.9;\n";
+
+const UNITS: &str = "1 0 0 0 0 1 100 1 100 0;\n2 0 0 0 0 1 100 1 100 0;\n";
+
+const TAIL: &str = "];\nmpc.branch = [\n1 2 0 0.2 0 0 0 0 0 0 1 -360 360;\n];\n";
+
+const OFFERS: &str = "unit,side,mw,price\n1,sell,100,10\n2,sell,100,30\n";
+
+const THREE_BUSES: &str =
+    "cleared\nwelfare -600\nenergy 10\nbus 1 price 10 congestion 0\nbus 2 price 10 congestion 0\nbus 3 price 10 congestion 0\nblock 1 sell 1 mw 60\nblock 2 sell 1 mw 0\nunit 1 mw 60 paid 600\nunit 2 mw 0 paid 0\nload 1 mw 0 pays 0\nload 2 mw 0 pays 0\nload 3 mw 60 pays 600\nsurplus 0\n";
+
+/// What a run with a dispatchable load at bus 3 puts, which buys 30 at 40 and would buy 20 at 5.
+const BUYER: &str =
+    "cleared\nwelfare 300\nenergy 10\nbus 1 price 10 congestion 0\nbus 2 price 10 congestion 0\nbus 3 price 10 congestion 0\nblock 1 sell 1 mw 90\nblock 2 sell 1 mw 0\nblock 3 buy 1 mw 30\nblock 3 buy 2 mw 0\nunit 1 mw 90 paid 900\nunit 2 mw 0 paid 0\nunit 3 mw -30 paid -300\nload 1 mw 0 pays 0\nload 2 mw 0 pays 0\nload 3 mw 60 pays 600\nsurplus 0\n";
+
+/// What is put where unit 2 runs at 20 at least, bus 2 has a shunt of 5, and what stands out of
+/// service or at an isolated bus drops out.
+const DROPPED: &str =
+    "cleared\nwelfare -450\nenergy 10\nbus 1 price 10 congestion 0\nbus 2 price 10 congestion 0\nbus 3 price 10 congestion 0\nblock 1 sell 1 mw 45\nblock 2 sell 1 mw 0\nunit 1 mw 45 paid 450\nunit 2 mw 20 paid 200\nload 1 mw 0 pays 0\nload 2 mw 5 pays 50\nload 3 mw 60 pays 600\nsurplus 0\n";
+
+fn case<R: AllocGlobal>(rt: &R, buses: &str, units: &str) -> Result<String, Fail> {
+    let text = format!(in rt.alloc(); "{HEAD}{buses}];\nmpc.gen = [\n{units}{TAIL}")?;
+    Ok(text)
+}
+
+fn words<R: AllocGlobal>(rt: &R, given: &[&str]) -> Result<Vec<String>, Fail> {
+    let mut words = Vec::new(rt.alloc());
+    for word in given {
+        words.push(String::from_str(rt.alloc(), word)?)?;
+    }
+    Ok(words)
+}
+
+/// Runs `pool` over a case and its offers, with reads and puts that fail, and compares.
+fn expect<R: Abort + AllocGlobal>(
+    rt: &R,
+    case: &[u8],
+    offers: &str,
+    failing: (&[u64], &[u64]),
+    want: (Status, &str),
+) -> Result<(), Fail> {
+    let room = Room {
+        files: 2,
+        name: 16,
+        bytes: 8192,
+    };
+    let mut store = MemoryStore::new(rt.alloc(), room, failing.0)?;
+    assert!(rt; store.add("case.m", case).is_ok());
+    assert!(rt; store.add("offers.csv", offers.as_bytes()).is_ok());
+    let mut sink = MemorySink::new(rt.alloc(), 8192, failing.1)?;
+    let words = words(
+        rt,
+        ["sced", "pool", "--case", "case.m", "--offers", "offers.csv"].as_slice(),
+    )?;
+    let status = run(rt.alloc(), words.as_slice(), &mut store, &mut sink);
+    assert_eq!(rt; sink.bytes(), want.1.as_bytes());
+    assert_eq!(rt; status, want.0);
+    Ok(())
+}
+
+/// Runs over a store without files, and compares.
+fn over_no_file<R: Abort + AllocGlobal>(
+    rt: &R,
+    given: &[&str],
+    want: (Status, &str),
+) -> Result<(), Fail> {
+    let room = Room {
+        files: 1,
+        name: 16,
+        bytes: 16,
+    };
+    let mut store = MemoryStore::new(rt.alloc(), room, [].as_slice())?;
+    let mut sink = MemorySink::new(rt.alloc(), 100, [].as_slice())?;
+    let words = words(rt, given)?;
+    let status = run(rt.alloc(), words.as_slice(), &mut store, &mut sink);
+    assert_eq!(rt; sink.bytes(), want.1.as_bytes());
+    assert_eq!(rt; status, want.0);
+    Ok(())
+}
+
+fn refuse_words<R: Abort + AllocGlobal>(rt: &R, given: &[&str]) -> Result<(), Fail> {
+    over_no_file(rt, given, (Status::Usage, "refused words\n"))
+}
+
+#[test]
+fn clears(rt: HostRuntime) -> Result<(), Fail> {
+    let plain = case(&rt, BUSES, UNITS)?;
+    let all = ([].as_slice(), [].as_slice());
+    expect(
+        &rt,
+        plain.as_bytes(),
+        OFFERS,
+        all,
+        (Status::Done, THREE_BUSES),
+    )?;
+    let units = format!(in rt.alloc(); "{UNITS}3 0 0 0 0 1 100 1 0 -50;\n")?;
+    let offers = format!(in rt.alloc(); "{OFFERS}3,buy,30,40\n3,buy,20,5\n")?;
+    let buyer = case(&rt, BUSES, units.as_str())?;
+    expect(
+        &rt,
+        buyer.as_bytes(),
+        offers.as_str(),
+        all,
+        (Status::Done, BUYER),
+    )?;
+    let buses =
+        "1 3 0 0 0 0 1 1 0 230 1 1.1 0.9;\n2 2 0 0 5 0 1 1 0 230 1 1.1 0.9;\n3 1 6e1 0 0 0 1 1 0 230 1 1.1 0.9;\n9 4 999 0 0 0 1 1 0 230 1 1.1 0.9;\n";
+    let units =
+        "1 0 0 0 0 1 100 1 100 0;\n2 0 0 0 0 1 100 1 100 20;\n2 0 0 0 0 1 100 0 100 0;\n9 0 0 0 0 1 100 1 100 0;\n";
+    let offers = "unit,side,mw,price\n1,sell,100,10\n2,sell,80,30\n3,sell,50,1\n4,sell,50,1\n";
+    let dropped = case(&rt, buses, units)?;
+    expect(
+        &rt,
+        dropped.as_bytes(),
+        offers,
+        all,
+        (Status::Done, DROPPED),
+    )?;
+    let short =
+        "1 3 0 0 0 0 1 1 0 230 1 1.1 0.9;\n2 1 0 0 0 0 1 1 0 230 1 1.1 0.9;\n3 1 250 0 0 0 1 1 0 230 1 1.1 0.9;\n";
+    let short = case(&rt, short, UNITS)?;
+    expect(
+        &rt,
+        short.as_bytes(),
+        OFFERS,
+        all,
+        (Status::Infeasible, "infeasible\n"),
+    )?;
+    expect(
+        &rt,
+        plain.as_bytes(),
+        OFFERS,
+        ([1].as_slice(), [].as_slice()),
+        (Status::ReadFailed, ""),
+    )?;
+    expect(
+        &rt,
+        plain.as_bytes(),
+        OFFERS,
+        ([].as_slice(), [0].as_slice()),
+        (Status::WriteFailed, ""),
+    )
+}
+
+#[test]
+fn passes_127_bits(rt: HostRuntime) -> Result<(), Fail> {
+    let row = "3 9223372036.854775807 0 0 0 1 1 0 230 1 1.1 0.9;\n";
+    let buses = format!(in rt.alloc(); "1 {row}2 {row}3 {row}")?;
+    let row = "0 0 0 0 1 100 1 9223372036.854775807 0;\n";
+    let units = format!(in rt.alloc(); "1 {row}2 {row}3 {row}")?;
+    let row = "sell,9223372036.854775807,9223372036854.775807\n";
+    let offers = format!(in rt.alloc(); "unit,side,mw,price\n1,{row}2,{row}3,{row}")?;
+    let case = case(&rt, buses.as_str(), units.as_str())?;
+    let all = ([].as_slice(), [].as_slice());
+    expect(
+        &rt,
+        case.as_bytes(),
+        offers.as_str(),
+        all,
+        (Status::Range, "range\n"),
+    )
+}
+
+#[test]
+fn refuses_cases(rt: HostRuntime) -> Result<(), Fail> {
+    let all = ([].as_slice(), [].as_slice());
+    let refused = (Status::Refused, "refused case\n");
+    for text in [
+        b"".as_slice(),
+        b"\x00\xff\n[\x80;",
+        b"function mpc = t3\nmpc.version = '2';\n",
+    ] {
+        expect(&rt, text, "no table", all, refused)?;
+    }
+    let bus = "1 3 0 0 0 0 1 1 0 230 1 1.1 0.9;\n";
+    for other in [
+        "2 1 1e-10 0 0 0 1 1 0 230 1 1.1 0.9;\n",
+        "2 1 Inf 0 0 0 1 1 0 230 1 1.1 0.9;\n",
+        "1 1 0 0 0 0 1 1 0 230 1 1.1 0.9;\n",
+        "2 5 0 0 0 0 1 1 0 230 1 1.1 0.9;\n",
+        "2 1 0 0 0 0 1 1 0 230 1 1.1;\n",
+        "2 1  0 0 0 0 1 1 0 230 1 1.1 0.9;\n",
+    ] {
+        let buses = format!(in rt.alloc(); "{bus}{other}")?;
+        let text = case(&rt, buses.as_str(), "1 0 0 0 0 1 100 1 100 0;\n")?;
+        expect(&rt, text.as_bytes(), OFFERS, all, refused)?;
+    }
+    for unit in [
+        "7 0 0 0 0 1 100 1 100 0;\n",
+        "1 0 0 0 0 1 100 1 100 200;\n",
+        "1 0 0 0 0 1 100 NaN 100 0;\n",
+    ] {
+        let text = case(&rt, BUSES, unit)?;
+        expect(&rt, text.as_bytes(), OFFERS, all, refused)?;
+    }
+    let no_reference = case(&rt, "2 1 0 0 0 0 1 1 0 230 1 1.1 0.9;\n", UNITS)?;
+    expect(&rt, no_reference.as_bytes(), OFFERS, all, refused)
+}
+
+#[test]
+fn refuses_offers_and_words(rt: HostRuntime) -> Result<(), Fail> {
+    let all = ([].as_slice(), [].as_slice());
+    let plain = case(&rt, BUSES, UNITS)?;
+    for record in [
+        "",
+        "unit,side,mw\n",
+        "unit,side,mw,price\n1,sell,1\n",
+        "unit,side,mw,price\n1,sell,x,1\n",
+        "unit,side,mw,price\n1,give,1,1\n",
+        "unit,side,mw,price\n3,sell,1,1\n",
+        "unit,side,mw,price\n1,sell,-1,1\n",
+        "unit,side,mw,price\n1,sell,1,2\n1,sell,1,1\n",
+        "unit,side,mw,price\n1,sell,101,1\n",
+        "unit,side,mw,price\n1,buy,1,1\n",
+    ] {
+        expect(
+            &rt,
+            plain.as_bytes(),
+            record,
+            all,
+            (Status::Refused, "refused offers\n"),
+        )?;
+    }
+    refuse_words(&rt, [].as_slice())?;
+    refuse_words(&rt, ["sced", "pool"].as_slice())?;
+    refuse_words(
+        &rt,
+        ["sced", "pool", "--case", "a", "--offer", "b"].as_slice(),
+    )?;
+    refuse_words(
+        &rt,
+        ["sced", "pool", "--case", "a", "--offers", "b", "c"].as_slice(),
+    )?;
+    let none_there = ["sced", "pool", "--case", "a", "--offers", "b"];
+    over_no_file(&rt, none_there.as_slice(), (Status::ReadFailed, ""))
+}
