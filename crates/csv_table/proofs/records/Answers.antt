@@ -6,50 +6,54 @@ use Rattle.csv.specs.Records.{fields_of}
 use Rattle.csv.specs.declared.parser.State.TheVariants as st
 use Rattle.csv.proofs.ReadFacts.{rows-end, rows-more}
 use Rattle.csv_table.specs.Table.{table_of}
-use Rattle.csv_table.proofs.TableLemmas.{free-error, records_from-reached}
+use Rattle.csv_table.proofs.TableLemmas.{records_from-reached, stops-flexible}
 use Rattle.csv_table.proofs.records.Goals as goal
 
 pub loop-row-init : goal.loop-row-init
 unfolding Reached
 loop-row-init c =
-    let fr = c.from_reader-reader.ensures in
-    let h = c.has_headers.ensures in
-    let e = c.flexible.ensures in
+    let made = c.from_reader-reader.ensures in
+    let headers = c.has_headers.ensures in
+    let widths = c.flexible.ensures in
     let start = c.into_iter-row-iterator.ensures.into_iter_gives ∙ refl in
-    let rdr = c.into_byte_records-row-items.ensures.rdr in
+    let reader = c.into_byte_records-row-items.ensures.rdr in
     let left = c.into_byte_records-row-items.ensures.left in
-    rw (start, rdr, c.new-rows.ensures.items) (
-      rw (e, h) at fr.trim ∙ c.new.ensures.trim,
-      inr (inr (rw (e, h) at fr.has_headers, fr.headers)),
+    rw (start, reader, c.new-rows.ensures.items) (
+      rw (widths, headers) at made.trim ∙ c.new.ensures.trim,
+      inr (inr (rw (widths, headers) at made.has_headers, made.headers)),
       left,
-      rw (e, h) at fr.config ∙ c.new.ensures.config,
+      rw (widths, headers) at made.config ∙ c.new.ensures.config,
       strip_bom c.args.bytes.now,
-      fr.source,
-      (sym fr.state, refl),
-      rw e at fr.flexible,
+      made.source,
+      (sym made.state, refl),
+      rw widths at made.flexible,
     )
 
 pub loop-row-preserved : goal.loop-row-preserved
 loop-row-preserved c =
-    let inv = c.loop-row.invariant in
-    let s = rw c.in-Some.is at ((c.next.ensures.steps inv.2 inv.0).0 inv.1) in
-    let s2 = rw c.in-Ok.is at s in
-    let flexible = rw c.in-Ok.is at (rw c.in-Some.is at ((c.next.ensures.steps inv.2 inv.0).3)) in
-    let good : is_ok c.push.result ≡ true = search rules in
-    let items = rw good at c.push.ensures.items in
-    let m = rows-more (λ (s : Bor (List ℕ)). Some s.now) c.loop-row.row-iterator.rdr c.next.new.self.rdr (fields_of c.in-Ok.row) default_config st.StartRecord (strip_bom c.args.bytes.now) inv.4 (map fields_of c.loop-row.rows.items) inv.3 inv.5 inv.6 s2.0 in
-    (s2.0.3 ∙ inv.0, inl s2.1, s2.2, s2.0.2 ∙ inv.3, m.0, m.1, rw (items, map-append fields_of c.loop-row.rows.items (c.in-Ok.row ∷ [])) m.2, flexible ∙ inv.7)
+    let before = c.loop-row.invariant in
+    let steps = c.next.ensures.steps before.2 before.0 in
+    let read = rw c.in-Ok.is at (rw c.in-Some.is at (steps.0 before.1)) in
+    let flexible = rw c.in-Ok.is at (rw c.in-Some.is at steps.3) in
+    let pushed : is_ok c.push.result ≡ true = search rules in
+    let items = rw pushed at c.push.ensures.items in
+    let more =
+    rows-more (λ (rest : Bor (List ℕ)). Some rest.now) c.loop-row.row-iterator.rdr c.next.new.self.rdr (fields_of c.in-Ok.row) default_config st.StartRecord
+    (strip_bom c.args.bytes.now) before.4 (map fields_of c.loop-row.rows.items) before.3 before.5 before.6 read.0 in
+    (read.0.3 ∙ before.0, inl read.1, read.2, read.0.2 ∙ before.3, more.0, more.1, rw (items, map-append fields_of c.loop-row.rows.items (c.in-Ok.row ∷ [])) more.2, flexible ∙ before.7)
 
 pub returns-clause-ok : goal.returns-clause-ok
 unfolding table_of
 returns-clause-ok c =
-    let inv = c.loop-row.invariant in
-    let s = rw c.in-None.is at ((c.next.ensures.steps inv.2 inv.0).0 inv.1) in
-    sym (records_from-reached default_config (length (strip_bom c.args.bytes.now) + 1) st.StartRecord (strip_bom c.args.bytes.now) (map fields_of c.loop-row.rows.items) (omega arith)
-    (c.loop-row.row-iterator.rdr.state, inv.4, inv.6, rows-end (λ (s : Bor (List ℕ)). Some s.now) c.loop-row.row-iterator.rdr c.next.new.self.rdr [] default_config inv.4 inv.3 inv.5 s))
+    let before = c.loop-row.invariant in
+    let ended = rw c.in-None.is at ((c.next.ensures.steps before.2 before.0).0 before.1) in
+    let none = rows-end (λ (rest : Bor (List ℕ)). Some rest.now) c.loop-row.row-iterator.rdr c.next.new.self.rdr [] default_config before.4 before.3 before.5 ended in
+    sym
+    (records_from-reached default_config (length (strip_bom c.args.bytes.now) + 1) st.StartRecord (strip_bom c.args.bytes.now) (map fields_of c.loop-row.rows.items) (omega arith)
+    (c.loop-row.row-iterator.rdr.state, before.4, before.6, none))
 
 pub returns-in-Err-clause-err : goal.returns-in-Err-clause-err
 returns-in-Err-clause-err c =
-    let inv = c.loop-row.invariant in
-    let s = rw c.in-Err.is at (rw c.in-Some.is at ((c.next.ensures.steps inv.2 inv.0).0 inv.1)) in
-    free-error (λ (s : Bor (List ℕ)). Some s.now) c.loop-row.row-iterator.rdr c.next.new.self.rdr (error_kind c.in-Err.error) inv.7 s
+    let before = c.loop-row.invariant in
+    let failed = rw c.in-Err.is at (rw c.in-Some.is at ((c.next.ensures.steps before.2 before.0).0 before.1)) in
+    stops-flexible (λ (rest : Bor (List ℕ)). Some rest.now) c.loop-row.row-iterator.rdr c.next.new.self.rdr (error_kind c.in-Err.error) before.7 failed

@@ -5,9 +5,10 @@ use Rattle.csv.specs.declared.parser.State.TheVariants as st
 use Rattle.csv.specs.declared.reader.Trim.TheVariants as trim
 use Rattle.csv_table.proofs.records.Given as goal
 
--- the records so far take the text to where the reader stands
+-- the rows so far are the records up to where the reader stands, and the reader is as it was set up: it trims nothing, takes no
+-- record for a header, and lets records of any width by
 abbrev pub invariant-loop-row : goal.invariant-loop-row
 invariant-loop-row l = (l.row-iterator.rdr.trim ≡ trim.None) × Ready l.row-iterator.rdr × (0 < l.row-iterator.left) × (l.row-iterator.rdr.config ≡ default_config)
-    × (y : List ℕ) × (source_of (λ s. Some s.now) l.row-iterator.rdr ≡ Some y)
-    × Reached default_config st.StartRecord (strip_bom l.fn.bytes) (map fields_of l.rows.items) l.row-iterator.rdr.state y
+    × (left : List ℕ) × (source_of (λ rest. Some rest.now) l.row-iterator.rdr ≡ Some left)
+    × Reached default_config st.StartRecord (strip_bom l.fn.bytes) (map fields_of l.rows.items) l.row-iterator.rdr.state left
     × (is_flexible l.row-iterator.rdr ≡ true)
