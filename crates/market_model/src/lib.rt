@@ -4,6 +4,7 @@
 mod answered;
 mod assembled;
 mod participants;
+mod scales;
 
 pub use answered::{
     Answer, Dual, Duals, Farkas, Load, Money, Outcome, Price, Rent, RowId, UnitPay,
@@ -11,3 +12,7 @@ pub use answered::{
 pub use assembled::{Market, assemble};
 pub use participants::{Block, Bus, Parts, Side, Unit, UnitList};
 pub use plain_list::{List, Memory};
+pub use scales::{MONEY_PLACES, MW_PLACES, PRICE_PLACES};
+
+#[cfg(test)]
+mod tests;

@@ -9,15 +9,12 @@ ghost use Rattle.sced.specs.BusReading.{AreBusRows};
 use crate::live_parts::{NetFault, NetUnit, Network, Why};
 use crate::plain_case::{Field, RawCase};
 use indexmap::IndexMap;
-use market_model::{Bus, List};
+use market_model::{Bus, List, MW_PLACES};
 use scaled_decimal::{Sign, read, sign_of};
 use std::alloc::Global;
 
 /// The most rows of the bus and of the gen matrix.
 const MOST_ROWS: usize = 1000;
-
-/// Decimal places of a MW.
-const MW_PLACES: u8 = 9;
 
 /// The bus rows by number: the place among the live buses, where the bus is not isolated.
 pub type Places = IndexMap<u32, Option<usize>>;

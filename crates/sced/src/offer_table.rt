@@ -7,18 +7,13 @@ ghost use Rattle.sced.specs.Offers.{MayFollow, OfferIsRead, StairIsBounded};
 
 use crate::live_parts::Why;
 use csv_table::{FrameFault, Table, read_table};
-use market_model::{Block, List, Memory, Side, Unit, UnitList};
+use market_model::{Block, List, MW_PLACES, Memory, PRICE_PLACES, Side, Unit, UnitList};
 use scaled_decimal::read;
 use std::alloc::Global;
 use thiserror::Error;
 
 /// The most records of the table.
 const MOST_BLOCKS: usize = 4000;
-
-/// Decimal places of a MW and of a price.
-const MW_PLACES: u8 = 9;
-
-const PRICE_PLACES: u8 = 6;
 
 /// Why a table of offers is refused. A line is a record's place, where the header's is 1.
 #[derive(Clone, Copy, Debug, PartialEq, Eq, Error)]

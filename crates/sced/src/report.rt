@@ -7,16 +7,12 @@ ghost use Rattle.sced.specs.Fitting.{FitsMarket, Extends, side_text, head_text};
 
 use exact_fraction::Exact;
 use itoa::Buffer;
-use market_model::{Answer, Block, Bus, Load, Market, Memory, Price, Side, UnitPay};
+use market_model::{
+    Answer, Block, Bus, Load, MONEY_PLACES, MW_PLACES, Market, Memory, PRICE_PLACES, Price, Side,
+    UnitPay,
+};
 use std::alloc::Global;
 use std::marker::Model;
-
-/// Decimal places of a MW, of a price and of money.
-const MW_PLACES: u8 = 9;
-
-const PRICE_PLACES: u8 = 6;
-
-const MONEY_PLACES: u8 = 15;
 
 /// A text in the making.
 #[derive(Drop)]
