@@ -1,1 +1,4 @@
+pub mod Dispatch
 pub mod Market
+pub mod Optimality
+pub mod Settlement

@@ -1,0 +1,26 @@
+-- What units are paid, what loads pay, and what is left.
+-- Schweppe and others, Spot Pricing of Electricity: the merchandising surplus.
+use Rattle.std.specs.Prelude.{ℕ, List, length, map, ◌++◌}
+use Rattle.fraction_theory.specs.Fraction.{Fraction, neg_ℚ, ◌*ℚ◌}
+use Rattle.fraction_theory.specs.Sums.{Term, Product, total}
+use Rattle.market_model.specs.declared.participants.Parts.{Parts}
+use Rattle.market_model.specs.declared.answered.Duals.{Duals}
+use Rattle.market_model.specs.Dispatch.{Dispatch, places, output, demand}
+use Rattle.market_model.specs.Optimality.{bus_price, unit_price}
+
+-- a unit is paid its price for its output
+unfoldable pub paid : Parts → Dispatch → Duals Fraction → ℕ → Fraction
+paid m x d u = unit_price m d u *ℚ output m x u
+
+-- a load pays its bus price for its demand
+unfoldable pub pays : Parts → Duals Fraction → ℕ → Fraction
+pays m d i = bus_price m d i *ℚ demand m i
+
+abbrev pub surplus_terms : Parts → Dispatch → Duals Fraction → List Term
+surplus_terms m x d =
+    map (λ i. Product (bus_price m d i) (demand m i)) (places (length m.buses))
+    ++ map (λ u. Product (neg_ℚ (unit_price m d u)) (output m x u)) (places (length m.units))
+
+-- what loads pay less what units are paid
+unfoldable pub surplus : Parts → Dispatch → Duals Fraction → Fraction
+surplus m x d = total (surplus_terms m x d)
