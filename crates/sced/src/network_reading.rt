@@ -44,7 +44,8 @@ fn number(
     col: usize,
     places: u8,
 ) -> Result<i64, NetFault>
-    requires { places ≤ 18 }
+    requires place { (1 ≤ row) × (1 ≤ col) }
+    requires places { places ≤ 18 }
     ensures { IfOk result IsDatum }
 {
     match read(case.cell(field, row, col), places) {
@@ -55,6 +56,7 @@ fn number(
 
 /// The number of a bus row.
 fn bus_number(case: &RawCase<'_>, row: usize) -> Result<u32, NetFault>
+    requires { 1 ≤ row }
     ensures { IfOk result (λ number. 1 ≤ number) }
 {
     let number = number(case, Field::Bus, row, 1, 0)?;
@@ -65,7 +67,9 @@ fn bus_number(case: &RawCase<'_>, row: usize) -> Result<u32, NetFault>
     }
 }
 
-fn bus_type(case: &RawCase<'_>, row: usize) -> Result<BusType, NetFault> {
+fn bus_type(case: &RawCase<'_>, row: usize) -> Result<BusType, NetFault>
+    requires { 1 ≤ row }
+{
     match number(case, Field::Bus, row, 2, 0)? {
         1 | 2 => Ok(BusType::Other),
         3 => Ok(BusType::Reference),
@@ -76,6 +80,7 @@ fn bus_type(case: &RawCase<'_>, row: usize) -> Result<BusType, NetFault> {
 
 /// The demands of a live bus.
 fn live_bus(case: &RawCase<'_>, row: usize, bus: u32) -> Result<Bus, NetFault>
+    requires { 1 ≤ row }
     ensures { IfOk result IsBus }
 {
     let pd = number(case, Field::Bus, row, 3, MW_PLACES)?;
@@ -125,7 +130,8 @@ fn known_at(places: &Places, number: i64) -> Option<Option<usize>>
 
 /// Reads one more bus row.
 fn add_bus(rows: &mut BusRows, case: &RawCase<'_>, row: usize) -> Result<(), NetFault>
-    requires { AreBusRows rows.old }
+    requires rows { AreBusRows rows.old }
+    requires row { 1 ≤ row }
     ensures rows { IfOk result (λ _. AreBusRows rows.new) }
     ensures count { IfOk result (λ _. length rows.new.buses ≤ length rows.old.buses + 1) }
 {
@@ -170,6 +176,7 @@ fn read_buses(alloc: Global, case: &RawCase<'_>, count: usize) -> Result<BusRows
 
 /// The place of a gen row's bus, where that is live.
 fn unit_bus(case: &RawCase<'_>, places: &Places, row: usize) -> Result<Option<usize>, NetFault>
+    requires { 1 ≤ row }
     ensures { (buses : ℕ) → ArePlaces buses places.now.entries → IfOk result (λ place. IfSome place (λ bus. bus < buses)) }
 {
     let number = number(case, Field::Gen, row, 1, 0)?;
@@ -182,7 +189,9 @@ fn unit_bus(case: &RawCase<'_>, places: &Places, row: usize) -> Result<Option<us
     }
 }
 
-fn in_service(case: &RawCase<'_>, row: usize) -> Result<bool, NetFault> {
+fn in_service(case: &RawCase<'_>, row: usize) -> Result<bool, NetFault>
+    requires { 1 ≤ row }
+{
     match sign_of(case.cell(Field::Gen, row, 8)) {
         Ok(sign) => Ok(sign == Sign::Above),
         Err(fault) => Err(cell_fault(Field::Gen, row, 8, Why::Decimal(fault))),

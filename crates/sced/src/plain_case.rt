@@ -1,10 +1,12 @@
 //! The plain form of a case: a line for each statement's head, row and end.
 
-ghost use Rattle.std.specs.Prelude.{◌≡◌, ◌+◌, ◌<◌, ◌≤◌, length, vec_len, IfOk};
+ghost use Rattle.std.specs.Prelude.{◌≡◌, ◌+◌, ◌<◌, ◌≤◌, length, map, vec_len, IfOk};
+ghost use Rattle.sced.specs.PlainCases.{matrix_of, cell_at};
 
 use plain_list::Memory;
 use scaled_decimal::is_number;
 use std::alloc::Global;
+use std::marker::Model;
 use thiserror::Error;
 
 /// A matrix of the case.
@@ -33,44 +35,63 @@ impl From<Memory> for CaseFault {
 }
 
 /// The rows of a matrix, each the texts of its cells.
-#[derive(Drop, Debug)]
-struct Matrix<'a> {
-    rows: Vec<Vec<&'a [u8]>>,
-}
+type MatrixRows<'a> = Vec<Vec<&'a [u8]>>;
 
 /// The three matrices of a case.
 #[derive(Drop, Debug)]
 pub struct RawCase<'a> {
-    bus: Matrix<'a>,
-    generators: Matrix<'a>,
-    branch: Matrix<'a>,
+    bus: MatrixRows<'a>,
+    generators: MatrixRows<'a>,
+    branch: MatrixRows<'a>,
+}
+
+impl<'a> Model for RawCase<'a> {
+    ghost use Rattle.std.specs.Prelude.{map};
+    ghost use Rattle.sced.specs.PlainCases.{PlainCase};
+
+    ghost Value = { PlainCase };
+
+    ghost view = { λ case. record {
+      bus = map (λ row. map (λ cell. cell.now) row.items) case.bus.items;
+      generators = map (λ row. map (λ cell. cell.now) row.items) case.generators.items;
+      branch = map (λ row. map (λ cell. cell.now) row.items) case.branch.items;
+    } };
+}
+
+/// The text of a cell, by row and column from 1, and no bytes where there is none.
+fn cell_of<'a>(rows: &[Vec<&'a [u8]>], row: usize, col: usize) -> &'a [u8]
+    requires { (1 ≤ row) × (1 ≤ col) }
+    ensures { result.now ≡ cell_at (map (λ r. map (λ c. c.now) r.items) rows.now) row col }
+{
+    match rows.get(row - 1) {
+        Some(cells) => match cells.get(col - 1) {
+            Some(cell) => *cell,
+            None => &[],
+        },
+        None => &[],
+    }
 }
 
 impl RawCase<'_> {
-    fn matrix(&self, field: Field) -> &Matrix<'_> {
+    pub fn rows(&self, field: Field) -> usize
+        ensures { result ≡ length (matrix_of self.now field) }
+    {
         match field {
-            Field::Bus => &self.bus,
-            Field::Gen => &self.generators,
-            Field::Branch => &self.branch,
+            Field::Bus => self.bus.len(),
+            Field::Gen => self.generators.len(),
+            Field::Branch => self.branch.len(),
         }
-    }
-
-    pub fn rows(&self, field: Field) -> usize {
-        self.matrix(field).rows.len()
     }
 
     /// The text of a cell, by row and column from 1, and no bytes where there is none.
-    pub fn cell(&self, field: Field, row: usize, col: usize) -> &[u8] {
-        let rows = self.matrix(field).rows.as_slice();
-        if row == 0 || col == 0 {
-            return &[];
-        }
-        match rows.get(row - 1) {
-            Some(cells) => match cells.get(col - 1) {
-                Some(cell) => *cell,
-                None => &[],
-            },
-            None => &[],
+    pub fn cell(&self, field: Field, row: usize, col: usize) -> &[u8]
+        requires { (1 ≤ row) × (1 ≤ col) }
+        ensures { result.now ≡ cell_at (matrix_of self.now field) row col }
+    {
+        match field {
+            Field::Bus => cell_of(self.bus.as_slice(), row, col),
+            Field::Gen => cell_of(self.generators.as_slice(), row, col),
+            Field::Branch => cell_of(self.branch.as_slice(), row, col),
         }
     }
 }
@@ -171,7 +192,7 @@ fn read_matrix<'a>(
     lines: &[&'a [u8]],
     head: usize,
     field: Field,
-) -> Result<(Matrix<'a>, usize), CaseFault>
+) -> Result<(MatrixRows<'a>, usize), CaseFault>
     requires { head < length lines.now }
     ensures { IfOk result (λ read. (head + 1 < read.1) × (read.1 < length lines.now)) }
 {
@@ -182,7 +203,7 @@ fn read_matrix<'a>(
     for at in head + 1..lines.len() - 1 {
         let line = lines[at];
         if line == b"];".as_slice() {
-            return Ok((Matrix { rows }, at + 1));
+            return Ok((rows, at + 1));
         }
         match row_cells(alloc, line)? {
             Some(cells) if fits(rows.as_slice(), cells.len(), least_width(field)) => {
