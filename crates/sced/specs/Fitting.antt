@@ -1,11 +1,12 @@
 -- An answer has an entry for each part of its market, and the texts of a report.
-use Rattle.std.specs.Prelude.{◌≡◌, ℕ, List, ◌++◌, length, codes}
+use Rattle.std.specs.Prelude.{◌≡◌, ℕ, List, ◌++◌, length, map, codes}
 use Rattle.market_model.specs.declared.participants.Side.{Side}
 use Rattle.market_model.specs.declared.participants.Side.TheVariants.{Sell, Buy}
 use Rattle.fraction_theory.specs.Fraction.{Fraction}
 use Rattle.exact_fraction.specs.Written.{written}
 use Rattle.market_model.specs.declared.participants.Parts.{Parts}
 use Rattle.market_model.specs.declared.answered.Answer.{Answer}
+use Rattle.market_model.specs.Dispatch.{Dispatch}
 
 pub record FitsMarket {N : Type 0} (market : Parts) (answer : Answer N) : Type 0 where
   pub dispatch : length answer.dispatch ≡ length market.blocks
@@ -24,3 +25,7 @@ side_text Buy = codes " buy "
 -- the lines that begin the report of a cleared market
 unfoldable pub head_text : Fraction → Fraction → List ℕ
 head_text welfare energy = codes "cleared\nwelfare " ++ (written 15 welfare ++ (codes "\nenergy " ++ (written 6 energy ++ codes "\n")))
+
+-- the accepted MW of each block, as numbers
+abbrev pub dispatch_of : {N : Type 0} → (N → Fraction) → List N → Dispatch
+dispatch_of value xs = record { blocks = map value xs }

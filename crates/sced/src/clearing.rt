@@ -7,8 +7,12 @@
 ghost use Rattle.std.specs.Prelude.{◌≡◌, ◌≤◌, ◌<◌, ◌*◌, ◌^◌, ◌⊎◌, pos, ◌≤ℤ◌, ◌<ℤ◌, ◌+◌, ◌-ℤ◌, unsigned_abs, [], length, vec_len, All, IfOk, IfSome, IfNone};
 ghost use Rattle.market_model.specs.Market.{most_buses, most_units, most_blocks, IsDatum, IsBus};
 ghost use Rattle.sced.specs.Filling.{int_sum, demand_of, fixed_of, bought_of, below_of, on_side, IsFillingPrice};
-ghost use Rattle.sced.specs.Fitting.{FitsMarket};
+ghost use Rattle.fraction_theory.specs.Fraction.{whole, neg_ℚ, ◌*ℚ◌};
+ghost use Rattle.market_model.specs.Dispatch.{signed};
+ghost use Rattle.market_model.specs.Optimality.{welfare as welfare_of};
+ghost use Rattle.sced.specs.Fitting.{FitsMarket, dispatch_of};
 
+use crate::amounts::datum;
 use crate::settling::settle;
 use exact_fraction::{Exact, Passed};
 use market_model::{Answer, Block, Bus, Duals, Farkas, List, Market, Memory, Price, Side, Unit};
@@ -303,22 +307,36 @@ fn prices<N: Exact>(alloc: Global, buses: usize, energy: N) -> Result<List<Price
     Ok(prices)
 }
 
-/// The value of what is bought less the cost of what is sold, added in block order.
+/// What the accepted MW of a block are worth: a buy's price for them, or the negative of a sell's.
 #[tactic(auto, using(market_model::proofs::Data::datum_read))]
-fn welfare<N: Exact>(blocks: &[Block], dispatch: &[N]) -> Result<N, Passed<N>>
-    requires prices { All (λ block. IsDatum block.price) blocks.now }
-    requires dispatch { length dispatch.now ≡ length blocks.now }
+fn worth<N: Exact>(block: &Block, mw: N) -> Result<N, Passed<N>>
+    requires { IsDatum block.now.price }
+    ensures { IfOk result (λ worth. N.value worth ≡ neg_ℚ (signed block.now.side (whole block.now.price)) *ℚ N.value mw) }
 {
-    let mut welfare = N::of_parts(0, 1);
-    for (place, block) in blocks.iter().enumerate() {
-        let price = N::of_parts(block.price, 1);
-        let value = match block.side {
-            Side::Sell => price.neg(),
-            Side::Buy => price,
-        };
-        welfare = welfare.plus(value.times(dispatch[place])?)?;
+    let value: N = worth_of_one(block.side, datum(block.price));
+    value.times(mw)
+}
+
+/// What a MW is worth that is sold or bought at a price.
+fn worth_of_one<N: Exact>(side: Side, price: N) -> N
+    ensures { N.value result ≡ neg_ℚ (signed side (N.value price)) }
+{
+    match side {
+        Side::Sell => price.neg(),
+        Side::Buy => price,
     }
-    Ok(welfare)
+}
+
+/// The value of what is bought less the cost of what is sold, added in block order.
+fn welfare<N: Exact>(market: &Market, dispatch: &[N]) -> Result<N, Passed<N>>
+    requires { length dispatch.now ≡ length market.now.blocks }
+    ensures { IfOk result (λ sum. N.value sum ≡ welfare_of market.now (dispatch_of N.value dispatch.now)) }
+{
+    let mut sum: N = datum(0);
+    for (place, block) in market.blocks().slice().iter().enumerate() {
+        sum = sum.plus(worth(block, dispatch[place])?)?;
+    }
+    Ok(sum)
 }
 
 /// Clears a market.
@@ -335,7 +353,7 @@ pub fn clear<N: Exact>(alloc: Global, market: &Market) -> Result<Answer<N>, Clea
     let dispatch: List<N> = dispatch(alloc, blocks, energy, left)?;
     let energy = N::of_parts(energy, 1);
     let prices = prices(alloc, market.buses().len(), energy)?;
-    let welfare = welfare(blocks, dispatch.slice())?;
+    let welfare = welfare(market, dispatch.slice())?;
     let money = settle(alloc, market, dispatch.slice(), prices.slice())?;
     Ok(Answer {
         dispatch,

@@ -1,6 +1,7 @@
 //! `sced`: clears the market of one interval of an electricity network.
 #![tactic(auto)]
 
+mod amounts;
 mod clearing;
 mod live_parts;
 mod network_reading;
