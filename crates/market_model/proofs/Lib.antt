@@ -1,1 +1,4 @@
 pub mod Data
+pub mod MarketSums
+pub mod Optimum
+pub mod PlaceSums
