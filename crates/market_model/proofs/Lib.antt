@@ -2,3 +2,4 @@ pub mod Data
 pub mod MarketSums
 pub mod Optimum
 pub mod PlaceSums
+mod Rows

@@ -1,13 +1,13 @@
 -- Sums over the places of a list and over filtered lists.
-use Rattle.std.specs.Prelude.{◌≡◌, ◌≢◌, ℕ, ◌+◌, ◌<◌, ◌≤◌, ◌==◌, pos, Bool, true, false, cond, List, [], ◌∷◌, ◌⊎◌, filter, refl}
+use Rattle.std.specs.Prelude.{ℤ, ◌+ℤ◌, length, slice_index_or, ◌≡◌, ◌≢◌, ℕ, ◌+◌, ◌<◌, ◌≤◌, ◌==◌, pos, Bool, true, false, cond, List, [], ◌∷◌, ◌⊎◌, filter, refl}
 use Rattle.std.specs.List.{range_with_len, AllByRecursion}
-use Rattle.std.proofs.Common.{zero, suc, arith, ap, sym, ◌∙◌, inl, inr}
+use Rattle.std.proofs.Common.{add-one, zero, suc, arith, ap, sym, ◌∙◌, inl, inr}
 use Rattle.std.proofs.lemmas.Bool.Decides.{eqb_tells}
 use mathlib.Core.Path.{ap₂}
 use Rattle.fraction_theory.specs.Fraction.{Fraction, whole, ◌+ℚ◌, ◌*ℚ◌}
 use Rattle.fraction_theory.specs.Sums.{sum_by}
 use Rattle.fraction_theory.proofs.Ring.{nil_plus}
-use Rattle.fraction_theory.proofs.FieldLaws.{ring_ℚ}
+use Rattle.fraction_theory.proofs.FieldLaws.{ring_ℚ, whole-+ℚ}
 use Rattle.fraction_theory.proofs.SumLaws.{sum_by-exchange, sum_by-same, sum_by-times}
 use Rattle.market_model.specs.Dispatch.{places}
 
@@ -80,3 +80,32 @@ gather_times g f at n xs h =
     sum_by-same (λ i. g i *ℚ sum_by f (filter (λ x. at x == i) xs)) (λ i. sum_by (λ x. g i *ℚ f x) (filter (λ x. at x == i) xs)) (places n)
     (λ i. sym (sum_by-times (g i) f (filter (λ x. at x == i) xs)))
     ∙ gather (λ i x. g i *ℚ f x) at n xs h
+
+-- the places from 1 are those from 0, each one more
+range_shift : (f : ℕ → Fraction) (s n : ℕ) → sum_by f (range_with_len (s + 1) n) ≡ sum_by (λ j. f (suc j)) (range_with_len s n)
+range_shift f s zero = refl
+range_shift f s (suc n) = ap₂ ◌+ℚ◌ (ap f (add-one s)) (range_shift f (s + 1) n)
+
+-- a sum over the places of a list is one over its elements
+pub sum_by-places : {T : Type 0} (g : T → Fraction) (d : T) (xs : List T) → sum_by (λ j. g (slice_index_or xs j d)) (places (length xs)) ≡ sum_by g xs
+sum_by-places g d [] = refl
+sum_by-places g d (x ∷ xs) = ap (λ t. g x +ℚ t) (range_shift (λ j. g (slice_index_or (x ∷ xs) j d)) 0 (length xs) ∙ sum_by-places g d xs)
+
+-- the sum of g over two lists in step
+abbrev pub sum_in_step : {S T : Type 0} → (S → T → Fraction) → List S → List T → Fraction
+sum_in_step g [] ys = whole (pos 0)
+sum_in_step g (x ∷ xs) [] = whole (pos 0)
+sum_in_step g (x ∷ xs) (y ∷ ys) = g x y +ℚ sum_in_step g xs ys
+
+pub sum_in_step-places : {S T : Type 0} (g : S → T → Fraction) (d : S) (e : T) (xs : List S) (ys : List T) → length ys ≡ length xs
+    → sum_by (λ j. g (slice_index_or xs j d) (slice_index_or ys j e)) (places (length xs)) ≡ sum_in_step g xs ys
+sum_in_step-places g d e [] ys h = refl
+sum_in_step-places g d e (x ∷ xs) [] h = absurd (Prim.omega (arith, h))
+sum_in_step-places g d e (x ∷ xs) (y ∷ ys) h =
+    ap (λ t. g x y +ℚ t) (range_shift (λ j. g (slice_index_or (x ∷ xs) j d) (slice_index_or (y ∷ ys) j e)) 0 (length xs) ∙ sum_in_step-places g d e xs ys (Prim.omega (arith, h)))
+
+-- a sum of whole numbers, by any total of them that goes by the list
+pub sum_by-whole : {T : Type 0} (f : T → ℤ) (added : List T → ℤ) → added [] ≡ pos 0 → ((x : T) (xs : List T) → added (x ∷ xs) ≡ f x +ℤ added xs)
+    → (xs : List T) → sum_by (λ x. whole (f x)) xs ≡ whole (added xs)
+sum_by-whole f added none more [] = ap whole (sym none)
+sum_by-whole f added none more (x ∷ xs) = ap (λ t. whole (f x) +ℚ t) (sum_by-whole f added none more xs) ∙ sym (whole-+ℚ (f x) (added xs)) ∙ ap whole (sym (more x xs))
