@@ -3,3 +3,4 @@ pub mod MarketSums
 pub mod Optimum
 pub mod PlaceSums
 mod Rows
+pub mod WholeDispatch

@@ -192,6 +192,15 @@ raises-at_least m x h =
     (places_all (λ j. least_raised (block_at m j).side (quantity m j) ≤ℚ raised_by m x j) (length m.blocks)
     (λ j lt. (signed-within (block_at m j).side (accepted x j) (quantity m j) (h.above j lt) (h.within j lt)).0)))
 
+-- where anything is feasible, the sell blocks reach what the demands leave, and the buy blocks reach down to it
+pub needed-at_most : (m : Parts) (x : Dispatch) → IsMarket m → IsDispatch m x → balance m x ≡ whole (pos 0)
+    → (sum_by (demand m) (places (length m.buses)) -ℚ sum_by (fixed_part m) (places (length m.units))) ≤ℚ sum_by (λ block. most_raised block.side (whole block.quantity)) m.blocks
+needed-at_most m x h k e = subst (λ t. t ≤ℚ sum_by (λ block. most_raised block.side (whole block.quantity)) m.blocks) (balanced-raises m x h e) (raises-at_most m x k)
+
+pub needed-at_least : (m : Parts) (x : Dispatch) → IsMarket m → IsDispatch m x → balance m x ≡ whole (pos 0)
+    → sum_by (λ block. least_raised block.side (whole block.quantity)) m.blocks ≤ℚ (sum_by (demand m) (places (length m.buses)) -ℚ sum_by (fixed_part m) (places (length m.units)))
+needed-at_least m x h k e = subst (λ t. sum_by (λ block. least_raised block.side (whole block.quantity)) m.blocks ≤ℚ t) (balanced-raises m x h e) (raises-at_least m x k)
+
 -- nothing accepted raises nothing
 accepted-empty : (m : Parts) (j : ℕ) → accepted (empty m) j ≡ whole (pos 0)
 accepted-empty m j = by_count (length m.blocks) j
