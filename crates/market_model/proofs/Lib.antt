@@ -1,1 +1,6 @@
 pub mod Data
+pub mod MarketSums
+pub mod Optimum
+pub mod PlaceSums
+mod Rows
+pub mod WholeDispatch

@@ -1,11 +1,11 @@
 -- What blocks, units and buses do at a dispatch.
 -- Wood and Wollenberg, Power Generation, Operation and Control: economic dispatch over a network whose demands are fixed.
 -- GS, a demand at a voltage of 1 per unit: MATPOWER User's Manual.
-use Rattle.std.specs.Prelude.{◌≡◌, ℕ, ◌==◌, ◌<◌, ℤ, pos, List, [], ◌∷◌, ◌++◌, length, map, filter, slice_index_or, replicate}
+use Rattle.std.specs.Prelude.{◌≡◌, ℕ, ◌==◌, ◌<◌, pos, List, [], ◌∷◌, ◌++◌, length, map, filter, slice_index_or, replicate}
 use Rattle.std.specs.List.{range_with_len}
 use Rattle.fraction_theory.specs.Fraction.{Fraction, whole, neg_ℚ}
 use Rattle.fraction_theory.specs.Order.{◌≤ℚ◌}
-use Rattle.fraction_theory.specs.Sums.{Term, Plain, Product, total}
+use Rattle.fraction_theory.specs.Sums.{Term, Plain, total}
 use Rattle.market_model.specs.declared.participants.Bus.{Bus}
 use Rattle.market_model.specs.declared.participants.Unit as unit
 use Rattle.market_model.specs.declared.participants.Block.{Block}

@@ -1,4 +1,5 @@
 pub mod Dispatch
+pub mod Laws
 pub mod Market
 pub mod Optimality
 pub mod Settlement

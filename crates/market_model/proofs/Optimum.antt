@@ -1,0 +1,112 @@
+-- A supported dispatch is best, and in balance nothing is left over.
+use Rattle.std.specs.Prelude.{◌≡◌, ℕ, pos, [], ◌∷◌, length, map, refl}
+use Rattle.std.proofs.Common.{ap, sym, ◌∙◌, subst, subst₂}
+use mathlib.Core.Path.{ap₂}
+use Rattle.fraction_theory.specs.Fraction.{Fraction, whole, ◌+ℚ◌, ◌-ℚ◌, ◌*ℚ◌, neg_ℚ}
+use Rattle.fraction_theory.specs.Order.{◌≤ℚ◌}
+use Rattle.fraction_theory.specs.Sums.{sum_by, Product}
+use Rattle.fraction_theory.proofs.Ring.{neg_times, by_ring, by_ring1, at, pnil, pone, pneg, ◌⊕◌, ◌⊗◌}
+use Rattle.fraction_theory.proofs.FieldLaws.{ring_ℚ}
+use Rattle.fraction_theory.proofs.OrderLaws.{by_le1, NonNeg_from, NonNeg-one, not-≤ℚ}
+use Rattle.fraction_theory.proofs.SumLaws.{sum_by-plus, sum_by-same, sum_by-≤, total-append, total-Product}
+use Rattle.fraction_theory.proofs.Duality.{supports_best}
+use Rattle.market_model.specs.declared.participants.Parts.{Parts}
+use Rattle.market_model.specs.declared.participants.Side.{Side}
+use Rattle.market_model.specs.declared.participants.Side.TheVariants.{Sell, Buy}
+use Rattle.market_model.specs.declared.answered.Duals.{Duals}
+use Rattle.market_model.specs.Market.{IsMarket}
+use Rattle.market_model.specs.Dispatch.{Dispatch, places, block_at, block_bus, unit_at, signed, accepted, quantity, raised_by, injection, balance, output, demand}
+use Rattle.market_model.specs.Optimality.{Feasible, Supports, Gains, Loses, price, block_value, welfare, bus_price, unit_price}
+use Rattle.market_model.specs.Settlement.{surplus}
+use Rattle.market_model.specs.Laws.{LawOfTheOptimum, LawOfTheSurplus}
+use Rattle.market_model.proofs.PlaceSums.{places_all}
+use Rattle.market_model.proofs.MarketSums.{sum_by-neg, fixed_part, priced_injections-by_parts, priced_injections-by_outputs, one_price}
+
+-- the welfare as a sum over blocks
+pub welfare-by_blocks : (m : Parts) (x : Dispatch) → welfare m x ≡ sum_by (λ j. block_value m j *ℚ accepted x j) (places (length m.blocks))
+unfolding welfare
+welfare-by_blocks m x = total-Product (block_value m) (accepted x) (places (length m.blocks))
+
+-- what a block that takes z adds: its value, and what it raises at the price at its bus
+abbrev pub gain : Side → Fraction → Fraction → Fraction → Fraction
+gain side price worth z = neg_ℚ (signed side price) *ℚ z +ℚ worth *ℚ signed side z
+
+-- a block that is supported gains at least as much as with any other quantity
+pub supported_gains : (side : Side) (price worth x q z : Fraction) → (Gains side price worth → x ≡ q) → (Loses side price worth → x ≡ whole (pos 0))
+    → whole (pos 0) ≤ℚ z → z ≤ℚ q → gain side price worth z ≤ℚ gain side price worth x
+supported_gains Sell price worth x q z full empty h k =
+    subst₂ ◌≤ℚ◌ (as_gain z) (as_gain x)
+    (supports_best worth price x q z (record { full = λ n. full (not-≤ℚ worth price n); empty = λ n. empty (not-≤ℚ price worth n) }) (NonNeg_from z h) k)
+  where
+    as_gain : (t : Fraction) → (worth -ℚ price) *ℚ t ≡ gain Sell price worth t
+    as_gain t = by_ring ring_ℚ (worth ∷ price ∷ t ∷ []) ((at 0 ⊕ pneg (at 1)) ⊗ at 2) (pneg (at 1) ⊗ at 2 ⊕ at 0 ⊗ at 2) refl
+supported_gains Buy price worth x q z full empty h k =
+    subst₂ ◌≤ℚ◌ (as_gain z) (as_gain x)
+    (supports_best price worth x q z (record { full = λ n. full (not-≤ℚ price worth n); empty = λ n. empty (not-≤ℚ worth price n) }) (NonNeg_from z h) k)
+  where
+    as_gain : (t : Fraction) → (price -ℚ worth) *ℚ t ≡ gain Buy price worth t
+    as_gain t = by_ring ring_ℚ (worth ∷ price ∷ t ∷ []) ((at 1 ⊕ pneg (at 0)) ⊗ at 2) (pneg (pneg (at 1)) ⊗ at 2 ⊕ at 0 ⊗ pneg (at 2)) refl
+
+-- the welfare and what the blocks raise at the prices of their buses
+pub gains-by_blocks : (m : Parts) (d : Duals Fraction) (x : Dispatch)
+    → sum_by (λ j. gain (block_at m j).side (price m j) (unit_price m d (block_at m j).unit) (accepted x j)) (places (length m.blocks))
+    ≡ welfare m x +ℚ sum_by (λ j. bus_price m d (block_bus m j) *ℚ raised_by m x j) (places (length m.blocks))
+gains-by_blocks m d x =
+    sum_by-plus (λ j. block_value m j *ℚ accepted x j) (λ j. bus_price m d (block_bus m j) *ℚ raised_by m x j) (places (length m.blocks))
+    ∙ ap (λ t. t +ℚ sum_by (λ j. bus_price m d (block_bus m j) *ℚ raised_by m x j) (places (length m.blocks))) (sym (welfare-by_blocks m x))
+
+-- among all dispatches within bounds a supported one has the greatest gains
+pub greatest_gains : (m : Parts) (d : Duals Fraction) (x y : Dispatch) → Feasible m x → Supports m x d → Feasible m y
+    → (welfare m y +ℚ sum_by (λ j. bus_price m d (block_bus m j) *ℚ raised_by m y j) (places (length m.blocks)))
+    ≤ℚ (welfare m x +ℚ sum_by (λ j. bus_price m d (block_bus m j) *ℚ raised_by m x j) (places (length m.blocks)))
+greatest_gains m d x y fx s fy =
+    subst₂ ◌≤ℚ◌ (gains-by_blocks m d y) (gains-by_blocks m d x)
+    (sum_by-≤ (λ j. of_block y j) (λ j. of_block x j) (places (length m.blocks))
+    (places_all (λ j. of_block y j ≤ℚ of_block x j) (length m.blocks)
+    (λ j lt. supported_gains (block_at m j).side (price m j) (unit_price m d (block_at m j).unit) (accepted x j) (quantity m j) (accepted y j)
+    (s.blocks j lt).full (s.blocks j lt).empty (fy.blocks.above j lt) (fy.blocks.within j lt))))
+  where
+    of_block : Dispatch → ℕ → Fraction
+    of_block t j = gain (block_at m j).side (price m j) (unit_price m d (block_at m j).unit) (accepted t j)
+
+-- the injections of a dispatch in balance come to 0 at the prices of all buses
+pub priced_injections-nil : (m : Parts) (d : Duals Fraction) (x : Dispatch) → balance m x ≡ whole (pos 0)
+    → sum_by (λ i. bus_price m d i *ℚ injection m x i) (places (length m.buses)) ≡ whole (pos 0)
+unfolding bus_price
+priced_injections-nil m d x e = one_price m x d.energy ∙ by_ring1 ring_ℚ (d.energy ∷ balance m x ∷ []) (at 0 ⊗ at 1) pnil (at 0) (at 1) pnil e refl
+
+-- what the blocks raise, at the prices of their buses, is the same for all dispatches in balance
+pub priced_raises : (m : Parts) (d : Duals Fraction) (x y : Dispatch) → IsMarket m → balance m x ≡ whole (pos 0) → balance m y ≡ whole (pos 0)
+    → sum_by (λ j. bus_price m d (block_bus m j) *ℚ raised_by m x j) (places (length m.blocks)) ≡ sum_by (λ j. bus_price m d (block_bus m j) *ℚ raised_by m y j) (places (length m.blocks))
+priced_raises m d x y h ex ey =
+    let units : Fraction = sum_by (λ u. bus_price m d (unit_at m u).bus *ℚ fixed_part m u) (places (length m.units)) in
+    let loads : Fraction = sum_by (λ i. bus_price m d i *ℚ demand m i) (places (length m.buses)) in
+    let bx : Fraction = sum_by (λ j. bus_price m d (block_bus m j) *ℚ raised_by m x j) (places (length m.blocks)) in
+    let by : Fraction = sum_by (λ j. bus_price m d (block_bus m j) *ℚ raised_by m y j) (places (length m.blocks)) in
+    by_ring1 ring_ℚ (units ∷ bx ∷ by ∷ loads ∷ []) (at 1) (at 2) pone ((at 0 ⊕ at 1) ⊕ pneg (at 3)) ((at 0 ⊕ at 2) ⊕ pneg (at 3))
+    (sym (priced_injections-by_parts m x (bus_price m d) h) ∙ priced_injections-nil m d x ex ∙ sym (priced_injections-nil m d y ey) ∙ priced_injections-by_parts m y (bus_price m d) h) refl
+
+pub law_of_the_optimum : LawOfTheOptimum
+law_of_the_optimum m d x y h fx s fy =
+    let raised : Fraction = sum_by (λ j. bus_price m d (block_bus m j) *ℚ raised_by m x j) (places (length m.blocks)) in
+    let same = priced_raises m d y x h fy.balanced fx.balanced in
+    by_le1 (welfare m y ∷ welfare m x ∷ raised ∷ []) (at 0) (at 1) pone (at 0 ⊕ at 2) (at 1 ⊕ at 2) NonNeg-one
+    (subst (λ t. (welfare m y +ℚ t) ≤ℚ (welfare m x +ℚ raised)) same (greatest_gains m d x y fx s fy)) refl
+
+-- the surplus is the opposite of the injections at bus prices
+pub surplus-by_injections : (m : Parts) (d : Duals Fraction) (x : Dispatch) → IsMarket m
+    → surplus m x d ≡ neg_ℚ (sum_by (λ i. bus_price m d i *ℚ injection m x i) (places (length m.buses)))
+unfolding surplus
+surplus-by_injections m d x h =
+    let loads : Fraction = sum_by (λ i. bus_price m d i *ℚ demand m i) (places (length m.buses)) in
+    let units : Fraction = sum_by (λ u. unit_price m d u *ℚ output m x u) (places (length m.units)) in
+    total-append (map (λ i. Product (bus_price m d i) (demand m i)) (places (length m.buses))) (map (λ u. Product (neg_ℚ (unit_price m d u)) (output m x u)) (places (length m.units)))
+    ∙ ap₂ ◌+ℚ◌ (total-Product (bus_price m d) (demand m) (places (length m.buses)))
+    (total-Product (λ u. neg_ℚ (unit_price m d u)) (output m x) (places (length m.units))
+    ∙ sum_by-same (λ u. neg_ℚ (unit_price m d u) *ℚ output m x u) (λ u. neg_ℚ (unit_price m d u *ℚ output m x u)) (places (length m.units)) (λ u. neg_times ring_ℚ (unit_price m d u) (output m x u))
+    ∙ sum_by-neg (λ u. unit_price m d u *ℚ output m x u) (places (length m.units)))
+    ∙ by_ring ring_ℚ (loads ∷ units ∷ []) (at 0 ⊕ pneg (at 1)) (pneg (at 1 ⊕ pneg (at 0))) refl
+    ∙ ap neg_ℚ (sym (priced_injections-by_outputs m x (bus_price m d) h))
+
+pub law_of_the_surplus : LawOfTheSurplus
+law_of_the_surplus m d x h e = surplus-by_injections m d x h ∙ ap neg_ℚ (priced_injections-nil m d x e) ∙ by_ring ring_ℚ [] (pneg pnil) pnil refl

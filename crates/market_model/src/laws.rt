@@ -1,0 +1,12 @@
+//! Laws of the definitions, each the contract of a function that does nothing.
+ghost use Rattle.market_model.specs.Laws.{LawOfTheOptimum, LawOfTheSurplus};
+
+/// A feasible dispatch that duals support has the greatest welfare of all feasible ones.
+pub fn supported_is_best()
+    ensures { LawOfTheOptimum }
+{}
+
+/// Where a dispatch balances and no branch has a limit, loads pay what units are paid.
+pub fn balance_leaves_nothing()
+    ensures { LawOfTheSurplus }
+{}
