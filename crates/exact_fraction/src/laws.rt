@@ -1,5 +1,8 @@
-//! Laws of the texts, each the contract of a function that does nothing.
+//! Laws of the texts and the bounds, each the contract of a function that does nothing.
+ghost use Rattle.std.specs.Prelude.{◌≡◌, ◌-◌, ◌^◌};
 ghost use Rattle.exact_fraction.specs.TextLaws.{WrittenApart, PartsApart};
+
+use crate::{Exact, Frac, Frac63};
 
 /// Fractions that are written alike in units are equal.
 pub fn written_apart()
@@ -9,4 +12,10 @@ pub fn written_apart()
 /// Fractions that are written alike as `num/den` are equal.
 pub fn parts_apart()
     ensures { PartsApart }
+{}
+
+/// The bounds of the two types.
+pub fn bounds()
+    ensures wide { ⟦<Frac as Exact>⟧.bound ≡ 2 ^ 127 - 1 }
+    ensures narrow { ⟦<Frac63 as Exact>⟧.bound ≡ 2 ^ 63 - 1 }
 {}

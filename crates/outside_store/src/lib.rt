@@ -35,9 +35,9 @@ pub enum ReadStop {
 ///
 /// A store may tell its files to contracts, and then tells them after each call too.
 /// For each name it counts the reads that failed and the writes that failed; it may use one number for all names.
-/// No count ever falls, and one that stands at the end of its 64 bits is taken as risen.
+/// No count ever falls, and one at the end of its 64 bits, which stays there, is taken as risen.
 pub trait Store {
-    ghost use Rattle.std.specs.Prelude.{◌≡◌, ℕ, ◌<◌, ◌+◌, ◌^◌, List, Option, IfOk, IsErr};
+    ghost use Rattle.std.specs.Prelude.{◌≡◌, ℕ, ◌<◌, ◌≤◌, ◌+◌, ◌^◌, List, Option, vec_len, IfOk, IsErr};
     ghost use Rattle.std.specs.Result.{IsErrOf};
     ghost use Rattle.outside_store.specs.Causes.{CountsFault, Still};
     ghost use Rattle.outside_store.specs.Files.{Files, SameFiles, Reads, Wrote};
@@ -53,10 +53,12 @@ pub trait Store {
 
     /// The whole of a file, cut after its first `limit + 1` bytes.
     ///
-    /// So a file of more than `limit` bytes shows as one. A name that is not there is a failed read.
+    /// So a file of more than `limit` bytes shows as one.
+    /// Want of memory may be answered for any name; a name that is not there is otherwise a failed read.
     fn read(&mut self, alloc: Global, name: &str, limit: usize) -> Result<Vec<u8>, ReadStop>
         requires { limit + 1 < 2 ^ 64 }
         ensures same { SameFiles (files self.old) (files self.new) }
+        ensures short { IfOk result (λ v. vec_len v ≤ limit + 1) }
         ensures bytes { IfOk result (λ v. Reads (files self.old) name.now limit v.items) }
         ensures cause { CountsFault (IsErrOf result ReadStop.Failed) name.now
             (failed_reads self.old) (failed_reads self.new) }
@@ -75,7 +77,7 @@ pub trait Store {
 /// An output, which takes bytes one piece after another.
 ///
 /// A sink may tell contracts what it took, and then tells it after each call too.
-/// It counts the pieces that it refused; the count never falls, and at the end of its 64 bits is taken as risen.
+/// It counts the pieces that it refused; the count never falls, and at the end of its 64 bits, where it stays, is taken as risen.
 pub trait Sink {
     ghost use Rattle.std.specs.Prelude.{◌≡◌, ℕ, List, Option, IsErr};
     ghost use Rattle.outside_store.specs.Sinks.{Took, CountFault};

@@ -1,6 +1,6 @@
 // A store in memory, for trying out what a caller does where a call fails.
-ghost use Rattle.std.specs.Prelude.{◌≡◌, ℕ, ◌<◌, ◌+◌, ◌^◌, ◌↔◌, ◌⊎◌, [], take};
-ghost use Rattle.std.specs.Prelude.{MatchOption, IfOk, IfErr, OnOk, OnErr, IsErr};
+ghost use Rattle.std.specs.Prelude.{◌≡◌, ℕ, ◌<◌, ◌≤◌, ◌+◌, ◌^◌, ◌↔◌, ◌⊎◌, [], take};
+ghost use Rattle.std.specs.Prelude.{vec_len, MatchOption, IfOk, IfErr, OnOk, OnErr, IsErr};
 ghost use Rattle.std.specs.Result.{IsErrOf};
 ghost use Rattle.outside_store.specs.Causes.{CountsFault, Still, raised};
 ghost use Rattle.outside_store.specs.Files.{SameFiles, Reads, Wrote};
@@ -40,9 +40,9 @@ pub struct MemoryStore {
 
 impl Model for MemoryStore {
     ghost use Rattle.std.specs.Prelude.{◌-◌, ◌≤◌, ℕ, take, length, All};
-    ghost use Rattle.outside_store.specs.Memory.{Memory};
+    ghost use Rattle.outside_store.specs.Memory.{HeldFiles};
 
-    ghost Value = { Memory };
+    ghost Value = { HeldFiles };
 
     ghost use Rattle.outside_store.specs.Places.{shown_all, IsRoomy};
 
@@ -167,6 +167,7 @@ impl Store for MemoryStore {
     fn read(&mut self, alloc: Global, name: &str, limit: usize) -> Result<Vec<u8>, ReadStop>
         requires { limit + 1 < 2 ^ 64 }
         ensures same { SameFiles (Some (find self.old.files)) (Some (find self.new.files)) }
+        ensures short { IfOk result (λ v. vec_len v ≤ limit + 1) }
         ensures bytes { IfOk result (λ v. Reads (Some (find self.old.files)) name.now limit v.items) }
         ensures cause { CountsFault (IsErrOf result ReadStop.Failed) name.now
             (λ _. self.old.failed_reads) (λ _. self.new.failed_reads) }

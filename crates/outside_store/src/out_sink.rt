@@ -1,5 +1,7 @@
 // Standard output as a sink. It does not tell what it took.
-ghost use Rattle.std.specs.Prelude.{◌≡◌, ℕ};
+ghost use Rattle.std.specs.Prelude.{◌≡◌, ℕ, None, IsErr, OnErr};
+ghost use Rattle.outside_store.specs.Causes.{raised};
+ghost use Rattle.outside_store.specs.Sinks.{Took, CountFault};
 
 use crate::transfer::write_whole;
 use crate::{Failed, Sink};
@@ -35,7 +37,13 @@ impl<R: Print + Drop> Sink for OutSink<R> {
 
     ghost faults = { λ sink. sink.failed };
 
-    fn put(&mut self, bytes: &[u8]) -> Result<(), Failed> {
+    fn put(&mut self, bytes: &[u8]) -> Result<(), Failed>
+        ensures took { Took (IsErr result) bytes.now None None }
+        ensures cause { CountFault (IsErr result) self.old.failed self.new.failed }
+
+        // A failed put is counted once; `cause` says that no other is counted.
+        ensures counted { OnErr result (self.new.failed ≡ raised self.old.failed) }
+    {
         if write_whole(&mut io::writer(&self.rt), bytes) {
             Ok(())
         } else {

@@ -35,9 +35,14 @@ pub(crate) fn read_up_to<F: Read>(
     Ok(bytes)
 }
 
-/// Whether a writer took all the bytes. One that takes nothing of a piece that is not empty has failed.
+/// Whether a writer took all the bytes, and no more than a prefix of them where it did not.
+///
+/// One that takes nothing of a piece that is not empty has failed.
 pub(crate) fn write_whole<F: Write>(file: &mut F, bytes: &[u8]) -> bool
-    ensures { IsTrue result → Appends (F.contents file.old) (F.contents file.new) bytes.now }
+    ensures whole { IsTrue result
+        → Appends (F.contents file.old) (F.contents file.new) bytes.now }
+    ensures cut { ¬ IsTrue result
+        → (k : ℕ) × Appends (F.contents file.old) (F.contents file.new) (take k bytes.now) }
 {
     let mut rest = bytes;
     while !rest.is_empty() {

@@ -9,8 +9,9 @@ use Rattle.std.specs.Char.{digit_value}
 use Rattle.std.proofs.lemmas.Bool.{cases_lt, ne_eqb, eq-eqb, eqb-true, lt-ltb, le-ltb}
 use Rattle.fraction_theory.specs.declared.Sign.TheVariants.{Below, Zero, Above}
 use Rattle.scaled_decimal.specs.declared.DecimalFault.TheVariants.{TooFine, OutOfRange}
-use Rattle.scaled_decimal.specs.Decimal.{Decimal, signed, digits_of}
-use Rattle.scaled_decimal.specs.Reading.{whole_number, in_range, units_in, sign_of_number}
+use Rattle.scaled_decimal.specs.Decimal.{Decimal, signed, digits_number}
+use Rattle.fraction_theory.specs.Signs.{sign_of_int}
+use Rattle.scaled_decimal.specs.Reading.{whole_number, in_range, units_in}
 use Rattle.scaled_decimal.specs.Amount.{EndsInNoZero, IsSignificand}
 
 pub ten_above : (k : ℕ) → 0 < 10 ^ k
@@ -150,18 +151,18 @@ same_under negative n exact zeros places shift exponent length e s ends few shor
       ]
     ]
 
-pub units_up : (d : Decimal) (places size zeros shift : ℕ) → d.exponent_negative ≡ false → (s : IsSignificand (digits_of d) size zeros) → shift ≡ min (digits_value 10 d.exponent) (2 ^ 100) → length d.part < 2 ^ 64
+pub units_up : (d : Decimal) (places size zeros shift : ℕ) → d.exponent_negative ≡ false → (s : IsSignificand (digits_number d) size zeros) → shift ≡ min (digits_value 10 d.exponent) (2 ^ 100) → length d.part < 2 ^ 64
     → whole_number d.negative (s.exact * 10 ^ (places + zeros + shift)) (10 ^ length d.part) ≡ units_in places d
 unfolding units_in
 units_up d places size zeros shift up s e short =
     let at : length d.part + 0 ≡ length d.part = Prim.omega arith in
-    Prim.rw up (Prim.rw at (same_above d.negative (digits_of d) s.exact zeros places shift (digits_value 10 d.exponent) (length d.part) s.number e short))
+    Prim.rw up (Prim.rw at (same_above d.negative (digits_number d) s.exact zeros places shift (digits_value 10 d.exponent) (length d.part) s.number e short))
 
-pub units_down : (d : Decimal) (places size zeros shift : ℕ) → d.exponent_negative ≡ true → (s : IsSignificand (digits_of d) size zeros) → shift ≡ min (digits_value 10 d.exponent) (2 ^ 100) → places ≤ 18 → zeros < 2 ^ 64
+pub units_down : (d : Decimal) (places size zeros shift : ℕ) → d.exponent_negative ≡ true → (s : IsSignificand (digits_number d) size zeros) → shift ≡ min (digits_value 10 d.exponent) (2 ^ 100) → places ≤ 18 → zeros < 2 ^ 64
     → whole_number d.negative (s.exact * 10 ^ (places + zeros)) (10 ^ (length d.part + shift)) ≡ units_in places d
 unfolding units_in
 units_down d places size zeros shift down s e few short =
-    Prim.rw down (same_under d.negative (digits_of d) s.exact zeros places shift (digits_value 10 d.exponent) (length d.part) s.number e s.ends few short)
+    Prim.rw down (same_under d.negative (digits_number d) s.exact zeros places shift (digits_value 10 d.exponent) (length d.part) s.number e s.ends few short)
 
 pub zero_together : (n size zeros : ℕ) → IsSignificand n size zeros → (size == 0) ≡ (n == 0)
 zero_together n size zeros s = elim (cases_lt 0 s.exact) [
@@ -203,24 +204,24 @@ shifted_in negative exact size above under raised cut le e full =
     let at : exact * 10 ^ (above - under) ≡ raised = Prim.omega (arith, same) in
     (Prim.omega arith, shifted_by negative exact above under le ∙ (in_range_yes negative (exact * 10 ^ (above - under)) low ∙ ap (λ t. Ok (signed negative t)) at))
 
-pub sign_zero : (negative : Bool) (n size zeros : ℕ) → IsSignificand n size zeros → size ≡ 0 → Zero ≡ sign_of_number (signed negative n)
+pub sign_zero : (negative : Bool) (n size zeros : ℕ) → IsSignificand n size zeros → size ≡ 0 → Zero ≡ sign_of_int (signed negative n)
 sign_zero negative n size zeros s z =
     let at : n ≡ 0 = eqb-true n 0 (sym (zero_together n size zeros s) ∙ eq-eqb size 0 z) in
-    Prim.rw at (elim negative as (λ b. Zero ≡ sign_of_number (signed b 0)) [ true ↦ refl | false ↦ refl ])
+    Prim.rw at (elim negative as (λ b. Zero ≡ sign_of_int (signed b 0)) [ true ↦ refl | false ↦ refl ])
 
-below : (n : ℕ) → 0 < n → Below ≡ sign_of_number (signed true n)
+below : (n : ℕ) → 0 < n → Below ≡ sign_of_int (signed true n)
 below zero h = absurd (Prim.omega arith)
 below (suc n) h = refl
 
-above : (n : ℕ) → 0 < n → Above ≡ sign_of_number (signed false n)
+above : (n : ℕ) → 0 < n → Above ≡ sign_of_int (signed false n)
 above zero h = absurd (Prim.omega arith)
 above (suc n) h = refl
 
 not_zero : (n size zeros : ℕ) → IsSignificand n size zeros → size ≢ 0 → 0 < n
 not_zero n size zeros s p = let q : n ≢ 0 = λ z. p (eqb-true size 0 (zero_together n size zeros s ∙ eq-eqb n 0 z)) in Prim.omega arith
 
-pub sign_below : (negative : Bool) (n size zeros : ℕ) → IsSignificand n size zeros → size ≢ 0 → negative ≡ true → Below ≡ sign_of_number (signed negative n)
+pub sign_below : (negative : Bool) (n size zeros : ℕ) → IsSignificand n size zeros → size ≢ 0 → negative ≡ true → Below ≡ sign_of_int (signed negative n)
 sign_below negative n size zeros s p e = Prim.rw e (below n (not_zero n size zeros s p))
 
-pub sign_above : (negative : Bool) (n size zeros : ℕ) → IsSignificand n size zeros → size ≢ 0 → negative ≡ false → Above ≡ sign_of_number (signed negative n)
+pub sign_above : (negative : Bool) (n size zeros : ℕ) → IsSignificand n size zeros → size ≢ 0 → negative ≡ false → Above ≡ sign_of_int (signed negative n)
 sign_above negative n size zeros s p e = Prim.rw e (above n (not_zero n size zeros s p))

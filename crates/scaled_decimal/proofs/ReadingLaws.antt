@@ -9,8 +9,9 @@ use Rattle.fraction_theory.specs.Fraction.{Fraction, over}
 use Rattle.fraction_theory.specs.declared.Sign.{Sign}
 use Rattle.scaled_decimal.specs.declared.DecimalFault.{DecimalFault}
 use Rattle.scaled_decimal.specs.declared.DecimalFault.TheVariants.{BadNumber, NotFinite, TooFine, OutOfRange}
-use Rattle.scaled_decimal.specs.Decimal.{Denotes, Decimal, Spells, IsNumber, signed, digits_of, tens_above, tens_under, value_of}
-use Rattle.scaled_decimal.specs.Reading.{Reads, OneReading, HasSign, OneSign, sign_of_number, sign_of_decimal, decimal_in, is_not_finite, of_decimal, fault_of_text, in_range, units_in, units_of, sign_in, is_number_text}
+use Rattle.scaled_decimal.specs.Decimal.{Denotes, Decimal, Spells, IsNumber, signed, digits_number, tens_above, tens_under, value_of}
+use Rattle.fraction_theory.specs.Signs.{sign_of, sign_of_int}
+use Rattle.scaled_decimal.specs.Reading.{Reads, OneReading, HasSign, OneSign, sign_of_decimal, decimal_in, is_not_finite, of_decimal, fault_of_text, in_range, units_in, units_of, sign_in, is_number_text}
 use Rattle.scaled_decimal.proofs.AmountLemmas.{ten_above, whole_exact, whole_not, in_range_yes, in_range_no}
 use Rattle.scaled_decimal.proofs.ScaleLemmas.{scale_cancel, cross_from_over, over_from_cross, signed_times, abs_signed, sign_of_over, sign_scale}
 use Rattle.scaled_decimal.proofs.GrammarLemmas.{Spells-from_decimal_in, decimal_in-Spells, told_not_finite, IsNotFinite-from_test}
@@ -18,22 +19,22 @@ use Rattle.scaled_decimal.proofs.GrammarLemmas.{Spells-from_decimal_in, decimal_
 -- ---- a decimal's value in units
 -- the decimal is this number of units, over ten to the power of what stands under the line
 abbrev top : ℕ → Decimal → ℕ
-top places d = digits_of d * 10 ^ (tens_above d + places)
+top places d = digits_number d * 10 ^ (tens_above d + places)
 
-value_scaled : (places : ℕ) (d : Decimal) → signed d.negative (digits_of d * 10 ^ tens_above d) *ℤ pos (10 ^ places) ≡ signed d.negative (top places d)
+value_scaled : (places : ℕ) (d : Decimal) → signed d.negative (digits_number d * 10 ^ tens_above d) *ℤ pos (10 ^ places) ≡ signed d.negative (top places d)
 value_scaled places d =
-    signed_times d.negative (digits_of d * 10 ^ tens_above d) (10 ^ places)
-    ∙ ap (signed d.negative) (mul_assoc (digits_of d) (10 ^ tens_above d) (10 ^ places) ∙ ap (λ t. digits_of d * t) (sym (pow-add 10 (tens_above d) places)))
+    signed_times d.negative (digits_number d * 10 ^ tens_above d) (10 ^ places)
+    ∙ ap (signed d.negative) (mul_assoc (digits_number d) (10 ^ tens_above d) (10 ^ places) ∙ ap (λ t. digits_number d * t) (sym (pow-add 10 (tens_above d) places)))
 
 cross_from_value : (places : ℕ) (d : Decimal) (n : ℤ) → over n (10 ^ places) ≡ value_of d → n *ℤ pos (10 ^ tens_under d) ≡ signed d.negative (top places d)
 unfolding value_of
 cross_from_value places d n e =
-    cross_from_over n (signed d.negative (digits_of d * 10 ^ tens_above d)) (10 ^ places) (10 ^ tens_under d) (ten_above places) (ten_above (tens_under d)) e ∙ value_scaled places d
+    cross_from_over n (signed d.negative (digits_number d * 10 ^ tens_above d)) (10 ^ places) (10 ^ tens_under d) (ten_above places) (ten_above (tens_under d)) e ∙ value_scaled places d
 
 value_from_cross : (places : ℕ) (d : Decimal) (n : ℤ) → n *ℤ pos (10 ^ tens_under d) ≡ signed d.negative (top places d) → over n (10 ^ places) ≡ value_of d
 unfolding value_of
 value_from_cross places d n e =
-    over_from_cross n (signed d.negative (digits_of d * 10 ^ tens_above d)) (10 ^ places) (10 ^ tens_under d) (ten_above places) (ten_above (tens_under d)) (e ∙ sym (value_scaled places d))
+    over_from_cross n (signed d.negative (digits_number d * 10 ^ tens_above d)) (10 ^ places) (10 ^ tens_under d) (ten_above places) (ten_above (tens_under d)) (e ∙ sym (value_scaled places d))
 
 size_of : (places : ℕ) (d : Decimal) (n : ℤ) → over n (10 ^ places) ≡ value_of d → top places d ≡ unsigned_abs n * 10 ^ tens_under d
 size_of places d n e =
@@ -123,11 +124,11 @@ units_of-Reads places bytes (Err OutOfRange) h =
     units_of-Spells places bytes d h.1.1 ∙ (units_in_is places d (unsigned_abs n) (size_of places d n h.1.2) ∙ in_range_no d.negative (unsigned_abs n) h.2)
 
 -- ---- the sign of a decimal
-value_sign : (d : Decimal) → sign_of_number (value_of d).num ≡ sign_of_number (signed d.negative (digits_of d))
-unfolding value_of
+value_sign : (d : Decimal) → sign_of (value_of d) ≡ sign_of_int (signed d.negative (digits_number d))
+unfolding value_of sign_of
 value_sign d =
-    sign_of_over (signed d.negative (digits_of d * 10 ^ tens_above d)) (10 ^ tens_under d) (ten_above (tens_under d))
-    ∙ (ap sign_of_number (sym (signed_times d.negative (digits_of d) (10 ^ tens_above d))) ∙ sign_scale (signed d.negative (digits_of d)) (10 ^ tens_above d) (ten_above (tens_above d)))
+    sign_of_over (signed d.negative (digits_number d * 10 ^ tens_above d)) (10 ^ tens_under d) (ten_above (tens_under d))
+    ∙ (ap sign_of_int (sym (signed_times d.negative (digits_number d) (10 ^ tens_above d))) ∙ sign_scale (signed d.negative (digits_number d)) (10 ^ tens_above d) (ten_above (tens_above d)))
 
 sign_option : (bytes : List ℕ) (o : Option Decimal) (word : Bool) → decimal_in bytes ≡ o → is_not_finite bytes ≡ word → HasSign bytes (of_decimal sign_of_decimal o word)
 sign_option bytes (Some d) word e w = (value_of d, (d, Spells-from_decimal_in bytes d e, refl), sym (value_sign d))
@@ -142,7 +143,7 @@ pub sign_in-HasSign : (bytes : List ℕ) (r : Result Sign DecimalFault) → HasS
 unfolding sign_in
 sign_in-HasSign bytes (Ok sign) h =
     let d : Decimal = h.1.0 in
-    ap (λ o. of_decimal sign_of_decimal o (is_not_finite bytes)) (decimal_in-Spells bytes d h.1.1) ∙ ap Ok (sym (value_sign d) ∙ (ap (λ (x : Fraction). sign_of_number x.num) (sym h.1.2) ∙ sym h.2))
+    ap (λ o. of_decimal sign_of_decimal o (is_not_finite bytes)) (decimal_in-Spells bytes d h.1.1) ∙ ap Ok (sym (value_sign d) ∙ (ap sign_of (sym h.1.2) ∙ sym h.2))
 sign_in-HasSign bytes (Err BadNumber) h = let n = no_number bytes h in Prim.rw (n.0, n.1) refl
 sign_in-HasSign bytes (Err NotFinite) h = let n = told_not_finite bytes h in Prim.rw (n.1, n.0) refl
 sign_in-HasSign bytes (Err TooFine) h = absurd h

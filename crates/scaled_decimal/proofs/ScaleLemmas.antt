@@ -7,7 +7,7 @@ use Rattle.fraction_theory.specs.Fraction.{Fraction, over}
 use Rattle.fraction_theory.proofs.FractionLaws.{over_is, Is, same_value}
 use Rattle.fraction_theory.specs.declared.Sign.TheVariants.{Below, Above}
 use Rattle.scaled_decimal.specs.Decimal.{signed}
-use Rattle.scaled_decimal.specs.Reading.{sign_of_number}
+use Rattle.fraction_theory.specs.Signs.{sign_of_int}
 
 neg_times : (k b : ℕ) → neg_ℤ (pos k) *ℤ pos b ≡ neg_ℤ (pos (k * b))
 neg_times zero b = Prim.rw (zero-mul b) refl
@@ -68,21 +68,21 @@ pub abs_signed : (negative : Bool) (n : ℕ) → unsigned_abs (signed negative n
 abs_signed true n = abs_neg n
 abs_signed false n = refl
 
-sign_above : (k : ℕ) → 0 < k → sign_of_number (pos k) ≡ Above
+sign_above : (k : ℕ) → 0 < k → sign_of_int (pos k) ≡ Above
 sign_above zero h = absurd (Prim.omega arith)
 sign_above (suc k) h = refl
 
-sign_below : (k : ℕ) → 0 < k → sign_of_number (neg_ℤ (pos k)) ≡ Below
+sign_below : (k : ℕ) → 0 < k → sign_of_int (neg_ℤ (pos k)) ≡ Below
 sign_below zero h = absurd (Prim.omega arith)
 sign_below (suc k) h = refl
 
-pub sign_scale : (x : ℤ) (d : ℕ) → 0 < d → sign_of_number (x *ℤ pos d) ≡ sign_of_number x
+pub sign_scale : (x : ℤ) (d : ℕ) → 0 < d → sign_of_int (x *ℤ pos d) ≡ sign_of_int x
 sign_scale (pos zero) d h = Prim.rw (zero-mul d) refl
 sign_scale (pos (suc n)) d h = let p : 0 < suc n = Prim.omega arith in sign_above (suc n * d) (mul-pos p h)
 sign_scale (negsuc n) d h = let p : 0 < suc n = Prim.omega arith in sign_below (suc n * d) (mul-pos p h)
 
 -- the sign of a quotient is that of the number above the line
-pub sign_of_over : (n : ℤ) (d : ℕ) → 0 < d → sign_of_number (over n d).num ≡ sign_of_number n
+pub sign_of_over : (n : ℤ) (d : ℕ) → 0 < d → sign_of_int (over n d).num ≡ sign_of_int n
 sign_of_over n d h =
     let x : Fraction = over n d in
-    sym (sign_scale x.num d h) ∙ (ap sign_of_number (over_is n d h).cross ∙ sign_scale n x.den x.above)
+    sym (sign_scale x.num d h) ∙ (ap sign_of_int (over_is n d h).cross ∙ sign_scale n x.den x.above)

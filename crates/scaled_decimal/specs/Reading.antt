@@ -1,15 +1,14 @@
 -- What a reading gives: as a relation to the value, and as functions that cut the text into its parts.
-use Rattle.std.specs.Prelude.{◌≡◌, ◌≢◌, ℕ, ◌+◌, ◌*◌, ◌/◌, ◌%◌, ◌^◌, ◌<◌, ◌≤◌, ℤ, pos, negsuc, Bool, List, length, codes, ◌==◌, ◌||◌, ◌&&◌, not, nat_lt, Option, Some, None, Result, Ok, Err, slice_index, drop, is_some, unsigned_abs, if◌then◌else◌}
-use Rattle.std.proofs.Common.{zero, suc}
+use Rattle.std.specs.Prelude.{◌≡◌, ◌≢◌, ℕ, ◌+◌, ◌*◌, ◌/◌, ◌%◌, ◌^◌, ◌<◌, ◌≤◌, ℤ, Bool, List, length, codes, ◌==◌, ◌||◌, ◌&&◌, not, nat_lt, Option, Some, None, Result, Ok, Err, slice_index, drop, is_some, unsigned_abs, if◌then◌else◌}
 use Rattle.std.specs.Char.{is_ascii_digit}
 use Rattle.std.specs.List.{list_all, before_first, after_first, position_or_len}
 use Rattle.std.specs.Str.{bytes_eq}
 use Rattle.fraction_theory.specs.Fraction.{Fraction, over}
 use Rattle.fraction_theory.specs.declared.Sign.{Sign}
-use Rattle.fraction_theory.specs.declared.Sign.TheVariants.{Below, Zero, Above}
+use Rattle.fraction_theory.specs.Signs.{sign_of, sign_of_int}
 use Rattle.scaled_decimal.specs.declared.DecimalFault.{DecimalFault}
 use Rattle.scaled_decimal.specs.declared.DecimalFault.TheVariants.{BadNumber, NotFinite, TooFine, OutOfRange}
-use Rattle.scaled_decimal.specs.Decimal.{Decimal, Denotes, IsNumber, IsNotFinite, is_mark, is_point, signed, digits_of, tens_above, tens_under}
+use Rattle.scaled_decimal.specs.Decimal.{Decimal, Denotes, IsNumber, IsNotFinite, is_mark, is_point, signed, digits_number, tens_above, tens_under}
 
 -- The value is this many units of 10^-places. Or the text is no number, or infinite or no value, or the value is no whole number of units, or one out of range.
 abbrev pub Reads : ℕ → List ℕ → Result ℤ DecimalFault → Type 0
@@ -23,14 +22,9 @@ Reads places bytes (Err OutOfRange) = (n : ℤ) × Denotes bytes (over n (10 ^ p
 abbrev pub OneReading : Type 0
 OneReading = (places : ℕ) (bytes : List ℕ) (r s : Result ℤ DecimalFault) → Reads places bytes r → Reads places bytes s → r ≡ s
 
-abbrev pub sign_of_number : ℤ → Sign
-sign_of_number (pos zero) = Zero
-sign_of_number (pos (suc n)) = Above
-sign_of_number (negsuc n) = Below
-
 -- the sign of the value, or the text has none
 abbrev pub HasSign : List ℕ → Result Sign DecimalFault → Type 0
-HasSign bytes (Ok sign) = (x : Fraction) × Denotes bytes x × (sign ≡ sign_of_number x.num)
+HasSign bytes (Ok sign) = (x : Fraction) × Denotes bytes x × (sign ≡ sign_of x)
 HasSign bytes (Err BadNumber) = ¬ IsNumber bytes
 HasSign bytes (Err NotFinite) = IsNotFinite bytes
 HasSign bytes (Err TooFine) = ⊥
@@ -98,10 +92,10 @@ whole_number negative top bottom = if top % bottom == 0 then in_range negative (
 
 -- the number of units of 10^-places in a decimal
 unfoldable pub units_in : ℕ → Decimal → Result ℤ DecimalFault
-units_in places d = whole_number d.negative (digits_of d * 10 ^ (tens_above d + places)) (10 ^ tens_under d)
+units_in places d = whole_number d.negative (digits_number d * 10 ^ (tens_above d + places)) (10 ^ tens_under d)
 
 abbrev pub sign_of_decimal : Decimal → Result Sign DecimalFault
-sign_of_decimal d = Ok (sign_of_number (signed d.negative (digits_of d)))
+sign_of_decimal d = Ok (sign_of_int (signed d.negative (digits_number d)))
 
 -- what `read`, `sign_of` and `is_number` give
 unfoldable pub units_of : ℕ → List ℕ → Result ℤ DecimalFault

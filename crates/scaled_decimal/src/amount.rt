@@ -4,8 +4,9 @@ ghost use Rattle.std.specs.Prelude.{◌≡◌, ℕ, ◌+◌, ◌*◌, ◌^◌, �
 ghost use Rattle.std.specs.Char.{is_ascii_digit, digit_value};
 ghost use Rattle.std.specs.List.{AllPass};
 ghost use Rattle.std.specs.Str.Parse.{digits_value, digits_value_after};
-ghost use Rattle.scaled_decimal.specs.Decimal.{digits_of, signed};
-ghost use Rattle.scaled_decimal.specs.Reading.{whole_number, units_in, sign_of_number};
+ghost use Rattle.scaled_decimal.specs.Decimal.{digits_number, signed};
+ghost use Rattle.fraction_theory.specs.Signs.{sign_of_int};
+ghost use Rattle.scaled_decimal.specs.Reading.{whole_number, units_in};
 ghost use Rattle.scaled_decimal.specs.View.{view, HasDigits};
 ghost use Rattle.scaled_decimal.specs.Amount.{IsSignificand, EndsInNoZero};
 
@@ -84,7 +85,7 @@ fn with_digits(front: Significand, digits: &[u8]) -> Significand
 
 fn significand_of(numeral: &Numeral<'_>) -> Significand
     requires { HasDigits (view numeral.now) }
-    ensures number { IsSignificand (digits_of (view numeral.now)) result.size result.zeros }
+    ensures number { IsSignificand (digits_number (view numeral.now)) result.size result.zeros }
     ensures cut_off { result.size ≤ 2 ^ 63 }
 {
     let whole = with_digits(Significand { size: 0, zeros: 0 }, numeral.whole);
@@ -106,7 +107,7 @@ fn exponent_size(digits: &[u8]) -> u128
 /// The sign of the decimal's value.
 pub fn sign_of_parts(numeral: &Numeral<'_>) -> Sign
     requires { HasDigits (view numeral.now) }
-    ensures { result ≡ sign_of_number (signed numeral.now.negative (digits_of (view numeral.now))) }
+    ensures { result ≡ sign_of_int (signed numeral.now.negative (digits_number (view numeral.now))) }
 {
     if significand_of(numeral).size == 0 {
         Sign::Zero
