@@ -1,3 +1,4 @@
+pub mod FillingLemmas
 pub mod Extending
 pub mod IntSums
 pub mod PlacesLemmas

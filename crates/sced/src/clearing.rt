@@ -4,9 +4,10 @@
 //! all blocks by price fills what the fixed parts and the demands leave: a sell block fills by
 //! selling, a buy block by giving back. Ties go by block order.
 
-ghost use Rattle.std.specs.Prelude.{◌≡◌, ◌≤◌, ◌<◌, ◌*◌, ◌^◌, ◌⊎◌, pos, ◌≤ℤ◌, ◌<ℤ◌, ◌+◌, ◌-ℤ◌, unsigned_abs, [], length, vec_len, All, IfOk, IfSome, IfNone};
+ghost use Rattle.std.specs.Prelude.{◌≡◌, ◌≤◌, ◌<◌, ◌*◌, ◌^◌, ◌⊎◌, pos, ◌≤ℤ◌, ◌<ℤ◌, ◌+◌, ◌-ℤ◌, unsigned_abs, [], length, vec_len, slice_index_or, ◌≢◌, All, IfOk, IfSome, Decides};
 ghost use Rattle.market_model.specs.Market.{most_buses, most_units, most_blocks, IsDatum, IsBus};
-ghost use Rattle.sced.specs.Filling.{int_sum, demand_of, fixed_of, bought_of, below_of, on_side, IsFillingPrice};
+ghost use Rattle.sced.specs.Filling.{int_sum, demand_of, fixed_of, bought_of, below_of, level_of, on_side, accepted_of, no_block, Fills, IsLess, IsReached};
+ghost use Rattle.sced.specs.Paying.{AllPlaces};
 ghost use Rattle.fraction_theory.specs.Fraction.{whole, neg_ℚ, ◌*ℚ◌};
 ghost use Rattle.market_model.specs.Dispatch.{signed};
 ghost use Rattle.market_model.specs.Optimality.{welfare as welfare_of};
@@ -88,60 +89,6 @@ fn bought(blocks: &[Block]) -> i128
     sum
 }
 
-/// The first price, of prices in ascending order with their quantities, at which the quantities
-/// up to it fill what is to be filled.
-fn filling_price(stairs: &[(i64, i64)], left: i128) -> Option<i64>
-    requires few { length stairs.now ≤ most_blocks }
-    requires prices { All (λ stair. IsDatum stair.0) stairs.now }
-    ensures price { IfSome result IsDatum }
-    ensures filled { IfSome result (λ price. IsFillingPrice stairs.now left price) }
-    ensures short { IfNone result (int_sum (λ stair. stair.1) stairs.now <ℤ left ⊎ (stairs.now ≡ [])) }
-{
-    let mut filled = 0i128;
-    for (price, quantity) in stairs {
-        filled += i128::from(*quantity);
-        if left <= filled {
-            return Some(*price);
-        }
-    }
-    None
-}
-
-/// The prices of blocks with their quantities, in ascending order.
-fn stairs(alloc: Global, blocks: &[Block]) -> Result<Vec<(i64, i64)>, Memory>
-    requires { All (λ block. IsDatum block.price) blocks.now }
-    ensures count { IfOk result (λ stairs. vec_len stairs ≡ length blocks.now) }
-    ensures prices { IfOk result (λ stairs. All (λ stair. IsDatum stair.0) stairs.items) }
-{
-    let mut stairs = Vec::new(alloc);
-    for block in blocks {
-        if stairs.push((block.price, block.quantity)).is_err() {
-            return Err(Memory);
-        }
-    }
-    if stairs.sort().is_err() {
-        return Err(Memory);
-    }
-    Ok(stairs)
-}
-
-/// The price of energy, where blocks can fill what is to be filled: 0 where there is nothing to
-/// fill and no block.
-fn energy_price(alloc: Global, blocks: &[Block], left: i128) -> Result<Option<i64>, Memory>
-    requires few { length blocks.now ≤ most_blocks }
-    requires prices { All (λ block. IsDatum block.price) blocks.now }
-    ensures { IfOk result (λ price. IfSome price IsDatum) }
-{
-    if left < 0 {
-        return Ok(None);
-    }
-    if left == 0 && blocks.is_empty() {
-        return Ok(Some(0));
-    }
-    let stairs = stairs(alloc, blocks)?;
-    Ok(filling_price(stairs.as_slice(), left))
-}
-
 /// What a block can fill at a price below that of energy.
 fn filled_below(block: &Block, energy: i64) -> i128
     ensures value { result ≡ below_of energy block.now }
@@ -167,22 +114,93 @@ fn below(blocks: &[Block], energy: i64) -> i128
     sum
 }
 
+/// What a block can fill at the price of energy itself.
+fn filled_level(block: &Block, energy: i64) -> i128
+    ensures value { result ≡ level_of energy block.now }
+    ensures bound { unsigned_abs result ≤ 2 ^ 64 }
+{
+    if block.price == energy {
+        i128::from(block.quantity)
+    } else {
+        0
+    }
+}
+
+/// How much of the blocks at the price of energy there is.
+fn level(blocks: &[Block], energy: i64) -> i128
+    requires { length blocks.now ≤ most_blocks }
+    ensures value { result ≡ int_sum (level_of energy) blocks.now }
+    ensures bound { unsigned_abs result ≤ 2 ^ 64 * most_blocks }
+{
+    let mut sum = 0i128;
+    for block in blocks {
+        sum += filled_level(block, energy);
+    }
+    sum
+}
+
+/// Whether blocks can fill what is left at a price of energy: those below it no more than that,
+/// with those at it no less.
+fn reaches(blocks: &[Block], energy: i64, left: i128) -> bool
+    requires { length blocks.now ≤ most_blocks }
+    ensures { Decides result (IsReached energy left blocks.now) }
+{
+    let below = below(blocks, energy);
+    below <= left && left <= below + level(blocks, energy)
+}
+
+/// The price of energy: the least price of a block at which the blocks fill what is left, or 0
+/// where there is nothing to fill and no block.
+fn energy_price(blocks: &[Block], left: i128) -> Option<i64>
+    requires few { length blocks.now ≤ most_blocks }
+    requires prices { All (λ block. IsDatum block.price) blocks.now }
+    ensures price { IfSome result IsDatum }
+    ensures reached { IfSome result (λ energy. IsReached energy left blocks.now) }
+{
+    if left == 0 && blocks.is_empty() {
+        return Some(0);
+    }
+    let mut energy: Option<i64> = None;
+    for block in blocks {
+        let dearer = match energy {
+            Some(least) => least <= block.price,
+            None => false,
+        };
+        if !dearer && reaches(blocks, block.price, left) {
+            energy = Some(block.price);
+        }
+    }
+    energy
+}
+
+/// How much a block at the price of energy fills, where so much is left for such blocks.
+fn filled_at_price(quantity: i64, left: i128) -> i64
+    requires { pos 0 ≤ℤ quantity }
+    ensures low { pos 0 ≤ℤ result }
+    ensures high { result ≤ℤ quantity }
+    ensures less { pos 0 ≤ℤ left → IsLess result left quantity }
+{
+    if left <= 0 {
+        0
+    } else if left < i128::from(quantity) {
+        left as i64
+    } else {
+        quantity
+    }
+}
+
 /// How much a block fills, where so much is left for those at the price of energy.
 fn filled_by(block: &Block, energy: i64, left: i128) -> i64
     requires { pos 0 ≤ℤ block.now.quantity }
-    ensures low { pos 0 ≤ℤ result }
-    ensures high { result ≤ℤ block.now.quantity }
-    ensures cheap { block.now.price <ℤ energy → result ≡ block.now.quantity }
-    ensures dear { energy <ℤ block.now.price → result ≡ pos 0 }
+    ensures fills { Fills energy block.now result }
+    ensures less { block.now.price ≡ energy → pos 0 ≤ℤ left → IsLess result left block.now.quantity }
 {
     if block.price < energy {
         block.quantity
-    } else if energy < block.price || left <= 0 {
+    } else if energy < block.price {
         0
-    } else if left < i128::from(block.quantity) {
-        left as i64
     } else {
-        block.quantity
+        filled_at_price(block.quantity, left)
     }
 }
 
@@ -202,7 +220,9 @@ fn accepted_by(block: &Block, filled: i64) -> i64
 /// What is left to the blocks at the price of energy behind one that fills so much.
 fn left_behind(block: &Block, energy: i64, left: i128, filled: i64) -> i128
     requires { unsigned_abs left < 2 ^ 100 }
-    ensures { unsigned_abs result ≤ unsigned_abs left + 2 ^ 64 }
+    ensures same { block.now.price ≡ energy → result ≡ left -ℤ filled }
+    ensures other { block.now.price ≢ energy → result ≡ left }
+    ensures bound { unsigned_abs result ≤ unsigned_abs left + 2 ^ 64 }
 {
     if block.price == energy {
         left - i128::from(filled)
@@ -211,24 +231,47 @@ fn left_behind(block: &Block, energy: i64, left: i128, filled: i64) -> i128
     }
 }
 
-/// The accepted MW of each block at a price of energy.
+/// How much each block fills at a price of energy: all that it has below that price, and at it in
+/// block order what is left.
+fn fills(alloc: Global, blocks: &[Block], energy: i64, left: i128) -> Result<Vec<i64>, Memory>
+    requires few { length blocks.now ≤ most_blocks }
+    requires blocks { All (λ block. pos 0 ≤ℤ block.quantity) blocks.now }
+    requires left { unsigned_abs left ≤ 2 ^ 64 * 6000 }
+    requires reached { IsReached energy left blocks.now }
+    ensures count { IfOk result (λ filled. vec_len filled ≡ length blocks.now) }
+    ensures each { IfOk result (λ filled. AllPlaces (λ place. Fills energy (slice_index_or blocks.now place no_block)) filled.items) }
+    ensures all { IfOk result (λ filled. int_sum (λ amount. amount) filled.items ≡ left) }
+    ensures fits { IfOk result (λ filled. All IsDatum filled.items) }
+{
+    let mut filled = Vec::new(alloc);
+    let mut at_price = left - below(blocks, energy);
+    for block in blocks {
+        let amount = filled_by(block, energy, at_price);
+        at_price = left_behind(block, energy, at_price, amount);
+        if filled.push(amount).is_err() {
+            return Err(Memory);
+        }
+    }
+    Ok(filled)
+}
+
+/// The accepted MW of each block, of which each fills so much.
 fn dispatch<N: Exact>(
     alloc: Global,
     blocks: &[Block],
     energy: i64,
-    left: i128,
+    filled: &[i64],
 ) -> Result<List<N>, Memory>
-    requires few { length blocks.now ≤ most_blocks }
-    requires blocks { All (λ block. pos 0 ≤ℤ block.quantity) blocks.now }
-    requires left { unsigned_abs left ≤ 2 ^ 64 * 6000 }
-    ensures { IfOk result (λ accepted. length accepted ≡ length blocks.now) }
+    requires count { length filled.now ≡ length blocks.now }
+    requires each { AllPlaces (λ place. Fills energy (slice_index_or blocks.now place no_block)) filled.now }
+    requires fits { All IsDatum filled.now }
+    ensures count { IfOk result (λ accepted. length accepted ≡ length blocks.now) }
+    ensures each { IfOk result (AllPlaces (λ place mw. N.value mw ≡ whole (accepted_of (slice_index_or blocks.now place no_block) (slice_index_or filled.now place (pos 0))))) }
 {
     let mut accepted = List::new(alloc);
-    let mut at_price = left - below(blocks, energy);
-    for block in blocks {
-        let filled = filled_by(block, energy, at_price);
-        at_price = left_behind(block, energy, at_price, filled);
-        accepted.push(N::of_parts(accepted_by(block, filled), 1))?;
+    for (place, block) in blocks.iter().enumerate() {
+        let mw: N = datum(accepted_by(block, filled[place]));
+        accepted.push(mw)?;
     }
     Ok(accepted)
 }
@@ -346,11 +389,12 @@ pub fn clear<N: Exact>(alloc: Global, market: &Market) -> Result<Answer<N>, Clea
     let blocks = market.blocks().slice();
     let taken = demand(market.buses().slice()) + bought(blocks);
     let left = taken - fixed_output(market.units().slice());
-    let energy = match energy_price(alloc, blocks, left)? {
+    let energy = match energy_price(blocks, left) {
         Some(energy) => energy,
         None => return Err(ClearFault::Infeasible(farkas(alloc, market, left >= 0)?)),
     };
-    let dispatch: List<N> = dispatch(alloc, blocks, energy, left)?;
+    let filled = fills(alloc, blocks, energy, left)?;
+    let dispatch: List<N> = dispatch(alloc, blocks, energy, filled.as_slice())?;
     let energy = N::of_parts(energy, 1);
     let prices = prices(alloc, market.buses().len(), energy)?;
     let welfare = welfare(market, dispatch.slice())?;

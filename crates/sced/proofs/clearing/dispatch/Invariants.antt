@@ -1,9 +1,12 @@
-use Rattle.std.proofs.Common.{◌≡◌, ◌+◌, ◌*◌, ◌^◌, ◌≤◌, length}
-use Rattle.std.specs.Prelude.{unsigned_abs}
+use Rattle.std.proofs.Common.{◌≡◌, length, pos}
+use Rattle.std.specs.Prelude.{slice_index_or}
+use Rattle.fraction_theory.specs.Fraction.{whole}
+use Rattle.sced.specs.Filling.{accepted_of, no_block}
+use Rattle.sced.specs.Paying.{AllPlaces}
 use Rattle.sced.proofs.clearing.dispatch.Given as goal
 
-abbrev pub invariant-loop-block : goal.invariant-loop-block
-invariant-loop-block g l = record {
-  count : length l.accepted ≡ l.block-index;
-  bound : unsigned_abs l.at_price ≤ 2 ^ 64 * (10000 + l.block-index);
+abbrev pub invariant-loop-place : goal.invariant-loop-place
+invariant-loop-place g l = record {
+  count : length l.accepted ≡ l.place;
+  each : AllPlaces (λ place mw. g.N.Exact.value mw ≡ whole (accepted_of (slice_index_or l.blocks place no_block) (slice_index_or l.filled place (pos 0)))) l.accepted;
 }
