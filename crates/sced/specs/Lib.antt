@@ -1,7 +1,9 @@
 pub mod BusReading
 pub mod Filling
 pub mod Fitting
+pub mod Gathering
 pub mod Networks
+pub mod OfferTable
 pub mod Offers
 pub mod PlainCases
 pub mod Runs

@@ -1,6 +1,7 @@
 //! The live buses and units of a case.
 
-ghost use Rattle.std.specs.Prelude.{◌≡◌, ℕ, ◌≤ℤ◌, length, IfOk};
+ghost use Rattle.std.specs.Prelude.{◌≡◌, ℕ, ◌≤ℤ◌, ◌++◌, length, IfOk};
+ghost use Rattle.sced.specs.Gathering.{listed};
 
 use crate::plain_case::Field;
 use market_model::{Bus, List, Memory, Unit, UnitList};
@@ -51,8 +52,22 @@ pub enum NetFault {
 }
 
 impl From<Memory> for NetFault {
+    ghost use Rattle.sced.specs.declared.live_parts.NetFault.TheVariants as net_fault;
+
+    ghost from_gives = { λ _ fault. fault ≡ net_fault.Memory };
+
     fn from(_refused: Memory) -> NetFault {
         NetFault::Memory
+    }
+}
+
+/// Adds an item at the end, where there is one.
+pub fn push_some<T: Drop>(list: &mut List<T>, item: Option<T>) -> Result<(), Memory>
+    ensures { IfOk result (λ _. list.new ≡ list.old ++ listed item) }
+{
+    match item {
+        Some(item) => list.push(item),
+        None => Ok(()),
     }
 }
 
