@@ -1,3 +1,4 @@
+pub mod BusLemmas
 pub mod Extending
 pub mod Gathered
 pub mod IntSums

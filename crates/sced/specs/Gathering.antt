@@ -1,5 +1,5 @@
 -- Rows that are read one after the other, each in the light of what those before it gave.
-use Rattle.std.specs.Prelude.{ℕ, List, [], ◌∷◌, ◌++◌, ◌+◌, Option, Some, None, Result, Ok, Err}
+use Rattle.std.specs.Prelude.{ℕ, List, [], ◌∷◌, ◌++◌, ◌+◌, Option, Some, None, Result, Ok}
 use Rattle.csv_table.specs.Table.{Record, and_then}
 
 -- no item, or one

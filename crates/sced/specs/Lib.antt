@@ -2,6 +2,7 @@ pub mod BusReading
 pub mod Filling
 pub mod Fitting
 pub mod Gathering
+pub mod NetworkReading
 pub mod Networks
 pub mod OfferTable
 pub mod Offers

@@ -92,12 +92,15 @@ pub struct Network {
 
 ghost use Rattle.market_model.specs.Market.{IsDatum, IsUnit};
 ghost use Rattle.sced.specs.Networks.{IsNetUnit, IsNetwork, AreUnits};
+ghost use Rattle.sced.specs.NetworkReading.{unit_within, unit_list_of};
 
 /// The unit with its fixed part, the output nearest 0, and its room above and below that.
+#[tactic(auto, unfolding(crate::specs::NetworkReading::unit_within))]
 fn unit_of(unit: &NetUnit) -> Unit
     requires order { unit.now.low ≤ℤ unit.now.high }
     requires low { IsDatum unit.now.low }
-    ensures { (buses : ℕ) → IsNetUnit buses unit.now → IsUnit buses result }
+    ensures unit { (buses : ℕ) → IsNetUnit buses unit.now → IsUnit buses result }
+    ensures is { result ≡ unit_within unit.now }
 {
     let fixed = if unit.low > 0 {
         unit.low
@@ -119,7 +122,8 @@ impl Network {
     /// The number of gen rows and the live units.
     pub fn unit_list(&self, alloc: Global) -> Result<UnitList, Memory>
         requires { IsNetwork self.now }
-        ensures { IfOk result (AreUnits (length self.now.buses)) }
+        ensures units { IfOk result (AreUnits (length self.now.buses)) }
+        ensures is { IfOk result (λ list. list ≡ unit_list_of self.now) }
     {
         let mut units = List::new(alloc);
         for unit in self.units.slice() {
