@@ -1,7 +1,11 @@
 pub mod FillingLemmas
+pub mod BusLemmas
 pub mod Extending
+pub mod Gathered
 pub mod IntSums
 pub mod PlacesLemmas
 pub mod PlaceSums
 pub mod SettlingLemmas
+pub mod OfferLemmas
 pub mod SixWords
+pub mod StairLemmas

@@ -1,7 +1,10 @@
 pub mod BusReading
 pub mod Filling
 pub mod Fitting
+pub mod Gathering
+pub mod NetworkReading
 pub mod Networks
+pub mod OfferTable
 pub mod Offers
 pub mod Paying
 pub mod PlainCases

@@ -1,6 +1,7 @@
 //! The live buses and units of a case.
 
-ghost use Rattle.std.specs.Prelude.{◌≡◌, ℕ, ◌≤ℤ◌, length, IfOk};
+ghost use Rattle.std.specs.Prelude.{◌≡◌, ℕ, ◌≤ℤ◌, ◌++◌, length, IfOk};
+ghost use Rattle.sced.specs.Gathering.{listed};
 
 use crate::plain_case::Field;
 use market_model::{Bus, List, Memory, Unit, UnitList};
@@ -51,8 +52,22 @@ pub enum NetFault {
 }
 
 impl From<Memory> for NetFault {
+    ghost use Rattle.sced.specs.declared.live_parts.NetFault.TheVariants as net_fault;
+
+    ghost from_gives = { λ _ fault. fault ≡ net_fault.Memory };
+
     fn from(_refused: Memory) -> NetFault {
         NetFault::Memory
+    }
+}
+
+/// Adds an item at the end, where there is one.
+pub fn push_some<T: Drop>(list: &mut List<T>, item: Option<T>) -> Result<(), Memory>
+    ensures { IfOk result (λ _. list.new ≡ list.old ++ listed item) }
+{
+    match item {
+        Some(item) => list.push(item),
+        None => Ok(()),
     }
 }
 
@@ -77,12 +92,15 @@ pub struct Network {
 
 ghost use Rattle.market_model.specs.Market.{IsDatum, IsUnit};
 ghost use Rattle.sced.specs.Networks.{IsNetUnit, IsNetwork, AreUnits};
+ghost use Rattle.sced.specs.NetworkReading.{unit_within, unit_list_of};
 
 /// The unit with its fixed part, the output nearest 0, and its room above and below that.
+#[tactic(auto, unfolding(crate::specs::NetworkReading::unit_within))]
 fn unit_of(unit: &NetUnit) -> Unit
     requires order { unit.now.low ≤ℤ unit.now.high }
     requires low { IsDatum unit.now.low }
-    ensures { (buses : ℕ) → IsNetUnit buses unit.now → IsUnit buses result }
+    ensures unit { (buses : ℕ) → IsNetUnit buses unit.now → IsUnit buses result }
+    ensures is { result ≡ unit_within unit.now }
 {
     let fixed = if unit.low > 0 {
         unit.low
@@ -104,7 +122,8 @@ impl Network {
     /// The number of gen rows and the live units.
     pub fn unit_list(&self, alloc: Global) -> Result<UnitList, Memory>
         requires { IsNetwork self.now }
-        ensures { IfOk result (AreUnits (length self.now.buses)) }
+        ensures units { IfOk result (AreUnits (length self.now.buses)) }
+        ensures is { IfOk result (λ list. list ≡ unit_list_of self.now) }
     {
         let mut units = List::new(alloc);
         for unit in self.units.slice() {

@@ -1,12 +1,15 @@
 //! Reading a network from the matrices of a case.
 
-ghost use Rattle.std.specs.Prelude.{◌≡◌, ℕ, ◌+◌, ◌≤◌, ◌<◌, ◌==◌, [], ◌∷◌, ◌++◌, length, All, IfOk, IfSome, None};
+ghost use Rattle.std.specs.Prelude.{◌≡◌, ◌≢◌, ℕ, ◌+◌, ◌*◌, ◌^◌, ◌≤◌, ◌<◌, ◌==◌, ◌||◌, [], ◌∷◌, ◌++◌, length, All, IfOk, IfErr, IfSome, MatchResult, None, Err};
 ghost use Rattle.std.specs.Map.{lookup};
 ghost use Rattle.market_model.specs.Market.{IsDatum, IsBus, most_buses, most_units};
+ghost use Rattle.sced.specs.Gathering.{gather, listed};
+ghost use Rattle.sced.specs.PlainCases.{matrix_of};
 ghost use Rattle.sced.specs.Networks.{IsNetUnit, IsNetwork, ArePlaces};
-ghost use Rattle.sced.specs.BusReading.{AreBusRows};
+ghost use Rattle.sced.specs.NetworkReading.{row_at, number_in, counted_in, demands_in, row_of_type, next_place, bus_row_after, bus_rows, standing_at, stands, service_in, bounds_in, unit_where, unit_row, few_rows, network_of};
+ghost use Rattle.sced.specs.BusReading.{AreBusRows, HoldBusRows};
 
-use crate::live_parts::{NetFault, NetUnit, Network, Why};
+use crate::live_parts::{NetFault, NetUnit, Network, Why, push_some};
 use crate::plain_case::{Field, RawCase};
 use indexmap::IndexMap;
 use market_model::{Bus, List, MW_PLACES};
@@ -19,15 +22,20 @@ const MOST_ROWS: usize = 1000;
 /// The bus rows by number: the place among the live buses, where the bus is not isolated.
 pub type Places = IndexMap<u32, Option<usize>>;
 
-/// What BUS_TYPE says.
-#[derive(Clone, Copy, PartialEq, Eq, Debug)]
-enum BusType {
-    Reference,
-    Isolated,
-    Other,
+/// The greatest bus number.
+const MOST_NUMBER: u32 = 2147483647;
+
+/// A bus row: its number, whether it is a reference, and the bus where it is live.
+#[derive(Clone, Copy)]
+pub struct BusRow {
+    pub number: u32,
+    pub is_reference: bool,
+    pub live: Option<Bus>,
 }
 
-fn cell_fault(field: Field, row: usize, col: usize, why: Why) -> NetFault {
+fn cell_fault(field: Field, row: usize, col: usize, why: Why) -> NetFault
+    ensures { result ≡ NetFault.Cell field row col why }
+{
     NetFault::Cell {
         field,
         row,
@@ -46,7 +54,8 @@ fn number(
 ) -> Result<i64, NetFault>
     requires place { (1 ≤ row) × (1 ≤ col) }
     requires places { places ≤ 18 }
-    ensures { IfOk result IsDatum }
+    ensures datum { IfOk result IsDatum }
+    ensures is { result ≡ number_in field row (row_at (matrix_of case.now field) row) col places }
 {
     match read(case.cell(field, row, col), places) {
         Ok(number) => Ok(number),
@@ -54,34 +63,26 @@ fn number(
     }
 }
 
-/// The number of a bus row.
-fn bus_number(case: &RawCase<'_>, row: usize) -> Result<u32, NetFault>
-    requires { 1 ≤ row }
-    ensures { IfOk result (λ number. 1 ≤ number) }
+/// The whole number in a bus row's cell, from 1 to the most that its column takes.
+#[tactic(auto, unfolding(crate::specs::NetworkReading::counted_in))]
+fn counted(case: &RawCase<'_>, row: usize, col: usize, most: u32) -> Result<u32, NetFault>
+    requires { (1 ≤ row) × (1 ≤ col) }
+    ensures { result ≡ counted_in row (row_at case.now.bus row) col most }
 {
-    let number = number(case, Field::Bus, row, 1, 0)?;
-    if 1 <= number && number <= 2147483647 {
+    let number = number(case, Field::Bus, row, col, 0)?;
+    if 1 <= number && number <= i64::from(most) {
         Ok(number as u32)
     } else {
-        Err(cell_fault(Field::Bus, row, 1, Why::Bounds))
-    }
-}
-
-fn bus_type(case: &RawCase<'_>, row: usize) -> Result<BusType, NetFault>
-    requires { 1 ≤ row }
-{
-    match number(case, Field::Bus, row, 2, 0)? {
-        1 | 2 => Ok(BusType::Other),
-        3 => Ok(BusType::Reference),
-        4 => Ok(BusType::Isolated),
-        _ => Err(cell_fault(Field::Bus, row, 2, Why::Bounds)),
+        Err(cell_fault(Field::Bus, row, col, Why::Bounds))
     }
 }
 
 /// The demands of a live bus.
+#[tactic(auto, unfolding(crate::specs::NetworkReading::demands_in))]
 fn live_bus(case: &RawCase<'_>, row: usize, bus: u32) -> Result<Bus, NetFault>
     requires { 1 ≤ row }
-    ensures { IfOk result IsBus }
+    ensures bus { IfOk result IsBus }
+    ensures is { result ≡ demands_in row (row_at case.now.bus row) bus }
 {
     let pd = number(case, Field::Bus, row, 3, MW_PLACES)?;
     let gs = number(case, Field::Bus, row, 5, MW_PLACES)?;
@@ -90,6 +91,31 @@ fn live_bus(case: &RawCase<'_>, row: usize, bus: u32) -> Result<Bus, NetFault>
         pd,
         gs,
     })
+}
+
+/// The row of a bus of a type: 3 is the reference, 4 is isolated.
+#[tactic(auto, unfolding(crate::specs::NetworkReading::row_of_type))]
+fn typed_row(case: &RawCase<'_>, row: usize, number: u32, code: u32) -> Result<BusRow, NetFault>
+    requires { 1 ≤ row }
+    ensures bus { IfOk result (λ bus. IfSome bus.live IsBus) }
+    ensures is { result ≡ row_of_type row (row_at case.now.bus row) number code }
+    ensures number { IfOk result (λ bus. bus.number ≡ number) }
+{
+    if code == 4 {
+        return Ok(BusRow {
+            number,
+            is_reference: false,
+            live: None,
+        });
+    }
+    match live_bus(case, row, number) {
+        Ok(bus) => Ok(BusRow {
+            number,
+            is_reference: code == 3,
+            live: Some(bus),
+        }),
+        Err(fault) => Err(fault),
+    }
 }
 
 /// The live buses so far, with all bus rows by number, and whether one is the reference.
@@ -103,7 +129,8 @@ pub struct BusRows {
 /// Notes that a row has this number, and its place among the live buses where it is live.
 fn note_place(places: &mut Places, number: u32, place: Option<usize>) -> Result<(), NetFault>
     requires { lookup (λ other. number == other) places.old.entries ≡ None }
-    ensures { IfOk result (λ _. places.new.entries ≡ places.old.entries ++ (number, place) ∷ []) }
+    ensures noted { IfOk result (λ _. places.new.entries ≡ places.old.entries ++ (number, place) ∷ []) }
+    ensures fault { IfErr result (λ fault. fault ≡ NetFault.Memory) }
 {
     match places.insert(number, place) {
         Ok(_) => Ok(()),
@@ -119,53 +146,71 @@ fn known(places: &Places, number: u32) -> Option<Option<usize>>
 }
 
 /// The same of any number.
+#[tactic(auto, unfolding(crate::specs::NetworkReading::standing_at))]
 fn known_at(places: &Places, number: i64) -> Option<Option<usize>>
-    ensures { (buses : ℕ) → ArePlaces buses places.now.entries → IfSome result (λ place. IfSome place (λ bus. bus < buses)) }
+    ensures { result ≡ standing_at places.now.entries number }
 {
-    match u32::try_from(number) {
-        Ok(number) => known(places, number),
-        Err(_) => None,
+    if 1 <= number && number <= i64::from(MOST_NUMBER) {
+        known(places, number as u32)
+    } else {
+        None
     }
 }
 
 /// Reads one more bus row.
-fn add_bus(rows: &mut BusRows, case: &RawCase<'_>, row: usize) -> Result<(), NetFault>
-    requires rows { AreBusRows rows.old }
-    requires row { 1 ≤ row }
-    ensures rows { IfOk result (λ _. AreBusRows rows.new) }
-    ensures count { IfOk result (λ _. length rows.new.buses ≤ length rows.old.buses + 1) }
+#[tactic(auto, unfolding(crate::specs::NetworkReading::bus_row_after))]
+fn read_bus(places: &Places, case: &RawCase<'_>, row: usize) -> Result<BusRow, NetFault>
+    requires { 1 ≤ row }
+    ensures bus { IfOk result (λ bus. IfSome bus.live IsBus) }
+    ensures new { IfOk result (λ bus. lookup (λ other. bus.number == other) places.now.entries ≡ None) }
+    ensures is { result ≡ bus_row_after places.now.entries row (row_at case.now.bus row) }
 {
-    let number = bus_number(case, row)?;
-    if known(&rows.places, number).is_some() {
+    let number = counted(case, row, 1, MOST_NUMBER)?;
+    if known(places, number).is_some() {
         return Err(NetFault::BusTwice { row });
     }
-    let place = match bus_type(case, row)? {
-        BusType::Isolated => None,
-        bus_type => {
-            let bus = live_bus(case, row, number)?;
-            rows.buses.push(bus)?;
-            if bus_type == BusType::Reference {
-                rows.has_reference = true;
-            }
-            Some(rows.buses.len() - 1)
-        }
-    };
-    note_place(&mut rows.places, number, place)
+    let code = counted(case, row, 2, 4)?;
+    typed_row(case, row, number, code)
+}
+
+/// Keeps a bus row that was read.
+fn keep_bus(rows: &mut BusRows, bus: BusRow) -> Result<(), NetFault>
+    requires new { lookup (λ other. bus.number == other) rows.old.places.entries ≡ None }
+    ensures buses { IfOk result (λ _. rows.new.buses ≡ rows.old.buses ++ listed bus.live) }
+    ensures places { IfOk result (λ _. rows.new.places.entries ≡ rows.old.places.entries ++ (bus.number, next_place (length rows.old.buses) bus.live) ∷ []) }
+    ensures reference { rows.new.has_reference ≡ (rows.old.has_reference || bus.is_reference) }
+    ensures fault { IfErr result (λ fault. fault ≡ NetFault.Memory) }
+{
+    rows.has_reference = rows.has_reference || bus.is_reference;
+    let place = place_after(rows.buses.len(), bus.live);
+    push_some(&mut rows.buses, bus.live)?;
+    note_place(&mut rows.places, bus.number, place)
+}
+
+/// The place of a bus behind so many live ones, where it is live.
+fn place_after(count: usize, live: Option<Bus>) -> Option<usize>
+    ensures { result ≡ next_place count live }
+{
+    match live {
+        Some(_) => Some(count),
+        None => None,
+    }
 }
 
 /// The live buses, with all bus rows by number.
-fn read_buses(alloc: Global, case: &RawCase<'_>, count: usize) -> Result<BusRows, NetFault>
-    requires { count ≤ most_buses }
+fn read_buses(alloc: Global, case: &RawCase<'_>) -> Result<BusRows, NetFault>
     ensures rows { IfOk result AreBusRows }
-    ensures count { IfOk result (λ rows. length rows.buses ≤ count) }
+    ensures count { IfOk result (λ rows. length rows.buses ≤ length case.now.bus) }
+    ensures is { MatchResult result (HoldBusRows case.now.bus) (λ fault. fault ≢ NetFault.Memory → bus_rows case.now.bus ≡ Err fault) }
 {
     let mut rows = BusRows {
         buses: List::new(alloc),
         places: IndexMap::new(alloc),
         has_reference: false,
     };
-    for row in 0..count {
-        add_bus(&mut rows, case, row + 1)?;
+    for row in 0..case.rows(Field::Bus) {
+        let bus = read_bus(&rows.places, case, row + 1)?;
+        keep_bus(&mut rows, bus)?;
     }
     if rows.has_reference {
         Ok(rows)
@@ -175,12 +220,10 @@ fn read_buses(alloc: Global, case: &RawCase<'_>, count: usize) -> Result<BusRows
 }
 
 /// The place of a gen row's bus, where that is live.
-fn unit_bus(case: &RawCase<'_>, places: &Places, row: usize) -> Result<Option<usize>, NetFault>
-    requires { 1 ≤ row }
-    ensures { (buses : ℕ) → ArePlaces buses places.now.entries → IfOk result (λ place. IfSome place (λ bus. bus < buses)) }
+fn standing(place: Option<Option<usize>>, row: usize) -> Result<Option<usize>, NetFault>
+    ensures { result ≡ stands row place }
 {
-    let number = number(case, Field::Gen, row, 1, 0)?;
-    match known_at(places, number) {
+    match place {
         Some(place) => Ok(place),
         None => Err(NetFault::NoBus {
             field: Field::Gen,
@@ -191,17 +234,21 @@ fn unit_bus(case: &RawCase<'_>, places: &Places, row: usize) -> Result<Option<us
 
 fn in_service(case: &RawCase<'_>, row: usize) -> Result<bool, NetFault>
     requires { 1 ≤ row }
+    ensures { result ≡ service_in row (row_at case.now.generators row) }
 {
     match sign_of(case.cell(Field::Gen, row, 8)) {
-        Ok(sign) => Ok(sign == Sign::Above),
+        Ok(Sign::Above) => Ok(true),
+        Ok(_) => Ok(false),
         Err(fault) => Err(cell_fault(Field::Gen, row, 8, Why::Decimal(fault))),
     }
 }
 
 /// The bounds of a live unit.
+#[tactic(auto, unfolding(crate::specs::NetworkReading::bounds_in))]
 fn live_unit(case: &RawCase<'_>, row: u32, bus: usize) -> Result<NetUnit, NetFault>
     requires { 1 ≤ row }
-    ensures { (buses : ℕ) → bus < buses → IfOk result (IsNetUnit buses) }
+    ensures unit { (buses : ℕ) → bus < buses → IfOk result (IsNetUnit buses) }
+    ensures is { result ≡ bounds_in row (row_at case.now.generators row) bus }
 {
     let high = number(case, Field::Gen, row as usize, 9, MW_PLACES)?;
     let low = number(case, Field::Gen, row as usize, 10, MW_PLACES)?;
@@ -216,37 +263,38 @@ fn live_unit(case: &RawCase<'_>, row: u32, bus: usize) -> Result<NetUnit, NetFau
     })
 }
 
-/// The unit of a gen row, where it is live.
-fn row_unit(case: &RawCase<'_>, places: &Places, row: u32) -> Result<Option<NetUnit>, NetFault>
+/// The unit of a gen row, where its bus is live and it is in service.
+#[tactic(auto, unfolding(crate::specs::NetworkReading::unit_where))]
+fn unit_at(
+    case: &RawCase<'_>,
+    row: u32,
+    bus: Option<usize>,
+    in_service: bool,
+) -> Result<Option<NetUnit>, NetFault>
     requires { 1 ≤ row }
-    ensures { (buses : ℕ) → ArePlaces buses places.now.entries → IfOk result (λ unit. IfSome unit (IsNetUnit buses)) }
+    ensures unit { (buses : ℕ) → IfSome bus (λ place. place < buses) → IfOk result (λ unit. IfSome unit (IsNetUnit buses)) }
+    ensures is { result ≡ unit_where row (row_at case.now.generators row) bus in_service }
 {
-    let bus = unit_bus(case, places, row as usize)?;
-    let in_service = in_service(case, row as usize)?;
     match bus {
-        Some(bus) if in_service => Ok(Some(live_unit(case, row, bus)?)),
+        Some(bus) if in_service => match live_unit(case, row, bus) {
+            Ok(unit) => Ok(Some(unit)),
+            Err(fault) => Err(fault),
+        },
         _ => Ok(None),
     }
 }
 
-/// Adds the unit of a gen row, where it is live.
-fn add_unit(
-    units: &mut List<NetUnit>,
-    case: &RawCase<'_>,
-    places: &Places,
-    row: u32,
-) -> Result<(), NetFault>
+/// The unit of a gen row, where it is live.
+#[tactic(auto, unfolding(crate::specs::NetworkReading::unit_row))]
+fn read_unit(case: &RawCase<'_>, places: &Places, row: u32) -> Result<Option<NetUnit>, NetFault>
     requires { 1 ≤ row }
-    ensures count { IfOk result (λ _. length units.new ≤ length units.old + 1) }
-    ensures units { (buses : ℕ) → ArePlaces buses places.now.entries → All (IsNetUnit buses) units.old → IfOk result (λ _. All (IsNetUnit buses) units.new) }
+    ensures unit { (buses : ℕ) → ArePlaces buses places.now.entries → IfOk result (λ unit. IfSome unit (IsNetUnit buses)) }
+    ensures is { result ≡ unit_row places.now.entries row (row_at case.now.generators row) }
 {
-    match row_unit(case, places, row)? {
-        Some(unit) => {
-            units.push(unit)?;
-            Ok(())
-        }
-        None => Ok(()),
-    }
+    let number = number(case, Field::Gen, row as usize, 1, 0)?;
+    let bus = standing(known_at(places, number), row as usize)?;
+    let in_service = in_service(case, row as usize)?;
+    unit_at(case, row, bus, in_service)
 }
 
 /// The live units.
@@ -256,20 +304,25 @@ fn read_units(
     places: &Places,
     count: usize,
 ) -> Result<List<NetUnit>, NetFault>
-    requires { count ≤ most_units }
+    requires count { count ≤ most_units }
+    requires all { count ≡ length case.now.generators }
     ensures count { IfOk result (λ units. length units ≤ count) }
     ensures units { (buses : ℕ) → ArePlaces buses places.now.entries → IfOk result (All (IsNetUnit buses)) }
+    ensures is { result ≢ Err NetFault.Memory → result ≡ gather (λ _. unit_row places.now.entries) [] 1 case.now.generators }
 {
     let mut units = List::new(alloc);
     for row in 0..count {
-        add_unit(&mut units, case, places, row as u32 + 1)?;
+        let unit = read_unit(case, places, row as u32 + 1)?;
+        push_some(&mut units, unit)?;
     }
     Ok(units)
 }
 
 /// The number of rows of a matrix, which is at most that of a network.
+#[tactic(auto, unfolding(crate::specs::NetworkReading::few_rows))]
 fn row_count(case: &RawCase<'_>, field: Field) -> Result<usize, NetFault>
-    ensures { IfOk result (λ count. count ≤ 1000) }
+    ensures few { IfOk result (λ count. (count ≤ 1000) × (count ≡ length (matrix_of case.now field))) }
+    ensures is { result ≡ few_rows field (matrix_of case.now field) }
 {
     let count = case.rows(field);
     if count > MOST_ROWS {
@@ -280,12 +333,14 @@ fn row_count(case: &RawCase<'_>, field: Field) -> Result<usize, NetFault>
 }
 
 /// The network of a case, whose branch rows are not read.
+#[tactic(auto, unfolding(crate::specs::NetworkReading::network_of))]
 pub fn network(alloc: Global, case: &RawCase<'_>) -> Result<Network, NetFault>
-    ensures { IfOk result IsNetwork }
+    ensures network { IfOk result IsNetwork }
+    ensures is { result ≢ Err NetFault.Memory → result ≡ network_of case.now }
 {
-    let bus_count = row_count(case, Field::Bus)?;
+    row_count(case, Field::Bus)?;
     let gen_count = row_count(case, Field::Gen)?;
-    let rows = read_buses(alloc, case, bus_count)?;
+    let rows = read_buses(alloc, case)?;
     let units = read_units(alloc, case, &rows.places, gen_count)?;
     Ok(Network {
         buses: rows.buses,

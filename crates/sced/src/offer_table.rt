@@ -1,11 +1,14 @@
 //! The table of offers and bids.
 
-ghost use Rattle.std.specs.Prelude.{◌≡◌, ◌+◌, ◌*◌, ◌^◌, ◌≤◌, ◌<◌, ◌↔◌, pos, ◌≤ℤ◌, unsigned_abs, length, All, IsTrue, IfOk, IfSome};
+ghost use Rattle.std.specs.Prelude.{◌≡◌, ◌≢◌, ℕ, ◌+◌, ◌*◌, ◌^◌, ◌≤◌, ◌<◌, ◌↔◌, ◌==◌, pos, ◌≤ℤ◌, ◌+ℤ◌, unsigned_abs, length, get_or, [], ◌∷◌, ◌++◌, Some, Ok, Err, All, IsTrue, IfOk, IfErr, IfSome, if◌then◌else◌};
+ghost use Rattle.std.specs.List.{position};
 ghost use Rattle.market_model.specs.Market.{IsDatum, IsBlock, most_units, most_blocks};
 ghost use Rattle.sced.specs.Networks.{AreBlocks};
+ghost use Rattle.sced.specs.Gathering.{gather, listed};
+ghost use Rattle.sced.specs.OfferTable.{number_in, side_in, offer_in, is_on_stair, stair_in, ends_of, follows, room_of, block_after, block_where, row_in, block_in, fault_of, blocks_of_table};
 ghost use Rattle.sced.specs.Offers.{MayFollow, OfferIsRead, StairIsBounded};
 
-use crate::live_parts::Why;
+use crate::live_parts::{Why, push_some};
 use csv_table::{FrameFault, Table, read_table};
 use market_model::{Block, List, MW_PLACES, Memory, PRICE_PLACES, Side, Unit, UnitList};
 use scaled_decimal::read;
@@ -41,6 +44,8 @@ pub enum OfferFault {
 }
 
 impl From<FrameFault> for OfferFault {
+    ghost from_gives = { λ frame fault. fault ≡ fault_of frame };
+
     fn from(fault: FrameFault) -> OfferFault {
         match fault {
             FrameFault::Header => OfferFault::Header,
@@ -52,6 +57,10 @@ impl From<FrameFault> for OfferFault {
 }
 
 impl From<Memory> for OfferFault {
+    ghost use Rattle.sced.specs.declared.offer_table.OfferFault.TheVariants as offer_fault;
+
+    ghost from_gives = { λ _ fault. fault ≡ offer_fault.Memory };
+
     fn from(_refused: Memory) -> OfferFault {
         OfferFault::Memory
     }
@@ -72,7 +81,8 @@ fn cell(table: &Table, row: usize, col: usize, places: u8) -> Result<i64, OfferF
     requires row { (row < length table.now) × (row + 2 < 2 ^ 64) }
     requires col { col < 8 }
     requires places { places ≤ 18 }
-    ensures { IfOk result IsDatum }
+    ensures datum { IfOk result IsDatum }
+    ensures is { result ≡ number_in (row + 2) (get_or table.now row []) col places }
 {
     match read(table.cell(row, col), places) {
         Ok(number) => Ok(number),
@@ -84,19 +94,30 @@ fn cell(table: &Table, row: usize, col: usize, places: u8) -> Result<i64, OfferF
     }
 }
 
+/// The side that a cell names.
+fn side_of(text: &[u8], line: usize) -> Result<Side, OfferFault>
+    ensures { result ≡ side_in line text.now }
+{
+    if text == b"sell".as_slice() {
+        Ok(Side::Sell)
+    } else if text == b"buy".as_slice() {
+        Ok(Side::Buy)
+    } else {
+        Err(OfferFault::Side { line })
+    }
+}
+
 /// The record of a row: its numbers from left to right, then its side.
+#[tactic(auto, unfolding(crate::specs::OfferTable::offer_in))]
 fn offer_of(table: &Table, row: usize) -> Result<Offer, OfferFault>
     requires { (row < length table.now) × (row + 2 < 2 ^ 64) }
-    ensures { IfOk result OfferIsRead }
+    ensures read { IfOk result OfferIsRead }
+    ensures is { result ≡ offer_in (row + 2) (get_or table.now row []) }
 {
     let unit = cell(table, row, 0, 0)?;
     let quantity = cell(table, row, 2, MW_PLACES)?;
     let price = cell(table, row, 3, PRICE_PLACES)?;
-    let side = match table.cell(row, 1) {
-        b"sell" => Side::Sell,
-        b"buy" => Side::Buy,
-        _ => return Err(OfferFault::Side { line: row + 2 }),
-    };
+    let side = side_of(table.cell(row, 1), row + 2)?;
     Ok(Offer {
         unit,
         side,
@@ -112,13 +133,21 @@ struct Stair {
     last: Option<i64>,
 }
 
+/// Whether a block is of this unit and side.
+fn is_of(block: &Block, unit: usize, side: Side) -> bool
+    ensures { result ≡ is_on_stair unit side block.now }
+{
+    block.unit == unit && block.side == side
+}
+
 fn stair_of(blocks: &[Block], unit: usize, side: Side) -> Stair
     requires { length blocks.now ≤ most_blocks }
-    ensures { StairIsBounded most_blocks result }
+    ensures bound { StairIsBounded most_blocks result }
+    ensures is { result ≡ ends_of (stair_in unit side blocks.now) }
 {
     let mut stair = Stair { sum: 0, last: None };
     for block in blocks {
-        stair = stair_with(stair, block, block.unit == unit && block.side == side);
+        stair = stair_with(stair, block, is_of(block, unit, side));
     }
     stair
 }
@@ -126,7 +155,8 @@ fn stair_of(blocks: &[Block], unit: usize, side: Side) -> Stair
 /// The stair with one block more, where that is of its unit and side.
 fn stair_with(stair: Stair, block: &Block, belongs: bool) -> Stair
     requires { unsigned_abs stair.sum < 2 ^ 100 }
-    ensures { unsigned_abs result.sum ≤ unsigned_abs stair.sum + 2 ^ 64 }
+    ensures bound { unsigned_abs result.sum ≤ unsigned_abs stair.sum + 2 ^ 64 }
+    ensures is { result ≡ (if belongs then (record { sum = stair.sum +ℤ block.now.quantity; last = Some block.now.price }) else stair) }
 {
     if belongs {
         Stair {
@@ -141,7 +171,8 @@ fn stair_with(stair: Stair, block: &Block, belongs: bool) -> Stair
 /// Whether a price may follow the last one of its stair: a sell's may not be below it, a buy's
 /// not above.
 fn may_follow(side: Side, last: Option<i64>, price: i64) -> bool
-    ensures { IsTrue result ↔ MayFollow side last price }
+    ensures may { IsTrue result ↔ MayFollow side last price }
+    ensures is { result ≡ follows side last price }
 {
     match last {
         None => true,
@@ -152,18 +183,29 @@ fn may_follow(side: Side, last: Option<i64>, price: i64) -> bool
     }
 }
 
+/// How much the blocks of a side may offer in all.
+fn room(unit: Unit, side: Side) -> i64
+    ensures { result ≡ room_of side unit }
+{
+    match side {
+        Side::Sell => unit.up,
+        Side::Buy => unit.down,
+    }
+}
+
 /// The block of a live unit's offer, after the blocks before it.
+#[tactic(auto, unfolding(crate::specs::OfferTable::block_after))]
 fn next_block(
-    units: &[Unit],
+    unit: Unit,
     blocks: &[Block],
     place: usize,
-    offer: &Offer,
+    offer: Offer,
     line: usize,
 ) -> Result<Block, OfferFault>
-    requires place { place < length units.now }
     requires few { length blocks.now ≤ most_blocks }
-    requires offer { OfferIsRead offer.now }
-    ensures { IfOk result (IsBlock (length units.now)) }
+    requires offer { OfferIsRead offer }
+    ensures block { (units : ℕ) → place < units → IfOk result (IsBlock units) }
+    ensures is { result ≡ block_after unit (stair_in place offer.side blocks.now) place line offer }
 {
     if offer.quantity < 0 {
         return Err(OfferFault::Negative { line });
@@ -172,11 +214,7 @@ fn next_block(
     if !may_follow(offer.side, stair.last, offer.price) {
         return Err(OfferFault::OutOfOrder { line });
     }
-    let room = match offer.side {
-        Side::Sell => units[place].up,
-        Side::Buy => units[place].down,
-    };
-    if stair.sum + i128::from(offer.quantity) > i128::from(room) {
+    if i128::from(room(unit, offer.side)) < stair.sum + i128::from(offer.quantity) {
         return Err(OfferFault::OverCapacity { line });
     }
     Ok(Block {
@@ -187,9 +225,33 @@ fn next_block(
     })
 }
 
+/// The block of an offer, where its unit has a place among the live ones.
+fn live_block(
+    units: &[Unit],
+    blocks: &[Block],
+    place: Option<usize>,
+    offer: Offer,
+    line: usize,
+) -> Result<Option<Block>, OfferFault>
+    requires place { IfSome place (λ place. place < length units.now) }
+    requires few { length blocks.now ≤ most_blocks }
+    requires offer { OfferIsRead offer }
+    ensures block { IfOk result (λ block. IfSome block (IsBlock (length units.now))) }
+    ensures is { result ≡ block_where units.now blocks.now line offer place }
+{
+    match place {
+        Some(place) => match next_block(units[place], blocks, place, offer, line) {
+            Ok(block) => Ok(Some(block)),
+            Err(fault) => Err(fault),
+        },
+        None => Ok(None),
+    }
+}
+
 /// Reads a table of offers. Those of units out of service are read as cells and dropped.
 pub fn blocks(alloc: Global, units: &UnitList, bytes: &[u8]) -> Result<List<Block>, OfferFault>
-    ensures { IfOk result (AreBlocks (length units.now.units)) }
+    ensures blocks { IfOk result (AreBlocks (length units.now.units)) }
+    ensures is { result ≢ Err OfferFault.Memory → result ≡ blocks_of_table units.now bytes.now }
 {
     let header = [
         b"unit".as_slice(),
@@ -203,48 +265,55 @@ pub fn blocks(alloc: Global, units: &UnitList, bytes: &[u8]) -> Result<List<Bloc
     }
 }
 
-/// The place of the live unit of a gen row.
-fn place_of(units: &[Unit], row: i64) -> Option<usize>
-    ensures { IfSome result (λ place. place < length units.now) }
+/// The gen row of a number, from 1 to the number of rows.
+#[tactic(auto, unfolding(crate::specs::OfferTable::row_in))]
+fn gen_row(rows: u32, number: i64, line: usize) -> Result<u32, OfferFault>
+    ensures { result ≡ row_in rows line number }
 {
-    units.iter().position(|unit| i64::from(unit.row) == row)
+    if number < 1 || number > i64::from(rows) {
+        Err(OfferFault::NoUnit { line })
+    } else {
+        Ok(number as u32)
+    }
 }
 
-/// Reads one more record, and adds its block where its unit is live.
-fn add_block(
-    blocks: &mut List<Block>,
+/// The place of the live unit of a gen row.
+fn place_of(units: &[Unit], row: u32) -> Option<usize>
+    ensures within { IfSome result (λ place. place < length units.now) }
+    ensures is { result ≡ position (λ unit. unit.row == row) units.now }
+{
+    units.iter().position(|unit| unit.row == row)
+}
+
+/// The block of a row's record, where its unit is live.
+#[tactic(auto, unfolding(crate::specs::OfferTable::block_in))]
+fn record_block(
+    blocks: &[Block],
     units: &UnitList,
     table: &Table,
     row: usize,
-) -> Result<(), OfferFault>
+) -> Result<Option<Block>, OfferFault>
     requires row { (row < length table.now) × (row + 2 < 2 ^ 64) }
-    requires few { length blocks.old < most_blocks }
-    ensures count { IfOk result (λ _. length blocks.new ≤ length blocks.old + 1) }
-    ensures blocks { All (IsBlock (length units.now.units)) blocks.old → IfOk result (λ _. All (IsBlock (length units.now.units)) blocks.new) }
+    requires few { length blocks.now ≤ most_blocks }
+    ensures block { IfOk result (λ block. IfSome block (IsBlock (length units.now.units))) }
+    ensures is { result ≡ block_in units.now blocks.now (row + 2) (get_or table.now row []) }
 {
     let offer = offer_of(table, row)?;
-    if offer.unit < 1 || offer.unit > i64::from(units.rows) {
-        return Err(OfferFault::NoUnit { line: row + 2 });
-    }
+    let gen_row = gen_row(units.rows, offer.unit, row + 2)?;
     let live = units.units.slice();
-    match place_of(live, offer.unit) {
-        Some(place) => {
-            let block = next_block(live, blocks.slice(), place, &offer, row + 2)?;
-            blocks.push(block)?;
-            Ok(())
-        }
-        None => Ok(()),
-    }
+    live_block(live, blocks, place_of(live, gen_row), offer, row + 2)
 }
 
 /// The blocks of a table's records.
 fn blocks_of(alloc: Global, units: &UnitList, table: &Table) -> Result<List<Block>, OfferFault>
     requires { length table.now ≤ most_blocks }
-    ensures { IfOk result (AreBlocks (length units.now.units)) }
+    ensures blocks { IfOk result (AreBlocks (length units.now.units)) }
+    ensures is { result ≢ Err OfferFault.Memory → result ≡ gather (block_in units.now) [] 2 table.now }
 {
     let mut blocks = List::new(alloc);
     for row in 0..table.len() {
-        add_block(&mut blocks, units, table, row)?;
+        let block = record_block(blocks.slice(), units, table, row)?;
+        push_some(&mut blocks, block)?;
     }
     Ok(blocks)
 }

@@ -3,5 +3,5 @@ use Rattle.std.specs.Prelude.{◌==◌}
 use Rattle.indexmap.proofs.CallerLemmas.{insert_entry-new}
 use Rattle.sced.proofs.network_reading.note_place.Goals as goal
 
-pub returns-in-Ok : goal.returns-in-Ok
-returns-in-Ok c = c.in-Ok.ensures.entries ∙ insert_entry-new ◌==◌ c.args.places.now c.args.number c.args.place c.requires
+pub returns-in-Ok-clause-noted : goal.returns-in-Ok-clause-noted
+returns-in-Ok-clause-noted c = c.in-Ok.ensures.entries ∙ insert_entry-new ◌==◌ c.args.places.now c.args.number c.args.place c.requires

@@ -1,0 +1,13 @@
+-- Rows that are read one after the other, each in the light of what those before it gave.
+use Rattle.std.specs.Prelude.{ℕ, List, [], ◌∷◌, ◌++◌, ◌+◌, Option, Some, None, Result, Ok}
+use Rattle.csv_table.specs.Table.{Record, and_then}
+
+-- no item, or one
+abbrev pub listed : {A : Type 0} → Option A → List A
+listed None = []
+listed (Some x) = x ∷ []
+
+-- the items of rows, behind those done and the first of the rows having the number that is given, or the first error; a row gives one item or none
+unfoldable pub gather : {A F : Type 0} → (List A → ℕ → Record → Result (Option A) F) → List A → ℕ → List Record → Result (List A) F
+gather read done number [] = Ok done
+gather read done number (r ∷ rows) = and_then (read done number r) (λ x. gather read (done ++ listed x) (number + 1) rows)
