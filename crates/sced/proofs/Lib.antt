@@ -1,3 +1,4 @@
 pub mod Extending
 pub mod IntSums
+pub mod PlainCaseLemmas
 pub mod SixWords

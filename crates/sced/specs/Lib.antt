@@ -3,6 +3,7 @@ pub mod Filling
 pub mod Fitting
 pub mod Networks
 pub mod Offers
+pub mod PlainCaseGrammar
 pub mod PlainCases
 pub mod Runs
 pub mod Status
