@@ -96,7 +96,7 @@ unfoldable pub line_then : {A : Type 0} → (List ℕ → Bool) → (ℕ → Lis
 line_then is_so next line [] = Err (fault.Plain line)
 line_then is_so next line (text ∷ lines) = if is_so text then next (line + 1) lines else Err (fault.Plain line)
 
--- the rows up to the matrix's end, the first of them read before
+-- the rows up to the matrix's end, behind those that are read before
 unfoldable pub rows_from : ℕ → Rows → ℕ → List (List ℕ) → Read Rows
 rows_from least rows line [] = Err (fault.Plain line)
 rows_from least rows line (text ∷ lines) =
@@ -108,19 +108,19 @@ matrix_from field = line_then (λ text. bytes_eq text (head_text field)) (rows_f
 
 -- nothing is left of the text
 unfoldable pub nothing_left : {A : Type 0} → A → List ℕ → ℕ → List (List ℕ) → Result A CaseFault
-nothing_left value behind line lines = if length lines == 0 && length behind == 0 then Ok value else Err (fault.Plain line)
+nothing_left value rest line lines = if length lines == 0 && length rest == 0 then Ok value else Err (fault.Plain line)
 
 -- the three matrices, and nothing behind them
 unfoldable pub matrices_from : List ℕ → ℕ → List (List ℕ) → Result PlainCase CaseFault
-matrices_from behind line lines =
+matrices_from rest line lines =
     and_then (matrix_from field.Bus line lines) (λ bus.
     and_then (matrix_from field.Gen bus.1 bus.2) (λ generators.
     and_then (matrix_from field.Branch generators.1 generators.2) (λ branch.
-    nothing_left (record { bus = bus.0; generators = generators.0; branch = branch.0 }) behind branch.1 branch.2)))
+    nothing_left (record { bus = bus.0; generators = generators.0; branch = branch.0 }) rest branch.1 branch.2)))
 
 -- a case by its lines and what stands behind them
 unfoldable pub case_from : List ℕ → List (List ℕ) → Result PlainCase CaseFault
-case_from behind lines = line_then is_function_text (line_then is_version_text (line_then is_base_text (matrices_from behind))) 1 lines
+case_from rest lines = line_then is_function_text (line_then is_version_text (line_then is_base_text (matrices_from rest))) 1 lines
 
 -- a text's case, or its first fault
 unfoldable pub plain_case : List ℕ → Result PlainCase CaseFault
