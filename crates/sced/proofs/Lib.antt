@@ -7,5 +7,6 @@ pub mod PlacesLemmas
 pub mod PlaceSums
 pub mod SettlingLemmas
 pub mod OfferLemmas
+pub mod PlainCaseLemmas
 pub mod SixWords
 pub mod StairLemmas

@@ -7,6 +7,7 @@ pub mod Networks
 pub mod OfferTable
 pub mod Offers
 pub mod Paying
+pub mod PlainCaseGrammar
 pub mod PlainCases
 pub mod Runs
 pub mod Status
