@@ -1,4 +1,6 @@
 pub mod Dispatch
 pub mod Market
 pub mod Optimality
+pub mod Reports
 pub mod Settlement
+pub mod Valued
