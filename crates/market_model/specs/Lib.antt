@@ -2,4 +2,6 @@ pub mod Dispatch
 pub mod Laws
 pub mod Market
 pub mod Optimality
+pub mod Reports
 pub mod Settlement
+pub mod Valued

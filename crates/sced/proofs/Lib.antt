@@ -1,12 +1,12 @@
-pub mod FillingLemmas
 pub mod BusLemmas
-pub mod Extending
+pub mod FillingLemmas
 pub mod Gathered
 pub mod IntSums
-pub mod PlacesLemmas
-pub mod PlaceSums
-pub mod SettlingLemmas
 pub mod OfferLemmas
+pub mod PlaceSums
+pub mod PlacesLemmas
 pub mod PlainCaseLemmas
+pub mod ReportLemmas
+pub mod SettlingLemmas
 pub mod SixWords
 pub mod StairLemmas

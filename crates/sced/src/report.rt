@@ -1,9 +1,12 @@
 //! The text of an answer.
 
-ghost use Rattle.std.specs.Prelude.{◌≡◌, ◌≤◌, ◌<◌, ◌++◌, ◌+◌, List, ℕ, [], ◌∷◌, length, codes, decimal, take, IfOk};
+ghost use Rattle.std.specs.Prelude.{◌≡◌, ◌≤◌, ◌<◌, ◌++◌, List, ℕ, [], length, decimal, IfOk};
+ghost use Rattle.std.specs.List.{flat_map};
 ghost use Rattle.exact_fraction.specs.Written.{written};
-ghost use Rattle.market_model.specs.Market.{most_blocks};
-ghost use Rattle.sced.specs.Fitting.{FitsMarket, Extends, side_text, head_text};
+ghost use Rattle.market_model.specs.Dispatch.{places};
+ghost use Rattle.market_model.specs.Reports.{side_text, alike, block_number, head_text, bus_text, block_text, unit_text, load_text, bus_line_at, block_line_at, unit_line_at, load_line_at, cleared_text};
+ghost use Rattle.market_model.specs.Valued.{price_at, unit_pay_at, load_at, answer_at};
+ghost use Rattle.sced.specs.Fitting.{FitsMarket};
 
 use exact_fraction::Exact;
 use itoa::Buffer;
@@ -86,17 +89,22 @@ fn side_word(side: Side) -> &'static [u8]
     }
 }
 
-/// The place of a block among those of its unit and side, from 1.
-fn number_of(blocks: &[Block], place: usize) -> u32
-    requires few { length blocks.now ≤ most_blocks }
-    requires place { place < length blocks.now }
-    ensures low { 1 ≤ result }
-    ensures high { result ≤ place + 1 }
+/// Whether two blocks are of one unit and side.
+fn is_alike(block: &Block, other: &Block) -> bool
+    ensures { result ≡ alike block.now other.now }
 {
-    let block = blocks[place];
+    block.unit == other.unit && block.side == other.side
+}
+
+/// The place of a block among those of its unit and side, from 1.
+fn number_of(market: &Market, place: usize) -> u32
+    requires { place < length market.now.blocks }
+    ensures { result ≡ block_number market.now place }
+{
+    let blocks = market.blocks().slice();
     let mut number = 1;
     for other in &blocks[..place] {
-        if other.unit == block.unit && other.side == block.side {
+        if is_alike(other, &blocks[place]) {
             number += 1;
         }
     }
@@ -105,9 +113,7 @@ fn number_of(blocks: &[Block], place: usize) -> u32
 
 /// The price of a bus.
 fn bus_line<N: Exact>(text: &mut Text, bus: &Bus, price: &Price<N>) -> Result<(), Memory>
-    ensures { IfOk result (λ _. text.new ≡ text.old ++ codes "bus " ++ decimal bus.now.number
-        ++ codes " price " ++ written 6 (N.value price.now.total)
-        ++ codes " congestion " ++ written 6 (N.value price.now.congestion) ++ codes "\n") }
+    ensures { IfOk result (λ _. text.new ≡ text.old ++ bus_text bus.now.number (price_at N.value price.now)) }
 {
     text.word(b"bus ")?;
     text.number(bus.number)?;
@@ -124,8 +130,7 @@ fn block_line<N: Exact>(
     number: u32,
     mw: N,
 ) -> Result<(), Memory>
-    ensures { IfOk result (λ _. text.new ≡ text.old ++ codes "block " ++ decimal row ++ side_text side
-        ++ decimal number ++ codes " mw " ++ written 9 (N.value mw) ++ codes "\n") }
+    ensures { IfOk result (λ _. text.new ≡ text.old ++ block_text row side number (N.value mw)) }
 {
     text.word(b"block ")?;
     text.number(row)?;
@@ -137,9 +142,7 @@ fn block_line<N: Exact>(
 
 /// A unit's output and what it is paid.
 fn unit_line<N: Exact>(text: &mut Text, row: u32, pay: &UnitPay<N>) -> Result<(), Memory>
-    ensures { IfOk result (λ _. text.new ≡ text.old ++ codes "unit " ++ decimal row
-        ++ codes " mw " ++ written 9 (N.value pay.now.mw)
-        ++ codes " paid " ++ written 15 (N.value pay.now.paid) ++ codes "\n") }
+    ensures { IfOk result (λ _. text.new ≡ text.old ++ unit_text row (unit_pay_at N.value pay.now)) }
 {
     text.word(b"unit ")?;
     text.number(row)?;
@@ -150,9 +153,7 @@ fn unit_line<N: Exact>(text: &mut Text, row: u32, pay: &UnitPay<N>) -> Result<()
 
 /// A bus's demand and what it pays.
 fn load_line<N: Exact>(text: &mut Text, number: u32, load: &Load<N>) -> Result<(), Memory>
-    ensures { IfOk result (λ _. text.new ≡ text.old ++ codes "load " ++ decimal number
-        ++ codes " mw " ++ written 9 (N.value load.now.mw)
-        ++ codes " pays " ++ written 15 (N.value load.now.pays) ++ codes "\n") }
+    ensures { IfOk result (λ _. text.new ≡ text.old ++ load_text number (load_at N.value load.now)) }
 {
     text.word(b"load ")?;
     text.number(number)?;
@@ -163,7 +164,7 @@ fn load_line<N: Exact>(text: &mut Text, number: u32, load: &Load<N>) -> Result<(
 
 fn bus_lines<N: Exact>(text: &mut Text, market: &Market, answer: &Answer<N>) -> Result<(), Memory>
     requires { FitsMarket market.now answer.now }
-    ensures { IfOk result (λ _. Extends text.old text.new) }
+    ensures { IfOk result (λ _. text.new ≡ text.old ++ flat_map (bus_line_at market.now (answer_at N.value answer.now)) (places (length market.now.buses))) }
 {
     for (place, bus) in market.buses().slice().iter().enumerate() {
         bus_line(text, bus, answer.prices.at(place))?;
@@ -173,13 +174,13 @@ fn bus_lines<N: Exact>(text: &mut Text, market: &Market, answer: &Answer<N>) -> 
 
 fn block_lines<N: Exact>(text: &mut Text, market: &Market, answer: &Answer<N>) -> Result<(), Memory>
     requires { FitsMarket market.now answer.now }
-    ensures { IfOk result (λ _. Extends text.old text.new) }
+    ensures { IfOk result (λ _. text.new ≡ text.old ++ flat_map (block_line_at market.now (answer_at N.value answer.now)) (places (length market.now.blocks))) }
 {
     let blocks = market.blocks().slice();
     let units = market.units().slice();
     for (place, block) in blocks.iter().enumerate() {
         let row = units[block.unit].row;
-        let number = number_of(blocks, place);
+        let number = number_of(market, place);
         block_line(text, row, block.side, number, *answer.dispatch.at(place))?;
     }
     Ok(())
@@ -187,7 +188,7 @@ fn block_lines<N: Exact>(text: &mut Text, market: &Market, answer: &Answer<N>) -
 
 fn unit_lines<N: Exact>(text: &mut Text, market: &Market, answer: &Answer<N>) -> Result<(), Memory>
     requires { FitsMarket market.now answer.now }
-    ensures { IfOk result (λ _. Extends text.old text.new) }
+    ensures { IfOk result (λ _. text.new ≡ text.old ++ flat_map (unit_line_at market.now (answer_at N.value answer.now)) (places (length market.now.units))) }
 {
     for (place, unit) in market.units().slice().iter().enumerate() {
         unit_line(text, unit.row, answer.money.units.at(place))?;
@@ -197,7 +198,7 @@ fn unit_lines<N: Exact>(text: &mut Text, market: &Market, answer: &Answer<N>) ->
 
 fn load_lines<N: Exact>(text: &mut Text, market: &Market, answer: &Answer<N>) -> Result<(), Memory>
     requires { FitsMarket market.now answer.now }
-    ensures { IfOk result (λ _. Extends text.old text.new) }
+    ensures { IfOk result (λ _. text.new ≡ text.old ++ flat_map (load_line_at market.now (answer_at N.value answer.now)) (places (length market.now.buses))) }
 {
     for (place, bus) in market.buses().slice().iter().enumerate() {
         load_line(text, bus.number, answer.money.loads.at(place))?;
@@ -222,7 +223,7 @@ pub fn cleared<N: Exact>(
     answer: &Answer<N>,
 ) -> Result<Vec<u8>, Memory>
     requires { FitsMarket market.now answer.now }
-    ensures { IfOk result (λ bytes. Extends (head_text (N.value answer.now.welfare) (N.value answer.now.duals.energy)) bytes.items) }
+    ensures { IfOk result (λ bytes. bytes.items ≡ cleared_text market.now (answer_at N.value answer.now)) }
 {
     let mut text = Text::new(alloc);
     head_lines(&mut text, answer)?;

@@ -1,5 +1,5 @@
 use Rattle.std.proofs.Common.{rules, append_assoc}
-use Rattle.sced.specs.Fitting.{head_text}
+use Rattle.market_model.specs.Reports.{head_text}
 use Rattle.sced.proofs.report.head_lines.Goals as goal
 
 pub returns : goal.returns

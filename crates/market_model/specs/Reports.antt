@@ -1,0 +1,92 @@
+-- The report of a cleared market, line by line.
+use Rattle.std.specs.Prelude.{ℕ, ◌+◌, Bool, true, false, ◌&&◌, ◌==◌, List, ◌++◌, length, slice_index_or, count_by, codes, decimal}
+use Rattle.std.specs.List.{flat_map}
+use Rattle.fraction_theory.specs.Fraction.{Fraction}
+use Rattle.exact_fraction.specs.Written.{written}
+use Rattle.market_model.specs.declared.participants.Side.{Side}
+use Rattle.market_model.specs.declared.participants.Side.TheVariants.{Sell, Buy}
+use Rattle.market_model.specs.declared.participants.Block.{Block}
+use Rattle.market_model.specs.declared.participants.Parts.{Parts}
+use Rattle.market_model.specs.declared.answered.Price.{Price}
+use Rattle.market_model.specs.declared.answered.UnitPay.{UnitPay}
+use Rattle.market_model.specs.declared.answered.Load.{Load}
+use Rattle.market_model.specs.declared.answered.Answer.{Answer}
+use Rattle.market_model.specs.Dispatch.{zero, places, bus_at, unit_at, block_at}
+
+-- an answer's entries by place; one past the end stands for zeros
+abbrev pub mw_of : Answer Fraction → ℕ → Fraction
+mw_of a j = slice_index_or a.dispatch j zero
+
+abbrev pub price_of : Answer Fraction → ℕ → Price Fraction
+price_of a i = slice_index_or a.prices i (record { energy = zero; congestion = zero; total = zero })
+
+abbrev pub pay_of : Answer Fraction → ℕ → UnitPay Fraction
+pay_of a u = slice_index_or a.money.units u (record { mw = zero; paid = zero })
+
+abbrev pub load_of : Answer Fraction → ℕ → Load Fraction
+load_of a i = slice_index_or a.money.loads i (record { mw = zero; pays = zero })
+
+abbrev pub side_text : Side → List ℕ
+side_text Sell = codes " sell "
+side_text Buy = codes " buy "
+
+abbrev pub same_side : Side → Side → Bool
+same_side Sell Sell = true
+same_side Sell Buy = false
+same_side Buy Sell = false
+same_side Buy Buy = true
+
+-- two blocks are of one unit and side
+abbrev pub alike : Block → Block → Bool
+alike b c = (b.unit == c.unit) && same_side b.side c.side
+
+-- the place of a block among those of its unit and side, from 1
+unfoldable pub block_number : Parts → ℕ → ℕ
+block_number m j = 1 + count_by (λ k. alike (block_at m k) (block_at m j)) (places j)
+
+-- that the market is cleared, its welfare and the price of energy
+unfoldable pub head_text : Fraction → Fraction → List ℕ
+head_text welfare energy = codes "cleared\nwelfare " ++ written 15 welfare ++ codes "\nenergy " ++ written 6 energy ++ codes "\n"
+
+-- the price of a bus
+unfoldable pub bus_text : ℕ → Price Fraction → List ℕ
+bus_text number price = codes "bus " ++ decimal number ++ codes " price " ++ written 6 price.total ++ codes " congestion " ++ written 6 price.congestion ++ codes "\n"
+
+-- the accepted MW of a block, the so-manieth of its unit and side
+unfoldable pub block_text : ℕ → Side → ℕ → Fraction → List ℕ
+block_text row side number mw = codes "block " ++ decimal row ++ side_text side ++ decimal number ++ codes " mw " ++ written 9 mw ++ codes "\n"
+
+-- a unit's output and what it is paid
+unfoldable pub unit_text : ℕ → UnitPay Fraction → List ℕ
+unit_text row pay = codes "unit " ++ decimal row ++ codes " mw " ++ written 9 pay.mw ++ codes " paid " ++ written 15 pay.paid ++ codes "\n"
+
+-- a bus's demand and what it pays
+unfoldable pub load_text : ℕ → Load Fraction → List ℕ
+load_text number load = codes "load " ++ decimal number ++ codes " mw " ++ written 9 load.mw ++ codes " pays " ++ written 15 load.pays ++ codes "\n"
+
+-- what loads pay less what units are paid
+unfoldable pub surplus_text : Fraction → List ℕ
+surplus_text surplus = codes "surplus " ++ written 15 surplus ++ codes "\n"
+
+-- the line of each place
+abbrev pub bus_line_at : Parts → Answer Fraction → ℕ → List ℕ
+bus_line_at m a i = bus_text (bus_at m i).number (price_of a i)
+
+abbrev pub block_line_at : Parts → Answer Fraction → ℕ → List ℕ
+block_line_at m a j = block_text (unit_at m (block_at m j).unit).row (block_at m j).side (block_number m j) (mw_of a j)
+
+abbrev pub unit_line_at : Parts → Answer Fraction → ℕ → List ℕ
+unit_line_at m a u = unit_text (unit_at m u).row (pay_of a u)
+
+abbrev pub load_line_at : Parts → Answer Fraction → ℕ → List ℕ
+load_line_at m a i = load_text (bus_at m i).number (load_of a i)
+
+-- the report of a cleared market
+unfoldable pub cleared_text : Parts → Answer Fraction → List ℕ
+cleared_text m a =
+    head_text a.welfare a.duals.energy
+    ++ flat_map (bus_line_at m a) (places (length m.buses))
+    ++ flat_map (block_line_at m a) (places (length m.blocks))
+    ++ flat_map (unit_line_at m a) (places (length m.units))
+    ++ flat_map (load_line_at m a) (places (length m.buses))
+    ++ surplus_text a.money.surplus

@@ -1,0 +1,46 @@
+-- An answer with each number as the fraction that it stands for.
+use Rattle.std.specs.Prelude.{List, map}
+use Rattle.fraction_theory.specs.Fraction.{Fraction}
+use Rattle.market_model.specs.declared.answered.Dual.{Dual}
+use Rattle.market_model.specs.declared.answered.Duals.{Duals}
+use Rattle.market_model.specs.declared.answered.Price.{Price}
+use Rattle.market_model.specs.declared.answered.UnitPay.{UnitPay}
+use Rattle.market_model.specs.declared.answered.Load.{Load}
+use Rattle.market_model.specs.declared.answered.Rent.{Rent}
+use Rattle.market_model.specs.declared.answered.Money.{Money}
+use Rattle.market_model.specs.declared.answered.Answer.{Answer}
+
+abbrev pub dual_at : {N : Type 0} → (N → Fraction) → Dual N → Dual Fraction
+dual_at value d = record { row = d.row; up = value d.up; down = value d.down }
+
+abbrev pub duals_at : {N : Type 0} → (N → Fraction) → Duals N → Duals Fraction
+duals_at value d = record { energy = value d.energy; limits = map (dual_at value) d.limits }
+
+abbrev pub price_at : {N : Type 0} → (N → Fraction) → Price N → Price Fraction
+price_at value p = record { energy = value p.energy; congestion = value p.congestion; total = value p.total }
+
+abbrev pub unit_pay_at : {N : Type 0} → (N → Fraction) → UnitPay N → UnitPay Fraction
+unit_pay_at value p = record { mw = value p.mw; paid = value p.paid }
+
+abbrev pub load_at : {N : Type 0} → (N → Fraction) → Load N → Load Fraction
+load_at value l = record { mw = value l.mw; pays = value l.pays }
+
+abbrev pub rent_at : {N : Type 0} → (N → Fraction) → Rent N → Rent Fraction
+rent_at value r = record { row = r.row; flow = value r.flow; rent = value r.rent }
+
+abbrev pub money_at : {N : Type 0} → (N → Fraction) → Money N → Money Fraction
+money_at value m = record {
+  units = map (unit_pay_at value) m.units;
+  loads = map (load_at value) m.loads;
+  rents = map (rent_at value) m.rents;
+  surplus = value m.surplus;
+}
+
+abbrev pub answer_at : {N : Type 0} → (N → Fraction) → Answer N → Answer Fraction
+answer_at value a = record {
+  dispatch = map value a.dispatch;
+  duals = duals_at value a.duals;
+  prices = map (price_at value) a.prices;
+  welfare = value a.welfare;
+  money = money_at value a.money;
+}
