@@ -11,6 +11,8 @@ ghost use Rattle.sced.specs.Paying.{AllPlaces};
 ghost use Rattle.fraction_theory.specs.Fraction.{whole, neg_ℚ, ◌*ℚ◌};
 ghost use Rattle.market_model.specs.Dispatch.{signed};
 ghost use Rattle.market_model.specs.Optimality.{welfare as welfare_of};
+ghost use Rattle.market_model.specs.Valued.{answer_at};
+ghost use Rattle.market_model.specs.Outcomes.{IsRight};
 ghost use Rattle.sced.specs.Fitting.{FitsMarket, dispatch_of};
 
 use crate::amounts::datum;
@@ -337,13 +339,14 @@ fn farkas<N: Exact>(alloc: Global, market: &Market, short: bool) -> Result<Farka
 
 /// The bus prices: without limits each is that of energy.
 fn prices<N: Exact>(alloc: Global, buses: usize, energy: N) -> Result<List<Price<N>>, Memory>
-    ensures { IfOk result (λ prices. length prices ≡ buses) }
+    ensures count { IfOk result (λ prices. length prices ≡ buses) }
+    ensures each { IfOk result (AllPlaces (λ _ price. (price.energy ≡ energy) × (price.total ≡ energy) × (N.value price.congestion ≡ whole (pos 0)))) }
 {
     let mut prices = List::new(alloc);
     for _bus in 0..buses {
         prices.push(Price {
             energy,
-            congestion: N::of_parts(0, 1),
+            congestion: datum(0),
             total: energy,
         })?;
     }
@@ -384,7 +387,8 @@ fn welfare<N: Exact>(market: &Market, dispatch: &[N]) -> Result<N, Passed<N>>
 
 /// Clears a market.
 pub fn clear<N: Exact>(alloc: Global, market: &Market) -> Result<Answer<N>, ClearFault<N>>
-    ensures { IfOk result (λ answer. FitsMarket market.now answer) }
+    ensures fits { IfOk result (λ answer. FitsMarket market.now answer) }
+    ensures right { IfOk result (λ answer. IsRight market.now (answer_at N.value answer)) }
 {
     let blocks = market.blocks().slice();
     let taken = demand(market.buses().slice()) + bought(blocks);

@@ -1,0 +1,28 @@
+-- What is right to print of a market.
+use Rattle.std.specs.Prelude.{◌≡◌, ◌⊎◌, ℕ, ◌<◌, List, [], length, codes}
+use Rattle.fraction_theory.specs.Fraction.{Fraction}
+use Rattle.market_model.specs.declared.participants.Parts.{Parts}
+use Rattle.market_model.specs.declared.answered.Answer.{Answer}
+use Rattle.market_model.specs.Dispatch.{Dispatch, zero, output, demand}
+use Rattle.market_model.specs.Optimality.{Feasible, Supports, welfare, bus_price}
+use Rattle.market_model.specs.Settlement.{paid, pays, surplus}
+use Rattle.market_model.specs.Reports.{price_of, pay_of, load_of}
+
+-- the accepted MW of an answer
+abbrev pub dispatch_in : Answer Fraction → Dispatch
+dispatch_in a = record { blocks = a.dispatch }
+
+-- the dispatch is feasible and the duals support it; the prices are those of the duals, and the welfare and the
+-- settlement those of the dispatch at these prices
+pub record IsRight (m : Parts) (a : Answer Fraction) : Type 0 where
+  pub feasible : Feasible m (dispatch_in a)
+  pub supported : Supports m (dispatch_in a) a.duals
+  pub no_limits : a.duals.limits ≡ []
+  pub price_count : length a.prices ≡ length m.buses
+  pub prices : (i : ℕ) → i < length m.buses → price_of a i ≡ record { energy = a.duals.energy; congestion = zero; total = bus_price m a.duals i }
+  pub welfare : a.welfare ≡ welfare m (dispatch_in a)
+  pub unit_count : length a.money.units ≡ length m.units
+  pub units : (u : ℕ) → u < length m.units → pay_of a u ≡ record { mw = output m (dispatch_in a) u; paid = paid m (dispatch_in a) a.duals u }
+  pub load_count : length a.money.loads ≡ length m.buses
+  pub loads : (i : ℕ) → i < length m.buses → load_of a i ≡ record { mw = demand m i; pays = pays m a.duals i }
+  pub surplus : a.money.surplus ≡ surplus m (dispatch_in a) a.duals
