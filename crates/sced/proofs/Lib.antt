@@ -1,8 +1,10 @@
 pub mod BusLemmas
+pub mod ClearingLemmas
 pub mod FillingLemmas
 pub mod Gathered
 pub mod IntSums
 pub mod OfferLemmas
+pub mod OutcomeLemmas
 pub mod PlaceSums
 pub mod PlacesLemmas
 pub mod PlainCaseLemmas

@@ -399,7 +399,7 @@ pub fn clear<N: Exact>(alloc: Global, market: &Market) -> Result<Answer<N>, Clea
     };
     let filled = fills(alloc, blocks, energy, left)?;
     let dispatch: List<N> = dispatch(alloc, blocks, energy, filled.as_slice())?;
-    let energy = N::of_parts(energy, 1);
+    let energy: N = datum(energy);
     let prices = prices(alloc, market.buses().len(), energy)?;
     let welfare = welfare(market, dispatch.slice())?;
     let money = settle(alloc, market, dispatch.slice(), prices.slice())?;
