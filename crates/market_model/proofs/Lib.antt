@@ -1,1 +1,3 @@
+pub mod Amounts
 pub mod Data
+pub mod ReportReading

@@ -3,6 +3,7 @@
 
 mod answered;
 mod assembled;
+pub mod laws;
 mod participants;
 mod scales;
 

@@ -1,8 +1,7 @@
-use Rattle.std.proofs.Common.{◌≡◌, ℕ, List, ◌∙◌, ap, length, pos, arith}
+use Rattle.std.proofs.Common.{ℕ, List, ◌∙◌, ap, length, pos, arith}
 use Rattle.std.specs.Prelude.{slice_index_or}
 use Rattle.market_model.specs.declared.participants.Unit as unit
 use Rattle.market_model.specs.declared.participants.Block.{Block}
-use Rattle.market_model.specs.declared.participants.Side.{Side}
 use Rattle.market_model.specs.declared.participants.Side.TheVariants.{Sell}
 use Rattle.market_model.specs.Dispatch.{zero, unit_at, block_at}
 use Rattle.market_model.specs.Reports.{block_text, block_line_at, block_number}
