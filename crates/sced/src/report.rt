@@ -2,7 +2,9 @@
 
 ghost use Rattle.std.specs.Prelude.{◌≡◌, ◌≤◌, ◌<◌, ◌++◌, List, ℕ, [], length, decimal, IfOk};
 ghost use Rattle.exact_fraction.specs.Written.{written};
-ghost use Rattle.market_model.specs.Reports.{side_text, alike, block_number, head_text, bus_text, block_text, unit_text, load_text, lines_of_buses, lines_of_blocks, lines_of_units, lines_of_loads, cleared_text};
+ghost use Rattle.market_model.specs.Reports.{side_text, alike, block_number, head_text};
+ghost use Rattle.market_model.specs.Reports.{bus_text, block_text, unit_text, load_text};
+ghost use Rattle.market_model.specs.Reports.{lines_of_buses, lines_of_blocks, lines_of_units, lines_of_loads, cleared_text};
 ghost use Rattle.market_model.specs.Valued.{price_at, unit_pay_at, load_at, answer_at};
 ghost use Rattle.sced.specs.Fitting.{FitsMarket};
 
@@ -206,7 +208,8 @@ fn load_lines<N: Exact>(text: &mut Text, market: &Market, answer: &Answer<N>) ->
 
 /// That the market is cleared, its welfare and the price of energy.
 fn head_lines<N: Exact>(text: &mut Text, answer: &Answer<N>) -> Result<(), Memory>
-    ensures { IfOk result (λ _. text.new ≡ text.old ++ head_text (N.value answer.now.welfare) (N.value answer.now.duals.energy)) }
+    ensures { IfOk result (λ _. text.new ≡ text.old
+        ++ head_text (N.value answer.now.welfare) (N.value answer.now.duals.energy)) }
 {
     text.named(b"cleared\nwelfare ", answer.welfare, MONEY_PLACES)?;
     text.named(b"\nenergy ", answer.duals.energy, PRICE_PLACES)?;
