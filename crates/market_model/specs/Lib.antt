@@ -3,6 +3,7 @@ pub mod Laws
 pub mod Market
 pub mod Optimality
 pub mod Outcomes
+pub mod ReportLaws
 pub mod Reports
 pub mod Settlement
 pub mod Valued

@@ -81,12 +81,25 @@ unit_line_at m a u = unit_text (unit_at m u).row (pay_of a u)
 abbrev pub load_line_at : Parts → Answer Fraction → ℕ → List ℕ
 load_line_at m a i = load_text (bus_at m i).number (load_of a i)
 
+-- the lines of all places
+abbrev pub lines_of_buses : Parts → Answer Fraction → List ℕ
+lines_of_buses m a = flat_map (bus_line_at m a) (places (length m.buses))
+
+abbrev pub lines_of_blocks : Parts → Answer Fraction → List ℕ
+lines_of_blocks m a = flat_map (block_line_at m a) (places (length m.blocks))
+
+abbrev pub lines_of_units : Parts → Answer Fraction → List ℕ
+lines_of_units m a = flat_map (unit_line_at m a) (places (length m.units))
+
+abbrev pub lines_of_loads : Parts → Answer Fraction → List ℕ
+lines_of_loads m a = flat_map (load_line_at m a) (places (length m.buses))
+
 -- the report of a cleared market
 unfoldable pub cleared_text : Parts → Answer Fraction → List ℕ
 cleared_text m a =
     head_text a.welfare a.duals.energy
-    ++ flat_map (bus_line_at m a) (places (length m.buses))
-    ++ flat_map (block_line_at m a) (places (length m.blocks))
-    ++ flat_map (unit_line_at m a) (places (length m.units))
-    ++ flat_map (load_line_at m a) (places (length m.buses))
+    ++ lines_of_buses m a
+    ++ lines_of_blocks m a
+    ++ lines_of_units m a
+    ++ lines_of_loads m a
     ++ surplus_text a.money.surplus

@@ -1,5 +1,6 @@
 //! Laws of the definitions, each the contract of a function that does nothing.
 ghost use Rattle.market_model.specs.Laws.{LawOfTheOptimum, LawOfTheSurplus};
+ghost use Rattle.market_model.specs.ReportLaws.{ReportsApart};
 
 /// A feasible dispatch that duals support has the greatest welfare of all feasible ones.
 pub fn supported_is_best()
@@ -9,4 +10,9 @@ pub fn supported_is_best()
 /// Where a dispatch balances and no branch has a limit, loads pay what units are paid.
 pub fn balance_leaves_nothing()
     ensures { LawOfTheSurplus }
+{}
+
+/// Two answers to a market with one report are one.
+pub fn report_has_one_reading()
+    ensures { ReportsApart }
 {}

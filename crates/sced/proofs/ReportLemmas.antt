@@ -10,10 +10,9 @@ use Rattle.market_model.specs.Dispatch.{places}
 use Rattle.sced.proofs.PlaceSums.{places_more}
 
 -- a text that grows by the line of each place
-pub lines_more : (f : ℕ → List ℕ) (start before after line : List ℕ) (k : ℕ) → before ≡ start ++ flat_map f (places k) → after ≡ before ++ line → line ≡ f k → after ≡ start ++ flat_map f (places (k + 1))
-lines_more f start before after line k e n l =
-    n ∙ ap (λ t. t ++ line) e ∙ ap (λ t. (start ++ flat_map f (places k)) ++ t) l
-    ∙ flat_map_more f start (places k) k ∙ ap (λ ps. start ++ flat_map f ps) (sym (places_more k))
+pub lines_more : (f : ℕ → List ℕ) (start before after : List ℕ) (k : ℕ) → before ≡ start ++ flat_map f (places k) → after ≡ before ++ f k → after ≡ start ++ flat_map f (places (k + 1))
+lines_more f start before after k e more =
+    more ∙ ap (λ t. t ++ f k) e ∙ flat_map_more f start (places k) k ∙ ap (λ ps. start ++ flat_map f ps) (sym (places_more k))
 
 -- an entry as numbers, by the place that it was read at
 pub entry_is : {X Y : Type 0} (value : X → Y) (xs : List X) (k : ℕ) (x : X) (d : Y) → k < length xs → slice_get xs k ≡ Some x → value x ≡ get_or (map value xs) k d

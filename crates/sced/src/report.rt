@@ -1,10 +1,10 @@
 //! The text of an answer.
 
 ghost use Rattle.std.specs.Prelude.{◌≡◌, ◌≤◌, ◌<◌, ◌++◌, List, ℕ, [], length, decimal, IfOk};
-ghost use Rattle.std.specs.List.{flat_map};
 ghost use Rattle.exact_fraction.specs.Written.{written};
-ghost use Rattle.market_model.specs.Dispatch.{places};
-ghost use Rattle.market_model.specs.Reports.{side_text, alike, block_number, head_text, bus_text, block_text, unit_text, load_text, bus_line_at, block_line_at, unit_line_at, load_line_at, cleared_text};
+ghost use Rattle.market_model.specs.Reports.{side_text, alike, block_number, head_text};
+ghost use Rattle.market_model.specs.Reports.{bus_text, block_text, unit_text, load_text};
+ghost use Rattle.market_model.specs.Reports.{lines_of_buses, lines_of_blocks, lines_of_units, lines_of_loads, cleared_text};
 ghost use Rattle.market_model.specs.Valued.{price_at, unit_pay_at, load_at, answer_at};
 ghost use Rattle.sced.specs.Fitting.{FitsMarket};
 
@@ -164,7 +164,7 @@ fn load_line<N: Exact>(text: &mut Text, number: u32, load: &Load<N>) -> Result<(
 
 fn bus_lines<N: Exact>(text: &mut Text, market: &Market, answer: &Answer<N>) -> Result<(), Memory>
     requires { FitsMarket market.now answer.now }
-    ensures { IfOk result (λ _. text.new ≡ text.old ++ flat_map (bus_line_at market.now (answer_at N.value answer.now)) (places (length market.now.buses))) }
+    ensures { IfOk result (λ _. text.new ≡ text.old ++ lines_of_buses market.now (answer_at N.value answer.now)) }
 {
     for (place, bus) in market.buses().slice().iter().enumerate() {
         bus_line(text, bus, answer.prices.at(place))?;
@@ -174,7 +174,7 @@ fn bus_lines<N: Exact>(text: &mut Text, market: &Market, answer: &Answer<N>) -> 
 
 fn block_lines<N: Exact>(text: &mut Text, market: &Market, answer: &Answer<N>) -> Result<(), Memory>
     requires { FitsMarket market.now answer.now }
-    ensures { IfOk result (λ _. text.new ≡ text.old ++ flat_map (block_line_at market.now (answer_at N.value answer.now)) (places (length market.now.blocks))) }
+    ensures { IfOk result (λ _. text.new ≡ text.old ++ lines_of_blocks market.now (answer_at N.value answer.now)) }
 {
     let blocks = market.blocks().slice();
     let units = market.units().slice();
@@ -188,7 +188,7 @@ fn block_lines<N: Exact>(text: &mut Text, market: &Market, answer: &Answer<N>) -
 
 fn unit_lines<N: Exact>(text: &mut Text, market: &Market, answer: &Answer<N>) -> Result<(), Memory>
     requires { FitsMarket market.now answer.now }
-    ensures { IfOk result (λ _. text.new ≡ text.old ++ flat_map (unit_line_at market.now (answer_at N.value answer.now)) (places (length market.now.units))) }
+    ensures { IfOk result (λ _. text.new ≡ text.old ++ lines_of_units market.now (answer_at N.value answer.now)) }
 {
     for (place, unit) in market.units().slice().iter().enumerate() {
         unit_line(text, unit.row, answer.money.units.at(place))?;
@@ -198,7 +198,7 @@ fn unit_lines<N: Exact>(text: &mut Text, market: &Market, answer: &Answer<N>) ->
 
 fn load_lines<N: Exact>(text: &mut Text, market: &Market, answer: &Answer<N>) -> Result<(), Memory>
     requires { FitsMarket market.now answer.now }
-    ensures { IfOk result (λ _. text.new ≡ text.old ++ flat_map (load_line_at market.now (answer_at N.value answer.now)) (places (length market.now.buses))) }
+    ensures { IfOk result (λ _. text.new ≡ text.old ++ lines_of_loads market.now (answer_at N.value answer.now)) }
 {
     for (place, bus) in market.buses().slice().iter().enumerate() {
         load_line(text, bus.number, answer.money.loads.at(place))?;
@@ -208,7 +208,8 @@ fn load_lines<N: Exact>(text: &mut Text, market: &Market, answer: &Answer<N>) ->
 
 /// That the market is cleared, its welfare and the price of energy.
 fn head_lines<N: Exact>(text: &mut Text, answer: &Answer<N>) -> Result<(), Memory>
-    ensures { IfOk result (λ _. text.new ≡ text.old ++ head_text (N.value answer.now.welfare) (N.value answer.now.duals.energy)) }
+    ensures { IfOk result (λ _. text.new ≡ text.old
+        ++ head_text (N.value answer.now.welfare) (N.value answer.now.duals.energy)) }
 {
     text.named(b"cleared\nwelfare ", answer.welfare, MONEY_PLACES)?;
     text.named(b"\nenergy ", answer.duals.energy, PRICE_PLACES)?;

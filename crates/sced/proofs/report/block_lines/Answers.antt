@@ -1,8 +1,7 @@
-use Rattle.std.proofs.Common.{◌≡◌, ℕ, List, ◌∙◌, ap, length, pos, arith}
+use Rattle.std.proofs.Common.{ℕ, List, ◌++◌, ◌∙◌, ap, length, pos, arith}
 use Rattle.std.specs.Prelude.{slice_index_or}
 use Rattle.market_model.specs.declared.participants.Unit as unit
 use Rattle.market_model.specs.declared.participants.Block.{Block}
-use Rattle.market_model.specs.declared.participants.Side.{Side}
 use Rattle.market_model.specs.declared.participants.Side.TheVariants.{Sell}
 use Rattle.market_model.specs.Dispatch.{zero, unit_at, block_at}
 use Rattle.market_model.specs.Reports.{block_text, block_line_at, block_number}
@@ -25,5 +24,5 @@ loop-place-preserved g c =
     ∙ ap (λ us. line us c.slice-blocks.result.now (block_number m j)) units
     ∙ ap (λ bs. line m.units bs (block_number m j)) blocks
     ∙ ap (block_text (unit_at m (block_at m j).unit).row (block_at m j).side (block_number m j)) read in
-    lines_more (block_line_at m (answer_at g.N.Exact.value c.args.answer.now)) c.args.text.now c.loop-place.text c.block_line.new.text _ j
-    c.loop-place.invariant c.in_ok-block_line.ensures same
+    lines_more (block_line_at m (answer_at g.N.Exact.value c.args.answer.now)) c.args.text.now c.loop-place.text c.block_line.new.text j c.loop-place.invariant
+    (c.in_ok-block_line.ensures ∙ ap (λ t. c.loop-place.text ++ t) same)

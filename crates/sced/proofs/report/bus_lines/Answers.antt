@@ -1,4 +1,4 @@
-use Rattle.std.proofs.Common.{List, ◌∙◌, ap, length, pos, arith}
+use Rattle.std.proofs.Common.{List, ◌++◌, ◌∙◌, ap, length, pos, arith}
 use Rattle.std.specs.Prelude.{slice_index_or}
 use Rattle.market_model.specs.declared.participants.Bus.{Bus}
 use Rattle.market_model.specs.Dispatch.{zero, bus_at}
@@ -16,5 +16,5 @@ loop-place-preserved g c =
     let number = ap (λ (bs : List Bus). (slice_index_or bs i (record { number = 0; pd = pos 0; gs = pos 0 })).number) buses in
     let read = entry_is (price_at g.N.Exact.value) c.args.answer.now.prices i c.at.result.now (record { energy = zero; congestion = zero; total = zero })
     (omega (arith, c.requires.prices, ap length buses)) c.at.ensures in
-    lines_more (bus_line_at m (answer_at g.N.Exact.value c.args.answer.now)) c.args.text.now c.loop-place.text c.bus_line.new.text _ i
-    c.loop-place.invariant c.in_ok-bus_line.ensures (ap (λ n. bus_text n price) number ∙ ap (bus_text (bus_at m i).number) read)
+    lines_more (bus_line_at m (answer_at g.N.Exact.value c.args.answer.now)) c.args.text.now c.loop-place.text c.bus_line.new.text i c.loop-place.invariant
+    (c.in_ok-bus_line.ensures ∙ ap (λ t. c.loop-place.text ++ t) (ap (λ n. bus_text n price) number ∙ ap (bus_text (bus_at m i).number) read))

@@ -1,4 +1,4 @@
-use Rattle.std.proofs.Common.{◌≡◌, ◌<◌, ◌+◌, ◌∙◌, sym, ap, length, take, pos, arith, ℕ, Bool, List}
+use Rattle.std.proofs.Common.{◌≡◌, ◌<◌, ◌+◌, ◌∙◌, sym, ap, length, pos, arith, ℕ, Bool, List}
 use Rattle.std.specs.Prelude.{count_by, slice_index_or}
 use Rattle.std.proofs.lemmas.List.{length-take-le, get_or-take}
 use Rattle.market_model.specs.declared.participants.Block.{Block}

@@ -1,0 +1,110 @@
+-- A written amount ends at the first byte that is a blank or the end of a line.
+use Rattle.std.specs.Prelude.{◌≡◌, ℕ, ◌+◌, ◌<◌, ◌≤◌, ◌/◌, ◌%◌, ◌^◌, ℤ, pos, negsuc, unsigned_abs, List, [], ◌∷◌, ◌++◌, map, Bool, true, false, cond, nat_eq, refl}
+use Rattle.std.specs.Int.Digits.{digits_of}
+use Rattle.std.specs.List.{AllByRecursion}
+use Rattle.std.proofs.Common.{zero, suc, arith, sym, ◌∙◌, append_assoc}
+use Rattle.std.proofs.lemmas.List.{append_cancel_left}
+use Rattle.fraction_theory.specs.Fraction.{Fraction}
+use Rattle.exact_fraction.specs.Written.{number_text, last_digits, trimmed_places, all_places, rest_text, units_text, sign_text, written}
+use Rattle.exact_fraction.proofs.Apart.{written_apart}
+
+-- bytes above the blank
+abbrev AllAbove : List ℕ → Type 0
+AllAbove cs = AllByRecursion (λ c. 32 < c) cs
+
+AllAbove-append : (xs ys : List ℕ) → AllAbove xs → AllAbove ys → AllAbove (xs ++ ys)
+AllAbove-append [] ys p q = q
+AllAbove-append (x ∷ xs) ys p q = (p.0, AllAbove-append xs ys p.1 q)
+
+AllAbove-map : (ds : List ℕ) → AllAbove (map (λ d. 48 + d) ds)
+AllAbove-map [] = tt
+AllAbove-map (d ∷ ds) = (Prim.omega arith, AllAbove-map ds)
+
+AllAbove-number_text : (n : ℕ) → AllAbove (number_text n)
+unfolding number_text
+AllAbove-number_text zero = (Prim.omega arith, tt)
+AllAbove-number_text (suc n) = AllAbove-map (digits_of 10 (suc n))
+
+AllAbove-last_digits : (k n : ℕ) → AllAbove (last_digits k n)
+AllAbove-last_digits zero n = tt
+AllAbove-last_digits (suc k) n = AllAbove-append (last_digits k (n / 10)) ((48 + n % 10) ∷ []) (AllAbove-last_digits k (n / 10)) (Prim.omega arith, tt)
+
+AllAbove-trimmed_places : (k n : ℕ) → AllAbove (trimmed_places k n)
+AllAbove-trimmed_places zero n = tt
+AllAbove-trimmed_places (suc k) n = by_test (nat_eq (n % 10) 0) (AllAbove-trimmed_places k (n / 10))
+  where
+    by_test : (b : Bool) → AllAbove (trimmed_places k (n / 10)) → AllAbove (cond b (trimmed_places k (n / 10)) (46 ∷ last_digits (suc k) n))
+    by_test true h = h
+    by_test false h = (Prim.omega arith, AllAbove-last_digits (suc k) n)
+
+AllAbove-all_places : (k n : ℕ) → AllAbove (all_places k n)
+AllAbove-all_places zero n = tt
+AllAbove-all_places (suc k) n = (Prim.omega arith, AllAbove-last_digits (suc k) n)
+
+AllAbove-rest_text : (r d : ℕ) → AllAbove (rest_text r d)
+AllAbove-rest_text r d = (Prim.omega arith, AllAbove-append (number_text r) (47 ∷ number_text d) (AllAbove-number_text r) (Prim.omega arith, AllAbove-number_text d))
+
+AllAbove-units_text : (k q r d : ℕ) → AllAbove (units_text k q r d)
+unfolding units_text
+AllAbove-units_text k q r d = AllAbove-append (number_text (q / 10 ^ k)) (cond (nat_eq r 0) (trimmed_places k (q % 10 ^ k)) (all_places k (q % 10 ^ k) ++ rest_text r d)) (AllAbove-number_text (q / 10 ^ k)) (by_test (nat_eq r 0))
+  where
+    by_test : (b : Bool) → AllAbove (cond b (trimmed_places k (q % 10 ^ k)) (all_places k (q % 10 ^ k) ++ rest_text r d))
+    by_test true = AllAbove-trimmed_places k (q % 10 ^ k)
+    by_test false = AllAbove-append (all_places k (q % 10 ^ k)) (rest_text r d) (AllAbove-all_places k (q % 10 ^ k)) (AllAbove-rest_text r d)
+
+AllAbove-sign_text : (n : ℤ) → AllAbove (sign_text n)
+AllAbove-sign_text (pos n) = tt
+AllAbove-sign_text (negsuc n) = (Prim.omega arith, tt)
+
+AllAbove-written : (k : ℕ) (x : Fraction) → AllAbove (written k x)
+unfolding written
+AllAbove-written k x =
+    let q : ℕ = unsigned_abs x.num / x.den in
+    let r : ℕ = unsigned_abs x.num % x.den in
+    AllAbove-append (sign_text x.num) (units_text k q r x.den) (AllAbove-sign_text x.num) (AllAbove-units_text k q r x.den)
+
+head_of : (c d : ℕ) (cs ds : List ℕ) → c ∷ cs ≡ d ∷ ds → c ≡ d
+head_of c d cs ds e = Prim.cc
+
+tail_of : (c d : ℕ) (cs ds : List ℕ) → c ∷ cs ≡ d ∷ ds → cs ≡ ds
+tail_of c d cs ds e = Prim.cc
+
+-- bytes above the blank, up to one that is not
+cut : (c : ℕ) (xs ys us vs : List ℕ) → c ≤ 32 → AllAbove xs → AllAbove ys → xs ++ c ∷ us ≡ ys ++ c ∷ vs → (xs ≡ ys) × (us ≡ vs)
+cut c [] [] us vs h p q e = (refl, tail_of c c us vs e)
+cut c [] (y ∷ ys) us vs h p q e = absurd (Prim.omega (arith, q.0, head_of c y us (ys ++ c ∷ vs) e))
+cut c (x ∷ xs) [] us vs h p q e = absurd (Prim.omega (arith, p.0, head_of x c (xs ++ c ∷ us) vs e))
+cut c (x ∷ xs) (y ∷ ys) us vs h p q e =
+    let first = head_of x y (xs ++ c ∷ us) (ys ++ c ∷ vs) e in
+    let rest = cut c xs ys us vs h p.1 q.1 (tail_of x y (xs ++ c ∷ us) (ys ++ c ∷ vs) e) in
+    (Prim.cc (first, rest.0), rest.1)
+
+-- an amount and what comes after it
+amount_apart : (k c : ℕ) (x y : Fraction) (us vs : List ℕ) → c ≤ 32 → written k x ++ c ∷ us ≡ written k y ++ c ∷ vs → (x ≡ y) × (us ≡ vs)
+amount_apart k c x y us vs h e =
+    let t = cut c (written k x) (written k y) us vs h (AllAbove-written k x) (AllAbove-written k y) e in
+    (written_apart k x y t.0, t.1)
+
+-- a line that ends with an amount
+pub one_apart : (front : List ℕ) (k : ℕ) (x y : Fraction) (us vs : List ℕ)
+    → (front ++ written k x ++ 10 ∷ []) ++ us ≡ (front ++ written k y ++ 10 ∷ []) ++ vs → (x ≡ y) × (us ≡ vs)
+one_apart front k x y us vs e =
+    amount_apart k 10 x y us vs (Prim.omega arith)
+    (append_cancel_left front (written k x ++ 10 ∷ us) (written k y ++ 10 ∷ vs) (sym (open_line (written k x) us) ∙ e ∙ open_line (written k y) vs))
+  where
+    open_line : (xs us : List ℕ) → (front ++ xs ++ 10 ∷ []) ++ us ≡ front ++ (xs ++ 10 ∷ us)
+    open_line xs us = Prim.simp append_assoc
+
+-- a line with an amount, some words and an amount
+pub two_apart : (front : List ℕ) (k l c : ℕ) (middle : List ℕ) (x y w z : Fraction) (us vs : List ℕ) → c ≤ 32
+    → (front ++ written k x ++ c ∷ middle ++ written l w ++ 10 ∷ []) ++ us ≡ (front ++ written k y ++ c ∷ middle ++ written l z ++ 10 ∷ []) ++ vs
+    → (x ≡ y) × (w ≡ z) × (us ≡ vs)
+two_apart front k l c middle x y w z us vs h e =
+    let first = amount_apart k c x y (middle ++ (written l w ++ 10 ∷ us)) (middle ++ (written l z ++ 10 ∷ vs)) h
+    (append_cancel_left front (written k x ++ c ∷ (middle ++ (written l w ++ 10 ∷ us))) (written k y ++ c ∷ (middle ++ (written l z ++ 10 ∷ vs)))
+    (sym (open_line (written k x) (written l w) us) ∙ e ∙ open_line (written k y) (written l z) vs)) in
+    let second = amount_apart l 10 w z us vs (Prim.omega arith) (append_cancel_left middle (written l w ++ 10 ∷ us) (written l z ++ 10 ∷ vs) first.1) in
+    (first.0, second.0, second.1)
+  where
+    open_line : (xs ys us : List ℕ) → (front ++ xs ++ c ∷ middle ++ ys ++ 10 ∷ []) ++ us ≡ front ++ (xs ++ c ∷ (middle ++ (ys ++ 10 ∷ us)))
+    open_line xs ys us = Prim.simp append_assoc

@@ -1,0 +1,144 @@
+-- Equal reports are of equal answers.
+use Rattle.std.specs.Prelude.{◌≡◌, ℕ, ◌+◌, ◌<◌, List, [], ◌∷◌, ◌++◌, length, codes, decimal, slice_index_or}
+use Rattle.std.specs.List.{AllByRecursion, flat_map, range_with_len}
+use Rattle.std.proofs.Common.{zero, suc, arith, ap, sym, ◌∙◌, subst, append_assoc}
+use Rattle.std.proofs.lemmas.List.{ext_get_or}
+use Rattle.fraction_theory.specs.Fraction.{Fraction}
+use Rattle.market_model.specs.declared.participants.Side.{Side}
+use Rattle.market_model.specs.declared.participants.Parts.{Parts}
+use Rattle.market_model.specs.declared.answered.Price.{Price}
+use Rattle.market_model.specs.declared.answered.UnitPay.{UnitPay}
+use Rattle.market_model.specs.declared.answered.Load.{Load}
+use Rattle.market_model.specs.declared.answered.Dual.{Dual}
+use Rattle.market_model.specs.declared.answered.Duals.{Duals}
+use Rattle.market_model.specs.declared.answered.Rent.{Rent}
+use Rattle.market_model.specs.declared.answered.Money.{Money}
+use Rattle.market_model.specs.declared.answered.Answer.{Answer}
+use Rattle.market_model.specs.Dispatch.{zero as none, places, bus_at, unit_at, block_at}
+use Rattle.market_model.specs.Reports.{mw_of, price_of, pay_of, load_of, side_text, block_number, head_text, bus_text, block_text, unit_text, load_text, surplus_text, bus_line_at, block_line_at, unit_line_at, load_line_at, lines_of_buses, lines_of_blocks, lines_of_units, lines_of_loads, cleared_text}
+use Rattle.market_model.specs.ReportLaws.{FitsReport, ReportsApart}
+use Rattle.market_model.proofs.Amounts.{one_apart, two_apart}
+
+head_apart : (w x e f : Fraction) (us vs : List ℕ) → head_text w e ++ us ≡ head_text x f ++ vs → (w ≡ x) × (e ≡ f) × (us ≡ vs)
+unfolding head_text
+head_apart w x e f us vs h = two_apart (codes "cleared\nwelfare ") 15 6 10 (codes "energy ") w x e f us vs (Prim.omega arith) h
+
+record SamePrice (p q : Price Fraction) : Type 0 where
+  total : p.total ≡ q.total
+  congestion : p.congestion ≡ q.congestion
+
+bus_apart : (n : ℕ) (p q : Price Fraction) (us vs : List ℕ) → bus_text n p ++ us ≡ bus_text n q ++ vs → SamePrice p q × (us ≡ vs)
+unfolding bus_text
+bus_apart n p q us vs h =
+    let t = two_apart (codes "bus " ++ decimal n ++ codes " price ") 6 6 32 (codes "congestion ") p.total q.total p.congestion q.congestion us vs (Prim.omega arith) h in
+    (record { total = t.0; congestion = t.1 }, t.2)
+
+block_apart : (row : ℕ) (side : Side) (n : ℕ) (x y : Fraction) (us vs : List ℕ) → block_text row side n x ++ us ≡ block_text row side n y ++ vs → (x ≡ y) × (us ≡ vs)
+unfolding block_text
+block_apart row side n x y us vs h = one_apart (codes "block " ++ decimal row ++ side_text side ++ decimal n ++ codes " mw ") 9 x y us vs h
+
+same_pay : (p q : UnitPay Fraction) → p.mw ≡ q.mw → p.paid ≡ q.paid → p ≡ q
+same_pay p q e f =
+    let make : Fraction → Fraction → UnitPay Fraction = λ v w. record { mw = v; paid = w } in
+    ap (λ v. make v p.paid) e ∙ ap (make q.mw) f
+
+unit_apart : (row : ℕ) (p q : UnitPay Fraction) (us vs : List ℕ) → unit_text row p ++ us ≡ unit_text row q ++ vs → (p ≡ q) × (us ≡ vs)
+unfolding unit_text
+unit_apart row p q us vs h =
+    let t = two_apart (codes "unit " ++ decimal row ++ codes " mw ") 9 15 32 (codes "paid ") p.mw q.mw p.paid q.paid us vs (Prim.omega arith) h in
+    (same_pay p q t.0 t.1, t.2)
+
+same_load : (p q : Load Fraction) → p.mw ≡ q.mw → p.pays ≡ q.pays → p ≡ q
+same_load p q e f =
+    let make : Fraction → Fraction → Load Fraction = λ v w. record { mw = v; pays = w } in
+    ap (λ v. make v p.pays) e ∙ ap (make q.mw) f
+
+load_apart : (n : ℕ) (p q : Load Fraction) (us vs : List ℕ) → load_text n p ++ us ≡ load_text n q ++ vs → (p ≡ q) × (us ≡ vs)
+unfolding load_text
+load_apart n p q us vs h =
+    let t = two_apart (codes "load " ++ decimal n ++ codes " mw ") 9 15 32 (codes "pays ") p.mw q.mw p.pays q.pays us vs (Prim.omega arith) h in
+    (same_load p q t.0 t.1, t.2)
+
+surplus_apart : (x y : Fraction) → surplus_text x ≡ surplus_text y → x ≡ y
+unfolding surplus_text
+surplus_apart x y h = (one_apart (codes "surplus ") 15 x y [] [] (ap (λ t. t ++ []) h)).0
+
+-- the lines of some places, and what comes after them
+lines_apart : (f g : ℕ → List ℕ) (Same : ℕ → Type 0) → ((k : ℕ) (us vs : List ℕ) → f k ++ us ≡ g k ++ vs → Same k × (us ≡ vs))
+    → (ps us vs : List ℕ) → flat_map f ps ++ us ≡ flat_map g ps ++ vs → AllByRecursion Same ps × (us ≡ vs)
+lines_apart f g Same line [] us vs e = (tt, e)
+lines_apart f g Same line (p ∷ ps) us vs e =
+    let first = line p (flat_map f ps ++ us) (flat_map g ps ++ vs) (sym (append_assoc (f p) (flat_map f ps) us) ∙ e ∙ append_assoc (g p) (flat_map g ps) vs) in
+    let rest = lines_apart f g Same line ps us vs first.1 in
+    ((first.0, rest.0), rest.1)
+
+at_place : (P : ℕ → Type 0) (a n k : ℕ) → AllByRecursion P (range_with_len a n) → k < n → P (a + k)
+at_place P a zero k all h = absurd (Prim.omega arith)
+at_place P a (suc n) zero all h = let e : a ≡ a + 0 = Prim.omega arith in subst P e all.0
+at_place P a (suc n) (suc k) all h = let e : (a + 1) + k ≡ a + suc k = Prim.omega arith in subst P e (at_place P (a + 1) n k all.1 (Prim.omega arith))
+
+at_places : (P : ℕ → Type 0) (n k : ℕ) → AllByRecursion P (places n) → k < n → P k
+at_places P n k all h = let e : 0 + k ≡ k = Prim.omega arith in subst P e (at_place P 0 n k all h)
+
+-- lists of one entry for each place are one where each entry is
+same_entries : {X : Type 0} (d : X) (xs ys : List X) (n : ℕ) → length xs ≡ n → length ys ≡ n → AllByRecursion (λ k. slice_index_or xs k d ≡ slice_index_or ys k d) (places n) → xs ≡ ys
+same_entries d xs ys n p q all = ext_get_or d xs ys (p ∙ sym q) (λ i h. at_places (λ k. slice_index_or xs k d ≡ slice_index_or ys k d) n i all (Prim.omega (arith, h, p)))
+
+same_price : (p q : Price Fraction) → p.energy ≡ q.energy → SamePrice p q → p ≡ q
+same_price p q e s =
+    let make : Fraction → Fraction → Fraction → Price Fraction = λ u v w. record { energy = u; congestion = v; total = w } in
+    ap (λ u. make u p.congestion p.total) e ∙ ap (λ v. make q.energy v p.total) s.congestion ∙ ap (make q.energy q.congestion) s.total
+
+same_prices : (m : Parts) (a b : Answer Fraction) → FitsReport m a → FitsReport m b → a.duals.energy ≡ b.duals.energy
+    → AllByRecursion (λ k. SamePrice (price_of a k) (price_of b k)) (places (length m.buses)) → a.prices ≡ b.prices
+same_prices m a b p q e all =
+    let d : Price Fraction = record { energy = none; congestion = none; total = none } in
+    ext_get_or d a.prices b.prices (p.prices ∙ sym q.prices) (λ i h.
+    same_price (price_of a i) (price_of b i) (p.energy i d h ∙ e ∙ sym (q.energy i d (Prim.omega (arith, h, p.prices, q.prices))))
+    (at_places (λ k. SamePrice (price_of a k) (price_of b k)) (length m.buses) i all (Prim.omega (arith, h, p.prices))))
+
+same_duals : (d e : Duals Fraction) → d.energy ≡ e.energy → d.limits ≡ e.limits → d ≡ e
+same_duals d e p q =
+    let make : Fraction → List (Dual Fraction) → Duals Fraction = λ u v. record { energy = u; limits = v } in
+    ap (λ u. make u d.limits) p ∙ ap (make e.energy) q
+
+same_money : (d e : Money Fraction) → d.units ≡ e.units → d.loads ≡ e.loads → d.rents ≡ e.rents → d.surplus ≡ e.surplus → d ≡ e
+same_money d e p q r s =
+    let make : List (UnitPay Fraction) → List (Load Fraction) → List (Rent Fraction) → Fraction → Money Fraction = λ t u v w. record { units = t; loads = u; rents = v; surplus = w } in
+    ap (λ t. make t d.loads d.rents d.surplus) p ∙ ap (λ u. make e.units u d.rents d.surplus) q
+    ∙ ap (λ v. make e.units e.loads v d.surplus) r ∙ ap (make e.units e.loads e.rents) s
+
+same_answer : (a b : Answer Fraction) → a.dispatch ≡ b.dispatch → a.duals ≡ b.duals → a.prices ≡ b.prices → a.welfare ≡ b.welfare → a.money ≡ b.money → a ≡ b
+same_answer a b p q r s t =
+    let make : List Fraction → Duals Fraction → List (Price Fraction) → Fraction → Money Fraction → Answer Fraction =
+    λ u v w x y. record { dispatch = u; duals = v; prices = w; welfare = x; money = y } in
+    ap (λ u. make u a.duals a.prices a.welfare a.money) p ∙ ap (λ v. make b.dispatch v a.prices a.welfare a.money) q
+    ∙ ap (λ w. make b.dispatch b.duals w a.welfare a.money) r ∙ ap (λ x. make b.dispatch b.duals b.prices x a.money) s
+    ∙ ap (make b.dispatch b.duals b.prices b.welfare) t
+
+in_order : (h b k u l s : List ℕ) → h ++ b ++ k ++ u ++ l ++ s ≡ h ++ (b ++ (k ++ (u ++ (l ++ s))))
+in_order h b k u l s = Prim.simp append_assoc
+
+pub reports_apart : ReportsApart
+unfolding cleared_text
+reports_apart m a b p q e =
+    let buses = places (length m.buses) in
+    let blocks = places (length m.blocks) in
+    let units = places (length m.units) in
+    let split = λ (x : Answer Fraction). in_order (head_text x.welfare x.duals.energy) (lines_of_buses m x) (lines_of_blocks m x) (lines_of_units m x) (lines_of_loads m x) (surplus_text x.money.surplus) in
+    let head = head_apart a.welfare b.welfare a.duals.energy b.duals.energy _ _ (sym (split a) ∙ e ∙ split b) in
+    let prices = lines_apart (bus_line_at m a) (bus_line_at m b) (λ k. SamePrice (price_of a k) (price_of b k)) (λ k. bus_apart (bus_at m k).number (price_of a k) (price_of b k)) buses _ _ head.2 in
+    let dispatch = lines_apart (block_line_at m a) (block_line_at m b) (λ k. mw_of a k ≡ mw_of b k)
+    (λ k. block_apart (unit_at m (block_at m k).unit).row (block_at m k).side (block_number m k) (mw_of a k) (mw_of b k)) blocks _ _ prices.1 in
+    let pays = lines_apart (unit_line_at m a) (unit_line_at m b) (λ k. pay_of a k ≡ pay_of b k) (λ k. unit_apart (unit_at m k).row (pay_of a k) (pay_of b k)) units _ _ dispatch.1 in
+    let loads = lines_apart (load_line_at m a) (load_line_at m b) (λ k. load_of a k ≡ load_of b k) (λ k. load_apart (bus_at m k).number (load_of a k) (load_of b k)) buses _ _ pays.1 in
+    same_answer a b
+    (same_entries none a.dispatch b.dispatch (length m.blocks) p.dispatch q.dispatch dispatch.0)
+    (same_duals a.duals b.duals head.1 (p.limits ∙ sym q.limits))
+    (same_prices m a b p q head.1 prices.0)
+    head.0
+    (same_money a.money b.money
+    (same_entries (record { mw = none; paid = none }) a.money.units b.money.units (length m.units) p.units q.units pays.0)
+    (same_entries (record { mw = none; pays = none }) a.money.loads b.money.loads (length m.buses) p.loads q.loads loads.0)
+    (p.rents ∙ sym q.rents)
+    (surplus_apart a.money.surplus b.money.surplus loads.1))

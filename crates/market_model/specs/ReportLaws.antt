@@ -1,0 +1,20 @@
+-- A report has one reading.
+use Rattle.std.specs.Prelude.{◌≡◌, [], length, All}
+use Rattle.fraction_theory.specs.Fraction.{Fraction}
+use Rattle.market_model.specs.declared.participants.Parts.{Parts}
+use Rattle.market_model.specs.declared.answered.Answer.{Answer}
+use Rattle.market_model.specs.Reports.{cleared_text}
+
+-- an entry for each part of the market, no limits, and each bus price made from the one price of energy
+pub record FitsReport (m : Parts) (a : Answer Fraction) : Type 0 where
+  pub dispatch : length a.dispatch ≡ length m.blocks
+  pub prices : length a.prices ≡ length m.buses
+  pub units : length a.money.units ≡ length m.units
+  pub loads : length a.money.loads ≡ length m.buses
+  pub energy : All (λ p. p.energy ≡ a.duals.energy) a.prices
+  pub limits : a.duals.limits ≡ []
+  pub rents : a.money.rents ≡ []
+
+-- two answers to a market with one report are one
+abbrev pub ReportsApart : Type 0
+ReportsApart = (m : Parts) (a b : Answer Fraction) → FitsReport m a → FitsReport m b → cleared_text m a ≡ cleared_text m b → a ≡ b
