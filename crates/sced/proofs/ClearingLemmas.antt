@@ -1,10 +1,10 @@
 -- Blocks that fill what the demands leave, at the price of energy, clear their market.
-use Rattle.std.specs.Prelude.{◌≡◌, ℕ, ◌<◌, ℤ, pos, ◌-ℤ◌, ◌+ℤ◌, ◌≤ℤ◌, ◌<ℤ◌, List, [], ◌∷◌, map, length, slice_index_or, refl}
+use Rattle.std.specs.Prelude.{◌≡◌, ℕ, ◌<◌, ℤ, pos, ◌-ℤ◌, ◌+ℤ◌, ◌≤ℤ◌, ◌<ℤ◌, List, [], ◌∷◌, length, slice_index_or, refl}
 use Rattle.std.proofs.Common.{ap, sym, ◌∙◌, arith, neg_ℤ}
 use mathlib.Core.Path.{ap₂}
 use Rattle.std.proofs.lemmas.Int.{ints}
 use Rattle.std.proofs.lemmas.List.{get_or-map}
-use Rattle.fraction_theory.specs.Fraction.{Fraction, whole, neg_ℚ, ◌+ℚ◌, ◌-ℚ◌, ◌*ℚ◌}
+use Rattle.fraction_theory.specs.Fraction.{Fraction, whole, neg_ℚ, ◌+ℚ◌, ◌-ℚ◌}
 use Rattle.fraction_theory.specs.Sums.{sum_by}
 use Rattle.fraction_theory.proofs.Ring.{by_ring, at, pnil, pneg, ◌⊕◌}
 use Rattle.fraction_theory.proofs.FieldLaws.{ring_ℚ, whole-+ℚ, whole-neg}
@@ -59,9 +59,8 @@ accepted_at value m filled [] each j h = absurd (Prim.omega arith)
 accepted_at value m filled (d ∷ ds) each j h = get_or-map value (d ∷ ds) j d zero h ∙ each j h d
 
 module _ (m : Parts) (x : Dispatch) (filled : List ℤ) (energy : ℤ) (h : IsMarket m) (count : length x.blocks ≡ length m.blocks) (filled_count : length filled ≡ length m.blocks)
-  (fills : AllPlaces (λ place. Fills energy (slice_index_or m.blocks place no_block)) filled)
-  (same : (j : ℕ) → j < length m.blocks → accepted x j ≡ whole (taken m filled j)) where
-
+    (fills : AllPlaces (λ place. Fills energy (slice_index_or m.blocks place no_block)) filled)
+    (same : (j : ℕ) → j < length m.blocks → accepted x j ≡ whole (taken m filled j)) where
   fills_at : (j : ℕ) → j < length m.blocks → Fills energy (block_at m j) (slice_index_or filled j (pos 0))
   fills_at j lt = fills j (Prim.omega (arith, filled_count)) (pos 0)
 
@@ -71,10 +70,12 @@ module _ (m : Parts) (x : Dispatch) (filled : List ℤ) (energy : ℤ) (h : IsMa
       (λ j lt. taken_within (block_at m j).side (block_at m j).quantity (slice_index_or filled j (pos 0)) (fills_at j lt).low (fills_at j lt).high)
 
   pub is_supported : (d : Duals Fraction) → d.energy ≡ whole energy → Supports m x d
-  is_supported d e = record { blocks = λ j lt.
-    block_supported-by_whole m d x j energy (taken m filled j) e (same j lt)
-    (gains_full (block_at m j).side (block_at m j).price energy (block_at m j).quantity (slice_index_or filled j (pos 0)) (fills_at j lt).cheap (fills_at j lt).dear)
-    (loses_none (block_at m j).side (block_at m j).price energy (block_at m j).quantity (slice_index_or filled j (pos 0)) (fills_at j lt).cheap (fills_at j lt).dear) }
+  is_supported d e = record {
+    blocks = λ j lt.
+        block_supported-by_whole m d x j energy (taken m filled j) e (same j lt)
+        (gains_full (block_at m j).side (block_at m j).price energy (block_at m j).quantity (slice_index_or filled j (pos 0)) (fills_at j lt).cheap (fills_at j lt).dear)
+        (loses_none (block_at m j).side (block_at m j).price energy (block_at m j).quantity (slice_index_or filled j (pos 0)) (fills_at j lt).cheap (fills_at j lt).dear);
+  }
 
   raises : sum_by (raised_by m x) (places (length m.blocks)) ≡ whole (int_sum (λ f. f) filled) +ℚ neg_ℚ (whole (int_sum bought_of m.blocks))
   raises =

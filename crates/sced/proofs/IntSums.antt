@@ -1,6 +1,5 @@
 -- Sums of whole numbers, one element more.
-use Rattle.std.proofs.Common.{◌≡◌, ℕ, suc, zero, ◌+◌, ◌<◌, ℤ, pos, ◌+ℤ◌, List, [], ◌∷◌, take, length, get_or, arith, ap, ◌∙◌, refl, add-one}
-use Rattle.std.proofs.Math.IntN.{+ℤ_assoc, +ℤ_comm, +ℤ_idr}
+use Rattle.std.proofs.Common.{◌≡◌, ℕ, suc, zero, ◌+◌, ◌<◌, ℤ, ◌+ℤ◌, List, [], ◌∷◌, take, length, get_or, arith, add-one}
 use Rattle.std.proofs.lemmas.Int.{ints}
 use Rattle.sced.specs.Filling.{int_sum}
 

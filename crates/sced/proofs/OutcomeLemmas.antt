@@ -1,5 +1,5 @@
 -- The prices and the settlement of a dispatch at one price of energy are right.
-use Rattle.std.specs.Prelude.{◌≡◌, ℕ, ◌<◌, ℤ, pos, ◌+ℤ◌, ◌-ℤ◌, List, [], ◌∷◌, ◌++◌, map, length, slice_index_or, refl}
+use Rattle.std.specs.Prelude.{◌≡◌, ℕ, ◌<◌, ℤ, pos, ◌+ℤ◌, ◌-ℤ◌, List, [], ◌∷◌, map, length, slice_index_or, refl}
 use Rattle.std.proofs.Common.{ap, sym, ◌∙◌, get_or, arith}
 use mathlib.Core.Path.{ap₂}
 use Rattle.std.proofs.lemmas.List.{get_or-map, length-map}
@@ -52,8 +52,7 @@ sum_by-at g d ys n f count each =
     ∙ sum_by-same_along (λ j. g (slice_index_or ys j d)) f (places n) (places_all (λ j. g (slice_index_or ys j d) ≡ f j) n each)
 
 module _ {N : Type 0} (value : N → Fraction) (m : Parts) (d : Duals Fraction) (energy : N) (ps : List (Price N)) (h : IsMarket m) (count : length ps ≡ length m.buses) (e : value energy ≡ d.energy)
-  (each : AllPlaces (λ _ price. (price.energy ≡ energy) × (price.total ≡ energy) × (value price.congestion ≡ whole (pos 0))) ps) where
-
+    (each : AllPlaces (λ _ price. (price.energy ≡ energy) × (price.total ≡ energy) × (value price.congestion ≡ whole (pos 0))) ps) where
   pub prices_right : (i : ℕ) → i < length m.buses
       → slice_index_or (map (price_value value) ps) i (record { energy = zero; congestion = zero; total = zero }) ≡ record { energy = d.energy; congestion = zero; total = bus_price m d i }
   unfolding bus_price
@@ -71,8 +70,7 @@ module _ {N : Type 0} (value : N → Fraction) (m : Parts) (d : Duals Fraction) 
       at_place (λ p. value p.total) ps i zero (λ t. t ≡ d.energy) lt' (λ p. ap value (each i lt' p).1 ∙ e)
 
   module _ (ds : List N) (us : List (UnitPay N)) (units : length us ≡ length m.units)
-    (unit_each : AllPlaces (λ place. PaysUnit value m ds place (price_at value ps (unit_at m place).bus)) us) where
-
+      (unit_each : AllPlaces (λ place. PaysUnit value m ds place (price_at value ps (unit_at m place).bus)) us) where
     pub units_right : (u : ℕ) → u < length m.units
         → slice_index_or (map (unit_pay_at value) us) u (record { mw = zero; paid = zero }) ≡ record { mw = output m (dispatch_of value ds) u; paid = paid m (dispatch_of value ds) d u }
     unfolding paid
@@ -84,7 +82,6 @@ module _ {N : Type 0} (value : N → Fraction) (m : Parts) (d : Duals Fraction) 
         is.mw (is.paid ∙ ap₂ ◌*ℚ◌ (paid_at (unit_at m u).bus (unit_bus-in m h u lt)) is.mw))
 
     module _ (ls : List (Load N)) (loads : length ls ≡ length m.buses) (load_each : AllPlaces (λ place. LoadPays value m place (price_at value ps place)) ls) where
-
       pub loads_right : (i : ℕ) → i < length m.buses → slice_index_or (map (load_at value) ls) i (record { mw = zero; pays = zero }) ≡ record { mw = demand m i; pays = pays m d i }
       unfolding pays
       loads_right i lt =

@@ -1,13 +1,12 @@
 -- Sums of terms by place, one place more.
-use Rattle.std.specs.Prelude.{◌≡◌, ℕ, ◌+◌, ◌<◌, pos, ℤ, List, [], ◌∷◌, ◌++◌, map, filter, length, refl, slice_index_or, Bool, true, false, if◌then◌else◌}
+use Rattle.std.specs.Prelude.{◌≡◌, ℕ, ◌+◌, ◌<◌, pos, ℤ, List, [], ◌∷◌, ◌++◌, map, filter, length, refl, Bool, true, false, if◌then◌else◌}
 use Rattle.std.proofs.Common.{zero, suc, ap, sym, ◌∙◌, arith, get_or, add-one, take}
 use Rattle.std.specs.List.{range_with_len}
 use Rattle.std.proofs.lemmas.List.{map-append, take_more}
 use Rattle.std.proofs.lemmas.List.Elements.{filter-append}
 use Rattle.fraction_theory.specs.Fraction.{Fraction, whole, over, ◌+ℚ◌}
 use Rattle.fraction_theory.specs.Sums.{sum_by, Term, term_value, total}
-use Rattle.fraction_theory.proofs.Ring.{nil_plus}
-use Rattle.fraction_theory.proofs.FieldLaws.{ring_ℚ, +ℚ_nil, whole_is}
+use Rattle.fraction_theory.proofs.FieldLaws.{+ℚ_nil, whole_is}
 use Rattle.fraction_theory.proofs.FractionLaws.{over_is, same_value}
 use Rattle.fraction_theory.proofs.SumLaws.{sum_by-append, total-append}
 use Rattle.market_model.specs.Dispatch.{places}

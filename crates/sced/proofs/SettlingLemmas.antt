@@ -1,16 +1,16 @@
 -- Steps of the sums of a settlement.
-use Rattle.std.specs.Prelude.{◌≡◌, ℕ, ◌+◌, ◌<◌, ◌≤◌, ◌==◌, pos, List, [], ◌∷◌, map, filter, length, take, slice_index_or, if◌then◌else◌, refl}
-use Rattle.std.proofs.Common.{ap, sym, ◌∙◌, subst, get_or, arith}
+use Rattle.std.specs.Prelude.{◌≡◌, ℕ, ◌+◌, ◌<◌, ◌≤◌, ◌==◌, List, ◌∷◌, map, filter, length, take, if◌then◌else◌, refl}
+use Rattle.std.proofs.Common.{ap, sym, ◌∙◌, subst, get_or}
 use Rattle.std.proofs.lemmas.List.{get_or-map, take_all}
 use Rattle.fraction_theory.specs.Fraction.{Fraction, whole, neg_ℚ, ◌+ℚ◌, ◌*ℚ◌}
-use Rattle.fraction_theory.specs.Sums.{sum_by, Term, Product, term_value, total}
+use Rattle.fraction_theory.specs.Sums.{sum_by, Product, total}
 use Rattle.fraction_theory.proofs.FieldLaws.{+ℚ_assoc, +ℚ_nil}
 use Rattle.market_model.specs.declared.participants.Parts.{Parts}
 use Rattle.market_model.specs.declared.participants.Block.{Block}
 use Rattle.market_model.specs.declared.participants.Bus.{Bus}
 use Rattle.market_model.specs.declared.answered.Price.{Price}
 use Rattle.market_model.specs.declared.answered.UnitPay.{UnitPay}
-use Rattle.market_model.specs.Dispatch.{Dispatch, zero, places, signed, fixed_term, block_term, block_at, unit_at, bus_at, accepted, demand}
+use Rattle.market_model.specs.Dispatch.{zero, places, signed, fixed_term, block_term, block_at, unit_at, bus_at, accepted, demand}
 use Rattle.market_model.specs.Optimality.{block_value}
 use Rattle.sced.specs.Fitting.{dispatch_of}
 use Rattle.sced.specs.Paying.{price_at, PaysUnit}

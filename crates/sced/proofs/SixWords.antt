@@ -1,5 +1,5 @@
 -- A list of six.
-use Rattle.std.proofs.Common.{◌≡◌, ℕ, List, [], ◌∷◌, map, length, get_or, arith, refl}
+use Rattle.std.proofs.Common.{◌≡◌, List, [], ◌∷◌, map, length, get_or, arith, refl}
 
 pub map_six : {A B : Type 0} (f : A → B) (xs : List A) (x₀ x₁ x₂ x₃ x₄ x₅ : A) → length xs ≡ 6
     → map f xs ≡ f (get_or xs 0 x₀) ∷ f (get_or xs 1 x₁) ∷ f (get_or xs 2 x₂) ∷ f (get_or xs 3 x₃) ∷ f (get_or xs 4 x₄) ∷ f (get_or xs 5 x₅) ∷ []

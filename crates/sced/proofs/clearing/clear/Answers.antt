@@ -1,4 +1,4 @@
-use Rattle.std.proofs.Common.{◌≡◌, ◌∙◌, ap, sym, subst, arith, pos, ℤ, List, length, w64, ◌+ℤ◌, ◌-ℤ◌}
+use Rattle.std.proofs.Common.{◌≡◌, ◌∙◌, ap, subst, arith, pos, ℤ, List, length, w64, ◌+ℤ◌, ◌-ℤ◌}
 use mir.Val.{to_z, of_z}
 use Rattle.std.specs.Prelude.{slice_index_or}
 use Rattle.std.proofs.lemmas.Int.{ints}
@@ -31,23 +31,23 @@ returns-clause-right g c =
     let fixed_most = c.fixed_output.ensures.bound in
     let filled : List ℤ = c.in_ok-filled.filled.items in
     let filled_each : AllPlaces (λ place. Fills e (slice_index_or m.blocks place no_block)) filled =
-        subst (λ (bs : List Block). AllPlaces (λ place. Fills e (slice_index_or bs place no_block)) filled) blocks c.in_ok-filled.ensures.each in
+    subst (λ (bs : List Block). AllPlaces (λ place. Fills e (slice_index_or bs place no_block)) filled) blocks c.in_ok-filled.ensures.each in
     let filled_all = c.in_ok-filled.ensures.all in
     let all : int_sum (λ f. f) filled ≡ (int_sum demand_of m.buses +ℤ int_sum bought_of m.blocks) -ℤ int_sum fixed_of m.units = omega (arith, ints, loads, bought, fixed) in
     let ds : List g.row.N.Denot = c.in_ok-dispatch.dispatch in
     let ps : List (Price g.row.N.Denot) = c.in_ok-prices.prices in
     let slice : c.as_slice.result.now ≡ filled = c.as_slice.ensures.value in
     let each : AllPlaces (λ place mw. value mw ≡ whole (accepted_of (slice_index_or m.blocks place no_block) (slice_index_or filled place (pos 0)))) ds =
-        subst (λ (bs : List Block). AllPlaces (λ place mw. value mw ≡ whole (accepted_of (slice_index_or bs place no_block) (slice_index_or filled place (pos 0)))) ds) blocks
-        (subst (λ (fs : List ℤ). AllPlaces (λ place mw. value mw ≡ whole (accepted_of (slice_index_or c.slice-blocks.result.now place no_block) (slice_index_or fs place (pos 0)))) ds) slice c.in_ok-dispatch.ensures.each) in
+    subst (λ (bs : List Block). AllPlaces (λ place mw. value mw ≡ whole (accepted_of (slice_index_or bs place no_block) (slice_index_or filled place (pos 0)))) ds) blocks
+    (subst (λ (fs : List ℤ). AllPlaces (λ place mw. value mw ≡ whole (accepted_of (slice_index_or c.slice-blocks.result.now place no_block) (slice_index_or fs place (pos 0)))) ds) slice c.in_ok-dispatch.ensures.each) in
     let count : length ds ≡ length m.blocks = c.in_ok-dispatch.ensures.count ∙ ap length blocks in
     let filled_count : length filled ≡ length m.blocks = grind (arith, common_steps) in
     let price_count : length ps ≡ length m.buses = grind (arith, common_steps) in
     let w_is : value c.in_ok-welfare.welfare ≡ welfare m (dispatch_of value ds) = c.in_ok-welfare.ensures ∙ ap (λ xs. welfare m (dispatch_of value xs)) c.slice-3.ensures in
     let units : AllPlaces (λ place. PaysUnit value m ds place (price_at value ps (unit_at m place).bus)) c.in_ok-money.money.units =
-        subst (λ qs. AllPlaces (λ place. PaysUnit value m ds place (price_at value qs (unit_at m place).bus)) c.in_ok-money.money.units) c.slice-5.ensures
-        (subst (λ xs. AllPlaces (λ place. PaysUnit value m xs place (price_at value c.slice-5.result.now (unit_at m place).bus)) c.in_ok-money.money.units) c.slice-4.ensures c.in_ok-money.ensures.units) in
+    subst (λ qs. AllPlaces (λ place. PaysUnit value m ds place (price_at value qs (unit_at m place).bus)) c.in_ok-money.money.units) c.slice-5.ensures
+    (subst (λ xs. AllPlaces (λ place. PaysUnit value m xs place (price_at value c.slice-5.result.now (unit_at m place).bus)) c.in_ok-money.money.units) c.slice-4.ensures c.in_ok-money.ensures.units) in
     let pays : AllPlaces (λ place. LoadPays value m place (price_at value ps place)) c.in_ok-money.money.loads =
-        subst (λ qs. AllPlaces (λ place. LoadPays value m place (price_at value qs place)) c.in_ok-money.money.loads) c.slice-5.ensures c.in_ok-money.ensures.loads in
+    subst (λ qs. AllPlaces (λ place. LoadPays value m place (price_at value qs place)) c.in_ok-money.money.loads) c.slice-5.ensures c.in_ok-money.ensures.loads in
     is_right value m market e filled ds c.duals.result ps c.in_ok-welfare.welfare c.datum-energy.result c.in_ok-money.money filled_count filled_each all count each
     c.duals.ensures.energy c.datum-energy.ensures c.duals.ensures.limits price_count c.in_ok-prices.ensures.each w_is c.in_ok-money.ensures.unit_count units c.in_ok-money.ensures.load_count pays c.in_ok-money.ensures.surplus

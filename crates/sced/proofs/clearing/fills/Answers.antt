@@ -1,7 +1,7 @@
-use Rattle.std.proofs.Common.{◌≡◌, ◌∙◌, ap, sym, subst, arith, rules, true, pos, w64, drop, get_or, ℤ, List, []}
+use Rattle.std.proofs.Common.{◌≡◌, ◌∙◌, sym, subst, arith, rules, true, w64, drop, ℤ, []}
 use mir.Val.{SFits, to_z, of_z}
 use mir.Syntax.{w128}
-use Rattle.std.specs.Prelude.{◌-ℤ◌, slice_index_or, length}
+use Rattle.std.specs.Prelude.{slice_index_or, length}
 use Rattle.std.specs.Result.{is_ok}
 use Rattle.std.proofs.lemmas.Int.{ints, to_z-of_z}
 use Rattle.std.proofs.lemmas.List.{drop_all, get_or_default}
@@ -10,7 +10,6 @@ use Rattle.market_model.specs.Market.{IsDatum}
 use Rattle.market_model.proofs.Data.{All-push}
 use Rattle.market_model.specs.declared.participants.Block.{Block}
 use Rattle.sced.specs.Filling.{int_sum, below_of, Fills, IsLess, IsReached, no_block}
-use Rattle.sced.specs.Paying.{AllPlaces}
 use Rattle.sced.proofs.PlacesLemmas.{AllPlaces-push}
 use Rattle.sced.proofs.FillingLemmas.{filling_start, filling_more, filling_end}
 use Rattle.sced.proofs.clearing.fills.Goals as goal

@@ -1,8 +1,8 @@
-use Rattle.std.proofs.Common.{◌≡◌, arith, true, ℤ, w64, sym, subst}
+use Rattle.std.proofs.Common.{◌≡◌, arith, w64, subst}
 use mir.Val.{to_z, of_z}
 use mir.Syntax.{w128}
 use Rattle.std.proofs.lemmas.Int.{ints, to_z-of_z}
-use Rattle.sced.specs.Filling.{int_sum, below_of, level_of, IsReached}
+use Rattle.sced.specs.Filling.{int_sum, below_of, level_of}
 use Rattle.sced.proofs.clearing.reaches.Goals as goal
 
 pub returns-then-below-left : goal.returns-then-below-left

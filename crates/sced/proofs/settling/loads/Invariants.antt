@@ -1,5 +1,4 @@
 use Rattle.std.proofs.Common.{◌≡◌, length}
-use Rattle.market_model.specs.Dispatch.{unit_at}
 use Rattle.sced.specs.Paying.{AllPlaces, LoadPays, price_at}
 use Rattle.sced.proofs.settling.loads.Given as goal
 
