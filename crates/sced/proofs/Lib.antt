@@ -6,6 +6,7 @@ pub mod OfferLemmas
 pub mod PlaceSums
 pub mod PlacesLemmas
 pub mod PlainCaseLemmas
+pub mod PoolingLemmas
 pub mod ReportLemmas
 pub mod SettlingLemmas
 pub mod SixWords

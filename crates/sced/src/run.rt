@@ -3,6 +3,7 @@
 ghost use Rattle.std.specs.Prelude.{◌≡◌, ◌⊎◌, ℕ, List, map, string_bytes, Ok, Err, IfOk, IfErr, MatchResult};
 ghost use Rattle.outside_store.specs.Causes.{Rose, Still};
 ghost use Rattle.outside_store.specs.Sinks.{Took, CountFault};
+ghost use Rattle.sced.specs.Pooling.{AtCase, AtOffers, pool_market, ClearsTo, PoolsTo};
 ghost use Rattle.sced.specs.Runs.{AsksNothing, IsSilent, IsTold, IsOfFiles, NamedReadFailed};
 
 use crate::clearing::{ClearFault, clear};
@@ -29,12 +30,22 @@ enum Refusal {
 }
 
 impl From<Memory> for Refusal {
+    ghost use Rattle.sced.specs.declared.run.Refusal.TheVariants as why;
+
+    ghost from_gives = { λ _ refusal. refusal ≡ why.Memory };
+
     fn from(_refused: Memory) -> Refusal {
         Refusal::Memory
     }
 }
 
 impl From<CaseFault> for Refusal {
+    ghost use Rattle.std.specs.Prelude.{◌⊎◌, ◌≢◌};
+    ghost use Rattle.sced.specs.declared.plain_case.CaseFault.TheVariants as fault_why;
+    ghost use Rattle.sced.specs.declared.run.Refusal.TheVariants as why;
+
+    ghost from_gives = { λ fault refusal. ((fault ≡ fault_why.Memory) × (refusal ≡ why.Memory)) ⊎ ((fault ≢ fault_why.Memory) × (refusal ≡ why.Case)) };
+
     fn from(fault: CaseFault) -> Refusal {
         match fault {
             CaseFault::Plain { line: _ } => Refusal::Case,
@@ -44,6 +55,12 @@ impl From<CaseFault> for Refusal {
 }
 
 impl From<NetFault> for Refusal {
+    ghost use Rattle.std.specs.Prelude.{◌⊎◌, ◌≢◌};
+    ghost use Rattle.sced.specs.declared.live_parts.NetFault.TheVariants as fault_why;
+    ghost use Rattle.sced.specs.declared.run.Refusal.TheVariants as why;
+
+    ghost from_gives = { λ fault refusal. ((fault ≡ fault_why.Memory) × (refusal ≡ why.Memory)) ⊎ ((fault ≢ fault_why.Memory) × (refusal ≡ why.Case)) };
+
     fn from(fault: NetFault) -> Refusal {
         match fault {
             NetFault::Memory => Refusal::Memory,
@@ -53,6 +70,12 @@ impl From<NetFault> for Refusal {
 }
 
 impl From<OfferFault> for Refusal {
+    ghost use Rattle.std.specs.Prelude.{◌⊎◌, ◌≢◌};
+    ghost use Rattle.sced.specs.declared.offer_table.OfferFault.TheVariants as fault_why;
+    ghost use Rattle.sced.specs.declared.run.Refusal.TheVariants as why;
+
+    ghost from_gives = { λ fault refusal. ((fault ≡ fault_why.Memory) × (refusal ≡ why.Memory)) ⊎ ((fault ≢ fault_why.Memory) × (refusal ≡ why.Offers)) };
+
     fn from(fault: OfferFault) -> Refusal {
         match fault {
             OfferFault::Memory => Refusal::Memory,
@@ -62,7 +85,13 @@ impl From<OfferFault> for Refusal {
 }
 
 /// The market of a case and its offers.
-fn market(alloc: Global, case: &[u8], offers: &[u8]) -> Result<Market, Refusal> {
+///
+/// The whole case is read before the offers.
+fn market(alloc: Global, case: &[u8], offers: &[u8]) -> Result<Market, Refusal>
+    ensures market { IfOk result (λ market. pool_market case.now offers.now ≡ Ok market) }
+    ensures case { result ≡ Err Refusal.Case → pool_market case.now offers.now ≡ Err AtCase }
+    ensures offers { result ≡ Err Refusal.Offers → pool_market case.now offers.now ≡ Err AtOffers }
+{
     if case.len() > MOST_BYTES {
         return Err(Refusal::Case);
     }
@@ -100,7 +129,8 @@ fn line(alloc: Global, status: Status, words: &[u8]) -> Result<Outcome, Memory>
 
 /// What clearing a market comes to.
 fn clear_outcome<N: Exact>(alloc: Global, market: &Market) -> Result<Outcome, Memory>
-    ensures { IfOk result (λ outcome. IsOfFiles outcome.status) }
+    ensures status { IfOk result (λ outcome. IsOfFiles outcome.status) }
+    ensures clears { IfOk result (λ outcome. ClearsTo market.now outcome.status outcome.text.items) }
 {
     match clear::<N>(alloc, market) {
         Ok(answer) => Ok(Outcome {
@@ -115,7 +145,8 @@ fn clear_outcome<N: Exact>(alloc: Global, market: &Market) -> Result<Outcome, Me
 
 /// What the bytes of a case and of offers come to.
 fn pool(alloc: Global, case: &[u8], offers: &[u8]) -> Result<Outcome, Memory>
-    ensures { IfOk result (λ outcome. IsOfFiles outcome.status) }
+    ensures status { IfOk result (λ outcome. IsOfFiles outcome.status) }
+    ensures pools { IfOk result (λ outcome. PoolsTo case.now offers.now outcome.status outcome.text.items) }
 {
     match market(alloc, case, offers) {
         Ok(market) => clear_outcome::<Frac>(alloc, &market),
