@@ -1,7 +1,8 @@
 -- What the bytes of a case and of offers stand for, and the text that is right for them.
-use Rattle.std.specs.Prelude.{◌≡◌, ℕ, nat_lt, List, length, codes, Result, Ok, Err, if◌then◌else◌}
+use Rattle.std.specs.Prelude.{◌≡◌, ℕ, nat_lt, List, length, codes, Option, Some, None, Result, Ok, Err, if◌then◌else◌}
 use Rattle.fraction_theory.specs.Fraction.{Fraction}
 use Rattle.csv_table.specs.Table.{and_then}
+use Rattle.outside_store.specs.Files.{Files}
 use Rattle.market_model.specs.declared.participants.Parts.{Parts}
 use Rattle.market_model.specs.declared.answered.Answer.{Answer}
 use Rattle.market_model.specs.Outcomes.{IsRight}
@@ -9,6 +10,8 @@ use Rattle.market_model.specs.Reports.{cleared_text}
 use Rattle.sced.specs.PlainCaseGrammar.{plain_case}
 use Rattle.sced.specs.NetworkReading.{network_of, unit_list_of}
 use Rattle.sced.specs.OfferTable.{blocks_of_table}
+use Rattle.sced.specs.Runs.{AsksNothing}
+use Rattle.sced.specs.Words.{AsksPool}
 use Rattle.sced.specs.declared.status.Status.{Status}
 use Rattle.sced.specs.declared.status.Status.TheVariants as status
 
@@ -61,3 +64,13 @@ ComesTo (Err AtOffers) s text = (s ≡ status.Refused) × (text ≡ codes "refus
 -- the status and the text are right for the bytes of a case and of offers
 abbrev pub PoolsTo : List ℕ → List ℕ → Status → List ℕ → Type 0
 PoolsTo case offers s text = ComesTo (pool_market case offers) s text
+
+-- the status and the text are right for the bytes of the two files of these names, where the files are told
+abbrev pub FilesPoolTo : Option Files → List ℕ → List ℕ → Status → List ℕ → Type 0
+FilesPoolTo None case offers s text = Unit {0}
+FilesPoolTo (Some files) case offers s text = (case_bytes offers_bytes : List ℕ) × (files case ≡ Some case_bytes) × (files offers ≡ Some offers_bytes) × PoolsTo case_bytes offers_bytes s text
+
+-- the status and the text are right for the files that the words name, and refuse words that name none
+pub record AnswersTo (files : Option Files) (words : List (List ℕ)) (s : Status) (text : List ℕ) : Type 0 where
+  pub pooled : (case offers : List ℕ) → AsksPool words case offers → FilesPoolTo files case offers s text
+  pub refused : AsksNothing words → text ≡ codes "refused words\n"

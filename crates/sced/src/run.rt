@@ -2,8 +2,9 @@
 
 ghost use Rattle.std.specs.Prelude.{◌≡◌, ◌⊎◌, ℕ, List, map, string_bytes, Ok, Err, IfOk, IfErr, MatchResult};
 ghost use Rattle.outside_store.specs.Causes.{Rose, Still};
+ghost use Rattle.outside_store.specs.Files.{Reads, SameFiles};
 ghost use Rattle.outside_store.specs.Sinks.{Took, CountFault};
-ghost use Rattle.sced.specs.Pooling.{AtCase, AtOffers, pool_market, ClearsTo, PoolsTo};
+ghost use Rattle.sced.specs.Pooling.{most_file, AtCase, AtOffers, pool_market, ClearsTo, PoolsTo, FilesPoolTo, AnswersTo};
 ghost use Rattle.sced.specs.Runs.{AsksNothing, IsSilent, IsTold, IsOfFiles, NamedReadFailed};
 
 use crate::clearing::{ClearFault, clear};
@@ -171,6 +172,8 @@ fn put<K: Sink>(out: &mut K, outcome: &Outcome) -> Status
 
 /// The bytes of a named file, cut behind the first too many.
 fn read_file<S: Store>(alloc: Global, store: &mut S, name: &str) -> Result<Vec<u8>, Status>
+    ensures same { SameFiles (S.files store.old) (S.files store.new) }
+    ensures bytes { IfOk result (λ bytes. Reads (S.files store.old) name.now most_file bytes.items) }
     ensures stop { IfErr result IsSilent }
     ensures failed { result ≡ Err Status.ReadFailed → Rose (S.failed_reads store.old name.now) (S.failed_reads store.new name.now) }
     ensures reads { ¬ (result ≡ Err Status.ReadFailed) → Still (S.failed_reads store.old) (S.failed_reads store.new) }
@@ -200,6 +203,7 @@ fn pool_outcome<S: Store>(
     store: &mut S,
 ) -> Result<Outcome, Status>
     ensures told { MatchResult result (λ outcome. IsOfFiles outcome.status) IsSilent }
+    ensures pooled { IfOk result (λ outcome. FilesPoolTo (S.files store.old) files.now.case.now files.now.offers.now outcome.status outcome.text.items) }
     ensures failed { result ≡ Err Status.ReadFailed → Rose (S.failed_reads store.old files.now.case.now) (S.failed_reads store.new files.now.case.now) ⊎ Rose (S.failed_reads store.old files.now.offers.now) (S.failed_reads store.new files.now.offers.now) }
     ensures reads { ¬ (result ≡ Err Status.ReadFailed) → Still (S.failed_reads store.old) (S.failed_reads store.new) }
     ensures writes { Still (S.failed_writes store.old) (S.failed_writes store.new) }
@@ -218,6 +222,7 @@ fn asked_outcome<S: Store>(
     ensures usage { IfOk result (λ outcome. outcome.status ≡ Status.Usage → AsksNothing (map string_bytes words.entry.now)) }
     ensures nothing_asked { AsksNothing (map string_bytes words.entry.now) → MatchResult result (λ outcome. outcome.status ≡ Status.Usage) (λ status. status ≡ Status.Memory) }
     ensures told { MatchResult result (λ outcome. IsTold outcome.status) IsSilent }
+    ensures answers { IfOk result (λ outcome. AnswersTo (S.files store.old) (map string_bytes words.entry.now) outcome.status outcome.text.items) }
     ensures failed { result ≡ Err Status.ReadFailed → NamedReadFailed (map string_bytes words.entry.now) (S.failed_reads store.old) (S.failed_reads store.new) }
     ensures reads { ¬ (result ≡ Err Status.ReadFailed) → Still (S.failed_reads store.old) (S.failed_reads store.new) }
     ensures writes { Still (S.failed_writes store.old) (S.failed_writes store.new) }
@@ -244,7 +249,9 @@ pub fn run<S: Store, K: Sink>(alloc: Global, words: &[String], store: &mut S, ou
 
     // A text is put once, and none where a read failed or memory was refused.
     ensures silent { IsSilent result → K.taken out.new ≡ K.taken out.old }
-    ensures told { ¬ IsSilent result → (text : List ℕ) × Took (result ≡ Status.WriteFailed) text (K.taken out.old) (K.taken out.new) }
+    // The text and a status are right for the whole bytes of the files that the words name, where the store tells its files. The
+    // result is that status, unless the put failed.
+    ensures told { ¬ IsSilent result → (text : List ℕ) × (status : Status) × Took (result ≡ Status.WriteFailed) text (K.taken out.old) (K.taken out.new) × ((result ≡ status) ⊎ (result ≡ Status.WriteFailed)) × AnswersTo (S.files store.old) (map string_bytes words.entry.now) status text }
 {
     match asked_outcome(alloc, words, store) {
         Ok(outcome) => put(out, &outcome),

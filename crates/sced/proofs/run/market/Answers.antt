@@ -1,4 +1,4 @@
-use Rattle.std.proofs.Common.{◌≡◌, ◌≢◌, ◌⊎◌, inl, inr, sym, ap, ◌∙◌, arith, Ok, Err}
+use Rattle.std.proofs.Common.{◌≢◌, inl, inr, sym, ap, ◌∙◌, arith, Ok, Err}
 use Rattle.std.proofs.lemmas.Result.{err_from_is_err_and}
 use Rattle.sced.specs.declared.plain_case.CaseFault.TheVariants as case_fault
 use Rattle.sced.specs.declared.live_parts.NetFault.TheVariants as net_fault
