@@ -3,7 +3,6 @@ use Rattle.std.proofs.lemmas.Result.{err_from_is_err_and}
 use Rattle.sced.specs.declared.plain_case.CaseFault.TheVariants as case_fault
 use Rattle.sced.specs.declared.live_parts.NetFault.TheVariants as net_fault
 use Rattle.sced.specs.declared.offer_table.OfferFault.TheVariants as offer_fault
-use Rattle.sced.specs.declared.run.Refusal.TheVariants as refusal
 use Rattle.sced.proofs.PoolingLemmas.{case-long, plain-fault, network-fault, offers-long, blocks-fault, market-is}
 use Rattle.sced.proofs.run.market.Goals as goal
 
