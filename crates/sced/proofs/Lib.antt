@@ -8,6 +8,7 @@ pub mod OutcomeLemmas
 pub mod PlaceSums
 pub mod PlacesLemmas
 pub mod PlainCaseLemmas
+pub mod PoolingLemmas
 pub mod ReportLemmas
 pub mod SettlingLemmas
 pub mod SixWords

@@ -9,6 +9,7 @@ pub mod Offers
 pub mod Paying
 pub mod PlainCaseGrammar
 pub mod PlainCases
+pub mod Pooling
 pub mod Runs
 pub mod Status
 pub mod Words

@@ -2,7 +2,9 @@
 
 ghost use Rattle.std.specs.Prelude.{◌≡◌, ◌⊎◌, ℕ, List, map, string_bytes, Ok, Err, IfOk, IfErr, MatchResult};
 ghost use Rattle.outside_store.specs.Causes.{Rose, Still};
+ghost use Rattle.outside_store.specs.Files.{Reads, SameFiles};
 ghost use Rattle.outside_store.specs.Sinks.{Took, CountFault};
+ghost use Rattle.sced.specs.Pooling.{most_file, AtCase, AtOffers, pool_market, ClearsTo, PoolsTo, FilesPoolTo, AnswersTo};
 ghost use Rattle.sced.specs.Runs.{AsksNothing, IsSilent, IsTold, IsOfFiles, NamedReadFailed};
 
 use crate::clearing::{ClearFault, clear};
@@ -29,12 +31,22 @@ enum Refusal {
 }
 
 impl From<Memory> for Refusal {
+    ghost use Rattle.sced.specs.declared.run.Refusal.TheVariants as why;
+
+    ghost from_gives = { λ _ refusal. refusal ≡ why.Memory };
+
     fn from(_refused: Memory) -> Refusal {
         Refusal::Memory
     }
 }
 
 impl From<CaseFault> for Refusal {
+    ghost use Rattle.std.specs.Prelude.{◌⊎◌, ◌≢◌};
+    ghost use Rattle.sced.specs.declared.plain_case.CaseFault.TheVariants as fault_why;
+    ghost use Rattle.sced.specs.declared.run.Refusal.TheVariants as why;
+
+    ghost from_gives = { λ fault refusal. ((fault ≡ fault_why.Memory) × (refusal ≡ why.Memory)) ⊎ ((fault ≢ fault_why.Memory) × (refusal ≡ why.Case)) };
+
     fn from(fault: CaseFault) -> Refusal {
         match fault {
             CaseFault::Plain { line: _ } => Refusal::Case,
@@ -44,6 +56,12 @@ impl From<CaseFault> for Refusal {
 }
 
 impl From<NetFault> for Refusal {
+    ghost use Rattle.std.specs.Prelude.{◌⊎◌, ◌≢◌};
+    ghost use Rattle.sced.specs.declared.live_parts.NetFault.TheVariants as fault_why;
+    ghost use Rattle.sced.specs.declared.run.Refusal.TheVariants as why;
+
+    ghost from_gives = { λ fault refusal. ((fault ≡ fault_why.Memory) × (refusal ≡ why.Memory)) ⊎ ((fault ≢ fault_why.Memory) × (refusal ≡ why.Case)) };
+
     fn from(fault: NetFault) -> Refusal {
         match fault {
             NetFault::Memory => Refusal::Memory,
@@ -53,6 +71,12 @@ impl From<NetFault> for Refusal {
 }
 
 impl From<OfferFault> for Refusal {
+    ghost use Rattle.std.specs.Prelude.{◌⊎◌, ◌≢◌};
+    ghost use Rattle.sced.specs.declared.offer_table.OfferFault.TheVariants as fault_why;
+    ghost use Rattle.sced.specs.declared.run.Refusal.TheVariants as why;
+
+    ghost from_gives = { λ fault refusal. ((fault ≡ fault_why.Memory) × (refusal ≡ why.Memory)) ⊎ ((fault ≢ fault_why.Memory) × (refusal ≡ why.Offers)) };
+
     fn from(fault: OfferFault) -> Refusal {
         match fault {
             OfferFault::Memory => Refusal::Memory,
@@ -62,7 +86,13 @@ impl From<OfferFault> for Refusal {
 }
 
 /// The market of a case and its offers.
-fn market(alloc: Global, case: &[u8], offers: &[u8]) -> Result<Market, Refusal> {
+///
+/// The whole case is read before the offers.
+fn market(alloc: Global, case: &[u8], offers: &[u8]) -> Result<Market, Refusal>
+    ensures market { IfOk result (λ market. pool_market case.now offers.now ≡ Ok market) }
+    ensures case { result ≡ Err Refusal.Case → pool_market case.now offers.now ≡ Err AtCase }
+    ensures offers { result ≡ Err Refusal.Offers → pool_market case.now offers.now ≡ Err AtOffers }
+{
     if case.len() > MOST_BYTES {
         return Err(Refusal::Case);
     }
@@ -100,7 +130,8 @@ fn line(alloc: Global, status: Status, words: &[u8]) -> Result<Outcome, Memory>
 
 /// What clearing a market comes to.
 fn clear_outcome<N: Exact>(alloc: Global, market: &Market) -> Result<Outcome, Memory>
-    ensures { IfOk result (λ outcome. IsOfFiles outcome.status) }
+    ensures status { IfOk result (λ outcome. IsOfFiles outcome.status) }
+    ensures clears { IfOk result (λ outcome. ClearsTo market.now outcome.status outcome.text.items) }
 {
     match clear::<N>(alloc, market) {
         Ok(answer) => Ok(Outcome {
@@ -115,7 +146,8 @@ fn clear_outcome<N: Exact>(alloc: Global, market: &Market) -> Result<Outcome, Me
 
 /// What the bytes of a case and of offers come to.
 fn pool(alloc: Global, case: &[u8], offers: &[u8]) -> Result<Outcome, Memory>
-    ensures { IfOk result (λ outcome. IsOfFiles outcome.status) }
+    ensures status { IfOk result (λ outcome. IsOfFiles outcome.status) }
+    ensures pools { IfOk result (λ outcome. PoolsTo case.now offers.now outcome.status outcome.text.items) }
 {
     match market(alloc, case, offers) {
         Ok(market) => clear_outcome::<Frac>(alloc, &market),
@@ -140,6 +172,8 @@ fn put<K: Sink>(out: &mut K, outcome: &Outcome) -> Status
 
 /// The bytes of a named file, cut behind the first too many.
 fn read_file<S: Store>(alloc: Global, store: &mut S, name: &str) -> Result<Vec<u8>, Status>
+    ensures same { SameFiles (S.files store.old) (S.files store.new) }
+    ensures bytes { IfOk result (λ bytes. Reads (S.files store.old) name.now most_file bytes.items) }
     ensures stop { IfErr result IsSilent }
     ensures failed { result ≡ Err Status.ReadFailed → Rose (S.failed_reads store.old name.now) (S.failed_reads store.new name.now) }
     ensures reads { ¬ (result ≡ Err Status.ReadFailed) → Still (S.failed_reads store.old) (S.failed_reads store.new) }
@@ -169,6 +203,7 @@ fn pool_outcome<S: Store>(
     store: &mut S,
 ) -> Result<Outcome, Status>
     ensures told { MatchResult result (λ outcome. IsOfFiles outcome.status) IsSilent }
+    ensures pooled { IfOk result (λ outcome. FilesPoolTo (S.files store.old) files.now.case.now files.now.offers.now outcome.status outcome.text.items) }
     ensures failed { result ≡ Err Status.ReadFailed → Rose (S.failed_reads store.old files.now.case.now) (S.failed_reads store.new files.now.case.now) ⊎ Rose (S.failed_reads store.old files.now.offers.now) (S.failed_reads store.new files.now.offers.now) }
     ensures reads { ¬ (result ≡ Err Status.ReadFailed) → Still (S.failed_reads store.old) (S.failed_reads store.new) }
     ensures writes { Still (S.failed_writes store.old) (S.failed_writes store.new) }
@@ -187,6 +222,7 @@ fn asked_outcome<S: Store>(
     ensures usage { IfOk result (λ outcome. outcome.status ≡ Status.Usage → AsksNothing (map string_bytes words.entry.now)) }
     ensures nothing_asked { AsksNothing (map string_bytes words.entry.now) → MatchResult result (λ outcome. outcome.status ≡ Status.Usage) (λ status. status ≡ Status.Memory) }
     ensures told { MatchResult result (λ outcome. IsTold outcome.status) IsSilent }
+    ensures answers { IfOk result (λ outcome. AnswersTo (S.files store.old) (map string_bytes words.entry.now) outcome.status outcome.text.items) }
     ensures failed { result ≡ Err Status.ReadFailed → NamedReadFailed (map string_bytes words.entry.now) (S.failed_reads store.old) (S.failed_reads store.new) }
     ensures reads { ¬ (result ≡ Err Status.ReadFailed) → Still (S.failed_reads store.old) (S.failed_reads store.new) }
     ensures writes { Still (S.failed_writes store.old) (S.failed_writes store.new) }
@@ -213,7 +249,9 @@ pub fn run<S: Store, K: Sink>(alloc: Global, words: &[String], store: &mut S, ou
 
     // A text is put once, and none where a read failed or memory was refused.
     ensures silent { IsSilent result → K.taken out.new ≡ K.taken out.old }
-    ensures told { ¬ IsSilent result → (text : List ℕ) × Took (result ≡ Status.WriteFailed) text (K.taken out.old) (K.taken out.new) }
+    // The text and a status are right for the whole bytes of the files that the words name, where the store tells its files. The
+    // result is that status, unless the put failed.
+    ensures told { ¬ IsSilent result → (text : List ℕ) × (status : Status) × Took (result ≡ Status.WriteFailed) text (K.taken out.old) (K.taken out.new) × ((result ≡ status) ⊎ (result ≡ Status.WriteFailed)) × AnswersTo (S.files store.old) (map string_bytes words.entry.now) status text }
 {
     match asked_outcome(alloc, words, store) {
         Ok(outcome) => put(out, &outcome),

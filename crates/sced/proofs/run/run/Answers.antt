@@ -6,3 +6,6 @@ returns-in-Ok-clause-usage g c = λ usage case offers asks. elim c.put.ensures.s
   | inl same ↦ c.in-Ok.ensures.usage (sym same ∙ usage) case offers asks
   | inr failed ↦ cc
 ]
+
+pub returns-in-Ok-clause-told : goal.returns-in-Ok-clause-told
+returns-in-Ok-clause-told g c = λ _. (c.in-Ok.outcome.text.items, c.in-Ok.outcome.status, c.put.ensures.took, c.put.ensures.status, c.in-Ok.ensures.answers)

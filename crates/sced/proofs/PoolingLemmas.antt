@@ -1,0 +1,113 @@
+-- What the bytes of a case and of offers stand for, by the outcomes of their readers.
+use Rattle.std.proofs.Common.{◌≡◌, ◌≤◌, ◌<◌, ℕ, List, length, take, Bool, true, false, Result, Ok, Err, Option, Some, None, refl, sym, subst, ◌∙◌, ap, arith}
+use Rattle.std.proofs.lemmas.Bool.{le-ltb, lt-ltb, ltb-true, ltb-false}
+use Rattle.std.proofs.lemmas.List.{take_all, length-take-le}
+use Rattle.std.specs.Prelude.{nat_lt, codes, IfOk, MatchResult}
+use Rattle.outside_store.specs.Files.{Files, SameFiles, Reads}
+use Rattle.market_model.specs.declared.participants.Block.{Block}
+use Rattle.market_model.specs.declared.participants.UnitList.{UnitList}
+use Rattle.sced.specs.PlainCases.{PlainCase}
+use Rattle.sced.specs.PlainCaseGrammar.{plain_case}
+use Rattle.sced.specs.NetworkReading.{network_of, unit_list_of}
+use Rattle.sced.specs.OfferTable.{blocks_of_table}
+use Rattle.sced.specs.declared.plain_case.CaseFault.{CaseFault}
+use Rattle.sced.specs.declared.live_parts.NetFault.{NetFault}
+use Rattle.sced.specs.declared.live_parts.Network.{Network}
+use Rattle.sced.specs.declared.offer_table.OfferFault.{OfferFault}
+use Rattle.sced.specs.declared.status.Status.{Status}
+use Rattle.sced.specs.Runs.{AsksNothing}
+use Rattle.sced.specs.Words.{AsksPool}
+use Rattle.sced.specs.Pooling.{FileFault, AtCase, AtOffers, most_file, sized, pool_market, ComesTo, PoolsTo, FilesPoolTo, AnswersTo}
+
+-- ---- whether a file is too long
+pub sized-short : (file : FileFault) (bytes : List ℕ) → length bytes ≤ 33554432 → sized file bytes ≡ Ok bytes
+unfolding sized
+sized-short file bytes short = let is : nat_lt most_file (length bytes) ≡ false = le-ltb _ _ (omega arith) in rw is refl
+
+pub sized-long : (file : FileFault) (bytes : List ℕ) → 33554432 < length bytes → sized file bytes ≡ Err file
+unfolding sized
+sized-long file bytes long = let is : nat_lt most_file (length bytes) ≡ true = lt-ltb _ _ (omega arith) in rw is refl
+
+-- ---- the outcomes, by the first fault
+module _ (case offers : List ℕ) where
+  pub case-long : 33554432 < length case → pool_market case offers ≡ Err AtCase
+  unfolding pool_market
+  case-long long = rw (sized-long AtCase case long) refl
+
+  module _ (short : length case ≤ 33554432) where
+    pub plain-fault : (f : CaseFault) → plain_case case ≡ Err f → pool_market case offers ≡ Err AtCase
+    unfolding pool_market
+    plain-fault f is = rw (sized-short AtCase case short, is) refl
+
+    module _ (plain : PlainCase) (plain-is : plain_case case ≡ Ok plain) where
+      pub network-fault : (f : NetFault) → network_of plain ≡ Err f → pool_market case offers ≡ Err AtCase
+      unfolding pool_market
+      network-fault f is = rw (sized-short AtCase case short, plain-is, is) refl
+
+      module _ (network : Network) (network-is : network_of plain ≡ Ok network) where
+        pub offers-long : 33554432 < length offers → pool_market case offers ≡ Err AtOffers
+        unfolding pool_market
+        offers-long long = rw (sized-short AtCase case short, plain-is, network-is, sized-long AtOffers offers long) refl
+
+        module _ (within : length offers ≤ 33554432) (list : UnitList) (list-is : list ≡ unit_list_of network) where
+          pub blocks-fault : (f : OfferFault) → blocks_of_table list offers ≡ Err f → pool_market case offers ≡ Err AtOffers
+          unfolding pool_market
+          blocks-fault f is = rw (sized-short AtCase case short, plain-is, network-is, sized-short AtOffers offers within, ← list-is, is) refl
+
+          pub market-is : (blocks : List Block) → blocks_of_table list offers ≡ Ok blocks → pool_market case offers ≡ Ok (record { buses = network.buses; units = list.units; blocks = blocks })
+          unfolding pool_market
+          market-is blocks is = rw (sized-short AtCase case short, plain-is, network-is, sized-short AtOffers offers within, ← list-is, is) (cc list-is)
+
+-- ---- files that are cut behind the first byte too many
+pub sized-cut : (file : FileFault) (bytes : List ℕ) → sized file (take 33554433 bytes) ≡ sized file bytes
+sized-cut file bytes = by (nat_lt 33554432 (length bytes)) refl
+  where
+    by : (over : Bool) → nat_lt 33554432 (length bytes) ≡ over → sized file (take 33554433 bytes) ≡ sized file bytes
+    by true over =
+        let long : 33554432 < length bytes = ltb-true _ _ over in
+        let cut : length (take 33554433 bytes) ≡ 33554433 = length-take-le 33554433 bytes (omega (arith, long)) in
+        sized-long file (take 33554433 bytes) (omega (arith, cut)) ∙ sym (sized-long file bytes long)
+    by false over =
+        let short : length bytes ≤ 33554432 = ltb-false _ _ over in
+        ap (sized file) (take_all 33554433 bytes (omega (arith, short)))
+
+pub pool_market-cut : (case offers : List ℕ) → pool_market (take 33554433 case) (take 33554433 offers) ≡ pool_market case offers
+unfolding pool_market
+pool_market-cut case offers = rw (sized-cut AtCase case, sized-cut AtOffers offers) refl
+
+-- what is right for the bytes that were read is right for the files
+pub files-pool : (old now : Option Files) (case offers case_read offers_read : List ℕ) (s : Status) (text : List ℕ) → SameFiles old now
+    → Reads old case 33554432 case_read → Reads now offers 33554432 offers_read → PoolsTo case_read offers_read s text → FilesPoolTo old case offers s text
+files-pool None now case offers case_read offers_read s text same first second right = tt
+files-pool (Some f) None case offers case_read offers_read s text same first second right = absurd same
+files-pool (Some f) (Some h) case offers case_read offers_read s text same (whole, at, cut) (whole', at', cut') right =
+    let is : pool_market case_read offers_read ≡ pool_market whole whole' = rw (cut, cut') (pool_market-cut whole whole') in
+    (whole, whole', at, sym (same offers) ∙ at', subst (λ m. ComesTo m s text) is right)
+
+-- ---- the words
+pub asks-once : (words : List (List ℕ)) (case offers case' offers' : List ℕ) → AsksPool words case offers → AsksPool words case' offers' → (case ≡ case') × (offers ≡ offers')
+asks-once words case offers case' offers' (program, is) (program', is') = (cc (is, is'), cc (is, is'))
+
+pub answers-pool : (files : Option Files) (words : List (List ℕ)) (case offers : List ℕ) (s : Status) (text : List ℕ) → AsksPool words case offers
+    → FilesPoolTo files case offers s text → AnswersTo files words s text
+answers-pool files words case offers s text asks right = record {
+  pooled = λ case' offers' asks'. let same = asks-once words case offers case' offers' asks asks' in
+      subst (λ o. FilesPoolTo files case' o s text) same.1 (subst (λ c. FilesPoolTo files c offers s text) same.0 right);
+  refused = λ nothing. absurd (nothing case offers asks);
+}
+
+pub answers-refused : (files : Option Files) (words : List (List ℕ)) (s : Status) (text : List ℕ) → AsksNothing words → text ≡ codes "refused words\n" → AnswersTo files words s text
+answers-refused files words s text nothing is = record {
+  pooled = λ case offers asks. absurd (nothing case offers asks);
+  refused = λ _. is;
+}
+
+-- ---- outcomes
+-- what is right for an outcome is right for it once it is told
+pub if_ok-map : {A E : Type 0} (P Q : A → Type 0) (r : Result A E) → ((x : A) → P x → Q x) → IfOk r P → IfOk r Q
+if_ok-map P Q (Ok x) f right = f x right
+if_ok-map P Q (Err e) f right = tt
+
+pub told-ok : {A E F : Type 0} (P : A → Type 0) (Q : F → Type 0) (r : Result A F) (m : Result A E) → MatchResult r (λ x. m ≡ Ok x) Q → IfOk m P → IfOk r P
+told-ok P Q (Ok x) m is right = subst (λ n. IfOk n P) is right
+told-ok P Q (Err f) m is right = tt
