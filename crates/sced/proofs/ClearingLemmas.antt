@@ -23,7 +23,7 @@ use Rattle.sced.specs.Filling.{int_sum, demand_of, fixed_of, bought_of, on_side,
 use Rattle.sced.specs.Fitting.{dispatch_of}
 use Rattle.sced.specs.Paying.{AllPlaces}
 
-whole_minus : (m n : ℤ) → whole (m -ℤ n) ≡ whole m +ℚ neg_ℚ (whole n)
+pub whole_minus : (m n : ℤ) → whole (m -ℤ n) ≡ whole m +ℚ neg_ℚ (whole n)
 whole_minus m n = let e : m -ℤ n ≡ m +ℤ neg_ℤ n = Prim.omega (arith, ints) in ap whole e ∙ whole-+ℚ m (neg_ℤ n) ∙ ap (λ t. whole m +ℚ t) (whole-neg n)
 
 -- what a block raises its unit's output by: a sell what it fills, a buy that less what it would buy
@@ -58,6 +58,12 @@ pub accepted_at : {N : Type 0} (value : N → Fraction) (m : Parts) (filled : Li
 accepted_at value m filled [] each j h = absurd (Prim.omega arith)
 accepted_at value m filled (d ∷ ds) each j h = get_or-map value (d ∷ ds) j d zero h ∙ each j h d
 
+-- what the demands leave to the blocks
+pub needs : (m : Parts) → sum_by (demand m) (places (length m.buses)) -ℚ sum_by (fixed_part m) (places (length m.units)) ≡ whole (int_sum demand_of m.buses) +ℚ neg_ℚ (whole (int_sum fixed_of m.units))
+needs m = ap₂ (λ a b. a -ℚ b)
+    (demands-by_buses m ∙ sum_by-whole demand_of (int_sum demand_of) refl (λ b bs. refl) m.buses)
+    (fixed_parts-by_units m ∙ sum_by-whole fixed_of (int_sum fixed_of) refl (λ u us. refl) m.units)
+
 module _ (m : Parts) (x : Dispatch) (filled : List ℤ) (energy : ℤ) (h : IsMarket m) (count : length x.blocks ≡ length m.blocks) (filled_count : length filled ≡ length m.blocks)
     (fills : AllPlaces (λ place. Fills energy (slice_index_or m.blocks place no_block)) filled)
     (same : (j : ℕ) → j < length m.blocks → accepted x j ≡ whole (taken m filled j)) where
@@ -89,11 +95,6 @@ module _ (m : Parts) (x : Dispatch) (filled : List ℤ) (energy : ℤ) (h : IsMa
       (sum_by-neg (λ j. whole (bought_of (block_at m j))) (places (length m.blocks))
       ∙ ap neg_ℚ (sum_by-places (λ b. whole (bought_of b)) no_block m.blocks ∙ sum_by-whole bought_of (int_sum bought_of) refl (λ b bs. refl) m.blocks))
 
-  needs : sum_by (demand m) (places (length m.buses)) -ℚ sum_by (fixed_part m) (places (length m.units)) ≡ whole (int_sum demand_of m.buses) +ℚ neg_ℚ (whole (int_sum fixed_of m.units))
-  needs = ap₂ (λ a b. a -ℚ b)
-      (demands-by_buses m ∙ sum_by-whole demand_of (int_sum demand_of) refl (λ b bs. refl) m.buses)
-      (fixed_parts-by_units m ∙ sum_by-whole fixed_of (int_sum fixed_of) refl (λ u us. refl) m.units)
-
   pub is_feasible : int_sum (λ f. f) filled ≡ (int_sum demand_of m.buses +ℤ int_sum bought_of m.blocks) -ℤ int_sum fixed_of m.units → Feasible m x
   is_feasible all =
       let f : ℤ = int_sum (λ f. f) filled in
@@ -103,5 +104,5 @@ module _ (m : Parts) (x : Dispatch) (filled : List ℤ) (energy : ℤ) (h : IsMa
       let e : f -ℤ b ≡ loads -ℤ fixed = Prim.omega (arith, ints, all) in
       record {
         blocks = is_dispatch;
-        balanced = raises-balance m x h (raises ∙ sym (whole_minus f b) ∙ ap whole e ∙ whole_minus loads fixed ∙ sym needs);
+        balanced = raises-balance m x h (raises ∙ sym (whole_minus f b) ∙ ap whole e ∙ whole_minus loads fixed ∙ sym (needs m));
       }

@@ -35,16 +35,16 @@ standing price energy = by_test (lt_z price energy) refl (int_eq price energy) r
     by_test false e true f = Level ((Decides-int_eq price energy).0 f)
     by_test false e false f = let other : price ≢ energy = λ h. absurd (Prim.cc ((Decides-int_eq price energy).1 h)) in Dear (Prim.grind (arith, ints))
 
-below-cheap : (energy : ℤ) (b : Block) → b.price <ℤ energy → below_of energy b ≡ b.quantity
+pub below-cheap : (energy : ℤ) (b : Block) → b.price <ℤ energy → below_of energy b ≡ b.quantity
 below-cheap energy b h = let e : lt_z b.price energy ≡ true = Prim.grind (arith, ints) in Prim.rw e refl
 
-below-other : (energy : ℤ) (b : Block) → energy ≤ℤ b.price → below_of energy b ≡ pos 0
+pub below-other : (energy : ℤ) (b : Block) → energy ≤ℤ b.price → below_of energy b ≡ pos 0
 below-other energy b h = let e : lt_z b.price energy ≡ false = Prim.grind (arith, ints) in Prim.rw e refl
 
-level-level : (energy : ℤ) (b : Block) → b.price ≡ energy → level_of energy b ≡ b.quantity
+pub level-level : (energy : ℤ) (b : Block) → b.price ≡ energy → level_of energy b ≡ b.quantity
 level-level energy b h = Prim.rw ((Decides-int_eq b.price energy).1 h) refl
 
-level-other : (energy : ℤ) (b : Block) → b.price ≢ energy → level_of energy b ≡ pos 0
+pub level-other : (energy : ℤ) (b : Block) → b.price ≢ energy → level_of energy b ≡ pos 0
 level-other energy b h = by_test (int_eq b.price energy) refl
   where
     by_test : (s : Bool) → int_eq b.price energy ≡ s → level_of energy b ≡ pos 0

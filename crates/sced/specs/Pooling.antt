@@ -5,6 +5,8 @@ use Rattle.csv_table.specs.Table.{and_then}
 use Rattle.outside_store.specs.Files.{Files}
 use Rattle.market_model.specs.declared.participants.Parts.{Parts}
 use Rattle.market_model.specs.declared.answered.Answer.{Answer}
+use Rattle.market_model.specs.Dispatch.{Dispatch}
+use Rattle.market_model.specs.Optimality.{Feasible}
 use Rattle.market_model.specs.Outcomes.{IsRight}
 use Rattle.market_model.specs.Reports.{cleared_text}
 use Rattle.sced.specs.PlainCaseGrammar.{plain_case}
@@ -44,10 +46,11 @@ pool_market case offers =
     and_then (in_file AtOffers (blocks_of_table (unit_list_of network) table)) (λ blocks.
     Ok (record { buses = network.buses; units = (unit_list_of network).units; blocks = blocks }))))))
 
--- the text is right for clearing the market with this status: the report of a right answer, or the line of the status
+-- the text is right for clearing the market with this status: the report of a right answer, or the line of the status;
+-- where that is infeasible, no dispatch is feasible
 abbrev pub ClearsTo : Parts → Status → List ℕ → Type 0
 ClearsTo m status.Done text = (a : Answer Fraction) × IsRight m a × (text ≡ cleared_text m a)
-ClearsTo m status.Infeasible text = text ≡ codes "infeasible\n"
+ClearsTo m status.Infeasible text = ((x : Dispatch) → ¬ (Feasible m x)) × (text ≡ codes "infeasible\n")
 ClearsTo m status.Range text = text ≡ codes "range\n"
 ClearsTo m status.Usage text = ⊥
 ClearsTo m status.Refused text = ⊥

@@ -4,7 +4,7 @@
 //! all blocks by price fills what the fixed parts and the demands leave: a sell block fills by
 //! selling, a buy block by giving back. Ties go by block order.
 
-ghost use Rattle.std.specs.Prelude.{◌≡◌, ◌≤◌, ◌<◌, ◌*◌, ◌^◌, ◌⊎◌, pos, ◌≤ℤ◌, ◌<ℤ◌, ◌+◌, ◌-ℤ◌, unsigned_abs, [], length, vec_len, slice_index_or, ◌≢◌, All, IfOk, IfSome, Decides};
+ghost use Rattle.std.specs.Prelude.{◌≡◌, ◌≤◌, ◌<◌, ◌*◌, ◌^◌, ◌⊎◌, pos, ◌≤ℤ◌, ◌<ℤ◌, ◌+◌, ◌-ℤ◌, unsigned_abs, [], length, vec_len, slice_index_or, ◌≢◌, All, IfOk, IfErr, IfSome, IfNone, Decides, None};
 ghost use Rattle.market_model.specs.Market.{most_buses, most_units, most_blocks, IsDatum, IsBus};
 ghost use Rattle.sced.specs.Filling.{int_sum, demand_of, fixed_of, bought_of, below_of, level_of, on_side, accepted_of, no_block, Fills, IsLess, IsReached};
 ghost use Rattle.sced.specs.Paying.{AllPlaces};
@@ -13,7 +13,8 @@ ghost use Rattle.market_model.specs.Dispatch.{signed};
 ghost use Rattle.market_model.specs.Optimality.{welfare as welfare_of};
 ghost use Rattle.market_model.specs.Valued.{answer_at};
 ghost use Rattle.market_model.specs.Outcomes.{IsRight};
-ghost use Rattle.sced.specs.Fitting.{FitsMarket, dispatch_of};
+ghost use Rattle.sced.specs.declared.clearing.ClearFault.TheVariants as why;
+ghost use Rattle.sced.specs.Fitting.{FitsMarket, dispatch_of, IsCauseOf};
 
 use crate::amounts::datum;
 use crate::settling::settle;
@@ -30,12 +31,16 @@ pub enum ClearFault<N> {
 }
 
 impl<N> From<Memory> for ClearFault<N> {
+    ghost from_gives = { λ _ fault. fault ≡ why.Memory };
+
     fn from(_refused: Memory) -> ClearFault<N> {
         ClearFault::Memory
     }
 }
 
 impl<N> From<Passed<N>> for ClearFault<N> {
+    ghost from_gives = { λ passed fault. fault ≡ why.Range passed };
+
     fn from(passed: Passed<N>) -> ClearFault<N> {
         ClearFault::Range(passed)
     }
@@ -151,6 +156,36 @@ fn reaches(blocks: &[Block], energy: i64, left: i128) -> bool
     below <= left && left <= below + level(blocks, energy)
 }
 
+/// The lesser of a price of energy and another price, where the other is one at which the blocks
+/// fill what is left.
+fn lesser(energy: Option<i64>, price: i64, blocks: &[Block], left: i128) -> Option<i64>
+    requires few { length blocks.now ≤ most_blocks }
+    requires price { IsDatum price }
+    requires energy { IfSome energy IsDatum }
+    requires reached { IfSome energy (λ energy. IsReached energy left blocks.now) }
+    ensures price { IfSome result IsDatum }
+    ensures reached { IfSome result (λ energy. IsReached energy left blocks.now) }
+    ensures before { IfNone result (energy ≡ None) }
+    ensures here { IfNone result (¬ (IsReached price left blocks.now)) }
+{
+    match energy {
+        Some(least) => {
+            if price < least && reaches(blocks, price, left) {
+                Some(price)
+            } else {
+                Some(least)
+            }
+        }
+        None => {
+            if reaches(blocks, price, left) {
+                Some(price)
+            } else {
+                None
+            }
+        }
+    }
+}
+
 /// The price of energy: the least price of a block at which the blocks fill what is left, or 0
 /// where there is nothing to fill and no block.
 fn energy_price(blocks: &[Block], left: i128) -> Option<i64>
@@ -158,19 +193,15 @@ fn energy_price(blocks: &[Block], left: i128) -> Option<i64>
     requires prices { All (λ block. IsDatum block.price) blocks.now }
     ensures price { IfSome result IsDatum }
     ensures reached { IfSome result (λ energy. IsReached energy left blocks.now) }
+    ensures none { IfNone result (All (λ block. ¬ (IsReached block.price left blocks.now)) blocks.now) }
+    ensures empty { IfNone result ((left ≡ pos 0) → blocks.now ≢ []) }
 {
     if left == 0 && blocks.is_empty() {
         return Some(0);
     }
     let mut energy: Option<i64> = None;
     for block in blocks {
-        let dearer = match energy {
-            Some(least) => least <= block.price,
-            None => false,
-        };
-        if !dearer && reaches(blocks, block.price, left) {
-            energy = Some(block.price);
-        }
+        energy = lesser(energy, block.price, blocks, left);
     }
     energy
 }
@@ -389,6 +420,7 @@ fn welfare<N: Exact>(market: &Market, dispatch: &[N]) -> Result<N, Passed<N>>
 pub fn clear<N: Exact>(alloc: Global, market: &Market) -> Result<Answer<N>, ClearFault<N>>
     ensures fits { IfOk result (λ answer. FitsMarket market.now answer) }
     ensures right { IfOk result (λ answer. IsRight market.now (answer_at N.value answer)) }
+    ensures infeasible { IfErr result (IsCauseOf market.now) }
 {
     let blocks = market.blocks().slice();
     let taken = demand(market.buses().slice()) + bought(blocks);

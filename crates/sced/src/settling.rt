@@ -1,11 +1,11 @@
 //! What units are paid and loads pay.
 
-ghost use Rattle.std.specs.Prelude.{◌≡◌, ◌<◌, length, IfOk, if◌then◌else◌};
+ghost use Rattle.std.specs.Prelude.{◌≡◌, ◌<◌, length, IfOk, IfErr, if◌then◌else◌};
 ghost use Rattle.fraction_theory.specs.Fraction.{whole, ◌+ℚ◌, ◌*ℚ◌, neg_ℚ};
 ghost use Rattle.fraction_theory.specs.Sums.{sum_by};
 ghost use Rattle.market_model.specs.Market.{IsBus};
 ghost use Rattle.market_model.specs.Dispatch.{zero, signed, unit_at, output as output_of};
-ghost use Rattle.sced.specs.Fitting.{dispatch_of};
+ghost use Rattle.sced.specs.Fitting.{dispatch_of, IsCauseOf};
 ghost use Rattle.sced.specs.Paying.{AllPlaces, PaysUnit, LoadPays, price_at};
 
 use crate::amounts::datum;
@@ -108,6 +108,7 @@ fn unit_pays<N: Exact>(
 ) -> Result<List<UnitPay<N>>, ClearFault<N>>
     requires dispatch { length dispatch.now ≡ length market.now.blocks }
     requires prices { length prices.now ≡ length market.now.buses }
+    ensures cause { IfErr result (IsCauseOf market.now) }
     ensures count { IfOk result (λ units. length units ≡ length market.now.units) }
     ensures units { IfOk result (AllPlaces (λ place. PaysUnit N.value market.now dispatch.now place (price_at N.value prices.now (unit_at market.now place).bus))) }
 {
@@ -126,6 +127,7 @@ fn loads<N: Exact>(
     prices: &[Price<N>],
 ) -> Result<List<Load<N>>, ClearFault<N>>
     requires { length prices.now ≡ length market.now.buses }
+    ensures cause { IfErr result (IsCauseOf market.now) }
     ensures count { IfOk result (λ loads. length loads ≡ length market.now.buses) }
     ensures loads { IfOk result (AllPlaces (λ place. LoadPays N.value market.now place (price_at N.value prices.now place))) }
 {
@@ -145,6 +147,7 @@ pub fn settle<N: Exact>(
 ) -> Result<Money<N>, ClearFault<N>>
     requires dispatch { length dispatch.now ≡ length market.now.blocks }
     requires prices { length prices.now ≡ length market.now.buses }
+    ensures cause { IfErr result (IsCauseOf market.now) }
     ensures unit_count { IfOk result (λ money. length money.units ≡ length market.now.units) }
     ensures load_count { IfOk result (λ money. length money.loads ≡ length market.now.buses) }
     ensures units { IfOk result (λ money. AllPlaces (λ place. PaysUnit N.value market.now dispatch.now place (price_at N.value prices.now (unit_at market.now place).bus)) money.units) }

@@ -1,6 +1,7 @@
-use Rattle.std.proofs.Common.{◌≡◌, ◌∙◌, ap, subst, arith, pos, ℤ, List, length, w64, ◌+ℤ◌, ◌-ℤ◌}
+use Rattle.std.proofs.Common.{◌≡◌, ◌∙◌, ap, sym, subst, arith, pos, ℤ, List, length, w64, ◌+ℤ◌, ◌-ℤ◌}
 use mir.Val.{to_z, of_z}
-use Rattle.std.specs.Prelude.{slice_index_or}
+use mir.Syntax.{w128}
+use Rattle.std.specs.Prelude.{All, slice_index_or}
 use Rattle.std.proofs.lemmas.Int.{ints}
 use Rattle.std.proofs.lemmas.Grind.{common_steps}
 use Rattle.fraction_theory.specs.Fraction.{whole}
@@ -10,9 +11,10 @@ use Rattle.market_model.specs.declared.answered.Price.{Price}
 use Rattle.market_model.specs.Market.{IsMarket}
 use Rattle.market_model.specs.Dispatch.{unit_at}
 use Rattle.market_model.specs.Optimality.{welfare}
-use Rattle.sced.specs.Filling.{int_sum, demand_of, fixed_of, bought_of, accepted_of, no_block, Fills}
+use Rattle.sced.specs.Filling.{int_sum, demand_of, fixed_of, bought_of, accepted_of, no_block, Fills, IsReached}
 use Rattle.sced.specs.Fitting.{dispatch_of}
 use Rattle.sced.specs.Paying.{AllPlaces, price_at, PaysUnit, LoadPays}
+use Rattle.sced.proofs.InfeasibleLemmas.{nothing_feasible}
 use Rattle.sced.proofs.OutcomeLemmas.{is_right}
 use Rattle.sced.proofs.clearing.clear.Goals as goal
 
@@ -51,3 +53,24 @@ returns-clause-right g c =
     subst (λ qs. AllPlaces (λ place. LoadPays value m place (price_at value qs place)) c.in_ok-money.money.loads) c.slice-5.ensures c.in_ok-money.ensures.loads in
     is_right value m market e filled ds c.duals.result ps c.in_ok-welfare.welfare c.datum-energy.result c.in_ok-money.money filled_count filled_each all count each
     c.duals.ensures.energy c.datum-energy.ensures c.duals.ensures.limits price_count c.in_ok-prices.ensures.each w_is c.in_ok-money.ensures.unit_count units c.in_ok-money.ensures.load_count pays c.in_ok-money.ensures.surplus
+
+pub returns-in-None-clause-infeasible : goal.returns-in-None-clause-infeasible
+returns-in-None-clause-infeasible g c =
+    let m : Parts = c.args.market.now in
+    let market : IsMarket m = c.blocks-2.ensures.market in
+    let blocks : c.slice-blocks.result.now ≡ m.blocks = c.slice-blocks.ensures ∙ c.blocks-2.ensures.list in
+    let loads : c.demand.result ≡ int_sum demand_of m.buses = c.demand.ensures.value ∙ ap (int_sum demand_of) (c.slice.ensures ∙ c.buses.ensures.list) in
+    let bought : c.bought.result ≡ int_sum bought_of m.blocks = c.bought.ensures.value ∙ ap (int_sum bought_of) blocks in
+    let fixed : c.fixed_output.result ≡ int_sum fixed_of m.units = c.fixed_output.ensures.value ∙ ap (int_sum fixed_of) (c.slice-2.ensures ∙ c.units.ensures.list) in
+    let loads_most = c.demand.ensures.bound in
+    let bought_most = c.bought.ensures.bound in
+    let fixed_most = c.fixed_output.ensures.bound in
+    let taken : ℤ = to_z w128 (of_z w128 (to_z w128 (of_z w128 c.demand.result) +ℤ to_z w128 (of_z w128 c.bought.result))) in
+    let left : ℤ = to_z w128 (of_z w128 (taken -ℤ to_z w128 (of_z w128 c.fixed_output.result))) in
+    nothing_feasible m market left (omega (arith, ints, loads, bought, fixed))
+    (subst (λ (bs : List Block). All (λ b. ¬ (IsReached b.price left bs)) bs) blocks c.in-None.ensures.none) (λ nothing none. c.in-None.ensures.empty nothing (blocks ∙ none))
+
+pub dispatch-requires-clause-each : goal.dispatch-requires-clause-each
+dispatch-requires-clause-each g c =
+    let e : ℤ = to_z w64 (of_z w64 c.in-Some.energy) in
+    subst (λ (fs : List ℤ). AllPlaces (λ place. Fills e (slice_index_or c.slice-blocks.result.now place no_block)) fs) (sym c.as_slice.ensures.value) c.in_ok-filled.ensures.each
