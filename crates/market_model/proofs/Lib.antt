@@ -1,8 +1,11 @@
 pub mod Amounts
 pub mod Data
+pub mod FarkasLaw
 pub mod MarketSums
 pub mod Optimum
 pub mod PlaceSums
 mod Rows
 pub mod WholeDispatch
 pub mod ReportReading
+pub mod MorePlaces
+pub mod WholeSumLaws

@@ -1,4 +1,4 @@
--- What the definitions come to: the best dispatch, and what is left after all pay.
+-- What the definitions come to: the best dispatch, what is left after all pay, and when nothing is feasible.
 -- Wood and Wollenberg: a dispatch that balances and is priced at cost is of least cost.
 -- Schweppe and others, Spot Pricing of Electricity: without limits at their bounds loads pay what units are paid.
 use Rattle.std.specs.Prelude.{◌≡◌}
@@ -10,6 +10,7 @@ use Rattle.market_model.specs.Market.{IsMarket}
 use Rattle.market_model.specs.Dispatch.{Dispatch, zero, balance}
 use Rattle.market_model.specs.Optimality.{Feasible, Supports, welfare}
 use Rattle.market_model.specs.Settlement.{surplus}
+use Rattle.market_model.specs.Infeasibility.{ShowsInfeasible}
 
 -- a feasible dispatch that duals support has the greatest welfare of all feasible ones
 abbrev pub LawOfTheOptimum : Type 0
@@ -18,3 +19,7 @@ LawOfTheOptimum = (m : Parts) (d : Duals Fraction) (x y : Dispatch) → IsMarket
 -- in balance, and with no limits, loads pay what units are paid, whatever the price of energy
 abbrev pub LawOfTheSurplus : Type 0
 LawOfTheSurplus = (m : Parts) (d : Duals Fraction) (x : Dispatch) → IsMarket m → balance m x ≡ zero → surplus m x d ≡ zero
+
+-- where duals show that nothing is feasible, no dispatch is (Farkas)
+abbrev pub LawOfInfeasibility : Type 0
+LawOfInfeasibility = (m : Parts) (d : Duals Fraction) (x : Dispatch) → IsMarket m → ShowsInfeasible m d → ¬ (Feasible m x)

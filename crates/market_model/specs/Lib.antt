@@ -1,4 +1,6 @@
 pub mod Dispatch
+pub mod Fitting
+pub mod Infeasibility
 pub mod Laws
 pub mod Market
 pub mod Optimality
@@ -7,3 +9,4 @@ pub mod ReportLaws
 pub mod Reports
 pub mod Settlement
 pub mod Valued
+pub mod WholeSums

@@ -3,8 +3,11 @@ use Rattle.std.specs.Prelude.{◌≡◌, ℕ, ◌<◌, [], length}
 use Rattle.fraction_theory.specs.Fraction.{Fraction}
 use Rattle.market_model.specs.declared.participants.Parts.{Parts}
 use Rattle.market_model.specs.declared.answered.Answer.{Answer}
+use Rattle.market_model.specs.declared.answered.Outcome.{Outcome}
+use Rattle.market_model.specs.declared.answered.Outcome.TheVariants as outcome
 use Rattle.market_model.specs.Dispatch.{Dispatch, zero, output, demand}
 use Rattle.market_model.specs.Optimality.{Feasible, Supports, welfare, bus_price}
+use Rattle.market_model.specs.Infeasibility.{IsFarkas}
 use Rattle.market_model.specs.Settlement.{paid, pays, surplus}
 use Rattle.market_model.specs.Reports.{price_of, pay_of, load_of}
 
@@ -25,4 +28,11 @@ pub record IsRight (m : Parts) (a : Answer Fraction) : Type 0 where
   pub units : (u : ℕ) → u < length m.units → pay_of a u ≡ record { mw = output m (dispatch_in a) u; paid = paid m (dispatch_in a) a.duals u }
   pub load_count : length a.money.loads ≡ length m.buses
   pub loads : (i : ℕ) → i < length m.buses → load_of a i ≡ record { mw = demand m i; pays = pays m a.duals i }
+  pub no_rents : a.money.rents ≡ []
   pub surplus : a.money.surplus ≡ surplus m (dispatch_in a) a.duals
+
+-- a cleared market has a right answer, and an infeasible one duals that show it, with their bound
+abbrev pub IsRightOutcome : Parts → Outcome Fraction → Type 0
+IsRightOutcome m (outcome.Cleared a) = IsRight m a
+IsRightOutcome m (outcome.Infeasible f) = IsFarkas m f
+IsRightOutcome m (outcome.Range p) = Unit {0}

@@ -1,8 +1,11 @@
--- The report of a cleared market, line by line.
-use Rattle.std.specs.Prelude.{ℕ, ◌+◌, Bool, true, false, ◌&&◌, ◌==◌, List, ◌++◌, length, slice_index_or, count_by, codes, decimal}
+-- The report of what a clear came to, line by line.
+use Rattle.std.specs.Prelude.{ℕ, ◌+◌, Bool, true, false, ◌&&◌, ◌==◌, List, ◌++◌, length, slice_index_or, count_by, codes, decimal, if◌then◌else◌}
 use Rattle.std.specs.List.{flat_map}
 use Rattle.fraction_theory.specs.Fraction.{Fraction}
-use Rattle.exact_fraction.specs.Written.{written}
+use Rattle.exact_fraction.specs.Written.{written, parts_text}
+use Rattle.exact_fraction.specs.declared.Op.{Op}
+use Rattle.exact_fraction.specs.declared.Op.TheVariants as op
+use Rattle.exact_fraction.specs.declared.Passed.{Passed}
 use Rattle.market_model.specs.declared.participants.Side.{Side}
 use Rattle.market_model.specs.declared.participants.Side.TheVariants.{Sell, Buy}
 use Rattle.market_model.specs.declared.participants.Block.{Block}
@@ -11,6 +14,10 @@ use Rattle.market_model.specs.declared.answered.Price.{Price}
 use Rattle.market_model.specs.declared.answered.UnitPay.{UnitPay}
 use Rattle.market_model.specs.declared.answered.Load.{Load}
 use Rattle.market_model.specs.declared.answered.Answer.{Answer}
+use Rattle.market_model.specs.declared.answered.Dual.{Dual}
+use Rattle.market_model.specs.declared.answered.Farkas.{Farkas}
+use Rattle.market_model.specs.declared.answered.Outcome.{Outcome}
+use Rattle.market_model.specs.declared.answered.Outcome.TheVariants as outcome
 use Rattle.market_model.specs.Dispatch.{zero, places, bus_at, unit_at, block_at}
 
 -- an answer's entries by place; one past the end stands for zeros
@@ -103,3 +110,39 @@ cleared_text m a =
     ++ lines_of_units m a
     ++ lines_of_loads m a
     ++ surplus_text a.money.surplus
+
+-- ---- where no dispatch is feasible
+-- a limit in the base, or after the loss of a branch
+abbrev pub outage_text : ℕ → List ℕ
+outage_text row = if row == 0 then codes " base" else codes " after " ++ decimal row
+
+-- the duals of a limit, which are plain numbers
+unfoldable pub limit_text : Dual Fraction → List ℕ
+limit_text d = codes "limit " ++ decimal d.row.branch ++ outage_text d.row.outage ++ codes " up " ++ written 0 d.up ++ codes " down " ++ written 0 d.down ++ codes "\n"
+
+-- the bound that shows it, and the price of energy, which is a plain number
+unfoldable pub bound_text : Fraction → List ℕ
+bound_text bound = codes "bound " ++ written 9 bound ++ codes "\n"
+
+unfoldable pub plain_energy_text : Fraction → List ℕ
+plain_energy_text energy = codes "energy " ++ written 0 energy ++ codes "\n"
+
+-- the report of duals that show that nothing is feasible
+unfoldable pub infeasible_text : Farkas Fraction → List ℕ
+infeasible_text f = codes "infeasible\n" ++ bound_text f.bound ++ plain_energy_text f.duals.energy ++ flat_map limit_text f.duals.limits
+
+-- ---- where numbers became too large
+abbrev pub op_text : Op → List ℕ
+op_text op.Plus = codes "plus "
+op_text op.Minus = codes "minus "
+op_text op.Times = codes "times "
+
+-- the operation that was refused, with its two sides
+unfoldable pub range_text : Passed Fraction → List ℕ
+range_text p = codes "range " ++ op_text p.op ++ parts_text p.left ++ codes " " ++ parts_text p.right ++ codes "\n"
+
+-- the report of what a clear came to
+abbrev pub report_text : Parts → Outcome Fraction → List ℕ
+report_text m (outcome.Cleared a) = cleared_text m a
+report_text m (outcome.Infeasible f) = infeasible_text f
+report_text m (outcome.Range p) = range_text p

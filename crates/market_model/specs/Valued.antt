@@ -9,6 +9,10 @@ use Rattle.market_model.specs.declared.answered.Load.{Load}
 use Rattle.market_model.specs.declared.answered.Rent.{Rent}
 use Rattle.market_model.specs.declared.answered.Money.{Money}
 use Rattle.market_model.specs.declared.answered.Answer.{Answer}
+use Rattle.market_model.specs.declared.answered.Farkas.{Farkas}
+use Rattle.market_model.specs.declared.answered.Outcome.{Outcome}
+use Rattle.market_model.specs.declared.answered.Outcome.TheVariants as outcome
+use Rattle.exact_fraction.specs.declared.Passed.{Passed}
 
 abbrev pub dual_at : {N : Type 0} → (N → Fraction) → Dual N → Dual Fraction
 dual_at value d = record { row = d.row; up = value d.up; down = value d.down }
@@ -44,3 +48,14 @@ answer_at value a = record {
   welfare = value a.welfare;
   money = money_at value a.money;
 }
+
+abbrev pub farkas_at : {N : Type 0} → (N → Fraction) → Farkas N → Farkas Fraction
+farkas_at value f = record { duals = duals_at value f.duals; bound = value f.bound }
+
+abbrev pub passed_at : {N : Type 0} → (N → Fraction) → Passed N → Passed Fraction
+passed_at value p = record { op = p.op; left = value p.left; right = value p.right }
+
+abbrev pub outcome_at : {N : Type 0} → (N → Fraction) → Outcome N → Outcome Fraction
+outcome_at value (outcome.Cleared a) = outcome.Cleared (answer_at value a)
+outcome_at value (outcome.Infeasible f) = outcome.Infeasible (farkas_at value f)
+outcome_at value (outcome.Range p) = outcome.Range (passed_at value p)

@@ -1,5 +1,5 @@
 //! Laws of the definitions, each the contract of a function that does nothing.
-ghost use Rattle.market_model.specs.Laws.{LawOfTheOptimum, LawOfTheSurplus};
+ghost use Rattle.market_model.specs.Laws.{LawOfTheOptimum, LawOfTheSurplus, LawOfInfeasibility};
 ghost use Rattle.market_model.specs.ReportLaws.{ReportsApart};
 
 /// A feasible dispatch that duals support has the greatest welfare of all feasible ones.
@@ -10,6 +10,11 @@ pub fn supported_is_best()
 /// Where a dispatch balances and no branch has a limit, loads pay what units are paid.
 pub fn balance_leaves_nothing()
     ensures { LawOfTheSurplus }
+{}
+
+/// Where duals show that no dispatch is feasible, none is.
+pub fn farkas_leaves_nothing()
+    ensures { LawOfInfeasibility }
 {}
 
 /// Two answers to a market with one report are one.

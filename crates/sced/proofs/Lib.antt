@@ -1,17 +1,2 @@
-pub mod BusLemmas
-pub mod ClearingLemmas
-pub mod FillingLemmas
-pub mod Gathered
-pub mod InfeasibleLemmas
-pub mod IntSums
-pub mod OfferLemmas
-pub mod OutcomeLemmas
-pub mod PlaceSums
-pub mod PlacesLemmas
-pub mod PlainCaseLemmas
 pub mod PoolingLemmas
-pub mod ReachLemmas
-pub mod ReportLemmas
-pub mod SettlingLemmas
 pub mod SixWords
-pub mod StairLemmas

@@ -6,60 +6,62 @@ use Rattle.std.specs.Prelude.{nat_lt, codes, IfOk, MatchResult}
 use Rattle.outside_store.specs.Files.{Files, SameFiles, Reads}
 use Rattle.market_model.specs.declared.participants.Block.{Block}
 use Rattle.market_model.specs.declared.participants.UnitList.{UnitList}
-use Rattle.sced.specs.PlainCases.{PlainCase}
-use Rattle.sced.specs.PlainCaseGrammar.{plain_case}
-use Rattle.sced.specs.NetworkReading.{network_of, unit_list_of}
-use Rattle.sced.specs.OfferTable.{blocks_of_table}
-use Rattle.sced.specs.declared.plain_case.CaseFault.{CaseFault}
-use Rattle.sced.specs.declared.live_parts.NetFault.{NetFault}
-use Rattle.sced.specs.declared.live_parts.Network.{Network}
-use Rattle.sced.specs.declared.offer_table.OfferFault.{OfferFault}
+use Rattle.net_case.specs.PlainCases.{PlainCase}
+use Rattle.net_case.specs.PlainCaseGrammar.{plain_case}
+use Rattle.net_case.specs.NetworkReading.{network_of, unit_list_of}
+use Rattle.offer_book.specs.OfferTable.{blocks_of_table}
+use Rattle.net_case.specs.declared.plain_case.CaseFault.{CaseFault}
+use Rattle.net_case.specs.declared.live_parts.NetFault.{NetFault}
+use Rattle.net_case.specs.declared.live_parts.Network.{Network}
+use Rattle.offer_book.specs.declared.offer_table.OfferFault.{OfferFault}
 use Rattle.sced.specs.declared.status.Status.{Status}
 use Rattle.sced.specs.Runs.{AsksNothing}
 use Rattle.sced.specs.Words.{AsksPool}
-use Rattle.sced.specs.Pooling.{FileFault, AtCase, AtOffers, most_file, sized, pool_market, ComesTo, PoolsTo, FilesPoolTo, AnswersTo}
+use Rattle.sced.specs.declared.refusals.Refusal.{Refusal}
+use Rattle.sced.specs.declared.refusals.Refusal.TheVariants as refusal
+use Rattle.sced.specs.Pooling.{most_file, sized, pool_market, ComesTo, PoolsTo, FilesPoolTo, AnswersTo}
 
 -- ---- whether a file is too long
-pub sized-short : (file : FileFault) (bytes : List ℕ) → length bytes ≤ 33554432 → sized file bytes ≡ Ok bytes
+pub sized-short : (file : Refusal) (bytes : List ℕ) → length bytes ≤ 33554432 → sized file bytes ≡ Ok bytes
 unfolding sized
 sized-short file bytes short = let is : nat_lt most_file (length bytes) ≡ false = le-ltb _ _ (omega arith) in rw is refl
 
-pub sized-long : (file : FileFault) (bytes : List ℕ) → 33554432 < length bytes → sized file bytes ≡ Err file
+pub sized-long : (file : Refusal) (bytes : List ℕ) → 33554432 < length bytes → sized file bytes ≡ Err file
 unfolding sized
 sized-long file bytes long = let is : nat_lt most_file (length bytes) ≡ true = lt-ltb _ _ (omega arith) in rw is refl
 
 -- ---- the outcomes, by the first fault
 module _ (case offers : List ℕ) where
-  pub case-long : 33554432 < length case → pool_market case offers ≡ Err AtCase
+  pub case-long : 33554432 < length case → pool_market case offers ≡ Err refusal.CaseTooLong
   unfolding pool_market
-  case-long long = rw (sized-long AtCase case long) refl
+  case-long long = rw (sized-long refusal.CaseTooLong case long) refl
 
   module _ (short : length case ≤ 33554432) where
-    pub plain-fault : (f : CaseFault) → plain_case case ≡ Err f → pool_market case offers ≡ Err AtCase
+    pub plain-fault : (f : CaseFault) → plain_case case ≡ Err f → pool_market case offers ≡ Err (refusal.Case f)
     unfolding pool_market
-    plain-fault f is = rw (sized-short AtCase case short, is) refl
+    plain-fault f is = rw (sized-short refusal.CaseTooLong case short, is) refl
 
     module _ (plain : PlainCase) (plain-is : plain_case case ≡ Ok plain) where
-      pub network-fault : (f : NetFault) → network_of plain ≡ Err f → pool_market case offers ≡ Err AtCase
+      pub network-fault : (f : NetFault) → network_of plain ≡ Err f → pool_market case offers ≡ Err (refusal.Network f)
       unfolding pool_market
-      network-fault f is = rw (sized-short AtCase case short, plain-is, is) refl
+      network-fault f is = rw (sized-short refusal.CaseTooLong case short, plain-is, is) refl
 
       module _ (network : Network) (network-is : network_of plain ≡ Ok network) where
-        pub offers-long : 33554432 < length offers → pool_market case offers ≡ Err AtOffers
+        pub offers-long : 33554432 < length offers → pool_market case offers ≡ Err refusal.OffersTooLong
         unfolding pool_market
-        offers-long long = rw (sized-short AtCase case short, plain-is, network-is, sized-long AtOffers offers long) refl
+        offers-long long = rw (sized-short refusal.CaseTooLong case short, plain-is, network-is, sized-long refusal.OffersTooLong offers long) refl
 
         module _ (within : length offers ≤ 33554432) (list : UnitList) (list-is : list ≡ unit_list_of network) where
-          pub blocks-fault : (f : OfferFault) → blocks_of_table list offers ≡ Err f → pool_market case offers ≡ Err AtOffers
+          pub blocks-fault : (f : OfferFault) → blocks_of_table list offers ≡ Err f → pool_market case offers ≡ Err (refusal.Offers f)
           unfolding pool_market
-          blocks-fault f is = rw (sized-short AtCase case short, plain-is, network-is, sized-short AtOffers offers within, ← list-is, is) refl
+          blocks-fault f is = rw (sized-short refusal.CaseTooLong case short, plain-is, network-is, sized-short refusal.OffersTooLong offers within, ← list-is, is) refl
 
           pub market-is : (blocks : List Block) → blocks_of_table list offers ≡ Ok blocks → pool_market case offers ≡ Ok (record { buses = network.buses; units = list.units; blocks = blocks })
           unfolding pool_market
-          market-is blocks is = rw (sized-short AtCase case short, plain-is, network-is, sized-short AtOffers offers within, ← list-is, is) (cc list-is)
+          market-is blocks is = rw (sized-short refusal.CaseTooLong case short, plain-is, network-is, sized-short refusal.OffersTooLong offers within, ← list-is, is) (cc list-is)
 
 -- ---- files that are cut behind the first byte too many
-pub sized-cut : (file : FileFault) (bytes : List ℕ) → sized file (take 33554433 bytes) ≡ sized file bytes
+pub sized-cut : (file : Refusal) (bytes : List ℕ) → sized file (take 33554433 bytes) ≡ sized file bytes
 sized-cut file bytes = by (nat_lt 33554432 (length bytes)) refl
   where
     by : (over : Bool) → nat_lt 33554432 (length bytes) ≡ over → sized file (take 33554433 bytes) ≡ sized file bytes
@@ -73,7 +75,22 @@ sized-cut file bytes = by (nat_lt 33554432 (length bytes)) refl
 
 pub pool_market-cut : (case offers : List ℕ) → pool_market (take 33554433 case) (take 33554433 offers) ≡ pool_market case offers
 unfolding pool_market
-pool_market-cut case offers = rw (sized-cut AtCase case, sized-cut AtOffers offers) refl
+pool_market-cut case offers = rw (sized-cut refusal.CaseTooLong case, sized-cut refusal.OffersTooLong offers) refl
+
+-- ---- files that stay as they were
+pub same_files : (files : Option Files) → SameFiles files files
+same_files None = tt
+same_files (Some f) = λ n. refl
+
+pub same_then : (a b c : Option Files) → SameFiles a b → SameFiles b c → SameFiles a c
+same_then None None None ab bc = tt
+same_then None None (Some h) ab bc = elim bc [ ]
+same_then None (Some g) None ab bc = elim ab [ ]
+same_then None (Some g) (Some h) ab bc = elim ab [ ]
+same_then (Some f) None None ab bc = elim ab [ ]
+same_then (Some f) None (Some h) ab bc = elim ab [ ]
+same_then (Some f) (Some g) None ab bc = elim bc [ ]
+same_then (Some f) (Some g) (Some h) ab bc = λ n. bc n ∙ ab n
 
 -- what is right for the bytes that were read is right for the files
 pub files-pool : (old now : Option Files) (case offers case_read offers_read : List ℕ) (s : Status) (text : List ℕ) → SameFiles old now

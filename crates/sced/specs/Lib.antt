@@ -1,15 +1,5 @@
-pub mod BusReading
-pub mod Filling
-pub mod Fitting
-pub mod Gathering
-pub mod NetworkReading
-pub mod Networks
-pub mod OfferTable
-pub mod Offers
-pub mod Paying
-pub mod PlainCaseGrammar
-pub mod PlainCases
 pub mod Pooling
+pub mod Refusals
 pub mod Runs
 pub mod Status
 pub mod Words

@@ -1,15 +1,8 @@
 //! `sced`: clears the market of one interval of an electricity network.
 #![tactic(auto)]
 
-mod amounts;
-mod clearing;
-mod live_parts;
-mod network_reading;
-mod offer_table;
-mod plain_case;
-mod report;
+pub mod refusals;
 pub mod run;
-mod settling;
 pub mod status;
 mod words;
 

@@ -4,83 +4,88 @@ ghost use Rattle.std.specs.Prelude.{◌≡◌, ◌⊎◌, ℕ, List, map, string
 ghost use Rattle.outside_store.specs.Causes.{Rose, Still};
 ghost use Rattle.outside_store.specs.Files.{Reads, SameFiles};
 ghost use Rattle.outside_store.specs.Sinks.{Took, CountFault};
-ghost use Rattle.sced.specs.Pooling.{most_file, AtCase, AtOffers, pool_market, ClearsTo, PoolsTo, FilesPoolTo, AnswersTo};
+ghost use Rattle.market_model.specs.Fitting.{FitsOutcome};
+ghost use Rattle.market_model.specs.Outcomes.{IsRightOutcome};
+ghost use Rattle.market_model.specs.Valued.{outcome_at};
+ghost use Rattle.sced.specs.Pooling.{most_file, pool_market, status_of, ClearsTo, PoolsTo, FilesPoolTo, AnswersTo};
+ghost use Rattle.sced.specs.Refusals.{refusal_line};
 ghost use Rattle.sced.specs.Runs.{AsksNothing, IsSilent, IsTold, IsOfFiles, NamedReadFailed};
 
-use crate::clearing::{ClearFault, clear};
-use crate::live_parts::NetFault;
-use crate::network_reading::network;
-use crate::offer_table::{OfferFault, blocks};
-use crate::plain_case::{CaseFault, read_case};
-use crate::report::cleared;
+use crate::refusals::{Refusal, refusal_text};
 use crate::status::Status;
 use crate::words::{PoolFiles, pool_files};
 use exact_fraction::{Exact, Frac};
-use market_model::{Market, Memory, Parts, assemble};
+use market_model::{Market, Memory, Outcome as Clearing, Parts, assemble};
+use merit_order::{ClearFault, clear};
+use net_case::{CaseFault, NetFault, network, read_case};
+use offer_book::{OfferFault, blocks};
 use outside_store::{ReadStop, Sink, Store};
+use report_text::report;
 use std::alloc::Global;
 
 /// The most bytes of a file.
 const MOST_BYTES: usize = 33_554_432;
 
 /// Why no market was made of the files.
-enum Refusal {
-    Case,
-    Offers,
+enum Stop {
+    Refused(Refusal),
     Memory,
 }
 
-impl From<Memory> for Refusal {
-    ghost use Rattle.sced.specs.declared.run.Refusal.TheVariants as why;
+impl From<Memory> for Stop {
+    ghost use Rattle.sced.specs.declared.run.Stop.TheVariants as why;
 
-    ghost from_gives = { λ _ refusal. refusal ≡ why.Memory };
+    ghost from_gives = { λ _ stop. stop ≡ why.Memory };
 
-    fn from(_refused: Memory) -> Refusal {
-        Refusal::Memory
+    fn from(_refused: Memory) -> Stop {
+        Stop::Memory
     }
 }
 
-impl From<CaseFault> for Refusal {
+impl From<CaseFault> for Stop {
     ghost use Rattle.std.specs.Prelude.{◌⊎◌, ◌≢◌};
-    ghost use Rattle.sced.specs.declared.plain_case.CaseFault.TheVariants as fault_why;
-    ghost use Rattle.sced.specs.declared.run.Refusal.TheVariants as why;
+    ghost use Rattle.net_case.specs.declared.plain_case.CaseFault.TheVariants as fault_why;
+    ghost use Rattle.sced.specs.declared.refusals.Refusal.TheVariants as refusal;
+    ghost use Rattle.sced.specs.declared.run.Stop.TheVariants as why;
 
-    ghost from_gives = { λ fault refusal. ((fault ≡ fault_why.Memory) × (refusal ≡ why.Memory)) ⊎ ((fault ≢ fault_why.Memory) × (refusal ≡ why.Case)) };
+    ghost from_gives = { λ fault stop. ((fault ≡ fault_why.Memory) × (stop ≡ why.Memory)) ⊎ ((fault ≢ fault_why.Memory) × (stop ≡ why.Refused (refusal.Case fault))) };
 
-    fn from(fault: CaseFault) -> Refusal {
+    fn from(fault: CaseFault) -> Stop {
         match fault {
-            CaseFault::Plain { line: _ } => Refusal::Case,
-            CaseFault::Memory => Refusal::Memory,
+            CaseFault::Memory => Stop::Memory,
+            _ => Stop::Refused(Refusal::Case(fault)),
         }
     }
 }
 
-impl From<NetFault> for Refusal {
+impl From<NetFault> for Stop {
     ghost use Rattle.std.specs.Prelude.{◌⊎◌, ◌≢◌};
-    ghost use Rattle.sced.specs.declared.live_parts.NetFault.TheVariants as fault_why;
-    ghost use Rattle.sced.specs.declared.run.Refusal.TheVariants as why;
+    ghost use Rattle.net_case.specs.declared.live_parts.NetFault.TheVariants as fault_why;
+    ghost use Rattle.sced.specs.declared.refusals.Refusal.TheVariants as refusal;
+    ghost use Rattle.sced.specs.declared.run.Stop.TheVariants as why;
 
-    ghost from_gives = { λ fault refusal. ((fault ≡ fault_why.Memory) × (refusal ≡ why.Memory)) ⊎ ((fault ≢ fault_why.Memory) × (refusal ≡ why.Case)) };
+    ghost from_gives = { λ fault stop. ((fault ≡ fault_why.Memory) × (stop ≡ why.Memory)) ⊎ ((fault ≢ fault_why.Memory) × (stop ≡ why.Refused (refusal.Network fault))) };
 
-    fn from(fault: NetFault) -> Refusal {
+    fn from(fault: NetFault) -> Stop {
         match fault {
-            NetFault::Memory => Refusal::Memory,
-            _ => Refusal::Case,
+            NetFault::Memory => Stop::Memory,
+            _ => Stop::Refused(Refusal::Network(fault)),
         }
     }
 }
 
-impl From<OfferFault> for Refusal {
+impl From<OfferFault> for Stop {
     ghost use Rattle.std.specs.Prelude.{◌⊎◌, ◌≢◌};
-    ghost use Rattle.sced.specs.declared.offer_table.OfferFault.TheVariants as fault_why;
-    ghost use Rattle.sced.specs.declared.run.Refusal.TheVariants as why;
+    ghost use Rattle.offer_book.specs.declared.offer_table.OfferFault.TheVariants as fault_why;
+    ghost use Rattle.sced.specs.declared.refusals.Refusal.TheVariants as refusal;
+    ghost use Rattle.sced.specs.declared.run.Stop.TheVariants as why;
 
-    ghost from_gives = { λ fault refusal. ((fault ≡ fault_why.Memory) × (refusal ≡ why.Memory)) ⊎ ((fault ≢ fault_why.Memory) × (refusal ≡ why.Offers)) };
+    ghost from_gives = { λ fault stop. ((fault ≡ fault_why.Memory) × (stop ≡ why.Memory)) ⊎ ((fault ≢ fault_why.Memory) × (stop ≡ why.Refused (refusal.Offers fault))) };
 
-    fn from(fault: OfferFault) -> Refusal {
+    fn from(fault: OfferFault) -> Stop {
         match fault {
-            OfferFault::Memory => Refusal::Memory,
-            _ => Refusal::Offers,
+            OfferFault::Memory => Stop::Memory,
+            _ => Stop::Refused(Refusal::Offers(fault)),
         }
     }
 }
@@ -88,19 +93,18 @@ impl From<OfferFault> for Refusal {
 /// The market of a case and its offers.
 ///
 /// The whole case is read before the offers.
-fn market(alloc: Global, case: &[u8], offers: &[u8]) -> Result<Market, Refusal>
+fn market(alloc: Global, case: &[u8], offers: &[u8]) -> Result<Market, Stop>
     ensures market { IfOk result (λ market. pool_market case.now offers.now ≡ Ok market) }
-    ensures case { result ≡ Err Refusal.Case → pool_market case.now offers.now ≡ Err AtCase }
-    ensures offers { result ≡ Err Refusal.Offers → pool_market case.now offers.now ≡ Err AtOffers }
+    ensures refused { (refusal : Refusal) → result ≡ Err (Stop.Refused refusal) → pool_market case.now offers.now ≡ Err refusal }
 {
     if case.len() > MOST_BYTES {
-        return Err(Refusal::Case);
+        return Err(Stop::Refused(Refusal::CaseTooLong));
     }
     let raw = read_case(alloc, case)?;
     let network = network(alloc, &raw)?;
     let units = network.unit_list(alloc)?;
     if offers.len() > MOST_BYTES {
-        return Err(Refusal::Offers);
+        return Err(Stop::Refused(Refusal::OffersTooLong));
     }
     let blocks = blocks(alloc, &units, offers)?;
     let parts = Parts {
@@ -128,20 +132,51 @@ fn line(alloc: Global, status: Status, words: &[u8]) -> Result<Outcome, Memory>
     }
 }
 
+/// What a market is cleared to.
+fn cleared<N: Exact>(alloc: Global, market: &Market) -> Result<Clearing<N>, Memory>
+    ensures fits { IfOk result (λ outcome. FitsOutcome market.now outcome) }
+    ensures right { IfOk result (λ outcome. IsRightOutcome market.now (outcome_at N.value outcome)) }
+{
+    match clear(alloc, market) {
+        Ok(answer) => Ok(Clearing::Cleared(answer)),
+        Err(ClearFault::Infeasible(farkas)) => Ok(Clearing::Infeasible(farkas)),
+        Err(ClearFault::Range(passed)) => Ok(Clearing::Range(passed)),
+        Err(ClearFault::Memory) => Err(Memory),
+    }
+}
+
+/// The status of what a market was cleared to.
+fn clear_status<N: Exact>(outcome: &Clearing<N>) -> Status
+    ensures status { result ≡ status_of (outcome_at N.value outcome.now) }
+    ensures files { IsOfFiles result }
+{
+    match outcome {
+        Clearing::Cleared(_) => Status::Done,
+        Clearing::Infeasible(_) => Status::Infeasible,
+        Clearing::Range(_) => Status::Range,
+    }
+}
+
 /// What clearing a market comes to.
 fn clear_outcome<N: Exact>(alloc: Global, market: &Market) -> Result<Outcome, Memory>
     ensures status { IfOk result (λ outcome. IsOfFiles outcome.status) }
     ensures clears { IfOk result (λ outcome. ClearsTo market.now outcome.status outcome.text.items) }
 {
-    match clear::<N>(alloc, market) {
-        Ok(answer) => Ok(Outcome {
-            status: Status::Done,
-            text: cleared(alloc, market, &answer)?,
-        }),
-        Err(ClearFault::Infeasible(_farkas)) => line(alloc, Status::Infeasible, b"infeasible\n"),
-        Err(ClearFault::Range(_passed)) => line(alloc, Status::Range, b"range\n"),
-        Err(ClearFault::Memory) => Err(Memory),
-    }
+    let outcome = cleared::<N>(alloc, market)?;
+    Ok(Outcome {
+        status: clear_status(&outcome),
+        text: report(alloc, market, &outcome)?,
+    })
+}
+
+/// The line that refuses a file.
+fn refused(alloc: Global, refusal: Refusal) -> Result<Outcome, Memory>
+    ensures { IfOk result (λ outcome. (outcome.status ≡ Status.Refused) × (outcome.text.items ≡ refusal_line refusal)) }
+{
+    Ok(Outcome {
+        status: Status::Refused,
+        text: refusal_text(alloc, refusal)?,
+    })
 }
 
 /// What the bytes of a case and of offers come to.
@@ -151,9 +186,8 @@ fn pool(alloc: Global, case: &[u8], offers: &[u8]) -> Result<Outcome, Memory>
 {
     match market(alloc, case, offers) {
         Ok(market) => clear_outcome::<Frac>(alloc, &market),
-        Err(Refusal::Case) => line(alloc, Status::Refused, b"refused case\n"),
-        Err(Refusal::Offers) => line(alloc, Status::Refused, b"refused offers\n"),
-        Err(Refusal::Memory) => Err(Memory),
+        Err(Stop::Refused(refusal)) => refused(alloc, refusal),
+        Err(Stop::Memory) => Err(Memory),
     }
 }
 
@@ -197,11 +231,13 @@ fn told(outcome: Result<Outcome, Memory>) -> Result<Outcome, Status>
 }
 
 /// What the two files come to.
+#[tactic(auto, using(crate::proofs::PoolingLemmas::same_then))]
 fn pool_outcome<S: Store>(
     alloc: Global,
     files: &PoolFiles<'_>,
     store: &mut S,
 ) -> Result<Outcome, Status>
+    ensures same { SameFiles (S.files store.old) (S.files store.new) }
     ensures told { MatchResult result (λ outcome. IsOfFiles outcome.status) IsSilent }
     ensures pooled { IfOk result (λ outcome. FilesPoolTo (S.files store.old) files.now.case.now files.now.offers.now outcome.status outcome.text.items) }
     ensures failed { result ≡ Err Status.ReadFailed → Rose (S.failed_reads store.old files.now.case.now) (S.failed_reads store.new files.now.case.now) ⊎ Rose (S.failed_reads store.old files.now.offers.now) (S.failed_reads store.new files.now.offers.now) }
@@ -214,6 +250,7 @@ fn pool_outcome<S: Store>(
 }
 
 /// What the words and the files that they name come to.
+#[tactic(auto, using(crate::proofs::PoolingLemmas::same_files))]
 fn asked_outcome<S: Store>(
     alloc: Global,
     words: &[String],
@@ -221,6 +258,7 @@ fn asked_outcome<S: Store>(
 ) -> Result<Outcome, Status>
     ensures usage { IfOk result (λ outcome. outcome.status ≡ Status.Usage → AsksNothing (map string_bytes words.entry.now)) }
     ensures nothing_asked { AsksNothing (map string_bytes words.entry.now) → MatchResult result (λ outcome. outcome.status ≡ Status.Usage) (λ status. status ≡ Status.Memory) }
+    ensures same { SameFiles (S.files store.old) (S.files store.new) }
     ensures told { MatchResult result (λ outcome. IsTold outcome.status) IsSilent }
     ensures answers { IfOk result (λ outcome. AnswersTo (S.files store.old) (map string_bytes words.entry.now) outcome.status outcome.text.items) }
     ensures failed { result ≡ Err Status.ReadFailed → NamedReadFailed (map string_bytes words.entry.now) (S.failed_reads store.old) (S.failed_reads store.new) }
@@ -246,6 +284,9 @@ pub fn run<S: Store, K: Sink>(alloc: Global, words: &[String], store: &mut S, ou
     ensures reads { ¬ (result ≡ Status.ReadFailed) → Still (S.failed_reads store.old) (S.failed_reads store.new) }
     ensures writes { Still (S.failed_writes store.old) (S.failed_writes store.new) }
     ensures faults { CountFault (result ≡ Status.WriteFailed) (K.faults out.old) (K.faults out.new) }
+
+    // Every file is as it was.
+    ensures same { SameFiles (S.files store.old) (S.files store.new) }
 
     // A text is put once, and none where a read failed or memory was refused.
     ensures silent { IsSilent result → K.taken out.new ≡ K.taken out.old }

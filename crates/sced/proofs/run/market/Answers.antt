@@ -1,26 +1,27 @@
 use Rattle.std.proofs.Common.{◌≢◌, inl, inr, sym, ap, ◌∙◌, arith, Ok, Err}
 use Rattle.std.proofs.lemmas.Result.{err_from_is_err_and}
-use Rattle.sced.specs.declared.plain_case.CaseFault.TheVariants as case_fault
-use Rattle.sced.specs.declared.live_parts.NetFault.TheVariants as net_fault
-use Rattle.sced.specs.declared.offer_table.OfferFault.TheVariants as offer_fault
+use Rattle.net_case.specs.declared.plain_case.CaseFault.TheVariants as case_fault
+use Rattle.net_case.specs.declared.live_parts.NetFault.TheVariants as net_fault
+use Rattle.offer_book.specs.declared.offer_table.OfferFault.TheVariants as offer_fault
 use Rattle.sced.proofs.PoolingLemmas.{case-long, plain-fault, network-fault, offers-long, blocks-fault, market-is}
 use Rattle.sced.proofs.run.market.Goals as goal
 
-pub returns-then-case-gt-MOST_BYTES-clause-case : goal.returns-then-case-gt-MOST_BYTES-clause-case
-returns-then-case-gt-MOST_BYTES-clause-case c = λ _. case-long c.args.case.now c.args.offers.now c.if-case-gt-MOST_BYTES.true
+pub returns-then-case-gt-MOST_BYTES-clause-refused : goal.returns-then-case-gt-MOST_BYTES-clause-refused
+returns-then-case-gt-MOST_BYTES-clause-refused c = λ _ told. case-long c.args.case.now c.args.offers.now c.if-case-gt-MOST_BYTES.true ∙ cc told
 
-pub returns-in_err-raw-clause-case : goal.returns-in_err-raw-clause-case
-returns-in_err-raw-clause-case c = λ told.
+pub returns-in_err-raw-clause-refused : goal.returns-in_err-raw-clause-refused
+returns-in_err-raw-clause-refused c = λ _ told.
     let p = err_from_is_err_and c.from_residual.result c.from_residual.ensures.1 in
     elim p.2 [
       | inl memory ↦ cc (told, p.1, memory.1)
       | inr fault ↦
           let read : c.read_case.result ≢ Err case_fault.Memory = λ h. fault.0 (cc (h, c.in_err-raw.was)) in
           plain-fault c.args.case.now c.args.offers.now (omega arith) c.in_err-raw.field-0.0 (sym (c.read_case.ensures read) ∙ c.in_err-raw.was)
+          ∙ cc (told, p.1, fault.1)
     ]
 
-pub returns-in_err-network-clause-case : goal.returns-in_err-network-clause-case
-returns-in_err-network-clause-case c = λ told.
+pub returns-in_err-network-clause-refused : goal.returns-in_err-network-clause-refused
+returns-in_err-network-clause-refused c = λ _ told.
     let p = err_from_is_err_and c.from_residual-in_err-network.result c.from_residual-in_err-network.ensures.1 in
     let read : c.read_case.result ≢ Err case_fault.Memory = λ h. cc (h, c.in_ok-raw.was) in
     elim p.2 [
@@ -29,17 +30,19 @@ returns-in_err-network-clause-case c = λ told.
           let made : c.network.result ≢ Err net_fault.Memory = λ h. fault.0 (cc (h, c.in_err-network.was)) in
           network-fault c.args.case.now c.args.offers.now (omega arith) _ (sym (c.read_case.ensures read) ∙ c.in_ok-raw.was)
           c.in_err-network.field-0.0 (sym (c.network.ensures.is made) ∙ c.in_err-network.was)
+          ∙ cc (told, p.1, fault.1)
     ]
 
-pub returns-then-offers-gt-MOST_BYTES-clause-offers : goal.returns-then-offers-gt-MOST_BYTES-clause-offers
-returns-then-offers-gt-MOST_BYTES-clause-offers c = λ _.
+pub returns-then-offers-gt-MOST_BYTES-clause-refused : goal.returns-then-offers-gt-MOST_BYTES-clause-refused
+returns-then-offers-gt-MOST_BYTES-clause-refused c = λ _ told.
     let read : c.read_case.result ≢ Err case_fault.Memory = λ h. cc (h, c.in_ok-raw.was) in
     let made : c.network.result ≢ Err net_fault.Memory = λ h. cc (h, c.in_ok-network.was) in
     offers-long c.args.case.now c.args.offers.now (omega arith) _ (sym (c.read_case.ensures read) ∙ c.in_ok-raw.was)
     c.in_ok-network.network (sym (c.network.ensures.is made) ∙ c.in_ok-network.was) c.if-offers-gt-MOST_BYTES.true
+    ∙ cc told
 
-pub returns-in_err-blocks-clause-offers : goal.returns-in_err-blocks-clause-offers
-returns-in_err-blocks-clause-offers c = λ told.
+pub returns-in_err-blocks-clause-refused : goal.returns-in_err-blocks-clause-refused
+returns-in_err-blocks-clause-refused c = λ _ told.
     let p = err_from_is_err_and c.from_residual-in_err-blocks.result c.from_residual-in_err-blocks.ensures.1 in
     let read : c.read_case.result ≢ Err case_fault.Memory = λ h. cc (h, c.in_ok-raw.was) in
     let made : c.network.result ≢ Err net_fault.Memory = λ h. cc (h, c.in_ok-network.was) in
@@ -50,6 +53,7 @@ returns-in_err-blocks-clause-offers c = λ told.
           blocks-fault c.args.case.now c.args.offers.now (omega arith) _ (sym (c.read_case.ensures read) ∙ c.in_ok-raw.was)
           c.in_ok-network.network (sym (c.network.ensures.is made) ∙ c.in_ok-network.was) (omega arith)
           c.in_ok-units.units c.in_ok-units.ensures.is c.in_err-blocks.field-0.0 (sym (c.blocks-2.ensures.is listed) ∙ c.in_err-blocks.was)
+          ∙ cc (told, p.1, fault.1)
     ]
 
 pub returns-clause-market : goal.returns-clause-market

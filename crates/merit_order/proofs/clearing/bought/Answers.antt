@@ -1,0 +1,14 @@
+use Rattle.std.proofs.Common.{arith, pos}
+use Rattle.std.proofs.lemmas.Int.{ints}
+use Rattle.market_model.specs.declared.participants.Side.TheVariants.{Sell}
+use Rattle.merit_order.specs.Filling.{bought_of}
+use Rattle.market_model.proofs.WholeSumLaws.{int_sum_more}
+use Rattle.merit_order.proofs.clearing.bought.Goals as goal
+
+pub loop-block-preserved : goal.loop-block-preserved
+loop-block-preserved c =
+    let more = int_sum_more bought_of c.args.blocks.now c.loop-block.block-index (record { unit = 0; side = Sell; quantity = pos 0; price = pos 0 }) c.loop-block-test.true in
+    record {
+      value = omega (arith, ints, more);
+      bound = omega (arith, ints);
+    }

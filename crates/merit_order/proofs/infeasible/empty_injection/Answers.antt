@@ -1,0 +1,23 @@
+use Rattle.std.proofs.Common.{◌≡◌, ◌∙◌, ap, sym, arith, length, pos}
+use Rattle.std.specs.Prelude.{slice_index_or}
+use Rattle.std.specs.Result.{IfOk}
+use Rattle.std.proofs.lemmas.Result.{IfOk-weaker}
+use Rattle.merit_order.proofs.InfeasibleLemmas.{fixed_to, fixed_step, injection_is}
+use Rattle.merit_order.proofs.infeasible.empty_injection.Goals as goal
+
+pub loop-unit-preserved : goal.loop-unit-preserved
+loop-unit-preserved g c =
+    let units = c.slice-unit-items.ensures ∙ c.units.ensures.list in
+    fixed_step c.args.market.now c.args.place c.loop-unit.unit-index _ _ _
+    (ap (λ us. slice_index_or us c.loop-unit.unit-index (record { row = 0; bus = 0; fixed = pos 0; up = pos 0; down = pos 0 })) units) c.loop-unit.invariant c.in_ok-injection.ensures
+
+pub returns : goal.returns
+returns g c =
+    let m = c.args.market.now in
+    let units = c.slice-unit-items.ensures ∙ c.units.ensures.list in
+    let buses = c.slice.ensures ∙ c.buses.ensures.list in
+    let all : c.loop-unit.unit-index ≡ length m.units = omega (arith, ap length units, c.loop-unit.auto.unit-index-end) in
+    let fixed : g.N.Exact.value c.loop-unit.injection ≡ fixed_to m c.args.place (length m.units) = c.loop-unit.invariant ∙ ap (fixed_to m c.args.place) all in
+    IfOk-weaker c.less_demand.result _ _
+    (λ less is. injection_is m c.args.place _ (g.N.Exact.value c.loop-unit.injection) (g.N.Exact.value less) (ap (λ bs. slice_index_or bs c.args.place (record { number = 0; pd = pos 0; gs = pos 0 })) buses) fixed is)
+    c.less_demand.ensures

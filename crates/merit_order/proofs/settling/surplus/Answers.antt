@@ -1,0 +1,28 @@
+use Rattle.std.proofs.Common.{◌∙◌, ap, sym}
+use Rattle.fraction_theory.specs.Fraction.{neg_ℚ, ◌+ℚ◌}
+use Rattle.fraction_theory.specs.Sums.{sum_by}
+use Rattle.fraction_theory.proofs.FieldLaws.{+ℚ_nil}
+use Rattle.market_model.specs.declared.answered.Load.{Load}
+use Rattle.market_model.specs.declared.answered.UnitPay.{UnitPay}
+use Rattle.merit_order.proofs.SettlingLemmas.{sum_step, sum_step_behind, sum_end}
+use Rattle.merit_order.proofs.settling.surplus.Goals as goal
+
+pub loop-load-preserved : goal.loop-load-preserved
+loop-load-preserved g c =
+    sum_step (λ (load : Load g.row.N.Denot). g.N.Exact.value load.pays) c.args.loads.now c.loop-load.load-index c.load-item.result _ _ c.loop-load-test.true c.load-item.is c.loop-load.invariant c.in_ok-surplus.ensures.exact
+
+pub loop-unit-init : goal.loop-unit-init
+loop-unit-init g c =
+    c.loop-load.invariant ∙ sum_end (λ (load : Load g.row.N.Denot). g.N.Exact.value load.pays) c.args.loads.now c.loop-load.load-index c.loop-load-test.false ∙ sym (+ℚ_nil _)
+
+pub loop-unit-preserved : goal.loop-unit-preserved
+loop-unit-preserved g c =
+    sum_step_behind (λ (unit : UnitPay g.row.N.Denot). neg_ℚ (g.N.Exact.value unit.paid)) c.args.units.now (sum_by (λ (load : Load g.row.N.Denot). g.N.Exact.value load.pays) c.args.loads.now)
+    c.loop-unit.unit-index c.unit-item.result _ _ c.loop-unit-test.true c.unit-item.is c.loop-unit.invariant
+    (c.in_ok-surplus-2.ensures.exact ∙ ap (λ t. g.N.Exact.value c.loop-unit.surplus +ℚ t) c.neg.ensures)
+
+pub returns : goal.returns
+returns g c =
+    c.loop-unit.invariant
+    ∙ ap (λ t. sum_by (λ (load : Load g.row.N.Denot). g.N.Exact.value load.pays) c.args.loads.now +ℚ t)
+    (sum_end (λ (unit : UnitPay g.row.N.Denot). neg_ℚ (g.N.Exact.value unit.paid)) c.args.units.now c.loop-unit.unit-index c.loop-unit-test.false)

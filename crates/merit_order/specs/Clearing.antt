@@ -1,0 +1,38 @@
+-- What clearing a market answers.
+use Rattle.std.specs.Prelude.{ℤ, pos, negsuc, Bool, true, false, List, length, map, if◌then◌else◌}
+use Rattle.fraction_theory.specs.Fraction.{Fraction, ◌+ℚ◌, ◌*ℚ◌}
+use Rattle.fraction_theory.specs.Sums.{sum_by}
+use Rattle.market_model.specs.declared.participants.Parts.{Parts}
+use Rattle.market_model.specs.declared.participants.Side.{Side}
+use Rattle.market_model.specs.declared.participants.Side.TheVariants.{Sell, Buy}
+use Rattle.market_model.specs.Dispatch.{Dispatch, zero, places, block_at, quantity, balance, empty}
+use Rattle.market_model.specs.Infeasibility.{IsFarkas}
+use Rattle.market_model.specs.Reports.{same_side}
+use Rattle.market_model.specs.Valued.{farkas_at}
+use Rattle.merit_order.specs.declared.clearing.ClearFault.{ClearFault}
+use Rattle.merit_order.specs.declared.clearing.ClearFault.TheVariants as why
+
+-- the accepted MW of each block, as numbers
+abbrev pub dispatch_of : {N : Type 0} → (N → Fraction) → List N → Dispatch
+dispatch_of value xs = record { blocks = map value xs }
+
+-- the price of energy that shows that nothing is feasible: 1 where the blocks fall short of the demand, and -1 where what is put
+-- out passes it
+abbrev pub unit_energy : Bool → ℤ
+unit_energy true = pos 1
+unit_energy false = negsuc 0
+
+-- the side whose blocks that price makes something of
+abbrev pub weighing : Bool → Side
+weighing true = Sell
+weighing false = Buy
+
+-- what nothing accepted makes at a price of energy, and all that the blocks of a side have
+unfoldable pub bound_by : Parts → Fraction → Side → Fraction
+bound_by m energy side = energy *ℚ balance m (empty m) +ℚ sum_by (λ j. if same_side (block_at m j).side side then quantity m j else zero) (places (length m.blocks))
+
+-- why a market was not cleared is so: where it is infeasible, the duals show that
+abbrev pub IsCauseOf : {N : Type 0} → (N → Fraction) → Parts → ClearFault N → Type 0
+IsCauseOf value m (why.Infeasible farkas) = IsFarkas m (farkas_at value farkas)
+IsCauseOf value m (why.Range passed) = Unit {0}
+IsCauseOf value m why.Memory = Unit {0}

@@ -1,0 +1,3 @@
+pub mod BusLemmas
+pub mod Gathered
+pub mod PlainCaseLemmas

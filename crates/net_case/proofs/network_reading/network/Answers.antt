@@ -1,0 +1,24 @@
+use Rattle.std.proofs.Common.{◌≡◌, ◌≢◌, ◌∙◌, sym, length, arith, refl, Ok, Err, []}
+use Rattle.net_case.specs.Gathering.{gather}
+use Rattle.net_case.specs.NetworkReading.{few_rows, network_of, unit_row}
+use Rattle.net_case.specs.declared.live_parts.NetFault.TheVariants as fault
+use Rattle.net_case.specs.declared.plain_case.Field.TheVariants as field
+use Rattle.net_case.proofs.network_reading.network.Goals as goal
+
+pub returns-clause-network : goal.returns-clause-network
+returns-clause-network c = record {
+  bus_count = omega (arith, c.in_ok-rows.ensures.count, c.in_ok-row_count.ensures.few.0, c.in_ok-row_count.ensures.few.1);
+  unit_count = omega (arith, c.in_ok-units.ensures.count, c.in_ok-gen_count.ensures.few.0);
+  buses = c.in_ok-rows.ensures.rows.buses;
+  units = c.in_ok-units.ensures.units (length c.in_ok-rows.rows.buses) c.in_ok-rows.ensures.rows.places;
+}
+
+pub returns-clause-is : goal.returns-clause-is
+unfolding network_of
+returns-clause-is c =
+    let buses : few_rows field.Bus c.args.case.now.bus ≡ Ok c.in_ok-row_count.field-0 = sym c.row_count.ensures.is ∙ c.in_ok-row_count.was in
+    let rows : few_rows field.Gen c.args.case.now.generators ≡ Ok c.in_ok-gen_count.gen_count = sym c.row_count-2.ensures.is ∙ c.in_ok-gen_count.was in
+    let held = c.in_ok-rows.ensures.is in
+    let done : c.read_units.result ≢ Err fault.Memory = λ h. cc (h, c.in_ok-units.was) in
+    let units : gather (λ _. unit_row c.in_ok-rows.rows.places.entries) [] 1 c.args.case.now.generators ≡ Ok c.in_ok-units.units = sym (c.read_units.ensures.is done) ∙ c.in_ok-units.was in
+    λ _. rw (buses, rows, held.read, ← held.kept.places, ← held.kept.buses, units) refl

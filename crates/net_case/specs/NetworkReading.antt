@@ -1,0 +1,169 @@
+-- The network that a case stands for, or the first fault of its rows.
+use Rattle.std.specs.Prelude.{ℕ, ◌+◌, ◌-◌, ◌==◌, ◌&&◌, ℤ, pos, ◌-ℤ◌, Bool, true, false, List, [], ◌∷◌, length, map, nat_lt, Option, Some, None, is_some, Result, Ok, Err, slice_index_or, unsigned_abs, if◌then◌else◌}
+use Rattle.std.specs.Int.Signed.{lt_z, le_z}
+use Rattle.std.specs.List.{filter_map, list_any}
+use Rattle.std.specs.Map.{lookup}
+use Rattle.market_model.specs.declared.participants.Bus.{Bus}
+use Rattle.market_model.specs.declared.participants.Unit as unit
+use Rattle.market_model.specs.declared.participants.UnitList.{UnitList}
+use Rattle.csv_table.specs.Table.{Record, and_then, read_rows}
+use Rattle.fraction_theory.specs.declared.Sign.{Sign}
+use Rattle.fraction_theory.specs.declared.Sign.TheVariants as sign
+use Rattle.scaled_decimal.specs.Reading.{units_of, sign_in}
+use Rattle.scaled_decimal.specs.declared.DecimalFault.{DecimalFault}
+use Rattle.net_case.specs.Gathering.{gather, listed}
+use Rattle.net_case.specs.PlainCases.{PlainCase}
+use Rattle.net_case.specs.declared.plain_case.Field.{Field}
+use Rattle.net_case.specs.declared.plain_case.Field.TheVariants as field
+use Rattle.net_case.specs.declared.live_parts.Why.TheVariants as why
+use Rattle.net_case.specs.declared.live_parts.NetFault.{NetFault}
+use Rattle.net_case.specs.declared.live_parts.NetFault.TheVariants as fault
+use Rattle.net_case.specs.declared.live_parts.NetUnit.{NetUnit}
+use Rattle.net_case.specs.declared.live_parts.Network.{Network}
+use Rattle.net_case.specs.declared.network_reading.BusRow.{BusRow}
+
+-- what is read in a cell, or the cell's fault
+abbrev pub in_cell : {A : Type 0} → Field → ℕ → ℕ → Result A DecimalFault → Result A NetFault
+in_cell f row col (Ok x) = Ok x
+in_cell f row col (Err e) = Err (fault.Cell f row col (why.Decimal e))
+
+-- a row of a matrix, the first being 1
+abbrev pub row_at : List Record → ℕ → Record
+row_at rows row = slice_index_or rows (row - 1) []
+
+-- a row's cell, the first column being 1
+abbrev pub cell_in : Record → ℕ → List ℕ
+cell_in r col = slice_index_or r (col - 1) []
+
+-- the number in a cell, in units of so many places
+abbrev pub number_in : Field → ℕ → Record → ℕ → ℕ → Result ℤ NetFault
+number_in f row r col places = in_cell f row col (units_of places (cell_in r col))
+
+-- ---- bus rows
+-- a whole number from 1 to the most that a column takes
+unfoldable pub counted_in : ℕ → Record → ℕ → ℕ → Result ℕ NetFault
+counted_in row r col most =
+    and_then (number_in field.Bus row r col 0) (λ n.
+    if le_z (pos 1) n && le_z n (pos most) then Ok (unsigned_abs n) else Err (fault.Cell field.Bus row col why.Bounds))
+
+-- the load and the shunt of a live bus
+unfoldable pub demands_in : ℕ → Record → ℕ → Result Bus NetFault
+demands_in row r number =
+    and_then (number_in field.Bus row r 3 9) (λ pd.
+    and_then (number_in field.Bus row r 5 9) (λ gs.
+    Ok (record { number = number; pd = pd; gs = gs })))
+
+abbrev pub live_row : ℕ → Bool → Result Bus NetFault → Result BusRow NetFault
+live_row number is_reference (Ok bus) = Ok (record { number = number; is_reference = is_reference; live = Some bus })
+live_row number is_reference (Err f) = Err f
+
+-- the row of a bus of type 4 is not live, and that of type 3 is the reference
+unfoldable pub row_of_type : ℕ → Record → ℕ → ℕ → Result BusRow NetFault
+row_of_type row r number code =
+    if code == 4 then Ok (record { number = number; is_reference = false; live = None })
+    else live_row number (code == 3) (demands_in row r number)
+
+abbrev pub Places : Type 0
+Places = List (ℕ × Option ℕ)
+
+-- the places of a live bus, which is the next, and of an isolated one, which has none
+abbrev pub next_place : ℕ → Option Bus → Option ℕ
+next_place n None = None
+next_place n (Some bus) = Some n
+
+-- bus rows by number, each with its place among the live buses, where so many stand before the first
+abbrev pub places_from : ℕ → List BusRow → Places
+places_from n [] = []
+places_from n (b ∷ rows) = (b.number, next_place n b.live) ∷ places_from (n + length (listed b.live)) rows
+
+-- a bus row, where the rows before it have these places
+unfoldable pub bus_row_after : Places → ℕ → Record → Result BusRow NetFault
+bus_row_after places row r =
+    and_then (counted_in row r 1 2147483647) (λ number.
+    if is_some (lookup (λ other. number == other) places) then Err (fault.BusTwice row)
+    else and_then (counted_in row r 2 4) (row_of_type row r number))
+
+abbrev pub bus_row : List BusRow → ℕ → Record → Result BusRow NetFault
+bus_row earlier row r = bus_row_after (places_from 0 earlier) row r
+
+-- all bus rows, of which one is the reference
+abbrev pub referenced : List BusRow → Result (List BusRow) NetFault
+referenced rows = if list_any (λ b. b.is_reference) rows then Ok rows else Err fault.NoReference
+
+unfoldable pub bus_rows : List Record → Result (List BusRow) NetFault
+bus_rows rows = and_then (read_rows bus_row [] 1 rows) referenced
+
+abbrev pub live_buses : List BusRow → List Bus
+live_buses rows = filter_map (λ b. b.live) rows
+
+-- ---- gen rows
+-- what stands at a number among the bus rows; a number is whole, from 1 to 2147483647
+unfoldable pub standing_at : Places → ℤ → Option (Option ℕ)
+standing_at places n = if le_z (pos 1) n && le_z n (pos 2147483647) then lookup (λ other. unsigned_abs n == other) places else None
+
+abbrev pub stands : ℕ → Option (Option ℕ) → Result (Option ℕ) NetFault
+stands row None = Err (fault.NoBus field.Gen row)
+stands row (Some place) = Ok place
+
+abbrev pub is_above : Sign → Bool
+is_above sign.Below = false
+is_above sign.Zero = false
+is_above sign.Above = true
+
+-- whether a row's status is above 0
+abbrev pub service_in : ℕ → Record → Result Bool NetFault
+service_in row r = and_then (in_cell field.Gen row 8 (sign_in (cell_in r 8))) (λ s. Ok (is_above s))
+
+-- a live unit with its bounds
+unfoldable pub bounds_in : ℕ → Record → ℕ → Result NetUnit NetFault
+bounds_in row r bus =
+    and_then (number_in field.Gen row r 9 9) (λ high.
+    and_then (number_in field.Gen row r 10 9) (λ low.
+    if lt_z high low then Err (fault.MinAboveMax row) else Ok (record { row = row; bus = bus; low = low; high = high })))
+
+abbrev pub some_unit : Result NetUnit NetFault → Result (Option NetUnit) NetFault
+some_unit (Ok u) = Ok (Some u)
+some_unit (Err f) = Err f
+
+-- the unit of a row whose bus has a place among the live buses, where its status is above 0
+unfoldable pub unit_where : ℕ → Record → Option ℕ → Bool → Result (Option NetUnit) NetFault
+unit_where row r None in_service = Ok None
+unit_where row r (Some bus) false = Ok None
+unit_where row r (Some bus) true = some_unit (bounds_in row r bus)
+
+unfoldable pub unit_row : Places → ℕ → Record → Result (Option NetUnit) NetFault
+unit_row places row r =
+    and_then (number_in field.Gen row r 1 0) (λ n.
+    and_then (stands row (standing_at places n)) (λ place.
+    and_then (service_in row r) (unit_where row r place)))
+
+-- ---- the case
+-- the number of a matrix's rows, which is at most 1,000
+unfoldable pub few_rows : Field → List Record → Result ℕ NetFault
+few_rows f rows = if nat_lt 1000 (length rows) then Err (fault.TooMany f (length rows)) else Ok (length rows)
+
+unfoldable pub network_of : PlainCase → Result Network NetFault
+network_of case =
+    and_then (few_rows field.Bus case.bus) (λ _.
+    and_then (few_rows field.Gen case.generators) (λ gen_rows.
+    and_then (bus_rows case.bus) (λ buses.
+    and_then (gather (λ _. unit_row (places_from 0 buses)) [] 1 case.generators) (λ units.
+    Ok (record { buses = live_buses buses; units = units; gen_rows = gen_rows })))))
+
+-- ---- units
+-- the number from low to high that is nearest 0
+abbrev pub nearest_0 : ℤ → ℤ → ℤ
+nearest_0 low high = if lt_z (pos 0) low then low else if lt_z high (pos 0) then high else pos 0
+
+-- a unit's fixed part, and its room above and below that
+unfoldable pub unit_within : NetUnit → unit.Unit
+unit_within u = record {
+  row = u.row;
+  bus = u.bus;
+  fixed = nearest_0 u.low u.high;
+  up = u.high -ℤ nearest_0 u.low u.high;
+  down = nearest_0 u.low u.high -ℤ u.low;
+}
+
+abbrev pub unit_list_of : Network → UnitList
+unit_list_of network = record { rows = network.gen_rows; units = map unit_within network.units }

@@ -1,0 +1,2 @@
+pub mod OfferTable
+pub mod Offers

@@ -1,0 +1,121 @@
+-- What a table of offers stands for: the blocks of its records, or the first fault.
+use Rattle.std.specs.Prelude.{ℕ, ◌+◌, ◌==◌, ◌&&◌, ◌||◌, ℤ, pos, ◌+ℤ◌, Bool, true, false, not, List, [], ◌∷◌, map, filter, codes, Option, Some, None, Result, Ok, Err, slice_index_or, unsigned_abs, if◌then◌else◌}
+use Rattle.std.specs.Int.Signed.{lt_z, le_z}
+use Rattle.std.specs.List.{last_or, position}
+use Rattle.std.specs.Str.{bytes_eq}
+use Rattle.market_model.specs.declared.participants.Unit as unit
+use Rattle.market_model.specs.declared.participants.UnitList.{UnitList}
+use Rattle.market_model.specs.declared.participants.Block.{Block}
+use Rattle.market_model.specs.declared.participants.Side.{Side}
+use Rattle.market_model.specs.declared.participants.Side.TheVariants.{Sell, Buy}
+use Rattle.market_model.specs.Reports.{same_side}
+use Rattle.csv_table.specs.Table.{Record, and_then, cell_of, frame_of, table_of}
+use Rattle.csv_table.specs.declared.FrameFault.{FrameFault}
+use Rattle.csv_table.specs.declared.FrameFault.TheVariants as frame
+use Rattle.scaled_decimal.specs.Reading.{units_of}
+use Rattle.scaled_decimal.specs.declared.DecimalFault.{DecimalFault}
+use Rattle.market_model.specs.WholeSums.{int_sum}
+use Rattle.net_case.specs.Gathering.{gather}
+use Rattle.net_case.specs.declared.live_parts.Why.TheVariants as why
+use Rattle.offer_book.specs.declared.offer_table.Offer.{Offer}
+use Rattle.offer_book.specs.declared.offer_table.Stair.{Stair}
+use Rattle.offer_book.specs.declared.offer_table.OfferFault.{OfferFault}
+use Rattle.offer_book.specs.declared.offer_table.OfferFault.TheVariants as fault
+
+-- a number, or the fault of its cell, whose column counts from 0
+abbrev pub at_cell : ℕ → ℕ → Result ℤ DecimalFault → Result ℤ OfferFault
+at_cell line col (Ok n) = Ok n
+at_cell line col (Err f) = Err (fault.Cell line (col + 1) (why.Decimal f))
+
+-- the number in a cell, in units of so many places
+abbrev pub number_in : ℕ → Record → ℕ → ℕ → Result ℤ OfferFault
+number_in line r col places = at_cell line col (units_of places (cell_of r col))
+
+abbrev pub side_in : ℕ → List ℕ → Result Side OfferFault
+side_in line text = if bytes_eq text (codes "sell") then Ok Sell else if bytes_eq text (codes "buy") then Ok Buy else Err (fault.Side line)
+
+-- a record's numbers from left to right, then its side
+unfoldable pub offer_in : ℕ → Record → Result Offer OfferFault
+offer_in line r =
+    and_then (number_in line r 0 0) (λ unit.
+    and_then (number_in line r 2 9) (λ quantity.
+    and_then (number_in line r 3 6) (λ price.
+    and_then (side_in line (cell_of r 1)) (λ side.
+    Ok (record { unit = unit; side = side; quantity = quantity; price = price })))))
+
+abbrev pub is_on_stair : ℕ → Side → Block → Bool
+is_on_stair place side block = (block.unit == place) && same_side block.side side
+
+-- the blocks of a unit on a side
+unfoldable pub stair_in : ℕ → Side → List Block → List Block
+stair_in place side blocks = filter (is_on_stair place side) blocks
+
+-- what the blocks of a stair offer in all
+abbrev pub offered : List Block → ℤ
+offered blocks = int_sum (λ block. block.quantity) blocks
+
+-- the price of a stair's last block
+abbrev pub last_price : List Block → Option ℤ
+last_price blocks = last_or None (map (λ block. block.price) blocks)
+
+abbrev pub ends_of : List Block → Stair
+ends_of blocks = record { sum = offered blocks; last = last_price blocks }
+
+-- a sell's price is not below the last one of its stair, a buy's not above
+abbrev pub follows : Side → Option ℤ → ℤ → Bool
+follows side None price = true
+follows Sell (Some last) price = le_z last price
+follows Buy (Some last) price = le_z price last
+
+-- how much a unit's blocks of a side may offer in all
+abbrev pub room_of : Side → unit.Unit → ℤ
+room_of Sell u = u.up
+room_of Buy u = u.down
+
+abbrev pub unit_of_place : List unit.Unit → ℕ → unit.Unit
+unit_of_place units place = slice_index_or units place (record { row = 0; bus = 0; fixed = pos 0; up = pos 0; down = pos 0 })
+
+-- the block of a live unit's offer, after the blocks of its stair
+unfoldable pub block_after : unit.Unit → List Block → ℕ → ℕ → Offer → Result Block OfferFault
+block_after u stair place line offer =
+    if lt_z offer.quantity (pos 0) then Err (fault.Negative line)
+    else if not (follows offer.side (last_price stair) offer.price) then Err (fault.OutOfOrder line)
+    else if lt_z (room_of offer.side u) (offered stair +ℤ offer.quantity) then Err (fault.OverCapacity line)
+    else Ok (record { unit = place; side = offer.side; quantity = offer.quantity; price = offer.price })
+
+-- the gen row of a number, from 1 to the number of rows
+unfoldable pub row_in : ℕ → ℕ → ℤ → Result ℕ OfferFault
+row_in rows line number = if lt_z number (pos 1) || lt_z (pos rows) number then Err (fault.NoUnit line) else Ok (unsigned_abs number)
+
+abbrev pub some_block : Result Block OfferFault → Result (Option Block) OfferFault
+some_block (Ok block) = Ok (Some block)
+some_block (Err f) = Err f
+
+-- the block of an offer whose unit has this place among the live units, and none where it has no place
+abbrev pub block_where : List unit.Unit → List Block → ℕ → Offer → Option ℕ → Result (Option Block) OfferFault
+block_where units blocks line offer None = Ok None
+block_where units blocks line offer (Some place) = some_block (block_after (unit_of_place units place) (stair_in place offer.side blocks) place line offer)
+
+-- the block of a record, after the blocks before it
+unfoldable pub block_in : UnitList → List Block → ℕ → Record → Result (Option Block) OfferFault
+block_in list blocks line r =
+    and_then (offer_in line r) (λ offer.
+    and_then (row_in list.rows line offer.unit) (λ row.
+    block_where list.units blocks line offer (position (λ u. u.row == row) list.units)))
+
+abbrev pub header : Record
+header = codes "unit" ∷ codes "side" ∷ codes "mw" ∷ codes "price" ∷ []
+
+abbrev pub fault_of : FrameFault → OfferFault
+fault_of frame.Header = fault.Header
+fault_of (frame.Width line) = fault.Width line
+fault_of (frame.TooMany count) = fault.TooMany count
+fault_of frame.Memory = fault.Memory
+
+abbrev pub framed : {A : Type 0} → Result A FrameFault → Result A OfferFault
+framed (Ok x) = Ok x
+framed (Err f) = Err (fault_of f)
+
+-- the blocks that the bytes stand for, in the order of their records
+unfoldable pub blocks_of_table : UnitList → List ℕ → Result (List Block) OfferFault
+blocks_of_table units bytes = and_then (framed (frame_of header 4000 (table_of bytes))) (gather (block_in units) [] 2)

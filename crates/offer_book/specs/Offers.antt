@@ -1,0 +1,28 @@
+-- What is kept of the offers: the blocks, a record that is read, and the stairs that the records build.
+use Rattle.std.specs.Prelude.{ℕ, ◌*◌, ◌^◌, ◌≤◌, ℤ, ◌≤ℤ◌, List, length, All, Option, Some, None, unsigned_abs}
+use Rattle.market_model.specs.declared.participants.Side.{Side}
+use Rattle.market_model.specs.declared.participants.Side.TheVariants.{Sell, Buy}
+use Rattle.market_model.specs.declared.participants.Block.{Block}
+use Rattle.market_model.specs.Market.{IsDatum, IsBlock, most_blocks}
+use Rattle.offer_book.specs.declared.offer_table.Offer.{Offer}
+use Rattle.offer_book.specs.declared.offer_table.Stair.{Stair}
+
+-- blocks of so many units
+pub record AreBlocks (units : ℕ) (list : List Block) : Type 0 where
+  pub count : length list ≤ most_blocks
+  pub blocks : All (IsBlock units) list
+
+pub record OfferIsRead (offer : Offer) : Type 0 where
+  pub unit : IsDatum offer.unit
+  pub quantity : IsDatum offer.quantity
+  pub price : IsDatum offer.price
+
+-- a sell's price is not below the last one of its stair, a buy's not above
+abbrev pub MayFollow : Side → Option ℤ → ℤ → Type 0
+MayFollow side None price = Unit {0}
+MayFollow Sell (Some last) price = last ≤ℤ price
+MayFollow Buy (Some last) price = price ≤ℤ last
+
+-- a stair of at most so many blocks
+abbrev pub StairIsBounded : ℕ → Stair → Type 0
+StairIsBounded blocks stair = unsigned_abs stair.sum ≤ 2 ^ 64 * blocks

@@ -1,0 +1,318 @@
+//! The table of offers and bids.
+
+ghost use Rattle.std.specs.Prelude.{◌≡◌, ◌≢◌, ℕ, ◌+◌, ◌*◌, ◌^◌, ◌≤◌, ◌<◌, ◌↔◌, ◌==◌, pos, ◌≤ℤ◌, ◌+ℤ◌, unsigned_abs, length, get_or, [], ◌∷◌, ◌++◌, Some, Ok, Err, All, IsTrue, IfOk, IfErr, IfSome, if◌then◌else◌};
+ghost use Rattle.std.specs.List.{position};
+ghost use Rattle.market_model.specs.Market.{IsDatum, IsBlock, most_units, most_blocks};
+ghost use Rattle.net_case.specs.Gathering.{gather, listed};
+ghost use Rattle.offer_book.specs.OfferTable.{number_in, side_in, offer_in, is_on_stair, stair_in, ends_of, follows, room_of, block_after, block_where, row_in, block_in, fault_of, blocks_of_table};
+ghost use Rattle.offer_book.specs.Offers.{AreBlocks, MayFollow, OfferIsRead, StairIsBounded};
+
+use csv_table::{FrameFault, Table, read_table};
+use market_model::{Block, List, MW_PLACES, Memory, PRICE_PLACES, Side, Unit, UnitList};
+use net_case::{Why, push_some};
+use scaled_decimal::read;
+use std::alloc::Global;
+use thiserror::Error;
+
+/// The most records of the table.
+const MOST_BLOCKS: usize = 4000;
+
+/// Why a table of offers is refused. A line is a record's place, where the header's is 1.
+#[derive(Clone, Copy, Debug, PartialEq, Eq, Error)]
+pub enum OfferFault {
+    #[error("another header")]
+    Header,
+    #[error("another width in line {line}")]
+    Width { line: usize },
+    #[error("{count} records")]
+    TooMany { count: usize },
+    #[error("line {line}, column {col}: {why:?}")]
+    Cell { line: usize, col: usize, why: Why },
+    #[error("no side in line {line}")]
+    Side { line: usize },
+    #[error("no unit of the number in line {line}")]
+    NoUnit { line: usize },
+    #[error("a quantity below 0 in line {line}")]
+    Negative { line: usize },
+    #[error("the price in line {line} breaks its unit's stair")]
+    OutOfOrder { line: usize },
+    #[error("the unit has no room for line {line}")]
+    OverCapacity { line: usize },
+    #[error("memory was refused")]
+    Memory,
+}
+
+impl From<FrameFault> for OfferFault {
+    ghost from_gives = { λ frame fault. fault ≡ fault_of frame };
+
+    fn from(fault: FrameFault) -> OfferFault {
+        match fault {
+            FrameFault::Header => OfferFault::Header,
+            FrameFault::Width { line } => OfferFault::Width { line },
+            FrameFault::TooMany { count } => OfferFault::TooMany { count },
+            FrameFault::Memory => OfferFault::Memory,
+        }
+    }
+}
+
+impl From<Memory> for OfferFault {
+    ghost use Rattle.offer_book.specs.declared.offer_table.OfferFault.TheVariants as offer_fault;
+
+    ghost from_gives = { λ _ fault. fault ≡ offer_fault.Memory };
+
+    fn from(_refused: Memory) -> OfferFault {
+        OfferFault::Memory
+    }
+}
+
+/// A record as it is written.
+#[derive(Clone, Copy, Debug)]
+struct Offer {
+    /// The unit's row in the gen matrix.
+    unit: i64,
+    side: Side,
+    quantity: i64,
+    price: i64,
+}
+
+/// The number in a cell, in units of so many places.
+fn cell(table: &Table, row: usize, col: usize, places: u8) -> Result<i64, OfferFault>
+    requires row { (row < length table.now) × (row + 2 < 2 ^ 64) }
+    requires col { col < 8 }
+    requires places { places ≤ 18 }
+    ensures datum { IfOk result IsDatum }
+    ensures is { result ≡ number_in (row + 2) (get_or table.now row []) col places }
+{
+    match read(table.cell(row, col), places) {
+        Ok(number) => Ok(number),
+        Err(fault) => Err(OfferFault::Cell {
+            line: row + 2,
+            col: col + 1,
+            why: Why::Decimal(fault),
+        }),
+    }
+}
+
+/// The side that a cell names.
+fn side_of(text: &[u8], line: usize) -> Result<Side, OfferFault>
+    ensures { result ≡ side_in line text.now }
+{
+    if text == b"sell".as_slice() {
+        Ok(Side::Sell)
+    } else if text == b"buy".as_slice() {
+        Ok(Side::Buy)
+    } else {
+        Err(OfferFault::Side { line })
+    }
+}
+
+/// The record of a row: its numbers from left to right, then its side.
+#[tactic(auto, unfolding(crate::specs::OfferTable::offer_in))]
+fn offer_of(table: &Table, row: usize) -> Result<Offer, OfferFault>
+    requires { (row < length table.now) × (row + 2 < 2 ^ 64) }
+    ensures read { IfOk result OfferIsRead }
+    ensures is { result ≡ offer_in (row + 2) (get_or table.now row []) }
+{
+    let unit = cell(table, row, 0, 0)?;
+    let quantity = cell(table, row, 2, MW_PLACES)?;
+    let price = cell(table, row, 3, PRICE_PLACES)?;
+    let side = side_of(table.cell(row, 1), row + 2)?;
+    Ok(Offer {
+        unit,
+        side,
+        quantity,
+        price,
+    })
+}
+
+/// The blocks so far of one unit and side: their sum, and the price of the last.
+#[derive(Clone, Copy)]
+struct Stair {
+    sum: i128,
+    last: Option<i64>,
+}
+
+/// Whether a block is of this unit and side.
+fn is_of(block: &Block, unit: usize, side: Side) -> bool
+    ensures { result ≡ is_on_stair unit side block.now }
+{
+    block.unit == unit && block.side == side
+}
+
+fn stair_of(blocks: &[Block], unit: usize, side: Side) -> Stair
+    requires { length blocks.now ≤ most_blocks }
+    ensures bound { StairIsBounded most_blocks result }
+    ensures is { result ≡ ends_of (stair_in unit side blocks.now) }
+{
+    let mut stair = Stair { sum: 0, last: None };
+    for block in blocks {
+        stair = stair_with(stair, block, is_of(block, unit, side));
+    }
+    stair
+}
+
+/// The stair with one block more, where that is of its unit and side.
+fn stair_with(stair: Stair, block: &Block, belongs: bool) -> Stair
+    requires { unsigned_abs stair.sum < 2 ^ 100 }
+    ensures bound { unsigned_abs result.sum ≤ unsigned_abs stair.sum + 2 ^ 64 }
+    ensures is { result ≡ (if belongs then (record { sum = stair.sum +ℤ block.now.quantity; last = Some block.now.price }) else stair) }
+{
+    if belongs {
+        Stair {
+            sum: stair.sum + i128::from(block.quantity),
+            last: Some(block.price),
+        }
+    } else {
+        stair
+    }
+}
+
+/// Whether a price may follow the last one of its stair: a sell's may not be below it, a buy's
+/// not above.
+fn may_follow(side: Side, last: Option<i64>, price: i64) -> bool
+    ensures may { IsTrue result ↔ MayFollow side last price }
+    ensures is { result ≡ follows side last price }
+{
+    match last {
+        None => true,
+        Some(last) => match side {
+            Side::Sell => last <= price,
+            Side::Buy => price <= last,
+        },
+    }
+}
+
+/// How much the blocks of a side may offer in all.
+fn room(unit: Unit, side: Side) -> i64
+    ensures { result ≡ room_of side unit }
+{
+    match side {
+        Side::Sell => unit.up,
+        Side::Buy => unit.down,
+    }
+}
+
+/// The block of a live unit's offer, after the blocks before it.
+#[tactic(auto, unfolding(crate::specs::OfferTable::block_after))]
+fn next_block(
+    unit: Unit,
+    blocks: &[Block],
+    place: usize,
+    offer: Offer,
+    line: usize,
+) -> Result<Block, OfferFault>
+    requires few { length blocks.now ≤ most_blocks }
+    requires offer { OfferIsRead offer }
+    ensures block { (units : ℕ) → place < units → IfOk result (IsBlock units) }
+    ensures is { result ≡ block_after unit (stair_in place offer.side blocks.now) place line offer }
+{
+    if offer.quantity < 0 {
+        return Err(OfferFault::Negative { line });
+    }
+    let stair = stair_of(blocks, place, offer.side);
+    if !may_follow(offer.side, stair.last, offer.price) {
+        return Err(OfferFault::OutOfOrder { line });
+    }
+    if i128::from(room(unit, offer.side)) < stair.sum + i128::from(offer.quantity) {
+        return Err(OfferFault::OverCapacity { line });
+    }
+    Ok(Block {
+        unit: place,
+        side: offer.side,
+        quantity: offer.quantity,
+        price: offer.price,
+    })
+}
+
+/// The block of an offer, where its unit has a place among the live ones.
+fn live_block(
+    units: &[Unit],
+    blocks: &[Block],
+    place: Option<usize>,
+    offer: Offer,
+    line: usize,
+) -> Result<Option<Block>, OfferFault>
+    requires place { IfSome place (λ place. place < length units.now) }
+    requires few { length blocks.now ≤ most_blocks }
+    requires offer { OfferIsRead offer }
+    ensures block { IfOk result (λ block. IfSome block (IsBlock (length units.now))) }
+    ensures is { result ≡ block_where units.now blocks.now line offer place }
+{
+    match place {
+        Some(place) => match next_block(units[place], blocks, place, offer, line) {
+            Ok(block) => Ok(Some(block)),
+            Err(fault) => Err(fault),
+        },
+        None => Ok(None),
+    }
+}
+
+/// Reads a table of offers. Those of units out of service are read as cells and dropped.
+pub fn blocks(alloc: Global, units: &UnitList, bytes: &[u8]) -> Result<List<Block>, OfferFault>
+    ensures blocks { IfOk result (AreBlocks (length units.now.units)) }
+    ensures is { result ≢ Err OfferFault.Memory → result ≡ blocks_of_table units.now bytes.now }
+{
+    let header = [
+        b"unit".as_slice(),
+        b"side".as_slice(),
+        b"mw".as_slice(),
+        b"price".as_slice(),
+    ];
+    match read_table(alloc, bytes, header.as_slice(), MOST_BLOCKS) {
+        Ok(table) => blocks_of(alloc, units, &table),
+        Err(fault) => Err(OfferFault::from(fault)),
+    }
+}
+
+/// The gen row of a number, from 1 to the number of rows.
+#[tactic(auto, unfolding(crate::specs::OfferTable::row_in))]
+fn gen_row(rows: u32, number: i64, line: usize) -> Result<u32, OfferFault>
+    ensures { result ≡ row_in rows line number }
+{
+    if number < 1 || number > i64::from(rows) {
+        Err(OfferFault::NoUnit { line })
+    } else {
+        Ok(number as u32)
+    }
+}
+
+/// The place of the live unit of a gen row.
+fn place_of(units: &[Unit], row: u32) -> Option<usize>
+    ensures within { IfSome result (λ place. place < length units.now) }
+    ensures is { result ≡ position (λ unit. unit.row == row) units.now }
+{
+    units.iter().position(|unit| unit.row == row)
+}
+
+/// The block of a row's record, where its unit is live.
+#[tactic(auto, unfolding(crate::specs::OfferTable::block_in))]
+fn record_block(
+    blocks: &[Block],
+    units: &UnitList,
+    table: &Table,
+    row: usize,
+) -> Result<Option<Block>, OfferFault>
+    requires row { (row < length table.now) × (row + 2 < 2 ^ 64) }
+    requires few { length blocks.now ≤ most_blocks }
+    ensures block { IfOk result (λ block. IfSome block (IsBlock (length units.now.units))) }
+    ensures is { result ≡ block_in units.now blocks.now (row + 2) (get_or table.now row []) }
+{
+    let offer = offer_of(table, row)?;
+    let gen_row = gen_row(units.rows, offer.unit, row + 2)?;
+    let live = units.units.slice();
+    live_block(live, blocks, place_of(live, gen_row), offer, row + 2)
+}
+
+/// The blocks of a table's records.
+fn blocks_of(alloc: Global, units: &UnitList, table: &Table) -> Result<List<Block>, OfferFault>
+    requires { length table.now ≤ most_blocks }
+    ensures blocks { IfOk result (AreBlocks (length units.now.units)) }
+    ensures is { result ≢ Err OfferFault.Memory → result ≡ gather (block_in units.now) [] 2 table.now }
+{
+    let mut blocks = List::new(alloc);
+    for row in 0..table.len() {
+        let block = record_block(blocks.slice(), units, table, row)?;
+        push_some(&mut blocks, block)?;
+    }
+    Ok(blocks)
+}

@@ -1,0 +1,20 @@
+use Rattle.std.proofs.Common.{List, ◌++◌, ◌∙◌, ap, length, pos, arith}
+use Rattle.std.specs.Prelude.{slice_index_or}
+use Rattle.market_model.specs.declared.participants.Bus.{Bus}
+use Rattle.market_model.specs.Dispatch.{zero, bus_at}
+use Rattle.market_model.specs.Reports.{bus_text, bus_line_at}
+use Rattle.market_model.specs.Valued.{price_at, answer_at}
+use Rattle.report_text.proofs.ReportLemmas.{lines_more, entry_is}
+use Rattle.report_text.proofs.answer.bus_lines.Goals as goal
+
+pub loop-place-preserved : goal.loop-place-preserved
+loop-place-preserved g c =
+    let m = c.args.market.now in
+    let i = c.loop-place.place in
+    let price = price_at g.N.Exact.value c.at.result.now in
+    let buses = c.slice-bus-items.ensures ∙ c.buses.ensures.list in
+    let number = ap (λ (bs : List Bus). (slice_index_or bs i (record { number = 0; pd = pos 0; gs = pos 0 })).number) buses in
+    let read = entry_is (price_at g.N.Exact.value) c.args.answer.now.prices i c.at.result.now (record { energy = zero; congestion = zero; total = zero })
+    (omega (arith, c.requires.prices, ap length buses)) c.at.ensures in
+    lines_more (bus_line_at m (answer_at g.N.Exact.value c.args.answer.now)) c.args.text.now c.loop-place.text c.bus_line.new.text i c.loop-place.invariant
+    (c.in_ok-bus_line.ensures ∙ ap (λ t. c.loop-place.text ++ t) (ap (λ n. bus_text n price) number ∙ ap (bus_text (bus_at m i).number) read))

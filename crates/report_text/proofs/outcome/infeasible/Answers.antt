@@ -1,0 +1,7 @@
+use Rattle.std.proofs.Common.{rules, append_assoc}
+use Rattle.market_model.specs.Reports.{infeasible_text}
+use Rattle.report_text.proofs.outcome.infeasible.Goals as goal
+
+pub returns : goal.returns
+unfolding infeasible_text
+returns g c = search (rules, append_assoc)

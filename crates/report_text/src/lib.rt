@@ -1,0 +1,9 @@
+//! The text of what a clear came to.
+#![tactic(auto)]
+
+mod answer;
+mod outcome;
+mod text;
+
+pub use outcome::report;
+pub use text::Text;

@@ -1,0 +1,116 @@
+//! The report of what a clear came to.
+
+ghost use Rattle.std.specs.Prelude.{◌≡◌, ◌++◌, map, IfOk};
+ghost use Rattle.std.specs.List.{flat_map};
+ghost use Rattle.market_model.specs.Fitting.{FitsOutcome};
+ghost use Rattle.market_model.specs.Reports.{outage_text, limit_text, bound_text, plain_energy_text, infeasible_text, op_text, range_text, report_text};
+ghost use Rattle.market_model.specs.Valued.{dual_at, farkas_at, passed_at, outcome_at};
+
+use crate::answer::cleared;
+use crate::text::Text;
+use exact_fraction::{Exact, Op, Passed};
+use market_model::{Dual, Farkas, List, MW_PLACES, Market, Memory, Outcome};
+use std::alloc::Global;
+
+/// Whether a limit is of the base, or after which outage it is.
+fn outage_words(text: &mut Text, outage: u32) -> Result<(), Memory>
+    ensures { IfOk result (λ _. text.new ≡ text.old ++ outage_text outage) }
+{
+    if outage == 0 {
+        return text.word(b" base");
+    }
+    text.word(b" after ")?;
+    text.number(outage as usize)
+}
+
+/// The duals of a limit.
+fn limit_line<N: Exact>(text: &mut Text, dual: &Dual<N>) -> Result<(), Memory>
+    ensures { IfOk result (λ _. text.new ≡ text.old ++ limit_text (dual_at N.value dual.now)) }
+{
+    text.word(b"limit ")?;
+    text.number(dual.row.branch as usize)?;
+    outage_words(text, dual.row.outage)?;
+    text.named(b" up ", dual.up, 0)?;
+    text.named(b" down ", dual.down, 0)?;
+    text.word(b"\n")?;
+    Ok(())
+}
+
+fn limit_lines<N: Exact>(text: &mut Text, limits: &List<Dual<N>>) -> Result<(), Memory>
+    ensures { IfOk result (λ _. text.new ≡ text.old ++ flat_map limit_text (map (dual_at N.value) limits.now)) }
+{
+    for dual in limits.slice() {
+        limit_line(text, dual)?;
+    }
+    Ok(())
+}
+
+/// The bound that shows that no dispatch is feasible.
+fn bound_line<N: Exact>(text: &mut Text, bound: N) -> Result<(), Memory>
+    ensures { IfOk result (λ _. text.new ≡ text.old ++ bound_text (N.value bound)) }
+{
+    text.named(b"bound ", bound, MW_PLACES)?;
+    text.word(b"\n")?;
+    Ok(())
+}
+
+/// The price of energy, as a plain number.
+fn energy_line<N: Exact>(text: &mut Text, energy: N) -> Result<(), Memory>
+    ensures { IfOk result (λ _. text.new ≡ text.old ++ plain_energy_text (N.value energy)) }
+{
+    text.named(b"energy ", energy, 0)?;
+    text.word(b"\n")?;
+    Ok(())
+}
+
+/// The report of a market in which no dispatch is feasible.
+fn infeasible<N: Exact>(alloc: Global, farkas: &Farkas<N>) -> Result<Vec<u8>, Memory>
+    ensures { IfOk result (λ bytes. bytes.items ≡ infeasible_text (farkas_at N.value farkas.now)) }
+{
+    let mut text = Text::new(alloc);
+    text.word(b"infeasible\n")?;
+    bound_line(&mut text, farkas.bound)?;
+    energy_line(&mut text, farkas.duals.energy)?;
+    limit_lines(&mut text, &farkas.duals.limits)?;
+    Ok(text.into_bytes())
+}
+
+fn op_word(op: Op) -> &'static [u8]
+    ensures { result.now ≡ op_text op }
+{
+    match op {
+        Op::Plus => b"plus ",
+        Op::Minus => b"minus ",
+        Op::Times => b"times ",
+    }
+}
+
+/// The report of an operation whose outcome would pass the bound of its numbers.
+fn range<N: Exact>(alloc: Global, passed: &Passed<N>) -> Result<Vec<u8>, Memory>
+    ensures { IfOk result (λ bytes. bytes.items ≡ range_text (passed_at N.value passed.now)) }
+{
+    let mut text = Text::new(alloc);
+    text.word(b"range ")?;
+    text.word(op_word(passed.op))?;
+    text.parts(passed.left)?;
+    text.word(b" ")?;
+    text.parts(passed.right)?;
+    text.word(b"\n")?;
+    Ok(text.into_bytes())
+}
+
+/// The report of what a clear of the market came to.
+pub fn report<N: Exact>(
+    alloc: Global,
+    market: &Market,
+    outcome: &Outcome<N>,
+) -> Result<Vec<u8>, Memory>
+    requires { FitsOutcome market.now outcome.now }
+    ensures { IfOk result (λ bytes. bytes.items ≡ report_text market.now (outcome_at N.value outcome.now)) }
+{
+    match outcome {
+        Outcome::Cleared(answer) => cleared(alloc, market, answer),
+        Outcome::Infeasible(farkas) => infeasible(alloc, farkas),
+        Outcome::Range(passed) => range(alloc, passed),
+    }
+}

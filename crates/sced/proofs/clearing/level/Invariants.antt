@@ -1,7 +1,0 @@
-use Rattle.std.proofs.Common.{◌≡◌, ◌*◌, ◌^◌, ◌≤◌, take}
-use Rattle.std.specs.Prelude.{unsigned_abs}
-use Rattle.sced.specs.Filling.{int_sum, level_of}
-use Rattle.sced.proofs.clearing.level.Given as goal
-
-abbrev pub invariant-loop-block : goal.invariant-loop-block
-invariant-loop-block l = record { value : l.sum ≡ int_sum (level_of l.energy) (take l.block-index l.blocks); bound : unsigned_abs l.sum ≤ 2 ^ 64 * l.block-index }

@@ -1,9 +1,0 @@
-use Rattle.std.proofs.Common.{◌≡◌, ◌++◌}
-use Rattle.std.specs.List.{flat_map}
-use Rattle.market_model.specs.Dispatch.{places}
-use Rattle.market_model.specs.Reports.{block_line_at}
-use Rattle.market_model.specs.Valued.{answer_at}
-use Rattle.sced.proofs.report.block_lines.Given as goal
-
-abbrev pub invariant-loop-place : goal.invariant-loop-place
-invariant-loop-place g l = l.text ≡ l.initial.text ++ flat_map (block_line_at l.market (answer_at g.N.Exact.value l.answer)) (places l.place)

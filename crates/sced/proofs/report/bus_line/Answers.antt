@@ -1,7 +1,0 @@
-use Rattle.std.proofs.Common.{rules, append_assoc}
-use Rattle.market_model.specs.Reports.{bus_text}
-use Rattle.sced.proofs.report.bus_line.Goals as goal
-
-pub returns : goal.returns
-unfolding bus_text
-returns g c = search (rules, append_assoc)

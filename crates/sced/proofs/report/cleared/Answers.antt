@@ -1,7 +1,0 @@
-use Rattle.std.proofs.Common.{rules, append_assoc}
-use Rattle.market_model.specs.Reports.{cleared_text, surplus_text}
-use Rattle.sced.proofs.report.cleared.Goals as goal
-
-pub returns : goal.returns
-unfolding cleared_text surplus_text
-returns g c = search (rules, append_assoc)

@@ -1,7 +1,0 @@
-use Rattle.std.proofs.Common.{rules, append_assoc}
-use Rattle.market_model.specs.Reports.{head_text}
-use Rattle.sced.proofs.report.head_lines.Goals as goal
-
-pub returns : goal.returns
-unfolding head_text
-returns g c = search (rules, append_assoc)

@@ -1,0 +1,188 @@
+//! Why a file is refused, and the line that says so.
+
+ghost use Rattle.std.specs.Prelude.{◌≡◌, ◌++◌, codes, decimal, IfOk};
+ghost use Rattle.sced.specs.Refusals.{field_name, why_name, case_words, net_words, offer_words, refusal_words, refusal_line};
+
+use market_model::Memory;
+use net_case::{CaseFault, Field, NetFault, Why};
+use offer_book::OfferFault;
+use report_text::Text;
+use scaled_decimal::DecimalFault;
+use std::alloc::Global;
+
+/// Why a file stands for no market.
+#[derive(Clone, Copy, Debug)]
+pub enum Refusal {
+    CaseTooLong,
+    /// The text of the case is not as its form asks.
+    Case(CaseFault),
+    /// The rows of the case are no network.
+    Network(NetFault),
+    OffersTooLong,
+    Offers(OfferFault),
+}
+
+fn field_word(field: Field) -> &'static [u8]
+    ensures { result.now ≡ field_name field }
+{
+    match field {
+        Field::Bus => b"bus",
+        Field::Gen => b"gen",
+        Field::Branch => b"branch",
+    }
+}
+
+fn why_word(why: Why) -> &'static [u8]
+    ensures { result.now ≡ why_name why }
+{
+    match why {
+        Why::Decimal(DecimalFault::BadNumber) => b"BadNumber",
+        Why::Decimal(DecimalFault::NotFinite) => b"NotFinite",
+        Why::Decimal(DecimalFault::TooFine) => b"TooFine",
+        Why::Decimal(DecimalFault::OutOfRange) => b"OutOfRange",
+        Why::Bounds => b"Bounds",
+    }
+}
+
+/// A word and a number behind it.
+fn numbered(text: &mut Text, word: &[u8], number: usize) -> Result<(), Memory>
+    ensures { IfOk result (λ _. text.new ≡ text.old ++ word.now ++ decimal number) }
+{
+    text.word(word)?;
+    text.number(number)
+}
+
+/// A fault's name, and the line that it is in.
+fn at_line(text: &mut Text, name: &[u8], line: usize) -> Result<(), Memory>
+    ensures { IfOk result (λ _. text.new ≡ text.old ++ name.now ++ codes " line " ++ decimal line) }
+{
+    text.word(name)?;
+    numbered(text, b" line ", line)
+}
+
+fn write_case_fault(text: &mut Text, fault: CaseFault) -> Result<(), Memory>
+    ensures { IfOk result (λ _. text.new ≡ text.old ++ case_words fault) }
+{
+    match fault {
+        CaseFault::Plain { line } => numbered(text, b"Plain line ", line),
+        CaseFault::Memory => Ok(()),
+    }
+}
+
+/// A cell's row and column, and why it is at fault.
+fn write_place(text: &mut Text, row: usize, col: usize, why: Why) -> Result<(), Memory>
+    ensures { IfOk result (λ _. text.new ≡ text.old ++ decimal row ++ codes " col " ++ decimal col ++ codes " " ++ why_name why) }
+{
+    text.number(row)?;
+    numbered(text, b" col ", col)?;
+    text.word(b" ")?;
+    text.word(why_word(why))
+}
+
+/// A matrix, and how many rows, or which, behind a word.
+fn write_rows(
+    text: &mut Text,
+    name: &[u8],
+    field: Field,
+    word: &[u8],
+    number: usize,
+) -> Result<(), Memory>
+    ensures { IfOk result (λ _. text.new ≡ text.old ++ name.now ++ field_name field ++ word.now ++ decimal number) }
+{
+    text.word(name)?;
+    text.word(field_word(field))?;
+    numbered(text, word, number)
+}
+
+fn write_net_fault(text: &mut Text, fault: NetFault) -> Result<(), Memory>
+    ensures { IfOk result (λ _. text.new ≡ text.old ++ net_words fault) }
+{
+    match fault {
+        NetFault::TooMany { field, count } => write_rows(text, b"TooMany ", field, b" count ", count),
+        NetFault::Cell {
+            field,
+            row,
+            col,
+            why,
+        } => {
+            text.word(b"Cell ")?;
+            text.word(field_word(field))?;
+            text.word(b" row ")?;
+            write_place(text, row, col, why)
+        }
+        NetFault::BusTwice { row } => numbered(text, b"BusTwice row ", row),
+        NetFault::NoBus { field, row } => write_rows(text, b"NoBus ", field, b" row ", row),
+        NetFault::NoReference => text.word(b"NoReference"),
+        NetFault::MinAboveMax { unit } => {
+            text.word(b"MinAboveMax ")?;
+            numbered(text, b"unit ", unit as usize)
+        }
+        NetFault::Memory => Ok(()),
+    }
+}
+
+fn write_offer_fault(text: &mut Text, fault: OfferFault) -> Result<(), Memory>
+    ensures { IfOk result (λ _. text.new ≡ text.old ++ offer_words fault) }
+{
+    match fault {
+        OfferFault::Header => text.word(b"Header"),
+        OfferFault::Width { line } => at_line(text, b"Width", line),
+        OfferFault::TooMany { count } => numbered(text, b"TooMany count ", count),
+        OfferFault::Cell { line, col, why } => {
+            text.word(b"Cell line ")?;
+            write_place(text, line, col, why)
+        }
+        OfferFault::Side { line } => at_line(text, b"Side", line),
+        OfferFault::NoUnit { line } => at_line(text, b"NoUnit", line),
+        OfferFault::Negative { line } => at_line(text, b"Negative", line),
+        OfferFault::OutOfOrder { line } => at_line(text, b"OutOfOrder", line),
+        OfferFault::OverCapacity { line } => at_line(text, b"OverCapacity", line),
+        OfferFault::Memory => Ok(()),
+    }
+}
+
+fn write_too_long(text: &mut Text) -> Result<(), Memory>
+    ensures { IfOk result (λ _. text.new ≡ text.old ++ codes "TooLong " ++ codes "limit 33554432") }
+{
+    text.word(b"TooLong ")?;
+    text.word(b"limit 33554432")
+}
+
+/// Which file is refused, and its fault.
+fn write_refusal(text: &mut Text, refusal: Refusal) -> Result<(), Memory>
+    ensures { IfOk result (λ _. text.new ≡ text.old ++ refusal_words refusal) }
+{
+    match refusal {
+        Refusal::CaseTooLong => {
+            text.word(b"case ")?;
+            write_too_long(text)
+        }
+        Refusal::Case(fault) => {
+            text.word(b"case ")?;
+            write_case_fault(text, fault)
+        }
+        Refusal::Network(fault) => {
+            text.word(b"case ")?;
+            write_net_fault(text, fault)
+        }
+        Refusal::OffersTooLong => {
+            text.word(b"offers ")?;
+            write_too_long(text)
+        }
+        Refusal::Offers(fault) => {
+            text.word(b"offers ")?;
+            write_offer_fault(text, fault)
+        }
+    }
+}
+
+/// The line that refuses a file.
+pub fn refusal_text(alloc: Global, refusal: Refusal) -> Result<Vec<u8>, Memory>
+    ensures { IfOk result (λ bytes. bytes.items ≡ refusal_line refusal) }
+{
+    let mut text = Text::new(alloc);
+    text.word(b"refused ")?;
+    write_refusal(&mut text, refusal)?;
+    text.word(b"\n")?;
+    Ok(text.into_bytes())
+}
