@@ -1,2 +1,3 @@
 pub mod PoolingLemmas
+pub mod RefusalLemmas
 pub mod SixWords

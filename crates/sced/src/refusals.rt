@@ -60,6 +60,7 @@ fn at_line(text: &mut Text, name: &[u8], line: usize) -> Result<(), Memory>
     numbered(text, b" line ", line)
 }
 
+#[tactic(auto, using(std::proofs::Common::append_assoc), unfolding(crate::specs::Refusals::case_words))]
 fn write_case_fault(text: &mut Text, fault: CaseFault) -> Result<(), Memory>
     ensures { IfOk result (λ _. text.new ≡ text.old ++ case_words fault) }
 {
@@ -94,6 +95,7 @@ fn write_rows(
     numbered(text, word, number)
 }
 
+#[tactic(auto, using(std::proofs::Common::append_assoc), unfolding(crate::specs::Refusals::net_words))]
 fn write_net_fault(text: &mut Text, fault: NetFault) -> Result<(), Memory>
     ensures { IfOk result (λ _. text.new ≡ text.old ++ net_words fault) }
 {
@@ -121,6 +123,7 @@ fn write_net_fault(text: &mut Text, fault: NetFault) -> Result<(), Memory>
     }
 }
 
+#[tactic(auto, using(std::proofs::Common::append_assoc), unfolding(crate::specs::Refusals::offer_words))]
 fn write_offer_fault(text: &mut Text, fault: OfferFault) -> Result<(), Memory>
     ensures { IfOk result (λ _. text.new ≡ text.old ++ offer_words fault) }
 {
@@ -149,6 +152,7 @@ fn write_too_long(text: &mut Text) -> Result<(), Memory>
 }
 
 /// Which file is refused, and its fault.
+#[tactic(auto, using(std::proofs::Common::append_assoc), unfolding(crate::specs::Refusals::refusal_words))]
 fn write_refusal(text: &mut Text, refusal: Refusal) -> Result<(), Memory>
     ensures { IfOk result (λ _. text.new ≡ text.old ++ refusal_words refusal) }
 {
@@ -177,6 +181,7 @@ fn write_refusal(text: &mut Text, refusal: Refusal) -> Result<(), Memory>
 }
 
 /// The line that refuses a file.
+#[tactic(auto, using(std::proofs::Common::append_assoc), unfolding(crate::specs::Refusals::refusal_line))]
 pub fn refusal_text(alloc: Global, refusal: Refusal) -> Result<Vec<u8>, Memory>
     ensures { IfOk result (λ bytes. bytes.items ≡ refusal_line refusal) }
 {

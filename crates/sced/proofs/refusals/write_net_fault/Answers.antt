@@ -1,0 +1,19 @@
+use Rattle.std.proofs.Common.{◌++◌, ◌∙◌, ap, sym, codes, decimal, append_assoc}
+use Rattle.std.proofs.lemmas.Result.{IfOk-weaker}
+use Rattle.sced.specs.Refusals.{net_words}
+use Rattle.sced.proofs.RefusalLemmas.{four}
+use Rattle.sced.proofs.refusals.write_net_fault.Goals as goal
+
+pub returns-in-BusTwice : goal.returns-in-BusTwice
+unfolding net_words
+returns-in-BusTwice c =
+    IfOk-weaker c.numbered.result _ _
+    (λ _ e. e ∙ append_assoc c.args.text.now (codes "BusTwice row ") (decimal c.in-BusTwice.row) ∙ ap (λ f. c.args.text.now ++ net_words f) (sym c.in-BusTwice.is)) c.numbered.ensures
+
+pub returns-in_ok-word-in-MinAboveMax : goal.returns-in_ok-word-in-MinAboveMax
+unfolding net_words
+returns-in_ok-word-in-MinAboveMax c =
+    IfOk-weaker c.numbered-in-MinAboveMax.result _ _
+    (λ _ e. e ∙ ap (λ t. (t ++ codes "unit ") ++ decimal c.in-MinAboveMax.unit) c.in_ok-word-in-MinAboveMax.ensures
+    ∙ four c.args.text.now (codes "MinAboveMax ") (codes "unit ") (decimal c.in-MinAboveMax.unit) ∙ ap (λ f. c.args.text.now ++ net_words f) (sym c.in-MinAboveMax.is))
+    c.numbered-in-MinAboveMax.ensures
