@@ -9,3 +9,4 @@ pub mod WholeDispatch
 pub mod ReportReading
 pub mod MorePlaces
 pub mod WholeSumLaws
+pub mod RightReports

@@ -1,6 +1,6 @@
 //! Laws of the definitions, each the contract of a function that does nothing.
 ghost use Rattle.market_model.specs.Laws.{LawOfTheOptimum, LawOfTheSurplus, LawOfInfeasibility};
-ghost use Rattle.market_model.specs.ReportLaws.{ReportsApart};
+ghost use Rattle.market_model.specs.ReportLaws.{ReportsApart, RightReportsApart};
 
 /// A feasible dispatch that duals support has the greatest welfare of all feasible ones.
 pub fn supported_is_best()
@@ -20,4 +20,9 @@ pub fn farkas_leaves_nothing()
 /// Two answers to a market with one report are one.
 pub fn report_has_one_reading()
     ensures { ReportsApart }
+{}
+
+/// Two right answers to a market with one report are one.
+pub fn right_report_has_one_reading()
+    ensures { RightReportsApart }
 {}

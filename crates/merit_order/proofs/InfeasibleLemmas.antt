@@ -1,6 +1,6 @@
 -- Where the blocks cannot fill what the demands leave, the duals of one price of energy show that no dispatch is feasible.
 use Rattle.std.specs.Prelude.{◌≡◌, ◌≢◌, ℕ, ◌+◌, ◌==◌, ℤ, pos, negsuc, neg_ℤ, ◌+ℤ◌, ◌-ℤ◌, ◌≤ℤ◌, ◌<ℤ◌, Bool, true, false, List, [], ◌∷◌, map, filter, refl, length, All, if◌then◌else◌}
-use Rattle.std.proofs.Common.{ap, sym, ◌∙◌, subst, subst₂, arith, inl, inr}
+use Rattle.std.proofs.Common.{ap, sym, ◌∙◌, subst, arith, inl, inr}
 use mathlib.Core.Path.{ap₂}
 use Rattle.std.specs.List.{AllByRecursion}
 use Rattle.std.proofs.lemmas.List.Elements.{recursion_from_All}
@@ -11,7 +11,7 @@ use Rattle.fraction_theory.specs.Signs.{sign_of}
 use Rattle.fraction_theory.specs.Sums.{sum_by, Plain, total}
 use Rattle.fraction_theory.specs.declared.Sign.TheVariants.{Below, Above}
 use Rattle.fraction_theory.proofs.Ring.{by_ring, at, pnil, pone, pneg, ◌⊕◌, ◌⊗◌}
-use Rattle.fraction_theory.proofs.FieldLaws.{ring_ℚ, +ℚ_assoc, +ℚ_nil, whole-neg, whole-+ℚ, whole-*ℚ}
+use Rattle.fraction_theory.proofs.FieldLaws.{ring_ℚ, +ℚ_assoc, +ℚ_nil, whole-neg, whole-+ℚ}
 use Rattle.fraction_theory.proofs.SumLaws.{sum_by-same, sum_by-nil, sum_by-append, total-Plain}
 use Rattle.market_model.specs.declared.participants.Side.{Side}
 use Rattle.market_model.specs.declared.participants.Side.TheVariants.{Sell, Buy}

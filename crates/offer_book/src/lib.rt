@@ -4,3 +4,6 @@
 mod offer_table;
 
 pub use offer_table::{OfferFault, blocks};
+
+#[cfg(test)]
+mod tests;

@@ -7,3 +7,6 @@ mod text;
 
 pub use outcome::report;
 pub use text::Text;
+
+#[cfg(test)]
+mod tests;

@@ -100,7 +100,13 @@ fn write_net_fault(text: &mut Text, fault: NetFault) -> Result<(), Memory>
     ensures { IfOk result (λ _. text.new ≡ text.old ++ net_words fault) }
 {
     match fault {
-        NetFault::TooMany { field, count } => write_rows(text, b"TooMany ", field, b" count ", count),
+        NetFault::TooMany { field, count } => write_rows(
+            text,
+            b"TooMany ",
+            field,
+            b" count ",
+            count,
+        ),
         NetFault::Cell {
             field,
             row,

@@ -133,7 +133,7 @@ fn clears(rt: HostRuntime) -> Result<(), Fail> {
         short.as_bytes(),
         OFFERS,
         all,
-        (Status::Infeasible, "infeasible\n"),
+        (Status::Infeasible, "infeasible\nbound -50\nenergy 1\n"),
     )?;
     expect(
         &rt,
@@ -166,69 +166,200 @@ fn passes_127_bits(rt: HostRuntime) -> Result<(), Fail> {
         case.as_bytes(),
         offers.as_str(),
         all,
-        (Status::Range, "range\n"),
+        (
+            Status::Range,
+            "range plus -170141183460469231694793815568465002498/1 -85070591730234615847396907784232501249/1\n",
+        ),
+    )
+}
+
+/// What is put where the one unit is held at 60 and has no blocks.
+const HELD: &str =
+    "cleared\nwelfare 0\nenergy 0\nbus 1 price 0 congestion 0\nbus 2 price 0 congestion 0\nbus 3 price 0 congestion 0\nunit 1 mw 60 paid 0\nload 1 mw 0 pays 0\nload 2 mw 0 pays 0\nload 3 mw 60 pays 0\nsurplus 0\n";
+
+#[test]
+fn tells_what_is_infeasible(rt: HostRuntime) -> Result<(), Fail> {
+    let all = ([].as_slice(), [].as_slice());
+    let held = "1 0 0 0 0 1 100 1 60 60;\n";
+    let none = "unit,side,mw,price\n";
+    for (demand, want) in [
+        ("60", (Status::Done, HELD)),
+        (
+            "60.000000001",
+            (
+                Status::Infeasible,
+                "infeasible\nbound -0.000000001\nenergy 1\n",
+            ),
+        ),
+        (
+            "-0",
+            (Status::Infeasible, "infeasible\nbound -60\nenergy -1\n"),
+        ),
+    ] {
+        let buses = format!(in rt.alloc();
+            "1 3 0 0 0 0 1 1 0 230 1 1.1 0.9;\n2 1 0 0 0 0 1 1 0 230 1 1.1 0.9;\n3 1 {demand} 0 0 0 1 1 0 230 1 1.1 0.9;\n"
+        )?;
+        let text = case(&rt, buses.as_str(), held)?;
+        expect(&rt, text.as_bytes(), none, all, want)?;
+    }
+    let buses =
+        "1 3 0 0 0 0 1 1 0 230 1 1.1 0.9;\n2 1 0 0 0 0 1 1 0 230 1 1.1 0.9;\n3 1 6.000e1 0 -0 0 1 1 0 230 1 1.1 0.9;\n";
+    let text = case(&rt, buses, UNITS)?;
+    expect(
+        &rt,
+        text.as_bytes(),
+        OFFERS,
+        all,
+        (Status::Done, THREE_BUSES),
+    )
+}
+
+/// Compares the line that refuses a case of these bus and gen rows.
+fn refuse_case<R: Abort + AllocGlobal>(rt: &R, rows: (&str, &str), line: &str) -> Result<(), Fail> {
+    let all = ([].as_slice(), [].as_slice());
+    let text = case(rt, rows.0, rows.1)?;
+    let line = format!(in rt.alloc(); "refused case {line}\n")?;
+    expect(
+        rt,
+        text.as_bytes(),
+        "no table",
+        all,
+        (Status::Refused, line.as_str()),
     )
 }
 
 #[test]
 fn refuses_cases(rt: HostRuntime) -> Result<(), Fail> {
     let all = ([].as_slice(), [].as_slice());
-    let refused = (Status::Refused, "refused case\n");
-    for text in [
-        b"".as_slice(),
-        b"\x00\xff\n[\x80;",
-        b"function mpc = t3\nmpc.version = '2';\n",
+    for (text, line) in [
+        (b"".as_slice(), "refused case Plain line 1\n"),
+        (b"\x00\xff\n[\x80;", "refused case Plain line 1\n"),
+        (
+            b"function mpc = t3\nmpc.version = '2';\n",
+            "refused case Plain line 3\n",
+        ),
     ] {
-        expect(&rt, text, "no table", all, refused)?;
+        expect(&rt, text, "no table", all, (Status::Refused, line))?;
     }
     let bus = "1 3 0 0 0 0 1 1 0 230 1 1.1 0.9;\n";
-    for other in [
-        "2 1 1e-10 0 0 0 1 1 0 230 1 1.1 0.9;\n",
-        "2 1 Inf 0 0 0 1 1 0 230 1 1.1 0.9;\n",
-        "1 1 0 0 0 0 1 1 0 230 1 1.1 0.9;\n",
-        "2 5 0 0 0 0 1 1 0 230 1 1.1 0.9;\n",
-        "2 1 0 0 0 0 1 1 0 230 1 1.1;\n",
-        "2 1  0 0 0 0 1 1 0 230 1 1.1 0.9;\n",
+    let one = "1 0 0 0 0 1 100 1 100 0;\n";
+    for (other, line) in [
+        (
+            "2 1 1e-10 0 0 0 1 1 0 230 1 1.1 0.9;\n",
+            "Cell bus row 2 col 3 TooFine",
+        ),
+        (
+            "2 1 0 0 Inf 0 1 1 0 230 1 1.1 0.9;\n",
+            "Cell bus row 2 col 5 NotFinite",
+        ),
+        (
+            "2 1 9223372036.854775808 0 0 0 1 1 0 230 1 1.1 0.9;\n",
+            "Cell bus row 2 col 3 OutOfRange",
+        ),
+        ("1 1 0 0 0 0 1 1 0 230 1 1.1 0.9;\n", "BusTwice row 2"),
+        (
+            "2 5 0 0 0 0 1 1 0 230 1 1.1 0.9;\n",
+            "Cell bus row 2 col 2 Bounds",
+        ),
+        ("2 1 0 0 0 0 1 1 0 230 1 1.1;\n", "Plain line 6"),
+        ("2 1  0 0 0 0 1 1 0 230 1 1.1 0.9;\n", "Plain line 6"),
     ] {
         let buses = format!(in rt.alloc(); "{bus}{other}")?;
-        let text = case(&rt, buses.as_str(), "1 0 0 0 0 1 100 1 100 0;\n")?;
-        expect(&rt, text.as_bytes(), OFFERS, all, refused)?;
+        refuse_case(&rt, (buses.as_str(), one), line)?;
     }
-    for unit in [
-        "7 0 0 0 0 1 100 1 100 0;\n",
-        "1 0 0 0 0 1 100 1 100 200;\n",
-        "1 0 0 0 0 1 100 NaN 100 0;\n",
+    for (unit, line) in [
+        ("7 0 0 0 0 1 100 1 100 0;\n", "NoBus gen row 1"),
+        ("1 0 0 0 0 1 100 1 100 200;\n", "MinAboveMax unit 1"),
+        (
+            "1 0 0 0 0 1 100 NaN 100 0;\n",
+            "Cell gen row 1 col 8 NotFinite",
+        ),
     ] {
-        let text = case(&rt, BUSES, unit)?;
-        expect(&rt, text.as_bytes(), OFFERS, all, refused)?;
+        refuse_case(&rt, (BUSES, unit), line)?;
     }
-    let no_reference = case(&rt, "2 1 0 0 0 0 1 1 0 230 1 1.1 0.9;\n", UNITS)?;
-    expect(&rt, no_reference.as_bytes(), OFFERS, all, refused)
+    refuse_case(
+        &rt,
+        ("2 1 0 0 0 0 1 1 0 230 1 1.1 0.9;\n", UNITS),
+        "NoReference",
+    )
+}
+
+/// A case of too many rows.
+#[test]
+fn refuses_what_is_too_much(rt: HostRuntime) -> Result<(), Fail> {
+    let mut units = String::new(rt.alloc());
+    for _row in 0..1001 {
+        units.push_str("1 0 0 0 0 1 100 1 100 0;\n")?;
+    }
+    let all = ([].as_slice(), [].as_slice());
+    let text = case(&rt, BUSES, units.as_str())?;
+    let room = Room {
+        files: 2,
+        name: 16,
+        bytes: 65_536,
+    };
+    let mut store = MemoryStore::new(rt.alloc(), room, all.0)?;
+    assert!(rt; store.add("case.m", text.as_bytes()).is_ok());
+    assert!(rt; store.add("offers.csv", OFFERS.as_bytes()).is_ok());
+    let mut sink = MemorySink::new(rt.alloc(), 8192, all.1)?;
+    let words = words(
+        &rt,
+        ["sced", "pool", "--case", "case.m", "--offers", "offers.csv"].as_slice(),
+    )?;
+    let status = run(rt.alloc(), words.as_slice(), &mut store, &mut sink);
+    assert_eq!(rt;
+        sink.bytes(),
+        b"refused case TooMany gen count 1001\n".as_slice()
+    );
+    assert_eq!(rt; status, Status::Refused);
+    Ok(())
 }
 
 #[test]
 fn refuses_offers_and_words(rt: HostRuntime) -> Result<(), Fail> {
     let all = ([].as_slice(), [].as_slice());
     let plain = case(&rt, BUSES, UNITS)?;
-    for record in [
-        "",
-        "unit,side,mw\n",
-        "unit,side,mw,price\n1,sell,1\n",
-        "unit,side,mw,price\n1,sell,x,1\n",
-        "unit,side,mw,price\n1,give,1,1\n",
-        "unit,side,mw,price\n3,sell,1,1\n",
-        "unit,side,mw,price\n1,sell,-1,1\n",
-        "unit,side,mw,price\n1,sell,1,2\n1,sell,1,1\n",
-        "unit,side,mw,price\n1,sell,101,1\n",
-        "unit,side,mw,price\n1,buy,1,1\n",
+    for (record, line) in [
+        ("", "refused offers Header\n"),
+        ("unit,side,mw\n", "refused offers Header\n"),
+        (
+            "unit,side,mw,price\n1,sell,1\n",
+            "refused offers Width line 2\n",
+        ),
+        (
+            "unit,side,mw,cost\n1,sell,1\n",
+            "refused offers Width line 2\n",
+        ),
+        (
+            "unit,side,mw,price\n1,sell,x,1\n",
+            "refused offers Cell line 2 col 3 BadNumber\n",
+        ),
+        (
+            "unit,side,mw,price\n1,give,1,1\n",
+            "refused offers Side line 2\n",
+        ),
+        (
+            "unit,side,mw,price\n3,sell,1,1\n",
+            "refused offers NoUnit line 2\n",
+        ),
+        (
+            "unit,side,mw,price\n1,sell,-1,1\n",
+            "refused offers Negative line 2\n",
+        ),
+        (
+            "unit,side,mw,price\n1,sell,1,2\n1,sell,1,1\n",
+            "refused offers OutOfOrder line 3\n",
+        ),
+        (
+            "unit,side,mw,price\n1,sell,101,1\n",
+            "refused offers OverCapacity line 2\n",
+        ),
+        (
+            "unit,side,mw,price\n1,buy,1,1\n",
+            "refused offers OverCapacity line 2\n",
+        ),
     ] {
-        expect(
-            &rt,
-            plain.as_bytes(),
-            record,
-            all,
-            (Status::Refused, "refused offers\n"),
-        )?;
+        expect(&rt, plain.as_bytes(), record, all, (Status::Refused, line))?;
     }
     refuse_words(&rt, [].as_slice())?;
     refuse_words(&rt, ["sced", "pool"].as_slice())?;

@@ -1,6 +1,5 @@
-use Rattle.std.proofs.Common.{◌≡◌, ◌∙◌, ap, sym, arith, length, pos}
+use Rattle.std.proofs.Common.{◌≡◌, ◌∙◌, ap, arith, length, pos}
 use Rattle.std.specs.Prelude.{slice_index_or}
-use Rattle.std.specs.Result.{IfOk}
 use Rattle.std.proofs.lemmas.Result.{IfOk-weaker}
 use Rattle.merit_order.proofs.InfeasibleLemmas.{fixed_to, fixed_step, injection_is}
 use Rattle.merit_order.proofs.infeasible.empty_injection.Goals as goal

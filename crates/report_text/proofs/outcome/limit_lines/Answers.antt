@@ -1,5 +1,4 @@
 use Rattle.std.proofs.Common.{◌∙◌, ◌≡◌, ◌++◌, ap, arith, length, subst, get_or}
-use Rattle.std.specs.List.{flat_map}
 use Rattle.market_model.specs.declared.answered.Dual.{Dual}
 use Rattle.market_model.specs.Reports.{limit_text}
 use Rattle.market_model.specs.Valued.{dual_at}
