@@ -4,6 +4,7 @@ pub mod FarkasLaw
 pub mod MarketSums
 pub mod Optimum
 pub mod PlaceSums
+mod FarkasRows
 mod Rows
 pub mod WholeDispatch
 pub mod ReportReading
