@@ -55,7 +55,7 @@ unfolding column_entry
 column_entry-other h j w e n = ap (λ (b : Bool). if b then h.entry j w else if j == w then whole (pos 1) else whole (pos 0)) e ∙ put_at-elsewhere w (whole (pos 1)) (λ _. whole (pos 0)) j n
 
 -- the point at which the other variable w is 1 and the rest of the others 0
-pub unit_point : Choice → ℕ → ℕ → Fraction
+unfoldable pub unit_point : Choice → ℕ → ℕ → Fraction
 unit_point h w j = column_entry h j w
 
 module _ (s : System) (distinct : Distinct s.variables) where

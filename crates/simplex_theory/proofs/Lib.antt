@@ -1,0 +1,5 @@
+pub mod Exchanges
+pub mod NameSums
+pub mod Signs
+pub mod Stretches
+pub mod Trails
