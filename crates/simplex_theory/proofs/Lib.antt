@@ -1,5 +1,6 @@
 pub mod Exchanges
 pub mod NameSums
+pub mod Posing
 pub mod Signs
 pub mod Stretches
 pub mod Trails

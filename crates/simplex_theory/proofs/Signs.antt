@@ -50,6 +50,10 @@ pub signed-plus : (a : Bool) (x y : Fraction) → signed a (x +ℚ y) ≡ signed
 signed-plus true x y = by_ring ring_ℚ (x ∷ y ∷ []) (pneg (at 0 ⊕ at 1)) (pneg (at 0) ⊕ pneg (at 1)) refl
 signed-plus false x y = refl
 
+pub signed-minus : (a : Bool) (x y : Fraction) → signed a (x -ℚ y) ≡ signed a x -ℚ signed a y
+signed-minus true x y = by_ring ring_ℚ (x ∷ y ∷ []) (pneg (at 0 ⊕ pneg (at 1))) (pneg (at 0) ⊕ pneg (pneg (at 1))) refl
+signed-minus false x y = refl
+
 pub signed-nil : (a : Bool) (x : Fraction) → signed a x ≡ whole (pos 0) → x ≡ whole (pos 0)
 signed-nil true x e = by_ring1 ring_ℚ (x ∷ []) (at 0) pnil (pneg pone) (pneg (at 0)) pnil e refl
 signed-nil false x e = e
