@@ -1,4 +1,5 @@
 pub mod Exchanges
+pub mod Falling
 pub mod NameSums
 pub mod Posing
 pub mod Signs

@@ -36,18 +36,18 @@ price_sign s S posed w c free = by_answer (S.choice.high w)
     (λ e. subst (λ (f : Bool). signed f (S.reduced w) ≤ℚ whole (pos 0)) (sym e) (posed.low w c free e))
 
 module _ (s : System) (S T : State) (v k : ℕ) (above : Bool) (posed : Posed s S) (step : Step s S T v k above) where
-  exchange : OneExchange s S.choice T.choice v k
+  pub exchange : OneExchange s S.choice T.choice v k
   exchange = step.exchanged.exchange
 
-  distinct : Distinct s.variables
+  pub distinct : Distinct s.variables
   distinct = Distinct-increasing s.variables posed.system.ascending
 
   -- the entries of the leaving and the entering variable, before and after
-  inverse : S.choice.entry v k *ℚ T.choice.entry k v ≡ whole (pos 1)
+  pub inverse : S.choice.entry v k *ℚ T.choice.entry k v ≡ whole (pos 1)
   inverse = pivot_inverse s S.choice T.choice v k exchange distinct posed.choice step.exchanged.choice
 
   -- the new point is one of the new table
-  step_meets : MeetsRows s T.value
+  pub step_meets : MeetsRows s T.value
   unfolding way
   step_meets = step.exchanged.choice.to_rows T.value (record {
         basic = λ b c.
@@ -114,7 +114,7 @@ module _ (s : System) (S T : State) (v k : ℕ) (above : Bool) (posed : Posed s 
   rise = signed above (S.reduced k *ℚ T.choice.entry k v)
 
   -- the entering variable's entry, by its bound and the side of v
-  help : Fraction
+  unfoldable pub help : Fraction
   help = signed (S.choice.high k) (signed above (S.choice.entry v k))
 
   rise_by_help : rise *ℚ help ≡ signed (S.choice.high k) (S.reduced k)
