@@ -1,6 +1,7 @@
 pub mod Exchanges
 pub mod Falling
 pub mod NameSums
+pub mod NeverBack
 pub mod Posing
 pub mod Signs
 pub mod Stretches

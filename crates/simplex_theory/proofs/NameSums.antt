@@ -1,14 +1,15 @@
 -- Sums compared by their terms, and where one term changes.
-use Rattle.std.specs.Prelude.{◌≡◌, ◌≢◌, ℕ, List, [], ◌∷◌, refl}
+use Rattle.std.specs.Prelude.{◌≡◌, ◌≢◌, ℕ, Bool, true, false, List, [], ◌∷◌, refl}
 use Rattle.std.specs.List.{Contains}
 use Rattle.std.proofs.Common.{arith, ap, sym, ◌∙◌, subst, subst₂, inl, inr}
-use Rattle.fraction_theory.specs.Fraction.{Fraction, ◌+ℚ◌}
+use Rattle.fraction_theory.specs.Fraction.{Fraction, ◌+ℚ◌, ◌*ℚ◌, neg_ℚ}
 use Rattle.fraction_theory.specs.Order.{◌≤ℚ◌, ◌<ℚ◌}
 use Rattle.fraction_theory.specs.Sums.{sum_by}
-use Rattle.fraction_theory.proofs.Ring.{by_ring2, by_ring, at, pone, pneg, ◌⊕◌}
+use Rattle.fraction_theory.proofs.Ring.{by_ring, at, pnil, pneg, ◌⊕◌, ◌⊗◌}
 use Rattle.fraction_theory.proofs.FieldLaws.{ring_ℚ}
 use Rattle.fraction_theory.proofs.OrderLaws.{≤ℚ_refl, +ℚ-≤ℚ, +ℚ-<ℚ}
 use Rattle.fraction_theory.proofs.ListSums.{Contains-head, Contains-cons, Contains-cases, Distinct, except, put_at-here, put_at-elsewhere, same_or_not, sum_by-split, sum_by-members}
+use Rattle.simplex_theory.specs.Steps.{signed}
 
 -- a sum of terms none of which is greater
 pub sum_by-at_most : (f g : ℕ → Fraction) (xs : List ℕ) → ((w : ℕ) → Contains xs w → f w ≤ℚ g w) → sum_by f xs ≤ℚ sum_by g xs
@@ -37,3 +38,11 @@ sum_by-change f g a xs d c h =
     ap (λ t. t +ℚ g a) (sum_by-split f a xs d c ∙ ap (λ t. f a +ℚ t) rest)
     ∙ by_ring ring_ℚ (f a ∷ g a ∷ sum_by (except a g) xs ∷ []) ((at 0 ⊕ at 2) ⊕ at 1) ((at 1 ⊕ at 2) ⊕ at 0) refl
     ∙ ap (λ t. t +ℚ f a) (sym (sum_by-split g a xs d c))
+
+-- the sign of a sum of products
+pub signed-sum : (a : Bool) (e y : ℕ → Fraction) (xs : List ℕ) → signed a (sum_by (λ w. e w *ℚ y w) xs) ≡ sum_by (λ w. signed a (e w) *ℚ y w) xs
+signed-sum true e y [] = by_ring ring_ℚ [] (pneg pnil) pnil refl
+signed-sum true e y (x ∷ xs) =
+    by_ring ring_ℚ (e x ∷ y x ∷ sum_by (λ w. e w *ℚ y w) xs ∷ []) (pneg (at 0 ⊗ at 1 ⊕ at 2)) (pneg (at 0) ⊗ at 1 ⊕ pneg (at 2)) refl
+    ∙ ap (λ t. neg_ℚ (e x) *ℚ y x +ℚ t) (signed-sum true e y xs)
+signed-sum false e y xs = refl

@@ -29,6 +29,13 @@ neg_at_most x h = by_le1 (x ∷ []) (pneg (at 0)) pnil pone pnil (at 0) NonNeg-o
 pub neg_at_least : (x : Fraction) → neg_ℚ x ≤ℚ whole (pos 0) → whole (pos 0) ≤ℚ x
 neg_at_least x h = by_le1 (x ∷ []) pnil (at 0) pone (pneg (at 0)) pnil NonNeg-one h refl
 
+-- opposites stand the other way round
+pub neg_above : (x y : Fraction) → x <ℚ y → neg_ℚ y <ℚ neg_ℚ x
+neg_above x y l = not-≤ℚ (neg_ℚ x) (neg_ℚ y) (λ m. <ℚ-not-≤ℚ x y l (by_le1 (x ∷ y ∷ []) (at 1) (at 0) pone (pneg (at 0)) (pneg (at 1)) NonNeg-one m refl))
+
+pub neg_below : (x y : Fraction) → neg_ℚ x <ℚ neg_ℚ y → y <ℚ x
+neg_below x y l = not-≤ℚ x y (λ m. <ℚ-not-≤ℚ (neg_ℚ x) (neg_ℚ y) l (by_le1 (x ∷ y ∷ []) (pneg (at 1)) (pneg (at 0)) pone (at 0) (at 1) NonNeg-one m refl))
+
 -- two signs that are one go
 pub signed-twice : (a : Bool) (x : Fraction) → signed a (signed a x) ≡ x
 signed-twice true x = by_ring ring_ℚ (x ∷ []) (pneg (pneg (at 0))) (at 0) refl
@@ -102,8 +109,5 @@ pub lower_past_bound : (f : Bool) (x low high u : Fraction) → whole (pos 0) <�
 lower_past_bound true x low high u h p q = subst₂ ◌<ℚ◌
     (by_ring ring_ℚ (x ∷ u ∷ []) (pneg (pneg (at 0) ⊗ at 1)) (at 0 ⊗ at 1) refl)
     (by_ring ring_ℚ (x ∷ high ∷ []) (pneg (pneg (at 0) ⊗ at 1)) (at 0 ⊗ at 1) refl)
-    (turned (neg_ℚ x *ℚ high) (neg_ℚ x *ℚ u) (*ℚ-<ℚ (neg_ℚ x) high u h (p refl)))
-  where
-    turned : (y z : Fraction) → y <ℚ z → neg_ℚ z <ℚ neg_ℚ y
-    turned y z l = not-≤ℚ (neg_ℚ y) (neg_ℚ z) (λ m. <ℚ-not-≤ℚ y z l (by_le1 (y ∷ z ∷ []) (at 1) (at 0) pone (pneg (at 0)) (pneg (at 1)) NonNeg-one m refl))
+    (neg_above (neg_ℚ x *ℚ high) (neg_ℚ x *ℚ u) (*ℚ-<ℚ (neg_ℚ x) high u h (p refl)))
 lower_past_bound false x low high u h p q = *ℚ-<ℚ x u low h (q refl)
