@@ -1,8 +1,11 @@
+pub mod Ending
 pub mod Exchanges
 pub mod Falling
 pub mod NameSums
 pub mod NeverBack
+pub mod Outcomes
 pub mod Posing
 pub mod Signs
+pub mod Splits
 pub mod Stretches
 pub mod Trails

@@ -36,6 +36,9 @@ neg_above x y l = not-≤ℚ (neg_ℚ x) (neg_ℚ y) (λ m. <ℚ-not-≤ℚ x y 
 pub neg_below : (x y : Fraction) → neg_ℚ x <ℚ neg_ℚ y → y <ℚ x
 neg_below x y l = not-≤ℚ x y (λ m. <ℚ-not-≤ℚ (neg_ℚ x) (neg_ℚ y) l (by_le1 (x ∷ y ∷ []) (pneg (at 1)) (pneg (at 0)) pone (at 0) (at 1) NonNeg-one m refl))
 
+pub neg_at : (x y : Fraction) → neg_ℚ x ≤ℚ neg_ℚ y → y ≤ℚ x
+neg_at x y l = by_le1 (x ∷ y ∷ []) (at 1) (at 0) pone (pneg (at 0)) (pneg (at 1)) NonNeg-one l refl
+
 -- two signs that are one go
 pub signed-twice : (a : Bool) (x : Fraction) → signed a (signed a x) ≡ x
 signed-twice true x = by_ring ring_ℚ (x ∷ []) (pneg (pneg (at 0))) (at 0) refl

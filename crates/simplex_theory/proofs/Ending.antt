@@ -1,0 +1,48 @@
+-- A run of the method ends: the number of states still to come falls at each step.
+use Rattle.std.specs.Prelude.{◌≡◌, ℕ, ◌<◌, ◌≤◌, ◌^◌, Bool, true, false, length, Option, Some, ◌⊎◌}
+use Rattle.std.specs.List.{Contains}
+use Rattle.std.proofs.Common.{zero, suc, arith, inl, inr}
+use Rattle.linear_system.specs.Systems.{System}
+use Rattle.simplex_theory.specs.States.{State, Posed}
+use Rattle.simplex_theory.specs.Steps.{Step}
+use Rattle.simplex_theory.specs.Trails.{trail_length, Steps}
+use Rattle.simplex_theory.proofs.Stretches.{order}
+use Rattle.simplex_theory.proofs.NeverBack.{never_back}
+use Rattle.simplex_theory.proofs.Splits.{split_code, split_code-small, split_code-same}
+use Rattle.simplex_theory.proofs.Trails.{NeverBack, falls}
+
+-- `next` goes by steps of the method over one system, where `view` says of what states: it keeps what is good, and what is good is posed.
+pub record IsMethod (s : System) {X : Type 0} (next : X → Option X) (view : X → State) (Good : X → Type 0) : Type 0 where
+  pub posed : (x : X) → Good x → Posed s (view x)
+  pub keeps : (x y : X) → Good x → next x ≡ Some y → Good y
+  pub steps : (x y : X) → Good x → next x ≡ Some y → (v : ℕ) × (k : ℕ) × (above : Bool) × Step s (view x) (view y) v k above
+
+module _ {s : System} {X : Type 0} {next : X → Option X} {view : X → State} {Good : X → Type 0} (method : IsMethod s next view Good) where
+  module _ (p : ℕ → X) (n : ℕ) (good : Good (p 0)) (steps : Steps next p n) where
+    all_good : (i : ℕ) → i ≤ n → Good (p i)
+    all_good zero h = good
+    all_good (suc i) h = method.keeps (p i) (p (suc i)) (all_good i (Prim.omega arith)) (steps i (Prim.omega arith))
+
+    -- what leaves, what enters and on which side, at each step of the run
+    chosen : (i : ℕ) → (v : ℕ) × (k : ℕ) × (above : Bool) × (i < n → Step s (view (p i)) (view (p (suc i))) v k above)
+    chosen i = elim (order i n) [
+      | inl h ↦ let t = method.steps (p i) (p (suc i)) (all_good i (Prim.omega arith)) (steps i h) in (t.0, t.1, t.2, λ l. t.3)
+      | inr h ↦ (0, 0, false, λ l. absurd (Prim.omega arith))
+    ]
+
+    no_return : 0 < n → split_code s.variables (view (p 0)).choice ≡ split_code s.variables (view (p n)).choice → ⊥
+    no_return some e =
+        let same = split_code-same s.variables (view (p 0)).choice (view (p n)).choice e in
+        never_back s (λ i. view (p i)) n (λ i. (chosen i).0) (λ i. (chosen i).1) (λ i. (chosen i).2) some (method.posed (p 0) good)
+          (λ i h. (chosen i).3 h) (λ w c. (same w c).0) (λ w c. (same w c).1)
+
+  never : NeverBack next Good (λ x. split_code s.variables (view x).choice) (3 ^ length s.variables)
+  never = record {
+    keeps = method.keeps;
+    small = λ x g. split_code-small s.variables (view x).choice;
+    apart = λ p n some good steps e. no_return p n good steps some e;
+  }
+
+  -- The trail's length falls at each step: of each variable there are three ways to stand, and no run comes back to a split.
+  pub method_falls : (x y : X) → Good x → next x ≡ Some y → trail_length next (3 ^ length s.variables) y < trail_length next (3 ^ length s.variables) x
+  method_falls x y good e = falls next never x y good e
