@@ -1,6 +1,5 @@
 -- A run of the method ends: the number of states still to come falls at each step.
-use Rattle.std.specs.Prelude.{◌≡◌, ℕ, ◌<◌, ◌≤◌, ◌^◌, Bool, true, false, length, Option, Some, ◌⊎◌}
-use Rattle.std.specs.List.{Contains}
+use Rattle.std.specs.Prelude.{◌≡◌, ℕ, ◌<◌, ◌≤◌, ◌^◌, Bool, false, length, Option, Some}
 use Rattle.std.proofs.Common.{zero, suc, arith, inl, inr}
 use Rattle.linear_system.specs.Systems.{System}
 use Rattle.simplex_theory.specs.States.{State, Posed}
@@ -34,7 +33,7 @@ module _ {s : System} {X : Type 0} {next : X → Option X} {view : X → State} 
     no_return some e =
         let same = split_code-same s.variables (view (p 0)).choice (view (p n)).choice e in
         never_back s (λ i. view (p i)) n (λ i. (chosen i).0) (λ i. (chosen i).1) (λ i. (chosen i).2) some (method.posed (p 0) good)
-          (λ i h. (chosen i).3 h) (λ w c. (same w c).0) (λ w c. (same w c).1)
+        (λ i h. (chosen i).3 h) (λ w c. (same w c).0) (λ w c. (same w c).1)
 
   never : NeverBack next Good (λ x. split_code s.variables (view x).choice) (3 ^ length s.variables)
   never = record {

@@ -1,10 +1,10 @@
 -- What an exchange of a basic variable v and an other variable k does to the split, and to the row of v.
-use Rattle.std.specs.Prelude.{◌≡◌, ◌≢◌, ℕ, pos, Bool, true, false, List, [], ◌∷◌, refl}
+use Rattle.std.specs.Prelude.{◌≡◌, ◌≢◌, ℕ, pos, [], ◌∷◌, refl}
 use Rattle.std.specs.List.{Contains}
 use Rattle.std.proofs.Common.{ap, sym, ◌∙◌, inl, inr}
-use Rattle.fraction_theory.specs.Fraction.{Fraction, whole, ◌+ℚ◌, ◌*ℚ◌}
+use Rattle.fraction_theory.specs.Fraction.{whole, ◌+ℚ◌, ◌*ℚ◌}
 use Rattle.fraction_theory.specs.Sums.{sum_by}
-use Rattle.fraction_theory.proofs.Ring.{by_ring, by_ring2, at, pnil, pone, pneg, ◌⊕◌, ◌⊗◌}
+use Rattle.fraction_theory.proofs.Ring.{by_ring, at, pnil, ◌⊗◌}
 use Rattle.fraction_theory.proofs.FieldLaws.{ring_ℚ}
 use Rattle.fraction_theory.proofs.ListSums.{Distinct, same_or_not, sum_by-one}
 use Rattle.linear_system.specs.Systems.{System}
@@ -57,7 +57,7 @@ module _ (s : System) (h g : Choice) (v k : ℕ) (x : OneExchange s h g v k) whe
     pivot_inverse =
         ap (λ t. h.entry v k *ℚ t) (sym (column_entry-basic g k v x.enters.1))
         ∙ sym (sum_by-one (λ o. h.entry v o *ℚ column_entry g o v) k (others s h) (others_distinct s h distinct) entering_other
-            (λ o c n. ap (λ t. h.entry v o *ℚ t) (column_entry-other g o v (others_are s g o (other_after o c n)).1 (other_not_leaving o c)) ∙ by_ring ring_ℚ (h.entry v o ∷ []) (at 0 ⊗ pnil) pnil refl))
+        (λ o c n. ap (λ t. h.entry v o *ℚ t) (column_entry-other g o v (others_are s g o (other_after o c n)).1 (other_not_leaving o c)) ∙ by_ring ring_ℚ (h.entry v o ∷ []) (at 0 ⊗ pnil) pnil refl))
         ∙ sym (row_at_unit v leaving_other)
         ∙ column_entry-itself g v x.leaves.1
 
@@ -74,9 +74,9 @@ module _ (s : System) (h g : Choice) (v k : ℕ) (x : OneExchange s h g v k) whe
     pivot_row w c n =
         let before = other_before w c n in
         let at_k : h.entry v k *ℚ column_entry h k w ≡ whole (pos 0) =
-              ap (λ t. h.entry v k *ℚ t) (column_entry-other h k w x.enters.0 (λ e. other_not_entering w c (sym e))) ∙ by_ring ring_ℚ (h.entry v k ∷ []) (at 0 ⊗ pnil) pnil refl in
+        ap (λ t. h.entry v k *ℚ t) (column_entry-other h k w x.enters.0 (λ e. other_not_entering w c (sym e))) ∙ by_ring ring_ℚ (h.entry v k ∷ []) (at 0 ⊗ pnil) pnil refl in
         let change = sum_by-change (λ o. h.entry v o *ℚ column_entry g o w) (λ o. h.entry v o *ℚ column_entry h o w) k (others s h) (others_distinct s h distinct) entering_other
-              (λ o d m. ap (λ t. h.entry v o *ℚ t) (same_unit w o d (other_after o d m))) in
+        (λ o d m. ap (λ t. h.entry v o *ℚ t) (same_unit w o d (other_after o d m))) in
         ap (λ t. h.entry v w +ℚ h.entry v k *ℚ t) (sym (column_entry-basic g k w x.enters.1))
         ∙ ap (λ t. t +ℚ h.entry v k *ℚ column_entry g k w) (sym (at_unit s distinct h (h.entry v) w before))
         ∙ sym change

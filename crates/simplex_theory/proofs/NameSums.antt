@@ -31,10 +31,10 @@ sum_by-below f g (x ∷ xs) z c h l =
 pub sum_by-change : (f g : ℕ → Fraction) (a : ℕ) (xs : List ℕ) → Distinct xs → Contains xs a → ((w : ℕ) → Contains xs w → w ≢ a → f w ≡ g w) → sum_by f xs +ℚ g a ≡ sum_by g xs +ℚ f a
 sum_by-change f g a xs d c h =
     let rest : sum_by (except a f) xs ≡ sum_by (except a g) xs = sum_by-members (except a f) (except a g) xs
-          (λ w k. elim (same_or_not w a) [
-            | inl e ↦ put_at-here a _ f w e ∙ sym (put_at-here a _ g w e)
-            | inr n ↦ put_at-elsewhere a _ f w n ∙ h w k n ∙ sym (put_at-elsewhere a _ g w n)
-          ]) in
+    (λ w k. elim (same_or_not w a) [
+      | inl e ↦ put_at-here a _ f w e ∙ sym (put_at-here a _ g w e)
+      | inr n ↦ put_at-elsewhere a _ f w n ∙ h w k n ∙ sym (put_at-elsewhere a _ g w n)
+    ]) in
     ap (λ t. t +ℚ g a) (sum_by-split f a xs d c ∙ ap (λ t. f a +ℚ t) rest)
     ∙ by_ring ring_ℚ (f a ∷ g a ∷ sum_by (except a g) xs ∷ []) ((at 0 ⊕ at 2) ⊕ at 1) ((at 1 ⊕ at 2) ⊕ at 0) refl
     ∙ ap (λ t. t +ℚ f a) (sym (sum_by-split g a xs d c))

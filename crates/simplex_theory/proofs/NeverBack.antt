@@ -1,29 +1,29 @@
 -- A run of steps by least names never comes back to the same basic variables with the others at the same bounds.
 -- Source: Bland, New finite pivoting rules for the simplex method (1977); here for the dual method and bounded variables.
-use Rattle.std.specs.Prelude.{◌≡◌, ◌≢◌, ℕ, ◌+◌, ◌-◌, ◌<◌, ◌≤◌, pos, Bool, true, false, List, [], ◌∷◌, ◌⊎◌, refl}
+use Rattle.std.specs.Prelude.{◌≡◌, ℕ, ◌+◌, ◌-◌, ◌<◌, ◌≤◌, pos, Bool, true, false, [], ◌∷◌, ◌⊎◌, refl}
 use Rattle.std.specs.List.{Contains}
-use Rattle.std.proofs.Common.{zero, suc, arith, ap, sym, ◌∙◌, subst, subst₂, ⊎_elim, inl, inr}
-use Rattle.fraction_theory.specs.Fraction.{Fraction, whole, ◌*ℚ◌, neg_ℚ}
+use Rattle.std.proofs.Common.{zero, suc, arith, ap, sym, ◌∙◌, subst, subst₂, ⊎_elim}
+use Rattle.fraction_theory.specs.Fraction.{Fraction, whole, ◌*ℚ◌}
 use Rattle.fraction_theory.specs.Order.{◌≤ℚ◌, ◌<ℚ◌}
 use Rattle.fraction_theory.specs.Sums.{sum_by}
 use Rattle.fraction_theory.proofs.Ring.{by_ring, at, pnil, ◌⊗◌}
 use Rattle.fraction_theory.proofs.FieldLaws.{ring_ℚ}
-use Rattle.fraction_theory.proofs.OrderLaws.{≤ℚ_refl, ≤ℚ_trans, ≤ℚ_of_same, <ℚ-≤ℚ, <ℚ-not-≤ℚ, ≤ℚ-<ℚ_trans, <ℚ_trans, <ℚ-≤ℚ_trans}
+use Rattle.fraction_theory.proofs.OrderLaws.{≤ℚ_trans, ≤ℚ_of_same, <ℚ-≤ℚ, <ℚ-not-≤ℚ, <ℚ_trans}
 use Rattle.linear_system.specs.Systems.{System, objective}
-use Rattle.linear_system.specs.Choices.{basics, others, at_bound}
-use Rattle.linear_system.proofs.ChoiceLaws.{others_are, is_other, basics_are, is_basic}
+use Rattle.linear_system.specs.Choices.{others, at_bound}
+use Rattle.linear_system.proofs.ChoiceLaws.{others_are, is_other, is_basic}
 use Rattle.simplex_theory.specs.States.{State, Posed, IsWithin, IsPast}
-use Rattle.simplex_theory.specs.Steps.{signed, size, Step, Helps}
+use Rattle.simplex_theory.specs.Steps.{signed, size, Step}
 use Rattle.simplex_theory.proofs.Signs.{greatest_at_bound, lower_past_bound, size_nil, neg_below}
 use Rattle.simplex_theory.proofs.NameSums.{sum_by-below, signed-sum}
-use Rattle.simplex_theory.proofs.Stretches.{Stretch, Fickle, fickle_or_not, fickle_named, At, still, Left, left_at, leaving_enters, greatest, same_or_not, by_answer, two_answers}
+use Rattle.simplex_theory.proofs.Stretches.{Stretch, Fickle, fickle_or_not, At, still, Left, left_at, leaving_enters, greatest, same_or_not, by_answer, two_answers}
 use Rattle.simplex_theory.proofs.Posing.{step_posed}
 use Rattle.simplex_theory.proofs.Falling.{objective_step, prices_stand, same_objective, same_stand, stands_high, stands_low}
 
 module _ (s : System) (p : ℕ → State) (n : ℕ) (leave enter : ℕ → ℕ) (above : ℕ → Bool) (some : 0 < n) (start : Posed s (p 0))
-  (step : (i : ℕ) → i < n → Step s (p i) (p (suc i)) (leave i) (enter i) (above i))
-  (back : (w : ℕ) → Contains s.variables w → (p 0).choice.basic w ≡ (p n).choice.basic w)
-  (back_high : (w : ℕ) → Contains s.variables w → (p 0).choice.basic w ≡ false → (p 0).choice.high w ≡ (p n).choice.high w) where
+    (step : (i : ℕ) → i < n → Step s (p i) (p (suc i)) (leave i) (enter i) (above i))
+    (back : (w : ℕ) → Contains s.variables w → (p 0).choice.basic w ≡ (p n).choice.basic w)
+    (back_high : (w : ℕ) → Contains s.variables w → (p 0).choice.basic w ≡ false → (p 0).choice.high w ≡ (p n).choice.high w) where
   posed : (i : ℕ) → i ≤ n → Posed s (p i)
   posed zero h = start
   posed (suc i) h = step_posed s (p i) (p (suc i)) (leave i) (enter i) (above i) (posed i (Prim.omega arith)) (step i (Prim.omega arith))
@@ -67,10 +67,10 @@ module _ (s : System) (p : ℕ → State) (n : ℕ) (leave enter : ℕ → ℕ) 
   unfolding worth
   flat i h = ⊎_elim (λ e. e.0)
       (λ l.
-        let rest : worth n ≤ℚ worth (suc i) = subst (λ (j : ℕ). worth j ≤ℚ worth (suc i)) (let t : suc i + (n - suc i) ≡ n = Prim.omega arith in t) (down (suc i) (n - suc i) (Prim.omega arith)) in
-        let first : worth i ≤ℚ worth 0 = subst (λ (j : ℕ). worth j ≤ℚ worth 0) (let t : 0 + i ≡ i = Prim.omega arith in t) (down 0 i (Prim.omega arith)) in
-        let ends : worth 0 ≡ worth n = same_objective s (p 0) (p n) start (posed n (Prim.omega arith)) back back_high in
-        absurd (<ℚ-not-≤ℚ (worth (suc i)) (worth i) l (≤ℚ_trans (worth i) (worth 0) (worth (suc i)) first (subst (λ t. t ≤ℚ worth (suc i)) (sym ends) rest))))
+      let rest : worth n ≤ℚ worth (suc i) = subst (λ (j : ℕ). worth j ≤ℚ worth (suc i)) (let t : suc i + (n - suc i) ≡ n = Prim.omega arith in t) (down (suc i) (n - suc i) (Prim.omega arith)) in
+      let first : worth i ≤ℚ worth 0 = subst (λ (j : ℕ). worth j ≤ℚ worth 0) (let t : 0 + i ≡ i = Prim.omega arith in t) (down 0 i (Prim.omega arith)) in
+      let ends : worth 0 ≡ worth n = same_objective s (p 0) (p n) start (posed n (Prim.omega arith)) back back_high in
+      absurd (<ℚ-not-≤ℚ (worth (suc i)) (worth i) l (≤ℚ_trans (worth i) (worth 0) (worth (suc i)) first (subst (λ t. t ≤ℚ worth (suc i)) (sym ends) rest))))
       (one_step i h)
 
   prices_kept : (w i : ℕ) → Contains s.variables w → i ≤ n → (p i).reduced w ≡ (p 0).reduced w
@@ -95,17 +95,17 @@ module _ (s : System) (p : ℕ → State) (n : ℕ) (leave enter : ℕ → ℕ) 
   inside i w h c l =
       let q = posed i (Prim.omega arith) in
       by_answer ((p i).choice.basic w)
-        (λ b. (step i h).leaves.least w (is_basic s (p i).choice w c b) l)
-        (λ b. let o = is_other s (p i).choice w c b in
-          by_answer ((p i).choice.high w)
-            (λ f. let e = stands_high s (p i) q w o f in record {
-              low = subst (λ t. s.low w ≤ℚ t) (sym e) (q.bounds w c);
-              high = ≤ℚ_of_same ((p i).value w) (s.high w) e;
-            })
-            (λ f. let e = stands_low s (p i) q w o f in record {
-              low = ≤ℚ_of_same (s.low w) ((p i).value w) (sym e);
-              high = subst (λ t. t ≤ℚ s.high w) (sym e) (q.bounds w c);
-            }))
+      (λ b. (step i h).leaves.least w (is_basic s (p i).choice w c b) l)
+      (λ b. let o = is_other s (p i).choice w c b in
+      by_answer ((p i).choice.high w)
+      (λ f. let e = stands_high s (p i) q w o f in record {
+        low = subst (λ t. s.low w ≤ℚ t) (sym e) (q.bounds w c);
+        high = ≤ℚ_of_same ((p i).value w) (s.high w) e;
+      })
+      (λ f. let e = stands_low s (p i) q w o f in record {
+        low = ≤ℚ_of_same (s.low w) ((p i).value w) (sym e);
+        high = subst (λ t. t ≤ℚ s.high w) (sym e) (q.bounds w c);
+      }))
 
   -- the row of what leaves at step j, turned by the side on which it is past its bounds
   turned_row : ℕ → ℕ → Fraction
@@ -120,13 +120,13 @@ module _ (s : System) (p : ℕ → State) (n : ℕ) (leave enter : ℕ → ℕ) 
       let v = leave j in
       let within = inside i w hi (others_are s S.choice w c).0 before in
       let tie : size (S.reduced k) *ℚ size (S.choice.entry v w) ≡ size (S.reduced w) *ℚ size (S.choice.entry v k) =
-            ap (λ t. size t *ℚ size (S.choice.entry v w)) (flat j hj) ∙ ap (λ t. t *ℚ size (S.choice.entry v w)) size_nil
-            ∙ by_ring ring_ℚ (size (S.choice.entry v w) ∷ size (S.choice.entry v k) ∷ []) (pnil ⊗ at 0) (pnil ⊗ at 1) refl
-            ∙ ap (λ t. t *ℚ size (S.choice.entry v k)) (sym size_nil) ∙ ap (λ t. size t *ℚ size (S.choice.entry v k)) (sym (fickle_nil w j a (Prim.omega arith))) in
+      ap (λ t. size t *ℚ size (S.choice.entry v w)) (flat j hj) ∙ ap (λ t. t *ℚ size (S.choice.entry v w)) size_nil
+      ∙ by_ring ring_ℚ (size (S.choice.entry v w) ∷ size (S.choice.entry v k) ∷ []) (pnil ⊗ at 0) (pnil ⊗ at 1) refl
+      ∙ ap (λ t. t *ℚ size (S.choice.entry v k)) (sym size_nil) ∙ ap (λ t. size t *ℚ size (S.choice.entry v k)) (sym (fickle_nil w j a (Prim.omega arith))) in
       let idle : ¬ (whole (pos 0) <ℚ signed (S.choice.high w) (turned_row j w)) = λ towards.
-            absurd (Prim.omega (arith, (step j hj).enters.least w (record { other = c; free = fickle_free w a; towards = towards }) tie)) in
+      absurd (Prim.omega (arith, (step j hj).enters.least w (record { other = c; free = fickle_free w a; towards = towards }) tie)) in
       subst (λ t. (turned_row j w *ℚ (p i).value w) ≤ℚ (turned_row j w *ℚ t)) (sym ((posed j (Prim.omega arith)).stands w c))
-        (greatest_at_bound (S.choice.high w) (turned_row j w) (s.low w) (s.high w) ((p i).value w) idle within.low within.high)
+      (greatest_at_bound (S.choice.high w) (turned_row j w) (s.low w) (s.high w) ((p i).value w) idle within.low within.high)
 
   past_by : (i : ℕ) (w : ℕ) (f : Bool) → IsPast s (p i).value f w → ((f ≡ true → s.high w <ℚ (p i).value w) × (f ≡ false → (p i).value w <ℚ s.low w))
   past_by i w true l = (λ e. l, λ e. absurd (let wrong : true ≡ false = e in Prim.cc))
@@ -142,7 +142,7 @@ module _ (s : System) (p : ℕ → State) (n : ℕ) (leave enter : ℕ → ℕ) 
       let past : IsPast s (p i).value (S.choice.high z) z = subst₂ (λ (b : Bool) (w : ℕ). IsPast s (p i).value b w) f e (step i hi).leaves.past in
       let by = past_by i z (S.choice.high z) past in
       subst (λ t. (turned_row j z *ℚ (p i).value z) <ℚ (turned_row j z *ℚ t)) (sym ((posed j (Prim.omega arith)).stands z helps.other))
-        (lower_past_bound (S.choice.high z) (turned_row j z) (s.low z) (s.high z) ((p i).value z) helps.towards by.0 by.1)
+      (lower_past_bound (S.choice.high z) (turned_row j z) (s.low z) (s.high z) ((p i).value z) helps.towards by.0 by.1)
 
   -- what leaves at step j, at the values of step i and of step j, by its turned row
   row_at : (i j : ℕ) (hi : i ≤ n) (hj : j < n) → signed (above j) ((p i).value (leave j)) ≡ sum_by (λ w. turned_row j w *ℚ (p i).value w) (others s (p j).choice)
@@ -174,18 +174,18 @@ module _ (s : System) (p : ℕ → State) (n : ℕ) (leave enter : ℕ → ℕ) 
       let apart : v ≡ z → ⊥ = λ e. two_answers (S.choice.basic v) (step j hj).exchanged.exchange.leaves.0 (ap S.choice.basic e ∙ (step j hj).exchanged.exchange.enters.0) in
       let smaller : v < z = let t : v ≤ z = g.2 v fv in Prim.omega arith in
       let each : (w : ℕ) → Contains (others s S.choice) w → (turned_row j w *ℚ (p i).value w) ≤ℚ (turned_row j w *ℚ S.value w) = λ w c.
-            let a = others_are s S.choice w c in
-            ⊎_elim
-              (λ fickle. ⊎_elim
-                (λ e. subst (λ (t : ℕ). (turned_row j t *ℚ (p i).value t) ≤ℚ (turned_row j t *ℚ S.value t)) (sym e) (<ℚ-≤ℚ (turned_row j z *ℚ (p i).value z) (turned_row j z *ℚ S.value z) (great_term i j hi hj leaves flag)))
-                (λ ne. let le : w ≤ z = g.2 w fickle in let lt : w < z = Prim.omega arith in
-                  small_term i j w hi hj c fickle (subst (λ (t : ℕ). w < t) (sym leaves) lt) lt)
-                (same_or_not w z))
-              (λ never.
-                let there : At stretch i w (S.choice.high w) = still stretch w (S.choice.high w) a.0 never j i (Prim.omega arith) (Prim.omega arith) (a.1, refl) in
-                let same : (p i).value w ≡ S.value w = same_stand s (p i) S (posed i (Prim.omega arith)) (posed j (Prim.omega arith)) w (is_other s (p i).choice w a.0 there.0) c there.1 in
-                ≤ℚ_of_same (turned_row j w *ℚ (p i).value w) (turned_row j w *ℚ S.value w) (ap (λ t. turned_row j w *ℚ t) same))
-              (fickle_or_not stretch w) in
+      let a = others_are s S.choice w c in
+      ⊎_elim
+      (λ fickle. ⊎_elim
+      (λ e. subst (λ (t : ℕ). (turned_row j t *ℚ (p i).value t) ≤ℚ (turned_row j t *ℚ S.value t)) (sym e) (<ℚ-≤ℚ (turned_row j z *ℚ (p i).value z) (turned_row j z *ℚ S.value z) (great_term i j hi hj leaves flag)))
+      (λ ne. let le : w ≤ z = g.2 w fickle in let lt : w < z = Prim.omega arith in
+      small_term i j w hi hj c fickle (subst (λ (t : ℕ). w < t) (sym leaves) lt) lt)
+      (same_or_not w z))
+      (λ never.
+      let there : At stretch i w (S.choice.high w) = still stretch w (S.choice.high w) a.0 never j i (Prim.omega arith) (Prim.omega arith) (a.1, refl) in
+      let same : (p i).value w ≡ S.value w = same_stand s (p i) S (posed i (Prim.omega arith)) (posed j (Prim.omega arith)) w (is_other s (p i).choice w a.0 there.0) c there.1 in
+      ≤ℚ_of_same (turned_row j w *ℚ (p i).value w) (turned_row j w *ℚ S.value w) (ap (λ t. turned_row j w *ℚ t) same))
+      (fickle_or_not stretch w) in
       let lower : signed (above j) ((p i).value v) <ℚ signed (above j) (S.value v) = subst₂ ◌<ℚ◌ (sym (row_at i j (Prim.omega arith) hj)) (sym (row_at j j (Prim.omega arith) hj))
-            (sum_by-below (λ w. turned_row j w *ℚ (p i).value w) (λ w. turned_row j w *ℚ S.value w) (others s S.choice) z (step j hj).enters.helps.other each (great_term i j hi hj leaves flag)) in
+      (sum_by-below (λ w. turned_row j w *ℚ (p i).value w) (λ w. turned_row j w *ℚ S.value w) (others s S.choice) z (step j hj).enters.helps.other each (great_term i j hi hj leaves flag)) in
       outside_no_further (above j) v (p i).value S.value lower (step j hj).leaves.past (inside i v hi (step j hj).exchanged.exchange.leaving (subst (λ (t : ℕ). v < t) (sym leaves) smaller))

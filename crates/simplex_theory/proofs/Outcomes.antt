@@ -1,19 +1,19 @@
 -- The two ends of a run: no basic variable is past its bounds, or none of the others helps the one that leaves.
-use Rattle.std.specs.Prelude.{◌≡◌, ℕ, pos, Bool, true, false, if◌then◌else◌, ◌⊎◌}
+use Rattle.std.specs.Prelude.{◌≡◌, ℕ, pos, Bool, true, false}
 use Rattle.std.specs.List.{Contains}
 use Rattle.std.proofs.Common.{ap, sym, ◌∙◌, subst, subst₂, inl, inr}
-use Rattle.fraction_theory.specs.Fraction.{Fraction, whole, ◌*ℚ◌, neg_ℚ}
+use Rattle.fraction_theory.specs.Fraction.{Fraction, whole, ◌*ℚ◌}
 use Rattle.fraction_theory.specs.Order.{◌≤ℚ◌, ◌<ℚ◌}
 use Rattle.fraction_theory.specs.Sums.{sum_by}
-use Rattle.fraction_theory.proofs.OrderLaws.{≤ℚ-or-<ℚ, ≤ℚ_antisym, ≤ℚ_trans, ≤ℚ_of_same, ≤ℚ_refl, <ℚ-≤ℚ, <ℚ-not-≤ℚ, <ℚ_irrefl, ≤ℚ-<ℚ_trans, <ℚ-≤ℚ_trans}
+use Rattle.fraction_theory.proofs.OrderLaws.{≤ℚ-or-<ℚ, ≤ℚ_antisym, ≤ℚ_of_same, <ℚ-not-≤ℚ, <ℚ_irrefl, ≤ℚ-<ℚ_trans, <ℚ-≤ℚ_trans}
 use Rattle.linear_system.specs.Systems.{System, MeetsRows, InBounds, objective}
 use Rattle.linear_system.specs.Choices.{basics, others, at_bound}
 use Rattle.linear_system.proofs.ChoiceLaws.{others_are, is_other, basics_are, is_basic}
-use Rattle.simplex_theory.specs.States.{State, Posed, IsWithin, IsPast, IsBest, IsSolved, HasNoPoint, IsOutOfReach}
+use Rattle.simplex_theory.specs.States.{State, Posed, IsWithin, IsPast, IsSolved, HasNoPoint, IsOutOfReach}
 use Rattle.simplex_theory.specs.Steps.{signed, Helps}
 use Rattle.simplex_theory.proofs.Signs.{greatest_at_bound, neg_at}
 use Rattle.simplex_theory.proofs.NameSums.{sum_by-at_most, signed-sum}
-use Rattle.simplex_theory.proofs.Stretches.{by_answer, two_answers}
+use Rattle.simplex_theory.proofs.Stretches.{by_answer}
 use Rattle.simplex_theory.proofs.Posing.{price_sign}
 use Rattle.simplex_theory.proofs.Falling.{stands_high, stands_low}
 
@@ -42,14 +42,14 @@ module _ (s : System) (S : State) (posed : Posed s S) where
   pub none_worth_more : (u : ℕ → Fraction) → MeetsRows s u → InBounds s u → objective s u ≤ℚ objective s S.value
   none_worth_more u m b = subst₂ ◌≤ℚ◌ (sym (posed.prices u m)) (sym (posed.prices S.value posed.meets))
       (sum_by-at_most (λ w. S.reduced w *ℚ u w) (λ w. S.reduced w *ℚ S.value w) (others s S.choice)
-        (λ w c. greatest_where_it_stands (S.reduced w) u w c (price_idle w c) (within_of u b w (others_are s S.choice w c).0)))
+      (λ w c. greatest_where_it_stands (S.reduced w) u w c (price_idle w c) (within_of u b w (others_are s S.choice w c).0)))
 
   other_within : (w : ℕ) → Contains (others s S.choice) w → IsWithin s S.value w
   other_within w c =
       let bounds = posed.bounds w (others_are s S.choice w c).0 in
       by_answer (S.choice.high w)
-        (λ f. let e = stands_high s S posed w c f in record { low = subst (λ t. s.low w ≤ℚ t) (sym e) bounds; high = ≤ℚ_of_same (S.value w) (s.high w) e })
-        (λ f. let e = stands_low s S posed w c f in record { low = ≤ℚ_of_same (s.low w) (S.value w) (sym e); high = subst (λ t. t ≤ℚ s.high w) (sym e) bounds })
+      (λ f. let e = stands_high s S posed w c f in record { low = subst (λ t. s.low w ≤ℚ t) (sym e) bounds; high = ≤ℚ_of_same (S.value w) (s.high w) e })
+      (λ f. let e = stands_low s S posed w c f in record { low = ≤ℚ_of_same (s.low w) (S.value w) (sym e); high = subst (λ t. t ≤ℚ s.high w) (sym e) bounds })
 
   module _ (inside : (b : ℕ) → Contains (basics s S.choice) b → IsWithin s S.value b) where
     all_within : (w : ℕ) → Contains s.variables w → IsWithin s S.value w
@@ -59,17 +59,17 @@ module _ (s : System) (S : State) (posed : Posed s S) where
     rises w c l = by_answer (S.choice.basic w)
         (λ b. ≤ℚ_of_same (S.reduced w) (whole (pos 0)) (posed.unpriced w (is_basic s S.choice w c b)))
         (λ b. let o = is_other s S.choice w c b in
-          by_answer (S.choice.high w)
-            (λ f. absurd (<ℚ_irrefl (s.high w) (subst (λ t. t <ℚ s.high w) (stands_high s S posed w o f) l)))
-            (λ f. posed.low w o (subst (λ t. t <ℚ s.high w) (stands_low s S posed w o f) l) f))
+        by_answer (S.choice.high w)
+        (λ f. absurd (<ℚ_irrefl (s.high w) (subst (λ t. t <ℚ s.high w) (stands_high s S posed w o f) l)))
+        (λ f. posed.low w o (subst (λ t. t <ℚ s.high w) (stands_low s S posed w o f) l) f))
 
     falls : (w : ℕ) → Contains s.variables w → s.low w <ℚ S.value w → whole (pos 0) ≤ℚ S.reduced w
     falls w c l = by_answer (S.choice.basic w)
         (λ b. ≤ℚ_of_same (whole (pos 0)) (S.reduced w) (sym (posed.unpriced w (is_basic s S.choice w c b))))
         (λ b. let o = is_other s S.choice w c b in
-          by_answer (S.choice.high w)
-            (λ f. posed.high w o (subst (λ t. s.low w <ℚ t) (stands_high s S posed w o f) l) f)
-            (λ f. absurd (<ℚ_irrefl (s.low w) (subst (λ t. s.low w <ℚ t) (stands_low s S posed w o f) l))))
+        by_answer (S.choice.high w)
+        (λ f. posed.high w o (subst (λ t. s.low w <ℚ t) (stands_high s S posed w o f) l) f)
+        (λ f. absurd (<ℚ_irrefl (s.low w) (subst (λ t. s.low w <ℚ t) (stands_low s S posed w o f) l))))
 
     -- no basic variable past its bounds: solved
     pub solved : IsSolved s S
@@ -91,8 +91,8 @@ module _ (s : System) (S : State) (posed : Posed s S) where
         (sym (ap (signed above) e ∙ signed-sum above (S.choice.entry v) u (others s S.choice)))
         (sym (ap (signed above) ((posed.choice.to_table S.value posed.meets).basic v basic) ∙ signed-sum above (S.choice.entry v) S.value (others s S.choice)))
         (sum_by-at_most (λ w. signed above (S.choice.entry v w) *ℚ u w) (λ w. signed above (S.choice.entry v w) *ℚ S.value w) (others s S.choice)
-          (λ w c. greatest_where_it_stands (signed above (S.choice.entry v w)) u w c
-            (λ free towards. idle w (record { other = c; free = free; towards = towards })) (within w c)))
+        (λ w c. greatest_where_it_stands (signed above (S.choice.entry v w)) u w c
+        (λ free towards. idle w (record { other = c; free = free; towards = towards })) (within w c)))
 
     pub out_of_reach : IsOutOfReach s S.choice v
     out_of_reach = record { basic = basic; apart = λ u within e w. still_past above u (no_nearer u within e) past w }
@@ -105,5 +105,5 @@ module _ (s : System) (S : State) (posed : Posed s S) where
     pub no_point : HasNoPoint s
     no_point = record {
       none = λ u m b.
-        out_of_reach.apart u (λ w c. within_of u b w (others_are s S.choice w c).0) ((posed.choice.to_table u m).basic v basic) (within_of u b v (basics_are s S.choice v basic).0);
+          out_of_reach.apart u (λ w c. within_of u b w (others_are s S.choice w c).0) ((posed.choice.to_table u m).basic v basic) (within_of u b v (basics_are s S.choice v basic).0);
     }

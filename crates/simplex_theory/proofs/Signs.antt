@@ -1,6 +1,6 @@
 -- The laws of signed numbers and of absolute values.
-use Rattle.std.specs.Prelude.{◌≡◌, ◌⊎◌, pos, Bool, true, false, List, [], ◌∷◌, if◌then◌else◌, refl}
-use Rattle.std.proofs.Common.{ap, sym, ◌∙◌, subst, subst₂, inl, inr}
+use Rattle.std.specs.Prelude.{◌≡◌, pos, Bool, true, false, [], ◌∷◌, if◌then◌else◌, refl}
+use Rattle.std.proofs.Common.{sym, ◌∙◌, subst, subst₂, inl, inr}
 use Rattle.fraction_theory.specs.Fraction.{Fraction, whole, ◌+ℚ◌, ◌-ℚ◌, ◌*ℚ◌, neg_ℚ}
 use Rattle.fraction_theory.specs.Order.{◌≤ℚ◌, ◌<ℚ◌, NonNeg}
 use Rattle.fraction_theory.specs.Signs.{sign_of}
@@ -9,7 +9,7 @@ use Rattle.fraction_theory.specs.declared.Sign.TheVariants.{Below, Zero, Above}
 use Rattle.fraction_theory.proofs.Ring.{by_ring, by_ring1, at, pnil, pneg, pone, ◌⊕◌, ◌⊗◌}
 use Rattle.fraction_theory.proofs.FieldLaws.{ring_ℚ}
 use Rattle.fraction_theory.proofs.SignLaws.{sign_of_is, IsSign}
-use Rattle.fraction_theory.proofs.OrderLaws.{by_rest, by_le1, by_le2, le_from, NonNeg_from, NonNeg_to, NonNeg-one, NonNeg-times, not-≤ℚ, ≤ℚ-or-<ℚ, <ℚ-≤ℚ, <ℚ-not-≤ℚ, <ℚ_irrefl, *ℚ-≤ℚ, *ℚ-≤ℚ_neg, *ℚ-<ℚ, *ℚ-≤ℚ_cancel, ≤ℚ_antisym, ≤ℚ_refl, ≤ℚ_trans, le_to}
+use Rattle.fraction_theory.proofs.OrderLaws.{by_le1, NonNeg_to, NonNeg-one, not-≤ℚ, ≤ℚ-or-<ℚ, <ℚ-≤ℚ, <ℚ-not-≤ℚ, *ℚ-≤ℚ, *ℚ-≤ℚ_neg, *ℚ-<ℚ, ≤ℚ_refl, le_to}
 use Rattle.simplex_theory.specs.Steps.{signed, size_by, size}
 
 -- what is not above 0 is at most 0

@@ -1,7 +1,7 @@
 -- A number for each way to split the variables into basic ones, others at the low bound and others at the high bound.
 use Rattle.std.specs.Prelude.{◌≡◌, ℕ, ◌+◌, ◌*◌, ◌<◌, ◌^◌, Bool, true, false, List, [], ◌∷◌, length, refl}
 use Rattle.std.specs.List.{Contains}
-use Rattle.std.proofs.Common.{suc, arith, ap, sym, ◌∙◌, subst, inl, inr}
+use Rattle.std.proofs.Common.{arith, subst, inl, inr}
 use Rattle.std.proofs.Math.Nat.{pow-succ'}
 use Rattle.fraction_theory.proofs.ListSums.{Contains-cases}
 use Rattle.linear_system.specs.Choices.{Choice}

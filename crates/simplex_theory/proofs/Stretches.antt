@@ -53,10 +53,10 @@ module _ (r : Stretch) where
   fickle_below zero w h = inr (λ k l e. absurd (Prim.omega arith))
   fickle_below (suc n) w h =
       ⊎_elim (λ a. inl (a.0, Prim.omega arith, a.2))
-        (λ none. ⊎_elim (λ e. inl (n, Prim.omega arith, e))
-          (λ ne. inr (λ k l e. ⊎_elim (λ m. none k m e) (λ m. ne (ap r.enter (let t : n ≡ k = Prim.omega arith in t) ∙ e)) (order k n)))
-          (same_or_not (r.enter n) w))
-        (fickle_below n w (Prim.omega arith))
+      (λ none. ⊎_elim (λ e. inl (n, Prim.omega arith, e))
+      (λ ne. inr (λ k l e. ⊎_elim (λ m. none k m e) (λ m. ne (ap r.enter (let t : n ≡ k = Prim.omega arith in t) ∙ e)) (order k n)))
+      (same_or_not (r.enter n) w))
+      (fickle_below n w (Prim.omega arith))
 
   pub fickle_or_not : (w : ℕ) → Fickle w ⊎ (Fickle w → ⊥)
   unfolding Fickle
@@ -97,11 +97,11 @@ module _ (r : Stretch) where
       let lt : k < r.steps = Prim.omega arith in
       let now : At (suc k) w f = subst (λ (j : ℕ). At j w f) (let t : a + suc d ≡ suc k = Prim.omega arith in t) at in
       ⊎_elim (λ e. inl (k, lt, e, now.1))
-        (λ ne.
-          let enters_not : r.enter k ≡ w → ⊥ = λ e. two_answers (r.basic (suc k) w) (ap (λ t. r.basic (suc k) t) (sym e) ∙ (r.enters k lt).1) now.0 in
-          let before : r.basic k w ≡ false = sym (r.stays k w lt named ne enters_not) ∙ now.0 in
-          back_to w f named a d (Prim.omega arith) (before, sym (r.stays_high k w lt named before enters_not) ∙ now.1))
-        (same_or_not (r.leave k) w)
+      (λ ne.
+      let enters_not : r.enter k ≡ w → ⊥ = λ e. two_answers (r.basic (suc k) w) (ap (λ t. r.basic (suc k) t) (sym e) ∙ (r.enters k lt).1) now.0 in
+      let before : r.basic k w ≡ false = sym (r.stays k w lt named ne enters_not) ∙ now.0 in
+      back_to w f named a d (Prim.omega arith) (before, sym (r.stays_high k w lt named before enters_not) ∙ now.1))
+      (same_or_not (r.leave k) w)
 
   -- what enters leaves in the stretch, for the bound that it enters from
   pub left_at : (j : ℕ) → j < r.steps → Left (r.enter j) (r.high j (r.enter j))
@@ -114,34 +114,34 @@ module _ (r : Stretch) where
       let other = (r.enters j h).0 in
       let here : At (0 + j) z f = subst (λ (k : ℕ). At k z f) (let t : j ≡ 0 + j = Prim.omega arith in t) (other, refl) in
       ⊎_elim (λ l. l)
-        (λ start.
-          let end : At n z f = (sym (r.back z named) ∙ start.0, sym (r.back_high z named start.0) ∙ start.1) in
-          let end' : At (suc j + (n - suc j)) z f = subst (λ (k : ℕ). At k z f) (let t : n ≡ suc j + (n - suc j) = Prim.omega arith in t) end in
-          ⊎_elim (λ l. l) (λ b. two_answers (r.basic (suc j) z) (r.enters j h).1 b.0) (back_to z f named (suc j) (n - suc j) (Prim.omega arith) end'))
-        (back_to z f named 0 j (Prim.omega arith) here)
+      (λ start.
+      let end : At n z f = (sym (r.back z named) ∙ start.0, sym (r.back_high z named start.0) ∙ start.1) in
+      let end' : At (suc j + (n - suc j)) z f = subst (λ (k : ℕ). At k z f) (let t : n ≡ suc j + (n - suc j) = Prim.omega arith in t) end in
+      ⊎_elim (λ l. l) (λ b. two_answers (r.basic (suc j) z) (r.enters j h).1 b.0) (back_to z f named (suc j) (n - suc j) (Prim.omega arith) end'))
+      (back_to z f named 0 j (Prim.omega arith) here)
 
   -- what leaves enters in the stretch too
   pub leaving_enters : (j : ℕ) → j < r.steps → Fickle (r.leave j)
   unfolding At
   leaving_enters j h =
       ⊎_elim (λ a. a)
-        (λ never.
-          let w = r.leave j in
-          let after : At (suc j) w (r.high (suc j) w) = ((r.leaves j h).1, refl) in
-          let before = still w (r.high (suc j) w) (r.leave_named j h) never (suc j) j (Prim.omega arith) (Prim.omega arith) after in
-          two_answers (r.basic j w) (r.leaves j h).0 before.0)
-        (fickle_or_not (r.leave j))
+      (λ never.
+      let w = r.leave j in
+      let after : At (suc j) w (r.high (suc j) w) = ((r.leaves j h).1, refl) in
+      let before = still w (r.high (suc j) w) (r.leave_named j h) never (suc j) j (Prim.omega arith) (Prim.omega arith) after in
+      two_answers (r.basic j w) (r.leaves j h).0 before.0)
+      (fickle_or_not (r.leave j))
 
   greatest_below : (n : ℕ) → 0 < n → n ≤ r.steps → (j : ℕ) × (j < n) × ((k : ℕ) → k < n → r.enter k ≤ r.enter j)
   greatest_below zero p h = absurd (Prim.omega arith)
   greatest_below (suc n) p h =
       ⊎_elim
-        (λ more. let g = greatest_below n more (Prim.omega arith) in
-          ⊎_elim (λ l. (n, Prim.omega arith, λ k a. ⊎_elim (λ b. let c = g.2 k b in Prim.omega arith) (λ b. let e : k ≡ n = Prim.omega arith in let t = ap r.enter e in Prim.omega arith) (order k n)))
-                 (λ l. (g.0, Prim.omega arith, λ k a. ⊎_elim (λ b. g.2 k b) (λ b. let e : k ≡ n = Prim.omega arith in let t = ap r.enter e in Prim.omega arith) (order k n)))
-                 (order (r.enter g.0) (r.enter n)))
-        (λ none. (n, Prim.omega arith, λ k a. let e : k ≡ n = Prim.omega arith in let t = ap r.enter e in Prim.omega arith))
-        (order 0 n)
+      (λ more. let g = greatest_below n more (Prim.omega arith) in
+      ⊎_elim (λ l. (n, Prim.omega arith, λ k a. ⊎_elim (λ b. let c = g.2 k b in Prim.omega arith) (λ b. let e : k ≡ n = Prim.omega arith in let t = ap r.enter e in Prim.omega arith) (order k n)))
+      (λ l. (g.0, Prim.omega arith, λ k a. ⊎_elim (λ b. g.2 k b) (λ b. let e : k ≡ n = Prim.omega arith in let t = ap r.enter e in Prim.omega arith) (order k n)))
+      (order (r.enter g.0) (r.enter n)))
+      (λ none. (n, Prim.omega arith, λ k a. let e : k ≡ n = Prim.omega arith in let t = ap r.enter e in Prim.omega arith))
+      (order 0 n)
 
   -- the step at which the greatest of those that enter does
   pub greatest : (j : ℕ) × (j < r.steps) × ((w : ℕ) → Fickle w → w ≤ r.enter j)

@@ -1,5 +1,5 @@
 -- A run that never comes back to a code it has had ends: no trail is longer than there are codes, and it falls at each step.
-use Rattle.std.specs.Prelude.{◌≡◌, ℕ, ◌+◌, ◌-◌, ◌<◌, ◌≤◌, ◌⊎◌, List, [], ◌∷◌, length, Option, Some, None, refl}
+use Rattle.std.specs.Prelude.{◌≡◌, ℕ, ◌+◌, ◌-◌, ◌<◌, ◌≤◌, ◌⊎◌, ◌∷◌, length, Option, Some, None, refl}
 use Rattle.std.proofs.Common.{zero, suc, arith, ap, sym, ◌∙◌, subst, ⊎_elim, inl, inr}
 use Rattle.simplex_theory.specs.Trails.{rest, trail, trail_length, Steps}
 use Rattle.simplex_theory.proofs.Stretches.{order}
@@ -25,15 +25,15 @@ pigeonhole (suc n) (suc m) f into one =
     let g = avoid f n m in
     let last : f n < suc m = into n (Prim.omega arith) in
     let into' : (i : ℕ) → i < n → g i < m = λ i h.
-          let here : f i < suc m = into i (Prim.omega arith) in
-          ⊎_elim (λ c. let ne : f n ≡ m → ⊥ = λ e. absurd (Prim.omega (arith, one i n (Prim.omega arith) (Prim.omega arith) (c.0 ∙ sym e))) in Prim.omega arith) (λ c. Prim.omega arith) (avoid_is f n m i) in
+    let here : f i < suc m = into i (Prim.omega arith) in
+    ⊎_elim (λ c. let ne : f n ≡ m → ⊥ = λ e. absurd (Prim.omega (arith, one i n (Prim.omega arith) (Prim.omega arith) (c.0 ∙ sym e))) in Prim.omega arith) (λ c. Prim.omega arith) (avoid_is f n m i) in
     let one' : (i j : ℕ) → i < n → j < n → g i ≡ g j → i ≡ j = λ i j a b e.
-          ⊎_elim
-            (λ c. ⊎_elim (λ d. one i j (Prim.omega arith) (Prim.omega arith) (c.0 ∙ sym d.0))
-                         (λ d. absurd (Prim.omega (arith, one n j (Prim.omega arith) (Prim.omega arith) (sym c.1 ∙ e ∙ d.1)))) (avoid_is f n m j))
-            (λ c. ⊎_elim (λ d. absurd (Prim.omega (arith, one i n (Prim.omega arith) (Prim.omega arith) (sym c.1 ∙ e ∙ d.1))))
-                         (λ d. one i j (Prim.omega arith) (Prim.omega arith) (sym c.1 ∙ e ∙ d.1)) (avoid_is f n m j))
-            (avoid_is f n m i) in
+    ⊎_elim
+    (λ c. ⊎_elim (λ d. one i j (Prim.omega arith) (Prim.omega arith) (c.0 ∙ sym d.0))
+    (λ d. absurd (Prim.omega (arith, one n j (Prim.omega arith) (Prim.omega arith) (sym c.1 ∙ e ∙ d.1)))) (avoid_is f n m j))
+    (λ c. ⊎_elim (λ d. absurd (Prim.omega (arith, one i n (Prim.omega arith) (Prim.omega arith) (sym c.1 ∙ e ∙ d.1))))
+    (λ d. one i j (Prim.omega arith) (Prim.omega arith) (sym c.1 ∙ e ∙ d.1)) (avoid_is f n m j))
+    (avoid_is f n m i) in
     Prim.omega (arith, pigeonhole n m g into' one')
 
 module _ {S : Type 0} (next : S → Option S) where
@@ -89,8 +89,8 @@ module _ {S : Type 0} (next : S → Option S) where
             let first : Good (p 0) = subst Good (sym r.1) good in
             let into : (i : ℕ) → i < suc codes → code (p i) < codes = λ i h. never.small (p i) (all_good p n first r.2 i (Prim.omega arith)) in
             let one : (i j : ℕ) → i < suc codes → j < suc codes → code (p i) ≡ code (p j) → i ≡ j =
-              λ i j a b e. ⊎_elim (λ l. absurd (later p n i j first r.2 l (Prim.omega arith) e))
-                (λ l. ⊎_elim (λ m. absurd (later p n j i first r.2 m (Prim.omega arith) (sym e))) (λ m. Prim.omega arith) (order j i)) (order i j) in
+            λ i j a b e. ⊎_elim (λ l. absurd (later p n i j first r.2 l (Prim.omega arith) e))
+            (λ l. ⊎_elim (λ m. absurd (later p n j i first r.2 m (Prim.omega arith) (sym e))) (λ m. Prim.omega arith) (order j i)) (order i j) in
             let bad : suc codes ≤ codes = pigeonhole (suc codes) codes (λ i. code (p i)) into one in
             Prim.omega arith
 
