@@ -1,9 +1,11 @@
 pub mod Ending
 pub mod Exchanges
 pub mod Falling
+pub mod LeastRatio
 pub mod NameSums
 pub mod NeverBack
 pub mod Outcomes
+pub mod PosedNumbers
 pub mod Posing
 pub mod Signs
 pub mod Splits
