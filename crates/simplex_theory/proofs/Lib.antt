@@ -1,3 +1,4 @@
+pub mod Deciding
 pub mod Ending
 pub mod Exchanges
 pub mod Falling
@@ -7,7 +8,9 @@ pub mod NeverBack
 pub mod Outcomes
 pub mod PosedNumbers
 pub mod Posing
+pub mod Reaching
 pub mod Signs
 pub mod Splits
+pub mod Stepping
 pub mod Stretches
 pub mod Trails
