@@ -9,7 +9,7 @@ use Rattle.fraction_theory.proofs.OrderLaws.{≤ℚ-or-<ℚ, <ℚ-not-≤ℚ}
 use Rattle.fraction_theory.proofs.ListSums.{Contains-head, Contains-cons, Contains-cases}
 use Rattle.linear_system.specs.Systems.{System, IsSystem}
 use Rattle.linear_system.specs.Choices.{Choice, basics, others}
-use Rattle.simplex_theory.specs.States.{State, Posed, IsWithin, IsPast}
+use Rattle.simplex_theory.specs.States.{State, IsWithin, IsPast}
 use Rattle.simplex_theory.specs.Steps.{signed, size, Leaves, Helps, Enters}
 use Rattle.simplex_theory.proofs.LeastRatio.{IsLeast, least_alone, least_kept, least_replaced, help_size, least_enters}
 
@@ -45,15 +45,27 @@ module _ (s : System) (S : State) where
   unfolding FirstPast
   first_past [] a = inr (λ b c. absurd (Prim.omega (arith, c.1)))
   first_past (x ∷ xs) a = elim (within_or_past x) [
-    | inr past ↦ inl (x, past.0, Contains-head x xs, past.1, λ b c l. absurd (elim (Contains-cases x xs b c) [
+    | inr past ↦ inl (
+      x,
+      past.0,
+      Contains-head x xs,
+      past.1,
+      λ b c l. absurd (elim (Contains-cases x xs b c) [
         | inl e ↦ Prim.omega arith
         | inr k ↦ Prim.omega (arith, ascending_head x xs a b k)
-      ]))
+      ]),
+    )
     | inl within ↦ elim (first_past xs (ascending_tail x xs a)) [
-      | inl f ↦ inl (f.0, f.1, Contains-cons x xs f.0 f.2, f.3, λ b c l. elim (Contains-cases x xs b c) [
+      | inl f ↦ inl (
+        f.0,
+        f.1,
+        Contains-cons x xs f.0 f.2,
+        f.3,
+        λ b c l. elim (Contains-cases x xs b c) [
           | inl e ↦ subst (λ (t : ℕ). IsWithin s S.value t) e within
           | inr k ↦ f.4 b k l
-        ])
+        ],
+      )
       | inr all ↦ inr (λ b c. elim (Contains-cases x xs b c) [ inl e ↦ subst (λ (t : ℕ). IsWithin s S.value t) e within | inr k ↦ all b k ])
     ]
   ]
@@ -103,11 +115,17 @@ module _ (s : System) (S : State) where
     one_more p helps x h earlier f = elim f [
       | inr none ↦ inl (x, least_alone (λ w. p w ⊎ (w ≡ x)) price entry x (inr refl) (λ w c. elim c [ inl m ↦ absurd (none w m) | inr e ↦ e ]))
       | inl l ↦ elim (≤ℚ-or-<ℚ (price l.0 *ℚ entry x) (price x *ℚ entry l.0)) [
-        | inl le ↦ inl (l.0, least_kept p (λ w. p w ⊎ (w ≡ x)) price entry l.0 x l.1 (λ w c. c) (inl l.1.one) (earlier l.0 l.1.one)
-            (λ lt. <ℚ-not-≤ℚ (price x *ℚ entry l.0) (price l.0 *ℚ entry x) lt le))
-        | inr lt ↦ inl (x, least_replaced p (λ w. p w ⊎ (w ≡ x)) price entry l.0 x l.1 (λ w c. c) (inr refl)
-            (λ w c. elim c [ inl m ↦ entry_above w (helps w m) | inr e ↦ subst (λ (t : ℕ). whole (pos 0) <ℚ entry t) (sym e) (entry_above x h) ])
-            (λ w m. entry_above w (helps w m)) lt)
+        | inl le ↦ inl (
+          l.0,
+          least_kept p (λ w. p w ⊎ (w ≡ x)) price entry l.0 x l.1 (λ w c. c) (inl l.1.one) (earlier l.0 l.1.one)
+              (λ lt. <ℚ-not-≤ℚ (price x *ℚ entry l.0) (price l.0 *ℚ entry x) lt le),
+        )
+        | inr lt ↦ inl (
+          x,
+          least_replaced p (λ w. p w ⊎ (w ≡ x)) price entry l.0 x l.1 (λ w c. c) (inr refl)
+              (λ w c. elim c [ inl m ↦ entry_above w (helps w m) | inr e ↦ subst (λ (t : ℕ). whole (pos 0) <ℚ entry t) (sym e) (entry_above x h) ])
+              (λ w m. entry_above w (helps w m)) lt,
+        )
       ]
     ]
 
@@ -117,34 +135,34 @@ module _ (s : System) (S : State) where
     search p helps (x ∷ xs) a named earlier f = elim (helps_or_not x (named x (Contains-head x xs))) [
       | inl h ↦
           found_same (λ w. (p w ⊎ (w ≡ x)) ⊎ (Contains xs w × Helps s S v above w)) (λ w. p w ⊎ (Contains (x ∷ xs) w × Helps s S v above w))
-            (λ w c. elim c [
-              | inl d ↦ elim d [ inl m ↦ inl m | inr e ↦ inr (subst (λ (t : ℕ). Contains (x ∷ xs) t × Helps s S v above t) (sym e) (Contains-head x xs, h)) ]
-              | inr k ↦ inr (Contains-cons x xs w k.0, k.1)
-            ])
-            (λ w c. elim c [
-              | inl m ↦ inl (inl m)
-              | inr k ↦ elim (Contains-cases x xs w k.0) [ inl e ↦ inl (inr (sym e)) | inr r ↦ inr (r, k.1) ]
-            ])
-            (search (λ w. p w ⊎ (w ≡ x)) (λ w c. elim c [ inl m ↦ helps w m | inr e ↦ subst (λ (t : ℕ). Helps s S v above t) (sym e) h ]) xs (ascending_tail x xs a)
-              (λ w c. named w (Contains-cons x xs w c))
-              (λ w y c d. elim c [ inl m ↦ earlier w y m (Contains-cons x xs y d) | inr e ↦ subst (λ (t : ℕ). t < y) (sym e) (ascending_head x xs a y d) ])
-              (one_more p helps x h (λ w m. earlier w x m (Contains-head x xs)) f))
+          (λ w c. elim c [
+            | inl d ↦ elim d [ inl m ↦ inl m | inr e ↦ inr (subst (λ (t : ℕ). Contains (x ∷ xs) t × Helps s S v above t) (sym e) (Contains-head x xs, h)) ]
+            | inr k ↦ inr (Contains-cons x xs w k.0, k.1)
+          ])
+          (λ w c. elim c [
+            | inl m ↦ inl (inl m)
+            | inr k ↦ elim (Contains-cases x xs w k.0) [ inl e ↦ inl (inr (sym e)) | inr r ↦ inr (r, k.1) ]
+          ])
+          (search (λ w. p w ⊎ (w ≡ x)) (λ w c. elim c [ inl m ↦ helps w m | inr e ↦ subst (λ (t : ℕ). Helps s S v above t) (sym e) h ]) xs (ascending_tail x xs a)
+          (λ w c. named w (Contains-cons x xs w c))
+          (λ w y c d. elim c [ inl m ↦ earlier w y m (Contains-cons x xs y d) | inr e ↦ subst (λ (t : ℕ). t < y) (sym e) (ascending_head x xs a y d) ])
+          (one_more p helps x h (λ w m. earlier w x m (Contains-head x xs)) f))
       | inr n ↦
           found_same (λ w. p w ⊎ (Contains xs w × Helps s S v above w)) (λ w. p w ⊎ (Contains (x ∷ xs) w × Helps s S v above w))
-            (λ w c. elim c [ inl m ↦ inl m | inr k ↦ inr (Contains-cons x xs w k.0, k.1) ])
-            (λ w c. elim c [
-              | inl m ↦ inl m
-              | inr k ↦ elim (Contains-cases x xs w k.0) [ inl e ↦ absurd (n (subst (λ (t : ℕ). Helps s S v above t) (sym e) k.1)) | inr r ↦ inr (r, k.1) ]
-            ])
-            (search p helps xs (ascending_tail x xs a) (λ w c. named w (Contains-cons x xs w c)) (λ w y m d. earlier w y m (Contains-cons x xs y d)) f)
+          (λ w c. elim c [ inl m ↦ inl m | inr k ↦ inr (Contains-cons x xs w k.0, k.1) ])
+          (λ w c. elim c [
+            | inl m ↦ inl m
+            | inr k ↦ elim (Contains-cases x xs w k.0) [ inl e ↦ absurd (n (subst (λ (t : ℕ). Helps s S v above t) (sym e) k.1)) | inr r ↦ inr (r, k.1) ]
+          ])
+          (search p helps xs (ascending_tail x xs a) (λ w c. named w (Contains-cons x xs w c)) (λ w y m d. earlier w y m (Contains-cons x xs y d)) f)
     ]
 
     -- an other variable enters, or none helps
     pub enters_or_none : IsSystem s → ((k : ℕ) × Enters s S v above k) ⊎ ((w : ℕ) → ¬ (Helps s S v above w))
     unfolding Found price entry
     enters_or_none i = elim (found_same (λ w. ⊥ ⊎ (Contains (others s S.choice) w × Helps s S v above w)) (Helps s S v above)
-          (λ w c. elim c [ inl b ↦ absurd b | inr k ↦ k.1 ]) (λ w h. inr (h.other, h))
-          (search (λ w. ⊥) (λ w b. absurd b) (others s S.choice) (others_ascend s S.choice i) (λ w c. c) (λ w x b c. absurd b) (inr (λ w b. b)))) [
-      | inl l ↦ inl (l.0, least_enters s S v above l.0 l.1)
-      | inr none ↦ inr none
-    ]
+        (λ w c. elim c [ inl b ↦ absurd b | inr k ↦ k.1 ]) (λ w h. inr (h.other, h))
+        (search (λ w. ⊥) (λ w b. absurd b) (others s S.choice) (others_ascend s S.choice i) (λ w c. c) (λ w x b c. absurd b) (inr (λ w b. b)))) [
+          | inl l ↦ inl (l.0, least_enters s S v above l.0 l.1)
+          | inr none ↦ inr none
+        ]

@@ -1,22 +1,22 @@
 -- A run of the method ends: the number of states still to come falls at each step.
-use Rattle.std.specs.Prelude.{◌≡◌, ℕ, ◌<◌, ◌≤◌, ◌^◌, Bool, false, length, Option, Some}
-use Rattle.std.proofs.Common.{zero, suc, arith, inl, inr}
+use Rattle.std.specs.Prelude.{◌≡◌, ℕ, ◌<◌, ◌≤◌, ◌^◌, Bool, false, length, Option, Some, refl}
+use Rattle.std.proofs.Common.{zero, suc, arith, sym, ◌∙◌, subst, inl, inr}
+use Rattle.std.proofs.lemmas.Bool.{cases_lt}
 use Rattle.linear_system.specs.Systems.{System}
 use Rattle.simplex_theory.specs.States.{State, Posed}
 use Rattle.simplex_theory.specs.Steps.{Step}
 use Rattle.simplex_theory.specs.Trails.{trail_length, Steps}
-use Rattle.simplex_theory.proofs.Stretches.{order}
 use Rattle.simplex_theory.proofs.NeverBack.{never_back}
 use Rattle.simplex_theory.proofs.Splits.{split_code, split_code-small, split_code-same}
 use Rattle.simplex_theory.proofs.Trails.{NeverBack, falls}
 
--- `next` goes by steps of the method over one system, where `view` says of what states: it keeps what is good, and what is good is posed.
-pub record IsMethod (s : System) {X : Type 0} (next : X → Option X) (view : X → State) (Good : X → Type 0) : Type 0 where
-  pub posed : (x : X) → Good x → Posed s (view x)
-  pub keeps : (x y : X) → Good x → next x ≡ Some y → Good y
-  pub steps : (x y : X) → Good x → next x ≡ Some y → (v : ℕ) × (k : ℕ) × (above : Bool) × Step s (view x) (view y) v k above
+-- `next` goes by steps of the method over the one system s, from good x to good x, and what is good is posed: `view` says what state x has.
+record IsMethodOver (s : System) {X : Type 0} (next : X → Option X) (view : X → State) (Good : X → Type 0) : Type 0 where
+  posed : (x : X) → Good x → Posed s (view x)
+  keeps : (x y : X) → Good x → next x ≡ Some y → Good y
+  steps : (x y : X) → Good x → next x ≡ Some y → (v : ℕ) × (k : ℕ) × (above : Bool) × Step s (view x) (view y) v k above
 
-module _ {s : System} {X : Type 0} {next : X → Option X} {view : X → State} {Good : X → Type 0} (method : IsMethod s next view Good) where
+module _ {s : System} {X : Type 0} {next : X → Option X} {view : X → State} {Good : X → Type 0} (method : IsMethodOver s next view Good) where
   module _ (p : ℕ → X) (n : ℕ) (good : Good (p 0)) (steps : Steps next p n) where
     all_good : (i : ℕ) → i ≤ n → Good (p i)
     all_good zero h = good
@@ -24,7 +24,7 @@ module _ {s : System} {X : Type 0} {next : X → Option X} {view : X → State} 
 
     -- what leaves, what enters and on which side, at each step of the run
     chosen : (i : ℕ) → (v : ℕ) × (k : ℕ) × (above : Bool) × (i < n → Step s (view (p i)) (view (p (suc i))) v k above)
-    chosen i = elim (order i n) [
+    chosen i = elim (cases_lt i n) [
       | inl h ↦ let t = method.steps (p i) (p (suc i)) (all_good i (Prim.omega arith)) (steps i h) in (t.0, t.1, t.2, λ l. t.3)
       | inr h ↦ (0, 0, false, λ l. absurd (Prim.omega arith))
     ]
@@ -42,6 +42,25 @@ module _ {s : System} {X : Type 0} {next : X → Option X} {view : X → State} 
     apart = λ p n some good steps e. no_return p n good steps some e;
   }
 
-  -- The trail's length falls at each step: of each variable there are three ways to stand, and no run comes back to a split.
-  pub method_falls : (x y : X) → Good x → next x ≡ Some y → trail_length next (3 ^ length s.variables) y < trail_length next (3 ^ length s.variables) x
-  method_falls x y good e = falls next never x y good e
+-- `next` goes by steps of the method, from good x to good x, and what is good is posed: `view` says what state x has, and `system` over which system, which a step keeps.
+pub record IsMethod {X : Type 0} (next : X → Option X) (system : X → System) (view : X → State) (Good : X → Type 0) : Type 0 where
+  pub posed : (x : X) → Good x → Posed (system x) (view x)
+  pub keeps : (x y : X) → Good x → next x ≡ Some y → Good y
+  pub keeps_system : (x y : X) → Good x → next x ≡ Some y → system y ≡ system x
+  pub steps : (x y : X) → Good x → next x ≡ Some y → (v : ℕ) × (k : ℕ) × (above : Bool) × Step (system x) (view x) (view y) v k above
+
+module _ {X : Type 0} {next : X → Option X} {system : X → System} {view : X → State} {Good : X → Type 0} (method : IsMethod next system view Good) where
+  over_one : (s : System) → IsMethodOver s next view (λ x. Good x × (system x ≡ s))
+  over_one s = record {
+    posed = λ x g. subst (λ (r : System). Posed r (view x)) g.1 (method.posed x g.0);
+    keeps = λ x y g e. (method.keeps x y g.0 e, method.keeps_system x y g.0 e ∙ g.1);
+    steps = λ x y g e.
+        let t = method.steps x y g.0 e in
+        (t.0, t.1, t.2, subst (λ (r : System). Step r (view x) (view y) t.0 t.1 t.2) g.1 t.3);
+  }
+
+  -- The length of the trail falls at each step. It has at most one state for each way to split the variables: of each there are three ways to stand, and no run comes back to a split.
+  pub method_falls : (x y : X) → Good x → next x ≡ Some y → trail_length next (3 ^ length (system y).variables) y < trail_length next (3 ^ length (system x).variables) x
+  method_falls x y good e =
+      subst (λ (r : System). trail_length next (3 ^ length r.variables) y < trail_length next (3 ^ length (system x).variables) x) (sym (method.keeps_system x y good e))
+      (falls next (never (over_one (system x))) x y (good, refl) e)

@@ -7,11 +7,11 @@ use Rattle.fraction_theory.specs.Order.{◌≤ℚ◌, ◌<ℚ◌}
 use Rattle.fraction_theory.specs.Sums.{sum_by}
 use Rattle.fraction_theory.proofs.Ring.{by_ring, by_ring1, at, pnil, pone, pneg, ◌⊕◌, ◌⊗◌}
 use Rattle.fraction_theory.proofs.FieldLaws.{ring_ℚ}
-use Rattle.fraction_theory.proofs.ListSums.{same_or_not, sum_by-members}
+use Rattle.fraction_theory.proofs.ListSums.{Distinct-increasing, same_or_not, sum_by-members}
 use Rattle.fraction_theory.proofs.OrderLaws.{not-≤ℚ, <ℚ-not-≤ℚ, ≤ℚ_of_same, three_ways, by_le1, NonNeg-one, *ℚ-<ℚ, *ℚ-≤ℚ, NonNeg_from, <ℚ-≤ℚ, +ℚ-<ℚ}
 use Rattle.linear_system.specs.Systems.{System, objective}
 use Rattle.linear_system.specs.Choices.{others, OneExchange, at_bound}
-use Rattle.linear_system.proofs.ChoiceLaws.{others_are, is_other, is_basic}
+use Rattle.linear_system.proofs.ChoiceLaws.{others_are, is_other, is_basic, others_fix_all}
 use Rattle.simplex_theory.specs.States.{State, Posed, IsPast}
 use Rattle.simplex_theory.specs.Steps.{signed, Step, passed, way}
 use Rattle.simplex_theory.proofs.Signs.{signed-both, signed-times, signed-nil}
@@ -140,14 +140,15 @@ pub same_stand : (s : System) (S T : State) → Posed s S → Posed s T → (w :
 unfolding at_bound
 same_stand s S T p q w c d e = p.stands w c ∙ ap (λ (f : Bool). if f then s.high w else s.low w) e ∙ sym (q.stands w d)
 
--- States with the same basic variables, whose others stand at the same bounds, have the same objective.
-pub same_objective : (s : System) (S T : State) → Posed s S → Posed s T
-    → ((w : ℕ) → Contains s.variables w → S.choice.basic w ≡ T.choice.basic w)
-    → ((w : ℕ) → Contains s.variables w → S.choice.basic w ≡ false → S.choice.high w ≡ T.choice.high w)
-    → objective s S.value ≡ objective s T.value
-same_objective s S T p q basic high =
-    p.prices S.value p.meets
-    ∙ sum_by-members (λ w. S.reduced w *ℚ S.value w) (λ w. S.reduced w *ℚ T.value w) (others s S.choice)
-    (λ w c. let a = others_are s S.choice w c in
-    ap (λ t. S.reduced w *ℚ t) (same_stand s S T p q w c (is_other s T.choice w a.0 (sym (basic w a.0) ∙ a.1)) (high w a.0 a.1)))
-    ∙ sym (p.prices T.value q.meets)
+module _ (s : System) (S T : State) (p : Posed s S) (q : Posed s T)
+    (basic : (w : ℕ) → Contains s.variables w → S.choice.basic w ≡ T.choice.basic w)
+    (high : (w : ℕ) → Contains s.variables w → S.choice.basic w ≡ false → S.choice.high w ≡ T.choice.high w) where
+  -- States with the same basic variables, whose others stand at the same bounds, have the same values.
+  pub same_values : (w : ℕ) → Contains s.variables w → S.value w ≡ T.value w
+  same_values = others_fix_all s (Distinct-increasing s.variables p.system.ascending) S.choice p.choice S.value T.value p.meets q.meets
+      (λ w c. let a = others_are s S.choice w c in same_stand s S T p q w c (is_other s T.choice w a.0 (sym (basic w a.0) ∙ a.1)) (high w a.0 a.1))
+
+  -- and so the same objective
+  pub same_objective : objective s S.value ≡ objective s T.value
+  unfolding objective
+  same_objective = sum_by-members (λ j. s.price j *ℚ S.value j) (λ j. s.price j *ℚ T.value j) s.columns (λ j c. ap (λ t. s.price j *ℚ t) (same_values j (p.system.column j c)))

@@ -1,11 +1,10 @@
 -- The least of several ratios, and of those that tie the one of the least name, as a search over ascending names finds it.
 use Rattle.std.specs.Prelude.{◌≡◌, ℕ, ◌<◌, ◌≤◌, pos, [], ◌∷◌, Bool, ◌⊎◌, refl}
-use Rattle.std.proofs.Common.{arith, ap, sym, ◌∙◌, subst, subst₂, inl, inr}
+use Rattle.std.proofs.Common.{arith, ap, sym, ◌∙◌, subst, inl, inr}
 use Rattle.fraction_theory.specs.Fraction.{Fraction, whole, ◌*ℚ◌}
 use Rattle.fraction_theory.specs.Order.{◌≤ℚ◌, ◌<ℚ◌, NonNeg}
-use Rattle.fraction_theory.proofs.Ring.{by_ring, at, ◌⊗◌}
-use Rattle.fraction_theory.proofs.FieldLaws.{ring_ℚ}
-use Rattle.fraction_theory.proofs.OrderLaws.{by_le2, *ℚ-≤ℚ_cancel, ≤ℚ_of_same, ≤ℚ-or-<ℚ, ≤ℚ_refl, <ℚ-≤ℚ, <ℚ_irrefl, <ℚ-not-≤ℚ, not-≤ℚ, <ℚ-≤ℚ_trans, *ℚ-<ℚ, *ℚ-≤ℚ, NonNeg_from}
+use Rattle.fraction_theory.proofs.Ring.{at, ◌⊗◌}
+use Rattle.fraction_theory.proofs.OrderLaws.{by_le2, *ℚ-≤ℚ_cancel, ≤ℚ_of_same, ≤ℚ-or-<ℚ, <ℚ-≤ℚ, <ℚ_irrefl, <ℚ-not-≤ℚ, not-≤ℚ, NonNeg_from}
 use Rattle.linear_system.specs.Systems.{System}
 use Rattle.simplex_theory.specs.States.{State}
 use Rattle.simplex_theory.specs.Steps.{signed, size, Helps, Enters}
@@ -21,9 +20,9 @@ pub record IsLeast (candidate : ℕ → Type 0) (d e : ℕ → Fraction) (k : �
 ratio_below : (d e d' e' d'' e'' : Fraction) → whole (pos 0) <ℚ e → whole (pos 0) <ℚ e' → whole (pos 0) <ℚ e'' → (d *ℚ e') <ℚ (d' *ℚ e) → (d' *ℚ e'') ≤ℚ (d'' *ℚ e') → (d *ℚ e'') <ℚ (d'' *ℚ e)
 ratio_below d e d' e' d'' e'' h h' h'' p q = not-≤ℚ (d'' *ℚ e) (d *ℚ e'')
     (λ r. <ℚ-not-≤ℚ (d *ℚ e') (d' *ℚ e) p
-      (*ℚ-≤ℚ_cancel e'' (d' *ℚ e) (d *ℚ e') h''
-        (by_le2 (d ∷ e ∷ d' ∷ e' ∷ d'' ∷ e'' ∷ []) (at 5 ⊗ (at 2 ⊗ at 1)) (at 5 ⊗ (at 0 ⊗ at 3)) (at 1) (at 2 ⊗ at 5) (at 4 ⊗ at 3) (at 3) (at 4 ⊗ at 1) (at 0 ⊗ at 5)
-          (above e h) q (above e' h') r refl)))
+    (*ℚ-≤ℚ_cancel e'' (d' *ℚ e) (d *ℚ e') h''
+    (by_le2 (d ∷ e ∷ d' ∷ e' ∷ d'' ∷ e'' ∷ []) (at 5 ⊗ (at 2 ⊗ at 1)) (at 5 ⊗ (at 0 ⊗ at 3)) (at 1) (at 2 ⊗ at 5) (at 4 ⊗ at 3) (at 3) (at 4 ⊗ at 1) (at 0 ⊗ at 5)
+    (above e h) q (above e' h') r refl)))
   where
     above : (x : Fraction) → whole (pos 0) <ℚ x → NonNeg x
     above x l = NonNeg_from x (<ℚ-≤ℚ (whole (pos 0)) x l)
@@ -74,8 +73,8 @@ module _ (s : System) (S : State) (v : ℕ) (above : Bool) where
   help_size w helps =
       let e = signed (S.choice.high w) (signed above (S.choice.entry v w)) in
       subst (λ t. whole (pos 0) <ℚ t)
-        (sym (size_above e (<ℚ-≤ℚ (whole (pos 0)) e helps.towards)) ∙ size_signed (S.choice.high w) (signed above (S.choice.entry v w)) ∙ size_signed above (S.choice.entry v w))
-        helps.towards
+      (sym (size_above e (<ℚ-≤ℚ (whole (pos 0)) e helps.towards)) ∙ size_signed (S.choice.high w) (signed above (S.choice.entry v w)) ∙ size_signed above (S.choice.entry v w))
+      helps.towards
 
   -- the search's answer enters
   pub least_enters : (k : ℕ) → IsLeast (Helps s S v above) (λ w. size (S.reduced w)) (λ w. size (S.choice.entry v w)) k → Enters s S v above k

@@ -9,6 +9,7 @@ use Rattle.fraction_theory.specs.Sums.{sum_by}
 use Rattle.fraction_theory.proofs.Ring.{by_ring, at, pnil, ◌⊗◌}
 use Rattle.fraction_theory.proofs.FieldLaws.{ring_ℚ}
 use Rattle.fraction_theory.proofs.OrderLaws.{≤ℚ_trans, ≤ℚ_of_same, <ℚ-≤ℚ, <ℚ-not-≤ℚ, <ℚ_trans}
+use Rattle.fraction_theory.proofs.ListSums.{same_or_not}
 use Rattle.linear_system.specs.Systems.{System, objective}
 use Rattle.linear_system.specs.Choices.{others, at_bound}
 use Rattle.linear_system.proofs.ChoiceLaws.{others_are, is_other, is_basic}
@@ -16,7 +17,7 @@ use Rattle.simplex_theory.specs.States.{State, Posed, IsWithin, IsPast}
 use Rattle.simplex_theory.specs.Steps.{signed, size, Step}
 use Rattle.simplex_theory.proofs.Signs.{greatest_at_bound, lower_past_bound, size_nil, neg_below}
 use Rattle.simplex_theory.proofs.NameSums.{sum_by-below, signed-sum}
-use Rattle.simplex_theory.proofs.Stretches.{Stretch, Fickle, fickle_or_not, At, still, Left, left_at, leaving_enters, greatest, same_or_not, by_answer, two_answers}
+use Rattle.simplex_theory.proofs.Stretches.{Stretch, Fickle, fickle_or_not, At, still, Left, left_at, leaving_enters, greatest, by_answer, two_answers}
 use Rattle.simplex_theory.proofs.Posing.{step_posed}
 use Rattle.simplex_theory.proofs.Falling.{objective_step, prices_stand, same_objective, same_stand, stands_high, stands_low}
 

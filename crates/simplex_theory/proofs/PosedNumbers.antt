@@ -1,10 +1,10 @@
 -- The numbers of a posed state are those of its choice, and a choice whose others stand as its reduced prices ask is a posed state.
 use Rattle.std.specs.Prelude.{◌≡◌, ℕ, pos, Bool, true, false, if◌then◌else◌}
 use Rattle.std.specs.List.{Contains}
-use Rattle.std.proofs.Common.{ap, sym, ◌∙◌, subst}
+use Rattle.std.proofs.Common.{ap, sym, ◌∙◌}
 use Rattle.fraction_theory.specs.Fraction.{whole, ◌*ℚ◌, Fraction}
 use Rattle.fraction_theory.specs.Order.{◌≤ℚ◌, ◌<ℚ◌}
-use Rattle.fraction_theory.specs.Sums.{sum_by, total}
+use Rattle.fraction_theory.specs.Sums.{total}
 use Rattle.fraction_theory.proofs.ListSums.{Distinct, Distinct-increasing, sum_by-members}
 use Rattle.linear_system.specs.Systems.{System, IsSystem, MeetsRows, activity}
 use Rattle.linear_system.specs.Choices.{Choice, basics, others, IsChoice, at_bound, value, value_terms, reduced, reduced_terms}
@@ -36,7 +36,7 @@ module _ (s : System) (S : State) where
   posed_value posed w c =
       let distinct : Distinct s.variables = Distinct-increasing s.variables posed.system.ascending in
       others_fix_all s distinct S.choice posed.choice S.value (value s S.choice) posed.meets (value_meets s distinct S.choice posed.choice)
-        (λ o k. posed.stands o k ∙ sym (value_other s S.choice o k)) w c
+      (λ o k. posed.stands o k ∙ sym (value_other s S.choice o k)) w c
 
   -- and so are its reduced prices
   pub posed_reduced : Posed s S → (w : ℕ) → Contains s.variables w → S.reduced w ≡ reduced s S.choice w

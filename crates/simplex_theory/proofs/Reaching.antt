@@ -1,7 +1,6 @@
 -- From each posed state a run of steps leads to a solved one, or to one that shows that there is no point.
-use Rattle.std.specs.Prelude.{◌≡◌, ℕ, ◌<◌, ◌≤◌, ◌^◌, Bool, length, Option, Some, None, ◌⊎◌, refl}
-use Rattle.std.specs.List.{Contains}
-use Rattle.std.proofs.Common.{zero, suc, arith, ap, sym, ◌∙◌, subst, inl, inr}
+use Rattle.std.specs.Prelude.{◌≡◌, ℕ, ◌≤◌, ◌^◌, Bool, length, Option, Some, None, ◌⊎◌, refl}
+use Rattle.std.proofs.Common.{zero, suc, arith, ap, subst, inl, inr}
 use Rattle.std.proofs.Math.Nat.{le_refl}
 use Rattle.std.proofs.lemmas.Option.{same_Some}
 use Rattle.linear_system.specs.Systems.{System}
@@ -53,11 +52,12 @@ module _ (s : System) where
   step_by x y (inl a) e = subst (λ (z : Known). (v : ℕ) × (k : ℕ) × (above : Bool) × Step s x.state z.state v k above) (same_Some (to x a) y e) (a.0, a.1, a.2, a.3)
   step_by x y (inr b) e = absurd Prim.cc
 
-  method : IsMethod s next Known.state (λ x. Unit)
+  method : IsMethod next (λ x. s) Known.state (λ x. Unit)
   unfolding next
   method = record {
     posed = λ x g. x.posed;
     keeps = λ x y g e. tt;
+    keeps_system = λ x y g e. refl;
     steps = λ x y g e. step_by x y (step_or_end x.state x.posed) e;
   }
 

@@ -1,7 +1,7 @@
 -- Where a basic variable leaves and another enters there is a step.
-use Rattle.std.specs.Prelude.{◌≡◌, ◌≢◌, ℕ, pos, Bool, true, false, ◌==◌, if◌then◌else◌, refl}
+use Rattle.std.specs.Prelude.{◌≡◌, ◌≢◌, ℕ, pos, Bool, ◌==◌, if◌then◌else◌, refl}
 use Rattle.std.specs.List.{Contains}
-use Rattle.std.proofs.Common.{ap, sym, ◌∙◌, subst, inl, inr}
+use Rattle.std.proofs.Common.{ap, sym, ◌∙◌, subst}
 use Rattle.fraction_theory.specs.Fraction.{Fraction, whole, ◌+ℚ◌, ◌*ℚ◌}
 use Rattle.fraction_theory.proofs.OrderLaws.{<ℚ_irrefl}
 use Rattle.fraction_theory.specs.Order.{◌<ℚ◌}
@@ -12,7 +12,7 @@ use Rattle.linear_system.specs.Exchanges.{exchanged}
 use Rattle.linear_system.proofs.ChoiceLaws.{others_are, basics_are}
 use Rattle.linear_system.proofs.ExchangeLaws.{exchanged_is, exchanged_once}
 use Rattle.simplex_theory.specs.States.{State, Posed}
-use Rattle.simplex_theory.specs.Steps.{size, Leaves, Helps, Enters, Step, passed, way}
+use Rattle.simplex_theory.specs.Steps.{size, Leaves, Enters, Step, passed, way}
 use Rattle.simplex_theory.specs.Stepped.{stepped, stepped_choice}
 use Rattle.simplex_theory.proofs.Signs.{size_nil}
 use Rattle.simplex_theory.proofs.Stretches.{two_answers}

@@ -2,12 +2,8 @@
 use Rattle.std.specs.Prelude.{◌≡◌, ℕ, ◌+◌, ◌-◌, ◌<◌, ◌≤◌, ◌⊎◌, Bool, true, false, List, refl}
 use Rattle.std.specs.List.{Contains}
 use Rattle.std.proofs.Common.{zero, suc, arith, ap, sym, ◌∙◌, subst, ⊎_elim, inl, inr}
-
-pub order : (m n : ℕ) → (m < n) ⊎ (n ≤ m)
-order m n = Prim.grind arith
-
-pub same_or_not : (a b : ℕ) → (a ≡ b) ⊎ (a ≡ b → ⊥)
-same_or_not a b = ⊎_elim (λ l. inr (λ e. absurd (Prim.omega arith))) (λ l. ⊎_elim (λ m. inr (λ e. absurd (Prim.omega arith))) (λ m. inl (Prim.omega arith)) (order b a)) (order a b)
+use Rattle.std.proofs.lemmas.Bool.{cases_lt}
+use Rattle.fraction_theory.proofs.ListSums.{same_or_not}
 
 -- no test has two answers
 pub two_answers : {P : Type 0} (b : Bool) → b ≡ true → b ≡ false → P
@@ -54,7 +50,7 @@ module _ (r : Stretch) where
   fickle_below (suc n) w h =
       ⊎_elim (λ a. inl (a.0, Prim.omega arith, a.2))
       (λ none. ⊎_elim (λ e. inl (n, Prim.omega arith, e))
-      (λ ne. inr (λ k l e. ⊎_elim (λ m. none k m e) (λ m. ne (ap r.enter (let t : n ≡ k = Prim.omega arith in t) ∙ e)) (order k n)))
+      (λ ne. inr (λ k l e. ⊎_elim (λ m. none k m e) (λ m. ne (ap r.enter (let t : n ≡ k = Prim.omega arith in t) ∙ e)) (cases_lt k n)))
       (same_or_not (r.enter n) w))
       (fickle_below n w (Prim.omega arith))
 
@@ -137,11 +133,11 @@ module _ (r : Stretch) where
   greatest_below (suc n) p h =
       ⊎_elim
       (λ more. let g = greatest_below n more (Prim.omega arith) in
-      ⊎_elim (λ l. (n, Prim.omega arith, λ k a. ⊎_elim (λ b. let c = g.2 k b in Prim.omega arith) (λ b. let e : k ≡ n = Prim.omega arith in let t = ap r.enter e in Prim.omega arith) (order k n)))
-      (λ l. (g.0, Prim.omega arith, λ k a. ⊎_elim (λ b. g.2 k b) (λ b. let e : k ≡ n = Prim.omega arith in let t = ap r.enter e in Prim.omega arith) (order k n)))
-      (order (r.enter g.0) (r.enter n)))
+      ⊎_elim (λ l. (n, Prim.omega arith, λ k a. ⊎_elim (λ b. let c = g.2 k b in Prim.omega arith) (λ b. let e : k ≡ n = Prim.omega arith in let t = ap r.enter e in Prim.omega arith) (cases_lt k n)))
+      (λ l. (g.0, Prim.omega arith, λ k a. ⊎_elim (λ b. g.2 k b) (λ b. let e : k ≡ n = Prim.omega arith in let t = ap r.enter e in Prim.omega arith) (cases_lt k n)))
+      (cases_lt (r.enter g.0) (r.enter n)))
       (λ none. (n, Prim.omega arith, λ k a. let e : k ≡ n = Prim.omega arith in let t = ap r.enter e in Prim.omega arith))
-      (order 0 n)
+      (cases_lt 0 n)
 
   -- the step at which the greatest of those that enter does
   pub greatest : (j : ℕ) × (j < r.steps) × ((w : ℕ) → Fickle w → w ≤ r.enter j)

@@ -1,16 +1,16 @@
 -- A run that never comes back to a code it has had ends: no trail is longer than there are codes, and it falls at each step.
 use Rattle.std.specs.Prelude.{◌≡◌, ℕ, ◌+◌, ◌-◌, ◌<◌, ◌≤◌, ◌⊎◌, ◌∷◌, length, Option, Some, None, refl}
 use Rattle.std.proofs.Common.{zero, suc, arith, ap, sym, ◌∙◌, subst, ⊎_elim, inl, inr}
+use Rattle.std.proofs.lemmas.Bool.{cases_lt}
 use Rattle.simplex_theory.specs.Trails.{rest, trail, trail_length, Steps}
-use Rattle.simplex_theory.proofs.Stretches.{order}
 
 -- f i, and f n in the place of m
 avoid : (ℕ → ℕ) → ℕ → ℕ → ℕ → ℕ
-avoid f n m i = ⊎_elim (λ _. f i) (λ _. ⊎_elim (λ _. f i) (λ _. f n) (order m (f i))) (order (f i) m)
+avoid f n m i = ⊎_elim (λ _. f i) (λ _. ⊎_elim (λ _. f i) (λ _. f n) (cases_lt m (f i))) (cases_lt (f i) m)
 
 avoid_is : (f : ℕ → ℕ) (n m i : ℕ) → ((f i ≡ m) × (avoid f n m i ≡ f n)) ⊎ ((f i ≡ m → ⊥) × (avoid f n m i ≡ f i))
 unfolding avoid
-avoid_is f n m i = by (order (f i) m) (order m (f i))
+avoid_is f n m i = by (cases_lt (f i) m) (cases_lt m (f i))
   where
     by : (a : (f i < m) ⊎ (m ≤ f i)) (b : (m < f i) ⊎ (f i ≤ m)) → ((f i ≡ m) × (⊎_elim (λ _. f i) (λ _. ⊎_elim (λ _. f i) (λ _. f n) b) a ≡ f n)) ⊎ ((f i ≡ m → ⊥) × (⊎_elim (λ _. f i) (λ _. ⊎_elim (λ _. f i) (λ _. f n) b) a ≡ f i))
     by (inl l) b = inr (λ e. absurd (Prim.omega arith), refl)
@@ -79,7 +79,7 @@ module _ {S : Type 0} (next : S → Option S) where
     pub short : (s : S) → Good s → trail_length next codes s ≤ codes
     unfolding trail_length
     short s good =
-        ⊎_elim (λ more. absurd (over more)) (λ l. l) (order codes (length (trail next (suc codes) s)))
+        ⊎_elim (λ more. absurd (over more)) (λ l. l) (cases_lt codes (length (trail next (suc codes) s)))
       where
         over : codes < length (trail next (suc codes) s) → ⊥
         over more =
@@ -90,7 +90,7 @@ module _ {S : Type 0} (next : S → Option S) where
             let into : (i : ℕ) → i < suc codes → code (p i) < codes = λ i h. never.small (p i) (all_good p n first r.2 i (Prim.omega arith)) in
             let one : (i j : ℕ) → i < suc codes → j < suc codes → code (p i) ≡ code (p j) → i ≡ j =
             λ i j a b e. ⊎_elim (λ l. absurd (later p n i j first r.2 l (Prim.omega arith) e))
-            (λ l. ⊎_elim (λ m. absurd (later p n j i first r.2 m (Prim.omega arith) (sym e))) (λ m. Prim.omega arith) (order j i)) (order i j) in
+            (λ l. ⊎_elim (λ m. absurd (later p n j i first r.2 m (Prim.omega arith) (sym e))) (λ m. Prim.omega arith) (cases_lt j i)) (cases_lt i j) in
             let bad : suc codes ≤ codes = pigeonhole (suc codes) codes (λ i. code (p i)) into one in
             Prim.omega arith
 
