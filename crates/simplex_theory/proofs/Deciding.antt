@@ -9,9 +9,9 @@ use Rattle.fraction_theory.proofs.OrderLaws.{≤ℚ-or-<ℚ, <ℚ-not-≤ℚ}
 use Rattle.fraction_theory.proofs.ListSums.{Contains-head, Contains-cons, Contains-cases}
 use Rattle.linear_system.specs.Systems.{System, IsSystem}
 use Rattle.linear_system.specs.Choices.{Choice, basics, others}
-use Rattle.simplex_theory.specs.States.{State, IsWithin, IsPast}
-use Rattle.simplex_theory.specs.Steps.{signed, size, Leaves, Helps, Enters}
-use Rattle.simplex_theory.proofs.LeastRatio.{IsLeast, least_alone, least_kept, least_replaced, help_size, least_enters}
+use Rattle.simplex_theory.specs.States.{State, IsWithin, Violates}
+use Rattle.simplex_theory.specs.Steps.{signed, abs_ℚ, Leaves, Helps, Enters}
+use Rattle.simplex_theory.proofs.LeastRatio.{IsLeast, least_alone, least_kept, least_replaced, help_above, least_enters}
 
 abbrev Ascending : List ℕ → Type 0
 Ascending xs = AllPairs (λ x y. x < y) xs
@@ -31,31 +31,31 @@ unfolding others
 others_ascend s h i = AllPairs-filter (λ x y. x < y) _ s.variables (AllPairs-from_increasing s.variables i.ascending)
 
 module _ (s : System) (S : State) where
-  -- a value is within its bounds or past one of them
-  pub within_or_past : (w : ℕ) → IsWithin s S.value w ⊎ ((above : Bool) × IsPast s S.value above w)
-  within_or_past w = elim (≤ℚ-or-<ℚ (s.low w) (S.value w)) [
+  -- a value keeps its bounds or violates one of them
+  pub within_or_violated : (w : ℕ) → IsWithin s S.value w ⊎ ((above : Bool) × Violates s S.value above w)
+  within_or_violated w = elim (≤ℚ-or-<ℚ (s.low w) (S.value w)) [
     | inr below ↦ inr (false, below)
     | inl low ↦ elim (≤ℚ-or-<ℚ (S.value w) (s.high w)) [ inl high ↦ inl (record { low = low; high = high }) | inr above ↦ inr (true, above) ]
   ]
 
-  FirstPast : List ℕ → Type 0
-  FirstPast xs = ((v : ℕ) × (above : Bool) × Contains xs v × IsPast s S.value above v × ((b : ℕ) → Contains xs b → b < v → IsWithin s S.value b)) ⊎ ((b : ℕ) → Contains xs b → IsWithin s S.value b)
+  FirstViolated : List ℕ → Type 0
+  FirstViolated xs = ((v : ℕ) × (above : Bool) × Contains xs v × Violates s S.value above v × ((b : ℕ) → Contains xs b → b < v → IsWithin s S.value b)) ⊎ ((b : ℕ) → Contains xs b → IsWithin s S.value b)
 
-  first_past : (xs : List ℕ) → Ascending xs → FirstPast xs
-  unfolding FirstPast
-  first_past [] a = inr (λ b c. absurd (Prim.omega (arith, c.1)))
-  first_past (x ∷ xs) a = elim (within_or_past x) [
-    | inr past ↦ inl (
+  first_violated : (xs : List ℕ) → Ascending xs → FirstViolated xs
+  unfolding FirstViolated
+  first_violated [] a = inr (λ b c. absurd (Prim.omega (arith, c.1)))
+  first_violated (x ∷ xs) a = elim (within_or_violated x) [
+    | inr violated ↦ inl (
       x,
-      past.0,
+      violated.0,
       Contains-head x xs,
-      past.1,
+      violated.1,
       λ b c l. absurd (elim (Contains-cases x xs b c) [
         | inl e ↦ Prim.omega arith
         | inr k ↦ Prim.omega (arith, ascending_head x xs a b k)
       ]),
     )
-    | inl within ↦ elim (first_past xs (ascending_tail x xs a)) [
+    | inl within ↦ elim (first_violated xs (ascending_tail x xs a)) [
       | inl f ↦ inl (
         f.0,
         f.1,
@@ -72,9 +72,9 @@ module _ (s : System) (S : State) where
 
   -- a basic variable leaves, or all are within their bounds
   pub leaves_or_within : IsSystem s → ((v : ℕ) × (above : Bool) × Leaves s S v above) ⊎ ((b : ℕ) → Contains (basics s S.choice) b → IsWithin s S.value b)
-  unfolding FirstPast
-  leaves_or_within i = elim (first_past (basics s S.choice) (basics_ascend s S.choice i)) [
-    | inl f ↦ inl (f.0, f.1, record { basic = f.2; past = f.3; least = f.4 })
+  unfolding FirstViolated
+  leaves_or_within i = elim (first_violated (basics s S.choice) (basics_ascend s S.choice i)) [
+    | inl f ↦ inl (f.0, f.1, record { basic = f.2; violates = f.3; least = f.4 })
     | inr all ↦ inr all
   ]
 
@@ -89,10 +89,10 @@ module _ (s : System) (S : State) where
     ]
 
     price : ℕ → Fraction
-    price w = size (S.reduced w)
+    price w = abs_ℚ (S.reduced w)
 
     entry : ℕ → Fraction
-    entry w = size (S.choice.entry v w)
+    entry w = abs_ℚ (S.choice.entry v w)
 
     Found : (ℕ → Type 0) → Type 0
     Found candidate = ((k : ℕ) × IsLeast candidate price entry k) ⊎ ((w : ℕ) → ¬ (candidate w))
@@ -107,7 +107,7 @@ module _ (s : System) (S : State) where
 
     entry_above : (w : ℕ) → Helps s S v above w → whole (pos 0) <ℚ entry w
     unfolding entry
-    entry_above w h = help_size s S v above w h
+    entry_above w h = help_above s S v above w h
 
     -- one more candidate, of a later name
     one_more : (p : ℕ → Type 0) → ((w : ℕ) → p w → Helps s S v above w) → (x : ℕ) → Helps s S v above x → ((w : ℕ) → p w → w < x) → Found p → Found (λ w. p w ⊎ (w ≡ x))

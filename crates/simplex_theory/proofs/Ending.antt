@@ -3,18 +3,18 @@ use Rattle.std.specs.Prelude.{◌≡◌, ℕ, ◌<◌, ◌≤◌, ◌^◌, Bool,
 use Rattle.std.proofs.Common.{zero, suc, arith, sym, ◌∙◌, subst, inl, inr}
 use Rattle.std.proofs.lemmas.Bool.{cases_lt}
 use Rattle.linear_system.specs.Systems.{System}
-use Rattle.simplex_theory.specs.States.{State, Posed}
-use Rattle.simplex_theory.specs.Steps.{Step}
+use Rattle.simplex_theory.specs.States.{State, IsPosed}
+use Rattle.simplex_theory.specs.Steps.{IsStep}
 use Rattle.simplex_theory.specs.Trails.{trail_length, Steps}
 use Rattle.simplex_theory.proofs.NeverBack.{never_back}
 use Rattle.simplex_theory.proofs.Splits.{split_code, split_code-small, split_code-same}
-use Rattle.simplex_theory.proofs.Trails.{NeverBack, falls}
+use Rattle.simplex_theory.proofs.Trails.{NeverBack, short, falls}
 
 -- `next` goes by steps of the method over the one system s, from good x to good x, and what is good is posed: `view` says what state x has.
 record IsMethodOver (s : System) {X : Type 0} (next : X → Option X) (view : X → State) (Good : X → Type 0) : Type 0 where
-  posed : (x : X) → Good x → Posed s (view x)
+  posed : (x : X) → Good x → IsPosed s (view x)
   keeps : (x y : X) → Good x → next x ≡ Some y → Good y
-  steps : (x y : X) → Good x → next x ≡ Some y → (v : ℕ) × (k : ℕ) × (above : Bool) × Step s (view x) (view y) v k above
+  steps : (x y : X) → Good x → next x ≡ Some y → (v : ℕ) × (k : ℕ) × (above : Bool) × IsStep s (view x) (view y) v k above
 
 module _ {s : System} {X : Type 0} {next : X → Option X} {view : X → State} {Good : X → Type 0} (method : IsMethodOver s next view Good) where
   module _ (p : ℕ → X) (n : ℕ) (good : Good (p 0)) (steps : Steps next p n) where
@@ -23,7 +23,7 @@ module _ {s : System} {X : Type 0} {next : X → Option X} {view : X → State} 
     all_good (suc i) h = method.keeps (p i) (p (suc i)) (all_good i (Prim.omega arith)) (steps i (Prim.omega arith))
 
     -- what leaves, what enters and on which side, at each step of the run
-    chosen : (i : ℕ) → (v : ℕ) × (k : ℕ) × (above : Bool) × (i < n → Step s (view (p i)) (view (p (suc i))) v k above)
+    chosen : (i : ℕ) → (v : ℕ) × (k : ℕ) × (above : Bool) × (i < n → IsStep s (view (p i)) (view (p (suc i))) v k above)
     chosen i = elim (cases_lt i n) [
       | inl h ↦ let t = method.steps (p i) (p (suc i)) (all_good i (Prim.omega arith)) (steps i h) in (t.0, t.1, t.2, λ l. t.3)
       | inr h ↦ (0, 0, false, λ l. absurd (Prim.omega arith))
@@ -44,20 +44,24 @@ module _ {s : System} {X : Type 0} {next : X → Option X} {view : X → State} 
 
 -- `next` goes by steps of the method, from good x to good x, and what is good is posed: `view` says what state x has, and `system` over which system, which a step keeps.
 pub record IsMethod {X : Type 0} (next : X → Option X) (system : X → System) (view : X → State) (Good : X → Type 0) : Type 0 where
-  pub posed : (x : X) → Good x → Posed (system x) (view x)
+  pub posed : (x : X) → Good x → IsPosed (system x) (view x)
   pub keeps : (x y : X) → Good x → next x ≡ Some y → Good y
   pub keeps_system : (x y : X) → Good x → next x ≡ Some y → system y ≡ system x
-  pub steps : (x y : X) → Good x → next x ≡ Some y → (v : ℕ) × (k : ℕ) × (above : Bool) × Step (system x) (view x) (view y) v k above
+  pub steps : (x y : X) → Good x → next x ≡ Some y → (v : ℕ) × (k : ℕ) × (above : Bool) × IsStep (system x) (view x) (view y) v k above
 
 module _ {X : Type 0} {next : X → Option X} {system : X → System} {view : X → State} {Good : X → Type 0} (method : IsMethod next system view Good) where
   over_one : (s : System) → IsMethodOver s next view (λ x. Good x × (system x ≡ s))
   over_one s = record {
-    posed = λ x g. subst (λ (r : System). Posed r (view x)) g.1 (method.posed x g.0);
+    posed = λ x g. subst (λ (r : System). IsPosed r (view x)) g.1 (method.posed x g.0);
     keeps = λ x y g e. (method.keeps x y g.0 e, method.keeps_system x y g.0 e ∙ g.1);
     steps = λ x y g e.
         let t = method.steps x y g.0 e in
-        (t.0, t.1, t.2, subst (λ (r : System). Step r (view x) (view y) t.0 t.1 t.2) g.1 t.3);
+        (t.0, t.1, t.2, subst (λ (r : System). IsStep r (view x) (view y) t.0 t.1 t.2) g.1 t.3);
   }
+
+  -- a run has at most 3^n states, n the number of variables
+  pub method_short : (x : X) → Good x → trail_length next (3 ^ length (system x).variables) x ≤ 3 ^ length (system x).variables
+  method_short x good = short next (never (over_one (system x))) x (good, refl)
 
   -- The length of the trail falls at each step. It has at most one state for each way to split the variables: of each there are three ways to stand, and no run comes back to a split.
   pub method_falls : (x y : X) → Good x → next x ≡ Some y → trail_length next (3 ^ length (system y).variables) y < trail_length next (3 ^ length (system x).variables) x

@@ -12,8 +12,8 @@ use Rattle.fraction_theory.proofs.OrderLaws.{not-≤ℚ, <ℚ-not-≤ℚ, ≤ℚ
 use Rattle.linear_system.specs.Systems.{System, objective}
 use Rattle.linear_system.specs.Choices.{others, OneExchange, at_bound}
 use Rattle.linear_system.proofs.ChoiceLaws.{others_are, is_other, is_basic, others_fix_all}
-use Rattle.simplex_theory.specs.States.{State, Posed, IsPast}
-use Rattle.simplex_theory.specs.Steps.{signed, Step, passed, way}
+use Rattle.simplex_theory.specs.States.{State, IsPosed, Violates}
+use Rattle.simplex_theory.specs.Steps.{signed, IsStep, violated_bound, displacement}
 use Rattle.simplex_theory.proofs.Signs.{signed-both, signed-times, signed-nil}
 use Rattle.simplex_theory.proofs.NameSums.{sum_by-below}
 use Rattle.simplex_theory.proofs.Stretches.{by_answer}
@@ -29,33 +29,33 @@ other_factor x m y hx e hy = not-≤ℚ m (whole (pos 0))
 above_difference : (x y : Fraction) → x <ℚ y → whole (pos 0) <ℚ (y -ℚ x)
 above_difference x y l = not-≤ℚ (y -ℚ x) (whole (pos 0)) (λ h. <ℚ-not-≤ℚ x y l (by_le1 (x ∷ y ∷ []) (at 1) (at 0) pone (at 1 ⊕ pneg (at 0)) pnil NonNeg-one h refl))
 
--- v's way to the bound that it is past, by the side
-way_sign : (s : System) (S : State) (v : ℕ) (above : Bool) → IsPast s S.value above v → whole (pos 0) <ℚ signed above (way s S v above)
-unfolding way passed
-way_sign s S v true l = subst (λ t. whole (pos 0) <ℚ t) (by_ring ring_ℚ (S.value v ∷ s.high v ∷ []) (at 0 ⊕ pneg (at 1)) (pneg (at 1 ⊕ pneg (at 0))) refl) (above_difference (s.high v) (S.value v) l)
-way_sign s S v false l = above_difference (S.value v) (s.low v) l
+-- how far v moves to the bound that it violates, by the side
+displacement_sign : (s : System) (S : State) (v : ℕ) (above : Bool) → Violates s S.value above v → whole (pos 0) <ℚ signed above (displacement s S v above)
+unfolding displacement violated_bound
+displacement_sign s S v true l = subst (λ t. whole (pos 0) <ℚ t) (by_ring ring_ℚ (S.value v ∷ s.high v ∷ []) (at 0 ⊕ pneg (at 1)) (pneg (at 1 ⊕ pneg (at 0))) refl) (above_difference (s.high v) (S.value v) l)
+displacement_sign s S v false l = above_difference (S.value v) (s.low v) l
 
-module _ (s : System) (S T : State) (v k : ℕ) (above : Bool) (posed : Posed s S) (step : Step s S T v k above) where
+module _ (s : System) (S T : State) (v k : ℕ) (above : Bool) (posed : IsPosed s S) (step : IsStep s S T v k above) where
   -- how far the entering variable moves, by the bound at which it stood
   far : Fraction
-  far = signed (S.choice.high k) (T.choice.entry k v *ℚ way s S v above)
+  far = signed (S.choice.high k) (T.choice.entry k v *ℚ displacement s S v above)
 
   far_above : whole (pos 0) <ℚ far
   unfolding far help
   far_above =
       let i = T.choice.entry k v in
       let p = S.choice.entry v k in
-      let w = way s S v above in
+      let w = displacement s S v above in
       other_factor (help s S T v k above posed step) far (signed above w) step.enters.helps.towards
       (signed-both (S.choice.high k) (signed above p) (i *ℚ w) ∙ signed-times above p (i *ℚ w)
       ∙ ap (signed above) (by_ring1 ring_ℚ (p ∷ i ∷ w ∷ []) (at 0 ⊗ (at 1 ⊗ at 2)) (at 2) (at 2) (at 0 ⊗ at 1) pone (inverse s S T v k above posed step) refl))
-      (way_sign s S v above step.leaves.past)
+      (displacement_sign s S v above step.leaves.violates)
 
   entering_term : S.reduced k *ℚ T.value k ≡ S.reduced k *ℚ S.value k +ℚ far *ℚ signed (S.choice.high k) (S.reduced k)
   unfolding far
   entering_term =
       let d = S.reduced k in
-      let m = T.choice.entry k v *ℚ way s S v above in
+      let m = T.choice.entry k v *ℚ displacement s S v above in
       ap (λ t. d *ℚ t) (step.moved.basic k (entering_basic s S.choice T.choice v k (exchange s S T v k above posed step)))
       ∙ by_ring ring_ℚ (d ∷ S.value k ∷ m ∷ []) (at 0 ⊗ (at 1 ⊕ at 2)) (at 0 ⊗ at 1 ⊕ at 2 ⊗ at 0) refl
       ∙ ap (λ t. d *ℚ S.value k +ℚ t) (sym (signed-both (S.choice.high k) m d))
@@ -128,19 +128,19 @@ module _ (s : System) (S T : State) (v k : ℕ) (above : Bool) (posed : Posed s 
       ∙ by_ring ring_ℚ (S.reduced w ∷ T.choice.entry k w ∷ []) (at 0 ⊕ pnil ⊗ at 1) (at 0) refl)
 
 -- what the value of an other variable is, by its bound
-pub stands_high : (s : System) (S : State) → Posed s S → (w : ℕ) → Contains (others s S.choice) w → S.choice.high w ≡ true → S.value w ≡ s.high w
+pub stands_high : (s : System) (S : State) → IsPosed s S → (w : ℕ) → Contains (others s S.choice) w → S.choice.high w ≡ true → S.value w ≡ s.high w
 unfolding at_bound
 stands_high s S posed w c e = posed.stands w c ∙ ap (λ (f : Bool). if f then s.high w else s.low w) e
 
-pub stands_low : (s : System) (S : State) → Posed s S → (w : ℕ) → Contains (others s S.choice) w → S.choice.high w ≡ false → S.value w ≡ s.low w
+pub stands_low : (s : System) (S : State) → IsPosed s S → (w : ℕ) → Contains (others s S.choice) w → S.choice.high w ≡ false → S.value w ≡ s.low w
 unfolding at_bound
 stands_low s S posed w c e = posed.stands w c ∙ ap (λ (f : Bool). if f then s.high w else s.low w) e
 
-pub same_stand : (s : System) (S T : State) → Posed s S → Posed s T → (w : ℕ) → Contains (others s S.choice) w → Contains (others s T.choice) w → S.choice.high w ≡ T.choice.high w → S.value w ≡ T.value w
+pub same_stand : (s : System) (S T : State) → IsPosed s S → IsPosed s T → (w : ℕ) → Contains (others s S.choice) w → Contains (others s T.choice) w → S.choice.high w ≡ T.choice.high w → S.value w ≡ T.value w
 unfolding at_bound
 same_stand s S T p q w c d e = p.stands w c ∙ ap (λ (f : Bool). if f then s.high w else s.low w) e ∙ sym (q.stands w d)
 
-module _ (s : System) (S T : State) (p : Posed s S) (q : Posed s T)
+module _ (s : System) (S T : State) (p : IsPosed s S) (q : IsPosed s T)
     (basic : (w : ℕ) → Contains s.variables w → S.choice.basic w ≡ T.choice.basic w)
     (high : (w : ℕ) → Contains s.variables w → S.choice.basic w ≡ false → S.choice.high w ≡ T.choice.high w) where
   -- States with the same basic variables, whose others stand at the same bounds, have the same values.

@@ -7,8 +7,8 @@ use Rattle.fraction_theory.proofs.Ring.{at, ◌⊗◌}
 use Rattle.fraction_theory.proofs.OrderLaws.{by_le2, *ℚ-≤ℚ_cancel, ≤ℚ_of_same, ≤ℚ-or-<ℚ, <ℚ-≤ℚ, <ℚ_irrefl, <ℚ-not-≤ℚ, not-≤ℚ, NonNeg_from}
 use Rattle.linear_system.specs.Systems.{System}
 use Rattle.simplex_theory.specs.States.{State}
-use Rattle.simplex_theory.specs.Steps.{signed, size, Helps, Enters}
-use Rattle.simplex_theory.proofs.Signs.{size_signed, size_above}
+use Rattle.simplex_theory.specs.Steps.{signed, abs_ℚ, Helps, Enters}
+use Rattle.simplex_theory.proofs.Signs.{abs_signed, abs_above}
 
 -- Of the candidates k has the least d over e, compared by products, and of those that tie with it the least name.
 pub record IsLeast (candidate : ℕ → Type 0) (d e : ℕ → Fraction) (k : ℕ) : Type 0 where
@@ -69,13 +69,13 @@ module _ (before after : ℕ → Type 0) (d e : ℕ → Fraction) (k j : ℕ) (f
 
 module _ (s : System) (S : State) (v : ℕ) (above : Bool) where
   -- what helps has an entry that is not 0
-  pub help_size : (w : ℕ) → Helps s S v above w → whole (pos 0) <ℚ size (S.choice.entry v w)
-  help_size w helps =
+  pub help_above : (w : ℕ) → Helps s S v above w → whole (pos 0) <ℚ abs_ℚ (S.choice.entry v w)
+  help_above w helps =
       let e = signed (S.choice.high w) (signed above (S.choice.entry v w)) in
       subst (λ t. whole (pos 0) <ℚ t)
-      (sym (size_above e (<ℚ-≤ℚ (whole (pos 0)) e helps.towards)) ∙ size_signed (S.choice.high w) (signed above (S.choice.entry v w)) ∙ size_signed above (S.choice.entry v w))
+      (sym (abs_above e (<ℚ-≤ℚ (whole (pos 0)) e helps.towards)) ∙ abs_signed (S.choice.high w) (signed above (S.choice.entry v w)) ∙ abs_signed above (S.choice.entry v w))
       helps.towards
 
   -- the search's answer enters
-  pub least_enters : (k : ℕ) → IsLeast (Helps s S v above) (λ w. size (S.reduced w)) (λ w. size (S.choice.entry v w)) k → Enters s S v above k
+  pub least_enters : (k : ℕ) → IsLeast (Helps s S v above) (λ w. abs_ℚ (S.reduced w)) (λ w. abs_ℚ (S.choice.entry v w)) k → Enters s S v above k
   least_enters k l = record { helps = l.one; ratio = l.ratio; least = l.least }

@@ -13,19 +13,19 @@ use Rattle.fraction_theory.proofs.ListSums.{same_or_not}
 use Rattle.linear_system.specs.Systems.{System, objective}
 use Rattle.linear_system.specs.Choices.{others, at_bound}
 use Rattle.linear_system.proofs.ChoiceLaws.{others_are, is_other, is_basic}
-use Rattle.simplex_theory.specs.States.{State, Posed, IsWithin, IsPast}
-use Rattle.simplex_theory.specs.Steps.{signed, size, Step}
-use Rattle.simplex_theory.proofs.Signs.{greatest_at_bound, lower_past_bound, size_nil, neg_below}
+use Rattle.simplex_theory.specs.States.{State, IsPosed, IsWithin, Violates}
+use Rattle.simplex_theory.specs.Steps.{signed, abs_ℚ, IsStep}
+use Rattle.simplex_theory.proofs.Signs.{greatest_at_bound, lower_beyond_bound, abs_nil, neg_below}
 use Rattle.simplex_theory.proofs.NameSums.{sum_by-below, signed-sum}
 use Rattle.simplex_theory.proofs.Stretches.{Stretch, Fickle, fickle_or_not, At, still, Left, left_at, leaving_enters, greatest, by_answer, two_answers}
 use Rattle.simplex_theory.proofs.Posing.{step_posed}
 use Rattle.simplex_theory.proofs.Falling.{objective_step, prices_stand, same_objective, same_stand, stands_high, stands_low}
 
-module _ (s : System) (p : ℕ → State) (n : ℕ) (leave enter : ℕ → ℕ) (above : ℕ → Bool) (some : 0 < n) (start : Posed s (p 0))
-    (step : (i : ℕ) → i < n → Step s (p i) (p (suc i)) (leave i) (enter i) (above i))
+module _ (s : System) (p : ℕ → State) (n : ℕ) (leave enter : ℕ → ℕ) (above : ℕ → Bool) (some : 0 < n) (start : IsPosed s (p 0))
+    (step : (i : ℕ) → i < n → IsStep s (p i) (p (suc i)) (leave i) (enter i) (above i))
     (back : (w : ℕ) → Contains s.variables w → (p 0).choice.basic w ≡ (p n).choice.basic w)
     (back_high : (w : ℕ) → Contains s.variables w → (p 0).choice.basic w ≡ false → (p 0).choice.high w ≡ (p n).choice.high w) where
-  posed : (i : ℕ) → i ≤ n → Posed s (p i)
+  posed : (i : ℕ) → i ≤ n → IsPosed s (p i)
   posed zero h = start
   posed (suc i) h = step_posed s (p i) (p (suc i)) (leave i) (enter i) (above i) (posed i (Prim.omega arith)) (step i (Prim.omega arith))
 
@@ -108,7 +108,7 @@ module _ (s : System) (p : ℕ → State) (n : ℕ) (leave enter : ℕ → ℕ) 
         high = subst (λ t. t ≤ℚ s.high w) (sym e) (q.bounds w c);
       }))
 
-  -- the row of what leaves at step j, turned by the side on which it is past its bounds
+  -- the row of what leaves at step j, turned by the side on which it violates its bounds
   turned_row : ℕ → ℕ → Fraction
   turned_row j w = signed (above j) ((p j).choice.entry (leave j) w)
 
@@ -120,16 +120,16 @@ module _ (s : System) (p : ℕ → State) (n : ℕ) (leave enter : ℕ → ℕ) 
       let k = enter j in
       let v = leave j in
       let within = inside i w hi (others_are s S.choice w c).0 before in
-      let tie : size (S.reduced k) *ℚ size (S.choice.entry v w) ≡ size (S.reduced w) *ℚ size (S.choice.entry v k) =
-      ap (λ t. size t *ℚ size (S.choice.entry v w)) (flat j hj) ∙ ap (λ t. t *ℚ size (S.choice.entry v w)) size_nil
-      ∙ by_ring ring_ℚ (size (S.choice.entry v w) ∷ size (S.choice.entry v k) ∷ []) (pnil ⊗ at 0) (pnil ⊗ at 1) refl
-      ∙ ap (λ t. t *ℚ size (S.choice.entry v k)) (sym size_nil) ∙ ap (λ t. size t *ℚ size (S.choice.entry v k)) (sym (fickle_nil w j a (Prim.omega arith))) in
+      let tie : abs_ℚ (S.reduced k) *ℚ abs_ℚ (S.choice.entry v w) ≡ abs_ℚ (S.reduced w) *ℚ abs_ℚ (S.choice.entry v k) =
+      ap (λ t. abs_ℚ t *ℚ abs_ℚ (S.choice.entry v w)) (flat j hj) ∙ ap (λ t. t *ℚ abs_ℚ (S.choice.entry v w)) abs_nil
+      ∙ by_ring ring_ℚ (abs_ℚ (S.choice.entry v w) ∷ abs_ℚ (S.choice.entry v k) ∷ []) (pnil ⊗ at 0) (pnil ⊗ at 1) refl
+      ∙ ap (λ t. t *ℚ abs_ℚ (S.choice.entry v k)) (sym abs_nil) ∙ ap (λ t. abs_ℚ t *ℚ abs_ℚ (S.choice.entry v k)) (sym (fickle_nil w j a (Prim.omega arith))) in
       let idle : ¬ (whole (pos 0) <ℚ signed (S.choice.high w) (turned_row j w)) = λ towards.
       absurd (Prim.omega (arith, (step j hj).enters.least w (record { other = c; free = fickle_free w a; towards = towards }) tie)) in
       subst (λ t. (turned_row j w *ℚ (p i).value w) ≤ℚ (turned_row j w *ℚ t)) (sym ((posed j (Prim.omega arith)).stands w c))
       (greatest_at_bound (S.choice.high w) (turned_row j w) (s.low w) (s.high w) ((p i).value w) idle within.low within.high)
 
-  past_by : (i : ℕ) (w : ℕ) (f : Bool) → IsPast s (p i).value f w → ((f ≡ true → s.high w <ℚ (p i).value w) × (f ≡ false → (p i).value w <ℚ s.low w))
+  past_by : (i : ℕ) (w : ℕ) (f : Bool) → Violates s (p i).value f w → ((f ≡ true → s.high w <ℚ (p i).value w) × (f ≡ false → (p i).value w <ℚ s.low w))
   past_by i w true l = (λ e. l, λ e. absurd (let wrong : true ≡ false = e in Prim.cc))
   past_by i w false l = (λ e. absurd (let wrong : true ≡ false = sym e in Prim.cc), λ e. l)
 
@@ -140,10 +140,10 @@ module _ (s : System) (p : ℕ → State) (n : ℕ) (leave enter : ℕ → ℕ) 
       let S = p j in
       let z = enter j in
       let helps = (step j hj).enters.helps in
-      let past : IsPast s (p i).value (S.choice.high z) z = subst₂ (λ (b : Bool) (w : ℕ). IsPast s (p i).value b w) f e (step i hi).leaves.past in
+      let past : Violates s (p i).value (S.choice.high z) z = subst₂ (λ (b : Bool) (w : ℕ). Violates s (p i).value b w) f e (step i hi).leaves.violates in
       let by = past_by i z (S.choice.high z) past in
       subst (λ t. (turned_row j z *ℚ (p i).value z) <ℚ (turned_row j z *ℚ t)) (sym ((posed j (Prim.omega arith)).stands z helps.other))
-      (lower_past_bound (S.choice.high z) (turned_row j z) (s.low z) (s.high z) ((p i).value z) helps.towards by.0 by.1)
+      (lower_beyond_bound (S.choice.high z) (turned_row j z) (s.low z) (s.high z) ((p i).value z) helps.towards by.0 by.1)
 
   -- what leaves at step j, at the values of step i and of step j, by its turned row
   row_at : (i j : ℕ) (hi : i ≤ n) (hj : j < n) → signed (above j) ((p i).value (leave j)) ≡ sum_by (λ w. turned_row j w *ℚ (p i).value w) (others s (p j).choice)
@@ -152,7 +152,7 @@ module _ (s : System) (p : ℕ → State) (n : ℕ) (leave enter : ℕ → ℕ) 
       ap (signed (above j)) (((posed j (Prim.omega arith)).choice.to_table (p i).value (posed i hi).meets).basic (leave j) (step j hj).leaves.basic)
       ∙ signed-sum (above j) ((p j).choice.entry (leave j)) (p i).value (others s (p j).choice)
 
-  outside_no_further : (a : Bool) (v : ℕ) (x y : ℕ → Fraction) → signed a (x v) <ℚ signed a (y v) → IsPast s y a v → IsWithin s x v → ⊥
+  outside_no_further : (a : Bool) (v : ℕ) (x y : ℕ → Fraction) → signed a (x v) <ℚ signed a (y v) → Violates s y a v → IsWithin s x v → ⊥
   outside_no_further true v x y l past within = <ℚ-not-≤ℚ (s.high v) (x v) (<ℚ_trans (s.high v) (y v) (x v) past (neg_below (x v) (y v) l)) within.high
   outside_no_further false v x y l past within = <ℚ-not-≤ℚ (x v) (s.low v) (<ℚ_trans (x v) (y v) (s.low v) l past) within.low
 
@@ -189,4 +189,4 @@ module _ (s : System) (p : ℕ → State) (n : ℕ) (leave enter : ℕ → ℕ) 
       (fickle_or_not stretch w) in
       let lower : signed (above j) ((p i).value v) <ℚ signed (above j) (S.value v) = subst₂ ◌<ℚ◌ (sym (row_at i j (Prim.omega arith) hj)) (sym (row_at j j (Prim.omega arith) hj))
       (sum_by-below (λ w. turned_row j w *ℚ (p i).value w) (λ w. turned_row j w *ℚ S.value w) (others s S.choice) z (step j hj).enters.helps.other each (great_term i j hi hj leaves flag)) in
-      outside_no_further (above j) v (p i).value S.value lower (step j hj).leaves.past (inside i v hi (step j hj).exchanged.exchange.leaving (subst (λ (t : ℕ). v < t) (sym leaves) smaller))
+      outside_no_further (above j) v (p i).value S.value lower (step j hj).leaves.violates (inside i v hi (step j hj).exchanged.exchange.leaving (subst (λ (t : ℕ). v < t) (sym leaves) smaller))

@@ -1,4 +1,4 @@
--- The two ends of a run: no basic variable is past its bounds, or none of the others helps the one that leaves.
+-- The two ends of a run: all basic variables keep their bounds, or none of the others helps the one that leaves.
 use Rattle.std.specs.Prelude.{◌≡◌, ℕ, pos, Bool, true, false}
 use Rattle.std.specs.List.{Contains}
 use Rattle.std.proofs.Common.{ap, sym, ◌∙◌, subst, subst₂, inl, inr}
@@ -9,7 +9,7 @@ use Rattle.fraction_theory.proofs.OrderLaws.{≤ℚ-or-<ℚ, ≤ℚ_antisym, ≤
 use Rattle.linear_system.specs.Systems.{System, MeetsRows, InBounds, objective}
 use Rattle.linear_system.specs.Choices.{basics, others, at_bound}
 use Rattle.linear_system.proofs.ChoiceLaws.{others_are, is_other, basics_are, is_basic}
-use Rattle.simplex_theory.specs.States.{State, Posed, IsWithin, IsPast, IsSolved, HasNoPoint, IsOutOfReach}
+use Rattle.simplex_theory.specs.States.{State, IsPosed, IsWithin, Violates, IsSolved, HasNoPoint, IsOutOfReach}
 use Rattle.simplex_theory.specs.Steps.{signed, Helps}
 use Rattle.simplex_theory.proofs.Signs.{greatest_at_bound, neg_at}
 use Rattle.simplex_theory.proofs.NameSums.{sum_by-at_most, signed-sum}
@@ -17,7 +17,7 @@ use Rattle.simplex_theory.proofs.Stretches.{by_answer}
 use Rattle.simplex_theory.proofs.Posing.{price_sign}
 use Rattle.simplex_theory.proofs.Falling.{stands_high, stands_low}
 
-module _ (s : System) (S : State) (posed : Posed s S) where
+module _ (s : System) (S : State) (posed : IsPosed s S) where
   -- x times an other variable within its bounds is greatest where the variable stands, if that is so of x where the bounds differ
   greatest_where_it_stands : (x : Fraction) (u : ℕ → Fraction) (w : ℕ) → Contains (others s S.choice) w → (s.low w <ℚ s.high w → ¬ (whole (pos 0) <ℚ signed (S.choice.high w) x)) → IsWithin s u w
       → (x *ℚ u w) ≤ℚ (x *ℚ S.value w)
@@ -61,17 +61,17 @@ module _ (s : System) (S : State) (posed : Posed s S) where
         (λ b. let o = is_other s S.choice w c b in
         by_answer (S.choice.high w)
         (λ f. absurd (<ℚ_irrefl (s.high w) (subst (λ t. t <ℚ s.high w) (stands_high s S posed w o f) l)))
-        (λ f. posed.low w o (subst (λ t. t <ℚ s.high w) (stands_low s S posed w o f) l) f))
+        (λ f. posed.low_price w o (subst (λ t. t <ℚ s.high w) (stands_low s S posed w o f) l) f))
 
     falls : (w : ℕ) → Contains s.variables w → s.low w <ℚ S.value w → whole (pos 0) ≤ℚ S.reduced w
     falls w c l = by_answer (S.choice.basic w)
         (λ b. ≤ℚ_of_same (whole (pos 0)) (S.reduced w) (sym (posed.unpriced w (is_basic s S.choice w c b))))
         (λ b. let o = is_other s S.choice w c b in
         by_answer (S.choice.high w)
-        (λ f. posed.high w o (subst (λ t. s.low w <ℚ t) (stands_high s S posed w o f) l) f)
+        (λ f. posed.high_price w o (subst (λ t. s.low w <ℚ t) (stands_high s S posed w o f) l) f)
         (λ f. absurd (<ℚ_irrefl (s.low w) (subst (λ t. s.low w <ℚ t) (stands_low s S posed w o f) l))))
 
-    -- no basic variable past its bounds: solved
+    -- all basic variables within their bounds: solved
     pub solved : IsSolved s S
     solved = record {
       best = record {
@@ -85,7 +85,7 @@ module _ (s : System) (S : State) (posed : Posed s S) where
     }
 
   -- no other variable helps v: no values of the others bring it back within its bounds
-  module _ (v : ℕ) (above : Bool) (basic : Contains (basics s S.choice) v) (past : IsPast s S.value above v) (idle : (w : ℕ) → ¬ (Helps s S v above w)) where
+  module _ (v : ℕ) (above : Bool) (basic : Contains (basics s S.choice) v) (past : Violates s S.value above v) (idle : (w : ℕ) → ¬ (Helps s S v above w)) where
     no_nearer : (u : ℕ → Fraction) → ((w : ℕ) → Contains (others s S.choice) w → IsWithin s u w) → u v ≡ sum_by (λ w. S.choice.entry v w *ℚ u w) (others s S.choice) → signed above (u v) ≤ℚ signed above (S.value v)
     no_nearer u within e = subst₂ ◌≤ℚ◌
         (sym (ap (signed above) e ∙ signed-sum above (S.choice.entry v) u (others s S.choice)))
@@ -97,7 +97,7 @@ module _ (s : System) (S : State) (posed : Posed s S) where
     pub out_of_reach : IsOutOfReach s S.choice v
     out_of_reach = record { basic = basic; apart = λ u within e w. still_past above u (no_nearer u within e) past w }
       where
-        still_past : (a : Bool) (u : ℕ → Fraction) → signed a (u v) ≤ℚ signed a (S.value v) → IsPast s S.value a v → IsWithin s u v → ⊥
+        still_past : (a : Bool) (u : ℕ → Fraction) → signed a (u v) ≤ℚ signed a (S.value v) → Violates s S.value a v → IsWithin s u v → ⊥
         still_past true u l p w = <ℚ-not-≤ℚ (s.high v) (u v) (<ℚ-≤ℚ_trans (s.high v) (S.value v) (u v) p (neg_at (u v) (S.value v) l)) w.high
         still_past false u l p w = <ℚ-not-≤ℚ (u v) (s.low v) (≤ℚ-<ℚ_trans (u v) (S.value v) (s.low v) l p) w.low
 

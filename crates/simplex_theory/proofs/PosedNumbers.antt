@@ -9,7 +9,7 @@ use Rattle.fraction_theory.proofs.ListSums.{Distinct, Distinct-increasing, sum_b
 use Rattle.linear_system.specs.Systems.{System, IsSystem, MeetsRows, activity}
 use Rattle.linear_system.specs.Choices.{Choice, basics, others, IsChoice, at_bound, value, value_terms, reduced, reduced_terms}
 use Rattle.linear_system.proofs.ChoiceLaws.{others_are, is_other, basics_are, is_basic, others_fix_all, value_meets, objective_by_others, reduced_is_one}
-use Rattle.simplex_theory.specs.States.{State, Posed}
+use Rattle.simplex_theory.specs.States.{State, IsPosed}
 use Rattle.simplex_theory.proofs.Stretches.{by_answer}
 
 -- the value of an other variable, and the reduced price of a basic one, in a choice
@@ -32,14 +32,14 @@ meets_same s system v u same m = record {
 
 module _ (s : System) (S : State) where
   -- a posed state's values are those of its choice
-  pub posed_value : Posed s S → (w : ℕ) → Contains s.variables w → S.value w ≡ value s S.choice w
+  pub posed_value : IsPosed s S → (w : ℕ) → Contains s.variables w → S.value w ≡ value s S.choice w
   posed_value posed w c =
       let distinct : Distinct s.variables = Distinct-increasing s.variables posed.system.ascending in
       others_fix_all s distinct S.choice posed.choice S.value (value s S.choice) posed.meets (value_meets s distinct S.choice posed.choice)
       (λ o k. posed.stands o k ∙ sym (value_other s S.choice o k)) w c
 
   -- and so are its reduced prices
-  pub posed_reduced : Posed s S → (w : ℕ) → Contains s.variables w → S.reduced w ≡ reduced s S.choice w
+  pub posed_reduced : IsPosed s S → (w : ℕ) → Contains s.variables w → S.reduced w ≡ reduced s S.choice w
   posed_reduced posed w c = by_answer (S.choice.basic w)
       (λ b. let k = is_basic s S.choice w c b in posed.unpriced w k ∙ sym (reduced_basic s S.choice w k))
       (λ b. reduced_is_one s posed.system S.choice posed.choice S.reduced posed.prices w (is_other s S.choice w c b))
@@ -52,7 +52,7 @@ module _ (s : System) (S : State) where
       → ((w : ℕ) → Contains s.variables w → S.reduced w ≡ reduced s S.choice w)
       → ((w : ℕ) → Contains (others s S.choice) w → s.low w <ℚ s.high w → S.choice.high w ≡ false → S.reduced w ≤ℚ whole (pos 0))
       → ((w : ℕ) → Contains (others s S.choice) w → s.low w <ℚ s.high w → S.choice.high w ≡ true → whole (pos 0) ≤ℚ S.reduced w)
-      → Posed s S
+      → IsPosed s S
   posed_by_choice system bounds choice values prices low high =
       let distinct : Distinct s.variables = Distinct-increasing s.variables system.ascending in
       record {
@@ -65,6 +65,6 @@ module _ (s : System) (S : State) where
             objective_by_others s system S.choice choice v m
             ∙ sum_by-members (λ w. reduced s S.choice w *ℚ v w) (λ w. S.reduced w *ℚ v w) (others s S.choice) (λ w c. ap (λ t. t *ℚ v w) (sym (prices w (others_are s S.choice w c).0)));
         unpriced = λ b c. prices b (basics_are s S.choice b c).0 ∙ reduced_basic s S.choice b c;
-        low = low;
-        high = high;
+        low_price = low;
+        high_price = high;
       }

@@ -14,9 +14,9 @@ use Rattle.fraction_theory.proofs.OrderLaws.{≤ℚ-or-<ℚ, <ℚ-≤ℚ, by_le1
 use Rattle.linear_system.specs.Systems.{System, MeetsRows, objective}
 use Rattle.linear_system.specs.Choices.{basics, others, OneExchange, at_bound}
 use Rattle.linear_system.proofs.ChoiceLaws.{others_are, is_other, is_basic, others_distinct}
-use Rattle.simplex_theory.specs.States.{State, Posed}
-use Rattle.simplex_theory.specs.Steps.{signed, size, Helps, Step, passed, way}
-use Rattle.simplex_theory.proofs.Signs.{nonpositive, neg_at_most, neg_at_least, signed-both, times-signed, signed-minus, size_signed, size_above, size_below}
+use Rattle.simplex_theory.specs.States.{State, IsPosed}
+use Rattle.simplex_theory.specs.Steps.{signed, abs_ℚ, Helps, IsStep, violated_bound, displacement}
+use Rattle.simplex_theory.proofs.Signs.{nonpositive, neg_at_most, neg_at_least, signed-both, times-signed, signed-minus, abs_signed, abs_above, abs_below}
 use Rattle.simplex_theory.proofs.NameSums.{sum_by-change}
 use Rattle.simplex_theory.proofs.Stretches.{by_answer}
 use Rattle.simplex_theory.proofs.Exchanges.{leaving_basic, leaving_other, entering_other, entering_basic, other_not_entering, other_before, basic_before, pivot_inverse, pivot_row}
@@ -30,12 +30,12 @@ ratio_keeps t x y d hx ht hd ratio = elim (≤ℚ-or-<ℚ y (whole (pos 0))) [
 ]
 
 -- An other variable's reduced price, by the bound at which it stands, is at most 0.
-pub price_sign : (s : System) (S : State) → Posed s S → (w : ℕ) → Contains (others s S.choice) w → s.low w <ℚ s.high w → signed (S.choice.high w) (S.reduced w) ≤ℚ whole (pos 0)
+pub price_sign : (s : System) (S : State) → IsPosed s S → (w : ℕ) → Contains (others s S.choice) w → s.low w <ℚ s.high w → signed (S.choice.high w) (S.reduced w) ≤ℚ whole (pos 0)
 price_sign s S posed w c free = by_answer (S.choice.high w)
-    (λ e. subst (λ (f : Bool). signed f (S.reduced w) ≤ℚ whole (pos 0)) (sym e) (neg_at_most (S.reduced w) (posed.high w c free e)))
-    (λ e. subst (λ (f : Bool). signed f (S.reduced w) ≤ℚ whole (pos 0)) (sym e) (posed.low w c free e))
+    (λ e. subst (λ (f : Bool). signed f (S.reduced w) ≤ℚ whole (pos 0)) (sym e) (neg_at_most (S.reduced w) (posed.high_price w c free e)))
+    (λ e. subst (λ (f : Bool). signed f (S.reduced w) ≤ℚ whole (pos 0)) (sym e) (posed.low_price w c free e))
 
-module _ (s : System) (S T : State) (v k : ℕ) (above : Bool) (posed : Posed s S) (step : Step s S T v k above) where
+module _ (s : System) (S T : State) (v k : ℕ) (above : Bool) (posed : IsPosed s S) (step : IsStep s S T v k above) where
   pub exchange : OneExchange s S.choice T.choice v k
   exchange = step.exchanged.exchange
 
@@ -48,7 +48,7 @@ module _ (s : System) (S T : State) (v k : ℕ) (above : Bool) (posed : Posed s 
 
   -- the new point is one of the new table
   pub step_meets : MeetsRows s T.value
-  unfolding way
+  unfolding displacement
   step_meets = step.exchanged.choice.to_rows T.value (record {
     basic = λ b c.
         let e = T.choice.entry b in
@@ -58,14 +58,14 @@ module _ (s : System) (S T : State) (v k : ℕ) (above : Bool) (posed : Posed s 
         (λ w d n. ap (λ t. e w *ℚ t) (step.moved.stay w d n)) in
         let before : S.value b ≡ sum_by old (others s T.choice) = (step.exchanged.choice.to_table S.value posed.meets).basic b c in
         step.moved.basic b c
-        ∙ ap (λ t. t +ℚ e v *ℚ (passed s v above -ℚ S.value v)) before
-        ∙ by_ring1 ring_ℚ (sum_by new (others s T.choice) ∷ sum_by old (others s T.choice) ∷ e v ∷ S.value v ∷ passed s v above ∷ [])
+        ∙ ap (λ t. t +ℚ e v *ℚ (violated_bound s v above -ℚ S.value v)) before
+        ∙ by_ring1 ring_ℚ (sum_by new (others s T.choice) ∷ sum_by old (others s T.choice) ∷ e v ∷ S.value v ∷ violated_bound s v above ∷ [])
         (at 1 ⊕ at 2 ⊗ (at 4 ⊕ pneg (at 3))) (at 0) (pneg pone) (at 0 ⊕ at 2 ⊗ at 3) (at 1 ⊕ at 2 ⊗ at 4)
         (sums ∙ ap (λ t. sum_by old (others s T.choice) +ℚ e v *ℚ t) step.moved.leaving) refl;
   })
 
   step_stands : (w : ℕ) → Contains (others s T.choice) w → T.value w ≡ at_bound s T.choice w
-  unfolding at_bound passed
+  unfolding at_bound violated_bound
   step_stands w c = elim (same_or_not w v) [
     | inl e ↦ ap T.value e ∙ step.moved.leaving ∙ ap (λ (f : Bool). if f then s.high v else s.low v) (sym step.exchanged.flag) ∙ ap (λ u. if T.choice.high u then s.high u else s.low u) (sym e)
     | inr n ↦
@@ -149,10 +149,10 @@ module _ (s : System) (S T : State) (v k : ℕ) (above : Bool) (posed : Posed s 
       let f = S.choice.high w in
       let g = S.choice.high k in
       let e = signed f (signed above (S.choice.entry v w)) in
-      let kept : size (S.choice.entry v w) ≡ e = sym (size_signed above (S.choice.entry v w)) ∙ sym (size_signed f (signed above (S.choice.entry v w))) ∙ size_above e (<ℚ-≤ℚ (whole (pos 0)) e helps.towards) in
-      let kept_k : size (S.choice.entry v k) ≡ help = sym (size_signed above (S.choice.entry v k)) ∙ sym (size_signed g (signed above (S.choice.entry v k))) ∙ size_above help (<ℚ-≤ℚ (whole (pos 0)) help step.enters.helps.towards) in
-      let price : size (S.reduced w) ≡ neg_ℚ (signed f (S.reduced w)) = sym (size_signed f (S.reduced w)) ∙ size_below (signed f (S.reduced w)) (price_sign s S posed w helps.other helps.free) in
-      let price_k : size (S.reduced k) ≡ neg_ℚ (rise *ℚ help) = sym (size_signed g (S.reduced k)) ∙ size_below (signed g (S.reduced k)) (price_sign s S posed k step.enters.helps.other step.enters.helps.free) ∙ ap neg_ℚ (sym rise_by_help) in
+      let kept : abs_ℚ (S.choice.entry v w) ≡ e = sym (abs_signed above (S.choice.entry v w)) ∙ sym (abs_signed f (signed above (S.choice.entry v w))) ∙ abs_above e (<ℚ-≤ℚ (whole (pos 0)) e helps.towards) in
+      let kept_k : abs_ℚ (S.choice.entry v k) ≡ help = sym (abs_signed above (S.choice.entry v k)) ∙ sym (abs_signed g (signed above (S.choice.entry v k))) ∙ abs_above help (<ℚ-≤ℚ (whole (pos 0)) help step.enters.helps.towards) in
+      let price : abs_ℚ (S.reduced w) ≡ neg_ℚ (signed f (S.reduced w)) = sym (abs_signed f (S.reduced w)) ∙ abs_below (signed f (S.reduced w)) (price_sign s S posed w helps.other helps.free) in
+      let price_k : abs_ℚ (S.reduced k) ≡ neg_ℚ (rise *ℚ help) = sym (abs_signed g (S.reduced k)) ∙ abs_below (signed g (S.reduced k)) (price_sign s S posed k step.enters.helps.other step.enters.helps.free) ∙ ap neg_ℚ (sym rise_by_help) in
       subst₂ ◌≤ℚ◌ (ap₂ ◌*ℚ◌ price_k kept) (ap₂ ◌*ℚ◌ price kept_k) (step.enters.ratio w helps)
 
   staying_sign : (w : ℕ) → Contains (others s T.choice) w → w ≢ v → s.low w <ℚ s.high w → signed (T.choice.high w) (T.reduced w) ≤ℚ whole (pos 0)
@@ -186,7 +186,7 @@ module _ (s : System) (S T : State) (v k : ℕ) (above : Bool) (posed : Posed s 
   ]
 
   -- a step keeps a state posed
-  pub step_posed : Posed s T
+  pub step_posed : IsPosed s T
   step_posed = record {
     system = posed.system;
     bounds = posed.bounds;
@@ -195,6 +195,6 @@ module _ (s : System) (S T : State) (v k : ℕ) (above : Bool) (posed : Posed s 
     meets = step_meets;
     prices = step_prices;
     unpriced = step.moved.unpriced;
-    low = λ w c free e. subst (λ (f : Bool). signed f (T.reduced w) ≤ℚ whole (pos 0)) e (new_sign w c free);
-    high = λ w c free e. neg_at_least (T.reduced w) (subst (λ (f : Bool). signed f (T.reduced w) ≤ℚ whole (pos 0)) e (new_sign w c free));
+    low_price = λ w c free e. subst (λ (f : Bool). signed f (T.reduced w) ≤ℚ whole (pos 0)) e (new_sign w c free);
+    high_price = λ w c free e. neg_at_least (T.reduced w) (subst (λ (f : Bool). signed f (T.reduced w) ≤ℚ whole (pos 0)) e (new_sign w c free));
   }

@@ -10,7 +10,7 @@ use Rattle.fraction_theory.proofs.Ring.{by_ring, by_ring1, at, pnil, pneg, pone,
 use Rattle.fraction_theory.proofs.FieldLaws.{ring_ℚ}
 use Rattle.fraction_theory.proofs.SignLaws.{sign_of_is, IsSign}
 use Rattle.fraction_theory.proofs.OrderLaws.{by_le1, NonNeg_to, NonNeg-one, not-≤ℚ, ≤ℚ-or-<ℚ, <ℚ-≤ℚ, <ℚ-not-≤ℚ, *ℚ-≤ℚ, *ℚ-≤ℚ_neg, *ℚ-<ℚ, ≤ℚ_refl, le_to}
-use Rattle.simplex_theory.specs.Steps.{signed, size_by, size}
+use Rattle.simplex_theory.specs.Steps.{signed, abs_by, abs_ℚ}
 
 -- what is not above 0 is at most 0
 pub not_above : (x : Fraction) → ¬ (whole (pos 0) <ℚ x) → x ≤ℚ whole (pos 0)
@@ -69,48 +69,48 @@ signed-nil true x e = by_ring1 ring_ℚ (x ∷ []) (at 0) pnil (pneg pone) (pneg
 signed-nil false x e = e
 
 -- a number at or above 0 is its own absolute value
-pub size_above : (x : Fraction) → whole (pos 0) ≤ℚ x → size x ≡ x
-unfolding size
-size_above x h = by_sign (sign_of x) (sign_of_is x (sign_of x) refl)
+pub abs_above : (x : Fraction) → whole (pos 0) ≤ℚ x → abs_ℚ x ≡ x
+unfolding abs_ℚ
+abs_above x h = by_sign (sign_of x) (sign_of_is x (sign_of x) refl)
   where
-    by_sign : (s : Sign) → IsSign s x → size_by s x ≡ x
+    by_sign : (s : Sign) → IsSign s x → abs_by s x ≡ x
     by_sign Below p = absurd (<ℚ-not-≤ℚ x (whole (pos 0)) p h)
     by_sign Zero p = refl
     by_sign Above p = refl
 
 -- the absolute value of a number at or below 0 is its opposite
-pub size_below : (x : Fraction) → x ≤ℚ whole (pos 0) → size x ≡ neg_ℚ x
-unfolding size
-size_below x h = by_sign (sign_of x) (sign_of_is x (sign_of x) refl)
+pub abs_below : (x : Fraction) → x ≤ℚ whole (pos 0) → abs_ℚ x ≡ neg_ℚ x
+unfolding abs_ℚ
+abs_below x h = by_sign (sign_of x) (sign_of_is x (sign_of x) refl)
   where
-    by_sign : (s : Sign) → IsSign s x → size_by s x ≡ neg_ℚ x
+    by_sign : (s : Sign) → IsSign s x → abs_by s x ≡ neg_ℚ x
     by_sign Below p = refl
     by_sign Zero p = p ∙ by_ring1 ring_ℚ (x ∷ []) pnil (pneg (at 0)) pone (at 0) pnil p refl
     by_sign Above p = absurd (<ℚ-not-≤ℚ (whole (pos 0)) x p h)
 
-size_neg : (x : Fraction) → size (neg_ℚ x) ≡ size x
-size_neg x = elim (≤ℚ-or-<ℚ x (whole (pos 0))) [
-  | inl p ↦ size_above (neg_ℚ x) (NonNeg_to (neg_ℚ x) (nonpositive x p)) ∙ sym (size_below x p)
-  | inr p ↦ size_below (neg_ℚ x) (neg_at_most x (<ℚ-≤ℚ (whole (pos 0)) x p)) ∙ by_ring ring_ℚ (x ∷ []) (pneg (pneg (at 0))) (at 0) refl ∙ sym (size_above x (<ℚ-≤ℚ (whole (pos 0)) x p))
+abs_neg : (x : Fraction) → abs_ℚ (neg_ℚ x) ≡ abs_ℚ x
+abs_neg x = elim (≤ℚ-or-<ℚ x (whole (pos 0))) [
+  | inl p ↦ abs_above (neg_ℚ x) (NonNeg_to (neg_ℚ x) (nonpositive x p)) ∙ sym (abs_below x p)
+  | inr p ↦ abs_below (neg_ℚ x) (neg_at_most x (<ℚ-≤ℚ (whole (pos 0)) x p)) ∙ by_ring ring_ℚ (x ∷ []) (pneg (pneg (at 0))) (at 0) refl ∙ sym (abs_above x (<ℚ-≤ℚ (whole (pos 0)) x p))
 ]
 
 -- a sign changes no absolute value
-pub size_signed : (a : Bool) (x : Fraction) → size (signed a x) ≡ size x
-size_signed true x = size_neg x
-size_signed false x = refl
+pub abs_signed : (a : Bool) (x : Fraction) → abs_ℚ (signed a x) ≡ abs_ℚ x
+abs_signed true x = abs_neg x
+abs_signed false x = refl
 
-pub size_nil : size (whole (pos 0)) ≡ whole (pos 0)
-size_nil = size_above (whole (pos 0)) (≤ℚ_refl (whole (pos 0)))
+pub abs_nil : abs_ℚ (whole (pos 0)) ≡ whole (pos 0)
+abs_nil = abs_above (whole (pos 0)) (≤ℚ_refl (whole (pos 0)))
 
 -- Where x, taken by the bound at which f says that a variable stands, is not above 0, x times the variable is greatest there.
 pub greatest_at_bound : (f : Bool) (x low high u : Fraction) → ¬ (whole (pos 0) <ℚ signed f x) → low ≤ℚ u → u ≤ℚ high → (x *ℚ u) ≤ℚ (x *ℚ (if f then high else low))
 greatest_at_bound true x low high u n p q = *ℚ-≤ℚ x u high (neg_nonpositive x (not_above (neg_ℚ x) n)) q
 greatest_at_bound false x low high u n p q = *ℚ-≤ℚ_neg x low u (nonpositive x (not_above x n)) p
 
--- where it is above 0, x times the variable is lower past that bound
-pub lower_past_bound : (f : Bool) (x low high u : Fraction) → whole (pos 0) <ℚ signed f x → (f ≡ true → high <ℚ u) → (f ≡ false → u <ℚ low) → (x *ℚ u) <ℚ (x *ℚ (if f then high else low))
-lower_past_bound true x low high u h p q = subst₂ ◌<ℚ◌
+-- Where it is above 0, x times the variable is lower beyond that bound.
+pub lower_beyond_bound : (f : Bool) (x low high u : Fraction) → whole (pos 0) <ℚ signed f x → (f ≡ true → high <ℚ u) → (f ≡ false → u <ℚ low) → (x *ℚ u) <ℚ (x *ℚ (if f then high else low))
+lower_beyond_bound true x low high u h p q = subst₂ ◌<ℚ◌
     (by_ring ring_ℚ (x ∷ u ∷ []) (pneg (pneg (at 0) ⊗ at 1)) (at 0 ⊗ at 1) refl)
     (by_ring ring_ℚ (x ∷ high ∷ []) (pneg (pneg (at 0) ⊗ at 1)) (at 0 ⊗ at 1) refl)
     (neg_above (neg_ℚ x *ℚ high) (neg_ℚ x *ℚ u) (*ℚ-<ℚ (neg_ℚ x) high u h (p refl)))
-lower_past_bound false x low high u h p q = *ℚ-<ℚ x u low h (q refl)
+lower_beyond_bound false x low high u h p q = *ℚ-<ℚ x u low h (q refl)

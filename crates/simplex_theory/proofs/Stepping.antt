@@ -11,12 +11,12 @@ use Rattle.linear_system.specs.Choices.{Choice, basics, others, IsChoice, OneExc
 use Rattle.linear_system.specs.Exchanges.{exchanged}
 use Rattle.linear_system.proofs.ChoiceLaws.{others_are, basics_are}
 use Rattle.linear_system.proofs.ExchangeLaws.{exchanged_is, exchanged_once}
-use Rattle.simplex_theory.specs.States.{State, Posed}
-use Rattle.simplex_theory.specs.Steps.{size, Leaves, Enters, Step, passed, way}
+use Rattle.simplex_theory.specs.States.{State, IsPosed}
+use Rattle.simplex_theory.specs.Steps.{abs_ℚ, Leaves, Enters, IsStep, violated_bound, displacement}
 use Rattle.simplex_theory.specs.Stepped.{stepped, stepped_choice}
-use Rattle.simplex_theory.proofs.Signs.{size_nil}
+use Rattle.simplex_theory.proofs.Signs.{abs_nil}
 use Rattle.simplex_theory.proofs.Stretches.{two_answers}
-use Rattle.simplex_theory.proofs.LeastRatio.{help_size}
+use Rattle.simplex_theory.proofs.LeastRatio.{help_above}
 use Rattle.simplex_theory.proofs.Exchanges.{other_not_leaving}
 
 -- a choice stays one whatever bounds its others stand at
@@ -27,9 +27,9 @@ choice_at_bounds s h high c = record {
   to_rows = λ v m. c.to_rows v (record { basic = m.basic });
 }
 
-module _ (s : System) (S : State) (v k : ℕ) (above : Bool) (posed : Posed s S) (leaves : Leaves s S v above) (enters : Enters s S v above k) where
+module _ (s : System) (S : State) (v k : ℕ) (above : Bool) (posed : IsPosed s S) (leaves : Leaves s S v above) (enters : Enters s S v above k) where
   entry_not_nil : S.choice.entry v k ≢ whole (pos 0)
-  entry_not_nil e = <ℚ_irrefl (whole (pos 0)) (subst (λ t. whole (pos 0) <ℚ t) (ap size e ∙ size_nil) (help_size s S v above k enters.helps))
+  entry_not_nil e = <ℚ_irrefl (whole (pos 0)) (subst (λ t. whole (pos 0) <ℚ t) (ap abs_ℚ e ∙ abs_nil) (help_above s S v above k enters.helps))
 
   T : State
   T = stepped s S v k above
@@ -54,33 +54,33 @@ module _ (s : System) (S : State) (v k : ℕ) (above : Bool) (posed : Posed s S)
 
   -- the values but v's
   new_value : ℕ → Fraction
-  new_value w = if T.choice.basic w then S.value w +ℚ T.choice.entry w v *ℚ way s S v above else S.value w
+  new_value w = if T.choice.basic w then S.value w +ℚ T.choice.entry w v *ℚ displacement s S v above else S.value w
 
-  value_leaving : T.value v ≡ passed s v above
+  value_leaving : T.value v ≡ violated_bound s v above
   unfolding T stepped stepped_choice new_value
-  value_leaving = put_at-here v (passed s v above) new_value v refl
+  value_leaving = put_at-here v (violated_bound s v above) new_value v refl
 
   value_elsewhere : (w : ℕ) → w ≢ v → T.value w ≡ new_value w
   unfolding T stepped stepped_choice new_value
-  value_elsewhere w n = put_at-elsewhere v (passed s v above) new_value w n
+  value_elsewhere w n = put_at-elsewhere v (violated_bound s v above) new_value w n
 
-  value_basic : (b : ℕ) → Contains (basics s T.choice) b → T.value b ≡ S.value b +ℚ T.choice.entry b v *ℚ way s S v above
+  value_basic : (b : ℕ) → Contains (basics s T.choice) b → T.value b ≡ S.value b +ℚ T.choice.entry b v *ℚ displacement s S v above
   unfolding new_value
   value_basic b c =
       let basic = (basics_are s T.choice b c).1 in
       value_elsewhere b (λ e. two_answers (T.choice.basic v) (ap T.choice.basic (sym e) ∙ basic) exchange.leaves.1)
-      ∙ ap (λ (t : Bool). if t then S.value b +ℚ T.choice.entry b v *ℚ way s S v above else S.value b) basic
+      ∙ ap (λ (t : Bool). if t then S.value b +ℚ T.choice.entry b v *ℚ displacement s S v above else S.value b) basic
 
   value_other : (w : ℕ) → Contains (others s T.choice) w → w ≢ v → T.value w ≡ S.value w
   unfolding new_value
-  value_other w c n = value_elsewhere w n ∙ ap (λ (t : Bool). if t then S.value w +ℚ T.choice.entry w v *ℚ way s S v above else S.value w) (others_are s T.choice w c).1
+  value_other w c n = value_elsewhere w n ∙ ap (λ (t : Bool). if t then S.value w +ℚ T.choice.entry w v *ℚ displacement s S v above else S.value w) (others_are s T.choice w c).1
 
   price_is : (w : ℕ) → T.reduced w ≡ (if T.choice.basic w then whole (pos 0) else S.reduced w +ℚ S.reduced k *ℚ T.choice.entry k w)
   unfolding T stepped
   price_is w = refl
 
   -- From a posed state in which v leaves and k enters there is a step.
-  pub stepped_is : Step s S (stepped s S v k above) v k above
+  pub stepped_is : IsStep s S (stepped s S v k above) v k above
   unfolding T
   stepped_is = record {
     leaves = leaves;

@@ -84,7 +84,7 @@ module _ (r : Stretch) where
       let start : At 0 w f = (none, r.back_high w named none ∙ end.1) in
       subst (λ (k : ℕ). At k w f) (let t : 0 + j ≡ j = Prim.omega arith in t) (forth w f named never 0 j (Prim.omega arith) start)
 
-  -- backwards: what is no basic variable left on the way, for the bound where it stands, or stood there before
+  -- backwards: what is no basic variable left on the displacement, for the bound where it stands, or stood there before
   back_to : (w : ℕ) (f : Bool) → Contains r.names w → (a d : ℕ) → a + d ≤ r.steps → At (a + d) w f → Left w f ⊎ At a w f
   unfolding At Left
   back_to w f named a zero h at = inr (subst (λ (k : ℕ). At k w f) (let t : a + 0 ≡ a = Prim.omega arith in t) at)

@@ -16,21 +16,21 @@ pub record State : Type 0 where
   pub value : ℕ → Fraction
   pub reduced : ℕ → Fraction
 
--- v keeps to the bounds of w
+-- The point v keeps the bounds of the variable w.
 pub record IsWithin (s : System) (v : ℕ → Fraction) (w : ℕ) : Type 0 where
   pub low : s.low w ≤ℚ v w
   pub high : v w ≤ℚ s.high w
 
--- v is past a bound of w: above the high one where `above` says so, and else below the low one
-abbrev pub IsPast : System → (ℕ → Fraction) → Bool → ℕ → Type 0
-IsPast s v true w = s.high w <ℚ v w
-IsPast s v false w = v w <ℚ s.low w
+-- The point v violates a bound of the variable w: the high one where `above` says so, and else the low one.
+abbrev pub Violates : System → (ℕ → Fraction) → Bool → ℕ → Type 0
+Violates s v true w = s.high w <ℚ v w
+Violates s v false w = v w <ℚ s.low w
 
 -- The other variables stand at their bounds, the point meets the rows, the reduced prices are what the objective rises by
 -- at any point of the rows, and each other variable stands at the bound that its reduced price asks for: one above 0 at the
 -- high bound, one below 0 at the low bound. Where the bounds of a variable are equal nothing is asked of its price. Nothing
--- is asked of the values of the basic variables: these may be past their bounds.
-pub record Posed (s : System) (S : State) : Type 0 where
+-- is asked of the values of the basic variables: these may violate their bounds.
+pub record IsPosed (s : System) (S : State) : Type 0 where
   pub system : IsSystem s
   pub bounds : (w : ℕ) → Contains s.variables w → s.low w ≤ℚ s.high w
   pub choice : IsChoice s S.choice
@@ -38,8 +38,8 @@ pub record Posed (s : System) (S : State) : Type 0 where
   pub meets : MeetsRows s S.value
   pub prices : (v : ℕ → Fraction) → MeetsRows s v → objective s v ≡ sum_by (λ w. S.reduced w *ℚ v w) (others s S.choice)
   pub unpriced : (b : ℕ) → Contains (basics s S.choice) b → S.reduced b ≡ whole (pos 0)
-  pub low : (w : ℕ) → Contains (others s S.choice) w → s.low w <ℚ s.high w → S.choice.high w ≡ false → S.reduced w ≤ℚ whole (pos 0)
-  pub high : (w : ℕ) → Contains (others s S.choice) w → s.low w <ℚ s.high w → S.choice.high w ≡ true → whole (pos 0) ≤ℚ S.reduced w
+  pub low_price : (w : ℕ) → Contains (others s S.choice) w → s.low w <ℚ s.high w → S.choice.high w ≡ false → S.reduced w ≤ℚ whole (pos 0)
+  pub high_price : (w : ℕ) → Contains (others s S.choice) w → s.low w <ℚ s.high w → S.choice.high w ≡ true → whole (pos 0) ≤ℚ S.reduced w
 
 -- Of the points of the rows within the bounds none is worth more.
 pub record IsBest (s : System) (v : ℕ → Fraction) : Type 0 where

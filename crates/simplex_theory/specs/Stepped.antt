@@ -5,9 +5,9 @@ use Rattle.linear_system.specs.Systems.{System}
 use Rattle.linear_system.specs.Choices.{Choice}
 use Rattle.linear_system.specs.Exchanges.{exchanged}
 use Rattle.simplex_theory.specs.States.{State}
-use Rattle.simplex_theory.specs.Steps.{passed, way}
+use Rattle.simplex_theory.specs.Steps.{violated_bound, displacement}
 
--- the choice after v has left for the bound that it was past, and k has entered
+-- the choice after v has left for the bound that it violated, and k has entered
 unfoldable pub stepped_choice : Choice → ℕ → ℕ → Bool → Choice
 stepped_choice h v k above = record (exchanged h v k) { high = λ w. if w == v then above else h.high w }
 
@@ -16,8 +16,8 @@ unfoldable pub stepped : System → State → ℕ → ℕ → Bool → State
 stepped s S v k above = record {
   choice = stepped_choice S.choice v k above;
   value = λ w.
-      if w == v then passed s v above
-      else if (stepped_choice S.choice v k above).basic w then S.value w +ℚ (stepped_choice S.choice v k above).entry w v *ℚ way s S v above
+      if w == v then violated_bound s v above
+      else if (stepped_choice S.choice v k above).basic w then S.value w +ℚ (stepped_choice S.choice v k above).entry w v *ℚ displacement s S v above
       else S.value w;
   reduced = λ w.
       if (stepped_choice S.choice v k above).basic w then whole (pos 0)
