@@ -5,8 +5,8 @@ use Rattle.std.specs.List.{AllByRecursion}
 use Rattle.std.proofs.Common.{zero, suc, arith, sym, ◌∙◌, append_assoc}
 use Rattle.std.proofs.lemmas.List.{append_cancel_left}
 use Rattle.fraction_theory.specs.Fraction.{Fraction}
-use Rattle.exact_fraction.specs.Written.{number_text, last_digits, trimmed_places, all_places, rest_text, units_text, sign_text, written}
-use Rattle.exact_fraction.proofs.Apart.{written_apart}
+use Rattle.exact_fraction.specs.Written.{number_text, last_digits, trimmed_places, all_places, rest_text, units_text, sign_text, written, parts_text}
+use Rattle.exact_fraction.proofs.Apart.{written_apart, parts_apart}
 
 -- bytes above the blank
 abbrev AllAbove : List ℕ → Type 0
@@ -63,7 +63,14 @@ AllAbove-written k x =
     let r : ℕ = unsigned_abs x.num % x.den in
     AllAbove-append (sign_text x.num) (units_text k q r x.den) (AllAbove-sign_text x.num) (AllAbove-units_text k q r x.den)
 
-head_of : (c d : ℕ) (cs ds : List ℕ) → c ∷ cs ≡ d ∷ ds → c ≡ d
+AllAbove-parts_text : (x : Fraction) → AllAbove (parts_text x)
+unfolding parts_text
+AllAbove-parts_text x =
+    AllAbove-append (sign_text x.num ++ number_text (unsigned_abs x.num)) (47 ∷ number_text x.den)
+    (AllAbove-append (sign_text x.num) (number_text (unsigned_abs x.num)) (AllAbove-sign_text x.num) (AllAbove-number_text (unsigned_abs x.num)))
+    (Prim.omega arith, AllAbove-number_text x.den)
+
+pub head_of : (c d : ℕ) (cs ds : List ℕ) → c ∷ cs ≡ d ∷ ds → c ≡ d
 head_of c d cs ds e = Prim.cc
 
 tail_of : (c d : ℕ) (cs ds : List ℕ) → c ∷ cs ≡ d ∷ ds → cs ≡ ds
@@ -108,3 +115,10 @@ two_apart front k l c middle x y w z us vs h e =
   where
     open_line : (xs ys us : List ℕ) → (front ++ xs ++ c ∷ middle ++ ys ++ 10 ∷ []) ++ us ≡ front ++ (xs ++ c ∷ (middle ++ (ys ++ 10 ∷ us)))
     open_line xs ys us = Prim.simp append_assoc
+
+-- two fractions as parts, with a blank between them, and the end of the line
+pub parts_line_apart : (x y w z : Fraction) → parts_text x ++ (32 ∷ (parts_text w ++ 10 ∷ [])) ≡ parts_text y ++ (32 ∷ (parts_text z ++ 10 ∷ [])) → (x ≡ y) × (w ≡ z)
+parts_line_apart x y w z e =
+    let first = cut 32 (parts_text x) (parts_text y) (parts_text w ++ 10 ∷ []) (parts_text z ++ 10 ∷ []) (Prim.omega arith) (AllAbove-parts_text x) (AllAbove-parts_text y) e in
+    let second = cut 10 (parts_text w) (parts_text z) [] [] (Prim.omega arith) (AllAbove-parts_text w) (AllAbove-parts_text z) first.1 in
+    (parts_apart x y first.0, parts_apart w z second.0)

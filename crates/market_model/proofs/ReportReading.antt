@@ -97,7 +97,7 @@ same_prices m a b p q e all =
     same_price (price_of a i) (price_of b i) (p.energy i d h ∙ e ∙ sym (q.energy i d (Prim.omega (arith, h, p.prices, q.prices))))
     (at_places (λ k. SamePrice (price_of a k) (price_of b k)) (length m.buses) i all (Prim.omega (arith, h, p.prices))))
 
-same_duals : (d e : Duals Fraction) → d.energy ≡ e.energy → d.limits ≡ e.limits → d ≡ e
+pub same_duals : (d e : Duals Fraction) → d.energy ≡ e.energy → d.limits ≡ e.limits → d ≡ e
 same_duals d e p q =
     let make : Fraction → List (Dual Fraction) → Duals Fraction = λ u v. record { energy = u; limits = v } in
     ap (λ u. make u d.limits) p ∙ ap (make e.energy) q

@@ -1,14 +1,26 @@
--- A right answer is one that its report tells whole.
-use Rattle.std.proofs.Common.{ap, ◌∙◌, arith}
-use Rattle.std.proofs.lemmas.List.{get_or_default}
+-- A right outcome is one that its report tells whole.
+use Rattle.std.specs.Prelude.{◌≡◌, ℕ, List, [], ◌∷◌, ◌++◌, codes, refl}
+use Rattle.std.specs.List.{flat_map}
+use Rattle.std.proofs.Common.{ap, sym, ◌∙◌, arith, append_assoc}
+use Rattle.std.proofs.lemmas.List.{get_or_default, append_cancel_left}
 use Rattle.fraction_theory.specs.Fraction.{Fraction}
+use Rattle.exact_fraction.specs.Written.{written, parts_text}
+use Rattle.exact_fraction.specs.declared.Op.{Op}
+use Rattle.exact_fraction.specs.declared.Op.TheVariants as op
+use Rattle.exact_fraction.specs.declared.Passed.{Passed}
 use Rattle.market_model.specs.declared.participants.Parts.{Parts}
 use Rattle.market_model.specs.declared.answered.Answer.{Answer}
+use Rattle.market_model.specs.declared.answered.Duals.{Duals}
+use Rattle.market_model.specs.declared.answered.Farkas.{Farkas}
+use Rattle.market_model.specs.declared.answered.Outcome.TheVariants as outcome
 use Rattle.market_model.specs.declared.answered.Price.{Price}
 use Rattle.market_model.specs.Dispatch.{zero}
+use Rattle.market_model.specs.Infeasibility.{IsFarkas}
 use Rattle.market_model.specs.Outcomes.{IsRight}
+use Rattle.market_model.specs.Reports.{head_text, cleared_text, limit_text, bound_text, plain_energy_text, infeasible_text, op_text, range_text}
 use Rattle.market_model.specs.ReportLaws.{FitsReport, RightReportsApart}
-use Rattle.market_model.proofs.ReportReading.{reports_apart}
+use Rattle.market_model.proofs.Amounts.{head_of, two_apart, parts_line_apart}
+use Rattle.market_model.proofs.ReportReading.{same_duals, reports_apart}
 
 fits_by_right : (m : Parts) (a : Answer Fraction) → IsRight m a → FitsReport m a
 fits_by_right m a right = record {
@@ -21,5 +33,76 @@ fits_by_right m a right = record {
   rents = right.no_rents;
 }
 
+-- ---- infeasible
+as_lines : (a b c n xs ys : List ℕ) → a ++ (b ++ xs ++ n) ++ (c ++ ys ++ n) ++ [] ≡ ((a ++ b) ++ xs ++ (n ++ c) ++ ys ++ n) ++ []
+as_lines a b c n xs ys = Prim.simp append_assoc
+
+told : (f : Farkas Fraction) → f.duals.limits ≡ []
+    → infeasible_text f ≡ (codes "infeasible\nbound " ++ written 9 f.bound ++ 10 ∷ codes "energy " ++ written 0 f.duals.energy ++ 10 ∷ []) ++ []
+unfolding infeasible_text bound_text plain_energy_text
+told f none =
+    ap (λ ls. codes "infeasible\n" ++ bound_text f.bound ++ plain_energy_text f.duals.energy ++ flat_map limit_text ls) none
+    ∙ as_lines (codes "infeasible\n") (codes "bound ") (codes "energy ") (codes "\n") (written 9 f.bound) (written 0 f.duals.energy)
+
+same_farkas : (f g : Farkas Fraction) → f.duals ≡ g.duals → f.bound ≡ g.bound → f ≡ g
+same_farkas f g p q =
+    let make : Duals Fraction → Fraction → Farkas Fraction = λ d b. record { duals = d; bound = b } in
+    ap (λ d. make d f.bound) p ∙ ap (make g.duals) q
+
+farkas_apart : (m : Parts) (f g : Farkas Fraction) → IsFarkas m f → IsFarkas m g → infeasible_text f ≡ infeasible_text g → f ≡ g
+farkas_apart m f g p q e =
+    let t = two_apart (codes "infeasible\nbound ") 9 0 10 (codes "energy ") f.bound g.bound f.duals.energy g.duals.energy [] [] (Prim.omega arith)
+    (sym (told f p.shows.no_limits) ∙ e ∙ told g q.shows.no_limits) in
+    same_farkas f g (same_duals f.duals g.duals t.1 (p.shows.no_limits ∙ sym q.shows.no_limits)) t.0
+
+-- ---- range
+same_passed : (p q : Passed Fraction) → p.op ≡ q.op → (p.left ≡ q.left) × (p.right ≡ q.right) → p ≡ q
+same_passed p q e f =
+    let make : Op → Fraction → Fraction → Passed Fraction = λ o l r. record { op = o; left = l; right = r } in
+    ap (λ o. make o p.left p.right) e ∙ ap (λ l. make q.op l p.right) f.0 ∙ ap (make q.op q.left) f.1
+
+in_order : (front xs b ys n : List ℕ) → front ++ xs ++ b ++ ys ++ n ≡ front ++ (xs ++ (b ++ (ys ++ n)))
+in_order front xs b ys n = Prim.simp append_assoc
+
+-- the line of an operation and its two sides
+abbrev line_of : Op → Fraction → Fraction → List ℕ
+line_of o a b = codes "range " ++ op_text o ++ parts_text a ++ codes " " ++ parts_text b ++ codes "\n"
+
+sides_apart : (o : Op) (a b c d : Fraction) → line_of o a b ≡ line_of o c d → (a ≡ c) × (b ≡ d)
+sides_apart o a b c d e =
+    parts_line_apart a c b d (append_cancel_left (codes "range " ++ op_text o) (parts_text a ++ (32 ∷ (parts_text b ++ 10 ∷ []))) (parts_text c ++ (32 ∷ (parts_text d ++ 10 ∷ [])))
+    (sym (in_order (codes "range " ++ op_text o) (parts_text a) (codes " ") (parts_text b) (codes "\n")) ∙ e ∙ in_order (codes "range " ++ op_text o) (parts_text c) (codes " ") (parts_text d) (codes "\n")))
+
+-- behind `range ` each operation begins with another letter
+after_word : (c d : ℕ) (us vs : List ℕ) → codes "range " ++ c ∷ us ≡ codes "range " ++ d ∷ vs → c ≡ d
+after_word c d us vs e = head_of c d us vs (append_cancel_left (codes "range ") (c ∷ us) (d ∷ vs) e)
+
+ops_apart : (o q : Op) (a b c d : Fraction) → line_of o a b ≡ line_of q c d → o ≡ q
+ops_apart op.Plus op.Plus a b c d e = refl
+ops_apart op.Plus op.Minus a b c d e = absurd (Prim.omega (arith, after_word 112 109 _ _ e))
+ops_apart op.Plus op.Times a b c d e = absurd (Prim.omega (arith, after_word 112 116 _ _ e))
+ops_apart op.Minus op.Plus a b c d e = absurd (Prim.omega (arith, after_word 109 112 _ _ e))
+ops_apart op.Minus op.Minus a b c d e = refl
+ops_apart op.Minus op.Times a b c d e = absurd (Prim.omega (arith, after_word 109 116 _ _ e))
+ops_apart op.Times op.Plus a b c d e = absurd (Prim.omega (arith, after_word 116 112 _ _ e))
+ops_apart op.Times op.Minus a b c d e = absurd (Prim.omega (arith, after_word 116 109 _ _ e))
+ops_apart op.Times op.Times a b c d e = refl
+
+passed_apart : (p q : Passed Fraction) → range_text p ≡ range_text q → p ≡ q
+unfolding range_text
+passed_apart p q e =
+    let same : p.op ≡ q.op = ops_apart p.op q.op p.left p.right q.left q.right e in
+    same_passed p q same (sides_apart q.op p.left p.right q.left q.right (ap (λ o. line_of o p.left p.right) (sym same) ∙ e))
+
+-- ---- all together: the first letter tells which of the three it is
 pub right_reports_apart : RightReportsApart
-right_reports_apart m a b right_a right_b same = reports_apart m a b (fits_by_right m a right_a) (fits_by_right m b right_b) same
+unfolding cleared_text head_text infeasible_text range_text
+right_reports_apart m (outcome.Cleared a) (outcome.Cleared b) p q e = ap outcome.Cleared (reports_apart m a b (fits_by_right m a p) (fits_by_right m b q) e)
+right_reports_apart m (outcome.Cleared a) (outcome.Infeasible g) p q e = absurd (Prim.omega (arith, head_of 99 105 _ _ e))
+right_reports_apart m (outcome.Cleared a) (outcome.Range s) p q e = absurd (Prim.omega (arith, head_of 99 114 _ _ e))
+right_reports_apart m (outcome.Infeasible f) (outcome.Cleared b) p q e = absurd (Prim.omega (arith, head_of 105 99 _ _ e))
+right_reports_apart m (outcome.Infeasible f) (outcome.Infeasible g) p q e = ap outcome.Infeasible (farkas_apart m f g p q e)
+right_reports_apart m (outcome.Infeasible f) (outcome.Range s) p q e = absurd (Prim.omega (arith, head_of 105 114 _ _ e))
+right_reports_apart m (outcome.Range r) (outcome.Cleared b) p q e = absurd (Prim.omega (arith, head_of 114 99 _ _ e))
+right_reports_apart m (outcome.Range r) (outcome.Infeasible g) p q e = absurd (Prim.omega (arith, head_of 114 105 _ _ e))
+right_reports_apart m (outcome.Range r) (outcome.Range s) p q e = ap outcome.Range (passed_apart r s e)

@@ -1,5 +1,5 @@
--- An answer has an entry for each part of its market.
-use Rattle.std.specs.Prelude.{◌≡◌, length}
+-- An answer has an entry for each part of its market, and no limit in it has duals or a rent.
+use Rattle.std.specs.Prelude.{◌≡◌, [], length}
 use Rattle.market_model.specs.declared.participants.Parts.{Parts}
 use Rattle.market_model.specs.declared.answered.Answer.{Answer}
 use Rattle.market_model.specs.declared.answered.Outcome.{Outcome}
@@ -10,6 +10,8 @@ pub record FitsMarket {N : Type 0} (market : Parts) (answer : Answer N) : Type 0
   pub prices : length answer.prices ≡ length market.buses
   pub units : length answer.money.units ≡ length market.units
   pub loads : length answer.money.loads ≡ length market.buses
+  pub no_limits : answer.duals.limits ≡ []
+  pub no_rents : answer.money.rents ≡ []
 
 -- an answer in an outcome does
 abbrev pub FitsOutcome : {N : Type 0} → Parts → Outcome N → Type 0

@@ -1,6 +1,6 @@
 -- Duals that show that no dispatch is feasible.
 -- Farkas: relations that no point meets have a combination that no point can meet. Here it bounds what a price of energy makes of
--- the balance and of the blocks: at a feasible dispatch that is at least 0.
+-- the balance: at a feasible dispatch that is 0, so a bound below 0 leaves none.
 use Rattle.std.specs.Prelude.{◌≡◌, ℕ, List, [], ◌∷◌, length, map}
 use Rattle.fraction_theory.specs.Fraction.{Fraction}
 use Rattle.fraction_theory.specs.Order.{◌<ℚ◌}

@@ -31,7 +31,8 @@ pub record IsRight (m : Parts) (a : Answer Fraction) : Type 0 where
   pub no_rents : a.money.rents ≡ []
   pub surplus : a.money.surplus ≡ surplus m (dispatch_in a) a.duals
 
--- a cleared market has a right answer, and an infeasible one duals that show it, with their bound
+-- a cleared market has a right answer, and an infeasible one duals that show it, with their bound; of two numbers that are too
+-- large together nothing is said yet
 abbrev pub IsRightOutcome : Parts → Outcome Fraction → Type 0
 IsRightOutcome m (outcome.Cleared a) = IsRight m a
 IsRightOutcome m (outcome.Infeasible f) = IsFarkas m f

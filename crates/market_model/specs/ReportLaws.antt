@@ -3,8 +3,9 @@ use Rattle.std.specs.Prelude.{◌≡◌, [], length, All}
 use Rattle.fraction_theory.specs.Fraction.{Fraction}
 use Rattle.market_model.specs.declared.participants.Parts.{Parts}
 use Rattle.market_model.specs.declared.answered.Answer.{Answer}
-use Rattle.market_model.specs.Outcomes.{IsRight}
-use Rattle.market_model.specs.Reports.{cleared_text}
+use Rattle.market_model.specs.declared.answered.Outcome.{Outcome}
+use Rattle.market_model.specs.Outcomes.{IsRightOutcome}
+use Rattle.market_model.specs.Reports.{cleared_text, report_text}
 
 -- an entry for each part of the market, no limits, and each bus price made from the one price of energy
 pub record FitsReport (m : Parts) (a : Answer Fraction) : Type 0 where
@@ -20,6 +21,6 @@ pub record FitsReport (m : Parts) (a : Answer Fraction) : Type 0 where
 abbrev pub ReportsApart : Type 0
 ReportsApart = (m : Parts) (a b : Answer Fraction) → FitsReport m a → FitsReport m b → cleared_text m a ≡ cleared_text m b → a ≡ b
 
--- two right answers to a market with one report are one
+-- two right outcomes of a market with one report are one
 abbrev pub RightReportsApart : Type 0
-RightReportsApart = (m : Parts) (a b : Answer Fraction) → IsRight m a → IsRight m b → cleared_text m a ≡ cleared_text m b → a ≡ b
+RightReportsApart = (m : Parts) (a b : Outcome Fraction) → IsRightOutcome m a → IsRightOutcome m b → report_text m a ≡ report_text m b → a ≡ b

@@ -22,7 +22,7 @@ pub fn report_has_one_reading()
     ensures { ReportsApart }
 {}
 
-/// Two right answers to a market with one report are one.
+/// Two right outcomes of a market with one report are one.
 pub fn right_report_has_one_reading()
     ensures { RightReportsApart }
 {}

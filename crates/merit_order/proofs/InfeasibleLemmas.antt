@@ -33,7 +33,7 @@ use Rattle.market_model.proofs.PlaceSums.{sum_by-places, sum_by-whole}
 use Rattle.market_model.proofs.MorePlaces.{places_more, total-filter_more}
 use Rattle.market_model.proofs.MarketSums.{fixed_part, injection-by_parts, demand-by_parts, balance-by_parts, raised_by-empty}
 use Rattle.market_model.proofs.WholeDispatch.{whole-<ℚ}
-use Rattle.merit_order.specs.Clearing.{weighing, unit_energy, bound_by}
+use Rattle.merit_order.specs.Clearing.{weighing, plain_energy, IsPlainPrice, bound_by}
 use Rattle.merit_order.specs.Filling.{demand_of, fixed_of, bought_of, on_side, IsReached}
 use Rattle.merit_order.proofs.ClearingLemmas.{needs, whole_minus}
 use Rattle.merit_order.proofs.ReachLemmas.{CannotFill, unreached}
@@ -105,7 +105,7 @@ unfolding sign_of whole
 sign_of-minus = refl
 
 -- what a block can make, times what it has
-weighs : (short : Bool) (side : Side) (q : Fraction) → part_above (signed side (whole (unit_energy short))) *ℚ q ≡ (if same_side side (weighing short) then q else zero)
+weighs : (short : Bool) (side : Side) (q : Fraction) → part_above (signed side (whole (plain_energy short))) *ℚ q ≡ (if same_side side (weighing short) then q else zero)
 weighs true Sell q = ap (λ s. where_above s (whole (pos 1)) *ℚ q) sign_of-one ∙ by_ring ring_ℚ (q ∷ []) (pone ⊗ at 0) (at 0) refl
 weighs true Buy q =
     ap (λ t. part_above t *ℚ q) (sym (whole-neg (pos 1))) ∙ ap (λ s. where_above s (whole (negsuc 0)) *ℚ q) sign_of-minus ∙ by_ring ring_ℚ (q ∷ []) (pnil ⊗ at 0) pnil refl
@@ -113,7 +113,7 @@ weighs false Sell q = ap (λ s. where_above s (whole (negsuc 0)) *ℚ q) sign_of
 weighs false Buy q =
     ap (λ t. part_above t *ℚ q) (sym (whole-neg (negsuc 0))) ∙ ap (λ s. where_above s (whole (pos 1)) *ℚ q) sign_of-one ∙ by_ring ring_ℚ (q ∷ []) (pone ⊗ at 0) (at 0) refl
 
-module _ (m : Parts) (d : Duals Fraction) (short : Bool) (energy : d.energy ≡ whole (unit_energy short)) where
+module _ (m : Parts) (d : Duals Fraction) (short : Bool) (energy : d.energy ≡ whole (plain_energy short)) where
   pub bound_is : farkas_bound m d ≡ bound_by m d.energy (weighing short)
   unfolding bus_price bound_by
   bound_is =
@@ -164,7 +164,7 @@ abbrev whole_bound : Parts → Bool → ℤ
 whole_bound m true = (int_sum fixed_of m.units -ℤ int_sum demand_of m.buses) +ℤ int_sum sold_of m.blocks
 whole_bound m false = (int_sum demand_of m.buses -ℤ int_sum fixed_of m.units) +ℤ int_sum bought_of m.blocks
 
-bound-whole : (m : Parts) (short : Bool) → IsMarket m → bound_by m (whole (unit_energy short)) (weighing short) ≡ whole (whole_bound m short)
+bound-whole : (m : Parts) (short : Bool) → IsMarket m → bound_by m (whole (plain_energy short)) (weighing short) ≡ whole (whole_bound m short)
 unfolding bound_by
 bound-whole m true h =
     let p : ℤ = int_sum fixed_of m.units -ℤ int_sum demand_of m.buses in
@@ -204,7 +204,7 @@ module _ (m : Parts) (h : IsMarket m) (left : ℤ) (is : left ≡ (int_sum deman
           Prim.omega (arith, ints, is, sold, bought, low, some)
 
   pub is_farkas : {N : Type 0} (value : N → Fraction) (f : Farkas N) (short : Bool) → (short ≡ true → pos 0 ≤ℤ left) → (short ≡ false → left <ℤ pos 0)
-      → value f.duals.energy ≡ whole (unit_energy short) → f.duals.limits ≡ [] → value f.bound ≡ farkas_bound m (duals_at value f.duals) → IsFarkas m (farkas_at value f)
+      → value f.duals.energy ≡ whole (plain_energy short) → f.duals.limits ≡ [] → value f.bound ≡ farkas_bound m (duals_at value f.duals) → IsFarkas m (farkas_at value f)
   is_farkas value f short s l energy limits bound = record {
     shows = record {
       no_limits = ap (map (dual_at value)) limits;
@@ -215,3 +215,7 @@ module _ (m : Parts) (h : IsMarket m) (left : ℤ) (is : left ≡ (int_sum deman
     };
     bound = bound;
   }
+
+pub is_plain : (short : Bool) (energy : Fraction) → energy ≡ whole (plain_energy short) → IsPlainPrice energy
+is_plain true energy is = inl is
+is_plain false energy is = inr is

@@ -1,6 +1,6 @@
 -- What clearing a market answers.
-use Rattle.std.specs.Prelude.{ℤ, pos, negsuc, Bool, true, false, List, length, map, if◌then◌else◌}
-use Rattle.fraction_theory.specs.Fraction.{Fraction, ◌+ℚ◌, ◌*ℚ◌}
+use Rattle.std.specs.Prelude.{◌≡◌, ◌⊎◌, ℤ, pos, negsuc, Bool, true, false, List, length, map, if◌then◌else◌}
+use Rattle.fraction_theory.specs.Fraction.{Fraction, whole, ◌+ℚ◌, ◌*ℚ◌}
 use Rattle.fraction_theory.specs.Sums.{sum_by}
 use Rattle.market_model.specs.declared.participants.Parts.{Parts}
 use Rattle.market_model.specs.declared.participants.Side.{Side}
@@ -18,9 +18,9 @@ dispatch_of value xs = record { blocks = map value xs }
 
 -- the price of energy that shows that nothing is feasible: 1 where the blocks fall short of the demand, and -1 where what is put
 -- out passes it
-abbrev pub unit_energy : Bool → ℤ
-unit_energy true = pos 1
-unit_energy false = negsuc 0
+abbrev pub plain_energy : Bool → ℤ
+plain_energy true = pos 1
+plain_energy false = negsuc 0
 
 -- the side whose blocks that price makes something of
 abbrev pub weighing : Bool → Side
@@ -31,8 +31,13 @@ weighing false = Buy
 unfoldable pub bound_by : Parts → Fraction → Side → Fraction
 bound_by m energy side = energy *ℚ balance m (empty m) +ℚ sum_by (λ j. if same_side (block_at m j).side side then quantity m j else zero) (places (length m.blocks))
 
--- why a market was not cleared is so: where it is infeasible, the duals show that
+-- a price of energy that is a plain 1 or -1
+abbrev pub IsPlainPrice : Fraction → Type 0
+IsPlainPrice energy = (energy ≡ whole (pos 1)) ⊎ (energy ≡ whole (negsuc 0))
+
+-- why a market was not cleared is so: where it is infeasible, the duals show that; of two numbers that are too large together
+-- nothing is said yet
 abbrev pub IsCauseOf : {N : Type 0} → (N → Fraction) → Parts → ClearFault N → Type 0
-IsCauseOf value m (why.Infeasible farkas) = IsFarkas m (farkas_at value farkas)
+IsCauseOf value m (why.Infeasible farkas) = IsFarkas m (farkas_at value farkas) × IsPlainPrice (value farkas.duals.energy)
 IsCauseOf value m (why.Range passed) = Unit {0}
 IsCauseOf value m why.Memory = Unit {0}

@@ -7,7 +7,7 @@ ghost use Rattle.market_model.specs.Dispatch.{zero, empty, injection as injectio
 ghost use Rattle.market_model.specs.Infeasibility.{farkas_bound};
 ghost use Rattle.market_model.specs.Reports.{same_side};
 ghost use Rattle.market_model.specs.Valued.{duals_at};
-ghost use Rattle.merit_order.specs.Clearing.{unit_energy, weighing, bound_by};
+ghost use Rattle.merit_order.specs.Clearing.{plain_energy, weighing, bound_by};
 
 use crate::amounts::datum;
 use crate::clearing::duals;
@@ -98,7 +98,7 @@ fn bound<N: Exact>(market: &Market, energy: N, side: Side) -> Result<N, Passed<N
 }
 
 fn energy_of_one<N: Exact>(short: bool) -> N
-    ensures { N.value result ≡ whole (unit_energy short) }
+    ensures { N.value result ≡ whole (plain_energy short) }
 {
     if short { datum(1) } else { datum(-1) }
 }
@@ -113,7 +113,7 @@ fn weighing_side(short: bool) -> Side
 /// serve less than the demand, of -1 where the fixed parts put out more than the demand and the
 /// buy blocks take.
 pub fn farkas<N: Exact>(alloc: Global, market: &Market, short: bool) -> Result<Farkas<N>, Passed<N>>
-    ensures energy { IfOk result (λ farkas. N.value farkas.duals.energy ≡ whole (unit_energy short)) }
+    ensures energy { IfOk result (λ farkas. N.value farkas.duals.energy ≡ whole (plain_energy short)) }
     ensures limits { IfOk result (λ farkas. farkas.duals.limits ≡ []) }
     ensures bound { IfOk result (λ farkas. N.value farkas.bound ≡ farkas_bound market.now (duals_at N.value farkas.duals)) }
 {

@@ -6,8 +6,10 @@ use Rattle.outside_store.specs.Files.{Files}
 use Rattle.market_model.specs.declared.participants.Parts.{Parts}
 use Rattle.market_model.specs.declared.answered.Outcome.{Outcome}
 use Rattle.market_model.specs.declared.answered.Outcome.TheVariants as outcome
+use Rattle.market_model.specs.Market.{IsMarket}
 use Rattle.market_model.specs.Outcomes.{IsRightOutcome}
 use Rattle.market_model.specs.Reports.{report_text}
+use Rattle.merit_order.specs.Clearing.{IsPlainPrice}
 use Rattle.net_case.specs.PlainCaseGrammar.{plain_case}
 use Rattle.net_case.specs.NetworkReading.{network_of, unit_list_of}
 use Rattle.offer_book.specs.OfferTable.{blocks_of_table}
@@ -48,14 +50,20 @@ status_of (outcome.Cleared a) = status.Done
 status_of (outcome.Infeasible f) = status.Infeasible
 status_of (outcome.Range p) = status.Range
 
--- the status and the text are those of a right outcome of the market: the report of a right answer, or of duals that show that no
--- dispatch is feasible
-abbrev pub ClearsTo : Parts → Status → List ℕ → Type 0
-ClearsTo m s text = (o : Outcome Fraction) × IsRightOutcome m o × (s ≡ status_of o) × (text ≡ report_text m o)
+-- where no dispatch is feasible, the price of energy that shows it is 1 or -1
+abbrev pub HasPlainPrice : Outcome Fraction → Type 0
+HasPlainPrice (outcome.Cleared a) = Unit {0}
+HasPlainPrice (outcome.Infeasible f) = IsPlainPrice f.duals.energy
+HasPlainPrice (outcome.Range p) = Unit {0}
 
--- the status and the text are right for a market, or for a file that is refused
+-- The status and the text are those of a right outcome of the market: the report of a right answer, or of duals that show that no
+-- dispatch is feasible, by a price of energy of 1 or -1. Of numbers that are too large nothing is said yet.
+abbrev pub ClearsTo : Parts → Status → List ℕ → Type 0
+ClearsTo m s text = (o : Outcome Fraction) × IsRightOutcome m o × HasPlainPrice o × (s ≡ status_of o) × (text ≡ report_text m o)
+
+-- the status and the text are right for a market, which keeps what every market keeps, or for a file that is refused
 abbrev pub ComesTo : Result Parts Refusal → Status → List ℕ → Type 0
-ComesTo (Ok m) s text = ClearsTo m s text
+ComesTo (Ok m) s text = IsMarket m × ClearsTo m s text
 ComesTo (Err r) s text = (s ≡ status.Refused) × (text ≡ refusal_line r)
 
 -- the status and the text are right for the bytes of a case and of offers

@@ -5,9 +5,10 @@ ghost use Rattle.outside_store.specs.Causes.{Rose, Still};
 ghost use Rattle.outside_store.specs.Files.{Reads, SameFiles};
 ghost use Rattle.outside_store.specs.Sinks.{Took, CountFault};
 ghost use Rattle.market_model.specs.Fitting.{FitsOutcome};
+ghost use Rattle.market_model.specs.Market.{IsMarket};
 ghost use Rattle.market_model.specs.Outcomes.{IsRightOutcome};
 ghost use Rattle.market_model.specs.Valued.{outcome_at};
-ghost use Rattle.sced.specs.Pooling.{most_file, pool_market, status_of, ClearsTo, PoolsTo, FilesPoolTo, AnswersTo};
+ghost use Rattle.sced.specs.Pooling.{most_file, pool_market, status_of, HasPlainPrice, ClearsTo, PoolsTo, FilesPoolTo, AnswersTo};
 ghost use Rattle.sced.specs.Refusals.{refusal_line};
 ghost use Rattle.sced.specs.Runs.{AsksNothing, IsSilent, IsTold, IsOfFiles, NamedReadFailed};
 
@@ -95,6 +96,7 @@ impl From<OfferFault> for Stop {
 /// The whole case is read before the offers.
 fn market(alloc: Global, case: &[u8], offers: &[u8]) -> Result<Market, Stop>
     ensures market { IfOk result (λ market. pool_market case.now offers.now ≡ Ok market) }
+    ensures kept { IfOk result IsMarket }
     ensures refused { (refusal : Refusal) → result ≡ Err (Stop.Refused refusal) → pool_market case.now offers.now ≡ Err refusal }
 {
     if case.len() > MOST_BYTES {
@@ -136,6 +138,7 @@ fn line(alloc: Global, status: Status, words: &[u8]) -> Result<Outcome, Memory>
 fn cleared<N: Exact>(alloc: Global, market: &Market) -> Result<Clearing<N>, Memory>
     ensures fits { IfOk result (λ outcome. FitsOutcome market.now outcome) }
     ensures right { IfOk result (λ outcome. IsRightOutcome market.now (outcome_at N.value outcome)) }
+    ensures price { IfOk result (λ outcome. HasPlainPrice (outcome_at N.value outcome)) }
 {
     match clear(alloc, market) {
         Ok(answer) => Ok(Clearing::Cleared(answer)),
@@ -275,7 +278,7 @@ fn asked_outcome<S: Store>(
 ///
 /// The whole text is made first and put once.
 pub fn run<S: Store, K: Sink>(alloc: Global, words: &[String], store: &mut S, out: &mut K) -> Status
-    // The words are refused only where they are none that the program takes, and then always.
+    // The words are refused only where they are none that the program takes, and then always, but for a failed put and want of memory.
     ensures usage { result ≡ Status.Usage → AsksNothing (map string_bytes words.entry.now) }
     ensures nothing_asked { AsksNothing (map string_bytes words.entry.now) → (result ≡ Status.Usage) ⊎ (result ≡ Status.WriteFailed) ⊎ (result ≡ Status.Memory) }
 

@@ -15,7 +15,7 @@ use Rattle.market_model.specs.WholeSums.{int_sum}
 use Rattle.merit_order.specs.Filling.{demand_of, fixed_of, bought_of, accepted_of, no_block, Fills, IsReached}
 use Rattle.merit_order.specs.Clearing.{dispatch_of}
 use Rattle.merit_order.specs.Paying.{AllPlaces, price_at, PaysUnit, LoadPays}
-use Rattle.merit_order.proofs.InfeasibleLemmas.{is_farkas}
+use Rattle.merit_order.proofs.InfeasibleLemmas.{is_farkas, is_plain}
 use Rattle.merit_order.proofs.OutcomeLemmas.{is_right}
 use Rattle.merit_order.proofs.clearing.clear.Goals as goal
 
@@ -73,6 +73,7 @@ returns-in-None-clause-cause g c =
     let fixed_most = c.fixed_output.ensures.bound in
     let taken : ℤ = to_z w128 (of_z w128 (to_z w128 (of_z w128 c.demand.result) +ℤ to_z w128 (of_z w128 c.bought.result))) in
     let left : ℤ = to_z w128 (of_z w128 (taken -ℤ to_z w128 (of_z w128 c.fixed_output.result))) in
-    is_farkas m market left (omega (arith, ints, loads, bought, fixed))
+    (is_farkas m market left (omega (arith, ints, loads, bought, fixed))
     (subst (λ (bs : List Block). All (λ b. ¬ (IsReached b.price left bs)) bs) blocks c.in-None.ensures.none) (λ nothing none. c.in-None.ensures.empty nothing (blocks ∙ none))
-    g.N.Exact.value c.in_ok-farkas-in-None.field-0 c.is_short.result c.is_short.ensures.short c.is_short.ensures.long c.in_ok-farkas-in-None.ensures.energy c.in_ok-farkas-in-None.ensures.limits c.in_ok-farkas-in-None.ensures.bound
+    g.N.Exact.value c.in_ok-farkas-in-None.field-0 c.is_short.result c.is_short.ensures.short c.is_short.ensures.long c.in_ok-farkas-in-None.ensures.energy c.in_ok-farkas-in-None.ensures.limits c.in_ok-farkas-in-None.ensures.bound,
+    is_plain c.is_short.result _ c.in_ok-farkas-in-None.ensures.energy)
