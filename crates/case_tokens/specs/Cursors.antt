@@ -1,14 +1,15 @@
 -- A place of a text, and what is known of the bytes before it.
-use Rattle.std.specs.Prelude.{◌≡◌, ℕ, ◌≤◌, ◌+◌, List, length, take, drop}
+use Rattle.std.specs.Prelude.{◌≡◌, ℕ, ◌≤◌, ◌+◌, List, length, take, drop, count_by}
 use Rattle.case_tokens.specs.declared.cursor.Cursor.{Cursor}
-use Rattle.case_tokens.specs.TokenLists.{Brackets, TokenList, line_of, is_blank_line, tokens_from}
+use Rattle.case_tokens.specs.Bytes.{is_line_end}
+use Rattle.case_tokens.specs.TokenLists.{Brackets, TokenList, is_blank_line, tokens_from}
 
 abbrev pub brackets_of : Cursor → Brackets
 brackets_of cursor = record { opened = cursor.opened; closed = cursor.closed }
 
 pub record IsCursor (cursor : Cursor) : Type 0 where
   pub within : cursor.place ≤ length cursor.text.now
-  pub line : cursor.line ≡ line_of (take cursor.place cursor.text.now)
+  pub line_ends : cursor.line_ends ≡ count_by is_line_end (take cursor.place cursor.text.now)
   pub blank : cursor.blank ≡ is_blank_line (take cursor.place cursor.text.now)
   pub opened : cursor.opened ≤ cursor.place
   pub closed : cursor.closed ≤ cursor.place

@@ -1,9 +1,7 @@
 -- What stands at a place of a text. A text is cut into pieces: what parts tokens, and tokens.
-use Rattle.std.specs.Prelude.{ℕ, ◌+◌, ◌-◌, ◌<◌, ◌≤◌, Bool, true, false, List, [], ◌∷◌, length, take, drop, ◌==◌, ◌||◌, ◌&&◌, not, Option, Some, None, if◌then◌else◌, min, nat_eq, codes}
+use Rattle.std.specs.Prelude.{ℕ, ◌+◌, ◌<◌, ◌≤◌, Bool, true, false, List, [], ◌∷◌, length, take, drop, ◌==◌, ◌||◌, ◌&&◌, not, Option, Some, None, if◌then◌else◌, min, nat_eq, codes}
 use Rattle.std.specs.List.{list_all, position_or_len, before_first, starts_with}
-use Rattle.std.specs.Option.{option_map}
 use Rattle.scaled_decimal.specs.Reading.{is_number_text}
-use Rattle.case_tokens.specs.declared.Kind.{Kind}
 use Rattle.case_tokens.specs.declared.Kind.TheVariants as kind
 use Rattle.case_tokens.specs.declared.pieces.Piece.{Piece}
 use Rattle.case_tokens.specs.declared.pieces.Piece.TheVariants as piece
@@ -33,6 +31,11 @@ is_continuation rest = starts_with nat_eq rest (codes "...")
 abbrev pub continuation_length : List ℕ → ℕ
 continuation_length rest = min (line_length rest + 1) (length rest)
 
+-- this many more
+abbrev pub more : ℕ → Option ℕ → Option ℕ
+more n None = None
+more n (Some m) = Some (n + m)
+
 -- How many bytes a string takes behind its opening quote, up to its closing one and with it. It is closed on its line, by the first
 -- quote that is not doubled.
 unfoldable pub string_length : ℕ → List ℕ → Option ℕ
@@ -40,8 +43,8 @@ string_length quote [] = None
 string_length quote (b ∷ []) = if b == quote then Some 1 else None
 string_length quote (b ∷ c ∷ behind) =
     if is_line_end b then None
-    else (if b == quote then (if c == quote then option_map (λ n. 2 + n) (string_length quote behind) else Some 1)
-    else option_map (λ n. 1 + n) (string_length quote (c ∷ behind)))
+    else (if b == quote then (if c == quote then more 2 (string_length quote behind) else Some 1)
+    else more 1 (string_length quote (c ∷ behind)))
 
 -- nothing, or a byte that may follow a number or a string inside brackets
 abbrev pub is_parted : List ℕ → Bool

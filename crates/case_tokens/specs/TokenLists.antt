@@ -1,8 +1,7 @@
 -- The tokens of a text, from the pieces that follow one another in it.
-use Rattle.std.specs.Prelude.{◌≡◌, ℕ, zero, suc, ◌+◌, ◌-◌, ◌<◌, ◌≤◌, Bool, List, [], ◌∷◌, ◌++◌, length, take, drop, nat_lt, Option, Some, None, Result, Ok, Err, if◌then◌else◌, count_by}
+use Rattle.std.specs.Prelude.{◌≡◌, ℕ, zero, suc, ◌+◌, ◌-◌, ◌<◌, ◌≤◌, Bool, List, [], ◌∷◌, ◌++◌, length, nat_lt, Option, Some, None, Result, Ok, Err, if◌then◌else◌, count_by}
 use Rattle.std.specs.List.{list_all, after_last}
 use Rattle.case_tokens.specs.declared.Kind.{Kind}
-use Rattle.case_tokens.specs.declared.Span.{Span}
 use Rattle.case_tokens.specs.declared.Token.{Token}
 use Rattle.case_tokens.specs.declared.TokenFault.{TokenFault}
 use Rattle.case_tokens.specs.declared.TokenFault.TheVariants as fault
@@ -28,12 +27,15 @@ no_brackets = record { opened = 0; closed = 0 }
 abbrev pub is_inside : Brackets → Bool
 is_inside brackets = nat_lt brackets.closed brackets.opened
 
--- the counts with the token that begins with this byte
-abbrev pub counted : Brackets → ℕ → Brackets
-counted brackets byte = record {
-  opened = if is_opening byte then brackets.opened + 1 else brackets.opened;
-  closed = if is_closing byte then brackets.closed + 1 else brackets.closed;
+-- the counts behind a piece that begins with this byte
+abbrev pub counted : Piece → ℕ → Brackets → Brackets
+counted (piece.Token k n) byte brackets = record {
+  opened = brackets.opened + (if is_opening byte then 1 else 0);
+  closed = brackets.closed + (if is_closing byte then 1 else 0);
 }
+counted (piece.Gap n) byte brackets = brackets
+counted piece.End byte brackets = brackets
+counted piece.Bad byte brackets = brackets
 
 -- the bytes of the line that these end with
 unfoldable pub last_line : List ℕ → List ℕ
@@ -58,24 +60,28 @@ token_of kind n before = record {
 abbrev pub with_first : Token → TokenList → TokenList
 with_first token list = record { tokens = token ∷ list.tokens; fault = list.fault }
 
--- where the text ends, or what stands next can't
-abbrev pub at_end : Piece → ℕ → TokenList
-at_end piece.Bad place = record { tokens = []; fault = Some place }
-at_end piece.End place = record { tokens = []; fault = None }
-at_end (piece.Gap n) place = record { tokens = []; fault = None }
-at_end (piece.Token k n) place = record { tokens = []; fault = None }
+-- The tokens from a piece on, from those behind it. What parts tokens adds none, and a fault ends them at its place.
+abbrev pub with_piece : Piece → List ℕ → TokenList → TokenList
+with_piece piece.End before behind = record { tokens = []; fault = None }
+with_piece piece.Bad before behind = record { tokens = []; fault = Some (length before) }
+with_piece (piece.Gap n) before behind = behind
+with_piece (piece.Token k n) before behind = with_first (token_of k n before) behind
 
--- The tokens behind the bytes that went before: the next piece begins when so many more bytes have been passed, and each piece
--- begins where the one before it ends.
+abbrev pub length_of : Piece → ℕ
+length_of piece.End = 0
+length_of piece.Bad = 0
+length_of (piece.Gap n) = n
+length_of (piece.Token k n) = n
+
+-- The tokens behind the bytes that went before. The next piece begins when so many more bytes have been passed, and each piece begins
+-- where the one before it ends.
 unfoldable pub tokens_from : Brackets → List ℕ → ℕ → List ℕ → TokenList
-tokens_from brackets before n [] = at_end (piece_at (is_inside brackets) (is_blank_line before) []) (length before)
+tokens_from brackets before n [] =
+    with_piece (piece_at (is_inside brackets) (is_blank_line before) []) before (record { tokens = []; fault = None })
 tokens_from brackets before (suc n) (b ∷ rest) = tokens_from brackets (before ++ b ∷ []) n rest
 tokens_from brackets before zero (b ∷ rest) =
-    elim (piece_at (is_inside brackets) (is_blank_line before) (b ∷ rest)) [
-      piece.End ↦ record { tokens = []; fault = None }
-    | piece.Bad ↦ record { tokens = []; fault = Some (length before) }
-    | piece.Gap n ↦ tokens_from brackets (before ++ b ∷ []) (n - 1) rest
-    | piece.Token k n ↦ with_first (token_of k n before) (tokens_from (counted brackets b) (before ++ b ∷ []) (n - 1) rest) ]
+    let next = piece_at (is_inside brackets) (is_blank_line before) (b ∷ rest) in
+    with_piece next before (tokens_from (counted next b brackets) (before ++ b ∷ []) (length_of next - 1) rest)
 
 -- the tokens of a text
 unfoldable pub token_list : List ℕ → TokenList
@@ -95,3 +101,8 @@ Gives (Err (fault.BadToken at)) old new = (old.left ≡ record { tokens = []; fa
 -- the token's text is not empty, and lies within the text
 abbrev pub IsWithin : ℕ → Token → Type 0
 IsWithin most token = (token.span.start < token.span.end) × (token.span.end ≤ most)
+
+-- Each token has some byte and lies within the text, and none begins before the one before it has ended.
+abbrev pub AreInOrder : ℕ → ℕ → List Token → Type 0
+AreInOrder from most [] = Unit {0}
+AreInOrder from most (token ∷ tokens) = (from ≤ token.span.start) × IsWithin most token × AreInOrder token.span.end most tokens

@@ -1,8 +1,8 @@
 //! A place of a text, and how it moves from piece to piece.
 
-ghost use Rattle.std.specs.Prelude.{◌≡◌, ◌≤◌, ◌+◌, ◌<◌, length, take, drop, []};
+ghost use Rattle.std.specs.Prelude.{◌≡◌, ◌≤◌, ◌+◌, ◌-◌, ◌<◌, length, take, drop, if◌then◌else◌};
 ghost use Rattle.case_tokens.specs.TokenLists.{is_inside, token_list, token_of, with_first};
-ghost use Rattle.case_tokens.specs.Pieces.{piece_at, IsNoGap};
+ghost use Rattle.case_tokens.specs.Pieces.{piece_at, Fits, IsNoGap};
 ghost use Rattle.case_tokens.specs.declared.Kind.{Kind};
 ghost use Rattle.case_tokens.specs.Cursors.{IsCursor, left_at, brackets_of, Passes};
 
@@ -15,8 +15,8 @@ use crate::{Kind, Span, Token};
 pub struct Cursor<'a> {
     pub text: &'a [u8],
     pub place: usize,
-    /// The number of its line.
-    pub line: usize,
+    /// How many lines end before it.
+    pub line_ends: usize,
     /// Whether blanks alone stand before it on its line.
     pub blank: bool,
     /// How many brackets were opened before it.
@@ -33,7 +33,7 @@ pub fn first_cursor(text: &[u8]) -> Cursor<'_>
     Cursor {
         text,
         place: 0,
-        line: 1,
+        line_ends: 0,
         blank: true,
         opened: 0,
         closed: 0,
@@ -43,7 +43,8 @@ pub fn first_cursor(text: &[u8]) -> Cursor<'_>
 /// The piece that begins at the cursor.
 pub fn piece_of(cursor: Cursor<'_>) -> Piece
     requires { IsCursor cursor }
-    ensures { result ≡ piece_at (is_inside (brackets_of cursor.entry)) cursor.entry.blank (drop cursor.entry.place cursor.entry.text.now) }
+    ensures value { result ≡ piece_at (is_inside (brackets_of cursor.entry)) cursor.entry.blank (drop cursor.entry.place cursor.entry.text.now) }
+    ensures fits { Fits result (length cursor.entry.text.now - cursor.entry.place) }
 {
     pieces::piece_at(
         &cursor.text[cursor.place..],
@@ -60,11 +61,11 @@ fn passed(cursor: Cursor<'_>, count: usize) -> Cursor<'_>
     ensures moves { Passes cursor.entry count result }
 {
     let place = cursor.place + count;
-    let mut line = cursor.line;
+    let mut line_ends = cursor.line_ends;
     let mut blank = cursor.blank;
     for byte in &cursor.text[cursor.place..place] {
         if *byte == b'\n' {
-            line += 1;
+            line_ends += 1;
             blank = true;
         } else {
             blank = blank && is_blank(*byte);
@@ -72,7 +73,7 @@ fn passed(cursor: Cursor<'_>, count: usize) -> Cursor<'_>
     }
     Cursor {
         place,
-        line,
+        line_ends,
         blank,
         ..cursor
     }
@@ -93,6 +94,13 @@ pub fn after_gaps(cursor: Cursor<'_>) -> Cursor<'_>
     at
 }
 
+/// 1 where the test holds, else 0.
+fn one_if(test: bool) -> usize
+    ensures { result ≡ (if test then 1 else 0) }
+{
+    usize::from(test)
+}
+
 /// The cursor behind a token of this many bytes.
 pub fn past_token(cursor: Cursor<'_>, count: usize) -> Cursor<'_>
     requires valid { IsCursor cursor }
@@ -107,8 +115,8 @@ pub fn past_token(cursor: Cursor<'_>, count: usize) -> Cursor<'_>
     let first = cursor.text[cursor.place];
     let behind = passed(cursor, count);
     Cursor {
-        opened: cursor.opened + usize::from(is_opening(first)),
-        closed: cursor.closed + usize::from(is_closing(first)),
+        opened: cursor.opened + one_if(is_opening(first)),
+        closed: cursor.closed + one_if(is_closing(first)),
         ..behind
     }
 }
@@ -116,6 +124,7 @@ pub fn past_token(cursor: Cursor<'_>, count: usize) -> Cursor<'_>
 /// The token of this many bytes at the cursor.
 pub fn token_at(cursor: Cursor<'_>, kind: Kind, count: usize) -> Token
     requires valid { IsCursor cursor }
+    requires some { 0 < count }
     requires within { cursor.place + count ≤ length cursor.text.now }
     ensures { result ≡ token_of kind count (take cursor.entry.place cursor.entry.text.now) }
 {
@@ -125,6 +134,6 @@ pub fn token_at(cursor: Cursor<'_>, kind: Kind, count: usize) -> Token
             start: cursor.place,
             end: cursor.place + count,
         },
-        line: cursor.line,
+        line: cursor.line_ends + 1,
     }
 }

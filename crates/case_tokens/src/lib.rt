@@ -17,6 +17,7 @@ use std::marker::Model;
 
 mod bytes;
 mod cursor;
+pub mod laws;
 mod pieces;
 
 use cursor::{Cursor, after_gaps, first_cursor, past_token, piece_of, token_at};

@@ -1,12 +1,11 @@
 //! The piece that begins at a place of a text.
 
-ghost use Rattle.std.specs.Prelude.{◌≡◌, ◌≤◌, ◌<◌, length, IfSome, ◌∷◌};
+ghost use Rattle.std.specs.Prelude.{◌≡◌, ◌≤◌, ◌<◌, length, IfSome, IsTrue};
 ghost use Rattle.std.specs.List.{list_all, position_or_len, position, before_first};
-ghost use Rattle.case_tokens.specs.Bytes.{is_blank, is_line_end, ends_run};
+ghost use Rattle.case_tokens.specs.Bytes.{is_blank, is_line_end, is_quote, ends_run};
 ghost use Rattle.case_tokens.specs.Pieces.{line_length, is_block_rest, comment_at, is_continuation, continuation_length, string_length, is_parted, quoted_at, run_at, piece_at};
 
-use crate::Kind;
-use crate::bytes;
+use crate::{Kind, bytes};
 use scaled_decimal::is_number;
 
 /// What begins at a place of a text.
@@ -29,9 +28,10 @@ fn first_line_end(rest: &[u8]) -> Option<usize>
 }
 
 /// How many bytes are left of a line.
-#[tactic(auto, using(scaled_decimal::proofs::CutLemmas::place_or_length))]
+#[tactic(auto, using(scaled_decimal::proofs::CutLemmas::place_or_length, crate::proofs::PieceLemmas::place_within))]
 fn line_length(rest: &[u8]) -> usize
-    ensures { result ≡ line_length rest.now }
+    ensures value { result ≡ line_length rest.now }
+    ensures within { result ≤ length rest.now }
 {
     first_line_end(rest).unwrap_or(rest.len())
 }
@@ -43,9 +43,10 @@ fn first_run_end(rest: &[u8], inside: bool) -> Option<usize>
 }
 
 /// How many bytes a run takes.
-#[tactic(auto, using(scaled_decimal::proofs::CutLemmas::place_or_length))]
+#[tactic(auto, using(scaled_decimal::proofs::CutLemmas::place_or_length, crate::proofs::PieceLemmas::place_within))]
 fn run_length(rest: &[u8], inside: bool) -> usize
-    ensures { result ≡ position_or_len (ends_run inside) rest.now }
+    ensures value { result ≡ position_or_len (ends_run inside) rest.now }
+    ensures within { result ≤ length rest.now }
 {
     first_run_end(rest, inside).unwrap_or(rest.len())
 }
@@ -103,6 +104,7 @@ fn continuation_length(rest: &[u8]) -> usize
 /// How many bytes a string takes behind its opening quote, where it is closed on its line.
 #[tactic(auto, unfolding(crate::specs::Pieces::string_length))]
 fn string_length(quote: u8, behind: &[u8]) -> Option<usize>
+    requires { IsTrue (is_quote quote) }
     ensures value { result ≡ string_length quote behind.now }
     ensures within { IfSome result (λ n. n ≤ length behind.now) }
 {

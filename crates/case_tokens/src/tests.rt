@@ -1,53 +1,83 @@
 use super::*;
+use std::process::Abort;
 
-use Kind::{Block, LineEnd, Mark, Open, Run, Text};
+/// The letter that a token's first byte has in a shape, and that of its other bytes.
+fn letters(kind: Kind) -> (u8, u8) {
+    match kind {
+        Kind::LineEnd => (b'L', b'l'),
+        Kind::Block => (b'B', b'b'),
+        Kind::Mark => (b'M', b'm'),
+        Kind::Text => (b'T', b't'),
+        Kind::Open => (b'O', b'o'),
+        Kind::Run => (b'R', b'r'),
+    }
+}
 
-/// A text, its tokens by kind, text and line, and the place of the fault that ends them.
-type Row<'a> = (&'a [u8], &'a [(Kind, &'a [u8], usize)], Option<usize>);
+/// Whether a token has its letters in a shape.
+fn has_letters(token: Token, shape: &[u8]) -> bool {
+    let (first, other) = letters(token.kind);
+    match shape.get(token.span.start..token.span.end) {
+        Some([letter, rest @ ..]) => *letter == first && rest.iter().all(|byte| *byte == other),
+        _ => false,
+    }
+}
+
+/// Checks the tokens of a text, whose lines have these digits, against its shape: a letter for each byte of a token, and a point for
+/// each other byte.
+fn check_tokens(rt: &impl Abort, text: &[u8], shape: &[u8], lines: &[u8], fault: Option<usize>) {
+    let mut tokens = Tokens::new(text);
+    let mut seen = 0usize;
+    for line in lines {
+        let Ok(Some(token)) = tokens.next() else {
+            panic!(rt; "too few tokens in {text:?}");
+        };
+        assert!(rt; has_letters(token, shape), "{text:?}");
+        assert!(rt;
+            usize::from(*line) == token.line.wrapping_add(48),
+            "{text:?}"
+        );
+        seen = seen.saturating_add(token.span.end - token.span.start);
+    }
+    let wanted = shape.iter().filter(|byte| **byte != b'.').count();
+    assert!(rt; seen == wanted, "{text:?}");
+    let end = match fault {
+        Some(at) => Err(TokenFault::BadToken { at }),
+        None => Ok(None),
+    };
+    assert_eq!(rt; tokens.next(), end, "after {text:?}");
+    assert_eq!(rt; tokens.next(), end, "again after {text:?}");
+}
 
 #[test]
 fn cuts_texts(rt: HostRuntime) {
-    let rows: [Row<'_>; 23] = [
-        (b"", &[], None),
-        (b" \t\r", &[], None),
-        (b"a b", &[(Run, b"a", 1), (Run, b"b", 1)], None),
-        (b"a\r\nb", &[(Run, b"a", 1), (LineEnd, b"\n", 1), (Run, b"b", 2)], None),
-        (b"mpc.x=5;", &[(Run, b"mpc.x", 1), (Mark, b"=", 1), (Run, b"5", 1), (Mark, b";", 1)], None),
-        (b"a % b\nc", &[(Run, b"a", 1), (LineEnd, b"\n", 1), (Run, b"c", 2)], None),
-        (b"%{\n%}", &[(Block, b"%{", 1), (LineEnd, b"\n", 1), (Block, b"%}", 2)], None),
-        (b" %{ \r\n%{a", &[(Block, b"%{", 1), (LineEnd, b"\n", 1)], None),
-        (b"a %{\n% {", &[(Run, b"a", 1), (LineEnd, b"\n", 1)], None),
-        (b"a ... %{\n%{", &[(Run, b"a", 1), (Block, b"%{", 2)], None),
-        (b"a ...\nb", &[(Run, b"a", 1), (Run, b"b", 2)], None),
-        (b"a...\nb", &[(Run, b"a...", 1), (LineEnd, b"\n", 1), (Run, b"b", 2)], None),
-        (b"a ...", &[(Run, b"a", 1)], None),
-        (b"'a % b'", &[(Text, b"'a % b'", 1)], None),
-        (b"'a''b' \"c'\"", &[(Text, b"'a''b'", 1), (Text, b"\"c'\"", 1)], None),
-        (b"'a\n'", &[(Open, b"'a", 1), (LineEnd, b"\n", 1), (Open, b"'", 2)], None),
-        (b"5'a'", &[(Run, b"5", 1), (Text, b"'a'", 1)], None),
-        (b"[5'a'", &[(Mark, b"[", 1)], Some(1)),
-        (b"[1 a]", &[(Mark, b"[", 1), (Run, b"1", 1)], Some(3)),
-        (b"[1=2]", &[(Mark, b"[", 1)], Some(1)),
-        (b"{'a", &[(Mark, b"{", 1)], Some(1)),
-        (b"[1\n", &[(Mark, b"[", 1), (Run, b"1", 1), (LineEnd, b"\n", 1)], Some(3)),
-        (b"]a[[]a", &[(Mark, b"]", 1), (Run, b"a", 1), (Mark, b"[", 1), (Mark, b"[", 1), (Mark, b"]", 1), (Run, b"a", 1)], None),
+    let rows: [(&[u8], &[u8], &[u8], Option<usize>); 25] = [
+        (b"", b"", b"", None),
+        (b" \t\r", b"...", b"", None),
+        (b"a b", b"R.R", b"11", None),
+        (b"a\r\nb", b"R.LR", b"112", None),
+        (b"mpc.x=5;", b"RrrrrMRM", b"1111", None),
+        (b"a % b\nc", b"R....LR", b"112", None),
+        (b"%{\n%}", b"BbLBb", b"112", None),
+        (b" %{ \r\n%{a", b".Bb..L...", b"11", None),
+        (b"a %{\n% {", b"R...L...", b"11", None),
+        (b"a ... %{\n%{", b"R........Bb", b"12", None),
+        (b"a ...\nb", b"R.....R", b"12", None),
+        (b"a...\nb", b"RrrrLR", b"112", None),
+        (b"a ...", b"R....", b"1", None),
+        (b"'a % b'", b"Ttttttt", b"1", None),
+        (b"'a''b' \"c'\"", b"Tttttt.Tttt", b"11", None),
+        (b"'a\n'", b"OoLO", b"112", None),
+        (b"5'a'", b"RTtt", b"11", None),
+        (b"[1, 'a']%", b"MRM.TttM.", b"11111", None),
+        (b"[1 -Inf]...", b"MR.RrrrM...", b"1111", None),
+        (b"[5'a'", b"M....", b"1", Some(1)),
+        (b"[1 a]", b"MR...", b"11", Some(3)),
+        (b"[1=2]", b"M....", b"1", Some(1)),
+        (b"{'a", b"M..", b"1", Some(1)),
+        (b"[1\n", b"MRL", b"111", Some(3)),
+        (b"]=[[]=a", b"MMMMMMR", b"1111111", None),
     ];
-    for (text, wanted, fault) in rows {
-        let mut tokens = Tokens::new(text);
-        for (kind, bytes, line) in wanted {
-            let found = tokens.next();
-            let Ok(Some(token)) = found else {
-                panic!(&rt; "no token {bytes:?} of {text:?}");
-            };
-            assert_eq!(rt; token.kind, *kind);
-            assert_eq!(rt; &text[token.span.start..token.span.end], *bytes);
-            assert_eq!(rt; token.line, *line);
-        }
-        let end = match fault {
-            Some(at) => Err(TokenFault::BadToken { at }),
-            None => Ok(None),
-        };
-        assert_eq!(rt; tokens.next(), end, "after {text:?}");
-        assert_eq!(rt; tokens.next(), end, "again after {text:?}");
+    for (text, shape, lines, fault) in rows {
+        check_tokens(&rt, text, shape, lines, fault);
     }
 }
