@@ -1,6 +1,5 @@
 -- What the text of a case means: its matrices, or its first fault.
 use Rattle.std.specs.Prelude.{ℕ, zero, suc, ◌-◌, ◌==◌, ◌&&◌, nat_lt, Bool, List, [], ◌∷◌, length, take, drop, codes, Option, Some, None, Result, Ok, Err, if◌then◌else◌}
-use Rattle.std.specs.Option.{option_map_or}
 use Rattle.std.specs.Str.{bytes_eq}
 use Rattle.case_tokens.specs.declared.Token.{Token}
 use Rattle.case_tokens.specs.TokenLists.{token_list}
@@ -14,8 +13,9 @@ use Rattle.case_text.specs.Statements.{statement_at}
 use Rattle.case_text.specs.Settings.{Settings, no_settings, with_setting, all_set}
 
 -- the tokens end, by the end of the text or by their fault
-abbrev pub at_end : {A : Type 0} → Option ℕ → Result A CaseFault → Result A CaseFault
-at_end stop value = option_map_or (λ at. Err (fault.BadToken at)) stop value
+abbrev pub at_end : Option ℕ → Result CaseMatrices CaseFault → Result CaseMatrices CaseFault
+at_end None case = case
+at_end (Some at) case = Err (fault.BadToken at)
 
 -- The statements behind the first. The next begins when so many more tokens have been passed, and each begins where the one before it
 -- ends; what parts statements is passed over.

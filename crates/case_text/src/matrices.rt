@@ -1,6 +1,6 @@
 //! The rows of a matrix.
 
-ghost use Rattle.std.specs.Prelude.{◌≡◌, ◌≢◌, ◌≤◌, ◌||◌, [], ◌∷◌, ◌++◌, length, map, IfOk, IfErr, Ok, Err, true, if◌then◌else◌};
+ghost use Rattle.std.specs.Prelude.{◌≡◌, ◌≢◌, ◌≤◌, ◌||◌, [], ◌∷◌, ◌++◌, length, map, IfOk, IfErr, OnOk, Ok, Err, true, if◌then◌else◌};
 ghost use Rattle.case_tokens.specs.TokenLists.{IsWithin};
 ghost use Rattle.case_text.specs.Words.{word_of, is_run, text_of};
 ghost use Rattle.case_text.specs.Nests.{behind_brackets, first_nest};
@@ -128,8 +128,9 @@ pub fn read_rows<'a>(
 ) -> Result<MatrixRows<'a>, CaseFault>
     requires { tokens.old.text ≡ text.now }
     ensures same { SameEnd tokens.old tokens.new }
-    ensures reads { Gives (λ _. tokens.new.left.tokens) result
-        (behind_brackets text.entry.now tokens.old.left.fault true (first_nest Bracket.Square) tokens.old.left.tokens) }
+    ensures ok { OnOk result (behind_brackets text.entry.now tokens.old.left.fault true (first_nest Bracket.Square) tokens.old.left.tokens ≡ Ok tokens.new.left.tokens) }
+    ensures err { IfErr result (λ e. e ≢ CaseFault.Memory →
+        behind_brackets text.entry.now tokens.old.left.fault true (first_nest Bracket.Square) tokens.old.left.tokens ≡ Err e) }
     ensures rows { IfOk result (λ rows. map (λ r. map (λ c. c.now) r.items) rows.items ≡ rows_from text.entry.now [] tokens.old.left.tokens) }
 {
     let mut nest = first_nest(alloc, Bracket::Square)?;

@@ -36,7 +36,8 @@ pub struct Nest {
 }
 
 pub fn first_nest(alloc: Global, bracket: Bracket) -> Result<Nest, CaseFault>
-    ensures { IfOk result (λ nest. nest_of nest ≡ first_nest bracket) }
+    ensures ok { IfOk result (λ nest. nest_of nest ≡ first_nest bracket) }
+    ensures err { IfErr result (λ e. e ≡ CaseFault.Memory) }
 {
     let mut brackets = Vec::new(alloc);
     if brackets.push(bracket).is_err() {
@@ -192,8 +193,9 @@ pub fn skip_brackets(
 ) -> Result<(), CaseFault>
     requires { tokens.old.text ≡ text.now }
     ensures same { SameEnd tokens.old tokens.new }
-    ensures reads { Gives (λ _. tokens.new.left.tokens) result
-        (behind_brackets text.now tokens.old.left.fault false (first_nest bracket) tokens.old.left.tokens) }
+    ensures ok { OnOk result (behind_brackets text.now tokens.old.left.fault false (first_nest bracket) tokens.old.left.tokens ≡ Ok tokens.new.left.tokens) }
+    ensures err { IfErr result (λ e. e ≢ CaseFault.Memory →
+        behind_brackets text.now tokens.old.left.fault false (first_nest bracket) tokens.old.left.tokens ≡ Err e) }
 {
     let mut nest = first_nest(alloc, bracket)?;
     while !nest.brackets.is_empty() {

@@ -1,13 +1,15 @@
 //! The statements of a case.
 
-ghost use Rattle.std.specs.Prelude.{◌≡◌, ◌≢◌, ℕ, [], ◌∷◌, length, map, IfOk, IfErr, IsTrue, Ok, Err, Some, None, is_some, MatchOption, MatchResult};
+ghost use Rattle.std.specs.Prelude.{◌≡◌, ◌≢◌, Result, [], ◌∷◌, length, map, IfOk, IfErr, IsTrue, Ok, Err, Some, None, is_some, MatchOption, MatchResult, OnOk};
 ghost use Rattle.case_tokens.specs.TokenLists.{IsWithin};
 ghost use Rattle.case_text.specs.Words.{word_of};
 ghost use Rattle.case_text.specs.Names.{takes_bracket};
 ghost use Rattle.case_text.specs.Nests.{behind_brackets, first_nest};
 ghost use Rattle.case_text.specs.Statements.{behind_end, plain_value, matrix_rows, bracketed, value_by, statement_at};
-ghost use Rattle.case_text.specs.Cases.{case_from, named_from, is_run_of, function_from, statements_from, past_separators};
+ghost use Rattle.case_text.specs.Cases.{case_from, named_from, is_run_of, function_from, statements_from, past_separators, at_end};
 ghost use Rattle.case_text.specs.Settings.{no_settings};
+ghost use Rattle.case_text.specs.Matrices.{CaseMatrices};
+ghost use Rattle.case_text.specs.declared.CaseFault.{CaseFault};
 ghost use Rattle.case_text.specs.Readers.{Gives, SameEnd, IsNext};
 ghost use Rattle.case_text.specs.Views.{setting_of};
 
@@ -46,7 +48,9 @@ fn token_outside(tokens: &mut Tokens<'_>) -> Option<Token>
 fn end_statement(tokens: &mut Tokens<'_>, text: &[u8], line: usize) -> Result<(), CaseFault>
     requires { tokens.old.text ≡ text.now }
     ensures same { SameEnd tokens.old tokens.new }
-    ensures reads { Gives (λ _. tokens.new.left.tokens) result (behind_end text.now line tokens.old.left.tokens) }
+    ensures ok { OnOk result (behind_end text.now line tokens.old.left.tokens ≡ Ok tokens.new.left.tokens) }
+    ensures err { IfErr result (λ e. e ≢ CaseFault.Memory →
+        behind_end text.now line tokens.old.left.tokens ≡ Err e) }
 {
     match token_outside(tokens) {
         Some(token) if !is_separator(word_of(text, token)) => Err(CaseFault::Code { line }),
@@ -66,7 +70,10 @@ fn plain_value<'a>(
 ) -> Result<Setting<'a>, CaseFault>
     requires { tokens.old.text ≡ text.now }
     ensures same { SameEnd tokens.old tokens.new }
-    ensures reads { Gives (λ setting. (setting_of setting, tokens.new.left.tokens)) result (plain_value text.now line field allowed tokens.old.left.tokens) }
+    ensures ok { IfOk result (λ setting. plain_value text.now line field allowed tokens.old.left.tokens
+        ≡ Ok (setting_of setting, tokens.new.left.tokens)) }
+    ensures err { IfErr result (λ e. e ≢ CaseFault.Memory →
+        plain_value text.now line field allowed tokens.old.left.tokens ≡ Err e) }
 {
     if !allowed {
         return Err(CaseFault::Code { line });
@@ -89,8 +96,9 @@ fn rows_inside<'a>(
     requires text { tokens.old.text ≡ text.now }
     requires bracket { IsTrue (takes_bracket field bracket) }
     ensures same { SameEnd tokens.old tokens.new }
-    ensures reads { Gives (λ _. tokens.new.left.tokens) result
-        (behind_brackets text.entry.now tokens.old.left.fault (is_some field) (first_nest bracket) tokens.old.left.tokens) }
+    ensures ok { OnOk result (behind_brackets text.entry.now tokens.old.left.fault (is_some field) (first_nest bracket) tokens.old.left.tokens ≡ Ok tokens.new.left.tokens) }
+    ensures err { IfErr result (λ e. e ≢ CaseFault.Memory →
+        behind_brackets text.entry.now tokens.old.left.fault (is_some field) (first_nest bracket) tokens.old.left.tokens ≡ Err e) }
     ensures rows { IfOk result (λ rows. map (λ r. map (λ c. c.now) r.items) rows.items ≡ matrix_rows field text.entry.now tokens.old.left.tokens) }
 {
     if field.is_some() {
@@ -112,8 +120,10 @@ fn bracketed<'a>(
 ) -> Result<Setting<'a>, CaseFault>
     requires { tokens.old.text ≡ text.now }
     ensures same { SameEnd tokens.old tokens.new }
-    ensures reads { Gives (λ setting. (setting_of setting, tokens.new.left.tokens)) result
-        (bracketed text.entry.now tokens.old.left.fault line field bracket tokens.old.left.tokens) }
+    ensures ok { IfOk result (λ setting. bracketed text.entry.now tokens.old.left.fault line field bracket tokens.old.left.tokens
+        ≡ Ok (setting_of setting, tokens.new.left.tokens)) }
+    ensures err { IfErr result (λ e. e ≢ CaseFault.Memory →
+        bracketed text.entry.now tokens.old.left.fault line field bracket tokens.old.left.tokens ≡ Err e) }
 {
     if !takes_bracket(field, bracket) {
         return Err(CaseFault::Code { line });
@@ -136,8 +146,10 @@ fn read_value<'a>(
     requires text { tokens.old.text ≡ text.now }
     requires within { IsWithin (length text.now) value }
     ensures same { SameEnd tokens.old tokens.new }
-    ensures reads { Gives (λ setting. (setting_of setting, tokens.new.left.tokens)) result
-        (value_by (word_of text.entry.now value) text.entry.now tokens.old.left.fault line field value tokens.old.left.tokens) }
+    ensures ok { IfOk result (λ setting. value_by (word_of text.entry.now value) text.entry.now tokens.old.left.fault line field value tokens.old.left.tokens
+        ≡ Ok (setting_of setting, tokens.new.left.tokens)) }
+    ensures err { IfErr result (λ e. e ≢ CaseFault.Memory →
+        value_by (word_of text.entry.now value) text.entry.now tokens.old.left.fault line field value tokens.old.left.tokens ≡ Err e) }
 {
     let bytes = text_of(text, value);
     match word_of(text, value) {
@@ -169,8 +181,10 @@ fn read_statement<'a>(
     requires text { tokens.old.text ≡ text.now }
     requires within { IsWithin (length text.now) head }
     ensures same { SameEnd tokens.old tokens.new }
-    ensures reads { Gives (λ setting. (setting_of setting, tokens.new.left.tokens)) result
-        (statement_at text.entry.now tokens.old.left.fault head tokens.old.left.tokens) }
+    ensures ok { IfOk result (λ setting. statement_at text.entry.now tokens.old.left.fault head tokens.old.left.tokens
+        ≡ Ok (setting_of setting, tokens.new.left.tokens)) }
+    ensures err { IfErr result (λ e. e ≢ CaseFault.Memory →
+        statement_at text.entry.now tokens.old.left.fault head tokens.old.left.tokens ≡ Err e) }
 {
     let line = head.line;
     let name = text_of(text, head);
@@ -188,6 +202,18 @@ fn read_statement<'a>(
     }
 }
 
+/// The next token, and none at the end of the text.
+fn next_token(tokens: &mut Tokens<'_>) -> Result<Option<Token>, CaseFault>
+    ensures same { SameEnd tokens.old tokens.new }
+    ensures next { IfOk result (λ found. MatchOption found ((tokens.old.left.tokens ≡ []) × (tokens.new.left.tokens ≡ []) × (tokens.old.left.fault ≡ None)) (IsNext tokens.old tokens.new)) }
+    ensures stop { IfErr result (λ e. (tokens.old.left.tokens ≡ []) × ((case : Result CaseMatrices CaseFault) → at_end tokens.old.left.fault case ≡ Err e)) }
+{
+    match tokens.next() {
+        Ok(found) => Ok(found),
+        Err(TokenFault::BadToken { at }) => Err(CaseFault::BadToken { at }),
+    }
+}
+
 /// The first token of the next statement, and none at the end of the text.
 fn next_head(tokens: &mut Tokens<'_>, text: &[u8]) -> Result<Option<Token>, CaseFault>
     requires { tokens.old.text ≡ text.now }
@@ -196,15 +222,14 @@ fn next_head(tokens: &mut Tokens<'_>, text: &[u8]) -> Result<Option<Token>, Case
         ((past_separators text.now tokens.old.left.tokens ≡ []) × (tokens.new.left.tokens ≡ []) × (tokens.old.left.fault ≡ None))
         (λ token. (past_separators text.now tokens.old.left.tokens ≡ token ∷ tokens.new.left.tokens) × IsWithin (length text.now) token)) }
     ensures stop { IfErr result (λ e. (past_separators text.now tokens.old.left.tokens ≡ [])
-        × (at : ℕ) × (tokens.old.left.fault ≡ Some at) × (e ≡ CaseFault.BadToken at)) }
+        × ((case : Result CaseMatrices CaseFault) → at_end tokens.old.left.fault case ≡ Err e)) }
 {
-    loop {
-        match tokens.next() {
-            Ok(Some(token)) if is_separator(word_of(text, token)) => {}
-            Ok(found) => return Ok(found),
-            Err(TokenFault::BadToken { at }) => return Err(CaseFault::BadToken { at }),
+    while let Some(token) = next_token(tokens)? {
+        if !is_separator(word_of(text, token)) {
+            return Ok(Some(token));
         }
     }
+    Ok(None)
 }
 
 /// Reads the statements behind the first.
@@ -214,7 +239,9 @@ fn read_settings<'a>(
     text: &'a [u8],
 ) -> Result<RawCase<'a>, CaseFault>
     requires { tokens.old.text ≡ text.now }
-    ensures { result ≢ Err CaseFault.Memory → result ≡ case_from text.entry.now tokens.old.left.fault no_settings 0 tokens.old.left.tokens }
+    ensures ok { IfOk result (λ case. case_from text.entry.now tokens.old.left.fault no_settings 0 tokens.old.left.tokens ≡ Ok case) }
+    ensures err { IfErr result (λ e. e ≢ CaseFault.Memory →
+        case_from text.entry.now tokens.old.left.fault no_settings 0 tokens.old.left.tokens ≡ Err e) }
 {
     let mut settings = no_settings();
     while let Some(head) = next_head(tokens, text)? {
@@ -287,7 +314,9 @@ pub fn read_statements<'a>(
     text: &'a [u8],
 ) -> Result<RawCase<'a>, CaseFault>
     requires { tokens.old.text ≡ text.now }
-    ensures { result ≢ Err CaseFault.Memory → result ≡ statements_from text.entry.now tokens.old.left.fault tokens.old.left.tokens }
+    ensures ok { IfOk result (λ case. statements_from text.entry.now tokens.old.left.fault tokens.old.left.tokens ≡ Ok case) }
+    ensures err { IfErr result (λ e. e ≢ CaseFault.Memory →
+        statements_from text.entry.now tokens.old.left.fault tokens.old.left.tokens ≡ Err e) }
 {
     match next_head(tokens, text)? {
         Some(head) => {
