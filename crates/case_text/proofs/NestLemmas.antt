@@ -1,5 +1,5 @@
 -- What stands inside brackets, token by token.
-use Rattle.std.proofs.Common.{◌≡◌, ◌≢◌, ℕ, Bool, true, false, List, [], ◌∷◌, ◌++◌, length, refl, sym, ap, ◌∙◌, arith, Option, Some, None, Result, Ok, Err, eq-eqb, unwrap_or, cond, eqb, inl, inr, ◌⊎◌, take, ◌-◌}
+use Rattle.std.proofs.Common.{◌≡◌, ◌≢◌, ℕ, Bool, true, false, List, [], ◌∷◌, length, refl, sym, ap, ◌∙◌, Option, Result, Ok, Err, eq-eqb, unwrap_or, cond, eqb, inl, inr, ◌⊎◌, take, ◌-◌}
 use Rattle.std.proofs.lemmas.Bool.{ne_eqb, false≢true, eqb-true, and_parts}
 use Rattle.case_tokens.specs.declared.Token.{Token}
 use Rattle.case_text.specs.declared.CaseFault.{CaseFault}

@@ -1,5 +1,5 @@
 -- Rows, one by one.
-use Rattle.std.proofs.Common.{◌≡◌, ◌≢◌, ℕ, zero, suc, add-one, ◌+◌, ◌<◌, ◌≤◌, List, [], ◌∷◌, ◌++◌, length, drop, get_or, map, refl, sym, ap, ◌∙◌, arith, Option, Some, None, eq-eqb, eqb, cond, Bool, true, false, ◌||◌, append_assoc, inl, inr}
+use Rattle.std.proofs.Common.{◌≡◌, ◌≢◌, ℕ, zero, suc, ◌+◌, ◌<◌, ◌≤◌, List, [], ◌∷◌, ◌++◌, length, drop, get_or, map, refl, sym, ap, ◌∙◌, arith, Some, None, eq-eqb, eqb, cond, Bool, true, false, ◌||◌, append_assoc, inl, inr}
 use Rattle.std.proofs.lemmas.Bool.{ne_eqb, false≢true}
 use Rattle.std.proofs.lemmas.List.{drop_all, append-nil}
 use Rattle.case_tokens.specs.declared.Token.{Token}
@@ -29,11 +29,11 @@ pub first_ragged-same : {V : Type 0} (view : V → List (List ℕ)) (width numbe
     length (view row) ≡ width → first_ragged width number (drop at (map view rows)) ≡ first_ragged width (number + 1) (drop (at + 1) (map view rows))
 first_ragged-same view width number rows at row h is even =
     same view width number rows at row h is even ∙ (let e : suc at ≡ at + 1 = Prim.omega arith in ap (λ n. first_ragged width (number + 1) (drop n (map view rows))) e) where
-  same : {V : Type 0} (view : V → List (List ℕ)) (width number : ℕ) (rows : List V) (at : ℕ) (row : V) → at < length rows → row ≡ get_or rows at row →
-      length (view row) ≡ width → first_ragged width number (drop at (map view rows)) ≡ first_ragged width (number + 1) (drop (suc at) (map view rows))
-  same view width number [] at row h is even = absurd (Prim.omega arith)
-  same view width number (r ∷ rows) zero row h is even = ragged-later width number (view r) (map view rows) (ap (λ x. length (view x)) (sym is) ∙ even)
-  same view width number (r ∷ rows) (suc at) row h is even = same view width number rows at row (Prim.omega arith) is even
+      same : {V : Type 0} (view : V → List (List ℕ)) (width number : ℕ) (rows : List V) (at : ℕ) (row : V) → at < length rows → row ≡ get_or rows at row →
+          length (view row) ≡ width → first_ragged width number (drop at (map view rows)) ≡ first_ragged width (number + 1) (drop (suc at) (map view rows))
+      same view width number [] at row h is even = absurd (Prim.omega arith)
+      same view width number (r ∷ rows) zero row h is even = ragged-later width number (view r) (map view rows) (ap (λ x. length (view x)) (sym is) ∙ even)
+      same view width number (r ∷ rows) (suc at) row h is even = same view width number rows at row (Prim.omega arith) is even
 
 pub first_ragged-end : (width number : ℕ) (rows : Rows) (at : ℕ) → length rows ≤ at → first_ragged width number (drop at rows) ≡ None
 unfolding first_ragged
@@ -77,7 +77,7 @@ rows-more text token rest rows rows' row row' next (inl (c, none)) r s =
 rows-more text token rest rows rows' row row' next (inr (c, flat)) r s =
     ap (λ z. rows ++ z) (rows-first text row token rest)
     ∙ at-stay (closes (word_of text token)) (ends_row (word_of text token)) (λ z. rows_from text z rest) rows rows' (some_row row) (rows_left text next row' rest) row row' (cells_of text token)
-      c r s (left-some text next row' rest flat)
+    c r s (left-some text next row' rest flat)
 
 -- the bracket that closed the value ends the rows
 pub rows-done : (text : List ℕ) (nest : Nest) (rows whole : Rows) (row : List (List ℕ)) (rest : List Token) → rows ++ rows_left text nest row rest ≡ whole → length nest.brackets ≡ 0 → rows ≡ whole

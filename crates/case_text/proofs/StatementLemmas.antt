@@ -1,7 +1,7 @@
 -- How tokens are passed from statement to statement.
-use Rattle.std.proofs.Common.{◌≡◌, ℕ, zero, suc, ◌+◌, ◌-◌, ◌≤◌, ◌&&◌, ◌==◌, drop, Result, Ok, Err, subst, Bool, true, false, List, [], ◌∷◌, length, refl, sym, ap, ◌∙◌, arith, Option, Some, None, cond, inl, inr, ◌<◌}
+use Rattle.std.proofs.Common.{◌≡◌, ℕ, zero, suc, ◌+◌, ◌-◌, ◌≤◌, ◌&&◌, ◌==◌, drop, Result, Ok, Err, subst, Bool, true, false, List, [], ◌∷◌, length, refl, sym, ap, ◌∙◌, arith, Option, None, cond, inl, inr, ◌<◌}
 use Rattle.std.specs.Prelude.{is_some, IfOk, IfErr, ◌≢◌}
-use Rattle.std.proofs.lemmas.Bool.{false≢true, cases_Bool}
+use Rattle.std.proofs.lemmas.Bool.{cases_Bool}
 use Rattle.std.proofs.lemmas.List.{drop-drop, length-drop}
 use Rattle.std.proofs.Math.Seq.{drop-length}
 use Rattle.case_tokens.specs.declared.Token.{Token}
@@ -11,11 +11,11 @@ use Rattle.case_text.specs.declared.Field.{Field}
 use Rattle.case_text.specs.declared.words.Bracket.{Bracket}
 use Rattle.case_text.specs.declared.words.Word.{Word}
 use Rattle.case_text.specs.declared.words.Word.TheVariants as word
-use Rattle.case_text.specs.Words.{word_of, text_of, is_separator, is_equals, is_run}
-use Rattle.case_text.specs.Names.{is_version_one, is_target, field_of, takes_number, takes_text, takes_bracket}
+use Rattle.case_text.specs.Words.{word_of, text_of, is_separator}
+use Rattle.case_text.specs.Names.{is_version_one, field_of, takes_number, takes_text, takes_bracket}
 use Rattle.case_text.specs.Nests.{Nest, and_then, first_nest, step, behind_brackets}
 use Rattle.case_text.specs.Matrices.{CaseMatrices}
-use Rattle.case_text.specs.Statements.{Setting, Read, behind_end, ended, plain_value, bracketed, value_by, statement_at, matrix_rows, not_version_one}
+use Rattle.case_text.specs.Statements.{Setting, behind_end, ended, plain_value, bracketed, value_by, statement_at, matrix_rows, not_version_one}
 use Rattle.case_text.specs.Settings.{Settings, with_setting, all_set}
 use Rattle.case_text.specs.Cases.{past_separators, case_from, at_end, function_from, statements_from}
 use Rattle.scaled_decimal.specs.Reading.{is_number_text}
@@ -115,9 +115,9 @@ rest-brackets text stop numbers nest [] rest e = absurd (Prim.cc)
 rest-brackets text stop numbers nest (token ∷ tokens) rest e =
     let p = then-ok (step text numbers token nest) (λ (next : Nest). cond (length next.brackets == 0) (Ok tokens) (behind_brackets text stop numbers next tokens)) rest e in
     rest-more rest tokens token (either (length (p.0).brackets == 0) (behind_brackets text stop numbers p.0 tokens) p.2 (rest-brackets text stop numbers p.0 tokens rest)) where
-  either : (test : Bool) (read : Result (List Token) CaseFault) → cond test (Ok tokens) read ≡ Ok rest → (read ≡ Ok rest → IsRest rest tokens) → IsRest rest tokens
-  either true read e h = subst (λ x. IsRest x tokens) (same-ok tokens rest (Ok tokens) refl e) (rest-all tokens)
-  either false read e h = h e
+      either : (test : Bool) (read : Result (List Token) CaseFault) → cond test (Ok tokens) read ≡ Ok rest → (read ≡ Ok rest → IsRest rest tokens) → IsRest rest tokens
+      either true read e h = subst (λ x. IsRest x tokens) (same-ok tokens rest (Ok tokens) refl e) (rest-all tokens)
+      either false read e h = h e
 
 rest-bracketed : (text : List ℕ) (stop : Option ℕ) (line : ℕ) (field : Option Field) (opening : Bracket) (tokens : List Token) (read : Setting × List Token) →
     bracketed text stop line field opening tokens ≡ Ok read → IsRest read.1 tokens
@@ -125,7 +125,7 @@ unfolding bracketed
 rest-bracketed text stop line field opening tokens read e =
     let setting : Setting = record { field = field; rows = matrix_rows field text tokens } in
     let p = then-ok (behind_brackets text stop (is_some field) (first_nest opening) tokens) (λ behind. ended text line setting behind) read
-        (allowed (takes_bracket field opening) (fault.Code line) read _ e) in
+    (allowed (takes_bracket field opening) (fault.Code line) read _ e) in
     rest-through read.1 p.0 tokens (rest-ended text line setting p.0 read p.2) (rest-brackets text stop (is_some field) (first_nest opening) tokens p.0 p.1)
 
 rest-value : (said : Word) (text : List ℕ) (stop : Option ℕ) (line : ℕ) (field : Option Field) (value : Token) (tokens : List Token) (read : Setting × List Token) →
@@ -135,7 +135,7 @@ rest-value word.Run text stop line field value tokens read e = rest-plain text l
 rest-value word.Quoted text stop line field value tokens read e =
     let p = then-ok (plain_value text line field (takes_text field (text_of text value)) tokens) (not_version_one field (text_of text value)) read e in
     subst (λ (x : Setting × List Token). IsRest x.1 tokens) (same-ok p.0 read (Ok p.0) refl (refused (is_some field && is_version_one (text_of text value)) fault.VersionOne read (Ok p.0) p.2))
-      (rest-plain text line field (takes_text field (text_of text value)) tokens p.0 p.1)
+    (rest-plain text line field (takes_text field (text_of text value)) tokens p.0 p.1)
 rest-value (word.Opening opening) text stop line field value tokens read e = rest-bracketed text stop line field opening tokens read e
 rest-value word.LineEnd text stop line field value tokens read e = absurd (no-ok (fault.Code line) read _ refl e)
 rest-value word.Block text stop line field value tokens read e = absurd (no-ok (fault.Code line) read _ refl e)
@@ -151,7 +151,7 @@ rest-statement text stop head [] read e = absurd (no-ok (fault.Code head.line) r
 rest-statement text stop head (equals ∷ []) read e = absurd (no-ok (fault.Code head.line) read _ refl e)
 rest-statement text stop head (equals ∷ value ∷ tokens) read e =
     rest-more read.1 (value ∷ tokens) equals (rest-more read.1 tokens value
-      (rest-value (word_of text value) text stop head.line (field_of (text_of text head)) value tokens read (allowed _ (fault.Code head.line) read _ e)))
+    (rest-value (word_of text value) text stop head.line (field_of (text_of text head)) value tokens read (allowed _ (fault.Code head.line) read _ e)))
 
 -- ---- from statement to statement
 case-wait : (text : List ℕ) (stop : Option ℕ) (settings : Settings) (n : ℕ) (tokens : List Token) → case_from text stop settings n tokens ≡ case_from text stop settings 0 (drop n tokens)
@@ -187,8 +187,9 @@ case-other text stop settings token tokens h = ap (λ test. cond test (case_from
 case-past : (text : List ℕ) (stop : Option ℕ) (settings : Settings) (tokens : List Token) → case_from text stop settings 0 tokens ≡ case_from text stop settings 0 (past_separators text tokens)
 case-past text stop settings [] = ap (case_from text stop settings 0) (sym (past-none text))
 case-past text stop settings (token ∷ tokens) = elim (cases_Bool (is_separator (word_of text token))) [
-    inl h ↦ case-separator text stop settings token tokens h ∙ case-past text stop settings tokens ∙ ap (case_from text stop settings 0) (sym (past-separator text token tokens h))
-  | inr h ↦ ap (case_from text stop settings 0) (sym (past-other text token tokens h)) ]
+  | inl h ↦ case-separator text stop settings token tokens h ∙ case-past text stop settings tokens ∙ ap (case_from text stop settings 0) (sym (past-separator text token tokens h))
+  | inr h ↦ ap (case_from text stop settings 0) (sym (past-other text token tokens h))
+]
 
 -- ---- the loop over the statements, where all of them give whole
 pub case-ends : (whole : Result CaseMatrices CaseFault) (text : List ℕ) (stop : Option ℕ) (settings : Settings) (tokens : List Token) →

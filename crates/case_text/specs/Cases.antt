@@ -1,5 +1,5 @@
 -- What the text of a case means: its matrices, or its first fault.
-use Rattle.std.specs.Prelude.{ℕ, zero, suc, ◌-◌, ◌==◌, ◌&&◌, nat_lt, Bool, List, [], ◌∷◌, length, take, drop, codes, Option, Some, None, Result, Ok, Err, if◌then◌else◌}
+use Rattle.std.specs.Prelude.{ℕ, zero, suc, ◌-◌, ◌&&◌, nat_lt, Bool, List, [], ◌∷◌, length, take, drop, codes, Option, Some, None, Result, Err, if◌then◌else◌}
 use Rattle.std.specs.Str.{bytes_eq}
 use Rattle.case_tokens.specs.declared.Token.{Token}
 use Rattle.case_tokens.specs.TokenLists.{token_list}
@@ -46,7 +46,7 @@ function_from text stop head [] = Err (fault.Code head.line)
 function_from text stop head (next ∷ tokens) =
     if is_run_of (codes "function") text head
     then (if opens_square (word_of text next) && nat_lt head.span.end next.span.start then Err fault.VersionOne
-      else (if is_run_of (codes "mpc") text next then named_from text stop head.line tokens else Err (fault.Code head.line)))
+    else (if is_run_of (codes "mpc") text next then named_from text stop head.line tokens else Err (fault.Code head.line)))
     else Err (fault.Code head.line)
 
 -- the tokens from the first on that does not part statements

@@ -1,5 +1,5 @@
 -- What may stand inside brackets, token by token.
-use Rattle.std.specs.Prelude.{ℕ, ◌+◌, ◌-◌, ◌==◌, ◌&&◌, not, nat_lt, Bool, true, false, List, [], ◌∷◌, ◌++◌, length, take, slice_index_or, Option, unwrap_or, Result, Ok, Err, if◌then◌else◌}
+use Rattle.std.specs.Prelude.{ℕ, ◌-◌, ◌==◌, ◌&&◌, not, nat_lt, Bool, true, false, List, [], ◌∷◌, ◌++◌, length, take, slice_index_or, Option, unwrap_or, Result, Ok, Err, if◌then◌else◌}
 use Rattle.case_tokens.specs.declared.Token.{Token}
 use Rattle.case_text.specs.declared.CaseFault.{CaseFault}
 use Rattle.case_text.specs.declared.CaseFault.TheVariants as fault
@@ -59,10 +59,10 @@ step_by word.Quoted numbers token nest =
     where_allowed (not numbers && is_parted nest.before token.span.start) token.span.start (record { brackets = nest.brackets; before = before.Element token.span.end })
 step_by (word.Opening opening) numbers token nest =
     where_allowed (is_curly (innermost nest.brackets) && nat_lt (length nest.brackets) 8 && is_parted nest.before token.span.start) token.span.start
-      (record { brackets = nest.brackets ++ opening ∷ []; before = before.Nothing })
+    (record { brackets = nest.brackets ++ opening ∷ []; before = before.Nothing })
 step_by (word.Closing closing) numbers token nest =
     where_allowed (same_bracket closing (innermost nest.brackets)) token.span.start
-      (record { brackets = take (length nest.brackets - 1) nest.brackets; before = before.Element token.span.end })
+    (record { brackets = take (length nest.brackets - 1) nest.brackets; before = before.Element token.span.end })
 
 abbrev pub step : List ℕ → Bool → Token → Nest → Result Nest CaseFault
 step text numbers token nest = step_by (word_of text token) numbers token nest

@@ -1,5 +1,5 @@
 -- What the functions that read tokens give.
-use Rattle.std.specs.Prelude.{◌≡◌, ◌≢◌, List, ◌∷◌, length, map, Option, Result, Ok, Err, MatchResult}
+use Rattle.std.specs.Prelude.{◌≡◌, ◌≢◌, ◌∷◌, length, Result, Ok, Err, MatchResult}
 use Rattle.case_tokens.specs.declared.Token.{Token}
 use Rattle.case_tokens.specs.TokenLists.{Remaining, IsWithin}
 use Rattle.case_text.specs.declared.CaseFault.{CaseFault}

@@ -50,7 +50,7 @@ unfoldable pub bracketed : List ℕ → Option ℕ → ℕ → Option Field → 
 bracketed text stop line field opening tokens =
     if takes_bracket field opening
     then and_then (behind_brackets text stop (is_some field) (first_nest opening) tokens)
-      (λ behind. ended text line (record { field = field; rows = matrix_rows field text tokens }) behind)
+    (λ behind. ended text line (record { field = field; rows = matrix_rows field text tokens }) behind)
     else Err (fault.Code line)
 
 -- the value, and the end of the statement

@@ -8,12 +8,11 @@ ghost use Rattle.case_text.specs.Matrices.{closes, ends_row, cells_of, some_row,
 ghost use Rattle.case_text.specs.Readers.{Gives, SameEnd};
 ghost use Rattle.case_text.specs.declared.words.Bracket.{Bracket};
 
-use std::alloc::Global;
-
 use crate::CaseFault;
 use crate::nests::{first_nest, step, token_inside};
 use crate::words::{Bracket, Word, text_of, word_of};
 use case_tokens::{Token, Tokens};
+use std::alloc::Global;
 
 /// The rows of a matrix, each the texts of its cells.
 pub type MatrixRows<'a> = Vec<Vec<&'a [u8]>>;
@@ -100,7 +99,7 @@ fn gather<'a>(
     ensures ok { let row = map (λ c. c.now) gathered.entry.row.items in let rows = map (λ r. map (λ c. c.now) r.items) gathered.entry.rows.items in
         let ends = closes (word_of text.entry.now token) || ends_row (word_of text.entry.now token) in
         IfOk result (λ now. (map (λ c. c.now) now.row.items ≡ (if ends then [] else row ++ cells_of text.entry.now token))
-            × (map (λ r. map (λ c. c.now) r.items) now.rows.items ≡ (if ends then rows ++ some_row row else rows))) }
+        × (map (λ r. map (λ c. c.now) r.items) now.rows.items ≡ (if ends then rows ++ some_row row else rows))) }
     ensures err { IfErr result (λ e. e ≡ CaseFault.Memory) }
 {
     let Gathered { rows, row } = gathered;

@@ -8,11 +8,10 @@ ghost use Rattle.case_text.specs.Readers.{Gives, SameEnd, IsNext};
 ghost use Rattle.case_text.specs.Nesting.{nest_of};
 ghost use Rattle.case_text.specs.declared.nests.Before.{Before};
 
-use std::alloc::Global;
-
 use crate::CaseFault;
 use crate::words::{Bracket, Word, word_of};
 use case_tokens::{Token, TokenFault, Tokens};
+use std::alloc::Global;
 
 /// What stands before in the row of the innermost bracket.
 #[derive(Clone, Copy)]

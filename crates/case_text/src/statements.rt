@@ -13,16 +13,19 @@ ghost use Rattle.case_text.specs.declared.CaseFault.{CaseFault};
 ghost use Rattle.case_text.specs.Readers.{Gives, SameEnd, IsNext};
 ghost use Rattle.case_text.specs.Views.{setting_of};
 
-use std::alloc::Global;
-
 use crate::matrices::{MatrixRows, read_rows};
-use crate::names::{field_of, is_name, is_target, is_version_one, takes_bracket, takes_number, takes_text};
+use crate::names::{
+    field_of, is_name, is_target, is_version_one, takes_bracket, takes_number, takes_text,
+};
 use crate::nests::skip_brackets;
 use crate::settings::{Settings, all_set, no_settings, with_setting};
-use crate::words::{Bracket, Word, is_equals, is_run, is_separator, opens_square, text_of, word_of};
+use crate::words::{
+    Bracket, Word, is_equals, is_run, is_separator, opens_square, text_of, word_of,
+};
 use crate::{CaseFault, Field, RawCase};
 use case_tokens::{Token, TokenFault, Tokens};
 use scaled_decimal::is_number;
+use std::alloc::Global;
 
 /// What a statement sets: a field that a case has to set, or none of these, and the rows where it is a matrix.
 #[derive(Drop)]

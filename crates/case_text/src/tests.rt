@@ -1,146 +1,171 @@
 use super::*;
+use std::alloc::AllocError;
 use std::test::Fail;
 
-/// Texts that are no cases, and the fault of each.
-const FAULTS: [(&[u8], CaseFault); 128] = [
-    (b"", CaseFault::NoVersion),
-    (b" \t\r\n\n", CaseFault::NoVersion),
-    (b"% comment", CaseFault::NoVersion),
-    (b";,;\n", CaseFault::NoVersion),
-    (b"...\n", CaseFault::NoVersion),
-    (b"\xEF\xBB\xBF", CaseFault::NoVersion),
-    (b"%{", CaseFault::Code { line: 1 }),
-    (b"\n%}", CaseFault::Code { line: 2 }),
-    (b"x", CaseFault::Code { line: 1 }),
-    (b"mpc.version = '2';", CaseFault::Code { line: 1 }),
-    (b"function", CaseFault::Code { line: 1 }),
-    (b"function mpc", CaseFault::Code { line: 1 }),
-    (b"function mpc =", CaseFault::Code { line: 1 }),
-    (b"function mpc = t", CaseFault::NoVersion),
-    (b"function mpc=t", CaseFault::NoVersion),
-    (b"function\nmpc = t", CaseFault::Code { line: 1 }),
-    (b"function mpc = 5", CaseFault::Code { line: 1 }),
-    (b"function mpc = t_1", CaseFault::NoVersion),
-    (b"function mpc = _t", CaseFault::Code { line: 1 }),
-    (b"function [a, b] = t", CaseFault::VersionOne),
-    (b"function[a, b] = t", CaseFault::Code { line: 1 }),
-    (b"function ...\n [a] = t", CaseFault::VersionOne),
-    (b"function ... x\n mpc ...\n = ...\nt", CaseFault::NoVersion),
-    (b"function...\nmpc = t", CaseFault::Code { line: 1 }),
-    (b"function mpcx = t", CaseFault::Code { line: 1 }),
-    (b"functions mpc = t", CaseFault::Code { line: 1 }),
-    (b"\xEF\xBB\xBFfunction mpc = t", CaseFault::NoVersion),
-    (b"\xEF\xBB\xBF\xEF\xBB\xBFfunction mpc = t", CaseFault::Code { line: 1 }),
-    (b"function 'mpc' = t", CaseFault::Code { line: 1 }),
-    (b"function mpc = t x", CaseFault::Code { line: 1 }),
-    (b"function mpc = t\nfunction mpc = t", CaseFault::Code { line: 2 }),
-    (b"function mpc = t mpc.version = '2'", CaseFault::Missing { field: Field::BaseMva }),
-    (b"function mpc = t\nmpc.version = '2'", CaseFault::Missing { field: Field::BaseMva }),
-    (b"function mpc = t\nmpc.version = \"2\"", CaseFault::Missing { field: Field::BaseMva }),
-    (b"function mpc = t\nmpc.version = '1'", CaseFault::VersionOne),
-    (b"function mpc = t\nmpc.version = \"1\";", CaseFault::VersionOne),
-    (b"function mpc = t\nmpc.version = '1' 2", CaseFault::Code { line: 2 }),
-    (b"function mpc = t\nmpc.version = 2", CaseFault::Code { line: 2 }),
-    (b"function mpc = t\nmpc.version = '3'", CaseFault::Code { line: 2 }),
-    (b"function mpc = t\nmpc.version = ['2']", CaseFault::Code { line: 2 }),
-    (b"function mpc = t\nmpc.version = '2'\nmpc.version = '2'", CaseFault::Twice { field: Field::Version }),
-    (b"function mpc = t\nmpc.version = '2'\nmpc.version = '1'", CaseFault::VersionOne),
-    (b"function mpc = t\nmpc.version = '2'; mpc.version = '3'", CaseFault::Code { line: 2 }),
-    (b"function mpc = t\nmpc.version", CaseFault::Code { line: 2 }),
-    (b"function mpc = t\nmpc.version =", CaseFault::Code { line: 2 }),
-    (b"function mpc = t\nmpc.version = \n'2'", CaseFault::Code { line: 2 }),
-    (b"function mpc = t\nmpc.version = ...\n'2'", CaseFault::Missing { field: Field::BaseMva }),
-    (b"function mpc = t\nmpc.version ...\n= '2'", CaseFault::Missing { field: Field::BaseMva }),
-    (b"function mpc = t\nmpc . version = '2'", CaseFault::Code { line: 2 }),
-    (b"function mpc = t\nmpc.1 = 2", CaseFault::Code { line: 2 }),
-    (b"function mpc = t\nmpc. = 2", CaseFault::Code { line: 2 }),
-    (b"function mpc = t\nmpc.a. = 2", CaseFault::Code { line: 2 }),
-    (b"function mpc = t\nmpc = 2", CaseFault::Code { line: 2 }),
-    (b"function mpc = t\nmpcx.a = 2", CaseFault::Code { line: 2 }),
-    (b"function mpc = t\nmpc.a.b_1 = 2", CaseFault::NoVersion),
-    (b"function mpc = t\nmpc.version.x = 7", CaseFault::NoVersion),
-    (b"function mpc = t\nmpc.a = 5...", CaseFault::Code { line: 2 }),
-    (b"function mpc = t\nmpc.a = 5 ...", CaseFault::NoVersion),
-    (b"function mpc = t\nmpc.a = 5x", CaseFault::Code { line: 2 }),
-    (b"function mpc = t\nmpc.a = -.5e+1", CaseFault::NoVersion),
-    (b"function mpc = t\nmpc.a = NaN", CaseFault::NoVersion),
-    (b"function mpc = t\nmpc.a = x", CaseFault::Code { line: 2 }),
-    (b"function mpc = t\nmpc.a = 'b", CaseFault::Code { line: 2 }),
-    (b"function mpc = t\nmpc.a = 'b''c';", CaseFault::NoVersion),
-    (b"function mpc = t\nmpc.a = 5'b'", CaseFault::Code { line: 2 }),
-    (b"function mpc = t\nmpc.a = 'b'5", CaseFault::Code { line: 2 }),
-    (b"function mpc = t\nmpc.a = 5 6", CaseFault::Code { line: 2 }),
-    (b"function mpc = t\nmpc.a = 5 % 6", CaseFault::NoVersion),
-    (b"function mpc = t\nmpc.a = 5 %{", CaseFault::NoVersion),
-    (b"function mpc = t\nmpc.a = ...\n%{\n5", CaseFault::Code { line: 2 }),
-    (b"function mpc = t\nmpc.a = 5\n%{\n", CaseFault::Code { line: 3 }),
-    (b"function mpc = t\nmpc.a = (5)", CaseFault::Code { line: 2 }),
-    (b"function mpc = t\nmpc.a == 5", CaseFault::Code { line: 2 }),
-    (b"function mpc = t\nmpc.a, = 5", CaseFault::Code { line: 2 }),
-    (b"function mpc = t\nmpc.a = []", CaseFault::NoVersion),
-    (b"function mpc = t\nmpc.a = [", CaseFault::BadToken { at: 26 }),
-    (b"function mpc = t\nmpc.a = [1 2", CaseFault::BadToken { at: 29 }),
-    (b"function mpc = t\nmpc.a = [1, 2,]", CaseFault::NoVersion),
-    (b"function mpc = t\nmpc.a = [1,,2]", CaseFault::BadToken { at: 28 }),
-    (b"function mpc = t\nmpc.a = [,1]", CaseFault::BadToken { at: 26 }),
-    (b"function mpc = t\nmpc.a = [;;\n;1]", CaseFault::NoVersion),
-    (b"function mpc = t\nmpc.a = [1 x]", CaseFault::BadToken { at: 28 }),
-    (b"function mpc = t\nmpc.a = [1 'b']", CaseFault::NoVersion),
-    (b"function mpc = t\nmpc.a = ['b'1]", CaseFault::BadToken { at: 26 }),
-    (b"function mpc = t\nmpc.a = [1'b']", CaseFault::BadToken { at: 26 }),
-    (b"function mpc = t\nmpc.a = [1[2]]", CaseFault::BadToken { at: 26 }),
-    (b"function mpc = t\nmpc.a = [1 [2]]", CaseFault::BadToken { at: 28 }),
-    (b"function mpc = t\nmpc.a = [1}", CaseFault::BadToken { at: 27 }),
-    (b"function mpc = t\nmpc.a = {1 [2 3] {'b'}}", CaseFault::NoVersion),
-    (b"function mpc = t\nmpc.a = {[1][2]}", CaseFault::BadToken { at: 29 }),
-    (b"function mpc = t\nmpc.a = {[1]5}", CaseFault::BadToken { at: 29 }),
-    (b"function mpc = t\nmpc.a = {[1]'b'}", CaseFault::BadToken { at: 29 }),
-    (b"function mpc = t\nmpc.a = {[1] [2]}", CaseFault::NoVersion),
-    (b"function mpc = t\nmpc.a = {[1]...\n[2]}", CaseFault::NoVersion),
-    (b"function mpc = t\nmpc.a = {{{{{{{{1}}}}}}}}", CaseFault::NoVersion),
-    (b"function mpc = t\nmpc.a = {{{{{{{{{", CaseFault::BadToken { at: 33 }),
-    (b"function mpc = t\nmpc.a = [1 = 2]", CaseFault::BadToken { at: 28 }),
-    (b"function mpc = t\nmpc.a = [1\n%{\n2]", CaseFault::Code { line: 3 }),
-    (b"function mpc = t\nmpc.a = [x\n%{\n2]", CaseFault::BadToken { at: 26 }),
-    (b"function mpc = t\nmpc.a = ['b]", CaseFault::BadToken { at: 26 }),
-    (b"function mpc = t\nmpc.a = [1 2] 3", CaseFault::Code { line: 2 }),
-    (b"function mpc = t\nmpc.a = [x] 3", CaseFault::BadToken { at: 26 }),
-    (b"function mpc = t\nmpc.a = [1] [2]", CaseFault::Code { line: 2 }),
-    (b"function mpc = t\nmpc.a = [1]]", CaseFault::Code { line: 2 }),
-    (b"function mpc = t\nmpc.a = [1]%2", CaseFault::NoVersion),
-    (b"function mpc = t\nmpc.a = { 'a % b'; 'two' }", CaseFault::NoVersion),
-    (b"function mpc = t\nmpc.a = [1 ...\n2]", CaseFault::NoVersion),
-    (b"function mpc = t\nmpc.baseMVA = '100'", CaseFault::Code { line: 2 }),
-    (b"function mpc = t\nmpc.baseMVA = 100\nmpc.baseMVA = 100", CaseFault::Twice { field: Field::BaseMva }),
-    (b"function mpc = t\nmpc.baseMVA = [100]", CaseFault::Code { line: 2 }),
-    (b"function mpc = t\nmpc.bus = 5", CaseFault::Code { line: 2 }),
-    (b"function mpc = t\nmpc.bus = { x }", CaseFault::Code { line: 2 }),
-    (b"function mpc = t\nmpc.bus = ['1']", CaseFault::BadToken { at: 28 }),
-    (b"function mpc = t\nmpc.bus = [[1]]", CaseFault::BadToken { at: 28 }),
-    (b"function mpc = t\nmpc.bus = [1 2; 3]", CaseFault::Ragged { field: Field::Bus, row: 2 }),
-    (b"function mpc = t\nmpc.bus = [1 2\n;\n3 4\n5]", CaseFault::Ragged { field: Field::Bus, row: 3 }),
-    (b"function mpc = t\nmpc.bus = [1 2; 3] x", CaseFault::Code { line: 2 }),
-    (b"function mpc = t\nmpc.bus = [1 2]", CaseFault::Narrow { field: Field::Bus }),
-    (b"function mpc = t\nmpc.gen = [1 2 3 4 5 6 7 8 9]", CaseFault::Narrow { field: Field::Gen }),
-    (b"function mpc = t\nmpc.gen = [1 2 3 4 5 6 7 8 9 10]", CaseFault::NoVersion),
-    (b"function mpc = t\nmpc.branch = [1 2 3 4 5 6 7 8 9 10]", CaseFault::Narrow { field: Field::Branch }),
-    (b"function mpc = t\nmpc.bus = []\nmpc.bus = [1;2 3]", CaseFault::Twice { field: Field::Bus }),
-    (b"function mpc = t\nmpc.version='2',mpc.baseMVA=100;mpc.bus=[]\nmpc.branch=[]", CaseFault::Missing { field: Field::Gen }),
-    (b"function mpc = t\nmpc.version='2';mpc.baseMVA=100;mpc.gen=[];mpc.branch=[]", CaseFault::Missing { field: Field::Bus }),
-    (b"function mpc = t\nmpc.version='2';mpc.baseMVA=100;mpc.bus=[];mpc.gen=[]", CaseFault::Missing { field: Field::Branch }),
-    (b"function mpc = t\nmpc.version = '2';\nmpc.branch = [\n1 2 0", CaseFault::BadToken { at: 56 }),
-    (b"function mpc = t\nmpc.a = Inf'", CaseFault::Code { line: 2 }),
-    (b"function mpc = t\r\nmpc.version = '2';\r\n", CaseFault::Missing { field: Field::BaseMva }),
-];
+/// Texts that are no cases, each behind the fault of it. In a text `$` stands for a line end, `^` for a carriage return, `!` for a tab,
+/// and `#` for a first statement on a line of its own.
+const FAULTS: &[u8] = b"NoVersion|
+NoVersion| !^$$
+NoVersion|% comment
+NoVersion|;,;$
+NoVersion|...$
+NoVersion|\xEF\xBB\xBF
+Code { line: 1 }|%{
+Code { line: 2 }|$%}
+Code { line: 1 }|x
+Code { line: 1 }|mpc.version = '2';
+Code { line: 1 }|function
+Code { line: 1 }|function mpc
+Code { line: 1 }|function mpc =
+NoVersion|function mpc = t
+NoVersion|function mpc=t
+Code { line: 1 }|function$mpc = t
+Code { line: 1 }|function mpc = 5
+NoVersion|function mpc = t_1
+Code { line: 1 }|function mpc = _t
+VersionOne|function [a, b] = t
+Code { line: 1 }|function[a, b] = t
+VersionOne|function ...$ [a] = t
+NoVersion|function ... x$ mpc ...$ = ...$t
+Code { line: 1 }|function...$mpc = t
+Code { line: 1 }|function mpcx = t
+Code { line: 1 }|functions mpc = t
+NoVersion|\xEF\xBB\xBFfunction mpc = t
+Code { line: 1 }|\xEF\xBB\xBF\xEF\xBB\xBFfunction mpc = t
+Code { line: 1 }|function 'mpc' = t
+Code { line: 1 }|function mpc = t x
+Code { line: 2 }|#function mpc = t
+Missing { field: BaseMva }|function mpc = t mpc.version = '2'
+Missing { field: BaseMva }|#mpc.version = '2'
+Missing { field: BaseMva }|#mpc.version = \"2\"
+VersionOne|#mpc.version = '1'
+VersionOne|#mpc.version = \"1\";
+Code { line: 2 }|#mpc.version = '1' 2
+Code { line: 2 }|#mpc.version = 2
+Code { line: 2 }|#mpc.version = '3'
+Code { line: 2 }|#mpc.version = ['2']
+Twice { field: Version }|#mpc.version = '2'$mpc.version = '2'
+VersionOne|#mpc.version = '2'$mpc.version = '1'
+Code { line: 2 }|#mpc.version = '2'; mpc.version = '3'
+Code { line: 2 }|#mpc.version
+Code { line: 2 }|#mpc.version =
+Code { line: 2 }|#mpc.version = $'2'
+Missing { field: BaseMva }|#mpc.version = ...$'2'
+Missing { field: BaseMva }|#mpc.version ...$= '2'
+Code { line: 2 }|#mpc . version = '2'
+Code { line: 2 }|#mpc.1 = 2
+Code { line: 2 }|#mpc. = 2
+Code { line: 2 }|#mpc.a. = 2
+Code { line: 2 }|#mpc = 2
+Code { line: 2 }|#mpcx.a = 2
+NoVersion|#mpc.a.b_1 = 2
+NoVersion|#mpc.version.x = 7
+Code { line: 2 }|#mpc.a = 5...
+NoVersion|#mpc.a = 5 ...
+Code { line: 2 }|#mpc.a = 5x
+NoVersion|#mpc.a = -.5e+1
+NoVersion|#mpc.a = NaN
+Code { line: 2 }|#mpc.a = x
+Code { line: 2 }|#mpc.a = 'b
+NoVersion|#mpc.a = 'b''c';
+Code { line: 2 }|#mpc.a = 5'b'
+Code { line: 2 }|#mpc.a = 'b'5
+Code { line: 2 }|#mpc.a = 5 6
+NoVersion|#mpc.a = 5 % 6
+NoVersion|#mpc.a = 5 %{
+Code { line: 2 }|#mpc.a = ...$%{$5
+Code { line: 3 }|#mpc.a = 5$%{$
+Code { line: 2 }|#mpc.a = (5)
+Code { line: 2 }|#mpc.a == 5
+Code { line: 2 }|#mpc.a, = 5
+NoVersion|#mpc.a = []
+BadToken { at: 26 }|#mpc.a = [
+BadToken { at: 29 }|#mpc.a = [1 2
+NoVersion|#mpc.a = [1, 2,]
+BadToken { at: 28 }|#mpc.a = [1,,2]
+BadToken { at: 26 }|#mpc.a = [,1]
+NoVersion|#mpc.a = [;;$;1]
+BadToken { at: 28 }|#mpc.a = [1 x]
+NoVersion|#mpc.a = [1 'b']
+BadToken { at: 26 }|#mpc.a = ['b'1]
+BadToken { at: 26 }|#mpc.a = [1'b']
+BadToken { at: 26 }|#mpc.a = [1[2]]
+BadToken { at: 28 }|#mpc.a = [1 [2]]
+BadToken { at: 27 }|#mpc.a = [1}
+NoVersion|#mpc.a = {1 [2 3] {'b'}}
+BadToken { at: 29 }|#mpc.a = {[1][2]}
+BadToken { at: 29 }|#mpc.a = {[1]5}
+BadToken { at: 29 }|#mpc.a = {[1]'b'}
+NoVersion|#mpc.a = {[1] [2]}
+NoVersion|#mpc.a = {[1]...$[2]}
+NoVersion|#mpc.a = {{{{{{{{1}}}}}}}}
+BadToken { at: 33 }|#mpc.a = {{{{{{{{{
+BadToken { at: 28 }|#mpc.a = [1 = 2]
+Code { line: 3 }|#mpc.a = [1$%{$2]
+BadToken { at: 26 }|#mpc.a = [x$%{$2]
+BadToken { at: 26 }|#mpc.a = ['b]
+Code { line: 2 }|#mpc.a = [1 2] 3
+BadToken { at: 26 }|#mpc.a = [x] 3
+Code { line: 2 }|#mpc.a = [1] [2]
+Code { line: 2 }|#mpc.a = [1]]
+NoVersion|#mpc.a = [1]%2
+NoVersion|#mpc.a = { 'a % b'; 'two' }
+NoVersion|#mpc.a = [1 ...$2]
+Code { line: 2 }|#mpc.baseMVA = '100'
+Twice { field: BaseMva }|#mpc.baseMVA = 100$mpc.baseMVA = 100
+Code { line: 2 }|#mpc.baseMVA = [100]
+Code { line: 2 }|#mpc.bus = 5
+Code { line: 2 }|#mpc.bus = { x }
+BadToken { at: 28 }|#mpc.bus = ['1']
+BadToken { at: 28 }|#mpc.bus = [[1]]
+Ragged { field: Bus, row: 2 }|#mpc.bus = [1 2; 3]
+Ragged { field: Bus, row: 3 }|#mpc.bus = [1 2$;$3 4$5]
+Code { line: 2 }|#mpc.bus = [1 2; 3] x
+Narrow { field: Bus }|#mpc.bus = [1 2]
+Narrow { field: Gen }|#mpc.gen = [1 2 3 4 5 6 7 8 9]
+NoVersion|#mpc.gen = [1 2 3 4 5 6 7 8 9 10]
+Narrow { field: Branch }|#mpc.branch = [1 2 3 4 5 6 7 8 9 10]
+Twice { field: Bus }|#mpc.bus = []$mpc.bus = [1;2 3]
+Missing { field: Gen }|#mpc.version='2',mpc.baseMVA=100;mpc.bus=[]$mpc.branch=[]
+Missing { field: Bus }|#mpc.version='2';mpc.baseMVA=100;mpc.gen=[];mpc.branch=[]
+Missing { field: Branch }|#mpc.version='2';mpc.baseMVA=100;mpc.bus=[];mpc.gen=[]
+BadToken { at: 56 }|#mpc.version = '2';$mpc.branch = [$1 2 0
+Code { line: 2 }|#mpc.a = Inf'
+Missing { field: BaseMva }|function mpc = t^$mpc.version = '2';^$";
 
-#[test]
-fn tells_faults(rt: HostRuntime) {
-    for (text, fault) in FAULTS {
-        match read_case(rt.alloc(), text) {
-            Ok(_) => panic!(&rt; "a case: {text:?}"),
-            Err(found) => assert_eq!(rt; found, fault, "{text:?}"),
+/// The text that a row stands for.
+fn text_of_row(alloc: Global, row: &[u8]) -> Result<Vec<u8>, AllocError> {
+    let mut text = Vec::new(alloc);
+    for byte in row {
+        match byte {
+            b'$' => text.push(b'\n')?,
+            b'^' => text.push(b'\r')?,
+            b'!' => text.push(b'\t')?,
+            b'#' => text.extend_from_slice(b"function mpc = t\n")?,
+            _ => text.push(*byte)?,
         }
     }
+    Ok(text)
+}
+
+#[test]
+fn tells_faults(rt: HostRuntime) -> Result<(), Fail> {
+    let mut rows = 0u64;
+    for row in FAULTS.split(|byte| *byte == b'\n') {
+        let mut parts = row.splitn(2, |byte| *byte == b'|');
+        let (Some(wanted), Some(text)) = (parts.next(), parts.next()) else {
+            panic!(&rt; "no row: {row:?}");
+        };
+        let text = text_of_row(rt.alloc(), text)?;
+        let found = match read_case(rt.alloc(), text.as_slice()) {
+            Ok(_) => format!(in rt.alloc(); "a case")?,
+            Err(fault) => format!(in rt.alloc(); "{fault:?}")?,
+        };
+        assert_eq!(rt; found.as_bytes(), wanted, "{text:?}");
+        rows = rows.wrapping_add(1);
+    }
+    assert_eq!(rt; rows, 128);
+    Ok(())
 }
 
 #[test]

@@ -1,12 +1,9 @@
-use Rattle.std.proofs.Common.{◌≡◌, ◌∙◌, sym, ap, refl, [], ◌∷◌, ◌++◌, map, List, true, arith, inl, inr}
+use Rattle.std.proofs.Common.{◌∙◌, sym, ap, refl, true, arith, inr}
 use Rattle.std.proofs.lemmas.Result.{err_from_is_err_and}
-use Rattle.case_text.specs.declared.words.Bracket.{Bracket}
-use Rattle.case_text.specs.declared.words.Bracket.TheVariants as bracket
 use Rattle.case_text.specs.Nests.{Nest}
-use Rattle.case_text.specs.Nesting.{nest_of, behind_nest, rows_left}
-use Rattle.case_text.specs.Matrices.{rows_from}
+use Rattle.case_text.specs.Nesting.{nest_of, behind_nest}
 use Rattle.case_text.proofs.NestLemmas.{nest-more, nest-fails, nest-stops, nest-closed, nest-opened, not_empty, all_empty, flat-step, only-square, stays-flat}
-use Rattle.case_text.proofs.RowLemmas.{rows-keeps, rows-done, rows-start, left-some}
+use Rattle.case_text.proofs.RowLemmas.{rows-keeps, rows-done, rows-start}
 use Rattle.case_text.proofs.matrices.read_rows.Goals as goal
 
 pub loop-alloc-init : goal.loop-alloc-init
@@ -16,8 +13,8 @@ loop-alloc-init c =
     record {
       same = record { text = refl; fault = refl };
       behind =
-        sym (nest-opened c.args.text.now tokens.fault true _ tokens.tokens (λ e. Prim.omega (arith, e)))
-        ∙ ap (λ nest. behind_nest c.args.text.now tokens.fault true nest tokens.tokens) (sym c.in_ok-nest.ensures.ok);
+          sym (nest-opened c.args.text.now tokens.fault true _ tokens.tokens (λ e. Prim.omega (arith, e)))
+          ∙ ap (λ nest. behind_nest c.args.text.now tokens.fault true nest tokens.tokens) (sym c.in_ok-nest.ensures.ok);
       flat = inr flat;
       rows = rows-start _ _ c.new.result.items c.new-2.result.items c.args.text.now (nest_of c.in_ok-nest.nest) tokens.tokens c.new.ensures.items c.new-2.ensures.items flat;
     }

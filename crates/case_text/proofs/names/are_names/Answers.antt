@@ -9,5 +9,5 @@ pub returns : goal.returns
 unfolding is_names_text
 returns c =
     all_from_yields_List is_name_text _ _ _ c.all.ensures.ran
-      (YieldsList-from_slice_split _ (λ b. b == 46) c.args.bytes.now c.split.ensures.rest c.split.ensures.done c.split.ensures.closure (λ x r q k. Prim.search (rules, tests)))
-      (λ x b q k. Prim.search (rules, tests))
+    (YieldsList-from_slice_split _ (λ b. b == 46) c.args.bytes.now c.split.ensures.rest c.split.ensures.done c.split.ensures.closure (λ x r q k. Prim.search (rules, tests)))
+    (λ x b q k. Prim.search (rules, tests))

@@ -1,4 +1,4 @@
-use Rattle.std.proofs.Common.{◌≡◌, ◌≢◌, ◌∙◌, sym, ap, refl, length, false, arith}
+use Rattle.std.proofs.Common.{◌∙◌, sym, ap, refl, false, arith}
 use Rattle.std.proofs.lemmas.Result.{err_from_is_err_and}
 use Rattle.case_text.specs.Nesting.{nest_of, behind_nest}
 use Rattle.case_text.proofs.NestLemmas.{nest-more, nest-fails, nest-stops, nest-closed, nest-opened, not_empty, all_empty}
@@ -10,8 +10,8 @@ loop-tokens-init c =
     record {
       same = record { text = refl; fault = refl };
       behind =
-        sym (nest-opened c.args.text.now tokens.fault false _ tokens.tokens (λ e. Prim.omega (arith, e)))
-        ∙ ap (λ nest. behind_nest c.args.text.now tokens.fault false nest tokens.tokens) (sym c.in_ok-nest.ensures.ok);
+          sym (nest-opened c.args.text.now tokens.fault false _ tokens.tokens (λ e. Prim.omega (arith, e)))
+          ∙ ap (λ nest. behind_nest c.args.text.now tokens.fault false nest tokens.tokens) (sym c.in_ok-nest.ensures.ok);
     }
 
 pub returns-in_err-token-clause-err : goal.returns-in_err-token-clause-err

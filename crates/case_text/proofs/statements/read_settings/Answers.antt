@@ -1,4 +1,4 @@
-use Rattle.std.proofs.Common.{◌≡◌, ◌∙◌, sym, ap, length}
+use Rattle.std.proofs.Common.{◌∙◌, sym}
 use Rattle.std.proofs.lemmas.Result.{err_from_is_err_and}
 use Rattle.case_text.specs.Views.{settings_of, setting_of}
 use Rattle.case_text.proofs.StatementLemmas.{case-ends, case-done, case-goes, case-misread, case-unset, with-stop, fewer, as-ok, as-err}
@@ -37,7 +37,7 @@ loop-settings-preserved c =
     let read = c.in_ok-field.ensures.same in
     let whole = with-stop _ c.args.text.now _ _ (settings_of c.loop-settings.settings) _ old.whole head.fault in
     let goes = case-goes _ c.args.text.now _ (settings_of c.loop-settings.settings) (settings_of c.in_ok-settings.settings) _ _ _ c.in-Some.head (setting_of c.in_ok-field.field-0) whole first.0
-        c.in_ok-field.ensures.ok c.in_ok-settings.ensures in
+    c.in_ok-field.ensures.ok c.in_ok-settings.ensures in
     record {
       same = record { text = read.text ∙ head.text ∙ old.same.text; fault = read.fault ∙ head.fault ∙ old.same.fault };
       whole = with-stop _ c.args.text.now _ _ (settings_of c.in_ok-settings.settings) _ goes read.fault;

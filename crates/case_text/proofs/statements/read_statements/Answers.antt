@@ -1,4 +1,4 @@
-use Rattle.std.proofs.Common.{◌≡◌, ◌∙◌, sym, ap, Err}
+use Rattle.std.proofs.Common.{◌∙◌, ap, Err}
 use Rattle.std.proofs.lemmas.Result.{err_from_is_err_and}
 use Rattle.case_text.specs.declared.CaseFault.TheVariants as fault
 use Rattle.case_text.specs.Settings.{no_settings}
@@ -23,16 +23,16 @@ returns-in_ok-read_function-in-Some-clause-ok c =
     let first = Prim.rw c.in-Some.is at c.in_ok-head.ensures.head in
     let read = c.in_ok-read_function-in-Some.ensures in
     ok-through c.read_settings.result _ _
-      (statements-head c.args.text.now _ _ _ _ c.in-Some.head first.0 c.in_ok-head.ensures.same.fault ∙ read.reads ∙ same-stop c.args.text.now _ _ no_settings _ read.same.fault)
-      c.read_settings.ensures.ok
+    (statements-head c.args.text.now _ _ _ _ c.in-Some.head first.0 c.in_ok-head.ensures.same.fault ∙ read.reads ∙ same-stop c.args.text.now _ _ no_settings _ read.same.fault)
+    c.read_settings.ensures.ok
 
 pub returns-in_ok-read_function-in-Some-clause-err : goal.returns-in_ok-read_function-in-Some-clause-err
 returns-in_ok-read_function-in-Some-clause-err c =
     let first = Prim.rw c.in-Some.is at c.in_ok-head.ensures.head in
     let read = c.in_ok-read_function-in-Some.ensures in
     err-through c.read_settings.result _ _
-      (statements-head c.args.text.now _ _ _ _ c.in-Some.head first.0 c.in_ok-head.ensures.same.fault ∙ read.reads ∙ same-stop c.args.text.now _ _ no_settings _ read.same.fault)
-      c.read_settings.ensures.err
+    (statements-head c.args.text.now _ _ _ _ c.in-Some.head first.0 c.in_ok-head.ensures.same.fault ∙ read.reads ∙ same-stop c.args.text.now _ _ no_settings _ read.same.fault)
+    c.read_settings.ensures.err
 
 pub returns-in-None-clause-err : goal.returns-in-None-clause-err
 returns-in-None-clause-err c =
