@@ -74,22 +74,22 @@ rest-through rest middle tokens h k = record {
   is = h.is ∙ ap (drop h.count) k.is ∙ drop-drop h.count k.count tokens;
 }
 
-then-ok : {A B : Type 0} (read : Result A CaseFault) (next : A → Result B CaseFault) (value : B) → and_then read next ≡ Ok value → (x : A) × (read ≡ Ok x) × (next x ≡ Ok value)
+pub then-ok : {A B : Type 0} (read : Result A CaseFault) (next : A → Result B CaseFault) (value : B) → and_then read next ≡ Ok value → (x : A) × (read ≡ Ok x) × (next x ≡ Ok value)
 then-ok (Ok x) next value e = (x, refl, e)
 then-ok (Err why) next value e = absurd (Prim.cc)
 
-allowed : {A : Type 0} (test : Bool) (why : CaseFault) (value : A) (read : Result A CaseFault) → cond test read (Err why) ≡ Ok value → read ≡ Ok value
+pub allowed : {A : Type 0} (test : Bool) (why : CaseFault) (value : A) (read : Result A CaseFault) → cond test read (Err why) ≡ Ok value → read ≡ Ok value
 allowed true why value read e = e
 allowed false why value read e = absurd (Prim.cc)
 
-refused : {A : Type 0} (test : Bool) (why : CaseFault) (value : A) (read : Result A CaseFault) → cond test (Err why) read ≡ Ok value → read ≡ Ok value
+pub refused : {A : Type 0} (test : Bool) (why : CaseFault) (value : A) (read : Result A CaseFault) → cond test (Err why) read ≡ Ok value → read ≡ Ok value
 refused true why value read e = absurd (Prim.cc)
 refused false why value read e = e
 
-same-ok : {A : Type 0} (x y : A) (read : Result A CaseFault) → read ≡ Ok x → read ≡ Ok y → x ≡ y
+pub same-ok : {A : Type 0} (x y : A) (read : Result A CaseFault) → read ≡ Ok x → read ≡ Ok y → x ≡ y
 same-ok x y read e d = Prim.cc
 
-no-ok : {A : Type 0} (why : CaseFault) (x : A) (read : Result A CaseFault) → read ≡ Err why → read ≡ Ok x → ⊥
+pub no-ok : {A : Type 0} (why : CaseFault) (x : A) (read : Result A CaseFault) → read ≡ Err why → read ≡ Ok x → ⊥
 no-ok why x read e d = Prim.cc
 
 rest-end : (text : List ℕ) (line : ℕ) (tokens rest : List Token) → behind_end text line tokens ≡ Ok rest → IsRest rest tokens

@@ -1,5 +1,5 @@
 -- Matrices as rows of cells.
-use Rattle.std.specs.Prelude.{ℕ, ◌+◌, ◌-◌, ◌==◌, Bool, true, false, List, [], ◌∷◌, ◌++◌, length, slice_index_or, Option, Some, None, if◌then◌else◌}
+use Rattle.std.specs.Prelude.{ℕ, ◌+◌, ◌-◌, ◌==◌, Bool, true, false, List, [], ◌∷◌, ◌++◌, length, slice_index_or, Option, Some, None, if◌then◌else◌, ◌≡◌, ◌<◌, ◌≤◌, All}
 use Rattle.case_tokens.specs.declared.Token.{Token}
 use Rattle.case_text.specs.declared.Field.{Field}
 use Rattle.case_text.specs.declared.Field.TheVariants as field
@@ -73,3 +73,12 @@ matrix_of case field.Branch = case.branch
 -- the cell of a row and column, both from 1, and no bytes where there is none
 abbrev pub cell_at : Rows → ℕ → ℕ → List ℕ
 cell_at rows row col = slice_index_or (slice_index_or rows (row - 1) []) (col - 1) []
+
+-- the rows have as many cells each, and so many at least
+pub record IsEven (least : ℕ) (rows : Rows) : Type 0 where
+  pub alike : All (λ row. length row ≡ width_of rows) rows
+  pub wide : 0 < length rows → least ≤ width_of rows
+
+-- all three matrices are even, and wide enough for what they are of
+abbrev pub AreEven : CaseMatrices → Type 0
+AreEven case = (f : Field) → IsEven (least_columns f) (matrix_of case f)

@@ -18,6 +18,7 @@ use std::fmt;
 use std::marker::Model;
 use thiserror::Error;
 
+pub mod laws;
 mod matrices;
 mod names;
 mod nests;
