@@ -34,6 +34,13 @@ pub struct Nest {
     pub before: Before,
 }
 
+fn nest_with(brackets: Vec<Bracket>, before: Before) -> Nest
+    ensures { nest_of result ≡ record { brackets = brackets.items; before = before } }
+{
+    Nest { brackets, before }
+}
+
+/// Inside the bracket that opens a value.
 pub fn first_nest(alloc: Global, bracket: Bracket) -> Result<Nest, CaseFault>
     ensures ok { IfOk result (λ nest. nest_of nest ≡ first_nest bracket) }
     ensures err { IfErr result (λ e. e ≡ CaseFault.Memory) }
@@ -42,10 +49,7 @@ pub fn first_nest(alloc: Global, bracket: Bracket) -> Result<Nest, CaseFault>
     if brackets.push(bracket).is_err() {
         return Err(CaseFault::Memory);
     }
-    Ok(Nest {
-        brackets,
-        before: Before::Nothing,
-    })
+    Ok(nest_with(brackets, Before::Nothing))
 }
 
 /// Whether an element may begin at a place.
@@ -99,10 +103,7 @@ fn opened(brackets: Vec<Bracket>, bracket: Bracket) -> Result<Nest, CaseFault>
     if brackets.push(bracket).is_err() {
         return Err(CaseFault::Memory);
     }
-    Ok(Nest {
-        brackets,
-        before: Before::Nothing,
-    })
+    Ok(nest_with(brackets, Before::Nothing))
 }
 
 fn closed(brackets: Vec<Bracket>, end: usize) -> Nest
@@ -110,10 +111,7 @@ fn closed(brackets: Vec<Bracket>, end: usize) -> Nest
 {
     let mut brackets = brackets;
     let _ = brackets.pop();
-    Nest {
-        brackets,
-        before: Before::Element(end),
-    }
+    nest_with(brackets, Before::Element(end))
 }
 
 /// What stands behind a token inside brackets, where numbers alone or strings and lists too may stand.
@@ -127,41 +125,22 @@ pub fn step(nest: Nest, text: &[u8], token: Token, numbers: bool) -> Result<Nest
     let Nest { brackets, before } = nest;
     let parted = is_parted(before, start);
     match word_of(text, token) {
-        Word::LineEnd | Word::Semicolon => Ok(Nest {
-            brackets,
-            before: Before::Nothing,
-        }),
+        Word::LineEnd | Word::Semicolon => Ok(nest_with(brackets, Before::Nothing)),
         Word::Block => Err(CaseFault::Code { line: token.line }),
         Word::Equals | Word::Unclosed => Err(CaseFault::BadToken { at: start }),
         Word::Comma => {
-            let before_comma = is_element(before);
-            let next = Nest {
-                brackets,
-                before: Before::Comma,
-            };
-            where_allowed(before_comma, start, next)
+            let next = nest_with(brackets, Before::Comma);
+            where_allowed(is_element(before), start, next)
         }
-        Word::Run => {
-            let next = Nest {
-                brackets,
-                before: Before::Element(end),
-            };
-            where_allowed(parted, start, next)
-        }
+        Word::Run => where_allowed(parted, start, nest_with(brackets, Before::Element(end))),
         Word::Quoted => {
-            let next = Nest {
-                brackets,
-                before: Before::Element(end),
-            };
+            let next = nest_with(brackets, Before::Element(end));
             where_allowed(!numbers && parted, start, next)
         }
-        Word::Opening(bracket) => {
-            if may_open(brackets.as_slice()) && parted {
-                opened(brackets, bracket)
-            } else {
-                Err(CaseFault::BadToken { at: start })
-            }
+        Word::Opening(bracket) if may_open(brackets.as_slice()) && parted => {
+            opened(brackets, bracket)
         }
+        Word::Opening(_) => Err(CaseFault::BadToken { at: start }),
         Word::Closing(bracket) => {
             let matching = bracket == innermost(brackets.as_slice());
             where_allowed(matching, start, closed(brackets, end))

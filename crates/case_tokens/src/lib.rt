@@ -47,6 +47,7 @@ pub struct Span {
     pub end: usize,
 }
 
+/// A token, whose text is the slice of the source at its span.
 #[derive(Clone, Copy, PartialEq, Eq, Debug)]
 pub struct Token {
     pub kind: Kind,
