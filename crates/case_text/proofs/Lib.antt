@@ -1,0 +1,4 @@
+pub mod RowLemmas
+pub mod NestLemmas
+pub mod StatementLemmas
+pub mod EvenLemmas

@@ -1,0 +1,10 @@
+pub mod Words
+pub mod Names
+pub mod Nests
+pub mod Matrices
+pub mod Statements
+pub mod Settings
+pub mod Cases
+pub mod Readers
+pub mod Nesting
+pub mod Views
