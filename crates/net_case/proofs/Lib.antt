@@ -1,3 +1,2 @@
 pub mod BusLemmas
 pub mod Gathered
-pub mod PlainCaseLemmas

@@ -2,5 +2,3 @@ pub mod BusReading
 pub mod Gathering
 pub mod NetworkReading
 pub mod Networks
-pub mod PlainCaseGrammar
-pub mod PlainCases

@@ -12,9 +12,9 @@ use Rattle.fraction_theory.specs.declared.Sign.TheVariants as sign
 use Rattle.scaled_decimal.specs.Reading.{units_of, sign_in}
 use Rattle.scaled_decimal.specs.declared.DecimalFault.{DecimalFault}
 use Rattle.net_case.specs.Gathering.{gather, listed}
-use Rattle.net_case.specs.PlainCases.{PlainCase}
-use Rattle.net_case.specs.declared.plain_case.Field.{Field}
-use Rattle.net_case.specs.declared.plain_case.Field.TheVariants as field
+use Rattle.case_text.specs.Matrices.{CaseMatrices}
+use Rattle.case_text.specs.declared.Field.{Field}
+use Rattle.case_text.specs.declared.Field.TheVariants as field
 use Rattle.net_case.specs.declared.live_parts.Why.TheVariants as why
 use Rattle.net_case.specs.declared.live_parts.NetFault.{NetFault}
 use Rattle.net_case.specs.declared.live_parts.NetFault.TheVariants as fault
@@ -142,7 +142,7 @@ unit_row places row r =
 unfoldable pub few_rows : Field → List Record → Result ℕ NetFault
 few_rows f rows = if nat_lt 1000 (length rows) then Err (fault.TooMany f (length rows)) else Ok (length rows)
 
-unfoldable pub network_of : PlainCase → Result Network NetFault
+unfoldable pub network_of : CaseMatrices → Result Network NetFault
 network_of case =
     and_then (few_rows field.Bus case.bus) (λ _.
     and_then (few_rows field.Gen case.generators) (λ gen_rows.

@@ -3,7 +3,7 @@
 ghost use Rattle.std.specs.Prelude.{◌≡◌, ℕ, ◌≤ℤ◌, ◌++◌, length, IfOk};
 ghost use Rattle.net_case.specs.Gathering.{listed};
 
-use crate::plain_case::Field;
+use case_text::Field;
 use market_model::{Bus, List, Memory, Unit, UnitList};
 use scaled_decimal::DecimalFault;
 use std::alloc::Global;

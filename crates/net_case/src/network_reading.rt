@@ -1,16 +1,17 @@
 //! Reading a network from the matrices of a case.
 
-ghost use Rattle.std.specs.Prelude.{◌≡◌, ◌≢◌, ℕ, ◌+◌, ◌*◌, ◌^◌, ◌≤◌, ◌<◌, ◌==◌, ◌||◌, [], ◌∷◌, ◌++◌, length, All, IfOk, IfErr, IfSome, MatchResult, None, Err};
+ghost use Rattle.std.specs.Prelude.{◌≡◌, ◌≢◌, ℕ, ◌+◌, ◌*◌, ◌^◌, ◌≤◌, ◌<◌, ◌==◌, ◌||◌, [], ◌∷◌, ◌++◌, length, All, IfOk, IfErr, IfSome, MatchResult, None, Err, IsTrue};
 ghost use Rattle.std.specs.Map.{lookup};
 ghost use Rattle.market_model.specs.Market.{IsDatum, IsBus, most_buses, most_units};
 ghost use Rattle.net_case.specs.Gathering.{gather, listed};
-ghost use Rattle.net_case.specs.PlainCases.{matrix_of};
+ghost use Rattle.case_text.specs.Matrices.{matrix_of};
+ghost use Rattle.case_text.specs.Names.{is_matrix};
 ghost use Rattle.net_case.specs.Networks.{IsNetUnit, IsNetwork, ArePlaces};
 ghost use Rattle.net_case.specs.NetworkReading.{row_at, number_in, counted_in, demands_in, row_of_type, next_place, bus_row_after, bus_rows, standing_at, stands, service_in, bounds_in, unit_where, unit_row, few_rows, network_of};
 ghost use Rattle.net_case.specs.BusReading.{AreBusRows, HoldBusRows};
 
 use crate::live_parts::{NetFault, NetUnit, Network, Why, push_some};
-use crate::plain_case::{Field, RawCase};
+use case_text::{Field, RawCase};
 use indexmap::IndexMap;
 use market_model::{Bus, List, MW_PLACES};
 use scaled_decimal::{Sign, read, sign_of};
@@ -52,6 +53,7 @@ fn number(
     col: usize,
     places: u8,
 ) -> Result<i64, NetFault>
+    requires matrix { IsTrue (is_matrix field) }
     requires place { (1 ≤ row) × (1 ≤ col) }
     requires places { places ≤ 18 }
     ensures datum { IfOk result IsDatum }
@@ -321,6 +323,7 @@ fn read_units(
 /// The number of rows of a matrix, which is at most that of a network.
 #[tactic(auto, unfolding(crate::specs::NetworkReading::few_rows))]
 fn row_count(case: &RawCase<'_>, field: Field) -> Result<usize, NetFault>
+    requires { IsTrue (is_matrix field) }
     ensures few { IfOk result (λ count. (count ≤ 1000) × (count ≡ length (matrix_of case.now field))) }
     ensures is { result ≡ few_rows field (matrix_of case.now field) }
 {

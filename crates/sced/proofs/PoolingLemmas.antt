@@ -6,11 +6,11 @@ use Rattle.std.specs.Prelude.{nat_lt, codes, IfOk, MatchResult}
 use Rattle.outside_store.specs.Files.{Files, SameFiles, Reads}
 use Rattle.market_model.specs.declared.participants.Block.{Block}
 use Rattle.market_model.specs.declared.participants.UnitList.{UnitList}
-use Rattle.net_case.specs.PlainCases.{PlainCase}
-use Rattle.net_case.specs.PlainCaseGrammar.{plain_case}
+use Rattle.case_text.specs.Matrices.{CaseMatrices}
+use Rattle.case_text.specs.Cases.{case_of}
 use Rattle.net_case.specs.NetworkReading.{network_of, unit_list_of}
 use Rattle.offer_book.specs.OfferTable.{blocks_of_table}
-use Rattle.net_case.specs.declared.plain_case.CaseFault.{CaseFault}
+use Rattle.case_text.specs.declared.CaseFault.{CaseFault}
 use Rattle.net_case.specs.declared.live_parts.NetFault.{NetFault}
 use Rattle.net_case.specs.declared.live_parts.Network.{Network}
 use Rattle.offer_book.specs.declared.offer_table.OfferFault.{OfferFault}
@@ -37,11 +37,11 @@ module _ (case offers : List ℕ) where
   case-long long = rw (sized-long refusal.CaseTooLong case long) refl
 
   module _ (short : length case ≤ 33554432) where
-    pub plain-fault : (f : CaseFault) → plain_case case ≡ Err f → pool_market case offers ≡ Err (refusal.Case f)
+    pub plain-fault : (f : CaseFault) → case_of case ≡ Err f → pool_market case offers ≡ Err (refusal.Case f)
     unfolding pool_market
     plain-fault f is = rw (sized-short refusal.CaseTooLong case short, is) refl
 
-    module _ (plain : PlainCase) (plain-is : plain_case case ≡ Ok plain) where
+    module _ (plain : CaseMatrices) (plain-is : case_of case ≡ Ok plain) where
       pub network-fault : (f : NetFault) → network_of plain ≡ Err f → pool_market case offers ≡ Err (refusal.Network f)
       unfolding pool_market
       network-fault f is = rw (sized-short refusal.CaseTooLong case short, plain-is, is) refl

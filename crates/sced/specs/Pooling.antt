@@ -10,7 +10,7 @@ use Rattle.market_model.specs.Market.{IsMarket}
 use Rattle.market_model.specs.Outcomes.{IsRightOutcome}
 use Rattle.market_model.specs.Reports.{report_text}
 use Rattle.merit_order.specs.Clearing.{IsPlainPrice}
-use Rattle.net_case.specs.PlainCaseGrammar.{plain_case}
+use Rattle.case_text.specs.Cases.{case_of}
 use Rattle.net_case.specs.NetworkReading.{network_of, unit_list_of}
 use Rattle.offer_book.specs.OfferTable.{blocks_of_table}
 use Rattle.sced.specs.Refusals.{refusal_line}
@@ -38,7 +38,7 @@ sized too_long bytes = if nat_lt most_file (length bytes) then Err too_long else
 unfoldable pub pool_market : List ℕ → List ℕ → Result Parts Refusal
 pool_market case offers =
     and_then (sized refusal.CaseTooLong case) (λ text.
-    and_then (refused_as refusal.Case (plain_case text)) (λ plain.
+    and_then (refused_as refusal.Case (case_of text)) (λ plain.
     and_then (refused_as refusal.Network (network_of plain)) (λ network.
     and_then (sized refusal.OffersTooLong offers) (λ table.
     and_then (refused_as refusal.Offers (blocks_of_table (unit_list_of network) table)) (λ blocks.

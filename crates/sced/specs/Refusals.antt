@@ -1,10 +1,10 @@
 -- Why a file is refused, and the line that says so.
 use Rattle.std.specs.Prelude.{ℕ, List, [], ◌++◌, codes, decimal}
 use Rattle.scaled_decimal.specs.declared.DecimalFault.TheVariants as decimal_fault
-use Rattle.net_case.specs.declared.plain_case.Field.{Field}
-use Rattle.net_case.specs.declared.plain_case.Field.TheVariants as field
-use Rattle.net_case.specs.declared.plain_case.CaseFault.{CaseFault}
-use Rattle.net_case.specs.declared.plain_case.CaseFault.TheVariants as case_fault
+use Rattle.case_text.specs.declared.Field.{Field}
+use Rattle.case_text.specs.declared.Field.TheVariants as field
+use Rattle.case_text.specs.declared.CaseFault.{CaseFault}
+use Rattle.case_text.specs.declared.CaseFault.TheVariants as case_fault
 use Rattle.net_case.specs.declared.live_parts.Why.{Why}
 use Rattle.net_case.specs.declared.live_parts.Why.TheVariants as why
 use Rattle.net_case.specs.declared.live_parts.NetFault.{NetFault}
@@ -15,6 +15,8 @@ use Rattle.sced.specs.declared.refusals.Refusal.{Refusal}
 use Rattle.sced.specs.declared.refusals.Refusal.TheVariants as refusal
 
 abbrev pub field_name : Field → List ℕ
+field_name field.Version = codes "version"
+field_name field.BaseMva = codes "baseMVA"
 field_name field.Bus = codes "bus"
 field_name field.Gen = codes "gen"
 field_name field.Branch = codes "branch"
@@ -28,7 +30,14 @@ why_name why.Bounds = codes "Bounds"
 
 -- a fault by its name, and where it is; want of memory is none
 unfoldable pub case_words : CaseFault → List ℕ
-case_words (case_fault.Plain line) = codes "Plain line " ++ decimal line
+case_words (case_fault.Code line) = codes "Code line " ++ decimal line
+case_words (case_fault.BadToken place) = codes "BadToken at " ++ decimal place
+case_words case_fault.VersionOne = codes "VersionOne"
+case_words (case_fault.Twice f) = codes "Twice " ++ field_name f
+case_words (case_fault.Ragged f row) = codes "Ragged " ++ field_name f ++ codes " row " ++ decimal row
+case_words (case_fault.Narrow f) = codes "Narrow " ++ field_name f
+case_words case_fault.NoVersion = codes "NoVersion"
+case_words (case_fault.Missing f) = codes "Missing " ++ field_name f
 case_words case_fault.Memory = []
 
 unfoldable pub net_words : NetFault → List ℕ

@@ -3,8 +3,9 @@
 ghost use Rattle.std.specs.Prelude.{◌≡◌, ◌++◌, codes, decimal, IfOk};
 ghost use Rattle.sced.specs.Refusals.{field_name, why_name, case_words, net_words, offer_words, refusal_words, refusal_line};
 
+use case_text::{CaseFault, Field};
 use market_model::Memory;
-use net_case::{CaseFault, Field, NetFault, Why};
+use net_case::{NetFault, Why};
 use offer_book::OfferFault;
 use report_text::Text;
 use scaled_decimal::DecimalFault;
@@ -26,6 +27,8 @@ fn field_word(field: Field) -> &'static [u8]
     ensures { result.now ≡ field_name field }
 {
     match field {
+        Field::Version => b"version",
+        Field::BaseMva => b"baseMVA",
         Field::Bus => b"bus",
         Field::Gen => b"gen",
         Field::Branch => b"branch",
@@ -60,24 +63,12 @@ fn at_line(text: &mut Text, name: &[u8], line: usize) -> Result<(), Memory>
     numbered(text, b" line ", line)
 }
 
-#[tactic(auto, using(std::proofs::Common::append_assoc), unfolding(crate::specs::Refusals::case_words))]
-fn write_case_fault(text: &mut Text, fault: CaseFault) -> Result<(), Memory>
-    ensures { IfOk result (λ _. text.new ≡ text.old ++ case_words fault) }
+/// A fault's name, and the field that it is of.
+fn named(text: &mut Text, name: &[u8], field: Field) -> Result<(), Memory>
+    ensures { IfOk result (λ _. text.new ≡ text.old ++ name.now ++ field_name field) }
 {
-    match fault {
-        CaseFault::Plain { line } => numbered(text, b"Plain line ", line),
-        CaseFault::Memory => Ok(()),
-    }
-}
-
-/// A cell's row and column, and why it is at fault.
-fn write_place(text: &mut Text, row: usize, col: usize, why: Why) -> Result<(), Memory>
-    ensures { IfOk result (λ _. text.new ≡ text.old ++ decimal row ++ codes " col " ++ decimal col ++ codes " " ++ why_name why) }
-{
-    text.number(row)?;
-    numbered(text, b" col ", col)?;
-    text.word(b" ")?;
-    text.word(why_word(why))
+    text.word(name)?;
+    text.word(field_word(field))
 }
 
 /// A matrix, and how many rows, or which, behind a word.
@@ -93,6 +84,33 @@ fn write_rows(
     text.word(name)?;
     text.word(field_word(field))?;
     numbered(text, word, number)
+}
+
+#[tactic(auto, using(std::proofs::Common::append_assoc), unfolding(crate::specs::Refusals::case_words))]
+fn write_case_fault(text: &mut Text, fault: CaseFault) -> Result<(), Memory>
+    ensures { IfOk result (λ _. text.new ≡ text.old ++ case_words fault) }
+{
+    match fault {
+        CaseFault::Code { line } => numbered(text, b"Code line ", line),
+        CaseFault::BadToken { at } => numbered(text, b"BadToken at ", at),
+        CaseFault::VersionOne => text.word(b"VersionOne"),
+        CaseFault::Twice { field } => named(text, b"Twice ", field),
+        CaseFault::Ragged { field, row } => write_rows(text, b"Ragged ", field, b" row ", row),
+        CaseFault::Narrow { field } => named(text, b"Narrow ", field),
+        CaseFault::NoVersion => text.word(b"NoVersion"),
+        CaseFault::Missing { field } => named(text, b"Missing ", field),
+        CaseFault::Memory => Ok(()),
+    }
+}
+
+/// A cell's row and column, and why it is at fault.
+fn write_place(text: &mut Text, row: usize, col: usize, why: Why) -> Result<(), Memory>
+    ensures { IfOk result (λ _. text.new ≡ text.old ++ decimal row ++ codes " col " ++ decimal col ++ codes " " ++ why_name why) }
+{
+    text.number(row)?;
+    numbered(text, b" col ", col)?;
+    text.word(b" ")?;
+    text.word(why_word(why))
 }
 
 #[tactic(auto, using(std::proofs::Common::append_assoc), unfolding(crate::specs::Refusals::net_words))]

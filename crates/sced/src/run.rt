@@ -15,10 +15,11 @@ ghost use Rattle.sced.specs.Runs.{AsksNothing, IsSilent, IsTold, IsOfFiles, Name
 use crate::refusals::{Refusal, refusal_text};
 use crate::status::Status;
 use crate::words::{PoolFiles, pool_files};
+use case_text::{CaseFault, read_case};
 use exact_fraction::{Exact, Frac};
 use market_model::{Market, Memory, Outcome as Clearing, Parts, assemble};
 use merit_order::{ClearFault, clear};
-use net_case::{CaseFault, NetFault, network, read_case};
+use net_case::{NetFault, network};
 use offer_book::{OfferFault, blocks};
 use outside_store::{ReadStop, Sink, Store};
 use report_text::report;
@@ -45,7 +46,7 @@ impl From<Memory> for Stop {
 
 impl From<CaseFault> for Stop {
     ghost use Rattle.std.specs.Prelude.{◌⊎◌, ◌≢◌};
-    ghost use Rattle.net_case.specs.declared.plain_case.CaseFault.TheVariants as fault_why;
+    ghost use Rattle.case_text.specs.declared.CaseFault.TheVariants as fault_why;
     ghost use Rattle.sced.specs.declared.refusals.Refusal.TheVariants as refusal;
     ghost use Rattle.sced.specs.declared.run.Stop.TheVariants as why;
 

@@ -151,6 +151,21 @@ fn clears(rt: HostRuntime) -> Result<(), Fail> {
     )
 }
 
+/// The three-bus case as a tool may save it: line ends of two bytes, comments, tabs and commas
+/// between cells, a row that is continued on the next line, names and further fields.
+#[test]
+fn reads_a_saved_case(rt: HostRuntime) -> Result<(), Fail> {
+    let text = "function mpc = t3\r\n%% a case of three buses\r\nmpc.version = '2';\r\n\r\nmpc.baseMVA = 100; % MVA\r\n%% buses\r\nmpc.bus = [\r\n\t1\t3\t0\t0\t0\t0\t1\t1\t0\t230\t1\t1.1\t0.9;\r\n\t2, 1, 0, 0, 0, 0, 1, 1, 0, 230, 1, 1.1, 0.9\r\n 3 1 60 0 0 0 1 ... the rest is below\r\n 1 0 230 1 1.1 0.9;\r\n];\r\nmpc.gen = [1 0 0 0 0 1 100 1 100 0; 2 0 0 0 0 1 100 1 100 0];\r\nmpc.branch = [\r\n1 2 0 0.2 0 0 0 0 0 0 1 -360 360;\r\n1 3 0 0.1 0 0 0 0 0 0 1 -360 360;\r\n2 3 0 0.1 0 0 0 0 0 0 1 -360 360;\r\n];\r\nmpc.bus_name = { 'a % b'; 'two'; 'three' };\r\nmpc.gencost = [\r\n2 0 0 2 10 0;\r\n2 0 0 2 30 0\r\n];\r\n";
+    let all = ([].as_slice(), [].as_slice());
+    expect(
+        &rt,
+        text.as_bytes(),
+        OFFERS,
+        all,
+        (Status::Done, THREE_BUSES),
+    )
+}
+
 #[test]
 fn passes_127_bits(rt: HostRuntime) -> Result<(), Fail> {
     let row = "3 9223372036.854775807 0 0 0 1 1 0 230 1 1.1 0.9;\n";
@@ -232,11 +247,33 @@ fn refuse_case<R: Abort + AllocGlobal>(rt: &R, rows: (&str, &str), line: &str) -
 fn refuses_cases(rt: HostRuntime) -> Result<(), Fail> {
     let all = ([].as_slice(), [].as_slice());
     for (text, line) in [
-        (b"".as_slice(), "refused case Plain line 1\n"),
-        (b"\x00\xff\n[\x80;", "refused case Plain line 1\n"),
+        (b"".as_slice(), "refused case NoVersion\n"),
+        (b"\xEF\xBB\xBF% nothing\n", "refused case NoVersion\n"),
+        (b"\x00\xff\n[\x80;", "refused case Code line 1\n"),
+        (b"function [x] = t\n", "refused case VersionOne\n"),
         (
-            b"function mpc = t3\nmpc.version = '2';\n",
-            "refused case Plain line 3\n",
+            b"function mpc = t\nmpc.version = '1';\n",
+            "refused case VersionOne\n",
+        ),
+        (
+            b"function mpc = t\nmpc.version = '2';\n",
+            "refused case Missing baseMVA\n",
+        ),
+        (
+            b"function mpc = t\nmpc.version = '2';\nmpc.version = '2';\n",
+            "refused case Twice version\n",
+        ),
+        (
+            b"function mpc = t\nmpc.version = '2';\nmpc.baseMVA = 1e2\nmpc.bus = [1 3; 1];\n",
+            "refused case Ragged bus row 2\n",
+        ),
+        (
+            b"function mpc = t\nmpc.version = '2';\nmpc.gen = [1 2 3\n4 5 6];\n",
+            "refused case Narrow gen\n",
+        ),
+        (
+            b"function mpc = t\nmpc.version = '2';\nmpc.branch = [\n1 2 0",
+            "refused case BadToken at 56\n",
         ),
     ] {
         expect(&rt, text, "no table", all, (Status::Refused, line))?;
@@ -261,8 +298,7 @@ fn refuses_cases(rt: HostRuntime) -> Result<(), Fail> {
             "2 5 0 0 0 0 1 1 0 230 1 1.1 0.9;\n",
             "Cell bus row 2 col 2 Bounds",
         ),
-        ("2 1 0 0 0 0 1 1 0 230 1 1.1;\n", "Plain line 6"),
-        ("2 1  0 0 0 0 1 1 0 230 1 1.1 0.9;\n", "Plain line 6"),
+        ("2 1 0 0 0 0 1 1 0 230 1 1.1;\n", "Ragged bus row 2"),
     ] {
         let buses = format!(in rt.alloc(); "{bus}{other}")?;
         refuse_case(&rt, (buses.as_str(), one), line)?;

@@ -2,7 +2,7 @@ use Rattle.std.proofs.Common.{◌≡◌, ◌≢◌, ◌∙◌, sym, length, arit
 use Rattle.net_case.specs.Gathering.{gather}
 use Rattle.net_case.specs.NetworkReading.{few_rows, network_of, unit_row}
 use Rattle.net_case.specs.declared.live_parts.NetFault.TheVariants as fault
-use Rattle.net_case.specs.declared.plain_case.Field.TheVariants as field
+use Rattle.case_text.specs.declared.Field.TheVariants as field
 use Rattle.net_case.proofs.network_reading.network.Goals as goal
 
 pub returns-clause-network : goal.returns-clause-network

@@ -1,6 +1,6 @@
 use Rattle.std.proofs.Common.{◌≢◌, inl, inr, sym, ap, ◌∙◌, arith, Ok, Err}
 use Rattle.std.proofs.lemmas.Result.{err_from_is_err_and}
-use Rattle.net_case.specs.declared.plain_case.CaseFault.TheVariants as case_fault
+use Rattle.case_text.specs.declared.CaseFault.TheVariants as case_fault
 use Rattle.net_case.specs.declared.live_parts.NetFault.TheVariants as net_fault
 use Rattle.offer_book.specs.declared.offer_table.OfferFault.TheVariants as offer_fault
 use Rattle.sced.proofs.PoolingLemmas.{case-long, plain-fault, network-fault, offers-long, blocks-fault, market-is}
