@@ -1,0 +1,16 @@
+pub mod Deciding
+pub mod Ending
+pub mod Exchanges
+pub mod Falling
+pub mod LeastRatio
+pub mod NameSums
+pub mod NeverBack
+pub mod Outcomes
+pub mod PosedNumbers
+pub mod Posing
+pub mod Reaching
+pub mod Signs
+pub mod Splits
+pub mod Stepping
+pub mod Stretches
+pub mod Trails

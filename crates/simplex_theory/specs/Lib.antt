@@ -1,0 +1,4 @@
+pub mod States
+pub mod Stepped
+pub mod Steps
+pub mod Trails
