@@ -1,26 +1,24 @@
 -- Farkas duals leave no dispatch feasible.
-use Rattle.std.specs.Prelude.{◌≡◌, ℕ, ◌<◌, pos, [], ◌∷◌, length, map, refl}
+use Rattle.std.specs.Prelude.{◌≡◌, [], ◌∷◌, length, refl}
 use Rattle.std.proofs.Common.{ap, sym, ◌∙◌, subst, subst₂}
-use mathlib.Core.Path.{ap₂}
-use Rattle.fraction_theory.specs.Fraction.{Fraction, whole, ◌+ℚ◌, ◌*ℚ◌, neg_ℚ}
-use Rattle.fraction_theory.specs.Order.{◌≤ℚ◌, ◌<ℚ◌, NonNeg}
+use Rattle.fraction_theory.specs.Fraction.{Fraction, ◌+ℚ◌, ◌*ℚ◌, neg_ℚ}
+use Rattle.fraction_theory.specs.Order.{◌≤ℚ◌, NonNeg}
 use Rattle.fraction_theory.specs.Signs.{sign_of}
-use Rattle.fraction_theory.specs.Sums.{sum_by, Product, total}
+use Rattle.fraction_theory.specs.Sums.{sum_by}
 use Rattle.fraction_theory.specs.declared.Sign.{Sign}
 use Rattle.fraction_theory.specs.declared.Sign.TheVariants.{Below, Zero, Above}
 use Rattle.fraction_theory.proofs.Ring.{by_ring, at, pnil, pneg, ◌⊕◌, ◌⊗◌}
 use Rattle.fraction_theory.proofs.FieldLaws.{ring_ℚ}
-use Rattle.fraction_theory.proofs.OrderLaws.{≤ℚ_refl, ≤ℚ_trans, +ℚ-≤ℚ, *ℚ-≤ℚ, *ℚ-≤ℚ_neg, <ℚ-≤ℚ, <ℚ-not-≤ℚ, ≤ℚ_of_same, NonNeg_from, le_to}
-use Rattle.fraction_theory.proofs.SignLaws.{IsSign, sign_of_is}
+use Rattle.fraction_theory.proofs.OrderLaws.{≤ℚ_refl, +ℚ-≤ℚ, *ℚ-≤ℚ, *ℚ-≤ℚ_neg, <ℚ-≤ℚ, <ℚ-not-≤ℚ, ≤ℚ_of_same, NonNeg_from, le_to}
+use Rattle.fraction_theory.proofs.SignLaws.{sign_of_is}
 use Rattle.fraction_theory.proofs.SumLaws.{sum_by-≤, sum_by-same, sum_by-times, total-Product}
 use Rattle.market_model.specs.declared.participants.Parts.{Parts}
 use Rattle.market_model.specs.declared.participants.Side.{Side}
 use Rattle.market_model.specs.declared.participants.Side.TheVariants.{Sell, Buy}
 use Rattle.market_model.specs.declared.answered.Duals.{Duals}
-use Rattle.market_model.specs.Market.{IsMarket}
 use Rattle.market_model.specs.Dispatch.{Dispatch, zero, places, block_at, signed, accepted, quantity, raised_by, balance, empty}
-use Rattle.market_model.specs.Optimality.{Feasible, bus_price}
-use Rattle.market_model.specs.Infeasibility.{where_above, part_above, block_weight, farkas_bound, ShowsInfeasible}
+use Rattle.market_model.specs.Optimality.{bus_price}
+use Rattle.market_model.specs.Infeasibility.{where_above, part_above, block_weight, farkas_bound}
 use Rattle.market_model.specs.Laws.{LawOfInfeasibility}
 use Rattle.market_model.proofs.PlaceSums.{places_all}
 use Rattle.market_model.proofs.MarketSums.{balance-by_empty}
@@ -61,13 +59,13 @@ law_of_infeasibility m d x h shows f =
     let p : Fraction = balance m (empty m) in
     let raised : Fraction = sum_by (raised_by m x) (places (length m.blocks)) in
     let most = sum_by-≤ (λ j. block_weight m d j *ℚ accepted x j) (λ j. part_above (block_weight m d j) *ℚ quantity m j) (places (length m.blocks))
-        (places_all (λ j. (block_weight m d j *ℚ accepted x j) ≤ℚ (part_above (block_weight m d j) *ℚ quantity m j)) (length m.blocks)
-        (λ j lt. weight-most (block_weight m d j) (accepted x j) (quantity m j) (f.blocks.above j lt) (f.blocks.within j lt))) in
+    (places_all (λ j. (block_weight m d j *ℚ accepted x j) ≤ℚ (part_above (block_weight m d j) *ℚ quantity m j)) (length m.blocks)
+    (λ j lt. weight-most (block_weight m d j) (accepted x j) (quantity m j) (f.blocks.above j lt) (f.blocks.within j lt))) in
     let made : d.energy *ℚ p +ℚ d.energy *ℚ raised ≡ zero =
-        by_ring ring_ℚ (d.energy ∷ p ∷ raised ∷ []) (at 0 ⊗ at 1 ⊕ at 0 ⊗ at 2) (at 0 ⊗ (at 1 ⊕ at 2)) refl
-        ∙ ap (λ t. d.energy *ℚ t) (sym (balance-by_empty m x h) ∙ f.balanced)
-        ∙ by_ring ring_ℚ (d.energy ∷ []) (at 0 ⊗ pnil) pnil refl in
+    by_ring ring_ℚ (d.energy ∷ p ∷ raised ∷ []) (at 0 ⊗ at 1 ⊕ at 0 ⊗ at 2) (at 0 ⊗ (at 1 ⊕ at 2)) refl
+    ∙ ap (λ t. d.energy *ℚ t) (sym (balance-by_empty m x h) ∙ f.balanced)
+    ∙ by_ring ring_ℚ (d.energy ∷ []) (at 0 ⊗ pnil) pnil refl in
     let within : zero ≤ℚ farkas_bound m d =
-        subst₂ ◌≤ℚ◌ (ap (λ t. d.energy *ℚ p +ℚ t) (weights-by_raises m d x) ∙ made) (sym (farkas_bound-by_blocks m d))
-        (+ℚ-≤ℚ (d.energy *ℚ p) (d.energy *ℚ p) _ _ (≤ℚ_refl (d.energy *ℚ p)) most) in
+    subst₂ ◌≤ℚ◌ (ap (λ t. d.energy *ℚ p +ℚ t) (weights-by_raises m d x) ∙ made) (sym (farkas_bound-by_blocks m d))
+    (+ℚ-≤ℚ (d.energy *ℚ p) (d.energy *ℚ p) _ _ (≤ℚ_refl (d.energy *ℚ p)) most) in
     <ℚ-not-≤ℚ (farkas_bound m d) zero shows.below within

@@ -1,11 +1,15 @@
 pub mod Amounts
+pub mod BlockChoices
 pub mod Data
 pub mod FarkasLaw
 pub mod MarketSums
 pub mod Optimum
+pub mod PairLaws
 pub mod PlaceSums
+mod RangeRows
 mod Rows
 pub mod WholeDispatch
 pub mod ReportReading
 pub mod MorePlaces
 pub mod WholeSumLaws
+pub mod SystemLaws

@@ -1,5 +1,5 @@
 -- Sums of terms by place, one place more.
-use Rattle.std.specs.Prelude.{◌≡◌, ℕ, ◌+◌, ◌<◌, pos, ℤ, List, [], ◌∷◌, ◌++◌, map, filter, length, refl, Bool, true, false, if◌then◌else◌}
+use Rattle.std.specs.Prelude.{◌≡◌, ℕ, ◌+◌, ◌<◌, pos, List, [], ◌∷◌, ◌++◌, map, filter, length, refl, Bool, true, false, if◌then◌else◌}
 use Rattle.std.proofs.Common.{zero, suc, ap, sym, ◌∙◌, arith, get_or, add-one, take}
 use Rattle.std.specs.List.{range_with_len}
 use Rattle.std.proofs.lemmas.List.{map-append, take_more}

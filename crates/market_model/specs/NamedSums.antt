@@ -37,3 +37,23 @@ IsSumStep terms Times l r = (k : ℕ) × (a : Fraction) × (b : Fraction) × Are
 pub record IsRefusedIn (terms : List Term) (bound : ℕ) (p : Passed Fraction) : Type 0 where
   pub step : IsSumStep terms p.op p.left p.right
   pub passes : Passes bound p.op p.left p.right
+
+-- the operation adds or subtracts
+abbrev pub Adds : Op → Type 0
+Adds Plus = Unit {0}
+Adds Minus = Unit {0}
+Adds Times = ⊥
+
+-- a sum or a difference that passes the bound, where the terms are added up
+pub record IsAddedIn (terms : List Term) (bound : ℕ) (p : Passed Fraction) : Type 0 where
+  pub adds : Adds p.op
+  pub place : ℕ
+  pub next : IsNextTerm terms p.left p.right place
+  pub passes : Passes bound p.op p.left p.right
+
+-- this operation on these two numbers, which passes the bound
+pub record IsRefusal (op : Op) (left right : Fraction) (bound : ℕ) (p : Passed Fraction) : Type 0 where
+  pub same_op : p.op ≡ op
+  pub same_left : p.left ≡ left
+  pub same_right : p.right ≡ right
+  pub passes : Passes bound p.op p.left p.right
