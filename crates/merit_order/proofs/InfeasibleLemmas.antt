@@ -105,7 +105,7 @@ unfolding sign_of whole
 sign_of-minus = refl
 
 -- what a block can make, times what it has
-weighs : (short : Bool) (side : Side) (q : Fraction) → part_above (signed side (whole (unit_energy short))) *ℚ q ≡ (if same_side side (weighing short) then q else zero)
+pub weighs : (short : Bool) (side : Side) (q : Fraction) → part_above (signed side (whole (unit_energy short))) *ℚ q ≡ (if same_side side (weighing short) then q else zero)
 weighs true Sell q = ap (λ s. where_above s (whole (pos 1)) *ℚ q) sign_of-one ∙ by_ring ring_ℚ (q ∷ []) (pone ⊗ at 0) (at 0) refl
 weighs true Buy q =
     ap (λ t. part_above t *ℚ q) (sym (whole-neg (pos 1))) ∙ ap (λ s. where_above s (whole (negsuc 0)) *ℚ q) sign_of-minus ∙ by_ring ring_ℚ (q ∷ []) (pnil ⊗ at 0) pnil refl

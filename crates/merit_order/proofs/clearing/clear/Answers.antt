@@ -12,9 +12,9 @@ use Rattle.market_model.specs.Market.{IsMarket}
 use Rattle.market_model.specs.Dispatch.{unit_at}
 use Rattle.market_model.specs.Optimality.{welfare}
 use Rattle.market_model.specs.WholeSums.{int_sum}
-use Rattle.merit_order.specs.Filling.{demand_of, fixed_of, bought_of, accepted_of, no_block, Fills, IsReached}
+use Rattle.merit_order.specs.Filling.{demand_of, fixed_of, bought_of, accepted_of, no_block, Fills, IsReached, AllPlaces}
 use Rattle.merit_order.specs.Clearing.{dispatch_of}
-use Rattle.merit_order.specs.Paying.{AllPlaces, price_at, PaysUnit, LoadPays}
+use Rattle.merit_order.specs.Paying.{price_at, PaysUnit, LoadPays}
 use Rattle.merit_order.proofs.InfeasibleLemmas.{is_farkas}
 use Rattle.merit_order.proofs.OutcomeLemmas.{is_right}
 use Rattle.merit_order.proofs.clearing.clear.Goals as goal
@@ -46,7 +46,7 @@ returns-clause-right g c =
     let count : length ds ≡ length m.blocks = c.in_ok-dispatch.ensures.count ∙ ap length blocks in
     let filled_count : length filled ≡ length m.blocks = grind (arith, common_steps) in
     let price_count : length ps ≡ length m.buses = grind (arith, common_steps) in
-    let w_is : value c.in_ok-welfare.welfare ≡ welfare m (dispatch_of value ds) = c.in_ok-welfare.ensures ∙ ap (λ xs. welfare m (dispatch_of value xs)) c.slice-3.ensures in
+    let w_is : value c.in_ok-welfare.welfare ≡ welfare m (dispatch_of value ds) = c.in_ok-welfare.ensures.sum ∙ ap (λ xs. welfare m (dispatch_of value xs)) c.slice-3.ensures in
     let units : AllPlaces (λ place. PaysUnit value m ds place (price_at value ps (unit_at m place).bus)) c.in_ok-money.money.units =
     subst (λ qs. AllPlaces (λ place. PaysUnit value m ds place (price_at value qs (unit_at m place).bus)) c.in_ok-money.money.units) c.slice-5.ensures
     (subst (λ xs. AllPlaces (λ place. PaysUnit value m xs place (price_at value c.slice-5.result.now (unit_at m place).bus)) c.in_ok-money.money.units) c.slice-4.ensures c.in_ok-money.ensures.units) in

@@ -1,8 +1,7 @@
 use Rattle.std.proofs.Common.{◌≡◌, ◌+◌, ◌*◌, ◌^◌, ◌≤◌, drop, All}
 use Rattle.std.specs.Prelude.{unsigned_abs, vec_len, slice_index_or}
 use Rattle.market_model.specs.Market.{IsDatum}
-use Rattle.merit_order.specs.Filling.{Fills, IsFilling, no_block}
-use Rattle.merit_order.specs.Paying.{AllPlaces}
+use Rattle.merit_order.specs.Filling.{Fills, IsFilling, no_block, AllPlaces}
 use Rattle.merit_order.proofs.clearing.fills.Given as goal
 
 abbrev pub invariant-loop-block : goal.invariant-loop-block
