@@ -1,6 +1,6 @@
 -- Where the blocks cannot fill what the demands leave, the duals of one price of energy show that no dispatch is feasible.
 use Rattle.std.specs.Prelude.{◌≡◌, ◌≢◌, ℕ, ◌+◌, ◌==◌, ℤ, pos, negsuc, neg_ℤ, ◌+ℤ◌, ◌-ℤ◌, ◌≤ℤ◌, ◌<ℤ◌, Bool, true, false, List, [], ◌∷◌, map, filter, refl, length, All, if◌then◌else◌}
-use Rattle.std.proofs.Common.{ap, sym, ◌∙◌, subst, subst₂, arith, inl, inr}
+use Rattle.std.proofs.Common.{ap, sym, ◌∙◌, subst, arith, inl, inr}
 use mathlib.Core.Path.{ap₂}
 use Rattle.std.specs.List.{AllByRecursion}
 use Rattle.std.proofs.lemmas.List.Elements.{recursion_from_All}
@@ -11,7 +11,7 @@ use Rattle.fraction_theory.specs.Signs.{sign_of}
 use Rattle.fraction_theory.specs.Sums.{sum_by, Plain, total}
 use Rattle.fraction_theory.specs.declared.Sign.TheVariants.{Below, Above}
 use Rattle.fraction_theory.proofs.Ring.{by_ring, at, pnil, pone, pneg, ◌⊕◌, ◌⊗◌}
-use Rattle.fraction_theory.proofs.FieldLaws.{ring_ℚ, +ℚ_assoc, +ℚ_nil, whole-neg, whole-+ℚ, whole-*ℚ}
+use Rattle.fraction_theory.proofs.FieldLaws.{ring_ℚ, +ℚ_assoc, +ℚ_nil, whole-neg, whole-+ℚ}
 use Rattle.fraction_theory.proofs.SumLaws.{sum_by-same, sum_by-nil, sum_by-append, total-Plain}
 use Rattle.market_model.specs.declared.participants.Side.{Side}
 use Rattle.market_model.specs.declared.participants.Side.TheVariants.{Sell, Buy}
@@ -24,7 +24,7 @@ use Rattle.market_model.specs.declared.answered.Farkas.{Farkas}
 use Rattle.market_model.specs.Market.{IsMarket}
 use Rattle.market_model.specs.Dispatch.{zero, places, bus_at, unit_at, block_at, units_at, blocks_at, fixed_term, signed, quantity, raised_by, demand, balance, empty, injection as injection_of}
 use Rattle.market_model.specs.Optimality.{bus_price}
-use Rattle.market_model.specs.Infeasibility.{where_above, part_above, farkas_bound, IsFarkas}
+use Rattle.market_model.specs.Infeasibility.{where_above, part_above, farkas_bound, ShowsInfeasible, IsFarkas}
 use Rattle.market_model.specs.Reports.{same_side}
 use Rattle.market_model.specs.Valued.{dual_at, duals_at, farkas_at}
 use Rattle.market_model.specs.WholeSums.{int_sum}
@@ -33,7 +33,7 @@ use Rattle.market_model.proofs.PlaceSums.{sum_by-places, sum_by-whole}
 use Rattle.market_model.proofs.MorePlaces.{places_more, total-filter_more}
 use Rattle.market_model.proofs.MarketSums.{fixed_part, injection-by_parts, demand-by_parts, balance-by_parts, raised_by-empty}
 use Rattle.market_model.proofs.WholeDispatch.{whole-<ℚ}
-use Rattle.merit_order.specs.Clearing.{weighing, unit_energy, bound_by}
+use Rattle.merit_order.specs.Clearing.{weighing, unit_energy, energy_alone, bound_by}
 use Rattle.merit_order.specs.Filling.{demand_of, fixed_of, bought_of, on_side, IsReached}
 use Rattle.merit_order.proofs.ClearingLemmas.{needs, whole_minus}
 use Rattle.merit_order.proofs.ReachLemmas.{CannotFill, unreached}
@@ -202,6 +202,15 @@ module _ (m : Parts) (h : IsMarket m) (left : ℤ) (is : left ≡ (int_sum deman
           let low = s refl in
           let some : ¬ (left ≡ pos 0) = λ z. empty_at z nothing in
           Prim.omega (arith, ints, is, sold, bought, low, some)
+
+  -- so the price of energy shows that nothing is feasible
+  pub shows_infeasible : (short : Bool) → (short ≡ true → pos 0 ≤ℤ left) → (short ≡ false → left <ℤ pos 0) → ShowsInfeasible m (energy_alone (whole (unit_energy short)))
+  shows_infeasible short s l = record {
+    no_limits = refl;
+    below =
+        subst (λ t. t <ℚ zero) (sym (bound-whole m short h) ∙ sym (bound_is m (energy_alone (whole (unit_energy short))) short refl))
+        (whole-<ℚ (whole_bound m short) (pos 0) (below_0 short s l));
+  }
 
   pub is_farkas : {N : Type 0} (value : N → Fraction) (f : Farkas N) (short : Bool) → (short ≡ true → pos 0 ≤ℤ left) → (short ≡ false → left <ℤ pos 0)
       → value f.duals.energy ≡ whole (unit_energy short) → f.duals.limits ≡ [] → value f.bound ≡ farkas_bound m (duals_at value f.duals) → IsFarkas m (farkas_at value f)

@@ -1,3 +1,4 @@
+pub mod ChosenLemmas
 pub mod ClearingLemmas
 pub mod FillingLemmas
 pub mod InfeasibleLemmas

@@ -64,7 +64,7 @@ module _ {N : Type 0} (value : N → Fraction) (m : Parts) (d : Duals Fraction) 
       same_price (value (get_or ps i p).energy) (value (get_or ps i p).congestion) (value (get_or ps i p).total) d.energy d.energy (ap value is.0 ∙ e) is.2 (ap value is.1 ∙ e))
 
   -- the price that is paid at a bus
-  paid_at : (i : ℕ) → i < length m.buses → price_at value ps i ≡ bus_price m d i
+  pub paid_at : (i : ℕ) → i < length m.buses → price_at value ps i ≡ bus_price m d i
   unfolding bus_price
   paid_at i lt =
       let lt' : i < length ps = Prim.omega (arith, count) in

@@ -1,24 +1,23 @@
 -- Operations refused where a dispatch is settled, and where its welfare is added up.
-use Rattle.std.specs.Prelude.{◌≡◌, ℕ, ◌+◌, ◌<◌, ◌==◌, pos, true, List, [], ◌∷◌, ◌++◌, map, filter, length, slice_index_or, refl}
-use Rattle.std.proofs.Common.{zero, suc, arith, ap, sym, ◌∙◌, subst, inl, inr, append_assoc, get_or, take, drop}
+use Rattle.std.specs.Prelude.{◌≡◌, ℕ, ◌+◌, ◌<◌, ◌==◌, pos, true, List, [], ◌∷◌, ◌++◌, map, filter, length, refl}
+use Rattle.std.proofs.Common.{zero, suc, arith, ap, sym, ◌∙◌, subst, inl, get_or, take, drop}
 use mathlib.Core.Path.{ap₂}
 use Rattle.std.proofs.lemmas.List.{take-append-drop, drop_more, map-append, get_or-map, length-map, ext_get_or}
 use Rattle.std.proofs.lemmas.List.FromFn.{length-map-range_with_len, get_or-map-range_with_len}
 use Rattle.fraction_theory.specs.Fraction.{Fraction, whole, neg_ℚ, ◌+ℚ◌, ◌*ℚ◌}
-use Rattle.fraction_theory.specs.Sums.{sum_by, Term, Plain, Product, term_value, total, prefix}
+use Rattle.fraction_theory.specs.Sums.{sum_by, Term, Plain, Product, term_value, prefix}
 use Rattle.fraction_theory.proofs.Ring.{neg_times}
 use Rattle.fraction_theory.proofs.FieldLaws.{ring_ℚ}
 use Rattle.fraction_theory.proofs.SumLaws.{total-append, total-Plain}
 use Rattle.exact_fraction.specs.declared.Op.TheVariants.{Plus, Times}
 use Rattle.exact_fraction.specs.declared.Passed.{Passed}
 use Rattle.market_model.specs.declared.participants.Block.{Block}
-use Rattle.market_model.specs.declared.participants.Bus.{Bus}
 use Rattle.market_model.specs.declared.participants.Parts.{Parts}
 use Rattle.market_model.specs.declared.answered.Load.{Load}
 use Rattle.market_model.specs.declared.answered.UnitPay.{UnitPay}
-use Rattle.market_model.specs.Dispatch.{places, unit_at, block_at, blocks_of, fixed_term, block_term, accepted, signed, output, output_terms, demand}
+use Rattle.market_model.specs.Dispatch.{places, unit_at, block_at, fixed_term, block_term, accepted, signed, output, output_terms, demand}
 use Rattle.market_model.specs.Optimality.{block_value, welfare_terms}
-use Rattle.market_model.specs.NamedSums.{SameSize, term_at, IsNextTerm, IsRefusal, IsAddedIn, IsRefusedIn}
+use Rattle.market_model.specs.NamedSums.{SameSize, term_at, IsRefusal, IsAddedIn, IsRefusedIn}
 use Rattle.merit_order.specs.Clearing.{dispatch_of}
 use Rattle.merit_order.specs.Filling.{AllPlaces}
 use Rattle.merit_order.specs.Paying.{PaysUnit, LoadPays, paid_terms, left_terms}

@@ -1,11 +1,10 @@
 -- Operations refused where nothing is accepted, and in a settlement.
-use Rattle.std.specs.Prelude.{◌≡◌, ℕ, ◌+◌, ◌<◌, ◌==◌, pos, Bool, true, false, List, [], ◌∷◌, ◌++◌, map, filter, length, if◌then◌else◌, refl}
-use Rattle.std.proofs.Common.{arith, ap, sym, ◌∙◌, subst, inl, inr, append_assoc, get_or, take, drop}
+use Rattle.std.specs.Prelude.{◌≡◌, ℕ, ◌<◌, ◌==◌, pos, Bool, true, false, List, [], ◌∷◌, ◌++◌, map, filter, length, if◌then◌else◌, refl}
+use Rattle.std.proofs.Common.{ap, sym, ◌∙◌, subst, inl, inr, append_assoc}
 use mathlib.Core.Path.{ap₂}
-use Rattle.std.proofs.lemmas.List.{take-append-drop, drop_more, map-append, get_or-map, take-map, ext_get_or, length-map}
 use Rattle.fraction_theory.specs.Fraction.{Fraction, whole, neg_ℚ, ◌+ℚ◌, ◌-ℚ◌, ◌*ℚ◌}
-use Rattle.fraction_theory.specs.Sums.{sum_by, Term, Plain, Product, term_value, total, prefix}
-use Rattle.fraction_theory.proofs.Ring.{by_ring, at, pnil, pone, pneg, ◌⊕◌, ◌⊗◌, neg_neg}
+use Rattle.fraction_theory.specs.Sums.{Term, Plain, Product, total}
+use Rattle.fraction_theory.proofs.Ring.{neg_neg}
 use Rattle.fraction_theory.proofs.FieldLaws.{ring_ℚ, whole-neg}
 use Rattle.fraction_theory.proofs.SumLaws.{sum_by-same, sum_by-nil, total-append, total-Plain, total-Product}
 use Rattle.exact_fraction.specs.declared.Op.TheVariants.{Plus, Minus, Times}
@@ -23,7 +22,7 @@ use Rattle.market_model.specs.NamedSums.{SameSize, IsRefusal, IsAddedIn}
 use Rattle.market_model.specs.WorkingPairs.{IsRangeOf}
 use Rattle.market_model.proofs.MarketSums.{raised_by-empty}
 use Rattle.market_model.proofs.PairLaws.{range_of_injection, range_of_balance, range_of_scaled, range_of_farkas}
-use Rattle.merit_order.specs.Clearing.{unit_energy, weighing, energy_alone, IsEnergyOfOne, IsDemandRefusal}
+use Rattle.merit_order.specs.Clearing.{unit_energy, energy_alone, IsEnergyOfOne, IsDemandRefusal}
 use Rattle.merit_order.proofs.InfeasibleLemmas.{fixed_to, balance_to, bound_to, weighs}
 use Rattle.merit_order.proofs.RefusalLemmas.{added_at, terms_at, tested_at, in_front}
 

@@ -1,18 +1,18 @@
 -- Operations that are refused where terms are added up.
-use Rattle.std.specs.Prelude.{◌≡◌, ℕ, ◌+◌, ◌<◌, pos, Bool, true, false, List, [], ◌∷◌, ◌++◌, map, filter, cond, length, slice_index_or, refl}
+use Rattle.std.specs.Prelude.{◌≡◌, ℕ, ◌+◌, ◌<◌, pos, Bool, true, List, [], ◌∷◌, ◌++◌, map, filter, cond, length, refl}
 use Rattle.std.specs.List.{range_with_len}
-use Rattle.std.proofs.Common.{zero, suc, arith, ap, sym, ◌∙◌, subst, subst₂, inl, inr, append_assoc, length-append, take}
+use Rattle.std.proofs.Common.{zero, suc, arith, ap, sym, ◌∙◌, subst, subst₂, inl, append_assoc, length-append, take}
 use Rattle.std.proofs.Math.Seq.{get_or-append_seam}
 use Rattle.std.proofs.lemmas.List.{map-append}
 use Rattle.std.proofs.lemmas.List.Elements.{filter-append}
-use Rattle.fraction_theory.specs.Fraction.{Fraction, whole, neg_ℚ}
+use Rattle.fraction_theory.specs.Fraction.{Fraction, whole}
 use Rattle.fraction_theory.specs.Sums.{Term, Plain, Product, term_value, total, prefix}
 use Rattle.exact_fraction.specs.declared.Op.{Op}
 use Rattle.exact_fraction.specs.declared.Op.TheVariants.{Plus, Minus, Times}
 use Rattle.exact_fraction.specs.declared.Passed.{Passed}
 use Rattle.exact_fraction.specs.Passes.{Passes, IsPassed}
 use Rattle.market_model.specs.Dispatch.{places}
-use Rattle.market_model.specs.NamedSums.{SameSize, term_at, IsNextTerm, AreFactors, IsSumStep, IsRefusedIn, Adds, IsAddedIn, IsRefusal}
+use Rattle.market_model.specs.NamedSums.{SameSize, term_at, IsNextTerm, IsSumStep, IsRefusedIn, Adds, IsAddedIn, IsRefusal}
 use Rattle.market_model.specs.Valued.{passed_at}
 
 -- what a refused operation of numbers is of their values
@@ -100,11 +100,12 @@ terms_at f n k h = let r = places_at n k h in (map f r.0, ap (map f) r.1 ∙ map
 -- terms of the places that pass a test
 pub tested_at : (p : ℕ → Bool) (f : ℕ → Term) (n k : ℕ) → k < n → p k ≡ true → (rest : List Term) × (map f (filter p (places n)) ≡ map f (filter p (places k)) ++ f k ∷ rest)
 tested_at p f n k h e =
-    let r = places_at n k h in
-    (map f (filter p r.0),
-    ap (λ is. map f (filter p is)) r.1
-    ∙ ap (map f) (filter-append p (places k) (k ∷ r.0) ∙ ap (λ (b : Bool). filter p (places k) ++ cond b (k ∷ filter p r.0) (filter p r.0)) e)
-    ∙ map-append f (filter p (places k)) (k ∷ filter p r.0))
+    let r = places_at n k h in (
+      map f (filter p r.0),
+      ap (λ is. map f (filter p is)) r.1
+          ∙ ap (map f) (filter-append p (places k) (k ∷ r.0) ∙ ap (λ (b : Bool). filter p (places k) ++ cond b (k ∷ filter p r.0) (filter p r.0)) e)
+          ∙ map-append f (filter p (places k)) (k ∷ filter p r.0),
+    )
 
 -- more terms in front and behind
 pub behind : (front' terms front rest : List Term) (t : Term) → terms ≡ front ++ t ∷ rest → front' ++ terms ≡ (front' ++ front) ++ t ∷ rest

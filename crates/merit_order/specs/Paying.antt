@@ -1,5 +1,5 @@
 -- What units are paid and loads pay at prices for the buses.
-use Rattle.std.specs.Prelude.{◌≡◌, ℕ, ◌<◌, ◌⊎◌, pos, List, length, map, ◌++◌, slice_index_or}
+use Rattle.std.specs.Prelude.{◌≡◌, ℕ, ◌<◌, ◌⊎◌, List, length, map, ◌++◌, slice_index_or}
 use Rattle.fraction_theory.specs.Fraction.{Fraction, whole, neg_ℚ, ◌+ℚ◌, ◌*ℚ◌}
 use Rattle.fraction_theory.specs.Sums.{Term, Plain, Product}
 use Rattle.exact_fraction.specs.declared.Op.TheVariants.{Plus, Times}

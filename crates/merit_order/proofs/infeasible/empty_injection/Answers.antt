@@ -1,7 +1,5 @@
-
-use Rattle.std.proofs.Common.{rules, Err, ◌≡◌, ◌∙◌, ap, sym, arith, length, pos}
+use Rattle.std.proofs.Common.{rules, Err, ◌≡◌, ◌∙◌, ap, arith, length, pos}
 use Rattle.std.specs.Prelude.{slice_index_or}
-use Rattle.std.specs.Result.{IfOk}
 use Rattle.std.proofs.lemmas.Result.{IfOk-weaker, IfErr-weaker}
 use Rattle.merit_order.proofs.InfeasibleLemmas.{fixed_to, fixed_step, injection_is}
 use Rattle.market_model.specs.Valued.{passed_at}

@@ -1,5 +1,4 @@
-use Rattle.std.proofs.Common.{rules, Err, sym, subst₂, ◌≡◌, List, length}
-use Rattle.exact_fraction.specs.declared.Passed.{Passed}
+use Rattle.std.proofs.Common.{rules, Err, subst₂, ◌≡◌, List}
 use Rattle.market_model.specs.declared.answered.Load.{Load}
 use Rattle.market_model.specs.declared.answered.UnitPay.{UnitPay}
 use Rattle.market_model.specs.NamedSums.{IsAddedIn}
