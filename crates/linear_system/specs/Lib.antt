@@ -1,3 +1,5 @@
 pub mod Choices
 pub mod Exchanges
+pub mod Numbers
+pub mod Pairs
 pub mod Systems

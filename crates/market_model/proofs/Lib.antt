@@ -1,13 +1,17 @@
 pub mod Amounts
+pub mod BlockChoices
 pub mod Data
 pub mod FarkasLaw
 pub mod MarketSums
 pub mod Optimum
+pub mod PairLaws
 pub mod PlaceSums
 mod FarkasRows
+mod RangeRows
 mod Rows
 pub mod WholeDispatch
 pub mod ReportReading
 pub mod MorePlaces
 pub mod WholeSumLaws
 pub mod RightReports
+pub mod SystemLaws

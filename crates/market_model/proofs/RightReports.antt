@@ -97,12 +97,12 @@ passed_apart p q e =
 -- ---- all together: the first letter tells which of the three it is
 pub right_reports_apart : RightReportsApart
 unfolding cleared_text head_text infeasible_text range_text
-right_reports_apart m (outcome.Cleared a) (outcome.Cleared b) p q e = ap outcome.Cleared (reports_apart m a b (fits_by_right m a p) (fits_by_right m b q) e)
-right_reports_apart m (outcome.Cleared a) (outcome.Infeasible g) p q e = absurd (Prim.omega (arith, head_of 99 105 _ _ e))
-right_reports_apart m (outcome.Cleared a) (outcome.Range s) p q e = absurd (Prim.omega (arith, head_of 99 114 _ _ e))
-right_reports_apart m (outcome.Infeasible f) (outcome.Cleared b) p q e = absurd (Prim.omega (arith, head_of 105 99 _ _ e))
-right_reports_apart m (outcome.Infeasible f) (outcome.Infeasible g) p q e = ap outcome.Infeasible (farkas_apart m f g p q e)
-right_reports_apart m (outcome.Infeasible f) (outcome.Range s) p q e = absurd (Prim.omega (arith, head_of 105 114 _ _ e))
-right_reports_apart m (outcome.Range r) (outcome.Cleared b) p q e = absurd (Prim.omega (arith, head_of 114 99 _ _ e))
-right_reports_apart m (outcome.Range r) (outcome.Infeasible g) p q e = absurd (Prim.omega (arith, head_of 114 105 _ _ e))
-right_reports_apart m (outcome.Range r) (outcome.Range s) p q e = ap outcome.Range (passed_apart r s e)
+right_reports_apart bound m (outcome.Cleared a) (outcome.Cleared b) p q e = ap outcome.Cleared (reports_apart m a b (fits_by_right m a p) (fits_by_right m b q) e)
+right_reports_apart bound m (outcome.Cleared a) (outcome.Infeasible g) p q e = absurd (Prim.omega (arith, head_of 99 105 _ _ e))
+right_reports_apart bound m (outcome.Cleared a) (outcome.Range s) p q e = absurd (Prim.omega (arith, head_of 99 114 _ _ e))
+right_reports_apart bound m (outcome.Infeasible f) (outcome.Cleared b) p q e = absurd (Prim.omega (arith, head_of 105 99 _ _ e))
+right_reports_apart bound m (outcome.Infeasible f) (outcome.Infeasible g) p q e = ap outcome.Infeasible (farkas_apart m f g p q e)
+right_reports_apart bound m (outcome.Infeasible f) (outcome.Range s) p q e = absurd (Prim.omega (arith, head_of 105 114 _ _ e))
+right_reports_apart bound m (outcome.Range r) (outcome.Cleared b) p q e = absurd (Prim.omega (arith, head_of 114 99 _ _ e))
+right_reports_apart bound m (outcome.Range r) (outcome.Infeasible g) p q e = absurd (Prim.omega (arith, head_of 114 105 _ _ e))
+right_reports_apart bound m (outcome.Range r) (outcome.Range s) p q e = ap outcome.Range (passed_apart r s e)

@@ -1,8 +1,12 @@
 pub mod Dispatch
 pub mod Fitting
+pub mod Growth
 pub mod Infeasibility
 pub mod Laws
 pub mod Market
+pub mod MarketNumbers
+pub mod MarketSystem
+pub mod NamedSums
 pub mod Optimality
 pub mod Outcomes
 pub mod ReportLaws
@@ -10,3 +14,4 @@ pub mod Reports
 pub mod Settlement
 pub mod Valued
 pub mod WholeSums
+pub mod WorkingPairs

@@ -10,6 +10,7 @@ use Rattle.market_model.specs.Optimality.{Feasible, Supports, welfare, bus_price
 use Rattle.market_model.specs.Infeasibility.{IsFarkas}
 use Rattle.market_model.specs.Settlement.{paid, pays, surplus}
 use Rattle.market_model.specs.Reports.{price_of, pay_of, load_of}
+use Rattle.market_model.specs.WorkingPairs.{IsRangeOf}
 
 -- the accepted MW of an answer
 abbrev pub dispatch_in : Answer Fraction → Dispatch
@@ -31,9 +32,9 @@ pub record IsRight (m : Parts) (a : Answer Fraction) : Type 0 where
   pub no_rents : a.money.rents ≡ []
   pub surplus : a.money.surplus ≡ surplus m (dispatch_in a) a.duals
 
--- a cleared market has a right answer, and an infeasible one duals that show it, with their bound; of two numbers that are too
--- large together nothing is said yet
-abbrev pub IsRightOutcome : Parts → Outcome Fraction → Type 0
-IsRightOutcome m (outcome.Cleared a) = IsRight m a
-IsRightOutcome m (outcome.Infeasible f) = IsFarkas m f
-IsRightOutcome m (outcome.Range p) = Unit {0}
+-- a cleared market has a right answer, and an infeasible one duals that show it, with their bound; where numbers of a type
+-- with this bound became too large, the two are a working pair of the market
+abbrev pub IsRightOutcome : ℕ → Parts → Outcome Fraction → Type 0
+IsRightOutcome bound m (outcome.Cleared a) = IsRight m a
+IsRightOutcome bound m (outcome.Infeasible f) = IsFarkas m f
+IsRightOutcome bound m (outcome.Range p) = IsRangeOf m bound p

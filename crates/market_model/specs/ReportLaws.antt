@@ -1,5 +1,5 @@
 -- A report has one reading.
-use Rattle.std.specs.Prelude.{◌≡◌, [], length, All}
+use Rattle.std.specs.Prelude.{◌≡◌, ℕ, [], length, All}
 use Rattle.fraction_theory.specs.Fraction.{Fraction}
 use Rattle.market_model.specs.declared.participants.Parts.{Parts}
 use Rattle.market_model.specs.declared.answered.Answer.{Answer}
@@ -23,4 +23,4 @@ ReportsApart = (m : Parts) (a b : Answer Fraction) → FitsReport m a → FitsRe
 
 -- two right outcomes of a market with one report are one
 abbrev pub RightReportsApart : Type 0
-RightReportsApart = (m : Parts) (a b : Outcome Fraction) → IsRightOutcome m a → IsRightOutcome m b → report_text m a ≡ report_text m b → a ≡ b
+RightReportsApart = (bound : ℕ) (m : Parts) (a b : Outcome Fraction) → IsRightOutcome bound m a → IsRightOutcome bound m b → report_text m a ≡ report_text m b → a ≡ b

@@ -20,9 +20,8 @@ use Rattle.market_model.proofs.PlaceSums.{places_all, sum_by-same_along, sum_by-
 use Rattle.market_model.proofs.MarketSums.{sum_by-neg, fixed_part, fixed_parts-by_units, demands-by_buses, raises-balance}
 use Rattle.market_model.proofs.WholeDispatch.{whole_gains, whole_loses, block_supported-by_whole, is_dispatch-by_whole}
 use Rattle.market_model.specs.WholeSums.{int_sum}
-use Rattle.merit_order.specs.Filling.{demand_of, fixed_of, bought_of, on_side, accepted_of, no_block, Fills}
+use Rattle.merit_order.specs.Filling.{demand_of, fixed_of, bought_of, on_side, accepted_of, no_block, Fills, AllPlaces}
 use Rattle.merit_order.specs.Clearing.{dispatch_of}
-use Rattle.merit_order.specs.Paying.{AllPlaces}
 
 pub whole_minus : (m n : ℤ) → whole (m -ℤ n) ≡ whole m +ℚ neg_ℚ (whole n)
 whole_minus m n = let e : m -ℤ n ≡ m +ℤ neg_ℤ n = Prim.omega (arith, ints) in ap whole e ∙ whole-+ℚ m (neg_ℤ n) ∙ ap (λ t. whole m +ℚ t) (whole-neg n)

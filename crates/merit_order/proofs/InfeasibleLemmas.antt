@@ -24,7 +24,7 @@ use Rattle.market_model.specs.declared.answered.Farkas.{Farkas}
 use Rattle.market_model.specs.Market.{IsMarket}
 use Rattle.market_model.specs.Dispatch.{zero, places, bus_at, unit_at, block_at, units_at, blocks_at, fixed_term, signed, quantity, raised_by, demand, balance, empty, injection as injection_of}
 use Rattle.market_model.specs.Optimality.{bus_price}
-use Rattle.market_model.specs.Infeasibility.{where_above, part_above, farkas_bound, IsFarkas}
+use Rattle.market_model.specs.Infeasibility.{where_above, part_above, farkas_bound, ShowsInfeasible, IsFarkas}
 use Rattle.market_model.specs.Reports.{same_side}
 use Rattle.market_model.specs.Valued.{dual_at, duals_at, farkas_at}
 use Rattle.market_model.specs.WholeSums.{int_sum}
@@ -33,7 +33,7 @@ use Rattle.market_model.proofs.PlaceSums.{sum_by-places, sum_by-whole}
 use Rattle.market_model.proofs.MorePlaces.{places_more, total-filter_more}
 use Rattle.market_model.proofs.MarketSums.{fixed_part, injection-by_parts, demand-by_parts, balance-by_parts, raised_by-empty}
 use Rattle.market_model.proofs.WholeDispatch.{whole-<ℚ}
-use Rattle.merit_order.specs.Clearing.{weighing, plain_energy, IsPlainPrice, bound_by}
+use Rattle.merit_order.specs.Clearing.{weighing, plain_energy, energy_alone, IsPlainPrice, bound_by}
 use Rattle.merit_order.specs.Filling.{demand_of, fixed_of, bought_of, on_side, IsReached}
 use Rattle.merit_order.proofs.ClearingLemmas.{needs, whole_minus}
 use Rattle.merit_order.proofs.ReachLemmas.{CannotFill, unreached}
@@ -105,7 +105,7 @@ unfolding sign_of whole
 sign_of-minus = refl
 
 -- what a block can make, times what it has
-weighs : (short : Bool) (side : Side) (q : Fraction) → part_above (signed side (whole (plain_energy short))) *ℚ q ≡ (if same_side side (weighing short) then q else zero)
+pub weighs : (short : Bool) (side : Side) (q : Fraction) → part_above (signed side (whole (plain_energy short))) *ℚ q ≡ (if same_side side (weighing short) then q else zero)
 weighs true Sell q = ap (λ s. where_above s (whole (pos 1)) *ℚ q) sign_of-one ∙ by_ring ring_ℚ (q ∷ []) (pone ⊗ at 0) (at 0) refl
 weighs true Buy q =
     ap (λ t. part_above t *ℚ q) (sym (whole-neg (pos 1))) ∙ ap (λ s. where_above s (whole (negsuc 0)) *ℚ q) sign_of-minus ∙ by_ring ring_ℚ (q ∷ []) (pnil ⊗ at 0) pnil refl
@@ -202,6 +202,15 @@ module _ (m : Parts) (h : IsMarket m) (left : ℤ) (is : left ≡ (int_sum deman
           let low = s refl in
           let some : ¬ (left ≡ pos 0) = λ z. empty_at z nothing in
           Prim.omega (arith, ints, is, sold, bought, low, some)
+
+  -- so the price of energy shows that nothing is feasible
+  pub shows_infeasible : (short : Bool) → (short ≡ true → pos 0 ≤ℤ left) → (short ≡ false → left <ℤ pos 0) → ShowsInfeasible m (energy_alone (whole (plain_energy short)))
+  shows_infeasible short s l = record {
+    no_limits = refl;
+    below =
+        subst (λ t. t <ℚ zero) (sym (bound-whole m short h) ∙ sym (bound_is m (energy_alone (whole (plain_energy short))) short refl))
+        (whole-<ℚ (whole_bound m short) (pos 0) (below_0 short s l));
+  }
 
   pub is_farkas : {N : Type 0} (value : N → Fraction) (f : Farkas N) (short : Bool) → (short ≡ true → pos 0 ≤ℤ left) → (short ≡ false → left <ℤ pos 0)
       → value f.duals.energy ≡ whole (plain_energy short) → f.duals.limits ≡ [] → value f.bound ≡ farkas_bound m (duals_at value f.duals) → IsFarkas m (farkas_at value f)

@@ -1,7 +1,11 @@
+pub mod ChosenLemmas
 pub mod ClearingLemmas
 pub mod FillingLemmas
 pub mod InfeasibleLemmas
 pub mod OutcomeLemmas
+pub mod PayingLemmas
 pub mod PlacesLemmas
+pub mod RangeLemmas
 pub mod ReachLemmas
+pub mod RefusalLemmas
 pub mod SettlingLemmas

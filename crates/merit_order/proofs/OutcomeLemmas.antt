@@ -23,13 +23,13 @@ use Rattle.market_model.specs.Outcomes.{IsRight}
 use Rattle.market_model.proofs.PlaceSums.{places_all, sum_by-same_along, sum_by-places}
 use Rattle.market_model.proofs.MarketSums.{unit_bus-in}
 use Rattle.market_model.specs.WholeSums.{int_sum}
-use Rattle.merit_order.specs.Filling.{demand_of, fixed_of, bought_of, accepted_of, no_block, Fills}
+use Rattle.merit_order.specs.Filling.{demand_of, fixed_of, bought_of, accepted_of, no_block, Fills, AllPlaces}
 use Rattle.merit_order.specs.Clearing.{dispatch_of}
-use Rattle.merit_order.specs.Paying.{AllPlaces, price_at, PaysUnit, LoadPays}
+use Rattle.merit_order.specs.Paying.{price_at, PaysUnit, LoadPays}
 use Rattle.merit_order.proofs.ClearingLemmas.{taken, accepted_at, is_feasible, is_supported}
 
 -- an element of a list with each put through a function
-at_place : {A B : Type 0} (f : A → B) (xs : List A) (k : ℕ) (d : B) (P : B → Type 0) → k < length xs → ((e : A) → P (f (get_or xs k e))) → P (slice_index_or (map f xs) k d)
+pub at_place : {A B : Type 0} (f : A → B) (xs : List A) (k : ℕ) (d : B) (P : B → Type 0) → k < length xs → ((e : A) → P (f (get_or xs k e))) → P (slice_index_or (map f xs) k d)
 at_place f [] k d P h all = absurd (Prim.omega arith)
 at_place f (x ∷ xs) k d P h all = Prim.rw (get_or-map f (x ∷ xs) k x d h) (all x)
 
@@ -64,7 +64,7 @@ module _ {N : Type 0} (value : N → Fraction) (m : Parts) (d : Duals Fraction) 
       same_price (value (get_or ps i p).energy) (value (get_or ps i p).congestion) (value (get_or ps i p).total) d.energy d.energy (ap value is.0 ∙ e) is.2 (ap value is.1 ∙ e))
 
   -- the price that is paid at a bus
-  paid_at : (i : ℕ) → i < length m.buses → price_at value ps i ≡ bus_price m d i
+  pub paid_at : (i : ℕ) → i < length m.buses → price_at value ps i ≡ bus_price m d i
   unfolding bus_price
   paid_at i lt =
       let lt' : i < length ps = Prim.omega (arith, count) in

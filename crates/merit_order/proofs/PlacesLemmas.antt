@@ -4,7 +4,7 @@ use Rattle.std.proofs.Common.{ap, sym, ◌∙◌, subst, get_or, arith, length-a
 use Rattle.std.proofs.Math.Seq.{get_or-append_seam}
 use Rattle.std.proofs.lemmas.List.{get_or_append_left}
 use Rattle.std.proofs.lemmas.Bool.Decides.{nat_tests}
-use Rattle.merit_order.specs.Paying.{AllPlaces}
+use Rattle.merit_order.specs.Filling.{AllPlaces}
 
 -- one element more, which is as its place asks
 pub AllPlaces-push : {X : Type 0} (P : ℕ → X → Type 0) (xs ys : List X) (x : X) (n : ℕ) → ys ≡ xs ++ x ∷ [] → length xs ≡ n → AllPlaces P xs → P n x → AllPlaces P ys

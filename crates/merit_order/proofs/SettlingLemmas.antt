@@ -35,7 +35,7 @@ pub accepted_is : {N : Type 0} (value : N → Fraction) (ds : List N) (k : ℕ) 
 accepted_is value ds k d h is = get_or-map value ds k d zero h ∙ ap value (sym is)
 
 module _ {N : Type 0} (value : N → Fraction) (m : Parts) (ds : List N) where
-  abbrev output_to : ℕ → ℕ → Fraction
+  abbrev pub output_to : ℕ → ℕ → Fraction
   output_to place k = total (fixed_term m place ∷ map (block_term m (dispatch_of value ds)) (filter (λ j. (block_at m j).unit == place) (places k)))
 
   -- an output with one block more
@@ -52,7 +52,7 @@ module _ {N : Type 0} (value : N → Fraction) (m : Parts) (ds : List N) where
       ∙ +ℚ_assoc f t more
       ∙ ap (λ s. f +ℚ s) (sym (total-filter_more (λ j. (block_at m j).unit == place) (block_term m (dispatch_of value ds)) k))
 
-  abbrev welfare_to : ℕ → Fraction
+  abbrev pub welfare_to : ℕ → Fraction
   welfare_to k = total (map (λ j. Product (block_value m j) (accepted (dispatch_of value ds) j)) (places k))
 
   -- the welfare with one block more

@@ -1,13 +1,18 @@
 -- What the demands leave to the blocks, in whole numbers of 10^-9 MW.
-use Rattle.std.specs.Prelude.{◌≡◌, ◌⊎◌, ℤ, pos, ◌+ℤ◌, ◌-ℤ◌, ◌≤ℤ◌, ◌<ℤ◌, List, if◌then◌else◌}
+use Rattle.std.specs.Prelude.{◌≡◌, ◌≢◌, ◌⊎◌, ℕ, ◌<◌, length, slice_index_or, ℤ, pos, ◌+ℤ◌, ◌-ℤ◌, ◌≤ℤ◌, ◌<ℤ◌, List, if◌then◌else◌}
 use Rattle.std.specs.Int.Signed.{lt_z}
 use Rattle.std.specs.Ordering.{int_eq}
+use Rattle.std.specs.List.{HoldsAt}
 use Rattle.market_model.specs.WholeSums.{int_sum}
 use Rattle.market_model.specs.declared.participants.Bus.{Bus}
 use Rattle.market_model.specs.declared.participants.Unit as unit
 use Rattle.market_model.specs.declared.participants.Block.{Block}
 use Rattle.market_model.specs.declared.participants.Side.{Side}
 use Rattle.market_model.specs.declared.participants.Side.TheVariants.{Sell, Buy}
+
+-- each element is as its place asks
+abbrev pub AllPlaces : {X : Type 0} → (ℕ → X → Type 0) → List X → Type 0
+AllPlaces P xs = (k : ℕ) → k < length xs → HoldsAt (P k) xs k
 
 -- a bus's demand
 abbrev pub demand_of : Bus → ℤ
@@ -61,3 +66,21 @@ no_block = record { unit = 0; side = Sell; quantity = pos 0; price = pos 0 }
 -- what is accepted of a block that fills so much: a sell sells that, a buy gives it back
 abbrev pub accepted_of : Block → ℤ → ℤ
 accepted_of block filled = on_side block.side filled (block.quantity -ℤ filled)
+
+-- a block fills nothing, or all that it has
+abbrev pub AtBound : Block → ℤ → Type 0
+AtBound block filled = (filled ≡ pos 0) ⊎ (filled ≡ block.quantity)
+
+-- the block at a place has the price of energy, and all the others fill nothing or all that they have
+pub record IsPartAt (energy : ℤ) (blocks : List Block) (filled : List ℤ) (place : ℕ) : Type 0 where
+  pub inside : place < length blocks
+  pub price : (slice_index_or blocks place no_block).price ≡ energy
+  pub others : AllPlaces (λ j amount. j ≢ place → AtBound (slice_index_or blocks j no_block) amount) filled
+
+-- no block but one, at the price of energy, fills a part only
+abbrev pub AtMostOnePart : ℤ → List Block → List ℤ → Type 0
+AtMostOnePart energy blocks filled = AllPlaces (λ j. AtBound (slice_index_or blocks j no_block)) filled ⊎ ((place : ℕ) × IsPartAt energy blocks filled place)
+
+-- the price of a block
+abbrev pub IsPriceIn : List Block → ℤ → Type 0
+IsPriceIn blocks price = (place : ℕ) × (place < length blocks) × ((slice_index_or blocks place no_block).price ≡ price)

@@ -4,18 +4,19 @@
 //! all blocks by price fills what the fixed parts and the demands leave: a sell block fills by
 //! selling, a buy block by giving back. Ties go by block order.
 
-ghost use Rattle.std.specs.Prelude.{true, false, ◌≡◌, ◌≤◌, ◌<◌, ◌*◌, ◌^◌, ◌⊎◌, pos, ◌≤ℤ◌, ◌<ℤ◌, ◌+◌, ◌-ℤ◌, unsigned_abs, [], length, vec_len, slice_index_or, ◌≢◌, All, IfOk, IfErr, IfSome, IfNone, Decides, None};
+ghost use Rattle.std.specs.Prelude.{true, false, ◌≡◌, ◌≤◌, ◌<◌, ◌*◌, ◌^◌, ◌⊎◌, pos, ◌≤ℤ◌, ◌<ℤ◌, ◌+◌, ◌-ℤ◌, unsigned_abs, [], length, vec_len, slice_index_or, ◌≢◌, All, IfOk, IfErr, IfSome, IfNone, Decides, None, Some};
 ghost use Rattle.market_model.specs.Market.{most_buses, most_units, most_blocks, IsDatum, IsBus};
 ghost use Rattle.market_model.specs.WholeSums.{int_sum};
-ghost use Rattle.merit_order.specs.Filling.{demand_of, fixed_of, bought_of, below_of, level_of, on_side, accepted_of, no_block, Fills, IsLess, IsReached};
-ghost use Rattle.merit_order.specs.Paying.{AllPlaces};
+ghost use Rattle.merit_order.specs.Filling.{demand_of, fixed_of, bought_of, below_of, level_of, on_side, accepted_of, no_block, Fills, IsLess, IsReached, AllPlaces, IsPriceIn, AtMostOnePart};
 ghost use Rattle.fraction_theory.specs.Fraction.{whole, neg_ℚ, ◌*ℚ◌};
 ghost use Rattle.market_model.specs.Dispatch.{signed};
-ghost use Rattle.market_model.specs.Optimality.{welfare as welfare_of};
-ghost use Rattle.market_model.specs.Valued.{answer_at};
+ghost use Rattle.market_model.specs.Optimality.{welfare as welfare_of, welfare_terms};
+ghost use Rattle.market_model.specs.Valued.{answer_at, passed_at};
 ghost use Rattle.market_model.specs.Outcomes.{IsRight};
 ghost use Rattle.merit_order.specs.declared.clearing.ClearFault.TheVariants as why;
 ghost use Rattle.merit_order.specs.Clearing.{dispatch_of, IsCauseOf};
+ghost use Rattle.exact_fraction.specs.declared.Op.TheVariants as Op;
+ghost use Rattle.market_model.specs.NamedSums.{IsRefusal, IsRefusedIn};
 ghost use Rattle.market_model.specs.Fitting.{FitsMarket};
 
 use crate::amounts::datum;
@@ -170,6 +171,7 @@ fn lesser(energy: Option<i64>, price: i64, blocks: &[Block], left: i128) -> Opti
     ensures reached { IfSome result (λ energy. IsReached energy left blocks.now) }
     ensures before { IfNone result (energy ≡ None) }
     ensures here { IfNone result (¬ (IsReached price left blocks.now)) }
+    ensures one { IfSome result (λ found. (found ≡ price) ⊎ (energy ≡ Some found)) }
 {
     match energy {
         Some(least) => {
@@ -198,6 +200,7 @@ fn energy_price(blocks: &[Block], left: i128) -> Option<i64>
     ensures reached { IfSome result (λ energy. IsReached energy left blocks.now) }
     ensures none { IfNone result (All (λ block. ¬ (IsReached block.price left blocks.now)) blocks.now) }
     ensures empty { IfNone result ((left ≡ pos 0) → blocks.now ≢ []) }
+    ensures named { IfSome result (λ energy. ((blocks.now ≡ []) × (energy ≡ pos 0)) ⊎ IsPriceIn blocks.now energy) }
 {
     if left == 0 && blocks.is_empty() {
         return Some(0);
@@ -278,6 +281,7 @@ fn fills(alloc: Global, blocks: &[Block], energy: i64, left: i128) -> Result<Vec
     ensures each { IfOk result (λ filled. AllPlaces (λ place. Fills energy (slice_index_or blocks.now place no_block)) filled.items) }
     ensures all { IfOk result (λ filled. int_sum (λ amount. amount) filled.items ≡ left) }
     ensures fits { IfOk result (λ filled. All IsDatum filled.items) }
+    ensures parts { IfOk result (λ filled. AtMostOnePart energy blocks.now filled.items) }
 {
     let mut filled = Vec::new(alloc);
     let mut at_price = left - below(blocks, energy);
@@ -343,7 +347,8 @@ fn prices<N: Exact>(alloc: Global, buses: usize, energy: N) -> Result<List<Price
 #[tactic(auto, using(market_model::proofs::Data::datum_read))]
 fn worth<N: Exact>(block: &Block, mw: N) -> Result<N, Passed<N>>
     requires { IsDatum block.now.price }
-    ensures { IfOk result (λ worth. N.value worth ≡ neg_ℚ (signed block.now.side (whole block.now.price)) *ℚ N.value mw) }
+    ensures worth { IfOk result (λ worth. N.value worth ≡ neg_ℚ (signed block.now.side (whole block.now.price)) *ℚ N.value mw) }
+    ensures cause { IfErr result (λ passed. IsRefusal Op.Times (neg_ℚ (signed block.now.side (whole block.now.price))) (N.value mw) N.bound (passed_at N.value passed)) }
 {
     let value: N = worth_of_one(block.side, datum(block.price));
     value.times(mw)
@@ -362,7 +367,8 @@ fn worth_of_one<N: Exact>(side: Side, price: N) -> N
 /// The value of what is bought less the cost of what is sold, added in block order.
 fn welfare<N: Exact>(market: &Market, dispatch: &[N]) -> Result<N, Passed<N>>
     requires { length dispatch.now ≡ length market.now.blocks }
-    ensures { IfOk result (λ sum. N.value sum ≡ welfare_of market.now (dispatch_of N.value dispatch.now)) }
+    ensures sum { IfOk result (λ sum. N.value sum ≡ welfare_of market.now (dispatch_of N.value dispatch.now)) }
+    ensures cause { IfErr result (λ passed. IsRefusedIn (welfare_terms market.now (dispatch_of N.value dispatch.now)) N.bound (passed_at N.value passed)) }
 {
     let mut sum: N = datum(0);
     for (place, block) in market.blocks().slice().iter().enumerate() {
@@ -384,7 +390,7 @@ fn is_short(left: i128) -> bool
 pub fn clear<N: Exact>(alloc: Global, market: &Market) -> Result<Answer<N>, ClearFault<N>>
     ensures fits { IfOk result (λ answer. FitsMarket market.now answer) }
     ensures right { IfOk result (λ answer. IsRight market.now (answer_at N.value answer)) }
-    ensures cause { IfErr result (IsCauseOf N.value market.now) }
+    ensures cause { IfErr result (IsCauseOf N.value N.bound market.now) }
 {
     let blocks = market.blocks().slice();
     let taken = demand(market.buses().slice()) + bought(blocks);

@@ -56,10 +56,14 @@ HasPlainPrice (outcome.Cleared a) = Unit {0}
 HasPlainPrice (outcome.Infeasible f) = IsPlainPrice f.duals.energy
 HasPlainPrice (outcome.Range p) = Unit {0}
 
--- The status and the text are those of a right outcome of the market: the report of a right answer, or of duals that show that no
--- dispatch is feasible, by a price of energy of 1 or -1. Of numbers that are too large nothing is said yet.
+-- the greatest size of a number that is computed
+abbrev pub most_size : ℕ
+most_size = wide_bound
+
+-- The status and the text are those of a right outcome of the market: the report of a right answer, of duals that show that no
+-- dispatch is feasible, by a price of energy of 1 or -1, or of two numbers of the market that are too large together.
 abbrev pub ClearsTo : Parts → Status → List ℕ → Type 0
-ClearsTo m s text = (o : Outcome Fraction) × IsRightOutcome m o × HasPlainPrice o × (s ≡ status_of o) × (text ≡ report_text m o)
+ClearsTo m s text = (o : Outcome Fraction) × IsRightOutcome most_size m o × HasPlainPrice o × (s ≡ status_of o) × (text ≡ report_text m o)
 
 -- the status and the text are right for a market, which keeps what every market keeps, or for a file that is refused
 abbrev pub ComesTo : Result Parts Refusal → Status → List ℕ → Type 0

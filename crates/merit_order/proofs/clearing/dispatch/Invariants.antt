@@ -1,8 +1,7 @@
 use Rattle.std.proofs.Common.{◌≡◌, length, pos}
 use Rattle.std.specs.Prelude.{slice_index_or}
 use Rattle.fraction_theory.specs.Fraction.{whole}
-use Rattle.merit_order.specs.Filling.{accepted_of, no_block}
-use Rattle.merit_order.specs.Paying.{AllPlaces}
+use Rattle.merit_order.specs.Filling.{accepted_of, no_block, AllPlaces}
 use Rattle.merit_order.proofs.clearing.dispatch.Given as goal
 
 abbrev pub invariant-loop-place : goal.invariant-loop-place

@@ -1,4 +1,4 @@
-use Rattle.std.proofs.Common.{◌≡◌, ◌∙◌, sym, subst, arith, rules, true, w64, drop, ℤ, []}
+use Rattle.std.proofs.Common.{inl, refl, ◌≡◌, ◌∙◌, sym, subst, arith, rules, true, w64, drop, ℤ, []}
 use mir.Val.{SFits, to_z, of_z}
 use mir.Syntax.{w128}
 use Rattle.std.specs.Prelude.{slice_index_or, length}
@@ -10,9 +10,10 @@ use Rattle.market_model.specs.Market.{IsDatum}
 use Rattle.market_model.proofs.Data.{All-push}
 use Rattle.market_model.specs.declared.participants.Block.{Block}
 use Rattle.market_model.specs.WholeSums.{int_sum}
-use Rattle.merit_order.specs.Filling.{below_of, Fills, IsLess, IsReached, no_block}
+use Rattle.merit_order.specs.Filling.{AtMostOnePart, below_of, Fills, IsLess, IsReached, no_block}
 use Rattle.merit_order.proofs.PlacesLemmas.{AllPlaces-push}
 use Rattle.merit_order.proofs.FillingLemmas.{filling_start, filling_more, filling_end}
+use Rattle.merit_order.proofs.ChosenLemmas.{parts_more, parts_end}
 use Rattle.merit_order.proofs.clearing.fills.Goals as goal
 
 pub loop-block-init : goal.loop-block-init
@@ -29,6 +30,7 @@ loop-block-init c =
       bound = omega (arith, ints);
       each = rw none (λ k h d. absurd (omega arith));
       fits = rw none (All-nil IsDatum);
+      parts = rw none (inl (λ k h d. absurd (omega arith)));
       filling = rw none (filling_start e a c.args.blocks.now _ (omega (arith, ints, under, amount)) reached);
     }
 
@@ -53,6 +55,9 @@ loop-block-preserved c =
       bound = omega (arith, ints);
       each = AllPlaces-push (λ place. Fills e (slice_index_or c.args.blocks.now place no_block)) c.loop-block.filled.items c.push.new.self.items _ i items count c.loop-block.invariant.each fill;
       fits = All-push IsDatum c.loop-block.filled.items c.push.new.self.items _ items c.loop-block.invariant.fits small;
+      parts = parts_more e c.args.blocks.now i block c.loop-block.filled.items c.push.new.self.items (to_z w128 c.loop-block.at_price-bits) (to_z w64 (of_z w64 c.filled_by-amount.result)) _
+          count c.loop-block-test.true refl fill c.loop-block.invariant.filling.low
+          (λ h p. subst (λ f. IsLess f (to_z w128 c.loop-block.at_price-bits) block.quantity) (sym amount) (less h p)) (λ h. left ∙ same h) (λ h. left ∙ other h) items c.loop-block.invariant.parts;
       filling = filling_more e (to_z w128 (of_z w128 c.args.left)) c.args.blocks.now i block c.loop-block.filled.items c.push.new.self.items (to_z w128 c.loop-block.at_price-bits) (to_z w64 (of_z w64 c.filled_by-amount.result)) _
           c.requires.blocks c.loop-block-test.true (get_or_default c.args.blocks.now i no_block block c.loop-block-test.true) fill
           (λ h p. subst (λ f. IsLess f (to_z w128 c.loop-block.at_price-bits) block.quantity) (sym amount) (less h p)) (λ h. left ∙ same h) (λ h. left ∙ other h) items c.loop-block.invariant.filling;
@@ -62,3 +67,8 @@ pub returns-clause-all : goal.returns-clause-all
 returns-clause-all c =
     filling_end _ (to_z w128 (of_z w128 c.args.left)) (drop c.loop-block.block-index c.args.blocks.now) c.loop-block.filled.items _ (drop_all c.loop-block.block-index c.args.blocks.now c.loop-block-test.false) c.loop-block.invariant.filling
     ∙ to_z-of_z w128 c.args.left c.ranges.left
+
+pub returns-clause-parts : goal.returns-clause-parts
+returns-clause-parts c =
+    subst (λ (e : ℤ). AtMostOnePart e c.args.blocks.now c.loop-block.filled.items) (to_z-of_z w64 c.args.energy c.ranges.energy)
+    (parts_end (to_z w64 (of_z w64 c.args.energy)) c.args.blocks.now c.loop-block.filled.items (to_z w128 c.loop-block.at_price-bits) c.loop-block.invariant.parts)

@@ -1,6 +1,6 @@
 use Rattle.std.proofs.Common.{◌≡◌, length, pos}
 use Rattle.fraction_theory.specs.Fraction.{whole}
-use Rattle.merit_order.specs.Paying.{AllPlaces}
+use Rattle.merit_order.specs.Filling.{AllPlaces}
 use Rattle.merit_order.proofs.clearing.prices.Given as goal
 
 abbrev pub invariant-loop-bus : goal.invariant-loop-bus

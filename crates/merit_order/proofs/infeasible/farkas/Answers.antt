@@ -9,5 +9,5 @@ pub returns-clause-bound : goal.returns-clause-bound
 returns-clause-bound g c =
     let m = c.args.market.now in
     let e = ap g.N.Exact.value c.duals.ensures.energy in
-    c.in_ok-bound.ensures ∙ ap₂ (bound_by m) (sym e) c.weighing_side-side.ensures
+    c.in_ok-bound.ensures.bound ∙ ap₂ (bound_by m) (sym e) c.weighing_side-side.ensures
     ∙ sym (bound_is m (duals_at g.N.Exact.value c.duals.result) c.args.short (e ∙ c.energy_of_one-energy.ensures))

@@ -1,8 +1,11 @@
-use Rattle.std.proofs.Common.{◌∙◌, ap, sym, arith, length, pos}
+use Rattle.std.proofs.Common.{rules, Err, subst₂, ◌≡◌, ◌<◌, ◌∙◌, ap, sym, arith, length, pos}
 use Rattle.std.specs.Prelude.{slice_index_or}
 use Rattle.std.proofs.lemmas.Grind.{common_steps}
 use Rattle.fraction_theory.specs.Fraction.{Fraction, ◌*ℚ◌}
-use Rattle.merit_order.specs.Paying.{LoadPays, price_at}
+use Rattle.market_model.specs.declared.participants.Bus.{Bus}
+use Rattle.market_model.specs.Valued.{passed_at}
+use Rattle.merit_order.specs.declared.clearing.ClearFault.TheVariants as why
+use Rattle.merit_order.specs.Paying.{LoadPays, price_at, IsLoadRefusal, of_load}
 use Rattle.merit_order.proofs.PlacesLemmas.{AllPlaces-push}
 use Rattle.merit_order.proofs.SettlingLemmas.{price_is, demand_is}
 use Rattle.merit_order.proofs.settling.loads.Goals as goal
@@ -24,3 +27,18 @@ loop-place-preserved g c =
             pays = c.in_ok-load.ensures.pays ∙ ap (λ (t : Fraction). t *ℚ g.N.Exact.value c.in_ok-load.field-0.mw) (sym price);
           });
     }
+
+pub returns-in_err-load-clause-cause : goal.returns-in_err-load-clause-cause
+returns-in_err-load-clause-cause g c =
+    let m = c.args.market.now in
+    let i = c.loop-place.place in
+    let value = g.N.Exact.value in
+    let prices = c.args.prices.now in
+    let buses = c.slice-bus-items.ensures ∙ c.buses.ensures.list in
+    let given : c.from_residual.result ≡ Err (why.Range c.in_err-load.field-0.0) = search rules in
+    let below : i < length m.buses = omega (arith, c.loop-place-test.true, ap length buses) in
+    let at = ap (λ bs. slice_index_or bs i (record { number = 0; pd = pos 0; gs = pos 0 })) buses in
+    let price = price_is value prices i c.index-prices-place.result (omega (arith, c.requires, ap length buses)) in
+    λ x. rw given
+    (of_load i below
+    (subst₂ (λ (b : Bus) (t : Fraction). IsLoadRefusal g.N.Exact.bound b t (passed_at value c.in_err-load.field-0.0)) at (sym price) c.in_err-load.ensures.cause))

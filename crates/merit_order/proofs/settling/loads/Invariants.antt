@@ -1,5 +1,6 @@
 use Rattle.std.proofs.Common.{◌≡◌, length}
-use Rattle.merit_order.specs.Paying.{AllPlaces, LoadPays, price_at}
+use Rattle.merit_order.specs.Paying.{LoadPays, price_at}
+use Rattle.merit_order.specs.Filling.{AllPlaces}
 use Rattle.merit_order.proofs.settling.loads.Given as goal
 
 abbrev pub invariant-loop-place : goal.invariant-loop-place

@@ -1,6 +1,7 @@
 use Rattle.std.proofs.Common.{◌≡◌, length}
 use Rattle.market_model.specs.Dispatch.{unit_at}
-use Rattle.merit_order.specs.Paying.{AllPlaces, PaysUnit, price_at}
+use Rattle.merit_order.specs.Paying.{PaysUnit, price_at}
+use Rattle.merit_order.specs.Filling.{AllPlaces}
 use Rattle.merit_order.proofs.settling.unit_pays.Given as goal
 
 abbrev pub invariant-loop-place : goal.invariant-loop-place

@@ -1,0 +1,176 @@
+-- A dispatch in balance of which all blocks but one stand at a bound is that of a choice, with that block's price as the
+-- price of energy.
+use Rattle.std.specs.Prelude.{◌≡◌, ◌≢◌, ℕ, ◌<◌, pos, Bool, true, false, not, List, [], ◌∷◌, ◌++◌, length, map, if◌then◌else◌, refl}
+use Rattle.std.specs.List.{Contains}
+use Rattle.std.proofs.Common.{arith, ap, sym, subst, ◌∙◌, inl, inr}
+use mathlib.Core.Path.{ap₂}
+use Rattle.std.proofs.lemmas.List.{ext_get_or}
+use Rattle.std.proofs.lemmas.List.FromFn.{length-map-range_with_len, get_or-map-range_with_len}
+use Rattle.fraction_theory.specs.Fraction.{Fraction, whole, neg_ℚ, ◌+ℚ◌, ◌-ℚ◌, ◌*ℚ◌}
+use Rattle.fraction_theory.specs.Sums.{sum_by, total}
+use Rattle.fraction_theory.proofs.Ring.{by_ring, by_ring1, at, pnil, pone, pneg, ◌⊕◌, ◌⊗◌}
+use Rattle.fraction_theory.proofs.FieldLaws.{ring_ℚ}
+use Rattle.fraction_theory.proofs.SumLaws.{sum_by-append, sum_by-plus, sum_by-same, sum_by-times}
+use Rattle.fraction_theory.proofs.ListSums.{kept, sum_by-filter, sum_by-members}
+use Rattle.linear_system.specs.Systems.{MeetsRows, objective}
+use Rattle.linear_system.specs.Choices.{Choice, others, basics, IsChoice, at_bound, value, value_terms, reduced, reduced_terms}
+use Rattle.linear_system.proofs.ChoiceLaws.{others_are, is_other, is_basic, others_fix_all, value_meets, reduced_is_one}
+use Rattle.market_model.specs.declared.participants.Side.{Side}
+use Rattle.market_model.specs.declared.participants.Parts.{Parts}
+use Rattle.market_model.specs.Market.{IsMarket}
+use Rattle.market_model.specs.Dispatch.{Dispatch, zero, places, block_at, signed, accepted, quantity, raised_by, balance, empty}
+use Rattle.market_model.specs.Optimality.{price, block_value}
+use Rattle.market_model.specs.MarketSystem.{balance_name, block_sign, needed, by_name, system_of, choice_dispatch}
+use Rattle.market_model.proofs.MarketSums.{balance-by_empty}
+use Rattle.market_model.proofs.SystemLaws.{from_places, signed-times, variable_in, variable_below, block_or_balance, is_system, raised, meets_rows, from_rows, balance_is, not_balance, balance_choice, balance_others, balance_choice_is, block_choice, block_choice_is, block_choice_high, block_is_basic, the_block_is_basic, balance_not_basic}
+use Rattle.fraction_theory.proofs.ListSums.{Distinct-increasing}
+
+-- what is by name, at the balance and at a block
+pub by_name-balance : (m : Parts) (x : ℕ → Fraction) (y : Fraction) → by_name m x y (balance_name m) ≡ y
+by_name-balance m x y = ap (λ (b : Bool). if b then y else x (balance_name m)) (balance_is m (balance_name m) refl)
+
+pub by_name-block : (m : Parts) (x : ℕ → Fraction) (y : Fraction) (j : ℕ) → j < length m.blocks → by_name m x y j ≡ x j
+by_name-block m x y j h = ap (λ (b : Bool). if b then y else x j) (not_balance m j h)
+
+module _ (m : Parts) (market : IsMarket m) (x : Dispatch) (count : length x.blocks ≡ length m.blocks) (balanced : balance m x ≡ zero) where
+  -- what the blocks raise is what is needed
+  raises : raised m (accepted x) ≡ needed m
+  raises =
+      sum_by-same (λ j. block_sign m j *ℚ accepted x j) (raised_by m x) (places (length m.blocks)) (λ j. signed-times (block_at m j).side (accepted x j))
+      ∙ by_ring1 ring_ℚ (balance m (empty m) ∷ sum_by (raised_by m x) (places (length m.blocks)) ∷ []) (at 1) (pneg (at 0)) pone (at 0 ⊕ at 1) pnil
+      (sym (balance-by_empty m x market) ∙ balanced) refl
+
+  -- the dispatch as a point
+  pub point : ℕ → Fraction
+  point w = by_name m (accepted x) (needed m) w
+
+  point_meets : MeetsRows (system_of m []) point
+  unfolding point
+  point_meets = meets_rows m point
+      (by_name-balance m (accepted x) (needed m) ∙ sym raises
+      ∙ sum_by-members (λ j. block_sign m j *ℚ accepted x j) (λ j. block_sign m j *ℚ point j) (places (length m.blocks))
+      (λ j c. ap (λ t. block_sign m j *ℚ t) (sym (by_name-block m (accepted x) (needed m) j (from_places (length m.blocks) j c)))))
+
+  module _ (h : Choice) (is : IsChoice (system_of m []) h) (same : (w : ℕ) → Contains (others (system_of m []) h) w → at_bound (system_of m []) h w ≡ point w) where
+    value_is : (w : ℕ) → Contains (system_of m []).variables w → value (system_of m []) h w ≡ point w
+    unfolding value
+    value_is w c =
+        others_fix_all (system_of m []) (Distinct-increasing (system_of m []).variables (is_system m).ascending) h is (value (system_of m []) h) point
+        (value_meets (system_of m []) (Distinct-increasing (system_of m []).variables (is_system m).ascending) h is) point_meets
+        (λ o k. ap (λ (b : Bool). if b then total (value_terms (system_of m []) h o) else at_bound (system_of m []) h o) (others_are (system_of m []) h o k).1 ∙ same o k) w c
+
+    -- a choice whose others stand where the dispatch is has that dispatch
+    pub dispatch_is : choice_dispatch m [] h ≡ x
+    unfolding point
+    dispatch_is =
+        let long : length (map (value (system_of m []) h) (places (length m.blocks))) ≡ length m.blocks = length-map-range_with_len (value (system_of m []) h) 0 (length m.blocks) in
+        ap (λ bs. record { blocks = bs })
+        (ext_get_or zero (map (value (system_of m []) h) (places (length m.blocks))) x.blocks (long ∙ sym count)
+        (λ j lt. let below : j < length m.blocks = Prim.omega (arith, lt, long) in
+        get_or-map-range_with_len (value (system_of m []) h) 0 (length m.blocks) j j zero below (Prim.omega arith)
+        ∙ value_is j (variable_in m j (Prim.omega (arith, below)))
+        ∙ by_name-block m (accepted x) (needed m) j below))
+
+-- the value of a block by its sign and its price
+block_value-by_sign : (side : Side) (p : Fraction) → neg_ℚ (signed side p) ≡ neg_ℚ (signed side (whole (pos 1)) *ℚ p)
+block_value-by_sign side p = ap neg_ℚ (sym (signed-times side p))
+
+module _ (m : Parts) (p : ℕ) (inside : p < length m.blocks) (h : Choice) (is : IsChoice (system_of m []) h)
+    (only : (b : ℕ) → Contains (basics (system_of m []) h) b → b ≡ p) (other : h.basic (balance_name m) ≡ false) where
+  -- the objective by the balance and the blocks, at that price of energy: nothing is left at the block itself
+  left_over : ℕ → Fraction
+  left_over w = by_name m (λ j. block_sign m j *ℚ (price m p -ℚ price m j)) (neg_ℚ (price m p)) w
+
+  by_left_over : (v : ℕ → Fraction) → MeetsRows (system_of m []) v → objective (system_of m []) v ≡ sum_by (λ w. left_over w *ℚ v w) (others (system_of m []) h)
+  unfolding objective system_of left_over others
+  by_left_over v meets =
+      let e : Fraction = price m p in
+      let blocks : List ℕ = places (length m.blocks) in
+      let f : ℕ → Fraction = λ w. left_over w *ℚ v w in
+      sum_by-same (λ j. block_value m j *ℚ v j) (λ j. block_sign m j *ℚ (e -ℚ price m j) *ℚ v j +ℚ neg_ℚ e *ℚ (block_sign m j *ℚ v j)) blocks
+      (λ j. ap (λ t. t *ℚ v j) (block_value-by_sign (block_at m j).side (price m j))
+      ∙ by_ring ring_ℚ (block_sign m j ∷ price m j ∷ v j ∷ e ∷ []) (pneg (at 0 ⊗ at 1) ⊗ at 2) (((at 0 ⊗ (at 3 ⊕ pneg (at 1))) ⊗ at 2) ⊕ (pneg (at 3) ⊗ (at 0 ⊗ at 2))) refl)
+      ∙ sum_by-plus (λ j. block_sign m j *ℚ (e -ℚ price m j) *ℚ v j) (λ j. neg_ℚ e *ℚ (block_sign m j *ℚ v j)) blocks
+      ∙ ap₂ ◌+ℚ◌
+      (sum_by-members (λ j. block_sign m j *ℚ (e -ℚ price m j) *ℚ v j) f blocks
+      (λ j c. ap (λ t. t *ℚ v j) (sym (by_name-block m (λ i. block_sign m i *ℚ (e -ℚ price m i)) (neg_ℚ e) j (from_places (length m.blocks) j c)))))
+      (sum_by-times (neg_ℚ e) (λ j. block_sign m j *ℚ v j) blocks
+      ∙ ap (λ t. neg_ℚ e *ℚ t) (sym (from_rows m v meets))
+      ∙ ap (λ t. t *ℚ v (balance_name m)) (sym (by_name-balance m (λ i. block_sign m i *ℚ (e -ℚ price m i)) (neg_ℚ e)))
+      ∙ sym (ring_ℚ.plus_nil (f (balance_name m))))
+      ∙ sym (sum_by-append f blocks (balance_name m ∷ []))
+      ∙ sym
+      (sum_by-filter f (λ w. not (h.basic w)) (blocks ++ balance_name m ∷ [])
+      ∙ sum_by-members (λ w. kept (not (h.basic w)) (f w)) f (blocks ++ balance_name m ∷ []) nothing_lost)
+    where
+      nothing_lost : (w : ℕ) → Contains (system_of m []).variables w → kept (not (h.basic w)) (left_over w *ℚ v w) ≡ left_over w *ℚ v w
+      nothing_lost w c = by_test (h.basic w) refl
+        where
+          by_test : (b : Bool) → h.basic w ≡ b → kept (not b) (left_over w *ℚ v w) ≡ left_over w *ℚ v w
+          by_test false k = refl
+          by_test true k =
+              let at_p : w ≡ p = only w (is_basic (system_of m []) h w c k) in
+              let nil : left_over p ≡ whole (pos 0) =
+              by_name-block m (λ j. block_sign m j *ℚ (price m p -ℚ price m j)) (neg_ℚ (price m p)) p inside
+              ∙ by_ring ring_ℚ (block_sign m p ∷ price m p ∷ []) (at 0 ⊗ (at 1 ⊕ pneg (at 1))) pnil refl in
+              sym (ap (λ t. t *ℚ v w) (ap left_over at_p ∙ nil) ∙ by_ring ring_ℚ (v w ∷ []) (pnil ⊗ at 0) pnil refl)
+
+  -- the price of energy of a choice in which the block is basic
+  pub energy_is : neg_ℚ (reduced (system_of m []) h (balance_name m)) ≡ price m p
+  unfolding left_over
+  energy_is =
+      ap neg_ℚ
+      (sym (reduced_is_one (system_of m []) (is_system m) h is left_over by_left_over (balance_name m)
+      (is_other (system_of m []) h (balance_name m) (variable_in m (balance_name m) (Prim.omega arith)) other))
+      ∙ by_name-balance m (λ j. block_sign m j *ℚ (price m p -ℚ price m j)) (neg_ℚ (price m p)))
+      ∙ by_ring ring_ℚ (price m p ∷ []) (pneg (pneg (at 0))) (at 0) refl
+
+-- what stands at a bound: the block's quantity or 0, and the balance at what is needed
+module _ (m : Parts) (market : IsMarket m) (x : Dispatch) (count : length x.blocks ≡ length m.blocks) (balanced : balance m x ≡ zero) (high : ℕ → Bool) where
+  at_place : (h : Choice) → ((w : ℕ) → h.high w ≡ high w) → (w : ℕ) → w < length m.blocks → accepted x w ≡ (if high w then quantity m w else zero)
+      → at_bound (system_of m []) h w ≡ point m market x count balanced w
+  unfolding at_bound system_of point
+  at_place h flags w lt e =
+      ap (λ (b : Bool). if b then by_name m (quantity m) (needed m) w else by_name m (λ j. zero) (needed m) w) (flags w)
+      ∙ ap₂ (λ (a b : Fraction). if high w then a else b) (by_name-block m (quantity m) (needed m) w lt) (by_name-block m (λ j. zero) (needed m) w lt)
+      ∙ sym e
+      ∙ sym (by_name-block m (accepted x) (needed m) w lt)
+
+  at_balance : (h : Choice) → at_bound (system_of m []) h (balance_name m) ≡ point m market x count balanced (balance_name m)
+  unfolding at_bound system_of point
+  at_balance h =
+      ap₂ (λ (a b : Fraction). if h.high (balance_name m) then a else b) (by_name-balance m (quantity m) (needed m)) (by_name-balance m (λ j. zero) (needed m))
+      ∙ either (h.high (balance_name m)) (needed m)
+      ∙ sym (by_name-balance m (accepted x) (needed m))
+    where
+      either : (b : Bool) (y : Fraction) → (if b then y else y) ≡ y
+      either true y = refl
+      either false y = refl
+
+  -- all blocks but p at a bound
+  pub block_choice_dispatch : (p : ℕ) (inside : p < length m.blocks) → ((j : ℕ) → j < length m.blocks → j ≢ p → accepted x j ≡ (if high j then quantity m j else zero))
+      → choice_dispatch m [] (block_choice m high p inside) ≡ x
+  block_choice_dispatch p inside each =
+      dispatch_is m market x count balanced (block_choice m high p inside) (block_choice_is m high p inside)
+      (λ w c. let r = others_are (system_of m []) (block_choice m high p inside) w c in
+      elim (block_or_balance m w (variable_below m w r.0)) [
+        | inl h ↦ at_place (block_choice m high p inside) (block_choice_high m high p inside) w h
+            (each w h (λ e. let wrong : true ≡ false = sym (block_is_basic m high p inside) ∙ ap (block_choice m high p inside).basic (sym e) ∙ r.1 in absurd cc))
+        | inr e ↦ Prim.rw e (at_balance (block_choice m high p inside))
+      ])
+
+  pub block_choice_energy : (p : ℕ) (inside : p < length m.blocks) → neg_ℚ (reduced (system_of m []) (block_choice m high p inside) (balance_name m)) ≡ price m p
+  block_choice_energy p inside =
+      energy_is m p inside (block_choice m high p inside) (block_choice_is m high p inside) (the_block_is_basic m high p inside) (balance_not_basic m high p inside)
+
+  -- all blocks at a bound, and the balance basic
+  pub balance_choice_dispatch : ((j : ℕ) → j < length m.blocks → accepted x j ≡ (if high j then quantity m j else zero)) → choice_dispatch m [] (balance_choice m high) ≡ x
+  balance_choice_dispatch each =
+      dispatch_is m market x count balanced (balance_choice m high) (balance_choice_is m high)
+      (λ w c. let lt = from_places (length m.blocks) w (subst (λ (ws : List ℕ). Contains ws w) (balance_others m high) c) in at_place (balance_choice m high) (λ v. refl) w lt (each w lt))
+
+  pub balance_choice_energy : neg_ℚ (reduced (system_of m []) (balance_choice m high) (balance_name m)) ≡ zero
+  unfolding reduced
+  balance_choice_energy =
+      ap (λ (b : Bool). neg_ℚ (if b then whole (pos 0) else total (reduced_terms (system_of m []) (balance_choice m high) (balance_name m)))) (balance_is m (balance_name m) refl)
+      ∙ by_ring ring_ℚ [] (pneg pnil) pnil refl

@@ -1,0 +1,134 @@
+-- The row of three big buses: numbers of 127 bits don't hold its welfare, and the sum that they don't hold is a working pair.
+use Rattle.std.specs.Prelude.{◌≡◌, ◌≢◌, ℕ, ◌^◌, ◌<◌, ◌-◌, pos, neg_ℤ, Bool, true, [], ◌∷◌, All, if◌then◌else◌, refl}
+use Rattle.std.proofs.Common.{zero, suc, arith, ap, sym, inl, inr}
+use Rattle.std.proofs.lemmas.Int.{ints}
+use Rattle.fraction_theory.specs.Divisors.{gcd, gcd_in, lcm}
+use Rattle.fraction_theory.specs.Fraction.{Fraction, whole, over, ◌+ℚ◌, ◌*ℚ◌, neg_ℚ, same_fraction}
+use Rattle.fraction_theory.specs.Order.{◌≤ℚ◌}
+use Rattle.fraction_theory.specs.Sums.{term_value, prefix}
+use Rattle.fraction_theory.proofs.OrderLaws.{whole-≤ℚ, <ℚ_irrefl}
+use Rattle.exact_fraction.specs.declared.Op.TheVariants.{Plus}
+use Rattle.exact_fraction.specs.declared.Passed.{Passed}
+use Rattle.exact_fraction.specs.Passes.{SumPasses}
+use Rattle.market_model.specs.declared.participants.Side.TheVariants.{Sell}
+use Rattle.market_model.specs.declared.participants.Parts.{Parts}
+use Rattle.market_model.specs.declared.answered.Duals.{Duals}
+use Rattle.market_model.specs.Market.{IsMarket, IsBus, IsUnit, IsBlock}
+use Rattle.market_model.specs.Dispatch.{Dispatch, injection, balance, accepted, quantity}
+use Rattle.market_model.specs.Optimality.{Feasible, Supports, BlockSupported, welfare_terms, bus_price}
+use Rattle.market_model.specs.NamedSums.{term_at}
+use Rattle.market_model.specs.WorkingPairs.{IsRangeOf}
+use Rattle.market_model.proofs.SystemLaws.{block_choice, block_choice_is}
+use Rattle.market_model.proofs.BlockChoices.{block_choice_dispatch, block_choice_energy}
+use Rattle.market_model.proofs.PairLaws.{IsChosen, range_of_welfare}
+
+-- 9223372036.854775807 MW, and the same number as a price
+abbrev most : ℕ
+most = 2 ^ 63 - 1
+
+-- each bus demands as much as the unit there offers, at that price
+abbrev pub big_buses : Parts
+big_buses = record {
+  buses = record { number = 1; pd = pos most; gs = pos 0 } ∷ record { number = 2; pd = pos most; gs = pos 0 } ∷ record { number = 3; pd = pos most; gs = pos 0 } ∷ [];
+  units = record { row = 1; bus = 0; fixed = pos 0; up = pos most; down = pos 0 } ∷ record { row = 2; bus = 1; fixed = pos 0; up = pos most; down = pos 0 }
+      ∷ record { row = 3; bus = 2; fixed = pos 0; up = pos most; down = pos 0 } ∷ [];
+  blocks = record { unit = 0; side = Sell; quantity = pos most; price = pos most } ∷ record { unit = 1; side = Sell; quantity = pos most; price = pos most }
+      ∷ record { unit = 2; side = Sell; quantity = pos most; price = pos most } ∷ [];
+}
+
+-- all is sold
+abbrev pub all_sold : Dispatch
+all_sold = record { blocks = whole (pos most) ∷ whole (pos most) ∷ whole (pos most) ∷ [] }
+
+abbrev pub at_most_price : Duals Fraction
+at_most_price = record { energy = whole (pos most); limits = [] }
+
+big_buses-market : IsMarket big_buses
+big_buses-market = record { bus_count = Prim.omega arith; unit_count = Prim.omega arith; block_count = Prim.omega arith; buses = buses; units = units; blocks = blocks }
+  where
+    buses : All IsBus big_buses.buses
+    buses zero d h = record { load = Prim.omega (arith, ints); shunt = Prim.omega (arith, ints) }
+    buses (suc zero) d h = record { load = Prim.omega (arith, ints); shunt = Prim.omega (arith, ints) }
+    buses (suc (suc zero)) d h = record { load = Prim.omega (arith, ints); shunt = Prim.omega (arith, ints) }
+    buses (suc (suc (suc k))) d h = absurd (Prim.omega arith)
+
+    units : All (IsUnit 3) big_buses.units
+    units zero d h = record { row = Prim.omega arith; bus = Prim.omega arith; fixed = Prim.omega arith; up = Prim.omega (arith, ints); down = Prim.omega (arith, ints) }
+    units (suc zero) d h = record { row = Prim.omega arith; bus = Prim.omega arith; fixed = Prim.omega arith; up = Prim.omega (arith, ints); down = Prim.omega (arith, ints) }
+    units (suc (suc zero)) d h = record { row = Prim.omega arith; bus = Prim.omega arith; fixed = Prim.omega arith; up = Prim.omega (arith, ints); down = Prim.omega (arith, ints) }
+    units (suc (suc (suc k))) d h = absurd (Prim.omega arith)
+
+    blocks : All (IsBlock 3) big_buses.blocks
+    blocks zero d h = record { unit = Prim.omega arith; quantity = Prim.omega (arith, ints); price = Prim.omega arith }
+    blocks (suc zero) d h = record { unit = Prim.omega arith; quantity = Prim.omega (arith, ints); price = Prim.omega arith }
+    blocks (suc (suc zero)) d h = record { unit = Prim.omega arith; quantity = Prim.omega (arith, ints); price = Prim.omega arith }
+    blocks (suc (suc (suc k))) d h = absurd (Prim.omega arith)
+
+big_buses-balance : balance big_buses all_sold ≡ whole (pos 0)
+unfolding balance injection ◌+ℚ◌ ◌*ℚ◌ neg_ℚ over whole gcd gcd_in
+big_buses-balance = same_fraction (balance big_buses all_sold) (whole (pos 0)) refl refl
+
+big_buses-feasible : Feasible big_buses all_sold
+big_buses-feasible = record { blocks = record { count = refl; above = above; within = within }; balanced = big_buses-balance }
+  where
+    above : (j : ℕ) → j < 3 → whole (pos 0) ≤ℚ accepted all_sold j
+    above zero h = whole-≤ℚ (pos 0) (pos most) (Prim.omega (arith, ints))
+    above (suc zero) h = whole-≤ℚ (pos 0) (pos most) (Prim.omega (arith, ints))
+    above (suc (suc zero)) h = whole-≤ℚ (pos 0) (pos most) (Prim.omega (arith, ints))
+    above (suc (suc (suc j))) h = absurd (Prim.omega arith)
+
+    within : (j : ℕ) → j < 3 → accepted all_sold j ≤ℚ quantity big_buses j
+    within zero h = whole-≤ℚ (pos most) (pos most) (Prim.omega (arith, ints))
+    within (suc zero) h = whole-≤ℚ (pos most) (pos most) (Prim.omega (arith, ints))
+    within (suc (suc zero)) h = whole-≤ℚ (pos most) (pos most) (Prim.omega (arith, ints))
+    within (suc (suc (suc j))) h = absurd (Prim.omega arith)
+
+big_buses-supports : Supports big_buses all_sold at_most_price
+unfolding bus_price
+big_buses-supports = record { blocks = blocks }
+  where
+    blocks : (j : ℕ) → j < 3 → BlockSupported big_buses all_sold at_most_price j
+    blocks zero h = record { full = λ k. refl; empty = λ k. absurd (<ℚ_irrefl (whole (pos most)) k) }
+    blocks (suc zero) h = record { full = λ k. refl; empty = λ k. absurd (<ℚ_irrefl (whole (pos most)) k) }
+    blocks (suc (suc zero)) h = record { full = λ k. refl; empty = λ k. absurd (<ℚ_irrefl (whole (pos most)) k) }
+    blocks (suc (suc (suc j))) h = absurd (Prim.omega arith)
+
+all_high : ℕ → Bool
+all_high j = true
+
+-- the choice in which the first block is basic, and the others stand at their quantities
+big_buses-chosen : IsChosen big_buses all_sold at_most_price
+unfolding all_high
+big_buses-chosen = record {
+  choice = block_choice big_buses all_high 0 (Prim.omega arith);
+  is = block_choice_is big_buses all_high 0 (Prim.omega arith);
+  dispatch = block_choice_dispatch big_buses big_buses-market all_sold refl big_buses-balance all_high 0 (Prim.omega arith) each;
+  duals = ap (λ e. record { energy = e; limits = [] }) (block_choice_energy big_buses big_buses-market all_sold refl big_buses-balance all_high 0 (Prim.omega arith));
+}
+  where
+    each : (j : ℕ) → j < 3 → j ≢ 0 → accepted all_sold j ≡ (if all_high j then quantity big_buses j else whole (pos 0))
+    each zero h n = refl
+    each (suc zero) h n = refl
+    each (suc (suc zero)) h n = refl
+    each (suc (suc (suc j))) h n = absurd (Prim.omega arith)
+
+-- the second sum of the welfare, and its third term
+abbrev pub too_large : Passed Fraction
+too_large = record { op = Plus; left = whole (neg_ℤ (pos 170141183460469231694793815568465002498)); right = whole (neg_ℤ (pos 85070591730234615847396907784232501249)) }
+
+left_is : prefix 2 (welfare_terms big_buses all_sold) ≡ too_large.left
+unfolding ◌+ℚ◌ ◌*ℚ◌ neg_ℚ over whole gcd gcd_in
+left_is = same_fraction (prefix 2 (welfare_terms big_buses all_sold)) too_large.left refl refl
+
+right_is : term_value (term_at (welfare_terms big_buses all_sold) 2) ≡ too_large.right
+unfolding ◌+ℚ◌ ◌*ℚ◌ neg_ℚ over whole gcd gcd_in
+right_is = same_fraction (term_value (term_at (welfare_terms big_buses all_sold) 2)) too_large.right refl refl
+
+passes : SumPasses (2 ^ 127 - 1) too_large.left too_large.right
+unfolding SumPasses lcm gcd gcd_in whole
+passes = inr (inr (inl (Prim.omega arith)))
+
+pub big_buses-range : IsRangeOf big_buses (2 ^ 127 - 1) too_large
+big_buses-range =
+    range_of_welfare big_buses all_sold at_most_price big_buses-feasible big_buses-supports big_buses-chosen (2 ^ 127 - 1) too_large
+    (record { step = (2, record { inside = Prim.omega arith; before = inl (sym left_is); next = inl (sym right_is) }); passes = passes })

@@ -1,0 +1,194 @@
+-- A market is a system, with the balance as its one row.
+use Rattle.std.specs.Prelude.{◌≡◌, ◌≢◌, ℕ, ◌+◌, ◌<◌, ◌==◌, pos, Bool, true, false, not, List, [], ◌∷◌, ◌++◌, ◌⊎◌, length, filter, cond, if◌then◌else◌, refl}
+use Rattle.std.specs.List.{Contains}
+use Rattle.std.specs.List.Sorted.{IsStrictlyIncreasing}
+use mathlib.Core.Path.{ap₂}
+use Rattle.std.proofs.lemmas.List.{append-nil}
+use Rattle.std.proofs.Common.{arith, ap, sym, ◌∙◌, subst, inl, inr}
+use Rattle.std.proofs.lemmas.Bool.Decides.{eqb_tells}
+use Rattle.std.proofs.lemmas.Int.{ints}
+use Rattle.std.proofs.lemmas.List.FromFn.{length-range_with_len, get_or-range_with_len}
+use Rattle.std.proofs.lemmas.List.Elements.{filter-append}
+use Rattle.fraction_theory.specs.Fraction.{Fraction, whole, ◌*ℚ◌}
+use Rattle.fraction_theory.specs.Sums.{sum_by}
+use Rattle.fraction_theory.proofs.Ring.{by_ring, by_ring1, at, pnil, pone, pneg, ◌⊗◌}
+use Rattle.fraction_theory.proofs.FieldLaws.{ring_ℚ}
+use Rattle.fraction_theory.proofs.ListSums.{Contains-head, Contains-cases, same_or_not, filter-members}
+use Rattle.linear_system.specs.Systems.{IsSystem, MeetsRows, activity}
+use Rattle.linear_system.specs.Choices.{Choice, others, basics, IsChoice, OneExchange}
+use Rattle.linear_system.specs.Exchanges.{exchanged}
+use Rattle.linear_system.proofs.ChoiceLaws.{basics_are, is_basic}
+use Rattle.linear_system.proofs.ExchangeLaws.{exchanged_is, exchanged_once}
+use Rattle.market_model.specs.declared.participants.Side.{Side}
+use Rattle.market_model.specs.declared.participants.Side.TheVariants.{Sell, Buy}
+use Rattle.market_model.specs.declared.participants.Parts.{Parts}
+use Rattle.market_model.specs.Dispatch.{places, block_at, signed}
+use Rattle.market_model.specs.MarketSystem.{balance_name, block_sign, system_of}
+use Rattle.market_model.proofs.MorePlaces.{places_more}
+
+-- the places below a number are its members
+pub in_places : (n j : ℕ) → j < n → Contains (places n) j
+in_places n j h = let from_0 : 0 + j ≡ j = Prim.omega arith in (j, Prim.omega (arith, length-range_with_len 0 n), get_or-range_with_len 0 n j j h ∙ from_0)
+
+pub from_places : (n j : ℕ) → Contains (places n) j → j < n
+from_places n j c =
+    let below : c.0 < n = Prim.omega (arith, c.1, length-range_with_len 0 n) in
+    let is : 0 + c.0 ≡ j = sym (get_or-range_with_len 0 n c.0 j below) ∙ c.2 in
+    Prim.omega (arith, below, is)
+
+pub places_ascend : (n : ℕ) → IsStrictlyIncreasing (places n)
+places_ascend n k h =
+    let below : k + 1 < n = Prim.omega (arith, h, length-range_with_len 0 n) in
+    let first = get_or-range_with_len 0 n k 0 (Prim.omega arith) in
+    let second = get_or-range_with_len 0 n (k + 1) 0 below in
+    Prim.omega (arith, first, second)
+
+all_kept : {T : Type 0} (xs : List T) → filter (λ x. true) xs ≡ xs
+all_kept [] = refl
+all_kept (x ∷ xs) = ap (λ ys. x ∷ ys) (all_kept xs)
+
+-- a side's sign times a number
+pub signed-times : (side : Side) (x : Fraction) → signed side (whole (pos 1)) *ℚ x ≡ signed side x
+signed-times Sell x = by_ring ring_ℚ (x ∷ []) (pone ⊗ at 0) (at 0) refl
+signed-times Buy x = by_ring ring_ℚ (x ∷ []) (pneg pone ⊗ at 0) (pneg (at 0)) refl
+
+one_not_nil : whole (pos 1) ≢ whole (pos 0)
+unfolding whole
+one_not_nil e = let wrong : pos 1 ≡ pos 0 = ap (λ (f : Fraction). f.num) e in Prim.omega (arith, ints, wrong)
+
+module _ (m : Parts) where
+  pub variables_are : (system_of m []).variables ≡ places (length m.blocks + 1)
+  unfolding system_of
+  variables_are = sym (places_more (length m.blocks))
+
+  pub variable_in : (w : ℕ) → w < length m.blocks + 1 → Contains (system_of m []).variables w
+  variable_in w h = subst (λ (ws : List ℕ). Contains ws w) (sym variables_are) (in_places (length m.blocks + 1) w h)
+
+  pub variable_below : (w : ℕ) → Contains (system_of m []).variables w → w < length m.blocks + 1
+  variable_below w c = from_places (length m.blocks + 1) w (subst (λ (ws : List ℕ). Contains ws w) variables_are c)
+
+  the_row : (r : ℕ) → Contains (balance_name m ∷ []) r → r ≡ balance_name m
+  the_row r c = elim (Contains-cases (balance_name m) [] r c) [ inl e ↦ sym e | inr k ↦ absurd (Prim.omega (arith, k.1)) ]
+
+  pub block_or_balance : (w : ℕ) → w < length m.blocks + 1 → (w < length m.blocks) ⊎ (w ≡ length m.blocks)
+  block_or_balance w h = elim (same_or_not w (length m.blocks)) [ inl e ↦ inr e | inr n ↦ inl (Prim.omega (arith, h, n)) ]
+
+  pub is_system : IsSystem (system_of m [])
+  unfolding system_of
+  is_system = record {
+    ascending = subst IsStrictlyIncreasing (places_more (length m.blocks)) (places_ascend (length m.blocks + 1));
+    columns_ascend = places_ascend (length m.blocks);
+    rows_ascend = λ k h. absurd (Prim.omega (arith, h));
+    column = λ j c. variable_in j (let lt = from_places (length m.blocks) j c in Prim.omega (arith, lt));
+    row = λ r c. variable_in r (let e = the_row r c in Prim.omega (arith, e));
+    either = λ w c. elim (block_or_balance w (variable_below w c)) [
+      | inl h ↦ inl (in_places (length m.blocks) w h)
+      | inr e ↦ inr (subst (λ (t : ℕ). Contains (balance_name m ∷ []) t) (sym e) (Contains-head (balance_name m) []))
+    ];
+    apart = λ w c k. let lt = from_places (length m.blocks) w c in let e = the_row w k in Prim.omega (arith, lt, e);
+  }
+
+  -- what a point raises the balance by
+  abbrev pub raised : (ℕ → Fraction) → Fraction
+  raised v = sum_by (λ j. block_sign m j *ℚ v j) (places (length m.blocks))
+
+  pub meets_rows : (v : ℕ → Fraction) → v (balance_name m) ≡ raised v → MeetsRows (system_of m []) v
+  unfolding system_of activity
+  meets_rows v e = record { row = λ r c. ap v (the_row r c) ∙ e }
+
+  pub from_rows : (v : ℕ → Fraction) → MeetsRows (system_of m []) v → v (balance_name m) ≡ raised v
+  unfolding system_of activity
+  from_rows v h = h.row (balance_name m) (Contains-head (balance_name m) [])
+
+  pub balance_is : (w : ℕ) → w ≡ balance_name m → (w == balance_name m) ≡ true
+  balance_is w e = elim (eqb_tells w (balance_name m)) [ inl t ↦ t.0 | inr t ↦ absurd (t.1 e) ]
+
+  pub not_balance : (w : ℕ) → w < length m.blocks → (w == balance_name m) ≡ false
+  not_balance w h = elim (eqb_tells w (balance_name m)) [ inl t ↦ absurd (Prim.omega (arith, h, t.1)) | inr t ↦ t.0 ]
+
+  -- The choice in which the balance is basic, and each block stands at the bound that a flag says. Its table is the row.
+  abbrev pub balance_choice : (ℕ → Bool) → Choice
+  balance_choice high = record { basic = λ w. w == balance_name m; high = high; entry = λ b w. block_sign m w }
+
+  module _ (high : ℕ → Bool) where
+    pub balance_others : others (system_of m []) (balance_choice high) ≡ places (length m.blocks)
+    unfolding others system_of
+    balance_others =
+        filter-append (λ w. not (w == balance_name m)) (places (length m.blocks)) (balance_name m ∷ [])
+        ∙ ap₂ ◌++◌
+        (filter-members (λ w. not (w == balance_name m)) (λ w. true) (places (length m.blocks)) (λ w c. ap not (not_balance w (from_places (length m.blocks) w c)))
+        ∙ all_kept (places (length m.blocks)))
+        (ap (λ (b : Bool). cond (not b) (balance_name m ∷ []) []) (balance_is (balance_name m) refl))
+        ∙ append-nil (places (length m.blocks))
+
+    pub balance_is_basic : Contains (basics (system_of m []) (balance_choice high)) (balance_name m)
+    balance_is_basic = is_basic (system_of m []) (balance_choice high) (balance_name m) (variable_in (balance_name m) (Prim.omega arith)) (balance_is (balance_name m) refl)
+
+    pub block_is_other : (j : ℕ) → j < length m.blocks → Contains (others (system_of m []) (balance_choice high)) j
+    block_is_other j h = subst (λ (ws : List ℕ). Contains ws j) (sym balance_others) (in_places (length m.blocks) j h)
+
+    the_basic : (b : ℕ) → Contains (basics (system_of m []) (balance_choice high)) b → b ≡ balance_name m
+    the_basic b c =
+        let r = basics_are (system_of m []) (balance_choice high) b c in
+        elim (block_or_balance b (variable_below b r.0)) [
+          | inl h ↦ let wrong : false ≡ true = sym (not_balance b h) ∙ r.1 in absurd cc
+          | inr e ↦ e
+        ]
+
+    pub balance_choice_is : IsChoice (system_of m []) (balance_choice high)
+    balance_choice_is = record {
+      to_table = λ v h. record {
+        basic = λ b c. ap v (the_basic b c) ∙ from_rows v h ∙ ap (sum_by (λ w. block_sign m w *ℚ v w)) (sym balance_others);
+      };
+      to_rows = λ v h. meets_rows v (h.basic (balance_name m) balance_is_basic ∙ ap (sum_by (λ w. block_sign m w *ℚ v w)) balance_others);
+    }
+
+    -- the choice with the block p basic in place of the balance
+    module _ (p : ℕ) (inside : p < length m.blocks) where
+      abbrev pub block_choice : Choice
+      block_choice = exchanged (balance_choice high) (balance_name m) p
+
+      sign_not_nil : block_sign m p ≢ whole (pos 0)
+      sign_not_nil e = of_side (block_at m p).side e
+        where
+          of_side : (side : Side) → signed side (whole (pos 1)) ≢ whole (pos 0)
+          of_side Sell h = one_not_nil h
+          of_side Buy h = one_not_nil (by_ring1 ring_ℚ [] pone pnil (pneg pone) (pneg pone) pnil h refl)
+
+      pub block_choice_is : IsChoice (system_of m []) block_choice
+      block_choice_is = exchanged_is (system_of m []) is_system (balance_choice high) (balance_name m) p balance_choice_is balance_is_basic (block_is_other p inside) sign_not_nil
+
+      pub block_choice_near : OneExchange (system_of m []) (balance_choice high) block_choice (balance_name m) p
+      block_choice_near = exchanged_once (system_of m []) is_system (balance_choice high) (balance_name m) p balance_is_basic (block_is_other p inside)
+
+      block_choice_basic : (w : ℕ) → block_choice.basic w ≡ (if w == balance_name m then false else if w == p then true else w == balance_name m)
+      unfolding exchanged
+      block_choice_basic w = refl
+
+      pub block_choice_high : (w : ℕ) → block_choice.high w ≡ high w
+      unfolding exchanged
+      block_choice_high w = refl
+
+      pub balance_not_basic : block_choice.basic (balance_name m) ≡ false
+      balance_not_basic =
+          block_choice_basic (balance_name m)
+          ∙ ap (λ (b : Bool). if b then false else if balance_name m == p then true else balance_name m == balance_name m) (balance_is (balance_name m) refl)
+
+      pub block_is_basic : block_choice.basic p ≡ true
+      block_is_basic =
+          block_choice_basic p ∙ ap (λ (b : Bool). if b then false else if p == p then true else p == balance_name m) (not_balance p inside)
+          ∙ elim (eqb_tells p p) [ inl t ↦ ap (λ (b : Bool). if b then true else p == balance_name m) t.0 | inr t ↦ absurd (t.1 refl) ]
+
+      pub the_block_is_basic : (b : ℕ) → Contains (basics (system_of m []) block_choice) b → b ≡ p
+      the_block_is_basic b c =
+          let r = basics_are (system_of m []) block_choice b c in
+          elim (block_or_balance b (variable_below b r.0)) [
+            | inr e ↦ let wrong : true ≡ false = sym r.1 ∙ ap block_choice.basic e ∙ balance_not_basic in absurd cc
+            | inl h ↦ elim (eqb_tells b p) [
+              | inl t ↦ t.1
+              | inr t ↦
+                  let wrong : true ≡ false =
+                  sym r.1 ∙ block_choice_basic b ∙ ap (λ (x : Bool). if x then false else if b == p then true else b == balance_name m) (not_balance b h)
+                  ∙ ap (λ (x : Bool). if x then true else b == balance_name m) t.0 ∙ not_balance b h in absurd cc
+            ]
+          ]

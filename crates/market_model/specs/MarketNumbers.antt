@@ -1,0 +1,62 @@
+-- The numbers of a market at a choice of its system, each of a kind. Money is no kind: only its sums may stand in a pair.
+-- Source: own; the sums are those of the dispatch, of the prices and of the settlement.
+use Rattle.std.specs.Prelude.{◌≡◌, ℕ, ◌<◌, ◌==◌, pos, List, length, if◌then◌else◌, ◌⊎◌}
+use Rattle.std.specs.List.{Contains}
+use Rattle.fraction_theory.specs.Fraction.{Fraction, whole, neg_ℚ}
+use Rattle.fraction_theory.specs.Sums.{prefix}
+use Rattle.linear_system.specs.Choices.{Choice, basics}
+use Rattle.linear_system.specs.Numbers.{Kind, Factor, Quantity, Price, SystemNumber}
+use Rattle.market_model.specs.declared.participants.Parts.{Parts}
+use Rattle.market_model.specs.declared.answered.Duals.{Duals}
+use Rattle.market_model.specs.Dispatch.{Dispatch, zero, bus_at, unit_at, empty, injection_terms, balance_terms, output_terms}
+use Rattle.market_model.specs.Optimality.{Feasible, Supports, bus_price}
+use Rattle.market_model.specs.Infeasibility.{ShowsInfeasible, farkas_terms}
+use Rattle.market_model.specs.MarketSystem.{LimitRow, balance_name, system_of, choice_dispatch, choice_duals}
+use Rattle.market_model.specs.Growth.{BestFor}
+use Rattle.market_model.specs.NamedSums.{SameSize}
+
+-- the choice's dispatch is feasible, and its duals support it
+pub record IsBest (m : Parts) (rows : List LimitRow) (h : Choice) : Type 0 where
+  pub feasible : Feasible m (choice_dispatch m rows h)
+  pub supported : Supports m (choice_dispatch m rows h) (choice_duals m rows h)
+
+-- nothing accepted, or the choice's dispatch where that is best for the rows
+abbrev pub IsInjecting : Parts → List LimitRow → Choice → Dispatch → Type 0
+IsInjecting m rows h x = (x ≡ empty m) ⊎ ((x ≡ choice_dispatch m rows h) × BestFor m rows x)
+
+-- what shows that the basic variable b cannot come within its bounds, at a variable w: 1 at b itself, the opposite of its
+-- entry at an other variable, 0 at the other basic ones
+abbrev pub farkas_multiplier : Choice → ℕ → ℕ → Fraction
+farkas_multiplier h b w = if w == b then whole (pos 1) else if h.basic w then zero else neg_ℚ (h.entry b w)
+
+-- duals that show that nothing is feasible, by one basic variable of the choice
+pub record IsFarkasOf (m : Parts) (rows : List LimitRow) (h : Choice) (d : Duals Fraction) : Type 0 where
+  pub shows : ShowsInfeasible m d
+  pub basic : ℕ
+  pub is_basic : Contains (basics (system_of m rows) h) basic
+  pub energy : SameSize d.energy (farkas_multiplier h basic (balance_name m))
+
+-- x is a number of this kind. The number of terms k is free: a whole sum is the prefix of all its terms. Factors of
+-- branches, flows, offsets and the duals of limits join with the limit rows.
+pub data MarketNumber (m : Parts) (rows : List LimitRow) (h : Choice) : Kind → Fraction → Type 0 where
+  of_system : (kind : Kind) (x : Fraction) → SystemNumber (system_of m rows) h kind x → MarketNumber m rows h kind x
+  -- data in MW; the quantity of a block is a bound of the system
+  is_fixed : (u : ℕ) → u < length m.units → MarketNumber m rows h Quantity (whole (unit_at m u).fixed)
+  is_up : (u : ℕ) → u < length m.units → MarketNumber m rows h Quantity (whole (unit_at m u).up)
+  is_down : (u : ℕ) → u < length m.units → MarketNumber m rows h Quantity (whole (unit_at m u).down)
+  is_load : (i : ℕ) → i < length m.buses → MarketNumber m rows h Quantity (whole (bus_at m i).pd)
+  is_shunt : (i : ℕ) → i < length m.buses → MarketNumber m rows h Quantity (whole (bus_at m i).gs)
+  -- the first terms of an injection, and of the balance
+  is_injection : (x : Dispatch) (i k : ℕ) → IsInjecting m rows h x → i < length m.buses → MarketNumber m rows h Quantity (prefix k (injection_terms m x i))
+  is_balance : (x : Dispatch) (k : ℕ) → IsInjecting m rows h x → MarketNumber m rows h Quantity (prefix k (balance_terms m x))
+  -- the first terms of a unit's output, at a best choice
+  is_output : (u k : ℕ) → IsBest m rows h → u < length m.units → MarketNumber m rows h Quantity (prefix k (output_terms m (choice_dispatch m rows h) u))
+  -- the price of energy, and that at a bus, at a best choice
+  is_energy : MarketNumber m rows h Price (choice_duals m rows h).energy
+  is_bus_price : (i : ℕ) → IsBest m rows h → i < length m.buses → MarketNumber m rows h Price (bus_price m (choice_duals m rows h) i)
+  -- at duals that show that nothing is feasible: the price of energy, that at a bus, and the first terms of the bound
+  is_farkas_energy : (d : Duals Fraction) → IsFarkasOf m rows h d → MarketNumber m rows h Factor d.energy
+  is_farkas_price : (d : Duals Fraction) (i : ℕ) → IsFarkasOf m rows h d → i < length m.buses → MarketNumber m rows h Factor (bus_price m d i)
+  is_farkas_bound : (d : Duals Fraction) (k : ℕ) → IsFarkasOf m rows h d → MarketNumber m rows h Quantity (prefix k (farkas_terms m d))
+  -- the opposite of a number, of the same kind
+  of_opposite : (kind : Kind) (x : Fraction) → MarketNumber m rows h kind x → MarketNumber m rows h kind (neg_ℚ x)

@@ -1,0 +1,59 @@
+-- The operations that add up the terms of a sum in their order.
+use Rattle.std.specs.Prelude.{◌≡◌, ℕ, ◌<◌, pos, List, length, slice_index_or, ◌⊎◌}
+use Rattle.fraction_theory.specs.Fraction.{Fraction, whole, neg_ℚ}
+use Rattle.fraction_theory.specs.Sums.{Term, Plain, Product, term_value, prefix}
+use Rattle.exact_fraction.specs.declared.Op.{Op}
+use Rattle.exact_fraction.specs.declared.Op.TheVariants.{Plus, Minus, Times}
+use Rattle.exact_fraction.specs.declared.Passed.{Passed}
+use Rattle.exact_fraction.specs.Passes.{Passes}
+
+-- the same number, or its opposite
+abbrev pub SameSize : Fraction → Fraction → Type 0
+SameSize x y = (x ≡ y) ⊎ (x ≡ neg_ℚ y)
+
+-- the term at a place; one past the end stands for 0
+abbrev pub term_at : List Term → ℕ → Term
+term_at terms k = slice_index_or terms k (Plain (whole (pos 0)))
+
+-- the sum of the first k terms, and the next term
+pub record IsNextTerm (terms : List Term) (l r : Fraction) (k : ℕ) : Type 0 where
+  pub inside : k < length terms
+  pub before : SameSize l (prefix k terms)
+  pub next : SameSize r (term_value (term_at terms k))
+
+-- the factors of the term k, in either order
+pub record AreFactors (terms : List Term) (l r : Fraction) (k : ℕ) (a b : Fraction) : Type 0 where
+  pub inside : k < length terms
+  pub product : term_at terms k ≡ Product a b
+  pub sides : (SameSize l a × SameSize r b) ⊎ (SameSize l b × SameSize r a)
+
+-- the sides of an operation that adds up the terms
+abbrev pub IsSumStep : List Term → Op → Fraction → Fraction → Type 0
+IsSumStep terms Plus l r = (k : ℕ) × IsNextTerm terms l r k
+IsSumStep terms Minus l r = (k : ℕ) × IsNextTerm terms l r k
+IsSumStep terms Times l r = (k : ℕ) × (a : Fraction) × (b : Fraction) × AreFactors terms l r k a b
+
+-- an operation that passes the bound, where the terms are added up
+pub record IsRefusedIn (terms : List Term) (bound : ℕ) (p : Passed Fraction) : Type 0 where
+  pub step : IsSumStep terms p.op p.left p.right
+  pub passes : Passes bound p.op p.left p.right
+
+-- the operation adds or subtracts
+abbrev pub Adds : Op → Type 0
+Adds Plus = Unit {0}
+Adds Minus = Unit {0}
+Adds Times = ⊥
+
+-- a sum or a difference that passes the bound, where the terms are added up
+pub record IsAddedIn (terms : List Term) (bound : ℕ) (p : Passed Fraction) : Type 0 where
+  pub adds : Adds p.op
+  pub place : ℕ
+  pub next : IsNextTerm terms p.left p.right place
+  pub passes : Passes bound p.op p.left p.right
+
+-- this operation on these two numbers, which passes the bound
+pub record IsRefusal (op : Op) (left right : Fraction) (bound : ℕ) (p : Passed Fraction) : Type 0 where
+  pub same_op : p.op ≡ op
+  pub same_left : p.left ≡ left
+  pub same_right : p.right ≡ right
+  pub passes : Passes bound p.op p.left p.right

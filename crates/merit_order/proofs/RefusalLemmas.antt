@@ -1,0 +1,115 @@
+-- Operations that are refused where terms are added up.
+use Rattle.std.specs.Prelude.{◌≡◌, ℕ, ◌+◌, ◌<◌, pos, Bool, true, List, [], ◌∷◌, ◌++◌, map, filter, cond, length, refl}
+use Rattle.std.specs.List.{range_with_len}
+use Rattle.std.proofs.Common.{zero, suc, arith, ap, sym, ◌∙◌, subst, subst₂, inl, append_assoc, length-append, take}
+use Rattle.std.proofs.Math.Seq.{get_or-append_seam}
+use Rattle.std.proofs.lemmas.List.{map-append}
+use Rattle.std.proofs.lemmas.List.Elements.{filter-append}
+use Rattle.fraction_theory.specs.Fraction.{Fraction, whole}
+use Rattle.fraction_theory.specs.Sums.{Term, Plain, Product, term_value, total, prefix}
+use Rattle.exact_fraction.specs.declared.Op.{Op}
+use Rattle.exact_fraction.specs.declared.Op.TheVariants.{Plus, Minus, Times}
+use Rattle.exact_fraction.specs.declared.Passed.{Passed}
+use Rattle.exact_fraction.specs.Passes.{Passes, IsPassed}
+use Rattle.market_model.specs.Dispatch.{places}
+use Rattle.market_model.specs.NamedSums.{SameSize, term_at, IsNextTerm, IsSumStep, IsRefusedIn, Adds, IsAddedIn, IsRefusal}
+use Rattle.market_model.specs.Valued.{passed_at}
+
+-- what a refused operation of numbers is of their values
+pub refusal : {N : Type 0} (value : N → Fraction) (bound : ℕ) (op : Op) (l r : N) (x y : Fraction) (e : Passed N) → value l ≡ x → value r ≡ y
+    → IsPassed value bound op l r e → IsRefusal op x y bound (passed_at value e)
+refusal value bound op l r x y e left right h =
+    record {
+      same_op = h.same_op;
+      same_left = ap value h.same_left ∙ left;
+      same_right = ap value h.same_right ∙ right;
+      passes =
+          subst (λ (o : Op). Passes bound o (value e.left) (value e.right)) (sym h.same_op)
+          (subst₂ (λ (a b : Fraction). Passes bound op a b) (sym (ap value h.same_left)) (sym (ap value h.same_right)) h.passes);
+    }
+
+-- the same of sides that have the same values
+pub refusal_same : (op : Op) (x y x' y' : Fraction) (bound : ℕ) (p : Passed Fraction) → x ≡ x' → y ≡ y' → IsRefusal op x y bound p → IsRefusal op x' y' bound p
+refusal_same op x y x' y' bound p e f h = record { same_op = h.same_op; same_left = h.same_left ∙ e; same_right = h.same_right ∙ f; passes = h.passes }
+
+-- terms with one of them in the middle
+module _ (terms front rest : List Term) (t : Term) (split : terms ≡ front ++ t ∷ rest) where
+  inside : length front < length terms
+  inside = let long : length terms ≡ length front + length (t ∷ rest) = ap length split ∙ length-append front (t ∷ rest) in Prim.omega (arith, long)
+
+  before : prefix (length front) terms ≡ total front
+  before = ap (λ ts. prefix (length front) ts) split ∙ ap total (take_front front (t ∷ rest))
+    where
+      take_front : (xs ys : List Term) → take (length xs) (xs ++ ys) ≡ xs
+      take_front [] ys = refl
+      take_front (x ∷ xs) ys = ap (λ zs. x ∷ zs) (take_front xs ys)
+
+  here : term_at terms (length front) ≡ t
+  here = ap (λ ts. term_at ts (length front)) split ∙ get_or-append_seam front t rest (Plain (whole (pos 0)))
+
+  next_is : (l r : Fraction) → SameSize l (total front) → SameSize r (term_value t) → IsNextTerm terms l r (length front)
+  next_is l r left right = record {
+    inside = inside;
+    before = subst (SameSize l) (sym before) left;
+    next = subst (λ (u : Term). SameSize r (term_value u)) (sym here) right;
+  }
+
+  module _ (bound : ℕ) (p : Passed Fraction) (l r : Fraction) where
+    pub added_at : (op : Op) → Adds op → SameSize l (total front) → SameSize r (term_value t) → IsRefusal op l r bound p → IsAddedIn terms bound p
+    added_at op adds left right h = record {
+      adds = subst Adds (sym h.same_op) adds;
+      place = length front;
+      next = subst₂ (λ (a b : Fraction). IsNextTerm terms a b (length front)) (sym h.same_left) (sym h.same_right) (next_is l r left right);
+      passes = h.passes;
+    }
+
+    pub multiplied_at : (a b : Fraction) → t ≡ Product a b → SameSize l a → SameSize r b → IsRefusal Times l r bound p → IsRefusedIn terms bound p
+    multiplied_at a b product left right h = record {
+      step =
+          subst (λ (o : Op). IsSumStep terms o p.left p.right) (sym h.same_op)
+          (subst₂ (λ (x y : Fraction). IsSumStep terms Times x y) (sym h.same_left) (sym h.same_right)
+          (length front, a, b, record { inside = inside; product = here ∙ product; sides = inl (left, right) }));
+      passes = h.passes;
+    }
+
+-- what is added up is refused where terms are added up
+pub refused_by_added : (terms : List Term) (bound : ℕ) (p : Passed Fraction) → IsAddedIn terms bound p → IsRefusedIn terms bound p
+refused_by_added terms bound p a = record { step = by_op p.op a.adds; passes = a.passes }
+  where
+    by_op : (o : Op) → Adds o → IsSumStep terms o p.left p.right
+    by_op Plus h = (a.place, a.next)
+    by_op Minus h = (a.place, a.next)
+    by_op Times h = absurd h
+
+-- the places from one on
+range_at : (a n k : ℕ) → k < n → (rest : List ℕ) × (range_with_len a n ≡ range_with_len a k ++ (a + k) ∷ rest)
+range_at a zero k h = absurd (Prim.omega (arith, h))
+range_at a (suc n) zero h = let e : a + 0 ≡ a = Prim.omega arith in (range_with_len (a + 1) n, ap (λ (i : ℕ). i ∷ range_with_len (a + 1) n) (sym e))
+range_at a (suc n) (suc k) h =
+    let more = range_at (a + 1) n k (Prim.omega (arith, h)) in
+    let e : (a + 1) + k ≡ a + suc k = Prim.omega arith in
+    (more.0, ap (λ is. a ∷ is) (more.1 ∙ ap (λ (i : ℕ). range_with_len (a + 1) k ++ i ∷ more.0) e))
+
+pub places_at : (n k : ℕ) → k < n → (rest : List ℕ) × (places n ≡ places k ++ k ∷ rest)
+places_at n k h = let r = range_at 0 n k h in let e : 0 + k ≡ k = Prim.omega arith in (r.0, r.1 ∙ ap (λ (i : ℕ). places k ++ i ∷ r.0) e)
+
+-- terms by place
+pub terms_at : (f : ℕ → Term) (n k : ℕ) → k < n → (rest : List Term) × (map f (places n) ≡ map f (places k) ++ f k ∷ rest)
+terms_at f n k h = let r = places_at n k h in (map f r.0, ap (map f) r.1 ∙ map-append f (places k) (k ∷ r.0))
+
+-- terms of the places that pass a test
+pub tested_at : (p : ℕ → Bool) (f : ℕ → Term) (n k : ℕ) → k < n → p k ≡ true → (rest : List Term) × (map f (filter p (places n)) ≡ map f (filter p (places k)) ++ f k ∷ rest)
+tested_at p f n k h e =
+    let r = places_at n k h in (
+      map f (filter p r.0),
+      ap (λ is. map f (filter p is)) r.1
+          ∙ ap (map f) (filter-append p (places k) (k ∷ r.0) ∙ ap (λ (b : Bool). filter p (places k) ++ cond b (k ∷ filter p r.0) (filter p r.0)) e)
+          ∙ map-append f (filter p (places k)) (k ∷ filter p r.0),
+    )
+
+-- more terms in front and behind
+pub behind : (front' terms front rest : List Term) (t : Term) → terms ≡ front ++ t ∷ rest → front' ++ terms ≡ (front' ++ front) ++ t ∷ rest
+behind front' terms front rest t e = ap (λ ts. front' ++ ts) e ∙ sym (append_assoc front' front (t ∷ rest))
+
+pub in_front : (terms front rest rest' : List Term) (t : Term) → terms ≡ front ++ t ∷ rest → terms ++ rest' ≡ front ++ t ∷ (rest ++ rest')
+in_front terms front rest rest' t e = ap (λ ts. ts ++ rest') e ∙ append_assoc front (t ∷ rest) rest'
