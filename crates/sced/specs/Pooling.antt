@@ -1,5 +1,5 @@
 -- What the bytes of a case and of offers stand for, and the text that is right for them.
-use Rattle.std.specs.Prelude.{◌≡◌, ℕ, nat_lt, List, length, codes, Option, Some, None, Result, Ok, Err, if◌then◌else◌}
+use Rattle.std.specs.Prelude.{◌≡◌, ℕ, nat_lt, List, length, codes, Option, Some, None, Result, Ok, Err, if◌then◌else◌, ◌-◌, ◌^◌}
 use Rattle.fraction_theory.specs.Fraction.{Fraction}
 use Rattle.csv_table.specs.Table.{and_then}
 use Rattle.outside_store.specs.Files.{Files}
@@ -56,18 +56,19 @@ HasPlainPrice (outcome.Cleared a) = Unit {0}
 HasPlainPrice (outcome.Infeasible f) = IsPlainPrice f.duals.energy
 HasPlainPrice (outcome.Range p) = Unit {0}
 
--- the greatest size of a number that is computed
-abbrev pub most_size : ℕ
-most_size = wide_bound
-
 -- The status and the text are those of a right outcome of the market: the report of a right answer, of duals that show that no
--- dispatch is feasible, by a price of energy of 1 or -1, or of two numbers of the market that are too large together.
-abbrev pub ClearsTo : Parts → Status → List ℕ → Type 0
-ClearsTo m s text = (o : Outcome Fraction) × IsRightOutcome most_size m o × HasPlainPrice o × (s ≡ status_of o) × (text ≡ report_text m o)
+-- dispatch is feasible, by a price of energy of 1 or -1, or of two numbers
+-- of the market whose outcome passes the bound.
+abbrev pub ClearsTo : ℕ → Parts → Status → List ℕ → Type 0
+ClearsTo bound m s text = (o : Outcome Fraction) × IsRightOutcome bound m o × HasPlainPrice o × (s ≡ status_of o) × (text ≡ report_text m o)
+
+-- the greatest size of a numerator or denominator: that of 127 bits
+abbrev pub most_size : ℕ
+most_size = 2 ^ 127 - 1
 
 -- the status and the text are right for a market, which keeps what every market keeps, or for a file that is refused
 abbrev pub ComesTo : Result Parts Refusal → Status → List ℕ → Type 0
-ComesTo (Ok m) s text = IsMarket m × ClearsTo m s text
+ComesTo (Ok m) s text = IsMarket m × ClearsTo most_size m s text
 ComesTo (Err r) s text = (s ≡ status.Refused) × (text ≡ refusal_line r)
 
 -- the status and the text are right for the bytes of a case and of offers

@@ -138,7 +138,7 @@ fn line(alloc: Global, status: Status, words: &[u8]) -> Result<Outcome, Memory>
 /// What a market is cleared to.
 fn cleared<N: Exact>(alloc: Global, market: &Market) -> Result<Clearing<N>, Memory>
     ensures fits { IfOk result (λ outcome. FitsOutcome market.now outcome) }
-    ensures right { IfOk result (λ outcome. IsRightOutcome market.now (outcome_at N.value outcome)) }
+    ensures right { IfOk result (λ outcome. IsRightOutcome N.bound market.now (outcome_at N.value outcome)) }
     ensures price { IfOk result (λ outcome. HasPlainPrice (outcome_at N.value outcome)) }
 {
     match clear(alloc, market) {
@@ -164,7 +164,7 @@ fn clear_status<N: Exact>(outcome: &Clearing<N>) -> Status
 /// What clearing a market comes to.
 fn clear_outcome<N: Exact>(alloc: Global, market: &Market) -> Result<Outcome, Memory>
     ensures status { IfOk result (λ outcome. IsOfFiles outcome.status) }
-    ensures clears { IfOk result (λ outcome. ClearsTo market.now outcome.status outcome.text.items) }
+    ensures clears { IfOk result (λ outcome. ClearsTo N.bound market.now outcome.status outcome.text.items) }
 {
     let outcome = cleared::<N>(alloc, market)?;
     Ok(Outcome {

@@ -155,7 +155,8 @@ fn clears(rt: HostRuntime) -> Result<(), Fail> {
 /// between cells, a row that is continued on the next line, names and further fields.
 #[test]
 fn reads_a_saved_case(rt: HostRuntime) -> Result<(), Fail> {
-    let text = "function mpc = t3\r\n%% a case of three buses\r\nmpc.version = '2';\r\n\r\nmpc.baseMVA = 100; % MVA\r\n%% buses\r\nmpc.bus = [\r\n\t1\t3\t0\t0\t0\t0\t1\t1\t0\t230\t1\t1.1\t0.9;\r\n\t2, 1, 0, 0, 0, 0, 1, 1, 0, 230, 1, 1.1, 0.9\r\n 3 1 60 0 0 0 1 ... the rest is below\r\n 1 0 230 1 1.1 0.9;\r\n];\r\nmpc.gen = [1 0 0 0 0 1 100 1 100 0; 2 0 0 0 0 1 100 1 100 0];\r\nmpc.branch = [\r\n1 2 0 0.2 0 0 0 0 0 0 1 -360 360;\r\n1 3 0 0.1 0 0 0 0 0 0 1 -360 360;\r\n2 3 0 0.1 0 0 0 0 0 0 1 -360 360;\r\n];\r\nmpc.bus_name = { 'a % b'; 'two'; 'three' };\r\nmpc.gencost = [\r\n2 0 0 2 10 0;\r\n2 0 0 2 30 0\r\n];\r\n";
+    let text =
+        "function mpc = t3\r\n%% a case of three buses\r\nmpc.version = '2';\r\n\r\nmpc.baseMVA = 100; % MVA\r\n%% buses\r\nmpc.bus = [\r\n\t1\t3\t0\t0\t0\t0\t1\t1\t0\t230\t1\t1.1\t0.9;\r\n\t2, 1, 0, 0, 0, 0, 1, 1, 0, 230, 1, 1.1, 0.9\r\n 3 1 60 0 0 0 1 ... the rest is below\r\n 1 0 230 1 1.1 0.9;\r\n];\r\nmpc.gen = [1 0 0 0 0 1 100 1 100 0; 2 0 0 0 0 1 100 1 100 0];\r\nmpc.branch = [\r\n1 2 0 0.2 0 0 0 0 0 0 1 -360 360;\r\n1 3 0 0.1 0 0 0 0 0 0 1 -360 360;\r\n2 3 0 0.1 0 0 0 0 0 0 1 -360 360;\r\n];\r\nmpc.bus_name = { 'a % b'; 'two'; 'three' };\r\nmpc.gencost = [\r\n2 0 0 2 10 0;\r\n2 0 0 2 30 0\r\n];\r\n";
     let all = ([].as_slice(), [].as_slice());
     expect(
         &rt,

@@ -79,11 +79,12 @@ returns-in-None-clause-cause g c =
     let bought_most = c.bought.ensures.bound in
     let fixed_most = c.fixed_output.ensures.bound in
     let taken : ℤ = to_z w128 (of_z w128 (to_z w128 (of_z w128 c.demand.result) +ℤ to_z w128 (of_z w128 c.bought.result))) in
-    let left : ℤ = to_z w128 (of_z w128 (taken -ℤ to_z w128 (of_z w128 c.fixed_output.result))) in
-    (is_farkas m market left (omega (arith, ints, loads, bought, fixed))
-    (subst (λ (bs : List Block). All (λ b. ¬ (IsReached b.price left bs)) bs) blocks c.in-None.ensures.none) (λ nothing none. c.in-None.ensures.empty nothing (blocks ∙ none))
-    g.N.Exact.value c.in_ok-farkas-in-None.field-0 c.is_short.result c.is_short.ensures.short c.is_short.ensures.long c.in_ok-farkas-in-None.ensures.energy c.in_ok-farkas-in-None.ensures.limits c.in_ok-farkas-in-None.ensures.bound,
-    is_plain c.is_short.result _ c.in_ok-farkas-in-None.ensures.energy)
+    let left : ℤ = to_z w128 (of_z w128 (taken -ℤ to_z w128 (of_z w128 c.fixed_output.result))) in (
+      is_farkas m market left (omega (arith, ints, loads, bought, fixed))
+          (subst (λ (bs : List Block). All (λ b. ¬ (IsReached b.price left bs)) bs) blocks c.in-None.ensures.none) (λ nothing none. c.in-None.ensures.empty nothing (blocks ∙ none))
+          g.N.Exact.value c.in_ok-farkas-in-None.field-0 c.is_short.result c.is_short.ensures.short c.is_short.ensures.long c.in_ok-farkas-in-None.ensures.energy c.in_ok-farkas-in-None.ensures.limits c.in_ok-farkas-in-None.ensures.bound,
+      is_plain c.is_short.result _ c.in_ok-farkas-in-None.ensures.energy,
+    )
 
 pub returns-in_err-welfare-clause-cause : goal.returns-in_err-welfare-clause-cause
 returns-in_err-welfare-clause-cause g c =
