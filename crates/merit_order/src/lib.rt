@@ -7,3 +7,6 @@ mod infeasible;
 mod settling;
 
 pub use clearing::{ClearFault, clear};
+
+#[cfg(test)]
+mod tests;
