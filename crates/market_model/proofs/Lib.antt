@@ -1,5 +1,6 @@
 pub mod Amounts
 pub mod BlockChoices
+mod Completeness
 pub mod Data
 pub mod FarkasLaw
 pub mod MarketSums

@@ -38,3 +38,18 @@ abbrev pub IsRightOutcome : ℕ → Parts → Outcome Fraction → Type 0
 IsRightOutcome bound m (outcome.Cleared a) = IsRight m a
 IsRightOutcome bound m (outcome.Infeasible f) = IsFarkas m f
 IsRightOutcome bound m (outcome.Range p) = IsRangeOf m bound p
+
+abbrev pub IsCleared : Outcome Fraction → Type 0
+IsCleared (outcome.Cleared a) = Unit {0}
+IsCleared (outcome.Infeasible f) = ⊥
+IsCleared (outcome.Range p) = ⊥
+
+abbrev pub IsInfeasible : Outcome Fraction → Type 0
+IsInfeasible (outcome.Cleared a) = ⊥
+IsInfeasible (outcome.Infeasible f) = Unit {0}
+IsInfeasible (outcome.Range p) = ⊥
+
+-- cleared where a dispatch is feasible, and infeasible where none is
+pub record IsDecided (m : Parts) (o : Outcome Fraction) : Type 0 where
+  pub cleared : (x : Dispatch) → Feasible m x → IsCleared o
+  pub infeasible : ((x : Dispatch) → ¬ (Feasible m x)) → IsInfeasible o

@@ -45,3 +45,7 @@ pub record IsRangeOf (m : Parts) (bound : ℕ) (p : Passed Fraction) : Type 0 wh
   pub rows : List LimitRow
   pub reached : Reached m [] rows
   pub pair : IsWorkingPair m rows bound p.op p.left p.right
+
+-- no working pair of the market passes the bound
+abbrev pub NoPairPasses : Parts → ℕ → Type 0
+NoPairPasses m bound = (p : Passed Fraction) → ¬ (IsRangeOf m bound p)

@@ -1,5 +1,5 @@
 //! Laws of the definitions, each the contract of a function that does nothing.
-ghost use Rattle.market_model.specs.Laws.{LawOfTheOptimum, LawOfTheSurplus, LawOfInfeasibility};
+ghost use Rattle.market_model.specs.Laws.{LawOfTheOptimum, LawOfTheSurplus, LawOfInfeasibility, LawOfCompleteness};
 ghost use Rattle.market_model.specs.ReportLaws.{ReportsApart, RightReportsApart};
 
 /// A feasible dispatch that duals support has the greatest welfare of all feasible ones.
@@ -25,4 +25,10 @@ pub fn report_has_one_reading()
 /// Two right outcomes of a market with one report are one.
 pub fn right_report_has_one_reading()
     ensures { RightReportsApart }
+{}
+
+/// Where no working pair of a market passes the bound of a type of numbers, a right outcome with
+/// these is cleared where a dispatch is feasible, and infeasible where none is.
+pub fn no_pair_no_range()
+    ensures { LawOfCompleteness }
 {}

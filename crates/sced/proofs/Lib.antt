@@ -1,3 +1,4 @@
+pub mod DecidedLemmas
 pub mod PoolingLemmas
 pub mod RefusalLemmas
 pub mod SixWords

@@ -6,7 +6,10 @@ use Rattle.outside_store.specs.Files.{Files}
 use Rattle.market_model.specs.declared.participants.Parts.{Parts}
 use Rattle.market_model.specs.declared.answered.Outcome.{Outcome}
 use Rattle.market_model.specs.declared.answered.Outcome.TheVariants as outcome
+use Rattle.market_model.specs.Dispatch.{Dispatch}
 use Rattle.market_model.specs.Market.{IsMarket}
+use Rattle.market_model.specs.Optimality.{Feasible}
+use Rattle.market_model.specs.WorkingPairs.{NoPairPasses}
 use Rattle.market_model.specs.Outcomes.{IsRightOutcome}
 use Rattle.market_model.specs.Reports.{report_text}
 use Rattle.merit_order.specs.Clearing.{IsPlainPrice}
@@ -84,3 +87,14 @@ FilesPoolTo (Some files) case offers s text = (case_bytes offers_bytes : List �
 pub record AnswersTo (files : Option Files) (words : List (List ℕ)) (s : Status) (text : List ℕ) : Type 0 where
   pub pooled : (case offers : List ℕ) → AsksPool words case offers → FilesPoolTo files case offers s text
   pub refused : AsksNothing words → text ≡ codes "refused words\n"
+
+-- Where the files that the words name stand for a market of which no working pair passes the bound, the status says whether a
+-- dispatch of it is feasible.
+pub record IsDecidedIn (files : Files) (words : List (List ℕ)) (s : Status) : Type 0 where
+  pub decided : (case offers case_bytes offers_bytes : List ℕ) (m : Parts) → AsksPool words case offers → files case ≡ Some case_bytes → files offers ≡ Some offers_bytes
+      → pool_market case_bytes offers_bytes ≡ Ok m → NoPairPasses m most_size → ((x : Dispatch) → Feasible m x → s ≡ status.Done) × (((x : Dispatch) → ¬ (Feasible m x)) → s ≡ status.Infeasible)
+
+-- so it is where the store tells its files
+abbrev pub IsDecidedOf : Option Files → List (List ℕ) → Status → Type 0
+IsDecidedOf None words s = Unit {0}
+IsDecidedOf (Some files) words s = IsDecidedIn files words s

@@ -1,6 +1,6 @@
 //! From words and files to the text that is put.
 
-ghost use Rattle.std.specs.Prelude.{◌≡◌, ◌⊎◌, ℕ, List, map, string_bytes, Ok, Err, IfOk, IfErr, MatchResult};
+ghost use Rattle.std.specs.Prelude.{◌≡◌, ◌≢◌, ◌⊎◌, ℕ, List, map, string_bytes, Ok, Err, IfOk, IfErr, MatchResult};
 ghost use Rattle.outside_store.specs.Causes.{Rose, Still};
 ghost use Rattle.outside_store.specs.Files.{Reads, SameFiles};
 ghost use Rattle.outside_store.specs.Sinks.{Took, CountFault};
@@ -8,7 +8,7 @@ ghost use Rattle.market_model.specs.Fitting.{FitsOutcome};
 ghost use Rattle.market_model.specs.Market.{IsMarket};
 ghost use Rattle.market_model.specs.Outcomes.{IsRightOutcome};
 ghost use Rattle.market_model.specs.Valued.{outcome_at};
-ghost use Rattle.sced.specs.Pooling.{most_file, pool_market, status_of, HasPlainPrice, ClearsTo, PoolsTo, FilesPoolTo, AnswersTo};
+ghost use Rattle.sced.specs.Pooling.{most_file, pool_market, status_of, HasPlainPrice, ClearsTo, PoolsTo, FilesPoolTo, AnswersTo, IsDecidedOf};
 ghost use Rattle.sced.specs.Refusals.{refusal_line};
 ghost use Rattle.sced.specs.Runs.{AsksNothing, IsSilent, IsTold, IsOfFiles, NamedReadFailed};
 
@@ -297,6 +297,8 @@ pub fn run<S: Store, K: Sink>(alloc: Global, words: &[String], store: &mut S, ou
     // The text and a status are right for the whole bytes of the files that the words name, where the store tells its files. The
     // result is that status, unless the put failed.
     ensures told { ¬ IsSilent result → (text : List ℕ) × (status : Status) × Took (result ≡ Status.WriteFailed) text (K.taken out.old) (K.taken out.new) × ((result ≡ status) ⊎ (result ≡ Status.WriteFailed)) × AnswersTo (S.files store.old) (map string_bytes words.entry.now) status text }
+    // Where no two numbers of the market pass 127 bits together, the status tells whether a dispatch is feasible.
+    ensures decided { ¬ IsSilent result → result ≢ Status.WriteFailed → IsDecidedOf (S.files store.old) (map string_bytes words.entry.now) result }
 {
     match asked_outcome(alloc, words, store) {
         Ok(outcome) => put(out, &outcome),

@@ -1,4 +1,6 @@
-use Rattle.std.proofs.Common.{inl, inr, sym, ◌∙◌}
+use Rattle.std.proofs.Common.{inl, inr, sym, subst, ◌∙◌}
+use Rattle.sced.specs.Pooling.{IsDecidedOf}
+use Rattle.sced.proofs.DecidedLemmas.{answers-decided}
 use Rattle.sced.proofs.run.run.Goals as goal
 
 pub returns-in-Ok-clause-usage : goal.returns-in-Ok-clause-usage
@@ -9,3 +11,9 @@ returns-in-Ok-clause-usage g c = λ usage case offers asks. elim c.put.ensures.s
 
 pub returns-in-Ok-clause-told : goal.returns-in-Ok-clause-told
 returns-in-Ok-clause-told g c = λ _. (c.in-Ok.outcome.text.items, c.in-Ok.outcome.status, c.put.ensures.took, c.put.ensures.status, c.in-Ok.ensures.answers)
+
+pub returns-in-Ok-clause-decided : goal.returns-in-Ok-clause-decided
+returns-in-Ok-clause-decided g c = λ silent kept. elim c.put.ensures.status [
+  | inl same ↦ subst (λ s. IsDecidedOf _ _ s) (sym same) (answers-decided _ _ _ _ c.in-Ok.ensures.answers)
+  | inr failed ↦ absurd (kept failed)
+]

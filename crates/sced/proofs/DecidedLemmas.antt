@@ -1,0 +1,53 @@
+-- A text and a status that are right decide whether a dispatch is feasible, where no working pair passes the bound.
+use Rattle.std.specs.Prelude.{◌≡◌, ℕ, List, Option, Some, None, Result, Ok, Err}
+use Rattle.std.proofs.Common.{refl, sym, subst, ◌∙◌}
+use Rattle.fraction_theory.specs.Fraction.{Fraction}
+use Rattle.outside_store.specs.Files.{Files}
+use Rattle.market_model.specs.declared.participants.Parts.{Parts}
+use Rattle.market_model.specs.declared.answered.Outcome.{Outcome}
+use Rattle.market_model.specs.declared.answered.Outcome.TheVariants as outcome
+use Rattle.market_model.specs.Dispatch.{Dispatch}
+use Rattle.market_model.specs.Optimality.{Feasible}
+use Rattle.market_model.specs.Outcomes.{IsCleared, IsInfeasible, IsDecided}
+use Rattle.market_model.specs.WorkingPairs.{NoPairPasses}
+use Rattle.market_model.proofs.Completeness.{law_of_completeness}
+use Rattle.sced.specs.declared.refusals.Refusal.{Refusal}
+use Rattle.sced.specs.declared.status.Status.{Status}
+use Rattle.sced.specs.declared.status.Status.TheVariants as status
+use Rattle.sced.specs.Words.{AsksPool}
+use Rattle.sced.specs.Pooling.{most_size, pool_market, status_of, ComesTo, AnswersTo, IsDecidedIn, IsDecidedOf}
+
+cleared-done : (o : Outcome Fraction) → IsCleared o → status_of o ≡ status.Done
+cleared-done (outcome.Cleared a) h = refl
+cleared-done (outcome.Infeasible f) h = elim h [ ]
+cleared-done (outcome.Range p) h = elim h [ ]
+
+infeasible-told : (o : Outcome Fraction) → IsInfeasible o → status_of o ≡ status.Infeasible
+infeasible-told (outcome.Cleared a) h = elim h [ ]
+infeasible-told (outcome.Infeasible f) h = refl
+infeasible-told (outcome.Range p) h = elim h [ ]
+
+abbrev Decides : Parts → Status → Type 0
+Decides m s = ((x : Dispatch) → Feasible m x → s ≡ status.Done) × (((x : Dispatch) → ¬ (Feasible m x)) → s ≡ status.Infeasible)
+
+comes-decided : (m : Parts) (s : Status) (text : List ℕ) → ComesTo (Ok m) s text → NoPairPasses m most_size → Decides m s
+comes-decided m s text (market, o, right, plain, is, told) none =
+    let decided : IsDecided m o = law_of_completeness m most_size o market none right in
+    (λ x feasible. is ∙ cleared-done o (decided.cleared x feasible), λ empty. is ∙ infeasible-told o (decided.infeasible empty))
+
+same-bytes : (a b : List ℕ) → Some a ≡ Some b → a ≡ b
+same-bytes a b e = Prim.cc
+
+pub answers-decided : (files : Option Files) (words : List (List ℕ)) (s : Status) (text : List ℕ) → AnswersTo files words s text → IsDecidedOf files words s
+answers-decided None words s text right = tt
+answers-decided (Some files) words s text right = record {
+  decided = λ case offers case_bytes offers_bytes m asks case_is offers_is market_is none.
+      by_files case offers case_bytes offers_bytes m case_is offers_is market_is none (right.pooled case offers asks);
+}
+  where
+    by_files : (case offers case_bytes offers_bytes : List ℕ) (m : Parts) → files case ≡ Some case_bytes → files offers ≡ Some offers_bytes → pool_market case_bytes offers_bytes ≡ Ok m
+        → NoPairPasses m most_size → ((c o : List ℕ) × (files case ≡ Some c) × (files offers ≡ Some o) × ComesTo (pool_market c o) s text) → Decides m s
+    by_files case offers case_bytes offers_bytes m case_is offers_is market_is none (c, o, c_is, o_is, comes) =
+        let same_case : c ≡ case_bytes = same-bytes c case_bytes (sym c_is ∙ case_is) in
+        let same_offers : o ≡ offers_bytes = same-bytes o offers_bytes (sym o_is ∙ offers_is) in
+        comes-decided m s text (subst (λ r. ComesTo r s text) market_is (subst (λ b. ComesTo (pool_market case_bytes b) s text) same_offers (subst (λ b. ComesTo (pool_market b o) s text) same_case comes))) none
