@@ -1,18 +1,18 @@
 pub mod Amounts
 pub mod BlockChoices
-mod Completeness
+pub mod Completeness
 pub mod Data
 pub mod FarkasLaw
+mod FarkasRows
 pub mod MarketSums
+pub mod MorePlaces
 pub mod Optimum
 pub mod PairLaws
 pub mod PlaceSums
-mod FarkasRows
 mod RangeRows
-mod Rows
-pub mod WholeDispatch
 pub mod ReportReading
-pub mod MorePlaces
-pub mod WholeSumLaws
 pub mod RightReports
+mod Rows
 pub mod SystemLaws
+pub mod WholeDispatch
+pub mod WholeSumLaws

@@ -31,7 +31,7 @@ abbrev Decides : Parts → Status → Type 0
 Decides m s = ((x : Dispatch) → Feasible m x → s ≡ status.Done) × (((x : Dispatch) → ¬ (Feasible m x)) → s ≡ status.Infeasible)
 
 comes-decided : (m : Parts) (s : Status) (text : List ℕ) → ComesTo (Ok m) s text → NoPairPasses m most_size → Decides m s
-comes-decided m s text (market, o, right, plain, is, told) none =
+comes-decided m s text (market, (o, right, plain, is, told)) none =
     let decided : IsDecided m o = law_of_completeness m most_size o market none right in
     (λ x feasible. is ∙ cleared-done o (decided.cleared x feasible), λ empty. is ∙ infeasible-told o (decided.infeasible empty))
 

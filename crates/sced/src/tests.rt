@@ -135,13 +135,15 @@ fn clears(rt: HostRuntime) -> Result<(), Fail> {
         all,
         (Status::Infeasible, "infeasible\nbound -50\nenergy 1\n"),
     )?;
-    expect(
-        &rt,
-        plain.as_bytes(),
-        OFFERS,
-        ([1].as_slice(), [].as_slice()),
-        (Status::ReadFailed, ""),
-    )?;
+    for failing in [[0].as_slice(), [1].as_slice()] {
+        expect(
+            &rt,
+            plain.as_bytes(),
+            OFFERS,
+            (failing, [].as_slice()),
+            (Status::ReadFailed, ""),
+        )?;
+    }
     expect(
         &rt,
         plain.as_bytes(),
@@ -167,26 +169,34 @@ fn reads_a_saved_case(rt: HostRuntime) -> Result<(), Fail> {
     )
 }
 
+/// What is put where three buses take 1 MW each, and units could sell so much at such a price
+/// that all of it would be worth more than 127 bits hold.
+const DEAR: &str =
+    "cleared\nwelfare -27670116110564.327421\nenergy 9223372036854.775807\nbus 1 price 9223372036854.775807 congestion 0\nbus 2 price 9223372036854.775807 congestion 0\nbus 3 price 9223372036854.775807 congestion 0\nblock 1 sell 1 mw 3\nblock 2 sell 1 mw 0\nblock 3 sell 1 mw 0\nunit 1 mw 3 paid 27670116110564.327421\nunit 2 mw 0 paid 0\nunit 3 mw 0 paid 0\nload 1 mw 1 pays 9223372036854.775807\nload 2 mw 1 pays 9223372036854.775807\nload 3 mw 1 pays 9223372036854.775807\nsurplus 0\n";
+
 #[test]
 fn passes_127_bits(rt: HostRuntime) -> Result<(), Fail> {
-    let row = "3 9223372036.854775807 0 0 0 1 1 0 230 1 1.1 0.9;\n";
-    let buses = format!(in rt.alloc(); "1 {row}2 {row}3 {row}")?;
     let row = "0 0 0 0 1 100 1 9223372036.854775807 0;\n";
     let units = format!(in rt.alloc(); "1 {row}2 {row}3 {row}")?;
     let row = "sell,9223372036.854775807,9223372036854.775807\n";
     let offers = format!(in rt.alloc(); "unit,side,mw,price\n1,{row}2,{row}3,{row}")?;
-    let case = case(&rt, buses.as_str(), units.as_str())?;
     let all = ([].as_slice(), [].as_slice());
-    expect(
-        &rt,
-        case.as_bytes(),
-        offers.as_str(),
-        all,
+    for (demand, want) in [
         (
-            Status::Range,
-            "range plus -170141183460469231694793815568465002498/1 -85070591730234615847396907784232501249/1\n",
+            "9223372036.854775807",
+            (
+                Status::Range,
+                "range plus -170141183460469231694793815568465002498/1 -85070591730234615847396907784232501249/1\n",
+            ),
         ),
-    )
+        ("1", (Status::Done, DEAR)),
+    ] {
+        let row = format!(in rt.alloc(); "3 {demand} 0 0 0 1 1 0 230 1 1.1 0.9;\n")?;
+        let buses = format!(in rt.alloc(); "1 {row}2 {row}3 {row}")?;
+        let case = case(&rt, buses.as_str(), units.as_str())?;
+        expect(&rt, case.as_bytes(), offers.as_str(), all, want)?;
+    }
+    Ok(())
 }
 
 /// What is put where the one unit is held at 60 and has no blocks.

@@ -1,4 +1,5 @@
 use Rattle.std.proofs.Common.{inl, inr, sym, subst, ◌∙◌}
+use Rattle.std.specs.Prelude.{map, string_bytes}
 use Rattle.sced.specs.Pooling.{IsDecidedOf}
 use Rattle.sced.proofs.DecidedLemmas.{answers-decided}
 use Rattle.sced.proofs.run.run.Goals as goal
@@ -14,6 +15,6 @@ returns-in-Ok-clause-told g c = λ _. (c.in-Ok.outcome.text.items, c.in-Ok.outco
 
 pub returns-in-Ok-clause-decided : goal.returns-in-Ok-clause-decided
 returns-in-Ok-clause-decided g c = λ silent kept. elim c.put.ensures.status [
-  | inl same ↦ subst (λ s. IsDecidedOf _ _ s) (sym same) (answers-decided _ _ _ _ c.in-Ok.ensures.answers)
+  | inl same ↦ subst (λ s. IsDecidedOf (g.S.Store.files c.args.store.now) (map string_bytes c.args.words.now) s) (sym same) (answers-decided (g.S.Store.files c.args.store.now) (map string_bytes c.args.words.now) _ _ c.in-Ok.ensures.answers)
   | inr failed ↦ absurd (kept failed)
 ]
