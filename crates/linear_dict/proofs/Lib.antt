@@ -1,0 +1,4 @@
+pub mod NameLemmas
+pub mod NoteLemmas
+pub mod PivotLemmas
+pub mod TableLemmas

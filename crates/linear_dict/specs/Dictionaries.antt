@@ -1,0 +1,127 @@
+-- A dictionary as callers see it: the rows as put in, and beside them the table that gives the basic variables by the
+-- others. Source: Chvátal, Linear Programming.
+use Rattle.std.specs.Prelude.{◌≡◌, ℕ, ◌*◌, pos, Bool, false, List, length, map, filter, ◌⊎◌, slice_index, slice_index_or, slice_set, refl}
+use Rattle.std.specs.Coded.{Coded, code_by, coded×, coded_ℕ, coded_bool, coded_list}
+use Rattle.std.specs.List.{Contains, AllPairs}
+use Rattle.std.specs.List.Sorted.{IsStrictlyIncreasing}
+use Rattle.fraction_theory.specs.Code.{fraction_code}
+use Rattle.fraction_theory.specs.Fraction.{Fraction, whole}
+use Rattle.linear_system.specs.Choices.{Choice, IsChoice}
+use Rattle.linear_system.specs.Systems.{System}
+use Rattle.linear_dict.specs.Places.{place_in, is_among}
+use Rattle.linear_dict.specs.Tables.{cell, table_of, pivoted_cell}
+use Rattle.linear_dict.specs.declared.note.Note.{Note}
+
+-- the numbers of a variable's note
+pub record Noted : Type 0 where
+  pub price : Fraction
+  pub low : Fraction
+  pub high : Fraction
+  pub value : Fraction
+  pub reduced : Fraction
+  pub at_high : Bool
+
+abbrev pub noted : {N : Type 0} → (N → Fraction) → Note N → Noted
+noted value n = record { price = value n.price; low = value n.low; high = value n.high; value = value n.value; reduced = value n.reduced; at_high = n.at_high }
+
+-- the note of a variable that is new
+abbrev pub blank : Noted
+blank = record { price = whole (pos 0); low = whole (pos 0); high = whole (pos 0); value = whole (pos 0); reduced = whole (pos 0); at_high = false }
+
+pub record Dictionary : Type 0 where
+  -- the names of the columns and of the rows as put in, and the rows' coefficients, row by row
+  pub columns : List ℕ
+  pub rows : List ℕ
+  pub coefficients : List Fraction
+  -- the names of the other variables by column place and of the basic ones by row place, and the table, row by row
+  pub others : List ℕ
+  pub basics : List ℕ
+  pub table : List Fraction
+  -- all names ascending, with a note for each
+  pub names : List ℕ
+  pub notes : List Noted
+  -- whether a pivot was refused
+  pub spent : Bool
+
+abbrev pub noted_code : Coded Noted
+noted_code = code_by (Fraction × (Fraction × (Fraction × (Fraction × (Fraction × Bool)))))
+    (coded× fraction_code (coded× fraction_code (coded× fraction_code (coded× fraction_code (coded× fraction_code coded_bool)))))
+    (λ n. (n.price, (n.low, (n.high, (n.value, (n.reduced, n.at_high))))))
+    (λ p. record { price = p.0; low = p.1.0; high = p.1.1.0; value = p.1.1.1.0; reduced = p.1.1.1.1.0; at_high = p.1.1.1.1.1 })
+    (λ _. refl)
+
+abbrev pub dictionary_code : Coded Dictionary
+dictionary_code = code_by (List ℕ × (List ℕ × (List Fraction × (List ℕ × (List ℕ × (List Fraction × (List ℕ × (List Noted × Bool))))))))
+    (coded× (coded_list coded_ℕ) (coded× (coded_list coded_ℕ) (coded× (coded_list fraction_code) (coded× (coded_list coded_ℕ) (coded× (coded_list coded_ℕ)
+    (coded× (coded_list fraction_code) (coded× (coded_list coded_ℕ) (coded× (coded_list noted_code) coded_bool))))))))
+    (λ d. (d.columns, (d.rows, (d.coefficients, (d.others, (d.basics, (d.table, (d.names, (d.notes, d.spent)))))))))
+    (λ p. record {
+      columns = p.0; rows = p.1.0; coefficients = p.1.1.0; others = p.1.1.1.0; basics = p.1.1.1.1.0;
+      table = p.1.1.1.1.1.0; names = p.1.1.1.1.1.1.0; notes = p.1.1.1.1.1.1.1.0; spent = p.1.1.1.1.1.1.1.1;
+    })
+    (λ _. refl)
+
+-- the dictionary of these lists of numbers of some type
+abbrev pub seen : {N : Type 0} → (N → Fraction) → List ℕ → List ℕ → List N → List ℕ → List ℕ → List N → List ℕ → List (Note N) → Bool → Dictionary
+seen value columns rows coefficients others basics table names notes spent = record {
+  columns = columns; rows = rows; coefficients = map value coefficients; others = others; basics = basics; table = map value table;
+  names = names; notes = map (noted value) notes; spent = spent;
+}
+
+-- the note of the variable w
+unfoldable pub note_of : Dictionary → ℕ → Noted
+note_of d w = slice_index_or d.notes (place_in d.names w) blank
+
+-- the entry of the basic variable b and the other variable w
+unfoldable pub entry_of : Dictionary → ℕ → ℕ → Fraction
+entry_of d b w = cell (length d.others) d.table (place_in d.basics b) (place_in d.others w)
+
+-- the system of the rows as put in, with the prices and bounds of the notes
+unfoldable pub system_of : Dictionary → System
+system_of d = record {
+  variables = d.names;
+  columns = filter (is_among d.columns) d.names;
+  rows = filter (is_among d.rows) d.names;
+  coefficient = λ r j. cell (length d.columns) d.coefficients (place_in d.rows r) (place_in d.columns j);
+  price = λ w. (note_of d w).price;
+  low = λ w. (note_of d w).low;
+  high = λ w. (note_of d w).high;
+}
+
+-- the choice of the table, each other variable at the bound that its note says
+unfoldable pub choice_of : Dictionary → Choice
+choice_of d = record { basic = is_among d.basics; high = λ w. (note_of d w).at_high; entry = entry_of d }
+
+-- Each name is one of the first or one of the second, and of one only; none stands twice in either.
+pub record IsSplit (names first second : List ℕ) : Type 0 where
+  pub first_distinct : AllPairs (λ x y. ¬ (x ≡ y)) first
+  pub second_distinct : AllPairs (λ x y. ¬ (x ≡ y)) second
+  pub apart : (w : ℕ) → Contains first w → ¬ (Contains second w)
+  pub first_named : (w : ℕ) → Contains first w → Contains names w
+  pub second_named : (w : ℕ) → Contains second w → Contains names w
+  pub either : (w : ℕ) → Contains names w → Contains first w ⊎ Contains second w
+
+-- Basic and other variables are together the rows and columns, each name once. And unless it is spent, the table has
+-- the same solutions as the rows as put in: it is the table of a choice. No bound, price or value stands in this.
+pub record IsDictionary (d : Dictionary) : Type 0 where
+  pub row_count : length d.rows ≡ length d.basics
+  pub column_count : length d.columns ≡ length d.others
+  pub coefficient_count : length d.coefficients ≡ length d.rows * length d.columns
+  pub table_count : length d.table ≡ length d.basics * length d.others
+  pub note_count : length d.notes ≡ length d.names
+  pub ascending : IsStrictlyIncreasing d.names
+  pub put_in : IsSplit d.names d.rows d.columns
+  pub split : IsSplit d.names d.basics d.others
+  pub solutions : d.spent ≡ false → IsChoice (system_of d) (choice_of d)
+
+-- the dictionary after row place r and column place c have exchanged their names
+unfoldable pub pivoted : Dictionary → ℕ → ℕ → Dictionary
+pivoted d r c = record d {
+  others = slice_set d.others c (slice_index d.basics r);
+  basics = slice_set d.basics r (slice_index d.others c);
+  table = table_of (length d.basics) (length d.others) (pivoted_cell (cell (length d.others) d.table) r c);
+}
+
+-- the dictionary with this note of the variable w
+unfoldable pub with_note : Dictionary → ℕ → Noted → Dictionary
+with_note d w n = record d { notes = slice_set d.notes (place_in d.names w) n }

@@ -1,0 +1,3 @@
+pub mod Dictionaries
+pub mod Places
+pub mod Tables

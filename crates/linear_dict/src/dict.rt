@@ -1,0 +1,164 @@
+ghost use Rattle.std.specs.Prelude.{◌≡◌, ◌<◌, ◌∷◌, [], ℕ, List, length, map, false, slice_index};
+ghost use Rattle.std.specs.List.{Contains};
+ghost use Rattle.linear_system.specs.Choices.{IsChoice};
+ghost use Rattle.linear_dict.specs.Dictionaries.{IsDictionary, choice_of, noted, note_of, system_of, with_note};
+ghost use Rattle.linear_dict.specs.Places.{StandsAt};
+ghost use Rattle.linear_dict.specs.Tables.{cell};
+
+use crate::index::rank;
+use crate::note::Note;
+use crate::place::Place;
+use exact_fraction::Exact;
+use std::marker::Model;
+
+/// A dictionary over variables named by distinct numbers.
+#[derive(Drop)]
+pub struct Dict<N: Exact> {
+    columns: Vec<u32>,
+    rows: Vec<u32>,
+    coefficients: Vec<N>,
+    others: Vec<u32>,
+    basics: Vec<u32>,
+    table: Vec<N>,
+    names: Vec<u32>,
+    places: Vec<Place>,
+    notes: Vec<Note<N>>,
+    spent: bool,
+}
+
+impl<N: Exact> Model for Dict<N> {
+    ghost use Rattle.linear_dict.specs.Dictionaries.{Dictionary, IsDictionary, dictionary_code, seen};
+    ghost use Rattle.linear_dict.specs.Places.{IsIndex};
+
+    ghost Value = { Dictionary };
+
+    ghost coded = { dictionary_code };
+
+    ghost view = {
+        λ d. seen N.value d.columns.items d.rows.items d.coefficients.items d.others.items d.basics.items d.table.items
+            d.names.items d.notes.items d.spent
+    };
+
+    ghost invariant = {
+        λ d. IsIndex d.names.items d.places.items d.basics.items d.others.items
+            × IsDictionary (seen N.value d.columns.items d.rows.items d.coefficients.items d.others.items d.basics.items
+                d.table.items d.names.items d.notes.items d.spent)
+    };
+}
+
+impl<N: Exact> Dict<N> {
+    /// Whether a pivot was refused, after which nothing else can be asked.
+    pub fn spent(&self) -> bool
+        ensures answer { result ≡ self.now.spent }
+        ensures sound { IsDictionary self.now }
+    {
+        self.spent
+    }
+
+    pub fn row_count(&self) -> usize
+        requires { self.now.spent ≡ false }
+        ensures { result ≡ length self.now.basics }
+    {
+        self.basics.len()
+    }
+
+    pub fn column_count(&self) -> usize
+        requires { self.now.spent ≡ false }
+        ensures { result ≡ length self.now.others }
+    {
+        self.others.len()
+    }
+
+    /// How many variables there are.
+    pub fn name_count(&self) -> usize
+        requires { self.now.spent ≡ false }
+        ensures { result ≡ length self.now.names }
+    {
+        self.names.len()
+    }
+
+    /// The basic variable of a row place.
+    pub fn basics(&self, r: usize) -> u32
+        requires live { self.now.spent ≡ false }
+        requires within { r < length self.now.basics }
+        ensures { result ≡ slice_index self.now.basics r }
+    {
+        self.basics[r]
+    }
+
+    /// The other variable of a column place.
+    pub fn others(&self, c: usize) -> u32
+        requires live { self.now.spent ≡ false }
+        requires within { c < length self.now.others }
+        ensures { result ≡ slice_index self.now.others c }
+    {
+        self.others[c]
+    }
+
+    /// The name of a column, in the order in which they were put in.
+    pub fn column_name(&self, place: usize) -> u32
+        requires live { self.now.spent ≡ false }
+        requires within { place < length self.now.columns }
+        ensures { result ≡ slice_index self.now.columns place }
+    {
+        self.columns[place]
+    }
+
+    /// The name of a row, in the order in which they were put in.
+    pub fn row_name(&self, place: usize) -> u32
+        requires live { self.now.spent ≡ false }
+        requires within { place < length self.now.rows }
+        ensures { result ≡ slice_index self.now.rows place }
+    {
+        self.rows[place]
+    }
+
+    /// The name of a rank: the first is the least of all names.
+    pub fn ranked(&self, rank: usize) -> u32
+        requires live { self.now.spent ≡ false }
+        requires within { rank < length self.now.names }
+        ensures { result ≡ slice_index self.now.names rank }
+    {
+        self.names[rank]
+    }
+
+    /// Where a variable stands in the table.
+    pub fn place(&self, name: u32) -> Place
+        requires live { self.now.spent ≡ false }
+        requires named { Contains self.now.names name }
+        ensures { StandsAt self.now.basics self.now.others name result }
+    {
+        self.places[rank(&self.names, name)]
+    }
+
+    /// By how much the basic variable of a row place rises where the other one of a column place rises by 1.
+    pub fn entry(&self, r: usize, c: usize) -> N
+        requires live { self.now.spent ≡ false }
+        requires row { r < length self.now.basics }
+        requires column { c < length self.now.others }
+        ensures value { N.value result ≡ cell (length self.now.others) self.now.table r c }
+        ensures entry { N.value result ≡ (choice_of self.now).entry (slice_index self.now.basics r) (slice_index self.now.others c) }
+        ensures choice { IsChoice (system_of self.now) (choice_of self.now) }
+    {
+        self.table[r * self.others.len() + c]
+    }
+
+    /// What the layer above last noted of a variable.
+    pub fn note(&self, name: u32) -> Note<N>
+        requires live { self.now.spent ≡ false }
+        requires named { Contains self.now.names name }
+        ensures { noted N.value result ≡ note_of self.now name }
+    {
+        self.notes[rank(&self.names, name)]
+    }
+
+    /// Notes this of a variable, and changes nothing else.
+    pub fn set_note(&mut self, name: u32, note: Note<N>)
+        requires live { self.old.spent ≡ false }
+        requires named { Contains self.old.names name }
+        ensures { self.new ≡ with_note self.old name (noted N.value note) }
+    {
+        let place = rank(&self.names, name);
+        self.notes[place] = note;
+    }
+}
