@@ -2,7 +2,6 @@
 use Rattle.std.specs.Prelude.{◌≡◌, ℕ, ◌<◌, Bool, List, length, map, slice_index_or, slice_set, refl}
 use Rattle.std.proofs.Common.{arith, ap, sym, ◌∙◌, get_or}
 use Rattle.std.proofs.lemmas.List.{get_or-map, length-set, map-set}
-
 use Rattle.fraction_theory.specs.Fraction.{Fraction}
 use Rattle.linear_system.specs.Systems.{System, MeetsRows, activity}
 use Rattle.linear_system.specs.Choices.{Choice, MeetsTable, IsChoice, basics, others}

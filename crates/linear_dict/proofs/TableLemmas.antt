@@ -1,7 +1,7 @@
 -- Reading and writing a flat list as a table.
-use Rattle.std.specs.Prelude.{◌≡◌, ◌≢◌, ℕ, ◌+◌, ◌*◌, ◌/◌, ◌%◌, ◌<◌, ◌≤◌, ◌==◌, pos, List, [], ◌∷◌, length, map, slice_index_or, slice_set, ◌⊎◌, refl}
+use Rattle.std.specs.Prelude.{◌≡◌, ℕ, ◌+◌, ◌*◌, ◌/◌, ◌%◌, ◌<◌, ◌≤◌, pos, List, [], ◌∷◌, length, map, slice_set, ◌⊎◌, refl}
 use Rattle.std.specs.List.{range_with_len}
-use Rattle.std.proofs.Common.{zero, suc, arith, ap, sym, ◌∙◌, subst, inl, inr, get_or}
+use Rattle.std.proofs.Common.{zero, suc, arith, ap, sym, ◌∙◌, inl, inr, get_or}
 use Rattle.std.proofs.lemmas.List.{get_or-map, length-map, length-set, get_or-set_same, get_or-set_other, same_lists}
 use Rattle.std.proofs.lemmas.List.FromFn.{get_or-map-range_with_len, length-map-range_with_len}
 use Rattle.std.proofs.lemmas.Nat.{div-mul-add, mod-mul-add}
@@ -60,25 +60,27 @@ shows_is rows columns xs f s =
     let g : ℕ → Fraction = λ k. f (k / columns) (k % columns) in
     same_lists xs (map g (range_with_len 0 (rows * columns))) (s.count ∙ sym (length-map-range_with_len g 0 (rows * columns)))
     (λ k d h.
-      let below : k < rows * columns = Prim.omega (arith, h, s.count) in
-      let some : 0 < columns = above rows columns k below in
-      let split : columns * (k / columns) + k % columns ≡ k = div-add-mod k columns in
-      let flat : k / columns * columns + k % columns ≡ k = Prim.omega (arith, split) in
-      let low : k % columns < columns = mod-lt k some in
-      let row : k / columns < rows = row_below rows columns k (k / columns) (k % columns) flat below in
-      get_or_any xs k d (whole (pos 0)) h
-      ∙ ap (λ (t : ℕ). get_or xs t (whole (pos 0))) (sym flat)
-      ∙ s.at (k / columns) (k % columns) row low
-      ∙ sym (get_or-map-range_with_len g 0 (rows * columns) k k d below (Prim.omega arith)))
+    let below : k < rows * columns = Prim.omega (arith, h, s.count) in
+    let some : 0 < columns = above rows columns k below in
+    let split : columns * (k / columns) + k % columns ≡ k = div-add-mod k columns in
+    let flat : k / columns * columns + k % columns ≡ k = Prim.omega (arith, split) in
+    let low : k % columns < columns = mod-lt k some in
+    let row : k / columns < rows = row_below rows columns k (k / columns) (k % columns) flat below in
+    get_or_any xs k d (whole (pos 0)) h
+    ∙ ap (λ (t : ℕ). get_or xs t (whole (pos 0))) (sym flat)
+    ∙ s.at (k / columns) (k % columns) row low
+    ∙ sym (get_or-map-range_with_len g 0 (rows * columns) k k d below (Prim.omega arith)))
   where
     above : (rows columns k : ℕ) → k < rows * columns → 0 < columns
     above rows zero k h = absurd (Prim.omega arith)
     above rows (suc n) k h = Prim.omega arith
+
     row_below : (rows columns k q m : ℕ) → q * columns + m ≡ k → k < rows * columns → q < rows
     row_below rows columns k q m e h = elim (lt_or_le q rows) [
       | inl l ↦ l
       | inr l ↦ let a : rows * columns ≤ q * columns = mul-le-mul_right columns l in absurd (Prim.omega (arith, a, e, h))
     ]
+
     get_or_any : (ys : List Fraction) (k : ℕ) (d e : Fraction) → k < length ys → get_or ys k d ≡ get_or ys k e
     get_or_any [] k d e h = absurd (Prim.omega arith)
     get_or_any (y ∷ ys) zero d e h = refl
@@ -100,3 +102,7 @@ pub cell_read : {N : Type 0} (value : N → Fraction) (xs : List N) (rows column
 unfolding cell
 cell_read value xs rows columns i j x e hi hj is =
     ap value is ∙ sym (get_or-map value xs (i * columns + j) x (whole (pos 0)) (Prim.omega (arith, within rows columns i j hi hj, e, length-map xs value)))
+
+pub cell_read_within : {N : Type 0} (value : N → Fraction) (xs : List N) (columns i j : ℕ) (x : N) → i * columns + j < length xs → x ≡ get_or xs (i * columns + j) x → value x ≡ cell columns (map value xs) i j
+unfolding cell
+cell_read_within value xs columns i j x h is = ap value is ∙ sym (get_or-map value xs (i * columns + j) x (whole (pos 0)) h)

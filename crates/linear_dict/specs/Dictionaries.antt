@@ -56,16 +56,30 @@ dictionary_code = code_by (List ℕ × (List ℕ × (List Fraction × (List ℕ 
     (coded× (coded_list fraction_code) (coded× (coded_list coded_ℕ) (coded× (coded_list noted_code) coded_bool))))))))
     (λ d. (d.columns, (d.rows, (d.coefficients, (d.others, (d.basics, (d.table, (d.names, (d.notes, d.spent)))))))))
     (λ p. record {
-      columns = p.0; rows = p.1.0; coefficients = p.1.1.0; others = p.1.1.1.0; basics = p.1.1.1.1.0;
-      table = p.1.1.1.1.1.0; names = p.1.1.1.1.1.1.0; notes = p.1.1.1.1.1.1.1.0; spent = p.1.1.1.1.1.1.1.1;
+      columns = p.0;
+      rows = p.1.0;
+      coefficients = p.1.1.0;
+      others = p.1.1.1.0;
+      basics = p.1.1.1.1.0;
+      table = p.1.1.1.1.1.0;
+      names = p.1.1.1.1.1.1.0;
+      notes = p.1.1.1.1.1.1.1.0;
+      spent = p.1.1.1.1.1.1.1.1;
     })
     (λ _. refl)
 
 -- the dictionary of these lists of numbers of some type
 abbrev pub seen : {N : Type 0} → (N → Fraction) → List ℕ → List ℕ → List N → List ℕ → List ℕ → List N → List ℕ → List (Note N) → Bool → Dictionary
 seen value columns rows coefficients others basics table names notes spent = record {
-  columns = columns; rows = rows; coefficients = map value coefficients; others = others; basics = basics; table = map value table;
-  names = names; notes = map (noted value) notes; spent = spent;
+  columns = columns;
+  rows = rows;
+  coefficients = map value coefficients;
+  others = others;
+  basics = basics;
+  table = map value table;
+  names = names;
+  notes = map (noted value) notes;
+  spent = spent;
 }
 
 -- the note of the variable w

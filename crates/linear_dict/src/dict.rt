@@ -34,16 +34,12 @@ impl<N: Exact> Model for Dict<N> {
 
     ghost coded = { dictionary_code };
 
-    ghost view = {
-        λ d. seen N.value d.columns.items d.rows.items d.coefficients.items d.others.items d.basics.items d.table.items
-            d.names.items d.notes.items d.spent
-    };
+    ghost view = { λ d. seen N.value d.columns.items d.rows.items d.coefficients.items d.others.items d.basics.items d.table.items
+        d.names.items d.notes.items d.spent };
 
-    ghost invariant = {
-        λ d. IsIndex d.names.items d.places.items d.basics.items d.others.items
-            × IsDictionary (seen N.value d.columns.items d.rows.items d.coefficients.items d.others.items d.basics.items
-                d.table.items d.names.items d.notes.items d.spent)
-    };
+    ghost invariant = { λ d. IsIndex d.names.items d.places.items d.basics.items d.others.items
+        × IsDictionary (seen N.value d.columns.items d.rows.items d.coefficients.items d.others.items d.basics.items
+        d.table.items d.names.items d.notes.items d.spent) };
 }
 
 impl<N: Exact> Dict<N> {

@@ -7,15 +7,18 @@ use exact_fraction::{Exact, Passed};
 
 /// Solves a row for the variable of a column: its other entries are divided by the one there and negated, and that one
 /// becomes its inverse.
-fn solve_row<N: Exact>(table: &mut Vec<N>, columns: usize, row: usize, column: usize) -> Result<(), Passed<N>>
+fn solve_row<N: Exact>(
+    table: &mut Vec<N>,
+    columns: usize,
+    row: usize,
+    column: usize,
+) -> Result<(), Passed<N>>
     requires room { row * columns + columns ≤ length table.old.items }
     requires within { column < columns }
     requires entry { cell columns (map N.value table.old.items) row column ≢ whole (pos 0) }
     ensures count { length table.new.items ≡ length table.old.items }
-    ensures solved {
-        IfOk result (λ _. (rows : ℕ) → length table.old.items ≡ rows * columns
-            → Shows rows columns (map N.value table.new.items) (solved_cell (cell columns (map N.value table.old.items)) row column))
-    }
+    ensures solved { IfOk result (λ _. (rows : ℕ) → length table.old.items ≡ rows * columns
+        → Shows rows columns (map N.value table.new.items) (solved_cell (cell columns (map N.value table.old.items)) row column)) }
 {
     let start = row * columns;
     let inverse = table[start + column].recip();
@@ -43,10 +46,8 @@ fn clear_row<N: Exact>(
     requires other { row ≢ solved }
     requires within { column < columns }
     ensures count { length table.new.items ≡ length table.old.items }
-    ensures cleared {
-        IfOk result (λ _. (rows : ℕ) → length table.old.items ≡ rows * columns
-            → Shows rows columns (map N.value table.new.items) (cleared_cell (cell columns (map N.value table.old.items)) row solved column))
-    }
+    ensures cleared { IfOk result (λ _. (rows : ℕ) → length table.old.items ≡ rows * columns
+        → Shows rows columns (map N.value table.new.items) (cleared_cell (cell columns (map N.value table.old.items)) row solved column)) }
 {
     let start = row * columns;
     let solved_start = solved * columns;
@@ -76,10 +77,8 @@ pub(crate) fn pivot_table<N: Exact>(
     requires within { column < columns }
     requires entry { cell columns (map N.value table.old.items) row column ≢ whole (pos 0) }
     ensures count { length table.new.items ≡ length table.old.items }
-    ensures pivoted {
-        IfOk result (λ _. map N.value table.new.items
-            ≡ table_of rows columns (pivoted_cell (cell columns (map N.value table.old.items)) row column))
-    }
+    ensures pivoted { IfOk result (λ _. map N.value table.new.items
+        ≡ table_of rows columns (pivoted_cell (cell columns (map N.value table.old.items)) row column)) }
 {
     solve_row(table, columns, row, column)?;
     for i in 0..rows {

@@ -10,8 +10,8 @@ unfolding note_of
 returns g c =
     let names : c.deref.result.now ≡ c.self.inside.names.items = c.deref.ensures.value in
     let below : c.rank.result < length c.self.inside.notes.items =
-          let e : length c.deref.result.now ≡ length c.self.inside.names.items = ap length names in
-          Prim.omega (arith, c.rank.ensures.within, e, c.self.invariant.1.note_count, length-map c.self.inside.notes.items (noted g.N.Exact.value)) in
+    let e : length c.deref.result.now ≡ length c.self.inside.names.items = ap length names in
+    Prim.omega (arith, c.rank.ensures.within, e, c.self.invariant.1.note_count, length-map c.self.inside.notes.items (noted g.N.Exact.value)) in
     subst (λ (d : Dictionary). noted g.N.Exact.value c.index.result.now ≡ note_of d c.args.name) c.self.view_is
     (note_read g.N.Exact.value c.self.inside.notes.items c.rank.result c.index.result.now below c.index.ensures
     ∙ ap (λ (k : ℕ). get_or (map (noted g.N.Exact.value) c.self.inside.notes.items) k blank) (c.rank.ensures.place ∙ ap (λ (ns : List ℕ). place_in ns c.args.name) names))

@@ -9,7 +9,7 @@ invariant_of-self g c = (
   c.self.invariant.0,
   subst IsDictionary (seen_note g.N.Exact.value c.self.inside.columns.items c.self.inside.rows.items c.self.inside.coefficients.items c.self.inside.others.items c.self.inside.basics.items
       c.self.inside.table.items c.self.inside.names.items c.self.inside.notes.items c.self.inside.spent c.rank-place.result c.args.note)
-  (noted_dictionary _ c.rank-place.result (noted g.N.Exact.value c.args.note) c.self.invariant.1),
+      (noted_dictionary _ c.rank-place.result (noted g.N.Exact.value c.args.note) c.self.invariant.1),
 )
 
 pub returns : goal.returns
@@ -19,5 +19,5 @@ returns g c =
     sym (seen_note g.N.Exact.value c.self.inside.columns.items c.self.inside.rows.items c.self.inside.coefficients.items c.self.inside.others.items c.self.inside.basics.items
     c.self.inside.table.items c.self.inside.names.items c.self.inside.notes.items c.self.inside.spent c.rank-place.result c.args.note)
     ∙ ap (λ (k : ℕ). record (seen g.N.Exact.value c.self.inside.columns.items c.self.inside.rows.items c.self.inside.coefficients.items c.self.inside.others.items c.self.inside.basics.items
-      c.self.inside.table.items c.self.inside.names.items c.self.inside.notes.items c.self.inside.spent) { notes = slice_set (map (noted g.N.Exact.value) c.self.inside.notes.items) k (noted g.N.Exact.value c.args.note) }) place
+    c.self.inside.table.items c.self.inside.names.items c.self.inside.notes.items c.self.inside.spent) { notes = slice_set (map (noted g.N.Exact.value) c.self.inside.notes.items) k (noted g.N.Exact.value c.args.note) }) place
     ∙ ap (λ (d : Dictionary). with_note d c.args.name (noted g.N.Exact.value c.args.note)) c.self.view_is
