@@ -1,3 +1,4 @@
+pub mod IndexLemmas
 pub mod NameLemmas
 pub mod NoteLemmas
 pub mod PivotLemmas

@@ -10,7 +10,9 @@ use Rattle.linear_system.specs.Choices.{Choice, IsChoice}
 use Rattle.linear_system.specs.Systems.{System}
 use Rattle.linear_dict.specs.Places.{place_in, is_among}
 use Rattle.linear_dict.specs.Tables.{cell, table_of, pivoted_cell}
+use Rattle.linear_dict.specs.declared.index.Variable.{Variable}
 use Rattle.linear_dict.specs.declared.note.Note.{Note}
+use Rattle.linear_dict.specs.Indexes.{name_of}
 
 -- the numbers of a variable's note
 pub record Noted : Type 0 where
@@ -69,16 +71,16 @@ dictionary_code = code_by (List ℕ × (List ℕ × (List Fraction × (List ℕ 
     (λ _. refl)
 
 -- the dictionary of these lists of numbers of some type
-abbrev pub seen : {N : Type 0} → (N → Fraction) → List ℕ → List ℕ → List N → List ℕ → List ℕ → List N → List ℕ → List (Note N) → Bool → Dictionary
-seen value columns rows coefficients others basics table names notes spent = record {
+abbrev pub seen : {N : Type 0} → (N → Fraction) → List ℕ → List ℕ → List N → List ℕ → List ℕ → List N → List (Variable N) → Bool → Dictionary
+seen value columns rows coefficients others basics table variables spent = record {
   columns = columns;
   rows = rows;
   coefficients = map value coefficients;
   others = others;
   basics = basics;
   table = map value table;
-  names = names;
-  notes = map (noted value) notes;
+  names = map name_of variables;
+  notes = map (λ v. noted value v.note) variables;
   spent = spent;
 }
 

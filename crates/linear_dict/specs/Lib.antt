@@ -1,3 +1,4 @@
 pub mod Dictionaries
+pub mod Indexes
 pub mod Places
 pub mod Tables

@@ -1,5 +1,5 @@
 -- Where names stand in lists.
-use Rattle.std.specs.Prelude.{◌≡◌, ℕ, ◌<◌, ◌==◌, Bool, List, length, nat_lt, slice_index, slice_index_or}
+use Rattle.std.specs.Prelude.{◌≡◌, ℕ, ◌<◌, ◌==◌, Bool, List, length, nat_lt, slice_index}
 use Rattle.std.specs.List.{position_or_len}
 use Rattle.linear_dict.specs.declared.place.Place.{Place}
 use Rattle.linear_dict.specs.declared.place.Place.TheVariants.{Row, Column}
@@ -16,8 +16,3 @@ is_among xs w = nat_lt (place_in xs w) (length xs)
 abbrev pub StandsAt : List ℕ → List ℕ → ℕ → Place → Type 0
 StandsAt first second w (Row r) = (r < length first) × (slice_index first r ≡ w)
 StandsAt first second w (Column c) = (c < length second) × (slice_index second c ≡ w)
-
--- The index knows the place of each name.
-pub record IsIndex (names : List ℕ) (places : List Place) (first second : List ℕ) : Type 0 where
-  pub count : length places ≡ length names
-  pub stands : (k : ℕ) (d : Place) → k < length names → StandsAt first second (slice_index names k) (slice_index_or places k d)

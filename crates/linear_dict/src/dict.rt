@@ -5,7 +5,7 @@ ghost use Rattle.linear_dict.specs.Dictionaries.{IsDictionary, choice_of, noted,
 ghost use Rattle.linear_dict.specs.Places.{StandsAt};
 ghost use Rattle.linear_dict.specs.Tables.{cell};
 
-use crate::index::rank;
+use crate::index::{Variable, rank};
 use crate::note::Note;
 use crate::place::Place;
 use exact_fraction::Exact;
@@ -20,26 +20,24 @@ pub struct Dict<N: Exact> {
     others: Vec<u32>,
     basics: Vec<u32>,
     table: Vec<N>,
-    names: Vec<u32>,
-    places: Vec<Place>,
-    notes: Vec<Note<N>>,
+    variables: Vec<Variable<N>>,
     spent: bool,
 }
 
 impl<N: Exact> Model for Dict<N> {
     ghost use Rattle.linear_dict.specs.Dictionaries.{Dictionary, IsDictionary, dictionary_code, seen};
-    ghost use Rattle.linear_dict.specs.Places.{IsIndex};
+    ghost use Rattle.linear_dict.specs.Indexes.{IsIndex};
 
     ghost Value = { Dictionary };
 
     ghost coded = { dictionary_code };
 
     ghost view = { λ d. seen N.value d.columns.items d.rows.items d.coefficients.items d.others.items d.basics.items d.table.items
-        d.names.items d.notes.items d.spent };
+        d.variables.items d.spent };
 
-    ghost invariant = { λ d. IsIndex d.names.items d.places.items d.basics.items d.others.items
+    ghost invariant = { λ d. IsIndex d.variables.items d.basics.items d.others.items d.rows.items d.columns.items
         × IsDictionary (seen N.value d.columns.items d.rows.items d.coefficients.items d.others.items d.basics.items
-        d.table.items d.names.items d.notes.items d.spent) };
+        d.table.items d.variables.items d.spent) };
 }
 
 impl<N: Exact> Dict<N> {
@@ -70,7 +68,7 @@ impl<N: Exact> Dict<N> {
         requires { self.now.spent ≡ false }
         ensures { result ≡ length self.now.names }
     {
-        self.names.len()
+        self.variables.len()
     }
 
     /// The basic variable of a row place.
@@ -115,7 +113,7 @@ impl<N: Exact> Dict<N> {
         requires within { rank < length self.now.names }
         ensures { result ≡ slice_index self.now.names rank }
     {
-        self.names[rank]
+        self.variables[rank].name
     }
 
     /// Where a variable stands in the table.
@@ -124,7 +122,7 @@ impl<N: Exact> Dict<N> {
         requires named { Contains self.now.names name }
         ensures { StandsAt self.now.basics self.now.others name result }
     {
-        self.places[rank(&self.names, name)]
+        self.variables[rank(&self.variables, name)].place
     }
 
     /// By how much the basic variable of a row place rises where the other one of a column place rises by 1.
@@ -145,7 +143,7 @@ impl<N: Exact> Dict<N> {
         requires named { Contains self.now.names name }
         ensures { noted N.value result ≡ note_of self.now name }
     {
-        self.notes[rank(&self.names, name)]
+        self.variables[rank(&self.variables, name)].note
     }
 
     /// Notes this of a variable, and changes nothing else.
@@ -154,7 +152,7 @@ impl<N: Exact> Dict<N> {
         requires named { Contains self.old.names name }
         ensures { self.new ≡ with_note self.old name (noted N.value note) }
     {
-        let place = rank(&self.names, name);
-        self.notes[place] = note;
+        let place = rank(&self.variables, name);
+        self.variables[place].note = note;
     }
 }
