@@ -1,5 +1,7 @@
+pub mod ExchangeLemmas
 pub mod IndexLemmas
 pub mod NameLemmas
 pub mod NoteLemmas
 pub mod PivotLemmas
+pub mod SplitLemmas
 pub mod TableLemmas

@@ -121,23 +121,27 @@ module _ (f : ℕ → ℕ → Fraction) (r c : ℕ) where
   pivoting-done : (upto i j : ℕ) → i ≢ r → i < upto → pivoting f r c upto i j ≡ pivoted_cell f r c i j
   pivoting-done upto i j n h = pivoting-other upto i j n ∙ ap (λ (b : Bool). if b then pivoted_cell f r c i j else f i j) (below-yes i upto h)
 
-  pivoted-solved : (i j : ℕ) → i ≡ r → pivoted_cell f r c i j ≡ pivoted_row f r c j
+  pub pivoted-solved : (i j : ℕ) → i ≡ r → pivoted_cell f r c i j ≡ pivoted_row f r c j
   unfolding pivoted_cell
   pivoted-solved i j e = put_at-here r (pivoted_row f r c j) (λ k. if j == c then f k c *ℚ recip_ℚ (f r c) else f k j +ℚ f k c *ℚ pivoted_row f r c j) i e
 
-  pivoted-column : (i j : ℕ) → i ≢ r → j ≡ c → pivoted_cell f r c i j ≡ f i c *ℚ recip_ℚ (f r c)
+  pub pivoted-column : (i j : ℕ) → i ≢ r → j ≡ c → pivoted_cell f r c i j ≡ f i c *ℚ recip_ℚ (f r c)
   unfolding pivoted_cell
   pivoted-column i j n e = put_at-elsewhere r (pivoted_row f r c j) (λ k. if j == c then f k c *ℚ recip_ℚ (f r c) else f k j +ℚ f k c *ℚ pivoted_row f r c j) i n
       ∙ put_at-here c (f i c *ℚ recip_ℚ (f r c)) (λ k. f i k +ℚ f i c *ℚ pivoted_row f r c k) j e
 
-  pivoted-other : (i j : ℕ) → i ≢ r → j ≢ c → pivoted_cell f r c i j ≡ f i j +ℚ f i c *ℚ pivoted_row f r c j
+  pub pivoted-other : (i j : ℕ) → i ≢ r → j ≢ c → pivoted_cell f r c i j ≡ f i j +ℚ f i c *ℚ pivoted_row f r c j
   unfolding pivoted_cell
   pivoted-other i j n m = put_at-elsewhere r (pivoted_row f r c j) (λ k. if j == c then f k c *ℚ recip_ℚ (f r c) else f k j +ℚ f k c *ℚ pivoted_row f r c j) i n
       ∙ put_at-elsewhere c (f i c *ℚ recip_ℚ (f r c)) (λ k. f i k +ℚ f i c *ℚ pivoted_row f r c k) j m
 
-  row-itself : (j : ℕ) → j ≡ c → pivoted_row f r c j ≡ recip_ℚ (f r c)
+  pub row-itself : (j : ℕ) → j ≡ c → pivoted_row f r c j ≡ recip_ℚ (f r c)
   unfolding pivoted_row
   row-itself j e = put_at-here c (recip_ℚ (f r c)) (λ k. neg_ℚ (f r k) *ℚ recip_ℚ (f r c)) j e
+
+  pub row-other : (j : ℕ) → j ≢ c → pivoted_row f r c j ≡ neg_ℚ (f r j) *ℚ recip_ℚ (f r c)
+  unfolding pivoted_row
+  row-other j n = put_at-elsewhere c (recip_ℚ (f r c)) (λ k. neg_ℚ (f r k) *ℚ recip_ℚ (f r c)) j n
 
   module _ (rows columns : ℕ) (xs : List Fraction) where
     pub pivoting_start : Shows rows columns xs (solved_cell f r c) → Shows rows columns xs (pivoting f r c 0)

@@ -1,14 +1,16 @@
-ghost use Rattle.std.specs.Prelude.{◌≡◌, ◌<◌, ◌∷◌, [], ℕ, List, length, map, false, slice_index};
+ghost use Rattle.std.specs.Prelude.{◌≡◌, ◌≢◌, ◌<◌, pos, true, MatchResult, ◌∷◌, [], ℕ, List, length, map, false, slice_index};
 ghost use Rattle.std.specs.List.{Contains};
 ghost use Rattle.linear_system.specs.Choices.{IsChoice};
-ghost use Rattle.linear_dict.specs.Dictionaries.{IsDictionary, choice_of, noted, note_of, system_of, with_note};
+ghost use Rattle.fraction_theory.specs.Fraction.{whole};
+ghost use Rattle.linear_dict.specs.Dictionaries.{IsDictionary, choice_of, noted, note_of, pivoted, system_of, with_note};
 ghost use Rattle.linear_dict.specs.Places.{StandsAt};
 ghost use Rattle.linear_dict.specs.Tables.{cell};
 
 use crate::index::{Variable, rank};
 use crate::note::Note;
 use crate::place::Place;
-use exact_fraction::Exact;
+use crate::table::pivot_table;
+use exact_fraction::{Exact, Passed};
 use std::marker::Model;
 
 /// A dictionary over variables named by distinct numbers.
@@ -154,5 +156,29 @@ impl<N: Exact> Dict<N> {
     {
         let place = rank(&self.variables, name);
         self.variables[place].note = note;
+    }
+
+    /// Exchanges the variables of a row place and a column place, in place and without memory. After a refusal the
+    /// dictionary is spent.
+    pub fn pivot(&mut self, r: usize, c: usize) -> Result<(), Passed<N>>
+        requires live { self.old.spent ≡ false }
+        requires row { r < length self.old.basics }
+        requires column { c < length self.old.others }
+        requires entry { cell (length self.old.others) self.old.table r c ≢ whole (pos 0) }
+        ensures pivoted { MatchResult result (λ _. self.new ≡ pivoted self.old r c) (λ _. self.new.spent ≡ true) }
+        ensures sound { IsDictionary self.new }
+    {
+        self.spent = true;
+        pivot_table(&mut self.table, self.basics.len(), self.others.len(), r, c)?;
+        let leaving = self.basics[r];
+        let entering = self.others[c];
+        let leaving_rank = rank(&self.variables, leaving);
+        let entering_rank = rank(&self.variables, entering);
+        self.variables[leaving_rank].place = Place::Column(c);
+        self.variables[entering_rank].place = Place::Row(r);
+        self.basics[r] = entering;
+        self.others[c] = leaving;
+        self.spent = false;
+        Ok(())
     }
 }
