@@ -1,7 +1,7 @@
 -- A pivot of a dictionary is an exchange of its choice.
-use Rattle.std.specs.Prelude.{◌≡◌, ◌≢◌, ℕ, ◌+◌, ◌*◌, ◌<◌, ◌==◌, pos, Bool, true, false, if◌then◌else◌, List, [], ◌∷◌, length, slice_index, slice_set, ◌⊎◌, refl}
+use Rattle.std.specs.Prelude.{◌≡◌, ◌≢◌, ℕ, ◌*◌, ◌<◌, ◌==◌, pos, true, false, if◌then◌else◌, List, [], ◌∷◌, length, slice_index, slice_set, ◌⊎◌, refl}
 use Rattle.std.specs.List.{Contains}
-use Rattle.std.proofs.Common.{arith, ap, sym, ◌∙◌, subst, inl, inr}
+use Rattle.std.proofs.Common.{ap, sym, ◌∙◌, subst, inl, inr}
 use Rattle.std.proofs.lemmas.List.{length-set}
 use mathlib.Core.Path.{ap₂}
 use Rattle.fraction_theory.specs.Fraction.{Fraction, whole, ◌+ℚ◌, ◌*ℚ◌, neg_ℚ, recip_ℚ}
@@ -16,10 +16,10 @@ use Rattle.linear_system.proofs.ExchangeLaws.{exchanged_is}
 use Rattle.fraction_theory.proofs.ListSums.{Distinct-increasing}
 use Rattle.linear_dict.specs.Dictionaries.{Dictionary, IsDictionary, IsSplit, system_of, choice_of, entry_of, note_of, pivoted}
 use Rattle.linear_dict.specs.Places.{place_in, is_among}
-use Rattle.linear_dict.specs.Tables.{cell, table_of, pivoted_cell, pivoted_row, Shows}
-use Rattle.linear_dict.proofs.NameLemmas.{place_in-at, place_in-within, among-tells, among-from, among-not}
+use Rattle.linear_dict.specs.Tables.{cell, table_of, pivoted_cell, pivoted_row}
+use Rattle.linear_dict.proofs.NameLemmas.{place_in-at, among-tells, among-from, among-not}
 use Rattle.linear_dict.proofs.PivotLemmas.{pivoted-solved, pivoted-column, pivoted-other, row-itself, row-other}
-use Rattle.linear_dict.proofs.SplitLemmas.{Contains-at, set-has, set-keeps, set-cases, set-place_new, set-place_old, split_exchanged, system_is, basic_in, other_in, in_basics, in_others}
+use Rattle.linear_dict.proofs.SplitLemmas.{Contains-at, set-has, set-keeps, set-cases, set-place_new, set-place_old, split_exchanged, system_is, basic_in, other_in}
 use Rattle.linear_dict.proofs.TableLemmas.{shows_table}
 
 module _ (d : Dictionary) (h : IsDictionary d) (r c : ℕ) (hr : r < length d.basics) (hc : c < length d.others) where
@@ -129,6 +129,7 @@ module _ (d : Dictionary) (h : IsDictionary d) (r c : ℕ) (hr : r < length d.ba
         | inr q ↦ let p = set-place_old d.others c a w h.split.second_distinct no_a hc q.0 q.1 in
             inr (λ e. no_a (subst (Contains d.others) e q.0), p.1, (p.0, p.2))
       ]
+
       by_row : (j : ℕ) → place_in new_others w ≡ j → j < length d.others → ((w ≡ a) × (j ≡ c)) ⊎ ((w ≢ a) × (j ≢ c) × (place_in d.others w ≡ j))
           → (w ≡ a) ⊎ ((w ≢ a) × (j ≢ c) × (place_in d.others w ≡ j)) → (exchanged old a b).entry x w ≡ new.entry x w
       by_row j ej hj solved way = elim (set-cases d.basics r b x h.split.first_distinct hr cx) [

@@ -1,5 +1,6 @@
 pub mod ExchangeLemmas
 pub mod IndexLemmas
+pub mod MovedLemmas
 pub mod NameLemmas
 pub mod NoteLemmas
 pub mod PivotLemmas

@@ -1,13 +1,13 @@
 -- Splits of the names: one name written, and the system and the choice of a dictionary.
-use Rattle.std.specs.Prelude.{◌≡◌, ◌≢◌, ℕ, ◌+◌, ◌<◌, ◌≤◌, Bool, true, false, List, [], ◌∷◌, length, slice_index, slice_set, ◌⊎◌, refl}
+use Rattle.std.specs.Prelude.{◌≡◌, ◌≢◌, ℕ, ◌<◌, true, false, List, length, slice_index, slice_set, ◌⊎◌, refl}
 use Rattle.std.specs.List.{Contains}
-use Rattle.std.proofs.Common.{zero, suc, arith, ap, sym, ◌∙◌, subst, get_or, inl, inr}
+use Rattle.std.proofs.Common.{arith, ap, sym, ◌∙◌, subst, get_or, inl, inr}
 use Rattle.std.proofs.lemmas.List.{length-set, get_or-set_same, get_or-set_other}
 use Rattle.std.proofs.lemmas.List.Kept.{IsStrictlyIncreasing-filter}
 use Rattle.std.proofs.lemmas.Grind.{get_or_default_zero}
 use Rattle.fraction_theory.proofs.ListSums.{Distinct, same_or_not, Contains-filter, Contains-from_filter}
-use Rattle.linear_system.specs.Choices.{Choice, basics, others}
-use Rattle.linear_system.specs.Systems.{System, IsSystem}
+use Rattle.linear_system.specs.Choices.{basics, others}
+use Rattle.linear_system.specs.Systems.{IsSystem}
 use Rattle.linear_system.proofs.ChoiceLaws.{is_basic, is_other, basics_are, others_are}
 use Rattle.linear_dict.specs.Dictionaries.{Dictionary, IsDictionary, IsSplit, system_of, choice_of}
 use Rattle.linear_dict.specs.Places.{place_in, is_among}
@@ -63,9 +63,12 @@ pub set-place_old : (xs : List ℕ) (r y w : ℕ) → Distinct xs → ¬ (Contai
     → (place_in xs w < length xs) × (place_in xs w ≢ r) × (place_in (slice_set xs r y) w ≡ place_in xs w)
 set-place_old xs r y w d absent h c n =
     let at = place_in-within xs w c in
-    let apart : place_in xs w ≢ r = λ e. n (sym at.1 ∙ ap (slice_index xs) e) in
-    (at.0, apart, place_in-at (slice_set xs r y) (place_in xs w) w (set-distinct xs r y d absent h) (Prim.omega (arith, at.0, length-set xs r y))
-    (get_or-set_other xs r (place_in xs w) y 0 apart ∙ at.1))
+    let apart : place_in xs w ≢ r = λ e. n (sym at.1 ∙ ap (slice_index xs) e) in (
+      at.0,
+      apart,
+      place_in-at (slice_set xs r y) (place_in xs w) w (set-distinct xs r y d absent h) (Prim.omega (arith, at.0, length-set xs r y))
+          (get_or-set_other xs r (place_in xs w) y 0 apart ∙ at.1),
+    )
 
 -- the first name at r and the second name at c are exchanged
 pub split_exchanged : (names first second : List ℕ) (r c : ℕ) → IsSplit names first second → r < length first → c < length second
