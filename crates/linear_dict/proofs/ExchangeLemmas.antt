@@ -14,7 +14,8 @@ use Rattle.linear_system.specs.Systems.{System}
 use Rattle.linear_system.proofs.ChoiceLaws.{same_choice, others_are, basics_are}
 use Rattle.linear_system.proofs.ExchangeLaws.{exchanged_is}
 use Rattle.fraction_theory.proofs.ListSums.{Distinct-increasing}
-use Rattle.linear_dict.specs.Dictionaries.{Dictionary, IsDictionary, IsSplit, system_of, choice_of, entry_of, note_of, pivoted}
+use Rattle.linear_dict.specs.Dictionaries.{Dictionary, IsDictionary, system_of, choice_of, entry_of, note_of, pivoted}
+use Rattle.linear_dict.specs.Places.{IsSplit}
 use Rattle.linear_dict.specs.Places.{place_in, is_among}
 use Rattle.linear_dict.specs.Tables.{cell, table_of, pivoted_cell, pivoted_row}
 use Rattle.linear_dict.proofs.NameLemmas.{place_in-at, among-tells, among-from, among-not}

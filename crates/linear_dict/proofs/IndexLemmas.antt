@@ -14,7 +14,8 @@ use Rattle.fraction_theory.proofs.ListSums.{same_or_not}
 use mathlib.Core.Path.{ap₂}
 use Rattle.fraction_theory.specs.Fraction.{Fraction}
 use Rattle.linear_dict.specs.declared.place.Place.{Place}
-use Rattle.linear_dict.specs.Dictionaries.{Noted, noted, blank, seen}
+use Rattle.linear_dict.specs.Dictionaries.{seen}
+use Rattle.linear_dict.specs.Notes.{Noted, noted, blank}
 use Rattle.linear_dict.specs.declared.index.Variable.{Variable}
 use Rattle.linear_dict.specs.Indexes.{name_of, AddsVariable, IsIndex}
 use Rattle.linear_dict.specs.Places.{place_in, StandsAt}

@@ -1,8 +1,10 @@
 pub mod ExchangeLemmas
+pub mod GrowLemmas
 pub mod IndexLemmas
 pub mod MovedLemmas
 pub mod NameLemmas
 pub mod NoteLemmas
 pub mod PivotLemmas
 pub mod SplitLemmas
+pub mod StartLemmas
 pub mod TableLemmas

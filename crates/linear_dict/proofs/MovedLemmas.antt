@@ -10,7 +10,8 @@ use Rattle.fraction_theory.proofs.ListSums.{Distinct, Distinct-increasing, same_
 use Rattle.linear_dict.specs.declared.index.Variable.{Variable}
 use Rattle.linear_dict.specs.declared.place.Place.{Place}
 use Rattle.linear_dict.specs.declared.place.Place.TheVariants.{Row, Column}
-use Rattle.linear_dict.specs.Dictionaries.{Dictionary, IsDictionary, Noted, noted, seen, pivoted}
+use Rattle.linear_dict.specs.Dictionaries.{Dictionary, IsDictionary, seen, pivoted}
+use Rattle.linear_dict.specs.Notes.{Noted, noted}
 use Rattle.linear_dict.specs.Indexes.{name_of, IsIndex}
 use Rattle.linear_dict.specs.Places.{place_in, StandsAt}
 use Rattle.linear_dict.specs.Tables.{cell, table_of, pivoted_cell}

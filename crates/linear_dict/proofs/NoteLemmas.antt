@@ -4,7 +4,8 @@ use Rattle.std.proofs.Common.{◌∙◌}
 use Rattle.std.proofs.lemmas.List.{length-set}
 use Rattle.linear_system.specs.Systems.{activity}
 use Rattle.linear_system.specs.Choices.{IsChoice, basics, others}
-use Rattle.linear_dict.specs.Dictionaries.{Dictionary, IsDictionary, Noted, system_of, choice_of, entry_of}
+use Rattle.linear_dict.specs.Dictionaries.{Dictionary, IsDictionary, system_of, choice_of, entry_of}
+use Rattle.linear_dict.specs.Notes.{Noted}
 
 -- whether it is a choice is asked of names, coefficients, basic variables and entries alone
 pub choice_frame : (d : Dictionary) (ns : List Noted) → IsChoice (system_of d) (choice_of d) → IsChoice (system_of (record d { notes = ns })) (choice_of (record d { notes = ns }))

@@ -9,7 +9,8 @@ use Rattle.fraction_theory.proofs.ListSums.{Distinct, same_or_not, Contains-filt
 use Rattle.linear_system.specs.Choices.{basics, others}
 use Rattle.linear_system.specs.Systems.{IsSystem}
 use Rattle.linear_system.proofs.ChoiceLaws.{is_basic, is_other, basics_are, others_are}
-use Rattle.linear_dict.specs.Dictionaries.{Dictionary, IsDictionary, IsSplit, system_of, choice_of}
+use Rattle.linear_dict.specs.Dictionaries.{Dictionary, IsDictionary, system_of, choice_of}
+use Rattle.linear_dict.specs.Places.{IsSplit}
 use Rattle.linear_dict.specs.Places.{place_in, is_among}
 use Rattle.linear_dict.proofs.NameLemmas.{place_in-at, place_in-within, among-tells, among-from, among-not}
 

@@ -1,34 +1,18 @@
 -- A dictionary as callers see it: the rows as put in, and beside them the table that gives the basic variables by the
 -- others. Source: Chvátal, Linear Programming.
-use Rattle.std.specs.Prelude.{◌≡◌, ℕ, ◌*◌, pos, Bool, false, List, length, map, filter, ◌⊎◌, slice_index, slice_index_or, slice_set, refl}
+use Rattle.std.specs.Prelude.{◌≡◌, ℕ, ◌*◌, Bool, false, List, [], ◌∷◌, length, map, filter, slice_index, slice_index_or, slice_set, refl}
 use Rattle.std.specs.Coded.{Coded, code_by, coded×, coded_ℕ, coded_bool, coded_list}
-use Rattle.std.specs.List.{Contains, AllPairs}
+use Rattle.std.specs.List.{Contains}
 use Rattle.std.specs.List.Sorted.{IsStrictlyIncreasing}
 use Rattle.fraction_theory.specs.Code.{fraction_code}
-use Rattle.fraction_theory.specs.Fraction.{Fraction, whole}
+use Rattle.fraction_theory.specs.Fraction.{Fraction}
 use Rattle.linear_system.specs.Choices.{Choice, IsChoice}
 use Rattle.linear_system.specs.Systems.{System}
-use Rattle.linear_dict.specs.Places.{place_in, is_among}
+use Rattle.linear_dict.specs.Notes.{Noted, noted, noted_code, blank}
+use Rattle.linear_dict.specs.Places.{place_in, is_among, IsSplit}
 use Rattle.linear_dict.specs.Tables.{cell, table_of, pivoted_cell}
 use Rattle.linear_dict.specs.declared.index.Variable.{Variable}
-use Rattle.linear_dict.specs.declared.note.Note.{Note}
 use Rattle.linear_dict.specs.Indexes.{name_of}
-
--- the numbers of a variable's note
-pub record Noted : Type 0 where
-  pub price : Fraction
-  pub low : Fraction
-  pub high : Fraction
-  pub value : Fraction
-  pub reduced : Fraction
-  pub at_high : Bool
-
-abbrev pub noted : {N : Type 0} → (N → Fraction) → Note N → Noted
-noted value n = record { price = value n.price; low = value n.low; high = value n.high; value = value n.value; reduced = value n.reduced; at_high = n.at_high }
-
--- the note of a variable that is new
-abbrev pub blank : Noted
-blank = record { price = whole (pos 0); low = whole (pos 0); high = whole (pos 0); value = whole (pos 0); reduced = whole (pos 0); at_high = false }
 
 pub record Dictionary : Type 0 where
   -- the names of the columns and of the rows as put in, and the rows' coefficients, row by row
@@ -44,13 +28,6 @@ pub record Dictionary : Type 0 where
   pub notes : List Noted
   -- whether a pivot was refused
   pub spent : Bool
-
-abbrev pub noted_code : Coded Noted
-noted_code = code_by (Fraction × (Fraction × (Fraction × (Fraction × (Fraction × Bool)))))
-    (coded× fraction_code (coded× fraction_code (coded× fraction_code (coded× fraction_code (coded× fraction_code coded_bool)))))
-    (λ n. (n.price, (n.low, (n.high, (n.value, (n.reduced, n.at_high))))))
-    (λ p. record { price = p.0; low = p.1.0; high = p.1.1.0; value = p.1.1.1.0; reduced = p.1.1.1.1.0; at_high = p.1.1.1.1.1 })
-    (λ _. refl)
 
 abbrev pub dictionary_code : Coded Dictionary
 dictionary_code = code_by (List ℕ × (List ℕ × (List Fraction × (List ℕ × (List ℕ × (List Fraction × (List ℕ × (List Noted × Bool))))))))
@@ -108,15 +85,6 @@ system_of d = record {
 unfoldable pub choice_of : Dictionary → Choice
 choice_of d = record { basic = is_among d.basics; high = λ w. (note_of d w).at_high; entry = entry_of d }
 
--- Each name is one of the first or one of the second, and of one only; none stands twice in either.
-pub record IsSplit (names first second : List ℕ) : Type 0 where
-  pub first_distinct : AllPairs (λ x y. ¬ (x ≡ y)) first
-  pub second_distinct : AllPairs (λ x y. ¬ (x ≡ y)) second
-  pub apart : (w : ℕ) → Contains first w → ¬ (Contains second w)
-  pub first_named : (w : ℕ) → Contains first w → Contains names w
-  pub second_named : (w : ℕ) → Contains second w → Contains names w
-  pub either : (w : ℕ) → Contains names w → Contains first w ⊎ Contains second w
-
 -- Basic and other variables are together the rows and columns, each name once. And unless it is spent, the table has
 -- the same solutions as the rows as put in: it is the table of a choice. No bound, price or value stands in this.
 pub record IsDictionary (d : Dictionary) : Type 0 where
@@ -141,3 +109,15 @@ pivoted d r c = record d {
 -- the dictionary with this note of the variable w
 unfoldable pub with_note : Dictionary → ℕ → Noted → Dictionary
 with_note d w n = record d { notes = slice_set d.notes (place_in d.names w) n }
+
+-- A dictionary of one row, as put in: its columns are the others, its row is basic, and nothing is noted.
+pub record IsStart {N : Type 0} (value : N → Fraction) (names : List ℕ) (row : ℕ) (entries : List N) (d : Dictionary) : Type 0 where
+  pub live : d.spent ≡ false
+  pub columns : d.columns ≡ names
+  pub rows : d.rows ≡ row ∷ []
+  pub coefficients : d.coefficients ≡ map value entries
+  pub others : d.others ≡ names
+  pub basics : d.basics ≡ row ∷ []
+  pub table : d.table ≡ map value entries
+  pub blank_notes : (w : ℕ) → Contains d.names w → note_of d w ≡ blank
+  pub sound : IsDictionary d

@@ -1,4 +1,5 @@
 pub mod Dictionaries
 pub mod Indexes
+pub mod Notes
 pub mod Places
 pub mod Tables

@@ -1,6 +1,6 @@
 -- Where names stand in lists.
-use Rattle.std.specs.Prelude.{◌≡◌, ℕ, ◌<◌, ◌==◌, Bool, List, length, nat_lt, slice_index}
-use Rattle.std.specs.List.{position_or_len}
+use Rattle.std.specs.Prelude.{◌≡◌, ◌⊎◌, ℕ, ◌<◌, ◌==◌, Bool, List, length, nat_lt, slice_index}
+use Rattle.std.specs.List.{AllPairs, Contains, position_or_len}
 use Rattle.linear_dict.specs.declared.place.Place.{Place}
 use Rattle.linear_dict.specs.declared.place.Place.TheVariants.{Row, Column}
 
@@ -16,3 +16,12 @@ is_among xs w = nat_lt (place_in xs w) (length xs)
 abbrev pub StandsAt : List ℕ → List ℕ → ℕ → Place → Type 0
 StandsAt first second w (Row r) = (r < length first) × (slice_index first r ≡ w)
 StandsAt first second w (Column c) = (c < length second) × (slice_index second c ≡ w)
+
+-- Each name is one of the first or one of the second, and of one only; none stands twice in either.
+pub record IsSplit (names first second : List ℕ) : Type 0 where
+  pub first_distinct : AllPairs (λ x y. ¬ (x ≡ y)) first
+  pub second_distinct : AllPairs (λ x y. ¬ (x ≡ y)) second
+  pub apart : (w : ℕ) → Contains first w → ¬ (Contains second w)
+  pub first_named : (w : ℕ) → Contains first w → Contains names w
+  pub second_named : (w : ℕ) → Contains second w → Contains names w
+  pub either : (w : ℕ) → Contains names w → Contains first w ⊎ Contains second w

@@ -1,16 +1,20 @@
-ghost use Rattle.std.specs.Prelude.{◌≡◌, ◌≢◌, ◌<◌, pos, true, MatchResult, ◌∷◌, [], ℕ, List, length, map, false, slice_index};
-ghost use Rattle.std.specs.List.{Contains};
+ghost use Rattle.std.specs.Prelude.{◌≡◌, ◌≢◌, ◌<◌, pos, true, IfOk, MatchResult, ◌∷◌, [], ℕ, List, length, map, false, slice_index};
+ghost use Rattle.std.specs.List.{AllPairs, Contains};
+ghost use Rattle.linear_dict.specs.Indexes.{IsStartedIndex};
 ghost use Rattle.linear_system.specs.Choices.{IsChoice};
 ghost use Rattle.fraction_theory.specs.Fraction.{whole};
-ghost use Rattle.linear_dict.specs.Dictionaries.{IsDictionary, choice_of, noted, note_of, pivoted, system_of, with_note};
+ghost use Rattle.linear_dict.specs.Dictionaries.{IsDictionary, IsStart, choice_of, note_of, pivoted, system_of, with_note};
+ghost use Rattle.linear_dict.specs.Notes.{noted};
 ghost use Rattle.linear_dict.specs.Places.{StandsAt};
 ghost use Rattle.linear_dict.specs.Tables.{cell};
 
-use crate::index::{Variable, rank};
+use crate::index::{Variable, add_variable, rank};
 use crate::note::Note;
 use crate::place::Place;
 use crate::table::pivot_table;
 use exact_fraction::{Exact, Passed};
+use plain_list::Memory;
+use std::alloc::Global;
 use std::marker::Model;
 
 /// A dictionary over variables named by distinct numbers.
@@ -42,7 +46,79 @@ impl<N: Exact> Model for Dict<N> {
         d.table.items d.variables.items d.spent) };
 }
 
+/// A copy of the items.
+fn copied<T: Copy>(alloc: Global, items: &[T]) -> Result<Vec<T>, Memory>
+    ensures { IfOk result (λ copy. copy.items ≡ items.now) }
+{
+    match Vec::from_slice(alloc, items) {
+        Ok(copy) => Ok(copy),
+        Err(_) => Err(Memory),
+    }
+}
+
+/// The index of a row and of columns as put in, with blank notes.
+fn started<N: Exact>(alloc: Global, columns: &[u32], row: u32) -> Result<Vec<Variable<N>>, Memory>
+    requires distinct { AllPairs (λ x y. x ≢ y) columns.now }
+    requires absent { ¬ (Contains columns.now row) }
+    ensures { IfOk result (λ variables. IsStartedIndex N.value variables.items row columns.now) }
+{
+    let zero = N::of_parts(0, 1);
+    let note = Note {
+        price: zero,
+        low: zero,
+        high: zero,
+        value: zero,
+        reduced: zero,
+        at_high: false,
+    };
+    let mut variables = Vec::new(alloc);
+    let place = Place::Row(0);
+    add_variable(
+        &mut variables,
+        Variable {
+            name: row,
+            place,
+            put: place,
+            note,
+        },
+    )?;
+    for c in 0..columns.len() {
+        let place = Place::Column(c);
+        add_variable(
+            &mut variables,
+            Variable {
+                name: columns[c],
+                place,
+                put: place,
+                note,
+            },
+        )?;
+    }
+    Ok(variables)
+}
+
 impl<N: Exact> Dict<N> {
+    /// A dictionary of one row, `entries` times the columns, which is basic.
+    pub fn start(alloc: Global, columns: &[u32], row: u32, entries: &[N]) -> Result<Dict<N>, Memory>
+        requires distinct { AllPairs (λ x y. x ≢ y) columns.now }
+        requires absent { ¬ (Contains columns.now row) }
+        requires entries { length entries.now ≡ length columns.now }
+        ensures { IfOk result (IsStart N.value columns.now row entries.now) }
+    {
+        let variables = started(alloc, columns, row)?;
+        let rows = [row];
+        Ok(Dict {
+            columns: copied(alloc, columns)?,
+            rows: copied(alloc, &rows)?,
+            coefficients: copied(alloc, entries)?,
+            others: copied(alloc, columns)?,
+            basics: copied(alloc, &rows)?,
+            table: copied(alloc, entries)?,
+            variables,
+            spent: false,
+        })
+    }
+
     /// Whether a pivot was refused, after which nothing else can be asked.
     pub fn spent(&self) -> bool
         ensures answer { result ≡ self.now.spent }

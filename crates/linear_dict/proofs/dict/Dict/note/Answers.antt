@@ -1,5 +1,6 @@
 use Rattle.std.proofs.Common.{◌≡◌, ◌<◌, ◌∙◌, ℕ, List, ap, arith, length, map, get_or}
-use Rattle.linear_dict.specs.Dictionaries.{Dictionary, blank, noted, note_of}
+use Rattle.linear_dict.specs.Dictionaries.{Dictionary, note_of}
+use Rattle.linear_dict.specs.Notes.{blank, noted}
 use Rattle.linear_dict.specs.Indexes.{name_of}
 use Rattle.linear_dict.specs.Places.{place_in}
 use Rattle.linear_dict.specs.declared.index.Variable.{Variable}

@@ -1,5 +1,6 @@
 use Rattle.std.proofs.Common.{◌≡◌, ◌∙◌, ℕ, List, ap, arith, length, map, refl, slice_set, subst, sym}
-use Rattle.linear_dict.specs.Dictionaries.{Dictionary, IsDictionary, seen, noted, with_note}
+use Rattle.linear_dict.specs.Dictionaries.{Dictionary, IsDictionary, seen, with_note}
+use Rattle.linear_dict.specs.Notes.{noted}
 use Rattle.linear_dict.specs.Indexes.{name_of}
 use Rattle.linear_dict.specs.Places.{place_in}
 use Rattle.linear_dict.specs.declared.index.Variable.{Variable}
