@@ -11,3 +11,6 @@ mod table;
 pub use dict::Dict;
 pub use note::Note;
 pub use place::Place;
+
+#[cfg(test)]
+mod tests;

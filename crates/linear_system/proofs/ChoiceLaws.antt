@@ -96,8 +96,8 @@ module _ (s : System) (distinct : Distinct s.variables) where
           (choice.to_table v m).basic b old ∙ same_table h k same entries v b old;
     };
     to_rows = λ v m. choice.to_rows v (record {
-          basic = λ b c. m.basic b (subst (λ bs. Contains bs b) (same_basics h k same) c) ∙ sym (same_table h k same entries v b c);
-        });
+      basic = λ b c. m.basic b (subst (λ bs. Contains bs b) (same_basics h k same) c) ∙ sym (same_table h k same entries v b c);
+    });
   }
 
   -- The entries of a split are unique: two choices with the same basic variables have the same entries.
