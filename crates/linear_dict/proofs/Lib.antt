@@ -1,3 +1,4 @@
+pub mod AddingLemmas
 pub mod ExchangeLemmas
 pub mod GrowLemmas
 pub mod IndexLemmas

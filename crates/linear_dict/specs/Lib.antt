@@ -1,3 +1,4 @@
+pub mod Adding
 pub mod Dictionaries
 pub mod Indexes
 pub mod Notes

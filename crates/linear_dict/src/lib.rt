@@ -2,12 +2,14 @@
 //! the pivot that exchanges two of them. Exact, and generic over the type of its numbers.
 #![tactic(auto)]
 
+mod adding;
 mod dict;
 mod index;
 mod note;
 mod place;
 mod table;
 
+pub use adding::AddStop;
 pub use dict::Dict;
 pub use note::Note;
 pub use place::Place;
