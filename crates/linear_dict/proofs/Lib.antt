@@ -6,6 +6,7 @@ pub mod MovedLemmas
 pub mod NameLemmas
 pub mod NoteLemmas
 pub mod PivotLemmas
+pub mod RowLemmas
 pub mod SplitLemmas
 pub mod StartLemmas
 pub mod TableLemmas
