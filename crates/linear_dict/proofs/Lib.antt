@@ -1,3 +1,4 @@
+pub mod AddRowLemmas
 pub mod AddingLemmas
 pub mod ExchangeLemmas
 pub mod GrowLemmas

@@ -8,9 +8,10 @@ use Rattle.std.proofs.lemmas.List.Elements.{filter-append, Contains-append_left,
 use Rattle.std.proofs.lemmas.List.Edits.{length-insert}
 use Rattle.std.proofs.Math.Seq.{get_or-append_seam}
 use Rattle.fraction_theory.specs.Fraction.{Fraction, whole, ◌*ℚ◌}
-use Rattle.fraction_theory.specs.Sums.{sum_by}
+use Rattle.fraction_theory.specs.Sums.{sum_by, total}
+use Rattle.fraction_theory.proofs.SumLaws.{total-Product}
 use Rattle.fraction_theory.proofs.ListSums.{Distinct, Distinct-increasing, Contains-filter, Contains-from_filter, filter-members, sum_by-members}
-use Rattle.linear_system.specs.Choices.{Choice, IsChoice, MeetsTable, basics, others, column_entry}
+use Rattle.linear_system.specs.Choices.{Choice, row_entry_terms, IsChoice, MeetsTable, basics, others, column_entry}
 use Rattle.linear_system.specs.Systems.{System, MeetsRows, activity}
 use Rattle.linear_system.proofs.ChoiceLaws.{is_basic, basics_are, sum_by_others}
 use Rattle.linear_dict.specs.Dictionaries.{Dictionary, IsDictionary, system_of, choice_of, entry_of}
@@ -47,12 +48,19 @@ unfolding cell
 cell-new columns xs ys rows j e = ap (λ (k : ℕ). get_or (xs ++ ys) (k + j) (whole (pos 0))) (sym e) ∙ get_or-append-add xs ys j (whole (pos 0))
 
 module _ (d : Dictionary) (h : IsDictionary d) (live : d.spent ≡ false) (row i : ℕ) (absent : ¬ (Contains d.names row)) (hi : i ≤ length d.names)
-  (rises : IsStrictlyIncreasing (insert d.names i row)) (es fresh : List Fraction) (ns : List Noted)
-  (entry_count : length es ≡ length d.columns) (fresh_count : length fresh ≡ length d.others) (note_count : length ns ≡ length d.names + 1) where
+    (rises : IsStrictlyIncreasing (insert d.names i row)) (es fresh : List Fraction) (ns : List Noted)
+    (entry_count : length es ≡ length d.columns) (fresh_count : length fresh ≡ length d.others) (note_count : length ns ≡ length d.names + 1) where
   abbrev pub grown : Dictionary
   grown = record {
-    columns = d.columns; rows = d.rows ++ row ∷ []; coefficients = d.coefficients ++ es; others = d.others; basics = d.basics ++ row ∷ []; table = d.table ++ fresh;
-    names = insert d.names i row; notes = ns; spent = false;
+    columns = d.columns;
+    rows = d.rows ++ row ∷ [];
+    coefficients = d.coefficients ++ es;
+    others = d.others;
+    basics = d.basics ++ row ∷ [];
+    table = d.table ++ fresh;
+    names = insert d.names i row;
+    notes = ns;
+    spent = false;
   }
 
   s : System
@@ -105,6 +113,10 @@ module _ (d : Dictionary) (h : IsDictionary d) (live : d.spent ≡ false) (row i
       (λ j k. ap (λ t. t *ℚ v j) (ap (λ (p : ℕ). cell (length d.columns) (d.coefficients ++ es) p (place_in d.columns j)) (place-push_new d.rows row h.put_in.first_distinct no_row)
       ∙ cell-new (length d.columns) d.coefficients es (length d.rows) (place_in d.columns j) h.coefficient_count))
 
+  new_sum : (v : ℕ → Fraction) → sum_by (λ j. after.coefficient row j *ℚ v j) after.columns ≡ sum_by (λ j. row_number j *ℚ v j) s.columns
+  unfolding activity
+  new_sum v = new_activity v
+
   old_activity : (v : ℕ → Fraction) (r : ℕ) → Contains d.rows r → activity after v r ≡ activity s v r
   unfolding activity after s system_of
   old_activity v r m =
@@ -112,9 +124,9 @@ module _ (d : Dictionary) (h : IsDictionary d) (live : d.spent ≡ false) (row i
       ap (sum_by (λ j. after.coefficient r j *ℚ v j)) same_columns
       ∙ sum_by-members (λ j. after.coefficient r j *ℚ v j) (λ j. s.coefficient r j *ℚ v j) s.columns
       (λ j k.
-        let q = place_in-within d.columns j (among-from d.columns j (Contains-from_filter (is_among d.columns) d.names j k).1) in
-        ap (λ t. t *ℚ v j) (ap (λ (x : ℕ). cell (length d.columns) (d.coefficients ++ es) x (place_in d.columns j)) (place-push_old d.rows row r h.put_in.first_distinct no_row m)
-        ∙ cell-old (length d.columns) d.coefficients es (length d.rows) (place_in d.rows r) (place_in d.columns j) h.coefficient_count p.0 q.0))
+      let q = place_in-within d.columns j (among-from d.columns j (Contains-from_filter (is_among d.columns) d.names j k).1) in
+      ap (λ t. t *ℚ v j) (ap (λ (x : ℕ). cell (length d.columns) (d.coefficients ++ es) x (place_in d.columns j)) (place-push_old d.rows row r h.put_in.first_distinct no_row m)
+      ∙ cell-old (length d.columns) d.coefficients es (length d.rows) (place_in d.rows r) (place_in d.columns j) h.coefficient_count p.0 q.0))
 
   old_entry : (b w : ℕ) → Contains d.basics b → Contains d.others w → later.entry b w ≡ c.entry b w
   unfolding later c choice_of entry_of
@@ -138,8 +150,8 @@ module _ (d : Dictionary) (h : IsDictionary d) (live : d.spent ≡ false) (row i
         ∙ sum_by_others s (Distinct-increasing d.names h.ascending) c v m row_number s.columns (λ j k. (Contains-from_filter (is_among d.columns) d.names j k).0)
         ∙ sum_by-members (λ w. sum_by (λ j. row_number j *ℚ column_entry c j w) s.columns *ℚ v w) (λ w. later.entry row w *ℚ v w) (others s c)
         (λ w k.
-          let p = place_in-within d.others w (in_others d h w k) in
-          ap (λ t. t *ℚ v w) (ap (λ (x : ℕ). sum_by (λ j. row_number j *ℚ column_entry c j x) s.columns) (sym p.1) ∙ sym (new_entry w ∙ sums (place_in d.others w) p.0)))
+        let p = place_in-within d.others w (in_others d h w k) in
+        ap (λ t. t *ℚ v w) (ap (λ (x : ℕ). sum_by (λ j. row_number j *ℚ column_entry c j x) s.columns) (sym p.1) ∙ sym (new_entry w ∙ sums (place_in d.others w) p.0)))
         ∙ ap (sum_by (λ w. later.entry row w *ℚ v w)) (sym same_others)
 
     rows_before : (v : ℕ → Fraction) → MeetsRows after v → MeetsRows s v
@@ -208,3 +220,12 @@ module _ (d : Dictionary) (h : IsDictionary d) (live : d.spent ≡ false) (row i
       split = split_first d.names d.basics d.others i row hi absent h.split;
       solutions = λ _. grown_choice;
     }
+
+    -- the new row's entries are the named sums
+    pub grown_entries : (k : ℕ) → k < length d.others → cell (length d.others) (d.table ++ fresh) (length d.basics) k ≡ total (row_entry_terms (system_of grown) (choice_of d) row (slice_index d.others k))
+    unfolding row_entry_terms s c after row_number
+    grown_entries k hk =
+        let w : ℕ = slice_index d.others k in
+        cell-new (length d.others) d.table fresh (length d.basics) k h.table_count ∙ sums k hk
+        ∙ sym (new_sum (λ j. column_entry (choice_of d) j w))
+        ∙ sym (total-Product ((system_of grown).coefficient row) (λ j. column_entry (choice_of d) j w) (system_of grown).columns)

@@ -1,12 +1,13 @@
 -- A dictionary as callers see it: the rows as put in, and beside them the table that gives the basic variables by the
 -- others. Source: Chvátal, Linear Programming.
-use Rattle.std.specs.Prelude.{◌≡◌, ℕ, ◌*◌, Bool, false, List, [], ◌∷◌, length, map, filter, slice_index, slice_index_or, slice_set, refl}
+use Rattle.std.specs.Prelude.{◌≡◌, ℕ, ◌*◌, Bool, false, List, [], ◌∷◌, ◌++◌, ◌<◌, length, map, take, filter, slice_index, slice_index_or, slice_set, refl}
 use Rattle.std.specs.Coded.{Coded, code_by, coded×, coded_ℕ, coded_bool, coded_list}
 use Rattle.std.specs.List.{Contains}
 use Rattle.std.specs.List.Sorted.{IsStrictlyIncreasing}
 use Rattle.fraction_theory.specs.Code.{fraction_code}
 use Rattle.fraction_theory.specs.Fraction.{Fraction}
-use Rattle.linear_system.specs.Choices.{Choice, IsChoice}
+use Rattle.linear_system.specs.Choices.{Choice, IsChoice, row_entry_terms}
+use Rattle.fraction_theory.specs.Sums.{total}
 use Rattle.linear_system.specs.Systems.{System}
 use Rattle.linear_dict.specs.Notes.{Noted, noted, noted_code, blank}
 use Rattle.linear_dict.specs.Places.{place_in, is_among, IsSplit}
@@ -121,3 +122,19 @@ pub record IsStart {N : Type 0} (value : N → Fraction) (names : List ℕ) (row
   pub table : d.table ≡ map value entries
   pub blank_notes : (w : ℕ) → Contains d.names w → note_of d w ≡ blank
   pub sound : IsDictionary d
+
+-- The dictionary with one more row, which is basic at a new last place, where nothing is noted of it. Its entries are
+-- named sums over the columns; all else stays.
+pub record AddsRow {N : Type 0} (value : N → Fraction) (old : Dictionary) (row : ℕ) (entries : List N) (new : Dictionary) : Type 0 where
+  pub live : new.spent ≡ false
+  pub columns : new.columns ≡ old.columns
+  pub rows : new.rows ≡ old.rows ++ row ∷ []
+  pub coefficients : new.coefficients ≡ old.coefficients ++ map value entries
+  pub others : new.others ≡ old.others
+  pub basics : new.basics ≡ old.basics ++ row ∷ []
+  pub table : take (length old.table) new.table ≡ old.table
+  pub row_entries : (c : ℕ) → c < length old.others
+      → cell (length old.others) new.table (length old.basics) c ≡ total (row_entry_terms (system_of new) (choice_of old) row (slice_index old.others c))
+  pub notes : (w : ℕ) → Contains old.names w → note_of new w ≡ note_of old w
+  pub blank_note : note_of new row ≡ blank
+  pub sound : IsDictionary new

@@ -3,13 +3,14 @@ ghost use Rattle.std.specs.List.{AllPairs, Contains};
 ghost use Rattle.linear_dict.specs.Indexes.{IsStartedIndex};
 ghost use Rattle.linear_system.specs.Choices.{IsChoice};
 ghost use Rattle.fraction_theory.specs.Fraction.{whole};
-ghost use Rattle.linear_dict.specs.Dictionaries.{IsDictionary, IsStart, choice_of, note_of, pivoted, system_of, with_note};
+ghost use Rattle.linear_dict.specs.Dictionaries.{AddsRow, IsDictionary, IsStart, choice_of, note_of, pivoted, system_of, with_note};
 ghost use Rattle.linear_dict.specs.Notes.{noted};
 ghost use Rattle.linear_dict.specs.Places.{StandsAt};
 ghost use Rattle.linear_dict.specs.Tables.{cell};
 
+use crate::adding::{AddStop, append, make_room, row_entries};
 use crate::index::{Variable, add_variable, rank};
-use crate::note::Note;
+use crate::note::{Note, blank_note};
 use crate::place::Place;
 use crate::table::pivot_table;
 use exact_fraction::{Exact, Passed};
@@ -62,15 +63,7 @@ fn started<N: Exact>(alloc: Global, columns: &[u32], row: u32) -> Result<Vec<Var
     requires absent { ¬ (Contains columns.now row) }
     ensures { IfOk result (λ variables. IsStartedIndex N.value variables.items row columns.now) }
 {
-    let zero = N::of_parts(0, 1);
-    let note = Note {
-        price: zero,
-        low: zero,
-        high: zero,
-        value: zero,
-        reduced: zero,
-        at_high: false,
-    };
+    let note = blank_note();
     let mut variables = Vec::new(alloc);
     let place = Place::Row(0);
     add_variable(
@@ -232,6 +225,43 @@ impl<N: Exact> Dict<N> {
     {
         let place = rank(&self.variables, name);
         self.variables[place].note = note;
+    }
+
+    /// Adds a row, `entries` times the columns as put in, which is basic at a new last row place. All is as before after
+    /// a refusal, and where there is no memory.
+    pub fn add_row(&mut self, row: u32, entries: &[N]) -> Result<(), AddStop<N>>
+        requires live { self.old.spent ≡ false }
+        requires absent { ¬ (Contains self.old.names row) }
+        requires entries { length entries.now ≡ length self.old.columns }
+        ensures added { MatchResult result (λ _. AddsRow N.value self.old row entries.now self.new) (λ _. self.new ≡ self.old) }
+    {
+        let alloc = *self.table.allocator();
+        let fresh = row_entries(
+            alloc,
+            &self.variables,
+            &self.table,
+            self.others.len(),
+            entries,
+        )?;
+        make_room(
+            &mut self.rows,
+            &mut self.basics,
+            &mut self.coefficients,
+            &mut self.table,
+            entries.len(),
+        )?;
+        let variable = Variable {
+            name: row,
+            place: Place::Row(self.basics.len()),
+            put: Place::Row(self.rows.len()),
+            note: blank_note(),
+        };
+        add_variable(&mut self.variables, variable)?;
+        self.rows.push_reserved(row);
+        self.basics.push_reserved(row);
+        append(&mut self.coefficients, entries);
+        append(&mut self.table, &fresh);
+        Ok(())
     }
 
     /// Exchanges the variables of a row place and a column place, in place and without memory. After a refusal the

@@ -9,4 +9,4 @@ abbrev pub invariant-loop-c : goal.invariant-loop-c
 invariant-loop-c g l =
     (length l.sums.items ≡ l.columns)
     × ((f : ℕ → Fraction) → AreSums g.N.Exact.value l.fn.sums.items l.columns f
-      → AreSums g.N.Exact.value l.sums.items l.columns (added_to f (λ c. g.N.Exact.value l.factor *ℚ cell l.columns (map g.N.Exact.value l.table) l.row c) l.c))
+    → AreSums g.N.Exact.value l.sums.items l.columns (added_to f (λ c. g.N.Exact.value l.factor *ℚ cell l.columns (map g.N.Exact.value l.table) l.row c) l.c))

@@ -12,8 +12,8 @@ pub returns-in-Row-place-clause-added : goal.returns-in-Row-place-clause-added
 returns-in-Row-place-clause-added g c =
     let hj : c.in-Column.j < length c.args.entries.now = subst (IsPutAmong (length c.args.entries.now)) c.in-Column.is c.requires.within.put in
     IfOk-weaker c.add_multiple.result _ _ (λ x h f s.
-      multiple_added g.N.Exact.value c.args.columns c.args.table.now c.args.entries.now c.args.variable c.add_multiple.new.sums.items f c.in-Column.j c.in-Row-place.r c.index-entries-j.result
-      c.in-Column.is c.in-Row-place.is hj c.index-entries-j.is (h f s)) c.add_multiple.ensures.added
+    multiple_added g.N.Exact.value c.args.columns c.args.table.now c.args.entries.now c.args.variable c.add_multiple.new.sums.items f c.in-Column.j c.in-Row-place.r c.index-entries-j.result
+    c.in-Column.is c.in-Row-place.is hj c.index-entries-j.is (h f s)) c.add_multiple.ensures.added
 
 pub returns-in_ok-sum-in-Column-place-clause-added : goal.returns-in_ok-sum-in-Column-place-clause-added
 returns-in_ok-sum-in-Column-place-clause-added g c = λ f s.

@@ -12,7 +12,7 @@ add_term-requires-clause-within g c =
 
 pub loop-k-preserved : goal.loop-k-preserved
 loop-k-preserved g c =
-    sums_same g.N.Exact.value c.add_term.new.sums.items c.args.columns _ _ (c.in-Ok-add_term.ensures.added _ c.loop-k.invariant)
+    sums_same g.N.Exact.value c.add_term.new.sums.items c.args.columns _ _ (c.in_ok-add_term.ensures.added _ c.loop-k.invariant)
     (λ k h. sums_more g.N.Exact.value c.args.columns c.args.table.now c.args.entries.now c.args.variables.now c.loop-k.k k c.index-variables-k.result c.loop-k-test.true c.index-variables-k.is)
 
 pub returns : goal.returns

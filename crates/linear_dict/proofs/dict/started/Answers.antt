@@ -1,18 +1,17 @@
-use Rattle.std.proofs.Common.{◌≡◌, ◌∙◌, ℕ, List, arith, ap, false, sym, subst, length, take, refl}
+use Rattle.std.proofs.Common.{◌≡◌, ◌∙◌, ℕ, List, arith, ap, sym, subst, length, take, refl}
 use Rattle.std.proofs.lemmas.List.{length-take, take_more}
 use Rattle.linear_dict.specs.declared.index.Variable.{Variable}
 use Rattle.linear_dict.specs.declared.place.Place.TheVariants.{Column, Row}
 use Rattle.linear_dict.specs.Indexes.{IsStartedIndex, AddsVariable}
-use Rattle.linear_dict.proofs.StartLemmas.{blank_note, started_absent, started_one, started_more}
+use Rattle.linear_dict.proofs.StartLemmas.{started_absent, started_one, started_more}
 use Rattle.linear_dict.proofs.dict.started.Goals as goal
 
 pub loop-c-init : goal.loop-c-init
 loop-c-init g c =
-    let nil = c.of_parts-zero.result in
-    let v : Variable g.row.N.Denot = record { name = c.args.row; place = Row 0; put = Row 0; note = record { price = nil; low = nil; high = nil; value = nil; reduced = nil; at_high = false } } in
+    let v : Variable g.row.N.Denot = record { name = c.args.row; place = Row 0; put = Row 0; note = c.blank_note-note.result } in
     started_one g.N.Exact.value c.add_variable.new.variables.items v
     (subst (λ (vs : List (Variable g.row.N.Denot)). AddsVariable vs v c.add_variable.new.variables.items) c.new-variables.ensures.items c.in_ok-add_variable.ensures.added)
-    refl refl (blank_note g.N.Exact.value nil c.of_parts-zero.ensures)
+    refl refl c.blank_note-note.ensures
 
 pub add_variable-requires-in-loop-c-clause-absent : goal.add_variable-requires-in-loop-c-clause-absent
 add_variable-requires-in-loop-c-clause-absent g c =
@@ -25,4 +24,4 @@ loop-c-preserved g c =
     subst (IsStartedIndex g.N.Exact.value c.add_variable-in-loop-c.new.variables.items c.args.row) (sym (take_more columns c.loop-c.c 0 c.loop-c-test.true))
     (started_more g.N.Exact.value c.loop-c.variables.items c.add_variable-in-loop-c.new.variables.items _ c.args.row (take c.loop-c.c columns) c.loop-c.invariant c.in_ok-add_variable-2.ensures.added
     (started_absent g.N.Exact.value c.loop-c.variables.items c.args.row c.loop-c.c _ columns c.requires.distinct c.requires.absent c.loop-c-test.true refl c.loop-c.invariant)
-    (ap Column (sym done)) (ap Column (sym done)) (blank_note g.N.Exact.value c.of_parts-zero.result c.of_parts-zero.ensures))
+    (ap Column (sym done)) (ap Column (sym done)) c.blank_note-note.ensures)
