@@ -1,18 +1,29 @@
 //! Worked dictionaries at both types, and each call once on its happy path.
+ghost use Rattle.std.specs.Prelude.{◌≡◌, length};
+ghost use Rattle.std.specs.Option.{IfSome};
+
 use crate::{Dict, Note, Place};
 use exact_fraction::{Exact, Frac, Frac63, Sign};
 use std::alloc::Global;
 use std::cmp::Ordering;
 use std::process::Abort;
 
+/// Two entries.
+fn pair<N: Exact>(alloc: Global, entries: (N, N)) -> Option<Vec<N>>
+    ensures { IfSome result (λ list. length list.items ≡ 2) }
+{
+    let mut list = Vec::new(alloc);
+    list.push(entries.0).ok()?;
+    list.push(entries.1).ok()?;
+    Some(list)
+}
+
 /// A dictionary of two columns, where the three names differ.
 fn two<N: Exact>(alloc: Global, names: [u32; 2], row: u32, first: N, second: N) -> Option<Dict<N>> {
     if names[0] == names[1] || names[0] == row || names[1] == row {
         return None;
     }
-    let mut entries = Vec::new(alloc);
-    entries.push(first).ok()?;
-    entries.push(second).ok()?;
+    let entries = pair(alloc, (first, second))?;
     Dict::start(alloc, &names, row, &entries).ok()
 }
 
@@ -88,6 +99,79 @@ fn wide<N: Exact>(rt: &impl Abort, alloc: Global) -> bool {
     dict.spent()
 }
 
+/// y = first x + second z, solved for x, and then a row more, third x + fourth z. Whether it was added.
+fn then_added<N: Exact>(
+    alloc: Global,
+    names: [u32; 2],
+    rows: [u32; 2],
+    first: (N, N),
+    second: (N, N),
+) -> Option<(Dict<N>, bool)> {
+    if names[0] == names[1] || names[0] == rows[0] || names[1] == rows[0] {
+        return None;
+    }
+    if rows[1] == rows[0] || rows[1] == names[0] || rows[1] == names[1] {
+        return None;
+    }
+    let entries = pair(alloc, first)?;
+    let more = pair(alloc, second)?;
+    let mut dict = match Dict::start(alloc, &names, rows[0], &entries) {
+        Ok(dict) => dict,
+        Err(_) => return None,
+    };
+    match dict.entry(0, 0).sign() {
+        Sign::Zero => return None,
+        _ => {}
+    }
+    match dict.pivot(0, 0) {
+        Ok(()) => {}
+        Err(_) => return None,
+    }
+    let added = dict.add_row(rows[1], &more).is_ok();
+    Some((dict, added))
+}
+
+/// x = y/2 + 3z/2, and with it 4x + 5z = 2y + 11z; the first row again is y.
+fn more_rows<N: Exact>(rt: &impl Abort, alloc: Global) {
+    let first = (N::of_parts(2, 1), N::of_parts(-3, 1));
+    let (dict, added) = then_added(
+        alloc,
+        [7, 3],
+        [5, 6],
+        first,
+        (N::of_parts(4, 1), N::of_parts(5, 1)),
+    )
+    .expect(rt, "memory");
+    assert!(rt; added && are_names(&dict, 1, 6, 1, 3));
+    assert!(rt;
+        is_entry(&dict, 1, 0, N::of_parts(2, 1)) && is_entry(&dict, 1, 1, N::of_parts(11, 1))
+    );
+    assert!(rt;
+        is_entry(&dict, 0, 0, N::of_parts(1, 2)) && is_entry(&dict, 0, 1, N::of_parts(3, 2))
+    );
+    let (dict, added) = then_added(alloc, [7, 3], [5, 4], first, first).expect(rt, "memory");
+    assert!(rt;
+        added
+            && is_entry(&dict, 1, 0, N::of_parts(1, 1))
+            && is_entry(&dict, 1, 1, N::of_parts(0, 1))
+    );
+}
+
+/// x = 4y, and so 2^62 x has the entry 2^64. Whether the row was added, which leaves the dictionary as it was otherwise.
+fn wide_row<N: Exact>(rt: &impl Abort, alloc: Global) -> bool {
+    let zero = N::of_parts(0, 1);
+    let (dict, added) = then_added(
+        alloc,
+        [7, 3],
+        [5, 6],
+        (N::of_parts(1, 4), zero),
+        (N::of_parts(1 << 62, 1), zero),
+    )
+    .expect(rt, "memory");
+    assert!(rt; !is_entry(&dict, 1, 0, zero) && are_names(&dict, 0, 7, 0, 5));
+    added
+}
+
 /// The place of the least name.
 fn least_place<N: Exact>(dict: &Dict<N>) -> Option<Place> {
     if dict.spent() {
@@ -146,6 +230,18 @@ fn a_column_of_zeros(rt: HostRuntime) {
 fn a_refused_pivot_leaves_it_spent(rt: HostRuntime) {
     assert!(rt; !wide::<Frac>(&rt, rt.alloc()));
     assert!(rt; wide::<Frac63>(&rt, rt.alloc()));
+}
+
+#[test]
+fn adds_rows(rt: HostRuntime) {
+    more_rows::<Frac>(&rt, rt.alloc());
+    more_rows::<Frac63>(&rt, rt.alloc());
+}
+
+#[test]
+fn a_refused_row_is_not_added(rt: HostRuntime) {
+    assert!(rt; wide_row::<Frac>(&rt, rt.alloc()));
+    assert!(rt; !wide_row::<Frac63>(&rt, rt.alloc()));
 }
 
 #[test]
