@@ -171,6 +171,17 @@ module _ (d : Dictionary) (h : IsDictionary d) (r c : ℕ) (hr : r < length d.ba
       ] in
       same_entry x w bx bw
 
+  -- The pivoted dictionary's choice has the basic variables and the entries of the exchange.
+  pub pivoted_basic : (w : ℕ) → Contains d.names w → (exchanged (choice_of d) (slice_index d.basics r) (slice_index d.others c)).basic w ≡ (choice_of (pivoted d r c)).basic w
+  unfolding old new a b
+  pivoted_basic w k = same_basic w k
+
+  pub pivoted_entry : (x w : ℕ) → Contains (basics (system_of d) (exchanged (choice_of d) (slice_index d.basics r) (slice_index d.others c))) x
+      → Contains (others (system_of d) (exchanged (choice_of d) (slice_index d.basics r) (slice_index d.others c))) w
+      → (exchanged (choice_of d) (slice_index d.basics r) (slice_index d.others c)).entry x w ≡ (choice_of (pivoted d r c)).entry x w
+  unfolding old new a b
+  pivoted_entry x w cx cw = entries x w cx cw
+
   -- the pivoted dictionary is one
   pub pivoted_dictionary : d.spent ≡ false → cell (length d.others) d.table r c ≢ whole (pos 0) → IsDictionary (pivoted d r c)
   unfolding f a b old new pivoted new_basics new_others system_of

@@ -1,2 +1,3 @@
 pub mod ChoiceLaws
 pub mod ExchangeLaws
+pub mod Rows
