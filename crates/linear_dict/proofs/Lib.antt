@@ -1,5 +1,6 @@
 pub mod AddRowLemmas
 pub mod AddingLemmas
+pub mod CauseLemmas
 pub mod ExchangeLemmas
 pub mod GrowLemmas
 pub mod IndexLemmas

@@ -107,7 +107,7 @@ unfoldable pub pivoting : (ℕ → ℕ → Fraction) → ℕ → ℕ → ℕ →
 pivoting f r c upto i j = if i == r then pivoted_row f r c j else if nat_lt i upto then pivoted_cell f r c i j else f i j
 
 module _ (f : ℕ → ℕ → Fraction) (r c : ℕ) where
-  pivoting-solved : (upto i j : ℕ) → i ≡ r → pivoting f r c upto i j ≡ pivoted_row f r c j
+  pub pivoting-solved : (upto i j : ℕ) → i ≡ r → pivoting f r c upto i j ≡ pivoted_row f r c j
   unfolding pivoting
   pivoting-solved upto i j e = put_at-here r (pivoted_row f r c j) (λ k. if nat_lt k upto then pivoted_cell f r c k j else f k j) i e
 
@@ -115,7 +115,7 @@ module _ (f : ℕ → ℕ → Fraction) (r c : ℕ) where
   unfolding pivoting
   pivoting-other upto i j n = put_at-elsewhere r (pivoted_row f r c j) (λ k. if nat_lt k upto then pivoted_cell f r c k j else f k j) i n
 
-  pivoting-yet : (upto i j : ℕ) → i ≢ r → upto ≤ i → pivoting f r c upto i j ≡ f i j
+  pub pivoting-yet : (upto i j : ℕ) → i ≢ r → upto ≤ i → pivoting f r c upto i j ≡ f i j
   pivoting-yet upto i j n h = pivoting-other upto i j n ∙ ap (λ (b : Bool). if b then pivoted_cell f r c i j else f i j) (below-no i upto h)
 
   pivoting-done : (upto i j : ℕ) → i ≢ r → i < upto → pivoting f r c upto i j ≡ pivoted_cell f r c i j

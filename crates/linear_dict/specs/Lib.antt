@@ -1,4 +1,5 @@
 pub mod Adding
+pub mod Causes
 pub mod Dictionaries
 pub mod Indexes
 pub mod Notes

@@ -1,8 +1,9 @@
-ghost use Rattle.std.specs.Prelude.{◌≡◌, ◌≢◌, ◌<◌, pos, true, IfOk, MatchResult, ◌∷◌, [], ℕ, List, length, map, false, slice_index};
+ghost use Rattle.std.specs.Prelude.{◌≡◌, ◌≢◌, ◌<◌, pos, true, IfErr, IfOk, MatchResult, ◌∷◌, [], ℕ, List, length, map, false, slice_index};
 ghost use Rattle.std.specs.List.{AllPairs, Contains};
 ghost use Rattle.linear_dict.specs.Indexes.{IsStartedIndex};
 ghost use Rattle.linear_system.specs.Choices.{IsChoice};
 ghost use Rattle.fraction_theory.specs.Fraction.{whole};
+ghost use Rattle.linear_dict.specs.Causes.{IsRefused, PivotOperation};
 ghost use Rattle.linear_dict.specs.Dictionaries.{AddsRow, IsDictionary, IsStart, choice_of, note_of, pivoted, system_of, with_note};
 ghost use Rattle.linear_dict.specs.Notes.{noted};
 ghost use Rattle.linear_dict.specs.Places.{StandsAt};
@@ -272,6 +273,7 @@ impl<N: Exact> Dict<N> {
         requires column { c < length self.old.others }
         requires entry { cell (length self.old.others) self.old.table r c ≢ whole (pos 0) }
         ensures pivoted { MatchResult result (λ _. self.new ≡ pivoted self.old r c) (λ _. self.new.spent ≡ true) }
+        ensures cause { IfErr result (IsRefused N.value N.bound (PivotOperation (length self.old.basics) (length self.old.others) (cell (length self.old.others) self.old.table) r c)) }
         ensures sound { IsDictionary self.new }
     {
         self.spent = true;

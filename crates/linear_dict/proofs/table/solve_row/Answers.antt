@@ -1,6 +1,11 @@
-use Rattle.std.proofs.Common.{ℕ, ◌+◌, ◌∙◌, arith, ap, sym, subst, List, Vec, Global, inl, inr}
+use Rattle.std.proofs.Common.{ℕ, ◌+◌, ◌∙◌, arith, ap, sym, subst, List, Vec, Global, inl, inr, map}
 use mathlib.Core.Path.{ap₂}
 use Rattle.fraction_theory.specs.Fraction.{Fraction, ◌*ℚ◌, neg_ℚ, recip_ℚ}
+use Rattle.std.proofs.lemmas.Result.{err_from_is_err_and}
+use Rattle.exact_fraction.specs.declared.Op.TheVariants.{Times}
+use Rattle.linear_dict.specs.Causes.{SolveOperation, divide}
+use Rattle.linear_dict.specs.Tables.{cell}
+use Rattle.linear_dict.proofs.CauseLemmas.{refused}
 use Rattle.linear_dict.specs.Tables.{solved_cell}
 use Rattle.linear_dict.proofs.TableLemmas.{cell_read_within}
 use Rattle.linear_dict.proofs.PivotLemmas.{is_stage_start, is_stage_skip, is_stage_step, is_stage_end, read_stage, solved_number, IsStage}
@@ -44,3 +49,20 @@ returns-clause-solved g c = λ rows e.
     (solved_number g.N.Exact.value c.args.columns c.args.table.now.items c.args.row c.args.column) c.args.row c.args.column c.loop-j.j c.recip-inverse.result _
     c.requires.within c.requires.room c.loop-j-test.false c.loop-j.invariant rows e
     (c.recip-inverse.ensures ∙ ap recip_ℚ (cell_read_within g.N.Exact.value c.args.table.now.items c.args.columns c.args.row c.args.column c.index.result.now (Prim.omega (arith, c.requires.room, c.requires.within)) c.index.ensures))
+
+pub returns-in_err-entry-clause-cause : goal.returns-in_err-entry-clause-cause
+returns-in_err-entry-clause-cause g c =
+    let value : g.row.N.Denot → Fraction = g.N.Exact.value in
+    let old : List g.row.N.Denot = c.args.table.now.items in
+    let columns : ℕ = c.args.columns in
+    let row : ℕ = c.args.row in
+    let column : ℕ = c.args.column in
+    let j : ℕ = c.loop-j.j in
+    let f : ℕ → ℕ → Fraction = cell columns (map value old) in
+    let p = err_from_is_err_and c.from_residual.result c.from_residual.ensures.1 in
+    rw (p.1, p.2) (λ rows e.
+    refused value g.N.Exact.bound (SolveOperation columns f row column) Times c.neg.result c.recip-inverse.result c.in_err-entry.field-0.0 (neg_ℚ (f row j)) (recip_ℚ (f row column)) c.in_err-entry.ensures
+    (c.neg.ensures ∙ ap neg_ℚ (read_stage value columns old c.loop-j.table.items (solved_number value columns old row column) row column j row j c.index-then-j-column.result.now
+    c.requires.within c.requires.room c.loop-j-test.true (inr (inl (Prim.omega arith))) c.loop-j.invariant c.index-then-j-column.ensures rows e))
+    (c.recip-inverse.ensures ∙ ap recip_ℚ (cell_read_within value old columns row column c.index.result.now (Prim.omega (arith, c.requires.room, c.requires.within)) c.index.ensures))
+    (divide j c.loop-j-test.true c.if-j-column.true))
