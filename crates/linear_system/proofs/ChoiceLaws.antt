@@ -2,7 +2,7 @@
 -- over the others.
 use Rattle.std.specs.Prelude.{◌≡◌, ◌≢◌, ℕ, ◌==◌, pos, Bool, true, false, not, if◌then◌else◌, List, [], ◌∷◌, refl}
 use Rattle.std.specs.List.{Contains}
-use Rattle.std.proofs.Common.{ap, sym, ◌∙◌}
+use Rattle.std.proofs.Common.{ap, sym, ◌∙◌, subst}
 use Rattle.fraction_theory.specs.Fraction.{Fraction, whole, ◌*ℚ◌}
 use Rattle.fraction_theory.specs.Sums.{sum_by, total}
 use Rattle.fraction_theory.proofs.Ring.{by_ring, at, pnil, pone, pmul}
@@ -75,6 +75,30 @@ module _ (s : System) (distinct : Distinct s.variables) where
   pub same_others : (f g : Choice) → ((x : ℕ) → Contains s.variables x → f.basic x ≡ g.basic x) → others s f ≡ others s g
   unfolding others
   same_others f g e = filter-members (λ x. not (f.basic x)) (λ x. not (g.basic x)) s.variables (λ x c. ap not (e x c))
+
+  pub same_basics : (f g : Choice) → ((x : ℕ) → Contains s.variables x → f.basic x ≡ g.basic x) → basics s f ≡ basics s g
+  unfolding basics
+  same_basics f g e = filter-members f.basic g.basic s.variables e
+
+  same_table : (h k : Choice) → ((w : ℕ) → Contains s.variables w → h.basic w ≡ k.basic w) → ((b w : ℕ) → Contains (basics s h) b → Contains (others s h) w → h.entry b w ≡ k.entry b w)
+      → (v : ℕ → Fraction) (b : ℕ) → Contains (basics s h) b → sum_by (λ w. h.entry b w *ℚ v w) (others s h) ≡ sum_by (λ w. k.entry b w *ℚ v w) (others s k)
+  same_table h k same entries v b c =
+      sum_by-members (λ w. h.entry b w *ℚ v w) (λ w. k.entry b w *ℚ v w) (others s h) (λ w m. ap (λ t. t *ℚ v w) (entries b w c m))
+      ∙ ap (sum_by (λ w. k.entry b w *ℚ v w)) (same_others h k same)
+
+  -- the same split with the same entries is a choice too
+  pub same_choice : (h k : Choice) → ((w : ℕ) → Contains s.variables w → h.basic w ≡ k.basic w) → ((b w : ℕ) → Contains (basics s h) b → Contains (others s h) w → h.entry b w ≡ k.entry b w)
+      → IsChoice s h → IsChoice s k
+  same_choice h k same entries choice = record {
+    to_table = λ v m. record {
+      basic = λ b c.
+          let old : Contains (basics s h) b = subst (λ bs. Contains bs b) (sym (same_basics h k same)) c in
+          (choice.to_table v m).basic b old ∙ same_table h k same entries v b old;
+    };
+    to_rows = λ v m. choice.to_rows v (record {
+      basic = λ b c. m.basic b (subst (λ bs. Contains bs b) (same_basics h k same) c) ∙ sym (same_table h k same entries v b c);
+    });
+  }
 
   -- The entries of a split are unique: two choices with the same basic variables have the same entries.
   pub entries_are_one : (h k : Choice) → IsChoice s h → IsChoice s k → ((w : ℕ) → Contains s.variables w → h.basic w ≡ k.basic w)

@@ -1,3 +1,4 @@
 pub mod ChoiceLaws
 pub mod ExchangeLaws
 pub mod PairLaws
+pub mod Rows

@@ -1,5 +1,5 @@
 -- Sums over the places of a list and over filtered lists.
-use Rattle.std.specs.Prelude.{ℤ, ◌+ℤ◌, length, slice_index_or, ◌≡◌, ◌≢◌, ℕ, ◌+◌, ◌<◌, ◌≤◌, ◌==◌, pos, Bool, true, false, cond, List, [], ◌∷◌, ◌⊎◌, filter, refl}
+use Rattle.std.specs.Prelude.{ℤ, ◌+ℤ◌, length, slice_index_or, ◌≡◌, ◌≢◌, ℕ, ◌+◌, ◌<◌, ◌≤◌, ◌==◌, pos, Bool, true, false, List, [], ◌∷◌, ◌⊎◌, filter, refl}
 use Rattle.std.specs.List.{range_with_len, AllByRecursion}
 use Rattle.std.proofs.Common.{add-one, zero, suc, arith, ap, sym, ◌∙◌, inl, inr}
 use Rattle.std.proofs.lemmas.Bool.Decides.{eqb_tells}
@@ -9,11 +9,8 @@ use Rattle.fraction_theory.specs.Sums.{sum_by}
 use Rattle.fraction_theory.proofs.Ring.{nil_plus}
 use Rattle.fraction_theory.proofs.FieldLaws.{ring_ℚ, whole-+ℚ}
 use Rattle.fraction_theory.proofs.SumLaws.{sum_by-exchange, sum_by-same, sum_by-times}
+use Rattle.fraction_theory.proofs.ListSums.{kept, sum_by-filter}
 use Rattle.market_model.specs.Dispatch.{places}
-
--- x where the test holds, else 0
-abbrev pub kept : Bool → Fraction → Fraction
-kept b x = cond b x (whole (pos 0))
 
 -- what holds of each place holds along the list of places
 range_all : (P : ℕ → Type 0) (s n : ℕ) → ((j : ℕ) → s ≤ j → j < s + n → P j) → AllByRecursion P (range_with_len s n)
@@ -27,16 +24,6 @@ places_all P n h = range_all P 0 n (λ j p q. h j (Prim.omega arith))
 pub sum_by-same_along : {T : Type 0} (f g : T → Fraction) (xs : List T) → AllByRecursion (λ x. f x ≡ g x) xs → sum_by f xs ≡ sum_by g xs
 sum_by-same_along f g [] h = refl
 sum_by-same_along f g (x ∷ xs) h = ap₂ ◌+ℚ◌ h.0 (sum_by-same_along f g xs h.1)
-
--- the sum over what a test keeps is that of all, with 0 for the rest
-pub sum_by-filter : {T : Type 0} (f : T → Fraction) (test : T → Bool) (xs : List T) → sum_by f (filter test xs) ≡ sum_by (λ x. kept (test x) (f x)) xs
-sum_by-filter f test [] = refl
-sum_by-filter {T} f test (x ∷ xs) = by_test (test x) (sum_by-filter f test xs)
-  where
-    by_test : (b : Bool) → sum_by f (filter test xs) ≡ sum_by (λ y. kept (test y) (f y)) xs
-        → sum_by f (cond b (x ∷ filter test xs) (filter test xs)) ≡ kept b (f x) +ℚ sum_by (λ y. kept (test y) (f y)) xs
-    by_test true e = ap (λ t. f x +ℚ t) e
-    by_test false e = e ∙ sym (nil_plus ring_ℚ (sum_by (λ y. kept (test y) (f y)) xs))
 
 -- of a list of numbers that has a not, nothing is kept
 no_place : (f : ℕ → Fraction) (a s n : ℕ) → a < s → sum_by (λ i. kept (a == i) (f i)) (range_with_len s n) ≡ whole (pos 0)

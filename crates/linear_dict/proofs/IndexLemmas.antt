@@ -1,0 +1,161 @@
+-- The index of variables: what a binary search finds in it, and one more variable.
+use Rattle.std.specs.Prelude.{◌≡◌, ◌≢◌, ℕ, ◌+◌, ◌<◌, ◌≤◌, Bool, List, [], ◌∷◌, ◌++◌, length, map, take, drop, insert, slice_index, slice_get, slice_set, Some, Result, Ok, Err, MatchResult, refl}
+use Rattle.std.specs.List.{Contains}
+use Rattle.std.specs.List.Sorted.{IsStrictlyIncreasing, IsBinarySearchResult}
+use Rattle.std.specs.Ordering.{nat_cmp, ordering_index}
+use Rattle.std.proofs.Common.{zero, suc, arith, ap, sym, ◌∙◌, subst, get_or, inl, inr}
+use Rattle.std.proofs.lemmas.List.{get_or-map, length-map, map-set, get_or-set_same, map-append, take-map, drop-map}
+use Rattle.std.proofs.lemmas.Bool.{cases_order}
+use Rattle.std.proofs.lemmas.List.Edits.{get_or-insert_at, get_or-insert_above, get_or-insert_below, length-insert}
+use Rattle.std.proofs.lemmas.Option.{slice_get-get_or, get_or_from_slice_get}
+use Rattle.std.proofs.lemmas.Grind.{get_or_default_zero}
+use Rattle.std.proofs.Math.Seq.{map-set_same}
+use Rattle.fraction_theory.proofs.ListSums.{same_or_not}
+use mathlib.Core.Path.{ap₂}
+use Rattle.fraction_theory.specs.Fraction.{Fraction}
+use Rattle.linear_dict.specs.declared.place.Place.{Place}
+use Rattle.linear_dict.specs.Dictionaries.{seen}
+use Rattle.linear_dict.specs.Notes.{Noted, noted, blank}
+use Rattle.linear_dict.specs.declared.index.Variable.{Variable}
+use Rattle.linear_dict.specs.Indexes.{name_of, AddsVariable, IsIndex}
+use Rattle.linear_dict.specs.Places.{place_in, StandsAt}
+use Rattle.linear_dict.proofs.NameLemmas.{found, place_in-within}
+
+pub slice_get-set_other : {X : Type 0} (xs : List X) (i j : ℕ) (x : X) → j ≢ i → slice_get (slice_set xs i x) j ≡ slice_get xs j
+slice_get-set_other [] i j x n = refl
+slice_get-set_other (y ∷ ys) zero zero x n = absurd (n refl)
+slice_get-set_other (y ∷ ys) zero (suc j) x n = refl
+slice_get-set_other (y ∷ ys) (suc i) zero x n = refl
+slice_get-set_other (y ∷ ys) (suc i) (suc j) x n = slice_get-set_other ys i j x (λ e. n (ap suc e))
+
+pub map-insert : {X Y : Type 0} (f : X → Y) (xs : List X) (i : ℕ) (x : X) → map f (insert xs i x) ≡ insert (map f xs) i (f x)
+map-insert f xs i x = map-append f (take i xs) (x ∷ drop i xs) ∙ ap₂ (λ a b. a ++ f x ∷ b) (sym (take-map f i xs)) (sym (drop-map f i xs))
+
+suc-add-one : (j : ℕ) → suc j ≡ j + 1
+suc-add-one j = Prim.omega arith
+
+-- a number between those below it and those above
+pub rises-insert : (xs : List ℕ) (i x : ℕ) → IsStrictlyIncreasing xs → i ≤ length xs → ((k : ℕ) → k < i → slice_index xs k < x) → ((k : ℕ) → i ≤ k → k < length xs → x < slice_index xs k)
+    → IsStrictlyIncreasing (insert xs i x)
+rises-insert xs i x rises within low high k h =
+    let n : k + 1 < length xs + 1 = Prim.omega (arith, h, length-insert xs i x within) in
+    elim (cases_order k i) [
+      | inl e ↦ Prim.omega (
+        arith,
+        ap (λ (t : ℕ). get_or (insert xs i x) t 0) e,
+        ap (λ (t : ℕ). get_or (insert xs i x) (t + 1) 0) e,
+        get_or-insert_at xs i x 0 within,
+        get_or-insert_above xs i x 0 i (Prim.omega arith) within,
+        high i (Prim.omega arith) (Prim.omega (arith, n, e)),
+      )
+      | inr w ↦ elim w [
+        | inl l ↦ elim (cases_order (k + 1) i) [
+          | inl e ↦ Prim.omega (arith, get_or-insert_below xs i x 0 k l within, ap (λ (t : ℕ). get_or (insert xs i x) t 0) e, get_or-insert_at xs i x 0 within, low k l)
+          | inr v ↦ elim v [
+            | inl m ↦ Prim.omega (arith, get_or-insert_below xs i x 0 k l within, get_or-insert_below xs i x 0 (k + 1) m within, rises k (Prim.omega (arith, m, within)))
+            | inr m ↦ absurd (Prim.omega (arith, l, m))
+          ]
+        ]
+        | inr l ↦ above k l n
+      ]
+    ]
+  where
+    above : (k : ℕ) → i < k → k + 1 < length xs + 1 → slice_index (insert xs i x) k < slice_index (insert xs i x) (k + 1)
+    above zero l n = absurd (Prim.omega (arith, l))
+    above (suc j) l n =
+        let low' : i ≤ j = Prim.omega (arith, l) in
+        Prim.rw (suc-add-one j) (Prim.omega (arith, get_or-insert_above xs i x 0 j low' within, get_or-insert_above xs i x 0 (j + 1) (Prim.omega (arith, low')) within, rises j (Prim.omega (arith, n))))
+
+-- an item of a list with a place
+item : {X : Type 0} (xs : List X) (i : ℕ) → i < length xs → X
+item [] i h = absurd (Prim.omega arith)
+item (x ∷ xs) i h = x
+
+module _ {N : Type 0} (vs : List (Variable N)) (x : ℕ) where
+  -- what a search by name finds among the variables it finds among the names
+  by_names : (r : Result ℕ ℕ) → MatchResult r (λ i. i < length vs) (λ i. i ≤ length vs) → IsBinarySearchResult (λ v. nat_cmp (name_of v) x) vs r → IsBinarySearchResult (λ y. nat_cmp y x) (map name_of vs) r
+  by_names (Ok i) within b = λ d.
+      let some : Variable N = item vs i within in
+      ap (λ (t : ℕ). nat_cmp t x) (get_or-map name_of vs i some d within) ∙ b some
+  by_names (Err i) within b = λ rises.
+      let split = b (λ k j d h l.
+      let hk : k < length vs = Prim.omega (arith, h, l) in
+      let rise = rises k j 0 h (Prim.omega (arith, l, length-map vs (name_of {N = N}))) in
+      subst (λ (t : ℕ). ordering_index (nat_cmp t x) ≤ ordering_index (nat_cmp (name_of (get_or vs j d)) x)) (get_or-map name_of vs k d 0 hk)
+      (subst (λ (t : ℕ). ordering_index (nat_cmp (get_or (map name_of vs) k 0) x) ≤ ordering_index (nat_cmp t x)) (get_or-map name_of vs j d 0 l) rise)) in (
+        λ k d l h.
+            let hk : k < length vs = Prim.omega (arith, h, within) in
+            ap (λ (t : ℕ). nat_cmp t x) (get_or-map name_of vs k (item vs k hk) d hk) ∙ split.0 k (item vs k hk) l h,
+        λ k d l h.
+            let hk : k < length vs = Prim.omega (arith, h, length-map vs (name_of {N = N})) in
+            ap (λ (t : ℕ). nat_cmp t x) (get_or-map name_of vs k (item vs k hk) d hk) ∙ split.1 k (item vs k hk) l hk,
+      )
+
+  pub found_name : (r : Result ℕ ℕ) → MatchResult r (λ i. i < length vs) (λ i. i ≤ length vs) → IsBinarySearchResult (λ v. nat_cmp (name_of v) x) vs r → IsStrictlyIncreasing (map name_of vs)
+      → MatchResult r (λ i. (i < length (map name_of vs)) × (slice_index (map name_of vs) i ≡ x))
+      (λ i. (i ≤ length (map name_of vs)) × ((k : ℕ) → k < i → slice_index (map name_of vs) k < x) × ((k : ℕ) → i ≤ k → k < length (map name_of vs) → x < slice_index (map name_of vs) k))
+  found_name r within b rises = found (map name_of vs) x r (by_names r within b) rises
+
+-- the variable that stands at the place of a name has that name
+pub index_read : {N : Type 0} (vs : List (Variable N)) (k w : ℕ) (v : Variable N) → k < length vs → v ≡ get_or vs k v → Contains (map name_of vs) w → k ≡ place_in (map name_of vs) w
+    → (slice_get vs k ≡ Some v) × (v.name ≡ w)
+index_read vs k w v h is named at = (
+  slice_get-get_or vs k v h ∙ ap Some (sym is),
+  ap name_of is ∙ sym (get_or-map name_of vs k v 0 h) ∙ ap (slice_index (map name_of vs)) at ∙ (place_in-within (map name_of vs) w named).1,
+)
+
+pub note_read : {N : Type 0} (value : N → Fraction) (vs : List (Variable N)) (k : ℕ) (v : Variable N) → k < length vs → v ≡ get_or vs k v
+    → noted value v.note ≡ get_or (map (λ (u : Variable N). noted value u.note) vs) k blank
+note_read {N} value vs k v h is = ap (λ (u : Variable N). noted value u.note) is ∙ sym (get_or-map (λ (u : Variable N). noted value u.note) vs k v blank h)
+
+-- a note written changes nothing of the index but that note
+pub with_note_index : {N : Type 0} (vs : List (Variable N)) (k : ℕ) (v u : Variable N) (basics others rows columns : List ℕ) → k < length vs → v ≡ get_or vs k v
+    → u.name ≡ v.name → u.place ≡ v.place → u.put ≡ v.put → IsIndex vs basics others rows columns → IsIndex (slice_set vs k u) basics others rows columns
+with_note_index {N} vs k v u basics others rows columns h is en ep eq i = record {
+  stands = λ j x e. elim (same_or_not j k) [
+    | inl d ↦ let s = at_k j x e d in
+        subst (λ (t : Variable N). StandsAt basics others t.name t.place) s
+        (subst (λ (p : Place). StandsAt basics others u.name p) (sym ep) (subst (λ (w : ℕ). StandsAt basics others w v.place) (sym en) (i.stands k v was)))
+    | inr n ↦ i.stands j x (kept j x e n)
+  ];
+  was_put = λ j x e. elim (same_or_not j k) [
+    | inl d ↦ let s = at_k j x e d in
+        subst (λ (t : Variable N). StandsAt rows columns t.name t.put) s
+        (subst (λ (p : Place). StandsAt rows columns u.name p) (sym eq) (subst (λ (w : ℕ). StandsAt rows columns w v.put) (sym en) (i.was_put k v was)))
+    | inr n ↦ i.was_put j x (kept j x e n)
+  ];
+}
+  where
+    was : slice_get vs k ≡ Some v
+    was = slice_get-get_or vs k v h ∙ ap Some (sym is)
+
+    at_k : (j : ℕ) (x : Variable N) → slice_get (slice_set vs k u) j ≡ Some x → j ≡ k → u ≡ x
+    at_k j x e d = sym (get_or-set_same vs k u v h) ∙ ap (λ (t : ℕ). get_or (slice_set vs k u) t v) (sym d) ∙ get_or_from_slice_get (slice_set vs k u) j x v e
+
+    kept : (j : ℕ) (x : Variable N) → slice_get (slice_set vs k u) j ≡ Some x → j ≢ k → slice_get vs j ≡ Some x
+    kept j x e n = sym (slice_get-set_other vs k j u n) ∙ e
+
+-- the dictionary that is seen after it
+pub seen_note : {N : Type 0} (value : N → Fraction) (columns rows : List ℕ) (coefficients : List N) (others basics : List ℕ) (table : List N) (vs : List (Variable N)) (spent : Bool) (k : ℕ) (v u : Variable N)
+    → v ≡ get_or vs k v → u.name ≡ v.name
+    → record (seen value columns rows coefficients others basics table vs spent) { notes = slice_set (map (λ (x : Variable N). noted value x.note) vs) k (noted value u.note) }
+    ≡ seen value columns rows coefficients others basics table (slice_set vs k u) spent
+seen_note {N} value columns rows coefficients others basics table vs spent k v u is en =
+    ap (λ (ns : List Noted). record (seen value columns rows coefficients others basics table vs spent) { notes = ns }) (sym (map-set (λ (x : Variable N). noted value x.note) vs k u))
+    ∙ ap (λ (ns : List ℕ). record (seen value columns rows coefficients others basics table (slice_set vs k u) spent) { names = ns })
+    (sym (map-set_same name_of vs k u v (en ∙ ap name_of is)))
+
+-- one more variable
+pub adds_here : {N : Type 0} (vs : List (Variable N)) (v : Variable N) (i : ℕ) → IsStrictlyIncreasing (map name_of vs)
+    → (i ≤ length (map name_of vs)) → ((k : ℕ) → k < i → slice_index (map name_of vs) k < v.name) → ((k : ℕ) → i ≤ k → k < length (map name_of vs) → v.name < slice_index (map name_of vs) k)
+    → AddsVariable vs v (insert vs i v)
+adds_here {N} vs v i rises within low high = record {
+  rank = i;
+  within = Prim.omega (arith, within, length-map vs (name_of {N = N}));
+  is = refl;
+  ascending = subst IsStrictlyIncreasing (sym (map-insert name_of vs i v)) (rises-insert (map name_of vs) i v.name rises within low high);
+}
+
+-- another name than those of the variables
+pub absent_not_found : {N : Type 0} (vs : List (Variable N)) (x i : ℕ) → ¬ (Contains (map name_of vs) x) → (i < length (map name_of vs)) → slice_index (map name_of vs) i ≡ x → ⊥
+absent_not_found vs x i absent h e = absent (i, h, get_or_default_zero (map name_of vs) i x h ∙ e)

@@ -1,0 +1,14 @@
+pub mod AddRowLemmas
+pub mod AddingLemmas
+pub mod CauseLemmas
+pub mod ExchangeLemmas
+pub mod GrowLemmas
+pub mod IndexLemmas
+pub mod MovedLemmas
+pub mod NameLemmas
+pub mod NoteLemmas
+pub mod PivotLemmas
+pub mod RowLemmas
+pub mod SplitLemmas
+pub mod StartLemmas
+pub mod TableLemmas

@@ -1,0 +1,231 @@
+-- A dictionary after one more row.
+use Rattle.std.specs.Prelude.{◌≡◌, ◌≢◌, ℕ, ◌+◌, ◌*◌, ◌<◌, ◌≤◌, Bool, false, not, cond, pos, List, [], ◌∷◌, ◌++◌, length, filter, insert, take, drop, slice_index}
+use Rattle.std.specs.List.{Contains}
+use Rattle.std.specs.List.Sorted.{IsStrictlyIncreasing}
+use Rattle.std.proofs.Common.{arith, ap, sym, ◌∙◌, subst, inl, inr, get_or, length-append}
+use Rattle.std.proofs.lemmas.List.{get_or_append_left, get_or-append-add, take-append-drop}
+use Rattle.std.proofs.lemmas.List.Elements.{filter-append, Contains-append_left, Contains-push, Contains-push_cases}
+use Rattle.std.proofs.lemmas.List.Edits.{length-insert}
+use Rattle.std.proofs.Math.Seq.{get_or-append_seam}
+use Rattle.fraction_theory.specs.Fraction.{Fraction, whole, ◌*ℚ◌}
+use Rattle.fraction_theory.specs.Sums.{sum_by, total}
+use Rattle.fraction_theory.proofs.SumLaws.{total-Product}
+use Rattle.fraction_theory.proofs.ListSums.{Distinct, Distinct-increasing, Contains-filter, Contains-from_filter, filter-members, sum_by-members}
+use Rattle.linear_system.specs.Choices.{Choice, row_entry_terms, IsChoice, MeetsTable, basics, others, column_entry}
+use Rattle.linear_system.specs.Systems.{System, MeetsRows, activity}
+use Rattle.linear_system.proofs.ChoiceLaws.{is_basic, basics_are, sum_by_others}
+use Rattle.linear_dict.specs.Dictionaries.{Dictionary, IsDictionary, system_of, choice_of, entry_of}
+use Rattle.linear_dict.specs.Notes.{Noted}
+use Rattle.linear_dict.specs.Places.{place_in, is_among}
+use Rattle.linear_dict.specs.Tables.{cell}
+use Rattle.linear_dict.proofs.GrowLemmas.{Contains-insert, Contains-inserted, Distinct-push, split_first}
+use Rattle.linear_dict.proofs.NameLemmas.{place_in-at, place_in-within, among-tells, among-from, among-not}
+use Rattle.linear_dict.proofs.SplitLemmas.{basic_in, in_basics, in_others}
+use Rattle.linear_dict.proofs.TableLemmas.{within}
+
+-- a filter drops a name that is put in where its test says so
+filter-insert : (test : ℕ → Bool) (xs : List ℕ) (i x : ℕ) → test x ≡ false → filter test (insert xs i x) ≡ filter test xs
+filter-insert test xs i x e =
+    filter-append test (take i xs) (x ∷ drop i xs)
+    ∙ ap (λ (b : Bool). filter test (take i xs) ++ cond b (x ∷ filter test (drop i xs)) (filter test (drop i xs))) e
+    ∙ sym (filter-append test (take i xs) (drop i xs)) ∙ ap (filter test) (take-append-drop i xs)
+
+place-push_old : (xs : List ℕ) (y w : ℕ) → Distinct xs → ¬ (Contains xs y) → Contains xs w → place_in (xs ++ y ∷ []) w ≡ place_in xs w
+place-push_old xs y w d n c =
+    let p = place_in-within xs w c in
+    place_in-at (xs ++ y ∷ []) (place_in xs w) w (Distinct-push xs y d n) (Prim.omega (arith, p.0, length-append xs (y ∷ []))) (get_or_append_left xs (y ∷ []) 0 (place_in xs w) p.0 ∙ p.1)
+
+place-push_new : (xs : List ℕ) (y : ℕ) → Distinct xs → ¬ (Contains xs y) → place_in (xs ++ y ∷ []) y ≡ length xs
+place-push_new xs y d n = place_in-at (xs ++ y ∷ []) (length xs) y (Distinct-push xs y d n) (Prim.omega (arith, length-append xs (y ∷ []))) (get_or-append_seam xs y [] 0)
+
+-- the cells of a table with one more row
+cell-old : (columns : ℕ) (xs ys : List Fraction) (rows i j : ℕ) → length xs ≡ rows * columns → i < rows → j < columns → cell columns (xs ++ ys) i j ≡ cell columns xs i j
+unfolding cell
+cell-old columns xs ys rows i j e hi hj = get_or_append_left xs ys (whole (pos 0)) (i * columns + j) (Prim.omega (arith, within rows columns i j hi hj, e))
+
+cell-new : (columns : ℕ) (xs ys : List Fraction) (rows j : ℕ) → length xs ≡ rows * columns → cell columns (xs ++ ys) rows j ≡ get_or ys j (whole (pos 0))
+unfolding cell
+cell-new columns xs ys rows j e = ap (λ (k : ℕ). get_or (xs ++ ys) (k + j) (whole (pos 0))) (sym e) ∙ get_or-append-add xs ys j (whole (pos 0))
+
+module _ (d : Dictionary) (h : IsDictionary d) (live : d.spent ≡ false) (row i : ℕ) (absent : ¬ (Contains d.names row)) (hi : i ≤ length d.names)
+    (rises : IsStrictlyIncreasing (insert d.names i row)) (es fresh : List Fraction) (ns : List Noted)
+    (entry_count : length es ≡ length d.columns) (fresh_count : length fresh ≡ length d.others) (note_count : length ns ≡ length d.names + 1) where
+  abbrev pub grown : Dictionary
+  grown = record {
+    columns = d.columns;
+    rows = d.rows ++ row ∷ [];
+    coefficients = d.coefficients ++ es;
+    others = d.others;
+    basics = d.basics ++ row ∷ [];
+    table = d.table ++ fresh;
+    names = insert d.names i row;
+    notes = ns;
+    spent = false;
+  }
+
+  s : System
+  s = system_of d
+
+  c : Choice
+  c = choice_of d
+
+  after : System
+  after = system_of grown
+
+  later : Choice
+  later = choice_of grown
+
+  no_basic : ¬ (Contains d.basics row)
+  no_basic k = absent (h.split.first_named row k)
+
+  no_row : ¬ (Contains d.rows row)
+  no_row k = absent (h.put_in.first_named row k)
+
+  not_row : (w : ℕ) → Contains d.names w → row ≢ w
+  not_row w k e = absent (subst (Contains d.names) (sym e) k)
+
+  same_columns : after.columns ≡ s.columns
+  unfolding after s system_of
+  same_columns = filter-insert (is_among d.columns) d.names i row (among-not d.columns row (λ k. absent (h.put_in.second_named row k)))
+
+  among_grown : (w : ℕ) → Contains d.names w → is_among (d.basics ++ row ∷ []) w ≡ is_among d.basics w
+  among_grown w k = elim (h.split.either w k) [
+    | inl m ↦ among-tells (d.basics ++ row ∷ []) w (Contains-append_left d.basics (row ∷ []) w m) ∙ sym (among-tells d.basics w m)
+    | inr m ↦ among-not (d.basics ++ row ∷ []) w (λ q. elim (Contains-push_cases d.basics row w q) [ inl p ↦ h.split.apart w p m | inr e ↦ not_row w k e ])
+        ∙ sym (among-not d.basics w (λ q. h.split.apart w q m))
+  ]
+
+  same_others : others after later ≡ others s c
+  unfolding others after later s c system_of choice_of
+  same_others =
+      filter-insert (λ w. not (is_among (d.basics ++ row ∷ []) w)) d.names i row (ap not (among-tells (d.basics ++ row ∷ []) row (Contains-push d.basics row)))
+      ∙ filter-members (λ w. not (is_among (d.basics ++ row ∷ []) w)) (λ w. not (is_among d.basics w)) d.names (λ w k. ap not (among_grown w k))
+
+  -- what the new row makes of a point, and the same by the new entries
+  row_number : ℕ → Fraction
+  row_number j = get_or es (place_in d.columns j) (whole (pos 0))
+
+  new_activity : (v : ℕ → Fraction) → activity after v row ≡ sum_by (λ j. row_number j *ℚ v j) s.columns
+  unfolding activity after row_number system_of
+  new_activity v =
+      ap (sum_by (λ j. after.coefficient row j *ℚ v j)) same_columns
+      ∙ sum_by-members (λ j. after.coefficient row j *ℚ v j) (λ j. row_number j *ℚ v j) s.columns
+      (λ j k. ap (λ t. t *ℚ v j) (ap (λ (p : ℕ). cell (length d.columns) (d.coefficients ++ es) p (place_in d.columns j)) (place-push_new d.rows row h.put_in.first_distinct no_row)
+      ∙ cell-new (length d.columns) d.coefficients es (length d.rows) (place_in d.columns j) h.coefficient_count))
+
+  new_sum : (v : ℕ → Fraction) → sum_by (λ j. after.coefficient row j *ℚ v j) after.columns ≡ sum_by (λ j. row_number j *ℚ v j) s.columns
+  unfolding activity
+  new_sum v = new_activity v
+
+  old_activity : (v : ℕ → Fraction) (r : ℕ) → Contains d.rows r → activity after v r ≡ activity s v r
+  unfolding activity after s system_of
+  old_activity v r m =
+      let p = place_in-within d.rows r m in
+      ap (sum_by (λ j. after.coefficient r j *ℚ v j)) same_columns
+      ∙ sum_by-members (λ j. after.coefficient r j *ℚ v j) (λ j. s.coefficient r j *ℚ v j) s.columns
+      (λ j k.
+      let q = place_in-within d.columns j (among-from d.columns j (Contains-from_filter (is_among d.columns) d.names j k).1) in
+      ap (λ t. t *ℚ v j) (ap (λ (x : ℕ). cell (length d.columns) (d.coefficients ++ es) x (place_in d.columns j)) (place-push_old d.rows row r h.put_in.first_distinct no_row m)
+      ∙ cell-old (length d.columns) d.coefficients es (length d.rows) (place_in d.rows r) (place_in d.columns j) h.coefficient_count p.0 q.0))
+
+  old_entry : (b w : ℕ) → Contains d.basics b → Contains d.others w → later.entry b w ≡ c.entry b w
+  unfolding later c choice_of entry_of
+  old_entry b w m k =
+      let p = place_in-within d.basics b m in
+      let q = place_in-within d.others w k in
+      ap (λ (x : ℕ). cell (length d.others) (d.table ++ fresh) x (place_in d.others w)) (place-push_old d.basics row b h.split.first_distinct no_basic m)
+      ∙ cell-old (length d.others) d.table fresh (length d.basics) (place_in d.basics b) (place_in d.others w) h.table_count p.0 q.0
+
+  new_entry : (w : ℕ) → later.entry row w ≡ get_or fresh (place_in d.others w) (whole (pos 0))
+  unfolding later choice_of entry_of
+  new_entry w =
+      ap (λ (x : ℕ). cell (length d.others) (d.table ++ fresh) x (place_in d.others w)) (place-push_new d.basics row h.split.first_distinct no_basic)
+      ∙ cell-new (length d.others) d.table fresh (length d.basics) (place_in d.others w) h.table_count
+
+  module _ (sums : (k : ℕ) → k < length d.others → get_or fresh k (whole (pos 0)) ≡ sum_by (λ j. get_or es (place_in d.columns j) (whole (pos 0)) *ℚ column_entry (choice_of d) j (slice_index d.others k)) (system_of d).columns) where
+    new_row : (v : ℕ → Fraction) → MeetsTable s c v → activity after v row ≡ sum_by (λ w. later.entry row w *ℚ v w) (others after later)
+    unfolding row_number s c system_of
+    new_row v m =
+        new_activity v
+        ∙ sum_by_others s (Distinct-increasing d.names h.ascending) c v m row_number s.columns (λ j k. (Contains-from_filter (is_among d.columns) d.names j k).0)
+        ∙ sum_by-members (λ w. sum_by (λ j. row_number j *ℚ column_entry c j w) s.columns *ℚ v w) (λ w. later.entry row w *ℚ v w) (others s c)
+        (λ w k.
+        let p = place_in-within d.others w (in_others d h w k) in
+        ap (λ t. t *ℚ v w) (ap (λ (x : ℕ). sum_by (λ j. row_number j *ℚ column_entry c j x) s.columns) (sym p.1) ∙ sym (new_entry w ∙ sums (place_in d.others w) p.0)))
+        ∙ ap (sum_by (λ w. later.entry row w *ℚ v w)) (sym same_others)
+
+    rows_before : (v : ℕ → Fraction) → MeetsRows after v → MeetsRows s v
+    unfolding after s system_of
+    rows_before v m = record {
+      row = λ r k.
+          let q = Contains-from_filter (is_among d.rows) d.names r k in
+          let in_rows : Contains d.rows r = among-from d.rows r q.1 in
+          m.row r (Contains-filter (is_among (d.rows ++ row ∷ [])) (insert d.names i row) r (Contains-insert d.names i row r hi q.0) (among-tells (d.rows ++ row ∷ []) r (Contains-append_left d.rows (row ∷ []) r in_rows)))
+          ∙ old_activity v r in_rows;
+    }
+
+    basic_later : (b : ℕ) → Contains (d.basics ++ row ∷ []) b → Contains (basics after later) b
+    unfolding after later system_of choice_of
+    basic_later b k = is_basic after later b
+        (elim (Contains-push_cases d.basics row b k) [ inl p ↦ Contains-insert d.names i row b hi (h.split.first_named b p) | inr e ↦ subst (Contains (insert d.names i row)) e (Contains-inserted d.names i row hi) ])
+        (among-tells (d.basics ++ row ∷ []) b k)
+
+    same_sum : (v : ℕ → Fraction) (b : ℕ) → Contains d.basics b → sum_by (λ w. later.entry b w *ℚ v w) (others after later) ≡ sum_by (λ w. c.entry b w *ℚ v w) (others s c)
+    unfolding s c
+    same_sum v b k =
+        ap (sum_by (λ w. later.entry b w *ℚ v w)) same_others
+        ∙ sum_by-members (λ w. later.entry b w *ℚ v w) (λ w. c.entry b w *ℚ v w) (others s c) (λ w m. ap (λ t. t *ℚ v w) (old_entry b w k (in_others d h w m)))
+
+    table_before : (v : ℕ → Fraction) → MeetsTable after later v → MeetsTable s c v
+    unfolding s c
+    table_before v m = record {
+      basic = λ b k.
+          let in_old : Contains d.basics b = in_basics d h b k in
+          m.basic b (basic_later b (Contains-append_left d.basics (row ∷ []) b in_old)) ∙ same_sum v b in_old;
+    }
+
+    grown_choice : IsChoice after later
+    unfolding after later s c system_of choice_of
+    grown_choice =
+        let choice : IsChoice s c = h.solutions live in record {
+          to_table = λ v m.
+              let table : MeetsTable s c v = choice.to_table v (rows_before v m) in record {
+                basic = λ b k. elim (Contains-push_cases d.basics row b (among-from (d.basics ++ row ∷ []) b (basics_are after later b k).1)) [
+                  | inl p ↦ table.basic b (basic_in d h b p) ∙ sym (same_sum v b p)
+                  | inr e ↦ ap v (sym e)
+                      ∙ m.row row (Contains-filter (is_among (d.rows ++ row ∷ [])) (insert d.names i row) row (Contains-inserted d.names i row hi) (among-tells (d.rows ++ row ∷ []) row (Contains-push d.rows row)))
+                      ∙ new_row v table ∙ ap (λ (x : ℕ). sum_by (λ w. later.entry x w *ℚ v w) (others after later)) e
+                ];
+              };
+          to_rows = λ v m.
+              let table : MeetsTable s c v = table_before v m in
+              let old : MeetsRows s v = choice.to_rows v table in record {
+                row = λ r k. elim (Contains-push_cases d.rows row r (among-from (d.rows ++ row ∷ []) r (Contains-from_filter (is_among (d.rows ++ row ∷ [])) (insert d.names i row) r k).1)) [
+                  | inl p ↦ old.row r (Contains-filter (is_among d.rows) d.names r (h.put_in.first_named r p) (among-tells d.rows r p)) ∙ sym (old_activity v r p)
+                  | inr e ↦ ap v (sym e) ∙ m.basic row (basic_later row (Contains-push d.basics row)) ∙ sym (new_row v table) ∙ ap (activity after v) e
+                ];
+              };
+        }
+
+    pub grown_dictionary : IsDictionary grown
+    unfolding after later
+    grown_dictionary = record {
+      row_count = length-append d.rows (row ∷ []) ∙ Prim.omega (arith, h.row_count) ∙ sym (length-append d.basics (row ∷ []));
+      column_count = h.column_count;
+      coefficient_count = length-append d.coefficients es ∙ Prim.omega (arith, h.coefficient_count, entry_count) ∙ ap (λ (k : ℕ). k * length d.columns) (sym (length-append d.rows (row ∷ [])));
+      table_count = length-append d.table fresh ∙ Prim.omega (arith, h.table_count, fresh_count) ∙ ap (λ (k : ℕ). k * length d.others) (sym (length-append d.basics (row ∷ [])));
+      note_count = note_count ∙ sym (length-insert d.names i row hi);
+      ascending = rises;
+      put_in = split_first d.names d.rows d.columns i row hi absent h.put_in;
+      split = split_first d.names d.basics d.others i row hi absent h.split;
+      solutions = λ _. grown_choice;
+    }
+
+    -- the new row's entries are the named sums
+    pub grown_entries : (k : ℕ) → k < length d.others → cell (length d.others) (d.table ++ fresh) (length d.basics) k ≡ total (row_entry_terms (system_of grown) (choice_of d) row (slice_index d.others k))
+    unfolding row_entry_terms s c after row_number
+    grown_entries k hk =
+        let w : ℕ = slice_index d.others k in
+        cell-new (length d.others) d.table fresh (length d.basics) k h.table_count ∙ sums k hk
+        ∙ sym (new_sum (λ j. column_entry (choice_of d) j w))
+        ∙ sym (total-Product ((system_of grown).coefficient row) (λ j. column_entry (choice_of d) j w) (system_of grown).columns)

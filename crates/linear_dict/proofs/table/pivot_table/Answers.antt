@@ -1,0 +1,65 @@
+use Rattle.std.proofs.Common.{◌≡◌, ◌+◌, ◌∙◌, ℕ, List, Vec, Global, length, map, subst, sym, arith, refl}
+use Rattle.fraction_theory.specs.Fraction.{Fraction}
+use Rattle.std.proofs.lemmas.Result.{err_from_is_err_and}
+use Rattle.linear_dict.specs.Causes.{ClearOperation, PivotOperation, SolveOperation}
+use Rattle.linear_dict.proofs.CauseLemmas.{clear_of_pivot, refused_as, solve_of_pivot}
+use Rattle.linear_dict.specs.Tables.{cell, pivoted_cell, Shows}
+use Rattle.linear_dict.proofs.TableLemmas.{shows_is}
+use Rattle.linear_dict.proofs.PivotLemmas.{pivoting-solved, pivoting-yet, pivoting, pivoting_start, pivoting_step, pivoting_skip, pivoting_end}
+use Rattle.linear_dict.proofs.table.pivot_table.Goals as goal
+use Rattle.linear_dict.proofs.table.pivot_table.Goals.{then-i-row+in_ok-clear_row, else-i-row}
+
+pub loop-i-init : goal.loop-i-init
+loop-i-init g c = (
+  c.solve_row.ensures.count,
+  pivoting_start (cell c.args.columns (map g.N.Exact.value c.args.table.now.items)) c.args.row c.args.column c.args.rows c.args.columns (map g.N.Exact.value c.solve_row.new.table.items)
+      (c.in_ok-solve_row.ensures.solved c.args.rows c.requires.size),
+)
+
+pub loop-i-preserved : goal.loop-i-preserved
+loop-i-preserved g c =
+    let value : g.row.N.Denot → Fraction = g.N.Exact.value in
+    let old : List g.row.N.Denot = c.args.table.now.items in
+    let cur : List g.row.N.Denot = c.loop-i.table.items in
+    let f : ℕ → ℕ → Fraction = cell c.args.columns (map value old) in
+    elim c.if-i-row.branch [
+      | then-i-row+in_ok-clear_row w ↦
+          subst (λ (t : Vec g.row.N.Denot Global). (length t.items ≡ length old) × Shows c.args.rows c.args.columns (map value t.items) (pivoting f c.args.row c.args.column (c.loop-i.i + 1))) (sym w.table-is) (
+            w.clear_row.ensures.count ∙ c.loop-i.invariant.0,
+            pivoting_step f c.args.row c.args.column c.args.rows c.args.columns (map value cur) c.loop-i.i (map value w.clear_row.new.table.items) c.loop-i.invariant.1
+                (w.in_ok-clear_row.ensures.cleared c.args.rows (c.loop-i.invariant.0 ∙ c.requires.size)) w.if-i-row.true c.loop-i-test.true c.requires.row c.requires.within,
+          )
+      | else-i-row w ↦
+          subst (λ (t : Vec g.row.N.Denot Global). (length t.items ≡ length old) × Shows c.args.rows c.args.columns (map value t.items) (pivoting f c.args.row c.args.column (c.loop-i.i + 1))) (sym w.table-is)
+          (c.loop-i.invariant.0, pivoting_skip f c.args.row c.args.column c.args.rows c.args.columns (map value cur) c.loop-i.i c.loop-i.invariant.1 w.if-i-row.false)
+    ]
+
+pub returns-clause-pivoted : goal.returns-clause-pivoted
+returns-clause-pivoted g c =
+    let f : ℕ → ℕ → Fraction = cell c.args.columns (map g.N.Exact.value c.args.table.now.items) in
+    shows_is c.args.rows c.args.columns (map g.N.Exact.value c.loop-i.table.items) (pivoted_cell f c.args.row c.args.column)
+    (pivoting_end f c.args.row c.args.column c.args.rows c.args.columns (map g.N.Exact.value c.loop-i.table.items) c.loop-i.i c.loop-i.invariant.1 c.loop-i-test.false)
+
+pub returns-in_err-solve_row-clause-cause : goal.returns-in_err-solve_row-clause-cause
+returns-in_err-solve_row-clause-cause g c =
+    let value : g.row.N.Denot → Fraction = g.N.Exact.value in
+    let f : ℕ → ℕ → Fraction = cell c.args.columns (map value c.args.table.now.items) in
+    let p = err_from_is_err_and c.from_residual.result c.from_residual.ensures.1 in
+    rw (p.1, p.2)
+    (refused_as value g.N.Exact.bound (SolveOperation c.args.columns f c.args.row c.args.column) (PivotOperation c.args.rows c.args.columns f c.args.row c.args.column) c.in_err-solve_row.field-0.0
+    (solve_of_pivot c.args.rows c.args.columns f c.args.row c.args.column) (c.in_err-solve_row.ensures.cause c.args.rows c.requires.size))
+
+pub returns-in_err-clear_row-clause-cause : goal.returns-in_err-clear_row-clause-cause
+returns-in_err-clear_row-clause-cause g c =
+    let value : g.row.N.Denot → Fraction = g.N.Exact.value in
+    let f : ℕ → ℕ → Fraction = cell c.args.columns (map value c.args.table.now.items) in
+    let cur : ℕ → ℕ → Fraction = cell c.args.columns (map value c.loop-i.table.items) in
+    let i : ℕ = c.loop-i.i in
+    let s = c.loop-i.invariant.1 in
+    let p = err_from_is_err_and c.from_residual-in_err-clear_row.result c.from_residual-in_err-clear_row.ensures.1 in
+    rw (p.1, p.2)
+    (refused_as value g.N.Exact.bound (ClearOperation c.args.columns cur i c.args.row c.args.column) (PivotOperation c.args.rows c.args.columns f c.args.row c.args.column) c.in_err-clear_row.field-0.0
+    (clear_of_pivot c.args.rows c.args.columns f cur i c.args.row c.args.column c.loop-i-test.true c.if-i-row.true c.requires.within
+    (λ j hj. s.at i j c.loop-i-test.true hj ∙ pivoting-yet f c.args.row c.args.column i i j c.if-i-row.true (Prim.omega arith))
+    (λ j hj. s.at c.args.row j c.requires.row hj ∙ pivoting-solved f c.args.row c.args.column i c.args.row j refl))
+    (c.in_err-clear_row.ensures.cause c.args.rows (c.loop-i.invariant.0 ∙ c.requires.size)))

@@ -1,0 +1,292 @@
+ghost use Rattle.std.specs.Prelude.{◌≡◌, ◌≢◌, ◌<◌, pos, true, IfErr, IfOk, MatchResult, ◌∷◌, [], ℕ, List, length, map, false, slice_index};
+ghost use Rattle.std.specs.List.{AllPairs, Contains};
+ghost use Rattle.linear_dict.specs.Indexes.{IsStartedIndex};
+ghost use Rattle.linear_system.specs.Choices.{IsChoice};
+ghost use Rattle.fraction_theory.specs.Fraction.{whole};
+ghost use Rattle.linear_dict.specs.Causes.{IsRefused, PivotOperation};
+ghost use Rattle.linear_dict.specs.Dictionaries.{AddsRow, IsDictionary, IsStart, choice_of, note_of, pivoted, system_of, with_note};
+ghost use Rattle.linear_dict.specs.Notes.{noted};
+ghost use Rattle.linear_dict.specs.Places.{StandsAt};
+ghost use Rattle.linear_dict.specs.Tables.{cell};
+
+use crate::adding::{AddStop, append, make_room, row_entries};
+use crate::index::{Variable, add_variable, rank};
+use crate::note::{Note, blank_note};
+use crate::place::Place;
+use crate::table::pivot_table;
+use exact_fraction::{Exact, Passed};
+use plain_list::Memory;
+use std::alloc::Global;
+use std::marker::Model;
+
+/// A dictionary over variables named by distinct numbers.
+#[derive(Drop)]
+pub struct Dict<N: Exact> {
+    columns: Vec<u32>,
+    rows: Vec<u32>,
+    coefficients: Vec<N>,
+    others: Vec<u32>,
+    basics: Vec<u32>,
+    table: Vec<N>,
+    variables: Vec<Variable<N>>,
+    spent: bool,
+}
+
+impl<N: Exact> Model for Dict<N> {
+    ghost use Rattle.linear_dict.specs.Dictionaries.{Dictionary, IsDictionary, dictionary_code, seen};
+    ghost use Rattle.linear_dict.specs.Indexes.{IsIndex};
+
+    ghost Value = { Dictionary };
+
+    ghost coded = { dictionary_code };
+
+    ghost view = { λ d. seen N.value d.columns.items d.rows.items d.coefficients.items d.others.items d.basics.items d.table.items
+        d.variables.items d.spent };
+
+    ghost invariant = { λ d. IsIndex d.variables.items d.basics.items d.others.items d.rows.items d.columns.items
+        × IsDictionary (seen N.value d.columns.items d.rows.items d.coefficients.items d.others.items d.basics.items
+        d.table.items d.variables.items d.spent) };
+}
+
+/// A copy of the items.
+fn copied<T: Copy>(alloc: Global, items: &[T]) -> Result<Vec<T>, Memory>
+    ensures { IfOk result (λ copy. copy.items ≡ items.now) }
+{
+    match Vec::from_slice(alloc, items) {
+        Ok(copy) => Ok(copy),
+        Err(_) => Err(Memory),
+    }
+}
+
+/// The index of a row and of columns as put in, with blank notes.
+fn started<N: Exact>(alloc: Global, columns: &[u32], row: u32) -> Result<Vec<Variable<N>>, Memory>
+    requires distinct { AllPairs (λ x y. x ≢ y) columns.now }
+    requires absent { ¬ (Contains columns.now row) }
+    ensures { IfOk result (λ variables. IsStartedIndex N.value variables.items row columns.now) }
+{
+    let note = blank_note();
+    let mut variables = Vec::new(alloc);
+    let place = Place::Row(0);
+    add_variable(
+        &mut variables,
+        Variable {
+            name: row,
+            place,
+            put: place,
+            note,
+        },
+    )?;
+    for c in 0..columns.len() {
+        let place = Place::Column(c);
+        add_variable(
+            &mut variables,
+            Variable {
+                name: columns[c],
+                place,
+                put: place,
+                note,
+            },
+        )?;
+    }
+    Ok(variables)
+}
+
+impl<N: Exact> Dict<N> {
+    /// A dictionary of one row, `entries` times the columns, which is basic.
+    pub fn start(alloc: Global, columns: &[u32], row: u32, entries: &[N]) -> Result<Dict<N>, Memory>
+        requires distinct { AllPairs (λ x y. x ≢ y) columns.now }
+        requires absent { ¬ (Contains columns.now row) }
+        requires entries { length entries.now ≡ length columns.now }
+        ensures { IfOk result (IsStart N.value columns.now row entries.now) }
+    {
+        let variables = started(alloc, columns, row)?;
+        let rows = [row];
+        Ok(Dict {
+            columns: copied(alloc, columns)?,
+            rows: copied(alloc, &rows)?,
+            coefficients: copied(alloc, entries)?,
+            others: copied(alloc, columns)?,
+            basics: copied(alloc, &rows)?,
+            table: copied(alloc, entries)?,
+            variables,
+            spent: false,
+        })
+    }
+
+    /// Whether a pivot was refused, after which nothing else can be asked.
+    pub fn spent(&self) -> bool
+        ensures answer { result ≡ self.now.spent }
+        ensures sound { IsDictionary self.now }
+    {
+        self.spent
+    }
+
+    pub fn row_count(&self) -> usize
+        requires { self.now.spent ≡ false }
+        ensures { result ≡ length self.now.basics }
+    {
+        self.basics.len()
+    }
+
+    pub fn column_count(&self) -> usize
+        requires { self.now.spent ≡ false }
+        ensures { result ≡ length self.now.others }
+    {
+        self.others.len()
+    }
+
+    /// How many variables there are.
+    pub fn name_count(&self) -> usize
+        requires { self.now.spent ≡ false }
+        ensures { result ≡ length self.now.names }
+    {
+        self.variables.len()
+    }
+
+    /// The basic variable of a row place.
+    pub fn basics(&self, r: usize) -> u32
+        requires live { self.now.spent ≡ false }
+        requires within { r < length self.now.basics }
+        ensures { result ≡ slice_index self.now.basics r }
+    {
+        self.basics[r]
+    }
+
+    /// The other variable of a column place.
+    pub fn others(&self, c: usize) -> u32
+        requires live { self.now.spent ≡ false }
+        requires within { c < length self.now.others }
+        ensures { result ≡ slice_index self.now.others c }
+    {
+        self.others[c]
+    }
+
+    /// The name of a column, in the order in which they were put in.
+    pub fn column_name(&self, place: usize) -> u32
+        requires live { self.now.spent ≡ false }
+        requires within { place < length self.now.columns }
+        ensures { result ≡ slice_index self.now.columns place }
+    {
+        self.columns[place]
+    }
+
+    /// The name of a row, in the order in which they were put in.
+    pub fn row_name(&self, place: usize) -> u32
+        requires live { self.now.spent ≡ false }
+        requires within { place < length self.now.rows }
+        ensures { result ≡ slice_index self.now.rows place }
+    {
+        self.rows[place]
+    }
+
+    /// The name of a rank: the first is the least of all names.
+    pub fn ranked(&self, rank: usize) -> u32
+        requires live { self.now.spent ≡ false }
+        requires within { rank < length self.now.names }
+        ensures { result ≡ slice_index self.now.names rank }
+    {
+        self.variables[rank].name
+    }
+
+    /// Where a variable stands in the table.
+    pub fn place(&self, name: u32) -> Place
+        requires live { self.now.spent ≡ false }
+        requires named { Contains self.now.names name }
+        ensures { StandsAt self.now.basics self.now.others name result }
+    {
+        self.variables[rank(&self.variables, name)].place
+    }
+
+    /// By how much the basic variable of a row place rises where the other one of a column place rises by 1.
+    pub fn entry(&self, r: usize, c: usize) -> N
+        requires live { self.now.spent ≡ false }
+        requires row { r < length self.now.basics }
+        requires column { c < length self.now.others }
+        ensures value { N.value result ≡ cell (length self.now.others) self.now.table r c }
+        ensures entry { N.value result ≡ (choice_of self.now).entry (slice_index self.now.basics r) (slice_index self.now.others c) }
+        ensures choice { IsChoice (system_of self.now) (choice_of self.now) }
+    {
+        self.table[r * self.others.len() + c]
+    }
+
+    /// What the layer above last noted of a variable.
+    pub fn note(&self, name: u32) -> Note<N>
+        requires live { self.now.spent ≡ false }
+        requires named { Contains self.now.names name }
+        ensures { noted N.value result ≡ note_of self.now name }
+    {
+        self.variables[rank(&self.variables, name)].note
+    }
+
+    /// Notes this of a variable, and changes nothing else.
+    pub fn set_note(&mut self, name: u32, note: Note<N>)
+        requires live { self.old.spent ≡ false }
+        requires named { Contains self.old.names name }
+        ensures { self.new ≡ with_note self.old name (noted N.value note) }
+    {
+        let place = rank(&self.variables, name);
+        self.variables[place].note = note;
+    }
+
+    /// Adds a row, `entries` times the columns as put in, which is basic at a new last row place. All is as before after
+    /// a refusal, and where there is no memory.
+    pub fn add_row(&mut self, row: u32, entries: &[N]) -> Result<(), AddStop<N>>
+        requires live { self.old.spent ≡ false }
+        requires absent { ¬ (Contains self.old.names row) }
+        requires entries { length entries.now ≡ length self.old.columns }
+        ensures added { MatchResult result (λ _. AddsRow N.value self.old row entries.now self.new) (λ _. self.new ≡ self.old) }
+    {
+        let alloc = *self.table.allocator();
+        let fresh = row_entries(
+            alloc,
+            &self.variables,
+            &self.table,
+            self.others.len(),
+            entries,
+        )?;
+        make_room(
+            &mut self.rows,
+            &mut self.basics,
+            &mut self.coefficients,
+            &mut self.table,
+            entries.len(),
+        )?;
+        let variable = Variable {
+            name: row,
+            place: Place::Row(self.basics.len()),
+            put: Place::Row(self.rows.len()),
+            note: blank_note(),
+        };
+        add_variable(&mut self.variables, variable)?;
+        self.rows.push_reserved(row);
+        self.basics.push_reserved(row);
+        append(&mut self.coefficients, entries);
+        append(&mut self.table, &fresh);
+        Ok(())
+    }
+
+    /// Exchanges the variables of a row place and a column place, in place and without memory. After a refusal the
+    /// dictionary is spent.
+    pub fn pivot(&mut self, r: usize, c: usize) -> Result<(), Passed<N>>
+        requires live { self.old.spent ≡ false }
+        requires row { r < length self.old.basics }
+        requires column { c < length self.old.others }
+        requires entry { cell (length self.old.others) self.old.table r c ≢ whole (pos 0) }
+        ensures pivoted { MatchResult result (λ _. self.new ≡ pivoted self.old r c) (λ _. self.new.spent ≡ true) }
+        ensures cause { IfErr result (IsRefused N.value N.bound (PivotOperation (length self.old.basics) (length self.old.others) (cell (length self.old.others) self.old.table) r c)) }
+        ensures sound { IsDictionary self.new }
+    {
+        self.spent = true;
+        pivot_table(&mut self.table, self.basics.len(), self.others.len(), r, c)?;
+        let leaving = self.basics[r];
+        let entering = self.others[c];
+        let leaving_rank = rank(&self.variables, leaving);
+        let entering_rank = rank(&self.variables, entering);
+        self.variables[leaving_rank].place = Place::Column(c);
+        self.variables[entering_rank].place = Place::Row(r);
+        self.basics[r] = entering;
+        self.others[c] = leaving;
+        self.spent = false;
+        Ok(())
+    }
+}

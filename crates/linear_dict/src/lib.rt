@@ -1,0 +1,18 @@
+//! A dictionary: rows of coefficients rewritten so that each basic variable is a combination of the other ones, with
+//! the pivot that exchanges two of them. Exact, and generic over the type of its numbers.
+#![tactic(auto)]
+
+mod adding;
+mod dict;
+mod index;
+mod note;
+mod place;
+mod table;
+
+pub use adding::AddStop;
+pub use dict::Dict;
+pub use note::Note;
+pub use place::Place;
+
+#[cfg(test)]
+mod tests;

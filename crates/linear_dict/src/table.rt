@@ -1,0 +1,96 @@
+// The pivot of a table in a flat vector, row by row, in place.
+ghost use Rattle.std.specs.Prelude.{◌≡◌, ◌≢◌, ℕ, ◌+◌, ◌*◌, ◌<◌, ◌≤◌, length, map, pos, IfErr, IfOk};
+ghost use Rattle.fraction_theory.specs.Fraction.{whole};
+ghost use Rattle.linear_dict.specs.Causes.{ClearOperation, IsRefused, PivotOperation, SolveOperation};
+ghost use Rattle.linear_dict.specs.Tables.{cell, table_of, pivoted_cell, solved_cell, cleared_cell, Shows};
+
+use exact_fraction::{Exact, Passed};
+
+/// Solves a row for the variable of a column: its other entries are divided by the one there and negated, and that one
+/// becomes its inverse.
+fn solve_row<N: Exact>(
+    table: &mut Vec<N>,
+    columns: usize,
+    row: usize,
+    column: usize,
+) -> Result<(), Passed<N>>
+    requires room { row * columns + columns ≤ length table.old.items }
+    requires within { column < columns }
+    requires entry { cell columns (map N.value table.old.items) row column ≢ whole (pos 0) }
+    ensures count { length table.new.items ≡ length table.old.items }
+    ensures solved { IfOk result (λ _. (rows : ℕ) → length table.old.items ≡ rows * columns
+        → Shows rows columns (map N.value table.new.items) (solved_cell (cell columns (map N.value table.old.items)) row column)) }
+    ensures cause { IfErr result (λ e. (rows : ℕ) → length table.old.items ≡ rows * columns
+        → IsRefused N.value N.bound (SolveOperation columns (cell columns (map N.value table.old.items)) row column) e) }
+{
+    let start = row * columns;
+    let inverse = table[start + column].recip();
+    for j in 0..columns {
+        if j != column {
+            let entry = table[start + j].neg().times(inverse)?;
+            table[start + j] = entry;
+        }
+    }
+    table[start + column] = inverse;
+    Ok(())
+}
+
+/// Puts a solved row into another one: to each entry the one at the column times the solved row's is added, and the one
+/// at the column is multiplied by the solved row's.
+fn clear_row<N: Exact>(
+    table: &mut Vec<N>,
+    columns: usize,
+    row: usize,
+    solved: usize,
+    column: usize,
+) -> Result<(), Passed<N>>
+    requires room { row * columns + columns ≤ length table.old.items }
+    requires solved_room { solved * columns + columns ≤ length table.old.items }
+    requires other { row ≢ solved }
+    requires within { column < columns }
+    ensures count { length table.new.items ≡ length table.old.items }
+    ensures cleared { IfOk result (λ _. (rows : ℕ) → length table.old.items ≡ rows * columns
+        → Shows rows columns (map N.value table.new.items) (cleared_cell (cell columns (map N.value table.old.items)) row solved column)) }
+    ensures cause { IfErr result (λ e. (rows : ℕ) → length table.old.items ≡ rows * columns
+        → IsRefused N.value N.bound (ClearOperation columns (cell columns (map N.value table.old.items)) row solved column) e) }
+{
+    let start = row * columns;
+    let solved_start = solved * columns;
+    let factor = table[start + column];
+    for j in 0..columns {
+        if j != column {
+            let product = factor.times(table[solved_start + j])?;
+            let entry = table[start + j].plus(product)?;
+            table[start + j] = entry;
+        }
+    }
+    let last = factor.times(table[solved_start + column])?;
+    table[start + column] = last;
+    Ok(())
+}
+
+/// Exchanges the variables of a row and of a column. After a refusal nothing is known of the entries.
+pub(crate) fn pivot_table<N: Exact>(
+    table: &mut Vec<N>,
+    rows: usize,
+    columns: usize,
+    row: usize,
+    column: usize,
+) -> Result<(), Passed<N>>
+    requires size { length table.old.items ≡ rows * columns }
+    requires row { row < rows }
+    requires within { column < columns }
+    requires entry { cell columns (map N.value table.old.items) row column ≢ whole (pos 0) }
+    ensures count { length table.new.items ≡ length table.old.items }
+    ensures pivoted { IfOk result (λ _. map N.value table.new.items
+        ≡ table_of rows columns (pivoted_cell (cell columns (map N.value table.old.items)) row column)) }
+    ensures cause { IfErr result (IsRefused N.value N.bound (PivotOperation rows columns (cell columns (map N.value table.old.items)) row column)) }
+{
+    solve_row(table, columns, row, column)?;
+    for i in 0..rows {
+        if i != row {
+            clear_row(table, columns, i, row, column)?;
+        }
+    }
+    Ok(())
+}
