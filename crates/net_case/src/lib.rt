@@ -6,6 +6,6 @@ mod live_parts;
 mod network_reading;
 mod plain_case;
 
-pub use live_parts::{NetFault, NetUnit, Network, Why, push_some};
+pub use live_parts::{NetBranch, NetFault, NetUnit, Network, Why, push_some};
 pub use network_reading::network;
 pub use plain_case::{CaseFault, Field, RawCase, read_case};
