@@ -1,3 +1,5 @@
 pub mod ChainLemmas
 pub mod IncidenceLemmas
 pub mod VisitLemmas
+pub mod WayLemmas
+pub mod SideLemmas

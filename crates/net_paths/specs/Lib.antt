@@ -1,3 +1,4 @@
 pub mod Chains
 pub mod Searching
+pub mod Connection
 pub mod Detours

@@ -1,11 +1,11 @@
 -- What is kept while the places are visited that branches join to one place.
-use Rattle.std.specs.Prelude.{◌≡◌, ℕ, ◌<◌, ◌≤◌, List, [], ◌∷◌, ◌++◌, length, All, Contains, slice_index_or, slice_set, count_by, Option, Some, None, is_some, IsSome, MatchOption}
+use Rattle.std.specs.Prelude.{◌≡◌, ◌≢◌, ℕ, ◌<◌, ◌≤◌, List, [], ◌∷◌, ◌++◌, length, All, Contains, slice_index_or, slice_set, count_by, Option, Some, None, is_some, IsSome, MatchOption, map, AllPairs}
 use Rattle.net_case.specs.declared.live_parts.NetBranch.{NetBranch}
 use Rattle.net_paths.specs.declared.steps.Step.{Step}
 use Rattle.net_paths.specs.declared.search.Back.{Back}
 use Rattle.net_paths.specs.declared.search.Visit.{Visit}
 use Rattle.net_paths.specs.declared.search.Search.{Search}
-use Rattle.net_paths.specs.Chains.{start_of, end_of}
+use Rattle.net_paths.specs.Chains.{start_of, end_of, Pass, Lead}
 
 -- ---- the steps at each place
 -- lists of steps by place, with one step more where it begins
@@ -67,3 +67,25 @@ pub record GoesOn (before after : Search) : Type 0 where
 pub record IsSearch (branches : List NetBranch) (places root : ℕ) (search : Search) : Type 0 where
   pub visits : AreVisits branches places root search.visits search.seen.items
   pub closed : IsClosed branches search.visits search.seen.items (length search.visits)
+
+-- ---- the way back
+-- the place of a visit
+abbrev pub place_at : List Visit → ℕ → ℕ
+place_at visits i = (slice_index_or visits i (record { place = 0; back = None })).place
+
+-- steps from a place back to that of a visit, each from the place of a later visit
+pub record IsWay (branches : List NetBranch) (visits : List Visit) (seen : List (Option ℕ)) (place visit : ℕ) (steps : List Step) : Type 0 where
+  pub pass : Pass branches steps
+  pub lead : Lead steps place (place_at visits visit)
+  pub apart : AllPairs (λ p q. p ≢ q) (map start_of steps)
+  pub later : All (λ s. (m : ℕ) × (visit_at seen (start_of s) ≡ Some m) × (visit < m)) steps
+
+-- steps from a place back to the root, from no place twice and from the root not once
+pub record IsWayBack (branches : List NetBranch) (place root : ℕ) (steps : List Step) : Type 0 where
+  pub pass : Pass branches steps
+  pub lead : Lead steps place root
+  pub apart : AllPairs (λ p q. p ≢ q) (map start_of steps)
+  pub off_root : All (λ s. start_of s ≢ root) steps
+
+abbrev pub HasVisits : Search → Type 0
+HasVisits search = (branches : List NetBranch) × (places : ℕ) × (root : ℕ) × AreVisits branches places root search.visits search.seen.items

@@ -1,6 +1,6 @@
 //! The branches at each bus.
 
-ghost use Rattle.std.specs.Prelude.{◌≡◌, ℕ, ◌<◌, [], ◌∷◌, ◌++◌, List, length, slice_index_or, IfOk};
+ghost use Rattle.std.specs.Prelude.{◌≡◌, ℕ, ◌<◌, [], ◌∷◌, ◌++◌, List, length, All, slice_index_or, IfOk};
 ghost use Rattle.net_case.specs.declared.live_parts.NetBranch.{NetBranch};
 ghost use Rattle.net_case.specs.Networks.{IsNetBranch};
 ghost use Rattle.net_paths.specs.Chains.{start_of};
@@ -53,6 +53,18 @@ impl Incidence {
             branch,
             forward: false,
         })
+    }
+
+    /// The steps along branches between so many buses.
+    pub fn of(alloc: Global, places: usize, branches: &[NetBranch]) -> Result<Incidence, Memory>
+        requires { All (IsNetBranch places) branches.now }
+        ensures { IfOk result (λ made. IsIncidence branches.now places made.lists.items) }
+    {
+        let mut incidence = Incidence::new(alloc, places)?;
+        for branch in branches {
+            incidence.add(*branch)?;
+        }
+        Ok(incidence)
     }
 
     /// The steps that begin at a place.

@@ -5,7 +5,7 @@ ghost use Rattle.net_case.specs.declared.live_parts.NetBranch.{NetBranch};
 ghost use Rattle.net_paths.specs.declared.steps.Step.{Step};
 ghost use Rattle.net_paths.specs.declared.search.Visit.{Visit};
 ghost use Rattle.net_paths.specs.Chains.{start_of, end_of, Pass, Lead};
-ghost use Rattle.net_paths.specs.Searching.{HasBranches, IsIncidence, AreVisits, IsSearch, IsClosed, GoesOn, visit_at};
+ghost use Rattle.net_paths.specs.Searching.{HasBranches, HasVisits, IsWayBack, place_at, IsIncidence, AreVisits, IsSearch, IsClosed, GoesOn, visit_at};
 
 use crate::incidence::Incidence;
 use crate::steps::Step;
@@ -112,5 +112,29 @@ impl Search {
             search.follow_all(incidence, visit)?;
         }
         Ok(search)
+    }
+
+    /// The number of the visit at a place.
+    pub fn visit_of(&self, place: usize) -> Option<usize>
+        requires { place < length self.now.seen.items }
+        ensures { result ≡ visit_at self.now.seen.items place }
+    {
+        self.seen[place]
+    }
+
+    /// The steps from the place of a visit back to the root.
+    pub fn way_back(&self, alloc: Global, visit: usize) -> Result<List<Step>, Memory>
+        requires visits { HasVisits self.now }
+        requires visit { visit < length self.now.visits }
+        ensures { (branches : List NetBranch) (places root : ℕ) → AreVisits branches places root self.now.visits self.now.seen.items
+            → IfOk result (IsWayBack branches (place_at self.now.visits visit) root) }
+    {
+        let mut steps = List::new(alloc);
+        let mut visit = visit;
+        while let Some(back) = self.visits.at(visit).back {
+            steps.push(back.step)?;
+            visit = back.visit;
+        }
+        Ok(steps)
     }
 }
