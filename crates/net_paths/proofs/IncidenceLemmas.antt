@@ -1,12 +1,12 @@
 -- The steps at each place, with a branch more.
-use Rattle.std.proofs.Common.{◌≡◌, ◌≢◌, ℕ, ◌<◌, List, [], ◌∷◌, ◌++◌, Bool, true, false, refl, sym, subst, ◌∙◌, length, get_or, set, arith, length-set, inl, inr, get_or-set_same, get_or-set_other}
-use Rattle.std.specs.Prelude.{Result, Ok, Err, IfOk, All, Contains, not, if◌then◌else◌, ◌⊎◌}
+use Rattle.std.proofs.Common.{◌≡◌, ◌≢◌, ℕ, ◌<◌, List, [], ◌∷◌, ◌++◌, Bool, true, false, sym, subst, ◌∙◌, length, get_or, arith, length-set, inl, inr, get_or-set_same, get_or-set_other}
+use Rattle.std.specs.Prelude.{Result, Ok, Err, IfOk, All, Contains}
 use Rattle.std.proofs.lemmas.Bool.{cases_eq}
-use Rattle.std.proofs.lemmas.List.Elements.{All-append, All-cons, All-nil, All-push, All-weaker, Contains-append_left, Contains-push, Contains-push_cases}
+use Rattle.std.proofs.lemmas.List.Elements.{All-nil, All-push, All-weaker, Contains-append_left, Contains-push, Contains-push_cases}
 use Rattle.net_case.specs.declared.live_parts.NetBranch.{NetBranch}
 use Rattle.net_case.specs.Networks.{IsNetBranch}
 use Rattle.net_paths.specs.declared.steps.Step.{Step}
-use Rattle.net_paths.specs.Chains.{start_of, end_of}
+use Rattle.net_paths.specs.Chains.{start_of}
 use Rattle.net_paths.specs.Searching.{with_step, IsStepAt, IsIncidence}
 
 module _ (lists : List (List Step)) (s : Step) (lt : start_of s < length lists) where

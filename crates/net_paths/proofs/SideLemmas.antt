@@ -1,6 +1,6 @@
 -- The numbers of the visited places, one place after the other.
-use Rattle.std.proofs.Common.{◌≡◌, ◌≢◌, ℕ, ◌<◌, ◌≤◌, ◌+◌, List, [], ◌∷◌, ◌++◌, true, false, refl, sym, ap, subst, ◌∙◌, length, get_or, arith, inl, inr, Option, Some, None, map}
-use Rattle.std.specs.Prelude.{All, AllPairs, Contains, ◌⊎◌, ◌↔◌, slice_get, is_some, IsSome}
+use Rattle.std.proofs.Common.{◌≡◌, ℕ, ◌<◌, ◌+◌, List, [], ◌∷◌, ◌++◌, true, false, refl, sym, ap, subst, ◌∙◌, length, arith, inl, inr, Option, Some}
+use Rattle.std.specs.Prelude.{All, Contains, slice_get, is_some, IsSome}
 use Rattle.std.proofs.lemmas.Bool.{cases_lt}
 use Rattle.std.proofs.lemmas.List.{map_push}
 use Rattle.std.proofs.lemmas.List.Elements.{All-nil, All-push, All-weaker, Contains-append_left, Contains-push}

@@ -1,6 +1,6 @@
 -- The visits of a search, with one more.
-use Rattle.std.proofs.Common.{◌≡◌, ◌≢◌, ℕ, suc, zero, ◌<◌, ◌≤◌, ◌+◌, List, [], ◌∷◌, ◌++◌, Bool, true, false, cond, refl, sym, ap, subst, ◌∙◌, length, get_or, set, arith, length-set, length-append, inl, inr, get_or-set_same, get_or-set_other, Option, Some, None}
-use Rattle.std.specs.Prelude.{All, Contains, ◌⊎◌, count_by, is_some, is_none, IsSome, MatchOption, replicate}
+use Rattle.std.proofs.Common.{◌≡◌, ◌≢◌, ℕ, suc, zero, ◌<◌, ◌≤◌, ◌+◌, List, [], ◌∷◌, ◌++◌, false, cond, refl, sym, ap, ◌∙◌, length, get_or, set, arith, length-set, inl, inr, get_or-set_same, get_or-set_other, Option, Some, None}
+use Rattle.std.specs.Prelude.{All, ◌⊎◌, count_by, is_some, IsSome, MatchOption, replicate}
 use Rattle.std.proofs.lemmas.Bool.{cases_eq, cases_lt}
 use Rattle.std.proofs.lemmas.List.{get_or_append_left, get_or_push, length_push, length-replicate, get_or-replicate, get_or_past, get_or_default}
 use Rattle.std.proofs.lemmas.List.Sums.{sum_by-set, count_by-le-length}
@@ -11,9 +11,8 @@ use Rattle.net_paths.specs.declared.steps.Step.{Step}
 use Rattle.net_paths.specs.declared.search.Back.{Back}
 use Rattle.net_paths.specs.declared.search.Visit.{Visit}
 use Rattle.net_paths.specs.declared.search.Search.{Search}
-use Rattle.net_paths.specs.Chains.{start_of, end_of, turned}
+use Rattle.net_paths.specs.Chains.{start_of, end_of}
 use Rattle.net_paths.specs.Searching.{IsIncidence, IsBack, IsVisit, AreVisits, GoesOn, IsClosed, visit_at}
-use Rattle.net_paths.proofs.ChainLemmas.{start_of-turned, end_of-turned}
 
 -- ---- how many places are visited
 count-set : (xs : List (Option ℕ)) (i n : ℕ) → i < length xs → get_or xs i None ≡ None → count_by is_some (set xs i (Some n)) ≡ count_by is_some xs + 1

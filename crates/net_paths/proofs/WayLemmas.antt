@@ -1,8 +1,7 @@
 -- What a whole search tells of the places that branches join, and the steps from a place back to its root.
-use Rattle.std.proofs.Common.{◌≡◌, ◌≢◌, ℕ, suc, zero, ◌<◌, ◌≤◌, ◌+◌, List, [], ◌∷◌, ◌++◌, Bool, true, false, refl, sym, ap, subst, ◌∙◌, length, get_or, arith, inl, inr, Option, Some, None, map}
-use Rattle.std.specs.Prelude.{All, AllPairs, Contains, ◌⊎◌, IsSome, MatchOption}
-use Rattle.std.proofs.lemmas.Bool.{cases_eq, cases_lt}
-use Rattle.std.proofs.lemmas.List.{get_or_default, map_push, get_or-map}
+use Rattle.std.proofs.Common.{◌≡◌, ◌≢◌, ℕ, suc, zero, ◌<◌, ◌+◌, List, [], ◌∷◌, ◌++◌, refl, sym, ap, subst, ◌∙◌, length, get_or, arith, Option, Some, None, map}
+use Rattle.std.specs.Prelude.{AllPairs, Contains, IsSome, MatchOption}
+use Rattle.std.proofs.lemmas.List.{map_push}
 use Rattle.std.proofs.lemmas.List.Elements.{All-nil, All-push, All-weaker, All-map}
 use Rattle.std.proofs.lemmas.List.Quantifiers.{all_pairs_push}
 use Rattle.net_case.specs.declared.live_parts.NetBranch.{NetBranch}
@@ -10,8 +9,8 @@ use Rattle.net_paths.specs.declared.steps.Step.{Step}
 use Rattle.net_paths.specs.declared.search.Back.{Back}
 use Rattle.net_paths.specs.declared.search.Visit.{Visit}
 use Rattle.net_paths.specs.declared.search.Search.{Search}
-use Rattle.net_paths.specs.Chains.{start_of, end_of, Pass, Lead, AreJoined}
-use Rattle.net_paths.specs.Searching.{IsIncidence, IsBack, IsVisit, AreVisits, IsSearch, IsWay, IsWayBack, visit_at, place_at}
+use Rattle.net_paths.specs.Chains.{start_of, end_of, Lead, AreJoined}
+use Rattle.net_paths.specs.Searching.{IsBack, AreVisits, IsSearch, IsWay, IsWayBack, visit_at, place_at}
 use Rattle.net_paths.proofs.ChainLemmas.{Lead-append, joined_itself, joined_sym, joined_trans, joined_step, kept_along}
 
 -- a visit that stands for any where none is
@@ -117,9 +116,7 @@ module _ (branches : List NetBranch) (places root : ℕ) (visits : List Visit) (
       differs : (s : Step) → (m : ℕ) × (visit_at seen (start_of s) ≡ Some m) × (visit < m) → start_of s ≢ root
       differs s h e = let same : h.0 ≡ 0 = cc (h.1, good.begun, e) in absurd (omega (arith, same, h.2))
 
--- a search over branches and buses that are called otherwise
-pub searched : (given branches : List NetBranch) (places buses : ℕ) (lists : List (List Step)) (root : ℕ) (search : Search) → given ≡ branches → places ≡ buses → IsIncidence given places lists
-    → ((bs : List NetBranch) → IsIncidence bs (length lists) lists → IsSearch bs (length lists) root search) → IsSearch branches buses root search
-searched given branches places buses lists root search same count inc found =
-    let here = found given (subst (λ (n : ℕ). IsIncidence given n lists) (sym inc.count) inc) in
-    subst (λ (bs : List NetBranch). IsSearch bs buses root search) same (subst (λ (n : ℕ). IsSearch given n root search) (inc.count ∙ count) here)
+-- a search over branches that are read from elsewhere
+pub renamed : (given branches : List NetBranch) (places buses : ℕ) (root : ℕ) (search : Search) → given ≡ branches → places ≡ buses → IsSearch given places root search → IsSearch branches buses root search
+renamed given branches places buses root search same count whole =
+    subst (λ (bs : List NetBranch). IsSearch bs buses root search) same (subst (λ (n : ℕ). IsSearch given n root search) count whole)

@@ -5,7 +5,6 @@ ghost use Rattle.net_case.specs.Networks.{IsNetwork};
 ghost use Rattle.net_paths.specs.Searching.{visit_at};
 ghost use Rattle.net_paths.specs.Connection.{JoinAll, IsStop};
 
-use crate::incidence::Incidence;
 use crate::search::Search;
 use net_case::Network;
 use plain_list::Memory;
@@ -55,8 +54,7 @@ pub fn connected(alloc: Global, network: &Network) -> Result<(), PathStop>
     if places == 0 {
         return Ok(());
     }
-    let incidence = Incidence::of(alloc, places, network.branches.slice())?;
-    let search = Search::new(alloc, &incidence, 0)?;
+    let search = Search::over(alloc, places, network.branches.slice(), 0)?;
     match first_apart(&search) {
         Some(place) => Err(PathStop::Split {
             bus: network.buses.at(place).number,

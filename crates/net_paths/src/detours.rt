@@ -3,10 +3,9 @@
 ghost use Rattle.std.specs.Prelude.{◌≡◌, ℕ, ◌<◌, ◌==◌, not, List, [], length, filter, map, Contains, IfOk, slice_index_or};
 ghost use Rattle.net_case.specs.declared.live_parts.NetBranch.{NetBranch};
 ghost use Rattle.net_case.specs.Networks.{IsNetwork};
-ghost use Rattle.net_paths.specs.Searching.{visit_at, AreVisits};
+ghost use Rattle.net_paths.specs.Searching.{visit_at, IsSearch};
 ghost use Rattle.net_paths.specs.Detours.{others, IsLiveRow, IsBranchOf, IsDetour, HoldsSide};
 
-use crate::incidence::Incidence;
 use crate::search::Search;
 use crate::steps::Step;
 use net_case::{NetBranch, Network};
@@ -80,6 +79,21 @@ fn visited_numbers(
     Ok(numbers)
 }
 
+/// A search over the live branches of other rows.
+fn search_without(
+    alloc: Global,
+    network: &Network,
+    row: u32,
+    root: usize,
+) -> Result<Search, Memory>
+    requires network { IsNetwork network.now }
+    requires root { root < length network.now.buses }
+    ensures { IfOk result (IsSearch (others row network.now.branches) (length network.now.buses) root) }
+{
+    let kept = other_branches(alloc, network.branches.slice(), row)?;
+    Search::over(alloc, network.buses.len(), kept.slice(), root)
+}
+
 /// The way from the F_BUS of a live branch to its T_BUS without it, or the side of its T_BUS.
 pub fn without(alloc: Global, network: &Network, k: u32) -> Result<Detour, Memory>
     requires network { IsNetwork network.now }
@@ -87,9 +101,7 @@ pub fn without(alloc: Global, network: &Network, k: u32) -> Result<Detour, Memor
     ensures { IfOk result (λ detour. (branch : NetBranch) × IsBranchOf network.now k branch × IsDetour network.now branch detour) }
 {
     let branch = branch_of(network, k);
-    let others = other_branches(alloc, network.branches.slice(), k)?;
-    let incidence = Incidence::of(alloc, network.buses.len(), others.slice())?;
-    let search = Search::new(alloc, &incidence, branch.to)?;
+    let search = search_without(alloc, network, k, branch.to)?;
     match search.visit_of(branch.from) {
         Some(visit) => {
             let steps = search.way_back(alloc, visit)?;

@@ -2,6 +2,7 @@
 
 ghost use Rattle.std.specs.Prelude.{◌≡◌, ℕ, ◌<◌, [], ◌∷◌, ◌++◌, List, length, All, Contains, slice_index_or, is_some, IsSome, IfOk};
 ghost use Rattle.net_case.specs.declared.live_parts.NetBranch.{NetBranch};
+ghost use Rattle.net_case.specs.Networks.{IsNetBranch};
 ghost use Rattle.net_paths.specs.declared.steps.Step.{Step};
 ghost use Rattle.net_paths.specs.declared.search.Visit.{Visit};
 ghost use Rattle.net_paths.specs.Chains.{start_of, end_of, Pass, Lead};
@@ -9,6 +10,7 @@ ghost use Rattle.net_paths.specs.Searching.{HasBranches, HasVisits, IsWayBack, p
 
 use crate::incidence::Incidence;
 use crate::steps::Step;
+use net_case::NetBranch;
 use plain_list::{List, Memory};
 use std::alloc::Global;
 
@@ -112,6 +114,21 @@ impl Search {
             search.follow_all(incidence, visit)?;
         }
         Ok(search)
+    }
+
+    /// A search over branches between so many buses.
+    pub fn over(
+        alloc: Global,
+        places: usize,
+        branches: &[NetBranch],
+        root: usize,
+    ) -> Result<Search, Memory>
+        requires branches { All (IsNetBranch places) branches.now }
+        requires root { root < places }
+        ensures { IfOk result (IsSearch branches.now places root) }
+    {
+        let incidence = Incidence::of(alloc, places, branches)?;
+        Search::new(alloc, &incidence, root)
     }
 
     /// The number of the visit at a place.

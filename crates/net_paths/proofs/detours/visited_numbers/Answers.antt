@@ -1,7 +1,6 @@
-use Rattle.std.proofs.Common.{◌≡◌, ◌∙◌, ◌+◌, ◌++◌, ◌∷◌, [], ℕ, List, sym, ap, subst, length}
+use Rattle.std.proofs.Common.{◌∙◌, ◌+◌, ◌++◌, ◌∷◌, [], ℕ, sym, ap, subst}
 use Rattle.std.specs.Prelude.{is_some}
 use Rattle.net_paths.specs.Detours.{HoldsSide}
-use Rattle.net_paths.specs.Searching.{visit_at}
 use Rattle.net_paths.proofs.SideLemmas.{side-more, side-skip, number_read}
 use Rattle.net_paths.proofs.detours.visited_numbers.Goals as goal
 use Rattle.net_paths.proofs.detours.visited_numbers.Goals.{then-is_some+in_ok-push, else-is_some}

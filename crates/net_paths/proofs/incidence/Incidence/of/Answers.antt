@@ -1,4 +1,4 @@
-use Rattle.std.proofs.Common.{◌≡◌, ◌+◌, ℕ, List, length, take, sym, subst}
+use Rattle.std.proofs.Common.{◌+◌, ℕ, List, length, take, sym, subst}
 use Rattle.std.proofs.lemmas.List.{take_more}
 use Rattle.net_case.specs.declared.live_parts.NetBranch.{NetBranch}
 use Rattle.net_paths.specs.Searching.{IsIncidence}

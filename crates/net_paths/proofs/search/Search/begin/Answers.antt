@@ -1,4 +1,4 @@
-use Rattle.std.proofs.Common.{◌≡◌, rules, replicate, None, Option, ℕ}
+use Rattle.std.proofs.Common.{◌≡◌, rules, replicate, None}
 use Rattle.net_paths.proofs.VisitLemmas.{visits-begin}
 use Rattle.net_paths.proofs.search.Search.begin.Goals as goal
 

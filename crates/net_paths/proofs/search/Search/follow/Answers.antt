@@ -2,7 +2,7 @@ use Rattle.std.proofs.Common.{◌≡◌, ◌∙◌, sym, ap, subst, length, Some
 use Rattle.std.specs.Prelude.{Contains, not}
 use Rattle.net_paths.specs.declared.steps.Step.{Step}
 use Rattle.net_paths.specs.declared.search.Visit.{Visit}
-use Rattle.net_paths.specs.Chains.{start_of, end_of, turned}
+use Rattle.net_paths.specs.Chains.{start_of, end_of}
 use Rattle.net_paths.specs.Searching.{IsVisit, visit_at}
 use Rattle.net_paths.proofs.ChainLemmas.{start_of-turned, end_of-turned}
 use Rattle.net_paths.proofs.VisitLemmas.{visits-more, free-read}

@@ -1,4 +1,4 @@
-use Rattle.std.proofs.Common.{◌≡◌, ◌∙◌, ◌+◌, ◌<◌, ℕ, arith, sym, ap, subst, length, get_or, take, Some, None, []}
+use Rattle.std.proofs.Common.{◌≡◌, ◌<◌, ℕ, arith, subst, length}
 use Rattle.net_paths.specs.Searching.{AreVisits}
 use Rattle.net_paths.proofs.VisitLemmas.{place_within, closed-more, visits-few}
 use Rattle.net_paths.proofs.search.Search.new.Goals as goal

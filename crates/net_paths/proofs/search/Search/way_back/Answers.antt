@@ -1,9 +1,8 @@
-use Rattle.std.proofs.Common.{◌≡◌, ◌∙◌, ◌++◌, ◌∷◌, [], ℕ, List, arith, sym, ap, subst, length, get_or, Some, None}
+use Rattle.std.proofs.Common.{sym, subst}
 use Rattle.std.proofs.lemmas.Option.{get_or_from_slice_get}
-use Rattle.net_paths.specs.declared.steps.Step.{Step}
 use Rattle.net_paths.specs.declared.search.Visit.{Visit}
 use Rattle.net_paths.specs.Searching.{IsWay, place_at}
-use Rattle.net_paths.proofs.WayLemmas.{way-begin, way-more, way-end}
+use Rattle.net_paths.proofs.WayLemmas.{way-more, way-end}
 use Rattle.net_paths.proofs.search.Search.way_back.Goals as goal
 
 pub loop-back-preserved : goal.loop-back-preserved
