@@ -3,3 +3,4 @@ pub mod IncidenceLemmas
 pub mod VisitLemmas
 pub mod WayLemmas
 pub mod SideLemmas
+pub mod LoopLemmas

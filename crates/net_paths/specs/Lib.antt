@@ -2,3 +2,4 @@ pub mod Chains
 pub mod Searching
 pub mod Connection
 pub mod Detours
+pub mod Loops
