@@ -18,18 +18,18 @@ module _ (lists : List (List Step)) (s : Step) (lt : start_of s < length lists) 
 
   contains-kept : (p : ℕ) (t : Step) → Contains (get_or lists p []) t → Contains (get_or (with_step lists s) p []) t
   contains-kept p t h = elim (cases_eq p (start_of s)) [
-      inl e ↦ rw (e, at_start) (Contains-append_left (get_or lists (start_of s) []) (s ∷ []) t (rw e at h))
+    | inl e ↦ rw (e, at_start) (Contains-append_left (get_or lists (start_of s) []) (s ∷ []) t (rw e at h))
     | inr ne ↦ rw (at_other p ne) h
-    ]
+  ]
 
   contains-new : Contains (get_or (with_step lists s) (start_of s) []) s
   contains-new = rw at_start (Contains-push (get_or lists (start_of s) []) s)
 
   all-kept : (P : Step → Type 0) (p : ℕ) → All P (get_or lists p []) → (p ≡ start_of s → P s) → All P (get_or (with_step lists s) p [])
   all-kept P p h k = elim (cases_eq p (start_of s)) [
-      inl e ↦ rw (e, at_start) (All-push P (get_or lists (start_of s) []) s (rw e at h) (k e))
+    | inl e ↦ rw (e, at_start) (All-push P (get_or lists (start_of s) []) s (rw e at h) (k e))
     | inr ne ↦ rw (at_other p ne) h
-    ]
+  ]
 
 module _ (before : List NetBranch) (branch : NetBranch) (places : ℕ) where
   step-more : (p : ℕ) (s : Step) → IsStepAt before places p s → IsStepAt (before ++ branch ∷ []) places p s
@@ -41,35 +41,44 @@ module _ (before : List NetBranch) (branch : NetBranch) (places : ℕ) where
     where
       there : Step
       there = record { branch = branch; forward = true }
+
       back : Step
       back = record { branch = branch; forward = false }
+
       mid : List (List Step)
       mid = with_step lists there
+
       mid-length : length mid ≡ length lists
       mid-length = length-set lists branch.from (get_or lists branch.from [] ++ there ∷ [])
+
       from-in : branch.from < length lists
       from-in = omega (arith, within.from, good.count)
+
       to-in : branch.to < length mid
       to-in = omega (arith, within.to, good.count, mid-length)
+
       here : Contains (before ++ branch ∷ []) branch
       here = Contains-push before branch
+
       sound : (p : ℕ) → All (IsStepAt (before ++ branch ∷ []) places p) (get_or (with_step mid back) p [])
       sound p =
           let P = IsStepAt (before ++ branch ∷ []) places p in
           all-kept mid back to-in P p
           (all-kept lists there from-in P p (All-weaker (IsStepAt before places p) P (step-more p) (get_or lists p []) (good.sound p))
-              (λ e. record { branch = here; start = sym e; end = within.to }))
+          (λ e. record { branch = here; start = sym e; end = within.to }))
           (λ e. record { branch = here; start = sym e; end = within.from })
+
       new : (b : NetBranch) (f : Bool) → branch ≡ b → Contains (get_or (with_step mid back) (start_of (record { branch = b; forward = f })) []) (record { branch = b; forward = f })
       new b true e = subst (λ (x : NetBranch). Contains (get_or (with_step mid back) x.from []) (record { branch = x; forward = true })) e
           (contains-kept mid back to-in branch.from there (contains-new lists there from-in))
       new b false e = subst (λ (x : NetBranch). Contains (get_or (with_step mid back) x.to []) (record { branch = x; forward = false })) e
           (contains-new mid back to-in)
+
       complete : (s : Step) → Contains (before ++ branch ∷ []) s.branch → Contains (get_or (with_step mid back) (start_of s) []) s
       complete s h = elim (Contains-push_cases before branch s.branch h) [
-          inl old ↦ contains-kept mid back to-in (start_of s) s (contains-kept lists there from-in (start_of s) s (good.complete s old))
+        | inl old ↦ contains-kept mid back to-in (start_of s) s (contains-kept lists there from-in (start_of s) s (good.complete s old))
         | inr e ↦ new s.branch s.forward e
-        ]
+      ]
 
 -- so many buses at which no branch stands
 pub IsIncidence-none : (places : ℕ) (lists : List (List Step)) → length lists ≡ places → ((p : ℕ) → get_or lists p [] ≡ []) → IsIncidence [] places lists

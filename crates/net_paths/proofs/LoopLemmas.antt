@@ -1,6 +1,6 @@
 -- The tree and the loops, with a branch more.
-use Rattle.std.proofs.Common.{◌≡◌, ◌≢◌, ℕ, ◌<◌, List, [], ◌∷◌, ◌++◌, Bool, true, false, refl, sym, ap, subst, ◌∙◌, length, arith, Option, Some, None, map}
-use Rattle.std.specs.Prelude.{Result, Ok, Err, IfOk, MatchResult, All, AllPairs, Contains, not, ◌==◌, filter}
+use Rattle.std.proofs.Common.{◌≡◌, ◌≢◌, ℕ, List, [], ◌∷◌, ◌++◌, true, false, refl, sym, ◌∙◌, Option, Some, None, map}
+use Rattle.std.specs.Prelude.{Result, Ok, Err, IfOk, MatchResult, All, Contains, not, ◌==◌}
 use Rattle.std.specs.List.{AllZip}
 use Rattle.std.proofs.lemmas.List.{append-nil}
 use Rattle.std.proofs.lemmas.List.Elements.{All-map, All-weaker, Contains-append_left, filter-append}
@@ -8,10 +8,10 @@ use Rattle.std.proofs.lemmas.List.Kept.{AllPairs-cons}
 use Rattle.net_case.specs.declared.live_parts.NetBranch.{NetBranch}
 use Rattle.net_paths.specs.declared.steps.Step.{Step}
 use Rattle.net_paths.specs.declared.loops_of_tree.Member.{Member}
-use Rattle.net_paths.specs.Chains.{start_of, Pass, Lead, AreJoined}
+use Rattle.net_paths.specs.Chains.{start_of, AreJoined}
 use Rattle.net_paths.specs.Detours.{others}
 use Rattle.net_paths.specs.Searching.{IsIncidence, IsWayBack}
-use Rattle.net_paths.specs.Loops.{is_lost, kept, Parts, nothing, in_tree, in_rest, members_of, IsLoop, AreLoops, HoldsTree}
+use Rattle.net_paths.specs.Loops.{is_lost, kept, nothing, in_tree, in_rest, members_of, IsLoop, HoldsTree}
 use Rattle.net_paths.proofs.ChainLemmas.{joined_sym}
 
 -- ---- lists side by side
@@ -56,12 +56,16 @@ module _ (branches : List NetBranch) (places : ℕ) (lists : List (List Step)) (
     where
       tree : List NetBranch
       tree = holds.loops_are.tree
+
       rest : List NetBranch
       rest = holds.loops_are.rest
+
       there : Step
       there = record { branch = b; forward = true }
+
       off : All (λ p. b.from ≢ p) (map start_of way)
       off = All-map (λ (p : ℕ). b.from ≢ p) start_of way (All-weaker (λ (s : Step). start_of s ≢ b.from) (λ (s : Step). b.from ≢ start_of s) (λ s ne e. ne (sym e)) way back.off_root)
+
       closes : IsLoop tree b made
       closes = record { back = way; pass = back.pass; lead = back.lead; apart = AllPairs-cons (λ p q. p ≢ q) b.from (map start_of way) off back.apart; members_are = is }
 
@@ -78,13 +82,17 @@ module _ (branches : List NetBranch) (places : ℕ) (lists : List (List Step)) (
     where
       tree : List NetBranch
       tree = holds.loops_are.tree
+
       rest : List NetBranch
       rest = holds.loops_are.rest
+
       more : (x : NetBranch) (members : List Member) → IsLoop tree x members → IsLoop (tree ++ b ∷ []) x members
       more x members h = record {
         back = h.back;
         pass = All-weaker (λ (s : Step). Contains tree s.branch) (λ (s : Step). Contains (tree ++ b ∷ []) s.branch) (λ s c. Contains-append_left tree (b ∷ []) s.branch c) h.back h.pass;
-        lead = h.lead; apart = h.apart; members_are = h.members_are;
+        lead = h.lead;
+        apart = h.apart;
+        members_are = h.members_are;
       }
 
 -- what holds at the end holds of an answer that is not an error

@@ -44,9 +44,9 @@ module _ (network : Network) (seen : List (Option ℕ)) where
     where
       all : (p : ℕ) → p < upto + 1 → IsSome (visit_at seen p) → Contains (side.places ++ upto ∷ []) p
       all p lt at = elim (cases_lt p upto) [
-          inl old ↦ Contains-append_left side.places (upto ∷ []) p (side.all p old at)
+        | inl old ↦ Contains-append_left side.places (upto ∷ []) p (side.all p old at)
         | inr le ↦ let is : upto ≡ p = omega (arith, le, lt) in subst (Contains (side.places ++ upto ∷ [])) is (Contains-push side.places upto)
-        ]
+      ]
 
   pub side-skip : (upto : ℕ) (numbers : List ℕ) → HoldsSide network seen upto numbers → is_some (visit_at seen upto) ≡ false → HoldsSide network seen (upto + 1) numbers
   side-skip upto numbers side none = record {
@@ -60,9 +60,9 @@ module _ (network : Network) (seen : List (Option ℕ)) where
     where
       all : (p : ℕ) → p < upto + 1 → IsSome (visit_at seen p) → Contains side.places p
       all p lt at = elim (cases_lt p upto) [
-          inl old ↦ side.all p old at
+        | inl old ↦ side.all p old at
         | inr le ↦ let is : p ≡ upto = omega (arith, le, lt) in absurd (no (sym at ∙ ap (λ (q : ℕ). is_some (visit_at seen q)) is ∙ none))
-        ]
+      ]
         where
           no : true ≡ false → ⊥
           no e = cc
@@ -82,20 +82,26 @@ side_is network branches b search numbers whole within side = record {
   within = side.within;
   joined = All-weaker (λ (p : ℕ). IsSome (visit_at seen p)) (AreJoined branches b) to_b side.places side.visited;
   all = λ p lt h. side.all p lt (from_b p h);
-  closed = λ branch contains. (onto (record { branch = branch; forward = true }) contains (All-contains (IsNetBranch n) branches branch within contains).to,
-      onto (record { branch = branch; forward = false }) contains (All-contains (IsNetBranch n) branches branch within contains).from);
+  closed = λ branch contains. (
+    onto (record { branch = branch; forward = true }) contains (All-contains (IsNetBranch n) branches branch within contains).to,
+    onto (record { branch = branch; forward = false }) contains (All-contains (IsNetBranch n) branches branch within contains).from,
+  );
   numbers_are = side.numbers_are;
 }
   where
     n : ℕ
     n = length network.buses
+
     seen : List (Option ℕ)
     seen = search.seen.items
+
     to_b : (p : ℕ) → IsSome (visit_at seen p) → AreJoined branches b p
     to_b p = visited_joined branches n b search.visits seen whole.visits p
+
     from_b : (p : ℕ) → AreJoined branches b p → IsSome (visit_at seen p)
     from_b p = joined_visited branches n b search.visits seen whole.visits whole.closed p
+
     onto : (s : Step) → Contains branches s.branch → end_of s < n → Contains side.places (start_of s) → Contains side.places (end_of s)
     onto s contains lt here =
         side.all (end_of s) lt (from_b (end_of s) (joined_trans branches b (start_of s) (end_of s)
-              (to_b (start_of s) (All-contains (λ (p : ℕ). IsSome (visit_at seen p)) side.places (start_of s) side.visited here)) (joined_step branches s contains)))
+        (to_b (start_of s) (All-contains (λ (p : ℕ). IsSome (visit_at seen p)) side.places (start_of s) side.visited here)) (joined_step branches s contains)))

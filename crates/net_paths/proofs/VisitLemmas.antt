@@ -31,7 +31,9 @@ module _ (branches : List NetBranch) (root : ℕ) (visits : List Visit) (more : 
       by : (back : Option Back) → MatchOption back (v.place ≡ root) (λ b. IsBack branches visits i v.place b) → MatchOption back (v.place ≡ root) (λ b. IsBack branches (visits ++ more ∷ []) i v.place b)
       by None h = h
       by (Some b) h = record {
-        before = h.before; branch = h.branch; start = h.start;
+        before = h.before;
+        branch = h.branch;
+        start = h.start;
         end = λ d. rw (get_or_append_left visits (more ∷ []) d b.visit (omega (arith, h.before))) (h.end d);
       }
 
@@ -65,23 +67,25 @@ module _ (branches : List NetBranch) (places root : ℕ) (visits : List Visit) (
     where
       back : (i : ℕ) (d : Visit) → i < length (visits ++ more ∷ []) → IsVisit branches root (visits ++ more ∷ []) i (get_or (visits ++ more ∷ []) i d)
       back i d lt = elim (split i lt) [
-          inl old ↦ rw (get_or_append_left visits (more ∷ []) d i old) (visit-more branches root visits more i (get_or visits i d) (omega (arith, old)) (good.back i d old))
+        | inl old ↦ rw (get_or_append_left visits (more ∷ []) d i old) (visit-more branches root visits more i (get_or visits i d) (omega (arith, old)) (good.back i d old))
         | inr e ↦ rw (get_or_push visits more d i e) (rw e at (visit-more branches root visits more (length visits) more (omega arith) is))
-        ]
+      ]
+
       noted : (i : ℕ) (d : Visit) → i < length (visits ++ more ∷ []) → visit_at (noted_next visits seen more.place) (get_or (visits ++ more ∷ []) i d).place ≡ Some i
       noted i d lt = elim (split i lt) [
-          inl old ↦ rw (get_or_append_left visits (more ∷ []) d i old, other (get_or visits i d).place (apart (get_or visits i d).place i (good.noted i d old))) (good.noted i d old)
+        | inl old ↦ rw (get_or_append_left visits (more ∷ []) d i old, other (get_or visits i d).place (apart (get_or visits i d).place i (good.noted i d old))) (good.noted i d old)
         | inr e ↦ rw (get_or_push visits more d i e) (here ∙ ap Some e)
-        ]
+      ]
+
       found : (p i : ℕ) → visit_at (noted_next visits seen more.place) p ≡ Some i → (i < length (visits ++ more ∷ [])) × ((d : Visit) → (get_or (visits ++ more ∷ []) i d).place ≡ p)
       found p i at = elim (cases_eq p more.place) [
-          inl e ↦
+        | inl e ↦
             let last : length visits ≡ i = cc (here, e, at) in
             (omega (arith, last, length_push visits more), λ d. rw (get_or_push visits more d i last) (sym e))
         | inr ne ↦
             let old = good.found p i (rw (other p ne) at at) in
             (omega (arith, old.0, length_push visits more), λ d. rw (get_or_append_left visits (more ∷ []) d i old.0) (old.1 d))
-        ]
+      ]
 
 -- the first visit alone
 pub visits-begin : (branches : List NetBranch) (places root : ℕ) → root < places → AreVisits branches places root (record { place = root; back = None } ∷ []) (set (replicate places None) root (Some 0))
@@ -96,33 +100,41 @@ visits-begin branches places root lt = record {
   where
     none : List (Option ℕ)
     none = replicate places None
+
     first : List Visit
     first = record { place = root; back = None } ∷ []
+
     in_room : root < length none
     in_room = omega (arith, lt, length-replicate {A = Option ℕ} places None)
+
     free : get_or none root None ≡ None
     free = get_or-replicate places root None None lt
+
     here : visit_at (set none root (Some 0)) root ≡ Some 0
     here = get_or-set_same none root (Some 0) None in_room
+
     back : (i : ℕ) (d : Visit) → i < 1 → IsVisit branches root first i (get_or first i d)
     back zero d le = refl
     back (suc i) d le = absurd (omega arith)
+
     noted : (i : ℕ) (d : Visit) → i < 1 → visit_at (set none root (Some 0)) (get_or first i d).place ≡ Some i
     noted zero d le = here
     noted (suc i) d le = absurd (omega arith)
+
     nowhere : (p : ℕ) → get_or none p None ≡ None
     nowhere p = elim (cases_lt p places) [
-        inl lt ↦ get_or-replicate places p None None lt
+      | inl lt ↦ get_or-replicate places p None None lt
       | inr le ↦ get_or_past none p None (omega (arith, le, length-replicate {A = Option ℕ} places None))
-      ]
+    ]
+
     found : (p i : ℕ) → visit_at (set none root (Some 0)) p ≡ Some i → (i < 1) × ((d : Visit) → (get_or first i d).place ≡ p)
     found p i at = elim (cases_eq p root) [
-        inl e ↦
+      | inl e ↦
           let zeroth : 0 ≡ i = cc (here, e, at) in
           (omega arith, rw (← zeroth) (λ d. sym e))
       | inr ne ↦
           let no : None ≡ Some i = sym (nowhere p) ∙ sym (get_or-set_other none root p (Some 0) None ne) ∙ at in cc
-      ]
+    ]
 
 -- a place whose visit's number is read as none
 pub free-read : (seen : List (Option ℕ)) (place : ℕ) (r : Option ℕ) → place < length seen → r ≡ get_or seen place r → is_some r ≡ false → visit_at seen place ≡ None
@@ -144,9 +156,9 @@ goes_on-trans r s t h k = record {
 pub place_within : (branches : List NetBranch) (places root : ℕ) (visits : List Visit) (seen : List (Option ℕ)) → AreVisits branches places root visits seen
     → (i : ℕ) (d : Visit) → i < length visits → (get_or visits i d).place < places
 place_within branches places root visits seen good i d lt = elim (cases_lt (get_or visits i d).place (length seen)) [
-    inl within ↦ omega (arith, within, good.room)
+  | inl within ↦ omega (arith, within, good.room)
   | inr past ↦ absurd (no (sym (good.noted i d lt) ∙ get_or_past seen (get_or visits i d).place None past))
-  ]
+]
   where
     no : Some i ≡ None → ⊥
     no e = cc
@@ -156,13 +168,13 @@ pub closed-more : (branches : List NetBranch) (places : ℕ) (lists : List (List
     → ((place : ℕ) → ((d : Visit) → (get_or before.visits visit d).place ≡ place) → All (λ s. IsSome (visit_at after.seen.items (end_of s))) (get_or lists place []))
     → IsClosed branches after.visits after.seen.items (visit + 1)
 closed-more branches places lists inc before after visit on lt closed here i d below s contains start = elim (cases_lt i visit) [
-    inl old ↦ on.seen (end_of s) (closed i d old s contains (start ∙ ap (λ (v : Visit). v.place) (on.visits i d (omega (arith, old, lt)))))
+  | inl old ↦ on.seen (end_of s) (closed i d old s contains (start ∙ ap (λ (v : Visit). v.place) (on.visits i d (omega (arith, old, lt)))))
   | inr le ↦
-    let is : i ≡ visit = omega (arith, le, below) in
-    let same = λ (e : Visit). get_or_default before.visits visit e d lt ∙ sym (on.visits visit d lt) ∙ ap (λ (k : ℕ). get_or after.visits k d) (sym is) in
-    All-contains (λ (t : Step). IsSome (visit_at after.seen.items (end_of t))) (get_or lists (start_of s) []) s
-    (here (start_of s) (λ e. ap (λ (v : Visit). v.place) (same e) ∙ sym start)) (inc.complete s contains)
-  ]
+      let is : i ≡ visit = omega (arith, le, below) in
+      let same = λ (e : Visit). get_or_default before.visits visit e d lt ∙ sym (on.visits visit d lt) ∙ ap (λ (k : ℕ). get_or after.visits k d) (sym is) in
+      All-contains (λ (t : Step). IsSome (visit_at after.seen.items (end_of t))) (get_or lists (start_of s) []) s
+      (here (start_of s) (λ e. ap (λ (v : Visit). v.place) (same e) ∙ sym start)) (inc.complete s contains)
+]
 
 -- no more places are visited than there are
 pub visits-few : (branches : List NetBranch) (places root : ℕ) (visits : List Visit) (seen : List (Option ℕ)) → AreVisits branches places root visits seen → length visits ≤ places

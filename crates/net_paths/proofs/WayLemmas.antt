@@ -72,25 +72,33 @@ module _ (branches : List NetBranch) (places root : ℕ) (visits : List Visit) (
 
   pub way-more : (place visit : ℕ) (steps : List Step) (v : Visit) (b : Back) → visit < length visits → ((d : Visit) → get_or visits visit d ≡ v) → v.back ≡ Some b
       → IsWay branches visits seen place visit steps → (b.visit < length visits) × (b.visit < visit) × IsWay branches visits seen place b.visit (steps ++ b.step ∷ [])
-  way-more place visit steps v b lt at is way = (omega (arith, lt, here.before), here.before, record {
-    pass = All-push (λ (s : Step). Contains branches s.branch) steps b.step way.pass here.branch;
-    lead = Lead-append steps (b.step ∷ []) place (place_at visits visit) (place_at visits b.visit) way.lead (start, sym (here.end nowhere));
-    apart = subst (AllPairs (λ p q. p ≢ q)) (sym (map_push start_of steps b.step))
-        (all_pairs_push (λ p q. p ≢ q) (map start_of steps) (start_of b.step) way.apart other);
-    later = All-push (λ (s : Step). (m : ℕ) × (visit_at seen (start_of s) ≡ Some m) × (b.visit < m)) steps b.step
-        (All-weaker (λ (s : Step). (m : ℕ) × (visit_at seen (start_of s) ≡ Some m) × (visit < m)) (λ (s : Step). (m : ℕ) × (visit_at seen (start_of s) ≡ Some m) × (b.visit < m))
-            (λ s h. (h.0, h.1, omega (arith, h.2, here.before))) steps way.later)
-        (visit, number, here.before);
-  })
+  way-more place visit steps v b lt at is way = (
+    omega (arith, lt, here.before),
+    here.before,
+    record {
+      pass = All-push (λ (s : Step). Contains branches s.branch) steps b.step way.pass here.branch;
+      lead = Lead-append steps (b.step ∷ []) place (place_at visits visit) (place_at visits b.visit) way.lead (start, sym (here.end nowhere));
+      apart = subst (AllPairs (λ p q. p ≢ q)) (sym (map_push start_of steps b.step))
+          (all_pairs_push (λ p q. p ≢ q) (map start_of steps) (start_of b.step) way.apart other);
+      later = All-push (λ (s : Step). (m : ℕ) × (visit_at seen (start_of s) ≡ Some m) × (b.visit < m)) steps b.step
+          (All-weaker (λ (s : Step). (m : ℕ) × (visit_at seen (start_of s) ≡ Some m) × (visit < m)) (λ (s : Step). (m : ℕ) × (visit_at seen (start_of s) ≡ Some m) × (b.visit < m))
+          (λ s h. (h.0, h.1, omega (arith, h.2, here.before))) steps way.later)
+          (visit, number, here.before);
+    },
+  )
     where
       from : MatchOption v.back (v.place ≡ root) (λ k. IsBack branches visits visit v.place k)
       from = subst (λ (w : Visit). MatchOption w.back (w.place ≡ root) (λ k. IsBack branches visits visit w.place k)) (at nowhere) (good.back visit nowhere lt)
+
       here : IsBack branches visits visit v.place b
       here = subst (λ (o : Option Back). MatchOption o (v.place ≡ root) (λ k. IsBack branches visits visit v.place k)) is from
+
       start : start_of b.step ≡ place_at visits visit
       start = here.start ∙ sym (ap (λ (w : Visit). w.place) (at nowhere))
+
       number : visit_at seen (start_of b.step) ≡ Some visit
       number = rw start (good.noted visit nowhere lt)
+
       other : (k : ℕ) (d : ℕ) → k < length (map start_of steps) → get_or (map start_of steps) k d ≢ start_of b.step
       other = All-map (λ (p : ℕ). p ≢ start_of b.step) start_of steps
           (All-weaker (λ (s : Step). (m : ℕ) × (visit_at seen (start_of s) ≡ Some m) × (visit < m)) (λ (s : Step). start_of s ≢ start_of b.step) differs steps way.later)
@@ -109,10 +117,13 @@ module _ (branches : List NetBranch) (places root : ℕ) (visits : List Visit) (
     where
       from : MatchOption v.back (v.place ≡ root) (λ k. IsBack branches visits visit v.place k)
       from = subst (λ (w : Visit). MatchOption w.back (w.place ≡ root) (λ k. IsBack branches visits visit w.place k)) (at nowhere) (good.back visit nowhere lt)
+
       at_root : v.place ≡ root
       at_root = subst (λ (o : Option Back). MatchOption o (v.place ≡ root) (λ k. IsBack branches visits visit v.place k)) is from
+
       home : place_at visits visit ≡ root
       home = ap (λ (w : Visit). w.place) (at nowhere) ∙ at_root
+
       differs : (s : Step) → (m : ℕ) × (visit_at seen (start_of s) ≡ Some m) × (visit < m) → start_of s ≢ root
       differs s h e = let same : h.0 ≡ 0 = cc (h.1, good.begun, e) in absurd (omega (arith, same, h.2))
 

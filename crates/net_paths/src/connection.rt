@@ -14,9 +14,7 @@ use std::alloc::Global;
 #[derive(Clone, Copy, Debug, PartialEq, Eq)]
 pub enum PathStop {
     /// The number of the first live bus that no live branches join to the first one.
-    Split {
-        bus: u32,
-    },
+    Split { bus: u32 },
     Memory,
 }
 
@@ -34,7 +32,7 @@ impl From<Memory> for PathStop {
 fn first_apart(search: &Search) -> Option<usize>
     ensures { MatchOption result ((p : ℕ) → p < length search.now.seen.items → IsSome (visit_at search.now.seen.items p))
         (λ apart. (apart < length search.now.seen.items) × (visit_at search.now.seen.items apart ≡ None)
-            × ((p : ℕ) → p < apart → IsSome (visit_at search.now.seen.items p))) }
+        × ((p : ℕ) → p < apart → IsSome (visit_at search.now.seen.items p))) }
 {
     for place in 0..search.seen.len() {
         if search.visit_of(place).is_none() {

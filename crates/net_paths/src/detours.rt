@@ -62,11 +62,7 @@ fn rows_of(alloc: Global, steps: &[Step]) -> Result<List<u32>, Memory>
 }
 
 /// The numbers of the buses at the places that a search has visited, in row order.
-fn visited_numbers(
-    alloc: Global,
-    network: &Network,
-    search: &Search,
-) -> Result<List<u32>, Memory>
+fn visited_numbers(alloc: Global, network: &Network, search: &Search) -> Result<List<u32>, Memory>
     requires { length search.now.seen.items ≡ length network.now.buses }
     ensures { IfOk result (HoldsSide network.now search.now.seen.items (length network.now.buses)) }
 {
@@ -80,12 +76,7 @@ fn visited_numbers(
 }
 
 /// A search over the live branches of other rows.
-fn search_without(
-    alloc: Global,
-    network: &Network,
-    row: u32,
-    root: usize,
-) -> Result<Search, Memory>
+fn search_without(alloc: Global, network: &Network, row: u32, root: usize) -> Result<Search, Memory>
     requires network { IsNetwork network.now }
     requires root { root < length network.now.buses }
     ensures { IfOk result (IsSearch (others row network.now.branches) (length network.now.buses) root) }

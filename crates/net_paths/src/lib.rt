@@ -11,3 +11,6 @@ mod steps;
 pub use connection::{PathStop, connected};
 pub use detours::{Detour, without};
 pub use loops_of_tree::{Loop, Loops, Member, loops};
+
+#[cfg(test)]
+mod tests;

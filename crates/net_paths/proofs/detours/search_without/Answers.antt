@@ -14,7 +14,7 @@ over-requires c =
     let kept : c.slice-2.result.now ≡ others c.args.row branches = c.slice-2.ensures ∙ c.in_ok-kept.ensures ∙ ap (others c.args.row) c.slice.ensures in
     record {
       branches = subst (All P) (sym kept)
-      (All-filter (λ (b : NetBranch). not (b.row == c.args.row)) P branches (subst (λ (n : ℕ). All (IsNetBranch n) branches) (sym c.len.ensures) c.requires.network.branches));
+          (All-filter (λ (b : NetBranch). not (b.row == c.args.row)) P branches (subst (λ (n : ℕ). All (IsNetBranch n) branches) (sym c.len.ensures) c.requires.network.branches));
       root = omega (arith, c.requires.root, c.len.ensures);
     }
 

@@ -12,7 +12,7 @@ loop-place-preserved c =
     let place = c.loop-place.place in
     let test = ap is_some (sym c.visit_of.ensures) ∙ sym c.is_some.ensures in
     elim c.if-is_some.branch [
-      then-is_some+in_ok-push w ↦ subst (HoldsSide network seen (place + 1)) (sym (w.numbers-is ∙ w.in_ok-push.ensures ∙ ap (λ (n : ℕ). c.loop-place.numbers ++ n ∷ []) (sym (number_read network place w.at.result.now w.at.ensures))))
+      | then-is_some+in_ok-push w ↦ subst (HoldsSide network seen (place + 1)) (sym (w.numbers-is ∙ w.in_ok-push.ensures ∙ ap (λ (n : ℕ). c.loop-place.numbers ++ n ∷ []) (sym (number_read network place w.at.result.now w.at.ensures))))
           (side-more network seen place c.loop-place.numbers c.loop-place.invariant (test ∙ w.if-is_some.true))
-    | else-is_some w ↦ subst (HoldsSide network seen (place + 1)) (sym w.numbers-is) (side-skip network seen place c.loop-place.numbers c.loop-place.invariant (test ∙ w.if-is_some.false))
+      | else-is_some w ↦ subst (HoldsSide network seen (place + 1)) (sym w.numbers-is) (side-skip network seen place c.loop-place.numbers c.loop-place.invariant (test ∙ w.if-is_some.false))
     ]

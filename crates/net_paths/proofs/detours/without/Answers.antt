@@ -63,7 +63,9 @@ returns c =
     let apart : ¬ AreJoined bs branch.from branch.to = λ h. not_none (visit_at search.seen.items branch.from) (sym c.visit_of.ensures ∙ c.in-None.is)
     (joined_visited bs n branch.to search.visits search.seen.items whole.visits whole.closed branch.from (joined_sym bs branch.from branch.to h)) in
     let ends : All (IsNetBranch n) bs = All-filter (λ (b : NetBranch). not (b.row == c.args.k)) (IsNetBranch n) network.branches c.requires.network.branches in
-    let side : IsSide network bs branch.to numbers = side_is network bs branch.to search numbers whole ends c.in_ok-numbers-in-None.ensures in
-    (branch, c.branch_of-branch.ensures,
+    let side : IsSide network bs branch.to numbers = side_is network bs branch.to search numbers whole ends c.in_ok-numbers-in-None.ensures in (
+      branch,
+      c.branch_of-branch.ensures,
       subst (λ (k : ℕ). (¬ AreJoined (others k network.branches) branch.from branch.to) × IsSide network (others k network.branches) branch.to numbers)
-      (sym c.branch_of-branch.ensures.row_is) (apart, side))
+          (sym c.branch_of-branch.ensures.row_is) (apart, side),
+    )

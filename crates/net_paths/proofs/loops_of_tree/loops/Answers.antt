@@ -1,9 +1,7 @@
 use Rattle.std.proofs.Common.{◌≡◌, ◌∙◌, ◌+◌, ◌++◌, ◌∷◌, [], ℕ, List, sym, ap, subst, length, get_or, take, true, false, None}
-use Rattle.std.specs.Prelude.{not}
 use Rattle.std.proofs.lemmas.List.{take_more}
 use Rattle.net_case.specs.declared.live_parts.NetBranch.{NetBranch}
 use Rattle.net_paths.specs.declared.incidence.Incidence.{Incidence}
-use Rattle.net_paths.specs.declared.loops_of_tree.Member.{Member}
 use Rattle.net_paths.specs.Searching.{IsIncidence}
 use Rattle.net_paths.specs.Loops.{HoldsTree, kept, is_lost}
 use Rattle.net_paths.proofs.LoopLemmas.{kept-lost, kept-other, tree-none}
@@ -28,17 +26,17 @@ loop-branch-preserved c =
     let tree = c.loop-branch.tree in
     let inv = c.loop-branch.invariant in
     elim c.if-not-is_lost.branch [
-      then-not-is_lost+in_ok-take_branch w ↦
-        let other : is_lost c.args.lost b ≡ false = sym c.is_lost.ensures ∙ w.if-not-is_lost.true in
-        let after = w.take_branch.new.tree in
-        let sized = subst (λ (m : ℕ). HoldsTree K m tree.lists.items c.loop-branch.loops) (sym inv.tree_is.count) inv in
-        let done = subst (λ (m : ℕ). HoldsTree (K ++ b ∷ []) m after.lists.items w.take_branch.new.loops) inv.tree_is.count (w.in_ok-take_branch.ensures K sized) in
-        let all = subst (λ (bs : List NetBranch). HoldsTree bs n after.lists.items w.take_branch.new.loops) (sym (more ∙ kept-other c.args.lost (take i items) b other)) done in
-        subst (λ (t : Incidence). HoldsTree (kept c.args.lost (take (i + 1) items)) n t.lists.items c.if-not-is_lost.loops) (sym w.tree-is)
-        (subst (HoldsTree (kept c.args.lost (take (i + 1) items)) n after.lists.items) (sym w.loops-is) all)
-    | else-not-is_lost w ↦
-        let gone : is_lost c.args.lost b ≡ true = sym c.is_lost.ensures ∙ w.if-not-is_lost.false in
-        let all = subst (λ (bs : List NetBranch). HoldsTree bs n tree.lists.items c.loop-branch.loops) (sym (more ∙ kept-lost c.args.lost (take i items) b gone)) inv in
-        subst (λ (t : Incidence). HoldsTree (kept c.args.lost (take (i + 1) items)) n t.lists.items c.if-not-is_lost.loops) (sym w.tree-is)
-        (subst (HoldsTree (kept c.args.lost (take (i + 1) items)) n tree.lists.items) (sym w.loops-is) all)
+      | then-not-is_lost+in_ok-take_branch w ↦
+          let other : is_lost c.args.lost b ≡ false = sym c.is_lost.ensures ∙ w.if-not-is_lost.true in
+          let after = w.take_branch.new.tree in
+          let sized = subst (λ (m : ℕ). HoldsTree K m tree.lists.items c.loop-branch.loops) (sym inv.tree_is.count) inv in
+          let done = subst (λ (m : ℕ). HoldsTree (K ++ b ∷ []) m after.lists.items w.take_branch.new.loops) inv.tree_is.count (w.in_ok-take_branch.ensures K sized) in
+          let all = subst (λ (bs : List NetBranch). HoldsTree bs n after.lists.items w.take_branch.new.loops) (sym (more ∙ kept-other c.args.lost (take i items) b other)) done in
+          subst (λ (t : Incidence). HoldsTree (kept c.args.lost (take (i + 1) items)) n t.lists.items c.if-not-is_lost.loops) (sym w.tree-is)
+          (subst (HoldsTree (kept c.args.lost (take (i + 1) items)) n after.lists.items) (sym w.loops-is) all)
+      | else-not-is_lost w ↦
+          let gone : is_lost c.args.lost b ≡ true = sym c.is_lost.ensures ∙ w.if-not-is_lost.false in
+          let all = subst (λ (bs : List NetBranch). HoldsTree bs n tree.lists.items c.loop-branch.loops) (sym (more ∙ kept-lost c.args.lost (take i items) b gone)) inv in
+          subst (λ (t : Incidence). HoldsTree (kept c.args.lost (take (i + 1) items)) n t.lists.items c.if-not-is_lost.loops) (sym w.tree-is)
+          (subst (HoldsTree (kept c.args.lost (take (i + 1) items)) n tree.lists.items) (sym w.loops-is) all)
     ]

@@ -1,7 +1,6 @@
-use Rattle.std.proofs.Common.{◌≡◌, ◌∙◌, ◌++◌, ◌∷◌, [], ℕ, List, Option, sym, ap, subst, length, true}
-use Rattle.std.specs.Prelude.{MatchOption, IfOk}
+use Rattle.std.proofs.Common.{◌≡◌, ◌∙◌, ◌++◌, ◌∷◌, [], List, Option, sym, ap, subst, length, true}
+use Rattle.std.specs.Prelude.{MatchOption}
 use Rattle.net_paths.specs.declared.steps.Step.{Step}
-use Rattle.net_paths.specs.declared.loops_of_tree.Member.{Member}
 use Rattle.net_paths.specs.Chains.{AreJoined}
 use Rattle.net_paths.specs.Searching.{IsWayBack}
 use Rattle.net_paths.specs.Loops.{HoldsTree, members_of}

@@ -1,4 +1,4 @@
-use Rattle.std.proofs.Common.{◌≡◌, ◌∙◌, ℕ, arith, sym, subst, length}
+use Rattle.std.proofs.Common.{◌∙◌, ℕ, arith, sym, subst, length}
 use Rattle.net_paths.specs.Searching.{IsWayBack, visit_at}
 use Rattle.net_paths.proofs.WayLemmas.{joined_visited, not_none, nowhere}
 use Rattle.net_paths.proofs.loops_of_tree.way_through.Goals as goal

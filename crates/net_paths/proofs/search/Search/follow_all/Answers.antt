@@ -34,12 +34,12 @@ loop-step-preserved c =
       room = c.follow.ensures.room ∙ c.loop-step.invariant.room;
       on = goes_on-trans c.args.self.now c.loop-step.self c.follow.new.self on c.in_ok-follow.ensures.on;
       visits = λ branches places root inc old.
-      let step = step_read branches places c.args.incidence.now.lists.items inc c.at.result.now.place items c.at-step-items.ensures k _ c.loop-step-test.true in
-      c.in_ok-follow.ensures.search branches places root (c.loop-step.invariant.visits branches places root inc old) step.branch (λ d. step.start ∙ sym (ap (λ (v : Visit). v.place) (here d)));
+          let step = step_read branches places c.args.incidence.now.lists.items inc c.at.result.now.place items c.at-step-items.ensures k _ c.loop-step-test.true in
+          c.in_ok-follow.ensures.search branches places root (c.loop-step.invariant.visits branches places root inc old) step.branch (λ d. step.start ∙ sym (ap (λ (v : Visit). v.place) (here d)));
       seen = All-more (λ (s : Step). IsSome (visit_at c.follow.new.self.seen.items (end_of s))) items k _ c.loop-step-test.true
-      (All-weaker (λ (s : Step). IsSome (visit_at c.loop-step.self.seen.items (end_of s))) (λ (s : Step). IsSome (visit_at c.follow.new.self.seen.items (end_of s)))
+          (All-weaker (λ (s : Step). IsSome (visit_at c.loop-step.self.seen.items (end_of s))) (λ (s : Step). IsSome (visit_at c.follow.new.self.seen.items (end_of s)))
           (λ s. c.in_ok-follow.ensures.on.seen (end_of s)) (take k items) c.loop-step.invariant.seen)
-      c.in_ok-follow.ensures.seen;
+          c.in_ok-follow.ensures.seen;
     }
 
 pub returns-clause-seen : goal.returns-clause-seen

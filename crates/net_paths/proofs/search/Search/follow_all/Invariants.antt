@@ -10,6 +10,6 @@ invariant-loop-step l = record {
   room : length l.self.seen.items ≡ length l.incidence.lists.items;
   on : GoesOn l.fn.self l.self;
   visits : (branches : List NetBranch) (places root : ℕ) → IsIncidence branches places l.incidence.lists.items → AreVisits branches places root l.fn.self.visits l.fn.self.seen.items
-    → AreVisits branches places root l.self.visits l.self.seen.items;
+      → AreVisits branches places root l.self.visits l.self.seen.items;
   seen : All (λ s. IsSome (visit_at l.self.seen.items (end_of s))) (take l.step-index l.step-items);
 }

@@ -34,7 +34,7 @@ loop-visit-preserved c =
       count = omega (arith, on.longer, lt);
       visits = λ branches inc. c.in_ok-follow_all.ensures.visits branches n c.args.root inc (c.loop-visit.invariant.visits branches inc);
       closed = λ branches inc. closed-more branches n c.args.incidence.now.lists.items inc c.loop-visit.search c.follow_all.new.self c.loop-visit.visit on lt
-      (c.loop-visit.invariant.closed branches inc) c.in_ok-follow_all.ensures.seen;
+          (c.loop-visit.invariant.closed branches inc) c.in_ok-follow_all.ensures.seen;
     }
 
 pub returns-then-visit-len : goal.returns-then-visit-len

@@ -16,7 +16,7 @@ loop-back-preserved c =
           (c.loop-back.invariant.way any.0 any.1 any.2 any.3)).0;
       way = λ branches places root good. subst (IsWay branches visits seen (place_at visits c.args.visit) c.in-Some.back.visit) (sym c.in_ok-push.ensures)
           (way-more branches places root visits seen good (place_at visits c.args.visit) c.loop-back.visit c.loop-back.steps c.at.result.now c.in-Some.back c.loop-back.invariant.within at c.in-Some.is
-              (c.loop-back.invariant.way branches places root good)).2;
+          (c.loop-back.invariant.way branches places root good)).2;
     }
 
 pub returns : goal.returns

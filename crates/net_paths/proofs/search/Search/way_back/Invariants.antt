@@ -7,7 +7,7 @@ abbrev pub invariant-loop-back : goal.invariant-loop-back
 invariant-loop-back l = record {
   within : l.visit < length l.self.visits;
   way : (branches : List NetBranch) (places root : ℕ) → AreVisits branches places root l.self.visits l.self.seen.items
-    → IsWay branches l.self.visits l.self.seen.items (place_at l.self.visits l.fn.visit) l.visit l.steps;
+      → IsWay branches l.self.visits l.self.seen.items (place_at l.self.visits l.fn.visit) l.visit l.steps;
 }
 
 abbrev pub decreases-loop-back : goal.decreases-loop-back
