@@ -148,7 +148,7 @@ network_of case =
     and_then (few_rows field.Gen case.generators) (λ gen_rows.
     and_then (bus_rows case.bus) (λ buses.
     and_then (gather (λ _. unit_row (places_from 0 buses)) [] 1 case.generators) (λ units.
-    Ok (record { buses = live_buses buses; units = units; gen_rows = gen_rows })))))
+    Ok (record { buses = live_buses buses; units = units; branches = []; gen_rows = gen_rows })))))
 
 -- ---- units
 -- the number from low to high that is nearest 0

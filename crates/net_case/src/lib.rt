@@ -4,5 +4,5 @@
 mod live_parts;
 mod network_reading;
 
-pub use live_parts::{NetFault, NetUnit, Network, Why, push_some};
+pub use live_parts::{NetBranch, NetFault, NetUnit, Network, Why, push_some};
 pub use network_reading::network;

@@ -81,11 +81,27 @@ pub struct NetUnit {
     pub high: i64,
 }
 
-/// The live buses and units of a case, in row order.
+/// A live branch with its limits, in 10^-9 MW.
+#[derive(Clone, Copy, Debug)]
+pub struct NetBranch {
+    pub row: u32,
+    /// The places of its buses among the live buses, F_BUS first.
+    pub from: usize,
+    pub to: usize,
+    /// The limit of its flow, where it has one.
+    pub base: Option<i64>,
+    /// The limit of its flow after an outage, where it has one.
+    pub post: Option<i64>,
+    /// Whether its phase shift angle is not 0.
+    pub shifted: bool,
+}
+
+/// The live buses, units and branches of a case, in row order.
 #[derive(Drop, Debug)]
 pub struct Network {
     pub buses: List<Bus>,
     pub units: List<NetUnit>,
+    pub branches: List<NetBranch>,
     /// All gen rows, live or not.
     pub gen_rows: u32,
 }

@@ -348,6 +348,7 @@ pub fn network(alloc: Global, case: &RawCase<'_>) -> Result<Network, NetFault>
     Ok(Network {
         buses: rows.buses,
         units,
+        branches: List::new(alloc),
         gen_rows: gen_count as u32,
     })
 }

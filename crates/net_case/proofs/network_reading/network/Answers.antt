@@ -1,4 +1,6 @@
 use Rattle.std.proofs.Common.{◌≡◌, ◌≢◌, ◌∙◌, sym, length, arith, refl, Ok, Err, []}
+use Rattle.std.proofs.lemmas.List.Elements.{All-nil}
+use Rattle.net_case.specs.Networks.{IsNetBranch}
 use Rattle.net_case.specs.Gathering.{gather}
 use Rattle.net_case.specs.NetworkReading.{few_rows, network_of, unit_row}
 use Rattle.net_case.specs.declared.live_parts.NetFault.TheVariants as fault
@@ -11,6 +13,7 @@ returns-clause-network c = record {
   unit_count = omega (arith, c.in_ok-units.ensures.count, c.in_ok-gen_count.ensures.few.0);
   buses = c.in_ok-rows.ensures.rows.buses;
   units = c.in_ok-units.ensures.units (length c.in_ok-rows.rows.buses) c.in_ok-rows.ensures.rows.places;
+  branches = rw c.new.ensures (All-nil (IsNetBranch (length c.in_ok-rows.rows.buses)));
 }
 
 pub returns-clause-is : goal.returns-clause-is
@@ -21,4 +24,4 @@ returns-clause-is c =
     let held = c.in_ok-rows.ensures.is in
     let done : c.read_units.result ≢ Err fault.Memory = λ h. cc (h, c.in_ok-units.was) in
     let units : gather (λ _. unit_row c.in_ok-rows.rows.places.entries) [] 1 c.args.case.now.generators ≡ Ok c.in_ok-units.units = sym (c.read_units.ensures.is done) ∙ c.in_ok-units.was in
-    λ _. rw (buses, rows, held.read, ← held.kept.places, ← held.kept.buses, units) refl
+    λ _. rw (buses, rows, held.read, ← held.kept.places, ← held.kept.buses, units, c.new.ensures) refl

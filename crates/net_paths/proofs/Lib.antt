@@ -1,0 +1,6 @@
+pub mod ChainLemmas
+pub mod IncidenceLemmas
+pub mod VisitLemmas
+pub mod WayLemmas
+pub mod SideLemmas
+pub mod LoopLemmas
