@@ -14,19 +14,19 @@ fn nothing<R: AllocGlobal>(rt: &R) -> Result<Market, Fail> {
     Ok(assemble(rt.alloc(), parts)?)
 }
 
-fn dual<N: Exact>(branch: u32, outage: u32, up: i64, down: i64) -> Dual<N> {
+fn dual<N: Exact>(branch: u32, outage: u32, up: N, down: N) -> Dual<N> {
     Dual {
         row: RowId { branch, outage },
-        up: N::of_parts(up, 3),
-        down: N::of_parts(down, 3),
+        up,
+        down,
     }
 }
 
 fn reports<N: Exact, R: Abort + AllocGlobal>(rt: &R) -> Result<(), Fail> {
     let market = nothing(rt)?;
     let mut limits = List::new(rt.alloc());
-    limits.push(dual(2, 0, 6, 0))?;
-    limits.push(dual(3, 1, 0, 4))?;
+    limits.push(dual(2, 0, N::of_parts(6, 3), N::of_parts(0, 3)))?;
+    limits.push(dual(3, 1, N::of_parts(0, 3), N::of_parts(4, 3)))?;
     let farkas: Outcome<N> = Outcome::Infeasible(Farkas {
         duals: Duals {
             energy: N::of_parts(-1, 1),
