@@ -1,20 +1,28 @@
 -- What add_row in code leaves.
-use Rattle.std.specs.Prelude.{◌≡◌, ℕ, ◌+◌, ◌*◌, ◌<◌, ◌≤◌, Bool, false, pos, List, [], ◌∷◌, ◌++◌, length, map, insert, slice_index, slice_get, Some, refl}
+use Rattle.std.specs.Prelude.{◌≡◌, ℕ, ◌+◌, ◌*◌, ◌<◌, ◌≤◌, Bool, false, pos, List, [], ◌∷◌, ◌++◌, length, map, insert, slice_index, slice_get, Some, refl, take, drop, filter, cond, true}
 use Rattle.std.specs.List.{Contains}
 use Rattle.std.specs.List.Sorted.{IsStrictlyIncreasing}
-use Rattle.std.proofs.Common.{suc, arith, ap, sym, ◌∙◌, subst, inl, inr, get_or, length-append}
-use Rattle.std.proofs.lemmas.List.{get_or_append_left, length-map, map-append}
+use Rattle.std.proofs.Common.{suc, arith, ap, sym, ◌∙◌, subst, inl, inr, get_or, length-append, subst₂}
+use Rattle.std.proofs.lemmas.List.{get_or_append_left, length-map, map-append, take-append-drop, take-map, length-take, get_or-take}
 use Rattle.std.proofs.lemmas.List.Edits.{get_or-insert_at, get_or-insert_above, get_or-insert_below, length-insert}
 use Rattle.std.proofs.Math.Nat.{mul-le-mul_right}
-use Rattle.std.proofs.Math.Seq.{get_or-append_seam, take-append_seam}
-use Rattle.std.proofs.lemmas.Option.{slice_get-get_or}
+use Rattle.std.proofs.Math.Seq.{get_or-append_seam, take-append_seam, drop-cons}
+use Rattle.std.proofs.lemmas.Option.{slice_get-get_or, get_or_from_slice_get}
 use mathlib.Core.Path.{ap₂}
 use Rattle.fraction_theory.specs.Fraction.{Fraction, whole, ◌+ℚ◌, ◌*ℚ◌}
-use Rattle.fraction_theory.specs.Sums.{sum_by}
+use Rattle.fraction_theory.specs.Sums.{sum_by, Term, Product, total, prefix}
 use Rattle.fraction_theory.proofs.ListSums.{Distinct, Distinct-increasing, kept, sum_by-filter, sum_by-members, same_or_not, put_at-here, put_at-elsewhere}
 use Rattle.linear_system.specs.Choices.{column_entry}
+use Rattle.linear_system.specs.Choices as choices
 use Rattle.linear_system.proofs.ChoiceLaws.{column_entry-basic, column_entry-itself, column_entry-other}
+use Rattle.std.proofs.lemmas.List.Elements.{filter-append}
+use Rattle.fraction_theory.proofs.SumLaws.{total-Product}
+use Rattle.fraction_theory.proofs.FieldLaws.{ring_ℚ}
 use Rattle.linear_dict.specs.Adding.{AreSums, row_term, AreWithin, IsInTable, IsPutAmong}
+use Rattle.exact_fraction.specs.declared.Op.{Op}
+use Rattle.exact_fraction.specs.declared.Op.TheVariants.{Plus, Times}
+use Rattle.linear_dict.specs.Causes.{AddOperation, RowOperation, TermOperation, MultipleOperation, multiply, increase, of_basic, of_other, of_variable, scaling_entry, adding_term, put_number, put_terms}
+use Rattle.linear_dict.proofs.MovedLemmas.{name_at}
 use Rattle.linear_dict.specs.declared.index.Variable.{Variable}
 use Rattle.linear_dict.specs.declared.place.Place.{Place}
 use Rattle.linear_dict.specs.declared.place.Place.TheVariants.{Row, Column}
@@ -24,11 +32,11 @@ use Rattle.linear_dict.specs.Notes.{Noted, noted, blank}
 use Rattle.linear_dict.specs.Places.{place_in, is_among, StandsAt}
 use Rattle.linear_dict.specs.Tables.{cell}
 use Rattle.linear_dict.proofs.AddingLemmas.{term_of_row, term_of_basic, term_of_other}
-use Rattle.linear_dict.proofs.GrowLemmas.{index_added}
+use Rattle.linear_dict.proofs.GrowLemmas.{index_added, got_below}
 use Rattle.linear_dict.proofs.IndexLemmas.{map-insert}
 use Rattle.linear_dict.proofs.NameLemmas.{place_in-at, place_in-within, among-tells, among-not, lt_or_le}
 use Rattle.linear_dict.proofs.RowLemmas.{grown_dictionary, grown_entries}
-use Rattle.linear_dict.proofs.SplitLemmas.{Contains-at}
+use Rattle.linear_dict.proofs.SplitLemmas.{Contains-at, basic_in, other_in}
 
 -- a dictionary as it is seen and as it is are one
 pub adds_row_to : {N : Type 0} {value : N → Fraction} {d e new : Dictionary} {row : ℕ} {entries : List N} → d ≡ e → AddsRow value d row entries new → AddsRow value e row entries new
@@ -76,19 +84,123 @@ module _ {N : Type 0} (value : N → Fraction) (columns rows : List ℕ) (coeffi
         ])
         ∙ sym (ap (λ (b : Bool). kept b (number (slice_index others k) v.name)) (among-tells columns v.name in_columns))
 
+    -- sums in code over some of the variables are sums over the columns of these
+    sums_over : (us : List (Variable N)) (k : ℕ) → k < length others → ((v : Variable N) → Contains us v → (m : ℕ) × (slice_get vs m ≡ Some v))
+        → sum_by (row_term value (length others) table entries k) us ≡ sum_by (number (slice_index others k)) (filter (is_among columns) (map name_of us))
+    sums_over us k hk each =
+        let w : ℕ = slice_index others k in
+        sum_by-members (row_term value (length others) table entries k) (λ v. kept (is_among columns v.name) (number w v.name)) us
+        (λ v m. let got = each v m in term_is v k hk v.put v.place refl refl (index.was_put got.0 v got.1) (index.stands got.0 v got.1))
+        ∙ sym (sum_by-map (λ j. kept (is_among columns j) (number w j)) name_of us)
+        ∙ sym (sum_by-filter (number w) (is_among columns) (map name_of us))
+
     -- the sums in code are the sums over the columns
     pub code_sums : (k : ℕ) → k < length others → sum_by (row_term value (length others) table entries k) vs
         ≡ sum_by (λ j. get_or (map value entries) (place_in columns j) (whole (pos 0)) *ℚ column_entry (choice_of (seen value columns rows coefficients others basics table vs spent)) j (slice_index others k))
         (system_of (seen value columns rows coefficients others basics table vs spent)).columns
     unfolding number system_of
-    code_sums k hk =
-        let w : ℕ = slice_index others k in
-        sum_by-members (row_term value (length others) table entries k) (λ v. kept (is_among columns v.name) (number w v.name)) vs
-        (λ v m.
-        let got : slice_get vs m.0 ≡ Some v = slice_get-get_or vs m.0 v m.1 ∙ ap Some m.2 in
-        term_is v k hk v.put v.place refl refl (index.was_put m.0 v got) (index.stands m.0 v got))
-        ∙ sym (sum_by-map (λ j. kept (is_among columns j) (number w j)) name_of vs)
-        ∙ sym (sum_by-filter (number w) (is_among columns) (map name_of vs))
+    code_sums k hk = sums_over vs k hk (λ v m. (m.0, slice_get-get_or vs m.0 v m.1 ∙ ap Some m.2))
+
+    basic_false : (w : ℕ) → Contains others w → (choice_of d).basic w ≡ false
+    unfolding choice_of
+    basic_false w m = among-not basics w (λ q. h.split.apart w q m)
+
+    module _ (k : ℕ) (v : Variable N) (got : slice_get vs k ≡ Some v) where
+      test : ℕ → Bool
+      test = is_among columns
+
+      names : List ℕ
+      names = map name_of vs
+
+      before : List ℕ
+      before = filter test (take k names)
+
+      rest : List ℕ
+      rest = filter test (drop (suc k) names)
+
+      -- the columns before this variable's, it, and those after it
+      columns_split : test v.name ≡ true → (system_of d).columns ≡ before ++ v.name ∷ rest
+      unfolding test names before rest system_of
+      columns_split e =
+          let p = name_at vs k v got in
+          let below : k < length (map name_of vs) = Prim.omega (arith, p.0, length-map vs (name_of {N = N})) in
+          ap (filter (is_among columns)) (sym (take-append-drop k (map name_of vs)))
+          ∙ filter-append (is_among columns) (take k (map name_of vs)) (drop k (map name_of vs))
+          ∙ ap (λ (xs : List ℕ). filter (is_among columns) (take k (map name_of vs)) ++ filter (is_among columns) xs) (drop-cons (map name_of vs) k 0 below ∙ ap (λ (x : ℕ). x ∷ drop (suc k) (map name_of vs)) p.1)
+          ∙ ap (λ (b : Bool). filter (is_among columns) (take k (map name_of vs)) ++ cond b (v.name ∷ filter (is_among columns) (drop (suc k) (map name_of vs))) (filter (is_among columns) (drop (suc k) (map name_of vs)))) e
+
+      column_here : test v.name ≡ true → slice_get (system_of d).columns (length before) ≡ Some v.name
+      column_here e =
+          let at : slice_get (before ++ v.name ∷ rest) (length before) ≡ Some v.name =
+          slice_get-get_or (before ++ v.name ∷ rest) (length before) v.name (Prim.omega (arith, length-append before (v.name ∷ rest))) ∙ ap Some (get_or-append_seam before v.name rest v.name) in
+          ap (λ (xs : List ℕ). slice_get xs (length before)) (columns_split e) ∙ at
+
+      column_in : test v.name ≡ true → Contains (system_of d).columns v.name
+      column_in e = let r = column_here e in (length before, got_below (system_of d).columns (length before) v.name r, get_or_from_slice_get (system_of d).columns (length before) v.name v.name r)
+
+      -- the sum so far is that of the first terms
+      prefix_here : test v.name ≡ true → (c : ℕ) → c < length others → prefix (length before) (put_terms d (map value entries) (slice_index others c)) ≡ sum_by (row_term value (length others) table entries c) (take k vs)
+      unfolding put_terms put_number number before names test
+      prefix_here e c hc =
+          let w : ℕ = slice_index others c in
+          let term : ℕ → Term = λ j. Product (get_or (map value entries) (place_in columns j) (whole (pos 0))) (column_entry (choice_of d) j w) in
+          ap (λ (xs : List ℕ). total (take (length before) (map term xs))) (columns_split e)
+          ∙ ap total (take-map term (length before) (before ++ v.name ∷ rest) ∙ ap (map term) (take-append_seam before (v.name ∷ rest)))
+          ∙ total-Product (λ j. get_or (map value entries) (place_in columns j) (whole (pos 0))) (λ j. column_entry (choice_of d) j w) before
+          ∙ ap (λ (xs : List ℕ). sum_by (number w) (filter (is_among columns) xs)) (take-map name_of k vs)
+          ∙ sym (sums_over (take k vs) c hc (λ x m.
+          let low : m.0 < k = Prim.omega (arith, m.1, length-take k vs) in
+          (m.0, slice_get-get_or vs m.0 x (Prim.omega (arith, m.1, length-take k vs)) ∙ ap Some (sym (get_or-take k vs m.0 x low) ∙ m.2))))
+
+      number_here : (j : ℕ) → v.put ≡ Column j → (test v.name ≡ true) × (put_number d (map value entries) v.name ≡ get_or (map value entries) j (whole (pos 0)))
+      unfolding put_number test
+      number_here j e =
+          let s : StandsAt rows columns v.name (Column j) = subst (StandsAt rows columns v.name) e (index.was_put k v got) in (
+            among-tells columns v.name (subst (Contains columns) s.1 (Contains-at columns j s.0)),
+            ap (λ (i : ℕ). get_or (map value entries) i (whole (pos 0))) (place_in-at columns j v.name h.put_in.second_distinct s.0 s.1),
+          )
+
+      other_here : (c : ℕ) → c < length others → Contains (choices.others (system_of d) (choice_of d)) (slice_index others c)
+      other_here c hc = other_in d h (slice_index others c) (Contains-at others c hc)
+
+      entry_here : (r c : ℕ) → v.place ≡ Row r → c < length others → ((choice_of d).basic v.name ≡ true) × ((choice_of d).entry v.name (slice_index others c) ≡ cell (length others) (map value table) r c) × Contains basics v.name
+      unfolding choice_of entry_of
+      entry_here r c e hc =
+          let s : StandsAt basics others v.name (Row r) = subst (StandsAt basics others v.name) e (index.stands k v got) in
+          let m : Contains basics v.name = subst (Contains basics) s.1 (Contains-at basics r s.0) in (
+            among-tells basics v.name m,
+            ap₂ (cell (length others) (map value table)) (place_in-at basics r v.name h.split.first_distinct s.0 s.1) (place_in-at others c (slice_index others c) h.split.second_distinct hc refl),
+            m,
+          )
+
+      multiple_asks : (j r : ℕ) → v.put ≡ Column j → v.place ≡ Row r → (op : Op) (x y : Fraction)
+          → MultipleOperation (length others) (λ c. sum_by (row_term value (length others) table entries c) (take k vs)) (get_or (map value entries) j (whole (pos 0))) (cell (length others) (map value table) r) op x y
+          → AddOperation d (map value entries) op x y
+      multiple_asks j r put at _ _ _ (multiply c hc) =
+          let n = number_here j put in
+          let e = entry_here r c at hc in
+          subst₂ (AddOperation d (map value entries) Times) n.1 e.1
+          (scaling_entry v.name (slice_index others c) (basic_in d h v.name e.2) (column_in n.0) (other_here c hc))
+      multiple_asks j r put at _ _ _ (increase c hc) =
+          let n = number_here j put in
+          let e = entry_here r c at hc in
+          subst₂ (AddOperation d (map value entries) Plus) (prefix_here n.0 c hc) (ap₂ ◌*ℚ◌ n.1 (column_entry-basic (choice_of d) v.name (slice_index others c) e.0 ∙ e.1))
+          (adding_term (length before) v.name (slice_index others c) (column_here n.0) (other_here c hc))
+
+      variable_asks : (op : Op) (x y : Fraction) → TermOperation value (length others) table entries v (λ c. sum_by (row_term value (length others) table entries c) (take k vs)) op x y → AddOperation d (map value entries) op x y
+      variable_asks _ _ _ (of_basic j r op x y put at o) = multiple_asks j r put at op x y o
+      variable_asks _ _ _ (of_other j c put at) =
+          let n = number_here j put in
+          let s : StandsAt basics others v.name (Column c) = subst (StandsAt basics others v.name) at (index.stands k v got) in
+          let in_others : Contains others v.name = subst (Contains others) s.1 (Contains-at others c s.0) in
+          let other : (choice_of d).basic v.name ≡ false = basic_false v.name in_others in
+          subst₂ (AddOperation d (map value entries) Plus) (prefix_here n.0 c s.0)
+          (ap₂ ◌*ℚ◌ n.1 (ap (column_entry (choice_of d) v.name) s.1 ∙ column_entry-itself (choice_of d) v.name other) ∙ ring_ℚ.times_one (get_or (map value entries) j (whole (pos 0))))
+          (adding_term (length before) v.name (slice_index others c) (column_here n.0) (other_here c s.0))
+
+    -- what adding the terms asks is what adding the row asks
+    pub row_asks : (op : Op) (x y : Fraction) → RowOperation value (length others) table entries vs op x y → AddOperation (seen value columns rows coefficients others basics table vs spent) (map value entries) op x y
+    row_asks _ _ _ (of_variable k v op x y got o) = variable_asks k v got op x y o
 
     -- each variable's places are in the table and among the entries
     pub places_within : length entries ≡ length columns → AreWithin (length table) (length others) (length entries) vs

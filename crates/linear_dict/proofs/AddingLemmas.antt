@@ -63,7 +63,7 @@ above_test : (c n : ℕ) → n ≤ c → nat_lt c n ≡ false
 above_test c n h = Prim.grind (arith, nat_tests)
 
 module _ {N : Type 0} (value : N → Fraction) (n : ℕ) (f t : ℕ → Fraction) where
-  added-yet : (upto c : ℕ) → upto ≤ c → added_to f t upto c ≡ f c
+  pub added-yet : (upto c : ℕ) → upto ≤ c → added_to f t upto c ≡ f c
   unfolding added_to
   added-yet upto c h = ap (λ (b : Bool). if b then f c +ℚ t c else f c) (above_test c upto h)
 

@@ -7,7 +7,9 @@ use Rattle.exact_fraction.specs.declared.Op.TheVariants.{Plus, Times}
 use Rattle.exact_fraction.specs.declared.Passed.{Passed}
 use Rattle.exact_fraction.specs.Passes.{IsPassed, Passes}
 use Rattle.fraction_theory.specs.Fraction.{Fraction, ◌*ℚ◌}
-use Rattle.linear_dict.specs.Causes.{ClearOperation, IsRefused, PivotOperation, SolveOperation, divide, scale, add, solving, scaling, adding}
+use Rattle.linear_dict.specs.Causes.{OnPassed, ClearOperation, IsRefused, PivotOperation, SolveOperation, divide, scale, add, solving, scaling, adding}
+use Rattle.linear_dict.specs.declared.adding.AddStop.{AddStop}
+use Rattle.linear_dict.specs.declared.adding.AddStop.TheVariants.{Passed as StoppedBy, Memory as NoMemory}
 use Rattle.linear_dict.specs.Tables.{pivoted_row}
 
 -- an operation with its two sides, by their values
@@ -34,3 +36,7 @@ clear_of_pivot rows columns f g i r c hi n hc row solved _ _ _ (scale j hj) =
     subst₂ (PivotOperation rows columns f r c Times) (sym (row c hc)) (sym (solved j hj)) (scaling i j hi n hj)
 clear_of_pivot rows columns f g i r c hi n hc row solved _ _ _ (add j hj m) =
     subst₂ (PivotOperation rows columns f r c Plus) (sym (row j hj)) (sym (ap₂ ◌*ℚ◌ (row c hc) (solved j hj))) (adding i j hi n hj m)
+
+pub on_passed_as : {N : Type 0} (stop : AddStop N) (P Q : Passed N → Type 0) → ((e : Passed N) → P e → Q e) → OnPassed stop P → OnPassed stop Q
+on_passed_as (StoppedBy e) P Q f h = f e h
+on_passed_as NoMemory P Q f h = h

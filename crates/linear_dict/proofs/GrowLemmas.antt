@@ -19,7 +19,7 @@ use Rattle.linear_dict.specs.Places.{StandsAt}
 use Rattle.linear_dict.proofs.NameLemmas.{lt_or_le}
 
 -- what a list has after one item is put in
-got_below : {X : Type 0} (xs : List X) (k : ℕ) (x : X) → slice_get xs k ≡ Some x → k < length xs
+pub got_below : {X : Type 0} (xs : List X) (k : ℕ) (x : X) → slice_get xs k ≡ Some x → k < length xs
 got_below [] k x e = absurd cc
 got_below (y ∷ ys) zero x e = Prim.omega arith
 got_below (y ∷ ys) (suc k) x e = Prim.omega (arith, got_below ys k x e)

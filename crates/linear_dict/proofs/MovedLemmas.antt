@@ -39,7 +39,7 @@ stays basics others r c w (Column j) na nb s =
     (Prim.omega (arith, s.0, length-set others c (slice_index basics r)), get_or-set_other others c j (slice_index basics r) 0 apart ∙ s.1)
 
 -- the name of a variable by its rank
-name_at : {N : Type 0} (vs : List (Variable N)) (j : ℕ) (x : Variable N) → slice_get vs j ≡ Some x → (j < length vs) × (slice_index (map name_of vs) j ≡ x.name)
+pub name_at : {N : Type 0} (vs : List (Variable N)) (j : ℕ) (x : Variable N) → slice_get vs j ≡ Some x → (j < length vs) × (slice_index (map name_of vs) j ≡ x.name)
 name_at [] j x e = absurd cc
 name_at (v ∷ vs) zero x e = (Prim.omega arith, ap name_of (get_or_from_slice_get (v ∷ vs) zero x v e))
 name_at (v ∷ vs) (suc j) x e = let r = name_at vs j x e in (Prim.omega (arith, r.0), r.1)

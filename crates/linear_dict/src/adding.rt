@@ -1,10 +1,11 @@
 // The table's entries of a row that is put in by its entries over the columns as put in.
-ghost use Rattle.std.specs.Prelude.{◌≡◌, ℕ, ◌+◌, ◌*◌, ◌<◌, ◌≤◌, ◌++◌, length, map, IfOk, pos};
+ghost use Rattle.std.specs.Prelude.{◌≡◌, ℕ, ◌+◌, ◌*◌, ◌<◌, ◌≤◌, ◌++◌, length, map, IfErr, IfOk, pos};
 ghost use Rattle.std.specs.Result.{OnOk};
 ghost use Rattle.std.specs.Vec.{vec_len, vec_capacity};
 ghost use Rattle.fraction_theory.specs.Fraction.{Fraction, whole, ◌+ℚ◌, ◌*ℚ◌};
 ghost use Rattle.fraction_theory.specs.Sums.{sum_by};
 ghost use Rattle.linear_dict.specs.Adding.{AreSums, AreWithin, IsWithin, row_term};
+ghost use Rattle.linear_dict.specs.Causes.{IsRefused, MultipleOperation, OnPassed, RowOperation, TermOperation};
 ghost use Rattle.linear_dict.specs.Tables.{cell};
 
 use crate::index::Variable;
@@ -22,12 +23,22 @@ pub enum AddStop<N> {
 }
 
 impl<N> From<Memory> for AddStop<N> {
+    ghost use Rattle.std.specs.Prelude.{◌≡◌};
+    ghost use Rattle.linear_dict.specs.declared.adding.AddStop.TheVariants.{Memory as NoMemory};
+
+    ghost from_gives = { λ _ stop. stop ≡ NoMemory };
+
     fn from(_: Memory) -> Self {
         AddStop::Memory
     }
 }
 
 impl<N> From<Passed<N>> for AddStop<N> {
+    ghost use Rattle.std.specs.Prelude.{◌≡◌};
+    ghost use Rattle.linear_dict.specs.declared.adding.AddStop.TheVariants.{Passed as StoppedBy};
+
+    ghost from_gives = { λ passed stop. stop ≡ StoppedBy passed };
+
     fn from(passed: Passed<N>) -> Self {
         AddStop::Passed(passed)
     }
@@ -102,6 +113,8 @@ fn add_multiple<N: Exact>(
     ensures count { length sums.new.items ≡ columns }
     ensures added { IfOk result (λ _. (f : ℕ → Fraction) → AreSums N.value sums.old.items columns f
         → AreSums N.value sums.new.items columns (λ c. f c +ℚ N.value factor *ℚ cell columns (map N.value table.now) row c)) }
+    ensures cause { IfErr result (λ e. (f : ℕ → Fraction) → AreSums N.value sums.old.items columns f
+        → IsRefused N.value N.bound (MultipleOperation columns f (N.value factor) (cell columns (map N.value table.now) row)) e) }
 {
     let start = row * columns;
     for c in 0..columns {
@@ -125,6 +138,8 @@ fn add_term<N: Exact>(
     ensures count { length sums.new.items ≡ columns }
     ensures added { IfOk result (λ _. (f : ℕ → Fraction) → AreSums N.value sums.old.items columns f
         → AreSums N.value sums.new.items columns (λ c. f c +ℚ row_term N.value columns table.now entries.now c variable)) }
+    ensures cause { IfErr result (λ e. (f : ℕ → Fraction) → AreSums N.value sums.old.items columns f
+        → IsRefused N.value N.bound (TermOperation N.value columns table.now entries.now variable f) e) }
 {
     match variable.put {
         Place::Row(_) => Ok(()),
@@ -148,8 +163,10 @@ pub(crate) fn row_entries<N: Exact>(
     entries: &[N],
 ) -> Result<Vec<N>, AddStop<N>>
     requires within { AreWithin (length table.now) columns (length entries.now) variables.now }
-    ensures { IfOk result (λ sums. AreSums N.value sums.items columns
+    ensures sums { IfOk result (λ sums. AreSums N.value sums.items columns
         (λ c. sum_by (row_term N.value columns table.now entries.now c) variables.now)) }
+    ensures cause { IfErr result (λ stop. OnPassed stop
+        (IsRefused N.value N.bound (RowOperation N.value columns table.now entries.now variables.now))) }
 {
     let mut sums = zeros(alloc, columns)?;
     for k in 0..variables.len() {

@@ -1,12 +1,15 @@
-use Rattle.std.proofs.Common.{◌≡◌, ◌∙◌, ◌++◌, ◌∷◌, [], ℕ, List, arith, ap, sym, subst, length, refl}
+use Rattle.std.proofs.Common.{◌≡◌, ◌∙◌, ◌++◌, ◌∷◌, [], ℕ, List, arith, ap, sym, subst, length, refl, map}
 use mathlib.Core.Path.{ap₂}
 use Rattle.std.specs.List.{Contains}
 use Rattle.fraction_theory.specs.Sums.{sum_by}
 use Rattle.linear_dict.specs.Adding.{AreSums, AreWithin, row_term}
 use Rattle.linear_dict.specs.declared.index.Variable.{Variable}
 use Rattle.linear_dict.specs.declared.place.Place.TheVariants.{Row}
+use Rattle.std.proofs.lemmas.Result.{err_from_is_err_and}
+use Rattle.linear_dict.specs.Causes.{AddOperation, IsRefused, RowOperation}
+use Rattle.linear_dict.proofs.CauseLemmas.{on_passed_as, refused_as}
 use Rattle.linear_dict.specs.Dictionaries.{Dictionary}
-use Rattle.linear_dict.proofs.AddRowLemmas.{add_row_lists, adds_row_to, places_within}
+use Rattle.linear_dict.proofs.AddRowLemmas.{row_asks, add_row_lists, adds_row_to, places_within}
 use Rattle.linear_dict.proofs.dict.Dict.add_row.Goals as goal
 
 pub row_entries-requires : goal.row_entries-requires
@@ -36,7 +39,7 @@ invariant_of-self-2 g c =
     let sums : AreSums value c.in_ok-fresh.fresh.items (length s.others.items) (λ k. sum_by (row_term value (length s.others.items) table c.args.entries.now k) vs) =
     subst (λ (m : ℕ). AreSums value c.in_ok-fresh.fresh.items m (λ k. sum_by (row_term value m table c.args.entries.now k) vs)) n
     (subst (λ (t : List g.row.N.Denot). AreSums value c.in_ok-fresh.fresh.items c.len.result (λ k. sum_by (row_term value c.len.result t c.args.entries.now k) vs)) c.deref-2.ensures.value
-    (subst (λ (us : List (Variable g.row.N.Denot)). AreSums value c.in_ok-fresh.fresh.items c.len.result (λ k. sum_by (row_term value c.len.result c.deref-2.result.now c.args.entries.now k) us)) c.deref.ensures.value c.in_ok-fresh.ensures)) in
+    (subst (λ (us : List (Variable g.row.N.Denot)). AreSums value c.in_ok-fresh.fresh.items c.len.result (λ k. sum_by (row_term value c.len.result c.deref-2.result.now c.args.entries.now k) us)) c.deref.ensures.value c.in_ok-fresh.ensures.sums)) in
     let same = c.make_room.ensures.same in
     let lb : length c.make_room.new.basics.items ≡ length s.basics.items = ap length same.1 in
     let lr : length c.make_room.new.rows.items ≡ length s.rows.items = ap length same.0 in
@@ -54,8 +57,8 @@ invariant_of-self-2 g c =
     (c.append-2.ensures ∙ ap₂ ◌++◌ same.3 c.deref-3.ensures.value) in
     (p.0, p.1.sound)
 
-pub returns : goal.returns
-returns g c =
+pub returns-clause-added : goal.returns-clause-added
+returns-clause-added g c =
     let value = g.N.Exact.value in
     let s = c.self.inside in
     let vs : List (Variable g.row.N.Denot) = s.variables.items in
@@ -65,7 +68,7 @@ returns g c =
     let sums : AreSums value c.in_ok-fresh.fresh.items (length s.others.items) (λ k. sum_by (row_term value (length s.others.items) table c.args.entries.now k) vs) =
     subst (λ (m : ℕ). AreSums value c.in_ok-fresh.fresh.items m (λ k. sum_by (row_term value m table c.args.entries.now k) vs)) n
     (subst (λ (t : List g.row.N.Denot). AreSums value c.in_ok-fresh.fresh.items c.len.result (λ k. sum_by (row_term value c.len.result t c.args.entries.now k) vs)) c.deref-2.ensures.value
-    (subst (λ (us : List (Variable g.row.N.Denot)). AreSums value c.in_ok-fresh.fresh.items c.len.result (λ k. sum_by (row_term value c.len.result c.deref-2.result.now c.args.entries.now k) us)) c.deref.ensures.value c.in_ok-fresh.ensures)) in
+    (subst (λ (us : List (Variable g.row.N.Denot)). AreSums value c.in_ok-fresh.fresh.items c.len.result (λ k. sum_by (row_term value c.len.result c.deref-2.result.now c.args.entries.now k) us)) c.deref.ensures.value c.in_ok-fresh.ensures.sums)) in
     let same = c.make_room.ensures.same in
     let lb : length c.make_room.new.basics.items ≡ length s.basics.items = ap length same.1 in
     let lr : length c.make_room.new.rows.items ≡ length s.rows.items = ap length same.0 in
@@ -81,4 +84,23 @@ returns g c =
     (c.push_reserved-2.ensures.items ∙ ap (λ (xs : List ℕ). xs ++ c.args.row ∷ []) same.1)
     (c.append.ensures ∙ ap (λ (xs : List g.row.N.Denot). xs ++ c.args.entries.now) same.2)
     (c.append-2.ensures ∙ ap₂ ◌++◌ same.3 c.deref-3.ensures.value) in
-    record { added = adds_row_to c.self.view_is p.1 }
+    adds_row_to c.self.view_is p.1
+
+pub returns-in_err-fresh-clause-cause : goal.returns-in_err-fresh-clause-cause
+returns-in_err-fresh-clause-cause g c =
+    let value = g.N.Exact.value in
+    let s = c.self.inside in
+    let vs : List (Variable g.row.N.Denot) = s.variables.items in
+    let entries : List g.row.N.Denot = c.args.entries.now in
+    let n : c.len.result ≡ length s.others.items = Prim.omega (arith, c.len.ensures, s.others.ok.0) in
+    let p = err_from_is_err_and c.from_residual.result c.from_residual.ensures.1 in
+    rw (p.1, p.2)
+    (on_passed_as c.in_err-fresh.field-0.0 (IsRefused value g.N.Exact.bound (RowOperation value c.len.result c.deref-2.result.now entries c.deref.result.now)) (IsRefused value g.N.Exact.bound (AddOperation c.args.self.now (map value entries)))
+    (λ e h. refused_as value g.N.Exact.bound (RowOperation value c.len.result c.deref-2.result.now entries c.deref.result.now) (AddOperation c.args.self.now (map value entries)) e
+    (λ op x y o.
+    subst (λ (d : Dictionary). AddOperation d (map value entries) op x y) c.self.view_is
+    (row_asks value s.columns.items s.rows.items s.coefficients.items s.others.items s.basics.items s.table.items vs s.spent c.self.invariant.1 c.self.invariant.0 entries op x y
+    (subst (λ (m : ℕ). RowOperation value m s.table.items entries vs op x y) n
+    (subst (λ (t : List g.row.N.Denot). RowOperation value c.len.result t entries vs op x y) c.deref-2.ensures.value
+    (subst (λ (us : List (Variable g.row.N.Denot)). RowOperation value c.len.result c.deref-2.result.now entries us op x y) c.deref.ensures.value o))))) h)
+    c.in_err-fresh.ensures.cause)

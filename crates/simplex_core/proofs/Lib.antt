@@ -1,0 +1,14 @@
+pub mod Helping
+pub mod MoveLemmas
+pub mod Nexts
+pub mod NoteLaws
+pub mod PoseLemmas
+pub mod PutLemmas
+pub mod Ranks
+pub mod RatioLemmas
+pub mod RunLemmas
+pub mod SearchLemmas
+pub mod StandLemmas
+pub mod StepLemmas
+pub mod SumLemmas
+pub mod TurnLaws

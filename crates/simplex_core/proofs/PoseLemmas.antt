@@ -1,0 +1,283 @@
+-- A posed dictionary is ready, with the prices and bounds that were handed in.
+use Rattle.std.specs.Prelude.{◌≡◌, ℕ, ◌+◌, ◌<◌, ◌≤◌, pos, Bool, true, false, List, [], ◌∷◌, length, map, slice_index, if◌then◌else◌, refl}
+use Rattle.std.specs.List.{All, Contains}
+use Rattle.std.proofs.Common.{zero, suc, arith, ap, sym, ◌∙◌, subst, subst₂, inl, inr}
+use Rattle.std.proofs.lemmas.List.{length-map}
+use Rattle.fraction_theory.specs.Fraction.{Fraction, whole}
+use Rattle.fraction_theory.specs.Order.{◌≤ℚ◌, ◌<ℚ◌}
+use Rattle.fraction_theory.specs.Signs.{sign_of}
+use Rattle.linear_system.specs.Systems.{System}
+use Rattle.linear_system.specs.Choices.{Choice, basics, others, at_bound, reduced, value}
+use Rattle.linear_dict.specs.Dictionaries.{Dictionary, IsDictionary, system_of, choice_of, note_of}
+use Rattle.linear_dict.specs.Notes.{Noted}
+use Rattle.linear_dict.specs.Places.{place_in}
+use Rattle.linear_dict.proofs.NameLemmas.{place_in-within}
+use Rattle.linear_dict.proofs.SplitLemmas.{Contains-at, system_is, basic_in, other_in, in_others}
+use Rattle.simplex_theory.specs.States.{State, IsPosed}
+use Rattle.simplex_theory.proofs.PosedNumbers.{value_other, reduced_basic, posed_by_choice}
+use Rattle.simplex_core.specs.States.{state_of, IsReady}
+use Rattle.simplex_core.specs.Turns.{noted_anew}
+use Rattle.simplex_core.specs.Posings.{HasNotes, IsPosing, column_note, row_note, term_note, price_at, low_at, high_at, asks_high, at_asked, stand_note, value_note}
+use Rattle.simplex_core.specs.declared.bounds.Bounds.{Bounds}
+use Rattle.simplex_core.proofs.NoteLaws.{named_or_not, note_anew, note_unnamed, system_stays, renoted_dictionary}
+use Rattle.simplex_core.proofs.StandLemmas.{asked_low, asked_high, stand-basic, stand-other, value-basic, value-other, stand-price, stand-low, stand-high, value-price, value-low, value-high, value-reduced, value-flag, choice_stays, reduced_frame}
+
+-- a dictionary with new notes
+module _ (d : Dictionary) (h : IsDictionary d) (f : ℕ → Noted) where
+  pub anew_sound : IsDictionary (noted_anew d f)
+  unfolding noted_anew
+  anew_sound = renoted_dictionary d (map f d.names) (length-map d.names f) h
+
+  anew_keeps : {X : Type 0} (p : Noted → X) → ((w : ℕ) → p (f w) ≡ p (note_of d w)) → (w : ℕ) → p (note_of (noted_anew d f) w) ≡ p (note_of d w)
+  unfolding noted_anew
+  anew_keeps p each w = elim (named_or_not d.names w) [
+    | inl c ↦ ap p (note_anew d f w c) ∙ each w
+    | inr past ↦ ap p (note_unnamed (noted_anew d f) w (length-map d.names f) past ∙ sym (note_unnamed d w h.note_count past))
+  ]
+
+  anew_system : ((w : ℕ) → (f w).price ≡ (note_of d w).price) → ((w : ℕ) → (f w).low ≡ (note_of d w).low) → ((w : ℕ) → (f w).high ≡ (note_of d w).high) → system_of (noted_anew d f) ≡ system_of d
+  unfolding noted_anew
+  anew_system price low high = system_stays d (noted_anew d f) refl refl refl refl (anew_keeps Noted.price price) (anew_keeps Noted.low low) (anew_keeps Noted.high high)
+
+  anew_choice : ((w : ℕ) → (f w).at_high ≡ (note_of d w).at_high) → choice_of (noted_anew d f) ≡ choice_of d
+  unfolding noted_anew
+  anew_choice flag = choice_stays d (map f d.names) (anew_keeps Noted.at_high flag)
+
+  anew_reduced : (s : System) (w : ℕ) → reduced s (choice_of (noted_anew d f)) w ≡ reduced s (choice_of d) w
+  unfolding noted_anew
+  anew_reduced s w = reduced_frame s d (map f d.names) w
+
+  pub anew_frame : noted_anew d f ≡ record d { notes = map f d.names }
+  unfolding noted_anew
+  anew_frame = refl
+
+-- from notes with prices and bounds alone
+module _ (d : Dictionary) (h : IsDictionary d) (live : d.spent ≡ false)
+    (ordered : (w : ℕ) → Contains d.names w → (note_of d w).low ≤ℚ (note_of d w).high) (unpriced : (w : ℕ) → Contains d.names w → (note_of d w).reduced ≡ whole (pos 0)) where
+  stood : Dictionary
+  stood = noted_anew d (stand_note d)
+
+  pub stood_sound : IsDictionary (noted_anew d (stand_note d))
+  stood_sound = anew_sound d h (stand_note d)
+
+  done : Dictionary
+  done = noted_anew (noted_anew d (stand_note d)) (value_note (noted_anew d (stand_note d)))
+
+  done_sound : IsDictionary done
+  unfolding done
+  done_sound = anew_sound (noted_anew d (stand_note d)) stood_sound (value_note (noted_anew d (stand_note d)))
+
+  done_live : done.spent ≡ false
+  unfolding done noted_anew
+  done_live = live
+
+  done_system : system_of done ≡ system_of stood
+  unfolding done stood
+  done_system = let e : Dictionary = noted_anew d (stand_note d) in anew_system e stood_sound (value_note e) (value-price e) (value-low e) (value-high e)
+
+  stood_system : system_of stood ≡ system_of d
+  unfolding stood
+  stood_system = anew_system d h (stand_note d) (stand-price d) (stand-low d) (stand-high d)
+
+  done_choice : choice_of done ≡ choice_of stood
+  unfolding done stood
+  done_choice = let e : Dictionary = noted_anew d (stand_note d) in anew_choice e stood_sound (value_note e) (value-flag e)
+
+  -- the reduced price that each other variable is noted with
+  asked : ℕ → Fraction
+  asked w = reduced (system_of d) (choice_of d) w
+
+  asked_is : (w : ℕ) → reduced (system_of done) (choice_of done) w ≡ asked w
+  unfolding asked stood
+  asked_is w =
+      ap (λ (c : Choice). reduced (system_of done) c w) done_choice
+      ∙ ap (λ (s : System). reduced s (choice_of stood) w) (done_system ∙ stood_system)
+      ∙ anew_reduced d h (stand_note d) (system_of d) w
+
+  stood_note : (w : ℕ) → Contains d.names w → note_of stood w ≡ stand_note d w
+  unfolding stood
+  stood_note w c = note_anew d (stand_note d) w c
+
+  done_note : (w : ℕ) → Contains d.names w → note_of done w ≡ value_note stood w
+  unfolding done stood noted_anew
+  done_note w c = note_anew (noted_anew d (stand_note d)) (value_note (noted_anew d (stand_note d))) w c
+
+  other_note : (w : ℕ) → Contains d.others w → note_of done w ≡ at_asked (note_of d w) (asked w) (asks_high (sign_of (asked w)))
+  unfolding asked stood noted_anew
+  other_note w c =
+      let n : Contains d.names w = h.split.second_named w c in
+      done_note w n ∙ value-other (noted_anew d (stand_note d)) stood_sound w c ∙ stood_note w n ∙ stand-other d h w c
+
+  basic_note : (b : ℕ) → Contains d.basics b → note_of done b ≡ record (note_of d b) { value = value (system_of stood) (choice_of stood) b }
+  unfolding stood noted_anew
+  basic_note b c =
+      let n : Contains d.names b = h.split.first_named b c in
+      done_note b n ∙ value-basic (noted_anew d (stand_note d)) stood_sound b c
+      ∙ ap (λ (m : Noted). let y : Noted = record m { value = value (system_of stood) (choice_of stood) b } in y) (stood_note b n ∙ stand-basic d h b c)
+
+  -- its others and basic variables
+  other_of : (w : ℕ) → Contains (others (system_of done) (choice_of done)) w → Contains d.others w
+  unfolding done noted_anew
+  other_of w c = in_others done done_sound w c
+
+  to_other : (w : ℕ) → Contains d.others w → Contains (others (system_of done) (choice_of done)) w
+  unfolding done noted_anew
+  to_other w c = other_in done done_sound w c
+
+  to_basic : (w : ℕ) → Contains d.basics w → Contains (basics (system_of done) (choice_of done)) w
+  unfolding done noted_anew
+  to_basic w c = basic_in done done_sound w c
+
+  at_bound_is : (w : ℕ) → at_bound (system_of done) (choice_of done) w ≡ (if (note_of done w).at_high then (note_of done w).high else (note_of done w).low)
+  unfolding at_bound system_of choice_of
+  at_bound_is w = refl
+
+  done_values : (w : ℕ) → Contains d.names w → (note_of done w).value ≡ value (system_of done) (choice_of done) w
+  done_values w c = elim (h.split.either w c) [
+    | inl b ↦ ap Noted.value (basic_note w b) ∙ ap (λ (s : System). value s (choice_of stood) w) (sym done_system) ∙ ap (λ (x : Choice). value (system_of done) x w) (sym done_choice)
+    | inr o ↦ ap Noted.value (other_note w o) ∙ sym (ap (λ (n : Noted). if n.at_high then n.high else n.low) (other_note w o)) ∙ sym (at_bound_is w) ∙ sym (value_other (system_of done) (choice_of done) w (to_other w o))
+  ]
+
+  done_reduced : (w : ℕ) → Contains d.names w → (note_of done w).reduced ≡ reduced (system_of done) (choice_of done) w
+  done_reduced w c = elim (h.split.either w c) [
+    | inl b ↦ ap Noted.reduced (basic_note w b) ∙ unpriced w c ∙ sym (reduced_basic (system_of done) (choice_of done) w (to_basic w b))
+    | inr o ↦ ap Noted.reduced (other_note w o) ∙ sym (asked_is w)
+  ]
+
+  keeps : {X : Type 0} (p : Noted → X) → ((e : Dictionary) (w : ℕ) → p (value_note e w) ≡ p (note_of e w)) → ((e : Dictionary) (w : ℕ) → p (stand_note e w) ≡ p (note_of e w)) → (w : ℕ) → p (note_of done w) ≡ p (note_of d w)
+  unfolding done
+  keeps p v s w = let e : Dictionary = noted_anew d (stand_note d) in anew_keeps e stood_sound (value_note e) p (v e) w ∙ anew_keeps d h (stand_note d) p (s d) w
+
+  named : (w : ℕ) → Contains (system_of done).variables w → Contains d.names w
+  unfolding done noted_anew system_of
+  named w c = c
+
+  low_is : (w : ℕ) → (system_of done).low w ≡ (note_of d w).low
+  unfolding system_of
+  low_is w = keeps Noted.low value-low stand-low w
+
+  high_is : (w : ℕ) → (system_of done).high w ≡ (note_of d w).high
+  unfolding system_of
+  high_is w = keeps Noted.high value-high stand-high w
+
+  -- the sign of what is noted is as the flag says
+  low_sign : (w : ℕ) → Contains d.others w → (note_of done w).at_high ≡ false → (note_of done w).reduced ≤ℚ whole (pos 0)
+  low_sign w o e = subst (λ x. x ≤ℚ whole (pos 0)) (sym (ap Noted.reduced (other_note w o))) (asked_low (asked w) (sym (ap Noted.at_high (other_note w o)) ∙ e))
+
+  high_sign : (w : ℕ) → Contains d.others w → (note_of done w).at_high ≡ true → whole (pos 0) ≤ℚ (note_of done w).reduced
+  high_sign w o e = subst (λ x. whole (pos 0) ≤ℚ x) (sym (ap Noted.reduced (other_note w o))) (asked_high (asked w) (sym (ap Noted.at_high (other_note w o)) ∙ e))
+
+  done_posed : IsPosed (system_of done) (state_of done)
+  unfolding state_of choice_of
+  done_posed = posed_by_choice (system_of done) (state_of done) (system_is done done_sound)
+      (λ w c. subst₂ ◌≤ℚ◌ (sym (low_is w)) (sym (high_is w)) (ordered w (named w c)))
+      (done_sound.solutions done_live)
+      (λ w c. done_values w (named w c))
+      (λ w c. done_reduced w (named w c))
+      (λ w c free e. low_sign w (other_of w c) e)
+      (λ w c free e. high_sign w (other_of w c) e)
+
+  -- with bounds and reduced prices of 0 it becomes ready
+  pub stands_ready : IsReady (noted_anew (noted_anew d (stand_note d)) (value_note (noted_anew d (stand_note d))))
+  unfolding done
+  stands_ready = record { sound = done_sound; live = done_live; posed = done_posed }
+
+  pub stands_price : (w : ℕ) → (system_of (noted_anew (noted_anew d (stand_note d)) (value_note (noted_anew d (stand_note d))))).price w ≡ (note_of d w).price
+  unfolding done system_of
+  stands_price w = keeps Noted.price value-price stand-price w
+
+  pub stands_low : (w : ℕ) → (system_of (noted_anew (noted_anew d (stand_note d)) (value_note (noted_anew d (stand_note d))))).low w ≡ (note_of d w).low
+  unfolding done
+  stands_low w = low_is w
+
+  pub stands_high : (w : ℕ) → (system_of (noted_anew (noted_anew d (stand_note d)) (value_note (noted_anew d (stand_note d))))).high w ≡ (note_of d w).high
+  unfolding done
+  stands_high w = high_is w
+
+-- bounds in order by their places
+ordered_at : {N : Type 0} (value : N → Fraction) (xs : List (Bounds N)) → All (λ b. value b.low ≤ℚ value b.high) xs → (k : ℕ) → k < length xs → low_at value xs k ≤ℚ high_at value xs k
+ordered_at value [] h k l = absurd (Prim.omega (arith, l))
+ordered_at value (x ∷ xs) h zero l = h 0 x (Prim.omega arith)
+ordered_at value (x ∷ xs) h (suc k) l = ordered_at value xs (λ i b m. h (suc i) b (Prim.omega (arith, m))) k (Prim.omega (arith, l))
+
+pub put_sound : (d : Dictionary) (names : List ℕ) (f : ℕ → Noted) (e : Dictionary) → IsDictionary d → HasNotes d names f e → IsDictionary e
+put_sound d names f e h p = subst IsDictionary (sym p.is) (renoted_dictionary d e.notes p.count h)
+
+module _ {N : Type 0} (value : N → Fraction) (d : Dictionary) (h : IsDictionary d) (prices : List N) (bounds : List (Bounds N)) (count : length prices ≡ length d.columns) (e f : Dictionary)
+    (columns : HasNotes d d.columns (column_note value prices bounds) e) (rows : HasNotes e e.rows (row_note value (length prices) bounds) f) where
+  same_rows : e.rows ≡ d.rows
+  same_rows = ap Dictionary.rows columns.is
+
+  pub put_frame : f ≡ record d { notes = f.notes }
+  put_frame = rows.is ∙ ap (λ (x : Dictionary). let y : Dictionary = record x { notes = f.notes } in y) columns.is
+
+  pub put_both : IsDictionary f
+  put_both = put_sound e e.rows (row_note value (length prices) bounds) f (put_sound d d.columns (column_note value prices bounds) e h columns) rows
+
+  pub column_is : (k : ℕ) → k < length d.columns → note_of f (slice_index d.columns k) ≡ column_note value prices bounds k
+  column_is k l =
+      let w : ℕ = slice_index d.columns k in
+      rows.rest w (λ m. h.put_in.apart w (subst (λ (rs : List ℕ). Contains rs w) same_rows m) (Contains-at d.columns k l)) ∙ columns.each k l
+
+  pub row_is : (k : ℕ) → k < length d.rows → note_of f (slice_index d.rows k) ≡ row_note value (length d.columns) bounds k
+  row_is k l =
+      let m : k < length e.rows = Prim.omega (arith, l, ap length same_rows) in
+      ap (λ (rs : List ℕ). note_of f (slice_index rs k)) (sym same_rows) ∙ rows.each k m ∙ ap (λ (n : ℕ). row_note value n bounds k) count
+
+  put_named : (w : ℕ) → Contains f.names w → Contains d.names w
+  put_named w c = subst (λ (x : Dictionary). Contains x.names w) put_frame c
+
+  pub put_reduced : (w : ℕ) → Contains f.names w → (note_of f w).reduced ≡ whole (pos 0)
+  put_reduced w c = elim (h.put_in.either w (put_named w c)) [
+    | inl row ↦ let at = place_in-within d.rows w row in ap (λ (x : ℕ). (note_of f x).reduced) (sym at.1) ∙ ap Noted.reduced (row_is (place_in d.rows w) at.0)
+    | inr column ↦ let at = place_in-within d.columns w column in ap (λ (x : ℕ). (note_of f x).reduced) (sym at.1) ∙ ap Noted.reduced (column_is (place_in d.columns w) at.0)
+  ]
+
+  pub put_unpriced : (w : ℕ) → Contains f.rows w → (system_of f).price w ≡ whole (pos 0)
+  unfolding system_of
+  put_unpriced w c =
+      let at = place_in-within d.rows w (subst (λ (x : Dictionary). Contains x.rows w) put_frame c) in
+      ap (λ (x : ℕ). (note_of f x).price) (sym at.1) ∙ ap Noted.price (row_is (place_in d.rows w) at.0)
+
+  module _ (size : length bounds ≡ length d.columns + length d.rows) (ordered : All (λ b. value b.low ≤ℚ value b.high) bounds) where
+    pub put_ordered : (w : ℕ) → Contains f.names w → (note_of f w).low ≤ℚ (note_of f w).high
+    put_ordered w c = elim (h.put_in.either w (put_named w c)) [
+      | inl row ↦
+          let at = place_in-within d.rows w row in
+          let n = ap (note_of f) (sym at.1) ∙ row_is (place_in d.rows w) at.0 in
+          subst₂ ◌≤ℚ◌ (sym (ap Noted.low n)) (sym (ap Noted.high n)) (ordered_at value bounds ordered (length d.columns + place_in d.rows w) (Prim.omega (arith, at.0, size)))
+      | inr column ↦
+          let at = place_in-within d.columns w column in
+          let n = ap (note_of f) (sym at.1) ∙ column_is (place_in d.columns w) at.0 in
+          subst₂ ◌≤ℚ◌ (sym (ap Noted.low n)) (sym (ap Noted.high n)) (ordered_at value bounds ordered (place_in d.columns w) (Prim.omega (arith, at.0, size)))
+    ]
+
+    module _ (live : d.spent ≡ false) where
+      put_live : f.spent ≡ false
+      put_live = ap (λ (x : Dictionary). x.spent) put_frame ∙ live
+
+      end : Dictionary
+      end = noted_anew (noted_anew f (stand_note f)) (value_note (noted_anew f (stand_note f)))
+
+      -- prices and bounds are those handed in, and the rest stays
+      posed_so : IsPosing value d prices bounds end
+      unfolding end noted_anew
+      posed_so = record {
+        columns = ap Dictionary.columns put_frame;
+        rows = ap Dictionary.rows put_frame;
+        coefficients = ap Dictionary.coefficients put_frame;
+        names = ap Dictionary.names put_frame;
+        others = ap Dictionary.others put_frame;
+        basics = ap Dictionary.basics put_frame;
+        table = ap Dictionary.table put_frame;
+        price = λ k l. stands_price f put_both put_live put_ordered put_reduced (slice_index d.columns k) ∙ ap Noted.price (column_is k l);
+        column_low = λ k l. stands_low f put_both put_live put_ordered put_reduced (slice_index d.columns k) ∙ ap Noted.low (column_is k l);
+        column_high = λ k l. stands_high f put_both put_live put_ordered put_reduced (slice_index d.columns k) ∙ ap Noted.high (column_is k l);
+        row_low = λ k l. stands_low f put_both put_live put_ordered put_reduced (slice_index d.rows k) ∙ ap Noted.low (row_is k l);
+        row_high = λ k l. stands_high f put_both put_live put_ordered put_reduced (slice_index d.rows k) ∙ ap Noted.high (row_is k l);
+        ready = stands_ready f put_both put_live put_ordered put_reduced;
+      }
+
+      pub posing : (g k : Dictionary) → g ≡ noted_anew f (stand_note f) → k ≡ noted_anew g (value_note g) → IsPosing value d prices bounds k
+      unfolding end
+      posing g k eg ek = subst (IsPosing value d prices bounds) (sym (ek ∙ ap (λ (x : Dictionary). noted_anew x (value_note x)) eg)) posed_so

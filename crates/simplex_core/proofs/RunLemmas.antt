@@ -1,0 +1,44 @@
+-- A run keeps the rows, prices and bounds, and how it ends.
+use Rattle.std.specs.Prelude.{◌≡◌, ℕ, ◌<◌, Bool, length, slice_index, refl}
+use Rattle.std.specs.List.{Contains}
+use Rattle.std.proofs.Common.{◌∙◌, sym, subst}
+use Rattle.linear_system.specs.Choices.{basics}
+use Rattle.linear_dict.specs.Dictionaries.{Dictionary, system_of, choice_of}
+use Rattle.simplex_theory.specs.States.{IsWithin, IsSolved, IsOutOfReach}
+use Rattle.simplex_theory.specs.Steps.{Leaves, Helps}
+use Rattle.simplex_theory.proofs.Outcomes.{solved, out_of_reach, no_point}
+use Rattle.simplex_core.specs.Outcomes.{Keeps, IsEmptyAt}
+use Rattle.simplex_core.specs.States.{state_of, IsReady}
+use Rattle.simplex_core.specs.Turns.{turned}
+use Rattle.simplex_core.proofs.Nexts.{IsTurn}
+use Rattle.simplex_core.proofs.TurnLaws.{turned_ready, turned_system, turned_columns, turned_rows, turned_coefficients, turned_names}
+
+pub keeps_itself : (d : Dictionary) → IsReady d → Keeps d d
+keeps_itself d ready = record { columns = refl; rows = refl; coefficients = refl; names = refl; system = refl; ready = ready }
+
+pub keeps_turned : (d e : Dictionary) → Keeps d e → (v k : ℕ) (above : Bool) → IsTurn e v k above → Keeps d (turned e v k above)
+keeps_turned d e h v k above t =
+    let ready = turned_ready e h.ready v k above t.leaves t.enters in
+    record {
+      columns = turned_columns e h.ready v k above t.leaves t.enters ∙ h.columns;
+      rows = turned_rows e h.ready v k above t.leaves t.enters ∙ h.rows;
+      coefficients = turned_coefficients e h.ready v k above t.leaves t.enters ∙ h.coefficients;
+      names = turned_names e h.ready v k above t.leaves t.enters ∙ h.names;
+      system = turned_system e h.ready v k above t.leaves t.enters ∙ h.system;
+      ready = ready;
+    }
+
+-- all basic variables are within their bounds
+pub solved_at : (d : Dictionary) → IsReady d → ((b : ℕ) → Contains (basics (system_of d) (choice_of d)) b → IsWithin (system_of d) (state_of d).value b) → IsSolved (system_of d) (state_of d)
+unfolding state_of
+solved_at d ready inside = solved (system_of d) (state_of d) ready.posed inside
+
+-- none of the others helps the variable of the row
+pub empty_at : (d : Dictionary) → IsReady d → (v row : ℕ) (above : Bool) → Leaves (system_of d) (state_of d) v above → ((w : ℕ) → ¬ (Helps (system_of d) (state_of d) v above w))
+    → row < length d.basics → slice_index d.basics row ≡ v → IsEmptyAt d row
+unfolding state_of
+empty_at d ready v row above leaves idle within e = record {
+  none = no_point (system_of d) (state_of d) ready.posed v above leaves.basic leaves.violates idle;
+  within = within;
+  out_of_reach = subst (λ (w : ℕ). IsOutOfReach (system_of d) (choice_of d) w) (sym e) (out_of_reach (system_of d) (state_of d) ready.posed v above leaves.basic leaves.violates idle);
+}

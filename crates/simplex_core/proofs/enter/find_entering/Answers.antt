@@ -1,0 +1,39 @@
+use Rattle.std.proofs.Common.{◌≡◌, ◌<◌, ◌+◌, ◌∙◌, ℕ, Bool, Option, Some, arith, sym, subst, length, slice_index}
+use Rattle.std.specs.List.{Contains}
+use Rattle.linear_dict.specs.Dictionaries.{Dictionary, system_of}
+use Rattle.linear_dict.proofs.SplitLemmas.{Contains-at, in_others}
+use Rattle.simplex_theory.specs.Steps.{Helps}
+use Rattle.simplex_core.specs.States.{state_of}
+use Rattle.simplex_core.specs.declared.enter.Candidate.{Candidate}
+use Rattle.simplex_core.proofs.RatioLemmas.{IsBestSoFar, best_start, best_skip, best_more, best_end}
+use Rattle.simplex_core.proofs.enter.find_entering.Goals as goal
+use Rattle.simplex_core.proofs.enter.find_entering.Goals.{in-Column+in-Some+in_ok-lesser, in-Column+in_default-candidate_at, in_default}
+
+pub loop-rank-init : goal.loop-rank-init
+loop-rank-init g c = best_start g.N.Exact.value c.args.dict.now c.requires.sound c.args.leaving.now.name c.args.leaving.now.above
+
+pub loop-rank-preserved : goal.loop-rank-preserved
+unfolding state_of
+loop-rank-preserved g c =
+    let value = g.N.Exact.value in
+    let d : Dictionary = c.args.dict.now in
+    let v : ℕ = c.args.leaving.now.name in
+    let a : Bool = c.args.leaving.now.above in
+    let k : ℕ = c.loop-rank.rank in
+    let name : ℕ = c.ranked-name.result in
+    let e : slice_index d.names k ≡ name = sym c.ranked-name.ensures in
+    let hk : k < length d.names = Prim.omega (arith, c.loop-rank-test.true, c.name_count-rank-end.ensures) in
+    elim c.match-place.branch [
+      | in-Column+in-Some+in_ok-lesser w ↦ subst (λ (b : Option (Candidate g.row.N.Denot)). IsBestSoFar value d v a (k + 1) b) (sym w.best-is)
+          (best_more value d c.requires.sound v a k hk w.in-Some.next (w.in-Some.ensures.0 ∙ sym e) (subst (λ (x : ℕ). Helps (system_of d) (state_of d) v a x) (sym w.in-Some.ensures.0) w.in-Some.ensures.1) w.in-Some.ensures.2 c.loop-rank.best _ w.in_ok-lesser.ensures c.loop-rank.invariant)
+      | in-Column+in_default-candidate_at w ↦ subst (λ (b : Option (Candidate g.row.N.Denot)). IsBestSoFar value d v a (k + 1) b) (sym w.best-is)
+          (best_skip value d c.requires.sound v a k hk c.loop-rank.best (λ p. w.in_default-candidate_at.ensures (subst (λ (x : ℕ). Helps (system_of d) (state_of d) v a x) e p)) c.loop-rank.invariant)
+      | in_default w ↦ subst (λ (b : Option (Candidate g.row.N.Denot)). IsBestSoFar value d v a (k + 1) b) (sym w.best-is)
+          (best_skip value d c.requires.sound v a k hk c.loop-rank.best
+          (λ p. c.requires.sound.split.apart name (subst (Contains d.basics) w.in_default.ensures.1 (Contains-at d.basics w.in_default.field-0 w.in_default.ensures.0))
+          (in_others d c.requires.sound name (subst (λ (x : ℕ). Helps (system_of d) (state_of d) v a x) e p).other)) c.loop-rank.invariant)
+    ]
+
+pub returns : goal.returns
+returns g c = best_end g.N.Exact.value c.args.dict.now c.requires.sound c.args.leaving.now.name c.args.leaving.now.above c.loop-rank.rank c.loop-rank.best
+    (Prim.omega (arith, c.loop-rank-test.false, c.name_count-rank-end.ensures)) c.loop-rank.invariant

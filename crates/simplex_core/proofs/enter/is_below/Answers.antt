@@ -1,0 +1,33 @@
+use Rattle.std.proofs.Common.{◌≡◌, ◌∙◌, ap, sym, subst, subst₂, refl, inl, inr, Ordering, Equal, Greater}
+use Rattle.std.specs.Ordering.{MatchOrdering}
+use Rattle.fraction_theory.specs.Fraction.{Fraction, ◌*ℚ◌}
+use Rattle.fraction_theory.specs.Order.{◌<ℚ◌}
+use Rattle.fraction_theory.proofs.FieldLaws.{ring_ℚ}
+use Rattle.fraction_theory.proofs.OrderLaws.{<ℚ_irrefl, <ℚ_trans}
+use Rattle.simplex_core.proofs.enter.is_below.Goals as goal
+
+-- the products in the order of the ratios
+below_turned : (p e q f : Fraction) → (f *ℚ p) <ℚ (e *ℚ q) → (p *ℚ f) <ℚ (q *ℚ e)
+below_turned p e q f l = subst₂ ◌<ℚ◌ (ring_ℚ.times_comm f p) (ring_ℚ.times_comm e q) l
+
+pub returns-in-Less : goal.returns-in-Less
+returns-in-Less g c =
+    let below = below_turned (g.N.Exact.value c.args.one.now.price) (g.N.Exact.value c.args.one.now.entry) (g.N.Exact.value c.args.other.now.price) (g.N.Exact.value c.args.other.now.entry)
+    (subst₂ ◌<ℚ◌ c.in_ok-left.ensures.exact c.in_ok-right.ensures.exact c.in-Less.ensures) in
+    (λ t. below, λ l. refl)
+
+pub returns-in-Equal : goal.returns-in-Equal
+returns-in-Equal g c =
+    let value = g.N.Exact.value in
+    let left : Fraction = value c.in_ok-left.left in
+    let right : Fraction = value c.in_ok-right.right in (
+      λ t. absurd Prim.cc,
+      λ l.
+          let lower : left <ℚ right = subst₂ ◌<ℚ◌
+          (ring_ℚ.times_comm (value c.args.one.now.price) (value c.args.other.now.entry) ∙ sym c.in_ok-left.ensures.exact)
+          (ring_ℚ.times_comm (value c.args.other.now.price) (value c.args.one.now.entry) ∙ sym c.in_ok-right.ensures.exact) l in
+          absurd (elim c.in-Equal.is [
+            | inl e ↦ <ℚ_irrefl left (subst (λ (t : Fraction). left <ℚ t) (sym (subst (λ (o : Ordering). MatchOrdering o (left <ℚ right) (left ≡ right) (right <ℚ left)) e c.order.ensures)) lower)
+            | inr e ↦ <ℚ_irrefl left (<ℚ_trans left right left lower (subst (λ (o : Ordering). MatchOrdering o (left <ℚ right) (left ≡ right) (right <ℚ left)) e c.order.ensures))
+          ]),
+    )

@@ -1,0 +1,38 @@
+use Rattle.std.proofs.Common.{◌≡◌, ◌<◌, ◌∙◌, ℕ, List, arith, ap, sym, subst, length, slice_index}
+use Rattle.linear_dict.specs.Dictionaries.{Dictionary, with_note}
+use Rattle.linear_dict.specs.Notes.{Noted, noted}
+use Rattle.simplex_core.specs.Turns.{moved_note}
+use Rattle.simplex_core.proofs.MoveLemmas.{moving_start, moving_sound, moving_same, moving_step, moving_end}
+use Rattle.simplex_core.proofs.exchange.move_notes.Goals as goal
+
+pub loop-rank-init : goal.loop-rank-init
+loop-rank-init g c =
+    let s = c.args.step.now in
+    moving_start c.args.dict.now c.requires.sound (moved_note c.args.dict.now s.leaving s.entering s.above (g.N.Exact.value s.bound) (g.N.Exact.value s.displacement) (g.N.Exact.value s.price))
+
+pub note_after-requires-clause-sound : goal.note_after-requires-clause-sound
+note_after-requires-clause-sound g c =
+    let s = c.args.step.now in
+    moving_sound c.args.dict.now c.requires.sound (moved_note c.args.dict.now s.leaving s.entering s.above (g.N.Exact.value s.bound) (g.N.Exact.value s.displacement) (g.N.Exact.value s.price)) c.loop-rank.rank c.loop-rank.dict c.loop-rank.invariant
+
+pub loop-rank-preserved : goal.loop-rank-preserved
+loop-rank-preserved g c =
+    let s = c.args.step.now in
+    let value = g.N.Exact.value in
+    let e : Dictionary = c.args.dict.now in
+    let d : Dictionary = c.loop-rank.dict in
+    let k : ℕ = c.loop-rank.rank in
+    let f : ℕ → Noted = moved_note e s.leaving s.entering s.above (value s.bound) (value s.displacement) (value s.price) in
+    let n : Noted = noted value c.in_ok-note.note in
+    let hk : k < length e.names = Prim.omega (arith, c.loop-rank-test.true, c.name_count-rank-end.ensures) in
+    let name : c.ranked-name.result ≡ slice_index e.names k = c.ranked-name.ensures ∙ ap (λ (x : Dictionary). slice_index x.names k) c.loop-rank.invariant.is in
+    moving_step e c.requires.sound f k d c.loop-rank.invariant hk n c.set_note.new.self
+    (c.set_note.ensures ∙ ap (λ (w : ℕ). with_note d w n) name)
+    (c.in_ok-note.ensures ∙ ap (moved_note d s.leaving s.entering s.above (value s.bound) (value s.displacement) (value s.price)) name
+    ∙ moving_same e c.requires.sound f k d c.loop-rank.invariant hk s.leaving s.entering s.above (value s.bound) (value s.displacement) (value s.price))
+
+pub returns : goal.returns
+returns g c =
+    let s = c.args.step.now in
+    let f : ℕ → Noted = moved_note c.args.dict.now s.leaving s.entering s.above (g.N.Exact.value s.bound) (g.N.Exact.value s.displacement) (g.N.Exact.value s.price) in
+    moving_end c.args.dict.now c.requires.sound f c.loop-rank.rank c.loop-rank.dict c.loop-rank.invariant (Prim.omega (arith, c.loop-rank-test.false, c.name_count-rank-end.ensures))

@@ -1,0 +1,56 @@
+use Rattle.std.proofs.Common.{◌≡◌, ◌∙◌, ℕ, pos, ap, sym, subst}
+use mathlib.Core.Path.{ap₂}
+use Rattle.std.specs.List.{Contains}
+use Rattle.fraction_theory.specs.Fraction.{Fraction, whole, ◌+ℚ◌, ◌*ℚ◌}
+use Rattle.fraction_theory.proofs.FieldLaws.{over-one}
+use Rattle.linear_dict.specs.Dictionaries.{Dictionary, choice_of, entry_of, note_of}
+use Rattle.linear_dict.specs.Notes.{Noted, noted}
+use Rattle.linear_dict.proofs.SplitLemmas.{Contains-at}
+use Rattle.simplex_core.specs.Turns.{moved_note}
+use Rattle.simplex_core.proofs.MoveLemmas.{note_with, moved-basic, moved-leaving, moved-staying}
+use Rattle.simplex_core.proofs.exchange.note_after.Goals as goal
+
+pub returns-in_ok-value-in-Row : goal.returns-in_ok-value-in-Row
+unfolding choice_of
+returns-in_ok-value-in-Row g c =
+    let value = g.N.Exact.value in
+    let d : Dictionary = c.args.dict.now in
+    let s = c.args.step.now in
+    let n : Noted = noted value c.note-note.result in
+    let entry : value c.entry.result ≡ entry_of d c.args.name s.leaving = c.entry.ensures.entry ∙ ap₂ (entry_of d) c.in-Row.ensures.1 c.requires.leaving in
+    let moved : value c.in_ok-value-in-Row.value ≡ n.value +ℚ entry_of d c.args.name s.leaving *ℚ value s.displacement =
+    c.in_ok-value-in-Row.ensures.exact ∙ ap (λ (t : Fraction). n.value +ℚ t) (c.in_ok-rise-in-Row.ensures.exact ∙ ap (λ (t : Fraction). t *ℚ value s.displacement) entry) in
+    ap₂ (λ (x y : Fraction). note_with n x y n.at_high) moved (c.of_parts-reduced.ensures ∙ over-one (pos 0))
+    ∙ ap (λ (m : Noted). note_with m (m.value +ℚ entry_of d c.args.name s.leaving *ℚ value s.displacement) (whole (pos 0)) m.at_high) c.note-note.ensures
+    ∙ sym (moved-basic d c.requires.sound s.leaving s.entering s.above (value s.bound) (value s.displacement) (value s.price) c.args.name
+    (subst (Contains d.basics) c.in-Row.ensures.1 (Contains-at d.basics c.in-Row.row c.in-Row.ensures.0)))
+
+pub returns-then-name-step : goal.returns-then-name-step
+unfolding choice_of
+returns-then-name-step g c =
+    let value = g.N.Exact.value in
+    let d : Dictionary = c.args.dict.now in
+    let s = c.args.step.now in
+    let n : Noted = noted value c.note-note.result in
+    let entry : value c.entry-in-Column.result ≡ entry_of d s.entering c.args.name = c.entry-in-Column.ensures.entry ∙ ap₂ (entry_of d) c.requires.entering c.in-Column.ensures.1 in
+    let moved : value c.in_ok-reduced-in-Column.reduced ≡ n.reduced +ℚ value s.price *ℚ entry_of d s.entering c.args.name =
+    c.in_ok-reduced-in-Column.ensures.exact ∙ ap (λ (t : Fraction). n.reduced +ℚ t) (c.in_ok-rise-in-Column.ensures.exact ∙ ap (λ (t : Fraction). value s.price *ℚ t) entry) in
+    ap (λ (x : Fraction). note_with n (value s.bound) x s.above) moved
+    ∙ ap (λ (m : Noted). note_with m (value s.bound) (m.reduced +ℚ value s.price *ℚ entry_of d s.entering c.args.name) s.above) c.note-note.ensures
+    ∙ sym (moved-leaving d c.requires.sound s.leaving s.entering s.above (value s.bound) (value s.displacement) (value s.price) c.args.name
+    (subst (Contains d.others) c.in-Column.ensures.1 (Contains-at d.others c.in-Column.column c.in-Column.ensures.0)) c.if-name-step.true)
+
+pub returns-else-name-step : goal.returns-else-name-step
+unfolding choice_of
+returns-else-name-step g c =
+    let value = g.N.Exact.value in
+    let d : Dictionary = c.args.dict.now in
+    let s = c.args.step.now in
+    let n : Noted = noted value c.note-note.result in
+    let entry : value c.entry-in-Column.result ≡ entry_of d s.entering c.args.name = c.entry-in-Column.ensures.entry ∙ ap₂ (entry_of d) c.requires.entering c.in-Column.ensures.1 in
+    let moved : value c.in_ok-reduced-in-Column.reduced ≡ n.reduced +ℚ value s.price *ℚ entry_of d s.entering c.args.name =
+    c.in_ok-reduced-in-Column.ensures.exact ∙ ap (λ (t : Fraction). n.reduced +ℚ t) (c.in_ok-rise-in-Column.ensures.exact ∙ ap (λ (t : Fraction). value s.price *ℚ t) entry) in
+    ap (λ (x : Fraction). note_with n n.value x n.at_high) moved
+    ∙ ap (λ (m : Noted). note_with m m.value (m.reduced +ℚ value s.price *ℚ entry_of d s.entering c.args.name) m.at_high) c.note-note.ensures
+    ∙ sym (moved-staying d c.requires.sound s.leaving s.entering s.above (value s.bound) (value s.displacement) (value s.price) c.args.name
+    (subst (Contains d.others) c.in-Column.ensures.1 (Contains-at d.others c.in-Column.column c.in-Column.ensures.0)) c.if-name-step.false)

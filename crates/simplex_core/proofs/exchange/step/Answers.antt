@@ -1,0 +1,57 @@
+use Rattle.std.proofs.Common.{◌≡◌, ◌≢◌, ◌<◌, ◌∙◌, ℕ, Bool, arith, ap, sym, subst, length, slice_index}
+use Rattle.std.proofs.lemmas.Result.{IfOk-equal}
+use mathlib.Core.Path.{ap₂}
+use Rattle.fraction_theory.specs.Fraction.{Fraction, ◌-ℚ◌}
+use Rattle.linear_dict.specs.Dictionaries.{Dictionary, system_of, entry_of, note_of, pivoted}
+use Rattle.linear_dict.specs.Notes.{Noted, noted}
+use Rattle.linear_dict.proofs.NameLemmas.{entry_at}
+use Rattle.simplex_theory.specs.Steps.{violated_bound, displacement}
+use Rattle.simplex_core.specs.States.{state_of}
+use Rattle.simplex_core.specs.Turns.{moved_note, noted_anew, turned}
+use Rattle.simplex_core.proofs.Helping.{value_is}
+use Rattle.simplex_core.proofs.StepLemmas.{pivoted_live, pivoted_rows, pivoted_columns, pivoted_entering, pivoted_leaving, bound_is, turned_is}
+use Rattle.simplex_core.proofs.exchange.step.Goals as goal
+
+pub pivot-requires-clause-entry : goal.pivot-requires-clause-entry
+pivot-requires-clause-entry g c = λ e. c.requires.entry
+    (sym (entry_at c.args.dict.now c.requires.sound c.args.leaving.now.row c.args.entering.now.column c.requires.row c.requires.column ∙ ap₂ (entry_of c.args.dict.now) c.requires.leaving c.requires.entering) ∙ e)
+
+pub move_notes-requires-clause-live : goal.move_notes-requires-clause-live
+move_notes-requires-clause-live g c = ap (λ (x : Dictionary). x.spent) c.in_ok-pivot.ensures.pivoted ∙ pivoted_live c.args.dict.now c.args.leaving.now.row c.args.entering.now.column ∙ c.requires.live
+
+pub move_notes-requires-clause-row : goal.move_notes-requires-clause-row
+move_notes-requires-clause-row g c =
+    Prim.omega (arith, c.requires.row, ap (λ (x : Dictionary). length x.basics) c.in_ok-pivot.ensures.pivoted, pivoted_rows c.args.dict.now c.args.leaving.now.row c.args.entering.now.column)
+
+pub move_notes-requires-clause-entering : goal.move_notes-requires-clause-entering
+move_notes-requires-clause-entering g c =
+    ap (λ (x : Dictionary). slice_index x.basics c.args.leaving.now.row) c.in_ok-pivot.ensures.pivoted
+    ∙ pivoted_entering c.args.dict.now c.args.leaving.now.row c.args.entering.now.column c.requires.row ∙ c.requires.entering
+
+pub move_notes-requires-clause-column : goal.move_notes-requires-clause-column
+move_notes-requires-clause-column g c =
+    Prim.omega (arith, c.requires.column, ap (λ (x : Dictionary). length x.others) c.in_ok-pivot.ensures.pivoted, pivoted_columns c.args.dict.now c.args.leaving.now.row c.args.entering.now.column)
+
+pub move_notes-requires-clause-leaving : goal.move_notes-requires-clause-leaving
+move_notes-requires-clause-leaving g c =
+    ap (λ (x : Dictionary). slice_index x.others c.args.entering.now.column) c.in_ok-pivot.ensures.pivoted
+    ∙ pivoted_leaving c.args.dict.now c.args.leaving.now.row c.args.entering.now.column c.requires.column ∙ c.requires.leaving
+
+pub returns : goal.returns
+unfolding displacement
+returns g c =
+    let value = g.N.Exact.value in
+    let d : Dictionary = c.args.dict.now in
+    let v : ℕ = c.args.leaving.now.name in
+    let k : ℕ = c.args.entering.now.name in
+    let a : Bool = c.args.leaving.now.above in
+    let n : Noted = noted value c.note-note.result in
+    let is : n ≡ note_of d v = c.note-note.ensures in
+    let bound : value c.bound_on-bound.result ≡ violated_bound (system_of d) v a = bound_is value d v c.note-note.result a c.bound_on-bound.result is c.bound_on-bound.ensures in
+    let far : value c.in_ok-displacement.displacement ≡ displacement (system_of d) (state_of d) v a = c.in_ok-displacement.ensures.exact ∙ ap₂ (λ (x y : Fraction). x -ℚ y) bound (value_is d v n is) in
+    IfOk-equal c.move_notes.result c.move_notes.new.dict
+    (noted_anew c.pivot.new.self (moved_note c.pivot.new.self v k a (value c.bound_on-bound.result) (value c.in_ok-displacement.displacement) (value c.note-price.result.reduced))) (turned d v k a)
+    c.move_notes.ensures
+    (ap (λ (x : Dictionary). noted_anew x (moved_note x v k a (value c.bound_on-bound.result) (value c.in_ok-displacement.displacement) (value c.note-price.result.reduced))) c.in_ok-pivot.ensures.pivoted
+    ∙ turned_is d c.args.leaving.now.row c.args.entering.now.column c.requires.sound v k a (value c.bound_on-bound.result) (value c.in_ok-displacement.displacement) (value c.note-price.result.reduced)
+    c.requires.row c.requires.leaving c.requires.column c.requires.entering bound far (ap Noted.reduced c.note-price.ensures))

@@ -1,0 +1,33 @@
+use Rattle.std.proofs.Common.{◌≡◌, ◌<◌, ◌∙◌, ℕ, arith, ap, length, slice_index}
+use Rattle.linear_dict.specs.Dictionaries.{Dictionary, system_of, choice_of, with_note}
+use Rattle.linear_dict.specs.Notes.{Noted, noted}
+use Rattle.simplex_core.specs.Posings.{value_note}
+use Rattle.simplex_core.proofs.MoveLemmas.{moving_start, moving_sound, moving_step, moving_end, moving_note}
+use Rattle.simplex_core.proofs.StandLemmas.{moving_keeps, moving_system, choice_stays, value_same, value-price, value-low, value-high, value-flag}
+use Rattle.simplex_core.proofs.posing.put_basics.Goals as goal
+
+pub loop-rank-init : goal.loop-rank-init
+loop-rank-init g c = moving_start c.args.dict.now c.requires.sound (value_note c.args.dict.now)
+
+pub note_with_value-requires-clause-sound : goal.note_with_value-requires-clause-sound
+note_with_value-requires-clause-sound g c = moving_sound c.args.dict.now c.requires.sound (value_note c.args.dict.now) c.loop-rank.rank c.loop-rank.dict c.loop-rank.invariant
+
+pub loop-rank-preserved : goal.loop-rank-preserved
+loop-rank-preserved g c =
+    let e : Dictionary = c.args.dict.now in
+    let d : Dictionary = c.loop-rank.dict in
+    let k : ℕ = c.loop-rank.rank in
+    let n : Noted = noted g.N.Exact.value c.in_ok-note.note in
+    let m = c.loop-rank.invariant in
+    let hk : k < length e.names = Prim.omega (arith, c.loop-rank-test.true, c.name_count-rank-end.ensures) in
+    let name : c.ranked-name.result ≡ slice_index e.names k = c.ranked-name.ensures ∙ ap (λ (x : Dictionary). slice_index x.names k) m.is in
+    let same : system_of (record e { notes = m.notes }) ≡ system_of e = moving_system e c.requires.sound (value_note e) k d m (value-price e) (value-low e) (value-high e) in
+    let choice : choice_of (record e { notes = m.notes }) ≡ choice_of e = choice_stays e m.notes (moving_keeps e c.requires.sound (value_note e) k d m Noted.at_high (value-flag e)) in
+    moving_step e c.requires.sound (value_note e) k d m hk n c.set_note.new.self
+    (c.set_note.ensures ∙ ap (λ (w : ℕ). with_note d w n) name)
+    (c.in_ok-note.ensures ∙ ap (value_note d) name ∙ ap (λ (x : Dictionary). value_note x (slice_index e.names k)) m.is
+    ∙ value_same e m.notes (slice_index e.names k) same (moving_note e c.requires.sound (value_note e) k d m hk) choice)
+
+pub returns : goal.returns
+returns g c =
+    moving_end c.args.dict.now c.requires.sound (value_note c.args.dict.now) c.loop-rank.rank c.loop-rank.dict c.loop-rank.invariant (Prim.omega (arith, c.loop-rank-test.false, c.name_count-rank-end.ensures))

@@ -1,0 +1,5 @@
+pub mod Outcomes
+pub mod Posings
+pub mod Searches
+pub mod States
+pub mod Turns

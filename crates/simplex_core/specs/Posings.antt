@@ -1,0 +1,76 @@
+-- What posing a dictionary makes of prices and bounds.
+use Rattle.std.specs.Prelude.{◌≡◌, ℕ, ◌<◌, ◌+◌, pos, Bool, true, false, if◌then◌else◌, List, length, map, slice_index, slice_index_or}
+use Rattle.std.specs.List.{Contains}
+use Rattle.fraction_theory.specs.Fraction.{Fraction, whole}
+use Rattle.fraction_theory.specs.Signs.{sign_of}
+use Rattle.fraction_theory.specs.declared.Sign.{Sign}
+use Rattle.fraction_theory.specs.declared.Sign.TheVariants.{Below, Zero, Above}
+use Rattle.linear_system.specs.Choices.{reduced, value}
+use Rattle.linear_dict.specs.Dictionaries.{Dictionary, system_of, choice_of, note_of}
+use Rattle.linear_dict.specs.Notes.{Noted}
+use Rattle.simplex_core.specs.States.{IsReady}
+use Rattle.simplex_core.specs.declared.bounds.Bounds.{Bounds}
+
+-- the numbers of a place
+abbrev pub price_at : {N : Type 0} → (N → Fraction) → List N → ℕ → Fraction
+price_at value prices k = slice_index_or (map value prices) k (whole (pos 0))
+
+abbrev pub low_at : {N : Type 0} → (N → Fraction) → List (Bounds N) → ℕ → Fraction
+low_at value bounds k = slice_index_or (map (λ b. value b.low) bounds) k (whole (pos 0))
+
+abbrev pub high_at : {N : Type 0} → (N → Fraction) → List (Bounds N) → ℕ → Fraction
+high_at value bounds k = slice_index_or (map (λ b. value b.high) bounds) k (whole (pos 0))
+
+-- the note of a variable that does not stand at a bound yet
+abbrev pub term_note : Fraction → Fraction → Fraction → Noted
+term_note price low high = record { price = price; low = low; high = high; value = whole (pos 0); reduced = whole (pos 0); at_high = false }
+
+-- those of a column and of a row by their places
+abbrev pub column_note : {N : Type 0} → (N → Fraction) → List N → List (Bounds N) → ℕ → Noted
+column_note value prices bounds k = term_note (price_at value prices k) (low_at value bounds k) (high_at value bounds k)
+
+abbrev pub row_note : {N : Type 0} → (N → Fraction) → ℕ → List (Bounds N) → ℕ → Noted
+row_note value columns bounds k = term_note (whole (pos 0)) (low_at value bounds (columns + k)) (high_at value bounds (columns + k))
+
+-- e is d but that each of the names has the note of its place
+pub record HasNotes (d : Dictionary) (names : List ℕ) (f : ℕ → Noted) (e : Dictionary) : Type 0 where
+  pub is : e ≡ record d { notes = e.notes }
+  pub count : length e.notes ≡ length d.names
+  pub each : (k : ℕ) → k < length names → note_of e (slice_index names k) ≡ f k
+  pub rest : (w : ℕ) → ¬ (Contains names w) → note_of e w ≡ note_of d w
+
+-- whether a reduced price of this sign asks for the high bound
+abbrev pub asks_high : Sign → Bool
+asks_high Below = false
+asks_high Zero = false
+asks_high Above = true
+
+-- an other variable's note at the bound that its reduced price asks for
+abbrev pub at_asked : Noted → Fraction → Bool → Noted
+at_asked n price up = record n { value = if up then n.high else n.low; reduced = price; at_high = up }
+
+unfoldable pub stand_note : Dictionary → ℕ → Noted
+stand_note d w =
+    if (choice_of d).basic w then note_of d w
+    else at_asked (note_of d w) (reduced (system_of d) (choice_of d) w) (asks_high (sign_of (reduced (system_of d) (choice_of d) w)))
+
+-- a basic variable's note with the value that follows from the others
+unfoldable pub value_note : Dictionary → ℕ → Noted
+value_note d w = if (choice_of d).basic w then record (note_of d w) { value = value (system_of d) (choice_of d) w } else note_of d w
+
+-- The dictionary d with these prices of its columns and bounds of its columns and then of its rows, each in the order in
+-- which they were put in, is e, and ready. Its rows and its table stay.
+pub record IsPosing {N : Type 0} (value : N → Fraction) (d : Dictionary) (prices : List N) (bounds : List (Bounds N)) (e : Dictionary) : Type 0 where
+  pub columns : e.columns ≡ d.columns
+  pub rows : e.rows ≡ d.rows
+  pub coefficients : e.coefficients ≡ d.coefficients
+  pub names : e.names ≡ d.names
+  pub others : e.others ≡ d.others
+  pub basics : e.basics ≡ d.basics
+  pub table : e.table ≡ d.table
+  pub price : (k : ℕ) → k < length d.columns → (system_of e).price (slice_index d.columns k) ≡ price_at value prices k
+  pub column_low : (k : ℕ) → k < length d.columns → (system_of e).low (slice_index d.columns k) ≡ low_at value bounds k
+  pub column_high : (k : ℕ) → k < length d.columns → (system_of e).high (slice_index d.columns k) ≡ high_at value bounds k
+  pub row_low : (k : ℕ) → k < length d.rows → (system_of e).low (slice_index d.rows k) ≡ low_at value bounds (length d.columns + k)
+  pub row_high : (k : ℕ) → k < length d.rows → (system_of e).high (slice_index d.rows k) ≡ high_at value bounds (length d.columns + k)
+  pub ready : IsReady e

@@ -1,0 +1,131 @@
+// A step: the leaving and the entering variable change places, and the notes move by the new table.
+ghost use Rattle.std.specs.Prelude.{◌≡◌, ◌≢◌, ◌<◌, IfOk, if◌then◌else◌, false, length, slice_index, pos};
+ghost use Rattle.std.specs.List.{Contains};
+ghost use Rattle.fraction_theory.specs.Fraction.{whole};
+ghost use Rattle.linear_dict.specs.Dictionaries.{IsDictionary, entry_of};
+ghost use Rattle.linear_dict.specs.Notes.{noted};
+ghost use Rattle.simplex_core.specs.Turns.{moved_note, noted_anew, turned};
+
+use crate::enter::Candidate;
+use crate::leave::Leaving;
+use exact_fraction::{Exact, Passed};
+use linear_dict::{Dict, Note, Place};
+
+/// How the notes move: the leaving variable goes to a bound, and all values and reduced prices with it.
+#[derive(Clone, Copy)]
+struct Move<N> {
+    leaving: u32,
+    entering: u32,
+    /// Where the two stand after the exchange.
+    row: usize,
+    column: usize,
+    /// Whether the leaving variable goes to its high bound, and not to its low one.
+    above: bool,
+    bound: N,
+    /// How far the leaving variable moves.
+    displacement: N,
+    /// The reduced price that the entering variable had.
+    price: N,
+}
+
+/// The note of a variable after the move, by the table after the exchange.
+fn note_after<N: Exact>(dict: &Dict<N>, name: u32, step: &Move<N>) -> Result<Note<N>, Passed<N>>
+    requires live { dict.now.spent ≡ false }
+    requires sound { IsDictionary dict.now }
+    requires named { Contains dict.now.names name }
+    requires row { step.now.row < length dict.now.basics }
+    requires entering { slice_index dict.now.basics step.now.row ≡ step.now.entering }
+    requires column { step.now.column < length dict.now.others }
+    requires leaving { slice_index dict.now.others step.now.column ≡ step.now.leaving }
+    ensures { IfOk result (λ note. noted N.value note ≡ moved_note dict.now step.now.leaving step.now.entering step.now.above
+        (N.value step.now.bound) (N.value step.now.displacement) (N.value step.now.price) name) }
+{
+    let note = dict.note(name);
+    match dict.place(name) {
+        Place::Row(row) => {
+            let rise = dict.entry(row, step.column).times(step.displacement)?;
+            let value = note.value.plus(rise)?;
+            let reduced = N::of_parts(0, 1);
+            Ok(Note {
+                value,
+                reduced,
+                ..note
+            })
+        }
+        Place::Column(column) => {
+            let rise = step.price.times(dict.entry(step.row, column))?;
+            let reduced = note.reduced.plus(rise)?;
+            if name == step.leaving {
+                let value = step.bound;
+                let at_high = step.above;
+                Ok(Note {
+                    value,
+                    reduced,
+                    at_high,
+                    ..note
+                })
+            } else {
+                Ok(Note { reduced, ..note })
+            }
+        }
+    }
+}
+
+/// Moves the notes of all variables.
+fn move_notes<N: Exact>(dict: &mut Dict<N>, step: &Move<N>) -> Result<(), Passed<N>>
+    requires live { dict.old.spent ≡ false }
+    requires sound { IsDictionary dict.old }
+    requires row { step.now.row < length dict.old.basics }
+    requires entering { slice_index dict.old.basics step.now.row ≡ step.now.entering }
+    requires column { step.now.column < length dict.old.others }
+    requires leaving { slice_index dict.old.others step.now.column ≡ step.now.leaving }
+    ensures { IfOk result (λ _. dict.new ≡ noted_anew dict.old (moved_note dict.old step.now.leaving step.now.entering step.now.above
+        (N.value step.now.bound) (N.value step.now.displacement) (N.value step.now.price))) }
+{
+    for rank in 0..dict.name_count() {
+        let name = dict.ranked(rank);
+        let note = note_after(dict, name, step)?;
+        dict.set_note(name, note);
+    }
+    Ok(())
+}
+
+/// The high bound of a note, or else the low one.
+pub(crate) fn bound_on<N: Exact>(note: &Note<N>, high: bool) -> N
+    ensures { result ≡ (if high then note.now.high else note.now.low) }
+{
+    if high { note.high } else { note.low }
+}
+
+/// The leaving variable goes to the bound that it violates, and the entering one takes its place.
+pub(crate) fn step<N: Exact>(
+    dict: &mut Dict<N>,
+    leaving: &Leaving,
+    entering: &Candidate<N>,
+) -> Result<(), Passed<N>>
+    requires live { dict.old.spent ≡ false }
+    requires sound { IsDictionary dict.old }
+    requires row { leaving.now.row < length dict.old.basics }
+    requires leaving { slice_index dict.old.basics leaving.now.row ≡ leaving.now.name }
+    requires column { entering.now.column < length dict.old.others }
+    requires entering { slice_index dict.old.others entering.now.column ≡ entering.now.name }
+    requires entry { entry_of dict.old leaving.now.name entering.now.name ≢ whole (pos 0) }
+    ensures { IfOk result (λ _. dict.new ≡ turned dict.old leaving.now.name entering.now.name leaving.now.above) }
+{
+    let note = dict.note(leaving.name);
+    let bound = bound_on(&note, leaving.above);
+    let displacement = bound.minus(note.value)?;
+    let price = dict.note(entering.name).reduced;
+    dict.pivot(leaving.row, entering.column)?;
+    let step = Move {
+        leaving: leaving.name,
+        entering: entering.name,
+        row: leaving.row,
+        column: entering.column,
+        above: leaving.above,
+        bound,
+        displacement,
+        price,
+    };
+    move_notes(dict, &step)
+}

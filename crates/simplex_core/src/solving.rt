@@ -1,0 +1,112 @@
+// The run of the method.
+ghost use Rattle.std.specs.Prelude.{◌≡◌, IfOk};
+ghost use Rattle.std.specs.List.{Contains};
+ghost use Rattle.simplex_core.specs.States.{IsReady, state_of};
+ghost use Rattle.simplex_core.specs.Outcomes.{IsSettled, IsOutcome};
+
+use crate::enter::find_entering;
+use crate::exchange::step;
+use crate::leave::find_leaving;
+use exact_fraction::{Exact, Passed};
+use linear_dict::Dict;
+use std::marker::Model;
+
+/// A dictionary with prices and bounds, whose other variables stand at the bounds that their reduced prices ask for.
+#[derive(Drop)]
+pub struct Posed<N: Exact> {
+    pub(crate) dict: Dict<N>,
+}
+
+impl<N: Exact> Model for Posed<N> {
+    ghost use Rattle.linear_dict.specs.Dictionaries.{Dictionary, dictionary_code};
+    ghost use Rattle.simplex_core.specs.States.{IsReady};
+
+    ghost Value = { Dictionary };
+
+    ghost coded = { dictionary_code };
+
+    ghost view = { λ p. p.dict };
+
+    ghost invariant = { λ p. IsReady p.dict };
+}
+
+/// The best values, with the reduced prices that show it.
+#[derive(Drop)]
+pub struct Solved<N: Exact> {
+    dict: Dict<N>,
+}
+
+impl<N: Exact> Model for Solved<N> {
+    ghost use Rattle.linear_dict.specs.Dictionaries.{Dictionary, dictionary_code};
+    ghost use Rattle.simplex_core.specs.States.{IsReady};
+
+    ghost Value = { Dictionary };
+
+    ghost coded = { dictionary_code };
+
+    ghost view = { λ s. s.dict };
+
+    ghost invariant = { λ s. IsReady s.dict };
+}
+
+/// How a run ends.
+#[derive(Drop)]
+pub enum Run<N: Exact> {
+    Solved(Solved<N>),
+    /// No values within the bounds meet the rows: no values of the others in this row place do so alone.
+    Empty { dict: Dict<N>, row: usize },
+    Passed(Passed<N>),
+}
+
+/// Steps until all basic variables keep their bounds, or none of the others helps the one that leaves: then its row place.
+fn settle<N: Exact>(dict: &mut Dict<N>) -> Result<Option<usize>, Passed<N>>
+    requires { IsReady dict.old }
+    ensures { IfOk result (IsSettled dict.old dict.new) }
+{
+    while let Some(variable) = find_leaving(dict) {
+        match find_entering(dict, &variable)? {
+            Some(candidate) => step(dict, &variable, &candidate)?,
+            None => return Ok(Some(variable.row)),
+        }
+    }
+    Ok(None)
+}
+
+impl<N: Exact> Posed<N> {
+    /// Runs the dual simplex method to its end.
+    pub fn run(self) -> Run<N>
+        ensures { IsOutcome self result }
+    {
+        let mut dict = self.dict;
+        match settle(&mut dict) {
+            Ok(None) => Run::Solved(Solved { dict }),
+            Ok(Some(row)) => Run::Empty { dict, row },
+            Err(passed) => Run::Passed(passed),
+        }
+    }
+}
+
+impl<N: Exact> Solved<N> {
+    /// The value of a variable.
+    pub fn value(&self, var: u32) -> N
+        requires { Contains self.now.names var }
+        ensures { N.value result ≡ (state_of self.now).value var }
+    {
+        self.dict.note(var).value
+    }
+
+    /// The reduced price of a variable.
+    pub fn reduced(&self, var: u32) -> N
+        requires { Contains self.now.names var }
+        ensures { N.value result ≡ (state_of self.now).reduced var }
+    {
+        self.dict.note(var).reduced
+    }
+
+    /// The dictionary, for a further row or other bounds.
+    pub fn into_dict(self) -> Dict<N>
+        ensures { result ≡ self }
+    {
+        self.dict
+    }
+}
