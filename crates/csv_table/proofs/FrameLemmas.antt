@@ -1,14 +1,12 @@
--- A record's cells, the header, the widths, and a text's records against its frame.
-use Rattle.std.proofs.Common.{◌≡◌, ◌≢◌, ◌≤◌, ◌<◌, ◌+◌, ◌∷◌, ◌&&◌, ℕ, zero, suc, List, [], Bool, true, false, Option, Some, None, Result, Ok, Err, Bor, length, map, get_or, drop, refl, sym, arith, ne_eqb, not}
-use Rattle.std.proofs.lemmas.List.{drop_all, drop_more, get_or-map, length-map}
-use Rattle.std.proofs.lemmas.Bool.{eq-eqb, le-ltb, lt-ltb, ltb-false}
-use Rattle.std.specs.Prelude.{nat_lt, ◌-◌, if◌then◌else◌}
-use Rattle.std.specs.Option.{option_map_or}
+-- A record's cells, the header, and a text's records against its frame.
+use Rattle.std.proofs.Common.{◌≡◌, ◌≢◌, ◌≤◌, ◌<◌, ◌+◌, ◌∷◌, ◌&&◌, ℕ, zero, suc, List, [], Bool, true, false, Option, Some, None, Ok, Err, Bor, length, get_or, drop, refl, sym, arith, not}
+use Rattle.std.proofs.lemmas.Bool.{ltb-false}
+use Rattle.std.specs.Prelude.{IfSome}
 use Rattle.std.specs.Str.{bytes_eq}
-use Rattle.csv.specs.Records.{Row, field_at, fields_of}
+use Rattle.csv.specs.Records.{field_at}
 use Rattle.csv.proofs.RecordFacts.{field-get}
-use Rattle.csv_table.specs.Table.{Record, cell_of, first_odd, frame_of, same_record}
-use Rattle.csv_table.specs.declared.FrameFault.{FrameFault}
+use Rattle.csv_table.specs.Table.{Record, cell_of, first_odd, frame_of, is_over, same_record}
+use Rattle.csv_table.specs.Rows.{first_of}
 use Rattle.csv_table.specs.declared.FrameFault.TheVariants as fault
 
 -- a field that is there is the cell
@@ -21,33 +19,6 @@ unfolding field_at
 cell-none [] col none = refl
 cell-none (field ∷ fields) zero none = cc
 cell-none (field ∷ fields) (suc col) none = cell-none fields col none
-
--- ---- the first record of another width, from the row at a place on
-module _ (width line : ℕ) (rows : List Row) (i : ℕ) where
-  -- a row of this width is passed over
-  pub first_odd-same : (row : Row) → i < length rows → row ≡ get_or rows i row → length (fields_of row) ≡ width
-      → first_odd width line (drop i (map fields_of rows)) ≡ first_odd width (line + 1) (drop (i + 1) (map fields_of rows))
-  unfolding first_odd
-  first_odd-same row lt is even =
-      let below : i < length (map fields_of rows) = rw (length-map) lt in
-      let wide : length (get_or (map fields_of rows) i []) ≡ width = rw (get_or-map fields_of rows i row [] lt, ← is) even in
-      rw (drop_more (map fields_of rows) i [] below, eq-eqb _ _ wide) refl
-
-  -- a row of another width is the first
-  pub first_odd-other : (row : Row) → i < length rows → row ≡ get_or rows i row → length (fields_of row) ≢ width
-      → first_odd width line (drop i (map fields_of rows)) ≡ Some line
-  unfolding first_odd
-  first_odd-other row lt is odd =
-      let below : i < length (map fields_of rows) = rw (length-map) lt in
-      let wide : length (get_or (map fields_of rows) i []) ≢ width = rw (get_or-map fields_of rows i row [] lt, ← is) odd in
-      rw (drop_more (map fields_of rows) i [] below, ne_eqb _ _ wide) refl
-
-  -- no row is left
-  pub first_odd-end : length rows ≤ i → first_odd width line (drop i (map fields_of rows)) ≡ None
-  unfolding first_odd
-  first_odd-end le =
-      let all : length (map fields_of rows) ≤ i = rw (length-map) le in
-      rw (drop_all i (map fields_of rows) all) refl
 
 -- ---- whether two records are the same
 -- they are if they have one length and agree at each place
@@ -82,71 +53,41 @@ pub not-true : (b : Bool) → not b ≡ true → b ≡ false
 not-true true fails = sym fails
 not-true false fails = refl
 
--- ---- the records of a text against its frame, given as the reader's rows and the first of them
-pub frame-none : (header : Record) (most : ℕ) (items : List Row) → length items ≡ 0 → frame_of header most (map fields_of items) ≡ Err fault.Header
+-- ---- the records of a text against its frame
+pub frame-none : (header : Record) (most : Option ℕ) (records : List Record) → length records ≡ 0 → frame_of header most records ≡ Err fault.Header
 unfolding frame_of
 frame-none header most [] none = refl
 frame-none header most (row ∷ rows) none = absurd (omega arith)
 
-module _ (header : Record) (most width : ℕ) (first : Row) where
-  pub frame-width : (line : ℕ) (items : List Row) → 0 < length items → first ≡ get_or items 0 first → width ≡ length (fields_of first)
-      → Some line ≡ first_odd width 1 (map fields_of items) → frame_of header most (map fields_of items) ≡ Err (fault.Width line)
+module _ (header : Record) (most : Option ℕ) where
+  pub frame-width : (line : ℕ) (records : List Record) → first_odd (length (first_of records)) 1 records ≡ Some line → frame_of header most records ≡ Err (fault.Width line)
+  unfolding frame_of first_odd
+  frame-width line [] odd = cc odd
+  frame-width line (row ∷ rows) odd = rw odd refl
+
+  pub frame-header : (records : List Record) → first_odd (length (first_of records)) 1 records ≡ None → same_record (first_of records) header ≡ false
+      → frame_of header most records ≡ Err fault.Header
   unfolding frame_of
-  frame-width line [] some here wide odd = absurd (omega arith)
-  frame-width line (row ∷ rows) some here wide odd =
-      let found : Some line ≡ first_odd (length (fields_of row)) 1 (fields_of row ∷ map fields_of rows) = rw (wide, here) at odd in
-      rw (← found) refl
+  frame-header [] even other = refl
+  frame-header (row ∷ rows) even other = rw (even, other) refl
 
-  pub frame-header : (items : List Row) → 0 < length items → first ≡ get_or items 0 first → width ≡ length (fields_of first)
-      → first_odd width 1 (map fields_of items) ≡ None → same_record (fields_of first) header ≡ false
-      → frame_of header most (map fields_of items) ≡ Err fault.Header
+  pub frame-many : (count : ℕ) (records : List Record) → first_odd (length (first_of records)) 1 records ≡ None → same_record (first_of records) header ≡ true
+      → length records ≡ count + 1 → is_over most count ≡ true → frame_of header most records ≡ Err (fault.TooMany count)
   unfolding frame_of
-  frame-header [] some here wide even other = absurd (omega arith)
-  frame-header (row ∷ rows) some here wide even other =
-      let none : first_odd (length (fields_of row)) 1 (fields_of row ∷ map fields_of rows) ≡ None = rw (wide, here) at even in
-      let differs : same_record (fields_of row) header ≡ false = rw here at other in
-      rw (none, differs) refl
+  frame-many count [] even same counted many = absurd (omega arith)
+  frame-many count (row ∷ rows) even same counted many =
+      let all : length rows ≡ count = omega arith in
+      rw (even, same, all, many) refl
 
-  pub frame-many : (count : ℕ) (items : List Row) → 0 < length items → first ≡ get_or items 0 first → width ≡ length (fields_of first)
-      → first_odd width 1 (map fields_of items) ≡ None → same_record (fields_of first) header ≡ true
-      → count ≡ length items - 1 → most < count → frame_of header most (map fields_of items) ≡ Err (fault.TooMany count)
+  pub frame-ok : (count : ℕ) (records : List Record) → first_odd (length (first_of records)) 1 records ≡ None → same_record (first_of records) header ≡ true
+      → length records ≡ count + 1 → is_over most count ≡ false → frame_of header most records ≡ Ok (drop 1 records)
   unfolding frame_of
-  frame-many count [] some here wide even same counted many = absurd (omega arith)
-  frame-many count (row ∷ rows) some here wide even same counted many =
-      let none : first_odd (length (fields_of row)) 1 (fields_of row ∷ map fields_of rows) ≡ None = rw (wide, here) at even in
-      let agrees : same_record (fields_of row) header ≡ true = rw here at same in
-      let all : count ≡ length (map fields_of rows) = simp length-map (omega arith) in
-      let over : nat_lt most (length (map fields_of rows)) ≡ true = lt-ltb _ _ (omega arith) in
-      rw (none, agrees, over, all) refl
+  frame-ok count [] even same counted few = absurd (omega arith)
+  frame-ok count (row ∷ rows) even same counted few =
+      let all : length rows ≡ count = omega arith in
+      rw (even, same, all, few) refl
 
-  pub frame-ok : (items : List Row) → 0 < length items → first ≡ get_or items 0 first → width ≡ length (fields_of first)
-      → first_odd width 1 (map fields_of items) ≡ None → same_record (fields_of first) header ≡ true
-      → length items - 1 ≤ most → frame_of header most (map fields_of items) ≡ Ok (drop 1 (map fields_of items))
-  unfolding frame_of
-  frame-ok [] some here wide even same few = absurd (omega arith)
-  frame-ok (row ∷ rows) some here wide even same few =
-      let none : first_odd (length (fields_of row)) 1 (fields_of row ∷ map fields_of rows) ≡ None = rw (wide, here) at even in
-      let agrees : same_record (fields_of row) header ≡ true = rw here at same in
-      let all : length (map fields_of rows) ≡ length rows = simp length-map in
-      let within : nat_lt most (length (map fields_of rows)) ≡ false = le-ltb _ _ (omega arith) in
-      rw (none, agrees, within) refl
-
--- a text that fits its frame has no more records than are allowed
-few-at_fit : (most : ℕ) (odd : Option ℕ) (same : Bool) (rows under : List Record)
-    → option_map_or (λ line. Err (fault.Width line)) odd (if same then (if nat_lt most (length rows) then Err (fault.TooMany (length rows)) else Ok rows) else Err fault.Header) ≡ Ok under
-    → length under ≤ most
-few-at_fit most (Some line) same rows under fits = cc
-few-at_fit most None false rows under fits = cc
-few-at_fit most None true rows under fits = by (nat_lt most (length rows)) refl
-  where
-    by : (over : Bool) → nat_lt most (length rows) ≡ over → length under ≤ most
-    by true over = let refused : ◌≡◌ {A = Result (List Record) FrameFault} (Err (fault.TooMany (length rows))) (Ok under) = rw over at fits in cc
-    by false over =
-        let kept : ◌≡◌ {A = Result (List Record) FrameFault} (Ok rows) (Ok under) = rw over at fits in
-        let all : rows ≡ under = cc in
-        rw (← all) (ltb-false _ _ over)
-
-pub frame_of-few : (header : Record) (most : ℕ) (rows under : List Record) → frame_of header most rows ≡ Ok under → length under ≤ most
-unfolding frame_of
-frame_of-few header most [] under fits = let refused : ◌≡◌ {A = Result (List Record) FrameFault} (Err fault.Header) (Ok under) = fits in cc
-frame_of-few header most (h ∷ rows) under fits = few-at_fit most (first_odd (length h) 1 (h ∷ rows)) (same_record h header) rows under fits
+-- a number that is not above a limit is at most the limit
+pub within-most : (most : Option ℕ) (count : ℕ) → is_over most count ≡ false → IfSome most (λ most. count ≤ most)
+within-most None count few = tt
+within-most (Some most) count few = ltb-false _ _ few

@@ -11,13 +11,14 @@
 //! A cell is bytes, and what they mean is left to the reader of each table.
 #![tactic(auto)]
 
-ghost use Rattle.std.specs.Prelude.{◌≡◌, ◌≢◌, ◌<◌, ◌≤◌, ◌+◌, ◌^◌, IfOk, IfErr, Ok, Err, map, drop, length, get_or, List, ℕ, []};
-ghost use Rattle.csv.specs.Records.{fields_of};
-ghost use Rattle.csv_table.specs.Table.{Record, cell_of, first_odd, frame_of, same_record, table_of};
-ghost use Rattle.csv_table.specs.RecordsStop.{IsNoFaultOfText};
+ghost use Rattle.std.specs.Prelude.{◌≡◌, ◌≢◌, ◌<◌, ◌≤◌, ◌+◌, ◌++◌, ◌∷◌, ◌^◌, unsigned_abs, IfOk, IfErr, IfSome, Ok, Err, map, drop, length, get_or, List, ℕ, []};
+ghost use Rattle.csv.specs.Records.{fields_of, partial_of};
+ghost use Rattle.csv_table.specs.Table.{Record, cell_of, frame_of, is_over, number_in, same_record, table_of};
+ghost use Rattle.csv_table.specs.Rows.{IsFlat, IsPushStop, IsRowsStop, first_of, records_in};
 
 use csv::{ByteRecord, ReaderBuilder};
-use std::alloc::Global;
+use scaled_decimal::{DecimalFault, read};
+use std::alloc::{AllocError, Global};
 use std::marker::Model;
 
 /// What is wrong with a table as a whole. Where several of these hold, the first of `Width`, `Header` and `TooMany` is told. A text
@@ -35,36 +36,31 @@ pub enum FrameFault {
     Memory,
 }
 
-/// Why the records of a text were not read. No text is a cause.
+/// A cell that has no number of the wanted units. Lines are counted as in `FrameFault`, columns from 1.
+#[derive(Clone, Copy, Debug, PartialEq, Eq)]
+pub struct CellFault {
+    pub line: usize,
+    pub col: usize,
+    pub why: DecimalFault,
+}
+
+/// Why the records of a text were not all read.
 #[derive(Debug, Drop)]
-enum RecordsStop {
+enum RowsStop {
     /// The reader was refused memory, or its source failed.
     Reader(csv::Error),
-    /// The list of records was refused memory.
+    /// A record has another width than the first.
+    Width { line: usize },
+    /// The list of cells was refused memory.
     Memory,
 }
 
-// All records of a text, of any number of cells each, the header first.
-fn records(alloc: Global, bytes: &[u8]) -> Result<Vec<ByteRecord>, RecordsStop>
-    ensures ok { IfOk result (λ rows. map fields_of rows.items ≡ table_of bytes.now) }
-    ensures err { IfErr result IsNoFaultOfText }
-{
-    let reader = ReaderBuilder::new()
-        .has_headers(false)
-        .flexible(true)
-        .from_reader(alloc, bytes);
-    let mut rows = Vec::new(alloc);
-    for row in reader.into_byte_records() {
-        match row {
-            Ok(row) => {
-                if rows.push(row).is_err() {
-                    return Err(RecordsStop::Memory);
-                }
-            }
-            Err(error) => return Err(RecordsStop::Reader(error)),
-        }
-    }
-    Ok(rows)
+/// The records of a text, all of one width: their cells, one record after the other.
+#[derive(Drop)]
+struct Rows {
+    cells: ByteRecord,
+    width: usize,
+    count: usize,
 }
 
 // The bytes of a record's cell, the first being 0, and no bytes beyond the last.
@@ -77,45 +73,119 @@ fn field(row: &ByteRecord, col: usize) -> &[u8]
     }
 }
 
-// The line of the first record that has another number of cells, where the first record's line is 1.
-fn odd_line(rows: &[ByteRecord], width: usize) -> Option<usize>
-    ensures { result ≡ first_odd width 1 (map fields_of rows.now) }
+// Adds the cells of a record at the end. After an error some of them may stand there.
+fn append(cells: &mut ByteRecord, row: &ByteRecord) -> Result<(), AllocError>
+    requires { partial_of cells.old ≡ [] }
+    ensures cells { IfOk result (λ _. fields_of cells.new ≡ fields_of cells.old ++ fields_of row.now) }
+    ensures partial { IfOk result (λ _. partial_of cells.new ≡ []) }
+    ensures small { IfOk result (λ _. length (fields_of cells.new) < 2 ^ 64) }
 {
-    for (at, row) in rows.iter().enumerate() {
-        if row.len() != width {
-            return Some(at + 1);
-        }
+    for col in 0..row.len() {
+        cells.push_field(field(row, col))?;
     }
-    None
+    let _count = cells.len();
+    Ok(())
 }
 
-// Whether a record's cells are these names.
-fn is_header(row: &ByteRecord, header: &[&[u8]]) -> bool
-    ensures { result ≡ same_record (fields_of row.now) (map (λ f. f.now) header.now) }
-{
-    if row.len() != header.len() {
-        return false;
-    }
-    for (col, name) in header.iter().enumerate() {
-        if field(row, col) != *name {
-            return false;
+impl Rows {
+    // No records.
+    fn new(alloc: Global) -> Rows
+        ensures flat { IsFlat result }
+        ensures none { result.count ≡ 0 }
+    {
+        Rows {
+            cells: ByteRecord::new(alloc),
+            width: 0,
+            count: 0,
         }
     }
-    true
+
+    // Adds a record at the end, where it has the width of the others.
+    fn push(&mut self, row: &ByteRecord) -> Result<(), RowsStop>
+        requires flat { IsFlat self.old }
+        requires small { self.old.count + 2 < 2 ^ 64 }
+        ensures flat { IfOk result (λ _. IsFlat self.new) }
+        ensures count { IfOk result (λ _. self.new.count ≡ self.old.count + 1) }
+        ensures records { IfOk result (λ _. records_in self.new ≡ records_in self.old ++ fields_of row.now ∷ []) }
+        ensures stop { IfErr result (IsPushStop self.old (fields_of row.now)) }
+    {
+        if self.count == 0 {
+            self.width = row.len();
+        } else if row.len() != self.width {
+            return Err(RowsStop::Width {
+                line: self.count + 1,
+            });
+        }
+        if append(&mut self.cells, row).is_err() {
+            return Err(RowsStop::Memory);
+        }
+        self.count += 1;
+        Ok(())
+    }
+
+    // The bytes of a cell, and no bytes beyond the width.
+    fn cell(&self, row: usize, col: usize) -> &[u8]
+        requires flat { IsFlat self.now }
+        requires row { row < self.now.count }
+        ensures { result.now ≡ cell_of (get_or (records_in self.now) row []) col }
+    {
+        if col < self.width {
+            field(&self.cells, row * self.width + col)
+        } else {
+            &[]
+        }
+    }
+
+    // Whether the cells of the first record are these names.
+    fn is_header(&self, header: &[&[u8]]) -> bool
+        requires flat { IsFlat self.now }
+        requires some { 0 < self.now.count }
+        ensures { result ≡ same_record (first_of (records_in self.now)) (map (λ f. f.now) header.now) }
+    {
+        if self.width != header.len() {
+            return false;
+        }
+        for (col, name) in header.iter().enumerate() {
+            if self.cell(0, col) != *name {
+                return false;
+            }
+        }
+        true
+    }
+}
+
+// All records of a text, the header first, where they are of one width.
+fn rows_of(alloc: Global, bytes: &[u8]) -> Result<Rows, RowsStop>
+    ensures flat { IfOk result IsFlat }
+    ensures ok { IfOk result (λ rows. records_in rows ≡ table_of bytes.now) }
+    ensures err { IfErr result (IsRowsStop (table_of bytes.now)) }
+{
+    let reader = ReaderBuilder::new()
+        .has_headers(false)
+        .flexible(true)
+        .from_reader(alloc, bytes);
+    let mut rows = Rows::new(alloc);
+    for row in reader.into_byte_records() {
+        match row {
+            Ok(row) => rows.push(&row)?,
+            Err(error) => return Err(RowsStop::Reader(error)),
+        }
+    }
+    Ok(rows)
 }
 
 /// The records under a table's header, each as wide as the header. Contracts see it as the list of these records.
 #[derive(Drop)]
 pub struct Table {
-    rows: Vec<ByteRecord>,
+    rows: Rows,
 }
 
 impl Model for Table {
     ghost Value = { List Record };
 
-    ghost view = { λ table. drop 1 (map fields_of table.rows.items) };
+    ghost view = { λ table. drop 1 (records_in table.rows) };
 
-    ghost invariant = { λ table. 0 < length table.rows.items };
+    ghost invariant = { λ table. IsFlat table.rows × (0 < table.rows.count) };
 }
 
 impl Table {
@@ -126,7 +196,7 @@ impl Table {
         // So that a record's line, its place + 2, is a `usize`.
         ensures small { result + 2 < 2 ^ 64 }
     {
-        self.rows.len() - 1
+        self.rows.count - 1
     }
 
     /// The bytes of a cell with its quotes undone, rows and columns counted from 0: the record at `row` stands on line `row` + 2.
@@ -135,40 +205,63 @@ impl Table {
         requires { row < length self.now }
         ensures { result.now ≡ cell_of (get_or self.now row []) col }
     {
-        field(&self.rows[row + 1], col)
+        self.rows.cell(row + 1, col)
+    }
+
+    /// The number of units of `10^-places` that the decimal in a cell is, rows and columns counted from 0.
+    pub fn number(&self, row: usize, col: usize, places: u8) -> Result<i64, CellFault>
+        requires row { row < length self.now }
+        requires line { row + 2 < 2 ^ 64 }
+        requires col { col + 1 < 2 ^ 64 }
+        requires places { places ≤ 18 }
+        ensures small { IfOk result (λ number. unsigned_abs number < 2 ^ 63) }
+        ensures is { result ≡ number_in (row + 2) (get_or self.now row []) col places }
+    {
+        match read(self.cell(row, col), places) {
+            Ok(number) => Ok(number),
+            Err(why) => Err(CellFault {
+                line: row + 2,
+                col: col + 1,
+                why,
+            }),
+        }
+    }
+}
+
+// Whether a number of records is above a limit.
+fn is_above(count: usize, most: Option<usize>) -> bool
+    ensures { result ≡ is_over most count }
+{
+    match most {
+        Some(most) => count > most,
+        None => false,
     }
 }
 
 /// Reads the table of a text that has this header and at most `most` records under it, or tells the first fault of its frame.
-/// `Memory` alone may come at any text.
+/// With no `most` any number of records will do. `Memory` alone may come at any text.
 pub fn read_table(
     alloc: Global,
     bytes: &[u8],
     header: &[&[u8]],
-    most: usize,
+    most: Option<usize>,
 ) -> Result<Table, FrameFault>
     ensures ok { IfOk result (λ table.
         frame_of (map (λ name. name.now) header.now) most (table_of bytes.now) ≡ Ok table) }
     ensures err { IfErr result (λ fault. fault ≢ FrameFault.Memory →
         frame_of (map (λ name. name.now) header.now) most (table_of bytes.now) ≡ Err fault) }
-    ensures few { IfOk result (λ table. length table ≤ most) }
+    ensures few { IfOk result (λ table. IfSome most (λ most. length table ≤ most)) }
 {
-    let rows = match records(alloc, bytes) {
+    let rows = match rows_of(alloc, bytes) {
         Ok(rows) => rows,
+        Err(RowsStop::Width { line }) => return Err(FrameFault::Width { line }),
         Err(_) => return Err(FrameFault::Memory),
     };
-    let Some(first) = rows.first() else {
-        return Err(FrameFault::Header);
-    };
-    let width = first.len();
-    if let Some(line) = odd_line(rows.as_slice(), width) {
-        return Err(FrameFault::Width { line });
-    }
-    if !is_header(first, header) {
+    if rows.count == 0 || !rows.is_header(header) {
         return Err(FrameFault::Header);
     }
-    let count = rows.len() - 1;
-    if count > most {
+    let count = rows.count - 1;
+    if is_above(count, most) {
         return Err(FrameFault::TooMany { count });
     }
     Ok(Table { rows })

@@ -9,11 +9,10 @@ use Rattle.market_model.specs.declared.participants.Block.{Block}
 use Rattle.market_model.specs.declared.participants.Side.{Side}
 use Rattle.market_model.specs.declared.participants.Side.TheVariants.{Sell, Buy}
 use Rattle.market_model.specs.Reports.{same_side}
-use Rattle.csv_table.specs.Table.{Record, and_then, cell_of, frame_of, table_of}
+use Rattle.csv_table.specs.Table.{Record, and_then, cell_of, frame_of, number_in, or_as, table_of}
+use Rattle.csv_table.specs.declared.CellFault.{CellFault}
 use Rattle.csv_table.specs.declared.FrameFault.{FrameFault}
 use Rattle.csv_table.specs.declared.FrameFault.TheVariants as frame
-use Rattle.scaled_decimal.specs.Reading.{units_of}
-use Rattle.scaled_decimal.specs.declared.DecimalFault.{DecimalFault}
 use Rattle.market_model.specs.WholeSums.{int_sum}
 use Rattle.net_case.specs.Gathering.{gather}
 use Rattle.net_case.specs.declared.live_parts.Why.TheVariants as why
@@ -22,14 +21,13 @@ use Rattle.offer_book.specs.declared.offer_table.Stair.{Stair}
 use Rattle.offer_book.specs.declared.offer_table.OfferFault.{OfferFault}
 use Rattle.offer_book.specs.declared.offer_table.OfferFault.TheVariants as fault
 
--- a number, or the fault of its cell, whose column counts from 0
-abbrev pub at_cell : ℕ → ℕ → Result ℤ DecimalFault → Result ℤ OfferFault
-at_cell line col (Ok n) = Ok n
-at_cell line col (Err f) = Err (fault.Cell line (col + 1) (why.Decimal f))
+-- the fault of a cell without a number
+abbrev pub cell_fault : CellFault → OfferFault
+cell_fault f = fault.Cell f.line f.col (why.Decimal f.why)
 
 -- the number in a cell, in units of so many places
-abbrev pub number_in : ℕ → Record → ℕ → ℕ → Result ℤ OfferFault
-number_in line r col places = at_cell line col (units_of places (cell_of r col))
+abbrev pub number : ℕ → Record → ℕ → ℕ → Result ℤ OfferFault
+number line r col places = or_as cell_fault (number_in line r col places)
 
 abbrev pub side_in : ℕ → List ℕ → Result Side OfferFault
 side_in line text = if bytes_eq text (codes "sell") then Ok Sell else if bytes_eq text (codes "buy") then Ok Buy else Err (fault.Side line)
@@ -37,9 +35,9 @@ side_in line text = if bytes_eq text (codes "sell") then Ok Sell else if bytes_e
 -- a record's numbers from left to right, then its side
 unfoldable pub offer_in : ℕ → Record → Result Offer OfferFault
 offer_in line r =
-    and_then (number_in line r 0 0) (λ unit.
-    and_then (number_in line r 2 9) (λ quantity.
-    and_then (number_in line r 3 6) (λ price.
+    and_then (number line r 0 0) (λ unit.
+    and_then (number line r 2 9) (λ quantity.
+    and_then (number line r 3 6) (λ price.
     and_then (side_in line (cell_of r 1)) (λ side.
     Ok (record { unit = unit; side = side; quantity = quantity; price = price })))))
 
@@ -112,10 +110,6 @@ fault_of (frame.Width line) = fault.Width line
 fault_of (frame.TooMany count) = fault.TooMany count
 fault_of frame.Memory = fault.Memory
 
-abbrev pub framed : {A : Type 0} → Result A FrameFault → Result A OfferFault
-framed (Ok x) = Ok x
-framed (Err f) = Err (fault_of f)
-
 -- the blocks that the bytes stand for, in the order of their records
 unfoldable pub blocks_of_table : UnitList → List ℕ → Result (List Block) OfferFault
-blocks_of_table units bytes = and_then (framed (frame_of header 4000 (table_of bytes))) (gather (block_in units) [] 2)
+blocks_of_table units bytes = and_then (or_as fault_of (frame_of header (Some 4000) (table_of bytes))) (gather (block_in units) [] 2)

@@ -4,13 +4,12 @@ ghost use Rattle.std.specs.Prelude.{◌≡◌, ◌≢◌, ℕ, ◌+◌, ◌*◌,
 ghost use Rattle.std.specs.List.{position};
 ghost use Rattle.market_model.specs.Market.{IsDatum, IsBlock, most_units, most_blocks};
 ghost use Rattle.net_case.specs.Gathering.{gather, listed};
-ghost use Rattle.offer_book.specs.OfferTable.{number_in, side_in, offer_in, is_on_stair, stair_in, ends_of, follows, room_of, block_after, block_where, row_in, block_in, fault_of, blocks_of_table};
+ghost use Rattle.offer_book.specs.OfferTable.{cell_fault, side_in, offer_in, is_on_stair, stair_in, ends_of, follows, room_of, block_after, block_where, row_in, block_in, fault_of, blocks_of_table};
 ghost use Rattle.offer_book.specs.Offers.{AreBlocks, MayFollow, OfferIsRead, StairIsBounded};
 
-use csv_table::{FrameFault, Table, read_table};
+use csv_table::{CellFault, FrameFault, Table, read_table};
 use market_model::{Block, List, MW_PLACES, Memory, PRICE_PLACES, Side, Unit, UnitList};
 use net_case::{Why, push_some};
-use scaled_decimal::read;
 use std::alloc::Global;
 use thiserror::Error;
 
@@ -55,6 +54,18 @@ impl From<FrameFault> for OfferFault {
     }
 }
 
+impl From<CellFault> for OfferFault {
+    ghost from_gives = { λ cell fault. fault ≡ cell_fault cell };
+
+    fn from(fault: CellFault) -> OfferFault {
+        OfferFault::Cell {
+            line: fault.line,
+            col: fault.col,
+            why: Why::Decimal(fault.why),
+        }
+    }
+}
+
 impl From<Memory> for OfferFault {
     ghost use Rattle.offer_book.specs.declared.offer_table.OfferFault.TheVariants as offer_fault;
 
@@ -73,24 +84,6 @@ struct Offer {
     side: Side,
     quantity: i64,
     price: i64,
-}
-
-/// The number in a cell, in units of so many places.
-fn cell(table: &Table, row: usize, col: usize, places: u8) -> Result<i64, OfferFault>
-    requires row { (row < length table.now) × (row + 2 < 2 ^ 64) }
-    requires col { col < 8 }
-    requires places { places ≤ 18 }
-    ensures datum { IfOk result IsDatum }
-    ensures is { result ≡ number_in (row + 2) (get_or table.now row []) col places }
-{
-    match read(table.cell(row, col), places) {
-        Ok(number) => Ok(number),
-        Err(fault) => Err(OfferFault::Cell {
-            line: row + 2,
-            col: col + 1,
-            why: Why::Decimal(fault),
-        }),
-    }
 }
 
 /// The side that a cell names.
@@ -113,9 +106,9 @@ fn offer_of(table: &Table, row: usize) -> Result<Offer, OfferFault>
     ensures read { IfOk result OfferIsRead }
     ensures is { result ≡ offer_in (row + 2) (get_or table.now row []) }
 {
-    let unit = cell(table, row, 0, 0)?;
-    let quantity = cell(table, row, 2, MW_PLACES)?;
-    let price = cell(table, row, 3, PRICE_PLACES)?;
+    let unit = table.number(row, 0, 0)?;
+    let quantity = table.number(row, 2, MW_PLACES)?;
+    let price = table.number(row, 3, PRICE_PLACES)?;
     let side = side_of(table.cell(row, 1), row + 2)?;
     Ok(Offer {
         unit,
@@ -258,7 +251,7 @@ pub fn blocks(alloc: Global, units: &UnitList, bytes: &[u8]) -> Result<List<Bloc
         b"mw".as_slice(),
         b"price".as_slice(),
     ];
-    match read_table(alloc, bytes, header.as_slice(), MOST_BLOCKS) {
+    match read_table(alloc, bytes, header.as_slice(), Some(MOST_BLOCKS)) {
         Ok(table) => blocks_of(alloc, units, &table),
         Err(fault) => Err(OfferFault::from(fault)),
     }

@@ -1,14 +1,15 @@
-use Rattle.std.proofs.Common.{◌≡◌, ◌<◌, ℕ, List, Some, map, true}
+use Rattle.std.proofs.Common.{◌≡◌, ◌<◌, ℕ, List, Some, true}
 use Rattle.csv.specs.Reading.{default_config, is_flexible, source_of, strip_bom, Reached, Ready}
-use Rattle.csv.specs.Records.{fields_of}
 use Rattle.csv.specs.declared.parser.State.TheVariants as st
 use Rattle.csv.specs.declared.reader.Trim.TheVariants as trim
-use Rattle.csv_table.proofs.records.Given as goal
+use Rattle.csv_table.specs.Rows.{IsFlat, records_in}
+use Rattle.csv_table.proofs.rows_of.Given as goal
 
 -- the rows so far are the records up to where the reader stands, and the reader is as it was set up: it trims nothing, takes no
 -- record for a header, and lets records of any width by
 abbrev pub invariant-loop-row : goal.invariant-loop-row
 invariant-loop-row l = (l.row-iterator.rdr.trim ≡ trim.None) × Ready l.row-iterator.rdr × (0 < l.row-iterator.left) × (l.row-iterator.rdr.config ≡ default_config)
     × (left : List ℕ) × (source_of (λ rest. Some rest.now) l.row-iterator.rdr ≡ Some left)
-    × Reached default_config st.StartRecord (strip_bom l.fn.bytes) (map fields_of l.rows.items) l.row-iterator.rdr.state left
+    × Reached default_config st.StartRecord (strip_bom l.fn.bytes) (records_in l.rows) l.row-iterator.rdr.state left
     × (is_flexible l.row-iterator.rdr ≡ true)
+    × IsFlat l.rows

@@ -1,0 +1,152 @@
+-- Records of one width as one run of cells.
+use Rattle.std.proofs.Common.{◌≡◌, ◌≢◌, ◌≤◌, ◌<◌, ◌+◌, ◌*◌, ◌∷◌, ◌++◌, ℕ, zero, suc, List, [], Some, None, length, take, drop, get_or, refl, sym, arith, ne_eqb, append-nil, ◌∙◌, ap, ◌^◌, mul-le-mul_right}
+use Rattle.std.proofs.lemmas.Bool.{eq-eqb}
+use Rattle.std.proofs.lemmas.List.{drop-append-le, get_or-drop, get_or-take, length-drop, length-take, take-append-le, take_all}
+use Rattle.csv_table.specs.Table.{Record, cell_of, first_odd}
+use Rattle.csv.specs.Records.{fields_of}
+use Rattle.csv_table.specs.Rows.{IsFlat, IsPushStop, IsRowsStop, cut, first_of, records_in}
+use Rattle.csv_table.specs.declared.Rows.{Rows}
+use Rattle.csv_table.specs.declared.RowsStop.{RowsStop}
+use Rattle.csv_table.specs.declared.RowsStop.TheVariants as stop
+
+-- a run of one record more and those behind it
+more_cells : (width count n : ℕ) → n ≡ suc count * width → width ≤ n
+more_cells width count n is = grind arith
+
+pub length-cut : (width count : ℕ) (cells : List (List ℕ)) → length (cut width count cells) ≡ count
+unfolding cut
+length-cut width zero cells = refl
+length-cut width (suc count) cells = let rest = length-cut width count (drop width cells) in omega arith
+
+-- cells behind the first record are those of the others
+rest_cells : (width count : ℕ) (cells : List (List ℕ)) → length cells ≡ suc count * width → length (drop width cells) ≡ count * width
+rest_cells width count cells is = grind (arith, length-drop width cells)
+
+-- each record has the width
+pub wide : (width count : ℕ) (cells : List (List ℕ)) (k : ℕ) → length cells ≡ count * width → k < count → length (get_or (cut width count cells) k []) ≡ width
+unfolding cut
+wide width zero cells k is lt = absurd (omega arith)
+wide width (suc count) cells zero is lt =
+    let enough = more_cells width count (length cells) is in
+    omega (arith, length-take width cells)
+wide width (suc count) cells (suc k) is lt = wide width count (drop width cells) k (rest_cells width count cells is) (omega arith)
+
+-- the cell of a record stands behind those of the records before it
+pub cell-cut : (width count : ℕ) (cells : List (List ℕ)) (k col : ℕ) → length cells ≡ count * width → k < count → col < width
+    → cell_of cells (k * width + col) ≡ cell_of (get_or (cut width count cells) k []) col
+unfolding cut
+cell-cut width zero cells k col is lt below = absurd (omega arith)
+cell-cut width (suc count) cells zero col is lt below =
+    let place : 0 * width + col ≡ col = omega arith in
+    rw place (sym (get_or-take width cells col [] below))
+cell-cut width (suc count) cells (suc k) col is lt below =
+    let others = cell-cut width count (drop width cells) k col (rest_cells width count cells is) (omega arith) below in
+    let place : suc k * width + col ≡ width + (k * width + col) = grind arith in
+    rw (place, ← get_or-drop width cells (k * width + col) []) others
+
+-- one record more
+pub cut-more : (width count : ℕ) (cells : List (List ℕ)) (r : Record) → length cells ≡ count * width → length r ≡ width
+    → cut width (count + 1) (cells ++ r) ≡ cut width count cells ++ r ∷ []
+unfolding cut
+cut-more width zero [] r is even =
+    let whole : length r ≤ width = omega arith in
+    rw (take_all width r whole) refl
+cut-more width zero (c ∷ cells) r is even = absurd (omega arith)
+cut-more width (suc count) cells r is even =
+    let enough : width ≤ length cells = more_cells width count (length cells) is in
+    let others = cut-more width count (drop width cells) r (rest_cells width count cells is) even in
+    let step : suc count + 1 ≡ suc (count + 1) = omega arith in
+    rw (step, take-append-le width cells r enough, drop-append-le width cells r enough, others) refl
+
+-- records of the width are passed over
+pub first_odd-cut : (width count line : ℕ) (cells : List (List ℕ)) (tail : List Record) → length cells ≡ count * width
+    → first_odd width line (cut width count cells ++ tail) ≡ first_odd width (line + count) tail
+unfolding cut first_odd
+first_odd-cut width zero line cells tail is = let same : line + 0 ≡ line = omega arith in rw same refl
+first_odd-cut width (suc count) line cells tail is =
+    let enough : width ≤ length cells = more_cells width count (length cells) is in
+    let first : length (take width cells) ≡ width = omega (arith, length-take width cells) in
+    let others = first_odd-cut width count (line + 1) (drop width cells) tail (rest_cells width count cells is) in
+    let same : line + 1 + count ≡ line + suc count = omega arith in
+    rw (eq-eqb _ _ first, ← same) others
+
+-- the first record has its own width
+first_odd-first : (width line : ℕ) (r : Record) (rows : List Record) → length r ≡ width → first_odd (length r) line (r ∷ rows) ≡ first_odd width (line + 1) rows
+unfolding first_odd
+first_odd-first width line r rows is =
+    let step : first_odd (length r) line (r ∷ rows) ≡ first_odd (length r) (line + 1) rows = rw (eq-eqb (length r) (length r) refl) refl in
+    step ∙ ap (λ (w : ℕ). first_odd w (line + 1) rows) is
+
+-- a record of another width behind some of one width is the first such one
+pub first_odd-behind : (width count : ℕ) (cells : List (List ℕ)) (r : Record) (tail : List Record) → length cells ≡ count * width → 0 < count → length r ≢ width
+    → first_odd (length (first_of (cut width count cells ++ r ∷ tail))) 1 (cut width count cells ++ r ∷ tail) ≡ Some (count + 1)
+unfolding cut first_odd
+first_odd-behind width zero cells r tail is some odd = absurd (omega arith)
+first_odd-behind width (suc count) cells r tail is some odd =
+    let enough : width ≤ length cells = more_cells width count (length cells) is in
+    let first : length (take width cells) ≡ width = omega (arith, length-take width cells) in
+    let run = first_odd-cut width count 2 (drop width cells) (r ∷ tail) (rest_cells width count cells is) in
+    let line : 2 + count ≡ suc count + 1 = omega arith in
+    first_odd-first width 1 (take width cells) (cut width count (drop width cells) ++ r ∷ tail) first ∙ rw (ne_eqb _ _ odd, line) at run
+
+-- records of one width have no other
+pub first_odd-none : (width count : ℕ) (cells : List (List ℕ)) → length cells ≡ count * width → first_odd (length (first_of (cut width count cells))) 1 (cut width count cells) ≡ None
+unfolding cut first_odd
+first_odd-none width zero cells is = refl
+first_odd-none width (suc count) cells is =
+    let enough : width ≤ length cells = more_cells width count (length cells) is in
+    let first : length (take width cells) ≡ width = omega (arith, length-take width cells) in
+    let run = first_odd-cut width count 2 (drop width cells) [] (rest_cells width count cells is) in
+    first_odd-first width 1 (take width cells) (cut width count (drop width cells)) first ∙ rw (append-nil (cut width count (drop width cells))) at run
+
+length_0 : (cells : List (List ℕ)) → length cells ≡ 0 → cells ≡ []
+length_0 [] is = refl
+length_0 (c ∷ cells) is = absurd (omega arith)
+
+-- ---- the same of the records that are kept
+pub records-count : (rows : Rows) → length (records_in rows) ≡ rows.count
+unfolding records_in
+records-count rows = length-cut rows.width rows.count (fields_of rows.cells)
+
+pub records-wide : (rows : Rows) (k : ℕ) → IsFlat rows → k < rows.count → length (get_or (records_in rows) k []) ≡ rows.width
+unfolding records_in
+records-wide rows k flat lt = wide rows.width rows.count (fields_of rows.cells) k flat.cells lt
+
+pub records-cell : (rows : Rows) (k col : ℕ) → IsFlat rows → k < rows.count → col < rows.width
+    → cell_of (fields_of rows.cells) (k * rows.width + col) ≡ cell_of (get_or (records_in rows) k []) col
+unfolding records_in
+records-cell rows k col flat lt below = cell-cut rows.width rows.count (fields_of rows.cells) k col flat.cells lt below
+
+-- a cell's place among all cells
+pub place_fits : (rows : Rows) (k col : ℕ) → IsFlat rows → k < rows.count → col < rows.width → k * rows.width + col < 2 ^ 64
+place_fits rows k col flat lt below = let rows_before : suc k * rows.width ≤ rows.count * rows.width = mul-le-mul_right rows.width lt in grind (arith, flat.cells, flat.small)
+
+pub records-push : (old new : Rows) (r : Record) → IsFlat old → new.count ≡ old.count + 1 → fields_of new.cells ≡ fields_of old.cells ++ r
+    → length r ≡ new.width → (0 < old.count → new.width ≡ old.width) → records_in new ≡ records_in old ++ r ∷ []
+unfolding records_in cut
+records-push old new r flat counted cells even same = rw (counted, cells) (by old.count refl)
+  where
+    by : (count : ℕ) → old.count ≡ count → cut new.width (old.count + 1) (fields_of old.cells ++ r) ≡ cut old.width old.count (fields_of old.cells) ++ r ∷ []
+    by zero none =
+        let empty : fields_of old.cells ≡ [] = length_0 (fields_of old.cells) (let n = rw none at flat.cells in omega arith) in
+        let whole : length r ≤ new.width = omega arith in
+        rw (none, empty) (rw (take_all new.width r whole) refl)
+    by (suc count) some =
+        let width : new.width ≡ old.width = same (omega arith) in
+        let wide : length r ≡ old.width = omega arith in
+        rw width (cut-more old.width old.count (fields_of old.cells) r flat.cells wide)
+
+pub records-none : (rows : Rows) → IsFlat rows → first_odd (length (first_of (records_in rows))) 1 (records_in rows) ≡ None
+unfolding records_in
+records-none rows flat = first_odd-none rows.width rows.count (fields_of rows.cells) flat.cells
+
+pub records-odd : (rows : Rows) (r : Record) (tail : List Record) → IsFlat rows → 0 < rows.count → length r ≢ rows.width
+    → first_odd (length (first_of (records_in rows ++ r ∷ tail))) 1 (records_in rows ++ r ∷ tail) ≡ Some (rows.count + 1)
+unfolding records_in
+records-odd rows r tail flat some odd = first_odd-behind rows.width rows.count (fields_of rows.cells) r tail flat.cells some odd
+
+-- why a record was not added to those of a text that stand before it
+pub push-stops : (rows : Rows) (r : Record) (tail : List Record) (stop : RowsStop) → IsFlat rows → IsPushStop rows r stop → IsRowsStop (records_in rows ++ r ∷ tail) stop
+push-stops rows r tail (stop.Reader e) flat stops = absurd stops
+push-stops rows r tail (stop.Width line) flat stops = rw stops.2 (records-odd rows r tail flat stops.0 stops.1)
+push-stops rows r tail stop.Memory flat stops = tt
