@@ -1,0 +1,31 @@
+use Rattle.std.proofs.Common.{rules, arith, ◌≡◌, ◌<◌, ◌≤◌, ◌+◌, ◌++◌, ◌∷◌, ◌∙◌, sym, ap, Ok, Err, [], length, get_or, length-append}
+use Rattle.csv_table.specs.Table.{or_as}
+use Rattle.csv_table.proofs.RowsLemmas.{read_rows-end, read_rows-fault, read_rows-step}
+use Rattle.factor_tables.specs.Records.{cell_fault}
+use Rattle.factor_tables.specs.OutageNumbers.{outage_number}
+use Rattle.factor_tables.proofs.outage_numbers.numbers_of.Goals as goal
+
+pub returns-in_err-number-clause-is : goal.returns-in_err-number-clause-is
+returns-in_err-number-clause-is c =
+    let lt : c.loop-row.row < length c.args.table.now = omega arith in
+    let fails = ap (or_as cell_fault) (sym c.number.ensures.is ∙ c.in_err-number.was) in
+    let here = c.loop-row.invariant.is ∙ read_rows-fault outage_number c.loop-row.numbers (c.loop-row.row + 2) c.args.table.now c.loop-row.row (cell_fault c.in_err-number.field-0.0) lt fails in
+    let given : c.from_residual.result ≡ Err (cell_fault c.in_err-number.field-0.0) = search rules in
+    λ _. given ∙ sym here
+
+pub loop-row-preserved : goal.loop-row-preserved
+loop-row-preserved c =
+    let lt : c.loop-row.row < length c.args.table.now = omega arith in
+    let reads = ap (or_as cell_fault) (sym c.number.ensures.is ∙ c.in_ok-number.was) in
+    let here = c.loop-row.invariant.is ∙ read_rows-step outage_number c.loop-row.numbers (c.loop-row.row + 2) c.args.table.now c.loop-row.row c.in_ok-number.number lt reads in
+    let added : c.push.new.self ≡ c.loop-row.numbers ++ c.in_ok-number.number ∷ [] = search rules in
+    let next : c.loop-row.row + 2 + 1 ≡ c.loop-row.row + 1 + 2 = omega arith in
+    record {
+      count = omega (arith, ap length added, length-append c.loop-row.numbers (c.in_ok-number.number ∷ []));
+      is = rw (added, ← next) here;
+    }
+
+pub returns-clause-is : goal.returns-clause-is
+returns-clause-is c =
+    let le : length c.args.table.now ≤ c.loop-row.row = omega arith in
+    λ _. sym (c.loop-row.invariant.is ∙ read_rows-end outage_number c.loop-row.numbers (c.loop-row.row + 2) c.args.table.now c.loop-row.row le)

@@ -1,0 +1,48 @@
+-- Factors by pair, as records give them.
+use Rattle.std.specs.Prelude.{◌≡◌, ◌≢◌, ℕ, ◌≤◌, ◌==◌, ◌&&◌, ℤ, pos, Bool, false, List, All, get_or, is_some, unwrap_or, unsigned_abs}
+use Rattle.std.specs.List.{list_any}
+use Rattle.std.specs.Map.{lookup}
+use Rattle.factor_tables.specs.declared.by_pair.Column.{Column}
+use Rattle.factor_tables.specs.declared.by_pair.Column.TheVariants as column
+use Rattle.factor_tables.specs.declared.by_pair.Pairs.{Pairs}
+
+-- a branch's row, with the number of a bus or the row of an outage
+abbrev pub Pair : Type 0
+Pair = ℕ × ℕ
+
+-- a record: its pair, and the factor
+abbrev pub Entry : Type 0
+Entry = Pair × ℤ
+
+abbrev pub same_pair : Pair → Pair → Bool
+same_pair p q = (p.0 == q.0) && (p.1 == q.1)
+
+-- whether some record has this pair
+abbrev pub has_pair : List Entry → Pair → Bool
+has_pair entries pair = is_some (lookup (same_pair pair) entries)
+
+-- the factor of the record of a pair, 0 where there is none
+abbrev pub factor_at : List Entry → Pair → ℤ
+factor_at entries pair = unwrap_or (lookup (same_pair pair) entries) (pos 0)
+
+-- whether some record is of this branch
+abbrev pub has_branch : List Entry → ℕ → Bool
+has_branch entries row = list_any (λ entry. entry.0.0 == row) entries
+
+-- whether some record is of this outage
+abbrev pub has_outage : List Entry → ℕ → Bool
+has_outage entries row = list_any (λ entry. entry.0.1 == row) entries
+
+-- 1000, in 10^-6
+abbrev pub most_factor : ℕ
+most_factor = 1000000000
+
+-- the row of a pair that a table of this kind is asked for
+abbrev pub marked_row : Column → Pair → ℕ
+marked_row column.Bus pair = pair.0
+marked_row column.Outage pair = pair.1
+
+-- the rows of the records are marked and no others, and no factor is too great
+pub record AreFactors (kind : Column) (pairs : Pairs) : Type 0 where
+  pub marked : (row : ℕ) → get_or pairs.marked.items row false ≡ list_any (λ entry. marked_row kind entry.0 == row) pairs.by_pair.entries
+  pub sizes : All (λ entry. unsigned_abs entry.1 ≤ most_factor) pairs.by_pair.entries

@@ -1,0 +1,7 @@
+pub mod Factors
+pub mod Records
+pub mod Rules
+pub mod Tables
+pub mod Offsets
+pub mod OutageNumbers
+pub mod Covering

@@ -1,0 +1,56 @@
+-- A record of a table: the numbers in its cells.
+use Rattle.std.specs.Prelude.{ℕ, ◌+◌, ◌<◌, ◌≤◌, ◌^◌, ℤ, Bool, List, [], ◌∷◌, nat_lt, unsigned_abs, if◌then◌else◌, Option, Result, Ok, Err}
+use Rattle.csv_table.specs.Table.{Record, and_then, frame_of, number_in, or_as, table_of}
+use Rattle.csv_table.specs.declared.CellFault.{CellFault}
+use Rattle.csv_table.specs.declared.FrameFault.{FrameFault}
+use Rattle.csv_table.specs.declared.FrameFault.TheVariants as frame
+use Rattle.net_case.specs.declared.live_parts.Why.TheVariants as why
+use Rattle.factor_tables.specs.declared.cells.FactorRecord.{FactorRecord}
+use Rattle.factor_tables.specs.declared.cells.OffsetRecord.{OffsetRecord}
+use Rattle.factor_tables.specs.declared.table_fault.TableFault.{TableFault}
+use Rattle.factor_tables.specs.declared.table_fault.TableFault.TheVariants as fault
+use Rattle.factor_tables.specs.Factors.{most_factor}
+
+-- ---- the faults of a table as a whole and of a cell
+abbrev pub frame_fault : FrameFault → TableFault
+frame_fault frame.Header = fault.Header
+frame_fault (frame.Width line) = fault.Width line
+frame_fault (frame.TooMany count) = fault.TooMany count
+frame_fault frame.Memory = fault.Memory
+
+abbrev pub cell_fault : CellFault → TableFault
+cell_fault f = fault.Cell f.line f.col (why.Decimal f.why)
+
+-- the records under a table's header, or the first fault of the table as a whole
+abbrev pub framed : Record → Option ℕ → List ℕ → Result (List Record) TableFault
+framed header most bytes = or_as frame_fault (frame_of header most (table_of bytes))
+
+-- ---- the numbers of a record
+-- the number in a cell, in units of so many places
+abbrev pub number : ℕ → Record → ℕ → ℕ → Result ℤ TableFault
+number line r col places = or_as cell_fault (number_in line r col places)
+
+-- the factor in the third cell, of a size of 1000 at most
+unfoldable pub factor_in : ℕ → Record → Result ℤ TableFault
+factor_in line r = and_then (number line r 2 6) (λ factor. if nat_lt most_factor (unsigned_abs factor) then Err (fault.Cell line 3 why.Bounds) else Ok factor)
+
+-- the numbers of a record of factors, from left to right
+unfoldable pub record_in : ℕ → Record → Result FactorRecord TableFault
+record_in line r =
+    and_then (number line r 0 0) (λ branch.
+    and_then (number line r 1 0) (λ of.
+    and_then (factor_in line r) (λ factor.
+    Ok (record { branch = branch; of = of; factor = factor }))))
+
+-- the numbers of a record of offsets
+unfoldable pub offset_in : ℕ → Record → Result OffsetRecord TableFault
+offset_in line r =
+    and_then (number line r 0 0) (λ branch.
+    and_then (number line r 1 9) (λ mw.
+    Ok (record { branch = branch; mw = mw })))
+
+-- ---- what is known of numbers that were read
+pub record FactorIsRead (r : FactorRecord) : Type 0 where
+  pub branch : unsigned_abs r.branch < 2 ^ 63
+  pub of : unsigned_abs r.of < 2 ^ 63
+  pub factor : unsigned_abs r.factor ≤ most_factor

@@ -1,0 +1,30 @@
+-- What the tables of factors stand for: the list of their records, or the first fault.
+use Rattle.std.specs.Prelude.{ℕ, List, [], ◌∷◌, codes, if◌then◌else◌, None, Result, Ok, Err}
+use Rattle.csv_table.specs.Table.{Record, and_then, read_rows}
+use Rattle.net_case.specs.Networks.{LiveNetwork}
+use Rattle.factor_tables.specs.declared.by_pair.Column.{Column}
+use Rattle.factor_tables.specs.declared.by_pair.Column.TheVariants as column
+use Rattle.factor_tables.specs.declared.table_fault.TableFault.{TableFault}
+use Rattle.factor_tables.specs.declared.table_fault.TableFault.TheVariants as fault
+use Rattle.factor_tables.specs.Factors.{Entry, has_pair}
+use Rattle.factor_tables.specs.Records.{framed, record_in}
+use Rattle.factor_tables.specs.Rules.{checked, pair_of, record_faults}
+
+-- the pair and the factor of a record behind others: its numbers, then what they name, then whether the pair stood before
+unfoldable pub entry_in : LiveNetwork → Column → List Entry → ℕ → Record → Result Entry TableFault
+entry_in network kind done line r =
+    and_then (record_in line r) (λ numbers.
+    and_then (checked (record_faults kind network line numbers) (Ok tt)) (λ _.
+    if has_pair done (pair_of numbers) then Err (fault.Twice line) else Ok (pair_of numbers, numbers.factor)))
+
+abbrev pub shift_header : Record
+shift_header = codes "branch" ∷ codes "bus" ∷ codes "factor" ∷ []
+
+abbrev pub loss_header : Record
+loss_header = codes "branch" ∷ codes "outage" ∷ codes "factor" ∷ []
+
+unfoldable pub shift_of : LiveNetwork → List ℕ → Result (List Entry) TableFault
+shift_of network bytes = and_then (framed shift_header None bytes) (read_rows (entry_in network column.Bus) [] 2)
+
+unfoldable pub loss_of : LiveNetwork → List ℕ → Result (List Entry) TableFault
+loss_of network bytes = and_then (framed loss_header None bytes) (read_rows (entry_in network column.Outage) [] 2)

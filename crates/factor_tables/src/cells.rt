@@ -1,0 +1,77 @@
+//! The numbers in the cells of a record.
+
+ghost use Rattle.std.specs.Prelude.{◌≡◌, ◌+◌, ◌<◌, ◌≤◌, ◌^◌, unsigned_abs, length, get_or, [], IfOk};
+ghost use Rattle.factor_tables.specs.Factors.{most_factor};
+ghost use Rattle.factor_tables.specs.Records.{FactorIsRead, factor_in, offset_in, record_in};
+
+use crate::TableFault;
+use csv_table::Table;
+use net_case::Why;
+
+/// The greatest size of a factor, in 10^-6.
+const MOST_FACTOR: u64 = 1_000_000_000;
+
+const FACTOR_PLACES: u8 = 6;
+
+const MW_PLACES: u8 = 9;
+
+/// A record of a table of factors as it is written.
+#[derive(Clone, Copy, Debug)]
+pub(crate) struct FactorRecord {
+    pub(crate) branch: i64,
+    /// The number of a bus, or of an outage's branch.
+    pub(crate) of: i64,
+    /// In 10^-6.
+    pub(crate) factor: i64,
+}
+
+/// A record of the table of offsets as it is written.
+#[derive(Clone, Copy, Debug)]
+pub(crate) struct OffsetRecord {
+    pub(crate) branch: i64,
+    /// In 10^-9 MW.
+    pub(crate) mw: i64,
+}
+
+/// The factor in the third cell of a record.
+#[tactic(auto, unfolding(crate::specs::Records::factor_in))]
+fn factor_of(table: &Table, row: usize) -> Result<i64, TableFault>
+    requires { (row < length table.now) × (row + 2 < 2 ^ 64) }
+    ensures size { IfOk result (λ factor. unsigned_abs factor ≤ most_factor) }
+    ensures is { result ≡ factor_in (row + 2) (get_or table.now row []) }
+{
+    let factor = table.number(row, 2, FACTOR_PLACES)?;
+    if factor.unsigned_abs() > MOST_FACTOR {
+        return Err(TableFault::Cell {
+            line: row + 2,
+            col: 3,
+            why: Why::Bounds,
+        });
+    }
+    Ok(factor)
+}
+
+/// The numbers of a record, from left to right.
+#[tactic(auto, unfolding(crate::specs::Records::record_in))]
+pub(crate) fn record_of(table: &Table, row: usize) -> Result<FactorRecord, TableFault>
+    requires { (row < length table.now) × (row + 2 < 2 ^ 64) }
+    ensures read { IfOk result FactorIsRead }
+    ensures is { result ≡ record_in (row + 2) (get_or table.now row []) }
+{
+    let branch = table.number(row, 0, 0)?;
+    let of = table.number(row, 1, 0)?;
+    let factor = factor_of(table, row)?;
+    Ok(FactorRecord { branch, of, factor })
+}
+
+/// The numbers of a record of the table of offsets.
+#[tactic(auto, unfolding(crate::specs::Records::offset_in))]
+pub(crate) fn offset_of(table: &Table, row: usize) -> Result<OffsetRecord, TableFault>
+    requires { (row < length table.now) × (row + 2 < 2 ^ 64) }
+    ensures small { IfOk result (λ r. (unsigned_abs r.branch < 2 ^ 63) × (unsigned_abs r.mw < 2 ^ 63)) }
+    ensures is { result ≡ offset_in (row + 2) (get_or table.now row []) }
+{
+    let branch = table.number(row, 0, 0)?;
+    let mw = table.number(row, 1, MW_PLACES)?;
+    Ok(OffsetRecord { branch, mw })
+}

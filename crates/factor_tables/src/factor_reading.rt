@@ -1,0 +1,141 @@
+//! Reading the tables of factors.
+
+ghost use Rattle.std.specs.Prelude.{◌≡◌, ◌≢◌, ℕ, ◌+◌, ◌<◌, ◌≤◌, ◌^◌, ◌&&◌, not, unsigned_abs, length, get_or, [], Ok, Err, IfOk, IfErr, false};
+ghost use Rattle.csv_table.specs.Table.{read_rows};
+ghost use Rattle.factor_tables.specs.Factors.{AreFactors, has_pair, marked_row, most_factor};
+ghost use Rattle.factor_tables.specs.Rules.{IsPairOf, checked, loss_faults, record_faults, shift_faults};
+ghost use Rattle.factor_tables.specs.Tables.{entry_in, loss_of, shift_of};
+
+use crate::TableFault;
+use crate::by_pair::{Column, Loss, Pairs, Shift, marked_row};
+use crate::cells::{FactorRecord, record_of};
+use crate::names::{is_idle, is_live_branch, is_live_bus, is_row};
+use csv_table::{Table, read_table};
+use net_case::Network;
+use std::alloc::Global;
+
+/// Refuses a record that names a row that is not there, or one out of service with a factor that is not 0.
+fn check_shift(network: &Network, record: FactorRecord, line: usize) -> Result<(), TableFault>
+    ensures pair { IfOk result (λ _. IsPairOf Column.Bus network.now.branch_rows record) }
+    ensures is { result ≡ checked (shift_faults network.now line record) (Ok tt) }
+{
+    if !is_row(network, record.branch) {
+        return Err(TableFault::NoBranch { line });
+    }
+    if !network.has_bus(record.of) {
+        return Err(TableFault::NoBus { line });
+    }
+    if is_idle(record.factor, is_live_branch(network, record.branch)) {
+        return Err(TableFault::DeadBranch { line });
+    }
+    if is_idle(record.factor, is_live_bus(network, record.of)) {
+        return Err(TableFault::DeadBus { line });
+    }
+    Ok(())
+}
+
+/// The same of an outage table.
+fn check_loss(network: &Network, record: FactorRecord, line: usize) -> Result<(), TableFault>
+    ensures pair { IfOk result (λ _. IsPairOf Column.Outage network.now.branch_rows record) }
+    ensures is { result ≡ checked (loss_faults network.now line record) (Ok tt) }
+{
+    if !is_row(network, record.branch) {
+        return Err(TableFault::NoBranch { line });
+    }
+    if !is_row(network, record.of) {
+        return Err(TableFault::NoBranch { line });
+    }
+    if is_idle(record.factor, is_live_branch(network, record.branch)) {
+        return Err(TableFault::DeadBranch { line });
+    }
+    if is_idle(record.factor, is_live_branch(network, record.of)) {
+        return Err(TableFault::DeadBranch { line });
+    }
+    Ok(())
+}
+
+fn check_names(
+    network: &Network,
+    column: Column,
+    record: FactorRecord,
+    line: usize,
+) -> Result<(), TableFault>
+    ensures pair { IfOk result (λ _. IsPairOf column network.now.branch_rows record) }
+    ensures is { result ≡ checked (record_faults column network.now line record) (Ok tt) }
+{
+    match column {
+        Column::Bus => check_shift(network, record, line),
+        Column::Outage => check_loss(network, record, line),
+    }
+}
+
+/// The pair and the factor of a row's record, in the light of those before it.
+#[tactic(auto, unfolding(crate::specs::Tables::entry_in))]
+fn entry_of(
+    network: &Network,
+    column: Column,
+    done: &Pairs,
+    table: &Table,
+    row: usize,
+) -> Result<((u32, u32), i64), TableFault>
+    requires { (row < length table.now) × (row + 2 < 2 ^ 64) }
+    ensures new { IfOk result (λ entry. has_pair done.now.by_pair.entries entry.0 ≡ false) }
+    ensures size { IfOk result (λ entry. unsigned_abs entry.1 ≤ most_factor) }
+    ensures row { IfOk result (λ entry. marked_row column entry.0 ≤ network.now.branch_rows) }
+    ensures is { result ≡ entry_in network.now column done.now.by_pair.entries (row + 2) (get_or table.now row []) }
+{
+    let record = record_of(table, row)?;
+    check_names(network, column, record, row + 2)?;
+    let pair = (record.branch as u32, record.of as u32);
+    if done.has(pair) {
+        return Err(TableFault::Twice { line: row + 2 });
+    }
+    Ok((pair, record.factor))
+}
+
+/// The factors of a table's records.
+fn pairs_of(
+    alloc: Global,
+    network: &Network,
+    column: Column,
+    table: &Table,
+) -> Result<Pairs, TableFault>
+    ensures kept { IfOk result (AreFactors column) }
+    ensures ok { IfOk result (λ pairs. read_rows (entry_in network.now column) [] 2 table.now ≡ Ok pairs.by_pair.entries) }
+    ensures err { IfErr result (λ fault. fault ≢ TableFault.Memory → read_rows (entry_in network.now column) [] 2 table.now ≡ Err fault) }
+{
+    let mut pairs = Pairs::new(alloc, network.branch_rows())?;
+    for row in 0..table.len() {
+        let (pair, factor) = entry_of(network, column, &pairs, table, row)?;
+        pairs.add(pair, factor, marked_row(column, pair))?;
+    }
+    Ok(pairs)
+}
+
+/// Reads a shift table. Its factors are in 10^-6.
+pub fn shift(alloc: Global, network: &Network, bytes: &[u8]) -> Result<Shift, TableFault>
+    ensures { result ≢ Err TableFault.Memory → result ≡ shift_of network.now bytes.now }
+{
+    let header = [
+        b"branch".as_slice(),
+        b"bus".as_slice(),
+        b"factor".as_slice(),
+    ];
+    let table = read_table(alloc, bytes, header.as_slice(), None)?;
+    let pairs = pairs_of(alloc, network, Column::Bus, &table)?;
+    Ok(Shift { pairs })
+}
+
+/// Reads an outage table. Its factors are in 10^-6.
+pub fn outage(alloc: Global, network: &Network, bytes: &[u8]) -> Result<Loss, TableFault>
+    ensures { result ≢ Err TableFault.Memory → result ≡ loss_of network.now bytes.now }
+{
+    let header = [
+        b"branch".as_slice(),
+        b"outage".as_slice(),
+        b"factor".as_slice(),
+    ];
+    let table = read_table(alloc, bytes, header.as_slice(), None)?;
+    let pairs = pairs_of(alloc, network, Column::Outage, &table)?;
+    Ok(Loss { pairs })
+}

@@ -1,0 +1,24 @@
+//! The tables of factors and of offsets, and the numbers of the outages that are asked for, over a live network.
+//!
+//! A table is read as `csv_table` reads one. Of several faults the first is told: those of the table as a whole, then the records in
+//! order, of a record its cells from left to right and then its own rules, and at last what the table lacks.
+#![tactic(auto)]
+
+mod by_pair;
+mod cells;
+mod covering;
+mod factor_reading;
+mod names;
+mod offset_list;
+mod offset_reading;
+mod outage_numbers;
+mod table_fault;
+
+pub use by_pair::{Loss, Shift};
+pub use covering::{Uncovered, cover};
+pub use factor_reading::{outage, shift};
+pub use offset_list::Offsets;
+pub use offset_reading::offsets;
+pub use outage_numbers::{OutageRows, outage_rows};
+pub use table_fault::TableFault;
+

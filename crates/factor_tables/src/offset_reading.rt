@@ -1,0 +1,104 @@
+//! Reading the table of offsets.
+
+ghost use Rattle.std.specs.Prelude.{◌≡◌, ◌≢◌, ℕ, ◌+◌, ◌<◌, ◌^◌, length, get_or, [], List, Ok, Err, IfOk, IfErr, is_some, option_map, false};
+ghost use Rattle.std.specs.List.{find};
+ghost use Rattle.csv_table.specs.Table.{read_rows};
+ghost use Rattle.market_model.specs.Market.{IsDatum};
+ghost use Rattle.factor_tables.specs.Offsets.{AreOffsets, OffsetEntry, has_offset, offset_entry, offset_faults, offsets_of, wants_offset, with_all_offsets};
+ghost use Rattle.factor_tables.specs.Rules.{checked};
+
+use crate::TableFault;
+use crate::cells::{OffsetRecord, offset_of};
+use crate::names::{is_idle, is_live_branch, is_row};
+use crate::offset_list::Offsets;
+use csv_table::{Table, read_table};
+use indexmap::IndexMap;
+use net_case::{NetBranch, Network};
+use std::alloc::Global;
+
+/// Refuses a record that names a row that is not there, or one out of service with an offset that is not 0.
+fn check_offset(network: &Network, record: OffsetRecord, line: usize) -> Result<(), TableFault>
+    ensures is { result ≡ checked (offset_faults network.now line record) (Ok tt) }
+{
+    if !is_row(network, record.branch) {
+        return Err(TableFault::NoBranch { line });
+    }
+    if is_idle(record.mw, is_live_branch(network, record.branch)) {
+        return Err(TableFault::DeadBranch { line });
+    }
+    Ok(())
+}
+
+/// The row and the offset of a row's record, in the light of those before it.
+#[tactic(auto, unfolding(crate::specs::Offsets::offset_entry))]
+fn entry_of(
+    network: &Network,
+    done: &IndexMap<u32, i64>,
+    table: &Table,
+    row: usize,
+) -> Result<(u32, i64), TableFault>
+    requires { (row < length table.now) × (row + 2 < 2 ^ 64) }
+    ensures new { IfOk result (λ entry. has_offset done.now.entries entry.0 ≡ false) }
+    ensures datum { IfOk result (λ entry. IsDatum entry.1) }
+    ensures is { result ≡ offset_entry network.now done.now.entries (row + 2) (get_or table.now row []) }
+{
+    let record = offset_of(table, row)?;
+    check_offset(network, record, row + 2)?;
+    let branch = record.branch as u32;
+    if done.contains_key(&branch) {
+        return Err(TableFault::Twice { line: row + 2 });
+    }
+    Ok((branch, record.mw))
+}
+
+/// The offsets of a table's records.
+fn entries_of(
+    alloc: Global,
+    network: &Network,
+    table: &Table,
+) -> Result<IndexMap<u32, i64>, TableFault>
+    ensures kept { IfOk result (λ by_row. AreOffsets by_row.entries) }
+    ensures ok { IfOk result (λ by_row. read_rows (offset_entry network.now) [] 2 table.now ≡ Ok by_row.entries) }
+    ensures err { IfErr result (λ fault. fault ≢ TableFault.Memory → read_rows (offset_entry network.now) [] 2 table.now ≡ Err fault) }
+{
+    let mut by_row = IndexMap::new(alloc);
+    for row in 0..table.len() {
+        let (branch, mw) = entry_of(network, &by_row, table, row)?;
+        if by_row.insert(branch, mw).is_err() {
+            return Err(TableFault::Memory);
+        }
+    }
+    Ok(by_row)
+}
+
+/// Whether a branch shifts phases and has no record.
+fn wants_offset(by_row: &IndexMap<u32, i64>, branch: &NetBranch) -> bool
+    ensures { result ≡ wants_offset by_row.now.entries branch.now }
+{
+    branch.shifted && !by_row.contains_key(&branch.row)
+}
+
+/// The row of the first of these branches that shifts phases and has no record.
+fn missing(by_row: &IndexMap<u32, i64>, branches: &[NetBranch]) -> Option<u32>
+    ensures { result ≡ option_map (λ branch. branch.row) (find (wants_offset by_row.now.entries) branches.now) }
+{
+    for branch in branches {
+        if wants_offset(by_row, branch) {
+            return Some(branch.row);
+        }
+    }
+    None
+}
+
+/// Reads the table of offsets, in 10^-9 MW.
+pub fn offsets(alloc: Global, network: &Network, bytes: &[u8]) -> Result<Offsets, TableFault>
+    ensures { result ≢ Err TableFault.Memory → result ≡ offsets_of network.now bytes.now }
+{
+    let header = [b"branch".as_slice(), b"mw".as_slice()];
+    let table = read_table(alloc, bytes, header.as_slice(), None)?;
+    let by_row = entries_of(alloc, network, &table)?;
+    match missing(&by_row, network.branches().slice()) {
+        Some(branch) => Err(TableFault::NoOffset { branch }),
+        None => Ok(Offsets { by_row }),
+    }
+}

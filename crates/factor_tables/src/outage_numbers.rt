@@ -1,0 +1,39 @@
+//! The numbers of the outages that are asked for.
+
+ghost use Rattle.std.specs.Prelude.{◌≡◌, ◌≢◌, ℕ, ◌+◌, ◌<◌, ◌≤◌, ◌^◌, length, get_or, [], Ok, Err, IfOk, All, unsigned_abs};
+ghost use Rattle.csv_table.specs.Table.{read_rows};
+ghost use Rattle.factor_tables.specs.OutageNumbers.{outage_number, outage_rows_of};
+
+use crate::TableFault;
+use csv_table::{Table, read_table};
+use plain_list::List;
+use std::alloc::Global;
+
+/// The most outages of a table.
+const MOST_OUTAGES: usize = 500;
+
+/// Numbers that are to name branches, one for each record.
+pub type OutageRows = List<i64>;
+
+/// The numbers of a table's records.
+fn numbers_of(alloc: Global, table: &Table) -> Result<List<i64>, TableFault>
+    ensures count { IfOk result (λ numbers. length numbers ≤ length table.now) }
+    ensures is { result ≢ Err TableFault.Memory → result ≡ read_rows outage_number [] 2 table.now }
+{
+    let mut numbers = List::new(alloc);
+    for row in 0..table.len() {
+        let number = table.number(row, 0, 0)?;
+        numbers.push(number)?;
+    }
+    Ok(numbers)
+}
+
+/// Reads the table of outages. Whether its numbers name branches is asked elsewhere.
+pub fn outage_rows(alloc: Global, bytes: &[u8]) -> Result<OutageRows, TableFault>
+    ensures few { IfOk result (λ rows. length rows ≤ 500) }
+    ensures is { result ≢ Err TableFault.Memory → result ≡ outage_rows_of bytes.now }
+{
+    let header = [b"branch".as_slice()];
+    let table = read_table(alloc, bytes, header.as_slice(), Some(MOST_OUTAGES))?;
+    numbers_of(alloc, &table)
+}

@@ -1,0 +1,74 @@
+//! Why a table is refused.
+
+ghost use Rattle.std.specs.Prelude.{◌≡◌};
+ghost use Rattle.factor_tables.specs.Records.{cell_fault, frame_fault};
+
+use csv_table::{CellFault, FrameFault};
+use net_case::Why;
+use plain_list::Memory;
+use thiserror::Error;
+
+/// Why a table is refused. A line is a record's place, where the header's is 1.
+#[derive(Clone, Copy, Debug, PartialEq, Eq, Error)]
+pub enum TableFault {
+    #[error("another header")]
+    Header,
+    #[error("another width in line {line}")]
+    Width { line: usize },
+    #[error("{count} records")]
+    TooMany { count: usize },
+    #[error("line {line}, column {col}: {why:?}")]
+    Cell { line: usize, col: usize, why: Why },
+    #[error("no branch row of a number in line {line}")]
+    NoBranch { line: usize },
+    #[error("no bus row of the number in line {line}")]
+    NoBus { line: usize },
+    /// A branch out of service has a factor or an offset that is not 0.
+    #[error("a branch of line {line} is out of service")]
+    DeadBranch { line: usize },
+    /// A bus out of service has a factor that is not 0.
+    #[error("the bus of line {line} is out of service")]
+    DeadBus { line: usize },
+    #[error("line {line} repeats an earlier one")]
+    Twice { line: usize },
+    /// A live branch whose phase shift angle is not 0 has no record.
+    #[error("branch {branch} shifts phases and has no offset")]
+    NoOffset { branch: u32 },
+    #[error("memory was refused")]
+    Memory,
+}
+
+impl From<FrameFault> for TableFault {
+    ghost from_gives = { λ frame fault. fault ≡ frame_fault frame };
+
+    fn from(fault: FrameFault) -> TableFault {
+        match fault {
+            FrameFault::Header => TableFault::Header,
+            FrameFault::Width { line } => TableFault::Width { line },
+            FrameFault::TooMany { count } => TableFault::TooMany { count },
+            FrameFault::Memory => TableFault::Memory,
+        }
+    }
+}
+
+impl From<CellFault> for TableFault {
+    ghost from_gives = { λ cell fault. fault ≡ cell_fault cell };
+
+    fn from(fault: CellFault) -> TableFault {
+        TableFault::Cell {
+            line: fault.line,
+            col: fault.col,
+            why: Why::Decimal(fault.why),
+        }
+    }
+}
+
+impl From<Memory> for TableFault {
+    ghost use Rattle.factor_tables.specs.declared.table_fault.TableFault.TheVariants as table_fault;
+
+    ghost from_gives = { λ _ fault. fault ≡ table_fault.Memory };
+
+    fn from(_refused: Memory) -> TableFault {
+        TableFault::Memory
+    }
+}
