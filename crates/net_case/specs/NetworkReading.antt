@@ -1,7 +1,7 @@
 -- The network that a case stands for, or the first fault of its rows.
-use Rattle.std.specs.Prelude.{ℕ, ◌+◌, ◌-◌, ◌==◌, ◌&&◌, ℤ, pos, ◌-ℤ◌, Bool, true, false, List, [], ◌∷◌, length, map, nat_lt, Option, Some, None, is_some, Result, Ok, Err, slice_index_or, unsigned_abs, if◌then◌else◌}
+use Rattle.std.specs.Prelude.{ℕ, ◌+◌, ◌-◌, ◌==◌, ◌&&◌, ℤ, pos, ◌-ℤ◌, Bool, true, false, List, [], ◌∷◌, length, map, filter, position, nat_lt, Option, Some, None, is_some, Result, Ok, Err, slice_index_or, unsigned_abs, if◌then◌else◌}
 use Rattle.std.specs.Int.Signed.{lt_z, le_z}
-use Rattle.std.specs.List.{filter_map, list_any}
+use Rattle.std.specs.List.{filter_map}
 use Rattle.std.specs.Map.{lookup}
 use Rattle.market_model.specs.declared.participants.Bus.{Bus}
 use Rattle.market_model.specs.declared.participants.Unit as unit
@@ -19,8 +19,8 @@ use Rattle.net_case.specs.declared.live_parts.Why.TheVariants as why
 use Rattle.net_case.specs.declared.live_parts.NetFault.{NetFault}
 use Rattle.net_case.specs.declared.live_parts.NetFault.TheVariants as fault
 use Rattle.net_case.specs.declared.live_parts.NetUnit.{NetUnit}
-use Rattle.net_case.specs.declared.live_parts.Network.{Network}
-use Rattle.net_case.specs.declared.network_reading.BusRow.{BusRow}
+use Rattle.net_case.specs.Networks.{LiveNetwork}
+use Rattle.net_case.specs.declared.bus_rows.BusRow.{BusRow}
 
 -- what is read in a cell, or the cell's fault
 abbrev pub in_cell : {A : Type 0} → Field → ℕ → ℕ → Result A DecimalFault → Result A NetFault
@@ -86,12 +86,27 @@ bus_row_after places row r =
 abbrev pub bus_row : List BusRow → ℕ → Record → Result BusRow NetFault
 bus_row earlier row r = bus_row_after (places_from 0 earlier) row r
 
--- all bus rows, of which one is the reference
-abbrev pub referenced : List BusRow → Result (List BusRow) NetFault
-referenced rows = if list_any (λ b. b.is_reference) rows then Ok rows else Err fault.NoReference
+-- the place of the first reference among the live buses
+abbrev pub reference_of : List BusRow → Option ℕ
+reference_of rows = position (λ b. b.is_reference) (filter (λ b. is_some b.live) rows)
 
-unfoldable pub bus_rows : List Record → Result (List BusRow) NetFault
-bus_rows rows = and_then (read_rows bus_row [] 1 rows) referenced
+-- the same, with one row more behind so many live buses
+abbrev pub reference_after : Option ℕ → ℕ → Bool → Option ℕ
+reference_after (Some place) count is_reference = Some place
+reference_after None count is_reference = if is_reference then Some count else None
+
+-- bus rows with the place of the reference
+pub record ReadBuses : Type 0 where
+  pub rows : List BusRow
+  pub reference : ℕ
+
+-- all bus rows, of which one is the reference
+abbrev pub referenced : List BusRow → Option ℕ → Result ReadBuses NetFault
+referenced rows (Some place) = Ok (record { rows = rows; reference = place })
+referenced rows None = Err fault.NoReference
+
+unfoldable pub bus_rows : List Record → Result ReadBuses NetFault
+bus_rows matrix = and_then (read_rows bus_row [] 1 matrix) (λ rows. referenced rows (reference_of rows))
 
 abbrev pub live_buses : List BusRow → List Bus
 live_buses rows = filter_map (λ b. b.live) rows
@@ -101,18 +116,19 @@ live_buses rows = filter_map (λ b. b.live) rows
 unfoldable pub standing_at : Places → ℤ → Option (Option ℕ)
 standing_at places n = if le_z (pos 1) n && le_z n (pos 2147483647) then lookup (λ other. unsigned_abs n == other) places else None
 
-abbrev pub stands : ℕ → Option (Option ℕ) → Result (Option ℕ) NetFault
-stands row None = Err (fault.NoBus field.Gen row)
-stands row (Some place) = Ok place
+-- the place of a bus that a row names, where some bus row has its number
+abbrev pub stands : Field → ℕ → Option (Option ℕ) → Result (Option ℕ) NetFault
+stands f row None = Err (fault.NoBus f row)
+stands f row (Some place) = Ok place
 
 abbrev pub is_above : Sign → Bool
 is_above sign.Below = false
 is_above sign.Zero = false
 is_above sign.Above = true
 
--- whether a row's status is above 0
-abbrev pub service_in : ℕ → Record → Result Bool NetFault
-service_in row r = and_then (in_cell field.Gen row 8 (sign_in (cell_in r 8))) (λ s. Ok (is_above s))
+-- whether a status is above 0
+abbrev pub service_in : Field → ℕ → Record → ℕ → Result Bool NetFault
+service_in f row r col = and_then (in_cell f row col (sign_in (cell_in r col))) (λ s. Ok (is_above s))
 
 -- a live unit with its bounds
 unfoldable pub bounds_in : ℕ → Record → ℕ → Result NetUnit NetFault
@@ -134,21 +150,29 @@ unit_where row r (Some bus) true = some_unit (bounds_in row r bus)
 unfoldable pub unit_row : Places → ℕ → Record → Result (Option NetUnit) NetFault
 unit_row places row r =
     and_then (number_in field.Gen row r 1 0) (λ n.
-    and_then (stands row (standing_at places n)) (λ place.
-    and_then (service_in row r) (unit_where row r place)))
+    and_then (stands field.Gen row (standing_at places n)) (λ place.
+    and_then (service_in field.Gen row r 8) (unit_where row r place)))
 
 -- ---- the case
--- the number of a matrix's rows, which is at most 1,000
-unfoldable pub few_rows : Field → List Record → Result ℕ NetFault
-few_rows f rows = if nat_lt 1000 (length rows) then Err (fault.TooMany f (length rows)) else Ok (length rows)
+-- the number of a matrix's rows, which is at most so many
+unfoldable pub few_rows : ℕ → Field → List Record → Result ℕ NetFault
+few_rows most f rows = if nat_lt most (length rows) then Err (fault.TooMany f (length rows)) else Ok (length rows)
 
-unfoldable pub network_of : CaseMatrices → Result Network NetFault
+unfoldable pub network_of : CaseMatrices → Result LiveNetwork NetFault
 network_of case =
-    and_then (few_rows field.Bus case.bus) (λ _.
-    and_then (few_rows field.Gen case.generators) (λ gen_rows.
+    and_then (few_rows 1000 field.Bus case.bus) (λ _.
+    and_then (few_rows 1000 field.Gen case.generators) (λ gen_rows.
     and_then (bus_rows case.bus) (λ buses.
-    and_then (gather (λ _. unit_row (places_from 0 buses)) [] 1 case.generators) (λ units.
-    Ok (record { buses = live_buses buses; units = units; branches = []; gen_rows = gen_rows })))))
+    and_then (gather (λ _. unit_row (places_from 0 buses.rows)) [] 1 case.generators) (λ units.
+    Ok (record {
+      buses = live_buses buses.rows;
+      units = units;
+      branches = [];
+      reference = buses.reference;
+      gen_rows = gen_rows;
+      branch_rows = 0;
+      bus_rows = places_from 0 buses.rows;
+    })))))
 
 -- ---- units
 -- the number from low to high that is nearest 0
@@ -165,5 +189,5 @@ unit_within u = record {
   down = nearest_0 u.low u.high -ℤ u.low;
 }
 
-abbrev pub unit_list_of : Network → UnitList
+abbrev pub unit_list_of : LiveNetwork → UnitList
 unit_list_of network = record { rows = network.gen_rows; units = map unit_within network.units }

@@ -1,13 +1,30 @@
-//! The live buses and units of a case.
+//! The live buses, units and branches of a case.
 
-ghost use Rattle.std.specs.Prelude.{◌≡◌, ℕ, ◌≤ℤ◌, ◌++◌, length, IfOk};
+ghost use Rattle.std.specs.Prelude.{◌≡◌, ◌≢◌, ℕ, ◌<◌, ◌≤◌, pos, ◌≤ℤ◌, ◌==◌, ◌++◌, length, map, AllPairs, IfOk, MatchOption};
+ghost use Rattle.std.specs.Map.{lookup};
 ghost use Rattle.net_case.specs.Gathering.{listed};
+ghost use Rattle.net_case.specs.Networks.{place_of, most_branches};
+ghost use Rattle.net_case.specs.NetworkReading.{standing_at};
 
 use case_text::Field;
-use market_model::{Bus, List, Memory, Unit, UnitList};
+use indexmap::IndexMap;
+use market_model::{List, Memory, Unit, UnitList};
 use scaled_decimal::DecimalFault;
 use std::alloc::Global;
+use std::marker::Model;
 use thiserror::Error;
+
+/// A live bus, with its demands as the market keeps them.
+pub use market_model::Bus as NetBus;
+
+/// The bus rows by number: the place among the live buses, where the bus is not isolated.
+pub type Places = IndexMap<u32, Option<usize>>;
+
+/// The greatest bus number.
+const MOST_NUMBER: i64 = 2147483647;
+
+/// The most rows of the branch matrix.
+const MOST_BRANCHES: i64 = 2000;
 
 /// Why a cell has no number that is wanted there.
 #[derive(Clone, Copy, Debug, PartialEq, Eq)]
@@ -96,18 +113,98 @@ pub struct NetBranch {
     pub shifted: bool,
 }
 
+/// What is known of a number among bus rows.
+pub fn known(places: &Places, number: u32) -> Option<Option<usize>>
+    ensures { result ≡ lookup (λ other. number == other) places.now.entries }
+{
+    places.get(&number).copied()
+}
+
+/// The same of any number.
+#[tactic(auto, unfolding(crate::specs::NetworkReading::standing_at))]
+pub fn known_at(places: &Places, number: i64) -> Option<Option<usize>>
+    ensures { result ≡ standing_at places.now.entries number }
+{
+    if 1 <= number && number <= MOST_NUMBER {
+        known(places, number as u32)
+    } else {
+        None
+    }
+}
+
+/// The number of a branch row, which is from 1 to the most that there are.
+fn row_number(row: i64) -> Option<u32>
+    ensures { MatchOption result ((m : ℕ) → 1 ≤ m → m ≤ most_branches → row ≢ pos m) (λ m. row ≡ pos m) }
+{
+    if 1 <= row && row <= MOST_BRANCHES {
+        Some(row as u32)
+    } else {
+        None
+    }
+}
+
+/// The place of the branch of a row, where rows rise.
+fn place_of_row(branches: &[NetBranch], row: u32) -> Option<usize>
+    requires { AllPairs (λ a b. a < b) (map (λ branch. branch.row) branches.now) }
+    ensures { result ≡ place_of (map (λ branch. branch.row) branches.now) (pos row) }
+{
+    let mut low = 0;
+    let mut high = branches.len();
+    while low < high {
+        let middle = low + (high - low) / 2;
+        let here = branches[middle].row;
+        if here == row {
+            return Some(middle);
+        }
+        if here < row {
+            low = middle + 1;
+        } else {
+            high = middle;
+        }
+    }
+    None
+}
+
 /// The live buses, units and branches of a case, in row order.
-#[derive(Drop, Debug)]
+#[derive(Drop)]
 pub struct Network {
-    pub buses: List<Bus>,
-    pub units: List<NetUnit>,
-    pub branches: List<NetBranch>,
-    /// All gen rows, live or not.
-    pub gen_rows: u32,
+    pub(crate) buses: List<NetBus>,
+    pub(crate) units: List<NetUnit>,
+    pub(crate) branches: List<NetBranch>,
+    pub(crate) reference: usize,
+    pub(crate) gen_rows: usize,
+    pub(crate) branch_rows: usize,
+    pub(crate) places: Places,
+}
+
+impl Model for Network {
+    ghost use Rattle.net_case.specs.Networks.{LiveNetwork, IsNetwork};
+
+    ghost Value = { LiveNetwork };
+
+    ghost view = { λ n. record {
+      buses = n.buses;
+      units = n.units;
+      branches = n.branches;
+      reference = n.reference;
+      gen_rows = n.gen_rows;
+      branch_rows = n.branch_rows;
+      bus_rows = n.places.entries;
+    } };
+
+    ghost invariant = { λ n. IsNetwork (record {
+      buses = n.buses;
+      units = n.units;
+      branches = n.branches;
+      reference = n.reference;
+      gen_rows = n.gen_rows;
+      branch_rows = n.branch_rows;
+      bus_rows = n.places.entries;
+    }) };
 }
 
 ghost use Rattle.market_model.specs.Market.{IsDatum, IsUnit};
-ghost use Rattle.net_case.specs.Networks.{IsNetUnit, IsNetwork, AreUnits};
+ghost use Rattle.net_case.specs.Networks.{IsNetUnit, IsNetwork, AreUnits, has_bus, bus_place, branch_place};
 ghost use Rattle.net_case.specs.NetworkReading.{unit_within, unit_list_of};
 
 /// The unit with its fixed part, the output nearest 0, and its room above and below that.
@@ -135,9 +232,90 @@ fn unit_of(unit: &NetUnit) -> Unit
 }
 
 impl Network {
+    /// The live buses.
+    pub fn buses(&self) -> &List<NetBus>
+        ensures list { result.now ≡ self.now.buses }
+        ensures network { IsNetwork self.now }
+    {
+        &self.buses
+    }
+
+    /// The live units.
+    pub fn units(&self) -> &List<NetUnit>
+        ensures list { result.now ≡ self.now.units }
+        ensures network { IsNetwork self.now }
+    {
+        &self.units
+    }
+
+    /// The live branches; none where branch rows were not read.
+    pub fn branches(&self) -> &List<NetBranch>
+        ensures list { result.now ≡ self.now.branches }
+        ensures network { IsNetwork self.now }
+    {
+        &self.branches
+    }
+
+    /// The place among the live buses of the first bus of type 3.
+    pub fn reference(&self) -> usize
+        ensures place { result ≡ self.now.reference }
+        ensures network { IsNetwork self.now }
+    {
+        self.reference
+    }
+
+    /// The number of gen rows, live or not.
+    pub fn gen_rows(&self) -> usize
+        ensures count { result ≡ self.now.gen_rows }
+        ensures network { IsNetwork self.now }
+    {
+        self.gen_rows
+    }
+
+    /// The number of branch rows, live or not; 0 where they were not read.
+    pub fn branch_rows(&self) -> usize
+        ensures count { result ≡ self.now.branch_rows }
+        ensures network { IsNetwork self.now }
+    {
+        self.branch_rows
+    }
+
+    /// Whether a bus row has this number, live or not.
+    pub fn has_bus(&self, number: i64) -> bool
+        ensures { result ≡ has_bus self.now number }
+    {
+        known_at(&self.places, number).is_some()
+    }
+
+    /// The place of the live bus of this number.
+    pub fn bus_place(&self, number: i64) -> Option<usize>
+        ensures { result ≡ bus_place self.now number }
+    {
+        match known_at(&self.places, number) {
+            Some(place) => place,
+            None => None,
+        }
+    }
+
+    /// The place of the live branch of this row.
+    pub fn branch_place(&self, row: i64) -> Option<usize>
+        ensures { result ≡ branch_place self.now row }
+    {
+        match row_number(row) {
+            Some(row) => place_of_row(self.branches.slice(), row),
+            None => None,
+        }
+    }
+
+    /// The live buses, where nothing else is wanted any more.
+    pub fn into_buses(self) -> List<NetBus>
+        ensures { result ≡ self.buses }
+    {
+        self.buses
+    }
+
     /// The number of gen rows and the live units.
     pub fn unit_list(&self, alloc: Global) -> Result<UnitList, Memory>
-        requires { IsNetwork self.now }
         ensures units { IfOk result (AreUnits (length self.now.buses)) }
         ensures is { IfOk result (λ list. list ≡ unit_list_of self.now) }
     {
@@ -146,7 +324,7 @@ impl Network {
             units.push(unit_of(unit))?;
         }
         Ok(UnitList {
-            rows: self.gen_rows,
+            rows: self.gen_rows as u32,
             units,
         })
     }

@@ -1,4 +1,5 @@
-use Rattle.std.proofs.Common.{◌≡◌, ◌∷◌, ◌∙◌, [], refl, length, get_or, take, arith, pos}
+use Rattle.std.proofs.Common.{◌≡◌, ◌∷◌, ◌∙◌, [], refl, length, get_or, take, arith, pos, ap, subst}
+use Rattle.net_case.specs.Networks.{LiveNetwork, IsNetwork}
 use Rattle.std.proofs.lemmas.Grind.{common_steps}
 use Rattle.std.proofs.lemmas.List.{map-append, take_more}
 use Rattle.market_model.specs.Market.{IsUnit}
@@ -11,12 +12,14 @@ pub loop-unit-preserved : goal.loop-unit-preserved
 loop-unit-preserved c =
     let i = c.loop-unit.unit-index in
     let d : NetUnit = record { row = 0; bus = 0; low = pos 0; high = pos 0 } in
-    let lt = rw c.slice-unit-items.ensures at c.loop-unit-test.true in
-    let unit = c.requires.units i d lt in
-    let here : c.unit_of.result ≡ unit_within (get_or c.args.self.now.units i d) = rw c.slice-unit-items.ensures at c.unit_of.ensures.is in
+    let kept : IsNetwork c.args.self.now = subst IsNetwork c.self.view_is c.self.invariant in
+    let items : c.slice-unit-items.result.now ≡ c.args.self.now.units = c.slice-unit-items.ensures ∙ ap (λ (n : LiveNetwork). n.units) c.self.view_is in
+    let lt = rw items at c.loop-unit-test.true in
+    let unit = kept.units i d lt in
+    let here : c.unit_of.result ≡ unit_within (get_or c.args.self.now.units i d) = rw items at c.unit_of.ensures.is in
     record {
       count = grind (arith, common_steps);
       is = c.in_ok-push.ensures ∙ rw (take_more c.args.self.now.units i d lt, map-append unit_within (take i c.args.self.now.units) (get_or c.args.self.now.units i d ∷ []), ← c.loop-unit.invariant.is, here) refl;
       units = All-push (IsUnit (length c.args.self.now.buses)) c.loop-unit.units c.push.new.self c.unit_of.result c.in_ok-push.ensures c.loop-unit.invariant.units
-          (c.unit_of.ensures.unit (length c.args.self.now.buses) (rw c.slice-unit-items.ensures unit));
+          (c.unit_of.ensures.unit (length c.args.self.now.buses) (rw items unit));
     }

@@ -1,9 +1,9 @@
 use Rattle.std.proofs.Common.{rules, arith, ◌≡◌, ◌<◌, ◌≤◌, ◌+◌, ◌-◌, ◌++◌, ◌∷◌, ◌∙◌, sym, ap, Ok, Err, [], length, get_or, refl}
 use Rattle.csv_table.proofs.RowsLemmas.{read_rows-end, read_rows-fault, read_rows-step}
 use Rattle.net_case.specs.NetworkReading.{bus_row, bus_rows}
-use Rattle.net_case.proofs.BusLemmas.{bus_rows-push, keeps-push}
+use Rattle.net_case.proofs.BusLemmas.{read-push, keeps-push}
 use Rattle.net_case.proofs.Gathered.{length-listed}
-use Rattle.net_case.proofs.network_reading.read_buses.Goals as goal
+use Rattle.net_case.proofs.bus_rows.read_buses.Goals as goal
 
 pub loop-row-init : goal.loop-row-init
 loop-row-init c = record { rows = search rules; count = search rules; is = ([], record { buses = search rules; places = search rules; reference = search rules }, refl) }
@@ -33,25 +33,25 @@ loop-row-preserved c =
     let here = c.loop-row.invariant.is.2 ∙ read_rows-step bus_row done (c.loop-row.row + 1) c.args.case.now.bus c.loop-row.row bus lt reads in
     let k = c.in_ok-keep_bus.ensures in
     record {
-      rows = bus_rows-push c.loop-row.rows c.keep_bus.new.rows bus c.loop-row.invariant.rows c.in_ok-bus.ensures.bus k.buses k.places;
+      rows = read-push c.loop-row.rows c.keep_bus.new.rows bus c.loop-row.invariant.rows c.in_ok-bus.ensures.bus c.in_ok-bus.ensures.new k.buses k.places c.keep_bus.ensures.reference;
       count = omega (arith, ap length k.buses, length-listed c.loop-row.rows.buses bus.live);
-      is = (done ++ bus ∷ [], keeps-push done c.loop-row.rows c.keep_bus.new.rows bus kept k.buses k.places k.reference, here);
+      is = (done ++ bus ∷ [], keeps-push done c.loop-row.rows c.keep_bus.new.rows bus kept c.in_ok-bus.ensures.bus k.buses k.places k.reference, here);
     }
 
-pub returns-then-rows-clause-is : goal.returns-then-rows-clause-is
+pub returns-in-Some-clause-is : goal.returns-in-Some-clause-is
 unfolding bus_rows
-returns-then-rows-clause-is c =
+returns-in-Some-clause-is c =
     let done = c.loop-row.invariant.is.0 in
     let kept = c.loop-row.invariant.is.1 in
     let le : length c.args.case.now.bus ≤ c.loop-row.row = omega arith in
     let all = c.loop-row.invariant.is.2 ∙ read_rows-end bus_row done (c.loop-row.row + 1) c.args.case.now.bus c.loop-row.row le in
-    record { done = done; read = rw (all, ← kept.reference, c.if-rows.true) refl; kept = kept }
+    record { done = done; read = rw (all, ← kept.reference, c.in-Some.is) refl; buses = kept.buses; places = kept.places }
 
-pub returns-else-rows-clause-is : goal.returns-else-rows-clause-is
+pub returns-in-None-clause-is : goal.returns-in-None-clause-is
 unfolding bus_rows
-returns-else-rows-clause-is c =
+returns-in-None-clause-is c =
     let done = c.loop-row.invariant.is.0 in
     let kept = c.loop-row.invariant.is.1 in
     let le : length c.args.case.now.bus ≤ c.loop-row.row = omega arith in
     let all = c.loop-row.invariant.is.2 ∙ read_rows-end bus_row done (c.loop-row.row + 1) c.args.case.now.bus c.loop-row.row le in
-    λ _. rw (all, ← kept.reference, c.if-rows.false) refl
+    λ _. rw (all, ← kept.reference, c.in-None.is) refl

@@ -2,7 +2,9 @@ use Rattle.std.proofs.Common.{rules, arith, ◌≡◌, ◌<◌, ◌≤◌, ◌+�
 use Rattle.net_case.specs.Networks.{IsNetUnit}
 use Rattle.net_case.specs.NetworkReading.{unit_row}
 use Rattle.net_case.proofs.Gathered.{gather-end, gather-fault, gather-step, All-listed, length-listed}
-use Rattle.net_case.proofs.network_reading.read_units.Goals as goal
+use Rattle.net_case.specs.declared.live_parts.NetUnit.{NetUnit}
+use Rattle.net_case.proofs.RowLemmas.{rows-listed}
+use Rattle.net_case.proofs.gen_rows.read_units.Goals as goal
 
 pub returns-in_err-unit-clause-is : goal.returns-in_err-unit-clause-is
 returns-in_err-unit-clause-is c =
@@ -25,6 +27,7 @@ loop-row-preserved c =
     record {
       count = omega (arith, ap length added, length-listed c.loop-row.units c.in_ok-unit.unit);
       units = λ buses places. rw added (All-listed (IsNetUnit buses) c.loop-row.units c.in_ok-unit.unit (c.loop-row.invariant.units buses places) (c.in_ok-unit.ensures.unit buses places));
+      rows = rw added (rows-listed (λ (u : NetUnit). u.row) c.loop-row.units c.in_ok-unit.unit c.loop-row.row c.loop-row.invariant.rows c.in_ok-unit.ensures.row);
       is = rw added here;
     }
 

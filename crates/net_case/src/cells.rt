@@ -1,0 +1,76 @@
+//! What the cells of a case hold.
+
+ghost use Rattle.std.specs.Prelude.{◌≡◌, ◌≤◌, length, IfOk, IsTrue};
+ghost use Rattle.market_model.specs.Market.{IsDatum};
+ghost use Rattle.case_text.specs.Matrices.{matrix_of};
+ghost use Rattle.case_text.specs.Names.{is_matrix};
+ghost use Rattle.net_case.specs.NetworkReading.{row_at, number_in, service_in, few_rows};
+
+use crate::live_parts::{NetFault, Why};
+use case_text::{Field, RawCase};
+use scaled_decimal::{Sign, read, sign_of};
+
+/// The fault of a cell.
+pub fn cell_fault(field: Field, row: usize, col: usize, why: Why) -> NetFault
+    ensures { result ≡ NetFault.Cell field row col why }
+{
+    NetFault::Cell {
+        field,
+        row,
+        col,
+        why,
+    }
+}
+
+/// The number in a cell, in units of so many places.
+pub fn number(
+    case: &RawCase<'_>,
+    field: Field,
+    row: usize,
+    col: usize,
+    places: u8,
+) -> Result<i64, NetFault>
+    requires matrix { IsTrue (is_matrix field) }
+    requires place { (1 ≤ row) × (1 ≤ col) }
+    requires places { places ≤ 18 }
+    ensures datum { IfOk result IsDatum }
+    ensures is { result ≡ number_in field row (row_at (matrix_of case.now field) row) col places }
+{
+    match read(case.cell(field, row, col), places) {
+        Ok(number) => Ok(number),
+        Err(fault) => Err(cell_fault(field, row, col, Why::Decimal(fault))),
+    }
+}
+
+/// Whether the status in a cell is above 0.
+pub fn in_service(
+    case: &RawCase<'_>,
+    field: Field,
+    row: usize,
+    col: usize,
+) -> Result<bool, NetFault>
+    requires matrix { IsTrue (is_matrix field) }
+    requires place { (1 ≤ row) × (1 ≤ col) }
+    ensures { result ≡ service_in field row (row_at (matrix_of case.now field) row) col }
+{
+    match sign_of(case.cell(field, row, col)) {
+        Ok(Sign::Above) => Ok(true),
+        Ok(_) => Ok(false),
+        Err(fault) => Err(cell_fault(field, row, col, Why::Decimal(fault))),
+    }
+}
+
+/// The number of rows of a matrix, which is at most so many.
+#[tactic(auto, unfolding(crate::specs::NetworkReading::few_rows))]
+pub fn row_count(case: &RawCase<'_>, field: Field, most: usize) -> Result<usize, NetFault>
+    requires { IsTrue (is_matrix field) }
+    ensures few { IfOk result (λ count. (count ≤ most) × (count ≡ length (matrix_of case.now field))) }
+    ensures is { result ≡ few_rows most field (matrix_of case.now field) }
+{
+    let count = case.rows(field);
+    if count > most {
+        Err(NetFault::TooMany { field, count })
+    } else {
+        Ok(count)
+    }
+}
