@@ -1,1 +1,5 @@
+pub mod FactorLemmas
+pub mod FindLemmas
 pub mod Framed
+pub mod NameLemmas
+pub mod OffsetLemmas

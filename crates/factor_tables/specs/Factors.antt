@@ -1,5 +1,5 @@
 -- Factors by pair, as records give them.
-use Rattle.std.specs.Prelude.{◌≡◌, ◌≢◌, ℕ, ◌≤◌, ◌==◌, ◌&&◌, ℤ, pos, Bool, false, List, All, get_or, is_some, unwrap_or, unsigned_abs}
+use Rattle.std.specs.Prelude.{◌≡◌, ℕ, ◌≤◌, ◌==◌, ◌&&◌, ℤ, pos, Bool, false, List, All, get_or, is_some, unwrap_or, unsigned_abs}
 use Rattle.std.specs.List.{list_any}
 use Rattle.std.specs.Map.{lookup}
 use Rattle.factor_tables.specs.declared.by_pair.Column.{Column}

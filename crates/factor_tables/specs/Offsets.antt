@@ -1,5 +1,5 @@
 -- What the table of offsets stands for: the list of its records, or the first fault.
-use Rattle.std.specs.Prelude.{ℕ, ◌==◌, ◌&&◌, not, ℤ, Bool, List, [], ◌∷◌, All, codes, is_some, unsigned_abs, if◌then◌else◌, Option, Some, None, Result, Ok, Err}
+use Rattle.std.specs.Prelude.{ℕ, ◌==◌, ◌&&◌, not, ℤ, Bool, List, [], ◌∷◌, All, codes, is_some, unsigned_abs, if◌then◌else◌, Option, None, Result, Ok, Err}
 use Rattle.std.specs.List.{find}
 use Rattle.std.specs.Map.{lookup}
 use Rattle.std.specs.Option.{option_map_or}
@@ -11,7 +11,7 @@ use Rattle.factor_tables.specs.declared.cells.OffsetRecord.{OffsetRecord}
 use Rattle.factor_tables.specs.declared.table_fault.TableFault.{TableFault}
 use Rattle.factor_tables.specs.declared.table_fault.TableFault.TheVariants as fault
 use Rattle.factor_tables.specs.Records.{framed, offset_in}
-use Rattle.factor_tables.specs.Rules.{checked, is_live_branch, is_row, is_used}
+use Rattle.factor_tables.specs.Rules.{checked, fine, is_live_branch, is_row, is_used}
 
 -- a record: a branch's row, and its offset
 abbrev pub OffsetEntry : Type 0
@@ -37,7 +37,7 @@ offset_faults network line r =
 unfoldable pub offset_entry : LiveNetwork → List OffsetEntry → ℕ → Record → Result OffsetEntry TableFault
 offset_entry network done line r =
     and_then (offset_in line r) (λ numbers.
-    and_then (checked (offset_faults network line numbers) (Ok tt)) (λ _.
+    and_then (checked (offset_faults network line numbers) fine) (λ _.
     if has_offset done (unsigned_abs numbers.branch) then Err (fault.Twice line) else Ok (unsigned_abs numbers.branch, numbers.mw)))
 
 -- a branch that shifts phases and has no record

@@ -1,5 +1,5 @@
 -- A record of a table: the numbers in its cells.
-use Rattle.std.specs.Prelude.{ℕ, ◌+◌, ◌<◌, ◌≤◌, ◌^◌, ℤ, Bool, List, [], ◌∷◌, nat_lt, unsigned_abs, if◌then◌else◌, Option, Result, Ok, Err}
+use Rattle.std.specs.Prelude.{ℕ, ◌<◌, ◌≤◌, ◌^◌, ℤ, List, nat_lt, unsigned_abs, if◌then◌else◌, Option, Result, Ok, Err}
 use Rattle.csv_table.specs.Table.{Record, and_then, frame_of, number_in, or_as, table_of}
 use Rattle.csv_table.specs.declared.CellFault.{CellFault}
 use Rattle.csv_table.specs.declared.FrameFault.{FrameFault}
@@ -54,3 +54,7 @@ pub record FactorIsRead (r : FactorRecord) : Type 0 where
   pub branch : unsigned_abs r.branch < 2 ^ 63
   pub of : unsigned_abs r.of < 2 ^ 63
   pub factor : unsigned_abs r.factor ≤ most_factor
+
+pub record OffsetIsRead (r : OffsetRecord) : Type 0 where
+  pub branch : unsigned_abs r.branch < 2 ^ 63
+  pub mw : unsigned_abs r.mw < 2 ^ 63

@@ -30,6 +30,10 @@ abbrev pub checked : {A : Type 0} → List (Bool × TableFault) → Result A Tab
 checked [] result = result
 checked (first ∷ others) result = if first.0 then Err first.1 else checked others result
 
+-- no fault
+abbrev pub fine : Result (Unit {0}) TableFault
+fine = Ok tt
+
 unfoldable pub shift_faults : LiveNetwork → ℕ → FactorRecord → List (Bool × TableFault)
 shift_faults network line r =
     (not (is_row network r.branch), fault.NoBranch line)
@@ -58,6 +62,12 @@ pair_of r = (unsigned_abs r.branch, unsigned_abs r.of)
 abbrev pub IsSecond : Column → ℕ → ℤ → Type 0
 IsSecond column.Bus rows n = (pos 1 ≤ℤ n) × (n ≤ℤ pos 2147483647)
 IsSecond column.Outage rows n = (pos 1 ≤ℤ n) × (n ≤ℤ pos rows)
+
+-- a number that names one of so many branch rows
+pub record IsRowOf (rows : ℕ) (n : ℤ) : Type 0 where
+  pub least : pos 1 ≤ℤ n
+  pub most : n ≤ℤ pos rows
+  pub few : rows ≤ 2000
 
 -- numbers that name rows, of which there are so many of branches
 pub record IsPairOf (kind : Column) (rows : ℕ) (r : FactorRecord) : Type 0 where

@@ -8,13 +8,13 @@ use Rattle.factor_tables.specs.declared.table_fault.TableFault.{TableFault}
 use Rattle.factor_tables.specs.declared.table_fault.TableFault.TheVariants as fault
 use Rattle.factor_tables.specs.Factors.{Entry, has_pair}
 use Rattle.factor_tables.specs.Records.{framed, record_in}
-use Rattle.factor_tables.specs.Rules.{checked, pair_of, record_faults}
+use Rattle.factor_tables.specs.Rules.{checked, fine, pair_of, record_faults}
 
 -- the pair and the factor of a record behind others: its numbers, then what they name, then whether the pair stood before
 unfoldable pub entry_in : LiveNetwork → Column → List Entry → ℕ → Record → Result Entry TableFault
 entry_in network kind done line r =
     and_then (record_in line r) (λ numbers.
-    and_then (checked (record_faults kind network line numbers) (Ok tt)) (λ _.
+    and_then (checked (record_faults kind network line numbers) fine) (λ _.
     if has_pair done (pair_of numbers) then Err (fault.Twice line) else Ok (pair_of numbers, numbers.factor)))
 
 abbrev pub shift_header : Record

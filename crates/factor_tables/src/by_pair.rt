@@ -1,7 +1,6 @@
 //! Factors by pair.
 
 ghost use Rattle.std.specs.Prelude.{◌≡◌, ℕ, ◌≤◌, ◌<◌, ◌+◌, ◌++◌, ◌∷◌, [], List, unsigned_abs, length, get_or, slice_set, IfOk, false, true};
-
 ghost use Rattle.factor_tables.specs.Factors.{Entry, AreFactors, factor_at, has_branch, has_outage, has_pair, marked_row, most_factor};
 
 use indexmap::IndexMap;

@@ -2,7 +2,7 @@
 
 ghost use Rattle.std.specs.Prelude.{◌≡◌, ◌+◌, ◌<◌, ◌≤◌, ◌^◌, unsigned_abs, length, get_or, [], IfOk};
 ghost use Rattle.factor_tables.specs.Factors.{most_factor};
-ghost use Rattle.factor_tables.specs.Records.{FactorIsRead, factor_in, offset_in, record_in};
+ghost use Rattle.factor_tables.specs.Records.{FactorIsRead, OffsetIsRead, factor_in, offset_in, record_in};
 
 use crate::TableFault;
 use csv_table::Table;
@@ -68,7 +68,7 @@ pub(crate) fn record_of(table: &Table, row: usize) -> Result<FactorRecord, Table
 #[tactic(auto, unfolding(crate::specs::Records::offset_in))]
 pub(crate) fn offset_of(table: &Table, row: usize) -> Result<OffsetRecord, TableFault>
     requires { (row < length table.now) × (row + 2 < 2 ^ 64) }
-    ensures small { IfOk result (λ r. (unsigned_abs r.branch < 2 ^ 63) × (unsigned_abs r.mw < 2 ^ 63)) }
+    ensures read { IfOk result OffsetIsRead }
     ensures is { result ≡ offset_in (row + 2) (get_or table.now row []) }
 {
     let branch = table.number(row, 0, 0)?;

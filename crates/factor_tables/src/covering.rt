@@ -18,6 +18,7 @@ pub enum Uncovered {
 }
 
 /// Whether a branch has to have a record in the shift table.
+#[tactic(auto, unfolding(crate::specs::Covering::needs_shift))]
 fn needs_shift(branch: &NetBranch, outages: &[u32]) -> bool
     ensures { result ≡ needs_shift outages.now branch.now }
 {
@@ -26,12 +27,19 @@ fn needs_shift(branch: &NetBranch, outages: &[u32]) -> bool
         || (branch.post.is_some() && !outages.is_empty())
 }
 
+/// Whether a branch has to have a record in the shift table and has none.
+fn lacks_shift(shift: &Shift, branch: &NetBranch, outages: &[u32]) -> bool
+    ensures { result ≡ lacks_shift shift.now outages.now branch.now }
+{
+    needs_shift(branch, outages) && !shift.has(branch.row)
+}
+
 /// The row of the first branch that has to have a record in the shift table and has none.
 fn without_shift(branches: &[NetBranch], shift: &Shift, outages: &[u32]) -> Option<u32>
     ensures { result ≡ option_map (λ branch. branch.row) (find (lacks_shift shift.now outages.now) branches.now) }
 {
     for branch in branches {
-        if needs_shift(branch, outages) && !shift.has(branch.row) {
+        if lacks_shift(shift, branch, outages) {
             return Some(branch.row);
         }
     }
@@ -52,6 +60,7 @@ fn without_loss(loss: &Loss, outages: &[u32]) -> Option<u32>
 
 /// Whether each live branch that needs a record in the shift table has one, and each outage of the list one in the outage table. A
 /// branch needs one where it has a base limit, where it is listed, and where it has a post-outage limit and some outage is listed.
+#[tactic(auto, unfolding(crate::specs::Covering::cover_of))]
 pub fn cover(
     network: &Network,
     shift: &Shift,

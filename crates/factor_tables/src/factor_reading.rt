@@ -3,7 +3,8 @@
 ghost use Rattle.std.specs.Prelude.{◌≡◌, ◌≢◌, ℕ, ◌+◌, ◌<◌, ◌≤◌, ◌^◌, ◌&&◌, not, unsigned_abs, length, get_or, [], Ok, Err, IfOk, IfErr, false};
 ghost use Rattle.csv_table.specs.Table.{read_rows};
 ghost use Rattle.factor_tables.specs.Factors.{AreFactors, has_pair, marked_row, most_factor};
-ghost use Rattle.factor_tables.specs.Rules.{IsPairOf, checked, loss_faults, record_faults, shift_faults};
+ghost use Rattle.factor_tables.specs.Records.{FactorIsRead};
+ghost use Rattle.factor_tables.specs.Rules.{IsPairOf, checked, fine, loss_faults, record_faults, shift_faults};
 ghost use Rattle.factor_tables.specs.Tables.{entry_in, loss_of, shift_of};
 
 use crate::TableFault;
@@ -15,40 +16,44 @@ use net_case::Network;
 use std::alloc::Global;
 
 /// Refuses a record that names a row that is not there, or one out of service with a factor that is not 0.
-fn check_shift(network: &Network, record: FactorRecord, line: usize) -> Result<(), TableFault>
-    ensures pair { IfOk result (λ _. IsPairOf Column.Bus network.now.branch_rows record) }
-    ensures is { result ≡ checked (shift_faults network.now line record) (Ok tt) }
+#[tactic(auto, unfolding(crate::specs::Rules::shift_faults))]
+fn check_shift(network: &Network, numbers: FactorRecord, line: usize) -> Result<(), TableFault>
+    requires { FactorIsRead numbers }
+    ensures pair { IfOk result (λ _. IsPairOf Column.Bus network.now.branch_rows numbers) }
+    ensures is { result ≡ checked (shift_faults network.now line numbers) fine }
 {
-    if !is_row(network, record.branch) {
+    if !is_row(network, numbers.branch) {
         return Err(TableFault::NoBranch { line });
     }
-    if !network.has_bus(record.of) {
+    if !network.has_bus(numbers.of) {
         return Err(TableFault::NoBus { line });
     }
-    if is_idle(record.factor, is_live_branch(network, record.branch)) {
+    if is_idle(numbers.factor, is_live_branch(network, numbers.branch)) {
         return Err(TableFault::DeadBranch { line });
     }
-    if is_idle(record.factor, is_live_bus(network, record.of)) {
+    if is_idle(numbers.factor, is_live_bus(network, numbers.of)) {
         return Err(TableFault::DeadBus { line });
     }
     Ok(())
 }
 
 /// The same of an outage table.
-fn check_loss(network: &Network, record: FactorRecord, line: usize) -> Result<(), TableFault>
-    ensures pair { IfOk result (λ _. IsPairOf Column.Outage network.now.branch_rows record) }
-    ensures is { result ≡ checked (loss_faults network.now line record) (Ok tt) }
+#[tactic(auto, unfolding(crate::specs::Rules::loss_faults))]
+fn check_loss(network: &Network, numbers: FactorRecord, line: usize) -> Result<(), TableFault>
+    requires { FactorIsRead numbers }
+    ensures pair { IfOk result (λ _. IsPairOf Column.Outage network.now.branch_rows numbers) }
+    ensures is { result ≡ checked (loss_faults network.now line numbers) fine }
 {
-    if !is_row(network, record.branch) {
+    if !is_row(network, numbers.branch) {
         return Err(TableFault::NoBranch { line });
     }
-    if !is_row(network, record.of) {
+    if !is_row(network, numbers.of) {
         return Err(TableFault::NoBranch { line });
     }
-    if is_idle(record.factor, is_live_branch(network, record.branch)) {
+    if is_idle(numbers.factor, is_live_branch(network, numbers.branch)) {
         return Err(TableFault::DeadBranch { line });
     }
-    if is_idle(record.factor, is_live_branch(network, record.of)) {
+    if is_idle(numbers.factor, is_live_branch(network, numbers.of)) {
         return Err(TableFault::DeadBranch { line });
     }
     Ok(())
@@ -57,15 +62,16 @@ fn check_loss(network: &Network, record: FactorRecord, line: usize) -> Result<()
 fn check_names(
     network: &Network,
     column: Column,
-    record: FactorRecord,
+    numbers: FactorRecord,
     line: usize,
 ) -> Result<(), TableFault>
-    ensures pair { IfOk result (λ _. IsPairOf column network.now.branch_rows record) }
-    ensures is { result ≡ checked (record_faults column network.now line record) (Ok tt) }
+    requires { FactorIsRead numbers }
+    ensures pair { IfOk result (λ _. IsPairOf column network.now.branch_rows numbers) }
+    ensures is { result ≡ checked (record_faults column network.now line numbers) fine }
 {
     match column {
-        Column::Bus => check_shift(network, record, line),
-        Column::Outage => check_loss(network, record, line),
+        Column::Bus => check_shift(network, numbers, line),
+        Column::Outage => check_loss(network, numbers, line),
     }
 }
 
@@ -84,13 +90,13 @@ fn entry_of(
     ensures row { IfOk result (λ entry. marked_row column entry.0 ≤ network.now.branch_rows) }
     ensures is { result ≡ entry_in network.now column done.now.by_pair.entries (row + 2) (get_or table.now row []) }
 {
-    let record = record_of(table, row)?;
-    check_names(network, column, record, row + 2)?;
-    let pair = (record.branch as u32, record.of as u32);
+    let numbers = record_of(table, row)?;
+    check_names(network, column, numbers, row + 2)?;
+    let pair = (numbers.branch as u32, numbers.of as u32);
     if done.has(pair) {
         return Err(TableFault::Twice { line: row + 2 });
     }
-    Ok((pair, record.factor))
+    Ok((pair, numbers.factor))
 }
 
 /// The factors of a table's records.

@@ -1,6 +1,6 @@
 //! What the numbers of a record name in a network.
 
-ghost use Rattle.std.specs.Prelude.{◌≡◌, ◌&&◌, not, ◌≤◌, pos, ◌≤ℤ◌, true};
+ghost use Rattle.std.specs.Prelude.{◌≡◌, ◌&&◌, not, pos, ◌≤ℤ◌, true};
 ghost use Rattle.net_case.specs.Networks.{IsNetwork};
 ghost use Rattle.factor_tables.specs.Rules.{is_live_branch, is_live_bus, is_row, is_used};
 
@@ -15,10 +15,12 @@ pub(crate) fn is_used(amount: i64) -> bool
 
 /// Whether a branch row has this number.
 pub(crate) fn is_row(network: &Network, number: i64) -> bool
-    ensures range { result ≡ true → (pos 1 ≤ℤ number) × (number ≤ℤ pos 2000) × (number ≤ℤ pos network.now.branch_rows) }
+    ensures range { result ≡ true → (pos 1 ≤ℤ number) × (number ≤ℤ pos network.now.branch_rows) }
+    ensures network { IsNetwork network.now }
     ensures is { result ≡ is_row network.now number }
 {
-    1 <= number && number <= network.branch_rows() as i64
+    let last = network.branch_rows() as i64;
+    1 <= number && number <= last
 }
 
 /// Whether a live branch has this number.

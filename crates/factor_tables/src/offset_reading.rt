@@ -5,7 +5,8 @@ ghost use Rattle.std.specs.List.{find};
 ghost use Rattle.csv_table.specs.Table.{read_rows};
 ghost use Rattle.market_model.specs.Market.{IsDatum};
 ghost use Rattle.factor_tables.specs.Offsets.{AreOffsets, OffsetEntry, has_offset, offset_entry, offset_faults, offsets_of, wants_offset, with_all_offsets};
-ghost use Rattle.factor_tables.specs.Rules.{checked};
+ghost use Rattle.factor_tables.specs.Records.{OffsetIsRead};
+ghost use Rattle.factor_tables.specs.Rules.{IsRowOf, checked, fine};
 
 use crate::TableFault;
 use crate::cells::{OffsetRecord, offset_of};
@@ -17,16 +18,26 @@ use net_case::{NetBranch, Network};
 use std::alloc::Global;
 
 /// Refuses a record that names a row that is not there, or one out of service with an offset that is not 0.
-fn check_offset(network: &Network, record: OffsetRecord, line: usize) -> Result<(), TableFault>
-    ensures is { result ≡ checked (offset_faults network.now line record) (Ok tt) }
+#[tactic(auto, unfolding(crate::specs::Offsets::offset_faults))]
+fn check_offset(network: &Network, numbers: OffsetRecord, line: usize) -> Result<(), TableFault>
+    requires { OffsetIsRead numbers }
+    ensures row { IfOk result (λ _. IsRowOf network.now.branch_rows numbers.branch) }
+    ensures is { result ≡ checked (offset_faults network.now line numbers) fine }
 {
-    if !is_row(network, record.branch) {
+    if !is_row(network, numbers.branch) {
         return Err(TableFault::NoBranch { line });
     }
-    if is_idle(record.mw, is_live_branch(network, record.branch)) {
+    if is_idle(numbers.mw, is_live_branch(network, numbers.branch)) {
         return Err(TableFault::DeadBranch { line });
     }
     Ok(())
+}
+
+/// Whether a branch has a record.
+fn has_record(by_row: &IndexMap<u32, i64>, branch: u32) -> bool
+    ensures { result ≡ has_offset by_row.now.entries branch }
+{
+    by_row.contains_key(&branch)
 }
 
 /// The row and the offset of a row's record, in the light of those before it.
@@ -42,13 +53,13 @@ fn entry_of(
     ensures datum { IfOk result (λ entry. IsDatum entry.1) }
     ensures is { result ≡ offset_entry network.now done.now.entries (row + 2) (get_or table.now row []) }
 {
-    let record = offset_of(table, row)?;
-    check_offset(network, record, row + 2)?;
-    let branch = record.branch as u32;
-    if done.contains_key(&branch) {
+    let numbers = offset_of(table, row)?;
+    check_offset(network, numbers, row + 2)?;
+    let branch = numbers.branch as u32;
+    if has_record(done, branch) {
         return Err(TableFault::Twice { line: row + 2 });
     }
-    Ok((branch, record.mw))
+    Ok((branch, numbers.mw))
 }
 
 /// The offsets of a table's records.
@@ -75,7 +86,7 @@ fn entries_of(
 fn wants_offset(by_row: &IndexMap<u32, i64>, branch: &NetBranch) -> bool
     ensures { result ≡ wants_offset by_row.now.entries branch.now }
 {
-    branch.shifted && !by_row.contains_key(&branch.row)
+    branch.shifted && !has_record(by_row, branch.row)
 }
 
 /// The row of the first of these branches that shifts phases and has no record.

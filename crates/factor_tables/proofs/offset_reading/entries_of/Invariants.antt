@@ -1,0 +1,11 @@
+use Rattle.std.proofs.Common.{◌≡◌, ◌+◌, [], drop}
+use Rattle.csv_table.specs.Table.{read_rows}
+use Rattle.factor_tables.specs.Offsets.{AreOffsets, offset_entry}
+use Rattle.factor_tables.proofs.offset_reading.entries_of.Given as goal
+
+-- the records so far, and those that are left
+abbrev pub invariant-loop-row : goal.invariant-loop-row
+invariant-loop-row l = record {
+  kept : AreOffsets l.by_row.entries;
+  is : read_rows (offset_entry l.network) [] 2 l.table ≡ read_rows (offset_entry l.network) l.by_row.entries (l.row + 2) (drop l.row l.table);
+}
