@@ -1,6 +1,9 @@
 -- What `gather` gives from the row at a place on, one step for each outcome of a reader's loop.
-use Rattle.std.proofs.Common.{◌≡◌, ◌≤◌, ◌<◌, ◌+◌, ◌∷◌, ◌++◌, ℕ, List, [], length, drop, get_or, refl, arith, length-append, All, Ok, Err, Result, Option, Some, None}
-use Rattle.std.specs.Prelude.{IfSome}
+use Rattle.std.proofs.Common.{◌≡◌, ◌≤◌, ◌<◌, ◌+◌, ◌∷◌, ◌++◌, ℕ, List, [], length, drop, get_or, refl, arith, length-append, All, Ok, Err, Result, Option, Some, None, Bool, true, false}
+use Rattle.std.specs.Prelude.{IfSome, nat_lt, if◌then◌else◌}
+use Rattle.case_text.specs.declared.Field.{Field}
+use Rattle.net_case.specs.declared.live_parts.NetFault.TheVariants as fault
+use Rattle.net_case.specs.NetworkReading.{few_rows}
 use Rattle.std.proofs.lemmas.List.Elements.{All-append, All-cons, All-nil}
 use Rattle.std.proofs.lemmas.List.{drop_all, drop_more}
 use Rattle.csv_table.specs.Table.{Record}
@@ -33,3 +36,12 @@ module _ {A : Type 0} where
   pub length-listed : (xs : List A) (x : Option A) → length (xs ++ listed x) ≤ length xs + 1
   length-listed xs None = omega (arith, length-append xs [])
   length-listed xs (Some x) = omega (arith, length-append xs (x ∷ []))
+
+-- ---- the number of rows
+pub few_rows-count : (most : ℕ) (f : Field) (rows : List Record) (count : ℕ) → few_rows most f rows ≡ Ok count → count ≡ length rows
+unfolding few_rows
+few_rows-count most f rows count = by (nat_lt most (length rows))
+  where
+    by : (t : Bool) → (if t then Err (fault.TooMany f (length rows)) else Ok (length rows)) ≡ Ok count → count ≡ length rows
+    by true is = absurd (cc is)
+    by false is = cc

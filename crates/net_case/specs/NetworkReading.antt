@@ -1,8 +1,9 @@
 -- The network that a case stands for, or the first fault of its rows.
-use Rattle.std.specs.Prelude.{ℕ, ◌+◌, ◌-◌, ◌==◌, ◌&&◌, ℤ, pos, ◌-ℤ◌, Bool, true, false, List, [], ◌∷◌, length, map, filter, position, nat_lt, Option, Some, None, is_some, Result, Ok, Err, slice_index_or, unsigned_abs, if◌then◌else◌}
+use Rattle.std.specs.Prelude.{ℕ, ◌+◌, ◌-◌, ◌==◌, ◌&&◌, ◌||◌, codes, ℤ, pos, ◌-ℤ◌, Bool, true, false, List, [], ◌∷◌, length, map, filter, position, nat_lt, Option, Some, None, is_some, Result, Ok, Err, slice_index_or, unsigned_abs, if◌then◌else◌}
 use Rattle.std.specs.Int.Signed.{lt_z, le_z}
 use Rattle.std.specs.List.{filter_map}
 use Rattle.std.specs.Map.{lookup}
+use Rattle.std.specs.Str.{bytes_eq}
 use Rattle.market_model.specs.declared.participants.Bus.{Bus}
 use Rattle.market_model.specs.declared.participants.Unit as unit
 use Rattle.market_model.specs.declared.participants.UnitList.{UnitList}
@@ -19,6 +20,11 @@ use Rattle.net_case.specs.declared.live_parts.Why.TheVariants as why
 use Rattle.net_case.specs.declared.live_parts.NetFault.{NetFault}
 use Rattle.net_case.specs.declared.live_parts.NetFault.TheVariants as fault
 use Rattle.net_case.specs.declared.live_parts.NetUnit.{NetUnit}
+use Rattle.net_case.specs.declared.live_parts.NetBranch.{NetBranch}
+use Rattle.net_case.specs.declared.live_parts.Branches.{Branches}
+use Rattle.net_case.specs.declared.live_parts.Branches.TheVariants as branches
+use Rattle.net_case.specs.declared.live_parts.PostRating.{PostRating}
+use Rattle.net_case.specs.declared.live_parts.PostRating.TheVariants as post
 use Rattle.net_case.specs.Networks.{LiveNetwork}
 use Rattle.net_case.specs.declared.bus_rows.BusRow.{BusRow}
 
@@ -38,6 +44,10 @@ cell_in r col = slice_index_or r (col - 1) []
 -- the number in a cell, in units of so many places
 abbrev pub number_in : Field → ℕ → Record → ℕ → ℕ → Result ℤ NetFault
 number_in f row r col places = in_cell f row col (units_of places (cell_in r col))
+
+-- the sign of the number in a row's cell
+abbrev pub sign_at : Field → ℕ → Record → ℕ → Result Sign NetFault
+sign_at f row r col = in_cell f row col (sign_in (cell_in r col))
 
 -- ---- bus rows
 -- a whole number from 1 to the most that a column takes
@@ -128,7 +138,7 @@ is_above sign.Above = true
 
 -- whether a status is above 0
 abbrev pub service_in : Field → ℕ → Record → ℕ → Result Bool NetFault
-service_in f row r col = and_then (in_cell f row col (sign_in (cell_in r col))) (λ s. Ok (is_above s))
+service_in f row r col = and_then (sign_at f row r col) (λ s. Ok (is_above s))
 
 -- a live unit with its bounds
 unfoldable pub bounds_in : ℕ → Record → ℕ → Result NetUnit NetFault
@@ -153,26 +163,102 @@ unit_row places row r =
     and_then (stands field.Gen row (standing_at places n)) (λ place.
     and_then (service_in field.Gen row r 8) (unit_where row r place)))
 
+-- ---- branch rows
+-- infinity without a minus sign, and with one
+abbrev pub is_infinite : List ℕ → Bool
+is_infinite cell = bytes_eq cell (codes "Inf") || bytes_eq cell (codes "inf") || bytes_eq cell (codes "+Inf") || bytes_eq cell (codes "+inf")
+
+abbrev pub is_below_all : List ℕ → Bool
+is_below_all cell = bytes_eq cell (codes "-Inf") || bytes_eq cell (codes "-inf")
+
+-- a rating is a limit where it is above 0, and none where it is 0
+unfoldable pub limit_of : ℕ → ℕ → ℤ → Result (Option ℤ) NetFault
+limit_of row col rating =
+    if lt_z rating (pos 0) then Err (fault.Cell field.Branch row col why.Bounds)
+    else if lt_z (pos 0) rating then Ok (Some rating)
+    else Ok None
+
+-- the limit in a row's cell; infinity is none
+unfoldable pub limit_in : ℕ → Record → ℕ → Result (Option ℤ) NetFault
+limit_in row r col =
+    if is_infinite (cell_in r col) then Ok None
+    else if is_below_all (cell_in r col) then Err (fault.Cell field.Branch row col why.Bounds)
+    else and_then (number_in field.Branch row r col 9) (limit_of row col)
+
+abbrev pub is_off_zero : Sign → Bool
+is_off_zero sign.Below = true
+is_off_zero sign.Zero = false
+is_off_zero sign.Above = true
+
+-- whether the phase shift angle is not 0
+unfoldable pub shifted_in : ℕ → Record → Result Bool NetFault
+shifted_in row r = and_then (sign_at field.Branch row r 10) (λ s. Ok (is_off_zero s))
+
+-- the column of the rating that is the limit after an outage: RATE_A, RATE_B or RATE_C
+abbrev pub post_column : PostRating → ℕ
+post_column post.A = 6
+post_column post.B = 7
+post_column post.C = 8
+
+-- a live branch between two buses, with its limits
+unfoldable pub limits_in : PostRating → ℕ → Record → ℕ → ℕ → Result NetBranch NetFault
+limits_in rating row r from to =
+    if from == to then Err (fault.SameEnds row)
+    else and_then (limit_in row r 6) (λ base.
+    and_then (limit_in row r (post_column rating)) (λ after.
+    and_then (shifted_in row r) (λ shifted.
+    Ok (record { row = row; from = from; to = to; base = base; post = after; shifted = shifted }))))
+
+abbrev pub some_branch : Result NetBranch NetFault → Result (Option NetBranch) NetFault
+some_branch (Ok b) = Ok (Some b)
+some_branch (Err f) = Err f
+
+-- the branch of a row whose buses both have places among the live buses, where its status is above 0
+unfoldable pub branch_where : PostRating → ℕ → Record → Option ℕ → Option ℕ → Bool → Result (Option NetBranch) NetFault
+branch_where rating row r None to in_service = Ok None
+branch_where rating row r (Some from) None in_service = Ok None
+branch_where rating row r (Some from) (Some to) false = Ok None
+branch_where rating row r (Some from) (Some to) true = some_branch (limits_in rating row r from to)
+
+unfoldable pub branch_row : PostRating → Places → ℕ → Record → Result (Option NetBranch) NetFault
+branch_row rating places row r =
+    and_then (number_in field.Branch row r 1 0) (λ f_bus.
+    and_then (number_in field.Branch row r 2 0) (λ t_bus.
+    and_then (stands field.Branch row (standing_at places f_bus)) (λ from.
+    and_then (stands field.Branch row (standing_at places t_bus)) (λ to.
+    and_then (service_in field.Branch row r 11) (branch_where rating row r from to)))))
+
 -- ---- the case
 -- the number of a matrix's rows, which is at most so many
 unfoldable pub few_rows : ℕ → Field → List Record → Result ℕ NetFault
 few_rows most f rows = if nat_lt most (length rows) then Err (fault.TooMany f (length rows)) else Ok (length rows)
 
-unfoldable pub network_of : CaseMatrices → Result LiveNetwork NetFault
-network_of case =
+-- branch rows that are skipped are not even counted
+abbrev pub branch_count : Branches → List Record → Result ℕ NetFault
+branch_count branches.Skip rows = Ok 0
+branch_count (branches.Read rating) rows = few_rows 2000 field.Branch rows
+
+abbrev pub branches_in : Branches → Places → List Record → Result (List NetBranch) NetFault
+branches_in branches.Skip places rows = Ok []
+branches_in (branches.Read rating) places rows = gather (λ _. branch_row rating places) [] 1 rows
+
+unfoldable pub network_of : Branches → CaseMatrices → Result LiveNetwork NetFault
+network_of read case =
     and_then (few_rows 1000 field.Bus case.bus) (λ _.
     and_then (few_rows 1000 field.Gen case.generators) (λ gen_rows.
+    and_then (branch_count read case.branch) (λ branch_rows.
     and_then (bus_rows case.bus) (λ buses.
     and_then (gather (λ _. unit_row (places_from 0 buses.rows)) [] 1 case.generators) (λ units.
+    and_then (branches_in read (places_from 0 buses.rows) case.branch) (λ live.
     Ok (record {
       buses = live_buses buses.rows;
       units = units;
-      branches = [];
+      branches = live;
       reference = buses.reference;
       gen_rows = gen_rows;
-      branch_rows = 0;
+      branch_rows = branch_rows;
       bus_rows = places_from 0 buses.rows;
-    })))))
+    })))))))
 
 -- ---- units
 -- the number from low to high that is nearest 0

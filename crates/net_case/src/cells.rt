@@ -4,7 +4,7 @@ ghost use Rattle.std.specs.Prelude.{◌≡◌, ◌≤◌, length, IfOk, IsTrue};
 ghost use Rattle.market_model.specs.Market.{IsDatum};
 ghost use Rattle.case_text.specs.Matrices.{matrix_of};
 ghost use Rattle.case_text.specs.Names.{is_matrix};
-ghost use Rattle.net_case.specs.NetworkReading.{row_at, number_in, service_in, few_rows};
+ghost use Rattle.net_case.specs.NetworkReading.{row_at, number_in, sign_at, service_in, few_rows};
 
 use crate::live_parts::{NetFault, Why};
 use case_text::{Field, RawCase};
@@ -42,6 +42,18 @@ pub fn number(
     }
 }
 
+/// The sign of the number in a cell.
+pub fn sign(case: &RawCase<'_>, field: Field, row: usize, col: usize) -> Result<Sign, NetFault>
+    requires matrix { IsTrue (is_matrix field) }
+    requires place { (1 ≤ row) × (1 ≤ col) }
+    ensures { result ≡ sign_at field row (row_at (matrix_of case.now field) row) col }
+{
+    match sign_of(case.cell(field, row, col)) {
+        Ok(sign) => Ok(sign),
+        Err(fault) => Err(cell_fault(field, row, col, Why::Decimal(fault))),
+    }
+}
+
 /// Whether the status in a cell is above 0.
 pub fn in_service(
     case: &RawCase<'_>,
@@ -53,10 +65,9 @@ pub fn in_service(
     requires place { (1 ≤ row) × (1 ≤ col) }
     ensures { result ≡ service_in field row (row_at (matrix_of case.now field) row) col }
 {
-    match sign_of(case.cell(field, row, col)) {
-        Ok(Sign::Above) => Ok(true),
-        Ok(_) => Ok(false),
-        Err(fault) => Err(cell_fault(field, row, col, Why::Decimal(fault))),
+    match sign(case, field, row, col)? {
+        Sign::Above => Ok(true),
+        Sign::Below | Sign::Zero => Ok(false),
     }
 }
 

@@ -1,11 +1,14 @@
-//! The live network of a case: the buses and units that its cells stand for.
+//! The live network of a case: the buses, units and branches that its cells stand for.
 #![tactic(auto)]
 
+mod branch_rows;
 mod bus_rows;
 mod cells;
 mod gen_rows;
 mod live_parts;
 mod network_reading;
 
-pub use live_parts::{NetBranch, NetBus, NetFault, NetUnit, Network, Why, push_some};
+pub use live_parts::{
+    Branches, NetBranch, NetBus, NetFault, NetUnit, Network, PostRating, Why, push_some,
+};
 pub use network_reading::network;

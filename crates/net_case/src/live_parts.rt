@@ -58,6 +58,10 @@ pub enum NetFault {
         field: Field,
         row: usize,
     },
+    #[error("branch row {row} begins and ends at one bus")]
+    SameEnds {
+        row: usize,
+    },
     #[error("no reference bus")]
     NoReference,
     #[error("PMIN of unit {unit} is above its PMAX")]
@@ -76,6 +80,22 @@ impl From<Memory> for NetFault {
     fn from(_refused: Memory) -> NetFault {
         NetFault::Memory
     }
+}
+
+/// Which rating is the limit of a branch after an outage.
+#[derive(Clone, Copy, Debug, PartialEq, Eq)]
+pub enum PostRating {
+    A,
+    B,
+    C,
+}
+
+/// Whether branch rows are read.
+#[derive(Clone, Copy, Debug, PartialEq, Eq)]
+pub enum Branches {
+    /// They are not even counted, and the network has no branches.
+    Skip,
+    Read(PostRating),
 }
 
 /// Adds an item at the end, where there is one.

@@ -10,7 +10,7 @@ use Rattle.std.proofs.lemmas.List.Elements.{All-contains}
 use Rattle.std.proofs.lemmas.Option.{get_or_from_slice_get, slice_get_within}
 use Rattle.market_model.specs.declared.participants.Bus.{Bus}
 use Rattle.net_case.specs.declared.live_parts.NetBranch.{NetBranch}
-use Rattle.net_case.specs.declared.live_parts.Network.{Network}
+use Rattle.net_case.specs.Networks.{LiveNetwork}
 use Rattle.net_case.specs.Networks.{IsNetBranch}
 use Rattle.net_paths.specs.declared.steps.Step.{Step}
 use Rattle.net_paths.specs.declared.search.Search.{Search}
@@ -21,7 +21,7 @@ use Rattle.net_paths.specs.Searching.{visit_at, IsSearch}
 use Rattle.net_paths.proofs.ChainLemmas.{joined_trans, joined_step}
 use Rattle.net_paths.proofs.WayLemmas.{visited_joined, joined_visited}
 
-module _ (network : Network) (seen : List (Option ℕ)) where
+module _ (network : LiveNetwork) (seen : List (Option ℕ)) where
   pub side-none : HoldsSide network seen 0 []
   side-none = record {
     places = [];
@@ -68,13 +68,13 @@ module _ (network : Network) (seen : List (Option ℕ)) where
           no e = cc
 
 -- the number of a bus that is read
-pub number_read : (network : Network) (place : ℕ) (bus : Bus) → slice_get network.buses place ≡ Some bus → bus_number network place ≡ bus.number
+pub number_read : (network : LiveNetwork) (place : ℕ) (bus : Bus) → slice_get network.buses place ≡ Some bus → bus_number network place ≡ bus.number
 number_read network place bus at =
     get_or-map (λ (b : Bus). b.number) network.buses place bus 0 (slice_get_within network.buses place bus at)
     ∙ ap (λ (b : Bus). b.number) (get_or_from_slice_get network.buses place bus bus at)
 
 -- the visited places of a whole search are the side of its root
-pub side_is : (network : Network) (branches : List NetBranch) (b : ℕ) (search : Search) (numbers : List ℕ) → IsSearch branches (length network.buses) b search
+pub side_is : (network : LiveNetwork) (branches : List NetBranch) (b : ℕ) (search : Search) (numbers : List ℕ) → IsSearch branches (length network.buses) b search
     → All (IsNetBranch (length network.buses)) branches → HoldsSide network search.seen.items (length network.buses) numbers → IsSide network branches b numbers
 side_is network branches b search numbers whole within side = record {
   places = side.places;

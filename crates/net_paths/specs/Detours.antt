@@ -1,7 +1,7 @@
 -- What is left between the buses of a branch that is lost: a way round it, or the side of its T_BUS.
 use Rattle.std.specs.Prelude.{◌≡◌, ℕ, ◌<◌, ◌==◌, ◌↔◌, not, List, length, filter, map, All, AllPairs, Contains, Option, IsSome}
 use Rattle.net_case.specs.declared.live_parts.NetBranch.{NetBranch}
-use Rattle.net_case.specs.declared.live_parts.Network.{Network}
+use Rattle.net_case.specs.Networks.{LiveNetwork}
 use Rattle.net_paths.specs.declared.detours.Detour.{Detour}
 use Rattle.net_paths.specs.declared.detours.Detour.TheVariants as detour
 use Rattle.net_paths.specs.declared.steps.Step.{Step}
@@ -10,11 +10,11 @@ use Rattle.net_paths.specs.Connection.{bus_number}
 use Rattle.net_paths.specs.Searching.{visit_at}
 
 -- the live branch of a row
-pub record IsBranchOf (network : Network) (row : ℕ) (branch : NetBranch) : Type 0 where
+pub record IsBranchOf (network : LiveNetwork) (row : ℕ) (branch : NetBranch) : Type 0 where
   pub live : Contains network.branches branch
   pub row_is : branch.row ≡ row
 
-abbrev pub IsLiveRow : Network → ℕ → Type 0
+abbrev pub IsLiveRow : LiveNetwork → ℕ → Type 0
 IsLiveRow network row = (branch : NetBranch) × IsBranchOf network row branch
 
 -- the branches of other rows
@@ -29,7 +29,7 @@ pub record IsPath (branches : List NetBranch) (a b : ℕ) (rows : List ℕ) : Ty
   pub rows_are : rows ≡ map (λ s. s.branch.row) steps
 
 -- the numbers, in row order, of the buses that the branches join to a place; no branch leads out of these
-pub record IsSide (network : Network) (branches : List NetBranch) (b : ℕ) (numbers : List ℕ) : Type 0 where
+pub record IsSide (network : LiveNetwork) (branches : List NetBranch) (b : ℕ) (numbers : List ℕ) : Type 0 where
   pub places : List ℕ
   pub order : AllPairs (λ p q. p < q) places
   pub within : All (λ p. p < length network.buses) places
@@ -39,13 +39,13 @@ pub record IsSide (network : Network) (branches : List NetBranch) (b : ℕ) (num
   pub numbers_are : numbers ≡ map (bus_number network) places
 
 -- a path where the other live branches join the two buses, and a side where they don't
-abbrev pub IsDetour : Network → NetBranch → Detour → Type 0
+abbrev pub IsDetour : LiveNetwork → NetBranch → Detour → Type 0
 IsDetour network branch (detour.Path rows) = IsPath (others branch.row network.branches) branch.from branch.to rows
 IsDetour network branch (detour.Side numbers) =
     (¬ AreJoined (others branch.row network.branches) branch.from branch.to) × IsSide network (others branch.row network.branches) branch.to numbers
 
 -- the numbers of the buses at the visited places, of the first ones, in their order
-pub record HoldsSide (network : Network) (seen : List (Option ℕ)) (upto : ℕ) (numbers : List ℕ) : Type 0 where
+pub record HoldsSide (network : LiveNetwork) (seen : List (Option ℕ)) (upto : ℕ) (numbers : List ℕ) : Type 0 where
   pub places : List ℕ
   pub order : AllPairs (λ p q. p < q) places
   pub within : All (λ p. p < upto) places

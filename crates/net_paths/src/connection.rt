@@ -1,10 +1,10 @@
 //! Whether the live branches join all live buses.
 
 ghost use Rattle.std.specs.Prelude.{◌≡◌, ℕ, ◌<◌, length, slice_index, is_some, IsSome, IsNone, MatchOption, OnOk, IfErr, None, Some};
-ghost use Rattle.net_case.specs.Networks.{IsNetwork};
 ghost use Rattle.net_paths.specs.Searching.{visit_at};
 ghost use Rattle.net_paths.specs.Connection.{JoinAll, IsStop};
 
+use crate::parts::{bus_count, bus_number, live_branches};
 use crate::search::Search;
 use net_case::Network;
 use plain_list::Memory;
@@ -44,18 +44,17 @@ fn first_apart(search: &Search) -> Option<usize>
 
 /// Whether the live branches join all live buses to the first one.
 pub fn connected(alloc: Global, network: &Network) -> Result<(), PathStop>
-    requires { IsNetwork network.now }
     ensures joined { OnOk result (JoinAll network.now.branches (length network.now.buses)) }
     ensures stop { IfErr result (IsStop network.now) }
 {
-    let places = network.buses.len();
+    let places = bus_count(network);
     if places == 0 {
         return Ok(());
     }
-    let search = Search::over(alloc, places, network.branches.slice(), 0)?;
+    let search = Search::over(alloc, places, live_branches(network), 0)?;
     match first_apart(&search) {
         Some(place) => Err(PathStop::Split {
-            bus: network.buses.at(place).number,
+            bus: bus_number(network, place),
         }),
         None => Ok(()),
     }

@@ -1,11 +1,12 @@
 //! The way round a branch that is lost, or the side that its loss parts off.
 
-ghost use Rattle.std.specs.Prelude.{◌≡◌, ℕ, ◌<◌, ◌==◌, not, List, [], length, filter, map, Contains, IfOk, slice_index_or};
+ghost use Rattle.std.specs.Prelude.{◌≡◌, ℕ, ◌<◌, ◌==◌, not, List, [], length, filter, map, All, Contains, IfOk, slice_index_or};
 ghost use Rattle.net_case.specs.declared.live_parts.NetBranch.{NetBranch};
-ghost use Rattle.net_case.specs.Networks.{IsNetwork};
+ghost use Rattle.net_case.specs.Networks.{IsNetBranch};
 ghost use Rattle.net_paths.specs.Searching.{visit_at, IsSearch};
 ghost use Rattle.net_paths.specs.Detours.{others, IsLiveRow, IsBranchOf, IsDetour, HoldsSide};
 
+use crate::parts::{bus_count, bus_number, live_branches};
 use crate::search::Search;
 use crate::steps::Step;
 use net_case::{NetBranch, Network};
@@ -24,9 +25,10 @@ pub enum Detour {
 /// The live branch of a row.
 fn branch_of(network: &Network, row: u32) -> NetBranch
     requires { IsLiveRow network.now row }
-    ensures { IsBranchOf network.now row result }
+    ensures is { IsBranchOf network.now row result }
+    ensures ends { All (IsNetBranch (length network.now.buses)) network.now.branches }
 {
-    for branch in network.branches.slice() {
+    for branch in live_branches(network) {
         if branch.row == row {
             return *branch;
         }
@@ -67,9 +69,9 @@ fn visited_numbers(alloc: Global, network: &Network, search: &Search) -> Result<
     ensures { IfOk result (HoldsSide network.now search.now.seen.items (length network.now.buses)) }
 {
     let mut numbers = List::new(alloc);
-    for place in 0..network.buses.len() {
+    for place in 0..bus_count(network) {
         if search.visit_of(place).is_some() {
-            numbers.push(network.buses.at(place).number)?;
+            numbers.push(bus_number(network, place))?;
         }
     }
     Ok(numbers)
@@ -77,18 +79,16 @@ fn visited_numbers(alloc: Global, network: &Network, search: &Search) -> Result<
 
 /// A search over the live branches of other rows.
 fn search_without(alloc: Global, network: &Network, row: u32, root: usize) -> Result<Search, Memory>
-    requires network { IsNetwork network.now }
-    requires root { root < length network.now.buses }
+    requires { root < length network.now.buses }
     ensures { IfOk result (IsSearch (others row network.now.branches) (length network.now.buses) root) }
 {
-    let kept = other_branches(alloc, network.branches.slice(), row)?;
-    Search::over(alloc, network.buses.len(), kept.slice(), root)
+    let kept = other_branches(alloc, live_branches(network), row)?;
+    Search::over(alloc, bus_count(network), kept.slice(), root)
 }
 
 /// The way from the F_BUS of a live branch to its T_BUS without it, or the side of its T_BUS.
 pub fn without(alloc: Global, network: &Network, k: u32) -> Result<Detour, Memory>
-    requires network { IsNetwork network.now }
-    requires live { IsLiveRow network.now k }
+    requires { IsLiveRow network.now k }
     ensures { IfOk result (λ detour. (branch : NetBranch) × IsBranchOf network.now k branch × IsDetour network.now branch detour) }
 {
     let branch = branch_of(network, k);

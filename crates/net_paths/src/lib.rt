@@ -5,6 +5,7 @@ mod connection;
 mod detours;
 mod incidence;
 mod loops_of_tree;
+mod parts;
 mod search;
 mod steps;
 
@@ -12,5 +13,3 @@ pub use connection::{PathStop, connected};
 pub use detours::{Detour, without};
 pub use loops_of_tree::{Loop, Loops, Member, loops};
 
-#[cfg(test)]
-mod tests;

@@ -2,12 +2,13 @@
 
 ghost use Rattle.std.specs.Prelude.{◌≡◌, ℕ, ◌<◌, List, [], ◌∷◌, ◌++◌, length, IfOk, MatchOption, true, map};
 ghost use Rattle.net_case.specs.declared.live_parts.NetBranch.{NetBranch};
-ghost use Rattle.net_case.specs.Networks.{IsNetBranch, IsNetwork};
+ghost use Rattle.net_case.specs.Networks.{IsNetBranch};
 ghost use Rattle.net_paths.specs.Chains.{AreJoined};
 ghost use Rattle.net_paths.specs.Searching.{IsIncidence, HasBranches, IsWayBack};
 ghost use Rattle.net_paths.specs.Loops.{is_lost, kept, members_of, HoldsTree, AreLoops};
 
 use crate::incidence::Incidence;
+use crate::parts::{bus_count, live_branches};
 use crate::search::Search;
 use crate::steps::Step;
 use net_case::{NetBranch, Network};
@@ -105,12 +106,11 @@ fn take_branch(
 /// One loop for each live branch that no tree branch is, the lost one left out. The tree's are,
 /// in row order, those that join two parts not joined by tree branches before them.
 pub fn loops(alloc: Global, network: &Network, lost: Option<u32>) -> Result<Loops, Memory>
-    requires { IsNetwork network.now }
     ensures { IfOk result (AreLoops (kept lost network.now.branches)) }
 {
-    let mut tree = Incidence::new(alloc, network.buses.len())?;
+    let mut tree = Incidence::new(alloc, bus_count(network))?;
     let mut loops = List::new(alloc);
-    for branch in network.branches.slice() {
+    for branch in live_branches(network) {
         if !is_lost(lost, branch) {
             take_branch(alloc, &mut tree, &mut loops, *branch)?;
         }

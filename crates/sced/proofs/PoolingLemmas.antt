@@ -12,7 +12,8 @@ use Rattle.net_case.specs.NetworkReading.{network_of, unit_list_of}
 use Rattle.offer_book.specs.OfferTable.{blocks_of_table}
 use Rattle.case_text.specs.declared.CaseFault.{CaseFault}
 use Rattle.net_case.specs.declared.live_parts.NetFault.{NetFault}
-use Rattle.net_case.specs.declared.live_parts.Network.{Network}
+use Rattle.net_case.specs.Networks.{LiveNetwork}
+use Rattle.net_case.specs.declared.live_parts.Branches.TheVariants as branches
 use Rattle.offer_book.specs.declared.offer_table.OfferFault.{OfferFault}
 use Rattle.sced.specs.declared.status.Status.{Status}
 use Rattle.sced.specs.Runs.{AsksNothing}
@@ -42,11 +43,11 @@ module _ (case offers : List ℕ) where
     plain-fault f is = rw (sized-short refusal.CaseTooLong case short, is) refl
 
     module _ (plain : CaseMatrices) (plain-is : case_of case ≡ Ok plain) where
-      pub network-fault : (f : NetFault) → network_of plain ≡ Err f → pool_market case offers ≡ Err (refusal.Network f)
+      pub network-fault : (f : NetFault) → network_of branches.Skip plain ≡ Err f → pool_market case offers ≡ Err (refusal.Network f)
       unfolding pool_market
       network-fault f is = rw (sized-short refusal.CaseTooLong case short, plain-is, is) refl
 
-      module _ (network : Network) (network-is : network_of plain ≡ Ok network) where
+      module _ (network : LiveNetwork) (network-is : network_of branches.Skip plain ≡ Ok network) where
         pub offers-long : 33554432 < length offers → pool_market case offers ≡ Err refusal.OffersTooLong
         unfolding pool_market
         offers-long long = rw (sized-short refusal.CaseTooLong case short, plain-is, network-is, sized-long refusal.OffersTooLong offers long) refl

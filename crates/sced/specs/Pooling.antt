@@ -14,6 +14,7 @@ use Rattle.market_model.specs.Outcomes.{IsRightOutcome}
 use Rattle.market_model.specs.Reports.{report_text}
 use Rattle.merit_order.specs.Clearing.{IsPlainPrice}
 use Rattle.case_text.specs.Cases.{case_of}
+use Rattle.net_case.specs.declared.live_parts.Branches.TheVariants as branches
 use Rattle.net_case.specs.NetworkReading.{network_of, unit_list_of}
 use Rattle.offer_book.specs.OfferTable.{blocks_of_table}
 use Rattle.sced.specs.Refusals.{refusal_line}
@@ -42,7 +43,7 @@ unfoldable pub pool_market : List ℕ → List ℕ → Result Parts Refusal
 pool_market case offers =
     and_then (sized refusal.CaseTooLong case) (λ text.
     and_then (refused_as refusal.Case (case_of text)) (λ plain.
-    and_then (refused_as refusal.Network (network_of plain)) (λ network.
+    and_then (refused_as refusal.Network (network_of branches.Skip plain)) (λ network.
     and_then (sized refusal.OffersTooLong offers) (λ table.
     and_then (refused_as refusal.Offers (blocks_of_table (unit_list_of network) table)) (λ blocks.
     Ok (record { buses = network.buses; units = (unit_list_of network).units; blocks = blocks }))))))

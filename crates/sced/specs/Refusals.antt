@@ -45,6 +45,7 @@ net_words (net_fault.TooMany f count) = codes "TooMany " ++ field_name f ++ code
 net_words (net_fault.Cell f row col w) = codes "Cell " ++ field_name f ++ codes " row " ++ decimal row ++ codes " col " ++ decimal col ++ codes " " ++ why_name w
 net_words (net_fault.BusTwice row) = codes "BusTwice row " ++ decimal row
 net_words (net_fault.NoBus f row) = codes "NoBus " ++ field_name f ++ codes " row " ++ decimal row
+net_words (net_fault.SameEnds row) = codes "SameEnds row " ++ decimal row
 net_words net_fault.NoReference = codes "NoReference"
 net_words (net_fault.MinAboveMax unit) = codes "MinAboveMax " ++ codes "unit " ++ decimal unit
 net_words net_fault.Memory = []

@@ -138,6 +138,7 @@ fn write_net_fault(text: &mut Text, fault: NetFault) -> Result<(), Memory>
         }
         NetFault::BusTwice { row } => numbered(text, b"BusTwice row ", row),
         NetFault::NoBus { field, row } => write_rows(text, b"NoBus ", field, b" row ", row),
+        NetFault::SameEnds { row } => numbered(text, b"SameEnds row ", row),
         NetFault::NoReference => text.word(b"NoReference"),
         NetFault::MinAboveMax { unit } => {
             text.word(b"MinAboveMax ")?;

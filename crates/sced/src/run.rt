@@ -19,7 +19,7 @@ use case_text::{CaseFault, read_case};
 use exact_fraction::{Exact, Frac};
 use market_model::{Market, Memory, Outcome as Clearing, Parts, assemble};
 use merit_order::{ClearFault, clear};
-use net_case::{NetFault, network};
+use net_case::{Branches, NetFault, network};
 use offer_book::{OfferFault, blocks};
 use outside_store::{ReadStop, Sink, Store};
 use report_text::report;
@@ -104,14 +104,14 @@ fn market(alloc: Global, case: &[u8], offers: &[u8]) -> Result<Market, Stop>
         return Err(Stop::Refused(Refusal::CaseTooLong));
     }
     let raw = read_case(alloc, case)?;
-    let network = network(alloc, &raw)?;
+    let network = network(alloc, &raw, Branches::Skip)?;
     let units = network.unit_list(alloc)?;
     if offers.len() > MOST_BYTES {
         return Err(Stop::Refused(Refusal::OffersTooLong));
     }
     let blocks = blocks(alloc, &units, offers)?;
     let parts = Parts {
-        buses: network.buses,
+        buses: network.into_buses(),
         units: units.units,
         blocks,
     };

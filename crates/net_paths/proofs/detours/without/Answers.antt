@@ -13,14 +13,11 @@ use Rattle.net_paths.proofs.WayLemmas.{joined_visited, not_none, nowhere}
 use Rattle.net_paths.proofs.detours.without.Goals as goal
 
 pub search_without-requires : goal.search_without-requires
-search_without-requires c = record {
-  network = c.requires.network;
-  root = (All-contains (IsNetBranch (length c.args.network.now.buses)) c.args.network.now.branches c.branch_of-branch.result c.requires.network.branches c.branch_of-branch.ensures.live).to;
-}
+search_without-requires c = (All-contains (IsNetBranch (length c.args.network.now.buses)) c.args.network.now.branches c.branch_of-branch.result c.branch_of-branch.ensures.ends c.branch_of-branch.ensures.is.live).to
 
 pub visit_of-requires : goal.visit_of-requires
 visit_of-requires c =
-    let ends = All-contains (IsNetBranch (length c.args.network.now.buses)) c.args.network.now.branches c.branch_of-branch.result c.requires.network.branches c.branch_of-branch.ensures.live in
+    let ends = All-contains (IsNetBranch (length c.args.network.now.buses)) c.args.network.now.branches c.branch_of-branch.result c.branch_of-branch.ensures.ends c.branch_of-branch.ensures.is.live in
     omega (arith, ends.from, c.in_ok-search.ensures.visits.room)
 
 pub way_back-requires-clause-visits : goal.way_back-requires-clause-visits
@@ -46,7 +43,7 @@ returns-in-Some c =
       lead = subst (λ (p : ℕ). Lead steps p branch.to) (at.1 nowhere) way.lead;
       rows_are = c.in_ok-rows-in-Some.ensures ∙ ap (map (λ (s : Step). s.branch.row)) c.slice.ensures;
     } in
-    (branch, c.branch_of-branch.ensures, subst (λ (k : ℕ). IsPath (others k network.branches) branch.from branch.to rows) (sym c.branch_of-branch.ensures.row_is) path)
+    (branch, c.branch_of-branch.ensures.is, subst (λ (k : ℕ). IsPath (others k network.branches) branch.from branch.to rows) (sym c.branch_of-branch.ensures.is.row_is) path)
 
 pub visited_numbers-requires : goal.visited_numbers-requires
 visited_numbers-requires c = c.in_ok-search.ensures.visits.room
@@ -62,10 +59,10 @@ returns c =
     let whole = c.in_ok-search.ensures in
     let apart : ¬ AreJoined bs branch.from branch.to = λ h. not_none (visit_at search.seen.items branch.from) (sym c.visit_of.ensures ∙ c.in-None.is)
     (joined_visited bs n branch.to search.visits search.seen.items whole.visits whole.closed branch.from (joined_sym bs branch.from branch.to h)) in
-    let ends : All (IsNetBranch n) bs = All-filter (λ (b : NetBranch). not (b.row == c.args.k)) (IsNetBranch n) network.branches c.requires.network.branches in
+    let ends : All (IsNetBranch n) bs = All-filter (λ (b : NetBranch). not (b.row == c.args.k)) (IsNetBranch n) network.branches c.branch_of-branch.ensures.ends in
     let side : IsSide network bs branch.to numbers = side_is network bs branch.to search numbers whole ends c.in_ok-numbers-in-None.ensures in (
       branch,
-      c.branch_of-branch.ensures,
+      c.branch_of-branch.ensures.is,
       subst (λ (k : ℕ). (¬ AreJoined (others k network.branches) branch.from branch.to) × IsSide network (others k network.branches) branch.to numbers)
-          (sym c.branch_of-branch.ensures.row_is) (apart, side),
+          (sym c.branch_of-branch.ensures.is.row_is) (apart, side),
     )

@@ -13,12 +13,12 @@ loop-branch-init c =
     let n = length c.args.network.now.buses in
     let lists = c.in_ok-tree.tree.lists.items in
     subst (HoldsTree (kept c.args.lost []) n lists) (sym c.new-loops.ensures)
-    (tree-none c.args.lost n lists (subst (λ (m : ℕ). IsIncidence [] m lists) c.len.ensures c.in_ok-tree.ensures))
+    (tree-none c.args.lost n lists (subst (λ (m : ℕ). IsIncidence [] m lists) c.bus_count.ensures c.in_ok-tree.ensures))
 
 pub loop-branch-preserved : goal.loop-branch-preserved
 loop-branch-preserved c =
     let n = length c.args.network.now.buses in
-    let items = c.slice-branch-items.result.now in
+    let items = c.live_branches-branch-items.result.now in
     let i = c.loop-branch.branch-index in
     let K = kept c.args.lost (take i items) in
     let b : NetBranch = get_or items i (record { row = 0; from = 0; to = 0; base = None; post = None; shifted = false }) in
