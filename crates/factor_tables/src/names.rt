@@ -14,7 +14,7 @@ pub(crate) fn is_used(amount: i64) -> bool
 }
 
 /// Whether a branch row has this number.
-pub(crate) fn is_row(network: &Network, number: i64) -> bool
+pub fn is_row(network: &Network, number: i64) -> bool
     ensures range { result ≡ true → (pos 1 ≤ℤ number) × (number ≤ℤ pos network.now.branch_rows) }
     ensures network { IsNetwork network.now }
     ensures is { result ≡ is_row network.now number }
@@ -24,7 +24,7 @@ pub(crate) fn is_row(network: &Network, number: i64) -> bool
 }
 
 /// Whether a live branch has this number.
-pub(crate) fn is_live_branch(network: &Network, number: i64) -> bool
+pub fn is_live_branch(network: &Network, number: i64) -> bool
     ensures { result ≡ is_live_branch network.now number }
 {
     network.branch_place(number).is_some()

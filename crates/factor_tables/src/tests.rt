@@ -1,0 +1,246 @@
+use crate::{TableFault, Uncovered, cover, offsets, outage, outage_rows, shift};
+use case_text::read_case;
+use net_case::{Branches, Network, PostRating, Why, network};
+use scaled_decimal::DecimalFault;
+use std::alloc::Global;
+use std::test::Fail;
+
+/// Three live buses and an isolated one. Branch 2 shifts phases and has a base limit, branch 3 a limit after an outage, and branch 4
+/// is out of service.
+const CASE: &[u8] = b"function mpc = t
+mpc.version = '2';
+mpc.baseMVA = 100;
+mpc.bus = [
+1 3 0 0 0 0 1 1 0 230 1 1.1 0.9;
+2 1 0 0 0 0 1 1 0 230 1 1.1 0.9;
+3 1 60 0 0 0 1 1 0 230 1 1.1 0.9;
+4 4 0 0 0 0 1 1 0 230 1 1.1 0.9;
+];
+mpc.gen = [
+1 0 0 0 0 1 100 1 100 0;
+2 0 0 0 0 1 100 1 100 0;
+];
+mpc.branch = [
+1 2 0 0.2 0 0 0 0 0 0 1 -360 360;
+1 3 0 0.1 0 40 0 0 0 3 1 -360 360;
+2 3 0 0.1 0 0 0 45 0 0 1 -360 360;
+1 2 0 0.2 0 0 0 0 0 3 0 -360 360;
+];
+";
+
+const SHIFT: &[u8] = b"branch,bus,factor
+1,2,-0.5
+2,2,-0.5
+3,2,0.5
+1,3,-0.25
+2,3,-0.75
+3,3,-0.25
+";
+
+const LOSS: &[u8] = b"branch,outage,factor
+2,1,1
+3,1,-1
+1,2,1
+3,2,1
+1,3,-1
+2,3,1
+";
+
+fn three_buses(alloc: Global) -> Result<Network, Fail> {
+    let case = read_case(alloc, CASE)?;
+    Ok(network(alloc, &case, Branches::Read(PostRating::C))?)
+}
+
+fn with_line(alloc: Global, text: &[u8], line: &[u8]) -> Result<Vec<u8>, Fail> {
+    let mut bytes = Vec::new(alloc);
+    bytes.extend_from_slice(text)?;
+    bytes.extend_from_slice(line)?;
+    Ok(bytes)
+}
+
+fn shift_fault(alloc: Global, network: &Network, bytes: &[u8]) -> Result<(), TableFault> {
+    shift(alloc, network, bytes)?;
+    Ok(())
+}
+
+#[test]
+fn shift_tables(rt: HostRuntime) -> Result<(), Fail> {
+    let network = three_buses(rt.alloc())?;
+    for (line, want) in [
+        (b"".as_slice(), Ok(())),
+        (b"2,3,0\n", Err(TableFault::Twice { line: 8 })),
+        (b"1,2\n", Err(TableFault::Width { line: 8 })),
+        (b"9,2,0.1\n", Err(TableFault::NoBranch { line: 8 })),
+        (b"0,2,0\n", Err(TableFault::NoBranch { line: 8 })),
+        (b"1,9,0\n", Err(TableFault::NoBus { line: 8 })),
+        (
+            b"1,2,1000.000001\n",
+            Err(TableFault::Cell {
+                line: 8,
+                col: 3,
+                why: Why::Bounds,
+            }),
+        ),
+        (b"1,1,-1000\n", Ok(())),
+        (
+            b"1.5,x,0\n",
+            Err(TableFault::Cell {
+                line: 8,
+                col: 1,
+                why: Why::Decimal(DecimalFault::TooFine),
+            }),
+        ),
+        // Of what is out of service, a factor of 0 is accepted and others are not.
+        (b"4,1,0\n4,4,0\n1,4,0\n", Ok(())),
+        (b"4,1,0\n4,1,0\n", Err(TableFault::Twice { line: 9 })),
+        (b"4,1,0.1\n", Err(TableFault::DeadBranch { line: 8 })),
+        (b"4,4,0.1\n", Err(TableFault::DeadBranch { line: 8 })),
+        (b"1,4,0.1\n", Err(TableFault::DeadBus { line: 8 })),
+        // Quotes, the other line ends, and a blank line at the end.
+        (b"\"1\",\"1\",\"0.5\"\r\n2,1,1\r3,1,1\n\n", Ok(())),
+    ] {
+        let bytes = with_line(rt.alloc(), SHIFT, line)?;
+        assert_eq!(rt;
+            shift_fault(rt.alloc(), &network, bytes.as_slice()),
+            want,
+            "{line:?}"
+        );
+    }
+    Ok(())
+}
+
+#[test]
+fn factors(rt: HostRuntime) -> Result<(), Fail> {
+    let network = three_buses(rt.alloc())?;
+    let bytes = with_line(rt.alloc(), SHIFT, b"4,1,0\n")?;
+    let shift = shift(rt.alloc(), &network, bytes.as_slice())?;
+    assert_eq!(rt; shift.factor(2, 3), -750_000);
+    assert_eq!(rt; shift.factor(3, 2), 500_000);
+    assert_eq!(rt; shift.factor(2, 1), 0);
+    assert!(rt; shift.has(1) && shift.has(4) && !shift.has(5));
+    let loss = outage(
+        rt.alloc(),
+        &network,
+        b"\xEF\xBB\xBFbranch,outage,factor\n3,1,-1\n2,4,0\n",
+    )?;
+    assert_eq!(rt; loss.factor(3, 1), -1_000_000);
+    assert_eq!(rt; loss.factor(1, 3), 0);
+    assert!(rt; loss.has(1) && loss.has(4) && !loss.has(3));
+    Ok(())
+}
+
+fn loss_fault(alloc: Global, network: &Network, bytes: &[u8]) -> Result<(), TableFault> {
+    outage(alloc, network, bytes)?;
+    Ok(())
+}
+
+#[test]
+fn outage_tables(rt: HostRuntime) -> Result<(), Fail> {
+    let network = three_buses(rt.alloc())?;
+    for (line, want) in [
+        (b"".as_slice(), Ok(())),
+        (b"1,5,0\n", Err(TableFault::NoBranch { line: 8 })),
+        (b"1,4,1\n", Err(TableFault::DeadBranch { line: 8 })),
+        (b"4,1,1\n", Err(TableFault::DeadBranch { line: 8 })),
+        (b"3,1,-1\n", Err(TableFault::Twice { line: 8 })),
+    ] {
+        let bytes = with_line(rt.alloc(), LOSS, line)?;
+        assert_eq!(rt;
+            loss_fault(rt.alloc(), &network, bytes.as_slice()),
+            want,
+            "{line:?}"
+        );
+    }
+    assert_eq!(rt;
+        loss_fault(rt.alloc(), &network, SHIFT),
+        Err(TableFault::Header)
+    );
+    Ok(())
+}
+
+fn offset_of(
+    alloc: Global,
+    network: &Network,
+    bytes: &[u8],
+    branch: u32,
+) -> Result<Option<i64>, TableFault> {
+    let offsets = offsets(alloc, network, bytes)?;
+    Ok(offsets.offset(branch))
+}
+
+#[test]
+fn offset_tables(rt: HostRuntime) -> Result<(), Fail> {
+    let network = three_buses(rt.alloc())?;
+    for (bytes, branch, want) in [
+        (b"branch,mw\n2,10\n".as_slice(), 2, Ok(Some(10_000_000_000))),
+        (b"branch,mw\n2,10\n", 1, Ok(None)),
+        (b"branch,mw\n4,0\n2,-0.5\n", 2, Ok(Some(-500_000_000))),
+        (b"branch,mw\n", 2, Err(TableFault::NoOffset { branch: 2 })),
+        (
+            b"branch,mw\n1,10\n",
+            2,
+            Err(TableFault::NoOffset { branch: 2 }),
+        ),
+        (
+            b"branch,mw\n2,10\n2,10\n",
+            2,
+            Err(TableFault::Twice { line: 3 }),
+        ),
+        (
+            b"branch,mw\n4,1\n",
+            2,
+            Err(TableFault::DeadBranch { line: 2 }),
+        ),
+        (
+            b"branch,mw\n5,0\n",
+            2,
+            Err(TableFault::NoBranch { line: 2 }),
+        ),
+    ] {
+        assert_eq!(rt;
+            offset_of(rt.alloc(), &network, bytes, branch),
+            want,
+            "{bytes:?}"
+        );
+    }
+    Ok(())
+}
+
+#[test]
+fn outages(rt: HostRuntime) -> Result<(), Fail> {
+    let rows = outage_rows(rt.alloc(), b"branch\n1\n-5\n1e0\n")?;
+    assert_eq!(rt; rows.slice(), [1, -5, 1].as_slice());
+    Ok(())
+}
+
+#[test]
+fn covers(rt: HostRuntime) -> Result<(), Fail> {
+    let network = three_buses(rt.alloc())?;
+    let full = shift(rt.alloc(), &network, SHIFT)?;
+    let none = shift(rt.alloc(), &network, b"branch,bus,factor\n")?;
+    let base = shift(rt.alloc(), &network, b"branch,bus,factor\n2,1,0\n")?;
+    let lost = shift(rt.alloc(), &network, b"branch,bus,factor\n2,1,0\n1,1,0\n")?;
+    let loss = outage(rt.alloc(), &network, LOSS)?;
+    let no_loss = outage(rt.alloc(), &network, b"branch,outage,factor\n")?;
+    // Branch 2 has a base limit.
+    assert_eq!(rt;
+        cover(&network, &none, &no_loss, &[]),
+        Err(Uncovered::NoShift { branch: 2 })
+    );
+    assert_eq!(rt; cover(&network, &base, &no_loss, &[]), Ok(()));
+    // Branch 1 is listed, and branch 3 has a limit after an outage.
+    assert_eq!(rt;
+        cover(&network, &base, &loss, &[1]),
+        Err(Uncovered::NoShift { branch: 1 })
+    );
+    assert_eq!(rt;
+        cover(&network, &lost, &loss, &[1]),
+        Err(Uncovered::NoShift { branch: 3 })
+    );
+    assert_eq!(rt;
+        cover(&network, &full, &no_loss, &[1]),
+        Err(Uncovered::NoLoss { branch: 1 })
+    );
+    assert_eq!(rt; cover(&network, &full, &loss, &[3, 1]), Ok(()));
+    Ok(())
+}
