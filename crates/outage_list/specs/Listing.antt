@@ -24,11 +24,11 @@ pub record AreOutages (network : LiveNetwork) (rows : List ℕ) : Type 0 where
   pub distinct : AllPairs (λ a b. a ≢ b) rows
 
 -- a branch that islands the network, with the buses that stay joined to its T_BUS
-pub record IsIsland (network : LiveNetwork) (row : ℕ) (side : List ℕ) : Type 0 where
+pub record IsIsland (network : LiveNetwork) (row : ℕ) (numbers : List ℕ) : Type 0 where
   pub branch : NetBranch
   pub live : IsBranchOf network row branch
   pub islands : IslandsNetwork network branch
-  pub side : IsSide network (others branch.row network.branches) branch.to side
+  pub side : IsSide network (others branch.row network.branches) branch.to numbers
 
 -- the fault of a number on a line, behind outages that are listed; memory may be refused at any
 abbrev pub IsFaultOf : LiveNetwork → List ℕ → ℤ → ℕ → OutageFault → Type 0

@@ -1,0 +1,78 @@
+use crate::{OutageFault, listed};
+use case_text::read_case;
+use factor_tables::outage_rows;
+use net_case::{Branches, Network, PostRating, network};
+use std::alloc::Global;
+use std::process::Abort;
+use std::test::Fail;
+
+/// Buses 1, 2, 3 in a line and 4 in a triangle with 1 and 2; branch 5 is out of service.
+const CASE: &[u8] = b"function mpc = line
+mpc.version = '2';
+mpc.baseMVA = 100;
+mpc.bus = [
+1 3 0 0 0 0 1 1 0 230 1 1.1 0.9;
+2 1 0 0 0 0 1 1 0 230 1 1.1 0.9;
+3 1 60 0 0 0 1 1 0 230 1 1.1 0.9;
+4 1 0 0 0 0 1 1 0 230 1 1.1 0.9;
+];
+mpc.gen = [
+1 0 0 0 0 1 100 1 100 0;
+];
+mpc.branch = [
+1 2 0 0.2 0 0 0 0 0 0 1 -360 360;
+2 3 0 0.1 0 0 0 0 0 0 1 -360 360;
+2 4 0 0.1 0 0 0 0 0 0 1 -360 360;
+4 1 0 0.1 0 0 0 0 0 0 1 -360 360;
+2 3 0 0.1 0 0 0 0 0 0 0 -360 360;
+];
+";
+
+fn four_buses(alloc: Global) -> Result<Network, Fail> {
+    let case = read_case(alloc, CASE)?;
+    Ok(network(alloc, &case, Branches::Read(PostRating::C))?)
+}
+
+#[test]
+fn lists_outages(rt: HostRuntime) -> Result<(), Fail> {
+    let network = four_buses(rt.alloc())?;
+    let rows = outage_rows(rt.alloc(), b"branch\n4\n1\n3\n")?;
+    let outages = listed(rt.alloc(), &network, &rows)?;
+    assert_eq!(rt; outages.slice(), [4, 1, 3].as_slice());
+    Ok(())
+}
+
+#[test]
+fn tells_islands(rt: HostRuntime) -> Result<(), Fail> {
+    let network = four_buses(rt.alloc())?;
+    let rows = outage_rows(rt.alloc(), b"branch\n1\n2\n2\n")?;
+    match listed(rt.alloc(), &network, &rows) {
+        Err(OutageFault::Islands { branch, side }) => {
+            assert_eq!(rt; branch, 2);
+            assert_eq!(rt; side.slice(), [3].as_slice());
+        }
+        _ => assert!(rt; false),
+    }
+    Ok(())
+}
+
+#[test]
+fn tells_numbers_at_fault(rt: HostRuntime) -> Result<(), Fail> {
+    let network = four_buses(rt.alloc())?;
+    for (text, want) in [
+        (b"branch\n1\n6\n5\n".as_slice(), "NoBranch { line: 3 }"),
+        (b"branch\n0\n", "NoBranch { line: 2 }"),
+        (b"branch\n5\n", "DeadBranch { line: 2 }"),
+        (b"branch\n1\n3\n1\n2\n", "Twice { line: 4 }"),
+    ] {
+        let rows = outage_rows(rt.alloc(), text)?;
+        match listed(rt.alloc(), &network, &rows) {
+            Err(fault) => {
+                let told = format!(in rt.alloc(); "{fault:?}")?;
+                assert_eq!(rt; told.as_str(), want);
+            }
+            Ok(_) => assert!(rt; false),
+        }
+    }
+    Ok(())
+}
