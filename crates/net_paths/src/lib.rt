@@ -13,3 +13,5 @@ pub use connection::{PathStop, connected};
 pub use detours::{Detour, without};
 pub use loops_of_tree::{Loop, Loops, Member, loops};
 
+#[cfg(test)]
+mod tests;
