@@ -1,4 +1,4 @@
 pub mod DecidedLemmas
 pub mod PoolingLemmas
 pub mod RefusalLemmas
-pub mod SixWords
+pub mod WordsLemmas

@@ -2,7 +2,7 @@
 use Rattle.std.proofs.Common.{◌≡◌, ◌≤◌, ◌<◌, ℕ, List, length, take, Bool, true, false, Result, Ok, Err, Option, Some, None, refl, sym, subst, ◌∙◌, ap, arith}
 use Rattle.std.proofs.lemmas.Bool.{le-ltb, lt-ltb, ltb-true, ltb-false}
 use Rattle.std.proofs.lemmas.List.{take_all, length-take-le}
-use Rattle.std.specs.Prelude.{nat_lt, codes, IfOk, MatchResult}
+use Rattle.std.specs.Prelude.{nat_lt, IfOk, MatchResult}
 use Rattle.outside_store.specs.Files.{Files, SameFiles, Reads}
 use Rattle.market_model.specs.declared.participants.Block.{Block}
 use Rattle.market_model.specs.declared.participants.UnitList.{UnitList}
@@ -16,11 +16,9 @@ use Rattle.net_case.specs.Networks.{LiveNetwork}
 use Rattle.net_case.specs.declared.live_parts.Branches.TheVariants as branches
 use Rattle.offer_book.specs.declared.offer_table.OfferFault.{OfferFault}
 use Rattle.sced.specs.declared.status.Status.{Status}
-use Rattle.sced.specs.Runs.{AsksNothing}
-use Rattle.sced.specs.Words.{AsksPool}
 use Rattle.sced.specs.declared.refusals.Refusal.{Refusal}
 use Rattle.sced.specs.declared.refusals.Refusal.TheVariants as refusal
-use Rattle.sced.specs.Pooling.{most_file, sized, pool_market, ComesTo, PoolsTo, FilesPoolTo, AnswersTo}
+use Rattle.sced.specs.Pooling.{most_file, sized, pool_market, ComesTo, PoolsTo, FilesPoolTo}
 
 -- ---- whether a file is too long
 pub sized-short : (file : Refusal) (bytes : List ℕ) → length bytes ≤ 33554432 → sized file bytes ≡ Ok bytes
@@ -101,24 +99,6 @@ files-pool (Some f) None case offers case_read offers_read s text same first sec
 files-pool (Some f) (Some h) case offers case_read offers_read s text same (whole, at, cut) (whole', at', cut') right =
     let is : pool_market case_read offers_read ≡ pool_market whole whole' = rw (cut, cut') (pool_market-cut whole whole') in
     (whole, whole', at, sym (same offers) ∙ at', subst (λ m. ComesTo m s text) is right)
-
--- ---- the words
-pub asks-once : (words : List (List ℕ)) (case offers case' offers' : List ℕ) → AsksPool words case offers → AsksPool words case' offers' → (case ≡ case') × (offers ≡ offers')
-asks-once words case offers case' offers' (program, is) (program', is') = (cc (is, is'), cc (is, is'))
-
-pub answers-pool : (files : Option Files) (words : List (List ℕ)) (case offers : List ℕ) (s : Status) (text : List ℕ) → AsksPool words case offers
-    → FilesPoolTo files case offers s text → AnswersTo files words s text
-answers-pool files words case offers s text asks right = record {
-  pooled = λ case' offers' asks'. let same = asks-once words case offers case' offers' asks asks' in
-      subst (λ o. FilesPoolTo files case' o s text) same.1 (subst (λ c. FilesPoolTo files c offers s text) same.0 right);
-  refused = λ nothing. absurd (nothing case offers asks);
-}
-
-pub answers-refused : (files : Option Files) (words : List (List ℕ)) (s : Status) (text : List ℕ) → AsksNothing words → text ≡ codes "refused words\n" → AnswersTo files words s text
-answers-refused files words s text nothing is = record {
-  pooled = λ case offers asks. absurd (nothing case offers asks);
-  refused = λ _. is;
-}
 
 -- ---- outcomes
 -- what is right for an outcome is right for it once it is told

@@ -1,5 +1,5 @@
 -- What the bytes of a case and of offers stand for, and the text that is right for them.
-use Rattle.std.specs.Prelude.{◌≡◌, ℕ, nat_lt, List, length, codes, Option, Some, None, Result, Ok, Err, if◌then◌else◌, ◌-◌, ◌^◌}
+use Rattle.std.specs.Prelude.{◌≡◌, ◌⊎◌, ℕ, nat_lt, List, length, Option, Some, None, Result, Ok, Err, if◌then◌else◌, ◌-◌, ◌^◌}
 use Rattle.fraction_theory.specs.Fraction.{Fraction}
 use Rattle.csv_table.specs.Table.{and_then}
 use Rattle.outside_store.specs.Files.{Files}
@@ -18,8 +18,7 @@ use Rattle.net_case.specs.declared.live_parts.Branches.TheVariants as branches
 use Rattle.net_case.specs.NetworkReading.{network_of, unit_list_of}
 use Rattle.offer_book.specs.OfferTable.{blocks_of_table}
 use Rattle.sced.specs.Refusals.{refusal_line}
-use Rattle.sced.specs.Runs.{AsksNothing}
-use Rattle.sced.specs.Words.{AsksPool}
+use Rattle.sced.specs.Words.{AsksNothing, AsksPool}
 use Rattle.sced.specs.declared.refusals.Refusal.{Refusal}
 use Rattle.sced.specs.declared.refusals.Refusal.TheVariants as refusal
 use Rattle.sced.specs.declared.status.Status.{Status}
@@ -84,10 +83,10 @@ abbrev pub FilesPoolTo : Option Files → List ℕ → List ℕ → Status → L
 FilesPoolTo None case offers s text = Unit {0}
 FilesPoolTo (Some files) case offers s text = (case_bytes offers_bytes : List ℕ) × (files case ≡ Some case_bytes) × (files offers ≡ Some offers_bytes) × PoolsTo case_bytes offers_bytes s text
 
--- the status and the text are right for the files that the words name, and refuse words that name none
-pub record AnswersTo (files : Option Files) (words : List (List ℕ)) (s : Status) (text : List ℕ) : Type 0 where
-  pub pooled : (case offers : List ℕ) → AsksPool words case offers → FilesPoolTo files case offers s text
-  pub refused : AsksNothing words → text ≡ codes "refused words\n"
+-- the words are refused, or the status and the text are right for the files that they name
+abbrev pub AnswersTo : Option Files → List (List ℕ) → Status → List ℕ → Type 0
+AnswersTo files words s text =
+    (AsksNothing words × (s ≡ status.Usage)) ⊎ ((case : List ℕ) × (offers : List ℕ) × AsksPool words case offers × FilesPoolTo files case offers s text)
 
 -- Where the files that the words name stand for a market of which no working pair passes the bound, the status says whether a
 -- dispatch of it is feasible.

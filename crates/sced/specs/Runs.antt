@@ -5,10 +5,6 @@ use Rattle.sced.specs.Words.{AsksPool}
 use Rattle.sced.specs.declared.status.Status.{Status}
 use Rattle.sced.specs.declared.status.Status.TheVariants as status
 
--- the words are none that the program takes
-abbrev pub AsksNothing : List (List ℕ) → Type 0
-AsksNothing words = (case offers : List ℕ) → ¬ AsksPool words case offers
-
 -- a status that comes with no text
 abbrev pub IsSilent : Status → Type 0
 IsSilent s = (s ≡ status.ReadFailed) ⊎ (s ≡ status.Memory)

@@ -1,6 +1,7 @@
 //! `sced`: clears the market of one interval of an electricity network.
 #![tactic(auto)]
 
+mod command;
 pub mod refusals;
 pub mod run;
 pub mod status;

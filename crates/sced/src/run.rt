@@ -10,11 +10,12 @@ ghost use Rattle.market_model.specs.Outcomes.{IsRightOutcome};
 ghost use Rattle.market_model.specs.Valued.{outcome_at};
 ghost use Rattle.sced.specs.Pooling.{most_file, pool_market, status_of, HasPlainPrice, ClearsTo, PoolsTo, FilesPoolTo, AnswersTo, IsDecidedOf};
 ghost use Rattle.sced.specs.Refusals.{refusal_line};
-ghost use Rattle.sced.specs.Runs.{AsksNothing, IsSilent, IsTold, IsOfFiles, NamedReadFailed};
+ghost use Rattle.sced.specs.Runs.{IsSilent, IsTold, IsOfFiles, NamedReadFailed};
+ghost use Rattle.sced.specs.Words.{AsksNothing};
 
 use crate::refusals::{Refusal, refusal_text};
 use crate::status::Status;
-use crate::words::{PoolFiles, pool_files};
+use crate::words::{PoolFiles, WordsStop, pool_files};
 use case_text::{CaseFault, read_case};
 use exact_fraction::{Exact, Frac};
 use market_model::{Market, Memory, Outcome as Clearing, Parts, assemble};
@@ -123,16 +124,6 @@ fn market(alloc: Global, case: &[u8], offers: &[u8]) -> Result<Market, Stop>
 struct Outcome {
     status: Status,
     text: Vec<u8>,
-}
-
-/// A line of its own, with a status.
-fn line(alloc: Global, status: Status, words: &[u8]) -> Result<Outcome, Memory>
-    ensures { IfOk result (λ outcome. (outcome.status ≡ status) × (outcome.text.items ≡ words.now)) }
-{
-    match Vec::from_slice(alloc, words) {
-        Ok(text) => Ok(Outcome { status, text }),
-        Err(_) => Err(Memory),
-    }
 }
 
 /// What a market is cleared to.
@@ -269,9 +260,13 @@ fn asked_outcome<S: Store>(
     ensures reads { ¬ (result ≡ Err Status.ReadFailed) → Still (S.failed_reads store.old) (S.failed_reads store.new) }
     ensures writes { Still (S.failed_writes store.old) (S.failed_writes store.new) }
 {
-    match pool_files(words) {
-        None => told(line(alloc, Status::Usage, b"refused words\n")),
-        Some(files) => pool_outcome(alloc, &files, store),
+    match pool_files(alloc, words) {
+        Ok(files) => pool_outcome(alloc, &files, store),
+        Err(WordsStop::Usage(text)) => Ok(Outcome {
+            status: Status::Usage,
+            text: text.into_bytes(),
+        }),
+        Err(WordsStop::Memory) => Err(Status::Memory),
     }
 }
 

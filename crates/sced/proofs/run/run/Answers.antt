@@ -5,8 +5,8 @@ use Rattle.sced.proofs.DecidedLemmas.{answers-decided}
 use Rattle.sced.proofs.run.run.Goals as goal
 
 pub returns-in-Ok-clause-usage : goal.returns-in-Ok-clause-usage
-returns-in-Ok-clause-usage g c = λ usage case offers asks. elim c.put.ensures.status [
-  | inl same ↦ c.in-Ok.ensures.usage (sym same ∙ usage) case offers asks
+returns-in-Ok-clause-usage g c = λ usage. elim c.put.ensures.status [
+  | inl same ↦ c.in-Ok.ensures.usage (sym same ∙ usage)
   | inr failed ↦ cc
 ]
 

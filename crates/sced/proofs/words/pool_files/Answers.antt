@@ -1,17 +1,35 @@
-use Rattle.std.proofs.Common.{◌≡◌, arith, length, rules, get_or}
-use Rattle.std.specs.Prelude.{string_bytes, codes}
-use Rattle.sced.proofs.SixWords.{six_words}
+use Rattle.std.proofs.Common.{◌≡◌, ◌∙◌, sym, ap, Some, option_map, true, List}
+use Rattle.clap.specs.Words.{App, Row, Text, app_of, found_of, rows_of, subcommand_name_of, subcommand_rows_of}
+use Rattle.clap.specs.declared.builder.command.Command.TheViews.{out-Command}
+use Rattle.clap.proofs.CallerLemmas.{subcommand_required}
+use Rattle.sced.proofs.WordsLemmas.{both_of, entered_by, is_free, is_needed, is_plain, refused_by, taken_by}
 use Rattle.sced.proofs.words.pool_files.Goals as goal
 
-pub returns : goal.returns
-returns c =
-    let six : length c.args.words.now ≡ 6 = omega arith in
-    let command : string_bytes c.index-words-1.result ≡ codes "pool" = search rules in
-    let case_option : string_bytes c.index-words-2.result ≡ codes "--case" = search rules in
-    let offers_option : string_bytes c.index-words-4.result ≡ codes "--offers" = search rules in (
-      string_bytes (get_or c.args.words.now 0 c.index-words-1.result),
-      six_words string_bytes c.args.words.now c.index-words-1.result c.index-words-2.result c.index-words-3.result c.index-words-4.result c.index-words-5.result
-          (codes "pool") (codes "--case") c.as_str.result.now (codes "--offers") c.as_str-2.result.now six
-          c.index-words-1.is c.index-words-2.is c.index-words-3.is c.index-words-4.is c.index-words-5.is
-          command case_option c.as_str.ensures.value offers_option c.as_str-2.ensures.value,
-    )
+pub unwrap-requires : goal.unwrap-requires
+unwrap-requires c =
+    let m = c.in-Ok-try_get_matches_from.matches in
+    let needs : (out-Command c.in-Ok.command).subcommand_required ≡ true = ap (λ (a : App). a.top.subcommand_required) (c.in-Ok.ensures).app ∙ is_needed in
+    c.subcommand.ensures.variant ∙ subcommand_required c.in-Ok.command m (c.in-Ok-try_get_matches_from.ensures).parsed (c.in-Ok.ensures).local needs
+
+pub returns-in-Ok-try_get_matches_from-clause-asked : goal.returns-in-Ok-try_get_matches_from-clause-asked
+returns-in-Ok-try_get_matches_from-clause-asked c =
+    let same = (c.in-Ok.ensures).app in
+    let m = c.in-Ok-try_get_matches_from.matches in
+    let name : Some c.unwrap.result.0.now ≡ subcommand_name_of m = rw c.unwrap.ensures at c.subcommand.ensures.name in
+    let rows : Some (rows_of (found_of c.unwrap.result.1.now)) ≡ option_map (λ (p : Text × List Row). p.1) (subcommand_rows_of m) = rw c.unwrap.ensures at c.subcommand.ensures.rows in
+    let found = ((c.in-Ok-try_get_matches_from.ensures).matches (is_plain _ same)).1 in
+    record {
+      taken = taken_by c.try_get_matches_from.result c.in-Ok-try_get_matches_from.matches (app_of c.in-Ok.command) _ c.in-Ok-try_get_matches_from.is same
+          (c.try_get_matches_from.ensures.kinds (is_free _ same));
+      name = c.unwrap.result.0.now;
+      rows = rows_of (found_of c.unwrap.result.1.now);
+      entered = sym (entered_by (app_of c.in-Ok.command) _ same) ∙ sym found ∙ both_of m c.unwrap.result.0.now (rows_of (found_of c.unwrap.result.1.now)) name rows;
+      case_is = c.files_of.ensures.case;
+      offers_is = c.files_of.ensures.offers;
+    }
+
+pub returns-in-Ok-to_string-clause-refused : goal.returns-in-Ok-to_string-clause-refused
+returns-in-Ok-to_string-clause-refused c =
+    let same = (c.in-Ok.ensures).app in
+    λ _. refused_by c.try_get_matches_from.result c.in-Err-try_get_matches_from.error (app_of c.in-Ok.command) _ c.in-Err-try_get_matches_from.is
+    (λ k. c.in_default.not-OutOfMemory (c.kind.ensures ∙ k)) same (c.try_get_matches_from.ensures.kinds (is_free _ same))
