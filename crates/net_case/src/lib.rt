@@ -14,6 +14,3 @@ pub use live_parts::{
     Branches, NetBranch, NetBus, NetFault, NetUnit, Network, PostRating, Why, push_some,
 };
 pub use network_reading::network;
-
-#[cfg(test)]
-mod tests;

@@ -17,3 +17,9 @@ returns-in_ok-word-in-MinAboveMax c =
     (λ _ e. e ∙ ap (λ t. (t ++ codes "unit ") ++ decimal c.in-MinAboveMax.unit) c.in_ok-word-in-MinAboveMax.ensures
     ∙ four c.args.text.now (codes "MinAboveMax ") (codes "unit ") (decimal c.in-MinAboveMax.unit) ∙ ap (λ f. c.args.text.now ++ net_words f) (sym c.in-MinAboveMax.is))
     c.numbered-in-MinAboveMax.ensures
+
+pub returns-in-SameEnds : goal.returns-in-SameEnds
+unfolding net_words
+returns-in-SameEnds c =
+    IfOk-weaker c.numbered-in-SameEnds.result _ _
+    (λ _ e. e ∙ append_assoc c.args.text.now (codes "SameEnds row ") (decimal c.in-SameEnds.row) ∙ ap (λ f. c.args.text.now ++ net_words f) (sym c.in-SameEnds.is)) c.numbered-in-SameEnds.ensures
