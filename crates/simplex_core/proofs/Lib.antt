@@ -2,6 +2,7 @@ pub mod Helping
 pub mod MoveLemmas
 pub mod Nexts
 pub mod NoteLaws
+pub mod Pairs
 pub mod PoseLemmas
 pub mod PutLemmas
 pub mod Ranks
