@@ -20,6 +20,10 @@ use Rattle.fraction_theory.proofs.SumLaws.{total-Product}
 use Rattle.fraction_theory.proofs.FieldLaws.{ring_ℚ}
 use Rattle.linear_dict.specs.Adding.{AreSums, row_term, AreWithin, IsInTable, IsPutAmong}
 use Rattle.exact_fraction.specs.declared.Op.{Op}
+use Rattle.exact_fraction.specs.Passes.{Passes}
+use Rattle.linear_system.specs.Pairs.{IsSystemPair}
+use Rattle.std.specs.List.{range_with_len}
+use Rattle.std.proofs.lemmas.List.FromFn.{get_or-map-range_with_len, length-map-range_with_len}
 use Rattle.exact_fraction.specs.declared.Op.TheVariants.{Plus, Times}
 use Rattle.linear_dict.specs.Causes.{AddOperation, RowOperation, TermOperation, MultipleOperation, multiply, increase, of_basic, of_other, of_variable, scaling_entry, adding_term, put_number, put_terms}
 use Rattle.linear_dict.proofs.MovedLemmas.{name_at}
@@ -33,9 +37,9 @@ use Rattle.linear_dict.specs.Places.{place_in, is_among, StandsAt}
 use Rattle.linear_dict.specs.Tables.{cell}
 use Rattle.linear_dict.proofs.AddingLemmas.{term_of_row, term_of_basic, term_of_other}
 use Rattle.linear_dict.proofs.GrowLemmas.{index_added, got_below}
-use Rattle.linear_dict.proofs.IndexLemmas.{map-insert}
+use Rattle.linear_dict.proofs.IndexLemmas.{belongs, map-insert}
 use Rattle.linear_dict.proofs.NameLemmas.{place_in-at, place_in-within, among-tells, among-not, lt_or_le}
-use Rattle.linear_dict.proofs.RowLemmas.{grown_dictionary, grown_entries}
+use Rattle.linear_dict.proofs.RowLemmas.{added_pair, grown, grown_dictionary, grown_entries}
 use Rattle.linear_dict.proofs.SplitLemmas.{Contains-at, basic_in, other_in}
 
 -- a dictionary as it is seen and as it is are one
@@ -354,3 +358,36 @@ module _ {N : Type 0} (value : N → Fraction) (columns rows : List ℕ) (coeffi
       (subst (λ (b : List ℕ). P (rows ++ row ∷ []) b cs ts) (sym eb)
       (subst (λ (x : List N). P (rows ++ row ∷ []) (basics ++ row ∷ []) x ts) (sym ec)
       (subst (λ (y : List N). P (rows ++ row ∷ []) (basics ++ row ∷ []) (coefficients ++ entries) y) (sym et) add_row_in_code)))
+
+-- Whatever the numbers of the type can hold, a row can be put in; what is refused in doing so is a working pair with it.
+pub row_pair : {N : Type 0} (value : N → Fraction) (d : Dictionary) → IsDictionary d → d.spent ≡ false → (row : ℕ) → ¬ (Contains d.names row) → (entries : List N) → length entries ≡ length d.columns
+    → (bound : ℕ) (op : Op) (x y : Fraction) → AddOperation d (map value entries) op x y → Passes bound op x y
+    → (new : Dictionary) × AddsRow value d row entries new × IsSystemPair (system_of new) bound op x y
+unfolding note_of
+row_pair value d h live row absent entries count bound op x y asked passes =
+    let es : List Fraction = map value entries in
+    let b = belongs d.names row h.ascending absent in
+    let entry : ℕ → Fraction = λ k. sum_by (λ j. get_or es (place_in d.columns j) (whole (pos 0)) *ℚ column_entry (choice_of d) j (slice_index d.others k)) (system_of d).columns in
+    let n : ℕ = length d.others in
+    let fresh : List Fraction = map entry (range_with_len 0 n) in
+    let notes : List Noted = insert d.notes b.0 blank in
+    let ec : length es ≡ length d.columns = length-map entries value ∙ count in
+    let fc : length fresh ≡ n = length-map-range_with_len entry 0 n in
+    let nc : length notes ≡ length d.names + 1 = length-insert d.notes b.0 blank (Prim.omega (arith, b.1, h.note_count)) ∙ ap (λ (k : ℕ). k + 1) h.note_count in
+    let sums : (k : ℕ) → k < length d.others → get_or fresh k (whole (pos 0)) ≡ entry k = λ k l. get_or-map-range_with_len entry 0 n k k (whole (pos 0)) l (Prim.omega arith) in (
+      grown d h live row b.0 absent b.1 b.2 es fresh notes ec fc nc,
+      record {
+        live = refl;
+        columns = refl;
+        rows = refl;
+        coefficients = refl;
+        others = refl;
+        basics = refl;
+        table = take-append_seam d.table fresh;
+        row_entries = grown_entries d h live row b.0 absent b.1 b.2 es fresh notes ec fc nc sums;
+        notes = λ w m. insert_read d.names d.notes b.0 row blank w b.2 b.1 h.note_count m;
+        blank_note = insert_read_new d.names d.notes b.0 row blank b.2 b.1 h.note_count;
+        sound = grown_dictionary d h live row b.0 absent b.1 b.2 es fresh notes ec fc nc sums;
+      },
+      added_pair d h live row b.0 absent b.1 b.2 es fresh notes ec fc nc sums bound op x y asked passes,
+    )

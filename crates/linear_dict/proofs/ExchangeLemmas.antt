@@ -8,12 +8,18 @@ use Rattle.fraction_theory.specs.Fraction.{Fraction, whole, ◌+ℚ◌, ◌*ℚ�
 use Rattle.fraction_theory.proofs.Ring.{by_ring, at, pnil, padd}
 use Rattle.fraction_theory.proofs.FieldLaws.{ring_ℚ}
 use Rattle.fraction_theory.proofs.ListSums.{same_or_not, put_at-here, put_at-elsewhere}
-use Rattle.linear_system.specs.Choices.{Choice, IsChoice, basics, others}
+use Rattle.exact_fraction.specs.declared.Op.{Op}
+use Rattle.exact_fraction.specs.declared.Op.TheVariants.{Plus, Times}
+use Rattle.exact_fraction.specs.Passes.{Passes}
+use Rattle.linear_system.specs.Choices.{Choice, IsChoice, OneExchange, basics, others}
+use Rattle.linear_system.specs.Numbers.{Kind, Factor, SystemNumber, is_entry, is_opposite}
+use Rattle.linear_system.specs.Pairs.{IsPairCase, IsSystemPair, OfEither, alone, plain, scaled, added, scaled_right}
 use Rattle.linear_system.specs.Exchanges.{exchanged, entering_entry}
 use Rattle.linear_system.specs.Systems.{System}
-use Rattle.linear_system.proofs.ChoiceLaws.{same_choice, others_are, basics_are}
-use Rattle.linear_system.proofs.ExchangeLaws.{exchanged_is}
+use Rattle.linear_system.proofs.ChoiceLaws.{same_choice, others_are, basics_are, is_basic, is_other}
+use Rattle.linear_system.proofs.ExchangeLaws.{exchanged_is, exchanged_once}
 use Rattle.fraction_theory.proofs.ListSums.{Distinct-increasing}
+use Rattle.linear_dict.specs.Causes.{PivotOperation, solving, scaling, adding}
 use Rattle.linear_dict.specs.Dictionaries.{Dictionary, IsDictionary, system_of, choice_of, entry_of, note_of, pivoted}
 use Rattle.linear_dict.specs.Places.{IsSplit}
 use Rattle.linear_dict.specs.Places.{place_in, is_among}
@@ -204,3 +210,101 @@ module _ (d : Dictionary) (h : IsDictionary d) (r c : ℕ) (hr : r < length d.ba
         split = new_split;
         solutions = λ _. subst (λ z. IsChoice z (choice_of (pivoted d r c))) (sym same_system) (same_choice s (Distinct-increasing d.names h.ascending) (exchanged (choice_of d) (slice_index d.basics r) (slice_index d.others c)) (choice_of (pivoted d r c)) same_basic entries after);
       }
+
+  -- the choice after the exchange, and the numbers of the two
+  near : Choice
+  near = exchanged old a b
+
+  Number : Kind → Fraction → Type 0
+  Number = OfEither (SystemNumber (system_of d)) old near
+
+  opposite : (x : Fraction) → Number Factor x → Number Factor (neg_ℚ x)
+  unfolding Number
+  opposite x (inl n) = inl (is_opposite Factor x n)
+  opposite x (inr n) = inr (is_opposite Factor x n)
+
+  -- an entry of the old table is one of the old choice
+  entry_here : (i j : ℕ) → i < length d.basics → j < length d.others → Number Factor (f i j)
+  unfolding Number old
+  entry_here i j hi hj =
+      let x : ℕ = slice_index d.basics i in
+      let w : ℕ = slice_index d.others j in
+      inl (subst (SystemNumber (system_of d) (choice_of d) Factor) (old_entry x w i j (place_in-at d.basics i x h.split.first_distinct hi refl) (place_in-at d.others j w h.split.second_distinct hj refl))
+      (is_entry x w (basic_in d h x (Contains-at d.basics i hi)) (other_in d h w (Contains-at d.others j hj))))
+
+  once : OneExchange (system_of d) (choice_of d) (exchanged (choice_of d) (slice_index d.basics r) (slice_index d.others c)) (slice_index d.basics r) (slice_index d.others c)
+  unfolding a b
+  once = exchanged_once (system_of d) (system_is d h) (choice_of d) (slice_index d.basics r) (slice_index d.others c)
+      (basic_in d h (slice_index d.basics r) a_in) (other_in d h (slice_index d.others c) b_in)
+
+  near_entry : (w : ℕ) → (exchanged old a b).entry b w ≡ entering_entry old a b w
+  unfolding exchanged
+  near_entry w = put_at-here b (entering_entry old a b w) (λ y. (if w == a then whole (pos 0) else old.entry y w) +ℚ old.entry y b *ℚ entering_entry old a b w) b refl
+
+  -- an entry of b after the exchange
+  entry_near : (w j : ℕ) → Contains (others (system_of d) (exchanged old a b)) w → (w ≡ a) × (j ≡ c) ⊎ ((w ≢ a) × (j ≢ c) × (place_in d.others w ≡ j)) → Number Factor (pivoted_row f r c j)
+  unfolding Number near old a b
+  entry_near w j cw way =
+      let x : ℕ = slice_index d.basics r in
+      let y : ℕ = slice_index d.others c in
+      let k : Choice = exchanged (choice_of d) x y in
+      let is : k.entry y w ≡ pivoted_row f r c j = near_entry w ∙ solved_entry w j way in
+      inr (subst (SystemNumber (system_of d) k Factor) is (is_entry y w (is_basic (system_of d) k y once.entering once.enters.1) cw))
+
+  -- an entry of the solved row is one of the choice after the exchange
+  entry_solved : (j : ℕ) → j < length d.others → Number Factor (pivoted_row f r c j)
+  unfolding old a b system_of choice_of
+  entry_solved j hj =
+      let x : ℕ = slice_index d.basics r in
+      let y : ℕ = slice_index d.others c in
+      let w : ℕ = slice_index d.others j in
+      let k : Choice = exchanged (choice_of d) x y in
+      let m : Contains d.others w = Contains-at d.others j hj in
+      let s : System = system_of d in
+      elim (same_or_not j c) [
+        | inl e ↦ entry_near x j (is_other s k x once.leaving once.leaves.1) (inl (refl, e))
+        | inr n ↦
+            let at : place_in d.others w ≡ j = place_in-at d.others j w h.split.second_distinct hj refl in
+            let not_x : w ≢ x = λ e. no_a (subst (Contains d.others) e m) in
+            let not_y : w ≢ y = λ e. n (sym at ∙ ap (place_in d.others) e ∙ b_at) in
+            let named : Contains d.names w = h.split.second_named w m in
+            let stays : k.basic w ≡ false = sym (once.stays w named not_x not_y) ∙ among-not d.basics w (λ q. h.split.apart w q m) in
+            entry_near w j (is_other s k w named stays) (inr (not_x, n, at))
+      ]
+
+  pair_case : (op : Op) (x y : Fraction) → PivotOperation (length d.basics) (length d.others) f r c op x y → IsPairCase Number op x y
+  pair_case _ _ _ (solving j hj n) = scaled_right Factor _ _ (opposite _ (entry_here r j hr hj)) (alone _ (subst (Number Factor) (row-itself f r c c refl) (entry_solved c hc)))
+  pair_case _ _ _ (scaling i j hi n hj) = scaled_right Factor _ _ (entry_here i c hi hc) (alone _ (entry_solved j hj))
+  pair_case _ _ _ (adding i j hi n hj m) = added Factor _ _ (plain _ (alone _ (entry_here i j hi hj))) (scaled _ _ (entry_here i c hi hc) (alone _ (entry_solved j hj)))
+
+  -- A refused operation of a pivot is a working pair of the system: of the choice in hand and the one after the exchange.
+  pub pivot_pair : (bound : ℕ) → d.spent ≡ false → cell (length d.others) d.table r c ≢ whole (pos 0) → (op : Op) (x y : Fraction)
+      → PivotOperation (length d.basics) (length d.others) (cell (length d.others) d.table) r c op x y → Passes bound op x y → IsSystemPair (system_of d) bound op x y
+  unfolding f a b old near Number
+  pivot_pair bound live not_nil op x y asked passes =
+      let s : System = system_of d in
+      let v : ℕ = slice_index d.basics r in
+      let k : ℕ = slice_index d.others c in
+      let pivot : (choice_of d).entry v k ≢ whole (pos 0) = λ e. not_nil (sym (old_entry v k r c a_at b_at) ∙ e) in record {
+        passes = passes;
+        one = choice_of d;
+        near = exchanged (choice_of d) v k;
+        is_choice = h.solutions live;
+        near_is_choice = exchanged_is s (system_is d h) (choice_of d) v k (h.solutions live) (basic_in d h v a_in) (other_in d h k b_in) pivot;
+        are_near = inr (v, k, once);
+        sides = pair_case op x y asked;
+      }
+
+-- after a refusal the dictionary is one, whatever its table is
+pub spent_dictionary : (d : Dictionary) (table : List Fraction) → IsDictionary d → length table ≡ length d.table → IsDictionary (record d { table = table; spent = true })
+spent_dictionary d table h e = record {
+  row_count = h.row_count;
+  column_count = h.column_count;
+  coefficient_count = h.coefficient_count;
+  table_count = e ∙ h.table_count;
+  note_count = h.note_count;
+  ascending = h.ascending;
+  put_in = h.put_in;
+  split = h.split;
+  solutions = λ wrong. absurd cc;
+}

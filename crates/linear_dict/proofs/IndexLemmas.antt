@@ -9,6 +9,7 @@ use Rattle.std.proofs.lemmas.Bool.{cases_order}
 use Rattle.std.proofs.lemmas.List.Edits.{get_or-insert_at, get_or-insert_above, get_or-insert_below, length-insert}
 use Rattle.std.proofs.lemmas.Option.{slice_get-get_or, get_or_from_slice_get}
 use Rattle.std.proofs.lemmas.Grind.{get_or_default_zero}
+use Rattle.std.proofs.lemmas.List.Kept.{AllPairs-from_increasing}
 use Rattle.std.proofs.Math.Seq.{map-set_same}
 use Rattle.fraction_theory.proofs.ListSums.{same_or_not}
 use mathlib.Core.Path.{ap₂}
@@ -19,7 +20,7 @@ use Rattle.linear_dict.specs.Notes.{Noted, noted, blank}
 use Rattle.linear_dict.specs.declared.index.Variable.{Variable}
 use Rattle.linear_dict.specs.Indexes.{name_of, AddsVariable, IsIndex}
 use Rattle.linear_dict.specs.Places.{place_in, StandsAt}
-use Rattle.linear_dict.proofs.NameLemmas.{found, place_in-within}
+use Rattle.linear_dict.proofs.NameLemmas.{found, lt_or_le, place_in-within}
 
 pub slice_get-set_other : {X : Type 0} (xs : List X) (i j : ℕ) (x : X) → j ≢ i → slice_get (slice_set xs i x) j ≡ slice_get xs j
 slice_get-set_other [] i j x n = refl
@@ -159,3 +160,45 @@ adds_here {N} vs v i rises within low high = record {
 -- another name than those of the variables
 pub absent_not_found : {N : Type 0} (vs : List (Variable N)) (x i : ℕ) → ¬ (Contains (map name_of vs) x) → (i < length (map name_of vs)) → slice_index (map name_of vs) i ≡ x → ⊥
 absent_not_found vs x i absent h e = absent (i, h, get_or_default_zero (map name_of vs) i x h ∙ e)
+
+-- the first number of the first n that is not below x
+scan : (xs : List ℕ) (x : ℕ) → IsStrictlyIncreasing xs → (n : ℕ) → n ≤ length xs
+    → (i : ℕ) × (i ≤ n) × ((k : ℕ) → k < i → slice_index xs k < x) × ((k : ℕ) → i ≤ k → k < n → x ≤ slice_index xs k)
+scan xs x rises zero h = (0, Prim.omega arith, (λ k l. absurd (Prim.omega (arith, l))), (λ k a b. absurd (Prim.omega (arith, b))))
+scan xs x rises (suc n) h =
+    let p = scan xs x rises n (Prim.omega (arith, h)) in
+    elim (lt_or_le (slice_index xs n) x) [
+      | inl l ↦ (
+        suc n,
+        Prim.omega arith,
+        (λ k a. elim (cases_order k n) [
+          | inl e ↦ subst (λ (t : ℕ). slice_index xs t < x) (sym e) l
+          | inr w ↦ elim w [
+            | inl b ↦ Prim.omega (arith, AllPairs-from_increasing xs rises k n 0 b h, l)
+            | inr b ↦ absurd (Prim.omega (arith, a, b))
+          ]
+        ]),
+        (λ k a b. absurd (Prim.omega (arith, a, b))),
+      )
+      | inr g ↦ (
+        p.0,
+        Prim.omega (arith, p.1),
+        p.2,
+        (λ k a b. elim (cases_order k n) [
+          | inl e ↦ subst (λ (t : ℕ). x ≤ slice_index xs t) (sym e) g
+          | inr w ↦ elim w [ inl l ↦ p.3 k a l | inr l ↦ absurd (Prim.omega (arith, b, l)) ]
+        ]),
+      )
+    ]
+
+-- where a new name belongs among others
+pub belongs : (xs : List ℕ) (x : ℕ) → IsStrictlyIncreasing xs → ¬ (Contains xs x) → (i : ℕ) × (i ≤ length xs) × IsStrictlyIncreasing (insert xs i x)
+belongs xs x rises absent =
+    let p = scan xs x rises (length xs) (Prim.omega arith) in
+    (p.0, p.1, rises-insert xs p.0 x rises p.1 p.2 (λ k a b. above k b (p.3 k a b)))
+  where
+    above : (k : ℕ) → k < length xs → x ≤ slice_index xs k → x < slice_index xs k
+    above k b l = elim (cases_order x (slice_index xs k)) [
+      | inl e ↦ absurd (absent (k, b, get_or_default_zero xs k x b ∙ sym e))
+      | inr w ↦ elim w [ inl m ↦ m | inr m ↦ absurd (Prim.omega (arith, l, m)) ]
+    ]

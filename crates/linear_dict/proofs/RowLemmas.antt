@@ -1,5 +1,5 @@
 -- A dictionary after one more row.
-use Rattle.std.specs.Prelude.{◌≡◌, ◌≢◌, ℕ, ◌+◌, ◌*◌, ◌<◌, ◌≤◌, Bool, false, not, cond, pos, List, [], ◌∷◌, ◌++◌, length, filter, insert, take, drop, slice_index}
+use Rattle.std.specs.Prelude.{◌≡◌, ◌≢◌, ℕ, ◌+◌, ◌*◌, ◌<◌, ◌≤◌, Bool, true, false, not, cond, pos, List, [], ◌∷◌, ◌++◌, length, filter, insert, map, take, drop, refl, slice_index}
 use Rattle.std.specs.List.{Contains}
 use Rattle.std.specs.List.Sorted.{IsStrictlyIncreasing}
 use Rattle.std.proofs.Common.{arith, ap, sym, ◌∙◌, subst, inl, inr, get_or, length-append}
@@ -8,17 +8,25 @@ use Rattle.std.proofs.lemmas.List.Elements.{filter-append, Contains-append_left,
 use Rattle.std.proofs.lemmas.List.Edits.{length-insert}
 use Rattle.std.proofs.Math.Seq.{get_or-append_seam}
 use Rattle.fraction_theory.specs.Fraction.{Fraction, whole, ◌*ℚ◌}
-use Rattle.fraction_theory.specs.Sums.{sum_by, total}
+use Rattle.fraction_theory.specs.Sums.{sum_by, total, prefix, Product}
+use mathlib.Core.Path.{ap₂}
 use Rattle.fraction_theory.proofs.SumLaws.{total-Product}
-use Rattle.fraction_theory.proofs.ListSums.{Distinct, Distinct-increasing, Contains-filter, Contains-from_filter, filter-members, sum_by-members}
+use Rattle.fraction_theory.proofs.ListSums.{Contains-head, Contains-cons, Distinct, Distinct-increasing, Contains-filter, Contains-from_filter, filter-members, same_or_not, sum_by-members}
+use Rattle.exact_fraction.specs.declared.Op.{Op}
+use Rattle.exact_fraction.specs.declared.Op.TheVariants.{Plus, Times}
+use Rattle.exact_fraction.specs.Passes.{Passes}
+use Rattle.linear_system.specs.Numbers.{Kind, Factor, SystemNumber, is_zero, is_one, is_coefficient, is_entry, is_row_entry}
+use Rattle.linear_system.specs.Pairs.{IsPairCase, IsSystemPair, OfEither, alone, plain, scaled, added, scaled_right}
 use Rattle.linear_system.specs.Choices.{Choice, row_entry_terms, IsChoice, MeetsTable, basics, others, column_entry}
 use Rattle.linear_system.specs.Systems.{System, MeetsRows, activity}
-use Rattle.linear_system.proofs.ChoiceLaws.{is_basic, basics_are, sum_by_others}
+use Rattle.linear_system.proofs.ChoiceLaws.{is_basic, basics_are, sum_by_others, column_entry-basic, column_entry-itself, column_entry-other}
+use Rattle.linear_dict.specs.Causes.{AddOperation, scaling_entry, adding_term, put_number, put_terms}
 use Rattle.linear_dict.specs.Dictionaries.{Dictionary, IsDictionary, system_of, choice_of, entry_of}
 use Rattle.linear_dict.specs.Notes.{Noted}
 use Rattle.linear_dict.specs.Places.{place_in, is_among}
 use Rattle.linear_dict.specs.Tables.{cell}
-use Rattle.linear_dict.proofs.GrowLemmas.{Contains-insert, Contains-inserted, Distinct-push, split_first}
+use Rattle.std.proofs.lemmas.Option.{get_or_from_slice_get}
+use Rattle.linear_dict.proofs.GrowLemmas.{got_below, Contains-insert, Contains-inserted, Distinct-push, split_first}
 use Rattle.linear_dict.proofs.NameLemmas.{place_in-at, place_in-within, among-tells, among-from, among-not}
 use Rattle.linear_dict.proofs.SplitLemmas.{basic_in, in_basics, in_others}
 use Rattle.linear_dict.proofs.TableLemmas.{within}
@@ -37,6 +45,10 @@ place-push_old xs y w d n c =
 
 place-push_new : (xs : List ℕ) (y : ℕ) → Distinct xs → ¬ (Contains xs y) → place_in (xs ++ y ∷ []) y ≡ length xs
 place-push_new xs y d n = place_in-at (xs ++ y ∷ []) (length xs) y (Distinct-push xs y d n) (Prim.omega (arith, length-append xs (y ∷ []))) (get_or-append_seam xs y [] 0)
+
+map-members : {S T : Type 0} (f g : S → T) (xs : List S) → ((x : S) → Contains xs x → f x ≡ g x) → map f xs ≡ map g xs
+map-members f g [] e = refl
+map-members f g (x ∷ xs) e = ap₂ ◌∷◌ (e x (Contains-head x xs)) (map-members f g xs (λ y m. e y (Contains-cons x xs y m)))
 
 -- the cells of a table with one more row
 cell-old : (columns : ℕ) (xs ys : List Fraction) (rows i j : ℕ) → length xs ≡ rows * columns → i < rows → j < columns → cell columns (xs ++ ys) i j ≡ cell columns xs i j
@@ -229,3 +241,93 @@ module _ (d : Dictionary) (h : IsDictionary d) (live : d.spent ≡ false) (row i
         cell-new (length d.others) d.table fresh (length d.basics) k h.table_count ∙ sums k hk
         ∙ sym (new_sum (λ j. column_entry (choice_of d) j w))
         ∙ sym (total-Product ((system_of grown).coefficient row) (λ j. column_entry (choice_of d) j w) (system_of grown).columns)
+
+    -- The later choice has the numbers that adding the row needs.
+    Number : Kind → Fraction → Type 0
+    Number = OfEither (SystemNumber after) later later
+
+    column_named : (j : ℕ) → Contains s.columns j → Contains d.names j
+    unfolding s system_of
+    column_named j k = (Contains-from_filter (is_among d.columns) d.names j k).0
+
+    other_later : (w : ℕ) → Contains (others s c) w → Contains (others after later) w
+    other_later w k = subst (λ (ws : List ℕ). Contains ws w) (sym same_others) k
+
+    row_in : Contains after.rows row
+    unfolding after system_of
+    row_in = Contains-filter (is_among (d.rows ++ row ∷ [])) (insert d.names i row) row (Contains-inserted d.names i row hi) (among-tells (d.rows ++ row ∷ []) row (Contains-push d.rows row))
+
+    coefficient_is : (j : ℕ) → after.coefficient row j ≡ put_number d es j
+    unfolding after system_of put_number
+    coefficient_is j =
+        ap (λ (p : ℕ). cell (length d.columns) (d.coefficients ++ es) p (place_in d.columns j)) (place-push_new d.rows row h.put_in.first_distinct no_row)
+        ∙ cell-new (length d.columns) d.coefficients es (length d.rows) (place_in d.columns j) h.coefficient_count
+
+    row_coefficient : (j : ℕ) → Contains s.columns j → Number Factor (put_number d es j)
+    unfolding Number
+    row_coefficient j k = inl (subst (SystemNumber after later Factor) (coefficient_is j) (is_coefficient row j row_in (subst (λ (ws : List ℕ). Contains ws j) (sym same_columns) k)))
+
+    entry_number : (j w : ℕ) → Contains d.basics j → Contains (others s c) w → Number Factor (c.entry j w)
+    unfolding Number s c
+    entry_number j w m o = inl (subst (SystemNumber after later Factor) (old_entry j w m (in_others d h w o)) (is_entry j w (basic_later j (Contains-append_left d.basics (row ∷ []) j m)) (other_later w o)))
+
+    before_basic : (j : ℕ) → Contains d.basics j → c.basic j ≡ true
+    unfolding c choice_of
+    before_basic j m = among-tells d.basics j m
+
+    before_other : (j : ℕ) → Contains d.others j → c.basic j ≡ false
+    unfolding c choice_of
+    before_other j m = among-not d.basics j (λ q. h.split.apart j q m)
+
+    later_same : (j : ℕ) → Contains d.names j → later.basic j ≡ c.basic j
+    unfolding later c choice_of
+    later_same j k = among_grown j k
+
+    -- the columns' entries stay, and are numbers
+    column_stays : (j w : ℕ) → Contains d.names j → Contains d.others w → column_entry later j w ≡ column_entry c j w
+    column_stays j w k o = elim (h.split.either j k) [
+      | inl m ↦ column_entry-basic later j w (later_same j k ∙ before_basic j m) ∙ old_entry j w m o ∙ sym (column_entry-basic c j w (before_basic j m))
+      | inr m ↦ elim (same_or_not j w) [
+        | inl e ↦ ap (column_entry later j) (sym e) ∙ column_entry-itself later j (later_same j k ∙ before_other j m)
+            ∙ sym (ap (column_entry c j) (sym e) ∙ column_entry-itself c j (before_other j m))
+        | inr n ↦ column_entry-other later j w (later_same j k ∙ before_other j m) n ∙ sym (column_entry-other c j w (before_other j m) n)
+      ]
+    ]
+
+    column_number : (j w : ℕ) → Contains d.names j → Contains (others s c) w → Number Factor (column_entry c j w)
+    unfolding Number
+    column_number j w k o = elim (h.split.either j k) [
+      | inl m ↦ subst (OfEither (SystemNumber after) later later Factor) (sym (column_entry-basic c j w (before_basic j m))) (entry_number j w m o)
+      | inr m ↦ elim (same_or_not j w) [
+        | inl e ↦ inl (subst (SystemNumber after later Factor) (sym (ap (column_entry c j) (sym e) ∙ column_entry-itself c j (before_other j m))) is_one)
+        | inr n ↦ inl (subst (SystemNumber after later Factor) (sym (column_entry-other c j w (before_other j m) n)) is_zero)
+      ]
+    ]
+
+    prefix_stays : (k w : ℕ) → Contains (others s c) w → prefix k (row_entry_terms after later row w) ≡ prefix k (put_terms d es w)
+    unfolding row_entry_terms put_terms s c
+    prefix_stays k w o =
+        ap (λ (js : List ℕ). prefix k (map (λ j. Product (after.coefficient row j) (column_entry later j w)) js)) same_columns
+        ∙ ap (prefix k) (map-members (λ j. Product (after.coefficient row j) (column_entry later j w)) (λ j. Product (put_number d es j) (column_entry (choice_of d) j w)) (system_of d).columns
+        (λ j m. ap₂ Product (coefficient_is j) (column_stays j w (column_named j m) (in_others d h w o))))
+
+    added_case : (op : Op) (x y : Fraction) → AddOperation d es op x y → IsPairCase Number op x y
+    unfolding s c Number
+    added_case _ _ _ (scaling_entry j w cb k o) = scaled_right Factor _ _ (row_coefficient j k) (alone _ (entry_number j w (in_basics d h j cb) o))
+    added_case _ _ _ (adding_term k j w got o) =
+        let m : Contains (system_of d).columns j = (k, got_below (system_of d).columns k j got, get_or_from_slice_get (system_of d).columns k j j got) in
+        added Factor _ _ (plain _ (alone _ (inl (subst (SystemNumber after later Factor) (prefix_stays k w o) (is_row_entry row w k row_in (other_later w o))))))
+        (scaled _ _ (row_coefficient j m) (alone _ (column_number j w (column_named j m) o)))
+
+    -- a refused operation of the row is a working pair of the system with it
+    pub added_pair : (bound : ℕ) (op : Op) (x y : Fraction) → AddOperation d es op x y → Passes bound op x y → IsSystemPair (system_of grown) bound op x y
+    unfolding after later Number
+    added_pair bound op x y asked passes = record {
+      passes = passes;
+      one = choice_of grown;
+      near = choice_of grown;
+      is_choice = grown_choice;
+      near_is_choice = grown_choice;
+      are_near = inl refl;
+      sides = added_case op x y asked;
+    }

@@ -8,12 +8,14 @@ use Rattle.exact_fraction.specs.Passes.{Passes}
 use Rattle.fraction_theory.specs.Fraction.{Fraction, whole, ◌*ℚ◌, neg_ℚ, recip_ℚ}
 use Rattle.fraction_theory.specs.Sums.{sum_by, Term, Product, prefix}
 use Rattle.linear_system.specs.Choices.{basics, others, column_entry}
+use Rattle.linear_system.specs.Pairs.{IsSystemPair}
+use Rattle.linear_system.specs.Systems.{System}
 use Rattle.linear_dict.specs.Adding.{row_term}
 use Rattle.linear_dict.specs.declared.adding.AddStop.{AddStop}
 use Rattle.linear_dict.specs.declared.adding.AddStop.TheVariants.{Passed as StoppedBy, Memory as NoMemory}
 use Rattle.linear_dict.specs.declared.index.Variable.{Variable}
 use Rattle.linear_dict.specs.declared.place.Place.TheVariants.{Row, Column}
-use Rattle.linear_dict.specs.Dictionaries.{Dictionary, system_of, choice_of}
+use Rattle.linear_dict.specs.Dictionaries.{AddsRow, Dictionary, system_of, choice_of}
 use Rattle.linear_dict.specs.Places.{place_in}
 use Rattle.linear_dict.specs.Tables.{cell, pivoted_row}
 
@@ -73,3 +75,11 @@ pub data AddOperation (d : Dictionary) (entries : List Fraction) : Op → Fracti
 abbrev pub OnPassed : {N : Type 0} → AddStop N → (Passed N → Type 0) → Type 0
 OnPassed (StoppedBy e) P = P e
 OnPassed NoMemory P = Unit {0}
+
+-- e is a working pair of the system
+abbrev pub IsPairOf : {N : Type 0} → (N → Fraction) → ℕ → System → Passed N → Type 0
+IsPairOf value bound s e = IsSystemPair s bound e.op (value e.left) (value e.right)
+
+-- The row can be put in, and e is a working pair of the system with it.
+abbrev pub IsPairWith : {N : Type 0} → (N → Fraction) → ℕ → Dictionary → ℕ → List N → Passed N → Type 0
+IsPairWith value bound d row entries e = (new : Dictionary) × AddsRow value d row entries new × IsPairOf value bound (system_of new) e

@@ -2,6 +2,7 @@ pub mod Helping
 pub mod MoveLemmas
 pub mod Nexts
 pub mod NoteLaws
+pub mod Pairs
 pub mod PoseLemmas
 pub mod PutLemmas
 pub mod Ranks
@@ -11,4 +12,5 @@ pub mod SearchLemmas
 pub mod StandLemmas
 pub mod StepLemmas
 pub mod SumLemmas
+pub mod TestLemmas
 pub mod TurnLaws

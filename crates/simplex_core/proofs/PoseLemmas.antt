@@ -8,6 +8,8 @@ use Rattle.fraction_theory.specs.Order.{◌≤ℚ◌, ◌<ℚ◌}
 use Rattle.fraction_theory.specs.Signs.{sign_of}
 use Rattle.linear_system.specs.Systems.{System}
 use Rattle.linear_system.specs.Choices.{Choice, basics, others, at_bound, reduced, value}
+use Rattle.exact_fraction.specs.declared.Passed.{Passed}
+use Rattle.linear_dict.specs.Causes.{IsPairOf}
 use Rattle.linear_dict.specs.Dictionaries.{Dictionary, IsDictionary, system_of, choice_of, note_of}
 use Rattle.linear_dict.specs.Notes.{Noted}
 use Rattle.linear_dict.specs.Places.{place_in}
@@ -17,7 +19,7 @@ use Rattle.simplex_theory.specs.States.{State, IsPosed}
 use Rattle.simplex_theory.proofs.PosedNumbers.{value_other, reduced_basic, posed_by_choice}
 use Rattle.simplex_core.specs.States.{state_of, IsReady}
 use Rattle.simplex_core.specs.Turns.{noted_anew}
-use Rattle.simplex_core.specs.Posings.{HasNotes, IsPosing, column_note, row_note, term_note, price_at, low_at, high_at, asks_high, at_asked, stand_note, value_note}
+use Rattle.simplex_core.specs.Posings.{HasNotes, IsPairPosed, IsPosing, column_note, row_note, term_note, price_at, low_at, high_at, asks_high, at_asked, stand_note, value_note}
 use Rattle.simplex_core.specs.declared.bounds.Bounds.{Bounds}
 use Rattle.simplex_core.proofs.NoteLaws.{named_or_not, note_anew, note_unnamed, system_stays, renoted_dictionary}
 use Rattle.simplex_core.proofs.StandLemmas.{asked_low, asked_high, stand-basic, stand-other, value-basic, value-other, stand-price, stand-low, stand-high, value-price, value-low, value-high, value-reduced, value-flag, choice_stays, reduced_frame}
@@ -194,6 +196,15 @@ module _ (d : Dictionary) (h : IsDictionary d) (live : d.spent ≡ false)
   unfolding done
   stands_high w = high_is w
 
+  -- prices and bounds stay
+  pub stands_system : system_of (noted_anew (noted_anew d (stand_note d)) (value_note (noted_anew d (stand_note d)))) ≡ system_of d
+  unfolding done stood
+  stands_system = done_system ∙ stood_system
+
+  pub stands_first : system_of (noted_anew d (stand_note d)) ≡ system_of d
+  unfolding stood
+  stands_first = stood_system
+
 -- bounds in order by their places
 ordered_at : {N : Type 0} (value : N → Fraction) (xs : List (Bounds N)) → All (λ b. value b.low ≤ℚ value b.high) xs → (k : ℕ) → k < length xs → low_at value xs k ≤ℚ high_at value xs k
 ordered_at value [] h k l = absurd (Prim.omega (arith, l))
@@ -281,3 +292,12 @@ module _ {N : Type 0} (value : N → Fraction) (d : Dictionary) (h : IsDictionar
       pub posing : (g k : Dictionary) → g ≡ noted_anew f (stand_note f) → k ≡ noted_anew g (value_note g) → IsPosing value d prices bounds k
       unfolding end
       posing g k eg ek = subst (IsPosing value d prices bounds) (sym (ek ∙ ap (λ (x : Dictionary). noted_anew x (value_note x)) eg)) posed_so
+
+      -- a working pair on the way is one of the system that would be posed
+      pub posed_pair : (most : ℕ) (p : Passed N) → IsPairOf value most (system_of f) p → IsPairPosed value most d prices bounds p
+      unfolding end
+      posed_pair most p pair = (end, posed_so, subst (λ (s : System). IsPairOf value most s p) (sym (stands_system f put_both put_live put_ordered put_reduced)) pair)
+
+      pub posed_pair_later : (most : ℕ) (p : Passed N) (g : Dictionary) → g ≡ noted_anew f (stand_note f) → IsPairOf value most (system_of g) p → IsPairPosed value most d prices bounds p
+      posed_pair_later most p g eg pair =
+          posed_pair most p (subst (λ (s : System). IsPairOf value most s p) (ap system_of eg ∙ stands_first f put_both put_live put_ordered put_reduced) pair)

@@ -1,11 +1,14 @@
 -- Reduced prices and values as sums over all names, as the code adds them up.
-use Rattle.std.specs.Prelude.{◌≡◌, ◌≢◌, ℕ, ◌+◌, ◌<◌, ◌≤◌, pos, Bool, true, false, not, List, [], ◌∷◌, ◌++◌, length, take, filter, slice_index, if◌then◌else◌, refl}
+use Rattle.std.specs.Prelude.{◌≡◌, ◌≢◌, ℕ, ◌+◌, ◌<◌, ◌≤◌, pos, Bool, true, false, not, List, [], ◌∷◌, ◌++◌, length, map, take, drop, filter, slice_index, if◌then◌else◌, refl}
 use Rattle.std.specs.List.{Contains}
 use Rattle.std.proofs.Common.{arith, ap, sym, ◌∙◌, subst, inl, inr}
 use Rattle.std.proofs.lemmas.List.{take_more, take_all}
 use mathlib.Core.Path.{ap₂}
 use Rattle.fraction_theory.specs.Fraction.{Fraction, whole, ◌+ℚ◌, ◌*ℚ◌}
-use Rattle.fraction_theory.specs.Sums.{sum_by, total}
+use Rattle.fraction_theory.specs.Sums.{sum_by, total, prefix, Term, Product}
+use Rattle.std.proofs.lemmas.List.{take-append-drop, take-map, get_or-take, length-take}
+use Rattle.std.proofs.lemmas.List.Elements.{filter-append}
+use Rattle.std.proofs.Math.Seq.{take-append_seam}
 use Rattle.fraction_theory.proofs.FieldLaws.{ring_ℚ}
 use Rattle.fraction_theory.proofs.Ring.{by_ring, at, pnil, pone, ◌⊕◌, ◌⊗◌}
 use Rattle.fraction_theory.proofs.SumLaws.{sum_by-append, total-Product}
@@ -25,6 +28,24 @@ sum_more f xs k w h e =
 
 pub sum_skip : (f : ℕ → Fraction) (xs : List ℕ) (k w : ℕ) → k < length xs → slice_index xs k ≡ w → f w ≡ whole (pos 0) → sum_by f (take (k + 1) xs) ≡ sum_by f (take k xs)
 sum_skip f xs k w h e nil = sum_more f xs k w h e ∙ ap (λ x. sum_by f (take k xs) +ℚ x) nil ∙ by_ring ring_ℚ (sum_by f (take k xs) ∷ []) (at 0 ⊕ pnil) (at 0) refl
+
+within_take : (k : ℕ) (xs : List ℕ) (x : ℕ) → Contains (take k xs) x → Contains xs x
+within_take k xs x m =
+    let l : m.0 < length xs = Prim.omega (arith, m.1, length-take k xs) in
+    (m.0, l, sym (get_or-take k xs m.0 x (Prim.omega (arith, m.1, length-take k xs))) ∙ m.2)
+
+-- The sum over the first names that a test keeps is the sum of first terms.
+names_prefix : (test : ℕ → Bool) (a b : ℕ → Fraction) (xs : List ℕ) (k : ℕ)
+    → sum_by (λ w. kept (test w) (a w *ℚ b w)) (take k xs) ≡ prefix (length (filter test (take k xs))) (map (λ w. Product (a w) (b w)) (filter test xs))
+names_prefix test a b xs k =
+    let first : List ℕ = filter test (take k xs) in
+    let rest : List ℕ = filter test (drop k xs) in
+    let term : ℕ → Term = λ w. Product (a w) (b w) in
+    let split : filter test xs ≡ first ++ rest = ap (filter test) (sym (take-append-drop k xs)) ∙ filter-append test (take k xs) (drop k xs) in
+    sym (sum_by-filter (λ w. a w *ℚ b w) test (take k xs))
+    ∙ sym (total-Product a b first)
+    ∙ sym (ap total (take-map term (length first) (first ++ rest) ∙ ap (map term) (take-append_seam first rest)))
+    ∙ sym (ap (λ (ys : List ℕ). prefix (length first) (map term ys)) split)
 
 -- what the variable j adds to the reduced price of w
 unfoldable pub price_term : Dictionary → ℕ → ℕ → Fraction
@@ -83,6 +104,25 @@ module _ (d : Dictionary) (h : IsDictionary d) where
       ap (λ (x : Bool). if x then total (value_terms (system_of d) (choice_of d) b) else at_bound (system_of d) (choice_of d) b) (choice_basic b c)
       ∙ total-Product ((choice_of d).entry b) (at_bound (system_of d) (choice_of d)) (others (system_of d) (choice_of d))
       ∙ sum_by-filter (λ w. (choice_of d).entry b w *ℚ at_bound (system_of d) (choice_of d) w) (λ w. not ((choice_of d).basic w)) d.names
+
+  -- a sum so far is that of the first terms
+  pub price_prefix : ((w : ℕ) → Contains d.rows w → (system_of d).price w ≡ whole (pos 0)) → (w : ℕ) → (k : ℕ)
+      → sum_by (price_term d w) (take k d.names) ≡ prefix (length (filter (is_among d.columns) (take k d.names))) (reduced_terms (system_of d) (choice_of d) w)
+  unfolding reduced_terms system_of price_term
+  price_prefix unpriced w k =
+      let term : ℕ → Fraction = λ j. (system_of d).price j *ℚ column_entry (choice_of d) j w in
+      sum_by-members term (λ j. kept (is_among d.columns j) (term j)) (take k d.names)
+      (λ j m. elim (h.put_in.either j (within_take k d.names j m)) [
+        | inr column ↦ sym (ap (λ (b : Bool). kept b (term j)) (among-tells d.columns j column))
+        | inl row ↦ sym (ap (λ (b : Bool). kept b (term j)) (among-not d.columns j (λ q. h.put_in.apart j row q))
+            ∙ by_ring ring_ℚ (column_entry (choice_of d) j w ∷ []) pnil (pnil ⊗ at 0) refl ∙ ap (λ x. x *ℚ column_entry (choice_of d) j w) (sym (unpriced j row)))
+      ])
+      ∙ names_prefix (is_among d.columns) (system_of d).price (λ j. column_entry (choice_of d) j w) d.names k
+
+  pub bound_prefix : (b : ℕ) → (k : ℕ)
+      → sum_by (bound_term d b) (take k d.names) ≡ prefix (length (filter (λ w. not ((choice_of d).basic w)) (take k d.names))) (value_terms (system_of d) (choice_of d) b)
+  unfolding value_terms others system_of bound_term
+  bound_prefix b k = names_prefix (λ w. not ((choice_of d).basic w)) ((choice_of d).entry b) (at_bound (system_of d) (choice_of d)) d.names k
 
 -- the sum over all names, at the end of a loop
 pub sum_all : (f : ℕ → Fraction) (xs : List ℕ) (k : ℕ) → length xs ≤ k → sum_by f (take k xs) ≡ sum_by f xs

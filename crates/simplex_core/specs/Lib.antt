@@ -1,3 +1,4 @@
+pub mod Operations
 pub mod Outcomes
 pub mod Posings
 pub mod Searches

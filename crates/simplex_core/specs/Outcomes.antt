@@ -1,4 +1,6 @@
 -- How a run from a posed dictionary ends.
+use Rattle.fraction_theory.specs.Fraction.{Fraction}
+use Rattle.linear_dict.specs.Causes.{IsPairOf}
 use Rattle.std.specs.Prelude.{◌≡◌, ℕ, ◌<◌, false, Option, Some, None, length, slice_index}
 use Rattle.linear_dict.specs.Dictionaries.{Dictionary, IsDictionary, system_of, choice_of}
 use Rattle.simplex_theory.specs.States.{IsSolved, HasNoPoint, IsOutOfReach}
@@ -26,8 +28,8 @@ abbrev pub IsSettled : Dictionary → Dictionary → Option ℕ → Type 0
 IsSettled d e None = Keeps d e × IsSolved (system_of e) (state_of e)
 IsSettled d e (Some row) = Keeps d e × IsEmptyAt e row
 
--- Solved holds the best values, Empty a row that shows that there are none.
-abbrev pub IsOutcome : {N : Type 0} → Dictionary → Run N → Type 0
-IsOutcome d (Solved e) = Keeps d e × IsSolved (system_of e) (state_of e)
-IsOutcome d (Empty e row) = Keeps d e × IsEmptyAt e row
-IsOutcome d (Passed p) = Unit {0}
+-- Solved holds the best values, Empty a row that shows that there are none, Passed a working pair of the system.
+abbrev pub IsOutcome : {N : Type 0} → (N → Fraction) → ℕ → Dictionary → Run N → Type 0
+IsOutcome value bound d (Solved e) = Keeps d e × IsSolved (system_of e) (state_of e)
+IsOutcome value bound d (Empty e row) = Keeps d e × IsEmptyAt e row
+IsOutcome value bound d (Passed p) = IsPairOf value bound (system_of d) p

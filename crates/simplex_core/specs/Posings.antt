@@ -6,6 +6,8 @@ use Rattle.fraction_theory.specs.Signs.{sign_of}
 use Rattle.fraction_theory.specs.declared.Sign.{Sign}
 use Rattle.fraction_theory.specs.declared.Sign.TheVariants.{Below, Zero, Above}
 use Rattle.linear_system.specs.Choices.{reduced, value}
+use Rattle.exact_fraction.specs.declared.Passed.{Passed}
+use Rattle.linear_dict.specs.Causes.{IsPairOf}
 use Rattle.linear_dict.specs.Dictionaries.{Dictionary, system_of, choice_of, note_of}
 use Rattle.linear_dict.specs.Notes.{Noted}
 use Rattle.simplex_core.specs.States.{IsReady}
@@ -74,3 +76,7 @@ pub record IsPosing {N : Type 0} (value : N → Fraction) (d : Dictionary) (pric
   pub row_low : (k : ℕ) → k < length d.rows → (system_of e).low (slice_index d.rows k) ≡ low_at value bounds (length d.columns + k)
   pub row_high : (k : ℕ) → k < length d.rows → (system_of e).high (slice_index d.rows k) ≡ high_at value bounds (length d.columns + k)
   pub ready : IsReady e
+
+-- These prices and bounds can be posed, and e is a working pair of the system with them.
+abbrev pub IsPairPosed : {N : Type 0} → (N → Fraction) → ℕ → Dictionary → List N → List (Bounds N) → Passed N → Type 0
+IsPairPosed value bound d prices bounds e = (new : Dictionary) × IsPosing value d prices bounds new × IsPairOf value bound (system_of new) e

@@ -1,11 +1,13 @@
 // Which other variable enters: the ratio test.
-ghost use Rattle.std.specs.Prelude.{◌≡◌, ◌<◌, ◌↔◌, IsTrue, IfOk, MatchOption, false, length, slice_index};
+ghost use Rattle.std.specs.Prelude.{◌≡◌, ◌<◌, ◌↔◌, IsTrue, IfErr, IfOk, MatchOption, false, length, slice_index};
 ghost use Rattle.std.specs.List.{Contains};
 ghost use Rattle.fraction_theory.specs.Fraction.{◌*ℚ◌};
 ghost use Rattle.fraction_theory.specs.Order.{◌<ℚ◌};
+ghost use Rattle.linear_dict.specs.Causes.{IsPairOf, IsRefused};
 ghost use Rattle.linear_dict.specs.Dictionaries.{IsDictionary, system_of};
 ghost use Rattle.simplex_theory.specs.Steps.{abs_ℚ, Helps};
-ghost use Rattle.simplex_core.specs.States.{state_of};
+ghost use Rattle.simplex_core.specs.States.{IsReady, state_of};
+ghost use Rattle.simplex_core.specs.Operations.{LesserOperation, RatioOperation};
 ghost use Rattle.simplex_core.specs.Searches.{IsCandidate, IsLesser, IsEntering};
 
 use crate::leave::Leaving;
@@ -72,8 +74,9 @@ fn candidate_at<N: Exact>(
 
 /// Whether the ratio of price to entry of the one is below that of the other, by products.
 fn is_below<N: Exact>(one: &Candidate<N>, other: &Candidate<N>) -> Result<bool, Passed<N>>
-    ensures { IfOk result (λ below. IsTrue below
+    ensures below { IfOk result (λ below. IsTrue below
         ↔ ((N.value one.now.price *ℚ N.value other.now.entry) <ℚ (N.value other.now.price *ℚ N.value one.now.entry))) }
+    ensures cause { IfErr result (IsRefused N.value N.bound (RatioOperation N.value one.now other.now)) }
 {
     let left = other.entry.times(one.price)?;
     let right = one.entry.times(other.price)?;
@@ -88,7 +91,8 @@ fn lesser<N: Exact>(
     best: Option<Candidate<N>>,
     next: Candidate<N>,
 ) -> Result<Candidate<N>, Passed<N>>
-    ensures { IfOk result (IsLesser N.value best next) }
+    ensures lesser { IfOk result (IsLesser N.value best next) }
+    ensures cause { IfErr result (IsRefused N.value N.bound (LesserOperation N.value best next)) }
 {
     match best {
         Some(kept) => {
@@ -110,9 +114,11 @@ pub(crate) fn find_entering<N: Exact>(
 ) -> Result<Option<Candidate<N>>, Passed<N>>
     requires live { dict.now.spent ≡ false }
     requires sound { IsDictionary dict.now }
+    requires ready { IsReady dict.now }
     requires row { leaving.now.row < length dict.now.basics }
     requires leaving { slice_index dict.now.basics leaving.now.row ≡ leaving.now.name }
-    ensures { IfOk result (IsEntering dict.now leaving.now.name leaving.now.above) }
+    ensures found { IfOk result (IsEntering dict.now leaving.now.name leaving.now.above) }
+    ensures pair { IfErr result (IsPairOf N.value N.bound (system_of dict.now)) }
 {
     let mut best = None;
     for rank in 0..dict.name_count() {

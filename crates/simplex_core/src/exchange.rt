@@ -1,9 +1,12 @@
 // A step: the leaving and the entering variable change places, and the notes move by the new table.
-ghost use Rattle.std.specs.Prelude.{◌≡◌, ◌≢◌, ◌<◌, IfOk, if◌then◌else◌, false, length, slice_index, pos};
+ghost use Rattle.std.specs.Prelude.{◌≡◌, ◌≢◌, ◌<◌, IfErr, IfOk, if◌then◌else◌, false, length, slice_index, pos};
 ghost use Rattle.std.specs.List.{Contains};
 ghost use Rattle.fraction_theory.specs.Fraction.{whole};
-ghost use Rattle.linear_dict.specs.Dictionaries.{IsDictionary, entry_of};
+ghost use Rattle.linear_dict.specs.Causes.{IsPairOf, IsRefused};
+ghost use Rattle.linear_dict.specs.Dictionaries.{IsDictionary, entry_of, system_of};
 ghost use Rattle.linear_dict.specs.Notes.{noted};
+ghost use Rattle.simplex_core.specs.Operations.{MoveOperation, MovesOperation};
+ghost use Rattle.simplex_core.specs.States.{IsReady};
 ghost use Rattle.simplex_core.specs.Turns.{moved_note, noted_anew, turned};
 
 use crate::enter::Candidate;
@@ -37,8 +40,10 @@ fn note_after<N: Exact>(dict: &Dict<N>, name: u32, step: &Move<N>) -> Result<Not
     requires entering { slice_index dict.now.basics step.now.row ≡ step.now.entering }
     requires column { step.now.column < length dict.now.others }
     requires leaving { slice_index dict.now.others step.now.column ≡ step.now.leaving }
-    ensures { IfOk result (λ note. noted N.value note ≡ moved_note dict.now step.now.leaving step.now.entering step.now.above
+    ensures note { IfOk result (λ note. noted N.value note ≡ moved_note dict.now step.now.leaving step.now.entering step.now.above
         (N.value step.now.bound) (N.value step.now.displacement) (N.value step.now.price) name) }
+    ensures cause { IfErr result (IsRefused N.value N.bound
+        (MoveOperation dict.now step.now.leaving step.now.entering (N.value step.now.displacement) (N.value step.now.price) name)) }
 {
     let note = dict.note(name);
     match dict.place(name) {
@@ -79,8 +84,10 @@ fn move_notes<N: Exact>(dict: &mut Dict<N>, step: &Move<N>) -> Result<(), Passed
     requires entering { slice_index dict.old.basics step.now.row ≡ step.now.entering }
     requires column { step.now.column < length dict.old.others }
     requires leaving { slice_index dict.old.others step.now.column ≡ step.now.leaving }
-    ensures { IfOk result (λ _. dict.new ≡ noted_anew dict.old (moved_note dict.old step.now.leaving step.now.entering step.now.above
+    ensures notes { IfOk result (λ _. dict.new ≡ noted_anew dict.old (moved_note dict.old step.now.leaving step.now.entering step.now.above
         (N.value step.now.bound) (N.value step.now.displacement) (N.value step.now.price))) }
+    ensures cause { IfErr result (IsRefused N.value N.bound
+        (MovesOperation dict.old step.now.leaving step.now.entering (N.value step.now.displacement) (N.value step.now.price))) }
 {
     for rank in 0..dict.name_count() {
         let name = dict.ranked(rank);
@@ -105,12 +112,14 @@ pub(crate) fn step<N: Exact>(
 ) -> Result<(), Passed<N>>
     requires live { dict.old.spent ≡ false }
     requires sound { IsDictionary dict.old }
+    requires ready { IsReady dict.old }
     requires row { leaving.now.row < length dict.old.basics }
     requires leaving { slice_index dict.old.basics leaving.now.row ≡ leaving.now.name }
     requires column { entering.now.column < length dict.old.others }
     requires entering { slice_index dict.old.others entering.now.column ≡ entering.now.name }
     requires entry { entry_of dict.old leaving.now.name entering.now.name ≢ whole (pos 0) }
-    ensures { IfOk result (λ _. dict.new ≡ turned dict.old leaving.now.name entering.now.name leaving.now.above) }
+    ensures turned { IfOk result (λ _. dict.new ≡ turned dict.old leaving.now.name entering.now.name leaving.now.above) }
+    ensures pair { IfErr result (IsPairOf N.value N.bound (system_of dict.old)) }
 {
     let note = dict.note(leaving.name);
     let bound = bound_on(&note, leaving.above);

@@ -13,3 +13,6 @@ mod solving;
 pub use bounds::Bounds;
 pub use posing::pose;
 pub use solving::{Posed, Run, Solved};
+
+#[cfg(test)]
+mod tests;

@@ -1,12 +1,13 @@
 // Prices and bounds for a dictionary.
-ghost use Rattle.std.specs.Prelude.{◌≡◌, ℕ, ◌+◌, ◌<◌, ◌≤◌, IfOk, pos, false, length, slice_index};
+ghost use Rattle.std.specs.Prelude.{◌≡◌, ℕ, ◌+◌, ◌<◌, ◌≤◌, IfErr, IfOk, pos, false, length, slice_index};
 ghost use Rattle.std.specs.List.{All, Contains};
 ghost use Rattle.fraction_theory.specs.Fraction.{whole};
 ghost use Rattle.fraction_theory.specs.Order.{◌≤ℚ◌};
 ghost use Rattle.linear_system.specs.Choices.{reduced, value};
+ghost use Rattle.linear_dict.specs.Causes.{IsPairOf};
 ghost use Rattle.linear_dict.specs.Dictionaries.{IsDictionary, choice_of, system_of};
 ghost use Rattle.linear_dict.specs.Notes.{noted};
-ghost use Rattle.simplex_core.specs.Posings.{HasNotes, IsPosing, column_note, row_note, stand_note, term_note, value_note};
+ghost use Rattle.simplex_core.specs.Posings.{HasNotes, IsPairPosed, IsPosing, column_note, row_note, stand_note, term_note, value_note};
 ghost use Rattle.simplex_core.specs.Turns.{noted_anew};
 
 use crate::bounds::Bounds;
@@ -66,7 +67,8 @@ fn reduced_price<N: Exact>(dict: &Dict<N>, column: usize, name: u32) -> Result<N
     requires unpriced { (w : ℕ) → Contains dict.now.rows w → (system_of dict.now).price w ≡ whole (pos 0) }
     requires column { column < length dict.now.others }
     requires name { slice_index dict.now.others column ≡ name }
-    ensures { IfOk result (λ price. N.value price ≡ reduced (system_of dict.now) (choice_of dict.now) name) }
+    ensures price { IfOk result (λ price. N.value price ≡ reduced (system_of dict.now) (choice_of dict.now) name) }
+    ensures pair { IfErr result (IsPairOf N.value N.bound (system_of dict.now)) }
 {
     let mut sum = N::of_parts(0, 1);
     for rank in 0..dict.name_count() {
@@ -93,7 +95,8 @@ fn basic_value<N: Exact>(dict: &Dict<N>, row: usize, name: u32) -> Result<N, Pas
     requires sound { IsDictionary dict.now }
     requires row { row < length dict.now.basics }
     requires name { slice_index dict.now.basics row ≡ name }
-    ensures { IfOk result (λ v. N.value v ≡ value (system_of dict.now) (choice_of dict.now) name) }
+    ensures value { IfOk result (λ v. N.value v ≡ value (system_of dict.now) (choice_of dict.now) name) }
+    ensures pair { IfErr result (IsPairOf N.value N.bound (system_of dict.now)) }
 {
     let mut sum = N::of_parts(0, 1);
     for rank in 0..dict.name_count() {
@@ -114,7 +117,8 @@ fn note_at_bound<N: Exact>(dict: &Dict<N>, name: u32) -> Result<Note<N>, Passed<
     requires sound { IsDictionary dict.now }
     requires unpriced { (w : ℕ) → Contains dict.now.rows w → (system_of dict.now).price w ≡ whole (pos 0) }
     requires named { Contains dict.now.names name }
-    ensures { IfOk result (λ note. noted N.value note ≡ stand_note dict.now name) }
+    ensures note { IfOk result (λ note. noted N.value note ≡ stand_note dict.now name) }
+    ensures pair { IfErr result (IsPairOf N.value N.bound (system_of dict.now)) }
 {
     let note = dict.note(name);
     match dict.place(name) {
@@ -138,7 +142,8 @@ fn note_with_value<N: Exact>(dict: &Dict<N>, name: u32) -> Result<Note<N>, Passe
     requires live { dict.now.spent ≡ false }
     requires sound { IsDictionary dict.now }
     requires named { Contains dict.now.names name }
-    ensures { IfOk result (λ note. noted N.value note ≡ value_note dict.now name) }
+    ensures note { IfOk result (λ note. noted N.value note ≡ value_note dict.now name) }
+    ensures pair { IfErr result (IsPairOf N.value N.bound (system_of dict.now)) }
 {
     let note = dict.note(name);
     match dict.place(name) {
@@ -155,7 +160,8 @@ fn put_others<N: Exact>(dict: &mut Dict<N>) -> Result<(), Passed<N>>
     requires live { dict.old.spent ≡ false }
     requires sound { IsDictionary dict.old }
     requires unpriced { (w : ℕ) → Contains dict.old.rows w → (system_of dict.old).price w ≡ whole (pos 0) }
-    ensures { IfOk result (λ _. dict.new ≡ noted_anew dict.old (stand_note dict.old)) }
+    ensures notes { IfOk result (λ _. dict.new ≡ noted_anew dict.old (stand_note dict.old)) }
+    ensures pair { IfErr result (IsPairOf N.value N.bound (system_of dict.old)) }
 {
     for rank in 0..dict.name_count() {
         let name = dict.ranked(rank);
@@ -169,7 +175,8 @@ fn put_others<N: Exact>(dict: &mut Dict<N>) -> Result<(), Passed<N>>
 fn put_basics<N: Exact>(dict: &mut Dict<N>) -> Result<(), Passed<N>>
     requires live { dict.old.spent ≡ false }
     requires sound { IsDictionary dict.old }
-    ensures { IfOk result (λ _. dict.new ≡ noted_anew dict.old (value_note dict.old)) }
+    ensures notes { IfOk result (λ _. dict.new ≡ noted_anew dict.old (value_note dict.old)) }
+    ensures pair { IfErr result (IsPairOf N.value N.bound (system_of dict.old)) }
 {
     for rank in 0..dict.name_count() {
         let name = dict.ranked(rank);
@@ -190,7 +197,8 @@ pub fn pose<N: Exact>(
     requires prices { length prices.now ≡ length dict.columns }
     requires bounds { length bounds.now ≡ length dict.columns + length dict.rows }
     requires ordered { All (λ b. N.value b.low ≤ℚ N.value b.high) bounds.now }
-    ensures { IfOk result (IsPosing N.value dict prices.now bounds.now) }
+    ensures posed { IfOk result (IsPosing N.value dict prices.now bounds.now) }
+    ensures pair { IfErr result (IsPairPosed N.value N.bound dict prices.now bounds.now) }
 {
     let mut dict = dict;
     let live = !dict.spent();

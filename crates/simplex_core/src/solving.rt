@@ -1,6 +1,8 @@
 // The run of the method.
-ghost use Rattle.std.specs.Prelude.{◌≡◌, IfOk};
+ghost use Rattle.std.specs.Prelude.{◌≡◌, IfErr, IfOk};
 ghost use Rattle.std.specs.List.{Contains};
+ghost use Rattle.linear_dict.specs.Causes.{IsPairOf};
+ghost use Rattle.linear_dict.specs.Dictionaries.{system_of};
 ghost use Rattle.simplex_core.specs.States.{IsReady, state_of};
 ghost use Rattle.simplex_core.specs.Outcomes.{IsSettled, IsOutcome};
 
@@ -61,7 +63,8 @@ pub enum Run<N: Exact> {
 /// Steps until all basic variables keep their bounds, or none of the others helps the one that leaves: then its row place.
 fn settle<N: Exact>(dict: &mut Dict<N>) -> Result<Option<usize>, Passed<N>>
     requires { IsReady dict.old }
-    ensures { IfOk result (IsSettled dict.old dict.new) }
+    ensures settled { IfOk result (IsSettled dict.old dict.new) }
+    ensures pair { IfErr result (IsPairOf N.value N.bound (system_of dict.old)) }
 {
     while let Some(variable) = find_leaving(dict) {
         match find_entering(dict, &variable)? {
@@ -75,7 +78,7 @@ fn settle<N: Exact>(dict: &mut Dict<N>) -> Result<Option<usize>, Passed<N>>
 impl<N: Exact> Posed<N> {
     /// Runs the dual simplex method to its end.
     pub fn run(self) -> Run<N>
-        ensures { IsOutcome self result }
+        ensures { IsOutcome N.value N.bound self result }
     {
         let mut dict = self.dict;
         match settle(&mut dict) {

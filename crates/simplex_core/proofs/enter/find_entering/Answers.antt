@@ -6,6 +6,8 @@ use Rattle.simplex_theory.specs.Steps.{Helps}
 use Rattle.simplex_core.specs.States.{state_of}
 use Rattle.simplex_core.specs.declared.enter.Candidate.{Candidate}
 use Rattle.simplex_core.proofs.RatioLemmas.{IsBestSoFar, best_start, best_skip, best_more, best_end}
+use Rattle.std.proofs.lemmas.Result.{err_from_is_err_and}
+use Rattle.simplex_core.proofs.Pairs.{lesser_pair}
 use Rattle.simplex_core.proofs.enter.find_entering.Goals as goal
 use Rattle.simplex_core.proofs.enter.find_entering.Goals.{in-Column+in-Some+in_ok-lesser, in-Column+in_default-candidate_at, in_default}
 
@@ -25,7 +27,7 @@ loop-rank-preserved g c =
     let hk : k < length d.names = Prim.omega (arith, c.loop-rank-test.true, c.name_count-rank-end.ensures) in
     elim c.match-place.branch [
       | in-Column+in-Some+in_ok-lesser w ↦ subst (λ (b : Option (Candidate g.row.N.Denot)). IsBestSoFar value d v a (k + 1) b) (sym w.best-is)
-          (best_more value d c.requires.sound v a k hk w.in-Some.next (w.in-Some.ensures.0 ∙ sym e) (subst (λ (x : ℕ). Helps (system_of d) (state_of d) v a x) (sym w.in-Some.ensures.0) w.in-Some.ensures.1) w.in-Some.ensures.2 c.loop-rank.best _ w.in_ok-lesser.ensures c.loop-rank.invariant)
+          (best_more value d c.requires.sound v a k hk w.in-Some.next (w.in-Some.ensures.0 ∙ sym e) (subst (λ (x : ℕ). Helps (system_of d) (state_of d) v a x) (sym w.in-Some.ensures.0) w.in-Some.ensures.1) w.in-Some.ensures.2 c.loop-rank.best _ w.in_ok-lesser.ensures.lesser c.loop-rank.invariant)
       | in-Column+in_default-candidate_at w ↦ subst (λ (b : Option (Candidate g.row.N.Denot)). IsBestSoFar value d v a (k + 1) b) (sym w.best-is)
           (best_skip value d c.requires.sound v a k hk c.loop-rank.best (λ p. w.in_default-candidate_at.ensures (subst (λ (x : ℕ). Helps (system_of d) (state_of d) v a x) e p)) c.loop-rank.invariant)
       | in_default w ↦ subst (λ (b : Option (Candidate g.row.N.Denot)). IsBestSoFar value d v a (k + 1) b) (sym w.best-is)
@@ -34,6 +36,18 @@ loop-rank-preserved g c =
           (in_others d c.requires.sound name (subst (λ (x : ℕ). Helps (system_of d) (state_of d) v a x) e p).other)) c.loop-rank.invariant)
     ]
 
-pub returns : goal.returns
-returns g c = best_end g.N.Exact.value c.args.dict.now c.requires.sound c.args.leaving.now.name c.args.leaving.now.above c.loop-rank.rank c.loop-rank.best
+pub returns-clause-found : goal.returns-clause-found
+returns-clause-found g c = best_end g.N.Exact.value c.args.dict.now c.requires.sound c.args.leaving.now.name c.args.leaving.now.above c.loop-rank.rank c.loop-rank.best
     (Prim.omega (arith, c.loop-rank-test.false, c.name_count-rank-end.ensures)) c.loop-rank.invariant
+
+pub returns-in_err-lesser-clause-pair : goal.returns-in_err-lesser-clause-pair
+returns-in_err-lesser-clause-pair g c =
+    let value = g.N.Exact.value in
+    let d : Dictionary = c.args.dict.now in
+    let v : ℕ = c.args.leaving.now.name in
+    let e = c.in_err-lesser.field-0.0 in
+    let p = err_from_is_err_and c.from_residual.result c.from_residual.ensures.1 in
+    let basic : Contains d.basics v = subst (Contains d.basics) c.requires.leaving (Contains-at d.basics c.args.leaving.now.row c.requires.row) in
+    rw (p.1, p.2)
+    (lesser_pair d c.requires.ready value g.N.Exact.bound v c.args.leaving.now.above c.loop-rank.rank c.loop-rank.best c.in-Some.next basic c.loop-rank.invariant c.in-Some.ensures.2
+    e.op (value e.left) (value e.right) c.in_err-lesser.ensures.cause.asked c.in_err-lesser.ensures.cause.passes)

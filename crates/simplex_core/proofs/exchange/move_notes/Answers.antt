@@ -3,6 +3,11 @@ use Rattle.linear_dict.specs.Dictionaries.{Dictionary, with_note}
 use Rattle.linear_dict.specs.Notes.{Noted, noted}
 use Rattle.simplex_core.specs.Turns.{moved_note}
 use Rattle.simplex_core.proofs.MoveLemmas.{moving_start, moving_sound, moving_same, moving_step, moving_end}
+use Rattle.std.proofs.lemmas.Result.{err_from_is_err_and}
+use Rattle.linear_dict.proofs.CauseLemmas.{refused_as}
+use Rattle.simplex_core.specs.Operations.{MoveOperation, MovesOperation, of_note}
+use Rattle.simplex_core.proofs.Pairs.{move_same}
+use Rattle.simplex_core.proofs.MoveLemmas.{moving_note}
 use Rattle.simplex_core.proofs.exchange.move_notes.Goals as goal
 
 pub loop-rank-init : goal.loop-rank-init
@@ -28,11 +33,33 @@ loop-rank-preserved g c =
     let name : c.ranked-name.result ≡ slice_index e.names k = c.ranked-name.ensures ∙ ap (λ (x : Dictionary). slice_index x.names k) c.loop-rank.invariant.is in
     moving_step e c.requires.sound f k d c.loop-rank.invariant hk n c.set_note.new.self
     (c.set_note.ensures ∙ ap (λ (w : ℕ). with_note d w n) name)
-    (c.in_ok-note.ensures ∙ ap (moved_note d s.leaving s.entering s.above (value s.bound) (value s.displacement) (value s.price)) name
+    (c.in_ok-note.ensures.note ∙ ap (moved_note d s.leaving s.entering s.above (value s.bound) (value s.displacement) (value s.price)) name
     ∙ moving_same e c.requires.sound f k d c.loop-rank.invariant hk s.leaving s.entering s.above (value s.bound) (value s.displacement) (value s.price))
 
-pub returns : goal.returns
-returns g c =
+pub returns-clause-notes : goal.returns-clause-notes
+returns-clause-notes g c =
     let s = c.args.step.now in
     let f : ℕ → Noted = moved_note c.args.dict.now s.leaving s.entering s.above (g.N.Exact.value s.bound) (g.N.Exact.value s.displacement) (g.N.Exact.value s.price) in
     moving_end c.args.dict.now c.requires.sound f c.loop-rank.rank c.loop-rank.dict c.loop-rank.invariant (Prim.omega (arith, c.loop-rank-test.false, c.name_count-rank-end.ensures))
+
+pub returns-in_err-note-clause-cause : goal.returns-in_err-note-clause-cause
+returns-in_err-note-clause-cause g c =
+    let s = c.args.step.now in
+    let value = g.N.Exact.value in
+    let e : Dictionary = c.args.dict.now in
+    let d : Dictionary = c.loop-rank.dict in
+    let k : ℕ = c.loop-rank.rank in
+    let m = c.loop-rank.invariant in
+    let far = value s.displacement in
+    let price = value s.price in
+    let f : ℕ → Noted = moved_note e s.leaving s.entering s.above (value s.bound) far price in
+    let hk : k < length e.names = Prim.omega (arith, c.loop-rank-test.true, c.name_count-rank-end.ensures) in
+    let name : c.ranked-name.result ≡ slice_index e.names k = c.ranked-name.ensures ∙ ap (λ (x : Dictionary). slice_index x.names k) m.is in
+    let p = err_from_is_err_and c.from_residual.result c.from_residual.ensures.1 in
+    rw (p.1, p.2)
+    (refused_as value g.N.Exact.bound (MoveOperation d s.leaving s.entering far price c.ranked-name.result) (MovesOperation e s.leaving s.entering far price) c.in_err-note.field-0.0
+    (λ op x y o. of_note (slice_index e.names k) op x y
+    (move_same e m.notes s.leaving s.entering far price (slice_index e.names k) (moving_note e c.requires.sound f k d m hk) op x y
+    (subst (λ (z : Dictionary). MoveOperation z s.leaving s.entering far price (slice_index e.names k) op x y) m.is
+    (subst (λ (w : ℕ). MoveOperation d s.leaving s.entering far price w op x y) name o))))
+    c.in_err-note.ensures.cause)

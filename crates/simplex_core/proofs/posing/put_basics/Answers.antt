@@ -1,4 +1,7 @@
-use Rattle.std.proofs.Common.{◌≡◌, ◌<◌, ◌∙◌, ℕ, arith, ap, length, slice_index}
+use Rattle.std.proofs.Common.{◌≡◌, ◌<◌, ◌∙◌, ℕ, arith, ap, length, slice_index, subst}
+use Rattle.std.proofs.lemmas.Result.{err_from_is_err_and}
+use Rattle.linear_dict.specs.Causes.{IsPairOf}
+use Rattle.linear_system.specs.Systems.{System}
 use Rattle.linear_dict.specs.Dictionaries.{Dictionary, system_of, choice_of, with_note}
 use Rattle.linear_dict.specs.Notes.{Noted, noted}
 use Rattle.simplex_core.specs.Posings.{value_note}
@@ -25,9 +28,16 @@ loop-rank-preserved g c =
     let choice : choice_of (record e { notes = m.notes }) ≡ choice_of e = choice_stays e m.notes (moving_keeps e c.requires.sound (value_note e) k d m Noted.at_high (value-flag e)) in
     moving_step e c.requires.sound (value_note e) k d m hk n c.set_note.new.self
     (c.set_note.ensures ∙ ap (λ (w : ℕ). with_note d w n) name)
-    (c.in_ok-note.ensures ∙ ap (value_note d) name ∙ ap (λ (x : Dictionary). value_note x (slice_index e.names k)) m.is
+    (c.in_ok-note.ensures.note ∙ ap (value_note d) name ∙ ap (λ (x : Dictionary). value_note x (slice_index e.names k)) m.is
     ∙ value_same e m.notes (slice_index e.names k) same (moving_note e c.requires.sound (value_note e) k d m hk) choice)
 
-pub returns : goal.returns
-returns g c =
+pub returns-clause-notes : goal.returns-clause-notes
+returns-clause-notes g c =
     moving_end c.args.dict.now c.requires.sound (value_note c.args.dict.now) c.loop-rank.rank c.loop-rank.dict c.loop-rank.invariant (Prim.omega (arith, c.loop-rank-test.false, c.name_count-rank-end.ensures))
+
+pub returns-in_err-note-clause-pair : goal.returns-in_err-note-clause-pair
+returns-in_err-note-clause-pair g c =
+    let e : Dictionary = c.args.dict.now in
+    let same : system_of c.loop-rank.dict ≡ system_of e = ap system_of c.loop-rank.invariant.is ∙ moving_system e c.requires.sound (value_note e) c.loop-rank.rank c.loop-rank.dict c.loop-rank.invariant (value-price e) (value-low e) (value-high e) in
+    let p = err_from_is_err_and c.from_residual.result c.from_residual.ensures.1 in
+    rw (p.1, p.2) (subst (λ (s : System). IsPairOf g.N.Exact.value g.N.Exact.bound s c.in_err-note.field-0.0) same c.in_err-note.ensures.pair)

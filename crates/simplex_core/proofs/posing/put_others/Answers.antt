@@ -1,6 +1,8 @@
 use Rattle.std.proofs.Common.{◌≡◌, ◌<◌, ◌∙◌, ℕ, List, pos, arith, ap, sym, subst, length, slice_index}
 use Rattle.std.specs.List.{Contains}
 use Rattle.fraction_theory.specs.Fraction.{Fraction, whole}
+use Rattle.std.proofs.lemmas.Result.{err_from_is_err_and}
+use Rattle.linear_dict.specs.Causes.{IsPairOf}
 use Rattle.linear_system.specs.Systems.{System}
 use Rattle.linear_dict.specs.Dictionaries.{Dictionary, system_of, note_of, with_note}
 use Rattle.linear_dict.specs.Notes.{Noted, noted}
@@ -33,9 +35,16 @@ loop-rank-preserved g c =
     let same : system_of (record e { notes = m.notes }) ≡ system_of e = moving_system e c.requires.sound (stand_note e) k d m (stand-price e) (stand-low e) (stand-high e) in
     moving_step e c.requires.sound (stand_note e) k d m hk n c.set_note.new.self
     (c.set_note.ensures ∙ ap (λ (w : ℕ). with_note d w n) name)
-    (c.in_ok-note.ensures ∙ ap (stand_note d) name ∙ ap (λ (x : Dictionary). stand_note x (slice_index e.names k)) m.is
+    (c.in_ok-note.ensures.note ∙ ap (stand_note d) name ∙ ap (λ (x : Dictionary). stand_note x (slice_index e.names k)) m.is
     ∙ stand_same e m.notes (slice_index e.names k) same (moving_note e c.requires.sound (stand_note e) k d m hk))
 
-pub returns : goal.returns
-returns g c =
+pub returns-clause-notes : goal.returns-clause-notes
+returns-clause-notes g c =
     moving_end c.args.dict.now c.requires.sound (stand_note c.args.dict.now) c.loop-rank.rank c.loop-rank.dict c.loop-rank.invariant (Prim.omega (arith, c.loop-rank-test.false, c.name_count-rank-end.ensures))
+
+pub returns-in_err-note-clause-pair : goal.returns-in_err-note-clause-pair
+returns-in_err-note-clause-pair g c =
+    let e : Dictionary = c.args.dict.now in
+    let same : system_of c.loop-rank.dict ≡ system_of e = ap system_of c.loop-rank.invariant.is ∙ moving_system e c.requires.sound (stand_note e) c.loop-rank.rank c.loop-rank.dict c.loop-rank.invariant (stand-price e) (stand-low e) (stand-high e) in
+    let p = err_from_is_err_and c.from_residual.result c.from_residual.ensures.1 in
+    rw (p.1, p.2) (subst (λ (s : System). IsPairOf g.N.Exact.value g.N.Exact.bound s c.in_err-note.field-0.0) same c.in_err-note.ensures.pair)

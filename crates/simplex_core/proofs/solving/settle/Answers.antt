@@ -17,7 +17,7 @@ step-requires-clause-entry g c =
     let d : Dictionary = c.loop-variable.dict in
     let v : ℕ = c.in-Some.variable.name in
     let a : Bool = c.in-Some.variable.above in
-    let found = subst (λ (o : Option (Candidate g.row.N.Denot)). IsEntering d v a o) c.in-Some-2.is c.in_ok-candidate.ensures in
+    let found = subst (λ (o : Option (Candidate g.row.N.Denot)). IsEntering d v a o) c.in-Some-2.is c.in_ok-candidate.ensures.found in
     pivot_not_nil d c.loop-variable.invariant.ready v c.in-Some-2.candidate.name a c.in-Some.ensures.2 found.2
 
 pub loop-variable-smaller : goal.loop-variable-smaller
@@ -26,9 +26,9 @@ loop-variable-smaller g c =
     let v : ℕ = c.in-Some.variable.name in
     let a : Bool = c.in-Some.variable.above in
     let k : ℕ = c.in-Some-2.candidate.name in
-    let found = subst (λ (o : Option (Candidate g.row.N.Denot)). IsEntering d v a o) c.in-Some-2.is c.in_ok-candidate.ensures in
+    let found = subst (λ (o : Option (Candidate g.row.N.Denot)). IsEntering d v a o) c.in-Some-2.is c.in_ok-candidate.ensures.found in
     let turn : IsTurn d v k a = record { leaves = c.in-Some.ensures.2; enters = found.2 } in
-    subst (λ (x : Dictionary). to_come x < to_come d) (sym c.in_ok-step-in-Some-2.ensures) (to_come_falls d c.loop-variable.invariant.ready v k a turn)
+    subst (λ (x : Dictionary). to_come x < to_come d) (sym c.in_ok-step-in-Some-2.ensures.turned) (to_come_falls d c.loop-variable.invariant.ready v k a turn)
 
 pub loop-variable-preserved : goal.loop-variable-preserved
 loop-variable-preserved g c =
@@ -36,17 +36,17 @@ loop-variable-preserved g c =
     let v : ℕ = c.in-Some.variable.name in
     let a : Bool = c.in-Some.variable.above in
     let k : ℕ = c.in-Some-2.candidate.name in
-    let found = subst (λ (o : Option (Candidate g.row.N.Denot)). IsEntering d v a o) c.in-Some-2.is c.in_ok-candidate.ensures in
+    let found = subst (λ (o : Option (Candidate g.row.N.Denot)). IsEntering d v a o) c.in-Some-2.is c.in_ok-candidate.ensures.found in
     let turn : IsTurn d v k a = record { leaves = c.in-Some.ensures.2; enters = found.2 } in
-    subst (λ (x : Dictionary). Keeps c.args.dict.now x) (sym c.in_ok-step-in-Some-2.ensures) (keeps_turned c.args.dict.now d c.loop-variable.invariant v k a turn)
+    subst (λ (x : Dictionary). Keeps c.args.dict.now x) (sym c.in_ok-step-in-Some-2.ensures.turned) (keeps_turned c.args.dict.now d c.loop-variable.invariant v k a turn)
 
-pub returns-in-None : goal.returns-in-None
-returns-in-None g c =
+pub returns-in-None-clause-settled : goal.returns-in-None-clause-settled
+returns-in-None-clause-settled g c =
     let d : Dictionary = c.loop-variable.dict in
     let v : ℕ = c.in-Some.variable.name in
     let a : Bool = c.in-Some.variable.above in
-    let idle = subst (λ (o : Option (Candidate g.row.N.Denot)). IsEntering d v a o) c.in-None.is c.in_ok-candidate.ensures in
+    let idle = subst (λ (o : Option (Candidate g.row.N.Denot)). IsEntering d v a o) c.in-None.is c.in_ok-candidate.ensures.found in
     (c.loop-variable.invariant, empty_at d c.loop-variable.invariant.ready v c.in-Some.variable.row a c.in-Some.ensures.2 idle c.in-Some.ensures.0 c.in-Some.ensures.1)
 
-pub returns : goal.returns
-returns g c = (c.loop-variable.invariant, solved_at c.loop-variable.dict c.loop-variable.invariant.ready c.in_default.ensures)
+pub returns-clause-settled : goal.returns-clause-settled
+returns-clause-settled g c = (c.loop-variable.invariant, solved_at c.loop-variable.dict c.loop-variable.invariant.ready c.in_default.ensures)

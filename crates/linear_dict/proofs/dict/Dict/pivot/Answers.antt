@@ -1,15 +1,50 @@
-use Rattle.std.proofs.Common.{◌≡◌, ◌≢◌, ◌∙◌, ℕ, List, pos, arith, ap, sym, subst, length, map}
+use Rattle.std.proofs.Common.{◌≡◌, ◌≢◌, ◌∙◌, ℕ, List, pos, arith, ap, sym, subst, subst₂, length, map}
+use Rattle.std.proofs.lemmas.List.{length-map}
+use Rattle.std.proofs.lemmas.Result.{err_from_is_err_and}
 use mathlib.Core.Path.{ap₂}
 use Rattle.std.specs.List.{Contains}
 use Rattle.std.specs.List.Sorted.{IsStrictlyIncreasing}
 use Rattle.fraction_theory.specs.Fraction.{whole}
 use Rattle.linear_dict.specs.declared.index.Variable.{Variable}
-use Rattle.linear_dict.specs.Dictionaries.{Dictionary, pivoted}
+use Rattle.linear_dict.specs.Causes.{IsPairOf, IsRefused, PivotOperation}
+use Rattle.linear_dict.specs.Dictionaries.{Dictionary, pivoted, seen, system_of}
 use Rattle.linear_dict.specs.Indexes.{name_of}
 use Rattle.linear_dict.specs.Places.{place_in}
 use Rattle.linear_dict.specs.Tables.{cell, table_of, pivoted_cell}
+use Rattle.linear_dict.proofs.ExchangeLemmas.{pivot_pair, spent_dictionary}
 use Rattle.linear_dict.proofs.MovedLemmas.{pivot_in_code}
 use Rattle.linear_dict.proofs.dict.Dict.pivot.Goals as goal
+
+pub rank-leaving_rank-requires-clause-ascending : goal.rank-leaving_rank-requires-clause-ascending
+rank-leaving_rank-requires-clause-ascending g c =
+    subst (λ (us : List (Variable g.row.N.Denot)). IsStrictlyIncreasing (map name_of us)) (sym c.deref.ensures.value) c.self.invariant.1.ascending
+
+pub returns-in_err-pivot_table-clause-sound : goal.returns-in_err-pivot_table-clause-sound
+returns-in_err-pivot_table-clause-sound g c =
+    let s = c.self.inside in
+    let value = g.N.Exact.value in
+    let new : List g.row.N.Denot = c.pivot_table.new.table.items in
+    spent_dictionary
+    (seen value s.columns.items s.rows.items s.coefficients.items s.others.items s.basics.items s.table.items s.variables.items s.spent)
+    (map value new) c.self.invariant.1 (length-map new value ∙ c.pivot_table.ensures.count ∙ sym (length-map s.table.items value))
+
+pub returns-in_err-pivot_table-clause-pair : goal.returns-in_err-pivot_table-clause-pair
+returns-in_err-pivot_table-clause-pair g c =
+    let s = c.self.inside in
+    let value = g.N.Exact.value in
+    let e = c.in_err-pivot_table.field-0.0 in
+    let lr : length s.basics.items ≡ length c.args.self.now.basics = ap (λ (d : Dictionary). length d.basics) c.self.view_is in
+    let lc : length s.others.items ≡ length c.args.self.now.others = ap (λ (d : Dictionary). length d.others) c.self.view_is in
+    let rows : c.len.result ≡ length s.basics.items = Prim.omega (arith, c.len.ensures, s.basics.ok.0) in
+    let columns : c.len-2.result ≡ length s.others.items = Prim.omega (arith, c.len-2.ensures, s.others.ok.0) in
+    let entry : cell (length s.others.items) (map value s.table.items) c.args.r c.args.c ≢ whole (pos 0) = subst (λ (d : Dictionary). cell (length d.others) d.table c.args.r c.args.c ≢ whole (pos 0)) (sym c.self.view_is) c.requires.entry in
+    let refused = subst₂ (λ (m n : ℕ). IsRefused value g.N.Exact.bound (PivotOperation m n (cell n (map value s.table.items)) c.args.r c.args.c) e) rows columns c.in_err-pivot_table.ensures.cause in
+    let p = err_from_is_err_and c.from_residual.result c.from_residual.ensures.1 in
+    rw (p.1, p.2)
+    (subst (λ (d : Dictionary). IsPairOf value g.N.Exact.bound (system_of d) e) c.self.view_is
+    (pivot_pair (seen value s.columns.items s.rows.items s.coefficients.items s.others.items s.basics.items s.table.items s.variables.items s.spent) c.self.invariant.1 c.args.r c.args.c
+    (Prim.omega (arith, lr, c.requires.row)) (Prim.omega (arith, lc, c.requires.column)) g.N.Exact.bound (ap (λ (d : Dictionary). d.spent) c.self.view_is ∙ c.requires.live) entry
+    e.op (value e.left) (value e.right) refused.asked refused.passes))
 
 pub rank-leaving_rank-requires-clause-named : goal.rank-leaving_rank-requires-clause-named
 rank-leaving_rank-requires-clause-named g c =
