@@ -1,6 +1,6 @@
 //! The live buses, units and branches of a case.
 
-ghost use Rattle.std.specs.Prelude.{◌≡◌, ◌≢◌, ℕ, ◌<◌, ◌≤◌, pos, ◌≤ℤ◌, ◌==◌, ◌++◌, length, map, AllPairs, IfOk, MatchOption};
+ghost use Rattle.std.specs.Prelude.{◌≡◌, ◌≢◌, ℕ, ◌<◌, ◌≤◌, pos, ◌≤ℤ◌, ◌==◌, ◌++◌, length, map, AllPairs, IfOk, MatchOption, MatchResult};
 ghost use Rattle.std.specs.Map.{lookup};
 ghost use Rattle.net_case.specs.Gathering.{listed};
 ghost use Rattle.net_case.specs.Networks.{place_of, most_branches};
@@ -100,7 +100,7 @@ pub enum Branches {
 
 /// Adds an item at the end, where there is one.
 pub fn push_some<T: Drop>(list: &mut List<T>, item: Option<T>) -> Result<(), Memory>
-    ensures { IfOk result (λ _. list.new ≡ list.old ++ listed item) }
+    ensures { MatchResult result (λ _. list.new ≡ list.old ++ listed item) (λ _. list.new ≡ list.old) }
 {
     match item {
         Some(item) => list.push(item),

@@ -1,11 +1,11 @@
 -- What is left between the buses of a branch that is lost: a way round it, or the side of its T_BUS.
-use Rattle.std.specs.Prelude.{◌≡◌, ℕ, ◌<◌, ◌==◌, ◌↔◌, not, List, length, filter, map, All, AllPairs, Contains, Option, IsSome}
+use Rattle.std.specs.Prelude.{◌≡◌, ◌≢◌, ℕ, ◌<◌, ◌==◌, ◌↔◌, not, List, length, filter, map, All, AllPairs, Contains, Option, IsSome}
 use Rattle.net_case.specs.declared.live_parts.NetBranch.{NetBranch}
 use Rattle.net_case.specs.Networks.{LiveNetwork}
 use Rattle.net_paths.specs.declared.detours.Detour.{Detour}
 use Rattle.net_paths.specs.declared.detours.Detour.TheVariants as detour
 use Rattle.net_paths.specs.declared.steps.Step.{Step}
-use Rattle.net_paths.specs.Chains.{Pass, Lead, AreJoined}
+use Rattle.net_paths.specs.Chains.{start_of, Pass, Lead, AreJoined}
 use Rattle.net_paths.specs.Connection.{bus_number}
 use Rattle.net_paths.specs.Searching.{visit_at}
 
@@ -21,11 +21,12 @@ IsLiveRow network row = (branch : NetBranch) × IsBranchOf network row branch
 abbrev pub others : ℕ → List NetBranch → List NetBranch
 others row branches = filter (λ branch. not (branch.row == row)) branches
 
--- the rows of branches, of these, that lead from a place to another
+-- the rows of branches, of these, that lead from a place to another, from no place twice
 pub record IsPath (branches : List NetBranch) (a b : ℕ) (rows : List ℕ) : Type 0 where
   pub steps : List Step
   pub pass : Pass branches steps
   pub lead : Lead steps a b
+  pub apart : AllPairs (λ p q. p ≢ q) (map start_of steps)
   pub rows_are : rows ≡ map (λ s. s.branch.row) steps
 
 -- the numbers, in row order, of the buses that the branches join to a place; no branch leads out of these

@@ -23,7 +23,7 @@ pub enum Detour {
 }
 
 /// The live branch of a row.
-fn branch_of(network: &Network, row: u32) -> NetBranch
+pub fn branch_of(network: &Network, row: u32) -> NetBranch
     requires { IsLiveRow network.now row }
     ensures is { IsBranchOf network.now row result }
     ensures ends { All (IsNetBranch (length network.now.buses)) network.now.branches }

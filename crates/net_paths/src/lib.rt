@@ -10,7 +10,7 @@ mod search;
 mod steps;
 
 pub use connection::{PathStop, connected};
-pub use detours::{Detour, without};
+pub use detours::{Detour, branch_of, without};
 pub use loops_of_tree::{Loop, Loops, Member, loops};
 
 #[cfg(test)]

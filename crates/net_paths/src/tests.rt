@@ -9,7 +9,9 @@ use std::test::Fail;
 /// A case of buses 1, 2, .. and of branches between them, each given by its two buses.
 fn case_text(alloc: Global, count: u32, ends: &[(u32, u32)]) -> Result<String, AllocError> {
     let mut out = String::new(alloc);
-    out.push_str("function mpc = c\nmpc.version = '2'\nmpc.baseMVA = 100\nmpc.gen = []\nmpc.bus = [")?;
+    out.push_str(
+        "function mpc = c\nmpc.version = '2'\nmpc.baseMVA = 100\nmpc.gen = []\nmpc.bus = [",
+    )?;
     for place in 0..count {
         let kind = if place == 0 { 3 } else { 1 };
         let number = place.wrapping_add(1);
@@ -55,8 +57,7 @@ fn loops_text(alloc: Global, loops: &Loops) -> Result<String, AllocError> {
 }
 
 /// What is left without the branch at a place.
-fn detour_text(alloc: Global, network: &Network, place: usize) -> Result<String, Fail>
-{
+fn detour_text(alloc: Global, network: &Network, place: usize) -> Result<String, Fail> {
     let mut out = String::new(alloc);
     if place < network.branches().len() {
         let row = network.branches().at(place).row;
@@ -175,7 +176,8 @@ fn loops_without_a_lost_branch(rt: HostRuntime) -> Result<(), Fail> {
 #[test]
 fn three_buses_with_branches_out_of_service(rt: HostRuntime) -> Result<(), Fail> {
     let alloc = rt.alloc();
-    let text = "function mpc = c\nmpc.version = '2'\nmpc.baseMVA = 100\nmpc.gen = []\nmpc.bus = [1 3 0 0 0 0 1 1 0 0 1 1 1;2 1 0 0 0 0 1 1 0 0 1 1 1;3 1 0 0 0 0 1 1 0 0 1 1 1]\nmpc.branch = [1 2 0 1 0 0 0 0 0 0 1;1 3 0 1 0 0 0 0 0 0 0;2 3 0 1 0 0 0 0 0 0 0]\n";
+    let text =
+        "function mpc = c\nmpc.version = '2'\nmpc.baseMVA = 100\nmpc.gen = []\nmpc.bus = [1 3 0 0 0 0 1 1 0 0 1 1 1;2 1 0 0 0 0 1 1 0 0 1 1 1;3 1 0 0 0 0 1 1 0 0 1 1 1]\nmpc.branch = [1 2 0 1 0 0 0 0 0 0 1;1 3 0 1 0 0 0 0 0 0 0;2 3 0 1 0 0 0 0 0 0 0]\n";
     let case = read_case(alloc, text.as_bytes())?;
     let network = network(alloc, &case, Branches::Read(PostRating::A))?;
     match connected(alloc, &network) {

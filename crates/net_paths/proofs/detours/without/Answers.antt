@@ -41,6 +41,7 @@ returns-in-Some c =
       steps = steps;
       pass = way.pass;
       lead = subst (λ (p : ℕ). Lead steps p branch.to) (at.1 nowhere) way.lead;
+      apart = way.apart;
       rows_are = c.in_ok-rows-in-Some.ensures ∙ ap (map (λ (s : Step). s.branch.row)) c.slice.ensures;
     } in
     (branch, c.branch_of-branch.ensures.is, subst (λ (k : ℕ). IsPath (others k network.branches) branch.from branch.to rows) (sym c.branch_of-branch.ensures.is.row_is) path)
