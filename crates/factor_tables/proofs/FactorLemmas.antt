@@ -1,17 +1,20 @@
 -- Entries by pair, and the rows that are marked.
-use Rattle.std.proofs.Common.{◌≡◌, ◌≢◌, ℕ, ◌≤◌, ◌<◌, ◌++◌, ◌∷◌, [], ℤ, pos, List, length, get_or, arith, refl, sym, Option, Some, None, Bool, true, false, All}
-use Rattle.std.specs.Prelude.{◌==◌, ◌||◌, is_some, IfSome, slice_set, unsigned_abs, unwrap_or}
+use Rattle.std.proofs.Common.{◌≡◌, ◌≢◌, ℕ, zero, suc, ◌+◌, ap, ◌∙◌, ◌≤◌, ◌<◌, ◌++◌, ◌∷◌, [], ℤ, pos, List, length, get_or, arith, refl, sym, Option, Some, None, Bool, true, false, All, inl, inr, length-append}
+use Rattle.std.specs.Prelude.{AllPairs, ◌==◌, ◌&&◌, ◌||◌, ◌⊎◌, Contains, if◌then◌else◌, is_some, IfSome, slice_set, unsigned_abs, unwrap_or}
 use Rattle.std.specs.List.{list_any}
 use Rattle.std.specs.Map.{lookup}
-use Rattle.std.proofs.lemmas.Bool.{eqb-true, eqb-false}
-use Rattle.std.proofs.lemmas.List.{get_or-set_same, get_or-set_other}
+use Rattle.std.proofs.Math.Logic.{⊎_elim}
+use Rattle.std.proofs.Math.Seq.{get_or-append_seam}
+use Rattle.std.proofs.lemmas.Map.Views.{Contains-from_lookup}
+use Rattle.std.proofs.lemmas.Bool.{cases_lt, eq-eqb, eqb-true, eqb-false}
+use Rattle.std.proofs.lemmas.List.{get_or_append_left, get_or-set_same, get_or-set_other}
 use Rattle.std.proofs.lemmas.List.Folds.{list_any-append}
 use Rattle.std.proofs.lemmas.List.Elements.{All-append, All-cons, All-nil}
 use Rattle.std.proofs.lemmas.Map.Entries.{place_from_lookup}
 use Rattle.std.proofs.lemmas.Option.{slice_get_within, get_or_from_slice_get}
 use Rattle.factor_tables.specs.declared.by_pair.Column.{Column}
 use Rattle.factor_tables.specs.declared.by_pair.Pairs.{Pairs}
-use Rattle.factor_tables.specs.Factors.{AreFactors, Entry, Pair, factor_at, marked_row, most_factor, same_pair}
+use Rattle.factor_tables.specs.Factors.{AreFactors, Entry, HasNoPairTwice, IsFactor, Pair, factor_at, has_pair, marked_row, most_factor, same_pair}
 
 pub is-none : {X : Type 0} (o : Option X) → is_some o ≡ false → o ≡ None
 is-none None none = refl
@@ -37,6 +40,56 @@ factor_at-size entries pair sizes = by (lookup (same_pair pair) entries) (lookup
     by None small = omega arith
     by (Some f) small = small
 
+-- equal pairs are the same
+one_pair : (p q : Pair) → same_pair p q ≡ true → p ≡ q
+one_pair (a, b) (c, d) same =
+    let (first, second) = both (a == c) (b == d) same in
+    let left : a ≡ c = eqb-true a c first in
+    let right : b ≡ d = eqb-true b d second in
+    cc
+  where
+    both : (x y : Bool) → (x && y) ≡ true → (x ≡ true) × (y ≡ true)
+    both true y passes = (refl, passes)
+    both false y passes = cc
+
+-- a pair's factor is that of a record, or 0
+pub factor_at-means : (entries : List Entry) (pair : Pair) → IsFactor entries pair (factor_at entries pair)
+factor_at-means entries pair = by (lookup (same_pair pair) entries) refl
+  where
+    by : (o : Option ℤ) → lookup (same_pair pair) entries ≡ o → Contains entries (pair, unwrap_or o (pos 0)) ⊎ ((is_some o ≡ false) × (unwrap_or o (pos 0) ≡ pos 0))
+    by None none = inr (refl, refl)
+    by (Some f) found = inl (Contains-from_lookup one_pair pair f entries found)
+
+its_own : (p : Pair) → same_pair p p ≡ true
+its_own (a, b) = let first = eq-eqb a a refl in let second = eq-eqb b b refl in rw (first, second) refl
+
+behind : (passes : Bool) (f : ℤ) (rest : Option ℤ) → is_some (if passes then Some f else rest) ≡ false → is_some rest ≡ false
+behind true f rest none = cc
+behind false f rest none = none
+
+-- a pair that has no record is apart from those of the records
+new_pair : (entries : List Entry) (pair : Pair) (i : ℕ) (d : Entry) → has_pair entries pair ≡ false → i < length entries → (get_or entries i d).0 ≢ pair
+new_pair [] pair i d new lt same = absurd (omega (arith, lt))
+new_pair (e ∷ entries) pair zero d new lt same =
+    let found : same_pair pair e.0 ≡ true = rw same (its_own pair) in
+    let here : is_some (lookup (same_pair pair) (e ∷ entries)) ≡ true = rw found refl in
+    cc (here, new)
+new_pair (e ∷ entries) pair (suc i) d new lt same = new_pair entries pair i d (behind (same_pair pair e.0) e.1 (lookup (same_pair pair) entries) new) (omega (arith, lt)) same
+
+once-push : (entries : List Entry) (entry : Entry) → HasNoPairTwice entries → has_pair entries entry.0 ≡ false → HasNoPairTwice (entries ++ entry ∷ [])
+once-push entries entry once new i j d lt within same =
+    let size : length (entries ++ entry ∷ []) ≡ length entries + 1 = length-append entries (entry ∷ []) in
+    let early : i < length entries = omega (arith, lt, within, size) in
+    let first = get_or_append_left entries (entry ∷ []) d i early in
+    let pair_of_first = ap (λ (e : Entry). e.0) first in
+    ⊎_elim
+    (λ old. once i j d lt old (sym pair_of_first ∙ same ∙ ap (λ (e : Entry). e.0) (get_or_append_left entries (entry ∷ []) d j old)))
+    (λ past.
+    let last : j ≡ length entries = omega (arith, past, within, size) in
+    let second : get_or (entries ++ entry ∷ []) j d ≡ entry = rw last (get_or-append_seam entries entry [] d) in
+    new_pair entries entry.0 i d new early (sym pair_of_first ∙ same ∙ ap (λ (e : Entry). e.0) second))
+    (cases_lt j (length entries))
+
 -- one record more, and its row marked
 marked-push : (kind : Column) (rows : List Bool) (entries : List Entry) (entry : Entry) (row : ℕ) → row ≡ marked_row kind entry.0 → row < length rows
     → ((k : ℕ) → get_or rows k false ≡ list_any (λ e. marked_row kind e.0 == k) entries)
@@ -55,15 +108,17 @@ marked-push kind rows entries entry row is lt marked k = rw (list_any-append (λ
     by true same = let here : row ≡ k = eqb-true _ _ same in rw (same, ← here, get_or-set_same rows row true false lt) (or-true _)
     by false same = let other : k ≢ row = λ h. eqb-false _ _ same (sym h) in rw (same, get_or-set_other rows row k true false other, marked k) (or-false _)
 
-pub factors-push : (kind : Column) (old new : Pairs) (entry : Entry) (row : ℕ) → AreFactors kind old → row ≡ marked_row kind entry.0 → row < length old.marked.items
+pub factors-push : (kind : Column) (old new : Pairs) (entry : Entry) (row : ℕ) → AreFactors kind old → has_pair old.by_pair.entries entry.0 ≡ false → row ≡ marked_row kind entry.0 → row < length old.marked.items
     → unsigned_abs entry.1 ≤ most_factor → new.by_pair.entries ≡ old.by_pair.entries ++ entry ∷ [] → new.marked.items ≡ slice_set old.marked.items row true → AreFactors kind new
-factors-push kind old new entry row are is lt small entries marked = record {
+factors-push kind old new entry row are fresh is lt small entries marked = record {
   marked = λ k. rw (entries, marked) (marked-push kind old.marked.items old.by_pair.entries entry row is lt are.marked k);
+  once = rw entries (once-push old.by_pair.entries entry are.once fresh);
   sizes = rw entries (All-append (λ (e : Entry). unsigned_abs e.1 ≤ most_factor) old.by_pair.entries (entry ∷ []) are.sizes (All-cons (λ (e : Entry). unsigned_abs e.1 ≤ most_factor) entry [] small (All-nil _)));
 }
 
 pub factors-none : (kind : Column) (pairs : Pairs) → pairs.by_pair.entries ≡ [] → ((k : ℕ) → get_or pairs.marked.items k false ≡ false) → AreFactors kind pairs
 factors-none kind pairs none unmarked = record {
   marked = λ k. rw none (unmarked k);
+  once = rw none (λ i j d lt within. absurd (omega (arith, within)));
   sizes = rw none (All-nil _);
 }

@@ -1,5 +1,5 @@
 -- Factors by pair, as records give them.
-use Rattle.std.specs.Prelude.{◌≡◌, ℕ, ◌≤◌, ◌==◌, ◌&&◌, ℤ, pos, Bool, false, List, All, get_or, is_some, unwrap_or, unsigned_abs}
+use Rattle.std.specs.Prelude.{◌≡◌, ◌≢◌, ℕ, ◌≤◌, ◌==◌, ◌&&◌, ℤ, pos, Bool, false, List, All, AllPairs, Contains, ◌⊎◌, get_or, is_some, unwrap_or, unsigned_abs}
 use Rattle.std.specs.List.{list_any}
 use Rattle.std.specs.Map.{lookup}
 use Rattle.factor_tables.specs.declared.by_pair.Column.{Column}
@@ -25,6 +25,14 @@ has_pair entries pair = is_some (lookup (same_pair pair) entries)
 abbrev pub factor_at : List Entry → Pair → ℤ
 factor_at entries pair = unwrap_or (lookup (same_pair pair) entries) (pos 0)
 
+-- what a pair's factor is: that of a record of the pair, and 0 where no record has it
+abbrev pub IsFactor : List Entry → Pair → ℤ → Type 0
+IsFactor entries pair factor = Contains entries (pair, factor) ⊎ ((has_pair entries pair ≡ false) × (factor ≡ pos 0))
+
+-- no pair stands twice, so that a pair has one record at most
+abbrev pub HasNoPairTwice : List Entry → Type 0
+HasNoPairTwice entries = AllPairs (λ a b. a.0 ≢ b.0) entries
+
 -- whether some record is of this branch
 abbrev pub has_branch : List Entry → ℕ → Bool
 has_branch entries row = list_any (λ entry. entry.0.0 == row) entries
@@ -42,7 +50,8 @@ abbrev pub marked_row : Column → Pair → ℕ
 marked_row column.Bus pair = pair.0
 marked_row column.Outage pair = pair.1
 
--- the rows of the records are marked and no others, and no factor is too great
+-- the rows of the records are marked and no others, no pair stands twice, and no factor is too great
 pub record AreFactors (kind : Column) (pairs : Pairs) : Type 0 where
   pub marked : (row : ℕ) → get_or pairs.marked.items row false ≡ list_any (λ entry. marked_row kind entry.0 == row) pairs.by_pair.entries
+  pub once : HasNoPairTwice pairs.by_pair.entries
   pub sizes : All (λ entry. unsigned_abs entry.1 ≤ most_factor) pairs.by_pair.entries

@@ -1,7 +1,7 @@
 //! Factors by pair.
 
 ghost use Rattle.std.specs.Prelude.{◌≡◌, ℕ, ◌≤◌, ◌<◌, ◌+◌, ◌++◌, ◌∷◌, [], List, unsigned_abs, length, get_or, slice_set, IfOk, false, true};
-ghost use Rattle.factor_tables.specs.Factors.{Entry, AreFactors, factor_at, has_branch, has_outage, has_pair, marked_row, most_factor};
+ghost use Rattle.factor_tables.specs.Factors.{Entry, AreFactors, IsFactor, factor_at, has_branch, has_outage, has_pair, marked_row, most_factor};
 
 use indexmap::IndexMap;
 use plain_list::Memory;
@@ -108,6 +108,7 @@ impl Shift {
     /// The factor of a branch's row and a bus's number, 0 where they have no record.
     pub fn factor(&self, branch: u32, bus: u32) -> i64
         ensures size { unsigned_abs result ≤ most_factor }
+        ensures means { IsFactor self.now (branch, bus) result }
         ensures is { result ≡ factor_at self.now (branch, bus) }
     {
         self.pairs.factor((branch, bus))
@@ -144,6 +145,7 @@ impl Loss {
     /// The factor of a branch's row and the row of the lost branch, 0 where they have no record.
     pub fn factor(&self, branch: u32, outage: u32) -> i64
         ensures size { unsigned_abs result ≤ most_factor }
+        ensures means { IsFactor self.now (branch, outage) result }
         ensures is { result ≡ factor_at self.now (branch, outage) }
     {
         self.pairs.factor((branch, outage))

@@ -2,7 +2,7 @@
 
 ghost use Rattle.std.specs.Prelude.{◌≡◌, ◌≢◌, ℕ, ◌+◌, ◌<◌, ◌≤◌, ◌^◌, ◌&&◌, not, unsigned_abs, length, get_or, [], Ok, Err, IfOk, IfErr, false};
 ghost use Rattle.csv_table.specs.Table.{read_rows};
-ghost use Rattle.factor_tables.specs.Factors.{AreFactors, has_pair, marked_row, most_factor};
+ghost use Rattle.factor_tables.specs.Factors.{AreFactors, HasNoPairTwice, has_pair, marked_row, most_factor};
 ghost use Rattle.factor_tables.specs.Records.{FactorIsRead};
 ghost use Rattle.factor_tables.specs.Rules.{IsPairOf, checked, fine, loss_faults, record_faults, shift_faults};
 ghost use Rattle.factor_tables.specs.Tables.{entry_in, loss_of, shift_of};
@@ -120,7 +120,8 @@ fn pairs_of(
 
 /// Reads a shift table. Its factors are in 10^-6.
 pub fn shift(alloc: Global, network: &Network, bytes: &[u8]) -> Result<Shift, TableFault>
-    ensures { result ≢ Err TableFault.Memory → result ≡ shift_of network.now bytes.now }
+    ensures once { IfOk result HasNoPairTwice }
+    ensures is { result ≢ Err TableFault.Memory → result ≡ shift_of network.now bytes.now }
 {
     let header = [
         b"branch".as_slice(),
@@ -134,7 +135,8 @@ pub fn shift(alloc: Global, network: &Network, bytes: &[u8]) -> Result<Shift, Ta
 
 /// Reads an outage table. Its factors are in 10^-6.
 pub fn outage(alloc: Global, network: &Network, bytes: &[u8]) -> Result<Loss, TableFault>
-    ensures { result ≢ Err TableFault.Memory → result ≡ loss_of network.now bytes.now }
+    ensures once { IfOk result HasNoPairTwice }
+    ensures is { result ≢ Err TableFault.Memory → result ≡ loss_of network.now bytes.now }
 {
     let header = [
         b"branch".as_slice(),

@@ -7,7 +7,7 @@ use std::test::Fail;
 
 /// Three live buses and an isolated one. Branch 2 shifts phases and has a base limit, branch 3 a limit after an outage, and branch 4
 /// is out of service.
-const CASE: &[u8] = b"function mpc = t
+const CASE: &str = "function mpc = t
 mpc.version = '2';
 mpc.baseMVA = 100;
 mpc.bus = [
@@ -28,7 +28,7 @@ mpc.branch = [
 ];
 ";
 
-const SHIFT: &[u8] = b"branch,bus,factor
+const SHIFT: &str = "branch,bus,factor
 1,2,-0.5
 2,2,-0.5
 3,2,0.5
@@ -37,7 +37,7 @@ const SHIFT: &[u8] = b"branch,bus,factor
 3,3,-0.25
 ";
 
-const LOSS: &[u8] = b"branch,outage,factor
+const LOSS: &str = "branch,outage,factor
 2,1,1
 3,1,-1
 1,2,1
@@ -47,19 +47,16 @@ const LOSS: &[u8] = b"branch,outage,factor
 ";
 
 fn three_buses(alloc: Global) -> Result<Network, Fail> {
-    let case = read_case(alloc, CASE)?;
+    let case = read_case(alloc, CASE.as_bytes())?;
     Ok(network(alloc, &case, Branches::Read(PostRating::C))?)
 }
 
-fn with_line(alloc: Global, text: &[u8], line: &[u8]) -> Result<Vec<u8>, Fail> {
-    let mut bytes = Vec::new(alloc);
-    bytes.extend_from_slice(text)?;
-    bytes.extend_from_slice(line)?;
-    Ok(bytes)
+fn with_line(alloc: Global, text: &str, line: &str) -> Result<String, Fail> {
+    Ok(format!(in alloc; "{text}{line}")?)
 }
 
-fn shift_fault(alloc: Global, network: &Network, bytes: &[u8]) -> Result<(), TableFault> {
-    shift(alloc, network, bytes)?;
+fn shift_fault(alloc: Global, network: &Network, text: &str) -> Result<(), TableFault> {
+    shift(alloc, network, text.as_bytes())?;
     Ok(())
 }
 
@@ -67,23 +64,23 @@ fn shift_fault(alloc: Global, network: &Network, bytes: &[u8]) -> Result<(), Tab
 fn shift_tables(rt: HostRuntime) -> Result<(), Fail> {
     let network = three_buses(rt.alloc())?;
     for (line, want) in [
-        (b"".as_slice(), Ok(())),
-        (b"2,3,0\n", Err(TableFault::Twice { line: 8 })),
-        (b"1,2\n", Err(TableFault::Width { line: 8 })),
-        (b"9,2,0.1\n", Err(TableFault::NoBranch { line: 8 })),
-        (b"0,2,0\n", Err(TableFault::NoBranch { line: 8 })),
-        (b"1,9,0\n", Err(TableFault::NoBus { line: 8 })),
+        ("", Ok(())),
+        ("2,3,0\n", Err(TableFault::Twice { line: 8 })),
+        ("1,2\n", Err(TableFault::Width { line: 8 })),
+        ("9,2,0.1\n", Err(TableFault::NoBranch { line: 8 })),
+        ("0,2,0\n", Err(TableFault::NoBranch { line: 8 })),
+        ("1,9,0\n", Err(TableFault::NoBus { line: 8 })),
         (
-            b"1,2,1000.000001\n",
+            "1,2,1000.000001\n",
             Err(TableFault::Cell {
                 line: 8,
                 col: 3,
                 why: Why::Bounds,
             }),
         ),
-        (b"1,1,-1000\n", Ok(())),
+        ("1,1,-1000\n", Ok(())),
         (
-            b"1.5,x,0\n",
+            "1.5,x,0\n",
             Err(TableFault::Cell {
                 line: 8,
                 col: 1,
@@ -91,17 +88,17 @@ fn shift_tables(rt: HostRuntime) -> Result<(), Fail> {
             }),
         ),
         // Of what is out of service, a factor of 0 is accepted and others are not.
-        (b"4,1,0\n4,4,0\n1,4,0\n", Ok(())),
-        (b"4,1,0\n4,1,0\n", Err(TableFault::Twice { line: 9 })),
-        (b"4,1,0.1\n", Err(TableFault::DeadBranch { line: 8 })),
-        (b"4,4,0.1\n", Err(TableFault::DeadBranch { line: 8 })),
-        (b"1,4,0.1\n", Err(TableFault::DeadBus { line: 8 })),
+        ("4,1,0\n4,4,0\n1,4,0\n", Ok(())),
+        ("4,1,0\n4,1,0\n", Err(TableFault::Twice { line: 9 })),
+        ("4,1,0.1\n", Err(TableFault::DeadBranch { line: 8 })),
+        ("4,4,0.1\n", Err(TableFault::DeadBranch { line: 8 })),
+        ("1,4,0.1\n", Err(TableFault::DeadBus { line: 8 })),
         // Quotes, the other line ends, and a blank line at the end.
-        (b"\"1\",\"1\",\"0.5\"\r\n2,1,1\r3,1,1\n\n", Ok(())),
+        ("\"1\",\"1\",\"0.5\"\r\n2,1,1\r3,1,1\n\n", Ok(())),
     ] {
-        let bytes = with_line(rt.alloc(), SHIFT, line)?;
+        let text = with_line(rt.alloc(), SHIFT, line)?;
         assert_eq!(rt;
-            shift_fault(rt.alloc(), &network, bytes.as_slice()),
+            shift_fault(rt.alloc(), &network, text.as_str()),
             want,
             "{line:?}"
         );
@@ -112,8 +109,8 @@ fn shift_tables(rt: HostRuntime) -> Result<(), Fail> {
 #[test]
 fn factors(rt: HostRuntime) -> Result<(), Fail> {
     let network = three_buses(rt.alloc())?;
-    let bytes = with_line(rt.alloc(), SHIFT, b"4,1,0\n")?;
-    let shift = shift(rt.alloc(), &network, bytes.as_slice())?;
+    let text = with_line(rt.alloc(), SHIFT, "4,1,0\n")?;
+    let shift = shift(rt.alloc(), &network, text.as_bytes())?;
     assert_eq!(rt; shift.factor(2, 3), -750_000);
     assert_eq!(rt; shift.factor(3, 2), 500_000);
     assert_eq!(rt; shift.factor(2, 1), 0);
@@ -121,7 +118,7 @@ fn factors(rt: HostRuntime) -> Result<(), Fail> {
     let loss = outage(
         rt.alloc(),
         &network,
-        b"\xEF\xBB\xBFbranch,outage,factor\n3,1,-1\n2,4,0\n",
+        "\u{FEFF}branch,outage,factor\n3,1,-1\n2,4,0\n".as_bytes(),
     )?;
     assert_eq!(rt; loss.factor(3, 1), -1_000_000);
     assert_eq!(rt; loss.factor(1, 3), 0);
@@ -129,8 +126,8 @@ fn factors(rt: HostRuntime) -> Result<(), Fail> {
     Ok(())
 }
 
-fn loss_fault(alloc: Global, network: &Network, bytes: &[u8]) -> Result<(), TableFault> {
-    outage(alloc, network, bytes)?;
+fn loss_fault(alloc: Global, network: &Network, text: &str) -> Result<(), TableFault> {
+    outage(alloc, network, text.as_bytes())?;
     Ok(())
 }
 
@@ -138,15 +135,15 @@ fn loss_fault(alloc: Global, network: &Network, bytes: &[u8]) -> Result<(), Tabl
 fn outage_tables(rt: HostRuntime) -> Result<(), Fail> {
     let network = three_buses(rt.alloc())?;
     for (line, want) in [
-        (b"".as_slice(), Ok(())),
-        (b"1,5,0\n", Err(TableFault::NoBranch { line: 8 })),
-        (b"1,4,1\n", Err(TableFault::DeadBranch { line: 8 })),
-        (b"4,1,1\n", Err(TableFault::DeadBranch { line: 8 })),
-        (b"3,1,-1\n", Err(TableFault::Twice { line: 8 })),
+        ("", Ok(())),
+        ("1,5,0\n", Err(TableFault::NoBranch { line: 8 })),
+        ("1,4,1\n", Err(TableFault::DeadBranch { line: 8 })),
+        ("4,1,1\n", Err(TableFault::DeadBranch { line: 8 })),
+        ("3,1,-1\n", Err(TableFault::Twice { line: 8 })),
     ] {
-        let bytes = with_line(rt.alloc(), LOSS, line)?;
+        let text = with_line(rt.alloc(), LOSS, line)?;
         assert_eq!(rt;
-            loss_fault(rt.alloc(), &network, bytes.as_slice()),
+            loss_fault(rt.alloc(), &network, text.as_str()),
             want,
             "{line:?}"
         );
@@ -161,46 +158,42 @@ fn outage_tables(rt: HostRuntime) -> Result<(), Fail> {
 fn offset_of(
     alloc: Global,
     network: &Network,
-    bytes: &[u8],
+    text: &str,
     branch: u32,
 ) -> Result<Option<i64>, TableFault> {
-    let offsets = offsets(alloc, network, bytes)?;
+    let offsets = offsets(alloc, network, text.as_bytes())?;
     Ok(offsets.offset(branch))
 }
 
 #[test]
 fn offset_tables(rt: HostRuntime) -> Result<(), Fail> {
     let network = three_buses(rt.alloc())?;
-    for (bytes, branch, want) in [
-        (b"branch,mw\n2,10\n".as_slice(), 2, Ok(Some(10_000_000_000))),
-        (b"branch,mw\n2,10\n", 1, Ok(None)),
-        (b"branch,mw\n4,0\n2,-0.5\n", 2, Ok(Some(-500_000_000))),
-        (b"branch,mw\n", 2, Err(TableFault::NoOffset { branch: 2 })),
+    for (text, branch, want) in [
+        ("branch,mw\n2,10\n", 2, Ok(Some(10_000_000_000))),
+        ("branch,mw\n2,10\n", 1, Ok(None)),
+        ("branch,mw\n4,0\n2,-0.5\n", 2, Ok(Some(-500_000_000))),
+        ("branch,mw\n", 2, Err(TableFault::NoOffset { branch: 2 })),
         (
-            b"branch,mw\n1,10\n",
+            "branch,mw\n1,10\n",
             2,
             Err(TableFault::NoOffset { branch: 2 }),
         ),
         (
-            b"branch,mw\n2,10\n2,10\n",
+            "branch,mw\n2,10\n2,10\n",
             2,
             Err(TableFault::Twice { line: 3 }),
         ),
         (
-            b"branch,mw\n4,1\n",
+            "branch,mw\n4,1\n",
             2,
             Err(TableFault::DeadBranch { line: 2 }),
         ),
-        (
-            b"branch,mw\n5,0\n",
-            2,
-            Err(TableFault::NoBranch { line: 2 }),
-        ),
+        ("branch,mw\n5,0\n", 2, Err(TableFault::NoBranch { line: 2 })),
     ] {
         assert_eq!(rt;
-            offset_of(rt.alloc(), &network, bytes, branch),
+            offset_of(rt.alloc(), &network, text, branch),
             want,
-            "{bytes:?}"
+            "{text:?}"
         );
     }
     Ok(())
@@ -208,7 +201,7 @@ fn offset_tables(rt: HostRuntime) -> Result<(), Fail> {
 
 #[test]
 fn outages(rt: HostRuntime) -> Result<(), Fail> {
-    let rows = outage_rows(rt.alloc(), b"branch\n1\n-5\n1e0\n")?;
+    let rows = outage_rows(rt.alloc(), "branch\n1\n-5\n1e0\n".as_bytes())?;
     assert_eq!(rt; rows.slice(), [1, -5, 1].as_slice());
     Ok(())
 }
@@ -216,12 +209,20 @@ fn outages(rt: HostRuntime) -> Result<(), Fail> {
 #[test]
 fn covers(rt: HostRuntime) -> Result<(), Fail> {
     let network = three_buses(rt.alloc())?;
-    let full = shift(rt.alloc(), &network, SHIFT)?;
-    let none = shift(rt.alloc(), &network, b"branch,bus,factor\n")?;
-    let base = shift(rt.alloc(), &network, b"branch,bus,factor\n2,1,0\n")?;
-    let lost = shift(rt.alloc(), &network, b"branch,bus,factor\n2,1,0\n1,1,0\n")?;
-    let loss = outage(rt.alloc(), &network, LOSS)?;
-    let no_loss = outage(rt.alloc(), &network, b"branch,outage,factor\n")?;
+    let full = shift(rt.alloc(), &network, SHIFT.as_bytes())?;
+    let none = shift(rt.alloc(), &network, "branch,bus,factor\n".as_bytes())?;
+    let base = shift(
+        rt.alloc(),
+        &network,
+        "branch,bus,factor\n2,1,0\n".as_bytes(),
+    )?;
+    let lost = shift(
+        rt.alloc(),
+        &network,
+        "branch,bus,factor\n2,1,0\n1,1,0\n".as_bytes(),
+    )?;
+    let loss = outage(rt.alloc(), &network, LOSS.as_bytes())?;
+    let no_loss = outage(rt.alloc(), &network, "branch,outage,factor\n".as_bytes())?;
     // Branch 2 has a base limit.
     assert_eq!(rt;
         cover(&network, &none, &no_loss, &[]),

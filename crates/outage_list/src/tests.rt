@@ -7,7 +7,7 @@ use std::process::Abort;
 use std::test::Fail;
 
 /// Buses 1, 2, 3 in a line and 4 in a triangle with 1 and 2; branch 5 is out of service.
-const CASE: &[u8] = b"function mpc = line
+const CASE: &str = "function mpc = line
 mpc.version = '2';
 mpc.baseMVA = 100;
 mpc.bus = [
@@ -29,14 +29,14 @@ mpc.branch = [
 ";
 
 fn four_buses(alloc: Global) -> Result<Network, Fail> {
-    let case = read_case(alloc, CASE)?;
+    let case = read_case(alloc, CASE.as_bytes())?;
     Ok(network(alloc, &case, Branches::Read(PostRating::C))?)
 }
 
 #[test]
 fn lists_outages(rt: HostRuntime) -> Result<(), Fail> {
     let network = four_buses(rt.alloc())?;
-    let rows = outage_rows(rt.alloc(), b"branch\n4\n1\n3\n")?;
+    let rows = outage_rows(rt.alloc(), "branch\n4\n1\n3\n".as_bytes())?;
     let outages = listed(rt.alloc(), &network, &rows)?;
     assert_eq!(rt; outages.slice(), [4, 1, 3].as_slice());
     Ok(())
@@ -45,7 +45,7 @@ fn lists_outages(rt: HostRuntime) -> Result<(), Fail> {
 #[test]
 fn tells_islands(rt: HostRuntime) -> Result<(), Fail> {
     let network = four_buses(rt.alloc())?;
-    let rows = outage_rows(rt.alloc(), b"branch\n1\n2\n2\n")?;
+    let rows = outage_rows(rt.alloc(), "branch\n1\n2\n2\n".as_bytes())?;
     match listed(rt.alloc(), &network, &rows) {
         Err(OutageFault::Islands { branch, side }) => {
             assert_eq!(rt; branch, 2);
@@ -60,12 +60,12 @@ fn tells_islands(rt: HostRuntime) -> Result<(), Fail> {
 fn tells_numbers_at_fault(rt: HostRuntime) -> Result<(), Fail> {
     let network = four_buses(rt.alloc())?;
     for (text, want) in [
-        (b"branch\n1\n6\n5\n".as_slice(), "NoBranch { line: 3 }"),
-        (b"branch\n0\n", "NoBranch { line: 2 }"),
-        (b"branch\n5\n", "DeadBranch { line: 2 }"),
-        (b"branch\n1\n3\n1\n2\n", "Twice { line: 4 }"),
+        ("branch\n1\n6\n5\n", "NoBranch { line: 3 }"),
+        ("branch\n0\n", "NoBranch { line: 2 }"),
+        ("branch\n5\n", "DeadBranch { line: 2 }"),
+        ("branch\n1\n3\n1\n2\n", "Twice { line: 4 }"),
     ] {
-        let rows = outage_rows(rt.alloc(), text)?;
+        let rows = outage_rows(rt.alloc(), text.as_bytes())?;
         match listed(rt.alloc(), &network, &rows) {
             Err(fault) => {
                 let told = format!(in rt.alloc(); "{fault:?}")?;

@@ -36,7 +36,7 @@ loop-row-preserved c =
     let within : c.marked_row.result < length c.loop-row.pairs.marked.items = omega (arith, c.in_ok-pair.ensures.row, c.loop-row.invariant.rows, c.marked_row.ensures) in
     record {
       kept =
-          factors-push c.args.column c.loop-row.pairs c.add.new.self (c.in_ok-pair.pair, c.in_ok-pair.factor) c.marked_row.result c.loop-row.invariant.kept c.marked_row.ensures within
+          factors-push c.args.column c.loop-row.pairs c.add.new.self (c.in_ok-pair.pair, c.in_ok-pair.factor) c.marked_row.result c.loop-row.invariant.kept c.in_ok-pair.ensures.new c.marked_row.ensures within
           c.in_ok-pair.ensures.size entries c.in_ok-add.ensures.marked;
       rows = ap length c.in_ok-add.ensures.marked ∙ length-set _ _ _ ∙ c.loop-row.invariant.rows;
       is = rw (entries, ← next) here;

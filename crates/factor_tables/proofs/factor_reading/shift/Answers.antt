@@ -6,24 +6,27 @@ use Rattle.factor_tables.specs.Tables.{entry_in, shift_header, shift_of}
 use Rattle.factor_tables.proofs.Framed.{framed-fault, framed-fits}
 use Rattle.factor_tables.proofs.factor_reading.shift.Goals as goal
 
-pub returns-in_err-table : goal.returns-in_err-table
+pub returns-in_err-table-clause-is : goal.returns-in_err-table-clause-is
 unfolding shift_of
-returns-in_err-table c =
+returns-in_err-table-clause-is c =
     let names : map (λ (name : Bor (List ℕ)). name.now) c.as_slice-4.result.now ≡ shift_header = search rules in
     let given : c.from_residual.result ≡ Err (frame_fault c.in_err-table.field-0.0) = search rules in
     λ other. rw given (sym (framed-fault (read_rows (entry_in c.args.network.now column.Bus) [] 2) None c.args.bytes.now shift_header _ c.in_err-table.field-0.0 names c.in_err-table.ensures.err (λ m. other (given ∙ ap Err m))))
 
-pub returns-in_err-pairs : goal.returns-in_err-pairs
+pub returns-in_err-pairs-clause-is : goal.returns-in_err-pairs-clause-is
 unfolding shift_of
-returns-in_err-pairs c =
+returns-in_err-pairs-clause-is c =
     let names : map (λ (name : Bor (List ℕ)). name.now) c.as_slice-4.result.now ≡ shift_header = search rules in
     let fits = framed-fits (read_rows (entry_in c.args.network.now column.Bus) [] 2) None c.args.bytes.now shift_header _ _ names c.in_ok-table.ensures.ok in
     let given : c.from_residual-in_err-pairs.result ≡ Err c.in_err-pairs.field-0.0 = search rules in
     λ other. rw given (sym (fits ∙ c.in_err-pairs.ensures.err (λ m. other (given ∙ ap Err m))))
 
-pub returns : goal.returns
+pub returns-clause-is : goal.returns-clause-is
 unfolding shift_of
-returns c =
+returns-clause-is c =
     let names : map (λ (name : Bor (List ℕ)). name.now) c.as_slice-4.result.now ≡ shift_header = search rules in
     let fits = framed-fits (read_rows (entry_in c.args.network.now column.Bus) [] 2) None c.args.bytes.now shift_header _ _ names c.in_ok-table.ensures.ok in
     λ _. sym (fits ∙ c.in_ok-pairs.ensures.ok)
+
+pub returns-clause-once : goal.returns-clause-once
+returns-clause-once c = c.in_ok-pairs.ensures.kept.once

@@ -4,7 +4,7 @@ use mir.Val.{to_z, of_z}
 use Rattle.std.proofs.lemmas.Int.{to_z-of_z}
 use Rattle.market_model.proofs.Data.{datum_fits}
 use Rattle.factor_tables.specs.Factors.{factor_at}
-use Rattle.factor_tables.proofs.FactorLemmas.{factor_at-size}
+use Rattle.factor_tables.proofs.FactorLemmas.{factor_at-means, factor_at-size}
 use Rattle.factor_tables.proofs.by_pair.Loss.factor.Goals as goal
 
 pub returns-clause-size : goal.returns-clause-size
@@ -14,3 +14,11 @@ returns-clause-size c =
     let datum : unsigned_abs (factor_at entries (c.args.branch, c.args.outage)) < 2 ^ 63 = omega (arith, small) in
     let fits : to_z w64 (of_z w64 (factor_at entries (c.args.branch, c.args.outage))) ≡ factor_at entries (c.args.branch, c.args.outage) = to_z-of_z w64 _ (datum_fits _ datum) in
     rw (c.factor.ensures, fits) small
+
+pub returns-clause-means : goal.returns-clause-means
+returns-clause-means c =
+    let entries = c.self.inside.pairs.by_pair.entries in
+    let small = factor_at-size entries (c.args.branch, c.args.outage) c.self.invariant.sizes in
+    let datum : unsigned_abs (factor_at entries (c.args.branch, c.args.outage)) < 2 ^ 63 = omega (arith, small) in
+    let fits : to_z w64 (of_z w64 (factor_at entries (c.args.branch, c.args.outage))) ≡ factor_at entries (c.args.branch, c.args.outage) = to_z-of_z w64 _ (datum_fits _ datum) in
+    rw (← c.self.view_is, c.factor.ensures, fits) (factor_at-means entries (c.args.branch, c.args.outage))
