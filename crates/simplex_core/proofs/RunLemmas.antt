@@ -7,7 +7,12 @@ use Rattle.linear_dict.specs.Dictionaries.{Dictionary, system_of, choice_of}
 use Rattle.simplex_theory.specs.States.{IsWithin, IsSolved, IsOutOfReach}
 use Rattle.simplex_theory.specs.Steps.{Leaves, Helps}
 use Rattle.simplex_theory.proofs.Outcomes.{solved, out_of_reach, no_point}
-use Rattle.simplex_core.specs.Outcomes.{Keeps, IsEmptyAt}
+use Rattle.exact_fraction.specs.declared.Op.{Op}
+use Rattle.fraction_theory.specs.Fraction.{Fraction}
+use Rattle.linear_system.specs.Pairs.{IsSystemPair}
+use Rattle.simplex_core.specs.declared.solving.Run.{Run}
+use Rattle.simplex_core.specs.declared.solving.Run.TheVariants.{Solved, Empty, Passed}
+use Rattle.simplex_core.specs.Outcomes.{Keeps, IsAnswered, IsEmptyAt, IsOutcome}
 use Rattle.simplex_core.specs.States.{state_of, IsReady}
 use Rattle.simplex_core.specs.Turns.{turned}
 use Rattle.simplex_core.proofs.Nexts.{IsTurn}
@@ -42,3 +47,9 @@ empty_at d ready v row above leaves idle within e = record {
   within = within;
   out_of_reach = subst (λ (w : ℕ). IsOutOfReach (system_of d) (choice_of d) w) (sym e) (out_of_reach (system_of d) (state_of d) ready.posed v above leaves.basic leaves.violates idle);
 }
+
+-- with no working pair there is no refusal
+pub answered : {N : Type 0} (value : N → Fraction) (bound : ℕ) (d : Dictionary) (r : Run N) → ((op : Op) (left right : Fraction) → ¬ (IsSystemPair (system_of d) bound op left right)) → IsOutcome value bound d r → IsAnswered r
+answered value bound d (Solved e) none o = tt
+answered value bound d (Empty e row) none o = tt
+answered value bound d (Passed p) none o = none p.op (value p.left) (value p.right) o

@@ -33,3 +33,9 @@ abbrev pub IsOutcome : {N : Type 0} → (N → Fraction) → ℕ → Dictionary 
 IsOutcome value bound d (Solved e) = Keeps d e × IsSolved (system_of e) (state_of e)
 IsOutcome value bound d (Empty e row) = Keeps d e × IsEmptyAt e row
 IsOutcome value bound d (Passed p) = IsPairOf value bound (system_of d) p
+
+-- solved or empty, and no refusal
+abbrev pub IsAnswered : {N : Type 0} → Run N → Type 0
+IsAnswered (Solved e) = Unit {0}
+IsAnswered (Empty e row) = Unit {0}
+IsAnswered (Passed p) = ⊥

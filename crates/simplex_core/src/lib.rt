@@ -6,6 +6,7 @@
 mod bounds;
 mod enter;
 mod exchange;
+pub mod laws;
 mod leave;
 mod posing;
 mod solving;
