@@ -1,0 +1,287 @@
+-- The flows of an injection miss Kirchhoff's current law by the residuals times what goes in.
+use Rattle.std.specs.Prelude.{◌≡◌, ℕ, ◌<◌, ◌≤◌, ◌==◌, ℤ, pos, negsuc, ◌+ℤ◌, ◌-ℤ◌, ◌≤ℤ◌, neg_ℤ, unsigned_abs, Bool, true, false, List, [], ◌∷◌, ◌++◌, if◌then◌else◌, refl}
+use Rattle.std.proofs.Common.{zero, suc, ap, sym, subst, ◌∙◌, arith}
+use Rattle.std.proofs.lemmas.Int.{ints}
+use Rattle.std.proofs.lemmas.Bool.{ne_eqb, eq-eqb}
+use Rattle.std.proofs.Math.Nat.{eq-or-lt_of_le}
+use Rattle.std.specs.Prelude.{◌⊎◌}
+use Rattle.std.proofs.Common.{inl, inr}
+use mathlib.Core.Path.{ap₂}
+use Rattle.fraction_theory.specs.Fraction.{Fraction, unsigned_abs-neg, whole, ◌+ℚ◌, ◌-ℚ◌, ◌*ℚ◌, neg_ℚ}
+use Rattle.fraction_theory.specs.Order.{◌≤ℚ◌, NonNeg}
+use Rattle.fraction_theory.specs.Sums.{sum_by}
+use Rattle.fraction_theory.proofs.Ring.{by_ring, at, padd, pmul, pneg, pnil, nil_plus, times_nil}
+use Rattle.fraction_theory.proofs.FieldLaws.{ring_ℚ, whole_is, one_is, whole-+ℚ, whole-neg, *ℚ_comm, *ℚ_one}
+use Rattle.fraction_theory.proofs.IntegerLaws.{*ℤ-pos_one, zero≤-cancel, zero≤-times}
+use Rattle.fraction_theory.proofs.FractionLaws.{Is, over_is, times_is, same_value}
+use Rattle.fraction_theory.proofs.OrderLaws.{≤ℚ_refl, ≤ℚ_trans, ≤ℚ_of_same, +ℚ-≤ℚ, *ℚ-≤ℚ, whole-≤ℚ}
+use Rattle.fraction_theory.proofs.SumLaws.{sum_by-append, sum_by-plus, sum_by-times, sum_by-nil, sum_by-exchange, sum_by-same}
+use Rattle.std.specs.Prelude.{length, map, All, Contains, Option, Some, None, MatchOption}
+use Rattle.std.specs.List.{flat_map}
+use Rattle.std.specs.Option.{option_map_or}
+use Rattle.fraction_theory.proofs.ListSums.{Contains-cons}
+use Rattle.std.proofs.lemmas.List.Elements.{All-append, All-contains, Contains-append_left, Contains-append_right}
+use Rattle.market_model.specs.WholeSums.{int_sum}
+use Rattle.net_case.specs.declared.live_parts.NetBranch.{NetBranch}
+use Rattle.net_paths.specs.Connection.{bus_number}
+use Rattle.factor_tables.specs.Factors.{factor_at}
+use Rattle.factor_residuals.specs.declared.spots.Spot.{Spot}
+use Rattle.factor_residuals.specs.declared.spots.Residual.{Residual}
+use Rattle.factor_residuals.specs.Kirchhoff.{taken, net_outflow, one_at, bus_spot}
+use Rattle.factor_residuals.specs.Residuals.{IsMost, IsResidual, places, shift_column, shift_columns, bus_spots}
+use Rattle.factor_residuals.specs.Injections.{micro, size_by, size, taken_flow, greatest, LawOfInjections}
+
+-- the flow over the branch of a row, by factors of rows and places
+abbrev flow_by : (ℕ → ℕ → ℤ) → ℕ → (ℕ → Fraction) → ℕ → Fraction
+flow_by h n p row = sum_by (λ i. micro (h row i) *ℚ p i) (places n)
+
+abbrev outflow_by : (ℕ → Fraction) → List NetBranch → ℕ → Fraction
+outflow_by flow branches b = sum_by (taken_flow flow b) branches
+
+abbrev miss : (ℕ → ℤ) → List NetBranch → ℕ → ℕ → ℕ → ℤ
+miss flow branches source sink b = net_outflow flow branches b -ℤ one_at source b +ℤ one_at sink b
+
+-- ---- millionths
+micro-whole : (n : ℤ) → micro n ≡ whole n *ℚ micro (pos 1)
+micro-whole n = same_value (micro n) (whole n *ℚ micro (pos 1)) n 1000000 (Prim.omega arith) (over_is n 1000000 (Prim.omega arith)) product
+  where
+    product : Is (whole n *ℚ micro (pos 1)) n 1000000
+    product = subst (λ m. Is (whole n *ℚ micro (pos 1)) m 1000000) (*ℤ-pos_one n)
+        (times_is (whole n) (micro (pos 1)) n (pos 1) 1 1000000 (whole_is n) (over_is (pos 1) 1000000 (Prim.omega arith)))
+
+micro-plus : (m n : ℤ) → micro (m +ℤ n) ≡ micro m +ℚ micro n
+micro-plus m n = micro-whole (m +ℤ n) ∙ ap (λ t. t *ℚ micro (pos 1)) (whole-+ℚ m n)
+    ∙ by_ring ring_ℚ (whole m ∷ whole n ∷ micro (pos 1) ∷ []) (pmul (padd (at 0) (at 1)) (at 2)) (padd (pmul (at 0) (at 2)) (pmul (at 1) (at 2))) refl
+    ∙ sym (ap₂ ◌+ℚ◌ (micro-whole m) (micro-whole n))
+
+micro-neg : (n : ℤ) → micro (neg_ℤ n) ≡ neg_ℚ (micro n)
+micro-neg n = micro-whole (neg_ℤ n) ∙ ap (λ t. t *ℚ micro (pos 1)) (whole-neg n)
+    ∙ by_ring ring_ℚ (whole n ∷ micro (pos 1) ∷ []) (pmul (pneg (at 0)) (at 1)) (pneg (pmul (at 0) (at 1))) refl ∙ sym (ap neg_ℚ (micro-whole n))
+
+minus-is : (m n : ℤ) → m -ℤ n ≡ m +ℤ neg_ℤ n
+minus-is m n = Prim.omega (arith, ints)
+
+micro-minus : (m n : ℤ) → micro (m -ℤ n) ≡ micro m -ℚ micro n
+micro-minus m n = ap micro (minus-is m n) ∙ micro-plus m (neg_ℤ n) ∙ ap (λ t. micro m +ℚ t) (micro-neg n)
+
+micro-none : micro (pos 0) ≡ whole (pos 0)
+micro-none = micro-whole (pos 0) ∙ *ℚ_comm (whole (pos 0)) (micro (pos 1)) ∙ times_nil ring_ℚ (micro (pos 1))
+
+micro-one : micro (pos 1000000) ≡ whole (pos 1)
+micro-one = same_value (micro (pos 1000000)) (whole (pos 1)) (pos 1000000) 1000000 (Prim.omega arith) (over_is (pos 1000000) 1000000 (Prim.omega arith)) (one_is (pos 1000000) 1000000 refl)
+
+-- ---- sums
+-- the sum of a whole number of millionths times x
+micro-sum : {T : Type 0} (f : T → ℤ) (x : Fraction) (ls : List T) → sum_by (λ l. micro (f l) *ℚ x) ls ≡ micro (int_sum f ls) *ℚ x
+micro-sum f x [] = sym (ap (λ t. t *ℚ x) micro-none ∙ *ℚ_comm (whole (pos 0)) x ∙ times_nil ring_ℚ x)
+micro-sum f x (l ∷ ls) = ap (λ t. (micro (f l) *ℚ x) +ℚ t) (micro-sum f x ls)
+    ∙ by_ring ring_ℚ (micro (f l) ∷ x ∷ micro (int_sum f ls) ∷ []) (padd (pmul (at 0) (at 1)) (pmul (at 2) (at 1))) (pmul (padd (at 0) (at 2)) (at 1)) refl
+    ∙ ap (λ t. t *ℚ x) (sym (micro-plus (f l) (int_sum f ls)))
+
+sum_by-minus : {T : Type 0} (f g : T → Fraction) (xs : List T) → sum_by (λ x. f x -ℚ g x) xs ≡ sum_by f xs -ℚ sum_by g xs
+sum_by-minus f g [] = by_ring ring_ℚ [] pnil (padd pnil (pneg pnil)) refl
+sum_by-minus f g (x ∷ xs) = ap (λ t. (f x -ℚ g x) +ℚ t) (sum_by-minus f g xs)
+    ∙ by_ring ring_ℚ (f x ∷ g x ∷ sum_by f xs ∷ sum_by g xs ∷ []) (padd (padd (at 0) (pneg (at 1))) (padd (at 2) (pneg (at 3)))) (padd (padd (at 0) (at 2)) (pneg (padd (at 1) (at 3)))) refl
+
+more-places : (f : ℕ → Fraction) (n : ℕ) → sum_by f (places (suc n)) ≡ sum_by f (places n) +ℚ f n
+more-places f n = sum_by-append f (places n) (n ∷ []) ∙ ap (λ t. sum_by f (places n) +ℚ t) (ring_ℚ.plus_nil (f n))
+
+-- ---- one branch
+picked : (c : Bool) (h : ℕ → ℤ) (p : ℕ → Fraction) (is : List ℕ)
+    → (if c then sum_by (λ i. micro (h i) *ℚ p i) is else whole (pos 0)) ≡ sum_by (λ i. micro (if c then h i else pos 0) *ℚ p i) is
+picked true h p is = refl
+picked false h p is = sym (sum_by-same (λ i. micro (pos 0) *ℚ p i) (λ i. whole (pos 0)) is (λ i. ap (λ t. t *ℚ p i) micro-none ∙ *ℚ_comm (whole (pos 0)) (p i) ∙ times_nil ring_ℚ (p i)) ∙ sum_by-nil is)
+
+module _ (h : ℕ → ℕ → ℤ) (n : ℕ) (p : ℕ → Fraction) (b : ℕ) where
+  one_branch : (l : NetBranch) → taken_flow (flow_by h n p) b l ≡ sum_by (λ i. micro (taken (λ row. h row i) b l) *ℚ p i) (places n)
+  one_branch l =
+      let out : ℕ → ℤ = λ i. if l.from == b then h l.row i else pos 0 in
+      let into : ℕ → ℤ = λ i. if l.to == b then h l.row i else pos 0 in
+      ap₂ ◌-ℚ◌ (picked (l.from == b) (h l.row) p (places n)) (picked (l.to == b) (h l.row) p (places n))
+      ∙ sym (sum_by-minus (λ i. micro (out i) *ℚ p i) (λ i. micro (into i) *ℚ p i) (places n))
+      ∙ sum_by-same (λ i. (micro (out i) *ℚ p i) -ℚ (micro (into i) *ℚ p i)) (λ i. micro (out i -ℤ into i) *ℚ p i) (places n)
+      (λ i. by_ring ring_ℚ (micro (out i) ∷ micro (into i) ∷ p i ∷ []) (padd (pmul (at 0) (at 2)) (pneg (pmul (at 1) (at 2)))) (pmul (padd (at 0) (pneg (at 1))) (at 2)) refl
+      ∙ ap (λ t. t *ℚ p i) (sym (micro-minus (out i) (into i))))
+
+  -- the net outflow, by columns
+  by_columns : (branches : List NetBranch) → outflow_by (flow_by h n p) branches b ≡ sum_by (λ i. micro (net_outflow (λ row. h row i) branches b) *ℚ p i) (places n)
+  by_columns branches =
+      sum_by-same (taken_flow (flow_by h n p) b) (λ l. sum_by (λ i. micro (taken (λ row. h row i) b l) *ℚ p i) (places n)) branches one_branch
+      ∙ sum_by-exchange (λ l i. micro (taken (λ row. h row i) b l) *ℚ p i) branches (places n)
+      ∙ sum_by-same (λ i. sum_by (λ l. micro (taken (λ row. h row i) b l) *ℚ p i) branches) (λ i. micro (net_outflow (λ row. h row i) branches b) *ℚ p i) (places n)
+      (λ i. micro-sum (taken (λ row. h row i) b) (p i) branches)
+
+-- ---- what goes in
+at-place : (c : Bool) (x : Fraction) → micro (if c then pos 1000000 else pos 0) *ℚ x ≡ (if c then x else whole (pos 0))
+at-place true x = ap (λ t. t *ℚ x) micro-one ∙ *ℚ_comm (whole (pos 1)) x ∙ *ℚ_one x
+at-place false x = ap (λ t. t *ℚ x) micro-none ∙ *ℚ_comm (whole (pos 0)) x ∙ times_nil ring_ℚ x
+
+eq-not : (i b : ℕ) → i < b → (i == b) ≡ false
+eq-not i b h = ne_eqb i b (Prim.omega (arith, h))
+
+eq-same : (b : ℕ) → (b == b) ≡ true
+eq-same b = eq-eqb b b refl
+
+others-none : (p : ℕ → Fraction) (b n : ℕ) → n ≤ b → sum_by (λ i. micro (one_at i b) *ℚ p i) (places n) ≡ whole (pos 0)
+others-none p b zero h = refl
+others-none p b (suc n) h =
+    more-places (λ i. micro (one_at i b) *ℚ p i) n
+    ∙ ap₂ ◌+ℚ◌ (others-none p b n (Prim.omega (arith, h))) (at-place (n == b) (p n) ∙ ap (λ c. if c then p n else whole (pos 0)) (eq-not n b (Prim.omega (arith, h))))
+    ∙ ring_ℚ.plus_nil (whole (pos 0))
+
+goes-in : (p : ℕ → Fraction) (b n : ℕ) → b < n → sum_by (λ i. micro (one_at i b) *ℚ p i) (places n) ≡ p b
+goes-in p b zero h = absurd (Prim.omega (arith, h))
+goes-in p b (suc n) h = more-places (λ i. micro (one_at i b) *ℚ p i) n ∙ by (goes-in p b n) (eq-or-lt_of_le below)
+  where
+    below : b ≤ n
+    below = Prim.omega (arith, h)
+
+    by : (b < n → sum_by (λ i. micro (one_at i b) *ℚ p i) (places n) ≡ p b) → (b ≡ n) ⊎ (b < n) → sum_by (λ i. micro (one_at i b) *ℚ p i) (places n) +ℚ (micro (one_at n b) *ℚ p n) ≡ p b
+    by before (inl e) = ap₂ ◌+ℚ◌ (others-none p b n (Prim.omega (arith, e))) (at-place (n == b) (p n) ∙ ap (λ c. if c then p n else whole (pos 0)) (ap (λ m. m == b) (sym e) ∙ eq-same b))
+        ∙ nil_plus ring_ℚ (p n) ∙ ap p (sym e)
+    by before (inr l) = ap₂ ◌+ℚ◌ (before l) (at-place (n == b) (p n) ∙ ap (λ c. if c then p n else whole (pos 0)) (ne_eqb n b (Prim.omega (arith, l))))
+        ∙ ring_ℚ.plus_nil (p b)
+
+-- ---- sizes
+micro-≤ : (m n : ℤ) → m ≤ℤ n → micro m ≤ℚ micro n
+micro-≤ m n h =
+    ≤ℚ_trans (micro m) (micro (pos 1) *ℚ whole m) (micro n) (≤ℚ_of_same _ _ (micro-whole m ∙ *ℚ_comm (whole m) (micro (pos 1))))
+    (≤ℚ_trans (micro (pos 1) *ℚ whole m) (micro (pos 1) *ℚ whole n) (micro n) (*ℚ-≤ℚ (micro (pos 1)) (whole m) (whole n) one_above (whole-≤ℚ m n h))
+    (≤ℚ_of_same _ _ (*ℚ_comm (micro (pos 1)) (whole n) ∙ sym (micro-whole n))))
+  where
+    one_above : NonNeg (micro (pos 1))
+    one_above = record { sign = zero≤-cancel (micro (pos 1)).num 1000000 (Prim.omega arith) (subst (λ z. pos 0 ≤ℤ z) (sym (over_is (pos 1) 1000000 (Prim.omega arith)).cross) (zero≤-times (pos 1) (micro (pos 1)).den (Prim.omega (arith, ints)))) }
+
+below-size : (m : ℤ) (g : ℕ) → unsigned_abs m ≤ g → (m ≤ℤ pos g) × (neg_ℤ m ≤ℤ pos g)
+below-size (pos n) g h = (Prim.omega (arith, ints, h), Prim.omega (arith, ints, h))
+below-size (negsuc n) g h = (Prim.omega (arith, ints, h), Prim.omega (arith, ints, h))
+
+-- a product with a number of millionths of at most this size
+product-≤ : (m : ℤ) (g : ℕ) (x : Fraction) → unsigned_abs m ≤ g → (micro m *ℚ x) ≤ℚ (micro (pos g) *ℚ size x)
+unfolding neg_ℚ
+product-≤ m g x h = by x.num refl
+  where
+    by : (z : ℤ) → x.num ≡ z → (micro m *ℚ x) ≤ℚ (micro (pos g) *ℚ size_by z x)
+    by (pos n) e =
+        let above : NonNeg x = record { sign = subst (λ z. pos 0 ≤ℤ z) (sym e) (Prim.omega (arith, ints)) } in
+        ≤ℚ_trans _ _ _ (≤ℚ_of_same _ _ (*ℚ_comm (micro m) x)) (≤ℚ_trans _ _ _ (*ℚ-≤ℚ x (micro m) (micro (pos g)) above (micro-≤ m (pos g) (below-size m g h).0)) (≤ℚ_of_same _ _ (*ℚ_comm x (micro (pos g)))))
+    by (negsuc n) e =
+        let above : NonNeg (neg_ℚ x) = record { sign = subst (λ z. pos 0 ≤ℤ neg_ℤ z) (sym e) (Prim.omega (arith, ints)) } in
+        let turned : micro m *ℚ x ≡ neg_ℚ x *ℚ micro (neg_ℤ m) =
+        by_ring ring_ℚ (micro m ∷ x ∷ []) (pmul (at 0) (at 1)) (pmul (pneg (at 1)) (pneg (at 0))) refl ∙ ap (λ t. neg_ℚ x *ℚ t) (sym (micro-neg m)) in
+        ≤ℚ_trans _ _ _ (≤ℚ_of_same _ _ turned) (≤ℚ_trans _ _ _ (*ℚ-≤ℚ (neg_ℚ x) (micro (neg_ℤ m)) (micro (pos g)) above (micro-≤ (neg_ℤ m) (pos g) (below-size m g h).1)) (≤ℚ_of_same _ _ (*ℚ_comm (neg_ℚ x) (micro (pos g)))))
+
+sum-≤ : (f g : ℕ → Fraction) (n : ℕ) → ((i : ℕ) → i < n → f i ≤ℚ g i) → sum_by f (places n) ≤ℚ sum_by g (places n)
+sum-≤ f g zero h = ≤ℚ_refl (whole (pos 0))
+sum-≤ f g (suc n) h = ≤ℚ_trans _ _ _ (≤ℚ_of_same _ _ (more-places f n))
+    (≤ℚ_trans _ _ _ (+ℚ-≤ℚ _ _ _ _ (sum-≤ f g n (λ i l. h i (Prim.omega (arith, l)))) (h n (Prim.omega arith))) (≤ℚ_of_same _ _ (sym (more-places g n))))
+
+size-≤ : (x s : Fraction) → x ≤ℚ s → neg_ℚ x ≤ℚ s → size x ≤ℚ s
+size-≤ x s h k = by x.num
+  where
+    by : (z : ℤ) → size_by z x ≤ℚ s
+    by (pos n) = h
+    by (negsuc n) = k
+
+sum-neg : (f : ℕ → Fraction) (is : List ℕ) → neg_ℚ (sum_by f is) ≡ sum_by (λ i. neg_ℚ (f i)) is
+sum-neg f [] = by_ring ring_ℚ [] (pneg pnil) pnil refl
+sum-neg f (i ∷ is) = by_ring ring_ℚ (f i ∷ sum_by f is ∷ []) (pneg (padd (at 0) (at 1))) (padd (pneg (at 0)) (pneg (at 1))) refl ∙ ap (λ t. neg_ℚ (f i) +ℚ t) (sum-neg f is)
+
+-- ---- the law
+net-is : (x s k m : ℤ) → m ≡ x -ℤ s +ℤ k → x ≡ m +ℤ s -ℤ k
+net-is x s k m e = Prim.omega (arith, ints, e)
+
+module _ (h : ℕ → ℕ → ℤ) (branches : List NetBranch) (n reference : ℕ) (p : ℕ → Fraction) (b : ℕ) where
+  missing : ℕ → ℤ
+  missing i = miss (λ row. h row i) branches i reference b
+
+  net : ℕ → ℤ
+  net i = net_outflow (λ row. h row i) branches b
+
+  one_column : (i : ℕ) → micro (net i) *ℚ p i ≡ ((micro (missing i) *ℚ p i) +ℚ (micro (one_at i b) *ℚ p i)) -ℚ (micro (one_at reference b) *ℚ p i)
+  unfolding net missing
+  one_column i =
+      ap (λ t. micro t *ℚ p i) (net-is (net i) (one_at i b) (one_at reference b) (missing i) refl)
+      ∙ ap (λ t. t *ℚ p i) (micro-minus (missing i +ℤ one_at i b) (one_at reference b) ∙ ap (λ t. t -ℚ micro (one_at reference b)) (micro-plus (missing i) (one_at i b)))
+      ∙ by_ring ring_ℚ (micro (missing i) ∷ micro (one_at i b) ∷ micro (one_at reference b) ∷ p i ∷ [])
+      (pmul (padd (padd (at 0) (at 1)) (pneg (at 2))) (at 3)) (padd (padd (pmul (at 0) (at 3)) (pmul (at 1) (at 3))) (pneg (pmul (at 2) (at 3)))) refl
+
+  difference : sum_by p (places n) ≡ whole (pos 0) → b < n → outflow_by (flow_by h n p) branches b -ℚ p b ≡ sum_by (λ i. micro (missing i) *ℚ p i) (places n)
+  unfolding net
+  difference balanced within =
+      let all = places n in
+      let r = sum_by (λ i. micro (missing i) *ℚ p i) all in
+      let s = sum_by (λ i. micro (one_at i b) *ℚ p i) all in
+      let k = micro (one_at reference b) in
+      let out : outflow_by (flow_by h n p) branches b ≡ (r +ℚ s) -ℚ (k *ℚ sum_by p all) =
+      by_columns h n p b branches
+      ∙ sum_by-same (λ i. micro (net i) *ℚ p i) (λ i. ((micro (missing i) *ℚ p i) +ℚ (micro (one_at i b) *ℚ p i)) -ℚ (k *ℚ p i)) all one_column
+      ∙ sum_by-minus (λ i. (micro (missing i) *ℚ p i) +ℚ (micro (one_at i b) *ℚ p i)) (λ i. k *ℚ p i) all
+      ∙ ap₂ ◌-ℚ◌ (sum_by-plus (λ i. micro (missing i) *ℚ p i) (λ i. micro (one_at i b) *ℚ p i) all) (sum_by-times k p all) in
+      ap (λ t. t -ℚ p b) (out ∙ ap₂ (λ x y. (r +ℚ x) -ℚ (k *ℚ y)) (goes-in p b n within) balanced ∙ ap (λ t. (r +ℚ p b) -ℚ t) (times_nil ring_ℚ k))
+      ∙ by_ring ring_ℚ (r ∷ p b ∷ []) (padd (padd (padd (at 0) (at 1)) (pneg pnil)) (pneg (at 1))) (at 0) refl
+
+core_law : (h : ℕ → ℕ → ℤ) (branches : List NetBranch) (n reference : ℕ) (p : ℕ → Fraction) (g : ℕ) → sum_by p (places n) ≡ whole (pos 0)
+    → ((i b : ℕ) → i < n → b < n → unsigned_abs (miss (λ row. h row i) branches i reference b) ≤ g)
+    → (b : ℕ) → b < n → size (outflow_by (flow_by h n p) branches b -ℚ p b) ≤ℚ (micro (pos g) *ℚ sum_by (λ i. size (p i)) (places n))
+unfolding missing
+core_law h branches n reference p most_size balanced most b within =
+    let f : ℕ → Fraction = λ i. micro (missing h branches n reference p b i) *ℚ p i in
+    let g : ℕ → Fraction = λ i. micro (pos most_size) *ℚ size (p i) in
+    let is = difference h branches n reference p b balanced within in
+    let high : sum_by f (places n) ≤ℚ sum_by g (places n) = sum-≤ f g n (λ i l. product-≤ (missing h branches n reference p b i) most_size (p i) (most i b l within)) in
+    let low : neg_ℚ (sum_by f (places n)) ≤ℚ sum_by g (places n) =
+    ≤ℚ_trans _ _ _ (≤ℚ_of_same _ _ (sum-neg f (places n))) (sum-≤ (λ i. neg_ℚ (f i)) g n (λ i l.
+    ≤ℚ_trans _ _ _ (≤ℚ_of_same _ _ (by_ring ring_ℚ (micro (missing h branches n reference p b i) ∷ p i ∷ []) (pneg (pmul (at 0) (at 1))) (pmul (pneg (at 0)) (at 1)) refl ∙ ap (λ t. t *ℚ p i) (sym (micro-neg (missing h branches n reference p b i)))))
+    (product-≤ (neg_ℤ (missing h branches n reference p b i)) most_size (p i) (subst (λ k. k ≤ most_size) (sym (unsigned_abs-neg (missing h branches n reference p b i))) (most i b l within))))) in
+    let whole_sum = sum_by-times (micro (pos most_size)) (λ i. size (p i)) (places n) in
+    ≤ℚ_trans _ _ _ (≤ℚ_of_same _ _ (ap size is)) (≤ℚ_trans _ _ _ (size-≤ _ _ high low) (≤ℚ_of_same _ _ whole_sum))
+
+-- ---- the residuals of a table
+-- no spot is above the greatest
+all_below : (spots : List Spot) (residual : Residual) → IsResidual spots residual → All (λ s. unsigned_abs s.value ≤ greatest residual) spots
+all_below spots residual is = by residual.most is.most
+  where
+    Bounded : ℕ → List Spot → Type 0
+    Bounded g xs = All (λ s. unsigned_abs s.value ≤ g) xs
+
+    by : (o : Option Spot) → MatchOption o (spots ≡ []) (IsMost spots) → Bounded (option_map_or (λ s. unsigned_abs s.value) o 0) spots
+    by None none = subst (Bounded 0) (sym none) (λ i d lt. absurd (Prim.omega (arith, lt)))
+    by (Some s) most = subst (Bounded (unsigned_abs s.value)) (sym most.split)
+        (All-append (λ (t : Spot). unsigned_abs t.value ≤ unsigned_abs s.value) most.before (s ∷ most.after) (λ i d lt. let below = most.above i d lt in Prim.omega (arith, below))
+        (cons s most.after (Prim.omega arith) most.least))
+      where
+        cons : (x : Spot) (xs : List Spot) → unsigned_abs x.value ≤ unsigned_abs s.value → Bounded (unsigned_abs s.value) xs → Bounded (unsigned_abs s.value) (x ∷ xs)
+        cons x xs h t zero d lt = h
+        cons x xs h t (suc i) d lt = t i d (Prim.omega (arith, lt))
+
+place_there : (i n : ℕ) → i < n → Contains (places n) i
+place_there i zero h = absurd (Prim.omega (arith, h))
+place_there i (suc n) h = by (place_there i n) (eq-or-lt_of_le below)
+  where
+    below : i ≤ n
+    below = Prim.omega (arith, h)
+
+    by : (i < n → Contains (places n) i) → (i ≡ n) ⊎ (i < n) → Contains (places n ++ n ∷ []) i
+    by before (inl e) = Contains-append_right (places n) (n ∷ []) i (0, Prim.omega arith, sym e)
+    by before (inr l) = Contains-append_left (places n) (n ∷ []) i (before l)
+
+in-map : {A B : Type 0} (f : A → B) (xs : List A) (x : A) → Contains xs x → Contains (map f xs) (f x)
+in-map f [] x (k, lt, is) = absurd (Prim.omega (arith, lt))
+in-map f (z ∷ xs) x (zero, lt, is) = (0, Prim.omega arith, ap f is)
+in-map f (z ∷ xs) x (suc k, lt, is) = Contains-cons (f z) (map f xs) (f x) (in-map f xs x (k, Prim.omega (arith, lt), is))
+
+in-flat_map : {A B : Type 0} (f : A → List B) (xs : List A) (x : A) (y : B) → Contains xs x → Contains (f x) y → Contains (flat_map f xs) y
+in-flat_map f [] x y (k, lt, is) h = absurd (Prim.omega (arith, lt))
+in-flat_map f (z ∷ xs) x y (zero, lt, is) h = Contains-append_left (f z) (flat_map f xs) y (subst (λ t. Contains (f t) y) (sym is) h)
+in-flat_map f (z ∷ xs) x y (suc k, lt, is) h = Contains-append_right (f z) (flat_map f xs) y (in-flat_map f xs x y (k, Prim.omega (arith, lt), is) h)
+
+pub law_of_injections : LawOfInjections
+law_of_injections network shift residual p is balanced b within =
+    core_law (λ row i. factor_at shift (row, bus_number network i)) network.branches (length network.buses) network.reference p (greatest residual) balanced
+    (λ i bus li lb. All-contains (λ (t : Spot). unsigned_abs t.value ≤ greatest residual) (flat_map (bus_spots network) (shift_columns network shift)) (bus_spot network (shift_column network shift i) bus)
+    (all_below (flat_map (bus_spots network) (shift_columns network shift)) residual is)
+    (in-flat_map (bus_spots network) (shift_columns network shift) (shift_column network shift i) (bus_spot network (shift_column network shift i) bus)
+    (in-map (shift_column network shift) (places (length network.buses)) i (place_there i (length network.buses) li))
+    (in-map (bus_spot network (shift_column network shift i)) (places (length network.buses)) bus (place_there bus (length network.buses) lb))))
+    b within

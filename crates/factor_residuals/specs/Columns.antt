@@ -1,0 +1,57 @@
+-- The columns of a table of factors, as they are read.
+use Rattle.std.specs.Prelude.{◌≡◌, ℕ, ◌*◌, ◌^◌, ◌<◌, ◌≤◌, ℤ, pos, ◌+ℤ◌, unsigned_abs, List, length, get_or}
+use Rattle.net_case.specs.Networks.{LiveNetwork}
+use Rattle.net_case.specs.declared.live_parts.NetBranch.{NetBranch}
+use Rattle.net_paths.specs.Loops.{kept}
+use Rattle.factor_tables.specs.Factors.{Entry, factor_at}
+use Rattle.factor_residuals.specs.Kirchhoff.{Column, Flows, net_outflow, branches_at}
+use Rattle.factor_residuals.specs.declared.columns.Factors.{Factors}
+use Rattle.factor_residuals.specs.declared.columns.Factors.TheVariants as table
+use Rattle.factor_residuals.specs.declared.columns.Flow.{Flow}
+use Rattle.factor_residuals.specs.declared.loop_sums.Round.{Round}
+use Rattle.factor_residuals.specs.declared.node_sums.Node.{Node}
+
+abbrev pub entries_of : Factors → List Entry
+entries_of (table.Shift shift) = shift.now
+entries_of (table.Loss loss) = loss.now
+
+-- the flow over a branch by its row
+abbrev pub flows_of : Factors → ℕ → Flows
+flows_of factors name = λ row. factor_at (entries_of factors) (row, name)
+
+abbrev pub column_of : LiveNetwork → Factors → Flow → Column
+column_of network factors flow = record {
+  name = flow.name;
+  flow = flows_of factors flow.name;
+  branches = kept flow.lost network.branches;
+  source = flow.source;
+  sink = flow.sink;
+}
+
+-- what leaves the bus at a place over some branches
+abbrev pub node_at : Flows → List NetBranch → ℕ → Node
+node_at flow branches b = record { outflow = net_outflow flow branches b; branches = pos (branches_at branches b) }
+
+-- with a flow more that leaves it
+abbrev pub left_by : Node → ℤ → Node
+left_by node flow = record { outflow = node.outflow +ℤ flow; branches = node.branches +ℤ pos 1 }
+
+-- that of each of so many buses
+pub record HoldNodes (flow : Flows) (branches : List NetBranch) (buses : ℕ) (nodes : List Node) : Type 0 where
+  pub count : length nodes ≡ buses
+  pub each : (b : ℕ) (d : Node) → b < buses → get_or nodes b d ≡ node_at flow branches b
+
+-- what leaves a bus over at most k branches
+pub record IsWithin (k : ℕ) (node : Node) : Type 0 where
+  pub outflow : unsigned_abs node.outflow ≤ 1000000000 * k
+  pub branches : unsigned_abs node.branches ≤ k
+
+-- ---- round a loop
+-- with one branch more, by its product of reactance and flow and by its reactance
+abbrev pub turned : Round → ℤ → ℤ → Round
+turned round drop reactance = record { miss = round.miss +ℤ drop; sizes = round.sizes +ℤ pos (unsigned_abs reactance) }
+
+-- what at most k branches come to
+pub record IsRound (k : ℕ) (round : Round) : Type 0 where
+  pub miss : unsigned_abs round.miss ≤ 10 ^ 31 * k
+  pub sizes : unsigned_abs round.sizes ≤ 10 ^ 22 * k

@@ -1,0 +1,4 @@
+pub mod Columns
+pub mod Injections
+pub mod Kirchhoff
+pub mod Residuals

@@ -1,0 +1,113 @@
+//! What the flows come to round a loop.
+
+ghost use Rattle.std.specs.Prelude.{◌≡◌, ◌++◌, ◌≤◌, ◌<◌, ◌+◌, ◌^◌, ◌*ℤ◌, ℕ, List, length, unsigned_abs, All};
+ghost use Rattle.factor_residuals.specs.Kirchhoff.{loop_spot, reactance_at, signed, first_branch};
+ghost use Rattle.factor_residuals.specs.Columns.{IsRound, turned, column_of};
+ghost use Rattle.factor_residuals.specs.Residuals.{AreReactances, IsResidual, loop_spots};
+
+use crate::columns::{Factors, Flow};
+use crate::spots::{Residual, Spot};
+use net_case::{Network, Reactances};
+use net_paths::{Loops, Member};
+
+/// The reactance times the ratio of the branch of a row, in 10^-18.
+fn reactance_at(network: &Network, reactances: &Reactances, row: u32) -> i128
+    requires { AreReactances network.now reactances.now }
+    ensures size { unsigned_abs result ≤ 10 ^ 22 }
+    ensures is { result ≡ reactance_at network.now reactances.now row }
+{
+    match network.branch_place(i64::from(row)) {
+        Some(place) => *reactances.at(place),
+        None => 0,
+    }
+}
+
+/// What some branches of a loop come to: their products of reactance and flow, and the sizes of their reactances.
+#[derive(Clone, Copy, Debug)]
+struct Round {
+    miss: i128,
+    sizes: i128,
+}
+
+/// The product of reactance and flow, with minus where the branch is passed from T_BUS to F_BUS.
+fn drop_over(reactance: i128, flow: i64, forward: bool) -> i128
+    requires reactance { unsigned_abs reactance ≤ 10 ^ 22 }
+    requires flow { unsigned_abs flow ≤ 10 ^ 9 }
+    ensures size { unsigned_abs result ≤ 10 ^ 31 }
+    ensures is { result ≡ signed forward (reactance *ℤ flow) }
+{
+    let drop = reactance * i128::from(flow);
+    if forward { drop } else { -drop }
+}
+
+/// With one branch more.
+fn turned(round: Round, reactance: i128, flow: i64, forward: bool) -> Round
+    requires reactance { unsigned_abs reactance ≤ 10 ^ 22 }
+    requires flow { unsigned_abs flow ≤ 10 ^ 9 }
+    requires round { IsRound 1000 round }
+    ensures is { result ≡ turned round (signed forward (reactance *ℤ flow)) reactance }
+    ensures grows { (k : ℕ) → IsRound k round → IsRound (k + 1) result }
+{
+    Round {
+        miss: round.miss + drop_over(reactance, flow, forward),
+        sizes: round.sizes + reactance.abs(),
+    }
+}
+
+/// The row of a loop's first branch.
+fn first_branch(members: &[Member]) -> u32
+    ensures { result ≡ first_branch members.now }
+{
+    match members.first() {
+        Some(member) => member.branch,
+        None => 0,
+    }
+}
+
+/// The residual of a column round a loop.
+fn loop_spot(
+    network: &Network,
+    reactances: &Reactances,
+    factors: Factors<'_>,
+    column: &Flow,
+    members: &[Member],
+) -> Spot
+    requires reactances { AreReactances network.now reactances.now }
+    requires few { length members.now ≤ 1000 }
+    ensures size { unsigned_abs result.value < 10 ^ 37 }
+    ensures is { result ≡ loop_spot (reactance_at network.now reactances.now) (column_of network.now factors.entry column.now) members.now }
+{
+    let mut round = Round { miss: 0, sizes: 0 };
+    for member in members {
+        let reactance = reactance_at(network, reactances, member.branch);
+        let flow = factors.flow(member.branch, column.name);
+        round = turned(round, reactance, flow, member.forward);
+    }
+    Spot {
+        value: round.miss,
+        bound: 5 * round.sizes,
+        at: first_branch(members),
+        of: column.name,
+    }
+}
+
+/// Takes the residuals of a column round the loops in their order.
+pub(crate) fn note_loops(
+    network: &Network,
+    reactances: &Reactances,
+    factors: Factors<'_>,
+    column: &Flow,
+    loops: &Loops,
+    residual: Residual,
+) -> Residual
+    requires reactances { AreReactances network.now reactances.now }
+    requires few { All (λ members. length members ≤ 1000) loops.now }
+    ensures { (spots : List Spot) → IsResidual spots residual
+        → IsResidual (spots ++ loop_spots network.now reactances.now loops.now (column_of network.now factors.entry column.now)) result }
+{
+    let mut residual = residual;
+    for members in loops.slice() {
+        residual = residual.with(loop_spot(network, reactances, factors, column, members.slice()));
+    }
+    residual
+}
