@@ -15,3 +15,6 @@ mod spots;
 
 pub use residuals::{bus_residual, loop_residual, outage_bus_residual, outage_loop_residual};
 pub use spots::{Residual, Spot};
+
+#[cfg(test)]
+mod tests;
