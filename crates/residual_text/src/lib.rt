@@ -1,0 +1,10 @@
+//! The text that tells residuals.
+#![tactic(auto)]
+
+mod decimals;
+mod lines;
+
+pub use lines::residuals_text;
+
+#[cfg(test)]
+mod tests;
