@@ -71,9 +71,9 @@ apart-push rows row apart new i j d lt within same =
     ⊎_elim
     (λ old. apart i j d lt old (sym first ∙ same ∙ get_or_append_left rows (row ∷ []) d j old))
     (λ past.
-        let last : j ≡ length rows = omega (arith, past, within, size) in
-        let second : get_or (rows ++ row ∷ []) j d ≡ row = rw last (get_or-append_seam rows row [] d) in
-        new (rw (sym first ∙ same ∙ second) at (Contains-get_or rows i d early)))
+    let last : j ≡ length rows = omega (arith, past, within, size) in
+    let second : get_or (rows ++ row ∷ []) j d ≡ row = rw last (get_or-append_seam rows row [] d) in
+    new (rw (sym first ∙ same ∙ second) at (Contains-get_or rows i d early)))
     (cases_lt j (length rows))
 
 pub outages-push : (network : LiveNetwork) (rows : List ℕ) (row : ℕ) → AreOutages network rows → ¬ Contains rows row → IsOutage network row → AreOutages network (rows ++ row ∷ [])

@@ -67,11 +67,7 @@ fn outage_of(
 }
 
 /// Lists the outages of these numbers, or tells the first fault. `Memory` alone may come at any numbers.
-pub fn listed(
-    alloc: Global,
-    network: &Network,
-    rows: &OutageRows,
-) -> Result<Outages, OutageFault>
+pub fn listed(alloc: Global, network: &Network, rows: &OutageRows) -> Result<Outages, OutageFault>
     ensures { IsListed network.now rows.now result }
 {
     let mut outages = List::new(alloc);
