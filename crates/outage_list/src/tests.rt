@@ -51,24 +51,15 @@ fn lists_outages(rt: HostRuntime) -> Result<(), Fail> {
 }
 
 #[test]
-fn tells_islands(rt: HostRuntime) -> Result<(), Fail> {
-    let network = four_buses(rt.alloc())?;
-    let rows = read_rows(rt.alloc(), "branch\n1\n2\n2\n")?;
-    match list(rt.alloc(), &network, &rows) {
-        Err(OutageFault::Islands { branch, side }) => {
-            assert_eq!(rt; branch, 2);
-            assert_eq!(rt; side.slice(), [3].as_slice());
-        }
-        _ => assert!(rt; false),
-    }
-    Ok(())
-}
-
-#[test]
-fn tells_numbers_at_fault(rt: HostRuntime) -> Result<(), Fail> {
+fn tells_the_first_fault(rt: HostRuntime) -> Result<(), Fail> {
     let network = four_buses(rt.alloc())?;
     for (text, want) in [
         ("branch\n1\n6\n5\n", "NoBranch { line: 3 }"),
+        // Bus 3 hangs on branch 2 alone.
+        (
+            "branch\n1\n2\n2\n",
+            "Islands { branch: 2, side: List { items: [3] } }",
+        ),
         ("branch\n0\n", "NoBranch { line: 2 }"),
         ("branch\n5\n", "DeadBranch { line: 2 }"),
         ("branch\n1\n3\n1\n2\n", "Twice { line: 4 }"),
