@@ -1,4 +1,6 @@
-use crate::{TableFault, Uncovered, cover, offsets, outage, outage_rows, shift};
+use crate::{
+    Loss, OutageRows, Shift, TableFault, Uncovered, cover, offsets, outage, outage_rows, shift,
+};
 use case_text::read_case;
 use net_case::{Branches, Network, PostRating, Why, network};
 use scaled_decimal::DecimalFault;
@@ -53,6 +55,18 @@ fn three_buses(alloc: Global) -> Result<Network, Fail> {
 
 fn with_line(alloc: Global, text: &str, line: &str) -> Result<String, Fail> {
     Ok(format!(in alloc; "{text}{line}")?)
+}
+
+fn read_shift(alloc: Global, network: &Network, text: &str) -> Result<Shift, TableFault> {
+    shift(alloc, network, text.as_bytes())
+}
+
+fn read_loss(alloc: Global, network: &Network, text: &str) -> Result<Loss, TableFault> {
+    outage(alloc, network, text.as_bytes())
+}
+
+fn uncovered(network: &Network, shift: &Shift, loss: &Loss, outages: &[u32]) -> Option<Uncovered> {
+    cover(network, shift, loss, outages).err()
 }
 
 fn shift_fault(alloc: Global, network: &Network, text: &str) -> Result<(), TableFault> {
@@ -110,15 +124,15 @@ fn shift_tables(rt: HostRuntime) -> Result<(), Fail> {
 fn factors(rt: HostRuntime) -> Result<(), Fail> {
     let network = three_buses(rt.alloc())?;
     let text = with_line(rt.alloc(), SHIFT, "4,1,0\n")?;
-    let shift = shift(rt.alloc(), &network, text.as_bytes())?;
+    let shift = read_shift(rt.alloc(), &network, text.as_str())?;
     assert_eq!(rt; shift.factor(2, 3), -750_000);
     assert_eq!(rt; shift.factor(3, 2), 500_000);
     assert_eq!(rt; shift.factor(2, 1), 0);
     assert!(rt; shift.has(1) && shift.has(4) && !shift.has(5));
-    let loss = outage(
+    let loss = read_loss(
         rt.alloc(),
         &network,
-        "\u{FEFF}branch,outage,factor\n3,1,-1\n2,4,0\n".as_bytes(),
+        "\u{FEFF}branch,outage,factor\n3,1,-1\n2,4,0\n",
     )?;
     assert_eq!(rt; loss.factor(3, 1), -1_000_000);
     assert_eq!(rt; loss.factor(1, 3), 0);
@@ -199,9 +213,13 @@ fn offset_tables(rt: HostRuntime) -> Result<(), Fail> {
     Ok(())
 }
 
+fn read_rows(alloc: Global, text: &str) -> Result<OutageRows, TableFault> {
+    outage_rows(alloc, text.as_bytes())
+}
+
 #[test]
 fn outages(rt: HostRuntime) -> Result<(), Fail> {
-    let rows = outage_rows(rt.alloc(), "branch\n1\n-5\n1e0\n".as_bytes())?;
+    let rows = read_rows(rt.alloc(), "branch\n1\n-5\n1e0\n")?;
     assert_eq!(rt; rows.slice(), [1, -5, 1].as_slice());
     Ok(())
 }
@@ -209,39 +227,47 @@ fn outages(rt: HostRuntime) -> Result<(), Fail> {
 #[test]
 fn covers(rt: HostRuntime) -> Result<(), Fail> {
     let network = three_buses(rt.alloc())?;
-    let full = shift(rt.alloc(), &network, SHIFT.as_bytes())?;
-    let none = shift(rt.alloc(), &network, "branch,bus,factor\n".as_bytes())?;
-    let base = shift(
-        rt.alloc(),
-        &network,
-        "branch,bus,factor\n2,1,0\n".as_bytes(),
-    )?;
-    let lost = shift(
-        rt.alloc(),
-        &network,
-        "branch,bus,factor\n2,1,0\n1,1,0\n".as_bytes(),
-    )?;
-    let loss = outage(rt.alloc(), &network, LOSS.as_bytes())?;
-    let no_loss = outage(rt.alloc(), &network, "branch,outage,factor\n".as_bytes())?;
-    // Branch 2 has a base limit.
-    assert_eq!(rt;
-        cover(&network, &none, &no_loss, &[]),
-        Err(Uncovered::NoShift { branch: 2 })
-    );
-    assert_eq!(rt; cover(&network, &base, &no_loss, &[]), Ok(()));
-    // Branch 1 is listed, and branch 3 has a limit after an outage.
-    assert_eq!(rt;
-        cover(&network, &base, &loss, &[1]),
-        Err(Uncovered::NoShift { branch: 1 })
-    );
-    assert_eq!(rt;
-        cover(&network, &lost, &loss, &[1]),
-        Err(Uncovered::NoShift { branch: 3 })
-    );
-    assert_eq!(rt;
-        cover(&network, &full, &no_loss, &[1]),
-        Err(Uncovered::NoLoss { branch: 1 })
-    );
-    assert_eq!(rt; cover(&network, &full, &loss, &[3, 1]), Ok(()));
+    let loss = read_loss(rt.alloc(), &network, LOSS)?;
+    let no_loss = read_loss(rt.alloc(), &network, "branch,outage,factor\n")?;
+    for (text, want, want_after, want_without) in [
+        // Branch 2 has a base limit.
+        (
+            "branch,bus,factor\n",
+            Some(Uncovered::NoShift { branch: 2 }),
+            Some(Uncovered::NoShift { branch: 1 }),
+            Some(Uncovered::NoShift { branch: 1 }),
+        ),
+        // Branch 1 is listed, and branch 3 has a limit after an outage.
+        (
+            "branch,bus,factor\n2,1,0\n",
+            None,
+            Some(Uncovered::NoShift { branch: 1 }),
+            Some(Uncovered::NoShift { branch: 1 }),
+        ),
+        (
+            "branch,bus,factor\n2,1,0\n1,1,0\n",
+            None,
+            Some(Uncovered::NoShift { branch: 3 }),
+            Some(Uncovered::NoShift { branch: 3 }),
+        ),
+        (SHIFT, None, None, Some(Uncovered::NoLoss { branch: 1 })),
+    ] {
+        let shift = read_shift(rt.alloc(), &network, text)?;
+        assert_eq!(rt;
+            uncovered(&network, &shift, &no_loss, &[]),
+            want,
+            "{text:?}"
+        );
+        assert_eq!(rt;
+            uncovered(&network, &shift, &loss, &[1]),
+            want_after,
+            "{text:?}"
+        );
+        assert_eq!(rt;
+            uncovered(&network, &shift, &no_loss, &[1]),
+            want_without,
+            "{text:?}"
+        );
+    }
     Ok(())
 }

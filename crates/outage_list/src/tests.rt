@@ -1,6 +1,6 @@
-use crate::{OutageFault, listed};
+use crate::{OutageFault, Outages, listed};
 use case_text::read_case;
-use factor_tables::outage_rows;
+use factor_tables::{OutageRows, TableFault, outage_rows};
 use net_case::{Branches, Network, PostRating, network};
 use std::alloc::Global;
 use std::process::Abort;
@@ -33,40 +33,39 @@ fn four_buses(alloc: Global) -> Result<Network, Fail> {
     Ok(network(alloc, &case, Branches::Read(PostRating::C))?)
 }
 
+fn read_rows(alloc: Global, text: &str) -> Result<OutageRows, TableFault> {
+    outage_rows(alloc, text.as_bytes())
+}
+
+fn list(alloc: Global, network: &Network, rows: &OutageRows) -> Result<Outages, OutageFault> {
+    listed(alloc, network, rows)
+}
+
 #[test]
 fn lists_outages(rt: HostRuntime) -> Result<(), Fail> {
     let network = four_buses(rt.alloc())?;
-    let rows = outage_rows(rt.alloc(), "branch\n4\n1\n3\n".as_bytes())?;
-    let outages = listed(rt.alloc(), &network, &rows)?;
+    let rows = read_rows(rt.alloc(), "branch\n4\n1\n3\n")?;
+    let outages = list(rt.alloc(), &network, &rows)?;
     assert_eq!(rt; outages.slice(), [4, 1, 3].as_slice());
     Ok(())
 }
 
 #[test]
-fn tells_islands(rt: HostRuntime) -> Result<(), Fail> {
-    let network = four_buses(rt.alloc())?;
-    let rows = outage_rows(rt.alloc(), "branch\n1\n2\n2\n".as_bytes())?;
-    match listed(rt.alloc(), &network, &rows) {
-        Err(OutageFault::Islands { branch, side }) => {
-            assert_eq!(rt; branch, 2);
-            assert_eq!(rt; side.slice(), [3].as_slice());
-        }
-        _ => assert!(rt; false),
-    }
-    Ok(())
-}
-
-#[test]
-fn tells_numbers_at_fault(rt: HostRuntime) -> Result<(), Fail> {
+fn tells_the_first_fault(rt: HostRuntime) -> Result<(), Fail> {
     let network = four_buses(rt.alloc())?;
     for (text, want) in [
         ("branch\n1\n6\n5\n", "NoBranch { line: 3 }"),
+        // Bus 3 hangs on branch 2 alone.
+        (
+            "branch\n1\n2\n2\n",
+            "Islands { branch: 2, side: List { items: [3] } }",
+        ),
         ("branch\n0\n", "NoBranch { line: 2 }"),
         ("branch\n5\n", "DeadBranch { line: 2 }"),
         ("branch\n1\n3\n1\n2\n", "Twice { line: 4 }"),
     ] {
-        let rows = outage_rows(rt.alloc(), text.as_bytes())?;
-        match listed(rt.alloc(), &network, &rows) {
+        let rows = read_rows(rt.alloc(), text)?;
+        match list(rt.alloc(), &network, &rows) {
             Err(fault) => {
                 let told = format!(in rt.alloc(); "{fault:?}")?;
                 assert_eq!(rt; told.as_str(), want);
