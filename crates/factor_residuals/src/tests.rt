@@ -4,7 +4,7 @@ use crate::{
     Residual, Spot, bus_residual, loop_residual, outage_bus_residual, outage_loop_residual,
 };
 use case_text::read_case;
-use factor_tables::{outage, outage_rows, shift};
+use factor_tables::{Uncovered, cover, outage, outage_rows, shift};
 use net_case::{Branches, PostRating, network, reactances};
 use outage_list::listed;
 use std::test::Fail;
@@ -108,5 +108,24 @@ fn outage_factors_by_hand(rt: HostRuntime) -> Result<(), Fail> {
             over: None
         }
     );
+    Ok(())
+}
+
+#[test]
+fn tables_by_hand(rt: HostRuntime) -> Result<(), Fail> {
+    let alloc = rt.alloc();
+    let case = read_case(alloc, CASE.as_bytes())?;
+    let network = network(alloc, &case, Branches::Read(PostRating::C))?;
+    let text = "branch,bus,factor\n1,2,-0.5\n2,3,-0.75\n";
+    let table = shift(alloc, &network, text.as_bytes())?;
+    assert_eq!(rt; table.factor(2, 3), -750_000);
+    assert_eq!(rt; table.factor(3, 2), 0);
+    assert!(rt; table.has(1) && !table.has(3));
+    let none = outage(alloc, &network, "branch,outage,factor\n".as_bytes())?;
+    let lacks = cover(&network, &table, &none, [1].as_slice());
+    assert_eq!(rt; lacks, Err(Uncovered::NoLoss { branch: 1 }));
+    let lacks = cover(&network, &table, &none, [3].as_slice());
+    assert_eq!(rt; lacks, Err(Uncovered::NoShift { branch: 3 }));
+    assert_eq!(rt; cover(&network, &table, &none, [].as_slice()), Ok(()));
     Ok(())
 }

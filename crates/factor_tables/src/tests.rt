@@ -1,6 +1,4 @@
-use crate::{
-    Loss, OutageRows, Shift, TableFault, Uncovered, cover, offsets, outage, outage_rows, shift,
-};
+use crate::{OutageRows, TableFault, offsets, outage, outage_rows, shift};
 use case_text::read_case;
 use net_case::{Branches, Network, PostRating, Why, network};
 use scaled_decimal::DecimalFault;
@@ -57,18 +55,6 @@ fn with_line(alloc: Global, text: &str, line: &str) -> Result<String, Fail> {
     Ok(format!(in alloc; "{text}{line}")?)
 }
 
-fn read_shift(alloc: Global, network: &Network, text: &str) -> Result<Shift, TableFault> {
-    shift(alloc, network, text.as_bytes())
-}
-
-fn read_loss(alloc: Global, network: &Network, text: &str) -> Result<Loss, TableFault> {
-    outage(alloc, network, text.as_bytes())
-}
-
-fn uncovered(network: &Network, shift: &Shift, loss: &Loss, outages: &[u32]) -> Option<Uncovered> {
-    cover(network, shift, loss, outages).err()
-}
-
 fn shift_fault(alloc: Global, network: &Network, text: &str) -> Result<(), TableFault> {
     shift(alloc, network, text.as_bytes())?;
     Ok(())
@@ -117,26 +103,6 @@ fn shift_tables(rt: HostRuntime) -> Result<(), Fail> {
             "{line:?}"
         );
     }
-    Ok(())
-}
-
-#[test]
-fn factors(rt: HostRuntime) -> Result<(), Fail> {
-    let network = three_buses(rt.alloc())?;
-    let text = with_line(rt.alloc(), SHIFT, "4,1,0\n")?;
-    let shift = read_shift(rt.alloc(), &network, text.as_str())?;
-    assert_eq!(rt; shift.factor(2, 3), -750_000);
-    assert_eq!(rt; shift.factor(3, 2), 500_000);
-    assert_eq!(rt; shift.factor(2, 1), 0);
-    assert!(rt; shift.has(1) && shift.has(4) && !shift.has(5));
-    let loss = read_loss(
-        rt.alloc(),
-        &network,
-        "\u{FEFF}branch,outage,factor\n3,1,-1\n2,4,0\n",
-    )?;
-    assert_eq!(rt; loss.factor(3, 1), -1_000_000);
-    assert_eq!(rt; loss.factor(1, 3), 0);
-    assert!(rt; loss.has(1) && loss.has(4) && !loss.has(3));
     Ok(())
 }
 
@@ -221,53 +187,5 @@ fn read_rows(alloc: Global, text: &str) -> Result<OutageRows, TableFault> {
 fn outages(rt: HostRuntime) -> Result<(), Fail> {
     let rows = read_rows(rt.alloc(), "branch\n1\n-5\n1e0\n")?;
     assert_eq!(rt; rows.slice(), [1, -5, 1].as_slice());
-    Ok(())
-}
-
-#[test]
-fn covers(rt: HostRuntime) -> Result<(), Fail> {
-    let network = three_buses(rt.alloc())?;
-    let loss = read_loss(rt.alloc(), &network, LOSS)?;
-    let no_loss = read_loss(rt.alloc(), &network, "branch,outage,factor\n")?;
-    for (text, want, want_after, want_without) in [
-        // Branch 2 has a base limit.
-        (
-            "branch,bus,factor\n",
-            Some(Uncovered::NoShift { branch: 2 }),
-            Some(Uncovered::NoShift { branch: 1 }),
-            Some(Uncovered::NoShift { branch: 1 }),
-        ),
-        // Branch 1 is listed, and branch 3 has a limit after an outage.
-        (
-            "branch,bus,factor\n2,1,0\n",
-            None,
-            Some(Uncovered::NoShift { branch: 1 }),
-            Some(Uncovered::NoShift { branch: 1 }),
-        ),
-        (
-            "branch,bus,factor\n2,1,0\n1,1,0\n",
-            None,
-            Some(Uncovered::NoShift { branch: 3 }),
-            Some(Uncovered::NoShift { branch: 3 }),
-        ),
-        (SHIFT, None, None, Some(Uncovered::NoLoss { branch: 1 })),
-    ] {
-        let shift = read_shift(rt.alloc(), &network, text)?;
-        assert_eq!(rt;
-            uncovered(&network, &shift, &no_loss, &[]),
-            want,
-            "{text:?}"
-        );
-        assert_eq!(rt;
-            uncovered(&network, &shift, &loss, &[1]),
-            want_after,
-            "{text:?}"
-        );
-        assert_eq!(rt;
-            uncovered(&network, &shift, &no_loss, &[1]),
-            want_without,
-            "{text:?}"
-        );
-    }
     Ok(())
 }

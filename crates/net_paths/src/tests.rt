@@ -75,6 +75,19 @@ fn detour_text(alloc: Global, network: &Network, place: usize) -> Result<String,
     Ok(out)
 }
 
+/// What is left without each branch, row by row.
+fn detours_text(alloc: Global, network: &Network) -> Result<String, Fail> {
+    let mut out = String::new(alloc);
+    for place in 0..network.branches().len() {
+        if place > 0 {
+            out.push_str(", ")?;
+        }
+        let detour = detour_text(alloc, network, place)?;
+        out.push_str(detour.as_str())?;
+    }
+    Ok(out)
+}
+
 #[derive(Clone, Copy)]
 struct Case {
     buses: u32,
@@ -82,8 +95,7 @@ struct Case {
     /// The bus that is apart.
     split: Option<u32>,
     loops: &'static str,
-    /// Row by row.
-    detours: &'static [&'static str],
+    detours: &'static str,
 }
 
 const CASES: [Case; 8] = [
@@ -92,56 +104,56 @@ const CASES: [Case; 8] = [
         ends: &[(1, 2), (1, 3), (2, 3)],
         split: None,
         loops: "3+2-1+",
-        detours: &["path 2 3", "path 1 3", "path 1 2"],
+        detours: "path 2 3, path 1 3, path 1 2",
     },
     Case {
         buses: 3,
         ends: &[(1, 2), (2, 3)],
         split: None,
         loops: "",
-        detours: &["side 2 3", "side 3"],
+        detours: "side 2 3, side 3",
     },
     Case {
         buses: 2,
         ends: &[(1, 2), (2, 1)],
         split: None,
         loops: "2+1+",
-        detours: &["path 2", "path 1"],
+        detours: "path 2, path 1",
     },
     Case {
         buses: 3,
         ends: &[(1, 2)],
         split: Some(3),
         loops: "",
-        detours: &["side 2"],
+        detours: "side 2",
     },
     Case {
         buses: 4,
         ends: &[(1, 2), (2, 3), (3, 4), (4, 1), (1, 3)],
         split: None,
         loops: "4+1+2+3+, 5+2-1-",
-        detours: &[],
+        detours: "path 5 2, path 1 5, path 5 4, path 3 5, path 1 2",
     },
     Case {
         buses: 4,
         ends: &[(1, 2), (2, 3), (3, 4), (4, 1)],
         split: None,
         loops: "4+1+2+3+",
-        detours: &["path 4 3 2", "path 1 4 3", "path 2 1 4", "path 3 2 1"],
+        detours: "path 4 3 2, path 1 4 3, path 2 1 4, path 3 2 1",
     },
     Case {
         buses: 4,
         ends: &[(2, 1), (4, 3)],
         split: Some(3),
         loops: "",
-        detours: &["side 1", "side 3"],
+        detours: "side 1, side 3",
     },
     Case {
         buses: 1,
         ends: &[],
         split: None,
         loops: "",
-        detours: &[],
+        detours: "",
     },
 ];
 
@@ -157,9 +169,7 @@ fn parts_loops_and_detours(rt: HostRuntime) -> Result<(), Fail> {
         }
         let found = loops(alloc, &network, None)?;
         assert_eq!(rt; loops_text(alloc, &found)?.as_str(), case.loops);
-        for (place, detour) in case.detours.iter().enumerate() {
-            assert_eq!(rt; detour_text(alloc, &network, place)?.as_str(), *detour);
-        }
+        assert_eq!(rt; detours_text(alloc, &network)?.as_str(), case.detours);
     }
     Ok(())
 }
