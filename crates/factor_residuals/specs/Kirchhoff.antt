@@ -1,7 +1,7 @@
 -- By how much the flows that factors give miss Kirchhoff's laws, at a bus and round a loop.
 -- Source: Kirchhoff's laws; Wood and Wollenberg, on generation shift factors and line outage distribution factors.
 use Rattle.std.specs.Prelude.{ℕ, ◌*◌, ◌==◌, ◌||◌, ℤ, pos, ◌-ℤ◌, ◌+ℤ◌, ◌*ℤ◌, neg_ℤ, unsigned_abs, Bool, List, [], ◌∷◌, sum_by, count_by, Option, Some, None, slice_index_or, if◌then◌else◌}
-use Rattle.market_model.specs.WholeSums.{int_sum}
+use Rattle.market_data.specs.WholeSums.{int_sum}
 use Rattle.net_case.specs.Networks.{LiveNetwork, branch_place}
 use Rattle.net_case.specs.declared.live_parts.NetBranch.{NetBranch}
 use Rattle.net_paths.specs.Connection.{bus_number}

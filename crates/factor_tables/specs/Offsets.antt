@@ -4,7 +4,7 @@ use Rattle.std.specs.List.{find}
 use Rattle.std.specs.Map.{lookup}
 use Rattle.std.specs.Option.{option_map_or}
 use Rattle.csv_table.specs.Table.{Record, and_then, read_rows}
-use Rattle.market_model.specs.Market.{IsDatum}
+use Rattle.market_data.specs.Participants.{IsDatum}
 use Rattle.net_case.specs.Networks.{LiveNetwork}
 use Rattle.net_case.specs.declared.live_parts.NetBranch.{NetBranch}
 use Rattle.factor_tables.specs.declared.cells.OffsetRecord.{OffsetRecord}

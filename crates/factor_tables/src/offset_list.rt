@@ -1,7 +1,7 @@
 //! Offsets by branch.
 
 ghost use Rattle.std.specs.Prelude.{◌≡◌, ◌==◌, IfSome};
-ghost use Rattle.market_model.specs.Market.{IsDatum};
+ghost use Rattle.market_data.specs.Participants.{IsDatum};
 ghost use Rattle.factor_tables.specs.Offsets.{offset_at};
 
 use indexmap::IndexMap;

@@ -3,7 +3,7 @@
 ghost use Rattle.std.specs.Prelude.{◌≡◌, ◌≢◌, ℕ, ◌+◌, ◌<◌, ◌^◌, length, get_or, [], List, Ok, Err, IfOk, IfErr, is_some, option_map, false};
 ghost use Rattle.std.specs.List.{find};
 ghost use Rattle.csv_table.specs.Table.{read_rows};
-ghost use Rattle.market_model.specs.Market.{IsDatum};
+ghost use Rattle.market_data.specs.Participants.{IsDatum};
 ghost use Rattle.factor_tables.specs.Offsets.{AreOffsets, OffsetEntry, has_offset, offset_entry, offset_faults, offsets_of, wants_offset, with_all_offsets};
 ghost use Rattle.factor_tables.specs.Records.{OffsetIsRead};
 ghost use Rattle.factor_tables.specs.Rules.{IsRowOf, checked, fine};

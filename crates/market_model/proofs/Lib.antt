@@ -1,7 +1,6 @@
 pub mod Amounts
 pub mod BlockChoices
 pub mod Completeness
-pub mod Data
 pub mod FarkasLaw
 mod FarkasRows
 pub mod MarketSums
@@ -15,4 +14,3 @@ pub mod RightReports
 mod Rows
 pub mod SystemLaws
 pub mod WholeDispatch
-pub mod WholeSumLaws

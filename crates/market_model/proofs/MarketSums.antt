@@ -12,7 +12,8 @@ use Rattle.fraction_theory.proofs.SumLaws.{sum_by-plus, sum_by-nil, sum_by-same,
 use Rattle.market_model.specs.declared.participants.Side.{Side}
 use Rattle.market_model.specs.declared.participants.Side.TheVariants.{Sell, Buy}
 use Rattle.market_model.specs.declared.participants.Parts.{Parts}
-use Rattle.market_model.specs.Market.{IsMarket, IsUnit, IsBlock}
+use Rattle.market_data.specs.Participants.{IsUnit}
+use Rattle.market_model.specs.Market.{IsMarket, IsBlock}
 use Rattle.market_model.specs.Dispatch.{Dispatch, IsDispatch, places, bus_at, unit_at, block_at, block_bus, signed, accepted, quantity, empty, raised_by, units_at, blocks_at, blocks_of, fixed_term, block_term, injection, balance, output, demand}
 use Rattle.market_model.proofs.PlaceSums.{places_all, gather, gather_times, sum_by-places, sum_in_step, sum_in_step-places}
 

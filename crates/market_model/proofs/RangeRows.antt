@@ -13,7 +13,8 @@ use Rattle.exact_fraction.specs.Passes.{SumPasses}
 use Rattle.market_model.specs.declared.participants.Side.TheVariants.{Sell}
 use Rattle.market_model.specs.declared.participants.Parts.{Parts}
 use Rattle.market_model.specs.declared.answered.Duals.{Duals}
-use Rattle.market_model.specs.Market.{IsMarket, IsBus, IsUnit, IsBlock}
+use Rattle.market_data.specs.Participants.{IsBus, IsUnit}
+use Rattle.market_model.specs.Market.{IsMarket, IsBlock}
 use Rattle.market_model.specs.Dispatch.{Dispatch, injection, balance, accepted, quantity}
 use Rattle.market_model.specs.Optimality.{Feasible, Supports, BlockSupported, welfare_terms, bus_price}
 use Rattle.market_model.specs.NamedSums.{term_at}

@@ -10,7 +10,8 @@ use Rattle.fraction_theory.proofs.OrderLaws.{three_ways, <ℚ_irrefl, whole-≤�
 use Rattle.market_model.specs.declared.participants.Side.TheVariants.{Sell, Buy}
 use Rattle.market_model.specs.declared.participants.Parts.{Parts}
 use Rattle.market_model.specs.declared.answered.Duals.{Duals}
-use Rattle.market_model.specs.Market.{IsMarket, IsBus, IsUnit, IsBlock}
+use Rattle.market_data.specs.Participants.{IsBus, IsUnit}
+use Rattle.market_model.specs.Market.{IsMarket, IsBlock}
 use Rattle.market_model.specs.Dispatch.{Dispatch, places, injection, balance, output, demand, accepted, quantity}
 use Rattle.market_model.specs.Optimality.{Feasible, Supports, BlockSupported, welfare, bus_price}
 use Rattle.market_model.specs.Settlement.{paid, pays, surplus}

@@ -13,5 +13,4 @@ pub mod ReportLaws
 pub mod Reports
 pub mod Settlement
 pub mod Valued
-pub mod WholeSums
 pub mod WorkingPairs

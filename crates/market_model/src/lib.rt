@@ -5,15 +5,14 @@ mod answered;
 mod assembled;
 pub mod laws;
 mod participants;
-mod scales;
 
 pub use answered::{
     Answer, Dual, Duals, Farkas, Load, Money, Outcome, Price, Rent, RowId, UnitPay,
 };
 pub use assembled::{Market, assemble};
-pub use participants::{Block, Bus, Parts, Side, Unit, UnitList};
+pub use market_data::{Bus, MONEY_PLACES, MW_PLACES, PRICE_PLACES, Unit, UnitList};
+pub use participants::{Block, Parts, Side};
 pub use plain_list::{List, Memory};
-pub use scales::{MONEY_PLACES, MW_PLACES, PRICE_PLACES};
 
 #[cfg(test)]
 mod tests;

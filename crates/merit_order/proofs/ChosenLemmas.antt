@@ -27,7 +27,7 @@ use Rattle.market_model.specs.Settlement.{surplus_terms}
 use Rattle.market_model.specs.NamedSums.{IsRefusal, IsAddedIn, IsRefusedIn}
 use Rattle.market_model.specs.WorkingPairs.{IsRangeOf}
 use Rattle.market_model.specs.Valued.{passed_at}
-use Rattle.market_model.specs.WholeSums.{int_sum}
+use Rattle.market_data.specs.WholeSums.{int_sum}
 use Rattle.market_model.proofs.MarketSums.{unit_bus-in}
 use Rattle.market_model.proofs.SystemLaws.{from_places, balance_choice, balance_choice_is, block_choice, block_choice_is}
 use Rattle.market_model.proofs.BlockChoices.{block_choice_dispatch, block_choice_energy, balance_choice_dispatch, balance_choice_energy}

@@ -19,7 +19,7 @@ use Rattle.market_model.specs.Optimality.{Feasible, Supports}
 use Rattle.market_model.proofs.PlaceSums.{places_all, sum_by-same_along, sum_by-places, sum_by-whole}
 use Rattle.market_model.proofs.MarketSums.{sum_by-neg, fixed_part, fixed_parts-by_units, demands-by_buses, raises-balance}
 use Rattle.market_model.proofs.WholeDispatch.{whole_gains, whole_loses, block_supported-by_whole, is_dispatch-by_whole}
-use Rattle.market_model.specs.WholeSums.{int_sum}
+use Rattle.market_data.specs.WholeSums.{int_sum}
 use Rattle.merit_order.specs.Filling.{demand_of, fixed_of, bought_of, on_side, accepted_of, no_block, Fills, AllPlaces}
 use Rattle.merit_order.specs.Clearing.{dispatch_of}
 

@@ -9,7 +9,7 @@ use Rattle.std.specs.Ordering.{int_eq}
 use Rattle.std.proofs.lemmas.Int.{ints}
 use Rattle.std.proofs.lemmas.Bool.Decides.{Decides-int_eq}
 use Rattle.market_model.specs.declared.participants.Block.{Block}
-use Rattle.market_model.specs.WholeSums.{int_sum}
+use Rattle.market_data.specs.WholeSums.{int_sum}
 use Rattle.merit_order.specs.Filling.{below_of, level_of, Fills, IsLess, IsReached, IsFilling}
 
 -- a sum with one number more

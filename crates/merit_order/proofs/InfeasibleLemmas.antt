@@ -15,8 +15,8 @@ use Rattle.fraction_theory.proofs.FieldLaws.{ring_ℚ, +ℚ_assoc, +ℚ_nil, who
 use Rattle.fraction_theory.proofs.SumLaws.{sum_by-same, sum_by-nil, sum_by-append, total-Plain}
 use Rattle.market_model.specs.declared.participants.Side.{Side}
 use Rattle.market_model.specs.declared.participants.Side.TheVariants.{Sell, Buy}
-use Rattle.market_model.specs.declared.participants.Bus.{Bus}
-use Rattle.market_model.specs.declared.participants.Unit as unit
+use Rattle.market_data.specs.declared.participants.Bus.{Bus}
+use Rattle.market_data.specs.declared.participants.Unit as unit
 use Rattle.market_model.specs.declared.participants.Block.{Block}
 use Rattle.market_model.specs.declared.participants.Parts.{Parts}
 use Rattle.market_model.specs.declared.answered.Duals.{Duals}
@@ -27,7 +27,7 @@ use Rattle.market_model.specs.Optimality.{bus_price}
 use Rattle.market_model.specs.Infeasibility.{where_above, part_above, farkas_bound, ShowsInfeasible, IsFarkas}
 use Rattle.market_model.specs.Reports.{same_side}
 use Rattle.market_model.specs.Valued.{dual_at, duals_at, farkas_at}
-use Rattle.market_model.specs.WholeSums.{int_sum}
+use Rattle.market_data.specs.WholeSums.{int_sum}
 use Rattle.market_model.proofs.FarkasLaw.{farkas_bound-by_blocks}
 use Rattle.market_model.proofs.PlaceSums.{sum_by-places, sum_by-whole}
 use Rattle.market_model.proofs.MorePlaces.{places_more, total-filter_more}

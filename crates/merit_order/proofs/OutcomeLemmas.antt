@@ -22,7 +22,7 @@ use Rattle.market_model.specs.Valued.{dual_at, duals_at, price_at as price_value
 use Rattle.market_model.specs.Outcomes.{IsRight}
 use Rattle.market_model.proofs.PlaceSums.{places_all, sum_by-same_along, sum_by-places}
 use Rattle.market_model.proofs.MarketSums.{unit_bus-in}
-use Rattle.market_model.specs.WholeSums.{int_sum}
+use Rattle.market_data.specs.WholeSums.{int_sum}
 use Rattle.merit_order.specs.Filling.{demand_of, fixed_of, bought_of, accepted_of, no_block, Fills, AllPlaces}
 use Rattle.merit_order.specs.Clearing.{dispatch_of}
 use Rattle.merit_order.specs.Paying.{price_at, PaysUnit, LoadPays}

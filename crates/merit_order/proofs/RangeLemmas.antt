@@ -10,8 +10,8 @@ use Rattle.fraction_theory.proofs.SumLaws.{sum_by-same, sum_by-nil, total-append
 use Rattle.exact_fraction.specs.declared.Op.TheVariants.{Plus, Minus, Times}
 use Rattle.exact_fraction.specs.declared.Passed.{Passed}
 use Rattle.market_model.specs.declared.participants.Side.{Side}
-use Rattle.market_model.specs.declared.participants.Bus.{Bus}
-use Rattle.market_model.specs.declared.participants.Unit as unit
+use Rattle.market_data.specs.declared.participants.Bus.{Bus}
+use Rattle.market_data.specs.declared.participants.Unit as unit
 use Rattle.market_model.specs.declared.participants.Block.{Block}
 use Rattle.market_model.specs.declared.participants.Parts.{Parts}
 use Rattle.market_model.specs.Dispatch.{zero, places, bus_at, unit_at, block_at, units_at, blocks_at, fixed_term, block_term, quantity, raised_by, injection_terms, balance, empty, signed, injection as injection_of}

@@ -7,7 +7,7 @@ use Rattle.std.specs.List.{AllByRecursion}
 use Rattle.std.specs.Int.Signed.{le_z, lt_z}
 use Rattle.std.proofs.lemmas.Int.{ints}
 use Rattle.market_model.specs.declared.participants.Block.{Block}
-use Rattle.market_model.specs.WholeSums.{int_sum}
+use Rattle.market_data.specs.WholeSums.{int_sum}
 use Rattle.merit_order.specs.Filling.{below_of, level_of, IsReached, no_block}
 use Rattle.merit_order.proofs.FillingLemmas.{Standing, Cheap, Level, Dear, standing, below-cheap, below-other, level-level, level-other}
 

@@ -7,7 +7,7 @@ use Rattle.fraction_theory.specs.Sums.{sum_by, Product, total}
 use Rattle.fraction_theory.proofs.FieldLaws.{+ℚ_assoc, +ℚ_nil}
 use Rattle.market_model.specs.declared.participants.Parts.{Parts}
 use Rattle.market_model.specs.declared.participants.Block.{Block}
-use Rattle.market_model.specs.declared.participants.Bus.{Bus}
+use Rattle.market_data.specs.declared.participants.Bus.{Bus}
 use Rattle.market_model.specs.declared.answered.Price.{Price}
 use Rattle.market_model.specs.declared.answered.UnitPay.{UnitPay}
 use Rattle.market_model.specs.Dispatch.{zero, places, signed, fixed_term, block_term, block_at, unit_at, bus_at, accepted, demand}

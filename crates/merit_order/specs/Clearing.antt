@@ -12,7 +12,7 @@ use Rattle.market_model.specs.Reports.{same_side}
 use Rattle.market_model.specs.Valued.{farkas_at, passed_at}
 use Rattle.market_model.specs.WorkingPairs.{IsRangeOf}
 use Rattle.market_model.specs.NamedSums.{IsRefusal}
-use Rattle.market_model.specs.declared.participants.Bus.{Bus}
+use Rattle.market_data.specs.declared.participants.Bus.{Bus}
 use Rattle.exact_fraction.specs.declared.Op.TheVariants.{Minus}
 use Rattle.exact_fraction.specs.declared.Passed.{Passed}
 use Rattle.merit_order.specs.declared.clearing.ClearFault.{ClearFault}

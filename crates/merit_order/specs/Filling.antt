@@ -3,9 +3,9 @@ use Rattle.std.specs.Prelude.{◌≡◌, ◌≢◌, ◌⊎◌, ℕ, ◌<◌, len
 use Rattle.std.specs.Int.Signed.{lt_z}
 use Rattle.std.specs.Ordering.{int_eq}
 use Rattle.std.specs.List.{HoldsAt}
-use Rattle.market_model.specs.WholeSums.{int_sum}
-use Rattle.market_model.specs.declared.participants.Bus.{Bus}
-use Rattle.market_model.specs.declared.participants.Unit as unit
+use Rattle.market_data.specs.WholeSums.{int_sum}
+use Rattle.market_data.specs.declared.participants.Bus.{Bus}
+use Rattle.market_data.specs.declared.participants.Unit as unit
 use Rattle.market_model.specs.declared.participants.Block.{Block}
 use Rattle.market_model.specs.declared.participants.Side.{Side}
 use Rattle.market_model.specs.declared.participants.Side.TheVariants.{Sell, Buy}

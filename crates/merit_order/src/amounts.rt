@@ -2,7 +2,7 @@
 
 ghost use Rattle.std.specs.Prelude.{◌≡◌};
 ghost use Rattle.fraction_theory.specs.Fraction.{whole};
-ghost use Rattle.market_model.specs.Market.{IsDatum};
+ghost use Rattle.market_data.specs.Participants.{IsDatum};
 
 use exact_fraction::Exact;
 

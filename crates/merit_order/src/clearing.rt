@@ -5,8 +5,9 @@
 //! selling, a buy block by giving back. Ties go by block order.
 
 ghost use Rattle.std.specs.Prelude.{true, false, ◌≡◌, ◌≤◌, ◌<◌, ◌*◌, ◌^◌, ◌⊎◌, pos, ◌≤ℤ◌, ◌<ℤ◌, ◌+◌, ◌-ℤ◌, unsigned_abs, [], length, vec_len, slice_index_or, ◌≢◌, All, IfOk, IfErr, IfSome, IfNone, Decides, None, Some};
-ghost use Rattle.market_model.specs.Market.{most_buses, most_units, most_blocks, IsDatum, IsBus};
-ghost use Rattle.market_model.specs.WholeSums.{int_sum};
+ghost use Rattle.market_data.specs.Participants.{most_buses, most_units, IsDatum, IsBus};
+ghost use Rattle.market_model.specs.Market.{most_blocks};
+ghost use Rattle.market_data.specs.WholeSums.{int_sum};
 ghost use Rattle.merit_order.specs.Filling.{demand_of, fixed_of, bought_of, below_of, level_of, on_side, accepted_of, no_block, Fills, IsLess, IsReached, AllPlaces, IsPriceIn, AtMostOnePart};
 ghost use Rattle.fraction_theory.specs.Fraction.{whole, neg_ℚ, ◌*ℚ◌};
 ghost use Rattle.market_model.specs.Dispatch.{signed};

@@ -2,7 +2,7 @@
 
 ghost use Rattle.std.specs.Prelude.{◌≡◌, ◌<◌, pos, ◌≤ℤ◌, [], length, true, IfOk, IfErr, if◌then◌else◌};
 ghost use Rattle.fraction_theory.specs.Fraction.{whole, ◌+ℚ◌, ◌-ℚ◌};
-ghost use Rattle.market_model.specs.Market.{IsDatum, IsBus};
+ghost use Rattle.market_data.specs.Participants.{IsDatum, IsBus};
 ghost use Rattle.market_model.specs.Dispatch.{zero, empty, injection as injection_of, balance as balance_of};
 ghost use Rattle.market_model.specs.Infeasibility.{farkas_bound, ShowsInfeasible};
 ghost use Rattle.market_model.specs.Reports.{same_side};

@@ -3,7 +3,7 @@
 ghost use Rattle.std.specs.Prelude.{◌≡◌, ◌<◌, true, length, IfOk, IfErr, if◌then◌else◌, []};
 ghost use Rattle.fraction_theory.specs.Fraction.{whole, ◌+ℚ◌, ◌*ℚ◌, neg_ℚ};
 ghost use Rattle.fraction_theory.specs.Sums.{sum_by};
-ghost use Rattle.market_model.specs.Market.{IsBus};
+ghost use Rattle.market_data.specs.Participants.{IsBus};
 ghost use Rattle.market_model.specs.Dispatch.{Dispatch, zero, signed, unit_at, output as output_of, output_terms};
 ghost use Rattle.merit_order.specs.Clearing.{dispatch_of};
 ghost use Rattle.exact_fraction.specs.declared.Op.TheVariants as Op;

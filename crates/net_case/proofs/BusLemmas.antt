@@ -19,8 +19,8 @@ use Rattle.std.proofs.Math.ListN.{get_or-append, get_or-map}
 use Rattle.std.proofs.Math.Seq.{get_or-append_seam}
 use Rattle.std.proofs.lemmas.Map.Entries.{All-lookup}
 use Rattle.case_text.specs.declared.Field.{Field}
-use Rattle.market_model.specs.Market.{IsBus}
-use Rattle.market_model.specs.declared.participants.Bus.{Bus}
+use Rattle.market_data.specs.Participants.{IsBus}
+use Rattle.market_data.specs.declared.participants.Bus.{Bus}
 use Rattle.net_case.specs.declared.bus_rows.BusRow.{BusRow}
 use Rattle.net_case.specs.declared.bus_rows.BusRows.{BusRows}
 use Rattle.net_case.specs.BusReading.{IsBusRow, AreRead, Keeps}

@@ -17,7 +17,7 @@ use Rattle.std.proofs.lemmas.Option.{slice_get_within, get_or_from_slice_get, sl
 use Rattle.std.specs.Cmp.{nat_eq_equiv}
 use Rattle.std.proofs.lemmas.Bool.{cases_lt}
 use Rattle.std.proofs.Math.Logic.{⊎_elim}
-use Rattle.market_model.specs.declared.participants.Bus.{Bus}
+use Rattle.market_data.specs.declared.participants.Bus.{Bus}
 use Rattle.net_case.specs.Networks.{AreBusRows, IsBusNumber, place_of}
 use Rattle.net_case.specs.NetworkReading.{standing_at}
 

@@ -1,6 +1,6 @@
 -- What is kept while bus rows are read.
 use Rattle.std.specs.Prelude.{◌≡◌, ◌<◌, true, Ok, List, length, All, IfSome, IsSome}
-use Rattle.market_model.specs.Market.{IsBus}
+use Rattle.market_data.specs.Participants.{IsBus}
 use Rattle.csv_table.specs.Table.{Record}
 use Rattle.net_case.specs.Networks.{AreBusRows, IsBusNumber}
 use Rattle.net_case.specs.NetworkReading.{bus_rows, live_buses, places_from, reference_of}

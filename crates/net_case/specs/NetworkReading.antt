@@ -4,9 +4,9 @@ use Rattle.std.specs.Int.Signed.{lt_z, le_z}
 use Rattle.std.specs.List.{filter_map}
 use Rattle.std.specs.Map.{lookup}
 use Rattle.std.specs.Str.{bytes_eq}
-use Rattle.market_model.specs.declared.participants.Bus.{Bus}
-use Rattle.market_model.specs.declared.participants.Unit as unit
-use Rattle.market_model.specs.declared.participants.UnitList.{UnitList}
+use Rattle.market_data.specs.declared.participants.Bus.{Bus}
+use Rattle.market_data.specs.declared.participants.Unit as unit
+use Rattle.market_data.specs.declared.participants.UnitList.{UnitList}
 use Rattle.csv_table.specs.Table.{Record, and_then, read_rows}
 use Rattle.fraction_theory.specs.declared.Sign.{Sign}
 use Rattle.fraction_theory.specs.declared.Sign.TheVariants as sign

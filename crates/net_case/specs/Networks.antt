@@ -1,8 +1,8 @@
 -- What a network is, and what is kept of it.
 use Rattle.std.specs.Prelude.{◌≡◌, ◌≢◌, ℕ, ◌≤◌, ◌<◌, ◌==◌, ℤ, pos, negsuc, ◌≤ℤ◌, Bool, List, length, map, All, AllPairs, Contains, position, slice_get, slice_index_or, Option, Some, None, is_some, IfSome}
-use Rattle.market_model.specs.Market.{IsDatum, IsBus, IsUnit, most_buses, most_units}
-use Rattle.market_model.specs.declared.participants.Bus.{Bus}
-use Rattle.market_model.specs.declared.participants.UnitList.{UnitList}
+use Rattle.market_data.specs.Participants.{IsDatum, IsBus, IsUnit, most_buses, most_units}
+use Rattle.market_data.specs.declared.participants.Bus.{Bus}
+use Rattle.market_data.specs.declared.participants.UnitList.{UnitList}
 use Rattle.net_case.specs.declared.live_parts.NetUnit.{NetUnit}
 use Rattle.net_case.specs.declared.live_parts.NetBranch.{NetBranch}
 

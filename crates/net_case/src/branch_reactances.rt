@@ -7,7 +7,7 @@ ghost use Rattle.net_case.specs.ReactanceReading.{bounded_in, ratio_of, reactanc
 use crate::cells::{cell_fault, number};
 use crate::live_parts::{NetFault, Network, Why};
 use case_text::{Field, RawCase};
-use market_model::List;
+use plain_list::List;
 use std::alloc::Global;
 
 /// By live branch, BR_X times the ratio of TAP, in 10^-18.

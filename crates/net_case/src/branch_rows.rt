@@ -1,7 +1,7 @@
 //! Reading the branch rows of a case.
 
 ghost use Rattle.std.specs.Prelude.{◌≡◌, ◌≢◌, ℕ, ◌≤◌, ◌<◌, [], length, map, All, IfOk, IfSome, Err, Ok};
-ghost use Rattle.market_model.specs.Market.{IsDatum};
+ghost use Rattle.market_data.specs.Participants.{IsDatum};
 ghost use Rattle.net_case.specs.Gathering.{gather};
 ghost use Rattle.net_case.specs.Networks.{IsNetBranch, IsLimit, AreRows, ArePlaces, most_branches};
 ghost use Rattle.net_case.specs.NetworkReading.{row_at, cell_in, is_infinite, is_below_all, limit_of, limit_in, shifted_in, post_column, limits_in, branch_where, branch_row, branch_count, branches_in};
@@ -12,7 +12,8 @@ use crate::live_parts::{
     Branches, NetBranch, NetFault, Places, PostRating, Why, known_at, push_some,
 };
 use case_text::{Field, RawCase};
-use market_model::{List, MW_PLACES};
+use market_data::MW_PLACES;
+use plain_list::List;
 use scaled_decimal::Sign;
 use std::alloc::Global;
 

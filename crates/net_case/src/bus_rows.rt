@@ -2,7 +2,7 @@
 
 ghost use Rattle.std.specs.Prelude.{◌≡◌, ◌≢◌, ◌+◌, ◌≤◌, ◌==◌, [], ◌∷◌, ◌++◌, length, IfOk, IfErr, MatchResult, None, Err};
 ghost use Rattle.std.specs.Map.{lookup};
-ghost use Rattle.market_model.specs.Market.{IsBus};
+ghost use Rattle.market_data.specs.Participants.{IsBus};
 ghost use Rattle.net_case.specs.Gathering.{listed};
 ghost use Rattle.net_case.specs.NetworkReading.{row_at, counted_in, demands_in, row_of_type, next_place, reference_after, bus_row_after, bus_rows, standing_at, stands};
 ghost use Rattle.net_case.specs.BusReading.{IsBusRow, AreRead, AreLive, HoldBusRows};
@@ -11,7 +11,8 @@ use crate::cells::{cell_fault, number};
 use crate::live_parts::{NetFault, Places, Why, known, push_some};
 use case_text::{Field, RawCase};
 use indexmap::IndexMap;
-use market_model::{Bus, List, MW_PLACES};
+use market_data::{Bus, MW_PLACES};
+use plain_list::List;
 use std::alloc::Global;
 
 /// The greatest bus number.

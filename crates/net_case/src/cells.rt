@@ -1,7 +1,7 @@
 //! What the cells of a case hold.
 
 ghost use Rattle.std.specs.Prelude.{◌≡◌, ◌≤◌, length, IfOk, IsTrue};
-ghost use Rattle.market_model.specs.Market.{IsDatum};
+ghost use Rattle.market_data.specs.Participants.{IsDatum};
 ghost use Rattle.case_text.specs.Matrices.{matrix_of};
 ghost use Rattle.case_text.specs.Names.{is_matrix};
 ghost use Rattle.net_case.specs.NetworkReading.{row_at, number_in, sign_at, service_in, few_rows};

@@ -1,7 +1,7 @@
 //! Reading the gen rows of a case.
 
 ghost use Rattle.std.specs.Prelude.{◌≡◌, ◌≢◌, ℕ, ◌≤◌, ◌<◌, [], length, map, All, IfOk, IfSome, Err};
-ghost use Rattle.market_model.specs.Market.{most_units};
+ghost use Rattle.market_data.specs.Participants.{most_units};
 ghost use Rattle.net_case.specs.Gathering.{gather};
 ghost use Rattle.net_case.specs.Networks.{IsNetUnit, AreRows, ArePlaces};
 ghost use Rattle.net_case.specs.NetworkReading.{row_at, bounds_in, unit_where, unit_row};
@@ -10,7 +10,8 @@ use crate::bus_rows::standing;
 use crate::cells::{in_service, number};
 use crate::live_parts::{NetFault, NetUnit, Places, known_at, push_some};
 use case_text::{Field, RawCase};
-use market_model::{List, MW_PLACES};
+use market_data::MW_PLACES;
+use plain_list::List;
 use std::alloc::Global;
 
 /// The bounds of a live unit.

@@ -8,14 +8,15 @@ ghost use Rattle.net_case.specs.NetworkReading.{standing_at};
 
 use case_text::Field;
 use indexmap::IndexMap;
-use market_model::{List, Memory, Unit, UnitList};
+use market_data::{Unit, UnitList};
+use plain_list::{List, Memory};
 use scaled_decimal::DecimalFault;
 use std::alloc::Global;
 use std::marker::Model;
 use thiserror::Error;
 
 /// A live bus, with its demands as the market keeps them.
-pub use market_model::Bus as NetBus;
+pub use market_data::Bus as NetBus;
 
 /// The bus rows by number: the place among the live buses, where the bus is not isolated.
 pub type Places = IndexMap<u32, Option<usize>>;
@@ -223,7 +224,7 @@ impl Model for Network {
     }) };
 }
 
-ghost use Rattle.market_model.specs.Market.{IsDatum, IsUnit};
+ghost use Rattle.market_data.specs.Participants.{IsDatum, IsUnit};
 ghost use Rattle.net_case.specs.Networks.{IsNetUnit, IsNetwork, AreUnits, has_bus, bus_place, branch_place};
 ghost use Rattle.net_case.specs.NetworkReading.{unit_within, unit_list_of};
 

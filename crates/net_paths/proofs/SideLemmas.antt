@@ -8,7 +8,7 @@ use Rattle.std.proofs.lemmas.List.Quantifiers.{all_pairs_push}
 use Rattle.std.proofs.lemmas.List.{get_or-map}
 use Rattle.std.proofs.lemmas.List.Elements.{All-contains}
 use Rattle.std.proofs.lemmas.Option.{get_or_from_slice_get, slice_get_within}
-use Rattle.market_model.specs.declared.participants.Bus.{Bus}
+use Rattle.market_data.specs.declared.participants.Bus.{Bus}
 use Rattle.net_case.specs.declared.live_parts.NetBranch.{NetBranch}
 use Rattle.net_case.specs.Networks.{LiveNetwork}
 use Rattle.net_case.specs.Networks.{IsNetBranch}

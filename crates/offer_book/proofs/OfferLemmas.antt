@@ -1,6 +1,6 @@
 -- From the table as a whole to its blocks.
 use Rattle.std.proofs.Common.{◌≡◌, ◌≢◌, ℕ, List, [], Some, Ok, Err, refl, ap}
-use Rattle.market_model.specs.declared.participants.UnitList.{UnitList}
+use Rattle.market_data.specs.declared.participants.UnitList.{UnitList}
 use Rattle.csv_table.specs.Table.{Record, frame_of, table_of}
 use Rattle.csv_table.specs.declared.FrameFault.{FrameFault}
 use Rattle.csv_table.specs.declared.FrameFault.TheVariants as frame

@@ -3,8 +3,8 @@ use Rattle.std.specs.Prelude.{ℕ, ◌+◌, ◌==◌, ◌&&◌, ◌||◌, ℤ, p
 use Rattle.std.specs.Int.Signed.{lt_z, le_z}
 use Rattle.std.specs.List.{last_or, position}
 use Rattle.std.specs.Str.{bytes_eq}
-use Rattle.market_model.specs.declared.participants.Unit as unit
-use Rattle.market_model.specs.declared.participants.UnitList.{UnitList}
+use Rattle.market_data.specs.declared.participants.Unit as unit
+use Rattle.market_data.specs.declared.participants.UnitList.{UnitList}
 use Rattle.market_model.specs.declared.participants.Block.{Block}
 use Rattle.market_model.specs.declared.participants.Side.{Side}
 use Rattle.market_model.specs.declared.participants.Side.TheVariants.{Sell, Buy}
@@ -13,7 +13,7 @@ use Rattle.csv_table.specs.Table.{Record, and_then, cell_of, frame_of, number_in
 use Rattle.csv_table.specs.declared.CellFault.{CellFault}
 use Rattle.csv_table.specs.declared.FrameFault.{FrameFault}
 use Rattle.csv_table.specs.declared.FrameFault.TheVariants as frame
-use Rattle.market_model.specs.WholeSums.{int_sum}
+use Rattle.market_data.specs.WholeSums.{int_sum}
 use Rattle.net_case.specs.Gathering.{gather}
 use Rattle.net_case.specs.declared.live_parts.Why.TheVariants as why
 use Rattle.offer_book.specs.declared.offer_table.Offer.{Offer}

@@ -5,7 +5,7 @@ ghost use Rattle.exact_fraction.specs.Written.{last_digits, trimmed_places, sign
 ghost use Rattle.residual_text.specs.ResidualLines.{decimal_text};
 
 use itoa::Buffer;
-use market_model::Memory;
+use plain_list::Memory;
 use report_text::Text;
 
 /// The last so many digits of a number.

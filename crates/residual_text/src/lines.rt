@@ -5,7 +5,7 @@ ghost use Rattle.residual_text.specs.ResidualLines.{decimal_text, place_text, mo
 
 use crate::decimals::put_decimal;
 use factor_residuals::{Residual, Spot};
-use market_model::Memory;
+use plain_list::Memory;
 use report_text::Text;
 use std::alloc::Global;
 

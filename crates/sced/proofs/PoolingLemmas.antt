@@ -5,7 +5,7 @@ use Rattle.std.proofs.lemmas.List.{take_all, length-take-le}
 use Rattle.std.specs.Prelude.{nat_lt, IfOk, MatchResult}
 use Rattle.outside_store.specs.Files.{Files, SameFiles, Reads}
 use Rattle.market_model.specs.declared.participants.Block.{Block}
-use Rattle.market_model.specs.declared.participants.UnitList.{UnitList}
+use Rattle.market_data.specs.declared.participants.UnitList.{UnitList}
 use Rattle.case_text.specs.Matrices.{CaseMatrices}
 use Rattle.case_text.specs.Cases.{case_of}
 use Rattle.net_case.specs.NetworkReading.{network_of, unit_list_of}

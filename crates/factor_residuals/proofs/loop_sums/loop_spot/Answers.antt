@@ -5,7 +5,7 @@ use Rattle.std.specs.Prelude.{sum_by}
 use Rattle.std.proofs.lemmas.Int.{to_z-of_z}
 use Rattle.std.proofs.lemmas.List.{take_more}
 use Rattle.std.proofs.lemmas.List.Sums.{sum_by-append}
-use Rattle.market_model.proofs.WholeSumLaws.{int_sum_more}
+use Rattle.market_data.proofs.WholeSumLaws.{int_sum_more}
 use Rattle.net_paths.specs.declared.loops_of_tree.Member.{Member}
 use Rattle.factor_residuals.specs.Kirchhoff.{reactance_at, signed}
 use Rattle.factor_residuals.specs.Columns.{flows_of}

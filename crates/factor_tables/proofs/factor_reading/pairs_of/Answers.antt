@@ -2,7 +2,7 @@ use Rattle.std.proofs.Common.{rules, arith, ◌≡◌, ◌<◌, ◌≤◌, ◌+�
 use Rattle.std.specs.Prelude.{unsigned_abs}
 use mir.Val.{to_z, of_z}
 use Rattle.std.proofs.lemmas.Int.{to_z-of_z}
-use Rattle.market_model.proofs.Data.{datum_fits}
+use Rattle.market_data.proofs.Data.{datum_fits}
 use Rattle.std.proofs.Math.ListN.{length-set}
 use Rattle.csv_table.proofs.RowsLemmas.{read_rows-end, read_rows-fault, read_rows-step}
 use Rattle.factor_tables.specs.Tables.{entry_in}

@@ -1,7 +1,7 @@
 use Rattle.std.proofs.Common.{◌≡◌, w64}
 use mir.Val.{to_z, of_z}
 use Rattle.std.proofs.lemmas.Int.{to_z-of_z}
-use Rattle.market_model.proofs.Data.{datum_fits}
+use Rattle.market_data.proofs.Data.{datum_fits}
 use Rattle.factor_tables.proofs.offset_reading.check_offset.Goals as goal
 
 pub returns-clause-row : goal.returns-clause-row

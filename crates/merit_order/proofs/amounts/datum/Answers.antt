@@ -1,7 +1,7 @@
 use Rattle.std.proofs.Common.{◌∙◌, ap, w64}
 use Rattle.std.proofs.lemmas.Int.{to_z-of_z}
 use Rattle.fraction_theory.specs.Fraction.{over}
-use Rattle.market_model.proofs.Data.{datum_fits}
+use Rattle.market_data.proofs.Data.{datum_fits}
 use Rattle.fraction_theory.proofs.FieldLaws.{over-one}
 use Rattle.merit_order.proofs.amounts.datum.Goals as goal
 

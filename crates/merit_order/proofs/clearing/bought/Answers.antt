@@ -2,7 +2,7 @@ use Rattle.std.proofs.Common.{arith, pos}
 use Rattle.std.proofs.lemmas.Int.{ints}
 use Rattle.market_model.specs.declared.participants.Side.TheVariants.{Sell}
 use Rattle.merit_order.specs.Filling.{bought_of}
-use Rattle.market_model.proofs.WholeSumLaws.{int_sum_more}
+use Rattle.market_data.proofs.WholeSumLaws.{int_sum_more}
 use Rattle.merit_order.proofs.clearing.bought.Goals as goal
 
 pub loop-block-preserved : goal.loop-block-preserved

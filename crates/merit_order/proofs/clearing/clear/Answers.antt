@@ -3,7 +3,7 @@ use mir.Val.{to_z, of_z}
 use mir.Syntax.{w128}
 use Rattle.std.specs.Prelude.{All, slice_index_or}
 use Rattle.std.proofs.lemmas.Int.{ints, to_z-of_z}
-use Rattle.market_model.proofs.Data.{datum_fits}
+use Rattle.market_data.proofs.Data.{datum_fits}
 use Rattle.std.proofs.lemmas.Result.{err_from_is_err_and}
 use Rattle.std.proofs.lemmas.Grind.{common_steps}
 use Rattle.fraction_theory.specs.Fraction.{Fraction, whole}
@@ -16,7 +16,7 @@ use Rattle.market_model.specs.declared.answered.Price.{Price}
 use Rattle.market_model.specs.Market.{IsMarket}
 use Rattle.market_model.specs.Dispatch.{unit_at}
 use Rattle.market_model.specs.Optimality.{welfare, welfare_terms}
-use Rattle.market_model.specs.WholeSums.{int_sum}
+use Rattle.market_data.specs.WholeSums.{int_sum}
 use Rattle.merit_order.specs.Filling.{demand_of, fixed_of, bought_of, accepted_of, no_block, Fills, IsReached, AllPlaces, AtMostOnePart, IsPriceIn}
 use Rattle.merit_order.specs.declared.clearing.ClearFault.TheVariants as why
 use Rattle.merit_order.specs.Clearing.{dispatch_of, energy_alone}

@@ -4,7 +4,7 @@ use Rattle.std.specs.Prelude.{slice_index_or}
 use Rattle.std.proofs.lemmas.Int.{to_z-of_z}
 use Rattle.std.proofs.lemmas.Grind.{common_steps}
 use Rattle.market_model.specs.declared.participants.Block.{Block}
-use Rattle.market_model.proofs.Data.{datum_fits}
+use Rattle.market_data.proofs.Data.{datum_fits}
 use Rattle.fraction_theory.specs.Fraction.{whole}
 use Rattle.merit_order.specs.Filling.{accepted_of, no_block}
 use Rattle.merit_order.proofs.PlacesLemmas.{AllPlaces-push}

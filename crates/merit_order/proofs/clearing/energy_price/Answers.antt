@@ -3,7 +3,7 @@ use Rattle.std.specs.Prelude.{slice_index_or}
 use mir.Val.{to_z, of_z}
 use mir.Syntax.{w128}
 use Rattle.std.proofs.lemmas.Int.{to_z-of_z}
-use Rattle.market_model.proofs.Data.{datum_fits}
+use Rattle.market_data.proofs.Data.{datum_fits}
 use Rattle.merit_order.specs.Filling.{no_block}
 use Rattle.merit_order.proofs.ReachLemmas.{none_more, none_all}
 use Rattle.merit_order.proofs.ChosenLemmas.{named_more, named_all}

@@ -1,5 +1,5 @@
 use Rattle.std.specs.Prelude.{◌<◌, ℕ, IfSome, IfNone, slice_index_or}
-use Rattle.market_model.specs.Market.{IsDatum}
+use Rattle.market_data.specs.Participants.{IsDatum}
 use Rattle.merit_order.specs.Filling.{IsReached, no_block}
 use Rattle.merit_order.proofs.ChosenLemmas.{NamedBefore}
 use Rattle.merit_order.proofs.clearing.energy_price.Given as goal

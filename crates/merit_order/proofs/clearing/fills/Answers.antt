@@ -6,10 +6,10 @@ use Rattle.std.specs.Result.{is_ok}
 use Rattle.std.proofs.lemmas.Int.{ints, to_z-of_z}
 use Rattle.std.proofs.lemmas.List.{drop_all, get_or_default}
 use Rattle.std.proofs.lemmas.List.Elements.{All-nil}
-use Rattle.market_model.specs.Market.{IsDatum}
-use Rattle.market_model.proofs.Data.{All-push}
+use Rattle.market_data.specs.Participants.{IsDatum}
+use Rattle.market_data.proofs.Data.{All-push}
 use Rattle.market_model.specs.declared.participants.Block.{Block}
-use Rattle.market_model.specs.WholeSums.{int_sum}
+use Rattle.market_data.specs.WholeSums.{int_sum}
 use Rattle.merit_order.specs.Filling.{AtMostOnePart, below_of, Fills, IsLess, IsReached, no_block}
 use Rattle.merit_order.proofs.PlacesLemmas.{AllPlaces-push}
 use Rattle.merit_order.proofs.FillingLemmas.{filling_start, filling_more, filling_end}

@@ -1,6 +1,6 @@
 use Rattle.std.proofs.Common.{◌≡◌, ◌+◌, ◌*◌, ◌^◌, ◌≤◌, drop, All}
 use Rattle.std.specs.Prelude.{unsigned_abs, vec_len, slice_index_or}
-use Rattle.market_model.specs.Market.{IsDatum}
+use Rattle.market_data.specs.Participants.{IsDatum}
 use Rattle.merit_order.specs.Filling.{Fills, IsFilling, no_block, AllPlaces}
 use Rattle.merit_order.proofs.ChosenLemmas.{PartsBefore}
 use Rattle.merit_order.proofs.clearing.fills.Given as goal

@@ -1,7 +1,7 @@
 use Rattle.std.proofs.Common.{arith, pos}
 use Rattle.std.proofs.lemmas.Int.{ints}
 use Rattle.merit_order.specs.Filling.{fixed_of}
-use Rattle.market_model.proofs.WholeSumLaws.{int_sum_more}
+use Rattle.market_data.proofs.WholeSumLaws.{int_sum_more}
 use Rattle.merit_order.proofs.clearing.fixed_output.Goals as goal
 
 pub loop-unit-preserved : goal.loop-unit-preserved

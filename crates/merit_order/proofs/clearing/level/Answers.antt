@@ -3,7 +3,7 @@ use mir.Val.{to_z, of_z}
 use Rattle.std.proofs.lemmas.Int.{ints}
 use Rattle.market_model.specs.declared.participants.Side.TheVariants.{Sell}
 use Rattle.merit_order.specs.Filling.{level_of}
-use Rattle.market_model.proofs.WholeSumLaws.{int_sum_more}
+use Rattle.market_data.proofs.WholeSumLaws.{int_sum_more}
 use Rattle.merit_order.proofs.clearing.level.Goals as goal
 
 pub loop-block-preserved : goal.loop-block-preserved

@@ -2,7 +2,7 @@ use Rattle.std.proofs.Common.{◌≡◌, arith, w64, subst}
 use mir.Val.{to_z, of_z}
 use mir.Syntax.{w128}
 use Rattle.std.proofs.lemmas.Int.{ints, to_z-of_z}
-use Rattle.market_model.specs.WholeSums.{int_sum}
+use Rattle.market_data.specs.WholeSums.{int_sum}
 use Rattle.merit_order.specs.Filling.{below_of, level_of}
 use Rattle.merit_order.proofs.clearing.reaches.Goals as goal
 

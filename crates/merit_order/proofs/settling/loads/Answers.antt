@@ -2,7 +2,7 @@ use Rattle.std.proofs.Common.{rules, Err, subst₂, ◌≡◌, ◌<◌, ◌∙�
 use Rattle.std.specs.Prelude.{slice_index_or}
 use Rattle.std.proofs.lemmas.Grind.{common_steps}
 use Rattle.fraction_theory.specs.Fraction.{Fraction, ◌*ℚ◌}
-use Rattle.market_model.specs.declared.participants.Bus.{Bus}
+use Rattle.market_data.specs.declared.participants.Bus.{Bus}
 use Rattle.market_model.specs.Valued.{passed_at}
 use Rattle.merit_order.specs.declared.clearing.ClearFault.TheVariants as why
 use Rattle.merit_order.specs.Paying.{LoadPays, price_at, IsLoadRefusal, of_load}

@@ -1,7 +1,7 @@
 use Rattle.std.proofs.Common.{rules, Err, subst, ◌≡◌, ◌<◌, ◌∙◌, ap, sym, arith, length, pos, List, ℕ}
 use Rattle.std.specs.Prelude.{slice_index_or}
 use Rattle.std.proofs.lemmas.Grind.{common_steps}
-use Rattle.market_model.specs.declared.participants.Unit as unit
+use Rattle.market_data.specs.declared.participants.Unit as unit
 use Rattle.market_model.specs.Dispatch.{unit_at}
 use Rattle.market_model.specs.Valued.{passed_at}
 use Rattle.merit_order.specs.declared.clearing.ClearFault.TheVariants as why

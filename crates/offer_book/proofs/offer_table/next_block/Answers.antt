@@ -1,7 +1,7 @@
 use Rattle.std.proofs.Common.{rules, ◌≡◌, w64}
 use mir.Val.{to_z, of_z}
 use Rattle.std.proofs.lemmas.Int.{to_z-of_z}
-use Rattle.market_model.proofs.Data.{datum_fits}
+use Rattle.market_data.proofs.Data.{datum_fits}
 use Rattle.offer_book.specs.OfferTable.{block_after}
 use Rattle.offer_book.proofs.offer_table.next_block.Goals as goal
 

@@ -1,6 +1,6 @@
 use Rattle.std.proofs.Common.{ℕ, List, ◌++◌, ◌∙◌, ap, length, pos, arith}
 use Rattle.std.specs.Prelude.{slice_index_or}
-use Rattle.market_model.specs.declared.participants.Unit as unit
+use Rattle.market_data.specs.declared.participants.Unit as unit
 use Rattle.market_model.specs.declared.participants.Block.{Block}
 use Rattle.market_model.specs.declared.participants.Side.TheVariants.{Sell}
 use Rattle.market_model.specs.Dispatch.{zero, unit_at, block_at}

@@ -1,6 +1,6 @@
 use Rattle.std.proofs.Common.{List, ◌++◌, ◌∙◌, ap, length, pos, arith}
 use Rattle.std.specs.Prelude.{slice_index_or}
-use Rattle.market_model.specs.declared.participants.Bus.{Bus}
+use Rattle.market_data.specs.declared.participants.Bus.{Bus}
 use Rattle.market_model.specs.Dispatch.{zero, bus_at}
 use Rattle.market_model.specs.Reports.{bus_text, bus_line_at}
 use Rattle.market_model.specs.Valued.{price_at, answer_at}

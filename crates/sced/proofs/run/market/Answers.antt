@@ -1,5 +1,5 @@
 use Rattle.std.proofs.Common.{List, ◌≢◌, inl, inr, sym, ap, ◌∙◌, arith, Ok, Err}
-use Rattle.market_model.specs.declared.participants.Bus.{Bus}
+use Rattle.market_data.specs.declared.participants.Bus.{Bus}
 use Rattle.std.proofs.lemmas.Result.{err_from_is_err_and}
 use Rattle.case_text.specs.declared.CaseFault.TheVariants as case_fault
 use Rattle.net_case.specs.declared.live_parts.NetFault.TheVariants as net_fault

@@ -2,7 +2,7 @@ use Rattle.std.proofs.Common.{◌≡◌, ◌<◌, ◌^◌, arith, w64}
 use Rattle.std.specs.Prelude.{unsigned_abs}
 use mir.Val.{to_z, of_z}
 use Rattle.std.proofs.lemmas.Int.{to_z-of_z}
-use Rattle.market_model.proofs.Data.{datum_fits}
+use Rattle.market_data.proofs.Data.{datum_fits}
 use Rattle.factor_tables.specs.Factors.{factor_at}
 use Rattle.factor_tables.proofs.FactorLemmas.{factor_at-means, factor_at-size}
 use Rattle.factor_tables.proofs.by_pair.Shift.factor.Goals as goal

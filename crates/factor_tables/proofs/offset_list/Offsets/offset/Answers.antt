@@ -1,6 +1,6 @@
 use Rattle.std.proofs.Common.{◌∙◌}
 use Rattle.std.specs.Prelude.{◌==◌}
-use Rattle.market_model.specs.Market.{IsDatum}
+use Rattle.market_data.specs.Participants.{IsDatum}
 use Rattle.factor_tables.proofs.FactorLemmas.{lookup-all}
 use Rattle.factor_tables.proofs.offset_list.Offsets.offset.Goals as goal
 

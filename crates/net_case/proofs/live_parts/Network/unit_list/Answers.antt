@@ -2,8 +2,8 @@ use Rattle.std.proofs.Common.{◌≡◌, ◌∷◌, ◌∙◌, [], refl, length,
 use Rattle.net_case.specs.Networks.{LiveNetwork, IsNetwork}
 use Rattle.std.proofs.lemmas.Grind.{common_steps}
 use Rattle.std.proofs.lemmas.List.{map-append, take_more}
-use Rattle.market_model.specs.Market.{IsUnit}
-use Rattle.market_model.proofs.Data.{All-push}
+use Rattle.market_data.specs.Participants.{IsUnit}
+use Rattle.market_data.proofs.Data.{All-push}
 use Rattle.net_case.specs.NetworkReading.{unit_within}
 use Rattle.net_case.specs.declared.live_parts.NetUnit.{NetUnit}
 use Rattle.net_case.proofs.live_parts.Network.unit_list.Goals as goal

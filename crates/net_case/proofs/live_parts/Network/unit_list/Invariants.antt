@@ -1,5 +1,5 @@
 use Rattle.std.proofs.Common.{◌≡◌, length, map, take, All}
-use Rattle.market_model.specs.Market.{IsUnit}
+use Rattle.market_data.specs.Participants.{IsUnit}
 use Rattle.net_case.specs.NetworkReading.{unit_within}
 use Rattle.net_case.proofs.live_parts.Network.unit_list.Given as goal
 

@@ -3,7 +3,7 @@ use Rattle.std.proofs.Common.{◌≡◌, ℕ, ◌<◌, ◌^◌, ℤ, arith, w64,
 use Rattle.std.specs.Prelude.{unsigned_abs}
 use Rattle.std.proofs.lemmas.Int.{ints, to_z-of_z}
 use Rattle.std.proofs.lemmas.List.Elements.{All-append, All-cons, All-nil}
-use Rattle.market_model.specs.Market.{IsDatum}
+use Rattle.market_data.specs.Participants.{IsDatum}
 use mir.Val.{SFits, to_z, of_z}
 
 -- a datum is a signed number of 64 bits

@@ -1,7 +1,7 @@
 -- Sums of whole numbers, one element more.
 use Rattle.std.proofs.Common.{◌≡◌, ℕ, suc, zero, ◌+◌, ◌<◌, ℤ, ◌+ℤ◌, List, [], ◌∷◌, take, length, get_or, arith, add-one}
 use Rattle.std.proofs.lemmas.Int.{ints}
-use Rattle.market_model.specs.WholeSums.{int_sum}
+use Rattle.market_data.specs.WholeSums.{int_sum}
 
 module _ {A : Type 0} (f : A → ℤ) where
   pub int_sum_suc : (xs : List A) (i : ℕ) (d : A) → i < length xs → int_sum f (take (suc i) xs) ≡ int_sum f (take i xs) +ℤ f (get_or xs i d)
