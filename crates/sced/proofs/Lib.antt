@@ -1,4 +1,3 @@
 pub mod DecidedLemmas
 pub mod PoolingLemmas
-pub mod RefusalLemmas
 pub mod WordsLemmas

@@ -16,8 +16,8 @@ use Rattle.net_case.specs.Networks.{LiveNetwork}
 use Rattle.net_case.specs.declared.live_parts.Branches.TheVariants as branches
 use Rattle.offer_book.specs.declared.offer_table.OfferFault.{OfferFault}
 use Rattle.sced.specs.declared.status.Status.{Status}
-use Rattle.sced.specs.declared.refusals.Refusal.{Refusal}
-use Rattle.sced.specs.declared.refusals.Refusal.TheVariants as refusal
+use Rattle.refusal_text.specs.declared.refusals.Refusal.{Refusal}
+use Rattle.refusal_text.specs.declared.refusals.Refusal.TheVariants as refusal
 use Rattle.sced.specs.Pooling.{most_file, sized, pool_market, ComesTo, PoolsTo, FilesPoolTo}
 
 -- ---- whether a file is too long

@@ -17,10 +17,10 @@ use Rattle.case_text.specs.Cases.{case_of}
 use Rattle.net_case.specs.declared.live_parts.Branches.TheVariants as branches
 use Rattle.net_case.specs.NetworkReading.{network_of, unit_list_of}
 use Rattle.offer_book.specs.OfferTable.{blocks_of_table}
-use Rattle.sced.specs.Refusals.{refusal_line}
+use Rattle.refusal_text.specs.Refusals.{refusal_line}
 use Rattle.sced.specs.Words.{AsksNothing, AsksPool}
-use Rattle.sced.specs.declared.refusals.Refusal.{Refusal}
-use Rattle.sced.specs.declared.refusals.Refusal.TheVariants as refusal
+use Rattle.refusal_text.specs.declared.refusals.Refusal.{Refusal}
+use Rattle.refusal_text.specs.declared.refusals.Refusal.TheVariants as refusal
 use Rattle.sced.specs.declared.status.Status.{Status}
 use Rattle.sced.specs.declared.status.Status.TheVariants as status
 

@@ -9,7 +9,7 @@ ghost use Rattle.market_model.specs.Market.{IsMarket};
 ghost use Rattle.market_model.specs.Outcomes.{IsRightOutcome};
 ghost use Rattle.market_model.specs.Valued.{outcome_at};
 ghost use Rattle.sced.specs.Pooling.{most_file, pool_market, status_of, HasPlainPrice, ClearsTo, PoolsTo, FilesPoolTo, AnswersTo, IsDecidedOf};
-ghost use Rattle.sced.specs.Refusals.{refusal_line};
+ghost use Rattle.refusal_text.specs.Refusals.{refusal_line};
 ghost use Rattle.sced.specs.Runs.{IsSilent, IsTold, IsOfFiles, NamedReadFailed};
 ghost use Rattle.sced.specs.Words.{AsksNothing};
 
@@ -48,7 +48,7 @@ impl From<Memory> for Stop {
 impl From<CaseFault> for Stop {
     ghost use Rattle.std.specs.Prelude.{◌⊎◌, ◌≢◌};
     ghost use Rattle.case_text.specs.declared.CaseFault.TheVariants as fault_why;
-    ghost use Rattle.sced.specs.declared.refusals.Refusal.TheVariants as refusal;
+    ghost use Rattle.refusal_text.specs.declared.refusals.Refusal.TheVariants as refusal;
     ghost use Rattle.sced.specs.declared.run.Stop.TheVariants as why;
 
     ghost from_gives = { λ fault stop. ((fault ≡ fault_why.Memory) × (stop ≡ why.Memory)) ⊎ ((fault ≢ fault_why.Memory) × (stop ≡ why.Refused (refusal.Case fault))) };
@@ -64,7 +64,7 @@ impl From<CaseFault> for Stop {
 impl From<NetFault> for Stop {
     ghost use Rattle.std.specs.Prelude.{◌⊎◌, ◌≢◌};
     ghost use Rattle.net_case.specs.declared.live_parts.NetFault.TheVariants as fault_why;
-    ghost use Rattle.sced.specs.declared.refusals.Refusal.TheVariants as refusal;
+    ghost use Rattle.refusal_text.specs.declared.refusals.Refusal.TheVariants as refusal;
     ghost use Rattle.sced.specs.declared.run.Stop.TheVariants as why;
 
     ghost from_gives = { λ fault stop. ((fault ≡ fault_why.Memory) × (stop ≡ why.Memory)) ⊎ ((fault ≢ fault_why.Memory) × (stop ≡ why.Refused (refusal.Network fault))) };
@@ -80,7 +80,7 @@ impl From<NetFault> for Stop {
 impl From<OfferFault> for Stop {
     ghost use Rattle.std.specs.Prelude.{◌⊎◌, ◌≢◌};
     ghost use Rattle.offer_book.specs.declared.offer_table.OfferFault.TheVariants as fault_why;
-    ghost use Rattle.sced.specs.declared.refusals.Refusal.TheVariants as refusal;
+    ghost use Rattle.refusal_text.specs.declared.refusals.Refusal.TheVariants as refusal;
     ghost use Rattle.sced.specs.declared.run.Stop.TheVariants as why;
 
     ghost from_gives = { λ fault stop. ((fault ≡ fault_why.Memory) × (stop ≡ why.Memory)) ⊎ ((fault ≢ fault_why.Memory) × (stop ≡ why.Refused (refusal.Offers fault))) };
