@@ -1,5 +1,7 @@
 //! Why the files come to no market and to no check.
 
+ghost use Rattle.std.specs.Prelude.{◌≡◌};
+
 use case_text::CaseFault;
 use net_case::NetFault;
 use net_paths::PathStop;
