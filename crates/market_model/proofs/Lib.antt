@@ -13,4 +13,5 @@ pub mod ReportReading
 pub mod RightReports
 mod Rows
 pub mod SystemLaws
+pub mod TableLemmas
 pub mod WholeDispatch

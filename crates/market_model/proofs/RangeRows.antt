@@ -35,6 +35,10 @@ big_buses = record {
       ∷ record { row = 3; bus = 2; fixed = pos 0; up = pos most; down = pos 0 } ∷ [];
   blocks = record { unit = 0; side = Sell; quantity = pos most; price = pos most } ∷ record { unit = 1; side = Sell; quantity = pos most; price = pos most }
       ∷ record { unit = 2; side = Sell; quantity = pos most; price = pos most } ∷ [];
+  lines = [];
+  outages = [];
+  shift = [];
+  loss = [];
 }
 
 -- all is sold

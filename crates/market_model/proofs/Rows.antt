@@ -29,6 +29,10 @@ three_buses = record {
   buses = record { number = 1; pd = pos 0; gs = pos 0 } ∷ record { number = 2; pd = pos 0; gs = pos 0 } ∷ record { number = 3; pd = pos (60 * 10 ^ 9); gs = pos 0 } ∷ [];
   units = record { row = 1; bus = 0; fixed = pos 0; up = pos (100 * 10 ^ 9); down = pos 0 } ∷ record { row = 2; bus = 1; fixed = pos 0; up = pos (100 * 10 ^ 9); down = pos 0 } ∷ [];
   blocks = record { unit = 0; side = Sell; quantity = pos (100 * 10 ^ 9); price = pos (10 * 10 ^ 6) } ∷ record { unit = 1; side = Sell; quantity = pos (100 * 10 ^ 9); price = pos (30 * 10 ^ 6) } ∷ [];
+  lines = [];
+  outages = [];
+  shift = [];
+  loss = [];
 }
 
 -- 60 MW of the first block, none of the second
@@ -135,6 +139,10 @@ with_buyer = record {
       ∷ record { row = 3; bus = 2; fixed = pos 0; up = pos 0; down = pos (50 * 10 ^ 9) } ∷ [];
   blocks = record { unit = 0; side = Sell; quantity = pos (100 * 10 ^ 9); price = pos (10 * 10 ^ 6) } ∷ record { unit = 1; side = Sell; quantity = pos (100 * 10 ^ 9); price = pos (30 * 10 ^ 6) }
       ∷ record { unit = 2; side = Buy; quantity = pos (30 * 10 ^ 9); price = pos (40 * 10 ^ 6) } ∷ record { unit = 2; side = Buy; quantity = pos (20 * 10 ^ 9); price = pos (5 * 10 ^ 6) } ∷ [];
+  lines = [];
+  outages = [];
+  shift = [];
+  loss = [];
 }
 
 -- 90 MW of the first unit, of which the buyer takes 30
@@ -208,6 +216,10 @@ with_shunt = record {
   buses = record { number = 1; pd = pos 0; gs = pos 0 } ∷ record { number = 2; pd = pos 0; gs = pos (5 * 10 ^ 9) } ∷ record { number = 3; pd = pos (60 * 10 ^ 9); gs = pos 0 } ∷ [];
   units = record { row = 1; bus = 0; fixed = pos 0; up = pos (100 * 10 ^ 9); down = pos 0 } ∷ record { row = 2; bus = 1; fixed = pos (20 * 10 ^ 9); up = pos (80 * 10 ^ 9); down = pos 0 } ∷ [];
   blocks = record { unit = 0; side = Sell; quantity = pos (100 * 10 ^ 9); price = pos (10 * 10 ^ 6) } ∷ record { unit = 1; side = Sell; quantity = pos (80 * 10 ^ 9); price = pos (30 * 10 ^ 6) } ∷ [];
+  lines = [];
+  outages = [];
+  shift = [];
+  loss = [];
 }
 
 -- 45 MW of the first unit
@@ -265,6 +277,10 @@ short = record {
   buses = record { number = 1; pd = pos 0; gs = pos 0 } ∷ record { number = 2; pd = pos 0; gs = pos 0 } ∷ record { number = 3; pd = pos (250 * 10 ^ 9); gs = pos 0 } ∷ [];
   units = three_buses.units;
   blocks = three_buses.blocks;
+  lines = [];
+  outages = [];
+  shift = [];
+  loss = [];
 }
 
 pub short-market : IsMarket short

@@ -5,7 +5,8 @@ ghost use Rattle.std.specs.List.{position};
 ghost use Rattle.market_data.specs.Participants.{IsDatum, most_units};
 ghost use Rattle.market_model.specs.Market.{IsBlock, most_blocks};
 ghost use Rattle.net_case.specs.Gathering.{gather, listed};
-ghost use Rattle.offer_book.specs.OfferTable.{cell_fault, side_in, offer_in, is_on_stair, stair_in, ends_of, follows, room_of, block_after, block_where, row_in, block_in, fault_of, blocks_of_table};
+ghost use Rattle.market_model.specs.Stairs.{is_on_stair, stair_in, room_of};
+ghost use Rattle.offer_book.specs.OfferTable.{cell_fault, side_in, offer_in, ends_of, follows, block_after, block_where, row_in, block_in, fault_of, blocks_of_table};
 ghost use Rattle.offer_book.specs.Offers.{AreBlocks, MayFollow, OfferIsRead, StairIsBounded};
 
 use csv_table::{CellFault, FrameFault, Table, read_table};

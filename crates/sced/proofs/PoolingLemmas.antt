@@ -1,5 +1,5 @@
 -- What the bytes of a case and of offers stand for, by the outcomes of their readers.
-use Rattle.std.proofs.Common.{◌≡◌, ◌≤◌, ◌<◌, ℕ, List, length, take, Bool, true, false, Result, Ok, Err, Option, Some, None, refl, sym, subst, ◌∙◌, ap, arith}
+use Rattle.std.proofs.Common.{◌≡◌, ◌≤◌, ◌<◌, ℕ, List, [], length, take, Bool, true, false, Result, Ok, Err, Option, Some, None, refl, sym, subst, ◌∙◌, ap, arith}
 use Rattle.std.proofs.lemmas.Bool.{le-ltb, lt-ltb, ltb-true, ltb-false}
 use Rattle.std.proofs.lemmas.List.{take_all, length-take-le}
 use Rattle.std.specs.Prelude.{nat_lt, IfOk, MatchResult}
@@ -55,7 +55,7 @@ module _ (case offers : List ℕ) where
           unfolding pool_market
           blocks-fault f is = rw (sized-short refusal.CaseTooLong case short, plain-is, network-is, sized-short refusal.OffersTooLong offers within, ← list-is, is) refl
 
-          pub market-is : (blocks : List Block) → blocks_of_table list offers ≡ Ok blocks → pool_market case offers ≡ Ok (record { buses = network.buses; units = list.units; blocks = blocks })
+          pub market-is : (blocks : List Block) → blocks_of_table list offers ≡ Ok blocks → pool_market case offers ≡ Ok (record { buses = network.buses; units = list.units; blocks = blocks; lines = []; outages = []; shift = []; loss = [] })
           unfolding pool_market
           market-is blocks is = rw (sized-short refusal.CaseTooLong case short, plain-is, network-is, sized-short refusal.OffersTooLong offers within, ← list-is, is) (cc list-is)
 

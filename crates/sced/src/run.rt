@@ -18,7 +18,7 @@ use crate::status::Status;
 use crate::words::{PoolFiles, WordsStop, pool_files};
 use case_text::{CaseFault, read_case};
 use exact_fraction::{Exact, Frac};
-use market_model::{Market, Memory, Outcome as Clearing, Parts, assemble};
+use market_model::{List, Market, Memory, Outcome as Clearing, Parts, assemble};
 use merit_order::{ClearFault, clear};
 use net_case::{Branches, NetFault, network};
 use offer_book::{OfferFault, blocks};
@@ -115,6 +115,10 @@ fn market(alloc: Global, case: &[u8], offers: &[u8]) -> Result<Market, Stop>
         buses: network.into_buses(),
         units: units.units,
         blocks,
+        lines: List::new(alloc),
+        outages: List::new(alloc),
+        shift: List::new(alloc),
+        loss: List::new(alloc),
     };
     Ok(assemble(alloc, parts)?)
 }

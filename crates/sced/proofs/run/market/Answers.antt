@@ -1,4 +1,4 @@
-use Rattle.std.proofs.Common.{List, ◌≢◌, inl, inr, sym, ap, ◌∙◌, arith, Ok, Err}
+use Rattle.std.proofs.Common.{List, [], ◌≢◌, inl, inr, sym, ap, ◌∙◌, arith, Ok, Err}
 use Rattle.market_data.specs.declared.participants.Bus.{Bus}
 use Rattle.std.proofs.lemmas.Result.{err_from_is_err_and}
 use Rattle.case_text.specs.declared.CaseFault.TheVariants as case_fault
@@ -65,4 +65,4 @@ returns-clause-market c =
     market-is c.args.case.now c.args.offers.now (omega arith) _ (sym (c.read_case.ensures read) ∙ c.in_ok-raw.was)
     c.in_ok-network.network (sym (c.network.ensures.is made) ∙ c.in_ok-network.was) (omega arith)
     c.in_ok-units.units c.in_ok-units.ensures.is c.in_ok-blocks.blocks (sym (c.blocks-2.ensures.is listed) ∙ c.in_ok-blocks.was)
-    ∙ sym (ap Ok (c.in_ok-assemble.ensures ∙ ap (λ (buses : List Bus). record { buses = buses; units = c.in_ok-units.units.units; blocks = c.in_ok-blocks.blocks }) c.into_buses.ensures))
+    ∙ sym (ap Ok (c.in_ok-assemble.ensures ∙ ap (λ (buses : List Bus). record { buses = buses; units = c.in_ok-units.units.units; blocks = c.in_ok-blocks.blocks; lines = []; outages = []; shift = []; loss = [] }) c.into_buses.ensures))
