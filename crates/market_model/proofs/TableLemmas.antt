@@ -1,10 +1,13 @@
 -- A table of factors, one factor more.
-use Rattle.std.specs.Prelude.{◌≡◌, ◌≢◌, ℕ, ◌+◌, ◌*◌, ◌/◌, ◌%◌, ◌<◌, ◌==◌, ◌&&◌, ◌⊎◌, ℤ, pos, Bool, true, false, List, [], ◌∷◌, length, slice_set, slice_index_or, replicate, AllPairs, refl, if◌then◌else◌}
-use Rattle.std.proofs.Common.{zero, suc, arith, take, get_or, sym, ap, ◌∙◌, inl, inr, add-one, subst}
+use Rattle.std.specs.Prelude.{◌≡◌, ◌≢◌, ℕ, ◌+◌, ◌*◌, ◌/◌, ◌%◌, ◌<◌, ◌==◌, ◌&&◌, ◌⊎◌, ℤ, pos, Bool, true, false, List, [], ◌∷◌, length, slice_set, slice_index_or, replicate, AllPairs, refl, if◌then◌else◌, unsigned_abs, ◌≤◌}
+use Rattle.std.proofs.Common.{zero, suc, arith, w64, take, get_or, sym, ap, ◌∙◌, inl, inr, add-one, subst}
 use Rattle.std.proofs.lemmas.Bool.Decides.{eqb_tells}
 use Rattle.std.proofs.lemmas.List.{get_or-set_same, get_or-set_other, length-set}
+use mir.Val.{SFits}
+use Rattle.std.proofs.lemmas.Int.{ints}
 use Rattle.std.proofs.lemmas.Nat.{div-mul-add, mod-mul-add, mul-add-lt}
 use Rattle.market_model.specs.declared.participants.Factor.{Factor}
+use Rattle.market_model.specs.Market.{most_factor}
 use Rattle.market_model.specs.Factors.{is_pair, factor_in, IsTable}
 
 abbrev pub NotOnePair : Factor → Factor → Type 0
@@ -35,9 +38,9 @@ pub factor_in-more : (l o : ℕ) (fs : List Factor) (i : ℕ) (d : Factor) → i
 factor_in-more l o fs i d lt apart = Prim.rw add-one (go fs i lt apart)
   where
     test : (b c : Bool) (v w rest : ℤ) → ((b ≡ true) → (c ≡ true) → ⊥) → (if b then v else (if c then w else rest)) ≡ (if c then w else (if b then v else rest))
-    test true true v w rest no = absurd (no refl refl)
-    test true false v w rest no = refl
-    test false c v w rest no = refl
+    test true true v w rest = λ no. absurd (no refl refl)
+    test true false v w rest = λ no. refl
+    test false c v w rest = λ no. refl
 
     go : (gs : List Factor) (n : ℕ) → n < length gs → AllPairs NotOnePair gs
         → factor_in (take (suc n) gs) l o ≡ (if is_pair l o (get_or gs n d) then (get_or gs n d).value else factor_in (take n gs) l o)
@@ -87,3 +90,7 @@ module _ (lines others : ℕ) where
           let of : (get_or fs i d).of ≡ o = sym (mod-mul-add (get_or fs i d).line others (get_or fs i d).of ino) ∙ ap (λ (t : ℕ). t % others) (sym same) ∙ mod-mul-add l others o q in
           true_not_false (sym (pair_both l o (get_or fs i d) line of) ∙ sym e) in
           get_or-set_other table ((get_or fs i d).line * others + (get_or fs i d).of) (l * others + o) (get_or fs i d).value (pos 0) other ∙ h.each l o p q
+
+-- a factor is a signed number of 64 bits
+pub factor_fits : (n : ℤ) → unsigned_abs n ≤ most_factor → SFits w64 n
+factor_fits n h = Prim.omega (arith, ints)

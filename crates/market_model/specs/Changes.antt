@@ -1,5 +1,5 @@
 -- A market with one number changed.
-use Rattle.std.specs.Prelude.{ℕ, ℤ, Bool, Some, slice_set, slice_index_or, if◌then◌else◌}
+use Rattle.std.specs.Prelude.{ℕ, ℤ, Bool, Some, slice_set, if◌then◌else◌}
 use Rattle.market_model.specs.declared.participants.Line.{Line}
 use Rattle.market_model.specs.declared.participants.Parts.{Parts}
 use Rattle.market_model.specs.Dispatch.{bus_at, block_at, line_at}

@@ -33,6 +33,10 @@ pub record IsBlock (units : ℕ) (block : Block) : Type 0 where
 abbrev pub HasRoom : List Block → ℕ → unit.Unit → Type 0
 HasRoom blocks place u = (side : Side) → offered (stair_in place side blocks) ≤ℤ room_of side u
 
+-- no unit's blocks offer more than it has room for
+abbrev pub HaveRoom : List unit.Unit → List Block → Type 0
+HaveRoom units blocks = (place : ℕ) (d : unit.Unit) → place < length units → HasRoom blocks place (slice_index_or units place d)
+
 pub record IsLine (line : Line) : Type 0 where
   pub row : 1 ≤ line.row
   pub base : IfSome line.base (λ mw. pos 0 ≤ℤ mw)
@@ -61,7 +65,7 @@ pub record IsMarket (parts : Parts) : Type 0 where
   pub units : All (IsUnit (length parts.buses)) parts.units
   pub unit_rows : AllPairs (λ a b. a ≢ b) (map (λ unit. unit.row) parts.units)
   pub blocks : All (IsBlock (length parts.units)) parts.blocks
-  pub room : (place : ℕ) (d : unit.Unit) → place < length parts.units → HasRoom parts.blocks place (slice_index_or parts.units place d)
+  pub room : HaveRoom parts.units parts.blocks
   pub lines : All IsLine parts.lines
   pub line_rows : AllPairs (λ a b. a ≢ b) (map (λ line. line.row) parts.lines)
   pub outages : All (Contains (map (λ line. line.row) parts.lines)) parts.outages

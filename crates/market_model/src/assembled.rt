@@ -114,7 +114,13 @@ impl Market {
         ensures { self.new ≡ with_quantity self.old block mw }
     {
         let old = *self.parts.blocks.at(block);
-        self.parts.blocks.set(block, Block { quantity: mw, ..old });
+        self.parts.blocks.set(
+            block,
+            Block {
+                quantity: mw,
+                ..old
+            },
+        );
     }
 
     /// Sets the load of a bus, in 10^-9 MW. Its shunt stays.
