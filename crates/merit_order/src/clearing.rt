@@ -345,7 +345,7 @@ fn prices<N: Exact>(alloc: Global, buses: usize, energy: N) -> Result<List<Price
 }
 
 /// What the accepted MW of a block are worth: a buy's price for them, or the negative of a sell's.
-#[tactic(auto, using(market_model::proofs::Data::datum_read))]
+#[tactic(auto, using(market_data::proofs::Data::datum_read))]
 fn worth<N: Exact>(block: &Block, mw: N) -> Result<N, Passed<N>>
     requires { IsDatum block.now.price }
     ensures worth { IfOk result (λ worth. N.value worth ≡ neg_ℚ (signed block.now.side (whole block.now.price)) *ℚ N.value mw) }

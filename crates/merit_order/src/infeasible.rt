@@ -19,7 +19,7 @@ use market_model::{Block, Bus, Farkas, Market, Side, Unit};
 use std::alloc::Global;
 
 /// A sum with a datum, where that belongs to it.
-#[tactic(auto, using(market_model::proofs::Data::datum_read))]
+#[tactic(auto, using(market_data::proofs::Data::datum_read))]
 fn with_part<N: Exact>(sum: N, part: i64, belongs: bool) -> Result<N, Passed<N>>
     requires { IsDatum part }
     ensures sum { IfOk result (λ more. N.value more ≡ N.value sum +ℚ (if belongs then whole part else zero)) }
@@ -34,7 +34,7 @@ fn with_part<N: Exact>(sum: N, part: i64, belongs: bool) -> Result<N, Passed<N>>
 }
 
 /// An injection with the fixed part of a unit, where that stands at the bus.
-#[tactic(auto, using(market_model::proofs::Data::datum_read))]
+#[tactic(auto, using(market_data::proofs::Data::datum_read))]
 fn with_unit<N: Exact>(injection: N, unit: &Unit, belongs: bool) -> Result<N, Passed<N>>
     requires { IsDatum unit.now.fixed }
     ensures sum { IfOk result (λ more. N.value more ≡ N.value injection +ℚ (if belongs then whole unit.now.fixed else zero)) }
@@ -45,7 +45,7 @@ fn with_unit<N: Exact>(injection: N, unit: &Unit, belongs: bool) -> Result<N, Pa
 }
 
 /// An injection less the demand of its bus.
-#[tactic(auto, using(market_model::proofs::Data::datum_read))]
+#[tactic(auto, using(market_data::proofs::Data::datum_read))]
 fn less_demand<N: Exact>(injection: N, bus: &Bus) -> Result<N, Passed<N>>
     requires { IsBus bus.now }
     ensures less { IfOk result (λ less. N.value less ≡ (N.value injection -ℚ whole bus.now.pd) -ℚ whole bus.now.gs) }
@@ -88,7 +88,7 @@ fn is_of_side(block: &Block, side: Side) -> bool
 }
 
 /// A bound with all that a block has, where the block counts.
-#[tactic(auto, using(market_model::proofs::Data::datum_read))]
+#[tactic(auto, using(market_data::proofs::Data::datum_read))]
 fn with_block<N: Exact>(bound: N, block: &Block, counts: bool) -> Result<N, Passed<N>>
     requires { pos 0 ≤ℤ block.now.quantity }
     ensures sum { IfOk result (λ more. N.value more ≡ N.value bound +ℚ (if counts then whole block.now.quantity else zero)) }

@@ -64,7 +64,7 @@ fn fixed_part<N: Exact>(market: &Market, place: usize) -> N
 }
 
 /// A bus's demand and what it pays at a price.
-#[tactic(auto, using(market_model::proofs::Data::datum_read))]
+#[tactic(auto, using(market_data::proofs::Data::datum_read))]
 fn load<N: Exact>(bus: &Bus, price: N) -> Result<Load<N>, Passed<N>>
     requires { IsBus bus.now }
     ensures demand { IfOk result (λ load. N.value load.mw ≡ whole bus.now.pd +ℚ whole bus.now.gs) }

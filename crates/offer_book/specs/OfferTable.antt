@@ -1,5 +1,5 @@
 -- What a table of offers stands for: the blocks of its records, or the first fault.
-use Rattle.std.specs.Prelude.{ℕ, ◌+◌, ◌==◌, ◌||◌, ℤ, pos, ◌+ℤ◌, Bool, true, not, List, [], ◌∷◌, map, codes, Option, Some, None, Result, Ok, Err, slice_index_or, unsigned_abs, if◌then◌else◌}
+use Rattle.std.specs.Prelude.{ℕ, ◌==◌, ◌||◌, ℤ, pos, ◌+ℤ◌, Bool, true, not, List, [], ◌∷◌, map, codes, Option, Some, None, Result, Ok, Err, slice_index_or, unsigned_abs, if◌then◌else◌}
 use Rattle.std.specs.Int.Signed.{lt_z, le_z}
 use Rattle.std.specs.List.{last_or, position}
 use Rattle.std.specs.Str.{bytes_eq}
