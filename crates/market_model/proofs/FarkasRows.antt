@@ -25,6 +25,10 @@ held load = record {
   buses = record { number = 1; pd = pos 0; gs = pos 0 } ∷ record { number = 2; pd = load; gs = pos 0 } ∷ [];
   units = record { row = 1; bus = 0; fixed = pos (60 * 10 ^ 9); up = pos 0; down = pos 0 } ∷ [];
   blocks = [];
+  lines = [];
+  outages = [];
+  shift = [];
+  loss = [];
 }
 
 held-bound : farkas_bound (held (pos 60000000001)) (energy_at (pos 1)) ≡ whole (negsuc 0)

@@ -1,5 +1,6 @@
 pub mod Amounts
 pub mod BlockChoices
+pub mod ChangeLemmas
 pub mod Completeness
 pub mod FarkasLaw
 mod FarkasRows
@@ -8,9 +9,11 @@ pub mod MorePlaces
 pub mod Optimum
 pub mod PairLaws
 pub mod PlaceSums
+pub mod PlainMarkets
 mod RangeRows
 pub mod ReportReading
 pub mod RightReports
 mod Rows
 pub mod SystemLaws
+pub mod TableLemmas
 pub mod WholeDispatch

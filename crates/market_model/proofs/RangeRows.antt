@@ -1,5 +1,5 @@
 -- The row of three big buses: numbers of 127 bits don't hold its welfare, and the sum that they don't hold is a working pair.
-use Rattle.std.specs.Prelude.{◌≡◌, ◌≢◌, ℕ, ◌^◌, ◌<◌, ◌-◌, pos, neg_ℤ, Bool, true, [], ◌∷◌, All, if◌then◌else◌, refl}
+use Rattle.std.specs.Prelude.{◌≡◌, ◌≢◌, ℕ, ◌^◌, ◌<◌, ◌-◌, pos, neg_ℤ, Bool, true, [], ◌∷◌, All, slice_index_or, if◌then◌else◌, refl}
 use Rattle.std.proofs.Common.{zero, suc, arith, ap, sym, inl, inr}
 use Rattle.std.proofs.lemmas.Int.{ints}
 use Rattle.fraction_theory.specs.Divisors.{gcd, gcd_in, lcm}
@@ -10,11 +10,16 @@ use Rattle.fraction_theory.proofs.OrderLaws.{whole-≤ℚ, <ℚ_irrefl}
 use Rattle.exact_fraction.specs.declared.Op.TheVariants.{Plus}
 use Rattle.exact_fraction.specs.declared.Passed.{Passed}
 use Rattle.exact_fraction.specs.Passes.{SumPasses}
-use Rattle.market_model.specs.declared.participants.Side.TheVariants.{Sell}
+use Rattle.market_model.specs.declared.participants.Side.TheVariants.{Sell, Buy}
 use Rattle.market_model.specs.declared.participants.Parts.{Parts}
 use Rattle.market_model.specs.declared.answered.Duals.{Duals}
+use Rattle.std.specs.List.Sorted.{IsStrictlyIncreasing}
+use Rattle.std.proofs.lemmas.List.Kept.{AllPairs-from_increasing}
 use Rattle.market_data.specs.Participants.{IsBus, IsUnit}
-use Rattle.market_model.specs.Market.{IsMarket, IsBlock}
+use Rattle.market_data.specs.declared.participants.Unit as unit
+use Rattle.market_model.specs.Stairs.{stair_in}
+use Rattle.market_model.proofs.PlainMarkets.{plain_market, distinct_by_rise}
+use Rattle.market_model.specs.Market.{IsMarket, IsBlock, HasRoom}
 use Rattle.market_model.specs.Dispatch.{Dispatch, injection, balance, accepted, quantity}
 use Rattle.market_model.specs.Optimality.{Feasible, Supports, BlockSupported, welfare_terms, bus_price}
 use Rattle.market_model.specs.NamedSums.{term_at}
@@ -35,6 +40,10 @@ big_buses = record {
       ∷ record { row = 3; bus = 2; fixed = pos 0; up = pos most; down = pos 0 } ∷ [];
   blocks = record { unit = 0; side = Sell; quantity = pos most; price = pos most } ∷ record { unit = 1; side = Sell; quantity = pos most; price = pos most }
       ∷ record { unit = 2; side = Sell; quantity = pos most; price = pos most } ∷ [];
+  lines = [];
+  outages = [];
+  shift = [];
+  loss = [];
 }
 
 -- all is sold
@@ -45,8 +54,33 @@ abbrev pub at_most_price : Duals Fraction
 at_most_price = record { energy = whole (pos most); limits = [] }
 
 big_buses-market : IsMarket big_buses
-big_buses-market = record { bus_count = Prim.omega arith; unit_count = Prim.omega arith; block_count = Prim.omega arith; buses = buses; units = units; blocks = blocks }
+unfolding stair_in
+big_buses-market = plain_market big_buses.buses big_buses.units big_buses.blocks (record {
+  bus_count = Prim.omega arith;
+  unit_count = Prim.omega arith;
+  block_count = Prim.omega arith;
+  buses = buses;
+  bus_numbers = distinct_by_rise (1 ∷ 2 ∷ 3 ∷ []) (AllPairs-from_increasing (1 ∷ 2 ∷ 3 ∷ []) numbers);
+  units = units;
+  unit_rows = distinct_by_rise (1 ∷ 2 ∷ 3 ∷ []) (AllPairs-from_increasing (1 ∷ 2 ∷ 3 ∷ []) numbers);
+  blocks = blocks;
+  room = room;
+})
   where
+    numbers : IsStrictlyIncreasing (1 ∷ 2 ∷ 3 ∷ [])
+    numbers zero h = Prim.omega arith
+    numbers (suc zero) h = Prim.omega arith
+    numbers (suc (suc k)) h = absurd (Prim.omega arith)
+
+    room : (place : ℕ) (d : unit.Unit) → place < 3 → HasRoom big_buses.blocks place (slice_index_or big_buses.units place d)
+    room zero d h Sell = Prim.omega (arith, ints)
+    room zero d h Buy = Prim.omega (arith, ints)
+    room (suc zero) d h Sell = Prim.omega (arith, ints)
+    room (suc zero) d h Buy = Prim.omega (arith, ints)
+    room (suc (suc zero)) d h Sell = Prim.omega (arith, ints)
+    room (suc (suc zero)) d h Buy = Prim.omega (arith, ints)
+    room (suc (suc (suc k))) d h side = absurd (Prim.omega arith)
+
     buses : All IsBus big_buses.buses
     buses zero d h = record { load = Prim.omega (arith, ints); shunt = Prim.omega (arith, ints) }
     buses (suc zero) d h = record { load = Prim.omega (arith, ints); shunt = Prim.omega (arith, ints) }

@@ -1,5 +1,5 @@
 -- Worked rows: the definitions give the numbers that were worked out by hand.
-use Rattle.std.specs.Prelude.{◌≡◌, ℕ, ◌*◌, ◌^◌, ◌<◌, ℤ, pos, neg_ℤ, ◌≤ℤ◌, ◌<ℤ◌, All, [], ◌∷◌, refl}
+use Rattle.std.specs.Prelude.{◌≡◌, ℕ, ◌*◌, ◌^◌, ◌<◌, ℤ, pos, neg_ℤ, ◌≤ℤ◌, ◌<ℤ◌, All, [], ◌∷◌, slice_index_or, refl}
 use Rattle.std.proofs.Common.{zero, suc, arith, ap, inl, inr, subst, subst₂}
 use Rattle.std.proofs.lemmas.Int.{ints}
 use Rattle.fraction_theory.specs.Divisors.{gcd, gcd_in}
@@ -10,8 +10,13 @@ use Rattle.fraction_theory.proofs.OrderLaws.{three_ways, <ℚ_irrefl, whole-≤�
 use Rattle.market_model.specs.declared.participants.Side.TheVariants.{Sell, Buy}
 use Rattle.market_model.specs.declared.participants.Parts.{Parts}
 use Rattle.market_model.specs.declared.answered.Duals.{Duals}
+use Rattle.std.specs.List.Sorted.{IsStrictlyIncreasing}
+use Rattle.std.proofs.lemmas.List.Kept.{AllPairs-from_increasing}
 use Rattle.market_data.specs.Participants.{IsBus, IsUnit}
-use Rattle.market_model.specs.Market.{IsMarket, IsBlock}
+use Rattle.market_data.specs.declared.participants.Unit as unit
+use Rattle.market_model.specs.Stairs.{stair_in}
+use Rattle.market_model.proofs.PlainMarkets.{plain_market, distinct_by_rise}
+use Rattle.market_model.specs.Market.{IsMarket, IsBlock, HasRoom}
 use Rattle.market_model.specs.Dispatch.{Dispatch, places, injection, balance, output, demand, accepted, quantity}
 use Rattle.market_model.specs.Optimality.{Feasible, Supports, BlockSupported, welfare, bus_price}
 use Rattle.market_model.specs.Settlement.{paid, pays, surplus}
@@ -29,6 +34,10 @@ three_buses = record {
   buses = record { number = 1; pd = pos 0; gs = pos 0 } ∷ record { number = 2; pd = pos 0; gs = pos 0 } ∷ record { number = 3; pd = pos (60 * 10 ^ 9); gs = pos 0 } ∷ [];
   units = record { row = 1; bus = 0; fixed = pos 0; up = pos (100 * 10 ^ 9); down = pos 0 } ∷ record { row = 2; bus = 1; fixed = pos 0; up = pos (100 * 10 ^ 9); down = pos 0 } ∷ [];
   blocks = record { unit = 0; side = Sell; quantity = pos (100 * 10 ^ 9); price = pos (10 * 10 ^ 6) } ∷ record { unit = 1; side = Sell; quantity = pos (100 * 10 ^ 9); price = pos (30 * 10 ^ 6) } ∷ [];
+  lines = [];
+  outages = [];
+  shift = [];
+  loss = [];
 }
 
 -- 60 MW of the first block, none of the second
@@ -100,8 +109,35 @@ three_buses-one_price d s = elim (three_ways d.energy (whole (pos (10 * 10 ^ 6))
 ]
 
 pub three_buses-market : IsMarket three_buses
-three_buses-market = record { bus_count = Prim.omega arith; unit_count = Prim.omega arith; block_count = Prim.omega arith; buses = buses; units = units; blocks = blocks }
+unfolding stair_in
+three_buses-market = plain_market three_buses.buses three_buses.units three_buses.blocks (record {
+  bus_count = Prim.omega arith;
+  unit_count = Prim.omega arith;
+  block_count = Prim.omega arith;
+  buses = buses;
+  bus_numbers = distinct_by_rise (1 ∷ 2 ∷ 3 ∷ []) (AllPairs-from_increasing (1 ∷ 2 ∷ 3 ∷ []) numbers);
+  units = units;
+  unit_rows = distinct_by_rise (1 ∷ 2 ∷ []) (AllPairs-from_increasing (1 ∷ 2 ∷ []) rows);
+  blocks = blocks;
+  room = room;
+})
   where
+    numbers : IsStrictlyIncreasing (1 ∷ 2 ∷ 3 ∷ [])
+    numbers zero h = Prim.omega arith
+    numbers (suc zero) h = Prim.omega arith
+    numbers (suc (suc k)) h = absurd (Prim.omega arith)
+
+    rows : IsStrictlyIncreasing (1 ∷ 2 ∷ [])
+    rows zero h = Prim.omega arith
+    rows (suc k) h = absurd (Prim.omega arith)
+
+    room : (place : ℕ) (d : unit.Unit) → place < 2 → HasRoom three_buses.blocks place (slice_index_or three_buses.units place d)
+    room zero d h Sell = Prim.omega (arith, ints)
+    room zero d h Buy = Prim.omega (arith, ints)
+    room (suc zero) d h Sell = Prim.omega (arith, ints)
+    room (suc zero) d h Buy = Prim.omega (arith, ints)
+    room (suc (suc k)) d h side = absurd (Prim.omega arith)
+
     buses : All IsBus three_buses.buses
     buses zero d h = record { load = Prim.omega (arith, ints); shunt = Prim.omega (arith, ints) }
     buses (suc zero) d h = record { load = Prim.omega (arith, ints); shunt = Prim.omega (arith, ints) }
@@ -135,6 +171,10 @@ with_buyer = record {
       ∷ record { row = 3; bus = 2; fixed = pos 0; up = pos 0; down = pos (50 * 10 ^ 9) } ∷ [];
   blocks = record { unit = 0; side = Sell; quantity = pos (100 * 10 ^ 9); price = pos (10 * 10 ^ 6) } ∷ record { unit = 1; side = Sell; quantity = pos (100 * 10 ^ 9); price = pos (30 * 10 ^ 6) }
       ∷ record { unit = 2; side = Buy; quantity = pos (30 * 10 ^ 9); price = pos (40 * 10 ^ 6) } ∷ record { unit = 2; side = Buy; quantity = pos (20 * 10 ^ 9); price = pos (5 * 10 ^ 6) } ∷ [];
+  lines = [];
+  outages = [];
+  shift = [];
+  loss = [];
 }
 
 -- 90 MW of the first unit, of which the buyer takes 30
@@ -208,6 +248,10 @@ with_shunt = record {
   buses = record { number = 1; pd = pos 0; gs = pos 0 } ∷ record { number = 2; pd = pos 0; gs = pos (5 * 10 ^ 9) } ∷ record { number = 3; pd = pos (60 * 10 ^ 9); gs = pos 0 } ∷ [];
   units = record { row = 1; bus = 0; fixed = pos 0; up = pos (100 * 10 ^ 9); down = pos 0 } ∷ record { row = 2; bus = 1; fixed = pos (20 * 10 ^ 9); up = pos (80 * 10 ^ 9); down = pos 0 } ∷ [];
   blocks = record { unit = 0; side = Sell; quantity = pos (100 * 10 ^ 9); price = pos (10 * 10 ^ 6) } ∷ record { unit = 1; side = Sell; quantity = pos (80 * 10 ^ 9); price = pos (30 * 10 ^ 6) } ∷ [];
+  lines = [];
+  outages = [];
+  shift = [];
+  loss = [];
 }
 
 -- 45 MW of the first unit
@@ -265,10 +309,24 @@ short = record {
   buses = record { number = 1; pd = pos 0; gs = pos 0 } ∷ record { number = 2; pd = pos 0; gs = pos 0 } ∷ record { number = 3; pd = pos (250 * 10 ^ 9); gs = pos 0 } ∷ [];
   units = three_buses.units;
   blocks = three_buses.blocks;
+  lines = [];
+  outages = [];
+  shift = [];
+  loss = [];
 }
 
 pub short-market : IsMarket short
-short-market = record { bus_count = Prim.omega arith; unit_count = Prim.omega arith; block_count = Prim.omega arith; buses = buses; units = three_buses-market.units; blocks = three_buses-market.blocks }
+short-market = plain_market short.buses short.units short.blocks (record {
+  bus_count = Prim.omega arith;
+  unit_count = Prim.omega arith;
+  block_count = Prim.omega arith;
+  buses = buses;
+  bus_numbers = three_buses-market.bus_numbers;
+  units = three_buses-market.units;
+  unit_rows = three_buses-market.unit_rows;
+  blocks = three_buses-market.blocks;
+  room = three_buses-market.room;
+})
   where
     buses : All IsBus short.buses
     buses zero d h = record { load = Prim.omega (arith, ints); shunt = Prim.omega (arith, ints) }

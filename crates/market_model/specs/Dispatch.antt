@@ -1,7 +1,7 @@
 -- What blocks, units and buses do at a dispatch.
 -- Wood and Wollenberg, Power Generation, Operation and Control: economic dispatch over a network whose demands are fixed.
 -- GS, a demand at a voltage of 1 per unit: MATPOWER User's Manual.
-use Rattle.std.specs.Prelude.{◌≡◌, ℕ, ◌==◌, ◌<◌, pos, List, [], ◌∷◌, ◌++◌, length, map, filter, slice_index_or, replicate}
+use Rattle.std.specs.Prelude.{◌≡◌, ℕ, ◌==◌, ◌<◌, pos, List, [], ◌∷◌, ◌++◌, length, map, filter, slice_index_or, replicate, None}
 use Rattle.std.specs.List.{range_with_len}
 use Rattle.fraction_theory.specs.Fraction.{Fraction, whole, neg_ℚ}
 use Rattle.fraction_theory.specs.Order.{◌≤ℚ◌}
@@ -9,6 +9,7 @@ use Rattle.fraction_theory.specs.Sums.{Term, Plain, total}
 use Rattle.market_data.specs.declared.participants.Bus.{Bus}
 use Rattle.market_data.specs.declared.participants.Unit as unit
 use Rattle.market_model.specs.declared.participants.Block.{Block}
+use Rattle.market_model.specs.declared.participants.Line.{Line}
 use Rattle.market_model.specs.declared.participants.Side.{Side}
 use Rattle.market_model.specs.declared.participants.Side.TheVariants.{Sell, Buy}
 use Rattle.market_model.specs.declared.participants.Parts.{Parts}
@@ -29,6 +30,9 @@ unit_at m u = slice_index_or m.units u (record { row = 0; bus = 0; fixed = pos 0
 
 abbrev pub block_at : Parts → ℕ → Block
 block_at m j = slice_index_or m.blocks j (record { unit = 0; side = Sell; quantity = pos 0; price = pos 0 })
+
+abbrev pub line_at : Parts → ℕ → Line
+line_at m l = slice_index_or m.lines l (record { row = 0; base = None; post = None; offset = pos 0 })
 
 -- the bus of a block's unit
 abbrev pub block_bus : Parts → ℕ → ℕ

@@ -1,4 +1,6 @@
+pub mod Changes
 pub mod Dispatch
+pub mod Factors
 pub mod Fitting
 pub mod Growth
 pub mod Infeasibility
@@ -12,5 +14,6 @@ pub mod Outcomes
 pub mod ReportLaws
 pub mod Reports
 pub mod Settlement
+pub mod Stairs
 pub mod Valued
 pub mod WorkingPairs

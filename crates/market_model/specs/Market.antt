@@ -1,12 +1,27 @@
 -- What every market keeps.
-use Rattle.std.specs.Prelude.{ℕ, ◌<◌, ◌≤◌, pos, ◌≤ℤ◌, length, All}
+use Rattle.std.specs.Prelude.{◌≡◌, ◌≢◌, ℕ, ◌<◌, ◌≤◌, ◌^◌, pos, ◌≤ℤ◌, List, length, map, slice_index_or, All, AllPairs, IfSome, Contains, unsigned_abs}
 use Rattle.market_data.specs.Participants.{IsDatum, IsBus, IsUnit, most_buses, most_units}
+use Rattle.market_data.specs.declared.participants.Unit as unit
 use Rattle.market_model.specs.declared.participants.Block.{Block}
+use Rattle.market_model.specs.declared.participants.Factor.{Factor}
+use Rattle.market_model.specs.declared.participants.Line.{Line}
 use Rattle.market_model.specs.declared.participants.Parts.{Parts}
+use Rattle.market_model.specs.declared.participants.Side.{Side}
+use Rattle.market_model.specs.Stairs.{stair_in, offered, room_of}
 
--- the most blocks
+-- the most of each part
 abbrev pub most_blocks : ℕ
 most_blocks = 4000
+
+abbrev pub most_lines : ℕ
+most_lines = 2000
+
+abbrev pub most_outages : ℕ
+most_outages = 500
+
+-- the greatest size of a factor, in 10^-6: that of 1000
+abbrev pub most_factor : ℕ
+most_factor = 10 ^ 9
 
 -- a block of one of so many units
 pub record IsBlock (units : ℕ) (block : Block) : Type 0 where
@@ -14,10 +29,46 @@ pub record IsBlock (units : ℕ) (block : Block) : Type 0 where
   pub quantity : pos 0 ≤ℤ block.quantity
   pub price : IsDatum block.price
 
+-- the blocks of a unit on a side offer no more than the unit has room for
+abbrev pub HasRoom : List Block → ℕ → unit.Unit → Type 0
+HasRoom blocks place u = (side : Side) → offered (stair_in place side blocks) ≤ℤ room_of side u
+
+-- no unit's blocks offer more than it has room for
+abbrev pub HaveRoom : List unit.Unit → List Block → Type 0
+HaveRoom units blocks = (place : ℕ) (d : unit.Unit) → place < length units → HasRoom blocks place (slice_index_or units place d)
+
+pub record IsLine (line : Line) : Type 0 where
+  pub row : 1 ≤ line.row
+  pub base : IfSome line.base (λ mw. pos 0 ≤ℤ mw)
+  pub post : IfSome line.post (λ mw. pos 0 ≤ℤ mw)
+  pub offset : IsDatum line.offset
+
+-- a factor of one of so many lines, for one of so many buses or lost lines
+pub record IsFactor (lines others : ℕ) (factor : Factor) : Type 0 where
+  pub line : factor.line < lines
+  pub of : factor.of < others
+  pub size : unsigned_abs factor.value ≤ most_factor
+
+-- factors of which no two are of one pair
+pub record AreFactors (lines others : ℕ) (factors : List Factor) : Type 0 where
+  pub each : All (IsFactor lines others) factors
+  pub distinct : AllPairs (λ f g. f.line ≡ g.line → f.of ≢ g.of) factors
+
 pub record IsMarket (parts : Parts) : Type 0 where
   pub bus_count : length parts.buses ≤ most_buses
   pub unit_count : length parts.units ≤ most_units
   pub block_count : length parts.blocks ≤ most_blocks
+  pub line_count : length parts.lines ≤ most_lines
+  pub outage_count : length parts.outages ≤ most_outages
   pub buses : All IsBus parts.buses
+  pub bus_numbers : AllPairs (λ a b. a ≢ b) (map (λ bus. bus.number) parts.buses)
   pub units : All (IsUnit (length parts.buses)) parts.units
+  pub unit_rows : AllPairs (λ a b. a ≢ b) (map (λ unit. unit.row) parts.units)
   pub blocks : All (IsBlock (length parts.units)) parts.blocks
+  pub room : HaveRoom parts.units parts.blocks
+  pub lines : All IsLine parts.lines
+  pub line_rows : AllPairs (λ a b. a ≢ b) (map (λ line. line.row) parts.lines)
+  pub outages : All (Contains (map (λ line. line.row) parts.lines)) parts.outages
+  pub outages_distinct : AllPairs (λ a b. a ≢ b) parts.outages
+  pub shift : AreFactors (length parts.lines) (length parts.buses) parts.shift
+  pub loss : AreFactors (length parts.lines) (length parts.lines) parts.loss

@@ -1,5 +1,5 @@
 -- The report of what a clear came to, line by line.
-use Rattle.std.specs.Prelude.{ℕ, ◌+◌, Bool, true, false, ◌&&◌, ◌==◌, List, ◌++◌, length, slice_index_or, count_by, codes, decimal, if◌then◌else◌}
+use Rattle.std.specs.Prelude.{ℕ, ◌+◌, Bool, ◌&&◌, ◌==◌, List, ◌++◌, length, slice_index_or, count_by, codes, decimal, if◌then◌else◌}
 use Rattle.std.specs.List.{flat_map}
 use Rattle.fraction_theory.specs.Fraction.{Fraction}
 use Rattle.exact_fraction.specs.Written.{written, parts_text}
@@ -18,6 +18,7 @@ use Rattle.market_model.specs.declared.answered.Dual.{Dual}
 use Rattle.market_model.specs.declared.answered.Farkas.{Farkas}
 use Rattle.market_model.specs.declared.answered.Outcome.{Outcome}
 use Rattle.market_model.specs.declared.answered.Outcome.TheVariants as outcome
+use Rattle.market_model.specs.Stairs.{same_side}
 use Rattle.market_model.specs.Dispatch.{zero, places, bus_at, unit_at, block_at}
 
 -- an answer's entries by place; one past the end stands for zeros
@@ -36,12 +37,6 @@ load_of a i = slice_index_or a.money.loads i (record { mw = zero; pays = zero })
 abbrev pub side_text : Side → List ℕ
 side_text Sell = codes " sell "
 side_text Buy = codes " buy "
-
-abbrev pub same_side : Side → Side → Bool
-same_side Sell Sell = true
-same_side Sell Buy = false
-same_side Buy Sell = false
-same_side Buy Buy = true
 
 -- two blocks are of one unit and side
 abbrev pub alike : Block → Block → Bool

@@ -1,30 +1,42 @@
 //! A market whose parts fit together.
 
-use crate::{Block, Bus, Parts, Unit};
+use crate::factor_table::table_of;
+use crate::{Block, Bus, Line, Parts, Unit};
 use plain_list::{List, Memory};
 use std::alloc::Global;
 use std::marker::Model;
 
-/// The market of one interval, without limits on branches.
+/// The market of one interval.
 #[derive(Drop, Debug)]
 pub struct Market {
     parts: Parts,
+    /// The shift factors: a row of buses for each line.
+    shift: Vec<i64>,
+    /// The loss factors: a row of lost lines for each line.
+    loss: Vec<i64>,
 }
 
 impl Model for Market {
+    ghost use Rattle.std.specs.Prelude.{length};
     ghost use Rattle.market_model.specs.declared.participants.Parts.{Parts};
+    ghost use Rattle.market_model.specs.Factors.{IsTable};
     ghost use Rattle.market_model.specs.Market.{IsMarket};
 
     ghost Value = { Parts };
 
     ghost view = { λ m. m.parts };
 
-    ghost invariant = { λ m. IsMarket m.parts };
+    ghost invariant = { λ m. IsMarket m.parts × IsTable m.parts.shift (length m.parts.lines) (length m.parts.buses) m.shift.items × IsTable m.parts.loss (length m.parts.lines) (length m.parts.lines) m.loss.items };
 }
 
 impl Market {
-    ghost use Rattle.std.specs.Prelude.{◌≡◌};
+    ghost use Rattle.std.specs.Prelude.{◌≡◌, ◌<◌, pos, ◌≤ℤ◌, length, true, is_some, if◌then◌else◌};
+    ghost use Rattle.market_data.specs.Participants.{IsDatum};
+    ghost use Rattle.market_model.specs.Changes.{with_price, with_quantity, with_demand, with_limit};
+    ghost use Rattle.market_model.specs.Dispatch.{unit_at, block_at, line_at};
+    ghost use Rattle.market_model.specs.Factors.{factor_in};
     ghost use Rattle.market_model.specs.Market.{IsMarket};
+    ghost use Rattle.market_model.specs.Stairs.{stair_in, offered, room_of};
 
     /// The live buses, in row order of the case.
     pub fn buses(&self) -> &List<Bus>
@@ -49,15 +61,118 @@ impl Market {
     {
         &self.parts.blocks
     }
+
+    /// The live branches, in row order of the case.
+    pub fn lines(&self) -> &List<Line>
+        ensures list { result.now ≡ self.now.lines }
+        ensures market { IsMarket self.now }
+    {
+        &self.parts.lines
+    }
+
+    /// The branch rows of the outages, in the order in which they are listed.
+    pub fn outages(&self) -> &List<u32>
+        ensures list { result.now ≡ self.now.outages }
+        ensures market { IsMarket self.now }
+    {
+        &self.parts.outages
+    }
+
+    /// The shift factor of a line for a bus, both by place, in 10^-6.
+    pub fn shift(&self, line: usize, bus: usize) -> i64
+        requires line { line < length self.now.lines }
+        requires bus { bus < length self.now.buses }
+        ensures { result ≡ factor_in self.now.shift line bus }
+    {
+        self.shift[line * self.parts.buses.len() + bus]
+    }
+
+    /// The loss factor of a line for a line that is lost, both by place, in 10^-6.
+    pub fn loss(&self, line: usize, lost: usize) -> i64
+        requires line { line < length self.now.lines }
+        requires lost { lost < length self.now.lines }
+        ensures { result ≡ factor_in self.now.loss line lost }
+    {
+        self.loss[line * self.parts.lines.len() + lost]
+    }
+
+    /// Sets the price of a block, in 10^-6 per MWh.
+    pub fn set_price(&mut self, block: usize, price: i64)
+        requires block { block < length self.old.blocks }
+        requires price { IsDatum price }
+        ensures { self.new ≡ with_price self.old block price }
+    {
+        let old = *self.parts.blocks.at(block);
+        self.parts.blocks.set(block, Block { price, ..old });
+    }
+
+    /// Sets the quantity of a block, in 10^-9 MW.
+    pub fn set_quantity(&mut self, block: usize, mw: i64)
+        requires block { block < length self.old.blocks }
+        requires least { pos 0 ≤ℤ mw }
+        requires room { offered (stair_in (block_at self.old block).unit (block_at self.old block).side (with_quantity self.old block mw).blocks) ≤ℤ room_of (block_at self.old block).side (unit_at self.old (block_at self.old block).unit) }
+        ensures { self.new ≡ with_quantity self.old block mw }
+    {
+        let old = *self.parts.blocks.at(block);
+        self.parts.blocks.set(
+            block,
+            Block {
+                quantity: mw,
+                ..old
+            },
+        );
+    }
+
+    /// Sets the load of a bus, in 10^-9 MW. Its shunt stays.
+    pub fn set_demand(&mut self, bus: usize, pd: i64)
+        requires bus { bus < length self.old.buses }
+        requires load { IsDatum pd }
+        ensures { self.new ≡ with_demand self.old bus pd }
+    {
+        let old = *self.parts.buses.at(bus);
+        self.parts.buses.set(bus, Bus { pd, ..old });
+    }
+
+    /// Sets the limit of a line that has one, after an outage or in the base, in 10^-9 MW.
+    pub fn set_limit(&mut self, line: usize, post: bool, mw: i64)
+        requires line { line < length self.old.lines }
+        requires limit { (if post then is_some (line_at self.old line).post else is_some (line_at self.old line).base) ≡ true }
+        requires least { pos 0 ≤ℤ mw }
+        ensures { self.new ≡ with_limit self.old line post mw }
+    {
+        let old = *self.parts.lines.at(line);
+        self.parts.lines.set(line, limited(old, post, mw));
+    }
 }
 
 ghost use Rattle.std.specs.Prelude.{◌≡◌, IfOk};
+ghost use Rattle.market_model.specs.Changes.{line_with};
 ghost use Rattle.market_model.specs.Market.{IsMarket};
 
+/// A line with another limit.
+fn limited(line: Line, post: bool, mw: i64) -> Line
+    ensures { result ≡ line_with line post mw }
+{
+    if post {
+        Line {
+            post: Some(mw),
+            ..line
+        }
+    } else {
+        Line {
+            base: Some(mw),
+            ..line
+        }
+    }
+}
+
 /// The market of these parts. They are dropped where memory is refused.
-pub fn assemble(_alloc: Global, parts: Parts) -> Result<Market, Memory>
+pub fn assemble(alloc: Global, parts: Parts) -> Result<Market, Memory>
     requires { IsMarket parts }
     ensures { IfOk result (λ m. m ≡ parts) }
 {
-    Ok(Market { parts })
+    let lines = parts.lines.len();
+    let shift = table_of(alloc, parts.shift.slice(), lines, parts.buses.len())?;
+    let loss = table_of(alloc, parts.loss.slice(), lines, lines)?;
+    Ok(Market { parts, shift, loss })
 }

@@ -3,6 +3,7 @@
 
 mod answered;
 mod assembled;
+mod factor_table;
 pub mod laws;
 mod participants;
 
@@ -11,7 +12,7 @@ pub use answered::{
 };
 pub use assembled::{Market, assemble};
 pub use market_data::{Bus, MONEY_PLACES, MW_PLACES, PRICE_PLACES, Unit, UnitList};
-pub use participants::{Block, Parts, Side};
+pub use participants::{Block, Factor, Line, Parts, Side};
 pub use plain_list::{List, Memory};
 
 #[cfg(test)]

@@ -22,10 +22,41 @@ pub struct Block {
     pub price: i64,
 }
 
+/// A live branch. Its limits and its offset are in 10^-9 MW.
+#[derive(Clone, Copy, PartialEq, Eq, Debug)]
+pub struct Line {
+    /// Its row in the case's branch matrix, from 1.
+    pub row: u32,
+    /// The greatest size of its flow while all branches are there, where that has a limit.
+    pub base: Option<i64>,
+    /// The greatest size of its flow after an outage, where that has a limit.
+    pub post: Option<i64>,
+    /// What is added to its flow, whatever the buses put in.
+    pub offset: i64,
+}
+
+/// A factor of a line: its shift factor for a bus, or its loss factor for a line that is lost.
+#[derive(Clone, Copy, PartialEq, Eq, Debug)]
+pub struct Factor {
+    /// The place of the line.
+    pub line: usize,
+    /// The place of the bus, or of the lost line.
+    pub of: usize,
+    /// In 10^-6.
+    pub value: i64,
+}
+
 /// What a market is made of.
 #[derive(Drop, Debug)]
 pub struct Parts {
     pub buses: List<Bus>,
     pub units: List<Unit>,
     pub blocks: List<Block>,
+    pub lines: List<Line>,
+    /// The branch rows of the outages.
+    pub outages: List<u32>,
+    /// How much of what a bus puts in flows on a line. A pair without a factor has factor 0.
+    pub shift: List<Factor>,
+    /// How much of the flow of a lost line goes over to another line.
+    pub loss: List<Factor>,
 }

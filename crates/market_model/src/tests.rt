@@ -29,6 +29,10 @@ fn assembles_its_parts(rt: HostRuntime) -> Result<(), Fail> {
         buses,
         units,
         blocks,
+        lines: List::new(alloc),
+        outages: List::new(alloc),
+        shift: List::new(alloc),
+        loss: List::new(alloc),
     };
     let market = assemble(alloc, parts)?;
     assert_eq!(rt; market.buses().len(), 1);

@@ -25,7 +25,7 @@ use Rattle.market_model.specs.Market.{IsMarket}
 use Rattle.market_model.specs.Dispatch.{zero, places, bus_at, unit_at, block_at, units_at, blocks_at, fixed_term, signed, quantity, raised_by, demand, balance, empty, injection as injection_of}
 use Rattle.market_model.specs.Optimality.{bus_price}
 use Rattle.market_model.specs.Infeasibility.{where_above, part_above, farkas_bound, ShowsInfeasible, IsFarkas}
-use Rattle.market_model.specs.Reports.{same_side}
+use Rattle.market_model.specs.Stairs.{same_side}
 use Rattle.market_model.specs.Valued.{dual_at, duals_at, farkas_at}
 use Rattle.market_data.specs.WholeSums.{int_sum}
 use Rattle.market_model.proofs.FarkasLaw.{farkas_bound-by_blocks}

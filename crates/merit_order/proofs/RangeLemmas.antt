@@ -17,7 +17,7 @@ use Rattle.market_model.specs.declared.participants.Parts.{Parts}
 use Rattle.market_model.specs.Dispatch.{zero, places, bus_at, unit_at, block_at, units_at, blocks_at, fixed_term, block_term, quantity, raised_by, injection_terms, balance, empty, signed, injection as injection_of}
 use Rattle.market_model.specs.Optimality.{bus_price}
 use Rattle.market_model.specs.Infeasibility.{part_above, block_weight, ShowsInfeasible, farkas_terms}
-use Rattle.market_model.specs.Reports.{same_side}
+use Rattle.market_model.specs.Stairs.{same_side}
 use Rattle.market_model.specs.NamedSums.{SameSize, IsRefusal, IsAddedIn}
 use Rattle.market_model.specs.WorkingPairs.{IsRangeOf}
 use Rattle.market_model.proofs.MarketSums.{raised_by-empty}

@@ -8,7 +8,7 @@ use Rattle.market_model.specs.declared.answered.Duals.{Duals}
 use Rattle.market_model.specs.declared.participants.Side.TheVariants.{Sell, Buy}
 use Rattle.market_model.specs.Dispatch.{Dispatch, zero, places, block_at, quantity, balance, empty}
 use Rattle.market_model.specs.Infeasibility.{IsFarkas}
-use Rattle.market_model.specs.Reports.{same_side}
+use Rattle.market_model.specs.Stairs.{same_side}
 use Rattle.market_model.specs.Valued.{farkas_at, passed_at}
 use Rattle.market_model.specs.WorkingPairs.{IsRangeOf}
 use Rattle.market_model.specs.NamedSums.{IsRefusal}

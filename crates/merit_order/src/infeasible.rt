@@ -5,7 +5,7 @@ ghost use Rattle.fraction_theory.specs.Fraction.{whole, ◌+ℚ◌, ◌-ℚ◌};
 ghost use Rattle.market_data.specs.Participants.{IsDatum, IsBus};
 ghost use Rattle.market_model.specs.Dispatch.{zero, empty, injection as injection_of, balance as balance_of};
 ghost use Rattle.market_model.specs.Infeasibility.{farkas_bound, ShowsInfeasible};
-ghost use Rattle.market_model.specs.Reports.{same_side};
+ghost use Rattle.market_model.specs.Stairs.{same_side};
 ghost use Rattle.market_model.specs.Valued.{duals_at, passed_at};
 ghost use Rattle.market_model.specs.NamedSums.{IsRefusal};
 ghost use Rattle.market_model.specs.WorkingPairs.{IsRangeOf};

@@ -33,6 +33,10 @@ fn one_bus(alloc: Global) -> Result<Market, Memory> {
             buses,
             units,
             blocks,
+            lines: List::new(alloc),
+            outages: List::new(alloc),
+            shift: List::new(alloc),
+            loss: List::new(alloc),
         },
     )
 }

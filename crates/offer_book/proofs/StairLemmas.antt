@@ -6,7 +6,8 @@ use Rattle.std.specs.Prelude.{filter, if◌then◌else◌}
 use Rattle.std.specs.List.{last_or}
 use Rattle.market_model.specs.declared.participants.Block.{Block}
 use Rattle.market_model.specs.declared.participants.Side.{Side}
-use Rattle.offer_book.specs.OfferTable.{is_on_stair, stair_in, offered, last_price, ends_of}
+use Rattle.market_model.specs.Stairs.{is_on_stair, stair_in, offered}
+use Rattle.offer_book.specs.OfferTable.{last_price, ends_of}
 
 pub offered-push : (blocks : List Block) (block : Block) → offered (blocks ++ block ∷ []) ≡ offered blocks +ℤ block.quantity
 offered-push [] block = Prim.omega (arith, ints)

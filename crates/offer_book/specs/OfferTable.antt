@@ -1,5 +1,5 @@
 -- What a table of offers stands for: the blocks of its records, or the first fault.
-use Rattle.std.specs.Prelude.{ℕ, ◌+◌, ◌==◌, ◌&&◌, ◌||◌, ℤ, pos, ◌+ℤ◌, Bool, true, not, List, [], ◌∷◌, map, filter, codes, Option, Some, None, Result, Ok, Err, slice_index_or, unsigned_abs, if◌then◌else◌}
+use Rattle.std.specs.Prelude.{ℕ, ◌==◌, ◌||◌, ℤ, pos, ◌+ℤ◌, Bool, true, not, List, [], ◌∷◌, map, codes, Option, Some, None, Result, Ok, Err, slice_index_or, unsigned_abs, if◌then◌else◌}
 use Rattle.std.specs.Int.Signed.{lt_z, le_z}
 use Rattle.std.specs.List.{last_or, position}
 use Rattle.std.specs.Str.{bytes_eq}
@@ -8,12 +8,11 @@ use Rattle.market_data.specs.declared.participants.UnitList.{UnitList}
 use Rattle.market_model.specs.declared.participants.Block.{Block}
 use Rattle.market_model.specs.declared.participants.Side.{Side}
 use Rattle.market_model.specs.declared.participants.Side.TheVariants.{Sell, Buy}
-use Rattle.market_model.specs.Reports.{same_side}
+use Rattle.market_model.specs.Stairs.{stair_in, offered, room_of}
 use Rattle.csv_table.specs.Table.{Record, and_then, cell_of, frame_of, number_in, or_as, table_of}
 use Rattle.csv_table.specs.declared.CellFault.{CellFault}
 use Rattle.csv_table.specs.declared.FrameFault.{FrameFault}
 use Rattle.csv_table.specs.declared.FrameFault.TheVariants as frame
-use Rattle.market_data.specs.WholeSums.{int_sum}
 use Rattle.net_case.specs.Gathering.{gather}
 use Rattle.net_case.specs.declared.live_parts.Why.TheVariants as why
 use Rattle.offer_book.specs.declared.offer_table.Offer.{Offer}
@@ -41,17 +40,6 @@ offer_in line r =
     and_then (side_in line (cell_of r 1)) (λ side.
     Ok (record { unit = unit; side = side; quantity = quantity; price = price })))))
 
-abbrev pub is_on_stair : ℕ → Side → Block → Bool
-is_on_stair place side block = (block.unit == place) && same_side block.side side
-
--- the blocks of a unit on a side
-unfoldable pub stair_in : ℕ → Side → List Block → List Block
-stair_in place side blocks = filter (is_on_stair place side) blocks
-
--- what the blocks of a stair offer in all
-abbrev pub offered : List Block → ℤ
-offered blocks = int_sum (λ block. block.quantity) blocks
-
 -- the price of a stair's last block
 abbrev pub last_price : List Block → Option ℤ
 last_price blocks = last_or None (map (λ block. block.price) blocks)
@@ -64,11 +52,6 @@ abbrev pub follows : Side → Option ℤ → ℤ → Bool
 follows side None price = true
 follows Sell (Some last) price = le_z last price
 follows Buy (Some last) price = le_z price last
-
--- how much a unit's blocks of a side may offer in all
-abbrev pub room_of : Side → unit.Unit → ℤ
-room_of Sell u = u.up
-room_of Buy u = u.down
 
 abbrev pub unit_of_place : List unit.Unit → ℕ → unit.Unit
 unit_of_place units place = slice_index_or units place (record { row = 0; bus = 0; fixed = pos 0; up = pos 0; down = pos 0 })

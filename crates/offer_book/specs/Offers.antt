@@ -1,9 +1,10 @@
 -- What is kept of the offers: the blocks, a record that is read, and the stairs that the records build.
-use Rattle.std.specs.Prelude.{ℕ, ◌*◌, ◌^◌, ◌≤◌, ℤ, ◌≤ℤ◌, List, length, All, Option, Some, None, unsigned_abs}
+use Rattle.std.specs.Prelude.{ℕ, ◌*◌, ◌^◌, ◌≤◌, ℤ, pos, ◌≤ℤ◌, List, length, All, Option, Some, None, unsigned_abs}
 use Rattle.market_model.specs.declared.participants.Side.{Side}
 use Rattle.market_model.specs.declared.participants.Side.TheVariants.{Sell, Buy}
 use Rattle.market_model.specs.declared.participants.Block.{Block}
 use Rattle.market_data.specs.Participants.{IsDatum}
+use Rattle.market_data.specs.declared.participants.Unit as unit
 use Rattle.market_model.specs.Market.{IsBlock, most_blocks}
 use Rattle.offer_book.specs.declared.offer_table.Offer.{Offer}
 use Rattle.offer_book.specs.declared.offer_table.Stair.{Stair}
@@ -27,3 +28,8 @@ MayFollow Buy (Some last) price = price ≤ℤ last
 -- a stair of at most so many blocks
 abbrev pub StairIsBounded : ℕ → Stair → Type 0
 StairIsBounded blocks stair = unsigned_abs stair.sum ≤ 2 ^ 64 * blocks
+
+-- a unit whose room on either side is at least 0
+pub record HasSides (u : unit.Unit) : Type 0 where
+  pub up : pos 0 ≤ℤ u.up
+  pub down : pos 0 ≤ℤ u.down

@@ -3,10 +3,11 @@
 ghost use Rattle.std.specs.Prelude.{◌≡◌, ◌≢◌, ℕ, ◌+◌, ◌*◌, ◌^◌, ◌≤◌, ◌<◌, ◌↔◌, ◌==◌, pos, ◌≤ℤ◌, ◌+ℤ◌, unsigned_abs, length, get_or, [], ◌∷◌, ◌++◌, Some, Ok, Err, All, IsTrue, IfOk, IfErr, IfSome, if◌then◌else◌};
 ghost use Rattle.std.specs.List.{position};
 ghost use Rattle.market_data.specs.Participants.{IsDatum, most_units};
-ghost use Rattle.market_model.specs.Market.{IsBlock, most_blocks};
+ghost use Rattle.market_model.specs.Market.{IsBlock, HaveRoom, most_blocks};
 ghost use Rattle.net_case.specs.Gathering.{gather, listed};
-ghost use Rattle.offer_book.specs.OfferTable.{cell_fault, side_in, offer_in, is_on_stair, stair_in, ends_of, follows, room_of, block_after, block_where, row_in, block_in, fault_of, blocks_of_table};
-ghost use Rattle.offer_book.specs.Offers.{AreBlocks, MayFollow, OfferIsRead, StairIsBounded};
+ghost use Rattle.market_model.specs.Stairs.{is_on_stair, stair_in, room_of};
+ghost use Rattle.offer_book.specs.OfferTable.{cell_fault, side_in, offer_in, ends_of, follows, block_after, block_where, row_in, block_in, fault_of, blocks_of_table};
+ghost use Rattle.offer_book.specs.Offers.{AreBlocks, HasSides, MayFollow, OfferIsRead, StairIsBounded};
 
 use csv_table::{CellFault, FrameFault, Table, read_table};
 use market_model::{Block, List, MW_PLACES, Memory, PRICE_PLACES, Side, Unit, UnitList};
@@ -244,6 +245,7 @@ fn live_block(
 /// Reads a table of offers. Those of units out of service are read as cells and dropped.
 pub fn blocks(alloc: Global, units: &UnitList, bytes: &[u8]) -> Result<List<Block>, OfferFault>
     ensures blocks { IfOk result (AreBlocks (length units.now.units)) }
+    ensures room { All HasSides units.now.units → IfOk result (HaveRoom units.now.units) }
     ensures is { result ≢ Err OfferFault.Memory → result ≡ blocks_of_table units.now bytes.now }
 {
     let header = [

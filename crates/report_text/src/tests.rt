@@ -10,6 +10,10 @@ fn nothing<R: AllocGlobal>(rt: &R) -> Result<Market, Fail> {
         buses: List::new(rt.alloc()),
         units: List::new(rt.alloc()),
         blocks: List::new(rt.alloc()),
+        lines: List::new(rt.alloc()),
+        outages: List::new(rt.alloc()),
+        shift: List::new(rt.alloc()),
+        loss: List::new(rt.alloc()),
     };
     Ok(assemble(rt.alloc(), parts)?)
 }

@@ -1,18 +1,24 @@
 -- What the bytes of a case and of offers stand for, by the outcomes of their readers.
-use Rattle.std.proofs.Common.{◌≡◌, ◌≤◌, ◌<◌, ℕ, List, length, take, Bool, true, false, Result, Ok, Err, Option, Some, None, refl, sym, subst, ◌∙◌, ap, arith}
+use Rattle.std.proofs.Common.{◌≡◌, ◌≤◌, ◌<◌, ℕ, List, [], length, take, Bool, true, false, Result, Ok, Err, Option, Some, None, refl, sym, subst, ◌∙◌, ap, arith}
 use Rattle.std.proofs.lemmas.Bool.{le-ltb, lt-ltb, ltb-true, ltb-false}
 use Rattle.std.proofs.lemmas.List.{take_all, length-take-le}
-use Rattle.std.specs.Prelude.{nat_lt, IfOk, MatchResult}
+use Rattle.std.specs.Prelude.{◌≢◌, ◌∷◌, map, All, AllPairs, slice_index_or, nat_lt, IfOk, MatchResult}
 use Rattle.outside_store.specs.Files.{Files, SameFiles, Reads}
+use Rattle.market_data.specs.Participants.{IsUnit}
+use Rattle.market_data.specs.declared.participants.Unit as unit
 use Rattle.market_model.specs.declared.participants.Block.{Block}
+use Rattle.market_model.specs.Market.{IsMarket, HaveRoom}
+use Rattle.market_model.proofs.PlainMarkets.{plain, plain_market, distinct_by_rise}
+use Rattle.net_case.specs.declared.live_parts.NetUnit.{NetUnit}
+use Rattle.offer_book.specs.Offers.{AreBlocks, HasSides}
 use Rattle.market_data.specs.declared.participants.UnitList.{UnitList}
 use Rattle.case_text.specs.Matrices.{CaseMatrices}
 use Rattle.case_text.specs.Cases.{case_of}
-use Rattle.net_case.specs.NetworkReading.{network_of, unit_list_of}
+use Rattle.net_case.specs.NetworkReading.{network_of, unit_list_of, unit_within}
 use Rattle.offer_book.specs.OfferTable.{blocks_of_table}
 use Rattle.case_text.specs.declared.CaseFault.{CaseFault}
 use Rattle.net_case.specs.declared.live_parts.NetFault.{NetFault}
-use Rattle.net_case.specs.Networks.{LiveNetwork}
+use Rattle.net_case.specs.Networks.{LiveNetwork, IsNetwork, AreUnits}
 use Rattle.net_case.specs.declared.live_parts.Branches.TheVariants as branches
 use Rattle.offer_book.specs.declared.offer_table.OfferFault.{OfferFault}
 use Rattle.sced.specs.declared.status.Status.{Status}
@@ -56,7 +62,7 @@ module _ (case offers : List ℕ) where
           unfolding pool_market
           blocks-fault f is = rw (sized-short (refusal.TooLong input.Case) case short, plain-is, network-is, sized-short (refusal.TooLong input.Offers) offers within, ← list-is, is) refl
 
-          pub market-is : (blocks : List Block) → blocks_of_table list offers ≡ Ok blocks → pool_market case offers ≡ Ok (record { buses = network.buses; units = list.units; blocks = blocks })
+          pub market-is : (blocks : List Block) → blocks_of_table list offers ≡ Ok blocks → pool_market case offers ≡ Ok (record { buses = network.buses; units = list.units; blocks = blocks; lines = []; outages = []; shift = []; loss = [] })
           unfolding pool_market
           market-is blocks is = rw (sized-short (refusal.TooLong input.Case) case short, plain-is, network-is, sized-short (refusal.TooLong input.Offers) offers within, ← list-is, is) (cc list-is)
 
@@ -110,3 +116,25 @@ if_ok-map P Q (Err e) f right = tt
 pub told-ok : {A E F : Type 0} (P : A → Type 0) (Q : F → Type 0) (r : Result A F) (m : Result A E) → MatchResult r (λ x. m ≡ Ok x) Q → IfOk m P → IfOk r P
 told-ok P Q (Ok x) m is right = subst (λ n. IfOk n P) is right
 told-ok P Q (Err f) m is right = tt
+
+-- ---- what is read keeps what every market keeps
+unit_rows : (us : List NetUnit) → map (λ u. u.row) (map unit_within us) ≡ map (λ u. u.row) us
+unfolding unit_within
+unit_rows [] = refl
+unit_rows (u ∷ us) = ap (λ rows. u.row ∷ rows) (unit_rows us)
+
+pub pooled_market : (network : LiveNetwork) (list : UnitList) (blocks : List Block) → IsNetwork network → AreUnits (length network.buses) list → list ≡ unit_list_of network
+    → AreBlocks (length list.units) blocks → (All HasSides list.units → HaveRoom list.units blocks) → IsMarket (plain network.buses list.units blocks)
+pooled_market network list blocks net units is read room =
+    let rows : map (λ (u : unit.Unit). u.row) list.units ≡ map (λ (u : NetUnit). u.row) network.units = ap (λ (l : UnitList). map (λ (u : unit.Unit). u.row) l.units) is ∙ unit_rows network.units in
+    plain_market network.buses list.units blocks (record {
+      bus_count = net.bus_count;
+      unit_count = units.count;
+      block_count = read.count;
+      buses = net.buses;
+      bus_numbers = net.distinct;
+      units = units.units;
+      unit_rows = subst (AllPairs (λ a b. a ≢ b)) (sym rows) (distinct_by_rise (map (λ u. u.row) network.units) net.unit_rows.rise);
+      blocks = read.blocks;
+      room = room (λ i d lt. let u : IsUnit (length network.buses) (slice_index_or list.units i d) = units.units i d lt in record { up = u.up; down = u.down });
+    })

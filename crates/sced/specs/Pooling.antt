@@ -1,5 +1,5 @@
 -- What the bytes of a case and of offers stand for, and the text that is right for them.
-use Rattle.std.specs.Prelude.{◌≡◌, ℕ, nat_lt, List, length, Option, Some, None, Result, Ok, Err, if◌then◌else◌, ◌-◌, ◌^◌}
+use Rattle.std.specs.Prelude.{◌≡◌, ℕ, nat_lt, List, [], length, Option, Some, None, Result, Ok, Err, if◌then◌else◌, ◌-◌, ◌^◌}
 use Rattle.fraction_theory.specs.Fraction.{Fraction}
 use Rattle.csv_table.specs.Table.{and_then}
 use Rattle.outside_store.specs.Files.{Files}
@@ -34,7 +34,8 @@ refused_as refuse (Err f) = Err (refuse f)
 unfoldable pub sized : Refusal → List ℕ → Result (List ℕ) Refusal
 sized too_long bytes = if nat_lt most_file (length bytes) then Err too_long else Ok bytes
 
--- The market that the bytes of a case and of offers stand for, or the first fault. The whole case is read before the offers.
+-- The market that the bytes of a case and of offers stand for, or the first fault. The whole case is read before the offers. No branch
+-- has a limit in it.
 unfoldable pub pool_market : List ℕ → List ℕ → Result Parts Refusal
 pool_market case offers =
     and_then (sized (refusal.TooLong input.Case) case) (λ text.
@@ -42,7 +43,7 @@ pool_market case offers =
     and_then (refused_as refusal.Network (network_of branches.Skip plain)) (λ network.
     and_then (sized (refusal.TooLong input.Offers) offers) (λ table.
     and_then (refused_as refusal.Offers (blocks_of_table (unit_list_of network) table)) (λ blocks.
-    Ok (record { buses = network.buses; units = (unit_list_of network).units; blocks = blocks }))))))
+    Ok (record { buses = network.buses; units = (unit_list_of network).units; blocks = blocks; lines = []; outages = []; shift = []; loss = [] }))))))
 
 -- the status of what a clear came to
 abbrev pub status_of : Outcome Fraction → Status

@@ -22,7 +22,7 @@ use crate::stops::Stop;
 use crate::words::{CheckFiles, PoolFiles, Request, WordsStop, request_of};
 use case_text::read_case;
 use exact_fraction::{Exact, Frac};
-use market_model::{Market, Memory, Outcome as Clearing, Parts, assemble};
+use market_model::{List, Market, Memory, Outcome as Clearing, Parts, assemble};
 use merit_order::{ClearFault, clear};
 use net_case::{Branches, network};
 use offer_book::blocks;
@@ -57,6 +57,10 @@ fn market(alloc: Global, case: &[u8], offers: &[u8]) -> Result<Market, Stop>
         buses: network.into_buses(),
         units: units.units,
         blocks,
+        lines: List::new(alloc),
+        outages: List::new(alloc),
+        shift: List::new(alloc),
+        loss: List::new(alloc),
     };
     Ok(assemble(alloc, parts)?)
 }

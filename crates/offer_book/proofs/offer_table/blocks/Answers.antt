@@ -1,6 +1,13 @@
-use Rattle.std.proofs.Common.{rules, ◌≡◌, ◌∙◌, sym, ap, Err, List, ℕ, map, Bor}
-use Rattle.offer_book.specs.OfferTable.{header}
+use Rattle.std.proofs.Common.{rules, ◌≡◌, ◌≢◌, ◌∙◌, sym, ap, Ok, Err, Result, IfOk, All, List, [], ℕ, map, Bor}
+use Rattle.market_model.specs.declared.participants.Block.{Block}
+use Rattle.market_model.specs.Market.{HaveRoom}
+use Rattle.net_case.specs.Gathering.{gather}
+use Rattle.offer_book.specs.declared.offer_table.OfferFault.{OfferFault}
+use Rattle.offer_book.specs.declared.offer_table.OfferFault.TheVariants as fault
+use Rattle.offer_book.specs.Offers.{HasSides}
+use Rattle.offer_book.specs.OfferTable.{header, block_in}
 use Rattle.offer_book.proofs.OfferLemmas.{blocks_of_table-fault, blocks_of_table-framed}
+use Rattle.offer_book.proofs.RoomLemmas.{room-rows, room-none}
 use Rattle.offer_book.proofs.offer_table.blocks.Goals as goal
 
 pub returns-in-Ok-clause-is : goal.returns-in-Ok-clause-is
@@ -12,3 +19,10 @@ pub returns-in-Err-clause-is : goal.returns-in-Err-clause-is
 returns-in-Err-clause-is c =
     let names : map (λ (name : Bor (List ℕ)). name.now) c.as_slice-5.result.now ≡ header = search rules in
     λ other. rw c.from.ensures (sym (blocks_of_table-fault c.args.units.now c.args.bytes.now _ c.in-Err.fault names c.in-Err.ensures.err (λ m. other (ap Err (c.from.ensures ∙ m)))))
+
+pub returns-in-Ok-clause-room : goal.returns-in-Ok-clause-room
+returns-in-Ok-clause-room c = λ sides. by c.blocks_of.result (λ fine. c.blocks_of.ensures.is fine) sides
+  where
+    by : (r : Result (List Block) OfferFault) → (r ≢ Err fault.Memory → r ≡ gather (block_in c.args.units.now) [] 2 c.in-Ok.table) → All HasSides c.args.units.now.units → IfOk r (HaveRoom c.args.units.now.units)
+    by (Ok all) is sides = room-rows c.args.units.now [] 2 c.in-Ok.table all (sym (is (λ m. cc m))) (room-none c.args.units.now.units sides)
+    by (Err f) is sides = tt

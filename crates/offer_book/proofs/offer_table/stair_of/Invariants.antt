@@ -1,6 +1,7 @@
 use Rattle.std.proofs.Common.{◌≡◌, take}
 use Rattle.offer_book.specs.Offers.{StairIsBounded}
-use Rattle.offer_book.specs.OfferTable.{ends_of, stair_in}
+use Rattle.market_model.specs.Stairs.{stair_in}
+use Rattle.offer_book.specs.OfferTable.{ends_of}
 use Rattle.offer_book.proofs.offer_table.stair_of.Given as goal
 
 abbrev pub invariant-loop-block : goal.invariant-loop-block

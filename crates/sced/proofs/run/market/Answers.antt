@@ -1,10 +1,13 @@
-use Rattle.std.proofs.Common.{List, ◌≢◌, inl, inr, sym, ap, ◌∙◌, arith, Ok, Err}
-use Rattle.market_data.specs.declared.participants.Bus.{Bus}
+use Rattle.std.proofs.Common.{List, ◌≢◌, inl, inr, refl, sym, ap, subst, ◌∙◌, arith, Result, Ok, Err, IfOk, All}
+use Rattle.market_model.specs.declared.participants.Block.{Block}
+use Rattle.market_model.specs.Market.{HaveRoom}
+use Rattle.offer_book.specs.Offers.{HasSides}
+use Rattle.offer_book.specs.declared.offer_table.OfferFault.{OfferFault}
 use Rattle.std.proofs.lemmas.Result.{err_from_is_err_and}
 use Rattle.case_text.specs.declared.CaseFault.TheVariants as case_fault
 use Rattle.net_case.specs.declared.live_parts.NetFault.TheVariants as net_fault
 use Rattle.offer_book.specs.declared.offer_table.OfferFault.TheVariants as offer_fault
-use Rattle.sced.proofs.PoolingLemmas.{case-long, plain-fault, network-fault, offers-long, blocks-fault, market-is}
+use Rattle.sced.proofs.PoolingLemmas.{case-long, plain-fault, network-fault, offers-long, blocks-fault, market-is, pooled_market}
 use Rattle.sced.proofs.run.market.Goals as goal
 
 pub returns-then-case-gt-MOST_BYTES-clause-refused : goal.returns-then-case-gt-MOST_BYTES-clause-refused
@@ -65,4 +68,11 @@ returns-clause-market c =
     market-is c.args.case.now c.args.offers.now (omega arith) _ (sym (c.read_case.ensures read) ∙ c.in_ok-raw.was)
     c.in_ok-network.network (sym (c.network.ensures.is made) ∙ c.in_ok-network.was) (omega arith)
     c.in_ok-units.units c.in_ok-units.ensures.is c.in_ok-blocks.blocks (sym (c.blocks-2.ensures.is listed) ∙ c.in_ok-blocks.was)
-    ∙ sym (ap Ok (c.in_ok-assemble.ensures ∙ ap (λ (buses : List Bus). record { buses = buses; units = c.in_ok-units.units.units; blocks = c.in_ok-blocks.blocks }) c.into_buses.ensures))
+    ∙ sym (ap Ok (c.in_ok-assemble.ensures ∙ rw (c.into_buses.ensures, c.new.ensures, c.new-2.ensures, c.new-3.ensures, c.new-4.ensures) refl))
+
+pub assemble-requires : goal.assemble-requires
+assemble-requires c =
+    let roomy : All HasSides c.in_ok-units.units.units → HaveRoom c.in_ok-units.units.units c.in_ok-blocks.blocks =
+    λ sides. subst (λ (r : Result (List Block) OfferFault). IfOk r (HaveRoom c.in_ok-units.units.units)) c.in_ok-blocks.was (c.blocks-2.ensures.room sides) in
+    rw (c.into_buses.ensures, c.new.ensures, c.new-2.ensures, c.new-3.ensures, c.new-4.ensures)
+    (pooled_market c.in_ok-network.network c.in_ok-units.units c.in_ok-blocks.blocks c.in_ok-network.ensures.network c.in_ok-units.ensures.units c.in_ok-units.ensures.is c.in_ok-blocks.ensures.blocks roomy)

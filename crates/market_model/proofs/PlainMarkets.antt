@@ -1,0 +1,49 @@
+-- Markets without branches keep what every market keeps.
+use Rattle.std.specs.Prelude.{◌≢◌, ℕ, ◌<◌, ◌≤◌, List, [], length, map, All, AllPairs, slice_index_or}
+use Rattle.std.proofs.Common.{arith}
+use Rattle.market_data.specs.Participants.{IsBus, IsUnit, most_buses, most_units}
+use Rattle.market_data.specs.declared.participants.Bus.{Bus}
+use Rattle.market_data.specs.declared.participants.Unit as unit
+use Rattle.market_model.specs.declared.participants.Block.{Block}
+use Rattle.market_model.specs.declared.participants.Parts.{Parts}
+use Rattle.market_model.specs.Market.{IsMarket, IsBlock, HasRoom, most_blocks}
+
+-- numbers that rise are distinct
+pub distinct_by_rise : (xs : List ℕ) → AllPairs (λ a b. a < b) xs → AllPairs (λ a b. a ≢ b) xs
+distinct_by_rise xs h i j d p q e = let less = h i j d p q in Prim.omega (arith, less, e)
+
+-- the parts of a market without branches
+abbrev pub plain : List Bus → List unit.Unit → List Block → Parts
+plain buses units blocks = record { buses = buses; units = units; blocks = blocks; lines = []; outages = []; shift = []; loss = [] }
+
+pub record IsPlain (bs : List Bus) (us : List unit.Unit) (ks : List Block) : Type 0 where
+  pub bus_count : length bs ≤ most_buses
+  pub unit_count : length us ≤ most_units
+  pub block_count : length ks ≤ most_blocks
+  pub buses : All IsBus bs
+  pub bus_numbers : AllPairs (λ a b. a ≢ b) (map (λ bus. bus.number) bs)
+  pub units : All (IsUnit (length bs)) us
+  pub unit_rows : AllPairs (λ a b. a ≢ b) (map (λ unit. unit.row) us)
+  pub blocks : All (IsBlock (length us)) ks
+  pub room : (place : ℕ) (d : unit.Unit) → place < length us → HasRoom ks place (slice_index_or us place d)
+
+pub plain_market : (buses : List Bus) (units : List unit.Unit) (blocks : List Block) → IsPlain buses units blocks → IsMarket (plain buses units blocks)
+plain_market buses units blocks h = record {
+  bus_count = h.bus_count;
+  unit_count = h.unit_count;
+  block_count = h.block_count;
+  line_count = Prim.omega arith;
+  outage_count = Prim.omega arith;
+  buses = h.buses;
+  bus_numbers = h.bus_numbers;
+  units = h.units;
+  unit_rows = h.unit_rows;
+  blocks = h.blocks;
+  room = h.room;
+  lines = λ i d lt. absurd (Prim.omega (arith, lt));
+  line_rows = λ i j d p q. absurd (Prim.omega (arith, q));
+  outages = λ i d lt. absurd (Prim.omega (arith, lt));
+  outages_distinct = λ i j d p q. absurd (Prim.omega (arith, q));
+  shift = record { each = λ i d lt. absurd (Prim.omega (arith, lt)); distinct = λ i j d p q. absurd (Prim.omega (arith, q)) };
+  loss = record { each = λ i d lt. absurd (Prim.omega (arith, lt)); distinct = λ i j d p q. absurd (Prim.omega (arith, q)) };
+}
