@@ -70,30 +70,102 @@ fn refusal(alloc: Global, asked: Edit) -> Result<Option<EditFault>, Memory>
     Ok(edit(&mut market, &asked).err())
 }
 
-/// A new price of the unit's first block.
-fn first_price(price: i64) -> Edit
+/// A new price of a sell block of the unit of row 1.
+fn price(block: i64, price: i64) -> Edit
     ensures { number_of result ≡ price }
 {
     Edit::Price {
         unit: 1,
         side: Side::Sell,
-        block: 1,
+        block,
         price,
     }
 }
 
+/// A new quantity of a sell block of the unit of row 1.
+fn quantity(block: i64, mw: i64) -> Edit
+    ensures { number_of result ≡ mw }
+{
+    Edit::Quantity {
+        unit: 1,
+        side: Side::Sell,
+        block,
+        mw,
+    }
+}
+
 #[test]
-fn a_price_above_the_next(rt: HostRuntime) -> Result<(), Fail> {
-    let refusal = refusal(rt.alloc(), first_price(25 * PRICE))?;
-    assert!(rt; refusal == Some(EditFault::OutOfOrder { other: 20 * PRICE }));
+fn prices_that_break_the_stair(rt: HostRuntime) -> Result<(), Fail> {
+    let above = refusal(rt.alloc(), price(1, 25 * PRICE))?;
+    assert!(rt; above == Some(EditFault::OutOfOrder { other: 20 * PRICE }));
+    let below = refusal(rt.alloc(), price(2, 5 * PRICE))?;
+    assert!(rt; below == Some(EditFault::OutOfOrder { other: 10 * PRICE }));
+    Ok(())
+}
+
+#[test]
+fn blocks_that_are_not_there(rt: HostRuntime) -> Result<(), Fail> {
+    assert!(rt; refusal(rt.alloc(), price(3, 25 * PRICE))? == Some(EditFault::NoBlock));
+    assert!(rt; refusal(rt.alloc(), price(0, 0))? == Some(EditFault::NoBlock));
+    let bought = Edit::Quantity {
+        unit: 1,
+        side: Side::Buy,
+        block: 1,
+        mw: -MW,
+    };
+    assert!(rt; refusal(rt.alloc(), bought)? == Some(EditFault::NoBlock));
+    Ok(())
+}
+
+#[test]
+fn quantities_out_of_bounds(rt: HostRuntime) -> Result<(), Fail> {
+    assert!(rt; refusal(rt.alloc(), quantity(2, -1))? == Some(EditFault::Negative));
+    let over = Some(EditFault::OverCapacity {
+        over: 20_000_000_000,
+    });
+    assert!(rt; refusal(rt.alloc(), quantity(2, 70 * MW))? == over);
+    assert!(rt; refusal(rt.alloc(), quantity(2, 0))?.is_none());
+    Ok(())
+}
+
+#[test]
+fn buses_and_limits_that_are_not_there(rt: HostRuntime) -> Result<(), Fail> {
+    let bus = Edit::Demand { bus: 1, mw: -MW };
+    assert!(rt; refusal(rt.alloc(), bus)? == Some(EditFault::NoBus));
+    let post = Edit::Limit {
+        branch: 2,
+        post: true,
+        mw: -MW,
+    };
+    assert!(rt; refusal(rt.alloc(), post)? == Some(EditFault::NoLimit));
+    let negative = Edit::Limit {
+        branch: 2,
+        post: false,
+        mw: -1,
+    };
+    assert!(rt; refusal(rt.alloc(), negative)? == Some(EditFault::Negative));
     Ok(())
 }
 
 #[test]
 fn the_price_of_the_next(rt: HostRuntime) -> Result<(), Fail> {
     let mut market = market(rt.alloc())?;
-    assert!(rt; edit(&mut market, &first_price(20 * PRICE)).is_ok());
+    assert!(rt; edit(&mut market, &price(1, 20 * PRICE)).is_ok());
     assert!(rt; market.blocks().len() == 2);
     assert!(rt; market.blocks().at(0).price == 20 * PRICE);
+    Ok(())
+}
+
+#[test]
+fn a_load_beside_a_shunt(rt: HostRuntime) -> Result<(), Fail> {
+    let mut market = market(rt.alloc())?;
+    let load = Edit::Demand {
+        bus: 3,
+        mw: 40 * MW,
+    };
+    assert!(rt; edit(&mut market, &load).is_ok());
+    assert!(rt; market.buses().len() == 1);
+    assert!(rt; market.buses().at(0).pd == 40 * MW);
+    assert!(rt; market.buses().at(0).gs == 5 * MW);
     Ok(())
 }
