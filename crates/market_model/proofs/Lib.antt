@@ -13,6 +13,7 @@ pub mod PlainMarkets
 mod RangeRows
 pub mod ReportReading
 pub mod RightReports
+pub mod RowLaws
 mod Rows
 pub mod SystemLaws
 pub mod TableLemmas
