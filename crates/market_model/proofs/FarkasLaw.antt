@@ -1,5 +1,5 @@
 -- Farkas duals leave no dispatch feasible.
-use Rattle.std.specs.Prelude.{◌≡◌, List, [], ◌∷◌, length, map, refl}
+use Rattle.std.specs.Prelude.{◌≡◌, List, [], ◌∷◌, ◌++◌, length, map, refl}
 use Rattle.std.specs.List.{flat_map}
 use Rattle.std.proofs.Common.{ap, sym, ◌∙◌, subst, subst₂}
 use mathlib.Core.Path.{ap₂}
@@ -22,7 +22,7 @@ use Rattle.market_model.specs.Dispatch.{Dispatch, zero, places, block_at, unit_a
 use Rattle.market_model.specs.Optimality.{up_of, down_of, pull, bus_price}
 use Rattle.market_model.specs.LimitRows.{Row, rows, greatest, flow, row_offset}
 use Rattle.market_model.specs.Market.{IsMarket}
-use Rattle.market_model.specs.Infeasibility.{where_above, part_above, block_weight, limit_terms, farkas_bound}
+use Rattle.market_model.specs.Infeasibility.{where_above, part_above, block_weight, limit_terms, farkas_terms, farkas_bound}
 use Rattle.market_model.specs.Laws.{LawOfInfeasibility}
 use Rattle.market_model.proofs.PlaceSums.{places_all}
 use Rattle.market_model.proofs.MarketSums.{fixed_part, raised_by-empty, priced_injections-by_parts}
@@ -70,6 +70,11 @@ farkas_bound-by_parts m d =
     ∙ ap₂ ◌+ℚ◌ (total-flat_map (limit_terms m d) (rows m)) (total-Product (λ j. part_above (block_weight m d j)) (quantity m) (places (length m.blocks))))
 
 -- where no line has a limit
+pub farkas_terms-bare : (m : Parts) (d : Duals Fraction) → rows m ≡ []
+    → farkas_terms m d ≡ Product d.energy (balance m (empty m)) ∷ map (λ j. Product (part_above (block_weight m d j)) (quantity m j)) (places (length m.blocks))
+farkas_terms-bare m d bare =
+    ap (λ (rs : List Row). Product d.energy (balance m (empty m)) ∷ (flat_map (limit_terms m d) rs ++ map (λ j. Product (part_above (block_weight m d j)) (quantity m j)) (places (length m.blocks)))) bare
+
 pub farkas_bound-by_blocks : (m : Parts) (d : Duals Fraction) → rows m ≡ []
     → farkas_bound m d ≡ d.energy *ℚ balance m (empty m) +ℚ sum_by (λ j. part_above (block_weight m d j) *ℚ quantity m j) (places (length m.blocks))
 farkas_bound-by_blocks m d bare =

@@ -35,6 +35,9 @@ no_rows m e =
     none : (k : ℕ) → rows_after m k ≡ []
     none k = ap (λ (n : ℕ). map (λ l. record { line = l; cause = After k }) (filter (has_post m k) (places n))) (ap length e)
 
+pub no_row : (m : Parts) (r : Row) → rows m ≡ [] → ¬ (Contains (rows m) r)
+no_row m r bare c = let k : Contains [] r = subst (λ (rs : List Row). Contains rs r) bare c in Prim.omega (arith, k.1)
+
 pub congestion-bare : (m : Parts) (d : Duals Fraction) (i : ℕ) → rows m ≡ [] → congestion m d i ≡ zero
 unfolding congestion
 congestion-bare m d i e = ap (λ rs. total (map (λ r. Product (neg_ℚ (pull m d r)) (row_factor m r i)) rs)) e
