@@ -15,7 +15,8 @@ use Rattle.sced.specs.declared.status.Status.{Status}
 use Rattle.sced.specs.declared.status.Status.TheVariants as status
 use Rattle.sced.specs.Words.{refuses}
 use Rattle.sced.proofs.WordsLemmas.{asks-once}
-use Rattle.sced.specs.Pooling.{most_size, pool_market, status_of, ComesTo, FilesPoolTo, AnswersTo, IsDecidedOf}
+use Rattle.sced.specs.Pooling.{most_size, pool_market, status_of, ComesTo, FilesPoolTo}
+use Rattle.sced.specs.Told.{AnswersTo, refused, pooled, checked, IsDecidedOf}
 
 cleared-done : (o : Outcome Fraction) → IsCleared o → status_of o ≡ status.Done
 cleared-done (outcome.Cleared a) h = refl

@@ -1,4 +1,4 @@
+pub mod CheckingLemmas
 pub mod DecidedLemmas
 pub mod PoolingLemmas
-pub mod RefusalLemmas
 pub mod WordsLemmas

@@ -22,8 +22,9 @@ use Rattle.net_case.specs.Networks.{LiveNetwork, IsNetwork, AreUnits}
 use Rattle.net_case.specs.declared.live_parts.Branches.TheVariants as branches
 use Rattle.offer_book.specs.declared.offer_table.OfferFault.{OfferFault}
 use Rattle.sced.specs.declared.status.Status.{Status}
-use Rattle.sced.specs.declared.refusals.Refusal.{Refusal}
-use Rattle.sced.specs.declared.refusals.Refusal.TheVariants as refusal
+use Rattle.refusal_text.specs.declared.refusals.Input.TheVariants as input
+use Rattle.refusal_text.specs.declared.refusals.Refusal.{Refusal}
+use Rattle.refusal_text.specs.declared.refusals.Refusal.TheVariants as refusal
 use Rattle.sced.specs.Pooling.{most_file, sized, pool_market, ComesTo, PoolsTo, FilesPoolTo}
 
 -- ---- whether a file is too long
@@ -37,33 +38,33 @@ sized-long file bytes long = let is : nat_lt most_file (length bytes) ≡ true =
 
 -- ---- the outcomes, by the first fault
 module _ (case offers : List ℕ) where
-  pub case-long : 33554432 < length case → pool_market case offers ≡ Err refusal.CaseTooLong
+  pub case-long : 33554432 < length case → pool_market case offers ≡ Err (refusal.TooLong input.Case)
   unfolding pool_market
-  case-long long = rw (sized-long refusal.CaseTooLong case long) refl
+  case-long long = rw (sized-long (refusal.TooLong input.Case) case long) refl
 
   module _ (short : length case ≤ 33554432) where
     pub plain-fault : (f : CaseFault) → case_of case ≡ Err f → pool_market case offers ≡ Err (refusal.Case f)
     unfolding pool_market
-    plain-fault f is = rw (sized-short refusal.CaseTooLong case short, is) refl
+    plain-fault f is = rw (sized-short (refusal.TooLong input.Case) case short, is) refl
 
     module _ (plain : CaseMatrices) (plain-is : case_of case ≡ Ok plain) where
       pub network-fault : (f : NetFault) → network_of branches.Skip plain ≡ Err f → pool_market case offers ≡ Err (refusal.Network f)
       unfolding pool_market
-      network-fault f is = rw (sized-short refusal.CaseTooLong case short, plain-is, is) refl
+      network-fault f is = rw (sized-short (refusal.TooLong input.Case) case short, plain-is, is) refl
 
       module _ (network : LiveNetwork) (network-is : network_of branches.Skip plain ≡ Ok network) where
-        pub offers-long : 33554432 < length offers → pool_market case offers ≡ Err refusal.OffersTooLong
+        pub offers-long : 33554432 < length offers → pool_market case offers ≡ Err (refusal.TooLong input.Offers)
         unfolding pool_market
-        offers-long long = rw (sized-short refusal.CaseTooLong case short, plain-is, network-is, sized-long refusal.OffersTooLong offers long) refl
+        offers-long long = rw (sized-short (refusal.TooLong input.Case) case short, plain-is, network-is, sized-long (refusal.TooLong input.Offers) offers long) refl
 
         module _ (within : length offers ≤ 33554432) (list : UnitList) (list-is : list ≡ unit_list_of network) where
           pub blocks-fault : (f : OfferFault) → blocks_of_table list offers ≡ Err f → pool_market case offers ≡ Err (refusal.Offers f)
           unfolding pool_market
-          blocks-fault f is = rw (sized-short refusal.CaseTooLong case short, plain-is, network-is, sized-short refusal.OffersTooLong offers within, ← list-is, is) refl
+          blocks-fault f is = rw (sized-short (refusal.TooLong input.Case) case short, plain-is, network-is, sized-short (refusal.TooLong input.Offers) offers within, ← list-is, is) refl
 
           pub market-is : (blocks : List Block) → blocks_of_table list offers ≡ Ok blocks → pool_market case offers ≡ Ok (record { buses = network.buses; units = list.units; blocks = blocks; lines = []; outages = []; shift = []; loss = [] })
           unfolding pool_market
-          market-is blocks is = rw (sized-short refusal.CaseTooLong case short, plain-is, network-is, sized-short refusal.OffersTooLong offers within, ← list-is, is) (cc list-is)
+          market-is blocks is = rw (sized-short (refusal.TooLong input.Case) case short, plain-is, network-is, sized-short (refusal.TooLong input.Offers) offers within, ← list-is, is) (cc list-is)
 
 -- ---- files that are cut behind the first byte too many
 pub sized-cut : (file : Refusal) (bytes : List ℕ) → sized file (take 33554433 bytes) ≡ sized file bytes
@@ -80,7 +81,7 @@ sized-cut file bytes = by (nat_lt 33554432 (length bytes)) refl
 
 pub pool_market-cut : (case offers : List ℕ) → pool_market (take 33554433 case) (take 33554433 offers) ≡ pool_market case offers
 unfolding pool_market
-pool_market-cut case offers = rw (sized-cut refusal.CaseTooLong case, sized-cut refusal.OffersTooLong offers) refl
+pool_market-cut case offers = rw (sized-cut (refusal.TooLong input.Case) case, sized-cut (refusal.TooLong input.Offers) offers) refl
 
 -- ---- files that stay as they were
 pub same_files : (files : Option Files) → SameFiles files files

@@ -1,5 +1,7 @@
+pub mod Checking
 pub mod Pooling
-pub mod Refusals
+pub mod Requests
 pub mod Runs
 pub mod Status
+pub mod Told
 pub mod Words

@@ -17,10 +17,10 @@ use Rattle.case_text.specs.Cases.{case_of}
 use Rattle.net_case.specs.declared.live_parts.Branches.TheVariants as branches
 use Rattle.net_case.specs.NetworkReading.{network_of, unit_list_of}
 use Rattle.offer_book.specs.OfferTable.{blocks_of_table}
-use Rattle.sced.specs.Refusals.{refusal_line}
-use Rattle.sced.specs.Words.{AsksNothing, AsksPool}
-use Rattle.sced.specs.declared.refusals.Refusal.{Refusal}
-use Rattle.sced.specs.declared.refusals.Refusal.TheVariants as refusal
+use Rattle.refusal_text.specs.Refusals.{refusal_line}
+use Rattle.refusal_text.specs.declared.refusals.Input.TheVariants as input
+use Rattle.refusal_text.specs.declared.refusals.Refusal.{Refusal}
+use Rattle.refusal_text.specs.declared.refusals.Refusal.TheVariants as refusal
 use Rattle.sced.specs.declared.status.Status.{Status}
 use Rattle.sced.specs.declared.status.Status.TheVariants as status
 
@@ -41,10 +41,10 @@ sized too_long bytes = if nat_lt most_file (length bytes) then Err too_long else
 -- has a limit in it.
 unfoldable pub pool_market : List ℕ → List ℕ → Result Parts Refusal
 pool_market case offers =
-    and_then (sized refusal.CaseTooLong case) (λ text.
+    and_then (sized (refusal.TooLong input.Case) case) (λ text.
     and_then (refused_as refusal.Case (case_of text)) (λ plain.
     and_then (refused_as refusal.Network (network_of branches.Skip plain)) (λ network.
-    and_then (sized refusal.OffersTooLong offers) (λ table.
+    and_then (sized (refusal.TooLong input.Offers) offers) (λ table.
     and_then (refused_as refusal.Offers (blocks_of_table (unit_list_of network) table)) (λ blocks.
     Ok (record { buses = network.buses; units = (unit_list_of network).units; blocks = blocks; lines = []; outages = []; shift = []; loss = [] }))))))
 
@@ -83,19 +83,3 @@ PoolsTo case offers s text = ComesTo (pool_market case offers) s text
 abbrev pub FilesPoolTo : Option Files → List ℕ → List ℕ → Status → List ℕ → Type 0
 FilesPoolTo None case offers s text = Unit {0}
 FilesPoolTo (Some files) case offers s text = (case_bytes offers_bytes : List ℕ) × (files case ≡ Some case_bytes) × (files offers ≡ Some offers_bytes) × PoolsTo case_bytes offers_bytes s text
-
--- the words are refused, or the status and the text are right for the files that they name
-abbrev pub AnswersTo : Option Files → List (List ℕ) → Status → List ℕ → Type 0
-AnswersTo files words s text =
-    (AsksNothing words × (s ≡ status.Usage)) ⊎ ((case : List ℕ) × (offers : List ℕ) × AsksPool words case offers × FilesPoolTo files case offers s text)
-
--- Where the files that the words name stand for a market of which no working pair passes the bound, the status says whether a
--- dispatch of it is feasible.
-pub record IsDecidedIn (files : Files) (words : List (List ℕ)) (s : Status) : Type 0 where
-  pub decided : (case offers case_bytes offers_bytes : List ℕ) (m : Parts) → AsksPool words case offers → files case ≡ Some case_bytes → files offers ≡ Some offers_bytes
-      → pool_market case_bytes offers_bytes ≡ Ok m → NoPairPasses m most_size → ((x : Dispatch) → Feasible m x → s ≡ status.Done) × (((x : Dispatch) → ¬ (Feasible m x)) → s ≡ status.Infeasible)
-
--- so it is where the store tells its files
-abbrev pub IsDecidedOf : Option Files → List (List ℕ) → Status → Type 0
-IsDecidedOf None words s = Unit {0}
-IsDecidedOf (Some files) words s = IsDecidedIn files words s

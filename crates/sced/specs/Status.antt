@@ -12,3 +12,4 @@ code_of status.Range = 4
 code_of status.ReadFailed = 5
 code_of status.WriteFailed = 6
 code_of status.Memory = 7
+code_of status.Refuted = 8

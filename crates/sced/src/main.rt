@@ -1,10 +1,11 @@
-//! `sced`: clears the market of one interval of an electricity network.
+//! `sced`: clears the market of one interval of an electricity network, and checks the tables that say how flows split.
 #![tactic(auto)]
 
+mod checking;
 mod command;
-pub mod refusals;
 pub mod run;
 pub mod status;
+mod stops;
 mod words;
 
 use outside_store::{FileStore, OutSink};

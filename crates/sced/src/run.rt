@@ -1,6 +1,6 @@
 //! From words and files to the text that is put.
 
-ghost use Rattle.std.specs.Prelude.{◌≡◌, ◌≢◌, ◌⊎◌, ℕ, List, map, string_bytes, Ok, Err, IfOk, IfErr, MatchResult};
+ghost use Rattle.std.specs.Prelude.{◌≡◌, ◌≢◌, ◌⊎◌, ℕ, List, map, option_map, string_bytes, Some, Ok, Err, IfOk, IfErr, MatchResult};
 ghost use Rattle.outside_store.specs.Causes.{Rose, Still};
 ghost use Rattle.outside_store.specs.Files.{Reads, SameFiles};
 ghost use Rattle.outside_store.specs.Sinks.{Took, CountFault};
@@ -8,90 +8,32 @@ ghost use Rattle.market_model.specs.Fitting.{FitsOutcome};
 ghost use Rattle.market_model.specs.Market.{IsMarket};
 ghost use Rattle.market_model.specs.Outcomes.{IsRightOutcome};
 ghost use Rattle.market_model.specs.Valued.{outcome_at};
-ghost use Rattle.sced.specs.Pooling.{most_file, pool_market, status_of, HasPlainPrice, ClearsTo, PoolsTo, FilesPoolTo, AnswersTo, IsDecidedOf};
-ghost use Rattle.sced.specs.Refusals.{refusal_line};
+ghost use Rattle.sced.specs.Pooling.{most_file, pool_market, status_of, HasPlainPrice, ClearsTo, PoolsTo, FilesPoolTo};
+ghost use Rattle.refusal_text.specs.Refusals.{refusal_line};
 ghost use Rattle.sced.specs.Runs.{IsSilent, IsTold, IsOfFiles, NamedReadFailed};
 ghost use Rattle.sced.specs.Words.{AsksNothing};
+ghost use Rattle.sced.specs.Requests.{names_of};
+ghost use Rattle.sced.specs.Checking.{AreFit, TellsCheck, ChecksTo};
+ghost use Rattle.sced.specs.Told.{ReadsTable, lodf_header, contingencies_header, CheckReadFailed, FilesCheckTo, AnswersTo, IsDecidedOf};
 
-use crate::refusals::{Refusal, refusal_text};
+use crate::checking::{CheckBytes, Inputs, check_status, read_inputs, residuals_of};
 use crate::status::Status;
-use crate::words::{PoolFiles, WordsStop, pool_files};
-use case_text::{CaseFault, read_case};
+use crate::stops::Stop;
+use crate::words::{CheckFiles, PoolFiles, Request, WordsStop, request_of};
+use case_text::read_case;
 use exact_fraction::{Exact, Frac};
 use market_model::{List, Market, Memory, Outcome as Clearing, Parts, assemble};
 use merit_order::{ClearFault, clear};
-use net_case::{Branches, NetFault, network};
-use offer_book::{OfferFault, blocks};
+use net_case::{Branches, network};
+use offer_book::blocks;
 use outside_store::{ReadStop, Sink, Store};
+use refusal_text::{Input, Refusal, refusal_text};
 use report_text::report;
+use residual_text::residuals_text;
 use std::alloc::Global;
 
 /// The most bytes of a file.
 const MOST_BYTES: usize = 33_554_432;
-
-/// Why no market was made of the files.
-enum Stop {
-    Refused(Refusal),
-    Memory,
-}
-
-impl From<Memory> for Stop {
-    ghost use Rattle.sced.specs.declared.run.Stop.TheVariants as why;
-
-    ghost from_gives = { λ _ stop. stop ≡ why.Memory };
-
-    fn from(_refused: Memory) -> Stop {
-        Stop::Memory
-    }
-}
-
-impl From<CaseFault> for Stop {
-    ghost use Rattle.std.specs.Prelude.{◌⊎◌, ◌≢◌};
-    ghost use Rattle.case_text.specs.declared.CaseFault.TheVariants as fault_why;
-    ghost use Rattle.sced.specs.declared.refusals.Refusal.TheVariants as refusal;
-    ghost use Rattle.sced.specs.declared.run.Stop.TheVariants as why;
-
-    ghost from_gives = { λ fault stop. ((fault ≡ fault_why.Memory) × (stop ≡ why.Memory)) ⊎ ((fault ≢ fault_why.Memory) × (stop ≡ why.Refused (refusal.Case fault))) };
-
-    fn from(fault: CaseFault) -> Stop {
-        match fault {
-            CaseFault::Memory => Stop::Memory,
-            _ => Stop::Refused(Refusal::Case(fault)),
-        }
-    }
-}
-
-impl From<NetFault> for Stop {
-    ghost use Rattle.std.specs.Prelude.{◌⊎◌, ◌≢◌};
-    ghost use Rattle.net_case.specs.declared.live_parts.NetFault.TheVariants as fault_why;
-    ghost use Rattle.sced.specs.declared.refusals.Refusal.TheVariants as refusal;
-    ghost use Rattle.sced.specs.declared.run.Stop.TheVariants as why;
-
-    ghost from_gives = { λ fault stop. ((fault ≡ fault_why.Memory) × (stop ≡ why.Memory)) ⊎ ((fault ≢ fault_why.Memory) × (stop ≡ why.Refused (refusal.Network fault))) };
-
-    fn from(fault: NetFault) -> Stop {
-        match fault {
-            NetFault::Memory => Stop::Memory,
-            _ => Stop::Refused(Refusal::Network(fault)),
-        }
-    }
-}
-
-impl From<OfferFault> for Stop {
-    ghost use Rattle.std.specs.Prelude.{◌⊎◌, ◌≢◌};
-    ghost use Rattle.offer_book.specs.declared.offer_table.OfferFault.TheVariants as fault_why;
-    ghost use Rattle.sced.specs.declared.refusals.Refusal.TheVariants as refusal;
-    ghost use Rattle.sced.specs.declared.run.Stop.TheVariants as why;
-
-    ghost from_gives = { λ fault stop. ((fault ≡ fault_why.Memory) × (stop ≡ why.Memory)) ⊎ ((fault ≢ fault_why.Memory) × (stop ≡ why.Refused (refusal.Offers fault))) };
-
-    fn from(fault: OfferFault) -> Stop {
-        match fault {
-            OfferFault::Memory => Stop::Memory,
-            _ => Stop::Refused(Refusal::Offers(fault)),
-        }
-    }
-}
 
 /// The market of a case and its offers.
 ///
@@ -102,13 +44,13 @@ fn market(alloc: Global, case: &[u8], offers: &[u8]) -> Result<Market, Stop>
     ensures refused { (refusal : Refusal) → result ≡ Err (Stop.Refused refusal) → pool_market case.now offers.now ≡ Err refusal }
 {
     if case.len() > MOST_BYTES {
-        return Err(Stop::Refused(Refusal::CaseTooLong));
+        return Err(Stop::Refused(Refusal::TooLong(Input::Case)));
     }
     let raw = read_case(alloc, case)?;
     let network = network(alloc, &raw, Branches::Skip)?;
     let units = network.unit_list(alloc)?;
     if offers.len() > MOST_BYTES {
-        return Err(Stop::Refused(Refusal::OffersTooLong));
+        return Err(Stop::Refused(Refusal::TooLong(Input::Offers)));
     }
     let blocks = blocks(alloc, &units, offers)?;
     let parts = Parts {
@@ -169,8 +111,8 @@ fn clear_outcome<N: Exact>(alloc: Global, market: &Market) -> Result<Outcome, Me
 }
 
 /// The line that refuses a file.
-fn refused(alloc: Global, refusal: Refusal) -> Result<Outcome, Memory>
-    ensures { IfOk result (λ outcome. (outcome.status ≡ Status.Refused) × (outcome.text.items ≡ refusal_line refusal)) }
+fn refused(alloc: Global, refusal: &Refusal) -> Result<Outcome, Memory>
+    ensures { IfOk result (λ outcome. (outcome.status ≡ Status.Refused) × (outcome.text.items ≡ refusal_line refusal.now)) }
 {
     Ok(Outcome {
         status: Status::Refused,
@@ -185,7 +127,39 @@ fn pool(alloc: Global, case: &[u8], offers: &[u8]) -> Result<Outcome, Memory>
 {
     match market(alloc, case, offers) {
         Ok(market) => clear_outcome::<Frac>(alloc, &market),
-        Err(Stop::Refused(refusal)) => refused(alloc, refusal),
+        Err(Stop::Refused(refusal)) => refused(alloc, &refusal),
+        Err(Stop::Memory) => Err(Memory),
+    }
+}
+
+/// What the residuals of a check come to.
+fn check_outcome(alloc: Global, inputs: &Inputs) -> Result<Outcome, Memory>
+    requires { AreFit inputs.now }
+    ensures status { IfOk result (λ outcome. IsOfFiles outcome.status) }
+    ensures checks { IfOk result (λ outcome. TellsCheck (Ok inputs.now) outcome.status outcome.text.items) }
+{
+    let residuals = residuals_of(alloc, inputs)?;
+    let text = residuals_text(
+        alloc,
+        &residuals.bus,
+        &residuals.round,
+        &residuals.outage_bus,
+        &residuals.outage_round,
+    )?;
+    Ok(Outcome {
+        status: check_status(&residuals),
+        text,
+    })
+}
+
+/// What the bytes of a case and of its tables come to.
+fn check(alloc: Global, bytes: &CheckBytes<'_>) -> Result<Outcome, Memory>
+    ensures status { IfOk result (λ outcome. IsOfFiles outcome.status) }
+    ensures checks { IfOk result (λ outcome. ChecksTo bytes.now.case.now bytes.now.ptdf.now bytes.now.lodf.now bytes.now.contingencies.now outcome.status outcome.text.items) }
+{
+    match read_inputs(alloc, bytes) {
+        Ok(inputs) => check_outcome(alloc, &inputs),
+        Err(Stop::Refused(refusal)) => refused(alloc, &refusal),
         Err(Stop::Memory) => Err(Memory),
     }
 }
@@ -219,6 +193,32 @@ fn read_file<S: Store>(alloc: Global, store: &mut S, name: &str) -> Result<Vec<u
     }
 }
 
+/// The bytes of a table, which are its header alone where no file is named.
+fn read_table<S: Store>(
+    alloc: Global,
+    store: &mut S,
+    name: Option<&str>,
+    header: &[u8],
+) -> Result<Vec<u8>, Status>
+    ensures same { SameFiles (S.files store.old) (S.files store.new) }
+    ensures bytes { IfOk result (λ bytes. ReadsTable (S.files store.old) (option_map (λ n. n.now) name) header.now bytes.items) }
+    ensures stop { IfErr result IsSilent }
+    ensures failed { result ≡ Err Status.ReadFailed → (file : List ℕ) × (option_map (λ n. n.now) name ≡ Some file) × Rose (S.failed_reads store.old file) (S.failed_reads store.new file) }
+    ensures reads { ¬ (result ≡ Err Status.ReadFailed) → Still (S.failed_reads store.old) (S.failed_reads store.new) }
+    ensures writes { Still (S.failed_writes store.old) (S.failed_writes store.new) }
+{
+    match name {
+        Some(name) => read_file(alloc, store, name),
+        None => {
+            let mut bytes = Vec::new(alloc);
+            match bytes.extend_from_slice(header) {
+                Ok(()) => Ok(bytes),
+                Err(_) => Err(Status::Memory),
+            }
+        }
+    }
+}
+
 /// The status of an outcome that there was no memory for.
 fn told(outcome: Result<Outcome, Memory>) -> Result<Outcome, Status>
     ensures { MatchResult result (λ outcome_made. outcome ≡ Ok outcome_made) (λ status. status ≡ Status.Memory) }
@@ -248,6 +248,51 @@ fn pool_outcome<S: Store>(
     told(pool(alloc, case.as_slice(), offers.as_slice()))
 }
 
+/// The bytes of the tables of outage factors and of listed outages.
+fn read_outages<S: Store>(
+    alloc: Global,
+    files: &CheckFiles<'_>,
+    store: &mut S,
+) -> Result<(Vec<u8>, Vec<u8>), Status>
+    ensures same { SameFiles (S.files store.old) (S.files store.new) }
+    ensures lodf { IfOk result (λ both. ReadsTable (S.files store.old) (names_of files.now).lodf lodf_header both.0.items) }
+    ensures contingencies { IfOk result (λ both. ReadsTable (S.files store.old) (names_of files.now).contingencies contingencies_header both.1.items) }
+    ensures stop { IfErr result IsSilent }
+    ensures failed { result ≡ Err Status.ReadFailed → CheckReadFailed (names_of files.now) (S.failed_reads store.old) (S.failed_reads store.new) }
+    ensures reads { ¬ (result ≡ Err Status.ReadFailed) → Still (S.failed_reads store.old) (S.failed_reads store.new) }
+    ensures writes { Still (S.failed_writes store.old) (S.failed_writes store.new) }
+{
+    let lodf = read_table(alloc, store, files.lodf, b"branch,outage,factor\n")?;
+    let contingencies = read_table(alloc, store, files.contingencies, b"branch\n")?;
+    Ok((lodf, contingencies))
+}
+
+/// What the case and its tables come to.
+#[tactic(auto, using(crate::proofs::PoolingLemmas::same_then))]
+fn check_files_outcome<S: Store>(
+    alloc: Global,
+    files: &CheckFiles<'_>,
+    store: &mut S,
+) -> Result<Outcome, Status>
+    ensures same { SameFiles (S.files store.old) (S.files store.new) }
+    ensures told { MatchResult result (λ outcome. IsOfFiles outcome.status) IsSilent }
+    ensures checked { IfOk result (λ outcome. FilesCheckTo (S.files store.old) (names_of files.now) outcome.status outcome.text.items) }
+    ensures failed { result ≡ Err Status.ReadFailed → CheckReadFailed (names_of files.now) (S.failed_reads store.old) (S.failed_reads store.new) }
+    ensures reads { ¬ (result ≡ Err Status.ReadFailed) → Still (S.failed_reads store.old) (S.failed_reads store.new) }
+    ensures writes { Still (S.failed_writes store.old) (S.failed_writes store.new) }
+{
+    let case = read_file(alloc, store, files.case)?;
+    let ptdf = read_file(alloc, store, files.ptdf)?;
+    let (lodf, contingencies) = read_outages(alloc, files, store)?;
+    let bytes = CheckBytes {
+        case: case.as_slice(),
+        ptdf: ptdf.as_slice(),
+        lodf: lodf.as_slice(),
+        contingencies: contingencies.as_slice(),
+    };
+    told(check(alloc, &bytes))
+}
+
 /// What the words and the files that they name come to.
 #[tactic(auto, using(crate::proofs::PoolingLemmas::same_files))]
 fn asked_outcome<S: Store>(
@@ -264,8 +309,9 @@ fn asked_outcome<S: Store>(
     ensures reads { ¬ (result ≡ Err Status.ReadFailed) → Still (S.failed_reads store.old) (S.failed_reads store.new) }
     ensures writes { Still (S.failed_writes store.old) (S.failed_writes store.new) }
 {
-    match pool_files(alloc, words) {
-        Ok(files) => pool_outcome(alloc, &files, store),
+    match request_of(alloc, words) {
+        Ok(Request::Pool(files)) => pool_outcome(alloc, &files, store),
+        Ok(Request::Check(files)) => check_files_outcome(alloc, &files, store),
         Err(WordsStop::Usage(text)) => Ok(Outcome {
             status: Status::Usage,
             text: text.into_bytes(),

@@ -5,7 +5,7 @@ ghost use Rattle.std.specs.Prelude.{◌≡◌};
 /// The exit status of a run.
 #[derive(Clone, Copy, PartialEq, Eq, Debug)]
 pub enum Status {
-    /// Cleared.
+    /// Cleared, or within rounding.
     Done,
     /// The words are none that the program takes.
     Usage,
@@ -21,6 +21,8 @@ pub enum Status {
     WriteFailed,
     /// Memory was refused.
     Memory,
+    /// What was to be checked does not hold.
+    Refuted,
 }
 
 impl Status {
@@ -38,6 +40,7 @@ impl Status {
             Status::ReadFailed => 5,
             Status::WriteFailed => 6,
             Status::Memory => 7,
+            Status::Refuted => 8,
         }
     }
 }

@@ -418,8 +418,8 @@ fn refuses_words(rt: HostRuntime) -> Result<(), Fail> {
     )?;
     over_no_file(
         &rt,
-        ["sced", "check", "--case", "a"].as_slice(),
-        (Status::Usage, "error: unrecognized subcommand 'check'\n"),
+        ["sced", "clear", "--case", "a"].as_slice(),
+        (Status::Usage, "error: unrecognized subcommand 'clear'\n"),
     )?;
     over_no_file(
         &rt,

@@ -1,8 +1,9 @@
 //! The words of a run.
 
-ghost use Rattle.std.specs.Prelude.{◌≡◌, ◌≢◌, codes, map, string_bytes, IfOk, IfErr};
-ghost use Rattle.clap.specs.Words.{found_of, rows_of};
-ghost use Rattle.sced.specs.Words.{AsksPool, AsksNothing, file_of};
+ghost use Rattle.std.specs.Prelude.{◌≡◌, ◌≢◌, codes, map, option_map, string_bytes, IfOk, IfErr};
+ghost use Rattle.clap.specs.Words.{first_of, found_of, rows_of};
+ghost use Rattle.sced.specs.Words.{AsksNothing, check_names, file_of};
+ghost use Rattle.sced.specs.Requests.{Asks, names_of};
 
 use crate::command::sced_command;
 use clap::ArgMatches;
@@ -14,6 +15,22 @@ use std::alloc::Global;
 pub struct PoolFiles<'a> {
     pub case: &'a str,
     pub offers: &'a str,
+}
+
+/// The names of the files that `check` reads, where they are named.
+#[derive(Clone, Copy, Debug)]
+pub struct CheckFiles<'a> {
+    pub case: &'a str,
+    pub ptdf: &'a str,
+    pub lodf: Option<&'a str>,
+    pub contingencies: Option<&'a str>,
+}
+
+/// What the words ask for.
+#[derive(Clone, Copy, Debug)]
+pub enum Request<'a> {
+    Pool(PoolFiles<'a>),
+    Check(CheckFiles<'a>),
 }
 
 /// Why the words ask for nothing.
@@ -28,11 +45,18 @@ pub enum WordsStop {
 fn named_file<'a>(matches: &ArgMatches<'a>, option: &str) -> &'a str
     ensures { result.now ≡ file_of option.now (rows_of (found_of matches.now)) }
 {
-    matches.get_str(option).unwrap_or("")
+    named_table(matches, option).unwrap_or("")
+}
+
+/// The file that an option names, where it is there.
+fn named_table<'a>(matches: &ArgMatches<'a>, option: &str) -> Option<&'a str>
+    ensures { option_map (λ name. name.now) result ≡ first_of option.now (rows_of (found_of matches.now)) }
+{
+    matches.get_str(option)
 }
 
 /// The files that `pool` is to read.
-fn files_of<'a>(matches: &ArgMatches<'a>) -> PoolFiles<'a>
+fn pool_files<'a>(matches: &ArgMatches<'a>) -> PoolFiles<'a>
     ensures case { result.case.now ≡ file_of (codes "case") (rows_of (found_of matches.now)) }
     ensures offers { result.offers.now ≡ file_of (codes "offers") (rows_of (found_of matches.now)) }
 {
@@ -42,9 +66,21 @@ fn files_of<'a>(matches: &ArgMatches<'a>) -> PoolFiles<'a>
     }
 }
 
-/// The files that the words name, or the text that says how the program is used.
-pub fn pool_files<'a>(alloc: Global, words: &'a [String]) -> Result<PoolFiles<'a>, WordsStop>
-    ensures asked { IfOk result (λ files. AsksPool (map string_bytes words.entry.now) files.case.now files.offers.now) }
+/// The files that `check` is to read.
+fn check_files<'a>(matches: &ArgMatches<'a>) -> CheckFiles<'a>
+    ensures { names_of result ≡ check_names (rows_of (found_of matches.now)) }
+{
+    CheckFiles {
+        case: named_file(matches, "case"),
+        ptdf: named_file(matches, "ptdf"),
+        lodf: named_table(matches, "lodf"),
+        contingencies: named_table(matches, "contingencies"),
+    }
+}
+
+/// What the words ask for, or the text that says how the program is used.
+pub fn request_of<'a>(alloc: Global, words: &'a [String]) -> Result<Request<'a>, WordsStop>
+    ensures asked { IfOk result (Asks (map string_bytes words.entry.now)) }
     ensures refused { IfErr result (λ stop. stop ≢ WordsStop.Memory → AsksNothing (map string_bytes words.entry.now)) }
 {
     let command = match sced_command(alloc) {
@@ -53,8 +89,12 @@ pub fn pool_files<'a>(alloc: Global, words: &'a [String]) -> Result<PoolFiles<'a
     };
     match command.try_get_matches_from(words) {
         Ok(matches) => {
-            let (_name, inner) = matches.subcommand().unwrap();
-            Ok(files_of(inner))
+            let (name, inner) = matches.subcommand().unwrap();
+            if name == "pool" {
+                Ok(Request::Pool(pool_files(inner)))
+            } else {
+                Ok(Request::Check(check_files(inner)))
+            }
         }
         Err(error) => match error.kind() {
             ErrorKind::OutOfMemory => Err(WordsStop::Memory),

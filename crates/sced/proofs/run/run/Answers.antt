@@ -1,6 +1,6 @@
 use Rattle.std.proofs.Common.{inl, inr, sym, subst, ◌∙◌}
 use Rattle.std.specs.Prelude.{map, string_bytes}
-use Rattle.sced.specs.Pooling.{IsDecidedOf}
+use Rattle.sced.specs.Told.{IsDecidedOf}
 use Rattle.sced.proofs.DecidedLemmas.{answers-decided}
 use Rattle.sced.proofs.run.run.Goals as goal
 

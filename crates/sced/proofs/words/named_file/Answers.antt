@@ -1,7 +1,5 @@
-use Rattle.std.proofs.Common.{◌≡◌, ◌∙◌, refl, ap, ℕ, List, [], Option, Some, None, option_map, Bor}
+use Rattle.std.proofs.Common.{◌≡◌, ◌∙◌, refl, ap, List, ℕ, [], Option, Some, None, option_map, Bor}
 use Rattle.std.specs.Prelude.{unwrap_or}
-use Rattle.clap.specs.Words.{found_of}
-use Rattle.clap.proofs.WalkLemmas.{first_value-rows}
 use Rattle.sced.proofs.words.named_file.Goals as goal
 
 -- the text of a value, or of none
@@ -10,5 +8,4 @@ text_of None d e = e
 text_of (Some s) d e = refl
 
 pub returns : goal.returns
-returns c = ap (λ (s : Bor (List ℕ)). s.now) c.unwrap_or.ensures ∙ text_of c.get_str.result _ refl
-    ∙ ap (λ o. unwrap_or o []) (c.get_str.ensures ∙ first_value-rows (found_of c.args.matches.now) c.args.option.now)
+returns c = ap (λ (s : Bor (List ℕ)). s.now) c.unwrap_or.ensures ∙ text_of c.named_table.result _ refl ∙ ap (λ o. unwrap_or o []) c.named_table.ensures

@@ -1,7 +1,7 @@
 use Rattle.std.proofs.Common.{◌++◌, ◌∙◌, ap, sym, codes, decimal, append_assoc}
 use Rattle.std.proofs.lemmas.Result.{IfOk-weaker}
-use Rattle.sced.specs.Refusals.{case_words}
-use Rattle.sced.proofs.refusals.write_case_fault.Goals as goal
+use Rattle.refusal_text.specs.Refusals.{case_words}
+use Rattle.refusal_text.proofs.refusals.write_case_fault.Goals as goal
 
 pub returns-in-BadToken : goal.returns-in-BadToken
 unfolding case_words

@@ -1,8 +1,8 @@
 use Rattle.std.proofs.Common.{◌++◌, ◌∙◌, ap, sym, codes, decimal, append_assoc}
 use Rattle.std.proofs.lemmas.Result.{IfOk-weaker}
-use Rattle.sced.specs.Refusals.{net_words}
-use Rattle.sced.proofs.RefusalLemmas.{four}
-use Rattle.sced.proofs.refusals.write_net_fault.Goals as goal
+use Rattle.refusal_text.specs.Refusals.{net_words}
+use Rattle.refusal_text.proofs.RefusalLemmas.{four}
+use Rattle.refusal_text.proofs.refusals.write_net_fault.Goals as goal
 
 pub returns-in-BusTwice : goal.returns-in-BusTwice
 unfolding net_words

@@ -1,8 +1,8 @@
 use Rattle.std.proofs.Common.{◌++◌, ◌∙◌, ap, sym, codes, decimal, append_assoc}
 use Rattle.std.proofs.lemmas.Result.{IfOk-weaker}
-use Rattle.sced.specs.Refusals.{offer_words}
-use Rattle.sced.proofs.RefusalLemmas.{four}
-use Rattle.sced.proofs.refusals.write_offer_fault.Goals as goal
+use Rattle.refusal_text.specs.Refusals.{offer_words}
+use Rattle.refusal_text.proofs.RefusalLemmas.{four}
+use Rattle.refusal_text.proofs.refusals.write_offer_fault.Goals as goal
 
 pub returns-in-TooMany : goal.returns-in-TooMany
 unfolding offer_words

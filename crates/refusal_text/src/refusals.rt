@@ -1,25 +1,47 @@
 //! Why a file is refused, and the line that says so.
 
 ghost use Rattle.std.specs.Prelude.{◌≡◌, ◌++◌, codes, decimal, IfOk};
-ghost use Rattle.sced.specs.Refusals.{field_name, why_name, case_words, net_words, offer_words, refusal_words, refusal_line};
+ghost use Rattle.refusal_text.specs.Refusals.{field_name, why_name, case_words, net_words, table_words, side_text, outage_words, offer_words, input_name, refusal_words, refusal_line};
 
 use case_text::{CaseFault, Field};
-use market_model::Memory;
+use factor_tables::TableFault;
 use net_case::{NetFault, Why};
 use offer_book::OfferFault;
+use outage_list::OutageFault;
+use plain_list::{List, Memory};
 use report_text::Text;
 use scaled_decimal::DecimalFault;
 use std::alloc::Global;
 
-/// Why a file stands for no market.
-#[derive(Clone, Copy, Debug)]
+/// A file that the words may name.
+#[derive(Clone, Copy, PartialEq, Eq, Debug)]
+pub enum Input {
+    Case,
+    /// The table of shift factors.
+    Ptdf,
+    /// The table of outage factors.
+    Lodf,
+    /// The table of listed outages.
+    Contingencies,
+    Offers,
+}
+
+/// Why a file stands for nothing that the program may work on.
+#[derive(Debug, Drop)]
 pub enum Refusal {
-    CaseTooLong,
+    TooLong(Input),
     /// The text of the case is not as its form asks.
     Case(CaseFault),
     /// The rows of the case are no network.
     Network(NetFault),
-    OffersTooLong,
+    /// The number of the first bus that no live branches join to the first one.
+    Split {
+        bus: u32,
+    },
+    /// A table of numbers by branch.
+    Table(Input, TableFault),
+    /// The outages that are asked for.
+    Outages(OutageFault),
     Offers(OfferFault),
 }
 
@@ -169,46 +191,109 @@ fn write_offer_fault(text: &mut Text, fault: OfferFault) -> Result<(), Memory>
     }
 }
 
-fn write_too_long(text: &mut Text) -> Result<(), Memory>
-    ensures { IfOk result (λ _. text.new ≡ text.old ++ codes "TooLong " ++ codes "limit 33554432") }
+#[tactic(auto, using(std::proofs::Common::append_assoc), unfolding(crate::specs::Refusals::table_words))]
+fn write_table_fault(text: &mut Text, fault: TableFault) -> Result<(), Memory>
+    ensures { IfOk result (λ _. text.new ≡ text.old ++ table_words fault) }
 {
-    text.word(b"TooLong ")?;
-    text.word(b"limit 33554432")
+    match fault {
+        TableFault::Header => text.word(b"Header"),
+        TableFault::Width { line } => at_line(text, b"Width", line),
+        TableFault::TooMany { count } => numbered(text, b"TooMany count ", count),
+        TableFault::Cell { line, col, why } => {
+            text.word(b"Cell line ")?;
+            write_place(text, line, col, why)
+        }
+        TableFault::NoBranch { line } => at_line(text, b"NoBranch", line),
+        TableFault::NoBus { line } => at_line(text, b"NoBus", line),
+        TableFault::DeadBranch { line } => at_line(text, b"DeadBranch", line),
+        TableFault::DeadBus { line } => at_line(text, b"DeadBus", line),
+        TableFault::Twice { line } => at_line(text, b"Twice", line),
+        TableFault::NoOffset { branch } => numbered(text, b"NoOffset branch ", branch as usize),
+        TableFault::Memory => Ok(()),
+    }
+}
+
+/// The numbers of the buses on a side of an outage.
+fn write_side(text: &mut Text, side: &List<u32>) -> Result<(), Memory>
+    ensures { IfOk result (λ _. text.new ≡ text.old ++ side_text side.now) }
+{
+    for bus in side.slice() {
+        numbered(text, b" ", *bus as usize)?;
+    }
+    Ok(())
+}
+
+#[tactic(auto, using(std::proofs::Common::append_assoc), unfolding(crate::specs::Refusals::outage_words))]
+fn write_outage_fault(text: &mut Text, fault: &OutageFault) -> Result<(), Memory>
+    ensures { IfOk result (λ _. text.new ≡ text.old ++ outage_words fault.now) }
+{
+    match fault {
+        OutageFault::NoBranch { line } => at_line(text, b"NoBranch", *line),
+        OutageFault::DeadBranch { line } => at_line(text, b"DeadBranch", *line),
+        OutageFault::Twice { line } => at_line(text, b"Twice", *line),
+        OutageFault::Islands { branch, side } => {
+            numbered(text, b"Islands branch ", *branch as usize)?;
+            text.word(b" side")?;
+            write_side(text, side)
+        }
+        OutageFault::Memory => Ok(()),
+    }
+}
+
+fn input_word(input: Input) -> &'static [u8]
+    ensures { result.now ≡ input_name input }
+{
+    match input {
+        Input::Case => b"case ",
+        Input::Ptdf => b"ptdf ",
+        Input::Lodf => b"lodf ",
+        Input::Contingencies => b"contingencies ",
+        Input::Offers => b"offers ",
+    }
 }
 
 /// Which file is refused, and its fault.
 #[tactic(auto, using(std::proofs::Common::append_assoc), unfolding(crate::specs::Refusals::refusal_words))]
-fn write_refusal(text: &mut Text, refusal: Refusal) -> Result<(), Memory>
-    ensures { IfOk result (λ _. text.new ≡ text.old ++ refusal_words refusal) }
+fn write_refusal(text: &mut Text, refusal: &Refusal) -> Result<(), Memory>
+    ensures { IfOk result (λ _. text.new ≡ text.old ++ refusal_words refusal.now) }
 {
     match refusal {
-        Refusal::CaseTooLong => {
-            text.word(b"case ")?;
-            write_too_long(text)
+        Refusal::TooLong(input) => {
+            text.word(input_word(*input))?;
+            text.word(b"TooLong ")?;
+            text.word(b"limit 33554432")
         }
         Refusal::Case(fault) => {
             text.word(b"case ")?;
-            write_case_fault(text, fault)
+            write_case_fault(text, *fault)
         }
         Refusal::Network(fault) => {
             text.word(b"case ")?;
-            write_net_fault(text, fault)
+            write_net_fault(text, *fault)
         }
-        Refusal::OffersTooLong => {
-            text.word(b"offers ")?;
-            write_too_long(text)
+        Refusal::Split { bus } => {
+            text.word(b"case ")?;
+            numbered(text, b"Split bus ", *bus as usize)
+        }
+        Refusal::Table(input, fault) => {
+            text.word(input_word(*input))?;
+            write_table_fault(text, *fault)
+        }
+        Refusal::Outages(fault) => {
+            text.word(b"contingencies ")?;
+            write_outage_fault(text, fault)
         }
         Refusal::Offers(fault) => {
             text.word(b"offers ")?;
-            write_offer_fault(text, fault)
+            write_offer_fault(text, *fault)
         }
     }
 }
 
 /// The line that refuses a file.
 #[tactic(auto, using(std::proofs::Common::append_assoc), unfolding(crate::specs::Refusals::refusal_line))]
-pub fn refusal_text(alloc: Global, refusal: Refusal) -> Result<Vec<u8>, Memory>
-    ensures { IfOk result (λ bytes. bytes.items ≡ refusal_line refusal) }
+pub fn refusal_text(alloc: Global, refusal: &Refusal) -> Result<Vec<u8>, Memory>
+    ensures { IfOk result (λ bytes. bytes.items ≡ refusal_line refusal.now) }
 {
     let mut text = Text::new(alloc);
     text.word(b"refused ")?;

@@ -1,5 +1,6 @@
 -- Why a file is refused, and the line that says so.
 use Rattle.std.specs.Prelude.{ℕ, List, [], ◌++◌, codes, decimal}
+use Rattle.std.specs.List.{flat_map}
 use Rattle.scaled_decimal.specs.declared.DecimalFault.TheVariants as decimal_fault
 use Rattle.case_text.specs.declared.Field.{Field}
 use Rattle.case_text.specs.declared.Field.TheVariants as field
@@ -9,10 +10,16 @@ use Rattle.net_case.specs.declared.live_parts.Why.{Why}
 use Rattle.net_case.specs.declared.live_parts.Why.TheVariants as why
 use Rattle.net_case.specs.declared.live_parts.NetFault.{NetFault}
 use Rattle.net_case.specs.declared.live_parts.NetFault.TheVariants as net_fault
+use Rattle.factor_tables.specs.declared.table_fault.TableFault.{TableFault}
+use Rattle.factor_tables.specs.declared.table_fault.TableFault.TheVariants as table_fault
+use Rattle.outage_list.specs.declared.listing.OutageFault.{OutageFault}
+use Rattle.outage_list.specs.declared.listing.OutageFault.TheVariants as outage_fault
 use Rattle.offer_book.specs.declared.offer_table.OfferFault.{OfferFault}
 use Rattle.offer_book.specs.declared.offer_table.OfferFault.TheVariants as offer_fault
-use Rattle.sced.specs.declared.refusals.Refusal.{Refusal}
-use Rattle.sced.specs.declared.refusals.Refusal.TheVariants as refusal
+use Rattle.refusal_text.specs.declared.refusals.Input.{Input}
+use Rattle.refusal_text.specs.declared.refusals.Input.TheVariants as input
+use Rattle.refusal_text.specs.declared.refusals.Refusal.{Refusal}
+use Rattle.refusal_text.specs.declared.refusals.Refusal.TheVariants as refusal
 
 abbrev pub field_name : Field → List ℕ
 field_name field.Version = codes "version"
@@ -62,16 +69,49 @@ offer_words (offer_fault.OutOfOrder line) = codes "OutOfOrder" ++ codes " line "
 offer_words (offer_fault.OverCapacity line) = codes "OverCapacity" ++ codes " line " ++ decimal line
 offer_words offer_fault.Memory = []
 
+unfoldable pub table_words : TableFault → List ℕ
+table_words table_fault.Header = codes "Header"
+table_words (table_fault.Width line) = codes "Width" ++ codes " line " ++ decimal line
+table_words (table_fault.TooMany count) = codes "TooMany count " ++ decimal count
+table_words (table_fault.Cell line col w) = codes "Cell line " ++ decimal line ++ codes " col " ++ decimal col ++ codes " " ++ why_name w
+table_words (table_fault.NoBranch line) = codes "NoBranch" ++ codes " line " ++ decimal line
+table_words (table_fault.NoBus line) = codes "NoBus" ++ codes " line " ++ decimal line
+table_words (table_fault.DeadBranch line) = codes "DeadBranch" ++ codes " line " ++ decimal line
+table_words (table_fault.DeadBus line) = codes "DeadBus" ++ codes " line " ++ decimal line
+table_words (table_fault.Twice line) = codes "Twice" ++ codes " line " ++ decimal line
+table_words (table_fault.NoOffset branch) = codes "NoOffset branch " ++ decimal branch
+table_words table_fault.Memory = []
+
+-- the numbers of the buses on a side, each behind a blank
+abbrev pub side_text : List ℕ → List ℕ
+side_text side = flat_map (λ bus. codes " " ++ decimal bus) side
+
+unfoldable pub outage_words : OutageFault → List ℕ
+outage_words (outage_fault.NoBranch line) = codes "NoBranch" ++ codes " line " ++ decimal line
+outage_words (outage_fault.DeadBranch line) = codes "DeadBranch" ++ codes " line " ++ decimal line
+outage_words (outage_fault.Twice line) = codes "Twice" ++ codes " line " ++ decimal line
+outage_words (outage_fault.Islands branch side) = codes "Islands branch " ++ decimal branch ++ codes " side" ++ side_text side
+outage_words outage_fault.Memory = []
+
 -- a file that is too long, with the most bytes of a file
 abbrev pub too_long : List ℕ
 too_long = codes "TooLong " ++ codes "limit 33554432"
 
+abbrev pub input_name : Input → List ℕ
+input_name input.Case = codes "case "
+input_name input.Ptdf = codes "ptdf "
+input_name input.Lodf = codes "lodf "
+input_name input.Contingencies = codes "contingencies "
+input_name input.Offers = codes "offers "
+
 -- which file it is, and its fault
 unfoldable pub refusal_words : Refusal → List ℕ
-refusal_words refusal.CaseTooLong = codes "case " ++ too_long
+refusal_words (refusal.TooLong i) = input_name i ++ too_long
 refusal_words (refusal.Case f) = codes "case " ++ case_words f
 refusal_words (refusal.Network f) = codes "case " ++ net_words f
-refusal_words refusal.OffersTooLong = codes "offers " ++ too_long
+refusal_words (refusal.Split bus) = codes "case " ++ codes "Split bus " ++ decimal bus
+refusal_words (refusal.Table i f) = input_name i ++ table_words f
+refusal_words (refusal.Outages f) = codes "contingencies " ++ outage_words f
 refusal_words (refusal.Offers f) = codes "offers " ++ offer_words f
 
 -- the line that refuses a file

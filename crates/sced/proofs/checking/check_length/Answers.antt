@@ -1,0 +1,10 @@
+use Rattle.std.proofs.Common.{refl, arith}
+use Rattle.refusal_text.specs.declared.refusals.Refusal.TheVariants as refusal
+use Rattle.sced.proofs.PoolingLemmas.{sized-long, sized-short}
+use Rattle.sced.proofs.checking.check_length.Goals as goal
+
+pub returns-then-bytes-gt-MOST_BYTES-clause-long : goal.returns-then-bytes-gt-MOST_BYTES-clause-long
+returns-then-bytes-gt-MOST_BYTES-clause-long c = (refl, sized-long (refusal.TooLong c.args.file) c.args.bytes.now c.if-bytes-gt-MOST_BYTES.true)
+
+pub returns-clause-short : goal.returns-clause-short
+returns-clause-short c = sized-short (refusal.TooLong c.args.file) c.args.bytes.now (omega (arith, c.if-bytes-gt-MOST_BYTES.false))

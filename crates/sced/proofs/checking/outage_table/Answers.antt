@@ -1,0 +1,5 @@
+use Rattle.sced.proofs.CheckingLemmas.{listed-live}
+use Rattle.sced.proofs.checking.outage_table.Goals as goal
+
+pub returns-in-Ok-clause-live : goal.returns-in-Ok-clause-live
+returns-in-Ok-clause-live c = listed-live c.args.network.now _ c.listed.result c.in-Ok.outages c.listed.ensures c.in-Ok.is
