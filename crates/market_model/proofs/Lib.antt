@@ -4,6 +4,7 @@ pub mod ChangeLemmas
 pub mod Completeness
 pub mod FarkasLaw
 mod FarkasRows
+mod LimitCases
 pub mod MarketSums
 pub mod MorePlaces
 pub mod Optimum
