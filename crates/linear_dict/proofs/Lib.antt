@@ -12,3 +12,4 @@ pub mod RowLemmas
 pub mod SplitLemmas
 pub mod StartLemmas
 pub mod TableLemmas
+pub mod TestLemmas

@@ -2,8 +2,8 @@
 ghost use Rattle.std.specs.Prelude.{◌≡◌, length};
 ghost use Rattle.std.specs.Option.{IfSome};
 
-use crate::{Dict, Note, Place};
-use exact_fraction::{Exact, Frac, Frac63, Sign};
+use crate::{AddStop, Dict, Note, Place};
+use exact_fraction::{Exact, Frac, Frac63, Op, Passed, Sign};
 use std::alloc::Global;
 use std::cmp::Ordering;
 use std::process::Abort;
@@ -37,18 +37,23 @@ fn is_entry<N: Exact>(dict: &Dict<N>, r: usize, c: usize, value: N) -> bool {
         && dict.entry(r, c).order(value) == Ordering::Equal
 }
 
-/// A pivot where there is one, and whether it was taken.
-fn pivoted<N: Exact>(dict: &mut Dict<N>, r: usize, c: usize) -> bool {
+/// What a pivot answers, where there is one.
+fn pivot_at<N: Exact>(dict: &mut Dict<N>, r: usize, c: usize) -> Option<Result<(), Passed<N>>> {
     if dict.spent() {
-        return false;
+        return None;
     }
     if r >= dict.row_count() || c >= dict.column_count() {
-        return false;
+        return None;
     }
     match dict.entry(r, c).sign() {
-        Sign::Zero => false,
-        _ => dict.pivot(r, c).is_ok(),
+        Sign::Zero => None,
+        _ => Some(dict.pivot(r, c)),
     }
+}
+
+/// A pivot where there is one, and whether it was taken.
+fn pivoted<N: Exact>(dict: &mut Dict<N>, r: usize, c: usize) -> bool {
+    matches!(pivot_at(dict, r, c), Some(Ok(())))
 }
 
 /// Whether the names at two places are these.
@@ -99,14 +104,14 @@ fn wide<N: Exact>(rt: &impl Abort, alloc: Global) -> bool {
     dict.spent()
 }
 
-/// y = first x + second z, solved for x, and then a row more, third x + fourth z. Whether it was added.
+/// y = first x + second z, solved for x, and then a row more, third x + fourth z. With what adding it answers.
 fn then_added<N: Exact>(
     alloc: Global,
     names: [u32; 2],
     rows: [u32; 2],
     first: (N, N),
     second: (N, N),
-) -> Option<(Dict<N>, bool)> {
+) -> Option<(Dict<N>, Result<(), AddStop<N>>)> {
     if names[0] == names[1] || names[0] == rows[0] || names[1] == rows[0] {
         return None;
     }
@@ -127,7 +132,7 @@ fn then_added<N: Exact>(
         Ok(()) => {}
         Err(_) => return None,
     }
-    let added = dict.add_row(rows[1], &more).is_ok();
+    let added = dict.add_row(rows[1], &more);
     Some((dict, added))
 }
 
@@ -142,7 +147,7 @@ fn more_rows<N: Exact>(rt: &impl Abort, alloc: Global) {
         (N::of_parts(4, 1), N::of_parts(5, 1)),
     )
     .expect(rt, "memory");
-    assert!(rt; added && are_names(&dict, 1, 6, 1, 3));
+    assert!(rt; added.is_ok() && are_names(&dict, 1, 6, 1, 3));
     assert!(rt;
         is_entry(&dict, 1, 0, N::of_parts(2, 1)) && is_entry(&dict, 1, 1, N::of_parts(11, 1))
     );
@@ -151,7 +156,7 @@ fn more_rows<N: Exact>(rt: &impl Abort, alloc: Global) {
     );
     let (dict, added) = then_added(alloc, [7, 3], [5, 4], first, first).expect(rt, "memory");
     assert!(rt;
-        added
+        added.is_ok()
             && is_entry(&dict, 1, 0, N::of_parts(1, 1))
             && is_entry(&dict, 1, 1, N::of_parts(0, 1))
     );
@@ -169,7 +174,104 @@ fn wide_row<N: Exact>(rt: &impl Abort, alloc: Global) -> bool {
     )
     .expect(rt, "memory");
     assert!(rt; !is_entry(&dict, 1, 0, zero) && are_names(&dict, 0, 7, 0, 5));
-    added
+    added.is_ok()
+}
+
+/// 2^62 in 63 bits: twice it passes.
+fn big_63() -> Frac63 {
+    Frac63::of_parts(1 << 62, 1)
+}
+
+/// 2^126 in 127 bits: twice it passes.
+fn big_127(rt: &impl Abort) -> Frac {
+    let part = Frac::of_parts(1 << 42, 1);
+    let product = part.times(part).expect(rt, "within 127 bits");
+    product.times(part).expect(rt, "within 127 bits")
+}
+
+/// Whether a refusal names this operation with these sides.
+fn names_pair<N: Exact>(passed: &Passed<N>, op: Op, left: N, right: N) -> bool {
+    passed.op == op
+        && passed.left.order(left) == Ordering::Equal
+        && passed.right.order(right) == Ordering::Equal
+}
+
+/// y = first x + second z, solved for x: the row third x + fourth z is refused with these two numbers, and not there.
+fn refuses_row<N: Exact>(
+    rt: &impl Abort,
+    alloc: Global,
+    first: (N, N),
+    second: (N, N),
+    pair: (Op, N, N),
+) {
+    let (dict, added) = then_added(alloc, [7, 3], [5, 6], first, second).expect(rt, "memory");
+    match added {
+        Err(AddStop::Passed(passed)) => {
+            assert!(rt; names_pair(&passed, pair.0, pair.1, pair.2));
+        }
+        _ => assert!(rt; false),
+    }
+    assert!(rt; are_names(&dict, 0, 7, 0, 5) && !are_names(&dict, 1, 6, 0, 5));
+}
+
+/// x = 2y, and so `big` x has the entry `big` times 2. And x = y + `big` z, so x + z/2 has the sum of 1/2, of z itself, and
+/// `big`: by the names z comes first.
+fn refused_rows<N: Exact>(rt: &impl Abort, alloc: Global, big: N) {
+    let (zero, half) = (N::of_parts(0, 1), N::of_parts(1, 2));
+    let (one, two) = (N::of_parts(1, 1), N::of_parts(2, 1));
+    let product = (Op::Times, big, two);
+    refuses_row(rt, alloc, (half, zero), (big, zero), product);
+    let sum = (Op::Plus, half, big);
+    refuses_row(rt, alloc, (one, big.neg()), (one, half), sum);
+}
+
+/// Rows 8 and 9 over columns 7 and 3.
+fn two_rows<N: Exact>(alloc: Global, first: (N, N), second: (N, N)) -> Option<Dict<N>> {
+    let entries = pair(alloc, first)?;
+    let more = pair(alloc, second)?;
+    let mut dict = match Dict::start(alloc, &[7, 3], 8, &entries) {
+        Ok(dict) => dict,
+        Err(_) => return None,
+    };
+    match dict.add_row(9, &more) {
+        Ok(()) => Some(dict),
+        Err(_) => None,
+    }
+}
+
+/// Two rows over x and z: solving the first for x is refused with these two numbers, and the dictionary is spent.
+fn refuses_pivot<N: Exact>(
+    rt: &impl Abort,
+    alloc: Global,
+    first: (N, N),
+    second: (N, N),
+    pair: (Op, N, N),
+) {
+    let mut dict = two_rows(alloc, first, second).expect(rt, "memory");
+    match pivot_at(&mut dict, 0, 0) {
+        Some(Err(passed)) => assert!(rt; names_pair(&passed, pair.0, pair.1, pair.2)),
+        _ => assert!(rt; false),
+    }
+    assert!(rt; dict.spent());
+}
+
+/// In the row itself, y = x/2 + `big` z: the entry at z, turned, times the inverse of that at x.
+fn refused_in_the_row<N: Exact>(rt: &impl Abort, alloc: Global, big: N) {
+    let (zero, half) = (N::of_parts(0, 1), N::of_parts(1, 2));
+    let pair = (Op::Times, big.neg(), N::of_parts(2, 1));
+    refuses_pivot(rt, alloc, (half, big), (zero, zero), pair);
+}
+
+/// In another row: `big` x after x = 2y - 2z and after x = 2y, at z and at y, and x + z/2 after x = y - `big` z.
+fn refused_in_another<N: Exact>(rt: &impl Abort, alloc: Global, big: N) {
+    let (zero, half) = (N::of_parts(0, 1), N::of_parts(1, 2));
+    let (one, two) = (N::of_parts(1, 1), N::of_parts(2, 1));
+    let at_other = (Op::Times, big, two.neg());
+    refuses_pivot(rt, alloc, (half, one), (big, zero), at_other);
+    let at_leaving = (Op::Times, big, two);
+    refuses_pivot(rt, alloc, (half, zero), (big, zero), at_leaving);
+    let sum = (Op::Plus, half, big.neg());
+    refuses_pivot(rt, alloc, (one, big), (one, half), sum);
 }
 
 /// The place of the least name.
@@ -248,4 +350,18 @@ fn a_refused_row_is_not_added(rt: HostRuntime) {
 fn names_places_and_notes(rt: HostRuntime) {
     names::<Frac>(&rt, rt.alloc());
     names::<Frac63>(&rt, rt.alloc());
+}
+
+#[test]
+fn a_refused_row_names_two_numbers(rt: HostRuntime) {
+    refused_rows(&rt, rt.alloc(), big_63());
+    refused_rows(&rt, rt.alloc(), big_127(&rt));
+}
+
+#[test]
+fn a_refused_pivot_names_two_numbers(rt: HostRuntime) {
+    refused_in_the_row(&rt, rt.alloc(), big_63());
+    refused_in_the_row(&rt, rt.alloc(), big_127(&rt));
+    refused_in_another(&rt, rt.alloc(), big_63());
+    refused_in_another(&rt, rt.alloc(), big_127(&rt));
 }

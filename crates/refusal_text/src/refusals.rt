@@ -35,9 +35,7 @@ pub enum Refusal {
     /// The rows of the case are no network.
     Network(NetFault),
     /// The number of the first bus that no live branches join to the first one.
-    Split {
-        bus: u32,
-    },
+    Split { bus: u32 },
     /// A table of numbers by branch.
     Table(Input, TableFault),
     /// The outages that are asked for.

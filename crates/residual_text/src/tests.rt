@@ -1,3 +1,9 @@
+//! The text of residuals, and below it the tables of factors of small networks, whose values are worked by hand.
+
+mod networks;
+mod residuals;
+mod tables;
+
 use crate::residuals_text;
 use factor_residuals::{Residual, Spot};
 use std::test::Fail;

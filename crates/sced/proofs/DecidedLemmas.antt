@@ -1,6 +1,6 @@
 -- A text and a status that are right decide whether a dispatch is feasible, where no working pair passes the bound.
 use Rattle.std.specs.Prelude.{◌≡◌, ℕ, true, false, List, Option, Some, None, Ok}
-use Rattle.std.proofs.Common.{refl, sym, subst, ◌∙◌, inl, inr}
+use Rattle.std.proofs.Common.{refl, sym, subst, ◌∙◌}
 use Rattle.fraction_theory.specs.Fraction.{Fraction}
 use Rattle.outside_store.specs.Files.{Files}
 use Rattle.market_model.specs.declared.participants.Parts.{Parts}
@@ -14,7 +14,7 @@ use Rattle.market_model.proofs.Completeness.{law_of_completeness}
 use Rattle.sced.specs.declared.status.Status.{Status}
 use Rattle.sced.specs.declared.status.Status.TheVariants as status
 use Rattle.sced.specs.Words.{refuses}
-use Rattle.sced.proofs.WordsLemmas.{asks-once}
+use Rattle.sced.proofs.WordsLemmas.{asks-once, not-both}
 use Rattle.sced.specs.Pooling.{most_size, pool_market, status_of, ComesTo, FilesPoolTo}
 use Rattle.sced.specs.Told.{AnswersTo, refused, pooled, checked, IsDecidedOf}
 
@@ -41,17 +41,20 @@ same-bytes a b e = Prim.cc
 
 pub answers-decided : (files : Option Files) (words : List (List ℕ)) (s : Status) (text : List ℕ) → AnswersTo files words s text → IsDecidedOf files words s
 answers-decided None words s text right = tt
-answers-decided (Some files) words s text (inl (nothing, usage)) = record {
-  decided = λ case offers case_bytes offers_bytes m asks case_is offers_is market_is none. absurd (both nothing asks.taken);
+answers-decided (Some files) words s text (refused nothing usage) = record {
+  decided = λ case offers case_bytes offers_bytes m asks case_is offers_is market_is none. absurd (both nothing asks.enters.taken);
 }
   where
     both : refuses words ≡ true → refuses words ≡ false → ⊥
-    both taken refused = Prim.cc
-answers-decided (Some files) words s text (inr (case_asked, offers_asked, asked, pooled)) = record {
+    both taken given = Prim.cc
+answers-decided (Some files) words s text (checked names asked told) = record {
+  decided = λ case offers case_bytes offers_bytes m asks case_is offers_is market_is none. absurd (not-both words case offers names asks asked);
+}
+answers-decided (Some files) words s text (pooled case_asked offers_asked asked told) = record {
   decided = λ case offers case_bytes offers_bytes m asks case_is offers_is market_is none.
       let same = asks-once words case_asked offers_asked case offers asked asks in
       by_files case offers case_bytes offers_bytes m case_is offers_is market_is none
-      (subst (λ o. FilesPoolTo (Some files) case o s text) same.1 (subst (λ c. FilesPoolTo (Some files) c offers_asked s text) same.0 pooled));
+      (subst (λ o. FilesPoolTo (Some files) case o s text) same.1 (subst (λ c. FilesPoolTo (Some files) c offers_asked s text) same.0 told));
 }
   where
     by_files : (case offers case_bytes offers_bytes : List ℕ) (m : Parts) → files case ≡ Some case_bytes → files offers ≡ Some offers_bytes → pool_market case_bytes offers_bytes ≡ Ok m

@@ -1,5 +1,5 @@
 -- The command is one of which every refusal is known, and what it takes is what the words ask for.
-use Rattle.std.proofs.Common.{◌≡◌, ◌≢◌, ◌⊎◌, ◌∙◌, refl, sym, ap, arith, Bool, true, false, List, [], ◌∷◌, Result, Ok, Err, inl, inr, Option, Some, None, option_map, slice_index, codes}
+use Rattle.std.proofs.Common.{◌≡◌, ◌≢◌, ◌⊎◌, ◌∙◌, refl, sym, ap, arith, ℕ, Bool, true, false, List, [], ◌∷◌, Result, Ok, Err, inl, inr, Option, Some, None, option_map, slice_index, codes}
 use Rattle.std.specs.Box.{box_value}
 use Rattle.std.specs.Prelude.{Box, find, unwrap_or}
 use Rattle.clap.specs.Simple.{Shape, built, built_leaf, entered, inherited, label_of, marked_built, on_top, subcommand_rows}
@@ -103,8 +103,10 @@ asks-once words case offers case' offers' asks asks' =
 pub not-both : (words : List Text) (case offers : Text) (names : CheckNames) → AsksPool words case offers → AsksCheck words names → ⊥
 not-both words case offers names pool check =
     let same : codes "pool" ≡ codes "check" = (enters-once words _ _ pool.rows check.rows pool.enters check.enters).0 in
-    let bad : 112 ≡ 99 = ap (λ (t : Text). slice_index t 0) same in
-    absurd (omega arith)
+    apart (ap (λ (t : Text). slice_index t 0) same)
+  where
+    apart : ◌≡◌ {A = ℕ} 112 99 → ⊥
+    apart bad = omega arith
 
 -- ---- which subcommand was entered
 -- one that is found is among those that were searched

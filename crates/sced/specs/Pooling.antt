@@ -1,15 +1,12 @@
 -- What the bytes of a case and of offers stand for, and the text that is right for them.
-use Rattle.std.specs.Prelude.{◌≡◌, ◌⊎◌, ℕ, nat_lt, List, [], length, Option, Some, None, Result, Ok, Err, if◌then◌else◌, ◌-◌, ◌^◌}
+use Rattle.std.specs.Prelude.{◌≡◌, ℕ, nat_lt, List, [], length, Option, Some, None, Result, Ok, Err, if◌then◌else◌, ◌-◌, ◌^◌}
 use Rattle.fraction_theory.specs.Fraction.{Fraction}
 use Rattle.csv_table.specs.Table.{and_then}
 use Rattle.outside_store.specs.Files.{Files}
 use Rattle.market_model.specs.declared.participants.Parts.{Parts}
 use Rattle.market_model.specs.declared.answered.Outcome.{Outcome}
 use Rattle.market_model.specs.declared.answered.Outcome.TheVariants as outcome
-use Rattle.market_model.specs.Dispatch.{Dispatch}
 use Rattle.market_model.specs.Market.{IsMarket}
-use Rattle.market_model.specs.Optimality.{Feasible}
-use Rattle.market_model.specs.WorkingPairs.{NoPairPasses}
 use Rattle.market_model.specs.Outcomes.{IsRightOutcome}
 use Rattle.market_model.specs.Reports.{report_text}
 use Rattle.merit_order.specs.Clearing.{IsPlainPrice}

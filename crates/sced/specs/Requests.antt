@@ -1,5 +1,5 @@
 -- What the words ask for, in the terms of their reading.
-use Rattle.std.specs.Prelude.{◌≡◌, List, option_map}
+use Rattle.std.specs.Prelude.{List, option_map}
 use Rattle.clap.specs.Words.{Text}
 use Rattle.sced.specs.Words.{AsksCheck, AsksPool, CheckNames}
 use Rattle.sced.specs.declared.words.CheckFiles.{CheckFiles}

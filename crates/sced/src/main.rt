@@ -45,6 +45,8 @@ fn main(rt: HostRuntime) -> ExitCode {
 }
 
 #[cfg(test)]
+mod check_tests;
+#[cfg(test)]
 mod network_tests;
 #[cfg(test)]
 mod tests;

@@ -1,4 +1,4 @@
-//! Branch rows, which no subcommand reads yet.
+//! Branch rows, as the network of a case tells them.
 
 use case_text::read_case;
 use net_case::{Branches, PostRating, network, reactances};

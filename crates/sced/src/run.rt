@@ -204,9 +204,9 @@ fn read_table<S: Store>(
     header: &[u8],
 ) -> Result<Vec<u8>, Status>
     ensures same { SameFiles (S.files store.old) (S.files store.new) }
-    ensures bytes { IfOk result (λ bytes. ReadsTable (S.files store.old) (option_map (λ n. n.now) name) header.now bytes.items) }
+    ensures bytes { IfOk result (λ bytes. ReadsTable (S.files store.old) (option_map (λ n. n.now) name.entry) header.now bytes.items) }
     ensures stop { IfErr result IsSilent }
-    ensures failed { result ≡ Err Status.ReadFailed → (file : List ℕ) × (option_map (λ n. n.now) name ≡ Some file) × Rose (S.failed_reads store.old file) (S.failed_reads store.new file) }
+    ensures failed { result ≡ Err Status.ReadFailed → (file : List ℕ) × (option_map (λ n. n.now) name.entry ≡ Some file) × Rose (S.failed_reads store.old file) (S.failed_reads store.new file) }
     ensures reads { ¬ (result ≡ Err Status.ReadFailed) → Still (S.failed_reads store.old) (S.failed_reads store.new) }
     ensures writes { Still (S.failed_writes store.old) (S.failed_writes store.new) }
 {

@@ -416,6 +416,12 @@ fn refuses_words(rt: HostRuntime) -> Result<(), Fail> {
         ["sced", "pool", "--help"].as_slice(),
         (Status::Usage, usage),
     )?;
+    let check = "Usage: sced check [OPTIONS] --case <case> --ptdf <ptdf>\n";
+    over_no_file(
+        &rt,
+        ["sced", "check", "-h"].as_slice(),
+        (Status::Usage, check),
+    )?;
     over_no_file(
         &rt,
         ["sced", "clear", "--case", "a"].as_slice(),

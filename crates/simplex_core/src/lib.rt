@@ -16,4 +16,6 @@ pub use posing::pose;
 pub use solving::{Posed, Run, Solved};
 
 #[cfg(test)]
+mod refusals;
+#[cfg(test)]
 mod tests;

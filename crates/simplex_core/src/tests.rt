@@ -21,7 +21,7 @@ fn fraction<N: Exact>(num: i64, den: u64) -> N {
 }
 
 /// From the one to the other, or the first alone where they are turned.
-fn between<N: Exact>(low: N, high: N) -> Bounds<N>
+pub(crate) fn between<N: Exact>(low: N, high: N) -> Bounds<N>
     ensures { N.value result.low ≤ℚ N.value result.high }
 {
     match low.order(high) {

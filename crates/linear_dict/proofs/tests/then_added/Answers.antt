@@ -42,9 +42,9 @@ pivot-requires g c = record {
   entry = λ z. not_nil_by_sign (g.N.Exact.value c.entry.result) c.sign.result c.sign.ensures c.in_default.not-Zero (c.entry.ensures.value ∙ z);
 }
 
-pub add_row-requires : goal.add_row-requires
+pub add_row-added-requires : goal.add_row-added-requires
 unfolding pivoted
-add_row-requires g c =
+add_row-added-requires g c =
     let s = c.in-Ok.ensures in
     let after = c.in-Ok-pivot.ensures.pivoted in
     let l : length c.args.names ≡ 2 = sym (ap length s.others) ∙ two_columns s (ap length c.deref.ensures.value ∙ c.in_ok-entries.ensures) in record {

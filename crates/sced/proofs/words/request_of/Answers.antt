@@ -1,10 +1,8 @@
 use Rattle.std.proofs.Common.{◌≡◌, ◌≢◌, ◌∙◌, sym, ap, Some, option_map, true, false, List, codes}
-use Rattle.std.specs.Str.{bytes_eq}
 use Rattle.std.proofs.lemmas.Slice.Eq.{bytes_eq-Decides}
-use Rattle.clap.specs.Words.{App, Row, Text, app_of, found_of, rows_of, subcommand_name_of, subcommand_of, subcommand_rows_of}
+use Rattle.clap.specs.Words.{App, Row, Text, app_of, found_of, rows_of, subcommand_name_of, subcommand_rows_of}
 use Rattle.clap.specs.declared.builder.command.Command.TheViews.{out-Command}
 use Rattle.clap.proofs.CallerLemmas.{subcommand_required}
-use Rattle.sced.specs.Words.{Enters, sced_app}
 use Rattle.sced.proofs.WordsLemmas.{both_of, entered_by, entered-check, is_free, is_needed, is_plain, refused_by, taken_by}
 use Rattle.sced.proofs.words.request_of.Goals as goal
 

@@ -1,5 +1,5 @@
 use Rattle.std.proofs.Common.{◌≡◌, ◌∙◌, List, ℕ, [], ◌∷◌, ◌++◌, arith, ap, lit<}
-use Rattle.simplex_core.proofs.TestLemmas.{is_new, above_one, above_two, above_three}
+use Rattle.linear_dict.proofs.TestLemmas.{is_new, above_one, above_two, above_three}
 use Rattle.simplex_core.proofs.tests.dictionary.Goals as goal
 
 pub add-requires-clause-absent : goal.add-requires-clause-absent
