@@ -4,6 +4,7 @@ pub mod ChangeLemmas
 pub mod Completeness
 pub mod FarkasLaw
 mod FarkasRows
+mod LimitCases
 pub mod MarketSums
 pub mod MorePlaces
 pub mod Optimum
@@ -13,6 +14,7 @@ pub mod PlainMarkets
 mod RangeRows
 pub mod ReportReading
 pub mod RightReports
+pub mod RowLaws
 mod Rows
 pub mod SystemLaws
 pub mod TableLemmas

@@ -1,5 +1,5 @@
--- A supported dispatch is best, and in balance nothing is left over.
-use Rattle.std.specs.Prelude.{◌≡◌, ℕ, pos, [], ◌∷◌, length, map, refl}
+-- A supported dispatch is best, and what is left over is what limits earn.
+use Rattle.std.specs.Prelude.{◌≡◌, ℕ, pos, List, [], ◌∷◌, length, map, refl}
 use Rattle.std.proofs.Common.{ap, sym, ◌∙◌, subst, subst₂}
 use mathlib.Core.Path.{ap₂}
 use Rattle.fraction_theory.specs.Fraction.{Fraction, whole, ◌+ℚ◌, ◌-ℚ◌, ◌*ℚ◌, neg_ℚ}
@@ -7,7 +7,7 @@ use Rattle.fraction_theory.specs.Order.{◌≤ℚ◌}
 use Rattle.fraction_theory.specs.Sums.{sum_by, Product}
 use Rattle.fraction_theory.proofs.Ring.{neg_times, by_ring, by_ring1, at, pnil, pone, pneg, ◌⊕◌, ◌⊗◌}
 use Rattle.fraction_theory.proofs.FieldLaws.{ring_ℚ}
-use Rattle.fraction_theory.proofs.OrderLaws.{by_le1, NonNeg_from, NonNeg-one, not-≤ℚ}
+use Rattle.fraction_theory.proofs.OrderLaws.{by_le1, by_le2, NonNeg_from, NonNeg-one, not-≤ℚ}
 use Rattle.fraction_theory.proofs.SumLaws.{sum_by-plus, sum_by-same, sum_by-≤, total-append, total-Product}
 use Rattle.fraction_theory.proofs.Duality.{supports_best}
 use Rattle.market_model.specs.declared.participants.Parts.{Parts}
@@ -16,11 +16,13 @@ use Rattle.market_model.specs.declared.participants.Side.TheVariants.{Sell, Buy}
 use Rattle.market_model.specs.declared.answered.Duals.{Duals}
 use Rattle.market_model.specs.Market.{IsMarket}
 use Rattle.market_model.specs.Dispatch.{Dispatch, places, block_at, block_bus, unit_at, signed, accepted, quantity, raised_by, injection, balance, output, demand}
-use Rattle.market_model.specs.Optimality.{Feasible, Supports, Gains, Loses, price, block_value, welfare, bus_price, unit_price}
+use Rattle.market_model.specs.Optimality.{Feasible, Supports, Gains, Loses, price, block_value, welfare, pull, bus_price, unit_price}
 use Rattle.market_model.specs.Settlement.{surplus}
-use Rattle.market_model.specs.Laws.{LawOfTheOptimum, LawOfTheSurplus}
+use Rattle.market_model.specs.Laws.{LawOfTheOptimum, LawOfTheSurplus, LawOfItsSign, LawOfNoLimits}
+use Rattle.market_model.proofs.RowLaws.{pulls, priced-by_pulls, pulls-rents, pulls-most, rents-sign}
+use Rattle.market_model.specs.LimitRows.{Row, flow, row_offset}
 use Rattle.market_model.proofs.PlaceSums.{places_all}
-use Rattle.market_model.proofs.MarketSums.{sum_by-neg, fixed_part, priced_injections-by_parts, priced_injections-by_outputs, one_price}
+use Rattle.market_model.proofs.MarketSums.{sum_by-neg, fixed_part, priced_injections-by_parts, priced_injections-by_outputs}
 
 -- the welfare as a sum over blocks
 pub welfare-by_blocks : (m : Parts) (x : Dispatch) → welfare m x ≡ sum_by (λ j. block_value m j *ℚ accepted x j) (places (length m.blocks))
@@ -69,29 +71,34 @@ greatest_gains m d x y fx s fy =
     of_block : Dispatch → ℕ → Fraction
     of_block t j = gain (block_at m j).side (price m j) (unit_price m d (block_at m j).unit) (accepted t j)
 
--- the injections of a dispatch in balance come to 0 at the prices of all buses
-pub priced_injections-nil : (m : Parts) (d : Duals Fraction) (x : Dispatch) → balance m x ≡ whole (pos 0)
-    → sum_by (λ i. bus_price m d i *ℚ injection m x i) (places (length m.buses)) ≡ whole (pos 0)
-unfolding bus_price
-priced_injections-nil m d x e = one_price m x d.energy ∙ by_ring1 ring_ℚ (d.energy ∷ balance m x ∷ []) (at 0 ⊗ at 1) pnil (at 0) (at 1) pnil e refl
+-- the injections of a dispatch in balance, at bus prices, are the opposite of what the rows pull
+pub priced_injections-balanced : (m : Parts) (d : Duals Fraction) (x : Dispatch) → balance m x ≡ whole (pos 0)
+    → sum_by (λ i. bus_price m d i *ℚ injection m x i) (places (length m.buses)) ≡ neg_ℚ (pulls m d x)
+priced_injections-balanced m d x e =
+    priced-by_pulls m d x
+    ∙ by_ring1 ring_ℚ (d.energy ∷ balance m x ∷ pulls m d x ∷ []) (at 0 ⊗ at 1 ⊕ pneg (at 2)) (pneg (at 2)) (at 0) (at 1) pnil e refl
 
--- what the blocks raise, at the prices of their buses, is the same for all dispatches in balance
-pub priced_raises : (m : Parts) (d : Duals Fraction) (x y : Dispatch) → IsMarket m → balance m x ≡ whole (pos 0) → balance m y ≡ whole (pos 0)
-    → sum_by (λ j. bus_price m d (block_bus m j) *ℚ raised_by m x j) (places (length m.blocks)) ≡ sum_by (λ j. bus_price m d (block_bus m j) *ℚ raised_by m y j) (places (length m.blocks))
-priced_raises m d x y h ex ey =
-    let units : Fraction = sum_by (λ u. bus_price m d (unit_at m u).bus *ℚ fixed_part m u) (places (length m.units)) in
-    let loads : Fraction = sum_by (λ i. bus_price m d i *ℚ demand m i) (places (length m.buses)) in
-    let bx : Fraction = sum_by (λ j. bus_price m d (block_bus m j) *ℚ raised_by m x j) (places (length m.blocks)) in
-    let by : Fraction = sum_by (λ j. bus_price m d (block_bus m j) *ℚ raised_by m y j) (places (length m.blocks)) in
-    by_ring1 ring_ℚ (units ∷ bx ∷ by ∷ loads ∷ []) (at 1) (at 2) pone ((at 0 ⊕ at 1) ⊕ pneg (at 3)) ((at 0 ⊕ at 2) ⊕ pneg (at 3))
-    (sym (priced_injections-by_parts m x (bus_price m d) h) ∙ priced_injections-nil m d x ex ∙ sym (priced_injections-nil m d y ey) ∙ priced_injections-by_parts m y (bus_price m d) h) refl
+-- what the blocks raise, at the prices of their buses, is the least where the duals support the dispatch
+pub priced_raises : (m : Parts) (d : Duals Fraction) (x y : Dispatch) → IsMarket m → Feasible m x → Supports m x d → Feasible m y
+    → ((sum_by (λ u. bus_price m d (unit_at m u).bus *ℚ fixed_part m u) (places (length m.units)) +ℚ sum_by (λ j. bus_price m d (block_bus m j) *ℚ raised_by m x j) (places (length m.blocks)))
+    -ℚ sum_by (λ i. bus_price m d i *ℚ demand m i) (places (length m.buses)))
+    ≤ℚ ((sum_by (λ u. bus_price m d (unit_at m u).bus *ℚ fixed_part m u) (places (length m.units)) +ℚ sum_by (λ j. bus_price m d (block_bus m j) *ℚ raised_by m y j) (places (length m.blocks)))
+    -ℚ sum_by (λ i. bus_price m d i *ℚ demand m i) (places (length m.buses)))
+priced_raises m d x y h fx s fy =
+    subst₂ ◌≤ℚ◌
+    (sym (priced_injections-balanced m d x fx.balanced) ∙ priced_injections-by_parts m x (bus_price m d) h)
+    (sym (priced_injections-balanced m d y fy.balanced) ∙ priced_injections-by_parts m y (bus_price m d) h)
+    (by_le1 (pulls m d x ∷ pulls m d y ∷ []) (pneg (at 0)) (pneg (at 1)) pone (at 1) (at 0) NonNeg-one (pulls-most m d x s y fy) refl)
 
 pub law_of_the_optimum : LawOfTheOptimum
 law_of_the_optimum m d x y h fx s fy =
-    let raised : Fraction = sum_by (λ j. bus_price m d (block_bus m j) *ℚ raised_by m x j) (places (length m.blocks)) in
-    let same = priced_raises m d y x h fy.balanced fx.balanced in
-    by_le1 (welfare m y ∷ welfare m x ∷ raised ∷ []) (at 0) (at 1) pone (at 0 ⊕ at 2) (at 1 ⊕ at 2) NonNeg-one
-    (subst (λ t. (welfare m y +ℚ t) ≤ℚ (welfare m x +ℚ raised)) same (greatest_gains m d x y fx s fy)) refl
+    let units : Fraction = sum_by (λ u. bus_price m d (unit_at m u).bus *ℚ fixed_part m u) (places (length m.units)) in
+    let loads : Fraction = sum_by (λ i. bus_price m d i *ℚ demand m i) (places (length m.buses)) in
+    let of_x : Fraction = sum_by (λ j. bus_price m d (block_bus m j) *ℚ raised_by m x j) (places (length m.blocks)) in
+    let of_y : Fraction = sum_by (λ j. bus_price m d (block_bus m j) *ℚ raised_by m y j) (places (length m.blocks)) in
+    by_le2 (welfare m y ∷ welfare m x ∷ of_x ∷ of_y ∷ units ∷ loads ∷ []) (at 0) (at 1)
+    pone (at 0 ⊕ at 3) (at 1 ⊕ at 2) pone ((at 4 ⊕ at 2) ⊕ pneg (at 5)) ((at 4 ⊕ at 3) ⊕ pneg (at 5))
+    NonNeg-one (greatest_gains m d x y fx s fy) NonNeg-one (priced_raises m d x y h fx s fy) refl
 
 -- the surplus is the opposite of the injections at bus prices
 pub surplus-by_injections : (m : Parts) (d : Duals Fraction) (x : Dispatch) → IsMarket m
@@ -108,5 +115,17 @@ surplus-by_injections m d x h =
     ∙ by_ring ring_ℚ (loads ∷ units ∷ []) (at 0 ⊕ pneg (at 1)) (pneg (at 1 ⊕ pneg (at 0))) refl
     ∙ ap neg_ℚ (sym (priced_injections-by_outputs m x (bus_price m d) h))
 
+-- in balance the surplus is what the rows pull
+pub surplus-by_pulls : (m : Parts) (d : Duals Fraction) (x : Dispatch) → IsMarket m → balance m x ≡ whole (pos 0) → surplus m x d ≡ pulls m d x
+surplus-by_pulls m d x h e =
+    surplus-by_injections m d x h ∙ ap neg_ℚ (priced_injections-balanced m d x e) ∙ by_ring ring_ℚ (pulls m d x ∷ []) (pneg (pneg (at 0))) (at 0) refl
+
 pub law_of_the_surplus : LawOfTheSurplus
-law_of_the_surplus m d x h e = surplus-by_injections m d x h ∙ ap neg_ℚ (priced_injections-nil m d x e) ∙ by_ring ring_ℚ [] (pneg pnil) pnil refl
+law_of_the_surplus m d x h f s = surplus-by_pulls m d x h f.balanced ∙ pulls-rents m d x s
+
+pub law_of_its_sign : LawOfItsSign
+law_of_its_sign m d x h f s within = subst (λ t. whole (pos 0) ≤ℚ t) (sym (law_of_the_surplus m d x h f s)) (rents-sign m d x s within)
+
+pub law_of_no_limits : LawOfNoLimits
+law_of_no_limits m d x h none e =
+    surplus-by_pulls m d x h e ∙ ap (λ (rs : List Row). sum_by (λ r. pull m d r *ℚ (flow m x r -ℚ row_offset m r)) rs) none

@@ -21,7 +21,8 @@ use Rattle.market_model.specs.Stairs.{stair_in}
 use Rattle.market_model.proofs.PlainMarkets.{plain_market, distinct_by_rise}
 use Rattle.market_model.specs.Market.{IsMarket, IsBlock, HasRoom}
 use Rattle.market_model.specs.Dispatch.{Dispatch, injection, balance, accepted, quantity}
-use Rattle.market_model.specs.Optimality.{Feasible, Supports, BlockSupported, welfare_terms, bus_price}
+use Rattle.market_model.specs.Optimality.{Feasible, Supports, BlockSupported, welfare_terms}
+use Rattle.market_model.proofs.RowLaws.{no_rows, supported_bare, supports_bare, feasible_bare}
 use Rattle.market_model.specs.NamedSums.{term_at}
 use Rattle.market_model.specs.WorkingPairs.{IsRangeOf}
 use Rattle.market_model.proofs.SystemLaws.{block_choice, block_choice_is}
@@ -104,7 +105,7 @@ unfolding balance injection ◌+ℚ◌ ◌*ℚ◌ neg_ℚ over whole gcd gcd_in
 big_buses-balance = same_fraction (balance big_buses all_sold) (whole (pos 0)) refl refl
 
 big_buses-feasible : Feasible big_buses all_sold
-big_buses-feasible = record { blocks = record { count = refl; above = above; within = within }; balanced = big_buses-balance }
+big_buses-feasible = feasible_bare big_buses all_sold (no_rows big_buses refl) (record { count = refl; above = above; within = within }) big_buses-balance
   where
     above : (j : ℕ) → j < 3 → whole (pos 0) ≤ℚ accepted all_sold j
     above zero h = whole-≤ℚ (pos 0) (pos most) (Prim.omega (arith, ints))
@@ -119,13 +120,12 @@ big_buses-feasible = record { blocks = record { count = refl; above = above; wit
     within (suc (suc (suc j))) h = absurd (Prim.omega arith)
 
 big_buses-supports : Supports big_buses all_sold at_most_price
-unfolding bus_price
-big_buses-supports = record { blocks = blocks }
+big_buses-supports = supports_bare big_buses at_most_price all_sold (no_rows big_buses refl) blocks
   where
     blocks : (j : ℕ) → j < 3 → BlockSupported big_buses all_sold at_most_price j
-    blocks zero h = record { full = λ k. refl; empty = λ k. absurd (<ℚ_irrefl (whole (pos most)) k) }
-    blocks (suc zero) h = record { full = λ k. refl; empty = λ k. absurd (<ℚ_irrefl (whole (pos most)) k) }
-    blocks (suc (suc zero)) h = record { full = λ k. refl; empty = λ k. absurd (<ℚ_irrefl (whole (pos most)) k) }
+    blocks zero h = supported_bare big_buses at_most_price all_sold (no_rows big_buses refl) 0 (λ k. refl) (λ k. absurd (<ℚ_irrefl (whole (pos most)) k))
+    blocks (suc zero) h = supported_bare big_buses at_most_price all_sold (no_rows big_buses refl) 1 (λ k. refl) (λ k. absurd (<ℚ_irrefl (whole (pos most)) k))
+    blocks (suc (suc zero)) h = supported_bare big_buses at_most_price all_sold (no_rows big_buses refl) 2 (λ k. refl) (λ k. absurd (<ℚ_irrefl (whole (pos most)) k))
     blocks (suc (suc (suc j))) h = absurd (Prim.omega arith)
 
 all_high : ℕ → Bool
@@ -165,5 +165,5 @@ passes = inr (inr (inl (Prim.omega arith)))
 
 pub big_buses-range : IsRangeOf big_buses (2 ^ 127 - 1) too_large
 big_buses-range =
-    range_of_welfare big_buses all_sold at_most_price big_buses-feasible big_buses-supports big_buses-chosen (2 ^ 127 - 1) too_large
+    range_of_welfare big_buses (no_rows big_buses refl) all_sold at_most_price big_buses-feasible big_buses-supports big_buses-chosen (2 ^ 127 - 1) too_large
     (record { step = (2, record { inside = Prim.omega arith; before = inl (sym left_is); next = inl (sym right_is) }); passes = passes })

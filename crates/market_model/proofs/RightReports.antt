@@ -1,5 +1,5 @@
 -- A right outcome is one that its report tells whole.
-use Rattle.std.specs.Prelude.{◌≡◌, ℕ, List, [], ◌∷◌, ◌++◌, codes, refl}
+use Rattle.std.specs.Prelude.{◌≡◌, ℕ, List, [], ◌∷◌, ◌++◌, codes, map, refl}
 use Rattle.std.specs.List.{flat_map}
 use Rattle.std.proofs.Common.{ap, sym, ◌∙◌, arith, append_assoc}
 use Rattle.std.proofs.lemmas.List.{get_or_default, append_cancel_left}
@@ -16,21 +16,23 @@ use Rattle.market_model.specs.declared.answered.Outcome.TheVariants as outcome
 use Rattle.market_model.specs.declared.answered.Price.{Price}
 use Rattle.market_model.specs.Dispatch.{zero}
 use Rattle.market_model.specs.Infeasibility.{IsFarkas}
-use Rattle.market_model.specs.Outcomes.{IsRight}
+use Rattle.market_model.specs.LimitRows.{Row, rows}
+use Rattle.market_model.specs.Outcomes.{IsRight, dispatch_in, rent_of}
+use Rattle.market_model.proofs.RowLaws.{no_rows, no_limits, named_rows-bare}
 use Rattle.market_model.specs.Reports.{head_text, cleared_text, limit_text, bound_text, plain_energy_text, infeasible_text, op_text, range_text}
 use Rattle.market_model.specs.ReportLaws.{FitsReport, RightReportsApart}
 use Rattle.market_model.proofs.Amounts.{head_of, two_apart, parts_line_apart}
 use Rattle.market_model.proofs.ReportReading.{same_duals, reports_apart}
 
-fits_by_right : (m : Parts) (a : Answer Fraction) → IsRight m a → FitsReport m a
-fits_by_right m a right = record {
+fits_by_right : (m : Parts) (a : Answer Fraction) → rows m ≡ [] → IsRight m a → FitsReport m a
+fits_by_right m a bare right = record {
   dispatch = right.feasible.blocks.count;
   prices = right.price_count;
   units = right.unit_count;
   loads = right.load_count;
   energy = λ i d lt. ap (λ (p : Price Fraction). p.energy) (get_or_default a.prices i d (record { energy = zero; congestion = zero; total = zero }) lt ∙ right.prices i (Prim.omega (arith, lt, right.price_count)));
-  limits = right.no_limits;
-  rents = right.no_rents;
+  limits = no_limits m a.duals bare right.proper;
+  rents = right.rents ∙ ap (λ (rs : List Row). map (rent_of m (dispatch_in a) a.duals) rs) (named_rows-bare m a.duals bare);
 }
 
 -- ---- infeasible
@@ -49,11 +51,11 @@ same_farkas f g p q =
     let make : Duals Fraction → Fraction → Farkas Fraction = λ d b. record { duals = d; bound = b } in
     ap (λ d. make d f.bound) p ∙ ap (make g.duals) q
 
-farkas_apart : (m : Parts) (f g : Farkas Fraction) → IsFarkas m f → IsFarkas m g → infeasible_text f ≡ infeasible_text g → f ≡ g
-farkas_apart m f g p q e =
+farkas_apart : (m : Parts) (f g : Farkas Fraction) → rows m ≡ [] → IsFarkas m f → IsFarkas m g → infeasible_text f ≡ infeasible_text g → f ≡ g
+farkas_apart m f g bare p q e =
     let t = two_apart (codes "infeasible\nbound ") 9 0 10 (codes "energy ") f.bound g.bound f.duals.energy g.duals.energy [] [] (Prim.omega arith)
-    (sym (told f p.shows.no_limits) ∙ e ∙ told g q.shows.no_limits) in
-    same_farkas f g (same_duals f.duals g.duals t.1 (p.shows.no_limits ∙ sym q.shows.no_limits)) t.0
+    (sym (told f (no_limits m f.duals bare p.proper)) ∙ e ∙ told g (no_limits m g.duals bare q.proper)) in
+    same_farkas f g (same_duals f.duals g.duals t.1 ((no_limits m f.duals bare p.proper) ∙ sym (no_limits m g.duals bare q.proper))) t.0
 
 -- ---- range
 same_passed : (p q : Passed Fraction) → p.op ≡ q.op → (p.left ≡ q.left) × (p.right ≡ q.right) → p ≡ q
@@ -97,12 +99,12 @@ passed_apart p q e =
 -- ---- all together: the first letter tells which of the three it is
 pub right_reports_apart : RightReportsApart
 unfolding cleared_text head_text infeasible_text range_text
-right_reports_apart bound m (outcome.Cleared a) (outcome.Cleared b) p q e = ap outcome.Cleared (reports_apart m a b (fits_by_right m a p) (fits_by_right m b q) e)
-right_reports_apart bound m (outcome.Cleared a) (outcome.Infeasible g) p q e = absurd (Prim.omega (arith, head_of 99 105 _ _ e))
-right_reports_apart bound m (outcome.Cleared a) (outcome.Range s) p q e = absurd (Prim.omega (arith, head_of 99 114 _ _ e))
-right_reports_apart bound m (outcome.Infeasible f) (outcome.Cleared b) p q e = absurd (Prim.omega (arith, head_of 105 99 _ _ e))
-right_reports_apart bound m (outcome.Infeasible f) (outcome.Infeasible g) p q e = ap outcome.Infeasible (farkas_apart m f g p q e)
-right_reports_apart bound m (outcome.Infeasible f) (outcome.Range s) p q e = absurd (Prim.omega (arith, head_of 105 114 _ _ e))
-right_reports_apart bound m (outcome.Range r) (outcome.Cleared b) p q e = absurd (Prim.omega (arith, head_of 114 99 _ _ e))
-right_reports_apart bound m (outcome.Range r) (outcome.Infeasible g) p q e = absurd (Prim.omega (arith, head_of 114 105 _ _ e))
-right_reports_apart bound m (outcome.Range r) (outcome.Range s) p q e = ap outcome.Range (passed_apart r s e)
+right_reports_apart bound m (outcome.Cleared a) (outcome.Cleared b) none p q e = ap outcome.Cleared (reports_apart m a b (fits_by_right m a (no_rows m none) p) (fits_by_right m b (no_rows m none) q) e)
+right_reports_apart bound m (outcome.Cleared a) (outcome.Infeasible g) none p q e = absurd (Prim.omega (arith, head_of 99 105 _ _ e))
+right_reports_apart bound m (outcome.Cleared a) (outcome.Range s) none p q e = absurd (Prim.omega (arith, head_of 99 114 _ _ e))
+right_reports_apart bound m (outcome.Infeasible f) (outcome.Cleared b) none p q e = absurd (Prim.omega (arith, head_of 105 99 _ _ e))
+right_reports_apart bound m (outcome.Infeasible f) (outcome.Infeasible g) none p q e = ap outcome.Infeasible (farkas_apart m f g (no_rows m none) p q e)
+right_reports_apart bound m (outcome.Infeasible f) (outcome.Range s) none p q e = absurd (Prim.omega (arith, head_of 105 114 _ _ e))
+right_reports_apart bound m (outcome.Range r) (outcome.Cleared b) none p q e = absurd (Prim.omega (arith, head_of 114 99 _ _ e))
+right_reports_apart bound m (outcome.Range r) (outcome.Infeasible g) none p q e = absurd (Prim.omega (arith, head_of 114 105 _ _ e))
+right_reports_apart bound m (outcome.Range r) (outcome.Range s) none p q e = ap outcome.Range (passed_apart r s e)

@@ -18,11 +18,13 @@ use Rattle.market_model.specs.Stairs.{stair_in}
 use Rattle.market_model.proofs.PlainMarkets.{plain_market, distinct_by_rise}
 use Rattle.market_model.specs.Market.{IsMarket, IsBlock, HasRoom}
 use Rattle.market_model.specs.Dispatch.{Dispatch, places, injection, balance, output, demand, accepted, quantity}
-use Rattle.market_model.specs.Optimality.{Feasible, Supports, BlockSupported, welfare, bus_price}
+use Rattle.market_model.specs.Optimality.{Feasible, Supports, BlockSupported, welfare, congestion, bus_price}
 use Rattle.market_model.specs.Settlement.{paid, pays, surplus}
 use Rattle.market_model.proofs.MarketSums.{fixed_part, most_raised, needed-at_most}
 use Rattle.market_model.proofs.WholeDispatch.{from_whole-<ℚ, from_whole-≤ℚ}
-use Rattle.market_model.proofs.Optimum.{law_of_the_optimum, law_of_the_surplus}
+use Rattle.market_model.proofs.Optimum.{law_of_the_optimum, law_of_no_limits}
+use Rattle.market_model.specs.LimitRows.{rows}
+use Rattle.market_model.proofs.RowLaws.{no_rows, supported_bare, supports_bare, empty_bare, full_bare, feasible_bare}
 
 -- whole numbers in order are not the other way
 not_below : (m n : ℤ) → m ≤ℤ n → ¬ (whole n <ℚ whole m)
@@ -58,15 +60,15 @@ three_buses-balance = same_fraction (balance three_buses first_only) (whole (pos
 
 -- unit 1 is paid 600 for 60 MW, and the load pays as much
 pub three_buses-paid : paid three_buses first_only energy_at_ten 0 ≡ whole (pos (600 * 10 ^ 15))
-unfolding paid output bus_price ◌+ℚ◌ ◌*ℚ◌ neg_ℚ over whole gcd gcd_in
+unfolding paid output bus_price congestion rows ◌+ℚ◌ ◌*ℚ◌ neg_ℚ over whole gcd gcd_in
 three_buses-paid = same_fraction (paid three_buses first_only energy_at_ten 0) (whole (pos (600 * 10 ^ 15))) refl refl
 
 pub three_buses-pays : pays three_buses energy_at_ten 2 ≡ whole (pos (600 * 10 ^ 15))
-unfolding pays demand bus_price ◌+ℚ◌ ◌*ℚ◌ neg_ℚ over whole gcd gcd_in
+unfolding pays demand bus_price congestion rows ◌+ℚ◌ ◌*ℚ◌ neg_ℚ over whole gcd gcd_in
 three_buses-pays = same_fraction (pays three_buses energy_at_ten 2) (whole (pos (600 * 10 ^ 15))) refl refl
 
 pub three_buses-feasible : Feasible three_buses first_only
-three_buses-feasible = record { blocks = record { count = refl; above = above; within = within }; balanced = three_buses-balance }
+three_buses-feasible = feasible_bare three_buses first_only (no_rows three_buses refl) (record { count = refl; above = above; within = within }) three_buses-balance
   where
     above : (j : ℕ) → j < 2 → whole (pos 0) ≤ℚ accepted first_only j
     above zero h = whole-≤ℚ (pos 0) (pos (60 * 10 ^ 9)) (Prim.omega (arith, ints))
@@ -79,18 +81,15 @@ three_buses-feasible = record { blocks = record { count = refl; above = above; w
     within (suc (suc j)) h = absurd (Prim.omega arith)
 
 pub three_buses-supports : Supports three_buses first_only energy_at_ten
-unfolding bus_price
-three_buses-supports = record { blocks = blocks }
+three_buses-supports = supports_bare three_buses energy_at_ten first_only (no_rows three_buses refl) blocks
   where
     blocks : (j : ℕ) → j < 2 → BlockSupported three_buses first_only energy_at_ten j
-    blocks zero h = record {
-      full = λ k. absurd (<ℚ_irrefl (whole (pos (10 * 10 ^ 6))) k);
-      empty = λ k. absurd (<ℚ_irrefl (whole (pos (10 * 10 ^ 6))) k);
-    }
-    blocks (suc zero) h = record {
-      full = λ k. absurd (not_below (pos (10 * 10 ^ 6)) (pos (30 * 10 ^ 6)) (Prim.omega (arith, ints)) k);
-      empty = λ k. refl;
-    }
+    blocks zero h = supported_bare three_buses energy_at_ten first_only (no_rows three_buses refl) 0
+        (λ k. absurd (<ℚ_irrefl (whole (pos (10 * 10 ^ 6))) k))
+        (λ k. absurd (<ℚ_irrefl (whole (pos (10 * 10 ^ 6))) k))
+    blocks (suc zero) h = supported_bare three_buses energy_at_ten first_only (no_rows three_buses refl) 1
+        (λ k. absurd (not_below (pos (10 * 10 ^ 6)) (pos (30 * 10 ^ 6)) (Prim.omega (arith, ints)) k))
+        (λ k. refl)
     blocks (suc (suc j)) h = absurd (Prim.omega arith)
 
 whole-apart : (m n : ℤ) → whole m ≡ whole n → m ≡ n
@@ -99,12 +98,11 @@ whole-apart m n e = ap (λ (f : Fraction). f.num) e
 
 -- no other price of energy supports it
 pub three_buses-one_price : (d : Duals Fraction) → Supports three_buses first_only d → d.energy ≡ whole (pos (10 * 10 ^ 6))
-unfolding bus_price
 three_buses-one_price d s = elim (three_ways d.energy (whole (pos (10 * 10 ^ 6)))) [
-  | inl below ↦ let wrong : pos (60 * 10 ^ 9) ≡ pos 0 = whole-apart (pos (60 * 10 ^ 9)) (pos 0) ((s.blocks 0 (Prim.omega arith)).empty below) in absurd (Prim.omega (arith, ints))
+  | inl below ↦ let wrong : pos (60 * 10 ^ 9) ≡ pos 0 = whole-apart (pos (60 * 10 ^ 9)) (pos 0) (empty_bare three_buses d first_only (no_rows three_buses refl) 0 (s.blocks 0 (Prim.omega arith)) below) in absurd (Prim.omega (arith, ints))
   | inr rest ↦ elim rest [
     | inl same ↦ same
-    | inr above ↦ let wrong : pos (60 * 10 ^ 9) ≡ pos (100 * 10 ^ 9) = whole-apart (pos (60 * 10 ^ 9)) (pos (100 * 10 ^ 9)) ((s.blocks 0 (Prim.omega arith)).full above) in absurd (Prim.omega (arith, ints))
+    | inr above ↦ let wrong : pos (60 * 10 ^ 9) ≡ pos (100 * 10 ^ 9) = whole-apart (pos (60 * 10 ^ 9)) (pos (100 * 10 ^ 9)) (full_bare three_buses d first_only (no_rows three_buses refl) 0 (s.blocks 0 (Prim.omega arith)) above) in absurd (Prim.omega (arith, ints))
   ]
 ]
 
@@ -161,7 +159,7 @@ three_buses-best y fy =
     (law_of_the_optimum three_buses energy_at_ten first_only y three_buses-market three_buses-feasible three_buses-supports fy)
 
 pub three_buses-surplus : surplus three_buses first_only energy_at_ten ≡ whole (pos 0)
-three_buses-surplus = law_of_the_surplus three_buses energy_at_ten first_only three_buses-market three_buses-balance
+three_buses-surplus = law_of_no_limits three_buses energy_at_ten first_only three_buses-market (no_rows three_buses refl) three_buses-balance
 
 -- The row of a dispatchable load: a third unit, at bus 3, buys up to 30 MW at 40 and up to 20 MW at 5.
 abbrev pub with_buyer : Parts
@@ -195,15 +193,15 @@ unfolding output ◌+ℚ◌ ◌*ℚ◌ neg_ℚ over whole gcd gcd_in
 with_buyer-output = same_fraction (output with_buyer bought 2) (whole (neg_ℤ (pos (30 * 10 ^ 9)))) refl refl
 
 pub with_buyer-paid : paid with_buyer bought energy_at_ten 2 ≡ whole (neg_ℤ (pos (300 * 10 ^ 15)))
-unfolding paid output bus_price ◌+ℚ◌ ◌*ℚ◌ neg_ℚ over whole gcd gcd_in
+unfolding paid output bus_price congestion rows ◌+ℚ◌ ◌*ℚ◌ neg_ℚ over whole gcd gcd_in
 with_buyer-paid = same_fraction (paid with_buyer bought energy_at_ten 2) (whole (neg_ℤ (pos (300 * 10 ^ 15)))) refl refl
 
 pub with_buyer-surplus : surplus with_buyer bought energy_at_ten ≡ whole (pos 0)
-unfolding surplus demand output bus_price ◌+ℚ◌ ◌*ℚ◌ neg_ℚ over whole gcd gcd_in
+unfolding surplus demand output bus_price congestion rows ◌+ℚ◌ ◌*ℚ◌ neg_ℚ over whole gcd gcd_in
 with_buyer-surplus = same_fraction (surplus with_buyer bought energy_at_ten) (whole (pos 0)) refl refl
 
 pub with_buyer-feasible : Feasible with_buyer bought
-with_buyer-feasible = record { blocks = record { count = refl; above = above; within = within }; balanced = with_buyer-balance }
+with_buyer-feasible = feasible_bare with_buyer bought (no_rows with_buyer refl) (record { count = refl; above = above; within = within }) with_buyer-balance
   where
     above : (j : ℕ) → j < 4 → whole (pos 0) ≤ℚ accepted bought j
     above zero h = whole-≤ℚ (pos 0) (pos (90 * 10 ^ 9)) (Prim.omega (arith, ints))
@@ -220,26 +218,21 @@ with_buyer-feasible = record { blocks = record { count = refl; above = above; wi
     within (suc (suc (suc (suc j)))) h = absurd (Prim.omega arith)
 
 pub with_buyer-supports : Supports with_buyer bought energy_at_ten
-unfolding bus_price
-with_buyer-supports = record { blocks = blocks }
+with_buyer-supports = supports_bare with_buyer energy_at_ten bought (no_rows with_buyer refl) blocks
   where
     blocks : (j : ℕ) → j < 4 → BlockSupported with_buyer bought energy_at_ten j
-    blocks zero h = record {
-      full = λ k. absurd (<ℚ_irrefl (whole (pos (10 * 10 ^ 6))) k);
-      empty = λ k. absurd (<ℚ_irrefl (whole (pos (10 * 10 ^ 6))) k);
-    }
-    blocks (suc zero) h = record {
-      full = λ k. absurd (not_below (pos (10 * 10 ^ 6)) (pos (30 * 10 ^ 6)) (Prim.omega (arith, ints)) k);
-      empty = λ k. refl;
-    }
-    blocks (suc (suc zero)) h = record {
-      full = λ k. refl;
-      empty = λ k. absurd (not_below (pos (10 * 10 ^ 6)) (pos (40 * 10 ^ 6)) (Prim.omega (arith, ints)) k);
-    }
-    blocks (suc (suc (suc zero))) h = record {
-      full = λ k. absurd (not_below (pos (5 * 10 ^ 6)) (pos (10 * 10 ^ 6)) (Prim.omega (arith, ints)) k);
-      empty = λ k. refl;
-    }
+    blocks zero h = supported_bare with_buyer energy_at_ten bought (no_rows with_buyer refl) 0
+        (λ k. absurd (<ℚ_irrefl (whole (pos (10 * 10 ^ 6))) k))
+        (λ k. absurd (<ℚ_irrefl (whole (pos (10 * 10 ^ 6))) k))
+    blocks (suc zero) h = supported_bare with_buyer energy_at_ten bought (no_rows with_buyer refl) 1
+        (λ k. absurd (not_below (pos (10 * 10 ^ 6)) (pos (30 * 10 ^ 6)) (Prim.omega (arith, ints)) k))
+        (λ k. refl)
+    blocks (suc (suc zero)) h = supported_bare with_buyer energy_at_ten bought (no_rows with_buyer refl) 2
+        (λ k. refl)
+        (λ k. absurd (not_below (pos (10 * 10 ^ 6)) (pos (40 * 10 ^ 6)) (Prim.omega (arith, ints)) k))
+    blocks (suc (suc (suc zero))) h = supported_bare with_buyer energy_at_ten bought (no_rows with_buyer refl) 3
+        (λ k. absurd (not_below (pos (5 * 10 ^ 6)) (pos (10 * 10 ^ 6)) (Prim.omega (arith, ints)) k))
+        (λ k. refl)
     blocks (suc (suc (suc (suc j)))) h = absurd (Prim.omega arith)
 
 -- The row of a shunt and a fixed part: bus 2 has a shunt of 5 MW, and the unit there runs at 20 MW at least.
@@ -272,18 +265,15 @@ unfolding balance injection ◌+ℚ◌ ◌*ℚ◌ neg_ℚ over whole gcd gcd_in
 with_shunt-balance = same_fraction (balance with_shunt less_sold) (whole (pos 0)) refl refl
 
 pub with_shunt-supports : Supports with_shunt less_sold energy_at_ten
-unfolding bus_price
-with_shunt-supports = record { blocks = blocks }
+with_shunt-supports = supports_bare with_shunt energy_at_ten less_sold (no_rows with_shunt refl) blocks
   where
     blocks : (j : ℕ) → j < 2 → BlockSupported with_shunt less_sold energy_at_ten j
-    blocks zero h = record {
-      full = λ k. absurd (<ℚ_irrefl (whole (pos (10 * 10 ^ 6))) k);
-      empty = λ k. absurd (<ℚ_irrefl (whole (pos (10 * 10 ^ 6))) k);
-    }
-    blocks (suc zero) h = record {
-      full = λ k. absurd (not_below (pos (10 * 10 ^ 6)) (pos (30 * 10 ^ 6)) (Prim.omega (arith, ints)) k);
-      empty = λ k. refl;
-    }
+    blocks zero h = supported_bare with_shunt energy_at_ten less_sold (no_rows with_shunt refl) 0
+        (λ k. absurd (<ℚ_irrefl (whole (pos (10 * 10 ^ 6))) k))
+        (λ k. absurd (<ℚ_irrefl (whole (pos (10 * 10 ^ 6))) k))
+    blocks (suc zero) h = supported_bare with_shunt energy_at_ten less_sold (no_rows with_shunt refl) 1
+        (λ k. absurd (not_below (pos (10 * 10 ^ 6)) (pos (30 * 10 ^ 6)) (Prim.omega (arith, ints)) k))
+        (λ k. refl)
     blocks (suc (suc j)) h = absurd (Prim.omega arith)
 
 -- the second unit puts out its fixed part and is paid for it, and the bus pays for its shunt
@@ -292,15 +282,15 @@ unfolding output ◌+ℚ◌ ◌*ℚ◌ neg_ℚ over whole gcd gcd_in
 with_shunt-output = same_fraction (output with_shunt less_sold 1) (whole (pos (20 * 10 ^ 9))) refl refl
 
 pub with_shunt-paid : paid with_shunt less_sold energy_at_ten 1 ≡ whole (pos (200 * 10 ^ 15))
-unfolding paid output bus_price ◌+ℚ◌ ◌*ℚ◌ neg_ℚ over whole gcd gcd_in
+unfolding paid output bus_price congestion rows ◌+ℚ◌ ◌*ℚ◌ neg_ℚ over whole gcd gcd_in
 with_shunt-paid = same_fraction (paid with_shunt less_sold energy_at_ten 1) (whole (pos (200 * 10 ^ 15))) refl refl
 
 pub with_shunt-pays : pays with_shunt energy_at_ten 1 ≡ whole (pos (50 * 10 ^ 15))
-unfolding pays demand bus_price ◌+ℚ◌ ◌*ℚ◌ neg_ℚ over whole gcd gcd_in
+unfolding pays demand bus_price congestion rows ◌+ℚ◌ ◌*ℚ◌ neg_ℚ over whole gcd gcd_in
 with_shunt-pays = same_fraction (pays with_shunt energy_at_ten 1) (whole (pos (50 * 10 ^ 15))) refl refl
 
 pub with_shunt-surplus : surplus with_shunt less_sold energy_at_ten ≡ whole (pos 0)
-unfolding surplus demand output bus_price ◌+ℚ◌ ◌*ℚ◌ neg_ℚ over whole gcd gcd_in
+unfolding surplus demand output bus_price congestion rows ◌+ℚ◌ ◌*ℚ◌ neg_ℚ over whole gcd gcd_in
 with_shunt-surplus = same_fraction (surplus with_shunt less_sold energy_at_ten) (whole (pos 0)) refl refl
 
 -- The short row: a load of 250 MW, of which the two units can serve 200.

@@ -1,5 +1,5 @@
 -- Dispatches of whole numbers: bounds and support by the order of whole numbers.
-use Rattle.std.specs.Prelude.{◌≡◌, ℕ, ◌<◌, ℤ, pos, ◌≤ℤ◌, ◌<ℤ◌, length}
+use Rattle.std.specs.Prelude.{◌≡◌, ℕ, ◌<◌, [], ℤ, pos, ◌≤ℤ◌, ◌<ℤ◌, length}
 use Rattle.std.proofs.Common.{arith, ap, sym, ◌∙◌, subst}
 use Rattle.std.proofs.lemmas.Int.{ints}
 use Rattle.fraction_theory.specs.Fraction.{Fraction, whole}
@@ -10,7 +10,9 @@ use Rattle.market_model.specs.declared.participants.Side.TheVariants.{Sell, Buy}
 use Rattle.market_model.specs.declared.participants.Parts.{Parts}
 use Rattle.market_model.specs.declared.answered.Duals.{Duals}
 use Rattle.market_model.specs.Dispatch.{Dispatch, IsDispatch, block_at, accepted}
-use Rattle.market_model.specs.Optimality.{BlockSupported, Gains, Loses, bus_price}
+use Rattle.market_model.specs.Optimality.{BlockSupported, Gains, Loses}
+use Rattle.market_model.specs.LimitRows.{rows}
+use Rattle.market_model.proofs.RowLaws.{supported_bare}
 
 -- the order of whole numbers, from that of their fractions and to it
 pub whole-<ℚ : (m n : ℤ) → m <ℤ n → whole m <ℚ whole n
@@ -42,15 +44,14 @@ pub loses-from_whole : (side : Side) (price worth : ℤ) → Loses side (whole p
 loses-from_whole Sell price worth h = from_whole-<ℚ worth price h
 loses-from_whole Buy price worth h = from_whole-<ℚ price worth h
 
--- a block that takes a whole number is supported by a whole price of energy where it is by whole numbers
-pub block_supported-by_whole : (m : Parts) (d : Duals Fraction) (x : Dispatch) (j : ℕ) (energy taken : ℤ) → d.energy ≡ whole energy → accepted x j ≡ whole taken
+-- a block that takes a whole number is supported by a whole price of energy where it is by whole numbers, in a market without rows
+pub block_supported-by_whole : (m : Parts) (d : Duals Fraction) (x : Dispatch) (j : ℕ) (energy taken : ℤ) → rows m ≡ [] → d.energy ≡ whole energy → accepted x j ≡ whole taken
     → (whole_gains (block_at m j).side (block_at m j).price energy → taken ≡ (block_at m j).quantity)
     → (whole_loses (block_at m j).side (block_at m j).price energy → taken ≡ pos 0) → BlockSupported m x d j
-unfolding bus_price
-block_supported-by_whole m d x j energy taken e f full empty = record {
-  full = λ g. f ∙ ap whole (full (gains-from_whole (block_at m j).side (block_at m j).price energy (subst (λ t. Gains (block_at m j).side (whole (block_at m j).price) t) e g)));
-  empty = λ g. f ∙ ap whole (empty (loses-from_whole (block_at m j).side (block_at m j).price energy (subst (λ t. Loses (block_at m j).side (whole (block_at m j).price) t) e g)));
-}
+block_supported-by_whole m d x j energy taken bare e f full empty =
+    supported_bare m d x bare j
+    (λ g. f ∙ ap whole (full (gains-from_whole (block_at m j).side (block_at m j).price energy (subst (λ t. Gains (block_at m j).side (whole (block_at m j).price) t) e g))))
+    (λ g. f ∙ ap whole (empty (loses-from_whole (block_at m j).side (block_at m j).price energy (subst (λ t. Loses (block_at m j).side (whole (block_at m j).price) t) e g))))
 
 -- whole numbers within the blocks' bounds are a dispatch
 pub is_dispatch-by_whole : (m : Parts) (x : Dispatch) (taken : ℕ → ℤ) → length x.blocks ≡ length m.blocks

@@ -1,9 +1,11 @@
 -- Duals that show that no dispatch is feasible.
 -- Farkas: relations that no point meets have a combination that no point can meet. Here it bounds what a price of energy makes of
--- the balance: at a feasible dispatch that is 0, so a bound below 0 leaves none.
-use Rattle.std.specs.Prelude.{◌≡◌, ℕ, List, [], ◌∷◌, length, map}
-use Rattle.fraction_theory.specs.Fraction.{Fraction}
-use Rattle.fraction_theory.specs.Order.{◌<ℚ◌}
+-- the balance, and prices of limits of what flows leave of these: at a feasible dispatch the first is 0 and the others are at least 0, so
+-- a bound below 0 leaves none.
+use Rattle.std.specs.Prelude.{◌≡◌, ℕ, List, [], ◌∷◌, ◌++◌, length, map, Contains}
+use Rattle.std.specs.List.{flat_map}
+use Rattle.fraction_theory.specs.Fraction.{Fraction, ◌+ℚ◌, ◌-ℚ◌}
+use Rattle.fraction_theory.specs.Order.{◌<ℚ◌, ◌≤ℚ◌}
 use Rattle.fraction_theory.specs.Signs.{sign_of}
 use Rattle.fraction_theory.specs.Sums.{Term, Product, total}
 use Rattle.fraction_theory.specs.declared.Sign.{Sign}
@@ -12,7 +14,8 @@ use Rattle.market_model.specs.declared.participants.Parts.{Parts}
 use Rattle.market_model.specs.declared.answered.Duals.{Duals}
 use Rattle.market_model.specs.declared.answered.Farkas.{Farkas}
 use Rattle.market_model.specs.Dispatch.{zero, places, block_at, signed, quantity, balance, empty}
-use Rattle.market_model.specs.Optimality.{unit_price}
+use Rattle.market_model.specs.Optimality.{unit_price, up_of, down_of, ProperDuals}
+use Rattle.market_model.specs.LimitRows.{Row, rows, greatest, flow}
 
 -- a number of this sign, where it is above 0, and else 0
 abbrev pub where_above : Sign → Fraction → Fraction
@@ -28,20 +31,30 @@ part_above x = where_above (sign_of x) x
 abbrev pub block_weight : Parts → Duals Fraction → ℕ → Fraction
 block_weight m d j = signed (block_at m j).side (unit_price m d (block_at m j).unit)
 
+-- what is left of the limits of a row where nothing is accepted, at the prices of its two sides
+abbrev pub limit_terms : Parts → Duals Fraction → Row → List Term
+limit_terms m d r = Product (up_of m d r) (greatest m r -ℚ flow m (empty m) r) ∷ Product (down_of m d r) (greatest m r +ℚ flow m (empty m) r) ∷ []
+
 -- what nothing accepted makes, and the most that each block adds to that
 abbrev pub farkas_terms : Parts → Duals Fraction → List Term
-farkas_terms m d = Product d.energy (balance m (empty m)) ∷ map (λ j. Product (part_above (block_weight m d j)) (quantity m j)) (places (length m.blocks))
+farkas_terms m d =
+    Product d.energy (balance m (empty m))
+    ∷ (flat_map (limit_terms m d) (rows m)
+    ++ map (λ j. Product (part_above (block_weight m d j)) (quantity m j)) (places (length m.blocks)))
 
--- the most that any dispatch within the blocks' bounds makes of the balance at the price of energy
+-- the most that any dispatch within the blocks' bounds makes of the balance at the price of energy, and of what is left of the limits at
+-- their prices
 unfoldable pub farkas_bound : Parts → Duals Fraction → Fraction
 farkas_bound m d = total (farkas_terms m d)
 
--- that most is below 0, where a balance of 0 makes 0; no limit has a dual
+-- that most is below 0, where at a feasible dispatch the balance makes 0 and no limit is passed
 pub record ShowsInfeasible (m : Parts) (d : Duals Fraction) : Type 0 where
-  pub no_limits : d.limits ≡ []
+  pub up_signs : (r : Row) → Contains (rows m) r → zero ≤ℚ up_of m d r
+  pub down_signs : (r : Row) → Contains (rows m) r → zero ≤ℚ down_of m d r
   pub below : farkas_bound m d <ℚ zero
 
 -- duals that show it, with their bound
 pub record IsFarkas (m : Parts) (f : Farkas Fraction) : Type 0 where
   pub shows : ShowsInfeasible m f.duals
+  pub proper : ProperDuals m f.duals
   pub bound : f.bound ≡ farkas_bound m f.duals

@@ -1,15 +1,17 @@
 -- What the definitions come to: the best dispatch, what is left after all pay, and when nothing is feasible.
 -- Wood and Wollenberg: a dispatch that balances and is priced at cost is of least cost.
--- Schweppe and others, Spot Pricing of Electricity: without limits at their bounds loads pay what units are paid.
-use Rattle.std.specs.Prelude.{◌≡◌, ℕ}
-use Rattle.fraction_theory.specs.Fraction.{Fraction}
-use Rattle.fraction_theory.specs.Order.{◌≤ℚ◌}
+-- Schweppe and others, Spot Pricing of Electricity: loads pay what units are paid and what the limits earn.
+use Rattle.std.specs.Prelude.{◌≡◌, ◌⊎◌, ℕ, [], length, Contains}
+use Rattle.fraction_theory.specs.Fraction.{Fraction, ◌+ℚ◌, ◌*ℚ◌}
+use Rattle.fraction_theory.specs.Sums.{sum_by}
+use Rattle.fraction_theory.specs.Order.{◌≤ℚ◌, ◌<ℚ◌}
 use Rattle.market_model.specs.declared.participants.Parts.{Parts}
 use Rattle.market_model.specs.declared.answered.Duals.{Duals}
 use Rattle.market_model.specs.Market.{IsMarket}
-use Rattle.market_model.specs.Dispatch.{Dispatch, zero, balance}
-use Rattle.market_model.specs.Optimality.{Feasible, Supports, welfare}
-use Rattle.market_model.specs.Settlement.{surplus}
+use Rattle.market_model.specs.Dispatch.{Dispatch, zero, places, balance}
+use Rattle.market_model.specs.LimitRows.{Row, rows, row_flow, row_offset, row_factor}
+use Rattle.market_model.specs.Optimality.{Feasible, Supports, Within, up_of, down_of, welfare}
+use Rattle.market_model.specs.Settlement.{rent, surplus}
 use Rattle.market_model.specs.Infeasibility.{ShowsInfeasible}
 use Rattle.market_model.specs.WorkingPairs.{NoPairPasses}
 use Rattle.market_model.specs.declared.answered.Outcome.{Outcome}
@@ -19,9 +21,25 @@ use Rattle.market_model.specs.Outcomes.{IsRightOutcome, IsDecided}
 abbrev pub LawOfTheOptimum : Type 0
 LawOfTheOptimum = (m : Parts) (d : Duals Fraction) (x y : Dispatch) → IsMarket m → Feasible m x → Supports m x d → Feasible m y → welfare m y ≤ℚ welfare m x
 
--- in balance, and with no limits, loads pay what units are paid, whatever the price of energy
+-- where duals support a feasible dispatch, loads pay what units are paid and what limits earn
 abbrev pub LawOfTheSurplus : Type 0
-LawOfTheSurplus = (m : Parts) (d : Duals Fraction) (x : Dispatch) → IsMarket m → balance m x ≡ zero → surplus m x d ≡ zero
+LawOfTheSurplus = (m : Parts) (d : Duals Fraction) (x : Dispatch) → IsMarket m → Feasible m x → Supports m x d → surplus m x d ≡ sum_by (rent m x d) (rows m)
+
+-- the offset of each row with a price above 0 is within its limits
+abbrev pub HasOffsetsWithin : Parts → Duals Fraction → Type 0
+HasOffsetsWithin m d = (r : Row) → Contains (rows m) r → (zero <ℚ up_of m d r) ⊎ (zero <ℚ down_of m d r) → Within m r (row_offset m r)
+
+-- and then nothing is short
+abbrev pub LawOfItsSign : Type 0
+LawOfItsSign = (m : Parts) (d : Duals Fraction) (x : Dispatch) → IsMarket m → Feasible m x → Supports m x d → HasOffsetsWithin m d → zero ≤ℚ surplus m x d
+
+-- in balance, and with no limits, loads pay what units are paid, whatever the price of energy
+abbrev pub LawOfNoLimits : Type 0
+LawOfNoLimits = (m : Parts) (d : Duals Fraction) (x : Dispatch) → IsMarket m → rows m ≡ [] → balance m x ≡ zero → surplus m x d ≡ zero
+
+-- the flow of a row by branch is its offset and what its factors make of the injections
+abbrev pub LawOfTheFlows : Type 0
+LawOfTheFlows = (m : Parts) (p : ℕ → Fraction) (r : Row) → row_flow m p r ≡ row_offset m r +ℚ sum_by (λ i. row_factor m r i *ℚ p i) (places (length m.buses))
 
 -- where duals show that nothing is feasible, no dispatch is (Farkas)
 abbrev pub LawOfInfeasibility : Type 0

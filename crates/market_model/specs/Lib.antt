@@ -5,6 +5,7 @@ pub mod Fitting
 pub mod Growth
 pub mod Infeasibility
 pub mod Laws
+pub mod LimitRows
 pub mod Market
 pub mod MarketNumbers
 pub mod MarketSystem

@@ -1,30 +1,40 @@
--- A market as a linear system: its blocks are columns, and the balance is a row. It is written for any list of limit rows,
--- of which there are none as yet.
+-- A market as a linear system over a list of its limit rows: its blocks are columns, and the balance and the limit rows are rows. The
+-- activity of a limit row is what the blocks add to its flow.
 -- Source: linear programs with bounded variables (Chvátal, Linear Programming), for the economic dispatch of Wood and
 -- Wollenberg; the form is own.
-use Rattle.std.specs.Prelude.{ℕ, pos, List, [], ◌∷◌, ◌++◌, ◌==◌, if◌then◌else◌, length, map}
-use Rattle.fraction_theory.specs.Fraction.{Fraction, whole, neg_ℚ}
+use Rattle.std.specs.Prelude.{ℕ, ◌+◌, pos, Bool, true, false, List, [], ◌∷◌, ◌++◌, ◌==◌, ◌&&◌, if◌then◌else◌, length, map}
+use Rattle.std.specs.List.{flat_map, position_or_len}
+use Rattle.fraction_theory.specs.Fraction.{Fraction, whole, neg_ℚ, ◌-ℚ◌}
+use Rattle.fraction_theory.specs.Signs.{sign_of}
+use Rattle.fraction_theory.specs.declared.Sign.{Sign}
+use Rattle.fraction_theory.specs.declared.Sign.TheVariants.{Below, Zero, Above}
 use Rattle.linear_system.specs.Systems.{System}
 use Rattle.linear_system.specs.Choices.{Choice, value, reduced}
 use Rattle.market_model.specs.declared.participants.Parts.{Parts}
+use Rattle.market_model.specs.declared.answered.Dual.{Dual}
 use Rattle.market_model.specs.declared.answered.Duals.{Duals}
-use Rattle.market_model.specs.Dispatch.{Dispatch, zero, places, block_at, signed, quantity, balance, empty}
+use Rattle.market_model.specs.declared.answered.RowId.{RowId}
+use Rattle.market_model.specs.Dispatch.{Dispatch, zero, places, block_at, block_bus, signed, quantity, balance, empty}
+use Rattle.market_model.specs.LimitRows.{Cause, Base, After, Row, rows, row_id, greatest, row_factor, flow}
 use Rattle.market_model.specs.Optimality.{block_value}
-
--- A limit on a branch. No branch has one, so there is no such row; the functions of a row below have no case.
-pub data LimitRow : Type 0 where
-
--- the limit rows of a market, in its order
-abbrev pub limit_rows : Parts → List LimitRow
-limit_rows m = []
 
 -- The names of the variables: a block's is its place, the balance's is the next, and limit rows follow in the market's
 -- order. So names ascend in the order in which sums over variables are added.
 abbrev pub balance_name : Parts → ℕ
 balance_name m = length m.blocks
 
-abbrev pub row_name : Parts → LimitRow → ℕ
-row_name m r = elim r [ ]
+-- a row's place among those of the market
+abbrev pub same_cause : Cause → Cause → Bool
+same_cause Base Base = true
+same_cause Base (After k) = false
+same_cause (After j) Base = false
+same_cause (After j) (After k) = j == k
+
+abbrev pub same_row : Row → Row → Bool
+same_row a b = (a.line == b.line) && same_cause a.cause b.cause
+
+abbrev pub row_name : Parts → Row → ℕ
+row_name m r = length m.blocks + 1 + position_or_len (same_row r) (rows m)
 
 -- by how much a MW of a block raises the balance
 abbrev pub block_sign : Parts → ℕ → Fraction
@@ -38,22 +48,52 @@ needed m = neg_ℚ (balance m (empty m))
 abbrev pub by_name : Parts → (ℕ → Fraction) → Fraction → ℕ → Fraction
 by_name m x y w = if w == balance_name m then y else x w
 
+-- by how much a MW of a block raises the flow of a row
+abbrev pub block_coefficient : Parts → Row → ℕ → Fraction
+block_coefficient m r j = signed (block_at m j).side (row_factor m r (block_bus m j))
+
+-- the coefficient of a block in the row of a name: that of the limit row that has it, and else that of the balance
+abbrev pub coefficient_by : Parts → List Row → ℕ → ℕ → Fraction
+coefficient_by m [] w j = block_sign m j
+coefficient_by m (r ∷ rs) w j = if w == row_name m r then block_coefficient m r j else coefficient_by m rs w j
+
+-- what the blocks may add to the flow of a row, which is what nothing accepted leaves of its limit on either side
+abbrev pub least_added : Parts → Row → Fraction
+least_added m r = neg_ℚ (greatest m r) -ℚ flow m (empty m) r
+
+abbrev pub most_added : Parts → Row → Fraction
+most_added m r = greatest m r -ℚ flow m (empty m) r
+
+-- a bound by name: that of the limit row that has it, and else one for blocks and the balance
+abbrev pub bound_by : Parts → (Row → Fraction) → (ℕ → Fraction) → List Row → ℕ → Fraction
+bound_by m of_row others [] w = others w
+bound_by m of_row others (r ∷ rs) w = if w == row_name m r then of_row r else bound_by m of_row others rs w
+
 -- the system of a market over a list of limit rows
-unfoldable pub system_of : Parts → List LimitRow → System
-system_of m rows = record {
-  variables = places (length m.blocks) ++ (balance_name m ∷ map (row_name m) rows);
+unfoldable pub system_of : Parts → List Row → System
+system_of m g = record {
+  variables = places (length m.blocks) ++ (balance_name m ∷ map (row_name m) g);
   columns = places (length m.blocks);
-  rows = balance_name m ∷ map (row_name m) rows;
-  coefficient = λ r j. block_sign m j;
+  rows = balance_name m ∷ map (row_name m) g;
+  coefficient = coefficient_by m g;
   price = block_value m;
-  low = by_name m (λ j. zero) (needed m);
-  high = by_name m (quantity m) (needed m);
+  low = bound_by m (least_added m) (by_name m (λ j. zero) (needed m)) g;
+  high = bound_by m (most_added m) (by_name m (quantity m) (needed m)) g;
 }
 
 -- the dispatch of a choice: the values of the blocks
-abbrev pub choice_dispatch : Parts → List LimitRow → Choice → Dispatch
-choice_dispatch m rows h = record { blocks = map (value (system_of m rows) h) (places (length m.blocks)) }
+abbrev pub choice_dispatch : Parts → List Row → Choice → Dispatch
+choice_dispatch m g h = record { blocks = map (value (system_of m g) h) (places (length m.blocks)) }
 
--- the duals of a choice: the price of energy is the opposite of the reduced price of the balance
-abbrev pub choice_duals : Parts → List LimitRow → Choice → Duals Fraction
-choice_duals m rows h = record { energy = neg_ℚ (reduced (system_of m rows) h (balance_name m)); limits = [] }
+-- the prices of a row by its reduced price: of the upper side where that is above 0, of the lower one where it is below
+abbrev pub dual_by : RowId → Fraction → Sign → List (Dual Fraction)
+dual_by id x Below = record { row = id; up = zero; down = neg_ℚ x } ∷ []
+dual_by id x Zero = []
+dual_by id x Above = record { row = id; up = x; down = zero } ∷ []
+
+abbrev pub choice_dual : Parts → List Row → Choice → Row → List (Dual Fraction)
+choice_dual m g h r = dual_by (row_id m r) (reduced (system_of m g) h (row_name m r)) (sign_of (reduced (system_of m g) h (row_name m r)))
+
+-- the duals of a choice: the price of energy is the opposite of the reduced price of the balance, and the prices of the rows are by theirs
+abbrev pub choice_duals : Parts → List Row → Choice → Duals Fraction
+choice_duals m g h = record { energy = neg_ℚ (reduced (system_of m g) h (balance_name m)); limits = flat_map (choice_dual m g h) g }

@@ -1,20 +1,33 @@
 -- Feasible dispatches, their welfare, and the duals that support one.
 -- Schweppe, Caramanis, Tabors and Bohn, Spot Pricing of Electricity: a bus price is the price of energy less what the
 -- limits take; a seller whose offer is below it sells all, one whose offer is above it nothing, and a buyer the other way.
-use Rattle.std.specs.Prelude.{◌≡◌, ℕ, ◌<◌, List, length, map}
-use Rattle.fraction_theory.specs.Fraction.{Fraction, whole, neg_ℚ}
-use Rattle.fraction_theory.specs.Order.{◌<ℚ◌}
+use Rattle.std.specs.Prelude.{◌≡◌, ◌⊎◌, ◌==◌, ◌&&◌, ◌||◌, ℕ, ◌<◌, Bool, false, List, [], ◌∷◌, length, map, filter, All, Contains, if◌then◌else◌}
+use Rattle.fraction_theory.specs.Fraction.{Fraction, whole, neg_ℚ, ◌+ℚ◌, ◌-ℚ◌}
+use Rattle.fraction_theory.specs.Order.{◌<ℚ◌, ◌≤ℚ◌}
 use Rattle.fraction_theory.specs.Sums.{Term, Product, total}
 use Rattle.market_model.specs.declared.participants.Side.{Side}
 use Rattle.market_model.specs.declared.participants.Side.TheVariants.{Sell, Buy}
 use Rattle.market_model.specs.declared.participants.Parts.{Parts}
+use Rattle.market_model.specs.declared.answered.Dual.{Dual}
 use Rattle.market_model.specs.declared.answered.Duals.{Duals}
+use Rattle.market_model.specs.declared.answered.RowId.{RowId}
 use Rattle.market_model.specs.Dispatch.{Dispatch, IsDispatch, zero, places, block_at, unit_at, signed, accepted, quantity, balance}
+use Rattle.market_model.specs.LimitRows.{Row, rows, row_id, limit, greatest, row_factor, flow}
 
--- within the blocks' bounds, and in balance
-pub record Feasible (m : Parts) (x : Dispatch) : Type 0 where
+-- a flow of at most the greatest size on either side
+pub record Within (m : Parts) (r : Row) (f : Fraction) : Type 0 where
+  pub above : neg_ℚ (greatest m r) ≤ℚ f
+  pub below : f ≤ℚ greatest m r
+
+-- within the blocks' bounds, in balance, and within the limits of these rows
+pub record FeasibleFor (m : Parts) (g : List Row) (x : Dispatch) : Type 0 where
   pub blocks : IsDispatch m x
   pub balanced : balance m x ≡ zero
+  pub limits : (r : Row) → Contains g r → Within m r (flow m x r)
+
+-- within the limits of all rows
+abbrev pub Feasible : Parts → Dispatch → Type 0
+Feasible m x = FeasibleFor m (rows m) x
 
 abbrev pub price : Parts → ℕ → Fraction
 price m j = whole (block_at m j).price
@@ -30,9 +43,59 @@ welfare_terms m x = map (λ j. Product (block_value m j) (accepted x j)) (places
 unfoldable pub welfare : Parts → Dispatch → Fraction
 welfare m x = total (welfare_terms m x)
 
--- the price at a bus: that of energy, where no limit has a price
+-- ---- duals
+abbrev pub same_id : RowId → RowId → Bool
+same_id a b = (a.branch == b.branch) && (a.outage == b.outage)
+
+-- the prices of a row by its name, which are 0 where it is not named
+abbrev pub up_in : List (Dual Fraction) → RowId → Fraction
+up_in [] id = zero
+up_in (d ∷ ds) id = if same_id d.row id then d.up else up_in ds id
+
+abbrev pub down_in : List (Dual Fraction) → RowId → Fraction
+down_in [] id = zero
+down_in (d ∷ ds) id = if same_id d.row id then d.down else down_in ds id
+
+abbrev pub up_of : Parts → Duals Fraction → Row → Fraction
+up_of m d r = up_in d.limits (row_id m r)
+
+abbrev pub down_of : Parts → Duals Fraction → Row → Fraction
+down_of m d r = down_in d.limits (row_id m r)
+
+-- what a MW on the row's flow costs
+abbrev pub pull : Parts → Duals Fraction → Row → Fraction
+pull m d r = up_of m d r -ℚ down_of m d r
+
+abbrev pub is_named : List (Dual Fraction) → RowId → Bool
+is_named [] id = false
+is_named (d ∷ ds) id = same_id d.row id || is_named ds id
+
+-- the rows that duals name, in the order of the market's rows
+abbrev pub named_rows : Parts → Duals Fraction → List Row
+named_rows m d = filter (λ r. is_named d.limits (row_id m r)) (rows m)
+
+-- one of the two prices of a limit is above 0, and the other is 0
+pub record IsOneSided (d : Dual Fraction) : Type 0 where
+  pub up : zero ≤ℚ d.up
+  pub down : zero ≤ℚ d.down
+  pub one : ((zero <ℚ d.up) × (d.down ≡ zero)) ⊎ ((d.up ≡ zero) × (zero <ℚ d.down))
+
+-- the duals of an answer name rows of the market in its order, none twice, each with one price
+pub record ProperDuals (m : Parts) (d : Duals Fraction) : Type 0 where
+  pub named : map (λ e. e.row) d.limits ≡ map (row_id m) (named_rows m d)
+  pub one_sided : All IsOneSided d.limits
+
+-- ---- bus prices
+-- what the limits take from the price at a bus, row by row
+abbrev pub congestion_terms : Parts → Duals Fraction → ℕ → List Term
+congestion_terms m d i = map (λ r. Product (neg_ℚ (pull m d r)) (row_factor m r i)) (rows m)
+
+unfoldable pub congestion : Parts → Duals Fraction → ℕ → Fraction
+congestion m d i = total (congestion_terms m d i)
+
+-- the price at a bus: that of energy, and what congestion adds to it
 unfoldable pub bus_price : Parts → Duals Fraction → ℕ → Fraction
-bus_price m d i = d.energy
+bus_price m d i = d.energy +ℚ congestion m d i
 
 -- the price that a unit is paid
 abbrev pub unit_price : Parts → Duals Fraction → ℕ → Fraction
@@ -53,6 +116,14 @@ pub record BlockSupported (m : Parts) (x : Dispatch) (d : Duals Fraction) (j : �
   pub full : Gains (block_at m j).side (price m j) (unit_price m d (block_at m j).unit) → accepted x j ≡ quantity m j
   pub empty : Loses (block_at m j).side (price m j) (unit_price m d (block_at m j).unit) → accepted x j ≡ zero
 
--- duals for which a dispatch is best, seen block by block
+-- prices of a limit are at least 0, and above 0 only where the flow stands at the limit on that side
+pub record RowSupported (m : Parts) (x : Dispatch) (d : Duals Fraction) (r : Row) : Type 0 where
+  pub up_sign : zero ≤ℚ up_of m d r
+  pub down_sign : zero ≤ℚ down_of m d r
+  pub up : zero <ℚ up_of m d r → flow m x r ≡ limit m r
+  pub down : zero <ℚ down_of m d r → flow m x r ≡ neg_ℚ (limit m r)
+
+-- duals for which a dispatch is best, seen block by block and row by row
 pub record Supports (m : Parts) (x : Dispatch) (d : Duals Fraction) : Type 0 where
   pub blocks : (j : ℕ) → j < length m.blocks → BlockSupported m x d j
+  pub rows : (r : Row) → Contains (rows m) r → RowSupported m x d r

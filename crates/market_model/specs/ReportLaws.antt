@@ -21,6 +21,6 @@ pub record FitsReport (m : Parts) (a : Answer Fraction) : Type 0 where
 abbrev pub ReportsApart : Type 0
 ReportsApart = (m : Parts) (a b : Answer Fraction) → FitsReport m a → FitsReport m b → cleared_text m a ≡ cleared_text m b → a ≡ b
 
--- two right outcomes of a market with one report are one
+-- two right outcomes of a market without lines with one report are one; the report of an answer has no lines of limits as yet
 abbrev pub RightReportsApart : Type 0
-RightReportsApart = (bound : ℕ) (m : Parts) (a b : Outcome Fraction) → IsRightOutcome bound m a → IsRightOutcome bound m b → report_text m a ≡ report_text m b → a ≡ b
+RightReportsApart = (bound : ℕ) (m : Parts) (a b : Outcome Fraction) → m.lines ≡ [] → IsRightOutcome bound m a → IsRightOutcome bound m b → report_text m a ≡ report_text m b → a ≡ b

@@ -1,12 +1,13 @@
--- What units are paid, what loads pay, and what is left.
--- Schweppe and others, Spot Pricing of Electricity: the merchandising surplus.
-use Rattle.std.specs.Prelude.{ℕ, List, length, map, ◌++◌}
-use Rattle.fraction_theory.specs.Fraction.{Fraction, neg_ℚ, ◌*ℚ◌}
+-- What units are paid, what loads pay, what is left, and what limits earn.
+-- Schweppe and others, Spot Pricing of Electricity: the merchandising surplus. The offsets in rents are own.
+use Rattle.std.specs.Prelude.{ℕ, List, [], ◌∷◌, length, map, ◌++◌}
+use Rattle.fraction_theory.specs.Fraction.{Fraction, neg_ℚ, ◌+ℚ◌, ◌-ℚ◌, ◌*ℚ◌}
 use Rattle.fraction_theory.specs.Sums.{Term, Product, total}
 use Rattle.market_model.specs.declared.participants.Parts.{Parts}
 use Rattle.market_model.specs.declared.answered.Duals.{Duals}
 use Rattle.market_model.specs.Dispatch.{Dispatch, places, output, demand}
-use Rattle.market_model.specs.Optimality.{bus_price, unit_price}
+use Rattle.market_model.specs.Optimality.{bus_price, unit_price, up_of, down_of}
+use Rattle.market_model.specs.LimitRows.{Row, limit, row_offset}
 
 -- a unit is paid its price for its output
 unfoldable pub paid : Parts → Dispatch → Duals Fraction → ℕ → Fraction
@@ -24,3 +25,10 @@ surplus_terms m x d =
 -- what loads pay less what units are paid
 unfoldable pub surplus : Parts → Dispatch → Duals Fraction → Fraction
 surplus m x d = total (surplus_terms m x d)
+
+-- what a limit earns: each of its prices for the limit less the fixed offset of its flow, on its side
+abbrev pub rent_terms : Parts → Dispatch → Duals Fraction → Row → List Term
+rent_terms m x d r = Product (up_of m d r) (limit m r -ℚ row_offset m r) ∷ Product (down_of m d r) (limit m r +ℚ row_offset m r) ∷ []
+
+unfoldable pub rent : Parts → Dispatch → Duals Fraction → Row → Fraction
+rent m x d r = total (rent_terms m x d r)

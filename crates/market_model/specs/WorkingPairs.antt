@@ -10,20 +10,21 @@ use Rattle.exact_fraction.specs.Passes.{Passes}
 use Rattle.linear_system.specs.Choices.{Choice, IsChoice}
 use Rattle.linear_system.specs.Pairs.{IsPairCase, AreNear, OfEither}
 use Rattle.market_model.specs.declared.participants.Parts.{Parts}
+use Rattle.market_model.specs.LimitRows.{Row}
 use Rattle.market_model.specs.Optimality.{welfare_terms}
 use Rattle.market_model.specs.Settlement.{surplus_terms}
-use Rattle.market_model.specs.MarketSystem.{LimitRow, system_of, choice_dispatch, choice_duals}
+use Rattle.market_model.specs.MarketSystem.{system_of, choice_dispatch, choice_duals}
 use Rattle.market_model.specs.MarketNumbers.{IsBest, MarketNumber}
 use Rattle.market_model.specs.Growth.{Reached}
 use Rattle.market_model.specs.NamedSums.{IsSumStep}
 
 -- the sums of money at a choice
-pub data IsMoneySum (m : Parts) (rows : List LimitRow) (h : Choice) : List Term → Type 0 where
+pub data IsMoneySum (m : Parts) (rows : List Row) (h : Choice) : List Term → Type 0 where
   of_welfare : IsMoneySum m rows h (welfare_terms m (choice_dispatch m rows h))
   of_surplus : IsMoneySum m rows h (surplus_terms m (choice_dispatch m rows h) (choice_duals m rows h))
 
 -- the sides of an operation that adds up money, at a best choice
-pub record IsMoneyCase (m : Parts) (rows : List LimitRow) (h : Choice) (op : Op) (left right : Fraction) : Type 0 where
+pub record IsMoneyCase (m : Parts) (rows : List Row) (h : Choice) (op : Op) (left right : Fraction) : Type 0 where
   pub best : IsBest m rows h
   pub terms : List Term
   pub money : IsMoneySum m rows h terms
@@ -31,7 +32,7 @@ pub record IsMoneyCase (m : Parts) (rows : List LimitRow) (h : Choice) (op : Op)
 
 -- The pair passes the bound. It is of one choice of the market's system over these rows or of two near ones: two numbers
 -- of a kind, or a factor and what it scales, or a step in adding up money at the first choice.
-pub record IsWorkingPair (m : Parts) (rows : List LimitRow) (bound : ℕ) (op : Op) (left right : Fraction) : Type 0 where
+pub record IsWorkingPair (m : Parts) (rows : List Row) (bound : ℕ) (op : Op) (left right : Fraction) : Type 0 where
   pub passes : Passes bound op left right
   pub one : Choice
   pub near : Choice
@@ -42,7 +43,7 @@ pub record IsWorkingPair (m : Parts) (rows : List LimitRow) (bound : ℕ) (op : 
 
 -- a working pair of the market over rows that a clear with none taken before may stand on
 pub record IsRangeOf (m : Parts) (bound : ℕ) (p : Passed Fraction) : Type 0 where
-  pub rows : List LimitRow
+  pub rows : List Row
   pub reached : Reached m [] rows
   pub pair : IsWorkingPair m rows bound p.op p.left p.right
 

@@ -23,6 +23,7 @@ use Rattle.market_model.specs.declared.answered.Dual.{Dual}
 use Rattle.market_model.specs.Market.{IsMarket}
 use Rattle.market_model.specs.Dispatch.{Dispatch, zero, places, bus_at, unit_at, block_at, accepted, quantity, balance, output, demand}
 use Rattle.market_model.specs.Optimality.{Feasible, Supports, welfare_terms, bus_price, unit_price}
+use Rattle.market_model.specs.LimitRows.{rows}
 use Rattle.market_model.specs.Settlement.{surplus_terms}
 use Rattle.market_model.specs.NamedSums.{IsRefusal, IsAddedIn, IsRefusedIn}
 use Rattle.market_model.specs.WorkingPairs.{IsRangeOf}
@@ -172,28 +173,28 @@ pub record IsAnswered (m : Parts) (x : Dispatch) (d : Duals Fraction) : Type 0 w
   pub supported : Supports m x d
   pub chosen : IsChosen m x d
 
-pub answered : {N : Type 0} (value : N → Fraction) (m : Parts) → IsMarket m → (energy : ℤ) (filled : List ℤ) (ds : List N)
+pub answered : {N : Type 0} (value : N → Fraction) (m : Parts) → rows m ≡ [] → IsMarket m → (energy : ℤ) (filled : List ℤ) (ds : List N)
     → length filled ≡ length m.blocks → AllPlaces (λ place. Fills energy (slice_index_or m.blocks place no_block)) filled
     → int_sum (λ f. f) filled ≡ (int_sum demand_of m.buses +ℤ int_sum bought_of m.blocks) -ℤ int_sum fixed_of m.units
     → length ds ≡ length m.blocks → AllPlaces (λ place mw. value mw ≡ whole (accepted_of (slice_index_or m.blocks place no_block) (slice_index_or filled place (pos 0)))) ds
     → AtMostOnePart energy m.blocks filled → ((m.blocks ≡ []) × (energy ≡ pos 0)) ⊎ IsPriceIn m.blocks energy
     → IsAnswered m (dispatch_of value ds) (energy_alone (whole energy))
-answered value m market energy filled ds filled_count fills all count each parts named =
+answered value m bare market energy filled ds filled_count fills all count each parts named =
     let x : Dispatch = dispatch_of value ds in
     let d : Duals Fraction = energy_alone (whole energy) in
     let blocks : length x.blocks ≡ length m.blocks = length-map ds value ∙ count in
     let same : (j : ℕ) → j < length m.blocks → accepted x j ≡ whole (taken m filled j) = λ j lt. accepted_at value m filled ds each j (Prim.omega (arith, lt, count)) in
-    let feasible : Feasible m x = is_feasible m x filled energy market blocks filled_count fills same all in
+    let feasible : Feasible m x = is_feasible m x filled energy market blocks filled_count fills same bare all in
     record {
       feasible = feasible;
-      supported = is_supported m x filled energy market blocks filled_count fills same d refl;
+      supported = is_supported m x filled energy market blocks filled_count fills same bare d refl;
       chosen = is_chosen m market x blocks feasible.balanced filled filled_count same d energy refl refl parts named;
     }
 
 -- what is refused in its welfare and in its settlement
-module _ (m : Parts) (x : Dispatch) (d : Duals Fraction) (answer : IsAnswered m x d) (bound : ℕ) where
+module _ (m : Parts) (bare : rows m ≡ []) (x : Dispatch) (d : Duals Fraction) (answer : IsAnswered m x d) (bound : ℕ) where
   pub welfare_cause : (p : Passed Fraction) → IsRefusedIn (welfare_terms m x) bound p → IsRangeOf m bound p
-  welfare_cause p r = range_of_welfare m x d answer.feasible answer.supported answer.chosen bound p r
+  welfare_cause p r = range_of_welfare m bare x d answer.feasible answer.supported answer.chosen bound p r
 
   module _ (price : ℕ → Fraction) (market : IsMarket m) (prices : (i : ℕ) → i < length m.buses → price i ≡ bus_price m d i) where
     left_is : left_terms m x price ≡ surplus_terms m x d
@@ -229,14 +230,14 @@ module _ (m : Parts) (x : Dispatch) (d : Duals Fraction) (answer : IsAnswered m 
         (price i) (demand m i) (bus_price m d i) (demand m i) refl (inl (prices i lt)) (inl refl) h
 
     pub paying_cause : (p : Passed Fraction) → IsPayingRefusal m x bound price p → IsRangeOf m bound p
-    paying_cause p (of_unit u lt (inl h)) = range_of_output m x d answer.feasible answer.supported answer.chosen bound p u lt h
-    paying_cause p (of_unit u lt (inr h)) = range_of_surplus m x d answer.feasible answer.supported answer.chosen bound p (unit_product u lt p h)
-    paying_cause p (of_load i lt (inl h)) = range_of_demand m bound p i lt h
+    paying_cause p (of_unit u lt (inl h)) = range_of_output m bare x d answer.feasible answer.supported answer.chosen bound p u lt h
+    paying_cause p (of_unit u lt (inr h)) = range_of_surplus m bare x d answer.feasible answer.supported answer.chosen bound p (unit_product u lt p h)
+    paying_cause p (of_load i lt (inl h)) = range_of_demand m bare bound p i lt h
     paying_cause p (of_load i lt (inr h)) =
-        range_of_surplus m x d answer.feasible answer.supported answer.chosen bound p
+        range_of_surplus m bare x d answer.feasible answer.supported answer.chosen bound p
         (load_product i lt p (refusal_same Times (price i) (whole (bus_at m i).pd +ℚ whole (bus_at m i).gs) (price i) (demand m i) bound p refl (demand_is m i (bus_at m i) refl) h))
     paying_cause p (of_surplus h) =
-        range_of_surplus m x d answer.feasible answer.supported answer.chosen bound p
+        range_of_surplus m bare x d answer.feasible answer.supported answer.chosen bound p
         (refused_by_added (surplus_terms m x d) bound p (subst (λ (ts : List Term). IsAddedIn ts bound p) left_is h))
 
     pub settling_cause : {N : Type 0} (value : N → Fraction) (fault : ClearFault N) → IsPayingCause value bound m x price fault → IsCauseOf value bound m fault

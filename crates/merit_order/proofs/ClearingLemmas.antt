@@ -16,6 +16,8 @@ use Rattle.market_model.specs.declared.answered.Duals.{Duals}
 use Rattle.market_model.specs.Market.{IsMarket}
 use Rattle.market_model.specs.Dispatch.{Dispatch, IsDispatch, zero, places, block_at, signed, accepted, raised_by, demand}
 use Rattle.market_model.specs.Optimality.{Feasible, Supports}
+use Rattle.market_model.specs.LimitRows.{rows}
+use Rattle.market_model.proofs.RowLaws.{supports_bare, feasible_bare}
 use Rattle.market_model.proofs.PlaceSums.{places_all, sum_by-same_along, sum_by-places, sum_by-whole}
 use Rattle.market_model.proofs.MarketSums.{sum_by-neg, fixed_part, fixed_parts-by_units, demands-by_buses, raises-balance}
 use Rattle.market_model.proofs.WholeDispatch.{whole_gains, whole_loses, block_supported-by_whole, is_dispatch-by_whole}
@@ -75,13 +77,12 @@ module _ (m : Parts) (x : Dispatch) (filled : List ℤ) (energy : ℤ) (h : IsMa
       (λ j lt. taken_above (block_at m j).side (block_at m j).quantity (slice_index_or filled j (pos 0)) (fills_at j lt).low (fills_at j lt).high)
       (λ j lt. taken_within (block_at m j).side (block_at m j).quantity (slice_index_or filled j (pos 0)) (fills_at j lt).low (fills_at j lt).high)
 
-  pub is_supported : (d : Duals Fraction) → d.energy ≡ whole energy → Supports m x d
-  is_supported d e = record {
-    blocks = λ j lt.
-        block_supported-by_whole m d x j energy (taken m filled j) e (same j lt)
-        (gains_full (block_at m j).side (block_at m j).price energy (block_at m j).quantity (slice_index_or filled j (pos 0)) (fills_at j lt).cheap (fills_at j lt).dear)
-        (loses_none (block_at m j).side (block_at m j).price energy (block_at m j).quantity (slice_index_or filled j (pos 0)) (fills_at j lt).cheap (fills_at j lt).dear);
-  }
+  pub is_supported : rows m ≡ [] → (d : Duals Fraction) → d.energy ≡ whole energy → Supports m x d
+  is_supported bare d e = supports_bare m d x bare
+      (λ j lt.
+      block_supported-by_whole m d x j energy (taken m filled j) bare e (same j lt)
+      (gains_full (block_at m j).side (block_at m j).price energy (block_at m j).quantity (slice_index_or filled j (pos 0)) (fills_at j lt).cheap (fills_at j lt).dear)
+      (loses_none (block_at m j).side (block_at m j).price energy (block_at m j).quantity (slice_index_or filled j (pos 0)) (fills_at j lt).cheap (fills_at j lt).dear))
 
   raises : sum_by (raised_by m x) (places (length m.blocks)) ≡ whole (int_sum (λ f. f) filled) +ℚ neg_ℚ (whole (int_sum bought_of m.blocks))
   raises =
@@ -95,14 +96,11 @@ module _ (m : Parts) (x : Dispatch) (filled : List ℤ) (energy : ℤ) (h : IsMa
       (sum_by-neg (λ j. whole (bought_of (block_at m j))) (places (length m.blocks))
       ∙ ap neg_ℚ (sum_by-places (λ b. whole (bought_of b)) no_block m.blocks ∙ sum_by-whole bought_of (int_sum bought_of) refl (λ b bs. refl) m.blocks))
 
-  pub is_feasible : int_sum (λ f. f) filled ≡ (int_sum demand_of m.buses +ℤ int_sum bought_of m.blocks) -ℤ int_sum fixed_of m.units → Feasible m x
-  is_feasible all =
+  pub is_feasible : rows m ≡ [] → int_sum (λ f. f) filled ≡ (int_sum demand_of m.buses +ℤ int_sum bought_of m.blocks) -ℤ int_sum fixed_of m.units → Feasible m x
+  is_feasible bare all =
       let f : ℤ = int_sum (λ f. f) filled in
       let b : ℤ = int_sum bought_of m.blocks in
       let loads : ℤ = int_sum demand_of m.buses in
       let fixed : ℤ = int_sum fixed_of m.units in
       let e : f -ℤ b ≡ loads -ℤ fixed = Prim.omega (arith, ints, all) in
-      record {
-        blocks = is_dispatch;
-        balanced = raises-balance m x h (raises ∙ sym (whole_minus f b) ∙ ap whole e ∙ whole_minus loads fixed ∙ sym (needs m));
-      }
+      feasible_bare m x bare is_dispatch (raises-balance m x h (raises ∙ sym (whole_minus f b) ∙ ap whole e ∙ whole_minus loads fixed ∙ sym (needs m)))

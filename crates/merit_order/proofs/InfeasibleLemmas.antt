@@ -22,9 +22,10 @@ use Rattle.market_model.specs.declared.participants.Parts.{Parts}
 use Rattle.market_model.specs.declared.answered.Duals.{Duals}
 use Rattle.market_model.specs.declared.answered.Farkas.{Farkas}
 use Rattle.market_model.specs.Market.{IsMarket}
-use Rattle.market_model.specs.Dispatch.{zero, places, bus_at, unit_at, block_at, units_at, blocks_at, fixed_term, signed, quantity, raised_by, demand, balance, empty, injection as injection_of}
-use Rattle.market_model.specs.Optimality.{bus_price}
-use Rattle.market_model.specs.Infeasibility.{where_above, part_above, farkas_bound, ShowsInfeasible, IsFarkas}
+use Rattle.market_model.specs.Dispatch.{zero, places, bus_at, unit_at, block_at, block_bus, units_at, blocks_at, fixed_term, signed, quantity, raised_by, demand, balance, empty, injection as injection_of}
+use Rattle.market_model.specs.LimitRows.{rows}
+use Rattle.market_model.proofs.RowLaws.{no_row, proper_bare, bus_price-bare}
+use Rattle.market_model.specs.Infeasibility.{where_above, part_above, block_weight, farkas_bound, ShowsInfeasible, IsFarkas}
 use Rattle.market_model.specs.Stairs.{same_side}
 use Rattle.market_model.specs.Valued.{dual_at, duals_at, farkas_at}
 use Rattle.market_data.specs.WholeSums.{int_sum}
@@ -114,13 +115,13 @@ weighs false Buy q =
     ap (λ t. part_above t *ℚ q) (sym (whole-neg (negsuc 0))) ∙ ap (λ s. where_above s (whole (pos 1)) *ℚ q) sign_of-one ∙ by_ring ring_ℚ (q ∷ []) (pone ⊗ at 0) (at 0) refl
 
 module _ (m : Parts) (d : Duals Fraction) (short : Bool) (energy : d.energy ≡ whole (plain_energy short)) where
-  pub bound_is : farkas_bound m d ≡ bound_by m d.energy (weighing short)
-  unfolding bus_price bound_by
-  bound_is =
-      farkas_bound-by_blocks m d
+  pub bound_is : rows m ≡ [] → farkas_bound m d ≡ bound_by m d.energy (weighing short)
+  unfolding bound_by
+  bound_is bare =
+      farkas_bound-by_blocks m d bare
       ∙ ap (λ t. d.energy *ℚ balance m (empty m) +ℚ t)
-      (sum_by-same (λ j. part_above (signed (block_at m j).side d.energy) *ℚ quantity m j) (λ j. if same_side (block_at m j).side (weighing short) then quantity m j else zero) (places (length m.blocks))
-      (λ j. ap (λ e. part_above (signed (block_at m j).side e) *ℚ quantity m j) energy ∙ weighs short (block_at m j).side (quantity m j)))
+      (sum_by-same (λ j. part_above (block_weight m d j) *ℚ quantity m j) (λ j. if same_side (block_at m j).side (weighing short) then quantity m j else zero) (places (length m.blocks))
+      (λ j. ap (λ e. part_above (signed (block_at m j).side e) *ℚ quantity m j) (bus_price-bare m d (block_bus m j) bare ∙ energy) ∙ weighs short (block_at m j).side (quantity m j)))
 
 -- what nothing accepted makes: the fixed parts less the demands
 empty_is : (m : Parts) → IsMarket m → balance m (empty m) ≡ whole (int_sum fixed_of m.units -ℤ int_sum demand_of m.buses)
@@ -183,7 +184,7 @@ bound-whole m false h =
     turned : (a b c : ℤ) → neg_ℤ (a -ℤ b) +ℤ c ≡ (b -ℤ a) +ℤ c
     turned a b c = Prim.omega (arith, ints)
 
-module _ (m : Parts) (h : IsMarket m) (left : ℤ) (is : left ≡ (int_sum demand_of m.buses +ℤ int_sum bought_of m.blocks) -ℤ int_sum fixed_of m.units)
+module _ (m : Parts) (bare : rows m ≡ []) (h : IsMarket m) (left : ℤ) (is : left ≡ (int_sum demand_of m.buses +ℤ int_sum bought_of m.blocks) -ℤ int_sum fixed_of m.units)
     (none : All (λ b. ¬ (IsReached b.price left m.blocks)) m.blocks) (empty_at : left ≡ pos 0 → m.blocks ≢ []) where
   -- what is left is below 0, or above all that the blocks have
   below_0 : (short : Bool) → (short ≡ true → pos 0 ≤ℤ left) → (short ≡ false → left <ℤ pos 0) → whole_bound m short <ℤ pos 0
@@ -206,9 +207,10 @@ module _ (m : Parts) (h : IsMarket m) (left : ℤ) (is : left ≡ (int_sum deman
   -- so the price of energy shows that nothing is feasible
   pub shows_infeasible : (short : Bool) → (short ≡ true → pos 0 ≤ℤ left) → (short ≡ false → left <ℤ pos 0) → ShowsInfeasible m (energy_alone (whole (plain_energy short)))
   shows_infeasible short s l = record {
-    no_limits = refl;
+    up_signs = λ r c. absurd (no_row m r bare c);
+    down_signs = λ r c. absurd (no_row m r bare c);
     below =
-        subst (λ t. t <ℚ zero) (sym (bound-whole m short h) ∙ sym (bound_is m (energy_alone (whole (plain_energy short))) short refl))
+        subst (λ t. t <ℚ zero) (sym (bound-whole m short h) ∙ sym (bound_is m (energy_alone (whole (plain_energy short))) short refl bare))
         (whole-<ℚ (whole_bound m short) (pos 0) (below_0 short s l));
   }
 
@@ -216,12 +218,14 @@ module _ (m : Parts) (h : IsMarket m) (left : ℤ) (is : left ≡ (int_sum deman
       → value f.duals.energy ≡ whole (plain_energy short) → f.duals.limits ≡ [] → value f.bound ≡ farkas_bound m (duals_at value f.duals) → IsFarkas m (farkas_at value f)
   is_farkas value f short s l energy limits bound = record {
     shows = record {
-      no_limits = ap (map (dual_at value)) limits;
+      up_signs = λ r c. absurd (no_row m r bare c);
+      down_signs = λ r c. absurd (no_row m r bare c);
       below =
           subst (λ t. t <ℚ zero)
-          (sym (bound-whole m short h) ∙ ap (λ e. bound_by m e (weighing short)) (sym energy) ∙ sym (bound_is m (duals_at value f.duals) short energy))
+          (sym (bound-whole m short h) ∙ ap (λ e. bound_by m e (weighing short)) (sym energy) ∙ sym (bound_is m (duals_at value f.duals) short energy bare))
           (whole-<ℚ (whole_bound m short) (pos 0) (below_0 short s l));
     };
+    proper = proper_bare m (duals_at value f.duals) bare (ap (map (dual_at value)) limits);
     bound = bound;
   }
 

@@ -16,10 +16,12 @@ use Rattle.market_model.specs.declared.answered.Load.{Load}
 use Rattle.market_model.specs.declared.answered.Money.{Money}
 use Rattle.market_model.specs.Market.{IsMarket}
 use Rattle.market_model.specs.Dispatch.{Dispatch, zero, places, unit_at, accepted, output, demand}
-use Rattle.market_model.specs.Optimality.{bus_price, unit_price, welfare}
+use Rattle.market_model.specs.Optimality.{congestion, bus_price, unit_price, welfare}
+use Rattle.market_model.specs.LimitRows.{rows}
+use Rattle.market_model.proofs.RowLaws.{congestion-bare, bus_price-bare, proper_bare, named_rows-bare}
 use Rattle.market_model.specs.Settlement.{paid, pays, surplus}
 use Rattle.market_model.specs.Valued.{dual_at, duals_at, price_at as price_value, unit_pay_at, load_at, rent_at, answer_at}
-use Rattle.market_model.specs.Outcomes.{IsRight}
+use Rattle.market_model.specs.Outcomes.{IsRight, rent_of}
 use Rattle.market_model.proofs.PlaceSums.{places_all, sum_by-same_along, sum_by-places}
 use Rattle.market_model.proofs.MarketSums.{unit_bus-in}
 use Rattle.market_data.specs.WholeSums.{int_sum}
@@ -33,8 +35,8 @@ pub at_place : {A B : Type 0} (f : A → B) (xs : List A) (k : ℕ) (d : B) (P :
 at_place f [] k d P h all = absurd (Prim.omega arith)
 at_place f (x ∷ xs) k d P h all = Prim.rw (get_or-map f (x ∷ xs) k x d h) (all x)
 
-same_price : (e c t f u : Fraction) → e ≡ f → c ≡ zero → t ≡ u → ◌≡◌ {A = Price Fraction} (record { energy = e; congestion = c; total = t }) (record { energy = f; congestion = zero; total = u })
-same_price e c t f u a b g = Prim.rw a (Prim.rw b (Prim.rw g refl))
+same_price : (e c t f b u : Fraction) → e ≡ f → c ≡ b → t ≡ u → ◌≡◌ {A = Price Fraction} (record { energy = e; congestion = c; total = t }) (record { energy = f; congestion = b; total = u })
+same_price e c t f d u a b g = Prim.rw a (Prim.rw b (Prim.rw g refl))
 
 same_pay : (mw paid mw' paid' : Fraction) → mw ≡ mw' → paid ≡ paid' → ◌≡◌ {A = UnitPay Fraction} (record { mw = mw; paid = paid }) (record { mw = mw'; paid = paid' })
 same_pay mw paid mw' paid' a b = Prim.rw a (Prim.rw b refl)
@@ -52,23 +54,22 @@ sum_by-at g d ys n f count each =
     sym (sum_by-places g d ys) ∙ ap (λ k. sum_by (λ j. g (slice_index_or ys j d)) (places k)) count
     ∙ sum_by-same_along (λ j. g (slice_index_or ys j d)) f (places n) (places_all (λ j. g (slice_index_or ys j d) ≡ f j) n each)
 
-module _ {N : Type 0} (value : N → Fraction) (m : Parts) (d : Duals Fraction) (energy : N) (ps : List (Price N)) (h : IsMarket m) (count : length ps ≡ length m.buses) (e : value energy ≡ d.energy)
+module _ {N : Type 0} (value : N → Fraction) (m : Parts) (d : Duals Fraction) (energy : N) (ps : List (Price N)) (bare : rows m ≡ []) (h : IsMarket m) (count : length ps ≡ length m.buses) (e : value energy ≡ d.energy)
     (each : AllPlaces (λ _ price. (price.energy ≡ energy) × (price.total ≡ energy) × (value price.congestion ≡ whole (pos 0))) ps) where
   pub prices_right : (i : ℕ) → i < length m.buses
-      → slice_index_or (map (price_value value) ps) i (record { energy = zero; congestion = zero; total = zero }) ≡ record { energy = d.energy; congestion = zero; total = bus_price m d i }
-  unfolding bus_price
+      → slice_index_or (map (price_value value) ps) i (record { energy = zero; congestion = zero; total = zero }) ≡ record { energy = d.energy; congestion = congestion m d i; total = bus_price m d i }
   prices_right i lt =
       let lt' : i < length ps = Prim.omega (arith, count) in
-      at_place (price_value value) ps i (record { energy = zero; congestion = zero; total = zero }) (λ p. p ≡ record { energy = d.energy; congestion = zero; total = d.energy }) lt'
+      at_place (price_value value) ps i (record { energy = zero; congestion = zero; total = zero }) (λ p. p ≡ record { energy = d.energy; congestion = congestion m d i; total = bus_price m d i }) lt'
       (λ p. let is = each i lt' p in
-      same_price (value (get_or ps i p).energy) (value (get_or ps i p).congestion) (value (get_or ps i p).total) d.energy d.energy (ap value is.0 ∙ e) is.2 (ap value is.1 ∙ e))
+      same_price (value (get_or ps i p).energy) (value (get_or ps i p).congestion) (value (get_or ps i p).total) d.energy (congestion m d i) (bus_price m d i)
+      (ap value is.0 ∙ e) (is.2 ∙ sym (congestion-bare m d i bare)) (ap value is.1 ∙ e ∙ sym (bus_price-bare m d i bare)))
 
   -- the price that is paid at a bus
   pub paid_at : (i : ℕ) → i < length m.buses → price_at value ps i ≡ bus_price m d i
-  unfolding bus_price
   paid_at i lt =
       let lt' : i < length ps = Prim.omega (arith, count) in
-      at_place (λ p. value p.total) ps i zero (λ t. t ≡ d.energy) lt' (λ p. ap value (each i lt' p).1 ∙ e)
+      at_place (λ p. value p.total) ps i zero (λ t. t ≡ bus_price m d i) lt' (λ p. ap value (each i lt' p).1 ∙ e ∙ sym (bus_price-bare m d i bare))
 
   module _ (ds : List N) (us : List (UnitPay N)) (units : length us ≡ length m.units)
       (unit_each : AllPlaces (λ place. PaysUnit value m ds place (price_at value ps (unit_at m place).bus)) us) where
@@ -107,7 +108,7 @@ module _ {N : Type 0} (value : N → Fraction) (m : Parts) (d : Duals Fraction) 
           ∙ ap₂ ◌+ℚ◌ (total-Product (bus_price m d) (demand m) (places (length m.buses))) (total-Product (λ u. neg_ℚ (unit_price m d u)) (output m x) (places (length m.units))))
 
 -- all together
-pub is_right : {N : Type 0} (value : N → Fraction) (m : Parts) (h : IsMarket m) (energy : ℤ) (filled : List ℤ) (ds : List N) (d : Duals N) (ps : List (Price N)) (w e : N) (money : Money N)
+pub is_right : {N : Type 0} (value : N → Fraction) (m : Parts) (bare : rows m ≡ []) (h : IsMarket m) (energy : ℤ) (filled : List ℤ) (ds : List N) (d : Duals N) (ps : List (Price N)) (w e : N) (money : Money N)
     → length filled ≡ length m.blocks → AllPlaces (λ place. Fills energy (slice_index_or m.blocks place no_block)) filled
     → int_sum (λ f. f) filled ≡ (int_sum demand_of m.buses +ℤ int_sum bought_of m.blocks) -ℤ int_sum fixed_of m.units
     → length ds ≡ length m.blocks → AllPlaces (λ place mw. value mw ≡ whole (accepted_of (slice_index_or m.blocks place no_block) (slice_index_or filled place (pos 0)))) ds
@@ -119,22 +120,22 @@ pub is_right : {N : Type 0} (value : N → Fraction) (m : Parts) (h : IsMarket m
     → money.rents ≡ []
     → value money.surplus ≡ sum_by (λ load. value load.pays) money.loads +ℚ sum_by (λ unit. neg_ℚ (value unit.paid)) money.units
     → IsRight m (answer_at value (record { dispatch = ds; duals = d; prices = ps; welfare = w; money = money }))
-is_right value m h energy filled ds d ps w e money filled_count fills all count each d_is e_is limits price_count prices w_is unit_count units load_count loads no_rents left =
+is_right value m bare h energy filled ds d ps w e money filled_count fills all count each d_is e_is limits price_count prices w_is unit_count units load_count loads no_rents left =
     let x : Dispatch = dispatch_of value ds in
     let blocks : length x.blocks ≡ length m.blocks = length-map ds value ∙ count in
     let same : (j : ℕ) → j < length m.blocks → accepted x j ≡ whole (taken m filled j) = λ j lt. accepted_at value m filled ds each j (Prim.omega (arith, count)) in
     let dual : value e ≡ value d.energy = ap value (sym d_is) in
     record {
-      feasible = is_feasible m x filled energy h blocks filled_count fills same all;
-      supported = is_supported m x filled energy h blocks filled_count fills same (duals_at value d) (ap value d_is ∙ e_is);
-      no_limits = ap (map (dual_at value)) limits;
+      feasible = is_feasible m x filled energy h blocks filled_count fills same bare all;
+      supported = is_supported m x filled energy h blocks filled_count fills same bare (duals_at value d) (ap value d_is ∙ e_is);
+      proper = proper_bare m (duals_at value d) bare (ap (map (dual_at value)) limits);
       price_count = length-map ps (price_value value) ∙ price_count;
-      prices = prices_right value m (duals_at value d) e ps h price_count dual prices;
+      prices = prices_right value m (duals_at value d) e ps bare h price_count dual prices;
       welfare = w_is;
       unit_count = length-map money.units (unit_pay_at value) ∙ unit_count;
-      units = units_right value m (duals_at value d) e ps h price_count dual prices ds money.units unit_count units;
+      units = units_right value m (duals_at value d) e ps bare h price_count dual prices ds money.units unit_count units;
       load_count = length-map money.loads (load_at value) ∙ load_count;
-      loads = loads_right value m (duals_at value d) e ps h price_count dual prices ds money.units unit_count units money.loads load_count loads;
-      no_rents = ap (map (rent_at value)) no_rents;
-      surplus = surplus_right value m (duals_at value d) e ps h price_count dual prices ds money.units unit_count units money.loads load_count loads (value money.surplus) left;
+      loads = loads_right value m (duals_at value d) e ps bare h price_count dual prices ds money.units unit_count units money.loads load_count loads;
+      rents = ap (map (rent_at value)) no_rents ∙ sym (ap (map (rent_of m x (duals_at value d))) (named_rows-bare m (duals_at value d) bare));
+      surplus = surplus_right value m (duals_at value d) e ps bare h price_count dual prices ds money.units unit_count units money.loads load_count loads (value money.surplus) left;
     }

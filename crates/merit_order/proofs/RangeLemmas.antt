@@ -14,8 +14,10 @@ use Rattle.market_data.specs.declared.participants.Bus.{Bus}
 use Rattle.market_data.specs.declared.participants.Unit as unit
 use Rattle.market_model.specs.declared.participants.Block.{Block}
 use Rattle.market_model.specs.declared.participants.Parts.{Parts}
-use Rattle.market_model.specs.Dispatch.{zero, places, bus_at, unit_at, block_at, units_at, blocks_at, fixed_term, block_term, quantity, raised_by, injection_terms, balance, empty, signed, injection as injection_of}
-use Rattle.market_model.specs.Optimality.{bus_price}
+use Rattle.market_model.specs.Dispatch.{zero, places, bus_at, unit_at, block_at, block_bus, units_at, blocks_at, fixed_term, block_term, quantity, raised_by, injection_terms, balance, empty, signed, injection as injection_of}
+use Rattle.market_model.specs.LimitRows.{rows}
+use Rattle.market_model.proofs.RowLaws.{bus_price-bare}
+use Rattle.market_model.proofs.FarkasLaw.{farkas_terms-bare}
 use Rattle.market_model.specs.Infeasibility.{part_above, block_weight, ShowsInfeasible, farkas_terms}
 use Rattle.market_model.specs.Stairs.{same_side}
 use Rattle.market_model.specs.NamedSums.{SameSize, IsRefusal, IsAddedIn}
@@ -34,7 +36,7 @@ one_or_minus false = inr (whole-neg (pos 1))
 of_one : (energy : Fraction) (side : Side) → IsEnergyOfOne energy side → SameSize energy (whole (pos 1))
 of_one energy side h = subst (λ (e : Fraction). SameSize e (whole (pos 1))) (sym h.1) (one_or_minus h.0)
 
-module _ (m : Parts) (bound : ℕ) (p : Passed Fraction) where
+module _ (m : Parts) (bare : rows m ≡ []) (bound : ℕ) (p : Passed Fraction) where
   -- the fixed part of a unit at a bus
   pub fixed_refused : (i k : ℕ) (u : unit.Unit) (sum : Fraction) → i < length m.buses → k < length m.units → u ≡ unit_at m k → (u.bus == i) ≡ true → sum ≡ fixed_to m i k
       → IsRefusal Plus sum (whole u.fixed) bound p → IsRangeOf m bound p
@@ -44,7 +46,7 @@ module _ (m : Parts) (bound : ℕ) (p : Passed Fraction) where
       let demands : List Term = Plain (neg_ℚ (whole (bus_at m i).pd)) ∷ Plain (neg_ℚ (whole (bus_at m i).gs)) ∷ [] in
       let front : List Term = map (fixed_term m) (filter test (places k)) in
       let r = tested_at test (fixed_term m) (length m.units) k below (ap (λ (v : unit.Unit). v.bus == i) (sym same) ∙ stands) in
-      range_of_injection m bound p i lt
+      range_of_injection m bare bound p i lt
       (added_at (injection_terms m (empty m) i) front (r.0 ++ blocks ++ demands) (fixed_term m k)
       (in_front (map (fixed_term m) (units_at m i) ++ blocks) front (r.0 ++ blocks) demands (fixed_term m k)
       (in_front (map (fixed_term m) (units_at m i)) front r.0 blocks (fixed_term m k) r.1))
@@ -85,28 +87,27 @@ module _ (m : Parts) (bound : ℕ) (p : Passed Fraction) where
         (inr (ap (λ (b : Bus). whole b.gs) same ∙ sym (neg_neg ring_ℚ (whole (bus_at m i).gs)))) r
 
     pub demand_refused : IsDemandRefusal injection bus bound p → IsRangeOf m bound p
-    demand_refused (inl r) = range_of_injection m bound p i lt (load_added r)
-    demand_refused (inr r) = range_of_injection m bound p i lt (shunt_added r)
+    demand_refused (inl r) = range_of_injection m bare bound p i lt (load_added r)
+    demand_refused (inr r) = range_of_injection m bare bound p i lt (shunt_added r)
 
   -- the injection of a bus
   pub injection_refused : (k : ℕ) (sum : Fraction) → k < length m.buses → sum ≡ balance_to m k → IsRefusal Plus sum (injection_of m (empty m) k) bound p → IsRangeOf m bound p
   injection_refused k sum below is h =
       let r = terms_at (λ i. Plain (injection_of m (empty m) i)) (length m.buses) k below in
-      range_of_balance m bound p
+      range_of_balance m bare bound p
       (added_at (map (λ i. Plain (injection_of m (empty m) i)) (places (length m.buses))) (map (λ i. Plain (injection_of m (empty m) i)) (places k)) r.0 (Plain (injection_of m (empty m) k)) r.1
       bound p sum (injection_of m (empty m) k) Plus tt (inl is) (inl refl) h)
 
   -- the balance at the price of energy
   pub balance_refused : (energy : Fraction) (side : Side) → IsEnergyOfOne energy side → IsRefusal Times energy (balance m (empty m)) bound p → IsRangeOf m bound p
   unfolding balance
-  balance_refused energy side one h = range_of_scaled m bound p energy (of_one energy side one) h
+  balance_refused energy side one h = range_of_scaled m bare bound p energy (of_one energy side one) h
 
   module _ (energy : Fraction) (side : Side) (one : IsEnergyOfOne energy side) where
     -- what a block adds to the bound
     adds_is : (j : ℕ) → part_above (block_weight m (energy_alone energy) j) *ℚ quantity m j ≡ (if same_side (block_at m j).side side then quantity m j else zero)
-    unfolding bus_price
     adds_is j =
-        ap (λ e. part_above (signed (block_at m j).side e) *ℚ quantity m j) one.1
+        ap (λ e. part_above (signed (block_at m j).side e) *ℚ quantity m j) (bus_price-bare m (energy_alone energy) (block_bus m j) bare ∙ one.1)
         ∙ weighs one.0 (block_at m j).side (quantity m j)
         ∙ ap (λ (s : Side). if same_side (block_at m j).side s then quantity m j else zero) (sym one.2)
 
@@ -118,8 +119,8 @@ module _ (m : Parts) (bound : ℕ) (p : Passed Fraction) where
         let f : ℕ → Term = λ j. Product (part_above (block_weight m d j)) (quantity m j) in
         let start : Term = Product energy (balance m (empty m)) in
         let r = terms_at f (length m.blocks) k below in
-        range_of_farkas m bound p d (of_one energy side one) shows
-        (added_at (farkas_terms m d) (start ∷ map f (places k)) r.0 (f k) (ap (λ ts. start ∷ ts) r.1) bound p sum (whole block.quantity) Plus tt
+        range_of_farkas m bare bound p d (of_one energy side one) shows
+        (added_at (farkas_terms m d) (start ∷ map f (places k)) r.0 (f k) (farkas_terms-bare m d bare ∙ ap (λ ts. start ∷ ts) r.1) bound p sum (whole block.quantity) Plus tt
         (inl (is ∙ ap (λ t. energy *ℚ balance m (empty m) +ℚ t)
         (sym (total-Product (λ j. part_above (block_weight m d j)) (quantity m) (places k)
         ∙ sum_by-same (λ j. part_above (block_weight m d j) *ℚ quantity m j) (λ j. if same_side (block_at m j).side side then quantity m j else zero) (places k) adds_is))))

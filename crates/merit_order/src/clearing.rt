@@ -387,8 +387,9 @@ fn is_short(left: i128) -> bool
     left >= 0
 }
 
-/// Clears a market.
+/// Clears a market without branches.
 pub fn clear<N: Exact>(alloc: Global, market: &Market) -> Result<Answer<N>, ClearFault<N>>
+    requires bare { market.now.lines ≡ [] }
     ensures fits { IfOk result (λ answer. FitsMarket market.now answer) }
     ensures right { IfOk result (λ answer. IsRight market.now (answer_at N.value answer)) }
     ensures cause { IfErr result (IsCauseOf N.value N.bound market.now) }

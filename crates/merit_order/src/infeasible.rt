@@ -58,7 +58,8 @@ fn less_demand<N: Exact>(injection: N, bus: &Bus) -> Result<N, Passed<N>>
 
 /// What a bus injects where no block is accepted: the fixed parts of its units less its demand.
 fn empty_injection<N: Exact>(market: &Market, place: usize) -> Result<N, Passed<N>>
-    requires { place < length market.now.buses }
+    requires place { place < length market.now.buses }
+    requires bare { market.now.lines ≡ [] }
     ensures injection { IfOk result (λ injection. N.value injection ≡ injection_of market.now (empty market.now) place) }
     ensures cause { IfErr result (λ passed. IsRangeOf market.now N.bound (passed_at N.value passed)) }
 {
@@ -71,6 +72,7 @@ fn empty_injection<N: Exact>(market: &Market, place: usize) -> Result<N, Passed<
 
 /// What all buses inject where no block is accepted.
 fn empty_balance<N: Exact>(market: &Market) -> Result<N, Passed<N>>
+    requires bare { market.now.lines ≡ [] }
     ensures balance { IfOk result (λ balance. N.value balance ≡ balance_of market.now (empty market.now)) }
     ensures cause { IfErr result (λ passed. IsRangeOf market.now N.bound (passed_at N.value passed)) }
 {
@@ -101,6 +103,7 @@ fn with_block<N: Exact>(bound: N, block: &Block, counts: bool) -> Result<N, Pass
 /// What nothing accepted makes at a price of energy, and all that the blocks of a side have.
 fn bound<N: Exact>(market: &Market, energy: N, side: Side) -> Result<N, Passed<N>>
     requires energy { IsEnergyOfOne (N.value energy) side }
+    requires bare { market.now.lines ≡ [] }
     requires shows { ShowsInfeasible market.now (energy_alone (N.value energy)) }
     ensures bound { IfOk result (λ bound. N.value bound ≡ bound_by market.now (N.value energy) side) }
     ensures cause { IfErr result (λ passed. IsRangeOf market.now N.bound (passed_at N.value passed)) }
@@ -128,7 +131,8 @@ fn weighing_side(short: bool) -> Side
 /// serve less than the demand, of -1 where the fixed parts put out more than the demand and the
 /// buy blocks take.
 pub fn farkas<N: Exact>(alloc: Global, market: &Market, short: bool) -> Result<Farkas<N>, Passed<N>>
-    requires { ShowsInfeasible market.now (energy_alone (whole (plain_energy short))) }
+    requires bare { market.now.lines ≡ [] }
+    requires shows { ShowsInfeasible market.now (energy_alone (whole (plain_energy short))) }
     ensures energy { IfOk result (λ farkas. N.value farkas.duals.energy ≡ whole (plain_energy short)) }
     ensures limits { IfOk result (λ farkas. farkas.duals.limits ≡ []) }
     ensures bound { IfOk result (λ farkas. N.value farkas.bound ≡ farkas_bound market.now (duals_at N.value farkas.duals)) }

@@ -1,6 +1,6 @@
 //! From words and files to the text that is put.
 
-ghost use Rattle.std.specs.Prelude.{◌≡◌, ◌≢◌, ◌⊎◌, ℕ, List, map, option_map, string_bytes, Some, Ok, Err, IfOk, IfErr, MatchResult};
+ghost use Rattle.std.specs.Prelude.{◌≡◌, ◌≢◌, ◌⊎◌, ℕ, List, [], map, option_map, string_bytes, Some, Ok, Err, IfOk, IfErr, MatchResult};
 ghost use Rattle.outside_store.specs.Causes.{Rose, Still};
 ghost use Rattle.outside_store.specs.Files.{Reads, SameFiles};
 ghost use Rattle.outside_store.specs.Sinks.{Took, CountFault};
@@ -38,6 +38,7 @@ use std::alloc::Global;
 fn market(alloc: Global, case: &[u8], offers: &[u8]) -> Result<Market, Stop>
     ensures market { IfOk result (λ market. pool_market case.now offers.now ≡ Ok market) }
     ensures kept { IfOk result IsMarket }
+    ensures bare { IfOk result (λ market. market.lines ≡ []) }
     ensures refused { (refusal : Refusal) → result ≡ Err (Stop.Refused refusal) → pool_market case.now offers.now ≡ Err refusal }
 {
     if case.len() > MOST_BYTES {
@@ -71,6 +72,7 @@ struct Outcome {
 
 /// What a market is cleared to.
 fn cleared<N: Exact>(alloc: Global, market: &Market) -> Result<Clearing<N>, Memory>
+    requires bare { market.now.lines ≡ [] }
     ensures fits { IfOk result (λ outcome. FitsOutcome market.now outcome) }
     ensures right { IfOk result (λ outcome. IsRightOutcome N.bound market.now (outcome_at N.value outcome)) }
     ensures price { IfOk result (λ outcome. HasPlainPrice (outcome_at N.value outcome)) }
@@ -97,6 +99,7 @@ fn clear_status<N: Exact>(outcome: &Clearing<N>) -> Status
 
 /// What clearing a market comes to.
 fn clear_outcome<N: Exact>(alloc: Global, market: &Market) -> Result<Outcome, Memory>
+    requires bare { market.now.lines ≡ [] }
     ensures status { IfOk result (λ outcome. IsOfFiles outcome.status) }
     ensures clears { IfOk result (λ outcome. ClearsTo N.bound market.now outcome.status outcome.text.items) }
 {

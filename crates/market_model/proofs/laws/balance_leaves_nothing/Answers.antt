@@ -1,5 +1,5 @@
-use Rattle.market_model.proofs.Optimum.{law_of_the_surplus}
+use Rattle.market_model.proofs.Optimum.{law_of_no_limits}
 use Rattle.market_model.proofs.laws.balance_leaves_nothing.Goals as goal
 
 pub returns : goal.returns
-returns c = law_of_the_surplus
+returns c = law_of_no_limits

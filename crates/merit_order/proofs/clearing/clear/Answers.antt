@@ -22,6 +22,7 @@ use Rattle.merit_order.specs.declared.clearing.ClearFault.TheVariants as why
 use Rattle.merit_order.specs.Clearing.{dispatch_of, energy_alone}
 use Rattle.merit_order.specs.Paying.{price_at, PaysUnit, LoadPays, IsPayingCause}
 use Rattle.merit_order.proofs.InfeasibleLemmas.{is_farkas, is_plain, shows_infeasible}
+use Rattle.market_model.proofs.RowLaws.{no_rows}
 use Rattle.merit_order.proofs.ChosenLemmas.{answered, welfare_cause, settling_cause}
 use Rattle.merit_order.proofs.OutcomeLemmas.{is_right, paid_at}
 use Rattle.merit_order.proofs.clearing.clear.Goals as goal
@@ -59,7 +60,7 @@ returns-clause-right g c =
     (subst (λ xs. AllPlaces (λ place. PaysUnit value m xs place (price_at value c.slice-5.result.now (unit_at m place).bus)) c.in_ok-money.money.units) c.slice-4.ensures c.in_ok-money.ensures.units) in
     let pays : AllPlaces (λ place. LoadPays value m place (price_at value ps place)) c.in_ok-money.money.loads =
     subst (λ qs. AllPlaces (λ place. LoadPays value m place (price_at value qs place)) c.in_ok-money.money.loads) c.slice-5.ensures c.in_ok-money.ensures.loads in
-    is_right value m market e filled ds c.duals.result ps c.in_ok-welfare.welfare c.datum-energy.result c.in_ok-money.money filled_count filled_each all count each
+    is_right value m (no_rows m c.requires.bare) market e filled ds c.duals.result ps c.in_ok-welfare.welfare c.datum-energy.result c.in_ok-money.money filled_count filled_each all count each
     c.duals.ensures.energy c.datum-energy.ensures c.duals.ensures.limits price_count c.in_ok-prices.ensures.each w_is c.in_ok-money.ensures.unit_count units c.in_ok-money.ensures.load_count pays c.in_ok-money.ensures.rents c.in_ok-money.ensures.surplus
 
 pub dispatch-requires-clause-each : goal.dispatch-requires-clause-each
@@ -80,7 +81,7 @@ returns-in-None-clause-cause g c =
     let fixed_most = c.fixed_output.ensures.bound in
     let taken : ℤ = to_z w128 (of_z w128 (to_z w128 (of_z w128 c.demand.result) +ℤ to_z w128 (of_z w128 c.bought.result))) in
     let left : ℤ = to_z w128 (of_z w128 (taken -ℤ to_z w128 (of_z w128 c.fixed_output.result))) in (
-      is_farkas m market left (omega (arith, ints, loads, bought, fixed))
+      is_farkas m (no_rows m c.requires.bare) market left (omega (arith, ints, loads, bought, fixed))
           (subst (λ (bs : List Block). All (λ b. ¬ (IsReached b.price left bs)) bs) blocks c.in-None.ensures.none) (λ nothing none. c.in-None.ensures.empty nothing (blocks ∙ none))
           g.N.Exact.value c.in_ok-farkas-in-None.field-0 c.is_short.result c.is_short.ensures.short c.is_short.ensures.long c.in_ok-farkas-in-None.ensures.energy c.in_ok-farkas-in-None.ensures.limits c.in_ok-farkas-in-None.ensures.bound,
       is_plain c.is_short.result _ c.in_ok-farkas-in-None.ensures.energy,
@@ -116,12 +117,12 @@ returns-in_err-welfare-clause-cause g c =
     subst (λ (bs : List Block). ((bs ≡ []) × (e ≡ pos 0)) ⊎ IsPriceIn bs e) blocks
     (subst (λ (x : ℤ). ((c.slice-blocks.result.now ≡ []) × (x ≡ pos 0)) ⊎ IsPriceIn c.slice-blocks.result.now x)
     (sym (to_z-of_z w64 c.in-Some.energy (datum_fits c.in-Some.energy c.in-Some.ensures.price))) c.in-Some.ensures.named) in
-    let answer = answered value m market e filled ds filled_count filled_each all count each parts named in
+    let answer = answered value m (no_rows m c.requires.bare) market e filled ds filled_count filled_each all count each parts named in
     let r = err_from_is_err_and c.from_residual-in_err-welfare.result c.from_residual-in_err-welfare.ensures.1 in
     let given : c.from_residual-in_err-welfare.result ≡ Err (why.Range c.in_err-welfare.field-0.0) = r.1 ∙ ap Err r.2 in
     let p = passed_at value c.in_err-welfare.field-0.0 in
     rw given
-    (welfare_cause m (dispatch_of value ds) (energy_alone (whole e)) answer g.N.Exact.bound p
+    (welfare_cause m (no_rows m c.requires.bare) (dispatch_of value ds) (energy_alone (whole e)) answer g.N.Exact.bound p
     (subst (λ xs. IsRefusedIn (welfare_terms m (dispatch_of value xs)) g.N.Exact.bound p) c.slice-3.ensures c.in_err-welfare.ensures.cause))
 
 pub returns-in_err-money-clause-cause : goal.returns-in_err-money-clause-cause
@@ -154,20 +155,20 @@ returns-in_err-money-clause-cause g c =
     subst (λ (bs : List Block). ((bs ≡ []) × (e ≡ pos 0)) ⊎ IsPriceIn bs e) blocks
     (subst (λ (x : ℤ). ((c.slice-blocks.result.now ≡ []) × (x ≡ pos 0)) ⊎ IsPriceIn c.slice-blocks.result.now x)
     (sym (to_z-of_z w64 c.in-Some.energy (datum_fits c.in-Some.energy c.in-Some.ensures.price))) c.in-Some.ensures.named) in
-    let answer = answered value m market e filled ds filled_count filled_each all count each parts named in
+    let answer = answered value m (no_rows m c.requires.bare) market e filled ds filled_count filled_each all count each parts named in
     let r = err_from_is_err_and c.from_residual-in_err-money.result c.from_residual-in_err-money.ensures.1 in
     let given : c.from_residual-in_err-money.result ≡ Err c.in_err-money.field-0.0 = r.1 ∙ ap Err r.2 in
     let ps : List (Price g.row.N.Denot) = c.in_ok-prices.prices in
     let d : Duals Fraction = energy_alone (whole e) in
     let price_count : length ps ≡ length m.buses = grind (arith, common_steps) in
     rw given
-    (settling_cause m (dispatch_of value ds) d answer g.N.Exact.bound (price_at value ps) market
-    (paid_at value m d c.datum-energy.result ps market price_count c.datum-energy.ensures c.in_ok-prices.ensures.each) value c.in_err-money.field-0.0
+    (settling_cause m (no_rows m c.requires.bare) (dispatch_of value ds) d answer g.N.Exact.bound (price_at value ps) market
+    (paid_at value m d c.datum-energy.result ps (no_rows m c.requires.bare) market price_count c.datum-energy.ensures c.in_ok-prices.ensures.each) value c.in_err-money.field-0.0
     (subst (λ qs. IsPayingCause value g.N.Exact.bound m (dispatch_of value ds) (price_at value qs) c.in_err-money.field-0.0) c.slice-5.ensures
     (subst (λ xs. IsPayingCause value g.N.Exact.bound m (dispatch_of value xs) (price_at value c.slice-5.result.now) c.in_err-money.field-0.0) c.slice-4.ensures c.in_err-money.ensures.cause)))
 
-pub farkas-requires : goal.farkas-requires
-farkas-requires g c =
+pub farkas-requires-clause-shows : goal.farkas-requires-clause-shows
+farkas-requires-clause-shows g c =
     let m : Parts = c.args.market.now in
     let market : IsMarket m = c.blocks-2.ensures.market in
     let blocks : c.slice-blocks.result.now ≡ m.blocks = c.slice-blocks.ensures ∙ c.blocks-2.ensures.list in
@@ -179,6 +180,6 @@ farkas-requires g c =
     let fixed_most = c.fixed_output.ensures.bound in
     let taken : ℤ = to_z w128 (of_z w128 (to_z w128 (of_z w128 c.demand.result) +ℤ to_z w128 (of_z w128 c.bought.result))) in
     let left : ℤ = to_z w128 (of_z w128 (taken -ℤ to_z w128 (of_z w128 c.fixed_output.result))) in
-    shows_infeasible m market left (omega (arith, ints, loads, bought, fixed))
+    shows_infeasible m (no_rows m c.requires.bare) market left (omega (arith, ints, loads, bought, fixed))
     (subst (λ (bs : List Block). All (λ b. ¬ (IsReached b.price left bs)) bs) blocks c.in-None.ensures.none) (λ nothing none. c.in-None.ensures.empty nothing (blocks ∙ none))
     c.is_short.result c.is_short.ensures.short c.is_short.ensures.long

@@ -9,6 +9,7 @@ use Rattle.merit_order.specs.Clearing.{bound_by}
 use Rattle.merit_order.proofs.InfeasibleLemmas.{bound_step}
 use Rattle.exact_fraction.specs.declared.Op.TheVariants as Op
 use Rattle.market_model.specs.Valued.{passed_at}
+use Rattle.market_model.proofs.RowLaws.{no_rows}
 use Rattle.merit_order.proofs.RangeLemmas.{balance_refused, block_refused}
 use Rattle.merit_order.proofs.RefusalLemmas.{refusal}
 use Rattle.merit_order.proofs.infeasible.bound.Goals as goal
@@ -42,7 +43,7 @@ pub returns-in_err-bound-clause-cause : goal.returns-in_err-bound-clause-cause
 returns-in_err-bound-clause-cause g c =
     let given : c.from_residual-in_err-bound.result ≡ Err c.in_err-bound.field-0.0 = search rules in
     rw given
-    (balance_refused c.args.market.now g.N.Exact.bound (passed_at g.N.Exact.value c.in_err-bound.field-0.0) (g.N.Exact.value c.args.energy) c.args.side c.requires.energy
+    (balance_refused c.args.market.now (no_rows c.args.market.now c.requires.bare) g.N.Exact.bound (passed_at g.N.Exact.value c.in_err-bound.field-0.0) (g.N.Exact.value c.args.energy) c.args.side c.requires.energy
     (refusal g.N.Exact.value g.N.Exact.bound Op.Times c.args.energy c.in_ok-empty_balance.field-0 _ _ c.in_err-bound.field-0.0 refl c.in_ok-empty_balance.ensures.balance c.in_err-bound.ensures))
 
 pub returns-in_err-bound-2-clause-cause : goal.returns-in_err-bound-2-clause-cause
@@ -51,7 +52,7 @@ returns-in_err-bound-2-clause-cause g c =
     let k = c.loop-block.block-index in
     let given : c.from_residual-in_err-bound-2.result ≡ Err c.in_err-bound-2.field-0.0 = search rules in
     rw given
-    (block_refused c.args.market.now g.N.Exact.bound (passed_at g.N.Exact.value c.in_err-bound-2.field-0.0) (g.N.Exact.value c.args.energy) c.args.side c.requires.energy k _ (g.N.Exact.value c.loop-block.bound)
+    (block_refused c.args.market.now (no_rows c.args.market.now c.requires.bare) g.N.Exact.bound (passed_at g.N.Exact.value c.in_err-bound-2.field-0.0) (g.N.Exact.value c.args.energy) c.args.side c.requires.energy k _ (g.N.Exact.value c.loop-block.bound)
     c.requires.shows (omega (arith, c.loop-block-test.true, ap length blocks))
     (ap (λ bs. slice_index_or bs k (record { unit = 0; side = Sell; quantity = pos 0; price = pos 0 })) blocks)
     (sym c.is_of_side.ensures ∙ c.in_err-bound-2.ensures.counts) c.loop-block.invariant c.in_err-bound-2.ensures.cause)

@@ -6,6 +6,7 @@ use Rattle.market_model.proofs.MorePlaces.{total-places_more}
 use Rattle.merit_order.proofs.InfeasibleLemmas.{balance_to}
 use Rattle.exact_fraction.specs.declared.Op.TheVariants as Op
 use Rattle.market_model.specs.Valued.{passed_at}
+use Rattle.market_model.proofs.RowLaws.{no_rows}
 use Rattle.merit_order.proofs.RangeLemmas.{injection_refused}
 use Rattle.merit_order.proofs.RefusalLemmas.{refusal}
 use Rattle.merit_order.proofs.infeasible.empty_balance.Goals as goal
@@ -29,6 +30,6 @@ returns-in_err-balance-clause-cause g c =
     let m = c.args.market.now in
     let given : c.from_residual-in_err-balance.result ≡ Err c.in_err-balance.field-0.0 = search rules in
     rw given
-    (injection_refused m g.N.Exact.bound (passed_at g.N.Exact.value c.in_err-balance.field-0.0) c.loop-place.place (g.N.Exact.value c.loop-place.balance)
+    (injection_refused m (no_rows m c.requires.bare) g.N.Exact.bound (passed_at g.N.Exact.value c.in_err-balance.field-0.0) c.loop-place.place (g.N.Exact.value c.loop-place.balance)
     (omega (arith, c.loop-place-test.true, c.len-place-end.ensures, ap length c.buses.ensures.list)) c.loop-place.invariant
     (refusal g.N.Exact.value g.N.Exact.bound Op.Plus c.loop-place.balance c.in_ok-empty_injection.field-0 _ _ c.in_err-balance.field-0.0 refl c.in_ok-empty_injection.ensures.injection c.in_err-balance.ensures))

@@ -1,0 +1,242 @@
+-- Limit rows: markets that have none, flows by factors, and what bus prices make of injections.
+use Rattle.std.specs.Prelude.{◌≡◌, ◌⊎◌, ℕ, ◌<◌, All, Contains, List, [], ◌∷◌, ◌++◌, length, map, filter, refl}
+use Rattle.std.specs.List.{flat_map, AllByRecursion}
+use Rattle.std.proofs.Common.{arith, ap, sym, ◌∙◌, subst, inl, inr}
+use mathlib.Core.Path.{ap₂}
+use Rattle.fraction_theory.specs.Fraction.{Fraction, ◌+ℚ◌, ◌-ℚ◌, ◌*ℚ◌, neg_ℚ}
+use Rattle.fraction_theory.specs.Order.{◌≤ℚ◌, ◌<ℚ◌, NonNeg}
+use Rattle.fraction_theory.specs.Sums.{Product, sum_by, total}
+use Rattle.fraction_theory.proofs.Ring.{by_ring, by_ring1, by_ring2, at, pnil, pone, pneg, ◌⊕◌, ◌⊗◌}
+use Rattle.fraction_theory.proofs.FieldLaws.{ring_ℚ}
+use Rattle.fraction_theory.proofs.OrderLaws.{NonNeg_from, NonNeg_to, NonNeg-plus, NonNeg-times, NonNeg-nil, NonNeg-one, le_to, ≤ℚ-or-<ℚ, ≤ℚ_antisym, ≤ℚ_of_same, *ℚ-≤ℚ, by_le2}
+use Rattle.fraction_theory.proofs.ListSums.{Contains-head, Contains-cons, sum_by-members}
+use Rattle.fraction_theory.proofs.SumLaws.{sum_by-≤, sum_by-plus, sum_by-nil, sum_by-same, sum_by-times, sum_by-exchange, total-Product}
+use Rattle.market_model.specs.declared.participants.Parts.{Parts}
+use Rattle.market_model.specs.declared.answered.Dual.{Dual}
+use Rattle.market_model.specs.declared.answered.Duals.{Duals}
+use Rattle.market_model.specs.Dispatch.{Dispatch, IsDispatch, zero, places, block_at, block_bus, accepted, quantity, injection, balance}
+use Rattle.market_model.specs.LimitRows.{Cause, Base, After, Row, place_of_line, has_base, has_post, rows_after, rows, row_id, limit, row_flow, row_offset, row_factor, line_flow, line_offset, shift_factor, loss_factor, flow}
+use Rattle.market_model.specs.Optimality.{Feasible, Supports, BlockSupported, Gains, Loses, price, IsOneSided, ProperDuals, is_named, named_rows, up_of, down_of, pull, congestion, bus_price}
+use Rattle.market_model.specs.Settlement.{rent}
+use Rattle.market_model.specs.Laws.{LawOfTheFlows, HasOffsetsWithin}
+use Rattle.market_model.proofs.MarketSums.{balance-by_injections, sum_by-neg}
+
+-- ---- a market without lines has no rows
+no_items : {X Y : Type 0} (f : X → List Y) (xs : List X) → ((x : X) → f x ≡ []) → flat_map f xs ≡ []
+no_items f [] h = refl
+no_items f (x ∷ xs) h = ap₂ ◌++◌ (h x) (no_items f xs h)
+
+pub no_rows : (m : Parts) → m.lines ≡ [] → rows m ≡ []
+unfolding rows
+no_rows m e =
+    ap₂ ◌++◌ (ap (λ (n : ℕ). map (λ l. record { line = l; cause = Base }) (filter (has_base m) (places n))) (ap length e))
+    (no_items (λ row. rows_after m (place_of_line m row)) m.outages (λ row. none (place_of_line m row)))
+  where
+    none : (k : ℕ) → rows_after m k ≡ []
+    none k = ap (λ (n : ℕ). map (λ l. record { line = l; cause = After k }) (filter (has_post m k) (places n))) (ap length e)
+
+pub no_row : (m : Parts) (r : Row) → rows m ≡ [] → ¬ (Contains (rows m) r)
+no_row m r bare c = let k : Contains [] r = subst (λ (rs : List Row). Contains rs r) bare c in Prim.omega (arith, k.1)
+
+pub congestion-bare : (m : Parts) (d : Duals Fraction) (i : ℕ) → rows m ≡ [] → congestion m d i ≡ zero
+unfolding congestion
+congestion-bare m d i e = ap (λ rs. total (map (λ r. Product (neg_ℚ (pull m d r)) (row_factor m r i)) rs)) e
+
+pub bus_price-bare : (m : Parts) (d : Duals Fraction) (i : ℕ) → rows m ≡ [] → bus_price m d i ≡ d.energy
+unfolding bus_price
+bus_price-bare m d i e = ap (λ t. d.energy +ℚ t) (congestion-bare m d i e) ∙ by_ring ring_ℚ (d.energy ∷ []) (at 0 ⊕ pnil) (at 0) refl
+
+module _ (m : Parts) (d : Duals Fraction) (x : Dispatch) (bare : rows m ≡ []) where
+  pub supported_bare : (j : ℕ) → (Gains (block_at m j).side (price m j) d.energy → accepted x j ≡ quantity m j) → (Loses (block_at m j).side (price m j) d.energy → accepted x j ≡ zero) → BlockSupported m x d j
+  supported_bare j full empty = record {
+    full = λ g. full (subst (Gains (block_at m j).side (price m j)) (bus_price-bare m d (block_bus m j) bare) g);
+    empty = λ g. empty (subst (Loses (block_at m j).side (price m j)) (bus_price-bare m d (block_bus m j) bare) g);
+  }
+
+  pub supports_bare : ((j : ℕ) → j < length m.blocks → BlockSupported m x d j) → Supports m x d
+  supports_bare h = record { blocks = h; rows = λ r c. let k : Contains [] r = subst (λ (rs : List Row). Contains rs r) bare c in absurd (Prim.omega (arith, k.1)) }
+
+  pub full_bare : (j : ℕ) → BlockSupported m x d j → Gains (block_at m j).side (price m j) d.energy → accepted x j ≡ quantity m j
+  full_bare j s g = s.full (subst (Gains (block_at m j).side (price m j)) (sym (bus_price-bare m d (block_bus m j) bare)) g)
+
+  pub empty_bare : (j : ℕ) → BlockSupported m x d j → Loses (block_at m j).side (price m j) d.energy → accepted x j ≡ zero
+  empty_bare j s g = s.empty (subst (Loses (block_at m j).side (price m j)) (sym (bus_price-bare m d (block_bus m j) bare)) g)
+
+pub feasible_bare : (m : Parts) (x : Dispatch) → rows m ≡ [] → IsDispatch m x → balance m x ≡ zero → Feasible m x
+feasible_bare m x bare h e = record {
+  blocks = h;
+  balanced = e;
+  limits = λ r c. let k : Contains [] r = subst (λ (rs : List Row). Contains rs r) bare c in absurd (Prim.omega (arith, k.1));
+}
+
+pub named_rows-bare : (m : Parts) (d : Duals Fraction) → rows m ≡ [] → named_rows m d ≡ []
+named_rows-bare m d bare = ap (λ (rs : List Row). filter (λ r. is_named d.limits (row_id m r)) rs) bare
+
+pub proper_bare : (m : Parts) (d : Duals Fraction) → rows m ≡ [] → d.limits ≡ [] → ProperDuals m d
+proper_bare m d bare e = record {
+  named = ap (λ (ds : List (Dual Fraction)). map (λ f. f.row) ds) e ∙ sym (ap (λ (rs : List Row). map (row_id m) rs) (named_rows-bare m d bare));
+  one_sided = subst (All IsOneSided) (sym e) (λ i f lt. absurd (Prim.omega (arith, lt)));
+}
+
+-- what is proper names nothing where there are no rows
+pub no_limits : (m : Parts) (d : Duals Fraction) → rows m ≡ [] → ProperDuals m d → d.limits ≡ []
+no_limits m d bare h = none d.limits (h.named ∙ ap (λ (rs : List Row). map (row_id m) rs) (named_rows-bare m d bare))
+  where
+    none : (ds : List (Dual Fraction)) → map (λ f. f.row) ds ≡ [] → ds ≡ []
+    none [] e = refl
+    none (f ∷ fs) e = absurd Prim.cc
+
+-- ---- flows by factors
+line_flow-by_factors : (m : Parts) (p : ℕ → Fraction) (l : ℕ) → line_flow m p l ≡ line_offset m l +ℚ sum_by (λ i. shift_factor m l i *ℚ p i) (places (length m.buses))
+unfolding line_flow
+line_flow-by_factors m p l = ap (λ t. line_offset m l +ℚ t) (total-Product (shift_factor m l) p (places (length m.buses)))
+
+pub law_of_the_flows : LawOfTheFlows
+unfolding row_offset row_factor
+law_of_the_flows m p r = by r.line r.cause
+  where
+    by : (l : ℕ) (c : Cause) → row_flow m p (record { line = l; cause = c })
+        ≡ row_offset m (record { line = l; cause = c }) +ℚ sum_by (λ i. row_factor m (record { line = l; cause = c }) i *ℚ p i) (places (length m.buses))
+    by l Base =
+        line_flow-by_factors m p l
+        ∙ ap₂ ◌+ℚ◌ (by_ring ring_ℚ (line_offset m l ∷ []) (at 0) (at 0 ⊕ pnil) refl)
+        (sum_by-same (λ i. shift_factor m l i *ℚ p i) (λ i. (shift_factor m l i +ℚ zero) *ℚ p i) (places (length m.buses))
+        (λ i. by_ring ring_ℚ (shift_factor m l i ∷ p i ∷ []) (at 0 ⊗ at 1) ((at 0 ⊕ pnil) ⊗ at 1) refl))
+    by l (After k) =
+        let k_l : Fraction = loss_factor m l k in
+        let o : Fraction = line_offset m l in
+        let o_k : Fraction = line_offset m k in
+        let s : Fraction = sum_by (λ i. shift_factor m l i *ℚ p i) (places (length m.buses)) in
+        let s_k : Fraction = sum_by (λ i. shift_factor m k i *ℚ p i) (places (length m.buses)) in
+        ap₂ (λ (t u : Fraction). t +ℚ loss_factor m l k *ℚ u) (line_flow-by_factors m p l) (line_flow-by_factors m p k)
+        ∙ by_ring ring_ℚ (o ∷ s ∷ k_l ∷ o_k ∷ s_k ∷ []) ((at 0 ⊕ at 1) ⊕ at 2 ⊗ (at 3 ⊕ at 4)) ((at 0 ⊕ (at 2 ⊗ at 3 ⊕ pnil)) ⊕ (at 1 ⊕ at 2 ⊗ at 4)) refl
+        ∙ ap (λ t. (o +ℚ (k_l *ℚ o_k +ℚ zero)) +ℚ t)
+        (ap (λ t. s +ℚ t) (sym (sum_by-times (loss_factor m l k) (λ i. shift_factor m k i *ℚ p i) (places (length m.buses))))
+        ∙ sym (sum_by-plus (λ i. shift_factor m l i *ℚ p i) (λ i. loss_factor m l k *ℚ (shift_factor m k i *ℚ p i)) (places (length m.buses)))
+        ∙ sum_by-same (λ i. shift_factor m l i *ℚ p i +ℚ loss_factor m l k *ℚ (shift_factor m k i *ℚ p i))
+        (λ i. (shift_factor m l i +ℚ (loss_factor m l k *ℚ shift_factor m k i +ℚ zero)) *ℚ p i) (places (length m.buses))
+        (λ i. by_ring ring_ℚ (shift_factor m l i ∷ p i ∷ loss_factor m l k ∷ shift_factor m k i ∷ []) (at 0 ⊗ at 1 ⊕ at 2 ⊗ (at 3 ⊗ at 1)) ((at 0 ⊕ (at 2 ⊗ at 3 ⊕ pnil)) ⊗ at 1) refl))
+
+-- ---- sums over buses and rows, exchanged
+-- what prices of buses, made of pulls of rows, make of injections
+pub pulled : {R : Type 0} (rs : List R) (is : List ℕ) (q : R → Fraction) (a : R → ℕ → Fraction) (p : ℕ → Fraction)
+    → sum_by (λ i. sum_by (λ r. neg_ℚ (q r) *ℚ a r i) rs *ℚ p i) is ≡ neg_ℚ (sum_by (λ r. q r *ℚ sum_by (λ i. a r i *ℚ p i) is) rs)
+pulled rs is q a p =
+    sum_by-same (λ i. sum_by (λ r. neg_ℚ (q r) *ℚ a r i) rs *ℚ p i) (λ i. sum_by (λ r. p i *ℚ (neg_ℚ (q r) *ℚ a r i)) rs) is
+    (λ i. by_ring ring_ℚ (sum_by (λ r. neg_ℚ (q r) *ℚ a r i) rs ∷ p i ∷ []) (at 0 ⊗ at 1) (at 1 ⊗ at 0) refl ∙ sym (sum_by-times (p i) (λ r. neg_ℚ (q r) *ℚ a r i) rs))
+    ∙ sum_by-exchange (λ i r. p i *ℚ (neg_ℚ (q r) *ℚ a r i)) is rs
+    ∙ sum_by-same (λ r. sum_by (λ i. p i *ℚ (neg_ℚ (q r) *ℚ a r i)) is) (λ r. neg_ℚ (q r *ℚ sum_by (λ i. a r i *ℚ p i) is)) rs
+    (λ r. sum_by-same (λ i. p i *ℚ (neg_ℚ (q r) *ℚ a r i)) (λ i. neg_ℚ (q r) *ℚ (a r i *ℚ p i)) is
+    (λ i. by_ring ring_ℚ (p i ∷ q r ∷ a r i ∷ []) (at 0 ⊗ (pneg (at 1) ⊗ at 2)) (pneg (at 1) ⊗ (at 2 ⊗ at 0)) refl)
+    ∙ sum_by-times (neg_ℚ (q r)) (λ i. a r i *ℚ p i) is
+    ∙ by_ring ring_ℚ (q r ∷ sum_by (λ i. a r i *ℚ p i) is ∷ []) (pneg (at 0) ⊗ at 1) (pneg (at 0 ⊗ at 1)) refl)
+    ∙ sum_by-neg (λ r. q r *ℚ sum_by (λ i. a r i *ℚ p i) is) rs
+
+-- the rows' pulls on what flows beyond their offsets
+abbrev pub pulls : Parts → Duals Fraction → Dispatch → Fraction
+pulls m d x = sum_by (λ r. pull m d r *ℚ (flow m x r -ℚ row_offset m r)) (rows m)
+
+-- injections at bus prices: the balance at the price of energy, less the pulls of the rows
+pub priced-by_pulls : (m : Parts) (d : Duals Fraction) (x : Dispatch)
+    → sum_by (λ i. bus_price m d i *ℚ injection m x i) (places (length m.buses)) ≡ d.energy *ℚ balance m x -ℚ pulls m d x
+unfolding bus_price congestion
+priced-by_pulls m d x =
+    let buses : List ℕ = places (length m.buses) in
+    sum_by-same (λ i. (d.energy +ℚ congestion m d i) *ℚ injection m x i) (λ i. d.energy *ℚ injection m x i +ℚ sum_by (λ r. neg_ℚ (pull m d r) *ℚ row_factor m r i) (rows m) *ℚ injection m x i) buses
+    (λ i. by_ring ring_ℚ (d.energy ∷ congestion m d i ∷ injection m x i ∷ []) ((at 0 ⊕ at 1) ⊗ at 2) (at 0 ⊗ at 2 ⊕ at 1 ⊗ at 2) refl
+    ∙ ap (λ t. d.energy *ℚ injection m x i +ℚ t *ℚ injection m x i) (total-Product (λ r. neg_ℚ (pull m d r)) (λ r. row_factor m r i) (rows m)))
+    ∙ sum_by-plus (λ i. d.energy *ℚ injection m x i) (λ i. sum_by (λ r. neg_ℚ (pull m d r) *ℚ row_factor m r i) (rows m) *ℚ injection m x i) buses
+    ∙ ap₂ ◌+ℚ◌
+    (sum_by-times d.energy (injection m x) buses ∙ ap (λ t. d.energy *ℚ t) (sym (balance-by_injections m x)))
+    (pulled (rows m) buses (pull m d) (row_factor m) (injection m x)
+    ∙ ap neg_ℚ (sum_by-same (λ r. pull m d r *ℚ sum_by (λ i. row_factor m r i *ℚ injection m x i) buses) (λ r. pull m d r *ℚ (flow m x r -ℚ row_offset m r)) (rows m)
+    (λ r. ap (λ t. pull m d r *ℚ t)
+    (by_ring1 ring_ℚ (flow m x r ∷ row_offset m r ∷ sum_by (λ i. row_factor m r i *ℚ injection m x i) buses ∷ []) (at 2) (at 0 ⊕ pneg (at 1)) (pneg pone) (at 0) (at 1 ⊕ at 2) (law_of_the_flows m (injection m x) r) refl))))
+
+-- ---- along the rows
+pub along : {T : Type 0} (P : T → Type 0) (xs : List T) → ((x : T) → Contains xs x → P x) → AllByRecursion P xs
+along P [] h = tt
+along P (x ∷ xs) h = (h x (Contains-head x xs), along P xs (λ y c. h y (Contains-cons x xs y c)))
+
+-- ---- one row: its prices u and d, its limit, the flow f that they support, another flow g, its offset o
+nil_or_above : (u : Fraction) → zero ≤ℚ u → (u ≡ zero) ⊎ (zero <ℚ u)
+nil_or_above u h = elim (≤ℚ-or-<ℚ u zero) [ inl below ↦ inl (≤ℚ_antisym u zero below h) | inr above ↦ inr above ]
+
+module _ (u d limit f o : Fraction) (up_sign : zero ≤ℚ u) (down_sign : zero ≤ℚ d) (up : zero <ℚ u → f ≡ limit) (down : zero <ℚ d → f ≡ neg_ℚ limit) where
+  up_side : (g : Fraction) → g ≤ℚ limit → (u *ℚ g) ≤ℚ (u *ℚ f)
+  up_side g h = elim (nil_or_above u up_sign) [
+    | inl e ↦ ≤ℚ_of_same (u *ℚ g) (u *ℚ f) (ap (λ t. t *ℚ g) e ∙ by_ring ring_ℚ (g ∷ f ∷ []) (pnil ⊗ at 0) (pnil ⊗ at 1) refl ∙ ap (λ t. t *ℚ f) (sym e))
+    | inr a ↦ *ℚ-≤ℚ u g f (NonNeg_from u up_sign) (subst (λ t. g ≤ℚ t) (sym (up a)) h)
+  ]
+
+  down_side : (g : Fraction) → neg_ℚ limit ≤ℚ g → (d *ℚ f) ≤ℚ (d *ℚ g)
+  down_side g h = elim (nil_or_above d down_sign) [
+    | inl e ↦ ≤ℚ_of_same (d *ℚ f) (d *ℚ g) (ap (λ t. t *ℚ f) e ∙ by_ring ring_ℚ (f ∷ g ∷ []) (pnil ⊗ at 0) (pnil ⊗ at 1) refl ∙ ap (λ t. t *ℚ g) (sym e))
+    | inr a ↦ *ℚ-≤ℚ d f g (NonNeg_from d down_sign) (subst (λ t. t ≤ℚ g) (sym (down a)) h)
+  ]
+
+  -- no flow within the limit is pulled further
+  pub pulled_most : (g : Fraction) → neg_ℚ limit ≤ℚ g → g ≤ℚ limit → ((u -ℚ d) *ℚ (g -ℚ o)) ≤ℚ ((u -ℚ d) *ℚ (f -ℚ o))
+  pulled_most g low high =
+      by_le2 (u ∷ d ∷ f ∷ g ∷ o ∷ []) ((at 0 ⊕ pneg (at 1)) ⊗ (at 3 ⊕ pneg (at 4))) ((at 0 ⊕ pneg (at 1)) ⊗ (at 2 ⊕ pneg (at 4)))
+      pone (at 0 ⊗ at 3) (at 0 ⊗ at 2) pone (at 1 ⊗ at 2) (at 1 ⊗ at 3) NonNeg-one (up_side g high) NonNeg-one (down_side g low) refl
+
+  -- what is pulled is the rent
+  pub pulled_rent : (u -ℚ d) *ℚ (f -ℚ o) ≡ u *ℚ (limit -ℚ o) +ℚ (d *ℚ (limit +ℚ o) +ℚ zero)
+  pulled_rent =
+      by_ring2 ring_ℚ (u ∷ d ∷ f ∷ o ∷ limit ∷ []) ((at 0 ⊕ pneg (at 1)) ⊗ (at 2 ⊕ pneg (at 3))) (at 0 ⊗ (at 4 ⊕ pneg (at 3)) ⊕ (at 1 ⊗ (at 4 ⊕ at 3) ⊕ pnil))
+      (pneg pone) (at 0 ⊗ at 4) (at 0 ⊗ at 2) pone (at 1 ⊗ pneg (at 4)) (at 1 ⊗ at 2) up_is down_is refl
+    where
+      up_is : u *ℚ limit ≡ u *ℚ f
+      up_is = elim (nil_or_above u up_sign) [
+        | inl e ↦ ap (λ t. t *ℚ limit) e ∙ by_ring ring_ℚ (limit ∷ f ∷ []) (pnil ⊗ at 0) (pnil ⊗ at 1) refl ∙ ap (λ t. t *ℚ f) (sym e)
+        | inr a ↦ ap (λ t. u *ℚ t) (sym (up a))
+      ]
+
+      down_is : d *ℚ neg_ℚ limit ≡ d *ℚ f
+      down_is = elim (nil_or_above d down_sign) [
+        | inl e ↦ ap (λ t. t *ℚ neg_ℚ limit) e ∙ by_ring ring_ℚ (limit ∷ f ∷ []) (pnil ⊗ pneg (at 0)) (pnil ⊗ at 1) refl ∙ ap (λ t. t *ℚ f) (sym e)
+        | inr a ↦ ap (λ t. d *ℚ t) (sym (down a))
+      ]
+
+-- a rent is at least 0 where the offset is within the limits, where a price is above 0
+pub rent_sign : (u d limit o : Fraction) → zero ≤ℚ u → zero ≤ℚ d → (zero <ℚ u → o ≤ℚ limit) → (zero <ℚ d → neg_ℚ limit ≤ℚ o)
+    → zero ≤ℚ (u *ℚ (limit -ℚ o) +ℚ (d *ℚ (limit +ℚ o) +ℚ zero))
+rent_sign u d limit o up_sign down_sign up down =
+    NonNeg_to (u *ℚ (limit -ℚ o) +ℚ (d *ℚ (limit +ℚ o) +ℚ zero))
+    (NonNeg-plus (u *ℚ (limit -ℚ o)) (d *ℚ (limit +ℚ o) +ℚ zero) upper (NonNeg-plus (d *ℚ (limit +ℚ o)) zero lower NonNeg-nil))
+  where
+    upper : NonNeg (u *ℚ (limit -ℚ o))
+    upper = elim (nil_or_above u up_sign) [
+      | inl e ↦ subst NonNeg (by_ring ring_ℚ (limit ∷ o ∷ []) pnil (pnil ⊗ (at 0 ⊕ pneg (at 1))) refl ∙ ap (λ t. t *ℚ (limit -ℚ o)) (sym e)) NonNeg-nil
+      | inr a ↦ NonNeg-times u (limit -ℚ o) (NonNeg_from u up_sign) (le_to o limit (up a))
+    ]
+
+    lower : NonNeg (d *ℚ (limit +ℚ o))
+    lower = elim (nil_or_above d down_sign) [
+      | inl e ↦ subst NonNeg (by_ring ring_ℚ (limit ∷ o ∷ []) pnil (pnil ⊗ (at 0 ⊕ at 1)) refl ∙ ap (λ t. t *ℚ (limit +ℚ o)) (sym e)) NonNeg-nil
+      | inr a ↦ NonNeg-times d (limit +ℚ o) (NonNeg_from d down_sign)
+          (subst NonNeg (by_ring ring_ℚ (limit ∷ o ∷ []) (at 1 ⊕ pneg (pneg (at 0))) (at 0 ⊕ at 1) refl) (le_to (neg_ℚ limit) o (down a)))
+    ]
+
+-- ---- all rows
+module _ (m : Parts) (d : Duals Fraction) (x : Dispatch) (s : Supports m x d) where
+  pub pulls-rents : pulls m d x ≡ sum_by (rent m x d) (rows m)
+  unfolding rent
+  pulls-rents = sum_by-members (λ r. pull m d r *ℚ (flow m x r -ℚ row_offset m r)) (rent m x d) (rows m)
+      (λ r c. let h = s.rows r c in pulled_rent (up_of m d r) (down_of m d r) (limit m r) (flow m x r) (row_offset m r) h.up_sign h.down_sign h.up h.down)
+
+  pub pulls-most : (y : Dispatch) → Feasible m y → pulls m d y ≤ℚ pulls m d x
+  pulls-most y f =
+      sum_by-≤ (λ r. pull m d r *ℚ (flow m y r -ℚ row_offset m r)) (λ r. pull m d r *ℚ (flow m x r -ℚ row_offset m r)) (rows m)
+      (along (λ r. (pull m d r *ℚ (flow m y r -ℚ row_offset m r)) ≤ℚ (pull m d r *ℚ (flow m x r -ℚ row_offset m r))) (rows m)
+      (λ r c. let h = s.rows r c in let w = f.limits r c in
+      pulled_most (up_of m d r) (down_of m d r) (limit m r) (flow m x r) (row_offset m r) h.up_sign h.down_sign h.up h.down (flow m y r) w.above w.below))
+
+  pub rents-sign : HasOffsetsWithin m d → zero ≤ℚ sum_by (rent m x d) (rows m)
+  unfolding rent
+  rents-sign within =
+      subst (λ t. t ≤ℚ sum_by (rent m x d) (rows m)) (sum_by-nil (rows m))
+      (sum_by-≤ (λ r. zero) (rent m x d) (rows m) (along (λ r. zero ≤ℚ rent m x d r) (rows m)
+      (λ r c. let h = s.rows r c in rent_sign (up_of m d r) (down_of m d r) (limit m r) (row_offset m r) h.up_sign h.down_sign
+      (λ a. let w = within r c (inl a) in w.below) (λ a. let w = within r c (inr a) in w.above))))
