@@ -1,6 +1,6 @@
 //! Groups of rows: those of the base, and those after each outage.
 
-ghost use Rattle.std.specs.Prelude.{◌≡◌, ◌≤◌, ◌<◌, length, slice_index_or};
+ghost use Rattle.std.specs.Prelude.{◌≡◌, ◌≤◌, ◌<◌, length, Some};
 ghost use Rattle.std.specs.List.{position, slice_get};
 ghost use Rattle.market_model.specs.LimitRows.{outage_of, place_of_line};
 ghost use Rattle.limit_rows.specs.Groups.{bears, cause_of, groups, is_named, lines_of, rows_of};
