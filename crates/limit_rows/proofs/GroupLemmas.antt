@@ -61,7 +61,7 @@ pub behind : (p : ℕ → Bool) (n i count : ℕ) → i < n → p i ≡ true →
 behind p n i count h passes before =
     let r = places_at n i h in
     let split : filter p (places n) ≡ filter p (places i) ++ i ∷ filter p r.0 =
-      ap (filter p) r.1 ∙ filter-append p (places i) (i ∷ r.0) ∙ ap (λ (b : Bool). filter p (places i) ++ cond b (i ∷ filter p r.0) (filter p r.0)) passes in
+    ap (filter p) r.1 ∙ filter-append p (places i) (i ∷ r.0) ∙ ap (λ (b : Bool). filter p (places i) ++ cond b (i ∷ filter p r.0) (filter p r.0)) passes in
     ap (λ (k : ℕ). slice_get (filter p (places n)) k) (sym before) ∙ ap (λ is. slice_get is (length (filter p (places i)))) split ∙ slice_get-seam (filter p (places i)) (filter p r.0) i
 
 -- ---- groups, one more
@@ -75,7 +75,7 @@ rows-more m i group at =
     ∙ ap (λ ys. flat_map (rows_of m) (take i (groups m)) ++ ys) (append-nil (rows_of m group))
 
 -- ---- the line of a branch row
-place_at : (n k d : ℕ) → k < n → get_or (places n) k d ≡ k
+pub place_at : (n k d : ℕ) → k < n → get_or (places n) k d ≡ k
 place_at n k d h = let e : 0 + k ≡ k = Prim.omega arith in get_or-range_with_len 0 n k d h ∙ e
 
 pub place-first : (m : Parts) (row i : ℕ) → i ≤ length m.lines → ((k : ℕ) → k < i → ((line_at m k).row == row) ≡ false) → (i < length m.lines → ((line_at m i).row == row) ≡ true)
@@ -87,7 +87,7 @@ place-first m row i most before here =
     (λ h. let lt : i < length m.lines = Prim.omega (arith, h, count) in let e = place_at (length m.lines) i 0 lt in subst (λ (l : ℕ). ((line_at m l).row == row) ≡ true) (sym e) (here lt))
 
 module _ (m : Parts) (market : IsMarket m) where
-  row_at : (k : ℕ) (d : ℕ) → k < length m.lines → get_or (map (λ line. line.row) m.lines) k d ≡ (line_at m k).row
+  pub row_at : (k : ℕ) (d : ℕ) → k < length m.lines → get_or (map (λ line. line.row) m.lines) k d ≡ (line_at m k).row
   row_at k d h = get_or-map (λ (line : Line). line.row) m.lines k (record { row = 0; base = None; post = None; offset = pos 0 }) d h
 
   -- the line of the row of a line is that line

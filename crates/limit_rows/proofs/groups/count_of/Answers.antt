@@ -9,8 +9,8 @@ loop-place-preserved c =
     let test = c.bears.ensures in
     let more = passed-more (bears c.args.market.now c.args.lost) c.loop-place.place in
     elim c.if-bears.branch [
-      then-bears w ↦ passed (bears c.args.market.now c.args.lost c.loop-place.place) _ _ _ _ c.loop-place.place (sym test ∙ w.if-bears.true) more w.count-is c.loop-place.invariant
-    | else-bears w ↦ passed_over (bears c.args.market.now c.args.lost c.loop-place.place) _ _ _ _ c.loop-place.place (sym test ∙ w.if-bears.false) more w.count-is c.loop-place.invariant
+      | then-bears w ↦ passed (bears c.args.market.now c.args.lost c.loop-place.place) _ _ _ _ c.loop-place.place (sym test ∙ w.if-bears.true) more w.count-is c.loop-place.invariant
+      | else-bears w ↦ passed_over (bears c.args.market.now c.args.lost c.loop-place.place) _ _ _ _ c.loop-place.place (sym test ∙ w.if-bears.false) more w.count-is c.loop-place.invariant
     ]
   where
     passed : (b : Bool) (count' after count before place : ℕ) → b ≡ true → after ≡ before + cond b 1 0 → count' ≡ count + 1 → (count ≡ before) × (count ≤ place) → (count' ≡ after) × (count' ≤ place + 1)

@@ -19,8 +19,8 @@ loop-place-preserved c =
     let test = c.bears.ensures in
     let more = passed-more (bears c.args.market.now c.args.lost) c.loop-place.place in
     elim c.if-bears.branch [
-      then-bears+else-left-eq0 w ↦ passed (bears c.args.market.now c.args.lost c.loop-place.place) _ _ _ (sym test ∙ w.if-bears.true) more (λ h. w.if-left-eq0.false h) w.left-is c.loop-place.invariant
-    | else-bears w ↦ passed_over (bears c.args.market.now c.args.lost c.loop-place.place) _ _ _ (sym test ∙ w.if-bears.false) more w.left-is c.loop-place.invariant
+      | then-bears+else-left-eq0 w ↦ passed (bears c.args.market.now c.args.lost c.loop-place.place) _ _ _ (sym test ∙ w.if-bears.true) more (λ h. w.if-left-eq0.false h) w.left-is c.loop-place.invariant
+      | else-bears w ↦ passed_over (bears c.args.market.now c.args.lost c.loop-place.place) _ _ _ (sym test ∙ w.if-bears.false) more w.left-is c.loop-place.invariant
     ]
   where
     passed : (b : Bool) (left' after before : ℕ) {left count : ℕ} → b ≡ true → after ≡ before + cond b 1 0 → (left ≡ 0 → ⊥) → left' ≡ left - 1 → left + before ≡ count → left' + after ≡ count
