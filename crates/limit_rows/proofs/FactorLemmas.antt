@@ -1,11 +1,11 @@
 -- The factor of a row in units of 10^-12, and where the lines of rows stand.
-use Rattle.std.specs.Prelude.{◌≡◌, ℕ, ◌+◌, ◌*◌, ◌<◌, ◌≤◌, ◌^◌, Bool, true, false, if◌then◌else◌, unsigned_abs, ℤ, pos, ◌+ℤ◌, ◌*ℤ◌, List, [], ◌∷◌, ◌++◌, map, filter, length, All, Contains, Option, Some, None, refl}
+use Rattle.std.specs.Prelude.{◌≡◌, ℕ, ◌*◌, ◌<◌, ◌≤◌, ◌^◌, Bool, true, false, if◌then◌else◌, unsigned_abs, ℤ, pos, ◌+ℤ◌, ◌*ℤ◌, List, [], ◌∷◌, map, filter, length, All, Contains, refl}
 use Rattle.std.specs.List.{flat_map}
-use Rattle.std.proofs.Common.{zero, suc, arith, ap, ap₂, sym, subst, ◌∙◌, get_or}
+use Rattle.std.proofs.Common.{suc, arith, ap, sym, subst, ◌∙◌, get_or}
 use Rattle.std.proofs.Math.Nat.{mul-pos, mul_comm}
 use Rattle.std.proofs.lemmas.List.FromFn.{length-range_with_len}
 use Rattle.std.proofs.lemmas.List.Elements.{All-append, All-filter, All-map, All-nil}
-use Rattle.fraction_theory.specs.Fraction.{Fraction, whole, over, ◌+ℚ◌, ◌*ℚ◌}
+use Rattle.fraction_theory.specs.Fraction.{Fraction, over, ◌+ℚ◌, ◌*ℚ◌}
 use Rattle.fraction_theory.proofs.Ring.{by_ring, at, padd, pmul}
 use Rattle.fraction_theory.proofs.IntegerLaws.{ring_ℤ}
 use Rattle.fraction_theory.proofs.FractionLaws.{Is, same_value, over_is, plus_is, times_is}
@@ -16,7 +16,7 @@ use Rattle.market_model.specs.declared.participants.Line.{Line}
 use Rattle.market_model.specs.declared.participants.Parts.{Parts}
 use Rattle.market_model.specs.Dispatch.{places, line_at}
 use Rattle.market_model.specs.Factors.{factor_in, is_pair}
-use Rattle.market_model.specs.LimitRows.{Cause, Base, After, Row, place_of_line, rows, rows_after, base_rows, has_base, has_post, outage_of, row_id, row_factor, factor_places}
+use Rattle.market_model.specs.LimitRows.{Cause, Base, After, Row, place_of_line, rows, rows_after, base_rows, has_base, has_post, outage_of, row_id, row_factor}
 use Rattle.market_model.specs.Market.{IsMarket, IsFactor}
 use Rattle.limit_rows.proofs.GroupLemmas.{length-map, place_at, place-own, row_at}
 

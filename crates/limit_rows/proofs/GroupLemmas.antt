@@ -1,7 +1,7 @@
 -- Rows by groups.
-use Rattle.std.specs.Prelude.{◌≡◌, ◌≢◌, ◌==◌, Contains, ℕ, ◌+◌, ◌<◌, ◌≤◌, Bool, true, false, List, [], ◌∷◌, ◌++◌, map, filter, length, Option, Some, None, option_map, ◌-◌, pos, refl, cond}
+use Rattle.std.specs.Prelude.{◌≡◌, ◌==◌, Contains, ℕ, ◌+◌, ◌<◌, ◌≤◌, Bool, true, false, List, [], ◌∷◌, ◌++◌, map, filter, length, Option, Some, None, option_map, ◌-◌, pos, refl, cond}
 use Rattle.std.specs.List.{flat_map, range_with_len, slice_get}
-use Rattle.std.proofs.Common.{zero, suc, add-one, arith, ap, sym, subst, ◌∙◌, get_or, take, length-append}
+use Rattle.std.proofs.Common.{zero, suc, arith, ap, sym, subst, ◌∙◌, get_or, take, length-append}
 use Rattle.std.proofs.lemmas.Bool.{eq-eqb, ne_eqb}
 use Rattle.std.proofs.lemmas.List.{append-nil, get_or-map, take_more}
 use Rattle.std.proofs.lemmas.Option.{slice_get_within, get_or_from_slice_get, slice_get-map}
@@ -13,7 +13,7 @@ use Rattle.market_model.specs.declared.participants.Line.{Line}
 use Rattle.market_model.specs.declared.participants.Parts.{Parts}
 use Rattle.market_model.specs.Dispatch.{places, line_at}
 use Rattle.market_model.specs.Market.{IsMarket}
-use Rattle.market_model.specs.LimitRows.{Row, rows, rows_after, place_of_line}
+use Rattle.market_model.specs.LimitRows.{rows, place_of_line}
 use Rattle.market_model.proofs.MorePlaces.{places_more}
 use Rattle.limit_rows.specs.Groups.{groups, rows_of}
 
@@ -49,7 +49,7 @@ range_at a (suc n) (suc k) h =
     let e : (a + 1) + k ≡ a + suc k = Prim.omega arith in
     (more.0, ap (λ is. a ∷ is) (more.1 ∙ ap (λ (i : ℕ). range_with_len (a + 1) k ++ i ∷ more.0) e))
 
-places_at : (n k : ℕ) → k < n → (rest : List ℕ) × (places n ≡ places k ++ k ∷ rest)
+pub places_at : (n k : ℕ) → k < n → (rest : List ℕ) × (places n ≡ places k ++ k ∷ rest)
 places_at n k h = let r = range_at 0 n k h in let e : 0 + k ≡ k = Prim.omega arith in (r.0, r.1 ∙ ap (λ (i : ℕ). places k ++ i ∷ r.0) e)
 
 slice_get-seam : (xs ys : List ℕ) (x : ℕ) → slice_get (xs ++ x ∷ ys) (length xs) ≡ Some x

@@ -1,6 +1,6 @@
 //! Groups of rows: those of the base, and those after each outage.
 
-ghost use Rattle.std.specs.Prelude.{◌≡◌, ◌≤◌, ◌<◌, length, Some};
+ghost use Rattle.std.specs.Prelude.{◌≡◌, ◌≤◌, ◌<◌, length, Some, IfSome};
 ghost use Rattle.std.specs.List.{position, slice_get};
 ghost use Rattle.market_model.specs.LimitRows.{outage_of, place_of_line};
 ghost use Rattle.limit_rows.specs.Groups.{bears, cause_of, groups, is_named, lines_of, rows_of};
@@ -103,7 +103,8 @@ pub(crate) fn line_behind(market: &Market, lost: Option<usize>, count: usize) ->
 /// The place of the row of a name among those of a group.
 pub(crate) fn position_in(market: &Market, group: Group, row: RowId) -> Option<usize>
     requires { outage_of market.now (cause_of group.lost) ≡ group.outage }
-    ensures { result ≡ position (is_named market.now row) (rows_of market.now group.lost) }
+    ensures few { IfSome result (λ place. place < 2000) }
+    ensures is { result ≡ position (is_named market.now row) (rows_of market.now group.lost) }
 {
     if group.outage != row.outage {
         return None;

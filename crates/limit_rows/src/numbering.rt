@@ -47,10 +47,10 @@ pub fn position(market: &Market, row: RowId) -> Option<usize>
     let mut before = 0;
     for at in 0..group_count(market) {
         let group = group_at(market, at);
-        if let Some(place) = position_in(market, group, row) {
-            return Some(before + place);
+        match position_in(market, group, row) {
+            Some(place) => return Some(before + place),
+            None => before += count_of(market, group.lost),
         }
-        before += count_of(market, group.lost);
     }
     None
 }
