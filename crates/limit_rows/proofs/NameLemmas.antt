@@ -1,15 +1,17 @@
 -- Rows by their names.
-use Rattle.std.specs.Prelude.{◌≡◌, ◌==◌, ◌&&◌, ℕ, ◌+◌, ◌<◌, Bool, true, false, List, [], ◌∷◌, ◌++◌, map, filter, length, Option, Some, refl, cond}
-use Rattle.std.specs.List.{flat_map, slice_get}
-use Rattle.std.proofs.Common.{ap, sym, subst, ◌∙◌, append_assoc, get_or, take, drop}
-use Rattle.std.proofs.lemmas.Bool.{eq-eqb, ne_eqb}
+use Rattle.std.specs.Prelude.{◌≡◌, ◌==◌, ◌&&◌, ℕ, ◌+◌, ◌<◌, Bool, true, false, List, [], ◌∷◌, ◌++◌, map, filter, length, Option, Some, refl, cond, Contains}
+use Rattle.std.specs.List.{flat_map, slice_get, position}
+use Rattle.std.proofs.Common.{ap, sym, subst, ◌∙◌, append_assoc, get_or, take, drop, ap₂}
+use Rattle.std.proofs.lemmas.Bool.{eq-eqb, eqb-true, ne_eqb}
 use Rattle.std.proofs.lemmas.List.{map-append, take-append-drop}
+use Rattle.std.proofs.lemmas.List.Quantifiers.{position-Some}
 use Rattle.std.proofs.lemmas.List.Elements.{All-append, All-cons, All-map, All-nil, filter-append}
 use Rattle.std.proofs.lemmas.Grind.{flat_map-append}
 use Rattle.market_model.specs.declared.answered.RowId.{RowId}
 use Rattle.market_model.specs.declared.participants.Parts.{Parts}
 use Rattle.market_model.specs.Dispatch.{places, line_at}
-use Rattle.market_model.specs.LimitRows.{Row, outage_of, rows}
+use Rattle.market_model.specs.LimitRows.{Base, Row, outage_of, row_id, rows}
+use Rattle.market_model.proofs.ChangeLemmas.{same_default}
 use Rattle.market_model.proofs.MorePlaces.{places_more}
 use Rattle.limit_rows.specs.Groups.{bears, cause_of, groups, is_named, lines_of, rows_of}
 use Rattle.limit_rows.proofs.GroupLemmas.{places_at, rows-groups, rows-more}
@@ -65,3 +67,19 @@ groups_round m i lost at = (
       ∙ ap (λ rs. rs ++ flat_map (rows_of m) (drop (i + 1) (groups m))) (rows-more m i lost at)
       ∙ append_assoc (rows_before m i) (rows_of m lost) (flat_map (rows_of m) (drop (i + 1) (groups m))),
 )
+
+-- a name with a place is that of a row
+pub named_row : (m : Parts) (name : RowId) (i : ℕ) → position (is_named m name) (rows m) ≡ Some i → (r : Row) × Contains (rows m) r × (row_id m r ≡ name)
+named_row m name i e =
+    let none : Row = record { line = 0; cause = Base } in
+    let found = position-Some (is_named m name) (rows m) i none e in
+    let r = get_or (rows m) i none in
+    let both = halves ((row_id m r).branch == name.branch) ((row_id m r).outage == name.outage) found.1 in (
+      r,
+      (i, found.0, same_default (rows m) i r none found.0),
+      ap₂ (λ (b o : ℕ). record { branch = b; outage = o }) (eqb-true _ _ both.0) (eqb-true _ _ both.1),
+    )
+  where
+    halves : (b c : Bool) → (b && c) ≡ true → (b ≡ true) × (c ≡ true)
+    halves true c h = (refl, h)
+    halves false c h = absurd Prim.cc

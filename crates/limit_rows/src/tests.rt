@@ -1,11 +1,15 @@
-//! The rows of small markets, worked by hand.
+//! The rows of a small market, worked by hand.
+
+ghost use Rattle.std.specs.Prelude.{◌≡◌, pos};
 
 use crate::{count, factor, id, position};
 use market_model::{Bus, Factor, Line, List, Market, Memory, Parts, RowId, assemble};
 use std::alloc::Global;
 use std::test::Fail;
 
-fn bus(number: u32) -> Bus {
+fn bus(number: u32) -> Bus
+    ensures { result ≡ record { number = number; pd = pos 0; gs = pos 0 } }
+{
     Bus {
         number,
         pd: 0,
@@ -13,7 +17,9 @@ fn bus(number: u32) -> Bus {
     }
 }
 
-fn line(row: u32, base: Option<i64>, post: Option<i64>) -> Line {
+fn line(row: u32, base: Option<i64>, post: Option<i64>) -> Line
+    ensures { result ≡ record { row = row; base = base; post = post; offset = pos 0 } }
+{
     Line {
         row,
         base,
@@ -22,27 +28,30 @@ fn line(row: u32, base: Option<i64>, post: Option<i64>) -> Line {
     }
 }
 
-/// Three buses in a triangle. Branch 2 has a base limit of 40 MW, and branches 2 and 3 have limits after outages.
-fn triangle(alloc: Global, outages: List<u32>) -> Result<Market, Memory> {
+/// Three buses in a triangle, with the outages 3 and 1. Branch 2 has a base limit of 40 MW, and branches 2 and 3 have limits of 45 MW
+/// after outages. All of the flow of branch 1 goes over to branch 2.
+fn triangle(alloc: Global) -> Result<Market, Memory> {
     let mut buses = List::new(alloc);
     buses.push(bus(1))?;
     buses.push(bus(2))?;
-    buses.push(bus(3))?;
     let mut lines = List::new(alloc);
     lines.push(line(1, None, None))?;
-    lines.push(line(2, Some(40_000_000_000), Some(45_000_000_000)))?;
-    lines.push(line(3, None, Some(45_000_000_000)))?;
+    lines.push(line(2, Some(40), Some(45)))?;
+    lines.push(line(3, None, Some(45)))?;
+    let mut outages = List::new(alloc);
+    outages.push(3)?;
+    outages.push(1)?;
     let mut shift = List::new(alloc);
-    for (line, of, value) in [
-        (0, 1, -500_000),
-        (1, 1, -500_000),
-        (2, 1, 500_000),
-        (0, 2, -250_000),
-        (1, 2, -750_000),
-        (2, 2, -250_000),
-    ] {
-        shift.push(Factor { line, of, value })?;
-    }
+    shift.push(Factor {
+        line: 0,
+        of: 1,
+        value: -500_000,
+    })?;
+    shift.push(Factor {
+        line: 1,
+        of: 1,
+        value: -250_000,
+    })?;
     let mut loss = List::new(alloc);
     loss.push(Factor {
         line: 1,
@@ -65,30 +74,41 @@ fn row(branch: u32, outage: u32) -> RowId {
     RowId { branch, outage }
 }
 
+/// The name of the row at a place, where there is one.
+fn name_at(market: &Market, place: usize) -> Option<RowId> {
+    if place < count(market) {
+        Some(id(market, place))
+    } else {
+        None
+    }
+}
+
+/// The factor of the row of a name, where there is one.
+fn factor_of(market: &Market, row: RowId, bus: usize) -> Option<i64> {
+    match position(market, row) {
+        Some(_) if bus < market.buses().len() => Some(factor(market, row, bus)),
+        _ => None,
+    }
+}
+
 #[test]
 fn rows_in_the_order_of_outages(rt: HostRuntime) -> Result<(), Fail> {
-    let mut outages = List::new(rt.alloc());
-    outages.push(3)?;
-    outages.push(1)?;
-    let market = triangle(rt.alloc(), outages)?;
+    let market = triangle(rt.alloc())?;
     assert!(rt; count(&market) == 4);
-    assert!(rt; id(&market, 0) == row(2, 0));
-    assert!(rt; id(&market, 1) == row(2, 3));
-    assert!(rt; id(&market, 2) == row(2, 1));
-    assert!(rt; id(&market, 3) == row(3, 1));
+    assert!(rt; name_at(&market, 0) == Some(row(2, 0)));
+    assert!(rt; name_at(&market, 1) == Some(row(2, 3)));
+    assert!(rt; name_at(&market, 2) == Some(row(2, 1)));
+    assert!(rt; name_at(&market, 3) == Some(row(3, 1)));
     assert!(rt; position(&market, row(3, 1)) == Some(3));
     assert!(rt; position(&market, row(3, 3)).is_none());
     Ok(())
 }
 
 #[test]
-fn a_factor_after_an_outage(rt: HostRuntime) -> Result<(), Fail> {
-    let mut outages = List::new(rt.alloc());
-    outages.push(1)?;
-    let market = triangle(rt.alloc(), outages)?;
-    assert!(rt; factor(&market, row(2, 1), 0) == 0);
-    assert!(rt; factor(&market, row(2, 1), 1) == -1_000_000_000_000);
-    assert!(rt; factor(&market, row(2, 1), 2) == -1_000_000_000_000);
-    assert!(rt; factor(&market, row(2, 0), 2) == -750_000_000_000);
+fn factors_of_rows(rt: HostRuntime) -> Result<(), Fail> {
+    let market = triangle(rt.alloc())?;
+    assert!(rt; factor_of(&market, row(2, 0), 1) == Some(-250_000_000_000));
+    assert!(rt; factor_of(&market, row(2, 1), 1) == Some(-750_000_000_000));
+    assert!(rt; factor_of(&market, row(2, 1), 0) == Some(0));
     Ok(())
 }
