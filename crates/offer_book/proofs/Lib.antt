@@ -1,3 +1,5 @@
 pub mod OfferLemmas
 pub mod RoomLemmas
 pub mod StairLemmas
+pub mod SearchLemmas
+pub mod ExcessLemmas

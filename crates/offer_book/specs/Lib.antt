@@ -1,2 +1,3 @@
 pub mod OfferTable
 pub mod Offers
+pub mod Edits

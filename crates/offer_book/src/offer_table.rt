@@ -122,9 +122,9 @@ fn offer_of(table: &Table, row: usize) -> Result<Offer, OfferFault>
 
 /// The blocks so far of one unit and side: their sum, and the price of the last.
 #[derive(Clone, Copy)]
-struct Stair {
-    sum: i128,
-    last: Option<i64>,
+pub(crate) struct Stair {
+    pub(crate) sum: i128,
+    pub(crate) last: Option<i64>,
 }
 
 /// Whether a block is of this unit and side.
@@ -134,7 +134,7 @@ fn is_of(block: &Block, unit: usize, side: Side) -> bool
     block.unit == unit && block.side == side
 }
 
-fn stair_of(blocks: &[Block], unit: usize, side: Side) -> Stair
+pub(crate) fn stair_of(blocks: &[Block], unit: usize, side: Side) -> Stair
     requires { length blocks.now ≤ most_blocks }
     ensures bound { StairIsBounded most_blocks result }
     ensures is { result ≡ ends_of (stair_in unit side blocks.now) }
@@ -164,7 +164,7 @@ fn stair_with(stair: Stair, block: &Block, belongs: bool) -> Stair
 
 /// Whether a price may follow the last one of its stair: a sell's may not be below it, a buy's
 /// not above.
-fn may_follow(side: Side, last: Option<i64>, price: i64) -> bool
+pub(crate) fn may_follow(side: Side, last: Option<i64>, price: i64) -> bool
     ensures may { IsTrue result ↔ MayFollow side last price }
     ensures is { result ≡ follows side last price }
 {
@@ -178,7 +178,7 @@ fn may_follow(side: Side, last: Option<i64>, price: i64) -> bool
 }
 
 /// How much the blocks of a side may offer in all.
-fn room(unit: Unit, side: Side) -> i64
+pub(crate) fn room(unit: Unit, side: Side) -> i64
     ensures { result ≡ room_of side unit }
 {
     match side {

@@ -1,3 +1,5 @@
+mod edits;
+
 use crate::{OfferFault, blocks};
 use market_model::{Block, List, Side, Unit, UnitList};
 use std::process::Abort;

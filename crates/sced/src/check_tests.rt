@@ -81,13 +81,17 @@ const OUTAGE_OVER: &str =
 const SHIFT_OVER: &str =
     "bus most 0.01 at 1 for 3\nbus over 0.01 bound 0.000001 at 1 for 3\nloop most -0.001 at 3 for 3\nloop over -0.001 bound 0.0000002 at 3 for 3\noutage bus none\noutage loop none\n";
 
-fn store<R: Abort + AllocGlobal>(rt: &R, files: [&str; 4]) -> Result<MemoryStore, Fail> {
+fn store<R: Abort + AllocGlobal>(
+    rt: &R,
+    files: [&str; 4],
+    failing: &[u64],
+) -> Result<MemoryStore, Fail> {
     let room = Room {
         files: 4,
         name: 16,
         bytes: 2048,
     };
-    let mut store = MemoryStore::new(rt.alloc(), room, [].as_slice())?;
+    let mut store = MemoryStore::new(rt.alloc(), room, failing)?;
     assert!(rt; store.add("case.m", files[0].as_bytes()).is_ok());
     assert!(rt; store.add("shift.csv", files[1].as_bytes()).is_ok());
     assert!(rt; store.add("loss.csv", files[2].as_bytes()).is_ok());
@@ -95,14 +99,15 @@ fn store<R: Abort + AllocGlobal>(rt: &R, files: [&str; 4]) -> Result<MemoryStore
     Ok(store)
 }
 
-/// Runs the words over the four files, and compares.
+/// Runs the words over the four files, with reads that fail, and compares.
 fn expect<R: Abort + AllocGlobal>(
     rt: &R,
     given: &[&str],
     files: [&str; 4],
+    failing: &[u64],
     want: (Status, &str),
 ) -> Result<(), Fail> {
-    let mut store = store(rt, files)?;
+    let mut store = store(rt, files, failing)?;
     let mut sink = MemorySink::new(rt.alloc(), 2048, [].as_slice())?;
     let mut words = Vec::new(rt.alloc());
     for word in given {
@@ -171,25 +176,23 @@ fn checks_tables(rt: HostRuntime) -> Result<(), Fail> {
             (Status::Refused, "refused contingencies NoBranch line 2\n"),
         ),
     ] {
-        expect(&rt, ALL.as_slice(), files, want)?;
+        expect(&rt, ALL.as_slice(), files, [].as_slice(), want)?;
     }
     Ok(())
 }
 
 #[test]
 fn checks_shift_factors_alone(rt: HostRuntime) -> Result<(), Fail> {
+    let files = [TRIANGLE, SHIFT_OFF, "", ""];
     let over = (Status::Refuted, SHIFT_OVER);
-    expect(
-        &rt,
-        SHIFT_ALONE.as_slice(),
-        [TRIANGLE, SHIFT_OFF, "", ""],
-        over,
-    )
+    expect(&rt, SHIFT_ALONE.as_slice(), files, [].as_slice(), over)
 }
 
 #[test]
-fn tells_no_text_of_a_missing_file(rt: HostRuntime) -> Result<(), Fail> {
-    let files = [TRIANGLE, SHIFT, "", ""];
+fn reads_all_files_first(rt: HostRuntime) -> Result<(), Fail> {
+    let none = (Status::ReadFailed, "");
+    let bad_case = ["", SHIFT, LOSS, ""];
+    expect(&rt, ALL.as_slice(), bad_case, [1].as_slice(), none)?;
     let missing = [
         "sced",
         "check",
@@ -200,5 +203,5 @@ fn tells_no_text_of_a_missing_file(rt: HostRuntime) -> Result<(), Fail> {
         "--lodf",
         "a",
     ];
-    expect(&rt, missing.as_slice(), files, (Status::ReadFailed, ""))
+    expect(&rt, missing.as_slice(), bad_case, [].as_slice(), none)
 }

@@ -23,7 +23,7 @@ use refusal_text::{Input, Refusal};
 use std::alloc::Global;
 
 /// The most bytes of a file.
-const MOST_BYTES: usize = 33_554_432;
+pub const MOST_BYTES: usize = 33_554_432;
 
 /// The whole bytes of the files of a check.
 #[derive(Clone, Copy, Debug)]

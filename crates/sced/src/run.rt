@@ -16,7 +16,7 @@ ghost use Rattle.sced.specs.Requests.{names_of};
 ghost use Rattle.sced.specs.Checking.{AreFit, TellsCheck, ChecksTo};
 ghost use Rattle.sced.specs.Told.{ReadsTable, lodf_header, contingencies_header, CheckReadFailed, FilesCheckTo, AnswersTo, IsDecidedOf};
 
-use crate::checking::{CheckBytes, Inputs, check_status, read_inputs, residuals_of};
+use crate::checking::{CheckBytes, Inputs, MOST_BYTES, check_status, read_inputs, residuals_of};
 use crate::status::Status;
 use crate::stops::Stop;
 use crate::words::{CheckFiles, PoolFiles, Request, WordsStop, request_of};
@@ -31,9 +31,6 @@ use refusal_text::{Input, Refusal, refusal_text};
 use report_text::report;
 use residual_text::residuals_text;
 use std::alloc::Global;
-
-/// The most bytes of a file.
-const MOST_BYTES: usize = 33_554_432;
 
 /// The market of a case and its offers.
 ///
