@@ -1,5 +1,5 @@
 -- The place of a block behind others of its unit and side.
-use Rattle.std.specs.Prelude.{◌≡◌, ℕ, ◌+◌, ◌<◌, ◌≤◌, Bool, true, false, List, [], ◌∷◌, ◌++◌, filter, length, Option, Some, refl, cond}
+use Rattle.std.specs.Prelude.{◌≡◌, ℕ, ◌+◌, ◌<◌, ◌≤◌, Bool, true, false, List, [], ◌∷◌, ◌++◌, filter, length, Some, refl, cond}
 use Rattle.std.specs.List.{range_with_len, slice_get}
 use Rattle.std.proofs.Common.{zero, suc, add-one, arith, ap, sym, ◌∙◌, length-append}
 use Rattle.std.proofs.lemmas.List.Elements.{filter-append}

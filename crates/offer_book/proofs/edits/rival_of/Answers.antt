@@ -1,7 +1,7 @@
-use Rattle.std.proofs.Common.{◌≡◌, ◌∙◌, ◌≤ℤ◌, ℤ, pos, ◌+ℤ◌, ◌-ℤ◌, ap, arith, w64}
+use Rattle.std.proofs.Common.{◌≡◌, ◌≤ℤ◌, ℤ, pos, ◌+ℤ◌, ◌-ℤ◌, arith, w64}
 use Rattle.std.proofs.lemmas.Int.{ints, to_z-of_z}
 use mir.Val.{SFits, to_z, of_z}
-use Rattle.offer_book.specs.Edits.{price_of_block, rival, rival_of}
+use Rattle.offer_book.specs.Edits.{price_of_block, rival_of}
 use Rattle.offer_book.proofs.edits.rival_of.Goals as goal
 
 pub returns : goal.returns

@@ -1,0 +1,141 @@
+-- The factor of a row in units of 10^-12, and where the lines of rows stand.
+use Rattle.std.specs.Prelude.{◌≡◌, ℕ, ◌*◌, ◌<◌, ◌≤◌, ◌^◌, Bool, true, false, if◌then◌else◌, unsigned_abs, ℤ, pos, ◌+ℤ◌, ◌*ℤ◌, List, [], ◌∷◌, map, filter, length, All, Contains, refl}
+use Rattle.std.specs.List.{flat_map}
+use Rattle.std.proofs.Common.{suc, arith, ap, sym, subst, ◌∙◌, get_or}
+use Rattle.std.proofs.Math.Nat.{mul-pos, mul_comm}
+use Rattle.std.proofs.lemmas.List.FromFn.{length-range_with_len}
+use Rattle.std.proofs.lemmas.List.Elements.{All-append, All-filter, All-map, All-nil}
+use Rattle.fraction_theory.specs.Fraction.{Fraction, over, ◌+ℚ◌, ◌*ℚ◌}
+use Rattle.fraction_theory.proofs.Ring.{by_ring, at, padd, pmul}
+use Rattle.fraction_theory.proofs.IntegerLaws.{ring_ℤ}
+use Rattle.fraction_theory.proofs.FractionLaws.{Is, same_value, over_is, plus_is, times_is}
+use Rattle.fraction_theory.proofs.FieldLaws.{over-same, widen, +ℚ_nil}
+use Rattle.market_model.specs.declared.answered.RowId.{RowId}
+use Rattle.market_model.specs.declared.participants.Factor.{Factor}
+use Rattle.market_model.specs.declared.participants.Line.{Line}
+use Rattle.market_model.specs.declared.participants.Parts.{Parts}
+use Rattle.market_model.specs.Dispatch.{places, line_at}
+use Rattle.market_model.specs.Factors.{factor_in, is_pair}
+use Rattle.market_model.specs.LimitRows.{Cause, Base, After, Row, place_of_line, rows, rows_after, base_rows, has_base, has_post, outage_of, row_id, row_factor}
+use Rattle.market_model.specs.Market.{IsMarket, IsFactor}
+use Rattle.limit_rows.proofs.GroupLemmas.{length-map, place_at, place-own, row_at}
+
+-- ---- factors of one width
+factor-one : (a : ℕ) → 0 < a → (h : ℤ) → over (h *ℤ pos a) (a * a) ≡ over h a
+factor-one a p h = over-same (h *ℤ pos a) h (a * a) a (mul-pos p p) p (by_ring ring_ℤ (h ∷ pos a ∷ []) (pmul (pmul (at 0) (at 1)) (at 1)) (pmul (at 0) (pmul (at 1) (at 1))) refl)
+
+factor-two : (a : ℕ) → 0 < a → (h l k : ℤ) → over (h *ℤ pos a +ℤ l *ℤ k) (a * a) ≡ over h a +ℚ over l a *ℚ over k a
+factor-two a p h l k =
+    let sum : Fraction = over h a +ℚ over l a *ℚ over k a in
+    let both = plus_is (over h a) (over l a *ℚ over k a) h (l *ℤ k) a (a * a) (over_is h a p) (times_is (over l a) (over k a) l k a a (over_is l a p) (over_is k a p)) in
+    let tops : h *ℤ pos (a * a) +ℤ (l *ℤ k) *ℤ pos a ≡ (h *ℤ pos a +ℤ l *ℤ k) *ℤ pos a =
+    by_ring ring_ℤ (h ∷ pos a ∷ l ∷ k ∷ []) (padd (pmul (at 0) (pmul (at 1) (at 1))) (pmul (pmul (at 2) (at 3)) (at 1))) (pmul (padd (pmul (at 0) (at 1)) (pmul (at 2) (at 3))) (at 1)) refl in
+    let other : Is sum ((h *ℤ pos a +ℤ l *ℤ k) *ℤ pos a) ((a * a) * a) =
+    subst (λ (d : ℕ). Is sum ((h *ℤ pos a +ℤ l *ℤ k) *ℤ pos a) d) (mul_comm a (a * a)) (subst (λ (n : ℤ). Is sum n (a * (a * a))) tops both) in
+    same_value (over (h *ℤ pos a +ℤ l *ℤ k) (a * a)) sum ((h *ℤ pos a +ℤ l *ℤ k) *ℤ pos a) ((a * a) * a) (mul-pos (mul-pos p p) p)
+    (widen (over (h *ℤ pos a +ℤ l *ℤ k) (a * a)) (h *ℤ pos a +ℤ l *ℤ k) (a * a) a (over_is (h *ℤ pos a +ℤ l *ℤ k) (a * a) (mul-pos p p))) other
+
+pub factor-base : (m : Parts) (l i : ℕ) → over (factor_in m.shift l i *ℤ pos 1000000) (10 ^ 12) ≡ row_factor m (record { line = l; cause = Base }) i
+unfolding row_factor
+factor-base m l i = factor-one 1000000 (Prim.omega arith) (factor_in m.shift l i) ∙ sym (+ℚ_nil (over (factor_in m.shift l i) 1000000))
+
+pub factor-after : (m : Parts) (l lost i : ℕ)
+    → over (factor_in m.shift l i *ℤ pos 1000000 +ℤ factor_in m.loss l lost *ℤ factor_in m.shift lost i) (10 ^ 12) ≡ row_factor m (record { line = l; cause = After lost }) i
+unfolding row_factor
+factor-after m l lost i =
+    factor-two 1000000 (Prim.omega arith) (factor_in m.shift l i) (factor_in m.loss l lost) (factor_in m.shift lost i)
+    ∙ ap (λ (f : Fraction). over (factor_in m.shift l i) 1000000 +ℚ f) (sym (+ℚ_nil (over (factor_in m.loss l lost) 1000000 *ℚ over (factor_in m.shift lost i) 1000000)))
+
+-- ---- where the lines of a row stand
+-- a lost line is that of an outage
+abbrev pub IsLost : Parts → Cause → Type 0
+IsLost m Base = Unit {0}
+IsLost m (After lost) = (lost < length m.lines) × (1 ≤ (line_at m lost).row)
+
+pub record Stands (m : Parts) (r : Row) : Type 0 where
+  pub line : r.line < length m.lines
+  pub lost : IsLost m r.cause
+
+module _ (m : Parts) (market : IsMarket m) where
+  lines_stand : (cause : Cause) (p : ℕ → Bool) → IsLost m cause → All (Stands m) (map (λ l. record { line = l; cause = cause }) (filter p (places (length m.lines))))
+  lines_stand cause p lost =
+      All-map (Stands m) (λ (l : ℕ). record { line = l; cause = cause }) (filter p (places (length m.lines)))
+      (All-filter p (λ l. Stands m (record { line = l; cause = cause })) (places (length m.lines))
+      (λ k d h.
+      let inside : k < length m.lines = Prim.omega (arith, h, length-range_with_len 0 (length m.lines)) in
+      record { line = subst (λ (l : ℕ). l < length m.lines) (sym (place_at (length m.lines) k d inside)) inside; lost = lost }))
+
+  outage_stands : (i : ℕ) (d : ℕ) → i < length m.outages → IsLost m (After (place_of_line m (get_or m.outages i d)))
+  outage_stands i d h = by (market.outages i d h)
+    where
+      by : {row : ℕ} → Contains (map (λ line. line.row) m.lines) row → (place_of_line m row < length m.lines) × (1 ≤ (line_at m (place_of_line m row)).row)
+      by {row} (k, lt, e) =
+          let inside : k < length m.lines = Prim.omega (arith, lt, length-map (λ (line : Line). line.row) m.lines) in
+          let is : (line_at m k).row ≡ row = sym (row_at m market k row inside) ∙ e in
+          let place : place_of_line m row ≡ k = ap (place_of_line m) (sym is) ∙ place-own m market k inside in
+          (subst (λ (l : ℕ). l < length m.lines) (sym place) inside, subst (λ (l : ℕ). 1 ≤ (line_at m l).row) (sym place) (market.lines k _ inside).row)
+
+  all_flat : (f : ℕ → List Row) (xs : List ℕ) → ((i : ℕ) (d : ℕ) → i < length xs → All (Stands m) (f (get_or xs i d))) → All (Stands m) (flat_map f xs)
+  all_flat f [] h = All-nil (Stands m)
+  all_flat f (x ∷ xs) h = All-append (Stands m) (f x) (flat_map f xs) (h 0 x (Prim.omega arith)) (all_flat f xs (λ i d lt. h (suc i) d (Prim.omega (arith, lt))))
+
+  rows_stand : All (Stands m) (rows m)
+  unfolding rows
+  rows_stand =
+      All-append (Stands m) (base_rows m) (flat_map (λ row. rows_after m (place_of_line m row)) m.outages)
+      (lines_stand Base (has_base m) tt)
+      (all_flat (λ row. rows_after m (place_of_line m row)) m.outages (λ i d h. lines_stand (After (place_of_line m (get_or m.outages i d))) (has_post m (place_of_line m (get_or m.outages i d))) (outage_stands i d h)))
+
+  stands : (r : Row) → Contains (rows m) r → Stands m r
+  stands r (k, lt, e) = subst (Stands m) e (rows_stand k r lt)
+
+  -- ---- a row by its name
+  module _ (name : RowId) (r : Row) (is_row : Contains (rows m) r) (named : row_id m r ≡ name) where
+    line_is : place_of_line m name.branch ≡ r.line
+    line_is = ap (λ (n : RowId). place_of_line m n.branch) (sym named) ∙ place-own m market r.line (stands r is_row).line
+
+    pub line_inside : place_of_line m name.branch < length m.lines
+    line_inside = subst (λ (l : ℕ). l < length m.lines) (sym line_is) (stands r is_row).line
+
+    outage_is : outage_of m r.cause ≡ name.outage
+    outage_is = ap (λ (n : RowId). n.outage) named
+
+    pub lost_inside : (name.outage ≡ 0 → ⊥) → place_of_line m name.outage < length m.lines
+    lost_inside lost = by r.cause (stands r is_row).lost outage_is
+      where
+        by : (cause : Cause) → IsLost m cause → outage_of m cause ≡ name.outage → place_of_line m name.outage < length m.lines
+        by Base h e = absurd (lost (sym e))
+        by (After k) h e = subst (λ (l : ℕ). l < length m.lines) (sym (ap (place_of_line m) (sym e) ∙ place-own m market k h.0)) h.0
+
+    pub base_factor : (bus : ℕ) → name.outage ≡ 0 → over (factor_in m.shift (place_of_line m name.branch) bus *ℤ pos 1000000) (10 ^ 12) ≡ row_factor m r bus
+    base_factor bus none =
+        ap (λ (l : ℕ). over (factor_in m.shift l bus *ℤ pos 1000000) (10 ^ 12)) line_is ∙ by r.cause (stands r is_row).lost outage_is
+      where
+        by : (cause : Cause) → IsLost m cause → outage_of m cause ≡ name.outage → over (factor_in m.shift r.line bus *ℤ pos 1000000) (10 ^ 12) ≡ row_factor m (record { line = r.line; cause = cause }) bus
+        by Base h e = factor-base m r.line bus
+        by (After k) h e = absurd (Prim.omega (arith, h.1, e, none))
+
+    pub after_factor : (bus : ℕ) → (name.outage ≡ 0 → ⊥)
+        → over (factor_in m.shift (place_of_line m name.branch) bus *ℤ pos 1000000
+        +ℤ factor_in m.loss (place_of_line m name.branch) (place_of_line m name.outage) *ℤ factor_in m.shift (place_of_line m name.outage) bus) (10 ^ 12)
+        ≡ row_factor m r bus
+    after_factor bus lost =
+        ap (λ (l : ℕ). over (factor_in m.shift l bus *ℤ pos 1000000 +ℤ factor_in m.loss l (place_of_line m name.outage) *ℤ factor_in m.shift (place_of_line m name.outage) bus) (10 ^ 12)) line_is
+        ∙ by r.cause (stands r is_row).lost outage_is
+      where
+        by : (cause : Cause) → IsLost m cause → outage_of m cause ≡ name.outage
+            → over (factor_in m.shift r.line bus *ℤ pos 1000000 +ℤ factor_in m.loss r.line (place_of_line m name.outage) *ℤ factor_in m.shift (place_of_line m name.outage) bus) (10 ^ 12)
+            ≡ row_factor m (record { line = r.line; cause = cause }) bus
+        by Base h e = absurd (lost (sym e))
+        by (After k) h e =
+            ap (λ (l : ℕ). over (factor_in m.shift r.line bus *ℤ pos 1000000 +ℤ factor_in m.loss r.line l *ℤ factor_in m.shift l bus) (10 ^ 12)) (ap (place_of_line m) (sym e) ∙ place-own m market k h.0)
+            ∙ factor-after m r.line k bus
+
+-- ---- the size of a factor
+pub factor_in-size : (lines others : ℕ) (fs : List Factor) (l o : ℕ) → All (IsFactor lines others) fs → unsigned_abs (factor_in fs l o) ≤ 1000000000
+factor_in-size lines others [] l o all = Prim.omega arith
+factor_in-size lines others (f ∷ fs) l o all = by (is_pair l o f) (all 0 f (Prim.omega arith)).size (factor_in-size lines others fs l o (λ k d lt. all (suc k) d (Prim.omega (arith, lt))))
+  where
+    by : (b : Bool) → unsigned_abs f.value ≤ 1000000000 → unsigned_abs (factor_in fs l o) ≤ 1000000000 → unsigned_abs (if b then f.value else factor_in fs l o) ≤ 1000000000
+    by true here rest = here
+    by false here rest = rest

@@ -1,0 +1,5 @@
+pub mod GroupLemmas
+pub mod NumberingLemmas
+pub mod FactorLemmas
+pub mod PositionLemmas
+pub mod NameLemmas

@@ -1,0 +1,67 @@
+-- Rows by their names.
+use Rattle.std.specs.Prelude.{◌≡◌, ◌==◌, ◌&&◌, ℕ, ◌+◌, ◌<◌, Bool, true, false, List, [], ◌∷◌, ◌++◌, map, filter, length, Option, Some, refl, cond}
+use Rattle.std.specs.List.{flat_map, slice_get}
+use Rattle.std.proofs.Common.{ap, sym, subst, ◌∙◌, append_assoc, get_or, take, drop}
+use Rattle.std.proofs.lemmas.Bool.{eq-eqb, ne_eqb}
+use Rattle.std.proofs.lemmas.List.{map-append, take-append-drop}
+use Rattle.std.proofs.lemmas.List.Elements.{All-append, All-cons, All-map, All-nil, filter-append}
+use Rattle.std.proofs.lemmas.Grind.{flat_map-append}
+use Rattle.market_model.specs.declared.answered.RowId.{RowId}
+use Rattle.market_model.specs.declared.participants.Parts.{Parts}
+use Rattle.market_model.specs.Dispatch.{places, line_at}
+use Rattle.market_model.specs.LimitRows.{Row, outage_of, rows}
+use Rattle.market_model.proofs.MorePlaces.{places_more}
+use Rattle.limit_rows.specs.Groups.{bears, cause_of, groups, is_named, lines_of, rows_of}
+use Rattle.limit_rows.proofs.GroupLemmas.{places_at, rows-groups, rows-more}
+use Rattle.limit_rows.proofs.NumberingLemmas.{row_on, rows_before}
+use Rattle.limit_rows.proofs.PositionLemmas.{Fails}
+
+and-false : (b c : Bool) → c ≡ false → (b && c) ≡ false
+and-false true c e = e
+and-false false c e = refl
+
+and-true : (b c : Bool) → c ≡ true → (b && c) ≡ b
+and-true true c e = e
+and-true false c e = refl
+
+-- rows of a group of another outage have other names
+pub other_outage : (m : Parts) (row : RowId) (lost : Option ℕ) → (outage_of m (cause_of lost) ≡ row.outage → ⊥) → Fails (is_named m row) (rows_of m lost)
+other_outage m row lost h =
+    All-map (λ r. is_named m row r ≡ false) (row_on lost) (lines_of m lost) (λ k d lt. and-false ((line_at m (get_or (lines_of m lost) k d)).row == row.branch) _ (ne_eqb _ _ h))
+
+pub same_outage : (m : Parts) (row : RowId) (lost : Option ℕ) (l : ℕ) → outage_of m (cause_of lost) ≡ row.outage → is_named m row (row_on lost l) ≡ ((line_at m l).row == row.branch)
+same_outage m row lost l e = and-true ((line_at m l).row == row.branch) _ (eq-eqb _ _ e)
+
+-- lines whose rows have another branch
+pub other_branch : (m : Parts) (row : RowId) (lost : Option ℕ) (ls : List ℕ) → outage_of m (cause_of lost) ≡ row.outage → Fails (λ l. (line_at m l).row == row.branch) ls → Fails (is_named m row) (map (row_on lost) ls)
+other_branch m row lost ls e h = All-map (λ r. is_named m row r ≡ false) (row_on lost) ls (λ k d lt. same_outage m row lost (get_or ls k d) e ∙ h k d lt)
+
+pub fails-more : (p b : ℕ → Bool) (i : ℕ) → Fails p (filter b (places i)) → (b i ≡ true → p i ≡ false) → Fails p (filter b (places (i + 1)))
+fails-more p b i h here =
+    subst (Fails p) (sym (ap (filter b) (places_more i) ∙ filter-append b (places i) (i ∷ []))) (All-append (λ l. p l ≡ false) (filter b (places i)) (filter b (i ∷ [])) h (by (b i) here))
+  where
+    by : (t : Bool) → (t ≡ true → p i ≡ false) → Fails p (cond t (i ∷ []) [])
+    by true f = All-cons (λ l. p l ≡ false) i [] (f refl) (All-nil (λ l. p l ≡ false))
+    by false f = All-nil (λ l. p l ≡ false)
+
+-- the rows of a group round the row of a line
+pub rows_round : (m : Parts) (lost : Option ℕ) (i : ℕ) → i < length m.lines → bears m lost i ≡ true
+    → (rest : List Row) × (rows_of m lost ≡ map (row_on lost) (filter (bears m lost) (places i)) ++ row_on lost i ∷ rest)
+rows_round m lost i h passes =
+    let r = places_at (length m.lines) i h in
+    let b = bears m lost in (
+      map (row_on lost) (filter b r.0),
+      ap (map (row_on lost)) (ap (filter b) r.1 ∙ filter-append b (places i) (i ∷ r.0) ∙ ap (λ (t : Bool). filter b (places i) ++ cond t (i ∷ filter b r.0) (filter b r.0)) passes)
+          ∙ map-append (row_on lost) (filter b (places i)) (i ∷ filter b r.0),
+    )
+
+-- the rows round those of a group
+pub groups_round : (m : Parts) (i : ℕ) (lost : Option ℕ) → slice_get (groups m) i ≡ Some lost → (rest : List Row) × (rows m ≡ rows_before m i ++ (rows_of m lost ++ rest))
+groups_round m i lost at = (
+  flat_map (rows_of m) (drop (i + 1) (groups m)),
+  rows-groups m
+      ∙ ap (flat_map (rows_of m)) (sym (take-append-drop (i + 1) (groups m)))
+      ∙ flat_map-append (rows_of m) (take (i + 1) (groups m)) (drop (i + 1) (groups m))
+      ∙ ap (λ rs. rs ++ flat_map (rows_of m) (drop (i + 1) (groups m))) (rows-more m i lost at)
+      ∙ append_assoc (rows_before m i) (rows_of m lost) (flat_map (rows_of m) (drop (i + 1) (groups m))),
+)

@@ -1,0 +1,22 @@
+use Rattle.std.proofs.Common.{◌≡◌, ℕ, ◌+◌, ◌≤◌, Bool, true, false, cond, sym, ◌∙◌, arith}
+use Rattle.limit_rows.specs.Groups.{bears}
+use Rattle.limit_rows.proofs.GroupLemmas.{passed-more}
+use Rattle.limit_rows.proofs.groups.count_of.Goals as goal
+use Rattle.limit_rows.proofs.groups.count_of.Goals.{then-bears, else-bears}
+
+pub loop-place-preserved : goal.loop-place-preserved
+loop-place-preserved c =
+    let test = c.bears.ensures in
+    let more = passed-more (bears c.args.market.now c.args.lost) c.loop-place.place in
+    elim c.if-bears.branch [
+      | then-bears w ↦ passed (bears c.args.market.now c.args.lost c.loop-place.place) _ _ _ _ c.loop-place.place (sym test ∙ w.if-bears.true) more w.count-is c.loop-place.invariant
+      | else-bears w ↦ passed_over (bears c.args.market.now c.args.lost c.loop-place.place) _ _ _ _ c.loop-place.place (sym test ∙ w.if-bears.false) more w.count-is c.loop-place.invariant
+    ]
+  where
+    passed : (b : Bool) (count' after count before place : ℕ) → b ≡ true → after ≡ before + cond b 1 0 → count' ≡ count + 1 → (count ≡ before) × (count ≤ place) → (count' ≡ after) × (count' ≤ place + 1)
+    passed true count' after count before place e more is h = (omega (arith, h.0, more, is), omega (arith, h.1, is))
+    passed false count' after count before place e more is h = absurd (cc)
+
+    passed_over : (b : Bool) (count' after count before place : ℕ) → b ≡ false → after ≡ before + cond b 1 0 → count' ≡ count → (count ≡ before) × (count ≤ place) → (count' ≡ after) × (count' ≤ place + 1)
+    passed_over true count' after count before place e more is h = absurd (cc)
+    passed_over false count' after count before place e more is h = (omega (arith, h.0, more, is), omega (arith, h.1, is))

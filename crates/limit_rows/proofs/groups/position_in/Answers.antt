@@ -1,0 +1,81 @@
+use Rattle.std.proofs.Common.{rules, ◌≡◌, ◌<◌, ◌+◌, ◌==◌, ℕ, Bool, true, false, cond, length, map, get_or, Some, sym, ap, subst, ◌∙◌, arith}
+use Rattle.std.specs.Prelude.{filter}
+use Rattle.std.specs.List.{position}
+use Rattle.std.proofs.lemmas.Bool.{eq-eqb, ne_eqb}
+use Rattle.std.proofs.lemmas.Option.{get_or_from_slice_get}
+use Rattle.market_model.specs.declared.participants.Line.{Line}
+use Rattle.market_model.specs.Dispatch.{places, line_at}
+use Rattle.market_model.specs.LimitRows.{Row}
+use Rattle.limit_rows.specs.Groups.{bears, is_named, rows_of}
+use Rattle.limit_rows.proofs.GroupLemmas.{length-map, passed-more}
+use Rattle.limit_rows.proofs.NameLemmas.{other_outage, same_outage, other_branch, fails-more, rows_round}
+use Rattle.limit_rows.proofs.NumberingLemmas.{row_on}
+use Rattle.limit_rows.proofs.PositionLemmas.{position-behind, position-none}
+use Rattle.limit_rows.proofs.groups.position_in.Goals as goal
+use Rattle.limit_rows.proofs.groups.position_in.Goals.{then-bears+else-at-row, else-bears}
+
+pub returns-then-group-row-clause-is : goal.returns-then-group-row-clause-is
+returns-then-group-row-clause-is c =
+    let m = c.args.market.now in
+    let p = is_named m c.args.row in
+    sym (position-none p (rows_of m c.args.group.lost) (other_outage m c.args.row c.args.group.lost (λ e. c.if-group-row.true (sym c.requires ∙ e))))
+
+pub returns-then-at-row : goal.returns-then-at-row
+returns-then-at-row c =
+    let m = c.args.market.now in
+    let lost = c.args.group.lost in
+    let p = is_named m c.args.row in
+    let inside : c.loop-place.place < length m.lines = search rules in
+    let read : line_at m c.loop-place.place ≡ c.at.result.now = get_or_from_slice_get m.lines c.loop-place.place c.at.result.now _ (rw c.lines-then-bears.ensures.list at c.at.ensures) in
+    let outage = c.requires ∙ c.if-group-row.false in
+    let round = rows_round m lost c.loop-place.place inside (sym c.bears.ensures ∙ c.if-bears.true) in
+    let before = filter (bears m lost) (places c.loop-place.place) in
+    let here : p (row_on lost c.loop-place.place) ≡ true = same_outage m c.args.row lost c.loop-place.place outage ∙ eq-eqb _ _ (ap (λ (l : Line). l.row) read ∙ c.if-at-row.true) in
+    record {
+      few = omega (arith, c.loop-place.invariant.few, inside, c.lines.ensures.market.line_count);
+      is =
+          sym (ap (position p) round.1
+          ∙ position-behind p (map (row_on lost) before) round.0 (row_on lost c.loop-place.place) (other_branch m c.args.row lost before outage c.loop-place.invariant.none) here
+          ∙ ap (λ (k : ℕ). Some k) (length-map (row_on lost) before ∙ sym c.loop-place.invariant.count));
+    }
+
+pub loop-place-preserved : goal.loop-place-preserved
+loop-place-preserved c =
+    let m = c.args.market.now in
+    let b = bears m c.args.group.lost in
+    let i = c.loop-place.place in
+    let test = c.bears.ensures in
+    let more = passed-more b i in
+    elim c.if-bears.branch [
+      | then-bears+else-at-row w ↦
+          let read : line_at m i ≡ w.at.result.now = get_or_from_slice_get m.lines i w.at.result.now _ (rw w.lines-then-bears.ensures.list at w.at.ensures) in
+          record {
+            count = passed (b i) _ _ _ _ (sym test ∙ w.if-bears.true) more w.before-is c.loop-place.invariant.count;
+            few = omega (arith, w.before-is, c.loop-place.invariant.few);
+            none = fails-more (λ k. (line_at m k).row == c.args.row.branch) b i c.loop-place.invariant.none (λ e. ne_eqb _ _ (λ f. w.if-at-row.false (ap (λ (l : Line). l.row) (sym read) ∙ f)));
+          }
+      | else-bears w ↦
+          record {
+            count = passed_over (b i) _ _ _ _ (sym test ∙ w.if-bears.false) more w.before-is c.loop-place.invariant.count;
+            few = omega (arith, w.before-is, c.loop-place.invariant.few);
+            none = fails-more (λ k. (line_at m k).row == c.args.row.branch) b i c.loop-place.invariant.none (λ e. let f : b i ≡ false = sym test ∙ w.if-bears.false in absurd (cc));
+          }
+    ]
+  where
+    passed : (b : Bool) (count' after count before : ℕ) → b ≡ true → after ≡ before + cond b 1 0 → count' ≡ count + 1 → count ≡ before → count' ≡ after
+    passed true count' after count before e more is h = omega arith
+    passed false count' after count before e more is h = absurd (cc)
+
+    passed_over : (b : Bool) (count' after count before : ℕ) → b ≡ false → after ≡ before + cond b 1 0 → count' ≡ count → count ≡ before → count' ≡ after
+    passed_over true count' after count before e more is h = absurd (cc)
+    passed_over false count' after count before e more is h = omega arith
+
+pub returns-clause-is : goal.returns-clause-is
+returns-clause-is c =
+    let m = c.args.market.now in
+    let lost = c.args.group.lost in
+    let outage = c.requires ∙ c.if-group-row.false in
+    let end : c.loop-place.place ≡ length m.lines = search (rules, arith) in
+    let none = other_branch m c.args.row lost (filter (bears m lost) (places c.loop-place.place)) outage c.loop-place.invariant.none in
+    sym (position-none (is_named m c.args.row) (rows_of m lost)
+    (subst (λ (n : ℕ). (k : ℕ) (d : Row) → k < length (map (row_on lost) (filter (bears m lost) (places n))) → is_named m c.args.row (get_or (map (row_on lost) (filter (bears m lost) (places n))) k d) ≡ false) end none))

@@ -1,0 +1,27 @@
+use Rattle.std.proofs.Common.{◌≡◌, ℕ, length, sym, ap, ◌∙◌, arith}
+use Rattle.std.proofs.lemmas.Option.{get_or_from_slice_get}
+use Rattle.market_model.specs.declared.participants.Line.{Line}
+use Rattle.market_model.specs.declared.answered.RowId.{RowId}
+use Rattle.market_model.specs.Dispatch.{line_at}
+use Rattle.market_model.specs.LimitRows.{row_id}
+use Rattle.limit_rows.proofs.NumberingLemmas.{all_before, counted-more, row_in_group}
+use Rattle.limit_rows.proofs.numbering.id.Goals as goal
+
+pub returns-then-left-count : goal.returns-then-left-count
+returns-then-left-count c = λ r is.
+    let m = c.args.market.now in
+    let line = c.line_behind-line.result in
+    let same = row_in_group m c.loop-at.at c.loop-at.left c.args.place line c.group_at-group.result.lost r c.group_at-group.ensures.lost c.line_behind-line.ensures.is c.loop-at.invariant is in
+    let read : line_at m line ≡ c.at.result.now = get_or_from_slice_get m.lines line c.at.result.now _ (rw c.lines.ensures.list at c.at.ensures) in
+    let named : Line → ℕ → RowId = λ l o. record { branch = l.row; outage = o } in
+    ap (λ (l : Line). named l c.group_at-group.result.outage) (sym read) ∙ ap (λ (o : ℕ). named (line_at m line) o) (sym c.group_at-group.ensures.outage) ∙ ap (row_id m) (sym same)
+
+pub loop-at-preserved : goal.loop-at-preserved
+loop-at-preserved c =
+    let more = counted-more c.args.market.now c.loop-at.at c.group_at-group.result.lost c.group_at-group.ensures.lost in
+    omega (arith, c.loop-at.invariant, more, c.count_of-count.ensures.count, c.if-left-count.false)
+
+pub unreachable-requires : goal.unreachable-requires
+unreachable-requires c =
+    let all = ap length (all_before c.args.market.now c.loop-at.at (omega (arith, c.group_count-at-end.ensures.count, c.loop-at-test.false))) in
+    omega (arith, all, c.loop-at.invariant, c.requires)

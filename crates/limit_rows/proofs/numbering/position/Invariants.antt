@@ -1,0 +1,12 @@
+use Rattle.std.proofs.Common.{◌≡◌, ◌≤◌, ◌*◌, length}
+use Rattle.limit_rows.specs.Groups.{is_named}
+use Rattle.limit_rows.proofs.NumberingLemmas.{rows_before}
+use Rattle.limit_rows.proofs.PositionLemmas.{Fails}
+use Rattle.limit_rows.proofs.numbering.position.Given as goal
+
+abbrev pub invariant-loop-at : goal.invariant-loop-at
+invariant-loop-at l = record {
+  count : l.before ≡ length (rows_before l.market l.at);
+  few : l.before ≤ 2000 * l.at;
+  none : Fails (is_named l.market l.row) (rows_before l.market l.at);
+}

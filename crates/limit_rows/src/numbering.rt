@@ -1,0 +1,56 @@
+//! The rows of a market by place and by name.
+
+ghost use Rattle.std.specs.Prelude.{◌≡◌, ◌<◌, length};
+ghost use Rattle.std.specs.List.{position, slice_get};
+ghost use Rattle.market_model.specs.LimitRows.{Row, row_id, rows};
+ghost use Rattle.limit_rows.specs.Groups.{is_named};
+
+use crate::groups::{count_of, group_at, group_count, line_behind, position_in};
+use market_model::{Market, RowId};
+
+/// How many limit rows a market has.
+pub fn count(market: &Market) -> usize
+    ensures { result ≡ length (rows market.now) }
+{
+    let mut count = 0;
+    for place in 0..group_count(market) {
+        count += count_of(market, group_at(market, place).lost);
+    }
+    count
+}
+
+/// The name of the row at a place.
+pub fn id(market: &Market, place: usize) -> RowId
+    requires { place < length (rows market.now) }
+    ensures { (r : Row) → slice_get (rows market.now) place ≡ Some r → result ≡ row_id market.now r }
+{
+    let mut left = place;
+    for at in 0..group_count(market) {
+        let group = group_at(market, at);
+        let count = count_of(market, group.lost);
+        if left < count {
+            let line = line_behind(market, group.lost, left);
+            return RowId {
+                branch: market.lines().at(line).row,
+                outage: group.outage,
+            };
+        }
+        left -= count;
+    }
+    unreachable!()
+}
+
+/// The place of the row of a name, where there is one.
+pub fn position(market: &Market, row: RowId) -> Option<usize>
+    ensures { result ≡ position (is_named market.now row) (rows market.now) }
+{
+    let mut before = 0;
+    for at in 0..group_count(market) {
+        let group = group_at(market, at);
+        match position_in(market, group, row) {
+            Some(place) => return Some(before + place),
+            None => before += count_of(market, group.lost),
+        }
+    }
+    None
+}
