@@ -1,6 +1,7 @@
 -- Markets without branches keep what every market keeps.
-use Rattle.std.specs.Prelude.{◌≢◌, ℕ, ◌<◌, ◌≤◌, List, [], length, map, All, AllPairs, slice_index_or}
-use Rattle.std.proofs.Common.{arith}
+use Rattle.std.specs.Prelude.{◌≢◌, ℕ, ◌<◌, ◌≤◌, List, [], ◌∷◌, length, map, All, AllPairs, slice_index_or}
+use Rattle.std.proofs.Common.{arith, zero, suc}
+use Rattle.std.proofs.lemmas.List.Elements.{All-cons, All-nil}
 use Rattle.market_data.specs.Participants.{IsBus, IsUnit, most_buses, most_units}
 use Rattle.market_data.specs.declared.participants.Bus.{Bus}
 use Rattle.market_data.specs.declared.participants.Unit as unit
@@ -47,3 +48,34 @@ plain_market buses units blocks h = record {
   shift = record { each = λ i d lt. absurd (Prim.omega (arith, lt)); distinct = λ i j d p q. absurd (Prim.omega (arith, q)) };
   loss = record { each = λ i d lt. absurd (Prim.omega (arith, lt)); distinct = λ i j d p q. absurd (Prim.omega (arith, q)) };
 }
+
+-- a market of one bus, unit and block, and one of nothing
+pub one_each : (b : Bus) (u : unit.Unit) (k : Block) → IsBus b → IsUnit 1 u → IsBlock 1 k → HasRoom (k ∷ []) 0 u → IsMarket (plain (b ∷ []) (u ∷ []) (k ∷ []))
+one_each b u k is_bus is_unit is_block room = plain_market (b ∷ []) (u ∷ []) (k ∷ []) (record {
+  bus_count = Prim.omega arith;
+  unit_count = Prim.omega arith;
+  block_count = Prim.omega arith;
+  buses = All-cons IsBus b [] is_bus (All-nil IsBus);
+  bus_numbers = λ i j d p q. absurd (Prim.omega (arith, p, q));
+  units = All-cons (IsUnit 1) u [] is_unit (All-nil (IsUnit 1));
+  unit_rows = λ i j d p q. absurd (Prim.omega (arith, p, q));
+  blocks = All-cons (IsBlock 1) k [] is_block (All-nil (IsBlock 1));
+  room = at_place;
+})
+  where
+    at_place : (place : ℕ) (d : unit.Unit) → place < 1 → HasRoom (k ∷ []) place (slice_index_or (u ∷ []) place d)
+    at_place zero d h = room
+    at_place (suc n) d h = absurd (Prim.omega (arith, h))
+
+pub nothing : IsMarket (plain [] [] [])
+nothing = plain_market [] [] [] (record {
+  bus_count = Prim.omega arith;
+  unit_count = Prim.omega arith;
+  block_count = Prim.omega arith;
+  buses = All-nil IsBus;
+  bus_numbers = λ i j d p q. absurd (Prim.omega (arith, q));
+  units = All-nil (IsUnit 0);
+  unit_rows = λ i j d p q. absurd (Prim.omega (arith, q));
+  blocks = All-nil (IsBlock 0);
+  room = λ place d h. absurd (Prim.omega (arith, h));
+})

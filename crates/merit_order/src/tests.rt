@@ -1,3 +1,5 @@
+ghost use Rattle.std.specs.Prelude.{◌≡◌, [], IfOk};
+
 use crate::{ClearFault, clear};
 use exact_fraction::{Exact, Frac, Frac63, Op};
 use market_model::{Block, Bus, List, Market, Memory, Parts, Side, Unit, assemble};
@@ -5,7 +7,9 @@ use std::alloc::Global;
 use std::test::Fail;
 
 /// A load of 60 MW that one unit serves at a price of 200.
-fn one_bus(alloc: Global) -> Result<Market, Memory> {
+fn one_bus(alloc: Global) -> Result<Market, Memory>
+    ensures { IfOk result (λ market. market.lines ≡ []) }
+{
     let mut buses = List::new(alloc);
     buses.push(Bus {
         number: 1,
