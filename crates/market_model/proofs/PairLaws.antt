@@ -120,6 +120,7 @@ module _ (m : Parts) (bare : rows m ≡ []) (bound : ℕ) (p : Passed Fraction) 
         basic = balance_name m;
         is_basic = balance_is_basic m (λ j. false);
         limits = λ r c. absurd (Prim.omega (arith, c.1));
+        one_sided = λ r c. absurd (Prim.omega (arith, c.1));
         no_others = λ r c k. let none : Contains [] r = subst (λ (rs : List Row). Contains rs r) bare c in absurd (k none);
         energy = subst (SameSize d.energy) (sym (ap (λ (b : Bool). if b then whole (pos 1) else if start.basic (balance_name m) then zero else neg_ℚ (start.entry (balance_name m) (balance_name m))) (balance_is m (balance_name m) refl))) one;
       })) a

@@ -30,13 +30,15 @@ IsInjecting m rows h x = (x ≡ empty m) ⊎ ((x ≡ choice_dispatch m rows h) �
 abbrev pub farkas_multiplier : Choice → ℕ → ℕ → Fraction
 farkas_multiplier h b w = if w == b then whole (pos 1) else if h.basic w then zero else neg_ℚ (h.entry b w)
 
--- duals that show that nothing is feasible, by one basic variable of the choice
+-- duals that show that nothing is feasible, by one basic variable of the choice: the price of energy and those of limits are, up to sign,
+-- what shows it, a limit has one on one side at most, and rows that were not taken have none
 pub record IsFarkasOf (m : Parts) (rows : List Row) (h : Choice) (d : Duals Fraction) : Type 0 where
   pub shows : ShowsInfeasible m d
   pub basic : ℕ
   pub is_basic : Contains (basics (system_of m rows) h) basic
   pub energy : SameSize d.energy (farkas_multiplier h basic (balance_name m))
   pub limits : (r : Row) → Contains rows r → SameSize (pull m d r) (farkas_multiplier h basic (row_name m r))
+  pub one_sided : (r : Row) → Contains rows r → (up_of m d r ≡ zero) ⊎ (down_of m d r ≡ zero)
   pub no_others : (r : Row) → Contains (all_rows m) r → ¬ (Contains rows r) → (up_of m d r ≡ zero) × (down_of m d r ≡ zero)
 
 -- x is a number of this kind. The number of terms k is free: a whole sum is the prefix of all its terms.

@@ -2,6 +2,7 @@
 -- a type of numbers. An answer that numbers became too large names one.
 -- Source: own.
 use Rattle.std.specs.Prelude.{ℕ, List, [], ◌⊎◌}
+use Rattle.std.specs.List.{Contains}
 use Rattle.fraction_theory.specs.Fraction.{Fraction}
 use Rattle.fraction_theory.specs.Sums.{Term}
 use Rattle.exact_fraction.specs.declared.Op.{Op}
@@ -12,7 +13,7 @@ use Rattle.linear_system.specs.Pairs.{IsPairCase, AreNear, OfEither}
 use Rattle.market_model.specs.declared.participants.Parts.{Parts}
 use Rattle.market_model.specs.LimitRows.{Row}
 use Rattle.market_model.specs.Optimality.{welfare_terms}
-use Rattle.market_model.specs.Settlement.{surplus_terms}
+use Rattle.market_model.specs.Settlement.{surplus_terms, rent_terms}
 use Rattle.market_model.specs.MarketSystem.{system_of, choice_dispatch, choice_duals}
 use Rattle.market_model.specs.MarketNumbers.{IsBest, MarketNumber}
 use Rattle.market_model.specs.Growth.{Reached}
@@ -22,6 +23,7 @@ use Rattle.market_model.specs.NamedSums.{IsSumStep}
 pub data IsMoneySum (m : Parts) (rows : List Row) (h : Choice) : List Term → Type 0 where
   of_welfare : IsMoneySum m rows h (welfare_terms m (choice_dispatch m rows h))
   of_surplus : IsMoneySum m rows h (surplus_terms m (choice_dispatch m rows h) (choice_duals m rows h))
+  of_rent : (r : Row) → Contains rows r → IsMoneySum m rows h (rent_terms m (choice_dispatch m rows h) (choice_duals m rows h) r)
 
 -- the sides of an operation that adds up money, at a best choice
 pub record IsMoneyCase (m : Parts) (rows : List Row) (h : Choice) (op : Op) (left right : Fraction) : Type 0 where

@@ -38,7 +38,7 @@ impl Market {
     ghost use Rattle.market_model.specs.Market.{IsMarket};
     ghost use Rattle.market_model.specs.Stairs.{stair_in, offered, room_of};
 
-    /// The live buses, in row order of the case.
+    /// The live buses, in the order in which they were given.
     pub fn buses(&self) -> &List<Bus>
         ensures list { result.now ≡ self.now.buses }
         ensures market { IsMarket self.now }
@@ -46,7 +46,7 @@ impl Market {
         &self.parts.buses
     }
 
-    /// The live units, in row order of the case.
+    /// The live units, in the order in which they were given.
     pub fn units(&self) -> &List<Unit>
         ensures list { result.now ≡ self.now.units }
         ensures market { IsMarket self.now }
@@ -54,7 +54,7 @@ impl Market {
         &self.parts.units
     }
 
-    /// The blocks of live units, in the order of the offers.
+    /// The blocks of live units, in the order in which they were given.
     pub fn blocks(&self) -> &List<Block>
         ensures list { result.now ≡ self.now.blocks }
         ensures market { IsMarket self.now }
@@ -62,7 +62,7 @@ impl Market {
         &self.parts.blocks
     }
 
-    /// The live branches, in row order of the case.
+    /// The live branches, in the order in which they were given: that of the limit rows.
     pub fn lines(&self) -> &List<Line>
         ensures list { result.now ≡ self.now.lines }
         ensures market { IsMarket self.now }

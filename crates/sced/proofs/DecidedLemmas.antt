@@ -15,7 +15,8 @@ use Rattle.sced.specs.declared.status.Status.{Status}
 use Rattle.sced.specs.declared.status.Status.TheVariants as status
 use Rattle.sced.specs.Words.{refuses}
 use Rattle.sced.proofs.WordsLemmas.{asks-once, not-both}
-use Rattle.sced.specs.Pooling.{most_size, pool_market, status_of, ComesTo, FilesPoolTo}
+use Rattle.market_inputs.specs.Pooling.{pool_market}
+use Rattle.sced.specs.Pooling.{most_size, status_of, ComesTo, FilesPoolTo}
 use Rattle.sced.specs.Told.{AnswersTo, refused, pooled, checked, IsDecidedOf}
 
 cleared-done : (o : Outcome Fraction) → IsCleared o → status_of o ≡ status.Done

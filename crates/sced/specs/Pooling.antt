@@ -1,7 +1,6 @@
 -- What the bytes of a case and of offers stand for, and the text that is right for them.
-use Rattle.std.specs.Prelude.{◌≡◌, ℕ, nat_lt, List, [], length, Option, Some, None, Result, Ok, Err, if◌then◌else◌, ◌-◌, ◌^◌}
+use Rattle.std.specs.Prelude.{◌≡◌, ℕ, List, Option, Some, None, Result, Ok, Err, ◌-◌, ◌^◌}
 use Rattle.fraction_theory.specs.Fraction.{Fraction}
-use Rattle.csv_table.specs.Table.{and_then}
 use Rattle.outside_store.specs.Files.{Files}
 use Rattle.market_model.specs.declared.participants.Parts.{Parts}
 use Rattle.market_model.specs.declared.answered.Outcome.{Outcome}
@@ -10,40 +9,11 @@ use Rattle.market_model.specs.Market.{IsMarket}
 use Rattle.market_model.specs.Outcomes.{IsRightOutcome}
 use Rattle.market_model.specs.Reports.{report_text}
 use Rattle.merit_order.specs.Clearing.{IsPlainPrice}
-use Rattle.case_text.specs.Cases.{case_of}
-use Rattle.net_case.specs.declared.live_parts.Branches.TheVariants as branches
-use Rattle.net_case.specs.NetworkReading.{network_of, unit_list_of}
-use Rattle.offer_book.specs.OfferTable.{blocks_of_table}
 use Rattle.refusal_text.specs.Refusals.{refusal_line}
-use Rattle.refusal_text.specs.declared.refusals.Input.TheVariants as input
 use Rattle.refusal_text.specs.declared.refusals.Refusal.{Refusal}
-use Rattle.refusal_text.specs.declared.refusals.Refusal.TheVariants as refusal
+use Rattle.market_inputs.specs.Pooling.{pool_market}
 use Rattle.sced.specs.declared.status.Status.{Status}
 use Rattle.sced.specs.declared.status.Status.TheVariants as status
-
--- the most bytes of a file
-abbrev pub most_file : ℕ
-most_file = 33554432
-
--- what a file stands for, or that it is refused
-abbrev pub refused_as : {A F : Type 0} → (F → Refusal) → Result A F → Result A Refusal
-refused_as refuse (Ok x) = Ok x
-refused_as refuse (Err f) = Err (refuse f)
-
--- the bytes of a file, where they are not too many
-unfoldable pub sized : Refusal → List ℕ → Result (List ℕ) Refusal
-sized too_long bytes = if nat_lt most_file (length bytes) then Err too_long else Ok bytes
-
--- The market that the bytes of a case and of offers stand for, or the first fault. The whole case is read before the offers. No branch
--- has a limit in it.
-unfoldable pub pool_market : List ℕ → List ℕ → Result Parts Refusal
-pool_market case offers =
-    and_then (sized (refusal.TooLong input.Case) case) (λ text.
-    and_then (refused_as refusal.Case (case_of text)) (λ plain.
-    and_then (refused_as refusal.Network (network_of branches.Skip plain)) (λ network.
-    and_then (sized (refusal.TooLong input.Offers) offers) (λ table.
-    and_then (refused_as refusal.Offers (blocks_of_table (unit_list_of network) table)) (λ blocks.
-    Ok (record { buses = network.buses; units = (unit_list_of network).units; blocks = blocks; lines = []; outages = []; shift = []; loss = [] }))))))
 
 -- the status of what a clear came to
 abbrev pub status_of : Outcome Fraction → Status

@@ -7,7 +7,9 @@ use Rattle.market_model.specs.Dispatch.{Dispatch}
 use Rattle.market_model.specs.Optimality.{Feasible}
 use Rattle.market_model.specs.WorkingPairs.{NoPairPasses}
 use Rattle.sced.specs.Checking.{ChecksTo}
-use Rattle.sced.specs.Pooling.{FilesPoolTo, most_file, most_size, pool_market}
+use Rattle.market_inputs.specs.Files.{most_file}
+use Rattle.market_inputs.specs.Pooling.{pool_market}
+use Rattle.sced.specs.Pooling.{FilesPoolTo, most_size}
 use Rattle.sced.specs.Words.{AsksCheck, AsksNothing, AsksPool, CheckNames}
 use Rattle.sced.specs.declared.status.Status.{Status}
 use Rattle.sced.specs.declared.status.Status.TheVariants as status

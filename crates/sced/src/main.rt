@@ -5,7 +5,6 @@ mod checking;
 mod command;
 pub mod run;
 pub mod status;
-mod stops;
 mod words;
 
 use outside_store::{FileStore, OutSink};
@@ -46,7 +45,5 @@ fn main(rt: HostRuntime) -> ExitCode {
 
 #[cfg(test)]
 mod check_tests;
-#[cfg(test)]
-mod network_tests;
 #[cfg(test)]
 mod tests;

@@ -5,63 +5,30 @@ ghost use Rattle.outside_store.specs.Causes.{Rose, Still};
 ghost use Rattle.outside_store.specs.Files.{Reads, SameFiles};
 ghost use Rattle.outside_store.specs.Sinks.{Took, CountFault};
 ghost use Rattle.market_model.specs.Fitting.{FitsOutcome};
-ghost use Rattle.market_model.specs.Market.{IsMarket};
 ghost use Rattle.market_model.specs.Outcomes.{IsRightOutcome};
 ghost use Rattle.market_model.specs.Valued.{outcome_at};
-ghost use Rattle.sced.specs.Pooling.{most_file, pool_market, status_of, HasPlainPrice, ClearsTo, PoolsTo, FilesPoolTo};
+ghost use Rattle.market_inputs.specs.Files.{most_file};
+ghost use Rattle.market_inputs.specs.Checking.{AreFit};
+ghost use Rattle.sced.specs.Pooling.{status_of, HasPlainPrice, ClearsTo, PoolsTo, FilesPoolTo};
 ghost use Rattle.refusal_text.specs.Refusals.{refusal_line};
 ghost use Rattle.sced.specs.Runs.{IsSilent, IsTold, IsOfFiles, NamedReadFailed};
 ghost use Rattle.sced.specs.Words.{AsksNothing};
 ghost use Rattle.sced.specs.Requests.{names_of};
-ghost use Rattle.sced.specs.Checking.{AreFit, TellsCheck, ChecksTo};
+ghost use Rattle.sced.specs.Checking.{TellsCheck, ChecksTo};
 ghost use Rattle.sced.specs.Told.{ReadsTable, lodf_header, contingencies_header, CheckReadFailed, FilesCheckTo, AnswersTo, IsDecidedOf};
 
-use crate::checking::{CheckBytes, Inputs, MOST_BYTES, check_status, read_inputs, residuals_of};
+use crate::checking::{check_status, residuals_of};
 use crate::status::Status;
-use crate::stops::Stop;
 use crate::words::{CheckFiles, PoolFiles, Request, WordsStop, request_of};
-use case_text::read_case;
 use exact_fraction::{Exact, Frac};
-use market_model::{List, Market, Memory, Outcome as Clearing, Parts, assemble};
+use market_inputs::{CheckBytes, Inputs, MOST_BYTES, Stop, check_inputs, pool_market};
+use market_model::{Market, Memory, Outcome as Clearing};
 use merit_order::{ClearFault, clear};
-use net_case::{Branches, network};
-use offer_book::blocks;
 use outside_store::{ReadStop, Sink, Store};
-use refusal_text::{Input, Refusal, refusal_text};
+use refusal_text::{Refusal, refusal_text};
 use report_text::report;
 use residual_text::residuals_text;
 use std::alloc::Global;
-
-/// The market of a case and its offers.
-///
-/// The whole case is read before the offers.
-fn market(alloc: Global, case: &[u8], offers: &[u8]) -> Result<Market, Stop>
-    ensures market { IfOk result (λ market. pool_market case.now offers.now ≡ Ok market) }
-    ensures kept { IfOk result IsMarket }
-    ensures bare { IfOk result (λ market. market.lines ≡ []) }
-    ensures refused { (refusal : Refusal) → result ≡ Err (Stop.Refused refusal) → pool_market case.now offers.now ≡ Err refusal }
-{
-    if case.len() > MOST_BYTES {
-        return Err(Stop::Refused(Refusal::TooLong(Input::Case)));
-    }
-    let raw = read_case(alloc, case)?;
-    let network = network(alloc, &raw, Branches::Skip)?;
-    let units = network.unit_list(alloc)?;
-    if offers.len() > MOST_BYTES {
-        return Err(Stop::Refused(Refusal::TooLong(Input::Offers)));
-    }
-    let blocks = blocks(alloc, &units, offers)?;
-    let parts = Parts {
-        buses: network.into_buses(),
-        units: units.units,
-        blocks,
-        lines: List::new(alloc),
-        outages: List::new(alloc),
-        shift: List::new(alloc),
-        loss: List::new(alloc),
-    };
-    Ok(assemble(alloc, parts)?)
-}
 
 /// A status and the text that goes with it.
 #[derive(Drop)]
@@ -125,7 +92,7 @@ fn pool(alloc: Global, case: &[u8], offers: &[u8]) -> Result<Outcome, Memory>
     ensures status { IfOk result (λ outcome. IsOfFiles outcome.status) }
     ensures pools { IfOk result (λ outcome. PoolsTo case.now offers.now outcome.status outcome.text.items) }
 {
-    match market(alloc, case, offers) {
+    match pool_market(alloc, case, offers) {
         Ok(market) => clear_outcome::<Frac>(alloc, &market),
         Err(Stop::Refused(refusal)) => refused(alloc, &refusal),
         Err(Stop::Memory) => Err(Memory),
@@ -157,7 +124,7 @@ fn check(alloc: Global, bytes: &CheckBytes<'_>) -> Result<Outcome, Memory>
     ensures status { IfOk result (λ outcome. IsOfFiles outcome.status) }
     ensures checks { IfOk result (λ outcome. ChecksTo bytes.now.case.now bytes.now.ptdf.now bytes.now.lodf.now bytes.now.contingencies.now outcome.status outcome.text.items) }
 {
-    match read_inputs(alloc, bytes) {
+    match check_inputs(alloc, bytes) {
         Ok(inputs) => check_outcome(alloc, &inputs),
         Err(Stop::Refused(refusal)) => refused(alloc, &refusal),
         Err(Stop::Memory) => Err(Memory),

@@ -1,7 +1,7 @@
 use Rattle.std.proofs.Common.{refl, arith}
 use Rattle.refusal_text.specs.declared.refusals.Refusal.TheVariants as refusal
-use Rattle.sced.proofs.PoolingLemmas.{sized-long, sized-short}
-use Rattle.sced.proofs.checking.check_length.Goals as goal
+use Rattle.market_inputs.proofs.PoolingLemmas.{sized-long, sized-short}
+use Rattle.market_inputs.proofs.lengths.check_length.Goals as goal
 
 pub returns-then-bytes-gt-MOST_BYTES-clause-long : goal.returns-then-bytes-gt-MOST_BYTES-clause-long
 returns-then-bytes-gt-MOST_BYTES-clause-long c = (refl, sized-long (refusal.TooLong c.args.file) c.args.bytes.now c.if-bytes-gt-MOST_BYTES.true)

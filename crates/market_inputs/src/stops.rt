@@ -10,14 +10,14 @@ use plain_list::Memory;
 use refusal_text::Refusal;
 
 /// Why nothing was made of the files.
-#[derive(Drop)]
+#[derive(Debug, Drop)]
 pub enum Stop {
     Refused(Refusal),
     Memory,
 }
 
 impl From<Memory> for Stop {
-    ghost use Rattle.sced.specs.declared.stops.Stop.TheVariants as why;
+    ghost use Rattle.market_inputs.specs.declared.stops.Stop.TheVariants as why;
 
     ghost from_gives = { λ _ stop. stop ≡ why.Memory };
 
@@ -30,7 +30,7 @@ impl From<CaseFault> for Stop {
     ghost use Rattle.std.specs.Prelude.{◌⊎◌, ◌≢◌};
     ghost use Rattle.case_text.specs.declared.CaseFault.TheVariants as fault_why;
     ghost use Rattle.refusal_text.specs.declared.refusals.Refusal.TheVariants as refusal;
-    ghost use Rattle.sced.specs.declared.stops.Stop.TheVariants as why;
+    ghost use Rattle.market_inputs.specs.declared.stops.Stop.TheVariants as why;
 
     ghost from_gives = { λ fault stop. ((fault ≡ fault_why.Memory) × (stop ≡ why.Memory)) ⊎ ((fault ≢ fault_why.Memory) × (stop ≡ why.Refused (refusal.Case fault))) };
 
@@ -46,7 +46,7 @@ impl From<NetFault> for Stop {
     ghost use Rattle.std.specs.Prelude.{◌⊎◌, ◌≢◌};
     ghost use Rattle.net_case.specs.declared.live_parts.NetFault.TheVariants as fault_why;
     ghost use Rattle.refusal_text.specs.declared.refusals.Refusal.TheVariants as refusal;
-    ghost use Rattle.sced.specs.declared.stops.Stop.TheVariants as why;
+    ghost use Rattle.market_inputs.specs.declared.stops.Stop.TheVariants as why;
 
     ghost from_gives = { λ fault stop. ((fault ≡ fault_why.Memory) × (stop ≡ why.Memory)) ⊎ ((fault ≢ fault_why.Memory) × (stop ≡ why.Refused (refusal.Network fault))) };
 
@@ -62,7 +62,7 @@ impl From<OfferFault> for Stop {
     ghost use Rattle.std.specs.Prelude.{◌⊎◌, ◌≢◌};
     ghost use Rattle.offer_book.specs.declared.offer_table.OfferFault.TheVariants as fault_why;
     ghost use Rattle.refusal_text.specs.declared.refusals.Refusal.TheVariants as refusal;
-    ghost use Rattle.sced.specs.declared.stops.Stop.TheVariants as why;
+    ghost use Rattle.market_inputs.specs.declared.stops.Stop.TheVariants as why;
 
     ghost from_gives = { λ fault stop. ((fault ≡ fault_why.Memory) × (stop ≡ why.Memory)) ⊎ ((fault ≢ fault_why.Memory) × (stop ≡ why.Refused (refusal.Offers fault))) };
 
@@ -75,7 +75,7 @@ impl From<OfferFault> for Stop {
 }
 
 impl From<PathStop> for Stop {
-    ghost use Rattle.sced.specs.Checking.{split_stop};
+    ghost use Rattle.market_inputs.specs.Stops.{split_stop};
 
     ghost from_gives = { λ path stop. stop ≡ split_stop path };
 

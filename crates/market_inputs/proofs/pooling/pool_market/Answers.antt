@@ -7,8 +7,8 @@ use Rattle.std.proofs.lemmas.Result.{err_from_is_err_and}
 use Rattle.case_text.specs.declared.CaseFault.TheVariants as case_fault
 use Rattle.net_case.specs.declared.live_parts.NetFault.TheVariants as net_fault
 use Rattle.offer_book.specs.declared.offer_table.OfferFault.TheVariants as offer_fault
-use Rattle.sced.proofs.PoolingLemmas.{case-long, plain-fault, network-fault, offers-long, blocks-fault, market-is, pooled_market}
-use Rattle.sced.proofs.run.market.Goals as goal
+use Rattle.market_inputs.proofs.PoolingLemmas.{case-long, plain-fault, network-fault, offers-long, blocks-fault, market-is, pooled_market}
+use Rattle.market_inputs.proofs.pooling.pool_market.Goals as goal
 
 pub returns-then-case-gt-MOST_BYTES-clause-refused : goal.returns-then-case-gt-MOST_BYTES-clause-refused
 returns-then-case-gt-MOST_BYTES-clause-refused c = λ _ told. case-long c.args.case.now c.args.offers.now c.if-case-gt-MOST_BYTES.true ∙ cc told

@@ -1,10 +1,10 @@
 use Rattle.std.proofs.Common.{◌≡◌, Ok, Err, refl, rules}
 use Rattle.refusal_text.specs.declared.refusals.Input.TheVariants as input
 use Rattle.refusal_text.specs.declared.refusals.Refusal.TheVariants as refusal
-use Rattle.sced.specs.Pooling.{sized}
-use Rattle.sced.specs.Checking.{AreInputs, AreOutagesIn}
-use Rattle.sced.proofs.CheckingLemmas.{stops, then-ok}
-use Rattle.sced.proofs.checking.read_inputs.Goals as goal
+use Rattle.market_inputs.specs.Files.{sized}
+use Rattle.market_inputs.specs.Checking.{AreInputs, AreOutagesIn}
+use Rattle.market_inputs.proofs.CheckingLemmas.{stops, then-ok}
+use Rattle.market_inputs.proofs.checking.check_inputs.Goals as goal
 
 pub returns-in_err-outages-clause-told : goal.returns-in_err-outages-clause-told
 returns-in_err-outages-clause-told c =

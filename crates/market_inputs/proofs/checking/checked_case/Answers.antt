@@ -10,10 +10,11 @@ use Rattle.case_text.specs.Cases.{case_of}
 use Rattle.case_text.specs.declared.CaseFault.TheVariants as case_fault
 use Rattle.refusal_text.specs.declared.refusals.Input.TheVariants as input
 use Rattle.refusal_text.specs.declared.refusals.Refusal.TheVariants as refusal
-use Rattle.sced.specs.Pooling.{sized}
-use Rattle.sced.specs.Checking.{IsToldAs, IsCheckedCase, split_stop}
-use Rattle.sced.proofs.CheckingLemmas.{case-split, case-joined}
-use Rattle.sced.proofs.checking.checked_case.Goals as goal
+use Rattle.market_inputs.specs.Files.{sized}
+use Rattle.market_inputs.specs.Checking.{IsCheckedCase}
+use Rattle.market_inputs.specs.Stops.{IsToldAs, split_stop}
+use Rattle.market_inputs.proofs.CheckingLemmas.{case-split, case-joined}
+use Rattle.market_inputs.proofs.checking.checked_case.Goals as goal
 
 pub returns-in_err-connected-clause-told : goal.returns-in_err-connected-clause-told
 returns-in_err-connected-clause-told c =

@@ -1,0 +1,2 @@
+pub mod CheckingLemmas
+pub mod PoolingLemmas

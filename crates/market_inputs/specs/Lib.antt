@@ -1,0 +1,4 @@
+pub mod Checking
+pub mod Files
+pub mod Pooling
+pub mod Stops

@@ -1,0 +1,25 @@
+-- Why the work ends before its end.
+use Rattle.std.specs.Prelude.{Result, Ok, Err}
+use Rattle.net_paths.specs.declared.connection.PathStop.{PathStop}
+use Rattle.net_paths.specs.declared.connection.PathStop.TheVariants as path
+use Rattle.factor_tables.specs.declared.table_fault.TableFault.{TableFault}
+use Rattle.factor_tables.specs.declared.table_fault.TableFault.TheVariants as table
+use Rattle.refusal_text.specs.declared.refusals.Input.{Input}
+use Rattle.refusal_text.specs.declared.refusals.Refusal.{Refusal}
+use Rattle.refusal_text.specs.declared.refusals.Refusal.TheVariants as refusal
+use Rattle.market_inputs.specs.declared.stops.Stop.{Stop}
+use Rattle.market_inputs.specs.declared.stops.Stop.TheVariants as stop
+
+-- what holds of what is made or refused; want of memory may come at any time
+abbrev pub IsToldAs : {A : Type 0} → (Result A Refusal → Type 0) → Result A Stop → Type 0
+IsToldAs holds (Ok x) = holds (Ok x)
+IsToldAs holds (Err (stop.Refused r)) = holds (Err r)
+IsToldAs holds (Err stop.Memory) = Unit {0}
+
+abbrev pub table_stop_of : Input → TableFault → Stop
+table_stop_of file table.Memory = stop.Memory
+table_stop_of file f = stop.Refused (refusal.Table file f)
+
+abbrev pub split_stop : PathStop → Stop
+split_stop (path.Split bus) = stop.Refused (refusal.Split bus)
+split_stop path.Memory = stop.Memory
