@@ -3,3 +3,4 @@ pub mod NumberingLemmas
 pub mod FactorLemmas
 pub mod PositionLemmas
 pub mod NameLemmas
+pub mod TestMarkets

@@ -1,6 +1,6 @@
 //! The rows of a small market, worked by hand.
 
-ghost use Rattle.std.specs.Prelude.{◌≡◌, pos};
+ghost use Rattle.std.specs.Prelude.{◌≡◌, ◌∷◌, [], pos, negsuc, IfOk};
 
 use crate::{count, factor, id, position};
 use market_model::{Bus, Factor, Line, List, Market, Memory, Parts, RowId, assemble};
@@ -28,12 +28,65 @@ fn line(row: u32, base: Option<i64>, post: Option<i64>) -> Line
     }
 }
 
-/// Three buses in a triangle, with the outages 3 and 1. Branch 2 has a base limit of 40 MW, and branches 2 and 3 have limits of 45 MW
-/// after outages. All of the flow of branch 1 goes over to branch 2.
-fn triangle(alloc: Global) -> Result<Market, Memory> {
-    let mut buses = List::new(alloc);
-    buses.push(bus(1))?;
-    buses.push(bus(2))?;
+fn factor_for(line: usize, of: usize, value: i64) -> Factor
+    ensures { result ≡ record { line = line; of = of; value = value } }
+{
+    Factor { line, of, value }
+}
+
+fn three_buses(alloc: Global) -> Result<List<Bus>, Memory>
+    ensures { IfOk result (λ list. list ≡ record { number = 1; pd = pos 0; gs = pos 0 } ∷ record { number = 2; pd = pos 0; gs = pos 0 } ∷ record { number = 3; pd = pos 0; gs = pos 0 } ∷ []) }
+{
+    let mut list = List::new(alloc);
+    list.push(bus(1))?;
+    list.push(bus(2))?;
+    list.push(bus(3))?;
+    Ok(list)
+}
+
+/// The shift factors of branches 1 and 2 of the triangle.
+fn shift_factors(alloc: Global) -> Result<List<Factor>, Memory>
+    ensures { IfOk result (λ list. list ≡ record { line = 0; of = 1; value = negsuc 499999 } ∷ record { line = 0; of = 2; value = negsuc 249999 } ∷ record { line = 1; of = 1; value = negsuc 499999 } ∷ record { line = 1; of = 2; value = negsuc 749999 } ∷ []) }
+{
+    let mut list = List::new(alloc);
+    list.push(factor_for(0, 1, -500_000))?;
+    list.push(factor_for(0, 2, -250_000))?;
+    list.push(factor_for(1, 1, -500_000))?;
+    list.push(factor_for(1, 2, -750_000))?;
+    Ok(list)
+}
+
+/// All of the flow of branch 1 goes over to branch 2.
+fn loss_factors(alloc: Global) -> Result<List<Factor>, Memory>
+    ensures { IfOk result (λ list. list ≡ record { line = 1; of = 0; value = pos 1000000 } ∷ []) }
+{
+    let mut list = List::new(alloc);
+    list.push(factor_for(1, 0, 1_000_000))?;
+    Ok(list)
+}
+
+/// Three buses in a triangle. Branch 2 has a limit of 40 MW, and of 45 after the one outage, of branch 1.
+fn one_outage(alloc: Global) -> Result<Market, Memory> {
+    let mut lines = List::new(alloc);
+    lines.push(line(1, None, None))?;
+    lines.push(line(2, Some(40), Some(45)))?;
+    lines.push(line(3, None, None))?;
+    let mut outages = List::new(alloc);
+    outages.push(1)?;
+    let parts = Parts {
+        buses: three_buses(alloc)?,
+        units: List::new(alloc),
+        blocks: List::new(alloc),
+        lines,
+        outages,
+        shift: shift_factors(alloc)?,
+        loss: loss_factors(alloc)?,
+    };
+    assemble(alloc, parts)
+}
+
+/// The same with the outages 3 and 1, and a limit of branch 3 after outages.
+fn two_outages(alloc: Global) -> Result<Market, Memory> {
     let mut lines = List::new(alloc);
     lines.push(line(1, None, None))?;
     lines.push(line(2, Some(40), Some(45)))?;
@@ -41,31 +94,14 @@ fn triangle(alloc: Global) -> Result<Market, Memory> {
     let mut outages = List::new(alloc);
     outages.push(3)?;
     outages.push(1)?;
-    let mut shift = List::new(alloc);
-    shift.push(Factor {
-        line: 0,
-        of: 1,
-        value: -500_000,
-    })?;
-    shift.push(Factor {
-        line: 1,
-        of: 1,
-        value: -250_000,
-    })?;
-    let mut loss = List::new(alloc);
-    loss.push(Factor {
-        line: 1,
-        of: 0,
-        value: 1_000_000,
-    })?;
     let parts = Parts {
-        buses,
+        buses: three_buses(alloc)?,
         units: List::new(alloc),
         blocks: List::new(alloc),
         lines,
         outages,
-        shift,
-        loss,
+        shift: shift_factors(alloc)?,
+        loss: loss_factors(alloc)?,
     };
     assemble(alloc, parts)
 }
@@ -93,7 +129,7 @@ fn factor_of(market: &Market, row: RowId, bus: usize) -> Option<i64> {
 
 #[test]
 fn rows_in_the_order_of_outages(rt: HostRuntime) -> Result<(), Fail> {
-    let market = triangle(rt.alloc())?;
+    let market = two_outages(rt.alloc())?;
     assert!(rt; count(&market) == 4);
     assert!(rt; name_at(&market, 0) == Some(row(2, 0)));
     assert!(rt; name_at(&market, 1) == Some(row(2, 3)));
@@ -105,10 +141,14 @@ fn rows_in_the_order_of_outages(rt: HostRuntime) -> Result<(), Fail> {
 }
 
 #[test]
-fn factors_of_rows(rt: HostRuntime) -> Result<(), Fail> {
-    let market = triangle(rt.alloc())?;
-    assert!(rt; factor_of(&market, row(2, 0), 1) == Some(-250_000_000_000));
-    assert!(rt; factor_of(&market, row(2, 1), 1) == Some(-750_000_000_000));
+fn rows_and_factors_after_one_outage(rt: HostRuntime) -> Result<(), Fail> {
+    let market = one_outage(rt.alloc())?;
+    assert!(rt; count(&market) == 2);
+    assert!(rt; name_at(&market, 0) == Some(row(2, 0)));
+    assert!(rt; name_at(&market, 1) == Some(row(2, 1)));
+    assert!(rt; factor_of(&market, row(2, 0), 2) == Some(-750_000_000_000));
     assert!(rt; factor_of(&market, row(2, 1), 0) == Some(0));
+    assert!(rt; factor_of(&market, row(2, 1), 1) == Some(-1_000_000_000_000));
+    assert!(rt; factor_of(&market, row(2, 1), 2) == Some(-1_000_000_000_000));
     Ok(())
 }
