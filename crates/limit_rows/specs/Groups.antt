@@ -1,9 +1,10 @@
 -- The limit rows by groups: those of the base, and those after each outage.
-use Rattle.std.specs.Prelude.{ℕ, ◌==◌, ◌&&◌, Bool, List, ◌∷◌, map, filter, length, Option, Some, None}
+use Rattle.std.specs.Prelude.{ℕ, Bool, List, ◌∷◌, map, filter, length, Option, Some, None}
 use Rattle.market_model.specs.declared.answered.RowId.{RowId}
 use Rattle.market_model.specs.declared.participants.Parts.{Parts}
 use Rattle.market_model.specs.Dispatch.{places}
 use Rattle.market_model.specs.LimitRows.{Cause, Base, After, Row, has_base, has_post, place_of_line, row_id}
+use Rattle.market_model.specs.Optimality.{same_id}
 
 -- no outage, or that of the line of a place
 abbrev pub cause_of : Option ℕ → Cause
@@ -27,4 +28,4 @@ groups m = None ∷ map (λ row. Some (place_of_line m row)) m.outages
 
 -- a row of this name
 abbrev pub is_named : Parts → RowId → Row → Bool
-is_named m name r = ((row_id m r).branch == name.branch) && ((row_id m r).outage == name.outage)
+is_named m name r = same_id (row_id m r) name
