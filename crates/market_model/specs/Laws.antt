@@ -13,9 +13,6 @@ use Rattle.market_model.specs.LimitRows.{Row, rows, row_flow, row_offset, row_fa
 use Rattle.market_model.specs.Optimality.{Feasible, Supports, Within, up_of, down_of, welfare}
 use Rattle.market_model.specs.Settlement.{rent, surplus}
 use Rattle.market_model.specs.Infeasibility.{ShowsInfeasible}
-use Rattle.market_model.specs.WorkingPairs.{NoPairPasses}
-use Rattle.market_model.specs.declared.answered.Outcome.{Outcome}
-use Rattle.market_model.specs.Outcomes.{IsRightOutcome, IsDecided}
 
 -- a feasible dispatch that duals support has the greatest welfare of all feasible ones
 abbrev pub LawOfTheOptimum : Type 0
@@ -44,7 +41,3 @@ LawOfTheFlows = (m : Parts) (p : ℕ → Fraction) (r : Row) → row_flow m p r 
 -- where duals show that nothing is feasible, no dispatch is (Farkas)
 abbrev pub LawOfInfeasibility : Type 0
 LawOfInfeasibility = (m : Parts) (d : Duals Fraction) (x : Dispatch) → IsMarket m → ShowsInfeasible m d → ¬ (Feasible m x)
-
--- where no working pair passes the bound, what is right of a market decides whether anything is feasible
-abbrev pub LawOfCompleteness : Type 0
-LawOfCompleteness = (m : Parts) (bound : ℕ) (o : Outcome Fraction) → IsMarket m → NoPairPasses m bound → IsRightOutcome bound m o → IsDecided m o

@@ -1,6 +1,5 @@
 //! Laws of the definitions, each the contract of a function that does nothing.
-ghost use Rattle.market_model.specs.Laws.{LawOfTheOptimum, LawOfTheSurplus, LawOfItsSign, LawOfNoLimits, LawOfTheFlows, LawOfInfeasibility, LawOfCompleteness};
-ghost use Rattle.market_model.specs.ReportLaws.{ReportsApart, RightReportsApart};
+ghost use Rattle.market_model.specs.Laws.{LawOfTheOptimum, LawOfTheSurplus, LawOfItsSign, LawOfNoLimits, LawOfTheFlows, LawOfInfeasibility};
 
 /// A feasible dispatch that duals support has the greatest welfare of all feasible ones.
 pub fn supported_is_best()
@@ -31,20 +30,4 @@ pub fn flows_agree()
 /// Where duals show that no dispatch is feasible, none is.
 pub fn farkas_leaves_nothing()
     ensures { LawOfInfeasibility }
-{}
-
-/// Two answers to a market with one report are one.
-pub fn report_has_one_reading()
-    ensures { ReportsApart }
-{}
-
-/// Two right outcomes of a market without branches with one report are one.
-pub fn right_report_has_one_reading()
-    ensures { RightReportsApart }
-{}
-
-/// Where no working pair of a market passes the bound of a type of numbers, a right outcome with
-/// these is cleared where a dispatch is feasible, and infeasible where none is.
-pub fn no_pair_no_range()
-    ensures { LawOfCompleteness }
 {}

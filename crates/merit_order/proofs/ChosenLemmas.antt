@@ -25,14 +25,14 @@ use Rattle.market_model.specs.Dispatch.{Dispatch, zero, places, bus_at, unit_at,
 use Rattle.market_model.specs.Optimality.{Feasible, Supports, welfare_terms, bus_price, unit_price}
 use Rattle.market_model.specs.LimitRows.{rows}
 use Rattle.market_model.specs.Settlement.{surplus_terms}
-use Rattle.market_model.specs.NamedSums.{IsRefusal, IsAddedIn, IsRefusedIn}
-use Rattle.market_model.specs.WorkingPairs.{IsRangeOf}
+use Rattle.market_system.specs.NamedSums.{IsRefusal, IsAddedIn, IsRefusedIn}
+use Rattle.market_system.specs.WorkingPairs.{IsRangeOf}
 use Rattle.market_model.specs.Valued.{passed_at}
 use Rattle.market_data.specs.WholeSums.{int_sum}
 use Rattle.market_model.proofs.MarketSums.{unit_bus-in}
-use Rattle.market_model.proofs.SystemLaws.{from_places, balance_choice, balance_choice_is, block_choice, block_choice_is}
-use Rattle.market_model.proofs.BlockChoices.{block_choice_dispatch, block_choice_energy, balance_choice_dispatch, balance_choice_energy}
-use Rattle.market_model.proofs.PairLaws.{IsChosen, range_of_welfare, range_of_surplus, range_of_output, range_of_demand}
+use Rattle.market_system.proofs.SystemLaws.{from_places, balance_choice, balance_choice_is, block_choice, block_choice_is}
+use Rattle.market_system.proofs.BlockChoices.{block_choice_dispatch, block_choice_energy, balance_choice_dispatch, balance_choice_energy}
+use Rattle.market_system.proofs.PairLaws.{IsChosen, range_of_welfare, range_of_surplus, range_of_output, range_of_demand}
 use Rattle.merit_order.specs.declared.clearing.ClearFault.{ClearFault}
 use Rattle.merit_order.specs.declared.clearing.ClearFault.TheVariants as why
 use Rattle.merit_order.specs.Clearing.{dispatch_of, energy_alone, IsCauseOf}

@@ -21,7 +21,7 @@ use Rattle.market_model.specs.LimitRows.{rows}
 use Rattle.market_model.proofs.RowLaws.{congestion-bare, bus_price-bare, proper_bare, named_rows-bare}
 use Rattle.market_model.specs.Settlement.{paid, pays, surplus}
 use Rattle.market_model.specs.Valued.{dual_at, duals_at, price_at as price_value, unit_pay_at, load_at, rent_at, answer_at}
-use Rattle.market_model.specs.Outcomes.{IsRight, rent_of}
+use Rattle.market_model.specs.RightAnswers.{IsRight, rent_of}
 use Rattle.market_model.proofs.PlaceSums.{places_all, sum_by-same_along, sum_by-places}
 use Rattle.market_model.proofs.MarketSums.{unit_bus-in}
 use Rattle.market_data.specs.WholeSums.{int_sum}

@@ -17,7 +17,7 @@ use Rattle.market_model.specs.declared.answered.Load.{Load}
 use Rattle.market_model.specs.declared.answered.UnitPay.{UnitPay}
 use Rattle.market_model.specs.Dispatch.{places, unit_at, block_at, fixed_term, block_term, accepted, signed, output, output_terms, demand}
 use Rattle.market_model.specs.Optimality.{block_value, welfare_terms}
-use Rattle.market_model.specs.NamedSums.{SameSize, term_at, IsRefusal, IsAddedIn, IsRefusedIn}
+use Rattle.market_system.specs.NamedSums.{SameSize, term_at, IsRefusal, IsAddedIn, IsRefusedIn}
 use Rattle.merit_order.specs.Clearing.{dispatch_of}
 use Rattle.merit_order.specs.Filling.{AllPlaces}
 use Rattle.merit_order.specs.Paying.{PaysUnit, LoadPays, paid_terms, left_terms}

@@ -20,10 +20,10 @@ use Rattle.market_model.proofs.RowLaws.{bus_price-bare}
 use Rattle.market_model.proofs.FarkasLaw.{farkas_terms-bare}
 use Rattle.market_model.specs.Infeasibility.{part_above, block_weight, ShowsInfeasible, farkas_terms}
 use Rattle.market_model.specs.Stairs.{same_side}
-use Rattle.market_model.specs.NamedSums.{SameSize, IsRefusal, IsAddedIn}
-use Rattle.market_model.specs.WorkingPairs.{IsRangeOf}
+use Rattle.market_system.specs.NamedSums.{SameSize, IsRefusal, IsAddedIn}
+use Rattle.market_system.specs.WorkingPairs.{IsRangeOf}
 use Rattle.market_model.proofs.MarketSums.{raised_by-empty}
-use Rattle.market_model.proofs.PairLaws.{range_of_injection, range_of_balance, range_of_scaled, range_of_farkas}
+use Rattle.market_system.proofs.PairLaws.{range_of_injection, range_of_balance, range_of_scaled, range_of_farkas}
 use Rattle.merit_order.specs.Clearing.{plain_energy, energy_alone, IsEnergyOfOne, IsDemandRefusal}
 use Rattle.merit_order.proofs.InfeasibleLemmas.{fixed_to, balance_to, bound_to, weighs}
 use Rattle.merit_order.proofs.RefusalLemmas.{added_at, terms_at, tested_at, in_front}

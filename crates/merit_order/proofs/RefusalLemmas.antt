@@ -12,7 +12,7 @@ use Rattle.exact_fraction.specs.declared.Op.TheVariants.{Plus, Minus, Times}
 use Rattle.exact_fraction.specs.declared.Passed.{Passed}
 use Rattle.exact_fraction.specs.Passes.{Passes, IsPassed}
 use Rattle.market_model.specs.Dispatch.{places}
-use Rattle.market_model.specs.NamedSums.{SameSize, term_at, IsNextTerm, IsSumStep, IsRefusedIn, Adds, IsAddedIn, IsRefusal}
+use Rattle.market_system.specs.NamedSums.{SameSize, term_at, IsNextTerm, IsSumStep, IsRefusedIn, Adds, IsAddedIn, IsRefusal}
 use Rattle.market_model.specs.Valued.{passed_at}
 
 -- what a refused operation of numbers is of their values

@@ -13,11 +13,11 @@ ghost use Rattle.fraction_theory.specs.Fraction.{whole, neg_ℚ, ◌*ℚ◌};
 ghost use Rattle.market_model.specs.Dispatch.{signed};
 ghost use Rattle.market_model.specs.Optimality.{welfare as welfare_of, welfare_terms};
 ghost use Rattle.market_model.specs.Valued.{answer_at, passed_at};
-ghost use Rattle.market_model.specs.Outcomes.{IsRight};
+ghost use Rattle.market_model.specs.RightAnswers.{IsRight};
 ghost use Rattle.merit_order.specs.declared.clearing.ClearFault.TheVariants as why;
 ghost use Rattle.merit_order.specs.Clearing.{dispatch_of, IsCauseOf};
 ghost use Rattle.exact_fraction.specs.declared.Op.TheVariants as Op;
-ghost use Rattle.market_model.specs.NamedSums.{IsRefusal, IsRefusedIn};
+ghost use Rattle.market_system.specs.NamedSums.{IsRefusal, IsRefusedIn};
 ghost use Rattle.market_model.specs.Fitting.{FitsMarket};
 
 use crate::amounts::datum;

@@ -1,1 +1,4 @@
+pub mod Amounts
 pub mod ReportLemmas
+pub mod ReportReading
+pub mod RightReports

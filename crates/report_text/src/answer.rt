@@ -1,9 +1,9 @@
 //! The report of a cleared market.
 
 ghost use Rattle.std.specs.Prelude.{◌≡◌, ◌<◌, ◌++◌, length, IfOk};
-ghost use Rattle.market_model.specs.Reports.{side_text, alike, block_number, head_text};
-ghost use Rattle.market_model.specs.Reports.{bus_text, block_text, unit_text, load_text};
-ghost use Rattle.market_model.specs.Reports.{lines_of_buses, lines_of_blocks, lines_of_units, lines_of_loads, cleared_text};
+ghost use Rattle.report_text.specs.Reports.{side_text, alike, block_number, head_text};
+ghost use Rattle.report_text.specs.Reports.{bus_text, block_text, unit_text, load_text};
+ghost use Rattle.report_text.specs.Reports.{lines_of_buses, lines_of_blocks, lines_of_units, lines_of_loads, cleared_text};
 ghost use Rattle.market_model.specs.Valued.{price_at, unit_pay_at, load_at, answer_at};
 ghost use Rattle.market_model.specs.Fitting.{FitsMarket};
 

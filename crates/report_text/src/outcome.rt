@@ -3,7 +3,7 @@
 ghost use Rattle.std.specs.Prelude.{◌≡◌, ◌++◌, map, IfOk};
 ghost use Rattle.std.specs.List.{flat_map};
 ghost use Rattle.market_model.specs.Fitting.{FitsOutcome};
-ghost use Rattle.market_model.specs.Reports.{outage_text, limit_text, bound_text, plain_energy_text, infeasible_text, op_text, range_text, report_text};
+ghost use Rattle.report_text.specs.Reports.{outage_text, limit_text, bound_text, plain_energy_text, infeasible_text, op_text, range_text, report_text};
 ghost use Rattle.market_model.specs.Valued.{dual_at, farkas_at, passed_at, outcome_at};
 
 use crate::answer::cleared;

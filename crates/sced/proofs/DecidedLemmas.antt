@@ -8,9 +8,9 @@ use Rattle.market_model.specs.declared.answered.Outcome.{Outcome}
 use Rattle.market_model.specs.declared.answered.Outcome.TheVariants as outcome
 use Rattle.market_model.specs.Dispatch.{Dispatch}
 use Rattle.market_model.specs.Optimality.{Feasible}
-use Rattle.market_model.specs.Outcomes.{IsCleared, IsInfeasible, IsDecided}
-use Rattle.market_model.specs.WorkingPairs.{NoPairPasses}
-use Rattle.market_model.proofs.Completeness.{law_of_completeness}
+use Rattle.market_system.specs.Outcomes.{IsCleared, IsInfeasible, IsDecided}
+use Rattle.market_system.specs.WorkingPairs.{NoPairPasses}
+use Rattle.market_system.proofs.Completeness.{law_of_completeness}
 use Rattle.sced.specs.declared.status.Status.{Status}
 use Rattle.sced.specs.declared.status.Status.TheVariants as status
 use Rattle.sced.specs.Words.{refuses}

@@ -6,8 +6,8 @@ use Rattle.market_model.specs.declared.participants.Parts.{Parts}
 use Rattle.market_model.specs.declared.answered.Outcome.{Outcome}
 use Rattle.market_model.specs.declared.answered.Outcome.TheVariants as outcome
 use Rattle.market_model.specs.Market.{IsMarket}
-use Rattle.market_model.specs.Outcomes.{IsRightOutcome}
-use Rattle.market_model.specs.Reports.{report_text}
+use Rattle.market_system.specs.Outcomes.{IsRightOutcome}
+use Rattle.report_text.specs.Reports.{report_text}
 use Rattle.merit_order.specs.Clearing.{IsPlainPrice}
 use Rattle.refusal_text.specs.Refusals.{refusal_line}
 use Rattle.refusal_text.specs.declared.refusals.Refusal.{Refusal}

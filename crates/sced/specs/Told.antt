@@ -5,7 +5,7 @@ use Rattle.outside_store.specs.Files.{Files, Reads}
 use Rattle.market_model.specs.declared.participants.Parts.{Parts}
 use Rattle.market_model.specs.Dispatch.{Dispatch}
 use Rattle.market_model.specs.Optimality.{Feasible}
-use Rattle.market_model.specs.WorkingPairs.{NoPairPasses}
+use Rattle.market_system.specs.WorkingPairs.{NoPairPasses}
 use Rattle.sced.specs.Checking.{ChecksTo}
 use Rattle.market_inputs.specs.Files.{most_file}
 use Rattle.market_inputs.specs.Pooling.{pool_market}

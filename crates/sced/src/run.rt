@@ -5,7 +5,7 @@ ghost use Rattle.outside_store.specs.Causes.{Rose, Still};
 ghost use Rattle.outside_store.specs.Files.{Reads, SameFiles};
 ghost use Rattle.outside_store.specs.Sinks.{Took, CountFault};
 ghost use Rattle.market_model.specs.Fitting.{FitsOutcome};
-ghost use Rattle.market_model.specs.Outcomes.{IsRightOutcome};
+ghost use Rattle.market_system.specs.Outcomes.{IsRightOutcome};
 ghost use Rattle.market_model.specs.Valued.{outcome_at};
 ghost use Rattle.market_inputs.specs.Files.{most_file};
 ghost use Rattle.market_inputs.specs.Checking.{AreFit};

@@ -4,7 +4,7 @@ use Rattle.market_data.specs.declared.participants.Unit as unit
 use Rattle.market_model.specs.declared.participants.Block.{Block}
 use Rattle.market_model.specs.declared.participants.Side.TheVariants.{Sell}
 use Rattle.market_model.specs.Dispatch.{zero, unit_at, block_at}
-use Rattle.market_model.specs.Reports.{block_text, block_line_at, block_number}
+use Rattle.report_text.specs.Reports.{block_text, block_line_at, block_number}
 use Rattle.market_model.specs.Valued.{answer_at}
 use Rattle.report_text.proofs.ReportLemmas.{lines_more, entry_is}
 use Rattle.report_text.proofs.answer.block_lines.Goals as goal

@@ -1,5 +1,5 @@
 use Rattle.std.proofs.Common.{rules, append_assoc}
-use Rattle.market_model.specs.Reports.{load_text}
+use Rattle.report_text.specs.Reports.{load_text}
 use Rattle.report_text.proofs.answer.load_line.Goals as goal
 
 pub returns : goal.returns

@@ -2,7 +2,7 @@ use Rattle.std.proofs.Common.{List, ◌++◌, ◌∙◌, ap, length, pos, arith}
 use Rattle.std.specs.Prelude.{slice_index_or}
 use Rattle.market_data.specs.declared.participants.Bus.{Bus}
 use Rattle.market_model.specs.Dispatch.{zero, bus_at}
-use Rattle.market_model.specs.Reports.{load_text, load_line_at}
+use Rattle.report_text.specs.Reports.{load_text, load_line_at}
 use Rattle.market_model.specs.Valued.{load_at, answer_at}
 use Rattle.report_text.proofs.ReportLemmas.{lines_more, entry_is}
 use Rattle.report_text.proofs.answer.load_lines.Goals as goal

@@ -1,7 +1,7 @@
 use Rattle.std.proofs.Common.{◌≡◌, ◌++◌}
 use Rattle.std.specs.List.{flat_map}
 use Rattle.market_model.specs.Dispatch.{places}
-use Rattle.market_model.specs.Reports.{load_line_at}
+use Rattle.report_text.specs.Reports.{load_line_at}
 use Rattle.market_model.specs.Valued.{answer_at}
 use Rattle.report_text.proofs.answer.load_lines.Given as goal
 

@@ -4,7 +4,7 @@ use Rattle.std.proofs.lemmas.List.{length-take-le, get_or-take}
 use Rattle.market_model.specs.declared.participants.Block.{Block}
 use Rattle.market_model.specs.declared.participants.Side.TheVariants.{Sell}
 use Rattle.market_model.specs.Dispatch.{places, block_at}
-use Rattle.market_model.specs.Reports.{alike, block_number}
+use Rattle.report_text.specs.Reports.{alike, block_number}
 use Rattle.report_text.proofs.ReportLemmas.{number_more, number_same, count-le}
 use Rattle.report_text.proofs.answer.number_of.Goals as goal
 use Rattle.report_text.proofs.answer.number_of.Goals.{then-is_alike, else-is_alike}

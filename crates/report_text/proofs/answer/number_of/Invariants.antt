@@ -1,7 +1,7 @@
 use Rattle.std.proofs.Common.{◌≡◌, ◌+◌}
 use Rattle.std.specs.Prelude.{count_by}
 use Rattle.market_model.specs.Dispatch.{places, block_at}
-use Rattle.market_model.specs.Reports.{alike}
+use Rattle.report_text.specs.Reports.{alike}
 use Rattle.report_text.proofs.answer.number_of.Given as goal
 
 abbrev pub invariant-loop-other : goal.invariant-loop-other

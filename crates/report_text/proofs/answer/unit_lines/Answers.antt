@@ -2,7 +2,7 @@ use Rattle.std.proofs.Common.{List, ◌++◌, ◌∙◌, ap, length, pos, arith}
 use Rattle.std.specs.Prelude.{slice_index_or}
 use Rattle.market_data.specs.declared.participants.Unit as unit
 use Rattle.market_model.specs.Dispatch.{zero, unit_at}
-use Rattle.market_model.specs.Reports.{unit_text, unit_line_at}
+use Rattle.report_text.specs.Reports.{unit_text, unit_line_at}
 use Rattle.market_model.specs.Valued.{unit_pay_at, answer_at}
 use Rattle.report_text.proofs.ReportLemmas.{lines_more, entry_is}
 use Rattle.report_text.proofs.answer.unit_lines.Goals as goal

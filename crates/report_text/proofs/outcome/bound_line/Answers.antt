@@ -1,5 +1,5 @@
 use Rattle.std.proofs.Common.{rules, append_assoc}
-use Rattle.market_model.specs.Reports.{bound_text}
+use Rattle.report_text.specs.Reports.{bound_text}
 use Rattle.report_text.proofs.outcome.bound_line.Goals as goal
 
 pub returns : goal.returns

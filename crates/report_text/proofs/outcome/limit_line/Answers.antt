@@ -1,5 +1,5 @@
 use Rattle.std.proofs.Common.{rules, append_assoc}
-use Rattle.market_model.specs.Reports.{limit_text}
+use Rattle.report_text.specs.Reports.{limit_text}
 use Rattle.report_text.proofs.outcome.limit_line.Goals as goal
 
 pub returns : goal.returns

@@ -1,6 +1,6 @@
 use Rattle.std.proofs.Common.{◌∙◌, ◌≡◌, ◌++◌, ap, arith, length, subst, get_or}
 use Rattle.market_model.specs.declared.answered.Dual.{Dual}
-use Rattle.market_model.specs.Reports.{limit_text}
+use Rattle.report_text.specs.Reports.{limit_text}
 use Rattle.market_model.specs.Valued.{dual_at}
 use Rattle.report_text.proofs.ReportLemmas.{items_none, items_more, items_all, flat_map-map}
 use Rattle.report_text.proofs.outcome.limit_lines.Goals as goal

@@ -1,6 +1,6 @@
 use Rattle.std.proofs.Common.{◌≡◌, ◌++◌, take}
 use Rattle.std.specs.List.{flat_map}
-use Rattle.market_model.specs.Reports.{limit_text}
+use Rattle.report_text.specs.Reports.{limit_text}
 use Rattle.market_model.specs.Valued.{dual_at}
 use Rattle.report_text.proofs.outcome.limit_lines.Given as goal
 

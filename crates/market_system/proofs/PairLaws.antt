@@ -20,11 +20,11 @@ use Rattle.market_model.specs.Optimality.{Feasible, Supports, welfare_terms}
 use Rattle.market_model.specs.Settlement.{surplus_terms}
 use Rattle.market_model.specs.Infeasibility.{ShowsInfeasible, farkas_terms}
 use Rattle.market_model.specs.LimitRows.{Row, rows}
-use Rattle.market_model.specs.MarketSystem.{balance_name, system_of, choice_dispatch, choice_duals}
-use Rattle.market_model.specs.MarketNumbers.{IsBest, MarketNumber, of_system, is_load, is_shunt, is_injection, is_balance, is_output, is_farkas_bound, of_opposite}
-use Rattle.market_model.specs.NamedSums.{SameSize, term_at, IsNextTerm, IsRefusedIn, Adds, IsAddedIn, IsRefusal}
-use Rattle.market_model.specs.WorkingPairs.{IsMoneySum, of_welfare, of_surplus, IsMoneyCase, IsRangeOf}
-use Rattle.market_model.proofs.SystemLaws.{balance_choice, balance_choice_is, balance_is_basic, balance_is}
+use Rattle.market_system.specs.MarketSystem.{balance_name, system_of, choice_dispatch, choice_duals}
+use Rattle.market_system.specs.MarketNumbers.{IsBest, MarketNumber, of_system, is_load, is_shunt, is_injection, is_balance, is_output, is_farkas_bound, of_opposite}
+use Rattle.market_system.specs.NamedSums.{SameSize, term_at, IsNextTerm, IsRefusedIn, Adds, IsAddedIn, IsRefusal}
+use Rattle.market_system.specs.WorkingPairs.{IsMoneySum, of_welfare, of_surplus, IsMoneyCase, IsRangeOf}
+use Rattle.market_system.proofs.SystemLaws.{balance_choice, balance_choice_is, balance_is_basic, balance_is}
 
 -- Steps in adding up terms whose first ones always add up to a number of the kind: a term is the difference of two such
 -- sums.

@@ -1,7 +1,7 @@
 -- A right outcome decides whether anything is feasible, where no numbers became too large.
 use Rattle.market_model.specs.declared.answered.Outcome.TheVariants as outcome
-use Rattle.market_model.specs.Laws.{LawOfCompleteness}
-use Rattle.market_model.specs.Outcomes.{dispatch_in}
+use Rattle.market_system.specs.Completeness.{LawOfCompleteness}
+use Rattle.market_model.specs.RightAnswers.{dispatch_in}
 use Rattle.market_model.proofs.FarkasLaw.{law_of_infeasibility}
 
 pub law_of_completeness : LawOfCompleteness

@@ -1,5 +1,5 @@
 -- The report of what a clear came to, line by line.
-use Rattle.std.specs.Prelude.{ℕ, ◌+◌, Bool, ◌&&◌, ◌==◌, List, ◌++◌, length, slice_index_or, count_by, codes, decimal, if◌then◌else◌}
+use Rattle.std.specs.Prelude.{ℕ, ◌+◌, Bool, ◌&&◌, ◌==◌, List, ◌++◌, length, count_by, codes, decimal, if◌then◌else◌}
 use Rattle.std.specs.List.{flat_map}
 use Rattle.fraction_theory.specs.Fraction.{Fraction}
 use Rattle.exact_fraction.specs.Written.{written, parts_text}
@@ -19,20 +19,8 @@ use Rattle.market_model.specs.declared.answered.Farkas.{Farkas}
 use Rattle.market_model.specs.declared.answered.Outcome.{Outcome}
 use Rattle.market_model.specs.declared.answered.Outcome.TheVariants as outcome
 use Rattle.market_model.specs.Stairs.{same_side}
-use Rattle.market_model.specs.Dispatch.{zero, places, bus_at, unit_at, block_at}
-
--- an answer's entries by place; one past the end stands for zeros
-abbrev pub mw_of : Answer Fraction → ℕ → Fraction
-mw_of a j = slice_index_or a.dispatch j zero
-
-abbrev pub price_of : Answer Fraction → ℕ → Price Fraction
-price_of a i = slice_index_or a.prices i (record { energy = zero; congestion = zero; total = zero })
-
-abbrev pub pay_of : Answer Fraction → ℕ → UnitPay Fraction
-pay_of a u = slice_index_or a.money.units u (record { mw = zero; paid = zero })
-
-abbrev pub load_of : Answer Fraction → ℕ → Load Fraction
-load_of a i = slice_index_or a.money.loads i (record { mw = zero; pays = zero })
+use Rattle.market_model.specs.Dispatch.{places, bus_at, unit_at, block_at}
+use Rattle.market_model.specs.RightAnswers.{mw_of, price_of, pay_of, load_of}
 
 abbrev pub side_text : Side → List ℕ
 side_text Sell = codes " sell "

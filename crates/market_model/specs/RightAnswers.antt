@@ -1,19 +1,30 @@
--- What is right to print of a market.
-use Rattle.std.specs.Prelude.{◌≡◌, ℕ, ◌<◌, length, map}
+-- What an answer says, and when it is right for its market.
+use Rattle.std.specs.Prelude.{◌≡◌, ℕ, ◌<◌, length, map, slice_index_or}
 use Rattle.fraction_theory.specs.Fraction.{Fraction}
 use Rattle.market_model.specs.declared.participants.Parts.{Parts}
 use Rattle.market_model.specs.declared.answered.Answer.{Answer}
 use Rattle.market_model.specs.declared.answered.Duals.{Duals}
+use Rattle.market_model.specs.declared.answered.Load.{Load}
+use Rattle.market_model.specs.declared.answered.Price.{Price}
 use Rattle.market_model.specs.declared.answered.Rent.{Rent}
-use Rattle.market_model.specs.declared.answered.Outcome.{Outcome}
-use Rattle.market_model.specs.declared.answered.Outcome.TheVariants as outcome
-use Rattle.market_model.specs.Dispatch.{Dispatch, output, demand}
-use Rattle.market_model.specs.Optimality.{Feasible, Supports, ProperDuals, named_rows, welfare, congestion, bus_price}
+use Rattle.market_model.specs.declared.answered.UnitPay.{UnitPay}
+use Rattle.market_model.specs.Dispatch.{Dispatch, zero, output, demand}
 use Rattle.market_model.specs.LimitRows.{Row, row_id, flow}
-use Rattle.market_model.specs.Infeasibility.{IsFarkas}
+use Rattle.market_model.specs.Optimality.{Feasible, Supports, ProperDuals, named_rows, welfare, congestion, bus_price}
 use Rattle.market_model.specs.Settlement.{paid, pays, rent, surplus}
-use Rattle.market_model.specs.Reports.{price_of, pay_of, load_of}
-use Rattle.market_model.specs.WorkingPairs.{IsRangeOf}
+
+-- an answer's entries by place; one past the end stands for zeros
+abbrev pub mw_of : Answer Fraction → ℕ → Fraction
+mw_of a j = slice_index_or a.dispatch j zero
+
+abbrev pub price_of : Answer Fraction → ℕ → Price Fraction
+price_of a i = slice_index_or a.prices i (record { energy = zero; congestion = zero; total = zero })
+
+abbrev pub pay_of : Answer Fraction → ℕ → UnitPay Fraction
+pay_of a u = slice_index_or a.money.units u (record { mw = zero; paid = zero })
+
+abbrev pub load_of : Answer Fraction → ℕ → Load Fraction
+load_of a i = slice_index_or a.money.loads i (record { mw = zero; pays = zero })
 
 -- the accepted MW of an answer
 abbrev pub dispatch_in : Answer Fraction → Dispatch
@@ -38,25 +49,3 @@ pub record IsRight (m : Parts) (a : Answer Fraction) : Type 0 where
   pub loads : (i : ℕ) → i < length m.buses → load_of a i ≡ record { mw = demand m i; pays = pays m a.duals i }
   pub rents : a.money.rents ≡ map (rent_of m (dispatch_in a) a.duals) (named_rows m a.duals)
   pub surplus : a.money.surplus ≡ surplus m (dispatch_in a) a.duals
-
--- a cleared market has a right answer, and an infeasible one duals that show it, with their bound; where numbers of a type
--- with this bound became too large, the two are a working pair of the market
-abbrev pub IsRightOutcome : ℕ → Parts → Outcome Fraction → Type 0
-IsRightOutcome bound m (outcome.Cleared a) = IsRight m a
-IsRightOutcome bound m (outcome.Infeasible f) = IsFarkas m f
-IsRightOutcome bound m (outcome.Range p) = IsRangeOf m bound p
-
-abbrev pub IsCleared : Outcome Fraction → Type 0
-IsCleared (outcome.Cleared a) = Unit {0}
-IsCleared (outcome.Infeasible f) = ⊥
-IsCleared (outcome.Range p) = ⊥
-
-abbrev pub IsInfeasible : Outcome Fraction → Type 0
-IsInfeasible (outcome.Cleared a) = ⊥
-IsInfeasible (outcome.Infeasible f) = Unit {0}
-IsInfeasible (outcome.Range p) = ⊥
-
--- cleared where a dispatch is feasible, and infeasible where none is
-pub record IsDecided (m : Parts) (o : Outcome Fraction) : Type 0 where
-  pub cleared : (x : Dispatch) → Feasible m x → IsCleared o
-  pub infeasible : ((x : Dispatch) → ¬ (Feasible m x)) → IsInfeasible o

@@ -17,12 +17,12 @@ use Rattle.market_model.specs.declared.answered.Price.{Price}
 use Rattle.market_model.specs.Dispatch.{zero}
 use Rattle.market_model.specs.Infeasibility.{IsFarkas}
 use Rattle.market_model.specs.LimitRows.{Row, rows}
-use Rattle.market_model.specs.Outcomes.{IsRight, dispatch_in, rent_of}
+use Rattle.market_model.specs.RightAnswers.{IsRight, dispatch_in, rent_of}
 use Rattle.market_model.proofs.RowLaws.{no_rows, no_limits, named_rows-bare}
-use Rattle.market_model.specs.Reports.{head_text, cleared_text, limit_text, bound_text, plain_energy_text, infeasible_text, op_text, range_text}
-use Rattle.market_model.specs.ReportLaws.{FitsReport, RightReportsApart}
-use Rattle.market_model.proofs.Amounts.{head_of, two_apart, parts_line_apart}
-use Rattle.market_model.proofs.ReportReading.{same_duals, reports_apart}
+use Rattle.report_text.specs.Reports.{head_text, cleared_text, limit_text, bound_text, plain_energy_text, infeasible_text, op_text, range_text}
+use Rattle.report_text.specs.ReportLaws.{FitsReport, RightReportsApart}
+use Rattle.report_text.proofs.Amounts.{head_of, two_apart, parts_line_apart}
+use Rattle.report_text.proofs.ReportReading.{same_duals, reports_apart}
 
 fits_by_right : (m : Parts) (a : Answer Fraction) → rows m ≡ [] → IsRight m a → FitsReport m a
 fits_by_right m a bare right = record {
@@ -99,12 +99,12 @@ passed_apart p q e =
 -- ---- all together: the first letter tells which of the three it is
 pub right_reports_apart : RightReportsApart
 unfolding cleared_text head_text infeasible_text range_text
-right_reports_apart bound m (outcome.Cleared a) (outcome.Cleared b) none p q e = ap outcome.Cleared (reports_apart m a b (fits_by_right m a (no_rows m none) p) (fits_by_right m b (no_rows m none) q) e)
-right_reports_apart bound m (outcome.Cleared a) (outcome.Infeasible g) none p q e = absurd (Prim.omega (arith, head_of 99 105 _ _ e))
-right_reports_apart bound m (outcome.Cleared a) (outcome.Range s) none p q e = absurd (Prim.omega (arith, head_of 99 114 _ _ e))
-right_reports_apart bound m (outcome.Infeasible f) (outcome.Cleared b) none p q e = absurd (Prim.omega (arith, head_of 105 99 _ _ e))
-right_reports_apart bound m (outcome.Infeasible f) (outcome.Infeasible g) none p q e = ap outcome.Infeasible (farkas_apart m f g (no_rows m none) p q e)
-right_reports_apart bound m (outcome.Infeasible f) (outcome.Range s) none p q e = absurd (Prim.omega (arith, head_of 105 114 _ _ e))
-right_reports_apart bound m (outcome.Range r) (outcome.Cleared b) none p q e = absurd (Prim.omega (arith, head_of 114 99 _ _ e))
-right_reports_apart bound m (outcome.Range r) (outcome.Infeasible g) none p q e = absurd (Prim.omega (arith, head_of 114 105 _ _ e))
-right_reports_apart bound m (outcome.Range r) (outcome.Range s) none p q e = ap outcome.Range (passed_apart r s e)
+right_reports_apart m (outcome.Cleared a) (outcome.Cleared b) none p q e = ap outcome.Cleared (reports_apart m a b (fits_by_right m a (no_rows m none) p) (fits_by_right m b (no_rows m none) q) e)
+right_reports_apart m (outcome.Cleared a) (outcome.Infeasible g) none p q e = absurd (Prim.omega (arith, head_of 99 105 _ _ e))
+right_reports_apart m (outcome.Cleared a) (outcome.Range s) none p q e = absurd (Prim.omega (arith, head_of 99 114 _ _ e))
+right_reports_apart m (outcome.Infeasible f) (outcome.Cleared b) none p q e = absurd (Prim.omega (arith, head_of 105 99 _ _ e))
+right_reports_apart m (outcome.Infeasible f) (outcome.Infeasible g) none p q e = ap outcome.Infeasible (farkas_apart m f g (no_rows m none) p q e)
+right_reports_apart m (outcome.Infeasible f) (outcome.Range s) none p q e = absurd (Prim.omega (arith, head_of 105 114 _ _ e))
+right_reports_apart m (outcome.Range r) (outcome.Cleared b) none p q e = absurd (Prim.omega (arith, head_of 114 99 _ _ e))
+right_reports_apart m (outcome.Range r) (outcome.Infeasible g) none p q e = absurd (Prim.omega (arith, head_of 114 105 _ _ e))
+right_reports_apart m (outcome.Range r) (outcome.Range s) none p q e = ap outcome.Range (passed_apart r s e)

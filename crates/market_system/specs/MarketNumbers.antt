@@ -12,9 +12,9 @@ use Rattle.market_model.specs.Dispatch.{Dispatch, zero, bus_at, unit_at, empty, 
 use Rattle.market_model.specs.LimitRows.{Row, rows as all_rows, limit, shift_factor, loss_factor, line_offset, line_terms, offset_terms, factor_terms, row_flow}
 use Rattle.market_model.specs.Optimality.{Feasible, Supports, up_of, down_of, pull, congestion_terms, bus_price}
 use Rattle.market_model.specs.Infeasibility.{ShowsInfeasible, farkas_terms}
-use Rattle.market_model.specs.MarketSystem.{balance_name, row_name, system_of, choice_dispatch, choice_duals}
-use Rattle.market_model.specs.Growth.{BestFor}
-use Rattle.market_model.specs.NamedSums.{SameSize}
+use Rattle.market_system.specs.MarketSystem.{balance_name, row_name, system_of, choice_dispatch, choice_duals}
+use Rattle.market_system.specs.Growth.{BestFor}
+use Rattle.market_system.specs.NamedSums.{SameSize}
 
 -- the choice's dispatch is feasible, and its duals support it
 pub record IsBest (m : Parts) (rows : List Row) (h : Choice) : Type 0 where

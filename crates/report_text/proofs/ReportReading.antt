@@ -15,9 +15,10 @@ use Rattle.market_model.specs.declared.answered.Rent.{Rent}
 use Rattle.market_model.specs.declared.answered.Money.{Money}
 use Rattle.market_model.specs.declared.answered.Answer.{Answer}
 use Rattle.market_model.specs.Dispatch.{zero as none, places, bus_at, unit_at, block_at}
-use Rattle.market_model.specs.Reports.{mw_of, price_of, pay_of, load_of, side_text, block_number, head_text, bus_text, block_text, unit_text, load_text, surplus_text, bus_line_at, block_line_at, unit_line_at, load_line_at, lines_of_buses, lines_of_blocks, lines_of_units, lines_of_loads, cleared_text}
-use Rattle.market_model.specs.ReportLaws.{FitsReport, ReportsApart}
-use Rattle.market_model.proofs.Amounts.{one_apart, two_apart}
+use Rattle.market_model.specs.RightAnswers.{mw_of, price_of, pay_of, load_of}
+use Rattle.report_text.specs.Reports.{side_text, block_number, head_text, bus_text, block_text, unit_text, load_text, surplus_text, bus_line_at, block_line_at, unit_line_at, load_line_at, lines_of_buses, lines_of_blocks, lines_of_units, lines_of_loads, cleared_text}
+use Rattle.report_text.specs.ReportLaws.{FitsReport, ReportsApart}
+use Rattle.report_text.proofs.Amounts.{one_apart, two_apart}
 
 head_apart : (w x e f : Fraction) (us vs : List ℕ) → head_text w e ++ us ≡ head_text x f ++ vs → (w ≡ x) × (e ≡ f) × (us ≡ vs)
 unfolding head_text

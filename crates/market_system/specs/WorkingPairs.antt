@@ -14,10 +14,10 @@ use Rattle.market_model.specs.declared.participants.Parts.{Parts}
 use Rattle.market_model.specs.LimitRows.{Row}
 use Rattle.market_model.specs.Optimality.{welfare_terms}
 use Rattle.market_model.specs.Settlement.{surplus_terms, rent_terms}
-use Rattle.market_model.specs.MarketSystem.{system_of, choice_dispatch, choice_duals}
-use Rattle.market_model.specs.MarketNumbers.{IsBest, MarketNumber}
-use Rattle.market_model.specs.Growth.{Reached}
-use Rattle.market_model.specs.NamedSums.{IsSumStep}
+use Rattle.market_system.specs.MarketSystem.{system_of, choice_dispatch, choice_duals}
+use Rattle.market_system.specs.MarketNumbers.{IsBest, MarketNumber}
+use Rattle.market_system.specs.Growth.{Reached}
+use Rattle.market_system.specs.NamedSums.{IsSumStep}
 
 -- the sums of money at a choice
 pub data IsMoneySum (m : Parts) (rows : List Row) (h : Choice) : List Term → Type 0 where

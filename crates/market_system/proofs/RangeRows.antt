@@ -23,11 +23,11 @@ use Rattle.market_model.specs.Market.{IsMarket, IsBlock, HasRoom}
 use Rattle.market_model.specs.Dispatch.{Dispatch, injection, balance, accepted, quantity}
 use Rattle.market_model.specs.Optimality.{Feasible, Supports, BlockSupported, welfare_terms}
 use Rattle.market_model.proofs.RowLaws.{no_rows, supported_bare, supports_bare, feasible_bare}
-use Rattle.market_model.specs.NamedSums.{term_at}
-use Rattle.market_model.specs.WorkingPairs.{IsRangeOf}
-use Rattle.market_model.proofs.SystemLaws.{block_choice, block_choice_is}
-use Rattle.market_model.proofs.BlockChoices.{block_choice_dispatch, block_choice_energy}
-use Rattle.market_model.proofs.PairLaws.{IsChosen, range_of_welfare}
+use Rattle.market_system.specs.NamedSums.{term_at}
+use Rattle.market_system.specs.WorkingPairs.{IsRangeOf}
+use Rattle.market_system.proofs.SystemLaws.{block_choice, block_choice_is}
+use Rattle.market_system.proofs.BlockChoices.{block_choice_dispatch, block_choice_energy}
+use Rattle.market_system.proofs.PairLaws.{IsChosen, range_of_welfare}
 
 -- 9223372036.854775807 MW, and the same number as a price
 abbrev most : ℕ

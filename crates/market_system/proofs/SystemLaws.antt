@@ -23,7 +23,7 @@ use Rattle.market_model.specs.declared.participants.Side.{Side}
 use Rattle.market_model.specs.declared.participants.Side.TheVariants.{Sell, Buy}
 use Rattle.market_model.specs.declared.participants.Parts.{Parts}
 use Rattle.market_model.specs.Dispatch.{places, block_at, signed}
-use Rattle.market_model.specs.MarketSystem.{balance_name, block_sign, system_of}
+use Rattle.market_system.specs.MarketSystem.{balance_name, block_sign, system_of}
 use Rattle.market_model.proofs.MorePlaces.{places_more}
 
 -- the places below a number are its members

@@ -20,9 +20,9 @@ use Rattle.market_model.specs.declared.participants.Parts.{Parts}
 use Rattle.market_model.specs.Market.{IsMarket}
 use Rattle.market_model.specs.Dispatch.{Dispatch, zero, places, block_at, signed, accepted, quantity, raised_by, balance, empty}
 use Rattle.market_model.specs.Optimality.{price, block_value}
-use Rattle.market_model.specs.MarketSystem.{balance_name, block_sign, needed, by_name, system_of, choice_dispatch}
+use Rattle.market_system.specs.MarketSystem.{balance_name, block_sign, needed, by_name, system_of, choice_dispatch}
 use Rattle.market_model.proofs.MarketSums.{balance-by_empty}
-use Rattle.market_model.proofs.SystemLaws.{from_places, signed-times, variable_in, variable_below, block_or_balance, is_system, raised, meets_rows, from_rows, balance_is, not_balance, balance_choice, balance_others, balance_choice_is, block_choice, block_choice_is, block_choice_high, block_is_basic, the_block_is_basic, balance_not_basic}
+use Rattle.market_system.proofs.SystemLaws.{from_places, signed-times, variable_in, variable_below, block_or_balance, is_system, raised, meets_rows, from_rows, balance_is, not_balance, balance_choice, balance_others, balance_choice_is, block_choice, block_choice_is, block_choice_high, block_is_basic, the_block_is_basic, balance_not_basic}
 use Rattle.fraction_theory.proofs.ListSums.{Distinct-increasing}
 
 -- what is by name, at the balance and at a block

@@ -1,0 +1,5 @@
+pub mod BlockChoices
+pub mod Completeness
+pub mod PairLaws
+mod RangeRows
+pub mod SystemLaws

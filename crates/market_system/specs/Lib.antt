@@ -1,0 +1,7 @@
+pub mod Completeness
+pub mod Growth
+pub mod MarketNumbers
+pub mod MarketSystem
+pub mod NamedSums
+pub mod Outcomes
+pub mod WorkingPairs
