@@ -14,7 +14,7 @@ use Rattle.market_model.specs.declared.participants.Factor.{Factor}
 use Rattle.market_model.specs.declared.participants.Parts.{Parts}
 use Rattle.market_model.specs.declared.participants.Side.TheVariants.{Sell}
 use Rattle.market_model.specs.Dispatch.{Dispatch, injection, balance, accepted, quantity}
-use Rattle.market_model.specs.LimitRows.{Base, After, Row, rows, row_id, line_flow, row_offset, row_factor, flow, greatest}
+use Rattle.market_model.specs.LimitRows.{Base, After, Row, rows, row_id, line_flow, row_offset, row_factor, flow, limit}
 use Rattle.market_model.specs.Market.{IsMarket}
 use Rattle.market_model.specs.Optimality.{BlockSupported, Feasible, IsOneSided, ProperDuals, RowSupported, Supports, Within, bus_price, congestion, named_rows, welfare}
 use Rattle.market_model.proofs.Optimum.{law_of_the_optimum}
@@ -77,13 +77,13 @@ flow_after : flow the_market the_dispatch after ≡ whole (mw 45)
 unfolding rows line_flow row_offset row_factor injection ◌+ℚ◌ ◌*ℚ◌ neg_ℚ over whole gcd gcd_in
 flow_after = same_fraction (flow the_market the_dispatch after) (whole (mw 45)) refl refl
 
-least_before : neg_ℚ (greatest the_market before) ≡ whole (neg_ℤ (mw 40))
+least_before : neg_ℚ (limit the_market before) ≡ whole (neg_ℤ (mw 40))
 unfolding neg_ℚ whole
-least_before = same_fraction (neg_ℚ (greatest the_market before)) (whole (neg_ℤ (mw 40))) refl refl
+least_before = same_fraction (neg_ℚ (limit the_market before)) (whole (neg_ℤ (mw 40))) refl refl
 
-least_after : neg_ℚ (greatest the_market after) ≡ whole (neg_ℤ (mw 45))
+least_after : neg_ℚ (limit the_market after) ≡ whole (neg_ℤ (mw 45))
 unfolding neg_ℚ whole
-least_after = same_fraction (neg_ℚ (greatest the_market after)) (whole (neg_ℤ (mw 45))) refl refl
+least_after = same_fraction (neg_ℚ (limit the_market after)) (whole (neg_ℤ (mw 45))) refl refl
 
 -- ---- feasible
 balanced : balance the_market the_dispatch ≡ whole (pos 0)

@@ -9,5 +9,6 @@ pub mod PlaceSums
 pub mod PlainMarkets
 pub mod RowLaws
 mod Rows
+pub mod SumSteps
 pub mod TableLemmas
 pub mod WholeDispatch

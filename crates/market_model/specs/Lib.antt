@@ -1,11 +1,14 @@
 pub mod Changes
 pub mod Dispatch
+pub mod Excess
 pub mod Factors
 pub mod Fitting
+pub mod Frame
 pub mod Infeasibility
 pub mod Laws
 pub mod LimitRows
 pub mod Market
+pub mod NamedSums
 pub mod Optimality
 pub mod RightAnswers
 pub mod Settlement

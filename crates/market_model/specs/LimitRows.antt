@@ -51,20 +51,17 @@ abbrev pub row_id : Parts → Row → RowId
 row_id m r = record { branch = (line_at m r.line).row; outage = outage_of m r.cause }
 
 -- ---- the limit of a row
-abbrev pub limit_of : Option ℤ → Fraction
-limit_of (Some mw) = whole mw
-limit_of None = zero
+abbrev pub mw_or_zero : Option ℤ → Fraction
+mw_or_zero (Some mw) = whole mw
+mw_or_zero None = zero
 
 abbrev pub limit_in : Parts → ℕ → Cause → Fraction
-limit_in m l Base = limit_of (line_at m l).base
-limit_in m l (After lost) = limit_of (line_at m l).post
+limit_in m l Base = mw_or_zero (line_at m l).base
+limit_in m l (After lost) = mw_or_zero (line_at m l).post
 
+-- the greatest size that its flow may have
 abbrev pub limit : Parts → Row → Fraction
 limit m r = limit_in m r.line r.cause
-
--- the greatest size that the flow may have
-abbrev pub greatest : Parts → Row → Fraction
-greatest m r = limit m r
 
 -- ---- factors and offsets
 -- how many decimal places a factor has

@@ -12,12 +12,12 @@ use Rattle.market_model.specs.declared.answered.Dual.{Dual}
 use Rattle.market_model.specs.declared.answered.Duals.{Duals}
 use Rattle.market_model.specs.declared.answered.RowId.{RowId}
 use Rattle.market_model.specs.Dispatch.{Dispatch, IsDispatch, zero, places, block_at, unit_at, signed, accepted, quantity, balance}
-use Rattle.market_model.specs.LimitRows.{Row, rows, row_id, limit, greatest, row_factor, flow}
+use Rattle.market_model.specs.LimitRows.{Row, rows, row_id, limit, row_factor, flow}
 
--- a flow of at most the greatest size on either side
+-- a flow of at most the limit on either side
 pub record Within (m : Parts) (r : Row) (f : Fraction) : Type 0 where
-  pub above : neg_ℚ (greatest m r) ≤ℚ f
-  pub below : f ≤ℚ greatest m r
+  pub above : neg_ℚ (limit m r) ≤ℚ f
+  pub below : f ≤ℚ limit m r
 
 -- within the blocks' bounds, in balance, and within the limits of these rows
 pub record FeasibleFor (m : Parts) (g : List Row) (x : Dispatch) : Type 0 where

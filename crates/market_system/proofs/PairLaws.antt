@@ -22,7 +22,7 @@ use Rattle.market_model.specs.Infeasibility.{ShowsInfeasible, farkas_terms}
 use Rattle.market_model.specs.LimitRows.{Row, rows}
 use Rattle.market_system.specs.MarketSystem.{balance_name, system_of, choice_dispatch, choice_duals}
 use Rattle.market_system.specs.MarketNumbers.{IsBest, MarketNumber, of_system, is_load, is_shunt, is_injection, is_balance, is_output, is_farkas_bound, of_opposite}
-use Rattle.market_system.specs.NamedSums.{SameSize, term_at, IsNextTerm, IsRefusedIn, Adds, IsAddedIn, IsRefusal}
+use Rattle.market_model.specs.NamedSums.{SameSize, term_at, IsNextTerm, IsRefusedIn, Adds, IsAddedIn, IsRefusal}
 use Rattle.market_system.specs.WorkingPairs.{IsMoneySum, of_welfare, of_surplus, IsMoneyCase, IsRangeOf}
 use Rattle.market_system.proofs.SystemLaws.{balance_choice, balance_choice_is, balance_is_basic, balance_is}
 
@@ -44,7 +44,7 @@ module _ (N : Kind → Fraction → Type 0) (opposite : (kind : Kind) (x : Fract
         by_ring1 ring_ℚ (term_value (term_at terms k) ∷ prefix k terms ∷ prefix (k + 1) terms ∷ []) (at 0) (at 2 ⊕ pneg (at 1)) (pneg pone) (at 2) (at 1 ⊕ at 0)
         (prefix-more k terms (Plain (whole (pos 0))) h) refl
 
-    pub next_case : (op : Op) (l r : Fraction) (k : ℕ) → Adds op → IsNextTerm terms l r k → IsPairCase N op l r
+    pub next_case : (op : Op) (l r : Fraction) (k : ℕ) → Adds op → IsNextTerm terms op l r k → IsPairCase N op l r
     next_case op l r k adds h = by_op op adds
       where
         left : IsSummand N kind l

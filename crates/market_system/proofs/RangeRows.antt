@@ -1,11 +1,12 @@
 -- The row of three big buses: numbers of 127 bits don't hold its welfare, and the sum that they don't hold is a working pair.
 use Rattle.std.specs.Prelude.{◌≡◌, ◌≢◌, ℕ, ◌^◌, ◌<◌, ◌-◌, pos, neg_ℤ, Bool, true, [], ◌∷◌, All, slice_index_or, if◌then◌else◌, refl}
-use Rattle.std.proofs.Common.{zero, suc, arith, ap, sym, inl, inr}
+use Rattle.std.proofs.Common.{zero, suc, arith, ap, ap₂, sym, inl, inr, ◌∙◌}
 use Rattle.std.proofs.lemmas.Int.{ints}
 use Rattle.fraction_theory.specs.Divisors.{gcd, gcd_in, lcm}
 use Rattle.fraction_theory.specs.Fraction.{Fraction, whole, over, ◌+ℚ◌, ◌*ℚ◌, neg_ℚ, same_fraction}
 use Rattle.fraction_theory.specs.Order.{◌≤ℚ◌}
-use Rattle.fraction_theory.specs.Sums.{term_value, prefix}
+use Rattle.fraction_theory.specs.Sums.{Plain, term_value, prefix}
+use Rattle.fraction_theory.proofs.SumLaws.{prefix-more}
 use Rattle.fraction_theory.proofs.OrderLaws.{whole-≤ℚ, <ℚ_irrefl}
 use Rattle.exact_fraction.specs.declared.Op.TheVariants.{Plus}
 use Rattle.exact_fraction.specs.declared.Passed.{Passed}
@@ -23,7 +24,7 @@ use Rattle.market_model.specs.Market.{IsMarket, IsBlock, HasRoom}
 use Rattle.market_model.specs.Dispatch.{Dispatch, injection, balance, accepted, quantity}
 use Rattle.market_model.specs.Optimality.{Feasible, Supports, BlockSupported, welfare_terms}
 use Rattle.market_model.proofs.RowLaws.{no_rows, supported_bare, supports_bare, feasible_bare}
-use Rattle.market_system.specs.NamedSums.{term_at}
+use Rattle.market_model.specs.NamedSums.{term_at}
 use Rattle.market_system.specs.WorkingPairs.{IsRangeOf}
 use Rattle.market_system.proofs.SystemLaws.{block_choice, block_choice_is}
 use Rattle.market_system.proofs.BlockChoices.{block_choice_dispatch, block_choice_energy}
@@ -166,4 +167,15 @@ passes = inr (inr (inl (Prim.omega arith)))
 pub big_buses-range : IsRangeOf big_buses (2 ^ 127 - 1) too_large
 big_buses-range =
     range_of_welfare big_buses (no_rows big_buses refl) all_sold at_most_price big_buses-feasible big_buses-supports big_buses-chosen (2 ^ 127 - 1) too_large
-    (record { step = (2, record { inside = Prim.omega arith; before = inl (sym left_is); next = inl (sym right_is) }); passes = passes })
+    (record {
+      step = (
+        2,
+        record {
+          inside = Prim.omega arith;
+          before = inl (sym left_is);
+          next = inl (sym right_is);
+          after = inl (ap₂ ◌+ℚ◌ (sym left_is) (sym right_is) ∙ sym (prefix-more 2 (welfare_terms big_buses all_sold) (Plain (whole (pos 0))) (Prim.omega arith)));
+        },
+      );
+      passes = passes;
+    })

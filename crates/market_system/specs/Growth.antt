@@ -8,11 +8,11 @@ use Rattle.fraction_theory.specs.Order.{◌≤ℚ◌, ◌<ℚ◌}
 use Rattle.market_model.specs.declared.participants.Parts.{Parts}
 use Rattle.market_model.specs.Dispatch.{Dispatch}
 use Rattle.market_model.specs.Optimality.{FeasibleFor, welfare}
-use Rattle.market_model.specs.LimitRows.{Row, rows, greatest, flow}
+use Rattle.market_model.specs.LimitRows.{Row, rows, flow, limit}
 
 -- the flow passes the limit on one side
 abbrev pub Broken : Parts → Dispatch → Row → Type 0
-Broken m x r = (greatest m r <ℚ flow m x r) ⊎ (flow m x r <ℚ neg_ℚ (greatest m r))
+Broken m x r = (limit m r <ℚ flow m x r) ⊎ (flow m x r <ℚ neg_ℚ (limit m r))
 
 -- of the greatest welfare of all such dispatches
 pub record BestFor (m : Parts) (g : List Row) (x : Dispatch) : Type 0 where

@@ -2,6 +2,5 @@ pub mod Completeness
 pub mod Growth
 pub mod MarketNumbers
 pub mod MarketSystem
-pub mod NamedSums
 pub mod Outcomes
 pub mod WorkingPairs

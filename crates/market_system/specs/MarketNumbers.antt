@@ -14,7 +14,7 @@ use Rattle.market_model.specs.Optimality.{Feasible, Supports, up_of, down_of, pu
 use Rattle.market_model.specs.Infeasibility.{ShowsInfeasible, farkas_terms}
 use Rattle.market_system.specs.MarketSystem.{balance_name, row_name, system_of, choice_dispatch, choice_duals}
 use Rattle.market_system.specs.Growth.{BestFor}
-use Rattle.market_system.specs.NamedSums.{SameSize}
+use Rattle.market_model.specs.NamedSums.{SameSize}
 
 -- the choice's dispatch is feasible, and its duals support it
 pub record IsBest (m : Parts) (rows : List Row) (h : Choice) : Type 0 where

@@ -15,7 +15,7 @@ use Rattle.market_model.specs.declared.answered.Dual.{Dual}
 use Rattle.market_model.specs.declared.answered.Duals.{Duals}
 use Rattle.market_model.specs.declared.answered.RowId.{RowId}
 use Rattle.market_model.specs.Dispatch.{Dispatch, zero, places, block_at, block_bus, signed, quantity, balance, empty}
-use Rattle.market_model.specs.LimitRows.{Cause, Base, After, Row, rows, row_id, greatest, row_factor, flow}
+use Rattle.market_model.specs.LimitRows.{Cause, Base, After, Row, rows, row_id, row_factor, flow, limit}
 use Rattle.market_model.specs.Optimality.{block_value}
 
 -- The names of the variables: a block's is its place, the balance's is the next, and limit rows follow in the market's
@@ -59,10 +59,10 @@ coefficient_by m (r ∷ rs) w j = if w == row_name m r then block_coefficient m 
 
 -- what the blocks may add to the flow of a row, which is what nothing accepted leaves of its limit on either side
 abbrev pub least_added : Parts → Row → Fraction
-least_added m r = neg_ℚ (greatest m r) -ℚ flow m (empty m) r
+least_added m r = neg_ℚ (limit m r) -ℚ flow m (empty m) r
 
 abbrev pub most_added : Parts → Row → Fraction
-most_added m r = greatest m r -ℚ flow m (empty m) r
+most_added m r = limit m r -ℚ flow m (empty m) r
 
 -- a bound by name: that of the limit row that has it, and else one for blocks and the balance
 abbrev pub bound_by : Parts → (Row → Fraction) → (ℕ → Fraction) → List Row → ℕ → Fraction

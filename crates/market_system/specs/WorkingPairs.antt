@@ -17,7 +17,7 @@ use Rattle.market_model.specs.Settlement.{surplus_terms, rent_terms}
 use Rattle.market_system.specs.MarketSystem.{system_of, choice_dispatch, choice_duals}
 use Rattle.market_system.specs.MarketNumbers.{IsBest, MarketNumber}
 use Rattle.market_system.specs.Growth.{Reached}
-use Rattle.market_system.specs.NamedSums.{IsSumStep}
+use Rattle.market_model.specs.NamedSums.{IsSumStep}
 
 -- the sums of money at a choice
 pub data IsMoneySum (m : Parts) (rows : List Row) (h : Choice) : List Term → Type 0 where

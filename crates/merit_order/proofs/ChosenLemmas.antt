@@ -25,7 +25,7 @@ use Rattle.market_model.specs.Dispatch.{Dispatch, zero, places, bus_at, unit_at,
 use Rattle.market_model.specs.Optimality.{Feasible, Supports, welfare_terms, bus_price, unit_price}
 use Rattle.market_model.specs.LimitRows.{rows}
 use Rattle.market_model.specs.Settlement.{surplus_terms}
-use Rattle.market_system.specs.NamedSums.{IsRefusal, IsAddedIn, IsRefusedIn}
+use Rattle.market_model.specs.NamedSums.{IsRefusal, IsAddedIn, IsRefusedIn}
 use Rattle.market_system.specs.WorkingPairs.{IsRangeOf}
 use Rattle.market_model.specs.Valued.{passed_at}
 use Rattle.market_data.specs.WholeSums.{int_sum}
@@ -40,7 +40,7 @@ use Rattle.merit_order.specs.Paying.{left_terms, IsPayingRefusal, of_unit, of_lo
 use Rattle.merit_order.specs.Filling.{demand_of, fixed_of, bought_of, Fills, IsLess, AllPlaces, AtBound, IsPartAt, AtMostOnePart, IsPriceIn, on_side, accepted_of, no_block}
 use Rattle.merit_order.proofs.FillingLemmas.{Standing, Cheap, Level, Dear, standing}
 use Rattle.merit_order.proofs.ClearingLemmas.{taken, accepted_at, is_feasible, is_supported}
-use Rattle.merit_order.proofs.RefusalLemmas.{multiplied_at, refused_by_added, refusal_same, terms_at, behind, in_front}
+use Rattle.market_model.proofs.SumSteps.{multiplied_at, refused_by_added, refusal_same, terms_at, behind, in_front}
 use Rattle.merit_order.proofs.SettlingLemmas.{demand_is}
 use Rattle.merit_order.proofs.PlacesLemmas.{AllPlaces-push}
 

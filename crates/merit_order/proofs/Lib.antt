@@ -7,5 +7,4 @@ pub mod PayingLemmas
 pub mod PlacesLemmas
 pub mod RangeLemmas
 pub mod ReachLemmas
-pub mod RefusalLemmas
 pub mod SettlingLemmas

@@ -11,17 +11,18 @@ use Rattle.fraction_theory.proofs.FieldLaws.{ring_ℚ}
 use Rattle.fraction_theory.proofs.SumLaws.{total-append, total-Plain}
 use Rattle.exact_fraction.specs.declared.Op.TheVariants.{Plus, Times}
 use Rattle.exact_fraction.specs.declared.Passed.{Passed}
+use Rattle.exact_fraction.specs.Passes.{outcome}
 use Rattle.market_model.specs.declared.participants.Block.{Block}
 use Rattle.market_model.specs.declared.participants.Parts.{Parts}
 use Rattle.market_model.specs.declared.answered.Load.{Load}
 use Rattle.market_model.specs.declared.answered.UnitPay.{UnitPay}
 use Rattle.market_model.specs.Dispatch.{places, unit_at, block_at, fixed_term, block_term, accepted, signed, output, output_terms, demand}
 use Rattle.market_model.specs.Optimality.{block_value, welfare_terms}
-use Rattle.market_system.specs.NamedSums.{SameSize, term_at, IsRefusal, IsAddedIn, IsRefusedIn}
+use Rattle.market_model.specs.NamedSums.{SameSize, term_at, IsRefusal, IsAddedIn, IsRefusedIn}
 use Rattle.merit_order.specs.Clearing.{dispatch_of}
 use Rattle.merit_order.specs.Filling.{AllPlaces}
 use Rattle.merit_order.specs.Paying.{PaysUnit, LoadPays, paid_terms, left_terms}
-use Rattle.merit_order.proofs.RefusalLemmas.{added_at, multiplied_at, refused_by_added, terms_at, tested_at, behind, in_front}
+use Rattle.market_model.proofs.SumSteps.{plus_at, multiplied_at, refused_by_added, terms_at, tested_at, behind, in_front}
 use Rattle.merit_order.proofs.OutcomeLemmas.{at_place}
 use Rattle.merit_order.proofs.SettlingLemmas.{accepted_is, output_to, welfare_to}
 
@@ -33,9 +34,9 @@ module _ {N : Type 0} (value : N → Fraction) (m : Parts) (ds : List N) (bound 
       let x = dispatch_of value ds in
       let test : ℕ → _ = λ j. (block_at m j).unit == place in
       let r = tested_at test (block_term m x) (length m.blocks) k below (ap (λ (b : Block). b.unit == place) (sym same) ∙ belongs) in
-      added_at (output_terms m x place) (fixed_term m place ∷ map (block_term m x) (filter test (places k))) r.0 (block_term m x k) (ap (λ ts. fixed_term m place ∷ ts) r.1)
-      bound p sum (signed block.side (value d)) Plus tt (inl is)
-      (inl (ap (λ (b : Block). signed b.side (value d)) same ∙ ap (signed (block_at m k).side) (sym (accepted_is value ds k d lt at)))) h
+      plus_at (output_terms m x place) (fixed_term m place ∷ map (block_term m x) (filter test (places k))) r.0 (block_term m x k) (ap (λ ts. fixed_term m place ∷ ts) r.1)
+      bound p sum (signed block.side (value d)) is
+      ((ap (λ (b : Block). signed b.side (value d)) same ∙ ap (signed (block_at m k).side) (sym (accepted_is value ds k d lt at)))) h
 
   -- what a block is worth, and the sum with that
   pub worth_refused : (k : ℕ) (block : Block) (d : N) → k < length m.blocks → k < length ds → d ≡ get_or ds k d → block ≡ block_at m k
@@ -55,8 +56,8 @@ module _ {N : Type 0} (value : N → Fraction) (m : Parts) (ds : List N) (bound 
       let f : ℕ → Term = λ j. Product (block_value m j) (accepted x j) in
       let r = terms_at f (length m.blocks) k below in
       refused_by_added (welfare_terms m x) bound p
-      (added_at (welfare_terms m x) (map f (places k)) r.0 (f k) r.1 bound p sum worth Plus tt (inl is)
-      (inl (w ∙ ap (λ (b : Block). neg_ℚ (signed b.side (whole b.price)) *ℚ value d) same ∙ ap (λ v. block_value m k *ℚ v) (sym (accepted_is value ds k d lt at)))) h)
+      (plus_at (welfare_terms m x) (map f (places k)) r.0 (f k) r.1 bound p sum worth is
+      ((w ∙ ap (λ (b : Block). neg_ℚ (signed b.side (whole b.price)) *ℚ value d) same ∙ ap (λ v. block_value m k *ℚ v) (sym (accepted_is value ds k d lt at)))) h)
 
 -- a list at one of its places
 split_at : {T : Type 0} (xs : List T) (k : ℕ) (x : T) → k < length xs → x ≡ get_or xs k x → xs ≡ take k xs ++ x ∷ drop (k + 1) xs
@@ -75,19 +76,19 @@ module _ {N : Type 0} (value : N → Fraction) (loads : List (Load N)) (units : 
   pub load_refused : (k : ℕ) (load : Load N) (sum : Fraction) → k < length loads → load ≡ get_or loads k load → sum ≡ sum_by (λ l. value l.pays) (take k loads)
       → IsRefusal Plus sum (value load.pays) bound p → IsAddedIn (paid_terms value loads units) bound p
   load_refused k load sum below at is h =
-      added_at (paid_terms value loads units) (map load_term (take k loads)) (map load_term (drop (k + 1) loads) ++ map unit_term units) (load_term load)
+      plus_at (paid_terms value loads units) (map load_term (take k loads)) (map load_term (drop (k + 1) loads) ++ map unit_term units) (load_term load)
       (in_front (map load_term loads) (map load_term (take k loads)) (map load_term (drop (k + 1) loads)) (map unit_term units) (load_term load) (mapped_at load_term loads k load below at))
-      bound p sum (value load.pays) Plus tt (inl (is ∙ sym (total-Plain (λ (l : Load N). value l.pays) (take k loads)))) (inl refl) h
+      bound p sum (value load.pays) ((is ∙ sym (total-Plain (λ (l : Load N). value l.pays) (take k loads)))) refl h
 
   pub unit_refused : (k : ℕ) (unit : UnitPay N) (sum : Fraction) → k < length units → unit ≡ get_or units k unit
       → sum ≡ sum_by (λ l. value l.pays) loads +ℚ sum_by (λ u. neg_ℚ (value u.paid)) (take k units)
       → IsRefusal Plus sum (neg_ℚ (value unit.paid)) bound p → IsAddedIn (paid_terms value loads units) bound p
   unit_refused k unit sum below at is h =
-      added_at (paid_terms value loads units) (map load_term loads ++ map unit_term (take k units)) (map unit_term (drop (k + 1) units)) (unit_term unit)
+      plus_at (paid_terms value loads units) (map load_term loads ++ map unit_term (take k units)) (map unit_term (drop (k + 1) units)) (unit_term unit)
       (behind (map load_term loads) (map unit_term units) (map unit_term (take k units)) (map unit_term (drop (k + 1) units)) (unit_term unit) (mapped_at unit_term units k unit below at))
-      bound p sum (neg_ℚ (value unit.paid)) Plus tt
-      (inl (is ∙ sym (total-append (map load_term loads) (map unit_term (take k units))
-      ∙ ap₂ ◌+ℚ◌ (total-Plain (λ (l : Load N). value l.pays) loads) (total-Plain (λ (u : UnitPay N). neg_ℚ (value u.paid)) (take k units))))) (inl refl) h
+      bound p sum (neg_ℚ (value unit.paid))
+      ((is ∙ sym (total-append (map load_term loads) (map unit_term (take k units))
+      ∙ ap₂ ◌+ℚ◌ (total-Plain (λ (l : Load N). value l.pays) loads) (total-Plain (λ (u : UnitPay N). neg_ℚ (value u.paid)) (take k units))))) refl h
 
 -- Sums of the same values are refused at the same operations.
 values_same : (ts us : List Term) (k : ℕ) → map term_value ts ≡ map term_value us → prefix k ts ≡ prefix k us
@@ -109,7 +110,12 @@ added_same ts us bound p e h =
     record {
       adds = h.adds;
       place = k;
-      next = record { inside = inside; before = subst (SameSize p.left) (values_same ts us k e) h.next.before; next = subst (SameSize p.right) same h.next.next };
+      next = record {
+        inside = inside;
+        before = subst (SameSize p.left) (values_same ts us k e) h.next.before;
+        next = subst (SameSize p.right) same h.next.next;
+        after = subst (SameSize (outcome p.op p.left p.right)) (values_same ts us (k + 1) e) h.next.after;
+      };
       passes = h.passes;
     }
 

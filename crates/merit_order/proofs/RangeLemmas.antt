@@ -20,13 +20,13 @@ use Rattle.market_model.proofs.RowLaws.{bus_price-bare}
 use Rattle.market_model.proofs.FarkasLaw.{farkas_terms-bare}
 use Rattle.market_model.specs.Infeasibility.{part_above, block_weight, ShowsInfeasible, farkas_terms}
 use Rattle.market_model.specs.Stairs.{same_side}
-use Rattle.market_system.specs.NamedSums.{SameSize, IsRefusal, IsAddedIn}
+use Rattle.market_model.specs.NamedSums.{SameSize, IsRefusal, IsAddedIn}
 use Rattle.market_system.specs.WorkingPairs.{IsRangeOf}
 use Rattle.market_model.proofs.MarketSums.{raised_by-empty}
 use Rattle.market_system.proofs.PairLaws.{range_of_injection, range_of_balance, range_of_scaled, range_of_farkas}
 use Rattle.merit_order.specs.Clearing.{plain_energy, energy_alone, IsEnergyOfOne, IsDemandRefusal}
 use Rattle.merit_order.proofs.InfeasibleLemmas.{fixed_to, balance_to, bound_to, weighs}
-use Rattle.merit_order.proofs.RefusalLemmas.{added_at, terms_at, tested_at, in_front}
+use Rattle.market_model.proofs.SumSteps.{plus_at, minus_at, terms_at, tested_at, in_front}
 
 -- a price of energy of 1 or -1
 one_or_minus : (short : Bool) → SameSize (whole (plain_energy short)) (whole (pos 1))
@@ -47,10 +47,10 @@ module _ (m : Parts) (bare : rows m ≡ []) (bound : ℕ) (p : Passed Fraction) 
       let front : List Term = map (fixed_term m) (filter test (places k)) in
       let r = tested_at test (fixed_term m) (length m.units) k below (ap (λ (v : unit.Unit). v.bus == i) (sym same) ∙ stands) in
       range_of_injection m bare bound p i lt
-      (added_at (injection_terms m (empty m) i) front (r.0 ++ blocks ++ demands) (fixed_term m k)
+      (plus_at (injection_terms m (empty m) i) front (r.0 ++ blocks ++ demands) (fixed_term m k)
       (in_front (map (fixed_term m) (units_at m i) ++ blocks) front (r.0 ++ blocks) demands (fixed_term m k)
       (in_front (map (fixed_term m) (units_at m i)) front r.0 blocks (fixed_term m k) r.1))
-      bound p sum (whole u.fixed) Plus tt (inl is) (inl (ap (λ (v : unit.Unit). whole v.fixed) same)) h)
+      bound p sum (whole u.fixed) is ((ap (λ (v : unit.Unit). whole v.fixed) same)) h)
 
   -- the demand of a bus
   module _ (i : ℕ) (bus : Bus) (injection : Fraction) (lt : i < length m.buses) (same : bus ≡ bus_at m i) (is : injection ≡ fixed_to m i (length m.units)) where
@@ -74,17 +74,17 @@ module _ (m : Parts) (bare : rows m ≡ []) (bound : ℕ) (p : Passed Fraction) 
 
     load_added : IsRefusal Minus injection (whole bus.pd) bound p → IsAddedIn (injection_terms m (empty m) i) bound p
     load_added r =
-        added_at (injection_terms m (empty m) i) (unit_terms ++ block_terms) (shunt ∷ []) load refl bound p injection (whole bus.pd) Minus tt (inl before)
-        (inr (ap (λ (b : Bus). whole b.pd) same ∙ sym (neg_neg ring_ℚ (whole (bus_at m i).pd)))) r
+        minus_at (injection_terms m (empty m) i) (unit_terms ++ block_terms) (shunt ∷ []) load refl bound p injection (whole bus.pd) before
+        ((ap (λ (b : Bus). whole b.pd) same ∙ sym (neg_neg ring_ℚ (whole (bus_at m i).pd)))) r
 
     shunt_added : IsRefusal Minus (injection -ℚ whole bus.pd) (whole bus.gs) bound p → IsAddedIn (injection_terms m (empty m) i) bound p
     shunt_added r =
-        added_at (injection_terms m (empty m) i) ((unit_terms ++ block_terms) ++ load ∷ []) [] shunt (sym (append_assoc (unit_terms ++ block_terms) (load ∷ []) (shunt ∷ []))) bound p
-        (injection -ℚ whole bus.pd) (whole bus.gs) Minus tt
-        (inl (ap₂ (λ a b. a +ℚ neg_ℚ b) before (ap (λ (b : Bus). whole b.pd) same)
+        minus_at (injection_terms m (empty m) i) ((unit_terms ++ block_terms) ++ load ∷ []) [] shunt (sym (append_assoc (unit_terms ++ block_terms) (load ∷ []) (shunt ∷ []))) bound p
+        (injection -ℚ whole bus.pd) (whole bus.gs)
+        ((ap₂ (λ a b. a +ℚ neg_ℚ b) before (ap (λ (b : Bus). whole b.pd) same)
         ∙ ap (λ t. total (unit_terms ++ block_terms) +ℚ t) (sym (ring_ℚ.plus_nil (neg_ℚ (whole (bus_at m i).pd))))
         ∙ sym (total-append (unit_terms ++ block_terms) (load ∷ []))))
-        (inr (ap (λ (b : Bus). whole b.gs) same ∙ sym (neg_neg ring_ℚ (whole (bus_at m i).gs)))) r
+        ((ap (λ (b : Bus). whole b.gs) same ∙ sym (neg_neg ring_ℚ (whole (bus_at m i).gs)))) r
 
     pub demand_refused : IsDemandRefusal injection bus bound p → IsRangeOf m bound p
     demand_refused (inl r) = range_of_injection m bare bound p i lt (load_added r)
@@ -95,8 +95,8 @@ module _ (m : Parts) (bare : rows m ≡ []) (bound : ℕ) (p : Passed Fraction) 
   injection_refused k sum below is h =
       let r = terms_at (λ i. Plain (injection_of m (empty m) i)) (length m.buses) k below in
       range_of_balance m bare bound p
-      (added_at (map (λ i. Plain (injection_of m (empty m) i)) (places (length m.buses))) (map (λ i. Plain (injection_of m (empty m) i)) (places k)) r.0 (Plain (injection_of m (empty m) k)) r.1
-      bound p sum (injection_of m (empty m) k) Plus tt (inl is) (inl refl) h)
+      (plus_at (map (λ i. Plain (injection_of m (empty m) i)) (places (length m.buses))) (map (λ i. Plain (injection_of m (empty m) i)) (places k)) r.0 (Plain (injection_of m (empty m) k)) r.1
+      bound p sum (injection_of m (empty m) k) is refl h)
 
   -- the balance at the price of energy
   pub balance_refused : (energy : Fraction) (side : Side) → IsEnergyOfOne energy side → IsRefusal Times energy (balance m (empty m)) bound p → IsRangeOf m bound p
@@ -120,9 +120,9 @@ module _ (m : Parts) (bare : rows m ≡ []) (bound : ℕ) (p : Passed Fraction) 
         let start : Term = Product energy (balance m (empty m)) in
         let r = terms_at f (length m.blocks) k below in
         range_of_farkas m bare bound p d (of_one energy side one) shows
-        (added_at (farkas_terms m d) (start ∷ map f (places k)) r.0 (f k) (farkas_terms-bare m d bare ∙ ap (λ ts. start ∷ ts) r.1) bound p sum (whole block.quantity) Plus tt
-        (inl (is ∙ ap (λ t. energy *ℚ balance m (empty m) +ℚ t)
+        (plus_at (farkas_terms m d) (start ∷ map f (places k)) r.0 (f k) (farkas_terms-bare m d bare ∙ ap (λ ts. start ∷ ts) r.1) bound p sum (whole block.quantity)
+        ((is ∙ ap (λ t. energy *ℚ balance m (empty m) +ℚ t)
         (sym (total-Product (λ j. part_above (block_weight m d j)) (quantity m) (places k)
         ∙ sum_by-same (λ j. part_above (block_weight m d j) *ℚ quantity m j) (λ j. if same_side (block_at m j).side side then quantity m j else zero) (places k) adds_is))))
-        (inl (ap (λ (b : Block). whole b.quantity) same
+        ((ap (λ (b : Block). whole b.quantity) same
         ∙ sym (adds_is k ∙ ap (λ (b : Bool). if b then quantity m k else zero) (ap (λ (b : Block). same_side b.side side) (sym same) ∙ counts)))) h)

@@ -11,7 +11,7 @@ use Rattle.market_model.specs.Infeasibility.{IsFarkas}
 use Rattle.market_model.specs.Stairs.{same_side}
 use Rattle.market_model.specs.Valued.{farkas_at, passed_at}
 use Rattle.market_system.specs.WorkingPairs.{IsRangeOf}
-use Rattle.market_system.specs.NamedSums.{IsRefusal}
+use Rattle.market_model.specs.NamedSums.{IsRefusal}
 use Rattle.market_data.specs.declared.participants.Bus.{Bus}
 use Rattle.exact_fraction.specs.declared.Op.TheVariants.{Minus}
 use Rattle.exact_fraction.specs.declared.Passed.{Passed}

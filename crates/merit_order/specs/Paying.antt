@@ -10,7 +10,7 @@ use Rattle.market_model.specs.declared.answered.UnitPay.{UnitPay}
 use Rattle.market_model.specs.declared.answered.Load.{Load}
 use Rattle.market_data.specs.declared.participants.Bus.{Bus}
 use Rattle.market_model.specs.Dispatch.{Dispatch, zero, places, bus_at, unit_at, output, output_terms, demand}
-use Rattle.market_system.specs.NamedSums.{IsAddedIn, IsRefusal}
+use Rattle.market_model.specs.NamedSums.{IsAddedIn, IsRefusal}
 use Rattle.market_model.specs.Valued.{passed_at}
 use Rattle.merit_order.specs.declared.clearing.ClearFault.{ClearFault}
 use Rattle.merit_order.specs.declared.clearing.ClearFault.TheVariants as why

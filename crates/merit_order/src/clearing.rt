@@ -17,7 +17,7 @@ ghost use Rattle.market_model.specs.RightAnswers.{IsRight};
 ghost use Rattle.merit_order.specs.declared.clearing.ClearFault.TheVariants as why;
 ghost use Rattle.merit_order.specs.Clearing.{dispatch_of, IsCauseOf};
 ghost use Rattle.exact_fraction.specs.declared.Op.TheVariants as Op;
-ghost use Rattle.market_system.specs.NamedSums.{IsRefusal, IsRefusedIn};
+ghost use Rattle.market_model.specs.NamedSums.{IsRefusal, IsRefusedIn};
 ghost use Rattle.market_model.specs.Fitting.{FitsMarket};
 
 use crate::amounts::datum;

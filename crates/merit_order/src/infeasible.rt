@@ -7,7 +7,7 @@ ghost use Rattle.market_model.specs.Dispatch.{zero, empty, injection as injectio
 ghost use Rattle.market_model.specs.Infeasibility.{farkas_bound, ShowsInfeasible};
 ghost use Rattle.market_model.specs.Stairs.{same_side};
 ghost use Rattle.market_model.specs.Valued.{duals_at, passed_at};
-ghost use Rattle.market_system.specs.NamedSums.{IsRefusal};
+ghost use Rattle.market_model.specs.NamedSums.{IsRefusal};
 ghost use Rattle.market_system.specs.WorkingPairs.{IsRangeOf};
 ghost use Rattle.exact_fraction.specs.declared.Op.TheVariants as Op;
 ghost use Rattle.merit_order.specs.Clearing.{plain_energy, weighing, energy_alone, bound_by, IsEnergyOfOne, IsDemandRefusal};

@@ -7,7 +7,7 @@ ghost use Rattle.market_data.specs.Participants.{IsBus};
 ghost use Rattle.market_model.specs.Dispatch.{Dispatch, zero, signed, unit_at, output as output_of, output_terms};
 ghost use Rattle.merit_order.specs.Clearing.{dispatch_of};
 ghost use Rattle.exact_fraction.specs.declared.Op.TheVariants as Op;
-ghost use Rattle.market_system.specs.NamedSums.{IsAddedIn, IsRefusal};
+ghost use Rattle.market_model.specs.NamedSums.{IsAddedIn, IsRefusal};
 ghost use Rattle.market_model.specs.Valued.{passed_at};
 ghost use Rattle.merit_order.specs.Paying.{PaysUnit, LoadPays, price_at, paid_terms, IsLoadRefusal, IsUnitRefusal, IsPayingCause};
 ghost use Rattle.merit_order.specs.Filling.{AllPlaces};

@@ -5,7 +5,7 @@ use Rattle.market_model.specs.Optimality.{welfare as welfare_of}
 use Rattle.merit_order.proofs.SettlingLemmas.{welfare_step}
 use Rattle.exact_fraction.specs.declared.Op.TheVariants as Op
 use Rattle.market_model.specs.Valued.{passed_at}
-use Rattle.merit_order.proofs.RefusalLemmas.{refusal}
+use Rattle.market_model.proofs.SumSteps.{refusal}
 use Rattle.merit_order.proofs.PayingLemmas.{worth_refused, welfare_refused}
 use Rattle.merit_order.proofs.clearing.welfare.Goals as goal
 

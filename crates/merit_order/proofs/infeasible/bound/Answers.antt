@@ -11,7 +11,7 @@ use Rattle.exact_fraction.specs.declared.Op.TheVariants as Op
 use Rattle.market_model.specs.Valued.{passed_at}
 use Rattle.market_model.proofs.RowLaws.{no_rows}
 use Rattle.merit_order.proofs.RangeLemmas.{balance_refused, block_refused}
-use Rattle.merit_order.proofs.RefusalLemmas.{refusal}
+use Rattle.market_model.proofs.SumSteps.{refusal}
 use Rattle.merit_order.proofs.infeasible.bound.Goals as goal
 
 pub loop-block-init : goal.loop-block-init

@@ -8,7 +8,7 @@ use Rattle.exact_fraction.specs.declared.Op.TheVariants as Op
 use Rattle.market_model.specs.Valued.{passed_at}
 use Rattle.market_model.proofs.RowLaws.{no_rows}
 use Rattle.merit_order.proofs.RangeLemmas.{injection_refused}
-use Rattle.merit_order.proofs.RefusalLemmas.{refusal}
+use Rattle.market_model.proofs.SumSteps.{refusal}
 use Rattle.merit_order.proofs.infeasible.empty_balance.Goals as goal
 
 pub loop-place-preserved : goal.loop-place-preserved

@@ -1,7 +1,7 @@
 use Rattle.std.proofs.Common.{rules, Err, subst₂, ◌≡◌, List}
 use Rattle.market_model.specs.declared.answered.Load.{Load}
 use Rattle.market_model.specs.declared.answered.UnitPay.{UnitPay}
-use Rattle.market_system.specs.NamedSums.{IsAddedIn}
+use Rattle.market_model.specs.NamedSums.{IsAddedIn}
 use Rattle.market_model.specs.Valued.{passed_at}
 use Rattle.merit_order.specs.declared.clearing.ClearFault.TheVariants as why
 use Rattle.merit_order.specs.Clearing.{dispatch_of}

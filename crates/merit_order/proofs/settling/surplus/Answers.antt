@@ -7,7 +7,7 @@ use Rattle.market_model.specs.declared.answered.UnitPay.{UnitPay}
 use Rattle.merit_order.proofs.SettlingLemmas.{sum_step, sum_step_behind, sum_end}
 use Rattle.exact_fraction.specs.declared.Op.TheVariants as Op
 use Rattle.market_model.specs.Valued.{passed_at}
-use Rattle.merit_order.proofs.RefusalLemmas.{refusal}
+use Rattle.market_model.proofs.SumSteps.{refusal}
 use Rattle.merit_order.proofs.PayingLemmas.{load_refused, unit_refused}
 use Rattle.merit_order.proofs.settling.surplus.Goals as goal
 

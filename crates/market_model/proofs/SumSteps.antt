@@ -1,18 +1,21 @@
--- Operations that are refused where terms are added up.
+-- Operations that are refused where terms are added up, one by one.
 use Rattle.std.specs.Prelude.{◌≡◌, ℕ, ◌+◌, ◌<◌, pos, Bool, true, List, [], ◌∷◌, ◌++◌, map, filter, cond, length, refl}
 use Rattle.std.specs.List.{range_with_len}
-use Rattle.std.proofs.Common.{zero, suc, arith, ap, sym, ◌∙◌, subst, subst₂, inl, append_assoc, length-append, take}
+use Rattle.std.proofs.Common.{zero, suc, arith, ap, ap₂, sym, ◌∙◌, subst, subst₂, inl, inr, append_assoc, length-append, take}
 use Rattle.std.proofs.Math.Seq.{get_or-append_seam}
 use Rattle.std.proofs.lemmas.List.{map-append}
 use Rattle.std.proofs.lemmas.List.Elements.{filter-append}
-use Rattle.fraction_theory.specs.Fraction.{Fraction, whole}
+use Rattle.fraction_theory.specs.Fraction.{Fraction, whole, neg_ℚ, ◌+ℚ◌, ◌-ℚ◌}
 use Rattle.fraction_theory.specs.Sums.{Term, Plain, Product, term_value, total, prefix}
+use Rattle.fraction_theory.proofs.FieldLaws.{ring_ℚ}
+use Rattle.fraction_theory.proofs.Ring.{by_ring, at, pneg, ◌⊕◌}
+use Rattle.fraction_theory.proofs.SumLaws.{prefix-more}
 use Rattle.exact_fraction.specs.declared.Op.{Op}
 use Rattle.exact_fraction.specs.declared.Op.TheVariants.{Plus, Minus, Times}
 use Rattle.exact_fraction.specs.declared.Passed.{Passed}
-use Rattle.exact_fraction.specs.Passes.{Passes, IsPassed}
+use Rattle.exact_fraction.specs.Passes.{Passes, IsPassed, outcome}
 use Rattle.market_model.specs.Dispatch.{places}
-use Rattle.market_system.specs.NamedSums.{SameSize, term_at, IsNextTerm, IsSumStep, IsRefusedIn, Adds, IsAddedIn, IsRefusal}
+use Rattle.market_model.specs.NamedSums.{SameSize, term_at, IsNextTerm, IsSumStep, IsRefusedIn, Adds, IsAddedIn, IsRefusal}
 use Rattle.market_model.specs.Valued.{passed_at}
 
 -- what a refused operation of numbers is of their values
@@ -47,21 +50,41 @@ module _ (terms front rest : List Term) (t : Term) (split : terms ≡ front ++ t
   here : term_at terms (length front) ≡ t
   here = ap (λ ts. term_at ts (length front)) split ∙ get_or-append_seam front t rest (Plain (whole (pos 0)))
 
-  next_is : (l r : Fraction) → SameSize l (total front) → SameSize r (term_value t) → IsNextTerm terms l r (length front)
-  next_is l r left right = record {
+  all_is : prefix (length front + 1) terms ≡ total front +ℚ term_value t
+  all_is = prefix-more (length front) terms (Plain (whole (pos 0))) inside ∙ ap₂ ◌+ℚ◌ before (ap term_value here)
+
+  next_is : (op : Op) (l r : Fraction) → SameSize l (total front) → SameSize r (term_value t) → SameSize (outcome op l r) (total front +ℚ term_value t) → IsNextTerm terms op l r (length front)
+  next_is op l r left right all = record {
     inside = inside;
     before = subst (SameSize l) (sym before) left;
     next = subst (λ (u : Term). SameSize r (term_value u)) (sym here) right;
+    after = subst (SameSize (outcome op l r)) (sym all_is) all;
   }
 
   module _ (bound : ℕ) (p : Passed Fraction) (l r : Fraction) where
-    pub added_at : (op : Op) → Adds op → SameSize l (total front) → SameSize r (term_value t) → IsRefusal op l r bound p → IsAddedIn terms bound p
-    added_at op adds left right h = record {
+    added_at : (op : Op) → Adds op → IsNextTerm terms op l r (length front) → IsRefusal op l r bound p → IsAddedIn terms bound p
+    added_at op adds next h = record {
       adds = subst Adds (sym h.same_op) adds;
       place = length front;
-      next = subst₂ (λ (a b : Fraction). IsNextTerm terms a b (length front)) (sym h.same_left) (sym h.same_right) (next_is l r left right);
+      next =
+          subst (λ (o : Op). IsNextTerm terms o p.left p.right (length front)) (sym h.same_op)
+          (subst₂ (λ (a b : Fraction). IsNextTerm terms op a b (length front)) (sym h.same_left) (sym h.same_right) next);
       passes = h.passes;
     }
+
+    -- the term is added
+    pub plus_at : l ≡ total front → r ≡ term_value t → IsRefusal Plus l r bound p → IsAddedIn terms bound p
+    plus_at left right h = added_at Plus tt (next_is Plus l r (inl left) (inl right) (inl (ap₂ ◌+ℚ◌ left right))) h
+
+    -- its opposite is subtracted
+    pub minus_at : l ≡ total front → r ≡ neg_ℚ (term_value t) → IsRefusal Minus l r bound p → IsAddedIn terms bound p
+    minus_at left right h =
+        added_at Minus tt (next_is Minus l r (inl left) (inr right) (inl (ap₂ ◌-ℚ◌ left right ∙ by_ring ring_ℚ (total front ∷ term_value t ∷ []) (at 0 ⊕ pneg (pneg (at 1))) (at 0 ⊕ at 1) refl))) h
+
+    -- both are turned round
+    pub turned_at : l ≡ neg_ℚ (total front) → r ≡ neg_ℚ (term_value t) → IsRefusal Plus l r bound p → IsAddedIn terms bound p
+    turned_at left right h =
+        added_at Plus tt (next_is Plus l r (inr left) (inr right) (inr (ap₂ ◌+ℚ◌ left right ∙ by_ring ring_ℚ (total front ∷ term_value t ∷ []) (pneg (at 0) ⊕ pneg (at 1)) (pneg (at 0 ⊕ at 1)) refl))) h
 
     pub multiplied_at : (a b : Fraction) → t ≡ Product a b → SameSize l a → SameSize r b → IsRefusal Times l r bound p → IsRefusedIn terms bound p
     multiplied_at a b product left right h = record {
@@ -74,12 +97,12 @@ module _ (terms front rest : List Term) (t : Term) (split : terms ≡ front ++ t
 
 -- what is added up is refused where terms are added up
 pub refused_by_added : (terms : List Term) (bound : ℕ) (p : Passed Fraction) → IsAddedIn terms bound p → IsRefusedIn terms bound p
-refused_by_added terms bound p a = record { step = by_op p.op a.adds; passes = a.passes }
+refused_by_added terms bound p a = record { step = by_op p.op a.adds a.next; passes = a.passes }
   where
-    by_op : (o : Op) → Adds o → IsSumStep terms o p.left p.right
-    by_op Plus h = (a.place, a.next)
-    by_op Minus h = (a.place, a.next)
-    by_op Times h = absurd h
+    by_op : (o : Op) → Adds o → IsNextTerm terms o p.left p.right a.place → IsSumStep terms o p.left p.right
+    by_op Plus h next = (a.place, next)
+    by_op Minus h next = (a.place, next)
+    by_op Times h next = absurd h
 
 -- the places from one on
 range_at : (a n k : ℕ) → k < n → (rest : List ℕ) × (range_with_len a n ≡ range_with_len a k ++ (a + k) ∷ rest)

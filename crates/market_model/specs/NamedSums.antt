@@ -1,11 +1,11 @@
 -- The operations that add up the terms of a sum in their order.
-use Rattle.std.specs.Prelude.{◌≡◌, ℕ, ◌<◌, pos, List, length, slice_index_or, ◌⊎◌}
+use Rattle.std.specs.Prelude.{◌≡◌, ℕ, ◌+◌, ◌<◌, pos, List, length, slice_index_or, ◌⊎◌}
 use Rattle.fraction_theory.specs.Fraction.{Fraction, whole, neg_ℚ}
 use Rattle.fraction_theory.specs.Sums.{Term, Plain, Product, term_value, prefix}
 use Rattle.exact_fraction.specs.declared.Op.{Op}
 use Rattle.exact_fraction.specs.declared.Op.TheVariants.{Plus, Minus, Times}
 use Rattle.exact_fraction.specs.declared.Passed.{Passed}
-use Rattle.exact_fraction.specs.Passes.{Passes}
+use Rattle.exact_fraction.specs.Passes.{Passes, outcome}
 
 -- the same number, or its opposite
 abbrev pub SameSize : Fraction → Fraction → Type 0
@@ -15,11 +15,13 @@ SameSize x y = (x ≡ y) ⊎ (x ≡ neg_ℚ y)
 abbrev pub term_at : List Term → ℕ → Term
 term_at terms k = slice_index_or terms k (Plain (whole (pos 0)))
 
--- the sum of the first k terms, and the next term
-pub record IsNextTerm (terms : List Term) (l r : Fraction) (k : ℕ) : Type 0 where
+-- The sum of the first k terms and the next term, each up to sign, in an operation that makes of them the sum of the first k + 1 terms, up
+-- to sign.
+pub record IsNextTerm (terms : List Term) (op : Op) (l r : Fraction) (k : ℕ) : Type 0 where
   pub inside : k < length terms
   pub before : SameSize l (prefix k terms)
   pub next : SameSize r (term_value (term_at terms k))
+  pub after : SameSize (outcome op l r) (prefix (k + 1) terms)
 
 -- the factors of the term k, in either order
 pub record AreFactors (terms : List Term) (l r : Fraction) (k : ℕ) (a b : Fraction) : Type 0 where
@@ -29,8 +31,8 @@ pub record AreFactors (terms : List Term) (l r : Fraction) (k : ℕ) (a b : Frac
 
 -- the sides of an operation that adds up the terms
 abbrev pub IsSumStep : List Term → Op → Fraction → Fraction → Type 0
-IsSumStep terms Plus l r = (k : ℕ) × IsNextTerm terms l r k
-IsSumStep terms Minus l r = (k : ℕ) × IsNextTerm terms l r k
+IsSumStep terms Plus l r = (k : ℕ) × IsNextTerm terms Plus l r k
+IsSumStep terms Minus l r = (k : ℕ) × IsNextTerm terms Minus l r k
 IsSumStep terms Times l r = (k : ℕ) × (a : Fraction) × (b : Fraction) × AreFactors terms l r k a b
 
 -- an operation that passes the bound, where the terms are added up
@@ -48,7 +50,7 @@ Adds Times = ⊥
 pub record IsAddedIn (terms : List Term) (bound : ℕ) (p : Passed Fraction) : Type 0 where
   pub adds : Adds p.op
   pub place : ℕ
-  pub next : IsNextTerm terms p.left p.right place
+  pub next : IsNextTerm terms p.op p.left p.right place
   pub passes : Passes bound p.op p.left p.right
 
 -- this operation on these two numbers, which passes the bound

@@ -1,0 +1,32 @@
+-- By how much flows pass the limits of rows, and which limit is passed by the most.
+-- Source: own; the method is that of taking violated limits alone (Wood and Wollenberg, security-constrained dispatch).
+use Rattle.std.specs.Prelude.{◌≡◌, ℕ, ◌<◌, Some, Contains}
+use Rattle.std.specs.List.{slice_get}
+use Rattle.fraction_theory.specs.Fraction.{Fraction, neg_ℚ, ◌-ℚ◌}
+use Rattle.fraction_theory.specs.Order.{◌<ℚ◌, ◌≤ℚ◌}
+use Rattle.fraction_theory.specs.Signs.{sign_of}
+use Rattle.fraction_theory.specs.declared.Sign.{Sign}
+use Rattle.fraction_theory.specs.declared.Sign.TheVariants.{Below, Zero, Above}
+use Rattle.market_model.specs.declared.participants.Parts.{Parts}
+use Rattle.market_model.specs.Dispatch.{zero}
+use Rattle.market_model.specs.LimitRows.{Row, rows, limit}
+
+abbrev pub size_by : Sign → Fraction → Fraction
+size_by Below x = neg_ℚ x
+size_by Zero x = x
+size_by Above x = x
+
+-- the size of a number
+abbrev pub size_of : Fraction → Fraction
+size_of x = size_by (sign_of x) x
+
+-- by how much the size of a flow is above the limit of a row; at most 0 where the limit holds
+abbrev pub excess : Parts → Row → Fraction → Fraction
+excess m r f = size_of f -ℚ limit m r
+
+-- Of the market's rows, with the flow f of each, the one at a place is broken, none has a greater excess, and none before it has the same.
+pub record IsWorst (m : Parts) (f : Row → Fraction) (place : ℕ) (r : Row) : Type 0 where
+  pub stands : slice_get (rows m) place ≡ Some r
+  pub broken : zero <ℚ excess m r (f r)
+  pub most : (s : Row) → Contains (rows m) s → excess m s (f s) ≤ℚ excess m r (f r)
+  pub first : (i : ℕ) (s : Row) → i < place → slice_get (rows m) i ≡ Some s → excess m s (f s) <ℚ excess m r (f r)
