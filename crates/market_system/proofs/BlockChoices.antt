@@ -20,7 +20,7 @@ use Rattle.market_model.specs.declared.participants.Parts.{Parts}
 use Rattle.market_model.specs.Market.{IsMarket}
 use Rattle.market_model.specs.Dispatch.{Dispatch, zero, places, block_at, signed, accepted, quantity, raised_by, balance, empty}
 use Rattle.market_model.specs.Optimality.{price, block_value}
-use Rattle.market_system.specs.MarketSystem.{balance_name, block_sign, needed, by_name, system_of, choice_dispatch}
+use Rattle.market_system.specs.MarketSystem.{balance_name, block_sign, needed, by_name, system_of, system_over, choice_dispatch}
 use Rattle.market_model.proofs.MarketSums.{balance-by_empty}
 use Rattle.market_system.proofs.SystemLaws.{from_places, signed-times, variable_in, variable_below, block_or_balance, is_system, raised, meets_rows, from_rows, balance_is, not_balance, balance_choice, balance_others, balance_choice_is, block_choice, block_choice_is, block_choice_high, block_is_basic, the_block_is_basic, balance_not_basic}
 use Rattle.fraction_theory.proofs.ListSums.{Distinct-increasing}
@@ -82,7 +82,7 @@ module _ (m : Parts) (p : ℕ) (inside : p < length m.blocks) (h : Choice) (is :
   left_over w = by_name m (λ j. block_sign m j *ℚ (price m p -ℚ price m j)) (neg_ℚ (price m p)) w
 
   by_left_over : (v : ℕ → Fraction) → MeetsRows (system_of m []) v → objective (system_of m []) v ≡ sum_by (λ w. left_over w *ℚ v w) (others (system_of m []) h)
-  unfolding objective system_of left_over others
+  unfolding objective system_over left_over others
   by_left_over v meets =
       let e : Fraction = price m p in
       let blocks : List ℕ = places (length m.blocks) in
@@ -129,7 +129,7 @@ module _ (m : Parts) (p : ℕ) (inside : p < length m.blocks) (h : Choice) (is :
 module _ (m : Parts) (market : IsMarket m) (x : Dispatch) (count : length x.blocks ≡ length m.blocks) (balanced : balance m x ≡ zero) (high : ℕ → Bool) where
   at_place : (h : Choice) → ((w : ℕ) → h.high w ≡ high w) → (w : ℕ) → w < length m.blocks → accepted x w ≡ (if high w then quantity m w else zero)
       → at_bound (system_of m []) h w ≡ point m market x count balanced w
-  unfolding at_bound system_of point
+  unfolding at_bound system_over point
   at_place h flags w lt e =
       ap (λ (b : Bool). if b then by_name m (quantity m) (needed m) w else by_name m (λ j. zero) (needed m) w) (flags w)
       ∙ ap₂ (λ (a b : Fraction). if high w then a else b) (by_name-block m (quantity m) (needed m) w lt) (by_name-block m (λ j. zero) (needed m) w lt)
@@ -137,7 +137,7 @@ module _ (m : Parts) (market : IsMarket m) (x : Dispatch) (count : length x.bloc
       ∙ sym (by_name-block m (accepted x) (needed m) w lt)
 
   at_balance : (h : Choice) → at_bound (system_of m []) h (balance_name m) ≡ point m market x count balanced (balance_name m)
-  unfolding at_bound system_of point
+  unfolding at_bound system_over point
   at_balance h =
       ap₂ (λ (a b : Fraction). if h.high (balance_name m) then a else b) (by_name-balance m (quantity m) (needed m)) (by_name-balance m (λ j. zero) (needed m))
       ∙ either (h.high (balance_name m)) (needed m)

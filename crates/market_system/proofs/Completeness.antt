@@ -5,6 +5,6 @@ use Rattle.market_model.specs.RightAnswers.{dispatch_in}
 use Rattle.market_model.proofs.FarkasLaw.{law_of_infeasibility}
 
 pub law_of_completeness : LawOfCompleteness
-law_of_completeness m bound (outcome.Cleared a) h fits right = record { cleared = λ x f. tt; infeasible = λ none. absurd (none (dispatch_in a) right.feasible) }
-law_of_completeness m bound (outcome.Infeasible f) h fits right = record { cleared = λ x g. absurd (law_of_infeasibility m f.duals x h right.shows g); infeasible = λ none. tt }
-law_of_completeness m bound (outcome.Range p) h fits right = absurd (fits p right)
+law_of_completeness m taken bound (outcome.Cleared a) h fits right = record { cleared = λ x f. tt; infeasible = λ none. absurd (none (dispatch_in a) right.feasible) }
+law_of_completeness m taken bound (outcome.Infeasible f) h fits right = record { cleared = λ x g. absurd (law_of_infeasibility m f.duals x h right.shows g); infeasible = λ none. tt }
+law_of_completeness m taken bound (outcome.Range p) h fits right = absurd (fits p right)

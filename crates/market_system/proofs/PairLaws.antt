@@ -67,23 +67,23 @@ module _ (m : Parts) (bare : rows m ≡ []) (h : Choice) (is : IsChoice (system_
   opposite_of kind x (inl n) = inl (of_opposite kind x n)
   opposite_of kind x (inr n) = inr (of_opposite kind x n)
 
-  pub range_of_numbers : IsPairCase Either p.op p.left p.right → IsRangeOf m bound p
+  pub range_of_numbers : IsPairCase Either p.op p.left p.right → IsRangeOf m [] bound p
   range_of_numbers c = record {
     rows = [];
-    reached = sym bare;
+    reached = ([], refl, tt);
     pair = record { passes = passes; one = h; near = h; is_choice = is; near_is_choice = is; are_near = inl refl; sides = inl c };
   }
 
-  pub range_of_money : IsMoneyCase m [] h p.op p.left p.right → IsRangeOf m bound p
+  pub range_of_money : IsMoneyCase m [] h p.op p.left p.right → IsRangeOf m [] bound p
   range_of_money c = record {
     rows = [];
-    reached = sym bare;
+    reached = ([], refl, tt);
     pair = record { passes = passes; one = h; near = h; is_choice = is; near_is_choice = is; are_near = inl refl; sides = inr c };
   }
 
 -- sums whose first terms are a quantity, whatever the choice
 module _ (m : Parts) (bare : rows m ≡ []) (h : Choice) (is : IsChoice (system_of m []) h) (bound : ℕ) (p : Passed Fraction) (terms : List Term) (numbers : (k : ℕ) → MarketNumber m [] h Quantity (prefix k terms)) where
-  pub range_of_quantities : IsAddedIn terms bound p → IsRangeOf m bound p
+  pub range_of_quantities : IsAddedIn terms bound p → IsRangeOf m [] bound p
   range_of_quantities a =
       range_of_numbers m bare h is bound p a.passes
       (next_case (OfEither (MarketNumber m []) h h) (opposite_of m bare h is bound p a.passes) Quantity terms (λ k. inl (numbers k)) p.op p.left p.right a.place a.adds a.next)
@@ -96,14 +96,14 @@ module _ (m : Parts) (bare : rows m ≡ []) (bound : ℕ) (p : Passed Fraction) 
   abbrev Numbers : Kind → Fraction → Type 0
   Numbers = OfEither (MarketNumber m []) start start
 
-  pub range_of_injection : (i : ℕ) → i < length m.buses → IsAddedIn (injection_terms m (empty m) i) bound p → IsRangeOf m bound p
+  pub range_of_injection : (i : ℕ) → i < length m.buses → IsAddedIn (injection_terms m (empty m) i) bound p → IsRangeOf m [] bound p
   range_of_injection i lt a = range_of_quantities m bare start (balance_choice_is m (λ j. false)) bound p (injection_terms m (empty m) i) (λ k. is_injection (empty m) i k (inl refl) lt) a
 
-  pub range_of_balance : IsAddedIn (balance_terms m (empty m)) bound p → IsRangeOf m bound p
+  pub range_of_balance : IsAddedIn (balance_terms m (empty m)) bound p → IsRangeOf m [] bound p
   range_of_balance a = range_of_quantities m bare start (balance_choice_is m (λ j. false)) bound p (balance_terms m (empty m)) (λ k. is_balance (empty m) k (inl refl)) a
 
   -- the whole of that, times a price of energy of 1 or -1
-  pub range_of_scaled : (energy : Fraction) → SameSize energy (whole (pos 1)) → IsRefusal Times energy (total (balance_terms m (empty m))) bound p → IsRangeOf m bound p
+  pub range_of_scaled : (energy : Fraction) → SameSize energy (whole (pos 1)) → IsRefusal Times energy (total (balance_terms m (empty m))) bound p → IsRangeOf m [] bound p
   range_of_scaled energy one r =
       range_of_numbers m bare start (balance_choice_is m (λ j. false)) bound p r.passes
       (subst (λ (o : Op). IsPairCase Numbers o p.left p.right) (sym r.same_op)
@@ -112,7 +112,7 @@ module _ (m : Parts) (bare : rows m ≡ []) (bound : ℕ) (p : Passed Fraction) 
       (alone p.right (subst (Numbers Quantity) (prefix-all (balance_terms m (empty m)) ∙ sym r.same_right) (inl (is_balance (empty m) (length (balance_terms m (empty m))) (inl refl)))))))
 
   -- the bound that shows that nothing is feasible, at such a price
-  pub range_of_farkas : (d : Duals Fraction) → SameSize d.energy (whole (pos 1)) → ShowsInfeasible m d → IsAddedIn (farkas_terms m d) bound p → IsRangeOf m bound p
+  pub range_of_farkas : (d : Duals Fraction) → SameSize d.energy (whole (pos 1)) → ShowsInfeasible m d → IsAddedIn (farkas_terms m d) bound p → IsRangeOf m [] bound p
   range_of_farkas d one shows a =
       range_of_quantities m bare start (balance_choice_is m (λ j. false)) bound p (farkas_terms m d)
       (λ k. is_farkas_bound d k (record {
@@ -126,7 +126,7 @@ module _ (m : Parts) (bare : rows m ≡ []) (bound : ℕ) (p : Passed Fraction) 
       })) a
 
   -- a bus's demand
-  pub range_of_demand : (i : ℕ) → i < length m.buses → IsRefusal Plus (whole (bus_at m i).pd) (whole (bus_at m i).gs) bound p → IsRangeOf m bound p
+  pub range_of_demand : (i : ℕ) → i < length m.buses → IsRefusal Plus (whole (bus_at m i).pd) (whole (bus_at m i).gs) bound p → IsRangeOf m [] bound p
   range_of_demand i lt r =
       range_of_numbers m bare start (balance_choice_is m (λ j. false)) bound p r.passes
       (subst (λ (o : Op). IsPairCase Numbers o p.left p.right) (sym r.same_op)
@@ -149,18 +149,18 @@ module _ (m : Parts) (bare : rows m ≡ []) (x : Dispatch) (d : Duals Fraction) 
     supported = subst₂ (Supports m) (sym chosen.dispatch) (sym chosen.duals) supported;
   }
 
-  range_of_sum : (terms : List Term) → IsMoneySum m [] chosen.choice terms → IsRefusedIn terms bound p → IsRangeOf m bound p
+  range_of_sum : (terms : List Term) → IsMoneySum m [] chosen.choice terms → IsRefusedIn terms bound p → IsRangeOf m [] bound p
   range_of_sum terms money r = range_of_money m bare chosen.choice chosen.is bound p r.passes (record { best = is_best; terms = terms; money = money; step = r.step })
 
-  pub range_of_welfare : IsRefusedIn (welfare_terms m x) bound p → IsRangeOf m bound p
+  pub range_of_welfare : IsRefusedIn (welfare_terms m x) bound p → IsRangeOf m [] bound p
   range_of_welfare r = range_of_sum (welfare_terms m x) (subst (λ (y : Dispatch). IsMoneySum m [] chosen.choice (welfare_terms m y)) chosen.dispatch of_welfare) r
 
-  pub range_of_surplus : IsRefusedIn (surplus_terms m x d) bound p → IsRangeOf m bound p
+  pub range_of_surplus : IsRefusedIn (surplus_terms m x d) bound p → IsRangeOf m [] bound p
   range_of_surplus r =
       range_of_sum (surplus_terms m x d)
       (subst₂ (λ (y : Dispatch) (e : Duals Fraction). IsMoneySum m [] chosen.choice (surplus_terms m y e)) chosen.dispatch chosen.duals of_surplus) r
 
-  pub range_of_output : (u : ℕ) → u < length m.units → IsAddedIn (output_terms m x u) bound p → IsRangeOf m bound p
+  pub range_of_output : (u : ℕ) → u < length m.units → IsAddedIn (output_terms m x u) bound p → IsRangeOf m [] bound p
   range_of_output u lt a =
       range_of_quantities m bare chosen.choice chosen.is bound p (output_terms m x u)
       (λ k. subst (λ (y : Dispatch). MarketNumber m [] chosen.choice Quantity (prefix k (output_terms m y u))) chosen.dispatch (is_output u k is_best lt)) a

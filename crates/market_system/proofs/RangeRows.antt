@@ -164,7 +164,7 @@ passes : SumPasses (2 ^ 127 - 1) too_large.left too_large.right
 unfolding SumPasses lcm gcd gcd_in whole
 passes = inr (inr (inl (Prim.omega arith)))
 
-pub big_buses-range : IsRangeOf big_buses (2 ^ 127 - 1) too_large
+pub big_buses-range : IsRangeOf big_buses [] (2 ^ 127 - 1) too_large
 big_buses-range =
     range_of_welfare big_buses (no_rows big_buses refl) all_sold at_most_price big_buses-feasible big_buses-supports big_buses-chosen (2 ^ 127 - 1) too_large
     (record {

@@ -23,7 +23,7 @@ use Rattle.market_model.specs.declared.participants.Side.{Side}
 use Rattle.market_model.specs.declared.participants.Side.TheVariants.{Sell, Buy}
 use Rattle.market_model.specs.declared.participants.Parts.{Parts}
 use Rattle.market_model.specs.Dispatch.{places, block_at, signed}
-use Rattle.market_system.specs.MarketSystem.{balance_name, block_sign, system_of}
+use Rattle.market_system.specs.MarketSystem.{balance_name, block_sign, system_of, system_over}
 use Rattle.market_model.proofs.MorePlaces.{places_more}
 
 -- the places below a number are its members
@@ -58,7 +58,7 @@ one_not_nil e = let wrong : pos 1 ≡ pos 0 = ap (λ (f : Fraction). f.num) e in
 
 module _ (m : Parts) where
   pub variables_are : (system_of m []).variables ≡ places (length m.blocks + 1)
-  unfolding system_of
+  unfolding system_over
   variables_are = sym (places_more (length m.blocks))
 
   pub variable_in : (w : ℕ) → w < length m.blocks + 1 → Contains (system_of m []).variables w
@@ -74,7 +74,7 @@ module _ (m : Parts) where
   block_or_balance w h = elim (same_or_not w (length m.blocks)) [ inl e ↦ inr e | inr n ↦ inl (Prim.omega (arith, h, n)) ]
 
   pub is_system : IsSystem (system_of m [])
-  unfolding system_of
+  unfolding system_over
   is_system = record {
     ascending = subst IsStrictlyIncreasing (places_more (length m.blocks)) (places_ascend (length m.blocks + 1));
     columns_ascend = places_ascend (length m.blocks);
@@ -93,11 +93,11 @@ module _ (m : Parts) where
   raised v = sum_by (λ j. block_sign m j *ℚ v j) (places (length m.blocks))
 
   pub meets_rows : (v : ℕ → Fraction) → v (balance_name m) ≡ raised v → MeetsRows (system_of m []) v
-  unfolding system_of activity
+  unfolding system_over activity
   meets_rows v e = record { row = λ r c. ap v (the_row r c) ∙ e }
 
   pub from_rows : (v : ℕ → Fraction) → MeetsRows (system_of m []) v → v (balance_name m) ≡ raised v
-  unfolding system_of activity
+  unfolding system_over activity
   from_rows v h = h.row (balance_name m) (Contains-head (balance_name m) [])
 
   pub balance_is : (w : ℕ) → w ≡ balance_name m → (w == balance_name m) ≡ true
@@ -112,7 +112,7 @@ module _ (m : Parts) where
 
   module _ (high : ℕ → Bool) where
     pub balance_others : others (system_of m []) (balance_choice high) ≡ places (length m.blocks)
-    unfolding others system_of
+    unfolding others system_over
     balance_others =
         filter-append (λ w. not (w == balance_name m)) (places (length m.blocks)) (balance_name m ∷ [])
         ∙ ap₂ ◌++◌

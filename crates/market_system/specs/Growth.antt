@@ -28,7 +28,6 @@ GrowsBy m old (r ∷ more) = ((x : Dispatch) × BestFor m old x × Broken m x r)
 abbrev pub Growth : Parts → List Row → List Row → Type 0
 Growth m old new = (more : List Row) × (new ≡ old ++ more) × GrowsBy m old more
 
--- The rows that a clear may stand on, after those taken before it. As long as all rows are taken at once, whatever was
--- taken before, these are the rows of the market.
+-- the rows that a clear may stand on, after those taken before it
 abbrev pub Reached : Parts → List Row → List Row → Type 0
-Reached m taken g = g ≡ rows m
+Reached m taken g = Growth m taken g

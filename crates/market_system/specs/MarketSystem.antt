@@ -2,7 +2,7 @@
 -- activity of a limit row is what the blocks add to its flow.
 -- Source: linear programs with bounded variables (Chvátal, Linear Programming), for the economic dispatch of Wood and
 -- Wollenberg; the form is own.
-use Rattle.std.specs.Prelude.{ℕ, ◌+◌, pos, Bool, true, false, List, [], ◌∷◌, ◌++◌, ◌==◌, ◌&&◌, if◌then◌else◌, length, map}
+use Rattle.std.specs.Prelude.{ℕ, ◌+◌, pos, Bool, true, false, List, [], ◌∷◌, ◌++◌, ◌==◌, ◌&&◌, ◌||◌, if◌then◌else◌, length, map, filter}
 use Rattle.std.specs.List.{flat_map, position_or_len}
 use Rattle.fraction_theory.specs.Fraction.{Fraction, whole, neg_ℚ, ◌-ℚ◌}
 use Rattle.fraction_theory.specs.Signs.{sign_of}
@@ -23,7 +23,6 @@ use Rattle.market_model.specs.Optimality.{block_value}
 abbrev pub balance_name : Parts → ℕ
 balance_name m = length m.blocks
 
--- a row's place among those of the market
 abbrev pub same_cause : Cause → Cause → Bool
 same_cause Base Base = true
 same_cause Base (After k) = false
@@ -33,6 +32,17 @@ same_cause (After j) (After k) = j == k
 abbrev pub same_row : Row → Row → Bool
 same_row a b = (a.line == b.line) && same_cause a.cause b.cause
 
+-- whether a row is in a list
+abbrev pub is_in : List Row → Row → Bool
+is_in [] r = false
+is_in (t ∷ ts) r = same_row t r || is_in ts r
+
+-- the rows of a list in the market's order, and none of an empty one
+abbrev pub in_order : Parts → List Row → List Row
+in_order m [] = []
+in_order m (t ∷ ts) = filter (is_in (t ∷ ts)) (rows m)
+
+-- a row's name: its place among those of the market, behind the blocks and the balance
 abbrev pub row_name : Parts → Row → ℕ
 row_name m r = length m.blocks + 1 + position_or_len (same_row r) (rows m)
 
@@ -69,17 +79,21 @@ abbrev pub bound_by : Parts → (Row → Fraction) → (ℕ → Fraction) → Li
 bound_by m of_row others [] w = others w
 bound_by m of_row others (r ∷ rs) w = if w == row_name m r then of_row r else bound_by m of_row others rs w
 
--- the system of a market over a list of limit rows
-unfoldable pub system_of : Parts → List Row → System
-system_of m g = record {
-  variables = places (length m.blocks) ++ (balance_name m ∷ map (row_name m) g);
+-- the system of a market over limit rows that are in its order
+unfoldable pub system_over : Parts → List Row → System
+system_over m rs = record {
+  variables = places (length m.blocks) ++ (balance_name m ∷ map (row_name m) rs);
   columns = places (length m.blocks);
-  rows = balance_name m ∷ map (row_name m) g;
-  coefficient = coefficient_by m g;
+  rows = balance_name m ∷ map (row_name m) rs;
+  coefficient = coefficient_by m rs;
   price = block_value m;
-  low = bound_by m (least_added m) (by_name m (λ j. zero) (needed m)) g;
-  high = bound_by m (most_added m) (by_name m (quantity m) (needed m)) g;
+  low = bound_by m (least_added m) (by_name m (λ j. zero) (needed m)) rs;
+  high = bound_by m (most_added m) (by_name m (quantity m) (needed m)) rs;
 }
+
+-- the system of a market over a list of limit rows, whatever the order of the list
+abbrev pub system_of : Parts → List Row → System
+system_of m g = system_over m (in_order m g)
 
 -- the dispatch of a choice: the values of the blocks
 abbrev pub choice_dispatch : Parts → List Row → Choice → Dispatch
@@ -94,6 +108,7 @@ dual_by id x Above = record { row = id; up = x; down = zero } ∷ []
 abbrev pub choice_dual : Parts → List Row → Choice → Row → List (Dual Fraction)
 choice_dual m g h r = dual_by (row_id m r) (reduced (system_of m g) h (row_name m r)) (sign_of (reduced (system_of m g) h (row_name m r)))
 
--- the duals of a choice: the price of energy is the opposite of the reduced price of the balance, and the prices of the rows are by theirs
+-- the duals of a choice: the price of energy is the opposite of the reduced price of the balance, and the prices of the rows are by theirs,
+-- in the market's order
 abbrev pub choice_duals : Parts → List Row → Choice → Duals Fraction
-choice_duals m g h = record { energy = neg_ℚ (reduced (system_of m g) h (balance_name m)); limits = flat_map (choice_dual m g h) g }
+choice_duals m g h = record { energy = neg_ℚ (reduced (system_of m g) h (balance_name m)); limits = flat_map (choice_dual m g h) (in_order m g) }

@@ -1,7 +1,7 @@
 -- Working pairs of a market: two of its numbers that clearing it may have to combine, and whose outcome passes the bound of
 -- a type of numbers. An answer that numbers became too large names one.
 -- Source: own.
-use Rattle.std.specs.Prelude.{ℕ, List, [], ◌⊎◌}
+use Rattle.std.specs.Prelude.{ℕ, List, ◌⊎◌}
 use Rattle.std.specs.List.{Contains}
 use Rattle.fraction_theory.specs.Fraction.{Fraction}
 use Rattle.fraction_theory.specs.Sums.{Term}
@@ -43,12 +43,12 @@ pub record IsWorkingPair (m : Parts) (rows : List Row) (bound : ℕ) (op : Op) (
   pub are_near : AreNear (system_of m rows) one near
   pub sides : IsPairCase (OfEither (MarketNumber m rows) one near) op left right ⊎ IsMoneyCase m rows one op left right
 
--- a working pair of the market over rows that a clear with none taken before may stand on
-pub record IsRangeOf (m : Parts) (bound : ℕ) (p : Passed Fraction) : Type 0 where
+-- a working pair of the market over rows that a clear may stand on, after those taken before it
+pub record IsRangeOf (m : Parts) (taken : List Row) (bound : ℕ) (p : Passed Fraction) : Type 0 where
   pub rows : List Row
-  pub reached : Reached m [] rows
+  pub reached : Reached m taken rows
   pub pair : IsWorkingPair m rows bound p.op p.left p.right
 
--- no working pair of the market passes the bound
-abbrev pub NoPairPasses : Parts → ℕ → Type 0
-NoPairPasses m bound = (p : Passed Fraction) → ¬ (IsRangeOf m bound p)
+-- no working pair of the market over rows that such a clear may stand on passes the bound
+abbrev pub NoPairPasses : Parts → List Row → ℕ → Type 0
+NoPairPasses m taken bound = (p : Passed Fraction) → ¬ (IsRangeOf m taken bound p)

@@ -193,7 +193,7 @@ answered value m bare market energy filled ds filled_count fills all count each 
 
 -- what is refused in its welfare and in its settlement
 module _ (m : Parts) (bare : rows m ≡ []) (x : Dispatch) (d : Duals Fraction) (answer : IsAnswered m x d) (bound : ℕ) where
-  pub welfare_cause : (p : Passed Fraction) → IsRefusedIn (welfare_terms m x) bound p → IsRangeOf m bound p
+  pub welfare_cause : (p : Passed Fraction) → IsRefusedIn (welfare_terms m x) bound p → IsRangeOf m [] bound p
   welfare_cause p r = range_of_welfare m bare x d answer.feasible answer.supported answer.chosen bound p r
 
   module _ (price : ℕ → Fraction) (market : IsMarket m) (prices : (i : ℕ) → i < length m.buses → price i ≡ bus_price m d i) where
@@ -229,7 +229,7 @@ module _ (m : Parts) (bare : rows m ≡ []) (x : Dispatch) (d : Duals Fraction) 
         multiplied_at (surplus_terms m x d) (map f (places i)) (r.0 ++ units) (f i) (in_front (map f (places (length m.buses))) (map f (places i)) r.0 units (f i) r.1) bound p
         (price i) (demand m i) (bus_price m d i) (demand m i) refl (inl (prices i lt)) (inl refl) h
 
-    pub paying_cause : (p : Passed Fraction) → IsPayingRefusal m x bound price p → IsRangeOf m bound p
+    pub paying_cause : (p : Passed Fraction) → IsPayingRefusal m x bound price p → IsRangeOf m [] bound p
     paying_cause p (of_unit u lt (inl h)) = range_of_output m bare x d answer.feasible answer.supported answer.chosen bound p u lt h
     paying_cause p (of_unit u lt (inr h)) = range_of_surplus m bare x d answer.feasible answer.supported answer.chosen bound p (unit_product u lt p h)
     paying_cause p (of_load i lt (inl h)) = range_of_demand m bare bound p i lt h

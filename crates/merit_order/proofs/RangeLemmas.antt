@@ -39,7 +39,7 @@ of_one energy side h = subst (λ (e : Fraction). SameSize e (whole (pos 1))) (sy
 module _ (m : Parts) (bare : rows m ≡ []) (bound : ℕ) (p : Passed Fraction) where
   -- the fixed part of a unit at a bus
   pub fixed_refused : (i k : ℕ) (u : unit.Unit) (sum : Fraction) → i < length m.buses → k < length m.units → u ≡ unit_at m k → (u.bus == i) ≡ true → sum ≡ fixed_to m i k
-      → IsRefusal Plus sum (whole u.fixed) bound p → IsRangeOf m bound p
+      → IsRefusal Plus sum (whole u.fixed) bound p → IsRangeOf m [] bound p
   fixed_refused i k u sum lt below same stands is h =
       let test : ℕ → Bool = λ v. (unit_at m v).bus == i in
       let blocks : List Term = map (block_term m (empty m)) (blocks_at m i) in
@@ -86,12 +86,12 @@ module _ (m : Parts) (bare : rows m ≡ []) (bound : ℕ) (p : Passed Fraction) 
         ∙ sym (total-append (unit_terms ++ block_terms) (load ∷ []))))
         ((ap (λ (b : Bus). whole b.gs) same ∙ sym (neg_neg ring_ℚ (whole (bus_at m i).gs)))) r
 
-    pub demand_refused : IsDemandRefusal injection bus bound p → IsRangeOf m bound p
+    pub demand_refused : IsDemandRefusal injection bus bound p → IsRangeOf m [] bound p
     demand_refused (inl r) = range_of_injection m bare bound p i lt (load_added r)
     demand_refused (inr r) = range_of_injection m bare bound p i lt (shunt_added r)
 
   -- the injection of a bus
-  pub injection_refused : (k : ℕ) (sum : Fraction) → k < length m.buses → sum ≡ balance_to m k → IsRefusal Plus sum (injection_of m (empty m) k) bound p → IsRangeOf m bound p
+  pub injection_refused : (k : ℕ) (sum : Fraction) → k < length m.buses → sum ≡ balance_to m k → IsRefusal Plus sum (injection_of m (empty m) k) bound p → IsRangeOf m [] bound p
   injection_refused k sum below is h =
       let r = terms_at (λ i. Plain (injection_of m (empty m) i)) (length m.buses) k below in
       range_of_balance m bare bound p
@@ -99,7 +99,7 @@ module _ (m : Parts) (bare : rows m ≡ []) (bound : ℕ) (p : Passed Fraction) 
       bound p sum (injection_of m (empty m) k) is refl h)
 
   -- the balance at the price of energy
-  pub balance_refused : (energy : Fraction) (side : Side) → IsEnergyOfOne energy side → IsRefusal Times energy (balance m (empty m)) bound p → IsRangeOf m bound p
+  pub balance_refused : (energy : Fraction) (side : Side) → IsEnergyOfOne energy side → IsRefusal Times energy (balance m (empty m)) bound p → IsRangeOf m [] bound p
   unfolding balance
   balance_refused energy side one h = range_of_scaled m bare bound p energy (of_one energy side one) h
 
@@ -113,7 +113,7 @@ module _ (m : Parts) (bare : rows m ≡ []) (bound : ℕ) (p : Passed Fraction) 
 
     -- a block of the bound
     pub block_refused : (k : ℕ) (block : Block) (sum : Fraction) → ShowsInfeasible m (energy_alone energy) → k < length m.blocks → block ≡ block_at m k → same_side block.side side ≡ true
-        → sum ≡ bound_to m energy side k → IsRefusal Plus sum (whole block.quantity) bound p → IsRangeOf m bound p
+        → sum ≡ bound_to m energy side k → IsRefusal Plus sum (whole block.quantity) bound p → IsRangeOf m [] bound p
     block_refused k block sum shows below same counts is h =
         let d = energy_alone energy in
         let f : ℕ → Term = λ j. Product (part_above (block_weight m d j)) (quantity m j) in

@@ -57,5 +57,5 @@ IsPlainPrice energy = (energy ≡ whole (pos 1)) ⊎ (energy ≡ whole (negsuc 0
 -- became too large, the two are a working pair of the market
 abbrev pub IsCauseOf : {N : Type 0} → (N → Fraction) → ℕ → Parts → ClearFault N → Type 0
 IsCauseOf value bound m (why.Infeasible farkas) = IsFarkas m (farkas_at value farkas) × IsPlainPrice (value farkas.duals.energy)
-IsCauseOf value bound m (why.Range passed) = IsRangeOf m bound (passed_at value passed)
+IsCauseOf value bound m (why.Range passed) = IsRangeOf m [] bound (passed_at value passed)
 IsCauseOf value bound m why.Memory = Unit {0}

@@ -61,7 +61,7 @@ fn empty_injection<N: Exact>(market: &Market, place: usize) -> Result<N, Passed<
     requires place { place < length market.now.buses }
     requires bare { market.now.lines ≡ [] }
     ensures injection { IfOk result (λ injection. N.value injection ≡ injection_of market.now (empty market.now) place) }
-    ensures cause { IfErr result (λ passed. IsRangeOf market.now N.bound (passed_at N.value passed)) }
+    ensures cause { IfErr result (λ passed. IsRangeOf market.now [] N.bound (passed_at N.value passed)) }
 {
     let mut injection: N = datum(0);
     for unit in market.units().slice() {
@@ -74,7 +74,7 @@ fn empty_injection<N: Exact>(market: &Market, place: usize) -> Result<N, Passed<
 fn empty_balance<N: Exact>(market: &Market) -> Result<N, Passed<N>>
     requires bare { market.now.lines ≡ [] }
     ensures balance { IfOk result (λ balance. N.value balance ≡ balance_of market.now (empty market.now)) }
-    ensures cause { IfErr result (λ passed. IsRangeOf market.now N.bound (passed_at N.value passed)) }
+    ensures cause { IfErr result (λ passed. IsRangeOf market.now [] N.bound (passed_at N.value passed)) }
 {
     let mut balance: N = datum(0);
     for place in 0..market.buses().len() {
@@ -106,7 +106,7 @@ fn bound<N: Exact>(market: &Market, energy: N, side: Side) -> Result<N, Passed<N
     requires bare { market.now.lines ≡ [] }
     requires shows { ShowsInfeasible market.now (energy_alone (N.value energy)) }
     ensures bound { IfOk result (λ bound. N.value bound ≡ bound_by market.now (N.value energy) side) }
-    ensures cause { IfErr result (λ passed. IsRangeOf market.now N.bound (passed_at N.value passed)) }
+    ensures cause { IfErr result (λ passed. IsRangeOf market.now [] N.bound (passed_at N.value passed)) }
 {
     let mut bound = energy.times(empty_balance(market)?)?;
     for block in market.blocks().slice() {
@@ -136,7 +136,7 @@ pub fn farkas<N: Exact>(alloc: Global, market: &Market, short: bool) -> Result<F
     ensures energy { IfOk result (λ farkas. N.value farkas.duals.energy ≡ whole (plain_energy short)) }
     ensures limits { IfOk result (λ farkas. farkas.duals.limits ≡ []) }
     ensures bound { IfOk result (λ farkas. N.value farkas.bound ≡ farkas_bound market.now (duals_at N.value farkas.duals)) }
-    ensures cause { IfErr result (λ passed. IsRangeOf market.now N.bound (passed_at N.value passed)) }
+    ensures cause { IfErr result (λ passed. IsRangeOf market.now [] N.bound (passed_at N.value passed)) }
 {
     let energy: N = energy_of_one(short);
     let side = weighing_side(short);

@@ -1,5 +1,5 @@
 -- A text and a status that are right decide whether a dispatch is feasible, where no working pair passes the bound.
-use Rattle.std.specs.Prelude.{◌≡◌, ℕ, true, false, List, Option, Some, None, Ok}
+use Rattle.std.specs.Prelude.{◌≡◌, ℕ, true, false, List, [], Option, Some, None, Ok}
 use Rattle.std.proofs.Common.{refl, sym, subst, ◌∙◌}
 use Rattle.fraction_theory.specs.Fraction.{Fraction}
 use Rattle.outside_store.specs.Files.{Files}
@@ -32,9 +32,9 @@ infeasible-told (outcome.Range p) h = elim h [ ]
 abbrev Decides : Parts → Status → Type 0
 Decides m s = ((x : Dispatch) → Feasible m x → s ≡ status.Done) × (((x : Dispatch) → ¬ (Feasible m x)) → s ≡ status.Infeasible)
 
-comes-decided : (m : Parts) (s : Status) (text : List ℕ) → ComesTo (Ok m) s text → NoPairPasses m most_size → Decides m s
+comes-decided : (m : Parts) (s : Status) (text : List ℕ) → ComesTo (Ok m) s text → NoPairPasses m [] most_size → Decides m s
 comes-decided m s text (market, (o, right, plain, is, told)) none =
-    let decided : IsDecided m o = law_of_completeness m most_size o market none right in
+    let decided : IsDecided m o = law_of_completeness m [] most_size o market none right in
     (λ x feasible. is ∙ cleared-done o (decided.cleared x feasible), λ empty. is ∙ infeasible-told o (decided.infeasible empty))
 
 same-bytes : (a b : List ℕ) → Some a ≡ Some b → a ≡ b
@@ -59,7 +59,7 @@ answers-decided (Some files) words s text (pooled case_asked offers_asked asked 
 }
   where
     by_files : (case offers case_bytes offers_bytes : List ℕ) (m : Parts) → files case ≡ Some case_bytes → files offers ≡ Some offers_bytes → pool_market case_bytes offers_bytes ≡ Ok m
-        → NoPairPasses m most_size → ((c o : List ℕ) × (files case ≡ Some c) × (files offers ≡ Some o) × ComesTo (pool_market c o) s text) → Decides m s
+        → NoPairPasses m [] most_size → ((c o : List ℕ) × (files case ≡ Some c) × (files offers ≡ Some o) × ComesTo (pool_market c o) s text) → Decides m s
     by_files case offers case_bytes offers_bytes m case_is offers_is market_is none (c, o, c_is, o_is, comes) =
         let same_case : c ≡ case_bytes = same-bytes c case_bytes (sym c_is ∙ case_is) in
         let same_offers : o ≡ offers_bytes = same-bytes o offers_bytes (sym o_is ∙ offers_is) in

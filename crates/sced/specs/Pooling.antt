@@ -1,5 +1,5 @@
 -- What the bytes of a case and of offers stand for, and the text that is right for them.
-use Rattle.std.specs.Prelude.{◌≡◌, ℕ, List, Option, Some, None, Result, Ok, Err, ◌-◌, ◌^◌}
+use Rattle.std.specs.Prelude.{◌≡◌, ℕ, List, [], Option, Some, None, Result, Ok, Err, ◌-◌, ◌^◌}
 use Rattle.fraction_theory.specs.Fraction.{Fraction}
 use Rattle.outside_store.specs.Files.{Files}
 use Rattle.market_model.specs.declared.participants.Parts.{Parts}
@@ -31,7 +31,7 @@ HasPlainPrice (outcome.Range p) = Unit {0}
 -- dispatch is feasible, by a price of energy of 1 or -1, or of two numbers
 -- of the market whose outcome passes the bound.
 abbrev pub ClearsTo : ℕ → Parts → Status → List ℕ → Type 0
-ClearsTo bound m s text = (o : Outcome Fraction) × IsRightOutcome bound m o × HasPlainPrice o × (s ≡ status_of o) × (text ≡ report_text m o)
+ClearsTo bound m s text = (o : Outcome Fraction) × IsRightOutcome bound m [] o × HasPlainPrice o × (s ≡ status_of o) × (text ≡ report_text m o)
 
 -- the greatest size of a numerator or denominator: that of 127 bits
 abbrev pub most_size : ℕ

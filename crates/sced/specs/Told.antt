@@ -1,5 +1,5 @@
 -- What is right to tell of the words of a run and of the files that they name.
-use Rattle.std.specs.Prelude.{◌≡◌, ◌⊎◌, ℕ, List, Option, Some, None, Ok, codes}
+use Rattle.std.specs.Prelude.{◌≡◌, ◌⊎◌, ℕ, List, [], Option, Some, None, Ok, codes}
 use Rattle.outside_store.specs.Causes.{Rose}
 use Rattle.outside_store.specs.Files.{Files, Reads}
 use Rattle.market_model.specs.declared.participants.Parts.{Parts}
@@ -65,7 +65,7 @@ pub data AnswersTo (files : Option Files) (words : List (List ℕ)) (s : Status)
 -- dispatch of it is feasible.
 pub record IsDecidedIn (files : Files) (words : List (List ℕ)) (s : Status) : Type 0 where
   pub decided : (case offers case_bytes offers_bytes : List ℕ) (m : Parts) → AsksPool words case offers → files case ≡ Some case_bytes → files offers ≡ Some offers_bytes
-      → pool_market case_bytes offers_bytes ≡ Ok m → NoPairPasses m most_size → ((x : Dispatch) → Feasible m x → s ≡ status.Done) × (((x : Dispatch) → ¬ (Feasible m x)) → s ≡ status.Infeasible)
+      → pool_market case_bytes offers_bytes ≡ Ok m → NoPairPasses m [] most_size → ((x : Dispatch) → Feasible m x → s ≡ status.Done) × (((x : Dispatch) → ¬ (Feasible m x)) → s ≡ status.Infeasible)
 
 -- so it is where the store tells its files
 abbrev pub IsDecidedOf : Option Files → List (List ℕ) → Status → Type 0

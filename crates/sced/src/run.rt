@@ -41,7 +41,7 @@ struct Outcome {
 fn cleared<N: Exact>(alloc: Global, market: &Market) -> Result<Clearing<N>, Memory>
     requires bare { market.now.lines ≡ [] }
     ensures fits { IfOk result (λ outcome. FitsOutcome market.now outcome) }
-    ensures right { IfOk result (λ outcome. IsRightOutcome N.bound market.now (outcome_at N.value outcome)) }
+    ensures right { IfOk result (λ outcome. IsRightOutcome N.bound market.now [] (outcome_at N.value outcome)) }
     ensures price { IfOk result (λ outcome. HasPlainPrice (outcome_at N.value outcome)) }
 {
     match clear(alloc, market) {
