@@ -1,4 +1,5 @@
 pub mod ChoiceLaws
 pub mod ExchangeLaws
+pub mod Multipliers
 pub mod PairLaws
 pub mod Rows

@@ -1,5 +1,7 @@
 pub mod BlockChoices
 pub mod Completeness
+pub mod MarketPoints
 pub mod PairLaws
 mod RangeRows
+pub mod RowOrder
 pub mod SystemLaws

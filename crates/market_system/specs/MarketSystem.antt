@@ -62,10 +62,14 @@ by_name m x y w = if w == balance_name m then y else x w
 abbrev pub block_coefficient : Parts → Row → ℕ → Fraction
 block_coefficient m r j = signed (block_at m j).side (row_factor m r (block_bus m j))
 
+-- what is said of the row of a name, where one of these rows has it
+abbrev pub of_name : {X : Type 0} → Parts → (Row → X) → X → List Row → ℕ → X
+of_name m said other [] w = other
+of_name m said other (r ∷ rs) w = if w == row_name m r then said r else of_name m said other rs w
+
 -- the coefficient of a block in the row of a name: that of the limit row that has it, and else that of the balance
 abbrev pub coefficient_by : Parts → List Row → ℕ → ℕ → Fraction
-coefficient_by m [] w j = block_sign m j
-coefficient_by m (r ∷ rs) w j = if w == row_name m r then block_coefficient m r j else coefficient_by m rs w j
+coefficient_by m rs w j = of_name m (λ r. block_coefficient m r j) (block_sign m j) rs w
 
 -- what the blocks may add to the flow of a row, which is what nothing accepted leaves of its limit on either side
 abbrev pub least_added : Parts → Row → Fraction
@@ -76,8 +80,7 @@ most_added m r = limit m r -ℚ flow m (empty m) r
 
 -- a bound by name: that of the limit row that has it, and else one for blocks and the balance
 abbrev pub bound_by : Parts → (Row → Fraction) → (ℕ → Fraction) → List Row → ℕ → Fraction
-bound_by m of_row others [] w = others w
-bound_by m of_row others (r ∷ rs) w = if w == row_name m r then of_row r else bound_by m of_row others rs w
+bound_by m of_row others rs w = of_name m of_row (others w) rs w
 
 -- the system of a market over limit rows that are in its order
 unfoldable pub system_over : Parts → List Row → System
