@@ -1,5 +1,6 @@
 pub mod BlockChoices
 pub mod Completeness
+pub mod DualLists
 pub mod MarketPoints
 pub mod PairLaws
 mod RangeRows

@@ -13,11 +13,11 @@ use Rattle.market_model.specs.LimitRows.{Cause, Base, After, Row, rows}
 use Rattle.market_system.specs.MarketSystem.{same_cause, same_row, is_in, in_order, row_name}
 
 -- ---- rows that are one
-and_true : (b c : Bool) → (b && c) ≡ true → (b ≡ true) × (c ≡ true)
+pub and_true : (b c : Bool) → (b && c) ≡ true → (b ≡ true) × (c ≡ true)
 and_true true c h = (refl, h)
 and_true false c h = absurd Prim.cc
 
-same_number : (a b : ℕ) → (a == b) ≡ true → a ≡ b
+pub same_number : (a b : ℕ) → (a == b) ≡ true → a ≡ b
 same_number a b h = elim (eqb_tells a b) [ inl t ↦ t.1 | inr t ↦ let wrong : false ≡ true = sym t.0 ∙ h in absurd cc ]
 
 number_itself : (a : ℕ) → (a == a) ≡ true
@@ -42,7 +42,7 @@ same_row-is a b h =
 pub same_row-itself : (a : Row) → same_row a a ≡ true
 same_row-itself a = ap₂ ◌&&◌ (number_itself a.line) (same_cause-itself a.cause)
 
-same_row-not : (a b : Row) → a ≢ b → same_row a b ≡ false
+pub same_row-not : (a b : Row) → a ≢ b → same_row a b ≡ false
 same_row-not a b n = by (same_row a b) refl
   where
     by : (t : Bool) → same_row a b ≡ t → same_row a b ≡ false

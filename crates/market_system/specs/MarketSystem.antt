@@ -102,16 +102,18 @@ system_of m g = system_over m (in_order m g)
 abbrev pub choice_dispatch : Parts → List Row → Choice → Dispatch
 choice_dispatch m g h = record { blocks = map (value (system_of m g) h) (places (length m.blocks)) }
 
--- the prices of a row by its reduced price: of the upper side where that is above 0, of the lower one where it is below
+-- the prices of a row by what a MW on its flow costs: of the upper side where that is above 0, of the lower one where it is below
 abbrev pub dual_by : RowId → Fraction → Sign → List (Dual Fraction)
 dual_by id x Below = record { row = id; up = zero; down = neg_ℚ x } ∷ []
 dual_by id x Zero = []
 dual_by id x Above = record { row = id; up = x; down = zero } ∷ []
 
-abbrev pub choice_dual : Parts → List Row → Choice → Row → List (Dual Fraction)
-choice_dual m g h r = dual_by (row_id m r) (reduced (system_of m g) h (row_name m r)) (sign_of (reduced (system_of m g) h (row_name m r)))
+-- duals with a price of energy, and for each of these rows the prices of its two sides by what a MW on its flow costs; a row for which that
+-- is 0 is not named
+abbrev pub duals_by : Parts → Fraction → (Row → Fraction) → List Row → Duals Fraction
+duals_by m energy cost rs = record { energy = energy; limits = flat_map (λ r. dual_by (row_id m r) (cost r) (sign_of (cost r))) rs }
 
 -- the duals of a choice: the price of energy is the opposite of the reduced price of the balance, and the prices of the rows are by theirs,
 -- in the market's order
 abbrev pub choice_duals : Parts → List Row → Choice → Duals Fraction
-choice_duals m g h = record { energy = neg_ℚ (reduced (system_of m g) h (balance_name m)); limits = flat_map (choice_dual m g h) (in_order m g) }
+choice_duals m g h = duals_by m (neg_ℚ (reduced (system_of m g) h (balance_name m))) (λ r. reduced (system_of m g) h (row_name m r)) (in_order m g)

@@ -1,0 +1,374 @@
+-- Duals that are made of what a MW on the flow of each row costs.
+use Rattle.std.specs.Prelude.{◌≡◌, ◌≢◌, ℕ, ◌+◌, ◌<◌, ◌==◌, ◌&&◌, ◌||◌, pos, Bool, true, false, List, [], ◌∷◌, ◌++◌, length, map, filter, if◌then◌else◌, All, AllPairs, Contains, cond, refl, ◌⊎◌}
+use Rattle.std.specs.List.{flat_map}
+use Rattle.std.proofs.Common.{zero, suc, arith, ap, ap₂, sym, ◌∙◌, subst, inl, inr, get_or}
+use Rattle.std.proofs.lemmas.Bool.Decides.{eqb_tells}
+use Rattle.std.proofs.lemmas.List.Elements.{All-append, All-cons, All-nil}
+use Rattle.fraction_theory.specs.Fraction.{Fraction, whole, neg_ℚ, ◌-ℚ◌}
+use Rattle.fraction_theory.specs.Order.{◌≤ℚ◌, ◌<ℚ◌}
+use Rattle.fraction_theory.specs.Signs.{sign_of}
+use Rattle.fraction_theory.specs.declared.Sign.{Sign}
+use Rattle.fraction_theory.specs.declared.Sign.TheVariants.{Below, Zero, Above}
+use Rattle.fraction_theory.proofs.Ring.{by_ring, by_ring1, at, pnil, pone, pneg, ◌⊕◌}
+use Rattle.fraction_theory.proofs.FieldLaws.{ring_ℚ}
+use Rattle.fraction_theory.proofs.OrderLaws.{≤ℚ_refl, <ℚ-≤ℚ, <ℚ_irrefl}
+use Rattle.fraction_theory.proofs.SignLaws.{sign_of_is}
+use Rattle.fraction_theory.proofs.ListSums.{Contains-head, Contains-cons, Contains-cases, filter-members}
+use Rattle.simplex_theory.proofs.Signs.{neg_above}
+use Rattle.market_model.specs.declared.answered.Dual.{Dual}
+use Rattle.market_model.specs.declared.answered.Duals.{Duals}
+use Rattle.market_model.specs.declared.answered.RowId.{RowId}
+use Rattle.market_model.specs.declared.participants.Parts.{Parts}
+use Rattle.market_model.specs.Dispatch.{zero as nil}
+use Rattle.market_model.specs.LimitRows.{Row, rows, row_id}
+use Rattle.market_model.specs.Optimality.{same_id, up_in, down_in, up_of, down_of, pull, is_named, named_rows, IsOneSided, ProperDuals}
+use Rattle.market_system.specs.MarketSystem.{same_row, is_in, in_order, dual_by, duals_by}
+use Rattle.market_system.proofs.RowOrder.{RowsApart, row_or_not, is_in-in, is_in-from, in_order-in, in_order-from, and_true, same_number, same_row-not, same_row-itself}
+
+-- rows of a market have different names
+abbrev pub NamesApart : Parts → Type 0
+NamesApart m = AllPairs (λ (a b : Row). row_id m a ≢ row_id m b) (rows m)
+
+pub rows_apart : (m : Parts) → NamesApart m → RowsApart m
+rows_apart m names i j d lt h e = names i j d lt h (ap (row_id m) e)
+
+same_id-is : (a b : RowId) → same_id a b ≡ true → a ≡ b
+same_id-is a b h =
+    let both = and_true (a.branch == b.branch) (a.outage == b.outage) h in
+    let make : ℕ → ℕ → RowId = λ x y. record { branch = x; outage = y } in
+    ap₂ make (same_number a.branch b.branch both.0) (same_number a.outage b.outage both.1)
+
+same_id-itself : (a : RowId) → same_id a a ≡ true
+same_id-itself a = ap₂ ◌&&◌ (itself a.branch) (itself a.outage)
+  where
+    itself : (n : ℕ) → (n == n) ≡ true
+    itself n = elim (eqb_tells n n) [ inl t ↦ t.0 | inr t ↦ absurd (t.1 refl) ]
+
+same_id-not : (a b : RowId) → a ≢ b → same_id a b ≡ false
+same_id-not a b n = by (same_id a b) refl
+  where
+    by : (t : Bool) → same_id a b ≡ t → same_id a b ≡ false
+    by true e = absurd (n (same_id-is a b e))
+    by false e = e
+
+-- ---- the two prices by the sign of a cost
+pub up_by : Sign → Fraction → Fraction
+up_by Below x = nil
+up_by Zero x = nil
+up_by Above x = x
+
+pub down_by : Sign → Fraction → Fraction
+down_by Below x = neg_ℚ x
+down_by Zero x = nil
+down_by Above x = nil
+
+-- whether a row of this sign is named
+named_by : Sign → Bool
+named_by Below = true
+named_by Zero = false
+named_by Above = true
+
+pub up_less_down : (x : Fraction) → up_by (sign_of x) x -ℚ down_by (sign_of x) x ≡ x
+unfolding up_by down_by
+up_less_down x = by (sign_of x) refl
+  where
+    by : (s : Sign) → s ≡ sign_of x → up_by s x -ℚ down_by s x ≡ x
+    by Below e = by_ring ring_ℚ (x ∷ []) (pnil ⊕ pneg (pneg (at 0))) (at 0) refl
+    by Zero e = by_ring ring_ℚ [] (pnil ⊕ pneg pnil) pnil refl ∙ sym (sign_of_is x Zero e)
+    by Above e = by_ring ring_ℚ (x ∷ []) (at 0 ⊕ pneg pnil) (at 0) refl
+
+neg_is_above : (x : Fraction) → x <ℚ nil → nil <ℚ neg_ℚ x
+neg_is_above x l = subst (λ t. t <ℚ neg_ℚ x) (by_ring ring_ℚ [] (pneg pnil) pnil refl) (neg_above x nil l)
+
+pub up_sign : (x : Fraction) → nil ≤ℚ up_by (sign_of x) x
+unfolding up_by
+up_sign x = by (sign_of x) refl
+  where
+    by : (s : Sign) → s ≡ sign_of x → nil ≤ℚ up_by s x
+    by Below e = ≤ℚ_refl nil
+    by Zero e = ≤ℚ_refl nil
+    by Above e = <ℚ-≤ℚ nil x (sign_of_is x Above e)
+
+pub down_sign : (x : Fraction) → nil ≤ℚ down_by (sign_of x) x
+unfolding down_by
+down_sign x = by (sign_of x) refl
+  where
+    by : (s : Sign) → s ≡ sign_of x → nil ≤ℚ down_by s x
+    by Below e = <ℚ-≤ℚ nil (neg_ℚ x) (neg_is_above x (sign_of_is x Below e))
+    by Zero e = ≤ℚ_refl nil
+    by Above e = ≤ℚ_refl nil
+
+-- a price of the upper side is that of a cost above 0, one of the lower side that of a cost below 0
+pub up_costs : (x : Fraction) → nil <ℚ up_by (sign_of x) x → nil <ℚ x
+unfolding up_by
+up_costs x = by (sign_of x) refl
+  where
+    by : (s : Sign) → s ≡ sign_of x → nil <ℚ up_by s x → nil <ℚ x
+    by Below e l = absurd (<ℚ_irrefl nil l)
+    by Zero e l = absurd (<ℚ_irrefl nil l)
+    by Above e l = l
+
+pub down_costs : (x : Fraction) → nil <ℚ down_by (sign_of x) x → x <ℚ nil
+unfolding down_by
+down_costs x = by (sign_of x) refl
+  where
+    by : (s : Sign) → s ≡ sign_of x → nil <ℚ down_by s x → x <ℚ nil
+    by Below e l = sign_of_is x Below e
+    by Zero e l = absurd (<ℚ_irrefl nil l)
+    by Above e l = absurd (<ℚ_irrefl nil l)
+
+-- one of the two is 0
+pub one_is_nil : (x : Fraction) → (up_by (sign_of x) x ≡ nil) ⊎ (down_by (sign_of x) x ≡ nil)
+unfolding up_by down_by
+one_is_nil x = by (sign_of x)
+  where
+    by : (s : Sign) → (up_by s x ≡ nil) ⊎ (down_by s x ≡ nil)
+    by Below = inl refl
+    by Zero = inl refl
+    by Above = inr refl
+
+-- ---- lists of duals by rows
+module _ (m : Parts) (names : NamesApart m) (energy : Fraction) (cost : Row → Fraction) where
+  abbrev duals_of : Row → List (Dual Fraction)
+  duals_of r = dual_by (row_id m r) (cost r) (sign_of (cost r))
+
+  abbrev limits_of : List Row → List (Dual Fraction)
+  limits_of rs = flat_map duals_of rs
+
+  up_in-append : (xs ys : List (Dual Fraction)) (id : RowId) → is_named xs id ≡ false → up_in (xs ++ ys) id ≡ up_in ys id
+  up_in-append [] ys id h = refl
+  up_in-append (x ∷ xs) ys id h = by (same_id x.row id) refl h (up_in-append xs ys id)
+    where
+      by : (t : Bool) → same_id x.row id ≡ t → (t || is_named xs id) ≡ false → (is_named xs id ≡ false → up_in (xs ++ ys) id ≡ up_in ys id) → up_in (x ∷ (xs ++ ys)) id ≡ up_in ys id
+      by true e k more = absurd Prim.cc
+      by false e k more = ap (λ (t : Bool). if t then x.up else up_in (xs ++ ys) id) e ∙ more k
+
+  down_in-append : (xs ys : List (Dual Fraction)) (id : RowId) → is_named xs id ≡ false → down_in (xs ++ ys) id ≡ down_in ys id
+  down_in-append [] ys id h = refl
+  down_in-append (x ∷ xs) ys id h = by (same_id x.row id) refl h (down_in-append xs ys id)
+    where
+      by : (t : Bool) → same_id x.row id ≡ t → (t || is_named xs id) ≡ false → (is_named xs id ≡ false → down_in (xs ++ ys) id ≡ down_in ys id) → down_in (x ∷ (xs ++ ys)) id ≡ down_in ys id
+      by true e k more = absurd Prim.cc
+      by false e k more = ap (λ (t : Bool). if t then x.down else down_in (xs ++ ys) id) e ∙ more k
+
+  is_named-append : (xs ys : List (Dual Fraction)) (id : RowId) → is_named (xs ++ ys) id ≡ (is_named xs id || is_named ys id)
+  is_named-append [] ys id = refl
+  is_named-append (x ∷ xs) ys id = ap (λ (t : Bool). same_id x.row id || t) (is_named-append xs ys id) ∙ assoc (same_id x.row id) (is_named xs id) (is_named ys id)
+    where
+      assoc : (a b c : Bool) → (a || (b || c)) ≡ ((a || b) || c)
+      assoc true b c = refl
+      assoc false b c = refl
+
+  -- the duals of one row
+  unnamed : (r : Row) (id : RowId) → row_id m r ≢ id → is_named (duals_of r) id ≡ false
+  unnamed r id n = by (sign_of (cost r))
+    where
+      not_it : same_id (row_id m r) id ≡ false
+      not_it = same_id-not (row_id m r) id n
+
+      by : (t : Sign) → is_named (dual_by (row_id m r) (cost r) t) id ≡ false
+      by Below = ap (λ (b : Bool). b || false) not_it
+      by Zero = refl
+      by Above = ap (λ (b : Bool). b || false) not_it
+
+  own_named : (r : Row) → is_named (duals_of r) (row_id m r) ≡ named_by (sign_of (cost r))
+  unfolding named_by
+  own_named r = by (sign_of (cost r))
+    where
+      by : (t : Sign) → is_named (dual_by (row_id m r) (cost r) t) (row_id m r) ≡ named_by t
+      by Below = ap (λ (b : Bool). b || false) (same_id-itself (row_id m r))
+      by Zero = refl
+      by Above = ap (λ (b : Bool). b || false) (same_id-itself (row_id m r))
+
+  -- rows of one name are one
+  pub one_row : (a b : Row) → Contains (rows m) a → Contains (rows m) b → row_id m a ≡ row_id m b → a ≡ b
+  one_row a b (i, li, ia) (j, lj, jb) e = elim (three i j) [
+    | inl lt ↦ absurd (names i j a lt lj (ap (row_id m) ia ∙ e ∙ ap (row_id m) (sym (other (rows m) j a b lj ∙ jb))))
+    | inr more ↦ elim more [
+      | inl same ↦ sym ia ∙ other (rows m) i a b li ∙ ap (λ (k : ℕ). get_or (rows m) k b) same ∙ jb
+      | inr gt ↦ absurd (names j i b gt li (ap (row_id m) jb ∙ sym e ∙ ap (row_id m) (sym (other (rows m) i b a li ∙ ia))))
+    ]
+  ]
+    where
+      three : (x y : ℕ) → (x < y) ⊎ ((x ≡ y) ⊎ (y < x))
+      three zero zero = inr (inl refl)
+      three zero (suc y) = inl (Prim.omega arith)
+      three (suc x) zero = inr (inr (Prim.omega arith))
+      three (suc x) (suc y) = elim (three x y) [
+        | inl l ↦ inl (Prim.omega (arith, l))
+        | inr k ↦ elim k [ inl e ↦ inr (inl (ap suc e)) | inr l ↦ inr (inr (Prim.omega (arith, l))) ]
+      ]
+
+      other : (rs : List Row) (k : ℕ) (x y : Row) → k < length rs → get_or rs k x ≡ get_or rs k y
+      other [] k x y h = absurd (Prim.omega (arith, h))
+      other (r ∷ rs) zero x y h = refl
+      other (r ∷ rs) (suc k) x y h = other rs k x y (Prim.omega (arith, h))
+
+  abbrev up_here : Row → Fraction
+  up_here r = up_by (sign_of (cost r)) (cost r)
+
+  abbrev down_here : Row → Fraction
+  down_here r = down_by (sign_of (cost r)) (cost r)
+
+  in_more : (s r : Row) (rs : List Row) → s ≢ r → is_in (s ∷ rs) r ≡ is_in rs r
+  in_more s r rs n = ap (λ (t : Bool). t || is_in rs r) (same_row-not s r n)
+
+  in_head : (r : Row) (rs : List Row) → is_in (r ∷ rs) r ≡ true
+  in_head r rs = ap (λ (t : Bool). t || is_in rs r) (same_row-itself r)
+
+  -- what the list says of a row of the market
+  up_in_list : (rs : List Row) → ((s : Row) → Contains rs s → Contains (rows m) s) → (r : Row) → Contains (rows m) r → up_in (limits_of rs) (row_id m r) ≡ (if is_in rs r then up_here r else nil)
+  unfolding up_by
+  up_in_list [] all r c = refl
+  up_in_list (s ∷ rs) all r c = by (row_or_not s r) (up_in_list rs (λ t k. all t (Contains-cons s rs t k)) r c)
+    where
+      at_head : (t : Sign) → sign_of (cost r) ≡ t → up_in (limits_of rs) (row_id m r) ≡ (if is_in rs r then up_here r else nil) → up_in (dual_by (row_id m r) (cost r) t ++ limits_of rs) (row_id m r) ≡ up_by t (cost r)
+      at_head Below e more = ap (λ (b : Bool). if b then nil else up_in (limits_of rs) (row_id m r)) (same_id-itself (row_id m r))
+      at_head Zero e more = more ∙ ap (λ (x : Fraction). if is_in rs r then x else nil) (ap (λ (t : Sign). up_by t (cost r)) e) ∙ nothing (is_in rs r)
+        where
+          nothing : (b : Bool) → (if b then nil else nil) ≡ nil
+          nothing true = refl
+          nothing false = refl
+      at_head Above e more = ap (λ (b : Bool). if b then cost r else up_in (limits_of rs) (row_id m r)) (same_id-itself (row_id m r))
+
+      by : (s ≡ r) ⊎ (s ≢ r) → up_in (limits_of rs) (row_id m r) ≡ (if is_in rs r then up_here r else nil) → up_in (duals_of s ++ limits_of rs) (row_id m r) ≡ (if is_in (s ∷ rs) r then up_here r else nil)
+      by (inl e) more =
+          ap (λ (x : Row). up_in (duals_of x ++ limits_of rs) (row_id m r)) e
+          ∙ at_head (sign_of (cost r)) refl more
+          ∙ sym (ap (λ (b : Bool). if b then up_here r else nil) (ap (λ (x : Row). is_in (x ∷ rs) r) e ∙ in_head r rs))
+      by (inr n) more =
+          up_in-append (duals_of s) (limits_of rs) (row_id m r) (unnamed s (row_id m r) (λ e. n (one_row s r (all s (Contains-head s rs)) c e)))
+          ∙ more ∙ sym (ap (λ (b : Bool). if b then up_here r else nil) (in_more s r rs n))
+
+  down_in_list : (rs : List Row) → ((s : Row) → Contains rs s → Contains (rows m) s) → (r : Row) → Contains (rows m) r → down_in (limits_of rs) (row_id m r) ≡ (if is_in rs r then down_here r else nil)
+  unfolding down_by
+  down_in_list [] all r c = refl
+  down_in_list (s ∷ rs) all r c = by (row_or_not s r) (down_in_list rs (λ t k. all t (Contains-cons s rs t k)) r c)
+    where
+      at_head : (t : Sign) → sign_of (cost r) ≡ t → down_in (limits_of rs) (row_id m r) ≡ (if is_in rs r then down_here r else nil) → down_in (dual_by (row_id m r) (cost r) t ++ limits_of rs) (row_id m r) ≡ down_by t (cost r)
+      at_head Below e more = ap (λ (b : Bool). if b then neg_ℚ (cost r) else down_in (limits_of rs) (row_id m r)) (same_id-itself (row_id m r))
+      at_head Zero e more = more ∙ ap (λ (x : Fraction). if is_in rs r then x else nil) (ap (λ (t : Sign). down_by t (cost r)) e) ∙ nothing (is_in rs r)
+        where
+          nothing : (b : Bool) → (if b then nil else nil) ≡ nil
+          nothing true = refl
+          nothing false = refl
+      at_head Above e more = ap (λ (b : Bool). if b then nil else down_in (limits_of rs) (row_id m r)) (same_id-itself (row_id m r))
+
+      by : (s ≡ r) ⊎ (s ≢ r) → down_in (limits_of rs) (row_id m r) ≡ (if is_in rs r then down_here r else nil) → down_in (duals_of s ++ limits_of rs) (row_id m r) ≡ (if is_in (s ∷ rs) r then down_here r else nil)
+      by (inl e) more =
+          ap (λ (x : Row). down_in (duals_of x ++ limits_of rs) (row_id m r)) e
+          ∙ at_head (sign_of (cost r)) refl more
+          ∙ sym (ap (λ (b : Bool). if b then down_here r else nil) (ap (λ (x : Row). is_in (x ∷ rs) r) e ∙ in_head r rs))
+      by (inr n) more =
+          down_in-append (duals_of s) (limits_of rs) (row_id m r) (unnamed s (row_id m r) (λ e. n (one_row s r (all s (Contains-head s rs)) c e)))
+          ∙ more ∙ sym (ap (λ (b : Bool). if b then down_here r else nil) (in_more s r rs n))
+
+  named_in_list : (rs : List Row) → ((s : Row) → Contains rs s → Contains (rows m) s) → (r : Row) → Contains (rows m) r → is_named (limits_of rs) (row_id m r) ≡ (is_in rs r && named_by (sign_of (cost r)))
+  named_in_list [] all r c = refl
+  named_in_list (s ∷ rs) all r c = is_named-append (duals_of s) (limits_of rs) (row_id m r) ∙ by (row_or_not s r) (named_in_list rs (λ t k. all t (Contains-cons s rs t k)) r c)
+    where
+      or_and : (a b : Bool) → (b || (a && b)) ≡ b
+      or_and true true = refl
+      or_and true false = refl
+      or_and false true = refl
+      or_and false false = refl
+
+      by : (s ≡ r) ⊎ (s ≢ r) → is_named (limits_of rs) (row_id m r) ≡ (is_in rs r && named_by (sign_of (cost r)))
+          → (is_named (duals_of s) (row_id m r) || is_named (limits_of rs) (row_id m r)) ≡ (is_in (s ∷ rs) r && named_by (sign_of (cost r)))
+      by (inl e) more =
+          ap₂ ◌||◌ (ap (λ (x : Row). is_named (duals_of x) (row_id m r)) e ∙ own_named r) more
+          ∙ or_and (is_in rs r) (named_by (sign_of (cost r)))
+          ∙ sym (ap (λ (b : Bool). b && named_by (sign_of (cost r))) (ap (λ (x : Row). is_in (x ∷ rs) r) e ∙ in_head r rs))
+      by (inr n) more =
+          ap₂ ◌||◌ (unnamed s (row_id m r) (λ e. n (one_row s r (all s (Contains-head s rs)) c e))) more
+          ∙ sym (ap (λ (b : Bool). b && named_by (sign_of (cost r))) (in_more s r rs n))
+
+  -- ---- duals of the rows of a list
+  module _ (g : List Row) where
+    abbrev pub made : Duals Fraction
+    made = duals_by m energy cost (in_order m g)
+
+    over_rows : (r : Row) → Contains (in_order m g) r → Contains (rows m) r
+    over_rows r c = (in_order-from m g r c).0
+
+    pub in_order-tells : (r : Row) → Contains (rows m) r → is_in (in_order m g) r ≡ is_in g r
+    in_order-tells r c = by (is_in g r) refl
+      where
+        not_in : is_in g r ≡ false → (t : Bool) → is_in (in_order m g) r ≡ t → is_in (in_order m g) r ≡ false
+        not_in e true f = let wrong : false ≡ true = sym e ∙ is_in-in g r (in_order-from m g r (is_in-from (in_order m g) r f)).1 in absurd cc
+        not_in e false f = f
+
+        by : (t : Bool) → is_in g r ≡ t → is_in (in_order m g) r ≡ t
+        by true e = is_in-in (in_order m g) r (in_order-in m g r c (is_in-from g r e))
+        by false e = not_in e (is_in (in_order m g) r) refl
+
+    module _ (r : Row) (c : Contains (rows m) r) where
+      pub up-made : up_of m made r ≡ (if is_in g r then up_here r else nil)
+      up-made = up_in_list (in_order m g) over_rows r c ∙ ap (λ (b : Bool). if b then up_here r else nil) (in_order-tells r c)
+
+      pub down-made : down_of m made r ≡ (if is_in g r then down_here r else nil)
+      down-made = down_in_list (in_order m g) over_rows r c ∙ ap (λ (b : Bool). if b then down_here r else nil) (in_order-tells r c)
+
+      pub pull-made : pull m made r ≡ (if is_in g r then cost r else nil)
+      pull-made = ap₂ ◌-ℚ◌ up-made down-made ∙ by (is_in g r)
+        where
+          by : (b : Bool) → (if b then up_here r else nil) -ℚ (if b then down_here r else nil) ≡ (if b then cost r else nil)
+          by true = up_less_down (cost r)
+          by false = by_ring ring_ℚ [] (pnil ⊕ pneg pnil) pnil refl
+
+    -- what the duals name, in the market's order
+    named_rows_of : (rs : List Row) → map (λ d. d.row) (limits_of rs) ≡ map (row_id m) (filter (λ r. named_by (sign_of (cost r))) rs)
+    unfolding named_by
+    named_rows_of [] = refl
+    named_rows_of (r ∷ rs) = by (sign_of (cost r)) (named_rows_of rs)
+      where
+        by : (t : Sign) → map (λ d. d.row) (limits_of rs) ≡ map (row_id m) (filter (λ r. named_by (sign_of (cost r))) rs)
+            → map (λ d. d.row) (dual_by (row_id m r) (cost r) t ++ limits_of rs) ≡ map (row_id m) (cond (named_by t) (r ∷ filter (λ r. named_by (sign_of (cost r))) rs) (filter (λ r. named_by (sign_of (cost r))) rs))
+        by Below more = ap (λ ids. row_id m r ∷ ids) more
+        by Zero more = more
+        by Above more = ap (λ ids. row_id m r ∷ ids) more
+
+    both_filters : (p q : Row → Bool) (rs : List Row) → filter q (filter p rs) ≡ filter (λ r. p r && q r) rs
+    both_filters p q [] = refl
+    both_filters p q (r ∷ rs) = by (p r) (both_filters p q rs)
+      where
+        by : (b : Bool) → filter q (filter p rs) ≡ filter (λ r. p r && q r) rs → filter q (cond b (r ∷ filter p rs) (filter p rs)) ≡ cond (b && q r) (r ∷ filter (λ r. p r && q r) rs) (filter (λ r. p r && q r) rs)
+        by true more = ap (λ (rest : List Row). cond (q r) (r ∷ rest) rest) more
+        by false more = more
+
+    in_order-filter : in_order m g ≡ filter (is_in g) (rows m)
+    in_order-filter = by g
+      where
+        none : (rs : List Row) → [] ≡ filter (λ (r : Row). false) rs
+        none [] = refl
+        none (r ∷ rs) = none rs
+
+        by : (h : List Row) → in_order m h ≡ filter (is_in h) (rows m)
+        by [] = none (rows m)
+        by (t ∷ ts) = refl
+
+    sides : (rs : List Row) → All IsOneSided (limits_of rs)
+    sides [] = All-nil IsOneSided
+    sides (r ∷ rs) = All-append IsOneSided (duals_of r) (limits_of rs) (by (sign_of (cost r)) refl) (sides rs)
+      where
+        by : (t : Sign) → t ≡ sign_of (cost r) → All IsOneSided (dual_by (row_id m r) (cost r) t)
+        by Below e = All-cons IsOneSided (record { row = row_id m r; up = nil; down = neg_ℚ (cost r) }) []
+            (record { up = ≤ℚ_refl nil; down = <ℚ-≤ℚ nil (neg_ℚ (cost r)) (neg_is_above (cost r) (sign_of_is (cost r) Below e)); one = inr (refl, neg_is_above (cost r) (sign_of_is (cost r) Below e)) })
+            (All-nil IsOneSided)
+        by Zero e = All-nil IsOneSided
+        by Above e = All-cons IsOneSided (record { row = row_id m r; up = cost r; down = nil }) []
+            (record { up = <ℚ-≤ℚ nil (cost r) (sign_of_is (cost r) Above e); down = ≤ℚ_refl nil; one = inl (sign_of_is (cost r) Above e, refl) })
+            (All-nil IsOneSided)
+
+    -- such duals are proper
+    pub proper-made : ProperDuals m made
+    proper-made = record {
+      named =
+          named_rows_of (in_order m g)
+          ∙ ap (λ rs. map (row_id m) (filter (λ r. named_by (sign_of (cost r))) rs)) in_order-filter
+          ∙ ap (map (row_id m))
+          (both_filters (is_in g) (λ r. named_by (sign_of (cost r))) (rows m)
+          ∙ filter-members (λ r. is_in g r && named_by (sign_of (cost r))) (λ r. is_named (limits_of (in_order m g)) (row_id m r)) (rows m)
+          (λ r c. sym (named_in_list (in_order m g) over_rows r c ∙ ap (λ (b : Bool). b && named_by (sign_of (cost r))) (in_order-tells r c))));
+      one_sided = sides (in_order m g);
+    }
