@@ -336,7 +336,7 @@ module _ (m : Parts) (names : NamesApart m) (energy : Fraction) (cost : Row → 
         by true more = ap (λ (rest : List Row). cond (q r) (r ∷ rest) rest) more
         by false more = more
 
-    in_order-filter : in_order m g ≡ filter (is_in g) (rows m)
+    pub in_order-filter : in_order m g ≡ filter (is_in g) (rows m)
     in_order-filter = by g
       where
         none : (rs : List Row) → [] ≡ filter (λ (r : Row). false) rs

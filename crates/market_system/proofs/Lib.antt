@@ -5,4 +5,5 @@ pub mod MarketPoints
 pub mod PairLaws
 mod RangeRows
 pub mod RowOrder
+pub mod SolvedMarkets
 pub mod SystemLaws

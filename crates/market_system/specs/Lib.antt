@@ -3,4 +3,5 @@ pub mod Growth
 pub mod MarketNumbers
 pub mod MarketSystem
 pub mod Outcomes
+pub mod SolvedLaws
 pub mod WorkingPairs
