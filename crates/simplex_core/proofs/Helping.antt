@@ -1,15 +1,14 @@
 -- Which way an other variable takes the leaving one, as the code tells it.
-use Rattle.std.specs.Prelude.{◌≡◌, ℕ, ◌<◌, pos, Bool, true, false, length, slice_index, refl}
+use Rattle.std.specs.Prelude.{◌≡◌, ℕ, pos, Bool, true, false, refl}
 use Rattle.std.specs.List.{Contains}
 use Rattle.std.proofs.Common.{ap, sym, ◌∙◌, subst}
 use mathlib.Core.Bool.{beq}
 use Rattle.fraction_theory.specs.Fraction.{Fraction, whole, neg_ℚ}
-use Rattle.fraction_theory.specs.Order.{◌≤ℚ◌, ◌<ℚ◌}
+use Rattle.fraction_theory.specs.Order.{◌<ℚ◌}
 use Rattle.fraction_theory.proofs.OrderLaws.{<ℚ-≤ℚ}
-use Rattle.linear_system.specs.Choices.{others}
 use Rattle.linear_dict.specs.Dictionaries.{Dictionary, IsDictionary, system_of, choice_of, note_of}
 use Rattle.linear_dict.specs.Notes.{Noted}
-use Rattle.linear_dict.proofs.SplitLemmas.{Contains-at, other_in}
+use Rattle.linear_dict.proofs.SplitLemmas.{other_in}
 use Rattle.simplex_theory.specs.Steps.{signed, abs_ℚ, Helps}
 use Rattle.simplex_theory.proofs.Signs.{signed-twice, abs_signed, abs_above}
 use Rattle.simplex_core.specs.States.{state_of}

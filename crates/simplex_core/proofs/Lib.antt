@@ -1,3 +1,5 @@
+pub mod Adding
+pub mod AnewLaws
 pub mod Helping
 pub mod MoveLemmas
 pub mod Nexts

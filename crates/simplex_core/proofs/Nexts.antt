@@ -7,14 +7,13 @@ use Rattle.std.proofs.lemmas.Option.{same_Some}
 use Rattle.fraction_theory.specs.Fraction.{Fraction, whole, ◌*ℚ◌}
 use Rattle.fraction_theory.specs.Order.{◌≤ℚ◌, ◌<ℚ◌}
 use Rattle.fraction_theory.proofs.ListSums.{Contains-head, Contains-cons, Contains-cases}
-use Rattle.fraction_theory.proofs.OrderLaws.{≤ℚ-or-<ℚ, <ℚ-not-≤ℚ, ≤ℚ_antisym, <ℚ_irrefl, <ℚ_trans, three_ways, <ℚ-≤ℚ_trans}
+use Rattle.fraction_theory.proofs.OrderLaws.{≤ℚ-or-<ℚ, <ℚ-not-≤ℚ, ≤ℚ_antisym, <ℚ_irrefl, <ℚ_trans, three_ways}
 use Rattle.linear_system.specs.Systems.{System}
 use Rattle.linear_system.specs.Choices.{basics, others}
 use Rattle.linear_system.proofs.ChoiceLaws.{basics_are, others_are}
 use Rattle.linear_dict.specs.Dictionaries.{Dictionary, system_of}
-use Rattle.linear_dict.specs.Places.{place_in}
 use Rattle.linear_dict.proofs.NameLemmas.{place_in-within}
-use Rattle.simplex_theory.specs.States.{State, IsPosed, IsWithin, Violates}
+use Rattle.simplex_theory.specs.States.{State, IsWithin, Violates}
 use Rattle.simplex_theory.specs.Steps.{signed, abs_ℚ, Leaves, Helps, Enters, IsStep}
 use Rattle.simplex_theory.specs.Trails.{trail_length}
 use Rattle.simplex_theory.proofs.Ending.{IsMethod, method_falls}

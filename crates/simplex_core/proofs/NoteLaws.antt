@@ -1,12 +1,12 @@
 -- Notes by name, and what they leave as it is.
-use Rattle.std.specs.Prelude.{◌≡◌, ◌≢◌, ◌⊎◌, ℕ, ◌<◌, ◌≤◌, Bool, true, false, List, length, map, filter, slice_index, slice_index_or, slice_set, refl}
+use Rattle.std.specs.Prelude.{◌≡◌, ◌≢◌, ◌⊎◌, ℕ, ◌<◌, ◌≤◌, List, length, map, filter, slice_index, refl}
 use Rattle.std.specs.List.{Contains}
 use Rattle.std.proofs.Common.{arith, ap, sym, ◌∙◌, get_or, inl, inr}
 use Rattle.std.proofs.lemmas.Bool.{lt-ltb}
 use Rattle.std.proofs.lemmas.Grind.{get_or_default_zero}
-use Rattle.std.proofs.lemmas.List.{length-map, length-set, get_or-map, get_or_past, get_or_default, get_or-set_same, get_or-set_other, same_lists}
+use Rattle.std.proofs.lemmas.List.{length-map, get_or-map, get_or_past, get_or_default, get_or-set_same, get_or-set_other, same_lists}
 use Rattle.fraction_theory.specs.Fraction.{Fraction}
-use Rattle.fraction_theory.proofs.ListSums.{Distinct, Distinct-increasing, same_or_not}
+use Rattle.fraction_theory.proofs.ListSums.{Distinct-increasing}
 use Rattle.linear_system.specs.Systems.{System}
 use Rattle.linear_dict.specs.Dictionaries.{Dictionary, IsDictionary, system_of, note_of, with_note}
 use Rattle.linear_dict.specs.Notes.{Noted, blank}

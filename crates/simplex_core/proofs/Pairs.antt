@@ -1,5 +1,5 @@
 -- Refused operations as working pairs of a dictionary's own system.
-use Rattle.std.specs.Prelude.{◌≡◌, ◌≢◌, ℕ, ◌<◌, pos, Bool, true, false, List, Option, Some, Result, Ok, Err, IfErr, length, slice_index, if◌then◌else◌, refl}
+use Rattle.std.specs.Prelude.{◌≡◌, ◌≢◌, ℕ, ◌<◌, pos, Bool, true, false, List, Option, Result, Ok, Err, IfErr, length, slice_index, if◌then◌else◌, refl}
 use Rattle.std.specs.List.{Contains}
 use Rattle.std.proofs.Common.{arith, ap, sym, ◌∙◌, subst, subst₂, inl, inr}
 use Rattle.exact_fraction.specs.declared.Op.{Op}

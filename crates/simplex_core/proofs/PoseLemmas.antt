@@ -1,10 +1,9 @@
 -- A posed dictionary is ready, with the prices and bounds that were handed in.
-use Rattle.std.specs.Prelude.{◌≡◌, ℕ, ◌+◌, ◌<◌, ◌≤◌, pos, Bool, true, false, List, [], ◌∷◌, length, map, slice_index, if◌then◌else◌, refl}
+use Rattle.std.specs.Prelude.{◌≡◌, ℕ, ◌+◌, ◌<◌, pos, true, false, List, [], ◌∷◌, length, slice_index, if◌then◌else◌, refl}
 use Rattle.std.specs.List.{All, Contains}
 use Rattle.std.proofs.Common.{zero, suc, arith, ap, sym, ◌∙◌, subst, subst₂, inl, inr}
-use Rattle.std.proofs.lemmas.List.{length-map}
 use Rattle.fraction_theory.specs.Fraction.{Fraction, whole}
-use Rattle.fraction_theory.specs.Order.{◌≤ℚ◌, ◌<ℚ◌}
+use Rattle.fraction_theory.specs.Order.{◌≤ℚ◌}
 use Rattle.fraction_theory.specs.Signs.{sign_of}
 use Rattle.linear_system.specs.Systems.{System}
 use Rattle.linear_system.specs.Choices.{Choice, basics, others, at_bound, reduced, value}
@@ -15,43 +14,15 @@ use Rattle.linear_dict.specs.Notes.{Noted}
 use Rattle.linear_dict.specs.Places.{place_in}
 use Rattle.linear_dict.proofs.NameLemmas.{place_in-within}
 use Rattle.linear_dict.proofs.SplitLemmas.{Contains-at, system_is, basic_in, other_in, in_others}
-use Rattle.simplex_theory.specs.States.{State, IsPosed}
+use Rattle.simplex_theory.specs.States.{IsPosed}
 use Rattle.simplex_theory.proofs.PosedNumbers.{value_other, reduced_basic, posed_by_choice}
 use Rattle.simplex_core.specs.States.{state_of, IsReady}
 use Rattle.simplex_core.specs.Turns.{noted_anew}
-use Rattle.simplex_core.specs.Posings.{HasNotes, IsPairPosed, IsPosing, column_note, row_note, term_note, price_at, low_at, high_at, asks_high, at_asked, stand_note, value_note}
+use Rattle.simplex_core.specs.Posings.{HasNotes, IsPairPosed, IsPosing, column_note, row_note, low_at, high_at, asks_high, at_asked, value_note}
 use Rattle.simplex_core.specs.declared.bounds.Bounds.{Bounds}
-use Rattle.simplex_core.proofs.NoteLaws.{named_or_not, note_anew, note_unnamed, system_stays, renoted_dictionary}
-use Rattle.simplex_core.proofs.StandLemmas.{asked_low, asked_high, stand-basic, stand-other, value-basic, value-other, stand-price, stand-low, stand-high, value-price, value-low, value-high, value-reduced, value-flag, choice_stays, reduced_frame}
-
--- a dictionary with new notes
-module _ (d : Dictionary) (h : IsDictionary d) (f : ℕ → Noted) where
-  pub anew_sound : IsDictionary (noted_anew d f)
-  unfolding noted_anew
-  anew_sound = renoted_dictionary d (map f d.names) (length-map d.names f) h
-
-  anew_keeps : {X : Type 0} (p : Noted → X) → ((w : ℕ) → p (f w) ≡ p (note_of d w)) → (w : ℕ) → p (note_of (noted_anew d f) w) ≡ p (note_of d w)
-  unfolding noted_anew
-  anew_keeps p each w = elim (named_or_not d.names w) [
-    | inl c ↦ ap p (note_anew d f w c) ∙ each w
-    | inr past ↦ ap p (note_unnamed (noted_anew d f) w (length-map d.names f) past ∙ sym (note_unnamed d w h.note_count past))
-  ]
-
-  anew_system : ((w : ℕ) → (f w).price ≡ (note_of d w).price) → ((w : ℕ) → (f w).low ≡ (note_of d w).low) → ((w : ℕ) → (f w).high ≡ (note_of d w).high) → system_of (noted_anew d f) ≡ system_of d
-  unfolding noted_anew
-  anew_system price low high = system_stays d (noted_anew d f) refl refl refl refl (anew_keeps Noted.price price) (anew_keeps Noted.low low) (anew_keeps Noted.high high)
-
-  anew_choice : ((w : ℕ) → (f w).at_high ≡ (note_of d w).at_high) → choice_of (noted_anew d f) ≡ choice_of d
-  unfolding noted_anew
-  anew_choice flag = choice_stays d (map f d.names) (anew_keeps Noted.at_high flag)
-
-  anew_reduced : (s : System) (w : ℕ) → reduced s (choice_of (noted_anew d f)) w ≡ reduced s (choice_of d) w
-  unfolding noted_anew
-  anew_reduced s w = reduced_frame s d (map f d.names) w
-
-  pub anew_frame : noted_anew d f ≡ record d { notes = map f d.names }
-  unfolding noted_anew
-  anew_frame = refl
+use Rattle.simplex_core.proofs.AnewLaws.{anew_sound, anew_basics, anew_keeps, anew_system, anew_choice, anew_reduced}
+use Rattle.simplex_core.proofs.NoteLaws.{note_anew, renoted_dictionary}
+use Rattle.simplex_core.proofs.StandLemmas.{stand_note, asked_low, asked_high, stand-basic, stand-other, value-basic, value-other, stand-price, stand-low, stand-high, value-price, value-low, value-high, value-flag}
 
 -- from notes with prices and bounds alone
 module _ (d : Dictionary) (h : IsDictionary d) (live : d.spent ≡ false)
@@ -244,11 +215,24 @@ module _ {N : Type 0} (value : N → Fraction) (d : Dictionary) (h : IsDictionar
     | inr column ↦ let at = place_in-within d.columns w column in ap (λ (x : ℕ). (note_of f x).reduced) (sym at.1) ∙ ap Noted.reduced (column_is (place_in d.columns w) at.0)
   ]
 
+  pub put_value : (w : ℕ) → Contains f.names w → (note_of f w).value ≡ whole (pos 0)
+  put_value w c = elim (h.put_in.either w (put_named w c)) [
+    | inl row ↦ let at = place_in-within d.rows w row in ap (λ (x : ℕ). (note_of f x).value) (sym at.1) ∙ ap Noted.value (row_is (place_in d.rows w) at.0)
+    | inr column ↦ let at = place_in-within d.columns w column in ap (λ (x : ℕ). (note_of f x).value) (sym at.1) ∙ ap Noted.value (column_is (place_in d.columns w) at.0)
+  ]
+
   pub put_unpriced : (w : ℕ) → Contains f.rows w → (system_of f).price w ≡ whole (pos 0)
   unfolding system_of
   put_unpriced w c =
       let at = place_in-within d.rows w (subst (λ (x : Dictionary). Contains x.rows w) put_frame c) in
       ap (λ (x : ℕ). (note_of f x).price) (sym at.1) ∙ ap Noted.price (row_is (place_in d.rows w) at.0)
+
+  -- values stay 0 while the others find their bounds
+  pub stood_blank : (g : Dictionary) → g ≡ noted_anew f (stand_note f) → (b : ℕ) → Contains g.basics b → (note_of g b).value ≡ whole (pos 0)
+  stood_blank g eg b c =
+      let basic : Contains f.basics b = subst (λ (bs : List ℕ). Contains bs b) (ap Dictionary.basics eg ∙ anew_basics f put_both (stand_note f)) c in
+      let named : Contains f.names b = put_both.split.first_named b basic in
+      ap (λ (x : Dictionary). (note_of x b).value) eg ∙ ap Noted.value (note_anew f (stand_note f) b named ∙ stand-basic f put_both b basic) ∙ put_value b named
 
   module _ (size : length bounds ≡ length d.columns + length d.rows) (ordered : All (λ b. value b.low ≤ℚ value b.high) bounds) where
     pub put_ordered : (w : ℕ) → Contains f.names w → (note_of f w).low ≤ℚ (note_of f w).high

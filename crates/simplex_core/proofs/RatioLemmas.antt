@@ -1,21 +1,20 @@
 -- The search for the variable that enters: the best candidate of the ranks so far.
-use Rattle.std.specs.Prelude.{◌≡◌, ℕ, ◌+◌, ◌<◌, ◌≤◌, pos, Bool, Option, Some, None, length, slice_index, ◌⊎◌, refl}
+use Rattle.std.specs.Prelude.{◌≡◌, ℕ, ◌+◌, ◌<◌, ◌≤◌, pos, Bool, Option, Some, None, length, slice_index, ◌⊎◌}
 use Rattle.std.specs.List.{Contains}
-use Rattle.std.proofs.Common.{arith, ap, sym, ◌∙◌, subst, subst₂, inl, inr}
+use Rattle.std.proofs.Common.{arith, ap, sym, ◌∙◌, subst, inl, inr}
 use Rattle.std.proofs.lemmas.Bool.{cases_lt}
 use mathlib.Core.Path.{ap₂}
 use Rattle.fraction_theory.specs.Fraction.{Fraction, whole, ◌*ℚ◌}
-use Rattle.fraction_theory.specs.Order.{◌≤ℚ◌, ◌<ℚ◌}
-use Rattle.linear_system.specs.Choices.{others}
+use Rattle.fraction_theory.specs.Order.{◌<ℚ◌}
 use Rattle.linear_system.proofs.ChoiceLaws.{others_are}
-use Rattle.linear_dict.specs.Dictionaries.{Dictionary, IsDictionary, system_of, choice_of}
+use Rattle.linear_dict.specs.Dictionaries.{Dictionary, IsDictionary, system_of}
 use Rattle.linear_dict.specs.Places.{place_in}
-use Rattle.simplex_theory.specs.Steps.{abs_ℚ, Helps, Enters}
+use Rattle.simplex_theory.specs.Steps.{abs_ℚ, Helps}
 use Rattle.simplex_theory.proofs.LeastRatio.{IsLeast, least_alone, least_kept, least_replaced, help_above, least_enters}
 use Rattle.simplex_core.specs.States.{state_of}
 use Rattle.simplex_core.specs.Searches.{IsSized, IsBelow, IsLesser, IsEntering}
 use Rattle.simplex_core.specs.declared.enter.Candidate.{Candidate}
-use Rattle.simplex_core.proofs.Ranks.{rank_below, name_below, rank_of, at_rank}
+use Rattle.simplex_core.proofs.Ranks.{name_below, rank_of, at_rank}
 
 -- the same candidates have the same least ratio
 pub least_same : (p q : ℕ → Type 0) (d e : ℕ → Fraction) (k : ℕ) → ((w : ℕ) → p w → q w) → ((w : ℕ) → q w → p w) → IsLeast p d e k → IsLeast q d e k

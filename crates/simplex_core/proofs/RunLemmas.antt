@@ -1,18 +1,23 @@
 -- A run keeps the rows, prices and bounds, and how it ends.
-use Rattle.std.specs.Prelude.{◌≡◌, ℕ, ◌<◌, Bool, length, slice_index, refl}
+use Rattle.std.specs.Prelude.{◌≡◌, ℕ, ◌<◌, pos, Bool, true, false, length, slice_index, refl}
 use Rattle.std.specs.List.{Contains}
 use Rattle.std.proofs.Common.{◌∙◌, sym, subst}
-use Rattle.linear_system.specs.Choices.{basics}
+use Rattle.fraction_theory.specs.Order.{◌<ℚ◌}
+use Rattle.linear_system.specs.Systems.{System}
+use Rattle.linear_system.specs.Choices.{Choice, basics, value}
+use Rattle.linear_system.proofs.ChoiceLaws.{basics_are}
 use Rattle.linear_dict.specs.Dictionaries.{Dictionary, system_of, choice_of}
-use Rattle.simplex_theory.specs.States.{IsWithin, IsSolved, IsOutOfReach}
-use Rattle.simplex_theory.specs.Steps.{Leaves, Helps}
+use Rattle.simplex_theory.specs.States.{IsWithin, IsSolved, IsOutOfReach, Violates}
+use Rattle.simplex_theory.specs.Steps.{Leaves, Helps, signed}
+use Rattle.simplex_theory.proofs.PosedNumbers.{posed_value, posed_reduced}
+use Rattle.simplex_theory.proofs.Signs.{neg_at_least, not_above}
 use Rattle.simplex_theory.proofs.Outcomes.{solved, out_of_reach, no_point}
 use Rattle.exact_fraction.specs.declared.Op.{Op}
-use Rattle.fraction_theory.specs.Fraction.{Fraction}
+use Rattle.fraction_theory.specs.Fraction.{Fraction, whole, neg_ℚ}
 use Rattle.linear_system.specs.Pairs.{IsSystemPair}
 use Rattle.simplex_core.specs.declared.solving.Run.{Run}
 use Rattle.simplex_core.specs.declared.solving.Run.TheVariants.{Solved, Empty, Passed}
-use Rattle.simplex_core.specs.Outcomes.{Keeps, IsAnswered, IsEmptyAt, IsOutcome}
+use Rattle.simplex_core.specs.Outcomes.{Keeps, IsAnswered, IsEmptyAt, IsOutcome, IsStuck, ShowsChoice}
 use Rattle.simplex_core.specs.States.{state_of, IsReady}
 use Rattle.simplex_core.specs.Turns.{turned}
 use Rattle.simplex_core.proofs.Nexts.{IsTurn}
@@ -38,18 +43,48 @@ pub solved_at : (d : Dictionary) → IsReady d → ((b : ℕ) → Contains (basi
 unfolding state_of
 solved_at d ready inside = solved (system_of d) (state_of d) ready.posed inside
 
+-- the numbers of a ready dictionary are those of its choice
+pub shows_choice : (d : Dictionary) → IsReady d → ShowsChoice d
+unfolding state_of system_of
+shows_choice d ready = record {
+  choice = ready.posed.choice;
+  values = λ w c. posed_value (system_of d) (state_of d) ready.posed w c;
+  prices = λ w c. posed_reduced (system_of d) (state_of d) ready.posed w c;
+}
+
+-- what is violated at the state's values is violated at the choice's
+violates_by_value : (s : System) (v u : ℕ → Fraction) (above : Bool) (b : ℕ) → v b ≡ u b → Violates s v above b → Violates s u above b
+violates_by_value s v u true b e p = subst (λ x. s.high b <ℚ x) e p
+violates_by_value s v u false b e p = subst (λ x. x <ℚ s.low b) e p
+
 -- none of the others helps the variable of the row
+pub stuck_at : (d : Dictionary) → IsReady d → (v : ℕ) (above : Bool) → Leaves (system_of d) (state_of d) v above → ((w : ℕ) → ¬ (Helps (system_of d) (state_of d) v above w))
+    → IsStuck (system_of d) (choice_of d) v above
+unfolding state_of
+stuck_at d ready v above leaves idle =
+    let s : System = system_of d in
+    let h : Choice = choice_of d in
+    record {
+      basic = leaves.basic;
+      violates = violates_by_value s (state_of d).value (value s h) above v (posed_value s (state_of d) ready.posed v (basics_are s h v leaves.basic).0) leaves.violates;
+      at_low = λ w c free flag. not_above (signed above (h.entry v w))
+          (λ l. idle w (record { other = c; free = free; towards = subst (λ (f : Bool). whole (pos 0) <ℚ signed f (signed above (h.entry v w))) (sym flag) l }));
+      at_high = λ w c free flag. neg_at_least (signed above (h.entry v w)) (not_above (neg_ℚ (signed above (h.entry v w)))
+          (λ l. idle w (record { other = c; free = free; towards = subst (λ (f : Bool). whole (pos 0) <ℚ signed f (signed above (h.entry v w))) (sym flag) l })));
+    }
+
 pub empty_at : (d : Dictionary) → IsReady d → (v row : ℕ) (above : Bool) → Leaves (system_of d) (state_of d) v above → ((w : ℕ) → ¬ (Helps (system_of d) (state_of d) v above w))
-    → row < length d.basics → slice_index d.basics row ≡ v → IsEmptyAt d row
+    → row < length d.basics → slice_index d.basics row ≡ v → IsEmptyAt d row above
 unfolding state_of
 empty_at d ready v row above leaves idle within e = record {
   none = no_point (system_of d) (state_of d) ready.posed v above leaves.basic leaves.violates idle;
   within = within;
+  stuck = subst (λ (w : ℕ). IsStuck (system_of d) (choice_of d) w above) (sym e) (stuck_at d ready v above leaves idle);
   out_of_reach = subst (λ (w : ℕ). IsOutOfReach (system_of d) (choice_of d) w) (sym e) (out_of_reach (system_of d) (state_of d) ready.posed v above leaves.basic leaves.violates idle);
 }
 
 -- with no working pair there is no refusal
 pub answered : {N : Type 0} (value : N → Fraction) (bound : ℕ) (d : Dictionary) (r : Run N) → ((op : Op) (left right : Fraction) → ¬ (IsSystemPair (system_of d) bound op left right)) → IsOutcome value bound d r → IsAnswered r
 answered value bound d (Solved e) none o = tt
-answered value bound d (Empty e row) none o = tt
+answered value bound d (Empty e row above) none o = tt
 answered value bound d (Passed p) none o = none p.op (value p.left) (value p.right) o

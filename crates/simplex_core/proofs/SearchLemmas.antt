@@ -1,12 +1,12 @@
 -- What the two searches have found so far.
-use Rattle.std.specs.Prelude.{◌≡◌, ℕ, ◌+◌, ◌<◌, ◌≤◌, Bool, true, false, Some, None, length, slice_index, refl}
+use Rattle.std.specs.Prelude.{◌≡◌, ℕ, ◌+◌, ◌<◌, ◌≤◌, Bool, true, false, Some, None, length, slice_index}
 use Rattle.std.specs.List.{Contains}
-use Rattle.std.proofs.Common.{arith, ap, sym, ◌∙◌, subst, subst₂, inl, inr}
+use Rattle.std.proofs.Common.{arith, sym, subst, subst₂, inl, inr}
 use Rattle.std.proofs.lemmas.Bool.{cases_lt}
 use Rattle.fraction_theory.specs.Fraction.{Fraction}
 use Rattle.fraction_theory.specs.Order.{◌≤ℚ◌, ◌<ℚ◌}
 use Rattle.linear_system.specs.Systems.{System}
-use Rattle.linear_system.specs.Choices.{basics, others}
+use Rattle.linear_system.specs.Choices.{basics}
 use Rattle.linear_dict.specs.Dictionaries.{Dictionary, IsDictionary, system_of, choice_of}
 use Rattle.linear_dict.specs.Places.{place_in}
 use Rattle.linear_dict.proofs.SplitLemmas.{Contains-at, basic_in, in_basics}
@@ -14,7 +14,7 @@ use Rattle.simplex_theory.specs.States.{IsWithin, Violates}
 use Rattle.simplex_theory.specs.Steps.{Leaves}
 use Rattle.simplex_core.specs.States.{state_of}
 use Rattle.simplex_core.specs.Searches.{IsSide}
-use Rattle.simplex_core.proofs.Ranks.{ranked_named, rank_below, at_rank}
+use Rattle.simplex_core.proofs.Ranks.{rank_below, at_rank}
 
 -- the side on which a value violates a bound, or that it violates none
 pub side_violates : (s : System) (v : ℕ → Fraction) (w : ℕ) (low high x : Fraction) → low ≡ s.low w → high ≡ s.high w → x ≡ v w → (above : Bool) → IsSide low high x (Some above) → Violates s v above w

@@ -1,8 +1,7 @@
 -- Notes at the asked bound and with their values.
-use Rattle.std.specs.Prelude.{◌≡◌, ℕ, ◌+◌, ◌<◌, ◌≤◌, pos, Bool, true, false, List, length, slice_index, if◌then◌else◌, refl}
+use Rattle.std.specs.Prelude.{◌≡◌, ℕ, pos, Bool, true, false, List, if◌then◌else◌, refl}
 use Rattle.std.specs.List.{Contains}
-use Rattle.std.proofs.Common.{arith, ap, sym, ◌∙◌, subst, inl, inr}
-use Rattle.std.proofs.lemmas.Bool.{cases_lt}
+use Rattle.std.proofs.Common.{ap, ◌∙◌}
 use Rattle.fraction_theory.specs.Fraction.{Fraction, whole}
 use Rattle.fraction_theory.specs.Order.{◌≤ℚ◌}
 use Rattle.fraction_theory.specs.Signs.{sign_of}
@@ -14,13 +13,11 @@ use Rattle.linear_system.specs.Systems.{System}
 use Rattle.linear_system.specs.Choices.{Choice, column_entry, reduced, reduced_terms, value}
 use Rattle.linear_dict.specs.Dictionaries.{Dictionary, IsDictionary, system_of, choice_of, entry_of, note_of}
 use Rattle.linear_dict.specs.Notes.{Noted, noted}
-use Rattle.linear_dict.specs.Places.{place_in, is_among}
+use Rattle.linear_dict.specs.Places.{is_among}
 use Rattle.linear_dict.specs.declared.note.Note.{Note}
 use Rattle.linear_dict.proofs.NameLemmas.{among-tells, among-not}
-use Rattle.simplex_core.specs.Posings.{asks_high, at_asked, stand_note, value_note}
-use Rattle.simplex_core.proofs.NoteLaws.{funext, named_or_not, note_unnamed, system_stays, renoted_dictionary}
-use Rattle.simplex_core.proofs.Ranks.{at_rank, ranked_named, rank_of}
-use Rattle.simplex_core.proofs.MoveLemmas.{IsMoving}
+use Rattle.simplex_core.specs.Posings.{asks_high, at_asked, value_note}
+use Rattle.simplex_core.proofs.NoteLaws.{funext}
 
 -- what a sign asks for
 pub asks_not : (s : Sign) → ¬ (s ≡ Above) → false ≡ asks_high s
@@ -56,6 +53,12 @@ asked_is value m n r v up price is er eu ev =
     by : (b : Bool) → value (if b then n.high else n.low) ≡ (if b then value n.high else value n.low)
     by true = refl
     by false = refl
+
+-- an other variable's note with its reduced price, at the bound that this asks for
+unfoldable pub stand_note : Dictionary → ℕ → Noted
+stand_note d w =
+    if (choice_of d).basic w then note_of d w
+    else at_asked (note_of d w) (reduced (system_of d) (choice_of d) w) (asks_high (sign_of (reduced (system_of d) (choice_of d) w)))
 
 module _ (d : Dictionary) (h : IsDictionary d) (w : ℕ) where
   pub choice_basic : Contains d.basics w → (choice_of d).basic w ≡ true
@@ -132,36 +135,3 @@ reduced_frame s d ns w = refl
 pub choice_stays : (d : Dictionary) (ns : List Noted) → ((w : ℕ) → (note_of (record d { notes = ns }) w).at_high ≡ (note_of d w).at_high) → choice_of (record d { notes = ns }) ≡ choice_of d
 unfolding choice_of entry_of
 choice_stays d ns same = ap (λ (f : ℕ → Bool). let c : Choice = record { basic = is_among d.basics; high = f; entry = entry_of d } in c) (funext (λ w. (note_of (record d { notes = ns }) w).at_high) (λ w. (note_of d w).at_high) same)
-
-module _ (d : Dictionary) (ns : List Noted) (w : ℕ) (system : system_of (record d { notes = ns }) ≡ system_of d) (note : note_of (record d { notes = ns }) w ≡ note_of d w) where
-  pub stand_same : stand_note (record d { notes = ns }) w ≡ stand_note d w
-  unfolding stand_note choice_of
-  stand_same =
-      let e : Dictionary = record d { notes = ns } in
-      ap (λ (n : Noted). if is_among d.basics w then n else at_asked n (reduced (system_of e) (choice_of e) w) (asks_high (sign_of (reduced (system_of e) (choice_of e) w)))) note
-      ∙ ap (λ x. if is_among d.basics w then note_of d w else at_asked (note_of d w) x (asks_high (sign_of x)))
-      (ap (λ (s : System). reduced s (choice_of e) w) system ∙ reduced_frame (system_of d) d ns w)
-
-  pub value_same : choice_of (record d { notes = ns }) ≡ choice_of d → value_note (record d { notes = ns }) w ≡ value_note d w
-  unfolding value_note
-  value_same choice =
-      let e : Dictionary = record d { notes = ns } in
-      ap (λ (c : Choice). if c.basic w then record (note_of e w) { value = value (system_of e) c w } else note_of e w) choice
-      ∙ ap (λ (s : System). if (choice_of d).basic w then record (note_of e w) { value = value s (choice_of d) w } else note_of e w) system
-      ∙ ap (λ (n : Noted). if (choice_of d).basic w then record n { value = value (system_of d) (choice_of d) w } else n) note
-
--- what every new note keeps, all notes on the way keep
-module _ (e : Dictionary) (h : IsDictionary e) (f : ℕ → Noted) (k : ℕ) (d : Dictionary) (m : IsMoving e f k d) where
-  pub moving_keeps : {X : Type 0} (p : Noted → X) → ((w : ℕ) → p (f w) ≡ p (note_of e w)) → (w : ℕ) → p (note_of (record e { notes = m.notes }) w) ≡ p (note_of e w)
-  moving_keeps p each w = elim (named_or_not e.names w) [
-    | inl c ↦
-        let at = at_rank e h w c in
-        elim (cases_lt (place_in e.names w) k) [
-          | inl less ↦ ap (λ (x : ℕ). p (note_of (record e { notes = m.notes }) x)) (sym at.1) ∙ ap p (m.done (place_in e.names w) less at.0) ∙ each (slice_index e.names (place_in e.names w)) ∙ ap (λ (x : ℕ). p (note_of e x)) at.1
-          | inr more ↦ ap p (m.rest w c (Prim.omega (arith, more)))
-        ]
-    | inr past ↦ ap p (note_unnamed (record e { notes = m.notes }) w m.count past ∙ sym (note_unnamed e w h.note_count past))
-  ]
-
-  pub moving_system : ((w : ℕ) → (f w).price ≡ (note_of e w).price) → ((w : ℕ) → (f w).low ≡ (note_of e w).low) → ((w : ℕ) → (f w).high ≡ (note_of e w).high) → system_of (record e { notes = m.notes }) ≡ system_of e
-  moving_system price low high = system_stays e (record e { notes = m.notes }) refl refl refl refl (moving_keeps Noted.price price) (moving_keeps Noted.low low) (moving_keeps Noted.high high)

@@ -1,9 +1,8 @@
 -- Reduced prices and values as sums over all names, as the code adds them up.
 use Rattle.std.specs.Prelude.{◌≡◌, ◌≢◌, ℕ, ◌+◌, ◌<◌, ◌≤◌, pos, Bool, true, false, not, List, [], ◌∷◌, ◌++◌, length, map, take, drop, filter, slice_index, if◌then◌else◌, refl}
 use Rattle.std.specs.List.{Contains}
-use Rattle.std.proofs.Common.{arith, ap, sym, ◌∙◌, subst, inl, inr}
+use Rattle.std.proofs.Common.{arith, ap, sym, ◌∙◌, inl, inr}
 use Rattle.std.proofs.lemmas.List.{take_more, take_all}
-use mathlib.Core.Path.{ap₂}
 use Rattle.fraction_theory.specs.Fraction.{Fraction, whole, ◌+ℚ◌, ◌*ℚ◌}
 use Rattle.fraction_theory.specs.Sums.{sum_by, total, prefix, Term, Product}
 use Rattle.std.proofs.lemmas.List.{take-append-drop, take-map, get_or-take, length-take}
@@ -13,7 +12,7 @@ use Rattle.fraction_theory.proofs.FieldLaws.{ring_ℚ}
 use Rattle.fraction_theory.proofs.Ring.{by_ring, at, pnil, pone, ◌⊕◌, ◌⊗◌}
 use Rattle.fraction_theory.proofs.SumLaws.{sum_by-append, total-Product}
 use Rattle.fraction_theory.proofs.ListSums.{kept, sum_by-filter, sum_by-members}
-use Rattle.linear_system.specs.Choices.{Choice, others, at_bound, column_entry, reduced, reduced_terms, value, value_terms}
+use Rattle.linear_system.specs.Choices.{others, at_bound, column_entry, reduced, reduced_terms, value, value_terms}
 use Rattle.linear_system.proofs.ChoiceLaws.{column_entry-basic, column_entry-itself, column_entry-other}
 use Rattle.linear_dict.specs.Dictionaries.{Dictionary, IsDictionary, system_of, choice_of}
 use Rattle.linear_dict.specs.Places.{is_among}

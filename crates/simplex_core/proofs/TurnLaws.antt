@@ -8,14 +8,13 @@ use Rattle.fraction_theory.specs.Order.{◌<ℚ◌}
 use Rattle.fraction_theory.proofs.ListSums.{same_or_not}
 use Rattle.fraction_theory.proofs.OrderLaws.{<ℚ_irrefl}
 use Rattle.linear_system.specs.Systems.{System}
-use Rattle.linear_system.specs.Choices.{Choice, basics, others, IsChoice, OneExchange}
+use Rattle.linear_system.specs.Choices.{basics, others, IsChoice, OneExchange}
 use Rattle.linear_system.specs.Exchanges.{exchanged}
 use Rattle.linear_system.proofs.ChoiceLaws.{basics_are, others_are}
 use Rattle.linear_system.proofs.ExchangeLaws.{exchanged_once}
 use Rattle.linear_dict.specs.Dictionaries.{Dictionary, IsDictionary, system_of, choice_of, entry_of, note_of, pivoted}
 use Rattle.linear_dict.specs.Notes.{Noted}
 use Rattle.linear_dict.specs.Places.{place_in}
-use Rattle.linear_dict.specs.Tables.{cell}
 use Rattle.linear_dict.proofs.NameLemmas.{place_in-within, among-from, among-tells}
 use Rattle.linear_dict.proofs.SplitLemmas.{set-has, system_is, in_basics, in_others}
 use Rattle.linear_dict.proofs.ExchangeLemmas.{pivoted_dictionary, pivoted_basic}
@@ -23,7 +22,7 @@ use Rattle.simplex_theory.specs.States.{IsPosed}
 use Rattle.simplex_theory.specs.Steps.{abs_ℚ, Leaves, Enters, IsStep, violated_bound, displacement}
 use Rattle.simplex_theory.proofs.Signs.{abs_nil}
 use Rattle.simplex_theory.proofs.LeastRatio.{help_above}
-use Rattle.simplex_theory.proofs.Exchanges.{leaving_other, other_after, other_not_leaving}
+use Rattle.simplex_theory.proofs.Exchanges.{other_after, other_not_leaving}
 use Rattle.simplex_theory.proofs.Posing.{step_posed}
 use Rattle.simplex_core.specs.States.{state_of, IsReady}
 use Rattle.simplex_core.specs.Turns.{moved_note, noted_anew, turned}

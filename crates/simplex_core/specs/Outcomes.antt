@@ -1,10 +1,16 @@
 -- How a run from a posed dictionary ends.
-use Rattle.fraction_theory.specs.Fraction.{Fraction}
+use Rattle.std.specs.Prelude.{◌≡◌, ℕ, ◌<◌, pos, Bool, true, false, Option, Some, None, length, slice_index}
+use Rattle.std.specs.List.{Contains}
+use Rattle.fraction_theory.specs.Fraction.{Fraction, whole}
+use Rattle.fraction_theory.specs.Order.{◌≤ℚ◌, ◌<ℚ◌}
+use Rattle.linear_system.specs.Systems.{System}
+use Rattle.linear_system.specs.Choices.{Choice, IsChoice, basics, others, reduced, value}
 use Rattle.linear_dict.specs.Causes.{IsPairOf}
-use Rattle.std.specs.Prelude.{◌≡◌, ℕ, ◌<◌, false, Option, Some, None, length, slice_index}
-use Rattle.linear_dict.specs.Dictionaries.{Dictionary, IsDictionary, system_of, choice_of}
-use Rattle.simplex_theory.specs.States.{IsSolved, HasNoPoint, IsOutOfReach}
+use Rattle.linear_dict.specs.Dictionaries.{Dictionary, system_of, choice_of}
+use Rattle.simplex_theory.specs.States.{IsSolved, HasNoPoint, IsOutOfReach, Violates}
+use Rattle.simplex_theory.specs.Steps.{signed}
 use Rattle.simplex_core.specs.States.{state_of, IsReady}
+use Rattle.simplex_core.specs.declared.leave.Leaving.{Leaving}
 use Rattle.simplex_core.specs.declared.solving.Run.{Run}
 use Rattle.simplex_core.specs.declared.solving.Run.TheVariants.{Solved, Empty, Passed}
 
@@ -17,25 +23,42 @@ pub record Keeps (d e : Dictionary) : Type 0 where
   pub system : system_of e ≡ system_of d
   pub ready : IsReady e
 
--- the row place shows that no values are within the bounds
-pub record IsEmptyAt (d : Dictionary) (row : ℕ) : Type 0 where
+-- The table is that of a choice of the system, with each other variable at the bound that its note says, and what is noted as
+-- values and as reduced prices are this choice's.
+pub record ShowsChoice (d : Dictionary) : Type 0 where
+  pub choice : IsChoice (system_of d) (choice_of d)
+  pub values : (w : ℕ) → Contains d.names w → (state_of d).value w ≡ value (system_of d) (choice_of d) w
+  pub prices : (w : ℕ) → Contains d.names w → (state_of d).reduced w ≡ reduced (system_of d) (choice_of d) w
+
+-- Where the others stand at their bounds, the basic variable b is above its high bound, or below its low one where `above`
+-- does not say so, and none of the others that has room brings it back. Where b is below, the entry of each of these is at
+-- most 0 if it stands at its low bound and at least 0 if it stands at its high one; where b is above, their opposites are.
+pub record IsStuck (s : System) (h : Choice) (b : ℕ) (above : Bool) : Type 0 where
+  pub basic : Contains (basics s h) b
+  pub violates : Violates s (value s h) above b
+  pub at_low : (w : ℕ) → Contains (others s h) w → s.low w <ℚ s.high w → h.high w ≡ false → signed above (h.entry b w) ≤ℚ whole (pos 0)
+  pub at_high : (w : ℕ) → Contains (others s h) w → s.low w <ℚ s.high w → h.high w ≡ true → whole (pos 0) ≤ℚ signed above (h.entry b w)
+
+-- the row place shows that no values are within the bounds: its variable is stuck on this side of its own
+pub record IsEmptyAt (d : Dictionary) (row : ℕ) (above : Bool) : Type 0 where
   pub none : HasNoPoint (system_of d)
   pub within : row < length d.basics
+  pub stuck : IsStuck (system_of d) (choice_of d) (slice_index d.basics row) above
   pub out_of_reach : IsOutOfReach (system_of d) (choice_of d) (slice_index d.basics row)
 
--- The run from d has come to e, solved or with the row that shows that there is no point.
-abbrev pub IsSettled : Dictionary → Dictionary → Option ℕ → Type 0
-IsSettled d e None = Keeps d e × IsSolved (system_of e) (state_of e)
-IsSettled d e (Some row) = Keeps d e × IsEmptyAt e row
+-- The run from d has come to e, solved or with the variable that shows that there is no point.
+abbrev pub IsSettled : Dictionary → Dictionary → Option Leaving → Type 0
+IsSettled d e None = Keeps d e × ShowsChoice e × IsSolved (system_of e) (state_of e)
+IsSettled d e (Some l) = Keeps d e × ShowsChoice e × IsEmptyAt e l.row l.above
 
 -- Solved holds the best values, Empty a row that shows that there are none, Passed a working pair of the system.
 abbrev pub IsOutcome : {N : Type 0} → (N → Fraction) → ℕ → Dictionary → Run N → Type 0
-IsOutcome value bound d (Solved e) = Keeps d e × IsSolved (system_of e) (state_of e)
-IsOutcome value bound d (Empty e row) = Keeps d e × IsEmptyAt e row
+IsOutcome value bound d (Solved e) = Keeps d e × ShowsChoice e × IsSolved (system_of e) (state_of e)
+IsOutcome value bound d (Empty e row above) = Keeps d e × ShowsChoice e × IsEmptyAt e row above
 IsOutcome value bound d (Passed p) = IsPairOf value bound (system_of d) p
 
 -- solved or empty, and no refusal
 abbrev pub IsAnswered : {N : Type 0} → Run N → Type 0
 IsAnswered (Solved e) = Unit {0}
-IsAnswered (Empty e row) = Unit {0}
+IsAnswered (Empty e row above) = Unit {0}
 IsAnswered (Passed p) = ⊥

@@ -1,11 +1,11 @@
 -- What posing a dictionary makes of prices and bounds.
 use Rattle.std.specs.Prelude.{◌≡◌, ℕ, ◌<◌, ◌+◌, pos, Bool, true, false, if◌then◌else◌, List, length, map, slice_index, slice_index_or}
 use Rattle.std.specs.List.{Contains}
-use Rattle.fraction_theory.specs.Fraction.{Fraction, whole}
+use Rattle.fraction_theory.specs.Fraction.{Fraction, whole, ◌+ℚ◌, ◌*ℚ◌}
 use Rattle.fraction_theory.specs.Signs.{sign_of}
 use Rattle.fraction_theory.specs.declared.Sign.{Sign}
 use Rattle.fraction_theory.specs.declared.Sign.TheVariants.{Below, Zero, Above}
-use Rattle.linear_system.specs.Choices.{reduced, value}
+use Rattle.linear_system.specs.Choices.{at_bound, column_entry, reduced, value}
 use Rattle.exact_fraction.specs.declared.Passed.{Passed}
 use Rattle.linear_dict.specs.Causes.{IsPairOf}
 use Rattle.linear_dict.specs.Dictionaries.{Dictionary, system_of, choice_of, note_of}
@@ -47,14 +47,29 @@ asks_high Below = false
 asks_high Zero = false
 asks_high Above = true
 
--- an other variable's note at the bound that its reduced price asks for
+-- a note with this reduced price, at its high bound or at its low one
 abbrev pub at_asked : Noted → Fraction → Bool → Noted
 at_asked n price up = record n { value = if up then n.high else n.low; reduced = price; at_high = up }
 
-unfoldable pub stand_note : Dictionary → ℕ → Noted
-stand_note d w =
+-- The note of w with what the price of j makes in its reduced price, where w is an other variable.
+unfoldable pub price_added : Dictionary → ℕ → ℕ → Noted
+price_added d j w =
     if (choice_of d).basic w then note_of d w
-    else at_asked (note_of d w) (reduced (system_of d) (choice_of d) w) (asks_high (sign_of (reduced (system_of d) (choice_of d) w)))
+    else record (note_of d w) { reduced = (note_of d w).reduced +ℚ (system_of d).price j *ℚ column_entry (choice_of d) j w }
+
+-- an other variable's note with its reduced price
+unfoldable pub reduced_note : Dictionary → ℕ → Noted
+reduced_note d w = if (choice_of d).basic w then note_of d w else record (note_of d w) { reduced = reduced (system_of d) (choice_of d) w }
+
+-- an other variable's note at the bound that its reduced price asks for
+unfoldable pub asked_note : Dictionary → ℕ → Noted
+asked_note d w = if (choice_of d).basic w then note_of d w else at_asked (note_of d w) (note_of d w).reduced (asks_high (sign_of (note_of d w).reduced))
+
+-- The note of b with what the bound of the other variable w makes in its value, where b is basic.
+unfoldable pub bound_added : Dictionary → ℕ → ℕ → Noted
+bound_added d w b =
+    if (choice_of d).basic b then record (note_of d b) { value = (note_of d b).value +ℚ (choice_of d).entry b w *ℚ at_bound (system_of d) (choice_of d) w }
+    else note_of d b
 
 -- a basic variable's note with the value that follows from the others
 unfoldable pub value_note : Dictionary → ℕ → Noted

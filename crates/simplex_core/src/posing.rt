@@ -3,11 +3,11 @@ ghost use Rattle.std.specs.Prelude.{◌≡◌, ℕ, ◌+◌, ◌<◌, ◌≤◌,
 ghost use Rattle.std.specs.List.{All, Contains};
 ghost use Rattle.fraction_theory.specs.Fraction.{whole};
 ghost use Rattle.fraction_theory.specs.Order.{◌≤ℚ◌};
-ghost use Rattle.linear_system.specs.Choices.{reduced, value};
-ghost use Rattle.linear_dict.specs.Causes.{IsPairOf};
-ghost use Rattle.linear_dict.specs.Dictionaries.{IsDictionary, choice_of, system_of};
+ghost use Rattle.linear_dict.specs.Causes.{IsPairOf, IsRefused};
+ghost use Rattle.linear_dict.specs.Dictionaries.{IsDictionary, note_of, system_of};
 ghost use Rattle.linear_dict.specs.Notes.{noted};
-ghost use Rattle.simplex_core.specs.Posings.{HasNotes, IsPairPosed, IsPosing, column_note, row_note, stand_note, term_note, value_note};
+ghost use Rattle.simplex_core.specs.Operations.{BoundOperation, PriceOperation};
+ghost use Rattle.simplex_core.specs.Posings.{HasNotes, IsPairPosed, IsPosing, asked_note, bound_added, column_note, price_added, reduced_note, row_note, term_note, value_note};
 ghost use Rattle.simplex_core.specs.Turns.{noted_anew};
 
 use crate::bounds::Bounds;
@@ -60,113 +60,111 @@ fn put_rows<N: Exact>(dict: &mut Dict<N>, columns: usize, bounds: &[Bounds<N>])
     }
 }
 
-/// The reduced price of the other variable of a column place: how much the objective rises where it rises by 1.
-fn reduced_price<N: Exact>(dict: &Dict<N>, column: usize, name: u32) -> Result<N, Passed<N>>
-    requires live { dict.now.spent ≡ false }
-    requires sound { IsDictionary dict.now }
-    requires unpriced { (w : ℕ) → Contains dict.now.rows w → (system_of dict.now).price w ≡ whole (pos 0) }
-    requires column { column < length dict.now.others }
-    requires name { slice_index dict.now.others column ≡ name }
-    ensures price { IfOk result (λ price. N.value price ≡ reduced (system_of dict.now) (choice_of dict.now) name) }
-    ensures pair { IfErr result (IsPairOf N.value N.bound (system_of dict.now)) }
+/// Adds to each other variable's reduced price what the price of the basic variable of a row place makes there.
+fn add_basic_price<N: Exact>(
+    dict: &mut Dict<N>,
+    row: usize,
+    name: u32,
+    price: N,
+) -> Result<(), Passed<N>>
+    requires live { dict.old.spent ≡ false }
+    requires sound { IsDictionary dict.old }
+    requires row { row < length dict.old.basics }
+    requires name { slice_index dict.old.basics row ≡ name }
+    requires price { N.value price ≡ (system_of dict.old).price name }
+    ensures notes { IfOk result (λ _. dict.new ≡ noted_anew dict.old (price_added dict.old name)) }
+    ensures cause { IfErr result (IsRefused N.value N.bound (PriceOperation dict.old name)) }
 {
-    let mut sum = N::of_parts(0, 1);
-    for rank in 0..dict.name_count() {
-        let other = dict.ranked(rank);
-        let price = dict.note(other).price;
-        match dict.place(other) {
-            Place::Row(row) => {
-                let product = price.times(dict.entry(row, column))?;
-                sum = sum.plus(product)?;
-            }
-            Place::Column(_) => {
-                if other == name {
-                    sum = sum.plus(price)?;
-                }
-            }
-        }
+    for column in 0..dict.column_count() {
+        let other = dict.others(column);
+        let note = dict.note(other);
+        let product = price.times(dict.entry(row, column))?;
+        let reduced = note.reduced.plus(product)?;
+        dict.set_note(other, Note { reduced, ..note });
     }
-    Ok(sum)
+    Ok(())
 }
 
-/// The value of the basic variable of a row place, where the others stand at their bounds.
-fn basic_value<N: Exact>(dict: &Dict<N>, row: usize, name: u32) -> Result<N, Passed<N>>
-    requires live { dict.now.spent ≡ false }
-    requires sound { IsDictionary dict.now }
-    requires row { row < length dict.now.basics }
-    requires name { slice_index dict.now.basics row ≡ name }
-    ensures value { IfOk result (λ v. N.value v ≡ value (system_of dict.now) (choice_of dict.now) name) }
-    ensures pair { IfErr result (IsPairOf N.value N.bound (system_of dict.now)) }
-{
-    let mut sum = N::of_parts(0, 1);
-    for rank in 0..dict.name_count() {
-        let other = dict.ranked(rank);
-        if let Place::Column(column) = dict.place(other) {
-            let note = dict.note(other);
-            let bound = bound_on(&note, note.at_high);
-            let product = dict.entry(row, column).times(bound)?;
-            sum = sum.plus(product)?;
-        }
-    }
-    Ok(sum)
-}
-
-/// The note of an other variable at the bound that its reduced price asks for; that of a basic one as it is.
-fn note_at_bound<N: Exact>(dict: &Dict<N>, name: u32) -> Result<Note<N>, Passed<N>>
-    requires live { dict.now.spent ≡ false }
-    requires sound { IsDictionary dict.now }
-    requires unpriced { (w : ℕ) → Contains dict.now.rows w → (system_of dict.now).price w ≡ whole (pos 0) }
-    requires named { Contains dict.now.names name }
-    ensures note { IfOk result (λ note. noted N.value note ≡ stand_note dict.now name) }
-    ensures pair { IfErr result (IsPairOf N.value N.bound (system_of dict.now)) }
+/// Adds to each other variable's reduced price what the price of a variable makes there.
+fn add_price<N: Exact>(dict: &mut Dict<N>, name: u32) -> Result<(), Passed<N>>
+    requires live { dict.old.spent ≡ false }
+    requires sound { IsDictionary dict.old }
+    requires named { Contains dict.old.names name }
+    ensures notes { IfOk result (λ _. dict.new ≡ noted_anew dict.old (price_added dict.old name)) }
+    ensures cause { IfErr result (IsRefused N.value N.bound (PriceOperation dict.old name)) }
 {
     let note = dict.note(name);
+    match note.price.sign() {
+        Sign::Zero => return Ok(()),
+        Sign::Below | Sign::Above => {}
+    }
     match dict.place(name) {
-        Place::Row(_) => Ok(note),
-        Place::Column(column) => {
-            let reduced = reduced_price(dict, column, name)?;
-            let at_high = matches!(reduced.sign(), Sign::Above);
-            let value = bound_on(&note, at_high);
-            Ok(Note {
-                value,
-                reduced,
-                at_high,
-                ..note
-            })
+        Place::Row(row) => add_basic_price(dict, row, name, note.price),
+        Place::Column(_) => {
+            let reduced = note.reduced.plus(note.price)?;
+            dict.set_note(name, Note { reduced, ..note });
+            Ok(())
         }
     }
 }
 
-/// The note of a basic variable with its value; that of an other one as it is.
-fn note_with_value<N: Exact>(dict: &Dict<N>, name: u32) -> Result<Note<N>, Passed<N>>
-    requires live { dict.now.spent ≡ false }
-    requires sound { IsDictionary dict.now }
-    requires named { Contains dict.now.names name }
-    ensures note { IfOk result (λ note. noted N.value note ≡ value_note dict.now name) }
-    ensures pair { IfErr result (IsPairOf N.value N.bound (system_of dict.now)) }
-{
-    let note = dict.note(name);
-    match dict.place(name) {
-        Place::Row(row) => {
-            let value = basic_value(dict, row, name)?;
-            Ok(Note { value, ..note })
-        }
-        Place::Column(_) => Ok(note),
-    }
-}
-
-/// Puts each other variable at the bound that its reduced price asks for.
-fn put_others<N: Exact>(dict: &mut Dict<N>) -> Result<(), Passed<N>>
+/// Gives each other variable its reduced price: how much the objective rises where it rises by 1.
+fn put_reduced<N: Exact>(dict: &mut Dict<N>) -> Result<(), Passed<N>>
     requires live { dict.old.spent ≡ false }
     requires sound { IsDictionary dict.old }
     requires unpriced { (w : ℕ) → Contains dict.old.rows w → (system_of dict.old).price w ≡ whole (pos 0) }
-    ensures notes { IfOk result (λ _. dict.new ≡ noted_anew dict.old (stand_note dict.old)) }
+    requires blank { (w : ℕ) → Contains dict.old.others w → (note_of dict.old w).reduced ≡ whole (pos 0) }
+    ensures notes { IfOk result (λ _. dict.new ≡ noted_anew dict.old (reduced_note dict.old)) }
     ensures pair { IfErr result (IsPairOf N.value N.bound (system_of dict.old)) }
 {
     for rank in 0..dict.name_count() {
         let name = dict.ranked(rank);
-        let note = note_at_bound(dict, name)?;
-        dict.set_note(name, note);
+        add_price(dict, name)?;
+    }
+    Ok(())
+}
+
+/// Puts each other variable at the bound that its reduced price asks for.
+fn put_others<N: Exact>(dict: &mut Dict<N>)
+    requires live { dict.old.spent ≡ false }
+    requires sound { IsDictionary dict.old }
+    ensures { dict.new ≡ noted_anew dict.old (asked_note dict.old) }
+{
+    for column in 0..dict.column_count() {
+        let name = dict.others(column);
+        let note = dict.note(name);
+        let at_high = matches!(note.reduced.sign(), Sign::Above);
+        let value = bound_on(&note, at_high);
+        let asked = Note {
+            value,
+            at_high,
+            ..note
+        };
+        dict.set_note(name, asked);
+    }
+}
+
+/// Adds to each basic variable's value what the bound of the other variable of a column place makes there.
+fn add_bound<N: Exact>(dict: &mut Dict<N>, column: usize, name: u32) -> Result<(), Passed<N>>
+    requires live { dict.old.spent ≡ false }
+    requires sound { IsDictionary dict.old }
+    requires column { column < length dict.old.others }
+    requires name { slice_index dict.old.others column ≡ name }
+    ensures notes { IfOk result (λ _. dict.new ≡ noted_anew dict.old (bound_added dict.old name)) }
+    ensures cause { IfErr result (IsRefused N.value N.bound (BoundOperation dict.old name)) }
+{
+    let at = dict.note(name);
+    let bound = bound_on(&at, at.at_high);
+    match bound.sign() {
+        Sign::Zero => return Ok(()),
+        Sign::Below | Sign::Above => {}
+    }
+    for row in 0..dict.row_count() {
+        let basic = dict.basics(row);
+        let note = dict.note(basic);
+        let product = dict.entry(row, column).times(bound)?;
+        let value = note.value.plus(product)?;
+        dict.set_note(basic, Note { value, ..note });
     }
     Ok(())
 }
@@ -175,13 +173,15 @@ fn put_others<N: Exact>(dict: &mut Dict<N>) -> Result<(), Passed<N>>
 fn put_basics<N: Exact>(dict: &mut Dict<N>) -> Result<(), Passed<N>>
     requires live { dict.old.spent ≡ false }
     requires sound { IsDictionary dict.old }
+    requires blank { (b : ℕ) → Contains dict.old.basics b → (note_of dict.old b).value ≡ whole (pos 0) }
     ensures notes { IfOk result (λ _. dict.new ≡ noted_anew dict.old (value_note dict.old)) }
     ensures pair { IfErr result (IsPairOf N.value N.bound (system_of dict.old)) }
 {
     for rank in 0..dict.name_count() {
         let name = dict.ranked(rank);
-        let note = note_with_value(dict, name)?;
-        dict.set_note(name, note);
+        if let Place::Column(column) = dict.place(name) {
+            add_bound(dict, column, name)?;
+        }
     }
     Ok(())
 }
@@ -205,7 +205,8 @@ pub fn pose<N: Exact>(
     prove!(live);
     put_columns(&mut dict, prices, bounds);
     put_rows(&mut dict, prices.len(), bounds);
-    put_others(&mut dict)?;
+    put_reduced(&mut dict)?;
+    put_others(&mut dict);
     put_basics(&mut dict)?;
     Ok(Posed { dict })
 }

@@ -8,7 +8,7 @@ ghost use Rattle.simplex_core.specs.Outcomes.{IsSettled, IsOutcome};
 
 use crate::enter::find_entering;
 use crate::exchange::step;
-use crate::leave::find_leaving;
+use crate::leave::{Leaving, find_leaving};
 use exact_fraction::{Exact, Passed};
 use linear_dict::Dict;
 use std::marker::Model;
@@ -55,13 +55,18 @@ impl<N: Exact> Model for Solved<N> {
 #[derive(Drop)]
 pub enum Run<N: Exact> {
     Solved(Solved<N>),
-    /// No values within the bounds meet the rows: no values of the others in this row place do so alone.
-    Empty { dict: Dict<N>, row: usize },
+    /// No values within the bounds meet the rows: the basic variable of a row place shows it, which is above its high bound
+    /// or below its low one, and which none of the others brings back.
+    Empty {
+        dict: Dict<N>,
+        row: usize,
+        above: bool,
+    },
     Passed(Passed<N>),
 }
 
-/// Steps until all basic variables keep their bounds, or none of the others helps the one that leaves: then its row place.
-fn settle<N: Exact>(dict: &mut Dict<N>) -> Result<Option<usize>, Passed<N>>
+/// Steps until all basic variables keep their bounds, or none of the others helps the one that leaves: then that one.
+fn settle<N: Exact>(dict: &mut Dict<N>) -> Result<Option<Leaving>, Passed<N>>
     requires { IsReady dict.old }
     ensures settled { IfOk result (IsSettled dict.old dict.new) }
     ensures pair { IfErr result (IsPairOf N.value N.bound (system_of dict.old)) }
@@ -69,7 +74,7 @@ fn settle<N: Exact>(dict: &mut Dict<N>) -> Result<Option<usize>, Passed<N>>
     while let Some(variable) = find_leaving(dict) {
         match find_entering(dict, &variable)? {
             Some(candidate) => step(dict, &variable, &candidate)?,
-            None => return Ok(Some(variable.row)),
+            None => return Ok(Some(variable)),
         }
     }
     Ok(None)
@@ -83,7 +88,11 @@ impl<N: Exact> Posed<N> {
         let mut dict = self.dict;
         match settle(&mut dict) {
             Ok(None) => Run::Solved(Solved { dict }),
-            Ok(Some(row)) => Run::Empty { dict, row },
+            Ok(Some(stuck)) => Run::Empty {
+                dict,
+                row: stuck.row,
+                above: stuck.above,
+            },
             Err(passed) => Run::Passed(passed),
         }
     }

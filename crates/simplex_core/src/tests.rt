@@ -79,8 +79,8 @@ fn two_columns_63(rt: &impl Abort, alloc: Global) {
     let one = fraction(1, 1);
     let dict = Dict::start(alloc, &[1, 2], 3, &[one, one]).expect(rt, "memory");
     match posed_63(rt, dict, 250).run() {
-        Run::Empty { dict, row } => {
-            assert!(rt; row == 0);
+        Run::Empty { dict, row, above } => {
+            assert!(rt; row == 0 && above);
             solved_63(rt, posed_63(rt, dict, 60));
         }
         _ => assert!(rt; false),
@@ -122,8 +122,8 @@ fn two_columns_127(rt: &impl Abort, alloc: Global) {
     let one = fraction(1, 1);
     let dict = Dict::start(alloc, &[1, 2], 3, &[one, one]).expect(rt, "memory");
     match posed_127(rt, dict, 250).run() {
-        Run::Empty { dict, row } => {
-            assert!(rt; row == 0);
+        Run::Empty { dict, row, above } => {
+            assert!(rt; row == 0 && above);
             solved_127(rt, posed_127(rt, dict, 60));
         }
         _ => assert!(rt; false),

@@ -13,4 +13,5 @@ pub mod Signs
 pub mod Splits
 pub mod Stepping
 pub mod Stretches
+pub mod StuckRows
 pub mod Trails

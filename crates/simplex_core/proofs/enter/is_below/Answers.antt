@@ -1,4 +1,4 @@
-use Rattle.std.proofs.Common.{◌≡◌, ◌∙◌, ap, sym, subst, subst₂, refl, inl, inr, Ordering, Equal, Greater}
+use Rattle.std.proofs.Common.{◌≡◌, ◌∙◌, sym, subst, subst₂, refl, inl, inr, Ordering}
 use Rattle.std.specs.Ordering.{MatchOrdering}
 use Rattle.fraction_theory.specs.Fraction.{Fraction, ◌*ℚ◌}
 use Rattle.fraction_theory.specs.Order.{◌<ℚ◌}

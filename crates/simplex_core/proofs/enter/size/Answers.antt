@@ -1,6 +1,5 @@
-use Rattle.std.proofs.Common.{◌≡◌, ap, sym, ◌∙◌, inl, inr}
+use Rattle.std.proofs.Common.{ap, sym, ◌∙◌, inl, inr}
 use Rattle.fraction_theory.specs.declared.Sign.{Sign}
-use Rattle.fraction_theory.specs.declared.Sign.TheVariants.{Zero, Above}
 use Rattle.simplex_theory.specs.Steps.{abs_ℚ, abs_by}
 use Rattle.simplex_core.proofs.enter.size.Goals as goal
 

@@ -1,4 +1,4 @@
-use Rattle.std.proofs.Common.{◌≡◌, ◌<◌, ◌∙◌, ℕ, List, arith, ap, sym, subst, length, slice_index}
+use Rattle.std.proofs.Common.{◌≡◌, ◌<◌, ◌∙◌, ℕ, arith, ap, subst, length, slice_index}
 use Rattle.linear_dict.specs.Dictionaries.{Dictionary, with_note}
 use Rattle.linear_dict.specs.Notes.{Noted, noted}
 use Rattle.simplex_core.specs.Turns.{moved_note}

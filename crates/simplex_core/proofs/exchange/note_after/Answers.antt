@@ -1,4 +1,4 @@
-use Rattle.std.proofs.Common.{◌≡◌, ◌∙◌, ℕ, pos, ap, sym, subst, refl}
+use Rattle.std.proofs.Common.{◌≡◌, ◌∙◌, pos, ap, sym, subst, refl}
 use mathlib.Core.Path.{ap₂}
 use Rattle.std.specs.List.{Contains}
 use Rattle.fraction_theory.specs.Fraction.{Fraction, whole, ◌+ℚ◌, ◌*ℚ◌}
@@ -6,7 +6,6 @@ use Rattle.fraction_theory.proofs.FieldLaws.{over-one}
 use Rattle.linear_dict.specs.Dictionaries.{Dictionary, choice_of, entry_of, note_of}
 use Rattle.linear_dict.specs.Notes.{Noted, noted}
 use Rattle.linear_dict.proofs.SplitLemmas.{Contains-at}
-use Rattle.simplex_core.specs.Turns.{moved_note}
 use Rattle.simplex_core.proofs.MoveLemmas.{note_with, moved-basic, moved-leaving, moved-staying}
 use Rattle.exact_fraction.specs.declared.Op.TheVariants.{Plus, Times}
 use Rattle.std.proofs.lemmas.Result.{err_from_is_err_and}

@@ -1,9 +1,9 @@
-use Rattle.std.proofs.Common.{◌≡◌, ◌≢◌, ◌<◌, ◌∙◌, ℕ, Bool, pos, arith, ap, sym, subst, length, slice_index}
+use Rattle.std.proofs.Common.{◌≡◌, ◌∙◌, ℕ, Bool, pos, arith, ap, sym, subst, length, slice_index}
 use Rattle.std.proofs.lemmas.Result.{IfOk-equal}
 use mathlib.Core.Path.{ap₂}
 use Rattle.fraction_theory.specs.Fraction.{Fraction, whole, ◌-ℚ◌}
 use Rattle.linear_dict.specs.Tables.{cell}
-use Rattle.linear_dict.specs.Dictionaries.{Dictionary, system_of, entry_of, note_of, pivoted}
+use Rattle.linear_dict.specs.Dictionaries.{Dictionary, system_of, entry_of, note_of}
 use Rattle.linear_dict.specs.Notes.{Noted, noted}
 use Rattle.linear_dict.proofs.NameLemmas.{entry_at}
 use Rattle.simplex_theory.specs.Steps.{violated_bound, displacement}
@@ -12,7 +12,6 @@ use Rattle.simplex_core.specs.Turns.{moved_note, noted_anew, turned}
 use Rattle.simplex_core.proofs.Helping.{value_is}
 use Rattle.simplex_core.proofs.StepLemmas.{pivoted_live, pivoted_rows, pivoted_columns, pivoted_entering, pivoted_leaving, bound_is, turned_is}
 use Rattle.exact_fraction.specs.declared.Op.TheVariants.{Minus}
-use Rattle.exact_fraction.specs.declared.Passed.{Passed}
 use Rattle.std.specs.List.{Contains}
 use Rattle.std.proofs.lemmas.Result.{err_from_is_err_and}
 use Rattle.linear_dict.specs.Causes.{IsPairOf, IsRefused}

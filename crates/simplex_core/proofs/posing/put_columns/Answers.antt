@@ -6,7 +6,7 @@ use Rattle.linear_dict.specs.Notes.{Noted, noted}
 use Rattle.linear_dict.proofs.SplitLemmas.{Contains-at}
 use Rattle.simplex_core.specs.Posings.{column_note, price_at, low_at, high_at}
 use Rattle.simplex_core.specs.declared.bounds.Bounds.{Bounds}
-use Rattle.simplex_core.proofs.PutLemmas.{putting_start, putting_sound, putting_step, putting_end, read_at, term_is}
+use Rattle.simplex_core.proofs.PutLemmas.{putting_start, putting_step, read_at, term_is}
 use Rattle.simplex_core.proofs.posing.put_columns.Goals as goal
 
 pub loop-k-init : goal.loop-k-init

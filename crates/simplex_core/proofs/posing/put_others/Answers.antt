@@ -1,50 +1,78 @@
-use Rattle.std.proofs.Common.{◌≡◌, ◌<◌, ◌∙◌, ℕ, List, pos, arith, ap, sym, subst, length, slice_index}
+use Rattle.std.proofs.Common.{◌≡◌, ◌<◌, ◌∙◌, ℕ, arith, ap, sym, subst, length, slice_index, inl, inr}
 use Rattle.std.specs.List.{Contains}
-use Rattle.fraction_theory.specs.Fraction.{Fraction, whole}
-use Rattle.std.proofs.lemmas.Result.{err_from_is_err_and}
-use Rattle.linear_dict.specs.Causes.{IsPairOf}
-use Rattle.linear_system.specs.Systems.{System}
-use Rattle.linear_dict.specs.Dictionaries.{Dictionary, system_of, note_of, with_note}
+use Rattle.fraction_theory.specs.Signs.{sign_of}
+use Rattle.linear_dict.specs.Dictionaries.{Dictionary, note_of, with_note}
 use Rattle.linear_dict.specs.Notes.{Noted, noted}
-use Rattle.simplex_core.specs.Posings.{stand_note}
-use Rattle.simplex_core.proofs.MoveLemmas.{moving_start, moving_sound, moving_step, moving_end, moving_note}
-use Rattle.simplex_core.proofs.StandLemmas.{moving_system, stand_same, stand-price, stand-low, stand-high}
+use Rattle.linear_dict.proofs.SplitLemmas.{Contains-at}
+use Rattle.simplex_core.specs.Posings.{asked_note, asks_high}
+use Rattle.simplex_core.proofs.Adding.{asked_note-basic, asked_note-other}
+use Rattle.simplex_core.proofs.AnewLaws.{put_anew}
+use Rattle.simplex_core.proofs.PutLemmas.{putting_start, putting_note, putting_named, putting_step, putting_end}
+use Rattle.simplex_core.proofs.StandLemmas.{asks_not, asked_is}
 use Rattle.simplex_core.proofs.posing.put_others.Goals as goal
+use Rattle.simplex_core.proofs.posing.put_others.Goals.{in-Above, in_default}
 
-pub loop-rank-init : goal.loop-rank-init
-loop-rank-init g c = moving_start c.args.dict.now c.requires.sound (stand_note c.args.dict.now)
+pub loop-column-init : goal.loop-column-init
+loop-column-init g c =
+    let d : Dictionary = c.args.dict.now in
+    let s = c.requires.sound in
+    putting_start d s d.others (λ k. asked_note d (slice_index d.others k)) s.split.second_distinct s.split.second_named
 
-pub note_at_bound-requires-clause-sound : goal.note_at_bound-requires-clause-sound
-note_at_bound-requires-clause-sound g c = moving_sound c.args.dict.now c.requires.sound (stand_note c.args.dict.now) c.loop-rank.rank c.loop-rank.dict c.loop-rank.invariant
+pub note-note-requires-clause-named : goal.note-note-requires-clause-named
+note-note-requires-clause-named g c =
+    let d : Dictionary = c.args.dict.now in
+    let s = c.requires.sound in
+    let k : ℕ = c.loop-column.column in
+    let e : Dictionary = c.loop-column.dict in
+    let m = c.loop-column.invariant in
+    let hk : k < length d.others = Prim.omega (arith, c.loop-column-test.true, c.column_count-column-end.ensures) in
+    let name : c.others-name.result ≡ slice_index d.others k = c.others-name.ensures ∙ ap (λ (x : Dictionary). slice_index x.others k) m.is in
+    subst (Contains e.names) (sym name) (putting_named d s d.others (λ i. asked_note d (slice_index d.others i)) s.split.second_distinct s.split.second_named k e m hk)
 
-pub note_at_bound-requires-clause-unpriced : goal.note_at_bound-requires-clause-unpriced
-note_at_bound-requires-clause-unpriced g c =
-    let e : Dictionary = c.args.dict.now in
-    let same : system_of c.loop-rank.dict ≡ system_of e = ap system_of c.loop-rank.invariant.is ∙ moving_system e c.requires.sound (stand_note e) c.loop-rank.rank c.loop-rank.dict c.loop-rank.invariant (stand-price e) (stand-low e) (stand-high e) in
-    λ w m. ap (λ (s : System). s.price w) same ∙ c.requires.unpriced w (subst (λ (x : Dictionary). Contains x.rows w) c.loop-rank.invariant.is m)
+pub set_note-requires-clause-named : goal.set_note-requires-clause-named
+set_note-requires-clause-named g c =
+    let d : Dictionary = c.args.dict.now in
+    let s = c.requires.sound in
+    let k : ℕ = c.loop-column.column in
+    let e : Dictionary = c.loop-column.dict in
+    let m = c.loop-column.invariant in
+    let hk : k < length d.others = Prim.omega (arith, c.loop-column-test.true, c.column_count-column-end.ensures) in
+    let name : c.others-name.result ≡ slice_index d.others k = c.others-name.ensures ∙ ap (λ (x : Dictionary). slice_index x.others k) m.is in
+    subst (Contains e.names) (sym name) (putting_named d s d.others (λ i. asked_note d (slice_index d.others i)) s.split.second_distinct s.split.second_named k e m hk)
 
-pub loop-rank-preserved : goal.loop-rank-preserved
-loop-rank-preserved g c =
-    let e : Dictionary = c.args.dict.now in
-    let d : Dictionary = c.loop-rank.dict in
-    let k : ℕ = c.loop-rank.rank in
-    let n : Noted = noted g.N.Exact.value c.in_ok-note.note in
-    let m = c.loop-rank.invariant in
-    let hk : k < length e.names = Prim.omega (arith, c.loop-rank-test.true, c.name_count-rank-end.ensures) in
-    let name : c.ranked-name.result ≡ slice_index e.names k = c.ranked-name.ensures ∙ ap (λ (x : Dictionary). slice_index x.names k) m.is in
-    let same : system_of (record e { notes = m.notes }) ≡ system_of e = moving_system e c.requires.sound (stand_note e) k d m (stand-price e) (stand-low e) (stand-high e) in
-    moving_step e c.requires.sound (stand_note e) k d m hk n c.set_note.new.self
-    (c.set_note.ensures ∙ ap (λ (w : ℕ). with_note d w n) name)
-    (c.in_ok-note.ensures.note ∙ ap (stand_note d) name ∙ ap (λ (x : Dictionary). stand_note x (slice_index e.names k)) m.is
-    ∙ stand_same e m.notes (slice_index e.names k) same (moving_note e c.requires.sound (stand_note e) k d m hk))
+pub loop-column-preserved : goal.loop-column-preserved
+loop-column-preserved g c =
+    let value = g.N.Exact.value in
+    let d : Dictionary = c.args.dict.now in
+    let e : Dictionary = c.loop-column.dict in
+    let s = c.requires.sound in
+    let k : ℕ = c.loop-column.column in
+    let w : ℕ = slice_index d.others k in
+    let f : ℕ → Noted = λ i. asked_note d (slice_index d.others i) in
+    let m = c.loop-column.invariant in
+    let hk : k < length d.others = Prim.omega (arith, c.loop-column-test.true, c.column_count-column-end.ensures) in
+    let name : c.others-name.result ≡ w = c.others-name.ensures ∙ ap (λ (x : Dictionary). slice_index x.others k) m.is in
+    let note : noted value c.note-note.result ≡ note_of d w = c.note-note.ensures ∙ ap (note_of e) name ∙ putting_note d s d.others f s.split.second_distinct s.split.second_named k e m hk in
+    let r = c.note-note.result in
+    let n : Noted = record { price = value r.price; low = value r.low; high = value r.high; value = value c.bound_on-value.result; reduced = value r.reduced; at_high = c.match-matches.matches } in
+    let up : c.match-matches.matches ≡ asks_high (sign_of (value c.note-note.result.reduced)) = elim c.match-matches.branch [
+      | in-Above w ↦ w.matches-is ∙ ap asks_high (sym w.in-Above.is ∙ c.sign.ensures)
+      | in_default w ↦ w.matches-is ∙ asks_not c.sign.result w.in_default.not-Above ∙ ap asks_high c.sign.ensures
+    ] in
+    putting_step d s d.others f s.split.second_distinct s.split.second_named k e m n c.set_note.new.self hk
+    (c.set_note.ensures ∙ ap (λ (x : ℕ). with_note e x n) name)
+    (asked_is value (note_of d w) c.note-note.result c.note-note.result.reduced c.bound_on-value.result c.match-matches.matches (note_of d w).reduced note (ap Noted.reduced note) up c.bound_on-value.ensures
+    ∙ sym (asked_note-other d s w (Contains-at d.others k hk)))
 
-pub returns-clause-notes : goal.returns-clause-notes
-returns-clause-notes g c =
-    moving_end c.args.dict.now c.requires.sound (stand_note c.args.dict.now) c.loop-rank.rank c.loop-rank.dict c.loop-rank.invariant (Prim.omega (arith, c.loop-rank-test.false, c.name_count-rank-end.ensures))
-
-pub returns-in_err-note-clause-pair : goal.returns-in_err-note-clause-pair
-returns-in_err-note-clause-pair g c =
-    let e : Dictionary = c.args.dict.now in
-    let same : system_of c.loop-rank.dict ≡ system_of e = ap system_of c.loop-rank.invariant.is ∙ moving_system e c.requires.sound (stand_note e) c.loop-rank.rank c.loop-rank.dict c.loop-rank.invariant (stand-price e) (stand-low e) (stand-high e) in
-    let p = err_from_is_err_and c.from_residual.result c.from_residual.ensures.1 in
-    rw (p.1, p.2) (subst (λ (s : System). IsPairOf g.N.Exact.value g.N.Exact.bound s c.in_err-note.field-0.0) same c.in_err-note.ensures.pair)
+pub returns : goal.returns
+returns g c =
+    let d : Dictionary = c.args.dict.now in
+    let s = c.requires.sound in
+    let k : ℕ = c.loop-column.column in
+    put_anew d s d.others (asked_note d) c.loop-column.dict
+    (putting_end d s d.others (λ i. asked_note d (slice_index d.others i)) s.split.second_distinct s.split.second_named k c.loop-column.dict c.loop-column.invariant
+    (Prim.omega (arith, c.loop-column-test.false, c.column_count-column-end.ensures)))
+    (λ w named apart. elim (s.split.either w named) [
+      | inl b ↦ sym (asked_note-basic d s w b)
+      | inr o ↦ absurd (apart o)
+    ])

@@ -1,11 +1,10 @@
-use Rattle.std.proofs.Common.{◌≡◌, ◌<◌, ℕ, Bool, Option, Some, None, subst, sym}
+use Rattle.std.proofs.Common.{◌<◌, ℕ, Bool, Option, subst, sym}
 use Rattle.linear_dict.specs.Dictionaries.{Dictionary}
 use Rattle.simplex_core.specs.Outcomes.{Keeps}
 use Rattle.simplex_core.specs.Searches.{IsEntering}
-use Rattle.simplex_core.specs.Turns.{turned}
 use Rattle.simplex_core.specs.declared.enter.Candidate.{Candidate}
 use Rattle.simplex_core.proofs.Nexts.{IsTurn, to_come, to_come_falls}
-use Rattle.simplex_core.proofs.RunLemmas.{keeps_itself, keeps_turned, solved_at, empty_at}
+use Rattle.simplex_core.proofs.RunLemmas.{keeps_itself, keeps_turned, shows_choice, solved_at, empty_at}
 use Rattle.simplex_core.proofs.TurnLaws.{pivot_not_nil}
 use Rattle.simplex_core.proofs.solving.settle.Goals as goal
 
@@ -46,7 +45,7 @@ returns-in-None-clause-settled g c =
     let v : ℕ = c.in-Some.variable.name in
     let a : Bool = c.in-Some.variable.above in
     let idle = subst (λ (o : Option (Candidate g.row.N.Denot)). IsEntering d v a o) c.in-None.is c.in_ok-candidate.ensures.found in
-    (c.loop-variable.invariant, empty_at d c.loop-variable.invariant.ready v c.in-Some.variable.row a c.in-Some.ensures.2 idle c.in-Some.ensures.0 c.in-Some.ensures.1)
+    (c.loop-variable.invariant, shows_choice d c.loop-variable.invariant.ready, empty_at d c.loop-variable.invariant.ready v c.in-Some.variable.row a c.in-Some.ensures.2 idle c.in-Some.ensures.0 c.in-Some.ensures.1)
 
 pub returns-clause-settled : goal.returns-clause-settled
-returns-clause-settled g c = (c.loop-variable.invariant, solved_at c.loop-variable.dict c.loop-variable.invariant.ready c.in_default.ensures)
+returns-clause-settled g c = (c.loop-variable.invariant, shows_choice c.loop-variable.dict c.loop-variable.invariant.ready, solved_at c.loop-variable.dict c.loop-variable.invariant.ready c.in_default.ensures)

@@ -1,0 +1,121 @@
+use Rattle.std.proofs.Common.{◌≡◌, ◌<◌, ◌∙◌, ℕ, arith, ap, sym, subst, length, slice_index, inl, inr, refl}
+use Rattle.std.specs.List.{Contains}
+use mathlib.Core.Path.{ap₂}
+use Rattle.exact_fraction.specs.declared.Op.TheVariants.{Plus, Times}
+use Rattle.fraction_theory.specs.Fraction.{◌+ℚ◌, ◌*ℚ◌}
+use Rattle.linear_system.proofs.ChoiceLaws.{column_entry-basic}
+use Rattle.linear_dict.specs.Dictionaries.{Dictionary, choice_of, note_of, system_of, with_note}
+use Rattle.linear_dict.specs.Notes.{Noted, noted}
+use Rattle.linear_dict.proofs.CauseLemmas.{refused}
+use Rattle.linear_dict.proofs.SplitLemmas.{Contains-at}
+use Rattle.std.proofs.lemmas.Result.{err_from_is_err_and}
+use Rattle.simplex_core.specs.Operations.{PriceOperation, scaling_price, adding_scaled}
+use Rattle.simplex_core.specs.Posings.{price_added}
+use Rattle.simplex_core.proofs.Adding.{with_reduced, price_added-basic, price_added-other}
+use Rattle.simplex_core.proofs.AnewLaws.{entry_read, put_anew}
+use Rattle.simplex_core.proofs.PutLemmas.{putting_start, putting_note, putting_named, putting_step, putting_end}
+use Rattle.simplex_core.proofs.StandLemmas.{choice_basic}
+use Rattle.simplex_core.proofs.posing.add_basic_price.Goals as goal
+
+pub loop-column-init : goal.loop-column-init
+loop-column-init g c =
+    let d : Dictionary = c.args.dict.now in
+    let s = c.requires.sound in
+    putting_start d s d.others (λ k. price_added d c.args.name (slice_index d.others k)) s.split.second_distinct s.split.second_named
+
+pub note-note-requires-clause-named : goal.note-note-requires-clause-named
+note-note-requires-clause-named g c =
+    let d : Dictionary = c.args.dict.now in
+    let s = c.requires.sound in
+    let k : ℕ = c.loop-column.column in
+    let e : Dictionary = c.loop-column.dict in
+    let m = c.loop-column.invariant in
+    let hk : k < length d.others = Prim.omega (arith, c.loop-column-test.true, c.column_count-column-end.ensures) in
+    let name : c.others-other.result ≡ slice_index d.others k = c.others-other.ensures ∙ ap (λ (x : Dictionary). slice_index x.others k) m.is in
+    subst (Contains e.names) (sym name) (putting_named d s d.others (λ i. price_added d c.args.name (slice_index d.others i)) s.split.second_distinct s.split.second_named k e m hk)
+
+pub set_note-requires-clause-named : goal.set_note-requires-clause-named
+set_note-requires-clause-named g c =
+    let d : Dictionary = c.args.dict.now in
+    let s = c.requires.sound in
+    let k : ℕ = c.loop-column.column in
+    let e : Dictionary = c.loop-column.dict in
+    let m = c.loop-column.invariant in
+    let hk : k < length d.others = Prim.omega (arith, c.loop-column-test.true, c.column_count-column-end.ensures) in
+    let name : c.others-other.result ≡ slice_index d.others k = c.others-other.ensures ∙ ap (λ (x : Dictionary). slice_index x.others k) m.is in
+    subst (Contains e.names) (sym name) (putting_named d s d.others (λ i. price_added d c.args.name (slice_index d.others i)) s.split.second_distinct s.split.second_named k e m hk)
+
+pub loop-column-preserved : goal.loop-column-preserved
+loop-column-preserved g c =
+    let value = g.N.Exact.value in
+    let d : Dictionary = c.args.dict.now in
+    let e : Dictionary = c.loop-column.dict in
+    let s = c.requires.sound in
+    let j : ℕ = c.args.name in
+    let k : ℕ = c.loop-column.column in
+    let w : ℕ = slice_index d.others k in
+    let f : ℕ → Noted = λ i. price_added d j (slice_index d.others i) in
+    let m = c.loop-column.invariant in
+    let hk : k < length d.others = Prim.omega (arith, c.loop-column-test.true, c.column_count-column-end.ensures) in
+    let basic : Contains d.basics j = subst (Contains d.basics) c.requires.name (Contains-at d.basics c.args.row c.requires.row) in
+    let name : c.others-other.result ≡ w = c.others-other.ensures ∙ ap (λ (x : Dictionary). slice_index x.others k) m.is in
+    let note : noted value c.note-note.result ≡ note_of d w = c.note-note.ensures ∙ ap (note_of e) name ∙ putting_note d s d.others f s.split.second_distinct s.split.second_named k e m hk in
+    let entry : value c.entry.result ≡ (choice_of d).entry j w = c.entry.ensures.entry ∙ entry_read d e m.notes m.is c.args.row k j w c.requires.name refl in
+    let n : Noted = with_reduced (noted value c.note-note.result) (value c.in_ok-reduced.reduced) in
+    putting_step d s d.others f s.split.second_distinct s.split.second_named k e m n c.set_note.new.self hk
+    (c.set_note.ensures ∙ ap (λ (x : ℕ). with_note e x n) name)
+    (ap₂ with_reduced note (c.in_ok-reduced.ensures.exact ∙ ap₂ ◌+ℚ◌ (ap Noted.reduced note)
+    (c.in_ok-product.ensures.exact ∙ ap₂ ◌*ℚ◌ c.requires.price (entry ∙ sym (column_entry-basic (choice_of d) j w (choice_basic d s j basic)))))
+    ∙ sym (price_added-other d s w j (Contains-at d.others k hk)))
+
+pub returns-clause-notes : goal.returns-clause-notes
+returns-clause-notes g c =
+    let d : Dictionary = c.args.dict.now in
+    let s = c.requires.sound in
+    let j : ℕ = c.args.name in
+    let k : ℕ = c.loop-column.column in
+    put_anew d s d.others (price_added d j) c.loop-column.dict
+    (putting_end d s d.others (λ i. price_added d j (slice_index d.others i)) s.split.second_distinct s.split.second_named k c.loop-column.dict c.loop-column.invariant
+    (Prim.omega (arith, c.loop-column-test.false, c.column_count-column-end.ensures)))
+    (λ w named apart. elim (s.split.either w named) [
+      | inl b ↦ sym (price_added-basic d s w j b)
+      | inr o ↦ absurd (apart o)
+    ])
+
+pub returns-in_err-product-clause-cause : goal.returns-in_err-product-clause-cause
+returns-in_err-product-clause-cause g c =
+    let value = g.N.Exact.value in
+    let d : Dictionary = c.args.dict.now in
+    let j : ℕ = c.args.name in
+    let k : ℕ = c.loop-column.column in
+    let w : ℕ = slice_index d.others k in
+    let m = c.loop-column.invariant in
+    let hk : k < length d.others = Prim.omega (arith, c.loop-column-test.true, c.column_count-column-end.ensures) in
+    let basic : Contains d.basics j = subst (Contains d.basics) c.requires.name (Contains-at d.basics c.args.row c.requires.row) in
+    let entry : value c.entry.result ≡ (choice_of d).entry j w = c.entry.ensures.entry ∙ entry_read d c.loop-column.dict m.notes m.is c.args.row k j w c.requires.name refl in
+    let p = err_from_is_err_and c.from_residual.result c.from_residual.ensures.1 in
+    rw (p.1, p.2)
+    (refused value g.N.Exact.bound (PriceOperation d j) Times c.args.price c.entry.result c.in_err-product.field-0.0
+    ((system_of d).price j) ((choice_of d).entry j w) c.in_err-product.ensures c.requires.price entry (scaling_price w basic (Contains-at d.others k hk)))
+
+pub returns-in_err-reduced-clause-cause : goal.returns-in_err-reduced-clause-cause
+returns-in_err-reduced-clause-cause g c =
+    let value = g.N.Exact.value in
+    let d : Dictionary = c.args.dict.now in
+    let e : Dictionary = c.loop-column.dict in
+    let s = c.requires.sound in
+    let j : ℕ = c.args.name in
+    let k : ℕ = c.loop-column.column in
+    let w : ℕ = slice_index d.others k in
+    let f : ℕ → Noted = λ i. price_added d j (slice_index d.others i) in
+    let m = c.loop-column.invariant in
+    let hk : k < length d.others = Prim.omega (arith, c.loop-column-test.true, c.column_count-column-end.ensures) in
+    let basic : Contains d.basics j = subst (Contains d.basics) c.requires.name (Contains-at d.basics c.args.row c.requires.row) in
+    let name : c.others-other.result ≡ w = c.others-other.ensures ∙ ap (λ (x : Dictionary). slice_index x.others k) m.is in
+    let note : noted value c.note-note.result ≡ note_of d w = c.note-note.ensures ∙ ap (note_of e) name ∙ putting_note d s d.others f s.split.second_distinct s.split.second_named k e m hk in
+    let entry : value c.entry.result ≡ (choice_of d).entry j w = c.entry.ensures.entry ∙ entry_read d e m.notes m.is c.args.row k j w c.requires.name refl in
+    let p = err_from_is_err_and c.from_residual-in_err-reduced.result c.from_residual-in_err-reduced.ensures.1 in
+    rw (p.1, p.2)
+    (refused value g.N.Exact.bound (PriceOperation d j) Plus c.note-note.result.reduced c.in_ok-product.product c.in_err-reduced.field-0.0
+    (note_of d w).reduced ((system_of d).price j *ℚ (choice_of d).entry j w) c.in_err-reduced.ensures (ap Noted.reduced note)
+    (c.in_ok-product.ensures.exact ∙ ap₂ ◌*ℚ◌ c.requires.price entry) (adding_scaled w basic (Contains-at d.others k hk)))
