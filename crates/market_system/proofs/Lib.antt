@@ -1,6 +1,7 @@
 pub mod BlockChoices
 pub mod Completeness
 pub mod DualLists
+pub mod GrowthLaws
 pub mod MarketPoints
 pub mod PairLaws
 mod RangeRows
