@@ -52,12 +52,12 @@ same_id-not a b n = by (same_id a b) refl
     by false e = e
 
 -- ---- the two prices by the sign of a cost
-pub up_by : Sign → Fraction → Fraction
+unfoldable pub up_by : Sign → Fraction → Fraction
 up_by Below x = nil
 up_by Zero x = nil
 up_by Above x = x
 
-pub down_by : Sign → Fraction → Fraction
+unfoldable pub down_by : Sign → Fraction → Fraction
 down_by Below x = neg_ℚ x
 down_by Zero x = nil
 down_by Above x = nil

@@ -7,4 +7,5 @@ pub mod PairLaws
 mod RangeRows
 pub mod RowOrder
 pub mod SolvedMarkets
+pub mod StuckMarkets
 pub mod SystemLaws

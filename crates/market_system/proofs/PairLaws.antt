@@ -13,6 +13,7 @@ use Rattle.exact_fraction.specs.Passes.{Passes}
 use Rattle.linear_system.specs.Choices.{Choice, IsChoice}
 use Rattle.linear_system.specs.Numbers.{Kind, Factor, Quantity, is_one}
 use Rattle.linear_system.specs.Pairs.{IsCombined, alone, difference, IsSummand, plain, IsPairCase, added, subtracted, scaled_right, OfEither}
+use Rattle.simplex_theory.proofs.StuckRows.{multiplier-itself}
 use Rattle.market_model.specs.declared.participants.Parts.{Parts}
 use Rattle.market_model.specs.declared.answered.Duals.{Duals}
 use Rattle.market_model.specs.Dispatch.{Dispatch, zero, bus_at, empty, injection_terms, balance_terms, output_terms}
@@ -122,7 +123,7 @@ module _ (m : Parts) (bare : rows m ≡ []) (bound : ℕ) (p : Passed Fraction) 
         limits = λ r c. absurd (Prim.omega (arith, c.1));
         one_sided = λ r c. absurd (Prim.omega (arith, c.1));
         no_others = λ r c k. let none : Contains [] r = subst (λ (rs : List Row). Contains rs r) bare c in absurd (k none);
-        energy = subst (SameSize d.energy) (sym (ap (λ (b : Bool). if b then whole (pos 1) else if start.basic (balance_name m) then zero else neg_ℚ (start.entry (balance_name m) (balance_name m))) (balance_is m (balance_name m) refl))) one;
+        energy = subst (SameSize d.energy) (sym (multiplier-itself (system_of m []) start (balance_name m) (balance_name m) refl)) one;
       })) a
 
   -- a bus's demand

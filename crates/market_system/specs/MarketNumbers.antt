@@ -6,6 +6,7 @@ use Rattle.fraction_theory.specs.Fraction.{Fraction, whole, neg_ℚ}
 use Rattle.fraction_theory.specs.Sums.{prefix}
 use Rattle.linear_system.specs.Choices.{Choice, basics}
 use Rattle.linear_system.specs.Numbers.{Kind, Factor, Quantity, Price, SystemNumber}
+use Rattle.simplex_theory.specs.Stuck.{multiplier}
 use Rattle.market_model.specs.declared.participants.Parts.{Parts}
 use Rattle.market_model.specs.declared.answered.Duals.{Duals}
 use Rattle.market_model.specs.Dispatch.{Dispatch, zero, bus_at, unit_at, empty, injection, injection_terms, balance_terms, output_terms}
@@ -25,19 +26,14 @@ pub record IsBest (m : Parts) (rows : List Row) (h : Choice) : Type 0 where
 abbrev pub IsInjecting : Parts → List Row → Choice → Dispatch → Type 0
 IsInjecting m rows h x = (x ≡ empty m) ⊎ ((x ≡ choice_dispatch m rows h) × BestFor m rows x)
 
--- what shows that the basic variable b cannot come within its bounds, at a variable w: 1 at b itself, the opposite of its
--- entry at an other variable, 0 at the other basic ones
-abbrev pub farkas_multiplier : Choice → ℕ → ℕ → Fraction
-farkas_multiplier h b w = if w == b then whole (pos 1) else if h.basic w then zero else neg_ℚ (h.entry b w)
-
 -- duals that show that nothing is feasible, by one basic variable of the choice: the price of energy and those of limits are, up to sign,
 -- what shows it, a limit has one on one side at most, and rows that were not taken have none
 pub record IsFarkasOf (m : Parts) (rows : List Row) (h : Choice) (d : Duals Fraction) : Type 0 where
   pub shows : ShowsInfeasible m d
   pub basic : ℕ
   pub is_basic : Contains (basics (system_of m rows) h) basic
-  pub energy : SameSize d.energy (farkas_multiplier h basic (balance_name m))
-  pub limits : (r : Row) → Contains rows r → SameSize (pull m d r) (farkas_multiplier h basic (row_name m r))
+  pub energy : SameSize d.energy (multiplier h basic (balance_name m))
+  pub limits : (r : Row) → Contains rows r → SameSize (pull m d r) (multiplier h basic (row_name m r))
   pub one_sided : (r : Row) → Contains rows r → (up_of m d r ≡ zero) ⊎ (down_of m d r ≡ zero)
   pub no_others : (r : Row) → Contains (all_rows m) r → ¬ (Contains rows r) → (up_of m d r ≡ zero) × (down_of m d r ≡ zero)
 

@@ -18,13 +18,10 @@ use Rattle.linear_system.specs.Choices.{Choice, basics, others, IsChoice, at_bou
 use Rattle.linear_system.proofs.ChoiceLaws.{basics_are, others_are, is_other}
 use Rattle.simplex_theory.specs.States.{IsWithin, Violates, HasNoPoint}
 use Rattle.simplex_theory.specs.Steps.{signed}
+use Rattle.simplex_theory.specs.Stuck.{multiplier}
 use Rattle.simplex_theory.proofs.NameSums.{signed-sum, sum_by-at_most, sum_by-change}
 use Rattle.simplex_theory.proofs.Signs.{greatest_at_bound, neg_at_most}
 use Rattle.simplex_theory.proofs.Stretches.{by_answer}
-
--- 1 at the basic variable b, the opposites of its entries at the others, and 0 at the rest of the basic ones
-unfoldable pub multiplier : Choice → ℕ → ℕ → Fraction
-multiplier h b w = if w == b then whole (pos 1) else if h.basic w then whole (pos 0) else neg_ℚ (h.entry b w)
 
 -- what all variables of a point make with these
 unfoldable pub combined : System → Choice → ℕ → (ℕ → Fraction) → Fraction

@@ -1,4 +1,5 @@
 pub mod States
 pub mod Stepped
 pub mod Steps
+pub mod Stuck
 pub mod Trails

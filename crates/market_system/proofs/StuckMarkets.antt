@@ -1,0 +1,230 @@
+-- A basic variable of a market's system that is stuck beyond a bound: its duals, up to the one sign, show that no dispatch of the market is
+-- feasible, and their bound is what the variable lacks.
+use Rattle.std.specs.Prelude.{◌≡◌, ◌≢◌, ℕ, ◌<◌, ◌==◌, pos, Bool, true, false, not, List, [], ◌∷◌, length, map, filter, if◌then◌else◌, Contains, refl, ◌⊎◌}
+use Rattle.std.proofs.Common.{zero, suc, arith, ap, ap₂, sym, ◌∙◌, subst, subst₂, inl, inr}
+use Rattle.fraction_theory.specs.Fraction.{Fraction, whole, neg_ℚ, ◌+ℚ◌, ◌-ℚ◌, ◌*ℚ◌}
+use Rattle.fraction_theory.specs.Order.{NonNeg, ◌≤ℚ◌, ◌<ℚ◌}
+use Rattle.fraction_theory.specs.Signs.{sign_of}
+use Rattle.fraction_theory.specs.declared.Sign.{Sign}
+use Rattle.fraction_theory.specs.declared.Sign.TheVariants.{Below, Zero, Above}
+use Rattle.fraction_theory.specs.Sums.{sum_by}
+use Rattle.fraction_theory.proofs.Ring.{by_ring, by_ring1, by_ring2, at, pnil, pone, pneg, ◌⊕◌, ◌⊗◌}
+use Rattle.fraction_theory.proofs.FieldLaws.{ring_ℚ}
+use Rattle.fraction_theory.proofs.OrderLaws.{≤ℚ_refl, ≤ℚ_trans, ≤ℚ_of_same, ≤ℚ_antisym, <ℚ-≤ℚ, *ℚ-≤ℚ, *ℚ-≤ℚ_neg, NonNeg_from, le_to, by_le1, NonNeg-one}
+use Rattle.fraction_theory.proofs.SignLaws.{sign_of_is}
+use Rattle.fraction_theory.proofs.SumLaws.{sum_by-same, sum_by-nil}
+use Rattle.fraction_theory.proofs.ListSums.{kept, put_at, put_at-here, put_at-elsewhere, same_or_not, sum_by-filter, sum_by-members}
+use Rattle.linear_system.specs.Systems.{System, IsSystem, MeetsRows, InBounds}
+use Rattle.linear_system.specs.Choices.{Choice, IsChoice, basics}
+use Rattle.linear_system.proofs.Multipliers.{multiplied}
+use Rattle.simplex_theory.specs.Steps.{signed}
+use Rattle.simplex_theory.specs.Stuck.{IsStuck, multiplier}
+use Rattle.simplex_theory.proofs.NameSums.{signed-sum}
+use Rattle.simplex_theory.proofs.StuckRows.{combined, margin, corner, combined_vanishes, corner_reaches, corner_within, margin_below, each_most}
+use Rattle.market_model.specs.declared.answered.Duals.{Duals}
+use Rattle.market_model.specs.declared.participants.Parts.{Parts}
+use Rattle.market_model.specs.Dispatch.{Dispatch, zero as nil, places, block_at, quantity, balance, empty}
+use Rattle.market_model.specs.Infeasibility.{part_above, where_above, block_weight, farkas_bound, ShowsInfeasible}
+use Rattle.market_model.specs.LimitRows.{Row, rows, limit, flow}
+use Rattle.market_model.specs.Market.{IsMarket}
+use Rattle.market_model.specs.Optimality.{pull, up_of, down_of, ProperDuals}
+use Rattle.market_model.proofs.FarkasLaw.{farkas_bound-by_parts, left_of}
+use Rattle.market_system.specs.MarketSystem.{balance_name, row_name, is_in, in_order, needed, block_sign, block_coefficient, least_added, most_added, system_over, system_of, duals_by}
+use Rattle.market_system.proofs.RowOrder.{in_order-from}
+use Rattle.market_system.proofs.DualLists.{NamesApart, rows_apart, up_by, down_by, up_sign, down_sign, up-made, down-made, pull-made, proper-made, in_order-filter}
+use Rattle.market_system.proofs.MarketPoints.{is_system_of, both_parts, low-block, high-block, low-balance, high-balance, low-row, high-row, block_in, balance_in, row_in}
+use Rattle.market_system.proofs.SolvedMarkets.{rows-at, weight-made}
+use Rattle.market_system.proofs.SystemLaws.{in_places, from_places}
+
+-- ---- the most that a factor makes of a number between two bounds
+module _ (k low high c : Fraction) (above_low : low ≤ℚ c) (below_high : c ≤ℚ high) (most : (t : Fraction) → low ≤ℚ t → t ≤ℚ high → (k *ℚ t) ≤ℚ (k *ℚ c)) where
+  most_high : nil ≤ℚ k → k *ℚ c ≡ k *ℚ high
+  most_high sign = ≤ℚ_antisym (k *ℚ c) (k *ℚ high) (*ℚ-≤ℚ k c high (NonNeg_from k sign) below_high) (most high (both above_low below_high) (≤ℚ_refl high))
+    where
+      both : low ≤ℚ c → c ≤ℚ high → low ≤ℚ high
+      both p q = by_le2 p q
+        where
+          by_le2 : low ≤ℚ c → c ≤ℚ high → low ≤ℚ high
+          by_le2 p q = ≤ℚ_trans low c high p q
+
+  most_low : k ≤ℚ nil → k *ℚ c ≡ k *ℚ low
+  most_low sign = ≤ℚ_antisym (k *ℚ c) (k *ℚ low) (*ℚ-≤ℚ_neg k low c (subst NonNeg (by_ring ring_ℚ (k ∷ []) (pnil ⊕ pneg (at 0)) (pneg (at 0)) refl) (le_to k nil sign)) above_low)
+      (most low (≤ℚ_refl low) (≤ℚ_trans low c high above_low below_high))
+
+-- of a block, from 0 to its quantity
+block_most : (k q c : Fraction) → nil ≤ℚ c → c ≤ℚ q → ((t : Fraction) → nil ≤ℚ t → t ≤ℚ q → (k *ℚ t) ≤ℚ (k *ℚ c)) → part_above k *ℚ q ≡ k *ℚ c
+block_most k q c low high most = by (sign_of k) refl
+  where
+    by : (s : Sign) → s ≡ sign_of k → where_above s k *ℚ q ≡ k *ℚ c
+    by Below e = by_ring ring_ℚ (q ∷ k ∷ []) (pnil ⊗ at 0) (at 1 ⊗ pnil) refl ∙ sym (most_low k nil q c low high most (<ℚ-≤ℚ k nil (sign_of_is k Below e)))
+    by Zero e = by_ring ring_ℚ (q ∷ k ∷ []) (pnil ⊗ at 0) (at 1 ⊗ pnil) refl ∙ sym (most_low k nil q c low high most (≤ℚ_of_same k nil (sign_of_is k Zero e)))
+    by Above e = sym (most_high k nil q c low high most (<ℚ-≤ℚ nil k (sign_of_is k Above e)))
+
+-- of a row, from what is left of its limit on the lower side to that on the upper one
+row_most : (k l f c : Fraction) → (neg_ℚ l -ℚ f) ≤ℚ c → c ≤ℚ (l -ℚ f) → ((t : Fraction) → (neg_ℚ l -ℚ f) ≤ℚ t → t ≤ℚ (l -ℚ f) → (k *ℚ t) ≤ℚ (k *ℚ c))
+    → up_by (sign_of k) k *ℚ (l -ℚ f) +ℚ (down_by (sign_of k) k *ℚ (l +ℚ f) +ℚ nil) ≡ k *ℚ c
+unfolding up_by down_by
+row_most k l f c low high most = by (sign_of k) refl
+  where
+    by : (s : Sign) → s ≡ sign_of k → up_by s k *ℚ (l -ℚ f) +ℚ (down_by s k *ℚ (l +ℚ f) +ℚ nil) ≡ k *ℚ c
+    by Below e = by_ring ring_ℚ (k ∷ l ∷ f ∷ []) (pnil ⊗ (at 1 ⊕ pneg (at 2)) ⊕ (pneg (at 0) ⊗ (at 1 ⊕ at 2) ⊕ pnil)) (at 0 ⊗ (pneg (at 1) ⊕ pneg (at 2))) refl
+        ∙ sym (most_low k (neg_ℚ l -ℚ f) (l -ℚ f) c low high most (<ℚ-≤ℚ k nil (sign_of_is k Below e)))
+    by Zero e = by_ring ring_ℚ (l ∷ f ∷ c ∷ []) (pnil ⊗ (at 0 ⊕ pneg (at 1)) ⊕ (pnil ⊗ (at 0 ⊕ at 1) ⊕ pnil)) (pnil ⊗ at 2) refl ∙ ap (λ t. t *ℚ c) (sym (sign_of_is k Zero e))
+    by Above e = by_ring ring_ℚ (k ∷ l ∷ f ∷ []) (at 0 ⊗ (at 1 ⊕ pneg (at 2)) ⊕ (pnil ⊗ (at 1 ⊕ at 2) ⊕ pnil)) (at 0 ⊗ (at 1 ⊕ pneg (at 2))) refl
+        ∙ sym (most_high k (neg_ℚ l -ℚ f) (l -ℚ f) c low high most (<ℚ-≤ℚ nil k (sign_of_is k Above e)))
+
+module _ (m : Parts) (names : NamesApart m) (market : IsMarket m) (g : List Row) (h : Choice) (choice : IsChoice (system_of m g) h)
+    (ordered : (w : ℕ) → Contains (system_of m g).variables w → (system_of m g).low w ≤ℚ (system_of m g).high w) (b : ℕ) (above : Bool) (stuck : IsStuck (system_of m g) h b above) where
+  abbrev s : System
+  s = system_of m g
+
+  system : IsSystem (system_of m g)
+  system = is_system_of m (rows_apart m names) g
+
+  -- the multipliers with the one sign
+  abbrev turned : ℕ → Fraction
+  turned w = signed (not above) (multiplier h b w)
+
+  -- the duals of the stuck variable: the price of energy is the opposite of the balance's multiplier, and a MW on a row's flow costs the row's
+  abbrev pub stuck_duals : Duals Fraction
+  stuck_duals = duals_by m (neg_ℚ (turned (balance_name m))) (λ r. turned (row_name m r)) (in_order m g)
+
+  abbrev at_corner : ℕ → Fraction
+  at_corner w = corner s h b above w
+
+  within : InBounds s (corner s h b above)
+  within = corner_within s h system b stuck.basic above ordered
+
+  -- within its bounds no number makes more of its multiplier
+  most_at : (w : ℕ) → Contains s.variables w → (t : Fraction) → s.low w ≤ℚ t → t ≤ℚ s.high w → (turned w *ℚ t) ≤ℚ (turned w *ℚ at_corner w)
+  most_at w c t low high =
+      let u : ℕ → Fraction = put_at w t (corner s h b above) in
+      subst (λ x. (turned w *ℚ x) ≤ℚ (turned w *ℚ at_corner w)) (put_at-here w t (corner s h b above) w refl)
+      (each_most s h system b stuck.basic above ordered stuck.at_low stuck.at_high u
+      (record {
+        low = λ v k. elim (same_or_not v w) [
+          | inl e ↦ subst (λ x. s.low v ≤ℚ x) (sym (put_at-here w t (corner s h b above) v e)) (subst (λ (x : ℕ). s.low x ≤ℚ t) (sym e) low)
+          | inr n ↦ subst (λ x. s.low v ≤ℚ x) (sym (put_at-elsewhere w t (corner s h b above) v n)) (within.low v k)
+        ];
+        high = λ v k. elim (same_or_not v w) [
+          | inl e ↦ subst (λ x. x ≤ℚ s.high v) (sym (put_at-here w t (corner s h b above) v e)) (subst (λ (x : ℕ). t ≤ℚ s.high x) (sym e) high)
+          | inr n ↦ subst (λ x. x ≤ℚ s.high v) (sym (put_at-elsewhere w t (corner s h b above) v n)) (within.high v k)
+        ];
+      }) w c)
+
+  signed_nil : (a : Bool) → signed a (whole (pos 0)) ≡ whole (pos 0)
+  signed_nil true = by_ring ring_ℚ [] (pneg pnil) pnil refl
+  signed_nil false = refl
+
+  combined_turned : (v : ℕ → Fraction) → sum_by (λ w. turned w *ℚ v w) s.variables ≡ signed (not above) (combined s h b v)
+  unfolding combined
+  combined_turned v = sym (signed-sum (not above) (multiplier h b) v s.variables)
+
+  vanishes : (v : ℕ → Fraction) → MeetsRows s v → sum_by (λ j. whole (pos 0) *ℚ v j) s.columns ≡ sum_by (λ w. turned w *ℚ v w) s.variables
+  vanishes v meets =
+      sum_by-same (λ j. whole (pos 0) *ℚ v j) (λ j. whole (pos 0)) s.columns (λ j. by_ring ring_ℚ (v j ∷ []) (pnil ⊗ at 0) pnil refl) ∙ sum_by-nil s.columns
+      ∙ sym (combined_turned v ∙ ap (signed (not above)) (combined_vanishes s h system b stuck.basic choice v meets) ∙ signed_nil (not above))
+
+  at_column : (j : ℕ) → j < length m.blocks → whole (pos 0) ≡ turned j +ℚ sum_by (λ r. turned r *ℚ s.coefficient r j) s.rows
+  unfolding system_over
+  at_column j lt = multiplied s system (both_parts m (rows_apart m names) g) (λ w. whole (pos 0)) turned vanishes j (in_places (length m.blocks) j lt)
+
+  -- a block's weight at the duals is its multiplier
+  pub block_multiplier : (j : ℕ) → j < length m.blocks → block_weight m stuck_duals j ≡ turned j
+  block_multiplier j lt =
+      let costs : Fraction = sum_by (λ r. turned (row_name m r) *ℚ block_coefficient m r j) (in_order m g) in
+      weight-made m names (neg_ℚ (turned (balance_name m))) (λ r. turned (row_name m r)) g j
+      ∙ by_ring1 ring_ℚ (turned (balance_name m) ∷ block_sign m j ∷ costs ∷ turned j ∷ []) (pneg (at 0) ⊗ at 1 ⊕ pneg (at 2)) (at 3) pone pnil (at 3 ⊕ (at 0 ⊗ at 1 ⊕ at 2))
+      (at_column j lt ∙ ap (λ t. turned j +ℚ t) (rows-at m names g turned j)) refl
+
+  -- ---- the bound
+  blocks_most : sum_by (λ j. part_above (block_weight m stuck_duals j) *ℚ quantity m j) (places (length m.blocks)) ≡ sum_by (λ w. turned w *ℚ at_corner w) (places (length m.blocks))
+  blocks_most = sum_by-members (λ j. part_above (block_weight m stuck_duals j) *ℚ quantity m j) (λ w. turned w *ℚ at_corner w) (places (length m.blocks))
+      (λ j c. each j (from_places (length m.blocks) j c))
+    where
+      each : (j : ℕ) → j < length m.blocks → part_above (block_weight m stuck_duals j) *ℚ quantity m j ≡ turned j *ℚ at_corner j
+      each j lt =
+          let named = block_in m (rows_apart m names) g j lt in
+          let low = low-block m (rows_apart m names) g j lt in
+          let high = high-block m (rows_apart m names) g j lt in
+          ap (λ k. part_above k *ℚ quantity m j) (block_multiplier j lt)
+          ∙ block_most (turned j) (quantity m j) (at_corner j) (subst (λ t. t ≤ℚ at_corner j) low (within.low j named)) (subst (λ t. at_corner j ≤ℚ t) high (within.high j named))
+          (λ t p q. most_at j named t (subst (λ x. x ≤ℚ t) (sym low) p) (subst (λ x. t ≤ℚ x) (sym high) q))
+
+  balance_most : neg_ℚ (turned (balance_name m)) *ℚ balance m (empty m) ≡ turned (balance_name m) *ℚ at_corner (balance_name m)
+  balance_most =
+      by_ring ring_ℚ (turned (balance_name m) ∷ balance m (empty m) ∷ []) (pneg (at 0) ⊗ at 1) (at 0 ⊗ pneg (at 1)) refl
+      ∙ ap (λ t. turned (balance_name m) *ℚ t)
+      (≤ℚ_antisym (needed m) (at_corner (balance_name m))
+      (subst (λ t. t ≤ℚ at_corner (balance_name m)) (low-balance m (rows_apart m names) g) (within.low (balance_name m) (balance_in m (rows_apart m names) g)))
+      (subst (λ t. at_corner (balance_name m) ≤ℚ t) (high-balance m (rows_apart m names) g) (within.high (balance_name m) (balance_in m (rows_apart m names) g))))
+
+  left_here : Row → Fraction
+  left_here r = up_by (sign_of (turned (row_name m r))) (turned (row_name m r)) *ℚ (limit m r -ℚ flow m (empty m) r)
+      +ℚ (down_by (sign_of (turned (row_name m r))) (turned (row_name m r)) *ℚ (limit m r +ℚ flow m (empty m) r) +ℚ nil)
+
+  left_of_row : (r : Row) → Contains (rows m) r → left_of m stuck_duals (empty m) r ≡ kept (is_in g r) (left_here r)
+  unfolding left_here
+  left_of_row r c =
+      ap₂ (λ (u d : Fraction). u *ℚ (limit m r -ℚ flow m (empty m) r) +ℚ (d *ℚ (limit m r +ℚ flow m (empty m) r) +ℚ nil))
+      (up-made m names (neg_ℚ (turned (balance_name m))) (λ t. turned (row_name m t)) g r c)
+      (down-made m names (neg_ℚ (turned (balance_name m))) (λ t. turned (row_name m t)) g r c)
+      ∙ by (is_in g r)
+    where
+      by : (t : Bool) → (if t then up_by (sign_of (turned (row_name m r))) (turned (row_name m r)) else nil) *ℚ (limit m r -ℚ flow m (empty m) r)
+          +ℚ ((if t then down_by (sign_of (turned (row_name m r))) (turned (row_name m r)) else nil) *ℚ (limit m r +ℚ flow m (empty m) r) +ℚ nil)
+          ≡ kept t (left_here r)
+      by true = refl
+      by false = by_ring ring_ℚ (limit m r ∷ flow m (empty m) r ∷ []) (pnil ⊗ (at 0 ⊕ pneg (at 1)) ⊕ (pnil ⊗ (at 0 ⊕ at 1) ⊕ pnil)) pnil refl
+
+  rows_most : sum_by (left_of m stuck_duals (empty m)) (rows m) ≡ sum_by (λ r. turned (row_name m r) *ℚ at_corner (row_name m r)) (in_order m g)
+  unfolding left_here
+  rows_most =
+      sum_by-members (left_of m stuck_duals (empty m)) (λ r. kept (is_in g r) (left_here r)) (rows m) left_of_row
+      ∙ sym (sum_by-filter left_here (is_in g) (rows m))
+      ∙ ap (sum_by left_here) (sym (in_order-filter m names (neg_ℚ (turned (balance_name m))) (λ r. turned (row_name m r)) g))
+      ∙ sum_by-members left_here (λ r. turned (row_name m r) *ℚ at_corner (row_name m r)) (in_order m g) each
+    where
+      each : (r : Row) → Contains (in_order m g) r → left_here r ≡ turned (row_name m r) *ℚ at_corner (row_name m r)
+      each r c =
+          let named = row_in m (rows_apart m names) g r c in
+          let low = low-row m (rows_apart m names) g r c in
+          let high = high-row m (rows_apart m names) g r c in
+          row_most (turned (row_name m r)) (limit m r) (flow m (empty m) r) (at_corner (row_name m r))
+          (subst (λ t. t ≤ℚ at_corner (row_name m r)) low (within.low (row_name m r) named))
+          (subst (λ t. at_corner (row_name m r) ≤ℚ t) high (within.high (row_name m r) named))
+          (λ t p q. most_at (row_name m r) named t (subst (λ x. x ≤ℚ t) (sym low) p) (subst (λ x. t ≤ℚ x) (sym high) q))
+
+  all_parts : (f : ℕ → Fraction) → sum_by f s.variables ≡ sum_by f (places (length m.blocks)) +ℚ (f (balance_name m) +ℚ sum_by (λ r. f (row_name m r)) (in_order m g))
+  unfolding system_over
+  all_parts f = both_parts m (rows_apart m names) g f ∙ ap (λ t. sum_by f (places (length m.blocks)) +ℚ (f (balance_name m) +ℚ t)) (named (in_order m g))
+    where
+      named : (rs : List Row) → sum_by f (map (row_name m) rs) ≡ sum_by (λ r. f (row_name m r)) rs
+      named [] = refl
+      named (r ∷ rs) = ap (λ t. f (row_name m r) +ℚ t) (named rs)
+
+  -- the bound of the duals is what the variable leaves of the bound that it violates
+  pub stuck_bound : farkas_bound m stuck_duals ≡ margin s h b above
+  stuck_bound =
+      let f : ℕ → Fraction = λ w. turned w *ℚ at_corner w in
+      farkas_bound-by_parts m stuck_duals
+      ∙ ap₂ (λ (x y : Fraction). x +ℚ y) balance_most (ap₂ (λ (x y : Fraction). x +ℚ y) rows_most blocks_most)
+      ∙ by_ring ring_ℚ (f (balance_name m) ∷ sum_by (λ r. f (row_name m r)) (in_order m g) ∷ sum_by f (places (length m.blocks)) ∷ []) (at 0 ⊕ (at 1 ⊕ at 2)) (at 2 ⊕ (at 0 ⊕ at 1)) refl
+      ∙ sym (all_parts f)
+      ∙ combined_turned (corner s h b above)
+      ∙ corner_reaches s h system b stuck.basic above
+
+  -- so they show that nothing is feasible, and they are proper
+  pub stuck_shows : ShowsInfeasible m stuck_duals
+  stuck_shows = record {
+    up_signs = λ r c. subst (λ t. nil ≤ℚ t) (sym (up-made m names (neg_ℚ (turned (balance_name m))) (λ t. turned (row_name m t)) g r c)) (by (is_in g r) (up_sign (turned (row_name m r))));
+    down_signs = λ r c. subst (λ t. nil ≤ℚ t) (sym (down-made m names (neg_ℚ (turned (balance_name m))) (λ t. turned (row_name m t)) g r c)) (by (is_in g r) (down_sign (turned (row_name m r))));
+    below = subst (λ t. t <ℚ nil) (sym stuck_bound) (margin_below s h system b stuck.basic above stuck.violates);
+  }
+    where
+      by : (t : Bool) {x : Fraction} → nil ≤ℚ x → nil ≤ℚ (if t then x else nil)
+      by true p = p
+      by false p = ≤ℚ_refl nil
+
+  pub stuck_proper : ProperDuals m stuck_duals
+  stuck_proper = proper-made m names (neg_ℚ (turned (balance_name m))) (λ r. turned (row_name m r)) g
