@@ -10,6 +10,7 @@ use Rattle.market_model.specs.Dispatch.{Dispatch}
 use Rattle.market_model.specs.LimitRows.{Row, rows, limit, flow}
 use Rattle.market_model.specs.Optimality.{Within, FeasibleFor}
 use Rattle.market_system.specs.Growth.{Broken, BestFor, GrowsBy, Growth}
+use Rattle.market_system.specs.SolvedLaws.{AreRows}
 use Rattle.market_system.proofs.RowOrder.{row_or_not, pairs-append}
 
 -- a row that a feasible dispatch breaks is not in the list
@@ -38,11 +39,6 @@ growth_again m t g h (first, e, by) (second, f, more) =
     joined : (old news : List Row) → GrowsBy m old news → GrowsBy m (old ++ news) second → GrowsBy m old (news ++ second)
     joined old [] by k = subst (λ rs. GrowsBy m rs second) (append-nil old) k
     joined old (s ∷ news) by k = (by.0, by.1, joined (old ++ s ∷ []) news by.2 (subst (λ rs. GrowsBy m rs second) (sym (append_assoc old (s ∷ []) news)) k))
-
--- rows of the market, no two of them one
-pub record AreRows (m : Parts) (g : List Row) : Type 0 where
-  pub rows : (r : Row) → Contains g r → Contains (rows m) r
-  pub distinct : AllPairs (λ (a b : Row). a ≢ b) g
 
 cases_append : (xs ys : List Row) (r : Row) → Contains (xs ++ ys) r → Contains xs r ⊎ Contains ys r
 cases_append [] ys r c = inr c

@@ -2,6 +2,7 @@ pub mod BlockChoices
 pub mod Completeness
 pub mod DualLists
 pub mod GrowthLaws
+pub mod LawsOfSolving
 pub mod MarketPoints
 pub mod PairLaws
 mod RangeRows

@@ -18,9 +18,9 @@ use Rattle.linear_system.specs.Systems.{System, IsSystem, MeetsRows, InBounds}
 use Rattle.linear_system.specs.Choices.{Choice, IsChoice, basics}
 use Rattle.linear_system.proofs.Multipliers.{multiplied}
 use Rattle.simplex_theory.specs.Steps.{signed}
-use Rattle.simplex_theory.specs.Stuck.{IsStuck, multiplier}
+use Rattle.simplex_theory.specs.Stuck.{IsStuck, multiplier, margin}
 use Rattle.simplex_theory.proofs.NameSums.{signed-sum}
-use Rattle.simplex_theory.proofs.StuckRows.{combined, margin, corner, combined_vanishes, corner_reaches, corner_within, margin_below, each_most}
+use Rattle.simplex_theory.proofs.StuckRows.{combined, corner, combined_vanishes, corner_reaches, corner_within, margin_below, each_most}
 use Rattle.market_model.specs.declared.answered.Duals.{Duals}
 use Rattle.market_model.specs.declared.participants.Parts.{Parts}
 use Rattle.market_model.specs.Dispatch.{Dispatch, zero as nil, places, block_at, quantity, balance, empty}

@@ -1,8 +1,109 @@
--- What a solved choice of a market's system over some of its limit rows says of the market.
-use Rattle.linear_system.specs.Systems.{System}
-use Rattle.linear_system.specs.Choices.{Choice, value, reduced}
-use Rattle.simplex_theory.specs.States.{State}
+-- What solving a market's system over some of its limit rows says of the market.
+-- Sources: linear programs with bounded variables (Chvátal, Linear Programming); Farkas; Schweppe and others, Spot Pricing of Electricity.
+use Rattle.std.specs.Prelude.{◌≡◌, ◌≢◌, ℕ, ◌≤◌, Bool, not, List, [], ◌∷◌, ◌++◌, length, map, AllPairs, Contains}
+use Rattle.fraction_theory.specs.Fraction.{Fraction, neg_ℚ, ◌+ℚ◌}
+use Rattle.fraction_theory.specs.Order.{◌≤ℚ◌}
+use Rattle.linear_system.specs.Systems.{System, IsSystem, MeetsRows, InBounds, objective}
+use Rattle.linear_system.specs.Choices.{Choice, IsChoice, value, reduced}
+use Rattle.simplex_theory.specs.States.{State, IsSolved}
+use Rattle.simplex_theory.specs.Steps.{signed}
+use Rattle.simplex_theory.specs.Stuck.{IsStuck, multiplier, margin}
+use Rattle.market_model.specs.declared.answered.Answer.{Answer}
+use Rattle.market_model.specs.declared.answered.Duals.{Duals}
+use Rattle.market_model.specs.declared.answered.Farkas.{Farkas}
+use Rattle.market_model.specs.declared.participants.Parts.{Parts}
+use Rattle.market_model.specs.Dispatch.{Dispatch, places, block_at, signed as raised, output, demand}
+use Rattle.market_model.specs.Frame.{SameFrame}
+use Rattle.market_model.specs.Infeasibility.{IsFarkas}
+use Rattle.market_model.specs.LimitRows.{Row, rows, flow}
+use Rattle.market_model.specs.Market.{IsMarket}
+use Rattle.market_model.specs.Optimality.{Within, FeasibleFor, Feasible, Supports, ProperDuals, named_rows, welfare, block_value, congestion, bus_price, unit_price, up_of, down_of}
+use Rattle.market_model.specs.RightAnswers.{IsRight, rent_of}
+use Rattle.market_model.specs.Settlement.{paid, pays, surplus}
+use Rattle.market_system.specs.Growth.{Broken, BestFor, Growth}
+use Rattle.market_system.specs.MarketSystem.{balance_name, row_name, in_order, system_of, choice_dispatch, duals_by, choice_duals}
 
+-- rows of the market, no two of them one
+pub record AreRows (m : Parts) (g : List Row) : Type 0 where
+  pub rows : (r : Row) → Contains g r → Contains (rows m) r
+  pub distinct : AllPairs (λ (a b : Row). a ≢ b) g
+
+-- ---- the system
+-- a market over some of its rows is a system, in whatever order they are listed
+abbrev pub LawOfTheSystem : Type 0
+LawOfTheSystem = (m : Parts) (g : List Row) → IsMarket m → IsSystem (system_of m g)
+
+-- A dispatch that is feasible for the rows gives a point within the bounds that is worth its welfare, and a point within the bounds gives a
+-- dispatch that is feasible for them, of at least its worth.
+pub record PointsAreDispatches (m : Parts) (g : List Row) : Type 0 where
+  pub point : (x : Dispatch) → FeasibleFor m g x → (v : ℕ → Fraction) × MeetsRows (system_of m g) v × InBounds (system_of m g) v × (objective (system_of m g) v ≡ welfare m x)
+  pub dispatch : (v : ℕ → Fraction) → MeetsRows (system_of m g) v → InBounds (system_of m g) v → (x : Dispatch) × FeasibleFor m g x × (objective (system_of m g) v ≤ℚ welfare m x)
+
+abbrev pub LawOfThePoints : Type 0
+LawOfThePoints = (m : Parts) (g : List Row) → IsMarket m → ((r : Row) → Contains g r → Contains (rows m) r) → PointsAreDispatches m g
+
+-- ---- solved
 -- a choice with its own values and reduced prices
 abbrev pub state_at : System → Choice → State
 state_at s h = record { choice = h; value = value s h; reduced = reduced s h }
+
+-- The choice's dispatch is best for the rows. Its duals are proper and support it over all rows of the market; a block's reduced price is its
+-- value, less what it raises at its unit's price.
+pub record AnswersBy (m : Parts) (g : List Row) (h : Choice) : Type 0 where
+  pub best : BestFor m g (choice_dispatch m g h)
+  pub proper : ProperDuals m (choice_duals m g h)
+  pub supported : Supports m (choice_dispatch m g h) (choice_duals m g h)
+  pub blocks : (j : ℕ) → Contains (places (length m.blocks)) j
+      → reduced (system_of m g) h j ≡ block_value m j +ℚ raised (block_at m j).side (unit_price m (choice_duals m g h) (block_at m j).unit)
+
+abbrev pub LawOfTheSolved : Type 0
+LawOfTheSolved = (m : Parts) (g : List Row) (h : Choice) → IsMarket m → ((r : Row) → Contains g r → Contains (rows m) r)
+    → IsChoice (system_of m g) h → IsSolved (system_of m g) (state_at (system_of m g) h) → AnswersBy m g h
+
+-- ---- right answers
+-- a dispatch and duals, with the prices, the welfare and the settlement that they make
+abbrev pub answer_of : Parts → Dispatch → Duals Fraction → Answer Fraction
+answer_of m x d = record {
+  dispatch = x.blocks;
+  duals = d;
+  prices = map (λ i. record { energy = d.energy; congestion = congestion m d i; total = bus_price m d i }) (places (length m.buses));
+  welfare = welfare m x;
+  money = record {
+    units = map (λ u. record { mw = output m x u; paid = paid m x d u }) (places (length m.units));
+    loads = map (λ i. record { mw = demand m i; pays = pays m d i }) (places (length m.buses));
+    rents = map (rent_of m x d) (named_rows m d);
+    surplus = surplus m x d;
+  };
+}
+
+-- where the dispatch is feasible, and the duals are proper and support it, this is right
+abbrev pub LawOfTheAnswer : Type 0
+LawOfTheAnswer = (m : Parts) (x : Dispatch) (d : Duals Fraction) → Feasible m x → Supports m x d → ProperDuals m d → IsRight m (answer_of m x d)
+
+-- ---- nothing is feasible
+-- the duals of a stuck variable, with the one sign: the price of energy is the opposite of the balance's multiplier, and a MW on the flow of a
+-- row costs the row's
+abbrev pub stuck_duals : Parts → List Row → Choice → ℕ → Bool → Duals Fraction
+stuck_duals m g h b above =
+    duals_by m (neg_ℚ (signed (not above) (multiplier h b (balance_name m)))) (λ r. signed (not above) (multiplier h b (row_name m r))) (in_order m g)
+
+-- where a variable is stuck they show that no dispatch of the market is feasible, and their bound is what it leaves of the bound that it violates
+abbrev pub LawOfTheStuck : Type 0
+LawOfTheStuck = (m : Parts) (g : List Row) (h : Choice) (b : ℕ) (above : Bool) → IsMarket m → IsChoice (system_of m g) h
+    → ((w : ℕ) → Contains (system_of m g).variables w → (system_of m g).low w ≤ℚ (system_of m g).high w) → IsStuck (system_of m g) h b above
+    → IsFarkas m (record { duals = stuck_duals m g h b above; bound = margin (system_of m g) h b above })
+
+-- ---- growth
+-- what is known of lists of rows that grow
+pub record GrowthLaws (m : Parts) : Type 0 where
+  -- a row that a best dispatch breaks is not in the list, and behind it the list is grown
+  pub broken_is_new : (g : List Row) (x : Dispatch) (r : Row) → BestFor m g x → Broken m x r → ¬ (Contains g r)
+  pub none : (g : List Row) → Growth m g g
+  pub more : (t g : List Row) (x : Dispatch) (r : Row) → Growth m t g → BestFor m g x → Broken m x r → Contains (rows m) r → Growth m t (g ++ r ∷ [])
+  pub again : (t g h : List Row) → Growth m t g → Growth m g h → Growth m t h
+  -- distinct rows of the market stay so, and are no more than all of its rows
+  pub distinct : (t g : List Row) → AreRows m t → Growth m t g → AreRows m g
+  pub few : (g : List Row) → AreRows m g → length g ≤ length (rows m)
+
+abbrev pub LawOfGrowth : Type 0
+LawOfGrowth = (m : Parts) → GrowthLaws m

@@ -1,5 +1,38 @@
 //! Laws of the definitions, each the contract of a function that does nothing.
 ghost use Rattle.market_system.specs.Completeness.{LawOfCompleteness};
+ghost use Rattle.market_system.specs.SolvedLaws.{LawOfTheSystem, LawOfThePoints, LawOfTheSolved, LawOfTheAnswer, LawOfTheStuck, LawOfGrowth};
+
+/// A market over some of its limits is a linear system, in whatever order they are listed.
+pub fn market_is_system()
+    ensures { LawOfTheSystem }
+{}
+
+/// The points of this system are the dispatches that are feasible for these limits.
+pub fn points_are_dispatches()
+    ensures { LawOfThePoints }
+{}
+
+/// Where the system is solved, the dispatch is best for these limits, and the duals support it over
+/// all limits of the market.
+pub fn solved_is_supported()
+    ensures { LawOfTheSolved }
+{}
+
+/// A feasible dispatch with proper duals that support it makes a right answer.
+pub fn supported_is_right()
+    ensures { LawOfTheAnswer }
+{}
+
+/// Where a variable is stuck beyond a bound, its duals show that no dispatch of the market is
+/// feasible, over all limits.
+pub fn stuck_is_infeasible()
+    ensures { LawOfTheStuck }
+{}
+
+/// Limits that are taken one by one, each because a best dispatch breaks it.
+pub fn taken_limits_grow()
+    ensures { LawOfGrowth }
+{}
 
 /// Where no working pair of a market passes the bound of a type of numbers, a right outcome with
 /// these is cleared where a dispatch is feasible, and infeasible where none is.

@@ -18,7 +18,7 @@ use Rattle.linear_system.specs.Choices.{Choice, basics, others, IsChoice, at_bou
 use Rattle.linear_system.proofs.ChoiceLaws.{basics_are, others_are, is_other}
 use Rattle.simplex_theory.specs.States.{IsWithin, Violates, HasNoPoint}
 use Rattle.simplex_theory.specs.Steps.{signed}
-use Rattle.simplex_theory.specs.Stuck.{multiplier}
+use Rattle.simplex_theory.specs.Stuck.{multiplier, margin}
 use Rattle.simplex_theory.proofs.NameSums.{signed-sum, sum_by-at_most, sum_by-change}
 use Rattle.simplex_theory.proofs.Signs.{greatest_at_bound, neg_at_most}
 use Rattle.simplex_theory.proofs.Stretches.{by_answer}
@@ -26,10 +26,6 @@ use Rattle.simplex_theory.proofs.Stretches.{by_answer}
 -- what all variables of a point make with these
 unfoldable pub combined : System → Choice → ℕ → (ℕ → Fraction) → Fraction
 combined s h b u = sum_by (λ w. multiplier h b w *ℚ u w) s.variables
-
--- what b leaves of its high bound where the others stand, or what it has above its low one
-unfoldable pub margin : System → Choice → ℕ → Bool → Fraction
-margin s h b above = if above then s.high b -ℚ value s h b else value s h b -ℚ s.low b
 
 -- within the bounds the combination is greatest here: b at the bound in question, and each other variable where it stands
 unfoldable pub corner : System → Choice → ℕ → Bool → ℕ → Fraction

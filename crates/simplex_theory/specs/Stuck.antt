@@ -2,7 +2,7 @@
 -- Source: Farkas, in the form for bounded variables; the dual simplex method (Chvátal, Linear Programming).
 use Rattle.std.specs.Prelude.{◌≡◌, ℕ, ◌==◌, pos, Bool, true, false, if◌then◌else◌}
 use Rattle.std.specs.List.{Contains}
-use Rattle.fraction_theory.specs.Fraction.{Fraction, whole, neg_ℚ}
+use Rattle.fraction_theory.specs.Fraction.{Fraction, whole, neg_ℚ, ◌-ℚ◌}
 use Rattle.fraction_theory.specs.Order.{◌≤ℚ◌, ◌<ℚ◌}
 use Rattle.linear_system.specs.Systems.{System}
 use Rattle.linear_system.specs.Choices.{Choice, basics, others, value}
@@ -21,3 +21,7 @@ pub record IsStuck (s : System) (h : Choice) (b : ℕ) (above : Bool) : Type 0 w
 -- 1 at the basic variable b, the opposites of its entries at the others, and 0 at the rest of the basic ones
 unfoldable pub multiplier : Choice → ℕ → ℕ → Fraction
 multiplier h b w = if w == b then whole (pos 1) else if h.basic w then whole (pos 0) else neg_ℚ (h.entry b w)
+
+-- what b leaves of its high bound where the others stand, or what it has above its low one
+unfoldable pub margin : System → Choice → ℕ → Bool → Fraction
+margin s h b above = if above then s.high b -ℚ value s h b else value s h b -ℚ s.low b

@@ -1,0 +1,88 @@
+-- The laws of solving a market's system.
+use Rattle.std.specs.Prelude.{◌≡◌, ℕ, ◌+◌, ◌<◌, List, [], ◌∷◌, length, map, slice_index_or, refl}
+use Rattle.std.proofs.Common.{suc, arith, ap, sym, ◌∙◌, subst, get_or}
+use Rattle.std.proofs.lemmas.List.{get_or-map}
+use Rattle.std.proofs.lemmas.List.FromFn.{length-range_with_len, get_or-range_with_len}
+use Rattle.fraction_theory.proofs.OrderLaws.{≤ℚ_of_same}
+use Rattle.market_model.specs.declared.participants.Parts.{Parts}
+use Rattle.market_model.specs.Dispatch.{places, output, demand}
+use Rattle.market_model.specs.Optimality.{congestion, bus_price}
+use Rattle.market_model.specs.Settlement.{paid, pays}
+use Rattle.market_system.specs.SolvedLaws.{LawOfTheSystem, LawOfThePoints, LawOfTheSolved, LawOfTheAnswer, LawOfTheStuck, LawOfGrowth}
+use Rattle.limit_rows.proofs.ApartLemmas.{names_apart}
+use Rattle.market_system.proofs.DualLists.{rows_apart}
+use Rattle.market_system.proofs.GrowthLaws.{broken_is_new, growth_none, growth_more, growth_again, growth_rows, rows_few}
+use Rattle.market_system.proofs.MarketPoints.{is_system_of, point_of, point_meets, point_within, point_welfare, dispatch_at, dispatch_feasible, dispatch_welfare}
+use Rattle.market_system.proofs.SolvedMarkets.{solved_best, solved_proper, solved_supports, reduced-block}
+use Rattle.market_system.proofs.StuckMarkets.{stuck_bound, stuck_shows, stuck_proper}
+use Rattle.market_system.proofs.SystemLaws.{from_places}
+
+pub law_of_the_system : LawOfTheSystem
+law_of_the_system m g market = is_system_of m (rows_apart m (names_apart m market)) g
+
+pub law_of_the_points : LawOfThePoints
+law_of_the_points m g market all =
+    let apart = rows_apart m (names_apart m market) in
+    record {
+      point = λ x f. (point_of m apart g market x, point_meets m apart g market x, point_within m apart g market x f, point_welfare m apart g market x);
+      dispatch = λ v meets within. (dispatch_at m apart g market v, dispatch_feasible m apart g market v meets all within, ≤ℚ_of_same _ _ (sym (dispatch_welfare m apart g market v)));
+    }
+
+pub law_of_the_solved : LawOfTheSolved
+law_of_the_solved m g h market all choice solved =
+    let names = names_apart m market in
+    record {
+      best = solved_best m names g h choice market all solved;
+      proper = solved_proper m names g h choice market all solved;
+      supported = solved_supports m names g h choice market all solved;
+      blocks = λ j c. reduced-block m names g h choice j (from_places (length m.blocks) j c);
+    }
+
+pub law_of_the_stuck : LawOfTheStuck
+law_of_the_stuck m g h b above market choice ordered stuck =
+    let names = names_apart m market in
+    record {
+      shows = stuck_shows m names market g h choice ordered b above stuck;
+      proper = stuck_proper m names market g h choice ordered b above stuck;
+      bound = sym (stuck_bound m names market g h choice ordered b above stuck);
+    }
+
+pub law_of_growth : LawOfGrowth
+law_of_growth m = record {
+  broken_is_new = λ g x r best broken. broken_is_new m g x r best.feasible broken;
+  none = growth_none m;
+  more = growth_more m;
+  again = growth_again m;
+  distinct = growth_rows m;
+  few = rows_few m;
+}
+
+-- ---- lists by places
+counted : {Y : Type 0} (f : ℕ → Y) (n : ℕ) → length (map f (places n)) ≡ n
+counted {Y} f n = over (places n) ∙ length-range_with_len 0 n
+  where
+    over : (ws : List ℕ) → length (map f ws) ≡ length ws
+    over [] = refl
+    over (w ∷ ws) = ap suc (over ws)
+
+at_place : {Y : Type 0} (f : ℕ → Y) (n i : ℕ) (d : Y) → i < n → slice_index_or (map f (places n)) i d ≡ f i
+at_place f n i d lt =
+    let long : length (places n) ≡ n = length-range_with_len 0 n in
+    let here : get_or (places n) i 0 ≡ i = get_or-range_with_len 0 n i 0 lt ∙ Prim.omega arith in
+    get_or-map f (places n) i 0 d (Prim.omega (arith, lt, long)) ∙ ap f here
+
+pub law_of_the_answer : LawOfTheAnswer
+law_of_the_answer m x d feasible supported proper = record {
+  feasible = feasible;
+  supported = supported;
+  proper = proper;
+  price_count = counted (λ i. record { energy = d.energy; congestion = congestion m d i; total = bus_price m d i }) (length m.buses);
+  prices = λ i lt. at_place (λ i. record { energy = d.energy; congestion = congestion m d i; total = bus_price m d i }) (length m.buses) i _ lt;
+  welfare = refl;
+  unit_count = counted (λ u. record { mw = output m x u; paid = paid m x d u }) (length m.units);
+  units = λ u lt. at_place (λ u. record { mw = output m x u; paid = paid m x d u }) (length m.units) u _ lt;
+  load_count = counted (λ i. record { mw = demand m i; pays = pays m d i }) (length m.buses);
+  loads = λ i lt. at_place (λ i. record { mw = demand m i; pays = pays m d i }) (length m.buses) i _ lt;
+  rents = refl;
+  surplus = refl;
+}
