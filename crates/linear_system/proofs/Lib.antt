@@ -3,3 +3,4 @@ pub mod ExchangeLaws
 pub mod Multipliers
 pub mod PairLaws
 pub mod Rows
+pub mod SameSystems
