@@ -1,6 +1,7 @@
 pub mod BlockChoices
 pub mod Completeness
 pub mod DualLists
+pub mod FrameLaws
 pub mod GrowthLaws
 pub mod LawsOfSolving
 pub mod MarketPoints

@@ -1,4 +1,5 @@
 pub mod Completeness
+pub mod FrameLaw
 pub mod Growth
 pub mod MarketNumbers
 pub mod MarketSystem

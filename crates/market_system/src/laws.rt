@@ -1,10 +1,16 @@
 //! Laws of the definitions, each the contract of a function that does nothing.
 ghost use Rattle.market_system.specs.Completeness.{LawOfCompleteness};
+ghost use Rattle.market_system.specs.FrameLaw.{LawOfTheFrame};
 ghost use Rattle.market_system.specs.SolvedLaws.{LawOfTheSystem, LawOfThePoints, LawOfTheSolved, LawOfTheAnswer, LawOfTheStuck, LawOfGrowth};
 
 /// A market over some of its limits is a linear system, in whatever order they are listed.
 pub fn market_is_system()
     ensures { LawOfTheSystem }
+{}
+
+/// Its rows are of the market's frame alone, which no edit changes.
+pub fn rows_are_of_the_frame()
+    ensures { LawOfTheFrame }
 {}
 
 /// The points of this system are the dispatches that are feasible for these limits.

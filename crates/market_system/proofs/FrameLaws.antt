@@ -1,0 +1,125 @@
+-- The rows of a market's system are of its frame alone.
+use Rattle.std.specs.Prelude.{◌≡◌, ℕ, ℤ, ◌+◌, ◌==◌, ◌&&◌, pos, Bool, if◌then◌else◌, not, List, [], ◌∷◌, ◌++◌, length, map, filter, Option, Some, None, is_some, option_map, slice_index_or, refl}
+use Rattle.std.specs.List.{flat_map, position_or_len}
+use Rattle.std.proofs.Common.{zero, suc, ap, ap₂, sym, ◌∙◌}
+use mathlib.Core.Path.{fun_ext}
+use Rattle.fraction_theory.specs.Fraction.{Fraction, whole}
+use Rattle.linear_system.specs.Systems.{System}
+use Rattle.market_model.specs.declared.participants.Block.{Block}
+use Rattle.market_model.specs.declared.participants.Line.{Line}
+use Rattle.market_model.specs.declared.participants.Parts.{Parts}
+use Rattle.market_model.specs.declared.participants.Side.TheVariants.{Sell}
+use Rattle.market_model.specs.Dispatch.{places, block_at, line_at, unit_at, signed}
+use Rattle.market_model.specs.Frame.{block_frame, line_frame, frame, SameFrame}
+use Rattle.market_model.specs.LimitRows.{Row, Base, After, rows, base_rows, rows_after, has_base, has_post, place_of_line, row_factor}
+use Rattle.market_system.specs.FrameLaw.{SameRows, LawOfTheFrame}
+use Rattle.market_system.specs.MarketSystem.{balance_name, row_name, is_in, in_order, block_sign, block_coefficient, of_name, coefficient_by, same_row, system_over, system_of}
+
+mapped_at : {X Y : Type 0} (f : X → Y) (d : X) (e : Y) → f d ≡ e → (xs : List X) (i : ℕ) → slice_index_or (map f xs) i e ≡ f (slice_index_or xs i d)
+mapped_at f d e h [] i = sym h
+mapped_at f d e h (x ∷ xs) zero = refl
+mapped_at f d e h (x ∷ xs) (suc i) = mapped_at f d e h xs i
+
+counted : {X Y : Type 0} (f : X → Y) (xs : List X) → length (map f xs) ≡ length xs
+counted f [] = refl
+counted f (x ∷ xs) = ap suc (counted f xs)
+
+module _ (m : Parts) where
+  line_framed : (l : ℕ) → line_at (frame m) l ≡ line_frame (line_at m l)
+  line_framed l = mapped_at line_frame (record { row = 0; base = None; post = None; offset = pos 0 }) (record { row = 0; base = None; post = None; offset = pos 0 }) refl m.lines l
+
+  block_framed : (j : ℕ) → block_at (frame m) j ≡ block_frame (block_at m j)
+  block_framed j = mapped_at block_frame (record { unit = 0; side = Sell; quantity = pos 0; price = pos 0 }) (record { unit = 0; side = Sell; quantity = pos 0; price = pos 0 }) refl m.blocks j
+
+  some_or_none : (o : Option ℤ) → is_some (option_map (λ mw. pos 0) o) ≡ is_some o
+  some_or_none None = refl
+  some_or_none (Some mw) = refl
+
+  line_count : length (frame m).lines ≡ length m.lines
+  line_count = counted line_frame m.lines
+
+  block_count : length (frame m).blocks ≡ length m.blocks
+  block_count = counted block_frame m.blocks
+
+  base_framed : has_base (frame m) ≡ has_base m
+  base_framed = fun_ext (λ l. ap (λ (k : Line). is_some k.base) (line_framed l) ∙ some_or_none (line_at m l).base)
+
+  post_framed : (lost : ℕ) → has_post (frame m) lost ≡ has_post m lost
+  post_framed lost = fun_ext (λ l. ap (λ (b : Bool). not (l == lost) && b) (ap (λ (k : Line). is_some k.post) (line_framed l) ∙ some_or_none (line_at m l).post))
+
+  place_framed : (row : ℕ) → place_of_line (frame m) row ≡ place_of_line m row
+  place_framed row =
+      ap₂ (λ (p : ℕ → Bool) (n : ℕ). position_or_len p (places n)) (fun_ext (λ l. ap (λ (k : Line). k.row == row) (line_framed l))) line_count
+
+  after_framed : (lost : ℕ) → rows_after (frame m) lost ≡ rows_after m lost
+  after_framed lost = ap₂ (λ (p : ℕ → Bool) (n : ℕ). map (λ l. record { line = l; cause = After lost }) (filter p (places n))) (post_framed lost) line_count
+
+  pub rows_framed : rows (frame m) ≡ rows m
+  unfolding rows
+  rows_framed = ap₂ ◌++◌
+      (ap₂ (λ (p : ℕ → Bool) (n : ℕ). map (λ l. record { line = l; cause = Base }) (filter p (places n))) base_framed line_count)
+      (ap (λ (f : ℕ → List Row). flat_map f m.outages) (fun_ext (λ row. ap (rows_after (frame m)) (place_framed row) ∙ after_framed (place_of_line m row))))
+
+  name_framed : row_name (frame m) ≡ row_name m
+  name_framed = fun_ext (λ r. ap₂ (λ (n : ℕ) (rs : List Row). n + 1 + position_or_len (same_row r) rs) block_count rows_framed)
+
+  sign_framed : block_sign (frame m) ≡ block_sign m
+  sign_framed = fun_ext (λ j. ap (λ (b : Block). signed b.side (whole (pos 1))) (block_framed j))
+
+  coefficient_framed : block_coefficient (frame m) ≡ block_coefficient m
+  unfolding row_factor
+  coefficient_framed = fun_ext (λ r. fun_ext (λ j. ap (λ (b : Block). signed b.side (row_factor m r (unit_at m b.unit).bus)) (block_framed j)))
+
+  in_order_framed : (g : List Row) → in_order (frame m) g ≡ in_order m g
+  in_order_framed [] = refl
+  in_order_framed (t ∷ ts) = ap (filter (is_in (t ∷ ts))) rows_framed
+
+  -- by name, with the names and what is said of a row as they are
+  of_names : {X : Type 0} → (Row → ℕ) → (Row → X) → X → List Row → ℕ → X
+  of_names name said other [] w = other
+  of_names name said other (r ∷ rs) w = if w == name r then said r else of_names name said other rs w
+
+  of_names_is : {X : Type 0} (n : Parts) (said : Row → X) (other : X) (rs : List Row) (w : ℕ) → of_name n said other rs w ≡ of_names (row_name n) said other rs w
+  unfolding of_names
+  of_names_is n said other [] w = refl
+  of_names_is n said other (r ∷ rs) w = ap (λ x. if w == row_name n r then said r else x) (of_names_is n said other rs w)
+
+  entry_framed : (g : List Row) (w j : ℕ) → coefficient_by (frame m) (in_order (frame m) g) w j ≡ coefficient_by m (in_order m g) w j
+  entry_framed g w j =
+      of_names_is (frame m) (λ r. block_coefficient (frame m) r j) (block_sign (frame m) j) (in_order (frame m) g) w
+      ∙ ap₂ (λ (name : Row → ℕ) (coefficient : Row → ℕ → Fraction). of_names name (λ r. coefficient r j) (block_sign (frame m) j) (in_order (frame m) g) w) name_framed coefficient_framed
+      ∙ ap₂ (λ (sign : ℕ → Fraction) (rs : List Row). of_names (row_name m) (λ r. block_coefficient m r j) (sign j) rs w) sign_framed (in_order_framed g)
+      ∙ sym (of_names_is m (λ r. block_coefficient m r j) (block_sign m j) (in_order m g) w)
+
+  -- the market's system has the rows of its frame's
+  pub system_framed : (g : List Row) → SameRows (system_of (frame m) g) (system_of m g)
+  unfolding system_over
+  system_framed g =
+      let row_names : balance_name (frame m) ∷ map (row_name (frame m)) (in_order (frame m) g) ≡ balance_name m ∷ map (row_name m) (in_order m g) =
+      ap₂ (λ (b : ℕ) (ns : List ℕ). b ∷ ns) block_count (ap₂ (λ (name : Row → ℕ) (rs : List Row). map name rs) name_framed (in_order_framed g)) in
+      record {
+        variables = ap₂ (λ (n : ℕ) (ns : List ℕ). places n ++ ns) block_count row_names;
+        columns = ap places block_count;
+        rows = row_names;
+        coefficient = fun_ext (λ w. fun_ext (λ j. entry_framed g w j));
+      }
+
+joined : (s t u : System) → SameRows s t → SameRows t u → SameRows s u
+joined s t u a b = record { variables = a.variables ∙ b.variables; columns = a.columns ∙ b.columns; rows = a.rows ∙ b.rows; coefficient = a.coefficient ∙ b.coefficient }
+
+back : (s t : System) → SameRows s t → SameRows t s
+back s t a = record { variables = sym a.variables; columns = sym a.columns; rows = sym a.rows; coefficient = sym a.coefficient }
+
+alike : (m n : Parts) (g : List Row) → m ≡ n → SameRows (system_of m g) (system_of n g)
+alike m n g e = record {
+  variables = ap (λ (p : Parts). (system_of p g).variables) e;
+  columns = ap (λ (p : Parts). (system_of p g).columns) e;
+  rows = ap (λ (p : Parts). (system_of p g).rows) e;
+  coefficient = ap (λ (p : Parts). (system_of p g).coefficient) e;
+}
+
+pub law_of_the_frame : LawOfTheFrame
+law_of_the_frame m n g same =
+    (sym (rows_framed m) ∙ ap rows same ∙ rows_framed n,
+    joined (system_of m g) (system_of (frame m) g) (system_of n g) (back (system_of (frame m) g) (system_of m g) (system_framed m g))
+    (joined (system_of (frame m) g) (system_of (frame n) g) (system_of n g) (alike (frame m) (frame n) g same) (system_framed n g)))
