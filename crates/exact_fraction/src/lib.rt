@@ -6,6 +6,7 @@ ghost use Rattle.std.specs.Prelude.{◌≡◌, ◌≢◌, ℕ, ◌<◌, ◌≤�
 pub use fraction_theory::Sign;
 use std::cmp::Ordering;
 
+mod divisor;
 pub mod laws;
 mod ratio;
 mod text;

@@ -129,6 +129,138 @@ fn edges_of_127_bits(rt: HostRuntime) {
     }
 }
 
+/// Each way through a sum, a product and a comparison, at both types.
+fn ways<N: Exact>(rt: &impl Abort) {
+    const MOST: i64 = i64::MAX;
+    for (op, (a, b), (c, d), text) in [
+        (Op::Plus, (3, 1), (-3, 1), "0/1"),
+        (Op::Plus, (MOST, 1), (-1, 1), "9223372036854775806/1"),
+        (Op::Plus, (5, 1), (2, 3), "17/3"),
+        (Op::Plus, (1, 4), (1, 6), "5/12"),
+        (Op::Plus, (1, 6), (1, 10), "4/15"),
+        (Op::Plus, (1, 6), (1, 6), "1/3"),
+        (Op::Minus, (1, 6), (1, 6), "0/1"),
+        (Op::Times, (0, 1), (-5, 7), "0/1"),
+        (Op::Times, (-5, 7), (0, 1), "0/1"),
+        (Op::Times, (-5, 7), (-1, 1), "5/7"),
+        (Op::Times, (12, 35), (-25, 18), "-10/21"),
+        (Op::Times, (1 << 62, 3), (9, 1 << 60), "12/1"),
+        (Op::Times, (-MOST, 1), (1, MOST as u64), "-1/1"),
+    ] {
+        match (fraction::<N>(a, b), fraction::<N>(c, d)) {
+            (Some(left), Some(right)) => match apply(op, left, right) {
+                Ok(found) => assert!(rt; is_in_parts(found, text), "{text}"),
+                Err(_) => assert!(rt; false, "{text}"),
+            },
+            _ => assert!(rt; false),
+        }
+    }
+    for ((a, b), (c, d), order) in [
+        ((1, 3), (1, 3), Ordering::Equal),
+        ((-2, 3), (-1, 3), Ordering::Less),
+        ((0, 1), (1, 3), Ordering::Less),
+        ((0, 1), (-1, 3), Ordering::Greater),
+        ((7, 2), (10, 3), Ordering::Greater),
+        ((MOST, 2), (MOST, 1), Ordering::Less),
+    ] {
+        match (fraction::<N>(a, b), fraction::<N>(c, d)) {
+            (Some(left), Some(right)) => assert!(rt; left.order(right) == order),
+            _ => assert!(rt; false),
+        }
+    }
+}
+
+#[test]
+fn ways_at_both_types(rt: HostRuntime) {
+    ways::<Frac>(&rt);
+    ways::<Frac63>(&rt);
+}
+
+/// The product of two fractions of 63 bits.
+fn wide((a, b): (i64, u64), (c, d): (i64, u64)) -> Option<Frac> {
+    match (fraction::<Frac>(a, b), fraction::<Frac>(c, d)) {
+        (Some(left), Some(right)) => left.times(right).ok(),
+        _ => None,
+    }
+}
+
+/// Parts on both sides of 64 bits.
+#[test]
+fn ways_past_64_bits(rt: HostRuntime) {
+    const ROOT: i64 = 1 << 32;
+    const HALF: u64 = 1 << 31;
+    for (op, (left, more_left), (right, more_right), text) in [
+        (
+            Op::Plus,
+            ((ROOT, 1), (ROOT, 1)),
+            ((ROOT, 1), (1 << 31, 1)),
+            "27670116110564327424/1",
+        ),
+        (
+            Op::Plus,
+            ((1, HALF << 1), (1, HALF << 1)),
+            ((1, HALF << 1), (1, HALF)),
+            "3/18446744073709551616",
+        ),
+        (
+            Op::Plus,
+            ((ROOT, 3), (ROOT, 1)),
+            ((1, 6), (1, 1)),
+            "12297829382473034411/2",
+        ),
+        (
+            Op::Times,
+            ((ROOT, 1), (ROOT, 1)),
+            ((1, HALF << 1), (1, HALF)),
+            "2/1",
+        ),
+        (
+            Op::Times,
+            ((ROOT, 5), (3 << 32, 1)),
+            ((5, HALF << 1), (1, 9 << 32)),
+            "1/3",
+        ),
+    ] {
+        match (wide(left, more_left), wide(right, more_right)) {
+            (Some(left), Some(right)) => match apply(op, left, right) {
+                Ok(found) => assert!(rt; is_in_parts(found, text), "{text}"),
+                Err(_) => assert!(rt; false, "{text}"),
+            },
+            _ => assert!(rt; false),
+        }
+    }
+}
+
+/// The greatest number at 127 bits.
+fn most() -> Option<Frac> {
+    let power = wide((1 << 62, 1), (1 << 62, 1))?;
+    let half = power.times(Frac::of_parts(4, 1)).ok()?;
+    let rest = half.minus(Frac::of_parts(1, 1)).ok()?;
+    half.plus(rest).ok()
+}
+
+#[test]
+fn greatest_of_127_bits(rt: HostRuntime) {
+    let one = Frac::of_parts(1, 1);
+    match most() {
+        Some(most) => {
+            assert!(rt; is_in_parts(most, "170141183460469231731687303715884105727/1"));
+            assert!(rt; most.plus(one).is_err() && most.neg().minus(one).is_err());
+            assert!(rt; is(most.plus(most.neg()), Frac::of_parts(0, 1)));
+            assert!(rt; is(most.times(one.neg()), most.neg()));
+            match inverse(most) {
+                Some(least) => {
+                    assert!(rt; is(most.times(least), one));
+                    assert!(rt; least.order(most) == Ordering::Less);
+                    assert!(rt; least.plus(least).is_ok() && least.times(least).is_err());
+                }
+                None => assert!(rt; false),
+            }
+        }
+        None => assert!(rt; false),
+    }
+}
+
 /// Amounts in units, as reports print them.
 fn texts<N: Exact>(rt: &impl Abort) {
     for (num, den, places, text) in [
