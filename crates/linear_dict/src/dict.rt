@@ -35,6 +35,7 @@ pub struct Dict<N: Exact> {
 }
 
 impl<N: Exact> Model for Dict<N> {
+    ghost use Rattle.std.specs.Prelude.{◌≡◌, map};
     ghost use Rattle.linear_dict.specs.Dictionaries.{Dictionary, IsDictionary, dictionary_code, seen};
     ghost use Rattle.linear_dict.specs.Indexes.{IsIndex, name_of};
 

@@ -53,12 +53,10 @@ pub(crate) fn add_variable<N: Exact>(
     match names.binary_search(&variable.name) {
         Ok(_) => unreachable!(),
         Err(rank) => match variables.insert(rank, variable) {
-            Ok(()) => {
-                if names.insert(rank, variable.name).is_err() {
-                    unreachable!();
-                }
-                Ok(())
-            }
+            Ok(()) => match names.insert(rank, variable.name) {
+                Ok(()) => Ok(()),
+                Err(_) => unreachable!(),
+            },
             Err(_) => Err(Memory),
         },
     }
