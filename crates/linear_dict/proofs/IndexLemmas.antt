@@ -1,8 +1,7 @@
 -- The index of variables: what a binary search finds in it, and one more variable.
-use Rattle.std.specs.Prelude.{◌≡◌, ◌≢◌, ℕ, ◌+◌, ◌<◌, ◌≤◌, Bool, List, [], ◌∷◌, ◌++◌, length, map, take, drop, insert, slice_index, slice_get, slice_set, Some, Result, Ok, Err, MatchResult, refl}
+use Rattle.std.specs.Prelude.{◌≡◌, ◌≢◌, ℕ, ◌+◌, ◌<◌, ◌≤◌, Bool, List, [], ◌∷◌, ◌++◌, length, map, take, drop, insert, slice_index, slice_get, slice_set, Some, refl}
 use Rattle.std.specs.List.{Contains}
-use Rattle.std.specs.List.Sorted.{IsStrictlyIncreasing, IsBinarySearchResult}
-use Rattle.std.specs.Ordering.{nat_cmp, ordering_index}
+use Rattle.std.specs.List.Sorted.{IsStrictlyIncreasing}
 use Rattle.std.proofs.Common.{zero, suc, arith, ap, sym, ◌∙◌, subst, get_or, inl, inr}
 use Rattle.std.proofs.lemmas.List.{get_or-map, length-map, map-set, get_or-set_same, map-append, take-map, drop-map}
 use Rattle.std.proofs.lemmas.Bool.{cases_order}

@@ -1,9 +1,8 @@
-use Rattle.std.proofs.Common.{◌≡◌, ◌∙◌, ℕ, List, arith, ap, sym, subst, length, map, take, refl}
+use Rattle.std.proofs.Common.{◌≡◌, ◌∙◌, ℕ, List, arith, ap, sym, subst, length, take, refl}
 use Rattle.std.proofs.lemmas.List.{length-take, take_more}
-use Rattle.std.specs.List.{Contains}
 use Rattle.linear_dict.specs.declared.index.Variable.{Variable}
 use Rattle.linear_dict.specs.declared.place.Place.TheVariants.{Column, Row}
-use Rattle.linear_dict.specs.Indexes.{IsStartedIndex, AddsVariable, name_of}
+use Rattle.linear_dict.specs.Indexes.{IsStartedIndex, AddsVariable}
 use Rattle.linear_dict.proofs.StartLemmas.{started_absent, started_one, started_more}
 use Rattle.linear_dict.proofs.dict.started.Goals as goal
 

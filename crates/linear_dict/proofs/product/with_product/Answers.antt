@@ -1,5 +1,4 @@
-use Rattle.std.proofs.Common.{◌≡◌, ◌∙◌, ap, sym, refl}
-use mathlib.Core.Path.{ap₂}
+use Rattle.std.proofs.Common.{◌∙◌, ap, sym, refl}
 use Rattle.std.proofs.lemmas.Result.{err_from_is_err_and}
 use Rattle.exact_fraction.specs.declared.Op.TheVariants.{Plus, Times}
 use Rattle.fraction_theory.specs.Fraction.{Fraction, ◌+ℚ◌, ◌*ℚ◌}

@@ -1,7 +1,7 @@
-use Rattle.std.proofs.Common.{ℕ, ◌+◌, ◌*◌, ◌∙◌, length, arith, sym, subst, List, Vec, Global, inl, inr, ◌≡◌, map, pos}
+use Rattle.std.proofs.Common.{ℕ, ◌+◌, ◌*◌, ◌∙◌, length, arith, sym, subst, List, Vec, Global, inl, inr, ◌≡◌, map}
 use mathlib.Core.Path.{ap₂}
 use Rattle.std.proofs.lemmas.List.{length-map}
-use Rattle.fraction_theory.specs.Fraction.{Fraction, whole, ◌+ℚ◌, ◌*ℚ◌}
+use Rattle.fraction_theory.specs.Fraction.{Fraction, ◌+ℚ◌, ◌*ℚ◌}
 use Rattle.std.proofs.lemmas.Result.{err_from_is_err_and}
 use Rattle.exact_fraction.specs.declared.Op.TheVariants.{Times}
 use Rattle.linear_dict.specs.Causes.{ClearOperation, ProductOperation, scale}

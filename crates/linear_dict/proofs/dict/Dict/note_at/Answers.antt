@@ -1,4 +1,4 @@
-use Rattle.std.proofs.Common.{◌≡◌, ◌<◌, ◌∙◌, ℕ, List, ap, arith, length, get_or}
+use Rattle.std.proofs.Common.{◌<◌, ◌∙◌, List, ap, arith, length, get_or}
 use Rattle.std.proofs.lemmas.List.{length-map}
 use Rattle.linear_dict.specs.Dictionaries.{Dictionary, note_of}
 use Rattle.linear_dict.specs.Indexes.{name_of}

@@ -1,4 +1,4 @@
-use Rattle.std.proofs.Common.{◌≡◌, ◌<◌, ℕ, List, ap, arith, length, subst, sym, get_or}
+use Rattle.std.proofs.Common.{◌<◌, ℕ, List, ap, arith, length, subst, sym, get_or}
 use Rattle.std.proofs.lemmas.List.{length-map}
 use Rattle.linear_dict.specs.Dictionaries.{Dictionary}
 use Rattle.linear_dict.specs.Indexes.{name_of}

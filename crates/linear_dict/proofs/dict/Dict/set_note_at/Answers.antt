@@ -1,9 +1,8 @@
-use Rattle.std.proofs.Common.{◌≡◌, ◌<◌, ◌∙◌, ℕ, List, ap, arith, get_or, length, map, refl, slice_set, subst, sym}
+use Rattle.std.proofs.Common.{◌<◌, ◌∙◌, ℕ, List, ap, arith, get_or, length, refl, slice_set, subst, sym}
 use Rattle.std.proofs.lemmas.List.{length-map}
 use Rattle.linear_dict.specs.Dictionaries.{Dictionary, IsDictionary, seen, with_note}
 use Rattle.linear_dict.specs.Notes.{noted}
 use Rattle.linear_dict.specs.Indexes.{name_of}
-use Rattle.linear_dict.specs.Places.{place_in}
 use Rattle.linear_dict.specs.declared.index.Variable.{Variable}
 use Rattle.linear_dict.proofs.NoteLemmas.{noted_dictionary}
 use Rattle.linear_dict.proofs.IndexLemmas.{rank_place, seen_note, with_note_index}
