@@ -16,6 +16,7 @@ use Rattle.linear_dict.specs.declared.place.Place.TheVariants.{Row, Column}
 use Rattle.linear_dict.specs.Tables.{cell}
 use Rattle.linear_dict.specs.declared.index.Variable.{Variable}
 use Rattle.linear_dict.proofs.NameLemmas.{lt_or_le}
+use Rattle.linear_dict.proofs.ProductLemmas.{zero_times}
 
 module _ {N : Type 0} (value : N → Fraction) where
   pub sums_same : (xs : List N) (n : ℕ) (f g : ℕ → Fraction) → AreSums value xs n f → ((c : ℕ) → c < n → f c ≡ g c) → AreSums value xs n g
@@ -62,6 +63,9 @@ below_test c n h = Prim.grind (arith, nat_tests)
 above_test : (c n : ℕ) → n ≤ c → nat_lt c n ≡ false
 above_test c n h = Prim.grind (arith, nat_tests)
 
+beyond : (k c : ℕ) → k ≢ c → c ≤ k → c + 1 ≤ k
+beyond k c d l = elim (lt_or_le c k) [ inl m ↦ Prim.omega (arith, m) | inr m ↦ absurd (d (Prim.omega (arith, m, l))) ]
+
 module _ {N : Type 0} (value : N → Fraction) (n : ℕ) (f t : ℕ → Fraction) where
   pub added-yet : (upto c : ℕ) → upto ≤ c → added_to f t upto c ≡ f c
   unfolding added_to
@@ -80,11 +84,18 @@ module _ {N : Type 0} (value : N → Fraction) (n : ℕ) (f t : ℕ → Fraction
       (e ∙ ap₂ ◌+ℚ◌ (sums_read value xs n (added_to f t c) c read s h is ∙ added-yet c c (Prim.omega arith)) et ∙ sym (added-done (c + 1) c (Prim.omega arith)))
       (λ k d. elim (lt_or_le k c) [
         | inl l ↦ added-done c k l ∙ sym (added-done (c + 1) k (Prim.omega (arith, l)))
-        | inr l ↦ added-yet c k l ∙ sym (added-yet (c + 1) k (above k d l))
+        | inr l ↦ added-yet c k l ∙ sym (added-yet (c + 1) k (beyond k c d l))
       ])
-    where
-      above : (k : ℕ) → k ≢ c → c ≤ k → c + 1 ≤ k
-      above k d l = elim (lt_or_le c k) [ inl m ↦ Prim.omega (arith, m) | inr m ↦ absurd (d (Prim.omega (arith, m, l))) ]
+
+  -- a term of 0
+  pub added_keep : (xs : List N) (c : ℕ) → AreSums value xs n (added_to f t c) → t c ≡ whole (pos 0) → AreSums value xs n (added_to f t (c + 1))
+  added_keep xs c s e = sums_same value xs n (added_to f t c) (added_to f t (c + 1)) s (λ k h. elim (lt_or_le k c) [
+    | inl l ↦ added-done c k l ∙ sym (added-done (c + 1) k (Prim.omega (arith, l)))
+    | inr l ↦ elim (same_or_not k c) [
+      | inl d ↦ added-yet c k l ∙ sym (ap (λ z. f k +ℚ z) (ap t d ∙ e) ∙ ring_ℚ.plus_nil (f k)) ∙ sym (added-done (c + 1) k (Prim.omega (arith, d)))
+      | inr d ↦ added-yet c k l ∙ sym (added-yet (c + 1) k (beyond k c d l))
+    ]
+  ])
 
   pub added_end : (xs : List N) (upto : ℕ) → AreSums value xs n (added_to f t upto) → n ≤ upto → AreSums value xs n (λ c. f c +ℚ t c)
   added_end xs upto s h = sums_same value xs n (added_to f t upto) (λ c. f c +ℚ t c) s (λ c b. added-done upto c (Prim.omega (arith, b, h)))
@@ -116,6 +127,13 @@ module _ {N : Type 0} (value : N → Fraction) (columns : ℕ) (table entries : 
   module _ (sums : List N) (f : ℕ → Fraction) (s : AreSums value sums columns f) where
     pub nothing_added : (k : ℕ) → v.put ≡ Row k → AreSums value sums columns (λ c. f c +ℚ row_term value columns table entries c v)
     nothing_added k e = sums_same value sums columns f (λ c. f c +ℚ row_term value columns table entries c v) s (λ c h. sym (ap (λ t. f c +ℚ t) (term_of_row k c e) ∙ ring_ℚ.plus_nil (f c)))
+
+    pub zero_added : (j : ℕ) → v.put ≡ Column j → get_or (map value entries) j (whole (pos 0)) ≡ whole (pos 0) → AreSums value sums columns (λ c. f c +ℚ row_term value columns table entries c v)
+    unfolding row_term
+    zero_added j e z = sums_same value sums columns f (λ c. f c +ℚ row_term value columns table entries c v) s (λ c h. sym (ap (λ t. f c +ℚ t)
+        (ap (put_term (map value entries) (entry_at_place columns (map value table) c v.place)) e
+        ∙ zero_times (get_or (map value entries) j (whole (pos 0))) (entry_at_place columns (map value table) c v.place) z ∙ z)
+        ∙ ring_ℚ.plus_nil (f c)))
 
     pub entry_added : (j k : ℕ) (entry read sum : N) → v.put ≡ Column j → v.place ≡ Column k → j < length entries → k < columns → entry ≡ get_or entries j entry → read ≡ get_or sums k read
         → value sum ≡ value read +ℚ value entry → AreSums value (slice_set sums k sum) columns (λ c. f c +ℚ row_term value columns table entries c v)

@@ -7,7 +7,7 @@ use Rattle.exact_fraction.specs.declared.Op.TheVariants.{Plus, Times}
 use Rattle.exact_fraction.specs.declared.Passed.{Passed}
 use Rattle.exact_fraction.specs.Passes.{IsPassed, Passes}
 use Rattle.fraction_theory.specs.Fraction.{Fraction, ◌*ℚ◌}
-use Rattle.linear_dict.specs.Causes.{OnPassed, ClearOperation, IsRefused, PivotOperation, SolveOperation, divide, scale, add, solving, scaling, adding}
+use Rattle.linear_dict.specs.Causes.{OnPassed, ClearOperation, IsRefused, MultipleOperation, PivotOperation, ProductOperation, SolveOperation, divide, scale, add, multiply, increase, product, sum, solving, scaling, adding}
 use Rattle.linear_dict.specs.declared.adding.AddStop.{AddStop}
 use Rattle.linear_dict.specs.declared.adding.AddStop.TheVariants.{Passed as StoppedBy, Memory as NoMemory}
 use Rattle.linear_dict.specs.Tables.{pivoted_row}
@@ -36,6 +36,17 @@ clear_of_pivot rows columns f g i r c hi n hc row solved _ _ _ (scale j hj) =
     subst₂ (PivotOperation rows columns f r c Times) (sym (row c hc)) (sym (solved j hj)) (scaling i j hi n hj)
 clear_of_pivot rows columns f g i r c hi n hc row solved _ _ _ (add j hj m) =
     subst₂ (PivotOperation rows columns f r c Plus) (sym (row j hj)) (sym (ap₂ ◌*ℚ◌ (row c hc) (solved j hj))) (adding i j hi n hj m)
+
+-- what a product asks that is added to an entry of a row that is cleared, or to a sum
+pub clear_of_product : (columns : ℕ) (f : ℕ → ℕ → Fraction) (i r c j : ℕ) → j < columns → j ≢ c → (x a t : Fraction) → x ≡ f i j → a ≡ f i c → t ≡ f r j
+    → (op : Op) (u v : Fraction) → ProductOperation x a t op u v → ClearOperation columns f i r c op u v
+clear_of_product columns f i r c j hj n x a t ex ea et _ _ _ product = subst₂ (ClearOperation columns f i r c Times) (sym ea) (sym et) (scale j hj)
+clear_of_product columns f i r c j hj n x a t ex ea et _ _ _ sum = subst₂ (ClearOperation columns f i r c Plus) (sym ex) (sym (ap₂ ◌*ℚ◌ ea et)) (add j hj n)
+
+pub multiple_of_product : (count : ℕ) (f : ℕ → Fraction) (a : Fraction) (t : ℕ → Fraction) (c : ℕ) → c < count → (x y : Fraction) → x ≡ f c → y ≡ t c
+    → (op : Op) (u v : Fraction) → ProductOperation x a y op u v → MultipleOperation count f a t op u v
+multiple_of_product count f a t c hc x y ex ey _ _ _ product = subst (λ (z : Fraction). MultipleOperation count f a t Times a z) (sym ey) (multiply c hc)
+multiple_of_product count f a t c hc x y ex ey _ _ _ sum = subst₂ (MultipleOperation count f a t Plus) (sym ex) (ap (λ (z : Fraction). a *ℚ z) (sym ey)) (increase c hc)
 
 pub on_passed_as : {N : Type 0} (stop : AddStop N) (P Q : Passed N → Type 0) → ((e : Passed N) → P e → Q e) → OnPassed stop P → OnPassed stop Q
 on_passed_as (StoppedBy e) P Q f h = f e h

@@ -9,7 +9,6 @@ use Rattle.fraction_theory.proofs.Ring.{by_ring, at, pnil, padd}
 use Rattle.fraction_theory.proofs.FieldLaws.{ring_ℚ}
 use Rattle.fraction_theory.proofs.ListSums.{same_or_not, put_at-here, put_at-elsewhere}
 use Rattle.exact_fraction.specs.declared.Op.{Op}
-use Rattle.exact_fraction.specs.declared.Op.TheVariants.{Plus, Times}
 use Rattle.exact_fraction.specs.Passes.{Passes}
 use Rattle.linear_system.specs.Choices.{Choice, IsChoice, OneExchange, basics, others}
 use Rattle.linear_system.specs.Numbers.{Kind, Factor, SystemNumber, is_entry, is_opposite}

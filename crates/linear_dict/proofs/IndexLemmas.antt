@@ -1,8 +1,7 @@
 -- The index of variables: what a binary search finds in it, and one more variable.
-use Rattle.std.specs.Prelude.{◌≡◌, ◌≢◌, ℕ, ◌+◌, ◌<◌, ◌≤◌, Bool, List, [], ◌∷◌, ◌++◌, length, map, take, drop, insert, slice_index, slice_get, slice_set, Some, Result, Ok, Err, MatchResult, refl}
+use Rattle.std.specs.Prelude.{◌≡◌, ◌≢◌, ℕ, ◌+◌, ◌<◌, ◌≤◌, Bool, List, [], ◌∷◌, ◌++◌, length, map, take, drop, insert, slice_index, slice_get, slice_set, Some, refl}
 use Rattle.std.specs.List.{Contains}
-use Rattle.std.specs.List.Sorted.{IsStrictlyIncreasing, IsBinarySearchResult}
-use Rattle.std.specs.Ordering.{nat_cmp, ordering_index}
+use Rattle.std.specs.List.Sorted.{IsStrictlyIncreasing}
 use Rattle.std.proofs.Common.{zero, suc, arith, ap, sym, ◌∙◌, subst, get_or, inl, inr}
 use Rattle.std.proofs.lemmas.List.{get_or-map, length-map, map-set, get_or-set_same, map-append, take-map, drop-map}
 use Rattle.std.proofs.lemmas.Bool.{cases_order}
@@ -11,7 +10,7 @@ use Rattle.std.proofs.lemmas.Option.{slice_get-get_or, get_or_from_slice_get}
 use Rattle.std.proofs.lemmas.Grind.{get_or_default_zero}
 use Rattle.std.proofs.lemmas.List.Kept.{AllPairs-from_increasing}
 use Rattle.std.proofs.Math.Seq.{map-set_same}
-use Rattle.fraction_theory.proofs.ListSums.{same_or_not}
+use Rattle.fraction_theory.proofs.ListSums.{Distinct-increasing, same_or_not}
 use mathlib.Core.Path.{ap₂}
 use Rattle.fraction_theory.specs.Fraction.{Fraction}
 use Rattle.linear_dict.specs.declared.place.Place.{Place}
@@ -20,7 +19,7 @@ use Rattle.linear_dict.specs.Notes.{Noted, noted, blank}
 use Rattle.linear_dict.specs.declared.index.Variable.{Variable}
 use Rattle.linear_dict.specs.Indexes.{name_of, AddsVariable, IsIndex}
 use Rattle.linear_dict.specs.Places.{place_in, StandsAt}
-use Rattle.linear_dict.proofs.NameLemmas.{found, lt_or_le, place_in-within}
+use Rattle.linear_dict.proofs.NameLemmas.{lt_or_le, place_in-at}
 
 pub slice_get-set_other : {X : Type 0} (xs : List X) (i j : ℕ) (x : X) → j ≢ i → slice_get (slice_set xs i x) j ≡ slice_get xs j
 slice_get-set_other [] i j x n = refl
@@ -67,47 +66,20 @@ rises-insert xs i x rises within low high k h =
         let low' : i ≤ j = Prim.omega (arith, l) in
         Prim.rw (suc-add-one j) (Prim.omega (arith, get_or-insert_above xs i x 0 j low' within, get_or-insert_above xs i x 0 (j + 1) (Prim.omega (arith, low')) within, rises j (Prim.omega (arith, n))))
 
--- an item of a list with a place
-item : {X : Type 0} (xs : List X) (i : ℕ) → i < length xs → X
-item [] i h = absurd (Prim.omega arith)
-item (x ∷ xs) i h = x
+-- the variable of a rank has the name of that rank
+pub index_read : {N : Type 0} (vs : List (Variable N)) (k : ℕ) (v : Variable N) → k < length vs → v ≡ get_or vs k v → (slice_get vs k ≡ Some v) × (slice_index (map name_of vs) k ≡ v.name)
+index_read vs k v h is = (slice_get-get_or vs k v h ∙ ap Some (sym is), get_or-map name_of vs k v 0 h ∙ sym (ap name_of is))
 
-module _ {N : Type 0} (vs : List (Variable N)) (x : ℕ) where
-  -- what a search by name finds among the variables it finds among the names
-  by_names : (r : Result ℕ ℕ) → MatchResult r (λ i. i < length vs) (λ i. i ≤ length vs) → IsBinarySearchResult (λ v. nat_cmp (name_of v) x) vs r → IsBinarySearchResult (λ y. nat_cmp y x) (map name_of vs) r
-  by_names (Ok i) within b = λ d.
-      let some : Variable N = item vs i within in
-      ap (λ (t : ℕ). nat_cmp t x) (get_or-map name_of vs i some d within) ∙ b some
-  by_names (Err i) within b = λ rises.
-      let split = b (λ k j d h l.
-      let hk : k < length vs = Prim.omega (arith, h, l) in
-      let rise = rises k j 0 h (Prim.omega (arith, l, length-map vs (name_of {N = N}))) in
-      subst (λ (t : ℕ). ordering_index (nat_cmp t x) ≤ ordering_index (nat_cmp (name_of (get_or vs j d)) x)) (get_or-map name_of vs k d 0 hk)
-      (subst (λ (t : ℕ). ordering_index (nat_cmp (get_or (map name_of vs) k 0) x) ≤ ordering_index (nat_cmp t x)) (get_or-map name_of vs j d 0 l) rise)) in (
-        λ k d l h.
-            let hk : k < length vs = Prim.omega (arith, h, within) in
-            ap (λ (t : ℕ). nat_cmp t x) (get_or-map name_of vs k (item vs k hk) d hk) ∙ split.0 k (item vs k hk) l h,
-        λ k d l h.
-            let hk : k < length vs = Prim.omega (arith, h, length-map vs (name_of {N = N})) in
-            ap (λ (t : ℕ). nat_cmp t x) (get_or-map name_of vs k (item vs k hk) d hk) ∙ split.1 k (item vs k hk) l hk,
-      )
+-- a name of a rank stands at that rank
+pub rank_place : {N : Type 0} (vs : List (Variable N)) (k : ℕ) → k < length vs → IsStrictlyIncreasing (map name_of vs) → place_in (map name_of vs) (slice_index (map name_of vs) k) ≡ k
+rank_place {N} vs k h rises =
+    place_in-at (map name_of vs) k (slice_index (map name_of vs) k) (Distinct-increasing (map name_of vs) rises) (Prim.omega (arith, h, length-map vs (name_of {N = N}))) refl
 
-  pub found_name : (r : Result ℕ ℕ) → MatchResult r (λ i. i < length vs) (λ i. i ≤ length vs) → IsBinarySearchResult (λ v. nat_cmp (name_of v) x) vs r → IsStrictlyIncreasing (map name_of vs)
-      → MatchResult r (λ i. (i < length (map name_of vs)) × (slice_index (map name_of vs) i ≡ x))
-      (λ i. (i ≤ length (map name_of vs)) × ((k : ℕ) → k < i → slice_index (map name_of vs) k < x) × ((k : ℕ) → i ≤ k → k < length (map name_of vs) → x < slice_index (map name_of vs) k))
-  found_name r within b rises = found (map name_of vs) x r (by_names r within b) rises
-
--- the variable that stands at the place of a name has that name
-pub index_read : {N : Type 0} (vs : List (Variable N)) (k w : ℕ) (v : Variable N) → k < length vs → v ≡ get_or vs k v → Contains (map name_of vs) w → k ≡ place_in (map name_of vs) w
-    → (slice_get vs k ≡ Some v) × (v.name ≡ w)
-index_read vs k w v h is named at = (
-  slice_get-get_or vs k v h ∙ ap Some (sym is),
-  ap name_of is ∙ sym (get_or-map name_of vs k v 0 h) ∙ ap (slice_index (map name_of vs)) at ∙ (place_in-within (map name_of vs) w named).1,
-)
-
-pub note_read : {N : Type 0} (value : N → Fraction) (vs : List (Variable N)) (k : ℕ) (v : Variable N) → k < length vs → v ≡ get_or vs k v
-    → noted value v.note ≡ get_or (map (λ (u : Variable N). noted value u.note) vs) k blank
-note_read {N} value vs k v h is = ap (λ (u : Variable N). noted value u.note) is ∙ sym (get_or-map (λ (u : Variable N). noted value u.note) vs k v blank h)
+pub note_read : {N : Type 0} (value : N → Fraction) (vs : List (Variable N)) (k : ℕ) (v : Variable N) → k < length vs → v ≡ get_or vs k v → IsStrictlyIncreasing (map name_of vs)
+    → noted value v.note ≡ get_or (map (λ (u : Variable N). noted value u.note) vs) (place_in (map name_of vs) (slice_index (map name_of vs) k)) blank
+note_read {N} value vs k v h is rises =
+    ap (λ (u : Variable N). noted value u.note) is ∙ sym (get_or-map (λ (u : Variable N). noted value u.note) vs k v blank h)
+    ∙ ap (λ (j : ℕ). get_or (map (λ (u : Variable N). noted value u.note) vs) j blank) (sym (rank_place vs k h rises))
 
 -- a note written changes nothing of the index but that note
 pub with_note_index : {N : Type 0} (vs : List (Variable N)) (k : ℕ) (v u : Variable N) (basics others rows columns : List ℕ) → k < length vs → v ≡ get_or vs k v
@@ -157,9 +129,9 @@ adds_here {N} vs v i rises within low high = record {
   ascending = subst IsStrictlyIncreasing (sym (map-insert name_of vs i v)) (rises-insert (map name_of vs) i v.name rises within low high);
 }
 
--- another name than those of the variables
-pub absent_not_found : {N : Type 0} (vs : List (Variable N)) (x i : ℕ) → ¬ (Contains (map name_of vs) x) → (i < length (map name_of vs)) → slice_index (map name_of vs) i ≡ x → ⊥
-absent_not_found vs x i absent h e = absent (i, h, get_or_default_zero (map name_of vs) i x h ∙ e)
+-- another name than those there are
+pub absent_not_found : (names : List ℕ) (x i : ℕ) → ¬ (Contains names x) → (i < length names) → slice_index names i ≡ x → ⊥
+absent_not_found names x i absent h e = absent (i, h, get_or_default_zero names i x h ∙ e)
 
 -- the first number of the first n that is not below x
 scan : (xs : List ℕ) (x : ℕ) → IsStrictlyIncreasing xs → (n : ℕ) → n ≤ length xs

@@ -8,6 +8,7 @@ pub mod MovedLemmas
 pub mod NameLemmas
 pub mod NoteLemmas
 pub mod PivotLemmas
+pub mod ProductLemmas
 pub mod RowLemmas
 pub mod SplitLemmas
 pub mod StartLemmas

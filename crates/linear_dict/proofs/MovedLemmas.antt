@@ -164,7 +164,7 @@ seen_pivoted {N} value columns rows coefficients others basics table vs spent r 
     ∙ ap (λ (ns : List Noted). make (slice_set others c (slice_index basics r)) (slice_set basics r (slice_index others c)) table_new (map name_of vs) ns false) eo
     ∙ ap (λ (s : Bool). make (slice_set others c (slice_index basics r)) (slice_set basics r (slice_index others c)) table_new (map name_of vs) (map (λ (v : Variable N). noted value v.note) vs) s) (sym es)
 
--- what a pivot in code leaves: the index, the dictionary that is seen, and that it is one
+-- what a pivot in code leaves: the index, the dictionary that is seen, that it is one, and the names
 pub pivot_in_code : {N : Type 0} (value : N → Fraction) (columns rows : List ℕ) (coefficients : List N) (others basics : List ℕ) (table : List N) (vs : List (Variable N)) (spent : Bool)
     (r c a b la eb : ℕ) (x y : Variable N) (table' : List N)
     → IsIndex vs basics others rows columns → IsDictionary (seen value columns rows coefficients others basics table vs spent) → spent ≡ false → r < length basics → c < length others
@@ -176,6 +176,7 @@ pub pivot_in_code : {N : Type 0} (value : N → Fraction) (columns rows : List �
     × (seen value columns rows coefficients (slice_set others c a) (slice_set basics r b) table' (moved vs basics others rows columns r c la eb x y) false
     ≡ pivoted (seen value columns rows coefficients others basics table vs spent) r c)
     × IsDictionary (seen value columns rows coefficients (slice_set others c a) (slice_set basics r b) table' (moved vs basics others rows columns r c la eb x y) false)
+    × (map name_of (moved vs basics others rows columns r c la eb x y) ≡ map name_of vs)
 pivot_in_code {N} value columns rows coefficients others basics table vs spent r c a b la eb x y table' index h live hr hc entry is_a is_b at_a at_b is_x is_y et =
     let d : Dictionary = seen value columns rows coefficients others basics table vs spent in
     let new : List (Variable N) = moved vs basics others rows columns r c la eb x y in
@@ -195,4 +196,5 @@ pivot_in_code {N} value columns rows coefficients others basics table vs spent r
           (at_a ∙ ap (place_in (map name_of vs)) ea) (at_b ∙ ap (place_in (map name_of vs)) eb') is_x is_y index)),
       same,
       subst IsDictionary (sym same) (pivoted_dictionary d h r c hr hc live entry),
+      moved_same vs basics others rows columns r c la eb x y name_of refl refl is_x is_y,
     )

@@ -1,13 +1,14 @@
 -- The stages of a pivot in place.
-use Rattle.std.specs.Prelude.{◌≡◌, ◌≢◌, ℕ, ◌+◌, ◌*◌, ◌<◌, ◌≤◌, ◌==◌, ◌&&◌, Bool, true, false, not, nat_lt, if◌then◌else◌, List, length, map, slice_set, ◌⊎◌, refl}
+use Rattle.std.specs.Prelude.{pos, ◌≡◌, ◌≢◌, ℕ, ◌+◌, ◌*◌, ◌<◌, ◌≤◌, ◌==◌, ◌&&◌, Bool, true, false, not, nat_lt, if◌then◌else◌, List, length, map, slice_set, ◌⊎◌, refl}
 use Rattle.std.proofs.Common.{arith, ap, sym, ◌∙◌, subst, inl, inr, get_or}
 use Rattle.std.proofs.lemmas.Bool.Decides.{nat_tests}
 use mathlib.Core.Path.{ap₂}
-use Rattle.fraction_theory.specs.Fraction.{Fraction, ◌+ℚ◌, ◌*ℚ◌, neg_ℚ, recip_ℚ}
+use Rattle.fraction_theory.specs.Fraction.{Fraction, whole, ◌+ℚ◌, ◌*ℚ◌, neg_ℚ, recip_ℚ}
 use Rattle.fraction_theory.proofs.ListSums.{same_or_not, put_at-here, put_at-elsewhere}
 use Rattle.linear_dict.proofs.NameLemmas.{lt_or_le}
 use Rattle.std.proofs.lemmas.List.{length-map, length-set, map-set}
 use Rattle.std.proofs.Math.Nat.{mul-le-mul_right}
+use Rattle.linear_dict.proofs.ProductLemmas.{stays_by_left, zero_times}
 use Rattle.linear_dict.proofs.TableLemmas.{cell_read, shows_itself, shows_same, shows_set}
 use Rattle.linear_dict.specs.Tables.{Shows, with_row, cell, pivoted_cell, pivoted_row, solved_cell, cleared_cell}
 
@@ -53,6 +54,13 @@ stage-done : (g : ℕ → Fraction) (f : ℕ → ℕ → Fraction) (row c upto i
 unfolding stage
 stage-done g f row c upto i j e = ap (λ (b : Bool). if b then g j else f i j) e
 
+-- a branch that makes no difference
+any_branch : (b b' : Bool) (x y : Fraction) → x ≡ y → (if b then x else y) ≡ (if b' then x else y)
+any_branch true true x y e = refl
+any_branch true false x y e = e
+any_branch false true x y e = sym e
+any_branch false false x y e = refl
+
 stage-yet : (g : ℕ → Fraction) (f : ℕ → ℕ → Fraction) (row c upto i j : ℕ) → is_done row c upto i j ≡ false → stage g f row c upto i j ≡ f i j
 unfolding stage
 stage-yet g f row c upto i j e = ap (λ (b : Bool). if b then g j else f i j) e
@@ -72,6 +80,17 @@ module _ (rows columns : ℕ) (xs : List Fraction) (g : ℕ → Fraction) (f : �
   unfolding stage
   stage_skip j s e = shows_same rows columns xs (stage g f row c j) (stage g f row c (j + 1)) s
       (λ i k hi hk. ap (λ (b : Bool). if b then g k else f i k) (done-skip row c j i k e))
+
+  -- a number that is what it is to be
+  pub stage_keep : (j : ℕ) → Shows rows columns xs (stage g f row c j) → g j ≡ f row j → Shows rows columns xs (stage g f row c (j + 1))
+  unfolding stage
+  stage_keep j s e = shows_same rows columns xs (stage g f row c j) (stage g f row c (j + 1)) s (λ i k hi hk. elim (same_or_not i row) [
+    | inl d ↦ elim (same_or_not k j) [
+      | inl q ↦ any_branch (is_done row c j i k) (is_done row c (j + 1) i k) (g k) (f i k) (ap g q ∙ e ∙ ap₂ f (sym d) (sym q))
+      | inr n ↦ ap (λ (b : Bool). if b then g k else f i k) (done-other row c j i k (λ p. n p.1))
+    ]
+    | inr n ↦ ap (λ (b : Bool). if b then g k else f i k) (done-other row c j i k (λ p. n p.0))
+  ])
 
   pub stage_read : (upto i j : ℕ) → Shows rows columns xs (stage g f row c upto) → i < rows → j < columns → (i ≢ row) ⊎ (upto ≤ j) ⊎ (j ≡ c) → cell columns xs i j ≡ f i j
   stage_read upto i j s hi hj h = s.at i j hi hj ∙ stage-yet g f row c upto i j (done-yet row c upto i j h)
@@ -101,6 +120,23 @@ module _ (rows columns : ℕ) (xs : List Fraction) (g : ℕ → Fraction) (f : �
               ∙ sym (put_at-here row (if j == c then last else g j) (λ k. f k j) i e ∙ put_at-elsewhere c last g j d)
         ]
       ])
+
+-- a row with 0 at the column is cleared as it stands
+pub clear_nothing : (rows columns : ℕ) (xs : List Fraction) (row solved c : ℕ) → length xs ≡ rows * columns → cell columns xs row c ≡ whole (pos 0) → Shows rows columns xs (cleared_cell (cell columns xs) row solved c)
+unfolding cleared_cell with_row
+clear_nothing rows columns xs row solved c count zero =
+    let f : ℕ → ℕ → Fraction = cell columns xs in
+    let g : ℕ → Fraction = λ j. f row j +ℚ f row c *ℚ f solved j in
+    let last : Fraction = f row c *ℚ f solved c in
+    shows_same rows columns xs f (cleared_cell f row solved c) (shows_itself rows columns xs count) (λ i j hi hj. elim (same_or_not i row) [
+      | inl e ↦ elim (same_or_not j c) [
+        | inl d ↦ ap₂ f e d ∙ sym (zero_times (f row c) (f solved c) zero)
+            ∙ sym (put_at-here row (if j == c then last else g j) (λ z. f z j) i e ∙ put_at-here c last g j d)
+        | inr d ↦ ap (λ (z : ℕ). f z j) e ∙ sym (stays_by_left (f row j) (f row c) (f solved j) zero)
+            ∙ sym (put_at-here row (if j == c then last else g j) (λ z. f z j) i e ∙ put_at-elsewhere c last g j d)
+      ]
+      | inr n ↦ sym (put_at-elsewhere row (if j == c then last else g j) (λ z. f z j) i n)
+    ])
 
 -- a table whose rows below so many are those of the pivoted one, as its solved row is
 unfoldable pub pivoting : (ℕ → ℕ → Fraction) → ℕ → ℕ → ℕ → ℕ → ℕ → Fraction
@@ -229,6 +265,10 @@ module _ {N : Type 0} (value : N → Fraction) (columns : ℕ) (old : List N) wh
 
   pub is_stage_skip : (cur : List N) (g : ℕ → Fraction) (row c j : ℕ) → j ≡ c → IsStage value columns old cur g row c j → IsStage value columns old cur g row c (j + 1)
   is_stage_skip cur g row c j e s = (s.0, λ rows f. stage_skip rows columns (map value cur) g (cell columns (map value old)) row c j (s.1 rows f) e)
+
+  pub is_stage_keep : (cur : List N) (g : ℕ → Fraction) (row c j : ℕ) → ((rows : ℕ) → length old ≡ rows * columns → g j ≡ cell columns (map value old) row j)
+      → IsStage value columns old cur g row c j → IsStage value columns old cur g row c (j + 1)
+  is_stage_keep cur g row c j e s = (s.0, λ rows f. stage_keep rows columns (map value cur) g (cell columns (map value old)) row c j (s.1 rows f) (e rows f))
 
   pub is_stage_step : (cur : List N) (g : ℕ → Fraction) (row c j : ℕ) (x : N) → c < columns → row * columns + columns ≤ length old → j < columns → j ≢ c
       → ((rows : ℕ) → length old ≡ rows * columns → value x ≡ g j) → IsStage value columns old cur g row c j → IsStage value columns old (slice_set cur (row * columns + j) x) g row c (j + 1)

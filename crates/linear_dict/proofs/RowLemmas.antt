@@ -13,7 +13,6 @@ use mathlib.Core.Path.{ap₂}
 use Rattle.fraction_theory.proofs.SumLaws.{total-Product}
 use Rattle.fraction_theory.proofs.ListSums.{Contains-head, Contains-cons, Distinct, Distinct-increasing, Contains-filter, Contains-from_filter, filter-members, same_or_not, sum_by-members}
 use Rattle.exact_fraction.specs.declared.Op.{Op}
-use Rattle.exact_fraction.specs.declared.Op.TheVariants.{Plus, Times}
 use Rattle.exact_fraction.specs.Passes.{Passes}
 use Rattle.linear_system.specs.Numbers.{Kind, Factor, SystemNumber, is_zero, is_one, is_coefficient, is_entry, is_row_entry}
 use Rattle.linear_system.specs.Pairs.{IsPairCase, IsSystemPair, OfEither, alone, plain, scaled, added, scaled_right}

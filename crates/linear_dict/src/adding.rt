@@ -10,6 +10,7 @@ ghost use Rattle.linear_dict.specs.Tables.{cell};
 
 use crate::index::Variable;
 use crate::place::Place;
+use crate::product::{is_zero, with_product};
 use exact_fraction::{Exact, Passed};
 use plain_list::Memory;
 use std::alloc::Global;
@@ -100,7 +101,7 @@ fn zeros<N: Exact>(alloc: Global, count: usize) -> Result<Vec<N>, Memory>
     Ok(sums)
 }
 
-/// Adds a multiple of a table's row.
+/// Adds a multiple of a table's row, whose zeros add nothing.
 fn add_multiple<N: Exact>(
     sums: &mut Vec<N>,
     table: &[N],
@@ -118,14 +119,17 @@ fn add_multiple<N: Exact>(
 {
     let start = row * columns;
     for c in 0..columns {
-        let term = factor.times(table[start + c])?;
-        let sum = sums[c].plus(term)?;
-        sums[c] = sum;
+        let other = table[start + c];
+        if !is_zero(other) {
+            let sum = with_product(sums[c], factor, other)?;
+            sums[c] = sum;
+        }
     }
     Ok(())
 }
 
-/// Adds the terms of one variable: of a column its entry as put in, times its entries in the table.
+/// Adds the terms of one variable: of a column its entry as put in, times its entries in the table. An entry of 0 adds
+/// nothing.
 fn add_term<N: Exact>(
     sums: &mut Vec<N>,
     table: &[N],
@@ -143,14 +147,20 @@ fn add_term<N: Exact>(
 {
     match variable.put {
         Place::Row(_) => Ok(()),
-        Place::Column(j) => match variable.place {
-            Place::Row(r) => add_multiple(sums, table, columns, r, entries[j]),
-            Place::Column(c) => {
-                let sum = sums[c].plus(entries[j])?;
-                sums[c] = sum;
-                Ok(())
+        Place::Column(j) => {
+            let entry = entries[j];
+            if is_zero(entry) {
+                return Ok(());
             }
-        },
+            match variable.place {
+                Place::Row(r) => add_multiple(sums, table, columns, r, entry),
+                Place::Column(c) => {
+                    let sum = sums[c].plus(entry)?;
+                    sums[c] = sum;
+                    Ok(())
+                }
+            }
+        }
     }
 }
 

@@ -1,6 +1,6 @@
 ghost use Rattle.std.specs.Prelude.{◌≡◌, ◌≢◌, ◌<◌, pos, true, IfErr, IfOk, MatchResult, ◌∷◌, [], ℕ, List, length, map, false, slice_index};
 ghost use Rattle.std.specs.List.{AllPairs, Contains};
-ghost use Rattle.linear_dict.specs.Indexes.{IsStartedIndex};
+ghost use Rattle.linear_dict.specs.Indexes.{IsStartedIndex, name_of};
 ghost use Rattle.linear_system.specs.Choices.{IsChoice};
 ghost use Rattle.fraction_theory.specs.Fraction.{whole};
 ghost use Rattle.linear_dict.specs.Causes.{AddOperation, IsPairOf, IsPairWith, IsRefused, OnPassed, PivotOperation};
@@ -28,13 +28,16 @@ pub struct Dict<N: Exact> {
     others: Vec<u32>,
     basics: Vec<u32>,
     table: Vec<N>,
+    /// The names of the variables, for a search of little memory.
+    names: Vec<u32>,
     variables: Vec<Variable<N>>,
     spent: bool,
 }
 
 impl<N: Exact> Model for Dict<N> {
+    ghost use Rattle.std.specs.Prelude.{◌≡◌, map};
     ghost use Rattle.linear_dict.specs.Dictionaries.{Dictionary, IsDictionary, dictionary_code, seen};
-    ghost use Rattle.linear_dict.specs.Indexes.{IsIndex};
+    ghost use Rattle.linear_dict.specs.Indexes.{IsIndex, name_of};
 
     ghost Value = { Dictionary };
 
@@ -45,7 +48,8 @@ impl<N: Exact> Model for Dict<N> {
 
     ghost invariant = { λ d. IsIndex d.variables.items d.basics.items d.others.items d.rows.items d.columns.items
         × IsDictionary (seen N.value d.columns.items d.rows.items d.coefficients.items d.others.items d.basics.items
-        d.table.items d.variables.items d.spent) };
+        d.table.items d.variables.items d.spent)
+        × (d.names.items ≡ map name_of d.variables.items) };
 }
 
 /// A copy of the items.
@@ -58,16 +62,23 @@ fn copied<T: Copy>(alloc: Global, items: &[T]) -> Result<Vec<T>, Memory>
     }
 }
 
-/// The index of a row and of columns as put in, with blank notes.
-fn started<N: Exact>(alloc: Global, columns: &[u32], row: u32) -> Result<Vec<Variable<N>>, Memory>
+/// The index of a row and of columns as put in, with blank notes: all names, and the variables.
+fn started<N: Exact>(
+    alloc: Global,
+    columns: &[u32],
+    row: u32,
+) -> Result<(Vec<u32>, Vec<Variable<N>>), Memory>
     requires distinct { AllPairs (λ x y. x ≢ y) columns.now }
     requires absent { ¬ (Contains columns.now row) }
-    ensures { IfOk result (λ variables. IsStartedIndex N.value variables.items row columns.now) }
+    ensures index { IfOk result (λ index. IsStartedIndex N.value index.1.items row columns.now) }
+    ensures named { IfOk result (λ index. index.0.items ≡ map name_of index.1.items) }
 {
     let note = blank_note();
+    let mut names = Vec::new(alloc);
     let mut variables = Vec::new(alloc);
     let place = Place::Row(0);
     add_variable(
+        &mut names,
         &mut variables,
         Variable {
             name: row,
@@ -79,6 +90,7 @@ fn started<N: Exact>(alloc: Global, columns: &[u32], row: u32) -> Result<Vec<Var
     for c in 0..columns.len() {
         let place = Place::Column(c);
         add_variable(
+            &mut names,
             &mut variables,
             Variable {
                 name: columns[c],
@@ -88,7 +100,7 @@ fn started<N: Exact>(alloc: Global, columns: &[u32], row: u32) -> Result<Vec<Var
             },
         )?;
     }
-    Ok(variables)
+    Ok((names, variables))
 }
 
 impl<N: Exact> Dict<N> {
@@ -99,7 +111,7 @@ impl<N: Exact> Dict<N> {
         requires entries { length entries.now ≡ length columns.now }
         ensures { IfOk result (IsStart N.value columns.now row entries.now) }
     {
-        let variables = started(alloc, columns, row)?;
+        let (names, variables) = started(alloc, columns, row)?;
         let rows = [row];
         Ok(Dict {
             columns: copied(alloc, columns)?,
@@ -108,6 +120,7 @@ impl<N: Exact> Dict<N> {
             others: copied(alloc, columns)?,
             basics: copied(alloc, &rows)?,
             table: copied(alloc, entries)?,
+            names,
             variables,
             spent: false,
         })
@@ -140,7 +153,7 @@ impl<N: Exact> Dict<N> {
         requires { self.now.spent ≡ false }
         ensures { result ≡ length self.now.names }
     {
-        self.variables.len()
+        self.names.len()
     }
 
     /// The basic variable of a row place.
@@ -185,7 +198,26 @@ impl<N: Exact> Dict<N> {
         requires within { rank < length self.now.names }
         ensures { result ≡ slice_index self.now.names rank }
     {
-        self.variables[rank].name
+        self.names[rank]
+    }
+
+    /// The rank of a name, by a search; all that is asked by rank is read at once.
+    pub fn rank_of(&self, name: u32) -> usize
+        requires live { self.now.spent ≡ false }
+        requires named { Contains self.now.names name }
+        ensures within { result < length self.now.names }
+        ensures name { slice_index self.now.names result ≡ name }
+    {
+        rank(&self.names, name)
+    }
+
+    /// Where the variable of a rank stands in the table.
+    pub fn place_at(&self, rank: usize) -> Place
+        requires live { self.now.spent ≡ false }
+        requires within { rank < length self.now.names }
+        ensures { StandsAt self.now.basics self.now.others (slice_index self.now.names rank) result }
+    {
+        self.variables[rank].place
     }
 
     /// Where a variable stands in the table.
@@ -194,7 +226,7 @@ impl<N: Exact> Dict<N> {
         requires named { Contains self.now.names name }
         ensures { StandsAt self.now.basics self.now.others name result }
     {
-        self.variables[rank(&self.variables, name)].place
+        self.place_at(self.rank_of(name))
     }
 
     /// By how much the basic variable of a row place rises where the other one of a column place rises by 1.
@@ -209,13 +241,31 @@ impl<N: Exact> Dict<N> {
         self.table[r * self.others.len() + c]
     }
 
+    /// What the layer above last noted of the variable of a rank.
+    pub fn note_at(&self, rank: usize) -> Note<N>
+        requires live { self.now.spent ≡ false }
+        requires within { rank < length self.now.names }
+        ensures { noted N.value result ≡ note_of self.now (slice_index self.now.names rank) }
+    {
+        self.variables[rank].note
+    }
+
     /// What the layer above last noted of a variable.
     pub fn note(&self, name: u32) -> Note<N>
         requires live { self.now.spent ≡ false }
         requires named { Contains self.now.names name }
         ensures { noted N.value result ≡ note_of self.now name }
     {
-        self.variables[rank(&self.variables, name)].note
+        self.note_at(self.rank_of(name))
+    }
+
+    /// Notes this of the variable of a rank, and changes nothing else.
+    pub fn set_note_at(&mut self, rank: usize, note: Note<N>)
+        requires live { self.old.spent ≡ false }
+        requires within { rank < length self.old.names }
+        ensures { self.new ≡ with_note self.old (slice_index self.old.names rank) (noted N.value note) }
+    {
+        self.variables[rank].note = note;
     }
 
     /// Notes this of a variable, and changes nothing else.
@@ -224,8 +274,8 @@ impl<N: Exact> Dict<N> {
         requires named { Contains self.old.names name }
         ensures { self.new ≡ with_note self.old name (noted N.value note) }
     {
-        let place = rank(&self.variables, name);
-        self.variables[place].note = note;
+        let rank = self.rank_of(name);
+        self.set_note_at(rank, note);
     }
 
     /// Adds a row, `entries` times the columns as put in, which is basic at a new last row place. All is as before after
@@ -259,7 +309,7 @@ impl<N: Exact> Dict<N> {
             put: Place::Row(self.rows.len()),
             note: blank_note(),
         };
-        add_variable(&mut self.variables, variable)?;
+        add_variable(&mut self.names, &mut self.variables, variable)?;
         self.rows.push_reserved(row);
         self.basics.push_reserved(row);
         append(&mut self.coefficients, entries);
@@ -283,8 +333,8 @@ impl<N: Exact> Dict<N> {
         pivot_table(&mut self.table, self.basics.len(), self.others.len(), r, c)?;
         let leaving = self.basics[r];
         let entering = self.others[c];
-        let leaving_rank = rank(&self.variables, leaving);
-        let entering_rank = rank(&self.variables, entering);
+        let leaving_rank = rank(&self.names, leaving);
+        let entering_rank = rank(&self.names, entering);
         self.variables[leaving_rank].place = Place::Column(c);
         self.variables[entering_rank].place = Place::Row(r);
         self.basics[r] = entering;

@@ -20,33 +20,43 @@ pub(crate) struct Variable<N> {
     pub(crate) note: Note<N>,
 }
 
-/// Where a name stands among all names in ascending order.
-pub(crate) fn rank<N: Exact>(variables: &[Variable<N>], name: u32) -> usize
-    requires ascending { IsStrictlyIncreasing (map name_of variables.now) }
-    requires named { Contains (map name_of variables.now) name }
-    ensures within { result < length variables.now }
-    ensures place { result ≡ place_in (map name_of variables.now) name }
+/// Where a name stands among names in ascending order.
+pub(crate) fn rank(names: &[u32], name: u32) -> usize
+    requires ascending { IsStrictlyIncreasing names.now }
+    requires named { Contains names.now name }
+    ensures within { result < length names.now }
+    ensures place { result ≡ place_in names.now name }
 {
-    match variables.binary_search_by_key(&name, |variable| variable.name) {
+    match names.binary_search(&name) {
         Ok(rank) => rank,
         Err(_) => unreachable!(),
     }
 }
 
-/// Puts a new variable where its name belongs.
+/// Puts a new variable, and its name in the list of names, where its name belongs.
 pub(crate) fn add_variable<N: Exact>(
+    names: &mut Vec<u32>,
     variables: &mut Vec<Variable<N>>,
     variable: Variable<N>,
 ) -> Result<(), Memory>
     requires ascending { IsStrictlyIncreasing (map name_of variables.old.items) }
+    requires named { names.old.items ≡ map name_of variables.old.items }
     requires absent { ¬ (Contains (map name_of variables.old.items) variable.name) }
     ensures added { IfOk result (λ _. AddsVariable variables.old.items variable variables.new.items) }
     ensures same { OnErr result (variables.new.items ≡ variables.old.items) }
+    ensures named { names.new.items ≡ map name_of variables.new.items }
 {
-    match variables.binary_search_by_key(&variable.name, |other| other.name) {
+    match names.reserve(1) {
+        Ok(()) => {}
+        Err(_) => return Err(Memory),
+    }
+    match names.binary_search(&variable.name) {
         Ok(_) => unreachable!(),
         Err(rank) => match variables.insert(rank, variable) {
-            Ok(()) => Ok(()),
+            Ok(()) => match names.insert(rank, variable.name) {
+                Ok(()) => Ok(()),
+                Err(_) => unreachable!(),
+            },
             Err(_) => Err(Memory),
         },
     }

@@ -7,6 +7,7 @@ mod dict;
 mod index;
 mod note;
 mod place;
+mod product;
 mod table;
 
 pub use adding::AddStop;

@@ -4,10 +4,11 @@ ghost use Rattle.fraction_theory.specs.Fraction.{whole};
 ghost use Rattle.linear_dict.specs.Causes.{ClearOperation, IsRefused, PivotOperation, SolveOperation};
 ghost use Rattle.linear_dict.specs.Tables.{cell, table_of, pivoted_cell, solved_cell, cleared_cell, Shows};
 
+use crate::product::{is_zero, with_product};
 use exact_fraction::{Exact, Passed};
 
 /// Solves a row for the variable of a column: its other entries are divided by the one there and negated, and that one
-/// becomes its inverse.
+/// becomes its inverse. Zeros stay.
 fn solve_row<N: Exact>(
     table: &mut Vec<N>,
     columns: usize,
@@ -26,9 +27,10 @@ fn solve_row<N: Exact>(
     let start = row * columns;
     let inverse = table[start + column].recip();
     for j in 0..columns {
-        if j != column {
-            let entry = table[start + j].neg().times(inverse)?;
-            table[start + j] = entry;
+        let entry = table[start + j];
+        if j != column && !is_zero(entry) {
+            let divided = entry.neg().times(inverse)?;
+            table[start + j] = divided;
         }
     }
     table[start + column] = inverse;
@@ -36,7 +38,7 @@ fn solve_row<N: Exact>(
 }
 
 /// Puts a solved row into another one: to each entry the one at the column times the solved row's is added, and the one
-/// at the column is multiplied by the solved row's.
+/// at the column is multiplied by the solved row's. Where either factor is 0, the entry stays.
 fn clear_row<N: Exact>(
     table: &mut Vec<N>,
     columns: usize,
@@ -57,10 +59,13 @@ fn clear_row<N: Exact>(
     let start = row * columns;
     let solved_start = solved * columns;
     let factor = table[start + column];
+    if is_zero(factor) {
+        return Ok(());
+    }
     for j in 0..columns {
-        if j != column {
-            let product = factor.times(table[solved_start + j])?;
-            let entry = table[start + j].plus(product)?;
+        let other = table[solved_start + j];
+        if j != column && !is_zero(other) {
+            let entry = with_product(table[start + j], factor, other)?;
             table[start + j] = entry;
         }
     }

@@ -8,12 +8,20 @@ use Rattle.fraction_theory.specs.Fraction.{Fraction, whole}
 use Rattle.linear_dict.specs.Causes.{MultipleOperation, TermOperation, of_basic, of_other}
 use Rattle.linear_dict.specs.Tables.{cell}
 use Rattle.linear_dict.proofs.CauseLemmas.{refused, refused_as}
-use Rattle.linear_dict.proofs.AddingLemmas.{sums_read, entry_added, multiple_added, nothing_added}
+use Rattle.linear_dict.proofs.AddingLemmas.{sums_read, entry_added, multiple_added, nothing_added, zero_added}
 use Rattle.linear_dict.proofs.adding.add_term.Goals as goal
 
 pub returns-in-Row-clause-added : goal.returns-in-Row-clause-added
 returns-in-Row-clause-added g c = λ f s.
     nothing_added g.N.Exact.value c.args.columns c.args.table.now c.args.entries.now c.args.variable c.args.sums.now.items f s c.in-Row.field-0 c.in-Row.is
+
+pub returns-then-is_zero-clause-added : goal.returns-then-is_zero-clause-added
+returns-then-is_zero-clause-added g c = λ f s.
+    let value : g.row.N.Denot → Fraction = g.N.Exact.value in
+    let entries : List g.row.N.Denot = c.args.entries.now in
+    let hj : c.in-Column.j < length entries = subst (IsPutAmong (length entries)) c.in-Column.is c.requires.within.put in
+    zero_added value c.args.columns c.args.table.now entries c.args.variable c.args.sums.now.items f s c.in-Column.j c.in-Column.is
+    (get_or-map value entries c.in-Column.j c.index-entries-j.result (whole (pos 0)) hj ∙ sym (ap value c.index-entries-j.is) ∙ c.is_zero.ensures.0 c.if-is_zero.true)
 
 pub returns-in-Row-place-clause-added : goal.returns-in-Row-place-clause-added
 returns-in-Row-place-clause-added g c =
@@ -27,14 +35,14 @@ returns-in_ok-sum-in-Column-place-clause-added g c = λ f s.
     let hj : c.in-Column.j < length c.args.entries.now = subst (IsPutAmong (length c.args.entries.now)) c.in-Column.is c.requires.within.put in
     let hk : c.in-Column-place.c < c.args.columns = subst (IsInTable (length c.args.table.now) c.args.columns) c.in-Column-place.is c.requires.within.place in
     entry_added g.N.Exact.value c.args.columns c.args.table.now c.args.entries.now c.args.variable c.args.sums.now.items f s c.in-Column.j c.in-Column-place.c
-    c.index-entries-j-in-Column-place.result c.index.result.now c.in_ok-sum-in-Column-place.sum c.in-Column.is c.in-Column-place.is hj hk c.index-entries-j-in-Column-place.is c.index.ensures
+    c.index-entries-j.result c.index.result.now c.in_ok-sum-in-Column-place.sum c.in-Column.is c.in-Column-place.is hj hk c.index-entries-j.is c.index.ensures
     c.in_ok-sum-in-Column-place.ensures.exact
 
 pub returns-in_err-sum-in-Column-place-clause-cause : goal.returns-in_err-sum-in-Column-place-clause-cause
 returns-in_err-sum-in-Column-place-clause-cause g c =
     let value : g.row.N.Denot → Fraction = g.N.Exact.value in
     let entries : List g.row.N.Denot = c.args.entries.now in
-    let entry = c.index-entries-j-in-Column-place.result in
+    let entry = c.index-entries-j.result in
     let hj : c.in-Column.j < length entries = subst (IsPutAmong (length entries)) c.in-Column.is c.requires.within.put in
     let hk : c.in-Column-place.c < c.args.columns = subst (IsInTable (length c.args.table.now) c.args.columns) c.in-Column-place.is c.requires.within.place in
     let p = err_from_is_err_and c.from_residual.result c.from_residual.ensures.1 in
@@ -42,7 +50,7 @@ returns-in_err-sum-in-Column-place-clause-cause g c =
     refused value g.N.Exact.bound (TermOperation value c.args.columns c.args.table.now entries c.args.variable f) Plus c.index.result.now entry c.in_err-sum-in-Column-place.field-0.0
     (f c.in-Column-place.c) (get_or (map value entries) c.in-Column.j (whole (pos 0))) c.in_err-sum-in-Column-place.ensures
     (sums_read value c.args.sums.now.items c.args.columns f c.in-Column-place.c c.index.result.now s hk c.index.ensures)
-    (ap value c.index-entries-j-in-Column-place.is ∙ sym (get_or-map value entries c.in-Column.j entry (whole (pos 0)) hj))
+    (ap value c.index-entries-j.is ∙ sym (get_or-map value entries c.in-Column.j entry (whole (pos 0)) hj))
     (of_other c.in-Column.j c.in-Column-place.c c.in-Column.is c.in-Column-place.is))
 
 pub returns-in-Row-place-clause-cause : goal.returns-in-Row-place-clause-cause

@@ -55,7 +55,7 @@ invariant_of-self-2 g c =
     (c.push_reserved-2.ensures.items ∙ ap (λ (xs : List ℕ). xs ++ c.args.row ∷ []) same.1)
     (c.append.ensures ∙ ap (λ (xs : List g.row.N.Denot). xs ++ c.args.entries.now) same.2)
     (c.append-2.ensures ∙ ap₂ ◌++◌ same.3 c.deref-3.ensures.value) in
-    (p.0, p.1.sound)
+    (p.0, p.1.sound, c.add_variable.ensures.named)
 
 pub returns-clause-added : goal.returns-clause-added
 returns-clause-added g c =

@@ -8,7 +8,6 @@ use Rattle.fraction_theory.specs.Fraction.{whole}
 use Rattle.linear_dict.specs.declared.index.Variable.{Variable}
 use Rattle.linear_dict.specs.Causes.{IsPairOf, IsRefused, PivotOperation}
 use Rattle.linear_dict.specs.Dictionaries.{Dictionary, pivoted, seen, system_of}
-use Rattle.linear_dict.specs.Indexes.{name_of}
 use Rattle.linear_dict.specs.Places.{place_in}
 use Rattle.linear_dict.specs.Tables.{cell, table_of, pivoted_cell}
 use Rattle.linear_dict.proofs.ExchangeLemmas.{pivot_pair, spent_dictionary}
@@ -17,7 +16,7 @@ use Rattle.linear_dict.proofs.dict.Dict.pivot.Goals as goal
 
 pub rank-leaving_rank-requires-clause-ascending : goal.rank-leaving_rank-requires-clause-ascending
 rank-leaving_rank-requires-clause-ascending g c =
-    subst (λ (us : List (Variable g.row.N.Denot)). IsStrictlyIncreasing (map name_of us)) (sym c.deref.ensures.value) c.self.invariant.1.ascending
+    subst IsStrictlyIncreasing (sym (c.deref.ensures.value ∙ c.self.invariant.2)) c.self.invariant.1.ascending
 
 pub returns-in_err-pivot_table-clause-sound : goal.returns-in_err-pivot_table-clause-sound
 returns-in_err-pivot_table-clause-sound g c =
@@ -48,19 +47,18 @@ returns-in_err-pivot_table-clause-pair g c =
 
 pub rank-leaving_rank-requires-clause-named : goal.rank-leaving_rank-requires-clause-named
 rank-leaving_rank-requires-clause-named g c =
-    let vs : List (Variable g.row.N.Denot) = c.self.inside.variables.items in
     let l : length c.self.inside.basics.items ≡ length c.args.self.now.basics = ap (λ (d : Dictionary). length d.basics) c.self.view_is in
-    subst (λ (us : List (Variable g.row.N.Denot)). Contains (map name_of us) c.index-leaving.result.now) (sym c.deref.ensures.value)
+    subst (λ (us : List ℕ). Contains us c.index-leaving.result.now) (sym (c.deref.ensures.value ∙ c.self.invariant.2))
     (c.self.invariant.1.split.first_named c.index-leaving.result.now (c.args.r, Prim.omega (arith, l, c.requires.row), sym c.index-leaving.ensures))
 
 pub rank-entering_rank-requires-clause-ascending : goal.rank-entering_rank-requires-clause-ascending
 rank-entering_rank-requires-clause-ascending g c =
-    subst (λ (us : List (Variable g.row.N.Denot)). IsStrictlyIncreasing (map name_of us)) (sym c.deref-2.ensures.value) c.self.invariant.1.ascending
+    subst IsStrictlyIncreasing (sym (c.deref-2.ensures.value ∙ c.self.invariant.2)) c.self.invariant.1.ascending
 
 pub rank-entering_rank-requires-clause-named : goal.rank-entering_rank-requires-clause-named
 rank-entering_rank-requires-clause-named g c =
     let l : length c.self.inside.others.items ≡ length c.args.self.now.others = ap (λ (d : Dictionary). length d.others) c.self.view_is in
-    subst (λ (us : List (Variable g.row.N.Denot)). Contains (map name_of us) c.index-entering.result.now) (sym c.deref-2.ensures.value)
+    subst (λ (us : List ℕ). Contains us c.index-entering.result.now) (sym (c.deref-2.ensures.value ∙ c.self.invariant.2))
     (c.self.invariant.1.split.second_named c.index-entering.result.now (c.args.c, Prim.omega (arith, l, c.requires.column), sym c.index-entering.ensures))
 
 pub invariant_of-self-2 : goal.invariant_of-self-2
@@ -77,12 +75,12 @@ invariant_of-self-2 g c =
     c.self.invariant.0 c.self.invariant.1 (ap (λ (d : Dictionary). d.spent) c.self.view_is ∙ c.requires.live)
     (Prim.omega (arith, lr, c.requires.row)) (Prim.omega (arith, lc, c.requires.column)) entry
     c.index-leaving.ensures c.index-entering.ensures
-    (c.rank-leaving_rank.ensures.place ∙ ap (λ (us : List (Variable g.row.N.Denot)). place_in (map name_of us) c.index-leaving.result.now) c.deref.ensures.value)
-    (c.rank-entering_rank.ensures.place ∙ ap (λ (us : List (Variable g.row.N.Denot)). place_in (map name_of us) c.index-entering.result.now) c.deref-2.ensures.value)
+    (c.rank-leaving_rank.ensures.place ∙ ap (λ (us : List ℕ). place_in us c.index-leaving.result.now) (c.deref.ensures.value ∙ c.self.invariant.2))
+    (c.rank-entering_rank.ensures.place ∙ ap (λ (us : List ℕ). place_in us c.index-entering.result.now) (c.deref-2.ensures.value ∙ c.self.invariant.2))
     c.index_mut.ensures.value c.index_mut-2.ensures.value
     (c.in_ok-pivot_table.ensures.pivoted
     ∙ ap₂ (λ (m n : ℕ). table_of m n (pivoted_cell (cell n (map g.N.Exact.value s.table.items)) c.args.r c.args.c)) rows columns) in
-    (p.0, p.2)
+    (p.0, p.2, c.self.invariant.2 ∙ sym p.3)
 
 pub returns-clause-pivoted : goal.returns-clause-pivoted
 returns-clause-pivoted g c =
@@ -98,8 +96,8 @@ returns-clause-pivoted g c =
     c.self.invariant.0 c.self.invariant.1 (ap (λ (d : Dictionary). d.spent) c.self.view_is ∙ c.requires.live)
     (Prim.omega (arith, lr, c.requires.row)) (Prim.omega (arith, lc, c.requires.column)) entry
     c.index-leaving.ensures c.index-entering.ensures
-    (c.rank-leaving_rank.ensures.place ∙ ap (λ (us : List (Variable g.row.N.Denot)). place_in (map name_of us) c.index-leaving.result.now) c.deref.ensures.value)
-    (c.rank-entering_rank.ensures.place ∙ ap (λ (us : List (Variable g.row.N.Denot)). place_in (map name_of us) c.index-entering.result.now) c.deref-2.ensures.value)
+    (c.rank-leaving_rank.ensures.place ∙ ap (λ (us : List ℕ). place_in us c.index-leaving.result.now) (c.deref.ensures.value ∙ c.self.invariant.2))
+    (c.rank-entering_rank.ensures.place ∙ ap (λ (us : List ℕ). place_in us c.index-entering.result.now) (c.deref-2.ensures.value ∙ c.self.invariant.2))
     c.index_mut.ensures.value c.index_mut-2.ensures.value
     (c.in_ok-pivot_table.ensures.pivoted
     ∙ ap₂ (λ (m n : ℕ). table_of m n (pivoted_cell (cell n (map g.N.Exact.value s.table.items)) c.args.r c.args.c)) rows columns)).1
