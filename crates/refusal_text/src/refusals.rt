@@ -5,12 +5,12 @@ ghost use Rattle.refusal_text.specs.Refusals.{field_name, why_name, case_words, 
 
 use case_text::{CaseFault, Field};
 use factor_tables::TableFault;
+use line_text::Text;
 use net_case::NetFault;
 use offer_book::OfferFault;
 use outage_list::OutageFault;
 use plain_list::{List, Memory};
 use record_reading::Why;
-use report_text::Text;
 use scaled_decimal::DecimalFault;
 use std::alloc::Global;
 

@@ -3,10 +3,8 @@
 
 mod answer;
 mod outcome;
-mod text;
 
 pub use outcome::report;
-pub use text::Text;
 
 #[cfg(test)]
 mod tests;
