@@ -12,11 +12,13 @@ use Rattle.case_text.specs.declared.CaseFault.TheVariants as fault
 use Rattle.case_text.specs.declared.Field.{Field}
 use Rattle.case_text.specs.declared.Field.TheVariants as field
 use Rattle.case_text.specs.Words.{word_of, is_separator}
-use Rattle.case_text.specs.Matrices.{Rows, first_ragged, least_columns, IsEven, AreEven, CaseMatrices}
+use Rattle.record_reading.specs.Records.{first_ragged}
+use Rattle.case_text.specs.Matrices.{Rows, least_columns, IsEven, AreEven, CaseMatrices}
 use Rattle.case_text.specs.Statements.{statement_at}
 use Rattle.case_text.specs.Settings.{Settings, no_settings, uneven, is_set, with_field, with_setting, matrices, all_set}
 use Rattle.case_text.specs.Cases.{case_from, named_from, function_from, statements_from, without_mark, case_of, at_end}
-use Rattle.case_text.proofs.StatementLemmas.{then-ok, allowed, refused, no-ok, same-ok}
+use Rattle.record_reading.proofs.StepLemmas.{then-ok}
+use Rattle.case_text.proofs.StatementLemmas.{allowed, refused, no-ok, same-ok}
 
 ragged-none : (width number : ℕ) (rows : Rows) → first_ragged width number rows ≡ None → AllByRecursion (λ row. length row ≡ width) rows
 unfolding first_ragged

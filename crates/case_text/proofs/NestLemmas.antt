@@ -11,7 +11,8 @@ use Rattle.case_text.specs.declared.words.Word.{Word}
 use Rattle.case_text.specs.declared.words.Word.TheVariants as word
 use Rattle.case_text.specs.Words.{word_of, is_curly}
 use Rattle.case_text.specs.Matrices.{closes}
-use Rattle.case_text.specs.Nests.{Nest, and_then, innermost, where_allowed, step_by, step, behind_brackets}
+use Rattle.record_reading.specs.Steps.{and_then}
+use Rattle.case_text.specs.Nests.{Nest, innermost, where_allowed, step_by, step, behind_brackets}
 use Rattle.case_text.specs.Nesting.{behind_nest}
 
 -- where brackets are open, a token is stepped over

@@ -8,7 +8,8 @@ use Rattle.case_text.specs.declared.words.Bracket.TheVariants as bracket
 use Rattle.case_text.specs.Words.{word_of}
 use Rattle.case_text.specs.Nests.{Nest}
 use Rattle.case_text.specs.Nesting.{rows_left}
-use Rattle.case_text.specs.Matrices.{Rows, first_ragged, closes, ends_row, some_row, cells_of, rows_from}
+use Rattle.record_reading.specs.Records.{first_ragged}
+use Rattle.case_text.specs.Matrices.{Rows, closes, ends_row, some_row, cells_of, rows_from}
 use Rattle.case_text.proofs.NestLemmas.{ClosesOrStays}
 
 ragged-here : (width number : ℕ) (row : List (List ℕ)) (rows : Rows) → length row ≢ width → first_ragged width number (row ∷ rows) ≡ Some number

@@ -13,7 +13,9 @@ use Rattle.case_text.specs.declared.words.Word.{Word}
 use Rattle.case_text.specs.declared.words.Word.TheVariants as word
 use Rattle.case_text.specs.Words.{word_of, text_of, is_separator}
 use Rattle.case_text.specs.Names.{is_version_one, field_of, takes_number, takes_text, takes_bracket}
-use Rattle.case_text.specs.Nests.{Nest, and_then, first_nest, step, behind_brackets}
+use Rattle.record_reading.specs.Steps.{and_then}
+use Rattle.record_reading.proofs.StepLemmas.{then-ok}
+use Rattle.case_text.specs.Nests.{Nest, first_nest, step, behind_brackets}
 use Rattle.case_text.specs.Matrices.{CaseMatrices}
 use Rattle.case_text.specs.Statements.{Setting, behind_end, ended, plain_value, bracketed, value_by, statement_at, matrix_rows, not_version_one}
 use Rattle.case_text.specs.Settings.{Settings, with_setting, all_set}
@@ -73,10 +75,6 @@ rest-through rest middle tokens h k = record {
   within = Prim.omega (arith, h.within, k.within, length-drop k.count tokens, ap (λ (x : List Token). length x) k.is);
   is = h.is ∙ ap (drop h.count) k.is ∙ drop-drop h.count k.count tokens;
 }
-
-pub then-ok : {A B : Type 0} (read : Result A CaseFault) (next : A → Result B CaseFault) (value : B) → and_then read next ≡ Ok value → (x : A) × (read ≡ Ok x) × (next x ≡ Ok value)
-then-ok (Ok x) next value e = (x, refl, e)
-then-ok (Err why) next value e = absurd (Prim.cc)
 
 pub allowed : {A : Type 0} (test : Bool) (why : CaseFault) (value : A) (read : Result A CaseFault) → cond test read (Err why) ≡ Ok value → read ≡ Ok value
 allowed true why value read e = e

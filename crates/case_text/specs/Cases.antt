@@ -7,7 +7,7 @@ use Rattle.case_text.specs.declared.CaseFault.{CaseFault}
 use Rattle.case_text.specs.declared.CaseFault.TheVariants as fault
 use Rattle.case_text.specs.Words.{word_of, text_of, is_separator, is_equals, is_run, opens_square}
 use Rattle.case_text.specs.Names.{is_name_text}
-use Rattle.case_text.specs.Nests.{and_then}
+use Rattle.record_reading.specs.Steps.{and_then}
 use Rattle.case_text.specs.Matrices.{CaseMatrices}
 use Rattle.case_text.specs.Statements.{statement_at}
 use Rattle.case_text.specs.Settings.{Settings, no_settings, with_setting, all_set}

@@ -1,5 +1,6 @@
 -- Matrices as rows of cells.
 use Rattle.std.specs.Prelude.{ℕ, ◌+◌, ◌-◌, ◌==◌, Bool, true, false, List, [], ◌∷◌, ◌++◌, length, slice_index_or, Option, Some, None, if◌then◌else◌, ◌≡◌, ◌<◌, ◌≤◌, All}
+use Rattle.record_reading.specs.Records.{Record}
 use Rattle.case_tokens.specs.declared.Token.{Token}
 use Rattle.case_text.specs.declared.Field.{Field}
 use Rattle.case_text.specs.declared.Field.TheVariants as field
@@ -9,10 +10,10 @@ use Rattle.case_text.specs.Words.{word_of, text_of, is_run}
 
 -- the texts of the cells, row by row
 abbrev pub Rows : Type 0
-Rows = List (List (List ℕ))
+Rows = List Record
 
 -- the row, where it has cells
-abbrev pub some_row : List (List ℕ) → Rows
+abbrev pub some_row : Record → Rows
 some_row [] = []
 some_row (cell ∷ cells) = (cell ∷ cells) ∷ []
 
@@ -27,21 +28,16 @@ closes (word.Closing bracket) = true
 closes _ = false
 
 -- the cell that a token is
-abbrev pub cells_of : List ℕ → Token → List (List ℕ)
+abbrev pub cells_of : List ℕ → Token → Record
 cells_of text token = if is_run (word_of text token) then text_of text token ∷ [] else []
 
 -- the rows up to the closing bracket, where the first of them already has these cells
-unfoldable pub rows_from : List ℕ → List (List ℕ) → List Token → Rows
+unfoldable pub rows_from : List ℕ → Record → List Token → Rows
 rows_from text row [] = some_row row
 rows_from text row (token ∷ tokens) =
     if closes (word_of text token) then some_row row
     else (if ends_row (word_of text token) then some_row row ++ rows_from text [] tokens
     else rows_from text (row ++ cells_of text token) tokens)
-
--- the number of the first row that has not as many cells, where the first row's number is given
-unfoldable pub first_ragged : ℕ → ℕ → Rows → Option ℕ
-first_ragged width number [] = None
-first_ragged width number (row ∷ rows) = if length row == width then first_ragged width (number + 1) rows else Some number
 
 -- the fewest columns that a matrix with rows has
 abbrev pub least_columns : Field → ℕ

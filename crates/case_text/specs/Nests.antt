@@ -1,5 +1,6 @@
 -- What may stand inside brackets, token by token.
 use Rattle.std.specs.Prelude.{ℕ, ◌-◌, ◌==◌, ◌&&◌, not, nat_lt, Bool, true, false, List, [], ◌∷◌, ◌++◌, length, take, slice_index_or, Option, unwrap_or, Result, Ok, Err, if◌then◌else◌}
+use Rattle.record_reading.specs.Steps.{and_then}
 use Rattle.case_tokens.specs.declared.Token.{Token}
 use Rattle.case_text.specs.declared.CaseFault.{CaseFault}
 use Rattle.case_text.specs.declared.CaseFault.TheVariants as fault
@@ -10,11 +11,6 @@ use Rattle.case_text.specs.declared.words.Bracket.TheVariants as bracket
 use Rattle.case_text.specs.declared.words.Word.{Word}
 use Rattle.case_text.specs.declared.words.Word.TheVariants as word
 use Rattle.case_text.specs.Words.{word_of, is_curly, same_bracket}
-
--- the second step on the first one's value, or the first one's fault
-abbrev pub and_then : {A B : Type 0} → Result A CaseFault → (A → Result B CaseFault) → Result B CaseFault
-and_then (Ok x) f = f x
-and_then (Err e) f = Err e
 
 -- The brackets that are open, the innermost last, and what stands before in the row of the innermost.
 pub record Nest : Type 0 where

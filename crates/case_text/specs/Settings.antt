@@ -5,7 +5,8 @@ use Rattle.case_text.specs.declared.CaseFault.{CaseFault}
 use Rattle.case_text.specs.declared.CaseFault.TheVariants as fault
 use Rattle.case_text.specs.declared.Field.{Field}
 use Rattle.case_text.specs.declared.Field.TheVariants as field
-use Rattle.case_text.specs.Matrices.{Rows, CaseMatrices, first_ragged, least_columns}
+use Rattle.record_reading.specs.Records.{first_ragged}
+use Rattle.case_text.specs.Matrices.{Rows, CaseMatrices, least_columns}
 
 pub record Settings : Type 0 where
   pub version : Bool

@@ -10,7 +10,8 @@ use Rattle.case_text.specs.declared.words.Word.{Word}
 use Rattle.case_text.specs.declared.words.Word.TheVariants as word
 use Rattle.case_text.specs.Words.{word_of, text_of, is_separator, is_equals, is_run}
 use Rattle.case_text.specs.Names.{is_target, field_of, is_version_one, takes_number, takes_text, takes_bracket}
-use Rattle.case_text.specs.Nests.{and_then, first_nest, behind_brackets}
+use Rattle.record_reading.specs.Steps.{and_then}
+use Rattle.case_text.specs.Nests.{first_nest, behind_brackets}
 use Rattle.case_text.specs.Matrices.{Rows, rows_from}
 
 -- what a statement sets: a field that a case has to set, or none of these, and the rows where it is a matrix

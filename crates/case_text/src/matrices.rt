@@ -4,7 +4,8 @@ ghost use Rattle.std.specs.Prelude.{◌≡◌, ◌≢◌, ◌≤◌, ◌||◌, [
 ghost use Rattle.case_tokens.specs.TokenLists.{IsWithin};
 ghost use Rattle.case_text.specs.Words.{word_of, is_run, text_of};
 ghost use Rattle.case_text.specs.Nests.{behind_brackets, first_nest};
-ghost use Rattle.case_text.specs.Matrices.{closes, ends_row, cells_of, some_row, rows_from, first_ragged, cell_at, width_of};
+ghost use Rattle.record_reading.specs.Records.{first_ragged};
+ghost use Rattle.case_text.specs.Matrices.{closes, ends_row, cells_of, some_row, rows_from, cell_at, width_of};
 ghost use Rattle.case_text.specs.Readers.{Gives, SameEnd};
 ghost use Rattle.case_text.specs.declared.words.Bracket.{Bracket};
 

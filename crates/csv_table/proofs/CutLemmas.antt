@@ -2,7 +2,7 @@
 use Rattle.std.proofs.Common.{◌≡◌, ◌≢◌, ◌≤◌, ◌<◌, ◌+◌, ◌*◌, ◌∷◌, ◌++◌, ℕ, zero, suc, List, [], Some, None, length, take, drop, get_or, refl, sym, arith, ne_eqb, append-nil, ◌∙◌, ap, ◌^◌, mul-le-mul_right}
 use Rattle.std.proofs.lemmas.Bool.{eq-eqb}
 use Rattle.std.proofs.lemmas.List.{drop-append-le, get_or-drop, get_or-take, length-drop, length-take, take-append-le, take_all}
-use Rattle.csv_table.specs.Table.{Record, cell_of, first_odd}
+use Rattle.record_reading.specs.Records.{Record, cell_of, first_ragged}
 use Rattle.csv.specs.Records.{fields_of}
 use Rattle.csv_table.specs.Rows.{IsFlat, IsPushStop, IsRowsStop, cut, first_of, records_in}
 use Rattle.csv_table.specs.declared.Rows.{Rows}
@@ -59,45 +59,45 @@ cut-more width (suc count) cells r is even =
     rw (step, take-append-le width cells r enough, drop-append-le width cells r enough, others) refl
 
 -- records of the width are passed over
-pub first_odd-cut : (width count line : ℕ) (cells : List (List ℕ)) (tail : List Record) → length cells ≡ count * width
-    → first_odd width line (cut width count cells ++ tail) ≡ first_odd width (line + count) tail
-unfolding cut first_odd
-first_odd-cut width zero line cells tail is = let same : line + 0 ≡ line = omega arith in rw same refl
-first_odd-cut width (suc count) line cells tail is =
+pub first_ragged-cut : (width count line : ℕ) (cells : List (List ℕ)) (tail : List Record) → length cells ≡ count * width
+    → first_ragged width line (cut width count cells ++ tail) ≡ first_ragged width (line + count) tail
+unfolding cut first_ragged
+first_ragged-cut width zero line cells tail is = let same : line + 0 ≡ line = omega arith in rw same refl
+first_ragged-cut width (suc count) line cells tail is =
     let enough : width ≤ length cells = more_cells width count (length cells) is in
     let first : length (take width cells) ≡ width = omega (arith, length-take width cells) in
-    let others = first_odd-cut width count (line + 1) (drop width cells) tail (rest_cells width count cells is) in
+    let others = first_ragged-cut width count (line + 1) (drop width cells) tail (rest_cells width count cells is) in
     let same : line + 1 + count ≡ line + suc count = omega arith in
     rw (eq-eqb _ _ first, ← same) others
 
 -- the first record has its own width
-first_odd-first : (width line : ℕ) (r : Record) (rows : List Record) → length r ≡ width → first_odd (length r) line (r ∷ rows) ≡ first_odd width (line + 1) rows
-unfolding first_odd
-first_odd-first width line r rows is =
-    let step : first_odd (length r) line (r ∷ rows) ≡ first_odd (length r) (line + 1) rows = rw (eq-eqb (length r) (length r) refl) refl in
-    step ∙ ap (λ (w : ℕ). first_odd w (line + 1) rows) is
+first_ragged-first : (width line : ℕ) (r : Record) (rows : List Record) → length r ≡ width → first_ragged (length r) line (r ∷ rows) ≡ first_ragged width (line + 1) rows
+unfolding first_ragged
+first_ragged-first width line r rows is =
+    let step : first_ragged (length r) line (r ∷ rows) ≡ first_ragged (length r) (line + 1) rows = rw (eq-eqb (length r) (length r) refl) refl in
+    step ∙ ap (λ (w : ℕ). first_ragged w (line + 1) rows) is
 
 -- a record of another width behind some of one width is the first such one
-pub first_odd-behind : (width count : ℕ) (cells : List (List ℕ)) (r : Record) (tail : List Record) → length cells ≡ count * width → 0 < count → length r ≢ width
-    → first_odd (length (first_of (cut width count cells ++ r ∷ tail))) 1 (cut width count cells ++ r ∷ tail) ≡ Some (count + 1)
-unfolding cut first_odd
-first_odd-behind width zero cells r tail is some odd = absurd (omega arith)
-first_odd-behind width (suc count) cells r tail is some odd =
+pub first_ragged-behind : (width count : ℕ) (cells : List (List ℕ)) (r : Record) (tail : List Record) → length cells ≡ count * width → 0 < count → length r ≢ width
+    → first_ragged (length (first_of (cut width count cells ++ r ∷ tail))) 1 (cut width count cells ++ r ∷ tail) ≡ Some (count + 1)
+unfolding cut first_ragged
+first_ragged-behind width zero cells r tail is some odd = absurd (omega arith)
+first_ragged-behind width (suc count) cells r tail is some odd =
     let enough : width ≤ length cells = more_cells width count (length cells) is in
     let first : length (take width cells) ≡ width = omega (arith, length-take width cells) in
-    let run = first_odd-cut width count 2 (drop width cells) (r ∷ tail) (rest_cells width count cells is) in
+    let run = first_ragged-cut width count 2 (drop width cells) (r ∷ tail) (rest_cells width count cells is) in
     let line : 2 + count ≡ suc count + 1 = omega arith in
-    first_odd-first width 1 (take width cells) (cut width count (drop width cells) ++ r ∷ tail) first ∙ rw (ne_eqb _ _ odd, line) at run
+    first_ragged-first width 1 (take width cells) (cut width count (drop width cells) ++ r ∷ tail) first ∙ rw (ne_eqb _ _ odd, line) at run
 
 -- records of one width have no other
-pub first_odd-none : (width count : ℕ) (cells : List (List ℕ)) → length cells ≡ count * width → first_odd (length (first_of (cut width count cells))) 1 (cut width count cells) ≡ None
-unfolding cut first_odd
-first_odd-none width zero cells is = refl
-first_odd-none width (suc count) cells is =
+pub first_ragged-none : (width count : ℕ) (cells : List (List ℕ)) → length cells ≡ count * width → first_ragged (length (first_of (cut width count cells))) 1 (cut width count cells) ≡ None
+unfolding cut first_ragged
+first_ragged-none width zero cells is = refl
+first_ragged-none width (suc count) cells is =
     let enough : width ≤ length cells = more_cells width count (length cells) is in
     let first : length (take width cells) ≡ width = omega (arith, length-take width cells) in
-    let run = first_odd-cut width count 2 (drop width cells) [] (rest_cells width count cells is) in
-    first_odd-first width 1 (take width cells) (cut width count (drop width cells)) first ∙ rw (append-nil (cut width count (drop width cells))) at run
+    let run = first_ragged-cut width count 2 (drop width cells) [] (rest_cells width count cells is) in
+    first_ragged-first width 1 (take width cells) (cut width count (drop width cells)) first ∙ rw (append-nil (cut width count (drop width cells))) at run
 
 length_0 : (cells : List (List ℕ)) → length cells ≡ 0 → cells ≡ []
 length_0 [] is = refl
@@ -136,14 +136,14 @@ records-push old new r flat counted cells even same = rw (counted, cells) (by ol
         let wide : length r ≡ old.width = omega arith in
         rw width (cut-more old.width old.count (fields_of old.cells) r flat.cells wide)
 
-pub records-none : (rows : Rows) → IsFlat rows → first_odd (length (first_of (records_in rows))) 1 (records_in rows) ≡ None
+pub records-none : (rows : Rows) → IsFlat rows → first_ragged (length (first_of (records_in rows))) 1 (records_in rows) ≡ None
 unfolding records_in
-records-none rows flat = first_odd-none rows.width rows.count (fields_of rows.cells) flat.cells
+records-none rows flat = first_ragged-none rows.width rows.count (fields_of rows.cells) flat.cells
 
 pub records-odd : (rows : Rows) (r : Record) (tail : List Record) → IsFlat rows → 0 < rows.count → length r ≢ rows.width
-    → first_odd (length (first_of (records_in rows ++ r ∷ tail))) 1 (records_in rows ++ r ∷ tail) ≡ Some (rows.count + 1)
+    → first_ragged (length (first_of (records_in rows ++ r ∷ tail))) 1 (records_in rows ++ r ∷ tail) ≡ Some (rows.count + 1)
 unfolding records_in
-records-odd rows r tail flat some odd = first_odd-behind rows.width rows.count (fields_of rows.cells) r tail flat.cells some odd
+records-odd rows r tail flat some odd = first_ragged-behind rows.width rows.count (fields_of rows.cells) r tail flat.cells some odd
 
 -- why a record was not added to those of a text that stand before it
 pub push-stops : (rows : Rows) (r : Record) (tail : List Record) (stop : RowsStop) → IsFlat rows → IsPushStop rows r stop → IsRowsStop (records_in rows ++ r ∷ tail) stop

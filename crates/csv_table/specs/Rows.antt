@@ -2,7 +2,7 @@
 use Rattle.std.specs.Prelude.{◌≡◌, ◌≢◌, ⊤, ℕ, zero, suc, ◌+◌, ◌*◌, ◌<◌, ◌^◌, List, [], ◌∷◌, length, take, drop, get_or, Some, true}
 use Rattle.csv.specs.Reading.{error_kind, stops_reader}
 use Rattle.csv.specs.Records.{fields_of, partial_of}
-use Rattle.csv_table.specs.Table.{Record, first_odd}
+use Rattle.record_reading.specs.Records.{Record, first_ragged}
 use Rattle.csv_table.specs.declared.Rows.{Rows}
 use Rattle.csv_table.specs.declared.RowsStop.{RowsStop}
 use Rattle.csv_table.specs.declared.RowsStop.TheVariants as stop
@@ -36,5 +36,5 @@ IsPushStop rows r stop.Memory = ⊤
 -- memory or the source of the bytes stopped the reading, or a record of another width than the first, which is the first such one
 abbrev pub IsRowsStop : List Record → RowsStop → Type 0
 IsRowsStop records (stop.Reader e) = stops_reader (error_kind e) ≡ true
-IsRowsStop records (stop.Width line) = first_odd (length (first_of records)) 1 records ≡ Some line
+IsRowsStop records (stop.Width line) = first_ragged (length (first_of records)) 1 records ≡ Some line
 IsRowsStop records stop.Memory = ⊤

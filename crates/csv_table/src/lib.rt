@@ -13,36 +13,15 @@
 
 ghost use Rattle.std.specs.Prelude.{◌≡◌, ◌≢◌, ◌<◌, ◌≤◌, ◌+◌, ◌++◌, ◌∷◌, ◌^◌, unsigned_abs, IfOk, IfErr, IfSome, Ok, Err, map, drop, length, get_or, List, ℕ, []};
 ghost use Rattle.csv.specs.Records.{fields_of, partial_of};
-ghost use Rattle.csv_table.specs.Table.{Record, cell_of, frame_of, is_over, number_in, same_record, table_of};
+ghost use Rattle.record_reading.specs.Records.{Record, cell_of};
+ghost use Rattle.csv_table.specs.Table.{frame_of, is_over, number_in, same_record, table_of};
 ghost use Rattle.csv_table.specs.Rows.{IsFlat, IsPushStop, IsRowsStop, first_of, records_in};
 
 use csv::{ByteRecord, ReaderBuilder};
-use scaled_decimal::{DecimalFault, read};
+use record_reading::{CellFault, FrameFault, Why};
+use scaled_decimal::read;
 use std::alloc::{AllocError, Global};
 use std::marker::Model;
-
-/// What is wrong with a table as a whole. Where several of these hold, the first of `Width`, `Header` and `TooMany` is told. A text
-/// with no record is told as `Header`.
-#[derive(Debug, Drop, PartialEq, Eq)]
-pub enum FrameFault {
-    /// The header's cells are not the wanted names, in this order and byte for byte.
-    Header,
-    /// A record has more or fewer cells than the header. Its line is the place of the first such record among the records: the
-    /// header's is 1, and neither an empty line nor a line end within quotes counts.
-    Width { line: usize },
-    /// There are more records under the header than are allowed. The count is that of all of them.
-    TooMany { count: usize },
-    /// Memory was refused, so nothing is said of the text.
-    Memory,
-}
-
-/// A cell that has no number of the wanted units. Lines are counted as in `FrameFault`, columns from 1.
-#[derive(Clone, Copy, Debug, PartialEq, Eq)]
-pub struct CellFault {
-    pub line: usize,
-    pub col: usize,
-    pub why: DecimalFault,
-}
 
 /// Why the records of a text were not all read.
 #[derive(Debug, Drop)]
@@ -222,7 +201,7 @@ impl Table {
             Err(why) => Err(CellFault {
                 line: row + 2,
                 col: col + 1,
-                why,
+                why: Why::Decimal(why),
             }),
         }
     }

@@ -1,12 +1,15 @@
 -- What the table of outages stands for: the list of its numbers, or the first fault.
 use Rattle.std.specs.Prelude.{ℕ, ℤ, List, [], ◌∷◌, codes, Some, Result}
-use Rattle.csv_table.specs.Table.{Record, and_then, read_rows}
+use Rattle.record_reading.specs.Records.{Record}
+use Rattle.record_reading.specs.Steps.{and_then}
+use Rattle.record_reading.specs.Rows.{read_rows}
+use Rattle.csv_table.specs.Table.{framed}
 use Rattle.factor_tables.specs.declared.table_fault.TableFault.{TableFault}
-use Rattle.factor_tables.specs.Records.{framed, number}
+use Rattle.factor_tables.specs.Records.{frame_fault, number}
 
 -- the number of a record of the table of outages
 abbrev pub outage_number : List ℤ → ℕ → Record → Result ℤ TableFault
 outage_number done line r = number line r 0 0
 
 unfoldable pub outage_rows_of : List ℕ → Result (List ℤ) TableFault
-outage_rows_of bytes = and_then (framed (codes "branch" ∷ []) (Some 500) bytes) (read_rows outage_number [] 2)
+outage_rows_of bytes = and_then (framed frame_fault (codes "branch" ∷ []) (Some 500) bytes) (read_rows outage_number [] 2)

@@ -1,10 +1,12 @@
 -- A record of a table: the numbers in its cells.
-use Rattle.std.specs.Prelude.{ℕ, ◌<◌, ◌≤◌, ◌^◌, ℤ, List, nat_lt, unsigned_abs, if◌then◌else◌, Option, Result, Ok, Err}
-use Rattle.csv_table.specs.Table.{Record, and_then, frame_of, number_in, or_as, table_of}
-use Rattle.csv_table.specs.declared.CellFault.{CellFault}
-use Rattle.csv_table.specs.declared.FrameFault.{FrameFault}
-use Rattle.csv_table.specs.declared.FrameFault.TheVariants as frame
-use Rattle.net_case.specs.declared.live_parts.Why.TheVariants as why
+use Rattle.std.specs.Prelude.{ℕ, ◌<◌, ◌≤◌, ◌^◌, ℤ, nat_lt, unsigned_abs, if◌then◌else◌, Result, Ok, Err}
+use Rattle.record_reading.specs.Records.{Record}
+use Rattle.record_reading.specs.Steps.{and_then, or_as}
+use Rattle.csv_table.specs.Table.{number_in}
+use Rattle.record_reading.specs.declared.CellFault.{CellFault}
+use Rattle.record_reading.specs.declared.FrameFault.{FrameFault}
+use Rattle.record_reading.specs.declared.FrameFault.TheVariants as frame
+use Rattle.record_reading.specs.declared.Why.TheVariants as why
 use Rattle.factor_tables.specs.declared.cells.FactorRecord.{FactorRecord}
 use Rattle.factor_tables.specs.declared.cells.OffsetRecord.{OffsetRecord}
 use Rattle.factor_tables.specs.declared.table_fault.TableFault.{TableFault}
@@ -19,11 +21,7 @@ frame_fault (frame.TooMany count) = fault.TooMany count
 frame_fault frame.Memory = fault.Memory
 
 abbrev pub cell_fault : CellFault → TableFault
-cell_fault f = fault.Cell f.line f.col (why.Decimal f.why)
-
--- the records under a table's header, or the first fault of the table as a whole
-abbrev pub framed : Record → Option ℕ → List ℕ → Result (List Record) TableFault
-framed header most bytes = or_as frame_fault (frame_of header most (table_of bytes))
+cell_fault f = fault.Cell f.line f.col f.why
 
 -- ---- the numbers of a record
 -- the number in a cell, in units of so many places

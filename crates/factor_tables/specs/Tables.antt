@@ -1,13 +1,16 @@
 -- What the tables of factors stand for: the list of their records, or the first fault.
 use Rattle.std.specs.Prelude.{ℕ, List, [], ◌∷◌, codes, if◌then◌else◌, None, Result, Ok, Err}
-use Rattle.csv_table.specs.Table.{Record, and_then, read_rows}
+use Rattle.record_reading.specs.Records.{Record}
+use Rattle.record_reading.specs.Steps.{and_then}
+use Rattle.record_reading.specs.Rows.{read_rows}
+use Rattle.csv_table.specs.Table.{framed}
 use Rattle.net_case.specs.Networks.{LiveNetwork}
 use Rattle.factor_tables.specs.declared.by_pair.Column.{Column}
 use Rattle.factor_tables.specs.declared.by_pair.Column.TheVariants as column
 use Rattle.factor_tables.specs.declared.table_fault.TableFault.{TableFault}
 use Rattle.factor_tables.specs.declared.table_fault.TableFault.TheVariants as fault
 use Rattle.factor_tables.specs.Factors.{Entry, has_pair}
-use Rattle.factor_tables.specs.Records.{framed, record_in}
+use Rattle.factor_tables.specs.Records.{frame_fault, record_in}
 use Rattle.factor_tables.specs.Rules.{checked, fine, pair_of, record_faults}
 
 -- the pair and the factor of a record behind others: its numbers, then what they name, then whether the pair stood before
@@ -24,7 +27,7 @@ abbrev pub loss_header : Record
 loss_header = codes "branch" ∷ codes "outage" ∷ codes "factor" ∷ []
 
 unfoldable pub shift_of : LiveNetwork → List ℕ → Result (List Entry) TableFault
-shift_of network bytes = and_then (framed shift_header None bytes) (read_rows (entry_in network column.Bus) [] 2)
+shift_of network bytes = and_then (framed frame_fault shift_header None bytes) (read_rows (entry_in network column.Bus) [] 2)
 
 unfoldable pub loss_of : LiveNetwork → List ℕ → Result (List Entry) TableFault
-loss_of network bytes = and_then (framed loss_header None bytes) (read_rows (entry_in network column.Outage) [] 2)
+loss_of network bytes = and_then (framed frame_fault loss_header None bytes) (read_rows (entry_in network column.Outage) [] 2)

@@ -6,14 +6,13 @@ ghost use Rattle.factor_tables.specs.Records.{FactorIsRead, OffsetIsRead, factor
 
 use crate::TableFault;
 use csv_table::Table;
-use net_case::Why;
+use market_data::MW_PLACES;
+use record_reading::Why;
 
 /// The greatest size of a factor, in 10^-6.
 const MOST_FACTOR: u64 = 1_000_000_000;
 
 const FACTOR_PLACES: u8 = 6;
-
-const MW_PLACES: u8 = 9;
 
 /// A record of a table of factors as it is written.
 #[derive(Clone, Copy, Debug)]

@@ -1,7 +1,7 @@
 //! Reading the tables of factors.
 
 ghost use Rattle.std.specs.Prelude.{◌≡◌, ◌≢◌, ℕ, ◌+◌, ◌<◌, ◌≤◌, ◌^◌, ◌&&◌, not, unsigned_abs, length, get_or, [], Ok, Err, IfOk, IfErr, false};
-ghost use Rattle.csv_table.specs.Table.{read_rows};
+ghost use Rattle.record_reading.specs.Rows.{read_rows};
 ghost use Rattle.factor_tables.specs.Factors.{AreFactors, HasNoPairTwice, has_pair, marked_row, most_factor};
 ghost use Rattle.factor_tables.specs.Records.{FactorIsRead};
 ghost use Rattle.factor_tables.specs.Rules.{IsPairOf, checked, fine, loss_faults, record_faults, shift_faults};

@@ -2,7 +2,7 @@
 
 ghost use Rattle.std.specs.Prelude.{◌≡◌, ◌≢◌, ℕ, ◌+◌, ◌<◌, ◌^◌, length, get_or, [], List, Ok, Err, IfOk, IfErr, is_some, option_map, false};
 ghost use Rattle.std.specs.List.{find};
-ghost use Rattle.csv_table.specs.Table.{read_rows};
+ghost use Rattle.record_reading.specs.Rows.{read_rows};
 ghost use Rattle.market_data.specs.Participants.{IsDatum};
 ghost use Rattle.factor_tables.specs.Offsets.{AreOffsets, OffsetEntry, has_offset, offset_entry, offset_faults, offsets_of, wants_offset, with_all_offsets};
 ghost use Rattle.factor_tables.specs.Records.{OffsetIsRead};

@@ -1,7 +1,7 @@
 //! The numbers of the outages that are asked for.
 
 ghost use Rattle.std.specs.Prelude.{◌≡◌, ◌≢◌, ℕ, ◌+◌, ◌<◌, ◌≤◌, ◌^◌, length, get_or, [], Ok, Err, IfOk, All, unsigned_abs};
-ghost use Rattle.csv_table.specs.Table.{read_rows};
+ghost use Rattle.record_reading.specs.Rows.{read_rows};
 ghost use Rattle.factor_tables.specs.OutageNumbers.{outage_number, outage_rows_of};
 
 use crate::TableFault;

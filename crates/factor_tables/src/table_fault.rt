@@ -3,9 +3,8 @@
 ghost use Rattle.std.specs.Prelude.{◌≡◌};
 ghost use Rattle.factor_tables.specs.Records.{cell_fault, frame_fault};
 
-use csv_table::{CellFault, FrameFault};
-use net_case::Why;
 use plain_list::Memory;
+use record_reading::{CellFault, FrameFault, Why};
 use thiserror::Error;
 
 /// Why a table is refused. A line is a record's place, where the header's is 1.
@@ -58,7 +57,7 @@ impl From<CellFault> for TableFault {
         TableFault::Cell {
             line: fault.line,
             col: fault.col,
-            why: Why::Decimal(fault.why),
+            why: fault.why,
         }
     }
 }

@@ -1,6 +1,7 @@
 use crate::{OutageRows, TableFault, offsets, outage, outage_rows, shift};
 use case_text::read_case;
-use net_case::{Branches, Network, PostRating, Why, network};
+use net_case::{Branches, Network, PostRating, network};
+use record_reading::Why;
 use scaled_decimal::DecimalFault;
 use std::alloc::Global;
 use std::test::Fail;

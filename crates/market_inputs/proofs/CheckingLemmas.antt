@@ -1,6 +1,6 @@
 -- What the tables of a check come to, one behind the other.
 use Rattle.std.proofs.Common.{◌≡◌, refl, sym, subst, ℕ, ℤ, List, length, Result, Ok, Err, All}
-use Rattle.csv_table.specs.Table.{and_then}
+use Rattle.record_reading.specs.Steps.{and_then, or_as}
 use Rattle.case_text.specs.Matrices.{CaseMatrices}
 use Rattle.case_text.specs.Cases.{case_of}
 use Rattle.net_case.specs.declared.live_parts.Branches.TheVariants as branches
@@ -21,7 +21,7 @@ use Rattle.refusal_text.specs.declared.refusals.Refusal.TheVariants as refusal
 use Rattle.market_inputs.specs.declared.checking.CheckedCase.{CheckedCase}
 use Rattle.market_inputs.specs.declared.stops.Stop.{Stop}
 use Rattle.market_inputs.specs.declared.stops.Stop.TheVariants as stop
-use Rattle.market_inputs.specs.Files.{refused_as, sized}
+use Rattle.market_inputs.specs.Files.{sized}
 use Rattle.market_inputs.specs.Stops.{IsToldAs, split_stop}
 use Rattle.market_inputs.specs.Checking.{Then, IsCheckedCase, IsJoinedWith, joined, split, case_with}
 
@@ -49,11 +49,11 @@ listed-live network numbers r rows listed is = go (subst (IsListed network numbe
 module _ (bytes : List ℕ) (raw : CaseMatrices) (network : LiveNetwork) (length-is : sized (refusal.TooLong input.Case) bytes ≡ Ok bytes) (raw-is : case_of bytes ≡ Ok raw)
     (network-is : network_of (branches.Read rating.C) raw ≡ Ok network) where
   -- the text and the rows were read
-  pub case-read : (told : Result CheckedCase Refusal) → IsJoinedWith network (refused_as refusal.Network (reactances_of raw network)) told
+  pub case-read : (told : Result CheckedCase Refusal) → IsJoinedWith network (or_as refusal.Network (reactances_of raw network)) told
       → IsCheckedCase (sized (refusal.TooLong input.Case) bytes) told
   case-read told right =
-      let matrices : and_then (sized (refusal.TooLong input.Case) bytes) (λ text. refused_as refusal.Case (case_of text)) ≡ Ok raw = rw (length-is, raw-is) refl in
-      let rows : refused_as refusal.Network (network_of (branches.Read rating.C) raw) ≡ Ok network = rw network-is refl in
+      let matrices : and_then (sized (refusal.TooLong input.Case) bytes) (λ text. or_as refusal.Case (case_of text)) ≡ Ok raw = rw (length-is, raw-is) refl in
+      let rows : or_as refusal.Network (network_of (branches.Read rating.C) raw) ≡ Ok network = rw network-is refl in
       then-ok _ raw _ told matrices (then-ok _ network _ told rows right)
 
   -- the network is split
@@ -63,5 +63,5 @@ module _ (bytes : List ℕ) (raw : CaseMatrices) (network : LiveNetwork) (length
 
   -- the reactances of a network that is joined
   pub case-joined : (xs : Result (List ℤ) NetFault) → JoinAll network.branches (length network.buses) → reactances_of raw network ≡ xs
-      → IsCheckedCase (sized (refusal.TooLong input.Case) bytes) (and_then (refused_as refusal.Network xs) (λ list. Ok (case_with network list)))
-  case-joined xs join is = case-read _ (subst (λ r. IsJoinedWith network (refused_as refusal.Network (reactances_of raw network)) (and_then (refused_as refusal.Network r) (λ list. Ok (case_with network list)))) is (joined join))
+      → IsCheckedCase (sized (refusal.TooLong input.Case) bytes) (and_then (or_as refusal.Network xs) (λ list. Ok (case_with network list)))
+  case-joined xs join is = case-read _ (subst (λ r. IsJoinedWith network (or_as refusal.Network (reactances_of raw network)) (and_then (or_as refusal.Network r) (λ list. Ok (case_with network list)))) is (joined join))

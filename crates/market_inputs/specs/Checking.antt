@@ -1,6 +1,6 @@
 -- What the bytes of a case and of its tables stand for, or the first fault.
 use Rattle.std.specs.Prelude.{◌≡◌, ◌≢◌, ℕ, ℤ, length, List, All, Result, Ok, Err}
-use Rattle.csv_table.specs.Table.{and_then}
+use Rattle.record_reading.specs.Steps.{and_then, or_as}
 use Rattle.case_text.specs.Cases.{case_of}
 use Rattle.net_case.specs.declared.live_parts.Branches.TheVariants as branches
 use Rattle.net_case.specs.declared.live_parts.PostRating.TheVariants as rating
@@ -19,7 +19,6 @@ use Rattle.factor_residuals.specs.Residuals.{AreReactances}
 use Rattle.refusal_text.specs.declared.refusals.Input.TheVariants as input
 use Rattle.refusal_text.specs.declared.refusals.Refusal.{Refusal}
 use Rattle.refusal_text.specs.declared.refusals.Refusal.TheVariants as refusal
-use Rattle.market_inputs.specs.Files.{refused_as}
 use Rattle.market_inputs.specs.declared.checking.CheckedCase.{CheckedCase}
 use Rattle.market_inputs.specs.declared.checking.Inputs.{Inputs}
 
@@ -40,25 +39,25 @@ pub data IsJoinedWith (network : LiveNetwork) (reactances : Result (List ℤ) Re
 -- the network of a case and its reactances: its text, its rows, whether it is joined, and its reactances come in this order
 abbrev pub IsCheckedCase : Result (List ℕ) Refusal → Result CheckedCase Refusal → Type 0
 IsCheckedCase bytes told =
-    Then (and_then bytes (λ text. refused_as refusal.Case (case_of text))) (λ matrices.
-    Then (refused_as refusal.Network (network_of (branches.Read rating.C) matrices)) (λ network.
-    IsJoinedWith network (refused_as refusal.Network (reactances_of matrices network)))) told
+    Then (and_then bytes (λ text. or_as refusal.Case (case_of text))) (λ matrices.
+    Then (or_as refusal.Network (network_of (branches.Read rating.C) matrices)) (λ network.
+    IsJoinedWith network (or_as refusal.Network (reactances_of matrices network)))) told
 
 abbrev pub shift_in : LiveNetwork → Result (List ℕ) Refusal → Result (List Entry) Refusal
-shift_in network bytes = and_then bytes (λ text. refused_as (refusal.Table input.Ptdf) (shift_of network text))
+shift_in network bytes = and_then bytes (λ text. or_as (refusal.Table input.Ptdf) (shift_of network text))
 
 abbrev pub loss_in : LiveNetwork → Result (List ℕ) Refusal → Result (List Entry) Refusal
-loss_in network bytes = and_then bytes (λ text. refused_as (refusal.Table input.Lodf) (loss_of network text))
+loss_in network bytes = and_then bytes (λ text. or_as (refusal.Table input.Lodf) (loss_of network text))
 
 abbrev pub numbers_in : Result (List ℕ) Refusal → Result (List ℤ) Refusal
-numbers_in bytes = and_then bytes (λ text. refused_as (refusal.Table input.Contingencies) (outage_rows_of text))
+numbers_in bytes = and_then bytes (λ text. or_as (refusal.Table input.Contingencies) (outage_rows_of text))
 
 -- numbers as outages of a network, or the first that is none
 pub record AreListed (network : LiveNetwork) (numbers : List ℤ) (told : Result (List ℕ) Refusal) : Type 0 where
   pub listed : Result (List ℕ) OutageFault
   pub is : IsListed network numbers listed
   pub made : listed ≢ Err outage.Memory
-  pub same : told ≡ refused_as refusal.Outages listed
+  pub same : told ≡ or_as refusal.Outages listed
 
 abbrev pub AreOutagesIn : LiveNetwork → Result (List ℕ) Refusal → Result (List ℕ) Refusal → Type 0
 AreOutagesIn network bytes told = Then (numbers_in bytes) (AreListed network) told

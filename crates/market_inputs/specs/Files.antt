@@ -6,11 +6,6 @@ use Rattle.refusal_text.specs.declared.refusals.Refusal.{Refusal}
 abbrev pub most_file : ℕ
 most_file = 33554432
 
--- what a file stands for, or that it is refused
-abbrev pub refused_as : {A F : Type 0} → (F → Refusal) → Result A F → Result A Refusal
-refused_as refuse (Ok x) = Ok x
-refused_as refuse (Err f) = Err (refuse f)
-
 -- the bytes of a file, where they are not too many
 unfoldable pub sized : Refusal → List ℕ → Result (List ℕ) Refusal
 sized too_long bytes = if nat_lt most_file (length bytes) then Err too_long else Ok bytes

@@ -6,7 +6,8 @@ use Rattle.std.specs.Prelude.{◌≤ℤ◌, ◌*ℤ◌, unsigned_abs}
 use Rattle.std.proofs.lemmas.Int.{ints, unsigned_abs-mul, to_z-of_z}
 use Rattle.std.proofs.Math.Nat.{mul-le-mul_left}
 use Rattle.std.proofs.lemmas.List.{append-nil, drop_all, drop_more}
-use Rattle.csv_table.specs.Table.{Record, and_then}
+use Rattle.record_reading.specs.Records.{Record}
+use Rattle.record_reading.specs.Steps.{and_then}
 use Rattle.net_case.specs.NetworkReading.{row_at}
 use Rattle.net_case.specs.ReactanceReading.{reactance_in, reactances_in}
 use Rattle.net_case.specs.declared.live_parts.NetBranch.{NetBranch}

@@ -1,7 +1,7 @@
 -- What is kept while bus rows are read.
 use Rattle.std.specs.Prelude.{◌≡◌, ◌<◌, true, Ok, List, length, All, IfSome, IsSome}
 use Rattle.market_data.specs.Participants.{IsBus}
-use Rattle.csv_table.specs.Table.{Record}
+use Rattle.record_reading.specs.Records.{Record}
 use Rattle.net_case.specs.Networks.{AreBusRows, IsBusNumber}
 use Rattle.net_case.specs.NetworkReading.{bus_rows, live_buses, places_from, reference_of}
 use Rattle.net_case.specs.declared.bus_rows.BusRow.{BusRow}

@@ -1,5 +1,4 @@
 pub mod BusReading
-pub mod Gathering
 pub mod NetworkReading
 pub mod Networks
 pub mod ReactanceReading

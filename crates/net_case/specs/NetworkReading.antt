@@ -7,16 +7,17 @@ use Rattle.std.specs.Str.{bytes_eq}
 use Rattle.market_data.specs.declared.participants.Bus.{Bus}
 use Rattle.market_data.specs.declared.participants.Unit as unit
 use Rattle.market_data.specs.declared.participants.UnitList.{UnitList}
-use Rattle.csv_table.specs.Table.{Record, and_then, read_rows}
+use Rattle.record_reading.specs.Records.{Record}
+use Rattle.record_reading.specs.Steps.{and_then, some_of}
+use Rattle.record_reading.specs.Rows.{read_rows, gather, listed}
 use Rattle.fraction_theory.specs.declared.Sign.{Sign}
 use Rattle.fraction_theory.specs.declared.Sign.TheVariants as sign
 use Rattle.scaled_decimal.specs.Reading.{units_of, sign_in}
 use Rattle.scaled_decimal.specs.declared.DecimalFault.{DecimalFault}
-use Rattle.net_case.specs.Gathering.{gather, listed}
 use Rattle.case_text.specs.Matrices.{CaseMatrices}
 use Rattle.case_text.specs.declared.Field.{Field}
 use Rattle.case_text.specs.declared.Field.TheVariants as field
-use Rattle.net_case.specs.declared.live_parts.Why.TheVariants as why
+use Rattle.record_reading.specs.declared.Why.TheVariants as why
 use Rattle.net_case.specs.declared.live_parts.NetFault.{NetFault}
 use Rattle.net_case.specs.declared.live_parts.NetFault.TheVariants as fault
 use Rattle.net_case.specs.declared.live_parts.NetUnit.{NetUnit}
@@ -147,15 +148,11 @@ bounds_in row r bus =
     and_then (number_in field.Gen row r 10 9) (λ low.
     if lt_z high low then Err (fault.MinAboveMax row) else Ok (record { row = row; bus = bus; low = low; high = high })))
 
-abbrev pub some_unit : Result NetUnit NetFault → Result (Option NetUnit) NetFault
-some_unit (Ok u) = Ok (Some u)
-some_unit (Err f) = Err f
-
 -- the unit of a row whose bus has a place among the live buses, where its status is above 0
 unfoldable pub unit_where : ℕ → Record → Option ℕ → Bool → Result (Option NetUnit) NetFault
 unit_where row r None in_service = Ok None
 unit_where row r (Some bus) false = Ok None
-unit_where row r (Some bus) true = some_unit (bounds_in row r bus)
+unit_where row r (Some bus) true = some_of (bounds_in row r bus)
 
 unfoldable pub unit_row : Places → ℕ → Record → Result (Option NetUnit) NetFault
 unit_row places row r =
@@ -209,16 +206,12 @@ limits_in rating row r from to =
     and_then (shifted_in row r) (λ shifted.
     Ok (record { row = row; from = from; to = to; base = base; post = after; shifted = shifted }))))
 
-abbrev pub some_branch : Result NetBranch NetFault → Result (Option NetBranch) NetFault
-some_branch (Ok b) = Ok (Some b)
-some_branch (Err f) = Err f
-
 -- the branch of a row whose buses both have places among the live buses, where its status is above 0
 unfoldable pub branch_where : PostRating → ℕ → Record → Option ℕ → Option ℕ → Bool → Result (Option NetBranch) NetFault
 branch_where rating row r None to in_service = Ok None
 branch_where rating row r (Some from) None in_service = Ok None
 branch_where rating row r (Some from) (Some to) false = Ok None
-branch_where rating row r (Some from) (Some to) true = some_branch (limits_in rating row r from to)
+branch_where rating row r (Some from) (Some to) true = some_of (limits_in rating row r from to)
 
 unfoldable pub branch_row : PostRating → Places → ℕ → Record → Result (Option NetBranch) NetFault
 branch_row rating places row r =

@@ -1,7 +1,8 @@
 -- The reactances of live branches that a case stands for, or the first fault.
 use Rattle.std.specs.Prelude.{ℕ, ◌&&◌, ℤ, pos, negsuc, ◌*ℤ◌, List, [], ◌∷◌, Result, Ok, Err, if◌then◌else◌}
 use Rattle.std.specs.Int.Signed.{lt_z, le_z}
-use Rattle.csv_table.specs.Table.{Record, and_then}
+use Rattle.record_reading.specs.Records.{Record}
+use Rattle.record_reading.specs.Steps.{and_then}
 use Rattle.case_text.specs.Matrices.{CaseMatrices}
 use Rattle.case_text.specs.declared.Field.TheVariants as field
 use Rattle.net_case.specs.Networks.{LiveNetwork}
@@ -9,7 +10,7 @@ use Rattle.net_case.specs.NetworkReading.{number_in, row_at}
 use Rattle.net_case.specs.declared.live_parts.NetBranch.{NetBranch}
 use Rattle.net_case.specs.declared.live_parts.NetFault.{NetFault}
 use Rattle.net_case.specs.declared.live_parts.NetFault.TheVariants as fault
-use Rattle.net_case.specs.declared.live_parts.Why.TheVariants as why
+use Rattle.record_reading.specs.declared.Why.TheVariants as why
 
 -- the number in a branch row's cell in units of 9 places, from low to high
 unfoldable pub bounded_in : ℕ → Record → ℕ → ℤ → ℤ → Result ℤ NetFault

@@ -5,9 +5,10 @@ ghost use Rattle.net_case.specs.NetworkReading.{row_at};
 ghost use Rattle.net_case.specs.ReactanceReading.{bounded_in, ratio_of, reactance_in, reactances_of};
 
 use crate::cells::{cell_fault, number};
-use crate::live_parts::{NetFault, Network, Why};
+use crate::live_parts::{NetFault, Network};
 use case_text::{Field, RawCase};
 use plain_list::List;
+use record_reading::Why;
 use std::alloc::Global;
 
 /// By live branch, BR_X times the ratio of TAP, in 10^-18.

@@ -2,18 +2,17 @@
 
 ghost use Rattle.std.specs.Prelude.{◌≡◌, ◌≢◌, ℕ, ◌≤◌, ◌<◌, [], length, map, All, IfOk, IfSome, Err, Ok};
 ghost use Rattle.market_data.specs.Participants.{IsDatum};
-ghost use Rattle.net_case.specs.Gathering.{gather};
+ghost use Rattle.record_reading.specs.Rows.{gather};
 ghost use Rattle.net_case.specs.Networks.{IsNetBranch, IsLimit, AreRows, ArePlaces, most_branches};
 ghost use Rattle.net_case.specs.NetworkReading.{row_at, cell_in, is_infinite, is_below_all, limit_of, limit_in, shifted_in, post_column, limits_in, branch_where, branch_row, branch_count, branches_in};
 
 use crate::bus_rows::standing;
 use crate::cells::{cell_fault, in_service, number, row_count, sign};
-use crate::live_parts::{
-    Branches, NetBranch, NetFault, Places, PostRating, Why, known_at, push_some,
-};
+use crate::live_parts::{Branches, NetBranch, NetFault, Places, PostRating, known_at};
 use case_text::{Field, RawCase};
 use market_data::MW_PLACES;
 use plain_list::List;
+use record_reading::{Why, push_some};
 use scaled_decimal::Sign;
 use std::alloc::Global;
 

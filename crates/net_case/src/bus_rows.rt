@@ -3,16 +3,17 @@
 ghost use Rattle.std.specs.Prelude.{◌≡◌, ◌≢◌, ◌+◌, ◌≤◌, ◌==◌, [], ◌∷◌, ◌++◌, length, IfOk, IfErr, MatchResult, None, Err};
 ghost use Rattle.std.specs.Map.{lookup};
 ghost use Rattle.market_data.specs.Participants.{IsBus};
-ghost use Rattle.net_case.specs.Gathering.{listed};
+ghost use Rattle.record_reading.specs.Rows.{listed};
 ghost use Rattle.net_case.specs.NetworkReading.{row_at, counted_in, demands_in, row_of_type, next_place, reference_after, bus_row_after, bus_rows, standing_at, stands};
 ghost use Rattle.net_case.specs.BusReading.{IsBusRow, AreRead, AreLive, HoldBusRows};
 
 use crate::cells::{cell_fault, number};
-use crate::live_parts::{NetFault, Places, Why, known, push_some};
+use crate::live_parts::{NetFault, Places, known};
 use case_text::{Field, RawCase};
 use indexmap::IndexMap;
 use market_data::{Bus, MW_PLACES};
 use plain_list::List;
+use record_reading::{Why, push_some};
 use std::alloc::Global;
 
 /// The greatest bus number.

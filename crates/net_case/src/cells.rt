@@ -6,8 +6,9 @@ ghost use Rattle.case_text.specs.Matrices.{matrix_of};
 ghost use Rattle.case_text.specs.Names.{is_matrix};
 ghost use Rattle.net_case.specs.NetworkReading.{row_at, number_in, sign_at, service_in, few_rows};
 
-use crate::live_parts::{NetFault, Why};
+use crate::live_parts::NetFault;
 use case_text::{Field, RawCase};
+use record_reading::Why;
 use scaled_decimal::{Sign, read, sign_of};
 
 /// The fault of a cell.

@@ -2,16 +2,17 @@
 
 ghost use Rattle.std.specs.Prelude.{◌≡◌, ◌≢◌, ℕ, ◌≤◌, ◌<◌, [], length, map, All, IfOk, IfSome, Err};
 ghost use Rattle.market_data.specs.Participants.{most_units};
-ghost use Rattle.net_case.specs.Gathering.{gather};
+ghost use Rattle.record_reading.specs.Rows.{gather};
 ghost use Rattle.net_case.specs.Networks.{IsNetUnit, AreRows, ArePlaces};
 ghost use Rattle.net_case.specs.NetworkReading.{row_at, bounds_in, unit_where, unit_row};
 
 use crate::bus_rows::standing;
 use crate::cells::{in_service, number};
-use crate::live_parts::{NetFault, NetUnit, Places, known_at, push_some};
+use crate::live_parts::{NetFault, NetUnit, Places, known_at};
 use case_text::{Field, RawCase};
 use market_data::MW_PLACES;
 use plain_list::List;
+use record_reading::push_some;
 use std::alloc::Global;
 
 /// The bounds of a live unit.

@@ -10,7 +10,5 @@ mod live_parts;
 mod network_reading;
 
 pub use branch_reactances::{Reactances, reactances};
-pub use live_parts::{
-    Branches, NetBranch, NetBus, NetFault, NetUnit, Network, PostRating, Why, push_some,
-};
+pub use live_parts::{Branches, NetBranch, NetBus, NetFault, NetUnit, Network, PostRating};
 pub use network_reading::network;

@@ -1,16 +1,15 @@
 //! The live buses, units and branches of a case.
 
-ghost use Rattle.std.specs.Prelude.{◌≡◌, ◌≢◌, ℕ, ◌<◌, ◌≤◌, pos, ◌≤ℤ◌, ◌==◌, ◌++◌, length, map, AllPairs, IfOk, MatchOption, MatchResult};
+ghost use Rattle.std.specs.Prelude.{◌≡◌, ◌≢◌, ℕ, ◌<◌, ◌≤◌, pos, ◌≤ℤ◌, ◌==◌, length, map, AllPairs, IfOk, MatchOption};
 ghost use Rattle.std.specs.Map.{lookup};
-ghost use Rattle.net_case.specs.Gathering.{listed};
-ghost use Rattle.net_case.specs.Networks.{place_of, most_branches};
-ghost use Rattle.net_case.specs.NetworkReading.{standing_at};
+ghost use Rattle.net_case.specs.Networks.{place_of, most_branches, IsNetUnit, IsNetwork, AreUnits, has_bus, bus_place, branch_place};
+ghost use Rattle.net_case.specs.NetworkReading.{standing_at, unit_within, unit_list_of};
 
 use case_text::Field;
 use indexmap::IndexMap;
 use market_data::{Unit, UnitList};
 use plain_list::{List, Memory};
-use scaled_decimal::DecimalFault;
+use record_reading::Why;
 use std::alloc::Global;
 use std::marker::Model;
 use thiserror::Error;
@@ -26,14 +25,6 @@ const MOST_NUMBER: i64 = 2147483647;
 
 /// The most rows of the branch matrix.
 const MOST_BRANCHES: i64 = 2000;
-
-/// Why a cell has no number that is wanted there.
-#[derive(Clone, Copy, Debug, PartialEq, Eq)]
-pub enum Why {
-    Decimal(DecimalFault),
-    /// The number is outside the bounds of its column.
-    Bounds,
-}
 
 /// Why a case is no network. Rows and columns are counted from 1.
 #[derive(Clone, Copy, Debug, PartialEq, Eq, Error)]
@@ -97,16 +88,6 @@ pub enum Branches {
     /// They are not even counted, and the network has no branches.
     Skip,
     Read(PostRating),
-}
-
-/// Adds an item at the end, where there is one.
-pub fn push_some<T: Drop>(list: &mut List<T>, item: Option<T>) -> Result<(), Memory>
-    ensures { MatchResult result (λ _. list.new ≡ list.old ++ listed item) (λ _. list.new ≡ list.old) }
-{
-    match item {
-        Some(item) => list.push(item),
-        None => Ok(()),
-    }
 }
 
 /// A live unit with the bounds of its output, in 10^-9 MW.
@@ -225,8 +206,6 @@ impl Model for Network {
 }
 
 ghost use Rattle.market_data.specs.Participants.{IsDatum, IsUnit};
-ghost use Rattle.net_case.specs.Networks.{IsNetUnit, IsNetwork, AreUnits, has_bus, bus_place, branch_place};
-ghost use Rattle.net_case.specs.NetworkReading.{unit_within, unit_list_of};
 
 /// The unit with its fixed part, the output nearest 0, and its room above and below that.
 #[tactic(auto, unfolding(crate::specs::NetworkReading::unit_within))]

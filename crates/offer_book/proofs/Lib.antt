@@ -1,4 +1,3 @@
-pub mod OfferLemmas
 pub mod RoomLemmas
 pub mod StairLemmas
 pub mod SearchLemmas

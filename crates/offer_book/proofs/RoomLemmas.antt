@@ -5,8 +5,10 @@ use Rattle.std.specs.Int.Signed.{lt_z, lt_z_no}
 use Rattle.std.proofs.Common.{arith, sym, ap, ◌∙◌, subst, append-nil}
 use Rattle.std.proofs.lemmas.Int.{ints}
 use Rattle.std.proofs.lemmas.List.Quantifiers.{position-Some}
-use Rattle.csv_table.specs.Table.{Record, and_then, or_as, frame_of, table_of}
-use Rattle.net_case.specs.Gathering.{listed, gather}
+use Rattle.record_reading.specs.Records.{Record}
+use Rattle.record_reading.specs.Steps.{and_then}
+use Rattle.record_reading.proofs.StepLemmas.{ok-same, some-ok, then-ok}
+use Rattle.record_reading.specs.Rows.{listed, gather}
 use Rattle.market_data.specs.declared.participants.Unit as unit
 use Rattle.market_data.specs.declared.participants.UnitList.{UnitList}
 use Rattle.market_model.specs.declared.participants.Block.{Block}
@@ -19,17 +21,10 @@ use Rattle.offer_book.specs.declared.offer_table.Offer.{Offer}
 use Rattle.offer_book.specs.declared.offer_table.OfferFault.{OfferFault}
 use Rattle.offer_book.specs.declared.offer_table.OfferFault.TheVariants as fault
 use Rattle.offer_book.specs.Offers.{HasSides}
-use Rattle.offer_book.specs.OfferTable.{offer_in, row_in, block_after, block_where, block_in, some_block, unit_of_place, follows, last_price, header, fault_of, blocks_of_table}
-
-ok_same : {A F : Type 0} (x y : A) → ◌≡◌ {A = Result A F} (Ok x) (Ok y) → x ≡ y
-ok_same x y e = Prim.cc
+use Rattle.offer_book.specs.OfferTable.{offer_in, row_in, block_after, block_where, block_in, unit_of_place, follows, last_price}
 
 not_less : (a b : ℤ) → lt_z a b ≡ false → b ≤ℤ a
 not_less a b e = lt_z_no {a = a} {b = b} (Prim.rw e tt)
-
-then_ok : {A B F : Type 0} (x : Result A F) (f : A → Result B F) (y : B) → and_then x f ≡ Ok y → (a : A) × (x ≡ Ok a) × (f a ≡ Ok y)
-then_ok (Ok a) f y e = (a, refl, e)
-then_ok (Err e') f y e = absurd Prim.cc
 
 -- a block that is taken is of its unit and side, and has room behind the stair
 pub record IsTaken (u : unit.Unit) (stair : List Block) (place : ℕ) (s : Side) (block : Block) : Type 0 where
@@ -51,14 +46,10 @@ taken u stair place line offer block e = by (lt_z offer.quantity (pos 0)) (not (
     by false true c is h = absurd Prim.cc
     by false false true is h = absurd Prim.cc
     by false false false is h =
-        let same : (record { unit = place; side = offer.side; quantity = offer.quantity; price = offer.price }) ≡ block = ok_same _ block h in
+        let same : (record { unit = place; side = offer.side; quantity = offer.quantity; price = offer.price }) ≡ block = ok-same _ block h in
         subst (IsTaken u stair place offer.side) same (record { unit = refl; side = refl; room = not_less (room_of offer.side u) (offered stair +ℤ offer.quantity) (sym is) })
 
 -- ---- a record more
-some_ok : (r : Result Block OfferFault) (o : Option Block) → some_block r ≡ Ok o → (block : Block) × (r ≡ Ok block) × (o ≡ Some block)
-some_ok (Ok b) o e = (b, refl, sym (ok_same (Some b) o e))
-some_ok (Err f) o e = absurd Prim.cc
-
 room-more : (units : List unit.Unit) (blocks : List Block) (place line : ℕ) (offer : Offer) (block : Block) → place < length units
     → block_after (unit_of_place units place) (stair_in place offer.side blocks) place line offer ≡ Ok block → HaveRoom units blocks → HaveRoom units (blocks ++ block ∷ [])
 room-more units blocks place line offer block inside e room other d h side = by (is_on_stair other side block) refl
@@ -90,24 +81,24 @@ room-more units blocks place line offer block inside e room other d h side = by 
 room-where : (units : List unit.Unit) (blocks : List Block) (line : ℕ) (offer : Offer) (place : Option ℕ) (o : Option Block) → ((p : ℕ) → place ≡ Some p → p < length units)
     → block_where units blocks line offer place ≡ Ok o → HaveRoom units blocks → HaveRoom units (blocks ++ listed o)
 room-where units blocks line offer None o inside e room =
-    subst (λ (x : Option Block). HaveRoom units (blocks ++ listed x)) (ok_same None o e) (subst (HaveRoom units) (sym (append-nil blocks)) room)
+    subst (λ (x : Option Block). HaveRoom units (blocks ++ listed x)) (ok-same None o e) (subst (HaveRoom units) (sym (append-nil blocks)) room)
 room-where units blocks line offer (Some place) o inside e room =
-    let s = some_ok (block_after (unit_of_place units place) (stair_in place offer.side blocks) place line offer) o e in
+    let s = some-ok (block_after (unit_of_place units place) (stair_in place offer.side blocks) place line offer) o e in
     subst (λ (x : Option Block). HaveRoom units (blocks ++ listed x)) (sym s.2) (room-more units blocks place line offer s.0 (inside place refl) s.1 room)
 
 room-record : (list : UnitList) (blocks : List Block) (line : ℕ) (r : Record) (o : Option Block) → block_in list blocks line r ≡ Ok o → HaveRoom list.units blocks → HaveRoom list.units (blocks ++ listed o)
 unfolding block_in
 room-record list blocks line r o e room =
-    let first = then_ok (offer_in line r) (λ offer. and_then (row_in list.rows line offer.unit) (λ row. block_where list.units blocks line offer (position (λ u. u.row == row) list.units))) o e in
-    let second = then_ok (row_in list.rows line first.0.unit) (λ row. block_where list.units blocks line first.0 (position (λ u. u.row == row) list.units)) o first.2 in
+    let first = then-ok (offer_in line r) (λ offer. and_then (row_in list.rows line offer.unit) (λ row. block_where list.units blocks line offer (position (λ u. u.row == row) list.units))) o e in
+    let second = then-ok (row_in list.rows line first.0.unit) (λ row. block_where list.units blocks line first.0 (position (λ u. u.row == row) list.units)) o first.2 in
     room-where list.units blocks line first.0 (position (λ u. u.row == second.0) list.units) o
     (λ p is. let found = position-Some (λ u. u.row == second.0) list.units p (record { row = 0; bus = 0; fixed = pos 0; up = pos 0; down = pos 0 }) is in found.0) second.2 room
 
 pub room-rows : (list : UnitList) (done : List Block) (line : ℕ) (rows : List Record) (all : List Block) → gather (block_in list) done line rows ≡ Ok all → HaveRoom list.units done → HaveRoom list.units all
 unfolding gather
-room-rows list done line [] all e room = subst (HaveRoom list.units) (ok_same done all e) room
+room-rows list done line [] all e room = subst (HaveRoom list.units) (ok-same done all e) room
 room-rows list done line (r ∷ rows) all e room =
-    let t = then_ok (block_in list done line r) (λ x. gather (block_in list) (done ++ listed x) (line + 1) rows) all e in
+    let t = then-ok (block_in list done line r) (λ x. gather (block_in list) (done ++ listed x) (line + 1) rows) all e in
     room-rows list (done ++ listed t.0) (line + 1) rows all t.2 (room-record list done line r t.0 t.1 room)
 
 -- ---- the whole table, where units have a room of at least 0
@@ -118,9 +109,3 @@ room-none units sides place d h side = by side (sides place d h)
     by : (s : Side) → HasSides (slice_index_or units place d) → pos 0 ≤ℤ room_of s (slice_index_or units place d)
     by Sell r = r.up
     by Buy r = r.down
-
-pub room-table : (list : UnitList) (bytes : List ℕ) (all : List Block) → blocks_of_table list bytes ≡ Ok all → All HasSides list.units → HaveRoom list.units all
-unfolding blocks_of_table
-room-table list bytes all e sides =
-    let t = then_ok (or_as fault_of (frame_of header (Some 4000) (table_of bytes))) (gather (block_in list) [] 2) all e in
-    room-rows list [] 2 t.0 all t.2 (room-none list.units sides)

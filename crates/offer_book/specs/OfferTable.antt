@@ -9,20 +9,27 @@ use Rattle.market_model.specs.declared.participants.Block.{Block}
 use Rattle.market_model.specs.declared.participants.Side.{Side}
 use Rattle.market_model.specs.declared.participants.Side.TheVariants.{Sell, Buy}
 use Rattle.market_model.specs.Stairs.{stair_in, offered, room_of}
-use Rattle.csv_table.specs.Table.{Record, and_then, cell_of, frame_of, number_in, or_as, table_of}
-use Rattle.csv_table.specs.declared.CellFault.{CellFault}
-use Rattle.csv_table.specs.declared.FrameFault.{FrameFault}
-use Rattle.csv_table.specs.declared.FrameFault.TheVariants as frame
-use Rattle.net_case.specs.Gathering.{gather}
-use Rattle.net_case.specs.declared.live_parts.Why.TheVariants as why
+use Rattle.record_reading.specs.Records.{Record, cell_of}
+use Rattle.record_reading.specs.Steps.{and_then, or_as, some_of}
+use Rattle.csv_table.specs.Table.{framed, number_in}
+use Rattle.record_reading.specs.declared.CellFault.{CellFault}
+use Rattle.record_reading.specs.declared.FrameFault.{FrameFault}
+use Rattle.record_reading.specs.declared.FrameFault.TheVariants as frame
+use Rattle.record_reading.specs.Rows.{gather}
 use Rattle.offer_book.specs.declared.offer_table.Offer.{Offer}
 use Rattle.offer_book.specs.declared.offer_table.Stair.{Stair}
 use Rattle.offer_book.specs.declared.offer_table.OfferFault.{OfferFault}
 use Rattle.offer_book.specs.declared.offer_table.OfferFault.TheVariants as fault
 
--- the fault of a cell without a number
+-- ---- the faults of a table as a whole and of a cell
+abbrev pub frame_fault : FrameFault → OfferFault
+frame_fault frame.Header = fault.Header
+frame_fault (frame.Width line) = fault.Width line
+frame_fault (frame.TooMany count) = fault.TooMany count
+frame_fault frame.Memory = fault.Memory
+
 abbrev pub cell_fault : CellFault → OfferFault
-cell_fault f = fault.Cell f.line f.col (why.Decimal f.why)
+cell_fault f = fault.Cell f.line f.col f.why
 
 -- the number in a cell, in units of so many places
 abbrev pub number : ℕ → Record → ℕ → ℕ → Result ℤ OfferFault
@@ -68,14 +75,10 @@ block_after u stair place line offer =
 unfoldable pub row_in : ℕ → ℕ → ℤ → Result ℕ OfferFault
 row_in rows line number = if lt_z number (pos 1) || lt_z (pos rows) number then Err (fault.NoUnit line) else Ok (unsigned_abs number)
 
-abbrev pub some_block : Result Block OfferFault → Result (Option Block) OfferFault
-some_block (Ok block) = Ok (Some block)
-some_block (Err f) = Err f
-
 -- the block of an offer whose unit has this place among the live units, and none where it has no place
 abbrev pub block_where : List unit.Unit → List Block → ℕ → Offer → Option ℕ → Result (Option Block) OfferFault
 block_where units blocks line offer None = Ok None
-block_where units blocks line offer (Some place) = some_block (block_after (unit_of_place units place) (stair_in place offer.side blocks) place line offer)
+block_where units blocks line offer (Some place) = some_of (block_after (unit_of_place units place) (stair_in place offer.side blocks) place line offer)
 
 -- the block of a record, after the blocks before it
 unfoldable pub block_in : UnitList → List Block → ℕ → Record → Result (Option Block) OfferFault
@@ -87,12 +90,6 @@ block_in list blocks line r =
 abbrev pub header : Record
 header = codes "unit" ∷ codes "side" ∷ codes "mw" ∷ codes "price" ∷ []
 
-abbrev pub fault_of : FrameFault → OfferFault
-fault_of frame.Header = fault.Header
-fault_of (frame.Width line) = fault.Width line
-fault_of (frame.TooMany count) = fault.TooMany count
-fault_of frame.Memory = fault.Memory
-
 -- the blocks that the bytes stand for, in the order of their records
 unfoldable pub blocks_of_table : UnitList → List ℕ → Result (List Block) OfferFault
-blocks_of_table units bytes = and_then (or_as fault_of (frame_of header (Some 4000) (table_of bytes))) (gather (block_in units) [] 2)
+blocks_of_table units bytes = and_then (framed frame_fault header (Some 4000) bytes) (gather (block_in units) [] 2)

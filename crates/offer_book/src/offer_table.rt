@@ -4,14 +4,14 @@ ghost use Rattle.std.specs.Prelude.{◌≡◌, ◌≢◌, ℕ, ◌+◌, ◌*◌,
 ghost use Rattle.std.specs.List.{position};
 ghost use Rattle.market_data.specs.Participants.{IsDatum, most_units};
 ghost use Rattle.market_model.specs.Market.{IsBlock, HaveRoom, most_blocks};
-ghost use Rattle.net_case.specs.Gathering.{gather, listed};
+ghost use Rattle.record_reading.specs.Rows.{gather, listed};
 ghost use Rattle.market_model.specs.Stairs.{is_on_stair, stair_in, room_of};
-ghost use Rattle.offer_book.specs.OfferTable.{cell_fault, side_in, offer_in, ends_of, follows, block_after, block_where, row_in, block_in, fault_of, blocks_of_table};
+ghost use Rattle.offer_book.specs.OfferTable.{cell_fault, side_in, offer_in, ends_of, follows, block_after, block_where, row_in, block_in, frame_fault, blocks_of_table};
 ghost use Rattle.offer_book.specs.Offers.{AreBlocks, HasSides, MayFollow, OfferIsRead, StairIsBounded};
 
-use csv_table::{CellFault, FrameFault, Table, read_table};
+use csv_table::{Table, read_table};
 use market_model::{Block, List, MW_PLACES, Memory, PRICE_PLACES, Side, Unit, UnitList};
-use net_case::{Why, push_some};
+use record_reading::{CellFault, FrameFault, Why, push_some};
 use std::alloc::Global;
 use thiserror::Error;
 
@@ -44,7 +44,7 @@ pub enum OfferFault {
 }
 
 impl From<FrameFault> for OfferFault {
-    ghost from_gives = { λ frame fault. fault ≡ fault_of frame };
+    ghost from_gives = { λ frame fault. fault ≡ frame_fault frame };
 
     fn from(fault: FrameFault) -> OfferFault {
         match fault {
@@ -63,7 +63,7 @@ impl From<CellFault> for OfferFault {
         OfferFault::Cell {
             line: fault.line,
             col: fault.col,
-            why: Why::Decimal(fault.why),
+            why: fault.why,
         }
     }
 }

@@ -6,8 +6,8 @@ use Rattle.case_text.specs.declared.Field.{Field}
 use Rattle.case_text.specs.declared.Field.TheVariants as field
 use Rattle.case_text.specs.declared.CaseFault.{CaseFault}
 use Rattle.case_text.specs.declared.CaseFault.TheVariants as case_fault
-use Rattle.net_case.specs.declared.live_parts.Why.{Why}
-use Rattle.net_case.specs.declared.live_parts.Why.TheVariants as why
+use Rattle.record_reading.specs.declared.Why.{Why}
+use Rattle.record_reading.specs.declared.Why.TheVariants as why
 use Rattle.net_case.specs.declared.live_parts.NetFault.{NetFault}
 use Rattle.net_case.specs.declared.live_parts.NetFault.TheVariants as net_fault
 use Rattle.factor_tables.specs.declared.table_fault.TableFault.{TableFault}

@@ -5,11 +5,12 @@ ghost use Rattle.refusal_text.specs.Refusals.{field_name, why_name, case_words, 
 
 use case_text::{CaseFault, Field};
 use factor_tables::TableFault;
-use net_case::{NetFault, Why};
+use line_text::Text;
+use net_case::NetFault;
 use offer_book::OfferFault;
 use outage_list::OutageFault;
 use plain_list::{List, Memory};
-use report_text::Text;
+use record_reading::Why;
 use scaled_decimal::DecimalFault;
 use std::alloc::Global;
 

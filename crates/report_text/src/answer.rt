@@ -7,8 +7,8 @@ ghost use Rattle.report_text.specs.Reports.{lines_of_buses, lines_of_blocks, lin
 ghost use Rattle.market_model.specs.Valued.{price_at, unit_pay_at, load_at, answer_at};
 ghost use Rattle.market_model.specs.Fitting.{FitsMarket};
 
-use crate::text::Text;
 use exact_fraction::Exact;
+use line_text::Text;
 use market_model::{
     Answer, Block, Bus, Load, MONEY_PLACES, MW_PLACES, Market, Memory, PRICE_PLACES, Price, Side,
     UnitPay,

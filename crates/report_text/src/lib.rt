@@ -4,10 +4,8 @@
 mod answer;
 pub mod laws;
 mod outcome;
-mod text;
 
 pub use outcome::report;
-pub use text::Text;
 
 #[cfg(test)]
 mod tests;

@@ -7,8 +7,8 @@ ghost use Rattle.report_text.specs.Reports.{outage_text, limit_text, bound_text,
 ghost use Rattle.market_model.specs.Valued.{dual_at, farkas_at, passed_at, outcome_at};
 
 use crate::answer::cleared;
-use crate::text::Text;
 use exact_fraction::{Exact, Op, Passed};
+use line_text::Text;
 use market_model::{Dual, Farkas, List, MW_PLACES, Market, Memory, Outcome};
 use std::alloc::Global;
 

@@ -1,12 +1,8 @@
 -- The lines that tell residuals.
-use Rattle.std.specs.Prelude.{ℕ, ◌+◌, ◌/◌, ◌%◌, ◌^◌, ℤ, unsigned_abs, List, ◌++◌, codes, decimal, Option, Some, None}
-use Rattle.exact_fraction.specs.Written.{sign_text, trimmed_places}
+use Rattle.std.specs.Prelude.{ℕ, ◌+◌, List, ◌++◌, codes, decimal, Option, Some, None}
+use Rattle.line_text.specs.Decimals.{decimal_text}
 use Rattle.factor_residuals.specs.declared.spots.Spot.{Spot}
 use Rattle.factor_residuals.specs.declared.spots.Residual.{Residual}
-
--- a whole number of units, of which 10 ^ places are a whole, as a decimal without zeros at its end
-unfoldable pub decimal_text : ℕ → ℤ → List ℕ
-decimal_text places n = sign_text n ++ decimal (unsigned_abs n / 10 ^ places) ++ trimmed_places places (unsigned_abs n % 10 ^ places)
 
 -- the bus or the loop of a residual, and the bus or the outage of its column
 unfoldable pub place_text : Spot → List ℕ

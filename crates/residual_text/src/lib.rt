@@ -1,7 +1,6 @@
 //! The text that tells residuals.
 #![tactic(auto)]
 
-mod decimals;
 mod lines;
 
 pub use lines::residuals_text;

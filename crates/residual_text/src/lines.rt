@@ -1,12 +1,12 @@
 //! The lines of residuals.
 
 ghost use Rattle.std.specs.Prelude.{◌≡◌, ◌≤◌, ◌++◌, codes, decimal, IfOk};
-ghost use Rattle.residual_text.specs.ResidualLines.{decimal_text, place_text, most_line, over_line, residual_lines, residuals_text};
+ghost use Rattle.line_text.specs.Decimals.{decimal_text};
+ghost use Rattle.residual_text.specs.ResidualLines.{place_text, most_line, over_line, residual_lines, residuals_text};
 
-use crate::decimals::put_decimal;
 use factor_residuals::{Residual, Spot};
+use line_text::Text;
 use plain_list::Memory;
-use report_text::Text;
 use std::alloc::Global;
 
 /// The bus or the loop of a residual, and the bus or the outage of its column.
@@ -28,7 +28,7 @@ fn put_most(text: &mut Text, kind: &[u8], places: u8, spot: &Spot) -> Result<(),
 {
     text.word(kind)?;
     text.word(b" most ")?;
-    put_decimal(text, spot.value, places)?;
+    text.decimal(spot.value, places)?;
     put_place(text, spot)
 }
 
@@ -42,9 +42,9 @@ fn put_over(text: &mut Text, kind: &[u8], places: u8, over: Option<Spot>) -> Res
         None => text.word(b" within\n"),
         Some(spot) => {
             text.word(b" over ")?;
-            put_decimal(text, spot.value, places)?;
+            text.decimal(spot.value, places)?;
             text.word(b" bound ")?;
-            put_decimal(text, spot.bound, places + 1)?;
+            text.decimal(spot.bound, places + 1)?;
             put_place(text, &spot)
         }
     }

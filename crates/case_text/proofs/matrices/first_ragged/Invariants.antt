@@ -1,5 +1,5 @@
 use Rattle.std.proofs.Common.{◌≡◌, ◌+◌, map, drop}
-use Rattle.case_text.specs.Matrices.{first_ragged}
+use Rattle.record_reading.specs.Records.{first_ragged}
 use Rattle.case_text.proofs.matrices.first_ragged.Given as goal
 
 -- no row before this one has another width

@@ -4,7 +4,7 @@ use mir.Val.{to_z, of_z}
 use Rattle.std.proofs.lemmas.Int.{to_z-of_z}
 use Rattle.market_data.proofs.Data.{datum_fits}
 use Rattle.std.proofs.Math.ListN.{length-set}
-use Rattle.csv_table.proofs.RowsLemmas.{read_rows-end, read_rows-fault, read_rows-step}
+use Rattle.record_reading.proofs.RowLemmas.{read_rows-end, read_rows-fault, read_rows-step}
 use Rattle.factor_tables.specs.Tables.{entry_in}
 use Rattle.factor_tables.proofs.FactorLemmas.{factors-none, factors-push}
 use Rattle.factor_tables.proofs.factor_reading.pairs_of.Goals as goal

@@ -1,5 +1,5 @@
 use Rattle.std.proofs.Common.{◌≡◌, ◌+◌, [], drop, length}
-use Rattle.csv_table.specs.Table.{read_rows}
+use Rattle.record_reading.specs.Rows.{read_rows}
 use Rattle.factor_tables.specs.Factors.{AreFactors}
 use Rattle.factor_tables.specs.Tables.{entry_in}
 use Rattle.factor_tables.proofs.factor_reading.pairs_of.Given as goal

@@ -1,7 +1,7 @@
 use Rattle.std.proofs.Common.{rules, arith, ◌≡◌, ◌<◌, ◌≤◌, ◌+◌, ◌++◌, ◌∷◌, ◌∙◌, sym, Err, [], length}
 use Rattle.std.specs.Prelude.{nat_eq}
 use Rattle.indexmap.proofs.CallerLemmas.{insert_entry-new}
-use Rattle.csv_table.proofs.RowsLemmas.{read_rows-end, read_rows-fault, read_rows-step}
+use Rattle.record_reading.proofs.RowLemmas.{read_rows-end, read_rows-fault, read_rows-step}
 use Rattle.factor_tables.specs.Offsets.{offset_entry}
 use Rattle.factor_tables.proofs.FactorLemmas.{is-none}
 use Rattle.factor_tables.proofs.OffsetLemmas.{offsets-push}

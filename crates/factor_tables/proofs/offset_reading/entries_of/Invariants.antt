@@ -1,5 +1,5 @@
 use Rattle.std.proofs.Common.{◌≡◌, ◌+◌, [], drop}
-use Rattle.csv_table.specs.Table.{read_rows}
+use Rattle.record_reading.specs.Rows.{read_rows}
 use Rattle.factor_tables.specs.Offsets.{AreOffsets, offset_entry}
 use Rattle.factor_tables.proofs.offset_reading.entries_of.Given as goal
 

@@ -1,6 +1,6 @@
 use Rattle.std.proofs.Common.{rules, arith, ◌≡◌, ◌<◌, ◌≤◌, ◌+◌, ◌++◌, ◌∷◌, ◌∙◌, sym, ap, Err, [], length, length-append}
-use Rattle.csv_table.specs.Table.{or_as}
-use Rattle.csv_table.proofs.RowsLemmas.{read_rows-end, read_rows-fault, read_rows-step}
+use Rattle.record_reading.specs.Steps.{or_as}
+use Rattle.record_reading.proofs.RowLemmas.{read_rows-end, read_rows-fault, read_rows-step}
 use Rattle.factor_tables.specs.Records.{cell_fault}
 use Rattle.factor_tables.specs.OutageNumbers.{outage_number}
 use Rattle.factor_tables.proofs.outage_numbers.numbers_of.Goals as goal

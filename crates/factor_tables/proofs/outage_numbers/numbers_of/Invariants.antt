@@ -1,5 +1,5 @@
 use Rattle.std.proofs.Common.{◌≡◌, ◌≤◌, ◌+◌, [], drop, length}
-use Rattle.csv_table.specs.Table.{read_rows}
+use Rattle.record_reading.specs.Rows.{read_rows}
 use Rattle.factor_tables.specs.OutageNumbers.{outage_number}
 use Rattle.factor_tables.proofs.outage_numbers.numbers_of.Given as goal
 

@@ -1,5 +1,5 @@
 use Rattle.case_text.specs.declared.Field.TheVariants as field
-use Rattle.net_case.proofs.Gathered.{few_rows-count}
+use Rattle.net_case.proofs.RowLemmas.{few_rows-count}
 use Rattle.net_case.proofs.branch_rows.read_branches.Goals as goal
 
 pub live_branches-requires-clause-all : goal.live_branches-requires-clause-all

@@ -1,8 +1,7 @@
 use Rattle.std.proofs.Common.{rules, arith, ◌≡◌, ◌<◌, ◌≤◌, ◌+◌, ◌-◌, ◌++◌, ◌∷◌, ◌∙◌, sym, ap, Ok, Err, [], length, get_or, refl}
-use Rattle.csv_table.proofs.RowsLemmas.{read_rows-end, read_rows-fault, read_rows-step}
+use Rattle.record_reading.proofs.RowLemmas.{read_rows-end, read_rows-fault, read_rows-step, length-listed}
 use Rattle.net_case.specs.NetworkReading.{bus_row, bus_rows}
 use Rattle.net_case.proofs.BusLemmas.{read-push, keeps-push}
-use Rattle.net_case.proofs.Gathered.{length-listed}
 use Rattle.net_case.proofs.bus_rows.read_buses.Goals as goal
 
 pub loop-row-init : goal.loop-row-init

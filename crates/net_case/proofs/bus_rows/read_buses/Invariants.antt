@@ -1,5 +1,5 @@
 use Rattle.std.proofs.Common.{◌≡◌, ◌+◌, ◌≤◌, List, [], length, drop}
-use Rattle.csv_table.specs.Table.{read_rows}
+use Rattle.record_reading.specs.Rows.{read_rows}
 use Rattle.net_case.specs.declared.bus_rows.BusRow.{BusRow}
 use Rattle.net_case.specs.BusReading.{AreRead, Keeps}
 use Rattle.net_case.specs.NetworkReading.{bus_row}

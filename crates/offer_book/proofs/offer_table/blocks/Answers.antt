@@ -1,24 +1,26 @@
-use Rattle.std.proofs.Common.{rules, ◌≡◌, ◌≢◌, ◌∙◌, sym, ap, Ok, Err, Result, IfOk, All, List, [], ℕ, map, Bor}
+use Rattle.std.proofs.Common.{rules, ◌≡◌, ◌≢◌, ◌∙◌, sym, ap, Some, Ok, Err, Result, IfOk, All, List, [], ℕ, map, Bor}
 use Rattle.market_model.specs.declared.participants.Block.{Block}
 use Rattle.market_model.specs.Market.{HaveRoom}
-use Rattle.net_case.specs.Gathering.{gather}
+use Rattle.record_reading.specs.Rows.{gather}
 use Rattle.offer_book.specs.declared.offer_table.OfferFault.{OfferFault}
 use Rattle.offer_book.specs.declared.offer_table.OfferFault.TheVariants as fault
 use Rattle.offer_book.specs.Offers.{HasSides}
-use Rattle.offer_book.specs.OfferTable.{header, block_in}
-use Rattle.offer_book.proofs.OfferLemmas.{blocks_of_table-fault, blocks_of_table-framed}
+use Rattle.offer_book.specs.OfferTable.{block_in, blocks_of_table, frame_fault, header}
+use Rattle.csv_table.proofs.Framed.{framed-fault, framed-fits}
 use Rattle.offer_book.proofs.RoomLemmas.{room-rows, room-none}
 use Rattle.offer_book.proofs.offer_table.blocks.Goals as goal
 
 pub returns-in-Ok-clause-is : goal.returns-in-Ok-clause-is
+unfolding blocks_of_table
 returns-in-Ok-clause-is c =
     let names : map (λ (name : Bor (List ℕ)). name.now) c.as_slice-5.result.now ≡ header = search rules in
-    λ other. c.blocks_of.ensures.is other ∙ sym (blocks_of_table-framed c.args.units.now c.args.bytes.now _ _ names c.in-Ok.ensures.ok)
+    λ other. c.blocks_of.ensures.is other ∙ sym (framed-fits frame_fault (gather (block_in c.args.units.now) [] 2) (Some 4000) c.args.bytes.now header _ _ names c.in-Ok.ensures.ok)
 
 pub returns-in-Err-clause-is : goal.returns-in-Err-clause-is
+unfolding blocks_of_table
 returns-in-Err-clause-is c =
     let names : map (λ (name : Bor (List ℕ)). name.now) c.as_slice-5.result.now ≡ header = search rules in
-    λ other. rw c.from.ensures (sym (blocks_of_table-fault c.args.units.now c.args.bytes.now _ c.in-Err.fault names c.in-Err.ensures.err (λ m. other (ap Err (c.from.ensures ∙ m)))))
+    λ other. rw c.from.ensures (sym (framed-fault frame_fault (gather (block_in c.args.units.now) [] 2) (Some 4000) c.args.bytes.now header _ c.in-Err.fault names c.in-Err.ensures.err (λ m. other (ap Err (c.from.ensures ∙ m)))))
 
 pub returns-in-Ok-clause-room : goal.returns-in-Ok-clause-room
 returns-in-Ok-clause-room c = λ sides. by c.blocks_of.result (λ fine. c.blocks_of.ensures.is fine) sides

@@ -2,11 +2,11 @@
 
 ghost use Rattle.std.specs.Prelude.{◌≡◌, ◌≤◌, ◌<◌, ◌++◌, ◌^◌, decimal, unsigned_abs, IfOk};
 ghost use Rattle.exact_fraction.specs.Written.{last_digits, trimmed_places, sign_text};
-ghost use Rattle.residual_text.specs.ResidualLines.{decimal_text};
+ghost use Rattle.line_text.specs.Decimals.{decimal_text};
 
+use crate::text::Text;
 use itoa::Buffer;
 use plain_list::Memory;
-use report_text::Text;
 
 /// The last so many digits of a number.
 #[tactic(auto, using(std::proofs::Common::append_assoc))]
@@ -44,17 +44,19 @@ fn put_whole(text: &mut Text, number: u128) -> Result<(), Memory>
     text.word(digits.format(number).as_bytes())
 }
 
-/// A whole number of units, of which `10^places` are a whole.
-#[tactic(auto, using(std::proofs::Common::append_assoc), unfolding(crate::specs::ResidualLines::decimal_text))]
-pub(crate) fn put_decimal(text: &mut Text, number: i128, places: u8) -> Result<(), Memory>
-    requires { places ≤ 25 }
-    ensures { IfOk result (λ _. text.new ≡ text.old ++ decimal_text places number) }
-{
-    let size = number.unsigned_abs();
-    let unit = 10u128.pow(places as u32);
-    if number < 0 {
-        text.word(b"-")?;
+impl Text {
+    /// A whole number of units, of which `10^places` are a whole.
+    #[tactic(auto, using(std::proofs::Common::append_assoc), unfolding(crate::specs::Decimals::decimal_text))]
+    pub fn decimal(&mut self, number: i128, places: u8) -> Result<(), Memory>
+        requires { places ≤ 25 }
+        ensures { IfOk result (λ _. self.new ≡ self.old ++ decimal_text places number) }
+    {
+        let size = number.unsigned_abs();
+        let unit = 10u128.pow(places as u32);
+        if number < 0 {
+            self.word(b"-")?;
+        }
+        put_whole(self, size / unit)?;
+        put_places(self, places, size % unit)
     }
-    put_whole(text, size / unit)?;
-    put_places(text, places, size % unit)
 }

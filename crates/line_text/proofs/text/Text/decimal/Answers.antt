@@ -1,5 +1,5 @@
-use Rattle.residual_text.proofs.DecimalLemmas.{unit_fits, unit_above}
-use Rattle.residual_text.proofs.decimals.put_decimal.Goals as goal
+use Rattle.line_text.proofs.DecimalLemmas.{unit_fits, unit_above}
+use Rattle.line_text.proofs.text.Text.decimal.Goals as goal
 
 pub pow-unit-requires : goal.pow-unit-requires
 pow-unit-requires c = unit_fits c.args.places c.requires

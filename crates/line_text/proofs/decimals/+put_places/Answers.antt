@@ -1,8 +1,8 @@
 use Rattle.std.proofs.Common.{◌≡◌, ◌∙◌, ◌++◌, ◌∷◌, [], ℕ, List, ap, arith, append_assoc}
 use Rattle.std.proofs.lemmas.Result.{IfOk-weaker}
 use Rattle.exact_fraction.specs.Written.{last_digits}
-use Rattle.residual_text.proofs.DecimalLemmas.{trimmed-zero, trimmed-digits}
-use Rattle.residual_text.proofs.decimals.+put_places.Goals as goal
+use Rattle.line_text.proofs.DecimalLemmas.{trimmed-zero, trimmed-digits}
+use Rattle.line_text.proofs.decimals.+put_places.Goals as goal
 
 pub returns-then-number-eq0 : goal.returns-then-number-eq0
 returns-then-number-eq0 fuel c =

@@ -5,7 +5,7 @@ ghost use Rattle.exact_fraction.specs.Written.{written, parts_text};
 
 use exact_fraction::Exact;
 use itoa::Buffer;
-use market_model::Memory;
+use plain_list::Memory;
 use std::alloc::Global;
 use std::marker::Model;
 

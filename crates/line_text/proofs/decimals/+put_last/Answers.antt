@@ -1,8 +1,8 @@
 use Rattle.std.proofs.Common.{◌≡◌, ◌∙◌, ◌++◌, ◌∷◌, [], ℕ, List, ap, arith, append_assoc, ◌-◌, ◌/◌, ◌%◌, ◌+◌}
 use Rattle.std.proofs.lemmas.Result.{IfOk-weaker}
 use Rattle.exact_fraction.specs.Written.{last_digits}
-use Rattle.residual_text.proofs.DecimalLemmas.{last-step}
-use Rattle.residual_text.proofs.decimals.+put_last.Goals as goal
+use Rattle.line_text.proofs.DecimalLemmas.{last-step}
+use Rattle.line_text.proofs.decimals.+put_last.Goals as goal
 
 pub returns : goal.returns
 returns fuel c =

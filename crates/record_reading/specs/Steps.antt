@@ -1,0 +1,17 @@
+-- Steps one after the other, of which the first fault is told.
+use Rattle.std.specs.Prelude.{Option, Some, Result, Ok, Err}
+
+-- the second step on the first one's value, or the first one's fault
+abbrev pub and_then : {A B F : Type 0} → Result A F → (A → Result B F) → Result B F
+and_then (Ok x) f = f x
+and_then (Err e) f = Err e
+
+-- the same with its fault seen as another
+abbrev pub or_as : {A F G : Type 0} → (F → G) → Result A F → Result A G
+or_as f (Ok x) = Ok x
+or_as f (Err e) = Err (f e)
+
+-- the same with its value as one that there is
+abbrev pub some_of : {A F : Type 0} → Result A F → Result (Option A) F
+some_of (Ok x) = Ok (Some x)
+some_of (Err e) = Err e

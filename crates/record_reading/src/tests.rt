@@ -1,0 +1,12 @@
+use crate::push_some;
+use plain_list::List;
+use std::test::Fail;
+
+#[test]
+fn pushes_what_there_is(rt: HostRuntime) -> Result<(), Fail> {
+    let mut list = List::new(rt.alloc());
+    push_some(&mut list, Some(3u32))?;
+    push_some(&mut list, None)?;
+    assert_eq!(rt; list.slice(), [3].as_slice());
+    Ok(())
+}
