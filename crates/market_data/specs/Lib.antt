@@ -1,2 +1,3 @@
 pub mod Participants
+pub mod Scales
 pub mod WholeSums

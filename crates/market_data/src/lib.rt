@@ -5,4 +5,4 @@ mod participants;
 mod scales;
 
 pub use participants::{Bus, Unit, UnitList};
-pub use scales::{MONEY_PLACES, MW_PLACES, PRICE_PLACES};
+pub use scales::{FACTOR_PLACES, MONEY_PLACES, MOST_FACTOR, MW_PLACES, PRICE_PLACES};

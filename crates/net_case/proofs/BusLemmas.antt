@@ -25,8 +25,8 @@ use Rattle.net_case.specs.declared.bus_rows.BusRow.{BusRow}
 use Rattle.net_case.specs.declared.bus_rows.BusRows.{BusRows}
 use Rattle.net_case.specs.BusReading.{IsBusRow, AreRead, Keeps}
 use Rattle.record_reading.specs.Rows.{listed}
-use Rattle.net_case.specs.Networks.{AreBusRows, IsBusNumber, ArePlaces}
-use Rattle.net_case.specs.NetworkReading.{live_buses, next_place, places_from, reference_of, reference_after, standing_at, stands}
+use Rattle.net_case.specs.Networks.{AreBusRows, IsBusNumber, ArePlaces, most_bus_number}
+use Rattle.net_case.specs.NetworkReading.{live_buses, next_place, places_from, reference_of, reference_after, place_of_number, named_place}
 use Rattle.record_reading.proofs.RowLemmas.{All-listed}
 
 live_buses-push : (done : List BusRow) (b : BusRow) → live_buses (done ++ b ∷ []) ≡ live_buses done ++ listed b.live
@@ -203,15 +203,15 @@ places-within buses rows kept = λ i d lt. by (get_or rows i d) (kept.live i d l
     by (n, None) here = tt
     by (n, Some p) here = omega (arith, slice_get_within (map (λ bus. bus.number) buses) p n here, length-map buses (λ (bus : Bus). bus.number))
 
-pub standing_at-within : (buses : ℕ) (places : List (ℕ × Option ℕ)) (n : ℤ) → ArePlaces buses places → IfSome (standing_at places n) (λ place. IfSome place (λ bus. bus < buses))
-unfolding standing_at
-standing_at-within buses places n all = by (le_z (pos 1) n && le_z n (pos 2147483647))
+pub place_of_number-within : (buses : ℕ) (places : List (ℕ × Option ℕ)) (n : ℤ) → ArePlaces buses places → IfSome (place_of_number places n) (λ place. IfSome place (λ bus. bus < buses))
+unfolding place_of_number
+place_of_number-within buses places n all = by (le_z (pos 1) n && le_z n (pos most_bus_number))
   where
     by : (is_number : Bool) → IfSome (if is_number then lookup (λ other. unsigned_abs n == other) places else None) (λ place. IfSome place (λ bus. bus < buses))
     by true = All-lookup (λ (place : Option ℕ). IfSome place (λ bus. bus < buses)) (λ other. unsigned_abs n == other) places all
     by false = tt
 
-pub stands-within : (buses : ℕ) (field : Field) (row : ℕ) (found : Option (Option ℕ)) (place : Option ℕ) → stands field row found ≡ Ok place → IfSome found (λ place. IfSome place (λ bus. bus < buses))
+pub named_place-within : (buses : ℕ) (field : Field) (row : ℕ) (found : Option (Option ℕ)) (place : Option ℕ) → named_place field row found ≡ Ok place → IfSome found (λ place. IfSome place (λ bus. bus < buses))
     → IfSome place (λ bus. bus < buses)
-stands-within buses field row None place is within = cc
-stands-within buses field row (Some p) place is within = let same : p ≡ place = cc in rw (← same) within
+named_place-within buses field row None place is within = cc
+named_place-within buses field row (Some p) place is within = let same : p ≡ place = cc in rw (← same) within

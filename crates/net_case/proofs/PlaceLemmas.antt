@@ -18,8 +18,8 @@ use Rattle.std.specs.Cmp.{nat_eq_equiv}
 use Rattle.std.proofs.lemmas.Bool.{cases_lt}
 use Rattle.std.proofs.Math.Logic.{⊎_elim}
 use Rattle.market_data.specs.declared.participants.Bus.{Bus}
-use Rattle.net_case.specs.Networks.{AreBusRows, IsBusNumber, place_of}
-use Rattle.net_case.specs.NetworkReading.{standing_at}
+use Rattle.net_case.specs.Networks.{AreBusRows, IsBusNumber, place_of, most_bus_number}
+use Rattle.net_case.specs.NetworkReading.{place_of_number}
 
 -- ---- among numbers
 at_first : (numbers : List ℕ) (n p : ℕ) → position_or_len (λ m. m == n) numbers ≡ p → p < length numbers → place_of numbers (pos n) ≡ Some p
@@ -77,27 +77,27 @@ module _ (buses : List Bus) (rows : List (ℕ × Option ℕ)) (kept : AreBusRows
   listed : (k : ℕ) (v : Option ℕ) → Contains rows (k, v) → lookup (λ other. k == other) rows ≡ Some v
   listed k v here = lookup-from_Contains nat_eq_equiv k v rows (IsDistinct-from_AllPairs Decides-eqb keys kept.distinct) here
 
-  in_range : (k : ℕ) → IsBusNumber k → (le_z (pos 1) (pos k) && le_z (pos k) (pos 2147483647)) ≡ true
+  in_range : (k : ℕ) → IsBusNumber k → (le_z (pos 1) (pos k) && le_z (pos k) (pos most_bus_number)) ≡ true
   in_range k within = grind (arith, common_steps)
 
-  standing-listed : (k : ℕ) (v : Option ℕ) → Contains rows (k, v) → standing_at rows (pos k) ≡ Some v
-  unfolding standing_at
-  standing-listed k v here = rw (in_range k (All-contains (λ (row : ℕ × Option ℕ). IsBusNumber row.0) rows (k, v) kept.numbers here), listed k v here) refl
+  place-listed : (k : ℕ) (v : Option ℕ) → Contains rows (k, v) → place_of_number rows (pos k) ≡ Some v
+  unfolding place_of_number
+  place-listed k v here = rw (in_range k (All-contains (λ (row : ℕ × Option ℕ). IsBusNumber row.0) rows (k, v) kept.numbers here), listed k v here) refl
 
-  listed-standing : (k : ℕ) (v : Option ℕ) → standing_at rows (pos k) ≡ Some v → Contains rows (k, v)
-  unfolding standing_at
-  listed-standing k v = by (le_z (pos 1) (pos k) && le_z (pos k) (pos 2147483647))
+  listed-place : (k : ℕ) (v : Option ℕ) → place_of_number rows (pos k) ≡ Some v → Contains rows (k, v)
+  unfolding place_of_number
+  listed-place k v = by (le_z (pos 1) (pos k) && le_z (pos k) (pos most_bus_number))
     where
       by : (t : Bool) → (if t then lookup (λ other. k == other) rows else None) ≡ Some v → Contains rows (k, v)
       by true is = Contains-from_lookup eqb-true k v rows is
       by false is = absurd (cc is)
 
-  below : (k : ℕ) (v : Option ℕ) → standing_at rows (negsuc k) ≡ Some v → ⊥
-  unfolding standing_at
+  below : (k : ℕ) (v : Option ℕ) → place_of_number rows (negsuc k) ≡ Some v → ⊥
+  unfolding place_of_number
   below k v is = cc is
 
-  standing-live : (q : ℕ) (d : Bus) (k : ℕ) → q < length buses → (get_or buses q d).number ≡ k → standing_at rows (pos k) ≡ Some (Some q)
-  standing-live q d k lt is = standing-listed k (Some q) (subst (λ (m : ℕ). Contains rows (m, Some q)) is (kept.all q d lt))
+  place-live : (q : ℕ) (d : Bus) (k : ℕ) → q < length buses → (get_or buses q d).number ≡ k → place_of_number rows (pos k) ≡ Some (Some q)
+  place-live q d k lt is = place-listed k (Some q) (subst (λ (m : ℕ). Contains rows (m, Some q)) is (kept.all q d lt))
 
   pub distinct-numbers : AllPairs (λ a b. a ≢ b) numbers
   distinct-numbers i j d lt within same =
@@ -105,8 +105,8 @@ module _ (buses : List Bus) (rows : List (ℕ × Option ℕ)) (kept : AreBusRows
       let inside : j < length buses = omega (arith, length-map buses (λ (bus : Bus). bus.number)) in
       let first : get_or numbers i d ≡ (get_or buses i b).number = get_or-map (λ (bus : Bus). bus.number) buses i b in
       let second : get_or numbers j d ≡ (get_or buses j b).number = get_or-map (λ (bus : Bus). bus.number) buses j b in
-      let at_i = standing-live i b (get_or numbers i d) (omega arith) (sym first) in
-      let at_j = standing-live j b (get_or numbers i d) inside (sym (same ∙ second)) in
+      let at_i = place-live i b (get_or numbers i d) (omega arith) (sym first) in
+      let at_j = place-live j b (get_or numbers i d) inside (sym (same ∙ second)) in
       let equal : Some (Some i) ≡ Some (Some j) = sym at_i ∙ at_j in
       let places : i ≡ j = cc equal in
       omega arith
@@ -118,39 +118,39 @@ module _ (buses : List Bus) (rows : List (ℕ × Option ℕ)) (kept : AreBusRows
       rw (get_or-map (λ (bus : Bus). bus.number) buses i b)
       (All-contains (λ (row : ℕ × Option ℕ). IsBusNumber row.0) rows ((get_or buses i b).number, Some i) kept.numbers (kept.all i b inside))
 
-  no-live : (k : ℕ) → ((q : ℕ) → standing_at rows (pos k) ≢ Some (Some q)) → place_of numbers (pos k) ≡ None
+  no-live : (k : ℕ) → ((q : ℕ) → place_of_number rows (pos k) ≢ Some (Some q)) → place_of numbers (pos k) ≡ None
   no-live k never = place-none numbers k (λ q lt is.
       let b : Bus = record { number = 0; pd = pos 0; gs = pos 0 } in
-      never q (standing-live q b k (omega (arith, length-map buses (λ (bus : Bus). bus.number))) (sym (get_or-map (λ (bus : Bus). bus.number) buses q b) ∙ is)))
+      never q (place-live q b k (omega (arith, length-map buses (λ (bus : Bus). bus.number))) (sym (get_or-map (λ (bus : Bus). bus.number) buses q b) ∙ is)))
 
   -- what stands at a number is the place of the bus of that number
-  pub some-bus : (n : ℤ) (place : Option ℕ) → standing_at rows n ≡ Some place → place_of numbers n ≡ place
-  some-bus (pos k) (Some q) is = place-some numbers k q distinct-numbers (All-contains (λ (row : ℕ × Option ℕ). IfSome row.1 (λ p. slice_get numbers p ≡ Some row.0)) rows (k, Some q) kept.live (listed-standing k (Some q) is))
+  pub some-bus : (n : ℤ) (place : Option ℕ) → place_of_number rows n ≡ Some place → place_of numbers n ≡ place
+  some-bus (pos k) (Some q) is = place-some numbers k q distinct-numbers (All-contains (λ (row : ℕ × Option ℕ). IfSome row.1 (λ p. slice_get numbers p ≡ Some row.0)) rows (k, Some q) kept.live (listed-place k (Some q) is))
   some-bus (pos k) None is = no-live k (λ q h. cc (is, h))
   some-bus (negsuc k) place is = absurd (below k place is)
 
-  pub no-bus : (n : ℤ) → standing_at rows n ≡ None → place_of numbers n ≡ None
+  pub no-bus : (n : ℤ) → place_of_number rows n ≡ None → place_of numbers n ≡ None
   no-bus (pos k) is = no-live k (λ q h. cc (is, h))
   no-bus (negsuc k) is = refl
 
-  pub known-bus : (n : ℤ) → is_some (place_of keys n) ≡ is_some (standing_at rows n)
-  known-bus (pos k) = by (standing_at rows (pos k)) refl
+  pub noted-bus : (n : ℤ) → is_some (place_of keys n) ≡ is_some (place_of_number rows n)
+  noted-bus (pos k) = by (place_of_number rows (pos k)) refl
     where
-      by : (found : Option (Option ℕ)) → standing_at rows (pos k) ≡ found → is_some (place_of keys (pos k)) ≡ is_some found
+      by : (found : Option (Option ℕ)) → place_of_number rows (pos k) ≡ found → is_some (place_of keys (pos k)) ≡ is_some found
       by None is = ap is_some (place-none keys k (λ i lt at.
           let row : ℕ × Option ℕ = get_or rows i (0, None) in
           let inside : i < length rows = omega (arith, length-map rows (λ (r : ℕ × Option ℕ). r.0)) in
           let key : row.0 ≡ k = sym (get_or-map (λ (r : ℕ × Option ℕ). r.0) rows i (0, None)) ∙ at in
           let here : Contains rows (k, row.1) = subst (λ (m : ℕ). Contains rows (m, row.1)) key (Contains-get_or rows i (0, None) inside) in
-          cc (is, standing-listed k row.1 here)))
+          cc (is, place-listed k row.1 here)))
       by (Some v) is =
-          let here = listed-standing k v is in
+          let here = listed-place k v is in
           let i = here.0 in
           let at : get_or keys i k ≡ k = get_or-map (λ (r : ℕ × Option ℕ). r.0) rows i (k, v) ∙ ap (λ (r : ℕ × Option ℕ). r.0) here.2 in
           let inside : i < length keys = omega (arith, here.1, length-map rows (λ (r : ℕ × Option ℕ). r.0)) in
           ap is_some (place-some keys k i kept.distinct (slice_get-get_or keys i k inside ∙ ap Some at))
-  known-bus (negsuc k) = by (standing_at rows (negsuc k)) refl
+  noted-bus (negsuc k) = by (place_of_number rows (negsuc k)) refl
     where
-      by : (found : Option (Option ℕ)) → standing_at rows (negsuc k) ≡ found → false ≡ is_some found
+      by : (found : Option (Option ℕ)) → place_of_number rows (negsuc k) ≡ found → false ≡ is_some found
       by None is = refl
       by (Some v) is = absurd (below k v is)

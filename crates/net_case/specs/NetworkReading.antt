@@ -26,7 +26,10 @@ use Rattle.net_case.specs.declared.live_parts.Branches.{Branches}
 use Rattle.net_case.specs.declared.live_parts.Branches.TheVariants as branches
 use Rattle.net_case.specs.declared.live_parts.PostRating.{PostRating}
 use Rattle.net_case.specs.declared.live_parts.PostRating.TheVariants as post
-use Rattle.net_case.specs.Networks.{LiveNetwork}
+use Rattle.market_data.specs.Participants.{most_buses, most_units}
+use Rattle.market_data.specs.Scales.{mw_places}
+use Rattle.net_case.specs.Columns.{BR_STATUS, BUS_I, BUS_TYPE, F_BUS, GEN_BUS, GEN_STATUS, GS, PD, PMAX, PMIN, RATE_A, RATE_B, RATE_C, SHIFT, T_BUS}
+use Rattle.net_case.specs.Networks.{LiveNetwork, most_branches, most_bus_number}
 use Rattle.net_case.specs.declared.bus_rows.BusRow.{BusRow}
 
 -- what is read in a cell, or the cell's fault
@@ -42,9 +45,9 @@ row_at rows row = slice_index_or rows (row - 1) []
 abbrev pub cell_in : Record → ℕ → List ℕ
 cell_in r col = slice_index_or r (col - 1) []
 
--- the number in a cell, in units of so many places
+-- the number in a cell, in units of so many decimals
 abbrev pub number_in : Field → ℕ → Record → ℕ → ℕ → Result ℤ NetFault
-number_in f row r col places = in_cell f row col (units_of places (cell_in r col))
+number_in f row r col decimals = in_cell f row col (units_of decimals (cell_in r col))
 
 -- the sign of the number in a row's cell
 abbrev pub sign_at : Field → ℕ → Record → ℕ → Result Sign NetFault
@@ -60,8 +63,8 @@ counted_in row r col most =
 -- the load and the shunt of a live bus
 unfoldable pub demands_in : ℕ → Record → ℕ → Result Bus NetFault
 demands_in row r number =
-    and_then (number_in field.Bus row r 3 9) (λ pd.
-    and_then (number_in field.Bus row r 5 9) (λ gs.
+    and_then (number_in field.Bus row r PD mw_places) (λ pd.
+    and_then (number_in field.Bus row r GS mw_places) (λ gs.
     Ok (record { number = number; pd = pd; gs = gs })))
 
 abbrev pub live_row : ℕ → Bool → Result Bus NetFault → Result BusRow NetFault
@@ -90,9 +93,9 @@ places_from n (b ∷ rows) = (b.number, next_place n b.live) ∷ places_from (n 
 -- a bus row, where the rows before it have these places
 unfoldable pub bus_row_after : Places → ℕ → Record → Result BusRow NetFault
 bus_row_after places row r =
-    and_then (counted_in row r 1 2147483647) (λ number.
+    and_then (counted_in row r BUS_I most_bus_number) (λ number.
     if is_some (lookup (λ other. number == other) places) then Err (fault.BusTwice row)
-    else and_then (counted_in row r 2 4) (row_of_type row r number))
+    else and_then (counted_in row r BUS_TYPE 4) (row_of_type row r number))
 
 abbrev pub bus_row : List BusRow → ℕ → Record → Result BusRow NetFault
 bus_row earlier row r = bus_row_after (places_from 0 earlier) row r
@@ -123,14 +126,14 @@ abbrev pub live_buses : List BusRow → List Bus
 live_buses rows = filter_map (λ b. b.live) rows
 
 -- ---- gen rows
--- what stands at a number among the bus rows; a number is whole, from 1 to 2147483647
-unfoldable pub standing_at : Places → ℤ → Option (Option ℕ)
-standing_at places n = if le_z (pos 1) n && le_z n (pos 2147483647) then lookup (λ other. unsigned_abs n == other) places else None
+-- the bus row of a number, where there is one, by its place among the live buses, where it is live
+unfoldable pub place_of_number : Places → ℤ → Option (Option ℕ)
+place_of_number places n = if le_z (pos 1) n && le_z n (pos most_bus_number) then lookup (λ other. unsigned_abs n == other) places else None
 
 -- the place of a bus that a row names, where some bus row has its number
-abbrev pub stands : Field → ℕ → Option (Option ℕ) → Result (Option ℕ) NetFault
-stands f row None = Err (fault.NoBus f row)
-stands f row (Some place) = Ok place
+abbrev pub named_place : Field → ℕ → Option (Option ℕ) → Result (Option ℕ) NetFault
+named_place f row None = Err (fault.NoBus f row)
+named_place f row (Some place) = Ok place
 
 abbrev pub is_above : Sign → Bool
 is_above sign.Below = false
@@ -144,8 +147,8 @@ service_in f row r col = and_then (sign_at f row r col) (λ s. Ok (is_above s))
 -- a live unit with its bounds
 unfoldable pub bounds_in : ℕ → Record → ℕ → Result NetUnit NetFault
 bounds_in row r bus =
-    and_then (number_in field.Gen row r 9 9) (λ high.
-    and_then (number_in field.Gen row r 10 9) (λ low.
+    and_then (number_in field.Gen row r PMAX mw_places) (λ high.
+    and_then (number_in field.Gen row r PMIN mw_places) (λ low.
     if lt_z high low then Err (fault.MinAboveMax row) else Ok (record { row = row; bus = bus; low = low; high = high })))
 
 -- the unit of a row whose bus has a place among the live buses, where its status is above 0
@@ -156,9 +159,9 @@ unit_where row r (Some bus) true = some_of (bounds_in row r bus)
 
 unfoldable pub unit_row : Places → ℕ → Record → Result (Option NetUnit) NetFault
 unit_row places row r =
-    and_then (number_in field.Gen row r 1 0) (λ n.
-    and_then (stands field.Gen row (standing_at places n)) (λ place.
-    and_then (service_in field.Gen row r 8) (unit_where row r place)))
+    and_then (number_in field.Gen row r GEN_BUS 0) (λ n.
+    and_then (named_place field.Gen row (place_of_number places n)) (λ place.
+    and_then (service_in field.Gen row r GEN_STATUS) (unit_where row r place)))
 
 -- ---- branch rows
 -- infinity without a minus sign, and with one
@@ -180,7 +183,7 @@ unfoldable pub limit_in : ℕ → Record → ℕ → Result (Option ℤ) NetFaul
 limit_in row r col =
     if is_infinite (cell_in r col) then Ok None
     else if is_below_all (cell_in r col) then Err (fault.Cell field.Branch row col why.Bounds)
-    else and_then (number_in field.Branch row r col 9) (limit_of row col)
+    else and_then (number_in field.Branch row r col mw_places) (limit_of row col)
 
 abbrev pub is_off_zero : Sign → Bool
 is_off_zero sign.Below = true
@@ -189,19 +192,19 @@ is_off_zero sign.Above = true
 
 -- whether the phase shift angle is not 0
 unfoldable pub shifted_in : ℕ → Record → Result Bool NetFault
-shifted_in row r = and_then (sign_at field.Branch row r 10) (λ s. Ok (is_off_zero s))
+shifted_in row r = and_then (sign_at field.Branch row r SHIFT) (λ s. Ok (is_off_zero s))
 
 -- the column of the rating that is the limit after an outage: RATE_A, RATE_B or RATE_C
 abbrev pub post_column : PostRating → ℕ
-post_column post.A = 6
-post_column post.B = 7
-post_column post.C = 8
+post_column post.A = RATE_A
+post_column post.B = RATE_B
+post_column post.C = RATE_C
 
 -- a live branch between two buses, with its limits
 unfoldable pub limits_in : PostRating → ℕ → Record → ℕ → ℕ → Result NetBranch NetFault
 limits_in rating row r from to =
     if from == to then Err (fault.SameEnds row)
-    else and_then (limit_in row r 6) (λ base.
+    else and_then (limit_in row r RATE_A) (λ base.
     and_then (limit_in row r (post_column rating)) (λ after.
     and_then (shifted_in row r) (λ shifted.
     Ok (record { row = row; from = from; to = to; base = base; post = after; shifted = shifted }))))
@@ -215,11 +218,11 @@ branch_where rating row r (Some from) (Some to) true = some_of (limits_in rating
 
 unfoldable pub branch_row : PostRating → Places → ℕ → Record → Result (Option NetBranch) NetFault
 branch_row rating places row r =
-    and_then (number_in field.Branch row r 1 0) (λ f_bus.
-    and_then (number_in field.Branch row r 2 0) (λ t_bus.
-    and_then (stands field.Branch row (standing_at places f_bus)) (λ from.
-    and_then (stands field.Branch row (standing_at places t_bus)) (λ to.
-    and_then (service_in field.Branch row r 11) (branch_where rating row r from to)))))
+    and_then (number_in field.Branch row r F_BUS 0) (λ f_bus.
+    and_then (number_in field.Branch row r T_BUS 0) (λ t_bus.
+    and_then (named_place field.Branch row (place_of_number places f_bus)) (λ from.
+    and_then (named_place field.Branch row (place_of_number places t_bus)) (λ to.
+    and_then (service_in field.Branch row r BR_STATUS) (branch_where rating row r from to)))))
 
 -- ---- the case
 -- the number of a matrix's rows, which is at most so many
@@ -229,7 +232,7 @@ few_rows most f rows = if nat_lt most (length rows) then Err (fault.TooMany f (l
 -- branch rows that are skipped are not even counted
 abbrev pub branch_count : Branches → List Record → Result ℕ NetFault
 branch_count branches.Skip rows = Ok 0
-branch_count (branches.Read rating) rows = few_rows 2000 field.Branch rows
+branch_count (branches.Read rating) rows = few_rows most_branches field.Branch rows
 
 abbrev pub branches_in : Branches → Places → List Record → Result (List NetBranch) NetFault
 branches_in branches.Skip places rows = Ok []
@@ -237,8 +240,8 @@ branches_in (branches.Read rating) places rows = gather (λ _. branch_row rating
 
 unfoldable pub network_of : Branches → CaseMatrices → Result LiveNetwork NetFault
 network_of read case =
-    and_then (few_rows 1000 field.Bus case.bus) (λ _.
-    and_then (few_rows 1000 field.Gen case.generators) (λ gen_rows.
+    and_then (few_rows most_buses field.Bus case.bus) (λ _.
+    and_then (few_rows most_units field.Gen case.generators) (λ gen_rows.
     and_then (branch_count read case.branch) (λ branch_rows.
     and_then (bus_rows case.bus) (λ buses.
     and_then (gather (λ _. unit_row (places_from 0 buses.rows)) [] 1 case.generators) (λ units.

@@ -39,8 +39,12 @@ branch_place network n = place_of (map (λ branch. branch.row) network.branches)
 abbrev pub most_branches : ℕ
 most_branches = 2000
 
+-- the greatest BUS_I
+abbrev pub most_bus_number : ℕ
+most_bus_number = 2147483647
+
 abbrev pub IsBusNumber : ℕ → Type 0
-IsBusNumber number = (1 ≤ number) × (number ≤ 2147483647)
+IsBusNumber number = (1 ≤ number) × (number ≤ most_bus_number)
 
 -- a live unit at one of so many buses
 pub record IsNetUnit (buses : ℕ) (unit : NetUnit) : Type 0 where

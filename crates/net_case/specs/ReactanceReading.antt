@@ -5,6 +5,7 @@ use Rattle.record_reading.specs.Records.{Record}
 use Rattle.record_reading.specs.Steps.{and_then}
 use Rattle.case_text.specs.Matrices.{CaseMatrices}
 use Rattle.case_text.specs.declared.Field.TheVariants as field
+use Rattle.net_case.specs.Columns.{BR_X, TAP}
 use Rattle.net_case.specs.Networks.{LiveNetwork}
 use Rattle.net_case.specs.NetworkReading.{number_in, row_at}
 use Rattle.net_case.specs.declared.live_parts.NetBranch.{NetBranch}
@@ -12,10 +13,14 @@ use Rattle.net_case.specs.declared.live_parts.NetFault.{NetFault}
 use Rattle.net_case.specs.declared.live_parts.NetFault.TheVariants as fault
 use Rattle.record_reading.specs.declared.Why.TheVariants as why
 
--- the number in a branch row's cell in units of 9 places, from low to high
+-- the decimals of BR_X and of TAP
+abbrev pub reactance_places : ℕ
+reactance_places = 9
+
+-- the number in a branch row's cell, from low to high
 unfoldable pub bounded_in : ℕ → Record → ℕ → ℤ → ℤ → Result ℤ NetFault
 bounded_in row r col low high =
-    and_then (number_in field.Branch row r col 9) (λ n.
+    and_then (number_in field.Branch row r col reactance_places) (λ n.
     if le_z low n && le_z n high then Ok n else Err (fault.Cell field.Branch row col why.Bounds))
 
 -- a TAP of 0 counts as a ratio of 1
@@ -25,8 +30,8 @@ ratio_of tap = if lt_z (pos 0) tap then tap else pos 1000000000
 -- BR_X from -1000 to 1000, times the ratio of a TAP from 0 to 10
 unfoldable pub reactance_in : ℕ → Record → Result ℤ NetFault
 reactance_in row r =
-    and_then (bounded_in row r 4 (negsuc 999999999999) (pos 1000000000000)) (λ x.
-    and_then (bounded_in row r 9 (pos 0) (pos 10000000000)) (λ tap.
+    and_then (bounded_in row r BR_X (negsuc 999999999999) (pos 1000000000000)) (λ x.
+    and_then (bounded_in row r TAP (pos 0) (pos 10000000000)) (λ tap.
     Ok (x *ℤ ratio_of tap)))
 
 -- the reactance of each branch, in their order

@@ -5,6 +5,7 @@ ghost use Rattle.net_case.specs.NetworkReading.{row_at};
 ghost use Rattle.net_case.specs.ReactanceReading.{bounded_in, ratio_of, reactance_in, reactances_of};
 
 use crate::cells::{cell_fault, number};
+use crate::columns::{BR_X, TAP};
 use crate::live_parts::{NetFault, Network};
 use case_text::{Field, RawCase};
 use plain_list::List;
@@ -14,8 +15,8 @@ use std::alloc::Global;
 /// By live branch, BR_X times the ratio of TAP, in 10^-18.
 pub type Reactances = List<i128>;
 
-/// The places of BR_X and of TAP.
-const PLACES: u8 = 9;
+/// The decimals of BR_X and of TAP.
+const DECIMALS: u8 = 9;
 
 /// The most of BR_X, in its size, and of TAP, in 10^-9.
 const MOST_REACTANCE: i64 = 1_000_000_000_000;
@@ -29,7 +30,7 @@ fn bounded(case: &RawCase<'_>, row: usize, col: usize, low: i64, high: i64) -> R
     ensures range { IfOk result (λ number. (low ≤ℤ number) × (number ≤ℤ high)) }
     ensures is { result ≡ bounded_in row (row_at case.now.branch row) col low high }
 {
-    let number = number(case, Field::Branch, row, col, PLACES)?;
+    let number = number(case, Field::Branch, row, col, DECIMALS)?;
     if low <= number && number <= high {
         Ok(number)
     } else {
@@ -62,8 +63,8 @@ fn reactance(case: &RawCase<'_>, row: usize) -> Result<i128, NetFault>
     ensures size { IfOk result (λ x. unsigned_abs x ≤ 10 ^ 22) }
     ensures is { result ≡ reactance_in row (row_at case.now.branch row) }
 {
-    let x = bounded(case, row, 4, -MOST_REACTANCE, MOST_REACTANCE)?;
-    let tap = bounded(case, row, 9, 0, MOST_TAP)?;
+    let x = bounded(case, row, BR_X, -MOST_REACTANCE, MOST_REACTANCE)?;
+    let tap = bounded(case, row, TAP, 0, MOST_TAP)?;
     Ok(product(x, ratio_of(tap)))
 }
 

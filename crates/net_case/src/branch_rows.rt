@@ -6,18 +6,17 @@ ghost use Rattle.record_reading.specs.Rows.{gather};
 ghost use Rattle.net_case.specs.Networks.{IsNetBranch, IsLimit, AreRows, ArePlaces, most_branches};
 ghost use Rattle.net_case.specs.NetworkReading.{row_at, cell_in, is_infinite, is_below_all, limit_of, limit_in, shifted_in, post_column, limits_in, branch_where, branch_row, branch_count, branches_in};
 
-use crate::bus_rows::standing;
+use crate::bus_rows::named_place;
 use crate::cells::{cell_fault, in_service, number, row_count, sign};
-use crate::live_parts::{Branches, NetBranch, NetFault, Places, PostRating, known_at};
+use crate::columns::{BR_STATUS, F_BUS, RATE_A, RATE_B, RATE_C, SHIFT, T_BUS};
+use crate::limits::MOST_BRANCHES;
+use crate::live_parts::{Branches, NetBranch, NetFault, Places, PostRating, place_of_number};
 use case_text::{Field, RawCase};
 use market_data::MW_PLACES;
 use plain_list::List;
 use record_reading::{Why, push_some};
 use scaled_decimal::Sign;
 use std::alloc::Global;
-
-/// The most rows of the branch matrix.
-const MOST_ROWS: usize = 2000;
 
 /// Whether a cell is infinity, without a minus sign.
 fn is_infinite(cell: &[u8]) -> bool
@@ -76,7 +75,7 @@ fn shifted(case: &RawCase<'_>, row: usize) -> Result<bool, NetFault>
     requires { 1 ≤ row }
     ensures { result ≡ shifted_in row (row_at case.now.branch row) }
 {
-    match sign(case, Field::Branch, row, 10)? {
+    match sign(case, Field::Branch, row, SHIFT)? {
         Sign::Zero => Ok(false),
         Sign::Below | Sign::Above => Ok(true),
     }
@@ -88,9 +87,9 @@ fn post_column(post: PostRating) -> usize
     ensures range { 1 ≤ result }
 {
     match post {
-        PostRating::A => 6,
-        PostRating::B => 7,
-        PostRating::C => 8,
+        PostRating::A => RATE_A,
+        PostRating::B => RATE_B,
+        PostRating::C => RATE_C,
     }
 }
 
@@ -111,7 +110,7 @@ fn live_branch(
     if from == to {
         return Err(NetFault::SameEnds { row: row as usize });
     }
-    let base = limit(case, row as usize, 6)?;
+    let base = limit(case, row as usize, RATE_A)?;
     let post = limit(case, row as usize, post_column(post))?;
     let shifted = shifted(case, row as usize)?;
     Ok(NetBranch {
@@ -160,11 +159,11 @@ fn read_branch(
     ensures row { IfOk result (λ branch. IfSome branch (λ branch. branch.row ≡ row)) }
     ensures is { result ≡ branch_row post places.now.entries row (row_at case.now.branch row) }
 {
-    let f_bus = number(case, Field::Branch, row as usize, 1, 0)?;
-    let t_bus = number(case, Field::Branch, row as usize, 2, 0)?;
-    let from = standing(known_at(places, f_bus), Field::Branch, row as usize)?;
-    let to = standing(known_at(places, t_bus), Field::Branch, row as usize)?;
-    let in_service = in_service(case, Field::Branch, row as usize, 11)?;
+    let f_bus = number(case, Field::Branch, row as usize, F_BUS, 0)?;
+    let t_bus = number(case, Field::Branch, row as usize, T_BUS, 0)?;
+    let from = named_place(place_of_number(places, f_bus), Field::Branch, row as usize)?;
+    let to = named_place(place_of_number(places, t_bus), Field::Branch, row as usize)?;
+    let in_service = in_service(case, Field::Branch, row as usize, BR_STATUS)?;
     branch_at(case, post, row, (from, to), in_service)
 }
 
@@ -198,7 +197,7 @@ pub fn count_branches(case: &RawCase<'_>, branches: Branches) -> Result<usize, N
 {
     match branches {
         Branches::Skip => Ok(0),
-        Branches::Read(_) => row_count(case, Field::Branch, MOST_ROWS),
+        Branches::Read(_) => row_count(case, Field::Branch, MOST_BRANCHES),
     }
 }
 

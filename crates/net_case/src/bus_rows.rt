@@ -4,20 +4,20 @@ ghost use Rattle.std.specs.Prelude.{◌≡◌, ◌≢◌, ◌+◌, ◌≤◌, �
 ghost use Rattle.std.specs.Map.{lookup};
 ghost use Rattle.market_data.specs.Participants.{IsBus};
 ghost use Rattle.record_reading.specs.Rows.{listed};
-ghost use Rattle.net_case.specs.NetworkReading.{row_at, counted_in, demands_in, row_of_type, next_place, reference_after, bus_row_after, bus_rows, standing_at, stands};
+ghost use Rattle.net_case.specs.NetworkReading.{row_at, counted_in, demands_in, row_of_type, next_place, reference_after, bus_row_after, bus_rows, place_of_number, named_place};
+ghost use Rattle.net_case.specs.Networks.{IsBusNumber};
 ghost use Rattle.net_case.specs.BusReading.{IsBusRow, AreRead, AreLive, HoldBusRows};
 
 use crate::cells::{cell_fault, number};
-use crate::live_parts::{NetFault, Places, known};
+use crate::columns::{BUS_I, BUS_TYPE, GS, PD};
+use crate::limits::MOST_BUS_NUMBER;
+use crate::live_parts::{NetFault, Places, noted_place};
 use case_text::{Field, RawCase};
 use indexmap::IndexMap;
 use market_data::{Bus, MW_PLACES};
 use plain_list::List;
 use record_reading::{Why, push_some};
 use std::alloc::Global;
-
-/// The greatest bus number.
-const MOST_NUMBER: u32 = 2147483647;
 
 /// A bus row: its number, whether it is a reference, and the bus where it is live.
 #[derive(Clone, Copy)]
@@ -50,8 +50,8 @@ fn live_bus(case: &RawCase<'_>, row: usize, bus: u32) -> Result<Bus, NetFault>
     ensures number { IfOk result (λ live. live.number ≡ bus) }
     ensures is { result ≡ demands_in row (row_at case.now.bus row) bus }
 {
-    let pd = number(case, Field::Bus, row, 3, MW_PLACES)?;
-    let gs = number(case, Field::Bus, row, 5, MW_PLACES)?;
+    let pd = number(case, Field::Bus, row, PD, MW_PLACES)?;
+    let gs = number(case, Field::Bus, row, GS, MW_PLACES)?;
     Ok(Bus {
         number: bus,
         pd,
@@ -63,7 +63,7 @@ fn live_bus(case: &RawCase<'_>, row: usize, bus: u32) -> Result<Bus, NetFault>
 #[tactic(auto, unfolding(crate::specs::NetworkReading::row_of_type))]
 fn typed_row(case: &RawCase<'_>, row: usize, number: u32, code: u32) -> Result<BusRow, NetFault>
     requires row { 1 ≤ row }
-    requires number { (1 ≤ number) × (number ≤ 2147483647) }
+    requires number { IsBusNumber number }
     ensures bus { IfOk result IsBusRow }
     ensures is { result ≡ row_of_type row (row_at case.now.bus row) number code }
     ensures number { IfOk result (λ bus. bus.number ≡ number) }
@@ -121,11 +121,11 @@ fn read_bus(places: &Places, case: &RawCase<'_>, row: usize) -> Result<BusRow, N
     ensures new { IfOk result (λ bus. lookup (λ other. bus.number == other) places.now.entries ≡ None) }
     ensures is { result ≡ bus_row_after places.now.entries row (row_at case.now.bus row) }
 {
-    let number = counted(case, row, 1, MOST_NUMBER)?;
-    if known(places, number).is_some() {
+    let number = counted(case, row, BUS_I, MOST_BUS_NUMBER)?;
+    if noted_place(places, number).is_some() {
         return Err(NetFault::BusTwice { row });
     }
-    let code = counted(case, row, 2, 4)?;
+    let code = counted(case, row, BUS_TYPE, 4)?;
     typed_row(case, row, number, code)
 }
 
@@ -189,12 +189,12 @@ pub fn read_buses(alloc: Global, case: &RawCase<'_>) -> Result<LiveBuses, NetFau
 }
 
 /// The place of a bus that a row names, where that is live.
-pub fn standing(
+pub fn named_place(
     place: Option<Option<usize>>,
     field: Field,
     row: usize,
 ) -> Result<Option<usize>, NetFault>
-    ensures { result ≡ stands field row place }
+    ensures { result ≡ named_place field row place }
 {
     match place {
         Some(place) => Ok(place),

@@ -23,21 +23,21 @@ pub fn cell_fault(field: Field, row: usize, col: usize, why: Why) -> NetFault
     }
 }
 
-/// The number in a cell, in units of so many places.
+/// The number in a cell, in units of so many decimals.
 pub fn number(
     case: &RawCase<'_>,
     field: Field,
     row: usize,
     col: usize,
-    places: u8,
+    decimals: u8,
 ) -> Result<i64, NetFault>
     requires matrix { IsTrue (is_matrix field) }
     requires place { (1 ≤ row) × (1 ≤ col) }
-    requires places { places ≤ 18 }
+    requires decimals { decimals ≤ 18 }
     ensures datum { IfOk result IsDatum }
-    ensures is { result ≡ number_in field row (row_at (matrix_of case.now field) row) col places }
+    ensures is { result ≡ number_in field row (row_at (matrix_of case.now field) row) col decimals }
 {
-    match read(case.cell(field, row, col), places) {
+    match read(case.cell(field, row, col), decimals) {
         Ok(number) => Ok(number),
         Err(fault) => Err(cell_fault(field, row, col, Why::Decimal(fault))),
     }

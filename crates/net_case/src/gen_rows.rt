@@ -6,9 +6,10 @@ ghost use Rattle.record_reading.specs.Rows.{gather};
 ghost use Rattle.net_case.specs.Networks.{IsNetUnit, AreRows, ArePlaces};
 ghost use Rattle.net_case.specs.NetworkReading.{row_at, bounds_in, unit_where, unit_row};
 
-use crate::bus_rows::standing;
+use crate::bus_rows::named_place;
 use crate::cells::{in_service, number};
-use crate::live_parts::{NetFault, NetUnit, Places, known_at};
+use crate::columns::{GEN_BUS, GEN_STATUS, PMAX, PMIN};
+use crate::live_parts::{NetFault, NetUnit, Places, place_of_number};
 use case_text::{Field, RawCase};
 use market_data::MW_PLACES;
 use plain_list::List;
@@ -23,8 +24,8 @@ fn live_unit(case: &RawCase<'_>, row: u32, bus: usize) -> Result<NetUnit, NetFau
     ensures row { IfOk result (λ unit. unit.row ≡ row) }
     ensures is { result ≡ bounds_in row (row_at case.now.generators row) bus }
 {
-    let high = number(case, Field::Gen, row as usize, 9, MW_PLACES)?;
-    let low = number(case, Field::Gen, row as usize, 10, MW_PLACES)?;
+    let high = number(case, Field::Gen, row as usize, PMAX, MW_PLACES)?;
+    let low = number(case, Field::Gen, row as usize, PMIN, MW_PLACES)?;
     if low > high {
         return Err(NetFault::MinAboveMax { unit: row });
     }
@@ -66,9 +67,9 @@ fn read_unit(case: &RawCase<'_>, places: &Places, row: u32) -> Result<Option<Net
     ensures row { IfOk result (λ unit. IfSome unit (λ unit. unit.row ≡ row)) }
     ensures is { result ≡ unit_row places.now.entries row (row_at case.now.generators row) }
 {
-    let number = number(case, Field::Gen, row as usize, 1, 0)?;
-    let bus = standing(known_at(places, number), Field::Gen, row as usize)?;
-    let in_service = in_service(case, Field::Gen, row as usize, 8)?;
+    let number = number(case, Field::Gen, row as usize, GEN_BUS, 0)?;
+    let bus = named_place(place_of_number(places, number), Field::Gen, row as usize)?;
+    let in_service = in_service(case, Field::Gen, row as usize, GEN_STATUS)?;
     unit_at(case, row, bus, in_service)
 }
 

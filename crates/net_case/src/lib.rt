@@ -5,7 +5,9 @@ mod branch_reactances;
 mod branch_rows;
 mod bus_rows;
 mod cells;
+mod columns;
 mod gen_rows;
+mod limits;
 mod live_parts;
 mod network_reading;
 

@@ -3,8 +3,9 @@
 ghost use Rattle.std.specs.Prelude.{◌≡◌, ◌≢◌, ℕ, ◌<◌, ◌≤◌, pos, ◌≤ℤ◌, ◌==◌, length, map, AllPairs, IfOk, MatchOption};
 ghost use Rattle.std.specs.Map.{lookup};
 ghost use Rattle.net_case.specs.Networks.{place_of, most_branches, IsNetUnit, IsNetwork, AreUnits, has_bus, bus_place, branch_place};
-ghost use Rattle.net_case.specs.NetworkReading.{standing_at, unit_within, unit_list_of};
+ghost use Rattle.net_case.specs.NetworkReading.{place_of_number, unit_within, unit_list_of};
 
+use crate::limits::{MOST_BRANCHES, MOST_BUS_NUMBER};
 use case_text::Field;
 use indexmap::IndexMap;
 use market_data::{Unit, UnitList};
@@ -19,12 +20,6 @@ pub use market_data::Bus as NetBus;
 
 /// The bus rows by number: the place among the live buses, where the bus is not isolated.
 pub type Places = IndexMap<u32, Option<usize>>;
-
-/// The greatest bus number.
-const MOST_NUMBER: i64 = 2147483647;
-
-/// The most rows of the branch matrix.
-const MOST_BRANCHES: i64 = 2000;
 
 /// Why a case is no network. Rows and columns are counted from 1.
 #[derive(Clone, Copy, Debug, PartialEq, Eq, Error)]
@@ -115,20 +110,20 @@ pub struct NetBranch {
     pub shifted: bool,
 }
 
-/// What is known of a number among bus rows.
-pub fn known(places: &Places, number: u32) -> Option<Option<usize>>
+/// The bus row that was noted with this number, where there is one, by its place among the live buses, where it is live.
+pub fn noted_place(places: &Places, number: u32) -> Option<Option<usize>>
     ensures { result ≡ lookup (λ other. number == other) places.now.entries }
 {
     places.get(&number).copied()
 }
 
-/// The same of any number.
-#[tactic(auto, unfolding(crate::specs::NetworkReading::standing_at))]
-pub fn known_at(places: &Places, number: i64) -> Option<Option<usize>>
-    ensures { result ≡ standing_at places.now.entries number }
+/// The same of any whole number.
+#[tactic(auto, unfolding(crate::specs::NetworkReading::place_of_number))]
+pub fn place_of_number(places: &Places, number: i64) -> Option<Option<usize>>
+    ensures { result ≡ place_of_number places.now.entries number }
 {
-    if 1 <= number && number <= MOST_NUMBER {
-        known(places, number as u32)
+    if 1 <= number && number <= i64::from(MOST_BUS_NUMBER) {
+        noted_place(places, number as u32)
     } else {
         None
     }
@@ -138,7 +133,7 @@ pub fn known_at(places: &Places, number: i64) -> Option<Option<usize>>
 fn row_number(row: i64) -> Option<u32>
     ensures { MatchOption result ((m : ℕ) → 1 ≤ m → m ≤ most_branches → row ≢ pos m) (λ m. row ≡ pos m) }
 {
-    if 1 <= row && row <= MOST_BRANCHES {
+    if 1 <= row && row <= MOST_BRANCHES as i64 {
         Some(row as u32)
     } else {
         None
@@ -284,14 +279,14 @@ impl Network {
     pub fn has_bus(&self, number: i64) -> bool
         ensures { result ≡ has_bus self.now number }
     {
-        known_at(&self.places, number).is_some()
+        place_of_number(&self.places, number).is_some()
     }
 
     /// The place of the live bus of this number.
     pub fn bus_place(&self, number: i64) -> Option<usize>
         ensures { result ≡ bus_place self.now number }
     {
-        match known_at(&self.places, number) {
+        match place_of_number(&self.places, number) {
             Some(place) => place,
             None => None,
         }

@@ -8,12 +8,10 @@ use crate::branch_rows::{count_branches, read_branches};
 use crate::bus_rows::read_buses;
 use crate::cells::row_count;
 use crate::gen_rows::read_units;
+use crate::limits::{MOST_BUSES, MOST_UNITS};
 use crate::live_parts::{Branches, NetFault, Network};
 use case_text::{Field, RawCase};
 use std::alloc::Global;
-
-/// The most rows of the bus and of the gen matrix.
-const MOST_ROWS: usize = 1000;
 
 /// The network of a case.
 #[tactic(auto, unfolding(crate::specs::NetworkReading::network_of))]
@@ -21,8 +19,8 @@ pub fn network(alloc: Global, case: &RawCase<'_>, branches: Branches) -> Result<
     ensures network { IfOk result IsNetwork }
     ensures is { result ≢ Err NetFault.Memory → result ≡ network_of branches case.now }
 {
-    row_count(case, Field::Bus, MOST_ROWS)?;
-    let gen_rows = row_count(case, Field::Gen, MOST_ROWS)?;
+    row_count(case, Field::Bus, MOST_BUSES)?;
+    let gen_rows = row_count(case, Field::Gen, MOST_UNITS)?;
     let branch_rows = count_branches(case, branches)?;
     let rows = read_buses(alloc, case)?;
     let units = read_units(alloc, case, &rows.places, gen_rows)?;

@@ -1,4 +1,5 @@
 use Rattle.std.proofs.Common.{rules, ◌≡◌, ◌≢◌, ◌∙◌, sym, ap, length, arith, refl, Ok, Err, []}
+use Rattle.market_data.specs.Participants.{most_buses, most_units}
 use Rattle.record_reading.specs.Rows.{gather}
 use Rattle.net_case.specs.NetworkReading.{few_rows, network_of, branch_count, branches_in, unit_row}
 use Rattle.net_case.specs.declared.live_parts.NetFault.TheVariants as fault
@@ -52,8 +53,8 @@ returns-clause-network c =
 pub returns-clause-is : goal.returns-clause-is
 unfolding network_of
 returns-clause-is c =
-    let buses : few_rows 1000 field.Bus c.args.case.now.bus ≡ Ok c.in_ok-row_count.field-0 = sym c.row_count.ensures.is ∙ c.in_ok-row_count.was in
-    let rows : few_rows 1000 field.Gen c.args.case.now.generators ≡ Ok c.in_ok-gen_rows.gen_rows = sym c.row_count-2.ensures.is ∙ c.in_ok-gen_rows.was in
+    let buses : few_rows most_buses field.Bus c.args.case.now.bus ≡ Ok c.in_ok-row_count.field-0 = sym c.row_count.ensures.is ∙ c.in_ok-row_count.was in
+    let rows : few_rows most_units field.Gen c.args.case.now.generators ≡ Ok c.in_ok-gen_rows.gen_rows = sym c.row_count-2.ensures.is ∙ c.in_ok-gen_rows.was in
     let counted : branch_count c.args.branches c.args.case.now.branch ≡ Ok c.in_ok-branch_rows.branch_rows = sym c.count_branches.ensures.is ∙ c.in_ok-branch_rows.was in
     let held = c.in_ok-rows.ensures.is in
     let done : c.read_units.result ≢ Err fault.Memory = λ h. cc (h, c.in_ok-units.was) in
@@ -65,8 +66,8 @@ returns-clause-is c =
 pub returns-in_err-units-clause-is : goal.returns-in_err-units-clause-is
 unfolding network_of
 returns-in_err-units-clause-is c =
-    let buses : few_rows 1000 field.Bus c.args.case.now.bus ≡ Ok c.in_ok-row_count.field-0 = sym c.row_count.ensures.is ∙ c.in_ok-row_count.was in
-    let rows : few_rows 1000 field.Gen c.args.case.now.generators ≡ Ok c.in_ok-gen_rows.gen_rows = sym c.row_count-2.ensures.is ∙ c.in_ok-gen_rows.was in
+    let buses : few_rows most_buses field.Bus c.args.case.now.bus ≡ Ok c.in_ok-row_count.field-0 = sym c.row_count.ensures.is ∙ c.in_ok-row_count.was in
+    let rows : few_rows most_units field.Gen c.args.case.now.generators ≡ Ok c.in_ok-gen_rows.gen_rows = sym c.row_count-2.ensures.is ∙ c.in_ok-gen_rows.was in
     let counted : branch_count c.args.branches c.args.case.now.branch ≡ Ok c.in_ok-branch_rows.branch_rows = sym c.count_branches.ensures.is ∙ c.in_ok-branch_rows.was in
     let held = c.in_ok-rows.ensures.is in
     let given : c.from_residual-in_err-units.result ≡ Err c.in_err-units.field-0.0 = search rules in
@@ -78,8 +79,8 @@ returns-in_err-units-clause-is c =
 pub returns-in_err-branches-clause-is : goal.returns-in_err-branches-clause-is
 unfolding network_of
 returns-in_err-branches-clause-is c =
-    let buses : few_rows 1000 field.Bus c.args.case.now.bus ≡ Ok c.in_ok-row_count.field-0 = sym c.row_count.ensures.is ∙ c.in_ok-row_count.was in
-    let rows : few_rows 1000 field.Gen c.args.case.now.generators ≡ Ok c.in_ok-gen_rows.gen_rows = sym c.row_count-2.ensures.is ∙ c.in_ok-gen_rows.was in
+    let buses : few_rows most_buses field.Bus c.args.case.now.bus ≡ Ok c.in_ok-row_count.field-0 = sym c.row_count.ensures.is ∙ c.in_ok-row_count.was in
+    let rows : few_rows most_units field.Gen c.args.case.now.generators ≡ Ok c.in_ok-gen_rows.gen_rows = sym c.row_count-2.ensures.is ∙ c.in_ok-gen_rows.was in
     let counted : branch_count c.args.branches c.args.case.now.branch ≡ Ok c.in_ok-branch_rows.branch_rows = sym c.count_branches.ensures.is ∙ c.in_ok-branch_rows.was in
     let held = c.in_ok-rows.ensures.is in
     let done : c.read_units.result ≢ Err fault.Memory = λ h. cc (h, c.in_ok-units.was) in
