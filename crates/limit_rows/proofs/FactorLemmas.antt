@@ -10,13 +10,12 @@ use Rattle.fraction_theory.proofs.Ring.{by_ring, at, padd, pmul}
 use Rattle.fraction_theory.proofs.IntegerLaws.{ring_ℤ}
 use Rattle.fraction_theory.proofs.FractionLaws.{Is, same_value, over_is, plus_is, times_is}
 use Rattle.fraction_theory.proofs.FieldLaws.{over-same, widen, +ℚ_nil}
-use Rattle.market_model.specs.declared.answered.RowId.{RowId}
 use Rattle.market_model.specs.declared.participants.Factor.{Factor}
 use Rattle.market_model.specs.declared.participants.Line.{Line}
 use Rattle.market_model.specs.declared.participants.Parts.{Parts}
 use Rattle.market_model.specs.Dispatch.{places, line_at}
 use Rattle.market_model.specs.Factors.{factor_in, is_pair}
-use Rattle.market_model.specs.LimitRows.{Cause, Base, After, Row, place_of_line, rows, rows_after, base_rows, has_base, has_post, outage_of, row_id, row_factor}
+use Rattle.market_model.specs.LimitRows.{Cause, Base, After, Row, place_of_line, rows, rows_after, base_rows, has_base, has_post, row_factor}
 use Rattle.market_model.specs.Market.{IsMarket, IsFactor}
 use Rattle.limit_rows.proofs.GroupLemmas.{length-map, place_at, place-own, row_at}
 
@@ -65,7 +64,7 @@ module _ (m : Parts) (market : IsMarket m) where
       let inside : k < length m.lines = Prim.omega (arith, h, length-range_with_len 0 (length m.lines)) in
       record { line = subst (λ (l : ℕ). l < length m.lines) (sym (place_at (length m.lines) k d inside)) inside; lost = lost }))
 
-  outage_stands : (i : ℕ) (d : ℕ) → i < length m.outages → IsLost m (After (place_of_line m (get_or m.outages i d)))
+  pub outage_stands : (i : ℕ) (d : ℕ) → i < length m.outages → IsLost m (After (place_of_line m (get_or m.outages i d)))
   outage_stands i d h = by (market.outages i d h)
     where
       by : {row : ℕ} → Contains (map (λ line. line.row) m.lines) row → (place_of_line m row < length m.lines) × (1 ≤ (line_at m (place_of_line m row)).row)
@@ -86,50 +85,8 @@ module _ (m : Parts) (market : IsMarket m) where
       (lines_stand Base (has_base m) tt)
       (all_flat (λ row. rows_after m (place_of_line m row)) m.outages (λ i d h. lines_stand (After (place_of_line m (get_or m.outages i d))) (has_post m (place_of_line m (get_or m.outages i d))) (outage_stands i d h)))
 
-  stands : (r : Row) → Contains (rows m) r → Stands m r
+  pub stands : (r : Row) → Contains (rows m) r → Stands m r
   stands r (k, lt, e) = subst (Stands m) e (rows_stand k r lt)
-
-  -- ---- a row by its name
-  module _ (name : RowId) (r : Row) (is_row : Contains (rows m) r) (named : row_id m r ≡ name) where
-    line_is : place_of_line m name.branch ≡ r.line
-    line_is = ap (λ (n : RowId). place_of_line m n.branch) (sym named) ∙ place-own m market r.line (stands r is_row).line
-
-    pub line_inside : place_of_line m name.branch < length m.lines
-    line_inside = subst (λ (l : ℕ). l < length m.lines) (sym line_is) (stands r is_row).line
-
-    outage_is : outage_of m r.cause ≡ name.outage
-    outage_is = ap (λ (n : RowId). n.outage) named
-
-    pub lost_inside : (name.outage ≡ 0 → ⊥) → place_of_line m name.outage < length m.lines
-    lost_inside lost = by r.cause (stands r is_row).lost outage_is
-      where
-        by : (cause : Cause) → IsLost m cause → outage_of m cause ≡ name.outage → place_of_line m name.outage < length m.lines
-        by Base h e = absurd (lost (sym e))
-        by (After k) h e = subst (λ (l : ℕ). l < length m.lines) (sym (ap (place_of_line m) (sym e) ∙ place-own m market k h.0)) h.0
-
-    pub base_factor : (bus : ℕ) → name.outage ≡ 0 → over (factor_in m.shift (place_of_line m name.branch) bus *ℤ pos 1000000) (10 ^ 12) ≡ row_factor m r bus
-    base_factor bus none =
-        ap (λ (l : ℕ). over (factor_in m.shift l bus *ℤ pos 1000000) (10 ^ 12)) line_is ∙ by r.cause (stands r is_row).lost outage_is
-      where
-        by : (cause : Cause) → IsLost m cause → outage_of m cause ≡ name.outage → over (factor_in m.shift r.line bus *ℤ pos 1000000) (10 ^ 12) ≡ row_factor m (record { line = r.line; cause = cause }) bus
-        by Base h e = factor-base m r.line bus
-        by (After k) h e = absurd (Prim.omega (arith, h.1, e, none))
-
-    pub after_factor : (bus : ℕ) → (name.outage ≡ 0 → ⊥)
-        → over (factor_in m.shift (place_of_line m name.branch) bus *ℤ pos 1000000
-        +ℤ factor_in m.loss (place_of_line m name.branch) (place_of_line m name.outage) *ℤ factor_in m.shift (place_of_line m name.outage) bus) (10 ^ 12)
-        ≡ row_factor m r bus
-    after_factor bus lost =
-        ap (λ (l : ℕ). over (factor_in m.shift l bus *ℤ pos 1000000 +ℤ factor_in m.loss l (place_of_line m name.outage) *ℤ factor_in m.shift (place_of_line m name.outage) bus) (10 ^ 12)) line_is
-        ∙ by r.cause (stands r is_row).lost outage_is
-      where
-        by : (cause : Cause) → IsLost m cause → outage_of m cause ≡ name.outage
-            → over (factor_in m.shift r.line bus *ℤ pos 1000000 +ℤ factor_in m.loss r.line (place_of_line m name.outage) *ℤ factor_in m.shift (place_of_line m name.outage) bus) (10 ^ 12)
-            ≡ row_factor m (record { line = r.line; cause = cause }) bus
-        by Base h e = absurd (lost (sym e))
-        by (After k) h e =
-            ap (λ (l : ℕ). over (factor_in m.shift r.line bus *ℤ pos 1000000 +ℤ factor_in m.loss r.line l *ℤ factor_in m.shift l bus) (10 ^ 12)) (ap (place_of_line m) (sym e) ∙ place-own m market k h.0)
-            ∙ factor-after m r.line k bus
 
 -- ---- the size of a factor
 pub factor_in-size : (lines others : ℕ) (fs : List Factor) (l o : ℕ) → All (IsFactor lines others) fs → unsigned_abs (factor_in fs l o) ≤ 1000000000

@@ -42,7 +42,7 @@ len-before p (z ∷ zs) ws h = by (p z) (λ lt. len-before p zs ws lt) h
     by true rest lt = refl
     by false rest lt = ap (λ (k : ℕ). 1 + k) (rest (Prim.omega (arith, lt)))
 
-position-is : {X : Type 0} (p : X → Bool) (xs : List X) (i : ℕ) → position_or_len p xs ≡ i → i < length xs → position p xs ≡ Some i
+pub position-is : {X : Type 0} (p : X → Bool) (xs : List X) (i : ℕ) → position_or_len p xs ≡ i → i < length xs → position p xs ≡ Some i
 position-is p xs i e lt = ap (λ (k : ℕ). cond (nat_lt k (length xs)) (Some k) None) e ∙ by (ltb_tells i (length xs))
   where
     by : ((nat_lt i (length xs) ≡ true) × (i < length xs)) ⊎ ((nat_lt i (length xs) ≡ false) × (length xs ≤ i)) → cond (nat_lt i (length xs)) (Some i) None ≡ Some i

@@ -1,1 +1,3 @@
 pub mod Groups
+pub mod NamesApart
+pub mod Places

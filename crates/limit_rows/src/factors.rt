@@ -1,19 +1,20 @@
 //! The factors of limit rows.
 
-ghost use Rattle.std.specs.Prelude.{◌≡◌, ◌<◌, ◌≤◌, ◌*◌, ◌^◌, pos, ◌+ℤ◌, ◌*ℤ◌, unsigned_abs, Contains, length};
+ghost use Rattle.std.specs.Prelude.{◌≡◌, ◌<◌, ◌≤◌, ◌*◌, ◌^◌, pos, ◌+ℤ◌, ◌*ℤ◌, unsigned_abs, Contains, IfSome, length};
 ghost use Rattle.fraction_theory.specs.Fraction.{over};
 ghost use Rattle.market_model.specs.Factors.{factor_in};
 ghost use Rattle.market_model.specs.Market.{most_factor};
 ghost use Rattle.market_model.specs.LimitRows.{Row, factor_places, row_factor, row_id, rows};
+ghost use Rattle.limit_rows.specs.Places.{row_of};
 
-use crate::groups::place_of_line;
+use crate::places::{LimitRow, row_named};
 use market_model::{Market, RowId};
 
 /// In 10^-6.
 const WHOLE: i64 = 1_000_000;
 
-/// The shift factor of a line, with its size.
-fn shift_of(market: &Market, line: usize, bus: usize) -> i64
+/// The shift factor of a line for a bus, in 10^-6, with its size.
+pub fn shift_of(market: &Market, line: usize, bus: usize) -> i64
     requires line { line < length market.now.lines }
     requires bus { bus < length market.now.buses }
     ensures size { unsigned_abs result ≤ most_factor }
@@ -23,8 +24,8 @@ fn shift_of(market: &Market, line: usize, bus: usize) -> i64
     market.shift(line, bus)
 }
 
-/// The loss factor of a line, with its size.
-fn loss_of(market: &Market, line: usize, lost: usize) -> i64
+/// The loss factor of a line for a lost line, in 10^-6, with its size.
+pub fn loss_of(market: &Market, line: usize, lost: usize) -> i64
     requires line { line < length market.now.lines }
     requires lost { lost < length market.now.lines }
     ensures size { unsigned_abs result ≤ most_factor }
@@ -47,28 +48,41 @@ fn with_lost(own: i64, loss: i64, lost: i64) -> i64
     requires own { unsigned_abs own ≤ most_factor * 1000000 }
     requires loss { unsigned_abs loss ≤ most_factor }
     requires lost { unsigned_abs lost ≤ most_factor }
-    ensures { result ≡ own +ℤ loss *ℤ lost }
+    ensures size { unsigned_abs result < 2 ^ 63 }
+    ensures is { result ≡ own +ℤ loss *ℤ lost }
 {
     own + loss * lost
 }
 
 /// How much of what the bus at a place puts in counts for the flow of a row, in 10^-12: the shift factor of its line, and after an
 /// outage what goes over to it of the lost line's.
+pub fn factor_at(market: &Market, row: LimitRow, bus: usize) -> i64
+    requires line { row.line < length market.now.lines }
+    requires lost { IfSome row.lost (λ lost. lost < length market.now.lines) }
+    requires bus { bus < length market.now.buses }
+    ensures size { unsigned_abs result < 2 ^ 63 }
+    ensures is { over result (10 ^ (2 * factor_places market.now)) ≡ row_factor market.now (row_of row) bus }
+{
+    let own = finer(shift_of(market, row.line, bus));
+    match row.lost {
+        None => own,
+        Some(lost) => with_lost(
+            own,
+            loss_of(market, row.line, lost),
+            shift_of(market, lost, bus),
+        ),
+    }
+}
+
+/// The same factor by the name of the row.
 pub fn factor(market: &Market, row: RowId, bus: usize) -> i64
     requires row { (r : Row) × Contains (rows market.now) r × (row_id market.now r ≡ row) }
     requires bus { bus < length market.now.buses }
     ensures { (r : Row) → Contains (rows market.now) r → row_id market.now r ≡ row → over result (10 ^ (2 * factor_places market.now)) ≡ row_factor market.now r bus }
 {
     let _lines = market.lines();
-    let line = place_of_line(market, row.branch);
-    let own = finer(shift_of(market, line, bus));
-    if row.outage == 0 {
-        return own;
+    match row_named(market, row) {
+        Some(row) => factor_at(market, row, bus),
+        None => unreachable!(),
     }
-    let lost = place_of_line(market, row.outage);
-    with_lost(
-        own,
-        loss_of(market, line, lost),
-        shift_of(market, lost, bus),
-    )
 }

@@ -29,7 +29,8 @@ pub(crate) fn place_of_line(market: &Market, row: u32) -> usize
     lines.len()
 }
 
-pub(crate) fn group_count(market: &Market) -> usize
+/// How many groups of rows a market has: one of the base, and one after each outage.
+pub fn group_count(market: &Market) -> usize
     ensures count { result ≡ length (groups market.now) }
     ensures few { result ≤ 501 }
 {
@@ -56,8 +57,17 @@ pub(crate) fn group_at(market: &Market, place: usize) -> Group
     }
 }
 
-/// Whether the line at a place has a row in a group.
-fn bears(market: &Market, lost: Option<usize>, place: usize) -> bool
+/// The place of the line that is lost in a group: none in the first one, that of the base; then those of the outages as they are
+/// listed.
+pub fn lost_of(market: &Market, group: usize) -> Option<usize>
+    requires { group < length (groups market.now) }
+    ensures { slice_get (groups market.now) group ≡ Some result }
+{
+    group_at(market, group).lost
+}
+
+/// Whether the line at a place has a row in the base, or after the loss of the line at another place.
+pub fn has_row(market: &Market, lost: Option<usize>, place: usize) -> bool
     requires { place < length market.now.lines }
     ensures { result ≡ bears market.now lost place }
 {
@@ -75,7 +85,7 @@ pub(crate) fn count_of(market: &Market, lost: Option<usize>) -> usize
 {
     let mut count = 0;
     for place in 0..market.lines().len() {
-        if bears(market, lost, place) {
+        if has_row(market, lost, place) {
             count += 1;
         }
     }
@@ -90,7 +100,7 @@ pub(crate) fn line_behind(market: &Market, lost: Option<usize>, count: usize) ->
 {
     let mut left = count;
     for place in 0..market.lines().len() {
-        if bears(market, lost, place) {
+        if has_row(market, lost, place) {
             if left == 0 {
                 return place;
             }
@@ -111,7 +121,7 @@ pub(crate) fn position_in(market: &Market, group: Group, row: RowId) -> Option<u
     }
     let mut before = 0;
     for place in 0..market.lines().len() {
-        if bears(market, group.lost, place) {
+        if has_row(market, group.lost, place) {
             if market.lines().at(place).row == row.branch {
                 return Some(before);
             }

@@ -1,6 +1,6 @@
 //! The rows of a market by place and by name.
 
-ghost use Rattle.std.specs.Prelude.{◌≡◌, ◌<◌, length};
+ghost use Rattle.std.specs.Prelude.{◌≡◌, ◌<◌, length, map, IfSome, Some};
 ghost use Rattle.std.specs.List.{position, slice_get};
 ghost use Rattle.market_model.specs.LimitRows.{Row, row_id, rows};
 ghost use Rattle.limit_rows.specs.Groups.{is_named};
@@ -22,7 +22,8 @@ pub fn count(market: &Market) -> usize
 /// The name of the row at a place.
 pub fn id(market: &Market, place: usize) -> RowId
     requires { place < length (rows market.now) }
-    ensures { (r : Row) → slice_get (rows market.now) place ≡ Some r → result ≡ row_id market.now r }
+    ensures is { (r : Row) → slice_get (rows market.now) place ≡ Some r → result ≡ row_id market.now r }
+    ensures position { position (is_named market.now result) (rows market.now) ≡ Some place }
 {
     let mut left = place;
     for at in 0..group_count(market) {
@@ -42,7 +43,8 @@ pub fn id(market: &Market, place: usize) -> RowId
 
 /// The place of the row of a name, where there is one.
 pub fn position(market: &Market, row: RowId) -> Option<usize>
-    ensures { result ≡ position (is_named market.now row) (rows market.now) }
+    ensures is { result ≡ position (is_named market.now row) (rows market.now) }
+    ensures id { IfSome result (λ place. slice_get (map (row_id market.now) (rows market.now)) place ≡ Some row) }
 {
     let mut before = 0;
     for at in 0..group_count(market) {

@@ -12,7 +12,7 @@ use Rattle.limit_rows.proofs.NameLemmas.{other_outage, same_outage, other_branch
 use Rattle.limit_rows.proofs.NumberingLemmas.{row_on}
 use Rattle.limit_rows.proofs.PositionLemmas.{position-behind, position-none}
 use Rattle.limit_rows.proofs.groups.position_in.Goals as goal
-use Rattle.limit_rows.proofs.groups.position_in.Goals.{then-bears+else-at-row, else-bears}
+use Rattle.limit_rows.proofs.groups.position_in.Goals.{then-has_row+else-at-row, else-has_row}
 
 pub returns-then-group-row-clause-is : goal.returns-then-group-row-clause-is
 returns-then-group-row-clause-is c =
@@ -26,9 +26,9 @@ returns-then-at-row c =
     let lost = c.args.group.lost in
     let p = is_named m c.args.row in
     let inside : c.loop-place.place < length m.lines = search rules in
-    let read : line_at m c.loop-place.place ≡ c.at.result.now = get_or_from_slice_get m.lines c.loop-place.place c.at.result.now _ (rw c.lines-then-bears.ensures.list at c.at.ensures) in
+    let read : line_at m c.loop-place.place ≡ c.at.result.now = get_or_from_slice_get m.lines c.loop-place.place c.at.result.now _ (rw c.lines-then-has_row.ensures.list at c.at.ensures) in
     let outage = c.requires ∙ c.if-group-row.false in
-    let round = rows_round m lost c.loop-place.place inside (sym c.bears.ensures ∙ c.if-bears.true) in
+    let round = rows_round m lost c.loop-place.place inside (sym c.has_row.ensures ∙ c.if-has_row.true) in
     let before = filter (bears m lost) (places c.loop-place.place) in
     let here : p (row_on lost c.loop-place.place) ≡ true = same_outage m c.args.row lost c.loop-place.place outage ∙ eq-eqb _ _ (ap (λ (l : Line). l.row) read ∙ c.if-at-row.true) in
     record {
@@ -44,21 +44,21 @@ loop-place-preserved c =
     let m = c.args.market.now in
     let b = bears m c.args.group.lost in
     let i = c.loop-place.place in
-    let test = c.bears.ensures in
+    let test = c.has_row.ensures in
     let more = passed-more b i in
-    elim c.if-bears.branch [
-      | then-bears+else-at-row w ↦
-          let read : line_at m i ≡ w.at.result.now = get_or_from_slice_get m.lines i w.at.result.now _ (rw w.lines-then-bears.ensures.list at w.at.ensures) in
+    elim c.if-has_row.branch [
+      | then-has_row+else-at-row w ↦
+          let read : line_at m i ≡ w.at.result.now = get_or_from_slice_get m.lines i w.at.result.now _ (rw w.lines-then-has_row.ensures.list at w.at.ensures) in
           record {
-            count = passed (b i) _ _ _ _ (sym test ∙ w.if-bears.true) more w.before-is c.loop-place.invariant.count;
+            count = passed (b i) _ _ _ _ (sym test ∙ w.if-has_row.true) more w.before-is c.loop-place.invariant.count;
             few = omega (arith, w.before-is, c.loop-place.invariant.few);
             none = fails-more (λ k. (line_at m k).row == c.args.row.branch) b i c.loop-place.invariant.none (λ e. ne_eqb _ _ (λ f. w.if-at-row.false (ap (λ (l : Line). l.row) (sym read) ∙ f)));
           }
-      | else-bears w ↦
+      | else-has_row w ↦
           record {
-            count = passed_over (b i) _ _ _ _ (sym test ∙ w.if-bears.false) more w.before-is c.loop-place.invariant.count;
+            count = passed_over (b i) _ _ _ _ (sym test ∙ w.if-has_row.false) more w.before-is c.loop-place.invariant.count;
             few = omega (arith, w.before-is, c.loop-place.invariant.few);
-            none = fails-more (λ k. (line_at m k).row == c.args.row.branch) b i c.loop-place.invariant.none (λ e. let f : b i ≡ false = sym test ∙ w.if-bears.false in absurd (cc));
+            none = fails-more (λ k. (line_at m k).row == c.args.row.branch) b i c.loop-place.invariant.none (λ e. let f : b i ≡ false = sym test ∙ w.if-has_row.false in absurd (cc));
           }
     ]
   where

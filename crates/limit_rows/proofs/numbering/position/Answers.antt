@@ -7,17 +7,25 @@ use Rattle.limit_rows.proofs.GroupLemmas.{rows-more}
 use Rattle.limit_rows.proofs.NameLemmas.{groups_round}
 use Rattle.limit_rows.proofs.NumberingLemmas.{all_before, counted-more, rows_before}
 use Rattle.limit_rows.proofs.PositionLemmas.{Fails, fails-none, position-none, position-within}
+use Rattle.limit_rows.proofs.PlaceLemmas.{name_of_position}
 use Rattle.limit_rows.proofs.numbering.position.Goals as goal
+use Rattle.limit_rows.proofs.numbering.position.Goals.{In-Some}
 
-pub returns-in-Some : goal.returns-in-Some
-returns-in-Some c =
+found : (c : In-Some) → position (is_named c.args.market.now c.args.row) (rows c.args.market.now) ≡ Some (c.loop-at.before + c.in-Some.place)
+found c =
     let m = c.args.market.now in
     let p = is_named m c.args.row in
     let lost = c.group_at-group.result.lost in
     let round = groups_round m c.loop-at.at lost c.group_at-group.ensures.lost in
-    sym (ap (position p) round.1
+    ap (position p) round.1
     ∙ position-within p (rows_before m c.loop-at.at) (rows_of m lost) round.0 c.in-Some.place c.loop-at.invariant.none (sym c.in-Some.ensures.is)
-    ∙ ap (λ (k : ℕ). Some (k + c.in-Some.place)) (sym c.loop-at.invariant.count))
+    ∙ ap (λ (k : ℕ). Some (k + c.in-Some.place)) (sym c.loop-at.invariant.count)
+
+pub returns-in-Some-clause-is : goal.returns-in-Some-clause-is
+returns-in-Some-clause-is c = sym (found c)
+
+pub returns-in-Some-clause-id : goal.returns-in-Some-clause-id
+returns-in-Some-clause-id c = name_of_position c.args.market.now c.args.row _ (found c)
 
 pub loop-at-preserved : goal.loop-at-preserved
 loop-at-preserved c =
@@ -33,8 +41,8 @@ loop-at-preserved c =
           (All-append (λ r. p r ≡ false) (rows_before m c.loop-at.at) (rows_of m lost) c.loop-at.invariant.none (fails-none p (rows_of m lost) none));
     }
 
-pub returns : goal.returns
-returns c =
+pub returns-clause-is : goal.returns-clause-is
+returns-clause-is c =
     let m = c.args.market.now in
     let p = is_named m c.args.row in
     let all = all_before m c.loop-at.at (omega (arith, c.group_count-at-end.ensures.count, c.loop-at-test.false)) in

@@ -1,0 +1,213 @@
+-- The rows of a market by the places of their lines, and by name.
+use Rattle.std.specs.Prelude.{◌≡◌, ◌≢◌, ◌⊎◌, ◌==◌, ℕ, ◌<◌, ◌≤◌, ◌&&◌, Bool, true, false, List, [], ◌∷◌, map, length, All, Contains, Option, Some, None, option_map, IfSome, refl}
+use Rattle.std.specs.List.{flat_map, slice_get, position}
+use Rattle.std.proofs.Common.{arith, inl, inr, ap, ap₂, sym, subst, ◌∙◌, get_or}
+use Rattle.std.proofs.lemmas.List.{get_or-map}
+use Rattle.std.proofs.lemmas.List.FromFn.{length-range_with_len}
+use Rattle.std.proofs.lemmas.List.Elements.{Contains-append_left, Contains-append_right, Contains-append_cases}
+use Rattle.std.proofs.lemmas.Bool.{eq-eqb, eqb-true}
+use Rattle.std.proofs.lemmas.List.Quantifiers.{position-Some}
+use Rattle.limit_rows.proofs.PositionLemmas.{position-is}
+use Rattle.market_model.specs.Optimality.{same_id}
+use Rattle.std.proofs.lemmas.List.Sums.{passes_at_first, position_or_len_is}
+use Rattle.std.proofs.lemmas.Option.{slice_get_within, get_or_from_slice_get, slice_get-get_or, slice_get-map}
+use Rattle.fraction_theory.proofs.ListSums.{Contains-head, Contains-cons, Contains-cases, Contains-filter, Contains-from_filter}
+use Rattle.market_model.specs.declared.answered.RowId.{RowId}
+use Rattle.market_model.specs.declared.participants.Parts.{Parts}
+use Rattle.market_model.specs.Dispatch.{places, line_at}
+use Rattle.market_model.specs.Market.{IsMarket}
+use Rattle.market_model.specs.LimitRows.{Base, Row, outage_of, place_of_line, row_id, rows}
+use Rattle.market_model.proofs.ChangeLemmas.{same_default}
+use Rattle.limit_rows.specs.Groups.{bears, cause_of, groups, is_named, lines_of, rows_of}
+use Rattle.limit_rows.proofs.ApartLemmas.{names_apart, outage_in}
+use Rattle.limit_rows.specs.declared.places.LimitRow.{LimitRow}
+use Rattle.limit_rows.specs.Places.{row_of}
+use Rattle.limit_rows.proofs.FactorLemmas.{IsLost, outage_stands, stands}
+use Rattle.limit_rows.proofs.GroupLemmas.{length-map, place_at, place-own, row-of_outage, rows-groups}
+use Rattle.limit_rows.proofs.NumberingLemmas.{row_on}
+
+-- ---- members of lists
+Contains-map : {X Y : Type 0} (f : X → Y) (xs : List X) (x : X) → Contains xs x → Contains (map f xs) (f x)
+Contains-map f xs x (k, lt, e) = (k, Prim.omega (arith, lt, length-map f xs), get_or-map f xs k x (f x) lt ∙ ap f e)
+
+Contains-from_map : {X Y : Type 0} (f : X → Y) (xs : List X) (y : Y) → Contains (map f xs) y → (x : X) × Contains xs x × (f x ≡ y)
+Contains-from_map f [] y (k, lt, e) = absurd (Prim.omega (arith, lt))
+Contains-from_map {X} f (x ∷ xs) y c = by (Contains-from_map f xs y) (Contains-cases (f x) (map f xs) y c)
+  where
+    by : (Contains (map f xs) y → (z : X) × Contains xs z × (f z ≡ y)) → (f x ≡ y) ⊎ Contains (map f xs) y → (z : X) × Contains (x ∷ xs) z × (f z ≡ y)
+    by more (inl e) = (x, Contains-head x xs, e)
+    by more (inr d) = let r = more d in (r.0, Contains-cons x xs r.0 r.1, r.2)
+
+Contains-flat : {X Y : Type 0} (f : X → List Y) (xs : List X) (x : X) (y : Y) → Contains xs x → Contains (f x) y → Contains (flat_map f xs) y
+Contains-flat f [] x y (k, lt, e) d = absurd (Prim.omega (arith, lt))
+Contains-flat f (z ∷ xs) x y c d = by (λ h. Contains-flat f xs x y h d) (Contains-cases z xs x c)
+  where
+    by : (Contains xs x → Contains (flat_map f xs) y) → (z ≡ x) ⊎ Contains xs x → Contains (flat_map f (z ∷ xs)) y
+    by more (inl e) = Contains-append_left (f z) (flat_map f xs) y (subst (λ w. Contains (f w) y) (sym e) d)
+    by more (inr h) = Contains-append_right (f z) (flat_map f xs) y (more h)
+
+Contains-from_flat : {X Y : Type 0} (f : X → List Y) (xs : List X) (y : Y) → Contains (flat_map f xs) y → (x : X) × Contains xs x × Contains (f x) y
+Contains-from_flat f [] y (k, lt, e) = absurd (Prim.omega (arith, lt))
+Contains-from_flat {X} f (x ∷ xs) y c = by (Contains-from_flat f xs y) (Contains-append_cases (f x) (flat_map f xs) y c)
+  where
+    by : (Contains (flat_map f xs) y → (z : X) × Contains xs z × Contains (f z) y) → Contains (f x) y ⊎ Contains (flat_map f xs) y → (z : X) × Contains (x ∷ xs) z × Contains (f z) y
+    by more (inl d) = (x, Contains-head x xs, d)
+    by more (inr d) = let r = more d in (r.0, Contains-cons x xs r.0 r.1, r.2)
+
+Contains-places : (n l : ℕ) → l < n → Contains (places n) l
+Contains-places n l h = (l, Prim.omega (arith, h, length-range_with_len 0 n), place_at n l l h)
+
+Contains-from_places : (n l : ℕ) → Contains (places n) l → l < n
+Contains-from_places n l (k, lt, e) =
+    let inside : k < n = Prim.omega (arith, lt, length-range_with_len 0 n) in
+    subst (λ (i : ℕ). i < n) (sym (place_at n k l inside) ∙ e) inside
+
+pub listed : {X : Type 0} (xs : List X) (k : ℕ) (x : X) → slice_get xs k ≡ Some x → Contains xs x
+listed xs k x e = (k, slice_get_within xs k x e, get_or_from_slice_get xs k x x e)
+
+-- ---- the rows are those of the lines that have one in a group
+-- a line that has a row in a group of the market
+pub record IsRowOf (m : Parts) (lost : Option ℕ) (l : ℕ) : Type 0 where
+  pub group : Contains (groups m) lost
+  pub line : l < length m.lines
+  pub bears : bears m lost l ≡ true
+
+pub row_to : (m : Parts) (lost : Option ℕ) (l : ℕ) → IsRowOf m lost l → Contains (rows m) (row_on lost l)
+row_to m lost l h =
+    subst (λ rs. Contains rs (row_on lost l)) (sym (rows-groups m))
+    (Contains-flat (rows_of m) (groups m) lost (row_on lost l) h.group
+    (Contains-map (row_on lost) (lines_of m lost) l (Contains-filter (bears m lost) (places (length m.lines)) l (Contains-places (length m.lines) l h.line) h.bears)))
+
+pub row_from : (m : Parts) (r : Row) → Contains (rows m) r → (lost : Option ℕ) × (l : ℕ) × IsRowOf m lost l × (row_on lost l ≡ r)
+row_from m r c =
+    let g = Contains-from_flat (rows_of m) (groups m) r (subst (λ rs. Contains rs r) (rows-groups m) c) in
+    let l = Contains-from_map (row_on g.0) (lines_of m g.0) r g.2 in
+    let kept = Contains-from_filter (bears m g.0) (places (length m.lines)) l.0 l.1 in
+    (g.0, l.0, record { group = g.1; line = Contains-from_places (length m.lines) l.0 kept.0; bears = kept.1 }, l.2)
+
+pub none_of_outage : (m : Parts) (name : RowId) → All (λ lost. outage_in m lost ≢ name.outage) (groups m) → (r : Row) → Contains (rows m) r → row_id m r ≢ name
+none_of_outage m name none r c = λ e. by (row_from m r c) e
+  where
+    by : (lost : Option ℕ) × (l : ℕ) × IsRowOf m lost l × (row_on lost l ≡ r) → row_id m r ≡ name → ⊥
+    by (lost, l, is, same) e = of_group is.group
+      where
+        of_group : Contains (groups m) lost → ⊥
+        of_group (k, lt, at) = none k lost lt (ap (outage_in m) at ∙ ap (λ (s : Row). outage_of m s.cause) same ∙ ap (λ (n : RowId). n.outage) e)
+
+-- ---- groups by outage
+module _ (m : Parts) (market : IsMarket m) where
+  group_from : (lost : Option ℕ) → Contains (groups m) lost → (lost ≡ None) ⊎ ((row : ℕ) × Contains m.outages row × (Some (place_of_line m row) ≡ lost))
+  group_from lost c = by (Contains-cases None (map (λ row. Some (place_of_line m row)) m.outages) lost c)
+    where
+      by : (None ≡ lost) ⊎ Contains (map (λ row. Some (place_of_line m row)) m.outages) lost → (lost ≡ None) ⊎ ((row : ℕ) × Contains m.outages row × (Some (place_of_line m row) ≡ lost))
+      by (inl e) = inl (sym e)
+      by (inr d) = inr (Contains-from_map (λ row. Some (place_of_line m row)) m.outages lost d)
+
+  outage_own : (row : ℕ) → Contains m.outages row → (line_at m (place_of_line m row)).row ≡ row
+  outage_own row (k, lt, e) = ap (λ (o : ℕ). (line_at m (place_of_line m o)).row) (sym e) ∙ row-of_outage m market k row lt ∙ e
+
+  outage_row-above : (row : ℕ) → Contains m.outages row → 1 ≤ row
+  outage_row-above row (k, lt, e) = let h = (outage_stands m market k row lt).1 in let f = row-of_outage m market k row lt in Prim.omega (arith, h, f, e)
+
+  pub lost_inside : (k : ℕ) → Contains (groups m) (Some k) → k < length m.lines
+  lost_inside k c = by (group_from (Some k) c)
+    where
+      by : (Some k ≡ None) ⊎ ((row : ℕ) × Contains m.outages row × (Some (place_of_line m row) ≡ Some k)) → k < length m.lines
+      by (inl e) = absurd Prim.cc
+      by (inr (row, (i, lt, e), f)) =
+          let place : place_of_line m row ≡ k = Prim.cc in
+          subst (λ (l : ℕ). l < length m.lines) (ap (place_of_line m) e ∙ place) (outage_stands m market i row lt).0
+
+  -- groups of one outage are one
+  pub same_group : (g h : Option ℕ) → Contains (groups m) g → Contains (groups m) h → outage_in m g ≡ outage_in m h → g ≡ h
+  same_group g h c d e = by (group_from g c) (group_from h d)
+    where
+      by : (g ≡ None) ⊎ ((row : ℕ) × Contains m.outages row × (Some (place_of_line m row) ≡ g)) → (h ≡ None) ⊎ ((row : ℕ) × Contains m.outages row × (Some (place_of_line m row) ≡ h)) → g ≡ h
+      by (inl a) (inl b) = a ∙ sym b
+      by (inl a) (inr (row, o, b)) =
+          absurd (let f : 0 ≡ row = sym (ap (outage_in m) a) ∙ e ∙ sym (ap (outage_in m) b) ∙ outage_own row o in let k = outage_row-above row o in Prim.omega (arith, f, k))
+      by (inr (row, o, a)) (inl b) =
+          absurd (let f : row ≡ 0 = sym (outage_own row o) ∙ ap (outage_in m) a ∙ e ∙ ap (outage_in m) b in let k = outage_row-above row o in Prim.omega (arith, f, k))
+      by (inr (row, o, a)) (inr (other, p, b)) =
+          let f : row ≡ other = sym (outage_own row o) ∙ ap (outage_in m) a ∙ e ∙ sym (ap (outage_in m) b) ∙ outage_own other p in
+          sym a ∙ ap (λ (r : ℕ). Some (place_of_line m r)) f ∙ b
+
+  -- the group of a listed outage
+  pub of_outage : (k row : ℕ) → k < length m.outages → get_or m.outages k row ≡ row → Contains (groups m) (Some (place_of_line m row)) × ((line_at m (place_of_line m row)).row ≡ row)
+  of_outage k row lt e =
+      (Contains-cons None (map (λ r. Some (place_of_line m r)) m.outages) (Some (place_of_line m row)) (Contains-map (λ r. Some (place_of_line m r)) m.outages row (k, lt, e)), outage_own row (k, lt, e))
+
+  -- no group of an outage that is not listed
+  pub of_none : (outage : ℕ) → (outage ≡ 0 → ⊥) → ((k : ℕ) → k < length m.outages → get_or m.outages k 0 ≡ outage → ⊥) → All (λ lost. outage_in m lost ≢ outage) (groups m)
+  of_none outage some none k d lt = λ e. by (group_from (get_or (groups m) k d) (k, lt, same_default (groups m) k (get_or (groups m) k d) d lt)) e
+    where
+      by : {g : Option ℕ} → (g ≡ None) ⊎ ((row : ℕ) × Contains m.outages row × (Some (place_of_line m row) ≡ g)) → outage_in m g ≡ outage → ⊥
+      by (inl a) e = some (sym e ∙ ap (outage_in m) a)
+      by (inr (row, (i, below, at), a)) e =
+          none i below (same_default m.outages i 0 row below ∙ at ∙ sym (outage_own row (i, below, at)) ∙ ap (outage_in m) a ∙ e)
+
+  -- ---- a row by its name
+  module _ (name : RowId) where
+    pub none_of_branch : (lost : Option ℕ) → Contains (groups m) lost → outage_in m lost ≡ name.outage
+        → (place_of_line m name.branch < length m.lines → bears m lost (place_of_line m name.branch) ≡ true → ⊥) → (r : Row) → Contains (rows m) r → row_id m r ≢ name
+    none_of_branch lost listed is none r c = λ e. by (row_from m r c) e
+      where
+        by : (g : Option ℕ) × (l : ℕ) × IsRowOf m g l × (row_on g l ≡ r) → row_id m r ≡ name → ⊥
+        by (g, l, row, same) e =
+            let named : row_id m (row_on g l) ≡ name = ap (row_id m) same ∙ e in
+            let group : g ≡ lost = same_group g lost row.group listed (ap (λ (n : RowId). n.outage) named ∙ sym is) in
+            let line : l ≡ place_of_line m name.branch = sym (place-own m market l row.line) ∙ ap (λ (n : RowId). place_of_line m n.branch) named in
+            none (subst (λ (k : ℕ). k < length m.lines) line row.line)
+            (ap (λ (k : ℕ). bears m lost k) (sym line) ∙ ap (λ (h : Option ℕ). bears m h l) (sym group) ∙ row.bears)
+
+-- a row stands at places that are there
+pub at_places : (m : Parts) → IsMarket m → (row : LimitRow) → Contains (rows m) (row_of row) → (row.line < length m.lines) × IfSome row.lost (λ lost. lost < length m.lines)
+at_places m market row c = let h = stands m market (row_of row) c in (h.line, by row.lost h.lost)
+  where
+    by : (lost : Option ℕ) → IsLost m (cause_of lost) → IfSome lost (λ k. k < length m.lines)
+    by None h = tt
+    by (Some k) h = h.0
+
+-- a line that was found has the row that was asked for
+pub found_row : (m : Parts) (row l : ℕ) → l ≡ place_of_line m row → l < length m.lines → (line_at m l).row ≡ row
+found_row m row l e h =
+    let count : length (places (length m.lines)) ≡ length m.lines = length-range_with_len 0 (length m.lines) in
+    let first : place_of_line m row < length (places (length m.lines)) = Prim.omega (arith, h, e, count) in
+    let passes = passes_at_first (λ k. (line_at m k).row == row) (places (length m.lines)) 0 first in
+    let is : get_or (places (length m.lines)) (place_of_line m row) 0 ≡ l = place_at (length m.lines) (place_of_line m row) 0 (Prim.omega (arith, h, e)) ∙ sym e in
+    eqb-true _ _ (ap (λ (k : ℕ). (line_at m k).row == row) (sym is) ∙ passes)
+
+-- ---- places by name
+same_name : (a b : RowId) → same_id a b ≡ true → a ≡ b
+same_name a b h = by (a.branch == b.branch) (a.outage == b.outage) refl refl h
+  where
+    by : (x y : Bool) → (a.branch == b.branch) ≡ x → (a.outage == b.outage) ≡ y → (x && y) ≡ true → a ≡ b
+    by true y e f g = ap₂ (λ (i j : ℕ). record { branch = i; outage = j }) (eqb-true _ _ e) (eqb-true _ _ (f ∙ g))
+    by false y e f g = absurd Prim.cc
+
+-- the row of a place is the first of its name
+pub position_named : (m : Parts) → IsMarket m → (place : ℕ) (name : RowId) (r : Row) → slice_get (rows m) place ≡ Some r → name ≡ row_id m r → position (is_named m name) (rows m) ≡ Some place
+position_named m market place name r is e =
+    let inside : place < length (rows m) = slice_get_within (rows m) place r is in
+    let here : (d : Row) → row_id m (get_or (rows m) place d) ≡ name = λ d. ap (row_id m) (get_or_from_slice_get (rows m) place r d is) ∙ sym e in
+    position-is (is_named m name) (rows m) place
+    (position_or_len_is (is_named m name) (rows m) place r (Prim.omega (arith, inside))
+    (λ k lt. other k lt (is_named m name (get_or (rows m) k r)) refl inside (here r))
+    (λ lt. named (here r)))
+    inside
+  where
+    named : {n : RowId} → n ≡ name → same_id n name ≡ true
+    named {n} f = subst (λ (b : RowId). same_id b name ≡ true) (sym f) (both name)
+      where
+        both : (a : RowId) → same_id a a ≡ true
+        both a = Prim.rw (eq-eqb a.branch a.branch refl, eq-eqb a.outage a.outage refl) refl
+
+    other : (k : ℕ) → k < place → (b : Bool) → is_named m name (get_or (rows m) k r) ≡ b → place < length (rows m) → row_id m (get_or (rows m) place r) ≡ name → b ≡ false
+    other k lt true t inside f = absurd (names_apart m market k place r lt inside (same_name _ _ t ∙ sym f))
+    other k lt false t inside f = refl
+
+pub name_of_position : (m : Parts) (name : RowId) (place : ℕ) → position (is_named m name) (rows m) ≡ Some place → slice_get (map (row_id m) (rows m)) place ≡ Some name
+name_of_position m name place e =
+    let none : Row = record { line = 0; cause = Base } in
+    let found = position-Some (is_named m name) (rows m) place none e in
+    slice_get-map (row_id m) (rows m) place ∙ ap (option_map (row_id m)) (slice_get-get_or (rows m) place none found.0) ∙ ap (λ (n : RowId). Some n) (same_name _ _ found.1)
