@@ -1,15 +1,17 @@
 -- The flows of lines at a dispatch, and of rows where lines have given flows.
 -- Wood and Wollenberg, Power Generation, Operation and Control: flows by shift factors, and after an outage by the flow that the lost
 -- branch had.
-use Rattle.std.specs.Prelude.{◌≡◌, ℕ, ◌+◌, ◌<◌, List, [], ◌∷◌, ◌++◌, length, map, slice_index_or, Contains}
-use Rattle.fraction_theory.specs.Fraction.{Fraction, ◌+ℚ◌, ◌*ℚ◌}
+use Rattle.std.specs.Prelude.{◌≡◌, ◌⊎◌, ℕ, ◌+◌, ◌<◌, List, [], ◌∷◌, ◌++◌, length, map, slice_index_or, Contains}
+use Rattle.fraction_theory.specs.Fraction.{Fraction, whole, ◌+ℚ◌, ◌-ℚ◌, ◌*ℚ◌}
 use Rattle.fraction_theory.specs.Sums.{Term, Plain, Product}
+use Rattle.exact_fraction.specs.declared.Op.TheVariants.{Plus, Minus, Times}
 use Rattle.exact_fraction.specs.declared.Passed.{Passed}
+use Rattle.market_data.specs.declared.participants.Bus.{Bus}
 use Rattle.market_model.specs.declared.participants.Parts.{Parts}
 use Rattle.market_model.specs.Dispatch.{Dispatch, zero, places, injection, injection_terms}
 use Rattle.market_model.specs.LimitRows.{Cause, Base, After, Row, rows, loss_factor, line_flow, line_terms, flow}
 use Rattle.market_model.specs.Market.{IsMarket}
-use Rattle.market_model.specs.NamedSums.{IsAddedIn, IsRefusedIn}
+use Rattle.market_model.specs.NamedSums.{IsAddedIn, IsRefusal, IsRefusedIn}
 
 -- the accepted MW of each block, as numbers
 abbrev pub dispatch_of : {N : Type 0} → (N → Fraction) → List N → Dispatch
@@ -41,6 +43,22 @@ flow_terms m f r = flow_terms_in m f r.line r.cause
 -- of the flows of a dispatch, those of the market's rows are their flows at the dispatch
 abbrev pub LawOfRowFlows : Type 0
 LawOfRowFlows = (m : Parts) (x : Dispatch) (fs : List Fraction) (r : Row) → IsMarket m → fs ≡ flows_at m x → Contains (rows m) r → flow_by m (line_in m fs) r ≡ flow m x r
+
+-- a product with a factor refused, or what it is added to
+abbrev pub IsShareRefusal : Fraction → Fraction → Fraction → ℕ → Passed Fraction → Type 0
+IsShareRefusal sum k x bound p = IsRefusal Times k x bound p ⊎ IsRefusal Plus sum (k *ℚ x) bound p
+
+-- a difference refused where a sum is lowered by a bus's load, and then by its shunt
+abbrev pub IsDemandRefusal : Fraction → Bus → ℕ → Passed Fraction → Type 0
+IsDemandRefusal sum bus bound p = IsRefusal Minus sum (whole bus.pd) bound p ⊎ IsRefusal Minus (sum -ℚ whole bus.pd) (whole bus.gs) bound p
+
+-- by bus, what a list says; 0 past its end
+abbrev pub put_in : List Fraction → ℕ → Fraction
+put_in ps i = slice_index_or ps i zero
+
+-- an operation refused where buses put in so much, in the flow of a line
+abbrev pub IsLineRefusal : Parts → (ℕ → Fraction) → ℕ → Passed Fraction → Type 0
+IsLineRefusal m f bound p = (l : ℕ) × (l < length m.lines) × IsRefusedIn (line_terms m f l) bound p
 
 -- an operation refused where the flows of a dispatch are added up
 pub data IsFlowsRefusal (m : Parts) (x : Dispatch) (bound : ℕ) (p : Passed Fraction) : Type 0 where

@@ -1,6 +1,6 @@
 -- Which limit is passed by the most, where lines have given flows.
-use Rattle.std.specs.Prelude.{◌≡◌, ℕ, ◌<◌, List, Option, Some, None, All, Contains}
-use Rattle.std.specs.List.{flat_map, slice_get, take}
+use Rattle.std.specs.Prelude.{◌≡◌, ℕ, ◌<◌, List, Option, Some, None, All, Contains, take}
+use Rattle.std.specs.List.{flat_map, slice_get}
 use Rattle.fraction_theory.specs.Fraction.{Fraction}
 use Rattle.fraction_theory.specs.Order.{◌<ℚ◌, ◌≤ℚ◌}
 use Rattle.exact_fraction.specs.declared.Op.TheVariants.{Minus}

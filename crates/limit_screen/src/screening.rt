@@ -1,22 +1,20 @@
 //! Which limit flows pass by the most.
 
-ghost use Rattle.std.specs.Prelude.{◌≡◌, ◌≤◌, ◌+◌, ◌<◌, ◌^◌, unsigned_abs, List, [], ◌∷◌, ◌++◌, length, map, IfOk, IfErr, IfSome, MatchOption};
-ghost use Rattle.fraction_theory.specs.Fraction.{Fraction, over, ◌+ℚ◌, ◌-ℚ◌, ◌*ℚ◌};
+ghost use Rattle.std.specs.Prelude.{◌≡◌, ◌+◌, ◌<◌, List, [], ◌∷◌, ◌++◌, length, map, IfOk, IfErr, IfSome, MatchOption};
+ghost use Rattle.fraction_theory.specs.Fraction.{Fraction, ◌-ℚ◌};
 ghost use Rattle.fraction_theory.specs.Order.{◌<ℚ◌, ◌≤ℚ◌};
-ghost use Rattle.fraction_theory.specs.Sums.{Plain, Product};
 ghost use Rattle.exact_fraction.specs.declared.Op.TheVariants as Op;
 ghost use Rattle.market_model.specs.Valued.{passed_at};
 ghost use Rattle.market_model.specs.Dispatch.{zero};
 ghost use Rattle.market_model.specs.Excess.{size_of};
 ghost use Rattle.market_model.specs.LimitRows.{Row};
-ghost use Rattle.market_model.specs.Market.{most_factor};
 ghost use Rattle.market_model.specs.NamedSums.{IsRefusal, IsRefusedIn};
 ghost use Rattle.limit_rows.specs.Groups.{groups};
 ghost use Rattle.limit_rows.specs.Places.{row_of};
 ghost use Rattle.limit_screen.specs.Flows.{flow_by, flow_terms, line_in};
 ghost use Rattle.limit_screen.specs.Screening.{AllHold, IsWorstNamed, IsRowRefusal, IsScreenRefusal, IsWorstOf, excess_by, rows_to};
 
-use crate::amounts::{datum, factor};
+use crate::amounts::{datum, with_share};
 use exact_fraction::{Exact, Passed, Sign};
 use limit_rows::{LimitRow, group_count, has_row, limit_at, loss_of, lost_of, name_at};
 use market_model::{Market, RowId};
@@ -42,20 +40,7 @@ pub fn row_flow<N: Exact>(market: &Market, flows: &[N], row: LimitRow) -> Result
     let own = flows[buses + row.line];
     match row.lost {
         None => Ok(own),
-        Some(lost) => with_lost(own, loss_of(market, row.line, lost), flows[buses + lost]),
-    }
-}
-
-/// A flow with what goes over of the lost one. A factor of 0 leaves it as it is.
-fn with_lost<N: Exact>(own: N, loss: i64, lost: N) -> Result<N, Passed<N>>
-    requires { unsigned_abs loss ≤ most_factor }
-    ensures flow { IfOk result (λ flow. N.value flow ≡ N.value own +ℚ over loss (10 ^ 6) *ℚ N.value lost) }
-    ensures cause { IfErr result (λ passed. IsRefusedIn (Plain (N.value own) ∷ Product (over loss (10 ^ 6)) (N.value lost) ∷ []) N.bound (passed_at N.value passed)) }
-{
-    if loss == 0 {
-        Ok(own)
-    } else {
-        own.plus(factor::<N>(loss).times(lost)?)
+        Some(lost) => with_share(own, loss_of(market, row.line, lost), flows[buses + lost]),
     }
 }
 
@@ -87,8 +72,11 @@ fn worse<N: Exact>(worst: Option<Broken<N>>, row: LimitRow, excess: N) -> Option
     ensures { (e : Row → Fraction) (rs : List Row) → IsWorstOf N.value e rs worst → N.value excess ≡ e (row_of row) → IsWorstOf N.value e (rs ++ row_of row ∷ []) result }
 {
     match worst {
-        Some(broken) if !matches!(excess.order(broken.excess), Ordering::Greater) => worst,
-        _ => Some(Broken { row, excess }),
+        Some(broken) => match excess.order(broken.excess) {
+            Ordering::Greater => Some(Broken { row, excess }),
+            Ordering::Less | Ordering::Equal => Some(broken),
+        },
+        None => Some(Broken { row, excess }),
     }
 }
 
