@@ -211,7 +211,7 @@ demand_less m x i b sum left at is e =
     ∙ ap (λ s. (s -ℚ whole (bus_at m i).pd) -ℚ whole (bus_at m i).gs) is
     ∙ +ℚ_assoc (total (f ++ t)) (neg_ℚ (whole (bus_at m i).pd)) (neg_ℚ (whole (bus_at m i).gs))
     ∙ ap (λ s. total (f ++ t) +ℚ (neg_ℚ (whole (bus_at m i).pd) +ℚ s)) (sym (+ℚ_nil (neg_ℚ (whole (bus_at m i).gs))))
-    ∙ sym (total-append (f ++ t) d) ∙ ap total (append_assoc f t d)
+    ∙ sym (total-append (f ++ t) d)
 
 module _ (m : Parts) (x : Dispatch) (i : ℕ) (bound : ℕ) (p : Passed Fraction) where
   abbrev front : List Term
@@ -224,7 +224,7 @@ module _ (m : Parts) (x : Dispatch) (i : ℕ) (bound : ℕ) (p : Passed Fraction
   less_shunt = Plain (neg_ℚ (whole (bus_at m i).gs))
 
   parts-are : injection_terms m x i ≡ front ++ less_load ∷ less_shunt ∷ []
-  parts-are = sym (append_assoc (map (fixed_term m) (units_at m i)) (map (block_term m x) (blocks_at m i)) (less_load ∷ less_shunt ∷ []))
+  parts-are = refl
 
   pub demand_refused : (b : Bus) (sum : Fraction) → b ≡ bus_at m i → sum ≡ total front → IsDemandRefusal sum b bound p → IsAddedIn (injection_terms m x i) bound p
   demand_refused b sum at is why = by why
@@ -243,7 +243,7 @@ module _ (m : Parts) (x : Dispatch) (i : ℕ) (bound : ℕ) (p : Passed Fraction
   raised_refusal h = subst (λ ts. IsAddedIn ts bound p) (sym parts-are) (added_in_front front (less_load ∷ less_shunt ∷ []) bound p h)
 
   pub fixed_refusal : IsAddedIn (map (fixed_term m) (units_at m i)) bound p → IsAddedIn (injection_terms m x i) bound p
-  fixed_refusal h = added_in_front (map (fixed_term m) (units_at m i)) (map (block_term m x) (blocks_at m i) ++ less_load ∷ less_shunt ∷ []) bound p h
+  fixed_refusal h = raised_refusal (added_in_front (map (fixed_term m) (units_at m i)) (map (block_term m x) (blocks_at m i)) bound p h)
 
 -- the sum of the units with no block
 pub raised_none : (m : Parts) (x : Dispatch) (bus : ℕ) (sum : Fraction) → sum ≡ total (map (fixed_term m) (units_at m bus)) → sum ≡ total (raised_to m bus x 0)

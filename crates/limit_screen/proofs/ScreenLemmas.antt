@@ -158,8 +158,8 @@ lost_in m market (Some k) c = lost_inside m market k c
 pub all_rows : (m : Parts) (k : ℕ) → length (groups m) ≤ k → rows_to m k ≡ rows m
 all_rows m k h = all_before m k h
 
-pub worst_named : {N : Type 0} (value : N → Fraction) (m : Parts) (f : ℕ → Fraction) (r : Row) (id : RowId) → IsFirstMost (excess_by m f) (rows m) r → id ≡ row_id m r → IsWorstNamed m f id
-worst_named value m f r id h e = (
+pub worst_named : (m : Parts) (f : ℕ → Fraction) (r : Row) (id : RowId) → IsFirstMost (excess_by m f) (rows m) r → id ≡ row_id m r → IsWorstNamed m f id
+worst_named m f r id h e = (
   h.place,
   r,
   record {

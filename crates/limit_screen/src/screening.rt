@@ -130,6 +130,7 @@ pub fn worst<N: Exact>(market: &Market, flows: &[N]) -> Result<Option<RowId>, Pa
     ensures worst { IfOk result (λ worst. MatchOption worst (AllHold market.now (line_in market.now (map N.value flows.now))) (IsWorstNamed market.now (line_in market.now (map N.value flows.now)))) }
     ensures cause { IfErr result (λ passed. IsScreenRefusal market.now (line_in market.now (map N.value flows.now)) N.bound (passed_at N.value passed)) }
 {
+    let _lines = market.lines();
     let mut worst = None;
     for group in 0..group_count(market) {
         worst = with_group(market, flows, group, worst)?;

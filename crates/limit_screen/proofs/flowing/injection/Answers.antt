@@ -19,7 +19,15 @@ returns-in_err-raised-clause-cause g c =
     rw given (raised_refusal c.args.market.now (dispatch_of g.N.Exact.value c.args.dispatch.now) c.args.bus g.N.Exact.bound (passed_at g.N.Exact.value c.in_err-raised.field-0.0) c.in_err-raised.ensures.cause)
 
 pub returns-clause-sum : goal.returns-clause-sum
-returns-clause-sum g c = ?
+returns-clause-sum g c =
+    let at = ap (λ (bs : List Bus). slice_index_or bs c.args.bus (record { number = 0; pd = pos 0; gs = pos 0 })) (c.slice.ensures ∙ c.buses.ensures.list) in
+    IfOk-weaker c.less_demand.result _ _
+    (λ left e. demand_less c.args.market.now (dispatch_of g.N.Exact.value c.args.dispatch.now) c.args.bus _ (g.N.Exact.value c.in_ok-raised.raised) (g.N.Exact.value left) at c.in_ok-raised.ensures.sum e)
+    c.less_demand.ensures.left
 
 pub returns-clause-cause : goal.returns-clause-cause
-returns-clause-cause g c = ?
+returns-clause-cause g c =
+    let at = ap (λ (bs : List Bus). slice_index_or bs c.args.bus (record { number = 0; pd = pos 0; gs = pos 0 })) (c.slice.ensures ∙ c.buses.ensures.list) in
+    IfErr-weaker c.less_demand.result _ _
+    (λ e h. demand_refused c.args.market.now (dispatch_of g.N.Exact.value c.args.dispatch.now) c.args.bus g.N.Exact.bound (passed_at g.N.Exact.value e) _ (g.N.Exact.value c.in_ok-raised.raised) at c.in_ok-raised.ensures.sum h)
+    c.less_demand.ensures.cause

@@ -1,4 +1,4 @@
-use Rattle.std.proofs.Common.{rules, Err, ◌≡◌, ◌∙◌, ◌<◌, ◌++◌, ℕ, Bool, true, false, List, Option, map, ap, sym, subst, length, arith}
+use Rattle.std.proofs.Common.{rules, Err, ◌≡◌, ◌∙◌, ◌<◌, ◌++◌, ◌∷◌, [], ℕ, Bool, true, false, List, Option, map, ap, sym, subst, length, arith}
 use Rattle.std.specs.Prelude.{filter, Contains, IfSome}
 use Rattle.std.proofs.lemmas.List.{append-nil}
 use Rattle.market_model.specs.Dispatch.{places}
