@@ -2,7 +2,10 @@
 
 ghost use Rattle.std.specs.Prelude.{◌≡◌, ◌∷◌, [], pos, negsuc, IfOk};
 
-use crate::{count, factor, id, position};
+use crate::{
+    count, factor, factor_at, group_count, has_row, id, limit_at, lost_of, name_at, position,
+    row_named,
+};
 use market_model::{Bus, Factor, Line, List, Market, Memory, Parts, RowId, assemble};
 use std::alloc::Global;
 use std::test::Fail;
@@ -111,7 +114,7 @@ fn row(branch: u32, outage: u32) -> RowId {
 }
 
 /// The name of the row at a place, where there is one.
-fn name_at(market: &Market, place: usize) -> Option<RowId> {
+fn name_of(market: &Market, place: usize) -> Option<RowId> {
     if place < count(market) {
         Some(id(market, place))
     } else {
@@ -127,16 +130,44 @@ fn factor_of(market: &Market, row: RowId, bus: usize) -> Option<i64> {
     }
 }
 
+/// The name and the limit of the row of a name, and its factor at a bus, by place.
+fn by_place(market: &Market, name: RowId, bus: usize) -> Option<(RowId, i64, i64)> {
+    match row_named(market, name) {
+        Some(row) if bus < market.buses().len() => Some((
+            name_at(market, row),
+            limit_at(market, row),
+            factor_at(market, row, bus),
+        )),
+        _ => None,
+    }
+}
+
+/// How many rows stand at a line, over all groups.
+fn rows_at(market: &Market, line: usize) -> usize {
+    let mut rows = 0;
+    for group in 0..group_count(market) {
+        if line < market.lines().len()
+            && has_row(market, lost_of(market, group), line)
+            && rows < 9
+        {
+            rows += 1;
+        }
+    }
+    rows
+}
+
 #[test]
 fn rows_in_the_order_of_outages(rt: HostRuntime) -> Result<(), Fail> {
     let market = two_outages(rt.alloc())?;
     assert!(rt; count(&market) == 4);
-    assert!(rt; name_at(&market, 0) == Some(row(2, 0)));
-    assert!(rt; name_at(&market, 1) == Some(row(2, 3)));
-    assert!(rt; name_at(&market, 2) == Some(row(2, 1)));
-    assert!(rt; name_at(&market, 3) == Some(row(3, 1)));
+    assert!(rt; name_of(&market, 0) == Some(row(2, 0)));
+    assert!(rt; name_of(&market, 1) == Some(row(2, 3)));
+    assert!(rt; name_of(&market, 2) == Some(row(2, 1)));
+    assert!(rt; name_of(&market, 3) == Some(row(3, 1)));
     assert!(rt; position(&market, row(3, 1)) == Some(3));
     assert!(rt; position(&market, row(3, 3)).is_none());
+    assert!(rt; rows_at(&market, 1) == 3);
+    assert!(rt; rows_at(&market, 2) == 1);
     Ok(())
 }
 
@@ -144,11 +175,13 @@ fn rows_in_the_order_of_outages(rt: HostRuntime) -> Result<(), Fail> {
 fn rows_and_factors_after_one_outage(rt: HostRuntime) -> Result<(), Fail> {
     let market = one_outage(rt.alloc())?;
     assert!(rt; count(&market) == 2);
-    assert!(rt; name_at(&market, 0) == Some(row(2, 0)));
-    assert!(rt; name_at(&market, 1) == Some(row(2, 1)));
+    assert!(rt; name_of(&market, 0) == Some(row(2, 0)));
+    assert!(rt; name_of(&market, 1) == Some(row(2, 1)));
     assert!(rt; factor_of(&market, row(2, 0), 2) == Some(-750_000_000_000));
     assert!(rt; factor_of(&market, row(2, 1), 0) == Some(0));
     assert!(rt; factor_of(&market, row(2, 1), 1) == Some(-1_000_000_000_000));
     assert!(rt; factor_of(&market, row(2, 1), 2) == Some(-1_000_000_000_000));
+    assert!(rt; by_place(&market, row(2, 1), 2) == Some((row(2, 1), 45, -1_000_000_000_000)));
+    assert!(rt; by_place(&market, row(3, 1), 2).is_none());
     Ok(())
 }

@@ -1,0 +1,181 @@
+-- The worst of some rows, with pone row more.
+use Rattle.std.specs.Prelude.{◌≡◌, ◌⊎◌, ℕ, ◌+◌, ◌-◌, ◌<◌, ◌≤◌, pos, Bool, true, false, cond, List, [], ◌∷◌, ◌++◌, map, filter, length, All, Option, Some, None, IfSome, Contains, refl}
+use Rattle.std.specs.List.{slice_get}
+use Rattle.std.specs.Ordering.{MatchOrdering}
+use Rattle.std.proofs.Common.{zero, suc, arith, inl, inr, ap, ap₂, sym, subst, ◌∙◌, get_or, append_assoc, Ordering, Less, Equal, Greater}
+use Rattle.std.proofs.lemmas.List.{append-nil, map-append, get_or-append_right}
+use Rattle.std.proofs.lemmas.List.FromFn.{length-map-range_with_len, get_or-map-range_with_len}
+use Rattle.std.proofs.lemmas.List.Elements.{All-append, All-cons, All-nil, filter-append}
+use Rattle.std.proofs.lemmas.Option.{slice_get_within, get_or_from_slice_get}
+use Rattle.fraction_theory.specs.Fraction.{Fraction, whole, neg_ℚ, ◌+ℚ◌, ◌-ℚ◌, ◌*ℚ◌}
+use Rattle.fraction_theory.specs.Order.{◌<ℚ◌, ◌≤ℚ◌}
+use Rattle.fraction_theory.specs.Signs.{sign_of}
+use Rattle.fraction_theory.specs.declared.Sign.{Sign}
+use Rattle.fraction_theory.specs.declared.Sign.TheVariants.{Below, Zero, Above}
+use Rattle.fraction_theory.proofs.FieldLaws.{+ℚ_neg}
+use Rattle.fraction_theory.proofs.OrderLaws.{NonNeg-one, by_le1, ≤ℚ_refl, ≤ℚ_trans, <ℚ-≤ℚ, ≤ℚ_of_same, ≤ℚ-<ℚ_trans, +ℚ-≤ℚ, +ℚ-<ℚ}
+use Rattle.fraction_theory.proofs.Ring.{at, padd, pneg, pnil, pone}
+use Rattle.fraction_theory.proofs.SignLaws.{IsSign, sign_of_is}
+use Rattle.market_model.specs.declared.answered.RowId.{RowId}
+use Rattle.market_model.specs.declared.participants.Parts.{Parts}
+use Rattle.market_model.specs.Dispatch.{Dispatch, places, injection}
+use Rattle.market_model.specs.Excess.{size_by, size_of}
+use Rattle.market_model.specs.LimitRows.{Cause, Base, After, Row, rows, row_id, limit, line_flow, loss_factor, flow_after}
+use Rattle.market_model.specs.Market.{IsMarket}
+use Rattle.market_model.proofs.MorePlaces.{places_more}
+use Rattle.limit_rows.specs.Groups.{bears, groups}
+use Rattle.limit_rows.specs.Places.{row_of}
+use Rattle.limit_rows.proofs.FactorLemmas.{IsLost, stands}
+use Rattle.limit_rows.proofs.NumberingLemmas.{row_on, all_before}
+use Rattle.limit_rows.proofs.PlaceLemmas.{lost_inside}
+use Rattle.limit_screen.specs.declared.screening.Broken.{Broken}
+use Rattle.limit_screen.specs.Flows.{flow_by, flow_in, flows_at, line_in, LawOfRowFlows}
+use Rattle.limit_screen.specs.Screening.{AllHold, IsFirstMost, IsWorstNamed, IsWorstOf, excess_by, rows_to}
+
+-- ---- orders and differences
+pub not_past : (o : Ordering) (x y : Fraction) → MatchOrdering o (x <ℚ y) (x ≡ y) (y <ℚ x) → (o ≡ Less) ⊎ (o ≡ Equal) → x ≤ℚ y
+not_past Less x y h is = <ℚ-≤ℚ x y h
+not_past Equal x y h is = ≤ℚ_of_same x y h
+not_past Greater x y h (inl e) = absurd Prim.cc
+not_past Greater x y h (inr e) = absurd Prim.cc
+
+pub above_nil : (x y : Fraction) → y <ℚ x → whole (pos 0) <ℚ (x -ℚ y)
+above_nil x y h = subst (λ z. z <ℚ (x -ℚ y)) (+ℚ_neg y) (+ℚ-<ℚ y x (neg_ℚ y) (neg_ℚ y) h (≤ℚ_refl (neg_ℚ y)))
+
+pub below_nil : (x y : Fraction) → x ≤ℚ y → (x -ℚ y) ≤ℚ whole (pos 0)
+below_nil x y h = subst (λ z. (x -ℚ y) ≤ℚ z) (+ℚ_neg y) (+ℚ-≤ℚ x y (neg_ℚ y) (neg_ℚ y) h (≤ℚ_refl (neg_ℚ y)))
+
+from_below : (x y : Fraction) → (x -ℚ y) ≤ℚ whole (pos 0) → x ≤ℚ y
+from_below x y h = by_le1 (x ∷ y ∷ []) (at 0) (at 1) pone (padd (at 0) (pneg (at 1))) pnil NonNeg-one h refl
+
+-- ---- pone row more
+slice_get-seam : (xs : List Row) (x : Row) → slice_get (xs ++ x ∷ []) (length xs) ≡ Some x
+slice_get-seam [] x = refl
+slice_get-seam (y ∷ xs) x = slice_get-seam xs x
+
+slice_get-left : (xs ys : List Row) (i : ℕ) → i < length xs → slice_get (xs ++ ys) i ≡ slice_get xs i
+slice_get-left [] ys i h = absurd (Prim.omega (arith, h))
+slice_get-left (x ∷ xs) ys zero h = refl
+slice_get-left (x ∷ xs) ys (suc i) h = slice_get-left xs ys i (Prim.omega (arith, h))
+
+All-one : (P : Row → Type 0) (r : Row) → P r → All P (r ∷ [])
+All-one P r h = All-cons P r [] h (All-nil P)
+
+all_hold : (e : Row → Fraction) (rs : List Row) (r : Row) → All (λ s. e s ≤ℚ whole (pos 0)) rs → e r ≤ℚ whole (pos 0) → All (λ s. e s ≤ℚ whole (pos 0)) (rs ++ r ∷ [])
+all_hold e rs r all here = All-append (λ s. e s ≤ℚ whole (pos 0)) rs (r ∷ []) all (All-one (λ s. e s ≤ℚ whole (pos 0)) r here)
+
+-- the new row is the worst
+pub new_worst : (e : Row → Fraction) (rs : List Row) (r : Row) → All (λ s. e s <ℚ e r) rs → whole (pos 0) <ℚ e r → IsFirstMost e (rs ++ r ∷ []) r
+new_worst e rs r less above = record {
+  place = length rs;
+  stands = slice_get-seam rs r;
+  broken = above;
+  most = All-append (λ s. e s ≤ℚ e r) rs (r ∷ []) (λ k d lt. <ℚ-≤ℚ (e (get_or rs k d)) (e r) (less k d lt)) (All-one (λ s. e s ≤ℚ e r) r (≤ℚ_refl (e r)));
+  first = λ i s lt at. subst (λ t. e t <ℚ e r) (get_or_from_slice_get rs i s s (sym (slice_get-left rs (r ∷ []) i lt) ∙ at)) (less i s lt);
+}
+
+pub worse_than_old : (e : Row → Fraction) (rs : List Row) (old r : Row) → IsFirstMost e rs old → e old <ℚ e r → All (λ s. e s <ℚ e r) rs
+worse_than_old e rs old r h more k d lt = ≤ℚ-<ℚ_trans (e (get_or rs k d)) (e old) (e r) (h.most k d lt) more
+
+pub worse_than_held : (e : Row → Fraction) (rs : List Row) (r : Row) → All (λ s. e s ≤ℚ whole (pos 0)) rs → whole (pos 0) <ℚ e r → All (λ s. e s <ℚ e r) rs
+worse_than_held e rs r h more k d lt = ≤ℚ-<ℚ_trans (e (get_or rs k d)) (whole (pos 0)) (e r) (h k d lt) more
+
+-- the old pone stays the worst
+pub old_worst : (e : Row → Fraction) (rs : List Row) (old r : Row) → IsFirstMost e rs old → e r ≤ℚ e old → IsFirstMost e (rs ++ r ∷ []) old
+old_worst e rs old r h less =
+    let inside : h.place < length rs = slice_get_within rs h.place old h.stands in record {
+      place = h.place;
+      stands = slice_get-left rs (r ∷ []) h.place inside ∙ h.stands;
+      broken = h.broken;
+      most = All-append (λ s. e s ≤ℚ e old) rs (r ∷ []) h.most (All-one (λ s. e s ≤ℚ e old) r less);
+      first = λ i s lt at. h.first i s lt (sym (slice_get-left rs (r ∷ []) i (Prim.omega (arith, lt, inside))) ∙ at);
+    }
+
+-- a row that holds changes nothing
+pub held : {N : Type 0} (value : N → Fraction) (e : Row → Fraction) (rs : List Row) (r : Row) (worst : Option (Broken N)) → IsWorstOf value e rs worst → e r ≤ℚ whole (pos 0) → IsWorstOf value e (rs ++ r ∷ []) worst
+held value e rs r None before h = all_hold e rs r before h
+held value e rs r (Some b) before h = (old_worst e rs (row_of b.row) r before.0 (≤ℚ_trans (e r) (whole (pos 0)) (e (row_of b.row)) h (<ℚ-≤ℚ (whole (pos 0)) (e (row_of b.row)) before.0.broken)), before.1)
+
+-- ---- a limit that holds
+from_opposite : (f F : Fraction) → neg_ℚ f ≤ℚ F → neg_ℚ F ≤ℚ f
+from_opposite f F h = by_le1 (f ∷ F ∷ []) (pneg (at 1)) (at 0) pone (pneg (at 0)) (at 1) NonNeg-one h refl
+
+below_opposite : (f : Fraction) → f ≤ℚ whole (pos 0) → f ≤ℚ neg_ℚ f
+below_opposite f h = ≤ℚ_trans f (whole (pos 0)) (neg_ℚ f) h (by_le1 (f ∷ []) pnil (pneg (at 0)) pone (at 0) pnil NonNeg-one h refl)
+
+opposite_below : (f : Fraction) → whole (pos 0) ≤ℚ f → neg_ℚ f ≤ℚ f
+opposite_below f h = ≤ℚ_trans (neg_ℚ f) (whole (pos 0)) f (by_le1 (f ∷ []) (pneg (at 0)) pnil pone pnil (at 0) NonNeg-one h refl) h
+
+within_size : (f F : Fraction) (s : Sign) → s ≡ sign_of f → size_by s f ≤ℚ F → (neg_ℚ F ≤ℚ f) × (f ≤ℚ F)
+within_size f F s e h = by s (sign_of_is f s e) h
+  where
+    by : (t : Sign) → IsSign t f → size_by t f ≤ℚ F → (neg_ℚ F ≤ℚ f) × (f ≤ℚ F)
+    by Below is h = (from_opposite f F h, ≤ℚ_trans f (neg_ℚ f) F (below_opposite f (<ℚ-≤ℚ f (whole (pos 0)) is)) h)
+    by Zero is h = (from_opposite f F (≤ℚ_trans (neg_ℚ f) f F (opposite_below f (≤ℚ_of_same (whole (pos 0)) f (sym is))) h), h)
+    by Above is h = (from_opposite f F (≤ℚ_trans (neg_ℚ f) f F (opposite_below f (<ℚ-≤ℚ (whole (pos 0)) f is)) h), h)
+
+-- ---- the flows of a dispatch
+line_at_place : (m : Parts) (x : Dispatch) (fs : List Fraction) (l : ℕ) → fs ≡ flows_at m x → l < length m.lines → line_in m fs l ≡ line_flow m (injection m x) l
+line_at_place m x fs l puts h =
+    let front : List Fraction = map (injection m x) (places (length m.buses)) in
+    let back : List Fraction = map (line_flow m (injection m x)) (places (length m.lines)) in
+    let count : length front ≡ length m.buses = length-map-range_with_len (injection m x) 0 (length m.buses) in
+    let past : length m.buses ≤ length m.buses + l = Prim.omega arith in
+    let left : (length m.buses + l) - length m.buses ≡ l = Prim.omega arith in
+    let from_0 : 0 + l ≡ l = Prim.omega arith in
+    ap (λ (ys : List Fraction). get_or ys (length m.buses + l) (whole (pos 0))) puts
+    ∙ get_or-append_right front back (length m.buses) (length m.buses + l) (whole (pos 0)) count past
+    ∙ ap (λ (i : ℕ). get_or back i (whole (pos 0))) left
+    ∙ get_or-map-range_with_len (line_flow m (injection m x)) 0 (length m.lines) l l (whole (pos 0)) h from_0
+
+pub law_of_row_flows : LawOfRowFlows
+law_of_row_flows m x fs r market puts c = let h = stands m market r c in by r.cause h.lost h.line
+  where
+    by : (cause : Cause) → IsLost m cause → r.line < length m.lines → flow_in m (line_in m fs) r.line cause ≡ flow_after m (injection m x) r.line cause
+    by Base lost inside = line_at_place m x fs r.line puts inside
+    by (After k) lost inside = ap₂ (λ a b. a +ℚ loss_factor m r.line k *ℚ b) (line_at_place m x fs r.line puts inside) (line_at_place m x fs k puts lost.0)
+
+-- ---- rows of a group, line by line
+pub lines_more : (m : Parts) (lost : Option ℕ) (k : ℕ) (rs : List Row) → bears m lost k ≡ true
+    → rs ++ map (row_on lost) (filter (bears m lost) (places (k + 1))) ≡ (rs ++ map (row_on lost) (filter (bears m lost) (places k))) ++ row_on lost k ∷ []
+lines_more m lost k rs e =
+    ap (λ ls. rs ++ map (row_on lost) ls) (ap (filter (bears m lost)) (places_more k) ∙ filter-append (bears m lost) (places k) (k ∷ []) ∙ ap (λ (b : Bool). filter (bears m lost) (places k) ++ cond b (k ∷ []) []) e)
+    ∙ ap (λ ss. rs ++ ss) (map-append (row_on lost) (filter (bears m lost) (places k)) (k ∷ []))
+    ∙ sym (append_assoc rs (map (row_on lost) (filter (bears m lost) (places k))) (row_on lost k ∷ []))
+
+pub lines_same : (m : Parts) (lost : Option ℕ) (k : ℕ) (rs : List Row) → bears m lost k ≡ false
+    → rs ++ map (row_on lost) (filter (bears m lost) (places (k + 1))) ≡ rs ++ map (row_on lost) (filter (bears m lost) (places k))
+lines_same m lost k rs e =
+    ap (λ ls. rs ++ map (row_on lost) ls)
+    (ap (filter (bears m lost)) (places_more k) ∙ filter-append (bears m lost) (places k) (k ∷ []) ∙ ap (λ (b : Bool). filter (bears m lost) (places k) ++ cond b (k ∷ []) []) e
+    ∙ append-nil (filter (bears m lost) (places k)))
+
+pub lost_in : (m : Parts) → IsMarket m → (o : Option ℕ) → Contains (groups m) o → IfSome o (λ k. k < length m.lines)
+lost_in m market None c = tt
+lost_in m market (Some k) c = lost_inside m market k c
+
+-- ---- the worst of all rows
+pub all_rows : (m : Parts) (k : ℕ) → length (groups m) ≤ k → rows_to m k ≡ rows m
+all_rows m k h = all_before m k h
+
+pub worst_named : (m : Parts) (f : ℕ → Fraction) (r : Row) (id : RowId) → IsFirstMost (excess_by m f) (rows m) r → id ≡ row_id m r → IsWorstNamed m f id
+worst_named m f r id h e = (
+  h.place,
+  r,
+  record {
+    stands = h.stands;
+    broken = h.broken;
+    most = λ s c. subst (λ t. excess_by m f t ≤ℚ excess_by m f r) c.2 (h.most c.0 s c.1);
+    first = λ i s lt at. h.first i s lt at;
+  },
+  e,
+)
+
+pub all_hold_by : (m : Parts) (f : ℕ → Fraction) → All (λ s. excess_by m f s ≤ℚ whole (pos 0)) (rows m) → AllHold m f
+all_hold_by m f h r c =
+    let size : size_of (flow_by m f r) ≤ℚ limit m r = from_below (size_of (flow_by m f r)) (limit m r) (subst (λ t. excess_by m f t ≤ℚ whole (pos 0)) c.2 (h c.0 r c.1)) in
+    let both = within_size (flow_by m f r) (limit m r) (sign_of (flow_by m f r)) refl size in
+    record { above = both.0; below = both.1 }
+
+pub listed_row : (rs : List Row) (place : ℕ) (r : Row) → slice_get rs place ≡ Some r → Contains rs r
+listed_row rs place r e = (place, slice_get_within rs place r e, get_or_from_slice_get rs place r r e)

@@ -1,0 +1,21 @@
+use Rattle.std.proofs.Common.{◌≡◌, sym, ap, subst, ◌∙◌}
+use Rattle.fraction_theory.specs.Fraction.{Fraction, ◌-ℚ◌}
+use Rattle.fraction_theory.specs.Order.{◌<ℚ◌, ◌≤ℚ◌}
+use Rattle.market_model.specs.Dispatch.{zero}
+use Rattle.limit_screen.proofs.ScreenLemmas.{above_nil, below_nil, not_past}
+use Rattle.limit_screen.proofs.screening.beyond.Goals as goal
+
+pub returns-in_ok-minus-in-Greater-clause-excess : goal.returns-in_ok-minus-in-Greater-clause-excess
+returns-in_ok-minus-in-Greater-clause-excess g c =
+    let is = c.in_ok-minus-in-Greater.ensures.exact ∙ ap (λ (x : Fraction). x -ℚ g.N.Exact.value c.args.limit) c.size-size.ensures in (
+      subst (λ x. zero <ℚ x) (sym c.in_ok-minus-in-Greater.ensures.exact) (above_nil (g.N.Exact.value c.size-size.result) (g.N.Exact.value c.args.limit) c.in-Greater.ensures),
+      is,
+    )
+
+pub returns-in-Less : goal.returns-in-Less
+returns-in-Less g c = record {
+  excess =
+      subst (λ x. (x -ℚ g.N.Exact.value c.args.limit) ≤ℚ zero) c.size-size.ensures
+      (below_nil (g.N.Exact.value c.size-size.result) (g.N.Exact.value c.args.limit) (not_past c.order.result (g.N.Exact.value c.size-size.result) (g.N.Exact.value c.args.limit) c.order.ensures c.in-Less.is));
+  cause = tt;
+}

@@ -1,0 +1,56 @@
+-- Which limit is passed by the most, where lines have given flows.
+use Rattle.std.specs.Prelude.{◌≡◌, ℕ, ◌<◌, List, Option, Some, None, All, Contains, take}
+use Rattle.std.specs.List.{flat_map, slice_get}
+use Rattle.fraction_theory.specs.Fraction.{Fraction}
+use Rattle.fraction_theory.specs.Order.{◌<ℚ◌, ◌≤ℚ◌}
+use Rattle.exact_fraction.specs.declared.Op.TheVariants.{Minus}
+use Rattle.exact_fraction.specs.declared.Passed.{Passed}
+use Rattle.market_model.specs.declared.answered.RowId.{RowId}
+use Rattle.market_model.specs.declared.participants.Parts.{Parts}
+use Rattle.market_model.specs.Dispatch.{zero}
+use Rattle.market_model.specs.Excess.{excess, size_of, IsWorst}
+use Rattle.market_model.specs.LimitRows.{Row, rows, row_id, limit}
+use Rattle.market_model.specs.NamedSums.{IsRefusal, IsRefusedIn}
+use Rattle.market_model.specs.Optimality.{Within}
+use Rattle.limit_rows.specs.Groups.{groups, rows_of}
+use Rattle.limit_rows.specs.Places.{row_of}
+use Rattle.limit_screen.specs.declared.screening.Broken.{Broken}
+use Rattle.limit_screen.specs.Flows.{flow_by, flow_terms}
+
+-- all limits of the market hold
+abbrev pub AllHold : Parts → (ℕ → Fraction) → Type 0
+AllHold m f = (r : Row) → Contains (rows m) r → Within m r (flow_by m f r)
+
+-- the name of the row of greatest excess, the first of several
+abbrev pub IsWorstNamed : Parts → (ℕ → Fraction) → RowId → Type 0
+IsWorstNamed m f id = (place : ℕ) × (r : Row) × IsWorst m (flow_by m f) place r × (id ≡ row_id m r)
+
+-- an operation refused for a row: its flow, or by how much that passes its limit
+pub data IsRowRefusal (m : Parts) (f : ℕ → Fraction) (bound : ℕ) (r : Row) (p : Passed Fraction) : Type 0 where
+  of_flow : IsRefusedIn (flow_terms m f r) bound p → IsRowRefusal m f bound r p
+  of_limit : IsRefusal Minus (size_of (flow_by m f r)) (limit m r) bound p → IsRowRefusal m f bound r p
+
+-- an operation refused for a row of the market
+abbrev pub IsScreenRefusal : Parts → (ℕ → Fraction) → ℕ → Passed Fraction → Type 0
+IsScreenRefusal m f bound p = (r : Row) × Contains (rows m) r × IsRowRefusal m f bound r p
+
+-- ---- the worst of some rows, by their excesses
+abbrev pub excess_by : Parts → (ℕ → Fraction) → Row → Fraction
+excess_by m f r = excess m r (flow_by m f r)
+
+-- a row of the list with an excess above 0 that none has more of, and none before it as much
+pub record IsFirstMost (e : Row → Fraction) (rs : List Row) (r : Row) : Type 0 where
+  pub place : ℕ
+  pub stands : slice_get rs place ≡ Some r
+  pub broken : zero <ℚ e r
+  pub most : All (λ s. e s ≤ℚ e r) rs
+  pub first : (i : ℕ) (s : Row) → i < place → slice_get rs i ≡ Some s → e s <ℚ e r
+
+-- the worst of some rows with its excess, or none where all of them hold
+abbrev pub IsWorstOf : {N : Type 0} → (N → Fraction) → (Row → Fraction) → List Row → Option (Broken N) → Type 0
+IsWorstOf value e rs None = All (λ s. e s ≤ℚ zero) rs
+IsWorstOf value e rs (Some b) = IsFirstMost e rs (row_of b.row) × (value b.excess ≡ e (row_of b.row))
+
+-- the rows of the first groups
+abbrev pub rows_to : Parts → ℕ → List Row
+rows_to m k = flat_map (rows_of m) (take k (groups m))

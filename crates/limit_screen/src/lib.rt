@@ -1,0 +1,14 @@
+//! The flows of a dispatch, and the limit that flows pass by the most.
+#![tactic(auto)]
+
+mod amounts;
+mod flowing;
+pub mod laws;
+mod screening;
+
+pub use amounts::{datum, factor};
+pub use flowing::flows;
+pub use screening::{row_flow, worst};
+
+#[cfg(test)]
+mod tests;

@@ -1,0 +1,142 @@
+//! Which limit flows pass by the most.
+
+ghost use Rattle.std.specs.Prelude.{◌≡◌, ◌+◌, ◌<◌, List, [], ◌∷◌, ◌++◌, length, map, IfOk, IfErr, IfSome, MatchOption};
+ghost use Rattle.fraction_theory.specs.Fraction.{Fraction, ◌-ℚ◌};
+ghost use Rattle.fraction_theory.specs.Order.{◌<ℚ◌, ◌≤ℚ◌};
+ghost use Rattle.exact_fraction.specs.declared.Op.TheVariants as Op;
+ghost use Rattle.market_model.specs.Valued.{passed_at};
+ghost use Rattle.market_model.specs.Dispatch.{zero};
+ghost use Rattle.market_model.specs.Excess.{size_of};
+ghost use Rattle.market_model.specs.LimitRows.{Row};
+ghost use Rattle.market_model.specs.NamedSums.{IsRefusal, IsRefusedIn};
+ghost use Rattle.limit_rows.specs.Groups.{groups};
+ghost use Rattle.limit_rows.specs.Places.{row_of};
+ghost use Rattle.limit_screen.specs.Flows.{flow_by, flow_terms, line_in};
+ghost use Rattle.limit_screen.specs.Screening.{AllHold, IsWorstNamed, IsRowRefusal, IsScreenRefusal, IsWorstOf, excess_by, rows_to};
+
+use crate::amounts::{datum, with_share};
+use exact_fraction::{Exact, Passed, Sign};
+use limit_rows::{LimitRow, group_count, has_row, limit_at, loss_of, lost_of, name_at};
+use market_model::{Market, RowId};
+use std::cmp::Ordering;
+
+/// A row whose limit is passed.
+#[derive(Clone, Copy, Debug)]
+struct Broken<N> {
+    row: LimitRow,
+    /// By how much, in 10^-9 MW.
+    excess: N,
+}
+
+/// The flow of a row, of the flows by line behind those of buses. After an outage the part of the lost flow that goes over to the line is added.
+pub fn row_flow<N: Exact>(market: &Market, flows: &[N], row: LimitRow) -> Result<N, Passed<N>>
+    requires flows { length flows.now ≡ length market.now.buses + length market.now.lines }
+    requires line { row.line < length market.now.lines }
+    requires lost { IfSome row.lost (λ lost. lost < length market.now.lines) }
+    ensures flow { IfOk result (λ flow. N.value flow ≡ flow_by market.now (line_in market.now (map N.value flows.now)) (row_of row)) }
+    ensures cause { IfErr result (λ passed. IsRefusedIn (flow_terms market.now (line_in market.now (map N.value flows.now)) (row_of row)) N.bound (passed_at N.value passed)) }
+{
+    let buses = market.buses().len();
+    let own = flows[buses + row.line];
+    match row.lost {
+        None => Ok(own),
+        Some(lost) => with_share(own, loss_of(market, row.line, lost), flows[buses + lost]),
+    }
+}
+
+/// The size of a flow.
+fn size<N: Exact>(flow: N) -> N
+    ensures { N.value result ≡ size_of (N.value flow) }
+{
+    match flow.sign() {
+        Sign::Below => flow.neg(),
+        Sign::Zero | Sign::Above => flow,
+    }
+}
+
+/// By how much a flow passes a limit; nothing where it doesn't.
+fn beyond<N: Exact>(flow: N, limit: N) -> Result<Option<N>, Passed<N>>
+    ensures excess { IfOk result (λ past. MatchOption past ((size_of (N.value flow) -ℚ N.value limit) ≤ℚ zero) (λ e. (zero <ℚ N.value e) × (N.value e ≡ size_of (N.value flow) -ℚ N.value limit))) }
+    ensures cause { IfErr result (λ passed. IsRefusal Op.Minus (size_of (N.value flow)) (N.value limit) N.bound (passed_at N.value passed)) }
+{
+    let size = size(flow);
+    match size.order(limit) {
+        Ordering::Greater => Ok(Some(size.minus(limit)?)),
+        Ordering::Less | Ordering::Equal => Ok(None),
+    }
+}
+
+/// The worse of two rows, and the first where they are as bad.
+fn worse<N: Exact>(worst: Option<Broken<N>>, row: LimitRow, excess: N) -> Option<Broken<N>>
+    requires { zero <ℚ N.value excess }
+    ensures { (e : Row → Fraction) (rs : List Row) → IsWorstOf N.value e rs worst → N.value excess ≡ e (row_of row) → IsWorstOf N.value e (rs ++ row_of row ∷ []) result }
+{
+    match worst {
+        Some(broken) => match excess.order(broken.excess) {
+            Ordering::Greater => Some(Broken { row, excess }),
+            Ordering::Less | Ordering::Equal => Some(broken),
+        },
+        None => Some(Broken { row, excess }),
+    }
+}
+
+/// The worst with one row more.
+fn with_row<N: Exact>(
+    market: &Market,
+    flows: &[N],
+    row: LimitRow,
+    worst: Option<Broken<N>>,
+) -> Result<Option<Broken<N>>, Passed<N>>
+    requires flows { length flows.now ≡ length market.now.buses + length market.now.lines }
+    requires line { row.line < length market.now.lines }
+    requires lost { IfSome row.lost (λ lost. lost < length market.now.lines) }
+    ensures worst { (rs : List Row) → IsWorstOf N.value (excess_by market.now (line_in market.now (map N.value flows.now))) rs worst → IfOk result (IsWorstOf N.value (excess_by market.now (line_in market.now (map N.value flows.now))) (rs ++ row_of row ∷ [])) }
+    ensures cause { IfErr result (λ passed. IsRowRefusal market.now (line_in market.now (map N.value flows.now)) N.bound (row_of row) (passed_at N.value passed)) }
+{
+    let flow = row_flow(market, flows, row)?;
+    match beyond(flow, datum(limit_at(market, row)))? {
+        Some(excess) => Ok(worse(worst, row, excess)),
+        None => Ok(worst),
+    }
+}
+
+/// The worst with the rows of a group more.
+fn with_group<N: Exact>(
+    market: &Market,
+    flows: &[N],
+    group: usize,
+    before: Option<Broken<N>>,
+) -> Result<Option<Broken<N>>, Passed<N>>
+    requires flows { length flows.now ≡ length market.now.buses + length market.now.lines }
+    requires group { group < length (groups market.now) }
+    requires before { IsWorstOf N.value (excess_by market.now (line_in market.now (map N.value flows.now))) (rows_to market.now group) before }
+    ensures worst { IfOk result (IsWorstOf N.value (excess_by market.now (line_in market.now (map N.value flows.now))) (rows_to market.now (group + 1))) }
+    ensures cause { IfErr result (λ passed. IsScreenRefusal market.now (line_in market.now (map N.value flows.now)) N.bound (passed_at N.value passed)) }
+{
+    let lost = lost_of(market, group);
+    let mut worst = before;
+    for line in 0..market.lines().len() {
+        if has_row(market, lost, line) {
+            worst = with_row(market, flows, LimitRow { line, lost }, worst)?;
+        }
+    }
+    Ok(worst)
+}
+
+/// The name of the row whose limit the flows pass by the most, and the first of those in the market's order; none where all limits
+/// hold. The flows are those of buses and then of lines, as `flows` puts them.
+pub fn worst<N: Exact>(market: &Market, flows: &[N]) -> Result<Option<RowId>, Passed<N>>
+    requires { length flows.now ≡ length market.now.buses + length market.now.lines }
+    ensures worst { IfOk result (λ worst. MatchOption worst (AllHold market.now (line_in market.now (map N.value flows.now))) (IsWorstNamed market.now (line_in market.now (map N.value flows.now)))) }
+    ensures cause { IfErr result (λ passed. IsScreenRefusal market.now (line_in market.now (map N.value flows.now)) N.bound (passed_at N.value passed)) }
+{
+    let _lines = market.lines();
+    let mut worst = None;
+    for group in 0..group_count(market) {
+        worst = with_group(market, flows, group, worst)?;
+    }
+    match worst {
+        Some(broken) => Ok(Some(name_at(market, broken.row))),
+        None => Ok(None),
+    }
+}
