@@ -5,6 +5,10 @@ pub mod FrameLaws
 pub mod GrowthLaws
 pub mod LawsOfSolving
 pub mod MarketPoints
+mod ModestChoices
+mod ModestMarkets
+mod ModestNumbers
+mod ModestPairs
 pub mod PairLaws
 mod RangeRows
 pub mod RowOrder

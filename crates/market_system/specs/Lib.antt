@@ -3,6 +3,7 @@ pub mod FrameLaw
 pub mod Growth
 pub mod MarketNumbers
 pub mod MarketSystem
+pub mod ModestMarkets
 pub mod Outcomes
 pub mod SolvedLaws
 pub mod WorkingPairs

@@ -1,6 +1,7 @@
 //! Laws of the definitions, each the contract of a function that does nothing.
 ghost use Rattle.market_system.specs.Completeness.{LawOfCompleteness};
 ghost use Rattle.market_system.specs.FrameLaw.{LawOfTheFrame};
+ghost use Rattle.market_system.specs.ModestMarkets.{LawOfModestMarkets};
 ghost use Rattle.market_system.specs.SolvedLaws.{LawOfTheSystem, LawOfThePoints, LawOfTheSolved, LawOfTheAnswer, LawOfTheStuck, LawOfGrowth};
 
 /// A market over some of its limits is a linear system, in whatever order they are listed.
@@ -44,4 +45,10 @@ pub fn taken_limits_grow()
 /// these is cleared where a dispatch is feasible, and infeasible where none is.
 pub fn no_pair_no_range()
     ensures { LawOfCompleteness }
+{}
+
+/// In a market without lines, with no number above ten million MW or a thousand million per MWh, no
+/// working pair passes 127 bits: numbers never become too large.
+pub fn modest_markets_fit()
+    ensures { LawOfModestMarkets }
 {}

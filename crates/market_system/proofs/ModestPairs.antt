@@ -1,0 +1,278 @@
+-- No working pair of a modest market without lines passes 127 bits.
+use Rattle.std.specs.Prelude.{◌≡◌, ℕ, Bool, true, false, ◌+◌, ◌*◌, ◌-◌, ◌^◌, ◌≤◌, ◌<◌, pos, List, [], ◌∷◌, ◌⊎◌, length, map, refl}
+use Rattle.std.specs.List.{Contains}
+use Rattle.std.proofs.Common.{arith, ap, sym, ◌∙◌, subst, inl, inr}
+use Rattle.std.proofs.lemmas.List.{length-append, length-map}
+use Rattle.std.proofs.lemmas.List.FromFn.{length-range_with_len}
+use Rattle.exact_fraction.specs.declared.Op.{Op}
+use Rattle.exact_fraction.specs.declared.Op.TheVariants.{Plus, Minus, Times}
+use Rattle.exact_fraction.specs.Passes.{Passes}
+use Rattle.fraction_theory.specs.Fraction.{Fraction, neg_ℚ, ◌+ℚ◌, ◌-ℚ◌, ◌*ℚ◌}
+use Rattle.fraction_theory.specs.Signs.{sign_of}
+use Rattle.fraction_theory.specs.Sums.{Term, Product, term_value, prefix}
+use Rattle.fraction_theory.specs.declared.Sign.{Sign}
+use Rattle.fraction_theory.specs.declared.Sign.TheVariants.{Below, Zero, Above}
+use mathlib.Core.Path.{ap₂}
+use Rattle.fraction_theory.proofs.FieldLaws.{ring_ℚ}
+use Rattle.fraction_theory.proofs.Ring.{by_ring, at, pneg, ◌⊗◌}
+use Rattle.fraction_theory.proofs.ListSums.{same_or_not}
+use Rattle.linear_system.specs.Choices.{Choice, IsChoice}
+use Rattle.linear_system.specs.Numbers.{Kind, Factor, Quantity, Price}
+use Rattle.linear_system.specs.Pairs.{IsCombined, IsSummand, IsPairCase, OfEither, alone, sum, difference, plain, scaled, added, subtracted, scaled_right, scaled_left}
+use Rattle.linear_system.proofs.ChoiceLaws.{is_other}
+use Rattle.simplex_theory.specs.Stuck.{multiplier}
+use Rattle.simplex_theory.proofs.StuckRows.{multiplier-itself, multiplier-basic, multiplier-other}
+use Rattle.market_model.specs.declared.answered.Duals.{Duals}
+use Rattle.market_model.specs.declared.participants.Parts.{Parts}
+use Rattle.market_model.specs.Market.{IsMarket}
+use Rattle.market_model.specs.Dispatch.{Dispatch, IsDispatch, places, block_at, unit_at, quantity, accepted, balance, empty, demand, output}
+use Rattle.market_model.specs.Infeasibility.{part_above, where_above, block_weight, farkas_terms}
+use Rattle.market_model.specs.LimitRows.{Row, rows, row_factor}
+use Rattle.market_model.specs.NamedSums.{SameSize, term_at, IsSumStep}
+use Rattle.market_model.specs.Optimality.{bus_price, block_value, congestion_terms, pull, unit_price, welfare_terms}
+use Rattle.market_model.specs.Settlement.{surplus_terms}
+use Rattle.market_model.proofs.FarkasLaw.{farkas_terms-bare}
+use Rattle.market_model.proofs.RowLaws.{no_rows, no_row, bus_price-bare}
+use Rattle.market_system.specs.MarketSystem.{balance_name, system_of, choice_dispatch, choice_duals}
+use Rattle.market_system.specs.MarketNumbers.{MarketNumber, IsBest, IsInjecting, IsFarkasOf}
+use Rattle.market_system.specs.MarketNumbers.{of_system, is_fixed, is_up, is_down, is_load, is_shunt, is_limit, is_line_offset, is_shift, is_loss, is_offset, is_row_factor, is_line_flow, is_row_flow, is_injection, is_balance, is_output, is_energy, is_bus_price, is_congestion, is_up_dual, is_down_dual, is_farkas_energy, is_farkas_price, is_farkas_congestion, is_farkas_up, is_farkas_down, is_farkas_bound, of_opposite}
+use Rattle.market_system.specs.ModestMarkets.{IsModest, LawOfModestMarkets, modest_mw, modest_price}
+use Rattle.market_system.specs.WorkingPairs.{IsMoneySum, IsMoneyCase, IsWorkingPair, of_welfare, of_surplus, of_rent}
+use Rattle.market_system.specs.Growth.{GrowsBy}
+use Rattle.market_system.proofs.SystemLaws.{from_places, variable_in}
+use Rattle.market_system.proofs.ModestNumbers.{IsWholeWithin, whole_within, nil_within, wider, neg_within, plus_within, times_within, same_within, sum_fits, product_fits, AreWithin, append_within, map_within, prefix_within, term_within}
+use Rattle.market_system.proofs.ModestChoices.{entry_within, energy_within}
+use Rattle.market_system.proofs.ModestMarkets.{most_injection, most_balance, most_value, most_output, most_of, signed_within, load_within, shunt_within, fixed_within, up_within, down_within, quantity_within, price_within, block_value_within, injection_within, balance_within, output_terms_within, output_within, demand_within, empty_small, empty_balance_within, dispatch_small, system_within}
+
+part_above_within : (b : ℕ) (x : Fraction) → IsWholeWithin b x → IsWholeWithin b (part_above x)
+part_above_within b x h = by_sign (sign_of x)
+  where
+    by_sign : (s : Sign) → IsWholeWithin b (where_above s x)
+    by_sign Below = nil_within b
+    by_sign Zero = nil_within b
+    by_sign Above = h
+
+-- products of numbers of the same sizes
+same_product : (l r a b : Fraction) → SameSize l a → SameSize r b → SameSize (l *ℚ r) (a *ℚ b)
+same_product l r a b (inl e) (inl f) = inl (ap₂ ◌*ℚ◌ e f)
+same_product l r a b (inl e) (inr f) = inr (ap₂ ◌*ℚ◌ e f ∙ by_ring ring_ℚ (a ∷ b ∷ []) (at 0 ⊗ pneg (at 1)) (pneg (at 0 ⊗ at 1)) refl)
+same_product l r a b (inr e) (inl f) = inr (ap₂ ◌*ℚ◌ e f ∙ by_ring ring_ℚ (a ∷ b ∷ []) (pneg (at 0) ⊗ at 1) (pneg (at 0 ⊗ at 1)) refl)
+same_product l r a b (inr e) (inr f) = inl (ap₂ ◌*ℚ◌ e f ∙ by_ring ring_ℚ (a ∷ b ∷ []) (pneg (at 0) ⊗ pneg (at 1)) (at 0 ⊗ at 1) refl)
+
+-- the greatest number of 127 bits
+abbrev most : ℕ
+most = 2 ^ 127 - 1
+
+-- operations of numbers of such kinds
+module _ (N : Kind → Fraction → Type 0) (each : (kind : Kind) (x : Fraction) → N kind x → IsWholeWithin (most_of kind) x) where
+  abbrev most_sum : Kind → ℕ
+  most_sum kind = most_of kind + most_of kind
+
+  combined_within : (kind : Kind) (x : Fraction) → IsCombined N kind x → IsWholeWithin (most_sum kind) x
+  combined_within kind x (alone _ n) = wider (most_of kind) (most_sum kind) x (Prim.omega arith) (each kind x n)
+  combined_within kind x (sum y z n k) = plus_within (most_of kind) (most_of kind) y z (each kind y n) (each kind z k)
+  combined_within kind x (difference y z n k) = plus_within (most_of kind) (most_of kind) y (neg_ℚ z) (each kind y n) (neg_within (most_of kind) z (each kind z k))
+
+  summand_within : (kind : Kind) (x : Fraction) → IsSummand N kind x → IsWholeWithin (4000 * most_sum kind) x
+  summand_within kind x (plain _ c) = wider (most_sum kind) (4000 * most_sum kind) x (Prim.omega arith) (combined_within kind x c)
+  summand_within kind x (scaled f y n c) = times_within 4000 (most_sum kind) f y (each Factor f n) (combined_within kind y c)
+
+  room : (kind : Kind) → 4000 * most_sum kind + 4000 * most_sum kind ≤ most
+  room Factor = Prim.omega arith
+  room Quantity = Prim.omega arith
+  room Price = Prim.omega arith
+
+  summands_fit : (kind : Kind) (l r : Fraction) → IsWholeWithin (4000 * most_sum kind) l → IsWholeWithin (4000 * most_sum kind) r → Passes most Plus l r → ⊥
+  summands_fit kind l r h k =
+      sum_fits most l r (Prim.omega arith)
+      (wider (4000 * most_sum kind) most l (Prim.omega (arith, room kind)) h)
+      (wider (4000 * most_sum kind) most r (Prim.omega (arith, room kind)) k)
+      (wider (4000 * most_sum kind + 4000 * most_sum kind) most (l +ℚ r) (room kind) (plus_within (4000 * most_sum kind) (4000 * most_sum kind) l r h k))
+
+  scaled_fits : (kind : Kind) (f x : Fraction) → N Factor f → IsCombined N kind x → IsWholeWithin most (f *ℚ x)
+  scaled_fits kind f x n c = wider (4000 * most_sum kind) most (f *ℚ x) (Prim.omega (arith, room kind)) (times_within 4000 (most_sum kind) f x (each Factor f n) (combined_within kind x c))
+
+  case_fits : (op : Op) (l r : Fraction) → IsPairCase N op l r → Passes most op l r → ⊥
+  case_fits Plus l r (added kind _ _ a b) p = summands_fit kind l r (summand_within kind l a) (summand_within kind r b) p
+  case_fits Minus l r (subtracted kind _ _ a b) p = summands_fit kind l (neg_ℚ r) (summand_within kind l a) (neg_within (4000 * most_sum kind) r (summand_within kind r b)) p
+  case_fits Times l r (scaled_right kind _ _ n c) p = product_fits most l r (Prim.omega arith) (scaled_fits kind l r n c) p
+  case_fits Times l r (scaled_left kind _ _ c n) p = product_fits most l r (Prim.omega arith) (subst (IsWholeWithin most) (ring_ℚ.times_comm r l) (scaled_fits kind r l n c)) p
+
+-- steps in adding up terms
+module _ (terms : List Term) (b : ℕ) (count : length terms ≤ 4000) (each : AreWithin b terms) (room : 4000 * b ≤ most) where
+  first_within : (k : ℕ) (x : Fraction) → SameSize x (prefix k terms) → IsWholeWithin most x
+  first_within k x e = same_within most x (prefix k terms) e (wider (4000 * b) most (prefix k terms) room (prefix_within 4000 b k terms count each))
+
+  next_within : (k : ℕ) (x : Fraction) → SameSize x (term_value (term_at terms k)) → IsWholeWithin most x
+  next_within k x e = same_within most x (term_value (term_at terms k)) e (wider b most (term_value (term_at terms k)) (Prim.omega (arith, room)) (term_within b k terms each))
+
+  step_fits : (op : Op) (l r : Fraction) → IsSumStep terms op l r → Passes most op l r → ⊥
+  step_fits Plus l r (k, n) p = sum_fits most l r (Prim.omega arith) (first_within k l n.before) (next_within k r n.next) (first_within (k + 1) (l +ℚ r) n.after) p
+  step_fits Minus l r (k, n) p = sum_fits most l (neg_ℚ r) (Prim.omega arith) (first_within k l n.before) (neg_within most r (next_within k r n.next)) (first_within (k + 1) (l -ℚ r) n.after) p
+  step_fits Times l r (k, x, y, f) p = product_fits most l r (Prim.omega arith) (next_within k (l *ℚ r) (subst (λ (t : Term). SameSize (l *ℚ r) (term_value t)) (sym f.product) (of_sides f.sides))) p
+    where
+      of_sides : (SameSize l x × SameSize r y) ⊎ (SameSize l y × SameSize r x) → SameSize (l *ℚ r) (x *ℚ y)
+      of_sides (inl q) = same_product l r x y q.0 q.1
+      of_sides (inr q) = subst (SameSize (l *ℚ r)) (ring_ℚ.times_comm y x) (same_product l r y x q.0 q.1)
+
+module _ (m : Parts) (market : IsMarket m) (lines : m.lines ≡ []) (modest : IsModest m) where
+  bare : rows m ≡ []
+  bare = no_rows m lines
+
+  no_line : (l : ℕ) → l < length m.lines → ⊥
+  no_line l lt = let none : length m.lines ≡ 0 = ap length lines in Prim.omega (arith, lt, none)
+
+  -- without limit rows congestion has no terms
+  congestion_within : (b k i : ℕ) (d : Duals Fraction) → IsWholeWithin b (prefix k (congestion_terms m d i))
+  congestion_within b k i d = subst (λ (rs : List Row). IsWholeWithin b (prefix k (map (λ r. Product (neg_ℚ (pull m d r)) (row_factor m r i)) rs))) (sym bare)
+      (wider (0 * b) b (prefix k []) (Prim.omega arith) (prefix_within 0 b k [] (Prim.omega arith) tt))
+
+  module _ (h : Choice) (is : IsChoice (system_of m []) h) where
+    injecting_small : (x : Dispatch) → IsInjecting m [] h x → (j : ℕ) → j < length m.blocks → IsWholeWithin modest_mw (accepted x j)
+    injecting_small x (inl e) j lt = subst (λ (y : Dispatch). IsWholeWithin modest_mw (accepted y j)) (sym e) (empty_small m market modest j lt)
+    injecting_small x (inr q) j lt =
+        subst (λ (y : Dispatch). IsWholeWithin modest_mw (accepted y j)) (sym q.0)
+        (dispatch_small m market modest h is (subst (λ (y : Dispatch). IsDispatch m y) q.0 q.1.feasible.blocks) j lt)
+
+    best_small : IsBest m [] h → (j : ℕ) → j < length m.blocks → IsWholeWithin modest_mw (accepted (choice_dispatch m [] h) j)
+    best_small best j lt = dispatch_small m market modest h is best.feasible.blocks j lt
+
+    -- the price of energy, and at a bus
+    price_is_modest : IsWholeWithin modest_price (choice_duals m [] h).energy
+    price_is_modest = energy_within m h is modest_price (price_within m market modest)
+
+    bus_price_within : (b : ℕ) (d : Duals Fraction) (i : ℕ) → IsWholeWithin b d.energy → IsWholeWithin b (bus_price m d i)
+    bus_price_within b d i e = subst (IsWholeWithin b) (sym (bus_price-bare m d i bare)) e
+
+    -- at duals that show that nothing is feasible
+    farkas_energy_within : (d : Duals Fraction) → IsFarkasOf m [] h d → IsWholeWithin 1 d.energy
+    farkas_energy_within d f = same_within 1 d.energy (multiplier h f.basic (balance_name m)) f.energy at_balance
+      where
+        inside : Contains (system_of m []).variables (balance_name m)
+        inside = variable_in m (balance_name m) (Prim.omega arith)
+
+        at_test : (apart : ¬ (balance_name m ≡ f.basic)) (b : Bool) → h.basic (balance_name m) ≡ b → IsWholeWithin 1 (multiplier h f.basic (balance_name m))
+        at_test apart true e = subst (IsWholeWithin 1) (sym (multiplier-basic (system_of m []) h f.basic (balance_name m) apart e)) (nil_within 1)
+        at_test apart false e = subst (IsWholeWithin 1) (sym (multiplier-other (system_of m []) h f.basic (balance_name m) apart e))
+            (neg_within 1 (h.entry f.basic (balance_name m)) (entry_within m h is f.basic (balance_name m) f.is_basic (is_other (system_of m []) h (balance_name m) inside e)))
+
+        at_balance : IsWholeWithin 1 (multiplier h f.basic (balance_name m))
+        at_balance = elim (same_or_not (balance_name m) f.basic) [
+          | inl e ↦ subst (IsWholeWithin 1) (sym (multiplier-itself (system_of m []) h f.basic (balance_name m) e)) (whole_within 1 (pos 1) (Prim.omega arith))
+          | inr apart ↦ at_test apart (h.basic (balance_name m)) refl
+        ]
+
+    farkas_within : (d : Duals Fraction) (k : ℕ) → IsFarkasOf m [] h d → IsWholeWithin most_value (prefix k (farkas_terms m d))
+    farkas_within d k f = subst (λ (ts : List Term). IsWholeWithin most_value (prefix k ts)) (sym (farkas_terms-bare m d bare))
+        (prefix_within 4001 most_balance k (Product d.energy (balance m (empty m)) ∷ map weighed (places (length m.blocks)))
+        (Prim.omega (arith, length-map (places (length m.blocks)) weighed, length-range_with_len 0 (length m.blocks), market.block_count)) (
+          times_within 1 most_balance d.energy (balance m (empty m)) (farkas_energy_within d f) (empty_balance_within m market modest),
+          map_within most_balance weighed (places (length m.blocks)) (λ j c. let lt = from_places (length m.blocks) j c in
+              wider modest_mw most_balance (part_above (block_weight m d j) *ℚ quantity m j) (Prim.omega arith)
+              (times_within 1 modest_mw (part_above (block_weight m d j)) (quantity m j)
+              (part_above_within 1 (block_weight m d j) (signed_within 1 (block_at m j).side (unit_price m d (block_at m j).unit) (bus_price_within 1 d (unit_at m (block_at m j).unit).bus (farkas_energy_within d f))))
+              (quantity_within m market modest j lt))),
+        ))
+      where
+        weighed : ℕ → Term
+        weighed j = Product (part_above (block_weight m d j)) (quantity m j)
+
+    -- each number of the market
+    number_within : (kind : Kind) (x : Fraction) → MarketNumber m [] h kind x → IsWholeWithin (most_of kind) x
+    number_within kind x (of_system same y n) = system_within m market modest h is same y n
+    number_within Quantity x (is_fixed u lt) = wider modest_mw most_value x (Prim.omega arith) (fixed_within m market modest u lt)
+    number_within Quantity x (is_up u lt) = wider modest_mw most_value x (Prim.omega arith) (up_within m market modest u lt)
+    number_within Quantity x (is_down u lt) = wider modest_mw most_value x (Prim.omega arith) (down_within m market modest u lt)
+    number_within Quantity x (is_load i lt) = wider modest_mw most_value x (Prim.omega arith) (load_within m market modest i lt)
+    number_within Quantity x (is_shunt i lt) = wider modest_mw most_value x (Prim.omega arith) (shunt_within m market modest i lt)
+    number_within Quantity x (is_limit r c) = absurd (no_row m r bare c)
+    number_within Quantity x (is_line_offset l lt) = absurd (no_line l lt)
+    number_within Factor x (is_shift l i lt k) = absurd (no_line l lt)
+    number_within Factor x (is_loss l lost lt k) = absurd (no_line l lt)
+    number_within Quantity x (is_offset r k c) = absurd (no_row m r bare c)
+    number_within Factor x (is_row_factor r i k c lt) = absurd (no_row m r bare c)
+    number_within Quantity x (is_line_flow y l k j lt) = absurd (no_line l lt)
+    number_within Quantity x (is_row_flow y r j c) = absurd (no_row m r bare c)
+    number_within Quantity x (is_injection y i k j lt) = wider most_injection most_value x (Prim.omega arith) (injection_within m market modest y (injecting_small y j) i k lt)
+    number_within Quantity x (is_balance y k j) = wider most_balance most_value x (Prim.omega arith) (balance_within m market modest y (injecting_small y j) k)
+    number_within Quantity x (is_output u k best lt) = wider most_output most_value x (Prim.omega arith) (output_terms_within m market modest (choice_dispatch m [] h) (best_small best) u k lt)
+    number_within Price x is_energy = wider modest_price (4000 * modest_price) x (Prim.omega arith) price_is_modest
+    number_within Price x (is_bus_price i best lt) = wider modest_price (4000 * modest_price) x (Prim.omega arith) (bus_price_within modest_price (choice_duals m [] h) i price_is_modest)
+    number_within Price x (is_congestion i k best lt) = congestion_within (4000 * modest_price) k i (choice_duals m [] h)
+    number_within Price x (is_up_dual r c) = absurd (no_row m r bare c)
+    number_within Price x (is_down_dual r c) = absurd (no_row m r bare c)
+    number_within Factor x (is_farkas_energy d f) = wider 1 4000 x (Prim.omega arith) (farkas_energy_within d f)
+    number_within Factor x (is_farkas_price d i f lt) = wider 1 4000 x (Prim.omega arith) (bus_price_within 1 d i (farkas_energy_within d f))
+    number_within Factor x (is_farkas_congestion d i k f lt) = congestion_within 4000 k i d
+    number_within Factor x (is_farkas_up d r f c) = absurd (no_row m r bare c)
+    number_within Factor x (is_farkas_down d r f c) = absurd (no_row m r bare c)
+    number_within Quantity x (is_farkas_bound d k f) = farkas_within d k f
+    number_within kind x (of_opposite same y n) = neg_within (most_of same) y (number_within same y n)
+
+    -- a step in adding up money
+    welfare_each : IsBest m [] h → AreWithin (modest_price * most_output) (welfare_terms m (choice_dispatch m [] h))
+    welfare_each best = map_within (modest_price * most_output) (λ j. Product (block_value m j) (accepted (choice_dispatch m [] h) j)) (places (length m.blocks))
+        (λ j c. let lt = from_places (length m.blocks) j c in
+        times_within modest_price most_output (block_value m j) (accepted (choice_dispatch m [] h) j) (block_value_within m market modest j lt)
+        (wider modest_mw most_output (accepted (choice_dispatch m [] h) j) (Prim.omega arith) (best_small best j lt)))
+
+    surplus_each : IsBest m [] h → AreWithin (modest_price * most_output) (surplus_terms m (choice_dispatch m [] h) (choice_duals m [] h))
+    surplus_each best = append_within (modest_price * most_output) (map paying (places (length m.buses))) (map paid (places (length m.units)))
+        (map_within (modest_price * most_output) paying (places (length m.buses)) (λ i c.
+        times_within modest_price most_output (bus_price m d i) (demand m i) (bus_price_within modest_price d i price_is_modest) (demand_within m market modest i (from_places (length m.buses) i c))))
+        (map_within (modest_price * most_output) paid (places (length m.units)) (λ u c.
+        times_within modest_price most_output (neg_ℚ (unit_price m d u)) (output m x u) (neg_within modest_price (unit_price m d u) (bus_price_within modest_price d (unit_at m u).bus price_is_modest))
+        (output_within m market modest x (best_small best) u (from_places (length m.units) u c))))
+      where
+        x : Dispatch
+        x = choice_dispatch m [] h
+
+        d : Duals Fraction
+        d = choice_duals m [] h
+
+        paying : ℕ → Term
+        paying i = Product (bus_price m d i) (demand m i)
+
+        paid : ℕ → Term
+        paid u = Product (neg_ℚ (unit_price m d u)) (output m x u)
+
+    money_fits : IsBest m [] h → (terms : List Term) → IsMoneySum m [] h terms → (op : Op) (l r : Fraction) → IsSumStep terms op l r → Passes most op l r → ⊥
+    money_fits best terms of_welfare op l r step p =
+        step_fits terms (modest_price * most_output)
+        (Prim.omega (arith, market.block_count, length-map (places (length m.blocks)) (λ j. Product (block_value m j) (accepted (choice_dispatch m [] h) j)), length-range_with_len 0 (length m.blocks)))
+        (welfare_each best) (Prim.omega arith) op l r step p
+    money_fits best terms of_surplus op l r step p =
+        step_fits terms (modest_price * most_output)
+        (Prim.omega (
+          arith,
+          market.bus_count,
+          market.unit_count,
+          length-append (map (λ i. Product (bus_price m (choice_duals m [] h) i) (demand m i)) (places (length m.buses))) (map (λ u. Product (neg_ℚ (unit_price m (choice_duals m [] h) u)) (output m (choice_dispatch m [] h) u)) (places (length m.units))),
+          length-map (places (length m.buses)) (λ i. Product (bus_price m (choice_duals m [] h) i) (demand m i)),
+          length-map (places (length m.units)) (λ u. Product (neg_ℚ (unit_price m (choice_duals m [] h) u)) (output m (choice_dispatch m [] h) u)),
+          length-range_with_len 0 (length m.buses),
+          length-range_with_len 0 (length m.units),
+        ))
+        (surplus_each best) (Prim.omega arith) op l r step p
+    money_fits best terms (of_rent r c) op l k step p = absurd (Prim.omega (arith, c.1))
+
+  pair_fits : (op : Op) (l r : Fraction) → IsWorkingPair m [] most op l r → ⊥
+  pair_fits op l r pair = of_sides pair.sides
+    where
+      either_within : (kind : Kind) (x : Fraction) → OfEither (MarketNumber m []) pair.one pair.near kind x → IsWholeWithin (most_of kind) x
+      either_within kind x (inl n) = number_within pair.one pair.is_choice kind x n
+      either_within kind x (inr n) = number_within pair.near pair.near_is_choice kind x n
+
+      of_sides : IsPairCase (OfEither (MarketNumber m []) pair.one pair.near) op l r ⊎ IsMoneyCase m [] pair.one op l r → ⊥
+      of_sides (inl c) = case_fits (OfEither (MarketNumber m []) pair.one pair.near) either_within op l r c pair.passes
+      of_sides (inr c) = money_fits pair.one pair.is_choice c.best c.terms c.money op l r c.step pair.passes
+
+  -- no rows can be taken
+  nothing_taken : (more : List Row) → GrowsBy m [] more → more ≡ []
+  nothing_taken [] g = refl
+  nothing_taken (r ∷ more) g = absurd (no_row m r bare g.1)
+
+pub law_of_modest_markets : LawOfModestMarkets
+law_of_modest_markets m market lines modest p range =
+    let none : range.rows ≡ [] = range.reached.1 ∙ nothing_taken m market lines modest range.reached.0 range.reached.2 in
+    pair_fits m market lines modest p.op p.left p.right (subst (λ (rs : List Row). IsWorkingPair m rs most p.op p.left p.right) none range.pair)
