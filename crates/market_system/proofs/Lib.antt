@@ -1,3 +1,4 @@
+mod AnswerTests
 pub mod BlockChoices
 pub mod Completeness
 pub mod DualLists
