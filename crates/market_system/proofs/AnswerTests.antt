@@ -1,7 +1,7 @@
 -- Tests that compute whether an answer with its numbers written out is right, and what they show.
-use Rattle.std.specs.Prelude.{◌≡◌, ◌≢◌, ◌⊎◌, ℕ, ◌<◌, ◌==◌, ◌&&◌, ◌||◌, ℤ, pos, ◌*ℤ◌, ◌≤ℤ◌, ◌<ℤ◌, int_le, int_lt, Bool, true, false, T, List, [], ◌∷◌, length, map, All, Contains, refl}
+use Rattle.std.specs.Prelude.{◌≡◌, ◌⊎◌, ℕ, ◌<◌, ◌==◌, ◌&&◌, ◌||◌, ℤ, pos, ◌*ℤ◌, ◌≤ℤ◌, ◌<ℤ◌, int_le, int_lt, Bool, true, false, List, [], ◌∷◌, length, map, All, Contains, refl}
 use Rattle.std.specs.List.{list_all}
-use Rattle.std.proofs.Common.{arith, inl, inr, sym, ◌∙◌, subst}
+use Rattle.std.proofs.Common.{arith, inl, inr, sym, subst}
 use Rattle.std.proofs.lemmas.Bool.{true≢false, eqb-true, and_parts, or_cases}
 use Rattle.std.proofs.lemmas.Int.{ints}
 use Rattle.std.proofs.lemmas.List.Elements.{All-cons, All-nil, All-contains}

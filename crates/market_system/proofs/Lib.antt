@@ -12,3 +12,4 @@ pub mod RowOrder
 pub mod SolvedMarkets
 pub mod StuckMarkets
 pub mod SystemLaws
+mod WorkedCases
