@@ -29,7 +29,13 @@ use Rattle.market_system.specs.SolvedLaws.{answer_of}
 use Rattle.market_system.proofs.LawsOfSolving.{law_of_the_answer}
 use Rattle.market_system.proofs.SystemLaws.{in_places}
 
--- ---- numbers
+-- ---- tests of numbers, and of two things at once
+both : {s t : Bool} {P Q : Type 0} → (s ≡ true → P) → (t ≡ true → Q) → (s && t) ≡ true → P × Q
+both {s} {t} p q e = let parts = and_parts s t e in (p parts.0, q parts.1)
+
+either : {s t : Bool} {P Q : Type 0} → (s ≡ true → P) → (t ≡ true → Q) → (s || t) ≡ true → P ⊎ Q
+either {s} {t} p q e = elim (or_cases s t e) [ inl h ↦ inl (p h) | inr h ↦ inr (q h) ]
+
 int_le-true : (a b : ℤ) → int_le a b ≡ true → a ≤ℤ b
 int_le-true a b e = Prim.grind (arith, ints)
 
@@ -39,35 +45,36 @@ int_lt-true a b e = Prim.grind (arith, ints)
 abbrev at_most : Fraction → Fraction → Bool
 at_most x y = int_le (x.num *ℤ pos y.den) (y.num *ℤ pos x.den)
 
-abbrev below : Fraction → Fraction → Bool
-below x y = int_lt (x.num *ℤ pos y.den) (y.num *ℤ pos x.den)
-
-abbrev same : Fraction → Fraction → Bool
-same x y = (int_le x.num y.num && int_le y.num x.num) && (x.den == y.den)
-
 at_most-true : (x y : Fraction) → at_most x y ≡ true → x ≤ℚ y
 at_most-true x y e = record { cross = int_le-true _ _ e }
+
+not_below : (x y : Fraction) → at_most y x ≡ true → ¬ (x <ℚ y)
+not_below x y e h = <ℚ-not-≤ℚ x y h (at_most-true y x e)
+
+abbrev below : Fraction → Fraction → Bool
+below x y = int_lt (x.num *ℤ pos y.den) (y.num *ℤ pos x.den)
 
 below-true : (x y : Fraction) → below x y ≡ true → x <ℚ y
 below-true x y e = record { cross = int_lt-true _ _ e }
 
+abbrev same : Fraction → Fraction → Bool
+same x y = (int_le x.num y.num && int_le y.num x.num) && (x.den == y.den)
+
 same-true : (x y : Fraction) → same x y ≡ true → x ≡ y
 same-true x y e =
-    let parts = and_parts (int_le x.num y.num && int_le y.num x.num) (x.den == y.den) e in
-    let nums = and_parts (int_le x.num y.num) (int_le y.num x.num) parts.0 in
-    let up : x.num ≤ℤ y.num = int_le-true x.num y.num nums.0 in
-    let down : y.num ≤ℤ x.num = int_le-true y.num x.num nums.1 in
-    same_fraction x y (Prim.omega (arith, ints, up, down)) (eqb-true x.den y.den parts.1)
+    let parts = both (both (int_le-true x.num y.num) (int_le-true y.num x.num)) (eqb-true x.den y.den) e in
+    same_fraction x y (Prim.omega (arith, ints, parts.0.0, parts.0.1)) parts.1
 
 -- ---- lists
 all_of : {X : Type 0} (test : X → Bool) (P : X → Type 0) → ((x : X) → test x ≡ true → P x) → (xs : List X) → list_all test xs ≡ true → All P xs
 all_of test P means [] e = All-nil P
-all_of test P means (x ∷ xs) e =
-    let parts = and_parts (test x) (list_all test xs) e in
-    All-cons P x xs (means x parts.0) (all_of test P means xs parts.1)
+all_of test P means (x ∷ xs) e = let parts = both (means x) (all_of test P means xs) e in All-cons P x xs parts.0 parts.1
 
 each_of : {X : Type 0} (test : X → Bool) (P : X → Type 0) → ((x : X) → test x ≡ true → P x) → (xs : List X) → list_all test xs ≡ true → (x : X) → Contains xs x → P x
 each_of test P means xs e x c = All-contains P xs x (all_of test P means xs e) c
+
+each_place : (test : ℕ → Bool) (P : ℕ → Type 0) → ((j : ℕ) → test j ≡ true → P j) → (n : ℕ) → list_all test (places n) ≡ true → (j : ℕ) → j < n → P j
+each_place test P means n e j lt = each_of test P means (places n) e j (in_places n j lt)
 
 abbrev same_list : {X : Type 0} → (X → X → Bool) → List X → List X → Bool
 same_list test [] [] = true
@@ -79,61 +86,52 @@ same_list-true : {X : Type 0} (test : X → X → Bool) → ((x y : X) → test 
 same_list-true test means [] [] e = refl
 same_list-true test means [] (y ∷ ys) e = absurd (true≢false (sym e))
 same_list-true test means (x ∷ xs) [] e = absurd (true≢false (sym e))
-same_list-true test means (x ∷ xs) (y ∷ ys) e =
-    let parts = and_parts (test x y) (same_list test xs ys) e in
-    let first = means x y parts.0 in
-    let rest = same_list-true test means xs ys parts.1 in
-    λ i. first i ∷ rest i
+same_list-true test means (x ∷ xs) (y ∷ ys) e = let parts = both (means x y) (same_list-true test means xs ys) e in λ i. parts.0 i ∷ parts.1 i
 
 -- ---- feasible
-abbrev is_within : Parts → Dispatch → Row → Bool
-is_within m x r = at_most (neg_ℚ (limit m r)) (flow m x r) && at_most (flow m x r) (limit m r)
-
 abbrev is_accepted : Parts → Dispatch → ℕ → Bool
 is_accepted m x j = at_most zero (accepted x j) && at_most (accepted x j) (quantity m j)
 
+abbrev is_within : Parts → Dispatch → Row → Bool
+is_within m x r = at_most (neg_ℚ (limit m r)) (flow m x r) && at_most (flow m x r) (limit m r)
+
+is_within-true : (m : Parts) (x : Dispatch) (r : Row) → is_within m x r ≡ true → Within m r (flow m x r)
+is_within-true m x r e =
+    let parts = both (at_most-true (neg_ℚ (limit m r)) (flow m x r)) (at_most-true (flow m x r) (limit m r)) e in
+    record { above = parts.0; below = parts.1 }
+
 abbrev pub is_feasible : Parts → Dispatch → Bool
-is_feasible m x = (length x.blocks == length m.blocks) && (list_all (is_accepted m x) (places (length m.blocks)) && (same (balance m x) zero && list_all (is_within m x) (rows m)))
+is_feasible m x =
+    (length x.blocks == length m.blocks) && (list_all (is_accepted m x) (places (length m.blocks)) && (same (balance m x) zero && list_all (is_within m x) (rows m)))
 
 is_feasible-true : (m : Parts) (x : Dispatch) → is_feasible m x ≡ true → Feasible m x
 is_feasible-true m x e =
-    let count = and_parts (length x.blocks == length m.blocks) _ e in
-    let blocks = and_parts (list_all (is_accepted m x) (places (length m.blocks))) _ count.1 in
-    let others = and_parts (same (balance m x) zero) (list_all (is_within m x) (rows m)) blocks.1 in
-    let block = λ (j : ℕ) (lt : j < length m.blocks). each_of (is_accepted m x) (λ k. (zero ≤ℚ accepted x k) × (accepted x k ≤ℚ quantity m k)) bounds (places (length m.blocks)) blocks.0 j (in_places (length m.blocks) j lt) in
+    let bounds = λ (j : ℕ). both (at_most-true zero (accepted x j)) (at_most-true (accepted x j) (quantity m j)) in
+    let blocks = each_place (is_accepted m x) (λ j. (zero ≤ℚ accepted x j) × (accepted x j ≤ℚ quantity m j)) bounds (length m.blocks) in
+    let limits = each_of (is_within m x) (λ r. Within m r (flow m x r)) (is_within-true m x) (rows m) in
+    let parts = both (eqb-true (length x.blocks) (length m.blocks)) (both blocks (both (same-true (balance m x) zero) limits)) e in
     record {
-      blocks = record { count = eqb-true (length x.blocks) (length m.blocks) count.0; above = λ j lt. (block j lt).0; within = λ j lt. (block j lt).1 };
-      balanced = same-true (balance m x) zero others.0;
-      limits = each_of (is_within m x) (λ r. Within m r (flow m x r)) within (rows m) others.1;
+      blocks = record { count = parts.0; above = λ j lt. (parts.1.0 j lt).0; within = λ j lt. (parts.1.0 j lt).1 };
+      balanced = parts.1.1.0;
+      limits = parts.1.1.1;
     }
-  where
-    bounds : (j : ℕ) → is_accepted m x j ≡ true → (zero ≤ℚ accepted x j) × (accepted x j ≤ℚ quantity m j)
-    bounds j e = let parts = and_parts (at_most zero (accepted x j)) (at_most (accepted x j) (quantity m j)) e in
-        (at_most-true zero (accepted x j) parts.0, at_most-true (accepted x j) (quantity m j) parts.1)
-
-    within : (r : Row) → is_within m x r ≡ true → Within m r (flow m x r)
-    within r e = let parts = and_parts (at_most (neg_ℚ (limit m r)) (flow m x r)) (at_most (flow m x r) (limit m r)) e in
-        record { above = at_most-true (neg_ℚ (limit m r)) (flow m x r) parts.0; below = at_most-true (flow m x r) (limit m r) parts.1 }
 
 -- ---- supported
+-- either a number is the wanted one, or what asks for that is not so
+same_or : (x y : Fraction) {t : Bool} {P : Type 0} → (t ≡ true → ¬ P) → (same x y || t) ≡ true → P → x ≡ y
+same_or x y {t} refutes e p = elim (or_cases (same x y) t e) [ inl h ↦ same-true x y h | inr h ↦ absurd (refutes h p) ]
+
 abbrev gains_not : Side → Fraction → Fraction → Bool
 gains_not Sell price worth = at_most worth price
 gains_not Buy price worth = at_most price worth
 
-abbrev loses_not : Side → Fraction → Fraction → Bool
-loses_not Sell price worth = at_most price worth
-loses_not Buy price worth = at_most worth price
-
--- either a number is the wanted one, or what asks for that is not so
-same_or : (x y : Fraction) (t : Bool) (P : Type 0) → (t ≡ true → ¬ P) → (same x y || t) ≡ true → P → x ≡ y
-same_or x y t P refutes e p = elim (or_cases (same x y) t e) [ inl h ↦ same-true x y h | inr h ↦ absurd (refutes h p) ]
-
-not_below : (x y : Fraction) → at_most y x ≡ true → ¬ (x <ℚ y)
-not_below x y e h = <ℚ-not-≤ℚ x y h (at_most-true y x e)
-
 refutes_gain : (s : Side) (p w : Fraction) → gains_not s p w ≡ true → ¬ (Gains s p w)
 refutes_gain Sell p w e h = not_below p w e h
 refutes_gain Buy p w e h = not_below w p e h
+
+abbrev loses_not : Side → Fraction → Fraction → Bool
+loses_not Sell price worth = at_most price worth
+loses_not Buy price worth = at_most worth price
 
 refutes_loss : (s : Side) (p w : Fraction) → loses_not s p w ≡ true → ¬ (Loses s p w)
 refutes_loss Sell p w e h = not_below w p e h
@@ -148,20 +146,16 @@ is_block_supported m x d j = (same (accepted x j) (quantity m j) || gains_not (b
 
 is_block_supported-true : (m : Parts) (x : Dispatch) (d : Duals Fraction) (j : ℕ) → is_block_supported m x d j ≡ true → BlockSupported m x d j
 is_block_supported-true m x d j e =
-    let side = (block_at m j).side in
-    let p = price m j in
-    let w = worth m d j in
-    let parts = and_parts (same (accepted x j) (quantity m j) || gains_not side p w) (same (accepted x j) zero || loses_not side p w) e in
-    record {
-      full = same_or (accepted x j) (quantity m j) (gains_not side p w) (Gains side p w) (refutes_gain side p w) parts.0;
-      empty = same_or (accepted x j) zero (loses_not side p w) (Loses side p w) (refutes_loss side p w) parts.1;
-    }
+    let full = same_or (accepted x j) (quantity m j) (refutes_gain (block_at m j).side (price m j) (worth m d j)) in
+    let empty = same_or (accepted x j) zero (refutes_loss (block_at m j).side (price m j) (worth m d j)) in
+    let parts = both full empty e in
+    record { full = parts.0; empty = parts.1 }
 
 abbrev has_prices : Fraction → Fraction → Bool
 has_prices up down = at_most zero up && at_most zero down
 
 has_prices-true : (up down : Fraction) → has_prices up down ≡ true → (zero ≤ℚ up) × (zero ≤ℚ down)
-has_prices-true up down e = let parts = and_parts (at_most zero up) (at_most zero down) e in (at_most-true zero up parts.0, at_most-true zero down parts.1)
+has_prices-true up down e = both (at_most-true zero up) (at_most-true zero down) e
 
 abbrev is_row_supported : Parts → Dispatch → Duals Fraction → Row → Bool
 is_row_supported m x d r = has_prices (up_of m d r) (down_of m d r)
@@ -169,64 +163,45 @@ is_row_supported m x d r = has_prices (up_of m d r) (down_of m d r)
 
 is_row_supported-true : (m : Parts) (x : Dispatch) (d : Duals Fraction) (r : Row) → is_row_supported m x d r ≡ true → RowSupported m x d r
 is_row_supported-true m x d r e =
-    let up = up_of m d r in
-    let down = down_of m d r in
-    let f = flow m x r in
-    let upper = limit m r in
-    let parts = and_parts (has_prices up down) ((same f upper || at_most up zero) && (same f (neg_ℚ upper) || at_most down zero)) e in
-    let signs = has_prices-true up down parts.0 in
-    let sides = and_parts (same f upper || at_most up zero) (same f (neg_ℚ upper) || at_most down zero) parts.1 in
-    record {
-      up_sign = signs.0;
-      down_sign = signs.1;
-      up = same_or f upper (at_most up zero) (zero <ℚ up) (not_below zero up) sides.0;
-      down = same_or f (neg_ℚ upper) (at_most down zero) (zero <ℚ down) (not_below zero down) sides.1;
-    }
+    let up = same_or (flow m x r) (limit m r) (not_below zero (up_of m d r)) in
+    let down = same_or (flow m x r) (neg_ℚ (limit m r)) (not_below zero (down_of m d r)) in
+    let parts = both (has_prices-true (up_of m d r) (down_of m d r)) (both up down) e in
+    record { up_sign = parts.0.0; down_sign = parts.0.1; up = parts.1.0; down = parts.1.1 }
 
 abbrev pub is_supported : Parts → Dispatch → Duals Fraction → Bool
 is_supported m x d = list_all (is_block_supported m x d) (places (length m.blocks)) && list_all (is_row_supported m x d) (rows m)
 
 is_supported-true : (m : Parts) (x : Dispatch) (d : Duals Fraction) → is_supported m x d ≡ true → Supports m x d
 is_supported-true m x d e =
-    let parts = and_parts (list_all (is_block_supported m x d) (places (length m.blocks))) (list_all (is_row_supported m x d) (rows m)) e in
-    record {
-      blocks = λ j lt. each_of (is_block_supported m x d) (BlockSupported m x d) (is_block_supported-true m x d) (places (length m.blocks)) parts.0 j (in_places (length m.blocks) j lt);
-      rows = each_of (is_row_supported m x d) (RowSupported m x d) (is_row_supported-true m x d) (rows m) parts.1;
-    }
+    let blocks = each_place (is_block_supported m x d) (BlockSupported m x d) (is_block_supported-true m x d) (length m.blocks) in
+    let limits = each_of (is_row_supported m x d) (RowSupported m x d) (is_row_supported-true m x d) (rows m) in
+    let parts = both blocks limits e in
+    record { blocks = parts.0; rows = parts.1 }
 
 -- ---- proper duals
 same_id-true : (a b : RowId) → same_id a b ≡ true → a ≡ b
 same_id-true a b e =
-    let parts = and_parts (a.branch == b.branch) (a.outage == b.outage) e in
-    let branch = eqb-true a.branch b.branch parts.0 in
-    let outage = eqb-true a.outage b.outage parts.1 in
-    λ i. record { branch = branch i; outage = outage i }
+    let parts = both (eqb-true a.branch b.branch) (eqb-true a.outage b.outage) e in
+    λ i. record { branch = parts.0 i; outage = parts.1 i }
 
 abbrev is_one_sided : Dual Fraction → Bool
 is_one_sided d = has_prices d.up d.down && ((below zero d.up && same d.down zero) || (same d.up zero && below zero d.down))
 
 is_one_sided-true : (d : Dual Fraction) → is_one_sided d ≡ true → IsOneSided d
 is_one_sided-true d e =
-    let parts = and_parts (has_prices d.up d.down) ((below zero d.up && same d.down zero) || (same d.up zero && below zero d.down)) e in
-    let signs = has_prices-true d.up d.down parts.0 in
-    record { up = signs.0; down = signs.1; one = one parts.1 }
-  where
-    one : ((below zero d.up && same d.down zero) || (same d.up zero && below zero d.down)) ≡ true → ((zero <ℚ d.up) × (d.down ≡ zero)) ⊎ ((d.up ≡ zero) × (zero <ℚ d.down))
-    one e = elim (or_cases (below zero d.up && same d.down zero) (same d.up zero && below zero d.down) e) [
-      | inl h ↦ let parts = and_parts (below zero d.up) (same d.down zero) h in inl (below-true zero d.up parts.0, same-true d.down zero parts.1)
-      | inr h ↦ let parts = and_parts (same d.up zero) (below zero d.down) h in inr (same-true d.up zero parts.0, below-true zero d.down parts.1)
-    ]
+    let up = both (below-true zero d.up) (same-true d.down zero) in
+    let down = both (same-true d.up zero) (below-true zero d.down) in
+    let parts = both (has_prices-true d.up d.down) (either up down) e in
+    record { up = parts.0.0; down = parts.0.1; one = parts.1 }
 
 abbrev pub are_proper : Parts → Duals Fraction → Bool
 are_proper m d = same_list same_id (map (λ e. e.row) d.limits) (map (row_id m) (named_rows m d)) && list_all is_one_sided d.limits
 
 are_proper-true : (m : Parts) (d : Duals Fraction) → are_proper m d ≡ true → ProperDuals m d
 are_proper-true m d e =
-    let parts = and_parts (same_list same_id (map (λ e. e.row) d.limits) (map (row_id m) (named_rows m d))) (list_all is_one_sided d.limits) e in
-    record {
-      named = same_list-true same_id same_id-true (map (λ e. e.row) d.limits) (map (row_id m) (named_rows m d)) parts.0;
-      one_sided = all_of is_one_sided IsOneSided is_one_sided-true d.limits parts.1;
-    }
+    let named = same_list-true same_id same_id-true (map (λ e. e.row) d.limits) (map (row_id m) (named_rows m d)) in
+    let parts = both named (all_of is_one_sided IsOneSided is_one_sided-true d.limits) e in
+    record { named = parts.0; one_sided = parts.1 }
 
 -- ---- an answer
 abbrev same_price : Price Fraction → Price Fraction → Bool
@@ -234,44 +209,28 @@ same_price a b = same a.energy b.energy && (same a.congestion b.congestion && sa
 
 same_price-true : (a b : Price Fraction) → same_price a b ≡ true → a ≡ b
 same_price-true a b e =
-    let first = and_parts (same a.energy b.energy) (same a.congestion b.congestion && same a.total b.total) e in
-    let rest = and_parts (same a.congestion b.congestion) (same a.total b.total) first.1 in
-    let energy = same-true a.energy b.energy first.0 in
-    let congestion = same-true a.congestion b.congestion rest.0 in
-    let total = same-true a.total b.total rest.1 in
-    λ i. record { energy = energy i; congestion = congestion i; total = total i }
+    let parts = both (same-true a.energy b.energy) (both (same-true a.congestion b.congestion) (same-true a.total b.total)) e in
+    λ i. record { energy = parts.0 i; congestion = parts.1.0 i; total = parts.1.1 i }
 
 abbrev same_pay : UnitPay Fraction → UnitPay Fraction → Bool
 same_pay a b = same a.mw b.mw && same a.paid b.paid
 
 same_pay-true : (a b : UnitPay Fraction) → same_pay a b ≡ true → a ≡ b
-same_pay-true a b e =
-    let parts = and_parts (same a.mw b.mw) (same a.paid b.paid) e in
-    let mw = same-true a.mw b.mw parts.0 in
-    let paid = same-true a.paid b.paid parts.1 in
-    λ i. record { mw = mw i; paid = paid i }
+same_pay-true a b e = let parts = both (same-true a.mw b.mw) (same-true a.paid b.paid) e in λ i. record { mw = parts.0 i; paid = parts.1 i }
 
 abbrev same_load : Load Fraction → Load Fraction → Bool
 same_load a b = same a.mw b.mw && same a.pays b.pays
 
 same_load-true : (a b : Load Fraction) → same_load a b ≡ true → a ≡ b
-same_load-true a b e =
-    let parts = and_parts (same a.mw b.mw) (same a.pays b.pays) e in
-    let mw = same-true a.mw b.mw parts.0 in
-    let pays = same-true a.pays b.pays parts.1 in
-    λ i. record { mw = mw i; pays = pays i }
+same_load-true a b e = let parts = both (same-true a.mw b.mw) (same-true a.pays b.pays) e in λ i. record { mw = parts.0 i; pays = parts.1 i }
 
 abbrev same_rent : Rent Fraction → Rent Fraction → Bool
 same_rent a b = same_id a.row b.row && (same a.flow b.flow && same a.rent b.rent)
 
 same_rent-true : (a b : Rent Fraction) → same_rent a b ≡ true → a ≡ b
 same_rent-true a b e =
-    let first = and_parts (same_id a.row b.row) (same a.flow b.flow && same a.rent b.rent) e in
-    let rest = and_parts (same a.flow b.flow) (same a.rent b.rent) first.1 in
-    let row = same_id-true a.row b.row first.0 in
-    let flow = same-true a.flow b.flow rest.0 in
-    let rent = same-true a.rent b.rent rest.1 in
-    λ i. record { row = row i; flow = flow i; rent = rent i }
+    let parts = both (same_id-true a.row b.row) (both (same-true a.flow b.flow) (same-true a.rent b.rent)) e in
+    λ i. record { row = parts.0 i; flow = parts.1.0 i; rent = parts.1.1 i }
 
 -- prices, welfare and settlement are the same
 abbrev pub same_money : Answer Fraction → Answer Fraction → Bool
@@ -285,44 +244,43 @@ made_of m a = answer_of m (dispatch_in a) a.duals
 same_money-true : (m : Parts) (a : Answer Fraction) → same_money (made_of m a) a ≡ true → made_of m a ≡ a
 same_money-true m a e =
     let b = made_of m a in
-    let at_prices = and_parts (same_list same_price b.prices a.prices) _ e in
-    let at_welfare = and_parts (same b.welfare a.welfare) _ at_prices.1 in
-    let at_units = and_parts (same_list same_pay b.money.units a.money.units) _ at_welfare.1 in
-    let at_loads = and_parts (same_list same_load b.money.loads a.money.loads) _ at_units.1 in
-    let at_rents = and_parts (same_list same_rent b.money.rents a.money.rents) (same b.money.surplus a.money.surplus) at_loads.1 in
-    let prices = same_list-true same_price same_price-true b.prices a.prices at_prices.0 in
-    let welfare = same-true b.welfare a.welfare at_welfare.0 in
-    let units = same_list-true same_pay same_pay-true b.money.units a.money.units at_units.0 in
-    let loads = same_list-true same_load same_load-true b.money.loads a.money.loads at_loads.0 in
-    let rents = same_list-true same_rent same_rent-true b.money.rents a.money.rents at_rents.0 in
-    let surplus = same-true b.money.surplus a.money.surplus at_rents.1 in
+    let prices = same_list-true same_price same_price-true b.prices a.prices in
+    let units = same_list-true same_pay same_pay-true b.money.units a.money.units in
+    let loads = same_list-true same_load same_load-true b.money.loads a.money.loads in
+    let rents = same_list-true same_rent same_rent-true b.money.rents a.money.rents in
+    let settled = both units (both loads (both rents (same-true b.money.surplus a.money.surplus))) in
+    let parts = both prices (both (same-true b.welfare a.welfare) settled) e in
     λ i. record {
       dispatch = a.dispatch;
       duals = a.duals;
-      prices = prices i;
-      welfare = welfare i;
-      money = record { units = units i; loads = loads i; rents = rents i; surplus = surplus i };
+      prices = parts.0 i;
+      welfare = parts.1.0 i;
+      money = record { units = parts.1.1.0 i; loads = parts.1.1.1.0 i; rents = parts.1.1.1.1.0 i; surplus = parts.1.1.1.1.1 i };
     }
 
 -- an answer that passes all of these is right
-pub right_by : (m : Parts) (a : Answer Fraction) → is_feasible m (dispatch_in a) ≡ true → is_supported m (dispatch_in a) a.duals ≡ true → are_proper m a.duals ≡ true → same_money (made_of m a) a ≡ true → IsRight m a
+pub right_by : (m : Parts) (a : Answer Fraction) → is_feasible m (dispatch_in a) ≡ true → is_supported m (dispatch_in a) a.duals ≡ true
+    → are_proper m a.duals ≡ true → same_money (made_of m a) a ≡ true → IsRight m a
 right_by m a feasible supported proper money =
-    subst (IsRight m) (same_money-true m a money)
-    (law_of_the_answer m (dispatch_in a) a.duals (is_feasible-true m (dispatch_in a) feasible) (is_supported-true m (dispatch_in a) a.duals supported) (are_proper-true m a.duals proper))
+    let x = dispatch_in a in
+    let law = law_of_the_answer m x a.duals (is_feasible-true m x feasible) (is_supported-true m x a.duals supported) (are_proper-true m a.duals proper) in
+    subst (IsRight m) (same_money-true m a money) law
 
 -- ---- duals that show that nothing is feasible
-abbrev pub shows_infeasible : Parts → Farkas Fraction → Bool
-shows_infeasible m f = list_all (λ r. has_prices (up_of m f.duals r) (down_of m f.duals r)) (rows m) && (below f.bound zero && same f.bound (farkas_bound m f.duals))
+abbrev has_prices_at : Parts → Duals Fraction → Row → Bool
+has_prices_at m d r = has_prices (up_of m d r) (down_of m d r)
 
+abbrev pub shows_infeasible : Parts → Farkas Fraction → Bool
+shows_infeasible m f = list_all (has_prices_at m f.duals) (rows m) && (below f.bound zero && same f.bound (farkas_bound m f.duals))
+
+-- duals with a bound that pass both tests show it
 pub infeasible_by : (m : Parts) (f : Farkas Fraction) → shows_infeasible m f ≡ true → are_proper m f.duals ≡ true → IsFarkas m f
 infeasible_by m f shows proper =
     let d = f.duals in
-    let signs = and_parts (list_all (λ r. has_prices (up_of m d r) (down_of m d r)) (rows m)) (below f.bound zero && same f.bound (farkas_bound m d)) shows in
-    let parts = and_parts (below f.bound zero) (same f.bound (farkas_bound m d)) signs.1 in
-    let bound = same-true f.bound (farkas_bound m d) parts.1 in
-    let sign = λ (r : Row) (c : Contains (rows m) r). each_of (λ r. has_prices (up_of m d r) (down_of m d r)) (λ r. (zero ≤ℚ up_of m d r) × (zero ≤ℚ down_of m d r)) (λ r. has_prices-true (up_of m d r) (down_of m d r)) (rows m) signs.0 r c in
+    let signs = each_of (has_prices_at m d) (λ r. (zero ≤ℚ up_of m d r) × (zero ≤ℚ down_of m d r)) (λ r. has_prices-true (up_of m d r) (down_of m d r)) (rows m) in
+    let parts = both signs (both (below-true f.bound zero) (same-true f.bound (farkas_bound m d))) shows in
     record {
-      shows = record { up_signs = λ r c. (sign r c).0; down_signs = λ r c. (sign r c).1; below = subst (λ t. t <ℚ zero) bound (below-true f.bound zero parts.0) };
+      shows = record { up_signs = λ r c. (parts.0 r c).0; down_signs = λ r c. (parts.0 r c).1; below = subst (λ t. t <ℚ zero) parts.1.1 parts.1.0 };
       proper = are_proper-true m d proper;
-      bound = bound;
+      bound = parts.1.1;
     }
