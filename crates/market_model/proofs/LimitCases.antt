@@ -41,7 +41,7 @@ abbrev pub buses : ℕ → ℕ → ℕ → List Bus
 buses first third shunt = record { number = 1; pd = mw first; gs = pos 0 } ∷ record { number = 2; pd = pos 0; gs = pos 0 } ∷ record { number = 3; pd = mw third; gs = mw shunt } ∷ []
 
 -- a unit at a bus by place sells 100 MW at 10, and one at bus 2 at 30
-abbrev pub units : ℕ → List unit.Unit
+abbrev units : ℕ → List unit.Unit
 units place = record { row = 1; bus = place; fixed = pos 0; up = mw 100; down = pos 0 } ∷ record { row = 2; bus = 1; fixed = pos 0; up = mw 100; down = pos 0 } ∷ []
 
 abbrev pub blocks : List Block
@@ -51,7 +51,7 @@ abbrev pub line : ℕ → Option ℤ → Option ℤ → ℕ → Line
 line row base post offset = record { row = row; base = base; post = post; offset = mw offset }
 
 -- two numbers of MW, of the two sell blocks
-abbrev pub sold : ℕ → ℕ → Dispatch
+abbrev sold : ℕ → ℕ → Dispatch
 sold x y = record { blocks = whole (mw x) ∷ whole (mw y) ∷ [] }
 
 -- the second branch in the base, and after the loss of the first
