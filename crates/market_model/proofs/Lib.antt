@@ -1,7 +1,7 @@
 pub mod ChangeLemmas
 pub mod FarkasLaw
 mod FarkasRows
-mod LimitCases
+pub mod LimitCases
 pub mod MarketSums
 pub mod MorePlaces
 pub mod Optimum

@@ -18,36 +18,36 @@ use Rattle.market_model.specs.Infeasibility.{farkas_bound}
 use Rattle.market_model.specs.Settlement.{rent, surplus}
 
 -- MW, prices and money
-abbrev mw : ℕ → ℤ
+abbrev pub mw : ℕ → ℤ
 mw n = pos (n * 10 ^ 9)
 
-abbrev price : ℕ → ℤ
+abbrev pub price : ℕ → ℤ
 price n = pos (n * 10 ^ 6)
 
-abbrev money : ℕ → ℤ
+abbrev pub money : ℕ → ℤ
 money n = pos (n * 10 ^ 15)
 
 -- ---- the three-bus network: branches 1: 1-2, 2: 1-3, 3: 2-3, of which the first has twice the reactance of the others
-abbrev shifts : List Factor
+abbrev pub shifts : List Factor
 shifts = record { line = 0; of = 1; value = neg_ℤ (pos 500000) } ∷ record { line = 1; of = 1; value = neg_ℤ (pos 500000) } ∷ record { line = 2; of = 1; value = pos 500000 }
     ∷ record { line = 0; of = 2; value = neg_ℤ (pos 250000) } ∷ record { line = 1; of = 2; value = neg_ℤ (pos 750000) } ∷ record { line = 2; of = 2; value = neg_ℤ (pos 250000) } ∷ []
 
-abbrev losses : List Factor
+abbrev pub losses : List Factor
 losses = record { line = 1; of = 0; value = pos 1000000 } ∷ record { line = 2; of = 0; value = neg_ℤ (pos 1000000) } ∷ record { line = 0; of = 1; value = pos 1000000 }
     ∷ record { line = 2; of = 1; value = pos 1000000 } ∷ record { line = 0; of = 2; value = neg_ℤ (pos 1000000) } ∷ record { line = 1; of = 2; value = pos 1000000 } ∷ []
 
 -- loads of the first and the third bus, and the shunt of the third
-abbrev buses : ℕ → ℕ → ℕ → List Bus
+abbrev pub buses : ℕ → ℕ → ℕ → List Bus
 buses first third shunt = record { number = 1; pd = mw first; gs = pos 0 } ∷ record { number = 2; pd = pos 0; gs = pos 0 } ∷ record { number = 3; pd = mw third; gs = mw shunt } ∷ []
 
 -- a unit at a bus by place sells 100 MW at 10, and one at bus 2 at 30
 abbrev units : ℕ → List unit.Unit
 units place = record { row = 1; bus = place; fixed = pos 0; up = mw 100; down = pos 0 } ∷ record { row = 2; bus = 1; fixed = pos 0; up = mw 100; down = pos 0 } ∷ []
 
-abbrev blocks : List Block
+abbrev pub blocks : List Block
 blocks = record { unit = 0; side = Sell; quantity = mw 100; price = price 10 } ∷ record { unit = 1; side = Sell; quantity = mw 100; price = price 30 } ∷ []
 
-abbrev line : ℕ → Option ℤ → Option ℤ → ℕ → Line
+abbrev pub line : ℕ → Option ℤ → Option ℤ → ℕ → Line
 line row base post offset = record { row = row; base = base; post = post; offset = mw offset }
 
 -- two numbers of MW, of the two sell blocks
@@ -61,14 +61,14 @@ second = record { line = 1; cause = Base }
 abbrev second_after : Row
 second_after = record { line = 1; cause = After 0 }
 
-abbrev up_alone : ℕ → ℕ → ℕ → Duals Fraction
+abbrev pub up_alone : ℕ → ℕ → ℕ → Duals Fraction
 up_alone e outage u = record { energy = whole (price e); limits = record { row = record { branch = 2; outage = outage }; up = whole (price u); down = whole (pos 0) } ∷ [] }
 
-abbrev down_alone : ℕ → ℕ → Duals Fraction
+abbrev pub down_alone : ℕ → ℕ → Duals Fraction
 down_alone e d = record { energy = whole (price e); limits = record { row = record { branch = 2; outage = 0 }; up = whole (pos 0); down = whole (price d) } ∷ [] }
 
 -- ---- a limit of 40 MW on branch 2, with a load of 50 MW and a shunt of 10 MW at bus 3
-abbrev shunted : Parts
+abbrev pub shunted : Parts
 shunted = record {
   buses = buses 0 50 10;
   units = units 0;
@@ -104,7 +104,7 @@ unfolding rows line_flow row_offset row_factor injection balance output demand w
 shunted-surplus = same_fraction (surplus shunted (sold 50 10) (up_alone 10 0 40)) (whole (money 1600)) refl refl
 
 -- ---- the load at bus 1 and the cheap unit at bus 3: the flow stands at the lower side of the limit
-abbrev turned : Parts
+abbrev pub turned : Parts
 turned = record {
   buses = buses 60 0 0;
   units = units 2;
@@ -181,7 +181,7 @@ unfolding rows line_flow row_offset row_factor injection balance output demand w
 listed-after = same_fraction (flow listed (sold 50 10) second_after) (whole (mw 54)) refl refl
 
 -- ---- a limit of 45 MW on branch 2 after the loss of branch 1
-abbrev after_outage : Parts
+abbrev pub after_outage : Parts
 after_outage = record {
   buses = buses 0 60 0;
   units = units 0;
@@ -217,7 +217,7 @@ unfolding rows line_flow row_offset row_factor injection balance output demand w
 after_outage-surplus = same_fraction (surplus after_outage (sold 45 15) (up_alone 10 1 20)) (whole (money 900)) refl refl
 
 -- ---- a unit at bus 3 buys up to 20 MW at 40, behind a limit of 45 MW
-abbrev bought : Parts
+abbrev pub bought : Parts
 bought = record {
   buses = buses 0 50 0;
   units = record { row = 1; bus = 0; fixed = pos 0; up = mw 100; down = pos 0 } ∷ record { row = 2; bus = 1; fixed = pos 0; up = mw 100; down = pos 0 } ∷ record { row = 3; bus = 2; fixed = pos 0; up = pos 0; down = mw 20 } ∷ [];
@@ -248,7 +248,7 @@ unfolding rows line_flow row_offset row_factor injection balance output demand w
 bought-surplus = same_fraction (surplus bought half_bought (up_alone 10 0 40)) (whole (money 1800)) refl refl
 
 -- ---- an offset of 10 MW on branch 2, which has a limit of 5 MW: the surplus is below 0
-abbrev shifted : Parts
+abbrev pub shifted : Parts
 shifted = record {
   buses = buses 40 0 0;
   units = units 0;
@@ -272,7 +272,7 @@ unfolding rows line_flow row_offset row_factor injection balance output demand w
 shifted-surplus = same_fraction (surplus shifted (sold 30 10) (up_alone 10 0 40)) (whole (neg_ℤ (money 200))) refl refl
 
 -- ---- a limit of 10 MW on branch 2: even 60 MW at bus 2 leave 15
-abbrev narrow : Parts
+abbrev pub narrow : Parts
 narrow = record {
   buses = buses 0 60 0;
   units = units 0;
@@ -283,7 +283,7 @@ narrow = record {
   loss = losses;
 }
 
-abbrev narrow_duals : Duals Fraction
+abbrev pub narrow_duals : Duals Fraction
 narrow_duals = record { energy = whole (neg_ℤ (pos 1)); limits = record { row = record { branch = 2; outage = 0 }; up = whole (pos 2); down = whole (pos 0) } ∷ [] }
 
 narrow-bound : farkas_bound narrow narrow_duals ≡ whole (neg_ℤ (mw 10))

@@ -1,3 +1,4 @@
+mod AnswerTests
 pub mod BlockChoices
 pub mod Completeness
 pub mod DualLists
@@ -15,3 +16,4 @@ pub mod RowOrder
 pub mod SolvedMarkets
 pub mod StuckMarkets
 pub mod SystemLaws
+mod WorkedCases

@@ -1,0 +1,187 @@
+-- The worked cases with limits as whole answers, with their numbers written out: each is right for its market, and the duals of a limit
+-- that no dispatch meets show it.
+use Rattle.std.specs.Prelude.{ℕ, pos, neg_ℤ, List, [], ◌∷◌, Some, None, refl}
+use Rattle.fraction_theory.specs.Divisors.{gcd, gcd_in}
+use Rattle.fraction_theory.specs.Fraction.{Fraction, whole, over, ◌+ℚ◌, ◌*ℚ◌, neg_ℚ}
+use Rattle.fraction_theory.specs.Signs.{sign_of}
+use Rattle.market_model.specs.declared.answered.Answer.{Answer}
+use Rattle.market_model.specs.declared.answered.Farkas.{Farkas}
+use Rattle.market_model.specs.declared.answered.Load.{Load}
+use Rattle.market_model.specs.declared.answered.Price.{Price}
+use Rattle.market_model.specs.declared.answered.Rent.{Rent}
+use Rattle.market_model.specs.declared.answered.UnitPay.{UnitPay}
+use Rattle.market_model.specs.declared.participants.Parts.{Parts}
+use Rattle.market_model.specs.Dispatch.{injection, balance, output, demand}
+use Rattle.market_model.specs.Infeasibility.{IsFarkas, farkas_bound}
+use Rattle.market_model.specs.LimitRows.{rows, line_flow, row_offset, row_factor}
+use Rattle.market_model.specs.Optimality.{congestion, bus_price, welfare}
+use Rattle.market_model.specs.RightAnswers.{IsRight}
+use Rattle.market_model.specs.Settlement.{paid, pays, rent, surplus}
+use Rattle.market_model.proofs.LimitCases.{mw, price, money, blocks, buses, line, shifts, losses, up_alone, down_alone, shunted, turned, after_outage, bought, shifted, narrow, narrow_duals}
+use Rattle.market_system.proofs.AnswerTests.{right_by, infeasible_by}
+
+-- whole MW, prices and money, and parts of these
+abbrev mws : ℕ → Fraction
+mws n = whole (mw n)
+
+abbrev prices : ℕ → Fraction
+prices n = whole (price n)
+
+abbrev sums : ℕ → Fraction
+sums n = whole (money n)
+
+abbrev at_bus : Fraction → Fraction → Fraction → Price Fraction
+at_bus energy congestion total = record { energy = energy; congestion = congestion; total = total }
+
+abbrev unit : Fraction → Fraction → UnitPay Fraction
+unit mw paid = record { mw = mw; paid = paid }
+
+abbrev load : Fraction → Fraction → Load Fraction
+load mw pays = record { mw = mw; pays = pays }
+
+-- the one rent, of branch 2 in the base or after an outage
+abbrev rent_of_second : ℕ → Fraction → Fraction → List (Rent Fraction)
+rent_of_second outage flow rent = record { row = record { branch = 2; outage = outage }; flow = flow; rent = rent } ∷ []
+
+-- ---- limit 40
+abbrev limit_40 : Answer Fraction
+limit_40 = record {
+  dispatch = mws 50 ∷ mws 10 ∷ [];
+  duals = up_alone 10 0 40;
+  prices = at_bus (prices 10) (prices 0) (prices 10) ∷ at_bus (prices 10) (prices 20) (prices 30) ∷ at_bus (prices 10) (prices 30) (prices 40) ∷ [];
+  welfare = whole (neg_ℤ (money 800));
+  money = record {
+    units = unit (mws 50) (sums 500) ∷ unit (mws 10) (sums 300) ∷ [];
+    loads = load (mws 0) (sums 0) ∷ load (mws 0) (sums 0) ∷ load (mws 60) (sums 2400) ∷ [];
+    rents = rent_of_second 0 (mws 40) (sums 1600);
+    surplus = sums 1600;
+  };
+}
+
+limit_40-right : IsRight shunted limit_40
+unfolding rows line_flow row_offset row_factor injection balance output demand welfare congestion bus_price rent surplus paid pays ◌+ℚ◌ ◌*ℚ◌ neg_ℚ over whole gcd gcd_in
+limit_40-right = right_by shunted limit_40 refl refl refl refl
+
+-- ---- a lower side
+abbrev lower_side : Answer Fraction
+lower_side = record {
+  dispatch = mws 40 ∷ mws 20 ∷ [];
+  duals = down_alone 70 80;
+  prices = at_bus (prices 70) (prices 0) (prices 70) ∷ at_bus (prices 70) (whole (neg_ℤ (price 40))) (prices 30) ∷ at_bus (prices 70) (whole (neg_ℤ (price 60))) (prices 10) ∷ [];
+  welfare = whole (neg_ℤ (money 1000));
+  money = record {
+    units = unit (mws 40) (sums 400) ∷ unit (mws 20) (sums 600) ∷ [];
+    loads = load (mws 60) (sums 4200) ∷ load (mws 0) (sums 0) ∷ load (mws 0) (sums 0) ∷ [];
+    rents = rent_of_second 0 (whole (neg_ℤ (mw 40))) (sums 3200);
+    surplus = sums 3200;
+  };
+}
+
+lower_side-right : IsRight turned lower_side
+unfolding rows line_flow row_offset row_factor injection balance output demand welfare congestion bus_price rent surplus paid pays ◌+ℚ◌ ◌*ℚ◌ neg_ℚ over whole gcd gcd_in
+lower_side-right = right_by turned lower_side refl refl refl refl
+
+-- ---- after an outage
+abbrev after_loss : Answer Fraction
+after_loss = record {
+  dispatch = mws 45 ∷ mws 15 ∷ [];
+  duals = up_alone 10 1 20;
+  prices = at_bus (prices 10) (prices 0) (prices 10) ∷ at_bus (prices 10) (prices 20) (prices 30) ∷ at_bus (prices 10) (prices 20) (prices 30) ∷ [];
+  welfare = whole (neg_ℤ (money 900));
+  money = record {
+    units = unit (mws 45) (sums 450) ∷ unit (mws 15) (sums 450) ∷ [];
+    loads = load (mws 0) (sums 0) ∷ load (mws 0) (sums 0) ∷ load (mws 60) (sums 1800) ∷ [];
+    rents = rent_of_second 1 (mws 45) (sums 900);
+    surplus = sums 900;
+  };
+}
+
+after_loss-right : IsRight after_outage after_loss
+unfolding rows line_flow row_offset row_factor injection balance output demand welfare congestion bus_price rent surplus paid pays ◌+ℚ◌ ◌*ℚ◌ neg_ℚ over whole gcd gcd_in
+after_loss-right = right_by after_outage after_loss refl refl refl refl
+
+-- ---- a buy behind a limit
+abbrev part_bought : Answer Fraction
+part_bought = record {
+  dispatch = mws 60 ∷ mws 0 ∷ mws 10 ∷ [];
+  duals = up_alone 10 0 40;
+  prices = at_bus (prices 10) (prices 0) (prices 10) ∷ at_bus (prices 10) (prices 20) (prices 30) ∷ at_bus (prices 10) (prices 30) (prices 40) ∷ [];
+  welfare = whole (neg_ℤ (money 200));
+  money = record {
+    units = unit (mws 60) (sums 600) ∷ unit (mws 0) (sums 0) ∷ unit (whole (neg_ℤ (mw 10))) (whole (neg_ℤ (money 400))) ∷ [];
+    loads = load (mws 0) (sums 0) ∷ load (mws 0) (sums 0) ∷ load (mws 50) (sums 2000) ∷ [];
+    rents = rent_of_second 0 (mws 45) (sums 1800);
+    surplus = sums 1800;
+  };
+}
+
+part_bought-right : IsRight bought part_bought
+unfolding rows line_flow row_offset row_factor injection balance output demand welfare congestion bus_price rent surplus paid pays ◌+ℚ◌ ◌*ℚ◌ neg_ℚ over whole gcd gcd_in
+part_bought-right = right_by bought part_bought refl refl refl refl
+
+-- ---- an offset beyond the limit
+abbrev beyond_limit : Answer Fraction
+beyond_limit = record {
+  dispatch = mws 30 ∷ mws 10 ∷ [];
+  duals = up_alone 10 0 40;
+  prices = at_bus (prices 10) (prices 0) (prices 10) ∷ at_bus (prices 10) (prices 20) (prices 30) ∷ at_bus (prices 10) (prices 30) (prices 40) ∷ [];
+  welfare = whole (neg_ℤ (money 600));
+  money = record {
+    units = unit (mws 30) (sums 300) ∷ unit (mws 10) (sums 300) ∷ [];
+    loads = load (mws 40) (sums 400) ∷ load (mws 0) (sums 0) ∷ load (mws 0) (sums 0) ∷ [];
+    rents = rent_of_second 0 (mws 5) (whole (neg_ℤ (money 200)));
+    surplus = whole (neg_ℤ (money 200));
+  };
+}
+
+beyond_limit-right : IsRight shifted beyond_limit
+unfolding rows line_flow row_offset row_factor injection balance output demand welfare congestion bus_price rent surplus paid pays ◌+ℚ◌ ◌*ℚ◌ neg_ℚ over whole gcd gcd_in
+beyond_limit-right = right_by shifted beyond_limit refl refl refl refl
+
+-- ---- thirds: a limit of 40 MW on branch 2, with both units where they are but the second, which is at bus 3, as the load of 60 MW is
+abbrev beside_load : Parts
+beside_load = record {
+  buses = buses 0 60 0;
+  units = record { row = 1; bus = 0; fixed = pos 0; up = mw 100; down = pos 0 } ∷ record { row = 2; bus = 2; fixed = pos 0; up = mw 100; down = pos 0 } ∷ [];
+  blocks = blocks;
+  lines = line 1 None None 0 ∷ line 2 (Some (mw 40)) None 0 ∷ line 3 None None 0 ∷ [];
+  outages = [];
+  shift = shifts;
+  loss = losses;
+}
+
+-- so many thirds of a MW, of a price and of money
+abbrev mw_thirds : ℕ → Fraction
+mw_thirds n = over (mw n) 3
+
+abbrev price_thirds : ℕ → Fraction
+price_thirds n = over (price n) 3
+
+abbrev money_thirds : ℕ → Fraction
+money_thirds n = over (money n) 3
+
+abbrev thirds : Answer Fraction
+thirds = record {
+  dispatch = mw_thirds 160 ∷ mw_thirds 20 ∷ [];
+  duals = record { energy = prices 10; limits = record { row = record { branch = 2; outage = 0 }; up = price_thirds 80; down = prices 0 } ∷ [] };
+  prices = at_bus (prices 10) (prices 0) (prices 10) ∷ at_bus (prices 10) (price_thirds 40) (price_thirds 70) ∷ at_bus (prices 10) (prices 20) (prices 30) ∷ [];
+  welfare = over (neg_ℤ (money 2200)) 3;
+  money = record {
+    units = unit (mw_thirds 160) (money_thirds 1600) ∷ unit (mw_thirds 20) (sums 200) ∷ [];
+    loads = load (mws 0) (sums 0) ∷ load (mws 0) (sums 0) ∷ load (mws 60) (sums 1800) ∷ [];
+    rents = rent_of_second 0 (mws 40) (money_thirds 3200);
+    surplus = money_thirds 3200;
+  };
+}
+
+thirds-right : IsRight beside_load thirds
+unfolding rows line_flow row_offset row_factor injection balance output demand welfare congestion bus_price rent surplus paid pays ◌+ℚ◌ ◌*ℚ◌ neg_ℚ over whole gcd gcd_in
+thirds-right = right_by beside_load thirds refl refl refl refl
+
+-- ---- limit 10: a bound of -10 MW
+abbrev limit_10 : Farkas Fraction
+limit_10 = record { duals = narrow_duals; bound = whole (neg_ℤ (mw 10)) }
+
+limit_10-infeasible : IsFarkas narrow limit_10
+unfolding rows line_flow row_offset row_factor injection balance output demand welfare congestion bus_price rent surplus farkas_bound sign_of ◌+ℚ◌ ◌*ℚ◌ neg_ℚ over whole gcd gcd_in
+limit_10-infeasible = infeasible_by narrow limit_10 refl refl
