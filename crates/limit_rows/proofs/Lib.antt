@@ -5,5 +5,4 @@ pub mod PlaceLemmas
 pub mod FactorLemmas
 pub mod PositionLemmas
 pub mod NameLemmas
-mod AfterOutage
 pub mod TestMarkets

@@ -9,7 +9,7 @@ pub mod MarketPoints
 mod ModestChoices
 mod ModestMarkets
 mod ModestNumbers
-mod ModestPairs
+pub mod ModestPairs
 pub mod PairLaws
 mod RangeRows
 pub mod RowOrder
