@@ -170,6 +170,12 @@ fn reads_a_saved_case(rt: HostRuntime) -> Result<(), Fail> {
 const DEAR: &str =
     "cleared\nwelfare -27670116110564.327421\nenergy 9223372036854.775807\nbus 1 price 9223372036854.775807 congestion 0\nbus 2 price 9223372036854.775807 congestion 0\nbus 3 price 9223372036854.775807 congestion 0\nblock 1 sell 1 mw 3\nblock 2 sell 1 mw 0\nblock 3 sell 1 mw 0\nunit 1 mw 3 paid 27670116110564.327421\nunit 2 mw 0 paid 0\nunit 3 mw 0 paid 0\nload 1 mw 1 pays 9223372036854.775807\nload 2 mw 1 pays 9223372036854.775807\nload 3 mw 1 pays 9223372036854.775807\nsurplus 0\n";
 
+/// What is put where one unit sells and another buys so much at such a price that the cost of the
+/// sale and the worth of the purchase are each about 2^126 in units of money: their sum is small, and
+/// their difference would be too large.
+const TRADED: &str =
+    "cleared\nwelfare 7155556589.796193054501249\nenergy 9223372036854\nbus 1 price 9223372036854 congestion 0\nblock 1 sell 1 mw 9223372036.854775807\nblock 2 buy 1 mw 9223372036.854775807\nunit 1 mw 9223372036.854775807 paid 85070591730227460290807.111591178\nunit 2 mw -9223372036.854775807 paid -85070591730227460290807.111591178\nload 1 mw 0 pays 0\nsurplus 0\n";
+
 #[test]
 fn passes_127_bits(rt: HostRuntime) -> Result<(), Fail> {
     let row = "0 0 0 0 1 100 1 9223372036.854775807 0;\n";
@@ -192,6 +198,20 @@ fn passes_127_bits(rt: HostRuntime) -> Result<(), Fail> {
         let case = case(&rt, buses.as_str(), units.as_str())?;
         expect(&rt, case.as_bytes(), offers.as_str(), all, want)?;
     }
+    let traded = case(
+        &rt,
+        "1 3 0 0 0 0 1 1 0 230 1 1.1 0.9;\n",
+        "1 0 0 0 0 1 100 1 9223372036.854775807 0;\n1 0 0 0 0 1 100 1 0 -9223372036.854775807;\n",
+    )?;
+    let offers =
+        "unit,side,mw,price\n1,sell,9223372036.854775807,9223372036854\n2,buy,9223372036.854775807,9223372036854.775807\n";
+    expect(
+        &rt,
+        traded.as_bytes(),
+        offers,
+        all,
+        (Status::Done, TRADED),
+    )?;
     Ok(())
 }
 

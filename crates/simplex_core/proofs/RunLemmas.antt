@@ -17,7 +17,8 @@ use Rattle.fraction_theory.specs.Fraction.{Fraction, whole, neg_ℚ}
 use Rattle.linear_system.specs.Pairs.{IsSystemPair}
 use Rattle.simplex_core.specs.declared.solving.Run.{Run}
 use Rattle.simplex_core.specs.declared.solving.Run.TheVariants.{Solved, Empty, Passed}
-use Rattle.simplex_core.specs.Outcomes.{Keeps, IsAnswered, IsEmptyAt, IsOutcome, IsStuck, ShowsChoice}
+use Rattle.simplex_core.specs.Outcomes.{Keeps, IsAnswered, IsEmptyAt, IsOutcome, ShowsChoice}
+use Rattle.simplex_theory.specs.Stuck.{IsStuck}
 use Rattle.simplex_core.specs.States.{state_of, IsReady}
 use Rattle.simplex_core.specs.Turns.{turned}
 use Rattle.simplex_core.proofs.Nexts.{IsTurn}

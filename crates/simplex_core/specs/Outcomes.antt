@@ -1,5 +1,5 @@
 -- How a run from a posed dictionary ends.
-use Rattle.std.specs.Prelude.{◌≡◌, ℕ, ◌<◌, pos, Bool, true, false, Option, Some, None, length, slice_index}
+use Rattle.std.specs.Prelude.{◌≡◌, ℕ, ◌<◌, Bool, Option, Some, None, length, slice_index}
 use Rattle.std.specs.List.{Contains}
 use Rattle.fraction_theory.specs.Fraction.{Fraction, whole}
 use Rattle.fraction_theory.specs.Order.{◌≤ℚ◌, ◌<ℚ◌}
@@ -7,8 +7,8 @@ use Rattle.linear_system.specs.Systems.{System}
 use Rattle.linear_system.specs.Choices.{Choice, IsChoice, basics, others, reduced, value}
 use Rattle.linear_dict.specs.Causes.{IsPairOf}
 use Rattle.linear_dict.specs.Dictionaries.{Dictionary, system_of, choice_of}
-use Rattle.simplex_theory.specs.States.{IsSolved, HasNoPoint, IsOutOfReach, Violates}
-use Rattle.simplex_theory.specs.Steps.{signed}
+use Rattle.simplex_theory.specs.States.{IsSolved, HasNoPoint, IsOutOfReach}
+use Rattle.simplex_theory.specs.Stuck.{IsStuck}
 use Rattle.simplex_core.specs.States.{state_of, IsReady}
 use Rattle.simplex_core.specs.declared.leave.Leaving.{Leaving}
 use Rattle.simplex_core.specs.declared.solving.Run.{Run}
@@ -29,15 +29,6 @@ pub record ShowsChoice (d : Dictionary) : Type 0 where
   pub choice : IsChoice (system_of d) (choice_of d)
   pub values : (w : ℕ) → Contains d.names w → (state_of d).value w ≡ value (system_of d) (choice_of d) w
   pub prices : (w : ℕ) → Contains d.names w → (state_of d).reduced w ≡ reduced (system_of d) (choice_of d) w
-
--- Where the others stand at their bounds, the basic variable b is above its high bound, or below its low one where `above`
--- does not say so, and none of the others that has room brings it back. Where b is below, the entry of each of these is at
--- most 0 if it stands at its low bound and at least 0 if it stands at its high one; where b is above, their opposites are.
-pub record IsStuck (s : System) (h : Choice) (b : ℕ) (above : Bool) : Type 0 where
-  pub basic : Contains (basics s h) b
-  pub violates : Violates s (value s h) above b
-  pub at_low : (w : ℕ) → Contains (others s h) w → s.low w <ℚ s.high w → h.high w ≡ false → signed above (h.entry b w) ≤ℚ whole (pos 0)
-  pub at_high : (w : ℕ) → Contains (others s h) w → s.low w <ℚ s.high w → h.high w ≡ true → whole (pos 0) ≤ℚ signed above (h.entry b w)
 
 -- the row place shows that no values are within the bounds: its variable is stuck on this side of its own
 pub record IsEmptyAt (d : Dictionary) (row : ℕ) (above : Bool) : Type 0 where
