@@ -84,26 +84,6 @@ fn there_and_back<N: Exact>(rt: &impl Abort, alloc: Global) {
     );
 }
 
-/// A column of zeros has no pivot, and stays one.
-fn zeros<N: Exact>(rt: &impl Abort, alloc: Global) {
-    let (first, second) = (N::of_parts(0, 1), N::of_parts(4, 1));
-    let mut dict = two(alloc, [1, 2], 0, first, second).expect(rt, "memory");
-    assert!(rt; !pivoted(&mut dict, 0, 0));
-    assert!(rt; pivoted(&mut dict, 0, 1));
-    assert!(rt;
-        is_entry(&dict, 0, 0, N::of_parts(0, 1)) && is_entry(&dict, 0, 1, N::of_parts(1, 4))
-    );
-}
-
-/// y = 2^62 x + z/4, solved for z, has the entry -2^64. Whether the dictionary is spent after it.
-fn wide<N: Exact>(rt: &impl Abort, alloc: Global) -> bool {
-    let (first, second) = (N::of_parts(1 << 62, 1), N::of_parts(1, 4));
-    let mut dict = two(alloc, [1, 2], 0, first, second).expect(rt, "memory");
-    let taken = pivoted(&mut dict, 0, 1);
-    assert!(rt; taken != dict.spent());
-    dict.spent()
-}
-
 /// y = first x + second z, solved for x, and then a row more, third x + fourth z. With what adding it answers.
 fn then_added<N: Exact>(
     alloc: Global,
@@ -160,21 +140,6 @@ fn more_rows<N: Exact>(rt: &impl Abort, alloc: Global) {
             && is_entry(&dict, 1, 0, N::of_parts(1, 1))
             && is_entry(&dict, 1, 1, N::of_parts(0, 1))
     );
-}
-
-/// x = 4y, and so 2^62 x has the entry 2^64. Whether the row was added, which leaves the dictionary as it was otherwise.
-fn wide_row<N: Exact>(rt: &impl Abort, alloc: Global) -> bool {
-    let zero = N::of_parts(0, 1);
-    let (dict, added) = then_added(
-        alloc,
-        [7, 3],
-        [5, 6],
-        (N::of_parts(1, 4), zero),
-        (N::of_parts(1 << 62, 1), zero),
-    )
-    .expect(rt, "memory");
-    assert!(rt; !is_entry(&dict, 1, 0, zero) && are_names(&dict, 0, 7, 0, 5));
-    added.is_ok()
 }
 
 /// 2^62 in 63 bits: twice it passes.
@@ -274,7 +239,7 @@ fn refused_in_another<N: Exact>(rt: &impl Abort, alloc: Global, big: N) {
     refuses_pivot(rt, alloc, (one, big), (one, half), sum);
 }
 
-/// The place of the least name.
+/// The place of the least name, by the name and by its rank.
 fn least_place<N: Exact>(dict: &Dict<N>) -> Option<Place> {
     if dict.spent() {
         return None;
@@ -282,10 +247,16 @@ fn least_place<N: Exact>(dict: &Dict<N>) -> Option<Place> {
     if dict.name_count() == 0 {
         return None;
     }
-    Some(dict.place(dict.ranked(0)))
+    let name = dict.ranked(0);
+    let place = dict.place(name);
+    if dict.rank_of(name) == 0 && dict.place_at(0) == place {
+        Some(place)
+    } else {
+        None
+    }
 }
 
-/// Notes a value and a bound of the least name, and reads them.
+/// Notes a value of the least name, and a bound of its rank, and reads them.
 fn least_noted<N: Exact>(dict: &mut Dict<N>, value: N, at_high: bool) -> bool {
     if dict.spent() {
         return false;
@@ -296,11 +267,15 @@ fn least_noted<N: Exact>(dict: &mut Dict<N>, value: N, at_high: bool) -> bool {
     let name = dict.ranked(0);
     let note = Note {
         value,
-        at_high,
         ..dict.note(name)
     };
     dict.set_note(name, note);
-    let read = dict.note(name);
+    let note = Note {
+        at_high,
+        ..dict.note_at(0)
+    };
+    dict.set_note_at(0, note);
+    let read = dict.note_at(0);
     read.value.order(value) == Ordering::Equal
         && read.at_high == at_high
         && read.price.sign() == Sign::Zero
@@ -323,27 +298,9 @@ fn pivots_there_and_back(rt: HostRuntime) {
 }
 
 #[test]
-fn a_column_of_zeros(rt: HostRuntime) {
-    zeros::<Frac>(&rt, rt.alloc());
-    zeros::<Frac63>(&rt, rt.alloc());
-}
-
-#[test]
-fn a_refused_pivot_leaves_it_spent(rt: HostRuntime) {
-    assert!(rt; !wide::<Frac>(&rt, rt.alloc()));
-    assert!(rt; wide::<Frac63>(&rt, rt.alloc()));
-}
-
-#[test]
 fn adds_rows(rt: HostRuntime) {
     more_rows::<Frac>(&rt, rt.alloc());
     more_rows::<Frac63>(&rt, rt.alloc());
-}
-
-#[test]
-fn a_refused_row_is_not_added(rt: HostRuntime) {
-    assert!(rt; wide_row::<Frac>(&rt, rt.alloc()));
-    assert!(rt; !wide_row::<Frac63>(&rt, rt.alloc()));
 }
 
 #[test]

@@ -1,17 +1,35 @@
-use Rattle.std.proofs.Common.{◌≡◌, ◌<◌, ◌∙◌, List, ℕ, arith, ap, length, subst, sym}
-use Rattle.std.specs.List.{Contains}
-use Rattle.std.proofs.lemmas.Grind.{get_or_default_zero}
+use Rattle.std.proofs.Common.{◌≡◌, ◌<◌, ◌∙◌, arith, ap, length, sym}
 use Rattle.linear_dict.specs.Dictionaries.{Dictionary, with_note}
-use Rattle.linear_dict.proofs.SplitLemmas.{Contains-at}
 use Rattle.linear_dict.proofs.tests.least_noted.Goals as goal
 
-pub note-read-requires-clause-live : goal.note-read-requires-clause-live
+pub note_at-requires-clause-live : goal.note_at-requires-clause-live
 unfolding with_note
-note-read-requires-clause-live g c = ap (λ (d : Dictionary). d.spent) c.set_note.ensures ∙ sym c.spent.ensures.answer ∙ c.if-spent.false
+note_at-requires-clause-live g c = ap (λ (d : Dictionary). d.spent) c.set_note.ensures ∙ sym c.spent.ensures.answer ∙ c.if-spent.false
 
-pub note-read-requires-clause-named : goal.note-read-requires-clause-named
+pub note_at-requires-clause-within : goal.note_at-requires-clause-within
 unfolding with_note
-note-read-requires-clause-named g c =
-    let some : 0 < length c.args.dict.now.names = Prim.omega (arith, c.name_count.ensures, c.if-name_count-eq0.false) in
-    subst (λ (ns : List ℕ). Contains ns c.ranked-name.result) (sym (ap (λ (d : Dictionary). d.names) c.set_note.ensures))
-    (subst (Contains c.args.dict.now.names) (sym c.ranked-name.ensures) (Contains-at c.args.dict.now.names 0 some))
+note_at-requires-clause-within g c =
+    let same : length c.set_note.new.self.names ≡ length c.args.dict.now.names = ap (λ (d : Dictionary). length d.names) c.set_note.ensures in
+    Prim.omega (arith, same, c.name_count.ensures, c.if-name_count-eq0.false)
+
+pub set_note_at-requires-clause-live : goal.set_note_at-requires-clause-live
+unfolding with_note
+set_note_at-requires-clause-live g c = ap (λ (d : Dictionary). d.spent) c.set_note.ensures ∙ sym c.spent.ensures.answer ∙ c.if-spent.false
+
+pub set_note_at-requires-clause-within : goal.set_note_at-requires-clause-within
+unfolding with_note
+set_note_at-requires-clause-within g c =
+    let same : length c.set_note.new.self.names ≡ length c.args.dict.now.names = ap (λ (d : Dictionary). length d.names) c.set_note.ensures in
+    Prim.omega (arith, same, c.name_count.ensures, c.if-name_count-eq0.false)
+
+pub note_at-read-requires-clause-live : goal.note_at-read-requires-clause-live
+unfolding with_note
+note_at-read-requires-clause-live g c =
+    ap (λ (d : Dictionary). d.spent) c.set_note_at.ensures ∙ ap (λ (d : Dictionary). d.spent) c.set_note.ensures ∙ sym c.spent.ensures.answer ∙ c.if-spent.false
+
+pub note_at-read-requires-clause-within : goal.note_at-read-requires-clause-within
+unfolding with_note
+note_at-read-requires-clause-within g c =
+    let once : length c.set_note.new.self.names ≡ length c.args.dict.now.names = ap (λ (d : Dictionary). length d.names) c.set_note.ensures in
+    let twice : length c.set_note_at.new.self.names ≡ length c.set_note.new.self.names = ap (λ (d : Dictionary). length d.names) c.set_note_at.ensures in
+    Prim.omega (arith, once, twice, c.name_count.ensures, c.if-name_count-eq0.false)
