@@ -7,6 +7,7 @@ pub mod MorePlaces
 pub mod Optimum
 pub mod PlaceSums
 pub mod PlainMarkets
+pub mod RightFits
 pub mod RowLaws
 mod Rows
 pub mod SumSteps
