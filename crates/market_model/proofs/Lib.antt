@@ -9,7 +9,7 @@ pub mod PlaceSums
 pub mod PlainMarkets
 pub mod RightFits
 pub mod RowLaws
-mod Rows
+pub mod Rows
 pub mod SumSteps
 pub mod TableLemmas
 pub mod WholeDispatch
