@@ -7,8 +7,9 @@ pub mod MorePlaces
 pub mod Optimum
 pub mod PlaceSums
 pub mod PlainMarkets
+pub mod RightFits
 pub mod RowLaws
-mod Rows
+pub mod Rows
 pub mod SumSteps
 pub mod TableLemmas
 pub mod WholeDispatch

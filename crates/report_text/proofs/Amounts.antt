@@ -2,9 +2,9 @@
 use Rattle.std.specs.Prelude.{◌≡◌, ℕ, ◌+◌, ◌<◌, ◌≤◌, ◌/◌, ◌%◌, ◌^◌, ℤ, pos, negsuc, unsigned_abs, List, [], ◌∷◌, ◌++◌, map, Bool, true, false, cond, nat_eq, refl}
 use Rattle.std.specs.Int.Digits.{digits_of}
 use Rattle.std.specs.List.{AllByRecursion}
-use Rattle.std.proofs.Common.{zero, suc, arith, sym, ◌∙◌, append_assoc}
+use Rattle.std.proofs.Common.{zero, suc, arith, ap, sym, ◌∙◌, append_assoc}
 use Rattle.std.proofs.lemmas.List.{append_cancel_left}
-use Rattle.fraction_theory.specs.Fraction.{Fraction}
+use Rattle.fraction_theory.specs.Fraction.{Fraction, whole}
 use Rattle.exact_fraction.specs.Written.{number_text, last_digits, trimmed_places, all_places, rest_text, units_text, sign_text, written, parts_text}
 use Rattle.exact_fraction.proofs.Apart.{written_apart, parts_apart}
 
@@ -91,6 +91,20 @@ amount_apart : (k c : ℕ) (x y : Fraction) (us vs : List ℕ) → c ≤ 32 → 
 amount_apart k c x y us vs h e =
     let t = cut c (written k x) (written k y) us vs h (AllAbove-written k x) (AllAbove-written k y) e in
     (written_apart k x y t.0, t.1)
+
+-- a word, an amount and what comes after it
+pub named_apart : (word : List ℕ) (k c : ℕ) (x y : Fraction) (us vs : List ℕ) → c ≤ 32 → word ++ (written k x ++ c ∷ us) ≡ word ++ (written k y ++ c ∷ vs) → (x ≡ y) × (us ≡ vs)
+named_apart word k c x y us vs h e = amount_apart k c x y us vs h (append_cancel_left word (written k x ++ c ∷ us) (written k y ++ c ∷ vs) e)
+
+same_number : (m n : ℕ) → number_text m ≡ number_text n → m ≡ n
+unfolding parts_text whole number_text
+same_number m n e = ap unsigned_abs (ap (λ (x : Fraction). x.num) (parts_apart (whole (pos m)) (whole (pos n)) (ap (λ t. t ++ 47 ∷ number_text 1) e)))
+
+-- a number, a blank and what comes after it
+pub number_apart : (m n : ℕ) (us vs : List ℕ) → number_text m ++ 32 ∷ us ≡ number_text n ++ 32 ∷ vs → (m ≡ n) × (us ≡ vs)
+number_apart m n us vs e =
+    let t = cut 32 (number_text m) (number_text n) us vs (Prim.omega arith) (AllAbove-number_text m) (AllAbove-number_text n) e in
+    (same_number m n t.0, t.1)
 
 -- a line that ends with an amount
 pub one_apart : (front : List ℕ) (k : ℕ) (x y : Fraction) (us vs : List ℕ)

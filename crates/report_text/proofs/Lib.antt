@@ -1,4 +1,5 @@
 pub mod Amounts
+pub mod LimitReading
+pub mod OutcomeReading
 pub mod ReportLemmas
 pub mod ReportReading
-pub mod RightReports

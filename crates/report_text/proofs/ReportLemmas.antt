@@ -1,10 +1,11 @@
 -- The lines of a report, one place more.
 use Rattle.std.specs.Prelude.{◌≡◌, ℕ, ◌+◌, ◌<◌, ◌≤◌, List, [], ◌∷◌, ◌++◌, length, map, take, count_by, filter, Bool, true, false, if◌then◌else◌, refl}
-use Rattle.std.specs.List.{flat_map}
-use Rattle.std.proofs.Common.{zero, suc, ap, sym, ◌∙◌, get_or, slice_get, Some, arith}
-use Rattle.std.proofs.lemmas.List.{flat_map_more, get_or-map, length-append, take_more, take_all, append-nil}
+use Rattle.std.specs.List.{flat_map, zip}
+use Rattle.std.proofs.Common.{zero, suc, ap, sym, ◌∙◌, get_or, slice_get, Some, arith, append_assoc}
+use Rattle.std.proofs.lemmas.List.{flat_map_more, get_or-map, length-append, length-map, take_more, take_all, append-nil}
 use Rattle.std.proofs.lemmas.List.Elements.{filter-append}
 use Rattle.std.proofs.lemmas.List.FromFn.{length-range_with_len}
+use Rattle.std.proofs.lemmas.Slice.Zip.{firsts-zip, get_or-zip}
 use Rattle.std.proofs.lemmas.List.Sums.{length-filter, count_by-le-length}
 use Rattle.market_model.specs.Dispatch.{places}
 use Rattle.market_model.proofs.MorePlaces.{places_more}
@@ -28,6 +29,19 @@ module _ {X : Type 0} (f : X → List ℕ) (start : List ℕ) (xs : List X) wher
   pub items_all : (text : List ℕ) (k : ℕ) → length xs ≤ k → text ≡ start ++ flat_map f (take k xs) → text ≡ start ++ flat_map f xs
   items_all text k h e = e ∙ ap (λ ys. start ++ flat_map f ys) (take_all k xs h)
 
+-- as many pairs as entries of two lists of one length
+pub length_of_pairs : {A B : Type 0} (xs : List A) (ys : List B) → length ys ≡ length xs → length (zip xs ys) ≡ length xs
+length_of_pairs xs ys e = sym (length-map (zip xs ys) (λ p. p.0)) ∙ ap length (firsts-zip xs ys e)
+
+-- a text that grows by what each pair of entries of two lists gives
+pub pairs_more : {A B : Type 0} (f : A × B → List ℕ) (start : List ℕ) (xs : List A) (ys : List B) (before after : List ℕ) (k : ℕ) (x : A) (y : B)
+    → length ys ≡ length xs → k < length xs → x ≡ get_or xs k x → y ≡ get_or ys k y → before ≡ start ++ flat_map f (take k (zip xs ys)) → after ≡ before ++ f (x, y)
+    → after ≡ start ++ flat_map f (take (k + 1) (zip xs ys))
+pairs_more {A} {B} f start xs ys before after k x y same h x_is y_is e more =
+    let pair : ◌≡◌ {A = A × B} (x, y) (get_or (zip xs ys) k (x, y)) =
+    ap (λ (z : A). (z, y)) x_is ∙ ap (λ (z : B). (get_or xs k x, z)) y_is ∙ sym (get_or-zip xs ys k (x, y) h (Prim.omega (arith, h, same))) in
+    items_more f start (zip xs ys) before after k (x, y) (Prim.omega (arith, h, length_of_pairs xs ys same)) pair e more
+
 pub flat_map-map : {X Y : Type 0} (f : Y → List ℕ) (g : X → Y) (xs : List X) → flat_map (λ x. f (g x)) xs ≡ flat_map f (map g xs)
 flat_map-map f g [] = refl
 flat_map-map f g (x ∷ xs) = ap (λ t. f (g x) ++ t) (flat_map-map f g xs)
@@ -48,6 +62,11 @@ count_push p xs x =
     by_test : (b : Bool) → p x ≡ b → length (filter p xs ++ filter p (x ∷ [])) ≡ count_by p xs + (if b then 1 else 0)
     by_test true e = Prim.rw e (length-append (filter p xs) (x ∷ []) ∙ ap (λ n. n + 1) (length-filter p xs))
     by_test false e = Prim.rw e (length-append (filter p xs) [] ∙ ap (λ n. n + 0) (length-filter p xs))
+
+-- the line of a limit, part by part
+pub line_grown : (t r a f b x c y d z n u₀ u₁ u₂ u₃ u₄ : List ℕ) → u₀ ≡ t ++ r → u₁ ≡ u₀ ++ a ++ f → u₂ ≡ u₁ ++ b ++ x → u₃ ≡ u₂ ++ c ++ y → u₄ ≡ u₃ ++ d ++ z
+    → u₄ ++ n ≡ t ++ (r ++ a ++ f ++ b ++ x ++ c ++ y ++ d ++ z ++ n)
+line_grown t r a f b x c y d z n u₀ u₁ u₂ u₃ u₄ e₀ e₁ e₂ e₃ e₄ = Prim.rw (e₄, e₃, e₂, e₁, e₀) Prim.simp append_assoc
 
 -- the places that pass a test, with one place more
 pub count_more : (p : ℕ → Bool) (k : ℕ) (b : Bool) → p k ≡ b → count_by p (places (k + 1)) ≡ count_by p (places k) + (if b then 1 else 0)

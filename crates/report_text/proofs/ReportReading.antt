@@ -1,4 +1,4 @@
--- Equal reports are of equal answers.
+-- Equal reports of cleared markets are of equal answers.
 use Rattle.std.specs.Prelude.{◌≡◌, ℕ, ◌+◌, ◌<◌, List, [], ◌∷◌, ◌++◌, length, codes, decimal, slice_index_or}
 use Rattle.std.specs.List.{AllByRecursion, flat_map, range_with_len}
 use Rattle.std.proofs.Common.{zero, suc, arith, ap, sym, ◌∙◌, subst, append_assoc}
@@ -16,9 +16,10 @@ use Rattle.market_model.specs.declared.answered.Money.{Money}
 use Rattle.market_model.specs.declared.answered.Answer.{Answer}
 use Rattle.market_model.specs.Dispatch.{zero as none, places, bus_at, unit_at, block_at}
 use Rattle.market_model.specs.RightAnswers.{mw_of, price_of, pay_of, load_of}
-use Rattle.report_text.specs.Reports.{side_text, block_number, head_text, bus_text, block_text, unit_text, load_text, surplus_text, bus_line_at, block_line_at, unit_line_at, load_line_at, lines_of_buses, lines_of_blocks, lines_of_units, lines_of_loads, cleared_text}
-use Rattle.report_text.specs.ReportLaws.{FitsReport, ReportsApart}
+use Rattle.report_text.specs.Reports.{side_text, block_number, head_text, bus_text, block_text, unit_text, load_text, surplus_text, bus_line_at, block_line_at, unit_line_at, load_line_at, lines_of_buses, lines_of_blocks, lines_of_limits, lines_of_units, lines_of_loads, cleared_text}
+use Rattle.report_text.specs.ReportLaws.{FitsReport}
 use Rattle.report_text.proofs.Amounts.{one_apart, two_apart}
+use Rattle.report_text.proofs.LimitReading.{EndsLimits, rents_apart}
 
 head_apart : (w x e f : Fraction) (us vs : List ℕ) → head_text w e ++ us ≡ head_text x f ++ vs → (w ≡ x) × (e ≡ f) × (us ≡ vs)
 unfolding head_text
@@ -94,9 +95,9 @@ same_prices : (m : Parts) (a b : Answer Fraction) → FitsReport m a → FitsRep
     → AllByRecursion (λ k. SamePrice (price_of a k) (price_of b k)) (places (length m.buses)) → a.prices ≡ b.prices
 same_prices m a b p q e all =
     let d : Price Fraction = record { energy = none; congestion = none; total = none } in
-    ext_get_or d a.prices b.prices (p.prices ∙ sym q.prices) (λ i h.
-    same_price (price_of a i) (price_of b i) (p.energy i d h ∙ e ∙ sym (q.energy i d (Prim.omega (arith, h, p.prices, q.prices))))
-    (at_places (λ k. SamePrice (price_of a k) (price_of b k)) (length m.buses) i all (Prim.omega (arith, h, p.prices))))
+    ext_get_or d a.prices b.prices (p.fits.prices ∙ sym q.fits.prices) (λ i h.
+    same_price (price_of a i) (price_of b i) (p.energy i d h ∙ e ∙ sym (q.energy i d (Prim.omega (arith, h, p.fits.prices, q.fits.prices))))
+    (at_places (λ k. SamePrice (price_of a k) (price_of b k)) (length m.buses) i all (Prim.omega (arith, h, p.fits.prices))))
 
 pub same_duals : (d e : Duals Fraction) → d.energy ≡ e.energy → d.limits ≡ e.limits → d ≡ e
 same_duals d e p q =
@@ -117,29 +118,56 @@ same_answer a b p q r s t =
     ∙ ap (λ w. make b.dispatch b.duals w a.welfare a.money) r ∙ ap (λ x. make b.dispatch b.duals b.prices x a.money) s
     ∙ ap (make b.dispatch b.duals b.prices b.welfare) t
 
-in_order : (h b k u l s : List ℕ) → h ++ b ++ k ++ u ++ l ++ s ≡ h ++ (b ++ (k ++ (u ++ (l ++ s))))
-in_order h b k u l s = Prim.simp append_assoc
+-- ---- what follows the lines of limits
+unit_ends : (row : ℕ) (pay : UnitPay Fraction) (us : List ℕ) → EndsLimits (unit_text row pay ++ us)
+unfolding unit_text
+unit_ends row pay us = λ e. Prim.omega (arith, e)
 
-pub reports_apart : ReportsApart
+load_ends : (n : ℕ) (load : Load Fraction) (us : List ℕ) → EndsLimits (load_text n load ++ us)
+unfolding load_text
+load_ends n load us = λ e. Prim.omega (arith, e)
+
+surplus_ends : (x : Fraction) → EndsLimits (surplus_text x)
+unfolding surplus_text
+surplus_ends x = λ e. Prim.omega (arith, e)
+
+lines_end : (f : ℕ → List ℕ) → ((k : ℕ) (us : List ℕ) → EndsLimits (f k ++ us)) → (ps us : List ℕ) → EndsLimits us → EndsLimits (flat_map f ps ++ us)
+lines_end f line [] us h = h
+lines_end f line (p ∷ ps) us h = subst EndsLimits (sym (append_assoc (f p) (flat_map f ps) us)) (line p (flat_map f ps ++ us))
+
+-- the lines behind those of limits
+abbrev last_lines : Parts → Answer Fraction → List ℕ
+last_lines m a = lines_of_units m a ++ (lines_of_loads m a ++ surplus_text a.money.surplus)
+
+last_ends : (m : Parts) (a : Answer Fraction) → EndsLimits (last_lines m a)
+last_ends m a =
+    lines_end (unit_line_at m a) (λ k. unit_ends (unit_at m k).row (pay_of a k)) (places (length m.units)) (lines_of_loads m a ++ surplus_text a.money.surplus)
+    (lines_end (load_line_at m a) (λ k. load_ends (bus_at m k).number (load_of a k)) (places (length m.buses)) (surplus_text a.money.surplus) (surplus_ends a.money.surplus))
+
+in_order : (h b k r u l s : List ℕ) → h ++ b ++ k ++ r ++ u ++ l ++ s ≡ h ++ (b ++ (k ++ (r ++ (u ++ (l ++ s)))))
+in_order h b k r u l s = Prim.simp append_assoc
+
+pub answers_apart : (m : Parts) (a b : Answer Fraction) → FitsReport m a → FitsReport m b → cleared_text m a ≡ cleared_text m b → a ≡ b
 unfolding cleared_text
-reports_apart m a b p q e =
+answers_apart m a b p q e =
     let buses = places (length m.buses) in
     let blocks = places (length m.blocks) in
     let units = places (length m.units) in
-    let split = λ (x : Answer Fraction). in_order (head_text x.welfare x.duals.energy) (lines_of_buses m x) (lines_of_blocks m x) (lines_of_units m x) (lines_of_loads m x) (surplus_text x.money.surplus) in
+    let split = λ (x : Answer Fraction). in_order (head_text x.welfare x.duals.energy) (lines_of_buses m x) (lines_of_blocks m x) (lines_of_limits x) (lines_of_units m x) (lines_of_loads m x) (surplus_text x.money.surplus) in
     let head = head_apart a.welfare b.welfare a.duals.energy b.duals.energy _ _ (sym (split a) ∙ e ∙ split b) in
     let prices = lines_apart (bus_line_at m a) (bus_line_at m b) (λ k. SamePrice (price_of a k) (price_of b k)) (λ k. bus_apart (bus_at m k).number (price_of a k) (price_of b k)) buses _ _ head.2 in
     let dispatch = lines_apart (block_line_at m a) (block_line_at m b) (λ k. mw_of a k ≡ mw_of b k)
     (λ k. block_apart (unit_at m (block_at m k).unit).row (block_at m k).side (block_number m k) (mw_of a k) (mw_of b k)) blocks _ _ prices.1 in
-    let pays = lines_apart (unit_line_at m a) (unit_line_at m b) (λ k. pay_of a k ≡ pay_of b k) (λ k. unit_apart (unit_at m k).row (pay_of a k) (pay_of b k)) units _ _ dispatch.1 in
+    let rents = rents_apart a.duals.limits b.duals.limits a.money.rents b.money.rents p.fits.rents q.fits.rents (last_lines m a) (last_lines m b) (last_ends m a) (last_ends m b) dispatch.1 in
+    let pays = lines_apart (unit_line_at m a) (unit_line_at m b) (λ k. pay_of a k ≡ pay_of b k) (λ k. unit_apart (unit_at m k).row (pay_of a k) (pay_of b k)) units _ _ rents.2 in
     let loads = lines_apart (load_line_at m a) (load_line_at m b) (λ k. load_of a k ≡ load_of b k) (λ k. load_apart (bus_at m k).number (load_of a k) (load_of b k)) buses _ _ pays.1 in
     same_answer a b
-    (same_entries none a.dispatch b.dispatch (length m.blocks) p.dispatch q.dispatch dispatch.0)
-    (same_duals a.duals b.duals head.1 (p.limits ∙ sym q.limits))
+    (same_entries none a.dispatch b.dispatch (length m.blocks) p.fits.dispatch q.fits.dispatch dispatch.0)
+    (same_duals a.duals b.duals head.1 rents.0)
     (same_prices m a b p q head.1 prices.0)
     head.0
     (same_money a.money b.money
-    (same_entries (record { mw = none; paid = none }) a.money.units b.money.units (length m.units) p.units q.units pays.0)
-    (same_entries (record { mw = none; pays = none }) a.money.loads b.money.loads (length m.buses) p.loads q.loads loads.0)
-    (p.rents ∙ sym q.rents)
+    (same_entries (record { mw = none; paid = none }) a.money.units b.money.units (length m.units) p.fits.units q.fits.units pays.0)
+    (same_entries (record { mw = none; pays = none }) a.money.loads b.money.loads (length m.buses) p.fits.loads q.fits.loads loads.0)
+    rents.1
     (surplus_apart a.money.surplus b.money.surplus loads.1))

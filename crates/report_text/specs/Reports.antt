@@ -1,8 +1,8 @@
 -- The report of what a clear came to, line by line.
 use Rattle.std.specs.Prelude.{ℕ, ◌+◌, Bool, ◌&&◌, ◌==◌, List, ◌++◌, length, count_by, codes, decimal, if◌then◌else◌}
-use Rattle.std.specs.List.{flat_map}
+use Rattle.std.specs.List.{flat_map, zip}
 use Rattle.fraction_theory.specs.Fraction.{Fraction}
-use Rattle.exact_fraction.specs.Written.{written, parts_text}
+use Rattle.exact_fraction.specs.Written.{number_text, written, parts_text}
 use Rattle.exact_fraction.specs.declared.Op.{Op}
 use Rattle.exact_fraction.specs.declared.Op.TheVariants as op
 use Rattle.exact_fraction.specs.declared.Passed.{Passed}
@@ -15,6 +15,8 @@ use Rattle.market_model.specs.declared.answered.UnitPay.{UnitPay}
 use Rattle.market_model.specs.declared.answered.Load.{Load}
 use Rattle.market_model.specs.declared.answered.Answer.{Answer}
 use Rattle.market_model.specs.declared.answered.Dual.{Dual}
+use Rattle.market_model.specs.declared.answered.Rent.{Rent}
+use Rattle.market_model.specs.declared.answered.RowId.{RowId}
 use Rattle.market_model.specs.declared.answered.Farkas.{Farkas}
 use Rattle.market_model.specs.declared.answered.Outcome.{Outcome}
 use Rattle.market_model.specs.declared.answered.Outcome.TheVariants as outcome
@@ -45,6 +47,18 @@ bus_text number price = codes "bus " ++ decimal number ++ codes " price " ++ wri
 -- the accepted MW of a block, the so-manieth of its unit and side
 unfoldable pub block_text : ℕ → Side → ℕ → Fraction → List ℕ
 block_text row side number mw = codes "block " ++ decimal row ++ side_text side ++ decimal number ++ codes " mw " ++ written 9 mw ++ codes "\n"
+
+-- a limit in the base, or after the loss of a branch
+abbrev pub outage_text : ℕ → List ℕ
+outage_text row = if row == 0 then codes " base" else codes " after " ++ number_text row
+
+-- the limit of a branch
+unfoldable pub row_text : RowId → List ℕ
+row_text id = codes "limit " ++ number_text id.branch ++ outage_text id.outage
+
+-- the flow of a limit, its two prices and what it earns
+unfoldable pub rent_text : Dual Fraction → Rent Fraction → List ℕ
+rent_text d r = row_text d.row ++ codes " flow " ++ written 9 r.flow ++ codes " up " ++ written 6 d.up ++ codes " down " ++ written 6 d.down ++ codes " rent " ++ written 15 r.rent ++ codes "\n"
 
 -- a unit's output and what it is paid
 unfoldable pub unit_text : ℕ → UnitPay Fraction → List ℕ
@@ -78,6 +92,10 @@ lines_of_buses m a = flat_map (bus_line_at m a) (places (length m.buses))
 abbrev pub lines_of_blocks : Parts → Answer Fraction → List ℕ
 lines_of_blocks m a = flat_map (block_line_at m a) (places (length m.blocks))
 
+-- and of the limits with duals
+abbrev pub lines_of_limits : Answer Fraction → List ℕ
+lines_of_limits a = flat_map (λ p. rent_text p.0 p.1) (zip a.duals.limits a.money.rents)
+
 abbrev pub lines_of_units : Parts → Answer Fraction → List ℕ
 lines_of_units m a = flat_map (unit_line_at m a) (places (length m.units))
 
@@ -90,18 +108,15 @@ cleared_text m a =
     head_text a.welfare a.duals.energy
     ++ lines_of_buses m a
     ++ lines_of_blocks m a
+    ++ lines_of_limits a
     ++ lines_of_units m a
     ++ lines_of_loads m a
     ++ surplus_text a.money.surplus
 
 -- ---- where no dispatch is feasible
--- a limit in the base, or after the loss of a branch
-abbrev pub outage_text : ℕ → List ℕ
-outage_text row = if row == 0 then codes " base" else codes " after " ++ decimal row
-
 -- the duals of a limit, which are plain numbers
 unfoldable pub limit_text : Dual Fraction → List ℕ
-limit_text d = codes "limit " ++ decimal d.row.branch ++ outage_text d.row.outage ++ codes " up " ++ written 0 d.up ++ codes " down " ++ written 0 d.down ++ codes "\n"
+limit_text d = row_text d.row ++ codes " up " ++ written 0 d.up ++ codes " down " ++ written 0 d.down ++ codes "\n"
 
 -- the bound that shows it, and the price of energy, which is a plain number
 unfoldable pub bound_text : Fraction → List ℕ

@@ -7,6 +7,7 @@ ghost use Rattle.report_text.specs.Reports.{lines_of_buses, lines_of_blocks, lin
 ghost use Rattle.market_model.specs.Valued.{price_at, unit_pay_at, load_at, answer_at};
 ghost use Rattle.market_model.specs.Fitting.{FitsMarket};
 
+use crate::limits::rent_lines;
 use exact_fraction::Exact;
 use line_text::Text;
 use market_model::{
@@ -165,6 +166,7 @@ pub fn cleared<N: Exact>(
     head_lines(&mut text, answer)?;
     bus_lines(&mut text, market, answer)?;
     block_lines(&mut text, market, answer)?;
+    rent_lines(&mut text, answer)?;
     unit_lines(&mut text, market, answer)?;
     load_lines(&mut text, market, answer)?;
     text.named(b"surplus ", answer.money.surplus, MONEY_PLACES)?;

@@ -3,6 +3,7 @@
 
 mod answer;
 pub mod laws;
+mod limits;
 mod outcome;
 
 pub use outcome::report;

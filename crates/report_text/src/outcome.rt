@@ -1,49 +1,16 @@
 //! The report of what a clear came to.
 
-ghost use Rattle.std.specs.Prelude.{◌≡◌, ◌++◌, map, IfOk};
-ghost use Rattle.std.specs.List.{flat_map};
+ghost use Rattle.std.specs.Prelude.{◌≡◌, ◌++◌, IfOk};
 ghost use Rattle.market_model.specs.Fitting.{FitsOutcome};
-ghost use Rattle.report_text.specs.Reports.{outage_text, limit_text, bound_text, plain_energy_text, infeasible_text, op_text, range_text, report_text};
-ghost use Rattle.market_model.specs.Valued.{dual_at, farkas_at, passed_at, outcome_at};
+ghost use Rattle.report_text.specs.Reports.{bound_text, plain_energy_text, infeasible_text, op_text, range_text, report_text};
+ghost use Rattle.market_model.specs.Valued.{farkas_at, passed_at, outcome_at};
 
 use crate::answer::cleared;
+use crate::limits::limit_lines;
 use exact_fraction::{Exact, Op, Passed};
 use line_text::Text;
-use market_model::{Dual, Farkas, List, MW_PLACES, Market, Memory, Outcome};
+use market_model::{Farkas, MW_PLACES, Market, Memory, Outcome};
 use std::alloc::Global;
-
-/// Whether a limit is of the base, or after which outage it is.
-fn outage_words(text: &mut Text, outage: u32) -> Result<(), Memory>
-    ensures { IfOk result (λ _. text.new ≡ text.old ++ outage_text outage) }
-{
-    if outage == 0 {
-        return text.word(b" base");
-    }
-    text.word(b" after ")?;
-    text.number(outage as usize)
-}
-
-/// The duals of a limit.
-fn limit_line<N: Exact>(text: &mut Text, dual: &Dual<N>) -> Result<(), Memory>
-    ensures { IfOk result (λ _. text.new ≡ text.old ++ limit_text (dual_at N.value dual.now)) }
-{
-    text.word(b"limit ")?;
-    text.number(dual.row.branch as usize)?;
-    outage_words(text, dual.row.outage)?;
-    text.named(b" up ", dual.up, 0)?;
-    text.named(b" down ", dual.down, 0)?;
-    text.word(b"\n")?;
-    Ok(())
-}
-
-fn limit_lines<N: Exact>(text: &mut Text, limits: &List<Dual<N>>) -> Result<(), Memory>
-    ensures { IfOk result (λ _. text.new ≡ text.old ++ flat_map limit_text (map (dual_at N.value) limits.now)) }
-{
-    for dual in limits.slice() {
-        limit_line(text, dual)?;
-    }
-    Ok(())
-}
 
 /// The bound that shows that no dispatch is feasible.
 fn bound_line<N: Exact>(text: &mut Text, bound: N) -> Result<(), Memory>

@@ -1,4 +1,4 @@
-use Rattle.report_text.proofs.ReportReading.{reports_apart}
+use Rattle.report_text.proofs.OutcomeReading.{reports_apart}
 use Rattle.report_text.proofs.laws.report_has_one_reading.Goals as goal
 
 pub returns : goal.returns

@@ -1,4 +1,4 @@
-use Rattle.report_text.proofs.RightReports.{right_reports_apart}
+use Rattle.report_text.proofs.OutcomeReading.{right_reports_apart}
 use Rattle.report_text.proofs.laws.right_report_has_one_reading.Goals as goal
 
 pub returns : goal.returns

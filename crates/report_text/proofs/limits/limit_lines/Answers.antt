@@ -3,7 +3,7 @@ use Rattle.market_model.specs.declared.answered.Dual.{Dual}
 use Rattle.report_text.specs.Reports.{limit_text}
 use Rattle.market_model.specs.Valued.{dual_at}
 use Rattle.report_text.proofs.ReportLemmas.{items_none, items_more, items_all, flat_map-map}
-use Rattle.report_text.proofs.outcome.limit_lines.Goals as goal
+use Rattle.report_text.proofs.limits.limit_lines.Goals as goal
 
 pub loop-dual-init : goal.loop-dual-init
 loop-dual-init g c = items_none (λ (d : Dual g.row.N.Denot). limit_text (dual_at g.N.Exact.value d)) c.args.text.now c.args.limits.now

@@ -1,5 +1,5 @@
--- A right outcome is one that its report tells whole.
-use Rattle.std.specs.Prelude.{◌≡◌, ℕ, List, [], ◌∷◌, ◌++◌, codes, map, refl}
+-- Equal reports are of equal outcomes.
+use Rattle.std.specs.Prelude.{◌≡◌, ℕ, List, [], ◌∷◌, ◌++◌, codes, refl}
 use Rattle.std.specs.List.{flat_map}
 use Rattle.std.proofs.Common.{ap, sym, ◌∙◌, arith, append_assoc}
 use Rattle.std.proofs.lemmas.List.{get_or_default, append_cancel_left}
@@ -12,50 +12,37 @@ use Rattle.market_model.specs.declared.participants.Parts.{Parts}
 use Rattle.market_model.specs.declared.answered.Answer.{Answer}
 use Rattle.market_model.specs.declared.answered.Duals.{Duals}
 use Rattle.market_model.specs.declared.answered.Farkas.{Farkas}
+use Rattle.market_model.specs.declared.answered.Outcome.{Outcome}
 use Rattle.market_model.specs.declared.answered.Outcome.TheVariants as outcome
 use Rattle.market_model.specs.declared.answered.Price.{Price}
 use Rattle.market_model.specs.Dispatch.{zero}
-use Rattle.market_model.specs.Infeasibility.{IsFarkas}
-use Rattle.market_model.specs.LimitRows.{Row, rows}
-use Rattle.market_model.specs.RightAnswers.{IsRight, dispatch_in, rent_of}
-use Rattle.market_model.proofs.RowLaws.{no_rows, no_limits, named_rows-bare}
+use Rattle.market_model.specs.RightAnswers.{IsRight}
+use Rattle.market_model.proofs.RightFits.{fits_by_right}
 use Rattle.report_text.specs.Reports.{head_text, cleared_text, limit_text, bound_text, plain_energy_text, infeasible_text, op_text, range_text}
-use Rattle.report_text.specs.ReportLaws.{FitsReport, RightReportsApart}
+use Rattle.report_text.specs.ReportLaws.{FitsReport, OutcomeFitsReport, IsRightIn, ReportsApart, RightReportsApart}
 use Rattle.report_text.proofs.Amounts.{head_of, two_apart, parts_line_apart}
-use Rattle.report_text.proofs.ReportReading.{same_duals, reports_apart}
-
-fits_by_right : (m : Parts) (a : Answer Fraction) → rows m ≡ [] → IsRight m a → FitsReport m a
-fits_by_right m a bare right = record {
-  dispatch = right.feasible.blocks.count;
-  prices = right.price_count;
-  units = right.unit_count;
-  loads = right.load_count;
-  energy = λ i d lt. ap (λ (p : Price Fraction). p.energy) (get_or_default a.prices i d (record { energy = zero; congestion = zero; total = zero }) lt ∙ right.prices i (Prim.omega (arith, lt, right.price_count)));
-  limits = no_limits m a.duals bare right.proper;
-  rents = right.rents ∙ ap (λ (rs : List Row). map (rent_of m (dispatch_in a) a.duals) rs) (named_rows-bare m a.duals bare);
-}
+use Rattle.report_text.proofs.LimitReading.{limits_apart}
+use Rattle.report_text.proofs.ReportReading.{same_duals, answers_apart}
 
 -- ---- infeasible
-as_lines : (a b c n xs ys : List ℕ) → a ++ (b ++ xs ++ n) ++ (c ++ ys ++ n) ++ [] ≡ ((a ++ b) ++ xs ++ (n ++ c) ++ ys ++ n) ++ []
-as_lines a b c n xs ys = Prim.simp append_assoc
+-- the lines of the bound and of the price of energy, and what comes after them
+as_lines : (a b c n xs ys ls : List ℕ) → a ++ (b ++ xs ++ n) ++ (c ++ ys ++ n) ++ ls ≡ ((a ++ b) ++ xs ++ (n ++ c) ++ ys ++ n) ++ ls
+as_lines a b c n xs ys ls = Prim.simp append_assoc
 
-told : (f : Farkas Fraction) → f.duals.limits ≡ []
-    → infeasible_text f ≡ (codes "infeasible\nbound " ++ written 9 f.bound ++ 10 ∷ codes "energy " ++ written 0 f.duals.energy ++ 10 ∷ []) ++ []
+told : (f : Farkas Fraction) → infeasible_text f ≡ (codes "infeasible\nbound " ++ written 9 f.bound ++ 10 ∷ codes "energy " ++ written 0 f.duals.energy ++ 10 ∷ []) ++ flat_map limit_text f.duals.limits
 unfolding infeasible_text bound_text plain_energy_text
-told f none =
-    ap (λ ls. codes "infeasible\n" ++ bound_text f.bound ++ plain_energy_text f.duals.energy ++ flat_map limit_text ls) none
-    ∙ as_lines (codes "infeasible\n") (codes "bound ") (codes "energy ") (codes "\n") (written 9 f.bound) (written 0 f.duals.energy)
+told f = as_lines (codes "infeasible\n") (codes "bound ") (codes "energy ") (codes "\n") (written 9 f.bound) (written 0 f.duals.energy) (flat_map limit_text f.duals.limits)
 
 same_farkas : (f g : Farkas Fraction) → f.duals ≡ g.duals → f.bound ≡ g.bound → f ≡ g
 same_farkas f g p q =
     let make : Duals Fraction → Fraction → Farkas Fraction = λ d b. record { duals = d; bound = b } in
     ap (λ d. make d f.bound) p ∙ ap (make g.duals) q
 
-farkas_apart : (m : Parts) (f g : Farkas Fraction) → rows m ≡ [] → IsFarkas m f → IsFarkas m g → infeasible_text f ≡ infeasible_text g → f ≡ g
-farkas_apart m f g bare p q e =
-    let t = two_apart (codes "infeasible\nbound ") 9 0 10 (codes "energy ") f.bound g.bound f.duals.energy g.duals.energy [] [] (Prim.omega arith)
-    (sym (told f (no_limits m f.duals bare p.proper)) ∙ e ∙ told g (no_limits m g.duals bare q.proper)) in
-    same_farkas f g (same_duals f.duals g.duals t.1 ((no_limits m f.duals bare p.proper) ∙ sym (no_limits m g.duals bare q.proper))) t.0
+farkas_apart : (f g : Farkas Fraction) → infeasible_text f ≡ infeasible_text g → f ≡ g
+farkas_apart f g e =
+    let t = two_apart (codes "infeasible\nbound ") 9 0 10 (codes "energy ") f.bound g.bound f.duals.energy g.duals.energy (flat_map limit_text f.duals.limits) (flat_map limit_text g.duals.limits) (Prim.omega arith)
+    (sym (told f) ∙ e ∙ told g) in
+    same_farkas f g (same_duals f.duals g.duals t.1 (limits_apart f.duals.limits g.duals.limits t.2)) t.0
 
 -- ---- range
 same_passed : (p q : Passed Fraction) → p.op ≡ q.op → (p.left ≡ q.left) × (p.right ≡ q.right) → p ≡ q
@@ -97,14 +84,29 @@ passed_apart p q e =
     same_passed p q same (sides_apart q.op p.left p.right q.left q.right (ap (λ o. line_of o p.left p.right) (sym same) ∙ e))
 
 -- ---- all together: the first letter tells which of the three it is
-pub right_reports_apart : RightReportsApart
+pub reports_apart : ReportsApart
 unfolding cleared_text head_text infeasible_text range_text
-right_reports_apart m (outcome.Cleared a) (outcome.Cleared b) none p q e = ap outcome.Cleared (reports_apart m a b (fits_by_right m a (no_rows m none) p) (fits_by_right m b (no_rows m none) q) e)
-right_reports_apart m (outcome.Cleared a) (outcome.Infeasible g) none p q e = absurd (Prim.omega (arith, head_of 99 105 _ _ e))
-right_reports_apart m (outcome.Cleared a) (outcome.Range s) none p q e = absurd (Prim.omega (arith, head_of 99 114 _ _ e))
-right_reports_apart m (outcome.Infeasible f) (outcome.Cleared b) none p q e = absurd (Prim.omega (arith, head_of 105 99 _ _ e))
-right_reports_apart m (outcome.Infeasible f) (outcome.Infeasible g) none p q e = ap outcome.Infeasible (farkas_apart m f g (no_rows m none) p q e)
-right_reports_apart m (outcome.Infeasible f) (outcome.Range s) none p q e = absurd (Prim.omega (arith, head_of 105 114 _ _ e))
-right_reports_apart m (outcome.Range r) (outcome.Cleared b) none p q e = absurd (Prim.omega (arith, head_of 114 99 _ _ e))
-right_reports_apart m (outcome.Range r) (outcome.Infeasible g) none p q e = absurd (Prim.omega (arith, head_of 114 105 _ _ e))
-right_reports_apart m (outcome.Range r) (outcome.Range s) none p q e = ap outcome.Range (passed_apart r s e)
+reports_apart m (outcome.Cleared a) (outcome.Cleared b) p q e = ap outcome.Cleared (answers_apart m a b p q e)
+reports_apart m (outcome.Cleared a) (outcome.Infeasible g) p q e = absurd (Prim.omega (arith, head_of 99 105 _ _ e))
+reports_apart m (outcome.Cleared a) (outcome.Range s) p q e = absurd (Prim.omega (arith, head_of 99 114 _ _ e))
+reports_apart m (outcome.Infeasible f) (outcome.Cleared b) p q e = absurd (Prim.omega (arith, head_of 105 99 _ _ e))
+reports_apart m (outcome.Infeasible f) (outcome.Infeasible g) p q e = ap outcome.Infeasible (farkas_apart f g e)
+reports_apart m (outcome.Infeasible f) (outcome.Range s) p q e = absurd (Prim.omega (arith, head_of 105 114 _ _ e))
+reports_apart m (outcome.Range r) (outcome.Cleared b) p q e = absurd (Prim.omega (arith, head_of 114 99 _ _ e))
+reports_apart m (outcome.Range r) (outcome.Infeasible g) p q e = absurd (Prim.omega (arith, head_of 114 105 _ _ e))
+reports_apart m (outcome.Range r) (outcome.Range s) p q e = ap outcome.Range (passed_apart r s e)
+
+-- ---- right outcomes fit
+answer_fits : (m : Parts) (a : Answer Fraction) → IsRight m a → FitsReport m a
+answer_fits m a right = record {
+  fits = fits_by_right m a right;
+  energy = λ i d lt. ap (λ (p : Price Fraction). p.energy) (get_or_default a.prices i d (record { energy = zero; congestion = zero; total = zero }) lt ∙ right.prices i (Prim.omega (arith, lt, right.price_count)));
+}
+
+outcome_fits : (m : Parts) (a : Outcome Fraction) → IsRightIn m a → OutcomeFitsReport m a
+outcome_fits m (outcome.Cleared a) right = answer_fits m a right
+outcome_fits m (outcome.Infeasible f) right = tt
+outcome_fits m (outcome.Range p) right = tt
+
+pub right_reports_apart : RightReportsApart
+right_reports_apart m a b p q e = reports_apart m a b (outcome_fits m a p) (outcome_fits m b q) e

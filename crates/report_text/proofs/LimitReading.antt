@@ -1,0 +1,166 @@
+-- The lines of limits are of the limits that they tell.
+use Rattle.std.specs.Prelude.{◌≡◌, ◌≢◌, ℕ, ◌==◌, Bool, true, false, List, [], ◌∷◌, ◌++◌, length, map, codes, if◌then◌else◌, refl}
+use Rattle.std.specs.List.{AllByRecursion, flat_map, zip}
+use Rattle.std.proofs.Common.{arith, ap, sym, ◌∙◌, subst, append_assoc}
+use Rattle.std.proofs.lemmas.Bool.Decides.{nat_tests}
+use Rattle.std.proofs.lemmas.List.{append_cancel_left, length-map}
+use Rattle.std.proofs.lemmas.Slice.Zip.{firsts-zip, seconds-zip}
+use Rattle.fraction_theory.specs.Fraction.{Fraction}
+use Rattle.exact_fraction.specs.Written.{number_text, written}
+use Rattle.market_model.specs.declared.answered.Dual.{Dual}
+use Rattle.market_model.specs.declared.answered.Rent.{Rent}
+use Rattle.market_model.specs.declared.answered.RowId.{RowId}
+use Rattle.report_text.specs.Reports.{outage_text, row_text, rent_text, limit_text}
+use Rattle.report_text.proofs.Amounts.{head_of, named_apart, number_apart}
+
+-- ---- the name of a limit
+-- what stands behind the blank: of the base or of an outage
+abbrev words : Bool → ℕ → List ℕ
+words b row = if b then codes "base" else codes "after " ++ number_text row
+
+words_behind : (row : ℕ) → outage_text row ≡ 32 ∷ words (row == 0) row
+words_behind row = by_test (row == 0)
+  where
+    by_test : (b : Bool) → ◌≡◌ {A = List ℕ} (if b then codes " base" else codes " after " ++ number_text row) (32 ∷ words b row)
+    by_test true = refl
+    by_test false = refl
+
+is_zero : (n : ℕ) → (n == 0) ≡ true → n ≡ 0
+is_zero n e = Prim.grind (arith, nat_tests)
+
+words_apart : (b c : Bool) (j k : ℕ) (us vs : List ℕ) → (j == 0) ≡ b → (k == 0) ≡ c → words b j ++ 32 ∷ us ≡ words c k ++ 32 ∷ vs → (j ≡ k) × (us ≡ vs)
+words_apart true true j k us vs p q e = (is_zero j p ∙ sym (is_zero k q), append_cancel_left (codes "base ") us vs e)
+words_apart true false j k us vs p q e = absurd (Prim.omega (arith, head_of 98 97 _ _ e))
+words_apart false true j k us vs p q e = absurd (Prim.omega (arith, head_of 97 98 _ _ e))
+words_apart false false j k us vs p q e = number_apart j k us vs (append_cancel_left (codes "after ") (number_text j ++ 32 ∷ us) (number_text k ++ 32 ∷ vs) e)
+
+same_row : (a b : RowId) → a.branch ≡ b.branch → a.outage ≡ b.outage → a ≡ b
+same_row a b e f =
+    let make : ℕ → ℕ → RowId = λ v w. record { branch = v; outage = w } in
+    ap (λ v. make v a.outage) e ∙ ap (make b.branch) f
+
+rows_apart : (a b : RowId) (us vs : List ℕ) → row_text a ++ 32 ∷ us ≡ row_text b ++ 32 ∷ vs → (a ≡ b) × (us ≡ vs)
+unfolding row_text
+rows_apart a b us vs e =
+    let opened = λ (r : RowId) (ts : List ℕ). ap (λ o. (codes "limit " ++ number_text r.branch ++ o) ++ 32 ∷ ts) (words_behind r.outage) ∙ in_order (codes "limit ") (number_text r.branch) (words (r.outage == 0) r.outage) (32 ∷ ts) in
+    let first = number_apart a.branch b.branch (words (a.outage == 0) a.outage ++ 32 ∷ us) (words (b.outage == 0) b.outage ++ 32 ∷ vs)
+    (append_cancel_left (codes "limit ") _ _ (sym (opened a us) ∙ e ∙ opened b vs)) in
+    let second = words_apart (a.outage == 0) (b.outage == 0) a.outage b.outage us vs refl refl first.1 in
+    (same_row a b first.0 second.0, second.1)
+  where
+    in_order : (front n o ts : List ℕ) → (front ++ n ++ 32 ∷ o) ++ ts ≡ front ++ (n ++ 32 ∷ (o ++ ts))
+    in_order front n o ts = Prim.simp append_assoc
+
+-- ---- the lines
+same_dual : (d e : Dual Fraction) → d.row ≡ e.row → d.up ≡ e.up → d.down ≡ e.down → d ≡ e
+same_dual d e p q r =
+    let make : RowId → Fraction → Fraction → Dual Fraction = λ u v w. record { row = u; up = v; down = w } in
+    ap (λ u. make u d.up d.down) p ∙ ap (λ v. make e.row v d.down) q ∙ ap (make e.row e.up) r
+
+limit_apart : (d e : Dual Fraction) (us vs : List ℕ) → limit_text d ++ us ≡ limit_text e ++ vs → (d ≡ e) × (us ≡ vs)
+unfolding limit_text
+limit_apart d e us vs h =
+    let opened = λ (x : Dual Fraction) (ts : List ℕ). in_order (row_text x.row) (codes " up ") (written 0 x.up) (codes " down ") (written 0 x.down) (codes "\n") ts in
+    let row = rows_apart d.row e.row (codes "up " ++ (written 0 d.up ++ 32 ∷ (codes "down " ++ (written 0 d.down ++ 10 ∷ us)))) (codes "up " ++ (written 0 e.up ++ 32 ∷ (codes "down " ++ (written 0 e.down ++ 10 ∷ vs))))
+    (sym (opened d us) ∙ h ∙ opened e vs) in
+    let up = named_apart (codes "up ") 0 32 d.up e.up _ _ (Prim.omega arith) row.1 in
+    let down = named_apart (codes "down ") 0 10 d.down e.down us vs (Prim.omega arith) up.1 in
+    (same_dual d e row.0 up.0 down.0, down.1)
+  where
+    in_order : (r a x b y n ts : List ℕ) → (r ++ a ++ x ++ b ++ y ++ n) ++ ts ≡ r ++ (a ++ (x ++ (b ++ (y ++ (n ++ ts)))))
+    in_order r a x b y n ts = Prim.simp append_assoc
+
+-- a limit's duals and its rent, which are of one row
+abbrev Entry : Type 0
+Entry = Dual Fraction × Rent Fraction
+
+abbrev OfOneRow : Entry → Type 0
+OfOneRow p = p.1.row ≡ p.0.row
+
+abbrev entry_text : Entry → List ℕ
+entry_text p = rent_text p.0 p.1
+
+same_rent : (r s : Rent Fraction) → r.row ≡ s.row → r.flow ≡ s.flow → r.rent ≡ s.rent → r ≡ s
+same_rent r s p q t =
+    let make : RowId → Fraction → Fraction → Rent Fraction = λ u v w. record { row = u; flow = v; rent = w } in
+    ap (λ u. make u r.flow r.rent) p ∙ ap (λ v. make s.row v r.rent) q ∙ ap (make s.row s.flow) t
+
+same_entry : (p q : Entry) → p.0 ≡ q.0 → p.1 ≡ q.1 → p ≡ q
+same_entry p q e f = ap (λ (d : Dual Fraction). (d, p.1)) e ∙ ap (λ (r : Rent Fraction). (q.0, r)) f
+
+-- what stands behind the name of a limit
+abbrev behind_name : Entry → List ℕ → List ℕ
+behind_name p ts = codes "flow " ++ (written 9 p.1.flow ++ 32 ∷ (codes "up " ++ (written 6 p.0.up ++ 32 ∷ (codes "down " ++ (written 6 p.0.down ++ 32 ∷ (codes "rent " ++ (written 15 p.1.rent ++ 10 ∷ ts)))))))
+
+entry_apart : (p q : Entry) → OfOneRow p → OfOneRow q → (us vs : List ℕ) → entry_text p ++ us ≡ entry_text q ++ vs → (p ≡ q) × (us ≡ vs)
+unfolding rent_text
+entry_apart p q g h us vs e =
+    let opened = λ (x : Entry) (ts : List ℕ).
+    in_order (row_text x.0.row) (codes " flow ") (written 9 x.1.flow) (codes " up ") (written 6 x.0.up) (codes " down ") (written 6 x.0.down) (codes " rent ") (written 15 x.1.rent) (codes "\n") ts in
+    let row = rows_apart p.0.row q.0.row (behind_name p us) (behind_name q vs) (sym (opened p us) ∙ e ∙ opened q vs) in
+    let flow = named_apart (codes "flow ") 9 32 p.1.flow q.1.flow _ _ (Prim.omega arith) row.1 in
+    let up = named_apart (codes "up ") 6 32 p.0.up q.0.up _ _ (Prim.omega arith) flow.1 in
+    let down = named_apart (codes "down ") 6 32 p.0.down q.0.down _ _ (Prim.omega arith) up.1 in
+    let rent = named_apart (codes "rent ") 15 10 p.1.rent q.1.rent us vs (Prim.omega arith) down.1 in
+    (same_entry p q (same_dual p.0 q.0 row.0 up.0 down.0) (same_rent p.1 q.1 (g ∙ row.0 ∙ sym h) flow.0 rent.0), rent.1)
+  where
+    in_order : (r a f b x c y d z n ts : List ℕ) → (r ++ a ++ f ++ b ++ x ++ c ++ y ++ d ++ z ++ n) ++ ts ≡ r ++ (a ++ (f ++ (b ++ (x ++ (c ++ (y ++ (d ++ (z ++ (n ++ ts)))))))))
+    in_order r a f b x c y d z n ts = Prim.simp append_assoc
+
+-- ---- all lines of limits, and what comes after them
+-- the second letter is not that of `limit`
+abbrev pub EndsLimits : List ℕ → Type 0
+EndsLimits [] = Unit {0}
+EndsLimits (c ∷ []) = Unit {0}
+EndsLimits (c ∷ d ∷ us) = d ≢ 105
+
+row_begins : (id : RowId) (us : List ℕ) → EndsLimits (row_text id ++ us) → ⊥
+unfolding row_text
+row_begins id us h = h refl
+
+module _ {X : Type 0} (f : X → List ℕ) (Good : X → Type 0) (apart : (x y : X) → Good x → Good y → (us vs : List ℕ) → f x ++ us ≡ f y ++ vs → (x ≡ y) × (us ≡ vs)) (begins : (x : X) (us : List ℕ) → EndsLimits (f x ++ us) → ⊥) where
+  first_begins : (x : X) (xs : List X) (us : List ℕ) → EndsLimits (flat_map f (x ∷ xs) ++ us) → ⊥
+  first_begins x xs us h = begins x (flat_map f xs ++ us) (subst EndsLimits (append_assoc (f x) (flat_map f xs) us) h)
+
+  lines_end : (xs ys : List X) → AllByRecursion Good xs → AllByRecursion Good ys → (us vs : List ℕ) → EndsLimits us → EndsLimits vs → flat_map f xs ++ us ≡ flat_map f ys ++ vs → (xs ≡ ys) × (us ≡ vs)
+  lines_end [] [] p q us vs g h e = (refl, e)
+  lines_end [] (y ∷ ys) p q us vs g h e = absurd (first_begins y ys vs (subst EndsLimits e g))
+  lines_end (x ∷ xs) [] p q us vs g h e = absurd (first_begins x xs us (subst EndsLimits (sym e) h))
+  lines_end (x ∷ xs) (y ∷ ys) p q us vs g h e =
+      let first = apart x y p.0 q.0 (flat_map f xs ++ us) (flat_map f ys ++ vs) (sym (append_assoc (f x) (flat_map f xs) us) ∙ e ∙ append_assoc (f y) (flat_map f ys) vs) in
+      let rest = lines_end xs ys p.1 q.1 us vs g h first.1 in
+      (Prim.cc (first.0, rest.0), rest.1)
+
+limit_begins : (d : Dual Fraction) (us : List ℕ) → EndsLimits (limit_text d ++ us) → ⊥
+unfolding limit_text row_text
+limit_begins d us h = h refl
+
+entry_begins : (p : Entry) (us : List ℕ) → EndsLimits (entry_text p ++ us) → ⊥
+unfolding rent_text row_text
+entry_begins p us h = h refl
+
+-- the duals that show that nothing is feasible
+pub limits_apart : (ds es : List (Dual Fraction)) → flat_map limit_text ds ≡ flat_map limit_text es → ds ≡ es
+limits_apart ds es e = (lines_end limit_text (λ d. Unit {0}) (λ d f g h. limit_apart d f) limit_begins ds es (all ds) (all es) [] [] tt tt (ap (λ t. t ++ []) e)).0
+  where
+    all : (ds : List (Dual Fraction)) → AllByRecursion (λ (d : Dual Fraction). Unit {0}) ds
+    all [] = tt
+    all (d ∷ ds) = (tt, all ds)
+
+of_one_row : (ds : List (Dual Fraction)) (rs : List (Rent Fraction)) → map (λ r. r.row) rs ≡ map (λ d. d.row) ds → AllByRecursion OfOneRow (zip ds rs)
+of_one_row [] rs e = tt
+of_one_row (d ∷ ds) [] e = tt
+of_one_row (d ∷ ds) (r ∷ rs) e = (Prim.cc, of_one_row ds rs Prim.cc)
+
+pub as_many : (ds : List (Dual Fraction)) (rs : List (Rent Fraction)) → map (λ r. r.row) rs ≡ map (λ d. d.row) ds → length rs ≡ length ds
+as_many ds rs e = sym (length-map rs (λ (r : Rent Fraction). r.row)) ∙ ap length e ∙ length-map ds (λ (d : Dual Fraction). d.row)
+
+-- the limits of an answer
+pub rents_apart : (ds es : List (Dual Fraction)) (rs ss : List (Rent Fraction)) → map (λ r. r.row) rs ≡ map (λ d. d.row) ds → map (λ r. r.row) ss ≡ map (λ d. d.row) es → (us vs : List ℕ) → EndsLimits us → EndsLimits vs
+    → flat_map entry_text (zip ds rs) ++ us ≡ flat_map entry_text (zip es ss) ++ vs → (ds ≡ es) × (rs ≡ ss) × (us ≡ vs)
+rents_apart ds es rs ss p q us vs g h e =
+    let t = lines_end entry_text OfOneRow entry_apart entry_begins (zip ds rs) (zip es ss) (of_one_row ds rs p) (of_one_row es ss q) us vs g h e in (
+      sym (firsts-zip ds rs (as_many ds rs p)) ∙ ap (map (λ (x : Entry). x.0)) t.0 ∙ firsts-zip es ss (as_many es ss q),
+      sym (seconds-zip ds rs (as_many ds rs p)) ∙ ap (map (λ (x : Entry). x.1)) t.0 ∙ seconds-zip es ss (as_many es ss q),
+      t.1,
+    )

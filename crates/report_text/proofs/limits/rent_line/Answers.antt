@@ -1,0 +1,18 @@
+use Rattle.std.proofs.Common.{◌≡◌, List, ℕ, IfOk, subst}
+use Rattle.std.specs.Prelude.{codes}
+use Rattle.exact_fraction.specs.Written.{written}
+use Rattle.report_text.specs.Reports.{row_text, rent_text}
+use Rattle.report_text.proofs.ReportLemmas.{line_grown}
+use Rattle.report_text.proofs.limits.rent_line.Goals as goal
+
+pub returns : goal.returns
+unfolding rent_text
+returns g c =
+    let value = g.N.Exact.value in
+    let dual = c.args.dual.now in
+    let rent = c.args.rent.now in
+    subst (λ (text : List ℕ). IfOk c.word.result (λ x. c.word.new.self ≡ text))
+    (line_grown c.args.text.now (row_text dual.row) (codes " flow ") (written 9 (value rent.flow)) (codes " up ") (written 6 (value dual.up)) (codes " down ") (written 6 (value dual.down)) (codes " rent ") (written 15 (value rent.rent)) (codes "\n")
+    c.row_words.new.text c.named.new.self c.named-2.new.self c.named-3.new.self c.named-4.new.self
+    c.in_ok-row_words.ensures c.in_ok-named.ensures c.in_ok-named-2.ensures c.in_ok-named-3.ensures c.in_ok-named-4.ensures)
+    c.word.ensures
