@@ -1,7 +1,6 @@
-//! The text of residuals, and below it the tables of factors of small networks, whose values are worked by hand.
+//! The text of residuals, and below it the tables of factors of small networks.
 
 mod networks;
-mod residuals;
 mod tables;
 
 use crate::residuals_text;

@@ -14,10 +14,6 @@ pub(super) const PAIR: &str =
 pub(super) const TRIANGLE: &str =
     "function mpc = c\nmpc.version = '2'\nmpc.baseMVA = 100\nmpc.gen = []\nmpc.bus = [1 3 0 0 0 0 1 1 0 0 1 1 1;2 1 0 0 0 0 1 1 0 0 1 1 1;3 1 0 0 0 0 1 1 0 0 1 1 1]\nmpc.branch = [1 2 0 .2 0 0 0 0 0 0 1;1 3 0 .1 0 0 0 0 0 0 1;2 3 0 .1 0 0 0 0 0 0 1]\n";
 
-/// Two buses and three branches alike between them.
-pub(super) const THREE_ALIKE: &str =
-    "function mpc = c\nmpc.version = '2'\nmpc.baseMVA = 100\nmpc.gen = []\nmpc.bus = [1 3 0 0 0 0 1 1 0 0 1 1 1;2 1 0 0 0 0 1 1 0 0 1 1 1]\nmpc.branch = [1 2 0 .1 0 0 0 0 0 0 1;1 2 0 .1 0 0 0 0 0 0 1;1 2 0 .1 0 0 0 0 0 0 1]\n";
-
 pub(super) fn case_of(alloc: Global, text: &str) -> Result<RawCase<'_>, Fail> {
     Ok(read_case(alloc, text.as_bytes())?)
 }

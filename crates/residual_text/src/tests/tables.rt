@@ -47,19 +47,6 @@ fn an_outage_without_a_factor(rt: HostRuntime) -> Result<(), Fail> {
 }
 
 #[test]
-fn tables_that_cover(rt: HostRuntime) -> Result<(), Fail> {
-    let lack = lack(
-        rt.alloc(),
-        TRIANGLE,
-        "branch,bus,factor\n1,2,-0.5\n",
-        "branch,outage,factor\n2,1,1\n",
-        &[1],
-    )?;
-    assert!(rt; lack.is_none());
-    Ok(())
-}
-
-#[test]
 fn shift_factors_by_pair(rt: HostRuntime) -> Result<(), Fail> {
     let case = case_of(rt.alloc(), TRIANGLE)?;
     let network = network_of(rt.alloc(), &case)?;
