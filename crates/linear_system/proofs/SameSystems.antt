@@ -117,13 +117,17 @@ same_choice_of s t same h choice = record {
 
 same_near : (s t : System) → SameSystem s t → (h k : Choice) → AreNear s h k → AreNear t h k
 same_near s t same h k (inl e) = inl e
-same_near s t same h k (inr (a, b, x)) = inr (a, b, record {
-  leaving = subst (λ (ws : List ℕ). Contains ws a) same.variables x.leaving;
-  entering = subst (λ (ws : List ℕ). Contains ws b) same.variables x.entering;
-  leaves = x.leaves;
-  enters = x.enters;
-  stays = λ w c. x.stays w (subst (λ (ws : List ℕ). Contains ws w) (sym same.variables) c);
-})
+same_near s t same h k (inr (a, b, x)) = inr (
+  a,
+  b,
+  record {
+    leaving = subst (λ (ws : List ℕ). Contains ws a) same.variables x.leaving;
+    entering = subst (λ (ws : List ℕ). Contains ws b) same.variables x.entering;
+    leaves = x.leaves;
+    enters = x.enters;
+    stays = λ w c. x.stays w (subst (λ (ws : List ℕ). Contains ws w) (sym same.variables) c);
+  },
+)
 
 -- and their working pairs
 pub same_pair : (s t : System) → SameSystem s t → (bound : ℕ) (op : Op) (l r : Fraction) → IsSystemPair s bound op l r → IsSystemPair t bound op l r

@@ -119,7 +119,8 @@ alike m n g e = record {
 }
 
 pub law_of_the_frame : LawOfTheFrame
-law_of_the_frame m n g same =
-    (sym (rows_framed m) ∙ ap rows same ∙ rows_framed n,
-    joined (system_of m g) (system_of (frame m) g) (system_of n g) (back (system_of (frame m) g) (system_of m g) (system_framed m g))
-    (joined (system_of (frame m) g) (system_of (frame n) g) (system_of n g) (alike (frame m) (frame n) g same) (system_framed n g)))
+law_of_the_frame m n g same = (
+  sym (rows_framed m) ∙ ap rows same ∙ rows_framed n,
+  joined (system_of m g) (system_of (frame m) g) (system_of n g) (back (system_of (frame m) g) (system_of m g) (system_framed m g))
+      (joined (system_of (frame m) g) (system_of (frame n) g) (system_of n g) (alike (frame m) (frame n) g same) (system_framed n g)),
+)

@@ -205,13 +205,7 @@ fn passes_127_bits(rt: HostRuntime) -> Result<(), Fail> {
     )?;
     let offers =
         "unit,side,mw,price\n1,sell,9223372036.854775807,9223372036854\n2,buy,9223372036.854775807,9223372036854.775807\n";
-    expect(
-        &rt,
-        traded.as_bytes(),
-        offers,
-        all,
-        (Status::Done, TRADED),
-    )?;
+    expect(&rt, traded.as_bytes(), offers, all, (Status::Done, TRADED))?;
     Ok(())
 }
 

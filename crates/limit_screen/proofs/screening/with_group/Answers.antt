@@ -48,10 +48,11 @@ returns-in_err-worst-clause-cause g c =
     let k = c.loop-line.line in
     let inside : k < length m.lines = omega (arith, c.loop-line-test.true, c.len-line-end.ensures, ap length c.lines.ensures.list) in
     let given : c.from_residual.result ≡ Err c.in_err-worst.field-0.0 = search rules in
-    rw given
-    (row_on lost k,
+    rw given (
+      row_on lost k,
       row_to m lost k (record { group = listed (groups m) c.args.group lost c.lost_of-lost.ensures; line = inside; bears = sym c.has_row.ensures ∙ c.if-has_row.true }),
-      c.in_err-worst.ensures.cause)
+      c.in_err-worst.ensures.cause,
+    )
 
 pub returns-clause-worst : goal.returns-clause-worst
 returns-clause-worst g c =
