@@ -1,24 +1,23 @@
 -- The numbers of the visited places, one place after the other.
-use Rattle.std.proofs.Common.{◌≡◌, ℕ, ◌<◌, ◌+◌, List, [], ◌∷◌, ◌++◌, true, false, refl, sym, ap, subst, ◌∙◌, length, arith, inl, inr, Option, Some}
-use Rattle.std.specs.Prelude.{All, Contains, slice_get, is_some, IsSome}
+use Rattle.std.proofs.Common.{◌≡◌, ℕ, ◌<◌, ◌+◌, List, [], ◌∷◌, ◌++◌, true, false, refl, sym, ap, subst, ◌∙◌, length, map, arith, inl, inr, Option, Some}
+use Rattle.std.specs.Prelude.{All, Contains, slice_get, slice_index_or, is_some, IsSome}
 use Rattle.std.proofs.lemmas.Bool.{cases_lt}
 use Rattle.std.proofs.lemmas.List.{map_push}
 use Rattle.std.proofs.lemmas.List.Elements.{All-nil, All-push, All-weaker, Contains-append_left, Contains-push}
 use Rattle.std.proofs.lemmas.List.Quantifiers.{all_pairs_push}
-use Rattle.std.proofs.lemmas.List.{get_or-map}
+use Rattle.std.proofs.lemmas.List.{get_or-map, length-map}
 use Rattle.std.proofs.lemmas.List.Elements.{All-contains}
 use Rattle.std.proofs.lemmas.Option.{get_or_from_slice_get, slice_get_within}
 use Rattle.market_data.specs.declared.participants.Bus.{Bus}
 use Rattle.net_case.specs.declared.live_parts.NetBranch.{NetBranch}
-use Rattle.net_case.specs.Networks.{LiveNetwork}
-use Rattle.net_case.specs.Networks.{IsNetBranch}
+use Rattle.net_case.specs.Networks.{IsNetBranch, IsNetwork, LiveNetwork}
 use Rattle.net_paths.specs.declared.steps.Step.{Step}
 use Rattle.net_paths.specs.declared.search.Search.{Search}
 use Rattle.net_paths.specs.Chains.{AreJoined, end_of, start_of}
 use Rattle.net_paths.specs.Connection.{bus_number}
-use Rattle.net_paths.specs.Detours.{HoldsSide, IsSide}
+use Rattle.net_paths.specs.Detours.{HoldsSide, IsOff, IsSide}
 use Rattle.net_paths.specs.Searching.{visit_at, IsSearch}
-use Rattle.net_paths.proofs.ChainLemmas.{joined_trans, joined_step}
+use Rattle.net_paths.proofs.ChainLemmas.{joined_step, joined_sym, joined_trans}
 use Rattle.net_paths.proofs.WayLemmas.{visited_joined, joined_visited}
 
 module _ (network : LiveNetwork) (seen : List (Option ℕ)) where
@@ -105,3 +104,41 @@ side_is network branches b search numbers whole within side = record {
     onto s contains lt here =
         side.all (end_of s) lt (from_b (end_of s) (joined_trans branches b (start_of s) (end_of s)
         (to_b (start_of s) (All-contains (λ (p : ℕ). IsSome (visit_at seen p)) side.places (start_of s) side.visited here)) (joined_step branches s contains)))
+
+-- a bus that the branches don't join to the root is not on its side
+pub off_side : (network : LiveNetwork) (branches : List NetBranch) (a b : ℕ) (numbers : List ℕ) → IsNetwork network → a < length network.buses → ¬ AreJoined branches a b
+    → IsSide network branches b numbers → IsOff network a numbers
+off_side network branches a b numbers net lt apart side here = apart (joined_sym branches b a (subst (AreJoined branches b) same (side.joined k a inside)))
+  where
+    all : List ℕ
+    all = map (λ (bus : Bus). bus.number) network.buses
+
+    on_side : Contains (map (bus_number network) side.places) (bus_number network a)
+    on_side = subst (λ (ns : List ℕ). Contains ns (bus_number network a)) side.numbers_are here
+
+    k : ℕ
+    k = on_side.0
+
+    inside : k < length side.places
+    inside = omega (arith, on_side.1, length-map side.places (bus_number network))
+
+    p : ℕ
+    p = slice_index_or side.places k a
+
+    alike : bus_number network p ≡ bus_number network a
+    alike = sym (get_or-map (bus_number network) side.places k a (bus_number network a) inside) ∙ on_side.2
+
+    within : p < length all
+    within = omega (arith, side.within k a inside, length-map network.buses (λ (bus : Bus). bus.number))
+
+    a_within : a < length all
+    a_within = omega (arith, lt, length-map network.buses (λ (bus : Bus). bus.number))
+
+    same : p ≡ a
+    same = elim (cases_lt p a) [
+      | inl less ↦ absurd (net.distinct p a 0 less a_within alike)
+      | inr more ↦ elim (cases_lt a p) [
+        | inl less ↦ absurd (net.distinct a p 0 less within (sym alike))
+        | inr le ↦ omega (arith, more, le)
+      ]
+    ]

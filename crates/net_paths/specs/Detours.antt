@@ -1,5 +1,5 @@
 -- What is left between the buses of a branch that is lost: a way round it, or the side of its T_BUS.
-use Rattle.std.specs.Prelude.{◌≡◌, ◌≢◌, ℕ, ◌<◌, ◌==◌, ◌↔◌, not, List, length, filter, map, All, AllPairs, Contains, Option, IsSome}
+use Rattle.std.specs.Prelude.{◌≡◌, ◌≢◌, ℕ, ◌<◌, ◌==◌, ◌↔◌, not, List, [], ◌∷◌, ◌++◌, length, filter, map, All, AllPairs, Contains, Option, IsSome}
 use Rattle.net_case.specs.declared.live_parts.NetBranch.{NetBranch}
 use Rattle.net_case.specs.Networks.{LiveNetwork}
 use Rattle.net_paths.specs.declared.detours.Detour.{Detour}
@@ -21,12 +21,16 @@ IsLiveRow network row = (branch : NetBranch) × IsBranchOf network row branch
 abbrev pub others : ℕ → List NetBranch → List NetBranch
 others row branches = filter (λ branch. not (branch.row == row)) branches
 
--- the rows of branches, of these, that lead from a place to another, from no place twice
+-- the places that steps pass, with the last one's end
+abbrev pub places_of : List Step → ℕ → List ℕ
+places_of steps b = map start_of steps ++ b ∷ []
+
+-- the rows of branches, of these, that lead from a place to another, at no place twice
 pub record IsPath (branches : List NetBranch) (a b : ℕ) (rows : List ℕ) : Type 0 where
   pub steps : List Step
   pub pass : Pass branches steps
   pub lead : Lead steps a b
-  pub apart : AllPairs (λ p q. p ≢ q) (map start_of steps)
+  pub apart : AllPairs (λ p q. p ≢ q) (places_of steps b)
   pub rows_are : rows ≡ map (λ s. s.branch.row) steps
 
 -- the numbers, in row order, of the buses that the branches join to a place; no branch leads out of these
@@ -39,11 +43,16 @@ pub record IsSide (network : LiveNetwork) (branches : List NetBranch) (b : ℕ) 
   pub closed : (branch : NetBranch) → Contains branches branch → Contains places branch.from ↔ Contains places branch.to
   pub numbers_are : numbers ≡ map (bus_number network) places
 
--- a path where the other live branches join the two buses, and a side where they don't
+-- the bus at a place is not among these numbers
+abbrev pub IsOff : LiveNetwork → ℕ → List ℕ → Type 0
+IsOff network a numbers = ¬ Contains numbers (bus_number network a)
+
+-- a path where the other live branches join the two buses, and a side without F_BUS where they don't
 abbrev pub IsDetour : LiveNetwork → NetBranch → Detour → Type 0
 IsDetour network branch (detour.Path rows) = IsPath (others branch.row network.branches) branch.from branch.to rows
 IsDetour network branch (detour.Side numbers) =
     (¬ AreJoined (others branch.row network.branches) branch.from branch.to) × IsSide network (others branch.row network.branches) branch.to numbers
+    × IsOff network branch.from numbers
 
 -- the numbers of the buses at the visited places, of the first ones, in their order
 pub record HoldsSide (network : LiveNetwork) (seen : List (Option ℕ)) (upto : ℕ) (numbers : List ℕ) : Type 0 where

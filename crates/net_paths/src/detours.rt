@@ -2,7 +2,7 @@
 
 ghost use Rattle.std.specs.Prelude.{◌≡◌, ℕ, ◌<◌, ◌==◌, not, List, [], length, filter, map, All, Contains, IfOk, slice_index_or};
 ghost use Rattle.net_case.specs.declared.live_parts.NetBranch.{NetBranch};
-ghost use Rattle.net_case.specs.Networks.{IsNetBranch};
+ghost use Rattle.net_case.specs.Networks.{IsNetBranch, IsNetwork};
 ghost use Rattle.net_paths.specs.Searching.{visit_at, IsSearch};
 ghost use Rattle.net_paths.specs.Detours.{others, IsLiveRow, IsBranchOf, IsDetour, HoldsSide};
 
@@ -16,9 +16,9 @@ use std::alloc::Global;
 /// What is left between the buses of a branch that is lost.
 #[derive(Drop, Debug)]
 pub enum Detour {
-    /// The rows of branches that lead from its F_BUS to its T_BUS.
+    /// The rows of branches that lead from its F_BUS to its T_BUS, at no bus twice.
     Path(List<u32>),
-    /// The numbers of the buses that stay joined to its T_BUS, in row order.
+    /// The numbers of the buses that stay joined to its T_BUS, in row order. F_BUS is not among them.
     Side(List<u32>),
 }
 
@@ -27,6 +27,7 @@ pub fn branch_of(network: &Network, row: u32) -> NetBranch
     requires { IsLiveRow network.now row }
     ensures is { IsBranchOf network.now row result }
     ensures ends { All (IsNetBranch (length network.now.buses)) network.now.branches }
+    ensures network { IsNetwork network.now }
 {
     for branch in live_branches(network) {
         if branch.row == row {

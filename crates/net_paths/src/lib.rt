@@ -11,7 +11,8 @@ mod steps;
 
 pub use connection::{PathStop, connected};
 pub use detours::{Detour, branch_of, without};
-pub use loops_of_tree::{Loop, Loops, Member, loops};
+pub use loops_of_tree::{Loop, Loops, Member, is_lost, loops};
+pub use parts::bus_number;
 
 #[cfg(test)]
 mod tests;

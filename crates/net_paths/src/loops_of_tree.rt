@@ -28,7 +28,8 @@ pub type Loop = List<Member>;
 
 pub type Loops = List<Loop>;
 
-fn is_lost(lost: Option<u32>, branch: &NetBranch) -> bool
+/// Whether a branch is the lost one.
+pub fn is_lost(lost: Option<u32>, branch: &NetBranch) -> bool
     ensures { result ≡ is_lost lost branch.now }
 {
     match lost {

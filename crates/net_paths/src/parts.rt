@@ -1,7 +1,7 @@
 //! The buses and branches of a network, by what contracts say of them.
 
 ghost use Rattle.std.specs.Prelude.{◌≡◌, ◌<◌, length, All};
-ghost use Rattle.net_case.specs.Networks.{IsNetBranch};
+ghost use Rattle.net_case.specs.Networks.{IsNetBranch, IsNetwork};
 ghost use Rattle.net_paths.specs.Connection.{bus_number};
 
 use net_case::{NetBranch, Network};
@@ -25,6 +25,7 @@ pub fn bus_number(network: &Network, place: usize) -> u32
 pub fn live_branches(network: &Network) -> &[NetBranch]
     ensures list { result.now ≡ network.now.branches }
     ensures ends { All (IsNetBranch (length network.now.buses)) network.now.branches }
+    ensures network { IsNetwork network.now }
 {
     network.branches().slice()
 }

@@ -60,7 +60,7 @@ pub outage-path : (network : LiveNetwork) (row : ℕ) (rows : List ℕ) → (bra
 outage-path network row rows (branch, live, path) = record { branch = branch; live = live; joined = record { steps = path.steps; pass = path.pass; lead = path.lead } }
 
 pub island-side : (network : LiveNetwork) (row : ℕ) (side : List ℕ) → (branch : NetBranch) × IsBranchOf network row branch × IsDetour network branch (detour.Side side) → IsIsland network row side
-island-side network row side (branch, live, (islands, is)) = record { branch = branch; live = live; islands = islands; side = is }
+island-side network row side (branch, live, (islands, is, off)) = record { branch = branch; live = live; islands = islands; side = is; off = off }
 
 -- ---- one outage more
 apart-push : (rows : List ℕ) (row : ℕ) → AllPairs (λ a b. a ≢ b) rows → ¬ Contains rows row → AllPairs (λ a b. a ≢ b) (rows ++ row ∷ [])

@@ -3,7 +3,7 @@ use Rattle.std.specs.Prelude.{◌≡◌, ◌≢◌, ⊤, ℕ, ◌+◌, ℤ, pos,
 use Rattle.net_case.specs.declared.live_parts.NetBranch.{NetBranch}
 use Rattle.net_case.specs.Networks.{LiveNetwork}
 use Rattle.net_paths.specs.Chains.{AreJoined}
-use Rattle.net_paths.specs.Detours.{IsBranchOf, IsSide, others}
+use Rattle.net_paths.specs.Detours.{IsBranchOf, IsOff, IsSide, others}
 use Rattle.factor_tables.specs.Rules.{is_live_branch, is_row}
 use Rattle.outage_list.specs.declared.listing.OutageFault.{OutageFault}
 use Rattle.outage_list.specs.declared.listing.OutageFault.TheVariants as fault
@@ -23,12 +23,13 @@ pub record AreOutages (network : LiveNetwork) (rows : List ℕ) : Type 0 where
   pub each : All (IsOutage network) rows
   pub distinct : AllPairs (λ a b. a ≢ b) rows
 
--- a branch that islands the network, with the buses that stay joined to its T_BUS
+-- a branch that islands the network, with the buses that stay joined to its T_BUS, without its F_BUS
 pub record IsIsland (network : LiveNetwork) (row : ℕ) (numbers : List ℕ) : Type 0 where
   pub branch : NetBranch
   pub live : IsBranchOf network row branch
   pub islands : IslandsNetwork network branch
   pub side : IsSide network (others branch.row network.branches) branch.to numbers
+  pub off : IsOff network branch.from numbers
 
 -- the fault of a number on a line, behind outages that are listed; memory may be refused at any
 abbrev pub IsFaultOf : LiveNetwork → List ℕ → ℤ → ℕ → OutageFault → Type 0

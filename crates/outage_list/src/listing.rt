@@ -22,7 +22,8 @@ pub enum OutageFault {
     DeadBranch { line: usize },
     #[error("line {line} repeats an earlier one")]
     Twice { line: usize },
-    /// No other live branches join the two buses of the branch. The side are the numbers of the buses that stay joined to its T_BUS.
+    /// No other live branches join the two buses of the branch. The side are the numbers of the buses that stay joined to its T_BUS; F_BUS is not
+    /// among them.
     #[error("branch {branch} islands {side:?}")]
     Islands { branch: u32, side: List<u32> },
     #[error("memory was refused")]

@@ -1,14 +1,15 @@
-use Rattle.std.proofs.Common.{◌∙◌, ◌==◌, ℕ, arith, sym, ap, subst, length, map}
+use Rattle.std.proofs.Common.{◌∙◌, ◌==◌, ◌≢◌, ℕ, arith, sym, ap, subst, length, map}
 use Rattle.std.specs.Prelude.{All, not}
-use Rattle.std.proofs.lemmas.List.Elements.{All-filter, All-contains}
+use Rattle.std.proofs.lemmas.List.Elements.{All-filter, All-contains, All-map}
+use Rattle.std.proofs.lemmas.List.Quantifiers.{all_pairs_push}
 use Rattle.net_case.specs.declared.live_parts.NetBranch.{NetBranch}
 use Rattle.net_case.specs.Networks.{IsNetBranch}
 use Rattle.net_paths.specs.declared.steps.Step.{Step}
-use Rattle.net_paths.specs.Chains.{Lead, AreJoined}
-use Rattle.net_paths.specs.Detours.{others, IsPath, IsSide}
+use Rattle.net_paths.specs.Chains.{Lead, AreJoined, start_of}
+use Rattle.net_paths.specs.Detours.{others, IsOff, IsPath, IsSide}
 use Rattle.net_paths.specs.Searching.{visit_at}
 use Rattle.net_paths.proofs.ChainLemmas.{joined_sym}
-use Rattle.net_paths.proofs.SideLemmas.{side_is}
+use Rattle.net_paths.proofs.SideLemmas.{off_side, side_is}
 use Rattle.net_paths.proofs.WayLemmas.{joined_visited, not_none, nowhere}
 use Rattle.net_paths.proofs.detours.without.Goals as goal
 
@@ -41,7 +42,7 @@ returns-in-Some c =
       steps = steps;
       pass = way.pass;
       lead = subst (λ (p : ℕ). Lead steps p branch.to) (at.1 nowhere) way.lead;
-      apart = way.apart;
+      apart = all_pairs_push (λ p q. p ≢ q) (map start_of steps) branch.to way.apart (All-map (λ (p : ℕ). p ≢ branch.to) start_of steps way.off_root);
       rows_are = c.in_ok-rows-in-Some.ensures ∙ ap (map (λ (s : Step). s.branch.row)) c.slice.ensures;
     } in
     (branch, c.branch_of-branch.ensures.is, subst (λ (k : ℕ). IsPath (others k network.branches) branch.from branch.to rows) (sym c.branch_of-branch.ensures.is.row_is) path)
@@ -61,9 +62,11 @@ returns c =
     let apart : ¬ AreJoined bs branch.from branch.to = λ h. not_none (visit_at search.seen.items branch.from) (sym c.visit_of.ensures ∙ c.in-None.is)
     (joined_visited bs n branch.to search.visits search.seen.items whole.visits whole.closed branch.from (joined_sym bs branch.from branch.to h)) in
     let ends : All (IsNetBranch n) bs = All-filter (λ (b : NetBranch). not (b.row == c.args.k)) (IsNetBranch n) network.branches c.branch_of-branch.ensures.ends in
-    let side : IsSide network bs branch.to numbers = side_is network bs branch.to search numbers whole ends c.in_ok-numbers-in-None.ensures in (
+    let side : IsSide network bs branch.to numbers = side_is network bs branch.to search numbers whole ends c.in_ok-numbers-in-None.ensures in
+    let from = (All-contains (IsNetBranch n) network.branches branch c.branch_of-branch.ensures.ends c.branch_of-branch.ensures.is.live).from in
+    let off : IsOff network branch.from numbers = off_side network bs branch.from branch.to numbers c.branch_of-branch.ensures.network from apart side in (
       branch,
       c.branch_of-branch.ensures.is,
-      subst (λ (k : ℕ). (¬ AreJoined (others k network.branches) branch.from branch.to) × IsSide network (others k network.branches) branch.to numbers)
-          (sym c.branch_of-branch.ensures.is.row_is) (apart, side),
+      subst (λ (k : ℕ). (¬ AreJoined (others k network.branches) branch.from branch.to) × IsSide network (others k network.branches) branch.to numbers × IsOff network branch.from numbers)
+          (sym c.branch_of-branch.ensures.is.row_is) (apart, side, off),
     )
