@@ -4,7 +4,7 @@ use mir.Syntax.{w128}
 use mathlib.Core.Path.{ap₂}
 use Rattle.std.proofs.lemmas.Int.{ints, unsigned_abs-mul, to_z-of_z}
 use Rattle.std.proofs.Math.Nat.{mul-le-mul}
-use Rattle.factor_residuals.specs.declared.loop_sums.Round.{Round}
+use Rattle.factor_residuals.specs.declared.loop_sums.LoopSum.{LoopSum}
 
 -- a number that is read as one of 128 bits
 pub small_is : (n : ℤ) → unsigned_abs n ≤ 10000000000000000000000000000000000000 → to_z w128 (of_z w128 n) ≡ n
@@ -28,8 +28,8 @@ module _ (x y z : ℤ) (h : unsigned_abs x ≤ 10000000000000000000000) (k : uns
       let size = product-size x y h k in
       ap (λ (p : ℤ). to_z w128 (of_z w128 (pos 0 -ℤ p))) product_is ∙ small_is (pos 0 -ℤ (x *ℤ y)) (omega (arith, ints, size)) ∙ omega (arith, ints)
 
-pub round-is : (m m' s s' : ℤ) → m ≡ m' → s ≡ s' → ◌≡◌ {A = Round} (record { miss = m; sizes = s }) (record { miss = m'; sizes = s' })
-round-is m m' s s' e f = ap₂ (λ (a b : ℤ). record { miss = a; sizes = b }) e f
+pub loop_sum-is : (m m' s s' : ℤ) → m ≡ m' → s ≡ s' → ◌≡◌ {A = LoopSum} (record { miss = m; sizes = s }) (record { miss = m'; sizes = s' })
+loop_sum-is m m' s s' e f = ap₂ (λ (a b : ℤ). record { miss = a; sizes = b }) e f
 
 pub sum-is : (a b : ℤ) → unsigned_abs a ≤ 1000000000000000000000000000000000000 → unsigned_abs b ≤ 1000000000000000000000000000000000000
     → to_z w128 (of_z w128 (to_z w128 (of_z w128 a) +ℤ to_z w128 (of_z w128 b))) ≡ a +ℤ b

@@ -8,7 +8,7 @@ use Rattle.factor_residuals.specs.Kirchhoff.{Column, Flows, net_outflow, branche
 use Rattle.factor_residuals.specs.declared.columns.Factors.{Factors}
 use Rattle.factor_residuals.specs.declared.columns.Factors.TheVariants as table
 use Rattle.factor_residuals.specs.declared.columns.Flow.{Flow}
-use Rattle.factor_residuals.specs.declared.loop_sums.Round.{Round}
+use Rattle.factor_residuals.specs.declared.loop_sums.LoopSum.{LoopSum}
 use Rattle.factor_residuals.specs.declared.node_sums.Node.{Node}
 
 abbrev pub entries_of : Factors → List Entry
@@ -48,10 +48,10 @@ pub record IsWithin (k : ℕ) (node : Node) : Type 0 where
 
 -- ---- round a loop
 -- with one branch more, by its product of reactance and flow and by its reactance
-abbrev pub turned : Round → ℤ → ℤ → Round
-turned round drop reactance = record { miss = round.miss +ℤ drop; sizes = round.sizes +ℤ pos (unsigned_abs reactance) }
+abbrev pub with_drop : LoopSum → ℤ → ℤ → LoopSum
+with_drop loop_sum drop reactance = record { miss = loop_sum.miss +ℤ drop; sizes = loop_sum.sizes +ℤ pos (unsigned_abs reactance) }
 
 -- what at most k branches come to
-pub record IsRound (k : ℕ) (round : Round) : Type 0 where
-  pub miss : unsigned_abs round.miss ≤ 10 ^ 31 * k
-  pub sizes : unsigned_abs round.sizes ≤ 10 ^ 22 * k
+pub record IsLoopSum (k : ℕ) (loop_sum : LoopSum) : Type 0 where
+  pub miss : unsigned_abs loop_sum.miss ≤ 10 ^ 31 * k
+  pub sizes : unsigned_abs loop_sum.sizes ≤ 10 ^ 22 * k

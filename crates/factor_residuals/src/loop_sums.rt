@@ -1,8 +1,9 @@
 //! What the flows come to round a loop.
 
 ghost use Rattle.std.specs.Prelude.{◌≡◌, ◌++◌, ◌≤◌, ◌<◌, ◌+◌, ◌^◌, ◌*ℤ◌, ℕ, List, length, unsigned_abs, All};
+ghost use Rattle.market_data.specs.Participants.{most_buses};
 ghost use Rattle.factor_residuals.specs.Kirchhoff.{loop_spot, reactance_at, signed, first_branch};
-ghost use Rattle.factor_residuals.specs.Columns.{IsRound, turned, column_of};
+ghost use Rattle.factor_residuals.specs.Columns.{IsLoopSum, with_drop, column_of};
 ghost use Rattle.factor_residuals.specs.Residuals.{AreReactances, IsResidual, loop_spots};
 
 use crate::columns::{Factors, Flow};
@@ -24,7 +25,7 @@ fn reactance_at(network: &Network, reactances: &Reactances, row: u32) -> i128
 
 /// What some branches of a loop come to: their products of reactance and flow, and the sizes of their reactances.
 #[derive(Clone, Copy, Debug)]
-struct Round {
+struct LoopSum {
     miss: i128,
     sizes: i128,
 }
@@ -41,16 +42,16 @@ fn drop_over(reactance: i128, flow: i64, forward: bool) -> i128
 }
 
 /// With one branch more.
-fn turned(round: Round, reactance: i128, flow: i64, forward: bool) -> Round
+fn with_drop(loop_sum: LoopSum, reactance: i128, flow: i64, forward: bool) -> LoopSum
     requires reactance { unsigned_abs reactance ≤ 10 ^ 22 }
     requires flow { unsigned_abs flow ≤ 10 ^ 9 }
-    requires round { IsRound 1000 round }
-    ensures is { result ≡ turned round (signed forward (reactance *ℤ flow)) reactance }
-    ensures grows { (k : ℕ) → IsRound k round → IsRound (k + 1) result }
+    requires loop_sum { IsLoopSum most_buses loop_sum }
+    ensures is { result ≡ with_drop loop_sum (signed forward (reactance *ℤ flow)) reactance }
+    ensures grows { (k : ℕ) → IsLoopSum k loop_sum → IsLoopSum (k + 1) result }
 {
-    Round {
-        miss: round.miss + drop_over(reactance, flow, forward),
-        sizes: round.sizes + reactance.abs(),
+    LoopSum {
+        miss: loop_sum.miss + drop_over(reactance, flow, forward),
+        sizes: loop_sum.sizes + reactance.abs(),
     }
 }
 
@@ -73,19 +74,19 @@ fn loop_spot(
     members: &[Member],
 ) -> Spot
     requires reactances { AreReactances network.now reactances.now }
-    requires few { length members.now ≤ 1000 }
+    requires few { length members.now ≤ most_buses }
     ensures size { unsigned_abs result.value < 10 ^ 37 }
     ensures is { result ≡ loop_spot (reactance_at network.now reactances.now) (column_of network.now factors.entry column.now) members.now }
 {
-    let mut round = Round { miss: 0, sizes: 0 };
+    let mut loop_sum = LoopSum { miss: 0, sizes: 0 };
     for member in members {
         let reactance = reactance_at(network, reactances, member.branch);
         let flow = factors.flow(member.branch, column.name);
-        round = turned(round, reactance, flow, member.forward);
+        loop_sum = with_drop(loop_sum, reactance, flow, member.forward);
     }
     Spot {
-        value: round.miss,
-        bound: 5 * round.sizes,
+        value: loop_sum.miss,
+        bound: 5 * loop_sum.sizes,
         at: first_branch(members),
         of: column.name,
     }
@@ -101,7 +102,7 @@ pub(crate) fn note_loops(
     residual: Residual,
 ) -> Residual
     requires reactances { AreReactances network.now reactances.now }
-    requires few { All (λ members. length members ≤ 1000) loops.now }
+    requires few { All (λ members. length members ≤ most_buses) loops.now }
     ensures { (spots : List Spot) → IsResidual spots residual
         → IsResidual (spots ++ loop_spots network.now reactances.now loops.now (column_of network.now factors.entry column.now)) result }
 {

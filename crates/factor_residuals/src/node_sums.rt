@@ -1,10 +1,10 @@
 //! What leaves each bus.
 
 ghost use Rattle.std.specs.Prelude.{◌≡◌, ◌++◌, ◌∷◌, [], ◌≤◌, ◌<◌, ◌+◌, ◌*◌, ◌^◌, ◌+ℤ◌, ◌-ℤ◌, ℕ, pos, List, length, unsigned_abs, get_or, slice_set, IfOk};
-ghost use Rattle.net_case.specs.Networks.{IsNetBranch};
+ghost use Rattle.market_data.specs.Scales.{most_factor};
+ghost use Rattle.net_case.specs.Networks.{IsNetBranch, most_branches};
 ghost use Rattle.net_case.specs.declared.live_parts.NetBranch.{NetBranch};
-ghost use Rattle.net_paths.specs.Connection.{bus_number};
-ghost use Rattle.net_paths.specs.Loops.{is_lost, kept};
+ghost use Rattle.net_paths.specs.Loops.{kept};
 ghost use Rattle.factor_residuals.specs.Kirchhoff.{Flows, bus_spot, one_at};
 ghost use Rattle.factor_residuals.specs.Columns.{HoldNodes, IsWithin, left_by, node_at, column_of, flows_of};
 ghost use Rattle.factor_residuals.specs.declared.columns.Factors.{Factors};
@@ -13,6 +13,7 @@ ghost use Rattle.factor_residuals.specs.Residuals.{IsResidual, bus_spots};
 use crate::columns::{Factors, Flow};
 use crate::spots::{Residual, Spot};
 use net_case::{NetBranch, Network};
+use net_paths::{bus_number, is_lost};
 use plain_list::Memory;
 use std::alloc::Global;
 
@@ -25,8 +26,8 @@ pub(crate) struct Node {
 
 /// With a flow more that leaves the bus.
 fn left_by(node: Node, flow: i64) -> Node
-    requires flow { unsigned_abs flow ≤ 1000000000 }
-    requires within { IsWithin 2000 node }
+    requires flow { unsigned_abs flow ≤ most_factor }
+    requires within { IsWithin most_branches node }
     ensures { result ≡ left_by node flow }
 {
     Node {
@@ -38,27 +39,18 @@ fn left_by(node: Node, flow: i64) -> Node
 /// Notes that a flow leaves a bus over one more branch.
 fn leave(nodes: &mut Vec<Node>, place: usize, flow: i64)
     requires place { place < length nodes.old.items }
-    requires flow { unsigned_abs flow ≤ 1000000000 }
-    requires within { (d : Node) → IsWithin 2000 (get_or nodes.old.items place d) }
+    requires flow { unsigned_abs flow ≤ most_factor }
+    requires within { (d : Node) → IsWithin most_branches (get_or nodes.old.items place d) }
     ensures { (d : Node) → nodes.new.items ≡ slice_set nodes.old.items place (left_by (get_or nodes.old.items place d) flow) }
 {
     nodes[place] = left_by(nodes[place], flow);
 }
 
-fn is_lost(lost: Option<u32>, branch: &NetBranch) -> bool
-    ensures { result ≡ is_lost lost branch.now }
-{
-    match lost {
-        Some(row) => branch.row == row,
-        None => false,
-    }
-}
-
 /// Notes that a flow goes over one more branch.
 fn pass(nodes: &mut Vec<Node>, branch: &NetBranch, flow: i64)
-    requires flow { unsigned_abs flow ≤ 1000000000 }
+    requires flow { unsigned_abs flow ≤ most_factor }
     requires branch { IsNetBranch (length nodes.old.items) branch.now }
-    requires within { (p : ℕ) (d : Node) → p < length nodes.old.items → IsWithin 2000 (get_or nodes.old.items p d) }
+    requires within { (p : ℕ) (d : Node) → p < length nodes.old.items → IsWithin most_branches (get_or nodes.old.items p d) }
     ensures within { (k p : ℕ) (d : Node) → p < length nodes.old.items → IsWithin k (get_or nodes.old.items p d) → IsWithin (k + 1) (get_or nodes.new.items p d) }
     ensures passed { (flows : Flows) (before : List NetBranch) → HoldNodes flows before (length nodes.old.items) nodes.old.items → flow ≡ flows branch.now.row
         → HoldNodes flows (before ++ branch.now ∷ []) (length nodes.old.items) nodes.new.items }
@@ -74,7 +66,7 @@ fn nodes_of(
     factors: Factors<'_>,
     column: &Flow,
 ) -> Result<Vec<Node>, Memory>
-    ensures within { IfOk result (λ nodes. (p : ℕ) (d : Node) → p < length network.now.buses → IsWithin 2000 (get_or nodes.items p d)) }
+    ensures within { IfOk result (λ nodes. (p : ℕ) (d : Node) → p < length network.now.buses → IsWithin most_branches (get_or nodes.items p d)) }
     ensures nodes { IfOk result (λ nodes. HoldNodes (flows_of factors.entry column.now.name) (kept column.now.lost network.now.branches) (length network.now.buses) nodes.items) }
 {
     let empty = Node {
@@ -104,7 +96,7 @@ fn one_at(place: usize, bus: usize) -> i64
 
 /// What leaves a bus and did not go in there.
 fn missing_at(node: Node, goes_in: i64, goes_out: i64) -> i128
-    requires node { IsWithin 2000 node }
+    requires node { IsWithin most_branches node }
     requires goes_in { unsigned_abs goes_in ≤ 1000000 }
     requires goes_out { unsigned_abs goes_out ≤ 1000000 }
     ensures size { unsigned_abs result < 10 ^ 37 }
@@ -115,24 +107,16 @@ fn missing_at(node: Node, goes_in: i64, goes_out: i64) -> i128
 
 /// Half a unit for each branch at a bus, in a tenth of the unit.
 fn bound_at(node: Node) -> i128
-    requires { IsWithin 2000 node }
+    requires { IsWithin most_branches node }
     ensures { (count : ℕ) → node.branches ≡ pos count → result ≡ pos (5 * count) }
 {
     i128::from(5 * node.branches)
 }
 
-/// The number of the bus at a place.
-fn number_at(network: &Network, bus: usize) -> u32
-    requires { bus < length network.now.buses }
-    ensures { result ≡ bus_number network.now bus }
-{
-    network.buses().at(bus).number
-}
-
 /// The residual of a column at a bus.
 fn bus_spot(network: &Network, node: Node, column: &Flow, bus: usize) -> Spot
     requires bus { bus < length network.now.buses }
-    requires within { IsWithin 2000 node }
+    requires within { IsWithin most_branches node }
     ensures size { unsigned_abs result.value < 10 ^ 37 }
     ensures is { (factors : Factors) → node ≡ node_at (flows_of factors column.now.name) (kept column.now.lost network.now.branches) bus
         → result ≡ bus_spot network.now (column_of network.now factors column.now) bus }
@@ -140,7 +124,7 @@ fn bus_spot(network: &Network, node: Node, column: &Flow, bus: usize) -> Spot
     Spot {
         value: missing_at(node, one_at(column.source, bus), one_at(column.sink, bus)),
         bound: bound_at(node),
-        at: number_at(network, bus),
+        at: bus_number(network, bus),
         of: column.name,
     }
 }

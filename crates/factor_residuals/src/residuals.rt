@@ -4,6 +4,7 @@ ghost use Rattle.std.specs.Prelude.{◌≡◌, ◌<◌, ◌≤◌, All, IfOk, le
 ghost use Rattle.std.specs.Borrow.{Bor};
 ghost use Rattle.factor_tables.specs.declared.by_pair.Loss.{Loss};
 ghost use Rattle.factor_tables.specs.declared.by_pair.Shift.{Shift};
+ghost use Rattle.market_data.specs.Participants.{most_buses};
 ghost use Rattle.net_case.specs.declared.live_parts.NetBranch.{NetBranch};
 ghost use Rattle.net_paths.specs.Loops.{AreLoops, kept};
 ghost use Rattle.net_paths.specs.Detours.{IsLiveRow, IsBranchOf};
@@ -53,7 +54,7 @@ fn outage_flow(network: &Network, row: u32) -> Flow
 /// The loops of the live branches without a lost one.
 fn loops_of(alloc: Global, network: &Network, lost: Option<u32>) -> Result<Loops, Memory>
     ensures are { IfOk result (AreLoops (kept lost network.now.branches)) }
-    ensures short { IfOk result (λ loops. All (λ members. length members ≤ 1000) loops) }
+    ensures short { IfOk result (λ loops. All (λ members. length members ≤ most_buses) loops) }
 {
     let _buses = network.buses();
     loops(alloc, network, lost)

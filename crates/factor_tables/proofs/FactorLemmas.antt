@@ -14,7 +14,8 @@ use Rattle.std.proofs.lemmas.Map.Entries.{place_from_lookup}
 use Rattle.std.proofs.lemmas.Option.{slice_get_within, get_or_from_slice_get}
 use Rattle.factor_tables.specs.declared.by_pair.Column.{Column}
 use Rattle.factor_tables.specs.declared.by_pair.Pairs.{Pairs}
-use Rattle.factor_tables.specs.Factors.{AreFactors, Entry, HasNoPairTwice, IsFactor, Pair, factor_at, has_pair, marked_row, most_factor, same_pair}
+use Rattle.market_data.specs.Scales.{most_factor}
+use Rattle.factor_tables.specs.Factors.{AreFactors, Entry, HasNoPairTwice, IsFactor, Pair, factor_at, has_pair, marked_row, same_pair}
 
 pub is-none : {X : Type 0} (o : Option X) → is_some o ≡ false → o ≡ None
 is-none None none = refl

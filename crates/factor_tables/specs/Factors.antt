@@ -2,6 +2,7 @@
 use Rattle.std.specs.Prelude.{◌≡◌, ◌≢◌, ℕ, ◌≤◌, ◌==◌, ◌&&◌, ℤ, pos, Bool, false, List, All, AllPairs, Contains, ◌⊎◌, get_or, is_some, unwrap_or, unsigned_abs}
 use Rattle.std.specs.List.{list_any}
 use Rattle.std.specs.Map.{lookup}
+use Rattle.market_data.specs.Scales.{most_factor}
 use Rattle.factor_tables.specs.declared.by_pair.Column.{Column}
 use Rattle.factor_tables.specs.declared.by_pair.Column.TheVariants as column
 use Rattle.factor_tables.specs.declared.by_pair.Pairs.{Pairs}
@@ -40,10 +41,6 @@ has_branch entries row = list_any (λ entry. entry.0.0 == row) entries
 -- whether some record is of this outage
 abbrev pub has_outage : List Entry → ℕ → Bool
 has_outage entries row = list_any (λ entry. entry.0.1 == row) entries
-
--- 1000, in 10^-6
-abbrev pub most_factor : ℕ
-most_factor = 1000000000
 
 -- the row of a pair that a table of this kind is asked for
 abbrev pub marked_row : Column → Pair → ℕ

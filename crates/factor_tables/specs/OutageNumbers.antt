@@ -4,6 +4,7 @@ use Rattle.record_reading.specs.Records.{Record}
 use Rattle.record_reading.specs.Steps.{and_then}
 use Rattle.record_reading.specs.Rows.{read_rows}
 use Rattle.csv_table.specs.Table.{framed}
+use Rattle.market_data.specs.Scales.{most_outages}
 use Rattle.factor_tables.specs.declared.table_fault.TableFault.{TableFault}
 use Rattle.factor_tables.specs.Records.{frame_fault, number}
 
@@ -12,4 +13,4 @@ abbrev pub outage_number : List ℤ → ℕ → Record → Result ℤ TableFault
 outage_number done line r = number line r 0 0
 
 unfoldable pub outage_rows_of : List ℕ → Result (List ℤ) TableFault
-outage_rows_of bytes = and_then (framed frame_fault (codes "branch" ∷ []) (Some 500) bytes) (read_rows outage_number [] 2)
+outage_rows_of bytes = and_then (framed frame_fault (codes "branch" ∷ []) (Some most_outages) bytes) (read_rows outage_number [] 2)

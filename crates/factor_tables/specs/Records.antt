@@ -11,7 +11,7 @@ use Rattle.factor_tables.specs.declared.cells.FactorRecord.{FactorRecord}
 use Rattle.factor_tables.specs.declared.cells.OffsetRecord.{OffsetRecord}
 use Rattle.factor_tables.specs.declared.table_fault.TableFault.{TableFault}
 use Rattle.factor_tables.specs.declared.table_fault.TableFault.TheVariants as fault
-use Rattle.factor_tables.specs.Factors.{most_factor}
+use Rattle.market_data.specs.Scales.{factor_places, most_factor, mw_places}
 
 -- ---- the faults of a table as a whole and of a cell
 abbrev pub frame_fault : FrameFault → TableFault
@@ -30,7 +30,7 @@ number line r col places = or_as cell_fault (number_in line r col places)
 
 -- the factor in the third cell, of a size of 1000 at most
 unfoldable pub factor_in : ℕ → Record → Result ℤ TableFault
-factor_in line r = and_then (number line r 2 6) (λ factor. if nat_lt most_factor (unsigned_abs factor) then Err (fault.Cell line 3 why.Bounds) else Ok factor)
+factor_in line r = and_then (number line r 2 factor_places) (λ factor. if nat_lt most_factor (unsigned_abs factor) then Err (fault.Cell line 3 why.Bounds) else Ok factor)
 
 -- the numbers of a record of factors, from left to right
 unfoldable pub record_in : ℕ → Record → Result FactorRecord TableFault
@@ -44,7 +44,7 @@ record_in line r =
 unfoldable pub offset_in : ℕ → Record → Result OffsetRecord TableFault
 offset_in line r =
     and_then (number line r 0 0) (λ branch.
-    and_then (number line r 1 9) (λ mw.
+    and_then (number line r 1 mw_places) (λ mw.
     Ok (record { branch = branch; mw = mw })))
 
 -- ---- what is known of numbers that were read

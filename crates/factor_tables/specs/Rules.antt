@@ -1,7 +1,7 @@
 -- What the numbers of a record may name, and the faults that a record may have.
 use Rattle.std.specs.Prelude.{ℕ, ◌≤◌, ◌==◌, ◌&&◌, not, ℤ, pos, ◌≤ℤ◌, Bool, List, [], ◌∷◌, unsigned_abs, is_some, if◌then◌else◌, Result, Ok, Err}
 use Rattle.std.specs.Int.Signed.{le_z}
-use Rattle.net_case.specs.Networks.{LiveNetwork, branch_place, bus_place, has_bus}
+use Rattle.net_case.specs.Networks.{LiveNetwork, branch_place, bus_place, has_bus, most_branches, most_bus_number}
 use Rattle.factor_tables.specs.declared.by_pair.Column.{Column}
 use Rattle.factor_tables.specs.declared.by_pair.Column.TheVariants as column
 use Rattle.factor_tables.specs.declared.cells.FactorRecord.{FactorRecord}
@@ -60,18 +60,18 @@ pair_of r = (unsigned_abs r.branch, unsigned_abs r.of)
 
 -- a number of the second column, of a bus or of one of so many branch rows
 abbrev pub IsSecond : Column → ℕ → ℤ → Type 0
-IsSecond column.Bus rows n = (pos 1 ≤ℤ n) × (n ≤ℤ pos 2147483647)
+IsSecond column.Bus rows n = (pos 1 ≤ℤ n) × (n ≤ℤ pos most_bus_number)
 IsSecond column.Outage rows n = (pos 1 ≤ℤ n) × (n ≤ℤ pos rows)
 
 -- a number that names one of so many branch rows
 pub record IsRowOf (rows : ℕ) (n : ℤ) : Type 0 where
   pub least : pos 1 ≤ℤ n
   pub most : n ≤ℤ pos rows
-  pub few : rows ≤ 2000
+  pub few : rows ≤ most_branches
 
 -- numbers that name rows, of which there are so many of branches
 pub record IsPairOf (kind : Column) (rows : ℕ) (r : FactorRecord) : Type 0 where
   pub least : pos 1 ≤ℤ r.branch
   pub most : r.branch ≤ℤ pos rows
   pub of : IsSecond kind rows r.of
-  pub few : rows ≤ 2000
+  pub few : rows ≤ most_branches

@@ -20,14 +20,17 @@ entry_in network kind done line r =
     and_then (checked (record_faults kind network line numbers) fine) (λ _.
     if has_pair done (pair_of numbers) then Err (fault.Twice line) else Ok (pair_of numbers, numbers.factor)))
 
-abbrev pub shift_header : Record
-shift_header = codes "branch" ∷ codes "bus" ∷ codes "factor" ∷ []
+-- the header of a table of factors of this kind
+abbrev pub header_of : Column → Record
+header_of column.Bus = codes "branch" ∷ codes "bus" ∷ codes "factor" ∷ []
+header_of column.Outage = codes "branch" ∷ codes "outage" ∷ codes "factor" ∷ []
 
-abbrev pub loss_header : Record
-loss_header = codes "branch" ∷ codes "outage" ∷ codes "factor" ∷ []
+-- the pairs and factors of a table of this kind, or the first fault
+unfoldable pub factors_of : Column → LiveNetwork → List ℕ → Result (List Entry) TableFault
+factors_of kind network bytes = and_then (framed frame_fault (header_of kind) None bytes) (read_rows (entry_in network kind) [] 2)
 
-unfoldable pub shift_of : LiveNetwork → List ℕ → Result (List Entry) TableFault
-shift_of network bytes = and_then (framed frame_fault shift_header None bytes) (read_rows (entry_in network column.Bus) [] 2)
+abbrev pub shift_of : LiveNetwork → List ℕ → Result (List Entry) TableFault
+shift_of network bytes = factors_of column.Bus network bytes
 
-unfoldable pub loss_of : LiveNetwork → List ℕ → Result (List Entry) TableFault
-loss_of network bytes = and_then (framed frame_fault loss_header None bytes) (read_rows (entry_in network column.Outage) [] 2)
+abbrev pub loss_of : LiveNetwork → List ℕ → Result (List Entry) TableFault
+loss_of network bytes = factors_of column.Outage network bytes

@@ -1,7 +1,9 @@
 //! Factors by pair.
 
 ghost use Rattle.std.specs.Prelude.{◌≡◌, ℕ, ◌≤◌, ◌<◌, ◌+◌, ◌++◌, ◌∷◌, [], List, unsigned_abs, length, get_or, slice_set, IfOk, false, true};
-ghost use Rattle.factor_tables.specs.Factors.{Entry, AreFactors, IsFactor, factor_at, has_branch, has_outage, has_pair, marked_row, most_factor};
+ghost use Rattle.market_data.specs.Scales.{most_factor};
+ghost use Rattle.net_case.specs.Networks.{most_branches};
+ghost use Rattle.factor_tables.specs.Factors.{Entry, AreFactors, IsFactor, factor_at, has_branch, has_outage, has_pair, marked_row};
 
 use indexmap::IndexMap;
 use plain_list::Memory;
@@ -35,7 +37,7 @@ pub(crate) struct Pairs {
 impl Pairs {
     // No factors, and no row of so many marked.
     pub(crate) fn new(alloc: Global, rows: usize) -> Result<Pairs, Memory>
-        requires { rows ≤ 2000 }
+        requires { rows ≤ most_branches }
         ensures none { IfOk result (λ pairs. pairs.by_pair.entries ≡ []) }
         ensures unmarked { IfOk result (λ pairs. (row : ℕ) → get_or pairs.marked.items row false ≡ false) }
         ensures rows { IfOk result (λ pairs. length pairs.marked.items ≡ rows + 1) }
@@ -94,6 +96,7 @@ pub struct Shift {
 
 impl Model for Shift {
     ghost use Rattle.std.specs.Prelude.{List};
+    ghost use Rattle.net_case.specs.Networks.{most_branches};
     ghost use Rattle.factor_tables.specs.Factors.{Entry, AreFactors};
     ghost use Rattle.factor_tables.specs.declared.by_pair.Column.TheVariants as column;
 
@@ -131,6 +134,7 @@ pub struct Loss {
 
 impl Model for Loss {
     ghost use Rattle.std.specs.Prelude.{List};
+    ghost use Rattle.net_case.specs.Networks.{most_branches};
     ghost use Rattle.factor_tables.specs.Factors.{Entry, AreFactors};
     ghost use Rattle.factor_tables.specs.declared.by_pair.Column.TheVariants as column;
 

@@ -1,18 +1,13 @@
 //! The numbers in the cells of a record.
 
 ghost use Rattle.std.specs.Prelude.{◌≡◌, ◌+◌, ◌<◌, ◌≤◌, ◌^◌, unsigned_abs, length, get_or, [], IfOk};
-ghost use Rattle.factor_tables.specs.Factors.{most_factor};
+ghost use Rattle.market_data.specs.Scales.{most_factor};
 ghost use Rattle.factor_tables.specs.Records.{FactorIsRead, OffsetIsRead, factor_in, offset_in, record_in};
 
 use crate::TableFault;
 use csv_table::Table;
-use market_data::MW_PLACES;
+use market_data::{FACTOR_PLACES, MOST_FACTOR, MW_PLACES};
 use record_reading::Why;
-
-/// The greatest size of a factor, in 10^-6.
-const MOST_FACTOR: u64 = 1_000_000_000;
-
-const FACTOR_PLACES: u8 = 6;
 
 /// A record of a table of factors as it is written.
 #[derive(Clone, Copy, Debug)]

@@ -1,11 +1,12 @@
 //! Reading the tables of factors.
 
-ghost use Rattle.std.specs.Prelude.{◌≡◌, ◌≢◌, ℕ, ◌+◌, ◌<◌, ◌≤◌, ◌^◌, ◌&&◌, not, unsigned_abs, length, get_or, [], Ok, Err, IfOk, IfErr, false};
+ghost use Rattle.std.specs.Prelude.{◌≡◌, ◌≢◌, ℕ, ◌+◌, ◌<◌, ◌≤◌, ◌^◌, ◌&&◌, not, unsigned_abs, length, map, get_or, [], Ok, Err, IfOk, IfErr, false};
 ghost use Rattle.record_reading.specs.Rows.{read_rows};
-ghost use Rattle.factor_tables.specs.Factors.{AreFactors, HasNoPairTwice, has_pair, marked_row, most_factor};
+ghost use Rattle.market_data.specs.Scales.{most_factor};
+ghost use Rattle.factor_tables.specs.Factors.{AreFactors, HasNoPairTwice, has_pair, marked_row};
 ghost use Rattle.factor_tables.specs.Records.{FactorIsRead};
 ghost use Rattle.factor_tables.specs.Rules.{IsPairOf, checked, fine, loss_faults, record_faults, shift_faults};
-ghost use Rattle.factor_tables.specs.Tables.{entry_in, loss_of, shift_of};
+ghost use Rattle.factor_tables.specs.Tables.{entry_in, factors_of, header_of, loss_of, shift_of};
 
 use crate::TableFault;
 use crate::by_pair::{Column, Loss, Pairs, Shift, marked_row};
@@ -118,6 +119,23 @@ fn pairs_of(
     Ok(pairs)
 }
 
+/// The factors of a table of this kind, under its header.
+fn factors_of(
+    alloc: Global,
+    network: &Network,
+    column: Column,
+    header: &[&[u8]],
+    bytes: &[u8],
+) -> Result<Pairs, TableFault>
+    requires { map (λ name. name.now) header.now ≡ header_of column }
+    ensures kept { IfOk result (AreFactors column) }
+    ensures ok { IfOk result (λ pairs. factors_of column network.now bytes.now ≡ Ok pairs.by_pair.entries) }
+    ensures err { IfErr result (λ fault. fault ≢ TableFault.Memory → factors_of column network.now bytes.now ≡ Err fault) }
+{
+    let table = read_table(alloc, bytes, header, None)?;
+    pairs_of(alloc, network, column, &table)
+}
+
 /// Reads a shift table. Its factors are in 10^-6.
 pub fn shift(alloc: Global, network: &Network, bytes: &[u8]) -> Result<Shift, TableFault>
     ensures once { IfOk result HasNoPairTwice }
@@ -128,8 +146,7 @@ pub fn shift(alloc: Global, network: &Network, bytes: &[u8]) -> Result<Shift, Ta
         b"bus".as_slice(),
         b"factor".as_slice(),
     ];
-    let table = read_table(alloc, bytes, header.as_slice(), None)?;
-    let pairs = pairs_of(alloc, network, Column::Bus, &table)?;
+    let pairs = factors_of(alloc, network, Column::Bus, header.as_slice(), bytes)?;
     Ok(Shift { pairs })
 }
 
@@ -143,7 +160,6 @@ pub fn outage(alloc: Global, network: &Network, bytes: &[u8]) -> Result<Loss, Ta
         b"outage".as_slice(),
         b"factor".as_slice(),
     ];
-    let table = read_table(alloc, bytes, header.as_slice(), None)?;
-    let pairs = pairs_of(alloc, network, Column::Outage, &table)?;
+    let pairs = factors_of(alloc, network, Column::Outage, header.as_slice(), bytes)?;
     Ok(Loss { pairs })
 }

@@ -2,6 +2,7 @@
 
 ghost use Rattle.std.specs.Prelude.{◌≡◌, ◌≢◌, ℕ, ◌+◌, ◌<◌, ◌≤◌, ◌^◌, length, get_or, [], Ok, Err, IfOk, All, unsigned_abs};
 ghost use Rattle.record_reading.specs.Rows.{read_rows};
+ghost use Rattle.market_data.specs.Scales.{most_outages};
 ghost use Rattle.factor_tables.specs.OutageNumbers.{outage_number, outage_rows_of};
 
 use crate::TableFault;
@@ -30,7 +31,7 @@ fn numbers_of(alloc: Global, table: &Table) -> Result<List<i64>, TableFault>
 
 /// Reads the table of outages. Whether its numbers name branches is asked elsewhere.
 pub fn outage_rows(alloc: Global, bytes: &[u8]) -> Result<OutageRows, TableFault>
-    ensures few { IfOk result (λ rows. length rows ≤ 500) }
+    ensures few { IfOk result (λ rows. length rows ≤ most_outages) }
     ensures is { result ≢ Err TableFault.Memory → result ≡ outage_rows_of bytes.now }
 {
     let header = [b"branch".as_slice()];

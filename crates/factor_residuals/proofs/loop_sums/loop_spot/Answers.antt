@@ -9,7 +9,7 @@ use Rattle.market_data.proofs.WholeSumLaws.{int_sum_more}
 use Rattle.net_paths.specs.declared.loops_of_tree.Member.{Member}
 use Rattle.factor_residuals.specs.Kirchhoff.{reactance_at, signed}
 use Rattle.factor_residuals.specs.Columns.{flows_of}
-use Rattle.factor_residuals.specs.declared.loop_sums.Round.{Round}
+use Rattle.factor_residuals.specs.declared.loop_sums.LoopSum.{LoopSum}
 use Rattle.factor_residuals.proofs.loop_sums.loop_spot.Goals as goal
 
 pub loop-member-preserved : goal.loop-member-preserved
@@ -24,11 +24,11 @@ loop-member-preserved c =
     let flow = flows_of c.args.factors c.args.column.now.name in
     let f = λ (t : Member). signed t.forward (reactance t.branch *ℤ flow t.branch) in
     let h = λ (t : Member). unsigned_abs (reactance t.branch) in
-    let is = c.turned-round.ensures.is in
+    let is = c.with_drop-loop_sum.ensures.is in
     let x = to_z-of_z w128 c.reactance_at-reactance.result (record { sfits = c.reactance_at-reactance.type_inv }) ∙ c.reactance_at-reactance.ensures.is in
     let y = to_z-of_z w64 c.flow-flow.result (record { sfits = c.flow-flow.type_inv }) ∙ c.flow-flow.ensures.is in
     let total = ap (sum_by h) (take_more members i d within) ∙ sum_by-append h (take i members) (m ∷ []) in (
-      c.turned-round.ensures.grows i inv.0,
-      ap (λ (r : Round). r.miss) is ∙ ap₂ ◌+ℤ◌ inv.1 (ap₂ (λ (p q : ℤ). signed m.forward (p *ℤ q)) x y) ∙ sym (int_sum_more f members i d within),
-      ap (λ (r : Round). r.sizes) is ∙ ap₂ ◌+ℤ◌ inv.2 (ap (λ (p : ℤ). pos (unsigned_abs p)) x) ∙ ap pos (omega (arith, total)),
+      c.with_drop-loop_sum.ensures.grows i inv.0,
+      ap (λ (r : LoopSum). r.miss) is ∙ ap₂ ◌+ℤ◌ inv.1 (ap₂ (λ (p q : ℤ). signed m.forward (p *ℤ q)) x y) ∙ sym (int_sum_more f members i d within),
+      ap (λ (r : LoopSum). r.sizes) is ∙ ap₂ ◌+ℤ◌ inv.2 (ap (λ (p : ℤ). pos (unsigned_abs p)) x) ∙ ap pos (omega (arith, total)),
     )

@@ -18,4 +18,4 @@ returns-clause-is c = λ factors is.
     spot-is _ _ _ _ _ _ c.args.column.now.name
     (small_is c.missing_at.result (omega (arith, size)) ∙ c.missing_at.ensures.is ∙ ap₂ ◌+ℤ◌ (ap₂ ◌-ℤ◌ outflow one) other)
     (to_z-of_z w128 c.bound_at.result (record { sfits = c.bound_at.type_inv }) ∙ bound)
-    c.number_at.ensures
+    c.bus_number.ensures
