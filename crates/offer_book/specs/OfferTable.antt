@@ -8,6 +8,8 @@ use Rattle.market_data.specs.declared.participants.UnitList.{UnitList}
 use Rattle.market_model.specs.declared.participants.Block.{Block}
 use Rattle.market_model.specs.declared.participants.Side.{Side}
 use Rattle.market_model.specs.declared.participants.Side.TheVariants.{Sell, Buy}
+use Rattle.market_data.specs.Scales.{mw_places, price_places}
+use Rattle.market_model.specs.Market.{most_blocks}
 use Rattle.market_model.specs.Stairs.{stair_in, offered, room_of}
 use Rattle.record_reading.specs.Records.{Record, cell_of}
 use Rattle.record_reading.specs.Steps.{and_then, or_as, some_of}
@@ -42,8 +44,8 @@ side_in line text = if bytes_eq text (codes "sell") then Ok Sell else if bytes_e
 unfoldable pub offer_in : ℕ → Record → Result Offer OfferFault
 offer_in line r =
     and_then (number line r 0 0) (λ unit.
-    and_then (number line r 2 9) (λ quantity.
-    and_then (number line r 3 6) (λ price.
+    and_then (number line r 2 mw_places) (λ quantity.
+    and_then (number line r 3 price_places) (λ price.
     and_then (side_in line (cell_of r 1)) (λ side.
     Ok (record { unit = unit; side = side; quantity = quantity; price = price })))))
 
@@ -92,4 +94,4 @@ header = codes "unit" ∷ codes "side" ∷ codes "mw" ∷ codes "price" ∷ []
 
 -- the blocks that the bytes stand for, in the order of their records
 unfoldable pub blocks_of_table : UnitList → List ℕ → Result (List Block) OfferFault
-blocks_of_table units bytes = and_then (framed frame_fault header (Some 4000) bytes) (gather (block_in units) [] 2)
+blocks_of_table units bytes = and_then (framed frame_fault header (Some most_blocks) bytes) (gather (block_in units) [] 2)
