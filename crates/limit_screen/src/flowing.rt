@@ -124,11 +124,7 @@ fn line_flow<N: Exact>(market: &Market, line: usize, injections: &[N]) -> Result
 }
 
 /// Puts in what each bus puts into the network.
-fn put_injections<N: Exact>(
-    market: &Market,
-    dispatch: &[N],
-    out: &mut [N],
-) -> Result<(), Passed<N>>
+fn put_injections<N: Exact>(market: &Market, dispatch: &[N], out: &mut [N]) -> Result<(), Passed<N>>
     requires dispatch { length dispatch.now ≡ length market.now.blocks }
     requires out { length out.old ≡ length market.now.buses }
     ensures injections { IfOk result (λ _. map N.value out.new ≡ map (injection market.now (dispatch_of N.value dispatch.now)) (places (length market.now.buses))) }
@@ -154,11 +150,7 @@ fn put_lines<N: Exact>(market: &Market, injections: &[N], out: &mut [N]) -> Resu
 }
 
 /// What each bus puts in at a dispatch, and then the flow of each line, in 10^-9 MW.
-pub fn flows<N: Exact>(
-    market: &Market,
-    dispatch: &[N],
-    out: &mut [N],
-) -> Result<(), Passed<N>>
+pub fn flows<N: Exact>(market: &Market, dispatch: &[N], out: &mut [N]) -> Result<(), Passed<N>>
     requires dispatch { length dispatch.now ≡ length market.now.blocks }
     requires out { length out.old ≡ length market.now.buses + length market.now.lines }
     ensures count { length out.new ≡ length out.old }
