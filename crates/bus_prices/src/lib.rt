@@ -4,3 +4,6 @@
 mod pricing;
 
 pub use pricing::prices;
+
+#[cfg(test)]
+mod tests;

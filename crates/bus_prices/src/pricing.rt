@@ -34,6 +34,7 @@ fn factor_named(market: &Market, name: RowId, bus: usize) -> i64
     ensures size { unsigned_abs result < 2 ^ 63 }
     ensures is { (r : Row) → Contains (rows market.now) r → row_id market.now r ≡ name → over result (10 ^ 12) ≡ row_factor market.now r bus }
 {
+    let _lines = market.lines();
     match row_named(market, name) {
         Some(row) => factor_at(market, row, bus),
         None => unreachable!(),
@@ -57,9 +58,14 @@ fn congestion_at<N: Exact>(market: &Market, duals: &Duals<N>, bus: usize) -> Res
     ensures sum { IfOk result (λ mw. N.value mw ≡ congestion market.now (duals_at N.value duals.now) bus) }
     ensures cause { IfErr result (λ passed. IsRefusedIn (congestion_terms market.now (duals_at N.value duals.now) bus) N.bound (passed_at N.value passed)) }
 {
-    let mut sum = N::of_parts(0, 1);
+    let _lines = market.lines();
+    let mut sum: N = N::of_parts(0, 1);
     for dual in duals.limits.slice() {
-        sum = with_row(sum, opposite_pull(dual), factor_named(market, dual.row, bus))?;
+        sum = with_row(
+            sum,
+            opposite_pull(dual),
+            factor_named(market, dual.row, bus),
+        )?;
     }
     Ok(sum)
 }

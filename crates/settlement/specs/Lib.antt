@@ -1,2 +1,0 @@
-pub mod Paying
-pub mod Settled
