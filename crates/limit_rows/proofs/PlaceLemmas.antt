@@ -178,7 +178,7 @@ found_row m row l e h =
     eqb-true _ _ (ap (λ (k : ℕ). (line_at m k).row == row) (sym is) ∙ passes)
 
 -- ---- places by name
-same_name : (a b : RowId) → same_id a b ≡ true → a ≡ b
+pub same_name : (a b : RowId) → same_id a b ≡ true → a ≡ b
 same_name a b h = by (a.branch == b.branch) (a.outage == b.outage) refl refl h
   where
     by : (x y : Bool) → (a.branch == b.branch) ≡ x → (a.outage == b.outage) ≡ y → (x && y) ≡ true → a ≡ b

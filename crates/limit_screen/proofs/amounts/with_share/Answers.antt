@@ -1,4 +1,4 @@
-use Rattle.std.proofs.Common.{◌≡◌, pos, ap, sym, ◌∙◌, w64}
+use Rattle.std.proofs.Common.{ap, sym, ◌∙◌, w64}
 use Rattle.std.proofs.lemmas.Int.{to_z-of_z}
 use mir.Val.{to_z}
 use Rattle.limit_screen.proofs.FlowLemmas.{no_share}

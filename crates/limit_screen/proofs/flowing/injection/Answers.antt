@@ -1,8 +1,7 @@
-use Rattle.std.proofs.Common.{rules, Err, ◌≡◌, ◌∙◌, ap, sym, arith, length, pos, List}
+use Rattle.std.proofs.Common.{rules, Err, ◌≡◌, ◌∙◌, ap, pos, List}
 use Rattle.std.specs.Prelude.{slice_index_or}
 use Rattle.std.proofs.lemmas.Result.{IfOk-weaker, IfErr-weaker}
 use Rattle.market_data.specs.declared.participants.Bus.{Bus}
-use Rattle.market_model.specs.Dispatch.{bus_at}
 use Rattle.market_model.specs.Valued.{passed_at}
 use Rattle.limit_screen.specs.Flows.{dispatch_of}
 use Rattle.limit_screen.proofs.FlowLemmas.{demand_less, demand_refused, fixed_refusal, raised_refusal}

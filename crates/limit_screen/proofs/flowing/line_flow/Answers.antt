@@ -1,4 +1,4 @@
-use Rattle.std.proofs.Common.{rules, Err, ◌<◌, ◌≡◌, ◌∙◌, ℤ, ap, sym, length, arith, List, map, w64}
+use Rattle.std.proofs.Common.{rules, Err, ◌≡◌, ◌∙◌, ℤ, ap, sym, length, arith, map, w64}
 use Rattle.std.proofs.lemmas.Int.{to_z-of_z}
 use mir.Val.{to_z, of_z}
 use Rattle.fraction_theory.specs.Fraction.{over}

@@ -1,4 +1,4 @@
-use Rattle.std.proofs.Common.{rules, Err, ◌<◌, ◌≤◌, ◌≡◌, ◌∙◌, ap, sym, length, arith}
+use Rattle.std.proofs.Common.{rules, Err, ◌≡◌, ◌∙◌, length, arith}
 use Rattle.market_model.specs.Dispatch.{injection}
 use Rattle.limit_screen.specs.Flows.{dispatch_of, of_injection}
 use Rattle.limit_screen.proofs.FlowLemmas.{put_more, all_put}

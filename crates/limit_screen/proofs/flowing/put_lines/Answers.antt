@@ -1,4 +1,4 @@
-use Rattle.std.proofs.Common.{rules, Err, ◌<◌, ◌≤◌, ◌≡◌, ◌∙◌, ap, sym, length, map, arith}
+use Rattle.std.proofs.Common.{rules, Err, ◌≡◌, ◌∙◌, length, map, arith}
 use Rattle.market_model.specs.LimitRows.{line_flow}
 use Rattle.limit_screen.specs.Flows.{put_in}
 use Rattle.limit_screen.proofs.FlowLemmas.{put_more, all_put}

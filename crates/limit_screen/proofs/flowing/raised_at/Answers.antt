@@ -1,4 +1,4 @@
-use Rattle.std.proofs.Common.{rules, Err, ◌<◌, ◌≡◌, ◌∙◌, ℕ, Bool, ap, sym, length, pos, arith, List}
+use Rattle.std.proofs.Common.{rules, Err, ◌<◌, ◌≡◌, ◌∙◌, ap, length, pos, arith, List}
 use Rattle.std.specs.Prelude.{slice_index_or, ◌==◌}
 use Rattle.market_data.specs.declared.participants.Unit as unit
 use Rattle.market_model.specs.declared.participants.Block.{Block}

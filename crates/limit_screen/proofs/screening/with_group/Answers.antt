@@ -1,13 +1,12 @@
-use Rattle.std.proofs.Common.{rules, Err, ◌≡◌, ◌∙◌, ◌<◌, ◌++◌, ◌∷◌, [], ℕ, Bool, true, false, List, Option, map, ap, sym, subst, length, arith}
-use Rattle.std.specs.Prelude.{filter, Contains, IfSome}
+use Rattle.std.proofs.Common.{rules, Err, ◌≡◌, ◌∙◌, ◌<◌, ◌++◌, ◌∷◌, [], ℕ, List, map, ap, sym, subst, length, arith}
+use Rattle.std.specs.Prelude.{filter}
 use Rattle.std.proofs.lemmas.List.{append-nil}
 use Rattle.market_model.specs.Dispatch.{places}
 use Rattle.market_model.specs.LimitRows.{Row}
-use Rattle.limit_rows.specs.Groups.{bears, groups, rows_of}
+use Rattle.limit_rows.specs.Groups.{bears, groups}
 use Rattle.limit_rows.proofs.GroupLemmas.{rows-more}
 use Rattle.limit_rows.proofs.NumberingLemmas.{row_on}
 use Rattle.limit_rows.proofs.PlaceLemmas.{listed, row_to}
-use Rattle.limit_screen.specs.declared.screening.Broken.{Broken}
 use Rattle.limit_screen.specs.Flows.{line_in}
 use Rattle.limit_screen.specs.Screening.{IsWorstOf, excess_by, rows_to}
 use Rattle.limit_screen.proofs.ScreenLemmas.{lines_more, lines_same, lost_in}

@@ -1,4 +1,4 @@
-use Rattle.std.proofs.Common.{◌≡◌, ◌++◌, map, filter}
+use Rattle.std.proofs.Common.{◌++◌, map, filter}
 use Rattle.market_model.specs.Dispatch.{places}
 use Rattle.limit_rows.specs.Groups.{bears}
 use Rattle.limit_screen.specs.Flows.{line_in}

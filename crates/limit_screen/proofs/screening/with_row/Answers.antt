@@ -1,7 +1,7 @@
-use Rattle.std.proofs.Common.{◌≡◌, ◌∙◌, List, map, ap, ap₂, sym, subst, w64}
+use Rattle.std.proofs.Common.{◌≡◌, ◌∙◌, map, ap, ap₂, subst, w64}
 use Rattle.std.proofs.lemmas.Int.{to_z-of_z}
 use mir.Val.{to_z, of_z}
-use Rattle.fraction_theory.specs.Fraction.{Fraction, whole, ◌-ℚ◌}
+use Rattle.fraction_theory.specs.Fraction.{whole, ◌-ℚ◌}
 use Rattle.fraction_theory.specs.Order.{◌≤ℚ◌}
 use Rattle.market_model.specs.Dispatch.{zero}
 use Rattle.market_model.specs.Excess.{size_of}

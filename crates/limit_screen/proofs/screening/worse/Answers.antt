@@ -1,10 +1,7 @@
-use Rattle.std.proofs.Common.{◌≡◌, Option, Some, None, List, sym, ap, subst, subst₂, ◌∙◌}
-use Rattle.fraction_theory.specs.Fraction.{Fraction}
+use Rattle.std.proofs.Common.{subst, subst₂}
 use Rattle.fraction_theory.specs.Order.{◌<ℚ◌, ◌≤ℚ◌}
 use Rattle.market_model.specs.Dispatch.{zero}
-use Rattle.market_model.specs.LimitRows.{Row}
 use Rattle.limit_rows.specs.Places.{row_of}
-use Rattle.limit_screen.specs.declared.screening.Broken.{Broken}
 use Rattle.limit_screen.specs.Screening.{IsWorstOf}
 use Rattle.limit_screen.proofs.ScreenLemmas.{not_past, new_worst, old_worst, worse_than_old, worse_than_held}
 use Rattle.limit_screen.proofs.screening.worse.Goals as goal

@@ -1,9 +1,7 @@
-use Rattle.std.proofs.Common.{rules, Err, ◌≡◌, ◌∙◌, ◌≤◌, List, Option, Some, None, map, ap, sym, subst, length, arith}
+use Rattle.std.proofs.Common.{List, None, map, subst, arith}
 use Rattle.market_model.specs.LimitRows.{Row, rows}
-use Rattle.limit_rows.specs.Groups.{groups}
 use Rattle.limit_rows.specs.Places.{row_of}
 use Rattle.limit_rows.proofs.PlaceLemmas.{at_places}
-use Rattle.limit_screen.specs.declared.screening.Broken.{Broken}
 use Rattle.limit_screen.specs.Flows.{line_in}
 use Rattle.limit_screen.specs.Screening.{IsFirstMost, IsWorstOf, excess_by, rows_to}
 use Rattle.limit_screen.proofs.ScreenLemmas.{all_rows, all_hold_by, listed_row, worst_named}

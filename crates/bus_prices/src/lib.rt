@@ -1,0 +1,9 @@
+//! Bus prices of the duals of an answer.
+#![tactic(auto)]
+
+mod pricing;
+
+pub use pricing::prices;
+
+#[cfg(test)]
+mod tests;
