@@ -10,6 +10,7 @@ mod ModestChoices
 mod ModestMarkets
 mod ModestNumbers
 pub mod ModestPairs
+pub mod PairCases
 pub mod PairLaws
 mod RangeRows
 pub mod RowOrder
