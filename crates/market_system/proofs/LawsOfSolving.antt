@@ -3,7 +3,6 @@ use Rattle.std.specs.Prelude.{◌≡◌, ℕ, ◌+◌, ◌<◌, List, [], ◌∷
 use Rattle.std.proofs.Common.{suc, arith, ap, sym, ◌∙◌, subst, get_or}
 use Rattle.std.proofs.lemmas.List.{get_or-map}
 use Rattle.std.proofs.lemmas.List.FromFn.{length-range_with_len, get_or-range_with_len}
-use Rattle.fraction_theory.proofs.OrderLaws.{≤ℚ_of_same}
 use Rattle.market_model.specs.declared.participants.Parts.{Parts}
 use Rattle.market_model.specs.Dispatch.{places, output, demand}
 use Rattle.market_model.specs.Optimality.{congestion, bus_price}
@@ -12,9 +11,9 @@ use Rattle.market_system.specs.SolvedLaws.{LawOfTheSystem, LawOfThePoints, LawOf
 use Rattle.limit_rows.proofs.ApartLemmas.{names_apart}
 use Rattle.market_system.proofs.DualLists.{rows_apart}
 use Rattle.market_system.proofs.GrowthLaws.{broken_is_new, growth_none, growth_more, growth_again, growth_rows, rows_few}
-use Rattle.market_system.proofs.MarketPoints.{is_system_of, point_of, point_meets, point_within, point_welfare, dispatch_at, dispatch_feasible, dispatch_welfare}
+use Rattle.market_system.proofs.MarketPoints.{is_system_of, point_of, point_meets, point_within, point_welfare, point-block, dispatch_feasible, dispatch_welfare}
 use Rattle.market_system.proofs.SolvedMarkets.{solved_best, solved_proper, solved_supports, reduced-block}
-use Rattle.market_system.proofs.StuckMarkets.{stuck_bound, stuck_shows, stuck_proper}
+use Rattle.market_system.proofs.StuckMarkets.{stuck_bound, stuck_shows, stuck_proper, stuck_of_choice}
 use Rattle.market_system.proofs.SystemLaws.{from_places}
 
 pub law_of_the_system : LawOfTheSystem
@@ -24,8 +23,9 @@ pub law_of_the_points : LawOfThePoints
 law_of_the_points m g market all =
     let apart = rows_apart m (names_apart m market) in
     record {
-      point = λ x f. (point_of m apart g market x, point_meets m apart g market x, point_within m apart g market x f, point_welfare m apart g market x);
-      dispatch = λ v meets within. (dispatch_at m apart g market v, dispatch_feasible m apart g market v meets all within, ≤ℚ_of_same _ _ (sym (dispatch_welfare m apart g market v)));
+      point = λ x f. (point_of m apart g market x, point_meets m apart g market x, point_within m apart g market x f, point_welfare m apart g market x,
+          λ j c. point-block m apart g market x j (from_places (length m.blocks) j c));
+      dispatch = λ v meets within. (dispatch_feasible m apart g market v meets all within, sym (dispatch_welfare m apart g market v));
     }
 
 pub law_of_the_solved : LawOfTheSolved
@@ -39,12 +39,15 @@ law_of_the_solved m g h market all choice solved =
     }
 
 pub law_of_the_stuck : LawOfTheStuck
-law_of_the_stuck m g h b above market choice ordered stuck =
+law_of_the_stuck m g h b above market all choice stuck =
     let names = names_apart m market in
     record {
-      shows = stuck_shows m names market g h choice ordered b above stuck;
-      proper = stuck_proper m names market g h choice ordered b above stuck;
-      bound = sym (stuck_bound m names market g h choice ordered b above stuck);
+      farkas = record {
+        shows = stuck_shows m names market g h choice b above stuck;
+        proper = stuck_proper m names market g h choice b above stuck;
+        bound = sym (stuck_bound m names market g h choice b above stuck);
+      };
+      of_choice = stuck_of_choice m names market g h choice b above stuck all;
     }
 
 pub law_of_growth : LawOfGrowth

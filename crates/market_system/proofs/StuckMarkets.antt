@@ -1,6 +1,6 @@
 -- A basic variable of a market's system that is stuck beyond a bound: its duals, up to the one sign, show that no dispatch of the market is
 -- feasible, and their bound is what the variable lacks.
-use Rattle.std.specs.Prelude.{◌≡◌, ◌≢◌, ℕ, ◌<◌, ◌==◌, pos, Bool, true, false, not, List, [], ◌∷◌, length, map, filter, if◌then◌else◌, Contains, refl, ◌⊎◌}
+use Rattle.std.specs.Prelude.{◌≡◌, ◌≢◌, ℕ, ◌<◌, ◌==◌, ℤ, pos, ◌≤ℤ◌, Option, Some, None, IfSome, Bool, true, false, not, List, [], ◌∷◌, length, map, filter, if◌then◌else◌, Contains, refl, ◌⊎◌}
 use Rattle.std.proofs.Common.{zero, suc, arith, ap, ap₂, sym, ◌∙◌, subst, subst₂, inl, inr}
 use Rattle.fraction_theory.specs.Fraction.{Fraction, whole, neg_ℚ, ◌+ℚ◌, ◌-ℚ◌, ◌*ℚ◌}
 use Rattle.fraction_theory.specs.Order.{NonNeg, ◌≤ℚ◌, ◌<ℚ◌}
@@ -10,7 +10,7 @@ use Rattle.fraction_theory.specs.declared.Sign.TheVariants.{Below, Zero, Above}
 use Rattle.fraction_theory.specs.Sums.{sum_by}
 use Rattle.fraction_theory.proofs.Ring.{by_ring, by_ring1, by_ring2, at, pnil, pone, pneg, ◌⊕◌, ◌⊗◌}
 use Rattle.fraction_theory.proofs.FieldLaws.{ring_ℚ}
-use Rattle.fraction_theory.proofs.OrderLaws.{≤ℚ_refl, ≤ℚ_trans, ≤ℚ_of_same, ≤ℚ_antisym, <ℚ-≤ℚ, *ℚ-≤ℚ, *ℚ-≤ℚ_neg, NonNeg_from, le_to, by_le1, NonNeg-one}
+use Rattle.fraction_theory.proofs.OrderLaws.{≤ℚ_refl, ≤ℚ_trans, ≤ℚ_of_same, ≤ℚ_antisym, <ℚ-≤ℚ, *ℚ-≤ℚ, *ℚ-≤ℚ_neg, NonNeg_from, NonNeg-plus, le_to, by_le1, NonNeg-one, whole-≤ℚ}
 use Rattle.fraction_theory.proofs.SignLaws.{sign_of_is}
 use Rattle.fraction_theory.proofs.SumLaws.{sum_by-same, sum_by-nil}
 use Rattle.fraction_theory.proofs.ListSums.{kept, put_at, put_at-here, put_at-elsewhere, same_or_not, sum_by-filter, sum_by-members}
@@ -23,16 +23,19 @@ use Rattle.simplex_theory.proofs.NameSums.{signed-sum}
 use Rattle.simplex_theory.proofs.StuckRows.{combined, corner, combined_vanishes, corner_reaches, corner_within, margin_below, each_most}
 use Rattle.market_model.specs.declared.answered.Duals.{Duals}
 use Rattle.market_model.specs.declared.participants.Parts.{Parts}
-use Rattle.market_model.specs.Dispatch.{Dispatch, zero as nil, places, block_at, quantity, balance, empty}
+use Rattle.market_model.specs.Dispatch.{Dispatch, zero as nil, places, block_at, line_at, quantity, balance, empty}
 use Rattle.market_model.specs.Infeasibility.{part_above, where_above, block_weight, farkas_bound, ShowsInfeasible}
-use Rattle.market_model.specs.LimitRows.{Row, rows, limit, flow}
+use Rattle.market_model.specs.LimitRows.{Cause, Base, After, Row, rows, mw_or_zero, limit_in, limit, flow}
 use Rattle.market_model.specs.Market.{IsMarket}
 use Rattle.market_model.specs.Optimality.{pull, up_of, down_of, ProperDuals}
 use Rattle.market_model.proofs.FarkasLaw.{farkas_bound-by_parts, left_of}
 use Rattle.market_system.specs.MarketSystem.{balance_name, row_name, is_in, in_order, needed, block_sign, block_coefficient, least_added, most_added, system_over, system_of, duals_by}
-use Rattle.market_system.proofs.RowOrder.{in_order-from}
-use Rattle.market_system.proofs.DualLists.{NamesApart, rows_apart, up_by, down_by, up_sign, down_sign, up-made, down-made, pull-made, proper-made, in_order-filter}
-use Rattle.market_system.proofs.MarketPoints.{is_system_of, both_parts, low-block, high-block, low-balance, high-balance, low-row, high-row, block_in, balance_in, row_in}
+use Rattle.limit_rows.proofs.FactorLemmas.{stands}
+use Rattle.market_model.specs.NamedSums.{SameSize}
+use Rattle.market_system.specs.MarketNumbers.{IsFarkasOf}
+use Rattle.market_system.proofs.RowOrder.{in_order-from, is_in-in, is_in-from}
+use Rattle.market_system.proofs.DualLists.{NamesApart, rows_apart, one_is_nil, up_by, down_by, up_sign, down_sign, up-made, down-made, pull-made, proper-made, in_order-filter}
+use Rattle.market_system.proofs.MarketPoints.{IsNameOf, of_block, of_balance, of_row, name_of, is_system_of, both_parts, low-block, high-block, low-balance, high-balance, low-row, high-row, block_in, balance_in, row_in}
 use Rattle.market_system.proofs.SolvedMarkets.{rows-at, weight-made}
 use Rattle.market_system.proofs.SystemLaws.{in_places, from_places}
 
@@ -73,8 +76,34 @@ row_most k l f c low high most = by (sign_of k) refl
     by Above e = by_ring ring_ℚ (k ∷ l ∷ f ∷ []) (at 0 ⊗ (at 1 ⊕ pneg (at 2)) ⊕ (pnil ⊗ (at 1 ⊕ at 2) ⊕ pnil)) (at 0 ⊗ (at 1 ⊕ pneg (at 2))) refl
         ∙ sym (most_high k (neg_ℚ l -ℚ f) (l -ℚ f) c low high most (<ℚ-≤ℚ nil k (sign_of_is k Above e)))
 
+-- ---- in a market low bounds are at most the high ones
+at_least_nil : (o : Option ℤ) → IfSome o (λ mw. pos 0 ≤ℤ mw) → nil ≤ℚ mw_or_zero o
+at_least_nil None h = ≤ℚ_refl nil
+at_least_nil (Some mw) h = whole-≤ℚ (pos 0) mw h
+
+limit_sign : (m : Parts) → IsMarket m → (r : Row) → r.line < length m.lines → nil ≤ℚ limit m r
+limit_sign m market r lt = by r.line r.cause lt
+  where
+    by : (l : ℕ) (c : Cause) → l < length m.lines → nil ≤ℚ limit_in m l c
+    by l Base lt = at_least_nil (line_at m l).base (market.lines l _ lt).base
+    by l (After lost) lt = at_least_nil (line_at m l).post (market.lines l _ lt).post
+
+bounds_ordered : (m : Parts) (names : NamesApart m) → IsMarket m → (g : List Row) → (w : ℕ) → Contains (system_of m g).variables w → (system_of m g).low w ≤ℚ (system_of m g).high w
+bounds_ordered m names market g w c = by w (name_of m (rows_apart m names) g w c)
+  where
+    by : (w : ℕ) → IsNameOf m (rows_apart m names) g w → (system_of m g).low w ≤ℚ (system_of m g).high w
+    by w (of_block j lt) = subst₂ ◌≤ℚ◌ (sym (low-block m (rows_apart m names) g j lt)) (sym (high-block m (rows_apart m names) g j lt))
+        (whole-≤ℚ (pos 0) (block_at m j).quantity (market.blocks j _ lt).quantity)
+    by w of_balance = ≤ℚ_of_same _ _ (low-balance m (rows_apart m names) g ∙ sym (high-balance m (rows_apart m names) g))
+    by w (of_row r c) = subst₂ ◌≤ℚ◌ (sym (low-row m (rows_apart m names) g r c)) (sym (high-row m (rows_apart m names) g r c))
+        (by_le1 (limit m r ∷ flow m (empty m) r ∷ []) (pneg (at 0) ⊕ pneg (at 1)) (at 0 ⊕ pneg (at 1)) (pone ⊕ pone) pnil (at 0) (NonNeg-plus (whole (pos 1)) (whole (pos 1)) NonNeg-one NonNeg-one)
+        (limit_sign m market r (stands m market r (in_order-from m g r c).0).line) refl)
+
 module _ (m : Parts) (names : NamesApart m) (market : IsMarket m) (g : List Row) (h : Choice) (choice : IsChoice (system_of m g) h)
-    (ordered : (w : ℕ) → Contains (system_of m g).variables w → (system_of m g).low w ≤ℚ (system_of m g).high w) (b : ℕ) (above : Bool) (stuck : IsStuck (system_of m g) h b above) where
+    (b : ℕ) (above : Bool) (stuck : IsStuck (system_of m g) h b above) where
+  ordered : (w : ℕ) → Contains (system_of m g).variables w → (system_of m g).low w ≤ℚ (system_of m g).high w
+  ordered = bounds_ordered m names market g
+
   abbrev s : System
   s = system_of m g
 
@@ -228,3 +257,48 @@ module _ (m : Parts) (names : NamesApart m) (market : IsMarket m) (g : List Row)
 
   pub stuck_proper : ProperDuals m stuck_duals
   stuck_proper = proper-made m names (neg_ℚ (turned (balance_name m))) (λ r. turned (row_name m r)) g
+
+  -- and their numbers are those of the choice
+  turned_size : (w : ℕ) → SameSize (turned w) (multiplier h b w)
+  turned_size w = by above
+    where
+      by : (a : Bool) → SameSize (signed (not a) (multiplier h b w)) (multiplier h b w)
+      by true = inl refl
+      by false = inr refl
+
+  neg_size : (x y : Fraction) → SameSize x y → SameSize (neg_ℚ x) y
+  neg_size x y (inl e) = inr (ap neg_ℚ e)
+  neg_size x y (inr e) = inl (ap neg_ℚ e ∙ by_ring ring_ℚ (y ∷ []) (pneg (pneg (at 0))) (at 0) refl)
+
+  pub stuck_of_choice : ((r : Row) → Contains g r → Contains (rows m) r) → IsFarkasOf m g h stuck_duals
+  stuck_of_choice all = record {
+    shows = stuck_shows;
+    basic = b;
+    is_basic = stuck.basic;
+    energy = neg_size (turned (balance_name m)) (multiplier h b (balance_name m)) (turned_size (balance_name m));
+    limits = λ r c. subst (λ x. SameSize x (multiplier h b (row_name m r))) (sym (pulled r (all r c) (is_in-in g r c))) (turned_size (row_name m r));
+    one_sided = λ r c. elim (one_is_nil (turned (row_name m r))) [
+      | inl e ↦ inl (up-made m names energy_price costs g r (all r c) ∙ ap (λ (t : Bool). if t then up_by (sign_of (costs r)) (costs r) else nil) (is_in-in g r c) ∙ e)
+      | inr e ↦ inr (down-made m names energy_price costs g r (all r c) ∙ ap (λ (t : Bool). if t then down_by (sign_of (costs r)) (costs r) else nil) (is_in-in g r c) ∙ e)
+    ];
+    no_others = λ r c n. (
+      up-made m names energy_price costs g r c ∙ ap (λ (t : Bool). if t then up_by (sign_of (costs r)) (costs r) else nil) (absent r n),
+      down-made m names energy_price costs g r c ∙ ap (λ (t : Bool). if t then down_by (sign_of (costs r)) (costs r) else nil) (absent r n),
+    );
+  }
+    where
+      energy_price : Fraction
+      energy_price = neg_ℚ (turned (balance_name m))
+
+      costs : Row → Fraction
+      costs r = turned (row_name m r)
+
+      pulled : (r : Row) → Contains (rows m) r → is_in g r ≡ true → pull m stuck_duals r ≡ costs r
+      pulled r c e = pull-made m names energy_price costs g r c ∙ ap (λ (t : Bool). if t then costs r else nil) e
+
+      absent : (r : Row) → ¬ (Contains g r) → is_in g r ≡ false
+      absent r n = by (is_in g r) refl
+        where
+          by : (t : Bool) → is_in g r ≡ t → is_in g r ≡ false
+          by true e = absurd (n (is_in-from g r e))
+          by false e = e

@@ -2,7 +2,6 @@
 -- Sources: linear programs with bounded variables (Chvátal, Linear Programming); Farkas; Schweppe and others, Spot Pricing of Electricity.
 use Rattle.std.specs.Prelude.{◌≡◌, ◌≢◌, ℕ, ◌≤◌, Bool, not, List, [], ◌∷◌, ◌++◌, length, map, AllPairs, Contains}
 use Rattle.fraction_theory.specs.Fraction.{Fraction, neg_ℚ, ◌+ℚ◌}
-use Rattle.fraction_theory.specs.Order.{◌≤ℚ◌}
 use Rattle.linear_system.specs.Systems.{System, IsSystem, MeetsRows, InBounds, objective}
 use Rattle.linear_system.specs.Choices.{Choice, IsChoice, value, reduced}
 use Rattle.simplex_theory.specs.States.{State, IsSolved}
@@ -12,7 +11,7 @@ use Rattle.market_model.specs.declared.answered.Answer.{Answer}
 use Rattle.market_model.specs.declared.answered.Duals.{Duals}
 use Rattle.market_model.specs.declared.answered.Farkas.{Farkas}
 use Rattle.market_model.specs.declared.participants.Parts.{Parts}
-use Rattle.market_model.specs.Dispatch.{Dispatch, places, block_at, signed as raised, output, demand}
+use Rattle.market_model.specs.Dispatch.{Dispatch, accepted, places, block_at, signed as raised, output, demand}
 use Rattle.market_model.specs.Frame.{SameFrame}
 use Rattle.market_model.specs.Infeasibility.{IsFarkas}
 use Rattle.market_model.specs.LimitRows.{Row, rows, flow}
@@ -21,6 +20,7 @@ use Rattle.market_model.specs.Optimality.{Within, FeasibleFor, Feasible, Support
 use Rattle.market_model.specs.RightAnswers.{IsRight, rent_of}
 use Rattle.market_model.specs.Settlement.{paid, pays, surplus}
 use Rattle.market_system.specs.Growth.{Broken, BestFor, Growth}
+use Rattle.market_system.specs.MarketNumbers.{IsFarkasOf}
 use Rattle.market_system.specs.MarketSystem.{balance_name, row_name, in_order, system_of, choice_dispatch, duals_by, choice_duals}
 
 -- rows of the market, no two of them one
@@ -33,11 +33,14 @@ pub record AreRows (m : Parts) (g : List Row) : Type 0 where
 abbrev pub LawOfTheSystem : Type 0
 LawOfTheSystem = (m : Parts) (g : List Row) → IsMarket m → IsSystem (system_of m g)
 
--- A dispatch that is feasible for the rows gives a point within the bounds that is worth its welfare, and a point within the bounds gives a
--- dispatch that is feasible for them, of at least its worth.
+-- A dispatch that is feasible for the rows gives a point within the bounds, with its MW at the blocks, that is worth its welfare; and the
+-- blocks of a point within the bounds are a dispatch that is feasible for them, of its worth.
 pub record PointsAreDispatches (m : Parts) (g : List Row) : Type 0 where
-  pub point : (x : Dispatch) → FeasibleFor m g x → (v : ℕ → Fraction) × MeetsRows (system_of m g) v × InBounds (system_of m g) v × (objective (system_of m g) v ≡ welfare m x)
-  pub dispatch : (v : ℕ → Fraction) → MeetsRows (system_of m g) v → InBounds (system_of m g) v → (x : Dispatch) × FeasibleFor m g x × (objective (system_of m g) v ≤ℚ welfare m x)
+  pub point : (x : Dispatch) → FeasibleFor m g x
+      → (v : ℕ → Fraction) × MeetsRows (system_of m g) v × InBounds (system_of m g) v × (objective (system_of m g) v ≡ welfare m x)
+      × ((j : ℕ) → Contains (places (length m.blocks)) j → v j ≡ accepted x j)
+  pub dispatch : (v : ℕ → Fraction) → MeetsRows (system_of m g) v → InBounds (system_of m g) v
+      → FeasibleFor m g (record { blocks = map v (places (length m.blocks)) }) × (objective (system_of m g) v ≡ welfare m (record { blocks = map v (places (length m.blocks)) }))
 
 abbrev pub LawOfThePoints : Type 0
 LawOfThePoints = (m : Parts) (g : List Row) → IsMarket m → ((r : Row) → Contains g r → Contains (rows m) r) → PointsAreDispatches m g
@@ -87,11 +90,15 @@ abbrev pub stuck_duals : Parts → List Row → Choice → ℕ → Bool → Dual
 stuck_duals m g h b above =
     duals_by m (neg_ℚ (signed (not above) (multiplier h b (balance_name m)))) (λ r. signed (not above) (multiplier h b (row_name m r))) (in_order m g)
 
--- where a variable is stuck they show that no dispatch of the market is feasible, and their bound is what it leaves of the bound that it violates
+-- Where a variable is stuck they show that no dispatch of the market is feasible, and their bound is what it leaves of the bound that it
+-- violates; and they are duals of the choice, so that their numbers are the market's.
+pub record StuckShows (m : Parts) (g : List Row) (h : Choice) (b : ℕ) (above : Bool) : Type 0 where
+  pub farkas : IsFarkas m (record { duals = stuck_duals m g h b above; bound = margin (system_of m g) h b above })
+  pub of_choice : IsFarkasOf m g h (stuck_duals m g h b above)
+
 abbrev pub LawOfTheStuck : Type 0
-LawOfTheStuck = (m : Parts) (g : List Row) (h : Choice) (b : ℕ) (above : Bool) → IsMarket m → IsChoice (system_of m g) h
-    → ((w : ℕ) → Contains (system_of m g).variables w → (system_of m g).low w ≤ℚ (system_of m g).high w) → IsStuck (system_of m g) h b above
-    → IsFarkas m (record { duals = stuck_duals m g h b above; bound = margin (system_of m g) h b above })
+LawOfTheStuck = (m : Parts) (g : List Row) (h : Choice) (b : ℕ) (above : Bool) → IsMarket m → ((r : Row) → Contains g r → Contains (rows m) r)
+    → IsChoice (system_of m g) h → IsStuck (system_of m g) h b above → StuckShows m g h b above
 
 -- ---- growth
 -- what is known of lists of rows that grow
