@@ -11,7 +11,7 @@ use Rattle.market_model.specs.declared.participants.Parts.{Parts}
 use Rattle.market_model.specs.declared.participants.Side.TheVariants.{Sell}
 use Rattle.market_model.specs.Dispatch.{places, block_at, line_at, unit_at, signed}
 use Rattle.market_model.specs.Frame.{block_frame, line_frame, frame, SameFrame}
-use Rattle.market_model.specs.LimitRows.{Row, Base, After, rows, base_rows, rows_after, has_base, has_post, place_of_line, row_factor}
+use Rattle.market_model.specs.LimitRows.{Cause, Row, Base, After, outage_of, row_id, rows, base_rows, rows_after, has_base, has_post, place_of_line, row_factor}
 use Rattle.market_system.specs.FrameLaw.{SameRows, LawOfTheFrame}
 use Rattle.market_system.specs.MarketSystem.{balance_name, row_name, is_in, in_order, block_sign, block_coefficient, of_name, coefficient_by, same_row, system_over, system_of}
 
@@ -62,6 +62,13 @@ module _ (m : Parts) where
 
   name_framed : row_name (frame m) ≡ row_name m
   name_framed = fun_ext (λ r. ap₂ (λ (n : ℕ) (rs : List Row). n + 1 + position_or_len (same_row r) rs) block_count rows_framed)
+
+  outage_framed : (c : Cause) → outage_of (frame m) c ≡ outage_of m c
+  outage_framed Base = refl
+  outage_framed (After lost) = ap (λ (k : Line). k.row) (line_framed lost)
+
+  id_framed : row_id (frame m) ≡ row_id m
+  id_framed = fun_ext (λ r. ap₂ (λ (b o : ℕ). record { branch = b; outage = o }) (ap (λ (k : Line). k.row) (line_framed r.line)) (outage_framed r.cause))
 
   sign_framed : block_sign (frame m) ≡ block_sign m
   sign_framed = fun_ext (λ j. ap (λ (b : Block). signed b.side (whole (pos 1))) (block_framed j))
@@ -120,7 +127,12 @@ alike m n g e = record {
 
 pub law_of_the_frame : LawOfTheFrame
 law_of_the_frame m n g same = (
-  sym (rows_framed m) ∙ ap rows same ∙ rows_framed n,
+  record {
+    rows = sym (rows_framed m) ∙ ap rows same ∙ rows_framed n;
+    ids = sym (id_framed m) ∙ ap row_id same ∙ id_framed n;
+    balance = sym (block_count m) ∙ ap balance_name same ∙ block_count n;
+    names = sym (name_framed m) ∙ ap row_name same ∙ name_framed n;
+  },
   joined (system_of m g) (system_of (frame m) g) (system_of n g) (back (system_of (frame m) g) (system_of m g) (system_framed m g))
       (joined (system_of (frame m) g) (system_of (frame n) g) (system_of n g) (alike (frame m) (frame n) g same) (system_framed n g)),
 )

@@ -23,8 +23,13 @@ pub law_of_the_points : LawOfThePoints
 law_of_the_points m g market all =
     let apart = rows_apart m (names_apart m market) in
     record {
-      point = λ x f. (point_of m apart g market x, point_meets m apart g market x, point_within m apart g market x f, point_welfare m apart g market x,
-          λ j c. point-block m apart g market x j (from_places (length m.blocks) j c));
+      point = λ x f. (
+        point_of m apart g market x,
+        point_meets m apart g market x,
+        point_within m apart g market x f,
+        point_welfare m apart g market x,
+        λ j c. point-block m apart g market x j (from_places (length m.blocks) j c),
+      );
       dispatch = λ v meets within. (dispatch_feasible m apart g market v meets all within, sym (dispatch_welfare m apart g market v));
     }
 

@@ -28,6 +28,7 @@ use Rattle.market_model.specs.Settlement.{surplus_terms, rent_terms}
 use Rattle.market_system.specs.Growth.{Growth}
 use Rattle.market_system.specs.MarketNumbers.{IsBest, IsInjecting, MarketNumber, of_system, is_load, is_shunt, is_limit, is_line_offset, is_shift, is_loss, is_offset, is_row_factor, is_line_flow, is_row_flow, is_injection, is_balance, is_output, is_energy, is_bus_price, is_congestion, is_up_dual, is_down_dual, of_opposite}
 use Rattle.market_system.specs.MarketSystem.{system_of, choice_dispatch, choice_duals}
+use Rattle.market_system.specs.PairLaw.{LawOfThePairs}
 use Rattle.market_system.specs.WorkingPairs.{IsMoneySum, of_welfare, of_surplus, of_rent, IsMoneyCase, IsWorkingPair, IsRangeOf}
 
 -- ---- the factors of a product
@@ -304,8 +305,10 @@ module _ (m : Parts) (taken g : List Row) (reached : Growth m taken g) (h : Choi
             let found = at_row (rows m) k (Prim.omega (arith, h, counted)) in
             let r = found.0 in
             let is_term : f r ≡ Product a b = sym found.2 ∙ e in
-            inr (subst (IsCombined Number Price) (first_of is_term) (combined_opposite Number opposite Price (pull m d r) (difference (up_of m d r) (down_of m d r) (is_up_dual r found.1) (is_down_dual r found.1))),
-            subst (Number Factor) (prefix-all (factor_terms m r i) ∙ second_of is_term) (is_row_factor r i (length (factor_terms m r i)) found.1 lt))
+            inr (
+              subst (IsCombined Number Price) (first_of is_term) (combined_opposite Number opposite Price (pull m d r) (difference (up_of m d r) (down_of m d r) (is_up_dual r found.1) (is_down_dual r found.1))),
+              subst (Number Factor) (prefix-all (factor_terms m r i) ∙ second_of is_term) (is_row_factor r i (length (factor_terms m r i)) found.1 lt),
+            )
 
     -- what is added to the price of energy
     pub of_total : (i : ℕ) → i < length m.buses → IsRefusal Plus (choice_duals m g h).energy (congestion m (choice_duals m g h) i) bound p → IsRangeOf m taken bound p
@@ -322,3 +325,28 @@ module _ (m : Parts) (taken g : List Row) (reached : Growth m taken g) (h : Choi
 
     pub of_rent_sum : (r : Row) → Contains g r → IsRefusedIn (rent_terms m (choice_dispatch m g h) (choice_duals m g h) r) bound p → IsRangeOf m taken bound p
     of_rent_sum r c = by_money best (rent_terms m (choice_dispatch m g h) (choice_duals m g h) r) (of_rent r c)
+
+pub law_of_the_pairs : LawOfThePairs
+law_of_the_pairs m taken g h bound p reached is = record {
+  system = of_system_pair m taken g reached bound p;
+  injecting = λ x injecting. record {
+    at_bus = of_injection m taken g reached h is bound p x injecting;
+    in_all = of_balance m taken g reached h is bound p x injecting;
+    of_line = of_line m taken g reached h is bound p x injecting;
+    flow_after = of_flow_after m taken g reached h is bound p x injecting;
+    high = of_high m taken g reached h is bound p x injecting;
+    low = of_low m taken g reached h is bound p x injecting;
+    excess = of_excess m taken g reached h is bound p x injecting;
+  };
+  best = λ best. record {
+    of_unit = of_output m taken g reached h is bound p best;
+    of_limits = of_congestion m taken g reached h is bound p best;
+    of_bus = of_total m taken g reached h is bound p best;
+    worth = of_welfare_sum m taken g reached h is bound p best;
+    left = of_surplus_sum m taken g reached h is bound p best;
+    earned = of_rent_sum m taken g reached h is bound p best;
+  };
+  demand = of_demand m taken g reached h is bound p;
+  limit_less = of_limit_less m taken g reached h is bound p;
+  limit_more = of_limit_more m taken g reached h is bound p;
+}

@@ -3,8 +3,8 @@ use Rattle.std.specs.Prelude.{◌≡◌, ℕ, List}
 use Rattle.linear_system.specs.Systems.{System}
 use Rattle.market_model.specs.declared.participants.Parts.{Parts}
 use Rattle.market_model.specs.Frame.{SameFrame}
-use Rattle.market_model.specs.LimitRows.{Row, rows}
-use Rattle.market_system.specs.MarketSystem.{system_of}
+use Rattle.market_model.specs.LimitRows.{Row, rows, row_id}
+use Rattle.market_system.specs.MarketSystem.{balance_name, row_name, system_of}
 
 -- the same names with the same coefficients; prices and bounds may differ
 pub record SameRows (s t : System) : Type 0 where
@@ -13,6 +13,13 @@ pub record SameRows (s t : System) : Type 0 where
   pub rows : s.rows ≡ t.rows
   pub coefficient : s.coefficient ≡ t.coefficient
 
--- markets of one frame have the same limit rows, and over the same of them systems with the same rows
+-- the same limit rows with the same names, and the same names of variables
+pub record SameNames (m n : Parts) : Type 0 where
+  pub rows : rows m ≡ rows n
+  pub ids : row_id m ≡ row_id n
+  pub balance : balance_name m ≡ balance_name n
+  pub names : row_name m ≡ row_name n
+
+-- markets of one frame have these, and over the same of their rows systems with the same rows
 abbrev pub LawOfTheFrame : Type 0
-LawOfTheFrame = (m n : Parts) (g : List Row) → SameFrame m n → (rows m ≡ rows n) × SameRows (system_of m g) (system_of n g)
+LawOfTheFrame = (m n : Parts) (g : List Row) → SameFrame m n → SameNames m n × SameRows (system_of m g) (system_of n g)

@@ -5,5 +5,6 @@ pub mod MarketNumbers
 pub mod MarketSystem
 pub mod ModestMarkets
 pub mod Outcomes
+pub mod PairLaw
 pub mod SolvedLaws
 pub mod WorkingPairs

@@ -2,6 +2,7 @@
 ghost use Rattle.market_system.specs.Completeness.{LawOfCompleteness};
 ghost use Rattle.market_system.specs.FrameLaw.{LawOfTheFrame};
 ghost use Rattle.market_system.specs.ModestMarkets.{LawOfModestMarkets};
+ghost use Rattle.market_system.specs.PairLaw.{LawOfThePairs};
 ghost use Rattle.market_system.specs.SolvedLaws.{LawOfTheSystem, LawOfThePoints, LawOfTheSolved, LawOfTheAnswer, LawOfTheStuck, LawOfGrowth};
 
 /// A market over some of its limits is a linear system, in whatever order they are listed.
@@ -39,6 +40,11 @@ pub fn stuck_is_infeasible()
 /// Limits that are taken one by one, each because a best dispatch breaks it.
 pub fn taken_limits_grow()
     ensures { LawOfGrowth }
+{}
+
+/// What is refused outside the dictionary is a working pair of the market over the limits in hand.
+pub fn refusals_are_pairs()
+    ensures { LawOfThePairs }
 {}
 
 /// Where no working pair of a market passes the bound of a type of numbers, a right outcome with
