@@ -1,11 +1,10 @@
 -- A market stays one through edits.
-use Rattle.std.specs.Prelude.{◌≡◌, ℕ, ◌+◌, ◌-◌, ◌<◌, ◌≤◌, ◌&&◌, ℤ, pos, ◌≤ℤ◌, Bool, true, false, List, [], ◌∷◌, length, map, filter, cond, Option, Some, None, is_some, option_map, unsigned_abs, All, refl, if◌then◌else◌}
+use Rattle.std.specs.Prelude.{◌≡◌, ℕ, ◌+◌, ◌-◌, ◌<◌, ◌&&◌, ℤ, pos, ◌≤ℤ◌, Bool, true, false, [], ◌∷◌, length, filter, cond, Option, Some, None, is_some, option_map, unsigned_abs, refl, if◌then◌else◌}
 use Rattle.std.specs.Int.Signed.{lt_z, lt_z_no}
-use Rattle.std.specs.List.{position, range_with_len, slice_get}
+use Rattle.std.specs.List.{range_with_len, slice_get}
 use Rattle.std.specs.Option.{option_map_or}
 use Rattle.std.specs.Ordering.{int_eq}
 use Rattle.std.proofs.Common.{zero, suc, arith, ap, sym, ◌∙◌, subst}
-use Rattle.std.proofs.lemmas.Int.{ints}
 use Rattle.std.proofs.lemmas.List.Quantifiers.{position-Some}
 use Rattle.market_data.specs.Participants.{IsDatum}
 use Rattle.market_model.specs.declared.participants.Parts.{Parts}
@@ -15,9 +14,8 @@ use Rattle.market_model.specs.Market.{IsMarket}
 use Rattle.market_model.proofs.ChangeLemmas.{kept_price, kept_quantity, kept_demand, kept_limit}
 use Rattle.offer_book.specs.declared.edit_parts.Edit.{Edit}
 use Rattle.offer_book.specs.declared.edit_parts.Edit.TheVariants as edit
-use Rattle.offer_book.specs.declared.edit_parts.EditFault.{EditFault}
 use Rattle.offer_book.specs.declared.edit_parts.EditFault.TheVariants as fault
-use Rattle.offer_book.specs.Edits.{number_of, is_block_of, place_of_block, place_of_bus, place_of_limit, limit_of, rival_of, excess, judge_quantity, judge, changed, step_of}
+use Rattle.offer_book.specs.Edits.{number_of, is_block_of, place_of_block, place_of_bus, place_of_limit, limit_of, rival_of, excess, judge_quantity, step_of}
 use Rattle.offer_book.specs.EditLaws.{LawOfEditedMarkets}
 use Rattle.offer_book.proofs.ExcessLemmas.{within_room}
 

@@ -1,6 +1,5 @@
 -- An edit keeps the frame of a market.
-use Rattle.std.specs.Prelude.{◌≡◌, ℕ, ◌&&◌, ℤ, pos, Bool, true, false, List, map, Option, Some, None, is_some, option_map, slice_set, refl, if◌then◌else◌, fold, [], ◌∷◌}
-use Rattle.std.specs.List.{position}
+use Rattle.std.specs.Prelude.{◌≡◌, ℕ, ◌&&◌, ℤ, pos, Bool, true, false, List, Option, Some, None, is_some, option_map, refl, if◌then◌else◌, [], ◌∷◌}
 use Rattle.std.specs.Option.{option_map_or}
 use Rattle.std.specs.Ordering.{int_eq}
 use Rattle.std.proofs.Common.{ap, sym, ◌∙◌}

@@ -4,3 +4,6 @@ pub mod SearchLemmas
 pub mod ExcessLemmas
 pub mod FrameOfEdits
 pub mod EditedMarkets
+pub mod CurveLemmas
+pub mod CurveTables
+pub mod CurveEdits

@@ -49,8 +49,8 @@ HasOfferCurves m = HaveOfferCurves m.units m.blocks
 
 -- ---- the laws
 -- a table of offers makes an offer curve of each unit on each side, where no unit's room is below 0
-abbrev pub LawOfTheTable : Type 0
-LawOfTheTable = (list : UnitList) (bytes : List ℕ) (blocks : List Block) → All HasSides list.units → blocks_of_table list bytes ≡ Ok blocks → HaveOfferCurves list.units blocks
+abbrev pub LawOfOfferTables : Type 0
+LawOfOfferTables = (list : UnitList) (bytes : List ℕ) (blocks : List Block) → All HasSides list.units → blocks_of_table list bytes ≡ Ok blocks → HaveOfferCurves list.units blocks
 
 -- an edit, accepted or refused, keeps offer curves
 abbrev pub LawOfOfferCurves : Type 0
@@ -60,12 +60,14 @@ LawOfOfferCurves = (m : Parts) (e : Edit) → IsMarket m → HasOfferCurves m �
 abbrev pub LawOfTheEditedFrame : Type 0
 LawOfTheEditedFrame = (m : Parts) (e : Edit) → SameFrame m (step_of m e)
 
--- a market stays one
+-- a market is one after edits
 abbrev pub LawOfEditedMarkets : Type 0
 LawOfEditedMarkets = (m : Parts) (edits : List Edit) → IsMarket m → HaveData edits → IsMarket (edited m edits)
 
+-- it has the frame that it had
 abbrev pub LawOfEditedFrames : Type 0
 LawOfEditedFrames = (m : Parts) (edits : List Edit) → SameFrame m (edited m edits)
 
+-- and its units have offer curves
 abbrev pub LawOfEditedCurves : Type 0
 LawOfEditedCurves = (m : Parts) (edits : List Edit) → IsMarket m → HaveData edits → HasOfferCurves m → HasOfferCurves (edited m edits)
