@@ -2,3 +2,8 @@ pub mod RoomLemmas
 pub mod StairLemmas
 pub mod SearchLemmas
 pub mod ExcessLemmas
+pub mod FrameOfEdits
+pub mod EditedMarkets
+pub mod CurveLemmas
+pub mod CurveTables
+pub mod CurveEdits

@@ -1,3 +1,4 @@
 pub mod OfferTable
 pub mod Offers
 pub mod Edits
+pub mod EditLaws

@@ -3,6 +3,7 @@
 
 mod edit_parts;
 mod edits;
+pub mod laws;
 mod offer_table;
 
 pub use edit_parts::{Edit, EditFault};
