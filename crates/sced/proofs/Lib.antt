@@ -1,5 +1,6 @@
 pub mod CheckingLemmas
 pub mod DecidedLemmas
 pub mod PoolingLemmas
+pub mod ReadingLemmas
 pub mod RequestLemmas
 pub mod WordsLemmas
