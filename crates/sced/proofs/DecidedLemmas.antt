@@ -6,8 +6,6 @@ use Rattle.outside_store.specs.Files.{Files}
 use Rattle.market_model.specs.declared.participants.Parts.{Parts}
 use Rattle.market_model.specs.declared.answered.Outcome.{Outcome}
 use Rattle.market_model.specs.declared.answered.Outcome.TheVariants as outcome
-use Rattle.market_model.specs.Dispatch.{Dispatch}
-use Rattle.market_model.specs.Optimality.{Feasible}
 use Rattle.market_system.specs.Outcomes.{IsCleared, IsInfeasible, IsDecided}
 use Rattle.market_system.specs.WorkingPairs.{NoPairPasses}
 use Rattle.market_system.proofs.Completeness.{law_of_completeness}

@@ -1,6 +1,5 @@
 pub mod CheckingLemmas
 pub mod DecidedLemmas
 pub mod PoolingLemmas
-pub mod ReadingLemmas
 pub mod RequestLemmas
 pub mod WordsLemmas

@@ -35,8 +35,8 @@ IsOfFiles status.ReadFailed = ⊥
 IsOfFiles status.WriteFailed = ⊥
 IsOfFiles status.Memory = ⊥
 
--- What a step that only reads leaves of a store: every file is as it was, no failed write is counted, and a failed read only where
--- the step says that it failed, of one of the files that it was asked to read.
+-- What a step that only reads leaves of a store: every file is as it was, and no failed write is counted. Where the step failed for a
+-- read, the count of failed reads of a file that it was asked to read rose; else no failed read is counted.
 pub record OnlyReads {S : Type 0} (store : Ghosts S) (old new : S) (asked : List ℕ → Type 0) (failed : Type 0) : Type 0 where
   pub same : SameFiles (store.files old) (store.files new)
   pub failed_read : failed → (file : List ℕ) × asked file × Rose (store.failed_reads old file) (store.failed_reads new file)

@@ -56,7 +56,8 @@ pub data AnswersTo (files : Option Files) (words : List (List ℕ)) (s : Status)
   pooled : (case offers : List ℕ) → AsksPool words case offers → FilesPoolTo files case offers s text → AnswersTo files words s text
   checked : (names : CheckNames) → AsksCheck words names → FilesCheckTo files names s text → AnswersTo files words s text
 
--- what is put is a text that is right for the words and their files, and the status told is the one that is right with it, but for a failed put
+-- one text is put, and the status is told that goes with it: they are right for the words and for the files that these name; a failed put
+-- tells its own status in place of the right one
 pub record PutsAnswer (files : Option Files) (words : List (List ℕ)) (before now : Option (List ℕ)) (s : Status) : Type 0 where
   pub text : List ℕ
   pub right : Status

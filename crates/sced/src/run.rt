@@ -251,8 +251,7 @@ fn asked_outcome<S: Store>(
     words: &[String],
     store: &mut S,
 ) -> Result<Outcome, Status>
-    ensures usage { IfOk result (λ outcome. outcome.status ≡ Status.Usage → AsksNothing (map string_bytes words.entry.now)) }
-    ensures nothing_asked { AsksNothing (map string_bytes words.entry.now) → MatchResult result (λ outcome. outcome.status ≡ Status.Usage) (λ status. status ≡ Status.Memory) }
+    ensures usage { MatchResult result (λ outcome. TellsUsage (map string_bytes words.entry.now) outcome.status) (TellsUsage (map string_bytes words.entry.now)) }
     ensures told { MatchResult result (λ outcome. IsTold outcome.status) IsSilent }
     ensures answers { IfOk result (λ outcome. AnswersTo (S.files store.old) (map string_bytes words.entry.now) outcome.status outcome.text.items) }
     ensures reads { OnlyReads S.Store store.old store.new (NamesFile (map string_bytes words.entry.now)) (result ≡ Err Status.ReadFailed) }
@@ -274,14 +273,14 @@ fn asked_outcome<S: Store>(
 pub fn run<S: Store, K: Sink>(alloc: Global, words: &[String], store: &mut S, out: &mut K) -> Status
     // The words are refused only where they are none that the program takes, and then always, but for a failed put and want of memory.
     ensures usage { TellsUsage (map string_bytes words.entry.now) result }
-    // Of the store it only reads, and it fails for a read only where one of a file that the words name failed.
+    // Of the store it only reads, and it ends for a failed read only where one of a file that the words name failed.
     ensures reads { OnlyReads S.Store store.old store.new (NamesFile (map string_bytes words.entry.now)) (result ≡ Status.ReadFailed) }
-    // It fails for a put only where one failed.
+    // It ends for a failed put only where one failed, and else none is counted.
     ensures faults { CountFault (result ≡ Status.WriteFailed) (K.faults out.old) (K.faults out.new) }
     // No text is put where a read failed or memory was refused.
     ensures silent { IsSilent result → K.taken out.new ≡ K.taken out.old }
-    // Else one text is put, once: it and the status are right for the whole bytes of the files that the words name, where the store
-    // tells its files.
+    // Else one text is put, once. It and the status are right for the whole bytes of the files that the words name, where the store
+    // tells its files; only a failed put has a status of its own.
     ensures told { ¬ IsSilent result → PutsAnswer (S.files store.old) (map string_bytes words.entry.now) (K.taken out.old) (K.taken out.new) result }
     // Where no two numbers of the market pass 127 bits together, a status that comes with a text tells whether a dispatch is feasible.
     ensures decided { IsTold result → IsDecidedOf (S.files store.old) (map string_bytes words.entry.now) result }

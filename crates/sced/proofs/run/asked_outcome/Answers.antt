@@ -1,8 +1,7 @@
 use Rattle.std.proofs.Common.{inl, inr}
 use Rattle.sced.specs.Told.{checked, pooled}
 use Rattle.sced.specs.Requests.{names_of}
-use Rattle.sced.proofs.PoolingLemmas.{if_ok-map}
-use Rattle.sced.proofs.ReadingLemmas.{reads-of}
+use Rattle.sced.proofs.PoolingLemmas.{if_ok-map, reads-of}
 use Rattle.sced.proofs.RequestLemmas.{asks-pool, asks-check}
 use Rattle.sced.proofs.run.asked_outcome.Goals as goal
 
@@ -13,7 +12,7 @@ returns-in-Ok-Pool-clause-answers g c =
 pub returns-in-Ok-Pool-clause-reads : goal.returns-in-Ok-Pool-clause-reads
 returns-in-Ok-Pool-clause-reads g c =
     let asks = asks-pool _ c.in-Ok-Pool.field-0 c.in-Ok-Pool.files c.in-Ok-Pool.field-0-is c.in-Ok-Pool.ensures.asked in
-    reads-of _ _ _ _ _ _ _ (λ file is. inl (c.in-Ok-Pool.files.case.now, c.in-Ok-Pool.files.offers.now, asks, is)) (λ f. f) (λ f. f) c.pool_outcome.ensures.reads
+    reads-of _ _ _ _ _ _ (λ file is. inl (c.in-Ok-Pool.files.case.now, c.in-Ok-Pool.files.offers.now, asks, is)) c.pool_outcome.ensures.reads
 
 pub returns-in-Ok-Check-clause-answers : goal.returns-in-Ok-Check-clause-answers
 returns-in-Ok-Check-clause-answers g c =
@@ -22,4 +21,4 @@ returns-in-Ok-Check-clause-answers g c =
 pub returns-in-Ok-Check-clause-reads : goal.returns-in-Ok-Check-clause-reads
 returns-in-Ok-Check-clause-reads g c =
     let asks = asks-check _ c.in-Ok-Check.field-0 c.in-Ok-Check.files c.in-Ok-Check.field-0-is c.in-Ok-Check.ensures.asked in
-    reads-of _ _ _ _ _ _ _ (λ file is. inr (names_of c.in-Ok-Check.files, asks, is)) (λ f. f) (λ f. f) c.check_files_outcome.ensures.reads
+    reads-of _ _ _ _ _ _ (λ file is. inr (names_of c.in-Ok-Check.files, asks, is)) c.check_files_outcome.ensures.reads

@@ -1,4 +1,4 @@
-use Rattle.std.proofs.Common.{inl, inr, sym, subst, ◌∙◌}
+use Rattle.std.proofs.Common.{inl, inr, sym, subst}
 use Rattle.std.specs.Prelude.{map, string_bytes}
 use Rattle.sced.specs.Runs.{IsTold}
 use Rattle.sced.specs.Told.{IsDecidedOf}
