@@ -6,8 +6,6 @@ use Rattle.outside_store.specs.Files.{Files}
 use Rattle.market_model.specs.declared.participants.Parts.{Parts}
 use Rattle.market_model.specs.declared.answered.Outcome.{Outcome}
 use Rattle.market_model.specs.declared.answered.Outcome.TheVariants as outcome
-use Rattle.market_model.specs.Dispatch.{Dispatch}
-use Rattle.market_model.specs.Optimality.{Feasible}
 use Rattle.market_system.specs.Outcomes.{IsCleared, IsInfeasible, IsDecided}
 use Rattle.market_system.specs.WorkingPairs.{NoPairPasses}
 use Rattle.market_system.proofs.Completeness.{law_of_completeness}
@@ -17,7 +15,7 @@ use Rattle.sced.specs.Words.{refuses}
 use Rattle.sced.proofs.WordsLemmas.{asks-once, not-both}
 use Rattle.market_inputs.specs.Pooling.{pool_market}
 use Rattle.sced.specs.Pooling.{most_size, status_of, ComesTo, FilesPoolTo}
-use Rattle.sced.specs.Told.{AnswersTo, refused, pooled, checked, IsDecidedOf}
+use Rattle.sced.specs.Told.{AnswersTo, refused, pooled, checked, Decides, IsDecidedOf}
 
 cleared-done : (o : Outcome Fraction) → IsCleared o → status_of o ≡ status.Done
 cleared-done (outcome.Cleared a) h = refl
@@ -29,13 +27,10 @@ infeasible-told (outcome.Cleared a) h = elim h [ ]
 infeasible-told (outcome.Infeasible f) h = refl
 infeasible-told (outcome.Range p) h = elim h [ ]
 
-abbrev Decides : Parts → Status → Type 0
-Decides m s = ((x : Dispatch) → Feasible m x → s ≡ status.Done) × (((x : Dispatch) → ¬ (Feasible m x)) → s ≡ status.Infeasible)
-
 comes-decided : (m : Parts) (s : Status) (text : List ℕ) → ComesTo (Ok m) s text → NoPairPasses m [] most_size → Decides m s
 comes-decided m s text (market, (o, right, plain, is, told)) none =
     let decided : IsDecided m o = law_of_completeness m [] most_size o market none right in
-    (λ x feasible. is ∙ cleared-done o (decided.cleared x feasible), λ empty. is ∙ infeasible-told o (decided.infeasible empty))
+    record { feasible = λ x holds. is ∙ cleared-done o (decided.cleared x holds); infeasible = λ empty. is ∙ infeasible-told o (decided.infeasible empty) }
 
 same-bytes : (a b : List ℕ) → Some a ≡ Some b → a ≡ b
 same-bytes a b e = Prim.cc
@@ -43,19 +38,19 @@ same-bytes a b e = Prim.cc
 pub answers-decided : (files : Option Files) (words : List (List ℕ)) (s : Status) (text : List ℕ) → AnswersTo files words s text → IsDecidedOf files words s
 answers-decided None words s text right = tt
 answers-decided (Some files) words s text (refused nothing usage) = record {
-  decided = λ case offers case_bytes offers_bytes m asks case_is offers_is market_is none. absurd (both nothing asks.enters.taken);
+  decided = λ m asks none. absurd (both nothing asks.asks.enters.taken);
 }
   where
     both : refuses words ≡ true → refuses words ≡ false → ⊥
     both taken given = Prim.cc
 answers-decided (Some files) words s text (checked names asked told) = record {
-  decided = λ case offers case_bytes offers_bytes m asks case_is offers_is market_is none. absurd (not-both words case offers names asks asked);
+  decided = λ m asks none. absurd (not-both words asks.case asks.offers names asks.asks asked);
 }
 answers-decided (Some files) words s text (pooled case_asked offers_asked asked told) = record {
-  decided = λ case offers case_bytes offers_bytes m asks case_is offers_is market_is none.
-      let same = asks-once words case_asked offers_asked case offers asked asks in
-      by_files case offers case_bytes offers_bytes m case_is offers_is market_is none
-      (subst (λ o. FilesPoolTo (Some files) case o s text) same.1 (subst (λ c. FilesPoolTo (Some files) c offers_asked s text) same.0 told));
+  decided = λ m asks none.
+      let same = asks-once words case_asked offers_asked asks.case asks.offers asked asks.asks in
+      by_files asks.case asks.offers asks.case_bytes asks.offers_bytes m asks.case_is asks.offers_is asks.market_is none
+      (subst (λ o. FilesPoolTo (Some files) asks.case o s text) same.1 (subst (λ c. FilesPoolTo (Some files) c offers_asked s text) same.0 told));
 }
   where
     by_files : (case offers case_bytes offers_bytes : List ℕ) (m : Parts) → files case ≡ Some case_bytes → files offers ≡ Some offers_bytes → pool_market case_bytes offers_bytes ≡ Ok m

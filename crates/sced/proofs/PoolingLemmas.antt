@@ -2,9 +2,11 @@
 use Rattle.std.proofs.Common.{◌≡◌, ℕ, List, Result, Ok, Err, Option, Some, None, refl, sym, subst, ◌∙◌}
 use Rattle.std.specs.Prelude.{IfOk, MatchResult}
 use Rattle.outside_store.specs.Files.{Files, SameFiles, Reads}
+use Rattle.outside_store.specs.declared.Store.{Ghosts}
 use Rattle.market_inputs.specs.Pooling.{pool_market}
 use Rattle.market_inputs.proofs.PoolingLemmas.{pool_market-cut}
 use Rattle.sced.specs.declared.status.Status.{Status}
+use Rattle.sced.specs.Runs.{OnlyReads}
 use Rattle.sced.specs.Pooling.{ComesTo, PoolsTo, FilesPoolTo}
 
 -- ---- files that stay as they were
@@ -21,6 +23,16 @@ same_then (Some f) None None ab bc = elim ab [ ]
 same_then (Some f) None (Some h) ab bc = elim ab [ ]
 same_then (Some f) (Some g) None ab bc = elim bc [ ]
 same_then (Some f) (Some g) (Some h) ab bc = λ n. bc n ∙ ab n
+
+-- what only reads some files only reads those of a wider choice
+pub reads-of : {S : Type 0} (store : Ghosts S) (old new : S) (asked wider : List ℕ → Type 0) (failed : Type 0) → ((file : List ℕ) → asked file → wider file)
+    → OnlyReads store old new asked failed → OnlyReads store old new wider failed
+reads-of store old new asked wider failed within h = record {
+  same = h.same;
+  failed_read = λ f. let (file, is, rose) = h.failed_read f in (file, within file is, rose);
+  reads = h.reads;
+  writes = h.writes;
+}
 
 -- what is right for the bytes that were read is right for the files
 pub files-pool : (old now : Option Files) (case offers case_read offers_read : List ℕ) (s : Status) (text : List ℕ) → SameFiles old now

@@ -1,7 +1,7 @@
 -- What is right to tell of the words of a run and of the files that they name.
 use Rattle.std.specs.Prelude.{◌≡◌, ◌⊎◌, ℕ, List, [], Option, Some, None, Ok, codes}
-use Rattle.outside_store.specs.Causes.{Rose}
 use Rattle.outside_store.specs.Files.{Files, Reads}
+use Rattle.outside_store.specs.Sinks.{Took}
 use Rattle.market_model.specs.declared.participants.Parts.{Parts}
 use Rattle.market_model.specs.Dispatch.{Dispatch}
 use Rattle.market_model.specs.Optimality.{Feasible}
@@ -32,11 +32,6 @@ abbrev pub IsTable : Files → Option (List ℕ) → List ℕ → List ℕ → T
 IsTable files (Some name) header bytes = files name ≡ Some bytes
 IsTable files None header bytes = bytes ≡ header
 
--- the count of failed reads of one of the files rose
-abbrev pub CheckReadFailed : CheckNames → (List ℕ → ℕ) → (List ℕ → ℕ) → Type 0
-CheckReadFailed names before now =
-    (file : List ℕ) × ((file ≡ names.case) ⊎ (file ≡ names.ptdf) ⊎ (names.lodf ≡ Some file) ⊎ (names.contingencies ≡ Some file)) × Rose (before file) (now file)
-
 -- the status and the text are right for the bytes of the files of these names
 pub record FilesCheck (files : Files) (names : CheckNames) (s : Status) (text : List ℕ) : Type 0 where
   pub case : List ℕ
@@ -61,11 +56,35 @@ pub data AnswersTo (files : Option Files) (words : List (List ℕ)) (s : Status)
   pooled : (case offers : List ℕ) → AsksPool words case offers → FilesPoolTo files case offers s text → AnswersTo files words s text
   checked : (names : CheckNames) → AsksCheck words names → FilesCheckTo files names s text → AnswersTo files words s text
 
--- Where the files that the words name stand for a market of which no working pair passes the bound, the status says whether a
--- dispatch of it is feasible.
+-- one text is put, and the status is told that goes with it: they are right for the words and for the files that these name; a failed put
+-- tells its own status in place of the right one
+pub record PutsAnswer (files : Option Files) (words : List (List ℕ)) (before now : Option (List ℕ)) (s : Status) : Type 0 where
+  pub text : List ℕ
+  pub right : Status
+  pub answers : AnswersTo files words right text
+  pub took : Took (s ≡ status.WriteFailed) text before now
+  pub told : (s ≡ right) ⊎ (s ≡ status.WriteFailed)
+
+-- ---- whether a dispatch is feasible
+-- the status says whether a dispatch of the market is feasible
+pub record Decides (m : Parts) (s : Status) : Type 0 where
+  pub feasible : (x : Dispatch) → Feasible m x → s ≡ status.Done
+  pub infeasible : ((x : Dispatch) → ¬ (Feasible m x)) → s ≡ status.Infeasible
+
+-- the words ask to clear this market: the files that they name stand for it
+pub record AsksMarket (files : Files) (words : List (List ℕ)) (m : Parts) : Type 0 where
+  pub case : List ℕ
+  pub offers : List ℕ
+  pub case_bytes : List ℕ
+  pub offers_bytes : List ℕ
+  pub asks : AsksPool words case offers
+  pub case_is : files case ≡ Some case_bytes
+  pub offers_is : files offers ≡ Some offers_bytes
+  pub market_is : pool_market case_bytes offers_bytes ≡ Ok m
+
+-- where the words ask to clear a market of which no working pair passes the bound, the status decides it
 pub record IsDecidedIn (files : Files) (words : List (List ℕ)) (s : Status) : Type 0 where
-  pub decided : (case offers case_bytes offers_bytes : List ℕ) (m : Parts) → AsksPool words case offers → files case ≡ Some case_bytes → files offers ≡ Some offers_bytes
-      → pool_market case_bytes offers_bytes ≡ Ok m → NoPairPasses m [] most_size → ((x : Dispatch) → Feasible m x → s ≡ status.Done) × (((x : Dispatch) → ¬ (Feasible m x)) → s ≡ status.Infeasible)
+  pub decided : (m : Parts) → AsksMarket files words m → NoPairPasses m [] most_size → Decides m s
 
 -- so it is where the store tells its files
 abbrev pub IsDecidedOf : Option Files → List (List ℕ) → Status → Type 0

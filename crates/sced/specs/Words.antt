@@ -82,15 +82,21 @@ pub record AsksCheck (words : List Text) (names : CheckNames) : Type 0 where
   pub enters : Enters words (codes "check") rows
   pub names_are : names ≡ check_names rows
 
+-- `pool` reads this file, of these two
+abbrev pub IsPoolFile : Text → Text → Text → Type 0
+IsPoolFile case offers file = (file ≡ case) ⊎ (file ≡ offers)
+
+-- `check` reads this file, of those of these names
+abbrev pub IsCheckFile : CheckNames → Text → Type 0
+IsCheckFile names file = (file ≡ names.case) ⊎ (file ≡ names.ptdf) ⊎ (names.lodf ≡ Some file) ⊎ (names.contingencies ≡ Some file)
+
 -- the words name this file for `pool` to read
 abbrev pub NamesForPool : List Text → Text → Type 0
-NamesForPool words file = (case : Text) × (offers : Text) × AsksPool words case offers × ((file ≡ case) ⊎ (file ≡ offers))
+NamesForPool words file = (case : Text) × (offers : Text) × AsksPool words case offers × IsPoolFile case offers file
 
 -- the words name this file for `check` to read
 abbrev pub NamesForCheck : List Text → Text → Type 0
-NamesForCheck words file =
-    (names : CheckNames) × AsksCheck words names
-    × ((file ≡ names.case) ⊎ (file ≡ names.ptdf) ⊎ (names.lodf ≡ Some file) ⊎ (names.contingencies ≡ Some file))
+NamesForCheck words file = (names : CheckNames) × AsksCheck words names × IsCheckFile names file
 
 -- the words name this file for reading
 abbrev pub NamesFile : List Text → Text → Type 0

@@ -1,8 +1,7 @@
 //! From words and files to the text that is put.
 
-ghost use Rattle.std.specs.Prelude.{◌≡◌, ◌≢◌, ◌⊎◌, ℕ, List, [], map, option_map, string_bytes, Some, Ok, Err, IfOk, IfErr, MatchResult};
-ghost use Rattle.outside_store.specs.Causes.{Rose, Still};
-ghost use Rattle.outside_store.specs.Files.{Reads, SameFiles};
+ghost use Rattle.std.specs.Prelude.{◌≡◌, ◌⊎◌, [], map, option_map, string_bytes, Some, Ok, Err, IfOk, IfErr, MatchResult};
+ghost use Rattle.outside_store.specs.Files.{Reads};
 ghost use Rattle.outside_store.specs.Sinks.{Took, CountFault};
 ghost use Rattle.market_model.specs.Fitting.{FitsOutcome};
 ghost use Rattle.market_system.specs.Outcomes.{IsRightOutcome};
@@ -11,11 +10,11 @@ ghost use Rattle.market_inputs.specs.Files.{most_file};
 ghost use Rattle.market_inputs.specs.Checking.{AreFit};
 ghost use Rattle.sced.specs.Pooling.{status_of, HasPlainPrice, ClearsTo, PoolsTo, FilesPoolTo};
 ghost use Rattle.refusal_text.specs.Refusals.{refusal_line};
-ghost use Rattle.sced.specs.Runs.{IsSilent, IsTold, IsOfFiles, NamedReadFailed};
-ghost use Rattle.sced.specs.Words.{AsksNothing};
+ghost use Rattle.sced.specs.Runs.{IsSilent, IsTold, IsOfFiles, OnlyReads, TellsUsage};
+ghost use Rattle.sced.specs.Words.{AsksNothing, IsCheckFile, IsPoolFile, NamesFile};
 ghost use Rattle.sced.specs.Requests.{names_of};
 ghost use Rattle.sced.specs.Checking.{TellsCheck, ChecksTo};
-ghost use Rattle.sced.specs.Told.{ReadsTable, lodf_header, contingencies_header, CheckReadFailed, FilesCheckTo, AnswersTo, IsDecidedOf};
+ghost use Rattle.sced.specs.Told.{ReadsTable, lodf_header, contingencies_header, FilesCheckTo, AnswersTo, PutsAnswer, IsDecidedOf};
 
 use crate::checking::{check_status, residuals_of};
 use crate::status::Status;
@@ -146,12 +145,9 @@ fn put<K: Sink>(out: &mut K, outcome: &Outcome) -> Status
 
 /// The bytes of a named file, cut behind the first too many.
 fn read_file<S: Store>(alloc: Global, store: &mut S, name: &str) -> Result<Vec<u8>, Status>
-    ensures same { SameFiles (S.files store.old) (S.files store.new) }
     ensures bytes { IfOk result (λ bytes. Reads (S.files store.old) name.now most_file bytes.items) }
     ensures stop { IfErr result IsSilent }
-    ensures failed { result ≡ Err Status.ReadFailed → Rose (S.failed_reads store.old name.now) (S.failed_reads store.new name.now) }
-    ensures reads { ¬ (result ≡ Err Status.ReadFailed) → Still (S.failed_reads store.old) (S.failed_reads store.new) }
-    ensures writes { Still (S.failed_writes store.old) (S.failed_writes store.new) }
+    ensures reads { OnlyReads S.Store store.old store.new (λ file. file ≡ name.now) (result ≡ Err Status.ReadFailed) }
 {
     match store.read(alloc, name, MOST_BYTES) {
         Ok(bytes) => Ok(bytes),
@@ -167,12 +163,9 @@ fn read_table<S: Store>(
     name: Option<&str>,
     header: &[u8],
 ) -> Result<Vec<u8>, Status>
-    ensures same { SameFiles (S.files store.old) (S.files store.new) }
     ensures bytes { IfOk result (λ bytes. ReadsTable (S.files store.old) (option_map (λ n. n.now) name.entry) header.now bytes.items) }
     ensures stop { IfErr result IsSilent }
-    ensures failed { result ≡ Err Status.ReadFailed → (file : List ℕ) × (option_map (λ n. n.now) name.entry ≡ Some file) × Rose (S.failed_reads store.old file) (S.failed_reads store.new file) }
-    ensures reads { ¬ (result ≡ Err Status.ReadFailed) → Still (S.failed_reads store.old) (S.failed_reads store.new) }
-    ensures writes { Still (S.failed_writes store.old) (S.failed_writes store.new) }
+    ensures reads { OnlyReads S.Store store.old store.new (λ file. option_map (λ n. n.now) name.entry ≡ Some file) (result ≡ Err Status.ReadFailed) }
 {
     match name {
         Some(name) => read_file(alloc, store, name),
@@ -203,12 +196,9 @@ fn pool_outcome<S: Store>(
     files: &PoolFiles<'_>,
     store: &mut S,
 ) -> Result<Outcome, Status>
-    ensures same { SameFiles (S.files store.old) (S.files store.new) }
     ensures told { MatchResult result (λ outcome. IsOfFiles outcome.status) IsSilent }
     ensures pooled { IfOk result (λ outcome. FilesPoolTo (S.files store.old) files.now.case.now files.now.offers.now outcome.status outcome.text.items) }
-    ensures failed { result ≡ Err Status.ReadFailed → Rose (S.failed_reads store.old files.now.case.now) (S.failed_reads store.new files.now.case.now) ⊎ Rose (S.failed_reads store.old files.now.offers.now) (S.failed_reads store.new files.now.offers.now) }
-    ensures reads { ¬ (result ≡ Err Status.ReadFailed) → Still (S.failed_reads store.old) (S.failed_reads store.new) }
-    ensures writes { Still (S.failed_writes store.old) (S.failed_writes store.new) }
+    ensures reads { OnlyReads S.Store store.old store.new (IsPoolFile files.now.case.now files.now.offers.now) (result ≡ Err Status.ReadFailed) }
 {
     let case = read_file(alloc, store, files.case)?;
     let offers = read_file(alloc, store, files.offers)?;
@@ -221,13 +211,10 @@ fn read_outages<S: Store>(
     files: &CheckFiles<'_>,
     store: &mut S,
 ) -> Result<(Vec<u8>, Vec<u8>), Status>
-    ensures same { SameFiles (S.files store.old) (S.files store.new) }
     ensures lodf { IfOk result (λ both. ReadsTable (S.files store.old) (names_of files.now).lodf lodf_header both.0.items) }
     ensures contingencies { IfOk result (λ both. ReadsTable (S.files store.old) (names_of files.now).contingencies contingencies_header both.1.items) }
     ensures stop { IfErr result IsSilent }
-    ensures failed { result ≡ Err Status.ReadFailed → CheckReadFailed (names_of files.now) (S.failed_reads store.old) (S.failed_reads store.new) }
-    ensures reads { ¬ (result ≡ Err Status.ReadFailed) → Still (S.failed_reads store.old) (S.failed_reads store.new) }
-    ensures writes { Still (S.failed_writes store.old) (S.failed_writes store.new) }
+    ensures reads { OnlyReads S.Store store.old store.new (IsCheckFile (names_of files.now)) (result ≡ Err Status.ReadFailed) }
 {
     let lodf = read_table(alloc, store, files.lodf, b"branch,outage,factor\n")?;
     let contingencies = read_table(alloc, store, files.contingencies, b"branch\n")?;
@@ -241,12 +228,9 @@ fn check_files_outcome<S: Store>(
     files: &CheckFiles<'_>,
     store: &mut S,
 ) -> Result<Outcome, Status>
-    ensures same { SameFiles (S.files store.old) (S.files store.new) }
     ensures told { MatchResult result (λ outcome. IsOfFiles outcome.status) IsSilent }
     ensures checked { IfOk result (λ outcome. FilesCheckTo (S.files store.old) (names_of files.now) outcome.status outcome.text.items) }
-    ensures failed { result ≡ Err Status.ReadFailed → CheckReadFailed (names_of files.now) (S.failed_reads store.old) (S.failed_reads store.new) }
-    ensures reads { ¬ (result ≡ Err Status.ReadFailed) → Still (S.failed_reads store.old) (S.failed_reads store.new) }
-    ensures writes { Still (S.failed_writes store.old) (S.failed_writes store.new) }
+    ensures reads { OnlyReads S.Store store.old store.new (IsCheckFile (names_of files.now)) (result ≡ Err Status.ReadFailed) }
 {
     let case = read_file(alloc, store, files.case)?;
     let ptdf = read_file(alloc, store, files.ptdf)?;
@@ -267,14 +251,10 @@ fn asked_outcome<S: Store>(
     words: &[String],
     store: &mut S,
 ) -> Result<Outcome, Status>
-    ensures usage { IfOk result (λ outcome. outcome.status ≡ Status.Usage → AsksNothing (map string_bytes words.entry.now)) }
-    ensures nothing_asked { AsksNothing (map string_bytes words.entry.now) → MatchResult result (λ outcome. outcome.status ≡ Status.Usage) (λ status. status ≡ Status.Memory) }
-    ensures same { SameFiles (S.files store.old) (S.files store.new) }
+    ensures usage { MatchResult result (λ outcome. TellsUsage (map string_bytes words.entry.now) outcome.status) (TellsUsage (map string_bytes words.entry.now)) }
     ensures told { MatchResult result (λ outcome. IsTold outcome.status) IsSilent }
     ensures answers { IfOk result (λ outcome. AnswersTo (S.files store.old) (map string_bytes words.entry.now) outcome.status outcome.text.items) }
-    ensures failed { result ≡ Err Status.ReadFailed → NamedReadFailed (map string_bytes words.entry.now) (S.failed_reads store.old) (S.failed_reads store.new) }
-    ensures reads { ¬ (result ≡ Err Status.ReadFailed) → Still (S.failed_reads store.old) (S.failed_reads store.new) }
-    ensures writes { Still (S.failed_writes store.old) (S.failed_writes store.new) }
+    ensures reads { OnlyReads S.Store store.old store.new (NamesFile (map string_bytes words.entry.now)) (result ≡ Err Status.ReadFailed) }
 {
     match request_of(alloc, words) {
         Ok(Request::Pool(files)) => pool_outcome(alloc, &files, store),
@@ -292,25 +272,18 @@ fn asked_outcome<S: Store>(
 /// The whole text is made first and put once.
 pub fn run<S: Store, K: Sink>(alloc: Global, words: &[String], store: &mut S, out: &mut K) -> Status
     // The words are refused only where they are none that the program takes, and then always, but for a failed put and want of memory.
-    ensures usage { result ≡ Status.Usage → AsksNothing (map string_bytes words.entry.now) }
-    ensures nothing_asked { AsksNothing (map string_bytes words.entry.now) → (result ≡ Status.Usage) ⊎ (result ≡ Status.WriteFailed) ⊎ (result ≡ Status.Memory) }
-
-    // A read or a put failed only where its count rose, and else the counts stay.
-    ensures read_failed { result ≡ Status.ReadFailed → NamedReadFailed (map string_bytes words.entry.now) (S.failed_reads store.old) (S.failed_reads store.new) }
-    ensures reads { ¬ (result ≡ Status.ReadFailed) → Still (S.failed_reads store.old) (S.failed_reads store.new) }
-    ensures writes { Still (S.failed_writes store.old) (S.failed_writes store.new) }
+    ensures usage { TellsUsage (map string_bytes words.entry.now) result }
+    // Of the store it only reads, and it ends for a failed read only where one of a file that the words name failed.
+    ensures reads { OnlyReads S.Store store.old store.new (NamesFile (map string_bytes words.entry.now)) (result ≡ Status.ReadFailed) }
+    // It ends for a failed put only where one failed, and else none is counted.
     ensures faults { CountFault (result ≡ Status.WriteFailed) (K.faults out.old) (K.faults out.new) }
-
-    // Every file is as it was.
-    ensures same { SameFiles (S.files store.old) (S.files store.new) }
-
-    // A text is put once, and none where a read failed or memory was refused.
+    // No text is put where a read failed or memory was refused.
     ensures silent { IsSilent result → K.taken out.new ≡ K.taken out.old }
-    // The text and a status are right for the whole bytes of the files that the words name, where the store tells its files. The
-    // result is that status, unless the put failed.
-    ensures told { ¬ IsSilent result → (text : List ℕ) × (status : Status) × Took (result ≡ Status.WriteFailed) text (K.taken out.old) (K.taken out.new) × ((result ≡ status) ⊎ (result ≡ Status.WriteFailed)) × AnswersTo (S.files store.old) (map string_bytes words.entry.now) status text }
-    // Where no two numbers of the market pass 127 bits together, the status tells whether a dispatch is feasible.
-    ensures decided { ¬ IsSilent result → result ≢ Status.WriteFailed → IsDecidedOf (S.files store.old) (map string_bytes words.entry.now) result }
+    // Else one text is put, once. It and the status are right for the whole bytes of the files that the words name, where the store
+    // tells its files; only a failed put has a status of its own.
+    ensures told { ¬ IsSilent result → PutsAnswer (S.files store.old) (map string_bytes words.entry.now) (K.taken out.old) (K.taken out.new) result }
+    // Where no two numbers of the market pass 127 bits together, a status that comes with a text tells whether a dispatch is feasible.
+    ensures decided { IsTold result → IsDecidedOf (S.files store.old) (map string_bytes words.entry.now) result }
 {
     match asked_outcome(alloc, words, store) {
         Ok(outcome) => put(out, &outcome),

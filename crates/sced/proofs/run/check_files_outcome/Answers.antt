@@ -14,5 +14,5 @@ returns-clause-checked g c =
     let contingencies : ReadsTable (g.S.Store.files c.read_file-2.new.store) names.contingencies contingencies_header c.as_slice-4.result.now = rw c.as_slice-4.ensures.value c.in_ok-lodf.ensures.contingencies in
     told-ok _ _ c.told.result c.check.result c.told.ensures
     (if_ok-map _ _ c.check.result
-    (λ outcome right. files-check _ _ _ names _ _ _ _ outcome.status outcome.text.items c.read_file.ensures.same c.read_file-2.ensures.same case ptdf lodf contingencies right)
+    (λ outcome right. files-check _ _ _ names _ _ _ _ outcome.status outcome.text.items c.read_file.ensures.reads.same c.read_file-2.ensures.reads.same case ptdf lodf contingencies right)
     c.check.ensures.checks)
