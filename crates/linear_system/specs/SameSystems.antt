@@ -3,6 +3,13 @@ use Rattle.std.specs.Prelude.{◌≡◌, ℕ}
 use Rattle.std.specs.List.{Contains}
 use Rattle.linear_system.specs.Systems.{System}
 
+-- the same names, with the same coefficients at these; prices and bounds may differ
+pub record SameRows (s t : System) : Type 0 where
+  pub variables : s.variables ≡ t.variables
+  pub columns : s.columns ≡ t.columns
+  pub rows : s.rows ≡ t.rows
+  pub coefficient : (r j : ℕ) → Contains s.rows r → Contains s.columns j → s.coefficient r j ≡ t.coefficient r j
+
 -- the same names, with the same coefficients, prices and bounds at these
 pub record SameSystem (s t : System) : Type 0 where
   pub variables : s.variables ≡ t.variables
