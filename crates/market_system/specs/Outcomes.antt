@@ -1,5 +1,5 @@
 -- What is right to print of a market.
-use Rattle.std.specs.Prelude.{ℕ, List}
+use Rattle.std.specs.Prelude.{◌≡◌, ℕ, List, []}
 use Rattle.fraction_theory.specs.Fraction.{Fraction}
 use Rattle.market_model.specs.declared.participants.Parts.{Parts}
 use Rattle.market_model.specs.declared.answered.Outcome.{Outcome}
@@ -9,6 +9,8 @@ use Rattle.market_model.specs.Infeasibility.{IsFarkas}
 use Rattle.market_model.specs.LimitRows.{Row}
 use Rattle.market_model.specs.Optimality.{Feasible}
 use Rattle.market_model.specs.RightAnswers.{IsRight}
+use Rattle.market_system.specs.Growth.{Growth}
+use Rattle.market_system.specs.SolvedLaws.{AreRows}
 use Rattle.market_system.specs.WorkingPairs.{IsRangeOf}
 
 -- a cleared market has a right answer, and an infeasible one duals that show it, with their bound; where numbers of a type
@@ -32,3 +34,16 @@ IsInfeasible (outcome.Range p) = ⊥
 pub record IsDecided (m : Parts) (o : Outcome Fraction) : Type 0 where
   pub cleared : (x : Dispatch) → Feasible m x → IsCleared o
   pub infeasible : ((x : Dispatch) → ¬ (Feasible m x)) → IsInfeasible o
+
+-- ---- one clear after another
+-- the rows that are taken after an outcome: those taken before, grown, or none where numbers became too large
+abbrev pub IsTakenAfter : Parts → List Row → Outcome Fraction → List Row → Type 0
+IsTakenAfter m before (outcome.Cleared a) after = Growth m before after
+IsTakenAfter m before (outcome.Infeasible f) after = Growth m before after
+IsTakenAfter m before (outcome.Range p) after = after ≡ []
+
+-- a clear of the market that begins with these rows taken comes to this outcome, and ends with those
+pub record IsClear (bound : ℕ) (m : Parts) (before : List Row) (o : Outcome Fraction) (after : List Row) : Type 0 where
+  pub rows : AreRows m before
+  pub right : IsRightOutcome bound m before o
+  pub taken : IsTakenAfter m before o after
