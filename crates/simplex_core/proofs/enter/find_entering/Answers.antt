@@ -1,4 +1,4 @@
-use Rattle.std.proofs.Common.{◌≡◌, ◌<◌, ◌+◌, ◌∙◌, ℕ, Bool, Option, arith, sym, subst, length, slice_index}
+use Rattle.std.proofs.Common.{◌<◌, ◌+◌, ℕ, Bool, Option, arith, sym, subst, length, slice_index}
 use Rattle.std.specs.List.{Contains}
 use Rattle.linear_dict.specs.Dictionaries.{Dictionary, system_of}
 use Rattle.linear_dict.proofs.SplitLemmas.{Contains-at, in_others}

@@ -1,9 +1,9 @@
-use Rattle.std.proofs.Common.{◌≡◌, ◌<◌, ◌∙◌, ℕ, arith, sym, subst, length, slice_index}
+use Rattle.std.proofs.Common.{◌<◌, ◌∙◌, ℕ, arith, sym, subst, length, slice_index}
 use Rattle.std.specs.List.{Contains}
 use Rattle.linear_dict.specs.Dictionaries.{Dictionary, system_of}
 use Rattle.linear_dict.specs.Notes.{Noted, noted}
 use Rattle.linear_dict.proofs.SplitLemmas.{Contains-at}
-use Rattle.simplex_theory.specs.States.{IsWithin, Violates}
+use Rattle.simplex_theory.specs.States.{Violates}
 use Rattle.simplex_theory.specs.Steps.{Leaves}
 use Rattle.simplex_core.specs.States.{state_of}
 use Rattle.simplex_core.proofs.Helping.{low_is, high_is, value_is}
