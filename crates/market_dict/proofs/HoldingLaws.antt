@@ -1,5 +1,5 @@
 -- What a dictionary that holds a market says of it.
-use Rattle.std.specs.Prelude.{◌≡◌, ◌≢◌, ℕ, ◌+◌, ◌-◌, ◌*◌, ◌<◌, pos, Bool, true, false, if◌then◌else◌, List, [], ◌∷◌, ◌++◌, ◌⊎◌, length, map, filter, slice_index, All, AllPairs, Contains, refl}
+use Rattle.std.specs.Prelude.{◌≡◌, ◌≢◌, ℕ, ◌+◌, ◌-◌, ◌*◌, ◌<◌, pos, Bool, if◌then◌else◌, List, [], ◌∷◌, ◌++◌, ◌⊎◌, length, map, slice_index, All, Contains, refl}
 use Rattle.std.specs.List.{flat_map}
 use Rattle.std.proofs.Common.{zero, suc, arith, ap, ap₂, sym, ◌∙◌, subst, subst₂, inl, inr, get_or}
 use Rattle.std.proofs.lemmas.Grind.{flat_map-append}
@@ -12,7 +12,7 @@ use Rattle.fraction_theory.proofs.OrderLaws.{≤ℚ_refl, by_le1, NonNeg-one, No
 use Rattle.fraction_theory.proofs.Ring.{at, pnil, pone, pneg, ◌⊕◌}
 use Rattle.fraction_theory.proofs.ListSums.{same_or_not, Contains-head, Contains-cons, Contains-cases, Contains-filter, Contains-from_filter}
 use Rattle.exact_fraction.specs.declared.Passed.{Passed}
-use Rattle.linear_system.specs.Choices.{Choice, IsChoice, value, reduced}
+use Rattle.linear_system.specs.Choices.{IsChoice, value, reduced}
 use Rattle.linear_system.specs.SameSystems.{SameRows, SameSystem}
 use Rattle.linear_system.specs.Systems.{System, IsSystem}
 use Rattle.linear_system.proofs.SameSystems.{same_choice_of, same_pair, same_rows_choice}
@@ -22,9 +22,9 @@ use Rattle.linear_dict.specs.Places.{place_in, is_among}
 use Rattle.linear_dict.specs.Tables.{cell}
 use Rattle.linear_dict.proofs.NameLemmas.{lt_or_le, place_in-at, among-tells, among-from}
 use Rattle.linear_dict.proofs.SplitLemmas.{Contains-at, system_is}
-use Rattle.simplex_theory.specs.States.{State, IsSolved}
+use Rattle.simplex_theory.specs.States.{IsSolved}
 use Rattle.simplex_theory.specs.Stuck.{margin}
-use Rattle.simplex_theory.proofs.SameStates.{same_value, same_reduced, same_solved, same_stuck, same_margin, alike_solved}
+use Rattle.simplex_theory.proofs.SameStates.{same_value, same_reduced, same_solved, same_stuck, alike_solved}
 use Rattle.simplex_core.specs.Outcomes.{Keeps, ShowsChoice, IsEmptyAt}
 use Rattle.simplex_core.specs.Posings.{IsPosing, IsPairPosed}
 use Rattle.simplex_core.specs.States.{state_of}
@@ -46,7 +46,7 @@ use Rattle.market_system.proofs.MarketPoints.{IsNameOf, of_block, of_balance, of
 use Rattle.market_system.proofs.RowOrder.{RowsApart, in_order-in, in_order-from, one_name, pairs-append}
 use Rattle.market_system.proofs.StuckMarkets.{limit_sign}
 use Rattle.market_system.proofs.SystemLaws.{in_places, from_places}
-use Rattle.market_dict.specs.Holding.{taken_names, taken_coefficients, Holds, HoldsSystem, lows, highs}
+use Rattle.market_dict.specs.Holding.{taken_coefficients, Holds, HoldsSystem, lows, highs}
 use Rattle.market_dict.proofs.NameLists.{ascending_same, flat_at, block_part, balance_part, row_part}
 
 -- ---- names
