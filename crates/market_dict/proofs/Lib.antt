@@ -1,0 +1,3 @@
+pub mod HoldingLaws
+pub mod NameLists
+pub mod RefusalLaws
