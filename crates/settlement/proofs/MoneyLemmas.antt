@@ -51,17 +51,17 @@ module _ {N : Type 0} (value : N → Fraction) (loads : List (Load N)) (units : 
   module _ (bound : ℕ) (p : Passed Fraction) where
     pub load_refused : (k : ℕ) (load : Load N) (sum : Fraction) → k < length loads → load ≡ get_or loads k load → sum ≡ sum_by (λ l. value l.pays) (take k loads)
         → IsRefusal Plus sum (value load.pays) bound p → IsAddedIn (paid_terms value loads units) bound p
-    load_refused k load sum below at is h =
+    load_refused k load sum below found is h =
         plus_at (paid_terms value loads units) (map load_term (take k loads)) (map load_term (drop (k + 1) loads) ++ map unit_term units) (load_term load)
-        (in_front (map load_term loads) (map load_term (take k loads)) (map load_term (drop (k + 1) loads)) (map unit_term units) (load_term load) (mapped_at load_term loads k load below at))
+        (in_front (map load_term loads) (map load_term (take k loads)) (map load_term (drop (k + 1) loads)) (map unit_term units) (load_term load) (mapped_at load_term loads k load below found))
         bound p sum (value load.pays) ((is ∙ sym (total-Plain (λ (l : Load N). value l.pays) (take k loads)))) refl h
 
     pub unit_refused : (k : ℕ) (unit : UnitPay N) (sum : Fraction) → k < length units → unit ≡ get_or units k unit
         → sum ≡ sum_by (λ l. value l.pays) loads +ℚ sum_by (λ u. neg_ℚ (value u.paid)) (take k units)
         → IsRefusal Plus sum (neg_ℚ (value unit.paid)) bound p → IsAddedIn (paid_terms value loads units) bound p
-    unit_refused k unit sum below at is h =
+    unit_refused k unit sum below found is h =
         plus_at (paid_terms value loads units) (map load_term loads ++ map unit_term (take k units)) (map unit_term (drop (k + 1) units)) (unit_term unit)
-        (behind (map load_term loads) (map unit_term units) (map unit_term (take k units)) (map unit_term (drop (k + 1) units)) (unit_term unit) (mapped_at unit_term units k unit below at))
+        (behind (map load_term loads) (map unit_term units) (map unit_term (take k units)) (map unit_term (drop (k + 1) units)) (unit_term unit) (mapped_at unit_term units k unit below found))
         bound p sum (neg_ℚ (value unit.paid))
         ((is ∙ sym (total-append (map load_term loads) (map unit_term (take k units))
         ∙ ap₂ ◌+ℚ◌ (total-Plain (λ (l : Load N). value l.pays) loads) (total-Plain (λ (u : UnitPay N). neg_ℚ (value u.paid)) (take k units))))) refl h

@@ -7,7 +7,7 @@ use Rattle.fraction_theory.specs.Signs.{sign_of}
 use Rattle.fraction_theory.specs.declared.Sign.{Sign}
 use Rattle.fraction_theory.specs.declared.Sign.TheVariants.{Below, Above}
 use Rattle.fraction_theory.specs.Sums.{Term, Plain, Product, total}
-use Rattle.fraction_theory.proofs.FieldLaws.{ring_ℚ}
+use Rattle.fraction_theory.proofs.FieldLaws.{ring_ℚ, +ℚ_nil}
 use Rattle.fraction_theory.proofs.OrderLaws.{<ℚ_irrefl}
 use Rattle.fraction_theory.proofs.Ring.{by_ring, at, padd, pmul, pneg, pnil}
 use Rattle.fraction_theory.proofs.SignLaws.{sign_of_is}
@@ -19,15 +19,15 @@ use Rattle.market_model.specs.declared.answered.Rent.{Rent}
 use Rattle.market_model.specs.declared.answered.RowId.{RowId}
 use Rattle.market_model.specs.declared.participants.Parts.{Parts}
 use Rattle.market_model.specs.Dispatch.{Dispatch, injection}
-use Rattle.market_model.specs.LimitRows.{Base, After, Cause, Row, row_id, limit, loss_factor, line_flow, flow_after, row_flow, row_offset, offset_terms, flow}
+use Rattle.market_model.specs.LimitRows.{Base, After, Cause, Row, row_id, limit, loss_factor, line_flow, flow_after, row_flow, line_offset, row_offset, offset_terms, flow}
 use Rattle.market_model.specs.NamedSums.{IsRefusal, IsRefusedIn}
 use Rattle.market_model.specs.Optimality.{IsOneSided, named_rows}
 use Rattle.market_model.specs.RightAnswers.{rent_of}
 use Rattle.market_model.specs.Settlement.{rent, rent_terms}
 use Rattle.market_model.proofs.SumSteps.{multiplied_at}
 use Rattle.limit_rows.proofs.DualLemmas.{IsRowOfDual}
-use Rattle.limit_screen.specs.Flows.{IsLineRefusal}
-use Rattle.limit_screen.proofs.FlowLemmas.{line_terms-same, line_flow-same}
+use Rattle.limit_screen.specs.Flows.{IsLineRefusal, IsShareRefusal as IsShareOf}
+use Rattle.limit_screen.proofs.FlowLemmas.{line_terms-same, line_flow-same, share_refused}
 use Rattle.settlement.specs.Paying.{earned_by, earned_terms}
 use Rattle.settlement.specs.Refusals.{IsSettlementRefusal, of_line, of_flow, of_offset, of_limit_less, of_limit_more, of_rent, IsEarningRefusal, IsFlowRefusal, IsRowRefusal, IsShareRefusal}
 
@@ -60,6 +60,26 @@ not_zero_side e s h is some = by h.one some
     by (inr b) some = b.0
     by (inl b) (inl t) = absurd (<ℚ_irrefl e.down (subst (λ x. e.down <ℚ x) (sym b.1) (sign_of_is e.down Below (sym t ∙ is))))
     by (inl b) (inr t) = absurd (<ℚ_irrefl e.down (subst (λ x. x <ℚ e.down) (sym b.1) (sign_of_is e.down Above (sym t ∙ is))))
+
+-- ---- a sum with what goes over to a line of a lost one
+module _ (m : Parts) (l k : ℕ) (a h b : Fraction) where
+  module _ (bound : ℕ) (p : Passed Fraction) where
+    pub shared_flow : (f : ℕ → Fraction) → k < length m.lines → a ≡ line_flow m f l → h ≡ loss_factor m l k → b ≡ line_flow m f k → IsShareOf a h b bound p → IsShareRefusal m f l (After k) bound p
+    shared_flow f below own share gone why = (
+      below,
+      subst (λ ts. IsRefusedIn ts bound p) (ap₂ (λ x t. Plain x ∷ t ∷ []) own (ap₂ Product share gone)) (share_refused a h b bound p why),
+    )
+
+    pub shared_offset : a ≡ line_offset m l → h ≡ loss_factor m l k → b ≡ line_offset m k → IsShareOf a h b bound p → IsRefusedIn (offset_terms m (record { line = l; cause = After k })) bound p
+    shared_offset own share gone why = subst (λ ts. IsRefusedIn ts bound p) (ap₂ (λ x t. Plain x ∷ t ∷ []) own (ap₂ Product share gone)) (share_refused a h b bound p why)
+
+  pub lost_offset : (s : Fraction) → a ≡ line_offset m l → h ≡ loss_factor m l k → b ≡ line_offset m k → s ≡ a +ℚ h *ℚ b → s ≡ row_offset m (record { line = l; cause = After k })
+  unfolding row_offset
+  lost_offset s own share gone e = e ∙ ap₂ (λ x y. x +ℚ y) own (ap₂ ◌*ℚ◌ share gone ∙ sym (+ℚ_nil (loss_factor m l k *ℚ line_offset m k)))
+
+pub own_offset : (m : Parts) (l : ℕ) → line_offset m l ≡ row_offset m (record { line = l; cause = Base })
+unfolding row_offset
+own_offset m l = sym (+ℚ_nil (line_offset m l))
 
 -- ---- rows of duals, where buses put in what a dispatch makes them
 same_rent : (row row' : RowId) (f f' r r' : Fraction) → row ≡ row' → f ≡ f' → r ≡ r' → ◌≡◌ {A = Rent Fraction} (record { row = row; flow = f; rent = r }) (record { row = row'; flow = f'; rent = r' })

@@ -16,7 +16,7 @@ loop-place-preserved g c =
     (ap (λ bs. slice_index_or bs c.loop-place.place (record { unit = 0; side = Sell; quantity = pos 0; price = pos 0 })) blocks)
     c.loop-place.invariant c.in_ok-worth.ensures.worth c.in_ok-sum.ensures.exact
 
-pub returns-clause-worth : goal.returns-clause-sum
+pub returns-clause-worth : goal.returns-clause-worth
 unfolding welfare_of
 returns-clause-worth g c =
     let blocks = c.slice-block-items.ensures ∙ c.blocks-2.ensures.list in
