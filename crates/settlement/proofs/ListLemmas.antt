@@ -1,7 +1,7 @@
 -- Lists that are filled one by one, and sums over them.
 use Rattle.std.specs.Prelude.{◌≡◌, ℕ, ◌+◌, ◌<◌, ◌≤◌, List, [], ◌∷◌, ◌++◌, map, length, take, refl}
-use Rattle.std.proofs.Common.{zero, suc, ap, ap₂, sym, ◌∙◌, get_or, drop}
-use Rattle.std.proofs.lemmas.List.{map-append, take_more, take_all, take-append-drop, drop_more}
+use Rattle.std.proofs.Common.{zero, suc, arith, ap, ap₂, sym, ◌∙◌, get_or, drop}
+use Rattle.std.proofs.lemmas.List.{map-append, length-map, take_more, take_all, take-append-drop, drop_more}
 use Rattle.fraction_theory.specs.Fraction.{Fraction, ◌+ℚ◌}
 use Rattle.fraction_theory.specs.Sums.{sum_by, Term}
 use Rattle.fraction_theory.proofs.FieldLaws.{+ℚ_assoc}
@@ -27,6 +27,10 @@ pub put_next : {X Y T : Type 0} (value : X → Y) (f : T → Y) (ts : List T) (o
 put_next value f ts old new y k t h at e before here =
     ap (map value) e ∙ map-append value old (y ∷ []) ∙ ap₂ (λ xs z. xs ++ z ∷ []) before (here ∙ ap f at)
     ∙ sym (map-append f (take k ts) (get_or ts k t ∷ [])) ∙ ap (map f) (sym (take_more ts k t h))
+
+-- all of it, where it is as long as another list
+pub all_put_next : {X Y T Z : Type 0} (f : T → Y) (ts : List T) (xs : List X) (g : X → Z) (k : ℕ) → length (map g xs) ≡ length ts → length xs ≤ k → map f (take k ts) ≡ map f ts
+all_put_next f ts xs g k count most = ap (map f) (take_all k ts (Prim.omega (arith, most, count, length-map xs g)))
 
 -- a sum over a list's first elements, after those of another list: one element more, and all
 module _ {T : Type 0} (f : T → Fraction) (xs : List T) where

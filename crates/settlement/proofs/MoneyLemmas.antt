@@ -12,6 +12,7 @@ use Rattle.fraction_theory.proofs.SumLaws.{total-append, total-Plain}
 use Rattle.exact_fraction.specs.declared.Op.TheVariants.{Plus}
 use Rattle.exact_fraction.specs.declared.Passed.{Passed}
 use Rattle.exact_fraction.specs.Passes.{outcome}
+use Rattle.market_model.specs.declared.answered.Dual.{Dual}
 use Rattle.market_model.specs.declared.answered.Duals.{Duals}
 use Rattle.market_model.specs.declared.answered.Load.{Load}
 use Rattle.market_model.specs.declared.answered.Money.{Money}
@@ -26,7 +27,7 @@ use Rattle.market_model.specs.NamedSums.{SameSize, term_at, IsAddedIn, IsRefusal
 use Rattle.market_model.specs.Optimality.{bus_price, unit_price, is_named, named_rows}
 use Rattle.market_model.specs.RightAnswers.{rent_of}
 use Rattle.market_model.specs.Settlement.{paid, pays, rent, rent_terms, surplus, surplus_terms}
-use Rattle.market_model.specs.Valued.{load_at, unit_pay_at}
+use Rattle.market_model.specs.Valued.{dual_at, duals_at, load_at, rent_at, unit_pay_at}
 use Rattle.market_model.proofs.Optimum.{law_of_the_surplus, law_of_its_sign}
 use Rattle.market_model.proofs.SumSteps.{plus_at, behind, in_front}
 use Rattle.limit_rows.proofs.DualLemmas.{up_unnamed, down_unnamed, sum_named}
@@ -189,3 +190,15 @@ module _ (m : Parts) (x : Dispatch) (d : Duals Fraction) where
 
     pub left_not_negative : HasOffsetsWithin m d → whole (pos 0) ≤ℚ money.surplus
     left_not_negative h = subst (λ s. whole (pos 0) ≤ℚ s) (sym is_surplus) (law_of_its_sign m d x market best.feasible best.supported h)
+
+-- ---- an entry for each part
+pub count_fits : {X Y : Type 0} (value : X → Y) (f : ℕ → Y) (xs : List X) (n : ℕ) → map value xs ≡ map f (places n) → length xs ≡ n
+count_fits value f xs n e = sym (length-map xs value) ∙ ap length e ∙ length-map-range_with_len f 0 n
+
+pub rows_fit : {N : Type 0} (value : N → Fraction) (m : Parts) (x : Dispatch) (duals : Duals N) (rents : List (Rent N))
+    → map (λ (e : Dual Fraction). e.row) (duals_at value duals).limits ≡ map (row_id m) (named_rows m (duals_at value duals))
+    → map (rent_at value) rents ≡ map (rent_of m x (duals_at value duals)) (named_rows m (duals_at value duals)) → map (λ (r : Rent N). r.row) rents ≡ map (λ (e : Dual N). e.row) duals.limits
+rows_fit {N} value m x duals rents named e =
+    sym (map-map (rent_at value) (λ (r : Rent Fraction). r.row) rents) ∙ ap (map (λ (r : Rent Fraction). r.row)) e
+    ∙ map-map (rent_of m x (duals_at value duals)) (λ (r : Rent Fraction). r.row) (named_rows m (duals_at value duals))
+    ∙ sym named ∙ map-map (dual_at value) (λ (e : Dual Fraction). e.row) duals.limits

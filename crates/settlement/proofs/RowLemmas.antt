@@ -1,6 +1,7 @@
 -- What rows earn, and what is refused of that.
 use Rattle.std.specs.Prelude.{◌≡◌, ◌⊎◌, ℕ, ◌<◌, pos, ℤ, ◌^◌, List, [], ◌∷◌, length, Contains, refl}
-use Rattle.std.proofs.Common.{inl, inr, ap, ap₂, sym, subst, subst₂, ◌∙◌}
+use Rattle.std.proofs.Common.{inl, inr, arith, ap, ap₂, sym, subst, subst₂, ◌∙◌, get_or}
+use Rattle.std.proofs.lemmas.List.{get_or-map, length-map}
 use Rattle.fraction_theory.specs.Fraction.{Fraction, whole, over, neg_ℚ, ◌+ℚ◌, ◌-ℚ◌, ◌*ℚ◌}
 use Rattle.fraction_theory.specs.Order.{◌<ℚ◌}
 use Rattle.fraction_theory.specs.Signs.{sign_of}
@@ -21,11 +22,13 @@ use Rattle.market_model.specs.declared.participants.Parts.{Parts}
 use Rattle.market_model.specs.Dispatch.{Dispatch, injection}
 use Rattle.market_model.specs.LimitRows.{Base, After, Cause, Row, row_id, limit, loss_factor, line_flow, flow_after, row_flow, line_offset, row_offset, offset_terms, flow}
 use Rattle.market_model.specs.NamedSums.{IsRefusal, IsRefusedIn}
-use Rattle.market_model.specs.Optimality.{IsOneSided, named_rows}
+use Rattle.market_model.specs.Optimality.{IsOneSided, ProperDuals, named_rows}
 use Rattle.market_model.specs.RightAnswers.{rent_of}
+use Rattle.market_model.specs.Market.{IsMarket}
 use Rattle.market_model.specs.Settlement.{rent, rent_terms}
+use Rattle.market_model.specs.Valued.{dual_at, duals_at}
 use Rattle.market_model.proofs.SumSteps.{multiplied_at}
-use Rattle.limit_rows.proofs.DualLemmas.{IsRowOfDual}
+use Rattle.limit_rows.proofs.DualLemmas.{IsRowOfDual, row_of_dual}
 use Rattle.limit_screen.specs.Flows.{IsLineRefusal, IsShareRefusal as IsShareOf}
 use Rattle.limit_screen.proofs.FlowLemmas.{line_terms-same, line_flow-same, share_refused}
 use Rattle.settlement.specs.Paying.{earned_by, earned_terms}
@@ -84,6 +87,23 @@ own_offset m l = sym (+ℚ_nil (line_offset m l))
 -- ---- rows of duals, where buses put in what a dispatch makes them
 same_rent : (row row' : RowId) (f f' r r' : Fraction) → row ≡ row' → f ≡ f' → r ≡ r' → ◌≡◌ {A = Rent Fraction} (record { row = row; flow = f; rent = r }) (record { row = row'; flow = f'; rent = r' })
 same_rent row row' f f' r r' a b c = Prim.rw a (Prim.rw b (Prim.rw c refl))
+
+-- a dual of a list that was read
+module _ {N : Type 0} (value : N → Fraction) (m : Parts) (duals : Duals N) (proper : ProperDuals m (duals_at value duals)) (items : List (Dual N)) (k : ℕ) (item : Dual N)
+    (listed : items ≡ duals.limits) (inside : k < length items) (is : item ≡ get_or items k item) where
+  below : k < length (duals_at value duals).limits
+  below = Prim.omega (arith, inside, ap length listed, length-map duals.limits (dual_at value))
+
+  read : dual_at value item ≡ get_or (duals_at value duals).limits k (dual_at value item)
+  read =
+      sym (get_or-map (dual_at value) duals.limits k item (dual_at value item) (Prim.omega (arith, inside, ap length listed))
+      ∙ ap (λ (es : List (Dual N)). dual_at value (get_or es k item)) (sym listed) ∙ ap (dual_at value) (sym is))
+
+  pub dual_one_sided : IsOneSided (dual_at value item)
+  dual_one_sided = subst IsOneSided (sym read) (proper.one_sided k (dual_at value item) below)
+
+  pub dual_row : IsMarket m → (r : Row) × IsRowOfDual m (duals_at value duals) k (dual_at value item) r
+  dual_row market = row_of_dual m market (duals_at value duals) proper.named k (dual_at value item) below read
 
 module _ (m : Parts) (x : Dispatch) (f : ℕ → Fraction) (same : (i : ℕ) → i < length m.buses → f i ≡ injection m x i) (d : Duals Fraction) (k : ℕ) (e : Dual Fraction) (r : Row) (h : IsRowOfDual m d k e r) where
   flow-same : (l : ℕ) (c : Cause) → flow_after m f l c ≡ flow_after m (injection m x) l c

@@ -58,7 +58,11 @@ fn row_offset<N: Exact>(market: &Market, row: LimitRow) -> Result<N, Passed<N>>
     let own = offset_of(market, row.line);
     match row.lost {
         None => Ok(own),
-        Some(lost) => with_share(own, loss_of(market, row.line, lost), offset_of(market, lost)),
+        Some(lost) => with_share(
+            own,
+            loss_of(market, row.line, lost),
+            offset_of(market, lost),
+        ),
     }
 }
 
