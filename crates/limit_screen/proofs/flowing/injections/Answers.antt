@@ -1,8 +1,8 @@
 use Rattle.std.proofs.Common.{rules, Err, ◌≡◌, ◌∙◌, length, arith}
 use Rattle.market_model.specs.Dispatch.{injection}
-use Rattle.limit_screen.specs.Flows.{dispatch_of, of_injection}
+use Rattle.limit_screen.specs.Flows.{dispatch_of}
 use Rattle.limit_screen.proofs.FlowLemmas.{put_more, all_put}
-use Rattle.limit_screen.proofs.flowing.put_injections.Goals as goal
+use Rattle.limit_screen.proofs.flowing.injections.Goals as goal
 
 pub loop-bus-preserved : goal.loop-bus-preserved
 loop-bus-preserved g c =
@@ -17,4 +17,4 @@ returns-clause-injections g c =
 pub returns-in_err-mw-clause-cause : goal.returns-in_err-mw-clause-cause
 returns-in_err-mw-clause-cause g c =
     let given : c.from_residual.result ≡ Err c.in_err-mw.field-0.0 = search rules in
-    rw given (of_injection c.loop-bus.bus (omega (arith, c.loop-bus-test.true, c.requires.out)) c.in_err-mw.ensures.cause)
+    rw given (c.loop-bus.bus, omega (arith, c.loop-bus-test.true, c.requires.out), c.in_err-mw.ensures.cause)
