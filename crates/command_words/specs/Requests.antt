@@ -7,9 +7,9 @@ use Rattle.command_words.specs.declared.words.ClearFiles.{ClearFiles}
 use Rattle.command_words.specs.declared.words.Request.{Request}
 use Rattle.command_words.specs.declared.words.Request.TheVariants as request
 
--- the names as texts
-abbrev pub names_of : CheckFiles → CheckNames
-names_of files = record {
+-- the names of what is to be checked as texts
+abbrev pub names_to_check : CheckFiles → CheckNames
+names_to_check files = record {
   case = files.case.now;
   ptdf = files.ptdf.now;
   lodf = option_map (λ name. name.now) files.lodf;
@@ -31,4 +31,4 @@ names_to_clear files = record {
 abbrev pub Asks : List Text → Request → Type 0
 Asks words (request.Pool files) = AsksPool words files.case.now files.offers.now
 Asks words (request.Clear files) = AsksClear words (names_to_clear files)
-Asks words (request.Check files) = AsksCheck words (names_of files)
+Asks words (request.Check files) = AsksCheck words (names_to_check files)

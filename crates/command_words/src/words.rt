@@ -3,13 +3,13 @@
 ghost use Rattle.std.specs.Prelude.{◌≡◌, ◌≢◌, codes, map, option_map, string_bytes, IfOk, IfErr};
 ghost use Rattle.clap.specs.Words.{first_of, found_of, rows_of};
 ghost use Rattle.command_words.specs.Words.{AsksNothing, check_names, clear_names, file_of, rating_of};
-ghost use Rattle.command_words.specs.Requests.{Asks, names_of, names_to_clear};
+ghost use Rattle.command_words.specs.Requests.{Asks, names_to_check, names_to_clear};
 
 use crate::command::sced_command;
 use clap::ArgMatches;
 use clap::error::ErrorKind;
 use net_case::PostRating;
-use std::alloc::Global;
+use std::alloc::{AllocError, Global};
 
 /// The letters of the ratings of a branch.
 static RATINGS: [&str; 3] = ["a", "b", "c"];
@@ -112,13 +112,25 @@ fn clear_files<'a>(matches: &ArgMatches<'a>) -> ClearFiles<'a>
 
 /// The files that `check` is to read.
 fn check_files<'a>(matches: &ArgMatches<'a>) -> CheckFiles<'a>
-    ensures { names_of result ≡ check_names (rows_of (found_of matches.now)) }
+    ensures { names_to_check result ≡ check_names (rows_of (found_of matches.now)) }
 {
     CheckFiles {
         case: named_file(matches, "case"),
         ptdf: named_file(matches, "ptdf"),
         lodf: named_table(matches, "lodf"),
         contingencies: named_table(matches, "contingencies"),
+    }
+}
+
+/// Why the words ask for nothing, by the kind of the command's error and the text of it.
+fn stop_of(kind: ErrorKind, text: Result<String, AllocError>) -> WordsStop
+    ensures usage { kind ≢ ErrorKind.OutOfMemory → IfOk text (λ told. result ≡ WordsStop.Usage told) }
+    ensures memory { kind ≡ ErrorKind.OutOfMemory → result ≡ WordsStop.Memory }
+    ensures untold { IfErr text (λ _. result ≡ WordsStop.Memory) }
+{
+    match (kind, text) {
+        (ErrorKind::OutOfMemory, _) | (_, Err(_)) => WordsStop::Memory,
+        (_, Ok(text)) => WordsStop::Usage(text),
     }
 }
 
@@ -140,12 +152,6 @@ pub fn request_of<'a>(alloc: Global, words: &'a [String]) -> Result<Request<'a>,
                 _ => Ok(Request::Check(check_files(inner))),
             }
         }
-        Err(error) => match error.kind() {
-            ErrorKind::OutOfMemory => Err(WordsStop::Memory),
-            _ => match error.to_string(alloc) {
-                Ok(text) => Err(WordsStop::Usage(text)),
-                Err(_) => Err(WordsStop::Memory),
-            },
-        },
+        Err(error) => Err(stop_of(error.kind(), error.to_string(alloc))),
     }
 }

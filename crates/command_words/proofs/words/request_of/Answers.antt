@@ -55,12 +55,9 @@ returns-in-Ok-try_get_matches_from-clause-asked c =
       names_are = c.check_files.ensures;
     }
 
-pub returns-in-Ok-to_string : goal.returns-in-Ok-to_string
-returns-in-Ok-to_string c =
+pub returns-clause-refused : goal.returns-clause-refused
+returns-clause-refused c =
     let ratings : Spells c.as_slice.result rating_words = search rules in
     let same = (c.in-Ok.ensures).app in
-    record {
-      asked = tt;
-      refused = λ _. refused_by c.try_get_matches_from.result c.in-Err-try_get_matches_from.error (app_of c.in-Ok.command) c.as_slice.result _ c.in-Err-try_get_matches_from.is
-          (λ k. c.in_default-kind.not-OutOfMemory (c.kind.ensures ∙ k)) same ratings (c.try_get_matches_from.ensures.kinds (is_free _ _ same));
-    }
+    λ told. refused_by c.try_get_matches_from.result c.in-Err-try_get_matches_from.error (app_of c.in-Ok.command) c.as_slice.result _ c.in-Err-try_get_matches_from.is
+    (λ memory. told (c.stop_of.ensures.memory (c.kind.ensures ∙ memory))) same ratings (c.try_get_matches_from.ensures.kinds (is_free _ _ same))
