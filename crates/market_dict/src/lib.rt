@@ -15,5 +15,5 @@ pub use solving::{Found, solve};
 pub use stop::Stop;
 pub use terms::{Terms, take_bounds, terms_of};
 
-
-
+#[cfg(test)]
+mod tests;

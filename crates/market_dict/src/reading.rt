@@ -133,13 +133,7 @@ fn multiplier<N: Exact>(dict: &Dict<N>, row: usize, rank: usize) -> N
     ensures { N.value result ≡ multiplier_of (choice_of dict.now) (slice_index dict.now.basics row) (slice_index dict.now.names rank) }
 {
     match dict.place_at(rank) {
-        Place::Row(place) => {
-            if place == row {
-                datum(1)
-            } else {
-                datum(0)
-            }
-        }
+        Place::Row(place) => { if place == row { datum(1) } else { datum(0) } }
         Place::Column(column) => dict.entry(row, column).neg(),
     }
 }

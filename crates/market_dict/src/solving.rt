@@ -28,7 +28,10 @@ pub enum Found<N: Exact> {
         duals: Duals<N>,
     },
     /// No dispatch of the market is feasible: these duals show it.
-    Nothing { dict: Dict<N>, farkas: Farkas<N> },
+    Nothing {
+        dict: Dict<N>,
+        farkas: Farkas<N>,
+    },
 }
 
 /// The best dispatch that a solved dictionary shows, with its duals.
@@ -68,11 +71,7 @@ fn nothing<N: Exact>(
 }
 
 /// Runs the dual simplex method.
-pub fn solve<N: Exact>(
-    alloc: Global,
-    market: &Market,
-    posed: Posed<N>,
-) -> Result<Found<N>, Stop<N>>
+pub fn solve<N: Exact>(alloc: Global, market: &Market, posed: Posed<N>) -> Result<Found<N>, Stop<N>>
     requires holds { (g : List Row) × HoldsSystem market.now g posed }
     ensures found { (g : List Row) → HoldsSystem market.now g posed → IfOk result (IsFound N.value market.now g) }
     ensures pair { (g : List Row) → HoldsSystem market.now g posed → IfErr result (IsPairOver N.value N.bound market.now g) }

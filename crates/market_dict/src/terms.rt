@@ -108,11 +108,7 @@ fn first_bounds<N: Exact>(
 }
 
 /// By how much blocks may raise the flow of a limit: what the flow leaves of it on either side where nothing is accepted.
-fn row_bounds<N: Exact>(
-    market: &Market,
-    idle: &[N],
-    row: LimitRow,
-) -> Result<Bounds<N>, Passed<N>>
+fn row_bounds<N: Exact>(market: &Market, idle: &[N], row: LimitRow) -> Result<Bounds<N>, Passed<N>>
     requires row { Contains (rows market.now) (row_of row) }
     requires idle { map N.value idle.now ≡ flows_at market.now (empty market.now) }
     ensures low { IfOk result (λ bounds. N.value bounds.low ≡ least_added market.now (row_of row)) }
