@@ -1,0 +1,4 @@
+pub mod EntryLemmas
+pub mod ListedLemmas
+pub mod ReadingLemmas
+pub mod TermLemmas
