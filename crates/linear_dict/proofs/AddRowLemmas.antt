@@ -22,6 +22,8 @@ use Rattle.linear_dict.specs.Adding.{AreSums, row_term, AreWithin, IsInTable, Is
 use Rattle.exact_fraction.specs.declared.Op.{Op}
 use Rattle.exact_fraction.specs.Passes.{Passes}
 use Rattle.linear_system.specs.Pairs.{IsSystemPair}
+use Rattle.linear_system.specs.SameSystems.{SameRows}
+use Rattle.linear_system.specs.Systems.{System}
 use Rattle.std.specs.List.{range_with_len}
 use Rattle.std.proofs.lemmas.List.FromFn.{get_or-map-range_with_len, length-map-range_with_len}
 use Rattle.exact_fraction.specs.declared.Op.TheVariants.{Plus, Times}
@@ -359,10 +361,11 @@ module _ {N : Type 0} (value : N → Fraction) (columns rows : List ℕ) (coeffi
       (subst (λ (x : List N). P (rows ++ row ∷ []) (basics ++ row ∷ []) x ts) (sym ec)
       (subst (λ (y : List N). P (rows ++ row ∷ []) (basics ++ row ∷ []) (coefficients ++ entries) y) (sym et) add_row_in_code)))
 
--- Whatever the numbers of the type can hold, a row can be put in; what is refused in doing so is a working pair with it.
+-- Whatever the numbers of the type can hold, a row can be put in; what is refused in doing so is a working pair with it,
+-- whatever the prices and bounds.
 pub row_pair : {N : Type 0} (value : N → Fraction) (d : Dictionary) → IsDictionary d → d.spent ≡ false → (row : ℕ) → ¬ (Contains d.names row) → (entries : List N) → length entries ≡ length d.columns
     → (bound : ℕ) (op : Op) (x y : Fraction) → AddOperation d (map value entries) op x y → Passes bound op x y
-    → (new : Dictionary) × AddsRow value d row entries new × IsSystemPair (system_of new) bound op x y
+    → (new : Dictionary) × AddsRow value d row entries new × ((s : System) → SameRows (system_of new) s → IsSystemPair s bound op x y)
 unfolding note_of
 row_pair value d h live row absent entries count bound op x y asked passes =
     let es : List Fraction = map value entries in

@@ -18,6 +18,9 @@ use Rattle.linear_system.specs.Numbers.{Kind, Factor, SystemNumber, is_zero, is_
 use Rattle.linear_system.specs.Pairs.{IsPairCase, IsSystemPair, OfEither, alone, plain, scaled, added, scaled_right}
 use Rattle.linear_system.specs.Choices.{Choice, row_entry_terms, IsChoice, MeetsTable, basics, others, column_entry}
 use Rattle.linear_system.specs.Systems.{System, MeetsRows, activity}
+use Rattle.linear_system.specs.SameSystems.{SameRows}
+use Rattle.linear_system.proofs.PairLaws.{IsPairCase-each}
+use Rattle.linear_system.proofs.SameSystems.{same_rows_choice, same_rows_factor}
 use Rattle.linear_system.proofs.ChoiceLaws.{is_basic, basics_are, sum_by_others, column_entry-basic, column_entry-itself, column_entry-other}
 use Rattle.linear_dict.specs.Causes.{AddOperation, scaling_entry, adding_term, put_number, put_terms}
 use Rattle.linear_dict.specs.Dictionaries.{Dictionary, IsDictionary, system_of, choice_of, entry_of}
@@ -241,9 +244,13 @@ module _ (d : Dictionary) (h : IsDictionary d) (live : d.spent ≡ false) (row i
         ∙ sym (new_sum (λ j. column_entry (choice_of d) j w))
         ∙ sym (total-Product ((system_of grown).coefficient row) (λ j. column_entry (choice_of d) j w) (system_of grown).columns)
 
-    -- The later choice has the numbers that adding the row needs.
+    -- The later choice has the numbers that adding the row needs, whatever the prices and bounds.
     Number : Kind → Fraction → Type 0
-    Number = OfEither (SystemNumber after) later later
+    Number kind x = (t : System) → SameRows after t → OfEither (SystemNumber t) later later kind x
+
+    factor : (x : Fraction) → SystemNumber after later Factor x → Number Factor x
+    unfolding Number
+    factor x n = λ t same. inl (same_rows_factor after t same later Factor x n refl)
 
     column_named : (j : ℕ) → Contains s.columns j → Contains d.names j
     unfolding s system_of
@@ -263,12 +270,11 @@ module _ (d : Dictionary) (h : IsDictionary d) (live : d.spent ≡ false) (row i
         ∙ cell-new (length d.columns) d.coefficients es (length d.rows) (place_in d.columns j) h.coefficient_count
 
     row_coefficient : (j : ℕ) → Contains s.columns j → Number Factor (put_number d es j)
-    unfolding Number
-    row_coefficient j k = inl (subst (SystemNumber after later Factor) (coefficient_is j) (is_coefficient row j row_in (subst (λ (ws : List ℕ). Contains ws j) (sym same_columns) k)))
+    row_coefficient j k = factor _ (subst (SystemNumber after later Factor) (coefficient_is j) (is_coefficient row j row_in (subst (λ (ws : List ℕ). Contains ws j) (sym same_columns) k)))
 
     entry_number : (j w : ℕ) → Contains d.basics j → Contains (others s c) w → Number Factor (c.entry j w)
-    unfolding Number s c
-    entry_number j w m o = inl (subst (SystemNumber after later Factor) (old_entry j w m (in_others d h w o)) (is_entry j w (basic_later j (Contains-append_left d.basics (row ∷ []) j m)) (other_later w o)))
+    unfolding s c
+    entry_number j w m o = factor _ (subst (SystemNumber after later Factor) (old_entry j w m (in_others d h w o)) (is_entry j w (basic_later j (Contains-append_left d.basics (row ∷ []) j m)) (other_later w o)))
 
     before_basic : (j : ℕ) → Contains d.basics j → c.basic j ≡ true
     unfolding c choice_of
@@ -294,12 +300,11 @@ module _ (d : Dictionary) (h : IsDictionary d) (live : d.spent ≡ false) (row i
     ]
 
     column_number : (j w : ℕ) → Contains d.names j → Contains (others s c) w → Number Factor (column_entry c j w)
-    unfolding Number
     column_number j w k o = elim (h.split.either j k) [
-      | inl m ↦ subst (OfEither (SystemNumber after) later later Factor) (sym (column_entry-basic c j w (before_basic j m))) (entry_number j w m o)
+      | inl m ↦ subst (Number Factor) (sym (column_entry-basic c j w (before_basic j m))) (entry_number j w m o)
       | inr m ↦ elim (same_or_not j w) [
-        | inl e ↦ inl (subst (SystemNumber after later Factor) (sym (ap (column_entry c j) (sym e) ∙ column_entry-itself c j (before_other j m))) is_one)
-        | inr n ↦ inl (subst (SystemNumber after later Factor) (sym (column_entry-other c j w (before_other j m) n)) is_zero)
+        | inl e ↦ factor _ (subst (SystemNumber after later Factor) (sym (ap (column_entry c j) (sym e) ∙ column_entry-itself c j (before_other j m))) is_one)
+        | inr n ↦ factor _ (subst (SystemNumber after later Factor) (sym (column_entry-other c j w (before_other j m) n)) is_zero)
       ]
     ]
 
@@ -311,22 +316,22 @@ module _ (d : Dictionary) (h : IsDictionary d) (live : d.spent ≡ false) (row i
         (λ j m. ap₂ Product (coefficient_is j) (column_stays j w (column_named j m) (in_others d h w o))))
 
     added_case : (op : Op) (x y : Fraction) → AddOperation d es op x y → IsPairCase Number op x y
-    unfolding s c Number
+    unfolding s c
     added_case _ _ _ (scaling_entry j w cb k o) = scaled_right Factor _ _ (row_coefficient j k) (alone _ (entry_number j w (in_basics d h j cb) o))
     added_case _ _ _ (adding_term k j w got o) =
         let m : Contains (system_of d).columns j = (k, got_below (system_of d).columns k j got, get_or_from_slice_get (system_of d).columns k j j got) in
-        added Factor _ _ (plain _ (alone _ (inl (subst (SystemNumber after later Factor) (prefix_stays k w o) (is_row_entry row w k row_in (other_later w o))))))
+        added Factor _ _ (plain _ (alone _ (factor _ (subst (SystemNumber after later Factor) (prefix_stays k w o) (is_row_entry row w k row_in (other_later w o))))))
         (scaled _ _ (row_coefficient j m) (alone _ (column_number j w (column_named j m) o)))
 
-    -- a refused operation of the row is a working pair of the system with it
-    pub added_pair : (bound : ℕ) (op : Op) (x y : Fraction) → AddOperation d es op x y → Passes bound op x y → IsSystemPair (system_of grown) bound op x y
+    -- a refused operation of the row is a working pair of each system with it
+    pub added_pair : (bound : ℕ) (op : Op) (x y : Fraction) → AddOperation d es op x y → Passes bound op x y → (t : System) → SameRows (system_of grown) t → IsSystemPair t bound op x y
     unfolding after later Number
-    added_pair bound op x y asked passes = record {
+    added_pair bound op x y asked passes t same = record {
       passes = passes;
       one = choice_of grown;
       near = choice_of grown;
-      is_choice = grown_choice;
-      near_is_choice = grown_choice;
+      is_choice = same_rows_choice (system_of grown) t same (choice_of grown) grown_choice;
+      near_is_choice = same_rows_choice (system_of grown) t same (choice_of grown) grown_choice;
       are_near = inl refl;
-      sides = added_case op x y asked;
+      sides = IsPairCase-each (λ kind z n. n t same) op x y (added_case op x y asked);
     }

@@ -9,6 +9,7 @@ use Rattle.fraction_theory.specs.Fraction.{Fraction, whole, ◌*ℚ◌, neg_ℚ,
 use Rattle.fraction_theory.specs.Sums.{sum_by, Term, Product, prefix}
 use Rattle.linear_system.specs.Choices.{basics, others, column_entry}
 use Rattle.linear_system.specs.Pairs.{IsSystemPair}
+use Rattle.linear_system.specs.SameSystems.{SameRows}
 use Rattle.linear_system.specs.Systems.{System}
 use Rattle.linear_dict.specs.Adding.{row_term}
 use Rattle.linear_dict.specs.declared.adding.AddStop.{AddStop}
@@ -85,6 +86,6 @@ OnPassed NoMemory P = Unit {0}
 abbrev pub IsPairOf : {N : Type 0} → (N → Fraction) → ℕ → System → Passed N → Type 0
 IsPairOf value bound s e = IsSystemPair s bound e.op (value e.left) (value e.right)
 
--- The row can be put in, and e is a working pair of the system with it.
+-- The row can be put in, and e is a working pair of the system with it, whatever prices and bounds that has.
 abbrev pub IsPairWith : {N : Type 0} → (N → Fraction) → ℕ → Dictionary → ℕ → List N → Passed N → Type 0
-IsPairWith value bound d row entries e = (new : Dictionary) × AddsRow value d row entries new × IsPairOf value bound (system_of new) e
+IsPairWith value bound d row entries e = (new : Dictionary) × AddsRow value d row entries new × ((s : System) → SameRows (system_of new) s → IsPairOf value bound s e)

@@ -1,4 +1,5 @@
--- Systems that agree at their names have the same choices, numbers and working pairs.
+-- Systems with the same rows have the same choices and factors, and systems that agree at their names have the same
+-- numbers and working pairs.
 use Rattle.std.specs.Prelude.{◌≡◌, ℕ, Bool, List, [], ◌∷◌, map, filter, not, if◌then◌else◌, refl, ◌⊎◌}
 use Rattle.std.specs.List.{Contains}
 use Rattle.std.proofs.Common.{ap, ap₂, sym, ◌∙◌, subst, inl, inr}
@@ -9,7 +10,7 @@ use Rattle.exact_fraction.specs.declared.Op.{Op}
 use Rattle.linear_system.specs.Choices.{Choice, basics, others, MeetsTable, IsChoice, at_bound, value_terms, column_entry, row_entry_terms, reduced_terms, OneExchange}
 use Rattle.linear_system.specs.Numbers.{Kind, Factor, Quantity, Price, SystemNumber, is_zero, is_one, is_coefficient, is_entry, is_row_entry, is_low, is_high, is_value, is_price, is_reduced, is_opposite}
 use Rattle.linear_system.specs.Pairs.{AreNear, OfEither, IsSystemPair}
-use Rattle.linear_system.specs.SameSystems.{SameSystem}
+use Rattle.linear_system.specs.SameSystems.{SameRows, SameSystem}
 use Rattle.linear_system.specs.Systems.{System, MeetsRows, activity}
 use Rattle.linear_system.proofs.ChoiceLaws.{others_are}
 use Rattle.linear_system.proofs.PairLaws.{IsPairCase-each}
@@ -29,30 +30,86 @@ turned_round s t same = record {
   high = λ w c. sym (same.high w (subst (λ (ws : List ℕ). Contains ws w) (sym same.variables) c));
 }
 
-module _ (s t : System) (same : SameSystem s t) where
-  same_activity : (v : ℕ → Fraction) (r : ℕ) → Contains s.rows r → activity s v r ≡ activity t v r
+pub rows_turned_round : (s t : System) → SameRows s t → SameRows t s
+rows_turned_round s t same = record {
+  variables = sym same.variables;
+  columns = sym same.columns;
+  rows = sym same.rows;
+  coefficient = λ r j c k. sym (same.coefficient r j (subst (λ (ws : List ℕ). Contains ws r) (sym same.rows) c) (subst (λ (ws : List ℕ). Contains ws j) (sym same.columns) k));
+}
+
+-- systems that agree at their names have the same rows
+pub same_system_rows : (s t : System) → SameSystem s t → SameRows s t
+same_system_rows s t same = record { variables = same.variables; columns = same.columns; rows = same.rows; coefficient = same.coefficient }
+
+module _ (s t : System) (same : SameRows s t) where
+  rows_activity : (v : ℕ → Fraction) (r : ℕ) → Contains s.rows r → activity s v r ≡ activity t v r
   unfolding activity
-  same_activity v r c =
+  rows_activity v r c =
       sum_by-members (λ j. s.coefficient r j *ℚ v j) (λ j. t.coefficient r j *ℚ v j) s.columns (λ j k. ap (λ x. x *ℚ v j) (same.coefficient r j c k))
       ∙ ap (sum_by (λ j. t.coefficient r j *ℚ v j)) same.columns
 
-  pub same_rows_met : (v : ℕ → Fraction) → MeetsRows s v → MeetsRows t v
-  same_rows_met v meets = record {
-    row = λ r c. let here : Contains s.rows r = subst (λ (ws : List ℕ). Contains ws r) (sym same.rows) c in meets.row r here ∙ same_activity v r here;
+  rows_met : (v : ℕ → Fraction) → MeetsRows s v → MeetsRows t v
+  rows_met v meets = record {
+    row = λ r c. let here : Contains s.rows r = subst (λ (ws : List ℕ). Contains ws r) (sym same.rows) c in meets.row r here ∙ rows_activity v r here;
   }
+
+  rows_basics : (h : Choice) → basics s h ≡ basics t h
+  unfolding basics
+  rows_basics h = ap (filter h.basic) same.variables
+
+  rows_others : (h : Choice) → others s h ≡ others t h
+  unfolding others
+  rows_others h = ap (filter (λ w. not (h.basic w))) same.variables
+
+  rows_table_met : (h : Choice) (v : ℕ → Fraction) → MeetsTable s h v → MeetsTable t h v
+  rows_table_met h v meets = record {
+    basic = λ b c. meets.basic b (subst (λ (ws : List ℕ). Contains ws b) (sym (rows_basics h)) c) ∙ ap (sum_by (λ w. h.entry b w *ℚ v w)) (rows_others h);
+  }
+
+  rows_row_entry_terms : (h : Choice) (r w : ℕ) → Contains s.rows r → row_entry_terms s h r w ≡ row_entry_terms t h r w
+  unfolding row_entry_terms
+  rows_row_entry_terms h r w c =
+      map-members (λ j. Product (s.coefficient r j) (column_entry h j w)) (λ j. Product (t.coefficient r j) (column_entry h j w)) s.columns
+      (λ j k. ap (λ x. Product x (column_entry h j w)) (same.coefficient r j c k))
+      ∙ ap (map (λ j. Product (t.coefficient r j) (column_entry h j w))) same.columns
+
+  -- the factors of the one are those of the other: no price and no bound is one
+  pub same_rows_factor : (h : Choice) (kind : Kind) (x : Fraction) → SystemNumber s h kind x → kind ≡ Factor → SystemNumber t h kind x
+  same_rows_factor h _ _ is_zero e = is_zero
+  same_rows_factor h _ _ is_one e = is_one
+  same_rows_factor h _ _ (is_coefficient r j c k) e =
+      subst (SystemNumber t h Factor) (sym (same.coefficient r j c k)) (is_coefficient r j (subst (λ (ws : List ℕ). Contains ws r) same.rows c) (subst (λ (ws : List ℕ). Contains ws j) same.columns k))
+  same_rows_factor h _ _ (is_entry b w c k) e = is_entry b w (subst (λ (ws : List ℕ). Contains ws b) (rows_basics h) c) (subst (λ (ws : List ℕ). Contains ws w) (rows_others h) k)
+  same_rows_factor h _ _ (is_row_entry r w n c k) e =
+      subst (λ (ts : List Term). SystemNumber t h Factor (prefix n ts)) (sym (rows_row_entry_terms h r w c))
+      (is_row_entry r w n (subst (λ (ws : List ℕ). Contains ws r) same.rows c) (subst (λ (ws : List ℕ). Contains ws w) (rows_others h) k))
+  same_rows_factor h _ _ (is_low w c) e = absurd cc
+  same_rows_factor h _ _ (is_high w c) e = absurd cc
+  same_rows_factor h _ _ (is_value b n c) e = absurd cc
+  same_rows_factor h _ _ (is_price j c) e = absurd cc
+  same_rows_factor h _ _ (is_reduced w n c) e = absurd cc
+  same_rows_factor h _ _ (is_opposite kind x n) e = is_opposite kind x (same_rows_factor h kind x n e)
+
+-- their choices
+pub same_rows_choice : (s t : System) → SameRows s t → (h : Choice) → IsChoice s h → IsChoice t h
+same_rows_choice s t same h choice = record {
+  to_table = λ v meets. rows_table_met s t same h v (choice.to_table v (rows_met t s (rows_turned_round s t same) v meets));
+  to_rows = λ v meets. rows_met s t same v (choice.to_rows v (rows_table_met t s (rows_turned_round s t same) h v meets));
+}
+
+module _ (s t : System) (same : SameSystem s t) where
+  pub same_rows_met : (v : ℕ → Fraction) → MeetsRows s v → MeetsRows t v
+  same_rows_met v meets = rows_met s t (same_system_rows s t same) v meets
 
   pub same_basics : (h : Choice) → basics s h ≡ basics t h
-  unfolding basics
-  same_basics h = ap (filter h.basic) same.variables
+  same_basics h = rows_basics s t (same_system_rows s t same) h
 
   pub same_others : (h : Choice) → others s h ≡ others t h
-  unfolding others
-  same_others h = ap (filter (λ w. not (h.basic w))) same.variables
+  same_others h = rows_others s t (same_system_rows s t same) h
 
   pub same_table_met : (h : Choice) (v : ℕ → Fraction) → MeetsTable s h v → MeetsTable t h v
-  same_table_met h v meets = record {
-    basic = λ b c. meets.basic b (subst (λ (ws : List ℕ). Contains ws b) (sym (same_basics h)) c) ∙ ap (sum_by (λ w. h.entry b w *ℚ v w)) (same_others h);
-  }
+  same_table_met h v meets = rows_table_met s t (same_system_rows s t same) h v meets
 
   same_bound : (h : Choice) (w : ℕ) → Contains s.variables w → at_bound s h w ≡ at_bound t h w
   unfolding at_bound
@@ -66,11 +123,7 @@ module _ (s t : System) (same : SameSystem s t) where
       ∙ ap (map (λ w. Product (h.entry b w) (at_bound t h w))) (same_others h)
 
   same_row_entry_terms : (h : Choice) (r w : ℕ) → Contains s.rows r → row_entry_terms s h r w ≡ row_entry_terms t h r w
-  unfolding row_entry_terms
-  same_row_entry_terms h r w c =
-      map-members (λ j. Product (s.coefficient r j) (column_entry h j w)) (λ j. Product (t.coefficient r j) (column_entry h j w)) s.columns
-      (λ j k. ap (λ x. Product x (column_entry h j w)) (same.coefficient r j c k))
-      ∙ ap (map (λ j. Product (t.coefficient r j) (column_entry h j w))) same.columns
+  same_row_entry_terms h r w c = rows_row_entry_terms s t (same_system_rows s t same) h r w c
 
   same_reduced_terms : (h : Choice) (w : ℕ) → reduced_terms s h w ≡ reduced_terms t h w
   unfolding reduced_terms
@@ -108,12 +161,8 @@ module _ (s t : System) (same : SameSystem s t) where
   same_number h _ _ (is_reduced w n c) = subst (λ (ts : List Term). SystemNumber t h Price (prefix n ts)) (sym (same_reduced_terms h w)) (is_reduced w n (in_others h w c))
   same_number h _ _ (is_opposite kind x n) = is_opposite kind x (same_number h kind x n)
 
--- their choices
 pub same_choice_of : (s t : System) → SameSystem s t → (h : Choice) → IsChoice s h → IsChoice t h
-same_choice_of s t same h choice = record {
-  to_table = λ v meets. same_table_met s t same h v (choice.to_table v (same_rows_met t s (turned_round s t same) v meets));
-  to_rows = λ v meets. same_rows_met s t same v (choice.to_rows v (same_table_met t s (turned_round s t same) h v meets));
-}
+same_choice_of s t same h choice = same_rows_choice s t (same_system_rows s t same) h choice
 
 same_near : (s t : System) → SameSystem s t → (h k : Choice) → AreNear s h k → AreNear t h k
 same_near s t same h k (inl e) = inl e

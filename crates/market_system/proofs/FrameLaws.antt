@@ -38,7 +38,7 @@ module _ (m : Parts) where
   line_count : length (frame m).lines ≡ length m.lines
   line_count = counted line_frame m.lines
 
-  block_count : length (frame m).blocks ≡ length m.blocks
+  pub block_count : length (frame m).blocks ≡ length m.blocks
   block_count = counted block_frame m.blocks
 
   base_framed : has_base (frame m) ≡ has_base m
@@ -70,10 +70,10 @@ module _ (m : Parts) where
   id_framed : row_id (frame m) ≡ row_id m
   id_framed = fun_ext (λ r. ap₂ (λ (b o : ℕ). record { branch = b; outage = o }) (ap (λ (k : Line). k.row) (line_framed r.line)) (outage_framed r.cause))
 
-  sign_framed : block_sign (frame m) ≡ block_sign m
+  pub sign_framed : block_sign (frame m) ≡ block_sign m
   sign_framed = fun_ext (λ j. ap (λ (b : Block). signed b.side (whole (pos 1))) (block_framed j))
 
-  coefficient_framed : block_coefficient (frame m) ≡ block_coefficient m
+  pub coefficient_framed : block_coefficient (frame m) ≡ block_coefficient m
   unfolding row_factor
   coefficient_framed = fun_ext (λ r. fun_ext (λ j. ap (λ (b : Block). signed b.side (row_factor m r (unit_at m b.unit).bus)) (block_framed j)))
 

@@ -21,7 +21,9 @@ use Rattle.fraction_theory.proofs.ListSums.{Contains-head, Contains-cons}
 use Rattle.market_model.specs.declared.answered.Duals.{Duals}
 use Rattle.market_model.specs.declared.participants.Parts.{Parts}
 use Rattle.market_model.specs.Dispatch.{Dispatch, zero as nil, places, bus_at, injection, injection_terms, balance_terms, output_terms, empty}
-use Rattle.market_model.specs.LimitRows.{Row, Base, After, rows, limit, shift_factor, loss_factor, line_offset, line_terms, line_flow, row_flow, row_offset, offset_terms, row_factor, factor_terms, flow}
+use Rattle.limit_rows.proofs.FactorLemmas.{IsLost, stands}
+use Rattle.market_model.specs.LimitRows.{Cause, Row, Base, After, rows, limit, shift_factor, loss_factor, line_offset, line_terms, line_flow, row_flow, row_offset, offset_terms, offset_terms_in, row_factor, factor_terms, flow}
+use Rattle.market_model.specs.Market.{IsMarket}
 use Rattle.market_model.specs.NamedSums.{SameSize, term_at, IsNextTerm, AreFactors, IsSumStep, IsRefusedIn, Adds, IsAddedIn, IsRefusal}
 use Rattle.market_model.specs.Optimality.{Supports, pull, up_of, down_of, congestion, congestion_terms, welfare_terms}
 use Rattle.market_model.specs.Settlement.{surplus_terms, rent_terms}
@@ -251,6 +253,22 @@ module _ (m : Parts) (taken g : List Row) (reached : Growth m taken g) (h : Choi
         products (suc zero) a b h e = inl (subst (Number Factor) (first_of e) (is_loss l k lt lost), subst (IsCombined Number Quantity) (second_of e) (alone over (lined k lost)))
         products (suc (suc n)) a b h e = absurd (Prim.omega (arith, h))
 
+    -- that of a row of the base is the line's own
+    pub of_base_flow : (l : ℕ) → l < length m.lines → IsRefusedIn (Plain (line_flow m (injection m x) l) ∷ []) bound p → IsRangeOf m taken bound p
+    of_base_flow l lt = by_steps Quantity (Plain own ∷ []) numbers products
+      where
+        own : Fraction
+        own = line_flow m (injection m x) l
+
+        numbers : (n : ℕ) → Number Quantity (prefix n (Plain own ∷ []))
+        numbers zero = is_line_flow x l 0 injecting lt
+        numbers (suc zero) = subst (Number Quantity) (by_ring ring_ℚ (own ∷ []) (at 0) (at 0 ⊕ pnil) refl) (lined l lt)
+        numbers (suc (suc n)) = subst (Number Quantity) (by_ring ring_ℚ (own ∷ []) (at 0) (at 0 ⊕ pnil) refl) (lined l lt)
+
+        products : (n : ℕ) (a b : Fraction) → n < 1 → term_at (Plain own ∷ []) n ≡ Product a b → (Number Factor a × IsCombined Number Quantity b) ⊎ (IsCombined Number Quantity a × Number Factor b)
+        products zero a b h e = absurd Prim.cc
+        products (suc n) a b h e = absurd (Prim.omega (arith, h))
+
     -- the bounds of a row: what is left of its limit on either side
     pub of_high : (r : Row) → Contains (rows m) r → IsRefusal Minus (limit m r) (flow m x r) bound p → IsRangeOf m taken bound p
     of_high r c = by_difference Quantity (limit m r) (flow m x r) (is_limit r c) (is_row_flow x r injecting c)
@@ -270,6 +288,19 @@ module _ (m : Parts) (taken g : List Row) (reached : Growth m taken g) (h : Choi
   offset_number : (r : Row) → Contains (rows m) r → Number Quantity (row_offset m r)
   unfolding row_offset
   offset_number r c = subst (Number Quantity) (prefix-all (offset_terms m r)) (is_offset r (length (offset_terms m r)) c)
+
+  -- that offset: the line's own, and what goes over of the lost one's
+  pub of_offset : IsMarket m → (r : Row) → Contains (rows m) r → IsRefusedIn (offset_terms m r) bound p → IsRangeOf m taken bound p
+  of_offset market r c = by_steps Quantity (offset_terms m r) (λ k. is_offset r k c) (let s = stands m market r c in products r.cause s.line s.lost)
+    where
+      products : (cause : Cause) → r.line < length m.lines → IsLost m cause → (n : ℕ) (a b : Fraction) → n < length (offset_terms_in m r.line cause) → term_at (offset_terms_in m r.line cause) n ≡ Product a b
+          → (Number Factor a × IsCombined Number Quantity b) ⊎ (IsCombined Number Quantity a × Number Factor b)
+      products Base line lost zero a b h e = absurd Prim.cc
+      products Base line lost (suc n) a b h e = absurd (Prim.omega (arith, h))
+      products (After k) line lost zero a b h e = absurd Prim.cc
+      products (After k) line lost (suc zero) a b h e =
+          inl (subst (Number Factor) (first_of e) (is_loss r.line k line lost.0), subst (IsCombined Number Quantity) (second_of e) (alone (line_offset m k) (is_line_offset k lost.0)))
+      products (After k) line lost (suc (suc n)) a b h e = absurd (Prim.omega (arith, h))
 
   pub of_limit_less : (r : Row) → Contains (rows m) r → IsRefusal Minus (limit m r) (row_offset m r) bound p → IsRangeOf m taken bound p
   of_limit_less r c = by_difference Quantity (limit m r) (row_offset m r) (is_limit r c) (offset_number r c)
@@ -347,6 +378,7 @@ law_of_the_pairs m taken g h bound p reached is = record {
     earned = of_rent_sum m taken g reached h is bound p best;
   };
   demand = of_demand m taken g reached h is bound p;
+  offset = of_offset m taken g reached h is bound p;
   limit_less = of_limit_less m taken g reached h is bound p;
   limit_more = of_limit_more m taken g reached h is bound p;
 }

@@ -81,7 +81,7 @@ at_least_nil : (o : Option ℤ) → IfSome o (λ mw. pos 0 ≤ℤ mw) → nil �
 at_least_nil None h = ≤ℚ_refl nil
 at_least_nil (Some mw) h = whole-≤ℚ (pos 0) mw h
 
-limit_sign : (m : Parts) → IsMarket m → (r : Row) → r.line < length m.lines → nil ≤ℚ limit m r
+pub limit_sign : (m : Parts) → IsMarket m → (r : Row) → r.line < length m.lines → nil ≤ℚ limit m r
 limit_sign m market r lt = by r.line r.cause lt
   where
     by : (l : ℕ) (c : Cause) → l < length m.lines → nil ≤ℚ limit_in m l c

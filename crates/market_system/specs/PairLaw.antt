@@ -10,6 +10,7 @@ use Rattle.linear_system.specs.Pairs.{IsSystemPair}
 use Rattle.market_model.specs.declared.participants.Parts.{Parts}
 use Rattle.market_model.specs.Dispatch.{Dispatch, bus_at, injection, injection_terms, balance_terms, output_terms}
 use Rattle.market_model.specs.LimitRows.{Row, After, rows, limit, loss_factor, line_terms, line_flow, offset_terms, row_offset, flow}
+use Rattle.market_model.specs.Market.{IsMarket}
 use Rattle.market_model.specs.NamedSums.{SameSize, IsRefusedIn, IsAddedIn, IsRefusal}
 use Rattle.market_model.specs.Optimality.{congestion, congestion_terms, welfare_terms}
 use Rattle.market_model.specs.Settlement.{surplus_terms, rent_terms}
@@ -48,7 +49,7 @@ pub record RefusalsArePairs (m : Parts) (taken g : List Row) (h : Choice) (bound
   pub best : IsBest m g h → BestPairs m taken g h bound p
   -- a bus's demand, the fixed offset of a row, and its limit less that and with it
   pub demand : (i : ℕ) → i < length m.buses → IsRefusal Plus (whole (bus_at m i).pd) (whole (bus_at m i).gs) bound p → IsRangeOf m taken bound p
-  pub offset : (r : Row) → Contains (rows m) r → IsRefusedIn (offset_terms m r) bound p → IsRangeOf m taken bound p
+  pub offset : IsMarket m → (r : Row) → Contains (rows m) r → IsRefusedIn (offset_terms m r) bound p → IsRangeOf m taken bound p
   pub limit_less : (r : Row) → Contains (rows m) r → IsRefusal Minus (limit m r) (row_offset m r) bound p → IsRangeOf m taken bound p
   pub limit_more : (r : Row) → Contains (rows m) r → IsRefusal Plus (limit m r) (row_offset m r) bound p → IsRangeOf m taken bound p
 

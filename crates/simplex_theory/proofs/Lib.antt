@@ -9,6 +9,7 @@ pub mod Outcomes
 pub mod PosedNumbers
 pub mod Posing
 pub mod Reaching
+pub mod SameStates
 pub mod Signs
 pub mod Splits
 pub mod Stepping
