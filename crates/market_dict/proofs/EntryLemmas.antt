@@ -83,3 +83,12 @@ row_named_at m market r (i, lt, at) name is = (
   position_named m market i name r (slice_get-get_or (rows m) i r lt ∙ ap Some at) is,
   ap (row_name m) (sym at) ∙ row_name-at m (rows_apart m (names_apart m market)) i r lt,
 )
+
+-- the place that was found
+pub place_found : (m : Parts) → IsMarket m → (r : Row) → Contains (rows m) r → (name : RowId) → name ≡ row_id m r → (place : ℕ) → position (is_named m name) (rows m) ≡ Some place
+    → (place < length (rows m)) × (row_name m r ≡ length m.blocks + 1 + place)
+place_found m market r c name is place found =
+    let named = row_named_at m market r c name is in
+    let one : Some named.0 ≡ Some place = sym named.2 ∙ found in
+    let same : named.0 ≡ place = Prim.cc in
+    (subst (λ (k : ℕ). k < length (rows m)) same named.1, named.3 ∙ ap (λ (k : ℕ). length m.blocks + 1 + k) same)

@@ -51,6 +51,7 @@ pub fn take_limit<N: Exact>(
     ensures kept { IfErr result (λ _. dict.new ≡ dict.old) }
     ensures pair { (g : List Row) → Holds market.now g dict.old → IfErr result (IsPairOver N.value N.bound market.now (g ++ row_of row ∷ [])) }
 {
+    let _lines = market.lines();
     let entries = row_entries(alloc, market, row)?;
     let name = row_name(market, row);
     match dict.add_row(name, entries.slice()) {
