@@ -65,10 +65,10 @@ flat_few f n few (x ∷ xs) =
 pub rows_few : (m : Parts) → IsMarket m → length (rows m) ≤ 1002000
 rows_few m market =
     let each : (lost : Option ℕ) → length (rows_of m lost) ≤ 2000 = λ lost.
-        let long : length (rows_of m lost) ≡ length (lines_of m lost) = length-rows_of m lost in
-        let few : length (lines_of m lost) ≤ length (places (length m.lines)) = filtered_few (bears m lost) (places (length m.lines)) in
-        let counted : length (places (length m.lines)) ≡ length m.lines = length-range_with_len 0 (length m.lines) in
-        Prim.omega (arith, long, few, counted, market.line_count) in
+    let long : length (rows_of m lost) ≡ length (lines_of m lost) = length-rows_of m lost in
+    let few : length (lines_of m lost) ≤ length (places (length m.lines)) = filtered_few (bears m lost) (places (length m.lines)) in
+    let counted : length (places (length m.lines)) ≡ length m.lines = length-range_with_len 0 (length m.lines) in
+    Prim.omega (arith, long, few, counted, market.line_count) in
     let all : length (flat_map (rows_of m) (groups m)) ≤ length (groups m) * 2000 = flat_few (rows_of m) 2000 each (groups m) in
     let groups_few : length (groups m) ≤ 501 = Prim.omega (arith, market.outage_count, length-map m.outages (λ (row : ℕ). Some (place_of_line m row))) in
     let same : length (rows m) ≡ length (flat_map (rows_of m) (groups m)) = ap length (rows-groups m) in

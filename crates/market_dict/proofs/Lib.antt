@@ -4,4 +4,5 @@ pub mod ListedLemmas
 pub mod NameLists
 pub mod ReadingLemmas
 pub mod RefusalLaws
+pub mod StopLemmas
 pub mod TermLemmas

@@ -165,8 +165,8 @@ module _ (d : Dictionary) (sound : IsDictionary d) (row : ℕ) (within : row < l
       let basic : (choice_of d).basic (slice_index d.basics row) ≡ true = choice_basic d sound (slice_index d.basics row) (Contains-at d.basics row within) in
       let terms = value_terms (system_in d) (choice_of d) (slice_index d.basics row) in
       let is : prefix (length terms) terms ≡ (note_of d (slice_index d.basics row)).value =
-          prefix-all terms
-          ∙ sym (value_is ∙ ap (λ (t : Bool). if t then total terms else (if (choice_of d).high (slice_index d.basics row) then (system_in d).high (slice_index d.basics row) else (system_in d).low (slice_index d.basics row))) basic) in
+      prefix-all terms
+      ∙ sym (value_is ∙ ap (λ (t : Bool). if t then total terms else (if (choice_of d).high (slice_index d.basics row) then (system_in d).high (slice_index d.basics row) else (system_in d).low (slice_index d.basics row))) basic) in
       subst (SystemNumber (system_in d) (choice_of d) Quantity) is
       (is_value (slice_index d.basics row) (length terms) (Contains-filter (choice_of d).basic d.names (slice_index d.basics row) named basic))
 

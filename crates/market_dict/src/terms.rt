@@ -1,6 +1,6 @@
 //! The prices and bounds of a market's blocks, of its balance and of the limits taken, in the order in which its dictionary has them.
 
-ghost use Rattle.std.specs.Prelude.{◌≡◌, List, [], ◌∷◌, ◌++◌, length, map, replicate, All, Contains, IfOk, IfErr};
+ghost use Rattle.std.specs.Prelude.{◌≡◌, pos, ◌≤ℤ◌, List, [], ◌∷◌, ◌++◌, length, map, replicate, All, Contains, IfOk, IfErr};
 ghost use Rattle.fraction_theory.specs.Fraction.{whole, neg_ℚ};
 ghost use Rattle.market_data.specs.Participants.{IsDatum};
 ghost use Rattle.market_model.specs.Dispatch.{zero, places, signed, empty, balance_terms};
@@ -84,6 +84,15 @@ fn needed<N: Exact>(market: &Market, idle: &[N]) -> Result<N, Passed<N>>
     Ok(balance.neg())
 }
 
+/// All that a block has.
+#[tactic(auto, using(market_data::proofs::Data::datum_read))]
+fn quantity_of<N: Exact>(block: &Block) -> N
+    requires { pos 0 ≤ℤ block.now.quantity }
+    ensures { N.value result ≡ whole block.now.quantity }
+{
+    datum(block.quantity)
+}
+
 /// The bounds of the blocks and of the balance.
 fn first_bounds<N: Exact>(
     alloc: Global,
@@ -97,7 +106,7 @@ fn first_bounds<N: Exact>(
     let low: N = datum(0);
     let mut bounds = List::new(alloc);
     for block in market.blocks().slice() {
-        let high = datum(block.quantity);
+        let high = quantity_of(block);
         bounds.push(Bounds { low, high })?;
     }
     bounds.push(Bounds {
