@@ -1,5 +1,5 @@
 -- What a dictionary that holds a market has at its ranks, and what is read there.
-use Rattle.std.specs.Prelude.{◌≡◌, ◌≢◌, ℕ, ◌+◌, ◌<◌, ◌≤◌, ◌==◌, pos, Bool, true, false, if◌then◌else◌, List, [], ◌∷◌, ◌++◌, length, map, take, Contains, Some, slice_index, refl}
+use Rattle.std.specs.Prelude.{◌≡◌, ◌≢◌, ℕ, ◌+◌, ◌-◌, ◌<◌, ◌≤◌, ◌==◌, pos, Bool, true, false, if◌then◌else◌, List, [], ◌∷◌, ◌++◌, length, map, take, Contains, Some, slice_index, refl}
 use Rattle.std.specs.List.{flat_map, slice_get}
 use Rattle.std.proofs.Common.{zero, suc, arith, ap, ap₂, sym, ◌∙◌, subst, inl, inr, get_or}
 use Rattle.std.proofs.lemmas.Bool.{eq-eqb}
@@ -199,3 +199,13 @@ module _ (d : Dictionary) (sound : IsDictionary d) (row : ℕ) (within : row < l
 
   pub below_refused : (bound : ℕ) (p : Passed Fraction) → IsRefusal Minus (note_of d (slice_index d.basics row)).value (note_of d (slice_index d.basics row)).low bound p → IsSystemPair (system_in d) bound p.op p.left p.right
   below_refused bound p = refused_pair (note_of d (slice_index d.basics row)).value (note_of d (slice_index d.basics row)).low bound p value_number low_number
+
+-- the place of the row of a rank among those of the market
+pub rank_place : (m : Parts) (g : List Row) (d : Dictionary) → IsMarket m → Holds m g d → (rank : ℕ) → balance_name m < rank → rank < length d.names
+    → (k : ℕ) × (r : Row) × (place : ℕ) × (balance_name m + 1 + k ≡ rank) × IsRanked m g d k place r
+rank_place m g d market holds rank behind within =
+    let k : ℕ = rank - (balance_name m + 1) in
+    let e : balance_name m + 1 + k ≡ rank = Prim.omega arith in
+    let found = ranked_row m g d market holds k rank e within in
+    let ranked = row_of_rank m g d market holds k found.0 found.1 in
+    (k, found.0, ranked.0, e, ranked.1)

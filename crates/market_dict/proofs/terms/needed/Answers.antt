@@ -48,3 +48,11 @@ returns-clause-needed g c =
     let m = c.args.market.now in
     let all : c.loop-bus.bus ≡ length m.buses = omega (arith, c.loop-bus-test.false, c.loop-bus.auto.bus-end, c.len-bus-end.ensures, ap length c.buses.ensures.list) in
     c.neg.ensures ∙ ap neg_ℚ (balance_all m (empty m) c.loop-bus.bus (g.N.Exact.value c.loop-bus.balance) all c.loop-bus.invariant)
+
+pub offset_bounds-idle-bus : goal.offset_bounds-idle-bus
+offset_bounds-idle-bus g c =
+    let m = c.args.market.now in
+    let fs = map g.N.Exact.value c.args.idle.now in
+    let count = flow_count m (empty m) fs c.requires in
+    let long = length-map c.args.idle.now g.N.Exact.value in
+    omega (arith, count, long, c.loop-bus-test.true, c.len-bus-end.ensures, ap length c.buses.ensures.list)
