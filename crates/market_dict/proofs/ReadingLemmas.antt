@@ -1,5 +1,5 @@
 -- What a dictionary that holds a market has at its ranks, and what is read there.
-use Rattle.std.specs.Prelude.{◌≡◌, ◌≢◌, ℕ, ◌+◌, ◌-◌, ◌<◌, ◌≤◌, ◌==◌, pos, Bool, true, false, if◌then◌else◌, List, [], ◌∷◌, ◌++◌, length, map, take, Contains, Some, slice_index, refl}
+use Rattle.std.specs.Prelude.{AllPairs, Result, Ok, Err, IfOk, IfErr, ◌≡◌, ◌≢◌, ℕ, ◌+◌, ◌-◌, ◌<◌, ◌≤◌, ◌==◌, pos, Bool, true, false, if◌then◌else◌, List, [], ◌∷◌, ◌++◌, length, map, take, Contains, Some, slice_index, refl}
 use Rattle.std.specs.List.{flat_map, slice_get}
 use Rattle.std.proofs.Common.{zero, suc, arith, ap, ap₂, sym, ◌∙◌, subst, inl, inr, get_or}
 use Rattle.std.proofs.lemmas.Bool.{eq-eqb}
@@ -16,7 +16,9 @@ use Rattle.fraction_theory.proofs.SumLaws.{prefix-all}
 use Rattle.exact_fraction.specs.declared.Op.{Op}
 use Rattle.exact_fraction.specs.declared.Op.TheVariants.{Minus}
 use Rattle.exact_fraction.specs.declared.Passed.{Passed}
-use Rattle.linear_system.specs.Choices.{Choice, IsChoice, basics, value, value_terms}
+use Rattle.exact_fraction.specs.Passes.{IsExact, IsPassed, outcome}
+use Rattle.linear_dict.proofs.NameLemmas.{lt_or_le}
+use Rattle.linear_system.specs.Choices.{Choice, IsChoice, at_bound, basics, value, value_terms}
 use Rattle.linear_system.specs.Numbers.{Quantity, SystemNumber, is_low, is_high, is_value}
 use Rattle.linear_system.specs.Pairs.{IsPairCase, subtracted, IsSummand, plain, alone, OfEither, IsSystemPair}
 use Rattle.linear_system.specs.Systems.{System}
@@ -143,6 +145,14 @@ module _ (h : Choice) (b w : ℕ) where
   multiplier_other n e = ap₂ chosen (not_eqb w b n) e
 
 -- ---- what a variable leaves of its bound
+value_basic : (s : System) (h : Choice) (b : ℕ) → h.basic b ≡ true → value s h b ≡ total (value_terms s h b)
+unfolding value
+value_basic s h b e = ap (λ (t : Bool). if t then total (value_terms s h b) else at_bound s h b) e
+
+in_basics : (d : Dictionary) (b : ℕ) → Contains d.names b → (choice_of d).basic b ≡ true → Contains (basics (system_in d) (choice_of d)) b
+unfolding basics system_in
+in_basics d b named basic = Contains-filter (choice_of d).basic d.names b named basic
+
 module _ (d : Dictionary) (sound : IsDictionary d) (row : ℕ) (within : row < length d.basics) (shows : ShowsChoice d) where
   named : Contains d.names (slice_index d.basics row)
   named = sound.split.first_named (slice_index d.basics row) (Contains-at d.basics row within)
@@ -160,15 +170,12 @@ module _ (d : Dictionary) (sound : IsDictionary d) (row : ℕ) (within : row < l
   margin_below = ap (λ v. v -ℚ (note_of d (slice_index d.basics row)).low) value_is
 
   value_number : SystemNumber (system_in d) (choice_of d) Quantity (note_of d (slice_index d.basics row)).value
-  unfolding value basics system_in
   value_number =
       let basic : (choice_of d).basic (slice_index d.basics row) ≡ true = choice_basic d sound (slice_index d.basics row) (Contains-at d.basics row within) in
       let terms = value_terms (system_in d) (choice_of d) (slice_index d.basics row) in
-      let is : prefix (length terms) terms ≡ (note_of d (slice_index d.basics row)).value =
-      prefix-all terms
-      ∙ sym (value_is ∙ ap (λ (t : Bool). if t then total terms else (if (choice_of d).high (slice_index d.basics row) then (system_in d).high (slice_index d.basics row) else (system_in d).low (slice_index d.basics row))) basic) in
+      let is : prefix (length terms) terms ≡ (note_of d (slice_index d.basics row)).value = prefix-all terms ∙ sym (value_is ∙ value_basic (system_in d) (choice_of d) (slice_index d.basics row) basic) in
       subst (SystemNumber (system_in d) (choice_of d) Quantity) is
-      (is_value (slice_index d.basics row) (length terms) (Contains-filter (choice_of d).basic d.names (slice_index d.basics row) named basic))
+      (is_value (slice_index d.basics row) (length terms) (in_basics d (slice_index d.basics row) named basic))
 
   high_number : SystemNumber (system_in d) (choice_of d) Quantity (note_of d (slice_index d.basics row)).high
   unfolding system_in
@@ -209,3 +216,23 @@ rank_place m g d market holds rank behind within =
     let found = ranked_row m g d market holds k rank e within in
     let ranked = row_of_rank m g d market holds k found.0 found.1 in
     (k, found.0, ranked.0, e, ranked.1)
+
+-- ---- an exact number, or two that passed
+pub exact_ok : {N : Type 0} (value : N → Fraction) (bound : ℕ) (op : Op) (l r : N) (result : Result N (Passed N)) (z : Fraction) → IsExact value bound op l r result → outcome op (value l) (value r) ≡ z → IfOk result (λ x. value x ≡ z)
+exact_ok value bound op l r (Ok x) z h e = h.exact ∙ e
+exact_ok value bound op l r (Err p) z h e = tt
+
+pub exact_err : {N : Type 0} (value : N → Fraction) (bound : ℕ) (op : Op) (l r : N) (result : Result N (Passed N)) (P : Passed N → Type 0) → IsExact value bound op l r result → ((p : Passed N) → IsPassed value bound op l r p → P p) → IfErr result P
+exact_err value bound op l r (Ok x) P h f = tt
+exact_err value bound op l r (Err p) P h f = f p h
+
+-- two places of a list of distinct names
+pub names_differ : (xs : List ℕ) → AllPairs (λ x y. ¬ (x ≡ y)) xs → (i j : ℕ) → i < length xs → j < length xs → i ≢ j → slice_index xs i ≢ slice_index xs j
+names_differ xs distinct i j li lj n e = elim (lt_or_le i j) [
+  | inl lt ↦ distinct i j 0 lt lj e
+  | inr ge ↦ let other : j < i = Prim.omega (arith, ge, n) in distinct j i 0 other li (sym e)
+]
+
+pub known_names : (d : Dictionary) (w : ℕ) → Contains d.names w → Contains (system_in d).variables w
+unfolding system_in
+known_names d w c = c

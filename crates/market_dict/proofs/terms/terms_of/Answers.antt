@@ -25,5 +25,5 @@ loop-row-preserved g c =
     let taken = c.args.taken.now in
     let none : LimitRow = record { line = 0; lost = None } in
     let more : map row_of (take (k + 1) taken) ≡ map row_of (take k taken) ++ row_of (slice_index_or taken k none) ∷ [] =
-        ap (map row_of) (take_more taken k none c.loop-row-test.true) ∙ map-append row_of (take k taken) (slice_index_or taken k none ∷ []) in
+    ap (map row_of) (take_more taken k none c.loop-row-test.true) ∙ map-append row_of (take k taken) (slice_index_or taken k none ∷ []) in
     subst (λ (rs : List Row). AreTerms g.N.Exact.value m rs c.take_bounds.new.terms) (sym more) (c.in_ok-take_bounds.ensures.taken (map row_of (take k taken)) c.loop-row.invariant)
