@@ -1,0 +1,94 @@
+-- What blocks count in the rows of a dictionary, and the names of its variables.
+use Rattle.std.specs.Prelude.{◌≡◌, ◌≢◌, ℕ, ◌<◌, ◌≤◌, ◌+◌, ◌*◌, pos, Bool, true, false, cond, List, [], ◌∷◌, length, map, filter, AllPairs, Contains, Option, Some, refl}
+use Rattle.std.specs.List.{slice_get, flat_map, position}
+use Rattle.std.proofs.Common.{zero, suc, arith, ap, ap₂, sym, ◌∙◌, subst, get_or}
+use Rattle.std.proofs.lemmas.List.{length-append, length-map}
+use Rattle.std.proofs.lemmas.List.Concat.{flat_map-cons}
+use Rattle.std.proofs.lemmas.List.FromFn.{length-range_with_len, get_or-range_with_len}
+use Rattle.std.proofs.lemmas.Option.{slice_get-get_or}
+use Rattle.fraction_theory.specs.Fraction.{Fraction, whole}
+use Rattle.market_data.specs.declared.participants.Unit as unit
+use Rattle.market_model.specs.declared.answered.RowId.{RowId}
+use Rattle.market_model.specs.declared.participants.Block.{Block}
+use Rattle.market_model.specs.declared.participants.Parts.{Parts}
+use Rattle.market_model.specs.Dispatch.{places, signed, block_at, block_bus, unit_at}
+use Rattle.market_model.specs.LimitRows.{Row, rows, row_id, row_factor, place_of_line}
+use Rattle.market_model.specs.Market.{IsMarket}
+use Rattle.market_model.proofs.MarketSums.{unit_bus-in, block_unit-in}
+use Rattle.limit_rows.specs.Groups.{bears, groups, is_named, lines_of, rows_of}
+use Rattle.limit_rows.proofs.ApartLemmas.{names_apart}
+use Rattle.limit_rows.proofs.GroupLemmas.{rows-groups}
+use Rattle.limit_rows.proofs.NumberingLemmas.{length-rows_of}
+use Rattle.limit_rows.proofs.PlaceLemmas.{position_named}
+use Rattle.market_system.specs.MarketSystem.{balance_name, row_name, block_sign, block_coefficient}
+use Rattle.market_system.proofs.DualLists.{rows_apart}
+use Rattle.market_system.proofs.RowOrder.{row_name-at}
+use Rattle.market_system.proofs.SystemLaws.{from_places}
+
+pub sign_entry : (m : Parts) (k : ℕ) (block : Block) (one entry : Fraction) → block ≡ block_at m k → one ≡ whole (pos 1) → entry ≡ signed block.side one → entry ≡ block_sign m k
+sign_entry m k block one entry at is e = e ∙ ap₂ (λ (b : Block) (x : Fraction). signed b.side x) at is
+
+pub row_entry_is : (m : Parts) (r : Row) (k : ℕ) (block : Block) → block ≡ block_at m k → signed block.side (row_factor m r (unit_at m block.unit).bus) ≡ block_coefficient m r k
+row_entry_is m r k block at = ap (λ (b : Block). signed b.side (row_factor m r (unit_at m b.unit).bus)) at
+
+-- the bus of a unit that was read
+pub unit_bus_is : (m : Parts) (u : ℕ) (read : unit.Unit) → IsMarket m → u < length m.units → read ≡ unit_at m u → read.bus < length m.buses
+unit_bus_is m u read market lt at = subst (λ (v : unit.Unit). v.bus < length m.buses) (sym at) (unit_bus-in m market u lt)
+
+-- ---- the names of blocks and of the balance
+pub places_distinct : (n : ℕ) → AllPairs (λ x y. x ≢ y) (places n)
+places_distinct n i j d lt h e =
+    let long : length (places n) ≡ n = length-range_with_len 0 n in
+    let first : get_or (places n) i d ≡ 0 + i = get_or-range_with_len 0 n i d (Prim.omega (arith, lt, h, long)) in
+    let second : get_or (places n) j d ≡ 0 + j = get_or-range_with_len 0 n j d (Prim.omega (arith, h, long)) in
+    absurd (Prim.omega (arith, lt, first, second, e))
+
+pub place_absent : (n : ℕ) → ¬ (Contains (places n) n)
+place_absent n c = absurd (Prim.omega (arith, from_places n n c))
+
+-- ---- how many rows a market has
+filtered_few : {X : Type 0} (p : X → Bool) (xs : List X) → length (filter p xs) ≤ length xs
+filtered_few p [] = Prim.omega arith
+filtered_few p (x ∷ xs) =
+    let rest : length (filter p xs) ≤ length xs = filtered_few p xs in
+    elim (p x) as (λ (b : Bool). length (cond b (x ∷ filter p xs) (filter p xs)) ≤ length (x ∷ xs)) [ true ↦ Prim.omega (arith, rest) | false ↦ Prim.omega (arith, rest) ]
+
+flat_few : {X Y : Type 0} (f : X → List Y) (n : ℕ) → ((x : X) → length (f x) ≤ n) → (xs : List X) → length (flat_map f xs) ≤ length xs * n
+flat_few f n few [] = Prim.omega arith
+flat_few f n few (x ∷ xs) =
+    let rest : length (flat_map f xs) ≤ length xs * n = flat_few f n few xs in
+    let here : length (f x) ≤ n = few x in
+    let all : length (flat_map f (x ∷ xs)) ≡ length (f x) + length (flat_map f xs) = ap length (flat_map-cons f x xs) ∙ length-append (f x) (flat_map f xs) in
+    let more : suc (length xs) * n ≡ n + length xs * n = Prim.omega arith in
+    Prim.omega (arith, rest, here, all, more)
+
+pub rows_few : (m : Parts) → IsMarket m → length (rows m) ≤ 1002000
+rows_few m market =
+    let each : (lost : Option ℕ) → length (rows_of m lost) ≤ 2000 = λ lost.
+    let long : length (rows_of m lost) ≡ length (lines_of m lost) = length-rows_of m lost in
+    let few : length (lines_of m lost) ≤ length (places (length m.lines)) = filtered_few (bears m lost) (places (length m.lines)) in
+    let counted : length (places (length m.lines)) ≡ length m.lines = length-range_with_len 0 (length m.lines) in
+    Prim.omega (arith, long, few, counted, market.line_count) in
+    let all : length (flat_map (rows_of m) (groups m)) ≤ length (groups m) * 2000 = flat_few (rows_of m) 2000 each (groups m) in
+    let groups_few : length (groups m) ≤ 501 = Prim.omega (arith, market.outage_count, length-map m.outages (λ (row : ℕ). Some (place_of_line m row))) in
+    let same : length (rows m) ≡ length (flat_map (rows_of m) (groups m)) = ap length (rows-groups m) in
+    Prim.omega (arith, all, groups_few, same)
+
+-- ---- the name of a row by its position
+pub row_named_at : (m : Parts) → IsMarket m → (r : Row) → Contains (rows m) r → (name : RowId) → name ≡ row_id m r
+    → (place : ℕ) × (place < length (rows m)) × (position (is_named m name) (rows m) ≡ Some place) × (row_name m r ≡ length m.blocks + 1 + place)
+row_named_at m market r (i, lt, at) name is = (
+  i,
+  lt,
+  position_named m market i name r (slice_get-get_or (rows m) i r lt ∙ ap Some at) is,
+  ap (row_name m) (sym at) ∙ row_name-at m (rows_apart m (names_apart m market)) i r lt,
+)
+
+-- the place that was found
+pub place_found : (m : Parts) → IsMarket m → (r : Row) → Contains (rows m) r → (name : RowId) → name ≡ row_id m r → (place : ℕ) → position (is_named m name) (rows m) ≡ Some place
+    → (place < length (rows m)) × (row_name m r ≡ length m.blocks + 1 + place)
+place_found m market r c name is place found =
+    let named = row_named_at m market r c name is in
+    let one : Some named.0 ≡ Some place = sym named.2 ∙ found in
+    let same : named.0 ≡ place = Prim.cc in
+    (subst (λ (k : ℕ). k < length (rows m)) same named.1, named.3 ∙ ap (λ (k : ℕ). length m.blocks + 1 + k) same)

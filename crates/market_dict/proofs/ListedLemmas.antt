@@ -1,0 +1,44 @@
+-- Lists that are filled place by place.
+use Rattle.std.specs.Prelude.{◌≡◌, ℕ, ◌+◌, ◌<◌, ◌≤◌, List, [], ◌∷◌, ◌++◌, map, length, take, replicate, slice_index}
+use Rattle.std.proofs.Common.{zero, suc, arith, ap, ap₂, sym, ◌∙◌, get_or, refl, add-one}
+use Rattle.std.proofs.lemmas.List.{map-append, take_more, take_all, replicate-append-replicate}
+use Rattle.std.specs.List.{Contains}
+use Rattle.market_model.specs.Dispatch.{places}
+use Rattle.market_model.proofs.MorePlaces.{places_more}
+
+-- a number more at its end
+pub map-pushed : {N Y : Type 0} (value : N → Y) (xs : List N) (ys : List Y) (x : N) (y : Y) → map value xs ≡ ys → value x ≡ y → map value (xs ++ x ∷ []) ≡ ys ++ y ∷ []
+map-pushed value xs ys x y before here = map-append value xs (x ∷ []) ∙ ap₂ (λ (us vs : List _). us ++ vs) before (ap (λ z. z ∷ []) here)
+
+pub places_filled : {N Y : Type 0} (value : N → Y) (f : ℕ → Y) (xs : List N) (k : ℕ) (x : N) → map value xs ≡ map f (places k) → value x ≡ f k → map value (xs ++ x ∷ []) ≡ map f (places (k + 1))
+places_filled value f xs k x before here = map-pushed value xs (map f (places k)) x (f k) before here ∙ sym (ap (map f) (places_more k) ∙ map-append f (places k) (k ∷ []))
+
+-- the same over names, by rank
+pub names_filled : {N Y : Type 0} (value : N → Y) (f : ℕ → Y) (names : List ℕ) (xs : List N) (k : ℕ) (x : N) → k < length names → map value xs ≡ map f (take k names) → value x ≡ f (slice_index names k)
+    → map value (xs ++ x ∷ []) ≡ map f (take (k + 1) names)
+names_filled value f names xs k x lt before here =
+    map-pushed value xs (map f (take k names)) x (f (slice_index names k)) before here
+    ∙ sym (ap (map f) (take_more names k 0 lt) ∙ map-append f (take k names) (slice_index names k ∷ []))
+
+pub names_all : {Y : Type 0} (f : ℕ → Y) (names : List ℕ) (k : ℕ) → length names ≤ k → map f (take k names) ≡ map f names
+names_all f names k h = ap (map f) (take_all k names h)
+
+-- zeros
+pub replicate-more : {Y : Type 0} (n : ℕ) (y : Y) → replicate (n + 1) y ≡ replicate n y ++ y ∷ []
+replicate-more n y = sym (replicate-append-replicate n 1 y)
+
+pub replicate_filled : {N Y : Type 0} (value : N → Y) (y : Y) (xs : List N) (k : ℕ) (x : N) → map value xs ≡ replicate k y → value x ≡ y → map value (xs ++ x ∷ []) ≡ replicate (k + 1) y
+replicate_filled value y xs k x before here = map-pushed value xs (replicate k y) x y before here ∙ sym (replicate-more k y)
+
+-- functions that agree on the elements of a list
+pub map-members : {X Y : Type 0} (f g : X → Y) (xs : List X) → ((x : X) → Contains xs x → f x ≡ g x) → map f xs ≡ map g xs
+map-members f g [] h = refl
+map-members f g (x ∷ xs) h = ap₂ (λ y ys. y ∷ ys) (h x (0, Prim.omega arith, refl)) (map-members f g xs (λ y c. h y (suc c.0, Prim.omega (arith, c.1), c.2)))
+
+-- the places by themselves
+pub places-self : (n : ℕ) → map (λ k. k) (places n) ≡ places n
+places-self n = map-self (places n)
+  where
+    map-self : (xs : List ℕ) → map (λ k. k) xs ≡ xs
+    map-self [] = refl
+    map-self (x ∷ xs) = ap (λ ys. x ∷ ys) (map-self xs)

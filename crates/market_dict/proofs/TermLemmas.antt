@@ -1,0 +1,100 @@
+-- The prices and bounds of a market's dictionary, one after the other.
+use Rattle.std.specs.Prelude.{◌≡◌, ◌⊎◌, ℕ, ◌+◌, ◌-◌, ◌<◌, ◌≤◌, pos, List, [], ◌∷◌, ◌++◌, length, map, replicate, Contains, refl}
+use Rattle.std.specs.List.{range_with_len}
+use Rattle.std.proofs.Common.{zero, suc, arith, ap, ap₂, sym, ◌∙◌, subst, get_or, append_assoc}
+use Rattle.std.proofs.lemmas.List.{map-append, length-append, length-map, get_or-map, get_or-append_right, get_or_append_left}
+use Rattle.std.proofs.lemmas.List.FromFn.{length-map-range_with_len, get_or-map-range_with_len}
+use Rattle.fraction_theory.specs.Fraction.{Fraction, whole, neg_ℚ, ◌+ℚ◌, ◌-ℚ◌}
+use Rattle.fraction_theory.specs.Sums.{Term, Plain, Product, total}
+use Rattle.fraction_theory.proofs.FieldLaws.{ring_ℚ}
+use Rattle.fraction_theory.proofs.Ring.{neg_neg}
+use Rattle.exact_fraction.specs.declared.Op.TheVariants.{Plus, Minus}
+use Rattle.exact_fraction.specs.declared.Passed.{Passed}
+use Rattle.market_model.specs.declared.participants.Block.{Block}
+use Rattle.market_model.specs.declared.participants.Parts.{Parts}
+use Rattle.market_model.specs.Dispatch.{Dispatch, places, signed, block_at, quantity, empty, injection, balance, balance_terms}
+use Rattle.market_model.specs.LimitRows.{Cause, Base, After, Row, rows, limit, line_flow, loss_factor}
+use Rattle.market_model.specs.Market.{IsMarket}
+use Rattle.market_model.specs.NamedSums.{IsAddedIn, IsRefusal, IsRefusedIn}
+use Rattle.market_model.proofs.MorePlaces.{total-places_more}
+use Rattle.market_model.proofs.SumSteps.{plus_at, terms_at}
+use Rattle.limit_rows.proofs.FactorLemmas.{IsLost, stands}
+use Rattle.limit_screen.specs.Flows.{flow_terms, flow_terms_in, flows_at, line_in}
+use Rattle.market_system.specs.MarketSystem.{needed, least_added, most_added}
+use Rattle.market_dict.specs.Holding.{lows, highs}
+
+-- ---- flows where nothing is accepted
+module _ (m : Parts) (x : Dispatch) (fs : List Fraction) (puts : fs ≡ flows_at m x) where
+  front : List Fraction
+  front = map (injection m x) (places (length m.buses))
+
+  back : List Fraction
+  back = map (line_flow m (injection m x)) (places (length m.lines))
+
+  pub flow_count : length fs ≡ length m.buses + length m.lines
+  flow_count =
+      let first : length (map (injection m x) (places (length m.buses))) ≡ length m.buses = length-map-range_with_len (injection m x) 0 (length m.buses) in
+      let second : length (map (line_flow m (injection m x)) (places (length m.lines))) ≡ length m.lines = length-map-range_with_len (line_flow m (injection m x)) 0 (length m.lines) in
+      ap length puts ∙ length-append (map (injection m x) (places (length m.buses))) (map (line_flow m (injection m x)) (places (length m.lines))) ∙ ap₂ ◌+◌ first second
+
+  pub bus_at_place : (i : ℕ) → i < length m.buses → get_or fs i (whole (pos 0)) ≡ injection m x i
+  bus_at_place i lt =
+      let first : length (map (injection m x) (places (length m.buses))) ≡ length m.buses = length-map-range_with_len (injection m x) 0 (length m.buses) in
+      let from_0 : 0 + i ≡ i = Prim.omega arith in
+      ap (λ (ys : List Fraction). get_or ys i (whole (pos 0))) puts
+      ∙ get_or_append_left (map (injection m x) (places (length m.buses))) (map (line_flow m (injection m x)) (places (length m.lines))) (whole (pos 0)) i (Prim.omega (arith, lt, first))
+      ∙ get_or-map-range_with_len (injection m x) 0 (length m.buses) i i (whole (pos 0)) lt from_0
+
+  line_at_place : (l : ℕ) → l < length m.lines → line_in m fs l ≡ line_flow m (injection m x) l
+  line_at_place l h =
+      let count : length (map (injection m x) (places (length m.buses))) ≡ length m.buses = length-map-range_with_len (injection m x) 0 (length m.buses) in
+      let past : length m.buses ≤ length m.buses + l = Prim.omega arith in
+      let left : (length m.buses + l) - length m.buses ≡ l = Prim.omega arith in
+      let from_0 : 0 + l ≡ l = Prim.omega arith in
+      ap (λ (ys : List Fraction). get_or ys (length m.buses + l) (whole (pos 0))) puts
+      ∙ get_or-append_right (map (injection m x) (places (length m.buses))) (map (line_flow m (injection m x)) (places (length m.lines))) (length m.buses) (length m.buses + l) (whole (pos 0)) count past
+      ∙ ap (λ (i : ℕ). get_or (map (line_flow m (injection m x)) (places (length m.lines))) i (whole (pos 0))) left
+      ∙ get_or-map-range_with_len (line_flow m (injection m x)) 0 (length m.lines) l l (whole (pos 0)) h from_0
+
+  -- the terms of a row's flow
+  pub row_terms : (r : Row) → IsMarket m → Contains (rows m) r → flow_terms m (line_in m fs) r ≡ flow_terms m (line_flow m (injection m x)) r
+  row_terms r market c = let h = stands m market r c in by r.cause h.lost h.line
+    where
+      by : (cause : Cause) → IsLost m cause → r.line < length m.lines → flow_terms_in m (line_in m fs) r.line cause ≡ flow_terms_in m (line_flow m (injection m x)) r.line cause
+      by Base lost inside = ap (λ (a : Fraction). Plain a ∷ []) (line_at_place r.line inside)
+      by (After k) lost inside = ap₂ (λ (a b : Fraction). Plain a ∷ Product (loss_factor m r.line k) b ∷ []) (line_at_place r.line inside) (line_at_place k lost.0)
+
+-- ---- the balance, bus by bus
+module _ (m : Parts) (x : Dispatch) where
+  abbrev pub balance_to : ℕ → Fraction
+  balance_to k = total (map (λ i. Plain (injection m x i)) (places k))
+
+  pub balance_step : (k : ℕ) (mw old new : Fraction) → mw ≡ injection m x k → old ≡ balance_to k → new ≡ old +ℚ mw → new ≡ balance_to (k + 1)
+  balance_step k mw old new is before e = e ∙ ap₂ ◌+ℚ◌ before is ∙ sym (total-places_more (λ i. Plain (injection m x i)) k)
+
+  pub balance_refused : (k : ℕ) (mw sum : Fraction) (bound : ℕ) (p : Passed Fraction) → k < length m.buses → mw ≡ injection m x k → sum ≡ balance_to k → IsRefusal Plus sum mw bound p → IsAddedIn (balance_terms m x) bound p
+  balance_refused k mw sum bound p lt is before h =
+      let r = terms_at (λ i. Plain (injection m x i)) (length m.buses) k lt in
+      plus_at (balance_terms m x) (map (λ i. Plain (injection m x i)) (places k)) r.0 (Plain (injection m x k)) r.1 bound p sum mw before is h
+
+  pub balance_all : (k : ℕ) (mw : Fraction) → k ≡ length m.buses → mw ≡ balance_to k → mw ≡ balance m x
+  unfolding balance
+  balance_all k mw e is = is ∙ ap balance_to e
+
+-- ---- a buy's price
+pub twice : (x : Fraction) → x ≡ neg_ℚ (neg_ℚ x)
+twice x = sym (neg_neg ring_ℚ x)
+
+pub priced : (m : Parts) (k : ℕ) (block : Block) (price : Fraction) → block ≡ block_at m k → price ≡ neg_ℚ (signed block.side (whole block.price)) → price ≡ neg_ℚ (signed (block_at m k).side (whole (block_at m k).price))
+priced m k block price at e = e ∙ ap (λ (b : Block). neg_ℚ (signed b.side (whole b.price))) at
+
+pub quantity_read : (m : Parts) (k : ℕ) (block : Block) (high : Fraction) → block ≡ block_at m k → high ≡ whole block.quantity → high ≡ quantity m k
+quantity_read m k block high at e = e ∙ ap (λ (b : Block). whole b.quantity) at
+
+-- ---- one row more
+pub bound_more : {N : Type 0} (value : N → Fraction) (first : List Fraction) (y : Fraction) (of_row : Row → Fraction) (g : List Row) (r : Row) (xs : List N) (x : N)
+    → map value xs ≡ first ++ y ∷ map of_row g → value x ≡ of_row r → map value (xs ++ x ∷ []) ≡ first ++ y ∷ map of_row (g ++ r ∷ [])
+bound_more value first y of_row g r xs x before here =
+    map-append value xs (x ∷ []) ∙ ap₂ (λ (us vs : List Fraction). us ++ vs) before (ap (λ (z : Fraction). z ∷ []) here)
+    ∙ append_assoc first (y ∷ map of_row g) (of_row r ∷ [])
+    ∙ ap (λ (zs : List Fraction). first ++ y ∷ zs) (sym (map-append of_row g (r ∷ [])))

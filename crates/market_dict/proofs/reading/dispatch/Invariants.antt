@@ -1,0 +1,7 @@
+use Rattle.std.proofs.Common.{◌≡◌, map}
+use Rattle.linear_dict.specs.Dictionaries.{note_of}
+use Rattle.market_model.specs.Dispatch.{places}
+use Rattle.market_dict.proofs.reading.dispatch.Given as goal
+
+abbrev pub invariant-loop-rank : goal.invariant-loop-rank
+invariant-loop-rank g l = map g.N.Exact.value l.values ≡ map (λ w. (note_of l.dict w).value) (places l.rank)

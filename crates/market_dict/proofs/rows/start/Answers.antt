@@ -1,0 +1,25 @@
+use Rattle.std.proofs.Common.{◌≡◌, ◌≢◌, ◌∙◌, ℕ, List, map, ap, sym, subst, arith, length}
+use Rattle.std.specs.List.{AllPairs, Contains}
+use Rattle.std.proofs.lemmas.Result.{IfOk-weaker}
+use Rattle.linear_dict.specs.Dictionaries.{Dictionary, IsStart}
+use Rattle.market_model.specs.Dispatch.{places}
+use Rattle.market_system.specs.MarketSystem.{block_sign}
+use Rattle.market_dict.proofs.EntryLemmas.{places_distinct, place_absent}
+use Rattle.market_dict.proofs.HoldingLaws.{holds_start}
+use Rattle.market_dict.proofs.rows.start.Goals as goal
+
+pub start-requires-clause-distinct : goal.start-requires-clause-distinct
+start-requires-clause-distinct g c = subst (AllPairs (λ x y. x ≢ y)) (sym (c.slice.ensures ∙ c.in_ok-names.ensures)) (places_distinct c.len-blocks.result)
+
+pub start-requires-clause-absent : goal.start-requires-clause-absent
+start-requires-clause-absent g c = subst (λ (ns : List ℕ). ¬ (Contains ns c.len-blocks.result)) (sym (c.slice.ensures ∙ c.in_ok-names.ensures)) (place_absent c.len-blocks.result)
+
+pub returns : goal.returns
+returns g c =
+    let m = c.args.market.now in
+    let blocks : c.len-blocks.result ≡ length m.blocks = c.len-blocks.ensures ∙ ap length c.blocks-2.ensures.list in
+    IfOk-weaker c.start.result _ _
+    (λ d is. holds_start g.N.Exact.value m c.slice.result.now c.slice-2.result.now d (c.slice.ensures ∙ c.in_ok-names.ensures ∙ ap places blocks)
+    (ap (map g.N.Exact.value) c.slice-2.ensures ∙ c.in_ok-entries.ensures)
+    (subst (λ (n : ℕ). IsStart g.N.Exact.value c.slice.result.now n c.slice-2.result.now d) blocks is))
+    c.start.ensures

@@ -1,0 +1,29 @@
+use Rattle.std.proofs.Common.{rules, Err, ◌+◌, ◌≡◌, ◌∙◌, ◌++◌, ◌∷◌, [], List, None, map, take, ap, sym, subst, length, arith}
+use Rattle.std.specs.Prelude.{slice_index_or}
+use Rattle.std.proofs.lemmas.List.{take_more, map-append}
+use Rattle.market_model.specs.LimitRows.{Row}
+use Rattle.market_model.specs.Valued.{passed_at}
+use Rattle.limit_rows.specs.Places.{row_of}
+use Rattle.limit_rows.specs.declared.places.LimitRow.{LimitRow}
+use Rattle.market_dict.specs.Refusals.{of_flows}
+use Rattle.market_dict.specs.Terms.{AreTerms}
+use Rattle.market_dict.proofs.StopLemmas.{on_passed_weaker}
+use Rattle.market_dict.proofs.terms.terms_of.Goals as goal
+
+pub returns-in_err-idle-clause-cause : goal.returns-in_err-idle-clause-cause
+returns-in_err-idle-clause-cause g c =
+    let given : c.from_residual-in_err-idle.result ≡ Err c.in_err-idle.field-0.0 = search rules in
+    rw given (on_passed_weaker c.in_err-idle.field-0.0 _ _ (λ p h. of_flows h) c.in_err-idle.ensures.cause)
+
+pub take_bounds-requires-clause-row : goal.take_bounds-requires-clause-row
+take_bounds-requires-clause-row g c = c.requires.rows c.loop-row.row-index (record { line = 0; lost = None }) c.loop-row-test.true
+
+pub loop-row-preserved : goal.loop-row-preserved
+loop-row-preserved g c =
+    let m = c.args.market.now in
+    let k = c.loop-row.row-index in
+    let taken = c.args.taken.now in
+    let none : LimitRow = record { line = 0; lost = None } in
+    let more : map row_of (take (k + 1) taken) ≡ map row_of (take k taken) ++ row_of (slice_index_or taken k none) ∷ [] =
+    ap (map row_of) (take_more taken k none c.loop-row-test.true) ∙ map-append row_of (take k taken) (slice_index_or taken k none ∷ []) in
+    subst (λ (rs : List Row). AreTerms g.N.Exact.value m rs c.take_bounds.new.terms) (sym more) (c.in_ok-take_bounds.ensures.taken (map row_of (take k taken)) c.loop-row.invariant)

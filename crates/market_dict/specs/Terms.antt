@@ -1,0 +1,17 @@
+-- The prices and bounds of a market's system, in the order in which its dictionary has them.
+use Rattle.std.specs.Prelude.{◌≡◌, List, length, map}
+use Rattle.fraction_theory.specs.Fraction.{Fraction}
+use Rattle.market_model.specs.declared.participants.Parts.{Parts}
+use Rattle.market_model.specs.Dispatch.{places, empty}
+use Rattle.market_model.specs.LimitRows.{Row}
+use Rattle.market_model.specs.Optimality.{block_value}
+use Rattle.limit_screen.specs.Flows.{flows_at}
+use Rattle.market_dict.specs.Holding.{lows, highs}
+use Rattle.market_dict.specs.declared.terms.Terms.{Terms}
+
+-- the prices and bounds of the market over these rows, and its flows where nothing is accepted
+pub record AreTerms {N : Type 0} (value : N → Fraction) (m : Parts) (g : List Row) (t : Terms N) : Type 0 where
+  pub prices : map value t.prices ≡ map (block_value m) (places (length m.blocks))
+  pub lows : map (λ b. value b.low) t.bounds ≡ lows m g
+  pub highs : map (λ b. value b.high) t.bounds ≡ highs m g
+  pub idle : map value t.idle.items ≡ flows_at m (empty m)

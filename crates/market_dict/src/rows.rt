@@ -1,0 +1,62 @@
+//! The dictionary of a market: its start with the balance alone, and the limits that it takes.
+
+ghost use Rattle.std.specs.Prelude.{◌≡◌, List, [], ◌∷◌, ◌++◌, Contains, IfOk, IfErr};
+ghost use Rattle.market_model.specs.LimitRows.{Row, rows};
+ghost use Rattle.market_system.specs.MarketSystem.{row_name as row_name_of};
+ghost use Rattle.limit_rows.specs.Places.{row_of};
+ghost use Rattle.market_dict.specs.Findings.{IsPairOver};
+ghost use Rattle.market_dict.specs.Holding.{Holds};
+
+use crate::entries::{balance_entries, block_names, row_entries};
+use crate::stop::Stop;
+use exact_fraction::Exact;
+use limit_rows::{LimitRow, name_at, position};
+use linear_dict::{AddStop, Dict};
+use market_model::Market;
+use plain_list::Memory;
+use std::alloc::Global;
+
+/// The dictionary of a market over none of its limits: the blocks are the other variables, and the balance is basic.
+pub fn start<N: Exact>(alloc: Global, market: &Market) -> Result<Dict<N>, Memory>
+    ensures { IfOk result (Holds market.now []) }
+{
+    let blocks = market.blocks().len() as u32;
+    let names = block_names(alloc, blocks)?;
+    let entries = balance_entries(alloc, market)?;
+    Dict::start(alloc, names.slice(), blocks, entries.slice())
+}
+
+/// The name of a limit's variable: its place among the market's limits, behind the blocks and the balance.
+fn row_name(market: &Market, row: LimitRow) -> u32
+    requires { Contains (rows market.now) (row_of row) }
+    ensures { result ≡ row_name_of market.now (row_of row) }
+{
+    let _lines = market.lines();
+    match position(market, name_at(market, row)) {
+        Some(place) => (market.blocks().len() + 1 + place) as u32,
+        None => unreachable!(),
+    }
+}
+
+/// Puts in a limit row as the last one. After an `Err` the dictionary is as it was.
+pub fn take_limit<N: Exact>(
+    alloc: Global,
+    market: &Market,
+    dict: &mut Dict<N>,
+    row: LimitRow,
+) -> Result<(), Stop<N>>
+    requires row { Contains (rows market.now) (row_of row) }
+    requires holds { (g : List Row) × Holds market.now g dict.old × ¬ (Contains g (row_of row)) }
+    ensures taken { (g : List Row) → Holds market.now g dict.old → IfOk result (λ _. Holds market.now (g ++ row_of row ∷ []) dict.new) }
+    ensures kept { IfErr result (λ _. dict.new ≡ dict.old) }
+    ensures pair { (g : List Row) → Holds market.now g dict.old → IfErr result (IsPairOver N.value N.bound market.now (g ++ row_of row ∷ [])) }
+{
+    let _lines = market.lines();
+    let entries = row_entries(alloc, market, row)?;
+    let name = row_name(market, row);
+    match dict.add_row(name, entries.slice()) {
+        Ok(()) => Ok(()),
+        Err(AddStop::Passed(passed)) => Err(Stop::Passed(passed)),
+        Err(AddStop::Memory) => Err(Stop::Memory),
+    }
+}

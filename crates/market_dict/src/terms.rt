@@ -1,0 +1,175 @@
+//! The prices and bounds of a market's blocks, of its balance and of the limits taken, in the order in which its dictionary has them.
+
+ghost use Rattle.std.specs.Prelude.{◌≡◌, pos, ◌≤ℤ◌, List, [], ◌∷◌, ◌++◌, length, map, replicate, All, Contains, IfOk, IfErr};
+ghost use Rattle.fraction_theory.specs.Fraction.{whole, neg_ℚ};
+ghost use Rattle.market_data.specs.Participants.{IsDatum};
+ghost use Rattle.market_model.specs.Dispatch.{zero, places, signed, empty, balance_terms};
+ghost use Rattle.market_model.specs.LimitRows.{Row, rows};
+ghost use Rattle.market_model.specs.NamedSums.{IsAddedIn};
+ghost use Rattle.market_model.specs.Optimality.{block_value};
+ghost use Rattle.market_model.specs.Valued.{passed_at};
+ghost use Rattle.market_system.specs.MarketSystem.{needed as needed_of, least_added, most_added};
+ghost use Rattle.limit_rows.specs.Places.{row_of};
+ghost use Rattle.limit_screen.specs.Flows.{flows_at, IsFlowsRefusal};
+ghost use Rattle.market_dict.specs.Holding.{lows, highs};
+ghost use Rattle.market_dict.specs.Refusals.{IsBoundRefusal, IsTermsRefusal};
+ghost use Rattle.market_dict.specs.Terms.{AreTerms};
+ghost use Rattle.market_dict.specs.Findings.{OnPassed};
+
+use crate::entries::zeros;
+use crate::stop::Stop;
+use exact_fraction::{Exact, Passed};
+use limit_rows::{LimitRow, limit_at};
+use limit_screen::{datum, flows, row_flow};
+use market_model::{Block, Market, Side};
+use plain_list::{List, Memory};
+use simplex_core::Bounds;
+use std::alloc::Global;
+
+/// Prices and bounds as the market has them now.
+#[derive(Drop)]
+pub struct Terms<N> {
+    /// Of the blocks, in 10^-6 per MWh: the price of a buy, and the opposite of that of a sell.
+    pub prices: List<N>,
+    /// Of the blocks, the balance and the limits in the order taken, in 10^-9 MW: by how much blocks may raise these.
+    pub bounds: List<Bounds<N>>,
+    /// Where nothing is accepted, what each bus puts in and then what each line carries, in 10^-9 MW.
+    pub idle: Vec<N>,
+}
+
+/// What a MW of a block is worth.
+fn block_price<N: Exact>(block: &Block) -> N
+    requires { IsDatum block.now.price }
+    ensures { N.value result ≡ neg_ℚ (signed block.now.side (whole block.now.price)) }
+{
+    let price: N = datum(block.price);
+    match block.side {
+        Side::Sell => price.neg(),
+        Side::Buy => price,
+    }
+}
+
+/// What a MW of each block is worth.
+fn block_prices<N: Exact>(alloc: Global, market: &Market) -> Result<List<N>, Memory>
+    ensures { IfOk result (λ prices. map N.value prices ≡ map (block_value market.now) (places (length market.now.blocks))) }
+{
+    let mut prices = List::new(alloc);
+    for block in market.blocks().slice() {
+        prices.push(block_price(block))?;
+    }
+    Ok(prices)
+}
+
+/// Where nothing is accepted, what each bus puts in and then what each line carries.
+fn idle_flows<N: Exact>(alloc: Global, market: &Market) -> Result<Vec<N>, Stop<N>>
+    ensures flows { IfOk result (λ idle. map N.value idle.items ≡ flows_at market.now (empty market.now)) }
+    ensures cause { IfErr result (λ stop. OnPassed stop (λ p. IsFlowsRefusal market.now (empty market.now) N.bound (passed_at N.value p))) }
+{
+    let nothing = zeros(alloc, market.blocks().len())?;
+    let mut idle = zeros(alloc, market.buses().len() + market.lines().len())?;
+    flows(market, &nothing, &mut idle)?;
+    Ok(idle)
+}
+
+/// What the blocks have to raise the balance by: the opposite of what all buses put in where nothing is accepted.
+fn needed<N: Exact>(market: &Market, idle: &[N]) -> Result<N, Passed<N>>
+    requires { map N.value idle.now ≡ flows_at market.now (empty market.now) }
+    ensures needed { IfOk result (λ mw. N.value mw ≡ needed_of market.now) }
+    ensures cause { IfErr result (λ passed. IsAddedIn (balance_terms market.now (empty market.now)) N.bound (passed_at N.value passed)) }
+{
+    let mut balance: N = datum(0);
+    for bus in 0..market.buses().len() {
+        balance = balance.plus(idle[bus])?;
+    }
+    Ok(balance.neg())
+}
+
+/// All that a block has.
+#[tactic(auto, using(market_data::proofs::Data::datum_read))]
+fn quantity_of<N: Exact>(block: &Block) -> N
+    requires { pos 0 ≤ℤ block.now.quantity }
+    ensures { N.value result ≡ whole block.now.quantity }
+{
+    datum(block.quantity)
+}
+
+/// The bounds of the blocks and of the balance.
+fn first_bounds<N: Exact>(
+    alloc: Global,
+    market: &Market,
+    needed: N,
+) -> Result<List<Bounds<N>>, Memory>
+    requires { N.value needed ≡ needed_of market.now }
+    ensures lows { IfOk result (λ bounds. map (λ b. N.value b.low) bounds ≡ lows market.now []) }
+    ensures highs { IfOk result (λ bounds. map (λ b. N.value b.high) bounds ≡ highs market.now []) }
+{
+    let low: N = datum(0);
+    let mut bounds = List::new(alloc);
+    for block in market.blocks().slice() {
+        let high = quantity_of(block);
+        bounds.push(Bounds { low, high })?;
+    }
+    bounds.push(Bounds {
+        low: needed,
+        high: needed,
+    })?;
+    Ok(bounds)
+}
+
+/// By how much blocks may raise the flow of a limit: what the flow leaves of it on either side where nothing is accepted.
+fn row_bounds<N: Exact>(market: &Market, idle: &[N], row: LimitRow) -> Result<Bounds<N>, Passed<N>>
+    requires row { Contains (rows market.now) (row_of row) }
+    requires idle { map N.value idle.now ≡ flows_at market.now (empty market.now) }
+    ensures low { IfOk result (λ bounds. N.value bounds.low ≡ least_added market.now (row_of row)) }
+    ensures high { IfOk result (λ bounds. N.value bounds.high ≡ most_added market.now (row_of row)) }
+    ensures cause { IfErr result (λ passed. IsBoundRefusal market.now N.bound (row_of row) (passed_at N.value passed)) }
+{
+    let _lines = market.lines();
+    let flow = row_flow(market, idle, row)?;
+    let limit: N = datum(limit_at(market, row));
+    let high = limit.minus(flow)?;
+    let low = limit.neg().minus(flow)?;
+    Ok(Bounds { low, high })
+}
+
+/// Prices and bounds of a market over the limits taken.
+pub fn terms_of<N: Exact>(
+    alloc: Global,
+    market: &Market,
+    taken: &[LimitRow],
+) -> Result<Terms<N>, Stop<N>>
+    requires rows { All (λ r. Contains (rows market.now) (row_of r)) taken.now }
+    ensures terms { IfOk result (AreTerms N.value market.now (map row_of taken.now)) }
+    ensures cause { IfErr result (λ stop. OnPassed stop (λ p. IsTermsRefusal market.now N.bound (passed_at N.value p))) }
+{
+    let prices = block_prices(alloc, market)?;
+    let idle = idle_flows(alloc, market)?;
+    let needed = needed(market, &idle)?;
+    let bounds = first_bounds(alloc, market, needed)?;
+    let mut terms = Terms {
+        prices,
+        bounds,
+        idle,
+    };
+    for row in taken {
+        take_bounds(market, &mut terms, *row)?;
+    }
+    Ok(terms)
+}
+
+/// The same with the bounds of one limit more. After an `Err` the terms are as they were.
+pub fn take_bounds<N: Exact>(
+    market: &Market,
+    terms: &mut Terms<N>,
+    row: LimitRow,
+) -> Result<(), Stop<N>>
+    requires row { Contains (rows market.now) (row_of row) }
+    requires terms { (g : List Row) × AreTerms N.value market.now g terms.old }
+    ensures taken { (g : List Row) → AreTerms N.value market.now g terms.old → IfOk result (λ _. AreTerms N.value market.now (g ++ row_of row ∷ []) terms.new) }
+    ensures kept { IfErr result (λ _. terms.new ≡ terms.old) }
+    ensures cause { IfErr result (λ stop. OnPassed stop (λ p. IsTermsRefusal market.now N.bound (passed_at N.value p))) }
+{
+    let bounds = row_bounds(market, &terms.idle, row)?;
+    terms.bounds.push(bounds)?;
+    Ok(())
+}
