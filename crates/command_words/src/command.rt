@@ -16,9 +16,9 @@ const PTDF: &str = "The table of shift factors";
 
 const LODF: &str = "The table of outage factors";
 
-const CONTINGENCIES: &str = "The list of the branches whose outages are to be stood";
+const CONTINGENCIES: &str = "The list of the branches whose loss the market is to stand";
 
-const OFFSETS: &str = "The table of what limits are moved by";
+const OFFSETS: &str = "The table of the flows that phase shift angles cause";
 
 const POST_RATING: &str = "The rating of a branch after an outage; c where this is left out";
 
