@@ -2,6 +2,7 @@ pub mod EntryLemmas
 pub mod HoldingLaws
 pub mod ListedLemmas
 pub mod NameLists
+pub mod PosingLemmas
 pub mod ReadingLemmas
 pub mod RefusalLaws
 pub mod StopLemmas

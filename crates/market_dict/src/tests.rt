@@ -121,17 +121,24 @@ fn factors(alloc: Global) -> Result<List<Factor>, Memory>
     Ok(list)
 }
 
+/// Three branches, of which the second has this limit.
+fn lines(alloc: Global, limit: u32) -> Result<List<Line>, Memory>
+    ensures { IfOk result (λ list. list ≡ record { row = 1; base = None; post = None; offset = pos 0 } ∷ record { row = 2; base = Some (pos limit); post = None; offset = pos 0 } ∷ record { row = 3; base = None; post = None; offset = pos 0 } ∷ []) }
+{
+    let mut list = List::new(alloc);
+    list.push(line(1, None))?;
+    list.push(line(2, Some(i64::from(limit))))?;
+    list.push(line(3, None))?;
+    Ok(list)
+}
+
 /// The market with this limit.
 fn limited(alloc: Global, limit: u32) -> Result<Market, Memory> {
-    let mut lines = List::new(alloc);
-    lines.push(line(1, None))?;
-    lines.push(line(2, Some(i64::from(limit))))?;
-    lines.push(line(3, None))?;
     let parts = Parts {
         buses: buses(alloc)?,
         units: units(alloc)?,
         blocks: blocks(alloc)?,
-        lines,
+        lines: lines(alloc, limit)?,
         outages: List::new(alloc),
         shift: factors(alloc)?,
         loss: List::new(alloc),
@@ -150,8 +157,12 @@ fn found<N: Exact>(
     ensures { (g : List Row) → Holds market.now g dict → AreTerms N.value market.now g terms.now → IfSome result (IsFound N.value market.now g) }
 {
     let _lines = market.lines();
-    match pose(dict, terms.prices.slice(), terms.bounds.slice()) {
-        Ok(posed) => solve(alloc, market, posed).ok(),
+    let posed = match pose(dict, terms.prices.slice(), terms.bounds.slice()) {
+        Ok(posed) => posed,
+        Err(_) => return None,
+    };
+    match solve(alloc, market, posed) {
+        Ok(found) => Some(found),
         Err(_) => None,
     }
 }
@@ -224,7 +235,30 @@ fn is_dispatch<N: Exact>(dispatch: &List<N>, first: i32, second: i32) -> bool {
     }
 }
 
-/// Without the limit 60 and 0 are best. The dictionary is handed on, where this was found.
+/// The dictionary of what was found, where that is 60 and 0 at an energy price of 10.
+fn unlimited_dict<N: Exact>(found: Found<N>) -> Option<Dict<N>>
+    ensures { (m : Parts) (g : List Row) → IsFound N.value m g found → IfSome result (Holds m g) }
+{
+    match found {
+        Found::Best {
+            dict,
+            dispatch,
+            duals,
+        } => {
+            if is_dispatch(&dispatch, 60, 0) && are_duals(&duals, 10, 0) {
+                Some(dict)
+            } else {
+                None
+            }
+        }
+        Found::Nothing {
+            dict: _dict,
+            farkas: _farkas,
+        } => None,
+    }
+}
+
+/// What the market comes to without its limit, from where it can go on.
 fn unlimited<N: Exact>(alloc: Global, market: &Market) -> Option<(Dict<N>, Terms<N>)>
     ensures { IfSome result (λ pair. Holds market.now [] pair.0 × AreTerms N.value market.now [] pair.1) }
 {
@@ -236,16 +270,9 @@ fn unlimited<N: Exact>(alloc: Global, market: &Market) -> Option<(Dict<N>, Terms
         Ok(terms) => terms,
         Err(_) => return None,
     };
-    match found(alloc, market, dict, &terms) {
-        Some(
-            Found::Best {
-                dict,
-                dispatch,
-                duals,
-            },
-        ) if is_dispatch(&dispatch, 60, 0) && are_duals(&duals, 10, 0) => Some((dict, terms)),
-        _ => None,
-    }
+    let found = found(alloc, market, dict, &terms)?;
+    let dict = unlimited_dict(found)?;
+    Some((dict, terms))
 }
 
 /// What the market comes to with its limit, after it was solved without.
