@@ -11,9 +11,7 @@ ghost use Rattle.market_inputs.specs.Tables.{AreOutagesIn, AreTables, MayBeLost,
 
 use crate::lengths::check_length;
 use crate::stops::{Stop, table_stop};
-use factor_tables::{
-    Loss, Offsets, OutageRows, Shift, cover, offsets, outage, outage_rows, shift,
-};
+use factor_tables::{Loss, Offsets, OutageRows, Shift, cover, offsets, outage, outage_rows, shift};
 use net_case::Network;
 use outage_list::{Outages, listed};
 use refusal_text::{Input, Refusal};
@@ -95,12 +93,7 @@ pub(crate) fn read_tables(
 pub(crate) fn check_cover(network: &Network, tables: &Tables) -> Result<(), Stop>
     ensures { IsToldAs (Is (cover_in network.now tables.now)) result }
 {
-    match cover(
-        network,
-        &tables.shift,
-        &tables.loss,
-        tables.outages.slice(),
-    ) {
+    match cover(network, &tables.shift, &tables.loss, tables.outages.slice()) {
         Ok(()) => Ok(()),
         Err(lack) => Err(Stop::Refused(Refusal::Uncovered(lack))),
     }
