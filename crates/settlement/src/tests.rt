@@ -347,19 +347,47 @@ fn settles<N: Exact>(
     }
 }
 
-/// Whether the four worked cases come to what they should.
-fn settles_all<N: Exact>(alloc: Global) -> Result<bool, Memory> {
-    let shunted = triangle(alloc, 0, 50, 10, 40, 0)?;
-    let base: Duals<N> = upper(alloc, 0, 40)?;
-    let after: Duals<N> = upper(alloc, 1, 20)?;
-    let none: Duals<N> = no_limit(alloc);
-    let turned = triangle(alloc, 40, 0, 0, 5, 10)?;
-    Ok(
-        settles(alloc, &shunted, &LIMIT_40, &base)?
-            && settles(alloc, &shunted, &AFTER_AN_OUTAGE, &after)?
-            && settles(alloc, &shunted, &DISPATCHABLE_LOAD, &none)?
-            && settles(alloc, &turned, &OFFSET_BEYOND_THE_LIMIT, &base)?,
-    )
+/// The same with a price of the upper side of branch 2, in the base or after the loss of branch 1.
+fn settles_with<N: Exact>(
+    alloc: Global,
+    market: &Market,
+    case: &Case,
+    outage: u32,
+    up: u32,
+) -> Result<bool, Memory>
+    requires buses { length market.now.buses ≡ 3 }
+    requires blocks { length market.now.blocks ≡ 4 }
+    requires rows { map (row_id market.now) (rows market.now) ≡ record { branch = 2; outage = 0 } ∷ record { branch = 2; outage = 3 } ∷ record { branch = 2; outage = 1 } ∷ [] }
+    requires outage { outage < 2 }
+    requires up { 0 < up }
+{
+    let duals: Duals<N> = upper(alloc, outage, up)?;
+    settles(alloc, market, case, &duals)
+}
+
+/// The same without limits.
+fn settles_without<N: Exact>(alloc: Global, market: &Market, case: &Case) -> Result<bool, Memory>
+    requires buses { length market.now.buses ≡ 3 }
+    requires blocks { length market.now.blocks ≡ 4 }
+    requires rows { map (row_id market.now) (rows market.now) ≡ record { branch = 2; outage = 0 } ∷ record { branch = 2; outage = 3 } ∷ record { branch = 2; outage = 1 } ∷ [] }
+{
+    let duals: Duals<N> = no_limit(alloc);
+    settles(alloc, market, case, &duals)
+}
+
+/// Whether three worked cases come to what they should: a limit in the base, one after an outage, and none.
+fn settles_shunted<N: Exact>(alloc: Global) -> Result<bool, Memory> {
+    let market = triangle(alloc, 0, 50, 10, 40, 0)?;
+    let base = settles_with::<N>(alloc, &market, &LIMIT_40, 0, 40)?;
+    let after = settles_with::<N>(alloc, &market, &AFTER_AN_OUTAGE, 1, 20)?;
+    let bought = settles_without::<N>(alloc, &market, &DISPATCHABLE_LOAD)?;
+    Ok(base && after && bought)
+}
+
+/// The case of an offset beyond the limit.
+fn settles_beyond<N: Exact>(alloc: Global) -> Result<bool, Memory> {
+    let market = triangle(alloc, 40, 0, 0, 5, 10)?;
+    settles_with::<N>(alloc, &market, &OFFSET_BEYOND_THE_LIMIT, 0, 40)
 }
 
 /// Whether 90 sold at 10 and 30 bought at 40 are worth 300.
@@ -375,8 +403,10 @@ fn is_worth<N: Exact>(alloc: Global, market: &Market) -> Result<bool, Memory>
 
 #[test]
 fn settles_worked_cases(rt: HostRuntime) -> Result<(), Fail> {
-    assert!(rt; settles_all::<Frac>(rt.alloc())?);
-    assert!(rt; settles_all::<Frac63>(rt.alloc())?);
+    assert!(rt; settles_shunted::<Frac>(rt.alloc())?);
+    assert!(rt; settles_shunted::<Frac63>(rt.alloc())?);
+    assert!(rt; settles_beyond::<Frac>(rt.alloc())?);
+    assert!(rt; settles_beyond::<Frac63>(rt.alloc())?);
     let market = triangle(rt.alloc(), 0, 60, 0, 40, 0)?;
     assert!(rt; is_worth::<Frac>(rt.alloc(), &market)?);
     assert!(rt; is_worth::<Frac63>(rt.alloc(), &market)?);
