@@ -14,5 +14,5 @@ pub use settling::settle;
 pub use stops::MoneyStop;
 pub use worth::welfare;
 
-//TESTS #[cfg(test)]
-//TESTS mod tests;
+#[cfg(test)]
+mod tests;
