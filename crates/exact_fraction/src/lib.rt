@@ -29,9 +29,9 @@ pub enum Op {
 /// An operation whose outcome passes the bound of its type, with its two sides.
 #[derive(Clone, Copy, PartialEq, Eq, Debug)]
 pub struct Passed<N> {
-    pub op: Op,
     pub left: N,
     pub right: N,
+    pub op: Op,
 }
 
 /// Fractions in lowest terms whose numerators and denominators have a size of at most the type's bound.

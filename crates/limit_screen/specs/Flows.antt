@@ -56,6 +56,10 @@ IsDemandRefusal sum bus bound p = IsRefusal Minus sum (whole bus.pd) bound p ⊎
 abbrev pub put_in : List Fraction → ℕ → Fraction
 put_in ps i = slice_index_or ps i zero
 
+-- an operation refused at a dispatch, in what a bus puts in
+abbrev pub IsInjectionRefusal : Parts → Dispatch → ℕ → Passed Fraction → Type 0
+IsInjectionRefusal m x bound p = (i : ℕ) × (i < length m.buses) × IsAddedIn (injection_terms m x i) bound p
+
 -- an operation refused where buses put in so much, in the flow of a line
 abbrev pub IsLineRefusal : Parts → (ℕ → Fraction) → ℕ → Passed Fraction → Type 0
 IsLineRefusal m f bound p = (l : ℕ) × (l < length m.lines) × IsRefusedIn (line_terms m f l) bound p

@@ -29,7 +29,7 @@ pub fn factor<N: Exact>(number: i64) -> N
 }
 
 /// A sum with the share of a number that a factor in 10^-6 takes. A factor of 0 takes none.
-pub(crate) fn with_share<N: Exact>(sum: N, share: i64, number: N) -> Result<N, Passed<N>>
+pub fn with_share<N: Exact>(sum: N, share: i64, number: N) -> Result<N, Passed<N>>
     requires { unsigned_abs share ≤ most_factor }
     ensures sum { IfOk result (λ more. N.value more ≡ N.value sum +ℚ over share (10 ^ 6) *ℚ N.value number) }
     ensures cause { IfErr result (λ passed. IsShareRefusal (N.value sum) (over share (10 ^ 6)) (N.value number) N.bound (passed_at N.value passed)) }

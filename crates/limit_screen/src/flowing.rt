@@ -9,7 +9,7 @@ ghost use Rattle.market_model.specs.Dispatch.{zero, places, signed, units_at, bl
 ghost use Rattle.market_model.specs.LimitRows.{line_flow, line_offset, line_terms};
 ghost use Rattle.market_model.specs.NamedSums.{IsAddedIn, IsRefusal, IsRefusedIn};
 ghost use Rattle.market_model.specs.Valued.{passed_at};
-ghost use Rattle.limit_screen.specs.Flows.{dispatch_of, flows_at, put_in, IsDemandRefusal, IsFlowsRefusal, IsLineRefusal};
+ghost use Rattle.limit_screen.specs.Flows.{dispatch_of, flows_at, put_in, IsDemandRefusal, IsFlowsRefusal, IsInjectionRefusal, IsLineRefusal};
 
 use crate::amounts::{datum, with_share};
 use exact_fraction::{Exact, Passed};
@@ -101,16 +101,16 @@ fn injection<N: Exact>(market: &Market, bus: usize, dispatch: &[N]) -> Result<N,
     less_demand(raised, &market.buses().slice()[bus])
 }
 
-/// The offset of a line.
-fn offset_of<N: Exact>(market: &Market, line: usize) -> N
+/// The offset of a line, in 10^-9 MW.
+pub fn offset_of<N: Exact>(market: &Market, line: usize) -> N
     requires { line < length market.now.lines }
     ensures { N.value result ≡ line_offset market.now line }
 {
     datum(market.lines().slice()[line].offset)
 }
 
-/// The flow of a line where buses put in so much.
-fn line_flow<N: Exact>(market: &Market, line: usize, injections: &[N]) -> Result<N, Passed<N>>
+/// The flow of a line where buses put in so much, in 10^-9 MW.
+pub fn line_flow<N: Exact>(market: &Market, line: usize, injections: &[N]) -> Result<N, Passed<N>>
     requires line { line < length market.now.lines }
     requires injections { length injections.now ≡ length market.now.buses }
     ensures flow { IfOk result (λ mw. N.value mw ≡ line_flow market.now (put_in (map N.value injections.now)) line) }
@@ -123,12 +123,13 @@ fn line_flow<N: Exact>(market: &Market, line: usize, injections: &[N]) -> Result
     Ok(flow)
 }
 
-/// Puts in what each bus puts into the network.
-fn put_injections<N: Exact>(market: &Market, dispatch: &[N], out: &mut [N]) -> Result<(), Passed<N>>
+/// What each bus puts into the network at a dispatch, in 10^-9 MW.
+pub fn injections<N: Exact>(market: &Market, dispatch: &[N], out: &mut [N]) -> Result<(), Passed<N>>
     requires dispatch { length dispatch.now ≡ length market.now.blocks }
     requires out { length out.old ≡ length market.now.buses }
+    ensures count { length out.new ≡ length out.old }
     ensures injections { IfOk result (λ _. map N.value out.new ≡ map (injection market.now (dispatch_of N.value dispatch.now)) (places (length market.now.buses))) }
-    ensures cause { IfErr result (λ passed. IsFlowsRefusal market.now (dispatch_of N.value dispatch.now) N.bound (passed_at N.value passed)) }
+    ensures cause { IfErr result (λ passed. IsInjectionRefusal market.now (dispatch_of N.value dispatch.now) N.bound (passed_at N.value passed)) }
 {
     for (bus, mw) in out.iter_mut().enumerate() {
         *mw = injection(market, bus, dispatch)?;
@@ -157,7 +158,7 @@ pub fn flows<N: Exact>(market: &Market, dispatch: &[N], out: &mut [N]) -> Result
     ensures flows { IfOk result (λ _. map N.value out.new ≡ flows_at market.now (dispatch_of N.value dispatch.now)) }
     ensures cause { IfErr result (λ passed. IsFlowsRefusal market.now (dispatch_of N.value dispatch.now) N.bound (passed_at N.value passed)) }
 {
-    let (injections, lines) = out.split_at_mut(market.buses().len());
-    put_injections(market, dispatch, injections)?;
-    put_lines(market, injections, lines)
+    let (by_bus, by_line) = out.split_at_mut(market.buses().len());
+    injections(market, dispatch, by_bus)?;
+    put_lines(market, by_bus, by_line)
 }

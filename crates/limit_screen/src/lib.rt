@@ -6,8 +6,8 @@ mod flowing;
 pub mod laws;
 mod screening;
 
-pub use amounts::{datum, factor};
-pub use flowing::flows;
+pub use amounts::{datum, factor, with_share};
+pub use flowing::{flows, injections, line_flow, offset_of};
 pub use screening::{row_flow, worst};
 
 #[cfg(test)]

@@ -1,17 +1,17 @@
 -- What a market comes to over some of its limit rows.
-use Rattle.std.specs.Prelude.{◌≡◌, ℕ, List, Contains}
+use Rattle.std.specs.Prelude.{◌≡◌, ℕ, List}
 use Rattle.fraction_theory.specs.Fraction.{Fraction}
 use Rattle.exact_fraction.specs.declared.Passed.{Passed}
 use Rattle.linear_system.specs.Choices.{Choice, IsChoice}
 use Rattle.linear_dict.specs.Causes.{IsPairOf}
 use Rattle.market_model.specs.declared.participants.Parts.{Parts}
 use Rattle.market_model.specs.declared.answered.Duals.{Duals}
-use Rattle.market_model.specs.Dispatch.{Dispatch, zero}
+use Rattle.market_model.specs.Dispatch.{Dispatch}
 use Rattle.market_model.specs.Infeasibility.{IsFarkas}
-use Rattle.market_model.specs.Optimality.{up_of, down_of}
-use Rattle.market_model.specs.LimitRows.{Row, rows}
+use Rattle.market_model.specs.LimitRows.{Row}
 use Rattle.market_model.specs.Valued.{duals_at, farkas_at}
 use Rattle.market_system.specs.MarketSystem.{system_of, choice_dispatch, choice_duals}
+use Rattle.market_system.specs.Outcomes.{PricesOnly}
 use Rattle.market_system.specs.SolvedLaws.{AnswersBy}
 use Rattle.limit_screen.specs.Flows.{dispatch_of}
 use Rattle.market_dict.specs.Holding.{Holds}
@@ -27,10 +27,6 @@ pub record IsSolvedBy (m : Parts) (g : List Row) (x : Dispatch) (d : Duals Fract
   pub dispatch : x ≡ choice_dispatch m g choice
   pub duals : d ≡ choice_duals m g choice
   pub answers : AnswersBy m g choice
-
--- limits that are not among these have no price
-abbrev pub PricesOnly : Parts → List Row → Duals Fraction → Type 0
-PricesOnly m g d = (r : Row) → Contains (rows m) r → ¬ (Contains g r) → (up_of m d r ≡ zero) × (down_of m d r ≡ zero)
 
 -- a best dispatch for these rows with duals that support it, or duals that show that no dispatch of the market is feasible; with a
 -- dictionary that still holds the market over these rows

@@ -14,7 +14,7 @@ use Rattle.market_model.specs.LimitRows.{Row, rows, flow, limit}
 abbrev pub Broken : Parts → Dispatch → Row → Type 0
 Broken m x r = (limit m r <ℚ flow m x r) ⊎ (flow m x r <ℚ neg_ℚ (limit m r))
 
--- of the greatest welfare of all such dispatches
+-- feasible for these rows, and of the greatest welfare of all dispatches that are
 pub record BestFor (m : Parts) (g : List Row) (x : Dispatch) : Type 0 where
   pub feasible : FeasibleFor m g x
   pub best : (y : Dispatch) → FeasibleFor m g y → welfare m y ≤ℚ welfare m x

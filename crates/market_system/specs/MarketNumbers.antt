@@ -61,10 +61,10 @@ pub data MarketNumber (m : Parts) (rows : List Row) (h : Choice) : Kind → Frac
   is_balance : (x : Dispatch) (k : ℕ) → IsInjecting m rows h x → MarketNumber m rows h Quantity (prefix k (balance_terms m x))
   -- the first terms of a unit's output, at a best choice
   is_output : (u k : ℕ) → IsBest m rows h → u < length m.units → MarketNumber m rows h Quantity (prefix k (output_terms m (choice_dispatch m rows h) u))
-  -- the price of energy, and that at a bus, at a best choice
+  -- the price of energy, and at a best choice that at a bus
   is_energy : MarketNumber m rows h Price (choice_duals m rows h).energy
   is_bus_price : (i : ℕ) → IsBest m rows h → i < length m.buses → MarketNumber m rows h Price (bus_price m (choice_duals m rows h) i)
-  -- the first terms of what limits take from it, and the prices of these, at a best choice
+  -- at a best choice the first terms of what limits take from it, and the prices of limits
   is_congestion : (i k : ℕ) → IsBest m rows h → i < length m.buses → MarketNumber m rows h Price (prefix k (congestion_terms m (choice_duals m rows h) i))
   is_up_dual : (r : Row) → Contains (all_rows m) r → MarketNumber m rows h Price (up_of m (choice_duals m rows h) r)
   is_down_dual : (r : Row) → Contains (all_rows m) r → MarketNumber m rows h Price (down_of m (choice_duals m rows h) r)

@@ -1,4 +1,4 @@
--- Modest markets, of numbers that are small enough that clearing them never meets one that passes 127 bits.
+-- Modest markets: without lines, and with numbers that are small enough that clearing them never meets one that passes 127 bits.
 -- Source: own. Sizes are of loads, shunts, fixed parts, rooms and quantities in 10^-9 MW, and of prices in 10^-6 per MWh.
 use Rattle.std.specs.Prelude.{◌≡◌, ℕ, ◌-◌, ◌≤◌, ◌^◌, [], All, unsigned_abs}
 use Rattle.market_data.specs.declared.participants.Bus.{Bus}

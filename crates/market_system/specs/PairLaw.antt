@@ -1,4 +1,4 @@
--- Which refused operations outside the dictionary are working pairs of the market over the rows in hand: each by its name.
+-- Which refused operations are working pairs of the market over the rows in hand: those of the dictionary, and each other one by its name.
 -- Source: own.
 use Rattle.std.specs.Prelude.{ℕ, ◌<◌, List, [], ◌∷◌, length, Contains}
 use Rattle.fraction_theory.specs.Fraction.{Fraction, whole, neg_ℚ}

@@ -32,8 +32,8 @@ pub record IsMoneyCase (m : Parts) (rows : List Row) (h : Choice) (op : Op) (lef
   pub money : IsMoneySum m rows h terms
   pub step : IsSumStep terms op left right
 
--- The pair passes the bound. It is of one choice of the market's system over these rows or of two near ones: two numbers
--- of a kind, or a factor and what it scales, or a step in adding up money at the first choice.
+-- The pair passes the bound. It is of one choice of the market's system over these rows or of two near ones: two sides of one kind (numbers,
+-- sums or differences of two, or factors times these), or a factor and what it scales, or a step in adding up money at the first choice.
 pub record IsWorkingPair (m : Parts) (rows : List Row) (bound : ℕ) (op : Op) (left right : Fraction) : Type 0 where
   pub passes : Passes bound op left right
   pub one : Choice

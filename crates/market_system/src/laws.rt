@@ -42,7 +42,7 @@ pub fn taken_limits_grow()
     ensures { LawOfGrowth }
 {}
 
-/// What is refused outside the dictionary is a working pair of the market over the limits in hand.
+/// What is refused, in the dictionary and outside it, is a working pair of the market over the limits in hand.
 pub fn refusals_are_pairs()
     ensures { LawOfThePairs }
 {}

@@ -1,10 +1,8 @@
 -- How a run from a posed dictionary ends.
 use Rattle.std.specs.Prelude.{◌≡◌, ℕ, ◌<◌, Bool, Option, Some, None, length, slice_index}
 use Rattle.std.specs.List.{Contains}
-use Rattle.fraction_theory.specs.Fraction.{Fraction, whole}
-use Rattle.fraction_theory.specs.Order.{◌≤ℚ◌, ◌<ℚ◌}
-use Rattle.linear_system.specs.Systems.{System}
-use Rattle.linear_system.specs.Choices.{Choice, IsChoice, basics, others, reduced, value}
+use Rattle.fraction_theory.specs.Fraction.{Fraction}
+use Rattle.linear_system.specs.Choices.{IsChoice, reduced, value}
 use Rattle.linear_dict.specs.Causes.{IsPairOf}
 use Rattle.linear_dict.specs.Dictionaries.{Dictionary, system_of, choice_of}
 use Rattle.simplex_theory.specs.States.{IsSolved, HasNoPoint, IsOutOfReach}

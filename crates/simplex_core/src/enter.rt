@@ -34,23 +34,24 @@ fn size<N: Exact>(x: N) -> N
     }
 }
 
-/// The other variable of a column place, where it can move off its bound and this takes the leaving one towards the bound
-/// that that one violates.
+/// The other variable of a column place, which has this rank, where it can move off its bound and this takes the leaving one
+/// towards the bound that that one violates.
 fn candidate_at<N: Exact>(
     dict: &Dict<N>,
     leaving: &Leaving,
     column: usize,
-    name: u32,
+    rank: usize,
 ) -> Option<Candidate<N>>
     requires live { dict.now.spent ≡ false }
     requires sound { IsDictionary dict.now }
     requires row { leaving.now.row < length dict.now.basics }
     requires leaving { slice_index dict.now.basics leaving.now.row ≡ leaving.now.name }
     requires column { column < length dict.now.others }
-    requires name { slice_index dict.now.others column ≡ name }
-    ensures { IsCandidate N.value dict.now leaving.now.name leaving.now.above name result }
+    requires rank { rank < length dict.now.names }
+    requires name { slice_index dict.now.others column ≡ slice_index dict.now.names rank }
+    ensures { IsCandidate N.value dict.now leaving.now.name leaving.now.above (slice_index dict.now.names rank) result }
 {
-    let note = dict.note(name);
+    let note = dict.note_at(rank);
     match note.low.order(note.high) {
         Ordering::Less => {}
         Ordering::Equal | Ordering::Greater => return None,
@@ -64,7 +65,7 @@ fn candidate_at<N: Exact>(
     match towards.sign() {
         Sign::Above => Some(Candidate {
             column,
-            name,
+            name: dict.ranked(rank),
             price: size(note.reduced),
             entry: towards,
         }),
@@ -122,9 +123,8 @@ pub(crate) fn find_entering<N: Exact>(
 {
     let mut best = None;
     for rank in 0..dict.name_count() {
-        let name = dict.ranked(rank);
-        if let Place::Column(column) = dict.place(name) {
-            if let Some(next) = candidate_at(dict, leaving, column, name) {
+        if let Place::Column(column) = dict.place_at(rank) {
+            if let Some(next) = candidate_at(dict, leaving, column, rank) {
                 best = Some(lesser(best, next)?);
             }
         }

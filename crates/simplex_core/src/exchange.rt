@@ -1,6 +1,5 @@
 // A step: the leaving and the entering variable change places, and the notes move by the new table.
 ghost use Rattle.std.specs.Prelude.{◌≡◌, ◌≢◌, ◌<◌, IfErr, IfOk, if◌then◌else◌, false, length, slice_index, pos};
-ghost use Rattle.std.specs.List.{Contains};
 ghost use Rattle.fraction_theory.specs.Fraction.{whole};
 ghost use Rattle.linear_dict.specs.Causes.{IsPairOf, IsRefused};
 ghost use Rattle.linear_dict.specs.Dictionaries.{IsDictionary, entry_of, system_of};
@@ -31,22 +30,24 @@ struct Move<N> {
     price: N,
 }
 
-/// The note of a variable after the move, by the table after the exchange.
-fn note_after<N: Exact>(dict: &Dict<N>, name: u32, step: &Move<N>) -> Result<Note<N>, Passed<N>>
+/// The note of the variable of a rank after the move, by the table after the exchange.
+fn note_after<N: Exact>(dict: &Dict<N>, rank: usize, step: &Move<N>) -> Result<Note<N>, Passed<N>>
     requires live { dict.now.spent ≡ false }
     requires sound { IsDictionary dict.now }
-    requires named { Contains dict.now.names name }
+    requires rank { rank < length dict.now.names }
     requires row { step.now.row < length dict.now.basics }
     requires entering { slice_index dict.now.basics step.now.row ≡ step.now.entering }
     requires column { step.now.column < length dict.now.others }
     requires leaving { slice_index dict.now.others step.now.column ≡ step.now.leaving }
     ensures note { IfOk result (λ note. noted N.value note ≡ moved_note dict.now step.now.leaving step.now.entering step.now.above
-        (N.value step.now.bound) (N.value step.now.displacement) (N.value step.now.price) name) }
+        (N.value step.now.bound) (N.value step.now.displacement) (N.value step.now.price) (slice_index dict.now.names rank)) }
     ensures cause { IfErr result (IsRefused N.value N.bound
-        (MoveOperation dict.now step.now.leaving step.now.entering (N.value step.now.displacement) (N.value step.now.price) name)) }
+        (MoveOperation dict.now step.now.leaving step.now.entering (N.value step.now.displacement) (N.value step.now.price)
+        (slice_index dict.now.names rank))) }
 {
-    let note = dict.note(name);
-    match dict.place(name) {
+    let name = dict.ranked(rank);
+    let note = dict.note_at(rank);
+    match dict.place_at(rank) {
         Place::Row(row) => {
             let rise = dict.entry(row, step.column).times(step.displacement)?;
             let value = note.value.plus(rise)?;
@@ -90,9 +91,8 @@ fn move_notes<N: Exact>(dict: &mut Dict<N>, step: &Move<N>) -> Result<(), Passed
         (MovesOperation dict.old step.now.leaving step.now.entering (N.value step.now.displacement) (N.value step.now.price))) }
 {
     for rank in 0..dict.name_count() {
-        let name = dict.ranked(rank);
-        let note = note_after(dict, name, step)?;
-        dict.set_note(name, note);
+        let note = note_after(dict, rank, step)?;
+        dict.set_note_at(rank, note);
     }
     Ok(())
 }

@@ -36,9 +36,9 @@ pub(crate) fn find_leaving<N: Exact>(dict: &Dict<N>) -> Option<Leaving>
     ensures { IsLeaving dict.now result }
 {
     for rank in 0..dict.name_count() {
-        let name = dict.ranked(rank);
-        if let Place::Row(row) = dict.place(name) {
-            if let Some(above) = violated_side(&dict.note(name)) {
+        if let Place::Row(row) = dict.place_at(rank) {
+            if let Some(above) = violated_side(&dict.note_at(rank)) {
+                let name = dict.ranked(rank);
                 return Some(Leaving { row, name, above });
             }
         }

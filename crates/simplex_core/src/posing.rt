@@ -77,10 +77,11 @@ fn add_basic_price<N: Exact>(
 {
     for column in 0..dict.column_count() {
         let other = dict.others(column);
-        let note = dict.note(other);
+        let rank = dict.rank_of(other);
+        let note = dict.note_at(rank);
         let product = price.times(dict.entry(row, column))?;
         let reduced = note.reduced.plus(product)?;
-        dict.set_note(other, Note { reduced, ..note });
+        dict.set_note_at(rank, Note { reduced, ..note });
     }
     Ok(())
 }
@@ -161,10 +162,11 @@ fn add_bound<N: Exact>(dict: &mut Dict<N>, column: usize, name: u32) -> Result<(
     }
     for row in 0..dict.row_count() {
         let basic = dict.basics(row);
-        let note = dict.note(basic);
+        let rank = dict.rank_of(basic);
+        let note = dict.note_at(rank);
         let product = dict.entry(row, column).times(bound)?;
         let value = note.value.plus(product)?;
-        dict.set_note(basic, Note { value, ..note });
+        dict.set_note_at(rank, Note { value, ..note });
     }
     Ok(())
 }

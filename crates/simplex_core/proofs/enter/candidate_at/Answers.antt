@@ -1,4 +1,4 @@
-use Rattle.std.proofs.Common.{◌≡◌, ◌∙◌, ap, sym, subst, refl, inl, inr, pos, ℕ, Bool, Ordering}
+use Rattle.std.proofs.Common.{◌≡◌, ◌∙◌, ap, sym, subst, inl, inr, pos, ℕ, Bool, Ordering, slice_index}
 use mathlib.Core.Path.{ap₂}
 use Rattle.std.specs.List.{Contains}
 use Rattle.std.specs.Ordering.{MatchOrdering}
@@ -11,6 +11,7 @@ use Rattle.linear_dict.specs.Dictionaries.{choice_of}
 use Rattle.linear_dict.specs.Notes.{Noted, noted}
 use Rattle.linear_dict.proofs.SplitLemmas.{Contains-at}
 use Rattle.simplex_theory.specs.Steps.{signed, abs_ℚ}
+use Rattle.simplex_core.specs.States.{state_of}
 use Rattle.simplex_core.proofs.Helping.{signed_same, signed_apart, size_of_signed, reduced_is, helps_is, helps_free, helps_towards}
 use Rattle.simplex_core.proofs.enter.candidate_at.Goals as goal
 use Rattle.simplex_core.proofs.enter.candidate_at.Goals.{then-leaving-note, else-leaving-note}
@@ -18,9 +19,10 @@ use Rattle.simplex_core.proofs.enter.candidate_at.Goals.{then-leaving-note, else
 pub returns-in-Equal : goal.returns-in-Equal
 returns-in-Equal g c = λ h.
     let value = g.N.Exact.value in
-    let low : Fraction = value c.note-note.result.low in
-    let high : Fraction = value c.note-note.result.high in
-    let free : low <ℚ high = helps_free c.args.dict.now c.args.name (noted value c.note-note.result) c.note-note.ensures c.args.leaving.now.name c.args.leaving.now.above h in
+    let name : ℕ = slice_index c.args.dict.now.names c.args.rank in
+    let low : Fraction = value c.note_at-note.result.low in
+    let high : Fraction = value c.note_at-note.result.high in
+    let free : low <ℚ high = helps_free c.args.dict.now name (noted value c.note_at-note.result) c.note_at-note.ensures c.args.leaving.now.name c.args.leaving.now.above h in
     elim c.in-Equal.is [
       | inl e ↦ <ℚ_irrefl low (subst (λ (t : Fraction). low <ℚ t) (sym (subst (λ (o : Ordering). MatchOrdering o (low <ℚ high) (low ≡ high) (high <ℚ low)) e c.order.ensures)) free)
       | inr e ↦ <ℚ_irrefl low (<ℚ_trans low high low free (subst (λ (o : Ordering). MatchOrdering o (low <ℚ high) (low ≡ high) (high <ℚ low)) e c.order.ensures))
@@ -30,26 +32,28 @@ pub returns-in-Above : goal.returns-in-Above
 returns-in-Above g c =
     let value = g.N.Exact.value in
     let d = c.args.dict.now in
+    let name : ℕ = slice_index d.names c.args.rank in
     let v = c.args.leaving.now.name in
     let a : Bool = c.args.leaving.now.above in
-    let f : Bool = c.note-note.result.at_high in
-    let n : Noted = noted value c.note-note.result in
-    let e : Fraction = (choice_of d).entry v c.args.name in
+    let f : Bool = c.note_at-note.result.at_high in
+    let n : Noted = noted value c.note_at-note.result in
+    let e : Fraction = (choice_of d).entry v name in
     let entry : value c.entry-entry.result ≡ e = c.entry-entry.ensures.entry ∙ ap₂ (λ (x y : ℕ). (choice_of d).entry x y) c.requires.leaving c.requires.name in
     let t : Fraction = value c.if-leaving-note.towards in
     let turned : t ≡ signed f (signed a e) = elim c.if-leaving-note.branch [
       | then-leaving-note w ↦ ap value w.towards-is ∙ entry ∙ signed_same a f e w.if-leaving-note.true
       | else-leaving-note w ↦ ap value w.towards-is ∙ w.neg-towards.ensures ∙ ap neg_ℚ entry ∙ signed_apart a f e w.if-leaving-note.false
     ] in
-    let above : whole (pos 0) <ℚ t = sign_of_is t Above c.in-Above.ensures in (
-      refl,
-      helps_is d c.args.name n c.note-note.ensures v a c.requires.sound (subst (Contains d.others) c.requires.name (Contains-at d.others c.args.column c.requires.column)) c.in-Less.ensures
+    let above : whole (pos 0) <ℚ t = sign_of_is t Above c.in-Above.ensures in
+    let is : name ≡ c.ranked.result = sym c.ranked.ensures in (
+      c.ranked.ensures,
+      helps_is d name n c.note_at-note.ensures v a c.requires.sound (subst (Contains d.others) c.requires.name (Contains-at d.others c.args.column c.requires.column)) c.in-Less.ensures
           (subst (λ (x : Fraction). whole (pos 0) <ℚ x) turned above),
       record {
         within = c.requires.column;
-        place = c.requires.name;
-        price = c.size.ensures ∙ ap abs_ℚ (reduced_is d c.args.name n c.note-note.ensures);
-        entry = size_of_signed a f e t turned above;
+        place = c.requires.name ∙ is;
+        price = c.size.ensures ∙ ap abs_ℚ (reduced_is d name n c.note_at-note.ensures) ∙ ap (λ (x : ℕ). abs_ℚ ((state_of d).reduced x)) is;
+        entry = size_of_signed a f e t turned above ∙ ap (λ (x : ℕ). abs_ℚ ((choice_of d).entry v x)) is;
       },
     )
 
@@ -57,18 +61,19 @@ pub returns-in-Below : goal.returns-in-Below
 returns-in-Below g c = λ h.
     let value = g.N.Exact.value in
     let d = c.args.dict.now in
+    let name : ℕ = slice_index d.names c.args.rank in
     let v = c.args.leaving.now.name in
     let a : Bool = c.args.leaving.now.above in
-    let f : Bool = c.note-note.result.at_high in
-    let n : Noted = noted value c.note-note.result in
-    let e : Fraction = (choice_of d).entry v c.args.name in
+    let f : Bool = c.note_at-note.result.at_high in
+    let n : Noted = noted value c.note_at-note.result in
+    let e : Fraction = (choice_of d).entry v name in
     let entry : value c.entry-entry.result ≡ e = c.entry-entry.ensures.entry ∙ ap₂ (λ (x y : ℕ). (choice_of d).entry x y) c.requires.leaving c.requires.name in
     let t : Fraction = value c.if-leaving-note.towards in
     let turned : t ≡ signed f (signed a e) = elim c.if-leaving-note.branch [
       | then-leaving-note w ↦ ap value w.towards-is ∙ entry ∙ signed_same a f e w.if-leaving-note.true
       | else-leaving-note w ↦ ap value w.towards-is ∙ w.neg-towards.ensures ∙ ap neg_ℚ entry ∙ signed_apart a f e w.if-leaving-note.false
     ] in
-    let above : whole (pos 0) <ℚ t = subst (λ (x : Fraction). whole (pos 0) <ℚ x) (sym turned) (helps_towards d c.args.name n c.note-note.ensures v a h) in
+    let above : whole (pos 0) <ℚ t = subst (λ (x : Fraction). whole (pos 0) <ℚ x) (sym turned) (helps_towards d name n c.note_at-note.ensures v a h) in
     elim c.in-Below.is [
       | inl q ↦ <ℚ_irrefl t (<ℚ_trans t (whole (pos 0)) t (sign_of_is t Below (sym q ∙ c.sign.ensures)) above)
       | inr q ↦ <ℚ_irrefl (whole (pos 0)) (subst (λ (x : Fraction). whole (pos 0) <ℚ x) (sign_of_is t Zero (sym q ∙ c.sign.ensures)) above)

@@ -1,4 +1,4 @@
-use Rattle.std.proofs.Common.{◌≡◌, ◌<◌, ◌+◌, ◌∙◌, ℕ, Bool, Option, arith, sym, subst, length, slice_index}
+use Rattle.std.proofs.Common.{◌<◌, ◌+◌, ℕ, Bool, Option, arith, sym, subst, length, slice_index}
 use Rattle.std.specs.List.{Contains}
 use Rattle.linear_dict.specs.Dictionaries.{Dictionary, system_of}
 use Rattle.linear_dict.proofs.SplitLemmas.{Contains-at, in_others}
@@ -22,18 +22,16 @@ loop-rank-preserved g c =
     let v : ℕ = c.args.leaving.now.name in
     let a : Bool = c.args.leaving.now.above in
     let k : ℕ = c.loop-rank.rank in
-    let name : ℕ = c.ranked-name.result in
-    let e : slice_index d.names k ≡ name = sym c.ranked-name.ensures in
     let hk : k < length d.names = Prim.omega (arith, c.loop-rank-test.true, c.name_count-rank-end.ensures) in
-    elim c.match-place.branch [
+    elim c.match-place_at.branch [
       | in-Column+in-Some+in_ok-lesser w ↦ subst (λ (b : Option (Candidate g.row.N.Denot)). IsBestSoFar value d v a (k + 1) b) (sym w.best-is)
-          (best_more value d c.requires.sound v a k hk w.in-Some.next (w.in-Some.ensures.0 ∙ sym e) (subst (λ (x : ℕ). Helps (system_of d) (state_of d) v a x) (sym w.in-Some.ensures.0) w.in-Some.ensures.1) w.in-Some.ensures.2 c.loop-rank.best _ w.in_ok-lesser.ensures.lesser c.loop-rank.invariant)
+          (best_more value d c.requires.sound v a k hk w.in-Some.next w.in-Some.ensures.0 (subst (λ (x : ℕ). Helps (system_of d) (state_of d) v a x) (sym w.in-Some.ensures.0) w.in-Some.ensures.1) w.in-Some.ensures.2 c.loop-rank.best _ w.in_ok-lesser.ensures.lesser c.loop-rank.invariant)
       | in-Column+in_default-candidate_at w ↦ subst (λ (b : Option (Candidate g.row.N.Denot)). IsBestSoFar value d v a (k + 1) b) (sym w.best-is)
-          (best_skip value d c.requires.sound v a k hk c.loop-rank.best (λ p. w.in_default-candidate_at.ensures (subst (λ (x : ℕ). Helps (system_of d) (state_of d) v a x) e p)) c.loop-rank.invariant)
+          (best_skip value d c.requires.sound v a k hk c.loop-rank.best (λ p. w.in_default-candidate_at.ensures p) c.loop-rank.invariant)
       | in_default w ↦ subst (λ (b : Option (Candidate g.row.N.Denot)). IsBestSoFar value d v a (k + 1) b) (sym w.best-is)
           (best_skip value d c.requires.sound v a k hk c.loop-rank.best
-          (λ p. c.requires.sound.split.apart name (subst (Contains d.basics) w.in_default.ensures.1 (Contains-at d.basics w.in_default.field-0 w.in_default.ensures.0))
-          (in_others d c.requires.sound name (subst (λ (x : ℕ). Helps (system_of d) (state_of d) v a x) e p).other)) c.loop-rank.invariant)
+          (λ p. c.requires.sound.split.apart (slice_index d.names k) (subst (Contains d.basics) w.in_default.ensures.1 (Contains-at d.basics w.in_default.field-0 w.in_default.ensures.0))
+          (in_others d c.requires.sound (slice_index d.names k) p.other)) c.loop-rank.invariant)
     ]
 
 pub returns-clause-found : goal.returns-clause-found

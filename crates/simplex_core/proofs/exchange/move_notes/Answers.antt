@@ -30,9 +30,9 @@ loop-rank-preserved g c =
     let f : ℕ → Noted = moved_note e s.leaving s.entering s.above (value s.bound) (value s.displacement) (value s.price) in
     let n : Noted = noted value c.in_ok-note.note in
     let hk : k < length e.names = Prim.omega (arith, c.loop-rank-test.true, c.name_count-rank-end.ensures) in
-    let name : c.ranked-name.result ≡ slice_index e.names k = c.ranked-name.ensures ∙ ap (λ (x : Dictionary). slice_index x.names k) c.loop-rank.invariant.is in
-    moving_step e c.requires.sound f k d c.loop-rank.invariant hk n c.set_note.new.self
-    (c.set_note.ensures ∙ ap (λ (w : ℕ). with_note d w n) name)
+    let name : slice_index d.names k ≡ slice_index e.names k = ap (λ (x : Dictionary). slice_index x.names k) c.loop-rank.invariant.is in
+    moving_step e c.requires.sound f k d c.loop-rank.invariant hk n c.set_note_at.new.self
+    (c.set_note_at.ensures ∙ ap (λ (w : ℕ). with_note d w n) name)
     (c.in_ok-note.ensures.note ∙ ap (moved_note d s.leaving s.entering s.above (value s.bound) (value s.displacement) (value s.price)) name
     ∙ moving_same e c.requires.sound f k d c.loop-rank.invariant hk s.leaving s.entering s.above (value s.bound) (value s.displacement) (value s.price))
 
@@ -54,10 +54,10 @@ returns-in_err-note-clause-cause g c =
     let price = value s.price in
     let f : ℕ → Noted = moved_note e s.leaving s.entering s.above (value s.bound) far price in
     let hk : k < length e.names = Prim.omega (arith, c.loop-rank-test.true, c.name_count-rank-end.ensures) in
-    let name : c.ranked-name.result ≡ slice_index e.names k = c.ranked-name.ensures ∙ ap (λ (x : Dictionary). slice_index x.names k) m.is in
+    let name : slice_index d.names k ≡ slice_index e.names k = ap (λ (x : Dictionary). slice_index x.names k) m.is in
     let p = err_from_is_err_and c.from_residual.result c.from_residual.ensures.1 in
     rw (p.1, p.2)
-    (refused_as value g.N.Exact.bound (MoveOperation d s.leaving s.entering far price c.ranked-name.result) (MovesOperation e s.leaving s.entering far price) c.in_err-note.field-0.0
+    (refused_as value g.N.Exact.bound (MoveOperation d s.leaving s.entering far price (slice_index d.names k)) (MovesOperation e s.leaving s.entering far price) c.in_err-note.field-0.0
     (λ op x y o. of_note (slice_index e.names k) op x y
     (move_same e m.notes s.leaving s.entering far price (slice_index e.names k) (moving_note e c.requires.sound f k d m hk) op x y
     (subst (λ (z : Dictionary). MoveOperation z s.leaving s.entering far price (slice_index e.names k) op x y) m.is

@@ -23,19 +23,8 @@ loop-column-init g c =
     let s = c.requires.sound in
     putting_start d s d.others (λ k. price_added d c.args.name (slice_index d.others k)) s.split.second_distinct s.split.second_named
 
-pub note-note-requires-clause-named : goal.note-note-requires-clause-named
-note-note-requires-clause-named g c =
-    let d : Dictionary = c.args.dict.now in
-    let s = c.requires.sound in
-    let k : ℕ = c.loop-column.column in
-    let e : Dictionary = c.loop-column.dict in
-    let m = c.loop-column.invariant in
-    let hk : k < length d.others = Prim.omega (arith, c.loop-column-test.true, c.column_count-column-end.ensures) in
-    let name : c.others-other.result ≡ slice_index d.others k = c.others-other.ensures ∙ ap (λ (x : Dictionary). slice_index x.others k) m.is in
-    subst (Contains e.names) (sym name) (putting_named d s d.others (λ i. price_added d c.args.name (slice_index d.others i)) s.split.second_distinct s.split.second_named k e m hk)
-
-pub set_note-requires-clause-named : goal.set_note-requires-clause-named
-set_note-requires-clause-named g c =
+pub rank_of-rank-requires-clause-named : goal.rank_of-rank-requires-clause-named
+rank_of-rank-requires-clause-named g c =
     let d : Dictionary = c.args.dict.now in
     let s = c.requires.sound in
     let k : ℕ = c.loop-column.column in
@@ -59,11 +48,11 @@ loop-column-preserved g c =
     let hk : k < length d.others = Prim.omega (arith, c.loop-column-test.true, c.column_count-column-end.ensures) in
     let basic : Contains d.basics j = subst (Contains d.basics) c.requires.name (Contains-at d.basics c.args.row c.requires.row) in
     let name : c.others-other.result ≡ w = c.others-other.ensures ∙ ap (λ (x : Dictionary). slice_index x.others k) m.is in
-    let note : noted value c.note-note.result ≡ note_of d w = c.note-note.ensures ∙ ap (note_of e) name ∙ putting_note d s d.others f s.split.second_distinct s.split.second_named k e m hk in
+    let note : noted value c.note_at-note.result ≡ note_of d w = c.note_at-note.ensures ∙ ap (note_of e) (c.rank_of-rank.ensures.name ∙ name) ∙ putting_note d s d.others f s.split.second_distinct s.split.second_named k e m hk in
     let entry : value c.entry.result ≡ (choice_of d).entry j w = c.entry.ensures.entry ∙ entry_read d e m.notes m.is c.args.row k j w c.requires.name refl in
-    let n : Noted = with_reduced (noted value c.note-note.result) (value c.in_ok-reduced.reduced) in
-    putting_step d s d.others f s.split.second_distinct s.split.second_named k e m n c.set_note.new.self hk
-    (c.set_note.ensures ∙ ap (λ (x : ℕ). with_note e x n) name)
+    let n : Noted = with_reduced (noted value c.note_at-note.result) (value c.in_ok-reduced.reduced) in
+    putting_step d s d.others f s.split.second_distinct s.split.second_named k e m n c.set_note_at.new.self hk
+    (c.set_note_at.ensures ∙ ap (λ (x : ℕ). with_note e x n) (c.rank_of-rank.ensures.name ∙ name))
     (ap₂ with_reduced note (c.in_ok-reduced.ensures.exact ∙ ap₂ ◌+ℚ◌ (ap Noted.reduced note)
     (c.in_ok-product.ensures.exact ∙ ap₂ ◌*ℚ◌ c.requires.price (entry ∙ sym (column_entry-basic (choice_of d) j w (choice_basic d s j basic)))))
     ∙ sym (price_added-other d s w j (Contains-at d.others k hk)))
@@ -112,10 +101,10 @@ returns-in_err-reduced-clause-cause g c =
     let hk : k < length d.others = Prim.omega (arith, c.loop-column-test.true, c.column_count-column-end.ensures) in
     let basic : Contains d.basics j = subst (Contains d.basics) c.requires.name (Contains-at d.basics c.args.row c.requires.row) in
     let name : c.others-other.result ≡ w = c.others-other.ensures ∙ ap (λ (x : Dictionary). slice_index x.others k) m.is in
-    let note : noted value c.note-note.result ≡ note_of d w = c.note-note.ensures ∙ ap (note_of e) name ∙ putting_note d s d.others f s.split.second_distinct s.split.second_named k e m hk in
+    let note : noted value c.note_at-note.result ≡ note_of d w = c.note_at-note.ensures ∙ ap (note_of e) (c.rank_of-rank.ensures.name ∙ name) ∙ putting_note d s d.others f s.split.second_distinct s.split.second_named k e m hk in
     let entry : value c.entry.result ≡ (choice_of d).entry j w = c.entry.ensures.entry ∙ entry_read d e m.notes m.is c.args.row k j w c.requires.name refl in
     let p = err_from_is_err_and c.from_residual-in_err-reduced.result c.from_residual-in_err-reduced.ensures.1 in
     rw (p.1, p.2)
-    (refused value g.N.Exact.bound (PriceOperation d j) Plus c.note-note.result.reduced c.in_ok-product.product c.in_err-reduced.field-0.0
+    (refused value g.N.Exact.bound (PriceOperation d j) Plus c.note_at-note.result.reduced c.in_ok-product.product c.in_err-reduced.field-0.0
     (note_of d w).reduced ((system_of d).price j *ℚ (choice_of d).entry j w) c.in_err-reduced.ensures (ap Noted.reduced note)
     (c.in_ok-product.ensures.exact ∙ ap₂ ◌*ℚ◌ c.requires.price entry) (adding_scaled w basic (Contains-at d.others k hk)))

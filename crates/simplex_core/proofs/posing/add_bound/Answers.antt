@@ -33,11 +33,14 @@ returns-in-Zero-clause-notes g c =
     (sym (stand_is value d c.args.name c.note-at.result c.bound_on-bound.result c.note-at.ensures c.bound_on-bound.ensures)
     ∙ sign_of_is (value c.bound_on-bound.result) Zero (sym c.in-Zero.is ∙ c.sign.ensures))
 
-pub note-note-requires-clause-live : goal.note-note-requires-clause-live
-note-note-requires-clause-live g c = ap (λ (x : Dictionary). x.spent) c.loop-row.invariant.is ∙ c.requires.live
+pub rank_of-rank-requires-clause-live : goal.rank_of-rank-requires-clause-live
+rank_of-rank-requires-clause-live g c = ap (λ (x : Dictionary). x.spent) c.loop-row.invariant.is ∙ c.requires.live
 
-pub note-note-requires-clause-named : goal.note-note-requires-clause-named
-note-note-requires-clause-named g c =
+pub note_at-note-requires-clause-live : goal.note_at-note-requires-clause-live
+note_at-note-requires-clause-live g c = ap (λ (x : Dictionary). x.spent) c.loop-row.invariant.is ∙ c.requires.live
+
+pub rank_of-rank-requires-clause-named : goal.rank_of-rank-requires-clause-named
+rank_of-rank-requires-clause-named g c =
     let d : Dictionary = c.args.dict.now in
     let s = c.requires.sound in
     let k : ℕ = c.loop-row.row in
@@ -47,19 +50,8 @@ note-note-requires-clause-named g c =
     let name : c.basics-basic.result ≡ slice_index d.basics k = c.basics-basic.ensures ∙ ap (λ (x : Dictionary). slice_index x.basics k) m.is in
     subst (Contains e.names) (sym name) (putting_named d s d.basics (λ i. bound_added d c.args.name (slice_index d.basics i)) s.split.first_distinct s.split.first_named k e m hk)
 
-pub set_note-requires-clause-live : goal.set_note-requires-clause-live
-set_note-requires-clause-live g c = ap (λ (x : Dictionary). x.spent) c.loop-row.invariant.is ∙ c.requires.live
-
-pub set_note-requires-clause-named : goal.set_note-requires-clause-named
-set_note-requires-clause-named g c =
-    let d : Dictionary = c.args.dict.now in
-    let s = c.requires.sound in
-    let k : ℕ = c.loop-row.row in
-    let e : Dictionary = c.loop-row.dict in
-    let m = c.loop-row.invariant in
-    let hk : k < length d.basics = Prim.omega (arith, c.loop-row-test.true, c.row_count-row-end.ensures) in
-    let name : c.basics-basic.result ≡ slice_index d.basics k = c.basics-basic.ensures ∙ ap (λ (x : Dictionary). slice_index x.basics k) m.is in
-    subst (Contains e.names) (sym name) (putting_named d s d.basics (λ i. bound_added d c.args.name (slice_index d.basics i)) s.split.first_distinct s.split.first_named k e m hk)
+pub set_note_at-requires-clause-live : goal.set_note_at-requires-clause-live
+set_note_at-requires-clause-live g c = ap (λ (x : Dictionary). x.spent) c.loop-row.invariant.is ∙ c.requires.live
 
 pub loop-row-preserved : goal.loop-row-preserved
 loop-row-preserved g c =
@@ -74,12 +66,12 @@ loop-row-preserved g c =
     let m = c.loop-row.invariant in
     let hk : k < length d.basics = Prim.omega (arith, c.loop-row-test.true, c.row_count-row-end.ensures) in
     let name : c.basics-basic.result ≡ b = c.basics-basic.ensures ∙ ap (λ (x : Dictionary). slice_index x.basics k) m.is in
-    let note : noted value c.note-note.result ≡ note_of d b = c.note-note.ensures ∙ ap (note_of e) name ∙ putting_note d s d.basics f s.split.first_distinct s.split.first_named k e m hk in
+    let note : noted value c.note_at-note.result ≡ note_of d b = c.note_at-note.ensures ∙ ap (note_of e) (c.rank_of-rank.ensures.name ∙ name) ∙ putting_note d s d.basics f s.split.first_distinct s.split.first_named k e m hk in
     let entry : value c.entry.result ≡ (choice_of d).entry b w = c.entry.ensures.entry ∙ entry_read d e m.notes m.is k c.args.column b w refl c.requires.name in
     let stands : value c.bound_on-bound.result ≡ at_bound (system_of d) (choice_of d) w = stand_is value d w c.note-at.result c.bound_on-bound.result c.note-at.ensures c.bound_on-bound.ensures in
-    let n : Noted = with_value (noted value c.note-note.result) (value c.in_ok-value.value) in
-    putting_step d s d.basics f s.split.first_distinct s.split.first_named k e m n c.set_note.new.self hk
-    (c.set_note.ensures ∙ ap (λ (x : ℕ). with_note e x n) name)
+    let n : Noted = with_value (noted value c.note_at-note.result) (value c.in_ok-value.value) in
+    putting_step d s d.basics f s.split.first_distinct s.split.first_named k e m n c.set_note_at.new.self hk
+    (c.set_note_at.ensures ∙ ap (λ (x : ℕ). with_note e x n) (c.rank_of-rank.ensures.name ∙ name))
     (ap₂ with_value note (c.in_ok-value.ensures.exact ∙ ap₂ ◌+ℚ◌ (ap Noted.value note) (c.in_ok-product.ensures.exact ∙ ap₂ ◌*ℚ◌ entry stands))
     ∙ sym (bound_added-basic d s b w (Contains-at d.basics k hk)))
 
@@ -126,11 +118,11 @@ returns-in_err-value-clause-cause g c =
     let m = c.loop-row.invariant in
     let hk : k < length d.basics = Prim.omega (arith, c.loop-row-test.true, c.row_count-row-end.ensures) in
     let name : c.basics-basic.result ≡ b = c.basics-basic.ensures ∙ ap (λ (x : Dictionary). slice_index x.basics k) m.is in
-    let note : noted value c.note-note.result ≡ note_of d b = c.note-note.ensures ∙ ap (note_of e) name ∙ putting_note d s d.basics f s.split.first_distinct s.split.first_named k e m hk in
+    let note : noted value c.note_at-note.result ≡ note_of d b = c.note_at-note.ensures ∙ ap (note_of e) (c.rank_of-rank.ensures.name ∙ name) ∙ putting_note d s d.basics f s.split.first_distinct s.split.first_named k e m hk in
     let entry : value c.entry.result ≡ (choice_of d).entry b w = c.entry.ensures.entry ∙ entry_read d e m.notes m.is k c.args.column b w refl c.requires.name in
     let stands : value c.bound_on-bound.result ≡ at_bound (system_of d) (choice_of d) w = stand_is value d w c.note-at.result c.bound_on-bound.result c.note-at.ensures c.bound_on-bound.ensures in
     let p = err_from_is_err_and c.from_residual-in_err-value.result c.from_residual-in_err-value.ensures.1 in
     rw (p.1, p.2)
-    (refused value g.N.Exact.bound (BoundOperation d w) Plus c.note-note.result.value c.in_ok-product.product c.in_err-value.field-0.0
+    (refused value g.N.Exact.bound (BoundOperation d w) Plus c.note_at-note.result.value c.in_ok-product.product c.in_err-value.field-0.0
     (note_of d b).value ((choice_of d).entry b w *ℚ at_bound (system_of d) (choice_of d) w) c.in_err-value.ensures (ap Noted.value note)
     (c.in_ok-product.ensures.exact ∙ ap₂ ◌*ℚ◌ entry stands) (adding_bound b (Contains-at d.basics k hk)))

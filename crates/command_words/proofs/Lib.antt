@@ -1,0 +1,4 @@
+pub mod PlainLemmas
+pub mod RequestLemmas
+pub mod Rows
+pub mod WordsLemmas

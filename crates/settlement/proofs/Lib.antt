@@ -1,0 +1,4 @@
+pub mod ListLemmas
+pub mod PayLemmas
+pub mod RowLemmas
+pub mod MoneyLemmas

@@ -1,0 +1,204 @@
+-- The surplus of a settlement, and what it is at the prices of duals.
+use Rattle.std.specs.Prelude.{◌≡◌, ℕ, ◌+◌, ◌<◌, pos, false, List, [], ◌∷◌, ◌++◌, map, length, take, refl}
+use Rattle.std.proofs.Common.{zero, suc, arith, ap, ap₂, sym, ◌∙◌, subst, get_or, drop}
+use Rattle.std.proofs.lemmas.List.{map-append, get_or-map, length-map}
+use Rattle.std.proofs.lemmas.List.FromFn.{length-map-range_with_len, get_or-map-range_with_len}
+use Rattle.fraction_theory.specs.Fraction.{Fraction, whole, neg_ℚ, ◌+ℚ◌, ◌-ℚ◌, ◌*ℚ◌}
+use Rattle.fraction_theory.specs.Order.{◌≤ℚ◌}
+use Rattle.fraction_theory.specs.Sums.{sum_by, Term, Plain, Product, term_value, total, prefix}
+use Rattle.fraction_theory.proofs.FieldLaws.{ring_ℚ}
+use Rattle.fraction_theory.proofs.Ring.{neg_times, by_ring, at, padd, pmul, pneg, pnil}
+use Rattle.fraction_theory.proofs.SumLaws.{total-append, total-Plain}
+use Rattle.exact_fraction.specs.declared.Op.TheVariants.{Plus}
+use Rattle.exact_fraction.specs.declared.Passed.{Passed}
+use Rattle.exact_fraction.specs.Passes.{outcome}
+use Rattle.market_model.specs.declared.answered.Dual.{Dual}
+use Rattle.market_model.specs.declared.answered.Duals.{Duals}
+use Rattle.market_model.specs.declared.answered.Load.{Load}
+use Rattle.market_model.specs.declared.answered.Money.{Money}
+use Rattle.market_model.specs.declared.answered.Rent.{Rent}
+use Rattle.market_model.specs.declared.answered.UnitPay.{UnitPay}
+use Rattle.market_model.specs.declared.participants.Parts.{Parts}
+use Rattle.market_model.specs.Dispatch.{Dispatch, places, unit_at, output, demand}
+use Rattle.market_model.specs.Laws.{HasOffsetsWithin}
+use Rattle.market_model.specs.LimitRows.{Row, rows, row_id, limit, row_offset}
+use Rattle.market_model.specs.Market.{IsMarket}
+use Rattle.market_model.specs.NamedSums.{SameSize, term_at, IsAddedIn, IsRefusal}
+use Rattle.market_model.specs.Optimality.{bus_price, unit_price, is_named, named_rows}
+use Rattle.market_model.specs.RightAnswers.{rent_of}
+use Rattle.market_model.specs.Settlement.{paid, pays, rent, rent_terms, surplus, surplus_terms}
+use Rattle.market_model.specs.Valued.{dual_at, duals_at, load_at, rent_at, unit_pay_at}
+use Rattle.market_model.proofs.Optimum.{law_of_the_surplus, law_of_its_sign}
+use Rattle.market_model.proofs.SumSteps.{plus_at, behind, in_front}
+use Rattle.limit_rows.proofs.DualLemmas.{up_unnamed, down_unnamed, sum_named}
+use Rattle.limit_screen.proofs.FlowLemmas.{map_same}
+use Rattle.settlement.specs.Laws.{IsRightMoney, LawOfRightMoney}
+use Rattle.settlement.specs.Paying.{pay_of_unit, pay_of_load, paid_terms, left_terms, ArePricesOf, IsSettlement, IsSupportedAt}
+use Rattle.settlement.proofs.ListLemmas.{map-map, sum_by-map, mapped_at}
+
+-- ---- adding up
+module _ {N : Type 0} (value : N → Fraction) (loads : List (Load N)) (units : List (UnitPay N)) where
+  abbrev load_term : Load N → Term
+  load_term l = Plain (value l.pays)
+
+  abbrev unit_term : UnitPay N → Term
+  unit_term u = Plain (neg_ℚ (value u.paid))
+
+  pub paid_total : sum_by (λ (l : Load N). value l.pays) loads +ℚ sum_by (λ (u : UnitPay N). neg_ℚ (value u.paid)) units ≡ total (paid_terms value loads units)
+  paid_total =
+      sym (total-append (map load_term loads) (map unit_term units)
+      ∙ ap₂ ◌+ℚ◌ (total-Plain (λ (l : Load N). value l.pays) loads) (total-Plain (λ (u : UnitPay N). neg_ℚ (value u.paid)) units))
+
+  module _ (bound : ℕ) (p : Passed Fraction) where
+    pub load_refused : (k : ℕ) (load : Load N) (sum : Fraction) → k < length loads → load ≡ get_or loads k load → sum ≡ sum_by (λ l. value l.pays) (take k loads)
+        → IsRefusal Plus sum (value load.pays) bound p → IsAddedIn (paid_terms value loads units) bound p
+    load_refused k load sum below found is h =
+        plus_at (paid_terms value loads units) (map load_term (take k loads)) (map load_term (drop (k + 1) loads) ++ map unit_term units) (load_term load)
+        (in_front (map load_term loads) (map load_term (take k loads)) (map load_term (drop (k + 1) loads)) (map unit_term units) (load_term load) (mapped_at load_term loads k load below found))
+        bound p sum (value load.pays) ((is ∙ sym (total-Plain (λ (l : Load N). value l.pays) (take k loads)))) refl h
+
+    pub unit_refused : (k : ℕ) (unit : UnitPay N) (sum : Fraction) → k < length units → unit ≡ get_or units k unit
+        → sum ≡ sum_by (λ l. value l.pays) loads +ℚ sum_by (λ u. neg_ℚ (value u.paid)) (take k units)
+        → IsRefusal Plus sum (neg_ℚ (value unit.paid)) bound p → IsAddedIn (paid_terms value loads units) bound p
+    unit_refused k unit sum below found is h =
+        plus_at (paid_terms value loads units) (map load_term loads ++ map unit_term (take k units)) (map unit_term (drop (k + 1) units)) (unit_term unit)
+        (behind (map load_term loads) (map unit_term units) (map unit_term (take k units)) (map unit_term (drop (k + 1) units)) (unit_term unit) (mapped_at unit_term units k unit below found))
+        bound p sum (neg_ℚ (value unit.paid))
+        ((is ∙ sym (total-append (map load_term loads) (map unit_term (take k units))
+        ∙ ap₂ ◌+ℚ◌ (total-Plain (λ (l : Load N). value l.pays) loads) (total-Plain (λ (u : UnitPay N). neg_ℚ (value u.paid)) (take k units))))) refl h
+
+-- ---- sums of the same values are one, and are refused at the same operations
+prefix_by : (k : ℕ) (ts : List Term) → prefix k ts ≡ sum_by (λ v. v) (take k (map term_value ts))
+prefix_by zero ts = refl
+prefix_by (suc k) [] = refl
+prefix_by (suc k) (t ∷ ts) = ap (λ r. term_value t +ℚ r) (prefix_by k ts)
+
+prefix-same : (ts us : List Term) (k : ℕ) → map term_value ts ≡ map term_value us → prefix k ts ≡ prefix k us
+prefix-same ts us k e = prefix_by k ts ∙ ap (λ vs. sum_by (λ v. v) (take k vs)) e ∙ sym (prefix_by k us)
+
+pub total-same : (ts us : List Term) → map term_value ts ≡ map term_value us → total ts ≡ total us
+total-same ts us e = sym (sum_by-map term_value (λ v. v) ts) ∙ ap (sum_by (λ v. v)) e ∙ sum_by-map term_value (λ v. v) us
+
+pub added_same : (ts us : List Term) (bound : ℕ) (p : Passed Fraction) → map term_value ts ≡ map term_value us → IsAddedIn ts bound p → IsAddedIn us bound p
+added_same ts us bound p e h =
+    let k = h.place in
+    let long : length ts ≡ length us = sym (length-map ts term_value) ∙ ap length e ∙ length-map us term_value in
+    let inside : k < length us = Prim.omega (arith, h.next.inside, long) in
+    let same : term_value (term_at ts k) ≡ term_value (term_at us k) =
+    sym (get_or-map term_value ts k (Plain (whole (pos 0))) (whole (pos 0)) h.next.inside)
+    ∙ ap (λ vs. get_or vs k (whole (pos 0))) e ∙ get_or-map term_value us k (Plain (whole (pos 0))) (whole (pos 0)) inside in
+    record {
+      adds = h.adds;
+      place = k;
+      next = record {
+        inside = inside;
+        before = subst (SameSize p.left) (prefix-same ts us k e) h.next.before;
+        next = subst (SameSize p.right) same h.next.next;
+        after = subst (SameSize (outcome p.op p.left p.right)) (prefix-same ts us (k + 1) e) h.next.after;
+      };
+      passes = h.passes;
+    }
+
+-- ---- what is added up is what loads pay and units are paid
+module _ {N : Type 0} (value : N → Fraction) (m : Parts) (x : Dispatch) (price : ℕ → Fraction) (loads : List (Load N)) (units : List (UnitPay N))
+    (load_each : map (load_at value) loads ≡ map (pay_of_load m price) (places (length m.buses))) (unit_each : map (unit_pay_at value) units ≡ map (pay_of_unit m x price) (places (length m.units))) where
+  load_values : map term_value (map (λ (l : Load N). Plain (value l.pays)) loads) ≡ map term_value (map (λ i. Product (price i) (demand m i)) (places (length m.buses)))
+  load_values =
+      map-map (λ (l : Load N). Plain (value l.pays)) term_value loads
+      ∙ sym (map-map (load_at value) (λ (l : Load Fraction). l.pays) loads)
+      ∙ ap (map (λ (l : Load Fraction). l.pays)) load_each
+      ∙ map-map (pay_of_load m price) (λ (l : Load Fraction). l.pays) (places (length m.buses))
+      ∙ sym (map-map (λ i. Product (price i) (demand m i)) term_value (places (length m.buses)))
+
+  unit_values : map term_value (map (λ (u : UnitPay N). Plain (neg_ℚ (value u.paid))) units) ≡ map term_value (map (λ u. Product (neg_ℚ (price (unit_at m u).bus)) (output m x u)) (places (length m.units)))
+  unit_values =
+      map-map (λ (u : UnitPay N). Plain (neg_ℚ (value u.paid))) term_value units
+      ∙ sym (map-map (unit_pay_at value) (λ (u : UnitPay Fraction). neg_ℚ u.paid) units)
+      ∙ ap (map (λ (u : UnitPay Fraction). neg_ℚ u.paid)) unit_each
+      ∙ map-map (pay_of_unit m x price) (λ (u : UnitPay Fraction). neg_ℚ u.paid) (places (length m.units))
+      ∙ map_same (λ u. neg_ℚ (price (unit_at m u).bus *ℚ output m x u)) (λ u. neg_ℚ (price (unit_at m u).bus) *ℚ output m x u) (length m.units)
+      (λ u lt. sym (neg_times ring_ℚ (price (unit_at m u).bus) (output m x u)))
+      ∙ sym (map-map (λ u. Product (neg_ℚ (price (unit_at m u).bus)) (output m x u)) term_value (places (length m.units)))
+
+  paid_is : map term_value (paid_terms value loads units) ≡ map term_value (left_terms m x price)
+  paid_is =
+      map-append term_value (map (λ (l : Load N). Plain (value l.pays)) loads) (map (λ (u : UnitPay N). Plain (neg_ℚ (value u.paid))) units)
+      ∙ ap₂ ◌++◌ load_values unit_values
+      ∙ sym (map-append term_value (map (λ i. Product (price i) (demand m i)) (places (length m.buses))) (map (λ u. Product (neg_ℚ (price (unit_at m u).bus)) (output m x u)) (places (length m.units))))
+
+  pub surplus_is : (s : Fraction) → s ≡ sum_by (λ (l : Load N). value l.pays) loads +ℚ sum_by (λ (u : UnitPay N). neg_ℚ (value u.paid)) units → s ≡ total (left_terms m x price)
+  surplus_is s e = e ∙ paid_total value loads units ∙ total-same (paid_terms value loads units) (left_terms m x price) paid_is
+
+  pub surplus_refused : (bound : ℕ) (p : Passed Fraction) → IsAddedIn (paid_terms value loads units) bound p → IsAddedIn (left_terms m x price) bound p
+  surplus_refused bound p h = added_same (paid_terms value loads units) (left_terms m x price) bound p paid_is h
+
+-- ---- at the prices of duals
+module _ (m : Parts) (x : Dispatch) (price : ℕ → Fraction) (d : Duals Fraction) (market : IsMarket m) (priced : ArePricesOf m d price) where
+  at_unit : (u : ℕ) → u < length m.units → price (unit_at m u).bus ≡ unit_price m d u
+  at_unit u lt = priced (unit_at m u).bus (market.units u (record { row = 0; bus = 0; fixed = pos 0; up = pos 0; down = pos 0 }) lt).bus
+
+  left_is_surplus : total (left_terms m x price) ≡ surplus m x d
+  unfolding surplus
+  left_is_surplus =
+      ap total
+      (ap₂ ◌++◌
+      (map_same (λ i. Product (price i) (demand m i)) (λ i. Product (bus_price m d i) (demand m i)) (length m.buses) (λ i lt. ap (λ t. Product t (demand m i)) (priced i lt)))
+      (map_same (λ u. Product (neg_ℚ (price (unit_at m u).bus)) (output m x u)) (λ u. Product (neg_ℚ (unit_price m d u)) (output m x u)) (length m.units)
+      (λ u lt. ap (λ t. Product (neg_ℚ t) (output m x u)) (at_unit u lt))))
+
+  module _ (money : Money Fraction) (is : IsSettlement m x price d money) where
+    pub right_money : IsRightMoney m x d money
+    unfolding paid pays
+    right_money = record {
+      unit_count = ap length is.units ∙ length-map-range_with_len (pay_of_unit m x price) 0 (length m.units);
+      units = λ u lt.
+          let from_0 : 0 + u ≡ u = Prim.omega arith in
+          ap (λ (us : List (UnitPay Fraction)). get_or us u (record { mw = whole (pos 0); paid = whole (pos 0) })) is.units
+          ∙ get_or-map-range_with_len (pay_of_unit m x price) 0 (length m.units) u u (record { mw = whole (pos 0); paid = whole (pos 0) }) lt from_0
+          ∙ ap (λ t. record { mw = output m x u; paid = t *ℚ output m x u }) (at_unit u lt);
+      load_count = ap length is.loads ∙ length-map-range_with_len (pay_of_load m price) 0 (length m.buses);
+      loads = λ i lt.
+          let from_0 : 0 + i ≡ i = Prim.omega arith in
+          ap (λ (ls : List (Load Fraction)). get_or ls i (record { mw = whole (pos 0); pays = whole (pos 0) })) is.loads
+          ∙ get_or-map-range_with_len (pay_of_load m price) 0 (length m.buses) i i (record { mw = whole (pos 0); pays = whole (pos 0) }) lt from_0
+          ∙ ap (λ t. record { mw = demand m i; pays = t *ℚ demand m i }) (priced i lt);
+      rents = is.rents;
+      surplus = is.surplus ∙ left_is_surplus;
+    }
+
+-- a settlement at the prices of its duals is what a right answer says of money
+pub law_of_right_money : LawOfRightMoney
+law_of_right_money m x price d money market priced is = right_money m x price d market priced money is
+
+-- ---- what rows without duals earn
+module _ (m : Parts) (x : Dispatch) (d : Duals Fraction) where
+  no_rent : (r : Row) → is_named d.limits (row_id m r) ≡ false → rent m x d r ≡ whole (pos 0)
+  unfolding rent
+  no_rent r h =
+      ap₂ (λ u v. u *ℚ (limit m r -ℚ row_offset m r) +ℚ (v *ℚ (limit m r +ℚ row_offset m r) +ℚ whole (pos 0))) (up_unnamed d.limits (row_id m r) h) (down_unnamed d.limits (row_id m r) h)
+      ∙ by_ring ring_ℚ (limit m r ∷ row_offset m r ∷ []) (padd (pmul pnil (padd (at 0) (pneg (at 1)))) (padd (pmul pnil (padd (at 0) (at 1))) pnil)) pnil refl
+
+  rents_of_named : sum_by (rent m x d) (rows m) ≡ sum_by (λ (t : Rent Fraction). t.rent) (map (rent_of m x d) (named_rows m d))
+  rents_of_named = sum_named m d (rent m x d) (rows m) no_rent ∙ sym (sum_by-map (rent_of m x d) (λ (t : Rent Fraction). t.rent) (named_rows m d))
+
+  module _ (price : ℕ → Fraction) (market : IsMarket m) (money : Money Fraction) (is : IsSettlement m x price d money) (best : IsSupportedAt m x price d) where
+    is_surplus : money.surplus ≡ surplus m x d
+    is_surplus = is.surplus ∙ left_is_surplus m x price d market best.prices
+
+    pub rents_are_left : money.surplus ≡ sum_by (λ (t : Rent Fraction). t.rent) money.rents
+    rents_are_left = is_surplus ∙ law_of_the_surplus m d x market best.feasible best.supported ∙ rents_of_named ∙ sym (ap (sum_by (λ (t : Rent Fraction). t.rent)) is.rents)
+
+    pub left_not_negative : HasOffsetsWithin m d → whole (pos 0) ≤ℚ money.surplus
+    left_not_negative h = subst (λ s. whole (pos 0) ≤ℚ s) (sym is_surplus) (law_of_its_sign m d x market best.feasible best.supported h)
+
+-- ---- an entry for each part
+pub count_fits : {X Y : Type 0} (value : X → Y) (f : ℕ → Y) (xs : List X) (n : ℕ) → map value xs ≡ map f (places n) → length xs ≡ n
+count_fits value f xs n e = sym (length-map xs value) ∙ ap length e ∙ length-map-range_with_len f 0 n
+
+pub rows_fit : {N : Type 0} (value : N → Fraction) (m : Parts) (x : Dispatch) (duals : Duals N) (rents : List (Rent N))
+    → map (λ (e : Dual Fraction). e.row) (duals_at value duals).limits ≡ map (row_id m) (named_rows m (duals_at value duals))
+    → map (rent_at value) rents ≡ map (rent_of m x (duals_at value duals)) (named_rows m (duals_at value duals)) → map (λ (r : Rent N). r.row) rents ≡ map (λ (e : Dual N). e.row) duals.limits
+rows_fit {N} value m x duals rents named e =
+    sym (map-map (rent_at value) (λ (r : Rent Fraction). r.row) rents) ∙ ap (map (λ (r : Rent Fraction). r.row)) e
+    ∙ map-map (rent_of m x (duals_at value duals)) (λ (r : Rent Fraction). r.row) (named_rows m (duals_at value duals))
+    ∙ sym named ∙ map-map (dual_at value) (λ (e : Dual Fraction). e.row) duals.limits

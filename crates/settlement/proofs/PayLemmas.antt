@@ -1,0 +1,147 @@
+-- Outputs, demands and prices, and what is worth, paid and refused of them.
+use Rattle.std.specs.Prelude.{◌≡◌, ◌⊎◌, ℕ, ◌+◌, ◌<◌, ◌==◌, true, List, ◌∷◌, ◌++◌, map, filter, length, if◌then◌else◌, refl}
+use Rattle.std.proofs.Common.{ap, ap₂, sym, ◌∙◌, subst, inl, inr, get_or}
+use Rattle.std.proofs.lemmas.List.{get_or-map}
+use Rattle.fraction_theory.specs.Fraction.{Fraction, whole, neg_ℚ, ◌+ℚ◌, ◌*ℚ◌}
+use Rattle.fraction_theory.specs.Sums.{Term, Product, total}
+use Rattle.fraction_theory.proofs.FieldLaws.{ring_ℚ, +ℚ_assoc, +ℚ_nil}
+use Rattle.fraction_theory.proofs.Ring.{neg_neg}
+use Rattle.exact_fraction.specs.declared.Op.TheVariants.{Plus, Times}
+use Rattle.exact_fraction.specs.declared.Passed.{Passed}
+use Rattle.market_data.specs.declared.participants.Bus.{Bus}
+use Rattle.market_model.specs.declared.answered.Duals.{Duals}
+use Rattle.market_model.specs.declared.answered.Load.{Load}
+use Rattle.market_model.specs.declared.answered.Price.{Price}
+use Rattle.market_model.specs.declared.answered.UnitPay.{UnitPay}
+use Rattle.market_model.specs.declared.participants.Block.{Block}
+use Rattle.market_model.specs.declared.participants.Parts.{Parts}
+use Rattle.market_model.specs.Dispatch.{Dispatch, zero, places, signed, fixed_term, block_term, block_at, unit_at, bus_at, accepted, output, output_terms, demand}
+use Rattle.market_model.specs.NamedSums.{IsAddedIn, IsRefusal, IsRefusedIn}
+use Rattle.market_model.specs.Optimality.{block_value, welfare_terms}
+use Rattle.market_model.specs.Valued.{load_at, unit_pay_at}
+use Rattle.market_model.proofs.MorePlaces.{total-filter_more, total-places_more}
+use Rattle.market_model.proofs.SumSteps.{plus_at, multiplied_at, refused_by_added, terms_at, tested_at, behind, in_front}
+use Rattle.limit_screen.specs.Flows.{dispatch_of}
+use Rattle.limit_screen.proofs.FlowLemmas.{accepted_is}
+use Rattle.settlement.specs.Paying.{total_at, pay_of_unit, pay_of_load, left_terms}
+use Rattle.settlement.specs.Refusals.{IsSettlementRefusal, of_output, of_demand, of_money, IsLoadRefusal, IsUnitRefusal}
+
+module _ {N : Type 0} (value : N → Fraction) (m : Parts) (ds : List N) where
+  abbrev pub output_to : ℕ → ℕ → Fraction
+  output_to place k = total (fixed_term m place ∷ map (block_term m (dispatch_of value ds)) (filter (λ j. (block_at m j).unit == place) (places k)))
+
+  -- an output with one block more
+  pub output_step : (place k : ℕ) (block : Block) (d : N) (old new : Fraction) → k < length ds → d ≡ get_or ds k d → block ≡ block_at m k → old ≡ output_to place k
+      → new ≡ old +ℚ (if block.unit == place then signed block.side (value d) else zero) → new ≡ output_to place (k + 1)
+  output_step place k block d old new h is at before e =
+      let f : Fraction = whole (unit_at m place).fixed in
+      let t : Fraction = total (map (block_term m (dispatch_of value ds)) (filter (λ j. (block_at m j).unit == place) (places k))) in
+      let more : Fraction = if (block_at m k).unit == place then signed (block_at m k).side (accepted (dispatch_of value ds) k) else zero in
+      e
+      ∙ ap (λ (b : Block). old +ℚ (if b.unit == place then signed b.side (value d) else zero)) at
+      ∙ ap (λ v. old +ℚ (if (block_at m k).unit == place then signed (block_at m k).side v else zero)) (sym (accepted_is value ds k d h is))
+      ∙ ap (λ s. s +ℚ more) before
+      ∙ +ℚ_assoc f t more
+      ∙ ap (λ s. f +ℚ s) (sym (total-filter_more (λ j. (block_at m j).unit == place) (block_term m (dispatch_of value ds)) k))
+
+  abbrev pub welfare_to : ℕ → Fraction
+  welfare_to k = total (map (λ j. Product (block_value m j) (accepted (dispatch_of value ds) j)) (places k))
+
+  -- the welfare with one block more
+  pub welfare_step : (k : ℕ) (block : Block) (d : N) (worth old new : Fraction) → k < length ds → d ≡ get_or ds k d → block ≡ block_at m k → old ≡ welfare_to k
+      → worth ≡ neg_ℚ (signed block.side (whole block.price)) *ℚ value d → new ≡ old +ℚ worth → new ≡ welfare_to (k + 1)
+  welfare_step k block d worth old new h is at before w e =
+      e
+      ∙ ap (λ t. old +ℚ t) (w ∙ ap (λ (b : Block). neg_ℚ (signed b.side (whole b.price)) *ℚ value d) at ∙ ap (λ v. block_value m k *ℚ v) (sym (accepted_is value ds k d h is)))
+      ∙ ap (λ t. t +ℚ (block_value m k *ℚ accepted (dispatch_of value ds) k)) before
+      ∙ sym (total-places_more (λ j. Product (block_value m j) (accepted (dispatch_of value ds) j)) k)
+
+  module _ (bound : ℕ) (p : Passed Fraction) where
+    -- a block of a unit's output
+    pub output_refused : (place k : ℕ) (block : Block) (d : N) (sum : Fraction) → k < length m.blocks → k < length ds → d ≡ get_or ds k d → block ≡ block_at m k → (block.unit == place) ≡ true
+        → sum ≡ output_to place k → IsRefusal Plus sum (signed block.side (value d)) bound p → IsAddedIn (output_terms m (dispatch_of value ds) place) bound p
+    output_refused place k block d sum below lt at same belongs is h =
+        let x = dispatch_of value ds in
+        let test : ℕ → _ = λ j. (block_at m j).unit == place in
+        let r = tested_at test (block_term m x) (length m.blocks) k below (ap (λ (b : Block). b.unit == place) (sym same) ∙ belongs) in
+        plus_at (output_terms m x place) (fixed_term m place ∷ map (block_term m x) (filter test (places k))) r.0 (block_term m x k) (ap (λ ts. fixed_term m place ∷ ts) r.1)
+        bound p sum (signed block.side (value d)) is
+        ((ap (λ (b : Block). signed b.side (value d)) same ∙ ap (signed (block_at m k).side) (sym (accepted_is value ds k d lt at)))) h
+
+    -- what a block is worth, and the sum with that
+    pub worth_refused : (k : ℕ) (block : Block) (d : N) → k < length m.blocks → k < length ds → d ≡ get_or ds k d → block ≡ block_at m k
+        → IsRefusal Times (neg_ℚ (signed block.side (whole block.price))) (value d) bound p → IsRefusedIn (welfare_terms m (dispatch_of value ds)) bound p
+    worth_refused k block d below lt at same h =
+        let x = dispatch_of value ds in
+        let f : ℕ → Term = λ j. Product (block_value m j) (accepted x j) in
+        let r = terms_at f (length m.blocks) k below in
+        multiplied_at (welfare_terms m x) (map f (places k)) r.0 (f k) r.1 bound p (neg_ℚ (signed block.side (whole block.price))) (value d) (block_value m k) (accepted x k) refl
+        (inl (ap (λ (b : Block). neg_ℚ (signed b.side (whole b.price))) same)) (inl (sym (accepted_is value ds k d lt at))) h
+
+    pub welfare_refused : (k : ℕ) (block : Block) (d : N) (sum worth : Fraction) → k < length m.blocks → k < length ds → d ≡ get_or ds k d → block ≡ block_at m k
+        → sum ≡ welfare_to k → worth ≡ neg_ℚ (signed block.side (whole block.price)) *ℚ value d → IsRefusal Plus sum worth bound p
+        → IsRefusedIn (welfare_terms m (dispatch_of value ds)) bound p
+    welfare_refused k block d sum worth below lt at same is w h =
+        let x = dispatch_of value ds in
+        let f : ℕ → Term = λ j. Product (block_value m j) (accepted x j) in
+        let r = terms_at f (length m.blocks) k below in
+        refused_by_added (welfare_terms m x) bound p
+        (plus_at (welfare_terms m x) (map f (places k)) r.0 (f k) r.1 bound p sum worth is
+        ((w ∙ ap (λ (b : Block). neg_ℚ (signed b.side (whole b.price)) *ℚ value d) same ∙ ap (λ v. block_value m k *ℚ v) (sym (accepted_is value ds k d lt at)))) h)
+
+-- a price that was read by its place
+pub price_is : {N : Type 0} (value : N → Fraction) (prices : List (Price N)) (i : ℕ) (p : Price N) → i < length prices → total_at value prices i ≡ value (get_or prices i p).total
+price_is value prices i p h = get_or-map (λ (q : Price _). value q.total) prices i p zero h
+
+pub demand_is : (m : Parts) (i : ℕ) (bus : Bus) → bus ≡ bus_at m i → whole bus.pd +ℚ whole bus.gs ≡ demand m i
+unfolding demand
+demand_is m i bus at = ap (λ (b : Bus). whole b.pd +ℚ whole b.gs) at ∙ ap (λ t. whole (bus_at m i).pd +ℚ t) (sym (+ℚ_nil (whole (bus_at m i).gs)))
+
+-- ---- entries that are what they should be
+same_load : (mw pays mw' pays' : Fraction) → mw ≡ mw' → pays ≡ pays' → ◌≡◌ {A = Load Fraction} (record { mw = mw; pays = pays }) (record { mw = mw'; pays = pays' })
+same_load mw pays mw' pays' a b = Prim.rw a (Prim.rw b refl)
+
+same_pay : (mw paid mw' paid' : Fraction) → mw ≡ mw' → paid ≡ paid' → ◌≡◌ {A = UnitPay Fraction} (record { mw = mw; paid = paid }) (record { mw = mw'; paid = paid' })
+same_pay mw paid mw' paid' a b = Prim.rw a (Prim.rw b refl)
+
+pub load_is : {N : Type 0} (value : N → Fraction) (m : Parts) (price : ℕ → Fraction) (i : ℕ) (bus : Bus) (t : Fraction) (load : Load N) → bus ≡ bus_at m i → t ≡ price i
+    → value load.mw ≡ whole bus.pd +ℚ whole bus.gs → value load.pays ≡ t *ℚ value load.mw → load_at value load ≡ pay_of_load m price i
+load_is value m price i bus t load at is mw pays =
+    let d : value load.mw ≡ demand m i = mw ∙ demand_is m i bus at in
+    same_load (value load.mw) (value load.pays) (demand m i) (price i *ℚ demand m i) d (pays ∙ ap₂ ◌*ℚ◌ is d)
+
+pub pay_is : {N : Type 0} (value : N → Fraction) (m : Parts) (x : Dispatch) (price : ℕ → Fraction) (u : ℕ) (t : Fraction) (pay : UnitPay N) → t ≡ price (unit_at m u).bus
+    → value pay.mw ≡ output m x u → value pay.paid ≡ t *ℚ value pay.mw → unit_pay_at value pay ≡ pay_of_unit m x price u
+pay_is value m x price u t pay is mw paid = same_pay (value pay.mw) (value pay.paid) (output m x u) (price (unit_at m u).bus *ℚ output m x u) mw (paid ∙ ap₂ ◌*ℚ◌ is mw)
+
+-- ---- refusals of loads and units
+module _ (m : Parts) (x : Dispatch) (price : ℕ → Fraction) (d : Duals Fraction) (bound : ℕ) (p : Passed Fraction) where
+  abbrev load_term : ℕ → Term
+  load_term i = Product (price i) (demand m i)
+
+  abbrev unit_term : ℕ → Term
+  unit_term u = Product (neg_ℚ (price (unit_at m u).bus)) (output m x u)
+
+  pub load_refusal : (i : ℕ) (bus : Bus) (t : Fraction) → i < length m.buses → bus ≡ bus_at m i → t ≡ price i → IsLoadRefusal bound bus t p → IsSettlementRefusal m x price d bound p
+  load_refusal i bus t below at is why = by why
+    where
+      by : IsRefusal Plus (whole bus.pd) (whole bus.gs) bound p ⊎ IsRefusal Times t (whole bus.pd +ℚ whole bus.gs) bound p → IsSettlementRefusal m x price d bound p
+      by (inl h) = of_demand i below (subst (λ (b : Bus). IsRefusal Plus (whole b.pd) (whole b.gs) bound p) at h)
+      by (inr h) =
+          let r = terms_at load_term (length m.buses) i below in
+          let rest : List Term = map unit_term (places (length m.units)) in
+          of_money
+          (multiplied_at (left_terms m x price) (map load_term (places i)) (r.0 ++ rest) (load_term i) (in_front (map load_term (places (length m.buses))) (map load_term (places i)) r.0 rest (load_term i) r.1)
+          bound p t (whole bus.pd +ℚ whole bus.gs) (price i) (demand m i) refl (inl is) (inl (demand_is m i bus at)) h)
+
+  pub unit_refusal : (u : ℕ) (t : Fraction) → u < length m.units → t ≡ price (unit_at m u).bus → IsUnitRefusal m x bound u t p → IsSettlementRefusal m x price d bound p
+  unit_refusal u t below is why = by why
+    where
+      by : IsAddedIn (output_terms m x u) bound p ⊎ IsRefusal Times t (output m x u) bound p → IsSettlementRefusal m x price d bound p
+      by (inl h) = of_output u below h
+      by (inr h) =
+          let r = terms_at unit_term (length m.units) u below in
+          let front : List Term = map load_term (places (length m.buses)) in
+          of_money
+          (multiplied_at (left_terms m x price) (front ++ map unit_term (places u)) r.0 (unit_term u) (behind front (map unit_term (places (length m.units))) (map unit_term (places u)) r.0 (unit_term u) r.1)
+          bound p t (output m x u) (neg_ℚ (price (unit_at m u).bus)) (output m x u) refl (inr (is ∙ sym (neg_neg ring_ℚ (price (unit_at m u).bus)))) (inl refl) h)

@@ -1,0 +1,142 @@
+-- What rows earn, and what is refused of that.
+use Rattle.std.specs.Prelude.{◌≡◌, ◌⊎◌, ℕ, ◌<◌, pos, ℤ, ◌^◌, List, [], ◌∷◌, length, Contains, refl}
+use Rattle.std.proofs.Common.{inl, inr, arith, ap, ap₂, sym, subst, subst₂, ◌∙◌, get_or}
+use Rattle.std.proofs.lemmas.List.{get_or-map, length-map}
+use Rattle.fraction_theory.specs.Fraction.{Fraction, whole, over, neg_ℚ, ◌+ℚ◌, ◌-ℚ◌, ◌*ℚ◌}
+use Rattle.fraction_theory.specs.Order.{◌<ℚ◌}
+use Rattle.fraction_theory.specs.Signs.{sign_of}
+use Rattle.fraction_theory.specs.declared.Sign.{Sign}
+use Rattle.fraction_theory.specs.declared.Sign.TheVariants.{Below, Above}
+use Rattle.fraction_theory.specs.Sums.{Term, Plain, Product, total}
+use Rattle.fraction_theory.proofs.FieldLaws.{ring_ℚ, +ℚ_nil}
+use Rattle.fraction_theory.proofs.OrderLaws.{<ℚ_irrefl}
+use Rattle.fraction_theory.proofs.Ring.{by_ring, at, padd, pmul, pneg, pnil}
+use Rattle.fraction_theory.proofs.SignLaws.{sign_of_is}
+use Rattle.exact_fraction.specs.declared.Op.TheVariants.{Plus, Minus, Times}
+use Rattle.exact_fraction.specs.declared.Passed.{Passed}
+use Rattle.market_model.specs.declared.answered.Dual.{Dual}
+use Rattle.market_model.specs.declared.answered.Duals.{Duals}
+use Rattle.market_model.specs.declared.answered.Rent.{Rent}
+use Rattle.market_model.specs.declared.answered.RowId.{RowId}
+use Rattle.market_model.specs.declared.participants.Parts.{Parts}
+use Rattle.market_model.specs.Dispatch.{Dispatch, injection}
+use Rattle.market_model.specs.LimitRows.{Base, After, Cause, Row, row_id, limit, loss_factor, line_flow, flow_after, row_flow, line_offset, row_offset, offset_terms, flow}
+use Rattle.market_model.specs.NamedSums.{IsRefusal, IsRefusedIn}
+use Rattle.market_model.specs.Optimality.{IsOneSided, ProperDuals, named_rows}
+use Rattle.market_model.specs.RightAnswers.{rent_of}
+use Rattle.market_model.specs.Market.{IsMarket}
+use Rattle.market_model.specs.Settlement.{rent, rent_terms}
+use Rattle.market_model.specs.Valued.{dual_at, duals_at}
+use Rattle.market_model.proofs.SumSteps.{multiplied_at}
+use Rattle.limit_rows.proofs.DualLemmas.{IsRowOfDual, row_of_dual}
+use Rattle.limit_screen.specs.Flows.{IsLineRefusal, IsShareRefusal as IsShareOf}
+use Rattle.limit_screen.proofs.FlowLemmas.{line_terms-same, line_flow-same, share_refused}
+use Rattle.settlement.specs.Paying.{earned_by, earned_terms}
+use Rattle.settlement.specs.Refusals.{IsSettlementRefusal, of_line, of_flow, of_offset, of_limit_less, of_limit_more, of_rent, IsEarningRefusal, IsFlowRefusal, IsRowRefusal, IsShareRefusal}
+
+-- ---- what a limit earns with one price
+module _ (e : Dual Fraction) (f o : Fraction) where
+  pub upper_earned : e.down ≡ whole (pos 0) → e.up *ℚ (f -ℚ o) ≡ total (earned_terms e f o)
+  upper_earned none =
+      by_ring ring_ℚ (e.up ∷ f ∷ o ∷ []) (pmul (at 0) (padd (at 1) (pneg (at 2)))) (padd (pmul (at 0) (padd (at 1) (pneg (at 2)))) (padd (pmul pnil (padd (at 1) (at 2))) pnil)) refl
+      ∙ ap (λ v. e.up *ℚ (f -ℚ o) +ℚ (v *ℚ (f +ℚ o) +ℚ whole (pos 0))) (sym none)
+
+  pub lower_earned : e.up ≡ whole (pos 0) → e.down *ℚ (f +ℚ o) ≡ total (earned_terms e f o)
+  lower_earned none =
+      by_ring ring_ℚ (e.down ∷ f ∷ o ∷ []) (pmul (at 0) (padd (at 1) (at 2))) (padd (pmul pnil (padd (at 1) (pneg (at 2)))) (padd (pmul (at 0) (padd (at 1) (at 2))) pnil)) refl
+      ∙ ap (λ v. v *ℚ (f -ℚ o) +ℚ (e.down *ℚ (f +ℚ o) +ℚ whole (pos 0))) (sym none)
+
+  module _ (bound : ℕ) (p : Passed Fraction) where
+    pub upper_refused : (room : Fraction) → room ≡ f -ℚ o → IsRefusal Times e.up room bound p → IsEarningRefusal e f o bound p
+    upper_refused room is h =
+        inr (inr (multiplied_at (earned_terms e f o) [] (Product e.down (f +ℚ o) ∷ []) (Product e.up (f -ℚ o)) refl bound p e.up room e.up (f -ℚ o) refl (inl refl) (inl is) h))
+
+    pub lower_refused : (room : Fraction) → room ≡ f +ℚ o → IsRefusal Times e.down room bound p → IsEarningRefusal e f o bound p
+    lower_refused room is h =
+        inr (inr (multiplied_at (earned_terms e f o) (Product e.up (f -ℚ o) ∷ []) [] (Product e.down (f +ℚ o)) refl bound p e.down room e.down (f +ℚ o) refl (inl refl) (inl is) h))
+
+-- a lower price that is not 0 is the only one
+pub not_zero_side : (e : Dual Fraction) (s : Sign) → IsOneSided e → s ≡ sign_of e.down → (s ≡ Below) ⊎ (s ≡ Above) → e.up ≡ whole (pos 0)
+not_zero_side e s h is some = by h.one some
+  where
+    by : ((whole (pos 0) <ℚ e.up) × (e.down ≡ whole (pos 0))) ⊎ ((e.up ≡ whole (pos 0)) × (whole (pos 0) <ℚ e.down)) → (s ≡ Below) ⊎ (s ≡ Above) → e.up ≡ whole (pos 0)
+    by (inr b) some = b.0
+    by (inl b) (inl t) = absurd (<ℚ_irrefl e.down (subst (λ x. e.down <ℚ x) (sym b.1) (sign_of_is e.down Below (sym t ∙ is))))
+    by (inl b) (inr t) = absurd (<ℚ_irrefl e.down (subst (λ x. x <ℚ e.down) (sym b.1) (sign_of_is e.down Above (sym t ∙ is))))
+
+-- ---- a sum with what goes over to a line of a lost one
+module _ (m : Parts) (l k : ℕ) (a h b : Fraction) where
+  module _ (bound : ℕ) (p : Passed Fraction) where
+    pub shared_flow : (f : ℕ → Fraction) → k < length m.lines → a ≡ line_flow m f l → h ≡ loss_factor m l k → b ≡ line_flow m f k → IsShareOf a h b bound p → IsShareRefusal m f l (After k) bound p
+    shared_flow f below own share gone why = (
+      below,
+      subst (λ ts. IsRefusedIn ts bound p) (ap₂ (λ x t. Plain x ∷ t ∷ []) own (ap₂ Product share gone)) (share_refused a h b bound p why),
+    )
+
+    pub shared_offset : a ≡ line_offset m l → h ≡ loss_factor m l k → b ≡ line_offset m k → IsShareOf a h b bound p → IsRefusedIn (offset_terms m (record { line = l; cause = After k })) bound p
+    shared_offset own share gone why = subst (λ ts. IsRefusedIn ts bound p) (ap₂ (λ x t. Plain x ∷ t ∷ []) own (ap₂ Product share gone)) (share_refused a h b bound p why)
+
+  pub lost_offset : (s : Fraction) → a ≡ line_offset m l → h ≡ loss_factor m l k → b ≡ line_offset m k → s ≡ a +ℚ h *ℚ b → s ≡ row_offset m (record { line = l; cause = After k })
+  unfolding row_offset
+  lost_offset s own share gone e = e ∙ ap₂ (λ x y. x +ℚ y) own (ap₂ ◌*ℚ◌ share gone ∙ sym (+ℚ_nil (loss_factor m l k *ℚ line_offset m k)))
+
+pub own_offset : (m : Parts) (l : ℕ) → line_offset m l ≡ row_offset m (record { line = l; cause = Base })
+unfolding row_offset
+own_offset m l = sym (+ℚ_nil (line_offset m l))
+
+-- ---- rows of duals, where buses put in what a dispatch makes them
+same_rent : (row row' : RowId) (f f' r r' : Fraction) → row ≡ row' → f ≡ f' → r ≡ r' → ◌≡◌ {A = Rent Fraction} (record { row = row; flow = f; rent = r }) (record { row = row'; flow = f'; rent = r' })
+same_rent row row' f f' r r' a b c = Prim.rw a (Prim.rw b (Prim.rw c refl))
+
+-- a dual of a list that was read
+module _ {N : Type 0} (value : N → Fraction) (m : Parts) (duals : Duals N) (proper : ProperDuals m (duals_at value duals)) (items : List (Dual N)) (k : ℕ) (item : Dual N)
+    (listed : items ≡ duals.limits) (inside : k < length items) (is : item ≡ get_or items k item) where
+  below : k < length (duals_at value duals).limits
+  below = Prim.omega (arith, inside, ap length listed, length-map duals.limits (dual_at value))
+
+  read : dual_at value item ≡ get_or (duals_at value duals).limits k (dual_at value item)
+  read =
+      sym (get_or-map (dual_at value) duals.limits k item (dual_at value item) (Prim.omega (arith, inside, ap length listed))
+      ∙ ap (λ (es : List (Dual N)). dual_at value (get_or es k item)) (sym listed) ∙ ap (dual_at value) (sym is))
+
+  pub dual_one_sided : IsOneSided (dual_at value item)
+  dual_one_sided = subst IsOneSided (sym read) (proper.one_sided k (dual_at value item) below)
+
+  pub dual_row : IsMarket m → (r : Row) × IsRowOfDual m (duals_at value duals) k (dual_at value item) r
+  dual_row market = row_of_dual m market (duals_at value duals) proper.named k (dual_at value item) below read
+
+module _ (m : Parts) (x : Dispatch) (f : ℕ → Fraction) (same : (i : ℕ) → i < length m.buses → f i ≡ injection m x i) (d : Duals Fraction) (k : ℕ) (e : Dual Fraction) (r : Row) (h : IsRowOfDual m d k e r) where
+  flow-same : (l : ℕ) (c : Cause) → flow_after m f l c ≡ flow_after m (injection m x) l c
+  flow-same l Base = line_flow-same m f (injection m x) same l
+  flow-same l (After lost) = ap₂ (λ a b. a +ℚ loss_factor m l lost *ℚ b) (line_flow-same m f (injection m x) same l) (line_flow-same m f (injection m x) same lost)
+
+  pub earned_is : earned_by m f e r ≡ rent_of m x d r
+  unfolding rent
+  earned_is =
+      same_rent e.row (row_id m r) (row_flow m f r) (flow m x r) (total (earned_terms e (limit m r) (row_offset m r))) (total (rent_terms m x d r)) (sym h.name) (flow-same r.line r.cause)
+      (ap₂ (λ u v. total (Product u (limit m r -ℚ row_offset m r) ∷ Product v (limit m r +ℚ row_offset m r) ∷ [])) (sym h.up) (sym h.down))
+
+  module _ (price : ℕ → Fraction) (bound : ℕ) (p : Passed Fraction) (inside : r.line < length m.lines) where
+    named : Contains (named_rows m d) r
+    named = (k, h.inside, sym h.at)
+
+    shared : (c : Cause) → Contains (named_rows m d) (record { line = r.line; cause = c }) → IsShareRefusal m f r.line c bound p → IsSettlementRefusal m x price d bound p
+    shared Base listed why = absurd why
+    shared (After lost) listed why =
+        of_flow r.line lost inside why.0 listed
+        (subst₂ (λ a b. IsRefusedIn (Plain a ∷ Product (loss_factor m r.line lost) b ∷ []) bound p) (line_flow-same m f (injection m x) same r.line) (line_flow-same m f (injection m x) same lost) why.1)
+
+    pub row_refusal : IsRowRefusal m f e r bound p → IsSettlementRefusal m x price d bound p
+    row_refusal why = by why
+      where
+        by : (IsLineRefusal m f bound p ⊎ IsShareRefusal m f r.line r.cause bound p) ⊎ IsRefusedIn (offset_terms m r) bound p
+            ⊎ IsRefusal Minus (limit m r) (row_offset m r) bound p ⊎ IsRefusal Plus (limit m r) (row_offset m r) bound p ⊎ IsRefusedIn (earned_terms e (limit m r) (row_offset m r)) bound p
+            → IsSettlementRefusal m x price d bound p
+        by (inl (inl (l, lt, w))) = of_line l lt (subst (λ ts. IsRefusedIn ts bound p) (line_terms-same m f (injection m x) same l) w)
+        by (inl (inr w)) = shared r.cause named w
+        by (inr (inl w)) = of_offset r named w
+        by (inr (inr (inl w))) = of_limit_less r named w
+        by (inr (inr (inr (inl w)))) = of_limit_more r named w
+        by (inr (inr (inr (inr w)))) =
+            of_rent r named
+            (subst₂ (λ u v. IsRefusedIn (Product u (limit m r -ℚ row_offset m r) ∷ Product v (limit m r +ℚ row_offset m r) ∷ []) bound p) (sym h.up) (sym h.down) w)

@@ -1,0 +1,71 @@
+use Rattle.std.proofs.Common.{rules, Err, ◌≡◌, ◌<◌, ◌∙◌, arith, ap, subst, length, map}
+use Rattle.market_model.specs.LimitRows.{Row}
+use Rattle.market_model.specs.Optimality.{named_rows}
+use Rattle.market_model.specs.RightAnswers.{rent_of}
+use Rattle.market_model.specs.Valued.{dual_at, duals_at, passed_at, rent_at}
+use Rattle.limit_rows.proofs.DualLemmas.{named_count}
+use Rattle.limit_screen.specs.Flows.{dispatch_of, put_in}
+use Rattle.limit_screen.proofs.FlowLemmas.{put_is}
+use Rattle.settlement.specs.declared.stops.MoneyStop.TheVariants as why
+use Rattle.settlement.specs.Paying.{earned_by}
+use Rattle.settlement.specs.Refusals.{IsRowRefusal}
+use Rattle.settlement.proofs.ListLemmas.{put_next, all_put_next}
+use Rattle.settlement.proofs.RowLemmas.{dual_one_sided, dual_row, earned_is, row_refusal}
+use Rattle.settlement.proofs.rents.rents.Goals as goal
+
+pub returns-in_err-mws-clause-cause : goal.returns-in_err-mws-clause-cause
+returns-in_err-mws-clause-cause g c =
+    let given : c.from_residual.result ≡ Err c.in_err-mws.field-0.0 = search rules in
+    λ price. rw given (c.in_err-mws.ensures.cause price _)
+
+pub found_row-row-requires : goal.found_row-row-requires
+found_row-row-requires g c =
+    let r = dual_row g.N.Exact.value c.args.market.now c.args.duals.now c.requires.duals c.slice-dual-items.result.now c.loop-dual.dual-index c.dual-item.result
+    c.slice-dual-items.ensures c.loop-dual-test.true c.dual-item.is c.lines-lines.ensures.market in
+    (r.0, r.1.row, r.1.name)
+
+pub row_rent-requires-clause-one_sided : goal.row_rent-requires-clause-one_sided
+row_rent-requires-clause-one_sided g c =
+    dual_one_sided g.N.Exact.value c.args.market.now c.args.duals.now c.requires.duals c.slice-dual-items.result.now c.loop-dual.dual-index c.dual-item.result
+    c.slice-dual-items.ensures c.loop-dual-test.true c.dual-item.is
+
+pub loop-dual-preserved : goal.loop-dual-preserved
+loop-dual-preserved g c =
+    let m = c.args.market.now in
+    let value = g.N.Exact.value in
+    let x = dispatch_of value c.args.dispatch.now in
+    let d = duals_at value c.args.duals.now in
+    let k = c.loop-dual.dual-index in
+    let e = dual_at value c.dual-item.result in
+    let fs = map value c.deref.result.now in
+    let same = put_is m x fs (ap (map value) c.deref.ensures.value ∙ c.in_ok-mws.ensures.mws) in
+    let r = dual_row value m c.args.duals.now c.requires.duals c.slice-dual-items.result.now k c.dual-item.result c.slice-dual-items.ensures c.loop-dual-test.true c.dual-item.is c.lines-lines.ensures.market in
+    put_next (rent_at value) (rent_of m x d) (named_rows m d) c.loop-dual.rents c.push.new.self c.in_ok-rent.rent k r.0 r.1.inside r.1.at c.in_ok-push.ensures c.loop-dual.invariant
+    (c.in_ok-rent.ensures.rent ∙ ap (earned_by m (put_in fs) e) (c.found_row-row.ensures.is r.0 r.1.row r.1.name) ∙ earned_is m x (put_in fs) same d k e r.0 r.1)
+
+pub returns-clause-rents : goal.returns-clause-rents
+returns-clause-rents g c =
+    let m = c.args.market.now in
+    let value = g.N.Exact.value in
+    let d = duals_at value c.args.duals.now in
+    c.loop-dual.invariant
+    ∙ all_put_next (rent_of m (dispatch_of value c.args.dispatch.now) d) (named_rows m d) c.args.duals.now.limits (dual_at value) c.loop-dual.dual-index
+    (named_count m c.lines-lines.ensures.market d c.requires.duals.named) (omega (arith, c.loop-dual-test.false, ap length c.slice-dual-items.ensures))
+
+pub returns-in_err-rent-clause-cause : goal.returns-in_err-rent-clause-cause
+returns-in_err-rent-clause-cause g c =
+    let m = c.args.market.now in
+    let value = g.N.Exact.value in
+    let x = dispatch_of value c.args.dispatch.now in
+    let d = duals_at value c.args.duals.now in
+    let k = c.loop-dual.dual-index in
+    let e = dual_at value c.dual-item.result in
+    let fs = map value c.deref.result.now in
+    let p = passed_at value c.in_err-rent.field-0.0 in
+    let same = put_is m x fs (ap (map value) c.deref.ensures.value ∙ c.in_ok-mws.ensures.mws) in
+    let r = dual_row value m c.args.duals.now c.requires.duals c.slice-dual-items.result.now k c.dual-item.result c.slice-dual-items.ensures c.loop-dual-test.true c.dual-item.is c.lines-lines.ensures.market in
+    let is = c.found_row-row.ensures.is r.0 r.1.row r.1.name in
+    let given : c.from_residual-in_err-rent.result ≡ Err (why.Passed c.in_err-rent.field-0.0) = search rules in
+    λ price. rw given
+    (row_refusal m x (put_in fs) same d k e r.0 r.1 price g.N.Exact.bound p (subst (λ (t : Row). t.line < length m.lines) is c.found_row-row.ensures.line)
+    (subst (λ (t : Row). IsRowRefusal m (put_in fs) e t g.N.Exact.bound p) is c.in_err-rent.ensures.cause))

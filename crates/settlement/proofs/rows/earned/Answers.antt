@@ -1,0 +1,45 @@
+use Rattle.std.proofs.Common.{◌∙◌, ap, refl}
+use Rattle.std.proofs.lemmas.Result.{MatchResult-weaker}
+use Rattle.fraction_theory.specs.Fraction.{◌*ℚ◌}
+use Rattle.fraction_theory.specs.declared.Sign.TheVariants.{Zero}
+use Rattle.fraction_theory.proofs.SignLaws.{sign_of_is}
+use Rattle.exact_fraction.specs.declared.Op.TheVariants.{Times}
+use Rattle.market_model.specs.Valued.{dual_at, passed_at}
+use Rattle.market_model.proofs.SumSteps.{refusal}
+use Rattle.settlement.proofs.RowLemmas.{upper_earned, lower_earned, upper_refused, lower_refused, not_zero_side}
+use Rattle.settlement.proofs.rows.earned.Goals as goal
+
+pub returns-in_ok-room-in-Zero-clause-rent : goal.returns-in_ok-room-in-Zero-clause-rent
+returns-in_ok-room-in-Zero-clause-rent g c =
+    let value = g.N.Exact.value in
+    let e = dual_at value c.args.dual.now in
+    MatchResult-weaker c.times.result c.times.ensures
+    (λ r is.
+    is.exact ∙ ap (λ t. e.up *ℚ t) c.in_ok-room-in-Zero.ensures.exact
+    ∙ upper_earned e (value c.args.limit) (value c.args.offset) (sign_of_is e.down Zero c.in-Zero.ensures))
+    (λ _ _. tt)
+
+pub returns-in_ok-room-in-Zero-clause-cause : goal.returns-in_ok-room-in-Zero-clause-cause
+returns-in_ok-room-in-Zero-clause-cause g c =
+    let value = g.N.Exact.value in
+    let e = dual_at value c.args.dual.now in
+    MatchResult-weaker c.times.result c.times.ensures (λ _ _. tt)
+    (λ p is.
+    upper_refused e (value c.args.limit) (value c.args.offset) g.N.Exact.bound (passed_at value p) (value c.in_ok-room-in-Zero.room) c.in_ok-room-in-Zero.ensures.exact
+    (refusal value g.N.Exact.bound Times c.args.dual.now.up c.in_ok-room-in-Zero.room _ _ p refl refl is))
+
+pub returns-in_ok-room-in-Below : goal.returns-in_ok-room-in-Below
+returns-in_ok-room-in-Below g c =
+    let value = g.N.Exact.value in
+    let e = dual_at value c.args.dual.now in
+    record {
+      rent = MatchResult-weaker c.times-in-Below.result c.times-in-Below.ensures
+          (λ r is.
+          is.exact ∙ ap (λ t. e.down *ℚ t) c.in_ok-room-in-Below.ensures.exact
+          ∙ lower_earned e (value c.args.limit) (value c.args.offset) (not_zero_side e c.sign.result c.requires c.sign.ensures c.in-Below.is))
+          (λ _ _. tt);
+      cause = MatchResult-weaker c.times-in-Below.result c.times-in-Below.ensures (λ _ _. tt)
+          (λ p is.
+          lower_refused e (value c.args.limit) (value c.args.offset) g.N.Exact.bound (passed_at value p) (value c.in_ok-room-in-Below.room) c.in_ok-room-in-Below.ensures.exact
+          (refusal value g.N.Exact.bound Times c.args.dual.now.down c.in_ok-room-in-Below.room _ _ p refl refl is));
+    }

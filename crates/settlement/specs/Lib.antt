@@ -1,0 +1,3 @@
+pub mod Paying
+pub mod Refusals
+pub mod Laws

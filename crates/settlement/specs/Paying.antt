@@ -1,0 +1,72 @@
+-- What units are paid, loads pay and limits earn at prices for the buses.
+-- Schweppe and others, Spot Pricing of Electricity: the merchandising surplus.
+use Rattle.std.specs.Prelude.{◌≡◌, ℕ, ◌<◌, List, [], ◌∷◌, ◌++◌, length, map, slice_index_or}
+use Rattle.fraction_theory.specs.Fraction.{Fraction, neg_ℚ, ◌+ℚ◌, ◌-ℚ◌, ◌*ℚ◌}
+use Rattle.fraction_theory.specs.Sums.{Term, Plain, Product, total}
+use Rattle.market_model.specs.declared.answered.Dual.{Dual}
+use Rattle.market_model.specs.declared.answered.Duals.{Duals}
+use Rattle.market_model.specs.declared.answered.Load.{Load}
+use Rattle.market_model.specs.declared.answered.Money.{Money}
+use Rattle.market_model.specs.declared.answered.Price.{Price}
+use Rattle.market_model.specs.declared.answered.Rent.{Rent}
+use Rattle.market_model.specs.declared.answered.UnitPay.{UnitPay}
+use Rattle.market_model.specs.declared.participants.Parts.{Parts}
+use Rattle.market_model.specs.Dispatch.{Dispatch, zero, places, unit_at, output, demand}
+use Rattle.market_model.specs.LimitRows.{Row, limit, row_flow, row_offset}
+use Rattle.market_model.specs.Optimality.{Feasible, Supports, named_rows, bus_price}
+use Rattle.market_model.specs.RightAnswers.{rent_of}
+
+-- the whole price at a bus; 0 past the end
+abbrev pub total_at : {N : Type 0} → (N → Fraction) → List (Price N) → ℕ → Fraction
+total_at value prices bus = slice_index_or (map (λ p. value p.total) prices) bus zero
+
+-- a unit's output, and the price at its bus for that
+abbrev pub pay_of_unit : Parts → Dispatch → (ℕ → Fraction) → ℕ → UnitPay Fraction
+pay_of_unit m x price u = record { mw = output m x u; paid = price (unit_at m u).bus *ℚ output m x u }
+
+-- a bus's demand, and its price for that
+abbrev pub pay_of_load : Parts → (ℕ → Fraction) → ℕ → Load Fraction
+pay_of_load m price i = record { mw = demand m i; pays = price i *ℚ demand m i }
+
+-- what loads pay by bus, and the opposite of what units are paid by unit
+abbrev pub left_terms : Parts → Dispatch → (ℕ → Fraction) → List Term
+left_terms m x price =
+    map (λ i. Product (price i) (demand m i)) (places (length m.buses))
+    ++ map (λ u. Product (neg_ℚ (price (unit_at m u).bus)) (output m x u)) (places (length m.units))
+
+-- The settlement of a dispatch at prices for the buses: units and buses in their order, the rows that duals name in theirs, and what loads
+-- pay less what units are paid.
+pub record IsSettlement (m : Parts) (x : Dispatch) (price : ℕ → Fraction) (d : Duals Fraction) (money : Money Fraction) : Type 0 where
+  pub units : money.units ≡ map (pay_of_unit m x price) (places (length m.units))
+  pub loads : money.loads ≡ map (pay_of_load m price) (places (length m.buses))
+  pub rents : money.rents ≡ map (rent_of m x d) (named_rows m d)
+  pub surplus : money.surplus ≡ total (left_terms m x price)
+
+-- an entry for each unit and each bus, and a rent for each limit with duals
+pub record FitsMoney {N : Type 0} (m : Parts) (duals : Duals N) (money : Money N) : Type 0 where
+  pub units : length money.units ≡ length m.units
+  pub loads : length money.loads ≡ length m.buses
+  pub rents : map (λ r. r.row) money.rents ≡ map (λ d. d.row) duals.limits
+
+-- the prices are those of the duals
+abbrev pub ArePricesOf : Parts → Duals Fraction → (ℕ → Fraction) → Type 0
+ArePricesOf m d price = (i : ℕ) → i < length m.buses → price i ≡ bus_price m d i
+
+-- the prices are those of duals that support the dispatch, which is feasible
+pub record IsSupportedAt (m : Parts) (x : Dispatch) (price : ℕ → Fraction) (d : Duals Fraction) : Type 0 where
+  pub prices : ArePricesOf m d price
+  pub feasible : Feasible m x
+  pub supported : Supports m x d
+
+-- ---- parts of it
+-- what a limit earns at the prices of a dual, where the flow has a fixed offset
+abbrev pub earned_terms : Dual Fraction → Fraction → Fraction → List Term
+earned_terms e limit offset = Product e.up (limit -ℚ offset) ∷ Product e.down (limit +ℚ offset) ∷ []
+
+-- the flow of a row where buses put in p, and what its limit earns at the prices of a dual
+abbrev pub earned_by : Parts → (ℕ → Fraction) → Dual Fraction → Row → Rent Fraction
+earned_by m p e r = record { row = e.row; flow = row_flow m p r; rent = total (earned_terms e (limit m r) (row_offset m r)) }
+
+-- what loads pay, and the opposite of what units are paid
+abbrev pub paid_terms : {N : Type 0} → (N → Fraction) → List (Load N) → List (UnitPay N) → List Term
+paid_terms value loads units = map (λ load. Plain (value load.pays)) loads ++ map (λ unit. Plain (neg_ℚ (value unit.paid))) units

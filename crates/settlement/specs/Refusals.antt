@@ -1,0 +1,68 @@
+-- The operations that may be refused where a dispatch is settled, each by its name.
+use Rattle.std.specs.Prelude.{◌≡◌, ◌⊎◌, ℕ, ◌<◌, [], ◌∷◌, length, Contains}
+use Rattle.fraction_theory.specs.Fraction.{Fraction, whole, ◌+ℚ◌}
+use Rattle.fraction_theory.specs.Sums.{Plain, Product}
+use Rattle.exact_fraction.specs.declared.Op.TheVariants.{Plus, Minus, Times}
+use Rattle.exact_fraction.specs.declared.Passed.{Passed}
+use Rattle.market_data.specs.declared.participants.Bus.{Bus}
+use Rattle.market_model.specs.declared.answered.Dual.{Dual}
+use Rattle.market_model.specs.declared.answered.Duals.{Duals}
+use Rattle.market_model.specs.declared.participants.Parts.{Parts}
+use Rattle.market_model.specs.Dispatch.{Dispatch, bus_at, injection, injection_terms, output, output_terms}
+use Rattle.market_model.specs.LimitRows.{Base, After, Cause, Row, limit, loss_factor, line_flow, line_terms, row_offset, offset_terms}
+use Rattle.market_model.specs.NamedSums.{IsAddedIn, IsRefusal, IsRefusedIn}
+use Rattle.market_model.specs.Optimality.{named_rows}
+use Rattle.market_model.specs.Settlement.{rent_terms}
+use Rattle.market_model.specs.Valued.{passed_at}
+use Rattle.limit_screen.specs.Flows.{IsLineRefusal}
+use Rattle.settlement.specs.declared.stops.MoneyStop.{MoneyStop}
+use Rattle.settlement.specs.declared.stops.MoneyStop.TheVariants as why
+use Rattle.settlement.specs.Paying.{earned_terms, left_terms}
+
+-- an operation refused where a dispatch is settled at prices of the buses; all rows are rows of the market that the duals name
+pub data IsSettlementRefusal (m : Parts) (x : Dispatch) (price : ℕ → Fraction) (d : Duals Fraction) (bound : ℕ) (p : Passed Fraction) : Type 0 where
+  -- a unit's output, a bus's demand, and what is paid for these
+  of_output : (u : ℕ) → u < length m.units → IsAddedIn (output_terms m x u) bound p → IsSettlementRefusal m x price d bound p
+  of_demand : (i : ℕ) → i < length m.buses → IsRefusal Plus (whole (bus_at m i).pd) (whole (bus_at m i).gs) bound p → IsSettlementRefusal m x price d bound p
+  of_money : IsRefusedIn (left_terms m x price) bound p → IsSettlementRefusal m x price d bound p
+  -- what a bus puts in, the flow of a line, and that of a row after an outage
+  of_injection : (i : ℕ) → i < length m.buses → IsAddedIn (injection_terms m x i) bound p → IsSettlementRefusal m x price d bound p
+  of_line : (l : ℕ) → l < length m.lines → IsRefusedIn (line_terms m (injection m x) l) bound p → IsSettlementRefusal m x price d bound p
+  of_flow : (l k : ℕ) → l < length m.lines → k < length m.lines → Contains (named_rows m d) (record { line = l; cause = After k })
+      → IsRefusedIn (Plain (line_flow m (injection m x) l) ∷ Product (loss_factor m l k) (line_flow m (injection m x) k) ∷ []) bound p → IsSettlementRefusal m x price d bound p
+  -- the fixed offset of a row, its limit less that and with it, and its rent
+  of_offset : (r : Row) → Contains (named_rows m d) r → IsRefusedIn (offset_terms m r) bound p → IsSettlementRefusal m x price d bound p
+  of_limit_less : (r : Row) → Contains (named_rows m d) r → IsRefusal Minus (limit m r) (row_offset m r) bound p → IsSettlementRefusal m x price d bound p
+  of_limit_more : (r : Row) → Contains (named_rows m d) r → IsRefusal Plus (limit m r) (row_offset m r) bound p → IsSettlementRefusal m x price d bound p
+  of_rent : (r : Row) → Contains (named_rows m d) r → IsRefusedIn (rent_terms m x d r) bound p → IsSettlementRefusal m x price d bound p
+
+-- why a dispatch was not settled: an operation was refused, or memory was
+abbrev pub IsStop : {N : Type 0} → (N → Fraction) → ℕ → Parts → Dispatch → (ℕ → Fraction) → Duals Fraction → MoneyStop N → Type 0
+IsStop value bound m x price d (why.Passed p) = IsSettlementRefusal m x price d bound (passed_at value p)
+IsStop value bound m x price d why.Memory = Unit {0}
+
+-- ---- the same part by part
+-- for a load at a price: its demand, or what it pays
+abbrev pub IsLoadRefusal : ℕ → Bus → Fraction → Passed Fraction → Type 0
+IsLoadRefusal bound bus price p = IsRefusal Plus (whole bus.pd) (whole bus.gs) bound p ⊎ IsRefusal Times price (whole bus.pd +ℚ whole bus.gs) bound p
+
+-- for a unit at a price: its output, or what it is paid
+abbrev pub IsUnitRefusal : Parts → Dispatch → ℕ → ℕ → Fraction → Passed Fraction → Type 0
+IsUnitRefusal m x bound unit price p = IsAddedIn (output_terms m x unit) bound p ⊎ IsRefusal Times price (output m x unit) bound p
+
+-- for a limit at the prices of a dual: the limit less its offset or with it, or what it earns
+abbrev pub IsEarningRefusal : Dual Fraction → Fraction → Fraction → ℕ → Passed Fraction → Type 0
+IsEarningRefusal e limit offset bound p = IsRefusal Minus limit offset bound p ⊎ IsRefusal Plus limit offset bound p ⊎ IsRefusedIn (earned_terms e limit offset) bound p
+
+-- what goes over to a line where buses put in f, with its own flow; nothing in the base
+abbrev pub IsShareRefusal : Parts → (ℕ → Fraction) → ℕ → Cause → ℕ → Passed Fraction → Type 0
+IsShareRefusal m f l Base bound p = ⊥
+IsShareRefusal m f l (After k) bound p = (k < length m.lines) × IsRefusedIn (Plain (line_flow m f l) ∷ Product (loss_factor m l k) (line_flow m f k) ∷ []) bound p
+
+-- for the flow of a row where buses put in f
+abbrev pub IsFlowRefusal : Parts → (ℕ → Fraction) → Row → ℕ → Passed Fraction → Type 0
+IsFlowRefusal m f r bound p = IsLineRefusal m f bound p ⊎ IsShareRefusal m f r.line r.cause bound p
+
+-- for a row with a dual where buses put in f
+abbrev pub IsRowRefusal : Parts → (ℕ → Fraction) → Dual Fraction → Row → ℕ → Passed Fraction → Type 0
+IsRowRefusal m f e r bound p = IsFlowRefusal m f r bound p ⊎ IsRefusedIn (offset_terms m r) bound p ⊎ IsEarningRefusal e (limit m r) (row_offset m r) bound p

@@ -1,0 +1,18 @@
+//! What units are paid, loads pay and limits earn at bus prices, and what a dispatch is worth.
+#![tactic(auto)]
+
+pub mod laws;
+mod loads;
+mod rents;
+mod rows;
+mod settling;
+mod stops;
+mod units;
+mod worth;
+
+pub use settling::settle;
+pub use stops::MoneyStop;
+pub use worth::welfare;
+
+//TESTS #[cfg(test)]
+//TESTS mod tests;

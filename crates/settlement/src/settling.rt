@@ -1,0 +1,70 @@
+//! The settlement of a dispatch.
+
+ghost use Rattle.std.specs.Prelude.{◌≡◌, length, IfOk, IfErr};
+ghost use Rattle.fraction_theory.specs.Fraction.{neg_ℚ, ◌+ℚ◌};
+ghost use Rattle.fraction_theory.specs.Order.{◌≤ℚ◌};
+ghost use Rattle.fraction_theory.specs.Sums.{sum_by};
+ghost use Rattle.market_model.specs.Dispatch.{zero};
+ghost use Rattle.market_model.specs.Laws.{HasOffsetsWithin};
+ghost use Rattle.market_model.specs.NamedSums.{IsAddedIn};
+ghost use Rattle.market_model.specs.Optimality.{ProperDuals};
+ghost use Rattle.market_model.specs.Valued.{duals_at, money_at, passed_at};
+ghost use Rattle.limit_screen.specs.Flows.{dispatch_of};
+ghost use Rattle.settlement.specs.Paying.{total_at, paid_terms, FitsMoney, IsSettlement, IsSupportedAt};
+ghost use Rattle.settlement.specs.Refusals.{IsStop};
+
+use crate::MoneyStop;
+use crate::loads::loads;
+use crate::rents::rents;
+use crate::units::unit_pays;
+use exact_fraction::{Exact, Passed};
+use limit_screen::datum;
+use market_model::{Duals, Load, Market, Money, Price, UnitPay};
+use std::alloc::Global;
+
+/// What loads pay, in bus order, less what units are paid, in unit order.
+fn surplus<N: Exact>(loads: &[Load<N>], units: &[UnitPay<N>]) -> Result<N, Passed<N>>
+    ensures left { IfOk result (λ left. N.value left ≡ sum_by (λ load. N.value load.pays) loads.now +ℚ sum_by (λ unit. neg_ℚ (N.value unit.paid)) units.now) }
+    ensures cause { IfErr result (λ passed. IsAddedIn (paid_terms N.value loads.now units.now) N.bound (passed_at N.value passed)) }
+{
+    let mut surplus: N = datum(0);
+    for load in loads {
+        surplus = surplus.plus(load.pays)?;
+    }
+    for unit in units {
+        surplus = surplus.plus(unit.paid.neg())?;
+    }
+    Ok(surplus)
+}
+
+/// The settlement of a dispatch at bus prices, one for each bus, with duals as an answer has them: what units are paid, loads pay and
+/// limits with duals earn. MW are in 10^-9, prices in 10^-6 per MWh, money in 10^-15. The prices may be any; where they are those of the
+/// duals, the money is that of a right answer (`laws::money_is_right`).
+pub fn settle<N: Exact>(
+    alloc: Global,
+    market: &Market,
+    dispatch: &[N],
+    prices: &[Price<N>],
+    duals: &Duals<N>,
+) -> Result<Money<N>, MoneyStop<N>>
+    requires dispatch { length dispatch.now ≡ length market.now.blocks }
+    requires prices { length prices.now ≡ length market.now.buses }
+    requires duals { ProperDuals market.now (duals_at N.value duals.now) }
+    ensures money { IfOk result (λ money. IsSettlement market.now (dispatch_of N.value dispatch.now) (total_at N.value prices.now) (duals_at N.value duals.now) (money_at N.value money)) }
+    ensures fits { IfOk result (FitsMoney market.now duals.now) }
+    ensures surplus_is_rents { IfOk result (λ money. IsSupportedAt market.now (dispatch_of N.value dispatch.now) (total_at N.value prices.now) (duals_at N.value duals.now) → N.value money.surplus ≡ sum_by (λ rent. N.value rent.rent) money.rents) }
+    ensures not_negative { IfOk result (λ money. IsSupportedAt market.now (dispatch_of N.value dispatch.now) (total_at N.value prices.now) (duals_at N.value duals.now) → HasOffsetsWithin market.now (duals_at N.value duals.now) → zero ≤ℚ N.value money.surplus) }
+    ensures cause { IfErr result (IsStop N.value N.bound market.now (dispatch_of N.value dispatch.now) (total_at N.value prices.now) (duals_at N.value duals.now)) }
+{
+    let _lines = market.lines();
+    let units = unit_pays(alloc, market, dispatch, prices)?;
+    let loads = loads(alloc, market, prices)?;
+    let rents = rents(alloc, market, dispatch, duals)?;
+    let surplus = surplus(loads.slice(), units.slice())?;
+    Ok(Money {
+        units,
+        loads,
+        rents,
+        surplus,
+    })
+}

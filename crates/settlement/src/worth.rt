@@ -1,0 +1,49 @@
+//! What a dispatch is worth.
+
+ghost use Rattle.std.specs.Prelude.{◌≡◌, length, IfOk, IfErr};
+ghost use Rattle.fraction_theory.specs.Fraction.{whole, neg_ℚ, ◌*ℚ◌};
+ghost use Rattle.exact_fraction.specs.declared.Op.TheVariants as Op;
+ghost use Rattle.market_data.specs.Participants.{IsDatum};
+ghost use Rattle.market_model.specs.Dispatch.{signed};
+ghost use Rattle.market_model.specs.NamedSums.{IsRefusal, IsRefusedIn};
+ghost use Rattle.market_model.specs.Optimality.{welfare as welfare_of, welfare_terms};
+ghost use Rattle.market_model.specs.Valued.{passed_at};
+ghost use Rattle.limit_screen.specs.Flows.{dispatch_of};
+
+use exact_fraction::{Exact, Passed};
+use limit_screen::datum;
+use market_model::{Block, Market, Side};
+
+/// What a MW is worth that is sold or bought at a price.
+fn worth_of_one<N: Exact>(side: Side, price: N) -> N
+    ensures { N.value result ≡ neg_ℚ (signed side (N.value price)) }
+{
+    match side {
+        Side::Sell => price.neg(),
+        Side::Buy => price,
+    }
+}
+
+/// What the accepted MW of a block are worth: a buy's price for them, or the negative of a sell's.
+#[tactic(auto, using(market_data::proofs::Data::datum_read))]
+fn worth<N: Exact>(block: &Block, mw: N) -> Result<N, Passed<N>>
+    requires { IsDatum block.now.price }
+    ensures worth { IfOk result (λ worth. N.value worth ≡ neg_ℚ (signed block.now.side (whole block.now.price)) *ℚ N.value mw) }
+    ensures cause { IfErr result (λ passed. IsRefusal Op.Times (neg_ℚ (signed block.now.side (whole block.now.price))) (N.value mw) N.bound (passed_at N.value passed)) }
+{
+    let value: N = worth_of_one(block.side, datum(block.price));
+    value.times(mw)
+}
+
+/// What a dispatch is worth: the value of what is bought less the cost of what is sold, in block order, in 10^-15.
+pub fn welfare<N: Exact>(market: &Market, dispatch: &[N]) -> Result<N, Passed<N>>
+    requires { length dispatch.now ≡ length market.now.blocks }
+    ensures worth { IfOk result (λ worth. N.value worth ≡ welfare_of market.now (dispatch_of N.value dispatch.now)) }
+    ensures cause { IfErr result (λ passed. IsRefusedIn (welfare_terms market.now (dispatch_of N.value dispatch.now)) N.bound (passed_at N.value passed)) }
+{
+    let mut sum: N = datum(0);
+    for (place, block) in market.blocks().slice().iter().enumerate() {
+        sum = sum.plus(worth(block, dispatch[place])?)?;
+    }
+    Ok(sum)
+}
