@@ -1,7 +1,7 @@
 -- What blocks count in the rows of a dictionary, and the names of its variables.
-use Rattle.std.specs.Prelude.{◌≡◌, ◌≢◌, ℕ, ◌<◌, ◌≤◌, ◌+◌, ◌*◌, pos, Bool, true, false, cond, List, [], ◌∷◌, length, map, filter, AllPairs, Contains, Option, Some, refl}
-use Rattle.std.specs.List.{slice_get, flat_map, position}
-use Rattle.std.proofs.Common.{zero, suc, arith, ap, ap₂, sym, ◌∙◌, subst, get_or}
+use Rattle.std.specs.Prelude.{◌≡◌, ◌≢◌, ℕ, ◌<◌, ◌≤◌, ◌+◌, ◌*◌, pos, Bool, true, false, cond, List, [], ◌∷◌, length, filter, AllPairs, Contains, Option, Some}
+use Rattle.std.specs.List.{flat_map, position}
+use Rattle.std.proofs.Common.{suc, arith, ap, ap₂, sym, ◌∙◌, subst, get_or}
 use Rattle.std.proofs.lemmas.List.{length-append, length-map}
 use Rattle.std.proofs.lemmas.List.Concat.{flat_map-cons}
 use Rattle.std.proofs.lemmas.List.FromFn.{length-range_with_len, get_or-range_with_len}
@@ -11,16 +11,16 @@ use Rattle.market_data.specs.declared.participants.Unit as unit
 use Rattle.market_model.specs.declared.answered.RowId.{RowId}
 use Rattle.market_model.specs.declared.participants.Block.{Block}
 use Rattle.market_model.specs.declared.participants.Parts.{Parts}
-use Rattle.market_model.specs.Dispatch.{places, signed, block_at, block_bus, unit_at}
+use Rattle.market_model.specs.Dispatch.{places, signed, block_at, unit_at}
 use Rattle.market_model.specs.LimitRows.{Row, rows, row_id, row_factor, place_of_line}
 use Rattle.market_model.specs.Market.{IsMarket}
-use Rattle.market_model.proofs.MarketSums.{unit_bus-in, block_unit-in}
+use Rattle.market_model.proofs.MarketSums.{unit_bus-in}
 use Rattle.limit_rows.specs.Groups.{bears, groups, is_named, lines_of, rows_of}
 use Rattle.limit_rows.proofs.ApartLemmas.{names_apart}
 use Rattle.limit_rows.proofs.GroupLemmas.{rows-groups}
 use Rattle.limit_rows.proofs.NumberingLemmas.{length-rows_of}
 use Rattle.limit_rows.proofs.PlaceLemmas.{position_named}
-use Rattle.market_system.specs.MarketSystem.{balance_name, row_name, block_sign, block_coefficient}
+use Rattle.market_system.specs.MarketSystem.{row_name, block_sign, block_coefficient}
 use Rattle.market_system.proofs.DualLists.{rows_apart}
 use Rattle.market_system.proofs.RowOrder.{row_name-at}
 use Rattle.market_system.proofs.SystemLaws.{from_places}

@@ -1,6 +1,6 @@
 -- Lists that are filled place by place.
 use Rattle.std.specs.Prelude.{◌≡◌, ℕ, ◌+◌, ◌<◌, ◌≤◌, List, [], ◌∷◌, ◌++◌, map, length, take, replicate, slice_index}
-use Rattle.std.proofs.Common.{zero, suc, arith, ap, ap₂, sym, ◌∙◌, get_or, refl, add-one}
+use Rattle.std.proofs.Common.{suc, arith, ap, ap₂, sym, ◌∙◌, refl}
 use Rattle.std.proofs.lemmas.List.{map-append, take_more, take_all, replicate-append-replicate}
 use Rattle.std.specs.List.{Contains}
 use Rattle.market_model.specs.Dispatch.{places}

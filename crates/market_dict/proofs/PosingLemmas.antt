@@ -1,6 +1,6 @@
 -- Terms fit the dictionary that they are posed at.
-use Rattle.std.specs.Prelude.{◌≡◌, ℕ, ◌+◌, List, ◌∷◌, ◌++◌, length, map}
-use Rattle.std.proofs.Common.{suc, arith, ap, ap₂, sym, ◌∙◌}
+use Rattle.std.specs.Prelude.{◌≡◌, ℕ, ◌+◌, List, ◌∷◌, length, map}
+use Rattle.std.proofs.Common.{suc, arith, ap, sym, ◌∙◌}
 use Rattle.std.proofs.lemmas.List.{length-append, length-map}
 use Rattle.std.proofs.lemmas.List.FromFn.{length-range_with_len, length-map-range_with_len}
 use Rattle.fraction_theory.specs.Fraction.{Fraction}

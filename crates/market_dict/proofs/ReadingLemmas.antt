@@ -5,7 +5,7 @@ use Rattle.std.proofs.Common.{zero, suc, arith, ap, ap₂, sym, ◌∙◌, subst
 use Rattle.std.proofs.lemmas.Bool.{eq-eqb}
 use Rattle.std.proofs.lemmas.Bool.Decides.{eqb_tells}
 use Rattle.std.proofs.lemmas.Grind.{flat_map-append}
-use Rattle.std.proofs.lemmas.List.{append-nil, length-append, length-map, map-append, take_more, take_all, get_or-map}
+use Rattle.std.proofs.lemmas.List.{append-nil, length-append, length-map, take_more, take_all, get_or-map}
 use Rattle.std.proofs.lemmas.List.FromFn.{length-range_with_len}
 use Rattle.std.proofs.lemmas.Option.{slice_get-get_or, slice_get_within, get_or_from_slice_get}
 use Rattle.fraction_theory.specs.Fraction.{Fraction, whole, neg_ℚ, ◌-ℚ◌}
@@ -18,7 +18,7 @@ use Rattle.exact_fraction.specs.declared.Op.TheVariants.{Minus}
 use Rattle.exact_fraction.specs.declared.Passed.{Passed}
 use Rattle.exact_fraction.specs.Passes.{IsExact, IsPassed, outcome}
 use Rattle.linear_dict.proofs.NameLemmas.{lt_or_le}
-use Rattle.linear_system.specs.Choices.{Choice, IsChoice, at_bound, basics, value, value_terms}
+use Rattle.linear_system.specs.Choices.{Choice, at_bound, basics, value, value_terms}
 use Rattle.linear_system.specs.Numbers.{Quantity, SystemNumber, is_low, is_high, is_value}
 use Rattle.linear_system.specs.Pairs.{IsPairCase, subtracted, IsSummand, plain, alone, OfEither, IsSystemPair}
 use Rattle.linear_system.specs.Systems.{System}
@@ -26,7 +26,7 @@ use Rattle.linear_dict.specs.Dictionaries.{Dictionary, IsDictionary, system_of a
 use Rattle.linear_dict.proofs.SplitLemmas.{Contains-at}
 use Rattle.simplex_core.specs.Outcomes.{ShowsChoice}
 use Rattle.simplex_core.specs.States.{state_of}
-use Rattle.simplex_core.proofs.StandLemmas.{choice_basic, choice_other}
+use Rattle.simplex_core.proofs.StandLemmas.{choice_basic}
 use Rattle.simplex_theory.specs.Stuck.{multiplier, margin}
 use Rattle.market_model.specs.declared.answered.Dual.{Dual}
 use Rattle.market_model.specs.declared.participants.Parts.{Parts}
@@ -34,9 +34,8 @@ use Rattle.market_model.specs.Dispatch.{places}
 use Rattle.market_model.specs.LimitRows.{Row, rows, row_id}
 use Rattle.market_model.specs.Market.{IsMarket}
 use Rattle.market_model.specs.NamedSums.{IsRefusal}
-use Rattle.market_model.specs.Valued.{dual_at}
 use Rattle.limit_rows.proofs.ApartLemmas.{names_apart}
-use Rattle.market_system.specs.MarketSystem.{balance_name, row_name, in_order, dual_by, system_over, system_of}
+use Rattle.market_system.specs.MarketSystem.{balance_name, row_name, in_order, dual_by, system_over}
 use Rattle.market_system.proofs.DualLists.{rows_apart}
 use Rattle.market_system.proofs.RowOrder.{in_order-from, row_name-at}
 use Rattle.market_dict.specs.Holding.{Holds}

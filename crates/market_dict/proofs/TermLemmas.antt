@@ -1,27 +1,24 @@
 -- The prices and bounds of a market's dictionary, one after the other.
-use Rattle.std.specs.Prelude.{◌≡◌, ◌⊎◌, ℕ, ◌+◌, ◌-◌, ◌<◌, ◌≤◌, pos, List, [], ◌∷◌, ◌++◌, length, map, replicate, Contains, refl}
-use Rattle.std.specs.List.{range_with_len}
-use Rattle.std.proofs.Common.{zero, suc, arith, ap, ap₂, sym, ◌∙◌, subst, get_or, append_assoc}
-use Rattle.std.proofs.lemmas.List.{map-append, length-append, length-map, get_or-map, get_or-append_right, get_or_append_left}
+use Rattle.std.specs.Prelude.{◌≡◌, ℕ, ◌+◌, ◌-◌, ◌<◌, ◌≤◌, pos, List, [], ◌∷◌, ◌++◌, length, map, Contains}
+use Rattle.std.proofs.Common.{arith, ap, ap₂, sym, ◌∙◌, get_or, append_assoc}
+use Rattle.std.proofs.lemmas.List.{map-append, length-append, get_or-append_right, get_or_append_left}
 use Rattle.std.proofs.lemmas.List.FromFn.{length-map-range_with_len, get_or-map-range_with_len}
-use Rattle.fraction_theory.specs.Fraction.{Fraction, whole, neg_ℚ, ◌+ℚ◌, ◌-ℚ◌}
-use Rattle.fraction_theory.specs.Sums.{Term, Plain, Product, total}
+use Rattle.fraction_theory.specs.Fraction.{Fraction, whole, neg_ℚ, ◌+ℚ◌}
+use Rattle.fraction_theory.specs.Sums.{Plain, Product, total}
 use Rattle.fraction_theory.proofs.FieldLaws.{ring_ℚ}
 use Rattle.fraction_theory.proofs.Ring.{neg_neg}
-use Rattle.exact_fraction.specs.declared.Op.TheVariants.{Plus, Minus}
+use Rattle.exact_fraction.specs.declared.Op.TheVariants.{Plus}
 use Rattle.exact_fraction.specs.declared.Passed.{Passed}
 use Rattle.market_model.specs.declared.participants.Block.{Block}
 use Rattle.market_model.specs.declared.participants.Parts.{Parts}
-use Rattle.market_model.specs.Dispatch.{Dispatch, places, signed, block_at, quantity, empty, injection, balance, balance_terms}
-use Rattle.market_model.specs.LimitRows.{Cause, Base, After, Row, rows, limit, line_flow, loss_factor}
+use Rattle.market_model.specs.Dispatch.{Dispatch, places, signed, block_at, quantity, injection, balance, balance_terms}
+use Rattle.market_model.specs.LimitRows.{Cause, Base, After, Row, rows, line_flow, loss_factor}
 use Rattle.market_model.specs.Market.{IsMarket}
-use Rattle.market_model.specs.NamedSums.{IsAddedIn, IsRefusal, IsRefusedIn}
+use Rattle.market_model.specs.NamedSums.{IsAddedIn, IsRefusal}
 use Rattle.market_model.proofs.MorePlaces.{total-places_more}
 use Rattle.market_model.proofs.SumSteps.{plus_at, terms_at}
 use Rattle.limit_rows.proofs.FactorLemmas.{IsLost, stands}
 use Rattle.limit_screen.specs.Flows.{flow_terms, flow_terms_in, flows_at, line_in}
-use Rattle.market_system.specs.MarketSystem.{needed, least_added, most_added}
-use Rattle.market_dict.specs.Holding.{lows, highs}
 
 -- ---- flows where nothing is accepted
 module _ (m : Parts) (x : Dispatch) (fs : List Fraction) (puts : fs ≡ flows_at m x) where

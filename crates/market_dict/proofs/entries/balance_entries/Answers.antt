@@ -2,7 +2,7 @@ use Rattle.std.proofs.Common.{◌≡◌, ◌∙◌, ◌+◌, List, map, ap, subs
 use Rattle.std.specs.Prelude.{slice_index_or}
 use Rattle.market_model.specs.declared.participants.Block.{Block}
 use Rattle.market_model.specs.declared.participants.Side.TheVariants.{Sell}
-use Rattle.market_model.specs.Dispatch.{places, signed, block_at}
+use Rattle.market_model.specs.Dispatch.{places}
 use Rattle.market_system.specs.MarketSystem.{block_sign}
 use Rattle.market_dict.proofs.EntryLemmas.{sign_entry}
 use Rattle.market_dict.proofs.ListedLemmas.{places_filled}

@@ -1,9 +1,9 @@
-use Rattle.std.proofs.Common.{◌≡◌, ◌<◌, ◌∙◌, ◌^◌, ℤ, ℕ, ap, ap₂, refl, w64}
+use Rattle.std.proofs.Common.{◌≡◌, ◌∙◌, ℤ, ap, refl, w64}
 use Rattle.std.proofs.lemmas.Int.{to_z-of_z}
 use mir.Val.{to_z, of_z}
-use Rattle.fraction_theory.specs.Fraction.{Fraction, over}
+use Rattle.fraction_theory.specs.Fraction.{over}
 use Rattle.market_data.specs.declared.participants.Unit as unit
-use Rattle.market_model.specs.Dispatch.{signed, unit_at}
+use Rattle.market_model.specs.Dispatch.{signed}
 use Rattle.market_model.specs.LimitRows.{row_factor}
 use Rattle.limit_rows.specs.Places.{row_of}
 use Rattle.limit_rows.proofs.PlaceLemmas.{at_places}

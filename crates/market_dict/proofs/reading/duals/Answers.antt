@@ -1,4 +1,4 @@
-use Rattle.std.proofs.Common.{◌≡◌, ◌∙◌, ℕ, map, ap}
+use Rattle.std.proofs.Common.{◌∙◌, map, ap}
 use Rattle.linear_dict.specs.Dictionaries.{note_of, choice_of}
 use Rattle.linear_system.specs.Choices.{reduced}
 use Rattle.market_system.specs.MarketSystem.{system_of}

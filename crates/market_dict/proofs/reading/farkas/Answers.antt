@@ -1,6 +1,5 @@
-use Rattle.std.proofs.Common.{rules, Err, ◌≡◌, ◌∙◌, ℕ, map, ap, sym, subst, slice_index}
+use Rattle.std.proofs.Common.{rules, Err, ◌≡◌, ◌∙◌, map, ap, slice_index}
 use Rattle.std.specs.Prelude.{not}
-use Rattle.std.specs.List.{Contains}
 use Rattle.linear_dict.specs.Dictionaries.{choice_of, system_of as system_in}
 use Rattle.linear_dict.proofs.SplitLemmas.{Contains-at}
 use Rattle.linear_system.proofs.SameSystems.{same_pair}

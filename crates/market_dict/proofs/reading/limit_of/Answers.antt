@@ -1,6 +1,6 @@
-use Rattle.std.proofs.Common.{◌≡◌, ◌<◌, ◌≤◌, ◌+◌, ◌-◌, ◌∙◌, ℕ, Some, ap, subst, sym, length, arith, slice_index}
+use Rattle.std.proofs.Common.{◌≡◌, ◌<◌, ◌+◌, ◌-◌, ◌∙◌, ℕ, Some, ap, subst, sym, length, arith, slice_index}
 use Rattle.std.specs.List.{slice_get}
-use Rattle.market_model.specs.LimitRows.{Row, rows}
+use Rattle.market_model.specs.LimitRows.{rows}
 use Rattle.market_system.specs.MarketSystem.{balance_name}
 use Rattle.market_dict.proofs.ReadingLemmas.{row_of_rank, rank_place}
 use Rattle.market_dict.proofs.reading.limit_of.Goals as goal

@@ -1,4 +1,4 @@
-use Rattle.std.proofs.Common.{◌≡◌, ◌∙◌, Bool, ap, ap₂, sym, slice_index}
+use Rattle.std.proofs.Common.{◌∙◌, ap, ap₂, sym, slice_index}
 use Rattle.fraction_theory.specs.Fraction.{◌-ℚ◌}
 use Rattle.exact_fraction.specs.declared.Op.TheVariants.{Minus}
 use Rattle.linear_dict.specs.Dictionaries.{note_of, choice_of, system_of}

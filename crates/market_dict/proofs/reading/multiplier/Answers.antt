@@ -1,4 +1,4 @@
-use Rattle.std.proofs.Common.{◌≡◌, ◌≢◌, ◌∙◌, ℕ, ap, subst, sym, arith, slice_index, length}
+use Rattle.std.proofs.Common.{◌≢◌, ◌∙◌, ℕ, ap, subst, sym, slice_index}
 use Rattle.std.specs.List.{Contains}
 use Rattle.fraction_theory.specs.Fraction.{neg_ℚ}
 use Rattle.linear_dict.specs.Dictionaries.{choice_of}

@@ -1,4 +1,4 @@
-use Rattle.std.proofs.Common.{◌≡◌, ◌<◌, ◌≤◌, ◌+◌, ◌∙◌, List, ℕ, map, take, ap, subst, sym, length, arith}
+use Rattle.std.proofs.Common.{◌≡◌, ◌<◌, ◌+◌, ◌∙◌, List, map, take, ap, subst, sym, length, arith}
 use Rattle.linear_dict.specs.Dictionaries.{note_of}
 use Rattle.linear_dict.specs.Notes.{Noted}
 use Rattle.market_dict.proofs.ListedLemmas.{names_filled, names_all}

@@ -1,7 +1,4 @@
-use Rattle.std.proofs.Common.{◌≡◌, ◌<◌, ◌∙◌, ◌+◌, ℕ, Option, Some, None, ap, sym, arith, length}
-use Rattle.std.specs.List.{position}
-use Rattle.market_model.specs.LimitRows.{rows}
-use Rattle.limit_rows.specs.Groups.{is_named}
+use Rattle.std.proofs.Common.{◌≡◌, ◌∙◌, ◌+◌, ℕ, Option, Some, None, ap, sym, arith, length}
 use Rattle.limit_rows.specs.Places.{row_of}
 use Rattle.limit_rows.proofs.PlaceLemmas.{at_places}
 use Rattle.market_dict.proofs.EntryLemmas.{row_named_at, rows_few, place_found}

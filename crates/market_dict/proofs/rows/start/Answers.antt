@@ -1,9 +1,8 @@
-use Rattle.std.proofs.Common.{◌≡◌, ◌≢◌, ◌∙◌, ℕ, List, map, ap, sym, subst, arith, length}
+use Rattle.std.proofs.Common.{◌≡◌, ◌≢◌, ◌∙◌, ℕ, List, map, ap, sym, subst, length}
 use Rattle.std.specs.List.{AllPairs, Contains}
 use Rattle.std.proofs.lemmas.Result.{IfOk-weaker}
-use Rattle.linear_dict.specs.Dictionaries.{Dictionary, IsStart}
+use Rattle.linear_dict.specs.Dictionaries.{IsStart}
 use Rattle.market_model.specs.Dispatch.{places}
-use Rattle.market_system.specs.MarketSystem.{block_sign}
 use Rattle.market_dict.proofs.EntryLemmas.{places_distinct, place_absent}
 use Rattle.market_dict.proofs.HoldingLaws.{holds_start}
 use Rattle.market_dict.proofs.rows.start.Goals as goal

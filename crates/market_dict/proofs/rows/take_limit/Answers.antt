@@ -1,7 +1,6 @@
-use Rattle.std.proofs.Common.{◌≡◌, ◌∙◌, ℕ, List, map, ap, sym, subst, length}
+use Rattle.std.proofs.Common.{◌∙◌, ℕ, map, ap, sym, subst}
 use Rattle.std.specs.List.{Contains}
-use Rattle.std.proofs.lemmas.List.{length-map}
-use Rattle.linear_dict.specs.Causes.{IsPairWith, OnPassed}
+use Rattle.linear_dict.specs.Causes.{IsPairWith}
 use Rattle.linear_dict.specs.Dictionaries.{AddsRow}
 use Rattle.limit_rows.specs.Places.{row_of}
 use Rattle.market_dict.proofs.HoldingLaws.{name_is_new, row_named, holds_taken, pair_taken}

@@ -1,4 +1,3 @@
-use Rattle.std.proofs.Common.{◌≡◌}
 use Rattle.linear_dict.specs.Dictionaries.{choice_of}
 use Rattle.market_dict.proofs.HoldingLaws.{shown_choice, solved_answers}
 use Rattle.market_dict.proofs.solving.best.Goals as goal

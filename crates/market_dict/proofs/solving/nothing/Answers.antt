@@ -1,6 +1,5 @@
-use Rattle.std.proofs.Common.{rules, Err, ◌≡◌, ◌∙◌, ap₂, sym, subst, slice_index}
+use Rattle.std.proofs.Common.{rules, Err, ◌≡◌, ap₂, sym, subst}
 use Rattle.fraction_theory.specs.Fraction.{Fraction}
-use Rattle.linear_dict.specs.Dictionaries.{choice_of}
 use Rattle.market_model.specs.declared.answered.Duals.{Duals}
 use Rattle.market_model.specs.declared.answered.Farkas.{Farkas}
 use Rattle.market_model.specs.Infeasibility.{IsFarkas}

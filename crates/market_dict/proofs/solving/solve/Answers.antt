@@ -1,4 +1,4 @@
-use Rattle.std.proofs.Common.{◌≡◌, sym, subst}
+use Rattle.std.proofs.Common.{sym, subst}
 use Rattle.linear_dict.specs.Dictionaries.{system_of as system_in}
 use Rattle.linear_system.proofs.SameSystems.{same_pair}
 use Rattle.market_system.specs.MarketSystem.{system_of}

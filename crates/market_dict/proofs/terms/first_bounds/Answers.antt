@@ -1,6 +1,5 @@
-use Rattle.std.proofs.Common.{◌≡◌, ◌∙◌, ◌+◌, ◌++◌, ◌≤ℤ◌, List, map, ap, subst, sym, length, arith, pos, ℕ}
+use Rattle.std.proofs.Common.{◌≡◌, ◌∙◌, ◌+◌, ◌≤ℤ◌, List, map, ap, subst, sym, length, arith, pos, ℕ}
 use Rattle.std.specs.Prelude.{slice_index_or}
-use Rattle.fraction_theory.specs.Fraction.{Fraction}
 use Rattle.market_model.specs.declared.participants.Block.{Block}
 use Rattle.market_model.specs.declared.participants.Side.TheVariants.{Sell}
 use Rattle.market_model.specs.Dispatch.{places, quantity, zero}

@@ -1,8 +1,8 @@
-use Rattle.std.proofs.Common.{rules, Err, ◌≡◌, ◌<◌, ◌≤◌, ◌+◌, ◌∙◌, ℕ, map, ap, sym, length, arith, pos, refl}
+use Rattle.std.proofs.Common.{rules, Err, ◌≡◌, ◌<◌, ◌∙◌, map, ap, length, arith, refl}
 use Rattle.std.proofs.lemmas.List.{length-map}
-use Rattle.fraction_theory.specs.Fraction.{Fraction, whole, neg_ℚ}
+use Rattle.fraction_theory.specs.Fraction.{neg_ℚ}
 use Rattle.exact_fraction.specs.declared.Op.TheVariants.{Plus}
-use Rattle.market_model.specs.Dispatch.{empty, injection}
+use Rattle.market_model.specs.Dispatch.{empty}
 use Rattle.market_model.specs.Valued.{passed_at}
 use Rattle.market_model.proofs.SumSteps.{refusal}
 use Rattle.limit_screen.proofs.FlowLemmas.{put_read}

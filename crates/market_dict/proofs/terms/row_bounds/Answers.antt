@@ -1,8 +1,8 @@
-use Rattle.std.proofs.Common.{rules, Err, ◌≡◌, ◌∙◌, List, map, ap, ap₂, subst, sym, refl, w64}
+use Rattle.std.proofs.Common.{rules, Err, ◌≡◌, ◌∙◌, List, map, ap, ap₂, subst, sym, w64}
 use Rattle.std.proofs.lemmas.Int.{to_z-of_z}
 use Rattle.std.proofs.lemmas.List.{length-map}
 use mir.Val.{to_z, of_z}
-use Rattle.fraction_theory.specs.Fraction.{Fraction, whole, neg_ℚ, ◌-ℚ◌}
+use Rattle.fraction_theory.specs.Fraction.{whole, neg_ℚ, ◌-ℚ◌}
 use Rattle.fraction_theory.specs.Sums.{Term}
 use Rattle.exact_fraction.specs.declared.Op.TheVariants.{Minus}
 use Rattle.market_model.specs.Dispatch.{empty}

@@ -1,5 +1,4 @@
-use Rattle.std.proofs.Common.{rules, Err, ◌≡◌, ◌∙◌, List, map, ap, sym, length}
-use Rattle.fraction_theory.specs.Fraction.{Fraction}
+use Rattle.std.proofs.Common.{rules, Err, ◌≡◌, ◌∙◌, map, ap, length}
 use Rattle.market_model.specs.Dispatch.{places, quantity, zero}
 use Rattle.limit_rows.specs.Places.{row_of}
 use Rattle.market_system.specs.MarketSystem.{needed, least_added, most_added}

@@ -1,5 +1,4 @@
-use Rattle.std.proofs.Common.{◌≡◌, ◌∙◌, List, ap, sym, subst, subst₂, length}
-use Rattle.std.specs.Prelude.{All}
+use Rattle.std.proofs.Common.{◌∙◌, List, ap, subst₂, length}
 use Rattle.simplex_core.specs.declared.bounds.Bounds.{Bounds}
 use Rattle.simplex_core.specs.Posings.{IsPosing}
 use Rattle.market_dict.proofs.HoldingLaws.{bounds_ordered, holds_posed}
