@@ -1,2 +1,6 @@
-pub mod CheckingLemmas
-pub mod PoolingLemmas
+pub mod ClearLemmas
+pub mod FactorLemmas
+pub mod FileLemmas
+pub mod MarketLemmas
+pub mod OnceLemmas
+pub mod StepLemmas

@@ -1,9 +1,17 @@
 -- Why the work ends before its end.
 use Rattle.std.specs.Prelude.{Result, Ok, Err}
+use Rattle.case_text.specs.declared.CaseFault.{CaseFault}
+use Rattle.case_text.specs.declared.CaseFault.TheVariants as case
+use Rattle.net_case.specs.declared.live_parts.NetFault.{NetFault}
+use Rattle.net_case.specs.declared.live_parts.NetFault.TheVariants as net
 use Rattle.net_paths.specs.declared.connection.PathStop.{PathStop}
 use Rattle.net_paths.specs.declared.connection.PathStop.TheVariants as path
 use Rattle.factor_tables.specs.declared.table_fault.TableFault.{TableFault}
 use Rattle.factor_tables.specs.declared.table_fault.TableFault.TheVariants as table
+use Rattle.outage_list.specs.declared.listing.OutageFault.{OutageFault}
+use Rattle.outage_list.specs.declared.listing.OutageFault.TheVariants as outage
+use Rattle.offer_book.specs.declared.offer_table.OfferFault.{OfferFault}
+use Rattle.offer_book.specs.declared.offer_table.OfferFault.TheVariants as offer
 use Rattle.refusal_text.specs.declared.refusals.Input.{Input}
 use Rattle.refusal_text.specs.declared.refusals.Refusal.{Refusal}
 use Rattle.refusal_text.specs.declared.refusals.Refusal.TheVariants as refusal
@@ -16,10 +24,27 @@ IsToldAs holds (Ok x) = holds (Ok x)
 IsToldAs holds (Err (stop.Refused r)) = holds (Err r)
 IsToldAs holds (Err stop.Memory) = Unit {0}
 
-abbrev pub table_stop_of : Input → TableFault → Stop
-table_stop_of file table.Memory = stop.Memory
-table_stop_of file f = stop.Refused (refusal.Table file f)
+-- ---- a fault of each kind as a stop
+abbrev pub case_stop : CaseFault → Stop
+case_stop case.Memory = stop.Memory
+case_stop f = stop.Refused (refusal.Case f)
+
+abbrev pub net_stop : NetFault → Stop
+net_stop net.Memory = stop.Memory
+net_stop f = stop.Refused (refusal.Network f)
 
 abbrev pub split_stop : PathStop → Stop
 split_stop (path.Split bus) = stop.Refused (refusal.Split bus)
 split_stop path.Memory = stop.Memory
+
+abbrev pub table_stop_of : Input → TableFault → Stop
+table_stop_of file table.Memory = stop.Memory
+table_stop_of file f = stop.Refused (refusal.Table file f)
+
+abbrev pub outage_stop : OutageFault → Stop
+outage_stop outage.Memory = stop.Memory
+outage_stop f = stop.Refused (refusal.Outages f)
+
+abbrev pub offer_stop : OfferFault → Stop
+offer_stop offer.Memory = stop.Memory
+offer_stop f = stop.Refused (refusal.Offers f)

@@ -1,13 +1,19 @@
-//! What the bytes of files stand for: the market of a case and of offers, and what a check of tables works on. Each gives the first
+//! What the bytes of files stand for: the markets of `pool` and of `clear`, and what a check of tables works on. Each gives the first
 //! fault in the order of the work where they stand for none.
 #![tactic(auto)]
 
+mod cases;
 mod checking;
+mod clearing;
 mod lengths;
+mod limits;
+mod offers;
 mod pooling;
 mod stops;
+mod tables;
 
 pub use checking::{CheckBytes, Inputs, check_inputs};
+pub use clearing::{ClearBytes, clear_market};
 pub use lengths::MOST_BYTES;
 pub use pooling::pool_market;
 pub use stops::Stop;

@@ -1,13 +1,16 @@
 //! Why the files come to no market and to no check.
 
 ghost use Rattle.std.specs.Prelude.{◌≡◌};
+ghost use Rattle.market_inputs.specs.Stops.{table_stop_of};
 
 use case_text::CaseFault;
+use factor_tables::TableFault;
 use net_case::NetFault;
 use net_paths::PathStop;
 use offer_book::OfferFault;
+use outage_list::OutageFault;
 use plain_list::Memory;
-use refusal_text::Refusal;
+use refusal_text::{Input, Refusal};
 
 /// Why nothing was made of the files.
 #[derive(Debug, Drop)]
@@ -27,12 +30,9 @@ impl From<Memory> for Stop {
 }
 
 impl From<CaseFault> for Stop {
-    ghost use Rattle.std.specs.Prelude.{◌⊎◌, ◌≢◌};
-    ghost use Rattle.case_text.specs.declared.CaseFault.TheVariants as fault_why;
-    ghost use Rattle.refusal_text.specs.declared.refusals.Refusal.TheVariants as refusal;
-    ghost use Rattle.market_inputs.specs.declared.stops.Stop.TheVariants as why;
+    ghost use Rattle.market_inputs.specs.Stops.{case_stop};
 
-    ghost from_gives = { λ fault stop. ((fault ≡ fault_why.Memory) × (stop ≡ why.Memory)) ⊎ ((fault ≢ fault_why.Memory) × (stop ≡ why.Refused (refusal.Case fault))) };
+    ghost from_gives = { λ fault stop. stop ≡ case_stop fault };
 
     fn from(fault: CaseFault) -> Stop {
         match fault {
@@ -43,33 +43,14 @@ impl From<CaseFault> for Stop {
 }
 
 impl From<NetFault> for Stop {
-    ghost use Rattle.std.specs.Prelude.{◌⊎◌, ◌≢◌};
-    ghost use Rattle.net_case.specs.declared.live_parts.NetFault.TheVariants as fault_why;
-    ghost use Rattle.refusal_text.specs.declared.refusals.Refusal.TheVariants as refusal;
-    ghost use Rattle.market_inputs.specs.declared.stops.Stop.TheVariants as why;
+    ghost use Rattle.market_inputs.specs.Stops.{net_stop};
 
-    ghost from_gives = { λ fault stop. ((fault ≡ fault_why.Memory) × (stop ≡ why.Memory)) ⊎ ((fault ≢ fault_why.Memory) × (stop ≡ why.Refused (refusal.Network fault))) };
+    ghost from_gives = { λ fault stop. stop ≡ net_stop fault };
 
     fn from(fault: NetFault) -> Stop {
         match fault {
             NetFault::Memory => Stop::Memory,
             _ => Stop::Refused(Refusal::Network(fault)),
-        }
-    }
-}
-
-impl From<OfferFault> for Stop {
-    ghost use Rattle.std.specs.Prelude.{◌⊎◌, ◌≢◌};
-    ghost use Rattle.offer_book.specs.declared.offer_table.OfferFault.TheVariants as fault_why;
-    ghost use Rattle.refusal_text.specs.declared.refusals.Refusal.TheVariants as refusal;
-    ghost use Rattle.market_inputs.specs.declared.stops.Stop.TheVariants as why;
-
-    ghost from_gives = { λ fault stop. ((fault ≡ fault_why.Memory) × (stop ≡ why.Memory)) ⊎ ((fault ≢ fault_why.Memory) × (stop ≡ why.Refused (refusal.Offers fault))) };
-
-    fn from(fault: OfferFault) -> Stop {
-        match fault {
-            OfferFault::Memory => Stop::Memory,
-            _ => Stop::Refused(Refusal::Offers(fault)),
         }
     }
 }
@@ -84,5 +65,41 @@ impl From<PathStop> for Stop {
             PathStop::Split { bus } => Stop::Refused(Refusal::Split { bus }),
             PathStop::Memory => Stop::Memory,
         }
+    }
+}
+
+impl From<OutageFault> for Stop {
+    ghost use Rattle.market_inputs.specs.Stops.{outage_stop};
+
+    ghost from_gives = { λ fault stop. stop ≡ outage_stop fault };
+
+    fn from(fault: OutageFault) -> Stop {
+        match fault {
+            OutageFault::Memory => Stop::Memory,
+            _ => Stop::Refused(Refusal::Outages(fault)),
+        }
+    }
+}
+
+impl From<OfferFault> for Stop {
+    ghost use Rattle.market_inputs.specs.Stops.{offer_stop};
+
+    ghost from_gives = { λ fault stop. stop ≡ offer_stop fault };
+
+    fn from(fault: OfferFault) -> Stop {
+        match fault {
+            OfferFault::Memory => Stop::Memory,
+            _ => Stop::Refused(Refusal::Offers(fault)),
+        }
+    }
+}
+
+/// A table that its reader refused, or that there was no memory for.
+pub(crate) fn table_stop(file: Input, fault: TableFault) -> Stop
+    ensures { result ≡ table_stop_of file fault }
+{
+    match fault {
+        TableFault::Memory => Stop::Memory,
+        _ => Stop::Refused(Refusal::Table(file, fault)),
     }
 }

@@ -12,6 +12,8 @@ use Rattle.net_case.specs.declared.live_parts.NetFault.{NetFault}
 use Rattle.net_case.specs.declared.live_parts.NetFault.TheVariants as net_fault
 use Rattle.factor_tables.specs.declared.table_fault.TableFault.{TableFault}
 use Rattle.factor_tables.specs.declared.table_fault.TableFault.TheVariants as table_fault
+use Rattle.factor_tables.specs.declared.covering.Uncovered.{Uncovered}
+use Rattle.factor_tables.specs.declared.covering.Uncovered.TheVariants as uncovered
 use Rattle.outage_list.specs.declared.listing.OutageFault.{OutageFault}
 use Rattle.outage_list.specs.declared.listing.OutageFault.TheVariants as outage_fault
 use Rattle.offer_book.specs.declared.offer_table.OfferFault.{OfferFault}
@@ -93,6 +95,11 @@ outage_words (outage_fault.Twice line) = codes "Twice" ++ codes " line " ++ deci
 outage_words (outage_fault.Islands branch side) = codes "Islands branch " ++ decimal branch ++ codes " side" ++ side_text side
 outage_words outage_fault.Memory = []
 
+-- what the two tables of factors lack
+unfoldable pub lack_words : Uncovered → List ℕ
+lack_words (uncovered.NoShift branch) = codes "NoShift branch " ++ decimal branch
+lack_words (uncovered.NoLoss branch) = codes "NoLoss branch " ++ decimal branch
+
 -- a file that is too long, with the most bytes of a file
 abbrev pub too_long : List ℕ
 too_long = codes "TooLong " ++ codes "limit 33554432"
@@ -103,6 +110,7 @@ input_name input.Ptdf = codes "ptdf "
 input_name input.Lodf = codes "lodf "
 input_name input.Contingencies = codes "contingencies "
 input_name input.Offers = codes "offers "
+input_name input.Offsets = codes "offsets "
 
 -- which file it is, and its fault
 unfoldable pub refusal_words : Refusal → List ℕ
@@ -112,6 +120,7 @@ refusal_words (refusal.Network f) = codes "case " ++ net_words f
 refusal_words (refusal.Split bus) = codes "case " ++ codes "Split bus " ++ decimal bus
 refusal_words (refusal.Table i f) = input_name i ++ table_words f
 refusal_words (refusal.Outages f) = codes "contingencies " ++ outage_words f
+refusal_words (refusal.Uncovered lack) = codes "factors " ++ lack_words lack
 refusal_words (refusal.Offers f) = codes "offers " ++ offer_words f
 
 -- the line that refuses a file

@@ -1,10 +1,10 @@
 //! Why a file is refused, and the line that says so.
 
 ghost use Rattle.std.specs.Prelude.{◌≡◌, ◌++◌, codes, decimal, IfOk};
-ghost use Rattle.refusal_text.specs.Refusals.{field_name, why_name, case_words, net_words, table_words, side_text, outage_words, offer_words, input_name, refusal_words, refusal_line};
+ghost use Rattle.refusal_text.specs.Refusals.{field_name, why_name, case_words, net_words, table_words, side_text, outage_words, lack_words, offer_words, input_name, refusal_words, refusal_line};
 
 use case_text::{CaseFault, Field};
-use factor_tables::TableFault;
+use factor_tables::{TableFault, Uncovered};
 use line_text::Text;
 use net_case::NetFault;
 use offer_book::OfferFault;
@@ -25,6 +25,8 @@ pub enum Input {
     /// The table of listed outages.
     Contingencies,
     Offers,
+    /// The table of offsets.
+    Offsets,
 }
 
 /// Why a file stands for nothing that the program may work on.
@@ -41,6 +43,8 @@ pub enum Refusal {
     Table(Input, TableFault),
     /// The outages that are asked for.
     Outages(OutageFault),
+    /// What the two tables of factors lack together.
+    Uncovered(Uncovered),
     Offers(OfferFault),
 }
 
@@ -239,6 +243,16 @@ fn write_outage_fault(text: &mut Text, fault: &OutageFault) -> Result<(), Memory
     }
 }
 
+#[tactic(auto, using(std::proofs::Common::append_assoc), unfolding(crate::specs::Refusals::lack_words))]
+fn write_lack(text: &mut Text, lack: Uncovered) -> Result<(), Memory>
+    ensures { IfOk result (λ _. text.new ≡ text.old ++ lack_words lack) }
+{
+    match lack {
+        Uncovered::NoShift { branch } => numbered(text, b"NoShift branch ", branch as usize),
+        Uncovered::NoLoss { branch } => numbered(text, b"NoLoss branch ", branch as usize),
+    }
+}
+
 fn input_word(input: Input) -> &'static [u8]
     ensures { result.now ≡ input_name input }
 {
@@ -248,6 +262,7 @@ fn input_word(input: Input) -> &'static [u8]
         Input::Lodf => b"lodf ",
         Input::Contingencies => b"contingencies ",
         Input::Offers => b"offers ",
+        Input::Offsets => b"offsets ",
     }
 }
 
@@ -281,6 +296,10 @@ fn write_refusal(text: &mut Text, refusal: &Refusal) -> Result<(), Memory>
         Refusal::Outages(fault) => {
             text.word(b"contingencies ")?;
             write_outage_fault(text, fault)
+        }
+        Refusal::Uncovered(lack) => {
+            text.word(b"factors ")?;
+            write_lack(text, *lack)
         }
         Refusal::Offers(fault) => {
             text.word(b"offers ")?;

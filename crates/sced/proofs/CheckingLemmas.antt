@@ -7,7 +7,7 @@ use Rattle.refusal_text.specs.declared.refusals.Refusal.TheVariants as refusal
 use Rattle.market_inputs.specs.Files.{sized}
 use Rattle.market_inputs.specs.Checking.{AreInputs}
 use Rattle.market_inputs.specs.declared.checking.Inputs.{Inputs}
-use Rattle.market_inputs.proofs.PoolingLemmas.{sized-cut}
+use Rattle.market_inputs.proofs.FileLemmas.{sized-cut}
 use Rattle.sced.specs.declared.status.Status.{Status}
 use Rattle.sced.specs.Checking.{ChecksTo}
 use Rattle.sced.specs.Told.{ReadsTable, IsTable, lodf_header, contingencies_header, FilesCheckTo}

@@ -13,8 +13,12 @@ use Rattle.sced.specs.declared.status.Status.{Status}
 use Rattle.sced.specs.declared.status.Status.TheVariants as status
 use Rattle.sced.specs.Words.{refuses}
 use Rattle.sced.proofs.WordsLemmas.{asks-once, not-both}
-use Rattle.market_inputs.specs.Pooling.{pool_market}
-use Rattle.sced.specs.Pooling.{most_size, status_of, ComesTo, FilesPoolTo}
+use Rattle.refusal_text.specs.declared.refusals.Input.TheVariants as input
+use Rattle.refusal_text.specs.declared.refusals.Refusal.TheVariants as refusal
+use Rattle.market_inputs.specs.Files.{sized}
+use Rattle.market_inputs.specs.Pooling.{IsPoolMarket}
+use Rattle.market_inputs.proofs.OnceLemmas.{pool-once}
+use Rattle.sced.specs.Pooling.{most_size, status_of, ComesTo, PoolsTo, FilesPoolTo}
 use Rattle.sced.specs.Told.{AnswersTo, refused, pooled, checked, Decides, IsDecidedOf}
 
 cleared-done : (o : Outcome Fraction) → IsCleared o → status_of o ≡ status.Done
@@ -53,9 +57,12 @@ answers-decided (Some files) words s text (pooled case_asked offers_asked asked 
       (subst (λ o. FilesPoolTo (Some files) asks.case o s text) same.1 (subst (λ c. FilesPoolTo (Some files) c offers_asked s text) same.0 told));
 }
   where
-    by_files : (case offers case_bytes offers_bytes : List ℕ) (m : Parts) → files case ≡ Some case_bytes → files offers ≡ Some offers_bytes → pool_market case_bytes offers_bytes ≡ Ok m
-        → NoPairPasses m [] most_size → ((c o : List ℕ) × (files case ≡ Some c) × (files offers ≡ Some o) × ComesTo (pool_market c o) s text) → Decides m s
-    by_files case offers case_bytes offers_bytes m case_is offers_is market_is none (c, o, c_is, o_is, comes) =
+    by_files : (case offers case_bytes offers_bytes : List ℕ) (m : Parts) → files case ≡ Some case_bytes → files offers ≡ Some offers_bytes
+        → IsPoolMarket (sized (refusal.TooLong input.Case) case_bytes) (sized (refusal.TooLong input.Offers) offers_bytes) (Ok m) → NoPairPasses m [] most_size
+        → ((c o : List ℕ) × (files case ≡ Some c) × (files offers ≡ Some o) × PoolsTo c o s text) → Decides m s
+    by_files case offers case_bytes offers_bytes m case_is offers_is market_is none (c, o, c_is, o_is, pools) =
         let same_case : c ≡ case_bytes = same-bytes c case_bytes (sym c_is ∙ case_is) in
         let same_offers : o ≡ offers_bytes = same-bytes o offers_bytes (sym o_is ∙ offers_is) in
-        comes-decided m s text (subst (λ r. ComesTo r s text) market_is (subst (λ b. ComesTo (pool_market case_bytes b) s text) same_offers (subst (λ b. ComesTo (pool_market b o) s text) same_case comes))) none
+        let right : PoolsTo case_bytes offers_bytes s text = subst (λ b. PoolsTo case_bytes b s text) same_offers (subst (λ b. PoolsTo b o s text) same_case pools) in
+        let told : right.market ≡ Ok m = pool-once (sized (refusal.TooLong input.Case) case_bytes) (sized (refusal.TooLong input.Offers) offers_bytes) m right.market market_is right.is in
+        comes-decided m s text (subst (λ r. ComesTo r s text) told right.comes) none

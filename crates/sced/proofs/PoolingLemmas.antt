@@ -1,13 +1,17 @@
 -- Files that stay as they were, and what is told of those that were read.
-use Rattle.std.proofs.Common.{◌≡◌, ℕ, List, Result, Ok, Err, Option, Some, None, refl, sym, subst, ◌∙◌}
+use Rattle.std.proofs.Common.{◌≡◌, ℕ, List, Result, Ok, Err, Option, Some, None, refl, sym, subst, ap, ◌∙◌}
 use Rattle.std.specs.Prelude.{IfOk, MatchResult}
 use Rattle.outside_store.specs.Files.{Files, SameFiles, Reads}
 use Rattle.outside_store.specs.declared.Store.{Ghosts}
-use Rattle.market_inputs.specs.Pooling.{pool_market}
-use Rattle.market_inputs.proofs.PoolingLemmas.{pool_market-cut}
+use Rattle.refusal_text.specs.declared.refusals.Input.TheVariants as input
+use Rattle.refusal_text.specs.declared.refusals.Refusal.{Refusal}
+use Rattle.refusal_text.specs.declared.refusals.Refusal.TheVariants as refusal
+use Rattle.market_inputs.specs.Files.{sized}
+use Rattle.market_inputs.specs.Pooling.{IsPoolMarket}
+use Rattle.market_inputs.proofs.FileLemmas.{sized-cut}
 use Rattle.sced.specs.declared.status.Status.{Status}
 use Rattle.sced.specs.Runs.{OnlyReads}
-use Rattle.sced.specs.Pooling.{ComesTo, PoolsTo, FilesPoolTo}
+use Rattle.sced.specs.Pooling.{PoolsTo, FilesPoolTo}
 
 -- ---- files that stay as they were
 pub same_files : (files : Option Files) → SameFiles files files
@@ -40,8 +44,12 @@ pub files-pool : (old now : Option Files) (case offers case_read offers_read : L
 files-pool None now case offers case_read offers_read s text same first second right = tt
 files-pool (Some f) None case offers case_read offers_read s text same first second right = absurd same
 files-pool (Some f) (Some h) case offers case_read offers_read s text same (whole, at, cut) (whole', at', cut') right =
-    let is : pool_market case_read offers_read ≡ pool_market whole whole' = rw (cut, cut') (pool_market-cut whole whole') in
-    (whole, whole', at, sym (same offers) ∙ at', subst (λ m. ComesTo m s text) is right)
+    let too_long : Refusal = refusal.TooLong input.Case in
+    let too_long' : Refusal = refusal.TooLong input.Offers in
+    let case_same : sized too_long case_read ≡ sized too_long whole = ap (sized too_long) cut ∙ sized-cut too_long whole in
+    let offers_same : sized too_long' offers_read ≡ sized too_long' whole' = ap (sized too_long') cut' ∙ sized-cut too_long' whole' in
+    let is = subst (λ b. IsPoolMarket (sized too_long whole) b right.market) offers_same (subst (λ b. IsPoolMarket b (sized too_long' offers_read) right.market) case_same right.is) in
+    (whole, whole', at, sym (same offers) ∙ at', record { market = right.market; is = is; comes = right.comes })
 
 -- ---- outcomes
 -- what is right for an outcome is right for it once it is told

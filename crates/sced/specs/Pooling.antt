@@ -10,8 +10,11 @@ use Rattle.market_system.specs.Outcomes.{IsRightOutcome}
 use Rattle.report_text.specs.Reports.{report_text}
 use Rattle.merit_order.specs.Clearing.{IsPlainPrice}
 use Rattle.refusal_text.specs.Refusals.{refusal_line}
+use Rattle.refusal_text.specs.declared.refusals.Input.TheVariants as input
 use Rattle.refusal_text.specs.declared.refusals.Refusal.{Refusal}
-use Rattle.market_inputs.specs.Pooling.{pool_market}
+use Rattle.refusal_text.specs.declared.refusals.Refusal.TheVariants as refusal
+use Rattle.market_inputs.specs.Files.{sized}
+use Rattle.market_inputs.specs.Pooling.{IsPoolMarket}
 use Rattle.sced.specs.declared.status.Status.{Status}
 use Rattle.sced.specs.declared.status.Status.TheVariants as status
 
@@ -43,8 +46,10 @@ ComesTo (Ok m) s text = IsMarket m × ClearsTo most_size m s text
 ComesTo (Err r) s text = (s ≡ status.Refused) × (text ≡ refusal_line r)
 
 -- the status and the text are right for the bytes of a case and of offers
-abbrev pub PoolsTo : List ℕ → List ℕ → Status → List ℕ → Type 0
-PoolsTo case offers s text = ComesTo (pool_market case offers) s text
+pub record PoolsTo (case offers : List ℕ) (s : Status) (text : List ℕ) : Type 0 where
+  pub market : Result Parts Refusal
+  pub is : IsPoolMarket (sized (refusal.TooLong input.Case) case) (sized (refusal.TooLong input.Offers) offers) market
+  pub comes : ComesTo market s text
 
 -- the status and the text are right for the bytes of the two files of these names, where the files are told
 abbrev pub FilesPoolTo : Option Files → List ℕ → List ℕ → Status → List ℕ → Type 0

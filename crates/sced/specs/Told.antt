@@ -7,8 +7,10 @@ use Rattle.market_model.specs.Dispatch.{Dispatch}
 use Rattle.market_model.specs.Optimality.{Feasible}
 use Rattle.market_system.specs.WorkingPairs.{NoPairPasses}
 use Rattle.sced.specs.Checking.{ChecksTo}
-use Rattle.market_inputs.specs.Files.{most_file}
-use Rattle.market_inputs.specs.Pooling.{pool_market}
+use Rattle.refusal_text.specs.declared.refusals.Input.TheVariants as input
+use Rattle.refusal_text.specs.declared.refusals.Refusal.TheVariants as refusal
+use Rattle.market_inputs.specs.Files.{most_file, sized}
+use Rattle.market_inputs.specs.Pooling.{IsPoolMarket}
 use Rattle.sced.specs.Pooling.{FilesPoolTo, most_size}
 use Rattle.sced.specs.Words.{AsksCheck, AsksNothing, AsksPool, CheckNames}
 use Rattle.sced.specs.declared.status.Status.{Status}
@@ -80,7 +82,7 @@ pub record AsksMarket (files : Files) (words : List (List ℕ)) (m : Parts) : Ty
   pub asks : AsksPool words case offers
   pub case_is : files case ≡ Some case_bytes
   pub offers_is : files offers ≡ Some offers_bytes
-  pub market_is : pool_market case_bytes offers_bytes ≡ Ok m
+  pub market_is : IsPoolMarket (sized (refusal.TooLong input.Case) case_bytes) (sized (refusal.TooLong input.Offers) offers_bytes) (Ok m)
 
 -- where the words ask to clear a market of which no working pair passes the bound, the status decides it
 pub record IsDecidedIn (files : Files) (words : List (List ℕ)) (s : Status) : Type 0 where

@@ -1,6 +1,6 @@
 use Rattle.std.proofs.Common.{refl, arith}
 use Rattle.refusal_text.specs.declared.refusals.Refusal.TheVariants as refusal
-use Rattle.market_inputs.proofs.PoolingLemmas.{sized-long, sized-short}
+use Rattle.market_inputs.proofs.FileLemmas.{sized-long, sized-short}
 use Rattle.market_inputs.proofs.lengths.check_length.Goals as goal
 
 pub returns-then-bytes-gt-MOST_BYTES-clause-long : goal.returns-then-bytes-gt-MOST_BYTES-clause-long

@@ -1,0 +1,120 @@
+-- The markets of files keep what every market keeps.
+use Rattle.std.proofs.Common.{◌≡◌, ◌≢◌, ◌≤◌, ◌<◌, ℕ, ℤ, pos, List, [], ◌∷◌, length, map, get_or, refl, sym, subst, ap, ◌∙◌, arith}
+use Rattle.std.specs.Prelude.{All, AllPairs, Contains, IfSome, Option, Some, None, ◌≤ℤ◌}
+use Rattle.std.proofs.lemmas.List.{length-map, get_or-map}
+use Rattle.std.proofs.lemmas.List.Elements.{All-map}
+use Rattle.std.proofs.lemmas.Simd.{map-map}
+use Rattle.market_data.specs.Participants.{IsDatum, IsUnit}
+use Rattle.market_data.specs.declared.participants.Unit as unit
+use Rattle.market_model.specs.declared.participants.Factor.{Factor}
+use Rattle.market_model.specs.declared.participants.Line.{Line}
+use Rattle.market_model.specs.Market.{IsLine, IsMarket}
+use Rattle.market_model.proofs.PlainMarkets.{plain_market, distinct_by_rise}
+use Rattle.net_case.specs.Networks.{LiveNetwork, IsNetwork, IsNetBranch, IsLimit}
+use Rattle.net_case.specs.NetworkReading.{unit_within}
+use Rattle.net_case.specs.declared.live_parts.NetBranch.{NetBranch}
+use Rattle.net_case.specs.declared.live_parts.NetUnit.{NetUnit}
+use Rattle.net_paths.specs.Detours.{IsLiveRow}
+use Rattle.factor_tables.specs.Factors.{Entry, factor_at}
+use Rattle.factor_tables.specs.Offsets.{OffsetEntry}
+use Rattle.market_inputs.specs.declared.offers.Offered.{Offered}
+use Rattle.market_inputs.specs.declared.tables.Tables.{Tables}
+use Rattle.market_inputs.specs.Clearing.{AreSmall, line_of, loss_by, market_of, shift_by}
+use Rattle.market_inputs.specs.Pooling.{pool_of}
+use Rattle.market_inputs.specs.Tables.{AreOffered, MayBeLost}
+use Rattle.market_inputs.proofs.FactorLemmas.{factors_by-are}
+
+-- ---- units
+unit_rows : (us : List NetUnit) → map (λ u. u.row) (map unit_within us) ≡ map (λ u. u.row) us
+unfolding unit_within
+unit_rows [] = refl
+unit_rows (u ∷ us) = ap (λ rows. u.row ∷ rows) (unit_rows us)
+
+rows-distinct : (network : LiveNetwork) (offered : Offered) → IsNetwork network → AreOffered network offered → AllPairs (λ a b. a ≢ b) (map (λ (u : unit.Unit). u.row) offered.units)
+rows-distinct network offered net given =
+    let rows : map (λ (u : unit.Unit). u.row) offered.units ≡ map (λ (u : NetUnit). u.row) network.units = ap (map (λ (u : unit.Unit). u.row)) given.units_are ∙ unit_rows network.units in
+    subst (AllPairs (λ a b. a ≢ b)) (sym rows) (distinct_by_rise (map (λ (u : NetUnit). u.row) network.units) net.unit_rows.rise)
+
+-- ---- the market without branches
+pub pool-market : (network : LiveNetwork) (offered : Offered) → IsNetwork network → AreOffered network offered → IsMarket (pool_of network offered)
+pool-market network offered net given = plain_market network.buses offered.units offered.blocks (record {
+  bus_count = net.bus_count;
+  unit_count = given.count;
+  block_count = given.blocks.count;
+  buses = net.buses;
+  bus_numbers = net.distinct;
+  units = given.units;
+  unit_rows = rows-distinct network offered net given;
+  blocks = given.blocks.blocks;
+  room = given.room;
+})
+
+-- ---- outages
+-- listed outages are rows of live branches
+pub live-rows : (network : LiveNetwork) (rows : List ℕ) → MayBeLost network rows → All (IsLiveRow network) rows
+live-rows network rows lost i d lt = let o = lost.are.each i d lt in (o.branch, o.live)
+
+-- ---- lines
+not-below : (limit : Option ℤ) → IfSome limit IsLimit → IfSome limit (λ mw. pos 0 ≤ℤ mw)
+not-below None h = tt
+not-below (Some mw) h = h.least
+
+Contains-map : {X Y : Type 0} (f : X → Y) (xs : List X) (x : X) → Contains xs x → Contains (map f xs) (f x)
+Contains-map f xs x (k, lt, e) = (k, omega (arith, lt, length-map xs f), get_or-map f xs k x (f x) lt ∙ ap f e)
+
+module _ (network : LiveNetwork) (offsets : List OffsetEntry) (net : IsNetwork network) where
+  abbrev lines : List Line
+  lines = map (line_of offsets) network.branches
+
+  abbrev branch_rows : List ℕ
+  branch_rows = map (λ (b : NetBranch). b.row) network.branches
+
+  line-rows : map (λ (l : Line). l.row) lines ≡ branch_rows
+  line-rows = map-map (λ (l : Line). l.row) (line_of offsets) network.branches
+
+  are-lines : All (λ (l : Line). IsDatum l.offset) lines → All IsLine lines
+  are-lines data_of = All-map IsLine (line_of offsets) network.branches each
+    where
+      each : All (λ (b : NetBranch). IsLine (line_of offsets b)) network.branches
+      each i d lt =
+          let b : NetBranch = get_or network.branches i d in
+          let is : IsNetBranch (length network.buses) b = net.branches i d lt in
+          let row : get_or branch_rows i d.row ≡ b.row = get_or-map (λ (x : NetBranch). x.row) network.branches i d d.row lt in
+          let range = net.rows_of_branches.range i d.row (omega (arith, lt, length-map network.branches (λ (x : NetBranch). x.row))) in
+          let there : get_or lines i (line_of offsets d) ≡ line_of offsets b = get_or-map (line_of offsets) network.branches i d (line_of offsets d) lt in
+          let offset : IsDatum (line_of offsets b).offset = subst (λ (l : Line). IsDatum l.offset) there (data_of i (line_of offsets d) (omega (arith, lt, length-map network.branches (line_of offsets)))) in
+          record {
+            row = omega (arith, range.0, row);
+            base = not-below b.base is.base;
+            post = not-below b.post is.post;
+            offset = offset;
+          }
+
+-- ---- the market with limits
+pub clear-market : (network : LiveNetwork) (tables : Tables) (offered : Offered) (offsets : List OffsetEntry) → IsNetwork network → MayBeLost network tables.outages → AreOffered network offered
+    → All (λ (l : Line). IsDatum l.offset) (map (line_of offsets) network.branches) → AreSmall (shift_by tables.shift network.branches network.buses) → AreSmall (loss_by tables.loss network.branches)
+    → IsMarket (market_of network tables offered offsets)
+clear-market network tables offered offsets net lost given data_of small_shift small_loss =
+    let count : length (map (line_of offsets) network.branches) ≡ length network.branches = length-map network.branches (line_of offsets) in
+    let rows : map (λ (l : Line). l.row) (map (line_of offsets) network.branches) ≡ map (λ (b : NetBranch). b.row) network.branches = line-rows network offsets net in
+    record {
+      bus_count = net.bus_count;
+      unit_count = given.count;
+      block_count = given.blocks.count;
+      line_count = omega (arith, count, net.branch_count);
+      outage_count = lost.count;
+      buses = net.buses;
+      bus_numbers = net.distinct;
+      units = given.units;
+      unit_rows = rows-distinct network offered net given;
+      blocks = given.blocks.blocks;
+      room = given.room;
+      lines = are-lines network offsets net data_of;
+      line_rows = subst (AllPairs (λ a b. a ≢ b)) (sym rows) (distinct_by_rise (map (λ (b : NetBranch). b.row) network.branches) net.rows_of_branches.rise);
+      outages = subst (λ rs. All (Contains rs) tables.outages) (sym rows) (λ i d lt.
+          let o = lost.are.each i d lt in
+          subst (Contains (map (λ (b : NetBranch). b.row) network.branches)) o.live.row_is (Contains-map (λ (b : NetBranch). b.row) network.branches o.branch o.live.live));
+      outages_distinct = lost.are.distinct;
+      shift = rw count (factors_by-are (λ branch bus. factor_at tables.shift (branch.row, bus.number)) network.buses network.branches small_shift);
+      loss = rw count (factors_by-are (λ branch other. factor_at tables.loss (branch.row, other.row)) network.branches network.branches small_loss);
+    }

@@ -1,0 +1,49 @@
+use Rattle.std.proofs.Common.{◌≡◌, ◌∙◌, Err, rules}
+use Rattle.refusal_text.specs.declared.refusals.Input.TheVariants as input
+use Rattle.refusal_text.specs.declared.refusals.Refusal.TheVariants as refusal
+use Rattle.market_inputs.specs.Files.{sized}
+use Rattle.market_inputs.proofs.ClearLemmas.{IsCovered, all-read, offers-stop, offsets-stop}
+use Rattle.market_inputs.proofs.clearing.clear_market.Goals as goal
+
+pub returns-in_err-offered-clause-told : goal.returns-in_err-offered-clause-told
+returns-in_err-offered-clause-told c =
+    let b = c.args.bytes.now in
+    let out = c.from_residual-in_err-offered.result in
+    let given : out ≡ Err c.in_err-offered.field-0.0 = search rules in
+    offers-stop c.args.rating (sized (refusal.TooLong input.Case) b.case.now) (sized (refusal.TooLong input.Ptdf) b.ptdf.now) (sized (refusal.TooLong input.Lodf) b.lodf.now)
+    (sized (refusal.TooLong input.Contingencies) b.contingencies.now) (sized (refusal.TooLong input.Offers) b.offers.now) (sized (refusal.TooLong input.Offsets) b.offsets.now) c.in_ok-raw.raw
+    c.in_ok-network.network c.in_ok-tables.tables (record {
+      raw_is = c.in_ok-raw.ensures;
+      network_is = c.in_ok-network.ensures.told;
+      tables_are = c.in_ok-tables.ensures.told;
+      covers = c.in_ok-check_cover.ensures;
+    })
+    c.offer_table.result out c.in_err-offered.field-0.0 c.offer_table.ensures.told c.in_err-offered.was given
+
+pub returns-in_err-offsets-clause-told : goal.returns-in_err-offsets-clause-told
+returns-in_err-offsets-clause-told c =
+    let b = c.args.bytes.now in
+    let out = c.from_residual-in_err-offsets.result in
+    let given : out ≡ Err c.in_err-offsets.field-0.0 = search rules in
+    offsets-stop c.args.rating (sized (refusal.TooLong input.Case) b.case.now) (sized (refusal.TooLong input.Ptdf) b.ptdf.now) (sized (refusal.TooLong input.Lodf) b.lodf.now)
+    (sized (refusal.TooLong input.Contingencies) b.contingencies.now) (sized (refusal.TooLong input.Offers) b.offers.now) (sized (refusal.TooLong input.Offsets) b.offsets.now) c.in_ok-raw.raw
+    c.in_ok-network.network c.in_ok-tables.tables (record {
+      raw_is = c.in_ok-raw.ensures;
+      network_is = c.in_ok-network.ensures.told;
+      tables_are = c.in_ok-tables.ensures.told;
+      covers = c.in_ok-check_cover.ensures;
+    })
+    c.in_ok-offered.offered c.in_ok-offered.ensures.told c.offset_table.result out c.in_err-offsets.field-0.0 c.offset_table.ensures c.in_err-offsets.was given
+
+pub returns-clause-told : goal.returns-clause-told
+returns-clause-told c =
+    let b = c.args.bytes.now in
+    all-read c.args.rating (sized (refusal.TooLong input.Case) b.case.now) (sized (refusal.TooLong input.Ptdf) b.ptdf.now) (sized (refusal.TooLong input.Lodf) b.lodf.now)
+    (sized (refusal.TooLong input.Contingencies) b.contingencies.now) (sized (refusal.TooLong input.Offers) b.offers.now) (sized (refusal.TooLong input.Offsets) b.offsets.now) c.in_ok-raw.raw
+    c.in_ok-network.network c.in_ok-tables.tables (record {
+      raw_is = c.in_ok-raw.ensures;
+      network_is = c.in_ok-network.ensures.told;
+      tables_are = c.in_ok-tables.ensures.told;
+      covers = c.in_ok-check_cover.ensures;
+    })
+    c.in_ok-offered.offered c.in_ok-offered.ensures.told c.in_ok-offsets.offsets _ c.in_ok-offsets.ensures (c.in_ok-assemble.ensures ∙ c.in_ok-parts.ensures.is)

@@ -1,0 +1,75 @@
+-- What the bytes of the files of a clear stand for.
+use Rattle.std.specs.Prelude.{ℕ, ◌≤◌, ◌==◌, ℤ, pos, List, [], ◌∷◌, All, map, unwrap_or, unsigned_abs, if◌then◌else◌, Result, Ok}
+use Rattle.std.specs.List.{enumerate_from, flat_map}
+use Rattle.market_data.specs.declared.participants.Bus.{Bus}
+use Rattle.market_data.specs.Scales.{most_factor}
+use Rattle.market_model.specs.declared.participants.Factor.{Factor}
+use Rattle.market_model.specs.declared.participants.Line.{Line}
+use Rattle.market_model.specs.declared.participants.Parts.{Parts}
+use Rattle.net_case.specs.Networks.{LiveNetwork}
+use Rattle.net_case.specs.declared.live_parts.NetBranch.{NetBranch}
+use Rattle.net_case.specs.declared.live_parts.PostRating.{PostRating}
+use Rattle.factor_tables.specs.Factors.{Entry, factor_at}
+use Rattle.factor_tables.specs.Offsets.{OffsetEntry, offset_at}
+use Rattle.refusal_text.specs.declared.refusals.Refusal.{Refusal}
+use Rattle.market_inputs.specs.declared.offers.Offered.{Offered}
+use Rattle.market_inputs.specs.declared.tables.Tables.{Tables}
+use Rattle.market_inputs.specs.Cases.{IsJoinedNetwork, matrices_in}
+use Rattle.market_inputs.specs.Steps.{Is, Then}
+use Rattle.market_inputs.specs.Tables.{AreTables, cover_in, offers_in, offsets_in}
+
+-- ---- lines
+-- a live branch with its limits, and the offset of its record or 0
+abbrev pub line_of : List OffsetEntry → NetBranch → Line
+line_of offsets branch = record { row = branch.row; base = branch.base; post = branch.post; offset = unwrap_or (offset_at offsets branch.row) (pos 0) }
+
+-- ---- factors
+-- a factor, where it is not 0
+abbrev pub unless_0 : Factor → List Factor
+unless_0 factor = if unsigned_abs factor.value == 0 then [] else factor ∷ []
+
+-- the factors of the line at a place that are not 0, by the places of the others
+abbrev pub factors_of_line : {B : Type 0} → (B → ℤ) → ℕ → List B → List Factor
+factors_of_line value line others = flat_map (λ other. unless_0 (record { line = line; of = other.0; value = value other.1 })) (enumerate_from 0 others)
+
+-- the factors of lines that are not 0, line by line
+abbrev pub factors_by : {A B : Type 0} → (A → B → ℤ) → List A → List B → List Factor
+factors_by value lines others = flat_map (λ line. factors_of_line (value line.1) line.0 others) (enumerate_from 0 lines)
+
+-- the shift factors of branches for buses
+abbrev pub shift_by : List Entry → List NetBranch → List Bus → List Factor
+shift_by shift branches buses = factors_by (λ branch bus. factor_at shift (branch.row, bus.number)) branches buses
+
+-- the factors of branches for lost ones
+abbrev pub loss_by : List Entry → List NetBranch → List Factor
+loss_by loss branches = factors_by (λ branch lost. factor_at loss (branch.row, lost.row)) branches branches
+
+-- no factor is too great
+abbrev pub AreSmall : List Factor → Type 0
+AreSmall factors = All (λ factor. unsigned_abs factor.value ≤ most_factor) factors
+
+-- ---- the market
+-- the market of a network with its tables, its offers and its offsets
+abbrev pub market_of : LiveNetwork → Tables → Offered → List OffsetEntry → Parts
+market_of network tables offered offsets = record {
+  buses = network.buses;
+  units = offered.units;
+  blocks = offered.blocks;
+  lines = map (line_of offsets) network.branches;
+  outages = tables.outages;
+  shift = shift_by tables.shift network.branches network.buses;
+  loss = loss_by tables.loss network.branches;
+}
+
+-- What the bytes of the files of a clear stand for, or the first fault. The case comes first, then the three tables and what they
+-- lack, the offers and the offsets.
+abbrev pub IsClearMarket : PostRating → Result (List ℕ) Refusal → Result (List ℕ) Refusal → Result (List ℕ) Refusal → Result (List ℕ) Refusal → Result (List ℕ) Refusal
+    → Result (List ℕ) Refusal → Result Parts Refusal → Type 0
+IsClearMarket rating case ptdf lodf contingencies offers offsets told =
+    Then (Is (matrices_in case)) (λ matrices.
+    Then (IsJoinedNetwork rating matrices) (λ network.
+    Then (AreTables network ptdf lodf contingencies) (λ tables.
+    Then (Is (cover_in network tables)) (λ _.
+    Then (Is (offers_in network offers)) (λ offered.
+    Then (Is (offsets_in network offsets)) (λ moved.
+    Is (Ok (market_of network tables offered moved)))))))) told

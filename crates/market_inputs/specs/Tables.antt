@@ -1,0 +1,81 @@
+-- What the bytes of the tables of a network stand for.
+use Rattle.std.specs.Prelude.{◌≡◌, ◌≢◌, ℕ, ◌≤◌, ℤ, List, length, All, Result, Ok, Err}
+use Rattle.record_reading.specs.Steps.{and_then, or_as}
+use Rattle.market_data.specs.Participants.{IsUnit, most_units}
+use Rattle.market_data.specs.Scales.{most_outages}
+use Rattle.market_model.specs.declared.participants.Block.{Block}
+use Rattle.market_model.specs.Market.{HaveRoom}
+use Rattle.net_case.specs.Networks.{LiveNetwork, AreUnits}
+use Rattle.net_case.specs.NetworkReading.{unit_list_of}
+use Rattle.factor_tables.specs.Covering.{cover_of}
+use Rattle.factor_tables.specs.Factors.{Entry}
+use Rattle.factor_tables.specs.Offsets.{OffsetEntry, offsets_of}
+use Rattle.factor_tables.specs.OutageNumbers.{outage_rows_of}
+use Rattle.factor_tables.specs.Tables.{shift_of, loss_of}
+use Rattle.outage_list.specs.Listing.{AreOutages, IsListed}
+use Rattle.outage_list.specs.declared.listing.OutageFault.{OutageFault}
+use Rattle.outage_list.specs.declared.listing.OutageFault.TheVariants as outage
+use Rattle.offer_book.specs.Offers.{AreBlocks}
+use Rattle.offer_book.specs.OfferTable.{blocks_of_table}
+use Rattle.refusal_text.specs.declared.refusals.Input.TheVariants as input
+use Rattle.refusal_text.specs.declared.refusals.Refusal.{Refusal}
+use Rattle.refusal_text.specs.declared.refusals.Refusal.TheVariants as refusal
+use Rattle.market_inputs.specs.declared.offers.Offered.{Offered}
+use Rattle.market_inputs.specs.declared.tables.Tables.{Tables}
+use Rattle.market_inputs.specs.Steps.{Is, Then}
+
+-- ---- the tables of factors and of outages
+abbrev pub shift_in : LiveNetwork → Result (List ℕ) Refusal → Result (List Entry) Refusal
+shift_in network bytes = and_then bytes (λ text. or_as (refusal.Table input.Ptdf) (shift_of network text))
+
+abbrev pub loss_in : LiveNetwork → Result (List ℕ) Refusal → Result (List Entry) Refusal
+loss_in network bytes = and_then bytes (λ text. or_as (refusal.Table input.Lodf) (loss_of network text))
+
+abbrev pub numbers_in : Result (List ℕ) Refusal → Result (List ℤ) Refusal
+numbers_in bytes = and_then bytes (λ text. or_as (refusal.Table input.Contingencies) (outage_rows_of text))
+
+-- numbers as outages of a network, or the first that is none
+pub record AreListed (network : LiveNetwork) (numbers : List ℤ) (told : Result (List ℕ) Refusal) : Type 0 where
+  pub listed : Result (List ℕ) OutageFault
+  pub is : IsListed network numbers listed
+  pub made : listed ≢ Err outage.Memory
+  pub same : told ≡ or_as refusal.Outages listed
+
+abbrev pub AreOutagesIn : LiveNetwork → Result (List ℕ) Refusal → Result (List ℕ) Refusal → Type 0
+AreOutagesIn network bytes told = Then (Is (numbers_in bytes)) (AreListed network) told
+
+-- outages that a market may be asked to stand
+pub record MayBeLost (network : LiveNetwork) (rows : List ℕ) : Type 0 where
+  pub count : length rows ≤ most_outages
+  pub are : AreOutages network rows
+
+-- the three tables of a network: the shift factors come first, then the outage factors and the outages
+abbrev pub AreTables : LiveNetwork → Result (List ℕ) Refusal → Result (List ℕ) Refusal → Result (List ℕ) Refusal → Result Tables Refusal → Type 0
+AreTables network ptdf lodf contingencies told =
+    Then (Is (shift_in network ptdf)) (λ shift.
+    Then (Is (loss_in network lodf)) (λ loss.
+    Then (AreOutagesIn network contingencies) (λ outages.
+    Is (Ok (record { shift = shift; loss = loss; outages = outages }))))) told
+
+-- what the two tables of factors lack
+abbrev pub cover_in : LiveNetwork → Tables → Result (Unit {0}) Refusal
+cover_in network tables = or_as refusal.Uncovered (cover_of network tables.shift tables.loss tables.outages)
+
+-- ---- the tables of offers and of offsets
+-- the units of a network, and their blocks
+abbrev pub offers_in : LiveNetwork → Result (List ℕ) Refusal → Result Offered Refusal
+offers_in network bytes =
+    and_then bytes (λ text.
+    and_then (or_as refusal.Offers (blocks_of_table (unit_list_of network) text)) (λ blocks.
+    Ok (record { units = (unit_list_of network).units; blocks = blocks })))
+
+-- the units of a network, and blocks that they have room for
+pub record AreOffered (network : LiveNetwork) (offered : Offered) : Type 0 where
+  pub units_are : offered.units ≡ (unit_list_of network).units
+  pub count : length offered.units ≤ most_units
+  pub units : All (IsUnit (length network.buses)) offered.units
+  pub blocks : AreBlocks (length offered.units) offered.blocks
+  pub room : HaveRoom offered.units offered.blocks
+
+abbrev pub offsets_in : LiveNetwork → Result (List ℕ) Refusal → Result (List OffsetEntry) Refusal
+offsets_in network bytes = and_then bytes (λ text. or_as (refusal.Table input.Offsets) (offsets_of network text))

@@ -1,0 +1,65 @@
+//! The network of a case.
+
+ghost use Rattle.std.specs.Prelude.{◌≡◌, IfOk};
+ghost use Rattle.factor_residuals.specs.Residuals.{AreReactances};
+ghost use Rattle.net_case.specs.Networks.{IsNetwork};
+ghost use Rattle.refusal_text.specs.declared.refusals.Input.TheVariants as input;
+ghost use Rattle.refusal_text.specs.declared.refusals.Refusal.TheVariants as refusal;
+ghost use Rattle.market_inputs.specs.Cases.{IsJoinedNetwork, matrices_in, network_in, reactances_in};
+ghost use Rattle.market_inputs.specs.Files.{sized};
+ghost use Rattle.market_inputs.specs.Steps.{Is};
+ghost use Rattle.market_inputs.specs.Stops.{IsToldAs};
+
+use crate::lengths::check_length;
+use crate::stops::Stop;
+use case_text::{RawCase, read_case};
+use net_case::{Branches, Network, PostRating, Reactances, network, reactances};
+use net_paths::connected;
+use refusal_text::Input;
+use std::alloc::Global;
+
+/// The matrices of a case.
+pub(crate) fn case_matrices<'a>(alloc: Global, bytes: &'a [u8]) -> Result<RawCase<'a>, Stop>
+    ensures { IsToldAs (Is (matrices_in (sized (refusal.TooLong input.Case) bytes.now))) result }
+{
+    check_length(bytes, Input::Case)?;
+    Ok(read_case(alloc, bytes)?)
+}
+
+/// The network of a case.
+pub(crate) fn case_network(
+    alloc: Global,
+    raw: &RawCase<'_>,
+    branches: Branches,
+) -> Result<Network, Stop>
+    ensures told { IsToldAs (Is (network_in branches raw.now)) result }
+    ensures kept { IfOk result IsNetwork }
+{
+    Ok(network(alloc, raw, branches)?)
+}
+
+/// The network of a case with its branches, which join all its buses.
+pub(crate) fn joined_network(
+    alloc: Global,
+    raw: &RawCase<'_>,
+    rating: PostRating,
+) -> Result<Network, Stop>
+    ensures told { IsToldAs (IsJoinedNetwork rating raw.now) result }
+    ensures kept { IfOk result IsNetwork }
+{
+    let network = case_network(alloc, raw, Branches::Read(rating))?;
+    connected(alloc, &network)?;
+    Ok(network)
+}
+
+/// The reactances of a network's branches.
+pub(crate) fn case_reactances(
+    alloc: Global,
+    raw: &RawCase<'_>,
+    network: &Network,
+) -> Result<Reactances, Stop>
+    ensures told { IsToldAs (Is (reactances_in raw.now network.now)) result }
+    ensures fit { IfOk result (AreReactances network.now) }
+{
+    Ok(reactances(alloc, raw, network)?)
+}

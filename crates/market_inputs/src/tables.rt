@@ -1,0 +1,111 @@
+//! The tables of a network.
+
+ghost use Rattle.std.specs.Prelude.{◌≡◌, ◌≤◌, length, IfOk};
+ghost use Rattle.market_data.specs.Scales.{most_outages};
+ghost use Rattle.refusal_text.specs.declared.refusals.Input.TheVariants as input;
+ghost use Rattle.refusal_text.specs.declared.refusals.Refusal.TheVariants as refusal;
+ghost use Rattle.market_inputs.specs.Files.{sized};
+ghost use Rattle.market_inputs.specs.Steps.{Is};
+ghost use Rattle.market_inputs.specs.Stops.{IsToldAs};
+ghost use Rattle.market_inputs.specs.Tables.{AreOutagesIn, AreTables, MayBeLost, cover_in, loss_in, numbers_in, offsets_in, shift_in};
+
+use crate::lengths::check_length;
+use crate::stops::{Stop, table_stop};
+use factor_tables::{Loss, Offsets, OutageRows, Shift, cover, offsets, outage, outage_rows, shift};
+use net_case::Network;
+use outage_list::{Outages, listed};
+use refusal_text::{Input, Refusal};
+use std::alloc::Global;
+
+/// The tables of factors of a network, and its outages.
+#[derive(Drop)]
+pub(crate) struct Tables {
+    pub shift: Shift,
+    pub loss: Loss,
+    pub outages: Outages,
+}
+
+/// The shift factors of a table.
+fn shift_table(alloc: Global, network: &Network, bytes: &[u8]) -> Result<Shift, Stop>
+    ensures { IsToldAs (Is (shift_in network.now (sized (refusal.TooLong input.Ptdf) bytes.now))) result }
+{
+    check_length(bytes, Input::Ptdf)?;
+    match shift(alloc, network, bytes) {
+        Ok(shift) => Ok(shift),
+        Err(fault) => Err(table_stop(Input::Ptdf, fault)),
+    }
+}
+
+/// The outage factors of a table.
+fn loss_table(alloc: Global, network: &Network, bytes: &[u8]) -> Result<Loss, Stop>
+    ensures { IsToldAs (Is (loss_in network.now (sized (refusal.TooLong input.Lodf) bytes.now))) result }
+{
+    check_length(bytes, Input::Lodf)?;
+    match outage(alloc, network, bytes) {
+        Ok(loss) => Ok(loss),
+        Err(fault) => Err(table_stop(Input::Lodf, fault)),
+    }
+}
+
+/// The numbers of a table of outages.
+fn numbers_table(alloc: Global, bytes: &[u8]) -> Result<OutageRows, Stop>
+    ensures told { IsToldAs (Is (numbers_in (sized (refusal.TooLong input.Contingencies) bytes.now))) result }
+    ensures few { IfOk result (λ rows. length rows ≤ most_outages) }
+{
+    check_length(bytes, Input::Contingencies)?;
+    match outage_rows(alloc, bytes) {
+        Ok(rows) => Ok(rows),
+        Err(fault) => Err(table_stop(Input::Contingencies, fault)),
+    }
+}
+
+/// The outages of a table.
+fn outage_table(alloc: Global, network: &Network, bytes: &[u8]) -> Result<Outages, Stop>
+    ensures told { IsToldAs (AreOutagesIn network.now (sized (refusal.TooLong input.Contingencies) bytes.now)) result }
+    ensures kept { IfOk result (MayBeLost network.now) }
+{
+    let rows = numbers_table(alloc, bytes)?;
+    Ok(listed(alloc, network, &rows)?)
+}
+
+/// The tables of factors, and the outages.
+pub(crate) fn read_tables(
+    alloc: Global,
+    network: &Network,
+    ptdf: &[u8],
+    lodf: &[u8],
+    contingencies: &[u8],
+) -> Result<Tables, Stop>
+    ensures told { IsToldAs (AreTables network.now (sized (refusal.TooLong input.Ptdf) ptdf.now) (sized (refusal.TooLong input.Lodf) lodf.now) (sized (refusal.TooLong input.Contingencies) contingencies.now)) result }
+    ensures kept { IfOk result (λ tables. MayBeLost network.now tables.outages) }
+{
+    let shift = shift_table(alloc, network, ptdf)?;
+    let loss = loss_table(alloc, network, lodf)?;
+    let outages = outage_table(alloc, network, contingencies)?;
+    Ok(Tables {
+        shift,
+        loss,
+        outages,
+    })
+}
+
+/// Stops at what the tables of factors lack.
+pub(crate) fn check_cover(network: &Network, tables: &Tables) -> Result<(), Stop>
+    ensures { IsToldAs (Is (cover_in network.now tables.now)) result }
+{
+    match cover(network, &tables.shift, &tables.loss, tables.outages.slice()) {
+        Ok(()) => Ok(()),
+        Err(lack) => Err(Stop::Refused(Refusal::Uncovered(lack))),
+    }
+}
+
+/// The offsets of a table.
+pub(crate) fn offset_table(alloc: Global, network: &Network, bytes: &[u8]) -> Result<Offsets, Stop>
+    ensures { IsToldAs (Is (offsets_in network.now (sized (refusal.TooLong input.Offsets) bytes.now))) result }
+{
+    check_length(bytes, Input::Offsets)?;
+    match offsets(alloc, network, bytes) {
+        Ok(offsets) => Ok(offsets),
+        Err(fault) => Err(table_stop(Input::Offsets, fault)),
+    }
+}
