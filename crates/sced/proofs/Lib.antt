@@ -1,5 +1,9 @@
 pub mod CheckingLemmas
+pub mod ClearingLemmas
 pub mod DecidedLemmas
-pub mod PoolingLemmas
-pub mod RequestLemmas
-pub mod WordsLemmas
+pub mod ListingOnce
+pub mod MarketOnce
+pub mod NetworkRows
+pub mod OutageNames
+pub mod PlaceLists
+pub mod ReadingLemmas

@@ -2,10 +2,12 @@
 #![tactic(auto)]
 
 mod checking;
-mod command;
+mod clearing;
+mod outcome;
+mod pooling;
+mod reading;
 pub mod run;
 pub mod status;
-mod words;
 
 use outside_store::{FileStore, OutSink};
 use run::run;
