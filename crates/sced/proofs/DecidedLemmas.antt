@@ -13,6 +13,7 @@ use Rattle.refusal_text.specs.declared.refusals.Input.TheVariants as input
 use Rattle.refusal_text.specs.declared.refusals.Refusal.{Refusal}
 use Rattle.refusal_text.specs.declared.refusals.Refusal.TheVariants as refusal
 use Rattle.market_inputs.specs.Files.{sized}
+use Rattle.market_inputs.proofs.OnceLemmas.{OfOne, clear-once, pool-once}
 use Rattle.command_words.specs.Words.{AsksCheck, AsksClear, AsksPool, CheckNames, ClearNames, refuses}
 use Rattle.command_words.proofs.WordsLemmas.{asks-once, clear-or-check, clears-once, pool-or-check, pool-or-clear}
 use Rattle.sced.specs.declared.status.Status.{Status}
@@ -21,7 +22,6 @@ use Rattle.sced.specs.Clearing.{ComesTo, TellsMarket, most_size, status_of}
 use Rattle.sced.specs.Reading.{IsTable, contingencies_header, lodf_header, offsets_header}
 use Rattle.sced.specs.Told.{AnswersTo, AreClearFiles, ArePoolFiles, AsksMarket, Decides, FilesClearTo, FilesPoolTo, IsDecidedOf, as_clear, as_pool, checked, cleared, pooled, refused}
 use Rattle.sced.proofs.ClearingLemmas.{clear-same, pool-same}
-use Rattle.sced.proofs.MarketOnce.{OfOne, clear-once, pool-once}
 
 -- ---- files stand for one market, or have one first fault
 same-bytes : (a b : List ℕ) (o : Option (List ℕ)) → o ≡ Some a → o ≡ Some b → a ≡ b

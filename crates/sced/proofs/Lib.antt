@@ -1,9 +1,4 @@
 pub mod CheckingLemmas
 pub mod ClearingLemmas
 pub mod DecidedLemmas
-pub mod ListingOnce
-pub mod MarketOnce
-pub mod NetworkRows
-pub mod OutageNames
-pub mod PlaceLists
 pub mod ReadingLemmas

@@ -48,4 +48,8 @@ fn main(rt: HostRuntime) -> ExitCode {
 #[cfg(test)]
 mod check_tests;
 #[cfg(test)]
+mod clear_tests;
+#[cfg(test)]
+mod fixture;
+#[cfg(test)]
 mod tests;

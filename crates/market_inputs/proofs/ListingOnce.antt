@@ -14,8 +14,8 @@ use Rattle.factor_tables.specs.Rules.{is_live_branch, is_row}
 use Rattle.outage_list.specs.Listing.{AreOutages, IsFaultOf, IsFirstFault, IsIsland, IsListed, IsOutage, IslandsNetwork}
 use Rattle.outage_list.specs.declared.listing.OutageFault.{OutageFault}
 use Rattle.outage_list.specs.declared.listing.OutageFault.TheVariants as fault
-use Rattle.sced.proofs.OutageNames.{branch-live, branch-once, branch-row, live-is_row}
-use Rattle.sced.proofs.PlaceLists.{members-once}
+use Rattle.market_inputs.proofs.OutageNames.{branch-live, branch-once, branch-row, live-is_row}
+use Rattle.market_inputs.proofs.PlaceLists.{members-once}
 
 -- ---- numbers before another
 -- a number stands in a list right behind these
