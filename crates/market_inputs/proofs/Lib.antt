@@ -1,6 +1,10 @@
 pub mod ClearLemmas
 pub mod FactorLemmas
 pub mod FileLemmas
+pub mod ListingOnce
 pub mod MarketLemmas
+pub mod NetworkRows
 pub mod OnceLemmas
+pub mod OutageNames
+pub mod PlaceLists
 pub mod StepLemmas

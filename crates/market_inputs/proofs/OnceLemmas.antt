@@ -1,26 +1,102 @@
--- Where bytes stand for something, they stand for nothing else.
-use Rattle.std.proofs.Common.{◌≡◌, ◌∙◌, refl, sym, subst, ℕ, List, Result, Ok, Err}
+-- The bytes of files stand for one market, or have one first fault: each step of the work tells one thing.
+use Rattle.std.proofs.Common.{◌≡◌, ◌∙◌, ◌<◌, ◌≤◌, refl, sym, ap, subst, arith, ℕ, ℤ, List, length, map, Result, Ok, Err}
+use Rattle.std.proofs.lemmas.Bool.{cases_lt}
+use Rattle.std.proofs.Math.Logic.{⊎_elim}
+use Rattle.record_reading.specs.Steps.{or_as}
+use Rattle.case_text.specs.Matrices.{CaseMatrices}
+use Rattle.net_case.specs.declared.live_parts.Branches.TheVariants as branches
+use Rattle.net_case.specs.declared.live_parts.NetBranch.{NetBranch}
+use Rattle.net_case.specs.declared.live_parts.NetFault.{NetFault}
+use Rattle.net_case.specs.declared.live_parts.PostRating.{PostRating}
+use Rattle.net_case.specs.Networks.{AreRows, LiveNetwork}
+use Rattle.net_case.specs.NetworkReading.{network_of}
+use Rattle.net_paths.specs.Connection.{IsSplit, JoinAll, bus_number}
+use Rattle.outage_list.specs.declared.listing.OutageFault.TheVariants as outage
 use Rattle.market_model.specs.declared.participants.Parts.{Parts}
 use Rattle.refusal_text.specs.declared.refusals.Refusal.{Refusal}
-use Rattle.market_inputs.specs.Pooling.{IsPoolMarket}
+use Rattle.refusal_text.specs.declared.refusals.Refusal.TheVariants as refusal
+use Rattle.market_inputs.specs.Cases.{IsJoined, IsJoinedNetwork, joined, matrices_in, network_in, split}
+use Rattle.market_inputs.specs.Clearing.{IsClearMarket, market_of}
+use Rattle.market_inputs.specs.Pooling.{IsPoolMarket, pool_of}
 use Rattle.market_inputs.specs.Steps.{Is, Onward, Then}
+use Rattle.market_inputs.specs.Tables.{AreListed, AreOutagesIn, AreTables, cover_in, loss_in, numbers_in, offers_in, offsets_in, shift_in}
+use Rattle.market_inputs.proofs.ListingOnce.{list-once}
+use Rattle.market_inputs.proofs.NetworkRows.{network-rows}
 
--- what is made by a step is all that is told of it
-abbrev pub TellsOnce : {A : Type 0} → (Result A Refusal → Type 0) → Type 0
-TellsOnce {A} P = (x : A) (told : Result A Refusal) → P (Ok x) → P told → told ≡ Ok x
+-- what holds of one thing alone
+abbrev pub OfOne : {A : Type 0} → (Result A Refusal → Type 0) → Type 0
+OfOne {A} P = (a b : Result A Refusal) → P a → P b → a ≡ b
 
-is-once : {A : Type 0} (made : Result A Refusal) → TellsOnce (Is made)
-is-once made x told is other = sym other ∙ is
+-- ---- steps
+is-once : {A : Type 0} (made : Result A Refusal) → OfOne (Is made)
+is-once made a b h k = sym h ∙ k
 
-then-once : {A B : Type 0} (P : Result A Refusal → Type 0) (Q : A → Result B Refusal → Type 0) → TellsOnce P → ((x : A) → TellsOnce (Q x)) → TellsOnce (Then P Q)
-then-once {A} {B} P Q first next y told this other = go this.made this.is this.rest
+module _ {A B : Type 0} (P : Result A Refusal → Type 0) (Q : A → Result B Refusal → Type 0) where
+  onward-once : ((x : A) → P (Ok x) → OfOne (Q x)) → (made : Result A Refusal) → P made → (a b : Result B Refusal) → Onward made Q a → Onward made Q b → a ≡ b
+  onward-once next (Ok x) is a b h k = next x is a b h k
+  onward-once next (Err r) is a b h k = h ∙ sym k
+
+  then-once : OfOne P → ((x : A) → P (Ok x) → OfOne (Q x)) → OfOne (Then P Q)
+  then-once first next a b h k = onward-once next h.made h.is a b h.rest (subst (λ (m : Result A Refusal). Onward m Q b) (first k.made h.made k.is h.is) k.rest)
+
+-- ---- a joined network
+split-once : (network : LiveNetwork) (a b : ℕ) → IsSplit network a → IsSplit network b → a ≡ b
+split-once network a b h k =
+    ⊎_elim (λ lt. absurd (h.apart (k.first h.place lt)))
+    (λ le. ⊎_elim (λ lt. absurd (k.apart (h.first k.place lt)))
+    (λ le'. let same : h.place ≡ k.place = omega (arith, le, le') in sym h.number_is ∙ ap (bus_number network) same ∙ k.number_is)
+    (cases_lt k.place h.place))
+    (cases_lt h.place k.place)
+
+joined-once : (network : LiveNetwork) → OfOne (IsJoined network)
+joined-once network _ _ (joined all) (joined all') = refl
+joined-once network _ _ (joined all) (split b is) = absurd (is.apart (all is.place is.within))
+joined-once network _ _ (split a is) (joined all) = absurd (is.apart (all is.place is.within))
+joined-once network _ _ (split a is) (split b is') = ap (λ (n : ℕ). Err (refusal.Split n)) (split-once network a b is is')
+
+joined-network-once : (rating : PostRating) (matrices : CaseMatrices) → OfOne (IsJoinedNetwork rating matrices)
+joined-network-once rating matrices = then-once _ _ (is-once (network_in (branches.Read rating) matrices)) (λ network _. joined-once network)
+
+-- the rows of its live branches rise
+abbrev HasRows : LiveNetwork → Type 0
+HasRows network = AreRows network.branch_rows (map (λ (b : NetBranch). b.row) network.branches)
+
+joined-rows : (rating : PostRating) (matrices : CaseMatrices) (network : LiveNetwork) → IsJoinedNetwork rating matrices (Ok network) → HasRows network
+joined-rows rating matrices network h = by h.made h.is h.rest
   where
-    go : (r : Result A Refusal) → P r → Onward r Q (Ok y) → told ≡ Ok y
-    go (Ok x) p q =
-        let same : other.made ≡ Ok x = first x other.made p other.is in
-        next x y told q (subst (λ r. Onward r Q told) same other.rest)
-    go (Err r) p q = cc q
+    seen : (read : Result LiveNetwork NetFault) (n : LiveNetwork) → or_as refusal.Network read ≡ Ok n → read ≡ Ok n
+    seen (Ok x) n is = cc is
+    seen (Err e) n is = absurd (cc is)
+    same : (n : LiveNetwork) → IsJoined n (Ok network) → n ≡ network
+    same n (joined all) = refl
+    by : (made : Result LiveNetwork Refusal) → network_in (branches.Read rating) matrices ≡ made → Onward made IsJoined (Ok network) → HasRows network
+    by (Ok n) is rest = subst HasRows (same n rest) (network-rows rating matrices n (seen (network_of (branches.Read rating) matrices) n is))
+    by (Err r) is rest = absurd (cc rest)
 
-pub pool-once : (case offers : Result (List ℕ) Refusal) (market : Parts) (told : Result Parts Refusal) → IsPoolMarket case offers (Ok market) → IsPoolMarket case offers told → told ≡ Ok market
-pool-once case offers market told =
-    then-once _ _ (is-once _) (λ _. then-once _ _ (is-once _) (λ _. then-once _ _ (is-once _) (λ _. is-once _))) market told
+-- ---- the tables
+module _ (network : LiveNetwork) (kept : HasRows network) where
+  listed-once : (numbers : List ℤ) → OfOne (AreListed network numbers)
+  listed-once numbers a b h k = h.same ∙ ap (or_as refusal.Outages) (list-once network kept numbers h.listed k.listed h.made k.made h.is k.is) ∙ sym k.same
+
+  outages-once : (bytes : Result (List ℕ) Refusal) → OfOne (AreOutagesIn network bytes)
+  outages-once bytes = then-once _ _ (is-once (numbers_in bytes)) (λ numbers _. listed-once numbers)
+
+  tables-once : (ptdf lodf contingencies : Result (List ℕ) Refusal) → OfOne (AreTables network ptdf lodf contingencies)
+  tables-once ptdf lodf contingencies =
+      then-once _ _ (is-once (shift_in network ptdf))
+      (λ shift _. then-once _ _ (is-once (loss_in network lodf)) (λ loss _. then-once _ _ (outages-once contingencies) (λ outages _. is-once (Ok (record { shift = shift; loss = loss; outages = outages })))))
+
+-- ---- the markets
+pub pool-once : (case offers : Result (List ℕ) Refusal) → OfOne (IsPoolMarket case offers)
+pool-once case offers =
+    then-once _ _ (is-once (matrices_in case))
+    (λ matrices _. then-once _ _ (is-once (network_in branches.Skip matrices)) (λ network _. then-once _ _ (is-once (offers_in network offers)) (λ offered _. is-once (Ok (pool_of network offered)))))
+
+pub clear-once : (rating : PostRating) (case ptdf lodf contingencies offers offsets : Result (List ℕ) Refusal) → OfOne (IsClearMarket rating case ptdf lodf contingencies offers offsets)
+clear-once rating case ptdf lodf contingencies offers offsets =
+    then-once _ _ (is-once (matrices_in case))
+    (λ matrices _. then-once _ _ (joined-network-once rating matrices)
+    (λ network is. then-once _ _ (tables-once network (joined-rows rating matrices network is) ptdf lodf contingencies)
+    (λ tables _. then-once _ _ (is-once (cover_in network tables))
+    (λ _ _. then-once _ _ (is-once (offers_in network offers))
+    (λ offered _. then-once _ _ (is-once (offsets_in network offsets)) (λ moved _. is-once (Ok (market_of network tables offered moved))))))))

@@ -1,5 +1,4 @@
 pub mod CheckingLemmas
+pub mod ClearingLemmas
 pub mod DecidedLemmas
-pub mod PoolingLemmas
-pub mod RequestLemmas
-pub mod WordsLemmas
+pub mod ReadingLemmas

@@ -1,7 +1,6 @@
 pub mod Checking
-pub mod Pooling
-pub mod Requests
+pub mod Clearing
+pub mod Reading
 pub mod Runs
 pub mod Status
 pub mod Told
-pub mod Words

@@ -3,7 +3,7 @@ use Rattle.std.specs.Prelude.{◌≡◌, ◌⊎◌, ℕ, List}
 use Rattle.outside_store.specs.Causes.{Rose, Still}
 use Rattle.outside_store.specs.Files.{SameFiles}
 use Rattle.outside_store.specs.declared.Store.{Ghosts}
-use Rattle.sced.specs.Words.{AsksNothing}
+use Rattle.command_words.specs.Words.{AsksNothing}
 use Rattle.sced.specs.declared.status.Status.{Status}
 use Rattle.sced.specs.declared.status.Status.TheVariants as status
 

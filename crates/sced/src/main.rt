@@ -2,10 +2,12 @@
 #![tactic(auto)]
 
 mod checking;
-mod command;
+mod clearing;
+mod outcome;
+mod pooling;
+mod reading;
 pub mod run;
 pub mod status;
-mod words;
 
 use outside_store::{FileStore, OutSink};
 use run::run;
@@ -45,5 +47,9 @@ fn main(rt: HostRuntime) -> ExitCode {
 
 #[cfg(test)]
 mod check_tests;
+#[cfg(test)]
+mod clear_tests;
+#[cfg(test)]
+mod fixture;
 #[cfg(test)]
 mod tests;

@@ -1,19 +1,14 @@
-use crate::run::run;
+//! The pool, with texts worked by hand, and refusals.
+
+use crate::fixture::{BUSES, OFFERS, Text, UNITS, case, expect};
 use crate::status::Status;
-use outside_store::{MemorySink, MemoryStore, Room};
 use std::process::Abort;
 use std::test::Fail;
 
-const HEAD: &str = "function mpc = t3\nmpc.version = '2';\nmpc.baseMVA = 100;\nmpc.bus = [\n";
+const POOL: &str = "sced pool --case case.m --offers offers.csv";
 
-const BUSES: &str =
-    "1 3 0 0 0 0 1 1 0 230 1 1.1 0.9;\n2 1 0 0 0 0 1 1 0 230 1 1.1 0.9;\n3 1 60 0 0 0 1 1 0 230 1 1.1 0.9;\n";
-
-const UNITS: &str = "1 0 0 0 0 1 100 1 100 0;\n2 0 0 0 0 1 100 1 100 0;\n";
-
-const TAIL: &str = "];\nmpc.branch = [\n1 2 0 0.2 0 0 0 0 0 0 1 -360 360;\n];\n";
-
-const OFFERS: &str = "unit,side,mw,price\n1,sell,100,10\n2,sell,100,30\n";
+/// Branches without limits.
+const FREE: &str = "0 0 0 0 0";
 
 const THREE_BUSES: &str =
     "cleared\nwelfare -600\nenergy 10\nbus 1 price 10 congestion 0\nbus 2 price 10 congestion 0\nbus 3 price 10 congestion 0\nblock 1 sell 1 mw 60\nblock 2 sell 1 mw 0\nunit 1 mw 60 paid 600\nunit 2 mw 0 paid 0\nload 1 mw 0 pays 0\nload 2 mw 0 pays 0\nload 3 mw 60 pays 600\nsurplus 0\n";
@@ -27,154 +22,69 @@ const BUYER: &str =
 const DROPPED: &str =
     "cleared\nwelfare -450\nenergy 10\nbus 1 price 10 congestion 0\nbus 2 price 10 congestion 0\nbus 3 price 10 congestion 0\nblock 1 sell 1 mw 45\nblock 2 sell 1 mw 0\nunit 1 mw 45 paid 450\nunit 2 mw 20 paid 200\nload 1 mw 0 pays 0\nload 2 mw 5 pays 50\nload 3 mw 60 pays 600\nsurplus 0\n";
 
-fn case<R: AllocGlobal>(rt: &R, buses: &str, units: &str) -> Result<String, Fail> {
-    let text = format!(in rt.alloc(); "{HEAD}{buses}];\nmpc.gen = [\n{units}{TAIL}")?;
-    Ok(text)
-}
+/// The three-bus case as a tool may save it: line ends of two bytes, comments, tabs and commas
+/// between cells, a row that is continued on the next line, names and further fields.
+const SAVED: &str =
+    "function mpc = t3\r\n%% a case of three buses\r\nmpc.version = '2';\r\n\r\nmpc.baseMVA = 100; % MVA\r\n%% buses\r\nmpc.bus = [\r\n\t1\t3\t0\t0\t0\t0\t1\t1\t0\t230\t1\t1.1\t0.9;\r\n\t2, 1, 0, 0, 0, 0, 1, 1, 0, 230, 1, 1.1, 0.9\r\n 3 1 60 0 0 0 1 ... the rest is below\r\n 1 0 230 1 1.1 0.9;\r\n];\r\nmpc.gen = [1 0 0 0 0 1 100 1 100 0; 2 0 0 0 0 1 100 1 100 0];\r\nmpc.branch = [\r\n1 2 0 0.2 0 0 0 0 0 0 1 -360 360;\r\n1 3 0 0.1 0 0 0 0 0 0 1 -360 360;\r\n2 3 0 0.1 0 0 0 0 0 0 1 -360 360;\r\n];\r\nmpc.bus_name = { 'a % b'; 'two'; 'three' };\r\nmpc.gencost = [\r\n2 0 0 2 10 0;\r\n2 0 0 2 30 0\r\n];\r\n";
 
-fn words<R: AllocGlobal>(rt: &R, given: &[&str]) -> Result<Vec<String>, Fail> {
-    let mut words = Vec::new(rt.alloc());
-    for word in given {
-        words.push(String::from_str(rt.alloc(), word)?)?;
-    }
-    Ok(words)
-}
-
-/// Runs `pool` over a case and its offers, with reads and puts that fail, and compares.
-fn expect<R: Abort + AllocGlobal>(
+/// Runs `pool` over a case and its offers, and compares.
+fn expect_pool<R: Abort + AllocGlobal>(
     rt: &R,
     case: &[u8],
     offers: &str,
-    failing: (&[u64], &[u64]),
-    want: (Status, &str),
+    want: (Status, Text<'_>),
 ) -> Result<(), Fail> {
-    let room = Room {
-        files: 2,
-        name: 16,
-        bytes: 8192,
-    };
-    let mut store = MemoryStore::new(rt.alloc(), room, failing.0)?;
-    assert!(rt; store.add("case.m", case).is_ok());
-    assert!(rt; store.add("offers.csv", offers.as_bytes()).is_ok());
-    let mut sink = MemorySink::new(rt.alloc(), 8192, failing.1)?;
-    let words = words(
-        rt,
-        ["sced", "pool", "--case", "case.m", "--offers", "offers.csv"].as_slice(),
-    )?;
-    let status = run(rt.alloc(), words.as_slice(), &mut store, &mut sink);
-    assert_eq!(rt; sink.bytes(), want.1.as_bytes());
-    assert_eq!(rt; status, want.0);
-    Ok(())
-}
-
-/// Runs over a store without files, and compares the status and how the text begins.
-fn over_no_file<R: Abort + AllocGlobal>(
-    rt: &R,
-    given: &[&str],
-    want: (Status, &str),
-) -> Result<(), Fail> {
-    let room = Room {
-        files: 1,
-        name: 16,
-        bytes: 16,
-    };
-    let mut store = MemoryStore::new(rt.alloc(), room, [].as_slice())?;
-    let mut sink = MemorySink::new(rt.alloc(), 1000, [].as_slice())?;
-    let words = words(rt, given)?;
-    let status = run(rt.alloc(), words.as_slice(), &mut store, &mut sink);
-    assert!(rt; sink.bytes().starts_with(want.1.as_bytes()));
-    assert_eq!(rt; status, want.0);
-    Ok(())
+    let files = [("case.m", case), ("offers.csv", offers.as_bytes())];
+    let all = ([].as_slice(), [].as_slice());
+    expect(rt, POOL, files.as_slice(), all, want)
 }
 
 #[test]
 fn clears(rt: HostRuntime) -> Result<(), Fail> {
-    let plain = case(&rt, BUSES, UNITS)?;
-    let all = ([].as_slice(), [].as_slice());
-    expect(
-        &rt,
-        plain.as_bytes(),
-        OFFERS,
-        all,
-        (Status::Done, THREE_BUSES),
-    )?;
-    let units = format!(in rt.alloc(); "{UNITS}3 0 0 0 0 1 100 1 0 -50;\n")?;
-    let offers = format!(in rt.alloc(); "{OFFERS}3,buy,30,40\n3,buy,20,5\n")?;
-    let buyer = case(&rt, BUSES, units.as_str())?;
-    expect(
-        &rt,
-        buyer.as_bytes(),
-        offers.as_str(),
-        all,
-        (Status::Done, BUYER),
-    )?;
-    let buses =
+    let buying = "1 0 0 0 0 1 100 1 100 0;\n2 0 0 0 0 1 100 1 100 0;\n3 0 0 0 0 1 100 1 0 -50;\n";
+    let bids = "unit,side,mw,price\n1,sell,100,10\n2,sell,100,30\n3,buy,30,40\n3,buy,20,5\n";
+    let dropped =
         "1 3 0 0 0 0 1 1 0 230 1 1.1 0.9;\n2 2 0 0 5 0 1 1 0 230 1 1.1 0.9;\n3 1 6e1 0 0 0 1 1 0 230 1 1.1 0.9;\n9 4 999 0 0 0 1 1 0 230 1 1.1 0.9;\n";
-    let units =
+    let dropping =
         "1 0 0 0 0 1 100 1 100 0;\n2 0 0 0 0 1 100 1 100 20;\n2 0 0 0 0 1 100 0 100 0;\n9 0 0 0 0 1 100 1 100 0;\n";
-    let offers = "unit,side,mw,price\n1,sell,100,10\n2,sell,80,30\n3,sell,50,1\n4,sell,50,1\n";
-    let dropped = case(&rt, buses, units)?;
-    expect(
-        &rt,
-        dropped.as_bytes(),
-        offers,
-        all,
-        (Status::Done, DROPPED),
-    )?;
-    let short =
-        "1 3 0 0 0 0 1 1 0 230 1 1.1 0.9;\n2 1 0 0 0 0 1 1 0 230 1 1.1 0.9;\n3 1 250 0 0 0 1 1 0 230 1 1.1 0.9;\n";
-    let short = case(&rt, short, UNITS)?;
-    expect(
-        &rt,
-        short.as_bytes(),
-        OFFERS,
-        all,
-        (Status::Infeasible, "infeasible\nbound -50\nenergy 1\n"),
-    )?;
-    for failing in [[0].as_slice(), [1].as_slice()] {
-        expect(
-            &rt,
-            plain.as_bytes(),
-            OFFERS,
-            (failing, [].as_slice()),
-            (Status::ReadFailed, ""),
-        )?;
+    let four = "unit,side,mw,price\n1,sell,100,10\n2,sell,80,30\n3,sell,50,1\n4,sell,50,1\n";
+    let spelled =
+        "1 3 0 0 0 0 1 1 0 230 1 1.1 0.9;\n2 1 0 0 0 0 1 1 0 230 1 1.1 0.9;\n3 1 6.000e1 0 -0 0 1 1 0 230 1 1.1 0.9;\n";
+    for (buses, units, offers, text) in [
+        (BUSES, UNITS, OFFERS, THREE_BUSES),
+        (BUSES, buying, bids, BUYER),
+        (dropped, dropping, four, DROPPED),
+        (spelled, UNITS, OFFERS, THREE_BUSES),
+    ] {
+        let case = case(&rt, buses, units, FREE)?;
+        let want = (Status::Done, Text::Whole(text));
+        expect_pool(&rt, case.as_bytes(), offers, want)?;
     }
-    expect(
-        &rt,
-        plain.as_bytes(),
-        OFFERS,
-        ([].as_slice(), [0].as_slice()),
-        (Status::WriteFailed, ""),
-    )
+    let want = (Status::Done, Text::Whole(THREE_BUSES));
+    expect_pool(&rt, SAVED.as_bytes(), OFFERS, want)
 }
 
-/// The three-bus case as a tool may save it: line ends of two bytes, comments, tabs and commas
-/// between cells, a row that is continued on the next line, names and further fields.
+/// Markets that may be answered in more than one way, by what each right answer tells.
 #[test]
-fn reads_a_saved_case(rt: HostRuntime) -> Result<(), Fail> {
-    let text =
-        "function mpc = t3\r\n%% a case of three buses\r\nmpc.version = '2';\r\n\r\nmpc.baseMVA = 100; % MVA\r\n%% buses\r\nmpc.bus = [\r\n\t1\t3\t0\t0\t0\t0\t1\t1\t0\t230\t1\t1.1\t0.9;\r\n\t2, 1, 0, 0, 0, 0, 1, 1, 0, 230, 1, 1.1, 0.9\r\n 3 1 60 0 0 0 1 ... the rest is below\r\n 1 0 230 1 1.1 0.9;\r\n];\r\nmpc.gen = [1 0 0 0 0 1 100 1 100 0; 2 0 0 0 0 1 100 1 100 0];\r\nmpc.branch = [\r\n1 2 0 0.2 0 0 0 0 0 0 1 -360 360;\r\n1 3 0 0.1 0 0 0 0 0 0 1 -360 360;\r\n2 3 0 0.1 0 0 0 0 0 0 1 -360 360;\r\n];\r\nmpc.bus_name = { 'a % b'; 'two'; 'three' };\r\nmpc.gencost = [\r\n2 0 0 2 10 0;\r\n2 0 0 2 30 0\r\n];\r\n";
-    let all = ([].as_slice(), [].as_slice());
-    expect(
-        &rt,
-        text.as_bytes(),
-        OFFERS,
-        all,
-        (Status::Done, THREE_BUSES),
-    )
+fn tells_what_is_feasible(rt: HostRuntime) -> Result<(), Fail> {
+    let held = "1 0 0 0 0 1 100 1 60 60;\n";
+    let none = "unit,side,mw,price\n";
+    let cleared = (Status::Done, Text::Start("cleared\nwelfare 0\n"));
+    let infeasible = (Status::Infeasible, Text::Start("infeasible\nbound -"));
+    for (demand, units, offers, want) in [
+        ("250", UNITS, OFFERS, infeasible),
+        ("60", held, none, cleared),
+        ("60.000000001", held, none, infeasible),
+        ("-0", held, none, infeasible),
+    ] {
+        let buses = format!(in rt.alloc();
+            "1 3 0 0 0 0 1 1 0 230 1 1.1 0.9;\n2 1 0 0 0 0 1 1 0 230 1 1.1 0.9;\n3 1 {demand} 0 0 0 1 1 0 230 1 1.1 0.9;\n"
+        )?;
+        let case = case(&rt, buses.as_str(), units, FREE)?;
+        expect_pool(&rt, case.as_bytes(), offers, want)?;
+    }
+    Ok(())
 }
-
-/// What is put where three buses take 1 MW each, and units could sell so much at such a price
-/// that all of it would be worth more than 127 bits hold.
-const DEAR: &str =
-    "cleared\nwelfare -27670116110564.327421\nenergy 9223372036854.775807\nbus 1 price 9223372036854.775807 congestion 0\nbus 2 price 9223372036854.775807 congestion 0\nbus 3 price 9223372036854.775807 congestion 0\nblock 1 sell 1 mw 3\nblock 2 sell 1 mw 0\nblock 3 sell 1 mw 0\nunit 1 mw 3 paid 27670116110564.327421\nunit 2 mw 0 paid 0\nunit 3 mw 0 paid 0\nload 1 mw 1 pays 9223372036854.775807\nload 2 mw 1 pays 9223372036854.775807\nload 3 mw 1 pays 9223372036854.775807\nsurplus 0\n";
-
-/// What is put where one unit sells and another buys so much at such a price that the cost of the
-/// sale and the worth of the purchase are each about 2^126 in units of money: their sum is small, and
-/// their difference would be too large.
-const TRADED: &str =
-    "cleared\nwelfare 7155556589.796193054501249\nenergy 9223372036854\nbus 1 price 9223372036854 congestion 0\nblock 1 sell 1 mw 9223372036.854775807\nblock 2 buy 1 mw 9223372036.854775807\nunit 1 mw 9223372036.854775807 paid 85070591730227460290807.111591178\nunit 2 mw -9223372036.854775807 paid -85070591730227460290807.111591178\nload 1 mw 0 pays 0\nsurplus 0\n";
 
 #[test]
 fn passes_127_bits(rt: HostRuntime) -> Result<(), Fail> {
@@ -182,91 +92,44 @@ fn passes_127_bits(rt: HostRuntime) -> Result<(), Fail> {
     let units = format!(in rt.alloc(); "1 {row}2 {row}3 {row}")?;
     let row = "sell,9223372036.854775807,9223372036854.775807\n";
     let offers = format!(in rt.alloc(); "unit,side,mw,price\n1,{row}2,{row}3,{row}")?;
-    let all = ([].as_slice(), [].as_slice());
+    let passed =
+        "range plus -170141183460469231694793815568465002498/1 -85070591730234615847396907784232501249/1\n";
+    let dear =
+        "cleared\nwelfare -27670116110564.327421\nenergy 9223372036854.775807\nbus 1 price 9223372036854.775807 congestion 0\n";
     for (demand, want) in [
-        (
-            "9223372036.854775807",
-            (
-                Status::Range,
-                "range plus -170141183460469231694793815568465002498/1 -85070591730234615847396907784232501249/1\n",
-            ),
-        ),
-        ("1", (Status::Done, DEAR)),
+        ("9223372036.854775807", (Status::Range, Text::Whole(passed))),
+        ("1", (Status::Done, Text::Start(dear))),
     ] {
         let row = format!(in rt.alloc(); "3 {demand} 0 0 0 1 1 0 230 1 1.1 0.9;\n")?;
         let buses = format!(in rt.alloc(); "1 {row}2 {row}3 {row}")?;
-        let case = case(&rt, buses.as_str(), units.as_str())?;
-        expect(&rt, case.as_bytes(), offers.as_str(), all, want)?;
+        let case = case(&rt, buses.as_str(), units.as_str(), FREE)?;
+        expect_pool(&rt, case.as_bytes(), offers.as_str(), want)?;
     }
-    let traded = case(
+    let case = case(
         &rt,
-        "1 3 0 0 0 0 1 1 0 230 1 1.1 0.9;\n",
+        "1 3 0 0 0 0 1 1 0 230 1 1.1 0.9;\n2 1 0 0 0 0 1 1 0 230 1 1.1 0.9;\n3 1 0 0 0 0 1 1 0 230 1 1.1 0.9;\n",
         "1 0 0 0 0 1 100 1 9223372036.854775807 0;\n1 0 0 0 0 1 100 1 0 -9223372036.854775807;\n",
+        FREE,
     )?;
     let offers =
         "unit,side,mw,price\n1,sell,9223372036.854775807,9223372036854\n2,buy,9223372036.854775807,9223372036854.775807\n";
-    expect(&rt, traded.as_bytes(), offers, all, (Status::Done, TRADED))?;
-    Ok(())
-}
-
-/// What is put where the one unit is held at 60 and has no blocks.
-const HELD: &str =
-    "cleared\nwelfare 0\nenergy 0\nbus 1 price 0 congestion 0\nbus 2 price 0 congestion 0\nbus 3 price 0 congestion 0\nunit 1 mw 60 paid 0\nload 1 mw 0 pays 0\nload 2 mw 0 pays 0\nload 3 mw 60 pays 0\nsurplus 0\n";
-
-#[test]
-fn tells_what_is_infeasible(rt: HostRuntime) -> Result<(), Fail> {
-    let all = ([].as_slice(), [].as_slice());
-    let held = "1 0 0 0 0 1 100 1 60 60;\n";
-    let none = "unit,side,mw,price\n";
-    for (demand, want) in [
-        ("60", (Status::Done, HELD)),
-        (
-            "60.000000001",
-            (
-                Status::Infeasible,
-                "infeasible\nbound -0.000000001\nenergy 1\n",
-            ),
-        ),
-        (
-            "-0",
-            (Status::Infeasible, "infeasible\nbound -60\nenergy -1\n"),
-        ),
-    ] {
-        let buses = format!(in rt.alloc();
-            "1 3 0 0 0 0 1 1 0 230 1 1.1 0.9;\n2 1 0 0 0 0 1 1 0 230 1 1.1 0.9;\n3 1 {demand} 0 0 0 1 1 0 230 1 1.1 0.9;\n"
-        )?;
-        let text = case(&rt, buses.as_str(), held)?;
-        expect(&rt, text.as_bytes(), none, all, want)?;
-    }
-    let buses =
-        "1 3 0 0 0 0 1 1 0 230 1 1.1 0.9;\n2 1 0 0 0 0 1 1 0 230 1 1.1 0.9;\n3 1 6.000e1 0 -0 0 1 1 0 230 1 1.1 0.9;\n";
-    let text = case(&rt, buses, UNITS)?;
-    expect(
-        &rt,
-        text.as_bytes(),
-        OFFERS,
-        all,
-        (Status::Done, THREE_BUSES),
-    )
+    let traded = (
+        Status::Done,
+        Text::Start("cleared\nwelfare 7155556589.796193054501249\n"),
+    );
+    expect_pool(&rt, case.as_bytes(), offers, traded)
 }
 
 /// Compares the line that refuses a case of these bus and gen rows.
 fn refuse_case<R: Abort + AllocGlobal>(rt: &R, rows: (&str, &str), line: &str) -> Result<(), Fail> {
-    let all = ([].as_slice(), [].as_slice());
-    let text = case(rt, rows.0, rows.1)?;
+    let text = case(rt, rows.0, rows.1, FREE)?;
     let line = format!(in rt.alloc(); "refused case {line}\n")?;
-    expect(
-        rt,
-        text.as_bytes(),
-        "no table",
-        all,
-        (Status::Refused, line.as_str()),
-    )
+    let want = (Status::Refused, Text::Whole(line.as_str()));
+    expect_pool(rt, text.as_bytes(), "no table", want)
 }
 
 #[test]
 fn refuses_cases(rt: HostRuntime) -> Result<(), Fail> {
-    let all = ([].as_slice(), [].as_slice());
     for (text, line) in [
         (b"".as_slice(), "refused case NoVersion\n"),
         (b"\xEF\xBB\xBF% nothing\n", "refused case NoVersion\n"),
@@ -297,7 +160,8 @@ fn refuses_cases(rt: HostRuntime) -> Result<(), Fail> {
             "refused case BadToken at 56\n",
         ),
     ] {
-        expect(&rt, text, "no table", all, (Status::Refused, line))?;
+        let want = (Status::Refused, Text::Whole(line));
+        expect_pool(&rt, text, "no table", want)?;
     }
     let bus = "1 3 0 0 0 0 1 1 0 230 1 1.1 0.9;\n";
     let one = "1 0 0 0 0 1 100 1 100 0;\n";
@@ -348,34 +212,12 @@ fn refuses_what_is_too_much(rt: HostRuntime) -> Result<(), Fail> {
     for _row in 0..1001 {
         units.push_str("1 0 0 0 0 1 100 1 100 0;\n")?;
     }
-    let all = ([].as_slice(), [].as_slice());
-    let text = case(&rt, BUSES, units.as_str())?;
-    let room = Room {
-        files: 2,
-        name: 16,
-        bytes: 65_536,
-    };
-    let mut store = MemoryStore::new(rt.alloc(), room, all.0)?;
-    assert!(rt; store.add("case.m", text.as_bytes()).is_ok());
-    assert!(rt; store.add("offers.csv", OFFERS.as_bytes()).is_ok());
-    let mut sink = MemorySink::new(rt.alloc(), 8192, all.1)?;
-    let words = words(
-        &rt,
-        ["sced", "pool", "--case", "case.m", "--offers", "offers.csv"].as_slice(),
-    )?;
-    let status = run(rt.alloc(), words.as_slice(), &mut store, &mut sink);
-    assert_eq!(rt;
-        sink.bytes(),
-        b"refused case TooMany gen count 1001\n".as_slice()
-    );
-    assert_eq!(rt; status, Status::Refused);
-    Ok(())
+    refuse_case(&rt, (BUSES, units.as_str()), "TooMany gen count 1001")
 }
 
 #[test]
-fn refuses_offers_and_words(rt: HostRuntime) -> Result<(), Fail> {
-    let all = ([].as_slice(), [].as_slice());
-    let plain = case(&rt, BUSES, UNITS)?;
+fn refuses_offers(rt: HostRuntime) -> Result<(), Fail> {
+    let plain = case(&rt, BUSES, UNITS, FREE)?;
     for (record, line) in [
         ("", "refused offers Header\n"),
         ("unit,side,mw\n", "refused offers Header\n"),
@@ -416,47 +258,43 @@ fn refuses_offers_and_words(rt: HostRuntime) -> Result<(), Fail> {
             "refused offers OverCapacity line 2\n",
         ),
     ] {
-        expect(&rt, plain.as_bytes(), record, all, (Status::Refused, line))?;
+        let want = (Status::Refused, Text::Whole(line));
+        expect_pool(&rt, plain.as_bytes(), record, want)?;
     }
     Ok(())
 }
 
 #[test]
 fn refuses_words(rt: HostRuntime) -> Result<(), Fail> {
-    let usage = "Usage: sced pool --case <case> --offers <offers>\n";
-    over_no_file(&rt, [].as_slice(), (Status::Usage, "error: "))?;
-    over_no_file(
-        &rt,
-        ["sced", "pool", "--help"].as_slice(),
-        (Status::Usage, usage),
-    )?;
-    let check = "Usage: sced check [OPTIONS] --case <case> --ptdf <ptdf>\n";
-    over_no_file(
-        &rt,
-        ["sced", "check", "-h"].as_slice(),
-        (Status::Usage, check),
-    )?;
-    over_no_file(
-        &rt,
-        ["sced", "clear", "--case", "a"].as_slice(),
-        (Status::Usage, "error: unrecognized subcommand 'clear'\n"),
-    )?;
-    over_no_file(
-        &rt,
-        ["sced", "pool", "--case", "a", "--offer", "b"].as_slice(),
+    let all = ([].as_slice(), [].as_slice());
+    for (line, start) in [
+        ("", "error: "),
         (
-            Status::Usage,
+            "sced pool --help",
+            "Clears the market as if no branch had a limit\n\nUsage: sced pool --case <case> --offers <offers>\n",
+        ),
+        (
+            "sced replay --case a",
+            "error: unrecognized subcommand 'replay'\n",
+        ),
+        (
+            "sced pool --case a --offer b",
             "error: unexpected argument '--offer' found\n",
         ),
-    )?;
-    over_no_file(
-        &rt,
-        ["sced", "pool", "--case=a", "--case=a", "--offers=b"].as_slice(),
         (
-            Status::Usage,
+            "sced pool --case=a --case=a --offers=b",
             "error: the argument '--case <case>' cannot be used multiple times\n",
         ),
-    )?;
-    let none_there = ["sced", "pool", "--offers=b", "--case=a"];
-    over_no_file(&rt, none_there.as_slice(), (Status::ReadFailed, ""))
+    ] {
+        let want = (Status::Usage, Text::Start(start));
+        expect(&rt, line, [].as_slice(), all, want)?;
+    }
+    let none = (Status::ReadFailed, Text::Whole(""));
+    expect(
+        &rt,
+        "sced pool --offers=b --case=a",
+        [].as_slice(),
+        all,
+        none,
+    )
 }

@@ -1,0 +1,6 @@
+pub mod AnswerLemmas
+pub mod BrokenLemmas
+pub mod HandLemmas
+pub mod PosingLemmas
+pub mod SolvedLemmas
+pub mod StopLemmas

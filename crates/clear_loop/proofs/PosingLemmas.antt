@@ -1,0 +1,87 @@
+-- A start is posed at the prices and bounds of the market.
+use Rattle.std.specs.Prelude.{◌≡◌, ℕ, ◌+◌, List, ◌∷◌, ◌++◌, length, map, All, Option, Some, None, IfSome}
+use Rattle.std.proofs.Common.{arith, ap, sym, subst, ◌∙◌, length-append}
+use Rattle.std.proofs.lemmas.List.{length-map}
+use Rattle.std.proofs.lemmas.List.FromFn.{length-map-range_with_len, length-range_with_len}
+use Rattle.fraction_theory.specs.Fraction.{Fraction}
+use Rattle.fraction_theory.specs.Order.{◌≤ℚ◌}
+use Rattle.exact_fraction.specs.declared.Passed.{Passed}
+use Rattle.linear_dict.specs.Dictionaries.{Dictionary}
+use Rattle.simplex_core.specs.Posings.{IsPairPosed, IsPosing}
+use Rattle.simplex_core.specs.declared.bounds.Bounds.{Bounds}
+use Rattle.market_model.specs.declared.participants.Parts.{Parts}
+use Rattle.market_model.specs.Dispatch.{places, quantity}
+use Rattle.market_model.specs.LimitRows.{Row}
+use Rattle.market_model.specs.Market.{IsMarket}
+use Rattle.market_model.specs.Optimality.{block_value}
+use Rattle.market_model.specs.Valued.{passed_at}
+use Rattle.market_system.specs.MarketSystem.{balance_name, row_name, needed, most_added}
+use Rattle.market_system.specs.WorkingPairs.{IsRangeOf}
+use Rattle.market_system.proofs.GrowthLaws.{growth_none}
+use Rattle.market_dict.specs.Holding.{Holds, HoldsSystem, lows, highs}
+use Rattle.market_dict.specs.Terms.{AreTerms}
+use Rattle.market_dict.specs.declared.terms.Terms.{Terms}
+use Rattle.market_dict.proofs.HoldingLaws.{bounds_ordered, holds_posed, pair_posed}
+use Rattle.market_dict.proofs.RefusalLaws.{pair_range}
+use Rattle.clear_loop.specs.Rounds.{HoldsStart}
+
+module _ {N : Type 0} (value : N → Fraction) (m : Parts) (g : List Row) (terms : Terms N) (are : AreTerms value m g terms) (prices : List N) (bounds : List (Bounds N))
+    (priced : prices ≡ terms.prices) (bounded : bounds ≡ terms.bounds) where
+  low_count : length bounds ≡ length m.blocks + (length g + 1)
+  low_count =
+      let back : List Fraction = needed m ∷ map (most_added m) g in
+      let all : length bounds ≡ length (highs m g) = ap length bounded ∙ sym (length-map terms.bounds (λ (b : Bounds N). value b.high)) ∙ ap length are.highs in
+      let split : length (highs m g) ≡ length (map (quantity m) (places (length m.blocks))) + length back = length-append (map (quantity m) (places (length m.blocks))) back in
+      let front : length (map (quantity m) (places (length m.blocks))) ≡ length m.blocks = length-map-range_with_len (quantity m) 0 (length m.blocks) in
+      let rest : length (map (most_added m) g) ≡ length g = length-map g (most_added m) in
+      Prim.omega (arith, all, split, front, rest)
+
+  module _ (d : Dictionary) (holds : Holds m g d) where
+    columns_count : length d.columns ≡ length m.blocks
+    columns_count = ap length holds.columns ∙ length-range_with_len 0 (length m.blocks)
+
+    prices_for : length prices ≡ length d.columns
+    prices_for = ap length priced ∙ sym (length-map terms.prices value) ∙ ap length are.prices ∙ length-map-range_with_len (block_value m) 0 (length m.blocks) ∙ sym columns_count
+
+    bounds_for : length bounds ≡ length d.columns + length d.rows
+    bounds_for =
+        let rows : length d.rows ≡ length (balance_name m ∷ map (row_name m) g) = ap length holds.rows in
+        let names : length (map (row_name m) g) ≡ length g = length-map g (row_name m) in
+        let columns = columns_count in
+        let count = low_count in
+        Prim.omega (arith, rows, names, columns, count)
+
+    price_values : map value prices ≡ map (block_value m) (places (length m.blocks))
+    price_values = ap (map value) priced ∙ are.prices
+
+    low_values : map (λ (b : Bounds N). value b.low) bounds ≡ lows m g
+    low_values = ap (map (λ (b : Bounds N). value b.low)) bounded ∙ are.lows
+
+    high_values : map (λ (b : Bounds N). value b.high) bounds ≡ highs m g
+    high_values = ap (map (λ (b : Bounds N). value b.high)) bounded ∙ are.highs
+
+  module _ (warm : Option Dictionary) (start : HoldsStart m g warm) where
+    at_start : (P : Dictionary → Type 0) → ((d : Dictionary) → Holds m g d → P d) → IfSome warm P
+    at_start P all = subst (λ (o : Option Dictionary). IfSome o P) (sym start.1) (all start.0 start.2)
+
+    from_start : (P : Dictionary → Type 0) → IfSome warm P → P start.0
+    from_start P given = subst (λ (o : Option Dictionary). IfSome o P) start.1 given
+
+    pub prices_fit : IfSome warm (λ d. length prices ≡ length d.columns)
+    prices_fit = at_start (λ d. length prices ≡ length d.columns) prices_for
+
+    pub bounds_fit : IfSome warm (λ d. length bounds ≡ length d.columns + length d.rows)
+    bounds_fit = at_start (λ d. length bounds ≡ length d.columns + length d.rows) bounds_for
+
+    module _ (market : IsMarket m) where
+      pub in_order : All (λ (b : Bounds N). value b.low ≤ℚ value b.high) bounds
+      in_order = bounds_ordered value m g bounds market start.2.limits (low_values start.0 start.2) (high_values start.0 start.2)
+
+      pub posed_system : (e : Dictionary) → IfSome warm (λ d. IsPosing value d prices bounds e) → HoldsSystem m g e
+      posed_system e posing =
+          holds_posed value m g start.0 prices bounds e market start.2 (price_values start.0 start.2) (low_values start.0 start.2) (high_values start.0 start.2) (from_start (λ d. IsPosing value d prices bounds e) posing)
+
+      pub posed_range : (bound : ℕ) (p : Passed N) → IfSome warm (λ d. IsPairPosed value bound d prices bounds p) → IsRangeOf m g bound (passed_at value p)
+      posed_range bound p pair =
+          pair_range value bound m g g p (growth_none m g)
+          (pair_posed value bound m g start.0 prices bounds p market start.2 (price_values start.0 start.2) (low_values start.0 start.2) (high_values start.0 start.2) (from_start (λ d. IsPairPosed value bound d prices bounds p) pair))

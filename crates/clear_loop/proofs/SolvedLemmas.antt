@@ -1,0 +1,181 @@
+-- What is refused at a dispatch that solves the market over rows in hand is a working pair of the market over these rows.
+use Rattle.std.specs.Prelude.{◌≡◌, ◌⊎◌, ℕ, ◌<◌, ◌||◌, pos, Bool, true, false, List, [], ◌∷◌, ◌++◌, length, map, if◌then◌else◌, All, Contains, refl}
+use Rattle.std.proofs.Common.{inl, inr, ap, ap₂, sym, subst, ◌∙◌}
+
+use Rattle.fraction_theory.specs.Fraction.{Fraction, whole, neg_ℚ}
+use Rattle.fraction_theory.specs.Order.{◌<ℚ◌}
+use Rattle.fraction_theory.specs.Signs.{sign_of}
+use Rattle.fraction_theory.specs.Sums.{Product}
+use Rattle.fraction_theory.proofs.ListSums.{Contains-head, Contains-cons, Contains-from_filter}
+use Rattle.fraction_theory.proofs.OrderLaws.{<ℚ_irrefl}
+use Rattle.exact_fraction.specs.declared.Passed.{Passed}
+use Rattle.exact_fraction.specs.declared.Op.TheVariants.{Plus, Minus}
+use Rattle.linear_system.specs.Choices.{Choice, IsChoice, reduced}
+use Rattle.market_model.specs.declared.answered.Dual.{Dual}
+use Rattle.market_model.specs.declared.answered.Duals.{Duals}
+use Rattle.market_model.specs.declared.answered.RowId.{RowId}
+use Rattle.market_model.specs.declared.participants.Parts.{Parts}
+use Rattle.market_model.specs.Dispatch.{Dispatch, places, unit_at, output, demand, injection, output_terms}
+use Rattle.market_model.specs.Excess.{size_of}
+use Rattle.market_model.specs.LimitRows.{Cause, Base, After, Row, rows, row_id, limit, line_flow, flow}
+use Rattle.market_model.specs.Market.{IsMarket}
+use Rattle.market_model.specs.NamedSums.{SameSize, IsAddedIn, IsRefusedIn, IsRefusal}
+use Rattle.market_model.specs.Optimality.{Feasible, Supports, IsOneSided, ProperDuals, named_rows, is_named, same_id, up_in, down_in, bus_price, unit_price, congestion, congestion_terms, welfare_terms}
+use Rattle.market_model.specs.Settlement.{rent_terms, surplus_terms}
+use Rattle.market_system.specs.Growth.{BestFor}
+use Rattle.market_system.specs.MarketNumbers.{IsBest, IsInjecting}
+use Rattle.market_system.specs.MarketSystem.{system_of, balance_name, row_name, is_in, choice_dispatch, choice_duals}
+use Rattle.market_system.specs.Outcomes.{PricesOnly}
+use Rattle.market_system.specs.PairLaw.{RefusalsArePairs, InjectingPairs, BestPairs}
+use Rattle.market_system.specs.WorkingPairs.{IsRangeOf}
+use Rattle.market_system.proofs.DualLists.{up-made, down-made}
+use Rattle.market_system.proofs.GrowthLaws.{growth_none}
+use Rattle.market_system.proofs.PairCases.{law_of_the_pairs, of_base_flow}
+use Rattle.market_system.proofs.RowOrder.{is_in-in, is_in-from}
+use Rattle.limit_rows.proofs.ApartLemmas.{names_apart}
+use Rattle.limit_rows.proofs.FactorLemmas.{IsLost, stands}
+use Rattle.limit_screen.specs.Flows.{flow_by, flow_terms_in, flows_at, line_in, IsFlowsRefusal, of_injection as flows_of_injection, of_line as flows_of_line}
+use Rattle.limit_screen.specs.Screening.{IsRowRefusal, IsScreenRefusal, of_flow as row_of_flow, of_limit as row_of_limit}
+use Rattle.limit_screen.proofs.FlowLemmas.{map_same}
+use Rattle.bus_prices.specs.Prices.{IsPriceRefusal, of_congestion, of_total}
+use Rattle.settlement.specs.Paying.{ArePricesOf, left_terms}
+use Rattle.settlement.specs.Refusals.{IsSettlementRefusal, of_output, of_demand, of_money, of_injection, of_line, of_flow, of_offset, of_limit_less, of_limit_more, of_rent}
+use Rattle.market_dict.specs.Findings.{IsSolvedBy}
+use Rattle.clear_loop.proofs.BrokenLemmas.{row_is, sized_by, terms_are}
+
+-- ---- prices of rows in hand
+not_in : (g : List Row) (r : Row) → ¬ (Contains g r) → is_in g r ≡ false
+not_in g r out = by (is_in g r) refl
+  where
+    by : (t : Bool) → is_in g r ≡ t → is_in g r ≡ false
+    by true e = absurd (out (is_in-from g r e))
+    by false e = e
+
+pub choice_prices : (m : Parts) (g : List Row) (h : Choice) → IsMarket m → PricesOnly m g (choice_duals m g h)
+choice_prices m g h market r c out =
+    let energy : Fraction = neg_ℚ (reduced (system_of m g) h (balance_name m)) in
+    let cost : Row → Fraction = λ (s : Row). reduced (system_of m g) h (row_name m s) in
+    let no : is_in g r ≡ false = not_in g r out in
+    let up = up-made m (names_apart m market) energy cost g r c in
+    let down = down-made m (names_apart m market) energy cost g r c in
+    (rw no at up, rw no at down)
+
+-- the dual that a list of duals has of a name
+named_dual : (ds : List (Dual Fraction)) (id : RowId) → is_named ds id ≡ true → (e : Dual Fraction) × Contains ds e × (up_in ds id ≡ e.up) × (down_in ds id ≡ e.down)
+named_dual [] id h = absurd cc
+named_dual (d ∷ ds) id h = by (same_id d.row id) refl (named_dual ds id)
+  where
+    by : (t : Bool) → same_id d.row id ≡ t → (is_named ds id ≡ true → (e : Dual Fraction) × Contains ds e × (up_in ds id ≡ e.up) × (down_in ds id ≡ e.down))
+        → (e : Dual Fraction) × Contains (d ∷ ds) e × (up_in (d ∷ ds) id ≡ e.up) × (down_in (d ∷ ds) id ≡ e.down)
+    by true e more = (d, Contains-head d ds, ap (λ (b : Bool). if b then d.up else up_in ds id) e, ap (λ (b : Bool). if b then d.down else down_in ds id) e)
+    by false e more =
+        let rest = more (sym (ap (λ (b : Bool). b || is_named ds id) e) ∙ h) in
+        (rest.0, Contains-cons d ds rest.0 rest.1, ap (λ (b : Bool). if b then d.up else up_in ds id) e ∙ rest.2, ap (λ (b : Bool). if b then d.down else down_in ds id) e ∙ rest.3)
+
+-- a row that proper duals name is in hand
+pub named_in_hand : (m : Parts) (g : List Row) (d : Duals Fraction) → PricesOnly m g d → ProperDuals m d → (r : Row) → Contains (named_rows m d) r → Contains (rows m) r × Contains g r
+named_in_hand m g d only proper r c =
+    let both = Contains-from_filter (λ (s : Row). is_named d.limits (row_id m s)) (rows m) r c in
+    (both.0, by both.0 both.1 (is_in g r) refl)
+  where
+    one_price : (e : Dual Fraction) → e.up ≡ whole (pos 0) → e.down ≡ whole (pos 0) → ((whole (pos 0) <ℚ e.up) × (e.down ≡ whole (pos 0))) ⊎ ((e.up ≡ whole (pos 0)) × (whole (pos 0) <ℚ e.down)) → ⊥
+    one_price e up down (inl a) = <ℚ_irrefl (whole (pos 0)) (subst (λ t. whole (pos 0) <ℚ t) up a.0)
+    one_price e up down (inr a) = <ℚ_irrefl (whole (pos 0)) (subst (λ t. whole (pos 0) <ℚ t) down a.1)
+
+    unnamed : Contains (rows m) r → is_named d.limits (row_id m r) ≡ true → is_in g r ≡ false → ⊥
+    unnamed inside named e =
+        let none = only r inside (λ k. let wrong : false ≡ true = sym e ∙ is_in-in g r k in absurd cc) in
+        let found = named_dual d.limits (row_id m r) named in
+        let at : Contains d.limits found.0 = found.1 in
+        let sided : IsOneSided found.0 = subst IsOneSided at.2 (proper.one_sided at.0 found.0 at.1) in
+        one_price found.0 (sym found.2 ∙ none.0) (sym found.3 ∙ none.1) sided.one
+
+    by : Contains (rows m) r → is_named d.limits (row_id m r) ≡ true → (t : Bool) → is_in g r ≡ t → Contains g r
+    by inside named true e = is_in-from g r e
+    by inside named false e = absurd (unnamed inside named e)
+
+-- ---- refusals
+module _ (m : Parts) (g : List Row) (x : Dispatch) (d : Duals Fraction) (market : IsMarket m) (solved : IsSolvedBy m g x d) where
+  pub best_for : BestFor m g x
+  best_for = subst (BestFor m g) (sym solved.dispatch) solved.answers.best
+
+  pub supports : Supports m x d
+  supports = subst (λ y. Supports m y d) (sym solved.dispatch) (subst (Supports m (choice_dispatch m g solved.choice)) (sym solved.duals) solved.answers.supported)
+
+  pub proper : ProperDuals m d
+  proper = subst (ProperDuals m) (sym solved.duals) solved.answers.proper
+
+  pub prices_only : PricesOnly m g d
+  prices_only = subst (PricesOnly m g) (sym solved.duals) (choice_prices m g solved.choice market)
+
+  module _ (bound : ℕ) (p : Passed Fraction) where
+    pairs : RefusalsArePairs m g g solved.choice bound p
+    pairs = law_of_the_pairs m g g solved.choice bound p (growth_none m g) solved.is_choice
+
+    injecting : IsInjecting m g solved.choice x
+    injecting = inr (solved.dispatch, best_for)
+
+    at_x : InjectingPairs m g bound p x
+    at_x = pairs.injecting x injecting
+
+    -- where a dispatch is screened
+    pub flows_range : IsFlowsRefusal m x bound p → IsRangeOf m g bound p
+    flows_range (flows_of_injection i lt a) = at_x.at_bus i lt a
+    flows_range (flows_of_line l lt a) = at_x.of_line l lt a
+
+    flow_range : (l : ℕ) (cause : Cause) → l < length m.lines → IsLost m cause → Contains (rows m) (record { line = l; cause = cause })
+        → IsRefusedIn (flow_terms_in m (line_flow m (injection m x)) l cause) bound p → IsRangeOf m g bound p
+    flow_range l Base line lost c a = of_base_flow m g g (growth_none m g) solved.choice solved.is_choice bound p x injecting l line a
+    flow_range l (After k) line lost c a = at_x.flow_after l k line lost.0 c a
+
+    row_range : (r : Row) → Contains (rows m) r → IsRowRefusal m (line_in m (flows_at m x)) bound r p → IsRangeOf m g bound p
+    row_range r c (row_of_flow a) =
+        let s = stands m market r c in
+        flow_range r.line r.cause s.line s.lost c (subst (λ ts. IsRefusedIn ts bound p) (terms_are m market x r.line r.cause s.line s.lost) a)
+    row_range r c (row_of_limit a) =
+        at_x.excess r (size_of (flow m x r)) c (sized_by (flow m x r) (sign_of (flow m x r))) (subst (λ f. IsRefusal Minus (size_of f) (limit m r) bound p) (row_is m market x r c) a)
+
+    pub screen_range : IsScreenRefusal m (line_in m (flows_at m x)) bound p → IsRangeOf m g bound p
+    screen_range (r, c, a) = row_range r c a
+
+    -- where a feasible one is answered
+    module _ (feasible : Feasible m x) where
+      best : BestPairs m g g solved.choice bound p
+      best = pairs.best (record { feasible = subst (Feasible m) solved.dispatch feasible; supported = solved.answers.supported })
+
+      pub price_range : IsPriceRefusal m d bound p → IsRangeOf m g bound p
+      price_range (of_congestion i lt a) = best.of_limits i lt (subst (λ e. IsRefusedIn (congestion_terms m e i) bound p) solved.duals a)
+      price_range (of_total i lt a) = best.of_bus i lt (subst (λ (e : Duals Fraction). IsRefusal Plus e.energy (congestion m e i) bound p) solved.duals a)
+
+      pub welfare_range : IsRefusedIn (welfare_terms m x) bound p → IsRangeOf m g bound p
+      welfare_range a = best.worth (subst (λ y. IsRefusedIn (welfare_terms m y) bound p) solved.dispatch a)
+
+      module _ (price : ℕ → Fraction) (priced : ArePricesOf m d price) where
+        at_unit : (u : ℕ) → u < length m.units → price (unit_at m u).bus ≡ unit_price m d u
+        at_unit u lt = priced (unit_at m u).bus (market.units u (record { row = 0; bus = 0; fixed = pos 0; up = pos 0; down = pos 0 }) lt).bus
+
+        left_is : left_terms m x price ≡ surplus_terms m x d
+        left_is =
+            ap₂ ◌++◌
+            (map_same (λ i. Product (price i) (demand m i)) (λ i. Product (bus_price m d i) (demand m i)) (length m.buses) (λ i lt. ap (λ t. Product t (demand m i)) (priced i lt)))
+            (map_same (λ u. Product (neg_ℚ (price (unit_at m u).bus)) (output m x u)) (λ u. Product (neg_ℚ (unit_price m d u)) (output m x u)) (length m.units)
+            (λ u lt. ap (λ t. Product (neg_ℚ t) (output m x u)) (at_unit u lt)))
+
+        named : (r : Row) → Contains (named_rows m d) r → Contains (rows m) r × Contains g r
+        named = named_in_hand m g d prices_only proper
+
+        pub settlement_range : IsSettlementRefusal m x price d bound p → IsRangeOf m g bound p
+        settlement_range (of_output u lt a) = best.of_unit u lt (subst (λ y. IsAddedIn (output_terms m y u) bound p) solved.dispatch a)
+        settlement_range (of_demand i lt a) = pairs.demand i lt a
+        settlement_range (of_money a) =
+            best.left (subst (λ y. IsRefusedIn (surplus_terms m y (choice_duals m g solved.choice)) bound p) solved.dispatch
+            (subst (λ e. IsRefusedIn (surplus_terms m x e) bound p) solved.duals (subst (λ ts. IsRefusedIn ts bound p) left_is a)))
+        settlement_range (of_injection i lt a) = at_x.at_bus i lt a
+        settlement_range (of_line l lt a) = at_x.of_line l lt a
+        settlement_range (of_flow l k line lost c a) = at_x.flow_after l k line lost (named (record { line = l; cause = After k }) c).0 a
+        settlement_range (of_offset r c a) = pairs.offset market r (named r c).0 a
+        settlement_range (of_limit_less r c a) = pairs.limit_less r (named r c).0 a
+        settlement_range (of_limit_more r c a) = pairs.limit_more r (named r c).0 a
+        settlement_range (of_rent r c a) =
+            best.earned r (named r c).1 (subst (λ y. IsRefusedIn (rent_terms m y (choice_duals m g solved.choice) r) bound p) solved.dispatch
+            (subst (λ e. IsRefusedIn (rent_terms m x e r) bound p) solved.duals a))

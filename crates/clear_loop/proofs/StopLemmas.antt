@@ -1,0 +1,63 @@
+-- What stops a clear is a working pair over rows that are reached.
+use Rattle.std.specs.Prelude.{◌≡◌, ◌⊎◌, ℕ, List, Contains}
+use Rattle.std.proofs.Common.{inl, inr, subst}
+use Rattle.fraction_theory.specs.Fraction.{Fraction}
+use Rattle.linear_system.specs.Choices.{Choice, IsChoice}
+use Rattle.market_model.specs.declared.answered.Duals.{Duals}
+use Rattle.market_model.specs.declared.participants.Parts.{Parts}
+use Rattle.market_model.specs.Dispatch.{Dispatch}
+use Rattle.market_model.specs.LimitRows.{Row}
+use Rattle.market_model.specs.Market.{IsMarket}
+use Rattle.market_model.specs.Optimality.{Feasible}
+use Rattle.market_model.specs.Valued.{passed_at}
+use Rattle.market_system.specs.Growth.{Growth}
+use Rattle.market_system.specs.MarketSystem.{system_of}
+use Rattle.market_system.proofs.GrowthLaws.{growth_again}
+use Rattle.bus_prices.specs.Prices.{IsPriceRefusal}
+use Rattle.limit_screen.specs.Flows.{flows_at, line_in, IsFlowsRefusal}
+use Rattle.limit_screen.specs.Screening.{IsScreenRefusal}
+use Rattle.settlement.specs.Paying.{ArePricesOf}
+use Rattle.settlement.specs.Refusals.{IsStop}
+use Rattle.settlement.specs.declared.stops.MoneyStop.{MoneyStop}
+use Rattle.settlement.specs.declared.stops.MoneyStop.TheVariants as money
+use Rattle.market_dict.specs.Findings.{IsPairOver, IsSolvedBy, OnPassed}
+use Rattle.market_dict.specs.Refusals.{IsTermsRefusal}
+use Rattle.market_dict.specs.declared.stop.Stop.{Stop}
+use Rattle.market_dict.specs.declared.stop.Stop.TheVariants as stop
+use Rattle.market_dict.proofs.RefusalLaws.{pair_range, terms_range}
+use Rattle.clear_loop.specs.Faults.{stop_of}
+use Rattle.clear_loop.specs.Rounds.{StopsInRange}
+use Rattle.clear_loop.proofs.SolvedLemmas.{flows_range, price_range, screen_range, settlement_range}
+
+module _ {N : Type 0} (value : N → Fraction) (bound : ℕ) (m : Parts) where
+  -- a pair of the dictionary over rows that are reached
+  pub pair_stop : (t g : List Row) (s : Stop N) → Growth m t g → IsPairOver value bound m g s → StopsInRange value bound m t s
+  pair_stop t g (stop.Passed p) grown pair = pair_range value bound m t g p grown pair
+  pair_stop t g stop.Memory grown pair = tt
+
+  -- where prices and bounds are made
+  pub terms_stop : (t g : List Row) (h : Choice) (s : Stop N) → IsMarket m → Growth m t g → IsChoice (system_of m g) h → OnPassed s (λ p. IsTermsRefusal m bound (passed_at value p)) → StopsInRange value bound m t s
+  terms_stop t g h (stop.Passed p) market grown choice refused = terms_range m t g h bound (passed_at value p) market grown choice refused
+  terms_stop t g h stop.Memory market grown choice refused = tt
+
+  -- rows reached from those in hand are reached from those before
+  pub earlier_stop : (t g : List Row) (s : Stop N) → Growth m t g → StopsInRange value bound m g s → StopsInRange value bound m t s
+  earlier_stop t g (stop.Passed p) grown range = record { rows = range.rows; reached = growth_again m t g range.rows grown range.reached; pair = range.pair }
+  earlier_stop t g stop.Memory grown range = tt
+
+  module _ (g : List Row) (x : Dispatch) (d : Duals Fraction) (market : IsMarket m) (solved : IsSolvedBy m g x d) where
+    -- where a dispatch is screened
+    pub screen_stop : (s : Stop N) → OnPassed s (λ p. IsFlowsRefusal m x bound (passed_at value p) ⊎ IsScreenRefusal m (line_in m (flows_at m x)) bound (passed_at value p)) → StopsInRange value bound m g s
+    screen_stop (stop.Passed p) (inl a) = flows_range m g x d market solved bound (passed_at value p) a
+    screen_stop (stop.Passed p) (inr a) = screen_range m g x d market solved bound (passed_at value p) a
+    screen_stop stop.Memory a = tt
+
+    -- where it is priced and settled
+    module _ (feasible : Feasible m x) where
+      pub price_stop : (s : Stop N) → OnPassed s (λ p. IsPriceRefusal m d bound (passed_at value p)) → StopsInRange value bound m g s
+      price_stop (stop.Passed p) a = price_range m g x d market solved bound (passed_at value p) feasible a
+      price_stop stop.Memory a = tt
+
+      pub money_stop : (price : ℕ → Fraction) → ArePricesOf m d price → (s : MoneyStop N) → IsStop value bound m x price d s → StopsInRange value bound m g (stop_of s)
+      money_stop price priced (money.Passed p) a = settlement_range m g x d market solved bound (passed_at value p) feasible price priced a
+      money_stop price priced money.Memory a = tt

@@ -1,0 +1,73 @@
+use Rattle.std.proofs.Common.{Err, Ok, ◌≡◌, ◌∙◌, ap, sym, subst, length, map, List}
+use Rattle.std.proofs.lemmas.Result.{err_from_is_err_and}
+use Rattle.market_model.specs.declared.answered.Price.{Price}
+use Rattle.market_model.specs.Optimality.{welfare, welfare_terms}
+use Rattle.market_model.specs.NamedSums.{IsRefusedIn}
+use Rattle.market_model.specs.Valued.{duals_at, money_at, passed_at}
+use Rattle.limit_screen.specs.Flows.{dispatch_of}
+use Rattle.settlement.specs.Paying.{IsSettlement, total_at}
+use Rattle.settlement.specs.Refusals.{IsStop}
+use Rattle.settlement.proofs.MoneyLemmas.{law_of_right_money}
+use Rattle.market_dict.specs.declared.stop.Stop.TheVariants as stop
+use Rattle.clear_loop.proofs.AnswerLemmas.{price_count, prices_of, right_answer}
+use Rattle.clear_loop.proofs.HandLemmas.{dispatch_count}
+use Rattle.clear_loop.proofs.SolvedLemmas.{proper, supports, welfare_range}
+use Rattle.clear_loop.proofs.StopLemmas.{money_stop, price_stop}
+use Rattle.clear_loop.proofs.answering.answer_of.Goals as goal
+
+pub returns-in_err-prices-clause-cause : goal.returns-in_err-prices-clause-cause
+returns-in_err-prices-clause-cause g c = λ rows solved.
+    let p = err_from_is_err_and c.from_residual.result c.from_residual.ensures.1 in
+    let given : c.from_residual.result ≡ Err c.in_err-prices.field-0.0 = p.1 ∙ ap Err p.2 in
+    rw given
+    (price_stop g.N.Exact.value g.N.Exact.bound c.args.market.now rows (dispatch_of g.N.Exact.value c.args.dispatch) (duals_at g.N.Exact.value c.args.duals) c.lines-lines.ensures.market solved c.requires.feasible
+    c.in_err-prices.field-0.0 c.in_err-prices.ensures.cause)
+
+pub returns-in_err-welfare-clause-cause : goal.returns-in_err-welfare-clause-cause
+returns-in_err-welfare-clause-cause g c = λ rows solved.
+    let value = g.N.Exact.value in
+    let m = c.args.market.now in
+    let p = err_from_is_err_and c.from_residual-in_err-welfare.result c.from_residual-in_err-welfare.ensures.1 in
+    let given : c.from_residual-in_err-welfare.result ≡ Err (stop.Passed c.in_err-welfare.field-0.0) = p.1 ∙ ap Err p.2 in
+    rw given
+    (welfare_range m rows (dispatch_of value c.args.dispatch) (duals_at value c.args.duals) c.lines-lines.ensures.market solved g.N.Exact.bound (passed_at value c.in_err-welfare.field-0.0) c.requires.feasible
+    (subst (λ xs. IsRefusedIn (welfare_terms m (dispatch_of value xs)) g.N.Exact.bound (passed_at value c.in_err-welfare.field-0.0)) c.slice.ensures c.in_err-welfare.ensures.cause))
+
+pub settle-requires-clause-prices : goal.settle-requires-clause-prices
+settle-requires-clause-prices g c = ap length c.slice-3.ensures ∙ price_count g.N.Exact.value c.args.market.now (duals_at g.N.Exact.value c.args.duals) c.in_ok-prices.prices c.in_ok-prices.ensures.prices
+
+pub returns-in-Err-clause-cause : goal.returns-in-Err-clause-cause
+returns-in-Err-clause-cause g c = λ rows solved.
+    let value = g.N.Exact.value in
+    let m = c.args.market.now in
+    let d = duals_at value c.args.duals in
+    rw c.stopped.ensures
+    (money_stop value g.N.Exact.bound m rows (dispatch_of value c.args.dispatch) d c.lines-lines.ensures.market solved c.requires.feasible (total_at value c.in_ok-prices.prices)
+    (prices_of value m d c.in_ok-prices.prices c.in_ok-prices.ensures.prices) c.in-Err.refused
+    (subst (λ xs. IsStop value g.N.Exact.bound m (dispatch_of value xs) (total_at value c.in_ok-prices.prices) d c.in-Err.refused) c.slice-2.ensures
+    (subst (λ ps. IsStop value g.N.Exact.bound m (dispatch_of value c.slice-2.result.now) (total_at value ps) d c.in-Err.refused) c.slice-3.ensures c.in-Err.ensures.cause)))
+
+pub returns-clause-fits : goal.returns-clause-fits
+returns-clause-fits g c =
+    let value = g.N.Exact.value in
+    let m = c.args.market.now in
+    record {
+      dispatch = dispatch_count value m c.requires.solved.0 c.args.dispatch (duals_at value c.args.duals) c.requires.solved.1;
+      prices = price_count value m (duals_at value c.args.duals) c.in_ok-prices.prices c.in_ok-prices.ensures.prices;
+      units = c.in-Ok.ensures.fits.units;
+      loads = c.in-Ok.ensures.fits.loads;
+      rents = c.in-Ok.ensures.fits.rents;
+    }
+
+pub returns-clause-right : goal.returns-clause-right
+returns-clause-right g c =
+    let value = g.N.Exact.value in
+    let m = c.args.market.now in
+    let x = dispatch_of value c.args.dispatch in
+    let d = duals_at value c.args.duals in
+    let market = c.lines-lines.ensures.market in
+    right_answer value m c.args.dispatch c.args.duals c.in_ok-prices.prices c.in_ok-welfare.welfare c.in-Ok.money law_of_right_money market c.requires.feasible
+    (supports m c.requires.solved.0 x d market c.requires.solved.1) (proper m c.requires.solved.0 x d market c.requires.solved.1) c.in_ok-prices.ensures.prices
+    (c.in_ok-welfare.ensures.worth ∙ ap (λ xs. welfare m (dispatch_of value xs)) c.slice.ensures)
+    (subst (λ xs. IsSettlement m (dispatch_of value xs) (total_at value c.in_ok-prices.prices) d (money_at value c.in-Ok.money)) c.slice-2.ensures
+    (subst (λ ps. IsSettlement m (dispatch_of value c.slice-2.result.now) (total_at value ps) d (money_at value c.in-Ok.money)) c.slice-3.ensures c.in-Ok.ensures.money))

@@ -1,0 +1,49 @@
+-- What a clearer keeps from one clear to the next: the dictionary of the last one, and the limit rows that it has.
+use Rattle.std.specs.Prelude.{◌≡◌, ℕ, Option, Some, None, List, [], map, refl}
+use Rattle.std.proofs.Common.{ap}
+use Rattle.std.specs.Coded.{Coded, code_by, coded×, coded_ℕ, coded_list, coded_option}
+use Rattle.linear_dict.specs.Dictionaries.{Dictionary, dictionary_code}
+use Rattle.market_model.specs.declared.participants.Parts.{Parts}
+use Rattle.market_model.specs.declared.answered.RowId.{RowId}
+use Rattle.market_model.specs.LimitRows.{Cause, Base, After, Row, row_id}
+use Rattle.limit_rows.specs.Groups.{cause_of}
+use Rattle.market_dict.specs.Holding.{Holds}
+
+-- the dictionary, and its limit rows in the order in which they were taken, with their names
+pub record Kept : Type 0 where
+  pub dict : Option Dictionary
+  pub rows : List Row
+  pub names : List RowId
+
+-- nothing is kept
+abbrev pub cold : Kept
+cold = record { dict = None; rows = []; names = [] }
+
+-- a start for a market, with these rows and names: none without rows, or a dictionary that holds the market over the rows
+abbrev pub IsStartOf : Parts → List Row → List RowId → Option Dictionary → Type 0
+IsStartOf m rows names None = (rows ≡ []) × (names ≡ [])
+IsStartOf m rows names (Some d) = Holds m rows d × (names ≡ map (row_id m) rows)
+
+-- what is kept is a start for this market
+abbrev pub FitsFrame : Parts → Kept → Type 0
+FitsFrame m k = IsStartOf m k.rows k.names k.dict
+
+-- ---- its code
+abbrev pub lost_in : Cause → Option ℕ
+lost_in Base = None
+lost_in (After k) = Some k
+
+abbrev pub cause_back : (c : Cause) → cause_of (lost_in c) ≡ c
+cause_back Base = refl
+cause_back (After k) = refl
+
+abbrev pub row_code : Coded Row
+row_code = code_by (ℕ × Option ℕ) (coded× coded_ℕ (coded_option coded_ℕ)) (λ r. (r.line, lost_in r.cause)) (λ p. record { line = p.0; cause = cause_of p.1 })
+    (λ r. ap (λ (c : Cause). record { line = r.line; cause = c }) (cause_back r.cause))
+
+abbrev pub name_code : Coded RowId
+name_code = code_by (ℕ × ℕ) (coded× coded_ℕ coded_ℕ) (λ n. (n.branch, n.outage)) (λ p. record { branch = p.0; outage = p.1 }) (λ _. refl)
+
+abbrev pub kept_code : Coded Kept
+kept_code = code_by (Option Dictionary × (List Row × List RowId)) (coded× (coded_option dictionary_code) (coded× (coded_list row_code) (coded_list name_code)))
+    (λ k. (k.dict, (k.rows, k.names))) (λ p. record { dict = p.0; rows = p.1.0; names = p.1.1 }) (λ _. refl)

@@ -1,0 +1,6 @@
+pub mod Clearing
+pub mod Faults
+pub mod Keeping
+pub mod Laws
+pub mod Rounds
+pub mod Starts

@@ -1,0 +1,60 @@
+-- What is in hand between two rounds of a clear, and what a round comes to.
+use Rattle.std.specs.Prelude.{◌≡◌, ℕ, Option, Some, List, [], ◌∷◌, ◌++◌, Result, Ok, Err, map, Contains}
+use Rattle.fraction_theory.specs.Fraction.{Fraction}
+use Rattle.linear_dict.specs.Dictionaries.{Dictionary}
+use Rattle.market_model.specs.declared.answered.Answer.{Answer}
+use Rattle.market_model.specs.declared.answered.Farkas.{Farkas}
+use Rattle.market_model.specs.declared.participants.Parts.{Parts}
+use Rattle.market_model.specs.Dispatch.{Dispatch}
+use Rattle.market_model.specs.Fitting.{FitsMarket}
+use Rattle.market_model.specs.Infeasibility.{IsFarkas}
+use Rattle.market_model.specs.LimitRows.{Row, rows, row_id}
+use Rattle.market_model.specs.RightAnswers.{IsRight}
+use Rattle.market_model.specs.Valued.{answer_at, duals_at, farkas_at, passed_at}
+use Rattle.market_system.specs.Growth.{BestFor, Broken}
+use Rattle.market_system.specs.Outcomes.{PricesOnly}
+use Rattle.market_system.specs.WorkingPairs.{IsRangeOf}
+use Rattle.market_dict.specs.Findings.{OnPassed}
+use Rattle.market_dict.specs.Holding.{Holds}
+use Rattle.market_dict.specs.Terms.{AreTerms}
+use Rattle.market_dict.specs.declared.stop.Stop.{Stop}
+use Rattle.clear_loop.specs.declared.hand.Hand.{Hand}
+use Rattle.clear_loop.specs.declared.hand.Taken.{Taken}
+use Rattle.clear_loop.specs.declared.rounds.Ended.{Ended}
+use Rattle.clear_loop.specs.declared.rounds.Round.{Round}
+use Rattle.clear_loop.specs.declared.rounds.Round.TheVariants as round
+use Rattle.clear_loop.specs.Starts.{rows_in}
+
+-- a dictionary that holds the market over these rows
+abbrev pub HoldsStart : Parts → List Row → Option Dictionary → Type 0
+HoldsStart m g start = (d : Dictionary) × (start ≡ Some d) × Holds m g d
+
+-- a start over the rows in hand, with the prices and bounds of the market over them, and their names
+pub record IsInHand {N : Type 0} (value : N → Fraction) (m : Parts) (h : Hand N) : Type 0 where
+  pub start : HoldsStart m (rows_in h.taken) h.warm
+  pub terms : AreTerms value m (rows_in h.taken) h.terms
+  pub names : h.taken.names ≡ map (row_id m) (rows_in h.taken)
+
+-- the rows with one more of the market behind, which a best dispatch for them breaks
+abbrev pub GrowsByOne : Parts → List Row → List Row → Type 0
+GrowsByOne m g new = (r : Row) × (new ≡ g ++ r ∷ []) × Contains (rows m) r × ((x : Dispatch) × BestFor m g x × Broken m x r)
+
+-- a right answer, or duals that show that nothing is feasible, with prices of no other rows
+abbrev pub IsEnd : {N : Type 0} → (N → Fraction) → Parts → List Row → Result (Answer N) (Farkas N) → Type 0
+IsEnd value m g (Ok a) = FitsMarket m a × IsRight m (answer_at value a) × PricesOnly m g (duals_at value a.duals)
+IsEnd value m g (Err f) = IsFarkas m (farkas_at value f) × PricesOnly m g (duals_at value f.duals)
+
+-- the clear ends so, with a dictionary that holds the market over the rows taken
+pub record IsEnded {N : Type 0} (value : N → Fraction) (m : Parts) (e : Ended N) : Type 0 where
+  pub holds : Holds m (rows_in e.taken) e.dict
+  pub names : e.taken.names ≡ map (row_id m) (rows_in e.taken)
+  pub end : IsEnd value m (rows_in e.taken) e.answer
+
+-- what a round over these rows comes to: one more row, or the end
+abbrev pub IsRound : {N : Type 0} → (N → Fraction) → Parts → List Row → Round N → Type 0
+IsRound value m g (round.Broken hand) = IsInHand value m hand × GrowsByOne m g (rows_in hand.taken)
+IsRound value m g (round.Done ended) = IsEnded value m ended × (rows_in ended.taken ≡ g)
+
+-- where numbers became too large, the two are a working pair of the market over rows reached from those taken
+abbrev pub StopsInRange : {N : Type 0} → (N → Fraction) → ℕ → Parts → List Row → Stop N → Type 0
+StopsInRange value bound m taken stop = OnPassed stop (λ p. IsRangeOf m taken bound (passed_at value p))

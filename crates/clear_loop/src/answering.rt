@@ -1,0 +1,90 @@
+//! The answer of a dispatch and duals.
+
+ghost use Rattle.std.specs.Prelude.{◌≡◌, List, length, map, IfOk, IfErr};
+ghost use Rattle.market_model.specs.Dispatch.{places};
+ghost use Rattle.market_model.specs.Fitting.{FitsMarket};
+ghost use Rattle.market_model.specs.LimitRows.{Row};
+ghost use Rattle.market_model.specs.Optimality.{Feasible, ProperDuals};
+ghost use Rattle.market_model.specs.RightAnswers.{IsRight};
+ghost use Rattle.market_model.specs.Valued.{answer_at, duals_at, passed_at, price_at};
+ghost use Rattle.bus_prices.specs.Prices.{price_of, IsPriceRefusal};
+ghost use Rattle.limit_screen.specs.Flows.{dispatch_of};
+ghost use Rattle.market_dict.specs.Findings.{IsSolvedBy, OnPassed};
+ghost use Rattle.clear_loop.specs.Faults.{stop_of};
+ghost use Rattle.clear_loop.specs.Rounds.{StopsInRange};
+
+use bus_prices::prices;
+use exact_fraction::Exact;
+use market_dict::Stop;
+use market_model::{Answer, Duals, Market, Price};
+use plain_list::List;
+use settlement::{MoneyStop, settle, welfare};
+use std::alloc::Global;
+
+/// The price at each bus.
+fn bus_prices<N: Exact>(
+    alloc: Global,
+    market: &Market,
+    duals: &Duals<N>,
+) -> Result<List<Price<N>>, Stop<N>>
+    requires { ProperDuals market.now (duals_at N.value duals.now) }
+    ensures prices { IfOk result (λ list. map (price_at N.value) list ≡ map (price_of market.now (duals_at N.value duals.now)) (places (length market.now.buses))) }
+    ensures cause { IfErr result (λ stop. OnPassed stop (λ p. IsPriceRefusal market.now (duals_at N.value duals.now) N.bound (passed_at N.value p))) }
+{
+    let energy = duals.energy;
+    let blank = Price {
+        energy,
+        congestion: energy,
+        total: energy,
+    };
+    let mut by_bus = match vec![in alloc; blank; market.buses().len()] {
+        Ok(by_bus) => by_bus,
+        Err(_) => return Err(Stop::Memory),
+    };
+    prices(market, duals, &mut by_bus)?;
+    let mut list = List::new(alloc);
+    for price in &by_bus {
+        list.push(*price)?;
+    }
+    Ok(list)
+}
+
+/// A stop of the settlement as one of the clear.
+fn stopped<N: Exact>(refused: MoneyStop<N>) -> Stop<N>
+    ensures { result ≡ stop_of refused }
+{
+    match refused {
+        MoneyStop::Passed(passed) => Stop::Passed(passed),
+        MoneyStop::Memory => Stop::Memory,
+    }
+}
+
+/// The answer of a feasible dispatch that solves the market over some of its limits, with its duals: bus prices, welfare and settlement.
+pub(crate) fn answer_of<N: Exact>(
+    alloc: Global,
+    market: &Market,
+    dispatch: List<N>,
+    duals: Duals<N>,
+) -> Result<Answer<N>, Stop<N>>
+    requires solved { (g : List Row) × IsSolvedBy market.now g (dispatch_of N.value dispatch) (duals_at N.value duals) }
+    requires feasible { Feasible market.now (dispatch_of N.value dispatch) }
+    ensures fits { IfOk result (FitsMarket market.now) }
+    ensures right { IfOk result (λ answer. IsRight market.now (answer_at N.value answer)) }
+    ensures duals { IfOk result (λ answer. answer.duals ≡ duals) }
+    ensures cause { (g : List Row) → IsSolvedBy market.now g (dispatch_of N.value dispatch) (duals_at N.value duals) → IfErr result (StopsInRange N.value N.bound market.now g) }
+{
+    let _lines = market.lines();
+    let prices = bus_prices(alloc, market, &duals)?;
+    let welfare = welfare(market, dispatch.slice())?;
+    let money = match settle(alloc, market, dispatch.slice(), prices.slice(), &duals) {
+        Ok(money) => money,
+        Err(refused) => return Err(stopped(refused)),
+    };
+    Ok(Answer {
+        dispatch,
+        duals,
+        prices,
+        welfare,
+        money,
+    })
+}

@@ -1,0 +1,100 @@
+//! What a clear has in hand between two rounds: the limits taken, a start over them, and prices and bounds.
+
+ghost use Rattle.std.specs.Prelude.{◌≡◌, [], ◌∷◌, ◌++◌, map, Contains, IfOk, IfErr, Some, false};
+ghost use Rattle.market_model.specs.Dispatch.{Dispatch};
+ghost use Rattle.market_model.specs.LimitRows.{row_id, rows};
+ghost use Rattle.market_system.specs.Growth.{BestFor, Broken};
+ghost use Rattle.limit_rows.specs.Places.{row_of};
+ghost use Rattle.market_dict.specs.Holding.{Holds};
+ghost use Rattle.market_dict.specs.Terms.{AreTerms};
+ghost use Rattle.clear_loop.specs.Rounds.{IsInHand, StopsInRange};
+ghost use Rattle.clear_loop.specs.Starts.{rows_in};
+
+use dual_restart::Warm;
+use exact_fraction::Exact;
+use limit_rows::{LimitRow, name_at};
+use linear_dict::Dict;
+use market_dict::{Stop, Terms, take_bounds, take_limit};
+use market_model::{Market, RowId};
+use plain_list::{List, Memory};
+use std::alloc::Global;
+
+/// The limits taken, in the order in which they were.
+#[derive(Drop)]
+pub(crate) struct Taken {
+    pub rows: List<LimitRow>,
+    pub names: List<RowId>,
+}
+
+/// What a round begins with.
+#[derive(Drop)]
+pub(crate) struct Hand<N: Exact> {
+    pub warm: Warm<N>,
+    pub terms: Terms<N>,
+    pub taken: Taken,
+}
+
+/// No limits.
+pub(crate) fn no_rows(alloc: Global) -> Taken
+    ensures rows { result.rows ≡ [] }
+    ensures names { result.names ≡ [] }
+{
+    Taken {
+        rows: List::new(alloc),
+        names: List::new(alloc),
+    }
+}
+
+/// A start of a dictionary.
+pub(crate) fn started<N: Exact>(dict: Dict<N>) -> Warm<N>
+    requires { dict.spent ≡ false }
+    ensures { result ≡ Some dict }
+{
+    let mut warm = Warm::new();
+    warm.keep(dict);
+    warm
+}
+
+/// Puts a limit behind those taken.
+fn put_row(market: &Market, taken: &mut Taken, row: LimitRow) -> Result<(), Memory>
+    requires row { Contains (rows market.now) (row_of row) }
+    ensures rows { IfOk result (λ _. taken.new.rows ≡ taken.old.rows ++ row ∷ []) }
+    ensures names { IfOk result (λ _. taken.new.names ≡ taken.old.names ++ row_id market.now (row_of row) ∷ []) }
+{
+    let _lines = market.lines();
+    let name = name_at(market, row);
+    taken.rows.push(row)?;
+    taken.names.push(name)
+}
+
+/// What is in hand with one limit more, which a best dispatch for those in hand breaks.
+pub(crate) fn with_row<N: Exact>(
+    alloc: Global,
+    market: &Market,
+    dict: Dict<N>,
+    terms: Terms<N>,
+    taken: Taken,
+    row: LimitRow,
+) -> Result<Hand<N>, Stop<N>>
+    requires holds { Holds market.now (rows_in taken) dict }
+    requires terms { AreTerms N.value market.now (rows_in taken) terms }
+    requires names { taken.names ≡ map (row_id market.now) (rows_in taken) }
+    requires row { Contains (rows market.now) (row_of row) }
+    requires broken { (x : Dispatch) × BestFor market.now (rows_in taken) x × Broken market.now x (row_of row) }
+    ensures hand { IfOk result (IsInHand N.value market.now) }
+    ensures rows { IfOk result (λ hand. rows_in hand.taken ≡ rows_in taken ++ row_of row ∷ []) }
+    ensures cause { IfErr result (StopsInRange N.value N.bound market.now (rows_in taken)) }
+{
+    let _lines = market.lines();
+    let mut dict = dict;
+    let mut terms = terms;
+    let mut taken = taken;
+    take_limit(alloc, market, &mut dict, row)?;
+    take_bounds(market, &mut terms, row)?;
+    put_row(market, &mut taken, row)?;
+    Ok(Hand {
+        warm: started(dict),
+        terms,
+        taken,
+    })
+}

@@ -1,0 +1,8 @@
+-- What is known of a dictionary that is kept from one run to the next.
+use Rattle.std.specs.Prelude.{◌≡◌, false, Option, Some, None}
+use Rattle.linear_dict.specs.Dictionaries.{Dictionary, IsDictionary}
+
+-- one that is kept is sound, and no pivot of it was refused
+abbrev pub IsStart : Option Dictionary → Type 0
+IsStart None = Unit {0}
+IsStart (Some d) = IsDictionary d × (d.spent ≡ false)

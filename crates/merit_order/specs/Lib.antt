@@ -1,3 +1,0 @@
-pub mod Clearing
-pub mod Filling
-pub mod Paying

@@ -1,0 +1,67 @@
+-- Files that stay as they were, and what was read of them.
+use Rattle.std.proofs.Common.{◌≡◌, ℕ, List, Result, Ok, Err, Option, Some, None, refl, sym, subst, ap, ◌∙◌}
+use Rattle.std.specs.Prelude.{IfOk, MatchResult}
+use Rattle.outside_store.specs.Files.{Files, SameFiles, Reads}
+use Rattle.outside_store.specs.declared.Store.{Ghosts}
+use Rattle.refusal_text.specs.declared.refusals.Refusal.{Refusal}
+use Rattle.market_inputs.specs.Files.{sized}
+use Rattle.market_inputs.proofs.FileLemmas.{sized-cut}
+use Rattle.sced.specs.Reading.{IsTable, ReadsTable}
+use Rattle.sced.specs.Runs.{OnlyReads}
+
+-- ---- files that stay as they were
+pub same_files : (files : Option Files) → SameFiles files files
+same_files None = tt
+same_files (Some f) = λ n. refl
+
+pub same_then : (a b c : Option Files) → SameFiles a b → SameFiles b c → SameFiles a c
+same_then None None None ab bc = tt
+same_then None None (Some h) ab bc = elim bc [ ]
+same_then None (Some g) None ab bc = elim ab [ ]
+same_then None (Some g) (Some h) ab bc = elim ab [ ]
+same_then (Some f) None None ab bc = elim ab [ ]
+same_then (Some f) None (Some h) ab bc = elim ab [ ]
+same_then (Some f) (Some g) None ab bc = elim bc [ ]
+same_then (Some f) (Some g) (Some h) ab bc = λ n. bc n ∙ ab n
+
+-- what was read later is what was there before
+pub reads-same : (old now : Option Files) (name bytes : List ℕ) → SameFiles old now → Reads now name 33554432 bytes → Reads old name 33554432 bytes
+reads-same None now name bytes same read = tt
+reads-same (Some f) None name bytes same read = absurd same
+reads-same (Some f) (Some h) name bytes same (whole, at, cut) = (whole, sym (same name) ∙ at, cut)
+
+pub table-same : (old now : Option Files) (name : Option (List ℕ)) (header bytes : List ℕ) → SameFiles old now → ReadsTable now name header bytes → ReadsTable old name header bytes
+table-same old now (Some name) header bytes same read = reads-same old now name bytes same read
+table-same old now None header bytes same read = read
+
+-- what only reads some files only reads those of a wider choice
+pub reads-of : {S : Type 0} (store : Ghosts S) (old new : S) (asked wider : List ℕ → Type 0) (failed : Type 0) → ((file : List ℕ) → asked file → wider file)
+    → OnlyReads store old new asked failed → OnlyReads store old new wider failed
+reads-of store old new asked wider failed within h = record {
+  same = h.same;
+  failed_read = λ f. let (file, is, rose) = h.failed_read f in (file, within file is, rose);
+  reads = h.reads;
+  writes = h.writes;
+}
+
+-- ---- files that are cut behind the first byte too many
+-- the whole bytes of a file that was read
+pub whole-file : (f : Files) (name bytes : List ℕ) → Reads (Some f) name 33554432 bytes
+    → (whole : List ℕ) × (f name ≡ Some whole) × ((file : Refusal) → sized file bytes ≡ sized file whole)
+whole-file f name bytes (whole, at, cut) = (whole, at, λ file. ap (sized file) cut ∙ sized-cut file whole)
+
+-- and of a table, which no file may be named for
+pub whole-table : (f : Files) (name : Option (List ℕ)) (header bytes : List ℕ) → ReadsTable (Some f) name header bytes
+    → (whole : List ℕ) × IsTable f name header whole × ((file : Refusal) → sized file bytes ≡ sized file whole)
+whole-table f (Some name) header bytes read = whole-file f name bytes read
+whole-table f None header bytes read = (bytes, read, λ file. refl)
+
+-- ---- outcomes
+-- what is right for an outcome is right for it once it is told
+pub if_ok-map : {A E : Type 0} (P Q : A → Type 0) (r : Result A E) → ((x : A) → P x → Q x) → IfOk r P → IfOk r Q
+if_ok-map P Q (Ok x) f right = f x right
+if_ok-map P Q (Err e) f right = tt
+
+pub told-ok : {A E F : Type 0} (P : A → Type 0) (Q : F → Type 0) (r : Result A F) (m : Result A E) → MatchResult r (λ x. m ≡ Ok x) Q → IfOk m P → IfOk r P
+told-ok P Q (Ok x) m is right = subst (λ n. IfOk n P) is right
+told-ok P Q (Err f) m is right = tt
