@@ -122,8 +122,10 @@ module _ (network : LiveNetwork) (kept : AreRows network.branch_rows (map (λ (b
     where
       inside : length before < length (before ++ r ∷ rest)
       inside = omega (arith, length-append before (r ∷ rest))
+
       here : get_or (before ++ r ∷ rest) (length before) 0 ≡ r
       here = get_or-append_seam before r rest 0
+
       new : ¬ Contains before r
       new (k, within, at) = are.distinct k (length before) r within inside (get_or_append_left before (r ∷ rest) r k within ∙ at ∙ sym (get_or-append_seam before r rest r))
 

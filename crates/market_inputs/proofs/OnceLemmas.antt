@@ -67,8 +67,10 @@ joined-rows rating matrices network h = by h.made h.is h.rest
     seen : (read : Result LiveNetwork NetFault) (n : LiveNetwork) → or_as refusal.Network read ≡ Ok n → read ≡ Ok n
     seen (Ok x) n is = cc is
     seen (Err e) n is = absurd (cc is)
+
     same : (n : LiveNetwork) → IsJoined n (Ok network) → n ≡ network
     same n (joined all) = refl
+
     by : (made : Result LiveNetwork Refusal) → network_in (branches.Read rating) matrices ≡ made → Onward made IsJoined (Ok network) → HasRows network
     by (Ok n) is rest = subst HasRows (same n rest) (network-rows rating matrices n (seen (network_of (branches.Read rating) matrices) n is))
     by (Err r) is rest = absurd (cc rest)

@@ -30,13 +30,13 @@ members-once [] (y ∷ ys) up up' to from = let (k, within, at) = from y (contai
 members-once (x ∷ xs) [] up up' to from = let (k, within, at) = to x (contains-first x xs) in absurd (omega (arith, within))
 members-once (x ∷ xs) (y ∷ ys) up up' to from =
     let same : x ≡ y =
-        ⊎_elim (λ e. sym e)
-        (λ far. ⊎_elim (λ e. e) (λ far'. absurd (let a = first-below y ys x up' far in let b = first-below x xs y up far' in omega (arith, a, b)))
-        (contains-cases x xs y (from y (contains-first y ys))))
-        (contains-cases y ys x (to x (contains-first x xs))) in
+    ⊎_elim (λ e. sym e)
+    (λ far. ⊎_elim (λ e. e) (λ far'. absurd (let a = first-below y ys x up' far in let b = first-below x xs y up far' in omega (arith, a, b)))
+    (contains-cases x xs y (from y (contains-first y ys))))
+    (contains-cases y ys x (to x (contains-first x xs))) in
     let inside : (p : ℕ) → Contains xs p → Contains ys p =
-        λ p here. ⊎_elim (λ (e : y ≡ p). absurd (let a = first-below x xs p up here in omega (arith, a, e, same))) (λ there. there) (contains-cases y ys p (to p (contains-next x xs p here))) in
+    λ p here. ⊎_elim (λ (e : y ≡ p). absurd (let a = first-below x xs p up here in omega (arith, a, e, same))) (λ there. there) (contains-cases y ys p (to p (contains-next x xs p here))) in
     let outside : (p : ℕ) → Contains ys p → Contains xs p =
-        λ p there. ⊎_elim (λ (e : x ≡ p). absurd (let a = first-below y ys p up' there in omega (arith, a, e, same))) (λ here. here) (contains-cases x xs p (from p (contains-next y ys p there))) in
+    λ p there. ⊎_elim (λ (e : x ≡ p). absurd (let a = first-below y ys p up' there in omega (arith, a, e, same))) (λ here. here) (contains-cases x xs p (from p (contains-next y ys p there))) in
     let rest = members-once xs ys (rise-tail x xs up) (rise-tail y ys up') inside outside in
     rw (same, rest) refl
