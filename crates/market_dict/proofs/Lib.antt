@@ -6,3 +6,4 @@ pub mod ReadingLemmas
 pub mod RefusalLaws
 pub mod StopLemmas
 pub mod TermLemmas
+pub mod TestMarkets

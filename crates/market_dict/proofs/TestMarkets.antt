@@ -1,0 +1,102 @@
+-- The market of the tests is one.
+use Rattle.std.specs.Prelude.{◌≡◌, ℕ, ◌<◌, ◌≤◌, ◌^◌, pos, List, [], ◌∷◌, length, Some, None, Contains, All, slice_index_or, refl}
+use Rattle.std.proofs.Common.{zero, suc, arith}
+use Rattle.std.proofs.lemmas.Int.{ints}
+use Rattle.std.proofs.lemmas.List.Elements.{All-cons, All-nil}
+use Rattle.market_data.specs.Participants.{IsBus, IsUnit}
+use Rattle.market_data.specs.declared.participants.Bus.{Bus}
+use Rattle.market_data.specs.declared.participants.Unit as unit
+use Rattle.market_model.specs.declared.participants.Block.{Block}
+use Rattle.market_model.specs.declared.participants.Line.{Line}
+use Rattle.market_model.specs.declared.participants.Parts.{Parts}
+use Rattle.market_model.specs.declared.participants.Side.{Side}
+use Rattle.market_model.specs.declared.participants.Side.TheVariants.{Sell, Buy}
+use Rattle.market_model.specs.Market.{IsMarket, IsBlock, IsLine, HasRoom}
+use Rattle.market_model.specs.Stairs.{stair_in}
+use Rattle.limit_rows.proofs.TestMarkets.{shifts, two_are_market}
+
+abbrev bus_of : ℕ → ℕ → ℕ → Bus
+bus_of number pd gs = record { number = number; pd = pos pd; gs = pos gs }
+
+abbrev unit_of : ℕ → ℕ → unit.Unit
+unit_of row bus = record { row = row; bus = bus; fixed = pos 0; up = pos 100; down = pos 0 }
+
+abbrev block_of : ℕ → ℕ → Block
+block_of u price = record { unit = u; side = Sell; quantity = pos 100; price = pos price }
+
+abbrev blocks : List Block
+blocks = block_of 0 10 ∷ block_of 1 30 ∷ []
+
+abbrev line_free : ℕ → Line
+line_free row = record { row = row; base = None; post = None; offset = pos 0 }
+
+abbrev line_limited : ℕ → Line
+line_limited limit = record { row = 2; base = Some (pos limit); post = None; offset = pos 0 }
+
+abbrev pub limited : ℕ → Parts
+limited limit = record {
+  buses = bus_of 1 0 0 ∷ bus_of 2 0 0 ∷ bus_of 3 50 10 ∷ [];
+  units = unit_of 1 0 ∷ unit_of 2 1 ∷ [];
+  blocks = blocks;
+  lines = line_free 1 ∷ line_limited limit ∷ line_free 3 ∷ [];
+  outages = [];
+  shift = shifts;
+  loss = [];
+}
+
+room_first : HasRoom blocks 0 (unit_of 1 0)
+unfolding stair_in
+room_first Sell = Prim.omega (arith, ints)
+room_first Buy = Prim.omega (arith, ints)
+
+room_second : HasRoom blocks 1 (unit_of 2 1)
+unfolding stair_in
+room_second Sell = Prim.omega (arith, ints)
+room_second Buy = Prim.omega (arith, ints)
+
+room_at : (place : ℕ) (d : unit.Unit) → place < 2 → HasRoom blocks place (slice_index_or (unit_of 1 0 ∷ unit_of 2 1 ∷ []) place d)
+room_at zero d h = room_first
+room_at (suc zero) d h = room_second
+room_at (suc (suc n)) d h = absurd (Prim.omega (arith, h))
+
+pub limited_is_market : (limit : ℕ) → IsMarket (limited limit)
+limited_is_market limit = record {
+  bus_count = Prim.omega arith;
+  unit_count = Prim.omega arith;
+  block_count = Prim.omega arith;
+  line_count = Prim.omega arith;
+  outage_count = Prim.omega arith;
+  buses = All-cons IsBus (bus_of 1 0 0) (bus_of 2 0 0 ∷ bus_of 3 50 10 ∷ []) (bus 1 0 0 (Prim.omega arith) (Prim.omega arith))
+      (All-cons IsBus (bus_of 2 0 0) (bus_of 3 50 10 ∷ []) (bus 2 0 0 (Prim.omega arith) (Prim.omega arith)) (All-cons IsBus (bus_of 3 50 10) [] (bus 3 50 10 (Prim.omega arith) (Prim.omega arith)) (All-nil IsBus)));
+  bus_numbers = two_are_market.bus_numbers;
+  units = All-cons (IsUnit 3) (unit_of 1 0) (unit_of 2 1 ∷ []) (unit_fits 1 0 (Prim.omega arith) (Prim.omega arith)) (All-cons (IsUnit 3) (unit_of 2 1) [] (unit_fits 2 1 (Prim.omega arith) (Prim.omega arith)) (All-nil (IsUnit 3)));
+  unit_rows = λ i j d p q e. absurd (rows_differ i j d p q e);
+  blocks = All-cons (IsBlock 2) (block_of 0 10) (block_of 1 30 ∷ []) (record { unit = Prim.omega arith; quantity = Prim.omega (arith, ints); price = Prim.omega (arith, ints) })
+      (All-cons (IsBlock 2) (block_of 1 30) [] (record { unit = Prim.omega arith; quantity = Prim.omega (arith, ints); price = Prim.omega (arith, ints) }) (All-nil (IsBlock 2)));
+  room = room_at;
+  lines = All-cons IsLine (line_free 1) (line_limited limit ∷ line_free 3 ∷ []) (free 1 (Prim.omega arith))
+      (All-cons IsLine (line_limited limit) (line_free 3 ∷ []) (record { row = Prim.omega arith; base = Prim.omega (arith, ints); post = tt; offset = Prim.omega (arith, ints) })
+      (All-cons IsLine (line_free 3) [] (free 3 (Prim.omega arith)) (All-nil IsLine)));
+  line_rows = two_are_market.line_rows;
+  outages = λ i d lt. absurd (Prim.omega (arith, lt));
+  outages_distinct = λ i j d p q. absurd (Prim.omega (arith, q));
+  shift = two_are_market.shift;
+  loss = record { each = λ i d lt. absurd (Prim.omega (arith, lt)); distinct = λ i j d p q. absurd (Prim.omega (arith, q)) };
+}
+  where
+    bus : (number pd gs : ℕ) → pd < 2 ^ 63 → gs < 2 ^ 63 → IsBus (bus_of number pd gs)
+    bus number pd gs p q = record { load = Prim.omega (arith, ints, p); shunt = Prim.omega (arith, ints, q) }
+
+    unit_fits : (row bus : ℕ) → 1 ≤ row → bus < 3 → IsUnit 3 (unit_of row bus)
+    unit_fits row bus p q = record { row = p; bus = q; fixed = Prim.omega (arith, ints); up = Prim.omega (arith, ints); down = Prim.omega (arith, ints) }
+
+    free : (row : ℕ) → 1 ≤ row → IsLine (line_free row)
+    free row p = record { row = p; base = tt; post = tt; offset = Prim.omega (arith, ints) }
+
+    rows_differ : (i j d : ℕ) → i < j → j < 2 → slice_index_or (1 ∷ 2 ∷ []) i d ≡ slice_index_or (1 ∷ 2 ∷ []) j d → ⊥
+    rows_differ zero zero d p q e = absurd (Prim.omega (arith, p))
+    rows_differ zero (suc zero) d p q e = absurd (Prim.omega (arith, e))
+    rows_differ zero (suc (suc j)) d p q e = absurd (Prim.omega (arith, q))
+    rows_differ (suc i) zero d p q e = absurd (Prim.omega (arith, p))
+    rows_differ (suc i) (suc zero) d p q e = absurd (Prim.omega (arith, p))
+    rows_differ (suc i) (suc (suc j)) d p q e = absurd (Prim.omega (arith, q))
