@@ -56,7 +56,7 @@ solve-requires g c = record {
   holds = (
     rows_in c.args.hand.taken,
     posed_system g.N.Exact.value c.args.market.now (rows_in c.args.hand.taken) c.args.hand.terms c.requires.terms c.slice.result.now c.slice-2.result.now c.slice.ensures c.slice-2.ensures c.args.hand.warm c.requires.start
-    c.lines-lines.ensures.market c.in_ok-posed.posed c.in_ok-posed.ensures.posed,
+        c.lines-lines.ensures.market c.in_ok-posed.posed c.in_ok-posed.ensures.posed,
   );
 }
 
@@ -141,8 +141,7 @@ with_row-requires-clause-broken g c =
     let best : IsFound value m rs (found.Best c.in-Best.dict c.in-Best.dispatch c.in-Best.duals) =
     subst (λ (f : Found g.row.N.Denot). IsFound value m rs f) c.in-Best.is (c.in_ok-dict.ensures.found rs holds) in
     let worst =
-    subst (λ (o : Option LimitRow). MatchOption o ((r : Row) → Contains (rows m) r → Within m r (flow m x r)) (λ row. (place : ℕ) × IsWorst m (flow m x) place (row_of row))) c.in-Some.is c.in_ok-row.ensures.screened in
-    (
+    subst (λ (o : Option LimitRow). MatchOption o ((r : Row) → Contains (rows m) r → Within m r (flow m x r)) (λ row. (place : ℕ) × IsWorst m (flow m x) place (row_of row))) c.in-Some.is c.in_ok-row.ensures.screened in (
       x,
       best_for m rs x (duals_at value c.in-Best.duals) c.lines-lines.ensures.market (subst (λ xs. IsSolvedBy m rs (dispatch_of value xs) (duals_at value c.in-Best.duals)) (sym c.slice-3.ensures) best.1),
       worst_broken m x worst.0 (row_of c.in-Some.row) worst.1,
@@ -201,8 +200,7 @@ returns-in_ok-with_row-in-Some-clause-round g c =
     let best : IsFound value m rs (found.Best c.in-Best.dict c.in-Best.dispatch c.in-Best.duals) =
     subst (λ (f : Found g.row.N.Denot). IsFound value m rs f) c.in-Best.is (c.in_ok-dict.ensures.found rs holds) in
     let worst =
-    subst (λ (o : Option LimitRow). MatchOption o ((r : Row) → Contains (rows m) r → Within m r (flow m x r)) (λ row. (place : ℕ) × IsWorst m (flow m x) place (row_of row))) c.in-Some.is c.in_ok-row.ensures.screened in
-    (
+    subst (λ (o : Option LimitRow). MatchOption o ((r : Row) → Contains (rows m) r → Within m r (flow m x r)) (λ row. (place : ℕ) × IsWorst m (flow m x) place (row_of row))) c.in-Some.is c.in_ok-row.ensures.screened in (
       c.in_ok-with_row-in-Some.ensures.hand,
       (
         row_of c.in-Some.row,
@@ -225,8 +223,7 @@ returns-in_ok-answer-in-None-clause-round g c =
     posed_system value m rs c.args.hand.terms c.requires.terms c.slice.result.now c.slice-2.result.now c.slice.ensures c.slice-2.ensures c.args.hand.warm c.requires.start
     c.lines-lines.ensures.market c.in_ok-posed.posed c.in_ok-posed.ensures.posed in
     let best : IsFound value m rs (found.Best c.in-Best.dict c.in-Best.dispatch c.in-Best.duals) =
-    subst (λ (f : Found g.row.N.Denot). IsFound value m rs f) c.in-Best.is (c.in_ok-dict.ensures.found rs holds) in
-    (
+    subst (λ (f : Found g.row.N.Denot). IsFound value m rs f) c.in-Best.is (c.in_ok-dict.ensures.found rs holds) in (
       record {
         holds = best.0;
         names = c.requires.names;
