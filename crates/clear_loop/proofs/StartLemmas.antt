@@ -1,5 +1,5 @@
 -- A start that fits the frame of a market, and what a clear makes of it.
-use Rattle.std.specs.Prelude.{◌≡◌, ℕ, ◌<◌, List, [], length, map, All, AllPairs, Option, Some, None, Result, Ok, Err, Contains, slice_index_or, refl}
+use Rattle.std.specs.Prelude.{◌≡◌, ℕ, ◌<◌, List, [], length, map, All, Option, Some, None, Result, Ok, Err, Contains}
 use Rattle.std.proofs.Common.{arith, ap, sym, subst, ◌∙◌, get_or}
 use Rattle.std.proofs.lemmas.List.{get_or-map, length-map}
 use Rattle.fraction_theory.specs.Fraction.{Fraction}
