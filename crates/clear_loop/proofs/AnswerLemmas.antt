@@ -1,5 +1,5 @@
 -- The answer of a dispatch and duals is right.
-use Rattle.std.specs.Prelude.{◌≡◌, ℕ, ◌+◌, ◌<◌, pos, List, length, map, refl}
+use Rattle.std.specs.Prelude.{◌≡◌, ℕ, ◌+◌, ◌<◌, pos, List, length, map}
 use Rattle.std.proofs.Common.{arith, ap, sym, ◌∙◌, get_or}
 use Rattle.std.proofs.lemmas.List.{length-map}
 use Rattle.std.proofs.lemmas.List.FromFn.{length-map-range_with_len, get_or-map-range_with_len}
@@ -8,7 +8,7 @@ use Rattle.market_model.specs.declared.answered.Duals.{Duals}
 use Rattle.market_model.specs.declared.answered.Money.{Money}
 use Rattle.market_model.specs.declared.answered.Price.{Price}
 use Rattle.market_model.specs.declared.participants.Parts.{Parts}
-use Rattle.market_model.specs.Dispatch.{Dispatch, places}
+use Rattle.market_model.specs.Dispatch.{places}
 use Rattle.market_model.specs.Market.{IsMarket}
 use Rattle.market_model.specs.Optimality.{Feasible, Supports, ProperDuals, bus_price, congestion, welfare}
 use Rattle.market_model.specs.RightAnswers.{IsRight}

@@ -3,7 +3,7 @@ use Rattle.std.specs.Prelude.{◌≡◌, ◌⊎◌, ℕ, ◌+◌, ◌-◌, ◌<�
 use Rattle.std.proofs.Common.{arith, inl, inr, ap, ap₂, sym, subst, ◌∙◌, get_or}
 use Rattle.std.proofs.lemmas.List.{get_or-append_right}
 use Rattle.std.proofs.lemmas.List.FromFn.{length-map-range_with_len, get_or-map-range_with_len}
-use Rattle.fraction_theory.specs.Fraction.{Fraction, whole, neg_ℚ, ◌+ℚ◌, ◌-ℚ◌, ◌*ℚ◌}
+use Rattle.fraction_theory.specs.Fraction.{Fraction, whole, neg_ℚ, ◌-ℚ◌}
 use Rattle.fraction_theory.specs.Order.{◌<ℚ◌, ◌≤ℚ◌}
 use Rattle.fraction_theory.specs.Signs.{sign_of}
 use Rattle.fraction_theory.specs.Sums.{Plain, Product}
@@ -14,7 +14,7 @@ use Rattle.fraction_theory.proofs.Ring.{at, pneg, pone}
 use Rattle.market_model.specs.declared.answered.RowId.{RowId}
 use Rattle.market_model.specs.declared.participants.Parts.{Parts}
 use Rattle.market_model.specs.Dispatch.{Dispatch, places, injection}
-use Rattle.market_model.specs.Excess.{size_by, size_of, excess, IsWorst}
+use Rattle.market_model.specs.Excess.{size_by, excess, IsWorst}
 use Rattle.market_model.specs.LimitRows.{Cause, Base, After, Row, rows, row_id, limit, line_flow, loss_factor, flow}
 use Rattle.market_model.specs.Market.{IsMarket}
 use Rattle.market_model.specs.NamedSums.{SameSize}
@@ -24,8 +24,8 @@ use Rattle.limit_rows.specs.Groups.{cause_of}
 use Rattle.limit_rows.specs.Places.{row_of}
 use Rattle.limit_rows.specs.declared.places.LimitRow.{LimitRow}
 use Rattle.limit_rows.proofs.ApartLemmas.{names_apart}
-use Rattle.limit_rows.proofs.FactorLemmas.{IsLost, stands}
-use Rattle.limit_screen.specs.Flows.{flow_by, flow_terms, flow_terms_in, flows_at, line_in}
+use Rattle.limit_rows.proofs.FactorLemmas.{IsLost}
+use Rattle.limit_screen.specs.Flows.{flow_by, flow_terms_in, flows_at, line_in}
 use Rattle.limit_screen.specs.Screening.{AllHold, IsWorstNamed}
 use Rattle.limit_screen.proofs.ScreenLemmas.{below_nil, law_of_row_flows, listed_row}
 use Rattle.market_system.proofs.DualLists.{one_row}

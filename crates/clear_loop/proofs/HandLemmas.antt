@@ -1,6 +1,6 @@
 -- What is in hand, and how it grows.
-use Rattle.std.specs.Prelude.{◌≡◌, ℕ, ◌+◌, ◌-◌, ◌<◌, ◌≤◌, List, [], ◌∷◌, ◌++◌, length, map, Option, Some, None, Contains, MatchOption, refl}
-use Rattle.std.proofs.Common.{arith, ap, ap₂, sym, subst, ◌∙◌, length-append}
+use Rattle.std.specs.Prelude.{◌≡◌, ◌+◌, ◌-◌, ◌<◌, ◌≤◌, List, [], ◌∷◌, ◌++◌, length, map, Option, Some, Contains}
+use Rattle.std.proofs.Common.{arith, ap, sym, subst, ◌∙◌, length-append}
 use Rattle.std.proofs.lemmas.List.{length-map, map-append}
 use Rattle.std.proofs.lemmas.List.FromFn.{length-range_with_len}
 use Rattle.fraction_theory.specs.Fraction.{Fraction}
@@ -23,7 +23,7 @@ use Rattle.market_dict.specs.Findings.{IsSolvedBy}
 use Rattle.market_dict.specs.Holding.{Holds}
 use Rattle.market_dict.specs.Terms.{AreTerms}
 use Rattle.market_dict.specs.declared.terms.Terms.{Terms}
-use Rattle.clear_loop.specs.Rounds.{GrowsByOne, HoldsStart, IsInHand}
+use Rattle.clear_loop.specs.Rounds.{GrowsByOne, IsInHand}
 use Rattle.clear_loop.specs.Starts.{rows_in}
 use Rattle.clear_loop.specs.declared.hand.Taken.{Taken}
 

@@ -3,4 +3,5 @@ pub mod BrokenLemmas
 pub mod HandLemmas
 pub mod PosingLemmas
 pub mod SolvedLemmas
+pub mod StartLemmas
 pub mod StopLemmas

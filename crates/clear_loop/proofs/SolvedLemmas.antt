@@ -1,5 +1,5 @@
 -- What is refused at a dispatch that solves the market over rows in hand is a working pair of the market over these rows.
-use Rattle.std.specs.Prelude.{◌≡◌, ◌⊎◌, ℕ, ◌<◌, ◌||◌, pos, Bool, true, false, List, [], ◌∷◌, ◌++◌, length, map, if◌then◌else◌, All, Contains, refl}
+use Rattle.std.specs.Prelude.{◌≡◌, ◌⊎◌, ℕ, ◌<◌, ◌||◌, pos, Bool, true, false, List, [], ◌∷◌, ◌++◌, length, if◌then◌else◌, Contains, refl}
 use Rattle.std.proofs.Common.{inl, inr, ap, ap₂, sym, subst, ◌∙◌}
 use Rattle.fraction_theory.specs.Fraction.{Fraction, whole, neg_ℚ}
 use Rattle.fraction_theory.specs.Order.{◌<ℚ◌}
@@ -9,20 +9,20 @@ use Rattle.fraction_theory.proofs.ListSums.{Contains-head, Contains-cons, Contai
 use Rattle.fraction_theory.proofs.OrderLaws.{<ℚ_irrefl}
 use Rattle.exact_fraction.specs.declared.Passed.{Passed}
 use Rattle.exact_fraction.specs.declared.Op.TheVariants.{Plus, Minus}
-use Rattle.linear_system.specs.Choices.{Choice, IsChoice, reduced}
+use Rattle.linear_system.specs.Choices.{Choice, reduced}
 use Rattle.market_model.specs.declared.answered.Dual.{Dual}
 use Rattle.market_model.specs.declared.answered.Duals.{Duals}
 use Rattle.market_model.specs.declared.answered.RowId.{RowId}
 use Rattle.market_model.specs.declared.participants.Parts.{Parts}
-use Rattle.market_model.specs.Dispatch.{Dispatch, places, unit_at, output, demand, injection, output_terms}
+use Rattle.market_model.specs.Dispatch.{Dispatch, unit_at, output, demand, injection, output_terms}
 use Rattle.market_model.specs.Excess.{size_of}
 use Rattle.market_model.specs.LimitRows.{Cause, Base, After, Row, rows, row_id, limit, line_flow, flow}
 use Rattle.market_model.specs.Market.{IsMarket}
-use Rattle.market_model.specs.NamedSums.{SameSize, IsAddedIn, IsRefusedIn, IsRefusal}
+use Rattle.market_model.specs.NamedSums.{IsAddedIn, IsRefusedIn, IsRefusal}
 use Rattle.market_model.specs.Optimality.{Feasible, Supports, IsOneSided, ProperDuals, named_rows, is_named, same_id, up_in, down_in, bus_price, unit_price, congestion, congestion_terms, welfare_terms}
 use Rattle.market_model.specs.Settlement.{rent_terms, surplus_terms}
 use Rattle.market_system.specs.Growth.{BestFor}
-use Rattle.market_system.specs.MarketNumbers.{IsBest, IsInjecting}
+use Rattle.market_system.specs.MarketNumbers.{IsInjecting}
 use Rattle.market_system.specs.MarketSystem.{system_of, balance_name, row_name, is_in, choice_dispatch, choice_duals}
 use Rattle.market_system.specs.Outcomes.{PricesOnly}
 use Rattle.market_system.specs.PairLaw.{RefusalsArePairs, InjectingPairs, BestPairs}
@@ -33,7 +33,7 @@ use Rattle.market_system.proofs.PairCases.{law_of_the_pairs, of_base_flow}
 use Rattle.market_system.proofs.RowOrder.{is_in-in, is_in-from}
 use Rattle.limit_rows.proofs.ApartLemmas.{names_apart}
 use Rattle.limit_rows.proofs.FactorLemmas.{IsLost, stands}
-use Rattle.limit_screen.specs.Flows.{flow_by, flow_terms_in, flows_at, line_in, IsFlowsRefusal, of_injection as flows_of_injection, of_line as flows_of_line}
+use Rattle.limit_screen.specs.Flows.{flow_terms_in, flows_at, line_in, IsFlowsRefusal, of_injection as flows_of_injection, of_line as flows_of_line}
 use Rattle.limit_screen.specs.Screening.{IsRowRefusal, IsScreenRefusal, of_flow as row_of_flow, of_limit as row_of_limit}
 use Rattle.limit_screen.proofs.FlowLemmas.{map_same}
 use Rattle.bus_prices.specs.Prices.{IsPriceRefusal, of_congestion, of_total}

@@ -1,6 +1,6 @@
 -- What stops a clear is a working pair over rows that are reached.
-use Rattle.std.specs.Prelude.{◌≡◌, ◌⊎◌, ℕ, List, Contains}
-use Rattle.std.proofs.Common.{inl, inr, subst}
+use Rattle.std.specs.Prelude.{◌⊎◌, ℕ, List}
+use Rattle.std.proofs.Common.{inl, inr}
 use Rattle.fraction_theory.specs.Fraction.{Fraction}
 use Rattle.linear_system.specs.Choices.{Choice, IsChoice}
 use Rattle.market_model.specs.declared.answered.Duals.{Duals}

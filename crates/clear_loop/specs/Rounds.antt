@@ -19,7 +19,6 @@ use Rattle.market_dict.specs.Holding.{Holds}
 use Rattle.market_dict.specs.Terms.{AreTerms}
 use Rattle.market_dict.specs.declared.stop.Stop.{Stop}
 use Rattle.clear_loop.specs.declared.hand.Hand.{Hand}
-use Rattle.clear_loop.specs.declared.hand.Taken.{Taken}
 use Rattle.clear_loop.specs.declared.rounds.Ended.{Ended}
 use Rattle.clear_loop.specs.declared.rounds.Round.{Round}
 use Rattle.clear_loop.specs.declared.rounds.Round.TheVariants as round

@@ -9,7 +9,7 @@ ghost use Rattle.clear_loop.specs.Rounds.{HoldsStart, IsInHand, StopsInRange};
 ghost use Rattle.clear_loop.specs.Starts.{rows_in};
 
 use crate::fault::ClearFault;
-use crate::hand::{Hand, Taken, no_rows, started};
+use crate::hand::{Hand, Taken, rows_or_none, started};
 use crate::rounds::{Ended, all_rounds};
 use dual_restart::Warm;
 use exact_fraction::Exact;
@@ -88,10 +88,7 @@ fn first_hand<N: Exact>(
 {
     let _lines = market.lines();
     let warm = warmed(alloc, market, clearer.warm)?;
-    let taken = match clearer.taken {
-        Some(taken) => taken,
-        None => no_rows(alloc),
-    };
+    let taken = rows_or_none(alloc, clearer.taken);
     let terms = terms_of(alloc, market, taken.rows.slice())?;
     Ok(Hand { warm, terms, taken })
 }
@@ -141,9 +138,13 @@ impl<N: Exact> Clearer<N> {
     {
         let before = std::mem::replace(self, unused());
         let hand = first_hand(alloc, market, before)?;
-        let ended = all_rounds(alloc, market, hand)?;
-        *self = keeping(ended.dict, ended.taken);
-        match ended.answer {
+        let Ended {
+            dict,
+            taken,
+            answer,
+        } = all_rounds(alloc, market, hand)?;
+        *self = keeping(dict, taken);
+        match answer {
             Ok(answer) => Ok(answer),
             Err(farkas) => Err(ClearFault::Infeasible(farkas)),
         }

@@ -8,7 +8,7 @@ ghost use Rattle.limit_rows.specs.Places.{row_of};
 ghost use Rattle.market_dict.specs.Holding.{Holds};
 ghost use Rattle.market_dict.specs.Terms.{AreTerms};
 ghost use Rattle.clear_loop.specs.Rounds.{IsInHand, StopsInRange};
-ghost use Rattle.clear_loop.specs.Starts.{rows_in};
+ghost use Rattle.clear_loop.specs.Starts.{names_taken, rows_in, rows_taken};
 
 use dual_restart::Warm;
 use exact_fraction::Exact;
@@ -34,14 +34,17 @@ pub(crate) struct Hand<N: Exact> {
     pub taken: Taken,
 }
 
-/// No limits.
-pub(crate) fn no_rows(alloc: Global) -> Taken
-    ensures rows { result.rows ≡ [] }
-    ensures names { result.names ≡ [] }
+/// The limits taken, or none.
+pub(crate) fn rows_or_none(alloc: Global, taken: Option<Taken>) -> Taken
+    ensures rows { rows_in result ≡ rows_taken taken }
+    ensures names { result.names ≡ names_taken taken }
 {
-    Taken {
-        rows: List::new(alloc),
-        names: List::new(alloc),
+    match taken {
+        Some(taken) => taken,
+        None => Taken {
+            rows: List::new(alloc),
+            names: List::new(alloc),
+        },
     }
 }
 

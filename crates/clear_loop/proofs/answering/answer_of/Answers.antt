@@ -1,6 +1,5 @@
-use Rattle.std.proofs.Common.{Err, Ok, ◌≡◌, ◌∙◌, ap, sym, subst, length, map, List}
+use Rattle.std.proofs.Common.{Err, ◌≡◌, ◌∙◌, ap, subst, length}
 use Rattle.std.proofs.lemmas.Result.{err_from_is_err_and}
-use Rattle.market_model.specs.declared.answered.Price.{Price}
 use Rattle.market_model.specs.Optimality.{welfare, welfare_terms}
 use Rattle.market_model.specs.NamedSums.{IsRefusedIn}
 use Rattle.market_model.specs.Valued.{duals_at, money_at, passed_at}

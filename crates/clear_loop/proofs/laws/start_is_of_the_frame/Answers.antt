@@ -1,10 +1,10 @@
-use Rattle.std.proofs.Common.{Some, None, ◌≡◌, ◌∙◌, ap, map}
+use Rattle.std.proofs.Common.{Some, None, ◌∙◌, ap, map}
 use Rattle.std.specs.Prelude.{List, Option}
 use Rattle.linear_dict.specs.Dictionaries.{Dictionary}
 use Rattle.market_model.specs.declared.answered.RowId.{RowId}
 use Rattle.market_model.specs.declared.participants.Parts.{Parts}
 use Rattle.market_model.specs.Frame.{SameFrame}
-use Rattle.market_model.specs.LimitRows.{Row, row_id}
+use Rattle.market_model.specs.LimitRows.{Row}
 use Rattle.market_system.proofs.FrameLaws.{law_of_the_frame}
 use Rattle.market_dict.proofs.HoldingLaws.{holds_in_frame}
 use Rattle.clear_loop.specs.Keeping.{IsStartOf}

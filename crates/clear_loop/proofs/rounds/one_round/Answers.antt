@@ -1,24 +1,16 @@
-use Rattle.std.proofs.Common.{Err, Ok, Some, None, ◌≡◌, ◌∙◌, ap, sym, subst, refl, length, map}
-use Rattle.std.specs.Prelude.{ℕ, All, List, Option, MatchOption, Contains}
+use Rattle.std.proofs.Common.{Err, ◌≡◌, ◌∙◌, ap, sym, subst, refl, length}
+use Rattle.std.specs.Prelude.{ℕ, Option, MatchOption, Contains}
 use Rattle.std.proofs.lemmas.Result.{err_from_is_err_and}
-use Rattle.fraction_theory.specs.Order.{◌≤ℚ◌}
-use Rattle.market_model.specs.declared.answered.Duals.{Duals}
-use Rattle.market_model.specs.declared.participants.Parts.{Parts}
-use Rattle.market_model.specs.Dispatch.{Dispatch}
 use Rattle.market_model.specs.LimitRows.{Row, flow, rows}
 use Rattle.market_model.specs.Excess.{IsWorst}
-use Rattle.market_model.specs.Market.{IsMarket}
 use Rattle.market_model.specs.Optimality.{Feasible, Within}
-use Rattle.market_model.specs.Valued.{duals_at, passed_at}
-use Rattle.market_system.specs.Growth.{BestFor, Broken}
+use Rattle.market_model.specs.Valued.{duals_at}
 use Rattle.market_system.specs.Outcomes.{PricesOnly}
 use Rattle.market_system.proofs.GrowthLaws.{growth_none}
 use Rattle.limit_rows.specs.Places.{row_of}
 use Rattle.limit_rows.specs.declared.places.LimitRow.{LimitRow}
-use Rattle.limit_screen.specs.Flows.{dispatch_of, flows_at, line_in, IsFlowsRefusal}
-use Rattle.limit_screen.specs.Screening.{IsScreenRefusal}
-use Rattle.market_dict.specs.Findings.{IsFound, IsSolvedBy, OnPassed}
-use Rattle.market_dict.specs.Holding.{Holds, HoldsSystem}
+use Rattle.limit_screen.specs.Flows.{dispatch_of}
+use Rattle.market_dict.specs.Findings.{IsFound, IsSolvedBy}
 use Rattle.market_dict.specs.declared.solving.Found.{Found}
 use Rattle.market_dict.specs.declared.solving.Found.TheVariants as found
 use Rattle.market_dict.specs.declared.stop.Stop.TheVariants as stop

@@ -1,5 +1,5 @@
 use Rattle.std.proofs.lemmas.Grind.{common_steps}
-use Rattle.std.proofs.Common.{arith, Err, Some, None, ◌⊎◌, inl, inr, ap, sym, subst, ◌∙◌, ◌≡◌, map}
+use Rattle.std.proofs.Common.{arith, Err, inl, inr, ap, subst, ◌∙◌, ◌≡◌, map}
 use Rattle.std.specs.Prelude.{List, MatchOption, Option}
 use Rattle.market_model.specs.declared.answered.RowId.{RowId}
 use Rattle.std.proofs.lemmas.Result.{err_from_is_err_and}

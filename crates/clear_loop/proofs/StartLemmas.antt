@@ -1,0 +1,91 @@
+-- A start that fits the frame of a market, and what a clear makes of it.
+use Rattle.std.specs.Prelude.{◌≡◌, ℕ, ◌<◌, List, [], length, map, All, Option, Some, None, Result, Ok, Err, Contains}
+use Rattle.std.proofs.Common.{arith, ap, sym, subst, ◌∙◌, get_or}
+use Rattle.std.proofs.lemmas.List.{get_or-map, length-map}
+use Rattle.fraction_theory.specs.Fraction.{Fraction}
+use Rattle.linear_dict.specs.Dictionaries.{Dictionary, choice_of}
+use Rattle.market_model.specs.declared.answered.Answer.{Answer}
+use Rattle.market_model.specs.declared.answered.Farkas.{Farkas}
+use Rattle.market_model.specs.declared.answered.RowId.{RowId}
+use Rattle.market_model.specs.declared.participants.Parts.{Parts}
+use Rattle.market_model.specs.LimitRows.{Row, rows as rows_of_market, row_id}
+use Rattle.market_model.specs.Market.{IsMarket}
+use Rattle.market_model.specs.Valued.{duals_at, passed_at}
+use Rattle.market_system.specs.Growth.{Growth}
+use Rattle.market_system.specs.Outcomes.{PricesOnly}
+use Rattle.market_system.specs.SolvedLaws.{AreRows}
+use Rattle.market_system.proofs.GrowthLaws.{growth_none}
+use Rattle.limit_rows.specs.Places.{row_of}
+use Rattle.limit_rows.specs.declared.places.LimitRow.{LimitRow}
+use Rattle.market_dict.specs.Findings.{OnPassed}
+use Rattle.market_dict.specs.Refusals.{IsTermsRefusal}
+use Rattle.market_dict.specs.Terms.{AreTerms}
+use Rattle.market_dict.specs.declared.stop.Stop.{Stop}
+use Rattle.market_dict.specs.declared.stop.Stop.TheVariants as stop
+use Rattle.market_dict.specs.declared.terms.Terms.{Terms}
+use Rattle.market_dict.proofs.HoldingLaws.{holds_choice}
+use Rattle.clear_loop.specs.Clearing.{ClearsTo}
+use Rattle.clear_loop.specs.Faults.{fault_of}
+use Rattle.clear_loop.specs.Keeping.{Kept, FitsFrame, IsStartOf}
+use Rattle.clear_loop.specs.Rounds.{HoldsStart, IsEnd, IsEnded, IsInHand, StopsInRange}
+use Rattle.clear_loop.specs.Starts.{kept_as, names_taken, rows_in, rows_taken}
+use Rattle.clear_loop.specs.declared.fault.ClearFault.TheVariants as why
+use Rattle.clear_loop.specs.declared.hand.Taken.{Taken}
+use Rattle.clear_loop.specs.declared.rounds.Ended.{Ended}
+use Rattle.clear_loop.proofs.StopLemmas.{terms_stop}
+
+-- ---- a start
+pub start_named : (m : Parts) (rs : List Row) (names : List RowId) (start : Option Dictionary) → IsStartOf m rs names start → names ≡ map (row_id m) rs
+start_named m rs names None is = is.1 ∙ sym (ap (map (row_id m)) is.0)
+start_named m rs names (Some d) is = is.1
+
+no_rows : (m : Parts) → AreRows m []
+no_rows m = record { rows = λ r (k, lt, e). absurd (Prim.omega arith); distinct = λ i j d lt inside. absurd (Prim.omega arith) }
+
+pub start_rows : (m : Parts) (rs : List Row) (names : List RowId) (start : Option Dictionary) → IsStartOf m rs names start → AreRows m rs
+start_rows m rs names None is = subst (AreRows m) (sym is.0) (no_rows m)
+start_rows m rs names (Some d) is = is.0.limits
+
+-- ---- what the first round begins with
+module _ (m : Parts) (k : Kept) (w : Option Dictionary) (t : Option Taken) (view : kept_as w t ≡ k) (fits : FitsFrame m k) (taken : Taken) (rows : rows_in taken ≡ rows_taken t) (names : taken.names ≡ names_taken t) where
+  pub first_rows : rows_in taken ≡ k.rows
+  first_rows = rows ∙ ap (λ (j : Kept). j.rows) view
+
+  first_names : taken.names ≡ map (row_id m) (rows_in taken)
+  first_names = names ∙ ap (λ (j : Kept). j.names) view ∙ start_named m k.rows k.names k.dict fits ∙ sym (ap (map (row_id m)) first_rows)
+
+  pub first_inside : (ls : List LimitRow) → ls ≡ taken.rows → All (λ r. Contains (rows_of_market m) (row_of r)) ls
+  first_inside ls same i d lt =
+      let are : AreRows m (rows_in taken) = subst (AreRows m) (sym first_rows) (start_rows m k.rows k.names k.dict fits) in
+      let r : Row = row_of (get_or ls i d) in
+      let lt' : i < length (map row_of ls) = Prim.omega (arith, lt, length-map ls row_of) in
+      let here : Contains (map row_of ls) r = (i, lt', get_or-map row_of ls i d r lt) in
+      are.rows r (subst (λ (xs : List LimitRow). Contains (map row_of xs) r) same here)
+
+  module _ {N : Type 0} (worth : N → Fraction) (warm : Option Dictionary) (start : HoldsStart m k.rows warm) where
+    pub first_stop : (bound : ℕ) (s : Stop N) → IsMarket m → OnPassed s (λ p. IsTermsRefusal m bound (passed_at worth p)) → StopsInRange worth bound m k.rows s
+    first_stop bound s market refused = terms_stop worth bound m k.rows k.rows (choice_of start.0) s market (growth_none m k.rows) (holds_choice m k.rows start.0 market start.2) refused
+
+    pub first_in_hand : (terms : Terms N) (ls : List LimitRow) → ls ≡ taken.rows → AreTerms worth m (map row_of ls) terms → IsInHand worth m (record { warm = warm; terms = terms; taken = taken })
+    first_in_hand terms ls same are = record {
+      start = subst (λ g. HoldsStart m g warm) (sym first_rows) start;
+      terms = subst (λ (xs : List LimitRow). AreTerms worth m (map row_of xs) terms) same are;
+      names = first_names;
+    }
+
+-- ---- how a clear ends
+module _ {N : Type 0} (worth : N → Fraction) (bound : ℕ) (m : Parts) (before after : List Row) (are : AreRows m before) where
+  pub stopped_clear : (s : Stop N) → after ≡ [] → StopsInRange worth bound m before s → ClearsTo worth bound m before (Err (fault_of s)) after
+  stopped_clear (stop.Passed p) none range = record { rows = are; right = range; taken = none; priced = tt }
+  stopped_clear stop.Memory none range = tt
+
+  module _ (e : Ended N) (ended : IsEnded worth m e) (grown : Growth m before (rows_in e.taken)) (same : after ≡ rows_in e.taken) where
+    pub answered_clear : (a : Answer N) → e.answer ≡ Ok a → ClearsTo worth bound m before (Ok a) after
+    answered_clear a is =
+        let end : IsEnd worth m (rows_in e.taken) (Ok a) = subst (λ (r : Result (Answer N) (Farkas N)). IsEnd worth m (rows_in e.taken) r) is ended.end in
+        record { rows = are; right = end.1; taken = subst (Growth m before) (sym same) grown; priced = subst (λ g. PricesOnly m g (duals_at worth a.duals)) (sym same) end.2 }
+
+    pub infeasible_clear : (f : Farkas N) → e.answer ≡ Err f → ClearsTo worth bound m before (Err (why.Infeasible f)) after
+    infeasible_clear f is =
+        let end : IsEnd worth m (rows_in e.taken) (Err f) = subst (λ (r : Result (Answer N) (Farkas N)). IsEnd worth m (rows_in e.taken) r) is ended.end in
+        record { rows = are; right = end.0; taken = subst (Growth m before) (sym same) grown; priced = subst (λ g. PricesOnly m g (duals_at worth f.duals)) (sym same) end.1 }
