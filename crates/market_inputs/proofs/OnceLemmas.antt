@@ -1,5 +1,5 @@
 -- Where bytes stand for something, they stand for nothing else.
-use Rattle.std.proofs.Common.{◌≡◌, ◌∙◌, refl, sym, subst, ℕ, List, Result, Ok, Err}
+use Rattle.std.proofs.Common.{◌≡◌, ◌∙◌, sym, subst, ℕ, List, Result, Ok, Err}
 use Rattle.market_model.specs.declared.participants.Parts.{Parts}
 use Rattle.refusal_text.specs.declared.refusals.Refusal.{Refusal}
 use Rattle.market_inputs.specs.Pooling.{IsPoolMarket}

@@ -1,4 +1,4 @@
-use Rattle.std.proofs.Common.{◌≡◌, subst, Err}
+use Rattle.std.proofs.Common.{subst, Err}
 use Rattle.refusal_text.specs.declared.refusals.Input.TheVariants as input
 use Rattle.refusal_text.specs.declared.refusals.Refusal.TheVariants as refusal
 use Rattle.market_inputs.specs.Checking.{AreInputs}
