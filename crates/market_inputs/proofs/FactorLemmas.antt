@@ -5,7 +5,7 @@ use Rattle.std.specs.List.{enumerate_from, flat_map}
 use Rattle.std.proofs.lemmas.List.{drop_all, drop_more}
 use Rattle.std.proofs.lemmas.List.Elements.{All-append, All-cons, All-nil, All-weaker}
 use Rattle.std.proofs.lemmas.List.Kept.{AllPairs-cons}
-use Rattle.market_model.specs.Market.{IsFactor, AreFactors}
+use Rattle.market_model.specs.Market.{AreFactors}
 use Rattle.market_model.specs.declared.participants.Factor.{Factor}
 use Rattle.market_data.specs.Scales.{most_factor}
 use Rattle.market_inputs.specs.Clearing.{AreSmall, factors_by, factors_of_line, unless_0}

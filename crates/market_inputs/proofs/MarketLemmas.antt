@@ -1,12 +1,11 @@
 -- The markets of files keep what every market keeps.
-use Rattle.std.proofs.Common.{◌≡◌, ◌≢◌, ◌≤◌, ◌<◌, ℕ, ℤ, pos, List, [], ◌∷◌, length, map, get_or, refl, sym, subst, ap, ◌∙◌, arith}
+use Rattle.std.proofs.Common.{◌≡◌, ◌≢◌, ℕ, ℤ, pos, List, [], ◌∷◌, length, map, get_or, refl, sym, subst, ap, ◌∙◌, arith}
 use Rattle.std.specs.Prelude.{All, AllPairs, Contains, IfSome, Option, Some, None, ◌≤ℤ◌}
 use Rattle.std.proofs.lemmas.List.{length-map, get_or-map}
 use Rattle.std.proofs.lemmas.List.Elements.{All-map}
 use Rattle.std.proofs.lemmas.Simd.{map-map}
-use Rattle.market_data.specs.Participants.{IsDatum, IsUnit}
+use Rattle.market_data.specs.Participants.{IsDatum}
 use Rattle.market_data.specs.declared.participants.Unit as unit
-use Rattle.market_model.specs.declared.participants.Factor.{Factor}
 use Rattle.market_model.specs.declared.participants.Line.{Line}
 use Rattle.market_model.specs.Market.{IsLine, IsMarket}
 use Rattle.market_model.proofs.PlainMarkets.{plain_market, distinct_by_rise}
@@ -15,7 +14,7 @@ use Rattle.net_case.specs.NetworkReading.{unit_within}
 use Rattle.net_case.specs.declared.live_parts.NetBranch.{NetBranch}
 use Rattle.net_case.specs.declared.live_parts.NetUnit.{NetUnit}
 use Rattle.net_paths.specs.Detours.{IsLiveRow}
-use Rattle.factor_tables.specs.Factors.{Entry, factor_at}
+use Rattle.factor_tables.specs.Factors.{factor_at}
 use Rattle.factor_tables.specs.Offsets.{OffsetEntry}
 use Rattle.market_inputs.specs.declared.offers.Offered.{Offered}
 use Rattle.market_inputs.specs.declared.tables.Tables.{Tables}

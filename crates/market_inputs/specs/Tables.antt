@@ -3,9 +3,8 @@ use Rattle.std.specs.Prelude.{◌≡◌, ◌≢◌, ℕ, ◌≤◌, ℤ, List, l
 use Rattle.record_reading.specs.Steps.{and_then, or_as}
 use Rattle.market_data.specs.Participants.{IsUnit, most_units}
 use Rattle.market_data.specs.Scales.{most_outages}
-use Rattle.market_model.specs.declared.participants.Block.{Block}
 use Rattle.market_model.specs.Market.{HaveRoom}
-use Rattle.net_case.specs.Networks.{LiveNetwork, AreUnits}
+use Rattle.net_case.specs.Networks.{LiveNetwork}
 use Rattle.net_case.specs.NetworkReading.{unit_list_of}
 use Rattle.factor_tables.specs.Covering.{cover_of}
 use Rattle.factor_tables.specs.Factors.{Entry}

@@ -2,7 +2,7 @@ use Rattle.std.proofs.Common.{◌≡◌, ◌∙◌, Err, rules}
 use Rattle.refusal_text.specs.declared.refusals.Input.TheVariants as input
 use Rattle.refusal_text.specs.declared.refusals.Refusal.TheVariants as refusal
 use Rattle.market_inputs.specs.Files.{sized}
-use Rattle.market_inputs.proofs.ClearLemmas.{IsCovered, all-read, offers-stop, offsets-stop}
+use Rattle.market_inputs.proofs.ClearLemmas.{all-read, offers-stop, offsets-stop}
 use Rattle.market_inputs.proofs.clearing.clear_market.Goals as goal
 
 pub returns-in_err-offered-clause-told : goal.returns-in_err-offered-clause-told

@@ -1,11 +1,8 @@
-use Rattle.std.proofs.Common.{◌≡◌, ◌∙◌, List, sym, subst, ap, All, map}
+use Rattle.std.proofs.Common.{◌≡◌, ◌∙◌, List, subst, ap, All, map}
 use Rattle.market_data.specs.Participants.{IsDatum}
-use Rattle.market_data.specs.declared.participants.Bus.{Bus}
-use Rattle.market_model.specs.declared.participants.Factor.{Factor}
 use Rattle.market_model.specs.declared.participants.Line.{Line}
-use Rattle.market_model.specs.Market.{IsMarket}
 use Rattle.net_case.specs.declared.live_parts.NetBranch.{NetBranch}
-use Rattle.market_inputs.specs.Clearing.{AreSmall, line_of, loss_by, market_of, shift_by}
+use Rattle.market_inputs.specs.Clearing.{AreSmall, line_of, loss_by, shift_by}
 use Rattle.market_inputs.proofs.MarketLemmas.{clear-market}
 use Rattle.market_inputs.proofs.clearing.limited_parts.Goals as goal
 

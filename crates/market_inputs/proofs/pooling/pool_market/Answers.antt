@@ -1,4 +1,4 @@
-use Rattle.std.proofs.Common.{◌≡◌, ◌∙◌, Ok, Err, rules}
+use Rattle.std.proofs.Common.{◌≡◌, Ok, Err, rules}
 use Rattle.net_case.specs.Networks.{LiveNetwork}
 use Rattle.net_case.specs.declared.live_parts.Branches.TheVariants as branches
 use Rattle.refusal_text.specs.declared.refusals.Input.TheVariants as input
