@@ -1,6 +1,6 @@
 -- Lists that are filled one by one, and sums over them.
 use Rattle.std.specs.Prelude.{◌≡◌, ℕ, ◌+◌, ◌<◌, ◌≤◌, List, [], ◌∷◌, ◌++◌, map, length, take, refl}
-use Rattle.std.proofs.Common.{zero, suc, arith, ap, ap₂, sym, ◌∙◌, get_or, drop}
+use Rattle.std.proofs.Common.{arith, ap, ap₂, sym, ◌∙◌, get_or, drop}
 use Rattle.std.proofs.lemmas.List.{map-append, length-map, take_more, take_all, take-append-drop, drop_more}
 use Rattle.fraction_theory.specs.Fraction.{Fraction, ◌+ℚ◌}
 use Rattle.fraction_theory.specs.Sums.{sum_by, Term}

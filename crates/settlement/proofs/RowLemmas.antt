@@ -1,13 +1,13 @@
 -- What rows earn, and what is refused of that.
-use Rattle.std.specs.Prelude.{◌≡◌, ◌⊎◌, ℕ, ◌<◌, pos, ℤ, ◌^◌, List, [], ◌∷◌, length, Contains, refl}
+use Rattle.std.specs.Prelude.{◌≡◌, ◌⊎◌, ℕ, ◌<◌, pos, List, [], ◌∷◌, length, Contains, refl}
 use Rattle.std.proofs.Common.{inl, inr, arith, ap, ap₂, sym, subst, subst₂, ◌∙◌, get_or}
 use Rattle.std.proofs.lemmas.List.{get_or-map, length-map}
-use Rattle.fraction_theory.specs.Fraction.{Fraction, whole, over, neg_ℚ, ◌+ℚ◌, ◌-ℚ◌, ◌*ℚ◌}
+use Rattle.fraction_theory.specs.Fraction.{Fraction, whole, ◌+ℚ◌, ◌-ℚ◌, ◌*ℚ◌}
 use Rattle.fraction_theory.specs.Order.{◌<ℚ◌}
 use Rattle.fraction_theory.specs.Signs.{sign_of}
 use Rattle.fraction_theory.specs.declared.Sign.{Sign}
 use Rattle.fraction_theory.specs.declared.Sign.TheVariants.{Below, Above}
-use Rattle.fraction_theory.specs.Sums.{Term, Plain, Product, total}
+use Rattle.fraction_theory.specs.Sums.{Plain, Product, total}
 use Rattle.fraction_theory.proofs.FieldLaws.{ring_ℚ, +ℚ_nil}
 use Rattle.fraction_theory.proofs.OrderLaws.{<ℚ_irrefl}
 use Rattle.fraction_theory.proofs.Ring.{by_ring, at, padd, pmul, pneg, pnil}
@@ -32,7 +32,7 @@ use Rattle.limit_rows.proofs.DualLemmas.{IsRowOfDual, row_of_dual}
 use Rattle.limit_screen.specs.Flows.{IsLineRefusal, IsShareRefusal as IsShareOf}
 use Rattle.limit_screen.proofs.FlowLemmas.{line_terms-same, line_flow-same, share_refused}
 use Rattle.settlement.specs.Paying.{earned_by, earned_terms}
-use Rattle.settlement.specs.Refusals.{IsSettlementRefusal, of_line, of_flow, of_offset, of_limit_less, of_limit_more, of_rent, IsEarningRefusal, IsFlowRefusal, IsRowRefusal, IsShareRefusal}
+use Rattle.settlement.specs.Refusals.{IsSettlementRefusal, of_line, of_flow, of_offset, of_limit_less, of_limit_more, of_rent, IsEarningRefusal, IsRowRefusal, IsShareRefusal}
 
 -- ---- what a limit earns with one price
 module _ (e : Dual Fraction) (f o : Fraction) where

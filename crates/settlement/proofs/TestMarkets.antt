@@ -1,5 +1,5 @@
 -- The markets of the tests are markets, and their duals are as those of an answer.
-use Rattle.std.specs.Prelude.{◌≡◌, ℕ, ◌<◌, ◌^◌, pos, Bool, true, false, cond, List, [], ◌∷◌, map, filter, length, Some, None, All, slice_index_or, refl}
+use Rattle.std.specs.Prelude.{◌≡◌, ℕ, ◌<◌, ◌^◌, pos, Bool, true, false, cond, List, [], ◌∷◌, map, filter, Some, None, All, slice_index_or, refl}
 use Rattle.std.proofs.Common.{zero, suc, arith, ap, sym, ◌∙◌, subst, inl}
 use Rattle.std.proofs.lemmas.Int.{ints}
 use Rattle.std.proofs.lemmas.List.Elements.{All-cons, All-nil}
@@ -18,7 +18,7 @@ use Rattle.market_model.specs.declared.participants.Parts.{Parts}
 use Rattle.market_model.specs.declared.participants.Side.TheVariants.{Sell, Buy}
 use Rattle.market_model.specs.LimitRows.{Row, rows, row_id}
 use Rattle.market_model.specs.Market.{IsMarket, IsBlock, IsLine, HasRoom}
-use Rattle.market_model.specs.Optimality.{IsOneSided, ProperDuals, is_named, named_rows}
+use Rattle.market_model.specs.Optimality.{IsOneSided, ProperDuals, is_named}
 use Rattle.market_model.specs.Stairs.{stair_in}
 use Rattle.market_model.proofs.WholeDispatch.{whole-<ℚ}
 use Rattle.limit_rows.proofs.TestMarkets.{shifts, losses, two_are_market}

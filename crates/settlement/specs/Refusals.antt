@@ -1,5 +1,5 @@
 -- The operations that may be refused where a dispatch is settled, each by its name.
-use Rattle.std.specs.Prelude.{◌≡◌, ◌⊎◌, ℕ, ◌<◌, [], ◌∷◌, length, Contains}
+use Rattle.std.specs.Prelude.{◌⊎◌, ℕ, ◌<◌, [], ◌∷◌, length, Contains}
 use Rattle.fraction_theory.specs.Fraction.{Fraction, whole, ◌+ℚ◌}
 use Rattle.fraction_theory.specs.Sums.{Plain, Product}
 use Rattle.exact_fraction.specs.declared.Op.TheVariants.{Plus, Minus, Times}
