@@ -1,7 +1,9 @@
 pub mod AnswerLemmas
 pub mod BrokenLemmas
+pub mod FrameLemmas
 pub mod HandLemmas
 pub mod PosingLemmas
 pub mod SolvedLemmas
 pub mod StartLemmas
 pub mod StopLemmas
+pub mod TestMarkets

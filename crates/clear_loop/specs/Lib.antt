@@ -4,3 +4,4 @@ pub mod Keeping
 pub mod Laws
 pub mod Rounds
 pub mod Starts
+pub mod Worked

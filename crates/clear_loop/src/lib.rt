@@ -13,3 +13,6 @@ mod screen;
 
 pub use clearer::Clearer;
 pub use fault::ClearFault;
+
+#[cfg(test)]
+mod tests;
