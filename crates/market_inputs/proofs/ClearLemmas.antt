@@ -1,4 +1,4 @@
--- The steps of a clear behind what the tables lack.
+-- The steps of a clear, one behind the other.
 use Rattle.std.proofs.Common.{◌≡◌, ap, sym, ℕ, List, Result, Ok, Err}
 use Rattle.case_text.specs.Matrices.{CaseMatrices}
 use Rattle.market_model.specs.declared.participants.Parts.{Parts}
@@ -16,6 +16,49 @@ use Rattle.market_inputs.specs.Stops.{IsToldAs}
 use Rattle.market_inputs.specs.Tables.{AreTables, cover_in, offers_in, offsets_in}
 use Rattle.market_inputs.proofs.StepLemmas.{goes-on, stops}
 
+-- ---- before the tables are read
+module _ (rating : PostRating) (case ptdf lodf contingencies offers offsets : Result (List ℕ) Refusal) where
+  abbrev in_all : Result Parts Refusal → Type 0
+  in_all = IsClearMarket rating case ptdf lodf contingencies offers offsets
+
+  abbrev behind_cover : LiveNetwork → Tables → Result Parts Refusal → Type 0
+  behind_cover network tables = Then (Is (offers_in network offers)) (λ offered. Then (Is (offsets_in network offsets)) (λ moved. Is (Ok (market_of network tables offered moved))))
+
+  abbrev behind_tables : LiveNetwork → Tables → Result Parts Refusal → Type 0
+  behind_tables network tables = Then (Is (cover_in network tables)) (λ _. behind_cover network tables)
+
+  abbrev behind_network : LiveNetwork → Result Parts Refusal → Type 0
+  behind_network network = Then (AreTables network ptdf lodf contingencies) (behind_tables network)
+
+  abbrev behind_case : CaseMatrices → Result Parts Refusal → Type 0
+  behind_case raw = Then (IsJoinedNetwork rating raw) behind_network
+
+  -- the case stops the work
+  pub case-stop : (r : Result CaseMatrices Stop) (out : Result Parts Stop) (e : Stop) → IsToldAs (Is (matrices_in case)) r → r ≡ Err e → out ≡ Err e → IsToldAs in_all out
+  case-stop r out e told is gives = stops (Is (matrices_in case)) behind_case r out e told is gives
+
+  module _ (raw : CaseMatrices) (raw-is : matrices_in case ≡ Ok raw) where
+    -- its rows do
+    pub network-stop : (r : Result LiveNetwork Stop) (out : Result Parts Stop) (e : Stop) → IsToldAs (IsJoinedNetwork rating raw) r → r ≡ Err e → out ≡ Err e → IsToldAs in_all out
+    network-stop r out e told is gives = goes-on (Is (matrices_in case)) behind_case raw out raw-is (stops (IsJoinedNetwork rating raw) behind_network r out e told is gives)
+
+    module _ (network : LiveNetwork) (network-is : IsJoinedNetwork rating raw (Ok network)) where
+      -- its tables do
+      pub tables-stop : (r : Result Tables Stop) (out : Result Parts Stop) (e : Stop) → IsToldAs (AreTables network ptdf lodf contingencies) r → r ≡ Err e → out ≡ Err e → IsToldAs in_all out
+      tables-stop r out e told is gives =
+          goes-on (Is (matrices_in case)) behind_case raw out raw-is
+          (goes-on (IsJoinedNetwork rating raw) behind_network network out network-is (stops (AreTables network ptdf lodf contingencies) (behind_tables network) r out e told is gives))
+
+      -- what these lack does
+      pub cover-stop : (tables : Tables) → AreTables network ptdf lodf contingencies (Ok tables) → (r : Result (Unit {0}) Stop) (out : Result Parts Stop) (e : Stop) → IsToldAs (Is (cover_in network tables)) r
+          → r ≡ Err e → out ≡ Err e → IsToldAs in_all out
+      cover-stop tables tables-are r out e told is gives =
+          goes-on (Is (matrices_in case)) behind_case raw out raw-is
+          (goes-on (IsJoinedNetwork rating raw) behind_network network out network-is
+          (goes-on (AreTables network ptdf lodf contingencies) (behind_tables network) tables out tables-are
+          (stops (Is (cover_in network tables)) (λ _. behind_cover network tables) r out e told is gives)))
+
+-- ---- behind what the tables lack
 -- the tables lack nothing
 pub record IsCovered (rating : PostRating) (case ptdf lodf contingencies : Result (List ℕ) Refusal) (raw : CaseMatrices) (network : LiveNetwork) (tables : Tables) : Type 0 where
   pub raw_is : matrices_in case ≡ Ok raw
