@@ -1,5 +1,5 @@
 //! A system of two columns and a row, posed again at other bounds.
-ghost use Rattle.std.specs.Prelude.{◌≡◌, [], ◌∷◌, length, IfSome};
+ghost use Rattle.std.specs.Prelude.{◌≡◌, All, [], ◌∷◌, length, vec_len, IfSome};
 ghost use Rattle.fraction_theory.specs.Order.{◌≤ℚ◌};
 
 use crate::Warm;
@@ -22,8 +22,20 @@ fn between<N: Exact>(low: i32, high: i32) -> Bounds<N>
     }
 }
 
+/// Bounds of two columns, and of a row that is to be this.
+fn bounds_to<N: Exact>(alloc: Global, sum: i32) -> Option<Vec<Bounds<N>>>
+    ensures count { IfSome result (λ bounds. vec_len bounds ≡ 3) }
+    ensures ordered { IfSome result (λ bounds. All (λ b. N.value b.low ≤ℚ N.value b.high) bounds.items) }
+{
+    let mut bounds = Vec::new(alloc);
+    bounds.push(between(0, 100)).ok()?;
+    bounds.push(between(0, 100)).ok()?;
+    bounds.push(between(sum, sum)).ok()?;
+    Some(bounds)
+}
+
 /// Whether columns 1 and 2 from 0 to 100 can sum up to so much. What was run is kept.
-fn sums_up<N: Exact>(warm: &mut Warm<N>, sum: i32) -> Option<bool>
+fn sums_up<N: Exact>(alloc: Global, warm: &mut Warm<N>, sum: i32) -> Option<bool>
     requires { IfSome warm.old (λ d. (d.columns ≡ 1 ∷ 2 ∷ []) × (length d.rows ≡ 1)) }
     ensures { IfSome warm.new (λ d. (d.columns ≡ 1 ∷ 2 ∷ []) × (length d.rows ≡ 1)) }
 {
@@ -31,8 +43,8 @@ fn sums_up<N: Exact>(warm: &mut Warm<N>, sum: i32) -> Option<bool>
     if !start.is_kept() {
         return None;
     }
-    let prices = [N::of_parts(-10, 1), N::of_parts(-30, 1)];
-    let bounds = [between(0, 100), between(0, 100), between(sum, sum)];
+    let prices = vec![in alloc; N::of_parts(-10, 1), N::of_parts(-30, 1)].ok()?;
+    let bounds = bounds_to(alloc, sum)?;
     match start.repose(&prices, &bounds) {
         Ok(posed) => match posed.run() {
             Run::Solved(solved) => {
@@ -51,17 +63,21 @@ fn sums_up<N: Exact>(warm: &mut Warm<N>, sum: i32) -> Option<bool>
 
 /// Whether 60, 250 and 200 in turn have their answers from one dictionary, and none comes where it is dropped.
 fn starts_again<N: Exact>(alloc: Global) -> bool {
-    let one = N::of_parts(1, 1);
+    let one: N = N::of_parts(1, 1);
+    let ones = match vec![in alloc; one; 2] {
+        Ok(ones) => ones,
+        Err(_) => return false,
+    };
     let mut warm = Warm::new();
-    match Dict::start(alloc, &[1, 2], 3, &[one, one]) {
+    match Dict::start(alloc, &[1, 2], 3, &ones) {
         Ok(dict) => warm.keep(dict),
         Err(_) => return false,
     }
-    let first = sums_up(&mut warm, 60);
-    let second = sums_up(&mut warm, 250);
-    let third = sums_up(&mut warm, 200);
+    let first = sums_up(alloc, &mut warm, 60);
+    let second = sums_up(alloc, &mut warm, 250);
+    let third = sums_up(alloc, &mut warm, 200);
     warm.drop_start();
-    let last = sums_up(&mut warm, 60);
+    let last = sums_up(alloc, &mut warm, 60);
     first == Some(true) && second == Some(false) && third == Some(true) && last.is_none()
 }
 

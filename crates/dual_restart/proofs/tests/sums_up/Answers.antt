@@ -1,19 +1,22 @@
-use Rattle.std.proofs.Common.{rules, ◌≡◌, [], ◌∷◌, length, IfSome, ℕ, ◌+◌, ◌-◌, ◌*◌, ◌<◌, ◌≤◌, ◌/◌, ◌%◌, Bool, true, false, nat_eq, nat_lt, List, ◌++◌, slice_index_or, slice_set, bit_and, bit_or, Fits, w8, w32, w64, Bor, MutBor, ℤ, pos, ◌+ℤ◌, ◌-ℤ◌, ◌*ℤ◌, ◌≤ℤ◌, ◌<ℤ◌, FitsSigned, to_z, of_z}
-use Rattle.fraction_theory.specs.Order.{◌≤ℚ◌}
+use Rattle.std.proofs.Common.{◌≡◌, [], ◌∷◌, true, length, rules, sym, subst}
+use Rattle.std.specs.Prelude.{Option, IfSome, is_some}
+use Rattle.linear_dict.specs.Dictionaries.{Dictionary}
+use Rattle.simplex_core.specs.Outcomes.{Keeps}
+use Rattle.dual_restart.proofs.TestLemmas.{stays}
 use Rattle.dual_restart.proofs.tests.sums_up.Goals as goal
 
--- src/tests.rt:36:24
-pub shared_whole_as_slice-repose : goal.shared_whole_as_slice-repose
-shared_whole_as_slice-repose g c = ?
-
--- src/tests.rt:36:33
-pub shared_whole_as_slice-repose-2 : goal.shared_whole_as_slice-repose-2
-shared_whole_as_slice-repose-2 g c = ?
-
--- src/tests.rt:26:1
 pub returns-in-Solved : goal.returns-in-Solved
-returns-in-Solved g c = ?
+returns-in-Solved g c =
+    let some : is_some c.replace-start.result ≡ true = search rules in
+    rw c.keep.ensures
+    (stays g.N.Exact.value c.deref.result.now c.deref-2.result.now c.replace-start.result c.in-Ok.posed c.into_dict.result some
+    (subst (λ (o : Option Dictionary). IfSome o (λ d. (d.columns ≡ 1 ∷ 2 ∷ []) × (length d.rows ≡ 1))) (sym c.replace-start.ensures.value) c.requires)
+    c.in-Ok.ensures.posed (subst (λ (e : Dictionary). Keeps c.in-Ok.posed e) (sym c.into_dict.ensures) c.in-Solved.ensures.0))
 
--- src/tests.rt:26:1
 pub returns-in-Empty : goal.returns-in-Empty
-returns-in-Empty g c = ?
+returns-in-Empty g c =
+    let some : is_some c.replace-start.result ≡ true = search rules in
+    rw c.keep-in-Empty.ensures
+    (stays g.N.Exact.value c.deref.result.now c.deref-2.result.now c.replace-start.result c.in-Ok.posed c.in-Empty.dict some
+    (subst (λ (o : Option Dictionary). IfSome o (λ d. (d.columns ≡ 1 ∷ 2 ∷ []) × (length d.rows ≡ 1))) (sym c.replace-start.ensures.value) c.requires)
+    c.in-Ok.ensures.posed c.in-Empty.ensures.0)
