@@ -3,6 +3,7 @@ pub mod Checking
 pub mod Clearing
 pub mod Files
 pub mod Pooling
+pub mod Replaying
 pub mod Steps
 pub mod Stops
 pub mod Tables

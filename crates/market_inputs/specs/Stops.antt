@@ -12,6 +12,10 @@ use Rattle.outage_list.specs.declared.listing.OutageFault.{OutageFault}
 use Rattle.outage_list.specs.declared.listing.OutageFault.TheVariants as outage
 use Rattle.offer_book.specs.declared.offer_table.OfferFault.{OfferFault}
 use Rattle.offer_book.specs.declared.offer_table.OfferFault.TheVariants as offer
+use Rattle.edit_table.specs.declared.step.StepFault.{StepFault}
+use Rattle.edit_table.specs.declared.step.StepFault.TheVariants as step
+use Rattle.cert_format.specs.declared.cert.CertFault.{CertFault}
+use Rattle.cert_format.specs.declared.cert.CertFault.TheVariants as certificate
 use Rattle.refusal_text.specs.declared.refusals.Input.{Input}
 use Rattle.refusal_text.specs.declared.refusals.Refusal.{Refusal}
 use Rattle.refusal_text.specs.declared.refusals.Refusal.TheVariants as refusal
@@ -48,3 +52,11 @@ outage_stop f = stop.Refused (refusal.Outages f)
 abbrev pub offer_stop : OfferFault → Stop
 offer_stop offer.Memory = stop.Memory
 offer_stop f = stop.Refused (refusal.Offers f)
+
+abbrev pub step_stop : StepFault → Stop
+step_stop step.Memory = stop.Memory
+step_stop f = stop.Refused (refusal.Edits f)
+
+abbrev pub certificate_stop : CertFault → Stop
+certificate_stop (certificate.Key key) = stop.Refused (refusal.Certificate key)
+certificate_stop certificate.Memory = stop.Memory

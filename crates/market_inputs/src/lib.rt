@@ -9,6 +9,7 @@ mod lengths;
 mod limits;
 mod offers;
 mod pooling;
+mod replays;
 mod stops;
 mod tables;
 
@@ -16,6 +17,7 @@ pub use checking::{CheckBytes, Inputs, check_inputs};
 pub use clearing::{ClearBytes, clear_market};
 pub use lengths::MOST_BYTES;
 pub use pooling::pool_market;
+pub use replays::{edit_steps, read_certificate};
 pub use stops::Stop;
 
 #[cfg(test)]

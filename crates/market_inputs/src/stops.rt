@@ -4,6 +4,8 @@ ghost use Rattle.std.specs.Prelude.{◌≡◌};
 ghost use Rattle.market_inputs.specs.Stops.{table_stop_of};
 
 use case_text::CaseFault;
+use cert_format::CertFault;
+use edit_table::StepFault;
 use factor_tables::TableFault;
 use net_case::NetFault;
 use net_paths::PathStop;
@@ -101,5 +103,31 @@ pub(crate) fn table_stop(file: Input, fault: TableFault) -> Stop
     match fault {
         TableFault::Memory => Stop::Memory,
         _ => Stop::Refused(Refusal::Table(file, fault)),
+    }
+}
+
+impl From<StepFault> for Stop {
+    ghost use Rattle.market_inputs.specs.Stops.{step_stop};
+
+    ghost from_gives = { λ fault stop. stop ≡ step_stop fault };
+
+    fn from(fault: StepFault) -> Stop {
+        match fault {
+            StepFault::Memory => Stop::Memory,
+            _ => Stop::Refused(Refusal::Edits(fault)),
+        }
+    }
+}
+
+impl From<CertFault> for Stop {
+    ghost use Rattle.market_inputs.specs.Stops.{certificate_stop};
+
+    ghost from_gives = { λ fault stop. stop ≡ certificate_stop fault };
+
+    fn from(fault: CertFault) -> Stop {
+        match fault {
+            CertFault::Key { key } => Stop::Refused(Refusal::Certificate(key)),
+            CertFault::Memory => Stop::Memory,
+        }
     }
 }

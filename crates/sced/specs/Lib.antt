@@ -1,6 +1,4 @@
-pub mod Checking
-pub mod Clearing
+pub mod Decided
 pub mod Reading
 pub mod Runs
-pub mod Status
 pub mod Told

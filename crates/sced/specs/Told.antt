@@ -1,18 +1,21 @@
 -- What is right to tell of the words of a run and of the files that they name.
-use Rattle.std.specs.Prelude.{◌≡◌, ◌⊎◌, ℕ, List, [], Option, Some, None, Result, Ok}
+use Rattle.std.specs.Prelude.{◌≡◌, ◌⊎◌, ℕ, List, Option, Some, None, Result}
 use Rattle.outside_store.specs.Files.{Files}
-use Rattle.outside_store.specs.Sinks.{Took}
+use Rattle.market_inputs.specs.declared.checking.Inputs.{Inputs}
 use Rattle.market_model.specs.declared.participants.Parts.{Parts}
-use Rattle.market_model.specs.Dispatch.{Dispatch}
-use Rattle.market_model.specs.Optimality.{Feasible}
-use Rattle.market_system.specs.WorkingPairs.{NoPairPasses}
 use Rattle.refusal_text.specs.declared.refusals.Refusal.{Refusal}
-use Rattle.command_words.specs.Words.{AsksCheck, AsksClear, AsksNothing, AsksPool, CheckNames, ClearNames}
-use Rattle.sced.specs.Checking.{ChecksTo}
-use Rattle.sced.specs.Clearing.{IsLimited, IsPool, TellsMarket, most_size}
-use Rattle.sced.specs.Reading.{IsTable, contingencies_header, lodf_header, offsets_header}
-use Rattle.sced.specs.declared.status.Status.{Status}
-use Rattle.sced.specs.declared.status.Status.TheVariants as status
+use Rattle.command_words.specs.Words.{AsksCheck, AsksClear, AsksMake, AsksNothing, AsksPool, AsksReplay, AsksVerify, CheckNames, MarketNames}
+use Rattle.command_answers.specs.Checking.{TellsCheck}
+use Rattle.command_answers.specs.Clearing.{TellsClear, most_size}
+use Rattle.command_answers.specs.Inputs.{IsCertified, IsCheck, IsLimited, IsPool, IsReplayed, MarketCertificate, MarketSteps, MarketTexts}
+use Rattle.command_answers.specs.Making.{MakesTo}
+use Rattle.command_answers.specs.Replaying.{TellsReplay}
+use Rattle.command_answers.specs.Tellings.{Telling, Tells}
+use Rattle.command_answers.specs.Verifying.{TellsVerdict}
+use Rattle.command_answers.specs.declared.status.Status.{Status}
+use Rattle.command_answers.specs.declared.status.Status.TheVariants as status
+use Rattle.sced.specs.Reading.{HaveTexts, IsTable, contingencies_header, edits_header, lodf_header}
+use Rattle.sced.specs.Runs.{Ends}
 
 -- ---- the files
 -- the files of a pool stand for this market, or this is their first fault
@@ -23,24 +26,32 @@ pub record ArePoolFiles (files : Files) (case_name offers_name : List ℕ) (told
   pub offers_is : files offers_name ≡ Some offers
   pub market : IsPool case offers told
 
--- the files of a clear do
-pub record AreClearFiles (files : Files) (names : ClearNames) (told : Result Parts Refusal) : Type 0 where
-  pub case : List ℕ
-  pub ptdf : List ℕ
-  pub lodf : List ℕ
-  pub contingencies : List ℕ
-  pub offers : List ℕ
-  pub offsets : List ℕ
-  pub case_is : files names.case ≡ Some case
-  pub ptdf_is : files names.ptdf ≡ Some ptdf
-  pub lodf_is : IsTable files names.lodf lodf_header lodf
-  pub contingencies_is : IsTable files names.contingencies contingencies_header contingencies
-  pub offers_is : files names.offers ≡ Some offers
-  pub offsets_is : IsTable files names.offsets offsets_header offsets
-  pub market : IsLimited names.rating case ptdf lodf contingencies offers offsets told
+-- those of a clear do
+pub record AreClearFiles (files : Files) (names : MarketNames) (told : Result Parts Refusal) : Type 0 where
+  pub texts : MarketTexts
+  pub have : HaveTexts files names texts
+  pub market : IsLimited names.rating texts told
 
--- the status and the text are right for the bytes of the files of a check
-pub record FilesCheck (files : Files) (names : CheckNames) (s : Status) (text : List ℕ) : Type 0 where
+-- those of a replay stand for this market and these steps
+pub record AreReplayFiles (files : Files) (names : MarketNames) (edits_name : List ℕ) (told : Result MarketSteps Refusal) : Type 0 where
+  pub texts : MarketTexts
+  pub edits : List ℕ
+  pub have : HaveTexts files names texts
+  pub edits_are : files edits_name ≡ Some edits
+  pub steps : IsReplayed names.rating texts edits told
+
+-- those of a verification stand for this market, edited, and this certificate
+pub record AreVerifyFiles (files : Files) (names : MarketNames) (edits_name : Option (List ℕ)) (certificate_name : List ℕ) (told : Result MarketCertificate Refusal) : Type 0 where
+  pub texts : MarketTexts
+  pub edits : List ℕ
+  pub certificate : List ℕ
+  pub have : HaveTexts files names texts
+  pub edits_are : IsTable files edits_name edits_header edits
+  pub certificate_is : files certificate_name ≡ Some certificate
+  pub certified : IsCertified names.rating texts edits certificate told
+
+-- those of a check stand for these inputs
+pub record AreCheckFiles (files : Files) (names : CheckNames) (told : Result Inputs Refusal) : Type 0 where
   pub case : List ℕ
   pub ptdf : List ℕ
   pub lodf : List ℕ
@@ -49,54 +60,38 @@ pub record FilesCheck (files : Files) (names : CheckNames) (s : Status) (text : 
   pub ptdf_is : files names.ptdf ≡ Some ptdf
   pub lodf_is : IsTable files names.lodf lodf_header lodf
   pub contingencies_is : IsTable files names.contingencies contingencies_header contingencies
-  pub checks : ChecksTo case ptdf lodf contingencies s text
+  pub inputs : IsCheck case ptdf lodf contingencies told
 
 -- ---- where the files are told
-abbrev pub FilesPoolTo : Option Files → List ℕ → List ℕ → Status → List ℕ → Type 0
-FilesPoolTo None case offers s text = Unit {0}
-FilesPoolTo (Some files) case offers s text = TellsMarket (ArePoolFiles files case offers) s text
-
-abbrev pub FilesClearTo : Option Files → ClearNames → Status → List ℕ → Type 0
-FilesClearTo None names s text = Unit {0}
-FilesClearTo (Some files) names s text = TellsMarket (AreClearFiles files names) s text
-
-abbrev pub FilesCheckTo : Option Files → CheckNames → Status → List ℕ → Type 0
-FilesCheckTo None names s text = Unit {0}
-FilesCheckTo (Some files) names s text = FilesCheck files names s text
+-- what is told is right for what the files stand for
+abbrev pub OfFiles : {A : Type 0} → Option Files → (Files → Result A Refusal → Type 0) → (A → Telling → Type 0) → Telling → Type 0
+OfFiles None stand right t = Unit {0}
+OfFiles (Some files) stand right t = Tells (stand files) right t
 
 -- ---- the words
--- the words are refused, or the status and the text are right for the files that they name
-pub data AnswersTo (files : Option Files) (words : List (List ℕ)) (s : Status) (text : List ℕ) : Type 0 where
-  refused : AsksNothing words → s ≡ status.Usage → AnswersTo files words s text
-  pooled : (case offers : List ℕ) → AsksPool words case offers → FilesPoolTo files case offers s text → AnswersTo files words s text
-  cleared : (names : ClearNames) → AsksClear words names → FilesClearTo files names s text → AnswersTo files words s text
-  checked : (names : CheckNames) → AsksCheck words names → FilesCheckTo files names s text → AnswersTo files words s text
+-- a file that is named, with the bytes that there are for it
+abbrev pub named_bytes : Option (List ℕ) → Option (List ℕ) → Option (List ℕ × List ℕ)
+named_bytes (Some name) (Some bytes) = Some (name, bytes)
+named_bytes (Some name) None = None
+named_bytes None bytes = None
 
--- one text is put, and the status is told that goes with it: they are right for the words and for the files that these name; a failed put
--- tells its own status in place of the right one
-pub record PutsAnswer (files : Option Files) (words : List (List ℕ)) (before now : Option (List ℕ)) (s : Status) : Type 0 where
-  pub text : List ℕ
-  pub right : Status
-  pub answers : AnswersTo files words right text
-  pub took : Took (s ≡ status.WriteFailed) text before now
-  pub told : (s ≡ right) ⊎ (s ≡ status.WriteFailed)
+-- The words are refused, or what is told is right for the files that they name. The one file that there is to write is a certificate
+-- that a clear or a replay has, where the words name a file for it.
+pub data AnswersTo (files : Option Files) (words : List (List ℕ)) (t : Telling) : Option (List ℕ × List ℕ) → Type 0 where
+  refused : AsksNothing words → t.status ≡ status.Usage → AnswersTo files words t None
+  pooled : (case offers : List ℕ) → AsksPool words case offers → OfFiles files (λ f. ArePoolFiles f case offers) TellsClear t → AnswersTo files words t None
+  cleared : (names : MarketNames) (file : Option (List ℕ)) → AsksClear words names file → OfFiles files (λ f. AreClearFiles f names) TellsClear t
+      → AnswersTo files words t (named_bytes file t.certificate)
+  replayed : (names : MarketNames) (edits : List ℕ) (file : Option (List ℕ)) → AsksReplay words names edits file → OfFiles files (λ f. AreReplayFiles f names edits) TellsReplay t
+      → AnswersTo files words t (named_bytes file t.certificate)
+  verified : (names : MarketNames) (edits : Option (List ℕ)) (certificate : List ℕ) → AsksVerify words names edits certificate
+      → OfFiles files (λ f. AreVerifyFiles f names edits certificate) TellsVerdict t → AnswersTo files words t None
+  checked : (names : CheckNames) → AsksCheck words names → OfFiles files (λ f. AreCheckFiles f names) TellsCheck t → AnswersTo files words t None
+  made : (buses seed : ℕ) → AsksMake words buses seed → MakesTo most_size buses seed t → AnswersTo files words t None
 
--- ---- whether a dispatch is feasible
--- the status says whether a dispatch of the market is feasible
-pub record Decides (m : Parts) (s : Status) : Type 0 where
-  pub feasible : (x : Dispatch) → Feasible m x → s ≡ status.Done
-  pub infeasible : ((x : Dispatch) → ¬ (Feasible m x)) → s ≡ status.Infeasible
-
--- the words ask to clear this market, as if no branch had a limit or within the limits: the files that they name stand for it
-pub data AsksMarket (files : Files) (words : List (List ℕ)) (m : Parts) : Type 0 where
-  as_pool : (case offers : List ℕ) → AsksPool words case offers → ArePoolFiles files case offers (Ok m) → AsksMarket files words m
-  as_clear : (names : ClearNames) → AsksClear words names → AreClearFiles files names (Ok m) → AsksMarket files words m
-
--- where the words ask to clear a market of which no working pair passes the bound, the status decides it
-pub record IsDecidedIn (files : Files) (words : List (List ℕ)) (s : Status) : Type 0 where
-  pub decided : (m : Parts) → AsksMarket files words m → NoPairPasses m [] most_size → Decides m s
-
--- so it is where the store tells its files
-abbrev pub IsDecidedOf : Option Files → List (List ℕ) → Status → Type 0
-IsDecidedOf None words s = Unit {0}
-IsDecidedOf (Some files) words s = IsDecidedIn files words s
+-- what is told is right for the words and for the files that these name, and so is the file that is written
+pub record Answers (words : List (List ℕ)) (before now : Option Files) (taken_before taken_now : Option (List ℕ)) (s : Status) : Type 0 where
+  pub telling : Telling
+  pub written : Option (List ℕ × List ℕ)
+  pub right : AnswersTo before words telling written
+  pub ends : Ends telling written before now taken_before taken_now s

@@ -1,7 +1,7 @@
 //! Checks of tables, with texts worked by hand.
 
 use crate::fixture::{BUSES, LINE, LOSS, SHIFT, Text, UNITS, case, expect};
-use crate::status::Status;
+use command_answers::Status;
 use std::process::Abort;
 use std::test::Fail;
 

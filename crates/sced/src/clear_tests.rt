@@ -1,7 +1,7 @@
 //! Clears within limits, with texts worked by hand.
 
 use crate::fixture::{BUSES, LINE, LOSS, OFFERS, SHIFT, Text, UNITS, case, expect};
-use crate::status::Status;
+use command_answers::Status;
 use std::process::Abort;
 use std::test::Fail;
 

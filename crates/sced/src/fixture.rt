@@ -1,7 +1,7 @@
 //! What tests run over: files in memory, and a case of three buses that are joined in a triangle.
 
 use crate::run::run;
-use crate::status::Status;
+use command_answers::Status;
 use outside_store::{MemorySink, MemoryStore, Room};
 use std::process::Abort;
 use std::test::Fail;

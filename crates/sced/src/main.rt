@@ -1,17 +1,13 @@
 //! `sced`: clears the market of one interval of an electricity network, and checks the tables that say how flows split.
 #![tactic(auto)]
 
-mod checking;
-mod clearing;
-mod outcome;
-mod pooling;
+mod commands;
 mod reading;
 pub mod run;
-pub mod status;
 
+use command_answers::Status;
 use outside_store::{FileStore, OutSink};
 use run::run;
-use status::Status;
 use std::process::ExitCode;
 use std::{env, io};
 

@@ -2,15 +2,16 @@
 
 ghost use Rattle.std.specs.Prelude.{◌≡◌, option_map, Some, Err, IfOk, IfErr};
 ghost use Rattle.outside_store.specs.Files.{Reads};
-ghost use Rattle.command_words.specs.Requests.{names_to_check};
-ghost use Rattle.command_words.specs.Words.{IsCheckFile};
+ghost use Rattle.command_answers.specs.Inputs.{texts_of};
+ghost use Rattle.command_words.specs.Requests.{names_of_market, names_to_check};
+ghost use Rattle.command_words.specs.Words.{IsCheckFile, IsMarketFile};
 ghost use Rattle.market_inputs.specs.Files.{most_file};
-ghost use Rattle.sced.specs.Reading.{ReadsGrid, ReadsTable};
+ghost use Rattle.sced.specs.Reading.{ReadsGrid, ReadsMarket, ReadsTable, texts_in};
 ghost use Rattle.sced.specs.Runs.{IsSilent, OnlyReads};
 
-use crate::status::Status;
-use command_words::CheckFiles;
-use market_inputs::MOST_BYTES;
+use command_answers::Status;
+use command_words::{CheckFiles, MarketFiles};
+use market_inputs::{ClearBytes, MOST_BYTES};
 use outside_store::{ReadStop, Store};
 use std::alloc::Global;
 
@@ -21,6 +22,14 @@ pub struct GridBytes {
     pub ptdf: Vec<u8>,
     pub lodf: Vec<u8>,
     pub contingencies: Vec<u8>,
+}
+
+/// The bytes of the files of a market.
+#[derive(Drop)]
+pub struct MarketBytes {
+    pub grid: GridBytes,
+    pub offers: Vec<u8>,
+    pub offsets: Vec<u8>,
 }
 
 /// The bytes of a named file, cut behind the first too many.
@@ -80,4 +89,45 @@ pub fn read_grid<S: Store>(
         lodf,
         contingencies,
     })
+}
+
+/// The bytes of the files of a market.
+#[tactic(auto, using(crate::proofs::ReadingLemmas::same_then))]
+pub fn read_market<S: Store>(
+    alloc: Global,
+    files: &MarketFiles<'_>,
+    store: &mut S,
+) -> Result<MarketBytes, Status>
+    ensures bytes { IfOk result (ReadsMarket (S.files store.old) (names_of_market files.now)) }
+    ensures stop { IfErr result IsSilent }
+    ensures reads { OnlyReads S.Store store.old store.new (IsMarketFile (names_of_market files.now)) (result ≡ Err Status.ReadFailed) }
+{
+    let grid_files = CheckFiles {
+        case: files.case,
+        ptdf: files.ptdf,
+        lodf: files.lodf,
+        contingencies: files.contingencies,
+    };
+    let grid = read_grid(alloc, &grid_files, store)?;
+    let offers = read_file(alloc, store, files.offers)?;
+    let offsets = read_table(alloc, store, files.offsets, b"branch,mw\n")?;
+    Ok(MarketBytes {
+        grid,
+        offers,
+        offsets,
+    })
+}
+
+/// These bytes, lent.
+pub fn lent(bytes: &MarketBytes) -> ClearBytes<'_>
+    ensures { texts_of result ≡ texts_in bytes.now }
+{
+    ClearBytes {
+        case: bytes.grid.case.as_slice(),
+        ptdf: bytes.grid.ptdf.as_slice(),
+        lodf: bytes.grid.lodf.as_slice(),
+        contingencies: bytes.grid.contingencies.as_slice(),
+        offers: bytes.offers.as_slice(),
+        offsets: bytes.offsets.as_slice(),
+    }
 }

@@ -1,7 +1,7 @@
 //! The pool, with texts worked by hand, and refusals.
 
 use crate::fixture::{BUSES, OFFERS, Text, UNITS, case, expect};
-use crate::status::Status;
+use command_answers::Status;
 use std::process::Abort;
 use std::test::Fail;
 

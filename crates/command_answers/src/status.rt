@@ -26,7 +26,7 @@ pub enum Status {
 }
 
 impl Status {
-    ghost use Rattle.sced.specs.Status.{code_of};
+    ghost use Rattle.command_answers.specs.Status.{code_of};
 
     pub fn code(self) -> u8
         ensures { result ≡ code_of self }

@@ -1,22 +1,18 @@
-//! The subcommand that tells whether published tables fit a network.
+//! Tables that are checked against a network.
 
-ghost use Rattle.std.specs.Prelude.{◌≡◌, Bool, Ok, Err, IfOk, MatchResult};
-ghost use Rattle.command_words.specs.Requests.{names_to_check};
-ghost use Rattle.command_words.specs.Words.{IsCheckFile};
+ghost use Rattle.std.specs.Prelude.{◌≡◌, Bool, IfOk};
 ghost use Rattle.market_inputs.specs.Checking.{AreFit};
-ghost use Rattle.sced.specs.Checking.{AreResiduals, ChecksTo, TellsCheck, are_within, check_status_of};
-ghost use Rattle.sced.specs.Runs.{IsOfFiles, IsSilent, OnlyReads};
-ghost use Rattle.sced.specs.Told.{FilesCheckTo};
+ghost use Rattle.command_answers.specs.Checking.{AreResiduals, TellsCheck, are_within, check_status_of};
+ghost use Rattle.command_answers.specs.Inputs.{IsCheck};
+ghost use Rattle.command_answers.specs.Status.{IsOfWork};
+ghost use Rattle.command_answers.specs.Tellings.{Tells, telling_of};
 
-use crate::outcome::{Outcome, refused, told};
-use crate::reading::{GridBytes, read_grid};
 use crate::status::Status;
-use command_words::CheckFiles;
+use crate::told::{Told, refused, uncertified};
 use factor_residuals::{
     Residual, bus_residual, loop_residual, outage_bus_residual, outage_loop_residual,
 };
 use market_inputs::{CheckBytes, Inputs, Stop, check_inputs};
-use outside_store::Store;
 use plain_list::Memory;
 use residual_text::residuals_text;
 use std::alloc::Global;
@@ -73,10 +69,10 @@ fn check_status(residuals: &Residuals) -> Status
 }
 
 /// What the residuals of a check come to.
-fn check_outcome(alloc: Global, inputs: &Inputs) -> Result<Outcome, Memory>
+fn residuals_told(alloc: Global, inputs: &Inputs) -> Result<Told, Memory>
     requires { AreFit inputs.now }
-    ensures status { IfOk result (λ outcome. IsOfFiles outcome.status) }
-    ensures checks { IfOk result (λ outcome. TellsCheck (Ok inputs.now) outcome.status outcome.text.items) }
+    ensures status { IfOk result (λ told. IsOfWork told.status) }
+    ensures checks { IfOk result (λ told. TellsCheck inputs.now (telling_of told)) }
 {
     let residuals = residuals_of(alloc, inputs)?;
     let text = residuals_text(
@@ -86,40 +82,17 @@ fn check_outcome(alloc: Global, inputs: &Inputs) -> Result<Outcome, Memory>
         &residuals.outage_bus,
         &residuals.outage_round,
     )?;
-    Ok(Outcome {
-        status: check_status(&residuals),
-        text,
-    })
+    Ok(uncertified(check_status(&residuals), text))
 }
 
-/// What the bytes of a case and of its tables come to.
-fn check(alloc: Global, grid: &GridBytes) -> Result<Outcome, Memory>
-    ensures status { IfOk result (λ outcome. IsOfFiles outcome.status) }
-    ensures checks { IfOk result (λ outcome. ChecksTo grid.now.case.items grid.now.ptdf.items grid.now.lodf.items grid.now.contingencies.items outcome.status outcome.text.items) }
+/// What the whole bytes of a case and of its tables come to.
+pub fn check_told(alloc: Global, bytes: &CheckBytes<'_>) -> Result<Told, Memory>
+    ensures status { IfOk result (λ told. IsOfWork told.status) }
+    ensures tells { IfOk result (λ told. Tells (IsCheck bytes.now.case.now bytes.now.ptdf.now bytes.now.lodf.now bytes.now.contingencies.now) TellsCheck (telling_of told)) }
 {
-    let bytes = CheckBytes {
-        case: grid.case.as_slice(),
-        ptdf: grid.ptdf.as_slice(),
-        lodf: grid.lodf.as_slice(),
-        contingencies: grid.contingencies.as_slice(),
-    };
-    match check_inputs(alloc, &bytes) {
-        Ok(inputs) => check_outcome(alloc, &inputs),
+    match check_inputs(alloc, bytes) {
+        Ok(inputs) => residuals_told(alloc, &inputs),
         Err(Stop::Refused(refusal)) => refused(alloc, &refusal),
         Err(Stop::Memory) => Err(Memory),
     }
-}
-
-/// What the case and its tables come to.
-pub fn check_files_outcome<S: Store>(
-    alloc: Global,
-    files: &CheckFiles<'_>,
-    store: &mut S,
-) -> Result<Outcome, Status>
-    ensures told { MatchResult result (λ outcome. IsOfFiles outcome.status) IsSilent }
-    ensures checked { IfOk result (λ outcome. FilesCheckTo (S.files store.old) (names_to_check files.now) outcome.status outcome.text.items) }
-    ensures reads { OnlyReads S.Store store.old store.new (IsCheckFile (names_to_check files.now)) (result ≡ Err Status.ReadFailed) }
-{
-    let grid = read_grid(alloc, files, store)?;
-    told(check(alloc, &grid))
 }

@@ -1,0 +1,53 @@
+-- What clearing a market comes to.
+use Rattle.std.specs.Prelude.{◌≡◌, ℕ, ◌≤◌, ◌-◌, ◌^◌, List, [], unsigned_abs}
+use Rattle.fraction_theory.specs.Fraction.{Fraction}
+use Rattle.exact_fraction.specs.declared.Passed.{Passed}
+use Rattle.market_model.specs.declared.participants.Parts.{Parts}
+use Rattle.market_model.specs.declared.answered.Outcome.{Outcome}
+use Rattle.market_model.specs.declared.answered.Outcome.TheVariants as outcome
+use Rattle.market_model.specs.Market.{IsMarket}
+use Rattle.market_system.specs.Outcomes.{IsRightOutcome}
+use Rattle.report_text.specs.Reports.{report_text}
+use Rattle.cert_format.specs.Certificates.{certificate_of}
+use Rattle.command_answers.specs.declared.status.Status.{Status}
+use Rattle.command_answers.specs.declared.status.Status.TheVariants as status
+use Rattle.command_answers.specs.Tellings.{Telling}
+
+-- the status of what a clear came to
+abbrev pub status_of : Outcome Fraction → Status
+status_of (outcome.Cleared a) = status.Done
+status_of (outcome.Infeasible f) = status.Infeasible
+status_of (outcome.Range p) = status.Range
+
+-- the numerator and the denominator are within the bound
+abbrev pub IsWithin : ℕ → Fraction → Type 0
+IsWithin bound x = (unsigned_abs x.num ≤ bound) × (x.den ≤ bound)
+
+-- the two sides of an operation are
+abbrev pub ArePassedWithin : ℕ → Passed Fraction → Type 0
+ArePassedWithin bound p = IsWithin bound p.left × IsWithin bound p.right
+
+-- of two numbers that became too large together, each is within the bound
+abbrev pub AreSidesWithin : ℕ → Outcome Fraction → Type 0
+AreSidesWithin bound (outcome.Cleared a) = Unit {0}
+AreSidesWithin bound (outcome.Infeasible f) = Unit {0}
+AreSidesWithin bound (outcome.Range p) = ArePassedWithin bound p
+
+-- What is told is that of a right outcome of the market, with no limits taken before: the report of a right answer, of duals that show
+-- that no dispatch is feasible, or of two numbers of the market, each within the bound, whose outcome passes it. Its certificate is that
+-- of the answer, or of the duals.
+pub record ClearsTo (bound : ℕ) (m : Parts) (t : Telling) : Type 0 where
+  pub outcome : Outcome Fraction
+  pub right : IsRightOutcome bound m [] outcome
+  pub sides : AreSidesWithin bound outcome
+  pub status_is : t.status ≡ status_of outcome
+  pub text_is : t.text ≡ report_text m outcome
+  pub certificate_is : t.certificate ≡ certificate_of outcome
+
+-- the greatest size of a numerator or denominator: that of 127 bits
+abbrev pub most_size : ℕ
+most_size = 2 ^ 127 - 1
+
+-- the same of a market, which keeps what every market keeps, by numbers of 127 bits
+abbrev pub TellsClear : Parts → Telling → Type 0
+TellsClear m t = IsMarket m × ClearsTo most_size m t

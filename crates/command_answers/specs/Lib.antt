@@ -1,0 +1,9 @@
+pub mod Checking
+pub mod Clearing
+pub mod Inputs
+pub mod Making
+pub mod Replaying
+pub mod Status
+pub mod Tellings
+pub mod Verdicts
+pub mod Verifying

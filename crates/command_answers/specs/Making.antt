@@ -1,0 +1,33 @@
+-- What making a ring and clearing it comes to.
+use Rattle.std.specs.Prelude.{◌≡◌, ℕ, List, [], ◌++◌, length, codes, decimal}
+use Rattle.fraction_theory.specs.Fraction.{Fraction}
+use Rattle.exact_fraction.specs.declared.Passed.{Passed}
+use Rattle.exact_fraction.specs.Written.{written}
+use Rattle.market_model.specs.declared.answered.Answer.{Answer}
+use Rattle.market_model.specs.LimitRows.{rows}
+use Rattle.market_model.specs.RightAnswers.{IsRight}
+use Rattle.market_system.specs.WorkingPairs.{IsRangeOf}
+use Rattle.report_text.specs.Reports.{range_text}
+use Rattle.case_maker.specs.Rings.{ring_of}
+use Rattle.command_answers.specs.declared.status.Status.TheVariants as status
+use Rattle.command_answers.specs.Clearing.{ArePassedWithin, most_size}
+use Rattle.command_answers.specs.Tellings.{Telling, uncertified}
+
+-- how many buses, blocks and limits a ring has
+unfoldable pub ring_line : ℕ → ℕ → List ℕ
+ring_line buses seed =
+    codes "ring " ++ decimal buses ++ codes " seed " ++ decimal seed
+    ++ codes " buses " ++ decimal (length (ring_of buses seed).buses)
+    ++ codes " blocks " ++ decimal (length (ring_of buses seed).blocks)
+    ++ codes " limits " ++ decimal (length (rows (ring_of buses seed))) ++ codes "\n"
+
+-- what an answer is worth, and what is left of what loads pay
+unfoldable pub summary : Answer Fraction → List ℕ
+summary a = codes "cleared\nwelfare " ++ written 15 a.welfare ++ codes "\nsurplus " ++ written 15 a.money.surplus ++ codes "\n"
+
+-- What is told is the size of the ring, with the worth and the surplus of a right answer of it; or, in their place, two of its numbers,
+-- each within the bound, whose outcome passes it.
+pub data MakesTo (bound : ℕ) (buses seed : ℕ) (t : Telling) : Type 0 where
+  cleared : (a : Answer Fraction) → IsRight (ring_of buses seed) a → t ≡ uncertified status.Done (ring_line buses seed ++ summary a) → MakesTo bound buses seed t
+  passed : (p : Passed Fraction) → IsRangeOf (ring_of buses seed) [] bound p → ArePassedWithin bound p
+      → t ≡ uncertified status.Range (ring_line buses seed ++ range_text p) → MakesTo bound buses seed t

@@ -1,0 +1,72 @@
+-- What replaying edits and clears of a market comes to.
+use Rattle.std.specs.Prelude.{◌≡◌, ℕ, List, [], ◌∷◌, All, Option, Some, None, option_and_then}
+use Rattle.fraction_theory.specs.Fraction.{Fraction}
+use Rattle.market_model.specs.declared.participants.Parts.{Parts}
+use Rattle.market_model.specs.declared.answered.Outcome.{Outcome}
+use Rattle.market_model.specs.LimitRows.{Row}
+use Rattle.market_model.specs.Market.{IsMarket}
+use Rattle.cert_format.specs.Certificates.{certificate_of}
+use Rattle.edit_table.specs.declared.step.Step.{Step}
+use Rattle.edit_replay.specs.declared.outcomes.StepOutcome.{StepOutcome}
+use Rattle.edit_replay.specs.declared.outcomes.StepOutcome.TheVariants as step
+use Rattle.edit_replay.specs.Replays.{IsReplay}
+use Rattle.replay_text.specs.ReplayText.{replayed}
+use Rattle.command_answers.specs.declared.status.Status.{Status}
+use Rattle.command_answers.specs.declared.status.Status.TheVariants as status
+use Rattle.command_answers.specs.Clearing.{AreSidesWithin, most_size, status_of}
+use Rattle.command_answers.specs.Inputs.{MarketSteps}
+use Rattle.command_answers.specs.Tellings.{Telling}
+
+-- the status of one step's outcome
+abbrev pub step_status : StepOutcome Fraction → Status
+step_status step.Accepted = status.Done
+step_status (step.Refused f) = status.Refused
+step_status (step.Clear o) = status_of o
+
+-- the status, or another one where it is that of what is done
+abbrev pub done_or : Status → Status → Status
+done_or status.Done other = other
+done_or status.Usage other = status.Usage
+done_or status.Refused other = status.Refused
+done_or status.Infeasible other = status.Infeasible
+done_or status.Range other = status.Range
+done_or status.ReadFailed other = status.ReadFailed
+done_or status.WriteFailed other = status.WriteFailed
+done_or status.Memory other = status.Memory
+done_or status.Refuted other = status.Refuted
+
+-- the status of the first step that was neither accepted nor cleared
+unfoldable pub replay_status : List (StepOutcome Fraction) → Status
+replay_status [] = status.Done
+replay_status (o ∷ os) = done_or (step_status o) (replay_status os)
+
+-- a clear's outcome, or that of one before it
+abbrev pub clear_or : Option (Outcome Fraction) → StepOutcome Fraction → Option (Outcome Fraction)
+clear_or before step.Accepted = before
+clear_or before (step.Refused f) = before
+clear_or before (step.Clear o) = Some o
+
+-- what the last clear came to
+unfoldable pub last_clear : Option (Outcome Fraction) → List (StepOutcome Fraction) → Option (Outcome Fraction)
+last_clear before [] = before
+last_clear before (o ∷ os) = last_clear (clear_or before o) os
+
+abbrev pub AreStepSidesWithin : ℕ → StepOutcome Fraction → Type 0
+AreStepSidesWithin bound step.Accepted = Unit {0}
+AreStepSidesWithin bound (step.Refused f) = Unit {0}
+AreStepSidesWithin bound (step.Clear o) = AreSidesWithin bound o
+
+-- What is told is that of right outcomes, one for each step: those of edits as the market stands then, and those of clears of the market
+-- as it is edited by then, with no limits taken before the first. The certificate is that of the last clear.
+pub record ReplaysTo (bound : ℕ) (m : Parts) (steps : List Step) (t : Telling) : Type 0 where
+  pub outcomes : List (StepOutcome Fraction)
+  pub taken : List Row
+  pub right : IsReplay bound m [] steps outcomes taken
+  pub sides : All (AreStepSidesWithin bound) outcomes
+  pub status_is : t.status ≡ replay_status outcomes
+  pub text_is : t.text ≡ replayed m steps outcomes
+  pub certificate_is : t.certificate ≡ option_and_then certificate_of (last_clear None outcomes)
+
+-- the same of a market, which keeps what every market keeps, by numbers of 127 bits
+abbrev pub TellsReplay : MarketSteps → Telling → Type 0
+TellsReplay r t = IsMarket r.market × ReplaysTo most_size r.market r.steps t

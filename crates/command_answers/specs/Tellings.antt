@@ -1,0 +1,42 @@
+-- What the inputs of a command come to: a status, the text that goes with it, and the certificate that there is of it.
+use Rattle.std.specs.Prelude.{◌≡◌, ℕ, List, Option, None, option_map, Result, Ok, Err}
+use Rattle.refusal_text.specs.Refusals.{refusal_line}
+use Rattle.refusal_text.specs.declared.refusals.Refusal.{Refusal}
+use Rattle.market_inputs.specs.declared.stops.Stop.{Stop}
+use Rattle.market_inputs.specs.declared.stops.Stop.TheVariants as stop
+use Rattle.command_answers.specs.declared.status.Status.{Status}
+use Rattle.command_answers.specs.declared.status.Status.TheVariants as status
+use Rattle.command_answers.specs.declared.told.Told.{Told}
+
+pub record Telling : Type 0 where
+  pub status : Status
+  pub text : List ℕ
+  pub certificate : Option (List ℕ)
+
+abbrev pub telling_of : Told → Telling
+telling_of t = record { status = t.status; text = t.text.items; certificate = option_map (λ bytes. bytes.items) t.certificate }
+
+-- a status and its text, of which there is no certificate
+abbrev pub uncertified : Status → List ℕ → Telling
+uncertified s text = record { status = s; text = text; certificate = None }
+
+-- what a file that is refused comes to: the line that says why
+abbrev pub refusal_of : Refusal → Telling
+refusal_of r = uncertified status.Refused (refusal_line r)
+
+-- what is told is right for what some inputs stand for, or it is the line of their first fault
+abbrev pub ComesTo : {A : Type 0} → (A → Telling → Type 0) → Result A Refusal → Telling → Type 0
+ComesTo right (Ok x) t = right x t
+ComesTo right (Err r) t = t ≡ refusal_of r
+
+-- the same of what was made of them; for want of memory there is nothing to tell
+abbrev pub MadeTo : {A : Type 0} → (A → Telling → Type 0) → Result A Stop → Telling → Type 0
+MadeTo right (Ok x) t = right x t
+MadeTo right (Err (stop.Refused r)) t = t ≡ refusal_of r
+MadeTo right (Err stop.Memory) t = ⊥
+
+-- what is told is right for inputs that stand for this
+pub record Tells {A : Type 0} (stand : Result A Refusal → Type 0) (right : A → Telling → Type 0) (t : Telling) : Type 0 where
+  pub told : Result A Refusal
+  pub stands : stand told
+  pub comes : ComesTo right told t

@@ -1,0 +1,32 @@
+-- What verifying a certificate against a market comes to.
+use Rattle.std.specs.Prelude.{◌≡◌, ℕ, Option, Some, None}
+use Rattle.fraction_theory.specs.Fraction.{Fraction}
+use Rattle.exact_fraction.specs.declared.Passed.{Passed}
+use Rattle.market_model.specs.declared.participants.Parts.{Parts}
+use Rattle.market_model.specs.Market.{IsMarket}
+use Rattle.report_text.specs.Reports.{range_text}
+use Rattle.cert_format.specs.declared.cert.Cert.{Cert}
+use Rattle.cert_verify.specs.Reasons.{first_reason}
+use Rattle.cert_verify.specs.Reasons.{IsCertificatePair}
+use Rattle.cert_verify.specs.declared.reasons.Reason.{Reason}
+use Rattle.command_answers.specs.declared.status.Status.{Status}
+use Rattle.command_answers.specs.declared.status.Status.TheVariants as status
+use Rattle.command_answers.specs.Clearing.{ArePassedWithin, most_size}
+use Rattle.command_answers.specs.Inputs.{MarketCertificate}
+use Rattle.command_answers.specs.Tellings.{Telling, uncertified}
+use Rattle.command_answers.specs.Verdicts.{verdict_line}
+
+-- a certificate holds where there is no reason against it
+abbrev pub verdict_status : Option Reason → Status
+verdict_status None = status.Done
+verdict_status (Some r) = status.Refuted
+
+-- What is told is whether the certificate holds of the market, with the first reason where it does not; or two numbers of the
+-- certificate's own sums, each within the bound, whose outcome passes it.
+pub data VerifiesTo (bound : ℕ) (m : Parts) (c : Cert Fraction) (t : Telling) : Type 0 where
+  judged : t ≡ uncertified (verdict_status (first_reason m c)) (verdict_line (first_reason m c)) → VerifiesTo bound m c t
+  passed : (p : Passed Fraction) → IsCertificatePair m c bound p → ArePassedWithin bound p → t ≡ uncertified status.Range (range_text p) → VerifiesTo bound m c t
+
+-- the same of a market, which keeps what every market keeps, by numbers of 127 bits
+abbrev pub TellsVerdict : MarketCertificate → Telling → Type 0
+TellsVerdict v t = IsMarket v.market × VerifiesTo most_size v.market v.certificate t

@@ -1,0 +1,95 @@
+//! Markets that are cleared.
+
+ghost use Rattle.std.specs.Prelude.{◌≡◌, [], IfOk};
+ghost use Rattle.market_model.specs.Fitting.{FitsOutcome};
+ghost use Rattle.market_model.specs.Market.{IsMarket};
+ghost use Rattle.market_model.specs.Valued.{outcome_at};
+ghost use Rattle.market_system.specs.Outcomes.{IsRightOutcome};
+ghost use Rattle.command_answers.specs.Clearing.{AreSidesWithin, ClearsTo, TellsClear, status_of};
+ghost use Rattle.command_answers.specs.Inputs.{IsLimited, IsPool, texts_of};
+ghost use Rattle.command_answers.specs.Status.{IsOfWork};
+ghost use Rattle.command_answers.specs.Tellings.{MadeTo, Tells, telling_of};
+
+use crate::status::Status;
+use crate::told::{Told, refused};
+use cert_format::outcome_json;
+use clear_loop::{ClearFault, Clearer};
+use exact_fraction::{Exact, Frac};
+use market_inputs::{ClearBytes, Stop, clear_market, pool_market};
+use market_model::{Market, Memory, Outcome};
+use net_case::PostRating;
+use report_text::report;
+use std::alloc::Global;
+
+/// What a market is cleared to.
+pub(crate) fn cleared<N: Exact>(alloc: Global, market: &Market) -> Result<Outcome<N>, Memory>
+    ensures fits { IfOk result (FitsOutcome market.now) }
+    ensures right { IfOk result (λ outcome. IsRightOutcome N.bound market.now [] (outcome_at N.value outcome)) }
+    ensures sides { IfOk result (λ outcome. AreSidesWithin N.bound (outcome_at N.value outcome)) }
+{
+    let mut clearer = Clearer::new(market);
+    match clearer.clear(alloc, market) {
+        Ok(answer) => Ok(Outcome::Cleared(answer)),
+        Err(ClearFault::Infeasible(farkas)) => Ok(Outcome::Infeasible(farkas)),
+        Err(ClearFault::Range(passed)) => Ok(Outcome::Range(passed)),
+        Err(ClearFault::Memory) => Err(Memory),
+    }
+}
+
+/// The status of what a market was cleared to.
+pub(crate) fn clear_status<N: Exact>(outcome: &Outcome<N>) -> Status
+    ensures status { result ≡ status_of (outcome_at N.value outcome.now) }
+    ensures work { IsOfWork result }
+{
+    match outcome {
+        Outcome::Cleared(_) => Status::Done,
+        Outcome::Infeasible(_) => Status::Infeasible,
+        Outcome::Range(_) => Status::Range,
+    }
+}
+
+/// What clearing a market comes to.
+fn clear_outcome<N: Exact>(alloc: Global, market: &Market) -> Result<Told, Memory>
+    ensures status { IfOk result (λ told. IsOfWork told.status) }
+    ensures clears { IfOk result (λ told. ClearsTo N.bound market.now (telling_of told)) }
+{
+    let outcome = cleared::<N>(alloc, market)?;
+    Ok(Told {
+        status: clear_status(&outcome),
+        text: report(alloc, market, &outcome)?,
+        certificate: outcome_json(alloc, &outcome)?,
+    })
+}
+
+/// What a market comes to, or why none was made.
+fn market_told(alloc: Global, made: Result<Market, Stop>) -> Result<Told, Memory>
+    requires { IfOk made IsMarket }
+    ensures status { IfOk result (λ told. IsOfWork told.status) }
+    ensures tells { IfOk result (λ told. MadeTo TellsClear made (telling_of told)) }
+{
+    match made {
+        Ok(market) => clear_outcome::<Frac>(alloc, &market),
+        Err(Stop::Refused(refusal)) => refused(alloc, &refusal),
+        Err(Stop::Memory) => Err(Memory),
+    }
+}
+
+/// What the whole bytes of a case and of offers come to, as if no branch had a limit.
+pub fn pool_told(alloc: Global, case: &[u8], offers: &[u8]) -> Result<Told, Memory>
+    ensures status { IfOk result (λ told. IsOfWork told.status) }
+    ensures tells { IfOk result (λ told. Tells (IsPool case.now offers.now) TellsClear (telling_of told)) }
+{
+    market_told(alloc, pool_market(alloc, case, offers))
+}
+
+/// What the whole bytes of the files of a market come to, by the rating that limits branches after an outage.
+pub fn clear_told(
+    alloc: Global,
+    bytes: &ClearBytes<'_>,
+    rating: PostRating,
+) -> Result<Told, Memory>
+    ensures status { IfOk result (λ told. IsOfWork told.status) }
+    ensures tells { IfOk result (λ told. Tells (IsLimited rating (texts_of bytes.now)) TellsClear (telling_of told)) }
+{
+    market_told(alloc, clear_market(alloc, bytes, rating))
+}

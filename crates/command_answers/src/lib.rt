@@ -1,0 +1,22 @@
+//! What the inputs of each command come to: a status, the text that goes with it, and the certificate that there is of it.
+#![tactic(auto)]
+
+mod checking;
+mod clearing;
+mod making;
+mod replaying;
+mod status;
+mod told;
+mod verdicts;
+mod verifying;
+
+pub use checking::check_told;
+pub use clearing::{clear_told, pool_told};
+pub use making::make_told;
+pub use replaying::replay_told;
+pub use status::Status;
+pub use told::Told;
+pub use verifying::verify_told;
+
+#[cfg(test)]
+mod tests;

@@ -1,0 +1,117 @@
+//! Edits and clears of a market, one after another.
+
+ghost use Rattle.std.specs.Prelude.{◌≡◌, [], None, All, IfOk, map, option_and_then, option_map};
+ghost use Rattle.cert_format.specs.Certificates.{certificate_of};
+ghost use Rattle.edit_replay.specs.Replays.{steps_at};
+ghost use Rattle.edit_table.specs.StepTable.{AreSteps};
+ghost use Rattle.market_model.specs.Market.{IsMarket};
+ghost use Rattle.command_answers.specs.Clearing.{ClearsTo};
+ghost use Rattle.command_answers.specs.Inputs.{IsReplayed, texts_of};
+ghost use Rattle.command_answers.specs.Replaying.{ReplaysTo, TellsReplay, last_clear, replay_status, step_status};
+ghost use Rattle.command_answers.specs.Status.{IsOfWork};
+ghost use Rattle.command_answers.specs.Tellings.{Tells, telling_of};
+
+use crate::clearing::clear_status;
+use crate::status::Status;
+use crate::told::{Told, refused};
+use cert_format::outcome_json;
+use edit_replay::{Outcomes, Session, StepOutcome, Steps};
+use exact_fraction::{Exact, Frac};
+use market_inputs::{ClearBytes, Stop, clear_market, edit_steps};
+use market_model::{Market, Memory, Outcome};
+use net_case::PostRating;
+use replay_text::replay_text;
+use std::alloc::Global;
+
+/// The market of the files of a replay, and its steps.
+#[derive(Drop)]
+pub(crate) struct Replayed {
+    pub market: Market,
+    pub steps: Steps,
+}
+
+/// What the files of a replay stand for.
+pub(crate) fn replay_inputs(
+    alloc: Global,
+    bytes: &ClearBytes<'_>,
+    rating: PostRating,
+    edits: &[u8],
+) -> Result<Replayed, Stop> {
+    let market = clear_market(alloc, bytes, rating)?;
+    let steps = edit_steps(alloc, edits)?;
+    Ok(Replayed { market, steps })
+}
+
+/// The status of a step's outcome.
+fn step_status<N: Exact>(outcome: &StepOutcome<N>) -> Status {
+    match outcome {
+        StepOutcome::Accepted => Status::Done,
+        StepOutcome::Refused(_) => Status::Refused,
+        StepOutcome::Clear(outcome) => clear_status(outcome),
+    }
+}
+
+/// The status of the first step that was neither accepted nor cleared.
+fn replay_status<N: Exact>(outcomes: &Outcomes<N>) -> Status {
+    for outcome in outcomes.slice() {
+        let status = step_status(outcome);
+        if status != Status::Done {
+            return status;
+        }
+    }
+    Status::Done
+}
+
+/// What the last clear came to.
+fn last_clear<N>(outcomes: &Outcomes<N>) -> Option<&Outcome<N>> {
+    let mut last = None;
+    for outcome in outcomes.slice() {
+        if let StepOutcome::Clear(outcome) = outcome {
+            last = Some(outcome);
+        }
+    }
+    last
+}
+
+/// The certificate of the last clear.
+fn last_certificate<N: Exact>(
+    alloc: Global,
+    outcomes: &Outcomes<N>,
+) -> Result<Option<Vec<u8>>, Memory> {
+    match last_clear(outcomes) {
+        Some(outcome) => outcome_json(alloc, outcome),
+        None => Ok(None),
+    }
+}
+
+/// What replaying the steps of a market comes to.
+fn replay_outcome<N: Exact>(
+    alloc: Global,
+    market: Market,
+    steps: &Steps,
+) -> Result<Told, Memory> {
+    let mut session = Session::<N>::new(market);
+    let outcomes = session.replay(alloc, steps)?;
+    Ok(Told {
+        status: replay_status(&outcomes),
+        text: replay_text(alloc, session.market(), steps, &outcomes)?,
+        certificate: last_certificate(alloc, &outcomes)?,
+    })
+}
+
+/// What the whole bytes of the files of a market and of a table of edits come to.
+pub fn replay_told(
+    alloc: Global,
+    bytes: &ClearBytes<'_>,
+    rating: PostRating,
+    edits: &[u8],
+) -> Result<Told, Memory>
+    ensures status { IfOk result (λ told. IsOfWork told.status) }
+    ensures tells { IfOk result (λ told. Tells (IsReplayed rating (texts_of bytes.now) edits.now) TellsReplay (telling_of told)) }
+{
+    match replay_inputs(alloc, bytes, rating, edits) {
+        Ok(replayed) => replay_outcome::<Frac>(alloc, replayed.market, &replayed.steps),
+        Err(Stop::Refused(refusal)) => refused(alloc, &refusal),
+        Err(Stop::Memory) => Err(Memory),
+    }
+}

@@ -1,0 +1,62 @@
+//! The line that tells whether a certificate holds.
+
+ghost use Rattle.std.specs.Prelude.{◌≡◌, ◌++◌, IfOk};
+ghost use Rattle.command_answers.specs.Verdicts.{reason_words, row_words, verdict_line};
+
+use cert_verify::{Reason, Verdict};
+use line_text::Text;
+use market_model::{Memory, RowId};
+use std::alloc::Global;
+
+/// A reason by its name, and the limit that it is of.
+#[tactic(auto, using(std::proofs::Common::append_assoc), unfolding(crate::specs::Verdicts::row_words))]
+fn at_row(text: &mut Text, name: &[u8], row: RowId) -> Result<(), Memory>
+    ensures { IfOk result (λ _. text.new ≡ text.old ++ name.now ++ row_words row) }
+{
+    text.word(name)?;
+    text.word(b" branch ")?;
+    text.number(row.branch as usize)?;
+    text.word(b" outage ")?;
+    text.number(row.outage as usize)
+}
+
+/// A reason by its name, and the block that it is of.
+fn at_block(text: &mut Text, name: &[u8], block: usize) -> Result<(), Memory>
+    ensures { IfOk result (λ _. text.new ≡ text.old ++ name.now ++ decimal block) }
+{
+    text.word(name)?;
+    text.number(block)
+}
+
+#[tactic(auto, using(std::proofs::Common::append_assoc), unfolding(crate::specs::Verdicts::reason_words))]
+fn write_reason(text: &mut Text, reason: Reason) -> Result<(), Memory>
+    ensures { IfOk result (λ _. text.new ≡ text.old ++ reason_words reason) }
+{
+    match reason {
+        Reason::Count => text.word(b"Count"),
+        Reason::NoRow { row } => at_row(text, b"NoRow", row),
+        Reason::Sign { row } => at_row(text, b"Sign", row),
+        Reason::Block { n } => at_block(text, b"Block ", n),
+        Reason::Balance => text.word(b"Balance"),
+        Reason::Limit { row } => at_row(text, b"Limit", row),
+        Reason::Slack { row } => at_row(text, b"Slack", row),
+        Reason::Support { n } => at_block(text, b"Support ", n),
+        Reason::Bound => text.word(b"Bound"),
+    }
+}
+
+/// `yes`, or `no` with the reason.
+#[tactic(auto, using(std::proofs::Common::append_assoc), unfolding(crate::specs::Verdicts::verdict_line))]
+pub(crate) fn verdict_text(alloc: Global, verdict: Verdict) -> Result<Vec<u8>, Memory>
+{
+    let mut text = Text::new(alloc);
+    match verdict {
+        Verdict::Yes => text.word(b"yes\n")?,
+        Verdict::No(reason) => {
+            text.word(b"no ")?;
+            write_reason(&mut text, reason)?;
+            text.word(b"\n")?;
+        }
+    }
+    Ok(text.into_bytes())
+}

@@ -1,0 +1,26 @@
+-- What the bytes of a table of edits and those of a certificate stand for.
+use Rattle.std.specs.Prelude.{◌≡◌, ℕ, List, Result, Ok, Err}
+use Rattle.fraction_theory.specs.Fraction.{Fraction}
+use Rattle.record_reading.specs.Steps.{and_then, or_as}
+use Rattle.cert_format.specs.Certificates.{cert_at, cert_read}
+use Rattle.cert_format.specs.declared.cert.Cert.{Cert}
+use Rattle.edit_table.specs.StepTable.{steps_of_table}
+use Rattle.edit_table.specs.declared.step.Step.{Step}
+use Rattle.refusal_text.specs.declared.refusals.Refusal.{Refusal}
+use Rattle.refusal_text.specs.declared.refusals.Refusal.TheVariants as refusal
+use Rattle.market_inputs.specs.declared.stops.Stop.{Stop}
+use Rattle.market_inputs.specs.declared.stops.Stop.TheVariants as stop
+
+-- the steps of a table of edits
+abbrev pub steps_in : Result (List ℕ) Refusal → Result (List Step) Refusal
+steps_in bytes = and_then bytes (λ text. or_as refusal.Edits (steps_of_table text))
+
+-- the certificate of a text
+abbrev pub certificate_in : Result (List ℕ) Refusal → Result (Cert Fraction) Refusal
+certificate_in bytes = and_then bytes (λ text. or_as refusal.Certificate (cert_read text))
+
+-- what was read has this value, or this is the fault; want of memory may come at any time
+abbrev pub IsReadAs : {N : Type 0} → (N → Fraction) → Result (Cert Fraction) Refusal → Result (Cert N) Stop → Type 0
+IsReadAs value stands (Ok cert) = stands ≡ Ok (cert_at value cert)
+IsReadAs value stands (Err (stop.Refused r)) = stands ≡ Err r
+IsReadAs value stands (Err stop.Memory) = Unit {0}

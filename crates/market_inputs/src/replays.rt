@@ -1,0 +1,37 @@
+//! The steps of a table of edits, and the certificate of a text.
+
+ghost use Rattle.std.specs.Prelude.{◌≡◌, IfOk};
+ghost use Rattle.cert_format.specs.Certificates.{RowsAreDistinct, cert_at};
+ghost use Rattle.edit_table.specs.StepTable.{AreSteps};
+ghost use Rattle.refusal_text.specs.declared.refusals.Input.TheVariants as input;
+ghost use Rattle.refusal_text.specs.declared.refusals.Refusal.TheVariants as refusal;
+ghost use Rattle.market_inputs.specs.Files.{sized};
+ghost use Rattle.market_inputs.specs.Replaying.{IsReadAs, certificate_in, steps_in};
+ghost use Rattle.market_inputs.specs.Steps.{Is};
+ghost use Rattle.market_inputs.specs.Stops.{IsToldAs};
+
+use crate::lengths::check_length;
+use crate::stops::Stop;
+use cert_format::{Cert, from_json};
+use edit_table::{Steps, steps};
+use exact_fraction::Frac;
+use refusal_text::Input;
+use std::alloc::Global;
+
+/// The edits and clears of a table.
+pub fn edit_steps(alloc: Global, bytes: &[u8]) -> Result<Steps, Stop>
+    ensures told { IsToldAs (Is (steps_in (sized (refusal.TooLong input.Edits) bytes.now))) result }
+    ensures kept { IfOk result AreSteps }
+{
+    check_length(bytes, Input::Edits)?;
+    Ok(steps(alloc, bytes)?)
+}
+
+/// The certificate that a text stands for.
+pub fn read_certificate(alloc: Global, bytes: &[u8]) -> Result<Cert<Frac>, Stop>
+    ensures told { IsReadAs Frac.value (certificate_in (sized (refusal.TooLong input.Certificate) bytes.now)) result }
+    ensures distinct { IfOk result (λ cert. RowsAreDistinct (cert_at Frac.value cert)) }
+{
+    check_length(bytes, Input::Certificate)?;
+    Ok(from_json(alloc, bytes)?)
+}

@@ -1,0 +1,121 @@
+//! Each command over the files that the words name for it.
+
+ghost use Rattle.std.specs.Prelude.{◌≡◌, option_map, Ok, Err, IfOk, MatchResult};
+ghost use Rattle.command_answers.specs.Checking.{TellsCheck};
+ghost use Rattle.command_answers.specs.Clearing.{TellsClear};
+ghost use Rattle.command_answers.specs.Replaying.{TellsReplay};
+ghost use Rattle.command_answers.specs.Status.{IsOfWork};
+ghost use Rattle.command_answers.specs.Tellings.{telling_of};
+ghost use Rattle.command_answers.specs.Verifying.{TellsVerdict};
+ghost use Rattle.command_words.specs.Requests.{names_of_market, names_to_check};
+ghost use Rattle.command_words.specs.Words.{IsCheckFile, IsMarketFile, IsPoolFile, IsReplayFile, IsVerifyFile};
+ghost use Rattle.sced.specs.Runs.{IsSilent, OnlyReads};
+ghost use Rattle.sced.specs.Told.{AreCheckFiles, AreClearFiles, ArePoolFiles, AreReplayFiles, AreVerifyFiles, OfFiles};
+
+use crate::reading::{lent, read_file, read_grid, read_market, read_table};
+use command_answers::{Status, Told, check_told, clear_told, pool_told, replay_told, verify_told};
+use command_words::{CheckFiles, MarketFiles, PoolFiles, ReplayFiles, VerifyFiles};
+use market_inputs::CheckBytes;
+use outside_store::Store;
+use plain_list::Memory;
+use std::alloc::Global;
+
+/// What is told, or the status of want of memory.
+pub fn or_memory(told: Result<Told, Memory>) -> Result<Told, Status>
+    ensures { MatchResult result (λ made. told ≡ Ok made) (λ status. status ≡ Status.Memory) }
+{
+    match told {
+        Ok(told) => Ok(told),
+        Err(Memory) => Err(Status::Memory),
+    }
+}
+
+/// What the case and the offers come to.
+#[tactic(auto, using(crate::proofs::ReadingLemmas::same_then))]
+pub fn pool_files<S: Store>(
+    alloc: Global,
+    files: &PoolFiles<'_>,
+    store: &mut S,
+) -> Result<Told, Status>
+    ensures told { MatchResult result (λ told. IsOfWork told.status) IsSilent }
+    ensures right { IfOk result (λ told. OfFiles (S.files store.old) (λ f. ArePoolFiles f files.now.case.now files.now.offers.now) TellsClear (telling_of told)) }
+    ensures reads { OnlyReads S.Store store.old store.new (IsPoolFile files.now.case.now files.now.offers.now) (result ≡ Err Status.ReadFailed) }
+{
+    let case = read_file(alloc, store, files.case)?;
+    let offers = read_file(alloc, store, files.offers)?;
+    or_memory(pool_told(alloc, case.as_slice(), offers.as_slice()))
+}
+
+/// What the files of a market come to.
+pub fn clear_files<S: Store>(
+    alloc: Global,
+    files: &MarketFiles<'_>,
+    store: &mut S,
+) -> Result<Told, Status>
+    ensures told { MatchResult result (λ told. IsOfWork told.status) IsSilent }
+    ensures right { IfOk result (λ told. OfFiles (S.files store.old) (λ f. AreClearFiles f (names_of_market files.now)) TellsClear (telling_of told)) }
+    ensures reads { OnlyReads S.Store store.old store.new (IsMarketFile (names_of_market files.now)) (result ≡ Err Status.ReadFailed) }
+{
+    let bytes = read_market(alloc, files, store)?;
+    or_memory(clear_told(alloc, &lent(&bytes), files.rating))
+}
+
+/// What these come to with a table of edits.
+#[tactic(auto, using(crate::proofs::ReadingLemmas::same_then))]
+pub fn replay_files<S: Store>(
+    alloc: Global,
+    files: &ReplayFiles<'_>,
+    store: &mut S,
+) -> Result<Told, Status>
+    ensures told { MatchResult result (λ told. IsOfWork told.status) IsSilent }
+    ensures right { IfOk result (λ told. OfFiles (S.files store.old) (λ f. AreReplayFiles f (names_of_market files.now.market) files.now.edits.now) TellsReplay (telling_of told)) }
+    ensures reads { OnlyReads S.Store store.old store.new (IsReplayFile (names_of_market files.now.market) files.now.edits.now) (result ≡ Err Status.ReadFailed) }
+{
+    let bytes = read_market(alloc, &files.market, store)?;
+    let edits = read_file(alloc, store, files.edits)?;
+    let told = replay_told(alloc, &lent(&bytes), files.market.rating, edits.as_slice());
+    or_memory(told)
+}
+
+/// What these come to with a certificate.
+#[tactic(auto, using(crate::proofs::ReadingLemmas::same_then))]
+pub fn verify_files<S: Store>(
+    alloc: Global,
+    files: &VerifyFiles<'_>,
+    store: &mut S,
+) -> Result<Told, Status>
+    ensures told { MatchResult result (λ told. IsOfWork told.status) IsSilent }
+    ensures right { IfOk result (λ told. OfFiles (S.files store.old) (λ f. AreVerifyFiles f (names_of_market files.now.market) (option_map (λ n. n.now) files.now.edits) files.now.certificate.now) TellsVerdict (telling_of told)) }
+    ensures reads { OnlyReads S.Store store.old store.new (IsVerifyFile (names_of_market files.now.market) (option_map (λ n. n.now) files.now.edits) files.now.certificate.now) (result ≡ Err Status.ReadFailed) }
+{
+    let bytes = read_market(alloc, &files.market, store)?;
+    let edits = read_table(alloc, store, files.edits, b"op,target,side,block,value\n")?;
+    let certificate = read_file(alloc, store, files.certificate)?;
+    or_memory(verify_told(
+        alloc,
+        &lent(&bytes),
+        files.market.rating,
+        edits.as_slice(),
+        certificate.as_slice(),
+    ))
+}
+
+/// What the case and its tables come to.
+pub fn check_files<S: Store>(
+    alloc: Global,
+    files: &CheckFiles<'_>,
+    store: &mut S,
+) -> Result<Told, Status>
+    ensures told { MatchResult result (λ told. IsOfWork told.status) IsSilent }
+    ensures right { IfOk result (λ told. OfFiles (S.files store.old) (λ f. AreCheckFiles f (names_to_check files.now)) TellsCheck (telling_of told)) }
+    ensures reads { OnlyReads S.Store store.old store.new (IsCheckFile (names_to_check files.now)) (result ≡ Err Status.ReadFailed) }
+{
+    let grid = read_grid(alloc, files, store)?;
+    let bytes = CheckBytes {
+        case: grid.case.as_slice(),
+        ptdf: grid.ptdf.as_slice(),
+        lodf: grid.lodf.as_slice(),
+        contingencies: grid.contingencies.as_slice(),
+    };
+    or_memory(check_told(alloc, &bytes))
+}
