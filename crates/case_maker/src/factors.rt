@@ -1,0 +1,69 @@
+//! The factors of a ring.
+
+ghost use Rattle.std.specs.Prelude.{◌≡◌, ◌<◌, ◌≤◌, IfOk};
+ghost use Rattle.case_maker.specs.Rings.{factors_by, loss_of, share, shift_of};
+
+use market_model::{Factor, List, Memory};
+use std::alloc::Global;
+
+/// What a factor of 1 is, in 10^-6.
+const WHOLE: usize = 1_000_000;
+
+/// So many of so many parts, in 10^-6.
+fn share(parts: usize, size: usize) -> i64
+    requires parts { parts ≤ size }
+    requires some { 0 < size }
+    requires few { size ≤ 64 }
+    ensures { result ≡ share parts size }
+{
+    (parts * WHOLE / size) as i64
+}
+
+/// What flows on a line of all that a bus puts in.
+fn shift_of(size: usize, line: usize, bus: usize) -> i64
+    requires bus { bus < size }
+    requires few { size ≤ 64 }
+    ensures { result ≡ shift_of size line bus }
+{
+    if line < bus {
+        -share(size - bus, size)
+    } else {
+        share(bus, size)
+    }
+}
+
+/// What goes over to a line of what a lost one carried.
+fn loss_of(line: usize, lost: usize) -> i64
+    ensures { result ≡ loss_of line lost }
+{
+    if line == lost { 0 } else { -(WHOLE as i64) }
+}
+
+/// The shift factors of a ring, a row of buses for each line.
+pub(crate) fn shift_factors(alloc: Global, size: usize) -> Result<List<Factor>, Memory>
+    requires { size ≤ 64 }
+    ensures { IfOk result (λ factors. factors ≡ factors_by (shift_of size) size) }
+{
+    let mut factors = List::new(alloc);
+    for line in 0..size {
+        for of in 0..size {
+            let value = shift_of(size, line, of);
+            factors.push(Factor { line, of, value })?;
+        }
+    }
+    Ok(factors)
+}
+
+/// The loss factors of a ring, a row of lost lines for each line.
+pub(crate) fn loss_factors(alloc: Global, size: usize) -> Result<List<Factor>, Memory>
+    ensures { IfOk result (λ factors. factors ≡ factors_by loss_of size) }
+{
+    let mut factors = List::new(alloc);
+    for line in 0..size {
+        for of in 0..size {
+            let value = loss_of(line, of);
+            factors.push(Factor { line, of, value })?;
+        }
+    }
+    Ok(factors)
+}
