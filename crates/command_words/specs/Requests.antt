@@ -1,34 +1,42 @@
 -- What the words ask for, in the terms of their reading.
-use Rattle.std.specs.Prelude.{List, option_map}
+use Rattle.std.specs.Borrow.{Bor}
+use Rattle.std.specs.Prelude.{List, Option, option_map}
 use Rattle.clap.specs.Words.{Text}
-use Rattle.command_words.specs.Words.{AsksCheck, AsksClear, AsksPool, CheckNames, ClearNames}
+use Rattle.command_words.specs.Words.{AsksCheck, AsksClear, AsksMake, AsksPool, AsksReplay, AsksVerify, CheckNames, MarketNames}
 use Rattle.command_words.specs.declared.words.CheckFiles.{CheckFiles}
-use Rattle.command_words.specs.declared.words.ClearFiles.{ClearFiles}
+use Rattle.command_words.specs.declared.words.MarketFiles.{MarketFiles}
 use Rattle.command_words.specs.declared.words.Request.{Request}
 use Rattle.command_words.specs.declared.words.Request.TheVariants as request
+
+-- the text of a name, where there is one
+abbrev pub text_of_name : Option (Bor Text) → Option Text
+text_of_name = option_map (λ name. name.now)
+
+-- the names of the files of a market as texts
+abbrev pub names_of_market : MarketFiles → MarketNames
+names_of_market files = record {
+  case = files.case.now;
+  ptdf = files.ptdf.now;
+  offers = files.offers.now;
+  lodf = text_of_name files.lodf;
+  contingencies = text_of_name files.contingencies;
+  offsets = text_of_name files.offsets;
+  rating = files.rating;
+}
 
 -- the names of what is to be checked as texts
 abbrev pub names_to_check : CheckFiles → CheckNames
 names_to_check files = record {
   case = files.case.now;
   ptdf = files.ptdf.now;
-  lodf = option_map (λ name. name.now) files.lodf;
-  contingencies = option_map (λ name. name.now) files.contingencies;
-}
-
--- the names of what is to be cleared as texts
-abbrev pub names_to_clear : ClearFiles → ClearNames
-names_to_clear files = record {
-  case = files.case.now;
-  ptdf = files.ptdf.now;
-  offers = files.offers.now;
-  lodf = option_map (λ name. name.now) files.lodf;
-  contingencies = option_map (λ name. name.now) files.contingencies;
-  offsets = option_map (λ name. name.now) files.offsets;
-  rating = files.rating;
+  lodf = text_of_name files.lodf;
+  contingencies = text_of_name files.contingencies;
 }
 
 abbrev pub Asks : List Text → Request → Type 0
 Asks words (request.Pool files) = AsksPool words files.case.now files.offers.now
-Asks words (request.Clear files) = AsksClear words (names_to_clear files)
+Asks words (request.Clear files) = AsksClear words (names_of_market files.market) (text_of_name files.certificate)
+Asks words (request.Replay files) = AsksReplay words (names_of_market files.market) files.edits.now (text_of_name files.certificate)
+Asks words (request.Verify files) = AsksVerify words (names_of_market files.market) (text_of_name files.edits) files.certificate.now
 Asks words (request.Check files) = AsksCheck words (names_to_check files)
+Asks words (request.Make ring) = AsksMake words ring.buses ring.seed

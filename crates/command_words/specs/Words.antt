@@ -1,10 +1,14 @@
 -- The words that the program takes, by the command that `clap` reads them by.
 use Rattle.std.specs.Borrow.{Bor}
-use Rattle.std.specs.Prelude.{◌≡◌, ◌⊎◌, Bool, true, false, List, [], ◌∷◌, codes, map, Option, Some, unwrap_or, if◌then◌else◌}
+use Rattle.std.specs.Prelude.{◌≡◌, ◌⊎◌, ◌≤◌, ◌&&◌, ℕ, Bool, true, false, List, [], ◌∷◌, codes, length, map, nat_le, nat_lt, pos, Option, Some, unwrap_or, if◌then◌else◌}
+use Rattle.std.specs.Char.{digit_value}
+use Rattle.std.specs.List.{list_all}
 use Rattle.std.specs.Option.{option_map_or}
 use Rattle.std.specs.Str.{bytes_eq}
-use Rattle.clap.specs.Words.{App, Kinds, Row, Rule, Text, fault_of, first_of, new_app, new_rule, subcommand_of, with_rule, with_subcommand}
-use Rattle.clap.specs.declared.builder.value_parser.ValueParser.TheVariants.{Names}
+use Rattle.std.specs.Str.Parse.{digits_value, without_leading_plus}
+use Rattle.clap.specs.Words.{App, Kinds, Row, Rule, Text, fault_of, first_of, new_app, new_rule, one_of, subcommand_of, with_rule, with_subcommand}
+use Rattle.clap.specs.declared.builder.value_parser.ValueParser.{ValueParser}
+use Rattle.clap.specs.declared.builder.value_parser.ValueParser.TheVariants.{Names, Signed}
 use Rattle.net_case.specs.declared.live_parts.PostRating.{PostRating}
 use Rattle.net_case.specs.declared.live_parts.PostRating.TheVariants as post
 
@@ -24,6 +28,10 @@ spelled texts = record { ref_ptr = (0, 0); now = map (λ text. record { ref_ptr 
 abbrev pub rating_words : List Text
 rating_words = codes "a" ∷ codes "b" ∷ codes "c" ∷ []
 
+-- the numbers of buses that a ring may have
+abbrev pub size_words : List Text
+size_words = codes "4" ∷ codes "8" ∷ codes "16" ∷ codes "32" ∷ codes "64" ∷ []
+
 -- an option `--NAME FILE`, at most once
 abbrev pub table_rule : Text → Rule
 table_rule name = record (new_rule name) { long = Some name }
@@ -36,6 +44,10 @@ file_rule name = record (table_rule name) { required = true }
 abbrev pub choice_rule : Text → NameList → Rule
 choice_rule name names = record (table_rule name) { parser = Some (Names names) }
 
+-- a value without a name, which must be there
+abbrev pub value_rule : Text → ValueParser → Rule
+value_rule name parser = record (new_rule name) { required = true; parser = Some parser }
+
 abbrev pub with_table : App → Text → App
 with_table a name = with_rule a (table_rule name)
 
@@ -46,30 +58,49 @@ with_file a name = with_rule a (file_rule name)
 abbrev pub pool_app : App
 pool_app = with_file (with_file (new_app (codes "pool")) (codes "case")) (codes "offers")
 
--- `clear --case FILE --ptdf FILE --offers FILE`
-abbrev pub market_app : App
-market_app = with_file (with_file (with_file (new_app (codes "clear")) (codes "case")) (codes "ptdf")) (codes "offers")
+-- a command with the files of a market with limits: `--case FILE --ptdf FILE --offers FILE`
+abbrev pub with_needed : App → App
+with_needed a = with_file (with_file (with_file a (codes "case")) (codes "ptdf")) (codes "offers")
 
 -- and where they are named `--lodf FILE`, `--contingencies FILE`, `--offsets FILE` and `--post-rating LETTER`
-abbrev pub clear_app : NameList → App
-clear_app ratings = with_rule (with_table (with_table (with_table market_app (codes "lodf")) (codes "contingencies")) (codes "offsets"))
+abbrev pub with_market : App → NameList → App
+with_market a ratings = with_rule (with_table (with_table (with_table (with_needed a) (codes "lodf")) (codes "contingencies")) (codes "offsets"))
     (choice_rule (codes "post-rating") ratings)
+
+-- `clear` with the files of a market, and where it is named `--certificate FILE`
+abbrev pub clear_app : NameList → App
+clear_app ratings = with_table (with_market (new_app (codes "clear")) ratings) (codes "certificate")
+
+-- `replay` with the files of a market and `--edits FILE`, and where it is named `--certificate FILE`
+abbrev pub replay_app : NameList → App
+replay_app ratings = with_table (with_file (with_market (new_app (codes "replay")) ratings) (codes "edits")) (codes "certificate")
+
+-- `verify` with the files of a market and `--certificate FILE`, and where it is named `--edits FILE`
+abbrev pub verify_app : NameList → App
+verify_app ratings = with_file (with_table (with_market (new_app (codes "verify")) ratings) (codes "edits")) (codes "certificate")
 
 -- `check --case FILE --ptdf FILE`, and where they are named `--lodf FILE` and `--contingencies FILE`
 abbrev pub check_app : App
 check_app = with_table (with_table (with_file (with_file (new_app (codes "check")) (codes "case")) (codes "ptdf")) (codes "lodf")) (codes "contingencies")
 
+-- `make N SEED`; N is one of the sizes, and SEED from 0 to 4294967295
+abbrev pub make_app : NameList → App
+make_app sizes = with_rule (with_rule (new_app (codes "make")) (value_rule (codes "N") (Names sizes))) (value_rule (codes "SEED") (Signed (pos 0) (pos 4294967295)))
+
 -- a command that one of its subcommands must follow, of which `help` is none
 abbrev pub needs_subcommand : App → App
 needs_subcommand a = record a { top = record a.top { subcommand_required = true; disable_help_subcommand = true } }
 
--- the program's command over a list of the ratings; its subcommands are `pool`, `clear` and `check`
-unfoldable pub sced_app_over : NameList → App
-sced_app_over ratings = with_subcommand (with_subcommand (with_subcommand (needs_subcommand (new_app (codes "sced"))) pool_app.top) (clear_app ratings).top) check_app.top
+-- the program's command over the lists of the sizes of rings and of the ratings; it has six subcommands
+unfoldable pub sced_app_over : NameList → NameList → App
+sced_app_over sizes ratings =
+    with_subcommand (with_subcommand (with_subcommand (with_subcommand (with_subcommand (with_subcommand
+    (needs_subcommand (new_app (codes "sced")))
+    pool_app.top) (clear_app ratings).top) (replay_app ratings).top) (verify_app ratings).top) check_app.top) (make_app sizes).top
 
 -- the program's command
 unfoldable pub sced_app : App
-sced_app = sced_app_over (spelled rating_words)
+sced_app = sced_app_over (spelled size_words) (spelled rating_words)
 
 abbrev pub is_fault : Kinds → Bool
 is_fault [] = false
@@ -107,8 +138,8 @@ pub record AsksPool (words : List Text) (case offers : Text) : Type 0 where
   pub case_is : case ≡ file_of (codes "case") rows
   pub offers_is : offers ≡ file_of (codes "offers") rows
 
--- the names of the files that `clear` reads, of which three may be left out, and the rating that limits branches after outages
-pub record ClearNames : Type 0 where
+-- the names of the files of a market with limits, of which three may be left out, and the rating that limits branches after outages
+pub record MarketNames : Type 0 where
   pub case : Text
   pub ptdf : Text
   pub offers : Text
@@ -118,8 +149,8 @@ pub record ClearNames : Type 0 where
   pub rating : PostRating
 
 -- the names that options give
-abbrev pub clear_names : List Row → ClearNames
-clear_names rows = record {
+abbrev pub market_names : List Row → MarketNames
+market_names rows = record {
   case = file_of (codes "case") rows;
   ptdf = file_of (codes "ptdf") rows;
   offers = file_of (codes "offers") rows;
@@ -129,11 +160,28 @@ clear_names rows = record {
   rating = rating_of rows;
 }
 
--- the words enter `clear`, and these are the names of its files, with the rating
-pub record AsksClear (words : List Text) (names : ClearNames) : Type 0 where
+-- the words enter `clear`, and these are the names of the market's files, and of the certificate's, which may be left out
+pub record AsksClear (words : List Text) (names : MarketNames) (certificate : Option Text) : Type 0 where
   pub rows : List Row
   pub enters : Enters words (codes "clear") rows
-  pub names_are : names ≡ clear_names rows
+  pub names_are : names ≡ market_names rows
+  pub certificate_is : certificate ≡ first_of (codes "certificate") rows
+
+-- the words enter `replay`, and these are the names of the market's files, of the edits', and of the certificate's, which may be left out
+pub record AsksReplay (words : List Text) (names : MarketNames) (edits : Text) (certificate : Option Text) : Type 0 where
+  pub rows : List Row
+  pub enters : Enters words (codes "replay") rows
+  pub names_are : names ≡ market_names rows
+  pub edits_is : edits ≡ file_of (codes "edits") rows
+  pub certificate_is : certificate ≡ first_of (codes "certificate") rows
+
+-- the words enter `verify`, and these are the names of the market's files, of the edits', which may be left out, and of the certificate's
+pub record AsksVerify (words : List Text) (names : MarketNames) (edits : Option Text) (certificate : Text) : Type 0 where
+  pub rows : List Row
+  pub enters : Enters words (codes "verify") rows
+  pub names_are : names ≡ market_names rows
+  pub edits_is : edits ≡ first_of (codes "edits") rows
+  pub certificate_is : certificate ≡ file_of (codes "certificate") rows
 
 -- the names of the files that `check` reads; those of the outage factors and of the outages may be left out
 pub record CheckNames : Type 0 where
@@ -157,14 +205,60 @@ pub record AsksCheck (words : List Text) (names : CheckNames) : Type 0 where
   pub enters : Enters words (codes "check") rows
   pub names_are : names ≡ check_names rows
 
+-- a ring may have this many buses
+abbrev pub IsRingSize : ℕ → Type 0
+IsRingSize buses = (buses ≡ 4) ⊎ (buses ≡ 8) ⊎ (buses ≡ 16) ⊎ (buses ≡ 32) ⊎ (buses ≡ 64)
+
+-- the number of buses that a word of the sizes stands for; the command takes no other
+abbrev pub size_named : Text → ℕ
+size_named word =
+    if bytes_eq word (codes "8") then 8
+    else if bytes_eq word (codes "16") then 16
+    else if bytes_eq word (codes "32") then 32
+    else if bytes_eq word (codes "64") then 64
+    else 4
+
+-- the number of buses that the words give
+abbrev pub size_of : List Row → ℕ
+size_of rows = option_map_or size_named (first_of (codes "N") rows) 4
+
+-- the text is one decimal digit or more, of a number up to 4294967295
+abbrev pub writes_seed : Text → Bool
+writes_seed digits = nat_lt 0 (length digits) && (list_all (λ digit. nat_lt (digit_value digit) 10) digits && nat_le (digits_value 10 digits) 4294967295)
+
+-- the number that the digits write, before which a plus may stand; the command takes no other text
+abbrev pub seed_named : Text → ℕ
+seed_named text = let digits = without_leading_plus text in if writes_seed digits then digits_value 10 digits else 0
+
+-- the seed that the words give
+abbrev pub seed_of : List Row → ℕ
+seed_of rows = option_map_or seed_named (one_of (codes "SEED") rows) 0
+
+-- the words enter `make`, and these are the number of the ring's buses and the seed
+pub record AsksMake (words : List Text) (buses seed : ℕ) : Type 0 where
+  pub rows : List Row
+  pub enters : Enters words (codes "make") rows
+  pub buses_are : buses ≡ size_of rows
+  pub seed_is : seed ≡ seed_of rows
+  pub is_size : IsRingSize buses
+  pub is_small : seed ≤ 4294967295
+
 -- `pool` reads this file, of these two
 abbrev pub IsPoolFile : Text → Text → Text → Type 0
 IsPoolFile case offers file = (file ≡ case) ⊎ (file ≡ offers)
 
--- `clear` reads this file, of those of these names
-abbrev pub IsClearFile : ClearNames → Text → Type 0
-IsClearFile names file = (file ≡ names.case) ⊎ (file ≡ names.ptdf) ⊎ (file ≡ names.offers)
+-- this is a file of the market of these names
+abbrev pub IsMarketFile : MarketNames → Text → Type 0
+IsMarketFile names file = (file ≡ names.case) ⊎ (file ≡ names.ptdf) ⊎ (file ≡ names.offers)
     ⊎ (names.lodf ≡ Some file) ⊎ (names.contingencies ≡ Some file) ⊎ (names.offsets ≡ Some file)
+
+-- `replay` reads this file, of those of the market and the edits
+abbrev pub IsReplayFile : MarketNames → Text → Text → Type 0
+IsReplayFile names edits file = IsMarketFile names file ⊎ (file ≡ edits)
+
+-- `verify` reads this file, of those of the market, the edits and the certificate
+abbrev pub IsVerifyFile : MarketNames → Option Text → Text → Text → Type 0
+IsVerifyFile names edits certificate file = IsMarketFile names file ⊎ (edits ≡ Some file) ⊎ (file ≡ certificate)
 
 -- `check` reads this file, of those of these names
 abbrev pub IsCheckFile : CheckNames → Text → Type 0
@@ -176,7 +270,17 @@ NamesForPool words file = (case : Text) × (offers : Text) × AsksPool words cas
 
 -- the words name this file for `clear` to read
 abbrev pub NamesForClear : List Text → Text → Type 0
-NamesForClear words file = (names : ClearNames) × AsksClear words names × IsClearFile names file
+NamesForClear words file = (names : MarketNames) × (certificate : Option Text) × AsksClear words names certificate × IsMarketFile names file
+
+-- the words name this file for `replay` to read
+abbrev pub NamesForReplay : List Text → Text → Type 0
+NamesForReplay words file = (names : MarketNames) × (edits : Text) × (certificate : Option Text)
+    × AsksReplay words names edits certificate × IsReplayFile names edits file
+
+-- the words name this file for `verify` to read
+abbrev pub NamesForVerify : List Text → Text → Type 0
+NamesForVerify words file = (names : MarketNames) × (edits : Option Text) × (certificate : Text)
+    × AsksVerify words names edits certificate × IsVerifyFile names edits certificate file
 
 -- the words name this file for `check` to read
 abbrev pub NamesForCheck : List Text → Text → Type 0
@@ -184,4 +288,16 @@ NamesForCheck words file = (names : CheckNames) × AsksCheck words names × IsCh
 
 -- the words name this file for reading
 abbrev pub NamesFile : List Text → Text → Type 0
-NamesFile words file = NamesForPool words file ⊎ NamesForClear words file ⊎ NamesForCheck words file
+NamesFile words file = NamesForPool words file ⊎ NamesForClear words file ⊎ NamesForReplay words file ⊎ NamesForVerify words file ⊎ NamesForCheck words file
+
+-- the words name this file as the certificate that `clear` writes
+abbrev pub ClearWrites : List Text → Text → Type 0
+ClearWrites words file = (names : MarketNames) × AsksClear words names (Some file)
+
+-- the words name this file as the certificate that `replay` writes
+abbrev pub ReplayWrites : List Text → Text → Type 0
+ReplayWrites words file = (names : MarketNames) × (edits : Text) × AsksReplay words names edits (Some file)
+
+-- the words name this file for writing
+abbrev pub NamesToWrite : List Text → Text → Type 0
+NamesToWrite words file = ClearWrites words file ⊎ ReplayWrites words file

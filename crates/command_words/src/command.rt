@@ -1,11 +1,12 @@
 //! The command that the words of a run are read by.
 
-ghost use Rattle.std.specs.Prelude.{◌≡◌, false, IfOk, codes};
-ghost use Rattle.clap.specs.Words.{app_of, new_app, rule_of};
+ghost use Rattle.std.specs.Prelude.{◌≡◌, false, IfOk, codes, pos};
+ghost use Rattle.clap.specs.Words.{app_of, new_app, rule_of, with_subcommand};
 ghost use Rattle.clap.specs.declared.builder.command.Command.TheViews.{out-Command as fields_of};
-ghost use Rattle.command_words.specs.Words.{check_app, choice_rule, clear_app, file_rule, needs_subcommand, pool_app, sced_app_over, table_rule, with_file, with_table};
+ghost use Rattle.clap.specs.declared.builder.value_parser.ValueParser.TheVariants.{Names, Signed};
+ghost use Rattle.command_words.specs.Words.{check_app, choice_rule, clear_app, file_rule, make_app, needs_subcommand, pool_app, replay_app, sced_app_over, table_rule, value_rule, verify_app, with_file, with_market, with_table};
 
-use clap::{Arg, Command};
+use clap::{Arg, Command, value_parser};
 use std::alloc::{AllocError, Global};
 
 const CASE: &str = "The network: a case in the form of MATPOWER";
@@ -21,6 +22,16 @@ const CONTINGENCIES: &str = "The list of the branches whose loss the market is t
 const OFFSETS: &str = "The table of the flows that phase shift angles cause";
 
 const POST_RATING: &str = "The rating of a branch after an outage; c where this is left out";
+
+const EDITS: &str = "The table of edits of the market";
+
+const WRITTEN: &str = "The file that the certificate of the last clear is written to";
+
+const READ: &str = "The certificate that is verified";
+
+const SIZE: &str = "How many buses the ring has";
+
+const SEED: &str = "The seed of the ring's numbers, from 0 to 4294967295";
 
 /// An option that names a file, where it is there.
 fn table_option<'a>(alloc: Global, name: &'a str, help: &'a str) -> Arg<'a>
@@ -44,6 +55,28 @@ fn rating_option<'a>(alloc: Global, ratings: &'a [&'a str]) -> Arg<'a>
     ensures local { result.global ≡ false }
 {
     table_option(alloc, "post-rating", POST_RATING).value_parser(ratings)
+}
+
+/// The value that is one of the sizes of rings.
+fn size_value<'a>(alloc: Global, sizes: &'a [&'a str]) -> Arg<'a>
+    ensures rule { rule_of result ≡ value_rule (codes "N") (Names sizes.entry) }
+    ensures local { result.global ≡ false }
+{
+    Arg::new(alloc, "N")
+        .help(SIZE)
+        .required(true)
+        .value_parser(sizes)
+}
+
+/// The value that is a seed.
+fn seed_value<'a>(alloc: Global) -> Arg<'a>
+    ensures rule { rule_of result ≡ value_rule (codes "SEED") (Signed (pos 0) (pos 4294967295)) }
+    ensures local { result.global ≡ false }
+{
+    Arg::new(alloc, "SEED")
+        .help(SEED)
+        .required(true)
+        .value_parser(value_parser!(u32))
 }
 
 /// A command with one more option that names a file.
@@ -95,6 +128,25 @@ fn pool_command<'a>(alloc: Global) -> Result<Command<'a>, AllocError>
     with_file(alloc, command, "offers", OFFERS)
 }
 
+/// A command with the files of a market with limits, and the rating after an outage.
+fn with_market<'a>(
+    alloc: Global,
+    command: Command<'a>,
+    ratings: &'a [&'a str],
+) -> Result<Command<'a>, AllocError>
+    requires { (fields_of command).has_globals ≡ false }
+    ensures app { IfOk result (λ made. app_of made ≡ with_market (app_of command.entry) ratings.entry) }
+    ensures local { IfOk result (λ made. (fields_of made).has_globals ≡ false) }
+{
+    let command = with_file(alloc, command, "case", CASE)?;
+    let command = with_file(alloc, command, "ptdf", PTDF)?;
+    let command = with_file(alloc, command, "offers", OFFERS)?;
+    let command = with_table(alloc, command, "lodf", LODF)?;
+    let command = with_table(alloc, command, "contingencies", CONTINGENCIES)?;
+    let command = with_table(alloc, command, "offsets", OFFSETS)?;
+    command.arg(rating_option(alloc, ratings))
+}
+
 fn clear_command<'a>(alloc: Global, ratings: &'a [&'a str]) -> Result<Command<'a>, AllocError>
     ensures app { IfOk result (λ made. app_of made ≡ clear_app ratings.entry) }
     ensures local { IfOk result (λ made. (fields_of made).has_globals ≡ false) }
@@ -104,13 +156,36 @@ fn clear_command<'a>(alloc: Global, ratings: &'a [&'a str]) -> Result<Command<'a
         "clear",
         "Clears the market within the limits of the branches, before and after outages",
     );
-    let command = with_file(alloc, command, "case", CASE)?;
-    let command = with_file(alloc, command, "ptdf", PTDF)?;
-    let command = with_file(alloc, command, "offers", OFFERS)?;
-    let command = with_table(alloc, command, "lodf", LODF)?;
-    let command = with_table(alloc, command, "contingencies", CONTINGENCIES)?;
-    let command = with_table(alloc, command, "offsets", OFFSETS)?;
-    command.arg(rating_option(alloc, ratings))
+    let command = with_market(alloc, command, ratings)?;
+    with_table(alloc, command, "certificate", WRITTEN)
+}
+
+fn replay_command<'a>(alloc: Global, ratings: &'a [&'a str]) -> Result<Command<'a>, AllocError>
+    ensures app { IfOk result (λ made. app_of made ≡ replay_app ratings.entry) }
+    ensures local { IfOk result (λ made. (fields_of made).has_globals ≡ false) }
+{
+    let command = described(
+        alloc,
+        "replay",
+        "Edits the market step by step, and clears it where a step says so",
+    );
+    let command = with_market(alloc, command, ratings)?;
+    let command = with_file(alloc, command, "edits", EDITS)?;
+    with_table(alloc, command, "certificate", WRITTEN)
+}
+
+fn verify_command<'a>(alloc: Global, ratings: &'a [&'a str]) -> Result<Command<'a>, AllocError>
+    ensures app { IfOk result (λ made. app_of made ≡ verify_app ratings.entry) }
+    ensures local { IfOk result (λ made. (fields_of made).has_globals ≡ false) }
+{
+    let command = described(
+        alloc,
+        "verify",
+        "Tells whether a certificate holds for the market",
+    );
+    let command = with_market(alloc, command, ratings)?;
+    let command = with_table(alloc, command, "edits", EDITS)?;
+    with_file(alloc, command, "certificate", READ)
 }
 
 fn check_command<'a>(alloc: Global) -> Result<Command<'a>, AllocError>
@@ -128,6 +203,31 @@ fn check_command<'a>(alloc: Global) -> Result<Command<'a>, AllocError>
     with_table(alloc, command, "contingencies", CONTINGENCIES)
 }
 
+fn make_command<'a>(alloc: Global, sizes: &'a [&'a str]) -> Result<Command<'a>, AllocError>
+    ensures app { IfOk result (λ made. app_of made ≡ make_app sizes.entry) }
+    ensures local { IfOk result (λ made. (fields_of made).has_globals ≡ false) }
+{
+    described(
+        alloc,
+        "make",
+        "Makes the files of a network of buses in a ring",
+    )
+    .arg(size_value(alloc, sizes))?
+    .arg(seed_value(alloc))
+}
+
+/// A command with one more subcommand.
+fn with_subcommand<'a>(
+    command: Command<'a>,
+    subcommand: Command<'a>,
+) -> Result<Command<'a>, AllocError>
+    requires { ((fields_of command).has_globals ≡ false) × ((fields_of subcommand).has_globals ≡ false) }
+    ensures app { IfOk result (λ made. app_of made ≡ with_subcommand (app_of command.entry) (app_of subcommand.entry).top) }
+    ensures local { IfOk result (λ made. (fields_of made).has_globals ≡ false) }
+{
+    command.subcommand(subcommand)
+}
+
 /// The program without its subcommands, of which there must be one.
 fn bare_command<'a>(alloc: Global) -> Command<'a>
     ensures app { app_of result ≡ needs_subcommand (new_app (codes "sced")) }
@@ -142,14 +242,21 @@ fn bare_command<'a>(alloc: Global) -> Command<'a>
     .disable_help_subcommand(true)
 }
 
-/// The command of the program, over the list of the letters of the ratings.
+/// The command of the program, over the lists of the sizes of rings and of the letters of the
+/// ratings.
 #[tactic(auto, unfolding(crate::specs::Words::sced_app_over))]
-pub fn sced_command<'a>(alloc: Global, ratings: &'a [&'a str]) -> Result<Command<'a>, AllocError>
-    ensures app { IfOk result (λ made. app_of made ≡ sced_app_over ratings.entry) }
+pub fn sced_command<'a>(
+    alloc: Global,
+    sizes: &'a [&'a str],
+    ratings: &'a [&'a str],
+) -> Result<Command<'a>, AllocError>
+    ensures app { IfOk result (λ made. app_of made ≡ sced_app_over sizes.entry ratings.entry) }
     ensures local { IfOk result (λ made. (fields_of made).has_globals ≡ false) }
 {
-    bare_command(alloc)
-        .subcommand(pool_command(alloc)?)?
-        .subcommand(clear_command(alloc, ratings)?)?
-        .subcommand(check_command(alloc)?)
+    let command = with_subcommand(bare_command(alloc), pool_command(alloc)?)?;
+    let command = with_subcommand(command, clear_command(alloc, ratings)?)?;
+    let command = with_subcommand(command, replay_command(alloc, ratings)?)?;
+    let command = with_subcommand(command, verify_command(alloc, ratings)?)?;
+    let command = with_subcommand(command, check_command(alloc)?)?;
+    with_subcommand(command, make_command(alloc, sizes)?)
 }

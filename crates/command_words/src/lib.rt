@@ -4,7 +4,10 @@
 mod command;
 mod words;
 
-pub use words::{CheckFiles, ClearFiles, PoolFiles, Request, WordsStop, request_of};
+pub use words::{
+    CheckFiles, ClearFiles, MarketFiles, PoolFiles, ReplayFiles, Request, RingWords, VerifyFiles,
+    WordsStop, request_of,
+};
 
 #[cfg(test)]
 mod tests;

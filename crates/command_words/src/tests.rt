@@ -18,26 +18,74 @@ fn told(alloc: Global, line: &str) -> Result<String, Fail> {
     }
 }
 
-const TABLE: [(&str, &str); 14] = [
+const TABLE: [(&str, &str); 32] = [
     (
         "sced pool --case n.m --offers o.csv",
         "Pool(PoolFiles { case: \"n.m\", offers: \"o.csv\" })",
     ),
     (
         "sced clear --case n.m --ptdf p --offers o --lodf l --contingencies k --offsets s --post-rating b",
-        "Clear(ClearFiles { case: \"n.m\", ptdf: \"p\", offers: \"o\", lodf: Some(\"l\"), contingencies: Some(\"k\"), offsets: Some(\"s\"), rating: B })",
+        "Clear(ClearFiles { market: MarketFiles { case: \"n.m\", ptdf: \"p\", offers: \"o\", lodf: Some(\"l\"), contingencies: Some(\"k\"), offsets: Some(\"s\"), rating: B }, certificate: None })",
     ),
     (
         "sced clear --post-rating=a --offers=o --ptdf=p --case=n.m",
-        "Clear(ClearFiles { case: \"n.m\", ptdf: \"p\", offers: \"o\", lodf: None, contingencies: None, offsets: None, rating: A })",
+        "Clear(ClearFiles { market: MarketFiles { case: \"n.m\", ptdf: \"p\", offers: \"o\", lodf: None, contingencies: None, offsets: None, rating: A }, certificate: None })",
     ),
     (
-        "sced clear --case n.m --ptdf p --offers o",
-        "Clear(ClearFiles { case: \"n.m\", ptdf: \"p\", offers: \"o\", lodf: None, contingencies: None, offsets: None, rating: C })",
+        "sced clear --case n.m --ptdf p --offers o --certificate x",
+        "Clear(ClearFiles { market: MarketFiles { case: \"n.m\", ptdf: \"p\", offers: \"o\", lodf: None, contingencies: None, offsets: None, rating: C }, certificate: Some(\"x\") })",
+    ),
+    (
+        "sced replay --case n.m --ptdf p --offers o --edits e --certificate x --lodf l",
+        "Replay(ReplayFiles { market: MarketFiles { case: \"n.m\", ptdf: \"p\", offers: \"o\", lodf: Some(\"l\"), contingencies: None, offsets: None, rating: C }, edits: \"e\", certificate: Some(\"x\") })",
+    ),
+    (
+        "sced verify --case n.m --ptdf p --offers o --certificate x --post-rating b",
+        "Verify(VerifyFiles { market: MarketFiles { case: \"n.m\", ptdf: \"p\", offers: \"o\", lodf: None, contingencies: None, offsets: None, rating: B }, edits: None, certificate: \"x\" })",
+    ),
+    (
+        "sced verify --case n.m --ptdf p --offers o --certificate x --edits e",
+        "Verify(VerifyFiles { market: MarketFiles { case: \"n.m\", ptdf: \"p\", offers: \"o\", lodf: None, contingencies: None, offsets: None, rating: C }, edits: Some(\"e\"), certificate: \"x\" })",
     ),
     (
         "sced check --case n.m --ptdf p --lodf l",
         "Check(CheckFiles { case: \"n.m\", ptdf: \"p\", lodf: Some(\"l\"), contingencies: None })",
+    ),
+    ("sced make 4 7", "Make(RingWords { buses: 4, seed: 7 })"),
+    (
+        "sced make 64 4294967295",
+        "Make(RingWords { buses: 64, seed: 4294967295 })",
+    ),
+    (
+        "sced make 16 +007",
+        "Make(RingWords { buses: 16, seed: 7 })",
+    ),
+    ("sced make -- 8 -0", "Make(RingWords { buses: 8, seed: 0 })"),
+    ("sced make 5 7", "error: invalid value '5' for '<N>'"),
+    (
+        "sced make 4 4294967296",
+        "error: invalid value '4294967296' for '<SEED>': 4294967296 is not in 0..=4294967295",
+    ),
+    ("sced make 4 -1", "error: unexpected argument '-1' found"),
+    (
+        "sced make 4 1e3",
+        "error: invalid value '1e3' for '<SEED>': invalid digit found in string",
+    ),
+    (
+        "sced make 4",
+        "error: the following required arguments were not provided:",
+    ),
+    (
+        "sced replay --case n.m --ptdf p --offers o",
+        "error: the following required arguments were not provided:",
+    ),
+    (
+        "sced verify --case n.m --ptdf p --offers o --edits e",
+        "error: the following required arguments were not provided:",
+    ),
+    (
+        "sced clear --case n.m --ptdf p --offers o --edits e",
+        "error: unexpected argument '--edits' found",
     ),
     (
         "sced clear --case n.m --ptdf p",
@@ -72,8 +120,20 @@ const TABLE: [(&str, &str); 14] = [
         "Clears the market within the limits of the branches, before and after outages",
     ),
     (
+        "sced replay --help",
+        "Edits the market step by step, and clears it where a step says so",
+    ),
+    (
+        "sced verify --help",
+        "Tells whether a certificate holds for the market",
+    ),
+    (
         "sced check --help",
         "Tells by how much the tables of factors miss the laws of the network",
+    ),
+    (
+        "sced make --help",
+        "Makes the files of a network of buses in a ring",
     ),
 ];
 

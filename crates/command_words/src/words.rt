@@ -1,15 +1,18 @@
 //! What the words of a run ask for.
 
-ghost use Rattle.std.specs.Prelude.{◌≡◌, ◌≢◌, codes, map, option_map, string_bytes, IfOk, IfErr};
+ghost use Rattle.std.specs.Prelude.{◌≡◌, ◌≢◌, ◌≤◌, codes, map, string_bytes, IfOk, IfErr};
 ghost use Rattle.clap.specs.Words.{first_of, found_of, rows_of};
-ghost use Rattle.command_words.specs.Words.{AsksNothing, check_names, clear_names, file_of, rating_of};
-ghost use Rattle.command_words.specs.Requests.{Asks, names_to_check, names_to_clear};
+ghost use Rattle.command_words.specs.Words.{AsksNothing, IsRingSize, check_names, file_of, market_names, rating_of, seed_of, size_of};
+ghost use Rattle.command_words.specs.Requests.{Asks, names_of_market, names_to_check, text_of_name};
 
 use crate::command::sced_command;
 use clap::ArgMatches;
 use clap::error::ErrorKind;
 use net_case::PostRating;
 use std::alloc::{AllocError, Global};
+
+/// The numbers of buses that a ring may have.
+static SIZES: [&str; 5] = ["4", "8", "16", "32", "64"];
 
 /// The letters of the ratings of a branch.
 static RATINGS: [&str; 3] = ["a", "b", "c"];
@@ -21,10 +24,10 @@ pub struct PoolFiles<'a> {
     pub offers: &'a str,
 }
 
-/// The names of the files that `clear` reads, where they are named, and the rating that limits a
-/// branch after an outage.
+/// The names of the files of a market with limits, where they are named, and the rating that limits
+/// a branch after an outage.
 #[derive(Clone, Copy, Debug)]
-pub struct ClearFiles<'a> {
+pub struct MarketFiles<'a> {
     pub case: &'a str,
     pub ptdf: &'a str,
     pub offers: &'a str,
@@ -32,6 +35,31 @@ pub struct ClearFiles<'a> {
     pub contingencies: Option<&'a str>,
     pub offsets: Option<&'a str>,
     pub rating: PostRating,
+}
+
+/// The names of the files that `clear` reads, and of the certificate that it writes, where it is
+/// named.
+#[derive(Clone, Copy, Debug)]
+pub struct ClearFiles<'a> {
+    pub market: MarketFiles<'a>,
+    pub certificate: Option<&'a str>,
+}
+
+/// The names of the files that `replay` reads, and of the certificate that it writes, where it is
+/// named.
+#[derive(Clone, Copy, Debug)]
+pub struct ReplayFiles<'a> {
+    pub market: MarketFiles<'a>,
+    pub edits: &'a str,
+    pub certificate: Option<&'a str>,
+}
+
+/// The names of the files that `verify` reads, where they are named.
+#[derive(Clone, Copy, Debug)]
+pub struct VerifyFiles<'a> {
+    pub market: MarketFiles<'a>,
+    pub edits: Option<&'a str>,
+    pub certificate: &'a str,
 }
 
 /// The names of the files that `check` reads, where they are named.
@@ -43,12 +71,23 @@ pub struct CheckFiles<'a> {
     pub contingencies: Option<&'a str>,
 }
 
+/// The ring that `make` makes: how many buses it has, of 4, 8, 16, 32 and 64, and the seed of its
+/// numbers, of 32 bits.
+#[derive(Clone, Copy, Debug)]
+pub struct RingWords {
+    pub buses: usize,
+    pub seed: u64,
+}
+
 /// What the words ask for.
 #[derive(Clone, Copy, Debug)]
 pub enum Request<'a> {
     Pool(PoolFiles<'a>),
     Clear(ClearFiles<'a>),
+    Replay(ReplayFiles<'a>),
+    Verify(VerifyFiles<'a>),
     Check(CheckFiles<'a>),
+    Make(RingWords),
 }
 
 /// Why the words ask for nothing.
@@ -68,7 +107,7 @@ fn named_file<'a>(matches: &ArgMatches<'a>, option: &str) -> &'a str
 
 /// The file that an option names, where it is there.
 fn named_table<'a>(matches: &ArgMatches<'a>, option: &str) -> Option<&'a str>
-    ensures { option_map (λ name. name.now) result ≡ first_of option.now (rows_of (found_of matches.now)) }
+    ensures { text_of_name result ≡ first_of option.now (rows_of (found_of matches.now)) }
 {
     matches.get_str(option)
 }
@@ -95,11 +134,11 @@ fn pool_files<'a>(matches: &ArgMatches<'a>) -> PoolFiles<'a>
     }
 }
 
-/// The files that `clear` is to read.
-fn clear_files<'a>(matches: &ArgMatches<'a>) -> ClearFiles<'a>
-    ensures { names_to_clear result ≡ clear_names (rows_of (found_of matches.now)) }
+/// The files of the market.
+fn market_files<'a>(matches: &ArgMatches<'a>) -> MarketFiles<'a>
+    ensures { names_of_market result ≡ market_names (rows_of (found_of matches.now)) }
 {
-    ClearFiles {
+    MarketFiles {
         case: named_file(matches, "case"),
         ptdf: named_file(matches, "ptdf"),
         offers: named_file(matches, "offers"),
@@ -107,6 +146,43 @@ fn clear_files<'a>(matches: &ArgMatches<'a>) -> ClearFiles<'a>
         contingencies: named_table(matches, "contingencies"),
         offsets: named_table(matches, "offsets"),
         rating: named_rating(matches),
+    }
+}
+
+/// The files that `clear` is to read and to write.
+fn clear_files<'a>(matches: &ArgMatches<'a>) -> ClearFiles<'a>
+    ensures market { names_of_market result.market ≡ market_names (rows_of (found_of matches.now)) }
+    ensures certificate { text_of_name result.certificate ≡ first_of (codes "certificate") (rows_of (found_of matches.now)) }
+{
+    ClearFiles {
+        market: market_files(matches),
+        certificate: named_table(matches, "certificate"),
+    }
+}
+
+/// The files that `replay` is to read and to write.
+fn replay_files<'a>(matches: &ArgMatches<'a>) -> ReplayFiles<'a>
+    ensures market { names_of_market result.market ≡ market_names (rows_of (found_of matches.now)) }
+    ensures edits { result.edits.now ≡ file_of (codes "edits") (rows_of (found_of matches.now)) }
+    ensures certificate { text_of_name result.certificate ≡ first_of (codes "certificate") (rows_of (found_of matches.now)) }
+{
+    ReplayFiles {
+        market: market_files(matches),
+        edits: named_file(matches, "edits"),
+        certificate: named_table(matches, "certificate"),
+    }
+}
+
+/// The files that `verify` is to read.
+fn verify_files<'a>(matches: &ArgMatches<'a>) -> VerifyFiles<'a>
+    ensures market { names_of_market result.market ≡ market_names (rows_of (found_of matches.now)) }
+    ensures edits { text_of_name result.edits ≡ first_of (codes "edits") (rows_of (found_of matches.now)) }
+    ensures certificate { result.certificate.now ≡ file_of (codes "certificate") (rows_of (found_of matches.now)) }
+{
+    VerifyFiles {
+        market: market_files(matches),
+        edits: named_table(matches, "edits"),
+        certificate: named_file(matches, "certificate"),
     }
 }
 
@@ -119,6 +195,44 @@ fn check_files<'a>(matches: &ArgMatches<'a>) -> CheckFiles<'a>
         ptdf: named_file(matches, "ptdf"),
         lodf: named_table(matches, "lodf"),
         contingencies: named_table(matches, "contingencies"),
+    }
+}
+
+/// The number of buses that is given.
+fn named_size(matches: &ArgMatches<'_>) -> usize
+    ensures given { result ≡ size_of (rows_of (found_of matches.now)) }
+    ensures ring { IsRingSize result }
+{
+    match named_table(matches, "N") {
+        Some("8") => 8,
+        Some("16") => 16,
+        Some("32") => 32,
+        Some("64") => 64,
+        _ => 4,
+    }
+}
+
+/// The seed that is given.
+fn named_seed(matches: &ArgMatches<'_>) -> u64
+    ensures given { result ≡ seed_of (rows_of (found_of matches.now)) }
+    ensures small { result ≤ 4294967295 }
+{
+    match matches.get_one::<u32>("SEED") {
+        Some(seed) => u64::from(seed),
+        None => 0,
+    }
+}
+
+/// The ring that is to be made.
+fn ring_words(matches: &ArgMatches<'_>) -> RingWords
+    ensures buses { result.buses ≡ size_of (rows_of (found_of matches.now)) }
+    ensures seed { result.seed ≡ seed_of (rows_of (found_of matches.now)) }
+    ensures ring { IsRingSize result.buses }
+    ensures small { result.seed ≤ 4294967295 }
+{
+    RingWords {
+        buses: named_size(matches),
+        seed: named_seed(matches),
     }
 }
 
@@ -139,7 +253,7 @@ pub fn request_of<'a>(alloc: Global, words: &'a [String]) -> Result<Request<'a>,
     ensures asked { IfOk result (Asks (map string_bytes words.entry.now)) }
     ensures refused { IfErr result (λ stop. stop ≢ WordsStop.Memory → AsksNothing (map string_bytes words.entry.now)) }
 {
-    let command = match sced_command(alloc, RATINGS.as_slice()) {
+    let command = match sced_command(alloc, SIZES.as_slice(), RATINGS.as_slice()) {
         Ok(command) => command,
         Err(_) => return Err(WordsStop::Memory),
     };
@@ -149,7 +263,10 @@ pub fn request_of<'a>(alloc: Global, words: &'a [String]) -> Result<Request<'a>,
             match name {
                 "pool" => Ok(Request::Pool(pool_files(inner))),
                 "clear" => Ok(Request::Clear(clear_files(inner))),
-                _ => Ok(Request::Check(check_files(inner))),
+                "replay" => Ok(Request::Replay(replay_files(inner))),
+                "verify" => Ok(Request::Verify(verify_files(inner))),
+                "check" => Ok(Request::Check(check_files(inner))),
+                _ => Ok(Request::Make(ring_words(inner))),
             }
         }
         Err(error) => Err(stop_of(error.kind(), error.to_string(alloc))),
