@@ -3,7 +3,7 @@
 ghost use Rattle.std.specs.Prelude.{◌≡◌, [], None, All, IfOk, map, option_and_then, option_map};
 ghost use Rattle.cert_format.specs.Certificates.{certificate_of};
 ghost use Rattle.edit_replay.specs.Replays.{steps_at};
-ghost use Rattle.edit_table.specs.StepTable.{AreSteps};
+ghost use Rattle.edit_table.specs.EditTable.{AreSteps};
 ghost use Rattle.market_model.specs.Market.{IsMarket};
 ghost use Rattle.command_answers.specs.Clearing.{ClearsTo};
 ghost use Rattle.command_answers.specs.Inputs.{IsReplayed, texts_of};

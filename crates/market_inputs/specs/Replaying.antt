@@ -4,8 +4,8 @@ use Rattle.fraction_theory.specs.Fraction.{Fraction}
 use Rattle.record_reading.specs.Steps.{and_then, or_as}
 use Rattle.cert_format.specs.Certificates.{cert_at, cert_read}
 use Rattle.cert_format.specs.declared.cert.Cert.{Cert}
-use Rattle.edit_table.specs.StepTable.{steps_of_table}
-use Rattle.edit_table.specs.declared.step.Step.{Step}
+use Rattle.edit_table.specs.EditTable.{steps_of_table}
+use Rattle.edit_table.specs.declared.Step.{Step}
 use Rattle.refusal_text.specs.declared.refusals.Refusal.{Refusal}
 use Rattle.refusal_text.specs.declared.refusals.Refusal.TheVariants as refusal
 use Rattle.market_inputs.specs.declared.stops.Stop.{Stop}

@@ -12,8 +12,8 @@ use Rattle.outage_list.specs.declared.listing.OutageFault.{OutageFault}
 use Rattle.outage_list.specs.declared.listing.OutageFault.TheVariants as outage
 use Rattle.offer_book.specs.declared.offer_table.OfferFault.{OfferFault}
 use Rattle.offer_book.specs.declared.offer_table.OfferFault.TheVariants as offer
-use Rattle.edit_table.specs.declared.step.StepFault.{StepFault}
-use Rattle.edit_table.specs.declared.step.StepFault.TheVariants as step
+use Rattle.edit_table.specs.declared.StepFault.{StepFault}
+use Rattle.edit_table.specs.declared.StepFault.TheVariants as step
 use Rattle.cert_format.specs.declared.cert.CertFault.{CertFault}
 use Rattle.cert_format.specs.declared.cert.CertFault.TheVariants as certificate
 use Rattle.refusal_text.specs.declared.refusals.Input.{Input}

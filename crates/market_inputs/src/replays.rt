@@ -2,7 +2,7 @@
 
 ghost use Rattle.std.specs.Prelude.{◌≡◌, IfOk};
 ghost use Rattle.cert_format.specs.Certificates.{RowsAreDistinct, cert_at};
-ghost use Rattle.edit_table.specs.StepTable.{AreSteps};
+ghost use Rattle.edit_table.specs.EditTable.{AreSteps};
 ghost use Rattle.refusal_text.specs.declared.refusals.Input.TheVariants as input;
 ghost use Rattle.refusal_text.specs.declared.refusals.Refusal.TheVariants as refusal;
 ghost use Rattle.market_inputs.specs.Files.{sized};
