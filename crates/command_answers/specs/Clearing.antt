@@ -8,7 +8,7 @@ use Rattle.market_model.specs.declared.answered.Outcome.TheVariants as outcome
 use Rattle.market_model.specs.Market.{IsMarket}
 use Rattle.market_system.specs.Outcomes.{IsRightOutcome}
 use Rattle.report_text.specs.Reports.{report_text}
-use Rattle.cert_format.specs.Certificates.{certificate_of}
+use Rattle.cert_format.specs.Written.{certificate_of}
 use Rattle.command_answers.specs.declared.status.Status.{Status}
 use Rattle.command_answers.specs.declared.status.Status.TheVariants as status
 use Rattle.command_answers.specs.Tellings.{Telling}

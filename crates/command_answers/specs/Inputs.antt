@@ -3,7 +3,7 @@ use Rattle.std.specs.Prelude.{◌≡◌, ℕ, List, Result, Ok}
 use Rattle.fraction_theory.specs.Fraction.{Fraction}
 use Rattle.market_model.specs.declared.participants.Parts.{Parts}
 use Rattle.net_case.specs.declared.live_parts.PostRating.{PostRating}
-use Rattle.cert_format.specs.declared.cert.Cert.{Cert}
+use Rattle.cert_format.specs.declared.certificate.Cert.{Cert}
 use Rattle.edit_table.specs.declared.Step.{Step}
 use Rattle.edit_replay.specs.Replays.{edited_by}
 use Rattle.refusal_text.specs.declared.refusals.Input.TheVariants as input

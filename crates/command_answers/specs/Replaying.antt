@@ -5,7 +5,7 @@ use Rattle.market_model.specs.declared.participants.Parts.{Parts}
 use Rattle.market_model.specs.declared.answered.Outcome.{Outcome}
 use Rattle.market_model.specs.LimitRows.{Row}
 use Rattle.market_model.specs.Market.{IsMarket}
-use Rattle.cert_format.specs.Certificates.{certificate_of}
+use Rattle.cert_format.specs.Written.{certificate_of}
 use Rattle.edit_table.specs.declared.Step.{Step}
 use Rattle.edit_replay.specs.declared.outcomes.StepOutcome.{StepOutcome}
 use Rattle.edit_replay.specs.declared.outcomes.StepOutcome.TheVariants as step

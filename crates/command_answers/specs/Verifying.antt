@@ -5,7 +5,7 @@ use Rattle.exact_fraction.specs.declared.Passed.{Passed}
 use Rattle.market_model.specs.declared.participants.Parts.{Parts}
 use Rattle.market_model.specs.Market.{IsMarket}
 use Rattle.report_text.specs.Reports.{range_text}
-use Rattle.cert_format.specs.declared.cert.Cert.{Cert}
+use Rattle.cert_format.specs.declared.certificate.Cert.{Cert}
 use Rattle.cert_verify.specs.Reasons.{first_reason}
 use Rattle.cert_verify.specs.Reasons.{IsCertificatePair}
 use Rattle.cert_verify.specs.declared.reasons.Reason.{Reason}

@@ -1,7 +1,7 @@
 //! Edits and clears of a market, one after another.
 
 ghost use Rattle.std.specs.Prelude.{◌≡◌, [], None, All, IfOk, map, option_and_then, option_map};
-ghost use Rattle.cert_format.specs.Certificates.{certificate_of};
+ghost use Rattle.cert_format.specs.Written.{certificate_of};
 ghost use Rattle.edit_replay.specs.Replays.{steps_at};
 ghost use Rattle.edit_table.specs.EditTable.{AreSteps};
 ghost use Rattle.market_model.specs.Market.{IsMarket};

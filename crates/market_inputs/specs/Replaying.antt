@@ -2,8 +2,9 @@
 use Rattle.std.specs.Prelude.{◌≡◌, ℕ, List, Result, Ok, Err}
 use Rattle.fraction_theory.specs.Fraction.{Fraction}
 use Rattle.record_reading.specs.Steps.{and_then, or_as}
-use Rattle.cert_format.specs.Certificates.{cert_at, cert_read}
-use Rattle.cert_format.specs.declared.cert.Cert.{Cert}
+use Rattle.cert_format.specs.Certificates.{cert_at}
+use Rattle.cert_format.specs.Grammar.{cert_read}
+use Rattle.cert_format.specs.declared.certificate.Cert.{Cert}
 use Rattle.edit_table.specs.EditTable.{steps_of_table}
 use Rattle.edit_table.specs.declared.Step.{Step}
 use Rattle.refusal_text.specs.declared.refusals.Refusal.{Refusal}

@@ -14,8 +14,8 @@ use Rattle.offer_book.specs.declared.offer_table.OfferFault.{OfferFault}
 use Rattle.offer_book.specs.declared.offer_table.OfferFault.TheVariants as offer
 use Rattle.edit_table.specs.declared.StepFault.{StepFault}
 use Rattle.edit_table.specs.declared.StepFault.TheVariants as step
-use Rattle.cert_format.specs.declared.cert.CertFault.{CertFault}
-use Rattle.cert_format.specs.declared.cert.CertFault.TheVariants as certificate
+use Rattle.cert_format.specs.declared.certificate.CertFault.{CertFault}
+use Rattle.cert_format.specs.declared.certificate.CertFault.TheVariants as certificate
 use Rattle.refusal_text.specs.declared.refusals.Input.{Input}
 use Rattle.refusal_text.specs.declared.refusals.Refusal.{Refusal}
 use Rattle.refusal_text.specs.declared.refusals.Refusal.TheVariants as refusal

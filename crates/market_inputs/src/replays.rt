@@ -14,7 +14,7 @@ use crate::lengths::check_length;
 use crate::stops::Stop;
 use cert_format::{Cert, from_json};
 use edit_table::{Steps, steps};
-use exact_fraction::Frac;
+use exact_fraction::{Exact, Frac};
 use refusal_text::Input;
 use std::alloc::Global;
 
@@ -29,8 +29,8 @@ pub fn edit_steps(alloc: Global, bytes: &[u8]) -> Result<Steps, Stop>
 
 /// The certificate that a text stands for.
 pub fn read_certificate(alloc: Global, bytes: &[u8]) -> Result<Cert<Frac>, Stop>
-    ensures told { IsReadAs Frac.value (certificate_in (sized (refusal.TooLong input.Certificate) bytes.now)) result }
-    ensures distinct { IfOk result (λ cert. RowsAreDistinct (cert_at Frac.value cert)) }
+    ensures told { IsReadAs ⟦<Frac as Exact>⟧.value (certificate_in (sized (refusal.TooLong input.Certificate) bytes.now)) result }
+    ensures distinct { IfOk result (λ cert. RowsAreDistinct (cert_at ⟦<Frac as Exact>⟧.value cert)) }
 {
     check_length(bytes, Input::Certificate)?;
     Ok(from_json(alloc, bytes)?)
