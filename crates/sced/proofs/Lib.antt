@@ -1,4 +1,2 @@
-pub mod CheckingLemmas
-pub mod ClearingLemmas
-pub mod DecidedLemmas
+pub mod FileLemmas
 pub mod ReadingLemmas

@@ -3,10 +3,10 @@ use Rattle.std.proofs.Common.{◌≡◌, ℕ, List, Result, Ok, Err, Option, Som
 use Rattle.std.specs.Prelude.{IfOk, MatchResult}
 use Rattle.outside_store.specs.Files.{Files, SameFiles, Reads}
 use Rattle.outside_store.specs.declared.Store.{Ghosts}
-use Rattle.refusal_text.specs.declared.refusals.Refusal.{Refusal}
-use Rattle.market_inputs.specs.Files.{sized}
-use Rattle.market_inputs.proofs.FileLemmas.{sized-cut}
-use Rattle.sced.specs.Reading.{IsTable, ReadsTable}
+use Rattle.command_words.specs.Words.{CheckNames, MarketNames}
+use Rattle.sced.specs.declared.reading.GridBytes.{GridBytes}
+use Rattle.sced.specs.declared.reading.MarketBytes.{MarketBytes}
+use Rattle.sced.specs.Reading.{ReadsGrid, ReadsMarket, ReadsTable, contingencies_header, lodf_header, offsets_header}
 use Rattle.sced.specs.Runs.{OnlyReads}
 
 -- ---- files that stay as they were
@@ -44,20 +44,8 @@ reads-of store old new asked wider failed within h = record {
   writes = h.writes;
 }
 
--- ---- files that are cut behind the first byte too many
--- the whole bytes of a file that was read
-pub whole-file : (f : Files) (name bytes : List ℕ) → Reads (Some f) name 33554432 bytes
-    → (whole : List ℕ) × (f name ≡ Some whole) × ((file : Refusal) → sized file bytes ≡ sized file whole)
-whole-file f name bytes (whole, at, cut) = (whole, at, λ file. ap (sized file) cut ∙ sized-cut file whole)
-
--- and of a table, which no file may be named for
-pub whole-table : (f : Files) (name : Option (List ℕ)) (header bytes : List ℕ) → ReadsTable (Some f) name header bytes
-    → (whole : List ℕ) × IsTable f name header whole × ((file : Refusal) → sized file bytes ≡ sized file whole)
-whole-table f (Some name) header bytes read = whole-file f name bytes read
-whole-table f None header bytes read = (bytes, read, λ file. refl)
-
 -- ---- outcomes
--- what is right for an outcome is right for it once it is told
+-- what is right for what is made is right for it once it is told
 pub if_ok-map : {A E : Type 0} (P Q : A → Type 0) (r : Result A E) → ((x : A) → P x → Q x) → IfOk r P → IfOk r Q
 if_ok-map P Q (Ok x) f right = f x right
 if_ok-map P Q (Err e) f right = tt

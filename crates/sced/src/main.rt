@@ -48,4 +48,6 @@ mod clear_tests;
 #[cfg(test)]
 mod fixture;
 #[cfg(test)]
+mod task_tests;
+#[cfg(test)]
 mod tests;

@@ -1,0 +1,325 @@
+//! Certificates that are written and verified, replays of edits, and rings.
+
+use crate::fixture::{BUSES, LOSS, OFFERS, SHIFT, UNITS, case};
+use crate::run::run;
+use command_answers::Status;
+use outside_store::{MemorySink, MemoryStore, Room};
+use std::process::Abort;
+use std::test::Fail;
+
+/// The words for a market without outages, and with one.
+const ALONE: &str = "--case case.m --ptdf shift.csv --offers offers.csv";
+
+const AFTER: &str =
+    "--case case.m --ptdf shift.csv --offers offers.csv --lodf loss.csv --contingencies listed.csv";
+
+/// The certificate of the market with a limit of 40, and of 45 after the outage of branch 1.
+const OPTIMAL: &str =
+    "{\"blocks\":[\"45000000000/1\",\"15000000000/1\"],\"energy\":\"10000000/1\",\"kind\":\"optimal\",\"limits\":[{\"branch\":2,\"down\":\"0/1\",\"outage\":1,\"up\":\"20000000/1\"}],\"version\":1}";
+
+/// The same with its dual at the limit in the base.
+const MOVED: &str =
+    "{\"blocks\":[\"45000000000/1\",\"15000000000/1\"],\"energy\":\"10000000/1\",\"kind\":\"optimal\",\"limits\":[{\"branch\":2,\"down\":\"0/1\",\"outage\":0,\"up\":\"20000000/1\"}],\"version\":1}";
+
+/// Duals that show that nothing is feasible where branch 2 has a limit of 10.
+const FARKAS: &str =
+    "{\"energy\":\"-1/1\",\"kind\":\"farkas\",\"limits\":[{\"branch\":2,\"down\":\"0/1\",\"outage\":0,\"up\":\"2/1\"}],\"version\":1}";
+
+const HALVED: &str =
+    "{\"energy\":\"2/4\",\"kind\":\"farkas\",\"limits\":[],\"version\":1}";
+
+const LIMITED: &str =
+    "cleared\nwelfare -800\nenergy 10\nbus 1 price 10 congestion 0\nbus 2 price 30 congestion 20\nbus 3 price 40 congestion 30\nblock 1 sell 1 mw 50\nblock 2 sell 1 mw 10\nlimit 2 base flow 40 up 40 down 0 rent 1600\nunit 1 mw 50 paid 500\nunit 2 mw 10 paid 300\nload 1 mw 0 pays 0\nload 2 mw 0 pays 0\nload 3 mw 60 pays 2400\nsurplus 1600\n";
+
+/// The first clear, then one with unit 2 at 20.
+const CHEAPER: &str =
+    "step 1 clear\ncleared\nwelfare -800\nenergy 10\nbus 1 price 10 congestion 0\nbus 2 price 30 congestion 20\nbus 3 price 40 congestion 30\nblock 1 sell 1 mw 50\nblock 2 sell 1 mw 10\nlimit 2 base flow 40 up 40 down 0 rent 1600\nunit 1 mw 50 paid 500\nunit 2 mw 10 paid 300\nload 1 mw 0 pays 0\nload 2 mw 0 pays 0\nload 3 mw 60 pays 2400\nsurplus 1600\nstep 2 edit accepted\nstep 3 clear\ncleared\nwelfare -700\nenergy 10\nbus 1 price 10 congestion 0\nbus 2 price 20 congestion 10\nbus 3 price 25 congestion 15\nblock 1 sell 1 mw 50\nblock 2 sell 1 mw 10\nlimit 2 base flow 40 up 20 down 0 rent 800\nunit 1 mw 50 paid 500\nunit 2 mw 10 paid 200\nload 1 mw 0 pays 0\nload 2 mw 0 pays 0\nload 3 mw 60 pays 1500\nsurplus 800\n";
+
+const CHEAPER_CERTIFICATE: &str =
+    "{\"blocks\":[\"50000000000/1\",\"10000000000/1\"],\"energy\":\"10000000/1\",\"kind\":\"optimal\",\"limits\":[{\"branch\":2,\"down\":\"0/1\",\"outage\":0,\"up\":\"20000000/1\"}],\"version\":1}";
+
+/// A demand of 40 more at bus 1, and no flow over branch 2.
+const BLOCKED: &str =
+    "step 1 edit accepted\nstep 2 edit accepted\nstep 3 clear\ncleared\nwelfare -2800\nenergy 10\nbus 1 price 10 congestion 0\nbus 2 price 30 congestion 20\nbus 3 price 40 congestion 30\nblock 1 sell 1 mw 10\nblock 2 sell 1 mw 90\nlimit 2 base flow 0 up 40 down 0 rent 0\nunit 1 mw 10 paid 100\nunit 2 mw 90 paid 2700\nload 1 mw 40 pays 400\nload 2 mw 0 pays 0\nload 3 mw 60 pays 2400\nsurplus 0\n";
+
+/// What a run is to end with: its status, the beginning and the end of its text, and the file that it wrote.
+#[derive(Clone, Copy)]
+struct Want<'a> {
+    status: Status,
+    start: &'a str,
+    end: &'a str,
+    written: Option<&'a str>,
+}
+
+/// A text that is told whole.
+fn whole(status: Status, text: &str) -> Want<'_> {
+    Want {
+        status,
+        start: text,
+        end: text,
+        written: None,
+    }
+}
+
+/// Runs a subcommand over the three-bus case with a limit of branch 2, with edits and a certificate.
+fn expect<R: Abort + AllocGlobal>(
+    rt: &R,
+    line: &str,
+    ratings: &str,
+    inputs: (&str, &str),
+    failing: (&[u64], &[u64]),
+    want: Want<'_>,
+) -> Result<(), Fail> {
+    let room = Room {
+        files: 10,
+        name: 16,
+        bytes: 65_536,
+    };
+    let case = case(rt, BUSES, UNITS, ratings)?;
+    let mut store = MemoryStore::new(rt.alloc(), room, failing.0)?;
+    let files: [(&str, &[u8]); 8] = [
+        ("case.m", case.as_bytes()),
+        ("shift.csv", SHIFT.as_bytes()),
+        ("loss.csv", LOSS.as_bytes()),
+        ("listed.csv", b"branch\n1\n"),
+        ("offers.csv", OFFERS.as_bytes()),
+        ("offsets.csv", b"branch,mw\n"),
+        ("edits.csv", inputs.0.as_bytes()),
+        ("in.json", inputs.1.as_bytes()),
+    ];
+    for (name, bytes) in files {
+        assert!(rt; store.add(name, bytes).is_ok());
+    }
+    let mut sink = MemorySink::new(rt.alloc(), 8192, failing.1)?;
+    let mut words = Vec::new(rt.alloc());
+    for word in line.split(' ') {
+        words.push(String::from_str(rt.alloc(), word)?)?;
+    }
+    let status = run(rt.alloc(), words.as_slice(), &mut store, &mut sink);
+    assert_eq!(rt; status, want.status);
+    assert!(rt; sink.bytes().starts_with(want.start.as_bytes()));
+    assert!(rt; sink.bytes().ends_with(want.end.as_bytes()));
+    match (store.bytes("out.json"), want.written) {
+        (Some(bytes), Some(text)) => assert_eq!(rt; bytes, text.as_bytes()),
+        (told, None) => assert!(rt; told.is_none()),
+        (None, Some(_)) => assert!(rt; false),
+    }
+    Ok(())
+}
+
+const ALL: (&[u64], &[u64]) = (&[], &[]);
+
+#[test]
+fn writes_and_verifies_certificates(rt: HostRuntime) -> Result<(), Fail> {
+    for (words, market, ratings, certificate, want) in [
+        (
+            "clear --certificate out.json",
+            AFTER,
+            "40 0 45 0 0",
+            "",
+            Want {
+                status: Status::Done,
+                start: "cleared\nwelfare -900\n",
+                end: "surplus 900\n",
+                written: Some(OPTIMAL),
+            },
+        ),
+        (
+            "verify --certificate in.json",
+            AFTER,
+            "40 0 45 0 0",
+            OPTIMAL,
+            whole(Status::Done, "yes\n"),
+        ),
+        (
+            "verify --certificate in.json",
+            AFTER,
+            "40 0 45 0 0",
+            MOVED,
+            whole(Status::Refuted, "no Slack branch 2 outage 0\n"),
+        ),
+        (
+            "verify --certificate in.json",
+            ALONE,
+            "40 0 0 0 0",
+            OPTIMAL,
+            whole(Status::Refuted, "no NoRow branch 2 outage 1\n"),
+        ),
+        (
+            "verify --certificate in.json",
+            ALONE,
+            "10 0 0 0 0",
+            FARKAS,
+            whole(Status::Done, "yes\n"),
+        ),
+        (
+            "verify --certificate in.json",
+            ALONE,
+            "40 0 0 0 0",
+            FARKAS,
+            whole(Status::Refuted, "no Bound\n"),
+        ),
+        (
+            "verify --certificate in.json",
+            ALONE,
+            "40 0 0 0 0",
+            "{",
+            whole(Status::Refused, "refused certificate Key json\n"),
+        ),
+        (
+            "verify --certificate in.json",
+            ALONE,
+            "40 0 0 0 0",
+            HALVED,
+            whole(Status::Refused, "refused certificate Key energy\n"),
+        ),
+    ] {
+        let line = format!(in rt.alloc(); "sced {words} {market}")?;
+        expect(&rt, line.as_str(), ratings, ("", certificate), ALL, want)?;
+    }
+    Ok(())
+}
+
+#[test]
+fn replays_edits(rt: HostRuntime) -> Result<(), Fail> {
+    let done = Status::Done;
+    for (edits, status, start, end, written) in [
+        ("", done, "no steps\n", "no steps\n", None),
+        (
+            "clear,,,,\nprice,2,sell,1,20\nclear,,,,\n",
+            done,
+            CHEAPER,
+            CHEAPER,
+            Some(CHEAPER_CERTIFICATE),
+        ),
+        (
+            "demand,1,,,40\nlimit,2,base,,0\nclear,,,,\n",
+            done,
+            BLOCKED,
+            BLOCKED,
+            None,
+        ),
+        (
+            "price,2,sell,2,5\nclear,,,,\n",
+            Status::Refused,
+            "step 1 edit refused NoBlock\nstep 2 clear\ncleared\nwelfare -800\n",
+            LIMITED,
+            None,
+        ),
+        (
+            "quantity,1,sell,1,120\n",
+            Status::Refused,
+            "step 1 edit refused OverCapacity 20\n",
+            "step 1 edit refused OverCapacity 20\n",
+            None,
+        ),
+        (
+            "limit,2,base,,10\nclear,,,,\nlimit,2,base,,40\nclear,,,,\n",
+            Status::Infeasible,
+            "step 1 edit accepted\nstep 2 clear\ninfeasible\nbound -",
+            LIMITED,
+            None,
+        ),
+        (
+            "price,1,sell,,5\n",
+            Status::Refused,
+            "refused edits Cell line 2 col 4 BadNumber\n",
+            "refused edits Cell line 2 col 4 BadNumber\n",
+            None,
+        ),
+        (
+            "demand,3,sell,,5\n",
+            Status::Refused,
+            "refused edits Word line 2\n",
+            "refused edits Word line 2\n",
+            None,
+        ),
+    ] {
+        let certificate = if written.is_some() {
+            " --certificate out.json"
+        } else {
+            ""
+        };
+        let line =
+            format!(in rt.alloc(); "sced replay {ALONE} --edits edits.csv{certificate}")?;
+        let edits = format!(in rt.alloc(); "op,target,side,block,value\n{edits}")?;
+        let want = Want {
+            status,
+            start,
+            end,
+            written,
+        };
+        expect(&rt, line.as_str(), "40 0 0 0 0", (edits.as_str(), ""), ALL, want)?;
+    }
+    Ok(())
+}
+
+#[test]
+fn verifies_after_edits(rt: HostRuntime) -> Result<(), Fail> {
+    let edits = "op,target,side,block,value\nprice,2,sell,2,5\nclear,,,,\nprice,2,sell,1,20\n";
+    let line =
+        format!(in rt.alloc(); "sced verify {ALONE} --edits edits.csv --certificate in.json")?;
+    let yes = whole(Status::Done, "yes\n");
+    expect(
+        &rt,
+        line.as_str(),
+        "40 0 0 0 0",
+        (edits, CHEAPER_CERTIFICATE),
+        ALL,
+        yes,
+    )
+}
+
+#[test]
+fn makes_rings(rt: HostRuntime) -> Result<(), Fail> {
+    for (line, status, start) in [
+        (
+            "sced make 4 7",
+            Status::Done,
+            "ring 4 seed 7 buses 4 blocks 8 limits 16\ncleared\nwelfare -",
+        ),
+        ("sced make 5 7", Status::Usage, "error"),
+    ] {
+        let want = Want {
+            status,
+            start,
+            end: "\n",
+            written: None,
+        };
+        expect(&rt, line, "40 0 0 0 0", ("", ""), ALL, want)?;
+    }
+    Ok(())
+}
+
+/// Seven files are read, then a certificate is written and a text is put; one of these fails.
+#[test]
+fn tells_the_call_that_fails(rt: HostRuntime) -> Result<(), Fail> {
+    let edits = "op,target,side,block,value\nclear,,,,\n";
+    let line =
+        format!(in rt.alloc(); "sced replay {AFTER} --offsets offsets.csv --edits edits.csv --certificate out.json")?;
+    for (store_call, put, status, written) in [
+        (0, 9, Status::ReadFailed, None),
+        (3, 9, Status::ReadFailed, None),
+        (6, 9, Status::ReadFailed, None),
+        (7, 9, Status::WriteFailed, None),
+        (99, 0, Status::WriteFailed, Some(OPTIMAL)),
+    ] {
+        let want = Want {
+            status,
+            start: "",
+            end: "",
+            written,
+        };
+        let failing = ([store_call], [put]);
+        expect(
+            &rt,
+            line.as_str(),
+            "40 0 45 0 0",
+            (edits, ""),
+            (failing.0.as_slice(), failing.1.as_slice()),
+            want,
+        )?;
+        assert!(rt; status != Status::Done);
+    }
+    Ok(())
+}
