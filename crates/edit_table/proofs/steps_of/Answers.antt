@@ -1,0 +1,33 @@
+use Rattle.std.proofs.Common.{rules, arith, ◌≡◌, ◌<◌, ◌≤◌, ◌+◌, ◌++◌, ◌∷◌, ◌∙◌, sym, ap, Err, [], length, length-append, List}
+use Rattle.std.proofs.lemmas.List.Elements.{All-append, All-cons, All-nil}
+use Rattle.record_reading.proofs.RowLemmas.{read_rows-end, read_rows-fault, read_rows-step}
+use Rattle.edit_table.specs.declared.Step.{Step}
+use Rattle.edit_table.specs.EditTable.{IsStep, step_in}
+use Rattle.edit_table.proofs.steps_of.Goals as goal
+
+pub returns-in_err-step-clause-is : goal.returns-in_err-step-clause-is
+returns-in_err-step-clause-is c =
+    let lt : c.loop-row.row < length c.args.table.now = omega arith in
+    let here = c.loop-row.invariant.is
+    ∙ read_rows-fault (λ (_ : List Step). step_in) c.loop-row.steps (c.loop-row.row + 2) c.args.table.now c.loop-row.row c.in_err-step.field-0.0 lt (sym c.step_of.ensures.is ∙ c.in_err-step.was) in
+    let given : c.from_residual.result ≡ Err c.in_err-step.field-0.0 = search rules in
+    λ _. given ∙ sym here
+
+pub loop-row-preserved : goal.loop-row-preserved
+loop-row-preserved c =
+    let lt : c.loop-row.row < length c.args.table.now = omega arith in
+    let here = c.loop-row.invariant.is
+    ∙ read_rows-step (λ (_ : List Step). step_in) c.loop-row.steps (c.loop-row.row + 2) c.args.table.now c.loop-row.row c.in_ok-step.step lt (sym c.step_of.ensures.is ∙ c.in_ok-step.was) in
+    let added : c.push.new.self ≡ c.loop-row.steps ++ c.in_ok-step.step ∷ [] = search rules in
+    let next : c.loop-row.row + 2 + 1 ≡ c.loop-row.row + 1 + 2 = omega arith in
+    let more = All-append IsStep c.loop-row.steps (c.in_ok-step.step ∷ []) c.loop-row.invariant.steps (All-cons IsStep c.in_ok-step.step [] c.in_ok-step.ensures.kept (All-nil IsStep)) in
+    record {
+      count = omega (arith, ap length added, length-append c.loop-row.steps (c.in_ok-step.step ∷ []));
+      steps = rw added more;
+      is = rw (added, ← next) here;
+    }
+
+pub returns-clause-is : goal.returns-clause-is
+returns-clause-is c =
+    let le : length c.args.table.now ≤ c.loop-row.row = omega arith in
+    λ _. sym (c.loop-row.invariant.is ∙ read_rows-end (λ (_ : List Step). step_in) c.loop-row.steps (c.loop-row.row + 2) c.args.table.now c.loop-row.row le)

@@ -1,0 +1,12 @@
+use Rattle.std.proofs.Common.{◌≡◌, ◌≤◌, ◌+◌, [], length, drop, All}
+use Rattle.record_reading.specs.Rows.{read_rows}
+use Rattle.edit_table.specs.EditTable.{IsStep, step_in}
+use Rattle.edit_table.proofs.steps_of.Given as goal
+
+-- the steps so far, and those of the records that are left
+abbrev pub invariant-loop-row : goal.invariant-loop-row
+invariant-loop-row l = record {
+  count : length l.steps ≤ l.row;
+  steps : All IsStep l.steps;
+  is : read_rows (λ _. step_in) [] 2 l.table ≡ read_rows (λ _. step_in) l.steps (l.row + 2) (drop l.row l.table);
+}

@@ -1,0 +1,293 @@
+//! The table of edits and clears of a market.
+#![tactic(auto)]
+
+ghost use Rattle.std.specs.Prelude.{◌≡◌, ◌≢◌, ◌+◌, ◌<◌, ◌≤◌, ◌^◌, length, get_or, [], Ok, Err, IfOk};
+ghost use Rattle.record_reading.specs.Rows.{read_rows};
+ghost use Rattle.edit_table.specs.EditTable.{AreSteps, IsStep, cell_fault, form_in, frame_fault, is_bare, is_empty, most_steps, numbers_in, post_in, side_in, step_in, steps_of_table};
+ghost use Rattle.edit_table.specs.declared.Form.TheVariants as form;
+
+use csv_table::{Table, read_table};
+use market_model::{List, MW_PLACES, Memory, PRICE_PLACES, Side};
+use offer_book::Edit;
+use record_reading::{CellFault, FrameFault, Why};
+use std::alloc::Global;
+use thiserror::Error;
+
+/// The most records of the table.
+const MOST_STEPS: usize = 10_000;
+
+// The columns.
+const OP: usize = 0;
+
+const TARGET: usize = 1;
+
+const SIDE: usize = 2;
+
+const BLOCK: usize = 3;
+
+const VALUE: usize = 4;
+
+/// What is done to a market.
+#[derive(Clone, Copy, Debug, PartialEq, Eq)]
+pub enum Step {
+    /// One of its numbers is changed. Its target and its block may name nothing that a market has.
+    Edit(Edit),
+    /// It is cleared as it is then.
+    Clear,
+}
+
+/// Steps in the order in which they are done.
+pub type Steps = List<Step>;
+
+/// Why a table of edits is refused. A line is a record's place, where the header's is 1.
+#[derive(Clone, Copy, Debug, PartialEq, Eq, Error)]
+pub enum StepFault {
+    #[error("another header")]
+    Header,
+    #[error("another width in line {line}")]
+    Width { line: usize },
+    #[error("{count} records")]
+    TooMany { count: usize },
+    #[error("line {line}, column {col}: {why:?}")]
+    Cell { line: usize, col: usize, why: Why },
+    /// A word that says nothing here, or a cell that is to be empty and is not.
+    #[error("the words of line {line} say no step")]
+    Word { line: usize },
+    #[error("memory was refused")]
+    Memory,
+}
+
+impl From<FrameFault> for StepFault {
+    ghost from_gives = { λ frame fault. fault ≡ frame_fault frame };
+
+    fn from(fault: FrameFault) -> StepFault {
+        match fault {
+            FrameFault::Header => StepFault::Header,
+            FrameFault::Width { line } => StepFault::Width { line },
+            FrameFault::TooMany { count } => StepFault::TooMany { count },
+            FrameFault::Memory => StepFault::Memory,
+        }
+    }
+}
+
+impl From<CellFault> for StepFault {
+    ghost from_gives = { λ cell fault. fault ≡ cell_fault cell };
+
+    fn from(fault: CellFault) -> StepFault {
+        StepFault::Cell {
+            line: fault.line,
+            col: fault.col,
+            why: fault.why,
+        }
+    }
+}
+
+impl From<Memory> for StepFault {
+    ghost use Rattle.edit_table.specs.declared.StepFault.TheVariants as step_fault;
+
+    ghost from_gives = { λ _ fault. fault ≡ step_fault.Memory };
+
+    fn from(_refused: Memory) -> StepFault {
+        StepFault::Memory
+    }
+}
+
+/// What a record is, as its words say.
+#[derive(Clone, Copy, Debug)]
+enum Form {
+    Price(Side),
+    Quantity(Side),
+    Demand,
+    Limit { post: bool },
+    Clear,
+}
+
+/// The side of an offer that a record names.
+#[tactic(auto, unfolding(crate::specs::EditTable::side_in))]
+fn side_of(table: &Table, row: usize) -> Option<Side>
+    requires { row < length table.now }
+    ensures { result ≡ side_in (get_or table.now row []) }
+{
+    let side = table.cell(row, SIDE);
+    if side == b"sell".as_slice() {
+        Some(Side::Sell)
+    } else if side == b"buy".as_slice() {
+        Some(Side::Buy)
+    } else {
+        None
+    }
+}
+
+/// Whether the limit that a record names is the one after an outage.
+#[tactic(auto, unfolding(crate::specs::EditTable::post_in))]
+fn post_of(table: &Table, row: usize) -> Option<bool>
+    requires { row < length table.now }
+    ensures { result ≡ post_in (get_or table.now row []) }
+{
+    let side = table.cell(row, SIDE);
+    if side == b"base".as_slice() {
+        Some(false)
+    } else if side == b"post".as_slice() {
+        Some(true)
+    } else {
+        None
+    }
+}
+
+/// Whether a cell is empty.
+fn is_empty(table: &Table, row: usize, col: usize) -> bool
+    requires { row < length table.now }
+    ensures { result ≡ is_empty (get_or table.now row []) col }
+{
+    table.cell(row, col).is_empty()
+}
+
+/// Whether a record has its first word alone.
+fn is_bare(table: &Table, row: usize) -> bool
+    requires { row < length table.now }
+    ensures { result ≡ is_bare (get_or table.now row []) }
+{
+    is_empty(table, row, TARGET)
+        && is_empty(table, row, SIDE)
+        && is_empty(table, row, BLOCK)
+        && is_empty(table, row, VALUE)
+}
+
+/// What a record is, as its words say: the first cell names it, and those that it has no use for are empty.
+#[tactic(auto, unfolding(crate::specs::EditTable::form_in))]
+fn form_of(table: &Table, row: usize) -> Option<Form>
+    requires { row < length table.now }
+    ensures { result ≡ form_in (get_or table.now row []) }
+{
+    let op = table.cell(row, OP);
+    if op == b"price".as_slice() {
+        let side = side_of(table, row)?;
+        Some(Form::Price(side))
+    } else if op == b"quantity".as_slice() {
+        let side = side_of(table, row)?;
+        Some(Form::Quantity(side))
+    } else if op == b"demand".as_slice()
+        && is_empty(table, row, SIDE)
+        && is_empty(table, row, BLOCK)
+    {
+        Some(Form::Demand)
+    } else if op == b"limit".as_slice() && is_empty(table, row, BLOCK) {
+        let post = post_of(table, row)?;
+        Some(Form::Limit { post })
+    } else if op == b"clear".as_slice() && is_bare(table, row) {
+        Some(Form::Clear)
+    } else {
+        None
+    }
+}
+
+/// The step of a new price of a block.
+#[tactic(auto, unfolding(crate::specs::EditTable::numbers_in))]
+fn price_step(table: &Table, row: usize, side: Side) -> Result<Step, StepFault>
+    requires { (row < length table.now) × (row + 2 < 2 ^ 64) }
+    ensures kept { IfOk result IsStep }
+    ensures is { result ≡ numbers_in (row + 2) (get_or table.now row []) (form.Price side) }
+{
+    let unit = table.number(row, TARGET, 0)?;
+    let block = table.number(row, BLOCK, 0)?;
+    let price = table.number(row, VALUE, PRICE_PLACES)?;
+    Ok(Step::Edit(Edit::Price {
+        unit,
+        side,
+        block,
+        price,
+    }))
+}
+
+/// The step of a new quantity of a block.
+#[tactic(auto, unfolding(crate::specs::EditTable::numbers_in))]
+fn quantity_step(table: &Table, row: usize, side: Side) -> Result<Step, StepFault>
+    requires { (row < length table.now) × (row + 2 < 2 ^ 64) }
+    ensures kept { IfOk result IsStep }
+    ensures is { result ≡ numbers_in (row + 2) (get_or table.now row []) (form.Quantity side) }
+{
+    let unit = table.number(row, TARGET, 0)?;
+    let block = table.number(row, BLOCK, 0)?;
+    let mw = table.number(row, VALUE, MW_PLACES)?;
+    Ok(Step::Edit(Edit::Quantity {
+        unit,
+        side,
+        block,
+        mw,
+    }))
+}
+
+/// The step of a new load of a bus.
+#[tactic(auto, unfolding(crate::specs::EditTable::numbers_in))]
+fn demand_step(table: &Table, row: usize) -> Result<Step, StepFault>
+    requires { (row < length table.now) × (row + 2 < 2 ^ 64) }
+    ensures kept { IfOk result IsStep }
+    ensures is { result ≡ numbers_in (row + 2) (get_or table.now row []) form.Demand }
+{
+    let bus = table.number(row, TARGET, 0)?;
+    let mw = table.number(row, VALUE, MW_PLACES)?;
+    Ok(Step::Edit(Edit::Demand { bus, mw }))
+}
+
+/// The step of a new limit of a branch.
+#[tactic(auto, unfolding(crate::specs::EditTable::numbers_in))]
+fn limit_step(table: &Table, row: usize, post: bool) -> Result<Step, StepFault>
+    requires { (row < length table.now) × (row + 2 < 2 ^ 64) }
+    ensures kept { IfOk result IsStep }
+    ensures is { result ≡ numbers_in (row + 2) (get_or table.now row []) (form.Limit post) }
+{
+    let branch = table.number(row, TARGET, 0)?;
+    let mw = table.number(row, VALUE, MW_PLACES)?;
+    Ok(Step::Edit(Edit::Limit { branch, post, mw }))
+}
+
+/// The step of a record: its words first, then its numbers from left to right.
+#[tactic(auto, unfolding(crate::specs::EditTable::step_in))]
+fn step_of(table: &Table, row: usize) -> Result<Step, StepFault>
+    requires { (row < length table.now) × (row + 2 < 2 ^ 64) }
+    ensures kept { IfOk result IsStep }
+    ensures is { result ≡ step_in (row + 2) (get_or table.now row []) }
+{
+    match form_of(table, row) {
+        Some(Form::Price(side)) => price_step(table, row, side),
+        Some(Form::Quantity(side)) => quantity_step(table, row, side),
+        Some(Form::Demand) => demand_step(table, row),
+        Some(Form::Limit { post }) => limit_step(table, row, post),
+        Some(Form::Clear) => Ok(Step::Clear),
+        None => Err(StepFault::Word { line: row + 2 }),
+    }
+}
+
+/// The steps of a table's records.
+fn steps_of(alloc: Global, table: &Table) -> Result<Steps, StepFault>
+    requires { length table.now ≤ most_steps }
+    ensures kept { IfOk result AreSteps }
+    ensures is { result ≢ Err StepFault.Memory → result ≡ read_rows (λ _. step_in) [] 2 table.now }
+{
+    let mut steps = List::new(alloc);
+    for row in 0..table.len() {
+        let step = step_of(table, row)?;
+        steps.push(step)?;
+    }
+    Ok(steps)
+}
+
+/// Reads a table of edits and clears. Prices are in 10^-6 per MWh, quantities, loads and limits in 10^-9 MW. Whether a step can be
+/// done is asked when it is.
+pub fn steps(alloc: Global, bytes: &[u8]) -> Result<Steps, StepFault>
+    ensures kept { IfOk result AreSteps }
+    ensures is { result ≢ Err StepFault.Memory → result ≡ steps_of_table bytes.now }
+{
+    let header = [
+        b"op".as_slice(),
+        b"target".as_slice(),
+        b"side".as_slice(),
+        b"block".as_slice(),
+        b"value".as_slice(),
+    ];
+    let table = read_table(alloc, bytes, header.as_slice(), Some(MOST_STEPS))?;
+    steps_of(alloc, &table)
+}
+
+#[cfg(test)]
+mod tests;
