@@ -1,0 +1,4 @@
+pub mod FrameLemmas
+pub mod ReplayLemmas
+pub mod ReplayLawProofs
+pub mod SessionLemmas

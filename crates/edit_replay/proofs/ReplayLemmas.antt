@@ -1,0 +1,55 @@
+-- A replay with one step more behind it.
+use Rattle.std.specs.Prelude.{◌≡◌, ℕ, ◌+◌, ◌<◌, ◌≤◌, List, [], ◌∷◌, ◌++◌, length, map, take, refl}
+use Rattle.std.proofs.Common.{zero, suc, arith, ap, subst, sym, ◌∙◌, get_or}
+use Rattle.std.proofs.lemmas.List.{map-append, take_all, take_more}
+use Rattle.fraction_theory.specs.Fraction.{Fraction}
+use Rattle.market_model.specs.declared.participants.Parts.{Parts}
+use Rattle.market_model.specs.LimitRows.{Row}
+use Rattle.edit_table.specs.declared.Step.{Step}
+use Rattle.edit_replay.specs.declared.step_outcome.StepOutcome.{StepOutcome}
+use Rattle.edit_replay.specs.Replays.{IsReplay, IsReply, edited_by, stepped}
+
+-- ---- lists of steps
+edited_last : (m : Parts) (steps : List Step) (s : Step) → edited_by m (steps ++ s ∷ []) ≡ stepped (edited_by m steps) s
+edited_last m [] s = refl
+edited_last m (x ∷ steps) s = edited_last (stepped m x) steps s
+
+replay_last : (bound : ℕ) (m : Parts) (before between after : List Row) (steps : List Step) (s : Step) (outcomes : List (StepOutcome Fraction)) (o : StepOutcome Fraction)
+    → IsReplay bound m before steps outcomes between → IsReply bound (edited_by m steps) between s o after → IsReplay bound m before (steps ++ s ∷ []) (outcomes ++ o ∷ []) after
+replay_last bound m before between after [] s [] o same is = (after, subst (λ (g : List Row). IsReply bound m g s o after) same is, refl)
+replay_last bound m before between after [] s (p ∷ outcomes) o none is = absurd none
+replay_last bound m before between after (x ∷ steps) s [] o none is = absurd none
+replay_last bound m before between after (x ∷ steps) s (p ∷ outcomes) o replay is =
+    (replay.0, replay.1, replay_last bound (stepped m x) replay.0 between after steps s outcomes o replay.2 is)
+
+pub replay_count : (bound : ℕ) (m : Parts) (before after : List Row) (steps : List Step) (outcomes : List (StepOutcome Fraction)) → IsReplay bound m before steps outcomes after → length outcomes ≡ length steps
+replay_count bound m before after [] [] replay = refl
+replay_count bound m before after [] (o ∷ outcomes) none = absurd none
+replay_count bound m before after (s ∷ steps) [] none = absurd none
+replay_count bound m before after (s ∷ steps) (o ∷ outcomes) replay = ap suc (replay_count bound (stepped m s) replay.0 after steps outcomes replay.2)
+
+-- ---- the first of some steps
+module _ (m : Parts) (steps : List Step) (k : ℕ) (s : Step) (within : k < length steps) (at : s ≡ get_or steps k s) where
+  one_more : take (k + 1) steps ≡ take k steps ++ s ∷ []
+  one_more = take_more steps k s within ∙ ap (λ (x : Step). take k steps ++ x ∷ []) (sym at)
+
+  pub edited_more : (n new : Parts) → n ≡ edited_by m (take k steps) → new ≡ stepped n s → new ≡ edited_by m (take (k + 1) steps)
+  edited_more n new e step =
+      step ∙ ap (λ (p : Parts). stepped p s) e ∙ sym (edited_last m (take k steps) s) ∙ ap (edited_by m) (sym one_more)
+
+  module _ {N : Type 0} (told : StepOutcome N → StepOutcome Fraction) (bound : ℕ) (before between after : List Row) (outcomes new : List (StepOutcome N)) (o : StepOutcome N) where
+    pub replay_more : (n : Parts) → n ≡ edited_by m (take k steps) → IsReplay bound m before (take k steps) (map told outcomes) between → IsReply bound n between s (told o) after
+        → new ≡ outcomes ++ o ∷ [] → IsReplay bound m before (take (k + 1) steps) (map told new) after
+    replay_more n e replay is pushed =
+        let last = replay_last bound m before between after (take k steps) s (map told outcomes) (told o) replay (subst (λ (p : Parts). IsReply bound p between s (told o) after) e is) in
+        let texts : map told new ≡ map told outcomes ++ told o ∷ [] = ap (map told) pushed ∙ map-append told outcomes (o ∷ []) in
+        subst (λ (os : List (StepOutcome Fraction)). IsReplay bound m before (take (k + 1) steps) os after) (sym texts)
+        (subst (λ (ss : List Step). IsReplay bound m before ss (map told outcomes ++ told o ∷ []) after) (sym one_more) last)
+
+-- all of them
+pub edited_all : (m : Parts) (steps : List Step) (k : ℕ) (n : Parts) → length steps ≤ k → n ≡ edited_by m (take k steps) → n ≡ edited_by m steps
+edited_all m steps k n h e = e ∙ ap (edited_by m) (take_all k steps h)
+
+pub replay_all : (bound : ℕ) (m : Parts) (before after : List Row) (steps : List Step) (outcomes : List (StepOutcome Fraction)) (k : ℕ) → length steps ≤ k
+    → IsReplay bound m before (take k steps) outcomes after → IsReplay bound m before steps outcomes after
+replay_all bound m before after steps outcomes k h replay = subst (λ (ss : List Step). IsReplay bound m before ss outcomes after) (take_all k steps h) replay

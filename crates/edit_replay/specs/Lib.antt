@@ -1,0 +1,4 @@
+pub mod ReplayLaws
+pub mod Replays
+pub mod SessionStates
+pub mod Sessions

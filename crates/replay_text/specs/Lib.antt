@@ -1,0 +1,2 @@
+pub mod ReplayTextLaws
+pub mod ReplayTexts
