@@ -1,8 +1,9 @@
 -- What the whole bytes of files stand for.
-use Rattle.std.specs.Prelude.{◌≡◌, ℕ, List, Result, Ok}
+use Rattle.std.specs.Prelude.{◌≡◌, ℕ, List, Result, Ok, Err}
 use Rattle.fraction_theory.specs.Fraction.{Fraction}
 use Rattle.market_model.specs.declared.participants.Parts.{Parts}
 use Rattle.net_case.specs.declared.live_parts.PostRating.{PostRating}
+use Rattle.cert_format.specs.Certificates.{cert_at}
 use Rattle.cert_format.specs.declared.certificate.Cert.{Cert}
 use Rattle.edit_table.specs.declared.Step.{Step}
 use Rattle.edit_replay.specs.Replays.{edited_by}
@@ -17,6 +18,9 @@ use Rattle.market_inputs.specs.Replaying.{certificate_in, steps_in}
 use Rattle.market_inputs.specs.Steps.{Is, Then}
 use Rattle.market_inputs.specs.declared.checking.Inputs.{Inputs}
 use Rattle.market_inputs.specs.declared.clearing.ClearBytes.{ClearBytes}
+use Rattle.market_inputs.specs.declared.stops.Stop.{Stop}
+use Rattle.command_answers.specs.declared.replaying.Replayed.{Replayed}
+use Rattle.command_answers.specs.declared.verifying.Certified.{Certified}
 
 -- ---- markets
 -- what a case and offers stand for
@@ -53,6 +57,14 @@ pub record MarketSteps : Type 0 where
   pub market : Parts
   pub steps : List Step
 
+-- those that were read
+abbrev pub market_steps : Replayed → MarketSteps
+market_steps made = record { market = made.market; steps = made.steps }
+
+abbrev pub steps_with : Result Replayed Stop → Result MarketSteps Stop
+steps_with (Ok made) = Ok (market_steps made)
+steps_with (Err stop) = Err stop
+
 -- what these texts and a table of edits stand for; the edits come last
 abbrev pub IsReplayed : PostRating → MarketTexts → List ℕ → Result MarketSteps Refusal → Type 0
 IsReplayed rating t edits told =
@@ -64,6 +76,11 @@ IsReplayed rating t edits told =
 pub record MarketCertificate : Type 0 where
   pub market : Parts
   pub certificate : Cert Fraction
+
+-- those that were read
+abbrev pub certificate_with : {N : Type 0} → (N → Fraction) → Result (Certified N) Stop → Result MarketCertificate Stop
+certificate_with value (Ok made) = Ok (record { market = made.market; certificate = cert_at value made.certificate })
+certificate_with value (Err stop) = Err stop
 
 -- what these and the text of a certificate stand for: the market after the edits; the certificate comes last
 abbrev pub IsCertified : PostRating → MarketTexts → List ℕ → List ℕ → Result MarketCertificate Refusal → Type 0

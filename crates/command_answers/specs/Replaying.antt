@@ -7,10 +7,10 @@ use Rattle.market_model.specs.LimitRows.{Row}
 use Rattle.market_model.specs.Market.{IsMarket}
 use Rattle.cert_format.specs.Written.{certificate_of}
 use Rattle.edit_table.specs.declared.Step.{Step}
-use Rattle.edit_replay.specs.declared.outcomes.StepOutcome.{StepOutcome}
-use Rattle.edit_replay.specs.declared.outcomes.StepOutcome.TheVariants as step
+use Rattle.edit_replay.specs.declared.step_outcome.StepOutcome.{StepOutcome}
+use Rattle.edit_replay.specs.declared.step_outcome.StepOutcome.TheVariants as step
 use Rattle.edit_replay.specs.Replays.{IsReplay}
-use Rattle.replay_text.specs.ReplayText.{replayed}
+use Rattle.replay_text.specs.ReplayTexts.{replayed}
 use Rattle.command_answers.specs.declared.status.Status.{Status}
 use Rattle.command_answers.specs.declared.status.Status.TheVariants as status
 use Rattle.command_answers.specs.Clearing.{AreSidesWithin, most_size, status_of}

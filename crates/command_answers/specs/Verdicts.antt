@@ -1,8 +1,8 @@
 -- The line that tells whether a certificate holds.
 use Rattle.std.specs.Prelude.{ℕ, List, ◌++◌, codes, decimal, Option, Some, None}
 use Rattle.market_model.specs.declared.answered.RowId.{RowId}
-use Rattle.cert_verify.specs.declared.reasons.Reason.{Reason}
-use Rattle.cert_verify.specs.declared.reasons.Reason.TheVariants as reason
+use Rattle.cert_verify.specs.declared.verdicts.Reason.{Reason}
+use Rattle.cert_verify.specs.declared.verdicts.Reason.TheVariants as reason
 
 -- a limit by the rows of its branch and of the lost one
 unfoldable pub row_words : RowId → List ℕ

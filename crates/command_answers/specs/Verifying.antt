@@ -6,9 +6,8 @@ use Rattle.market_model.specs.declared.participants.Parts.{Parts}
 use Rattle.market_model.specs.Market.{IsMarket}
 use Rattle.report_text.specs.Reports.{range_text}
 use Rattle.cert_format.specs.declared.certificate.Cert.{Cert}
-use Rattle.cert_verify.specs.Reasons.{first_reason}
-use Rattle.cert_verify.specs.Reasons.{IsCertificatePair}
-use Rattle.cert_verify.specs.declared.reasons.Reason.{Reason}
+use Rattle.cert_verify.specs.Certificates.{IsCertificatePair, first_reason}
+use Rattle.cert_verify.specs.declared.verdicts.Reason.{Reason}
 use Rattle.command_answers.specs.declared.status.Status.{Status}
 use Rattle.command_answers.specs.declared.status.Status.TheVariants as status
 use Rattle.command_answers.specs.Clearing.{ArePassedWithin, most_size}

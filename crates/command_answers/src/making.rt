@@ -1,6 +1,6 @@
 //! Rings that are made and cleared.
 
-ghost use Rattle.std.specs.Prelude.{◌≡◌, ◌≤◌, ◌++◌, [], IfOk};
+ghost use Rattle.std.specs.Prelude.{◌≡◌, ◌≤◌, ◌<◌, ◌^◌, ◌++◌, [], IfOk, decimal};
 ghost use Rattle.case_maker.specs.Rings.{IsRingSize, ring_of};
 ghost use Rattle.market_model.specs.Valued.{answer_at, outcome_at, passed_at};
 ghost use Rattle.command_answers.specs.Clearing.{most_size};
@@ -29,12 +29,16 @@ fn numbered(text: &mut Text, word: &[u8], number: usize) -> Result<(), Memory>
 }
 
 /// How many buses, blocks and limits a ring has.
+#[tactic(auto, using(std::proofs::Common::append_assoc), unfolding(crate::specs::Making::ring_line))]
 fn ring_line(
     text: &mut Text,
     buses: usize,
     seed: u64,
     market: &Market,
-) -> Result<(), Memory> {
+) -> Result<(), Memory>
+    requires { market.now ≡ ring_of buses seed }
+    ensures { IfOk result (λ _. text.new ≡ text.old ++ ring_line buses seed) }
+{
     numbered(text, b"ring ", buses)?;
     numbered(text, b" seed ", seed as usize)?;
     numbered(text, b" buses ", market.buses().len())?;
@@ -44,7 +48,10 @@ fn ring_line(
 }
 
 /// What an answer is worth, and what is left of what loads pay.
-fn summary<N: Exact>(text: &mut Text, answer: &Answer<N>) -> Result<(), Memory> {
+#[tactic(auto, using(std::proofs::Common::append_assoc), unfolding(crate::specs::Making::summary))]
+fn summary<N: Exact>(text: &mut Text, answer: &Answer<N>) -> Result<(), Memory>
+    ensures { IfOk result (λ _. text.new ≡ text.old ++ summary (answer_at N.value answer.now)) }
+{
     text.named(b"cleared\nwelfare ", answer.welfare, MONEY_PLACES)?;
     text.named(b"\nsurplus ", answer.money.surplus, MONEY_PLACES)?;
     text.word(b"\n")
@@ -56,7 +63,13 @@ fn ring_told<N: Exact>(
     market: &Market,
     buses: usize,
     seed: u64,
-) -> Result<Told, Memory> {
+) -> Result<Told, Memory>
+    requires ring { market.now ≡ ring_of buses seed }
+    requires size { IsRingSize buses }
+    requires small { seed ≤ 4294967295 }
+    ensures status { IfOk result (λ told. IsOfWork told.status) }
+    ensures makes { IfOk result (λ told. MakesTo N.bound buses seed (telling_of told)) }
+{
     let outcome = cleared::<N>(alloc, market)?;
     let mut text = Text::new(alloc);
     ring_line(&mut text, buses, seed, market)?;
@@ -76,8 +89,8 @@ fn ring_told<N: Exact>(
 
 /// What the ring of a seed comes to, of 4, 8, 16, 32 or 64 buses.
 pub fn make_told(alloc: Global, buses: usize, seed: u64) -> Result<Told, Memory>
-    requires { IsRingSize buses }
-    requires { seed ≤ 4294967295 }
+    requires size { IsRingSize buses }
+    requires small { seed ≤ 4294967295 }
     ensures status { IfOk result (λ told. IsOfWork told.status) }
     ensures makes { IfOk result (λ told. MakesTo most_size buses seed (telling_of told)) }
 {

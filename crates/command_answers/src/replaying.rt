@@ -1,12 +1,13 @@
 //! Edits and clears of a market, one after another.
 
-ghost use Rattle.std.specs.Prelude.{◌≡◌, [], None, All, IfOk, map, option_and_then, option_map};
+ghost use Rattle.std.specs.Prelude.{◌≡◌, ◌≢◌, None, All, IfOk, IfSome, length, map, option_and_then, option_map};
 ghost use Rattle.cert_format.specs.Written.{certificate_of};
-ghost use Rattle.edit_replay.specs.Replays.{steps_at};
-ghost use Rattle.edit_table.specs.EditTable.{AreSteps};
+ghost use Rattle.edit_replay.specs.Replays.{step_outcome_at};
+ghost use Rattle.edit_table.specs.EditTable.{AreSteps, IsStep};
+ghost use Rattle.market_inputs.specs.Stops.{IsToldAs};
 ghost use Rattle.market_model.specs.Market.{IsMarket};
-ghost use Rattle.command_answers.specs.Clearing.{ClearsTo};
-ghost use Rattle.command_answers.specs.Inputs.{IsReplayed, texts_of};
+ghost use Rattle.market_model.specs.Valued.{outcome_at};
+ghost use Rattle.command_answers.specs.Inputs.{IsReplayed, steps_with, texts_of};
 ghost use Rattle.command_answers.specs.Replaying.{ReplaysTo, TellsReplay, last_clear, replay_status, step_status};
 ghost use Rattle.command_answers.specs.Status.{IsOfWork};
 ghost use Rattle.command_answers.specs.Tellings.{Tells, telling_of};
@@ -36,14 +37,20 @@ pub(crate) fn replay_inputs(
     bytes: &ClearBytes<'_>,
     rating: PostRating,
     edits: &[u8],
-) -> Result<Replayed, Stop> {
+) -> Result<Replayed, Stop>
+    ensures told { IsToldAs (IsReplayed rating (texts_of bytes.now) edits.now) (steps_with result) }
+    ensures kept { IfOk result (λ made. IsMarket made.market × AreSteps made.steps) }
+{
     let market = clear_market(alloc, bytes, rating)?;
     let steps = edit_steps(alloc, edits)?;
     Ok(Replayed { market, steps })
 }
 
 /// The status of a step's outcome.
-fn step_status<N: Exact>(outcome: &StepOutcome<N>) -> Status {
+fn step_status<N: Exact>(outcome: &StepOutcome<N>) -> Status
+    ensures status { result ≡ step_status (step_outcome_at N.value outcome.now) }
+    ensures work { IsOfWork result }
+{
     match outcome {
         StepOutcome::Accepted => Status::Done,
         StepOutcome::Refused(_) => Status::Refused,
@@ -52,7 +59,10 @@ fn step_status<N: Exact>(outcome: &StepOutcome<N>) -> Status {
 }
 
 /// The status of the first step that was neither accepted nor cleared.
-fn replay_status<N: Exact>(outcomes: &Outcomes<N>) -> Status {
+fn replay_status<N: Exact>(outcomes: &Outcomes<N>) -> Status
+    ensures status { result ≡ replay_status (map (step_outcome_at N.value) outcomes.now) }
+    ensures work { IsOfWork result }
+{
     for outcome in outcomes.slice() {
         let status = step_status(outcome);
         if status != Status::Done {
@@ -62,23 +72,29 @@ fn replay_status<N: Exact>(outcomes: &Outcomes<N>) -> Status {
     Status::Done
 }
 
-/// What the last clear came to.
-fn last_clear<N>(outcomes: &Outcomes<N>) -> Option<&Outcome<N>> {
-    let mut last = None;
-    for outcome in outcomes.slice() {
-        if let StepOutcome::Clear(outcome) = outcome {
-            last = Some(outcome);
-        }
+/// The outcome of a clear, or what there was before.
+fn clear_or<'a, N>(
+    before: Option<&'a Outcome<N>>,
+    outcome: &'a StepOutcome<N>,
+) -> Option<&'a Outcome<N>> {
+    match outcome {
+        StepOutcome::Clear(outcome) => Some(outcome),
+        _ => before,
     }
-    last
 }
 
 /// The certificate of the last clear.
 fn last_certificate<N: Exact>(
     alloc: Global,
     outcomes: &Outcomes<N>,
-) -> Result<Option<Vec<u8>>, Memory> {
-    match last_clear(outcomes) {
+) -> Result<Option<Vec<u8>>, Memory>
+    ensures { IfOk result (λ made. option_map (λ bytes. bytes.items) made ≡ option_and_then certificate_of (last_clear None (map (step_outcome_at N.value) outcomes.now))) }
+{
+    let mut last = None;
+    for outcome in outcomes.slice() {
+        last = clear_or(last, outcome);
+    }
+    match last {
         Some(outcome) => outcome_json(alloc, outcome),
         None => Ok(None),
     }
@@ -89,12 +105,17 @@ fn replay_outcome<N: Exact>(
     alloc: Global,
     market: Market,
     steps: &Steps,
-) -> Result<Told, Memory> {
+) -> Result<Told, Memory>
+    requires { All IsStep steps.now }
+    ensures status { IfOk result (λ told. IsOfWork told.status) }
+    ensures replays { IfOk result (λ told. ReplaysTo N.bound market steps.now (telling_of told)) }
+{
     let mut session = Session::<N>::new(market);
     let outcomes = session.replay(alloc, steps)?;
+    let text = replay_text(alloc, session.market(), steps, &outcomes)?;
     Ok(Told {
         status: replay_status(&outcomes),
-        text: replay_text(alloc, session.market(), steps, &outcomes)?,
+        text,
         certificate: last_certificate(alloc, &outcomes)?,
     })
 }

@@ -1,6 +1,8 @@
 //! The line that tells whether a certificate holds.
 
-ghost use Rattle.std.specs.Prelude.{◌≡◌, ◌++◌, IfOk};
+ghost use Rattle.std.specs.Prelude.{◌≡◌, ◌++◌, IfOk, Option, decimal};
+ghost use Rattle.cert_verify.specs.Reasons.{verdict_of};
+ghost use Rattle.cert_verify.specs.declared.verdicts.Reason.{Reason};
 ghost use Rattle.command_answers.specs.Verdicts.{reason_words, row_words, verdict_line};
 
 use cert_verify::{Reason, Verdict};
@@ -48,6 +50,7 @@ fn write_reason(text: &mut Text, reason: Reason) -> Result<(), Memory>
 /// `yes`, or `no` with the reason.
 #[tactic(auto, using(std::proofs::Common::append_assoc), unfolding(crate::specs::Verdicts::verdict_line))]
 pub(crate) fn verdict_text(alloc: Global, verdict: Verdict) -> Result<Vec<u8>, Memory>
+    ensures { (reason : Option Reason) → verdict ≡ verdict_of reason → IfOk result (λ bytes. bytes.items ≡ verdict_line reason) }
 {
     let mut text = Text::new(alloc);
     match verdict {

@@ -1,11 +1,19 @@
 //! Certificates that are verified.
 
-ghost use Rattle.std.specs.Prelude.{◌≡◌, IfOk};
+ghost use Rattle.std.specs.Prelude.{◌≡◌, All, IfOk, Option};
+ghost use Rattle.cert_verify.specs.declared.verdicts.Reason.{Reason};
+ghost use Rattle.cert_format.specs.Certificates.{RowsAreDistinct, cert_at};
+ghost use Rattle.cert_verify.specs.Certificates.{first_reason};
+ghost use Rattle.cert_verify.specs.Reasons.{verdict_of};
+ghost use Rattle.edit_replay.specs.Replays.{edited_by};
+ghost use Rattle.edit_table.specs.EditTable.{IsStep};
+ghost use Rattle.market_inputs.specs.Stops.{IsToldAs};
 ghost use Rattle.market_model.specs.Market.{IsMarket};
-ghost use Rattle.command_answers.specs.Inputs.{IsCertified, texts_of};
+ghost use Rattle.command_answers.specs.Inputs.{IsCertified, certificate_with, texts_of};
 ghost use Rattle.command_answers.specs.Status.{IsOfWork};
 ghost use Rattle.command_answers.specs.Tellings.{Tells, telling_of};
-ghost use Rattle.command_answers.specs.Verifying.{TellsVerdict, VerifiesTo};
+ghost use Rattle.command_answers.specs.Verdicts.{verdict_line};
+ghost use Rattle.command_answers.specs.Verifying.{TellsVerdict, VerifiesTo, verdict_status};
 
 use crate::replaying::replay_inputs;
 use crate::status::Status;
@@ -24,13 +32,16 @@ use std::alloc::Global;
 
 /// A market, and a certificate that is to hold of it.
 #[derive(Drop)]
-struct Certified {
+pub(crate) struct Certified<N> {
     market: Market,
-    certificate: Cert<Frac>,
+    certificate: Cert<N>,
 }
 
 /// The market after edits; those that are refused change nothing.
-fn edited(market: Market, steps: &Steps) -> Market {
+fn edited(market: Market, steps: &Steps) -> Market
+    requires { All IsStep steps.now }
+    ensures { result ≡ edited_by market steps.now }
+{
     let mut market = market;
     for step in steps.slice() {
         if let Step::Edit(change) = step {
@@ -47,7 +58,11 @@ fn verify_inputs(
     rating: PostRating,
     edits: &[u8],
     certificate: &[u8],
-) -> Result<Certified, Stop> {
+) -> Result<Certified<Frac>, Stop>
+    ensures told { IsToldAs (IsCertified rating (texts_of bytes.now) edits.now certificate.now) (certificate_with ⟦<Frac as Exact>⟧.value result) }
+    ensures kept { IfOk result (λ made. IsMarket made.market) }
+    ensures distinct { IfOk result (λ made. RowsAreDistinct (cert_at ⟦<Frac as Exact>⟧.value made.certificate)) }
+{
     let replayed = replay_inputs(alloc, bytes, rating, edits)?;
     let certificate = read_certificate(alloc, certificate)?;
     Ok(Certified {
@@ -57,7 +72,10 @@ fn verify_inputs(
 }
 
 /// The status of a verdict.
-fn verdict_status(verdict: Verdict) -> Status {
+fn verdict_status(verdict: Verdict) -> Status
+    ensures status { (reason : Option Reason) → verdict ≡ verdict_of reason → result ≡ verdict_status reason }
+    ensures work { IsOfWork result }
+{
     match verdict {
         Verdict::Yes => Status::Done,
         Verdict::No(_) => Status::Refuted,
@@ -69,7 +87,11 @@ fn verdict_told<N: Exact>(
     alloc: Global,
     market: &Market,
     certificate: &Cert<N>,
-) -> Result<Told, Memory> {
+) -> Result<Told, Memory>
+    requires { RowsAreDistinct (cert_at N.value certificate.now) }
+    ensures status { IfOk result (λ told. IsOfWork told.status) }
+    ensures verifies { IfOk result (λ told. VerifiesTo N.bound market.now (cert_at N.value certificate.now) (telling_of told)) }
+{
     match verify(alloc, market, certificate) {
         Ok(verdict) => {
             let text = verdict_text(alloc, verdict)?;

@@ -9,7 +9,7 @@ use Rattle.market_model.specs.Optimality.{Feasible}
 use Rattle.market_system.specs.WorkingPairs.{NoPairPasses}
 use Rattle.case_maker.specs.Rings.{ring_of}
 use Rattle.cert_format.specs.declared.certificate.Cert.{Cert}
-use Rattle.cert_verify.specs.Reasons.{IsCertificatePair, first_reason}
+use Rattle.cert_verify.specs.Certificates.{IsCertificatePair, first_reason}
 use Rattle.command_words.specs.Words.{AsksClear, AsksMake, AsksPool, AsksVerify, MarketNames}
 use Rattle.command_answers.specs.Clearing.{most_size}
 use Rattle.command_answers.specs.Verifying.{verdict_status}
