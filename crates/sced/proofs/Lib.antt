@@ -1,2 +1,3 @@
+pub mod DecidedLemmas
 pub mod FileLemmas
 pub mod ReadingLemmas

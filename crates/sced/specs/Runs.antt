@@ -59,6 +59,15 @@ pub data Ends (t : Telling) (written : Option (List ℕ × List ℕ)) (before no
   unwritten : (name bytes : List ℕ) → written ≡ Some (name, bytes) → Wrote (Unit {0}) name bytes before now → taken_now ≡ taken_before → s ≡ status.WriteFailed
       → Ends t written before now taken_before taken_now s
 
+-- a failed write of the file of this name is counted
+abbrev pub FailedFor : {S : Type 0} → Ghosts S → S → S → Option (List ℕ) → Type 0
+FailedFor store old new name = (file : List ℕ) × (name ≡ Some file) × Rose (store.failed_writes old file) (store.failed_writes new file)
+
+-- a step that may write the file of this name failed only where that is counted, and else no failed write is
+pub record WritesFor {S : Type 0} (store : Ghosts S) (old new : S) (name : Option (List ℕ)) (failed : Type 0) : Type 0 where
+  pub cause : failed → FailedFor store old new name
+  pub still : ¬ failed → Still (store.failed_writes old) (store.failed_writes new)
+
 -- where a run has nothing to tell, nothing is put and every file is as it was
 pub record LeavesAll (before now : Option Files) (taken_before taken_now : Option (List ℕ)) : Type 0 where
   pub files : SameFiles before now

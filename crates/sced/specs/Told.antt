@@ -1,5 +1,5 @@
 -- What is right to tell of the words of a run and of the files that they name.
-use Rattle.std.specs.Prelude.{◌≡◌, ◌⊎◌, ℕ, List, Option, Some, None, Result}
+use Rattle.std.specs.Prelude.{◌≡◌, ◌⊎◌, ℕ, List, Option, Some, None, option_map, Result}
 use Rattle.outside_store.specs.Files.{Files}
 use Rattle.market_inputs.specs.declared.checking.Inputs.{Inputs}
 use Rattle.market_model.specs.declared.participants.Parts.{Parts}
@@ -10,12 +10,13 @@ use Rattle.command_answers.specs.Clearing.{TellsClear, most_size}
 use Rattle.command_answers.specs.Inputs.{IsCertified, IsCheck, IsLimited, IsPool, IsReplayed, MarketCertificate, MarketSteps, MarketTexts}
 use Rattle.command_answers.specs.Making.{MakesTo}
 use Rattle.command_answers.specs.Replaying.{TellsReplay}
-use Rattle.command_answers.specs.Tellings.{Telling, Tells}
+use Rattle.command_answers.specs.Tellings.{Telling, Tells, telling_of}
 use Rattle.command_answers.specs.Verifying.{TellsVerdict}
 use Rattle.command_answers.specs.declared.status.Status.{Status}
 use Rattle.command_answers.specs.declared.status.Status.TheVariants as status
 use Rattle.sced.specs.Reading.{HaveTexts, IsTable, contingencies_header, edits_header, lodf_header}
 use Rattle.sced.specs.Runs.{Ends}
+use Rattle.sced.specs.declared.run.Work.{Work}
 
 -- ---- the files
 -- the files of a pool stand for this market, or this is their first fault
@@ -74,6 +75,13 @@ abbrev pub named_bytes : Option (List ℕ) → Option (List ℕ) → Option (Lis
 named_bytes (Some name) (Some bytes) = Some (name, bytes)
 named_bytes (Some name) None = None
 named_bytes None bytes = None
+
+-- the file that is named for a certificate, and that with the bytes of the certificate that there is
+abbrev pub name_for : Work → Option (List ℕ)
+name_for work = option_map (λ name. name.now) work.file
+
+abbrev pub written_by : Work → Option (List ℕ × List ℕ)
+written_by work = named_bytes (name_for work) (telling_of work.told).certificate
 
 -- The words are refused, or what is told is right for the files that they name. The one file that there is to write is a certificate
 -- that a clear or a replay has, where the words name a file for it.
