@@ -1,0 +1,5 @@
+pub mod Bounds
+pub mod Named
+pub mod Pairs
+pub mod Refusals
+pub mod Results

@@ -1,0 +1,68 @@
+-- The operations that may be refused in each sum, and what stops one.
+use Rattle.std.specs.Prelude.{◌⊎◌, ℕ, ◌<◌, length, Contains}
+use Rattle.fraction_theory.specs.Fraction.{Fraction, whole, neg_ℚ, ◌+ℚ◌, ◌-ℚ◌, ◌*ℚ◌}
+use Rattle.exact_fraction.specs.declared.Op.TheVariants.{Plus, Minus, Times}
+use Rattle.exact_fraction.specs.declared.Passed.{Passed}
+use Rattle.market_data.specs.declared.participants.Bus.{Bus}
+use Rattle.market_model.specs.declared.answered.Duals.{Duals}
+use Rattle.market_model.specs.declared.participants.Parts.{Parts}
+use Rattle.market_model.specs.Dispatch.{Dispatch, injection, injection_terms}
+use Rattle.market_model.specs.LimitRows.{Row, limit, line_terms, flow}
+use Rattle.market_model.specs.NamedSums.{IsRefusedIn, IsRefusal}
+use Rattle.market_model.specs.Optimality.{up_of, down_of, named_rows, congestion_terms}
+use Rattle.market_model.specs.Valued.{passed_at}
+use Rattle.cert_sums.specs.declared.stops.VerifyStop.{VerifyStop}
+use Rattle.cert_sums.specs.declared.stops.VerifyStop.TheVariants as why
+use Rattle.cert_sums.specs.Named.{PricedRow}
+use Rattle.cert_sums.specs.Pairs.{flow_terms, price_terms}
+
+-- why a sum was not added up: an operation was refused, of which this holds, or memory was
+abbrev pub IsStopped : {N : Type 0} → (N → Fraction) → (Passed Fraction → Type 0) → VerifyStop N → Type 0
+IsStopped value refused (why.Range p) = refused (passed_at value p)
+IsStopped value refused why.Memory = Unit {0}
+
+-- in what a bus puts in
+abbrev pub IsInjectionRefusal : Parts → Dispatch → ℕ → Passed Fraction → Type 0
+IsInjectionRefusal m x bound p = (i : ℕ) × (i < length m.buses) × IsRefusedIn (injection_terms m x i) bound p
+
+-- in the flow of a line
+abbrev pub IsLineRefusal : Parts → Dispatch → ℕ → Passed Fraction → Type 0
+IsLineRefusal m x bound p = (l : ℕ) × (l < length m.lines) × IsRefusedIn (line_terms m (injection m x) l) bound p
+
+-- the two prices of a row that duals name
+abbrev pub IsPricesRefusal : Parts → Duals Fraction → ℕ → Passed Fraction → Type 0
+IsPricesRefusal m d bound p = (r : Row) × Contains (named_rows m d) r × IsRefusal Minus (up_of m d r) (down_of m d r) bound p
+
+-- in what limits add to the price at a bus
+abbrev pub IsCongestionRefusal : Parts → Duals Fraction → ℕ → ℕ → Passed Fraction → Type 0
+IsCongestionRefusal m d i bound p = IsRefusedIn (congestion_terms m d i) bound p ⊎ IsPricesRefusal m d bound p
+
+-- in the price at a bus
+abbrev pub IsPriceRefusal : Parts → Duals Fraction → ℕ → ℕ → Passed Fraction → Type 0
+IsPriceRefusal m d i bound p = IsCongestionRefusal m d i bound p ⊎ IsRefusedIn (price_terms m d i) bound p
+
+-- ---- the same step by step
+-- a product refused, or what it is added to
+abbrev pub IsShareRefusal : Fraction → Fraction → Fraction → ℕ → Passed Fraction → Type 0
+IsShareRefusal sum k x bound p = IsRefusal Times k x bound p ⊎ IsRefusal Plus sum (k *ℚ x) bound p
+
+-- a difference refused where a sum is lowered by a bus's load, and then by its shunt
+abbrev pub IsDemandRefusal : Fraction → Bus → ℕ → Passed Fraction → Type 0
+IsDemandRefusal sum bus bound p = IsRefusal Minus sum (whole bus.pd) bound p ⊎ IsRefusal Minus (sum -ℚ whole bus.pd) (whole bus.gs) bound p
+
+-- the two prices of a row, or what they take by a factor
+abbrev pub IsPullRefusal : Fraction → Fraction → Fraction → Fraction → ℕ → Passed Fraction → Type 0
+IsPullRefusal sum up down k bound p = IsRefusal Minus up down bound p ⊎ IsShareRefusal sum (neg_ℚ (up -ℚ down)) k bound p
+
+-- what a flow leaves of a limit, or what a price makes of that
+abbrev pub IsAboveRefusal : Fraction → Fraction → Fraction → Fraction → ℕ → Passed Fraction → Type 0
+IsAboveRefusal sum price limit flow bound p = IsRefusal Minus limit flow bound p ⊎ IsShareRefusal sum price (limit -ℚ flow) bound p
+
+abbrev pub IsBelowRefusal : Fraction → Fraction → Fraction → Fraction → ℕ → Passed Fraction → Type 0
+IsBelowRefusal sum price limit flow bound p = IsRefusal Plus limit flow bound p ⊎ IsShareRefusal sum price (limit +ℚ flow) bound p
+
+-- the flow of a row, or what its prices make of what that leaves of the limit on either side
+pub data IsLimitRefusal (m : Parts) (x : Dispatch) (e : PricedRow) (sum : Fraction) (bound : ℕ) (p : Passed Fraction) : Type 0 where
+  in_flow : IsRefusedIn (flow_terms m x e.row) bound p → IsLimitRefusal m x e sum bound p
+  in_above : IsAboveRefusal sum e.up (limit m e.row) (flow m x e.row) bound p → IsLimitRefusal m x e sum bound p
+  in_below : IsBelowRefusal (sum +ℚ e.up *ℚ (limit m e.row -ℚ flow m x e.row)) e.down (limit m e.row) (flow m x e.row) bound p → IsLimitRefusal m x e sum bound p

@@ -1,0 +1,161 @@
+//! The Farkas bound: the most that any dispatch within the blocks' bounds makes of the balance and of what is left of the limits.
+
+ghost use Rattle.std.specs.Prelude.{◌≡◌, ◌<◌, length, map, IfOk, IfErr, IfSome};
+ghost use Rattle.fraction_theory.specs.Fraction.{Fraction, whole, ◌+ℚ◌, ◌-ℚ◌, ◌*ℚ◌};
+ghost use Rattle.fraction_theory.specs.Sums.{total};
+ghost use Rattle.market_data.specs.Participants.{IsDatum};
+ghost use Rattle.market_model.specs.declared.answered.Duals.{Duals};
+ghost use Rattle.market_model.specs.Dispatch.{Dispatch, balance, empty, quantity, signed};
+ghost use Rattle.market_model.specs.Infeasibility.{farkas_bound, part_above};
+ghost use Rattle.market_model.specs.LimitRows.{flow, limit};
+ghost use Rattle.market_model.specs.Valued.{passed_at};
+ghost use Rattle.limit_rows.specs.Places.{row_of};
+ghost use Rattle.cert_sums.specs.Bounds.{left_at, limits_terms};
+ghost use Rattle.cert_sums.specs.Named.{AreNamed, priced_at};
+ghost use Rattle.cert_sums.specs.Pairs.{IsFarkasPair};
+ghost use Rattle.cert_sums.specs.Refusals.{IsAboveRefusal, IsBelowRefusal, IsLimitRefusal, IsShareRefusal, IsStopped};
+ghost use Rattle.cert_sums.specs.Results.{AreFlows};
+
+use crate::amounts::datum;
+use crate::{NamedRow, VerifyStop, balance, bus_price, injections, line_flows, row_flow};
+use exact_fraction::{Exact, Passed, Sign};
+use limit_rows::limit_at;
+use market_model::{Market, Side};
+use std::alloc::Global;
+
+/// A sum with what the price of an upper limit makes of what a flow leaves of it. A price of 0 makes nothing.
+fn with_above<N: Exact>(sum: N, price: N, limit: N, flow: N) -> Result<N, Passed<N>>
+    ensures sum { IfOk result (λ more. N.value more ≡ N.value sum +ℚ N.value price *ℚ (N.value limit -ℚ N.value flow)) }
+    ensures cause { IfErr result (λ passed. IsAboveRefusal (N.value sum) (N.value price) (N.value limit) (N.value flow) N.bound (passed_at N.value passed)) }
+{
+    if price.sign() == Sign::Zero {
+        return Ok(sum);
+    }
+    let room = limit.minus(flow)?;
+    let share = price.times(room)?;
+    sum.plus(share)
+}
+
+/// The same for a lower limit, which is the opposite of the upper one.
+fn with_below<N: Exact>(sum: N, price: N, limit: N, flow: N) -> Result<N, Passed<N>>
+    ensures sum { IfOk result (λ more. N.value more ≡ N.value sum +ℚ N.value price *ℚ (N.value limit +ℚ N.value flow)) }
+    ensures cause { IfErr result (λ passed. IsBelowRefusal (N.value sum) (N.value price) (N.value limit) (N.value flow) N.bound (passed_at N.value passed)) }
+{
+    if price.sign() == Sign::Zero {
+        return Ok(sum);
+    }
+    let room = limit.plus(flow)?;
+    let share = price.times(room)?;
+    sum.plus(share)
+}
+
+/// A sum with what the prices of a row make of what its flow leaves of its limit on either side.
+fn with_limit<N: Exact>(
+    market: &Market,
+    sum: N,
+    flows: &[N],
+    entry: &NamedRow<N>,
+) -> Result<N, Passed<N>>
+    requires flows { length flows.now ≡ length market.now.lines }
+    requires line { entry.now.row.line < length market.now.lines }
+    requires lost { IfSome entry.now.row.lost (λ lost. lost < length market.now.lines) }
+    ensures sum { (x : Dispatch) → AreFlows market.now x (map N.value flows.now) → IfOk result (λ more. N.value more ≡ N.value sum +ℚ left_at market.now x (priced_at N.value entry.now)) }
+    ensures cause { (x : Dispatch) → AreFlows market.now x (map N.value flows.now) → IfErr result (λ passed. IsLimitRefusal market.now x (priced_at N.value entry.now) (N.value sum) N.bound (passed_at N.value passed)) }
+{
+    let flow = row_flow(market, flows, entry.row)?;
+    let limit: N = datum(limit_at(market, entry.row));
+    let above = with_above(sum, entry.up, limit, flow)?;
+    with_below(above, entry.down, limit, flow)
+}
+
+/// A sum with what the prices of the rows make of what is left of their limits where nothing is accepted.
+fn with_limits<N: Exact>(
+    market: &Market,
+    of_energy: N,
+    flows: &[N],
+    named: &[NamedRow<N>],
+) -> Result<N, Passed<N>>
+    requires flows { length flows.now ≡ length market.now.lines }
+    requires named { (d : Duals Fraction) × AreNamed N.value market.now d named.now }
+    ensures sum { (d : Duals Fraction) → AreNamed N.value market.now d named.now → AreFlows market.now (empty market.now) (map N.value flows.now) → N.value of_energy ≡ d.energy *ℚ balance market.now (empty market.now) → IfOk result (λ sum. N.value sum ≡ total (limits_terms market.now d)) }
+    ensures cause { (d : Duals Fraction) → AreNamed N.value market.now d named.now → AreFlows market.now (empty market.now) (map N.value flows.now) → N.value of_energy ≡ d.energy *ℚ balance market.now (empty market.now) → IfErr result (λ passed. IsFarkasPair market.now d N.bound (passed_at N.value passed)) }
+{
+    let _lines = market.lines();
+    let mut sum = of_energy;
+    for entry in named {
+        sum = with_limit(market, sum, flows, entry)?;
+    }
+    Ok(sum)
+}
+
+/// A sum with what a whole block makes, where a MW of it makes so much; nothing where that is not above 0.
+fn with_block<N: Exact>(sum: N, weight: N, quantity: i64) -> Result<N, Passed<N>>
+    requires { IsDatum quantity }
+    ensures sum { IfOk result (λ more. N.value more ≡ N.value sum +ℚ part_above (N.value weight) *ℚ whole quantity) }
+    ensures cause { IfErr result (λ passed. IsShareRefusal (N.value sum) (part_above (N.value weight)) (whole quantity) N.bound (passed_at N.value passed)) }
+{
+    match weight.sign() {
+        Sign::Below | Sign::Zero => Ok(sum),
+        Sign::Above => {
+            let share = weight.times(datum(quantity))?;
+            sum.plus(share)
+        }
+    }
+}
+
+/// What a MW of a block makes: the price at its bus where it is sold, the opposite where it is bought.
+fn weight<N: Exact>(side: Side, price: N) -> N
+    ensures { N.value result ≡ signed side (N.value price) }
+{
+    match side {
+        Side::Sell => price,
+        Side::Buy => price.neg(),
+    }
+}
+
+/// A sum with the most that the blocks make at the prices of their buses.
+fn with_blocks<N: Exact>(
+    market: &Market,
+    of_limits: N,
+    energy: N,
+    named: &[NamedRow<N>],
+) -> Result<N, Passed<N>>
+    requires named { (d : Duals Fraction) × AreNamed N.value market.now d named.now }
+    ensures bound { (d : Duals Fraction) → N.value energy ≡ d.energy → AreNamed N.value market.now d named.now → N.value of_limits ≡ total (limits_terms market.now d) → IfOk result (λ bound. N.value bound ≡ farkas_bound market.now d) }
+    ensures cause { (d : Duals Fraction) → N.value energy ≡ d.energy → AreNamed N.value market.now d named.now → N.value of_limits ≡ total (limits_terms market.now d) → IfErr result (λ passed. IsFarkasPair market.now d N.bound (passed_at N.value passed)) }
+{
+    let _units = market.units();
+    let mut sum = of_limits;
+    for (at, block) in market.blocks().slice().iter().enumerate() {
+        let bus = market.units().at(block.unit).bus;
+        let price = bus_price(market, energy, named, bus)?;
+        sum = with_block(sum, weight(block.side, price), block.quantity)?;
+    }
+    Ok(sum)
+}
+
+/// The bound of a price of energy and of named rows with their prices, in 10^-15: what these make where nothing is accepted, and the
+/// most that each block adds. Below 0 no dispatch is feasible, where the prices of limits are at least 0. The rows are those that some
+/// duals name, as the market has them in order.
+pub fn farkas_bound<N: Exact>(
+    alloc: Global,
+    market: &Market,
+    energy: N,
+    named: &[NamedRow<N>],
+) -> Result<N, VerifyStop<N>>
+    requires { (d : Duals Fraction) × AreNamed N.value market.now d named.now }
+    ensures bound { (d : Duals Fraction) → N.value energy ≡ d.energy → AreNamed N.value market.now d named.now → IfOk result (λ bound. N.value bound ≡ farkas_bound market.now d) }
+    ensures cause { (d : Duals Fraction) → N.value energy ≡ d.energy → AreNamed N.value market.now d named.now → IfErr result (IsStopped N.value (IsFarkasPair market.now d N.bound)) }
+{
+    let none: N = datum(0);
+    let nothing = match vec![in alloc; none; market.blocks().len()] {
+        Ok(nothing) => nothing,
+        Err(_) => return Err(VerifyStop::Memory),
+    };
+    let by_bus = injections(alloc, market, &nothing)?;
+    let by_line = line_flows(alloc, market, &by_bus)?;
+    let all = balance(market, &by_bus)?;
+    let of_energy = energy.times(all)?;
+    let of_limits = with_limits(market, of_energy, &by_line, named)?;
+    Ok(with_blocks(market, of_limits, energy, named)?)
+}

@@ -1,0 +1,76 @@
+//! Bus prices of duals whose signs are not known.
+
+ghost use Rattle.std.specs.Prelude.{◌≡◌, ◌<◌, ◌^◌, length, unsigned_abs, IfOk, IfErr};
+ghost use Rattle.fraction_theory.specs.Fraction.{Fraction, neg_ℚ, over, ◌+ℚ◌, ◌-ℚ◌, ◌*ℚ◌};
+ghost use Rattle.market_model.specs.declared.answered.Duals.{Duals};
+ghost use Rattle.market_model.specs.Optimality.{bus_price, congestion};
+ghost use Rattle.market_model.specs.Valued.{passed_at};
+ghost use Rattle.cert_sums.specs.Named.{AreNamed};
+ghost use Rattle.cert_sums.specs.Refusals.{IsCongestionRefusal, IsPriceRefusal, IsPullRefusal};
+
+use exact_fraction::{Exact, Passed};
+use limit_rows::{LimitRow, factor_at};
+use market_model::Market;
+
+/// Factors of rows are in 10^-12.
+const WHOLE: u64 = 1_000_000_000_000;
+
+/// A row of the market with the two prices that a certificate gives it.
+#[derive(Clone, Copy, Debug)]
+pub struct NamedRow<N> {
+    pub row: LimitRow,
+    /// The price of its upper side, in 10^-6 per MWh.
+    pub up: N,
+    /// The price of its lower side.
+    pub down: N,
+}
+
+/// A sum less what the prices of a row take by its factor in 10^-12. A factor of 0 takes nothing.
+fn less_pull<N: Exact>(sum: N, up: N, down: N, factor: i64) -> Result<N, Passed<N>>
+    requires { unsigned_abs factor < 2 ^ 63 }
+    ensures sum { IfOk result (λ more. N.value more ≡ N.value sum +ℚ neg_ℚ (N.value up -ℚ N.value down) *ℚ over factor (10 ^ 12)) }
+    ensures cause { IfErr result (λ passed. IsPullRefusal (N.value sum) (N.value up) (N.value down) (over factor (10 ^ 12)) N.bound (passed_at N.value passed)) }
+{
+    if factor == 0 {
+        return Ok(sum);
+    }
+    let pull = up.minus(down)?;
+    let share = pull.neg().times(N::of_parts(factor, WHOLE))?;
+    sum.plus(share)
+}
+
+/// What the rows add to the price at a bus.
+fn congestion_at<N: Exact>(
+    market: &Market,
+    named: &[NamedRow<N>],
+    bus: usize,
+) -> Result<N, Passed<N>>
+    requires named { (d : Duals Fraction) × AreNamed N.value market.now d named.now }
+    requires bus { bus < length market.now.buses }
+    ensures sum { (d : Duals Fraction) → AreNamed N.value market.now d named.now → IfOk result (λ sum. N.value sum ≡ congestion market.now d bus) }
+    ensures cause { (d : Duals Fraction) → AreNamed N.value market.now d named.now → IfErr result (λ passed. IsCongestionRefusal market.now d bus N.bound (passed_at N.value passed)) }
+{
+    let _lines = market.lines();
+    let mut sum: N = N::of_parts(0, 1);
+    for entry in named {
+        sum = less_pull(sum, entry.up, entry.down, factor_at(market, entry.row, bus))?;
+    }
+    Ok(sum)
+}
+
+/// The price at a bus, in 10^-6 per MWh: that of energy, less what the rows take that have prices. The rows are those that some duals
+/// name, as the market has them in order; prices may have any sign.
+pub fn bus_price<N: Exact>(
+    market: &Market,
+    energy: N,
+    named: &[NamedRow<N>],
+    bus: usize,
+) -> Result<N, Passed<N>>
+    requires named { (d : Duals Fraction) × AreNamed N.value market.now d named.now }
+    requires bus { bus < length market.now.buses }
+    ensures price { (d : Duals Fraction) → N.value energy ≡ d.energy → AreNamed N.value market.now d named.now → IfOk result (λ price. N.value price ≡ bus_price market.now d bus) }
+    ensures cause { (d : Duals Fraction) → N.value energy ≡ d.energy → AreNamed N.value market.now d named.now → IfErr result (λ passed. IsPriceRefusal market.now d bus N.bound (passed_at N.value passed)) }
+{
+    let congestion = congestion_at(market, named, bus)?;
+    energy.plus(congestion)
+}
