@@ -79,13 +79,13 @@ own_prices (d ∷ ds) apart e c = by (Contains-cases d ds e c)
 
     by : (d ≡ e) ⊎ Contains ds e → (up_in (d ∷ ds) e.row ≡ e.up) × (down_in (d ∷ ds) e.row ≡ e.down)
     by (inl f) = let own = named d.row e.row (ap (λ (g : Dual Fraction). g.row) f) in (
-          ap (λ (b : Bool). if b then d.up else up_in ds e.row) own ∙ ap (λ (g : Dual Fraction). g.up) f,
-          ap (λ (b : Bool). if b then d.down else down_in ds e.row) own ∙ ap (λ (g : Dual Fraction). g.down) f,
-        )
+      ap (λ (b : Bool). if b then d.up else up_in ds e.row) own ∙ ap (λ (g : Dual Fraction). g.up) f,
+      ap (λ (b : Bool). if b then d.down else down_in ds e.row) own ∙ ap (λ (g : Dual Fraction). g.down) f,
+    )
     by (inr h) = let more = own_prices ds rest e h in (
-          ap (λ (b : Bool). if b then d.up else up_in ds e.row) (other h) ∙ more.0,
-          ap (λ (b : Bool). if b then d.down else down_in ds e.row) (other h) ∙ more.1,
-        )
+      ap (λ (b : Bool). if b then d.up else up_in ds e.row) (other h) ∙ more.0,
+      ap (λ (b : Bool). if b then d.down else down_in ds e.row) (other h) ∙ more.1,
+    )
 
 -- ---- blocks
 gains_of : (s : Side) (p w : Fraction) → Gains s p w → gains s p w ≡ true

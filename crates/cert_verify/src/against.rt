@@ -1,6 +1,6 @@
 //! The first reason against a certificate of either kind, in the order in which reasons are told.
 
-ghost use Rattle.std.specs.Prelude.{◌≡◌, ◌<◌, ◌∷◌, [], length, map, vec_len, IfOk, IfErr};
+ghost use Rattle.std.specs.Prelude.{◌≡◌, ℕ, ◌<◌, ◌∷◌, [], length, map, vec_len, IfOk, IfErr};
 ghost use Rattle.fraction_theory.specs.Fraction.{Fraction};
 ghost use Rattle.market_model.specs.declared.answered.Duals.{Duals};
 ghost use Rattle.market_model.specs.Dispatch.{places};
@@ -9,7 +9,7 @@ ghost use Rattle.market_model.specs.Valued.{dual_at};
 ghost use Rattle.cert_format.specs.Certificates.{NamesNoRowTwice};
 ghost use Rattle.cert_sums.specs.Named.{AreNamed};
 ghost use Rattle.cert_sums.specs.Pairs.{IsFarkasPair, IsOptimalPair};
-ghost use Rattle.cert_sums.specs.Refusals.{IsStopped};
+ghost use Rattle.cert_sums.specs.Refusals.{IsPriceRefusal, IsStopped};
 ghost use Rattle.cert_sums.specs.Results.{dispatch_of};
 ghost use Rattle.cert_verify.specs.Certificates.{duals_by};
 ghost use Rattle.cert_verify.specs.Reasons.{balance_reason, block_reason, bound_reason, count_reason, farkas_reasons, first_of, limit_reason, optimal_reasons, row_reason, sign_reason, slack_reason, support_reason};

@@ -1,6 +1,6 @@
 //! Tests of numbers.
 
-ghost use Rattle.std.specs.Prelude.{◌≡◌};
+ghost use Rattle.std.specs.Prelude.{◌≡◌, pos};
 ghost use Rattle.fraction_theory.specs.Fraction.{whole};
 ghost use Rattle.market_data.specs.Participants.{IsDatum};
 ghost use Rattle.market_model.specs.Valued.{dual_at};
@@ -94,13 +94,7 @@ fn loses<N: Exact>(side: Side, price: N, worth: N) -> bool
 }
 
 /// Whether a block gains and is not accepted whole, or loses and is accepted.
-pub(crate) fn breaks_support<N: Exact>(
-    side: Side,
-    price: N,
-    worth: N,
-    quantity: N,
-    mw: N,
-) -> bool
+pub(crate) fn breaks_support<N: Exact>(side: Side, price: N, worth: N, quantity: N, mw: N) -> bool
     ensures { result ≡ breaks_support side (N.value price) (N.value worth) (N.value quantity) (N.value mw) }
 {
     (gains(side, price, worth) && differ(mw, quantity))

@@ -40,11 +40,7 @@ pub(crate) fn negative_price<N: Exact>(limits: &[Dual<N>]) -> Option<Reason>
 }
 
 /// Whether a dual prices a side of its row at which the flow does not stand. Flows are by line.
-fn has_slack<N: Exact>(
-    market: &Market,
-    flows: &[N],
-    dual: &Dual<N>,
-) -> Result<bool, Passed<N>>
+fn has_slack<N: Exact>(market: &Market, flows: &[N], dual: &Dual<N>) -> Result<bool, Passed<N>>
     requires { length flows.now ≡ length market.now.lines }
     ensures slack { (x : Dispatch) → AreFlows market.now x (map N.value flows.now) → IfOk result (λ slack. slack ≡ has_slack market.now x (dual_at N.value dual.now)) }
     ensures cause { (x : Dispatch) (d : Duals Fraction) → AreFlows market.now x (map N.value flows.now) → IfErr result (λ passed. IsOptimalPair market.now x d N.bound (passed_at N.value passed)) }

@@ -1,6 +1,6 @@
 //! The rows that duals name, in the market's order.
 
-ghost use Rattle.std.specs.Prelude.{◌≡◌, ◌++◌, length, map, filter, Contains, IfOk, MatchResult};
+ghost use Rattle.std.specs.Prelude.{◌≡◌, List, ◌++◌, map, filter, Contains, IfOk, MatchResult};
 ghost use Rattle.fraction_theory.specs.Fraction.{Fraction};
 ghost use Rattle.market_model.specs.LimitRows.{Row, row_id};
 ghost use Rattle.market_model.specs.Optimality.{is_named};
