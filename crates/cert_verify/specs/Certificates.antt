@@ -1,0 +1,67 @@
+-- What a certificate says of a market, and the first reason against it.
+-- Source: own, of what is feasible, what duals support and what shows a market infeasible.
+use Rattle.std.specs.Prelude.{◌≡◌, ℕ, List, Option, length, All, Contains}
+use Rattle.fraction_theory.specs.Fraction.{Fraction}
+use Rattle.market_model.specs.declared.answered.Answer.{Answer}
+use Rattle.market_model.specs.declared.answered.Dual.{Dual}
+use Rattle.market_model.specs.declared.answered.Duals.{Duals}
+use Rattle.market_model.specs.declared.answered.Farkas as infeasible
+use Rattle.market_model.specs.declared.participants.Parts.{Parts}
+use Rattle.market_model.specs.Dispatch.{Dispatch}
+use Rattle.market_model.specs.Infeasibility.{ShowsInfeasible}
+use Rattle.market_model.specs.LimitRows.{Row, rows, row_id}
+use Rattle.market_model.specs.Optimality.{Feasible, Supports}
+use Rattle.cert_format.specs.declared.certificate.Cert.{Cert}
+use Rattle.cert_format.specs.declared.certificate.Cert.TheVariants.{Optimal, Farkas}
+use Rattle.cert_sums.specs.declared.stops.VerifyStop.{VerifyStop}
+use Rattle.cert_sums.specs.Pairs.{IsFarkasPair, IsOptimalPair}
+use Rattle.cert_sums.specs.Refusals.{IsStopped}
+use Rattle.cert_verify.specs.Reasons.{first_of, optimal_reasons, farkas_reasons}
+use Rattle.cert_verify.specs.declared.verdicts.Reason.{Reason}
+
+-- a dispatch of these quantities
+abbrev pub dispatch_by : List Fraction → Dispatch
+dispatch_by blocks = record { blocks = blocks }
+
+-- a price of energy, and those of rows
+abbrev pub duals_by : Fraction → List (Dual Fraction) → Duals Fraction
+duals_by energy limits = record { energy = energy; limits = limits }
+
+-- the first reason against a certificate, where there is one
+abbrev pub first_reason : Parts → Cert Fraction → Option Reason
+first_reason m (Optimal blocks energy limits) = first_of (optimal_reasons m (dispatch_by blocks) (duals_by energy limits))
+first_reason m (Farkas energy limits) = first_of (farkas_reasons m (duals_by energy limits))
+
+-- each row that the duals name is a row of the market
+abbrev pub NamesRows : Parts → List (Dual Fraction) → Type 0
+NamesRows m ds = All (λ e. (r : Row) × Contains (rows m) r × (row_id m r ≡ e.row)) ds
+
+-- one quantity for each block, a feasible dispatch, and duals of rows of the market that support it
+pub record IsOptimum (m : Parts) (x : Dispatch) (d : Duals Fraction) : Type 0 where
+  pub count : length x.blocks ≡ length m.blocks
+  pub rows : NamesRows m d.limits
+  pub feasible : Feasible m x
+  pub supported : Supports m x d
+
+-- duals of rows of the market that show that nothing is feasible
+pub record IsInfeasible (m : Parts) (d : Duals Fraction) : Type 0 where
+  pub rows : NamesRows m d.limits
+  pub shows : ShowsInfeasible m d
+
+-- the certificate is true of the market
+abbrev pub Holds : Parts → Cert Fraction → Type 0
+Holds m (Optimal blocks energy limits) = IsOptimum m (dispatch_by blocks) (duals_by energy limits)
+Holds m (Farkas energy limits) = IsInfeasible m (duals_by energy limits)
+
+-- ---- why there may be no verdict
+-- memory was refused, or an operation in the sums of the certificate's own dispatch and duals, which passes the bound of the numbers
+abbrev pub IsVerifyStop : {N : Type 0} → (N → Fraction) → Parts → ℕ → Cert Fraction → VerifyStop N → Type 0
+IsVerifyStop value m bound (Optimal blocks energy limits) = IsStopped value (IsOptimalPair m (dispatch_by blocks) (duals_by energy limits) bound)
+IsVerifyStop value m bound (Farkas energy limits) = IsStopped value (IsFarkasPair m (duals_by energy limits) bound)
+
+-- ---- the certificates of answers
+abbrev pub cert_of : Answer Fraction → Cert Fraction
+cert_of a = Optimal a.dispatch a.duals.energy a.duals.limits
+
+abbrev pub cert_against : infeasible.Farkas Fraction → Cert Fraction
+cert_against f = Farkas f.duals.energy f.duals.limits

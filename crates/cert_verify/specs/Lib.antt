@@ -1,0 +1,4 @@
+pub mod Certificates
+pub mod Laws
+pub mod Naming
+pub mod Reasons

@@ -1,0 +1,139 @@
+-- The reasons that there may be against a certificate of a market, and the first of them.
+-- Source: own, of what is feasible, what duals support and what shows a market infeasible.
+use Rattle.std.specs.Prelude.{ℕ, ◌+◌, ◌==◌, ◌&&◌, ◌||◌, ◌*ℤ◌, pos, int_lt, Bool, not, List, [], ◌∷◌, length, Option, Some, None, option_map, if◌then◌else◌}
+use Rattle.std.specs.List.{find, list_any}
+use Rattle.std.specs.Option.{option_or}
+use Rattle.fraction_theory.specs.Fraction.{Fraction, neg_ℚ}
+use Rattle.market_model.specs.declared.answered.Dual.{Dual}
+use Rattle.market_model.specs.declared.answered.Duals.{Duals}
+use Rattle.market_model.specs.declared.participants.Parts.{Parts}
+use Rattle.market_model.specs.declared.participants.Side.{Side}
+use Rattle.market_model.specs.declared.participants.Side.TheVariants.{Sell, Buy}
+use Rattle.market_model.specs.Dispatch.{Dispatch, zero, places, block_at, accepted, quantity, balance}
+use Rattle.market_model.specs.Infeasibility.{farkas_bound}
+use Rattle.market_model.specs.LimitRows.{Row, rows, row_id, limit, flow}
+use Rattle.market_model.specs.Optimality.{price, same_id, unit_price}
+use Rattle.cert_verify.specs.declared.verdicts.Reason.{Reason}
+use Rattle.cert_verify.specs.declared.verdicts.Reason.TheVariants as reason
+use Rattle.cert_verify.specs.declared.verdicts.Verdict.{Verdict}
+use Rattle.cert_verify.specs.declared.verdicts.Verdict.TheVariants as verdict
+
+-- ---- numbers
+-- whether x is below y, by cross multiplication
+unfoldable pub is_below : Fraction → Fraction → Bool
+is_below x y = int_lt (x.num *ℤ pos y.den) (y.num *ℤ pos x.den)
+
+abbrev pub differ : Fraction → Fraction → Bool
+differ x y = is_below x y || is_below y x
+
+-- a flow passes a limit on either side
+abbrev pub passes : Fraction → Fraction → Bool
+passes flow limit = is_below flow (neg_ℚ limit) || is_below limit flow
+
+-- accepted MW are none of a quantity
+abbrev pub is_outside : Fraction → Fraction → Bool
+is_outside mw quantity = is_below mw zero || is_below quantity mw
+
+abbrev pub has_negative : Dual Fraction → Bool
+has_negative e = is_below e.up zero || is_below e.down zero
+
+-- a dual prices a side of a limit at which a flow does not stand
+abbrev pub prices_slack : Dual Fraction → Fraction → Fraction → Bool
+prices_slack e flow limit = (is_below zero e.up && differ flow limit) || (is_below zero e.down && differ flow (neg_ℚ limit))
+
+-- more of a block of this side and price gains, where the price at its bus is `worth`; any of it loses
+abbrev pub gains : Side → Fraction → Fraction → Bool
+gains Sell price worth = is_below price worth
+gains Buy price worth = is_below worth price
+
+abbrev pub loses : Side → Fraction → Fraction → Bool
+loses Sell price worth = is_below worth price
+loses Buy price worth = is_below price worth
+
+-- it gains and is not accepted whole, or loses and is accepted
+abbrev pub breaks_support : Side → Fraction → Fraction → Fraction → Fraction → Bool
+breaks_support side price worth quantity mw = (gains side price worth && differ mw quantity) || (loses side price worth && differ mw zero)
+
+-- ---- the same of a market
+-- a row has the name of a dual
+abbrev pub is_of : Parts → Dual Fraction → Row → Bool
+is_of m e r = same_id (row_id m r) e.row
+
+abbrev pub has_no_row : Parts → Dual Fraction → Bool
+has_no_row m e = not (list_any (is_of m e) (rows m))
+
+abbrev pub is_broken : Parts → Dispatch → Row → Bool
+is_broken m x r = passes (flow m x r) (limit m r)
+
+abbrev pub has_slack : Parts → Dispatch → Dual Fraction → Bool
+has_slack m x e = list_any (λ r. is_of m e r && prices_slack e (flow m x r) (limit m r)) (rows m)
+
+abbrev pub is_beyond : Parts → Dispatch → ℕ → Bool
+is_beyond m x j = is_outside (accepted x j) (quantity m j)
+
+abbrev pub is_unsupported : Parts → Dispatch → Duals Fraction → ℕ → Bool
+is_unsupported m x d j = breaks_support (block_at m j).side (price m j) (unit_price m d (block_at m j).unit) (quantity m j) (accepted x j)
+
+-- ---- reasons, each of the first place that has it
+-- the reason of the first that a test finds
+abbrev pub of_first : {X : Type 0} → (X → Reason) → (X → Bool) → List X → Option Reason
+of_first because test xs = option_map because (find test xs)
+
+-- that, where this is so
+abbrev pub where_so : Bool → Reason → Option Reason
+where_so so because = if so then Some because else None
+
+abbrev pub count_reason : Parts → Dispatch → Option Reason
+count_reason m x = where_so (not (length x.blocks == length m.blocks)) reason.Count
+
+abbrev pub row_reason : Parts → List (Dual Fraction) → Option Reason
+row_reason m ds = of_first (λ e. reason.NoRow e.row) (has_no_row m) ds
+
+abbrev pub sign_reason : List (Dual Fraction) → Option Reason
+sign_reason ds = of_first (λ e. reason.Sign e.row) has_negative ds
+
+abbrev pub block_reason : Parts → Dispatch → Option Reason
+block_reason m x = of_first (λ j. reason.Block (j + 1)) (is_beyond m x) (places (length m.blocks))
+
+abbrev pub balance_reason : Parts → Dispatch → Option Reason
+balance_reason m x = where_so (differ (balance m x) zero) reason.Balance
+
+-- over all rows of the market
+abbrev pub limit_reason : Parts → Dispatch → Option Reason
+limit_reason m x = of_first (λ r. reason.Limit (row_id m r)) (is_broken m x) (rows m)
+
+abbrev pub slack_reason : Parts → Dispatch → List (Dual Fraction) → Option Reason
+slack_reason m x ds = of_first (λ e. reason.Slack e.row) (has_slack m x) ds
+
+abbrev pub support_reason : Parts → Dispatch → Duals Fraction → Option Reason
+support_reason m x d = of_first (λ j. reason.Support (j + 1)) (is_unsupported m x d) (places (length m.blocks))
+
+abbrev pub bound_reason : Parts → Duals Fraction → Option Reason
+bound_reason m d = where_so (not (is_below (farkas_bound m d) zero)) reason.Bound
+
+-- ---- the first reason
+abbrev pub first_of : List (Option Reason) → Option Reason
+first_of [] = None
+first_of (o ∷ os) = option_or o (first_of os)
+
+-- against a dispatch and duals that support it
+abbrev pub optimal_reasons : Parts → Dispatch → Duals Fraction → List (Option Reason)
+optimal_reasons m x d =
+    count_reason m x
+    ∷ row_reason m d.limits
+    ∷ sign_reason d.limits
+    ∷ block_reason m x
+    ∷ balance_reason m x
+    ∷ limit_reason m x
+    ∷ slack_reason m x d.limits
+    ∷ support_reason m x d
+    ∷ []
+
+-- against duals that show that nothing is feasible
+abbrev pub farkas_reasons : Parts → Duals Fraction → List (Option Reason)
+farkas_reasons m d = row_reason m d.limits ∷ sign_reason d.limits ∷ bound_reason m d ∷ []
+
+-- yes where there is no reason against
+abbrev pub verdict_of : Option Reason → Verdict
+verdict_of None = verdict.Yes
+verdict_of (Some why) = verdict.No why

@@ -1,0 +1,171 @@
+//! The first reason against a certificate of either kind, in the order in which reasons are told.
+
+ghost use Rattle.std.specs.Prelude.{◌≡◌, ℕ, ◌<◌, ◌∷◌, [], length, map, vec_len, IfOk, IfErr};
+ghost use Rattle.fraction_theory.specs.Fraction.{Fraction};
+ghost use Rattle.market_model.specs.declared.answered.Duals.{Duals};
+ghost use Rattle.market_model.specs.Dispatch.{places};
+ghost use Rattle.market_model.specs.Optimality.{bus_price};
+ghost use Rattle.market_model.specs.Valued.{dual_at};
+ghost use Rattle.cert_format.specs.Certificates.{NamesNoRowTwice};
+ghost use Rattle.cert_sums.specs.Named.{AreNamed};
+ghost use Rattle.cert_sums.specs.Pairs.{IsFarkasPair, IsOptimalPair};
+ghost use Rattle.cert_sums.specs.Refusals.{IsPriceRefusal, IsStopped};
+ghost use Rattle.cert_sums.specs.Results.{dispatch_of};
+ghost use Rattle.cert_verify.specs.Certificates.{duals_by};
+ghost use Rattle.cert_verify.specs.Reasons.{balance_reason, block_reason, bound_reason, count_reason, farkas_reasons, first_of, limit_reason, optimal_reasons, row_reason, sign_reason, slack_reason, support_reason};
+
+use crate::blocks::{other_count, outside_block, unsupported_block};
+use crate::comparing::{datum, differ, is_negative};
+use crate::duals::{missing_row, negative_price, slack_price};
+use crate::limits::broken_limit;
+use crate::naming::named_rows;
+use crate::{Reason, VerifyStop};
+use cert_sums::{NamedRow, balance, bus_price, farkas_bound, injections, line_flows};
+use exact_fraction::{Exact, Passed};
+use market_model::{Dual, Market, Memory};
+use std::alloc::Global;
+
+/// What may be wrong with the parts of a certificate before any sum is made of them.
+fn wrong_part<N: Exact>(market: &Market, blocks: &[N], limits: &[Dual<N>]) -> Option<Reason>
+    ensures { result ≡ first_of (count_reason market.now (dispatch_of N.value blocks.now) ∷ row_reason market.now (map (dual_at N.value) limits.now) ∷ sign_reason (map (dual_at N.value) limits.now) ∷ block_reason market.now (dispatch_of N.value blocks.now) ∷ []) }
+{
+    if let Some(reason) = other_count(market, blocks) {
+        return Some(reason);
+    }
+    if let Some(reason) = missing_row(market, limits) {
+        return Some(reason);
+    }
+    if let Some(reason) = negative_price(limits) {
+        return Some(reason);
+    }
+    outside_block(market, blocks)
+}
+
+/// What may be wrong with the flows of a dispatch.
+fn wrong_flow<N: Exact>(
+    alloc: Global,
+    market: &Market,
+    blocks: &[N],
+    limits: &[Dual<N>],
+) -> Result<Option<Reason>, VerifyStop<N>>
+    requires { length blocks.now ≡ length market.now.blocks }
+    ensures first { IfOk result (λ first. first ≡ first_of (balance_reason market.now (dispatch_of N.value blocks.now) ∷ limit_reason market.now (dispatch_of N.value blocks.now) ∷ slack_reason market.now (dispatch_of N.value blocks.now) (map (dual_at N.value) limits.now) ∷ [])) }
+    ensures cause { (d : Duals Fraction) → IfErr result (IsStopped N.value (IsOptimalPair market.now (dispatch_of N.value blocks.now) d N.bound)) }
+{
+    let by_bus = injections(alloc, market, blocks)?;
+    if differ(balance(market, &by_bus)?, datum(0)) {
+        return Ok(Some(Reason::Balance));
+    }
+    let by_line = line_flows(alloc, market, &by_bus)?;
+    if let Some(reason) = broken_limit(market, &by_line)? {
+        return Ok(Some(reason));
+    }
+    Ok(slack_price(market, &by_line, limits)?)
+}
+
+/// The price at each bus.
+fn bus_prices<N: Exact>(
+    alloc: Global,
+    market: &Market,
+    energy: N,
+    named: &[NamedRow<N>],
+) -> Result<Vec<N>, VerifyStop<N>>
+    requires { (d : Duals Fraction) × AreNamed N.value market.now d named.now }
+    ensures count { IfOk result (λ prices. vec_len prices ≡ length market.now.buses) }
+    ensures prices { (d : Duals Fraction) → N.value energy ≡ d.energy → AreNamed N.value market.now d named.now → IfOk result (λ prices. map N.value prices.items ≡ map (bus_price market.now d) (places (length market.now.buses))) }
+    ensures cause { (d : Duals Fraction) → N.value energy ≡ d.energy → AreNamed N.value market.now d named.now → IfErr result (IsStopped N.value (λ p. (bus : ℕ) × (bus < length market.now.buses) × IsPriceRefusal market.now d bus N.bound p)) }
+{
+    let mut prices = match vec![in alloc; energy; market.buses().len()] {
+        Ok(prices) => prices,
+        Err(_) => return Err(VerifyStop::Memory),
+    };
+    for (bus, price) in prices.iter_mut().enumerate() {
+        *price = bus_price(market, energy, named, bus)?;
+    }
+    Ok(prices)
+}
+
+/// The first block that the duals do not support.
+fn wrong_support<N: Exact>(
+    alloc: Global,
+    market: &Market,
+    blocks: &[N],
+    energy: N,
+    limits: &[Dual<N>],
+) -> Result<Option<Reason>, VerifyStop<N>>
+    requires blocks { length blocks.now ≡ length market.now.blocks }
+    requires distinct { NamesNoRowTwice (map (dual_at N.value) limits.now) }
+    ensures first { IfOk result (λ first. first ≡ support_reason market.now (dispatch_of N.value blocks.now) (duals_by (N.value energy) (map (dual_at N.value) limits.now))) }
+    ensures cause { IfErr result (IsStopped N.value (IsOptimalPair market.now (dispatch_of N.value blocks.now) (duals_by (N.value energy) (map (dual_at N.value) limits.now)) N.bound)) }
+{
+    let named = match named_rows(alloc, market, limits) {
+        Ok(named) => named,
+        Err(Memory) => return Err(VerifyStop::Memory),
+    };
+    let prices = bus_prices(alloc, market, energy, &named)?;
+    Ok(unsupported_block(market, blocks, &prices))
+}
+
+/// The first reason against a dispatch and duals that are to support it.
+pub(crate) fn against_optimal<N: Exact>(
+    alloc: Global,
+    market: &Market,
+    blocks: &[N],
+    energy: N,
+    limits: &[Dual<N>],
+) -> Result<Option<Reason>, VerifyStop<N>>
+    requires { NamesNoRowTwice (map (dual_at N.value) limits.now) }
+    ensures first { IfOk result (λ first. first ≡ first_of (optimal_reasons market.now (dispatch_of N.value blocks.now) (duals_by (N.value energy) (map (dual_at N.value) limits.now)))) }
+    ensures cause { IfErr result (IsStopped N.value (IsOptimalPair market.now (dispatch_of N.value blocks.now) (duals_by (N.value energy) (map (dual_at N.value) limits.now)) N.bound)) }
+{
+    if let Some(reason) = wrong_part(market, blocks, limits) {
+        return Ok(Some(reason));
+    }
+    if let Some(reason) = wrong_flow(alloc, market, blocks, limits)? {
+        return Ok(Some(reason));
+    }
+    wrong_support(alloc, market, blocks, energy, limits)
+}
+
+/// Whether the bound of duals is not below 0.
+fn wrong_bound<N: Exact>(
+    alloc: Global,
+    market: &Market,
+    energy: N,
+    limits: &[Dual<N>],
+) -> Result<Option<Reason>, VerifyStop<N>>
+    requires { NamesNoRowTwice (map (dual_at N.value) limits.now) }
+    ensures first { IfOk result (λ first. first ≡ bound_reason market.now (duals_by (N.value energy) (map (dual_at N.value) limits.now))) }
+    ensures cause { IfErr result (IsStopped N.value (IsFarkasPair market.now (duals_by (N.value energy) (map (dual_at N.value) limits.now)) N.bound)) }
+{
+    let named = match named_rows(alloc, market, limits) {
+        Ok(named) => named,
+        Err(Memory) => return Err(VerifyStop::Memory),
+    };
+    let bound = farkas_bound(alloc, market, energy, &named)?;
+    Ok(if is_negative(bound) {
+        None
+    } else {
+        Some(Reason::Bound)
+    })
+}
+
+/// The first reason against duals that are to show that nothing is feasible.
+pub(crate) fn against_farkas<N: Exact>(
+    alloc: Global,
+    market: &Market,
+    energy: N,
+    limits: &[Dual<N>],
+) -> Result<Option<Reason>, VerifyStop<N>>
+    requires { NamesNoRowTwice (map (dual_at N.value) limits.now) }
+    ensures first { IfOk result (λ first. first ≡ first_of (farkas_reasons market.now (duals_by (N.value energy) (map (dual_at N.value) limits.now)))) }
+    ensures cause { IfErr result (IsStopped N.value (IsFarkasPair market.now (duals_by (N.value energy) (map (dual_at N.value) limits.now)) N.bound)) }
+{
+    if let Some(reason) = missing_row(market, limits) {
+        return Ok(Some(reason));
+    }
+    if let Some(reason) = negative_price(limits) {
+        return Ok(Some(reason));
+    }
+    wrong_bound(alloc, market, energy, limits)
+}

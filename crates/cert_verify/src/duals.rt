@@ -1,0 +1,74 @@
+//! What may be wrong with the duals of a certificate, the first in its own order.
+
+ghost use Rattle.std.specs.Prelude.{◌≡◌, length, map, IfOk, IfErr};
+ghost use Rattle.market_model.specs.declared.answered.Duals.{Duals};
+ghost use Rattle.market_model.specs.Dispatch.{Dispatch};
+ghost use Rattle.market_model.specs.Valued.{dual_at, passed_at};
+ghost use Rattle.cert_sums.specs.Pairs.{IsOptimalPair};
+ghost use Rattle.cert_sums.specs.Results.{AreFlows};
+ghost use Rattle.cert_verify.specs.Reasons.{has_slack, row_reason, sign_reason, slack_reason};
+
+use crate::Reason;
+use crate::comparing::{datum, has_negative, prices_slack};
+use cert_sums::row_flow;
+use exact_fraction::{Exact, Passed};
+use limit_rows::{limit_at, row_named};
+use market_model::{Dual, Market};
+
+/// The first dual whose row the market has not.
+pub(crate) fn missing_row<N: Exact>(market: &Market, limits: &[Dual<N>]) -> Option<Reason>
+    ensures { result ≡ row_reason market.now (map (dual_at N.value) limits.now) }
+{
+    for dual in limits {
+        if row_named(market, dual.row).is_none() {
+            return Some(Reason::NoRow { row: dual.row });
+        }
+    }
+    None
+}
+
+/// The first dual with a price below 0.
+pub(crate) fn negative_price<N: Exact>(limits: &[Dual<N>]) -> Option<Reason>
+    ensures { result ≡ sign_reason (map (dual_at N.value) limits.now) }
+{
+    for dual in limits {
+        if has_negative(dual) {
+            return Some(Reason::Sign { row: dual.row });
+        }
+    }
+    None
+}
+
+/// Whether a dual prices a side of its row at which the flow does not stand. Flows are by line.
+fn has_slack<N: Exact>(market: &Market, flows: &[N], dual: &Dual<N>) -> Result<bool, Passed<N>>
+    requires { length flows.now ≡ length market.now.lines }
+    ensures slack { (x : Dispatch) → AreFlows market.now x (map N.value flows.now) → IfOk result (λ slack. slack ≡ has_slack market.now x (dual_at N.value dual.now)) }
+    ensures cause { (x : Dispatch) (d : Duals Fraction) → AreFlows market.now x (map N.value flows.now) → IfErr result (λ passed. IsOptimalPair market.now x d N.bound (passed_at N.value passed)) }
+{
+    let _lines = market.lines();
+    match row_named(market, dual.row) {
+        Some(row) => {
+            let flow = row_flow(market, flows, row)?;
+            Ok(prices_slack(dual, flow, datum(limit_at(market, row))))
+        }
+        None => Ok(false),
+    }
+}
+
+/// The first dual that prices a side of its row at which the flow does not stand.
+pub(crate) fn slack_price<N: Exact>(
+    market: &Market,
+    flows: &[N],
+    limits: &[Dual<N>],
+) -> Result<Option<Reason>, Passed<N>>
+    requires { length flows.now ≡ length market.now.lines }
+    ensures first { (x : Dispatch) → AreFlows market.now x (map N.value flows.now) → IfOk result (λ reason. reason ≡ slack_reason market.now x (map (dual_at N.value) limits.now)) }
+    ensures cause { (x : Dispatch) (d : Duals Fraction) → AreFlows market.now x (map N.value flows.now) → IfErr result (λ passed. IsOptimalPair market.now x d N.bound (passed_at N.value passed)) }
+{
+    for dual in limits {
+        if has_slack(market, flows, dual)? {
+            return Ok(Some(Reason::Slack { row: dual.row }));
+        }
+    }
+    Ok(None)
+}

@@ -1,0 +1,20 @@
+//! Tells whether a certificate holds of a market, by the definitions of a feasible dispatch, of duals that support one and of duals
+//! that show that none is feasible. It shares no code with the clearing but the exact numbers, the market and its limit rows.
+#![tactic(auto)]
+
+mod against;
+mod blocks;
+mod comparing;
+mod duals;
+pub mod laws;
+mod limits;
+mod naming;
+mod verdicts;
+mod verifying;
+
+pub use cert_sums::VerifyStop;
+pub use verdicts::{Reason, Verdict};
+pub use verifying::verify;
+
+#[cfg(test)]
+mod tests;

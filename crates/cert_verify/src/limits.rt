@@ -1,0 +1,75 @@
+//! The first limit of the market that a dispatch breaks, among all of them.
+
+ghost use Rattle.std.specs.Prelude.{◌≡◌, ◌<◌, length, map, Contains, IfOk, IfErr, IfSome};
+ghost use Rattle.market_model.specs.declared.answered.Duals.{Duals};
+ghost use Rattle.market_model.specs.Dispatch.{Dispatch};
+ghost use Rattle.market_model.specs.LimitRows.{Row, row_id};
+ghost use Rattle.market_model.specs.NamedSums.{IsRefusedIn};
+ghost use Rattle.market_model.specs.Valued.{passed_at};
+ghost use Rattle.limit_rows.specs.Groups.{groups, rows_of};
+ghost use Rattle.limit_rows.specs.Places.{row_of};
+ghost use Rattle.cert_sums.specs.Pairs.{IsOptimalPair, flow_terms};
+ghost use Rattle.cert_sums.specs.Results.{AreFlows};
+ghost use Rattle.cert_verify.specs.declared.verdicts.Reason.TheVariants as reason;
+ghost use Rattle.cert_verify.specs.Reasons.{is_broken, limit_reason, of_first};
+
+use crate::Reason;
+use crate::comparing::{datum, passes};
+use cert_sums::row_flow;
+use exact_fraction::{Exact, Passed};
+use limit_rows::{LimitRow, group_count, has_row, limit_at, lost_of, name_at};
+use market_model::Market;
+
+/// Whether the flow of a row passes its limit. Flows are by line.
+fn is_broken<N: Exact>(market: &Market, flows: &[N], row: LimitRow) -> Result<bool, Passed<N>>
+    requires flows { length flows.now ≡ length market.now.lines }
+    requires line { row.line < length market.now.lines }
+    requires lost { IfSome row.lost (λ lost. lost < length market.now.lines) }
+    ensures broken { (x : Dispatch) → AreFlows market.now x (map N.value flows.now) → IfOk result (λ broken. broken ≡ is_broken market.now x (row_of row)) }
+    ensures cause { (x : Dispatch) → AreFlows market.now x (map N.value flows.now) → IfErr result (λ passed. IsRefusedIn (flow_terms market.now x (row_of row)) N.bound (passed_at N.value passed)) }
+{
+    let flow = row_flow(market, flows, row)?;
+    Ok(passes(flow, datum(limit_at(market, row))))
+}
+
+/// The first of the base, or of those after the loss of a line.
+fn broken_after<N: Exact>(
+    market: &Market,
+    flows: &[N],
+    lost: Option<usize>,
+) -> Result<Option<Reason>, Passed<N>>
+    requires flows { length flows.now ≡ length market.now.lines }
+    requires lost { Contains (groups market.now) lost }
+    ensures first { (x : Dispatch) → AreFlows market.now x (map N.value flows.now) → IfOk result (λ first. first ≡ of_first (λ (r : Row). reason.Limit (row_id market.now r)) (is_broken market.now x) (rows_of market.now lost)) }
+    ensures cause { (x : Dispatch) (d : Duals Fraction) → AreFlows market.now x (map N.value flows.now) → IfErr result (λ passed. IsOptimalPair market.now x d N.bound (passed_at N.value passed)) }
+{
+    for line in 0..market.lines().len() {
+        if has_row(market, lost, line) {
+            let row = LimitRow { line, lost };
+            if is_broken(market, flows, row)? {
+                return Ok(Some(Reason::Limit {
+                    row: name_at(market, row),
+                }));
+            }
+        }
+    }
+    Ok(None)
+}
+
+/// The first row of the market, in its order, whose flow passes its limit.
+pub(crate) fn broken_limit<N: Exact>(
+    market: &Market,
+    flows: &[N],
+) -> Result<Option<Reason>, Passed<N>>
+    requires { length flows.now ≡ length market.now.lines }
+    ensures first { (x : Dispatch) → AreFlows market.now x (map N.value flows.now) → IfOk result (λ first. first ≡ limit_reason market.now x) }
+    ensures cause { (x : Dispatch) (d : Duals Fraction) → AreFlows market.now x (map N.value flows.now) → IfErr result (λ passed. IsOptimalPair market.now x d N.bound (passed_at N.value passed)) }
+{
+    for group in 0..group_count(market) {
+        let broken = broken_after(market, flows, lost_of(market, group))?;
+        if broken.is_some() {
+            return Ok(broken);
+        }
+    }
+    Ok(None)
+}

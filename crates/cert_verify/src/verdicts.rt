@@ -1,0 +1,34 @@
+//! What a certificate is answered by.
+
+use market_model::RowId;
+
+/// Why a certificate does not hold.
+#[derive(Clone, Copy, PartialEq, Eq, Debug)]
+pub enum Reason {
+    /// There is not one quantity for each block.
+    Count,
+    /// The market has no row of that name.
+    NoRow { row: RowId },
+    /// A price of the row is below 0.
+    Sign { row: RowId },
+    /// The quantity of a block is below 0 or above what it offers. The first block is 1.
+    Block { n: usize },
+    /// The dispatch does not balance.
+    Balance,
+    /// The flow of the row passes its limit.
+    Limit { row: RowId },
+    /// A side of the row has a price, and the flow does not stand at its limit there.
+    Slack { row: RowId },
+    /// A block gains at the price of its bus and is not accepted whole, or loses and is accepted. The first block is 1.
+    Support { n: usize },
+    /// The bound is not below 0.
+    Bound,
+}
+
+/// Whether a certificate holds of a market.
+#[derive(Clone, Copy, PartialEq, Eq, Debug)]
+pub enum Verdict {
+    Yes,
+    /// With the first reason against it.
+    No(Reason),
+}

@@ -1,0 +1,53 @@
+//! The verdict on a certificate.
+
+ghost use Rattle.std.specs.Prelude.{◌≡◌, IfOk, IfErr};
+ghost use Rattle.cert_format.specs.Certificates.{RowsAreDistinct, cert_at};
+ghost use Rattle.cert_verify.specs.Certificates.{IsVerifyStop, first_reason};
+ghost use Rattle.cert_verify.specs.Reasons.{verdict_of};
+
+use crate::against::{against_farkas, against_optimal};
+use crate::{Reason, Verdict, VerifyStop};
+use cert_format::Cert;
+use exact_fraction::Exact;
+use market_model::Market;
+use std::alloc::Global;
+
+/// What is told where this is the first reason, or there is none.
+fn told(reason: Option<Reason>) -> Verdict
+    ensures { result ≡ verdict_of reason }
+{
+    match reason {
+        None => Verdict::Yes,
+        Some(reason) => Verdict::No(reason),
+    }
+}
+
+/// Whether a certificate holds of a market: that its dispatch is feasible and its duals support it, or that its duals show that no
+/// dispatch is feasible. Numbers are as in certificates, in 10^-9 MW and 10^-6 per MWh. No row is named twice.
+///
+/// The first reason against it is told, in the order of [`Reason`]. Rows of the certificate are gone through in its own order, limits in
+/// that of the market, and blocks in theirs. The definitions are the market's own: nothing of a way to a best dispatch is looked at.
+pub fn verify<N: Exact>(
+    alloc: Global,
+    market: &Market,
+    cert: &Cert<N>,
+) -> Result<Verdict, VerifyStop<N>>
+    requires { RowsAreDistinct (cert_at N.value cert.now) }
+    ensures verdict { IfOk result (λ verdict. verdict ≡ verdict_of (first_reason market.now (cert_at N.value cert.now))) }
+    ensures cause { IfErr result (IsVerifyStop N.value market.now N.bound (cert_at N.value cert.now)) }
+{
+    match cert {
+        Cert::Optimal {
+            blocks,
+            energy,
+            limits,
+        } => {
+            let reason = against_optimal(alloc, market, blocks.slice(), *energy, limits.slice())?;
+            Ok(told(reason))
+        }
+        Cert::Farkas { energy, limits } => {
+            let reason = against_farkas(alloc, market, *energy, limits.slice())?;
+            Ok(told(reason))
+        }
+    }
+}
