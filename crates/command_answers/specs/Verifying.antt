@@ -6,7 +6,9 @@ use Rattle.market_model.specs.declared.participants.Parts.{Parts}
 use Rattle.market_model.specs.Market.{IsMarket}
 use Rattle.report_text.specs.Reports.{range_text}
 use Rattle.cert_format.specs.declared.certificate.Cert.{Cert}
-use Rattle.cert_verify.specs.Certificates.{IsCertificatePair, first_reason}
+use Rattle.cert_format.specs.declared.certificate.Cert.TheVariants.{Optimal, Farkas}
+use Rattle.cert_sums.specs.Pairs.{IsFarkasPair, IsOptimalPair}
+use Rattle.cert_verify.specs.Certificates.{dispatch_by, duals_by, first_reason}
 use Rattle.cert_verify.specs.declared.verdicts.Reason.{Reason}
 use Rattle.command_answers.specs.declared.status.Status.{Status}
 use Rattle.command_answers.specs.declared.status.Status.TheVariants as status
@@ -20,11 +22,16 @@ abbrev pub verdict_status : Option Reason → Status
 verdict_status None = status.Done
 verdict_status (Some r) = status.Refuted
 
+-- an operation in the sums of the certificate's own dispatch and duals that passes the bound
+abbrev pub IsCertificatePair : Parts → ℕ → Cert Fraction → Passed Fraction → Type 0
+IsCertificatePair m bound (Optimal blocks energy limits) p = IsOptimalPair m (dispatch_by blocks) (duals_by energy limits) bound p
+IsCertificatePair m bound (Farkas energy limits) p = IsFarkasPair m (duals_by energy limits) bound p
+
 -- What is told is whether the certificate holds of the market, with the first reason where it does not; or two numbers of the
 -- certificate's own sums, each within the bound, whose outcome passes it.
 pub data VerifiesTo (bound : ℕ) (m : Parts) (c : Cert Fraction) (t : Telling) : Type 0 where
   judged : t ≡ uncertified (verdict_status (first_reason m c)) (verdict_line (first_reason m c)) → VerifiesTo bound m c t
-  passed : (p : Passed Fraction) → IsCertificatePair m c bound p → ArePassedWithin bound p → t ≡ uncertified status.Range (range_text p) → VerifiesTo bound m c t
+  passed : (p : Passed Fraction) → IsCertificatePair m bound c p → ArePassedWithin bound p → t ≡ uncertified status.Range (range_text p) → VerifiesTo bound m c t
 
 -- the same of a market, which keeps what every market keeps, by numbers of 127 bits
 abbrev pub TellsVerdict : MarketCertificate → Telling → Type 0

@@ -15,7 +15,7 @@ use Rattle.market_system.proofs.Completeness.{law_of_completeness}
 use Rattle.net_case.specs.declared.live_parts.PostRating.{PostRating}
 use Rattle.case_maker.specs.Rings.{ring_of}
 use Rattle.cert_format.specs.declared.certificate.Cert.{Cert}
-use Rattle.cert_verify.specs.Certificates.{IsCertificatePair, first_reason}
+use Rattle.cert_verify.specs.Certificates.{first_reason}
 use Rattle.refusal_text.specs.declared.refusals.Input.TheVariants as input
 use Rattle.refusal_text.specs.declared.refusals.Refusal.{Refusal}
 use Rattle.refusal_text.specs.declared.refusals.Refusal.TheVariants as refusal
@@ -28,7 +28,7 @@ use Rattle.command_answers.specs.Clearing.{TellsClear, most_size, status_of}
 use Rattle.command_answers.specs.Inputs.{IsCertified, IsLimited, IsReplayed, MarketCertificate, MarketTexts}
 use Rattle.command_answers.specs.Making.{MakesTo, cleared as ring_cleared, passed as ring_passed}
 use Rattle.command_answers.specs.Tellings.{ComesTo, Telling, Tells}
-use Rattle.command_answers.specs.Verifying.{TellsVerdict, VerifiesTo, judged, passed, verdict_status}
+use Rattle.command_answers.specs.Verifying.{IsCertificatePair, TellsVerdict, VerifiesTo, judged, passed, verdict_status}
 use Rattle.command_answers.specs.declared.status.Status.{Status}
 use Rattle.command_answers.specs.declared.status.Status.TheVariants as status
 use Rattle.sced.specs.Decided.{AsksMarket, AsksVerdict, Decides, IsDecidedIn, IsDecidedOf, IsMadeOf, as_clear, as_pool}
@@ -106,7 +106,7 @@ told-of : {A : Type 0} (stand : Result A Refusal → Type 0) (right : A → Tell
 told-of {A} stand right x t once here tells = subst (λ (r : Result A Refusal). ComesTo right r t) (once tells.told (Ok x) tells.stands here) tells.comes
 
 -- a certificate of whose sums no pair passes the bound is judged
-verdict-told : (m : Parts) (c : Cert Fraction) (t : Telling) → VerifiesTo most_size m c t → ((p : Passed Fraction) → ¬ (IsCertificatePair m c most_size p)) → t.status ≡ verdict_status (first_reason m c)
+verdict-told : (m : Parts) (c : Cert Fraction) (t : Telling) → VerifiesTo most_size m c t → ((p : Passed Fraction) → ¬ (IsCertificatePair m most_size c p)) → t.status ≡ verdict_status (first_reason m c)
 verdict-told m c t (judged is) none = ap (λ (s : Telling). s.status) is
 verdict-told m c t (passed p pair within is) none = absurd (none p pair)
 
@@ -154,7 +154,7 @@ module _ (files : Files) (words : List (List ℕ)) (t : Telling) where
       comes-decided m t (told-of (AreClearFiles files names) TellsClear m t (clear-files-once files names) here told) none
 
   verified-told : (m : Parts) (c : Cert Fraction) (names : MarketNames) (edits : Option (List ℕ)) (certificate : List ℕ) → AsksVerify words names edits certificate
-      → Tells (AreVerifyFiles files names edits certificate) TellsVerdict t → AsksVerdict files words m c → ((p : Passed Fraction) → ¬ (IsCertificatePair m c most_size p))
+      → Tells (AreVerifyFiles files names edits certificate) TellsVerdict t → AsksVerdict files words m c → ((p : Passed Fraction) → ¬ (IsCertificatePair m most_size c p))
       → t.status ≡ verdict_status (first_reason m c)
   verified-told m c names edits certificate asked told asks none =
       let made : MarketCertificate = record { market = m; certificate = c } in
@@ -175,7 +175,7 @@ module _ (files : Files) (words : List (List ℕ)) (t : Telling) where
   answers-market _ (made buses seed asked told) m asks none = absurd (neither words (codes "make") asked.rows refl refl asked.enters (entered files words m asks))
 
   answers-verdict : (w : Option (List ℕ × List ℕ)) → AnswersTo (Some files) words t w → (m : Parts) (c : Cert Fraction) → AsksVerdict files words m c
-      → ((p : Passed Fraction) → ¬ (IsCertificatePair m c most_size p)) → t.status ≡ verdict_status (first_reason m c)
+      → ((p : Passed Fraction) → ¬ (IsCertificatePair m most_size c p)) → t.status ≡ verdict_status (first_reason m c)
   answers-verdict _ (refused nothing usage) m c asks none = absurd (not-refused words _ asks.asks.rows nothing asks.asks.enters)
   answers-verdict _ (pooled case offers asked told) m c asks none = absurd (no-other words (codes "pool") (codes "verify") asked.rows asks.asks.rows refl asked.enters asks.asks.enters)
   answers-verdict _ (cleared names file asked told) m c asks none = absurd (no-other words (codes "clear") (codes "verify") asked.rows asks.asks.rows refl asked.enters asks.asks.enters)

@@ -9,10 +9,10 @@ use Rattle.market_model.specs.Optimality.{Feasible}
 use Rattle.market_system.specs.WorkingPairs.{NoPairPasses}
 use Rattle.case_maker.specs.Rings.{ring_of}
 use Rattle.cert_format.specs.declared.certificate.Cert.{Cert}
-use Rattle.cert_verify.specs.Certificates.{IsCertificatePair, first_reason}
+use Rattle.cert_verify.specs.Certificates.{first_reason}
 use Rattle.command_words.specs.Words.{AsksClear, AsksMake, AsksPool, AsksVerify, MarketNames}
 use Rattle.command_answers.specs.Clearing.{most_size}
-use Rattle.command_answers.specs.Verifying.{verdict_status}
+use Rattle.command_answers.specs.Verifying.{IsCertificatePair, verdict_status}
 use Rattle.command_answers.specs.declared.status.Status.{Status}
 use Rattle.command_answers.specs.declared.status.Status.TheVariants as status
 use Rattle.sced.specs.Told.{AreClearFiles, ArePoolFiles, AreVerifyFiles}
@@ -39,7 +39,7 @@ pub record AsksVerdict (files : Files) (words : List (List ℕ)) (m : Parts) (c 
 -- certificate holds of whose sums no pair passes it, the status says so.
 pub record IsDecidedIn (files : Files) (words : List (List ℕ)) (s : Status) : Type 0 where
   pub decided : (m : Parts) → AsksMarket files words m → NoPairPasses m [] most_size → Decides m s
-  pub verified : (m : Parts) (c : Cert Fraction) → AsksVerdict files words m c → ((p : Passed Fraction) → ¬ (IsCertificatePair m c most_size p)) → s ≡ verdict_status (first_reason m c)
+  pub verified : (m : Parts) (c : Cert Fraction) → AsksVerdict files words m c → ((p : Passed Fraction) → ¬ (IsCertificatePair m most_size c p)) → s ≡ verdict_status (first_reason m c)
 
 -- so it is where the store tells its files
 abbrev pub IsDecidedOf : Option Files → List (List ℕ) → Status → Type 0
