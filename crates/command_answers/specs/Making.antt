@@ -4,6 +4,7 @@ use Rattle.fraction_theory.specs.Fraction.{Fraction}
 use Rattle.exact_fraction.specs.declared.Passed.{Passed}
 use Rattle.exact_fraction.specs.Written.{written}
 use Rattle.market_model.specs.declared.answered.Answer.{Answer}
+use Rattle.market_model.specs.declared.participants.Parts.{Parts}
 use Rattle.market_model.specs.LimitRows.{rows}
 use Rattle.market_model.specs.RightAnswers.{IsRight}
 use Rattle.market_system.specs.WorkingPairs.{IsRangeOf}
@@ -13,13 +14,16 @@ use Rattle.command_answers.specs.declared.status.Status.TheVariants as status
 use Rattle.command_answers.specs.Clearing.{ArePassedWithin, most_size}
 use Rattle.command_answers.specs.Tellings.{Telling, uncertified}
 
--- how many buses, blocks and limits a ring has
-unfoldable pub ring_line : ℕ → ℕ → List ℕ
-ring_line buses seed =
-    codes "ring " ++ decimal buses ++ codes " seed " ++ decimal seed
-    ++ codes " buses " ++ decimal (length (ring_of buses seed).buses)
-    ++ codes " blocks " ++ decimal (length (ring_of buses seed).blocks)
-    ++ codes " limits " ++ decimal (length (rows (ring_of buses seed))) ++ codes "\n"
+-- the words that a ring is made by
+unfoldable pub title : ℕ → ℕ → List ℕ
+title buses seed = codes "ring " ++ decimal buses ++ codes " seed " ++ decimal seed
+
+-- how many buses, blocks and limits a market has
+unfoldable pub counts : Parts → List ℕ
+counts m = codes " buses " ++ decimal (length m.buses) ++ codes " blocks " ++ decimal (length m.blocks) ++ codes " limits " ++ decimal (length (rows m)) ++ codes "\n"
+
+abbrev pub ring_line : ℕ → ℕ → List ℕ
+ring_line buses seed = title buses seed ++ counts (ring_of buses seed)
 
 -- what an answer is worth, and what is left of what loads pay
 unfoldable pub summary : Answer Fraction → List ℕ

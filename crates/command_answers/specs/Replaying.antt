@@ -1,5 +1,5 @@
 -- What replaying edits and clears of a market comes to.
-use Rattle.std.specs.Prelude.{◌≡◌, ℕ, List, [], ◌∷◌, All, Option, Some, None, option_and_then}
+use Rattle.std.specs.Prelude.{◌≡◌, ℕ, Bool, true, false, if◌then◌else◌, List, [], ◌∷◌, All, Option, Some, None, option_and_then}
 use Rattle.fraction_theory.specs.Fraction.{Fraction}
 use Rattle.market_model.specs.declared.participants.Parts.{Parts}
 use Rattle.market_model.specs.declared.answered.Outcome.{Outcome}
@@ -23,22 +23,21 @@ step_status step.Accepted = status.Done
 step_status (step.Refused f) = status.Refused
 step_status (step.Clear o) = status_of o
 
--- the status, or another one where it is that of what is done
-abbrev pub done_or : Status → Status → Status
-done_or status.Done other = other
-done_or status.Usage other = status.Usage
-done_or status.Refused other = status.Refused
-done_or status.Infeasible other = status.Infeasible
-done_or status.Range other = status.Range
-done_or status.ReadFailed other = status.ReadFailed
-done_or status.WriteFailed other = status.WriteFailed
-done_or status.Memory other = status.Memory
-done_or status.Refuted other = status.Refuted
+abbrev pub is_done : Status → Bool
+is_done status.Done = true
+is_done status.Usage = false
+is_done status.Refused = false
+is_done status.Infeasible = false
+is_done status.Range = false
+is_done status.ReadFailed = false
+is_done status.WriteFailed = false
+is_done status.Memory = false
+is_done status.Refuted = false
 
 -- the status of the first step that was neither accepted nor cleared
 unfoldable pub replay_status : List (StepOutcome Fraction) → Status
 replay_status [] = status.Done
-replay_status (o ∷ os) = done_or (step_status o) (replay_status os)
+replay_status (o ∷ os) = if is_done (step_status o) then replay_status os else step_status o
 
 -- a clear's outcome, or that of one before it
 abbrev pub clear_or : Option (Outcome Fraction) → StepOutcome Fraction → Option (Outcome Fraction)

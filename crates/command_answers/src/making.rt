@@ -2,12 +2,14 @@
 
 ghost use Rattle.std.specs.Prelude.{◌≡◌, ◌≤◌, ◌<◌, ◌^◌, ◌++◌, [], IfOk, decimal};
 ghost use Rattle.case_maker.specs.Rings.{IsRingSize, ring_of};
-ghost use Rattle.market_model.specs.Valued.{answer_at, outcome_at, passed_at};
+ghost use Rattle.market_model.specs.Valued.{answer_at, outcome_at};
 ghost use Rattle.command_answers.specs.Clearing.{most_size};
-ghost use Rattle.command_answers.specs.Making.{MakesTo, ring_line, summary};
+ghost use Rattle.command_answers.specs.Making.{MakesTo, counts, summary, title};
 ghost use Rattle.command_answers.specs.Status.{IsOfWork};
 ghost use Rattle.command_answers.specs.Tellings.{telling_of};
-ghost use Rattle.report_text.specs.Reports.{range_text};
+ghost use Rattle.market_model.specs.Fitting.{FitsOutcome};
+ghost use Rattle.market_model.specs.Market.{IsMarket};
+ghost use Rattle.report_text.specs.Reports.{report_text};
 
 use crate::clearing::cleared;
 use crate::status::Status;
@@ -20,6 +22,14 @@ use market_model::{Answer, MONEY_PLACES, Market, Memory, Outcome};
 use report_text::report;
 use std::alloc::Global;
 
+/// A ring, with the words that it is made by.
+#[derive(Clone, Copy)]
+struct Ring<'a> {
+    buses: usize,
+    seed: u64,
+    market: &'a Market,
+}
+
 /// A word and a number behind it.
 fn numbered(text: &mut Text, word: &[u8], number: usize) -> Result<(), Memory>
     ensures { IfOk result (λ _. text.new ≡ text.old ++ word.now ++ decimal number) }
@@ -28,19 +38,20 @@ fn numbered(text: &mut Text, word: &[u8], number: usize) -> Result<(), Memory>
     text.number(number)
 }
 
-/// How many buses, blocks and limits a ring has.
-#[tactic(auto, using(std::proofs::Common::append_assoc), unfolding(crate::specs::Making::ring_line))]
-fn ring_line(
-    text: &mut Text,
-    buses: usize,
-    seed: u64,
-    market: &Market,
-) -> Result<(), Memory>
-    requires { market.now ≡ ring_of buses seed }
-    ensures { IfOk result (λ _. text.new ≡ text.old ++ ring_line buses seed) }
+/// The words that a ring is made by.
+#[tactic(auto, using(std::proofs::Common::append_assoc), unfolding(crate::specs::Making::title))]
+fn title(text: &mut Text, buses: usize, seed: u64) -> Result<(), Memory>
+    ensures { IfOk result (λ _. text.new ≡ text.old ++ title buses seed) }
 {
     numbered(text, b"ring ", buses)?;
-    numbered(text, b" seed ", seed as usize)?;
+    numbered(text, b" seed ", seed as usize)
+}
+
+/// How many buses, blocks and limits a market has.
+#[tactic(auto, using(std::proofs::Common::append_assoc), unfolding(crate::specs::Making::counts))]
+fn counts(text: &mut Text, market: &Market) -> Result<(), Memory>
+    ensures { IfOk result (λ _. text.new ≡ text.old ++ counts market.now) }
+{
     numbered(text, b" buses ", market.buses().len())?;
     numbered(text, b" blocks ", market.blocks().len())?;
     numbered(text, b" limits ", count(market))?;
@@ -57,33 +68,58 @@ fn summary<N: Exact>(text: &mut Text, answer: &Answer<N>) -> Result<(), Memory>
     text.word(b"\n")
 }
 
-/// What clearing a ring comes to.
-fn ring_told<N: Exact>(
+/// The size of a ring, with what it comes to behind.
+#[tactic(auto, using(std::proofs::Common::append_assoc))]
+fn cleared_text<N: Exact>(
     alloc: Global,
-    market: &Market,
-    buses: usize,
-    seed: u64,
-) -> Result<Told, Memory>
-    requires ring { market.now ≡ ring_of buses seed }
-    requires size { IsRingSize buses }
-    requires small { seed ≤ 4294967295 }
-    ensures status { IfOk result (λ told. IsOfWork told.status) }
-    ensures makes { IfOk result (λ told. MakesTo N.bound buses seed (telling_of told)) }
+    ring: &Ring<'_>,
+    answer: &Answer<N>,
+) -> Result<Vec<u8>, Memory>
+    ensures { IfOk result (λ bytes. bytes.items ≡ (title ring.now.buses ring.now.seed ++ counts ring.now.market.now) ++ summary (answer_at N.value answer.now)) }
 {
-    let outcome = cleared::<N>(alloc, market)?;
     let mut text = Text::new(alloc);
-    ring_line(&mut text, buses, seed, market)?;
+    title(&mut text, ring.buses, ring.seed)?;
+    counts(&mut text, ring.market)?;
+    summary(&mut text, answer)?;
+    Ok(text.into_bytes())
+}
+
+/// The size of a ring, with the report of what it comes to behind.
+#[tactic(auto, using(std::proofs::Common::append_assoc))]
+fn reported_text<N: Exact>(
+    alloc: Global,
+    ring: &Ring<'_>,
+    outcome: &Outcome<N>,
+) -> Result<Vec<u8>, Memory>
+    requires { FitsOutcome ring.now.market.now outcome.now }
+    ensures { IfOk result (λ bytes. bytes.items ≡ (title ring.now.buses ring.now.seed ++ counts ring.now.market.now) ++ report_text ring.now.market.now (outcome_at N.value outcome.now)) }
+{
+    let mut text = Text::new(alloc);
+    title(&mut text, ring.buses, ring.seed)?;
+    counts(&mut text, ring.market)?;
+    let report = report(alloc, ring.market, outcome)?;
+    text.word(report.as_slice())?;
+    Ok(text.into_bytes())
+}
+
+/// What clearing a ring comes to.
+fn ring_told<N: Exact>(alloc: Global, ring: &Ring<'_>) -> Result<Told, Memory>
+    requires ring { ring.now.market.now ≡ ring_of ring.now.buses ring.now.seed }
+    requires kept { IsMarket ring.now.market.now }
+    ensures status { IfOk result (λ told. IsOfWork told.status) }
+    ensures makes { IfOk result (λ told. MakesTo N.bound ring.now.buses ring.now.seed (telling_of told)) }
+{
+    let outcome = cleared::<N>(alloc, ring.market)?;
     match &outcome {
-        Outcome::Cleared(answer) => {
-            summary(&mut text, answer)?;
-            Ok(uncertified(Status::Done, text.into_bytes()))
-        }
+        Outcome::Cleared(answer) => Ok(uncertified(
+            Status::Done,
+            cleared_text(alloc, ring, answer)?,
+        )),
         Outcome::Infeasible(_) => unreachable!(),
-        Outcome::Range(_) => {
-            let range = report(alloc, market, &outcome)?;
-            text.word(range.as_slice())?;
-            Ok(uncertified(Status::Range, text.into_bytes()))
-        }
+        Outcome::Range(_) => Ok(uncertified(
+            Status::Range,
+            reported_text(alloc, ring, &outcome)?,
+        )),
     }
 }
 
@@ -95,5 +131,12 @@ pub fn make_told(alloc: Global, buses: usize, seed: u64) -> Result<Told, Memory>
     ensures makes { IfOk result (λ told. MakesTo most_size buses seed (telling_of told)) }
 {
     let market = ring(alloc, buses, seed)?;
-    ring_told::<Frac>(alloc, &market, buses, seed)
+    ring_told::<Frac>(
+        alloc,
+        &Ring {
+            buses,
+            seed,
+            market: &market,
+        },
+    )
 }

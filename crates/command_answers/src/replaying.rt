@@ -1,6 +1,7 @@
 //! Edits and clears of a market, one after another.
 
 ghost use Rattle.std.specs.Prelude.{◌≡◌, ◌≢◌, None, All, IfOk, IfSome, length, map, option_and_then, option_map};
+ghost use Rattle.fraction_theory.specs.Fraction.{Fraction};
 ghost use Rattle.cert_format.specs.Written.{certificate_of};
 ghost use Rattle.edit_replay.specs.Replays.{step_outcome_at};
 ghost use Rattle.edit_table.specs.EditTable.{AreSteps, IsStep};
@@ -8,7 +9,7 @@ ghost use Rattle.market_inputs.specs.Stops.{IsToldAs};
 ghost use Rattle.market_model.specs.Market.{IsMarket};
 ghost use Rattle.market_model.specs.Valued.{outcome_at};
 ghost use Rattle.command_answers.specs.Inputs.{IsReplayed, steps_with, texts_of};
-ghost use Rattle.command_answers.specs.Replaying.{ReplaysTo, TellsReplay, last_clear, replay_status, step_status};
+ghost use Rattle.command_answers.specs.Replaying.{ReplaysTo, TellsReplay, clear_or, is_done, last_clear, replay_status, step_status};
 ghost use Rattle.command_answers.specs.Status.{IsOfWork};
 ghost use Rattle.command_answers.specs.Tellings.{Tells, telling_of};
 
@@ -58,6 +59,12 @@ fn step_status<N: Exact>(outcome: &StepOutcome<N>) -> Status
     }
 }
 
+fn is_done(status: Status) -> bool
+    ensures { result ≡ is_done status }
+{
+    matches!(status, Status::Done)
+}
+
 /// The status of the first step that was neither accepted nor cleared.
 fn replay_status<N: Exact>(outcomes: &Outcomes<N>) -> Status
     ensures status { result ≡ replay_status (map (step_outcome_at N.value) outcomes.now) }
@@ -65,7 +72,7 @@ fn replay_status<N: Exact>(outcomes: &Outcomes<N>) -> Status
 {
     for outcome in outcomes.slice() {
         let status = step_status(outcome);
-        if status != Status::Done {
+        if !is_done(status) {
             return status;
         }
     }
@@ -76,7 +83,9 @@ fn replay_status<N: Exact>(outcomes: &Outcomes<N>) -> Status
 fn clear_or<'a, N>(
     before: Option<&'a Outcome<N>>,
     outcome: &'a StepOutcome<N>,
-) -> Option<&'a Outcome<N>> {
+) -> Option<&'a Outcome<N>>
+    ensures { (value : N → Fraction) → option_map (λ o. outcome_at value o.now) result ≡ clear_or (option_map (λ o. outcome_at value o.now) before.entry) (step_outcome_at value outcome.entry.now) }
+{
     match outcome {
         StepOutcome::Clear(outcome) => Some(outcome),
         _ => before,

@@ -20,7 +20,7 @@ pub struct Told {
 /// A status and its text, of which there is no certificate.
 pub(crate) fn uncertified(status: Status, text: Vec<u8>) -> Told
     ensures status { result.status ≡ status }
-    ensures { telling_of result ≡ uncertified status text.items }
+    ensures telling { telling_of result ≡ uncertified status text.items }
 {
     Told {
         status,
@@ -32,7 +32,7 @@ pub(crate) fn uncertified(status: Status, text: Vec<u8>) -> Told
 /// The line that refuses a file.
 pub(crate) fn refused(alloc: Global, refusal: &Refusal) -> Result<Told, Memory>
     ensures status { IfOk result (λ told. IsOfWork told.status) }
-    ensures { IfOk result (λ told. telling_of told ≡ refusal_of refusal.now) }
+    ensures telling { IfOk result (λ told. telling_of told ≡ refusal_of refusal.now) }
 {
     let text = refusal_text(alloc, refusal)?;
     Ok(uncertified(Status::Refused, text))

@@ -28,7 +28,7 @@ abbrev pub OfOne : {A : Type 0} → (Result A Refusal → Type 0) → Type 0
 OfOne {A} P = (a b : Result A Refusal) → P a → P b → a ≡ b
 
 -- ---- steps
-is-once : {A : Type 0} (made : Result A Refusal) → OfOne (Is made)
+pub is-once : {A : Type 0} (made : Result A Refusal) → OfOne (Is made)
 is-once made a b h k = sym h ∙ k
 
 module _ {A B : Type 0} (P : Result A Refusal → Type 0) (Q : A → Result B Refusal → Type 0) where
@@ -36,7 +36,7 @@ module _ {A B : Type 0} (P : Result A Refusal → Type 0) (Q : A → Result B Re
   onward-once next (Ok x) is a b h k = next x is a b h k
   onward-once next (Err r) is a b h k = h ∙ sym k
 
-  then-once : OfOne P → ((x : A) → P (Ok x) → OfOne (Q x)) → OfOne (Then P Q)
+  pub then-once : OfOne P → ((x : A) → P (Ok x) → OfOne (Q x)) → OfOne (Then P Q)
   then-once first next a b h k = onward-once next h.made h.is a b h.rest (subst (λ (m : Result A Refusal). Onward m Q b) (first k.made h.made k.is h.is) k.rest)
 
 -- ---- a joined network

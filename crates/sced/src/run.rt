@@ -1,6 +1,6 @@
 //! From words and files to the certificate that is written and the text that is put.
 
-ghost use Rattle.std.specs.Prelude.{◌≡◌, ◌⊎◌, ℕ, List, map, option_map, string_bytes, Some, Ok, Err, IfOk, IsErr, MatchResult};
+ghost use Rattle.std.specs.Prelude.{◌≡◌, ◌⊎◌, ℕ, List, map, option_map, string_bytes, Some, Ok, Err, IfErr, IfOk, IsErr, IsSome, MatchResult};
 ghost use Rattle.outside_store.specs.Causes.{Rose, Still};
 ghost use Rattle.outside_store.specs.Sinks.{Took, CountFault};
 ghost use Rattle.command_answers.specs.Tellings.{telling_of};
@@ -28,7 +28,7 @@ fn with_file<'a>(
     told: Result<Told, Status>,
     file: Option<&'a str>,
 ) -> Result<Work<'a>, Status>
-    ensures { MatchResult result (λ work. (told ≡ Ok work.told) × (work.file ≡ file)) (λ status. told ≡ Err status) }
+    ensures { MatchResult result (λ work. (told ≡ Ok work.told) × (name_for work ≡ option_map (λ n. n.now) file.entry)) (λ status. told ≡ Err status) }
 {
     match told {
         Ok(told) => Ok(Work { told, file }),
@@ -80,6 +80,7 @@ fn asked_work<'a, S: Store>(
 /// Writes the certificate that there is to the file that is named for it.
 fn keep<S: Store>(store: &mut S, work: &Work<'_>) -> Result<(), Failed>
     ensures kept { Keeps (IsErr result) (written_by work.now) (S.files store.old) (S.files store.new) }
+    ensures some { IfErr result (λ _. IsSome (written_by work.now)) }
     ensures writes { WritesFor S.Store store.old store.new (name_for work.now) (IsErr result) }
     ensures reads { Still (S.failed_reads store.old) (S.failed_reads store.new) }
 {

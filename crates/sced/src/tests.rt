@@ -274,8 +274,8 @@ fn refuses_words(rt: HostRuntime) -> Result<(), Fail> {
             "Clears the market as if no branch had a limit\n\nUsage: sced pool --case <case> --offers <offers>\n",
         ),
         (
-            "sced replay --case a",
-            "error: unrecognized subcommand 'replay'\n",
+            "sced reply --case a",
+            "error: unrecognized subcommand 'reply'\n",
         ),
         (
             "sced pool --case a --offer b",

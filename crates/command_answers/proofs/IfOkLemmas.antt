@@ -1,0 +1,7 @@
+-- What is right for what is made.
+use Rattle.std.proofs.Common.{Result, Ok, Err}
+use Rattle.std.specs.Prelude.{IfOk}
+
+pub if_ok-map : {A E : Type 0} (P Q : A → Type 0) (r : Result A E) → ((x : A) → P x → Q x) → IfOk r P → IfOk r Q
+if_ok-map P Q (Ok x) f right = f x right
+if_ok-map P Q (Err e) f right = tt

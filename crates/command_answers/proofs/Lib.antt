@@ -1,0 +1,4 @@
+pub mod IfOkLemmas
+pub mod ReplayLemmas
+pub mod RingLemmas
+pub mod TellingLemmas

@@ -1,0 +1,108 @@
+-- Statuses, and what the last clear came to, one outcome after another.
+use Rattle.std.proofs.Common.{◌≡◌, ◌<◌, ◌≤◌, ◌∙◌, ℕ, ◌+◌, Bool, true, false, if◌then◌else◌, List, [], ◌∷◌, All, drop, get_or, map, length, Option, None, refl, sym, ap, subst}
+use Rattle.std.specs.Prelude.{option_and_then}
+use Rattle.std.proofs.lemmas.List.Elements.{All-cons, All-nil}
+use Rattle.std.proofs.lemmas.List.{at_drop_all, at_drop_more}
+use Rattle.fraction_theory.specs.Fraction.{Fraction}
+use Rattle.market_model.specs.declared.answered.Outcome.{Outcome}
+use Rattle.edit_replay.specs.Replays.{step_outcome_at}
+use Rattle.edit_replay.specs.declared.step_outcome.StepOutcome.{StepOutcome}
+use Rattle.command_answers.specs.declared.status.Status.{Status}
+use Rattle.command_answers.specs.declared.status.Status.TheVariants as status
+use Rattle.market_model.specs.declared.answered.Outcome.TheVariants as outcome
+use Rattle.market_model.specs.declared.participants.Parts.{Parts}
+use Rattle.market_model.specs.Valued.{outcome_at}
+use Rattle.clear_loop.specs.Keeping.{cold}
+use Rattle.cert_format.specs.Written.{certificate_of}
+use Rattle.edit_table.specs.declared.Step.{Step}
+use Rattle.edit_replay.specs.SessionStates.{SessionState}
+use Rattle.edit_replay.specs.Replays.{IsReplay}
+use Rattle.edit_replay.specs.declared.step_outcome.StepOutcome.TheVariants as step
+use Rattle.replay_text.specs.ReplayTexts.{replayed}
+use Rattle.command_answers.specs.Clearing.{AreSidesWithin, IsWithin}
+use Rattle.command_answers.specs.Tellings.{Telling}
+use Rattle.command_answers.specs.Replaying.{AreStepSidesWithin, ReplaysTo, clear_or, is_done, last_clear, replay_status, step_status}
+
+-- the first outcome and those behind it
+status_first : (o : StepOutcome Fraction) (os : List (StepOutcome Fraction)) → replay_status (o ∷ os) ≡ (if is_done (step_status o) then replay_status os else step_status o)
+unfolding replay_status
+status_first o os = refl
+
+last_first : (before : Option (Outcome Fraction)) (o : StepOutcome Fraction) (os : List (StepOutcome Fraction)) → last_clear before (o ∷ os) ≡ last_clear (clear_or before o) os
+unfolding last_clear
+last_first before o os = refl
+
+status_none : replay_status [] ≡ status.Done
+unfolding replay_status
+status_none = refl
+
+last_none : (before : Option (Outcome Fraction)) → last_clear before [] ≡ before
+unfolding last_clear
+last_none before = refl
+
+-- where none is left
+module _ {N : Type 0} (value : N → Fraction) (outcomes : List (StepOutcome N)) (k : ℕ) (over : length outcomes ≤ k) where
+  pub status_over : replay_status (map (step_outcome_at value) (drop k outcomes)) ≡ replay_status (map (step_outcome_at value) outcomes) → status.Done ≡ replay_status (map (step_outcome_at value) outcomes)
+  status_over before = sym (at_drop_all (λ os. replay_status (map (step_outcome_at value) os)) outcomes k over ∙ status_none) ∙ before
+
+  pub last_over : (before all : Option (Outcome Fraction)) → last_clear before (map (step_outcome_at value) (drop k outcomes)) ≡ all → before ≡ all
+  last_over before all told = sym (at_drop_all (λ os. last_clear before (map (step_outcome_at value) os)) outcomes k over ∙ last_none before) ∙ told
+
+-- where one is left
+module _ {N : Type 0} (value : N → Fraction) (outcomes : List (StepOutcome N)) (k : ℕ) (x : StepOutcome N) (within : k < length outcomes) (item : x ≡ get_or outcomes k x) where
+  abbrev status_from : List (StepOutcome N) → Status
+  status_from os = replay_status (map (step_outcome_at value) os)
+
+  abbrev last_from : Option (Outcome Fraction) → List (StepOutcome N) → Option (Outcome Fraction)
+  last_from before os = last_clear before (map (step_outcome_at value) os)
+
+  status_at : status_from (drop k outcomes) ≡ (if is_done (step_status (step_outcome_at value x)) then status_from (drop (k + 1) outcomes) else step_status (step_outcome_at value x))
+  status_at =
+      at_drop_more status_from outcomes k x within
+      ∙ ap (λ y. status_from (y ∷ drop (k + 1) outcomes)) (sym item)
+      ∙ status_first (step_outcome_at value x) (map (step_outcome_at value) (drop (k + 1) outcomes))
+
+  pub status_goes_on : (s : Status) → s ≡ step_status (step_outcome_at value x) → is_done s ≡ true → status_from (drop k outcomes) ≡ status_from outcomes → status_from (drop (k + 1) outcomes) ≡ status_from outcomes
+  status_goes_on s is done before =
+      sym (ap (λ b. if b then status_from (drop (k + 1) outcomes) else step_status (step_outcome_at value x)) (ap is_done (sym is) ∙ done)) ∙ sym status_at ∙ before
+
+  pub status_ends : (s : Status) → s ≡ step_status (step_outcome_at value x) → is_done s ≡ false → status_from (drop k outcomes) ≡ status_from outcomes → s ≡ status_from outcomes
+  status_ends s is undone before =
+      is ∙ sym (ap (λ b. if b then status_from (drop (k + 1) outcomes) else step_status (step_outcome_at value x)) (ap is_done (sym is) ∙ undone)) ∙ sym status_at ∙ before
+
+  pub last_goes_on : (before after all : Option (Outcome Fraction)) → after ≡ clear_or before (step_outcome_at value x) → last_from before (drop k outcomes) ≡ all → last_from after (drop (k + 1) outcomes) ≡ all
+  last_goes_on before after all is told =
+      ap (λ b. last_from b (drop (k + 1) outcomes)) is
+      ∙ sym (at_drop_more (last_from before) outcomes k x within ∙ ap (λ y. last_from before (y ∷ drop (k + 1) outcomes)) (sym item) ∙ last_first before (step_outcome_at value x) (map (step_outcome_at value) (drop (k + 1) outcomes)))
+      ∙ told
+
+-- ---- a replay as it is told
+module _ {N : Type 0} (value : N → Fraction) (bound : ℕ) (fits : (x : N) → IsWithin bound (value x)) where
+  -- the two sides of an operation that was refused are within the bound, as all numbers of their type
+  sides_within : (o : Outcome N) → AreSidesWithin bound (outcome_at value o)
+  sides_within (outcome.Cleared a) = tt
+  sides_within (outcome.Infeasible f) = tt
+  sides_within (outcome.Range p) = (fits p.left, fits p.right)
+
+  step_within : (o : StepOutcome N) → AreStepSidesWithin bound (step_outcome_at value o)
+  step_within step.Accepted = tt
+  step_within (step.Refused f) = tt
+  step_within (step.Clear o) = sides_within o
+
+  all_within : (os : List (StepOutcome N)) → All (AreStepSidesWithin bound) (map (step_outcome_at value) os)
+  all_within [] = All-nil (AreStepSidesWithin bound)
+  all_within (o ∷ os) = All-cons (AreStepSidesWithin bound) (step_outcome_at value o) (map (step_outcome_at value) os) (step_within o) (all_within os)
+
+  pub replays_to : (m : Parts) (steps : List Step) (start now : SessionState) (outcomes : List (StepOutcome N)) (t : Telling) → start ≡ record { market = m; kept = cold }
+      → IsReplay bound start.market start.kept.rows steps (map (step_outcome_at value) outcomes) now.kept.rows
+      → t.status ≡ replay_status (map (step_outcome_at value) outcomes) → t.text ≡ replayed m steps (map (step_outcome_at value) outcomes)
+      → t.certificate ≡ option_and_then certificate_of (last_clear None (map (step_outcome_at value) outcomes)) → ReplaysTo bound m steps t
+  replays_to m steps start now outcomes t is replay status_is text_is certificate_is = record {
+    outcomes = map (step_outcome_at value) outcomes;
+    taken = now.kept.rows;
+    right = subst (λ (s : SessionState). IsReplay bound s.market s.kept.rows steps (map (step_outcome_at value) outcomes) now.kept.rows) is replay;
+    sides = all_within outcomes;
+    status_is = status_is;
+    text_is = text_is;
+    certificate_is = certificate_is;
+  }
