@@ -1,4 +1,5 @@
 pub mod PlainLemmas
 pub mod RequestLemmas
 pub mod Rows
+pub mod SeedLemmas
 pub mod WordsLemmas
