@@ -1,12 +1,11 @@
 -- The seed that is read of a text is the one that the text stands for.
-use Rattle.std.proofs.Common.{◌≡◌, ◌×◌, ◌≤◌, ◌<◌, refl, sym, ap, arith, ℕ, Bool, true, false, List, [], ◌∷◌, length, nat_le, nat_lt, Option, Some, None, Result, Ok, Err, true≢false, lt-ltb, ltb-true}
+use Rattle.std.proofs.Common.{◌≡◌, ◌≤◌, ◌<◌, refl, sym, ap, arith, ℕ, Bool, true, false, List, [], ◌∷◌, length, nat_le, nat_lt, Option, Some, None, Result, Ok, Err, true≢false, lt-ltb, ltb-true}
 use Rattle.std.specs.Char.{digit_value}
 use Rattle.std.specs.List.{list_all}
 use Rattle.std.specs.Option.{option_map_or}
 use Rattle.std.specs.Prelude.{unwrap_or}
 use Rattle.std.specs.Result.{result_unwrap_or}
-use Rattle.std.specs.Str.Parse.{AllDigits, ExplainsUnsignedError, HasUnsignedDigitsIfOk, ParsesUnsigned, digits_value, without_leading_plus}
-use Rattle.std.specs.declared.str.parse.ParseIntError.{ParseIntError}
+use Rattle.std.specs.Str.Parse.{AllDigits, ParsesUnsigned, digits_value, without_leading_plus}
 use Rattle.std.proofs.lemmas.Bool.{le-leb, leb-true}
 use Rattle.clap.specs.Words.{ReadsOne, Text}
 use Rattle.clap.proofs.WalkLemmas.{both}
@@ -30,23 +29,21 @@ seed-read text (Ok n) h =
 seed-read text (Err e) h = go (writes_seed (without_leading_plus text)) refl
   where
     go : (b : Bool) → writes_seed (without_leading_plus text) ≡ b → 0 ≡ seed_named text
-    go false no = rw no refl
-    go true yes =
-        let some = both _ _ yes in
+    go false other = rw other refl
+    go true writes =
+        let some = both _ _ writes in
         let rest = both _ _ some.1 in
         let most : digits_value 10 (without_leading_plus text) ≤ 4294967295 = leb-true _ _ rest.1 in
         let under : digits_value 10 (without_leading_plus text) < 4294967296 = omega arith in
         absurd (h ((ltb-true _ _ some.0, digits-are (without_leading_plus text) rest.0), under))
 
--- how a number of 32 bits is read of a text
-abbrev ReadsSeed : Text → Result ℕ ParseIntError → Type 0
-ReadsSeed text r = ParsesUnsigned 32 10 text r × ExplainsUnsignedError 10 text r × HasUnsignedDigitsIfOk text r
+-- what reads a text as a number of 32 bits reads the seed
+module _ {E : Type 0} (gives : Text → Result ℕ E → Type 0) (parses : (text : Text) (r : Result ℕ E) → gives text r → ParsesUnsigned 32 10 text r) where
+  one-read : (text : Text) (o : Option ℕ) → ReadsOne gives text o → unwrap_or o 0 ≡ seed_named text
+  one-read text (Some n) h = seed-read {E = E} text (Ok n) (parses text (Ok n) h)
+  one-read text None h = seed-read {E = E} text (Err h.0) (parses text (Err h.0) h.1)
 
-one-read : (text : Text) (o : Option ℕ) → ReadsOne ReadsSeed text o → unwrap_or o 0 ≡ seed_named text
-one-read text (Some n) h = seed-read text (Ok n) h.0
-one-read text None h = seed-read text (Err h.0) h.1.0
-
-pub seed-given : (given : Option Text) (o : Option ℕ) → (given ≡ None → o ≡ None) → ((text : Text) → given ≡ Some text → ReadsOne ReadsSeed text o)
-    → unwrap_or o 0 ≡ option_map_or seed_named given 0
-seed-given None o none some = ap (λ (x : Option ℕ). unwrap_or x 0) (none refl)
-seed-given (Some text) o none some = one-read text o (some text refl)
+  pub seed-given : (given : Option Text) (o : Option ℕ) → (given ≡ None → o ≡ None) → ((text : Text) → given ≡ Some text → ReadsOne gives text o)
+      → unwrap_or o 0 ≡ option_map_or seed_named given 0
+  seed-given None o none some = ap (λ (x : Option ℕ). unwrap_or x 0) (none refl)
+  seed-given (Some text) o none some = one-read text o (some text refl)

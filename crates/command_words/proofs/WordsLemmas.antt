@@ -119,8 +119,7 @@ asks-once words case offers case' offers' asks asks' =
 pub clears-once : (words : List Text) (names names' : MarketNames) (certificate certificate' : Option Text)
     → AsksClear words names certificate → AsksClear words names' certificate' → (names ≡ names') × (certificate ≡ certificate')
 clears-once words names names' certificate certificate' asks asks' =
-    let rows = (enters-once words _ _ asks.rows asks'.rows asks.enters asks'.enters).1 in
-    (
+    let rows = (enters-once words _ _ asks.rows asks'.rows asks.enters asks'.enters).1 in (
       asks.names_are ∙ ap market_names rows ∙ sym asks'.names_are,
       asks.certificate_is ∙ ap (first_of (codes "certificate")) rows ∙ sym asks'.certificate_is,
     )
@@ -128,8 +127,7 @@ clears-once words names names' certificate certificate' asks asks' =
 pub replays-once : (words : List Text) (names names' : MarketNames) (edits edits' : Text) (certificate certificate' : Option Text)
     → AsksReplay words names edits certificate → AsksReplay words names' edits' certificate' → (names ≡ names') × (edits ≡ edits') × (certificate ≡ certificate')
 replays-once words names names' edits edits' certificate certificate' asks asks' =
-    let rows = (enters-once words _ _ asks.rows asks'.rows asks.enters asks'.enters).1 in
-    (
+    let rows = (enters-once words _ _ asks.rows asks'.rows asks.enters asks'.enters).1 in (
       asks.names_are ∙ ap market_names rows ∙ sym asks'.names_are,
       asks.edits_is ∙ ap (file_of (codes "edits")) rows ∙ sym asks'.edits_is,
       asks.certificate_is ∙ ap (first_of (codes "certificate")) rows ∙ sym asks'.certificate_is,
@@ -138,8 +136,7 @@ replays-once words names names' edits edits' certificate certificate' asks asks'
 pub verifies-once : (words : List Text) (names names' : MarketNames) (edits edits' : Option Text) (certificate certificate' : Text)
     → AsksVerify words names edits certificate → AsksVerify words names' edits' certificate' → (names ≡ names') × (edits ≡ edits') × (certificate ≡ certificate')
 verifies-once words names names' edits edits' certificate certificate' asks asks' =
-    let rows = (enters-once words _ _ asks.rows asks'.rows asks.enters asks'.enters).1 in
-    (
+    let rows = (enters-once words _ _ asks.rows asks'.rows asks.enters asks'.enters).1 in (
       asks.names_are ∙ ap market_names rows ∙ sym asks'.names_are,
       asks.edits_is ∙ ap (first_of (codes "edits")) rows ∙ sym asks'.edits_is,
       asks.certificate_is ∙ ap (file_of (codes "certificate")) rows ∙ sym asks'.certificate_is,
