@@ -1,9 +1,9 @@
 -- Words that the command refuses, and what it reads in words that it takes.
 use Rattle.std.proofs.Common.{◌≡◌, refl, true, false, codes, List, [], ◌∷◌, ◌++◌, Option, Some, None, option_map}
 use Rattle.std.proofs.Common.{ℕ}
-use Rattle.clap.specs.Words.{Row, Text, subcommand_of}
+use Rattle.clap.specs.Words.{Row, Text, one_of, subcommand_of}
 use Rattle.clap.proofs.OnLiterals.{clap_on_literals}
-use Rattle.command_words.specs.Words.{MarketNames, market_names, refuses, sced_app, sced_app_over, seed_of, size_of}
+use Rattle.command_words.specs.Words.{MarketNames, market_names, refuses, sced_app, sced_app_over, size_of}
 use Rattle.net_case.specs.declared.live_parts.PostRating.TheVariants as post
 
 -- the words of a clear that names what it must
@@ -90,9 +90,9 @@ certificate-taken : refuses (no_certificate ++ codes "--certificate" ∷ codes "
 unfolding clap_on_literals refuses sced_app sced_app_over
 certificate-taken = refl
 
--- the number of buses and the seed of the words
-abbrev ring_by : List Text → Option (ℕ × ℕ)
-ring_by words = option_map (λ (entry : Text × List Row). (size_of entry.1, seed_of entry.1)) (subcommand_of sced_app words)
+-- the number of buses that the words give, and the text of the seed
+abbrev ring_by : List Text → Option (ℕ × Option Text)
+ring_by words = option_map (λ (entry : Text × List Row). (size_of entry.1, one_of (codes "SEED") entry.1)) (subcommand_of sced_app words)
 
 four-taken : refuses (of_size (codes "4") (codes "7")) ≡ false
 unfolding clap_on_literals refuses sced_app sced_app_over
@@ -106,7 +106,7 @@ greatest-taken : refuses (of_size (codes "64") (codes "4294967295")) ≡ false
 unfolding clap_on_literals refuses sced_app sced_app_over
 greatest-taken = refl
 
-greatest-read : ring_by (of_size (codes "64") (codes "4294967295")) ≡ Some (64, 4294967295)
+greatest-read : ring_by (of_size (codes "64") (codes "4294967295")) ≡ Some (64, Some (codes "4294967295"))
 unfolding clap_on_literals sced_app sced_app_over
 greatest-read = refl
 

@@ -2,11 +2,12 @@
 use Rattle.std.proofs.Common.{◌≡◌, ◌≢◌, ◌⊎◌, ◌∙◌, refl, sym, ap, subst, ℕ, Bool, true, false, List, [], ◌∷◌, map, Result, Ok, Err, inl, inr, Option, Some, None, option_map, codes}
 use Rattle.std.proofs.lemmas.Slice.Eq.{bytes_eq-Decides}
 use Rattle.std.specs.Str.{bytes_eq}
+use Rattle.std.specs.Str.Parse.{digits_value, without_leading_plus}
 use Rattle.std.specs.Box.{box_value}
 use Rattle.std.specs.Prelude.{Box, find, unwrap_or}
 use Rattle.clap.specs.Simple.{Shape, built, built_leaf, entered, inherited, label_of, marked_built, on_top, subcommand_rows}
 use Rattle.clap.specs.Walk.{answers_to, rows_after}
-use Rattle.clap.specs.Words.{App, FailsBy, HasKind, IsAmong, Kinds, Row, Text, fault_of, first_of, is_simple, is_simple_and_free, kind_of, subcommand_name_of, subcommand_of, subcommand_rows_of}
+use Rattle.clap.specs.Words.{App, FailsBy, HasKind, IsAmong, Kinds, Row, Text, fault_of, first_of, is_simple, one_of, is_simple_and_free, kind_of, subcommand_name_of, subcommand_of, subcommand_rows_of}
 use Rattle.clap.specs.declared.parser.matches.ArgMatches.{ArgMatches}
 use Rattle.clap.specs.declared.parser.matches.ArgMatches.TheViews.{out-ArgMatches, out-SubCommand}
 use Rattle.clap.specs.declared.parser.matches.SubCommand.{SubCommand}
@@ -14,7 +15,7 @@ use Rattle.clap.specs.declared.error.Error.{Error}
 use Rattle.clap.specs.declared.error.kind.ErrorKind.{ErrorKind}
 use Rattle.clap.specs.declared.error.kind.ErrorKind.TheVariants as kind
 use Rattle.clap.proofs.OnLiterals.{clap_on_literals}
-use Rattle.command_words.specs.Words.{AsksCheck, AsksClear, AsksMake, AsksPool, AsksReplay, AsksVerify, CheckNames, Enters, MarketNames, NameList, Spells, check_app, check_names, clear_app, file_of, is_fault, make_app, market_names, pool_app, rating_words, refuses, replay_app, sced_app, sced_app_over, seed_of, size_of, size_words, spelled, verify_app}
+use Rattle.command_words.specs.Words.{AsksCheck, AsksClear, AsksMake, AsksPool, AsksReplay, AsksVerify, CheckNames, Enters, MarketNames, NameList, Spells, Writes, check_app, check_names, clear_app, file_of, is_fault, make_app, market_names, pool_app, rating_words, refuses, replay_app, sced_app, sced_app_over, size_words, spelled, verify_app}
 use Rattle.command_words.proofs.PlainLemmas.{entered-anywhere, fault-anywhere}
 
 free : (sizes ratings : NameList) → is_simple_and_free (sced_app_over sizes ratings) ≡ true
@@ -146,10 +147,17 @@ pub checks-once : (words : List Text) (names names' : CheckNames) → AsksCheck 
 checks-once words names names' asks asks' =
     asks.names_are ∙ ap check_names (enters-once words _ _ asks.rows asks'.rows asks.enters asks'.enters).1 ∙ sym asks'.names_are
 
+-- a text writes one number, so the same text the same
+writes-once : (text text' : Text) (n n' : ℕ) → Some text ≡ Some text' → Writes text n → Writes text' n' → n ≡ n'
+writes-once text text' n n' same writes writes' =
+    writes.1 ∙ ap (λ (o : Option Text). digits_value 10 (without_leading_plus (unwrap_or o text))) same ∙ sym writes'.1
+
 pub makes-once : (words : List Text) (buses buses' seed seed' : ℕ) → AsksMake words buses seed → AsksMake words buses' seed' → (buses ≡ buses') × (seed ≡ seed')
 makes-once words buses buses' seed seed' asks asks' =
-    let rows = (enters-once words _ _ asks.rows asks'.rows asks.enters asks'.enters).1 in
-    (asks.buses_are ∙ ap size_of rows ∙ sym asks'.buses_are, asks.seed_is ∙ ap seed_of rows ∙ sym asks'.seed_is)
+    let rows = (enters-once words _ _ asks.rows asks'.rows asks.enters asks'.enters).1 in (
+      writes-once asks.size_text asks'.size_text buses buses' (sym asks.size_given ∙ ap (first_of (codes "N")) rows ∙ asks'.size_given) asks.size_written asks'.size_written,
+      writes-once asks.seed_text asks'.seed_text seed seed' (sym asks.seed_given ∙ ap (one_of (codes "SEED")) rows ∙ asks'.seed_given) asks.seed_written asks'.seed_written,
+    )
 
 -- ---- which subcommand was entered
 -- the name is that of one of these
@@ -185,14 +193,14 @@ entered-one app (Some (word, rest)) name rows is = go (find (λ s. answers_to wo
         subst (λ n. IsOneOf n app.subs) this (found-among (λ t. answers_to word (label_of t)) app.subs s found)
 
 -- its six subcommands, as they are built
-abbrev built_under : Shape → Shape
+abbrev pub built_under : Shape → Shape
 built_under sub = built_leaf (inherited (on_top marked_built sced_app).top sub)
 
-abbrev six_built : List Shape
+abbrev pub six_built : List Shape
 six_built = map built_under (pool_app.top ∷ (clear_app (spelled rating_words)).top ∷ (replay_app (spelled rating_words)).top
     ∷ (verify_app (spelled rating_words)).top ∷ check_app.top ∷ (make_app (spelled size_words)).top ∷ [])
 
-subs-are : (built sced_app).subs ≡ six_built
+pub subs-are : (built sced_app).subs ≡ six_built
 unfolding clap_on_literals sced_app sced_app_over
 subs-are = refl
 

@@ -3,6 +3,7 @@ use Rattle.clap.specs.Words.{App, app_of, found_of, rows_of}
 use Rattle.clap.specs.declared.builder.command.Command.TheViews.{out-Command}
 use Rattle.clap.proofs.CallerLemmas.{subcommand_required}
 use Rattle.command_words.specs.Words.{Spells, rating_words, size_words}
+use Rattle.command_words.proofs.RingLemmas.{asks-ring}
 use Rattle.command_words.proofs.WordsLemmas.{entered-make, enters-named, enters_by, is_free, is_needed, is_plain, refused_by}
 use Rattle.command_words.proofs.words.request_of.Goals as goal
 
@@ -102,14 +103,8 @@ returns-in-Ok-try_get_matches_from-clause-asked c =
     c.unwrap.result.0.now (rows_of (found_of c.unwrap.result.1.now)) c.in-Ok-try_get_matches_from.is same sizes ratings
     (c.try_get_matches_from.ensures.kinds (is_free _ _ _ same)) ((c.in-Ok-try_get_matches_from.ensures).matches (is_plain _ _ _ same)).1
     (rw c.unwrap.ensures at c.subcommand.ensures.name) (rw c.unwrap.ensures at c.subcommand.ensures.rows) in
-    record {
-      rows = rows_of (found_of c.unwrap.result.1.now);
-      enters = enters-named _ _ _ _ (entered-make _ _ _ enters c.in_default.not-pool c.in_default.not-clear c.in_default.not-replay c.in_default.not-verify c.in_default.not-check) enters;
-      buses_are = c.ring_words.ensures.buses;
-      seed_is = c.ring_words.ensures.seed;
-      is_size = c.ring_words.ensures.ring;
-      is_small = c.ring_words.ensures.small;
-    }
+    let name = entered-make _ _ _ enters c.in_default.not-pool c.in_default.not-clear c.in_default.not-replay c.in_default.not-verify c.in_default.not-check in
+    asks-ring _ _ c.ring_words.result.buses c.ring_words.result.seed (enters-named _ _ _ _ name enters) c.ring_words.ensures.buses c.ring_words.ensures.seed c.ring_words.ensures.ring
 
 pub returns-clause-refused : goal.returns-clause-refused
 returns-clause-refused c =
