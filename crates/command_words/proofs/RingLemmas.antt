@@ -1,27 +1,26 @@
 -- The words of `make` that the command takes give one of the sizes, and the text of a seed.
-use Rattle.std.proofs.Common.{◌≡◌, ◌≢◌, ◌⊎◌, ◌∙◌, ◌≤◌, ◌<◌, ◌&&◌, ◌||◌, refl, sym, ap, subst, arith, ℕ, ℤ, zero, suc, Bool, true, false, List, [], ◌∷◌, length, map, nat_le, nat_lt, codes, Option, Some, None, inl, inr, ltb-true, drop, cond, ◌==◌}
+use Rattle.std.proofs.Common.{◌≡◌, ◌⊎◌, ◌∙◌, ◌≤◌, ◌<◌, ◌&&◌, ◌||◌, refl, sym, ap, subst, arith, ℕ, ℤ, zero, suc, Bool, true, false, List, [], ◌∷◌, length, nat_lt, codes, Option, Some, None, inl, inr, ltb-true, drop, cond, ◌==◌}
 use Rattle.std.specs.Prelude.{find, if◌then◌else◌, option_map, pos, neg_ℤ, int_le, unwrap_or}
 use Rattle.std.specs.Char.{digit_value}
-use Rattle.std.specs.List.{list_all, list_any}
+use Rattle.std.specs.List.{list_all}
 use Rattle.std.specs.Option.{option_map_or}
 use Rattle.std.specs.Str.{bytes_eq}
-use Rattle.std.specs.Str.Parse.{AllDigits, IsNumeral, digits_value, signed_digits_value, without_leading_plus, without_leading_sign}
+use Rattle.std.specs.Str.Parse.{AllDigits, IsNumeral, digits_value, without_leading_plus}
 use Rattle.std.proofs.lemmas.Bool.{eqb-true, leb-true}
 use Rattle.std.proofs.lemmas.Slice.Eq.{bytes_eq-Decides}
-use Rattle.clap.specs.Facts.{parser_of_value}
 use Rattle.clap.specs.Faults.{built_fault, entered_fault, level_fault}
 use Rattle.clap.specs.Kinds.{Kinds}
 use Rattle.clap.specs.Lexer.{without_minus}
-use Rattle.clap.specs.Simple.{App, Shape, built, built_leaf, entered, filled, help_rule, inherited, label_of, marked_built, names_of, on_top, rows_at, with_index}
+use Rattle.clap.specs.Simple.{App, Shape, built, entered, filled, help_rule, label_of, names_of, rows_at, with_index}
 use Rattle.clap.specs.ValueTests.{accepts, fits_i64, is_numeral, is_signed_in}
-use Rattle.clap.specs.Walk.{Row, Rule, Text, answers_to, nothing_held, reading_by, rows_after, stop_after}
-use Rattle.clap.specs.Words.{fault_of, first_of, one_of, read_as, reading_of}
+use Rattle.clap.specs.Walk.{Row, Rule, Text, answers_to, nothing_held, rows_after, stop_after}
+use Rattle.clap.specs.Words.{fault_of, one_of, read_as}
 use Rattle.clap.specs.declared.builder.value_parser.Reading.{Reading}
 use Rattle.clap.specs.declared.builder.value_parser.Reading.TheVariants as reading
 use Rattle.clap.specs.declared.builder.value_parser.ValueParser.TheVariants.{Names, Signed}
 use Rattle.clap.proofs.OnLiterals.{clap_on_literals}
 use Rattle.clap.proofs.WalkLemmas.{both}
-use Rattle.command_words.specs.Words.{AsksMake, Enters, IsRingSize, ReadsSeed, Writes, check_app, clear_app, is_fault, make_app, pool_app, rating_words, refuses, replay_app, sced_app, sced_app_over, size_named, size_of, size_words, spelled, value_rule, verify_app}
+use Rattle.command_words.specs.Words.{AsksMake, Enters, IsRingSize, ReadsSeed, Writes, is_fault, make_app, refuses, sced_app, sced_app_over, size_named, size_of, size_words, spelled, value_rule}
 use Rattle.command_words.proofs.GivenLemmas.{Among, Each, IsGiven, IsReadSo, Passes, TakesOne, both-none, found-in, required-given}
 use Rattle.command_words.proofs.WordsLemmas.{built_under, names-apart, six_built, subs-are}
 

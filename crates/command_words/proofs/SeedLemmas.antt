@@ -1,6 +1,6 @@
 -- What reads a text as a number of 32 bits gives the number that the text writes.
 use Rattle.std.proofs.Common.{◌≡◌, ◌≤◌, ◌<◌, ◌∙◌, sym, ap, subst, arith, ℕ, Option, Some, None, Result, Ok, Err}
-use Rattle.std.specs.Str.Parse.{ParsesUnsigned, digits_value, without_leading_plus}
+use Rattle.std.specs.Str.Parse.{ParsesUnsigned}
 use Rattle.clap.specs.Words.{ReadsOne, Text}
 use Rattle.command_words.specs.Words.{Writes}
 

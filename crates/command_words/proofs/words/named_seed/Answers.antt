@@ -1,4 +1,4 @@
-use Rattle.std.proofs.Common.{◌≡◌, ◌∙◌, sym, ap, codes, ℕ, Option}
+use Rattle.std.proofs.Common.{◌∙◌, sym, ap, codes, ℕ, Option}
 use Rattle.std.specs.Prelude.{unwrap_or}
 use Rattle.std.specs.Str.Parse.{ExplainsUnsignedError, HasUnsignedDigitsIfOk, ParsesUnsigned}
 use Rattle.clap.specs.Words.{found_of}
