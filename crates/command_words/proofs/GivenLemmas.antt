@@ -35,7 +35,7 @@ each-append : {X : Type 0} (P : X → Type 0) (xs ys : List X) → Each P xs →
 each-append P [] ys h k = k
 each-append P (x ∷ xs) ys h k = (h.0, each-append P xs ys h.1 k)
 
-each-in : {X : Type 0} (P : X → Type 0) (xs : List X) (x : X) → Each P xs → Among (λ y. y ≡ x) xs → P x
+pub each-in : {X : Type 0} (P : X → Type 0) (xs : List X) (x : X) → Each P xs → Among (λ y. y ≡ x) xs → P x
 each-in P [] x h among = absurd among
 each-in P (y ∷ ys) x h (inl same) = subst P same h.0
 each-in P (y ∷ ys) x h (inr later) = each-in P ys x h.1 later

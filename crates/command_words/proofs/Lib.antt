@@ -1,3 +1,4 @@
+pub mod EnteredLemmas
 pub mod GivenLemmas
 pub mod PlainLemmas
 pub mod RequestLemmas

@@ -1,6 +1,6 @@
 -- The words that the program takes, by the command that `clap` reads them by.
 use Rattle.std.specs.Borrow.{Bor}
-use Rattle.std.specs.Prelude.{◌≡◌, ◌⊎◌, ◌≤◌, ℕ, Bool, true, false, List, [], ◌∷◌, codes, map, pos, Option, Some, unwrap_or, if◌then◌else◌}
+use Rattle.std.specs.Prelude.{◌≡◌, ◌⊎◌, ◌≤◌, ⊤, ℕ, Bool, true, false, List, [], ◌∷◌, codes, is_some, map, pos, Option, Some, unwrap_or, if◌then◌else◌}
 use Rattle.std.specs.Option.{option_map_or}
 use Rattle.std.specs.Str.{bytes_eq}
 use Rattle.std.specs.Str.Parse.{IsNumeral, digits_value, without_leading_plus}
@@ -112,7 +112,7 @@ refuses words = is_fault (fault_of sced_app words)
 abbrev pub AsksNothing : List Text → Type 0
 AsksNothing words = refuses words ≡ true
 
--- the file that an option names, of a subcommand's options with their values
+-- the file that an option names, of a subcommand's options with their values, where it is given
 abbrev pub file_of : Text → List Row → Text
 file_of name rows = unwrap_or (first_of name rows) []
 
@@ -129,10 +129,16 @@ pub record Enters (words : List Text) (name : Text) (rows : List Row) : Type 0 w
   pub taken : refuses words ≡ false
   pub entered : subcommand_of sced_app words ≡ Some (name, rows)
 
+-- each of these options is there, with a value
+abbrev pub AreGiven : List Text → List Row → Type 0
+AreGiven [] rows = ⊤
+AreGiven (name ∷ names) rows = (is_some (first_of name rows) ≡ true) × AreGiven names rows
+
 -- the words enter `pool`, and these are the names of the case's file and of the offers'
 pub record AsksPool (words : List Text) (case offers : Text) : Type 0 where
   pub rows : List Row
   pub enters : Enters words (codes "pool") rows
+  pub given : AreGiven (codes "case" ∷ codes "offers" ∷ []) rows
   pub case_is : case ≡ file_of (codes "case") rows
   pub offers_is : offers ≡ file_of (codes "offers") rows
 
@@ -162,6 +168,7 @@ market_names rows = record {
 pub record AsksClear (words : List Text) (names : MarketNames) (certificate : Option Text) : Type 0 where
   pub rows : List Row
   pub enters : Enters words (codes "clear") rows
+  pub given : AreGiven (codes "case" ∷ codes "ptdf" ∷ codes "offers" ∷ []) rows
   pub names_are : names ≡ market_names rows
   pub certificate_is : certificate ≡ first_of (codes "certificate") rows
 
@@ -169,6 +176,7 @@ pub record AsksClear (words : List Text) (names : MarketNames) (certificate : Op
 pub record AsksReplay (words : List Text) (names : MarketNames) (edits : Text) (certificate : Option Text) : Type 0 where
   pub rows : List Row
   pub enters : Enters words (codes "replay") rows
+  pub given : AreGiven (codes "case" ∷ codes "ptdf" ∷ codes "offers" ∷ codes "edits" ∷ []) rows
   pub names_are : names ≡ market_names rows
   pub edits_is : edits ≡ file_of (codes "edits") rows
   pub certificate_is : certificate ≡ first_of (codes "certificate") rows
@@ -177,6 +185,7 @@ pub record AsksReplay (words : List Text) (names : MarketNames) (edits : Text) (
 pub record AsksVerify (words : List Text) (names : MarketNames) (edits : Option Text) (certificate : Text) : Type 0 where
   pub rows : List Row
   pub enters : Enters words (codes "verify") rows
+  pub given : AreGiven (codes "case" ∷ codes "ptdf" ∷ codes "offers" ∷ codes "certificate" ∷ []) rows
   pub names_are : names ≡ market_names rows
   pub edits_is : edits ≡ first_of (codes "edits") rows
   pub certificate_is : certificate ≡ file_of (codes "certificate") rows
@@ -201,6 +210,7 @@ check_names rows = record {
 pub record AsksCheck (words : List Text) (names : CheckNames) : Type 0 where
   pub rows : List Row
   pub enters : Enters words (codes "check") rows
+  pub given : AreGiven (codes "case" ∷ codes "ptdf" ∷ []) rows
   pub names_are : names ≡ check_names rows
 
 -- a ring may have this many buses

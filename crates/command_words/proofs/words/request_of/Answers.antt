@@ -3,6 +3,7 @@ use Rattle.clap.specs.Words.{App, app_of, found_of, rows_of}
 use Rattle.clap.specs.declared.builder.command.Command.TheViews.{out-Command}
 use Rattle.clap.proofs.CallerLemmas.{subcommand_required}
 use Rattle.command_words.specs.Words.{Spells, rating_words, size_words}
+use Rattle.command_words.proofs.EnteredLemmas.{check-given, clear-given, pool-given, replay-given, verify-given}
 use Rattle.command_words.proofs.RingLemmas.{asks-ring}
 use Rattle.command_words.proofs.WordsLemmas.{entered-make, enters-named, enters_by, is_free, is_needed, is_plain, refused_by}
 use Rattle.command_words.proofs.words.request_of.Goals as goal
@@ -25,6 +26,7 @@ returns-in-pool-clause-asked c =
     record {
       rows = rows_of (found_of c.unwrap.result.1.now);
       enters = enters-named _ _ _ _ c.in-pool.is enters;
+      given = pool-given _ _ (enters-named _ _ _ _ c.in-pool.is enters);
       case_is = c.pool_files.ensures.case;
       offers_is = c.pool_files.ensures.offers;
     }
@@ -41,6 +43,7 @@ returns-in-clear-clause-asked c =
     record {
       rows = rows_of (found_of c.unwrap.result.1.now);
       enters = enters-named _ _ _ _ c.in-clear.is enters;
+      given = clear-given _ _ (enters-named _ _ _ _ c.in-clear.is enters);
       names_are = c.clear_files.ensures.market;
       certificate_is = c.clear_files.ensures.certificate;
     }
@@ -57,6 +60,7 @@ returns-in-replay-clause-asked c =
     record {
       rows = rows_of (found_of c.unwrap.result.1.now);
       enters = enters-named _ _ _ _ c.in-replay.is enters;
+      given = replay-given _ _ (enters-named _ _ _ _ c.in-replay.is enters);
       names_are = c.replay_files.ensures.market;
       edits_is = c.replay_files.ensures.edits;
       certificate_is = c.replay_files.ensures.certificate;
@@ -74,6 +78,7 @@ returns-in-verify-clause-asked c =
     record {
       rows = rows_of (found_of c.unwrap.result.1.now);
       enters = enters-named _ _ _ _ c.in-verify.is enters;
+      given = verify-given _ _ (enters-named _ _ _ _ c.in-verify.is enters);
       names_are = c.verify_files.ensures.market;
       edits_is = c.verify_files.ensures.edits;
       certificate_is = c.verify_files.ensures.certificate;
@@ -91,6 +96,7 @@ returns-in-check-clause-asked c =
     record {
       rows = rows_of (found_of c.unwrap.result.1.now);
       enters = enters-named _ _ _ _ c.in-check.is enters;
+      given = check-given _ _ (enters-named _ _ _ _ c.in-check.is enters);
       names_are = c.check_files.ensures;
     }
 
