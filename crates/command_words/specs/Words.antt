@@ -221,7 +221,7 @@ IsRingSize buses = (buses ≡ 4) ⊎ (buses ≡ 8) ⊎ (buses ≡ 16) ⊎ (buses
 abbrev pub Writes : Text → ℕ → Type 0
 Writes text n = IsNumeral 10 (without_leading_plus text) × (n ≡ digits_value 10 (without_leading_plus text))
 
--- the words enter `make`, and its two values are texts of the number of the ring's buses and of the seed
+-- the words enter `make`, and its two values are texts of the number of the ring's buses and of the seed; `clap` reads a seed without a minus, which only 0 may have
 pub record AsksMake (words : List Text) (buses seed : ℕ) : Type 0 where
   pub rows : List Row
   pub enters : Enters words (codes "make") rows
