@@ -1,8 +1,9 @@
 -- Words that the command refuses, and what it reads in words that it takes.
 use Rattle.std.proofs.Common.{◌≡◌, refl, true, false, codes, List, [], ◌∷◌, ◌++◌, Option, Some, None, option_map}
-use Rattle.clap.specs.Words.{Row, Text, subcommand_of}
+use Rattle.std.proofs.Common.{ℕ}
+use Rattle.clap.specs.Words.{Row, Text, one_of, subcommand_of}
 use Rattle.clap.proofs.OnLiterals.{clap_on_literals}
-use Rattle.command_words.specs.Words.{ClearNames, clear_names, refuses, sced_app, sced_app_over}
+use Rattle.command_words.specs.Words.{MarketNames, market_names, refuses, sced_app, sced_app_over, size_of}
 use Rattle.net_case.specs.declared.live_parts.PostRating.TheVariants as post
 
 -- the words of a clear that names what it must
@@ -21,9 +22,23 @@ twice = least ++ codes "--offers" ∷ codes "o" ∷ []
 abbrev no_offers : List Text
 no_offers = codes "sced" ∷ codes "clear" ∷ codes "--case" ∷ codes "n.m" ∷ codes "--ptdf" ∷ codes "p" ∷ []
 
+abbrev certified : List Text
+certified = least ++ codes "--certificate" ∷ codes "x" ∷ []
+
+-- the words of a replay that names what a clear must, and of such a verification
+abbrev no_edits : List Text
+no_edits = codes "sced" ∷ codes "replay" ∷ codes "--case" ∷ codes "n.m" ∷ codes "--ptdf" ∷ codes "p" ∷ codes "--offers=o" ∷ []
+
+abbrev no_certificate : List Text
+no_certificate = codes "sced" ∷ codes "verify" ∷ codes "--case" ∷ codes "n.m" ∷ codes "--ptdf" ∷ codes "p" ∷ codes "--offers=o" ∷ codes "--edits" ∷ codes "e" ∷ []
+
+-- the words of a made ring
+abbrev of_size : Text → Text → List Text
+of_size size seed = codes "sced" ∷ codes "make" ∷ size ∷ seed ∷ []
+
 -- what the options of the subcommand name
-abbrev named_by : List Text → Option ClearNames
-named_by words = option_map (λ (entry : Text × List Row). clear_names entry.1) (subcommand_of sced_app words)
+abbrev named_by : List Text → Option MarketNames
+named_by words = option_map (λ (entry : Text × List Row). market_names entry.1) (subcommand_of sced_app words)
 
 least-taken : refuses least ≡ false
 unfolding clap_on_literals refuses sced_app sced_app_over
@@ -54,3 +69,47 @@ twice-refused = refl
 no_offers-refused : refuses no_offers ≡ true
 unfolding clap_on_literals refuses sced_app sced_app_over
 no_offers-refused = refl
+
+certified-taken : refuses certified ≡ false
+unfolding clap_on_literals refuses sced_app sced_app_over
+certified-taken = refl
+
+no_edits-refused : refuses no_edits ≡ true
+unfolding clap_on_literals refuses sced_app sced_app_over
+no_edits-refused = refl
+
+edits-taken : refuses (no_edits ++ codes "--edits" ∷ codes "e" ∷ []) ≡ false
+unfolding clap_on_literals refuses sced_app sced_app_over
+edits-taken = refl
+
+no_certificate-refused : refuses no_certificate ≡ true
+unfolding clap_on_literals refuses sced_app sced_app_over
+no_certificate-refused = refl
+
+certificate-taken : refuses (no_certificate ++ codes "--certificate" ∷ codes "x" ∷ []) ≡ false
+unfolding clap_on_literals refuses sced_app sced_app_over
+certificate-taken = refl
+
+-- the number of buses that the words give, and the text of the seed
+abbrev ring_by : List Text → Option (ℕ × Option Text)
+ring_by words = option_map (λ (entry : Text × List Row). (size_of entry.1, one_of (codes "SEED") entry.1)) (subcommand_of sced_app words)
+
+four-taken : refuses (of_size (codes "4") (codes "7")) ≡ false
+unfolding clap_on_literals refuses sced_app sced_app_over
+four-taken = refl
+
+five-refused : refuses (of_size (codes "5") (codes "7")) ≡ true
+unfolding clap_on_literals refuses sced_app sced_app_over
+five-refused = refl
+
+greatest-taken : refuses (of_size (codes "64") (codes "4294967295")) ≡ false
+unfolding clap_on_literals refuses sced_app sced_app_over
+greatest-taken = refl
+
+greatest-read : ring_by (of_size (codes "64") (codes "4294967295")) ≡ Some (64, Some (codes "4294967295"))
+unfolding clap_on_literals sced_app sced_app_over
+greatest-read = refl
+
+greater-refused : refuses (of_size (codes "64") (codes "4294967296")) ≡ true
+unfolding clap_on_literals refuses sced_app sced_app_over
+greater-refused = refl

@@ -1,10 +1,13 @@
 -- The command is one of which every refusal is known, and what it takes is what the words ask for.
-use Rattle.std.proofs.Common.{◌≡◌, ◌≢◌, ◌⊎◌, ◌∙◌, refl, sym, ap, subst, arith, ℕ, Bool, true, false, List, [], ◌∷◌, Result, Ok, Err, inl, inr, Option, Some, None, option_map, slice_index, codes}
+use Rattle.std.proofs.Common.{◌≡◌, ◌≢◌, ◌⊎◌, ◌∙◌, refl, sym, ap, subst, ℕ, Bool, true, false, List, [], ◌∷◌, map, Result, Ok, Err, inl, inr, Option, Some, None, option_map, codes}
+use Rattle.std.proofs.lemmas.Slice.Eq.{bytes_eq-Decides}
+use Rattle.std.specs.Str.{bytes_eq}
+use Rattle.std.specs.Str.Parse.{digits_value, without_leading_plus}
 use Rattle.std.specs.Box.{box_value}
 use Rattle.std.specs.Prelude.{Box, find, unwrap_or}
 use Rattle.clap.specs.Simple.{Shape, built, built_leaf, entered, inherited, label_of, marked_built, on_top, subcommand_rows}
 use Rattle.clap.specs.Walk.{answers_to, rows_after}
-use Rattle.clap.specs.Words.{App, FailsBy, HasKind, IsAmong, Kinds, Row, Text, fault_of, is_simple, is_simple_and_free, kind_of, subcommand_name_of, subcommand_of, subcommand_rows_of}
+use Rattle.clap.specs.Words.{App, FailsBy, HasKind, IsAmong, Kinds, Row, Text, fault_of, first_of, is_simple, one_of, is_simple_and_free, kind_of, subcommand_name_of, subcommand_of, subcommand_rows_of}
 use Rattle.clap.specs.declared.parser.matches.ArgMatches.{ArgMatches}
 use Rattle.clap.specs.declared.parser.matches.ArgMatches.TheViews.{out-ArgMatches, out-SubCommand}
 use Rattle.clap.specs.declared.parser.matches.SubCommand.{SubCommand}
@@ -12,27 +15,27 @@ use Rattle.clap.specs.declared.error.Error.{Error}
 use Rattle.clap.specs.declared.error.kind.ErrorKind.{ErrorKind}
 use Rattle.clap.specs.declared.error.kind.ErrorKind.TheVariants as kind
 use Rattle.clap.proofs.OnLiterals.{clap_on_literals}
-use Rattle.command_words.specs.Words.{AsksCheck, AsksClear, AsksPool, CheckNames, ClearNames, Enters, NameList, Spells, check_app, clear_app, clear_names, check_names, is_fault, pool_app, rating_words, refuses, sced_app, sced_app_over, spelled}
+use Rattle.command_words.specs.Words.{AsksCheck, AsksClear, AsksMake, AsksPool, AsksReplay, AsksVerify, CheckNames, Enters, MarketNames, NameList, Spells, Writes, check_app, check_names, clear_app, file_of, is_fault, make_app, market_names, pool_app, rating_words, refuses, replay_app, sced_app, sced_app_over, size_words, spelled, verify_app}
 use Rattle.command_words.proofs.PlainLemmas.{entered-anywhere, fault-anywhere}
 
-free : (ratings : NameList) → is_simple_and_free (sced_app_over ratings) ≡ true
+free : (sizes ratings : NameList) → is_simple_and_free (sced_app_over sizes ratings) ≡ true
 unfolding clap_on_literals sced_app_over
-free ratings = refl
+free sizes ratings = refl
 
-simple : (ratings : NameList) → is_simple (sced_app_over ratings) ≡ true
+simple : (sizes ratings : NameList) → is_simple (sced_app_over sizes ratings) ≡ true
 unfolding clap_on_literals sced_app_over
-simple ratings = refl
+simple sizes ratings = refl
 
 -- it must be followed by a subcommand
-pub is_needed : (ratings : NameList) → (sced_app_over ratings).top.subcommand_required ≡ true
+pub is_needed : (sizes ratings : NameList) → (sced_app_over sizes ratings).top.subcommand_required ≡ true
 unfolding sced_app_over
-is_needed ratings = refl
+is_needed sizes ratings = refl
 
-pub is_free : (a : App) (ratings : NameList) → a ≡ sced_app_over ratings → is_simple_and_free a ≡ true
-is_free a ratings same = ap is_simple_and_free same ∙ free ratings
+pub is_free : (a : App) (sizes ratings : NameList) → a ≡ sced_app_over sizes ratings → is_simple_and_free a ≡ true
+is_free a sizes ratings same = ap is_simple_and_free same ∙ free sizes ratings
 
-pub is_plain : (a : App) (ratings : NameList) → a ≡ sced_app_over ratings → is_simple a ≡ true
-is_plain a ratings same = ap is_simple same ∙ simple ratings
+pub is_plain : (a : App) (sizes ratings : NameList) → a ≡ sced_app_over sizes ratings → is_simple a ≡ true
+is_plain a sizes ratings same = ap is_simple same ∙ simple sizes ratings
 
 some_among : (k : ErrorKind) (ks : Kinds) → IsAmong k ks → ks ≢ []
 some_among k [] h = absurd h
@@ -49,25 +52,25 @@ a_fault : (ks : Kinds) → ks ≢ [] → is_fault ks ≡ true
 a_fault [] h = absurd (h refl)
 a_fault (k ∷ ks) h = refl
 
-kinds-of : (a : App) (ratings : NameList) (words : List Text) → a ≡ sced_app_over ratings → Spells ratings rating_words → fault_of a words ≡ fault_of sced_app words
-kinds-of a ratings words same spells = ap (λ (x : App). fault_of x words) same ∙ fault-anywhere ratings words spells
+kinds-of : (a : App) (sizes ratings : NameList) (words : List Text) → a ≡ sced_app_over sizes ratings → Spells sizes size_words → Spells ratings rating_words → fault_of a words ≡ fault_of sced_app words
+kinds-of a sizes ratings words same s r = ap (λ (x : App). fault_of x words) same ∙ fault-anywhere sizes ratings words s r
 
 -- a parse that succeeds is of words that the command takes, and one that fails, but for memory, of others
-taken_by : {T : Type 0} (r : Result T Error) (m : T) (a : App) (ratings : NameList) (words : List Text) → r ≡ Ok m
-    → a ≡ sced_app_over ratings → Spells ratings rating_words → FailsBy (fault_of a words) r → refuses words ≡ false
+taken_by : {T : Type 0} (r : Result T Error) (m : T) (a : App) (sizes ratings : NameList) (words : List Text) → r ≡ Ok m
+    → a ≡ sced_app_over sizes ratings → Spells sizes size_words → Spells ratings rating_words → FailsBy (fault_of a words) r → refuses words ≡ false
 unfolding refuses
-taken_by r m a ratings words is same spells h = no_fault (fault_of sced_app words) (sym (kinds-of a ratings words same spells) ∙ rw is at h)
+taken_by r m a sizes ratings words is same s t h = no_fault (fault_of sced_app words) (sym (kinds-of a sizes ratings words same s t) ∙ rw is at h)
 
-pub refused_by : {T : Type 0} (r : Result T Error) (e : Error) (a : App) (ratings : NameList) (words : List Text) → r ≡ Err e → kind_of e ≢ kind.OutOfMemory
-    → a ≡ sced_app_over ratings → Spells ratings rating_words → FailsBy (fault_of a words) r → refuses words ≡ true
+pub refused_by : {T : Type 0} (r : Result T Error) (e : Error) (a : App) (sizes ratings : NameList) (words : List Text) → r ≡ Err e → kind_of e ≢ kind.OutOfMemory
+    → a ≡ sced_app_over sizes ratings → Spells sizes size_words → Spells ratings rating_words → FailsBy (fault_of a words) r → refuses words ≡ true
 unfolding refuses
-refused_by r e a ratings words is not_memory same spells h =
+refused_by r e a sizes ratings words is not_memory same s t h =
     let some = some_kind e (fault_of a words) not_memory (rw is at h) in
-    a_fault (fault_of sced_app words) (λ none. some (kinds-of a ratings words same spells ∙ none))
+    a_fault (fault_of sced_app words) (λ none. some (kinds-of a sizes ratings words same s t ∙ none))
 
 -- what a parse enters is what the words name
-entered_by : (a : App) (ratings : NameList) (words : List Text) → a ≡ sced_app_over ratings → Spells ratings rating_words → subcommand_of a words ≡ subcommand_of sced_app words
-entered_by a ratings words same spells = ap (λ (x : App). subcommand_of x words) same ∙ entered-anywhere ratings words spells
+entered_by : (a : App) (sizes ratings : NameList) (words : List Text) → a ≡ sced_app_over sizes ratings → Spells sizes size_words → Spells ratings rating_words → subcommand_of a words ≡ subcommand_of sced_app words
+entered_by a sizes ratings words same s t = ap (λ (x : App). subcommand_of x words) same ∙ entered-anywhere sizes ratings words s t
 
 -- the name and the rows of the subcommand, together
 both_of : (m : ArgMatches) (n : Text) (rs : List Row) → Some n ≡ subcommand_name_of m → Some rs ≡ option_map (λ (p : Text × List Row). p.1) (subcommand_rows_of m)
@@ -80,12 +83,12 @@ both_of m n rs = go (out-ArgMatches m).subcommand n rs
     go (Some b) n rs e h = cc
 
 -- what a parse that succeeds has entered is what the words enter
-pub enters_by : {T : Type 0} (r : Result T Error) (t : T) (m : ArgMatches) (a : App) (ratings : NameList) (words : List Text) (n : Text) (rs : List Row) → r ≡ Ok t
-    → a ≡ sced_app_over ratings → Spells ratings rating_words → FailsBy (fault_of a words) r → subcommand_rows_of m ≡ subcommand_of a words
+pub enters_by : {T : Type 0} (r : Result T Error) (t : T) (m : ArgMatches) (a : App) (sizes ratings : NameList) (words : List Text) (n : Text) (rs : List Row) → r ≡ Ok t
+    → a ≡ sced_app_over sizes ratings → Spells sizes size_words → Spells ratings rating_words → FailsBy (fault_of a words) r → subcommand_rows_of m ≡ subcommand_of a words
     → Some n ≡ subcommand_name_of m → Some rs ≡ option_map (λ (p : Text × List Row). p.1) (subcommand_rows_of m) → Enters words n rs
-enters_by r t m a ratings words n rs is same spells fails found name rows = record {
-  taken = taken_by r t a ratings words is same spells fails;
-  entered = sym (entered_by a ratings words same spells) ∙ sym found ∙ both_of m n rs name rows;
+enters_by r t m a sizes ratings words n rs is same s u fails found name rows = record {
+  taken = taken_by r t a sizes ratings words is same s u fails;
+  entered = sym (entered_by a sizes ratings words same s u) ∙ sym found ∙ both_of m n rs name rows;
 }
 
 pub enters-named : (words : List Text) (n n' : Text) (rs : List Row) → n ≡ n' → Enters words n rs → Enters words n' rs
@@ -98,43 +101,63 @@ enters-once words name name' rows rows' enters enters' =
     let both = sym enters.entered ∙ enters'.entered in
     (ap (λ (o : Option (Text × List Row)). (unwrap_or o (name, rows)).0) both, ap (λ (o : Option (Text × List Row)). (unwrap_or o (name, rows)).1) both)
 
+-- so they do not enter two of different names
+pub enters-one : (words : List Text) (name name' : Text) (rows rows' : List Row) → name ≢ name' → Enters words name rows → Enters words name' rows' → ⊥
+enters-one words name name' rows rows' apart enters enters' = apart (enters-once words name name' rows rows' enters enters').0
+
+-- names that differ by the test of their bytes are different
+pub names-apart : (name name' : Text) → bytes_eq name name' ≡ false → name ≢ name'
+names-apart name name' apart same = absurd_bool (sym apart ∙ (bytes_eq-Decides name name').1 same)
+  where
+    absurd_bool : false ≡ true → ⊥
+    absurd_bool bad = cc
+
 pub asks-once : (words : List Text) (case offers case' offers' : Text) → AsksPool words case offers → AsksPool words case' offers' → (case ≡ case') × (offers ≡ offers')
 asks-once words case offers case' offers' asks asks' =
     let rows = (enters-once words _ _ asks.rows asks'.rows asks.enters asks'.enters).1 in
     (rw (asks.case_is, asks'.case_is, rows) refl, rw (asks.offers_is, asks'.offers_is, rows) refl)
 
-pub clears-once : (words : List Text) (names names' : ClearNames) → AsksClear words names → AsksClear words names' → names ≡ names'
-clears-once words names names' asks asks' =
-    asks.names_are ∙ ap clear_names (enters-once words _ _ asks.rows asks'.rows asks.enters asks'.enters).1 ∙ sym asks'.names_are
+pub clears-once : (words : List Text) (names names' : MarketNames) (certificate certificate' : Option Text)
+    → AsksClear words names certificate → AsksClear words names' certificate' → (names ≡ names') × (certificate ≡ certificate')
+clears-once words names names' certificate certificate' asks asks' =
+    let rows = (enters-once words _ _ asks.rows asks'.rows asks.enters asks'.enters).1 in (
+      asks.names_are ∙ ap market_names rows ∙ sym asks'.names_are,
+      asks.certificate_is ∙ ap (first_of (codes "certificate")) rows ∙ sym asks'.certificate_is,
+    )
+
+pub replays-once : (words : List Text) (names names' : MarketNames) (edits edits' : Text) (certificate certificate' : Option Text)
+    → AsksReplay words names edits certificate → AsksReplay words names' edits' certificate' → (names ≡ names') × (edits ≡ edits') × (certificate ≡ certificate')
+replays-once words names names' edits edits' certificate certificate' asks asks' =
+    let rows = (enters-once words _ _ asks.rows asks'.rows asks.enters asks'.enters).1 in (
+      asks.names_are ∙ ap market_names rows ∙ sym asks'.names_are,
+      asks.edits_is ∙ ap (file_of (codes "edits")) rows ∙ sym asks'.edits_is,
+      asks.certificate_is ∙ ap (first_of (codes "certificate")) rows ∙ sym asks'.certificate_is,
+    )
+
+pub verifies-once : (words : List Text) (names names' : MarketNames) (edits edits' : Option Text) (certificate certificate' : Text)
+    → AsksVerify words names edits certificate → AsksVerify words names' edits' certificate' → (names ≡ names') × (edits ≡ edits') × (certificate ≡ certificate')
+verifies-once words names names' edits edits' certificate certificate' asks asks' =
+    let rows = (enters-once words _ _ asks.rows asks'.rows asks.enters asks'.enters).1 in (
+      asks.names_are ∙ ap market_names rows ∙ sym asks'.names_are,
+      asks.edits_is ∙ ap (first_of (codes "edits")) rows ∙ sym asks'.edits_is,
+      asks.certificate_is ∙ ap (file_of (codes "certificate")) rows ∙ sym asks'.certificate_is,
+    )
 
 pub checks-once : (words : List Text) (names names' : CheckNames) → AsksCheck words names → AsksCheck words names' → names ≡ names'
 checks-once words names names' asks asks' =
     asks.names_are ∙ ap check_names (enters-once words _ _ asks.rows asks'.rows asks.enters asks'.enters).1 ∙ sym asks'.names_are
 
--- `pool`, `clear` and `check` are three subcommands
-pub pool-or-clear : (words : List Text) (case offers : Text) (names : ClearNames) → AsksPool words case offers → AsksClear words names → ⊥
-pool-or-clear words case offers names pool clear =
-    let same : codes "pool" ≡ codes "clear" = (enters-once words _ _ pool.rows clear.rows pool.enters clear.enters).0 in
-    apart (ap (λ (t : Text). slice_index t 0) same)
-  where
-    apart : ◌≡◌ {A = ℕ} 112 99 → ⊥
-    apart bad = omega arith
+-- a text writes one number, so the same text the same
+writes-once : (text text' : Text) (n n' : ℕ) → Some text ≡ Some text' → Writes text n → Writes text' n' → n ≡ n'
+writes-once text text' n n' same writes writes' =
+    writes.1 ∙ ap (λ (o : Option Text). digits_value 10 (without_leading_plus (unwrap_or o text))) same ∙ sym writes'.1
 
-pub pool-or-check : (words : List Text) (case offers : Text) (names : CheckNames) → AsksPool words case offers → AsksCheck words names → ⊥
-pool-or-check words case offers names pool check =
-    let same : codes "pool" ≡ codes "check" = (enters-once words _ _ pool.rows check.rows pool.enters check.enters).0 in
-    apart (ap (λ (t : Text). slice_index t 0) same)
-  where
-    apart : ◌≡◌ {A = ℕ} 112 99 → ⊥
-    apart bad = omega arith
-
-pub clear-or-check : (words : List Text) (names : ClearNames) (names' : CheckNames) → AsksClear words names → AsksCheck words names' → ⊥
-clear-or-check words names names' clear check =
-    let same : codes "clear" ≡ codes "check" = (enters-once words _ _ clear.rows check.rows clear.enters check.enters).0 in
-    apart (ap (λ (t : Text). slice_index t 1) same)
-  where
-    apart : ◌≡◌ {A = ℕ} 108 104 → ⊥
-    apart bad = omega arith
+pub makes-once : (words : List Text) (buses buses' seed seed' : ℕ) → AsksMake words buses seed → AsksMake words buses' seed' → (buses ≡ buses') × (seed ≡ seed')
+makes-once words buses buses' seed seed' asks asks' =
+    let rows = (enters-once words _ _ asks.rows asks'.rows asks.enters asks'.enters).1 in (
+      writes-once asks.size_text asks'.size_text buses buses' (sym asks.size_given ∙ ap (first_of (codes "N")) rows ∙ asks'.size_given) asks.size_written asks'.size_written,
+      writes-once asks.seed_text asks'.seed_text seed seed' (sym asks.seed_given ∙ ap (one_of (codes "SEED")) rows ∙ asks'.seed_given) asks.seed_written asks'.seed_written,
+    )
 
 -- ---- which subcommand was entered
 -- the name is that of one of these
@@ -169,33 +192,30 @@ entered-one app (Some (word, rest)) name rows is = go (find (λ s. answers_to wo
         let this : s.name ≡ name = ap (λ (o : Option (Text × List Row)). (unwrap_or o (s.name, rows)).0) same in
         subst (λ n. IsOneOf n app.subs) this (found-among (λ t. answers_to word (label_of t)) app.subs s found)
 
--- its three subcommands, as they are built
-abbrev pool_built : Shape
-pool_built = built_leaf (inherited (on_top marked_built sced_app).top pool_app.top)
+-- its six subcommands, as they are built
+abbrev pub built_under : Shape → Shape
+built_under sub = built_leaf (inherited (on_top marked_built sced_app).top sub)
 
-abbrev clear_built : Shape
-clear_built = built_leaf (inherited (on_top marked_built sced_app).top (clear_app (spelled rating_words)).top)
+abbrev pub six_built : List Shape
+six_built = map built_under (pool_app.top ∷ (clear_app (spelled rating_words)).top ∷ (replay_app (spelled rating_words)).top
+    ∷ (verify_app (spelled rating_words)).top ∷ check_app.top ∷ (make_app (spelled size_words)).top ∷ [])
 
-abbrev check_built : Shape
-check_built = built_leaf (inherited (on_top marked_built sced_app).top check_app.top)
-
-subs-are : (built sced_app).subs ≡ pool_built ∷ clear_built ∷ check_built ∷ []
+pub subs-are : (built sced_app).subs ≡ six_built
 unfolding clap_on_literals sced_app sced_app_over
 subs-are = refl
 
-one-of-three : (name : Text) → IsOneOf name (pool_built ∷ clear_built ∷ check_built ∷ []) → (name ≡ codes "pool") ⊎ (name ≡ codes "clear") ⊎ (name ≡ codes "check")
+-- what is none of the five others is `make`
+left-make : (name : Text) → IsOneOf name six_built → name ≢ codes "pool" → name ≢ codes "clear" → name ≢ codes "replay" → name ≢ codes "verify" → name ≢ codes "check"
+    → name ≡ codes "make"
 unfolding IsOneOf
-one-of-three name (inl pool) = inl pool
-one-of-three name (inr (inl clear)) = inr (inl clear)
-one-of-three name (inr (inr (inl check))) = inr (inr check)
-one-of-three name (inr (inr (inr none))) = absurd none
+left-make name (inl same) pool clear replay verify check = absurd (pool same)
+left-make name (inr (inl same)) pool clear replay verify check = absurd (clear same)
+left-make name (inr (inr (inl same))) pool clear replay verify check = absurd (replay same)
+left-make name (inr (inr (inr (inl same)))) pool clear replay verify check = absurd (verify same)
+left-make name (inr (inr (inr (inr (inl same))))) pool clear replay verify check = absurd (check same)
+left-make name (inr (inr (inr (inr (inr (inl same)))))) pool clear replay verify check = same
+left-make name (inr (inr (inr (inr (inr (inr none)))))) pool clear replay verify check = absurd none
 
--- what is neither `pool` nor `clear` is `check`
-pub entered-check : (words : List Text) (name : Text) (rows : List Row) → Enters words name rows → name ≢ codes "pool" → name ≢ codes "clear" → name ≡ codes "check"
-entered-check words name rows enters not_pool not_clear =
-    let one = subst (IsOneOf name) subs-are (entered-one (built sced_app) _ name rows enters.entered) in
-    elim (one-of-three name one) [
-      | inl pool ↦ absurd (not_pool pool)
-      | inr (inl clear) ↦ absurd (not_clear clear)
-      | inr (inr check) ↦ check
-    ]
+pub entered-make : (words : List Text) (name : Text) (rows : List Row) → Enters words name rows
+    → name ≢ codes "pool" → name ≢ codes "clear" → name ≢ codes "replay" → name ≢ codes "verify" → name ≢ codes "check" → name ≡ codes "make"
+entered-make words name rows enters = left-make name (subst (IsOneOf name) subs-are (entered-one (built sced_app) _ name rows enters.entered))

@@ -1,11 +1,9 @@
 -- The words that the program takes, by the command that `clap` reads them by.
 use Rattle.std.specs.Borrow.{Bor}
-use Rattle.std.specs.Prelude.{◌≡◌, ◌⊎◌, ◌≤◌, ◌&&◌, ℕ, Bool, true, false, List, [], ◌∷◌, codes, length, map, nat_le, nat_lt, pos, Option, Some, unwrap_or, if◌then◌else◌}
-use Rattle.std.specs.Char.{digit_value}
-use Rattle.std.specs.List.{list_all}
+use Rattle.std.specs.Prelude.{◌≡◌, ◌⊎◌, ◌≤◌, ⊤, ℕ, Bool, true, false, List, [], ◌∷◌, codes, is_some, map, pos, Option, Some, unwrap_or, if◌then◌else◌}
 use Rattle.std.specs.Option.{option_map_or}
 use Rattle.std.specs.Str.{bytes_eq}
-use Rattle.std.specs.Str.Parse.{digits_value, without_leading_plus}
+use Rattle.std.specs.Str.Parse.{IsNumeral, digits_value, without_leading_plus}
 use Rattle.clap.specs.Words.{App, Kinds, Row, Rule, Text, fault_of, first_of, new_app, new_rule, one_of, subcommand_of, with_rule, with_subcommand}
 use Rattle.clap.specs.declared.builder.value_parser.ValueParser.{ValueParser}
 use Rattle.clap.specs.declared.builder.value_parser.ValueParser.TheVariants.{Names, Signed}
@@ -114,7 +112,7 @@ refuses words = is_fault (fault_of sced_app words)
 abbrev pub AsksNothing : List Text → Type 0
 AsksNothing words = refuses words ≡ true
 
--- the file that an option names, of a subcommand's options with their values
+-- the file that an option names, of a subcommand's options with their values, where it is given
 abbrev pub file_of : Text → List Row → Text
 file_of name rows = unwrap_or (first_of name rows) []
 
@@ -131,10 +129,16 @@ pub record Enters (words : List Text) (name : Text) (rows : List Row) : Type 0 w
   pub taken : refuses words ≡ false
   pub entered : subcommand_of sced_app words ≡ Some (name, rows)
 
+-- each of these options is there, with a value
+abbrev pub AreGiven : List Text → List Row → Type 0
+AreGiven [] rows = ⊤
+AreGiven (name ∷ names) rows = (is_some (first_of name rows) ≡ true) × AreGiven names rows
+
 -- the words enter `pool`, and these are the names of the case's file and of the offers'
 pub record AsksPool (words : List Text) (case offers : Text) : Type 0 where
   pub rows : List Row
   pub enters : Enters words (codes "pool") rows
+  pub given : AreGiven (codes "case" ∷ codes "offers" ∷ []) rows
   pub case_is : case ≡ file_of (codes "case") rows
   pub offers_is : offers ≡ file_of (codes "offers") rows
 
@@ -164,6 +168,7 @@ market_names rows = record {
 pub record AsksClear (words : List Text) (names : MarketNames) (certificate : Option Text) : Type 0 where
   pub rows : List Row
   pub enters : Enters words (codes "clear") rows
+  pub given : AreGiven (codes "case" ∷ codes "ptdf" ∷ codes "offers" ∷ []) rows
   pub names_are : names ≡ market_names rows
   pub certificate_is : certificate ≡ first_of (codes "certificate") rows
 
@@ -171,6 +176,7 @@ pub record AsksClear (words : List Text) (names : MarketNames) (certificate : Op
 pub record AsksReplay (words : List Text) (names : MarketNames) (edits : Text) (certificate : Option Text) : Type 0 where
   pub rows : List Row
   pub enters : Enters words (codes "replay") rows
+  pub given : AreGiven (codes "case" ∷ codes "ptdf" ∷ codes "offers" ∷ codes "edits" ∷ []) rows
   pub names_are : names ≡ market_names rows
   pub edits_is : edits ≡ file_of (codes "edits") rows
   pub certificate_is : certificate ≡ first_of (codes "certificate") rows
@@ -179,6 +185,7 @@ pub record AsksReplay (words : List Text) (names : MarketNames) (edits : Text) (
 pub record AsksVerify (words : List Text) (names : MarketNames) (edits : Option Text) (certificate : Text) : Type 0 where
   pub rows : List Row
   pub enters : Enters words (codes "verify") rows
+  pub given : AreGiven (codes "case" ∷ codes "ptdf" ∷ codes "offers" ∷ codes "certificate" ∷ []) rows
   pub names_are : names ≡ market_names rows
   pub edits_is : edits ≡ first_of (codes "edits") rows
   pub certificate_is : certificate ≡ file_of (codes "certificate") rows
@@ -203,11 +210,29 @@ check_names rows = record {
 pub record AsksCheck (words : List Text) (names : CheckNames) : Type 0 where
   pub rows : List Row
   pub enters : Enters words (codes "check") rows
+  pub given : AreGiven (codes "case" ∷ codes "ptdf" ∷ []) rows
   pub names_are : names ≡ check_names rows
 
 -- a ring may have this many buses
 abbrev pub IsRingSize : ℕ → Type 0
 IsRingSize buses = (buses ≡ 4) ⊎ (buses ≡ 8) ⊎ (buses ≡ 16) ⊎ (buses ≡ 32) ⊎ (buses ≡ 64)
+
+-- the text writes this number in decimal digits, before which a plus may stand
+abbrev pub Writes : Text → ℕ → Type 0
+Writes text n = IsNumeral 10 (without_leading_plus text) × (n ≡ digits_value 10 (without_leading_plus text))
+
+-- the words enter `make`, and its two values are texts of the number of the ring's buses and of the seed; `clap` reads a seed without a minus, which only 0 may have
+pub record AsksMake (words : List Text) (buses seed : ℕ) : Type 0 where
+  pub rows : List Row
+  pub enters : Enters words (codes "make") rows
+  pub size_text : Text
+  pub size_given : first_of (codes "N") rows ≡ Some size_text
+  pub size_written : Writes size_text buses
+  pub seed_text : Text
+  pub seed_given : one_of (codes "SEED") rows ≡ Some seed_text
+  pub seed_written : Writes seed_text seed
+  pub is_size : IsRingSize buses
+  pub is_small : seed ≤ 4294967295
 
 -- the number of buses that a word of the sizes stands for; the command takes no other
 abbrev pub size_named : Text → ℕ
@@ -222,26 +247,9 @@ size_named word =
 abbrev pub size_of : List Row → ℕ
 size_of rows = option_map_or size_named (first_of (codes "N") rows) 4
 
--- the text is one decimal digit or more, of a number up to 4294967295
-abbrev pub writes_seed : Text → Bool
-writes_seed digits = nat_lt 0 (length digits) && (list_all (λ digit. nat_lt (digit_value digit) 10) digits && nat_le (digits_value 10 digits) 4294967295)
-
--- the number that the digits write, before which a plus may stand; the command takes no other text
-abbrev pub seed_named : Text → ℕ
-seed_named text = let digits = without_leading_plus text in if writes_seed digits then digits_value 10 digits else 0
-
--- the seed that the words give
-abbrev pub seed_of : List Row → ℕ
-seed_of rows = option_map_or seed_named (one_of (codes "SEED") rows) 0
-
--- the words enter `make`, and these are the number of the ring's buses and the seed
-pub record AsksMake (words : List Text) (buses seed : ℕ) : Type 0 where
-  pub rows : List Row
-  pub enters : Enters words (codes "make") rows
-  pub buses_are : buses ≡ size_of rows
-  pub seed_is : seed ≡ seed_of rows
-  pub is_size : IsRingSize buses
-  pub is_small : seed ≤ 4294967295
+-- where the words give a seed of 32 bits, it is this one
+abbrev pub ReadsSeed : List Row → ℕ → Type 0
+ReadsSeed rows seed = (text : Text) (n : ℕ) → one_of (codes "SEED") rows ≡ Some text → Writes text n → n ≤ 4294967295 → seed ≡ n
 
 -- `pool` reads this file, of these two
 abbrev pub IsPoolFile : Text → Text → Text → Type 0

@@ -210,7 +210,7 @@ fn make_command<'a>(alloc: Global, sizes: &'a [&'a str]) -> Result<Command<'a>, 
     described(
         alloc,
         "make",
-        "Makes the files of a network of buses in a ring",
+        "Makes a market of buses in a ring, clears it and sums it up",
     )
     .arg(size_value(alloc, sizes))?
     .arg(seed_value(alloc))

@@ -133,7 +133,7 @@ const TABLE: [(&str, &str); 32] = [
     ),
     (
         "sced make --help",
-        "Makes the files of a network of buses in a ring",
+        "Makes a market of buses in a ring, clears it and sums it up",
     ),
 ];
 

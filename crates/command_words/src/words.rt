@@ -2,7 +2,7 @@
 
 ghost use Rattle.std.specs.Prelude.{◌≡◌, ◌≢◌, ◌≤◌, codes, map, string_bytes, IfOk, IfErr};
 ghost use Rattle.clap.specs.Words.{first_of, found_of, rows_of};
-ghost use Rattle.command_words.specs.Words.{AsksNothing, IsRingSize, check_names, file_of, market_names, rating_of, seed_of, size_of};
+ghost use Rattle.command_words.specs.Words.{AsksNothing, IsRingSize, ReadsSeed, check_names, file_of, market_names, rating_of, size_of};
 ghost use Rattle.command_words.specs.Requests.{Asks, names_of_market, names_to_check, text_of_name};
 
 use crate::command::sced_command;
@@ -214,7 +214,7 @@ fn named_size(matches: &ArgMatches<'_>) -> usize
 
 /// The seed that is given.
 fn named_seed(matches: &ArgMatches<'_>) -> u64
-    ensures given { result ≡ seed_of (rows_of (found_of matches.now)) }
+    ensures given { ReadsSeed (rows_of (found_of matches.now)) result }
     ensures small { result ≤ 4294967295 }
 {
     match matches.get_one::<u32>("SEED") {
@@ -226,7 +226,7 @@ fn named_seed(matches: &ArgMatches<'_>) -> u64
 /// The ring that is to be made.
 fn ring_words(matches: &ArgMatches<'_>) -> RingWords
     ensures buses { result.buses ≡ size_of (rows_of (found_of matches.now)) }
-    ensures seed { result.seed ≡ seed_of (rows_of (found_of matches.now)) }
+    ensures seed { ReadsSeed (rows_of (found_of matches.now)) result.seed }
     ensures ring { IsRingSize result.buses }
     ensures small { result.seed ≤ 4294967295 }
 {

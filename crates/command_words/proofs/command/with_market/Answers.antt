@@ -2,11 +2,11 @@ use Rattle.std.proofs.Common.{◌∙◌, ap, ap₂, codes}
 use Rattle.std.proofs.lemmas.Result.{IfOk-weaker}
 use Rattle.clap.specs.Words.{with_rule}
 use Rattle.command_words.specs.Words.{with_file, with_table}
-use Rattle.command_words.proofs.command.clear_command.Goals as goal
+use Rattle.command_words.proofs.command.with_market.Goals as goal
 
 pub returns-clause-app : goal.returns-clause-app
 returns-clause-app c =
-    let case = c.in_ok-command.ensures.app ∙ ap (λ a. with_file a (codes "case")) c.described-command.ensures.app in
+    let case = c.in_ok-command.ensures.app in
     let ptdf = c.in_ok-command-2.ensures.app ∙ ap (λ a. with_file a (codes "ptdf")) case in
     let offers = c.in_ok-command-3.ensures.app ∙ ap (λ a. with_file a (codes "offers")) ptdf in
     let lodf = c.in_ok-command-4.ensures.app ∙ ap (λ a. with_table a (codes "lodf")) offers in

@@ -1,0 +1,18 @@
+use Rattle.std.proofs.Common.{◌∙◌, ap₂}
+use Rattle.std.proofs.lemmas.Result.{IfOk-weaker}
+use Rattle.clap.specs.Words.{App, with_subcommand}
+use Rattle.command_words.specs.Words.{sced_app_over}
+use Rattle.command_words.proofs.command.sced_command.Goals as goal
+
+abbrev joined : App → App → App
+joined a s = with_subcommand a s.top
+
+pub returns-clause-app : goal.returns-clause-app
+unfolding sced_app_over
+returns-clause-app c =
+    let pool = c.in_ok-command.ensures.app ∙ ap₂ joined c.bare_command.ensures.app c.in_ok-pool_command.ensures.app in
+    let clear = c.in_ok-command-2.ensures.app ∙ ap₂ joined pool c.in_ok-clear_command.ensures.app in
+    let replay = c.in_ok-command-3.ensures.app ∙ ap₂ joined clear c.in_ok-replay_command.ensures.app in
+    let verify = c.in_ok-command-4.ensures.app ∙ ap₂ joined replay c.in_ok-verify_command.ensures.app in
+    let check = c.in_ok-command-5.ensures.app ∙ ap₂ joined verify c.in_ok-check_command.ensures.app in
+    IfOk-weaker c.with_subcommand-6.result _ _ (λ r h. h ∙ ap₂ joined check c.in_ok-make_command.ensures.app) c.with_subcommand-6.ensures.app
