@@ -1,5 +1,7 @@
 pub mod DrawLemmas
 pub mod FactorLemmas
+pub mod FactorValues
+pub mod KirchhoffLaws
 pub mod PlaceLists
 pub mod RingCounts
 pub mod RingMarkets

@@ -23,7 +23,7 @@ use Rattle.case_maker.proofs.FactorLemmas.{are-factors, loss-small, shift-small}
 use Rattle.case_maker.proofs.PlaceLists.{All-flat, All-places, at-place, length-flat, numbers-differ}
 
 -- what holds of each size
-by-size : (P : ℕ → Type 0) → P 4 → P 8 → P 16 → P 32 → P 64 → (n : ℕ) → IsRingSize n → P n
+pub by-size : (P : ℕ → Type 0) → P 4 → P 8 → P 16 → P 32 → P 64 → (n : ℕ) → IsRingSize n → P n
 by-size P four eight sixteen thirty_two sixty_four n h = elim h [
   | inl e ↦ subst P (sym e) four
   | inr h ↦ elim h [

@@ -4,7 +4,7 @@ ghost use Rattle.std.specs.Prelude.{◌≡◌, ℕ, ◌+◌, ◌*◌, ◌/◌, �
 ghost use Rattle.case_maker.specs.Rings.{drawn, next_state, state};
 
 /// What is drawn for a bus, for its unit and for the branch that leaves it.
-#[derive(Clone, Copy, Debug)]
+#[derive(Clone, Copy, PartialEq, Eq, Debug)]
 pub(crate) struct Drawn {
     /// In MW.
     pub(crate) load: u32,
