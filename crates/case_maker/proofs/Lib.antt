@@ -1,0 +1,9 @@
+pub mod DrawLemmas
+pub mod FactorLemmas
+pub mod FactorValues
+pub mod KirchhoffLaws
+pub mod PlaceLists
+pub mod RingCounts
+pub mod RingMarkets
+pub mod RingParts
+pub mod Serving

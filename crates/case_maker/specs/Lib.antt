@@ -1,2 +1,3 @@
+pub mod Kirchhoff
 pub mod Laws
 pub mod Rings

@@ -1,5 +1,5 @@
 -- Ring networks that are made from a seed. Every bus has a load and a unit that can serve it, and each branch may be lost.
-use Rattle.std.specs.Prelude.{◌≡◌, ◌⊎◌, ℕ, ◌+◌, ◌-◌, ◌*◌, ◌/◌, ◌%◌, ◌^◌, ◌==◌, nat_lt, ℤ, pos, neg_ℤ, Some, List, [], ◌∷◌, map, if◌then◌else◌}
+use Rattle.std.specs.Prelude.{◌≡◌, ◌⊎◌, ℕ, ◌+◌, ◌-◌, ◌*◌, ◌/◌, ◌%◌, ◌^◌, ◌==◌, nat_lt, ℤ, pos, neg_ℤ, Some, List, [], ◌∷◌, ◌++◌, map, if◌then◌else◌}
 use Rattle.std.specs.List.{flat_map}
 use Rattle.std.proofs.Common.{zero, suc}
 use Rattle.market_data.specs.Scales.{mw_places, price_places, factor_places}
@@ -81,9 +81,12 @@ shift_of n l i = if nat_lt l i then neg_ℤ (share (n - i) n) else share i n
 abbrev pub loss_of : ℕ → ℕ → ℤ
 loss_of l lost = if l == lost then pos 0 else neg_ℤ (pos (10 ^ factor_places))
 
+abbrev pub factor_by : (ℕ → ℕ → ℤ) → ℕ → ℕ → Factor
+factor_by value l i = record { line = l; of = i; value = value l i }
+
 -- a factor for each pair, line by line, also where it is 0
 abbrev pub factors_by : (ℕ → ℕ → ℤ) → ℕ → List Factor
-factors_by value n = flat_map (λ l. map (λ i. record { line = l; of = i; value = value l i }) (places n)) (places n)
+factors_by value n = flat_map (λ l. map (factor_by value l) (places n)) (places n)
 
 -- ---- the ring
 -- the market of a ring of n buses; each branch is an outage
@@ -96,4 +99,14 @@ ring_of n seed = record {
   outages = map (λ i. i + 1) (places n);
   shift = factors_by (shift_of n) n;
   loss = factors_by loss_of n;
+}
+
+-- a market with one bus more: with its unit, its blocks and the branch that leaves it, which is an outage too
+abbrev pub with_bus : Parts → ℕ → Drawn → Parts
+with_bus m i d = record m {
+  buses = m.buses ++ bus_of i d ∷ [];
+  units = m.units ++ unit_of i ∷ [];
+  blocks = m.blocks ++ blocks_of i d;
+  lines = m.lines ++ line_of i d ∷ [];
+  outages = m.outages ++ (i + 1) ∷ [];
 }

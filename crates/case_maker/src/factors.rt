@@ -1,7 +1,7 @@
 //! The factors of a ring.
 
 ghost use Rattle.std.specs.Prelude.{◌≡◌, ◌<◌, ◌≤◌, IfOk};
-ghost use Rattle.case_maker.specs.Rings.{factors_by, loss_of, share, shift_of};
+ghost use Rattle.case_maker.specs.Rings.{factor_by, factors_by, loss_of, share, shift_of};
 
 use market_model::{Factor, List, Memory};
 use std::alloc::Global;
@@ -20,23 +20,33 @@ fn share(parts: usize, size: usize) -> i64
 }
 
 /// What flows on a line of all that a bus puts in.
-fn shift_of(size: usize, line: usize, bus: usize) -> i64
+fn shift_factor(size: usize, line: usize, bus: usize) -> Factor
     requires bus { bus < size }
     requires few { size ≤ 64 }
-    ensures { result ≡ shift_of size line bus }
+    ensures { result ≡ factor_by (shift_of size) line bus }
 {
-    if line < bus {
+    let value = if line < bus {
         -share(size - bus, size)
     } else {
         share(bus, size)
+    };
+    Factor {
+        line,
+        of: bus,
+        value,
     }
 }
 
 /// What goes over to a line of what a lost one carried.
-fn loss_of(line: usize, lost: usize) -> i64
-    ensures { result ≡ loss_of line lost }
+fn loss_factor(line: usize, lost: usize) -> Factor
+    ensures { result ≡ factor_by loss_of line lost }
 {
-    if line == lost { 0 } else { -(WHOLE as i64) }
+    let value = if line == lost { 0 } else { -(WHOLE as i64) };
+    Factor {
+        line,
+        of: lost,
+        value,
+    }
 }
 
 /// The shift factors of a ring, a row of buses for each line.
@@ -47,8 +57,7 @@ pub(crate) fn shift_factors(alloc: Global, size: usize) -> Result<List<Factor>, 
     let mut factors = List::new(alloc);
     for line in 0..size {
         for of in 0..size {
-            let value = shift_of(size, line, of);
-            factors.push(Factor { line, of, value })?;
+            factors.push(shift_factor(size, line, of))?;
         }
     }
     Ok(factors)
@@ -61,8 +70,7 @@ pub(crate) fn loss_factors(alloc: Global, size: usize) -> Result<List<Factor>, M
     let mut factors = List::new(alloc);
     for line in 0..size {
         for of in 0..size {
-            let value = loss_of(line, of);
-            factors.push(Factor { line, of, value })?;
+            factors.push(loss_factor(line, of))?;
         }
     }
     Ok(factors)

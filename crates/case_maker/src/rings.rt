@@ -1,8 +1,8 @@
 //! The market of a ring.
 
-ghost use Rattle.std.specs.Prelude.{◌≡◌, ◌+◌, ◌++◌, ◌∷◌, [], ◌≤◌, ◌<◌, IfOk};
+ghost use Rattle.std.specs.Prelude.{◌≡◌, ◌+◌, ◌≤◌, ◌<◌, IfOk};
 ghost use Rattle.market_model.specs.Market.{IsMarket};
-ghost use Rattle.case_maker.specs.Rings.{IsRingSize, bus_of, unit_of, blocks_of, half_sold, line_of, mw, per_mwh, ring_of};
+ghost use Rattle.case_maker.specs.Rings.{IsRingSize, bus_of, half_sold, line_of, mw, ring_of, unit_of, with_bus};
 
 use crate::draws::{Drawn, Draws};
 use crate::factors::{loss_factors, shift_factors};
@@ -28,12 +28,45 @@ fn half_sold(unit: usize, price: u32) -> Block
     }
 }
 
+/// The number of what stands at a place.
+fn number_of(place: usize) -> u32
+    requires { place < 64 }
+    ensures { result ≡ place + 1 }
+{
+    place as u32 + 1
+}
+
+fn bus_of(place: usize, drawn: &Drawn) -> Bus
+    requires { place < 64 }
+    ensures { result ≡ bus_of place drawn.now }
+{
+    Bus {
+        number: number_of(place),
+        pd: mw(drawn.load),
+        gs: 0,
+    }
+}
+
+fn unit_of(place: usize) -> Unit
+    requires { place < 64 }
+    ensures { result ≡ unit_of place }
+{
+    Unit {
+        row: number_of(place),
+        bus: place,
+        fixed: 0,
+        up: mw(100),
+        down: 0,
+    }
+}
+
 /// The branch from a bus to the next one.
-fn line_of(row: u32, drawn: &Drawn) -> Line
-    ensures { (i : ℕ) → row ≡ i + 1 → result ≡ line_of i drawn.now }
+fn line_of(place: usize, drawn: &Drawn) -> Line
+    requires { place < 64 }
+    ensures { result ≡ line_of place drawn.now }
 {
     Line {
-        row,
+        row: number_of(place),
         base: Some(mw(drawn.base_limit)),
         post: Some(mw(drawn.post_limit)),
         offset: 0,
@@ -43,31 +76,14 @@ fn line_of(row: u32, drawn: &Drawn) -> Line
 /// Adds a bus, its unit with two blocks, and the branch that leaves it, which is an outage too.
 fn push_bus(parts: &mut Parts, place: usize, drawn: &Drawn) -> Result<(), Memory>
     requires { place < 64 }
-    ensures buses { IfOk result (λ _. parts.new.buses ≡ parts.old.buses ++ bus_of place drawn.now ∷ []) }
-    ensures units { IfOk result (λ _. parts.new.units ≡ parts.old.units ++ unit_of place ∷ []) }
-    ensures blocks { IfOk result (λ _. parts.new.blocks ≡ parts.old.blocks ++ blocks_of place drawn.now) }
-    ensures lines { IfOk result (λ _. parts.new.lines ≡ parts.old.lines ++ line_of place drawn.now ∷ []) }
-    ensures outages { IfOk result (λ _. parts.new.outages ≡ parts.old.outages ++ (place + 1) ∷ []) }
-    ensures shift { IfOk result (λ _. parts.new.shift ≡ parts.old.shift) }
-    ensures loss { IfOk result (λ _. parts.new.loss ≡ parts.old.loss) }
+    ensures { IfOk result (λ _. parts.new ≡ with_bus parts.old place drawn.now) }
 {
-    let number = place as u32 + 1;
-    parts.buses.push(Bus {
-        number,
-        pd: mw(drawn.load),
-        gs: 0,
-    })?;
-    parts.units.push(Unit {
-        row: number,
-        bus: place,
-        fixed: 0,
-        up: mw(100),
-        down: 0,
-    })?;
+    parts.buses.push(bus_of(place, drawn))?;
+    parts.units.push(unit_of(place))?;
     parts.blocks.push(half_sold(place, drawn.first_price))?;
     parts.blocks.push(half_sold(place, drawn.second_price))?;
-    parts.lines.push(line_of(number, drawn))?;
-    parts.outages.push(number)
+    parts.lines.push(line_of(place, drawn))?;
+    parts.outages.push(number_of(place))
 }
 
 /// A ring of 4, 8, 16, 32 or 64 buses with loads, prices and limits that are drawn from a seed.

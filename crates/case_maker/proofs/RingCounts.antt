@@ -1,0 +1,85 @@
+-- How many limits a ring has.
+use Rattle.std.proofs.Common.{◌≡◌, ◌<◌, ◌+◌, ◌-◌, ◌*◌, ◌∙◌, ℕ, Bool, true, false, not, ◌==◌, ◌&&◌, is_some, length, filter, flat_map, get_or, refl, ap, sym, subst, arith, eq-eqb, ne_eqb, length-append}
+use Rattle.std.proofs.lemmas.List.{length-map}
+use Rattle.std.proofs.lemmas.List.Folds.{flat_map-map}
+use Rattle.std.proofs.lemmas.List.FromFn.{length-map-range_with_len, length-range_with_len}
+use Rattle.std.proofs.lemmas.List.Sums.{position_or_len_is}
+use Rattle.std.specs.List.{position_or_len}
+use Rattle.market_model.specs.declared.participants.Line.{Line}
+use Rattle.market_model.specs.declared.participants.Parts.{Parts}
+use Rattle.market_model.specs.Dispatch.{places, line_at}
+use Rattle.market_model.specs.LimitRows.{After, Base, Row, base_rows, has_base, has_post, place_of_line, rows, rows_after}
+use Rattle.case_maker.specs.Laws.{HasCounts}
+use Rattle.case_maker.specs.Rings.{blocks_of, bus_of, drawn, line_of, ring_of, unit_of}
+use Rattle.case_maker.proofs.PlaceLists.{count-all, count-others, length-flat, places-at}
+use Rattle.case_maker.proofs.RingParts.{line-at}
+
+module _ (n seed : ℕ) where
+  abbrev m : Parts
+  m = ring_of n seed
+
+  lines-count : length m.lines ≡ n
+  lines-count = length-map-range_with_len (λ i. line_of i (drawn seed i)) 0 n
+
+  base-count : length (base_rows m) ≡ n
+  base-count =
+      length-map (filter (has_base m) (places (length m.lines))) (λ l. let r : Row = record { line = l; cause = Base } in r)
+      ∙ ap (λ (k : ℕ). length (filter (has_base m) (places k))) lines-count
+      ∙ count-all (has_base m) 0 n (λ l p q. ap (λ (line : Line). is_some line.base) (line-at n seed l (omega (arith, q))))
+
+  after-count : (lost : ℕ) → lost < n → length (rows_after m lost) + 1 ≡ n
+  after-count lost lt =
+      let mapped : length (rows_after m lost) ≡ length (filter (has_post m lost) (places (length m.lines))) = length-map (filter (has_post m lost) (places (length m.lines))) (λ l. let r : Row = record { line = l; cause = After lost } in r) in
+      let lines : length (filter (has_post m lost) (places (length m.lines))) ≡ length (filter (has_post m lost) (places n)) = ap (λ (k : ℕ). length (filter (has_post m lost) (places k))) lines-count in
+      let kept : length (filter (has_post m lost) (places n)) + 1 ≡ n = count-others (has_post m lost) lost 0 n (λ l p q. post-of l (omega (arith, q))) (omega arith) (omega (arith, lt)) in
+      omega (arith, mapped, lines, kept)
+    where
+      and-true : (b : Bool) → (b && true) ≡ b
+      and-true true = refl
+      and-true false = refl
+
+      post-of : (l : ℕ) → l < n → has_post m lost l ≡ not (l == lost)
+      post-of l lt' = ap (λ (line : Line). not (l == lost) && is_some line.post) (line-at n seed l lt') ∙ and-true (not (l == lost))
+
+  row-place : (i : ℕ) → i < n → place_of_line m (i + 1) ≡ i
+  row-place i lt =
+      ap (λ (k : ℕ). position_or_len (λ l. (line_at m l).row == (i + 1)) (places k)) lines-count
+      ∙ position_or_len_is (λ l. (line_at m l).row == (i + 1)) (places n) i 0 (omega (arith, lt, length-range_with_len 0 n)) below (λ h. here)
+    where
+      row-of : (k : ℕ) → k < n → (line_at m (get_or (places n) k 0)).row ≡ k + 1
+      row-of k p = ap (λ (l : ℕ). (line_at m l).row) (places-at n k 0 p) ∙ ap (λ (line : Line). line.row) (line-at n seed k p)
+
+      below : (k : ℕ) → k < i → ((line_at m (get_or (places n) k 0)).row == (i + 1)) ≡ false
+      below k p = let is : (line_at m (get_or (places n) k 0)).row ≡ k + 1 = row-of k (omega (arith, p, lt)) in ne_eqb (line_at m (get_or (places n) k 0)).row (i + 1) (λ e. omega (arith, is, e, p))
+
+      here : ((line_at m (get_or (places n) i 0)).row == (i + 1)) ≡ true
+      here = eq-eqb (line_at m (get_or (places n) i 0)).row (i + 1) (row-of i lt)
+
+  pub limits-count : 0 < n → length (rows m) ≡ n * n
+  unfolding rows
+  limits-count some =
+      let after : length (flat_map (λ row. rows_after m (place_of_line m row)) m.outages) ≡ n * (n - 1) =
+      ap length (flat_map-map (λ row. rows_after m (place_of_line m row)) (λ i. i + 1) (places n))
+      ∙ length-flat (λ i. rows_after m (place_of_line m (i + 1))) 0 n (n - 1) (λ i p q.
+      let lt : i < n = omega (arith, q) in
+      let one : length (rows_after m (place_of_line m (i + 1))) ≡ length (rows_after m i) = ap (λ (k : ℕ). length (rows_after m k)) (row-place i lt) in
+      let others : length (rows_after m i) + 1 ≡ n = after-count i lt in
+      omega (arith, one, others)) in
+      let both : length (rows m) ≡ length (base_rows m) + length (flat_map (λ row. rows_after m (place_of_line m row)) m.outages) = length-append (base_rows m) (flat_map (λ row. rows_after m (place_of_line m row)) m.outages) in
+      let base : length (base_rows m) ≡ n = base-count in
+      square (n - 1) n (length (rows m)) (omega (arith, some)) (omega (arith, both, base, after))
+    where
+      square : (k n c : ℕ) → k + 1 ≡ n → c ≡ n + n * k → c ≡ n * n
+      square k n c e h =
+          let q : (k + 1) + (k + 1) * k ≡ (k + 1) * (k + 1) = omega arith in
+          subst (λ (t : ℕ). c ≡ t * t) e (subst (λ (t : ℕ). c ≡ t + t * k) (sym e) h ∙ q)
+
+  pub has-counts : 0 < n → HasCounts n seed
+  has-counts some = record {
+    buses = length-map-range_with_len (λ i. bus_of i (drawn seed i)) 0 n;
+    units = length-map-range_with_len unit_of 0 n;
+    blocks = (let h : length m.blocks ≡ n * 2 = length-flat (λ i. blocks_of i (drawn seed i)) 0 n 2 (λ i p q. refl) in omega (arith, h));
+    lines = lines-count;
+    outages = length-map-range_with_len (λ i. i + 1) 0 n;
+    limits = limits-count some;
+  }
