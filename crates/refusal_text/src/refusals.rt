@@ -1,9 +1,10 @@
 //! Why a file is refused, and the line that says so.
 
 ghost use Rattle.std.specs.Prelude.{◌≡◌, ◌++◌, codes, decimal, IfOk};
-ghost use Rattle.refusal_text.specs.Refusals.{field_name, why_name, case_words, net_words, table_words, side_text, outage_words, lack_words, offer_words, step_words, input_name, refusal_words, refusal_line};
+ghost use Rattle.refusal_text.specs.Refusals.{field_name, why_name, case_words, net_words, table_words, side_text, outage_words, lack_words, offer_words, step_words, key_name, input_name, refusal_words, refusal_line};
 
 use case_text::{CaseFault, Field};
+use cert_format::Key;
 use edit_table::StepFault;
 use factor_tables::{TableFault, Uncovered};
 use line_text::Text;
@@ -30,6 +31,8 @@ pub enum Input {
     Offsets,
     /// The table of edits and clears.
     Edits,
+    /// What shows that a clear came to what it did.
+    Certificate,
 }
 
 /// Why a file stands for nothing that the program may work on.
@@ -50,6 +53,8 @@ pub enum Refusal {
     Uncovered(Uncovered),
     Offers(OfferFault),
     Edits(StepFault),
+    /// The first part of a certificate that is at fault.
+    Certificate(Key),
 }
 
 fn field_word(field: Field) -> &'static [u8]
@@ -274,6 +279,20 @@ fn write_lack(text: &mut Text, lack: Uncovered) -> Result<(), Memory>
     }
 }
 
+fn key_word(key: Key) -> &'static [u8]
+    ensures { result.now ≡ key_name key }
+{
+    match key {
+        Key::Json => b"json",
+        Key::Version => b"version",
+        Key::Kind => b"kind",
+        Key::Energy => b"energy",
+        Key::Blocks => b"blocks",
+        Key::Limits => b"limits",
+        Key::Extra => b"extra",
+    }
+}
+
 fn input_word(input: Input) -> &'static [u8]
     ensures { result.now ≡ input_name input }
 {
@@ -285,6 +304,7 @@ fn input_word(input: Input) -> &'static [u8]
         Input::Offers => b"offers ",
         Input::Offsets => b"offsets ",
         Input::Edits => b"edits ",
+        Input::Certificate => b"certificate ",
     }
 }
 
@@ -330,6 +350,10 @@ fn write_refusal(text: &mut Text, refusal: &Refusal) -> Result<(), Memory>
         Refusal::Edits(fault) => {
             text.word(b"edits ")?;
             write_step_fault(text, *fault)
+        }
+        Refusal::Certificate(key) => {
+            text.word(b"certificate Key ")?;
+            text.word(key_word(*key))
         }
     }
 }
