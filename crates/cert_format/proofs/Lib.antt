@@ -1,0 +1,7 @@
+pub mod CertLemmas
+pub mod EachLemmas
+pub mod FractionLemmas
+pub mod NumberLemmas
+pub mod QuotientLemmas
+pub mod RowLemmas
+pub mod TextLemmas

@@ -53,10 +53,10 @@ fn slash(text: &[u8]) -> Option<usize>
 fn quotient<N: Exact>(text: &[u8]) -> Option<N>
     ensures { (x : Fraction) → Spells N.bound text.now x → option_map N.value result ≡ Some x }
 {
-    let (below, rest) = behind_sign(text);
-    let place = slash(rest)?;
-    let num = number::<N>(&rest[..place])?;
-    let den = number::<N>(&rest[place + 1..])?;
+    let place = slash(text)?;
+    let (below, digits) = behind_sign(&text[..place]);
+    let num = number::<N>(digits)?;
+    let den = number::<N>(&text[place + 1..])?;
     if den.sign() == Sign::Zero {
         return None;
     }

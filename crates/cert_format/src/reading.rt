@@ -29,7 +29,10 @@ enum Kind {
 fn size_of(value: &Value) -> Option<usize>
     ensures { result ≡ size_of (view value.now) }
 {
-    value.as_object().map(|members| members.len())
+    match value.as_object() {
+        Some(members) => Some(members.len()),
+        None => None,
+    }
 }
 
 fn has_size(value: &Value, size: usize) -> bool
