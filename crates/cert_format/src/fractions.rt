@@ -1,6 +1,6 @@
 //! The fraction of a text `num/den`.
 
-ghost use Rattle.std.specs.Prelude.{◌≡◌, ◌≢◌, ℕ, ◌≤◌, pos, Some, option_map, IfSome, IfNone, position, cond, drop};
+ghost use Rattle.std.specs.Prelude.{◌≡◌, ◌≢◌, ℕ, ◌≤◌, pos, Some, option_map, IsTrue, ◌↔◌, position, cond, drop};
 ghost use Rattle.std.specs.Str.Parse.{starts_with_minus};
 ghost use Rattle.fraction_theory.specs.Fraction.{Fraction, whole};
 ghost use Rattle.exact_fraction.specs.Written.{number_text, parts_text};
