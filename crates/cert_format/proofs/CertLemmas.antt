@@ -12,7 +12,7 @@ use Rattle.json.proofs.Printed.Utf8.{IsUtf8-are_ascii, are_ascii}
 use Rattle.serde_json.specs.Data.{Data, Items, no_items, item}
 use Rattle.serde_json.specs.Read.{max_depth, of_items, of_json, read}
 use Rattle.serde_json.specs.View.{items_of}
-use Rattle.serde_json.specs.Written.{compact_text, has_float, items_outline, outline}
+use Rattle.serde_json.specs.Written.{has_float, items_have_float, items_outline, outline}
 use Rattle.serde_json.proofs.Numbers.{number_of-decimal}
 use Rattle.serde_json.proofs.OnLiterals.{serde_json_on_literals}
 use Rattle.cert_format.specs.declared.certificate.Cert.{Cert}
@@ -24,7 +24,7 @@ use Rattle.cert_format.specs.Grammar.{cert_in, cert_read, each, farkas_in, fract
 use Rattle.cert_format.specs.Written.{cert_data, cert_text, fraction_data, limit_data, limits_data}
 use Rattle.cert_format.proofs.FractionLemmas.{fraction_of-read}
 use Rattle.cert_format.proofs.RowLemmas.{names-distinct}
-use Rattle.cert_format.proofs.TextLemmas.{IsPlain, ItemsArePlain, plain-float, read-compact_text, utf8-data, utf8-parts_text}
+use Rattle.cert_format.proofs.TextLemmas.{IsPlain, ItemsArePlain, read-compact_text, utf8-data, utf8-parts_text}
 
 -- ---- what is written has no floats, and texts in UTF-8
 plain-blocks : (xs : List Fraction) → ItemsArePlain (items_of (map fraction_data xs))
@@ -61,6 +61,18 @@ plain-cert (cert.Farkas energy limits) h =
       (key_utf8 (codes "kind") refl, key_utf8 (codes "farkas") refl,
         (key_utf8 (codes "limits") refl, plain-limits limits h,
           (key_utf8 (codes "version") refl, omega arith, tt))))
+
+float-blocks : (xs : List Fraction) → items_have_float (items_of (map fraction_data xs)) ≡ false
+float-blocks [] = refl
+float-blocks (x ∷ xs) = float-blocks xs
+
+float-limits : (ds : List (Dual Fraction)) → items_have_float (items_of (map limit_data ds)) ≡ false
+float-limits [] = refl
+float-limits (d ∷ ds) = float-limits ds
+
+pub no-float : (c : Cert Fraction) → has_float (cert_data c) ≡ false
+no-float (cert.Optimal blocks energy limits) = rw (float-blocks blocks, float-limits limits) refl
+no-float (cert.Farkas energy limits) = rw (float-limits limits) refl
 
 -- ---- nests four deep at most
 flat-blocks : (xs : List Fraction) → tree.items_depth (items_outline (items_of (map fraction_data xs))) ≤ 0

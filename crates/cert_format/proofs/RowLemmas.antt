@@ -2,7 +2,7 @@
 use Rattle.std.proofs.Common.{◌≡◌, ◌<◌, ◌≤◌, ◌+◌, ◌∙◌, sym, ap, refl, zero, suc, arith, ℕ, List, [], ◌∷◌, ◌++◌, map, length, get_or, Bool, true, false, Option, Some, None, All}
 use Rattle.std.specs.Prelude.{◌≢◌, ◌==◌, ◌&&◌, ◌||◌, AllPairs, not, option_map, option_and_then}
 use Rattle.std.specs.List.{list_any}
-use Rattle.std.proofs.lemmas.Bool.{and_parts, and_from, cases_Bool, eq-eqb, eqb-true, or_parts, or_right, true≢false}
+use Rattle.std.proofs.lemmas.Bool.{and_parts, and_from, cases_Bool, eq-eqb, eqb-true, false_from_ne_true, or_from, or_parts, or_right, true≢false}
 use Rattle.std.proofs.lemmas.List.Folds.{list_any-append}
 use Rattle.fraction_theory.specs.Fraction.{Fraction}
 use Rattle.market_model.specs.declared.answered.Dual.{Dual}
@@ -32,11 +32,7 @@ apart row (x ∷ ds) h (suc i) d lt e = let p = or_parts _ _ h in apart row ds p
 
 none_of : (row : RowId) (ds : Duals) → ((i : ℕ) (d : Dual Fraction) → i < length ds → row ≢ (get_or ds i d).row) → list_any (is_of row) ds ≡ false
 none_of row [] h = refl
-none_of row (x ∷ ds) h = by (is_of row x) refl
-  where
-    by : (b : Bool) → is_of row x ≡ b → list_any (is_of row) (x ∷ ds) ≡ false
-    by true e = absurd (h 0 x (omega arith) (one_row row x e))
-    by false e = rw e (none_of row ds (λ i d lt. h (suc i) d (omega (arith, lt))))
+none_of row (x ∷ ds) h = or_from _ _ (false_from_ne_true (is_of row x) (λ e. h 0 x (omega arith) (one_row row x e))) (none_of row ds (λ i d lt. h (suc i) d (omega (arith, lt))))
 
 not_any : (b c : Bool) → (not b && c) ≡ true → (b ≡ false) × (c ≡ true)
 not_any true c h = absurd (true≢false (sym h))
@@ -71,8 +67,8 @@ same_either_way a b x y p q = by (is_of a x) refl
 pub distinct-push : (ds : Duals) (x : Dual Fraction) → distinct ds ≡ true → list_any (is_of x.row) ds ≡ false → distinct (ds ++ x ∷ []) ≡ true
 distinct-push [] x h new = refl
 distinct-push (d ∷ ds) x h new =
-    let p = not_any _ _ h in
-    let q = or_parts _ _ new in
+    let p = not_any (list_any (is_of d.row) ds) (distinct ds) h in
+    let q = or_parts (is_of x.row d) (list_any (is_of x.row) ds) new in
     let rest = distinct-push ds x p.1 q.1 in
     let other : is_of d.row x ≡ false = same_either_way d.row x.row x d refl refl ∙ q.0 in
     rw (list_any-append (is_of d.row) ds (x ∷ []), p.0, other) rest
@@ -88,16 +84,14 @@ and_nothing false = refl
 
 pub distinct-twice : (ds : Duals) (x : Dual Fraction) (more : Duals) → list_any (is_of x.row) ds ≡ true → distinct ((ds ++ x ∷ []) ++ more) ≡ false
 distinct-twice [] x more h = absurd (true≢false (sym h))
-distinct-twice (d ∷ ds) x more h = by (is_of x.row d) refl
+distinct-twice (d ∷ ds) x more h = by (distinct-twice ds x more) (is_of x.row d) refl
   where
-    by : (b : Bool) → is_of x.row d ≡ b → distinct (((d ∷ ds) ++ x ∷ []) ++ more) ≡ false
-    by true e =
+    by : (list_any (is_of x.row) ds ≡ true → distinct ((ds ++ x ∷ []) ++ more) ≡ false) → (b : Bool) → is_of x.row d ≡ b → distinct (((d ∷ ds) ++ x ∷ []) ++ more) ≡ false
+    by again true e =
         let other : is_of d.row x ≡ true = same_either_way d.row x.row x d refl refl ∙ e in
         let found : list_any (is_of d.row) ((ds ++ x ∷ []) ++ more) ≡ true = found_in ds d.row x more other in
         rw found refl
-    by false e =
-        let rest = distinct-twice ds x more (rw e at h) in
-        rw rest (and_nothing _)
+    by again false e = rw (again (rw e at h)) (and_nothing (not (list_any (is_of d.row) ((ds ++ x ∷ []) ++ more))))
 
 -- so that the limits are none, whatever follows
 pub repeated : (done : Duals) (x : Dual Fraction) (o : Option Duals) → list_any (is_of x.row) done ≡ true → option_and_then if_distinct (option_map (λ xs. (done ++ x ∷ []) ++ xs) o) ≡ None

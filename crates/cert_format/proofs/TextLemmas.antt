@@ -1,9 +1,8 @@
 -- The text of a value without floats is UTF-8, and reads as the value.
-use Rattle.std.specs.Prelude.{◌≡◌, ℕ, ◌<◌, ◌≤◌, ◌^◌, List, [], ◌∷◌, ◌++◌, Bool, true, false, codes, decimal, Option, Some, None, option_and_then, IsUtf8, slice_index, ℤ, pos, negsuc, unsigned_abs}
+use Rattle.std.specs.Prelude.{◌≡◌, ℕ, ◌<◌, ◌≤◌, ◌^◌, List, [], ◌∷◌, ◌++◌, Bool, true, false, codes, decimal, Option, Some, None, option_and_then, IsUtf8, slice_index, ℤ, pos, negsuc, unsigned_abs, Result, Ok, Err, MatchResult, IsOk}
 use Rattle.std.specs.List.{AllByRecursion}
 use Rattle.std.specs.Str.{IsAscii}
 use Rattle.std.proofs.Common.{zero, suc, arith, ap, sym, ◌∙◌, subst, refl, append-nil}
-use Rattle.std.proofs.lemmas.Bool.{or_from}
 use Rattle.std.proofs.lemmas.Str.{IsUtf8-append, IsUtf8-from_ascii}
 use Rattle.json.specs.Json as json
 use Rattle.json.specs.Lex.{tokens}
@@ -16,7 +15,7 @@ use Rattle.json.proofs.Printed.Trees.{ArePrintable-json_tokens, value-json_token
 use Rattle.json.proofs.Printed.Utf8.{IsUtf8-quoted}
 use Rattle.serde_json.specs.Data.{Data, null, boolean, number, string, array, object, Items, no_items, item, Members, no_members, member, Num, unsigned, negative, float}
 use Rattle.serde_json.specs.Read.{max_depth, of_json, read}
-use Rattle.serde_json.specs.Written.{comma_if, compact_text, has_float, items_have_float, items_outline, items_text, members_have_float, members_outline, members_text, outline}
+use Rattle.serde_json.specs.Written.{comma_if, compact_text, items_outline, items_text, members_outline, members_text, outline}
 use Rattle.serde_json.specs.Written as serde
 use Rattle.serde_json.proofs.Texts.{print-outline}
 use Rattle.exact_fraction.specs.Written.{number_text, parts_text, sign_text}
@@ -106,26 +105,6 @@ mutual
       (IsUtf8-append (58 ∷ []) (compact_text d ++ members_text true ms) (utf8 (58 ∷ []) (omega arith, tt))
       (IsUtf8-append (compact_text d) (members_text true ms) (utf8-data d h.1) (utf8-members true ms h.2))))
 
--- it has no float
-mutual
-  pub plain-float : (d : Data) → IsPlain d → has_float d ≡ false
-  plain-float null h = refl
-  plain-float (boolean b) h = refl
-  plain-float (number (unsigned n)) h = refl
-  plain-float (number (negative z)) h = refl
-  plain-float (number (float x)) h = absurd h
-  plain-float (string s) h = refl
-  plain-float (array ds) h = plain-items ds h
-  plain-float (object ms) h = plain-members ms h
-
-  plain-items : (ds : Items) → ItemsArePlain ds → items_have_float ds ≡ false
-  plain-items no_items h = refl
-  plain-items (item d ds) h = or_from _ _ (plain-float d h.0) (plain-items ds h.1)
-
-  plain-members : (ms : Members) → MembersArePlain ms → members_have_float ms ≡ false
-  plain-members no_members h = refl
-  plain-members (member k d ms) h = or_from _ _ (plain-float d h.1) (plain-members ms h.2)
-
 -- its numbers are numbers of JSON
 mutual
   numbers : (d : Data) → IsPlain d → tree.HasNumbers (outline d)
@@ -147,14 +126,17 @@ mutual
   numbers-members (member k d ms) h = (numbers d h.1, numbers-members ms h.2)
 
 -- what JSON there is of a text
-whole : Option (json.Json × List Token) → Option Data
-unfolding whole
+abbrev whole : Option (json.Json × List Token) → Option Data
 whole o = option_and_then of_json (option_and_then (λ p. json.if_last p.0 p.1) o)
 
 -- a text reads as the value that it was written for, if that nests no deeper than is read, and its outline gives it again
 pub read-compact_text : (d : Data) → IsPlain d → tree.depth (outline d) ≤ max_depth → of_json (outline d) ≡ Some d → read (compact_text d) ≡ Some d
-unfolding whole
 read-compact_text d plain shallow again =
     let text : tokens (compact_text d) ≡ tree.json_tokens (outline d) = ap tokens (sym (print-outline d)) ∙ tokens-print (tree.json_tokens (outline d)) (ArePrintable-json_tokens (outline d) (numbers d plain)) in
     ap (λ ts. whole (json.value max_depth ts)) (text ∙ sym (append-nil (tree.json_tokens (outline d))))
     ∙ ap whole (value-json_tokens (outline d) max_depth [] shallow) ∙ again
+
+-- bytes that are UTF-8 are taken as a text
+pub is_ok : {T E P : Type 0} (r : Result T E) (Q : T → Type 0) (R : E → Type 0) → P → MatchResult r Q (λ e. ¬ P × R e) → IsOk r
+is_ok (Ok x) Q R p h = tt
+is_ok (Err e) Q R p h = absurd (h.0 p)
