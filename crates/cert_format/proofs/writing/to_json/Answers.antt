@@ -1,0 +1,5 @@
+use Rattle.std.proofs.Common.{◌≡◌, ◌∙◌, ap}
+use Rattle.cert_format.proofs.writing.to_json.Goals as goal
+
+pub returns-clause-reads_back : goal.returns-clause-reads_back
+returns-clause-reads_back g c = ?

@@ -1,0 +1,58 @@
+-- Certificates, and those of what a clear came to.
+use Rattle.std.specs.Prelude.{◌≡◌, ◌≢◌, ℕ, ◌<◌, ◌≤◌, ◌-◌, ◌^◌, List, map, All, AllPairs, Option, Some, None, unsigned_abs}
+use Rattle.fraction_theory.specs.Fraction.{Fraction}
+use Rattle.market_model.specs.declared.answered.Dual.{Dual}
+use Rattle.market_model.specs.declared.answered.RowId.{RowId}
+use Rattle.market_model.specs.declared.answered.Outcome.{Outcome}
+use Rattle.market_model.specs.declared.answered.Outcome.TheVariants as outcome
+use Rattle.market_model.specs.Valued.{dual_at}
+use Rattle.cert_format.specs.declared.certificate.Cert.{Cert}
+use Rattle.cert_format.specs.declared.certificate.Cert.TheVariants as cert
+
+-- a certificate with each number as the fraction that it stands for
+abbrev pub cert_at : {N : Type 0} → (N → Fraction) → Cert N → Cert Fraction
+cert_at value (cert.Optimal blocks energy limits) = cert.Optimal (map value blocks) (value energy) (map (dual_at value) limits)
+cert_at value (cert.Farkas energy limits) = cert.Farkas (value energy) (map (dual_at value) limits)
+
+-- the duals of limits, whatever the kind
+abbrev pub limits_of : Cert Fraction → List (Dual Fraction)
+limits_of (cert.Optimal blocks energy limits) = limits
+limits_of (cert.Farkas energy limits) = limits
+
+-- no row is named twice
+abbrev pub NamesNoRowTwice : List (Dual Fraction) → Type 0
+NamesNoRowTwice limits = AllPairs (λ a b. a.row ≢ b.row) limits
+
+abbrev pub RowsAreDistinct : Cert Fraction → Type 0
+RowsAreDistinct c = NamesNoRowTwice (limits_of c)
+
+-- numerator and denominator are at most so great
+pub record Fits (most : ℕ) (x : Fraction) : Type 0 where
+  pub num : unsigned_abs x.num ≤ most
+  pub den : x.den ≤ most
+
+-- the most that a numerator or a denominator may be: that of 127 bits
+abbrev pub most_part : ℕ
+most_part = 2 ^ 127 - 1
+
+-- a row's numbers have 32 bits
+pub record RowFits (row : RowId) : Type 0 where
+  pub branch : row.branch < 2 ^ 32
+  pub outage : row.outage < 2 ^ 32
+
+pub record DualFits (d : Dual Fraction) : Type 0 where
+  pub row : RowFits d.row
+  pub up : Fits most_part d.up
+  pub down : Fits most_part d.down
+
+-- a certificate that has a text: every number is within its bound, and no row is named twice
+abbrev pub CertFits : Cert Fraction → Type 0
+CertFits (cert.Optimal blocks energy limits) = All (Fits most_part) blocks × Fits most_part energy × All DualFits limits × NamesNoRowTwice limits
+CertFits (cert.Farkas energy limits) = Fits most_part energy × All DualFits limits × NamesNoRowTwice limits
+
+-- the certificate of what a clear came to: the dispatch with the duals of an answer, or the duals that show that no dispatch is
+-- feasible; there is none where numbers became too large
+abbrev pub cert_of_outcome : Outcome Fraction → Option (Cert Fraction)
+cert_of_outcome (outcome.Cleared a) = Some (cert.Optimal a.dispatch a.duals.energy a.duals.limits)
+cert_of_outcome (outcome.Infeasible f) = Some (cert.Farkas f.duals.energy f.duals.limits)
+cert_of_outcome (outcome.Range p) = None

@@ -1,0 +1,147 @@
+-- The certificate that a text stands for, or the first part of it that is not in the grammar.
+use Rattle.std.specs.Prelude.{◌≡◌, ℕ, ◌^◌, ◌==◌, ◌&&◌, Bool, true, false, not, nat_lt, List, [], ◌∷◌, codes, Option, Some, None, option_and_then, option_map, is_none, Result, Ok, Err, if◌then◌else◌}
+use Rattle.std.specs.List.{list_any}
+use Rattle.std.specs.Str.{bytes_eq, is_utf8}
+use Rattle.fraction_theory.specs.Fraction.{Fraction}
+use Rattle.market_model.specs.declared.answered.Dual.{Dual}
+use Rattle.market_model.specs.declared.answered.RowId.{RowId}
+use Rattle.serde_json.specs.Data.{Data, Items, no_items, item}
+use Rattle.serde_json.specs.Events.{members_len}
+use Rattle.serde_json.specs.Find.{as_array, as_number, as_object, as_str, as_u64, get}
+use Rattle.serde_json.specs.Read.{read}
+use Rattle.cert_format.specs.declared.certificate.Cert.{Cert}
+use Rattle.cert_format.specs.declared.certificate.Cert.TheVariants as cert
+use Rattle.cert_format.specs.declared.certificate.Key.{Key}
+use Rattle.cert_format.specs.declared.certificate.Key.TheVariants as key
+use Rattle.cert_format.specs.declared.certificate.CertFault.{CertFault}
+use Rattle.cert_format.specs.declared.certificate.CertFault.TheVariants as fault
+use Rattle.cert_format.specs.declared.reading.Kind.{Kind}
+use Rattle.cert_format.specs.declared.reading.Kind.TheVariants as kind
+use Rattle.cert_format.specs.Certificates.{most_part}
+use Rattle.cert_format.specs.FractionTexts.{fraction_of}
+
+-- ---- the members of an object
+-- how many they are; each name is there once
+abbrev pub size_of : Data → Option ℕ
+size_of d = option_map members_len (as_object d)
+
+-- the number, where it is this one
+abbrev pub is_number : ℕ → Option ℕ → Option ℕ
+is_number m None = None
+is_number m (Some n) = if n == m then Some n else None
+
+-- just so many members: where all names of the grammar are there, no other is
+abbrev pub has_size : ℕ → Data → Option ℕ
+has_size n d = is_number n (size_of d)
+
+-- a whole number, written with digits alone
+abbrev pub number_at : List ℕ → Data → Option ℕ
+number_at name d = option_and_then as_u64 (option_and_then as_number (get name d))
+
+abbrev pub text_at : List ℕ → Data → Option (List ℕ)
+text_at name d = option_and_then as_str (get name d)
+
+-- a fraction whose parts are at most `most`, as in all that follows
+abbrev pub fraction_in : ℕ → Data → Option Fraction
+fraction_in most d = option_and_then (fraction_of most) (as_str d)
+
+abbrev pub fraction_at : ℕ → List ℕ → Data → Option Fraction
+fraction_at most name d = option_and_then (fraction_in most) (get name d)
+
+-- ---- limits
+abbrev pub in_32 : Option ℕ → Option ℕ
+in_32 None = None
+in_32 (Some n) = if nat_lt n (2 ^ 32) then Some n else None
+
+-- the duals of a row: branch, outage, up and down, and nothing else
+unfoldable pub limit_in : ℕ → Data → Option (Dual Fraction)
+limit_in most d =
+    option_and_then (λ branch.
+    option_and_then (λ outage.
+    option_and_then (λ up.
+    option_and_then (λ down.
+    option_and_then (λ _. Some (record { row = record { branch = branch; outage = outage }; up = up; down = down }))
+    (has_size 4 d))
+    (fraction_at most (codes "down") d))
+    (fraction_at most (codes "up") d))
+    (in_32 (number_at (codes "outage") d)))
+    (in_32 (number_at (codes "branch") d))
+
+-- each item by one reader
+unfoldable pub each : {A : Type 0} → (Data → Option A) → Items → Option (List A)
+each read no_items = Some []
+each read (item d ds) = option_and_then (λ x. option_and_then (λ xs. Some (x ∷ xs)) (each read ds)) (read d)
+
+abbrev pub is_of : RowId → Dual Fraction → Bool
+is_of row d = (d.row.branch == row.branch) && (d.row.outage == row.outage)
+
+-- no row is named twice; a law says that this is so
+abbrev pub distinct : List (Dual Fraction) → Bool
+distinct [] = true
+distinct (d ∷ ds) = not (list_any (is_of d.row) ds) && distinct ds
+
+abbrev pub if_distinct : List (Dual Fraction) → Option (List (Dual Fraction))
+if_distinct ds = if distinct ds then Some ds else None
+
+abbrev pub limits_in : ℕ → Data → Option (List (Dual Fraction))
+limits_in most d = option_and_then if_distinct (option_and_then (each (limit_in most)) (option_and_then as_array (get (codes "limits") d)))
+
+-- ---- the parts of a certificate
+abbrev pub blocks_in : ℕ → Data → Option (List Fraction)
+blocks_in most d = option_and_then (each (fraction_in most)) (option_and_then as_array (get (codes "blocks") d))
+
+abbrev pub kind_named : List ℕ → Option Kind
+kind_named text = if bytes_eq text (codes "optimal") then Some kind.Optimal else if bytes_eq text (codes "farkas") then Some kind.Farkas else None
+
+abbrev pub kind_in : Data → Option Kind
+kind_in d = option_and_then kind_named (text_at (codes "kind") d)
+
+-- a part that must not be there
+abbrev pub lacks : List ℕ → Data → Option Bool
+lacks name d = if is_none (get name d) then Some true else None
+
+-- a part that must be in the grammar, or its key
+abbrev pub need : {A B : Type 0} → Key → Option A → (A → Result B Key) → Result B Key
+need k None f = Err k
+need k (Some x) f = f x
+
+-- the rest of an optimal certificate, and of one that shows that no dispatch is feasible
+unfoldable pub optimal_in : ℕ → Fraction → Data → Result (Cert Fraction) Key
+optimal_in most energy d =
+    need key.Blocks (blocks_in most d) (λ blocks.
+    need key.Limits (limits_in most d) (λ limits.
+    need key.Extra (has_size 5 d) (λ _. Ok (cert.Optimal blocks energy limits))))
+
+unfoldable pub farkas_in : ℕ → Fraction → Data → Result (Cert Fraction) Key
+farkas_in most energy d =
+    need key.Blocks (lacks (codes "blocks") d) (λ _.
+    need key.Limits (limits_in most d) (λ limits.
+    need key.Extra (has_size 4 d) (λ _. Ok (cert.Farkas energy limits))))
+
+abbrev pub of_kind : ℕ → Fraction → Data → Kind → Result (Cert Fraction) Key
+of_kind most energy d kind.Optimal = optimal_in most energy d
+of_kind most energy d kind.Farkas = farkas_in most energy d
+
+-- the certificate that a value stands for, or the first part that is not in the grammar
+unfoldable pub cert_in : ℕ → Data → Result (Cert Fraction) Key
+cert_in most d =
+    need key.Json (size_of d) (λ _.
+    need key.Version (is_number 1 (number_at (codes "version") d)) (λ _.
+    need key.Kind (kind_in d) (λ kind.
+    need key.Energy (fraction_at most (codes "energy") d) (λ energy.
+    of_kind most energy d kind))))
+
+-- the value of a text that is JSON in UTF-8
+abbrev pub json_of : List ℕ → Option Data
+json_of bytes = if is_utf8 bytes then read bytes else None
+
+-- the certificate that the bytes stand for, or the first part that is not in the grammar
+unfoldable pub cert_read : List ℕ → Result (Cert Fraction) Key
+cert_read bytes = need key.Json (json_of bytes) (cert_in most_part)
+
+-- ---- what a reader answers
+-- what was read, seen by `seen`, is what the grammar gives, unless memory was refused
+abbrev pub Gives : {A B : Type 0} → (A → B) → Result A CertFault → Result B Key → Type 0
+Gives seen (Ok x) meant = meant ≡ Ok (seen x)
+Gives seen (Err (fault.Key k)) meant = meant ≡ Err k
+Gives seen (Err fault.Memory) meant = Unit {0}

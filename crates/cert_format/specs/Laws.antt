@@ -1,0 +1,20 @@
+-- Laws of the texts of certificates.
+use Rattle.std.specs.Prelude.{◌≡◌, ◌↔◌, ℕ, List, Some, Ok}
+use Rattle.fraction_theory.specs.Fraction.{Fraction}
+use Rattle.cert_format.specs.declared.certificate.Cert.{Cert}
+use Rattle.cert_format.specs.Certificates.{CertFits}
+use Rattle.cert_format.specs.FractionTexts.{Spells, fraction_of}
+use Rattle.cert_format.specs.Grammar.{cert_read}
+use Rattle.cert_format.specs.Written.{cert_text}
+
+-- a text is read as the fraction that it spells, and as none where it spells none
+abbrev pub ReadsSpelling : Type 0
+ReadsSpelling = (most : ℕ) (text : List ℕ) (x : Fraction) → (fraction_of most text ≡ Some x) ↔ Spells most text x
+
+-- what is written is read back
+abbrev pub ReadsBack : Type 0
+ReadsBack = (c : Cert Fraction) → CertFits c → cert_read (cert_text c) ≡ Ok c
+
+-- what is read has its numbers within their bounds, and names no row twice
+abbrev pub ReadsWhatFits : Type 0
+ReadsWhatFits = (bytes : List ℕ) (c : Cert Fraction) → cert_read bytes ≡ Ok c → CertFits c

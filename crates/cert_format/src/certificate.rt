@@ -1,0 +1,45 @@
+//! Certificates, and why a text is none.
+
+use market_model::{Dual, List};
+use thiserror::Error;
+
+/// What shows that a clear came to what it did. Quantities are in 10^-9 MW. The prices of an optimal dispatch are in 10^-6 per MWh;
+/// duals that show that no dispatch is feasible are plain numbers.
+#[derive(Drop, Debug)]
+pub enum Cert<N> {
+    /// A best dispatch, the accepted MW of each block, with the prices that support it.
+    Optimal {
+        blocks: List<N>,
+        energy: N,
+        limits: List<Dual<N>>,
+    },
+    /// Duals that show that no dispatch is feasible.
+    Farkas {
+        energy: N,
+        limits: List<Dual<N>>,
+    },
+}
+
+/// The parts of a certificate's text, in the order in which they are looked at.
+#[derive(Clone, Copy, PartialEq, Eq, Debug)]
+pub enum Key {
+    /// The text is no JSON object.
+    Json,
+    Version,
+    Kind,
+    Energy,
+    Blocks,
+    Limits,
+    /// A member of another name.
+    Extra,
+}
+
+/// Why a text is no certificate.
+#[derive(Clone, Copy, PartialEq, Eq, Debug, Error)]
+pub enum CertFault {
+    /// The first part that is not in the grammar.
+    #[error("no certificate by its {key:?}")]
+    Key { key: Key },
+    #[error("memory was refused")]
+    Memory,
+}

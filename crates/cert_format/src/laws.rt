@@ -1,0 +1,18 @@
+//! Laws of the texts of certificates, each the contract of a function that does nothing.
+
+ghost use Rattle.cert_format.specs.Laws.{ReadsBack, ReadsSpelling, ReadsWhatFits};
+
+/// A text is read as the fraction that it spells, and as none where it spells none.
+pub fn reads_spelling()
+    ensures { ReadsSpelling }
+{}
+
+/// What is written of a certificate that fits is read back as itself.
+pub fn reads_back()
+    ensures { ReadsBack }
+{}
+
+/// What is read fits: its numbers are within their bounds, and no row is named twice.
+pub fn reads_what_fits()
+    ensures { ReadsWhatFits }
+{}

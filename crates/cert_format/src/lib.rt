@@ -1,0 +1,15 @@
+//! Certificates of a clear as JSON: an answer or duals that can be verified without clearing again.
+#![tactic(auto)]
+
+mod certificate;
+mod fractions;
+pub mod laws;
+mod reading;
+mod writing;
+
+pub use certificate::{Cert, CertFault, Key};
+pub use reading::from_json;
+pub use writing::{outcome_json, to_json};
+
+#[cfg(test)]
+mod tests;
