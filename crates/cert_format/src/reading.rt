@@ -1,6 +1,6 @@
 //! Reading a certificate.
 
-ghost use Rattle.std.specs.Prelude.{◌≡◌, Ok, Err, IfOk, is_some, map, option_and_then, option_map};
+ghost use Rattle.std.specs.Prelude.{◌≡◌, Ok, Err, IfOk, map, option_and_then, option_map};
 ghost use Rattle.serde_json.specs.Find.{get};
 ghost use Rattle.serde_json.specs.View.{items_view, view};
 ghost use Rattle.market_model.specs.Valued.{dual_at};
@@ -8,7 +8,7 @@ ghost use Rattle.cert_format.specs.declared.certificate.CertFault.TheVariants as
 ghost use Rattle.cert_format.specs.declared.certificate.Key.{Key};
 ghost use Rattle.cert_format.specs.declared.certificate.Key.TheVariants as key;
 ghost use Rattle.cert_format.specs.Certificates.{RowsAreDistinct, cert_at};
-ghost use Rattle.cert_format.specs.Grammar.{Gives, blocks_in, cert_in, cert_read, each, farkas_in, fraction_at, fraction_in, has_size, if_distinct, in_32, kind_in, lacks, limit_in, limits_in, need, number_at, optimal_in, size_of, text_at};
+ghost use Rattle.cert_format.specs.Grammar.{Gives, blocks_in, cert_in, cert_read, each, farkas_in, fraction_at, fraction_in, has_size, has_version, if_distinct, in_32, kind_in, limit_in, limits_in, need, number_at, optimal_in, size_of, text_at};
 
 use crate::fractions::fraction;
 use crate::{Cert, CertFault, Key};
@@ -36,9 +36,12 @@ fn size_of(value: &Value) -> Option<usize>
 }
 
 fn has_size(value: &Value, size: usize) -> bool
-    ensures { result ≡ is_some (has_size size (view value.now)) }
+    ensures { result ≡ has_size size (view value.now) }
 {
-    size_of(value) == Some(size)
+    match size_of(value) {
+        Some(count) => count == size,
+        None => false,
+    }
 }
 
 fn number_at(value: &Value, name: &str) -> Option<u64>
@@ -101,9 +104,7 @@ fn blocks_of<N: Exact>(alloc: Global, values: &[Value]) -> Result<List<N>, CertF
         let Some(block) = fraction_in(value) else {
             return Err(CertFault::Key { key: Key::Blocks });
         };
-        if blocks.push(block).is_err() {
-            return Err(CertFault::Memory);
-        }
+        blocks.push(block)?;
     }
     Ok(blocks)
 }
@@ -133,9 +134,7 @@ fn limits_of<N: Exact>(alloc: Global, values: &[Value]) -> Result<List<Dual<N>>,
             Ok(false) => return Err(CertFault::Key { key: Key::Limits }),
             Err(_) => return Err(CertFault::Memory),
         }
-        if limits.push(limit).is_err() {
-            return Err(CertFault::Memory);
-        }
+        limits.push(limit)?;
     }
     Ok(limits)
 }
@@ -156,6 +155,16 @@ fn kind_in(value: &Value) -> Option<Kind>
         Some("optimal") => Some(Kind::Optimal),
         Some("farkas") => Some(Kind::Farkas),
         _ => None,
+    }
+}
+
+/// Whether the version is that of this grammar.
+fn has_version(value: &Value) -> bool
+    ensures { result ≡ has_version (view value.now) }
+{
+    match number_at(value, "version") {
+        Some(version) => version == 1,
+        None => false,
     }
 }
 
@@ -196,7 +205,7 @@ fn cert_in<N: Exact>(alloc: Global, value: &Value) -> Result<Cert<N>, CertFault>
     if !value.is_object() {
         return Err(CertFault::Key { key: Key::Json });
     }
-    if number_at(value, "version") != Some(1) {
+    if !has_version(value) {
         return Err(CertFault::Key { key: Key::Version });
     }
     let Some(kind) = kind_in(value) else {

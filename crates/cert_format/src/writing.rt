@@ -27,12 +27,14 @@ fn fraction_value<N: Exact>(alloc: Global, number: N) -> Result<Value, AllocErro
 
 /// The duals of a limit.
 fn limit_value<N: Exact>(alloc: Global, dual: &Dual<N>) -> Result<Value, AllocError>
-    ensures { IfOk result (λ v. view v ≡ limit_data (dual_at N.value dual.now)) }
+    ensures value { IfOk result (λ v. view v ≡ limit_data (dual_at N.value dual.now)) }
+    ensures row { OnOk result (RowFits dual.now.row) }
 {
     let up = fraction_value(alloc, dual.up)?;
     let down = fraction_value(alloc, dual.down)?;
-    let row = dual.row;
-    json!(in alloc; {"branch": row.branch, "down": down, "outage": row.outage, "up": up})
+    let branch = dual.row.branch;
+    let outage = dual.row.outage;
+    json!(in alloc; {"branch": branch, "down": down, "outage": outage, "up": up})
 }
 
 fn blocks_value<N: Exact>(alloc: Global, blocks: &List<N>) -> Result<Value, AllocError>

@@ -1,4 +1,4 @@
-use Rattle.std.proofs.Common.{◌≡◌, ◌∙◌, ap}
+use Rattle.cert_format.proofs.CertLemmas.{written-back}
 use Rattle.cert_format.proofs.writing.to_json.Goals as goal
 
 pub returns-clause-reads_back : goal.returns-clause-reads_back
