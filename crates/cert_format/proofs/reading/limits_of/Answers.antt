@@ -19,7 +19,7 @@ loop-value-init g c = record {
 pub returns-in_default : goal.returns-in_default
 returns-in_default g c =
     let here : limit_in g.N.Exact.bound (view (get_or c.args.values.now c.loop-value.value-index c.value-item.result)) ≡ None =
-        ap (λ v. limit_in g.N.Exact.bound (view v)) (sym c.value-item.is) ∙ sym c.limit_in.ensures ∙ ap (option_map (dual_at g.N.Exact.value)) c.in_default.is in
+    ap (λ v. limit_in g.N.Exact.bound (view v)) (sym c.value-item.is) ∙ sym c.limit_in.ensures ∙ ap (option_map (dual_at g.N.Exact.value)) c.in_default.is in
     let none = c.loop-value.invariant.read
     ∙ rest-none (limit_in g.N.Exact.bound) (map (dual_at g.N.Exact.value) c.loop-value.limits) c.args.values.now c.loop-value.value-index c.value-item.result c.loop-value-test.true here in
     ap (λ o. need key.Limits (option_and_then if_distinct o) (λ xs. Ok xs)) none
@@ -27,7 +27,7 @@ returns-in_default g c =
 pub returns-in-Ok-false : goal.returns-in-Ok-false
 returns-in-Ok-false g c =
     let here : limit_in g.N.Exact.bound (view (get_or c.args.values.now c.loop-value.value-index c.value-item.result)) ≡ Some (dual_at g.N.Exact.value c.in-Some.limit) =
-        ap (λ v. limit_in g.N.Exact.bound (view v)) (sym c.value-item.is) ∙ sym c.limit_in.ensures ∙ ap (option_map (dual_at g.N.Exact.value)) c.in-Some.is in
+    ap (λ v. limit_in g.N.Exact.bound (view v)) (sym c.value-item.is) ∙ sym c.limit_in.ensures ∙ ap (option_map (dual_at g.N.Exact.value)) c.in-Some.is in
     let read = c.loop-value.invariant.read
     ∙ rest-step (limit_in g.N.Exact.bound) (map (dual_at g.N.Exact.value) c.loop-value.limits) c.args.values.now c.loop-value.value-index c.value-item.result (dual_at g.N.Exact.value c.in-Some.limit) c.loop-value-test.true here in
     let there = sym (test_is g.N.Exact.value c.loop-value.limits c.in-Some.limit c.loop-value.rows.keys c.loop-value.invariant.rows) ∙ not-false _ (sym c.in-Ok-false.ensures.added) in
@@ -37,7 +37,7 @@ returns-in-Ok-false g c =
 pub loop-value-preserved : goal.loop-value-preserved
 loop-value-preserved g c =
     let here : limit_in g.N.Exact.bound (view (get_or c.args.values.now c.loop-value.value-index c.value-item.result)) ≡ Some (dual_at g.N.Exact.value c.in-Some.limit) =
-        ap (λ v. limit_in g.N.Exact.bound (view v)) (sym c.value-item.is) ∙ sym c.limit_in.ensures ∙ ap (option_map (dual_at g.N.Exact.value)) c.in-Some.is in
+    ap (λ v. limit_in g.N.Exact.bound (view v)) (sym c.value-item.is) ∙ sym c.limit_in.ensures ∙ ap (option_map (dual_at g.N.Exact.value)) c.in-Some.is in
     let read = c.loop-value.invariant.read
     ∙ rest-step (limit_in g.N.Exact.bound) (map (dual_at g.N.Exact.value) c.loop-value.limits) c.args.values.now c.loop-value.value-index c.value-item.result (dual_at g.N.Exact.value c.in-Some.limit) c.loop-value-test.true here in
     let fresh = not-true _ (sym c.in-Ok-true.ensures.added) in
