@@ -11,13 +11,13 @@ pub need-some : {A : Type 0} (k : Key) (o : Option A) (x : A) → need k o (λ y
 need-some k None x e = cc
 need-some k (Some y) x e = let same : y ≡ x = cc in ap Some same
 
+same_fault : (A B : Type 0) (k j : Key) → ◌≡◌ {A = Result A Key} (Err k) (Err j) → ◌≡◌ {A = Result B Key} (Err k) (Err j)
+same_fault A B k j h = let same : k ≡ j = cc in ap (λ i. Err i) same
+
 -- and where it was not, so is all that it stands in
 pub fails-further : {A B X Y : Type 0} (k : Key) (o : Option A) (f : A → Result B Key) (seen : X → A) (further : Y → B) (e : CertFault) → Gives seen (Err e) (need k o (λ y. Ok y)) → Gives further (Err e) (need k o f)
 fails-further k o f seen further fault.Memory h = tt
-fails-further k None f seen further (fault.Key j) h = same_key k j h
-  where
-    same_key : (k j : Key) → Err k ≡ Err j → Err k ≡ Err j
-    same_key k j h = let same : k ≡ j = cc in ap Err same
+fails-further {A} {B} k None f seen further (fault.Key j) h = same_fault A B k j h
 fails-further k (Some y) f seen further (fault.Key j) h = cc
 
 -- whether there is none is the same under a view

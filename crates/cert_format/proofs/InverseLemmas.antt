@@ -27,10 +27,7 @@ record Had {A B : Type 0} (o : Option A) (f : A → Result B Key) (y : B) : Type
   rest : f value ≡ Ok y
 
 needed : {A B : Type 0} (k : Key) (o : Option A) (f : A → Result B Key) (y : B) → need k o f ≡ Ok y → Had o f y
-needed k None f y h = absurd (not_ok k y h)
-  where
-    not_ok : (k : Key) (y : B) → Err k ≡ Ok y → ⊥
-    not_ok k y h = cc
+needed k None f y h = cc
 needed k (Some x) f y h = record { value = x; is = refl; rest = h }
 
 checked : {B : Type 0} (k : Key) (b : Bool) (r : Result B Key) (y : B) → check k b r ≡ Ok y → r ≡ Ok y

@@ -30,7 +30,7 @@ returns-in-Ok-false g c =
     ap (λ v. limit_in g.N.Exact.bound (view v)) (sym c.value-item.is) ∙ sym c.limit_in.ensures ∙ ap (option_map (dual_at g.N.Exact.value)) c.in-Some.is in
     let read = c.loop-value.invariant.read
     ∙ rest-step (limit_in g.N.Exact.bound) (map (dual_at g.N.Exact.value) c.loop-value.limits) c.args.values.now c.loop-value.value-index c.value-item.result (dual_at g.N.Exact.value c.in-Some.limit) c.loop-value-test.true here in
-    let there = sym (test_is g.N.Exact.value c.loop-value.limits c.in-Some.limit c.loop-value.rows.keys c.loop-value.invariant.rows) ∙ not-false _ (sym c.in-Ok-false.ensures.added) in
+    let there = sym (test_is g.N.Exact.value c.loop-value.limits c.in-Some.limit c.loop-value.rows.keys c.loop-value.invariant.rows) ∙ not-false _ (sym c.in-Ok-false.ensures.added ∙ c.in-Ok-false.field-0-test) in
     ap (λ o. need key.Limits (option_and_then if_distinct o) (λ xs. Ok xs)) read
     ∙ ap (λ o. need key.Limits o (λ xs. Ok xs)) (repeated (map (dual_at g.N.Exact.value) c.loop-value.limits) (dual_at g.N.Exact.value c.in-Some.limit) (left_of (limit_in g.N.Exact.bound) c.args.values.now (c.loop-value.value-index + 1)) there)
 
@@ -40,7 +40,7 @@ loop-value-preserved g c =
     ap (λ v. limit_in g.N.Exact.bound (view v)) (sym c.value-item.is) ∙ sym c.limit_in.ensures ∙ ap (option_map (dual_at g.N.Exact.value)) c.in-Some.is in
     let read = c.loop-value.invariant.read
     ∙ rest-step (limit_in g.N.Exact.bound) (map (dual_at g.N.Exact.value) c.loop-value.limits) c.args.values.now c.loop-value.value-index c.value-item.result (dual_at g.N.Exact.value c.in-Some.limit) c.loop-value-test.true here in
-    let fresh = not-true _ (sym c.in-Ok-true.ensures.added) in
+    let fresh = not-true _ (sym c.in-Ok-true.ensures.added ∙ c.in-Ok-true.field-0-test) in
     let pushed = c.in_ok-push.ensures in
     let seen = seen-push g.N.Exact.value c.loop-value.limits c.in-Some.limit c.loop-value.rows.keys c.loop-value.invariant.rows fresh c.push.new.self pushed in
     record {
