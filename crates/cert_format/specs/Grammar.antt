@@ -71,8 +71,12 @@ unfoldable pub each : {A : Type 0} → (Data → Option A) → Items → Option 
 each read no_items = Some []
 each read (item d ds) = option_and_then (λ x. option_and_then (λ xs. Some (x ∷ xs)) (each read ds)) (read d)
 
+-- whether a branch and an outage are those of a row
+abbrev pub is_row : RowId → ℕ × ℕ → Bool
+is_row row pair = (row.branch == pair.0) && (row.outage == pair.1)
+
 abbrev pub is_of : RowId → Dual Fraction → Bool
-is_of row d = (row.branch == d.row.branch) && (row.outage == d.row.outage)
+is_of row d = is_row row (d.row.branch, d.row.outage)
 
 -- no row is named twice; a law says that this is so
 abbrev pub distinct : List (Dual Fraction) → Bool

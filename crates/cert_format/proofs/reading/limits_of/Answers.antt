@@ -24,13 +24,13 @@ returns-in_default g c =
     ∙ rest-none (limit_in g.N.Exact.bound) (map (dual_at g.N.Exact.value) c.loop-value.limits) c.args.values.now c.loop-value.value-index c.value-item.result c.loop-value-test.true here in
     ap (λ o. need key.Limits (option_and_then if_distinct o) (λ xs. Ok xs)) none
 
-pub returns-in-Ok-false : goal.returns-in-Ok-false
-returns-in-Ok-false g c =
+pub returns-then-not-is_new : goal.returns-then-not-is_new
+returns-then-not-is_new g c =
     let here : limit_in g.N.Exact.bound (view (get_or c.args.values.now c.loop-value.value-index c.value-item.result)) ≡ Some (dual_at g.N.Exact.value c.in-Some.limit) =
     ap (λ v. limit_in g.N.Exact.bound (view v)) (sym c.value-item.is) ∙ sym c.limit_in.ensures ∙ ap (option_map (dual_at g.N.Exact.value)) c.in-Some.is in
     let read = c.loop-value.invariant.read
     ∙ rest-step (limit_in g.N.Exact.bound) (map (dual_at g.N.Exact.value) c.loop-value.limits) c.args.values.now c.loop-value.value-index c.value-item.result (dual_at g.N.Exact.value c.in-Some.limit) c.loop-value-test.true here in
-    let there = sym (test_is g.N.Exact.value c.loop-value.limits c.in-Some.limit c.loop-value.rows.keys c.loop-value.invariant.rows) ∙ not-false _ (sym c.in-Ok-false.ensures.added ∙ c.in-Ok-false.field-0-test) in
+    let there = sym (test_is g.N.Exact.value c.loop-value.limits c.in-Some.limit c.loop-value.rows.keys c.loop-value.invariant.rows) ∙ not-false _ (sym c.in_ok-is_new.ensures.is_new ∙ c.if-not-is_new.true) in
     ap (λ o. need key.Limits (option_and_then if_distinct o) (λ xs. Ok xs)) read
     ∙ ap (λ o. need key.Limits o (λ xs. Ok xs)) (repeated (map (dual_at g.N.Exact.value) c.loop-value.limits) (dual_at g.N.Exact.value c.in-Some.limit) (left_of (limit_in g.N.Exact.bound) c.args.values.now (c.loop-value.value-index + 1)) there)
 
@@ -40,12 +40,12 @@ loop-value-preserved g c =
     ap (λ v. limit_in g.N.Exact.bound (view v)) (sym c.value-item.is) ∙ sym c.limit_in.ensures ∙ ap (option_map (dual_at g.N.Exact.value)) c.in-Some.is in
     let read = c.loop-value.invariant.read
     ∙ rest-step (limit_in g.N.Exact.bound) (map (dual_at g.N.Exact.value) c.loop-value.limits) c.args.values.now c.loop-value.value-index c.value-item.result (dual_at g.N.Exact.value c.in-Some.limit) c.loop-value-test.true here in
-    let fresh = not-true _ (sym c.in-Ok-true.ensures.added ∙ c.in-Ok-true.field-0-test) in
+    let fresh = not-true _ (sym c.in_ok-is_new.ensures.is_new ∙ c.if-not-is_new.false) in
     let pushed = c.in_ok-push.ensures in
     let seen = seen-push g.N.Exact.value c.loop-value.limits c.in-Some.limit c.loop-value.rows.keys c.loop-value.invariant.rows fresh c.push.new.self pushed in
     record {
       read = rw seen read;
-      rows = rows-push g.N.Exact.value c.loop-value.limits c.in-Some.limit c.loop-value.rows.keys c.loop-value.invariant.rows fresh c.push.new.self pushed c.insert.new.self.keys c.in-Ok-true.ensures.keys;
+      rows = rows-push g.N.Exact.value c.loop-value.limits c.in-Some.limit c.loop-value.rows.keys c.loop-value.invariant.rows fresh c.push.new.self pushed c.add_row-is_new.new.rows.keys (rw c.if-not-is_new.false at c.in_ok-is_new.ensures.keys);
       once = once-push g.N.Exact.value c.loop-value.limits c.in-Some.limit c.loop-value.rows.keys c.loop-value.invariant.rows fresh c.push.new.self pushed c.loop-value.invariant.once;
     }
 
