@@ -1,8 +1,10 @@
 -- The value of a certificate is in the grammar, and gives the certificate again.
-use Rattle.std.specs.Prelude.{◌≡◌, ℕ, ◌<◌, ◌≤◌, ◌^◌, List, [], ◌∷◌, map, length, Bool, true, false, codes, All, Option, Some, None, Result, Ok, Err, option_map, option_and_then, IsUtf8, max}
+use Rattle.std.specs.Prelude.{◌≡◌, ℕ, ◌<◌, ◌≤◌, ◌^◌, List, [], ◌∷◌, map, length, Bool, true, false, codes, All, Option, Some, None, Result, Ok, Err, option_map, option_and_then, IsUtf8, max, unsigned_abs}
 use Rattle.std.specs.Str.{is_utf8}
 use Rattle.std.proofs.Common.{zero, suc, arith, ap, sym, ◌∙◌, refl, get_or}
 use Rattle.std.proofs.lemmas.Bool.{lt-ltb}
+use Rattle.std.proofs.lemmas.List.Elements.{All-cons, All-nil}
+use Rattle.market_model.specs.Valued.{dual_at}
 use Rattle.std.proofs.lemmas.Str.{IsUtf8-from_is_utf8, is_utf8-from_IsUtf8}
 use Rattle.fraction_theory.specs.Fraction.{Fraction}
 use Rattle.exact_fraction.specs.Written.{parts_text}
@@ -18,7 +20,7 @@ use Rattle.serde_json.proofs.OnLiterals.{serde_json_on_literals}
 use Rattle.cert_format.specs.declared.certificate.Cert.{Cert}
 use Rattle.cert_format.specs.declared.certificate.Cert.TheVariants as cert
 use Rattle.cert_format.specs.declared.certificate.Key.TheVariants as key
-use Rattle.cert_format.specs.Certificates.{CertFits, DualFits, Fits, NamesNoRowTwice, RowFits, limits_of, most_part}
+use Rattle.cert_format.specs.Certificates.{CertFits, DualFits, Fits, NamesNoRowTwice, RowFits, RowsAreDistinct, cert_at, limits_of, most_part}
 use Rattle.cert_format.specs.FractionTexts.{fraction_of}
 use Rattle.cert_format.specs.Grammar.{cert_in, cert_read, each, farkas_in, fraction_in, limit_in, optimal_in}
 use Rattle.cert_format.specs.Written.{cert_data, cert_text, fraction_data, limit_data, limits_data}
@@ -37,30 +39,58 @@ key_utf8 cs h = IsUtf8-are_ascii cs h
 plain-limits : (ds : List (Dual Fraction)) → All (λ d. RowFits d.row) ds → ItemsArePlain (items_of (map limit_data ds))
 plain-limits [] h = tt
 plain-limits (d ∷ ds) h =
-    let row = h 0 d (omega arith) in (
+    let row = h 0 d (omega arith) in ((
       (
-        (key_utf8 (codes "branch") refl, omega (arith, row.branch),
-          (key_utf8 (codes "down") refl, utf8-parts_text d.down,
-            (key_utf8 (codes "outage") refl, omega (arith, row.outage),
-              (key_utf8 (codes "up") refl, utf8-parts_text d.up, tt)))),
-        plain-limits ds (λ k x lt. h (suc k) x (omega (arith, lt)))))
+        key_utf8 (codes "branch") refl,
+        omega (arith, row.branch),
+        (
+          key_utf8 (codes "down") refl,
+          utf8-parts_text d.down,
+          (
+            key_utf8 (codes "outage") refl,
+            omega (arith, row.outage),
+            (key_utf8 (codes "up") refl, utf8-parts_text d.up, tt),
+          ),
+        ),
+      ),
+      plain-limits ds (λ k x lt. h (suc k) x (omega (arith, lt))),
+    ))
 
 -- the rows of a certificate have 32 bits
 abbrev pub RowsFit : Cert Fraction → Type 0
 RowsFit c = All (λ d. RowFits d.row) (limits_of c)
 
 pub plain-cert : (c : Cert Fraction) → RowsFit c → IsPlain (cert_data c)
-plain-cert (cert.Optimal blocks energy limits) h =
-    (key_utf8 (codes "blocks") refl, plain-blocks blocks,
-      (key_utf8 (codes "energy") refl, utf8-parts_text energy,
-        (key_utf8 (codes "kind") refl, key_utf8 (codes "optimal") refl,
-          (key_utf8 (codes "limits") refl, plain-limits limits h,
-            (key_utf8 (codes "version") refl, omega arith, tt)))))
-plain-cert (cert.Farkas energy limits) h =
-    (key_utf8 (codes "energy") refl, utf8-parts_text energy,
-      (key_utf8 (codes "kind") refl, key_utf8 (codes "farkas") refl,
-        (key_utf8 (codes "limits") refl, plain-limits limits h,
-          (key_utf8 (codes "version") refl, omega arith, tt))))
+plain-cert (cert.Optimal blocks energy limits) h = (
+  key_utf8 (codes "blocks") refl,
+  plain-blocks blocks,
+  (
+    key_utf8 (codes "energy") refl,
+    utf8-parts_text energy,
+    (
+      key_utf8 (codes "kind") refl,
+      key_utf8 (codes "optimal") refl,
+      (
+        key_utf8 (codes "limits") refl,
+        plain-limits limits h,
+        (key_utf8 (codes "version") refl, omega arith, tt),
+      ),
+    ),
+  ),
+)
+plain-cert (cert.Farkas energy limits) h = (
+  key_utf8 (codes "energy") refl,
+  utf8-parts_text energy,
+  (
+    key_utf8 (codes "kind") refl,
+    key_utf8 (codes "farkas") refl,
+    (
+      key_utf8 (codes "limits") refl,
+      plain-limits limits h,
+      (key_utf8 (codes "version") refl, omega arith, tt),
+    ),
+  ),
+)
 
 float-blocks : (xs : List Fraction) → items_have_float (items_of (map fraction_data xs)) ≡ false
 float-blocks [] = refl
@@ -159,3 +189,25 @@ json-fault bytes h = by (is_utf8 bytes) refl
 pub json-value : (bytes : List ℕ) (d : Data) → IsUtf8 bytes → read bytes ≡ Some d → cert_read bytes ≡ cert_in most_part d
 unfolding cert_read
 json-value bytes d text e = rw (is_utf8-from_IsUtf8 bytes text, e) refl
+
+-- ---- what is written of numbers of a type
+module _ {N : Type 0} (value : N → Fraction) (bound : ℕ) (small : bound ≤ most_part) (fits : (x : N) → (unsigned_abs (value x).num ≤ bound) × ((value x).den ≤ bound)) where
+  within : (x : N) → Fits most_part (value x)
+  within x = let h = fits x in record { num = omega (arith, h.0, small); den = omega (arith, h.1, small) }
+
+  blocks-fit : (xs : List N) → All (Fits most_part) (map value xs)
+  blocks-fit [] = All-nil (Fits most_part)
+  blocks-fit (x ∷ xs) = All-cons (Fits most_part) (value x) (map value xs) (within x) (blocks-fit xs)
+
+  limits-fit : (ds : List (Dual N)) → All (λ d. RowFits d.row) ds → All DualFits (map (dual_at value) ds)
+  limits-fit [] h = All-nil DualFits
+  limits-fit (d ∷ ds) h =
+      All-cons DualFits (dual_at value d) (map (dual_at value) ds) (record { row = h 0 d (omega arith); up = within d.up; down = within d.down })
+      (limits-fit ds (λ k x lt. h (suc k) x (omega (arith, lt))))
+
+  cert-fits : (c : Cert N) → All (λ d. RowFits d.row) (limits_of c) → RowsAreDistinct (cert_at value c) → CertFits (cert_at value c)
+  cert-fits (cert.Optimal blocks energy limits) h once = (blocks-fit blocks, within energy, limits-fit limits h, once)
+  cert-fits (cert.Farkas energy limits) h once = (within energy, limits-fit limits h, once)
+
+  pub written-back : (c : Cert N) (bytes : List ℕ) → All (λ d. RowFits d.row) (limits_of c) → bytes ≡ cert_text (cert_at value c) → RowsAreDistinct (cert_at value c) → cert_read bytes ≡ Ok (cert_at value c)
+  written-back c bytes h text once = ap cert_read text ∙ reads-back (cert_at value c) (cert-fits c h once)

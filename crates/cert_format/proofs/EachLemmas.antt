@@ -8,9 +8,13 @@ use Rattle.serde_json.specs.declared.value.Value.{Value}
 use Rattle.cert_format.specs.Grammar.{each}
 
 module _ {A : Type 0} (read : Data → Option A) where
-  -- what is read of the values from i on, after those that were read before
+  -- what is read of the values from i on
+  abbrev pub left_of : List Value → ℕ → Option (List A)
+  left_of vs i = each read (items_view (drop i vs))
+
+  -- and after those that were read before
   abbrev pub rest_of : List A → List Value → ℕ → Option (List A)
-  rest_of done vs i = option_map (λ xs. done ++ xs) (each read (items_view (drop i vs)))
+  rest_of done vs i = option_map (λ xs. done ++ xs) (left_of vs i)
 
   joined : (done : List A) (x : A) (o : Option (List A)) → option_map (λ xs. done ++ xs) (option_and_then (λ xs. Some (x ∷ xs)) o) ≡ option_map (λ xs. (done ++ x ∷ []) ++ xs) o
   joined done x None = refl

@@ -113,9 +113,12 @@ pub quotient-parts_text : (x : Fraction) → quotient_of (parts_text x) ≡ x
 unfolding quotient_of parts_text
 quotient-parts_text x =
     let front = NoSlash-signed x.num (number_text (unsigned_abs x.num)) (OnlyDigits-number_text (unsigned_abs x.num)) in
-    rw (before-slash (sign_text x.num ++ number_text (unsigned_abs x.num)) (number_text x.den) front,
-        behind-slash (sign_text x.num ++ number_text (unsigned_abs x.num)) (number_text x.den) front,
-        value-signed x.num, digits_value-number_text x.den) (over_parts x)
+    rw (
+      before-slash (sign_text x.num ++ number_text (unsigned_abs x.num)) (number_text x.den) front,
+      behind-slash (sign_text x.num ++ number_text (unsigned_abs x.num)) (number_text x.den) front,
+      value-signed x.num,
+      digits_value-number_text x.den,
+    ) (over_parts x)
 
 fits-Fits : (most : ℕ) (x : Fraction) → fits most x ≡ true → Fits most x
 fits-Fits most x h = let p = and_parts _ _ h in record { num = leb-true _ _ p.0; den = leb-true _ _ p.1 }

@@ -1,6 +1,8 @@
 pub mod CertLemmas
 pub mod EachLemmas
 pub mod FractionLemmas
+pub mod GivesLemmas
+pub mod InverseLemmas
 pub mod ListLemmas
 pub mod NumberLemmas
 pub mod QuotientLemmas

@@ -138,5 +138,5 @@ read-compact_text d plain shallow again =
 
 -- bytes that are UTF-8 are taken as a text
 pub is_ok : {T E P : Type 0} (r : Result T E) (Q : T → Type 0) (R : E → Type 0) → P → MatchResult r Q (λ e. ¬ P × R e) → IsOk r
-is_ok (Ok x) Q R p h = tt
+is_ok (Ok x) Q R p h = refl
 is_ok (Err e) Q R p h = absurd (h.0 p)

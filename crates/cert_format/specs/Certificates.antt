@@ -15,7 +15,7 @@ cert_at value (cert.Optimal blocks energy limits) = cert.Optimal (map value bloc
 cert_at value (cert.Farkas energy limits) = cert.Farkas (value energy) (map (dual_at value) limits)
 
 -- the duals of limits, whatever the kind
-abbrev pub limits_of : Cert Fraction → List (Dual Fraction)
+abbrev pub limits_of : {N : Type 0} → Cert N → List (Dual N)
 limits_of (cert.Optimal blocks energy limits) = limits
 limits_of (cert.Farkas energy limits) = limits
 
