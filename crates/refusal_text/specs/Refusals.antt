@@ -18,6 +18,10 @@ use Rattle.outage_list.specs.declared.listing.OutageFault.{OutageFault}
 use Rattle.outage_list.specs.declared.listing.OutageFault.TheVariants as outage_fault
 use Rattle.offer_book.specs.declared.offer_table.OfferFault.{OfferFault}
 use Rattle.offer_book.specs.declared.offer_table.OfferFault.TheVariants as offer_fault
+use Rattle.edit_table.specs.declared.StepFault.{StepFault}
+use Rattle.edit_table.specs.declared.StepFault.TheVariants as step_fault
+use Rattle.cert_format.specs.declared.certificate.Key.{Key}
+use Rattle.cert_format.specs.declared.certificate.Key.TheVariants as key
 use Rattle.refusal_text.specs.declared.refusals.Input.{Input}
 use Rattle.refusal_text.specs.declared.refusals.Input.TheVariants as input
 use Rattle.refusal_text.specs.declared.refusals.Refusal.{Refusal}
@@ -71,6 +75,14 @@ offer_words (offer_fault.OutOfOrder line) = codes "OutOfOrder" ++ codes " line "
 offer_words (offer_fault.OverCapacity line) = codes "OverCapacity" ++ codes " line " ++ decimal line
 offer_words offer_fault.Memory = []
 
+unfoldable pub step_words : StepFault → List ℕ
+step_words step_fault.Header = codes "Header"
+step_words (step_fault.Width line) = codes "Width" ++ codes " line " ++ decimal line
+step_words (step_fault.TooMany count) = codes "TooMany count " ++ decimal count
+step_words (step_fault.Cell line col w) = codes "Cell line " ++ decimal line ++ codes " col " ++ decimal col ++ codes " " ++ why_name w
+step_words (step_fault.Word line) = codes "Word" ++ codes " line " ++ decimal line
+step_words step_fault.Memory = []
+
 unfoldable pub table_words : TableFault → List ℕ
 table_words table_fault.Header = codes "Header"
 table_words (table_fault.Width line) = codes "Width" ++ codes " line " ++ decimal line
@@ -100,6 +112,16 @@ unfoldable pub lack_words : Uncovered → List ℕ
 lack_words (uncovered.NoShift branch) = codes "NoShift branch " ++ decimal branch
 lack_words (uncovered.NoLoss branch) = codes "NoLoss branch " ++ decimal branch
 
+-- the first part of a certificate's text that is at fault
+abbrev pub key_name : Key → List ℕ
+key_name key.Json = codes "json"
+key_name key.Version = codes "version"
+key_name key.Kind = codes "kind"
+key_name key.Energy = codes "energy"
+key_name key.Blocks = codes "blocks"
+key_name key.Limits = codes "limits"
+key_name key.Extra = codes "extra"
+
 -- a file that is too long, with the most bytes of a file
 abbrev pub too_long : List ℕ
 too_long = codes "TooLong " ++ codes "limit 33554432"
@@ -111,6 +133,8 @@ input_name input.Lodf = codes "lodf "
 input_name input.Contingencies = codes "contingencies "
 input_name input.Offers = codes "offers "
 input_name input.Offsets = codes "offsets "
+input_name input.Edits = codes "edits "
+input_name input.Certificate = codes "certificate "
 
 -- which file it is, and its fault
 unfoldable pub refusal_words : Refusal → List ℕ
@@ -122,6 +146,8 @@ refusal_words (refusal.Table i f) = input_name i ++ table_words f
 refusal_words (refusal.Outages f) = codes "contingencies " ++ outage_words f
 refusal_words (refusal.Uncovered lack) = codes "factors " ++ lack_words lack
 refusal_words (refusal.Offers f) = codes "offers " ++ offer_words f
+refusal_words (refusal.Edits f) = codes "edits " ++ step_words f
+refusal_words (refusal.Certificate k) = codes "certificate Key " ++ key_name k
 
 -- the line that refuses a file
 unfoldable pub refusal_line : Refusal → List ℕ
