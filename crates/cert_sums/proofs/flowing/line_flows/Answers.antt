@@ -1,0 +1,14 @@
+use Rattle.std.proofs.Common.{rules, Err, ◌≡◌, map}
+use Rattle.market_model.specs.Valued.{passed_at}
+use Rattle.cert_sums.specs.declared.stops.VerifyStop.TheVariants as why
+use Rattle.cert_sums.proofs.FlowLemmas.{lines_put, line_refusal}
+use Rattle.cert_sums.proofs.flowing.line_flows.Goals as goal
+
+pub returns-clause-flows : goal.returns-clause-flows
+returns-clause-flows g c = λ x puts. lines_put c.args.market.now x (map g.N.Exact.value c.args.injections.now) puts _ c.in_ok-put_lines.ensures.lines
+
+pub returns-in_err-put_lines-clause-cause : goal.returns-in_err-put_lines-clause-cause
+returns-in_err-put_lines-clause-cause g c =
+    let given : c.from_residual.result ≡ Err (why.Range c.in_err-put_lines.field-0.0) = search rules in
+    λ x puts. rw given
+    (line_refusal c.args.market.now x (map g.N.Exact.value c.args.injections.now) puts g.N.Exact.bound (passed_at g.N.Exact.value c.in_err-put_lines.field-0.0) c.in_err-put_lines.ensures.cause)
