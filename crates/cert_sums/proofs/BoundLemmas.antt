@@ -16,7 +16,7 @@ use Rattle.exact_fraction.specs.declared.Op.TheVariants.{Plus, Minus, Times}
 use Rattle.exact_fraction.specs.declared.Passed.{Passed}
 use Rattle.market_model.specs.declared.answered.Duals.{Duals}
 use Rattle.market_model.specs.declared.participants.Parts.{Parts}
-use Rattle.market_model.specs.Dispatch.{places, balance, empty, quantity}
+use Rattle.market_model.specs.Dispatch.{Dispatch, places, balance, empty, quantity}
 use Rattle.market_model.specs.Infeasibility.{where_above, part_above, block_weight, limit_terms, farkas_terms, farkas_bound}
 use Rattle.market_model.specs.LimitRows.{Row, rows, row_id, limit, flow}
 use Rattle.market_model.specs.NamedSums.{IsRefusal, IsRefusedIn}
@@ -35,9 +35,20 @@ pub nothing_made : (s price room : Fraction) → price ≡ whole (pos 0) → s �
 nothing_made s price room e =
     by_ring ring_ℚ (s ∷ room ∷ []) (at 0) (padd (at 0) (pmul pnil (at 1))) refl ∙ ap (λ t. s +ℚ t *ℚ room) (sym e)
 
--- the part above 0 by a sign
-pub part_by_sign : (s : Sign) (w : Fraction) → s ≡ sign_of w → part_above w ≡ where_above s w
-part_by_sign s w e = ap (λ (t : Sign). where_above t w) (sym e)
+-- nor does a number that is not above 0, by its part above 0
+pub none_above : (s w room : Fraction) (t : Sign) → t ≡ sign_of w → (t ≡ Below) ⊎ (t ≡ Zero) → s ≡ s +ℚ part_above w *ℚ room
+none_above s w room t is some = nothing_made s (part_above w) room (sym (ap (λ (u : Sign). where_above u w) is) ∙ by some)
+  where
+    by : (t ≡ Below) ⊎ (t ≡ Zero) → where_above t w ≡ whole (pos 0)
+    by (inl e) = ap (λ (u : Sign). where_above u w) e
+    by (inr e) = ap (λ (u : Sign). where_above u w) e
+
+-- what the two prices of a row make, one added behind the other
+pub left_sum : (m : Parts) (x : Dispatch) (e : PricedRow) (sum above more l f : Fraction) → l ≡ limit m e.row → f ≡ flow m x e.row → above ≡ sum +ℚ e.up *ℚ (l -ℚ f) → more ≡ above +ℚ e.down *ℚ (l +ℚ f)
+    → more ≡ sum +ℚ left_at m x e
+left_sum m x e sum above more l f is flows first second =
+    second ∙ ap (λ t. t +ℚ e.down *ℚ (l +ℚ f)) first ∙ +ℚ_assoc sum (e.up *ℚ (l -ℚ f)) (e.down *ℚ (l +ℚ f))
+    ∙ ap₂ (λ a b. sum +ℚ (e.up *ℚ (a -ℚ b) +ℚ e.down *ℚ (a +ℚ b))) is flows
 
 -- ---- a list round one of those that pass a test
 filter_at : {X : Type 0} (p : X → Bool) (xs : List X) (k : ℕ) (e : X) → k < length (filter p xs)

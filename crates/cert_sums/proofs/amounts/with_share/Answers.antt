@@ -4,6 +4,6 @@ use mir.Val.{to_z}
 use Rattle.cert_sums.proofs.FlowLemmas.{no_share}
 use Rattle.cert_sums.proofs.amounts.with_share.Goals as goal
 
-pub returns-then-share-eq0-clause-sum : goal.returns-then-share-eq0-clause-sum
-returns-then-share-eq0-clause-sum g c =
-    no_share (g.N.Exact.value c.args.sum) (g.N.Exact.value c.args.number) c.args.share (sym (to_z-of_z w64 c.args.share c.ranges.share) ∙ ap (to_z w64) c.if-share-eq0.true)
+pub returns-then-factor-eq0-clause-sum : goal.returns-then-factor-eq0-clause-sum
+returns-then-factor-eq0-clause-sum g c =
+    no_share (g.N.Exact.value c.args.sum) (g.N.Exact.value c.args.number) c.args.factor (sym (to_z-of_z w64 c.args.factor c.ranges.factor) ∙ ap (to_z w64) c.if-factor-eq0.true)
