@@ -1,5 +1,5 @@
 -- Steps of the Farkas bound: row by row, and block by block.
-use Rattle.std.specs.Prelude.{◌≡◌, ◌⊎◌, ℕ, ◌+◌, ◌<◌, ◌≤◌, pos, Bool, true, false, cond, List, [], ◌∷◌, ◌++◌, map, filter, length, take, Contains, refl}
+use Rattle.std.specs.Prelude.{◌≡◌, ◌⊎◌, ℕ, ◌+◌, ◌<◌, ◌≤◌, pos, Bool, true, false, cond, List, [], ◌∷◌, ◌++◌, map, filter, length, take, replicate, Contains, refl}
 use Rattle.std.specs.List.{flat_map, slice_get}
 use Rattle.std.proofs.Common.{zero, suc, arith, inl, inr, ap, ap₂, sym, subst, ◌∙◌, get_or, append_assoc}
 use Rattle.std.proofs.lemmas.List.{take_all}
@@ -16,18 +16,22 @@ use Rattle.exact_fraction.specs.declared.Op.TheVariants.{Plus, Minus, Times}
 use Rattle.exact_fraction.specs.declared.Passed.{Passed}
 use Rattle.market_model.specs.declared.answered.Duals.{Duals}
 use Rattle.market_model.specs.declared.participants.Parts.{Parts}
-use Rattle.market_model.specs.Dispatch.{Dispatch, places, balance, empty, quantity}
+use Rattle.market_model.specs.Dispatch.{Dispatch, places, injection, injection_terms, balance, balance_terms, empty, quantity}
 use Rattle.market_model.specs.Infeasibility.{where_above, part_above, block_weight, limit_terms, farkas_terms, farkas_bound}
 use Rattle.market_model.specs.LimitRows.{Row, rows, row_id, limit, flow}
 use Rattle.market_model.specs.NamedSums.{IsRefusal, IsRefusedIn}
+use Rattle.market_model.specs.Valued.{passed_at}
 use Rattle.market_model.specs.Optimality.{up_of, down_of, is_named, named_rows}
 use Rattle.market_model.proofs.MorePlaces.{sum_by_more, total-places_more}
 use Rattle.market_model.proofs.SumSteps.{plus_at, multiplied_at, refused_by_added, refusal_same, terms_at, behind}
 use Rattle.limit_rows.proofs.DualLemmas.{up_unnamed, down_unnamed, sum_named}
 use Rattle.cert_sums.specs.Bounds.{left_at, limits_terms}
 use Rattle.cert_sums.specs.Named.{PricedRow}
-use Rattle.cert_sums.specs.Pairs.{IsFarkasPair, of_farkas_sum, of_farkas_prices, of_limit_less, of_limit_more, verified, bound_of_all, flow_of_row, congestion_at, price_at}
-use Rattle.cert_sums.specs.Refusals.{IsShareRefusal, IsAboveRefusal, IsBelowRefusal, IsLimitRefusal, in_flow, in_above, in_below, IsPriceRefusal}
+use Rattle.cert_sums.specs.Pairs.{IsFarkasPair, of_farkas_sum, of_farkas_prices, of_limit_less, of_limit_more, verified, bound_of_all, injection_at, balance_of_all, flow_of_line, flow_of_row, congestion_at, price_at}
+use Rattle.cert_sums.specs.declared.stops.VerifyStop.{VerifyStop}
+use Rattle.cert_sums.specs.declared.stops.VerifyStop.TheVariants as why
+use Rattle.cert_sums.specs.Results.{dispatch_of}
+use Rattle.cert_sums.specs.Refusals.{IsStopped, IsInjectionRefusal, IsLineRefusal, IsShareRefusal, IsAboveRefusal, IsBelowRefusal, IsLimitRefusal, in_flow, in_above, in_below, IsPriceRefusal}
 use Rattle.cert_sums.proofs.NamedLemmas.{IsNamedAt, is_named_row, is_row}
 
 -- ---- prices of 0 make nothing
@@ -239,3 +243,22 @@ module _ (m : Parts) (d : Duals Fraction) where
   price_pair i bound p lt (inl (inl c)) = of_farkas_sum _ (verified _ (congestion_at i lt)) c
   price_pair i bound p lt (inl (inr c)) = of_farkas_prices c.0 c.1 c.2
   price_pair i bound p lt (inr c) = of_farkas_sum _ (verified _ (price_at i lt)) c
+
+-- ---- where nothing is accepted
+pub nothing_is : {N : Type 0} (value : N → Fraction) (m : Parts) (xs ys : List N) (n : ℕ) → xs ≡ ys → map value ys ≡ replicate n (whole (pos 0)) → n ≡ length m.blocks → dispatch_of value xs ≡ empty m
+nothing_is value m xs ys n same zeros count = ap (λ (zs : List Fraction). record { blocks = zs }) (ap (map value) same ∙ zeros ∙ ap (λ (k : ℕ). replicate k (whole (pos 0))) count)
+
+-- why a sum stops, where each of its refusals is another's
+pub stopped_weaker : {N : Type 0} (value : N → Fraction) (p q : Passed Fraction → Type 0) (s : VerifyStop N) → ((e : Passed Fraction) → p e → q e) → IsStopped value p s → IsStopped value q s
+stopped_weaker value p q (why.Range e) to h = to (passed_at value e) h
+stopped_weaker value p q why.Memory to h = tt
+
+module _ (m : Parts) (d : Duals Fraction) (bound : ℕ) (p : Passed Fraction) where
+  pub injection_pair : (x : Dispatch) → x ≡ empty m → IsInjectionRefusal m x bound p → IsFarkasPair m d bound p
+  injection_pair x is (i, lt, h) = of_farkas_sum (injection_terms m (empty m) i) (verified _ (injection_at i lt)) (subst (λ (y : Dispatch). IsRefusedIn (injection_terms m y i) bound p) is h)
+
+  pub line_pair : IsLineRefusal m (injection m (empty m)) bound p → IsFarkasPair m d bound p
+  line_pair (l, lt, h) = of_farkas_sum _ (verified _ (flow_of_line l lt)) h
+
+  pub balance_pair : IsRefusedIn (balance_terms m (empty m)) bound p → IsFarkasPair m d bound p
+  balance_pair h = of_farkas_sum _ (verified _ balance_of_all) h

@@ -103,11 +103,7 @@ fn injection<N: Exact>(market: &Market, bus: usize, dispatch: &[N]) -> Result<N,
 }
 
 /// Puts in what each bus puts into the network.
-fn put_injections<N: Exact>(
-    market: &Market,
-    dispatch: &[N],
-    out: &mut [N],
-) -> Result<(), Passed<N>>
+fn put_injections<N: Exact>(market: &Market, dispatch: &[N], out: &mut [N]) -> Result<(), Passed<N>>
     requires dispatch { length dispatch.now ≡ length market.now.blocks }
     requires out { length out.old ≡ length market.now.buses }
     ensures count { length out.new ≡ length out.old }

@@ -7,9 +7,7 @@ ghost use Rattle.cert_sums.specs.Worked.{block_of, bus_of, factor_of, line_of, u
 use crate::{NamedRow, balance, bus_price, farkas_bound, injections, line_flows, row_flow};
 use exact_fraction::{Exact, Frac, Frac63, Op};
 use limit_rows::LimitRow;
-use market_model::{
-    Block, Bus, Factor, Line, List, Market, Memory, Parts, Side, Unit, assemble,
-};
+use market_model::{Block, Bus, Factor, Line, List, Market, Memory, Parts, Side, Unit, assemble};
 use std::alloc::Global;
 use std::cmp::Ordering;
 use std::test::Fail;
