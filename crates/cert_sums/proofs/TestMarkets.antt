@@ -97,3 +97,10 @@ upper_named value m energy e named is row listed = (
       ∙ ap (λ r. record { row = record { line = r.line; cause = Rattle.limit_rows.specs.Groups.cause_of r.lost }; up = value e.up; down = value e.down } ∷ []) row
       ∙ one_named energy (value e.up) (value e.down)),
 )
+
+-- the same of a market that is this one
+pub named_there : {N : Type 0} (value : N → Fraction) (m : Parts) (xs ys : List (NamedRow N)) → m ≡ worked → xs ≡ ys → (d : Duals Fraction) × AreNamed value worked d ys → (d : Duals Fraction) × AreNamed value m d xs
+named_there value m xs ys is same (d, h) = (
+  d,
+  subst (λ (p : Parts). map (priced_at value) xs ≡ map (priced_by p d) (named_rows p d)) (sym is) (ap (map (priced_at value)) same ∙ h),
+)
