@@ -16,7 +16,7 @@ use Rattle.market_model.specs.Optimality.{named_rows}
 use Rattle.market_model.specs.Stairs.{stair_in}
 use Rattle.limit_rows.proofs.TestMarkets.{one_is_market}
 use Rattle.cert_sums.specs.declared.pricing.NamedRow.{NamedRow}
-use Rattle.cert_sums.specs.Named.{PricedRow, priced_at, priced_by, AreNamed}
+use Rattle.cert_sums.specs.Named.{priced_at, priced_by, AreNamed}
 use Rattle.cert_sums.specs.Worked.{block_of, bus_of, line_of, unit_of, worked}
 
 abbrev blocks : List Block
