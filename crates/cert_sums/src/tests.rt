@@ -127,7 +127,9 @@ fn outages(alloc: Global) -> Result<List<u32>, Memory>
 }
 
 fn triangle(alloc: Global) -> Result<Market, Memory>
-    ensures { IfOk result (λ market. market ≡ worked) }
+    ensures is { IfOk result (λ market. market ≡ worked) }
+    ensures blocks { IfOk result (λ market. length market.blocks ≡ 2) }
+    ensures lines { IfOk result (λ market. length market.lines ≡ 3) }
 {
     let parts = Parts {
         buses: buses(alloc)?,
@@ -149,9 +151,23 @@ fn is<N: Exact>(value: N, units: i32) -> bool {
     value.order(number(units)) == Ordering::Equal
 }
 
+/// Whether these are the numbers.
+fn are<N: Exact>(numbers: &[N], expected: &[i32]) -> bool {
+    if numbers.len() != expected.len() {
+        return false;
+    }
+    for (at, number) in numbers.iter().enumerate() {
+        if !is(*number, expected[at]) {
+            return false;
+        }
+    }
+    true
+}
+
 /// Whether a dispatch of 50 and 10 has its injections and flows, and branch 2 the flow after the loss of branch 1.
 fn adds_up<N: Exact>(alloc: Global, market: &Market) -> Option<bool>
-    requires { market.now ≡ worked }
+    requires blocks { length market.now.blocks ≡ 2 }
+    requires lines { length market.now.lines ≡ 3 }
 {
     let mut dispatch: List<N> = List::new(alloc);
     dispatch.push(number(50)).ok()?;
@@ -164,15 +180,7 @@ fn adds_up<N: Exact>(alloc: Global, market: &Market) -> Option<bool>
         lost: Some(0),
     };
     let lost = row_flow(market, &flows, after).ok()?;
-    Some(
-        is(mws[0], 50)
-            && is(mws[1], 10)
-            && is(mws[2], -60)
-            && is(all, 0)
-            && is(flows[0], 10)
-            && is(flows[1], 40)
-            && is(lost, 50),
-    )
+    Some(are(&mws, &[50, 10, -60]) && is(all, 0) && are(&flows, &[10, 40, 0]) && is(lost, 50))
 }
 
 /// Branch 2 alone, with a price of its upper side.
