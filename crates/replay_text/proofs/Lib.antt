@@ -1,1 +1,5 @@
 pub mod FrameReports
+pub mod LimitRests
+pub mod ReplayReading
+pub mod ReportRests
+pub mod StepLines
