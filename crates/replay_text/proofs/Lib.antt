@@ -3,3 +3,4 @@ pub mod LimitRests
 pub mod ReplayReading
 pub mod ReportRests
 pub mod StepLines
+pub mod TextLemmas

@@ -28,7 +28,7 @@ fn outcome_lines<N: Exact>(
         StepOutcome::Accepted => text.word(b" edit accepted\n"),
         StepOutcome::Refused(fault) => {
             text.word(b" edit refused ")?;
-            fault_words(text, fault)?;
+            fault_words(text, *fault)?;
             text.word(b"\n")
         }
         StepOutcome::Clear(outcome) => {
