@@ -125,6 +125,6 @@ abbrev pub IsStep : Step → Type 0
 IsStep (step.Edit e) = IsDatum (number_of e)
 IsStep step.Clear = ⊤
 
-pub record AreSteps (steps : List Step) : Type 0 where
-  pub count : length steps ≤ most_steps
-  pub steps : All IsStep steps
+pub record AreSteps (list : List Step) : Type 0 where
+  pub count : length list ≤ most_steps
+  pub steps : All IsStep list

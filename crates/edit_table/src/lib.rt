@@ -242,7 +242,7 @@ fn limit_step(table: &Table, row: usize, post: bool) -> Result<Step, StepFault>
 }
 
 /// The step of a record: its words first, then its numbers from left to right.
-#[tactic(auto, unfolding(crate::specs::EditTable::step_in))]
+#[tactic(auto, unfolding(crate::specs::EditTable::numbers_in, crate::specs::EditTable::step_in))]
 fn step_of(table: &Table, row: usize) -> Result<Step, StepFault>
     requires { (row < length table.now) × (row + 2 < 2 ^ 64) }
     ensures kept { IfOk result IsStep }

@@ -18,6 +18,8 @@ use Rattle.outage_list.specs.declared.listing.OutageFault.{OutageFault}
 use Rattle.outage_list.specs.declared.listing.OutageFault.TheVariants as outage_fault
 use Rattle.offer_book.specs.declared.offer_table.OfferFault.{OfferFault}
 use Rattle.offer_book.specs.declared.offer_table.OfferFault.TheVariants as offer_fault
+use Rattle.edit_table.specs.declared.StepFault.{StepFault}
+use Rattle.edit_table.specs.declared.StepFault.TheVariants as step_fault
 use Rattle.refusal_text.specs.declared.refusals.Input.{Input}
 use Rattle.refusal_text.specs.declared.refusals.Input.TheVariants as input
 use Rattle.refusal_text.specs.declared.refusals.Refusal.{Refusal}
@@ -71,6 +73,14 @@ offer_words (offer_fault.OutOfOrder line) = codes "OutOfOrder" ++ codes " line "
 offer_words (offer_fault.OverCapacity line) = codes "OverCapacity" ++ codes " line " ++ decimal line
 offer_words offer_fault.Memory = []
 
+unfoldable pub step_words : StepFault → List ℕ
+step_words step_fault.Header = codes "Header"
+step_words (step_fault.Width line) = codes "Width" ++ codes " line " ++ decimal line
+step_words (step_fault.TooMany count) = codes "TooMany count " ++ decimal count
+step_words (step_fault.Cell line col w) = codes "Cell line " ++ decimal line ++ codes " col " ++ decimal col ++ codes " " ++ why_name w
+step_words (step_fault.Word line) = codes "Word" ++ codes " line " ++ decimal line
+step_words step_fault.Memory = []
+
 unfoldable pub table_words : TableFault → List ℕ
 table_words table_fault.Header = codes "Header"
 table_words (table_fault.Width line) = codes "Width" ++ codes " line " ++ decimal line
@@ -111,6 +121,7 @@ input_name input.Lodf = codes "lodf "
 input_name input.Contingencies = codes "contingencies "
 input_name input.Offers = codes "offers "
 input_name input.Offsets = codes "offsets "
+input_name input.Edits = codes "edits "
 
 -- which file it is, and its fault
 unfoldable pub refusal_words : Refusal → List ℕ
@@ -122,6 +133,7 @@ refusal_words (refusal.Table i f) = input_name i ++ table_words f
 refusal_words (refusal.Outages f) = codes "contingencies " ++ outage_words f
 refusal_words (refusal.Uncovered lack) = codes "factors " ++ lack_words lack
 refusal_words (refusal.Offers f) = codes "offers " ++ offer_words f
+refusal_words (refusal.Edits f) = codes "edits " ++ step_words f
 
 -- the line that refuses a file
 unfoldable pub refusal_line : Refusal → List ℕ

@@ -1,9 +1,10 @@
 //! Why a file is refused, and the line that says so.
 
 ghost use Rattle.std.specs.Prelude.{◌≡◌, ◌++◌, codes, decimal, IfOk};
-ghost use Rattle.refusal_text.specs.Refusals.{field_name, why_name, case_words, net_words, table_words, side_text, outage_words, lack_words, offer_words, input_name, refusal_words, refusal_line};
+ghost use Rattle.refusal_text.specs.Refusals.{field_name, why_name, case_words, net_words, table_words, side_text, outage_words, lack_words, offer_words, step_words, input_name, refusal_words, refusal_line};
 
 use case_text::{CaseFault, Field};
+use edit_table::StepFault;
 use factor_tables::{TableFault, Uncovered};
 use line_text::Text;
 use net_case::NetFault;
@@ -27,6 +28,8 @@ pub enum Input {
     Offers,
     /// The table of offsets.
     Offsets,
+    /// The table of edits and clears.
+    Edits,
 }
 
 /// Why a file stands for nothing that the program may work on.
@@ -46,6 +49,7 @@ pub enum Refusal {
     /// What the two tables of factors lack together.
     Uncovered(Uncovered),
     Offers(OfferFault),
+    Edits(StepFault),
 }
 
 fn field_word(field: Field) -> &'static [u8]
@@ -194,6 +198,23 @@ fn write_offer_fault(text: &mut Text, fault: OfferFault) -> Result<(), Memory>
     }
 }
 
+#[tactic(auto, using(std::proofs::Common::append_assoc), unfolding(crate::specs::Refusals::step_words))]
+fn write_step_fault(text: &mut Text, fault: StepFault) -> Result<(), Memory>
+    ensures { IfOk result (λ _. text.new ≡ text.old ++ step_words fault) }
+{
+    match fault {
+        StepFault::Header => text.word(b"Header"),
+        StepFault::Width { line } => at_line(text, b"Width", line),
+        StepFault::TooMany { count } => numbered(text, b"TooMany count ", count),
+        StepFault::Cell { line, col, why } => {
+            text.word(b"Cell line ")?;
+            write_place(text, line, col, why)
+        }
+        StepFault::Word { line } => at_line(text, b"Word", line),
+        StepFault::Memory => Ok(()),
+    }
+}
+
 #[tactic(auto, using(std::proofs::Common::append_assoc), unfolding(crate::specs::Refusals::table_words))]
 fn write_table_fault(text: &mut Text, fault: TableFault) -> Result<(), Memory>
     ensures { IfOk result (λ _. text.new ≡ text.old ++ table_words fault) }
@@ -263,6 +284,7 @@ fn input_word(input: Input) -> &'static [u8]
         Input::Contingencies => b"contingencies ",
         Input::Offers => b"offers ",
         Input::Offsets => b"offsets ",
+        Input::Edits => b"edits ",
     }
 }
 
@@ -304,6 +326,10 @@ fn write_refusal(text: &mut Text, refusal: &Refusal) -> Result<(), Memory>
         Refusal::Offers(fault) => {
             text.word(b"offers ")?;
             write_offer_fault(text, *fault)
+        }
+        Refusal::Edits(fault) => {
+            text.word(b"edits ")?;
+            write_step_fault(text, *fault)
         }
     }
 }
