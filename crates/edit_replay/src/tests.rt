@@ -5,7 +5,6 @@ ghost use Rattle.std.specs.Prelude.{◌≡◌, [], ◌∷◌, pos, negsuc, All, 
 ghost use Rattle.market_model.specs.declared.participants.Side.TheVariants as side;
 ghost use Rattle.offer_book.specs.Edits.{number_of};
 ghost use Rattle.edit_table.specs.EditTable.{IsStep};
-ghost use Rattle.clear_loop.specs.Worked.{worked};
 
 use crate::{Session, Step, StepOutcome, Steps};
 use exact_fraction::{Exact, Frac, Frac63};
