@@ -1,15 +1,13 @@
 -- Steps keep the frame of a market, and what fits one market of a frame fits all.
-use Rattle.std.specs.Prelude.{◌≡◌, List, [], ◌∷◌, length, map, All, refl}
-use Rattle.std.proofs.Common.{zero, suc, arith, ap, sym, ◌∙◌}
+use Rattle.std.specs.Prelude.{◌≡◌, List, [], ◌∷◌, length, take, All, refl}
+use Rattle.std.proofs.Common.{ap, sym, ◌∙◌}
 use Rattle.std.proofs.lemmas.List.{length-map}
 use Rattle.std.proofs.lemmas.List.Elements.{All-head, All-tail}
-use Rattle.market_data.specs.declared.participants.Bus.{Bus}
 use Rattle.market_model.specs.declared.answered.Outcome.{Outcome}
 use Rattle.market_model.specs.declared.answered.Outcome.TheVariants as outcome
-use Rattle.market_model.specs.declared.participants.Block.{Block}
 use Rattle.market_model.specs.declared.participants.Parts.{Parts}
 use Rattle.market_model.specs.Fitting.{FitsOutcome}
-use Rattle.market_model.specs.Frame.{SameFrame, block_frame, bus_frame}
+use Rattle.market_model.specs.Frame.{SameFrame, block_frame, bus_frame, frame}
 use Rattle.market_model.specs.Market.{IsMarket}
 use Rattle.offer_book.proofs.EditedMarkets.{stepped as edited_market}
 use Rattle.offer_book.proofs.FrameOfEdits.{law_of_the_edited_frame}
@@ -18,7 +16,7 @@ use Rattle.edit_table.specs.declared.Step.{Step}
 use Rattle.edit_table.specs.declared.Step.TheVariants as step
 use Rattle.edit_replay.specs.declared.step_outcome.StepOutcome.{StepOutcome}
 use Rattle.edit_replay.specs.declared.step_outcome.StepOutcome.TheVariants as reply
-use Rattle.edit_replay.specs.Replays.{FitsStep, edited_by, stepped}
+use Rattle.edit_replay.specs.Replays.{FitsStep, IsEditedPart, edited_by, stepped}
 
 -- ---- steps
 pub stepped_frame : (m : Parts) (s : Step) → SameFrame m (stepped m s)
@@ -28,6 +26,10 @@ stepped_frame m step.Clear = refl
 pub steps_frame : (m : Parts) (steps : List Step) → SameFrame m (edited_by m steps)
 steps_frame m [] = refl
 steps_frame m (s ∷ steps) = stepped_frame m s ∙ steps_frame (stepped m s) steps
+
+-- of some of the steps too
+pub part_frame : (m : Parts) (steps : List Step) (n : Parts) → IsEditedPart m steps n → SameFrame m n
+part_frame m steps n part = steps_frame m (take part.count steps) ∙ sym (ap frame part.market)
 
 stepped_market : (m : Parts) (s : Step) → IsMarket m → IsStep s → IsMarket (stepped m s)
 stepped_market m (step.Edit e) market datum = edited_market m market e datum

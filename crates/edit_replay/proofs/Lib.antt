@@ -1,4 +1,3 @@
 pub mod FrameLemmas
 pub mod ReplayLemmas
 pub mod ReplayLawProofs
-pub mod SessionLemmas

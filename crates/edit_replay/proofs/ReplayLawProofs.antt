@@ -1,20 +1,17 @@
 -- The laws of replays.
-use Rattle.std.specs.Prelude.{◌≡◌, ℕ, List, [], ◌∷◌, ◌++◌, length, map, All, Option, Some, None, refl}
-use Rattle.std.proofs.Common.{zero, suc, arith, ap, subst, sym, ◌∙◌}
+use Rattle.std.specs.Prelude.{◌≡◌, ℕ, List, [], ◌∷◌, ◌++◌, length, map, Some, None, refl}
+use Rattle.std.proofs.Common.{arith, ap, sym, ◌∙◌}
 use Rattle.fraction_theory.specs.Fraction.{Fraction}
-use Rattle.market_model.specs.declared.answered.Outcome.{Outcome}
 use Rattle.market_model.specs.declared.participants.Parts.{Parts}
 use Rattle.market_model.specs.LimitRows.{Row}
 use Rattle.market_system.proofs.Completeness.{law_of_completeness}
 use Rattle.offer_book.specs.Edits.{judge}
 use Rattle.offer_book.specs.declared.edit_parts.Edit.{Edit}
-use Rattle.offer_book.specs.declared.edit_parts.EditFault.{EditFault}
-use Rattle.edit_table.specs.EditTable.{IsStep}
 use Rattle.edit_table.specs.declared.Step.{Step}
 use Rattle.edit_table.specs.declared.Step.TheVariants as step
 use Rattle.edit_replay.specs.declared.step_outcome.StepOutcome.{StepOutcome}
 use Rattle.edit_replay.specs.declared.step_outcome.StepOutcome.TheVariants as reply
-use Rattle.edit_replay.specs.ReplayLaws.{IsClearBehind, LawOfClearsInReplays, LawOfEditsInReplays, told_of_edit}
+use Rattle.edit_replay.specs.ReplayLaws.{LawOfClearsInReplays, LawOfEditsInReplays, told_of_edit}
 use Rattle.edit_replay.specs.Replays.{IsReplay, IsReply, edited_by, stepped}
 use Rattle.edit_replay.proofs.FrameLemmas.{steps_market}
 

@@ -5,7 +5,6 @@ ghost use Rattle.std.specs.Prelude.{◌≡◌, [], ◌∷◌, pos, negsuc, All, 
 ghost use Rattle.market_model.specs.declared.participants.Side.TheVariants as side;
 ghost use Rattle.offer_book.specs.Edits.{number_of};
 ghost use Rattle.edit_table.specs.EditTable.{IsStep};
-ghost use Rattle.clear_loop.specs.Worked.{worked};
 
 use crate::{Session, Step, StepOutcome, Steps};
 use exact_fraction::{Exact, Frac, Frac63};
@@ -241,15 +240,16 @@ fn starts_warm<N: Exact>(alloc: Global) -> Result<bool, Memory> {
     let twice = has_taken(&session);
     let wider = session.edit(&limit(50 * MW)).is_ok();
     let third = session.clear(alloc)?;
-    Ok(once
-        && cheaper
-        && twice
-        && wider
-        && has_taken(&session)
-        && session.market().blocks().len() == 2
-        && is_cleared(&first, (50, 10), (30, 40))
-        && is_cleared(&second, (50, 10), (20, 25))
-        && is_cleared(&third, (60, 0), (10, 10)))
+    Ok(
+        once && cheaper
+            && twice
+            && wider
+            && has_taken(&session)
+            && session.market().blocks().len() == 2
+            && is_cleared(&first, (50, 10), (30, 40))
+            && is_cleared(&second, (50, 10), (20, 25))
+            && is_cleared(&third, (60, 0), (10, 10)),
+    )
 }
 
 /// What the steps come to, in a session that has cleared nothing.
