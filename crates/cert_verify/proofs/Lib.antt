@@ -1,2 +1,5 @@
+pub mod FindLemmas
+pub mod LawLemmas
+pub mod NamingLemmas
 pub mod TestLemmas
 pub mod VerdictLemmas

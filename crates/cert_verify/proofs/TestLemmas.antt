@@ -2,7 +2,8 @@
 use Rattle.std.specs.Prelude.{◌≡◌, ◌≢◌, ◌⊎◌, ◌||◌, ◌&&◌, ◌==◌, ℕ, ◌+◌, ◌<◌, ℤ, pos, ◌*ℤ◌, ◌<ℤ◌, int_lt, Bool, true, false, not, cond, List, [], ◌∷◌, ◌++◌, length, map, All, AllPairs, Contains, Option, Some, None, option_map, refl}
 use Rattle.std.specs.List.{find, list_any, slice_get}
 use Rattle.std.specs.Option.{option_or}
-use Rattle.std.proofs.Common.{zero, suc, arith, inl, inr, ap, sym, subst, ◌∙◌, get_or, take, drop}
+use Rattle.std.specs.Ordering.{MatchOrdering}
+use Rattle.std.proofs.Common.{zero, suc, arith, inl, inr, ap, sym, subst, ◌∙◌, get_or, Ordering, Less, Equal, Greater}
 use Rattle.std.proofs.lemmas.Bool.{true≢false, or_parts, or_cases, and_parts, and_cases, eq-eqb, eqb-true}
 use Rattle.std.proofs.lemmas.Int.{ints}
 use Rattle.std.proofs.lemmas.List.FromFn.{length-range_with_len, get_or-range_with_len}
@@ -10,7 +11,7 @@ use Rattle.std.proofs.lemmas.List.Folds.{find-append}
 use Rattle.fraction_theory.specs.Fraction.{Fraction}
 use Rattle.fraction_theory.specs.Order.{◌≤ℚ◌, ◌<ℚ◌}
 use Rattle.fraction_theory.proofs.ListSums.{Contains-head, Contains-cons, Contains-cases}
-use Rattle.fraction_theory.proofs.OrderLaws.{<ℚ-not-≤ℚ, ≤ℚ-or-<ℚ, ≤ℚ_antisym, ≤ℚ_of_same}
+use Rattle.fraction_theory.proofs.OrderLaws.{<ℚ-≤ℚ, <ℚ-not-≤ℚ, ≤ℚ-or-<ℚ, ≤ℚ_antisym, ≤ℚ_of_same}
 use Rattle.market_model.specs.Dispatch.{places}
 use Rattle.market_model.proofs.ChangeLemmas.{same_default}
 use Rattle.cert_verify.specs.declared.verdicts.Reason.{Reason}
@@ -52,6 +53,19 @@ same_by x y e = let parts = or_parts (is_below x y) (is_below y x) e in ≤ℚ_a
 pub same_not : (x y : Fraction) → x ≡ y → differ x y ≡ false
 same_not x y e = Prim.rw (below_not x y (≤ℚ_of_same y x (sym e)), below_not y x (≤ℚ_of_same x y e)) refl
 
+-- by an order
+pub not_less : (o : Ordering) (x y : Fraction) → MatchOrdering o (x <ℚ y) (x ≡ y) (y <ℚ x) → (o ≡ Equal) ⊎ (o ≡ Greater) → y ≤ℚ x
+not_less Greater x y h is = <ℚ-≤ℚ y x h
+not_less Equal x y h is = ≤ℚ_of_same y x (sym h)
+not_less Less x y h (inl e) = absurd Prim.cc
+not_less Less x y h (inr e) = absurd Prim.cc
+
+pub not_equal : (o : Ordering) (x y : Fraction) → MatchOrdering o (x <ℚ y) (x ≡ y) (y <ℚ x) → (o ≡ Less) ⊎ (o ≡ Greater) → differ x y ≡ true
+not_equal Less x y h is = Prim.rw (below_of x y h) refl
+not_equal Greater x y h is = Prim.rw (below_not x y (<ℚ-≤ℚ y x h), below_of y x h) refl
+not_equal Equal x y h (inl e) = absurd Prim.cc
+not_equal Equal x y h (inr e) = absurd Prim.cc
+
 -- ---- two tests at once
 pub neither : (a b : Bool) → a ≡ false → b ≡ false → (a || b) ≡ false
 neither a b e f = Prim.rw (e, f) refl
@@ -81,20 +95,20 @@ any_true {X} p (x ∷ xs) e = by (any_true p xs) (or_cases (p x) (list_any p xs)
     by more (inl h) = (x, Contains-head x xs, h)
     by more (inr h) = let r = more h in (r.0, Contains-cons x xs r.0 r.1, r.2)
 
+pub any_false : {X : Type 0} (p : X → Bool) (xs : List X) → list_any p xs ≡ false → (x : X) → Contains xs x → p x ≡ false
+any_false p [] e x (k, lt, at) = absurd (Prim.omega (arith, lt))
+any_false p (y ∷ ys) e x c = by (λ f d. any_false p ys f x d) (Contains-cases y ys x c)
+  where
+    by : (list_any p ys ≡ false → Contains ys x → p x ≡ false) → (y ≡ x) ⊎ Contains ys x → p x ≡ false
+    by more (inl f) = subst (λ z. p z ≡ false) f (or_parts (p y) (list_any p ys) e).0
+    by more (inr d) = more (or_parts (p y) (list_any p ys) e).1 d
+
 pub any_of : {X : Type 0} (p : X → Bool) (xs : List X) (x : X) → Contains xs x → p x ≡ true → list_any p xs ≡ true
 any_of p xs x c e = by (list_any p xs) refl
   where
     by : (b : Bool) → list_any p xs ≡ b → b ≡ true
     by true f = refl
     by false f = absurd (true≢false (sym e ∙ any_false p xs f x c))
-
-pub any_false : {X : Type 0} (p : X → Bool) (xs : List X) → list_any p xs ≡ false → (x : X) → Contains xs x → p x ≡ false
-any_false p [] e x (k, lt, at) = absurd (Prim.omega (arith, lt))
-any_false p (y ∷ ys) e x c = by (Contains-cases y ys x c)
-  where
-    by : (y ≡ x) ⊎ Contains ys x → p x ≡ false
-    by (inl f) = subst (λ z. p z ≡ false) f (or_parts (p y) (list_any p ys) e).0
-    by (inr d) = any_false p ys (or_parts (p y) (list_any p ys) e).1 x d
 
 pub any_none : {X : Type 0} (p : X → Bool) (xs : List X) → ((x : X) → Contains xs x → p x ≡ false) → list_any p xs ≡ false
 any_none p [] h = refl
@@ -115,12 +129,12 @@ from_places n j (k, lt, e) =
 -- ---- the first that a test finds
 pub find_none : {X : Type 0} (p : X → Bool) (xs : List X) → find p xs ≡ None → (x : X) → Contains xs x → p x ≡ false
 find_none p [] e x (k, lt, at) = absurd (Prim.omega (arith, lt))
-find_none {X} p (y ∷ ys) e x c = by (p y) refl e (Contains-cases y ys x c)
+find_none {X} p (y ∷ ys) e x c = by (p y) refl e (λ f d. find_none p ys f x d) (Contains-cases y ys x c)
   where
-    by : (b : Bool) → p y ≡ b → cond b (Some y) (find p ys) ≡ None → (y ≡ x) ⊎ Contains ys x → p x ≡ false
-    by true t f d = absurd Prim.cc
-    by false t f (inl g) = subst (λ z. p z ≡ false) g t
-    by false t f (inr d) = find_none p ys f x d
+    by : (b : Bool) → p y ≡ b → cond b (Some y) (find p ys) ≡ None → (find p ys ≡ None → Contains ys x → p x ≡ false) → (y ≡ x) ⊎ Contains ys x → p x ≡ false
+    by true t f more d = absurd Prim.cc
+    by false t f more (inl g) = subst (λ z. p z ≡ false) g t
+    by false t f more (inr d) = more f d
 
 pub none_found : {X : Type 0} (p : X → Bool) (xs : List X) → ((x : X) → Contains xs x → p x ≡ false) → find p xs ≡ None
 none_found p [] h = refl

@@ -1,6 +1,7 @@
 //! What may be wrong with the duals of a certificate, the first in its own order.
 
 ghost use Rattle.std.specs.Prelude.{◌≡◌, length, map, IfOk, IfErr};
+ghost use Rattle.fraction_theory.specs.Fraction.{Fraction};
 ghost use Rattle.market_model.specs.declared.answered.Duals.{Duals};
 ghost use Rattle.market_model.specs.Dispatch.{Dispatch};
 ghost use Rattle.market_model.specs.Valued.{dual_at, passed_at};

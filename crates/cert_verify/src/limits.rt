@@ -1,6 +1,7 @@
 //! The first limit of the market that a dispatch breaks, among all of them.
 
 ghost use Rattle.std.specs.Prelude.{◌≡◌, ◌<◌, length, map, Contains, IfOk, IfErr, IfSome};
+ghost use Rattle.fraction_theory.specs.Fraction.{Fraction};
 ghost use Rattle.market_model.specs.declared.answered.Duals.{Duals};
 ghost use Rattle.market_model.specs.Dispatch.{Dispatch};
 ghost use Rattle.market_model.specs.LimitRows.{Row, row_id};

@@ -1,0 +1,137 @@
+-- The first that a test finds, as a loop comes to it.
+use Rattle.std.specs.Prelude.{◌≡◌, ℕ, ◌+◌, ◌<◌, ◌≤◌, Bool, true, false, cond, List, [], ◌∷◌, ◌++◌, length, map, filter, Option, Some, None, option_map, refl}
+use Rattle.std.specs.List.{find, flat_map, slice_get}
+use Rattle.std.specs.Option.{option_or}
+use Rattle.std.proofs.Common.{zero, suc, arith, ap, sym, subst, ◌∙◌, get_or, take}
+use Rattle.std.proofs.lemmas.List.{append-nil, take_more}
+use Rattle.std.proofs.lemmas.List.Elements.{filter-append}
+use Rattle.std.proofs.lemmas.List.Folds.{find-append}
+use Rattle.market_model.specs.declared.participants.Parts.{Parts}
+use Rattle.market_model.specs.Dispatch.{places}
+use Rattle.market_model.specs.LimitRows.{Row, rows}
+use Rattle.market_model.proofs.MorePlaces.{places_more}
+use Rattle.limit_rows.specs.Groups.{bears, groups, lines_of, rows_of}
+use Rattle.limit_rows.proofs.GroupLemmas.{places_at, rows-more}
+use Rattle.limit_rows.proofs.NameLemmas.{groups_round, rows_round}
+use Rattle.limit_rows.proofs.NumberingLemmas.{all_before, row_on, rows_before}
+use Rattle.cert_verify.specs.declared.verdicts.Reason.{Reason}
+use Rattle.cert_verify.specs.Reasons.{of_first}
+
+-- ---- in a list with parts
+none_before : {X : Type 0} (p : X → Bool) (xs ys : List X) → find p xs ≡ None → find p (xs ++ ys) ≡ find p ys
+none_before p xs ys e = find-append p xs ys ∙ ap (λ o. option_or o (find p ys)) e
+
+found_first : {X : Type 0} (p : X → Bool) (x : X) (ys : List X) → p x ≡ true → find p (x ∷ ys) ≡ Some x
+found_first p x ys t = ap (λ (b : Bool). cond b (Some x) (find p ys)) t
+
+none_one : {X : Type 0} (p : X → Bool) (x : X) → p x ≡ false → find p (x ∷ []) ≡ None
+none_one p x t = ap (λ (b : Bool). cond b (Some x) None) t
+
+-- ---- element by element, where each stands for another
+module _ {X Y : Type 0} (because : Y → Reason) (p : Y → Bool) (f : X → Y) where
+  abbrev test : X → Bool
+  test x = p (f x)
+
+  of_mapped : (xs : List X) → of_first because p (map f xs) ≡ of_first (λ x. because (f x)) test xs
+  of_mapped [] = refl
+  of_mapped (x ∷ xs) = by (p (f x)) (of_mapped xs)
+    where
+      by : (b : Bool) → option_map because (find p (map f xs)) ≡ option_map (λ z. because (f z)) (find test xs)
+          → option_map because (cond b (Some (f x)) (find p (map f xs))) ≡ option_map (λ z. because (f z)) (cond b (Some x) (find test xs))
+      by true e = refl
+      by false e = e
+
+  found : (xs : List X) (i : ℕ) (x : X) → find test (take i xs) ≡ None → i < length xs → x ≡ get_or xs i x → test x ≡ true → find test xs ≡ Some x
+  found [] i x e lt at t = absurd (Prim.omega (arith, lt))
+  found (y ∷ ys) zero x e lt at t = found_first test y ys (subst (λ z. test z ≡ true) at t) ∙ ap (λ z. Some z) (sym at)
+  found (y ∷ ys) (suc i) x e lt at t = by (test y) e (λ d. found ys i x d (Prim.omega (arith, lt)) at t)
+    where
+      by : (b : Bool) → cond b (Some y) (find test (take i ys)) ≡ None → (find test (take i ys) ≡ None → find test ys ≡ Some x) → cond b (Some y) (find test ys) ≡ Some x
+      by true d more = absurd Prim.cc
+      by false d more = more d
+
+  pub item_here : (xs : List X) (i : ℕ) (x : X) → find test (take i xs) ≡ None → i < length xs → x ≡ get_or xs i x → test x ≡ true → Some (because (f x)) ≡ of_first because p (map f xs)
+  item_here xs i x e lt at t = sym (of_mapped xs ∙ ap (option_map (λ z. because (f z))) (found xs i x e lt at t))
+
+  pub item_more : (xs : List X) (i : ℕ) (x : X) → find test (take i xs) ≡ None → i < length xs → x ≡ get_or xs i x → test x ≡ false → find test (take (i + 1) xs) ≡ None
+  item_more xs i x e lt at t =
+      ap (find test) (take_more xs i x lt) ∙ none_before test (take i xs) (get_or xs i x ∷ []) e ∙ none_one test (get_or xs i x) (subst (λ z. test z ≡ false) at t)
+
+  pub item_none : (xs : List X) (i : ℕ) → find test (take i xs) ≡ None → length xs ≤ i → None ≡ of_first because p (map f xs)
+  item_none xs i e all = sym (of_mapped xs ∙ ap (λ zs. option_map (λ z. because (f z)) (find test zs)) (sym (whole_taken xs i all)) ∙ ap (option_map (λ z. because (f z))) e)
+    where
+      whole_taken : (zs : List X) (n : ℕ) → length zs ≤ n → take n zs ≡ zs
+      whole_taken [] zero h = refl
+      whole_taken [] (suc n) h = refl
+      whole_taken (z ∷ zs) zero h = absurd (Prim.omega (arith, h))
+      whole_taken (z ∷ zs) (suc n) h = ap (λ ws. z ∷ ws) (whole_taken zs n (Prim.omega (arith, h)))
+
+-- ---- place by place
+module _ (because : ℕ → Reason) (p : ℕ → Bool) where
+  pub place_here : (n k : ℕ) → find p (places k) ≡ None → k < n → p k ≡ true → Some (because k) ≡ of_first because p (places n)
+  place_here n k e lt t =
+      let r = places_at n k lt in
+      sym (ap (λ ks. option_map because (find p ks)) r.1 ∙ ap (option_map because) (none_before p (places k) (k ∷ r.0) e ∙ found_first p k r.0 t))
+
+  pub place_more : (k : ℕ) → find p (places k) ≡ None → p k ≡ false → find p (places (k + 1)) ≡ None
+  place_more k e t = ap (find p) (places_more k) ∙ none_before p (places k) (k ∷ []) e ∙ none_one p k t
+
+  pub place_none : (n k : ℕ) → k ≡ n → find p (places k) ≡ None → None ≡ of_first because p (places n)
+  place_none n k same e = sym (ap (λ (j : ℕ). option_map because (find p (places j))) (sym same) ∙ ap (option_map because) e)
+
+-- ---- row by row
+-- the rows of the lines before one, in a group
+abbrev pub rows_to : Parts → Option ℕ → ℕ → List Row
+rows_to m lost k = map (row_on lost) (filter (bears m lost) (places k))
+
+pub lines_more : (m : Parts) (lost : Option ℕ) (k : ℕ) → bears m lost k ≡ true → rows_to m lost (k + 1) ≡ rows_to m lost k ++ row_on lost k ∷ []
+lines_more m lost k e =
+    ap (map (row_on lost)) (ap (filter (bears m lost)) (places_more k) ∙ filter-append (bears m lost) (places k) (k ∷ []) ∙ ap (λ (b : Bool). filter (bears m lost) (places k) ++ cond b (k ∷ []) []) e)
+    ∙ mapped (filter (bears m lost) (places k))
+  where
+    mapped : (ls : List ℕ) → map (row_on lost) (ls ++ k ∷ []) ≡ map (row_on lost) ls ++ row_on lost k ∷ []
+    mapped [] = refl
+    mapped (l ∷ ls) = ap (λ rs. row_on lost l ∷ rs) (mapped ls)
+
+pub lines_same : (m : Parts) (lost : Option ℕ) (k : ℕ) → bears m lost k ≡ false → rows_to m lost (k + 1) ≡ rows_to m lost k
+lines_same m lost k e =
+    ap (map (row_on lost))
+    (ap (filter (bears m lost)) (places_more k) ∙ filter-append (bears m lost) (places k) (k ∷ []) ∙ ap (λ (b : Bool). filter (bears m lost) (places k) ++ cond b (k ∷ []) []) e
+    ∙ append-nil (filter (bears m lost) (places k)))
+
+module _ (m : Parts) (because : Row → Reason) (p : Row → Bool) where
+  pub line_here : (lost : Option ℕ) (k : ℕ) → find p (rows_to m lost k) ≡ None → k < length m.lines → bears m lost k ≡ true → p (row_on lost k) ≡ true → Some (because (row_on lost k)) ≡ of_first because p (rows_of m lost)
+  line_here lost k e lt bears t =
+      let r = rows_round m lost k lt bears in
+      sym (ap (λ rs. option_map because (find p rs)) r.1 ∙ ap (option_map because) (none_before p (rows_to m lost k) (row_on lost k ∷ r.0) e ∙ found_first p (row_on lost k) r.0 t))
+
+  pub line_more : (lost : Option ℕ) (k : ℕ) → find p (rows_to m lost k) ≡ None → bears m lost k ≡ true → p (row_on lost k) ≡ false → find p (rows_to m lost (k + 1)) ≡ None
+  line_more lost k e bears t = ap (find p) (lines_more m lost k bears) ∙ none_before p (rows_to m lost k) (row_on lost k ∷ []) e ∙ none_one p (row_on lost k) t
+
+  pub line_same : (lost : Option ℕ) (k : ℕ) → find p (rows_to m lost k) ≡ None → bears m lost k ≡ false → find p (rows_to m lost (k + 1)) ≡ None
+  line_same lost k e bears = ap (find p) (lines_same m lost k bears) ∙ e
+
+  pub line_none : (lost : Option ℕ) (k : ℕ) → k ≡ length m.lines → find p (rows_to m lost k) ≡ None → None ≡ of_first because p (rows_of m lost)
+  line_none lost k all e = sym (ap (λ (j : ℕ). option_map because (find p (rows_to m lost j))) (sym all) ∙ ap (option_map because) e)
+
+  not_found : (o : Option Row) → option_map because o ≡ None → o ≡ None
+  not_found None e = refl
+  not_found (Some r) e = absurd Prim.cc
+
+  pub group_more : (i : ℕ) (lost : Option ℕ) → find p (rows_before m i) ≡ None → slice_get (groups m) i ≡ Some lost → None ≡ of_first because p (rows_of m lost) → find p (rows_before m (i + 1)) ≡ None
+  group_more i lost e at none =
+      ap (find p) (rows-more m i lost at) ∙ none_before p (rows_before m i) (rows_of m lost) e ∙ not_found (find p (rows_of m lost)) (sym none)
+
+  pub group_here : (i : ℕ) (lost : Option ℕ) (why : Reason) → find p (rows_before m i) ≡ None → slice_get (groups m) i ≡ Some lost → Some why ≡ of_first because p (rows_of m lost) → Some why ≡ of_first because p (rows m)
+  group_here i lost why e at here =
+      let r = groups_round m i lost at in
+      sym (ap (λ rs. option_map because (find p rs)) r.1
+      ∙ ap (option_map because) (none_before p (rows_before m i) (rows_of m lost ++ r.0) e ∙ find-append p (rows_of m lost) r.0)
+      ∙ by (find p (rows_of m lost)) here)
+    where
+      by : (q : Option Row) → Some why ≡ option_map because q → option_map because (option_or q o) ≡ Some why
+      by None h = absurd Prim.cc
+      by (Some x) h = sym h
+
+  pub group_none : (i : ℕ) → length (groups m) ≤ i → find p (rows_before m i) ≡ None → None ≡ of_first because p (rows m)
+  group_none i all e = sym (ap (λ rs. option_map because (find p rs)) (sym (all_before m i all)) ∙ ap (option_map because) e)
