@@ -1,0 +1,5 @@
+pub mod FlowLemmas
+pub mod ListLemmas
+pub mod NamedLemmas
+pub mod BoundLemmas
+pub mod TestMarkets

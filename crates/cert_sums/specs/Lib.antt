@@ -3,3 +3,4 @@ pub mod Named
 pub mod Pairs
 pub mod Refusals
 pub mod Results
+pub mod Worked

@@ -6,7 +6,7 @@ use Rattle.exact_fraction.specs.declared.Passed.{Passed}
 use Rattle.market_data.specs.declared.participants.Bus.{Bus}
 use Rattle.market_model.specs.declared.answered.Duals.{Duals}
 use Rattle.market_model.specs.declared.participants.Parts.{Parts}
-use Rattle.market_model.specs.Dispatch.{Dispatch, injection, injection_terms}
+use Rattle.market_model.specs.Dispatch.{Dispatch, injection_terms}
 use Rattle.market_model.specs.LimitRows.{Row, limit, line_terms, flow}
 use Rattle.market_model.specs.NamedSums.{IsRefusedIn, IsRefusal}
 use Rattle.market_model.specs.Optimality.{up_of, down_of, named_rows, congestion_terms}
@@ -25,9 +25,9 @@ IsStopped value refused why.Memory = Unit {0}
 abbrev pub IsInjectionRefusal : Parts → Dispatch → ℕ → Passed Fraction → Type 0
 IsInjectionRefusal m x bound p = (i : ℕ) × (i < length m.buses) × IsRefusedIn (injection_terms m x i) bound p
 
--- in the flow of a line
-abbrev pub IsLineRefusal : Parts → Dispatch → ℕ → Passed Fraction → Type 0
-IsLineRefusal m x bound p = (l : ℕ) × (l < length m.lines) × IsRefusedIn (line_terms m (injection m x) l) bound p
+-- in the flow of a line, where buses put in so much
+abbrev pub IsLineRefusal : Parts → (ℕ → Fraction) → ℕ → Passed Fraction → Type 0
+IsLineRefusal m mw bound p = (l : ℕ) × (l < length m.lines) × IsRefusedIn (line_terms m mw l) bound p
 
 -- the two prices of a row that duals name
 abbrev pub IsPricesRefusal : Parts → Duals Fraction → ℕ → Passed Fraction → Type 0

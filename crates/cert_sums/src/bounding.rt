@@ -1,11 +1,10 @@
 //! The Farkas bound: the most that any dispatch within the blocks' bounds makes of the balance and of what is left of the limits.
 
-ghost use Rattle.std.specs.Prelude.{◌≡◌, ◌<◌, length, map, IfOk, IfErr, IfSome};
+ghost use Rattle.std.specs.Prelude.{◌≡◌, ◌<◌, pos, ◌≤ℤ◌, length, map, replicate, IfOk, IfErr, IfSome};
 ghost use Rattle.fraction_theory.specs.Fraction.{Fraction, whole, ◌+ℚ◌, ◌-ℚ◌, ◌*ℚ◌};
 ghost use Rattle.fraction_theory.specs.Sums.{total};
-ghost use Rattle.market_data.specs.Participants.{IsDatum};
 ghost use Rattle.market_model.specs.declared.answered.Duals.{Duals};
-ghost use Rattle.market_model.specs.Dispatch.{Dispatch, balance, empty, quantity, signed};
+ghost use Rattle.market_model.specs.Dispatch.{Dispatch, balance, empty, signed, zero};
 ghost use Rattle.market_model.specs.Infeasibility.{farkas_bound, part_above};
 ghost use Rattle.market_model.specs.LimitRows.{flow, limit};
 ghost use Rattle.market_model.specs.Valued.{passed_at};
@@ -20,7 +19,7 @@ use crate::amounts::datum;
 use crate::{NamedRow, VerifyStop, balance, bus_price, injections, line_flows, row_flow};
 use exact_fraction::{Exact, Passed, Sign};
 use limit_rows::limit_at;
-use market_model::{Market, Side};
+use market_model::{Block, List, Market, Memory, Side};
 use std::alloc::Global;
 
 /// A sum with what the price of an upper limit makes of what a flow leaves of it. A price of 0 makes nothing.
@@ -88,28 +87,36 @@ fn with_limits<N: Exact>(
     Ok(sum)
 }
 
-/// A sum with what a whole block makes, where a MW of it makes so much; nothing where that is not above 0.
-fn with_block<N: Exact>(sum: N, weight: N, quantity: i64) -> Result<N, Passed<N>>
-    requires { IsDatum quantity }
-    ensures sum { IfOk result (λ more. N.value more ≡ N.value sum +ℚ part_above (N.value weight) *ℚ whole quantity) }
-    ensures cause { IfErr result (λ passed. IsShareRefusal (N.value sum) (part_above (N.value weight)) (whole quantity) N.bound (passed_at N.value passed)) }
+/// The quantity of a block.
+#[tactic(auto, using(market_data::proofs::Data::datum_read))]
+fn quantity_of<N: Exact>(block: &Block) -> N
+    requires { pos 0 ≤ℤ block.now.quantity }
+    ensures { N.value result ≡ whole block.now.quantity }
+{
+    datum(block.quantity)
+}
+
+/// What a MW of a block makes: the price at its bus where it is sold, the opposite where it is bought.
+fn weight<N: Exact>(block: &Block, price: N) -> N
+    ensures { N.value result ≡ signed block.now.side (N.value price) }
+{
+    match block.side {
+        Side::Sell => price,
+        Side::Buy => price.neg(),
+    }
+}
+
+/// A sum with what a quantity makes, where a MW of it makes so much; nothing where that is not above 0.
+fn with_most<N: Exact>(sum: N, weight: N, quantity: N) -> Result<N, Passed<N>>
+    ensures sum { IfOk result (λ more. N.value more ≡ N.value sum +ℚ part_above (N.value weight) *ℚ N.value quantity) }
+    ensures cause { IfErr result (λ passed. IsShareRefusal (N.value sum) (part_above (N.value weight)) (N.value quantity) N.bound (passed_at N.value passed)) }
 {
     match weight.sign() {
         Sign::Below | Sign::Zero => Ok(sum),
         Sign::Above => {
-            let share = weight.times(datum(quantity))?;
+            let share = weight.times(quantity)?;
             sum.plus(share)
         }
-    }
-}
-
-/// What a MW of a block makes: the price at its bus where it is sold, the opposite where it is bought.
-fn weight<N: Exact>(side: Side, price: N) -> N
-    ensures { N.value result ≡ signed side (N.value price) }
-{
-    match side {
-        Side::Sell => price,
-        Side::Buy => price.neg(),
     }
 }
 
@@ -129,9 +136,20 @@ fn with_blocks<N: Exact>(
     for (at, block) in market.blocks().slice().iter().enumerate() {
         let bus = market.units().at(block.unit).bus;
         let price = bus_price(market, energy, named, bus)?;
-        sum = with_block(sum, weight(block.side, price), block.quantity)?;
+        sum = with_most(sum, weight(block, price), quantity_of(block))?;
     }
     Ok(sum)
+}
+
+/// Nothing accepted of so many blocks.
+fn nothing<N: Exact>(alloc: Global, blocks: usize) -> Result<List<N>, Memory>
+    ensures { IfOk result (λ mws. map N.value mws ≡ replicate blocks zero) }
+{
+    let mut mws = List::new(alloc);
+    for block in 0..blocks {
+        mws.push(datum(0))?;
+    }
+    Ok(mws)
 }
 
 /// The bound of a price of energy and of named rows with their prices, in 10^-15: what these make where nothing is accepted, and the
@@ -147,12 +165,8 @@ pub fn farkas_bound<N: Exact>(
     ensures bound { (d : Duals Fraction) → N.value energy ≡ d.energy → AreNamed N.value market.now d named.now → IfOk result (λ bound. N.value bound ≡ farkas_bound market.now d) }
     ensures cause { (d : Duals Fraction) → N.value energy ≡ d.energy → AreNamed N.value market.now d named.now → IfErr result (IsStopped N.value (IsFarkasPair market.now d N.bound)) }
 {
-    let none: N = datum(0);
-    let nothing = match vec![in alloc; none; market.blocks().len()] {
-        Ok(nothing) => nothing,
-        Err(_) => return Err(VerifyStop::Memory),
-    };
-    let by_bus = injections(alloc, market, &nothing)?;
+    let nothing = nothing(alloc, market.blocks().len())?;
+    let by_bus = injections(alloc, market, nothing.slice())?;
     let by_line = line_flows(alloc, market, &by_bus)?;
     let all = balance(market, &by_bus)?;
     let of_energy = energy.times(all)?;

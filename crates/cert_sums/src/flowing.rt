@@ -1,7 +1,7 @@
 //! What flows on lines, and the flows of limit rows.
 
 ghost use Rattle.std.specs.Prelude.{◌≡◌, ◌<◌, length, map, vec_len, IfOk, IfErr, IfSome};
-ghost use Rattle.market_model.specs.Dispatch.{Dispatch};
+ghost use Rattle.market_model.specs.Dispatch.{Dispatch, injection, places};
 ghost use Rattle.market_model.specs.LimitRows.{flow, line_flow, line_offset, line_terms};
 ghost use Rattle.market_model.specs.NamedSums.{IsRefusedIn};
 ghost use Rattle.market_model.specs.Valued.{passed_at};
@@ -39,6 +39,20 @@ fn line_flow<N: Exact>(market: &Market, line: usize, injections: &[N]) -> Result
     Ok(flow)
 }
 
+/// Puts in the flow of each line.
+fn put_lines<N: Exact>(market: &Market, injections: &[N], out: &mut [N]) -> Result<(), Passed<N>>
+    requires injections { length injections.now ≡ length market.now.buses }
+    requires out { length out.old ≡ length market.now.lines }
+    ensures count { length out.new ≡ length out.old }
+    ensures lines { IfOk result (λ _. map N.value out.new ≡ map (line_flow market.now (put_in (map N.value injections.now))) (places (length market.now.lines))) }
+    ensures cause { IfErr result (λ passed. IsLineRefusal market.now (put_in (map N.value injections.now)) N.bound (passed_at N.value passed)) }
+{
+    for (line, mw) in out.iter_mut().enumerate() {
+        *mw = line_flow(market, line, injections)?;
+    }
+    Ok(())
+}
+
 /// The flow of each line at a dispatch, of what each bus puts in, in 10^-9 MW.
 pub fn line_flows<N: Exact>(
     alloc: Global,
@@ -48,16 +62,14 @@ pub fn line_flows<N: Exact>(
     requires { length injections.now ≡ length market.now.buses }
     ensures count { IfOk result (λ flows. vec_len flows ≡ length market.now.lines) }
     ensures flows { (x : Dispatch) → AreInjections market.now x (map N.value injections.now) → IfOk result (λ flows. AreFlows market.now x (map N.value flows.items)) }
-    ensures cause { (x : Dispatch) → AreInjections market.now x (map N.value injections.now) → IfErr result (IsStopped N.value (IsLineRefusal market.now x N.bound)) }
+    ensures cause { (x : Dispatch) → AreInjections market.now x (map N.value injections.now) → IfErr result (IsStopped N.value (IsLineRefusal market.now (injection market.now x) N.bound)) }
 {
     let none: N = datum(0);
     let mut flows = match vec![in alloc; none; market.lines().len()] {
         Ok(flows) => flows,
         Err(_) => return Err(VerifyStop::Memory),
     };
-    for (line, mw) in flows.iter_mut().enumerate() {
-        *mw = line_flow(market, line, injections)?;
-    }
+    put_lines(market, injections, &mut flows)?;
     Ok(flows)
 }
 

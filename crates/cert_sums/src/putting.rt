@@ -102,6 +102,20 @@ fn injection<N: Exact>(market: &Market, bus: usize, dispatch: &[N]) -> Result<N,
     less_demand(raised, &market.buses().slice()[bus])
 }
 
+/// Puts in what each bus puts into the network.
+fn put_injections<N: Exact>(market: &Market, dispatch: &[N], out: &mut [N]) -> Result<(), Passed<N>>
+    requires dispatch { length dispatch.now ≡ length market.now.blocks }
+    requires out { length out.old ≡ length market.now.buses }
+    ensures count { length out.new ≡ length out.old }
+    ensures injections { IfOk result (λ _. AreInjections market.now (dispatch_of N.value dispatch.now) (map N.value out.new)) }
+    ensures cause { IfErr result (λ passed. IsInjectionRefusal market.now (dispatch_of N.value dispatch.now) N.bound (passed_at N.value passed)) }
+{
+    for (bus, mw) in out.iter_mut().enumerate() {
+        *mw = injection(market, bus, dispatch)?;
+    }
+    Ok(())
+}
+
 /// What each bus puts into the network at a dispatch, in 10^-9 MW.
 pub fn injections<N: Exact>(
     alloc: Global,
@@ -118,9 +132,7 @@ pub fn injections<N: Exact>(
         Ok(mws) => mws,
         Err(_) => return Err(VerifyStop::Memory),
     };
-    for (bus, mw) in mws.iter_mut().enumerate() {
-        *mw = injection(market, bus, dispatch)?;
-    }
+    put_injections(market, dispatch, &mut mws)?;
     Ok(mws)
 }
 

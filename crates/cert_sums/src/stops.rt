@@ -4,6 +4,7 @@ ghost use Rattle.std.specs.Prelude.{◌≡◌};
 ghost use Rattle.cert_sums.specs.declared.stops.VerifyStop.TheVariants as why;
 
 use exact_fraction::Passed;
+use market_model::Memory;
 
 /// Why a certificate could not be verified.
 #[derive(Drop, Debug)]
@@ -18,5 +19,13 @@ impl<N> From<Passed<N>> for VerifyStop<N> {
 
     fn from(passed: Passed<N>) -> VerifyStop<N> {
         VerifyStop::Range(passed)
+    }
+}
+
+impl<N> From<Memory> for VerifyStop<N> {
+    ghost from_gives = { λ _ stop. stop ≡ why.Memory };
+
+    fn from(_refused: Memory) -> VerifyStop<N> {
+        VerifyStop::Memory
     }
 }

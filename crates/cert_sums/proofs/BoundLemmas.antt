@@ -1,0 +1,264 @@
+-- Steps of the Farkas bound: row by row, and block by block.
+use Rattle.std.specs.Prelude.{◌≡◌, ◌⊎◌, ℕ, ◌+◌, ◌<◌, ◌≤◌, pos, Bool, true, false, cond, List, [], ◌∷◌, ◌++◌, map, filter, length, take, replicate, Contains, refl}
+use Rattle.std.specs.List.{flat_map, slice_get}
+use Rattle.std.proofs.Common.{zero, suc, arith, inl, inr, ap, ap₂, sym, subst, ◌∙◌, get_or, append_assoc}
+use Rattle.std.proofs.lemmas.List.{take_all}
+use Rattle.std.proofs.lemmas.Grind.{flat_map-append}
+use Rattle.fraction_theory.specs.Fraction.{Fraction, whole, neg_ℚ, ◌+ℚ◌, ◌-ℚ◌, ◌*ℚ◌}
+use Rattle.fraction_theory.specs.Signs.{sign_of}
+use Rattle.fraction_theory.specs.declared.Sign.{Sign}
+use Rattle.fraction_theory.specs.declared.Sign.TheVariants.{Below, Zero, Above}
+use Rattle.fraction_theory.specs.Sums.{sum_by, Term, Product, term_value, total}
+use Rattle.fraction_theory.proofs.FieldLaws.{ring_ℚ, +ℚ_nil, +ℚ_assoc}
+use Rattle.fraction_theory.proofs.Ring.{by_ring, at, padd, pmul, pneg, pnil}
+use Rattle.fraction_theory.proofs.SumLaws.{total-append}
+use Rattle.exact_fraction.specs.declared.Op.TheVariants.{Plus, Minus, Times}
+use Rattle.exact_fraction.specs.declared.Passed.{Passed}
+use Rattle.market_model.specs.declared.answered.Duals.{Duals}
+use Rattle.market_model.specs.declared.participants.Parts.{Parts}
+use Rattle.market_model.specs.Dispatch.{Dispatch, places, injection, injection_terms, balance, balance_terms, empty, quantity}
+use Rattle.market_model.specs.Infeasibility.{where_above, part_above, block_weight, limit_terms, farkas_terms, farkas_bound}
+use Rattle.market_model.specs.LimitRows.{Row, rows, row_id, limit, flow}
+use Rattle.market_model.specs.NamedSums.{IsRefusal, IsRefusedIn}
+use Rattle.market_model.specs.Valued.{passed_at}
+use Rattle.market_model.specs.Optimality.{up_of, down_of, is_named, named_rows}
+use Rattle.market_model.proofs.MorePlaces.{sum_by_more, total-places_more}
+use Rattle.market_model.proofs.SumSteps.{plus_at, multiplied_at, refused_by_added, refusal_same, terms_at, behind}
+use Rattle.limit_rows.proofs.DualLemmas.{up_unnamed, down_unnamed, sum_named}
+use Rattle.cert_sums.specs.Bounds.{left_at, limits_terms}
+use Rattle.cert_sums.specs.Named.{PricedRow}
+use Rattle.cert_sums.specs.Pairs.{IsFarkasPair, of_farkas_sum, of_farkas_prices, of_limit_less, of_limit_more, verified, bound_of_all, injection_at, balance_of_all, flow_of_line, flow_of_row, congestion_at, price_at}
+use Rattle.cert_sums.specs.declared.stops.VerifyStop.{VerifyStop}
+use Rattle.cert_sums.specs.declared.stops.VerifyStop.TheVariants as why
+use Rattle.cert_sums.specs.Results.{dispatch_of}
+use Rattle.cert_sums.specs.Refusals.{IsStopped, IsInjectionRefusal, IsLineRefusal, IsShareRefusal, IsAboveRefusal, IsBelowRefusal, IsLimitRefusal, in_flow, in_above, in_below, IsPriceRefusal}
+use Rattle.cert_sums.proofs.NamedLemmas.{IsNamedAt, is_named_row, is_row}
+
+-- ---- prices of 0 make nothing
+pub nothing_made : (s price room : Fraction) → price ≡ whole (pos 0) → s ≡ s +ℚ price *ℚ room
+nothing_made s price room e =
+    by_ring ring_ℚ (s ∷ room ∷ []) (at 0) (padd (at 0) (pmul pnil (at 1))) refl ∙ ap (λ t. s +ℚ t *ℚ room) (sym e)
+
+-- nor does a number that is not above 0, by its part above 0
+pub none_above : (s w room : Fraction) (t : Sign) → t ≡ sign_of w → (t ≡ Below) ⊎ (t ≡ Zero) → s ≡ s +ℚ part_above w *ℚ room
+none_above s w room t is some = nothing_made s (part_above w) room (sym (ap (λ (u : Sign). where_above u w) is) ∙ by some)
+  where
+    by : (t ≡ Below) ⊎ (t ≡ Zero) → where_above t w ≡ whole (pos 0)
+    by (inl e) = ap (λ (u : Sign). where_above u w) e
+    by (inr e) = ap (λ (u : Sign). where_above u w) e
+
+-- what the two prices of a row make, one added behind the other
+pub left_sum : (m : Parts) (x : Dispatch) (e : PricedRow) (sum above more l f : Fraction) → l ≡ limit m e.row → f ≡ flow m x e.row → above ≡ sum +ℚ e.up *ℚ (l -ℚ f) → more ≡ above +ℚ e.down *ℚ (l +ℚ f)
+    → more ≡ sum +ℚ left_at m x e
+left_sum m x e sum above more l f is flows first second =
+    second ∙ ap (λ t. t +ℚ e.down *ℚ (l +ℚ f)) first ∙ +ℚ_assoc sum (e.up *ℚ (l -ℚ f)) (e.down *ℚ (l +ℚ f))
+    ∙ ap₂ (λ a b. sum +ℚ (e.up *ℚ (a -ℚ b) +ℚ e.down *ℚ (a +ℚ b))) is flows
+
+-- ---- a list round one of those that pass a test
+filter_at : {X : Type 0} (p : X → Bool) (xs : List X) (k : ℕ) (e : X) → k < length (filter p xs)
+    → (front : List X) × (rest : List X) × (xs ≡ front ++ get_or (filter p xs) k e ∷ rest) × (filter p front ≡ take k (filter p xs))
+filter_at p [] k e h = absurd (Prim.omega (arith, h))
+filter_at {X} p (x ∷ xs) k e h = by (p x) refl k (λ j lt. filter_at p xs j e lt) h
+  where
+    by : (b : Bool) → p x ≡ b → (j : ℕ)
+        → ((i : ℕ) → i < length (filter p xs) → (front : List X) × (rest : List X) × (xs ≡ front ++ get_or (filter p xs) i e ∷ rest) × (filter p front ≡ take i (filter p xs)))
+        → j < length (cond b (x ∷ filter p xs) (filter p xs))
+        → (front : List X) × (rest : List X) × (x ∷ xs ≡ front ++ get_or (cond b (x ∷ filter p xs) (filter p xs)) j e ∷ rest) × (filter p front ≡ take j (cond b (x ∷ filter p xs) (filter p xs)))
+    by true t zero more lt = ([], xs, refl, refl)
+    by true t (suc j) more lt =
+        let r = more j (Prim.omega (arith, lt)) in
+        (x ∷ r.0, r.1, ap (λ ys. x ∷ ys) r.2, ap (λ (b : Bool). cond b (x ∷ filter p r.0) (filter p r.0)) t ∙ ap (λ ys. x ∷ ys) r.3)
+    by false t j more lt =
+        let r = more j lt in
+        (x ∷ r.0, r.1, ap (λ ys. x ∷ ys) r.2, ap (λ (b : Bool). cond b (x ∷ filter p r.0) (filter p r.0)) t ∙ r.3)
+
+total-flat_map : {T : Type 0} (f : T → List Term) (xs : List T) → total (flat_map f xs) ≡ sum_by (λ x. total (f x)) xs
+total-flat_map f [] = refl
+total-flat_map f (x ∷ xs) = total-append (f x) (flat_map f xs) ∙ ap (λ t. total (f x) +ℚ t) (total-flat_map f xs)
+
+-- ---- the rows of the bound
+module _ (m : Parts) (d : Duals Fraction) where
+  abbrev energy_term : Term
+  energy_term = Product d.energy (balance m (empty m))
+
+  abbrev left : Row → Fraction
+  left r = total (limit_terms m d r)
+
+  abbrev block_term : ℕ → Term
+  block_term j = Product (part_above (block_weight m d j)) (quantity m j)
+
+  abbrev block_terms : List Term
+  block_terms = map block_term (places (length m.blocks))
+
+  -- a row without prices makes nothing
+  unnamed : (r : Row) → is_named d.limits (row_id m r) ≡ false → left r ≡ whole (pos 0)
+  unnamed r h =
+      ap₂ (λ u v. u *ℚ (limit m r -ℚ flow m (empty m) r) +ℚ (v *ℚ (limit m r +ℚ flow m (empty m) r) +ℚ whole (pos 0))) (up_unnamed d.limits (row_id m r) h) (down_unnamed d.limits (row_id m r) h)
+      ∙ by_ring ring_ℚ (limit m r ∷ flow m (empty m) r ∷ []) (padd (pmul pnil (padd (at 0) (pneg (at 1)))) (padd (pmul pnil (padd (at 0) (at 1))) pnil)) pnil refl
+
+  -- what the price of energy makes, with the first rows that duals name
+  abbrev pub limits_to : ℕ → Fraction
+  limits_to k = d.energy *ℚ balance m (empty m) +ℚ sum_by left (take k (named_rows m d))
+
+  pub limits_none : (s : Fraction) → s ≡ d.energy *ℚ balance m (empty m) → s ≡ limits_to 0
+  limits_none s e = e ∙ sym (+ℚ_nil (d.energy *ℚ balance m (empty m)))
+
+  pub limits_all : (k : ℕ) → length (named_rows m d) ≤ k → limits_to k ≡ total (limits_terms m d)
+  limits_all k h =
+      ap (λ t. d.energy *ℚ balance m (empty m) +ℚ t)
+      (ap (sum_by left) (take_all k (named_rows m d) h) ∙ sym (sum_named m d left (rows m) unnamed) ∙ sym (total-flat_map (limit_terms m d) (rows m)))
+
+  -- the terms of the bound round those of a named row
+  record IsSplit (k : ℕ) (r : Row) : Type 0 where
+    front : List Term
+    rest : List Term
+    split : farkas_terms m d ≡ front ++ (limit_terms m d r ++ rest)
+    sum : total front ≡ limits_to k
+
+  split_at : (k : ℕ) (e : PricedRow) → IsNamedAt m d k e → IsSplit k e.row
+  split_at k e h =
+      let r : Row = e.row in
+      let s = filter_at (λ t. is_named d.limits (row_id m t)) (rows m) k e.row h.inside in
+      let f : Row → List Term = limit_terms m d in
+      let rows_are : rows m ≡ s.0 ++ e.row ∷ s.1 = s.2 ∙ ap (λ (t : Row). s.0 ++ t ∷ s.1) (sym h.at) in
+      record {
+        front = energy_term ∷ flat_map (limit_terms m d) s.0;
+        rest = flat_map (limit_terms m d) s.1 ++ block_terms;
+        split =
+            ap (λ (rs : List Row). energy_term ∷ (flat_map (limit_terms m d) rs ++ block_terms)) rows_are
+            ∙ ap (λ ts. energy_term ∷ (ts ++ block_terms)) (flat_map-append (limit_terms m d) s.0 (e.row ∷ s.1))
+            ∙ ap (λ ts. energy_term ∷ ts) (append_assoc (flat_map (limit_terms m d) s.0) (limit_terms m d e.row ++ flat_map (limit_terms m d) s.1) block_terms);
+        sum =
+            ap (λ t. d.energy *ℚ balance m (empty m) +ℚ t)
+            (total-flat_map (limit_terms m d) s.0 ∙ sum_named m d left s.0 unnamed ∙ ap (sum_by left) s.3);
+      }
+
+  module _ (k : ℕ) (e : PricedRow) (h : IsNamedAt m d k e) where
+    left_is : left_at m (empty m) e ≡ left e.row
+    left_is =
+        ap₂ (λ u v. u *ℚ (limit m e.row -ℚ flow m (empty m) e.row) +ℚ v *ℚ (limit m e.row +ℚ flow m (empty m) e.row)) h.up h.down
+        ∙ ap (λ t. up_of m d e.row *ℚ (limit m e.row -ℚ flow m (empty m) e.row) +ℚ t) (sym (+ℚ_nil (down_of m d e.row *ℚ (limit m e.row +ℚ flow m (empty m) e.row))))
+
+    pub limits_step : (old new : Fraction) → old ≡ limits_to k → new ≡ old +ℚ left_at m (empty m) e → new ≡ limits_to (k + 1)
+    limits_step old new before eq =
+        eq ∙ ap₂ ◌+ℚ◌ before left_is
+        ∙ +ℚ_assoc (d.energy *ℚ balance m (empty m)) (sum_by left (take k (named_rows m d))) (left e.row)
+        ∙ ap (λ t. d.energy *ℚ balance m (empty m) +ℚ t)
+        (ap (λ (r : Row). sum_by left (take k (named_rows m d)) +ℚ left r) h.at ∙ sym (sum_by_more left (named_rows m d) k e.row h.inside))
+
+    module _ (sum : Fraction) (bound : ℕ) (p : Passed Fraction) (before : sum ≡ limits_to k) where
+      abbrev room_above : Fraction
+      room_above = limit m e.row -ℚ flow m (empty m) e.row
+
+      abbrev room_below : Fraction
+      room_below = limit m e.row +ℚ flow m (empty m) e.row
+
+      abbrev above : Term
+      above = Product (up_of m d e.row) room_above
+
+      abbrev below : Term
+      below = Product (down_of m d e.row) room_below
+
+      s : IsSplit k e.row
+      s = split_at k e h
+
+      in_bound : IsRefusedIn (farkas_terms m d) bound p → IsFarkasPair m d bound p
+      in_bound why = of_farkas_sum (farkas_terms m d) bound_of_all why
+
+      above_refused : IsAboveRefusal sum e.up (limit m e.row) (flow m (empty m) e.row) bound p → IsFarkasPair m d bound p
+      above_refused (inl c) = of_limit_less e.row (is_named_row m d k e h) c
+      above_refused (inr (inl c)) = in_bound
+          (multiplied_at (farkas_terms m d) s.front (below ∷ s.rest) above s.split bound p e.up room_above (up_of m d e.row) room_above refl (inl h.up) (inl refl) c)
+      above_refused (inr (inr c)) = in_bound
+          (refused_by_added (farkas_terms m d) bound p
+          (plus_at (farkas_terms m d) s.front (below ∷ s.rest) above s.split bound p sum (e.up *ℚ room_above) (before ∙ sym s.sum) (ap (λ u. u *ℚ room_above) h.up) c))
+
+      second : farkas_terms m d ≡ (s.front ++ above ∷ []) ++ below ∷ s.rest
+      second = s.split ∙ sym (append_assoc s.front (above ∷ []) (below ∷ s.rest))
+
+      with_above : sum +ℚ e.up *ℚ room_above ≡ total (s.front ++ above ∷ [])
+      with_above =
+          ap₂ ◌+ℚ◌ (before ∙ sym s.sum) (ap (λ u. u *ℚ room_above) h.up ∙ sym (+ℚ_nil (up_of m d e.row *ℚ room_above)))
+          ∙ sym (total-append s.front (above ∷ []))
+
+      below_refused : IsBelowRefusal (sum +ℚ e.up *ℚ room_above) e.down (limit m e.row) (flow m (empty m) e.row) bound p → IsFarkasPair m d bound p
+      below_refused (inl c) = of_limit_more e.row (is_named_row m d k e h) c
+      below_refused (inr (inl c)) = in_bound
+          (multiplied_at (farkas_terms m d) (s.front ++ above ∷ []) s.rest below second bound p e.down room_below (down_of m d e.row) room_below refl (inl h.down) (inl refl) c)
+      below_refused (inr (inr c)) = in_bound
+          (refused_by_added (farkas_terms m d) bound p
+          (plus_at (farkas_terms m d) (s.front ++ above ∷ []) s.rest below second bound p (sum +ℚ e.up *ℚ room_above) (e.down *ℚ room_below) with_above (ap (λ u. u *ℚ room_below) h.down) c))
+
+      pub limit_refused : IsLimitRefusal m (empty m) e sum bound p → IsFarkasPair m d bound p
+      limit_refused (in_flow c) = of_farkas_sum _ (verified _ (flow_of_row e.row (is_row m d k e h))) c
+      limit_refused (in_above c) = above_refused c
+      limit_refused (in_below c) = below_refused c
+
+  -- ---- the blocks of the bound
+  abbrev pub blocks_to : ℕ → Fraction
+  blocks_to k = total (limits_terms m d) +ℚ total (map block_term (places k))
+
+  pub blocks_none : (s : Fraction) → s ≡ total (limits_terms m d) → s ≡ blocks_to 0
+  blocks_none s e = e ∙ sym (+ℚ_nil (total (limits_terms m d)))
+
+  pub blocks_all : blocks_to (length m.blocks) ≡ farkas_bound m d
+  unfolding farkas_bound
+  blocks_all = sym (total-append (limits_terms m d) block_terms)
+
+  pub block_step : (k : ℕ) (weight mw old new : Fraction) → weight ≡ block_weight m d k → mw ≡ quantity m k → old ≡ blocks_to k → new ≡ old +ℚ part_above weight *ℚ mw → new ≡ blocks_to (k + 1)
+  block_step k weight mw old new weighs is before eq =
+      eq ∙ ap₂ (λ w q. old +ℚ part_above w *ℚ q) weighs is
+      ∙ ap (λ t. t +ℚ part_above (block_weight m d k) *ℚ quantity m k) before
+      ∙ +ℚ_assoc (total (limits_terms m d)) (total (map block_term (places k))) (part_above (block_weight m d k) *ℚ quantity m k)
+      ∙ ap (λ t. total (limits_terms m d) +ℚ t) (sym (total-places_more block_term k))
+
+  pub block_refused : (k : ℕ) (weight mw sum : Fraction) (bound : ℕ) (p : Passed Fraction) → k < length m.blocks → weight ≡ block_weight m d k → mw ≡ quantity m k → sum ≡ blocks_to k
+      → IsShareRefusal sum (part_above weight) mw bound p → IsFarkasPair m d bound p
+  block_refused k weight mw sum bound p inside weighs is before why = of_farkas_sum (farkas_terms m d) bound_of_all (by why)
+    where
+      r : (rest : List Term) × (map block_term (places (length m.blocks)) ≡ map block_term (places k) ++ block_term k ∷ rest)
+      r = terms_at block_term (length m.blocks) k inside
+
+      front : List Term
+      front = limits_terms m d ++ map block_term (places k)
+
+      split : farkas_terms m d ≡ (limits_terms m d ++ map block_term (places k)) ++ block_term k ∷ r.0
+      split = behind (limits_terms m d) block_terms (map block_term (places k)) r.0 (block_term k) r.1
+
+      by : IsRefusal Times (part_above weight) mw bound p ⊎ IsRefusal Plus sum (part_above weight *ℚ mw) bound p → IsRefusedIn (farkas_terms m d) bound p
+      by (inl c) = multiplied_at (farkas_terms m d) (limits_terms m d ++ map block_term (places k)) r.0 (block_term k) split bound p (part_above weight) mw (part_above (block_weight m d k)) (quantity m k) refl
+          (inl (ap part_above weighs)) (inl is) c
+      by (inr c) = refused_by_added (farkas_terms m d) bound p
+          (plus_at (farkas_terms m d) (limits_terms m d ++ map block_term (places k)) r.0 (block_term k) split bound p sum (part_above weight *ℚ mw)
+          (before ∙ sym (total-append (limits_terms m d) (map block_term (places k)))) (ap₂ (λ w q. part_above w *ℚ q) weighs is) c)
+
+  -- the price of energy by the balance
+  pub energy_refused : (b : Fraction) (bound : ℕ) (p : Passed Fraction) → b ≡ balance m (empty m) → IsRefusal Times d.energy b bound p → IsFarkasPair m d bound p
+  energy_refused b bound p is h =
+      of_farkas_sum (farkas_terms m d) bound_of_all
+      (multiplied_at (farkas_terms m d) [] (flat_map (limit_terms m d) (rows m) ++ block_terms) energy_term refl bound p d.energy b d.energy (balance m (empty m)) refl (inl refl) (inl is) h)
+
+  -- what is refused in a price of a bus
+  pub price_pair : (i : ℕ) (bound : ℕ) (p : Passed Fraction) → i < length m.buses → IsPriceRefusal m d i bound p → IsFarkasPair m d bound p
+  price_pair i bound p lt (inl (inl c)) = of_farkas_sum _ (verified _ (congestion_at i lt)) c
+  price_pair i bound p lt (inl (inr c)) = of_farkas_prices c.0 c.1 c.2
+  price_pair i bound p lt (inr c) = of_farkas_sum _ (verified _ (price_at i lt)) c
+
+-- ---- where nothing is accepted
+pub nothing_is : {N : Type 0} (value : N → Fraction) (m : Parts) (xs ys : List N) (n : ℕ) → xs ≡ ys → map value ys ≡ replicate n (whole (pos 0)) → n ≡ length m.blocks → dispatch_of value xs ≡ empty m
+nothing_is value m xs ys n same zeros count = ap (λ (zs : List Fraction). record { blocks = zs }) (ap (map value) same ∙ zeros ∙ ap (λ (k : ℕ). replicate k (whole (pos 0))) count)
+
+-- why a sum stops, where each of its refusals is another's
+pub stopped_weaker : {N : Type 0} (value : N → Fraction) (p q : Passed Fraction → Type 0) (s : VerifyStop N) → ((e : Passed Fraction) → p e → q e) → IsStopped value p s → IsStopped value q s
+stopped_weaker value p q (why.Range e) to h = to (passed_at value e) h
+stopped_weaker value p q why.Memory to h = tt
+
+module _ (m : Parts) (d : Duals Fraction) (bound : ℕ) (p : Passed Fraction) where
+  pub injection_pair : (x : Dispatch) → x ≡ empty m → IsInjectionRefusal m x bound p → IsFarkasPair m d bound p
+  injection_pair x is (i, lt, h) = of_farkas_sum (injection_terms m (empty m) i) (verified _ (injection_at i lt)) (subst (λ (y : Dispatch). IsRefusedIn (injection_terms m y i) bound p) is h)
+
+  pub line_pair : IsLineRefusal m (injection m (empty m)) bound p → IsFarkasPair m d bound p
+  line_pair (l, lt, h) = of_farkas_sum _ (verified _ (flow_of_line l lt)) h
+
+  pub balance_pair : IsRefusedIn (balance_terms m (empty m)) bound p → IsFarkasPair m d bound p
+  balance_pair h = of_farkas_sum _ (verified _ balance_of_all) h

@@ -1,0 +1,114 @@
+-- The named rows of duals, and the congestion at a bus row by row.
+use Rattle.std.specs.Prelude.{◌≡◌, ◌⊎◌, ℕ, ◌+◌, ◌<◌, ◌≤◌, ◌^◌, ℤ, pos, false, List, [], ◌∷◌, ◌++◌, map, length, take, Contains, refl}
+use Rattle.std.proofs.Common.{inl, inr, arith, ap, ap₂, sym, subst, ◌∙◌, get_or}
+use Rattle.std.proofs.lemmas.List.{get_or-map, length-map, take_all}
+use Rattle.fraction_theory.specs.Fraction.{Fraction, whole, over, neg_ℚ, ◌+ℚ◌, ◌-ℚ◌, ◌*ℚ◌}
+use Rattle.fraction_theory.specs.Sums.{sum_by, Term, Plain, Product, term_value, total}
+use Rattle.fraction_theory.proofs.FieldLaws.{ring_ℚ, over-same, over-one, +ℚ_nil}
+use Rattle.fraction_theory.proofs.ListSums.{Contains-from_filter}
+use Rattle.fraction_theory.proofs.Ring.{by_ring, at, padd, pmul, pneg, pnil, times_nil}
+use Rattle.fraction_theory.proofs.SumLaws.{total-map}
+use Rattle.exact_fraction.specs.declared.Op.TheVariants.{Plus, Minus, Times}
+use Rattle.exact_fraction.specs.declared.Passed.{Passed}
+use Rattle.market_model.specs.declared.answered.Duals.{Duals}
+use Rattle.market_model.specs.declared.participants.Parts.{Parts}
+use Rattle.market_model.specs.LimitRows.{Row, rows, row_id, row_factor}
+use Rattle.market_model.specs.NamedSums.{IsRefusal, IsRefusedIn}
+use Rattle.market_model.specs.Optimality.{up_of, down_of, pull, is_named, named_rows, congestion, congestion_terms}
+use Rattle.market_model.proofs.MorePlaces.{sum_by_more}
+use Rattle.market_model.proofs.SumSteps.{plus_at, multiplied_at, refused_by_added, refusal_same}
+use Rattle.limit_rows.specs.Places.{row_of}
+use Rattle.limit_rows.proofs.DualLemmas.{up_unnamed, down_unnamed, sum_named, terms_named}
+use Rattle.cert_sums.specs.declared.pricing.NamedRow.{NamedRow}
+use Rattle.cert_sums.specs.Named.{PricedRow, priced_at, priced_by, AreNamed}
+use Rattle.cert_sums.specs.Pairs.{price_terms}
+use Rattle.cert_sums.specs.Refusals.{IsShareRefusal, IsPullRefusal, IsCongestionRefusal, IsPricesRefusal}
+
+-- the row that duals name at a place, with its prices
+pub record IsNamedAt (m : Parts) (d : Duals Fraction) (k : ℕ) (e : PricedRow) : Type 0 where
+  pub inside : k < length (named_rows m d)
+  pub at : e.row ≡ get_or (named_rows m d) k e.row
+  pub up : e.up ≡ up_of m d e.row
+  pub down : e.down ≡ down_of m d e.row
+
+module _ {N : Type 0} (value : N → Fraction) (m : Parts) (d : Duals Fraction) (named : List (NamedRow N)) (are : AreNamed value m d named) where
+  pub named_count : length named ≡ length (named_rows m d)
+  named_count = sym (length-map named (priced_at value)) ∙ ap length are ∙ length-map (named_rows m d) (priced_by m d)
+
+  pub named_at : (k : ℕ) (e : NamedRow N) → k < length named → e ≡ get_or named k e → IsNamedAt m d k (priced_at value e)
+  named_at k e below is =
+      let inside : k < length (named_rows m d) = Prim.omega (arith, below, named_count) in
+      let same : priced_at value e ≡ priced_by m d (get_or (named_rows m d) k (row_of e.row)) =
+      ap (priced_at value) is ∙ sym (get_or-map (priced_at value) named k e (priced_at value e) below) ∙ ap (λ (es : List PricedRow). get_or es k (priced_at value e)) are
+      ∙ get_or-map (priced_by m d) (named_rows m d) k (row_of e.row) (priced_at value e) inside in
+      let at : row_of e.row ≡ get_or (named_rows m d) k (row_of e.row) = ap (λ (t : PricedRow). t.row) same in
+      record {
+        inside = inside;
+        at = at;
+        up = ap (λ (t : PricedRow). t.up) same ∙ ap (up_of m d) (sym at);
+        down = ap (λ (t : PricedRow). t.down) same ∙ ap (down_of m d) (sym at);
+      }
+
+pub is_named_row : (m : Parts) (d : Duals Fraction) (k : ℕ) (e : PricedRow) → IsNamedAt m d k e → Contains (named_rows m d) e.row
+is_named_row m d k e h = (k, h.inside, sym h.at)
+
+pub is_row : (m : Parts) (d : Duals Fraction) (k : ℕ) (e : PricedRow) → IsNamedAt m d k e → Contains (rows m) e.row
+is_row m d k e h = (Contains-from_filter (λ s. is_named d.limits (row_id m s)) (rows m) e.row (is_named_row m d k e h)).0
+
+-- ---- the congestion at a bus
+-- a factor of 0 takes nothing
+pub no_pull : (s u v : Fraction) (k : ℤ) → k ≡ pos 0 → s ≡ s +ℚ neg_ℚ (u -ℚ v) *ℚ over k (10 ^ 12)
+no_pull s u v k e =
+    let nil : over k (10 ^ 12) ≡ whole (pos 0) = ap (λ (n : ℤ). over n (10 ^ 12)) e ∙ over-same (pos 0) (pos 0) (10 ^ 12) 1 (Prim.omega arith) (Prim.omega arith) refl ∙ over-one (pos 0) in
+    sym (ap (λ t. s +ℚ neg_ℚ (u -ℚ v) *ℚ t) nil ∙ ap (λ t. s +ℚ t) (times_nil ring_ℚ (neg_ℚ (u -ℚ v))) ∙ +ℚ_nil s)
+
+module _ (m : Parts) (d : Duals Fraction) (i : ℕ) where
+  abbrev term : Row → Term
+  term r = Product (neg_ℚ (pull m d r)) (row_factor m r i)
+
+  unnamed : (r : Row) → is_named d.limits (row_id m r) ≡ false → term_value (term r) ≡ whole (pos 0)
+  unnamed r h =
+      ap₂ (λ u v. neg_ℚ (u -ℚ v) *ℚ row_factor m r i) (up_unnamed d.limits (row_id m r) h) (down_unnamed d.limits (row_id m r) h)
+      ∙ by_ring ring_ℚ (row_factor m r i ∷ []) (pmul (pneg (padd pnil (pneg pnil))) (at 0)) pnil refl
+
+  -- the sum over the first rows that duals name
+  abbrev pub congestion_to : ℕ → Fraction
+  congestion_to k = sum_by (λ r. term_value (term r)) (take k (named_rows m d))
+
+  pub congestion_all : (k : ℕ) → length (named_rows m d) ≤ k → congestion_to k ≡ congestion m d i
+  unfolding congestion
+  congestion_all k h =
+      ap (sum_by (λ r. term_value (term r))) (take_all k (named_rows m d) h)
+      ∙ sym (sum_named m d (λ r. term_value (term r)) (rows m) unnamed) ∙ sym (total-map term (rows m))
+
+  module _ (k : ℕ) (e : PricedRow) (h : IsNamedAt m d k e) where
+    pull_is : neg_ℚ (e.up -ℚ e.down) ≡ neg_ℚ (pull m d e.row)
+    pull_is = ap₂ (λ u v. neg_ℚ (u -ℚ v)) h.up h.down
+
+    pub congestion_step : (factor old new : Fraction) → factor ≡ row_factor m e.row i → old ≡ congestion_to k → new ≡ old +ℚ neg_ℚ (e.up -ℚ e.down) *ℚ factor → new ≡ congestion_to (k + 1)
+    congestion_step factor old new share before eq =
+        eq ∙ ap₂ (λ u v. old +ℚ u *ℚ v) pull_is share
+        ∙ ap (λ s. s +ℚ term_value (term e.row)) before
+        ∙ ap (λ (s : Row). congestion_to k +ℚ term_value (term s)) h.at
+        ∙ sym (sum_by_more (λ s. term_value (term s)) (named_rows m d) k e.row h.inside)
+
+    pub congestion_refused : (factor sum : Fraction) (bound : ℕ) (p : Passed Fraction) → factor ≡ row_factor m e.row i → sum ≡ congestion_to k → IsPullRefusal sum e.up e.down factor bound p
+        → IsCongestionRefusal m d i bound p
+    congestion_refused factor sum bound p share before why = by why
+      where
+        split : (front : List Term) × (rest : List Term) × (map term (rows m) ≡ front ++ term e.row ∷ rest) × (total front ≡ congestion_to k)
+        split = terms_named m d term unnamed k e.row h.inside h.at
+
+        by : IsRefusal Minus e.up e.down bound p ⊎ IsRefusal Times (neg_ℚ (e.up -ℚ e.down)) factor bound p ⊎ IsRefusal Plus sum (neg_ℚ (e.up -ℚ e.down) *ℚ factor) bound p → IsCongestionRefusal m d i bound p
+        by (inl c) = inr (e.row, is_named_row m d k e h, refusal_same Minus e.up e.down (up_of m d e.row) (down_of m d e.row) bound p h.up h.down c)
+        by (inr (inl c)) = inl
+            (multiplied_at (congestion_terms m d i) split.0 split.1 (term e.row) split.2 bound p (neg_ℚ (e.up -ℚ e.down)) factor (neg_ℚ (pull m d e.row)) (row_factor m e.row i) refl (inl pull_is) (inl share) c)
+        by (inr (inr c)) = inl
+            (refused_by_added (congestion_terms m d i) bound p
+            (plus_at (congestion_terms m d i) split.0 split.1 (term e.row) split.2 bound p sum (neg_ℚ (e.up -ℚ e.down) *ℚ factor) (before ∙ sym split.3) (ap₂ ◌*ℚ◌ pull_is share) c))
+
+-- the price of energy and the congestion are added
+pub price_refused : (m : Parts) (d : Duals Fraction) (i : ℕ) (bound : ℕ) (p : Passed Fraction) → IsRefusal Plus d.energy (congestion m d i) bound p → IsRefusedIn (price_terms m d i) bound p
+price_refused m d i bound p h =
+    refused_by_added (price_terms m d i) bound p
+    (plus_at (price_terms m d i) (Plain d.energy ∷ []) [] (Plain (congestion m d i)) refl bound p d.energy (congestion m d i) (sym (+ℚ_nil d.energy)) refl h)
