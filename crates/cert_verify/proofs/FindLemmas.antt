@@ -1,8 +1,9 @@
 -- The first that a test finds, as a loop comes to it.
-use Rattle.std.specs.Prelude.{◌≡◌, ℕ, ◌+◌, ◌<◌, ◌≤◌, Bool, true, false, cond, List, [], ◌∷◌, ◌++◌, length, map, filter, Option, Some, None, option_map, refl}
+use Rattle.std.specs.Prelude.{◌≡◌, ℕ, ◌+◌, ◌<◌, ◌≤◌, Bool, true, false, cond, List, [], ◌∷◌, ◌++◌, length, map, filter, Option, Some, None, option_map, is_some, if◌then◌else◌, refl}
 use Rattle.std.specs.List.{find, flat_map, slice_get}
 use Rattle.std.specs.Option.{option_or}
 use Rattle.std.proofs.Common.{zero, suc, arith, ap, sym, subst, ◌∙◌, get_or, take}
+use Rattle.std.proofs.lemmas.Bool.{true≢false}
 use Rattle.std.proofs.lemmas.List.{append-nil, take_more}
 use Rattle.std.proofs.lemmas.List.Elements.{filter-append}
 use Rattle.std.proofs.lemmas.List.Folds.{find-append}
@@ -15,6 +16,7 @@ use Rattle.limit_rows.proofs.GroupLemmas.{places_at, rows-more}
 use Rattle.limit_rows.proofs.NameLemmas.{groups_round, rows_round}
 use Rattle.limit_rows.proofs.NumberingLemmas.{all_before, row_on, rows_before}
 use Rattle.cert_verify.specs.declared.verdicts.Reason.{Reason}
+use Rattle.cert_verify.specs.Naming.{rows_at}
 use Rattle.cert_verify.specs.Reasons.{of_first}
 
 -- ---- in a list with parts
@@ -99,39 +101,66 @@ lines_same m lost k e =
     (ap (filter (bears m lost)) (places_more k) ∙ filter-append (bears m lost) (places k) (k ∷ []) ∙ ap (λ (b : Bool). filter (bears m lost) (places k) ++ cond b (k ∷ []) []) e
     ∙ append-nil (filter (bears m lost) (places k)))
 
+pub lines_step : (m : Parts) (lost : Option ℕ) (k : ℕ) → rows_to m lost (k + 1) ≡ rows_to m lost k ++ rows_at m lost k
+lines_step m lost k = by (bears m lost k) refl
+  where
+    by : (b : Bool) → bears m lost k ≡ b → rows_to m lost (k + 1) ≡ rows_to m lost k ++ (if b then row_on lost k ∷ [] else [])
+    by true t = lines_more m lost k t
+    by false t = lines_same m lost k t ∙ sym (append-nil (rows_to m lost k))
+
+-- rows behind those to a line, in a group
+lines_round : (m : Parts) (lost : Option ℕ) (k : ℕ) → k < length m.lines → bears m lost k ≡ true → (rest : List Row) × (rows_of m lost ≡ rows_to m lost k ++ (rows_at m lost k ++ rest))
+lines_round m lost k lt t =
+    let r = rows_round m lost k lt t in
+    (r.0, r.1 ∙ ap (λ (b : Bool). rows_to m lost k ++ ((if b then row_on lost k ∷ [] else []) ++ r.0)) (sym t))
+
 module _ (m : Parts) (because : Row → Reason) (p : Row → Bool) where
-  pub line_here : (lost : Option ℕ) (k : ℕ) → find p (rows_to m lost k) ≡ None → k < length m.lines → bears m lost k ≡ true → p (row_on lost k) ≡ true → Some (because (row_on lost k)) ≡ of_first because p (rows_of m lost)
-  line_here lost k e lt bears t =
-      let r = rows_round m lost k lt bears in
-      sym (ap (λ rs. option_map because (find p rs)) r.1 ∙ ap (option_map because) (none_before p (rows_to m lost k) (row_on lost k ∷ r.0) e ∙ found_first p (row_on lost k) r.0 t))
+  -- what is found first in one part of a list is found first in the whole
+  in_whole : (before here rest : List Row) (o : Option Reason) → find p before ≡ None → is_some o ≡ true → o ≡ of_first because p here → o ≡ of_first because p (before ++ (here ++ rest))
+  in_whole before here rest o none some is =
+      by (find p here) (find p rest) o some is ∙ sym (ap (option_map because) (none_before p before (here ++ rest) none ∙ find-append p here rest))
+    where
+      by : (q s : Option Row) (o : Option Reason) → is_some o ≡ true → o ≡ option_map because q → o ≡ option_map because (option_or q s)
+      by None s None e h = absurd (true≢false (sym e))
+      by None s (Some w) e h = absurd Prim.cc
+      by (Some x) s o e h = h
 
-  pub line_more : (lost : Option ℕ) (k : ℕ) → find p (rows_to m lost k) ≡ None → bears m lost k ≡ true → p (row_on lost k) ≡ false → find p (rows_to m lost (k + 1)) ≡ None
-  line_more lost k e bears t = ap (find p) (lines_more m lost k bears) ∙ none_before p (rows_to m lost k) (row_on lost k ∷ []) e ∙ none_one p (row_on lost k) t
+  none_in : (here : List Row) (o : Option Reason) → is_some o ≡ false → o ≡ of_first because p here → find p here ≡ None
+  none_in here o none is = by o (find p here) none is
+    where
+      by : (o : Option Reason) (q : Option Row) → is_some o ≡ false → o ≡ option_map because q → q ≡ None
+      by o None e h = refl
+      by None (Some x) e h = absurd Prim.cc
+      by (Some w) (Some x) e h = absurd (true≢false e)
 
-  pub line_same : (lost : Option ℕ) (k : ℕ) → find p (rows_to m lost k) ≡ None → bears m lost k ≡ false → find p (rows_to m lost (k + 1)) ≡ None
-  line_same lost k e bears = ap (find p) (lines_same m lost k bears) ∙ e
+  pub line_found : (lost : Option ℕ) (k : ℕ) (o : Option Reason) → find p (rows_to m lost k) ≡ None → k < length m.lines → is_some o ≡ true → o ≡ of_first because p (rows_at m lost k) → o ≡ of_first because p (rows_of m lost)
+  line_found lost k o none lt some is = by (bears m lost k) refl is
+    where
+      by : (b : Bool) → bears m lost k ≡ b → o ≡ of_first because p (if b then row_on lost k ∷ [] else []) → o ≡ of_first because p (rows_of m lost)
+      by true t h = let r = lines_round m lost k lt t in in_whole (rows_to m lost k) (rows_at m lost k) r.0 o none some is ∙ ap (of_first because p) (sym r.1)
+      by false t h = absurd (true≢false (sym some ∙ ap is_some h))
+
+  pub line_passed : (lost : Option ℕ) (k : ℕ) (o : Option Reason) → find p (rows_to m lost k) ≡ None → is_some o ≡ false → o ≡ of_first because p (rows_at m lost k) → find p (rows_to m lost (k + 1)) ≡ None
+  line_passed lost k o none no is = ap (find p) (lines_step m lost k) ∙ none_before p (rows_to m lost k) (rows_at m lost k) none ∙ none_in (rows_at m lost k) o no is
 
   pub line_none : (lost : Option ℕ) (k : ℕ) → k ≡ length m.lines → find p (rows_to m lost k) ≡ None → None ≡ of_first because p (rows_of m lost)
   line_none lost k all e = sym (ap (λ (j : ℕ). option_map because (find p (rows_to m lost j))) (sym all) ∙ ap (option_map because) e)
 
-  not_found : (o : Option Row) → option_map because o ≡ None → o ≡ None
-  not_found None e = refl
-  not_found (Some r) e = absurd Prim.cc
+  pub group_found : (i : ℕ) (lost : Option ℕ) (o : Option Reason) → find p (rows_before m i) ≡ None → slice_get (groups m) i ≡ Some lost → is_some o ≡ true → o ≡ of_first because p (rows_of m lost) → o ≡ of_first because p (rows m)
+  group_found i lost o none at some is = let r = groups_round m i lost at in in_whole (rows_before m i) (rows_of m lost) r.0 o none some is ∙ ap (of_first because p) (sym r.1)
 
-  pub group_more : (i : ℕ) (lost : Option ℕ) → find p (rows_before m i) ≡ None → slice_get (groups m) i ≡ Some lost → None ≡ of_first because p (rows_of m lost) → find p (rows_before m (i + 1)) ≡ None
-  group_more i lost e at none =
-      ap (find p) (rows-more m i lost at) ∙ none_before p (rows_before m i) (rows_of m lost) e ∙ not_found (find p (rows_of m lost)) (sym none)
-
-  pub group_here : (i : ℕ) (lost : Option ℕ) (why : Reason) → find p (rows_before m i) ≡ None → slice_get (groups m) i ≡ Some lost → Some why ≡ of_first because p (rows_of m lost) → Some why ≡ of_first because p (rows m)
-  group_here i lost why e at here =
-      let r = groups_round m i lost at in
-      sym (ap (λ rs. option_map because (find p rs)) r.1
-      ∙ ap (option_map because) (none_before p (rows_before m i) (rows_of m lost ++ r.0) e ∙ find-append p (rows_of m lost) r.0)
-      ∙ by (find p (rows_of m lost)) here)
-    where
-      by : (q : Option Row) → Some why ≡ option_map because q → option_map because (option_or q o) ≡ Some why
-      by None h = absurd Prim.cc
-      by (Some x) h = sym h
+  pub group_passed : (i : ℕ) (lost : Option ℕ) (o : Option Reason) → find p (rows_before m i) ≡ None → slice_get (groups m) i ≡ Some lost → is_some o ≡ false → o ≡ of_first because p (rows_of m lost) → find p (rows_before m (i + 1)) ≡ None
+  group_passed i lost o none at no is = ap (find p) (rows-more m i lost at) ∙ none_before p (rows_before m i) (rows_of m lost) none ∙ none_in (rows_of m lost) o no is
 
   pub group_none : (i : ℕ) → length (groups m) ≤ i → find p (rows_before m i) ≡ None → None ≡ of_first because p (rows m)
   group_none i all e = sym (ap (λ rs. option_map because (find p rs)) (sym (all_before m i all)) ∙ ap (option_map because) e)
+
+  -- ---- the row of a line alone
+  pub row_alone : (lost : Option ℕ) (k : ℕ) → bears m lost k ≡ true → p (row_on lost k) ≡ true → Some (because (row_on lost k)) ≡ of_first because p (rows_at m lost k)
+  row_alone lost k t e = sym (ap (λ (b : Bool). of_first because p (if b then row_on lost k ∷ [] else [])) t ∙ ap (option_map because) (found_first p (row_on lost k) [] e))
+
+  pub row_alone_passed : (lost : Option ℕ) (k : ℕ) → bears m lost k ≡ true → p (row_on lost k) ≡ false → None ≡ of_first because p (rows_at m lost k)
+  row_alone_passed lost k t e = sym (ap (λ (b : Bool). of_first because p (if b then row_on lost k ∷ [] else [])) t ∙ ap (option_map because) (none_one p (row_on lost k) e))
+
+  pub row_not_there : (lost : Option ℕ) (k : ℕ) → bears m lost k ≡ false → None ≡ of_first because p (rows_at m lost k)
+  row_not_there lost k t = sym (ap (λ (b : Bool). of_first because p (if b then row_on lost k ∷ [] else [])) t)

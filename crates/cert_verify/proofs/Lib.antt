@@ -1,5 +1,6 @@
 pub mod FindLemmas
 pub mod LawLemmas
 pub mod NamingLemmas
+pub mod RowLemmas
 pub mod TestLemmas
 pub mod VerdictLemmas

@@ -8,14 +8,16 @@ use Rattle.std.proofs.lemmas.Bool.{true≢false, or_parts, or_cases, and_parts, 
 use Rattle.std.proofs.lemmas.Int.{ints}
 use Rattle.std.proofs.lemmas.List.FromFn.{length-range_with_len, get_or-range_with_len}
 use Rattle.std.proofs.lemmas.List.Folds.{find-append}
-use Rattle.fraction_theory.specs.Fraction.{Fraction}
+use Rattle.std.proofs.lemmas.List.{get_or-map}
+use Rattle.fraction_theory.specs.Fraction.{Fraction, whole}
+use Rattle.market_model.specs.declared.participants.Side.{Side}
 use Rattle.fraction_theory.specs.Order.{◌≤ℚ◌, ◌<ℚ◌}
 use Rattle.fraction_theory.proofs.ListSums.{Contains-head, Contains-cons, Contains-cases}
 use Rattle.fraction_theory.proofs.OrderLaws.{<ℚ-≤ℚ, <ℚ-not-≤ℚ, ≤ℚ-or-<ℚ, ≤ℚ_antisym, ≤ℚ_of_same}
 use Rattle.market_model.specs.Dispatch.{places}
 use Rattle.market_model.proofs.ChangeLemmas.{same_default}
 use Rattle.cert_verify.specs.declared.verdicts.Reason.{Reason}
-use Rattle.cert_verify.specs.Reasons.{is_below, differ, of_first, where_so, first_of, verdict_of}
+use Rattle.cert_verify.specs.Reasons.{breaks_support, is_below, is_outside, differ, of_first, where_so, first_of, verdict_of}
 use Rattle.cert_verify.specs.declared.verdicts.Verdict.TheVariants.{Yes}
 
 -- ---- numbers
@@ -158,6 +160,9 @@ not_so false because e = refl
 pub so_none : (b : Bool) (because : Reason) → b ≡ false → where_so b because ≡ None
 so_none b because e = Prim.rw e refl
 
+pub so_some : (b : Bool) (because : Reason) → b ≡ true → where_so b because ≡ Some because
+so_some b because e = Prim.rw e refl
+
 -- no reason comes first where there is none of each kind
 abbrev pub AllNone : List (Option Reason) → Type 0
 AllNone [] = Unit {0}
@@ -178,3 +183,21 @@ yes_none (Some r) e = absurd Prim.cc
 
 pub none_yes : (o : Option Reason) → o ≡ None → verdict_of o ≡ Yes
 none_yes o e = Prim.rw e refl
+
+-- ---- blocks
+-- a number that was read of a list
+pub number_read : {N : Type 0} (value : N → Fraction) (xs : List N) (k : ℕ) (x : N) → k < length xs → x ≡ get_or xs k x → value x ≡ get_or (map value xs) k (whole (pos 0))
+number_read value xs k x lt at = ap value at ∙ sym (get_or-map value xs k x (whole (pos 0)) lt)
+
+pub price_read : {N : Type 0} (value : N → Fraction) (f : ℕ → Fraction) (xs : List N) (n k : ℕ) (x : N) → map value xs ≡ map f (places n) → k < n → k < length xs → x ≡ get_or xs k x → value x ≡ f k
+price_read value f xs n k x all inside lt at =
+    let from_0 : 0 + k ≡ k = Prim.omega arith in
+    number_read value xs k x lt at ∙ ap (λ (ys : List Fraction). get_or ys k (whole (pos 0))) all
+    ∙ get_or-map f (places n) k k (whole (pos 0)) (Prim.omega (arith, inside, length-range_with_len 0 n)) ∙ ap f (get_or-range_with_len 0 n k k inside ∙ from_0)
+
+pub outside_same : (y y' q q' : Fraction) → y ≡ y' → q ≡ q' → is_outside y q ≡ is_outside y' q'
+outside_same y y' q q' e f = ap (λ z. is_outside z q) e ∙ ap (is_outside y') f
+
+pub support_same : (s s' : Side) (p p' w w' q q' y y' : Fraction) → s ≡ s' → p ≡ p' → w ≡ w' → q ≡ q' → y ≡ y' → breaks_support s p w q y ≡ breaks_support s' p' w' q' y'
+support_same s s' p p' w w' q q' y y' a b c d e =
+    ap (λ z. breaks_support z p w q y) a ∙ ap (λ z. breaks_support s' z w q y) b ∙ ap (λ z. breaks_support s' p' z q y) c ∙ ap (λ z. breaks_support s' p' w' z y) d ∙ ap (breaks_support s' p' w' q') e

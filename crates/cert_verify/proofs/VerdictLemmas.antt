@@ -31,7 +31,7 @@ own_id a = Prim.rw (eq-eqb a.branch a.branch refl, eq-eqb a.outage a.outage refl
 pub named : (a b : RowId) → a ≡ b → same_id a b ≡ true
 named a b e = subst (λ (c : RowId). same_id a c ≡ true) e (own_id a)
 
-other_id : (a b : RowId) → a ≢ b → same_id a b ≡ false
+pub other_id : (a b : RowId) → a ≢ b → same_id a b ≡ false
 other_id a b h = by (same_id a b) refl
   where
     by : (t : Bool) → same_id a b ≡ t → t ≡ false

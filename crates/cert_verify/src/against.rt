@@ -79,7 +79,7 @@ fn bus_prices<N: Exact>(
     };
     let mut prices = List::new(alloc);
     for bus in 0..market.buses().len() {
-        let price = bus_price(market, energy, &named, bus)?;
+        let price = bus_price(market, energy, named.slice(), bus)?;
         if prices.push(price).is_err() {
             return Err(VerifyStop::Memory);
         }
@@ -140,12 +140,12 @@ fn wrong_bound<N: Exact>(
         Ok(named) => named,
         Err(Memory) => return Err(VerifyStop::Memory),
     };
-    let bound = farkas_bound(alloc, market, energy, &named)?;
-    Ok(if is_negative(bound) {
-        None
+    let bound = farkas_bound(alloc, market, energy, named.slice())?;
+    if is_negative(bound) {
+        Ok(None)
     } else {
-        Some(Reason::Bound)
-    })
+        Ok(Some(Reason::Bound))
+    }
 }
 
 /// The first reason against duals that are to show that nothing is feasible.

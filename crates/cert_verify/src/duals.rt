@@ -67,7 +67,8 @@ pub(crate) fn slack_price<N: Exact>(
     ensures cause { (x : Dispatch) (d : Duals Fraction) → AreFlows market.now x (map N.value flows.now) → IfErr result (λ passed. IsOptimalPair market.now x d N.bound (passed_at N.value passed)) }
 {
     for dual in limits {
-        if has_slack(market, flows, dual)? {
+        let slack = has_slack(market, flows, dual)?;
+        if slack {
             return Ok(Some(Reason::Slack { row: dual.row }));
         }
     }
