@@ -141,7 +141,7 @@ module _ (m : Parts) (because : Row → Reason) (p : Row → Bool) where
       by false t h = absurd (true≢false (sym some ∙ ap is_some h))
 
   pub line_passed : (lost : Option ℕ) (k : ℕ) (o : Option Reason) → find p (rows_to m lost k) ≡ None → is_some o ≡ false → o ≡ of_first because p (rows_at m lost k) → find p (rows_to m lost (k + 1)) ≡ None
-  line_passed lost k o none no is = ap (find p) (lines_step m lost k) ∙ none_before p (rows_to m lost k) (rows_at m lost k) none ∙ none_in (rows_at m lost k) o no is
+  line_passed lost k o none idle is = ap (find p) (lines_step m lost k) ∙ none_before p (rows_to m lost k) (rows_at m lost k) none ∙ none_in (rows_at m lost k) o idle is
 
   pub line_none : (lost : Option ℕ) (k : ℕ) → k ≡ length m.lines → find p (rows_to m lost k) ≡ None → None ≡ of_first because p (rows_of m lost)
   line_none lost k all e = sym (ap (λ (j : ℕ). option_map because (find p (rows_to m lost j))) (sym all) ∙ ap (option_map because) e)
@@ -150,7 +150,7 @@ module _ (m : Parts) (because : Row → Reason) (p : Row → Bool) where
   group_found i lost o none at some is = let r = groups_round m i lost at in in_whole (rows_before m i) (rows_of m lost) r.0 o none some is ∙ ap (of_first because p) (sym r.1)
 
   pub group_passed : (i : ℕ) (lost : Option ℕ) (o : Option Reason) → find p (rows_before m i) ≡ None → slice_get (groups m) i ≡ Some lost → is_some o ≡ false → o ≡ of_first because p (rows_of m lost) → find p (rows_before m (i + 1)) ≡ None
-  group_passed i lost o none at no is = ap (find p) (rows-more m i lost at) ∙ none_before p (rows_before m i) (rows_of m lost) none ∙ none_in (rows_of m lost) o no is
+  group_passed i lost o none at idle is = ap (find p) (rows-more m i lost at) ∙ none_before p (rows_before m i) (rows_of m lost) none ∙ none_in (rows_of m lost) o idle is
 
   pub group_none : (i : ℕ) → length (groups m) ≤ i → find p (rows_before m i) ≡ None → None ≡ of_first because p (rows m)
   group_none i all e = sym (ap (λ rs. option_map because (find p rs)) (sym (all_before m i all)) ∙ ap (option_map because) e)

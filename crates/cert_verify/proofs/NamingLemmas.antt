@@ -123,8 +123,8 @@ module _ {N : Type 0} (value : N → Fraction) (m : Parts) where
         ∙ ap (λ (b : Bool). map (priced_at value) xs ++ map (priced_by m d) (cond b (r ∷ []) [])) (sym is.0)
 
     pub row_passed : (r : Row) (xs : List (NamedRow N)) → is_named d.limits (row_id m r) ≡ false → map (priced_at value) xs ≡ map (priced_at value) xs ++ prices_of m d (r ∷ [])
-    row_passed r xs no =
-        sym (append-nil (map (priced_at value) xs)) ∙ ap (λ (b : Bool). map (priced_at value) xs ++ map (priced_by m d) (cond b (r ∷ []) [])) (sym no)
+    row_passed r xs free =
+        sym (append-nil (map (priced_at value) xs)) ∙ ap (λ (b : Bool). map (priced_at value) xs ++ map (priced_by m d) (cond b (r ∷ []) [])) (sym free)
 
     prices_join : (rs ss : List Row) → prices_of m d (rs ++ ss) ≡ prices_of m d rs ++ prices_of m d ss
     prices_join rs ss =

@@ -1,7 +1,6 @@
 -- What is looked up of a row by its name, and the operations refused.
-use Rattle.std.specs.Prelude.{◌≡◌, ◌≢◌, ◌⊎◌, ◌&&◌, ◌<◌, ℕ, Bool, true, false, not, List, length, Contains, Option, Some, None, MatchOption, IfSome, refl}
+use Rattle.std.specs.Prelude.{◌≡◌, ◌≢◌, ◌⊎◌, ◌&&◌, ◌<◌, ℕ, Bool, true, false, not, List, length, Contains, Option, Some, None, MatchOption, IfSome, is_some, refl}
 use Rattle.std.specs.List.{list_any}
-use Rattle.std.specs.Option.{is_none}
 use Rattle.std.proofs.Common.{inl, inr, ap, sym, subst, ◌∙◌}
 use Rattle.std.proofs.lemmas.Bool.{true≢false}
 use Rattle.fraction_theory.specs.Fraction.{Fraction}
@@ -41,9 +40,12 @@ not_of m e none r c = by (is_of m e r) refl
     by false t = refl
 
 -- whether a dual has no row, where its name was looked up
-pub no_row_by : (m : Parts) (e : Dual Fraction) (o : Option LimitRow) → MatchOption o (IsUnknown m e) (λ row. Contains (rows m) (row_of row) × (row_id m (row_of row) ≡ e.row)) → has_no_row m e ≡ is_none o
-no_row_by m e None h = ap not (any_none (is_of m e) (rows m) (not_of m e h))
-no_row_by m e (Some row) h = not_true (list_any (is_of m e) (rows m)) (any_of (is_of m e) (rows m) (row_of row) h.0 (named (row_id m (row_of row)) e.row h.1))
+pub no_row_by : (m : Parts) (e : Dual Fraction) (o : Option LimitRow) → MatchOption o (IsUnknown m e) (λ row. Contains (rows m) (row_of row) × (row_id m (row_of row) ≡ e.row))
+    → (b : Bool) → is_some o ≡ not b → has_no_row m e ≡ b
+no_row_by m e None h true none = ap not (any_none (is_of m e) (rows m) (not_of m e h))
+no_row_by m e None h false none = absurd (true≢false (sym none))
+no_row_by m e (Some row) h true none = absurd (true≢false none)
+no_row_by m e (Some row) h false none = not_true (list_any (is_of m e) (rows m)) (any_of (is_of m e) (rows m) (row_of row) h.0 (named (row_id m (row_of row)) e.row h.1))
 
 pub no_slack : (m : Parts) (x : Dispatch) (e : Dual Fraction) → IsUnknown m e → has_slack m x e ≡ false
 no_slack m x e none =

@@ -160,9 +160,6 @@ not_so false because e = refl
 pub so_none : (b : Bool) (because : Reason) → b ≡ false → where_so b because ≡ None
 so_none b because e = Prim.rw e refl
 
-pub so_some : (b : Bool) (because : Reason) → b ≡ true → where_so b because ≡ Some because
-so_some b because e = Prim.rw e refl
-
 -- no reason comes first where there is none of each kind
 abbrev pub AllNone : List (Option Reason) → Type 0
 AllNone [] = Unit {0}

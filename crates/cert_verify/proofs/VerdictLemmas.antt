@@ -79,13 +79,13 @@ own_prices (d ∷ ds) apart e c = by (λ r h. own_prices ds r e h) (Contains-cas
 
     by : (Apart ds → Contains ds e → (up_in ds e.row ≡ e.up) × (down_in ds e.row ≡ e.down)) → (d ≡ e) ⊎ Contains ds e → (up_in (d ∷ ds) e.row ≡ e.up) × (down_in (d ∷ ds) e.row ≡ e.down)
     by more (inl f) = let own = named d.row e.row (ap (λ (g : Dual Fraction). g.row) f) in (
-          ap (λ (b : Bool). if b then d.up else up_in ds e.row) own ∙ ap (λ (g : Dual Fraction). g.up) f,
-          ap (λ (b : Bool). if b then d.down else down_in ds e.row) own ∙ ap (λ (g : Dual Fraction). g.down) f,
-        )
+      ap (λ (b : Bool). if b then d.up else up_in ds e.row) own ∙ ap (λ (g : Dual Fraction). g.up) f,
+      ap (λ (b : Bool). if b then d.down else down_in ds e.row) own ∙ ap (λ (g : Dual Fraction). g.down) f,
+    )
     by more (inr h) = let r = more rest h in (
-          ap (λ (b : Bool). if b then d.up else up_in ds e.row) (other h) ∙ r.0,
-          ap (λ (b : Bool). if b then d.down else down_in ds e.row) (other h) ∙ r.1,
-        )
+      ap (λ (b : Bool). if b then d.up else up_in ds e.row) (other h) ∙ r.0,
+      ap (λ (b : Bool). if b then d.down else down_in ds e.row) (other h) ∙ r.1,
+    )
 
 -- ---- blocks
 gains_of : (s : Side) (p w : Fraction) → Gains s p w → gains s p w ≡ true

@@ -1,9 +1,9 @@
 //! The first reason against a certificate of either kind, in the order in which reasons are told.
 
-ghost use Rattle.std.specs.Prelude.{◌≡◌, ℕ, ◌<◌, ◌∷◌, [], length, map, IfOk, IfErr};
+ghost use Rattle.std.specs.Prelude.{◌≡◌, ℕ, ◌<◌, ◌∷◌, [], length, map, not, IfOk, IfErr};
 ghost use Rattle.fraction_theory.specs.Fraction.{Fraction};
 ghost use Rattle.market_model.specs.declared.answered.Duals.{Duals};
-ghost use Rattle.market_model.specs.Dispatch.{places};
+ghost use Rattle.market_model.specs.Dispatch.{places, zero};
 ghost use Rattle.market_model.specs.Optimality.{bus_price};
 ghost use Rattle.market_model.specs.Valued.{dual_at};
 ghost use Rattle.cert_format.specs.Certificates.{NamesNoRowTwice};
@@ -11,7 +11,8 @@ ghost use Rattle.cert_sums.specs.Pairs.{IsFarkasPair, IsOptimalPair};
 ghost use Rattle.cert_sums.specs.Refusals.{IsPriceRefusal, IsStopped};
 ghost use Rattle.cert_sums.specs.Results.{dispatch_of};
 ghost use Rattle.cert_verify.specs.Certificates.{duals_by};
-ghost use Rattle.cert_verify.specs.Reasons.{balance_reason, block_reason, bound_reason, count_reason, farkas_reasons, first_of, limit_reason, optimal_reasons, row_reason, sign_reason, slack_reason, support_reason};
+ghost use Rattle.cert_verify.specs.declared.verdicts.Reason.TheVariants as reason;
+ghost use Rattle.cert_verify.specs.Reasons.{balance_reason, block_reason, bound_reason, count_reason, farkas_reasons, first_of, is_below, limit_reason, optimal_reasons, row_reason, sign_reason, slack_reason, support_reason, where_so};
 
 use crate::blocks::{other_count, outside_block, unsupported_block};
 use crate::comparing::{datum, differ, is_negative};
@@ -125,6 +126,17 @@ pub(crate) fn against_optimal<N: Exact>(
     wrong_support(alloc, market, blocks, energy, limits)
 }
 
+/// Whether a bound is not below 0.
+fn bound_told<N: Exact>(bound: N) -> Option<Reason>
+    ensures { result ≡ where_so (not (is_below (N.value bound) zero)) reason.Bound }
+{
+    if is_negative(bound) {
+        None
+    } else {
+        Some(Reason::Bound)
+    }
+}
+
 /// Whether the bound of duals is not below 0.
 fn wrong_bound<N: Exact>(
     alloc: Global,
@@ -141,11 +153,7 @@ fn wrong_bound<N: Exact>(
         Err(Memory) => return Err(VerifyStop::Memory),
     };
     let bound = farkas_bound(alloc, market, energy, named.slice())?;
-    if is_negative(bound) {
-        Ok(None)
-    } else {
-        Ok(Some(Reason::Bound))
-    }
+    Ok(bound_told(bound))
 }
 
 /// The first reason against duals that are to show that nothing is feasible.

@@ -25,5 +25,5 @@ pub loop-bus-preserved : goal.loop-bus-preserved
 loop-bus-preserved g c =
     let d = (duals_by (g.N.Exact.value c.args.energy) (map (dual_at g.N.Exact.value) c.args.limits.now)) in
     let are = subst (λ (xs : List (NamedRow g.row.N.Denot)). AreNamed g.N.Exact.value c.args.market.now d xs) (sym c.slice.ensures) (c.in-Ok.ensures (g.N.Exact.value c.args.energy)) in
-    ap (map g.N.Exact.value) (pushed c.push.result _ _ c.push.ensures (sym c.is_err.ensures ∙ c.if-is_err.false))
+    ap (map g.N.Exact.value) (pushed c.push.result _ _ c.push.ensures (sym c.is_err.ensures.value ∙ c.if-is_err.false))
     ∙ price_more g.N.Exact.value (bus_price c.args.market.now d) c.loop-bus.prices c.in_ok-price.price c.loop-bus.bus c.loop-bus.invariant (c.in_ok-price.ensures.price d refl are)

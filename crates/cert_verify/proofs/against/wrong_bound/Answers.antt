@@ -1,14 +1,12 @@
-use Rattle.std.proofs.Common.{rules, Err, ◌≡◌, ◌∙◌, List, not, true, false, ap, sym, subst, refl, map}
+use Rattle.std.proofs.Common.{rules, Err, ◌≡◌, ◌∙◌, List, not, ap, sym, subst, refl, map}
 use Rattle.fraction_theory.specs.Fraction.{Fraction}
 use Rattle.market_model.specs.Dispatch.{zero}
-use Rattle.market_model.specs.Infeasibility.{farkas_bound}
 use Rattle.market_model.specs.Valued.{dual_at}
 use Rattle.cert_sums.specs.declared.pricing.NamedRow.{NamedRow}
 use Rattle.cert_sums.specs.Named.{AreNamed}
 use Rattle.cert_verify.specs.declared.verdicts.Reason.TheVariants as reason
 use Rattle.cert_verify.specs.Certificates.{duals_by}
-use Rattle.cert_verify.specs.Reasons.{is_below}
-use Rattle.cert_verify.proofs.TestLemmas.{not_true, so_none, so_some}
+use Rattle.cert_verify.specs.Reasons.{is_below, where_so}
 use Rattle.cert_verify.proofs.against.wrong_bound.Goals as goal
 
 pub farkas_bound-requires : goal.farkas_bound-requires
@@ -23,18 +21,8 @@ returns-in_err-bound-clause-cause g c =
     let given : c.from_residual.result ≡ Err c.in_err-bound.field-0.0 = search rules in
     rw given (c.in_err-bound.ensures.cause d refl are)
 
-pub returns-then-is_negative-clause-first : goal.returns-then-is_negative-clause-first
-returns-then-is_negative-clause-first g c =
+pub returns-clause-first : goal.returns-clause-first
+returns-clause-first g c =
     let d = (duals_by (g.N.Exact.value c.args.energy) (map (dual_at g.N.Exact.value) c.args.limits.now)) in
     let are = subst (λ (xs : List (NamedRow g.row.N.Denot)). AreNamed g.N.Exact.value c.args.market.now d xs) (sym c.slice.ensures) (c.in-Ok.ensures (g.N.Exact.value c.args.energy)) in
-    let b = is_below (farkas_bound c.args.market.now d) zero in
-    let below : b ≡ true = ap (λ (y : Fraction). is_below y zero) (sym (c.in_ok-bound.ensures.bound d refl are)) ∙ sym c.is_negative.ensures ∙ c.if-is_negative.true in
-    sym (so_none (not b) reason.Bound (not_true b below))
-
-pub returns-else-is_negative-clause-first : goal.returns-else-is_negative-clause-first
-returns-else-is_negative-clause-first g c =
-    let d = (duals_by (g.N.Exact.value c.args.energy) (map (dual_at g.N.Exact.value) c.args.limits.now)) in
-    let are = subst (λ (xs : List (NamedRow g.row.N.Denot)). AreNamed g.N.Exact.value c.args.market.now d xs) (sym c.slice.ensures) (c.in-Ok.ensures (g.N.Exact.value c.args.energy)) in
-    let b = is_below (farkas_bound c.args.market.now d) zero in
-    let below : b ≡ false = ap (λ (y : Fraction). is_below y zero) (sym (c.in_ok-bound.ensures.bound d refl are)) ∙ sym c.is_negative.ensures ∙ c.if-is_negative.false in
-    sym (so_some (not b) reason.Bound (ap not below))
+    c.bound_told.ensures ∙ ap (λ (y : Fraction). where_so (not (is_below y zero)) reason.Bound) (c.in_ok-bound.ensures.bound d refl are)

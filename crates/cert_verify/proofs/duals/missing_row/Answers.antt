@@ -1,4 +1,4 @@
-use Rattle.std.proofs.Common.{sym, ◌∙◌, arith}
+use Rattle.std.proofs.Common.{◌∙◌, arith}
 use Rattle.fraction_theory.specs.Fraction.{Fraction}
 use Rattle.market_model.specs.declared.answered.Dual.{Dual}
 use Rattle.market_model.specs.Valued.{dual_at}
@@ -12,13 +12,13 @@ pub returns-then-is_none : goal.returns-then-is_none
 returns-then-is_none g c =
     item_here (λ (e : Dual Fraction). reason.NoRow e.row) (has_no_row c.args.market.now) (dual_at g.N.Exact.value) c.args.limits.now c.loop-dual.dual-index c.dual-item.result c.loop-dual.invariant
     (omega (arith, c.loop-dual-test.true)) c.dual-item.is
-    (no_row_by c.args.market.now (dual_at g.N.Exact.value c.dual-item.result) c.row_named.result c.row_named.ensures ∙ sym c.is_none.ensures ∙ c.if-is_none.true)
+    (no_row_by c.args.market.now (dual_at g.N.Exact.value c.dual-item.result) c.row_named.result c.row_named.ensures c.is_none.result c.is_none.ensures ∙ c.if-is_none.true)
 
 pub loop-dual-preserved : goal.loop-dual-preserved
 loop-dual-preserved g c =
     item_more (λ (e : Dual Fraction). reason.NoRow e.row) (has_no_row c.args.market.now) (dual_at g.N.Exact.value) c.args.limits.now c.loop-dual.dual-index c.dual-item.result c.loop-dual.invariant
     (omega (arith, c.loop-dual-test.true)) c.dual-item.is
-    (no_row_by c.args.market.now (dual_at g.N.Exact.value c.dual-item.result) c.row_named.result c.row_named.ensures ∙ sym c.is_none.ensures ∙ c.if-is_none.false)
+    (no_row_by c.args.market.now (dual_at g.N.Exact.value c.dual-item.result) c.row_named.result c.row_named.ensures c.is_none.result c.is_none.ensures ∙ c.if-is_none.false)
 
 pub returns : goal.returns
 returns g c =
