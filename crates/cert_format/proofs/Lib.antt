@@ -1,0 +1,10 @@
+pub mod CertLemmas
+pub mod EachLemmas
+pub mod FractionLemmas
+pub mod GivesLemmas
+pub mod InverseLemmas
+pub mod ListLemmas
+pub mod NumberLemmas
+pub mod QuotientLemmas
+pub mod RowLemmas
+pub mod TextLemmas

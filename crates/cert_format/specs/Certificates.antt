@@ -1,5 +1,5 @@
 -- Certificates, and those of what a clear came to.
-use Rattle.std.specs.Prelude.{◌≡◌, ◌≢◌, ℕ, ◌<◌, ◌≤◌, ◌^◌, List, map, All, AllPairs, Option, Some, None, unsigned_abs}
+use Rattle.std.specs.Prelude.{◌≡◌, ◌≢◌, ℕ, ◌<◌, ◌≤◌, ◌-◌, ◌^◌, List, map, All, AllPairs, Option, Some, None, unsigned_abs}
 use Rattle.fraction_theory.specs.Fraction.{Fraction}
 use Rattle.market_model.specs.declared.answered.Dual.{Dual}
 use Rattle.market_model.specs.declared.answered.RowId.{RowId}
@@ -15,7 +15,7 @@ cert_at value (cert.Optimal blocks energy limits) = cert.Optimal (map value bloc
 cert_at value (cert.Farkas energy limits) = cert.Farkas (value energy) (map (dual_at value) limits)
 
 -- the duals of limits, whatever the kind
-abbrev pub limits_of : Cert Fraction → List (Dual Fraction)
+abbrev pub limits_of : {N : Type 0} → Cert N → List (Dual N)
 limits_of (cert.Optimal blocks energy limits) = limits
 limits_of (cert.Farkas energy limits) = limits
 

@@ -1,9 +1,9 @@
 -- The fraction that a text `num/den` spells.
-use Rattle.std.specs.Prelude.{◌≡◌, ℕ, ℤ, ◌==◌, ◌&&◌, Bool, List, Option, Some, None, nat_le, unsigned_abs, if◌then◌else◌}
+use Rattle.std.specs.Prelude.{◌≡◌, ℕ, pos, ◌==◌, ◌&&◌, Bool, List, Option, Some, None, nat_le, unsigned_abs, if◌then◌else◌}
 use Rattle.std.specs.List.{before_first, after_first}
 use Rattle.std.specs.Str.{bytes_eq}
 use Rattle.std.specs.Str.Parse.{digits_value, signed_digits_value}
-use Rattle.fraction_theory.specs.Fraction.{Fraction, over}
+use Rattle.fraction_theory.specs.Fraction.{Fraction, lowest_fraction, over}
 use Rattle.exact_fraction.specs.Written.{parts_text}
 use Rattle.cert_format.specs.Certificates.{Fits}
 
@@ -11,6 +11,10 @@ use Rattle.cert_format.specs.Certificates.{Fits}
 pub record Spells (most : ℕ) (text : List ℕ) (x : Fraction) : Type 0 where
   pub spelling : text ≡ parts_text x
   pub fits : Fits most x
+
+-- the same numbers without their sign
+abbrev pub without_sign : Fraction → Fraction
+without_sign x = lowest_fraction (pos (unsigned_abs x.num)) x.den x.above x.lowest
 
 abbrev pub is_slash : ℕ → Bool
 is_slash c = c == 47

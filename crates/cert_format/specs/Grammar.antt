@@ -1,5 +1,5 @@
 -- The certificate that a text stands for, or the first part of it that is not in the grammar.
-use Rattle.std.specs.Prelude.{ℕ, ◌^◌, ◌==◌, ◌&&◌, Bool, true, false, not, nat_lt, List, [], ◌∷◌, codes, Option, Some, None, option_and_then, option_map, is_none, Result, Ok, Err, if◌then◌else◌}
+use Rattle.std.specs.Prelude.{◌≡◌, ℕ, ◌^◌, ◌==◌, ◌&&◌, Bool, true, false, not, nat_lt, List, [], ◌∷◌, codes, Option, Some, None, option_and_then, option_map, is_none, is_some, Result, Ok, Err, if◌then◌else◌}
 use Rattle.std.specs.List.{list_any}
 use Rattle.std.specs.Str.{bytes_eq, is_utf8}
 use Rattle.fraction_theory.specs.Fraction.{Fraction}
@@ -25,13 +25,13 @@ use Rattle.cert_format.specs.FractionTexts.{fraction_of}
 abbrev pub size_of : Data → Option ℕ
 size_of d = option_map members_len (as_object d)
 
--- the number, where it is this one
-abbrev pub is_number : ℕ → Option ℕ → Option ℕ
-is_number m None = None
-is_number m (Some n) = if n == m then Some n else None
+-- whether there is a number, and it is this one
+abbrev pub is_number : ℕ → Option ℕ → Bool
+is_number m None = false
+is_number m (Some n) = n == m
 
 -- just so many members: where all names of the grammar are there, no other is
-abbrev pub has_size : ℕ → Data → Option ℕ
+abbrev pub has_size : ℕ → Data → Bool
 has_size n d = is_number n (size_of d)
 
 -- a whole number, written with digits alone
@@ -60,8 +60,7 @@ limit_in most d =
     option_and_then (λ outage.
     option_and_then (λ up.
     option_and_then (λ down.
-    option_and_then (λ _. Some (record { row = record { branch = branch; outage = outage }; up = up; down = down }))
-    (has_size 4 d))
+    if has_size 4 d then Some (record { row = record { branch = branch; outage = outage }; up = up; down = down }) else None)
     (fraction_at most (codes "down") d))
     (fraction_at most (codes "up") d))
     (in_32 (number_at (codes "outage") d)))
@@ -72,8 +71,12 @@ unfoldable pub each : {A : Type 0} → (Data → Option A) → Items → Option 
 each read no_items = Some []
 each read (item d ds) = option_and_then (λ x. option_and_then (λ xs. Some (x ∷ xs)) (each read ds)) (read d)
 
+-- whether a branch and an outage are those of a row
+abbrev pub is_row : RowId → ℕ × ℕ → Bool
+is_row row pair = (row.branch == pair.0) && (row.outage == pair.1)
+
 abbrev pub is_of : RowId → Dual Fraction → Bool
-is_of row d = (d.row.branch == row.branch) && (d.row.outage == row.outage)
+is_of row d = is_row row (d.row.branch, d.row.outage)
 
 -- no row is named twice; a law says that this is so
 abbrev pub distinct : List (Dual Fraction) → Bool
@@ -96,27 +99,30 @@ kind_named text = if bytes_eq text (codes "optimal") then Some kind.Optimal else
 abbrev pub kind_in : Data → Option Kind
 kind_in d = option_and_then kind_named (text_at (codes "kind") d)
 
--- a part that must not be there
-abbrev pub lacks : List ℕ → Data → Option Bool
-lacks name d = if is_none (get name d) then Some true else None
+-- the version of the grammar
+abbrev pub has_version : Data → Bool
+has_version d = is_number 1 (number_at (codes "version") d)
 
 -- a part that must be in the grammar, or its key
 abbrev pub need : {A B : Type 0} → Key → Option A → (A → Result B Key) → Result B Key
 need k None f = Err k
 need k (Some x) f = f x
 
--- the rest of an optimal certificate, and of one that shows that no dispatch is feasible
+abbrev pub check : {B : Type 0} → Key → Bool → Result B Key → Result B Key
+check k test r = if test then r else Err k
+
+-- the rest of an optimal certificate, and of one that shows that no dispatch is feasible, which has no blocks
 unfoldable pub optimal_in : ℕ → Fraction → Data → Result (Cert Fraction) Key
 optimal_in most energy d =
     need key.Blocks (blocks_in most d) (λ blocks.
     need key.Limits (limits_in most d) (λ limits.
-    need key.Extra (has_size 5 d) (λ _. Ok (cert.Optimal blocks energy limits))))
+    check key.Extra (has_size 5 d) (Ok (cert.Optimal blocks energy limits))))
 
 unfoldable pub farkas_in : ℕ → Fraction → Data → Result (Cert Fraction) Key
 farkas_in most energy d =
-    need key.Blocks (lacks (codes "blocks") d) (λ _.
+    check key.Blocks (is_none (get (codes "blocks") d)) (
     need key.Limits (limits_in most d) (λ limits.
-    need key.Extra (has_size 4 d) (λ _. Ok (cert.Farkas energy limits))))
+    check key.Extra (has_size 4 d) (Ok (cert.Farkas energy limits))))
 
 abbrev pub of_kind : ℕ → Fraction → Data → Kind → Result (Cert Fraction) Key
 of_kind most energy d kind.Optimal = optimal_in most energy d
@@ -125,8 +131,8 @@ of_kind most energy d kind.Farkas = farkas_in most energy d
 -- the certificate that a value stands for, or the first part that is not in the grammar
 unfoldable pub cert_in : ℕ → Data → Result (Cert Fraction) Key
 cert_in most d =
-    need key.Json (size_of d) (λ _.
-    need key.Version (is_number 1 (number_at (codes "version") d)) (λ _.
+    check key.Json (is_some (as_object d)) (
+    check key.Version (has_version d) (
     need key.Kind (kind_in d) (λ kind.
     need key.Energy (fraction_at most (codes "energy") d) (λ energy.
     of_kind most energy d kind))))

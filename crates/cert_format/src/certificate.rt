@@ -1,6 +1,8 @@
 //! Certificates, and why a text is none.
 
-use market_model::{Dual, List};
+ghost use Rattle.std.specs.Prelude.{◌≡◌};
+
+use market_model::{Dual, List, Memory};
 use thiserror::Error;
 
 /// What shows that a clear came to what it did. Quantities are in 10^-9 MW. The prices of an optimal dispatch are in 10^-6 per MWh;
@@ -42,4 +44,14 @@ pub enum CertFault {
     Key { key: Key },
     #[error("memory was refused")]
     Memory,
+}
+
+impl From<Memory> for CertFault {
+    ghost use Rattle.cert_format.specs.declared.certificate.CertFault.TheVariants as fault;
+
+    ghost from_gives = { λ _ e. e ≡ fault.Memory };
+
+    fn from(_refused: Memory) -> CertFault {
+        CertFault::Memory
+    }
 }

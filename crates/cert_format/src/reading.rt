@@ -1,6 +1,7 @@
 //! Reading a certificate.
 
-ghost use Rattle.std.specs.Prelude.{◌≡◌, Ok, Err, IfOk, map, option_map};
+ghost use Rattle.std.specs.List.{list_any};
+ghost use Rattle.std.specs.Prelude.{◌≡◌, ◌++◌, ◌∷◌, [], not, if◌then◌else◌, Ok, Err, IfOk, map, option_and_then, option_map};
 ghost use Rattle.serde_json.specs.Find.{get};
 ghost use Rattle.serde_json.specs.View.{items_view, view};
 ghost use Rattle.market_model.specs.Valued.{dual_at};
@@ -8,13 +9,13 @@ ghost use Rattle.cert_format.specs.declared.certificate.CertFault.TheVariants as
 ghost use Rattle.cert_format.specs.declared.certificate.Key.{Key};
 ghost use Rattle.cert_format.specs.declared.certificate.Key.TheVariants as key;
 ghost use Rattle.cert_format.specs.Certificates.{RowsAreDistinct, cert_at};
-ghost use Rattle.cert_format.specs.Grammar.{Gives, blocks_in, cert_in, cert_read, each, farkas_in, fraction_at, fraction_in, has_size, if_distinct, in_32, kind_in, lacks, limit_in, limits_in, need, number_at, optimal_in, size_of, text_at};
+ghost use Rattle.cert_format.specs.Grammar.{Gives, blocks_in, cert_in, cert_read, each, farkas_in, fraction_at, fraction_in, has_size, has_version, if_distinct, in_32, is_row, kind_in, limit_in, limits_in, need, number_at, optimal_in, size_of, text_at};
 
 use crate::fractions::fraction;
 use crate::{Cert, CertFault, Key};
 use exact_fraction::{Exact, Frac};
 use indexmap::IndexSet;
-use market_model::{Dual, List, RowId};
+use market_model::{Dual, List, Memory, RowId};
 use serde_json::Value;
 use std::alloc::Global;
 
@@ -29,13 +30,19 @@ enum Kind {
 fn size_of(value: &Value) -> Option<usize>
     ensures { result ≡ size_of (view value.now) }
 {
-    value.as_object().map(|members| members.len())
+    match value.as_object() {
+        Some(members) => Some(members.len()),
+        None => None,
+    }
 }
 
 fn has_size(value: &Value, size: usize) -> bool
-    ensures { result ≡ is_some (has_size size (view value.now)) }
+    ensures { result ≡ has_size size (view value.now) }
 {
-    size_of(value) == Some(size)
+    match size_of(value) {
+        Some(count) => count == size,
+        None => false,
+    }
 }
 
 fn number_at(value: &Value, name: &str) -> Option<u64>
@@ -98,9 +105,7 @@ fn blocks_of<N: Exact>(alloc: Global, values: &[Value]) -> Result<List<N>, CertF
         let Some(block) = fraction_in(value) else {
             return Err(CertFault::Key { key: Key::Blocks });
         };
-        if blocks.push(block).is_err() {
-            return Err(CertFault::Memory);
-        }
+        blocks.push(block)?;
     }
     Ok(blocks)
 }
@@ -111,6 +116,17 @@ fn blocks_in<N: Exact>(alloc: Global, value: &Value) -> Result<List<N>, CertFaul
     match value.get("blocks").and_then(Value::as_array) {
         Some(values) => blocks_of(alloc, values.as_slice()),
         None => Err(CertFault::Key { key: Key::Blocks }),
+    }
+}
+
+/// Adds a row to those that were named, and tells whether it is new.
+fn add_row(rows: &mut IndexSet<(u32, u32)>, row: RowId) -> Result<bool, Memory>
+    ensures is_new { IfOk result (λ is_new. is_new ≡ not (list_any (is_row row) rows.old.keys)) }
+    ensures keys { IfOk result (λ is_new. rows.new.keys ≡ (if is_new then rows.old.keys ++ (row.branch, row.outage) ∷ [] else rows.old.keys)) }
+{
+    match rows.insert((row.branch, row.outage)) {
+        Ok(is_new) => Ok(is_new),
+        Err(_) => Err(Memory),
     }
 }
 
@@ -125,14 +141,11 @@ fn limits_of<N: Exact>(alloc: Global, values: &[Value]) -> Result<List<Dual<N>>,
         let Some(limit) = limit_in::<N>(value) else {
             return Err(CertFault::Key { key: Key::Limits });
         };
-        match rows.insert((limit.row.branch, limit.row.outage)) {
-            Ok(true) => {}
-            Ok(false) => return Err(CertFault::Key { key: Key::Limits }),
-            Err(_) => return Err(CertFault::Memory),
+        let is_new = add_row(&mut rows, limit.row)?;
+        if !is_new {
+            return Err(CertFault::Key { key: Key::Limits });
         }
-        if limits.push(limit).is_err() {
-            return Err(CertFault::Memory);
-        }
+        limits.push(limit)?;
     }
     Ok(limits)
 }
@@ -153,6 +166,16 @@ fn kind_in(value: &Value) -> Option<Kind>
         Some("optimal") => Some(Kind::Optimal),
         Some("farkas") => Some(Kind::Farkas),
         _ => None,
+    }
+}
+
+/// Whether the version is that of this grammar.
+fn has_version(value: &Value) -> bool
+    ensures { result ≡ has_version (view value.now) }
+{
+    match number_at(value, "version") {
+        Some(version) => version == 1,
+        None => false,
     }
 }
 
@@ -193,7 +216,7 @@ fn cert_in<N: Exact>(alloc: Global, value: &Value) -> Result<Cert<N>, CertFault>
     if !value.is_object() {
         return Err(CertFault::Key { key: Key::Json });
     }
-    if number_at(value, "version") != Some(1) {
+    if !has_version(value) {
         return Err(CertFault::Key { key: Key::Version });
     }
     let Some(kind) = kind_in(value) else {

@@ -1,10 +1,10 @@
 //! The text of a certificate.
 
-ghost use Rattle.std.specs.Prelude.{◌≡◌, ◌≤◌, IfOk, OnOk, Ok, All, map, option_map};
+ghost use Rattle.std.specs.Prelude.{◌≡◌, ℕ, ◌≤◌, List, Some, IfOk, OnOk, Ok, All, map, option_map};
 ghost use Rattle.serde_json.specs.View.{view};
 ghost use Rattle.market_model.specs.Valued.{dual_at, outcome_at};
 ghost use Rattle.cert_format.specs.declared.certificate.Cert.TheVariants as cert;
-ghost use Rattle.cert_format.specs.Certificates.{RowFits, RowsAreDistinct, cert_at, most_part};
+ghost use Rattle.cert_format.specs.Certificates.{RowFits, RowsAreDistinct, cert_at, limits_of, most_part};
 ghost use Rattle.cert_format.specs.Grammar.{cert_read};
 ghost use Rattle.cert_format.specs.Written.{blocks_data, cert_data, cert_text, certificate_of, fraction_data, limit_data, limits_data};
 
@@ -27,12 +27,14 @@ fn fraction_value<N: Exact>(alloc: Global, number: N) -> Result<Value, AllocErro
 
 /// The duals of a limit.
 fn limit_value<N: Exact>(alloc: Global, dual: &Dual<N>) -> Result<Value, AllocError>
-    ensures { IfOk result (λ v. view v ≡ limit_data (dual_at N.value dual.now)) }
+    ensures value { IfOk result (λ v. view v ≡ limit_data (dual_at N.value dual.now)) }
+    ensures row { OnOk result (RowFits dual.now.row) }
 {
     let up = fraction_value(alloc, dual.up)?;
     let down = fraction_value(alloc, dual.down)?;
-    let row = dual.row;
-    json!(in alloc; {"branch": row.branch, "down": down, "outage": row.outage, "up": up})
+    let branch = dual.row.branch;
+    let outage = dual.row.outage;
+    json!(in alloc; {"branch": branch, "down": down, "outage": outage, "up": up})
 }
 
 fn blocks_value<N: Exact>(alloc: Global, blocks: &List<N>) -> Result<Value, AllocError>
@@ -109,21 +111,41 @@ fn farkas_text<N: Exact>(
     farkas_value(alloc, energy, limits)?.to_vec(alloc)
 }
 
-/// The text of a certificate, without a line end.
-pub fn to_json<N: Exact>(alloc: Global, cert: &Cert<N>) -> Result<Vec<u8>, Memory>
+fn cert_bytes<N: Exact>(alloc: Global, cert: &Cert<N>) -> Result<Vec<u8>, AllocError>
     ensures text { IfOk result (λ bytes. bytes.items ≡ cert_text (cert_at N.value cert.now)) }
-    ensures reads_back { IfOk result (λ bytes. N.bound ≤ most_part → RowsAreDistinct (cert_at N.value cert.now)
-        → cert_read bytes.items ≡ Ok (cert_at N.value cert.now)) }
+    ensures rows { OnOk result (All (λ d. RowFits d.row) (limits_of cert.now)) }
 {
-    let text = match cert {
+    match cert {
         Cert::Optimal {
             blocks,
             energy,
             limits,
         } => optimal_text(alloc, blocks, *energy, limits),
         Cert::Farkas { energy, limits } => farkas_text(alloc, *energy, limits),
-    };
-    text.map_err(|_| Memory)
+    }
+}
+
+/// The text of a certificate, without a line end. Where no row is named twice and its numbers have 127 bits at most, it is read back as
+/// the certificate.
+pub fn to_json<N: Exact>(alloc: Global, cert: &Cert<N>) -> Result<Vec<u8>, Memory>
+    ensures text { IfOk result (λ bytes. bytes.items ≡ cert_text (cert_at N.value cert.now)) }
+    ensures reads_back { IfOk result (λ bytes. N.bound ≤ most_part → RowsAreDistinct (cert_at N.value cert.now)
+        → cert_read bytes.items ≡ Ok (cert_at N.value cert.now)) }
+{
+    match cert_bytes(alloc, cert) {
+        Ok(bytes) => Ok(bytes),
+        Err(_) => Err(Memory),
+    }
+}
+
+/// A text that there is, where memory was not refused.
+fn made(text: Result<Vec<u8>, AllocError>) -> Result<Option<Vec<u8>>, Memory>
+    ensures { (bytes : List ℕ) → IfOk text (λ v. v.items ≡ bytes) → IfOk result (λ o. option_map (λ v. v.items) o ≡ Some bytes) }
+{
+    match text {
+        Ok(bytes) => Ok(Some(bytes)),
+        Err(_) => Err(Memory),
+    }
 }
 
 /// The text of the certificate of what a clear came to, where there is one.
@@ -133,19 +155,15 @@ pub fn outcome_json<N: Exact>(
 ) -> Result<Option<Vec<u8>>, Memory>
     ensures { IfOk result (λ made. option_map (λ bytes. bytes.items) made ≡ certificate_of (outcome_at N.value outcome.now)) }
 {
-    let text = match outcome {
+    match outcome {
         Outcome::Cleared(answer) => {
             let duals = &answer.duals;
-            optimal_text(alloc, &answer.dispatch, duals.energy, &duals.limits)
+            made(optimal_text(alloc, &answer.dispatch, duals.energy, &duals.limits))
         }
         Outcome::Infeasible(farkas) => {
             let duals = &farkas.duals;
-            farkas_text(alloc, duals.energy, &duals.limits)
+            made(farkas_text(alloc, duals.energy, &duals.limits))
         }
-        Outcome::Range(_) => return Ok(None),
-    };
-    match text {
-        Ok(bytes) => Ok(Some(bytes)),
-        Err(_) => Err(Memory),
+        Outcome::Range(_) => Ok(None),
     }
 }

@@ -1,0 +1,213 @@
+-- The value of a certificate is in the grammar, and gives the certificate again.
+use Rattle.std.specs.Prelude.{◌≡◌, ℕ, ◌<◌, ◌≤◌, ◌^◌, List, [], ◌∷◌, map, length, Bool, true, false, codes, All, Option, Some, None, Result, Ok, Err, option_map, option_and_then, IsUtf8, max, unsigned_abs}
+use Rattle.std.specs.Str.{is_utf8}
+use Rattle.std.proofs.Common.{zero, suc, arith, ap, sym, ◌∙◌, refl, get_or}
+use Rattle.std.proofs.lemmas.Bool.{lt-ltb}
+use Rattle.std.proofs.lemmas.List.Elements.{All-cons, All-nil}
+use Rattle.market_model.specs.Valued.{dual_at}
+use Rattle.std.proofs.lemmas.Str.{IsUtf8-from_is_utf8, is_utf8-from_IsUtf8}
+use Rattle.fraction_theory.specs.Fraction.{Fraction}
+use Rattle.exact_fraction.specs.Written.{parts_text}
+use Rattle.market_model.specs.declared.answered.Dual.{Dual}
+use Rattle.json.specs.Tree as tree
+use Rattle.json.proofs.Printed.Utf8.{IsUtf8-are_ascii, are_ascii}
+use Rattle.serde_json.specs.Data.{Data, Items, no_items, item}
+use Rattle.serde_json.specs.Read.{max_depth, of_items, of_json, read}
+use Rattle.serde_json.specs.View.{items_of}
+use Rattle.serde_json.specs.Written.{has_float, items_have_float, items_outline, outline}
+use Rattle.serde_json.proofs.Numbers.{number_of-decimal}
+use Rattle.serde_json.proofs.OnLiterals.{serde_json_on_literals}
+use Rattle.cert_format.specs.declared.certificate.Cert.{Cert}
+use Rattle.cert_format.specs.declared.certificate.Cert.TheVariants as cert
+use Rattle.cert_format.specs.declared.certificate.Key.TheVariants as key
+use Rattle.cert_format.specs.Certificates.{CertFits, DualFits, Fits, NamesNoRowTwice, RowFits, RowsAreDistinct, cert_at, limits_of, most_part}
+use Rattle.cert_format.specs.FractionTexts.{fraction_of}
+use Rattle.cert_format.specs.Grammar.{cert_in, cert_read, each, farkas_in, fraction_in, limit_in, optimal_in}
+use Rattle.cert_format.specs.Written.{cert_data, cert_text, fraction_data, limit_data, limits_data}
+use Rattle.cert_format.proofs.FractionLemmas.{fraction_of-read}
+use Rattle.cert_format.proofs.RowLemmas.{names-distinct}
+use Rattle.cert_format.proofs.TextLemmas.{IsPlain, ItemsArePlain, read-compact_text, utf8-data, utf8-parts_text}
+
+-- ---- what is written has no floats, and texts in UTF-8
+plain-blocks : (xs : List Fraction) → ItemsArePlain (items_of (map fraction_data xs))
+plain-blocks [] = tt
+plain-blocks (x ∷ xs) = (utf8-parts_text x, plain-blocks xs)
+
+key_utf8 : (cs : List ℕ) → are_ascii cs ≡ true → IsUtf8 cs
+key_utf8 cs h = IsUtf8-are_ascii cs h
+
+plain-limits : (ds : List (Dual Fraction)) → All (λ d. RowFits d.row) ds → ItemsArePlain (items_of (map limit_data ds))
+plain-limits [] h = tt
+plain-limits (d ∷ ds) h =
+    let row = h 0 d (omega arith) in ((
+      (
+        key_utf8 (codes "branch") refl,
+        omega (arith, row.branch),
+        (
+          key_utf8 (codes "down") refl,
+          utf8-parts_text d.down,
+          (
+            key_utf8 (codes "outage") refl,
+            omega (arith, row.outage),
+            (key_utf8 (codes "up") refl, utf8-parts_text d.up, tt),
+          ),
+        ),
+      ),
+      plain-limits ds (λ k x lt. h (suc k) x (omega (arith, lt))),
+    ))
+
+-- the rows of a certificate have 32 bits
+abbrev pub RowsFit : Cert Fraction → Type 0
+RowsFit c = All (λ d. RowFits d.row) (limits_of c)
+
+pub plain-cert : (c : Cert Fraction) → RowsFit c → IsPlain (cert_data c)
+plain-cert (cert.Optimal blocks energy limits) h = (
+  key_utf8 (codes "blocks") refl,
+  plain-blocks blocks,
+  (
+    key_utf8 (codes "energy") refl,
+    utf8-parts_text energy,
+    (
+      key_utf8 (codes "kind") refl,
+      key_utf8 (codes "optimal") refl,
+      (
+        key_utf8 (codes "limits") refl,
+        plain-limits limits h,
+        (key_utf8 (codes "version") refl, omega arith, tt),
+      ),
+    ),
+  ),
+)
+plain-cert (cert.Farkas energy limits) h = (
+  key_utf8 (codes "energy") refl,
+  utf8-parts_text energy,
+  (
+    key_utf8 (codes "kind") refl,
+    key_utf8 (codes "farkas") refl,
+    (
+      key_utf8 (codes "limits") refl,
+      plain-limits limits h,
+      (key_utf8 (codes "version") refl, omega arith, tt),
+    ),
+  ),
+)
+
+float-blocks : (xs : List Fraction) → items_have_float (items_of (map fraction_data xs)) ≡ false
+float-blocks [] = refl
+float-blocks (x ∷ xs) = float-blocks xs
+
+float-limits : (ds : List (Dual Fraction)) → items_have_float (items_of (map limit_data ds)) ≡ false
+float-limits [] = refl
+float-limits (d ∷ ds) = float-limits ds
+
+pub no-float : (c : Cert Fraction) → has_float (cert_data c) ≡ false
+no-float (cert.Optimal blocks energy limits) = rw (float-blocks blocks, float-limits limits) refl
+no-float (cert.Farkas energy limits) = rw (float-limits limits) refl
+
+-- ---- nests four deep at most
+flat-blocks : (xs : List Fraction) → tree.items_depth (items_outline (items_of (map fraction_data xs))) ≤ 0
+flat-blocks [] = omega arith
+flat-blocks (x ∷ xs) = let h = flat-blocks xs in omega (arith, h)
+
+flat-limits : (ds : List (Dual Fraction)) → tree.items_depth (items_outline (items_of (map limit_data ds))) ≤ 1
+flat-limits [] = omega arith
+flat-limits (d ∷ ds) = let h = flat-limits ds in omega (arith, h)
+
+flat-cert : (c : Cert Fraction) → tree.depth (outline (cert_data c)) ≤ max_depth
+flat-cert (cert.Optimal blocks energy limits) = let h = flat-blocks blocks in let k = flat-limits limits in omega (arith, h, k)
+flat-cert (cert.Farkas energy limits) = let k = flat-limits limits in omega (arith, k)
+
+-- ---- and is read as the value that was written
+blocks-again : (xs : List Fraction) → of_items (items_outline (items_of (map fraction_data xs))) ≡ Some (items_of (map fraction_data xs))
+blocks-again [] = refl
+blocks-again (x ∷ xs) = rw (blocks-again xs) refl
+
+limit-again : (d : Dual Fraction) → RowFits d.row → of_json (outline (limit_data d)) ≡ Some (limit_data d)
+unfolding serde_json_on_literals
+limit-again d row = rw (number_of-decimal d.row.branch (omega (arith, row.branch)), number_of-decimal d.row.outage (omega (arith, row.outage))) refl
+
+limits-again : (ds : List (Dual Fraction)) → All (λ d. RowFits d.row) ds → of_items (items_outline (items_of (map limit_data ds))) ≡ Some (items_of (map limit_data ds))
+limits-again [] h = refl
+limits-again (d ∷ ds) h = rw (limit-again d (h 0 d (omega arith)), limits-again ds (λ k x lt. h (suc k) x (omega (arith, lt)))) refl
+
+cert-again : (c : Cert Fraction) → RowsFit c → of_json (outline (cert_data c)) ≡ Some (cert_data c)
+unfolding serde_json_on_literals
+cert-again (cert.Optimal blocks energy limits) h = rw (blocks-again blocks, limits-again limits h, number_of-decimal 1 (omega arith)) refl
+cert-again (cert.Farkas energy limits) h = rw (limits-again limits h, number_of-decimal 1 (omega arith)) refl
+
+pub read-cert_text : (c : Cert Fraction) → RowsFit c → read (cert_text c) ≡ Some (cert_data c)
+unfolding cert_text
+read-cert_text c h = read-compact_text (cert_data c) (plain-cert c h) (flat-cert c) (cert-again c h)
+
+pub utf8-cert_text : (c : Cert Fraction) → RowsFit c → IsUtf8 (cert_text c)
+unfolding cert_text
+utf8-cert_text c h = utf8-data (cert_data c) (plain-cert c h)
+
+-- ---- the value is in the grammar
+fraction-back : (most : ℕ) (x : Fraction) → Fits most x → fraction_of most (parts_text x) ≡ Some x
+fraction-back most x h = fraction_of-read most (parts_text x) x (record { spelling = refl; fits = h })
+
+blocks-back : (xs : List Fraction) → All (Fits most_part) xs → each (fraction_in most_part) (items_of (map fraction_data xs)) ≡ Some xs
+unfolding each
+blocks-back [] h = refl
+blocks-back (x ∷ xs) h = rw (fraction-back most_part x (h 0 x (omega arith)), blocks-back xs (λ k d lt. h (suc k) d (omega (arith, lt)))) refl
+
+limit-back : (d : Dual Fraction) → DualFits d → limit_in most_part (limit_data d) ≡ Some d
+unfolding serde_json_on_literals limit_in
+limit-back d h = rw (lt-ltb _ _ h.row.branch, lt-ltb _ _ h.row.outage, fraction-back most_part d.up h.up, fraction-back most_part d.down h.down) refl
+
+limits-back : (ds : List (Dual Fraction)) → All DualFits ds → each (limit_in most_part) (items_of (map limit_data ds)) ≡ Some ds
+unfolding each
+limits-back [] h = refl
+limits-back (d ∷ ds) h = rw (limit-back d (h 0 d (omega arith)), limits-back ds (λ k x lt. h (suc k) x (omega (arith, lt)))) refl
+
+cert-back : (c : Cert Fraction) → CertFits c → cert_in most_part (cert_data c) ≡ Ok c
+unfolding serde_json_on_literals cert_in optimal_in farkas_in
+cert-back (cert.Optimal blocks energy limits) h =
+    rw (fraction-back most_part energy h.1, blocks-back blocks h.0, limits-back limits h.2, names-distinct limits h.3) refl
+cert-back (cert.Farkas energy limits) h =
+    rw (fraction-back most_part energy h.0, limits-back limits h.1, names-distinct limits h.2) refl
+
+rows-fit : (c : Cert Fraction) → CertFits c → RowsFit c
+rows-fit (cert.Optimal blocks energy limits) h k d lt = (h.2 k d lt).row
+rows-fit (cert.Farkas energy limits) h k d lt = (h.1 k d lt).row
+
+pub reads-back : (c : Cert Fraction) → CertFits c → cert_read (cert_text c) ≡ Ok c
+unfolding cert_read
+reads-back c h = rw (is_utf8-from_IsUtf8 (cert_text c) (utf8-cert_text c (rows-fit c h)), read-cert_text c (rows-fit c h)) (cert-back c h)
+
+-- ---- bytes that are no text, or no JSON
+pub json-fault : (bytes : List ℕ) → (IsUtf8 bytes → read bytes ≡ None) → cert_read bytes ≡ Err key.Json
+unfolding cert_read
+json-fault bytes h = by (is_utf8 bytes) refl
+  where
+    by : (b : Bool) → is_utf8 bytes ≡ b → cert_read bytes ≡ Err key.Json
+    by true e = rw (e, h (IsUtf8-from_is_utf8 bytes e)) refl
+    by false e = rw e refl
+
+-- the value that the bytes read as
+pub json-value : (bytes : List ℕ) (d : Data) → IsUtf8 bytes → read bytes ≡ Some d → cert_read bytes ≡ cert_in most_part d
+unfolding cert_read
+json-value bytes d text e = rw (is_utf8-from_IsUtf8 bytes text, e) refl
+
+-- ---- what is written of numbers of a type
+module _ {N : Type 0} (value : N → Fraction) (bound : ℕ) (small : bound ≤ most_part) (fits : (x : N) → (unsigned_abs (value x).num ≤ bound) × ((value x).den ≤ bound)) where
+  within : (x : N) → Fits most_part (value x)
+  within x = let h = fits x in record { num = omega (arith, h.0, small); den = omega (arith, h.1, small) }
+
+  blocks-fit : (xs : List N) → All (Fits most_part) (map value xs)
+  blocks-fit [] = All-nil (Fits most_part)
+  blocks-fit (x ∷ xs) = All-cons (Fits most_part) (value x) (map value xs) (within x) (blocks-fit xs)
+
+  limits-fit : (ds : List (Dual N)) → All (λ d. RowFits d.row) ds → All DualFits (map (dual_at value) ds)
+  limits-fit [] h = All-nil DualFits
+  limits-fit (d ∷ ds) h =
+      All-cons DualFits (dual_at value d) (map (dual_at value) ds) (record { row = h 0 d (omega arith); up = within d.up; down = within d.down })
+      (limits-fit ds (λ k x lt. h (suc k) x (omega (arith, lt))))
+
+  cert-fits : (c : Cert N) → All (λ d. RowFits d.row) (limits_of c) → RowsAreDistinct (cert_at value c) → CertFits (cert_at value c)
+  cert-fits (cert.Optimal blocks energy limits) h once = (blocks-fit blocks, within energy, limits-fit limits h, once)
+  cert-fits (cert.Farkas energy limits) h once = (within energy, limits-fit limits h, once)
+
+  pub written-back : (c : Cert N) (bytes : List ℕ) → All (λ d. RowFits d.row) (limits_of c) → bytes ≡ cert_text (cert_at value c) → RowsAreDistinct (cert_at value c) → cert_read bytes ≡ Ok (cert_at value c)
+  written-back c bytes h text once = ap cert_read text ∙ reads-back (cert_at value c) (cert-fits c h once)

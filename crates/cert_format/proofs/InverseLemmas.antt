@@ -1,0 +1,124 @@
+-- What is read fits.
+use Rattle.std.specs.Prelude.{◌≡◌, ℕ, ◌<◌, ◌^◌, List, [], ◌∷◌, Bool, true, false, codes, nat_lt, All, Option, Some, None, Result, Ok, Err, option_and_then, is_some, is_none, if◌then◌else◌}
+use Rattle.std.proofs.Common.{◌∙◌, sym, ap, refl, subst}
+use Rattle.std.proofs.lemmas.Bool.{ltb-true}
+use Rattle.std.proofs.lemmas.List.Elements.{All-cons, All-nil}
+use Rattle.std.proofs.lemmas.Option.{cond_some, option_and_then_some}
+use Rattle.fraction_theory.specs.Fraction.{Fraction}
+use Rattle.market_model.specs.declared.answered.Dual.{Dual}
+use Rattle.serde_json.specs.Data.{Data, Items, no_items, item}
+use Rattle.serde_json.specs.Find.{as_array, as_object, as_str, get}
+use Rattle.cert_format.specs.declared.certificate.Cert.{Cert}
+use Rattle.cert_format.specs.declared.certificate.Cert.TheVariants as cert
+use Rattle.cert_format.specs.declared.certificate.Key.{Key}
+use Rattle.cert_format.specs.declared.certificate.Key.TheVariants as key
+use Rattle.cert_format.specs.declared.reading.Kind.{Kind}
+use Rattle.cert_format.specs.declared.reading.Kind.TheVariants as kind
+use Rattle.cert_format.specs.Certificates.{CertFits, DualFits, Fits, NamesNoRowTwice, RowsAreDistinct, most_part}
+use Rattle.cert_format.specs.FractionTexts.{fraction_of}
+use Rattle.cert_format.specs.Grammar.{blocks_in, cert_in, cert_read, check, distinct, each, farkas_in, fraction_at, fraction_in, has_size, has_version, if_distinct, in_32, json_of, kind_in, limit_in, limits_in, need, number_at, of_kind, optimal_in}
+use Rattle.cert_format.proofs.FractionLemmas.{fraction_of-spells}
+use Rattle.cert_format.proofs.RowLemmas.{distinct-names}
+
+-- ---- parts that are there
+record Had {A B : Type 0} (o : Option A) (f : A → Result B Key) (y : B) : Type 0 where
+  value : A
+  is : o ≡ Some value
+  rest : f value ≡ Ok y
+
+needed : {A B : Type 0} (k : Key) (o : Option A) (f : A → Result B Key) (y : B) → need k o f ≡ Ok y → Had o f y
+needed k None f y h = cc
+needed k (Some x) f y h = record { value = x; is = refl; rest = h }
+
+checked : {B : Type 0} (k : Key) (b : Bool) (r : Result B Key) (y : B) → check k b r ≡ Ok y → r ≡ Ok y
+checked k true r y h = h
+checked k false r y h = cc
+
+ok_is : (x y : Cert Fraction) → ◌≡◌ {A = Result (Cert Fraction) Key} (Ok x) (Ok y) → x ≡ y
+ok_is x y h = cc
+
+-- ---- numbers
+fraction_in-fits : (most : ℕ) (d : Data) (x : Fraction) → fraction_in most d ≡ Some x → Fits most x
+fraction_in-fits most d x h = option_and_then_some (fraction_of most) (as_str d) x h (λ t e f. (fraction_of-spells most t x f).fits)
+
+fraction_at-fits : (most : ℕ) (name : List ℕ) (d : Data) (x : Fraction) → fraction_at most name d ≡ Some x → Fits most x
+fraction_at-fits most name d x h = option_and_then_some (fraction_in most) (get name d) x h (λ v e f. fraction_in-fits most v x f)
+
+in_32-fits : (o : Option ℕ) (n : ℕ) → in_32 o ≡ Some n → n < 2 ^ 32
+in_32-fits None n h = cc
+in_32-fits (Some m) n h = let p = cond_some (nat_lt m (2 ^ 32)) m n h in subst (λ k. k < 2 ^ 32) p.1 (ltb-true _ _ p.0)
+
+limit_in-fits : (d : Data) (x : Dual Fraction) → limit_in most_part d ≡ Some x → DualFits x
+unfolding limit_in
+limit_in-fits d x h =
+    option_and_then_some _ (in_32 (number_at (codes "branch") d)) x h (λ branch e1 h1.
+    option_and_then_some _ (in_32 (number_at (codes "outage") d)) x h1 (λ outage e2 h2.
+    option_and_then_some _ (fraction_at most_part (codes "up") d) x h2 (λ up e3 h3.
+    option_and_then_some _ (fraction_at most_part (codes "down") d) x h3 (λ down e4 h4.
+    subst DualFits (cond_some (has_size 4 d) (record { row = record { branch = branch; outage = outage }; up = up; down = down }) x h4).1 (record {
+      row = record { branch = in_32-fits (number_at (codes "branch") d) branch e1; outage = in_32-fits (number_at (codes "outage") d) outage e2 };
+      up = fraction_at-fits most_part (codes "up") d up e3;
+      down = fraction_at-fits most_part (codes "down") d down e4;
+    })))))
+
+-- ---- lists
+each-all : {A : Type 0} (P : A → Type 0) (read : Data → Option A) → ((d : Data) (x : A) → read d ≡ Some x → P x) → (ds : Items) (xs : List A) → each read ds ≡ Some xs → All P xs
+unfolding each
+each-all P read reads no_items [] h = All-nil P
+each-all P read reads no_items (x ∷ xs) h = cc
+each-all P read reads (item d ds) xs h =
+    option_and_then_some _ (read d) xs h (λ x e1 h1.
+    option_and_then_some _ (each read ds) xs h1 (λ ys e2 h2.
+    let is : x ∷ ys ≡ xs = cc in
+    subst (All P) is (All-cons P x ys (reads d x e1) (each-all P read reads ds ys e2))))
+
+blocks_in-fit : (d : Data) (xs : List Fraction) → blocks_in most_part d ≡ Some xs → All (Fits most_part) xs
+blocks_in-fit d xs h = option_and_then_some (each (fraction_in most_part)) (option_and_then as_array (get (codes "blocks") d)) xs h (λ ds e f. each-all (Fits most_part) (fraction_in most_part) (fraction_in-fits most_part) ds xs f)
+
+limits_in-fit : (d : Data) (xs : List (Dual Fraction)) → limits_in most_part d ≡ Some xs → All DualFits xs × NamesNoRowTwice xs
+limits_in-fit d xs h =
+    option_and_then_some if_distinct (option_and_then (each (limit_in most_part)) (option_and_then as_array (get (codes "limits") d))) xs h (λ ys e1 h1.
+    let p = cond_some (distinct ys) ys xs h1 in
+    option_and_then_some (each (limit_in most_part)) (option_and_then as_array (get (codes "limits") d)) ys e1 (λ ds e2 h2.
+    (subst (All DualFits) p.1 (each-all DualFits (limit_in most_part) limit_in-fits ds ys h2), subst NamesNoRowTwice p.1 (distinct-names ys p.0))))
+
+-- ---- certificates
+optimal_in-fits : (energy : Fraction) (d : Data) (c : Cert Fraction) → Fits most_part energy → optimal_in most_part energy d ≡ Ok c → CertFits c
+unfolding optimal_in
+optimal_in-fits energy d c fits h =
+    let blocks = needed key.Blocks (blocks_in most_part d) _ c h in
+    let limits = needed key.Limits (limits_in most_part d) _ c blocks.rest in
+    let is : cert.Optimal blocks.value energy limits.value ≡ c = ok_is _ c (checked key.Extra (has_size 5 d) (Ok (cert.Optimal blocks.value energy limits.value)) c limits.rest) in
+    let fit = limits_in-fit d limits.value limits.is in
+    subst CertFits is (blocks_in-fit d blocks.value blocks.is, fits, fit.0, fit.1)
+
+farkas_in-fits : (energy : Fraction) (d : Data) (c : Cert Fraction) → Fits most_part energy → farkas_in most_part energy d ≡ Ok c → CertFits c
+unfolding farkas_in
+farkas_in-fits energy d c fits h =
+    let limits = needed key.Limits (limits_in most_part d) _ c (checked key.Blocks (is_none (get (codes "blocks") d)) _ c h) in
+    let is : cert.Farkas energy limits.value ≡ c = ok_is _ c (checked key.Extra (has_size 4 d) (Ok (cert.Farkas energy limits.value)) c limits.rest) in
+    let fit = limits_in-fit d limits.value limits.is in
+    subst CertFits is (fits, fit.0, fit.1)
+
+of_kind-fits : (energy : Fraction) (d : Data) (k : Kind) (c : Cert Fraction) → Fits most_part energy → of_kind most_part energy d k ≡ Ok c → CertFits c
+of_kind-fits energy d kind.Optimal c fits h = optimal_in-fits energy d c fits h
+of_kind-fits energy d kind.Farkas c fits h = farkas_in-fits energy d c fits h
+
+cert_in-fits : (d : Data) (c : Cert Fraction) → cert_in most_part d ≡ Ok c → CertFits c
+unfolding cert_in
+cert_in-fits d c h =
+    let kind = needed key.Kind (kind_in d) _ c (checked key.Version (has_version d) _ c (checked key.Json (is_some (as_object d)) _ c h)) in
+    let energy = needed key.Energy (fraction_at most_part (codes "energy") d) _ c kind.rest in
+    of_kind-fits energy.value d kind.value c (fraction_at-fits most_part (codes "energy") d energy.value energy.is) energy.rest
+
+pub cert_read-fits : (bytes : List ℕ) (c : Cert Fraction) → cert_read bytes ≡ Ok c → CertFits c
+unfolding cert_read
+cert_read-fits bytes c h = let value = needed key.Json (json_of bytes) (cert_in most_part) c h in cert_in-fits value.value c value.rest
+
+-- so no row is named twice
+pub cert_read-distinct : (bytes : List ℕ) (c : Cert Fraction) → cert_read bytes ≡ Ok c → RowsAreDistinct c
+cert_read-distinct bytes c h = of_fits c (cert_read-fits bytes c h)
+  where
+    of_fits : (c : Cert Fraction) → CertFits c → RowsAreDistinct c
+    of_fits (cert.Optimal blocks energy limits) h = h.3
+    of_fits (cert.Farkas energy limits) h = h.2

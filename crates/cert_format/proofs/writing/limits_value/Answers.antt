@@ -1,0 +1,29 @@
+use Rattle.std.proofs.Common.{rules, arith, ◌≡◌, ◌<◌, ◌≤◌, ◌+◌, ◌∙◌, sym, ap, subst, map, take, length, get_or}
+use Rattle.serde_json.specs.Data.{array}
+use Rattle.serde_json.specs.View.{items_of, view}
+use Rattle.serde_json.proofs.Views.{view-Array}
+use Rattle.market_model.specs.Valued.{dual_at}
+use Rattle.std.proofs.lemmas.List.Elements.{All-more}
+use Rattle.cert_format.specs.Certificates.{RowFits}
+use Rattle.cert_format.specs.Written.{limit_data}
+use Rattle.cert_format.proofs.ListLemmas.{viewed-all, viewed-push, viewed-through}
+use Rattle.cert_format.proofs.writing.limits_value.Goals as goal
+
+pub loop-dual-preserved : goal.loop-dual-preserved
+loop-dual-preserved g c =
+    let slice = c.slice-dual-items.ensures in
+    let lt : c.loop-dual.dual-index < length c.args.limits.now = omega (arith, c.loop-dual-test.true, ap length slice) in
+    let at = subst (λ xs. c.dual-item.result ≡ get_or xs c.loop-dual.dual-index c.dual-item.result) slice c.dual-item.is in
+    let row : RowFits (get_or c.args.limits.now c.loop-dual.dual-index c.dual-item.result).row = rw (← at) c.in_ok-limit_value.ensures.row in
+    record {
+      values = viewed-push view (λ d. limit_data (dual_at g.N.Exact.value d)) c.args.limits.now c.loop-dual.values.items c.loop-dual.dual-index c.dual-item.result c.in_ok-limit_value.field-0 c.push.new.self.items lt at
+          c.loop-dual.invariant.values c.in_ok-limit_value.ensures.value c.in_ok-push.ensures.items;
+      rows = All-more (λ d. RowFits d.row) c.args.limits.now c.loop-dual.dual-index c.dual-item.result lt c.loop-dual.invariant.rows row;
+    }
+
+pub returns-clause-value : goal.returns-clause-value
+returns-clause-value g c =
+    let slice = c.slice-dual-items.ensures in
+    let le : length c.args.limits.now ≤ c.loop-dual.dual-index = omega (arith, c.loop-dual-test.false, ap length slice) in
+    view-Array c.loop-dual.values ∙ ap (λ ds. array (items_of ds)) (viewed-through view limit_data (dual_at g.N.Exact.value) c.args.limits.now c.loop-dual.values.items
+    (viewed-all view (λ d. limit_data (dual_at g.N.Exact.value d)) c.args.limits.now c.loop-dual.values.items c.loop-dual.dual-index le c.loop-dual.invariant.values))
