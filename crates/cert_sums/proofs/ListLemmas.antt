@@ -1,6 +1,6 @@
 -- Sums over lists, element by element.
 use Rattle.std.specs.Prelude.{◌≡◌, ℕ, ◌+◌, ◌<◌, ◌≤◌, List, [], ◌∷◌, ◌++◌, map, length, take, replicate, refl}
-use Rattle.std.proofs.Common.{zero, suc, arith, ap, ap₂, sym, ◌∙◌, get_or, drop}
+use Rattle.std.proofs.Common.{zero, suc, ap, ap₂, sym, ◌∙◌, get_or, drop}
 use Rattle.std.proofs.lemmas.List.{map-append, take_all, take-append-drop, drop_more}
 use Rattle.fraction_theory.specs.Fraction.{Fraction, ◌+ℚ◌}
 use Rattle.fraction_theory.specs.Sums.{sum_by, Term}

@@ -1,6 +1,6 @@
 -- The named rows of duals, and the congestion at a bus row by row.
 use Rattle.std.specs.Prelude.{◌≡◌, ◌⊎◌, ℕ, ◌+◌, ◌<◌, ◌≤◌, ◌^◌, ℤ, pos, false, List, [], ◌∷◌, ◌++◌, map, length, take, Contains, refl}
-use Rattle.std.proofs.Common.{inl, inr, arith, ap, ap₂, sym, subst, ◌∙◌, get_or}
+use Rattle.std.proofs.Common.{inl, inr, arith, ap, ap₂, sym, ◌∙◌, get_or}
 use Rattle.std.proofs.lemmas.List.{get_or-map, length-map, take_all}
 use Rattle.fraction_theory.specs.Fraction.{Fraction, whole, over, neg_ℚ, ◌+ℚ◌, ◌-ℚ◌, ◌*ℚ◌}
 use Rattle.fraction_theory.specs.Sums.{sum_by, Term, Plain, Product, term_value, total}
@@ -22,7 +22,7 @@ use Rattle.limit_rows.proofs.DualLemmas.{up_unnamed, down_unnamed, sum_named, te
 use Rattle.cert_sums.specs.declared.pricing.NamedRow.{NamedRow}
 use Rattle.cert_sums.specs.Named.{PricedRow, priced_at, priced_by, AreNamed}
 use Rattle.cert_sums.specs.Pairs.{price_terms}
-use Rattle.cert_sums.specs.Refusals.{IsShareRefusal, IsPullRefusal, IsCongestionRefusal, IsPricesRefusal}
+use Rattle.cert_sums.specs.Refusals.{IsPullRefusal, IsCongestionRefusal}
 
 -- the row that duals name at a place, with its prices
 pub record IsNamedAt (m : Parts) (d : Duals Fraction) (k : ℕ) (e : PricedRow) : Type 0 where

@@ -16,7 +16,7 @@ use Rattle.market_model.specs.Optimality.{named_rows}
 use Rattle.market_model.specs.Stairs.{stair_in}
 use Rattle.limit_rows.proofs.TestMarkets.{one_is_market}
 use Rattle.cert_sums.specs.declared.pricing.NamedRow.{NamedRow}
-use Rattle.cert_sums.specs.Named.{PricedRow, priced_at, priced_by, AreNamed}
+use Rattle.cert_sums.specs.Named.{priced_at, priced_by, AreNamed}
 use Rattle.cert_sums.specs.Worked.{block_of, bus_of, line_of, unit_of, worked}
 
 abbrev blocks : List Block
@@ -96,4 +96,11 @@ upper_named value m energy e named is row listed = (
       (ap (map (priced_at value)) listed
       ∙ ap (λ r. record { row = record { line = r.line; cause = Rattle.limit_rows.specs.Groups.cause_of r.lost }; up = value e.up; down = value e.down } ∷ []) row
       ∙ one_named energy (value e.up) (value e.down)),
+)
+
+-- the same of a market that is this one
+pub named_there : {N : Type 0} (value : N → Fraction) (m : Parts) (xs ys : List (NamedRow N)) → m ≡ worked → xs ≡ ys → (d : Duals Fraction) × AreNamed value worked d ys → (d : Duals Fraction) × AreNamed value m d xs
+named_there value m xs ys is same (d, h) = (
+  d,
+  subst (λ (p : Parts). map (priced_at value) xs ≡ map (priced_by p d) (named_rows p d)) (sym is) (ap (map (priced_at value)) same ∙ h),
 )

@@ -1,7 +1,10 @@
 //! Sums worked by hand: two units that sell 50 and 10 to a load of 60 over a triangle of branches.
 
-ghost use Rattle.std.specs.Prelude.{◌≡◌, ◌∷◌, [], true, length, pos, negsuc, None, IfOk};
+ghost use Rattle.std.specs.Prelude.{◌≡◌, ◌∷◌, [], length, pos, None, IfOk};
+ghost use Rattle.fraction_theory.specs.Fraction.{Fraction};
+ghost use Rattle.market_model.specs.declared.answered.Duals.{Duals};
 ghost use Rattle.market_model.specs.declared.participants.Side.TheVariants as side;
+ghost use Rattle.cert_sums.specs.Named.{AreNamed};
 ghost use Rattle.cert_sums.specs.Worked.{block_of, bus_of, factor_of, line_of, unit_of, worked};
 
 use crate::{NamedRow, balance, bus_price, farkas_bound, injections, line_flows, row_flow};
@@ -124,7 +127,9 @@ fn outages(alloc: Global) -> Result<List<u32>, Memory>
 }
 
 fn triangle(alloc: Global) -> Result<Market, Memory>
-    ensures { IfOk result (λ market. market ≡ worked) }
+    ensures is { IfOk result (λ market. market ≡ worked) }
+    ensures blocks { IfOk result (λ market. length market.blocks ≡ 2) }
+    ensures lines { IfOk result (λ market. length market.lines ≡ 3) }
 {
     let parts = Parts {
         buses: buses(alloc)?,
@@ -146,12 +151,28 @@ fn is<N: Exact>(value: N, units: i32) -> bool {
     value.order(number(units)) == Ordering::Equal
 }
 
+/// Whether these are the numbers.
+fn are<N: Exact>(numbers: &[N], expected: &[i32]) -> bool {
+    if numbers.len() != expected.len() {
+        return false;
+    }
+    for (at, number) in numbers.iter().enumerate() {
+        if !is(*number, expected[at]) {
+            return false;
+        }
+    }
+    true
+}
+
 /// Whether a dispatch of 50 and 10 has its injections and flows, and branch 2 the flow after the loss of branch 1.
 fn adds_up<N: Exact>(alloc: Global, market: &Market) -> Option<bool>
-    requires { market.now ≡ worked }
+    requires blocks { length market.now.blocks ≡ 2 }
+    requires lines { length market.now.lines ≡ 3 }
 {
-    let dispatch = vec![in alloc; number::<N>(50), number(10)].ok()?;
-    let mws = injections(alloc, market, &dispatch).ok()?;
+    let mut dispatch: List<N> = List::new(alloc);
+    dispatch.push(number(50)).ok()?;
+    dispatch.push(number(10)).ok()?;
+    let mws = injections(alloc, market, dispatch.slice()).ok()?;
     let all = balance(market, &mws).ok()?;
     let flows = line_flows(alloc, market, &mws).ok()?;
     let after = LimitRow {
@@ -159,56 +180,68 @@ fn adds_up<N: Exact>(alloc: Global, market: &Market) -> Option<bool>
         lost: Some(0),
     };
     let lost = row_flow(market, &flows, after).ok()?;
-    Some(
-        is(mws[0], 50)
-            && is(mws[1], 10)
-            && is(mws[2], -60)
-            && is(all, 0)
-            && is(flows[0], 10)
-            && is(flows[1], 40)
-            && is(lost, 50),
-    )
+    Some(are(&mws, &[50, 10, -60]) && is(all, 0) && are(&flows, &[10, 40, 0]) && is(lost, 50))
 }
 
-/// Branch 2 with a price of its upper side.
-fn upper<N: Exact>(up: N) -> NamedRow<N>
-    ensures row { result.row ≡ record { line = 1; lost = None } }
-    ensures up { N.value result.up ≡ N.value up }
+/// Branch 2 alone, with a price of its upper side.
+fn upper<N: Exact>(alloc: Global, up: i32) -> Result<List<NamedRow<N>>, Memory>
+    ensures { IfOk result (λ list. (d : Duals Fraction) × AreNamed N.value worked d list) }
 {
-    NamedRow {
-        row: LimitRow {
-            line: 1,
-            lost: None,
-        },
-        up,
-        down: number(0),
+    let row = LimitRow {
+        line: 1,
+        lost: None,
+    };
+    let up = number(up);
+    let down = number(0);
+    let mut list = List::new(alloc);
+    list.push(NamedRow { row, up, down })?;
+    Ok(list)
+}
+
+/// Whether with energy at 10 these are the prices by bus.
+fn are_prices<N: Exact>(market: &Market, named: &[NamedRow<N>], expected: &[i32]) -> bool
+    requires named { (d : Duals Fraction) × AreNamed N.value market.now d named.now }
+    requires expected { length expected.now ≡ length market.now.buses }
+{
+    for (bus, price) in expected.iter().enumerate() {
+        match bus_price(market, number(10), named, bus) {
+            Ok(found) => {
+                if !is(found, *price) {
+                    return false;
+                }
+            }
+            Err(_) => return false,
+        }
     }
+    true
 }
 
 /// Whether with energy at 10 and branch 2 at 40 buses have the prices 10, 30 and 40.
-fn prices<N: Exact>(alloc: Global, market: &Market) -> Option<bool>
+fn prices<N: Exact>(alloc: Global, market: &Market) -> Result<bool, Memory>
     requires { market.now ≡ worked }
 {
-    let named = vec![in alloc; upper(number::<N>(40))].ok()?;
-    let first = bus_price(market, number(10), &named, 0).ok()?;
-    let second = bus_price(market, number(10), &named, 1).ok()?;
-    let third = bus_price(market, number(10), &named, 2).ok()?;
-    Some(is(first, 10) && is(second, 30) && is(third, 40))
+    let named: List<NamedRow<N>> = upper(alloc, 40)?;
+    Ok(are_prices(market, named.slice(), &[10, 30, 40]))
 }
 
 /// Whether with energy at -1 and branch 2 at 2 the bound is -10.
-fn bounds<N: Exact>(alloc: Global, market: &Market) -> Option<bool>
+fn bounds<N: Exact>(alloc: Global, market: &Market) -> Result<bool, Memory>
     requires { market.now ≡ worked }
 {
-    let named = vec![in alloc; upper(number::<N>(2))].ok()?;
-    let bound = farkas_bound(alloc, market, number(-1), &named).ok()?;
-    Some(is(bound, -10))
+    let named: List<NamedRow<N>> = upper(alloc, 2)?;
+    match farkas_bound(alloc, market, number(-1), named.slice()) {
+        Ok(bound) => Ok(is(bound, -10)),
+        Err(_) => Ok(false),
+    }
 }
 
 /// Whether three such numbers are refused where they are added up.
 fn refuses<N: Exact>(alloc: Global, market: &Market, large: N) -> Option<bool> {
-    let mws = vec![in alloc; large, large, large].ok()?;
-    match balance(market, &mws) {
+    let mut mws = List::new(alloc);
+    mws.push(large).ok()?;
+    mws.push(large).ok()?;
+    mws.push(large).ok()?;
+    match balance(market, mws.slice()) {
         Err(passed) => {
             Some(passed.op == Op::Plus && passed.right.order(large) == Ordering::Equal)
         }
@@ -225,10 +258,10 @@ fn adds_up_sums(rt: HostRuntime) -> Result<(), Fail> {
     let market = triangle(rt.alloc())?;
     assert!(rt; adds_up::<Frac>(rt.alloc(), &market) == Some(true));
     assert!(rt; adds_up::<Frac63>(rt.alloc(), &market) == Some(true));
-    assert!(rt; prices::<Frac>(rt.alloc(), &market) == Some(true));
-    assert!(rt; prices::<Frac63>(rt.alloc(), &market) == Some(true));
-    assert!(rt; bounds::<Frac>(rt.alloc(), &market) == Some(true));
-    assert!(rt; bounds::<Frac63>(rt.alloc(), &market) == Some(true));
+    assert!(rt; prices::<Frac>(rt.alloc(), &market)?);
+    assert!(rt; prices::<Frac63>(rt.alloc(), &market)?);
+    assert!(rt; bounds::<Frac>(rt.alloc(), &market)?);
+    assert!(rt; bounds::<Frac63>(rt.alloc(), &market)?);
     Ok(())
 }
 

@@ -1,15 +1,13 @@
-use Rattle.std.proofs.Common.{rules, Err, refl, ◌≡◌, ◌∙◌, ap, ap₂, subst, length, map, List}
-use Rattle.fraction_theory.specs.Fraction.{Fraction, ◌*ℚ◌}
-use Rattle.exact_fraction.specs.declared.Passed.{Passed}
+use Rattle.std.proofs.Common.{rules, Err, refl, ◌≡◌, ◌∙◌, ap, ap₂, subst, length, map}
+use Rattle.fraction_theory.specs.Fraction.{◌*ℚ◌}
 use Rattle.exact_fraction.specs.declared.Op.TheVariants.{Times}
-use Rattle.market_model.specs.declared.answered.Duals.{Duals}
-use Rattle.market_model.specs.Dispatch.{Dispatch, balance, empty, injection}
+use Rattle.market_model.specs.Dispatch.{Dispatch, empty, injection}
 use Rattle.market_model.specs.Valued.{passed_at}
 use Rattle.market_model.proofs.SumSteps.{refusal}
 use Rattle.cert_sums.specs.declared.stops.VerifyStop.TheVariants as why
 use Rattle.cert_sums.specs.Pairs.{IsFarkasPair}
 use Rattle.cert_sums.specs.Refusals.{IsInjectionRefusal, IsLineRefusal}
-use Rattle.cert_sums.specs.Results.{dispatch_of, AreFlows, AreInjections}
+use Rattle.cert_sums.specs.Results.{dispatch_of, AreInjections}
 use Rattle.cert_sums.proofs.BoundLemmas.{nothing_is, stopped_weaker, injection_pair, line_pair, balance_pair, energy_refused}
 use Rattle.cert_sums.proofs.bounding.farkas_bound.Goals as goal
 

@@ -1,4 +1,4 @@
-use Rattle.std.proofs.Common.{rules, Err, ◌≡◌, ◌∙◌, ◌<◌, length, arith}
+use Rattle.std.proofs.Common.{rules, Err, ◌≡◌, ◌∙◌, arith}
 use Rattle.market_model.specs.Dispatch.{empty}
 use Rattle.market_model.specs.Valued.{passed_at}
 use Rattle.limit_rows.proofs.PlaceLemmas.{at_places}

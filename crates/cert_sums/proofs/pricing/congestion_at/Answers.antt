@@ -1,4 +1,4 @@
-use Rattle.std.proofs.Common.{rules, Err, ◌≡◌, ◌∙◌, ◌<◌, ℤ, pos, ap, length, arith, w64}
+use Rattle.std.proofs.Common.{rules, Err, ◌≡◌, ◌∙◌, ℤ, pos, ap, arith, w64}
 use Rattle.std.proofs.lemmas.Int.{to_z-of_z}
 use mir.Val.{to_z, of_z}
 use Rattle.fraction_theory.specs.Fraction.{over}
