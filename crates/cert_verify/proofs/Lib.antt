@@ -1,2 +1,7 @@
+pub mod FindLemmas
+pub mod LawLemmas
+pub mod NamingLemmas
+pub mod RowLemmas
 pub mod TestLemmas
+pub mod TestMarkets
 pub mod VerdictLemmas

@@ -2,19 +2,22 @@
 use Rattle.std.specs.Prelude.{◌≡◌, ◌≢◌, ◌⊎◌, ◌||◌, ◌&&◌, ◌==◌, ℕ, ◌+◌, ◌<◌, ℤ, pos, ◌*ℤ◌, ◌<ℤ◌, int_lt, Bool, true, false, not, cond, List, [], ◌∷◌, ◌++◌, length, map, All, AllPairs, Contains, Option, Some, None, option_map, refl}
 use Rattle.std.specs.List.{find, list_any, slice_get}
 use Rattle.std.specs.Option.{option_or}
-use Rattle.std.proofs.Common.{zero, suc, arith, inl, inr, ap, sym, subst, ◌∙◌, get_or, take, drop}
+use Rattle.std.specs.Ordering.{MatchOrdering}
+use Rattle.std.proofs.Common.{zero, suc, arith, inl, inr, ap, sym, subst, ◌∙◌, get_or, Ordering, Less, Equal, Greater}
 use Rattle.std.proofs.lemmas.Bool.{true≢false, or_parts, or_cases, and_parts, and_cases, eq-eqb, eqb-true}
 use Rattle.std.proofs.lemmas.Int.{ints}
 use Rattle.std.proofs.lemmas.List.FromFn.{length-range_with_len, get_or-range_with_len}
 use Rattle.std.proofs.lemmas.List.Folds.{find-append}
-use Rattle.fraction_theory.specs.Fraction.{Fraction}
+use Rattle.std.proofs.lemmas.List.{get_or-map}
+use Rattle.fraction_theory.specs.Fraction.{Fraction, whole}
+use Rattle.market_model.specs.declared.participants.Side.{Side}
 use Rattle.fraction_theory.specs.Order.{◌≤ℚ◌, ◌<ℚ◌}
 use Rattle.fraction_theory.proofs.ListSums.{Contains-head, Contains-cons, Contains-cases}
-use Rattle.fraction_theory.proofs.OrderLaws.{<ℚ-not-≤ℚ, ≤ℚ-or-<ℚ, ≤ℚ_antisym, ≤ℚ_of_same}
+use Rattle.fraction_theory.proofs.OrderLaws.{<ℚ-≤ℚ, <ℚ-not-≤ℚ, ≤ℚ-or-<ℚ, ≤ℚ_antisym, ≤ℚ_of_same}
 use Rattle.market_model.specs.Dispatch.{places}
 use Rattle.market_model.proofs.ChangeLemmas.{same_default}
 use Rattle.cert_verify.specs.declared.verdicts.Reason.{Reason}
-use Rattle.cert_verify.specs.Reasons.{is_below, differ, of_first, where_so, first_of, verdict_of}
+use Rattle.cert_verify.specs.Reasons.{breaks_support, is_below, is_outside, differ, of_first, where_so, first_of, verdict_of}
 use Rattle.cert_verify.specs.declared.verdicts.Verdict.TheVariants.{Yes}
 
 -- ---- numbers
@@ -52,6 +55,19 @@ same_by x y e = let parts = or_parts (is_below x y) (is_below y x) e in ≤ℚ_a
 pub same_not : (x y : Fraction) → x ≡ y → differ x y ≡ false
 same_not x y e = Prim.rw (below_not x y (≤ℚ_of_same y x (sym e)), below_not y x (≤ℚ_of_same x y e)) refl
 
+-- by an order
+pub not_less : (o : Ordering) (x y : Fraction) → MatchOrdering o (x <ℚ y) (x ≡ y) (y <ℚ x) → (o ≡ Equal) ⊎ (o ≡ Greater) → y ≤ℚ x
+not_less Greater x y h is = <ℚ-≤ℚ y x h
+not_less Equal x y h is = ≤ℚ_of_same y x (sym h)
+not_less Less x y h (inl e) = absurd Prim.cc
+not_less Less x y h (inr e) = absurd Prim.cc
+
+pub not_equal : (o : Ordering) (x y : Fraction) → MatchOrdering o (x <ℚ y) (x ≡ y) (y <ℚ x) → (o ≡ Less) ⊎ (o ≡ Greater) → differ x y ≡ true
+not_equal Less x y h is = Prim.rw (below_of x y h) refl
+not_equal Greater x y h is = Prim.rw (below_not x y (<ℚ-≤ℚ y x h), below_of y x h) refl
+not_equal Equal x y h (inl e) = absurd Prim.cc
+not_equal Equal x y h (inr e) = absurd Prim.cc
+
 -- ---- two tests at once
 pub neither : (a b : Bool) → a ≡ false → b ≡ false → (a || b) ≡ false
 neither a b e f = Prim.rw (e, f) refl
@@ -81,20 +97,20 @@ any_true {X} p (x ∷ xs) e = by (any_true p xs) (or_cases (p x) (list_any p xs)
     by more (inl h) = (x, Contains-head x xs, h)
     by more (inr h) = let r = more h in (r.0, Contains-cons x xs r.0 r.1, r.2)
 
+pub any_false : {X : Type 0} (p : X → Bool) (xs : List X) → list_any p xs ≡ false → (x : X) → Contains xs x → p x ≡ false
+any_false p [] e x (k, lt, at) = absurd (Prim.omega (arith, lt))
+any_false p (y ∷ ys) e x c = by (λ f d. any_false p ys f x d) (Contains-cases y ys x c)
+  where
+    by : (list_any p ys ≡ false → Contains ys x → p x ≡ false) → (y ≡ x) ⊎ Contains ys x → p x ≡ false
+    by more (inl f) = subst (λ z. p z ≡ false) f (or_parts (p y) (list_any p ys) e).0
+    by more (inr d) = more (or_parts (p y) (list_any p ys) e).1 d
+
 pub any_of : {X : Type 0} (p : X → Bool) (xs : List X) (x : X) → Contains xs x → p x ≡ true → list_any p xs ≡ true
 any_of p xs x c e = by (list_any p xs) refl
   where
     by : (b : Bool) → list_any p xs ≡ b → b ≡ true
     by true f = refl
     by false f = absurd (true≢false (sym e ∙ any_false p xs f x c))
-
-pub any_false : {X : Type 0} (p : X → Bool) (xs : List X) → list_any p xs ≡ false → (x : X) → Contains xs x → p x ≡ false
-any_false p [] e x (k, lt, at) = absurd (Prim.omega (arith, lt))
-any_false p (y ∷ ys) e x c = by (Contains-cases y ys x c)
-  where
-    by : (y ≡ x) ⊎ Contains ys x → p x ≡ false
-    by (inl f) = subst (λ z. p z ≡ false) f (or_parts (p y) (list_any p ys) e).0
-    by (inr d) = any_false p ys (or_parts (p y) (list_any p ys) e).1 x d
 
 pub any_none : {X : Type 0} (p : X → Bool) (xs : List X) → ((x : X) → Contains xs x → p x ≡ false) → list_any p xs ≡ false
 any_none p [] h = refl
@@ -115,12 +131,12 @@ from_places n j (k, lt, e) =
 -- ---- the first that a test finds
 pub find_none : {X : Type 0} (p : X → Bool) (xs : List X) → find p xs ≡ None → (x : X) → Contains xs x → p x ≡ false
 find_none p [] e x (k, lt, at) = absurd (Prim.omega (arith, lt))
-find_none {X} p (y ∷ ys) e x c = by (p y) refl e (Contains-cases y ys x c)
+find_none {X} p (y ∷ ys) e x c = by (p y) refl e (λ f d. find_none p ys f x d) (Contains-cases y ys x c)
   where
-    by : (b : Bool) → p y ≡ b → cond b (Some y) (find p ys) ≡ None → (y ≡ x) ⊎ Contains ys x → p x ≡ false
-    by true t f d = absurd Prim.cc
-    by false t f (inl g) = subst (λ z. p z ≡ false) g t
-    by false t f (inr d) = find_none p ys f x d
+    by : (b : Bool) → p y ≡ b → cond b (Some y) (find p ys) ≡ None → (find p ys ≡ None → Contains ys x → p x ≡ false) → (y ≡ x) ⊎ Contains ys x → p x ≡ false
+    by true t f more d = absurd Prim.cc
+    by false t f more (inl g) = subst (λ z. p z ≡ false) g t
+    by false t f more (inr d) = more f d
 
 pub none_found : {X : Type 0} (p : X → Bool) (xs : List X) → ((x : X) → Contains xs x → p x ≡ false) → find p xs ≡ None
 none_found p [] h = refl
@@ -164,3 +180,21 @@ yes_none (Some r) e = absurd Prim.cc
 
 pub none_yes : (o : Option Reason) → o ≡ None → verdict_of o ≡ Yes
 none_yes o e = Prim.rw e refl
+
+-- ---- blocks
+-- a number that was read of a list
+pub number_read : {N : Type 0} (value : N → Fraction) (xs : List N) (k : ℕ) (x : N) → k < length xs → x ≡ get_or xs k x → value x ≡ get_or (map value xs) k (whole (pos 0))
+number_read value xs k x lt at = ap value at ∙ sym (get_or-map value xs k x (whole (pos 0)) lt)
+
+pub price_read : {N : Type 0} (value : N → Fraction) (f : ℕ → Fraction) (xs : List N) (n k : ℕ) (x : N) → map value xs ≡ map f (places n) → k < n → k < length xs → x ≡ get_or xs k x → value x ≡ f k
+price_read value f xs n k x all inside lt at =
+    let from_0 : 0 + k ≡ k = Prim.omega arith in
+    number_read value xs k x lt at ∙ ap (λ (ys : List Fraction). get_or ys k (whole (pos 0))) all
+    ∙ get_or-map f (places n) k k (whole (pos 0)) (Prim.omega (arith, inside, length-range_with_len 0 n)) ∙ ap f (get_or-range_with_len 0 n k k inside ∙ from_0)
+
+pub outside_same : (y y' q q' : Fraction) → y ≡ y' → q ≡ q' → is_outside y q ≡ is_outside y' q'
+outside_same y y' q q' e f = ap (λ z. is_outside z q) e ∙ ap (is_outside y') f
+
+pub support_same : (s s' : Side) (p p' w w' q q' y y' : Fraction) → s ≡ s' → p ≡ p' → w ≡ w' → q ≡ q' → y ≡ y' → breaks_support s p w q y ≡ breaks_support s' p' w' q' y'
+support_same s s' p p' w w' q q' y y' a b c d e =
+    ap (λ z. breaks_support z p w q y) a ∙ ap (λ z. breaks_support s' z w q y) b ∙ ap (λ z. breaks_support s' p' z q y) c ∙ ap (λ z. breaks_support s' p' w' z y) d ∙ ap (breaks_support s' p' w' q') e

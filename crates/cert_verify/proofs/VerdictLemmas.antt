@@ -1,5 +1,5 @@
 -- A certificate has no reason against it exactly where it is true of the market.
-use Rattle.std.specs.Prelude.{◌≡◌, ◌≢◌, ◌⊎◌, ◌↔◌, ◌==◌, ◌&&◌, ◌<◌, ℕ, Bool, true, false, not, List, [], ◌∷◌, length, All, AllPairs, Contains, Option, None, if◌then◌else◌, refl}
+use Rattle.std.specs.Prelude.{◌≡◌, ◌≢◌, ◌⊎◌, ◌↔◌, ◌==◌, ◌&&◌, ◌<◌, ◌+◌, ℕ, Bool, true, false, not, List, [], ◌∷◌, length, All, AllPairs, Contains, Option, None, if◌then◌else◌, refl}
 use Rattle.std.specs.List.{list_any}
 use Rattle.std.proofs.Common.{suc, arith, inl, inr, ap, sym, subst, ◌∙◌, get_or}
 use Rattle.std.proofs.lemmas.Bool.{or_parts, eq-eqb, eqb-true}
@@ -17,7 +17,7 @@ use Rattle.market_model.specs.declared.participants.Side.TheVariants.{Sell, Buy}
 use Rattle.market_model.specs.Dispatch.{Dispatch, zero, places, block_at, accepted, quantity, balance}
 use Rattle.market_model.specs.Infeasibility.{ShowsInfeasible, farkas_bound}
 use Rattle.market_model.specs.LimitRows.{Row, rows, row_id, limit, flow}
-use Rattle.market_model.specs.Optimality.{BlockSupported, Feasible, Gains, IsDispatch, Loses, RowSupported, Supports, Within, same_id, up_in, down_in, up_of, down_of, price, unit_price}
+use Rattle.market_model.specs.Optimality.{BlockSupported, Feasible, Gains, Loses, RowSupported, Supports, Within, same_id, up_in, down_in, up_of, down_of, price, unit_price}
 use Rattle.limit_rows.proofs.PlaceLemmas.{same_name}
 use Rattle.cert_verify.specs.declared.verdicts.Reason.TheVariants as reason
 use Rattle.cert_verify.specs.Certificates.{IsInfeasible, IsOptimum, NamesRows}
@@ -31,7 +31,7 @@ own_id a = Prim.rw (eq-eqb a.branch a.branch refl, eq-eqb a.outage a.outage refl
 pub named : (a b : RowId) → a ≡ b → same_id a b ≡ true
 named a b e = subst (λ (c : RowId). same_id a c ≡ true) e (own_id a)
 
-other_id : (a b : RowId) → a ≢ b → same_id a b ≡ false
+pub other_id : (a b : RowId) → a ≢ b → same_id a b ≡ false
 other_id a b h = by (same_id a b) refl
   where
     by : (t : Bool) → same_id a b ≡ t → t ≡ false
@@ -69,7 +69,7 @@ Apart ds = AllPairs (λ a b. a.row ≢ b.row) ds
 -- where no row is named twice, each dual has the prices of its name
 own_prices : (ds : List (Dual Fraction)) → Apart ds → (e : Dual Fraction) → Contains ds e → (up_in ds e.row ≡ e.up) × (down_in ds e.row ≡ e.down)
 own_prices [] apart e (k, lt, at) = absurd (Prim.omega (arith, lt))
-own_prices (d ∷ ds) apart e c = by (Contains-cases d ds e c)
+own_prices (d ∷ ds) apart e c = by (λ r h. own_prices ds r e h) (Contains-cases d ds e c)
   where
     rest : Apart ds
     rest = λ i j f p q. apart (suc i) (suc j) f (Prim.omega (arith, p)) (Prim.omega (arith, q))
@@ -77,14 +77,14 @@ own_prices (d ∷ ds) apart e c = by (Contains-cases d ds e c)
     other : Contains ds e → same_id d.row e.row ≡ false
     other (k, lt, at) = other_id d.row e.row (λ same. apart 0 (suc k) e (Prim.omega arith) (Prim.omega (arith, lt)) (same ∙ sym (ap (λ (f : Dual Fraction). f.row) at)))
 
-    by : (d ≡ e) ⊎ Contains ds e → (up_in (d ∷ ds) e.row ≡ e.up) × (down_in (d ∷ ds) e.row ≡ e.down)
-    by (inl f) = let own = named d.row e.row (ap (λ (g : Dual Fraction). g.row) f) in (
+    by : (Apart ds → Contains ds e → (up_in ds e.row ≡ e.up) × (down_in ds e.row ≡ e.down)) → (d ≡ e) ⊎ Contains ds e → (up_in (d ∷ ds) e.row ≡ e.up) × (down_in (d ∷ ds) e.row ≡ e.down)
+    by more (inl f) = let own = named d.row e.row (ap (λ (g : Dual Fraction). g.row) f) in (
       ap (λ (b : Bool). if b then d.up else up_in ds e.row) own ∙ ap (λ (g : Dual Fraction). g.up) f,
       ap (λ (b : Bool). if b then d.down else down_in ds e.row) own ∙ ap (λ (g : Dual Fraction). g.down) f,
     )
-    by (inr h) = let more = own_prices ds rest e h in (
-      ap (λ (b : Bool). if b then d.up else up_in ds e.row) (other h) ∙ more.0,
-      ap (λ (b : Bool). if b then d.down else down_in ds e.row) (other h) ∙ more.1,
+    by more (inr h) = let r = more rest h in (
+      ap (λ (b : Bool). if b then d.up else up_in ds e.row) (other h) ∙ r.0,
+      ap (λ (b : Bool). if b then d.down else down_in ds e.row) (other h) ∙ r.1,
     )
 
 -- ---- blocks
@@ -208,13 +208,31 @@ module _ (m : Parts) (x : Dispatch) where
 
   inside_to : block_reason m x ≡ None → (j : ℕ) → j < length m.blocks → (zero ≤ℚ accepted x j) × (accepted x j ≤ℚ quantity m j)
   inside_to h j lt =
-      let parts = or_parts (is_below (accepted x j) zero) (is_below (quantity m j) (accepted x j)) (none_of (λ j. reason.Block (suc j)) (is_beyond m x) (places (length m.blocks)) h j (in_places (length m.blocks) j lt)) in
+      let parts = or_parts (is_below (accepted x j) zero) (is_below (quantity m j) (accepted x j)) (none_of (λ j. reason.Block (j + 1)) (is_beyond m x) (places (length m.blocks)) h j (in_places (length m.blocks) j lt)) in
       (not_below (accepted x j) zero parts.0, not_below (quantity m j) (accepted x j) parts.1)
 
   inside_from : ((j : ℕ) → j < length m.blocks → (zero ≤ℚ accepted x j) × (accepted x j ≤ℚ quantity m j)) → block_reason m x ≡ None
   inside_from h =
-      of_none (λ j. reason.Block (suc j)) (is_beyond m x) (places (length m.blocks))
+      of_none (λ j. reason.Block (j + 1)) (is_beyond m x) (places (length m.blocks))
       (λ j c. let w = h j (from_places (length m.blocks) j c) in neither (is_below (accepted x j) zero) (is_below (quantity m j) (accepted x j)) (below_not (accepted x j) zero w.0) (below_not (quantity m j) (accepted x j) w.1))
+
+-- ---- the duals of rows of the market
+module _ (m : Parts) (d : Duals Fraction) where
+  -- the prices of a dual of a row of the market
+  prices_of : Apart d.limits → NamesRows m d.limits → (e : Dual Fraction) → Contains d.limits e → (r : Row) × Contains (rows m) r × (up_of m d r ≡ e.up) × (down_of m d r ≡ e.down)
+  prices_of apart names e c = by (All-contains (λ e. (r : Row) × Contains (rows m) r × (row_id m r ≡ e.row)) d.limits e names c)
+    where
+      own : (up_in d.limits e.row ≡ e.up) × (down_in d.limits e.row ≡ e.down)
+      own = own_prices d.limits apart e c
+
+      by : (r : Row) × Contains (rows m) r × (row_id m r ≡ e.row) → (r : Row) × Contains (rows m) r × (up_of m d r ≡ e.up) × (down_of m d r ≡ e.down)
+      by (r, k, same) = (r, k, ap (up_in d.limits) same ∙ own.0, ap (down_in d.limits) same ∙ own.1)
+
+  signs_of : Apart d.limits → NamesRows m d.limits → ((r : Row) → Contains (rows m) r → zero ≤ℚ up_of m d r) → ((r : Row) → Contains (rows m) r → zero ≤ℚ down_of m d r) → sign_reason d.limits ≡ None
+  signs_of apart names ups downs = signs_from d.limits (λ e c. by e (prices_of apart names e c))
+    where
+      by : (e : Dual Fraction) → (r : Row) × Contains (rows m) r × (up_of m d r ≡ e.up) × (down_of m d r ≡ e.down) → HasSigns e
+      by e (r, k, up, down) = record { up = subst (λ y. zero ≤ℚ y) up (ups r k); down = subst (λ y. zero ≤ℚ y) down (downs r k) }
 
 -- ---- a dispatch and duals that support it
 module _ (m : Parts) (x : Dispatch) (d : Duals Fraction) where
@@ -234,40 +252,6 @@ module _ (m : Parts) (x : Dispatch) (d : Duals Fraction) where
       down (inl f) p = absurd (<ℚ_irrefl zero (subst (λ y. zero <ℚ y) f.1 p))
       down (inr (e, is)) p = (slacks_to m x d.limits h e is.listed r c (sym is.name)).below (subst (λ y. zero <ℚ y) is.down p)
 
-  pub optimal_to : first_of (optimal_reasons m x d) ≡ None → IsOptimum m x d
-  optimal_to none =
-      let all = all_none (optimal_reasons m x d) none in
-      let counted : length x.blocks ≡ length m.blocks = eqb-true (length x.blocks) (length m.blocks) (not_false (length x.blocks == length m.blocks) (not_so (not (length x.blocks == length m.blocks)) reason.Count all.0)) in
-      let inside = inside_to m x all.3 in record {
-        count = counted;
-        rows = names_to m d.limits all.1;
-        feasible = record {
-          blocks = record { count = counted; above = λ j lt. (inside j lt).0; within = λ j lt. (inside j lt).1 };
-          balanced = same_by (balance m x) zero (not_so (differ (balance m x) zero) reason.Balance all.4);
-          limits = limits_to m x all.5;
-        };
-        supported = record {
-          blocks = λ j lt. block_to m x d j (none_of (λ j. reason.Support (suc j)) (is_unsupported m x d) (places (length m.blocks)) all.7 j (in_places (length m.blocks) j lt));
-          rows = row_to all.2 all.6;
-        };
-      }
-
-  -- the prices of a dual of a row of the market
-  prices_of : Apart d.limits → NamesRows m d.limits → (e : Dual Fraction) → Contains d.limits e → (r : Row) × Contains (rows m) r × (up_of m d r ≡ e.up) × (down_of m d r ≡ e.down)
-  prices_of apart names e c = by (All-contains (λ e. (r : Row) × Contains (rows m) r × (row_id m r ≡ e.row)) d.limits e names c)
-    where
-      own : (up_in d.limits e.row ≡ e.up) × (down_in d.limits e.row ≡ e.down)
-      own = own_prices d.limits apart e c
-
-      by : (r : Row) × Contains (rows m) r × (row_id m r ≡ e.row) → (r : Row) × Contains (rows m) r × (up_of m d r ≡ e.up) × (down_of m d r ≡ e.down)
-      by (r, k, same) = (r, k, ap (up_in d.limits) same ∙ own.0, ap (down_in d.limits) same ∙ own.1)
-
-  signs_of : Apart d.limits → NamesRows m d.limits → ((r : Row) → Contains (rows m) r → zero ≤ℚ up_of m d r) → ((r : Row) → Contains (rows m) r → zero ≤ℚ down_of m d r) → sign_reason d.limits ≡ None
-  signs_of apart names ups downs = signs_from d.limits (λ e c. by e (prices_of apart names e c))
-    where
-      by : (e : Dual Fraction) → (r : Row) × Contains (rows m) r × (up_of m d r ≡ e.up) × (down_of m d r ≡ e.down) → HasSigns e
-      by e (r, k, up, down) = record { up = subst (λ y. zero ≤ℚ y) up (ups r k); down = subst (λ y. zero ≤ℚ y) down (downs r k) }
-
   slacks_of : Apart d.limits → Supports m x d → slack_reason m x d.limits ≡ None
   slacks_of apart s = slacks_from m x d.limits by
     where
@@ -279,34 +263,52 @@ module _ (m : Parts) (x : Dispatch) (d : Duals Fraction) where
             below = λ p. here.down (subst (λ y. zero <ℚ y) (sym (ap (down_in d.limits) same ∙ own.1)) p);
           }
 
-  pub optimal_from : Apart d.limits → IsOptimum m x d → first_of (optimal_reasons m x d) ≡ None
-  optimal_from apart h = none_first (optimal_reasons m x d) (
-    so_none (not (length x.blocks == length m.blocks)) reason.Count (not_true (length x.blocks == length m.blocks) (eq-eqb (length x.blocks) (length m.blocks) h.count)),
-    names_from m d.limits h.rows,
-    signs_of apart h.rows (λ r c. (h.supported.rows r c).up_sign) (λ r c. (h.supported.rows r c).down_sign),
-    inside_from m x (λ j lt. (h.feasible.blocks.above j lt, h.feasible.blocks.within j lt)),
-    so_none (differ (balance m x) zero) reason.Balance (same_not (balance m x) zero h.feasible.balanced),
-    limits_from m x h.feasible.limits,
-    slacks_of apart h.supported,
-    of_none (λ j. reason.Support (suc j)) (is_unsupported m x d) (places (length m.blocks)) (λ j c. block_from m x d j (h.supported.blocks j (from_places (length m.blocks) j c))),
-    tt,
-  )
+  pub optimal_to : first_of (optimal_reasons m x d) ≡ None → IsOptimum m x d
+  optimal_to none =
+      let all = all_none (optimal_reasons m x d) none in
+      let counted : length x.blocks ≡ length m.blocks = eqb-true (length x.blocks) (length m.blocks) (not_false (length x.blocks == length m.blocks) (not_so (not (length x.blocks == length m.blocks)) reason.Count all.0)) in
+      let inside = inside_to m x all.1.1.1.0 in record {
+        count = counted;
+        rows = names_to m d.limits all.1.0;
+        feasible = record {
+          blocks = record { count = counted; above = λ j lt. (inside j lt).0; within = λ j lt. (inside j lt).1 };
+          balanced = same_by (balance m x) zero (not_so (differ (balance m x) zero) reason.Balance all.1.1.1.1.0);
+          limits = limits_to m x all.1.1.1.1.1.0;
+        };
+        supported = record {
+          blocks = λ j lt. block_to m x d j (none_of (λ j. reason.Support (j + 1)) (is_unsupported m x d) (places (length m.blocks)) all.1.1.1.1.1.1.1.0 j (in_places (length m.blocks) j lt));
+          rows = row_to all.1.1.0 all.1.1.1.1.1.1.0;
+        };
+      }
 
+  pub optimal_from : Apart d.limits → IsOptimum m x d → first_of (optimal_reasons m x d) ≡ None
+  optimal_from apart h =
+      let count : count_reason m x ≡ None = so_none (not (length x.blocks == length m.blocks)) reason.Count (not_true (length x.blocks == length m.blocks) (eq-eqb (length x.blocks) (length m.blocks) h.count)) in
+      let names : row_reason m d.limits ≡ None = names_from m d.limits h.rows in
+      let signs : sign_reason d.limits ≡ None = signs_of m d apart h.rows (λ r c. (h.supported.rows r c).up_sign) (λ r c. (h.supported.rows r c).down_sign) in
+      let inside : block_reason m x ≡ None = inside_from m x (λ j lt. (h.feasible.blocks.above j lt, h.feasible.blocks.within j lt)) in
+      let balanced : balance_reason m x ≡ None = so_none (differ (balance m x) zero) reason.Balance (same_not (balance m x) zero h.feasible.balanced) in
+      let limits : limit_reason m x ≡ None = limits_from m x h.feasible.limits in
+      let slack : slack_reason m x d.limits ≡ None = slacks_of apart h.supported in
+      let support : support_reason m x d ≡ None = of_none (λ j. reason.Support (j + 1)) (is_unsupported m x d) (places (length m.blocks)) (λ j c. block_from m x d j (h.supported.blocks j (from_places (length m.blocks) j c))) in
+      none_first (optimal_reasons m x d) (count, (names, (signs, (inside, (balanced, (limits, (slack, (support, tt))))))))
+
+-- ---- duals that show that nothing is feasible
+module _ (m : Parts) (d : Duals Fraction) where
   pub farkas_to : first_of (farkas_reasons m d) ≡ None → IsInfeasible m d
   farkas_to none =
       let all = all_none (farkas_reasons m d) none in record {
         rows = names_to m d.limits all.0;
         shows = record {
-          up_signs = λ r c. up_sign d.limits (row_id m r) (signs_to d.limits all.1);
-          down_signs = λ r c. down_sign d.limits (row_id m r) (signs_to d.limits all.1);
-          below = below_true (farkas_bound m d) zero (not_false (is_below (farkas_bound m d) zero) (not_so (not (is_below (farkas_bound m d) zero)) reason.Bound all.2));
+          up_signs = λ r c. up_sign d.limits (row_id m r) (signs_to d.limits all.1.0);
+          down_signs = λ r c. down_sign d.limits (row_id m r) (signs_to d.limits all.1.0);
+          below = below_true (farkas_bound m d) zero (not_false (is_below (farkas_bound m d) zero) (not_so (not (is_below (farkas_bound m d) zero)) reason.Bound all.1.1.0));
         };
       }
 
   pub farkas_from : Apart d.limits → IsInfeasible m d → first_of (farkas_reasons m d) ≡ None
-  farkas_from apart h = none_first (farkas_reasons m d) (
-    names_from m d.limits h.rows,
-    signs_of apart h.rows h.shows.up_signs h.shows.down_signs,
-    so_none (not (is_below (farkas_bound m d) zero)) reason.Bound (not_true (is_below (farkas_bound m d) zero) (below_of (farkas_bound m d) zero h.shows.below)),
-    tt,
-  )
+  farkas_from apart h =
+      let names : row_reason m d.limits ≡ None = names_from m d.limits h.rows in
+      let signs : sign_reason d.limits ≡ None = signs_of m d apart h.rows h.shows.up_signs h.shows.down_signs in
+      let bound : bound_reason m d ≡ None = so_none (not (is_below (farkas_bound m d) zero)) reason.Bound (not_true (is_below (farkas_bound m d) zero) (below_of (farkas_bound m d) zero h.shows.below)) in
+      none_first (farkas_reasons m d) (names, (signs, (bound, tt)))

@@ -1,7 +1,15 @@
 -- Duals by the names of their rows.
-use Rattle.std.specs.Prelude.{ℕ}
+use Rattle.std.specs.Prelude.{◌≡◌, ◌==◌, ◌&&◌, ℕ, Bool, true, false, List, [], ◌∷◌, map, filter, Option, MatchOption, if◌then◌else◌}
+use Rattle.fraction_theory.specs.Fraction.{Fraction}
 use Rattle.market_model.specs.declared.answered.Dual.{Dual}
+use Rattle.market_model.specs.declared.answered.Duals.{Duals}
 use Rattle.market_model.specs.declared.answered.RowId.{RowId}
+use Rattle.market_model.specs.declared.participants.Parts.{Parts}
+use Rattle.market_model.specs.LimitRows.{Row, row_id}
+use Rattle.market_model.specs.Optimality.{is_named}
+use Rattle.limit_rows.specs.Groups.{bears, cause_of}
+use Rattle.cert_sums.specs.declared.pricing.NamedRow.{NamedRow}
+use Rattle.cert_sums.specs.Named.{PricedRow, priced_at, priced_by}
 
 -- the branch row of a row, and that of its outage
 abbrev pub name_of : RowId → ℕ × ℕ
@@ -10,3 +18,18 @@ name_of row = (row.branch, row.outage)
 -- a dual with the name of its row
 abbrev pub entry_of : {N : Type 0} → Dual N → (ℕ × ℕ) × Dual N
 entry_of e = (name_of e.row, e)
+
+abbrev pub same_pair : ℕ × ℕ → ℕ × ℕ → Bool
+same_pair p q = (p.0 == q.0) && (p.1 == q.1)
+
+-- the row of a line in a group, where it has one there
+abbrev pub rows_at : Parts → Option ℕ → ℕ → List Row
+rows_at m lost line = if bears m lost line then record { line = line; cause = cause_of lost } ∷ [] else []
+
+-- a row with its prices, where duals name it
+abbrev pub IsNamedAt : {N : Type 0} → (N → Fraction) → Parts → Duals Fraction → Row → Option (NamedRow N) → Type 0
+IsNamedAt value m d r found = MatchOption found (is_named d.limits (row_id m r) ≡ false) (λ e. (is_named d.limits (row_id m r) ≡ true) × (priced_at value e ≡ priced_by m d r))
+
+-- the prices of those rows that duals name
+abbrev pub prices_of : Parts → Duals Fraction → List Row → List PricedRow
+prices_of m d rs = map (priced_by m d) (filter (λ r. is_named d.limits (row_id m r)) rs)

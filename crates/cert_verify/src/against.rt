@@ -1,18 +1,18 @@
 //! The first reason against a certificate of either kind, in the order in which reasons are told.
 
-ghost use Rattle.std.specs.Prelude.{◌≡◌, ℕ, ◌<◌, ◌∷◌, [], length, map, vec_len, IfOk, IfErr};
+ghost use Rattle.std.specs.Prelude.{◌≡◌, ℕ, ◌<◌, ◌∷◌, [], length, map, not, IfOk, IfErr};
 ghost use Rattle.fraction_theory.specs.Fraction.{Fraction};
 ghost use Rattle.market_model.specs.declared.answered.Duals.{Duals};
-ghost use Rattle.market_model.specs.Dispatch.{places};
+ghost use Rattle.market_model.specs.Dispatch.{places, zero};
 ghost use Rattle.market_model.specs.Optimality.{bus_price};
 ghost use Rattle.market_model.specs.Valued.{dual_at};
 ghost use Rattle.cert_format.specs.Certificates.{NamesNoRowTwice};
-ghost use Rattle.cert_sums.specs.Named.{AreNamed};
 ghost use Rattle.cert_sums.specs.Pairs.{IsFarkasPair, IsOptimalPair};
 ghost use Rattle.cert_sums.specs.Refusals.{IsPriceRefusal, IsStopped};
 ghost use Rattle.cert_sums.specs.Results.{dispatch_of};
 ghost use Rattle.cert_verify.specs.Certificates.{duals_by};
-ghost use Rattle.cert_verify.specs.Reasons.{balance_reason, block_reason, bound_reason, count_reason, farkas_reasons, first_of, limit_reason, optimal_reasons, row_reason, sign_reason, slack_reason, support_reason};
+ghost use Rattle.cert_verify.specs.declared.verdicts.Reason.TheVariants as reason;
+ghost use Rattle.cert_verify.specs.Reasons.{balance_reason, block_reason, bound_reason, count_reason, farkas_reasons, first_of, is_below, limit_reason, optimal_reasons, row_reason, sign_reason, slack_reason, support_reason, where_so};
 
 use crate::blocks::{other_count, outside_block, unsupported_block};
 use crate::comparing::{datum, differ, is_negative};
@@ -20,9 +20,9 @@ use crate::duals::{missing_row, negative_price, slack_price};
 use crate::limits::broken_limit;
 use crate::naming::named_rows;
 use crate::{Reason, VerifyStop};
-use cert_sums::{NamedRow, balance, bus_price, farkas_bound, injections, line_flows};
-use exact_fraction::{Exact, Passed};
-use market_model::{Dual, Market, Memory};
+use cert_sums::{balance, bus_price, farkas_bound, injections, line_flows};
+use exact_fraction::Exact;
+use market_model::{Dual, List, Market, Memory};
 use std::alloc::Global;
 
 /// What may be wrong with the parts of a certificate before any sum is made of them.
@@ -68,19 +68,22 @@ fn bus_prices<N: Exact>(
     alloc: Global,
     market: &Market,
     energy: N,
-    named: &[NamedRow<N>],
-) -> Result<Vec<N>, VerifyStop<N>>
-    requires { (d : Duals Fraction) × AreNamed N.value market.now d named.now }
-    ensures count { IfOk result (λ prices. vec_len prices ≡ length market.now.buses) }
-    ensures prices { (d : Duals Fraction) → N.value energy ≡ d.energy → AreNamed N.value market.now d named.now → IfOk result (λ prices. map N.value prices.items ≡ map (bus_price market.now d) (places (length market.now.buses))) }
-    ensures cause { (d : Duals Fraction) → N.value energy ≡ d.energy → AreNamed N.value market.now d named.now → IfErr result (IsStopped N.value (λ p. (bus : ℕ) × (bus < length market.now.buses) × IsPriceRefusal market.now d bus N.bound p)) }
+    limits: &[Dual<N>],
+) -> Result<List<N>, VerifyStop<N>>
+    requires { NamesNoRowTwice (map (dual_at N.value) limits.now) }
+    ensures prices { IfOk result (λ prices. map N.value prices ≡ map (bus_price market.now (duals_by (N.value energy) (map (dual_at N.value) limits.now))) (places (length market.now.buses))) }
+    ensures cause { IfErr result (IsStopped N.value (λ p. (bus : ℕ) × (bus < length market.now.buses) × IsPriceRefusal market.now (duals_by (N.value energy) (map (dual_at N.value) limits.now)) bus N.bound p)) }
 {
-    let mut prices = match vec![in alloc; energy; market.buses().len()] {
-        Ok(prices) => prices,
-        Err(_) => return Err(VerifyStop::Memory),
+    let named = match named_rows(alloc, market, limits) {
+        Ok(named) => named,
+        Err(Memory) => return Err(VerifyStop::Memory),
     };
-    for (bus, price) in prices.iter_mut().enumerate() {
-        *price = bus_price(market, energy, named, bus)?;
+    let mut prices = List::new(alloc);
+    for bus in 0..market.buses().len() {
+        let price = bus_price(market, energy, named.slice(), bus)?;
+        if prices.push(price).is_err() {
+            return Err(VerifyStop::Memory);
+        }
     }
     Ok(prices)
 }
@@ -98,12 +101,8 @@ fn wrong_support<N: Exact>(
     ensures first { IfOk result (λ first. first ≡ support_reason market.now (dispatch_of N.value blocks.now) (duals_by (N.value energy) (map (dual_at N.value) limits.now))) }
     ensures cause { IfErr result (IsStopped N.value (IsOptimalPair market.now (dispatch_of N.value blocks.now) (duals_by (N.value energy) (map (dual_at N.value) limits.now)) N.bound)) }
 {
-    let named = match named_rows(alloc, market, limits) {
-        Ok(named) => named,
-        Err(Memory) => return Err(VerifyStop::Memory),
-    };
-    let prices = bus_prices(alloc, market, energy, &named)?;
-    Ok(unsupported_block(market, blocks, &prices))
+    let prices = bus_prices(alloc, market, energy, limits)?;
+    Ok(unsupported_block(market, blocks, prices.slice()))
 }
 
 /// The first reason against a dispatch and duals that are to support it.
@@ -127,6 +126,17 @@ pub(crate) fn against_optimal<N: Exact>(
     wrong_support(alloc, market, blocks, energy, limits)
 }
 
+/// Whether a bound is not below 0.
+fn bound_told<N: Exact>(bound: N) -> Option<Reason>
+    ensures { result ≡ where_so (not (is_below (N.value bound) zero)) reason.Bound }
+{
+    if is_negative(bound) {
+        None
+    } else {
+        Some(Reason::Bound)
+    }
+}
+
 /// Whether the bound of duals is not below 0.
 fn wrong_bound<N: Exact>(
     alloc: Global,
@@ -142,12 +152,8 @@ fn wrong_bound<N: Exact>(
         Ok(named) => named,
         Err(Memory) => return Err(VerifyStop::Memory),
     };
-    let bound = farkas_bound(alloc, market, energy, &named)?;
-    Ok(if is_negative(bound) {
-        None
-    } else {
-        Some(Reason::Bound)
-    })
+    let bound = farkas_bound(alloc, market, energy, named.slice())?;
+    Ok(bound_told(bound))
 }
 
 /// The first reason against duals that are to show that nothing is feasible.

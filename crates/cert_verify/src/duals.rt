@@ -1,6 +1,7 @@
 //! What may be wrong with the duals of a certificate, the first in its own order.
 
 ghost use Rattle.std.specs.Prelude.{◌≡◌, length, map, IfOk, IfErr};
+ghost use Rattle.fraction_theory.specs.Fraction.{Fraction};
 ghost use Rattle.market_model.specs.declared.answered.Duals.{Duals};
 ghost use Rattle.market_model.specs.Dispatch.{Dispatch};
 ghost use Rattle.market_model.specs.Valued.{dual_at, passed_at};
@@ -66,7 +67,8 @@ pub(crate) fn slack_price<N: Exact>(
     ensures cause { (x : Dispatch) (d : Duals Fraction) → AreFlows market.now x (map N.value flows.now) → IfErr result (λ passed. IsOptimalPair market.now x d N.bound (passed_at N.value passed)) }
 {
     for dual in limits {
-        if has_slack(market, flows, dual)? {
+        let slack = has_slack(market, flows, dual)?;
+        if slack {
             return Ok(Some(Reason::Slack { row: dual.row }));
         }
     }

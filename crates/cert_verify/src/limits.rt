@@ -1,6 +1,7 @@
 //! The first limit of the market that a dispatch breaks, among all of them.
 
 ghost use Rattle.std.specs.Prelude.{◌≡◌, ◌<◌, length, map, Contains, IfOk, IfErr, IfSome};
+ghost use Rattle.fraction_theory.specs.Fraction.{Fraction};
 ghost use Rattle.market_model.specs.declared.answered.Duals.{Duals};
 ghost use Rattle.market_model.specs.Dispatch.{Dispatch};
 ghost use Rattle.market_model.specs.LimitRows.{Row, row_id};
@@ -11,6 +12,7 @@ ghost use Rattle.limit_rows.specs.Places.{row_of};
 ghost use Rattle.cert_sums.specs.Pairs.{IsOptimalPair, flow_terms};
 ghost use Rattle.cert_sums.specs.Results.{AreFlows};
 ghost use Rattle.cert_verify.specs.declared.verdicts.Reason.TheVariants as reason;
+ghost use Rattle.cert_verify.specs.Naming.{rows_at};
 ghost use Rattle.cert_verify.specs.Reasons.{is_broken, limit_reason, of_first};
 
 use crate::Reason;
@@ -32,6 +34,35 @@ fn is_broken<N: Exact>(market: &Market, flows: &[N], row: LimitRow) -> Result<bo
     Ok(passes(flow, datum(limit_at(market, row))))
 }
 
+/// The row of a line in a group, where it has one there and its flow passes its limit.
+fn broken_at<N: Exact>(
+    market: &Market,
+    flows: &[N],
+    lost: Option<usize>,
+    line: usize,
+) -> Result<Option<Reason>, Passed<N>>
+    requires flows { length flows.now ≡ length market.now.lines }
+    requires lost { Contains (groups market.now) lost }
+    requires line { line < length market.now.lines }
+    ensures first { (x : Dispatch) → AreFlows market.now x (map N.value flows.now) → IfOk result (λ first. first ≡ of_first (λ (r : Row). reason.Limit (row_id market.now r)) (is_broken market.now x) (rows_at market.now lost line)) }
+    ensures cause { (x : Dispatch) (d : Duals Fraction) → AreFlows market.now x (map N.value flows.now) → IfErr result (λ passed. IsOptimalPair market.now x d N.bound (passed_at N.value passed)) }
+{
+    let _lines = market.lines();
+    if has_row(market, lost, line) {
+        let row = LimitRow { line, lost };
+        let broken = is_broken(market, flows, row)?;
+        if broken {
+            Ok(Some(Reason::Limit {
+                row: name_at(market, row),
+            }))
+        } else {
+            Ok(None)
+        }
+    } else {
+        Ok(None)
+    }
+}
+
 /// The first of the base, or of those after the loss of a line.
 fn broken_after<N: Exact>(
     market: &Market,
@@ -44,13 +75,9 @@ fn broken_after<N: Exact>(
     ensures cause { (x : Dispatch) (d : Duals Fraction) → AreFlows market.now x (map N.value flows.now) → IfErr result (λ passed. IsOptimalPair market.now x d N.bound (passed_at N.value passed)) }
 {
     for line in 0..market.lines().len() {
-        if has_row(market, lost, line) {
-            let row = LimitRow { line, lost };
-            if is_broken(market, flows, row)? {
-                return Ok(Some(Reason::Limit {
-                    row: name_at(market, row),
-                }));
-            }
+        let broken = broken_at(market, flows, lost, line)?;
+        if broken.is_some() {
+            return Ok(broken);
         }
     }
     Ok(None)

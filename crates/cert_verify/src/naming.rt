@@ -1,28 +1,43 @@
 //! The rows that duals name, in the market's order.
 
-ghost use Rattle.std.specs.Prelude.{◌≡◌, List, ◌++◌, map, filter, Contains, IfOk, MatchResult};
+ghost use Rattle.std.specs.Prelude.{◌≡◌, ◌<◌, List, [], ◌∷◌, ◌++◌, length, map, Contains, IfOk, IfSome, None};
+ghost use Rattle.std.specs.Map.{lookup};
 ghost use Rattle.fraction_theory.specs.Fraction.{Fraction};
-ghost use Rattle.market_model.specs.LimitRows.{Row, row_id};
-ghost use Rattle.market_model.specs.Optimality.{is_named};
 ghost use Rattle.market_model.specs.Valued.{dual_at};
 ghost use Rattle.limit_rows.specs.Groups.{groups, rows_of};
+ghost use Rattle.limit_rows.specs.Places.{row_of};
 ghost use Rattle.cert_format.specs.Certificates.{NamesNoRowTwice};
-ghost use Rattle.cert_sums.specs.Named.{AreNamed, priced_at, priced_by};
+ghost use Rattle.cert_sums.specs.Named.{AreNamed, priced_at};
 ghost use Rattle.cert_verify.specs.Certificates.{duals_by};
-ghost use Rattle.cert_verify.specs.Naming.{entry_of, name_of};
+ghost use Rattle.cert_verify.specs.Naming.{IsNamedAt, entry_of, name_of, prices_of, rows_at, same_pair};
 
 use cert_sums::NamedRow;
 use exact_fraction::Exact;
 use indexmap::IndexMap;
 use limit_rows::{LimitRow, group_count, has_row, lost_of, name_at};
-use market_model::{Dual, Market, Memory, RowId};
+use market_model::{Dual, List, Market, Memory, RowId};
 use std::alloc::Global;
 
-/// The name of a row as a pair: its branch row, and that of the outage.
-fn name_of(row: RowId) -> (u32, u32)
-    ensures { result ≡ name_of row }
+/// Adds a dual under a name that none has yet.
+fn add<N: Exact>(
+    duals: &mut IndexMap<(u32, u32), Dual<N>>,
+    name: (u32, u32),
+    dual: Dual<N>,
+) -> Result<(), Memory>
+    requires { lookup (same_pair name) duals.old.entries ≡ None }
+    ensures { IfOk result (λ _. duals.new.entries ≡ duals.old.entries ++ (name, dual) ∷ []) }
 {
-    (row.branch, row.outage)
+    if duals.insert(name, dual).is_err() {
+        return Err(Memory);
+    }
+    Ok(())
+}
+
+/// The dual of a row, by its name.
+fn dual_of<N: Exact>(duals: &IndexMap<(u32, u32), Dual<N>>, row: RowId) -> Option<Dual<N>>
+    ensures { result ≡ lookup (same_pair (name_of row)) duals.now.entries }
+{
+    duals.get(&(row.branch, row.outage)).copied()
 }
 
 /// Duals by the names of their rows.
@@ -35,11 +50,52 @@ fn by_name<N: Exact>(
 {
     let mut duals = IndexMap::new(alloc);
     for dual in limits {
-        if duals.insert(name_of(dual.row), *dual).is_err() {
-            return Err(Memory);
-        }
+        add(&mut duals, (dual.row.branch, dual.row.outage), *dual)?;
     }
     Ok(duals)
+}
+
+/// A row with its two prices, where duals name it.
+fn named_at<N: Exact>(
+    market: &Market,
+    duals: &IndexMap<(u32, u32), Dual<N>>,
+    row: LimitRow,
+) -> Option<NamedRow<N>>
+    requires line { row.line < length market.now.lines }
+    requires lost { IfSome row.lost (λ lost. lost < length market.now.lines) }
+    ensures { (ds : List (Dual N)) (energy : Fraction) → duals.now.entries ≡ map entry_of ds → IsNamedAt N.value market.now (duals_by energy (map (dual_at N.value) ds)) (row_of row) result }
+{
+    match dual_of(duals, name_at(market, row)) {
+        Some(dual) => Some(NamedRow {
+            row,
+            up: dual.up,
+            down: dual.down,
+        }),
+        None => None,
+    }
+}
+
+/// Adds the row of a line in a group, where it has one there and duals name it.
+fn push_row<N: Exact>(
+    market: &Market,
+    duals: &IndexMap<(u32, u32), Dual<N>>,
+    lost: Option<usize>,
+    line: usize,
+    named: &mut List<NamedRow<N>>,
+) -> Result<(), Memory>
+    requires lost { Contains (groups market.now) lost }
+    requires line { line < length market.now.lines }
+    ensures { (ds : List (Dual N)) (energy : Fraction) → duals.now.entries ≡ map entry_of ds → IfOk result (λ _. map (priced_at N.value) named.new ≡ map (priced_at N.value) named.old ++ prices_of market.now (duals_by energy (map (dual_at N.value) ds)) (rows_at market.now lost line)) }
+{
+    let _lines = market.lines();
+    if has_row(market, lost, line) {
+        match named_at(market, duals, LimitRow { line, lost }) {
+            Some(entry) => named.push(entry),
+            None => Ok(()),
+        }
+    } else {
+        Ok(())
+    }
 }
 
 /// Adds the rows of a group that duals name, in their order.
@@ -47,25 +103,13 @@ fn push_group<N: Exact>(
     market: &Market,
     duals: &IndexMap<(u32, u32), Dual<N>>,
     lost: Option<usize>,
-    named: &mut Vec<NamedRow<N>>,
+    named: &mut List<NamedRow<N>>,
 ) -> Result<(), Memory>
     requires { Contains (groups market.now) lost }
-    ensures { (ds : List (Dual N)) (energy : Fraction) → duals.now.entries ≡ map entry_of ds → IfOk result (λ _. map (priced_at N.value) named.new.items ≡ map (priced_at N.value) named.old.items ++ map (priced_by market.now (duals_by energy (map (dual_at N.value) ds))) (filter (λ (r : Row). is_named (map (dual_at N.value) ds) (row_id market.now r)) (rows_of market.now lost))) }
+    ensures { (ds : List (Dual N)) (energy : Fraction) → duals.now.entries ≡ map entry_of ds → IfOk result (λ _. map (priced_at N.value) named.new ≡ map (priced_at N.value) named.old ++ prices_of market.now (duals_by energy (map (dual_at N.value) ds)) (rows_of market.now lost)) }
 {
     for line in 0..market.lines().len() {
-        if has_row(market, lost, line) {
-            let row = LimitRow { line, lost };
-            if let Some(dual) = duals.get(&name_of(name_at(market, row))) {
-                let entry = NamedRow {
-                    row,
-                    up: dual.up,
-                    down: dual.down,
-                };
-                if named.push(entry).is_err() {
-                    return Err(Memory);
-                }
-            }
-        }
+        push_row(market, duals, lost, line, named)?;
     }
     Ok(())
 }
@@ -75,12 +119,12 @@ pub(crate) fn named_rows<N: Exact>(
     alloc: Global,
     market: &Market,
     limits: &[Dual<N>],
-) -> Result<Vec<NamedRow<N>>, Memory>
+) -> Result<List<NamedRow<N>>, Memory>
     requires { NamesNoRowTwice (map (dual_at N.value) limits.now) }
-    ensures { IfOk result (λ named. (energy : Fraction) → AreNamed N.value market.now (duals_by energy (map (dual_at N.value) limits.now)) named.items) }
+    ensures { IfOk result (λ named. (energy : Fraction) → AreNamed N.value market.now (duals_by energy (map (dual_at N.value) limits.now)) named) }
 {
     let duals = by_name(alloc, limits)?;
-    let mut named = Vec::new(alloc);
+    let mut named = List::new(alloc);
     for group in 0..group_count(market) {
         push_group(market, &duals, lost_of(market, group), &mut named)?;
     }

@@ -99,8 +99,10 @@ fn outages(alloc: Global, some: bool) -> Result<List<u32>, Memory>
     let mut list = List::new(alloc);
     if some {
         list.push(1)?;
+        Ok(list)
+    } else {
+        Ok(list)
     }
-    Ok(list)
 }
 
 fn factor(line: usize, of: usize, value: i64) -> Factor
@@ -164,14 +166,16 @@ fn limits<N: Exact>(alloc: Global, outage: u32, up: i32) -> Result<List<Dual<N>>
     ensures { IfOk result (λ list. length list ≤ 1) }
 {
     let mut list = List::new(alloc);
-    if up != 0 {
+    if up == 0 {
+        Ok(list)
+    } else {
         list.push(Dual {
             row: RowId { branch: 2, outage },
             up: price(up),
             down: price(0),
         })?;
+        Ok(list)
     }
-    Ok(list)
 }
 
 /// What is told of a certificate; nothing where numbers become too large.
@@ -193,10 +197,11 @@ fn optimal<N: Exact>(
     outage: u32,
     up: i32,
 ) -> Result<Option<Verdict>, Memory> {
+    let duals = limits(alloc, outage, up)?;
     let cert: Cert<N> = Cert::Optimal {
         blocks: quantities(alloc, mws)?,
         energy: price(10_000_000),
-        limits: limits(alloc, outage, up)?,
+        limits: duals,
     };
     told(alloc, market, &cert)
 }
@@ -209,9 +214,10 @@ fn farkas<N: Exact>(
     outage: u32,
     up: i32,
 ) -> Result<Option<Verdict>, Memory> {
+    let duals = limits(alloc, outage, up)?;
     let cert: Cert<N> = Cert::Farkas {
         energy: price(energy),
-        limits: limits(alloc, outage, up)?,
+        limits: duals,
     };
     told(alloc, market, &cert)
 }

@@ -1,0 +1,92 @@
+-- What is looked up of a row by its name, and the operations refused.
+use Rattle.std.specs.Prelude.{◌≡◌, ◌≢◌, ◌⊎◌, ◌&&◌, ◌<◌, ℕ, Bool, true, false, not, List, length, Contains, Option, Some, None, MatchOption, IfSome, is_some, refl}
+use Rattle.std.specs.List.{list_any}
+use Rattle.std.proofs.Common.{inl, inr, ap, sym, subst, ◌∙◌}
+use Rattle.std.proofs.lemmas.Bool.{true≢false}
+use Rattle.fraction_theory.specs.Fraction.{Fraction}
+use Rattle.exact_fraction.specs.declared.Passed.{Passed}
+use Rattle.market_model.specs.declared.answered.Dual.{Dual}
+use Rattle.market_model.specs.declared.answered.Duals.{Duals}
+use Rattle.market_model.specs.declared.participants.Parts.{Parts}
+use Rattle.market_model.specs.Dispatch.{Dispatch, injection, balance_terms}
+use Rattle.market_model.specs.LimitRows.{Row, rows, row_id, limit, flow}
+use Rattle.market_model.specs.Market.{IsMarket}
+use Rattle.market_model.specs.NamedSums.{IsRefusedIn}
+use Rattle.market_model.specs.Valued.{passed_at}
+use Rattle.limit_rows.specs.Groups.{bears, groups}
+use Rattle.limit_rows.specs.Places.{row_of}
+use Rattle.limit_rows.specs.declared.places.LimitRow.{LimitRow}
+use Rattle.limit_rows.proofs.ApartLemmas.{same_row}
+use Rattle.limit_rows.proofs.NumberingLemmas.{row_on}
+use Rattle.limit_rows.proofs.PlaceLemmas.{lost_inside, row_to, same_name}
+use Rattle.cert_sums.specs.declared.stops.VerifyStop.{VerifyStop}
+use Rattle.cert_sums.specs.declared.stops.VerifyStop.TheVariants as why
+use Rattle.cert_sums.specs.Pairs.{IsOptimalPair, of_sum, of_prices, injection_at, balance_of_all, flow_of_line, flow_of_row, congestion_at, price_at, flow_terms}
+use Rattle.cert_sums.specs.Refusals.{IsInjectionRefusal, IsLineRefusal, IsPriceRefusal, IsStopped}
+use Rattle.cert_verify.specs.Reasons.{has_no_row, has_slack, is_of, prices_slack}
+use Rattle.cert_verify.proofs.TestLemmas.{any_of, any_none, any_true, not_both, not_true}
+use Rattle.cert_verify.proofs.VerdictLemmas.{named}
+
+-- ---- a row by its name
+-- no row of the market has the name of a dual
+abbrev pub IsUnknown : Parts → Dual Fraction → Type 0
+IsUnknown m e = (r : Row) → Contains (rows m) r → row_id m r ≢ e.row
+
+not_of : (m : Parts) (e : Dual Fraction) → IsUnknown m e → (r : Row) → Contains (rows m) r → is_of m e r ≡ false
+not_of m e none r c = by (is_of m e r) refl
+  where
+    by : (b : Bool) → is_of m e r ≡ b → b ≡ false
+    by true t = absurd (none r c (same_name (row_id m r) e.row t))
+    by false t = refl
+
+-- whether a dual has no row, where its name was looked up
+pub no_row_by : (m : Parts) (e : Dual Fraction) (o : Option LimitRow) → MatchOption o (IsUnknown m e) (λ row. Contains (rows m) (row_of row) × (row_id m (row_of row) ≡ e.row))
+    → (b : Bool) → is_some o ≡ not b → has_no_row m e ≡ b
+no_row_by m e None h true none = ap not (any_none (is_of m e) (rows m) (not_of m e h))
+no_row_by m e None h false none = absurd (true≢false (sym none))
+no_row_by m e (Some row) h true none = absurd (true≢false none)
+no_row_by m e (Some row) h false none = not_true (list_any (is_of m e) (rows m)) (any_of (is_of m e) (rows m) (row_of row) h.0 (named (row_id m (row_of row)) e.row h.1))
+
+pub no_slack : (m : Parts) (x : Dispatch) (e : Dual Fraction) → IsUnknown m e → has_slack m x e ≡ false
+no_slack m x e none =
+    any_none (λ r. is_of m e r && prices_slack e (flow m x r) (limit m r)) (rows m)
+    (λ r c. not_both (is_of m e r) (prices_slack e (flow m x r) (limit m r)) (λ t. absurd (true≢false (sym t ∙ not_of m e none r c))))
+
+-- of the row of its name alone
+pub slack_named : (m : Parts) → IsMarket m → (x : Dispatch) (e : Dual Fraction) (r : Row) → Contains (rows m) r → row_id m r ≡ e.row → has_slack m x e ≡ prices_slack e (flow m x r) (limit m r)
+slack_named m market x e r c same = by (prices_slack e (flow m x r) (limit m r)) refl
+  where
+    by : (b : Bool) → prices_slack e (flow m x r) (limit m r) ≡ b → has_slack m x e ≡ b
+    by true t = any_of (λ s. is_of m e s && prices_slack e (flow m x s) (limit m s)) (rows m) r c (Prim.rw (named (row_id m r) e.row same, t) refl)
+    by false t =
+        any_none (λ s. is_of m e s && prices_slack e (flow m x s) (limit m s)) (rows m)
+        (λ s k. not_both (is_of m e s) (prices_slack e (flow m x s) (limit m s))
+        (λ u. subst (λ (z : Row). prices_slack e (flow m x z) (limit m z) ≡ false) (same_row m market r s c k (same ∙ sym (same_name (row_id m s) e.row u))) t))
+
+-- the line that is lost in a group is one of the market
+pub lost_below : (m : Parts) → IsMarket m → (lost : Option ℕ) → Contains (groups m) lost → IfSome lost (λ k. k < length m.lines)
+lost_below m market None c = tt
+lost_below m market (Some k) c = lost_inside m market k c
+
+-- ---- refusals
+pub stopped_by : {N : Type 0} (value : N → Fraction) (p q : Passed Fraction → Type 0) (s : VerifyStop N) → ((e : Passed Fraction) → p e → q e) → IsStopped value p s → IsStopped value q s
+stopped_by value p q (why.Range e) to h = to (passed_at value e) h
+stopped_by value p q why.Memory to h = tt
+
+module _ (m : Parts) (x : Dispatch) (d : Duals Fraction) (bound : ℕ) (p : Passed Fraction) where
+  pub injection_pair : IsInjectionRefusal m x bound p → IsOptimalPair m x d bound p
+  injection_pair (i, lt, h) = of_sum _ (injection_at i lt) h
+
+  pub balance_pair : IsRefusedIn (balance_terms m x) bound p → IsOptimalPair m x d bound p
+  balance_pair h = of_sum _ balance_of_all h
+
+  pub line_pair : IsLineRefusal m (injection m x) bound p → IsOptimalPair m x d bound p
+  line_pair (l, lt, h) = of_sum _ (flow_of_line l lt) h
+
+  pub row_pair : (r : Row) → Contains (rows m) r → IsRefusedIn (flow_terms m x r) bound p → IsOptimalPair m x d bound p
+  row_pair r c h = of_sum _ (flow_of_row r c) h
+
+  pub price_pair : (i : ℕ) → i < length m.buses → IsPriceRefusal m d i bound p → IsOptimalPair m x d bound p
+  price_pair i lt (inl (inl c)) = of_sum _ (congestion_at i lt) c
+  price_pair i lt (inl (inr c)) = of_prices c.0 c.1 c.2
+  price_pair i lt (inr c) = of_sum _ (price_at i lt) c

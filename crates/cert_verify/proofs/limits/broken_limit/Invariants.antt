@@ -1,0 +1,10 @@
+use Rattle.std.proofs.Common.{◌≡◌, None, map}
+use Rattle.std.specs.List.{find}
+use Rattle.market_model.specs.Dispatch.{Dispatch}
+use Rattle.limit_rows.proofs.NumberingLemmas.{rows_before}
+use Rattle.cert_sums.specs.Results.{AreFlows}
+use Rattle.cert_verify.specs.Reasons.{is_broken}
+use Rattle.cert_verify.proofs.limits.broken_limit.Given as goal
+
+abbrev pub invariant-loop-group : goal.invariant-loop-group
+invariant-loop-group g l = (x : Dispatch) → AreFlows l.market x (map g.N.Exact.value l.flows) → find (is_broken l.market x) (rows_before l.market l.group) ≡ None
