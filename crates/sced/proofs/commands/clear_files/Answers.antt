@@ -1,0 +1,17 @@
+use Rattle.std.proofs.Common.{subst}
+use Rattle.command_answers.specs.Clearing.{TellsClear}
+use Rattle.command_answers.specs.Inputs.{IsLimited}
+use Rattle.command_answers.specs.Tellings.{Tells, telling_of}
+use Rattle.command_words.specs.Requests.{names_of_market}
+use Rattle.sced.proofs.FileLemmas.{files-clear}
+use Rattle.sced.proofs.ReadingLemmas.{if_ok-map, told-ok}
+use Rattle.sced.proofs.commands.clear_files.Goals as goal
+
+pub returns-clause-right : goal.returns-clause-right
+returns-clause-right g c =
+    let files = g.S.Store.files c.args.store.now in
+    let names = names_of_market c.args.files.now in
+    told-ok _ _ c.or_memory.result c.clear_told.result c.or_memory.ensures
+    (if_ok-map _ _ c.clear_told.result
+    (λ told is. files-clear files names c.in_ok-bytes.bytes (telling_of told) c.in_ok-bytes.ensures.bytes (subst (λ x. Tells (IsLimited names.rating x) TellsClear (telling_of told)) c.lent.ensures is))
+    c.clear_told.ensures.tells)

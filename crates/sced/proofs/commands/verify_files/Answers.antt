@@ -1,0 +1,43 @@
+use Rattle.std.proofs.Common.{◌≡◌, ◌∙◌, Err, Ok, subst}
+use Rattle.std.specs.Prelude.{MatchResult, option_map}
+use Rattle.outside_store.specs.Files.{Reads, SameFiles}
+use Rattle.command_answers.specs.Inputs.{IsCertified}
+use Rattle.command_answers.specs.Tellings.{Tells, telling_of}
+use Rattle.command_answers.specs.Verifying.{TellsVerdict}
+use Rattle.command_answers.specs.declared.status.Status.TheVariants as status
+use Rattle.command_words.specs.Requests.{names_of_market}
+use Rattle.sced.specs.Reading.{ReadsTable, edits_header}
+use Rattle.sced.proofs.FileLemmas.{files-verify}
+use Rattle.sced.proofs.ReadingLemmas.{if_ok-map, reads-same, same_then, table-same, told-ok}
+use Rattle.sced.proofs.commands.verify_files.Goals as goal
+
+pub returns-clause-right : goal.returns-clause-right
+returns-clause-right g c =
+    let files = g.S.Store.files c.args.store.now in
+    let names = names_of_market c.args.files.now.market in
+    let later : SameFiles files (g.S.Store.files c.read_table.new.store) = same_then _ _ _ c.read_market.ensures.reads.same c.read_table.ensures.reads.same in
+    let edits : ReadsTable files (option_map (λ n. n.now) c.args.files.now.edits) edits_header c.as_slice.result.now =
+    table-same _ _ _ _ _ c.read_market.ensures.reads.same (rw c.as_slice.ensures.value c.in_ok-edits.ensures.bytes) in
+    let certificate : Reads files c.args.files.now.certificate.now 33554432 c.as_slice-2.result.now = reads-same _ _ _ _ later (rw c.as_slice-2.ensures.value c.in_ok-certificate.ensures.bytes) in
+    told-ok _ _ c.or_memory.result c.verify_told.result c.or_memory.ensures
+    (if_ok-map _ _ c.verify_told.result
+    (λ told is. files-verify files names _ _ c.in_ok-bytes.bytes _ _ (telling_of told) c.in_ok-bytes.ensures.bytes edits certificate
+    (subst (λ x. Tells (IsCertified names.rating x c.as_slice.result.now c.as_slice-2.result.now) TellsVerdict (telling_of told)) c.lent.ensures is))
+    c.verify_told.ensures.tells)
+
+pub returns-clause-reads : goal.returns-clause-reads
+returns-clause-reads g c =
+    let first = c.read_market.ensures.reads in
+    let second = c.read_table.ensures.reads in
+    let third = c.read_file.ensures.reads in
+    record {
+      same = same_then _ _ _ (same_then _ _ _ first.same second.same) third.same;
+      failed_read = λ bad. absurd (not-memory (subst (λ r. MatchResult r (λ made. c.verify_told.result ≡ Ok made) (λ s. s ≡ status.Memory)) bad c.or_memory.ensures));
+      reads = λ _ n.
+      third.reads (λ bad. let was = c.in_ok-certificate.was in cc (was, bad)) n ∙ second.reads (λ bad. let was = c.in_ok-edits.was in cc (was, bad)) n
+      ∙ first.reads (λ bad. let was = c.in_ok-bytes.was in cc (was, bad)) n;
+      writes = λ n. third.writes n ∙ second.writes n ∙ first.writes n;
+    }
+  where
+    not-memory : status.ReadFailed ≡ status.Memory → ⊥
+    not-memory bad = cc
