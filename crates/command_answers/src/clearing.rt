@@ -83,11 +83,7 @@ pub fn pool_told(alloc: Global, case: &[u8], offers: &[u8]) -> Result<Told, Memo
 }
 
 /// What the whole bytes of the files of a market come to, by the rating that limits branches after an outage.
-pub fn clear_told(
-    alloc: Global,
-    bytes: &ClearBytes<'_>,
-    rating: PostRating,
-) -> Result<Told, Memory>
+pub fn clear_told(alloc: Global, bytes: &ClearBytes<'_>, rating: PostRating) -> Result<Told, Memory>
     ensures status { IfOk result (λ told. IsOfWork told.status) }
     ensures tells { IfOk result (λ told. Tells (IsLimited rating (texts_of bytes.now)) TellsClear (telling_of told)) }
 {

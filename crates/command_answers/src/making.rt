@@ -116,10 +116,7 @@ fn ring_told<N: Exact>(alloc: Global, ring: &Ring<'_>) -> Result<Told, Memory>
             cleared_text(alloc, ring, answer)?,
         )),
         Outcome::Infeasible(_) => unreachable!(),
-        Outcome::Range(_) => Ok(uncertified(
-            Status::Range,
-            reported_text(alloc, ring, &outcome)?,
-        )),
+        Outcome::Range(_) => Ok(uncertified(Status::Range, reported_text(alloc, ring, &outcome)?)),
     }
 }
 

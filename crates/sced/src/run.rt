@@ -9,7 +9,9 @@ ghost use Rattle.sced.specs.Decided.{IsDecidedOf, IsMadeOf};
 ghost use Rattle.sced.specs.Runs.{CountsReads, CountsWrites, Ends, IsSilent, IsTold, FailedFor, Keeps, LeavesAll, OnlyReads, TellsUsage, WritesFor};
 ghost use Rattle.sced.specs.Told.{Answers, AnswersTo, name_for, written_by};
 
-use crate::commands::{check_files, clear_files, or_memory, pool_files, replay_files, verify_files};
+use crate::commands::{
+    check_files, clear_files, or_memory, pool_files, replay_files, verify_files,
+};
 use command_answers::{Status, Told, make_told};
 use command_words::{Request, WordsStop, request_of};
 use outside_store::{Failed, Sink, Store};
@@ -24,10 +26,7 @@ pub(crate) struct Work<'a> {
 }
 
 /// What a command comes to, with the file that is named for its certificate.
-fn with_file<'a>(
-    told: Result<Told, Status>,
-    file: Option<&'a str>,
-) -> Result<Work<'a>, Status>
+fn with_file<'a>(told: Result<Told, Status>, file: Option<&'a str>) -> Result<Work<'a>, Status>
     ensures { MatchResult result (λ work. (told ≡ Ok work.told) × (name_for work ≡ option_map (λ n. n.now) file.entry)) (λ status. told ≡ Err status) }
 {
     match told {

@@ -25,8 +25,7 @@ const MOVED: &str =
 const FARKAS: &str =
     "{\"energy\":\"-1/1\",\"kind\":\"farkas\",\"limits\":[{\"branch\":2,\"down\":\"0/1\",\"outage\":0,\"up\":\"2/1\"}],\"version\":1}";
 
-const HALVED: &str =
-    "{\"energy\":\"2/4\",\"kind\":\"farkas\",\"limits\":[],\"version\":1}";
+const HALVED: &str = "{\"energy\":\"2/4\",\"kind\":\"farkas\",\"limits\":[],\"version\":1}";
 
 const LIMITED: &str =
     "cleared\nwelfare -800\nenergy 10\nbus 1 price 10 congestion 0\nbus 2 price 30 congestion 20\nbus 3 price 40 congestion 30\nblock 1 sell 1 mw 50\nblock 2 sell 1 mw 10\nlimit 2 base flow 40 up 40 down 0 rent 1600\nunit 1 mw 50 paid 500\nunit 2 mw 10 paid 300\nload 1 mw 0 pays 0\nload 2 mw 0 pays 0\nload 3 mw 60 pays 2400\nsurplus 1600\n";
@@ -240,8 +239,7 @@ fn replays_edits(rt: HostRuntime) -> Result<(), Fail> {
         } else {
             ""
         };
-        let line =
-            format!(in rt.alloc(); "sced replay {ALONE} --edits edits.csv{certificate}")?;
+        let line = format!(in rt.alloc(); "sced replay {ALONE} --edits edits.csv{certificate}")?;
         let edits = format!(in rt.alloc(); "op,target,side,block,value\n{edits}")?;
         let want = Want {
             status,
@@ -249,7 +247,14 @@ fn replays_edits(rt: HostRuntime) -> Result<(), Fail> {
             end,
             written,
         };
-        expect(&rt, line.as_str(), "40 0 0 0 0", (edits.as_str(), ""), ALL, want)?;
+        expect(
+            &rt,
+            line.as_str(),
+            "40 0 0 0 0",
+            (edits.as_str(), ""),
+            ALL,
+            want,
+        )?;
     }
     Ok(())
 }
@@ -257,8 +262,9 @@ fn replays_edits(rt: HostRuntime) -> Result<(), Fail> {
 #[test]
 fn verifies_after_edits(rt: HostRuntime) -> Result<(), Fail> {
     let edits = "op,target,side,block,value\nprice,2,sell,2,5\nclear,,,,\nprice,2,sell,1,20\n";
-    let line =
-        format!(in rt.alloc(); "sced verify {ALONE} --edits edits.csv --certificate in.json")?;
+    let line = format!(in rt.alloc();
+        "sced verify {ALONE} --edits edits.csv --certificate in.json"
+    )?;
     let yes = whole(Status::Done, "yes\n");
     expect(
         &rt,
@@ -295,8 +301,9 @@ fn makes_rings(rt: HostRuntime) -> Result<(), Fail> {
 #[test]
 fn tells_the_call_that_fails(rt: HostRuntime) -> Result<(), Fail> {
     let edits = "op,target,side,block,value\nclear,,,,\n";
-    let line =
-        format!(in rt.alloc(); "sced replay {AFTER} --offsets offsets.csv --edits edits.csv --certificate out.json")?;
+    let line = format!(in rt.alloc();
+        "sced replay {AFTER} --offsets offsets.csv --edits edits.csv --certificate out.json"
+    )?;
     for (store_call, put, status, written) in [
         (0, 9, Status::ReadFailed, None),
         (3, 9, Status::ReadFailed, None),

@@ -34,8 +34,8 @@ returns-clause-reads g c =
       same = same_then _ _ _ (same_then _ _ _ first.same second.same) third.same;
       failed_read = λ bad. absurd (not-memory (subst (λ r. MatchResult r (λ made. c.verify_told.result ≡ Ok made) (λ s. s ≡ status.Memory)) bad c.or_memory.ensures));
       reads = λ _ n.
-      third.reads (λ bad. let was = c.in_ok-certificate.was in cc (was, bad)) n ∙ second.reads (λ bad. let was = c.in_ok-edits.was in cc (was, bad)) n
-      ∙ first.reads (λ bad. let was = c.in_ok-bytes.was in cc (was, bad)) n;
+          third.reads (λ bad. let was = c.in_ok-certificate.was in cc (was, bad)) n ∙ second.reads (λ bad. let was = c.in_ok-edits.was in cc (was, bad)) n
+          ∙ first.reads (λ bad. let was = c.in_ok-bytes.was in cc (was, bad)) n;
       writes = λ n. third.writes n ∙ second.writes n ∙ first.writes n;
     }
   where
