@@ -252,20 +252,49 @@ fn starts_warm<N: Exact>(alloc: Global) -> Result<bool, Memory> {
     )
 }
 
+fn is_refused<N: Exact>(outcome: &StepOutcome<N>) -> bool {
+    match outcome {
+        StepOutcome::Refused(fault) => *fault == EditFault::NoBlock,
+        _ => false,
+    }
+}
+
+fn is_accepted<N: Exact>(outcome: &StepOutcome<N>) -> bool {
+    match outcome {
+        StepOutcome::Accepted => true,
+        _ => false,
+    }
+}
+
+/// Whether a clear found the dispatch and the prices of the limit of 40.
+fn is_limited<N: Exact>(outcome: &StepOutcome<N>) -> bool {
+    match outcome {
+        StepOutcome::Clear(outcome) => is_cleared(outcome, (50, 10), (30, 40)),
+        _ => false,
+    }
+}
+
+fn is_infeasible<N: Exact>(outcome: &StepOutcome<N>) -> bool {
+    match outcome {
+        StepOutcome::Clear(Outcome::Infeasible(_)) => true,
+        _ => false,
+    }
+}
+
 /// What the steps come to, in a session that has cleared nothing.
 fn replays<N: Exact>(alloc: Global) -> Result<bool, Memory> {
     let mut session: Session<N> = Session::new(market(alloc)?);
     let steps = steps(alloc)?;
     let outcomes = session.replay(alloc, &steps)?;
     let right = match outcomes.slice() {
-        [
-            StepOutcome::Refused(EditFault::NoBlock),
-            StepOutcome::Clear(first),
-            StepOutcome::Accepted,
-            StepOutcome::Clear(Outcome::Infeasible(_)),
-            StepOutcome::Accepted,
-            StepOutcome::Clear(last),
-        ] => is_cleared(first, (50, 10), (30, 40)) && is_cleared(last, (50, 10), (30, 40)),
+        [refused, first, narrowed, nothing, widened, last] => {
+            is_refused(refused)
+                && is_limited(first)
+                && is_accepted(narrowed)
+                && is_infeasible(nothing)
+                && is_accepted(widened)
+                && is_limited(last)
+        }
         _ => false,
     };
     Ok(right && has_taken(&session))
