@@ -253,15 +253,19 @@ fn largest<N: Exact>() -> N {
     N::of_parts(i64::MAX, 1)
 }
 
+/// Whether all sums are as worked by hand.
+fn all_add_up<N: Exact>(alloc: Global) -> Result<bool, Memory> {
+    let market = triangle(alloc)?;
+    let sums = adds_up::<N>(alloc, &market) == Some(true);
+    let prices = prices::<N>(alloc, &market)?;
+    let bound = bounds::<N>(alloc, &market)?;
+    Ok(sums && prices && bound)
+}
+
 #[test]
 fn adds_up_sums(rt: HostRuntime) -> Result<(), Fail> {
-    let market = triangle(rt.alloc())?;
-    assert!(rt; adds_up::<Frac>(rt.alloc(), &market) == Some(true));
-    assert!(rt; adds_up::<Frac63>(rt.alloc(), &market) == Some(true));
-    assert!(rt; prices::<Frac>(rt.alloc(), &market)?);
-    assert!(rt; prices::<Frac63>(rt.alloc(), &market)?);
-    assert!(rt; bounds::<Frac>(rt.alloc(), &market)?);
-    assert!(rt; bounds::<Frac63>(rt.alloc(), &market)?);
+    assert!(rt; all_add_up::<Frac>(rt.alloc())?);
+    assert!(rt; all_add_up::<Frac63>(rt.alloc())?);
     Ok(())
 }
 
