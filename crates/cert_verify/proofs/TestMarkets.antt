@@ -53,6 +53,12 @@ are_apart : (some : Bool) → AllPairs (λ a b. a ≢ b) (outages some)
 are_apart true = one_is_market.outages_distinct
 are_apart false = λ i j d p q. absurd (Prim.omega (arith, q))
 
+abbrev Differ : ℕ → ℕ → Type 0
+Differ a b = a ≢ b
+
+rows_apart : AllPairs Differ (1 ∷ 2 ∷ [])
+rows_apart = AllPairs-cons Differ 1 (2 ∷ []) (All-cons (Differ 1) 2 [] (λ e. absurd (Prim.omega (arith, e))) (All-nil (Differ 1))) (λ i j d p q. absurd (Prim.omega (arith, p, q)))
+
 pub triangle_is_market : (limit : ℤ) (some : Bool) → pos 0 ≤ℤ limit → IsMarket (triangle limit some)
 unfolding stair_in
 triangle_is_market limit some h = record {
@@ -85,9 +91,6 @@ triangle_is_market limit some h = record {
     are_units zero d lt = record { row = Prim.omega arith; bus = Prim.omega arith; fixed = Prim.omega arith; up = Prim.omega (arith, ints); down = Prim.omega (arith, ints) }
     are_units (suc zero) d lt = record { row = Prim.omega arith; bus = Prim.omega arith; fixed = Prim.omega arith; up = Prim.omega (arith, ints); down = Prim.omega (arith, ints) }
     are_units (suc (suc k)) d lt = absurd (Prim.omega (arith, lt))
-
-    rows_apart : AllPairs (λ a b. a ≢ b) (1 ∷ 2 ∷ [])
-    rows_apart = AllPairs-cons (λ a b. a ≢ b) 1 (2 ∷ []) (All-cons (λ b. 1 ≢ b) 2 [] (λ e. absurd (Prim.omega (arith, e))) (All-nil (λ b. 1 ≢ b))) (λ i j d p q. absurd (Prim.omega (arith, p, q)))
 
     are_blocks : All (IsBlock 2) blocks
     are_blocks zero d lt = record { unit = Prim.omega arith; quantity = Prim.omega (arith, ints); price = Prim.omega arith }

@@ -232,6 +232,11 @@ const AFTER_1: RowId = RowId {
     outage: 1,
 };
 
+const AFTER_2: RowId = RowId {
+    branch: 2,
+    outage: 2,
+};
+
 /// Whether that is what is told, with numbers of both types.
 fn is_told(
     alloc: Global,
@@ -246,115 +251,55 @@ fn is_told(
     Ok(wide == Some(expected) && narrow == Some(expected))
 }
 
+/// Whether each of these is told: of so many MW of the two blocks, with a price of branch 2.
+fn are_told(
+    alloc: Global,
+    market: &Market,
+    cases: &[([i32; 2], u32, i32, Verdict)],
+) -> Result<bool, Memory> {
+    for case in cases {
+        if !is_told(alloc, market, &case.0, case.1, case.2, case.3)? {
+            return Ok(false);
+        }
+    }
+    Ok(true)
+}
+
+const UP: i32 = 20_000_000;
+
+/// With a limit of 40 MW, and of 45 after the loss of branch 1.
+const WITH_AN_OUTAGE: [([i32; 2], u32, i32, Verdict); 10] = [
+    ([45, 15], 1, UP, Verdict::Yes),
+    ([45, 15], 0, UP, Verdict::No(Reason::Slack { row: IN_BASE })),
+    ([45, 15], 2, UP, Verdict::No(Reason::NoRow { row: AFTER_2 })),
+    ([45, 15], 1, -UP, Verdict::No(Reason::Sign { row: AFTER_1 })),
+    ([161, -101], 1, UP, Verdict::No(Reason::Block { n: 1 })),
+    ([61, -1], 1, UP, Verdict::No(Reason::Block { n: 2 })),
+    ([45, 14], 1, UP, Verdict::No(Reason::Balance)),
+    ([60, 0], 1, UP, Verdict::No(Reason::Limit { row: IN_BASE })),
+    ([50, 10], 1, UP, Verdict::No(Reason::Limit { row: AFTER_1 })),
+    ([45, 15], 1, 0, Verdict::No(Reason::Support { n: 2 })),
+];
+
+/// With a limit of 40 MW alone.
+const WITHOUT_OUTAGES: [([i32; 2], u32, i32, Verdict); 2] = [
+    ([45, 15], 1, UP, Verdict::No(Reason::NoRow { row: AFTER_1 })),
+    ([50, 10], 0, 40_000_000, Verdict::Yes),
+];
+
 #[test]
 fn tells_of_a_dispatch(rt: HostRuntime) -> Result<(), Fail> {
     let alloc = rt.alloc();
     let market = triangle(alloc, 40_000_000_000, true)?;
-    let up = 20_000_000;
-    assert!(rt; is_told(alloc, &market, &[45, 15], 1, up, Verdict::Yes)?);
-    assert!(rt;
-        is_told(
-            alloc,
-            &market,
-            &[45, 15],
-            0,
-            up,
-            Verdict::No(Reason::Slack { row: IN_BASE })
-        )?
-    );
-    assert!(rt;
-        is_told(
-            alloc,
-            &market,
-            &[45, 15],
-            3,
-            up,
-            Verdict::No(Reason::NoRow {
-                row: RowId {
-                    branch: 2,
-                    outage: 3
-                }
-            })
-        )?
-    );
+    assert!(rt; are_told(alloc, &market, &WITH_AN_OUTAGE)?);
     assert!(rt;
         is_told(
             alloc,
             &market,
             &[45, 15, 0],
             1,
-            up,
+            UP,
             Verdict::No(Reason::Count)
-        )?
-    );
-    assert!(rt;
-        is_told(
-            alloc,
-            &market,
-            &[45, 15],
-            1,
-            -up,
-            Verdict::No(Reason::Sign { row: AFTER_1 })
-        )?
-    );
-    assert!(rt;
-        is_told(
-            alloc,
-            &market,
-            &[161, -101],
-            1,
-            up,
-            Verdict::No(Reason::Block { n: 1 })
-        )?
-    );
-    assert!(rt;
-        is_told(
-            alloc,
-            &market,
-            &[61, -1],
-            1,
-            up,
-            Verdict::No(Reason::Block { n: 2 })
-        )?
-    );
-    assert!(rt;
-        is_told(
-            alloc,
-            &market,
-            &[45, 14],
-            1,
-            up,
-            Verdict::No(Reason::Balance)
-        )?
-    );
-    assert!(rt;
-        is_told(
-            alloc,
-            &market,
-            &[60, 0],
-            1,
-            up,
-            Verdict::No(Reason::Limit { row: IN_BASE })
-        )?
-    );
-    assert!(rt;
-        is_told(
-            alloc,
-            &market,
-            &[50, 10],
-            1,
-            up,
-            Verdict::No(Reason::Limit { row: AFTER_1 })
-        )?
-    );
-    assert!(rt;
-        is_told(
-            alloc,
-            &market,
-            &[45, 15],
-            1,
-            0,
-            Verdict::No(Reason::Support { n: 2 })
         )?
     );
     Ok(())
@@ -364,36 +309,41 @@ fn tells_of_a_dispatch(rt: HostRuntime) -> Result<(), Fail> {
 fn tells_of_a_row_that_is_not_there(rt: HostRuntime) -> Result<(), Fail> {
     let alloc = rt.alloc();
     let market = triangle(alloc, 40_000_000_000, false)?;
-    assert!(rt;
-        is_told(
-            alloc,
-            &market,
-            &[45, 15],
-            1,
-            20_000_000,
-            Verdict::No(Reason::NoRow { row: AFTER_1 })
-        )?
-    );
-    assert!(rt; is_told(alloc, &market, &[50, 10], 0, 40_000_000, Verdict::Yes)?);
+    assert!(rt; are_told(alloc, &market, &WITHOUT_OUTAGES)?);
     Ok(())
 }
+
+/// Whether each of these is told: of a price of energy, and one of branch 2.
+fn farkas_told(
+    alloc: Global,
+    market: &Market,
+    cases: &[(i32, u32, i32, Verdict)],
+) -> Result<bool, Memory> {
+    for case in cases {
+        let wide = farkas::<Frac>(alloc, market, case.0, case.1, case.2)?;
+        let narrow = farkas::<Frac63>(alloc, market, case.0, case.1, case.2)?;
+        if wide != Some(case.3) || narrow != Some(case.3) {
+            return Ok(false);
+        }
+    }
+    Ok(true)
+}
+
+const AT_LIMIT_10: [(i32, u32, i32, Verdict); 1] = [(-1, 0, 2, Verdict::Yes)];
+
+const AT_LIMIT_40: [(i32, u32, i32, Verdict); 3] = [
+    (-1, 0, 2, Verdict::No(Reason::Bound)),
+    (-1, 1, 2, Verdict::No(Reason::NoRow { row: AFTER_1 })),
+    (-1, 0, -2, Verdict::No(Reason::Sign { row: IN_BASE })),
+];
 
 #[test]
 fn tells_that_nothing_is_feasible(rt: HostRuntime) -> Result<(), Fail> {
     let alloc = rt.alloc();
     let tight = triangle(alloc, 10_000_000_000, false)?;
-    assert!(rt; farkas::<Frac>(alloc, &tight, -1, 0, 2)? == Some(Verdict::Yes));
-    assert!(rt; farkas::<Frac63>(alloc, &tight, -1, 0, 2)? == Some(Verdict::Yes));
+    assert!(rt; farkas_told(alloc, &tight, &AT_LIMIT_10)?);
     assert!(rt; farkas::<Frac63>(alloc, &tight, 1_000_000_000, 0, 2)?.is_none());
     let market = triangle(alloc, 40_000_000_000, false)?;
-    assert!(rt; farkas::<Frac>(alloc, &market, -1, 0, 2)? == Some(Verdict::No(Reason::Bound)));
-    assert!(rt;
-        farkas::<Frac>(alloc, &market, -1, 1, 2)?
-            == Some(Verdict::No(Reason::NoRow { row: AFTER_1 }))
-    );
-    assert!(rt;
-        farkas::<Frac>(alloc, &market, -1, 0, -2)?
-            == Some(Verdict::No(Reason::Sign { row: IN_BASE }))
-    );
+    assert!(rt; farkas_told(alloc, &market, &AT_LIMIT_40)?);
     Ok(())
 }
