@@ -1,7 +1,7 @@
 -- The value of a certificate is in the grammar, and gives the certificate again.
-use Rattle.std.specs.Prelude.{◌≡◌, ℕ, ◌<◌, ◌≤◌, ◌^◌, List, [], ◌∷◌, map, length, Bool, true, false, codes, All, Option, Some, None, Result, Ok, Err, option_map, option_and_then, IsUtf8, max, unsigned_abs}
+use Rattle.std.specs.Prelude.{◌≡◌, ℕ, ◌≤◌, List, [], ◌∷◌, map, Bool, true, false, codes, All, Some, None, Ok, Err, IsUtf8, unsigned_abs}
 use Rattle.std.specs.Str.{is_utf8}
-use Rattle.std.proofs.Common.{zero, suc, arith, ap, sym, ◌∙◌, refl, get_or}
+use Rattle.std.proofs.Common.{suc, arith, ap, ◌∙◌, refl}
 use Rattle.std.proofs.lemmas.Bool.{lt-ltb}
 use Rattle.std.proofs.lemmas.List.Elements.{All-cons, All-nil}
 use Rattle.market_model.specs.Valued.{dual_at}
@@ -11,7 +11,7 @@ use Rattle.exact_fraction.specs.Written.{parts_text}
 use Rattle.market_model.specs.declared.answered.Dual.{Dual}
 use Rattle.json.specs.Tree as tree
 use Rattle.json.proofs.Printed.Utf8.{IsUtf8-are_ascii, are_ascii}
-use Rattle.serde_json.specs.Data.{Data, Items, no_items, item}
+use Rattle.serde_json.specs.Data.{Data}
 use Rattle.serde_json.specs.Read.{max_depth, of_items, of_json, read}
 use Rattle.serde_json.specs.View.{items_of}
 use Rattle.serde_json.specs.Written.{has_float, items_have_float, items_outline, outline}
@@ -20,10 +20,10 @@ use Rattle.serde_json.proofs.OnLiterals.{serde_json_on_literals}
 use Rattle.cert_format.specs.declared.certificate.Cert.{Cert}
 use Rattle.cert_format.specs.declared.certificate.Cert.TheVariants as cert
 use Rattle.cert_format.specs.declared.certificate.Key.TheVariants as key
-use Rattle.cert_format.specs.Certificates.{CertFits, DualFits, Fits, NamesNoRowTwice, RowFits, RowsAreDistinct, cert_at, limits_of, most_part}
+use Rattle.cert_format.specs.Certificates.{CertFits, DualFits, Fits, RowFits, RowsAreDistinct, cert_at, limits_of, most_part}
 use Rattle.cert_format.specs.FractionTexts.{fraction_of}
 use Rattle.cert_format.specs.Grammar.{cert_in, cert_read, each, farkas_in, fraction_in, limit_in, optimal_in}
-use Rattle.cert_format.specs.Written.{cert_data, cert_text, fraction_data, limit_data, limits_data}
+use Rattle.cert_format.specs.Written.{cert_data, cert_text, fraction_data, limit_data}
 use Rattle.cert_format.proofs.FractionLemmas.{fraction_of-read}
 use Rattle.cert_format.proofs.RowLemmas.{names-distinct}
 use Rattle.cert_format.proofs.TextLemmas.{IsPlain, ItemsArePlain, read-compact_text, utf8-data, utf8-parts_text}

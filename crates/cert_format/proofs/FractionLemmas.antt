@@ -1,20 +1,20 @@
 -- The text of a fraction is taken apart at its `/`, and its digits give the numbers again.
-use Rattle.std.specs.Prelude.{◌≡◌, ℕ, ◌<◌, ◌≤◌, ◌+◌, ◌*◌, ◌==◌, ◌&&◌, ℤ, pos, negsuc, neg_ℤ, unsigned_abs, slice_index, List, [], ◌∷◌, ◌++◌, length, map, take, drop, position, Bool, true, false, cond, not, nat_lt, nat_le, Option, Some, None}
+use Rattle.std.specs.Prelude.{◌≡◌, ℕ, ◌<◌, ◌+◌, ◌==◌, ◌&&◌, ℤ, pos, negsuc, neg_ℤ, unsigned_abs, slice_index, List, [], ◌∷◌, ◌++◌, length, map, take, drop, position, Bool, true, false, cond, Option, Some, None}
 use Rattle.std.specs.List.{AllByRecursion, before_first, after_first, position_or_len}
-use Rattle.std.specs.Int.{IsGcd, IsInRange}
+use Rattle.std.specs.Int.{IsInRange}
 use Rattle.std.specs.Int.Digits.{digits_of}
 use Rattle.std.specs.Char.{digit_value}
 use Rattle.std.specs.Str.{bytes_eq}
-use Rattle.std.specs.Str.Parse.{digits_value, signed_digits_value, starts_with_minus, without_leading_sign}
+use Rattle.std.specs.Str.Parse.{digits_value, signed_digits_value, starts_with_minus}
 use Rattle.std.proofs.Common.{zero, suc, arith, ap, sym, ◌∙◌, subst, refl, append_assoc, length-append}
-use Rattle.std.proofs.lemmas.Bool.{and_parts, and_from, cases_Bool, eq-eqb, ne_eqb, lt-ltb, le-leb, leb-true, true≢false}
+use Rattle.std.proofs.lemmas.Bool.{and_parts, and_from, ne_eqb, lt-ltb, le-leb, leb-true}
 use Rattle.std.proofs.lemmas.Int.Digits.{all_below_base_digits_of, digits_value_is, number_digits_of}
 use Rattle.std.proofs.lemmas.List.{take_at, drop_at, length_push}
 use Rattle.std.proofs.lemmas.Option.{cond_some}
 use Rattle.std.proofs.lemmas.Slice.Eq.{bytes_eq-Decides}
 use Rattle.std.proofs.lemmas.Str.{digit_value_digit}
 use Rattle.fraction_theory.specs.Code.{over_parts}
-use Rattle.fraction_theory.specs.Fraction.{Fraction, over}
+use Rattle.fraction_theory.specs.Fraction.{Fraction}
 use Rattle.exact_fraction.specs.Written.{number_text, sign_text, parts_text}
 use Rattle.cert_format.specs.Certificates.{Fits}
 use Rattle.cert_format.specs.FractionTexts.{Spells, fits, fraction_of, is_slash, quotient_of}

@@ -1,6 +1,6 @@
 -- A part that was read, and one that was not.
-use Rattle.std.proofs.Common.{◌≡◌, ◌∙◌, sym, ap, refl}
-use Rattle.std.specs.Prelude.{Option, Some, None, Result, Ok, Err, List, map, Bool, not, is_none, is_some, option_map, IfOk}
+use Rattle.std.proofs.Common.{◌≡◌, ◌∙◌, sym, ap}
+use Rattle.std.specs.Prelude.{Option, Some, None, Result, Ok, Err, Bool, not, is_none, is_some, option_map, IfOk}
 use Rattle.cert_format.specs.declared.certificate.CertFault.{CertFault}
 use Rattle.cert_format.specs.declared.certificate.CertFault.TheVariants as fault
 use Rattle.cert_format.specs.declared.certificate.Key.{Key}

@@ -1,5 +1,5 @@
 -- Values that are made item after item.
-use Rattle.std.proofs.Common.{◌≡◌, ◌<◌, ◌≤◌, ◌+◌, ◌∙◌, sym, ap, ap₂, subst, refl, ℕ, List, [], ◌∷◌, ◌++◌, map, take, length, get_or, All, arith}
+use Rattle.std.proofs.Common.{◌≡◌, ◌<◌, ◌≤◌, ◌+◌, ◌∙◌, sym, ap, ap₂, refl, ℕ, List, [], ◌∷◌, ◌++◌, map, take, length, get_or}
 use Rattle.std.proofs.lemmas.List.{map-append, take_all, take_more}
 
 map-map : {A B C : Type 0} (f : B → C) (h : A → B) (xs : List A) → map (λ x. f (h x)) xs ≡ map f (map h xs)

@@ -1,5 +1,5 @@
 -- Certificates, and those of what a clear came to.
-use Rattle.std.specs.Prelude.{◌≡◌, ◌≢◌, ℕ, ◌<◌, ◌≤◌, ◌-◌, ◌^◌, List, map, All, AllPairs, Option, Some, None, unsigned_abs}
+use Rattle.std.specs.Prelude.{◌≢◌, ℕ, ◌<◌, ◌≤◌, ◌-◌, ◌^◌, List, map, All, AllPairs, Option, Some, None, unsigned_abs}
 use Rattle.fraction_theory.specs.Fraction.{Fraction}
 use Rattle.market_model.specs.declared.answered.Dual.{Dual}
 use Rattle.market_model.specs.declared.answered.RowId.{RowId}

@@ -4,7 +4,7 @@ use Rattle.fraction_theory.specs.Fraction.{Fraction}
 use Rattle.exact_fraction.specs.Written.{parts_text}
 use Rattle.market_model.specs.declared.answered.Dual.{Dual}
 use Rattle.market_model.specs.declared.answered.Outcome.{Outcome}
-use Rattle.serde_json.specs.Data.{Data, number, string, array, object, Members, no_members, member, unsigned}
+use Rattle.serde_json.specs.Data.{Data, number, string, array, object, no_members, member, unsigned}
 use Rattle.serde_json.specs.View.{items_of}
 use Rattle.serde_json.specs.Written.{compact_text}
 use Rattle.cert_format.specs.declared.certificate.Cert.{Cert}

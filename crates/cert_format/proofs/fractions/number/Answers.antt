@@ -1,4 +1,4 @@
-use Rattle.std.proofs.Common.{rules, arith, ◌≡◌, ◌∙◌, ◌≤◌, ◌<◌, ◌-◌, pos, length, ap, inl, inr, Some, get_or}
+use Rattle.std.proofs.Common.{◌∙◌, ◌-◌, pos, ap, Some, get_or}
 use Rattle.std.proofs.lemmas.Bool.{MatchBool-at_false, MatchBool-at_true}
 use Rattle.std.specs.Char.{IsAsciiDigit}
 use Rattle.fraction_theory.proofs.FieldLaws.{over-one}

@@ -1,6 +1,5 @@
-use Rattle.std.proofs.Common.{◌≡◌, ◌∙◌, ℕ, ◌≤◌, pos, length, ap, sym, cond, Some, None, unsigned_abs}
+use Rattle.std.proofs.Common.{◌≡◌, ◌∙◌, pos, ap, sym, cond, Some, unsigned_abs}
 use Rattle.std.specs.Prelude.{position}
-use Rattle.std.specs.Str.Parse.{starts_with_minus}
 use Rattle.std.proofs.lemmas.Option.{none-some}
 use Rattle.fraction_theory.specs.Fraction.{neg_ℚ, whole}
 use Rattle.cert_format.specs.FractionTexts.{is_slash}

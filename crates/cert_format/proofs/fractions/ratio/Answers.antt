@@ -1,6 +1,5 @@
-use Rattle.std.proofs.Common.{◌≡◌, ◌∙◌, ap, Some}
+use Rattle.std.proofs.Common.{◌∙◌, ap, Some}
 use Rattle.fraction_theory.specs.Fraction.{◌*ℚ◌}
-use Rattle.exact_fraction.specs.Passes.{ProductPasses}
 use Rattle.cert_format.proofs.QuotientLemmas.{not_nil_by_either, quotient_fits, quotient_is, sign_not_zero}
 use Rattle.cert_format.proofs.fractions.ratio.Goals as goal
 

@@ -1,4 +1,4 @@
-use Rattle.std.proofs.Common.{◌≡◌, ◌∙◌}
+use Rattle.std.proofs.Common.{◌∙◌}
 use Rattle.cert_format.proofs.RowLemmas.{by_new}
 use Rattle.cert_format.proofs.reading.add_row.Goals as goal
 

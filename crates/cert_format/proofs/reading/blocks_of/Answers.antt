@@ -1,9 +1,9 @@
 use Rattle.std.proofs.Common.{◌≡◌, ◌∙◌, ◌∷◌, [], sym, ap, Some, None, Ok, get_or, map}
 use Rattle.std.specs.Prelude.{option_map}
 use Rattle.std.proofs.lemmas.List.{map-append}
-use Rattle.serde_json.specs.View.{items_view, view}
+use Rattle.serde_json.specs.View.{view}
 use Rattle.cert_format.specs.declared.certificate.Key.TheVariants as key
-use Rattle.cert_format.specs.Grammar.{each, fraction_in, need}
+use Rattle.cert_format.specs.Grammar.{fraction_in, need}
 use Rattle.cert_format.proofs.EachLemmas.{rest-end, rest-none, rest-start, rest-step}
 use Rattle.cert_format.proofs.reading.blocks_of.Goals as goal
 

@@ -1,6 +1,5 @@
-use Rattle.std.proofs.Common.{◌≡◌, ◌∙◌, sym, ap, refl, Some, None}
+use Rattle.std.proofs.Common.{◌∙◌, sym, ap, refl, Some}
 use Rattle.std.specs.Prelude.{option_map}
-use Rattle.serde_json.specs.View.{view}
 use Rattle.cert_format.specs.Grammar.{cert_in}
 use Rattle.cert_format.proofs.reading.cert_in.Goals as goal
 

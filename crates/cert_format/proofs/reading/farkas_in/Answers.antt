@@ -1,12 +1,12 @@
-use Rattle.std.proofs.Common.{rules, ◌≡◌, ◌∙◌, sym, ap, refl, Some, Ok, Err, map, true, false, codes, not}
-use Rattle.std.specs.Prelude.{Option, None, is_none, is_some}
+use Rattle.std.proofs.Common.{rules, ◌≡◌, ◌∙◌, sym, refl, Ok, Err, map, true, false, codes}
+use Rattle.std.specs.Prelude.{is_none}
 use Rattle.serde_json.specs.Find.{get}
 use Rattle.serde_json.specs.View.{view}
 use Rattle.market_model.specs.Valued.{dual_at}
 use Rattle.cert_format.specs.declared.certificate.Cert.TheVariants as cert
 use Rattle.cert_format.specs.declared.certificate.Key.TheVariants as key
 use Rattle.cert_format.specs.Certificates.{cert_at}
-use Rattle.cert_format.specs.Grammar.{check, farkas_in, has_size, limits_in, need}
+use Rattle.cert_format.specs.Grammar.{check, farkas_in, has_size, limits_in}
 use Rattle.cert_format.proofs.GivesLemmas.{fails-further, need-some, none-of}
 use Rattle.cert_format.proofs.reading.farkas_in.Goals as goal
 

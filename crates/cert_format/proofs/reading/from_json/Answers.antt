@@ -1,9 +1,7 @@
-use Rattle.std.proofs.Common.{rules, ◌≡◌, ◌∙◌, sym, ap, Err}
+use Rattle.std.proofs.Common.{rules, ◌∙◌, ap, Err}
 use Rattle.std.proofs.lemmas.Result.{IfOk-weaker}
 use Rattle.serde_json.specs.Errors.{IsMemory}
 use Rattle.serde_json.specs.View.{view}
-use Rattle.cert_format.specs.declared.certificate.Key.{Key}
-use Rattle.cert_format.specs.declared.certificate.Key.TheVariants as key
 use Rattle.cert_format.specs.Grammar.{cert_in, cert_read}
 use Rattle.cert_format.specs.Certificates.{most_part}
 use Rattle.cert_format.proofs.CertLemmas.{json-fault, json-value}

@@ -1,8 +1,6 @@
-use Rattle.std.proofs.Common.{◌≡◌, ◌∙◌, sym, ap, refl, Some, None, true, false, codes}
+use Rattle.std.proofs.Common.{◌∙◌, sym, ap, refl}
 use Rattle.std.specs.Prelude.{option_map}
-use Rattle.serde_json.specs.View.{view}
-use Rattle.market_model.specs.Valued.{dual_at}
-use Rattle.cert_format.specs.Grammar.{fraction_at, has_size, in_32, limit_in, number_at}
+use Rattle.cert_format.specs.Grammar.{limit_in}
 use Rattle.cert_format.proofs.reading.limit_in.Goals as goal
 
 pub returns-in_err-branch : goal.returns-in_err-branch

@@ -1,10 +1,10 @@
-use Rattle.std.proofs.Common.{◌≡◌, ◌∙◌, ◌+◌, sym, ap, refl, Some, None, Ok, get_or, map, true, false}
+use Rattle.std.proofs.Common.{◌≡◌, ◌∙◌, ◌+◌, sym, ap, refl, Some, None, Ok, get_or, map}
 use Rattle.std.specs.Prelude.{option_map, option_and_then}
 use Rattle.std.proofs.lemmas.Bool.{not-false, not-true}
-use Rattle.serde_json.specs.View.{items_view, view}
+use Rattle.serde_json.specs.View.{view}
 use Rattle.market_model.specs.Valued.{dual_at}
 use Rattle.cert_format.specs.declared.certificate.Key.TheVariants as key
-use Rattle.cert_format.specs.Grammar.{each, if_distinct, limit_in, need}
+use Rattle.cert_format.specs.Grammar.{if_distinct, limit_in, need}
 use Rattle.cert_format.proofs.EachLemmas.{rest-end, rest-none, rest-start, rest-step, left_of}
 use Rattle.cert_format.proofs.RowLemmas.{once-push, repeated, rows-push, seen-push, test_is}
 use Rattle.cert_format.proofs.reading.limits_of.Goals as goal
@@ -45,7 +45,7 @@ loop-value-preserved g c =
     let seen = seen-push g.N.Exact.value c.loop-value.limits c.in-Some.limit c.loop-value.rows.keys c.loop-value.invariant.rows fresh c.push.new.self pushed in
     record {
       read = rw seen read;
-      rows = rows-push g.N.Exact.value c.loop-value.limits c.in-Some.limit c.loop-value.rows.keys c.loop-value.invariant.rows fresh c.push.new.self pushed c.add_row-is_new.new.rows.keys (rw c.if-not-is_new.false at c.in_ok-is_new.ensures.keys);
+      rows = rows-push g.N.Exact.value c.loop-value.limits c.in-Some.limit c.loop-value.rows.keys c.loop-value.invariant.rows fresh c.push.new.self pushed c.add_row.new.rows.keys (rw c.if-not-is_new.false at c.in_ok-is_new.ensures.keys);
       once = once-push g.N.Exact.value c.loop-value.limits c.in-Some.limit c.loop-value.rows.keys c.loop-value.invariant.rows fresh c.push.new.self pushed c.loop-value.invariant.once;
     }
 

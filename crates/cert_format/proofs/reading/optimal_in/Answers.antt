@@ -1,4 +1,4 @@
-use Rattle.std.proofs.Common.{rules, ◌≡◌, ◌∙◌, sym, refl, Some, Ok, Err, map}
+use Rattle.std.proofs.Common.{rules, ◌≡◌, ◌∙◌, sym, refl, Ok, Err, map}
 use Rattle.serde_json.specs.View.{view}
 use Rattle.market_model.specs.Valued.{dual_at}
 use Rattle.cert_format.specs.declared.certificate.Cert.TheVariants as cert

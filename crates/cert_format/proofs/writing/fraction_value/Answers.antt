@@ -1,4 +1,4 @@
-use Rattle.std.proofs.Common.{◌≡◌, ◌∙◌, sym, subst, IsUtf8}
+use Rattle.std.proofs.Common.{sym, subst, IsUtf8}
 use Rattle.cert_format.proofs.TextLemmas.{is_ok, utf8-parts_text}
 use Rattle.cert_format.proofs.writing.fraction_value.Goals as goal
 
