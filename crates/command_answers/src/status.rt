@@ -5,11 +5,11 @@ ghost use Rattle.std.specs.Prelude.{◌≡◌};
 /// The exit status of a run.
 #[derive(Clone, Copy, PartialEq, Eq, Debug)]
 pub enum Status {
-    /// Cleared, or within rounding.
+    /// Cleared, each step of a replay accepted or cleared, a certificate that holds, or within rounding.
     Done,
     /// The words are none that the program takes.
     Usage,
-    /// A file is at fault.
+    /// A file is at fault, or an edit of a replay is refused.
     Refused,
     /// No dispatch is feasible.
     Infeasible,
@@ -17,7 +17,7 @@ pub enum Status {
     Range,
     /// A named file could not be read.
     ReadFailed,
-    /// The text could not be put.
+    /// The certificate could not be written, or the text not be put.
     WriteFailed,
     /// Memory was refused.
     Memory,

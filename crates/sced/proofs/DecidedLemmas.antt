@@ -1,11 +1,11 @@
 -- A text and a status that are right decide whether a dispatch is feasible, and whether a certificate holds, where no pair passes the bound.
-use Rattle.std.specs.Prelude.{◌≡◌, ℕ, Bool, true, false, List, [], Option, Some, None, codes, Result, Ok, ◌⊎◌}
+use Rattle.std.specs.Prelude.{◌≡◌, ◌≢◌, ℕ, Bool, true, false, if◌then◌else◌, List, [], ◌∷◌, Option, Some, None, codes, Result, Ok, ◌⊎◌}
 use Rattle.std.specs.Str.{bytes_eq}
-use Rattle.std.proofs.Common.{inl, inr, refl, sym, subst, ap, ◌∙◌}
+use Rattle.std.proofs.Common.{suc, inl, inr, refl, sym, subst, ap, ◌∙◌}
 use Rattle.fraction_theory.specs.Fraction.{Fraction}
 use Rattle.exact_fraction.specs.declared.Passed.{Passed}
 use Rattle.outside_store.specs.Files.{Files}
-use Rattle.clap.specs.Words.{Row}
+use Rattle.clap.specs.Words as clap_words
 use Rattle.market_model.specs.declared.participants.Parts.{Parts}
 use Rattle.market_model.specs.declared.answered.Outcome.{Outcome}
 use Rattle.market_model.specs.declared.answered.Outcome.TheVariants as outcome
@@ -23,18 +23,25 @@ use Rattle.market_inputs.specs.Files.{sized}
 use Rattle.market_inputs.specs.Replaying.{certificate_in, steps_in}
 use Rattle.market_inputs.proofs.OnceLemmas.{OfOne, clear-once, is-once, pool-once, then-once}
 use Rattle.command_words.specs.Words.{AsksCheck, AsksClear, AsksMake, AsksPool, AsksReplay, AsksVerify, Enters, MarketNames, refuses}
-use Rattle.command_words.proofs.WordsLemmas.{asks-once, clears-once, enters-one, makes-once, names-apart, verifies-once}
+use Rattle.command_words.proofs.WordsLemmas.{asks-once, clears-once, enters-one, makes-once, names-apart, replays-once, verifies-once}
 use Rattle.command_answers.specs.Clearing.{TellsClear, most_size, status_of}
-use Rattle.command_answers.specs.Inputs.{IsCertified, IsLimited, IsReplayed, MarketCertificate, MarketTexts}
+use Rattle.command_answers.specs.Inputs.{IsCertified, IsLimited, IsReplayed, MarketCertificate, MarketSteps, MarketTexts}
+use Rattle.command_answers.specs.Replaying.{TellsReplay, is_done, replay_status, step_status}
+use Rattle.market_model.specs.LimitRows.{Row}
+use Rattle.edit_table.specs.declared.Step.{Step}
+use Rattle.edit_table.specs.declared.Step.TheVariants as step
+use Rattle.edit_replay.specs.Replays.{IsReplay, IsReply, stepped}
+use Rattle.edit_replay.specs.declared.step_outcome.StepOutcome.{StepOutcome}
+use Rattle.edit_replay.specs.declared.step_outcome.StepOutcome.TheVariants as reply
 use Rattle.command_answers.specs.Making.{MakesTo, cleared as ring_cleared, passed as ring_passed}
 use Rattle.command_answers.specs.Tellings.{ComesTo, Telling, Tells}
 use Rattle.command_answers.specs.Verifying.{IsCertificatePair, TellsVerdict, VerifiesTo, judged, passed, verdict_status}
 use Rattle.command_answers.specs.declared.status.Status.{Status}
 use Rattle.command_answers.specs.declared.status.Status.TheVariants as status
-use Rattle.sced.specs.Decided.{AsksMarket, AsksVerdict, Decides, IsDecidedIn, IsDecidedOf, IsMadeOf, as_clear, as_pool}
+use Rattle.sced.specs.Decided.{AsksMarket, AsksSteps, AsksVerdict, Decides, IsDecidedIn, IsDecidedOf, IsMadeOf, NoPairPassesIn, as_clear, as_pool}
 use Rattle.sced.specs.Reading.{HaveTexts, IsTable, contingencies_header, edits_header, lodf_header, offsets_header}
-use Rattle.sced.specs.Told.{AnswersTo, AreClearFiles, ArePoolFiles, AreVerifyFiles, OfFiles, checked, cleared, made, pooled, refused, replayed, verified}
-use Rattle.sced.proofs.FileLemmas.{AreAlike, certified-same, limited-same, pool-same}
+use Rattle.sced.specs.Told.{AnswersTo, AreClearFiles, ArePoolFiles, AreReplayFiles, AreVerifyFiles, OfFiles, checked, cleared, made, pooled, refused, replayed, verified}
+use Rattle.sced.proofs.FileLemmas.{AreAlike, certified-same, limited-same, pool-same, replayed-same}
 
 -- ---- files stand for one market, or have one first fault
 same-bytes : (a b : List ℕ) (o : Option (List ℕ)) → o ≡ Some a → o ≡ Some b → a ≡ b
@@ -75,6 +82,11 @@ pool-files-once files case offers a b h k =
 clear-files-once : (files : Files) (names : MarketNames) → OfOne (AreClearFiles files names)
 clear-files-once files names a b h k = limited-once names.rating h.texts a b h.market (limited-same names.rating k.texts h.texts b (same-texts files names k.texts h.texts k.have h.have) k.market)
 
+replay-files-once : (files : Files) (names : MarketNames) (edits : List ℕ) → OfOne (AreReplayFiles files names edits)
+replay-files-once files names edits a b h k =
+    let same_edits = ap (sized (refusal.TooLong input.Edits)) (same-bytes k.edits h.edits (files edits) k.edits_are h.edits_are) in
+    replayed-once names.rating h.texts h.edits a b h.steps (replayed-same names.rating k.texts h.texts k.edits h.edits b (same-texts files names k.texts h.texts k.have h.have) same_edits k.steps)
+
 verify-files-once : (files : Files) (names : MarketNames) (edits : Option (List ℕ)) (certificate : List ℕ) → OfOne (AreVerifyFiles files names edits certificate)
 verify-files-once files names edits certificate a b h k =
     let same_edits = ap (sized (refusal.TooLong input.Edits)) (same-table files edits edits_header k.edits h.edits k.edits_are h.edits_are) in
@@ -105,6 +117,34 @@ comes-decided m t (market, clears) none =
 told-of : {A : Type 0} (stand : Result A Refusal → Type 0) (right : A → Telling → Type 0) (x : A) (t : Telling) → OfOne stand → stand (Ok x) → Tells stand right t → right x t
 told-of {A} stand right x t once here tells = subst (λ (r : Result A Refusal). ComesTo right r t) (once tells.told (Ok x) tells.stands here) tells.comes
 
+-- a replay in which no pair passes the bound tells of no numbers that are too large
+not-range : (bound : ℕ) (m : Parts) (before after : List Row) (s : Step) (o : StepOutcome Fraction) → ((taken : List Row) → NoPairPasses m taken bound) → IsReply bound m before s o after → step_status o ≢ status.Range
+not-range bound m before after (step.Edit e) reply.Accepted none is bad = cc bad
+not-range bound m before after (step.Edit e) (reply.Refused f) none is bad = cc bad
+not-range bound m before after (step.Edit e) (reply.Clear o) none is bad = elim is [ ]
+not-range bound m before after step.Clear reply.Accepted none is bad = elim is [ ]
+not-range bound m before after step.Clear (reply.Refused f) none is bad = elim is [ ]
+not-range bound m before after step.Clear (reply.Clear (outcome.Cleared a)) none is bad = cc bad
+not-range bound m before after step.Clear (reply.Clear (outcome.Infeasible f)) none is bad = cc bad
+not-range bound m before after step.Clear (reply.Clear (outcome.Range p)) none is bad = none before p is.right
+
+first-of : (done : Bool) (rest here : Status) → rest ≢ status.Range → here ≢ status.Range → (if done then rest else here) ≢ status.Range
+first-of true rest here no_rest no_here = no_rest
+first-of false rest here no_rest no_here = no_here
+
+no-range : (bound : ℕ) (m : Parts) (before after : List Row) (steps : List Step) (outcomes : List (StepOutcome Fraction)) → NoPairPassesIn m steps bound → IsReplay bound m before steps outcomes after
+    → replay_status outcomes ≢ status.Range
+unfolding replay_status
+no-range bound m before after [] [] none is bad = cc bad
+no-range bound m before after [] (o ∷ outcomes) none is bad = elim is [ ]
+no-range bound m before after (s ∷ steps) [] none is bad = elim is [ ]
+no-range bound m before after (s ∷ steps) (o ∷ outcomes) none (between, is, rest) bad =
+    first-of (is_done (step_status o)) (replay_status outcomes) (step_status o) (no-range bound (stepped m s) between after steps outcomes (λ k taken. none (suc k) taken) rest)
+    (not-range bound m before between s o (λ taken. none 0 taken) is) bad
+
+replay-told : (r : MarketSteps) (t : Telling) → TellsReplay r t → NoPairPassesIn r.market r.steps most_size → t.status ≢ status.Range
+replay-told r t (market, replays) none bad = no-range most_size r.market [] replays.taken r.steps replays.outcomes none replays.right (sym replays.status_is ∙ bad)
+
 -- a certificate of whose sums no pair passes the bound is judged
 verdict-told : (m : Parts) (c : Cert Fraction) (t : Telling) → VerifiesTo most_size m c t → ((p : Passed Fraction) → ¬ (IsCertificatePair m most_size c p)) → t.status ≡ verdict_status (first_reason m c)
 verdict-told m c t (judged is) none = ap (λ (s : Telling). s.status) is
@@ -116,22 +156,22 @@ ring-told buses seed t (ring_passed p pair within is) none = absurd (none p pair
 
 -- ---- the words
 -- words that enter a subcommand are taken, and enter no other
-not-refused : (words : List (List ℕ)) (name : List ℕ) (rows : List Row) → refuses words ≡ true → Enters words name rows → ⊥
+not-refused : (words : List (List ℕ)) (name : List ℕ) (rows : List clap_words.Row) → refuses words ≡ true → Enters words name rows → ⊥
 not-refused words name rows nothing enters = let taken = enters.taken in cc (nothing, taken)
 
-no-other : (words : List (List ℕ)) (name other : List ℕ) (rows rows' : List Row) → bytes_eq name other ≡ false → Enters words name rows → Enters words other rows' → ⊥
+no-other : (words : List (List ℕ)) (name other : List ℕ) (rows rows' : List clap_words.Row) → bytes_eq name other ≡ false → Enters words name rows → Enters words other rows' → ⊥
 no-other words name other rows rows' apart enters enters' = enters-one words name other rows rows' (names-apart name other apart) enters enters'
 
 -- words that ask to clear a market enter `pool` or `clear`
 pub data EntersMarket (words : List (List ℕ)) : Type 0 where
-  enters_pool : (rows : List Row) → Enters words (codes "pool") rows → EntersMarket words
-  enters_clear : (rows : List Row) → Enters words (codes "clear") rows → EntersMarket words
+  enters_pool : (rows : List clap_words.Row) → Enters words (codes "pool") rows → EntersMarket words
+  enters_clear : (rows : List clap_words.Row) → Enters words (codes "clear") rows → EntersMarket words
 
 entered : (files : Files) (words : List (List ℕ)) (m : Parts) → AsksMarket files words m → EntersMarket words
 entered files words m (as_pool case offers asks stands) = enters_pool asks.rows asks.enters
 entered files words m (as_clear names file asks stands) = enters_clear asks.rows asks.enters
 
-neither : (words : List (List ℕ)) (name : List ℕ) (rows : List Row) → bytes_eq name (codes "pool") ≡ false → bytes_eq name (codes "clear") ≡ false → Enters words name rows → EntersMarket words → ⊥
+neither : (words : List (List ℕ)) (name : List ℕ) (rows : List clap_words.Row) → bytes_eq name (codes "pool") ≡ false → bytes_eq name (codes "clear") ≡ false → Enters words name rows → EntersMarket words → ⊥
 neither words name rows no_pool no_clear enters (enters_pool rows' h) = no-other words name (codes "pool") rows rows' no_pool enters h
 neither words name rows no_pool no_clear enters (enters_clear rows' h) = no-other words name (codes "clear") rows rows' no_clear enters h
 
@@ -152,6 +192,15 @@ module _ (files : Files) (words : List (List ℕ)) (t : Telling) where
   cleared-decided m none names file asked told (as_clear names' file' asks stands) =
       let here : AreClearFiles files names (Ok m) = subst (λ (n : MarketNames). AreClearFiles files n (Ok m)) (clears-once words names' names file' file asks asked).0 stands in
       comes-decided m t (told-of (AreClearFiles files names) TellsClear m t (clear-files-once files names) here told) none
+
+  replayed-told : (m : Parts) (steps : List Step) (names : MarketNames) (edits : List ℕ) (certificate : Option (List ℕ)) → AsksReplay words names edits certificate
+      → Tells (AreReplayFiles files names edits) TellsReplay t → AsksSteps files words m steps → NoPairPassesIn m steps most_size → t.status ≢ status.Range
+  replayed-told m steps names edits certificate asked told asks none =
+      let made : MarketSteps = record { market = m; steps = steps } in
+      let same = replays-once words asks.names names asks.edits edits asks.certificate certificate asks.asks asked in
+      let here : AreReplayFiles files names edits (Ok made) =
+      subst (λ (x : List ℕ). AreReplayFiles files names x (Ok made)) same.1 (subst (λ (x : MarketNames). AreReplayFiles files x asks.edits (Ok made)) same.0 asks.stand) in
+      replay-told made t (told-of (AreReplayFiles files names edits) TellsReplay made t (replay-files-once files names edits) here told) none
 
   verified-told : (m : Parts) (c : Cert Fraction) (names : MarketNames) (edits : Option (List ℕ)) (certificate : List ℕ) → AsksVerify words names edits certificate
       → Tells (AreVerifyFiles files names edits certificate) TellsVerdict t → AsksVerdict files words m c → ((p : Passed Fraction) → ¬ (IsCertificatePair m most_size c p))
@@ -184,13 +233,22 @@ module _ (files : Files) (words : List (List ℕ)) (t : Telling) where
   answers-verdict _ (checked names asked told) m c asks none = absurd (no-other words (codes "check") (codes "verify") asked.rows asks.asks.rows refl asked.enters asks.asks.enters)
   answers-verdict _ (made buses seed asked told) m c asks none = absurd (no-other words (codes "make") (codes "verify") asked.rows asks.asks.rows refl asked.enters asks.asks.enters)
 
+  answers-replay : (w : Option (List ℕ × List ℕ)) → AnswersTo (Some files) words t w → (m : Parts) (steps : List Step) → AsksSteps files words m steps → NoPairPassesIn m steps most_size → t.status ≢ status.Range
+  answers-replay _ (refused nothing usage) m steps asks none = absurd (not-refused words _ asks.asks.rows nothing asks.asks.enters)
+  answers-replay _ (pooled case offers asked told) m steps asks none = absurd (no-other words (codes "pool") (codes "replay") asked.rows asks.asks.rows refl asked.enters asks.asks.enters)
+  answers-replay _ (cleared names file asked told) m steps asks none = absurd (no-other words (codes "clear") (codes "replay") asked.rows asks.asks.rows refl asked.enters asks.asks.enters)
+  answers-replay _ (replayed names edits file asked told) m steps asks none = replayed-told m steps names edits file asked told asks none
+  answers-replay _ (verified names edits certificate asked told) m steps asks none = absurd (no-other words (codes "verify") (codes "replay") asked.rows asks.asks.rows refl asked.enters asks.asks.enters)
+  answers-replay _ (checked names asked told) m steps asks none = absurd (no-other words (codes "check") (codes "replay") asked.rows asks.asks.rows refl asked.enters asks.asks.enters)
+  answers-replay _ (made buses seed asked told) m steps asks none = absurd (no-other words (codes "make") (codes "replay") asked.rows asks.asks.rows refl asked.enters asks.asks.enters)
+
 pub answers-decided : (files : Option Files) (words : List (List ℕ)) (t : Telling) (w : Option (List ℕ × List ℕ)) → AnswersTo files words t w → IsDecidedOf files words t.status
 answers-decided None words t w answers = tt
-answers-decided (Some files) words t w answers = record { decided = answers-market files words t w answers; verified = answers-verdict files words t w answers }
+answers-decided (Some files) words t w answers = record { decided = answers-market files words t w answers; replayed = answers-replay files words t w answers; verified = answers-verdict files words t w answers }
 
 -- a ring is made of words alone
 module _ (files : Option Files) (words : List (List ℕ)) (t : Telling) (buses seed : ℕ) (asks : AsksMake words buses seed) (none : NoPairPasses (ring_of buses seed) [] most_size) where
-  other-made : (name : List ℕ) (rows : List Row) → bytes_eq name (codes "make") ≡ false → Enters words name rows → t.status ≡ status.Done
+  other-made : (name : List ℕ) (rows : List clap_words.Row) → bytes_eq name (codes "make") ≡ false → Enters words name rows → t.status ≡ status.Done
   other-made name rows apart enters = absurd (no-other words name (codes "make") rows asks.rows apart enters asks.enters)
 
   answers-ring : (w : Option (List ℕ × List ℕ)) → AnswersTo files words t w → t.status ≡ status.Done

@@ -1,21 +1,24 @@
 -- What a run's status decides, where no numbers become too large.
-use Rattle.std.specs.Prelude.{◌≡◌, ℕ, List, [], Option, Some, None, Ok}
+use Rattle.std.specs.Prelude.{◌≡◌, ◌≢◌, ℕ, List, [], take, Option, Some, None, Ok}
 use Rattle.fraction_theory.specs.Fraction.{Fraction}
 use Rattle.exact_fraction.specs.declared.Passed.{Passed}
 use Rattle.outside_store.specs.Files.{Files}
 use Rattle.market_model.specs.declared.participants.Parts.{Parts}
 use Rattle.market_model.specs.Dispatch.{Dispatch}
+use Rattle.market_model.specs.LimitRows.{Row}
 use Rattle.market_model.specs.Optimality.{Feasible}
 use Rattle.market_system.specs.WorkingPairs.{NoPairPasses}
 use Rattle.case_maker.specs.Rings.{ring_of}
 use Rattle.cert_format.specs.declared.certificate.Cert.{Cert}
 use Rattle.cert_verify.specs.Certificates.{first_reason}
-use Rattle.command_words.specs.Words.{AsksClear, AsksMake, AsksPool, AsksVerify, MarketNames}
+use Rattle.edit_table.specs.declared.Step.{Step}
+use Rattle.edit_replay.specs.Replays.{edited_by}
+use Rattle.command_words.specs.Words.{AsksClear, AsksMake, AsksPool, AsksReplay, AsksVerify, MarketNames}
 use Rattle.command_answers.specs.Clearing.{most_size}
 use Rattle.command_answers.specs.Verifying.{IsCertificatePair, verdict_status}
 use Rattle.command_answers.specs.declared.status.Status.{Status}
 use Rattle.command_answers.specs.declared.status.Status.TheVariants as status
-use Rattle.sced.specs.Told.{AreClearFiles, ArePoolFiles, AreVerifyFiles}
+use Rattle.sced.specs.Told.{AreClearFiles, ArePoolFiles, AreReplayFiles, AreVerifyFiles}
 
 -- the status says whether a dispatch of the market is feasible
 pub record Decides (m : Parts) (s : Status) : Type 0 where
@@ -35,10 +38,24 @@ pub record AsksVerdict (files : Files) (words : List (List ℕ)) (m : Parts) (c 
   pub asks : AsksVerify words names edits certificate
   pub stand : AreVerifyFiles files names edits certificate (Ok (record { market = m; certificate = c }))
 
+-- the words ask for these steps of this market
+pub record AsksSteps (files : Files) (words : List (List ℕ)) (m : Parts) (steps : List Step) : Type 0 where
+  pub names : MarketNames
+  pub edits : List ℕ
+  pub certificate : Option (List ℕ)
+  pub asks : AsksReplay words names edits certificate
+  pub stand : AreReplayFiles files names edits (Ok (record { market = m; steps = steps }))
+
+-- no working pair of the market, as any number of the steps edit it, passes the bound, whatever limits a clear of it begins with
+abbrev pub NoPairPassesIn : Parts → List Step → ℕ → Type 0
+NoPairPassesIn m steps bound = (k : ℕ) (taken : List Row) → NoPairPasses (edited_by m (take k steps)) taken bound
+
 -- Where the words ask to clear a market of which no working pair passes the bound, the status decides it. Where they ask whether a
--- certificate holds of whose sums no pair passes it, the status says so.
+-- certificate holds of whose sums no pair passes it, the status says so. Where they ask for steps of a market of which no pair passes it,
+-- the status is not that of too large numbers.
 pub record IsDecidedIn (files : Files) (words : List (List ℕ)) (s : Status) : Type 0 where
   pub decided : (m : Parts) → AsksMarket files words m → NoPairPasses m [] most_size → Decides m s
+  pub replayed : (m : Parts) (steps : List Step) → AsksSteps files words m steps → NoPairPassesIn m steps most_size → s ≢ status.Range
   pub verified : (m : Parts) (c : Cert Fraction) → AsksVerdict files words m c → ((p : Passed Fraction) → ¬ (IsCertificatePair m most_size c p)) → s ≡ verdict_status (first_reason m c)
 
 -- so it is where the store tells its files

@@ -52,8 +52,8 @@ abbrev pub Keeps : Type 0 → Option (List ℕ × List ℕ) → Option Files →
 Keeps failed None before now = SameFiles before now
 Keeps failed (Some (name, bytes)) before now = Wrote failed name bytes before now
 
--- How a run ends that has something to tell: the file that there is to write is written, and then the text is put, once, and the status
--- is that which goes with it, or that of a failed put. Where the write fails nothing is put.
+-- How a run ends that has something to tell: the file that there is to write is written, and the text is put, and the status is that which
+-- goes with it, or that of a failed put. Or the write failed, and nothing is put.
 pub data Ends (t : Telling) (written : Option (List ℕ × List ℕ)) (before now : Option Files) (taken_before taken_now : Option (List ℕ)) (s : Status) : Type 0 where
   told : Keeps ⊥ written before now → Took (s ≡ status.WriteFailed) t.text taken_before taken_now → (s ≡ t.status) ⊎ (s ≡ status.WriteFailed) → Ends t written before now taken_before taken_now s
   unwritten : (name bytes : List ℕ) → written ≡ Some (name, bytes) → Wrote (Unit {0}) name bytes before now → taken_now ≡ taken_before → s ≡ status.WriteFailed

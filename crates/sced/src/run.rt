@@ -89,7 +89,7 @@ fn keep<S: Store>(store: &mut S, work: &Work<'_>) -> Result<(), Failed>
     }
 }
 
-/// Puts the text, once.
+/// Puts the text.
 fn put<K: Sink>(out: &mut K, told: &Told) -> Status
     requires { IsTold told.now.status }
     ensures status { (result ≡ told.now.status) ⊎ (result ≡ Status.WriteFailed) }
@@ -107,6 +107,7 @@ fn finish<S: Store, K: Sink>(store: &mut S, out: &mut K, work: &Work<'_>) -> Sta
     requires { IsTold work.now.told.status }
     ensures status { (result ≡ work.now.told.status) ⊎ (result ≡ Status.WriteFailed) }
     ensures ends { Ends (telling_of work.now.told) (written_by work.now) (S.files store.old) (S.files store.new) (K.taken out.old) (K.taken out.new) result }
+    ensures cut { ¬ (Still (S.failed_writes store.old) (S.failed_writes store.new)) → K.taken out.new ≡ K.taken out.old }
     ensures reads { Still (S.failed_reads store.old) (S.failed_reads store.new) }
     ensures failed { result ≡ Status.WriteFailed → FailedFor S.Store store.old store.new (name_for work.now) ⊎ Rose (K.faults out.old) (K.faults out.new) }
     ensures still { ¬ (result ≡ Status.WriteFailed) → Still (S.failed_writes store.old) (S.failed_writes store.new) × (K.faults out.new ≡ K.faults out.old) }
@@ -128,13 +129,15 @@ pub fn run<S: Store, K: Sink>(alloc: Global, words: &[String], store: &mut S, ou
     ensures reads { CountsReads S.Store store.old store.new (map string_bytes words.entry.now) result }
     // It ends for a failed write or put only where one failed, of a file that the words name for writing or of the text.
     ensures writes { CountsWrites S.Store store.old store.new (K.faults out.old) (K.faults out.new) (map string_bytes words.entry.now) result }
+    // Where a failed write is counted, nothing is put.
+    ensures cut { ¬ (Still (S.failed_writes store.old) (S.failed_writes store.new)) → K.taken out.new ≡ K.taken out.old }
     // Where a read failed or memory was refused, no text is put and no file is written.
     ensures silent { IsSilent result → LeavesAll (S.files store.old) (S.files store.new) (K.taken out.old) (K.taken out.new) }
     // Else a certificate is written where the words name a file for it, and one text is put, once. They and the status are right for the
     // whole bytes of the files that the words name, where the store tells its files.
     ensures told { ¬ IsSilent result → Answers (map string_bytes words.entry.now) (S.files store.old) (S.files store.new) (K.taken out.old) (K.taken out.new) result }
     // Where no two numbers of a market pass 127 bits together, a status that comes with a text tells whether a dispatch is feasible, or
-    // whether a certificate holds; a ring is then cleared.
+    // whether a certificate holds, and is not that of too large numbers in a replay; a ring is then cleared.
     ensures decided { IsTold result → IsDecidedOf (S.files store.old) (map string_bytes words.entry.now) result }
     ensures made { IsTold result → IsMadeOf (map string_bytes words.entry.now) result }
 {

@@ -41,7 +41,7 @@ const CHEAPER_CERTIFICATE: &str =
 const BLOCKED: &str =
     "step 1 edit accepted\nstep 2 edit accepted\nstep 3 clear\ncleared\nwelfare -2800\nenergy 10\nbus 1 price 10 congestion 0\nbus 2 price 30 congestion 20\nbus 3 price 40 congestion 30\nblock 1 sell 1 mw 10\nblock 2 sell 1 mw 90\nlimit 2 base flow 0 up 40 down 0 rent 0\nunit 1 mw 10 paid 100\nunit 2 mw 90 paid 2700\nload 1 mw 40 pays 400\nload 2 mw 0 pays 0\nload 3 mw 60 pays 2400\nsurplus 0\n";
 
-/// What a run is to end with: its status, the beginning and the end of its text, and the file that it wrote.
+/// What a run is to end with: its status, the beginning and the end of its text, the whole where both are one, and the file that it wrote.
 #[derive(Clone, Copy)]
 struct Want<'a> {
     status: Status,
@@ -65,7 +65,7 @@ fn expect<R: Abort + AllocGlobal>(
     rt: &R,
     line: &str,
     ratings: &str,
-    inputs: (&str, &str),
+    inputs: (&str, &str, &str),
     failing: (&[u64], &[u64]),
     want: Want<'_>,
 ) -> Result<(), Fail> {
@@ -81,10 +81,10 @@ fn expect<R: Abort + AllocGlobal>(
         ("shift.csv", SHIFT.as_bytes()),
         ("loss.csv", LOSS.as_bytes()),
         ("listed.csv", b"branch\n1\n"),
-        ("offers.csv", OFFERS.as_bytes()),
+        ("offers.csv", inputs.0.as_bytes()),
         ("offsets.csv", b"branch,mw\n"),
-        ("edits.csv", inputs.0.as_bytes()),
-        ("in.json", inputs.1.as_bytes()),
+        ("edits.csv", inputs.1.as_bytes()),
+        ("in.json", inputs.2.as_bytes()),
     ];
     for (name, bytes) in files {
         assert!(rt; store.add(name, bytes).is_ok());
@@ -96,8 +96,12 @@ fn expect<R: Abort + AllocGlobal>(
     }
     let status = run(rt.alloc(), words.as_slice(), &mut store, &mut sink);
     assert_eq!(rt; status, want.status);
-    assert!(rt; sink.bytes().starts_with(want.start.as_bytes()));
-    assert!(rt; sink.bytes().ends_with(want.end.as_bytes()));
+    if want.start == want.end {
+        assert_eq!(rt; sink.bytes(), want.start.as_bytes());
+    } else {
+        assert!(rt; sink.bytes().starts_with(want.start.as_bytes()));
+        assert!(rt; sink.bytes().ends_with(want.end.as_bytes()));
+    }
     match (store.bytes("out.json"), want.written) {
         (Some(bytes), Some(text)) => assert_eq!(rt; bytes, text.as_bytes()),
         (told, None) => assert!(rt; told.is_none()),
@@ -174,7 +178,14 @@ fn writes_and_verifies_certificates(rt: HostRuntime) -> Result<(), Fail> {
         ),
     ] {
         let line = format!(in rt.alloc(); "sced {words} {market}")?;
-        expect(&rt, line.as_str(), ratings, ("", certificate), ALL, want)?;
+        expect(
+            &rt,
+            line.as_str(),
+            ratings,
+            (OFFERS, "", certificate),
+            ALL,
+            want,
+        )?;
     }
     Ok(())
 }
@@ -251,12 +262,32 @@ fn replays_edits(rt: HostRuntime) -> Result<(), Fail> {
             &rt,
             line.as_str(),
             "40 0 0 0 0",
-            (edits.as_str(), ""),
+            (OFFERS, edits.as_str(), ""),
             ALL,
             want,
         )?;
     }
     Ok(())
+}
+
+/// Unit 1 sells 50 at 10 and 50 at 20: a price of its first block of 20 keeps their order, and one of 25 does not.
+#[test]
+fn keeps_the_order_of_prices(rt: HostRuntime) -> Result<(), Fail> {
+    let offers = "unit,side,mw,price\n1,sell,50,10\n1,sell,50,20\n2,sell,100,30\n";
+    let edits = "op,target,side,block,value\nprice,1,sell,1,25\nprice,1,sell,1,20\n";
+    let line = format!(in rt.alloc(); "sced replay {ALONE} --edits edits.csv")?;
+    let want = whole(
+        Status::Refused,
+        "step 1 edit refused OutOfOrder 20\nstep 2 edit accepted\n",
+    );
+    expect(
+        &rt,
+        line.as_str(),
+        "40 0 0 0 0",
+        (offers, edits, ""),
+        ALL,
+        want,
+    )
 }
 
 #[test]
@@ -270,7 +301,7 @@ fn verifies_after_edits(rt: HostRuntime) -> Result<(), Fail> {
         &rt,
         line.as_str(),
         "40 0 0 0 0",
-        (edits, CHEAPER_CERTIFICATE),
+        (OFFERS, edits, CHEAPER_CERTIFICATE),
         ALL,
         yes,
     )
@@ -284,6 +315,16 @@ fn makes_rings(rt: HostRuntime) -> Result<(), Fail> {
             Status::Done,
             "ring 4 seed 7 buses 4 blocks 8 limits 16\ncleared\nwelfare -",
         ),
+        (
+            "sced make 16 1",
+            Status::Done,
+            "ring 16 seed 1 buses 16 blocks 32 limits 256\ncleared\nwelfare -",
+        ),
+        (
+            "sced make 64 1",
+            Status::Done,
+            "ring 64 seed 1 buses 64 blocks 128 limits 4096\ncleared\nwelfare -",
+        ),
         ("sced make 5 7", Status::Usage, "error"),
     ] {
         let want = Want {
@@ -292,12 +333,12 @@ fn makes_rings(rt: HostRuntime) -> Result<(), Fail> {
             end: "\n",
             written: None,
         };
-        expect(&rt, line, "40 0 0 0 0", ("", ""), ALL, want)?;
+        expect(&rt, line, "40 0 0 0 0", (OFFERS, "", ""), ALL, want)?;
     }
     Ok(())
 }
 
-/// Seven files are read, then a certificate is written and a text is put; one of these fails.
+/// Seven files are read, then a certificate is written and a text is put; one of these fails, or none, and there are no other calls.
 #[test]
 fn tells_the_call_that_fails(rt: HostRuntime) -> Result<(), Fail> {
     let edits = "op,target,side,block,value\nclear,,,,\n";
@@ -309,12 +350,14 @@ fn tells_the_call_that_fails(rt: HostRuntime) -> Result<(), Fail> {
         (3, 9, Status::ReadFailed, None),
         (6, 9, Status::ReadFailed, None),
         (7, 9, Status::WriteFailed, None),
-        (99, 0, Status::WriteFailed, Some(OPTIMAL)),
+        (8, 0, Status::WriteFailed, Some(OPTIMAL)),
+        (8, 1, Status::Done, Some(OPTIMAL)),
     ] {
+        let done = status == Status::Done;
         let want = Want {
             status,
-            start: "",
-            end: "",
+            start: if done { "step 1 clear\ncleared\n" } else { "" },
+            end: if done { "surplus 900\n" } else { "" },
             written,
         };
         let failing = ([store_call], [put]);
@@ -322,11 +365,10 @@ fn tells_the_call_that_fails(rt: HostRuntime) -> Result<(), Fail> {
             &rt,
             line.as_str(),
             "40 0 45 0 0",
-            (edits, ""),
+            (OFFERS, edits, ""),
             (failing.0.as_slice(), failing.1.as_slice()),
             want,
         )?;
-        assert!(rt; status != Status::Done);
     }
     Ok(())
 }

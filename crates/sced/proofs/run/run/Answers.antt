@@ -1,4 +1,4 @@
-use Rattle.std.proofs.Common.{inl, inr, sym, subst}
+use Rattle.std.proofs.Common.{◌∙◌, inl, inr, sym, subst}
 use Rattle.std.specs.Prelude.{map, string_bytes}
 use Rattle.command_answers.specs.Tellings.{telling_of}
 use Rattle.sced.specs.Decided.{IsDecidedOf, IsMadeOf}
@@ -27,3 +27,6 @@ returns-in-Ok-clause-made g c = λ told. elim c.finish.ensures.status [
   | inl same ↦ subst (λ s. IsMadeOf (map string_bytes c.args.words.now) s) (sym same) (answers-made (g.S.Store.files c.args.store.now) (map string_bytes c.args.words.now) (telling_of c.in-Ok.work.told) _ c.in-Ok.ensures.answers)
   | inr failed ↦ absurd (subst IsTold failed told)
 ]
+
+pub returns-in-Ok-clause-cut : goal.returns-in-Ok-clause-cut
+returns-in-Ok-clause-cut g c = λ no. c.finish.ensures.cut (λ still. no (λ n. still n ∙ c.asked_work.ensures.reads.writes n))
