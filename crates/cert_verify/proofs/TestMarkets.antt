@@ -11,35 +11,38 @@ use Rattle.market_data.specs.declared.participants.Bus.{Bus}
 use Rattle.market_data.specs.declared.participants.Unit as unit
 use Rattle.market_model.specs.declared.answered.Dual.{Dual}
 use Rattle.market_model.specs.declared.participants.Block.{Block}
+use Rattle.market_model.specs.declared.participants.Factor.{Factor}
 use Rattle.market_model.specs.declared.participants.Line.{Line}
 use Rattle.market_model.specs.declared.participants.Parts.{Parts}
 use Rattle.market_model.specs.declared.participants.Side.TheVariants.{Sell, Buy}
 use Rattle.market_model.specs.Market.{IsMarket, IsBlock, IsLine, HasRoom}
 use Rattle.market_model.specs.Stairs.{stair_in}
 use Rattle.market_model.specs.Valued.{dual_at}
-use Rattle.limit_rows.proofs.TestMarkets.{shifts, losses, one_is_market}
+use Rattle.limit_rows.proofs.TestMarkets.{one_is_market}
+use Rattle.cert_sums.specs.Worked.{worked}
+use Rattle.cert_sums.proofs.TestMarkets.{worked_is_market}
 use Rattle.cert_format.specs.Certificates.{NamesNoRowTwice}
 
-abbrev buses : List Bus
+abbrev pub buses : List Bus
 buses = record { number = 1; pd = pos 0; gs = pos 0 } ∷ record { number = 2; pd = pos 0; gs = pos 0 } ∷ record { number = 3; pd = pos 50000000000; gs = pos 10000000000 } ∷ []
 
-abbrev unit_of : ℕ → ℕ → unit.Unit
+abbrev pub unit_of : ℕ → ℕ → unit.Unit
 unit_of row bus = record { row = row; bus = bus; fixed = pos 0; up = pos 100000000000; down = pos 0 }
 
-abbrev units : List unit.Unit
+abbrev pub units : List unit.Unit
 units = unit_of 1 0 ∷ unit_of 2 1 ∷ []
 
-abbrev blocks : List Block
+abbrev pub blocks : List Block
 blocks = record { unit = 0; side = Sell; quantity = pos 100000000000; price = pos 10000000 } ∷ record { unit = 1; side = Sell; quantity = pos 100000000000; price = pos 30000000 } ∷ []
 
-abbrev lines : ℤ → List Line
+abbrev pub lines : ℤ → List Line
 lines limit = record { row = 1; base = None; post = None; offset = pos 0 } ∷ record { row = 2; base = Some limit; post = Some (pos 45000000000); offset = pos 0 } ∷ record { row = 3; base = None; post = None; offset = pos 0 } ∷ []
 
-abbrev outages : Bool → List ℕ
+abbrev pub outages : Bool → List ℕ
 outages some = if some then 1 ∷ [] else []
 
 abbrev pub triangle : ℤ → Bool → Parts
-triangle limit some = record { buses = buses; units = units; blocks = blocks; lines = lines limit; outages = outages some; shift = shifts; loss = losses }
+triangle limit some = record { buses = buses; units = units; blocks = blocks; lines = lines limit; outages = outages some; shift = worked.shift; loss = worked.loss }
 
 are_few : (some : Bool) → length (outages some) ≤ 500
 are_few true = Prim.omega arith
@@ -77,8 +80,8 @@ triangle_is_market limit some h = record {
   line_rows = one_is_market.line_rows;
   outages = are_rows some;
   outages_distinct = are_apart some;
-  shift = one_is_market.shift;
-  loss = one_is_market.loss;
+  shift = worked_is_market.shift;
+  loss = worked_is_market.loss;
 }
   where
     are_buses : All IsBus buses
@@ -112,3 +115,9 @@ triangle_is_market limit some h = record {
 
 pub few_distinct : {N : Type 0} (value : N → Fraction) (ds : List (Dual N)) → length ds ≤ 1 → NamesNoRowTwice (map (dual_at value) ds)
 few_distinct value ds few = λ i j d p q. absurd (Prim.omega (arith, p, q, few, length-map ds (dual_at value)))
+
+-- the parts of a triangle, wherever they are
+pub triangle_of : (limit : ℤ) (some : Bool) → pos 0 ≤ℤ limit → (b : List Bus) (u : List unit.Unit) (k : List Block) (l : List Line) (o : List ℕ) (s f : List Factor)
+    → b ≡ buses → u ≡ units → k ≡ blocks → l ≡ lines limit → o ≡ outages some → s ≡ worked.shift → f ≡ worked.loss
+    → IsMarket (record { buses = b; units = u; blocks = k; lines = l; outages = o; shift = s; loss = f })
+triangle_of limit some h b u k l o s f eb eu ek el eo es ef = rw (eb, eu, ek, el, eo, es, ef) (triangle_is_market limit some h)
