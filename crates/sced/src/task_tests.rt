@@ -76,19 +76,14 @@ fn expect<R: Abort + AllocGlobal>(
     };
     let case = case(rt, BUSES, UNITS, ratings)?;
     let mut store = MemoryStore::new(rt.alloc(), room, failing.0)?;
-    let files: [(&str, &[u8]); 8] = [
-        ("case.m", case.as_bytes()),
-        ("shift.csv", SHIFT.as_bytes()),
-        ("loss.csv", LOSS.as_bytes()),
-        ("listed.csv", b"branch\n1\n"),
-        ("offers.csv", inputs.0.as_bytes()),
-        ("offsets.csv", b"branch,mw\n"),
-        ("edits.csv", inputs.1.as_bytes()),
-        ("in.json", inputs.2.as_bytes()),
-    ];
-    for (name, bytes) in files {
-        assert!(rt; store.add(name, bytes).is_ok());
-    }
+    assert!(rt; store.add("case.m", case.as_bytes()).is_ok());
+    assert!(rt; store.add("shift.csv", SHIFT.as_bytes()).is_ok());
+    assert!(rt; store.add("loss.csv", LOSS.as_bytes()).is_ok());
+    assert!(rt; store.add("listed.csv", b"branch\n1\n").is_ok());
+    assert!(rt; store.add("offers.csv", inputs.0.as_bytes()).is_ok());
+    assert!(rt; store.add("offsets.csv", b"branch,mw\n").is_ok());
+    assert!(rt; store.add("edits.csv", inputs.1.as_bytes()).is_ok());
+    assert!(rt; store.add("in.json", inputs.2.as_bytes()).is_ok());
     let mut sink = MemorySink::new(rt.alloc(), 8192, failing.1)?;
     let mut words = Vec::new(rt.alloc());
     for word in line.split(' ') {
