@@ -10,11 +10,12 @@ ghost use Rattle.clear_loop.specs.Starts.{rows_in};
 
 use crate::fault::ClearFault;
 use crate::hand::{Hand, Taken, rows_or_none, started};
+use crate::merit::start_at_margin;
 use crate::rounds::{Ended, all_rounds};
 use dual_restart::Warm;
 use exact_fraction::Exact;
 use linear_dict::Dict;
-use market_dict::{Stop, start, terms_of};
+use market_dict::{Stop, terms_of};
 use market_model::{Answer, Market, RowId};
 use plain_list::Memory;
 use std::alloc::Global;
@@ -71,7 +72,7 @@ fn warmed<N: Exact>(alloc: Global, market: &Market, warm: Warm<N>) -> Result<War
     if warm.is_kept() {
         Ok(warm)
     } else {
-        Ok(started(start(alloc, market)?))
+        Ok(started(start_at_margin(alloc, market)?))
     }
 }
 

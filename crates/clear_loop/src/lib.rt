@@ -8,6 +8,7 @@ mod clearer;
 mod fault;
 mod hand;
 pub mod laws;
+mod merit;
 mod rounds;
 mod screen;
 

@@ -51,29 +51,26 @@ fn a_store_reads_and_replaces(rt: HostRuntime) -> Result<(), Fail> {
 #[test]
 fn a_store_fails_where_it_must(rt: HostRuntime) -> Result<(), Fail> {
     let mut store = small_store(&rt, rt.alloc(), &[1, 3])?;
-    assert!(rt; store.read(rt.alloc(), "first", 100).is_ok());
-    assert_eq!(rt;
-        store.read(rt.alloc(), "first", 100).err(),
-        Some(ReadStop::Failed)
-    );
-    assert!(rt; store.read(rt.alloc(), "first", 100).is_ok());
-    assert_eq!(rt; store.write("first", b"xy"), Err(Failed));
-    assert!(rt; store.bytes("first") == Some(b"abcd".as_slice()));
-    assert_eq!(rt;
-        store.read(rt.alloc(), "other", 100).err(),
-        Some(ReadStop::Failed)
-    );
-    assert_eq!(rt; store.failed_reads(), 2);
-    assert_eq!(rt; store.failed_writes(), 1);
-
-    // Bytes that are too long, a name that is too long, and a third name.
-    assert_eq!(rt; store.write("first", b"123456"), Err(Failed));
-    assert_eq!(rt; store.write("seventh", b""), Err(Failed));
-    assert_eq!(rt; store.write("second", b""), Ok(()));
-    assert_eq!(rt; store.write("third", b""), Err(Failed));
+    for (name, want) in [("first", true), ("first", false), ("first", true)] {
+        let read = store.read(rt.alloc(), name, 100);
+        assert_eq!(rt; read.is_ok(), want);
+    }
+    // The call that fails, bytes that are too long, a name that is too long, and a third name.
+    for (name, text, want) in [
+        ("first", "xy", false),
+        ("first", "123456", false),
+        ("seventh", "", false),
+        ("second", "", true),
+        ("third", "", false),
+    ] {
+        let written = store.write(name, text.as_bytes());
+        assert_eq!(rt; written.is_ok(), want, "at {name}");
+    }
     assert_eq!(rt; store.add("third", b""), Err(NoRoom));
+    assert!(rt; store.bytes("first") == Some(b"abcd".as_slice()));
+    assert_eq!(rt; store.failed_reads(), 1);
     assert_eq!(rt; store.failed_writes(), 4);
-    assert_eq!(rt; store.calls(), 9);
+    assert_eq!(rt; store.calls(), 8);
     Ok(())
 }
 
@@ -106,38 +103,37 @@ fn memory_serves_through_the_bounds(rt: HostRuntime) -> Result<(), Fail> {
 fn files_are_written_and_read_back(rt: HostRuntime) -> Result<(), Fail> {
     let mut store = FileStore::new(&rt);
     let name = format!(in rt.alloc(); "/tmp/outside_store.{}", process::id(rt.process()))?;
-    let text = b"a text of more than a few bytes\n";
-    assert_eq!(rt;
-        store.write(
-            name.as_str(),
-            b"an older text, which is the longer of the two\n"
-        ),
-        Ok(())
-    );
-    assert_eq!(rt; store.write(name.as_str(), text), Ok(()));
-    let whole = store.read(rt.alloc(), name.as_str(), 100)?;
-    assert_eq!(rt; whole.as_slice(), text.as_slice());
-    let cut = store.read(rt.alloc(), name.as_str(), 5)?;
-    assert_eq!(rt; cut.as_slice(), b"a text".as_slice());
+    for text in [
+        "an older text, which is the longer of the two\n",
+        "a text of some bytes\n",
+    ] {
+        assert_eq!(rt; store.write(name.as_str(), text.as_bytes()), Ok(()));
+    }
+    for (limit, want) in [(100, "a text of some bytes\n"), (5, "a text")] {
+        let bytes = store.read(rt.alloc(), name.as_str(), limit)?;
+        assert_eq!(rt; bytes.as_slice(), want.as_bytes(), "at {limit}");
+    }
     let mut out = OutSink::new(&rt);
     assert!(rt; shown(rt.alloc(), &mut store, &mut out, name.as_str()));
     assert_eq!(rt; out.faults(), 0);
-    fs::remove_file(&rt, name.as_str())?;
     assert_eq!(rt; store.failed_reads(), 0);
+    fs::remove_file(&rt, name.as_str())?;
+    Ok(())
+}
 
-    // A name that is not there, a folder, which opens and cannot be read, and a device that is always full.
-    assert_eq!(rt;
-        store.read(rt.alloc(), name.as_str(), 100).err(),
-        Some(ReadStop::Failed)
-    );
-    assert_eq!(rt;
-        store.read(rt.alloc(), "/tmp", 100).err(),
-        Some(ReadStop::Failed)
-    );
+#[test]
+fn files_that_fail_are_counted(rt: HostRuntime) -> Result<(), Fail> {
+    let mut store = FileStore::new(&rt);
+    // A name that is not there, and a folder, which opens and cannot be read.
+    for name in ["/tmp/outside_store.none", "/tmp"] {
+        let read = store.read(rt.alloc(), name, 100);
+        assert_eq!(rt; read.err(), Some(ReadStop::Failed), "at {name}");
+    }
+    // A device that is always full.
+    for name in ["/dev/full", "/tmp"] {
+        assert_eq!(rt; store.write(name, b"text"), Err(Failed), "at {name}");
+    }
     assert_eq!(rt; store.failed_reads(), 2);
-    assert_eq!(rt; store.failed_writes(), 0);
-    assert_eq!(rt; store.write("/dev/full", text), Err(Failed));
-    assert_eq!(rt; store.write("/tmp", text), Err(Failed));
     assert_eq!(rt; store.failed_writes(), 2);
     Ok(())
 }
