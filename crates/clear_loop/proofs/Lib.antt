@@ -2,6 +2,7 @@ pub mod AnswerLemmas
 pub mod BrokenLemmas
 pub mod FrameLemmas
 pub mod HandLemmas
+pub mod MarginLemmas
 pub mod PosingLemmas
 pub mod SolvedLemmas
 pub mod StartLemmas

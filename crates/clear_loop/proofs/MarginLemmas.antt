@@ -1,0 +1,19 @@
+-- An exchange in the dictionary of a market.
+use Rattle.std.specs.Prelude.{◌≡◌, ℕ, List}
+use Rattle.std.proofs.Common.{ap, ◌∙◌}
+use Rattle.linear_dict.specs.Dictionaries.{Dictionary, IsDictionary, pivoted}
+use Rattle.market_model.specs.declared.participants.Parts.{Parts}
+use Rattle.market_model.specs.LimitRows.{Row}
+use Rattle.market_dict.specs.Holding.{Holds}
+
+-- it holds the market over the same rows
+pub holds_exchanged : (m : Parts) (g : List Row) (d e : Dictionary) (r c : ℕ) → Holds m g d → e ≡ pivoted d r c → IsDictionary e → Holds m g e
+unfolding pivoted
+holds_exchanged m g d e r c holds is sound = record {
+  live = ap (λ (x : Dictionary). x.spent) is ∙ holds.live;
+  sound = sound;
+  columns = ap (λ (x : Dictionary). x.columns) is ∙ holds.columns;
+  rows = ap (λ (x : Dictionary). x.rows) is ∙ holds.rows;
+  coefficients = ap (λ (x : Dictionary). x.coefficients) is ∙ holds.coefficients;
+  limits = holds.limits;
+}
