@@ -48,6 +48,8 @@ mod clear_tests;
 #[cfg(test)]
 mod fixture;
 #[cfg(test)]
+mod refusal_tests;
+#[cfg(test)]
 mod task_tests;
 #[cfg(test)]
 mod tests;
