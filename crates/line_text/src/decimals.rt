@@ -1,7 +1,7 @@
 //! Whole numbers of small units as decimals.
 
-ghost use Rattle.std.specs.Prelude.{◌≡◌, ◌≤◌, ◌<◌, ◌++◌, ◌^◌, decimal, unsigned_abs, IfOk};
-ghost use Rattle.exact_fraction.specs.Written.{last_digits, trimmed_places, sign_text};
+ghost use Rattle.std.specs.Prelude.{◌≡◌, ◌≤◌, ◌<◌, ◌++◌, ◌^◌, unsigned_abs, IfOk};
+ghost use Rattle.exact_fraction.specs.Written.{number_text, last_digits, trimmed_places, sign_text};
 ghost use Rattle.line_text.specs.Decimals.{decimal_text};
 
 use crate::text::Text;
@@ -37,8 +37,9 @@ fn put_places(text: &mut Text, count: u8, number: u128) -> Result<(), Memory>
 }
 
 /// The digits of a number.
+#[tactic(auto, using(exact_fraction::proofs::Digits::decimal_short))]
 fn put_whole(text: &mut Text, number: u128) -> Result<(), Memory>
-    ensures { IfOk result (λ _. text.new ≡ text.old ++ decimal number) }
+    ensures { IfOk result (λ _. text.new ≡ text.old ++ number_text number) }
 {
     let mut digits = Buffer::new();
     text.word(digits.format(number).as_bytes())

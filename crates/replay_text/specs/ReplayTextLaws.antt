@@ -1,5 +1,5 @@
 -- A report tells of its market only what no edit changes, and the text of a replay has one reading.
-use Rattle.std.specs.Prelude.{◌≡◌, ℕ, List}
+use Rattle.std.specs.Prelude.{◌≡◌, ℕ, List, [], ◌∷◌}
 use Rattle.fraction_theory.specs.Fraction.{Fraction}
 use Rattle.market_model.specs.declared.answered.Outcome.{Outcome}
 use Rattle.market_model.specs.declared.participants.Parts.{Parts}
@@ -7,13 +7,36 @@ use Rattle.market_model.specs.Frame.{SameFrame}
 use Rattle.market_model.specs.LimitRows.{Row}
 use Rattle.edit_table.specs.declared.Step.{Step}
 use Rattle.edit_replay.specs.declared.step_outcome.StepOutcome.{StepOutcome}
-use Rattle.edit_replay.specs.Replays.{IsReplay}
+use Rattle.edit_replay.specs.declared.step_outcome.StepOutcome.TheVariants as reply
+use Rattle.edit_replay.specs.Replays.{IsReplay, stepped}
+use Rattle.report_text.specs.ReportLaws.{OutcomeFitsReport}
 use Rattle.report_text.specs.Reports.{report_text}
 use Rattle.replay_text.specs.ReplayTexts.{replayed}
 
 -- markets of one frame have the same reports
 abbrev pub LawOfReports : Type 0
 LawOfReports = (m n : Parts) (o : Outcome Fraction) → SameFrame m n → report_text m o ≡ report_text n o
+
+-- ---- outcomes that fit
+-- what a clear of the market came to fits its report; nothing is asked of edits, nor that the step was an edit or a clear
+abbrev pub StepOutcomeFits : Parts → StepOutcome Fraction → Type 0
+StepOutcomeFits m reply.Accepted = Unit {0}
+StepOutcomeFits m (reply.Refused f) = Unit {0}
+StepOutcomeFits m (reply.Clear o) = OutcomeFitsReport m o
+
+-- one outcome for each step, and each fits the market as the steps before it have edited it
+abbrev pub OutcomesFit : Parts → List Step → List (StepOutcome Fraction) → Type 0
+OutcomesFit m [] [] = Unit {0}
+OutcomesFit m [] (o ∷ outcomes) = ⊥
+OutcomesFit m (s ∷ steps) [] = ⊥
+OutcomesFit m (s ∷ steps) (o ∷ outcomes) = StepOutcomeFits m o × OutcomesFit (stepped m s) steps outcomes
+
+-- ---- the laws
+-- outcomes that fit the same steps of one market, right or not, are the same where they have one text
+abbrev pub ReplaysReadApart : Type 0
+ReplaysReadApart = (m : Parts) (steps : List Step) (outcomes others : List (StepOutcome Fraction))
+    → OutcomesFit m steps outcomes → OutcomesFit m steps others
+    → replayed m steps outcomes ≡ replayed m steps others → outcomes ≡ others
 
 -- two replays of the same steps of one market, whatever rows they begin and end with, came to the same where they have one text
 abbrev pub ReplaysApart : Type 0

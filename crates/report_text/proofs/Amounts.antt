@@ -130,9 +130,15 @@ two_apart front k l c middle x y w z us vs h e =
     open_line : (xs ys us : List ℕ) → (front ++ xs ++ c ∷ middle ++ ys ++ 10 ∷ []) ++ us ≡ front ++ (xs ++ c ∷ (middle ++ (ys ++ 10 ∷ us)))
     open_line xs ys us = Prim.simp append_assoc
 
--- two fractions as parts, with a blank between them, and the end of the line
-pub parts_line_apart : (x y w z : Fraction) → parts_text x ++ (32 ∷ (parts_text w ++ 10 ∷ [])) ≡ parts_text y ++ (32 ∷ (parts_text z ++ 10 ∷ [])) → (x ≡ y) × (w ≡ z)
-parts_line_apart x y w z e =
-    let first = cut 32 (parts_text x) (parts_text y) (parts_text w ++ 10 ∷ []) (parts_text z ++ 10 ∷ []) (Prim.omega arith) (AllAbove-parts_text x) (AllAbove-parts_text y) e in
-    let second = cut 10 (parts_text w) (parts_text z) [] [] (Prim.omega arith) (AllAbove-parts_text w) (AllAbove-parts_text z) first.1 in
-    (parts_apart x y first.0, parts_apart w z second.0)
+-- a fraction as parts and what comes after it
+parts_then : (c : ℕ) (x y : Fraction) (us vs : List ℕ) → c ≤ 32 → parts_text x ++ c ∷ us ≡ parts_text y ++ c ∷ vs → (x ≡ y) × (us ≡ vs)
+parts_then c x y us vs h e =
+    let t = cut c (parts_text x) (parts_text y) us vs h (AllAbove-parts_text x) (AllAbove-parts_text y) e in
+    (parts_apart x y t.0, t.1)
+
+-- two fractions as parts, with a blank between them, the end of the line and what comes after it
+pub parts_line_apart : (x y w z : Fraction) (us vs : List ℕ) → parts_text x ++ (32 ∷ (parts_text w ++ 10 ∷ us)) ≡ parts_text y ++ (32 ∷ (parts_text z ++ 10 ∷ vs)) → (x ≡ y) × (w ≡ z) × (us ≡ vs)
+parts_line_apart x y w z us vs e =
+    let first = parts_then 32 x y (parts_text w ++ 10 ∷ us) (parts_text z ++ 10 ∷ vs) (Prim.omega arith) e in
+    let second = parts_then 10 w z us vs (Prim.omega arith) first.1 in
+    (first.0, second.0, second.1)

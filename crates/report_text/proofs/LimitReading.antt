@@ -140,8 +140,8 @@ unfolding rent_text row_text
 entry_begins p us h = h refl
 
 -- the duals that show that nothing is feasible
-pub limits_apart : (ds es : List (Dual Fraction)) → flat_map limit_text ds ≡ flat_map limit_text es → ds ≡ es
-limits_apart ds es e = (lines_end limit_text (λ d. Unit {0}) (λ d f g h. limit_apart d f) limit_begins ds es (all ds) (all es) [] [] tt tt (ap (λ t. t ++ []) e)).0
+pub limits_apart : (ds es : List (Dual Fraction)) (us vs : List ℕ) → EndsLimits us → EndsLimits vs → flat_map limit_text ds ++ us ≡ flat_map limit_text es ++ vs → (ds ≡ es) × (us ≡ vs)
+limits_apart ds es us vs p q e = lines_end limit_text (λ d. Unit {0}) (λ d f g h. limit_apart d f) limit_begins ds es (all ds) (all es) us vs p q e
   where
     all : (ds : List (Dual Fraction)) → AllByRecursion (λ (d : Dual Fraction). Unit {0}) ds
     all [] = tt

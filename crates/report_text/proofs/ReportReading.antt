@@ -1,4 +1,4 @@
--- Equal reports of cleared markets are of equal answers.
+-- Equal reports of cleared markets are of equal answers, and what comes after them is then the same.
 use Rattle.std.specs.Prelude.{◌≡◌, ℕ, ◌+◌, ◌<◌, List, [], ◌∷◌, ◌++◌, length, codes, decimal, slice_index_or}
 use Rattle.std.specs.List.{AllByRecursion, flat_map, range_with_len}
 use Rattle.std.proofs.Common.{zero, suc, arith, ap, sym, ◌∙◌, subst, append_assoc}
@@ -61,9 +61,9 @@ load_apart n p q us vs h =
     let t = two_apart (codes "load " ++ decimal n ++ codes " mw ") 9 15 32 (codes "pays ") p.mw q.mw p.pays q.pays us vs (Prim.omega arith) h in
     (same_load p q t.0 t.1, t.2)
 
-surplus_apart : (x y : Fraction) → surplus_text x ≡ surplus_text y → x ≡ y
+surplus_apart : (x y : Fraction) (us vs : List ℕ) → surplus_text x ++ us ≡ surplus_text y ++ vs → (x ≡ y) × (us ≡ vs)
 unfolding surplus_text
-surplus_apart x y h = (one_apart (codes "surplus ") 15 x y [] [] (ap (λ t. t ++ []) h)).0
+surplus_apart x y us vs h = one_apart (codes "surplus ") 15 x y us vs h
 
 -- the lines of some places, and what comes after them
 lines_apart : (f g : ℕ → List ℕ) (Same : ℕ → Type 0) → ((k : ℕ) (us vs : List ℕ) → f k ++ us ≡ g k ++ vs → Same k × (us ≡ vs))
@@ -127,41 +127,43 @@ load_ends : (n : ℕ) (load : Load Fraction) (us : List ℕ) → EndsLimits (loa
 unfolding load_text
 load_ends n load us = λ e. Prim.omega (arith, e)
 
-surplus_ends : (x : Fraction) → EndsLimits (surplus_text x)
+surplus_ends : (x : Fraction) (us : List ℕ) → EndsLimits (surplus_text x ++ us)
 unfolding surplus_text
-surplus_ends x = λ e. Prim.omega (arith, e)
+surplus_ends x us = λ e. Prim.omega (arith, e)
 
 lines_end : (f : ℕ → List ℕ) → ((k : ℕ) (us : List ℕ) → EndsLimits (f k ++ us)) → (ps us : List ℕ) → EndsLimits us → EndsLimits (flat_map f ps ++ us)
 lines_end f line [] us h = h
 lines_end f line (p ∷ ps) us h = subst EndsLimits (sym (append_assoc (f p) (flat_map f ps) us)) (line p (flat_map f ps ++ us))
 
--- the lines behind those of limits
-abbrev last_lines : Parts → Answer Fraction → List ℕ
-last_lines m a = lines_of_units m a ++ (lines_of_loads m a ++ surplus_text a.money.surplus)
+-- the lines behind those of limits, and what comes after them
+abbrev last_lines : Parts → Answer Fraction → List ℕ → List ℕ
+last_lines m a us = lines_of_units m a ++ (lines_of_loads m a ++ (surplus_text a.money.surplus ++ us))
 
-last_ends : (m : Parts) (a : Answer Fraction) → EndsLimits (last_lines m a)
-last_ends m a =
-    lines_end (unit_line_at m a) (λ k. unit_ends (unit_at m k).row (pay_of a k)) (places (length m.units)) (lines_of_loads m a ++ surplus_text a.money.surplus)
-    (lines_end (load_line_at m a) (λ k. load_ends (bus_at m k).number (load_of a k)) (places (length m.buses)) (surplus_text a.money.surplus) (surplus_ends a.money.surplus))
+last_ends : (m : Parts) (a : Answer Fraction) (us : List ℕ) → EndsLimits (last_lines m a us)
+last_ends m a us =
+    lines_end (unit_line_at m a) (λ k. unit_ends (unit_at m k).row (pay_of a k)) (places (length m.units)) (lines_of_loads m a ++ (surplus_text a.money.surplus ++ us))
+    (lines_end (load_line_at m a) (λ k. load_ends (bus_at m k).number (load_of a k)) (places (length m.buses)) (surplus_text a.money.surplus ++ us) (surplus_ends a.money.surplus us))
 
-in_order : (h b k r u l s : List ℕ) → h ++ b ++ k ++ r ++ u ++ l ++ s ≡ h ++ (b ++ (k ++ (r ++ (u ++ (l ++ s)))))
-in_order h b k r u l s = Prim.simp append_assoc
+in_order : (h b k r u l s us : List ℕ) → (h ++ b ++ k ++ r ++ u ++ l ++ s) ++ us ≡ h ++ (b ++ (k ++ (r ++ (u ++ (l ++ (s ++ us))))))
+in_order h b k r u l s us = Prim.simp append_assoc
 
-pub answers_apart : (m : Parts) (a b : Answer Fraction) → FitsReport m a → FitsReport m b → cleared_text m a ≡ cleared_text m b → a ≡ b
+-- the report of an answer, and what comes after it
+pub answers_apart : (m : Parts) (a b : Answer Fraction) → FitsReport m a → FitsReport m b → (us vs : List ℕ) → cleared_text m a ++ us ≡ cleared_text m b ++ vs → (a ≡ b) × (us ≡ vs)
 unfolding cleared_text
-answers_apart m a b p q e =
+answers_apart m a b p q us vs e =
     let buses = places (length m.buses) in
     let blocks = places (length m.blocks) in
     let units = places (length m.units) in
-    let split = λ (x : Answer Fraction). in_order (head_text x.welfare x.duals.energy) (lines_of_buses m x) (lines_of_blocks m x) (lines_of_limits x) (lines_of_units m x) (lines_of_loads m x) (surplus_text x.money.surplus) in
-    let head = head_apart a.welfare b.welfare a.duals.energy b.duals.energy _ _ (sym (split a) ∙ e ∙ split b) in
+    let split = λ (x : Answer Fraction) (ts : List ℕ). in_order (head_text x.welfare x.duals.energy) (lines_of_buses m x) (lines_of_blocks m x) (lines_of_limits x) (lines_of_units m x) (lines_of_loads m x) (surplus_text x.money.surplus) ts in
+    let head = head_apart a.welfare b.welfare a.duals.energy b.duals.energy _ _ (sym (split a us) ∙ e ∙ split b vs) in
     let prices = lines_apart (bus_line_at m a) (bus_line_at m b) (λ k. SamePrice (price_of a k) (price_of b k)) (λ k. bus_apart (bus_at m k).number (price_of a k) (price_of b k)) buses _ _ head.2 in
     let dispatch = lines_apart (block_line_at m a) (block_line_at m b) (λ k. mw_of a k ≡ mw_of b k)
     (λ k. block_apart (unit_at m (block_at m k).unit).row (block_at m k).side (block_number m k) (mw_of a k) (mw_of b k)) blocks _ _ prices.1 in
-    let rents = rents_apart a.duals.limits b.duals.limits a.money.rents b.money.rents p.fits.rents q.fits.rents (last_lines m a) (last_lines m b) (last_ends m a) (last_ends m b) dispatch.1 in
+    let rents = rents_apart a.duals.limits b.duals.limits a.money.rents b.money.rents p.fits.rents q.fits.rents (last_lines m a us) (last_lines m b vs) (last_ends m a us) (last_ends m b vs) dispatch.1 in
     let pays = lines_apart (unit_line_at m a) (unit_line_at m b) (λ k. pay_of a k ≡ pay_of b k) (λ k. unit_apart (unit_at m k).row (pay_of a k) (pay_of b k)) units _ _ rents.2 in
     let loads = lines_apart (load_line_at m a) (load_line_at m b) (λ k. load_of a k ≡ load_of b k) (λ k. load_apart (bus_at m k).number (load_of a k) (load_of b k)) buses _ _ pays.1 in
-    same_answer a b
+    let last = surplus_apart a.money.surplus b.money.surplus us vs loads.1 in
+    (same_answer a b
     (same_entries none a.dispatch b.dispatch (length m.blocks) p.fits.dispatch q.fits.dispatch dispatch.0)
     (same_duals a.duals b.duals head.1 rents.0)
     (same_prices m a b p q head.1 prices.0)
@@ -170,4 +172,4 @@ answers_apart m a b p q e =
     (same_entries (record { mw = none; paid = none }) a.money.units b.money.units (length m.units) p.fits.units q.fits.units pays.0)
     (same_entries (record { mw = none; pays = none }) a.money.loads b.money.loads (length m.buses) p.fits.loads q.fits.loads loads.0)
     rents.1
-    (surplus_apart a.money.surplus b.money.surplus loads.1))
+    last.0), last.1)
