@@ -19,6 +19,3 @@ pub use lengths::MOST_BYTES;
 pub use pooling::pool_market;
 pub use replays::{edit_steps, read_certificate};
 pub use stops::Stop;
-
-#[cfg(test)]
-mod tests;
