@@ -18,7 +18,7 @@ use Rattle.report_text.specs.ReportLaws.{IsRightIn}
 use Rattle.report_text.specs.Reports.{report_text}
 use Rattle.report_text.proofs.LimitReading.{EndsLimits}
 use Rattle.report_text.proofs.OutcomeReading.{outcome_fits, outcomes_apart}
-use Rattle.replay_text.specs.ReplayTexts.{came_to_text, fault_text, replayed, step_text, steps_text}
+use Rattle.replay_text.specs.ReplayTexts.{came_to_text, fault_text, step_text, steps_text}
 use Rattle.replay_text.specs.ReplayTextLaws.{OutcomesFit, ReplaysApart, ReplaysReadApart, StepOutcomeFits}
 use Rattle.replay_text.proofs.FaultReading.{faults_apart, next_letter}
 

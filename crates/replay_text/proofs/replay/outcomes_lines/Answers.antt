@@ -1,4 +1,4 @@
-use Rattle.std.proofs.Common.{◌≡◌, ◌∙◌, ap, arith, length, subst, get_or}
+use Rattle.std.proofs.Common.{◌≡◌, ap, arith, length, subst, get_or}
 use Rattle.edit_replay.specs.Replays.{step_outcome_at}
 use Rattle.replay_text.proofs.StepLines.{lines_more}
 use Rattle.replay_text.proofs.replay.outcomes_lines.Goals as goal

@@ -1,4 +1,4 @@
-use Rattle.std.proofs.Common.{◌≡◌, ◌∙◌, ◌++◌, List, ℕ, ap, arith, length, map, [], append_assoc}
+use Rattle.std.proofs.Common.{◌∙◌, ◌++◌, List, ℕ, ap, arith, map}
 use Rattle.std.proofs.lemmas.List.{length-map}
 use Rattle.edit_replay.specs.Replays.{step_outcome_at}
 use Rattle.replay_text.specs.ReplayTexts.{outcomes_text}
