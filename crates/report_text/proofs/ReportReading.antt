@@ -162,14 +162,16 @@ answers_apart m a b p q us vs e =
     let rents = rents_apart a.duals.limits b.duals.limits a.money.rents b.money.rents p.fits.rents q.fits.rents (last_lines m a us) (last_lines m b vs) (last_ends m a us) (last_ends m b vs) dispatch.1 in
     let pays = lines_apart (unit_line_at m a) (unit_line_at m b) (λ k. pay_of a k ≡ pay_of b k) (λ k. unit_apart (unit_at m k).row (pay_of a k) (pay_of b k)) units _ _ rents.2 in
     let loads = lines_apart (load_line_at m a) (load_line_at m b) (λ k. load_of a k ≡ load_of b k) (λ k. load_apart (bus_at m k).number (load_of a k) (load_of b k)) buses _ _ pays.1 in
-    let last = surplus_apart a.money.surplus b.money.surplus us vs loads.1 in
-    (same_answer a b
-    (same_entries none a.dispatch b.dispatch (length m.blocks) p.fits.dispatch q.fits.dispatch dispatch.0)
-    (same_duals a.duals b.duals head.1 rents.0)
-    (same_prices m a b p q head.1 prices.0)
-    head.0
-    (same_money a.money b.money
-    (same_entries (record { mw = none; paid = none }) a.money.units b.money.units (length m.units) p.fits.units q.fits.units pays.0)
-    (same_entries (record { mw = none; pays = none }) a.money.loads b.money.loads (length m.buses) p.fits.loads q.fits.loads loads.0)
-    rents.1
-    last.0), last.1)
+    let last = surplus_apart a.money.surplus b.money.surplus us vs loads.1 in (
+      same_answer a b
+          (same_entries none a.dispatch b.dispatch (length m.blocks) p.fits.dispatch q.fits.dispatch dispatch.0)
+          (same_duals a.duals b.duals head.1 rents.0)
+          (same_prices m a b p q head.1 prices.0)
+          head.0
+          (same_money a.money b.money
+          (same_entries (record { mw = none; paid = none }) a.money.units b.money.units (length m.units) p.fits.units q.fits.units pays.0)
+          (same_entries (record { mw = none; pays = none }) a.money.loads b.money.loads (length m.buses) p.fits.loads q.fits.loads loads.0)
+          rents.1
+          last.0),
+      last.1,
+    )
