@@ -1,2 +1,1 @@
 pub mod PriceLemmas
-pub mod TestMarkets

@@ -4,6 +4,3 @@
 mod pricing;
 
 pub use pricing::prices;
-
-#[cfg(test)]
-mod tests;

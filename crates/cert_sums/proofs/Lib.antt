@@ -2,4 +2,3 @@ pub mod FlowLemmas
 pub mod ListLemmas
 pub mod NamedLemmas
 pub mod BoundLemmas
-pub mod TestMarkets

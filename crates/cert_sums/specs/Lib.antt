@@ -3,4 +3,3 @@ pub mod Named
 pub mod Pairs
 pub mod Refusals
 pub mod Results
-pub mod Worked

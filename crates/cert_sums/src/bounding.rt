@@ -152,9 +152,9 @@ fn nothing<N: Exact>(alloc: Global, blocks: usize) -> Result<List<N>, Memory>
     Ok(mws)
 }
 
-/// The bound of a price of energy and of named rows with their prices, in 10^-15: what these make where nothing is accepted, and the
-/// most that each block adds. Below 0 no dispatch is feasible, where the prices of limits are at least 0. The rows are those that some
-/// duals name, as the market has them in order.
+/// The bound of a price of energy and of named rows with their prices: what these make where nothing is accepted, and the most that each
+/// block adds. Below 0 no dispatch is feasible, where the prices of limits are at least 0. It is in 10^-9 MW, as such prices are plain
+/// numbers. The rows are those that some duals name, as the market has them in order.
 pub fn farkas_bound<N: Exact>(
     alloc: Global,
     market: &Market,

@@ -14,6 +14,3 @@ pub use flowing::{line_flows, row_flow};
 pub use pricing::{NamedRow, bus_price};
 pub use putting::{balance, injections};
 pub use stops::VerifyStop;
-
-#[cfg(test)]
-mod tests;

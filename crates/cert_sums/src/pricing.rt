@@ -19,7 +19,7 @@ const WHOLE: u64 = 1_000_000_000_000;
 #[derive(Clone, Copy, Debug)]
 pub struct NamedRow<N> {
     pub row: LimitRow,
-    /// The price of its upper side, in 10^-6 per MWh.
+    /// The price of its upper side: in 10^-6 per MWh, or a plain number where the duals show that nothing is feasible.
     pub up: N,
     /// The price of its lower side.
     pub down: N,

@@ -3,5 +3,4 @@ pub mod LawLemmas
 pub mod NamingLemmas
 pub mod RowLemmas
 pub mod TestLemmas
-pub mod TestMarkets
 pub mod VerdictLemmas

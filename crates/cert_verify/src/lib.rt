@@ -15,6 +15,3 @@ mod verifying;
 pub use cert_sums::VerifyStop;
 pub use verdicts::{Reason, Verdict};
 pub use verifying::verify;
-
-#[cfg(test)]
-mod tests;

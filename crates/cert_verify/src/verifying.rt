@@ -23,7 +23,8 @@ fn told(reason: Option<Reason>) -> Verdict
 }
 
 /// Whether a certificate holds of a market: that its dispatch is feasible and its duals support it, or that its duals show that no
-/// dispatch is feasible. Numbers are as in certificates, in 10^-9 MW and 10^-6 per MWh. No row is named twice.
+/// dispatch is feasible. Numbers are as in certificates: MW in 10^-9, and prices in 10^-6 per MWh, or plain numbers in duals of the second
+/// kind. No row is named twice.
 ///
 /// The first reason against it is told, in the order of [`Reason`]. Rows of the certificate are gone through in its own order, limits in
 /// that of the market, and blocks in theirs. The definitions are the market's own: nothing of a way to a best dispatch is looked at.

@@ -22,6 +22,3 @@ pub use offset_list::Offsets;
 pub use offset_reading::offsets;
 pub use outage_numbers::{OutageRows, outage_rows};
 pub use table_fault::TableFault;
-
-#[cfg(test)]
-mod tests;

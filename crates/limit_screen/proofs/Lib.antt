@@ -1,3 +1,2 @@
 pub mod FlowLemmas
 pub mod ScreenLemmas
-pub mod TestMarkets

@@ -9,6 +9,3 @@ mod screening;
 pub use amounts::{datum, factor, with_share};
 pub use flowing::{flows, injections, line_flow, offset_of};
 pub use screening::{row_flow, worst};
-
-#[cfg(test)]
-mod tests;

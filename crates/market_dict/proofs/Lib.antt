@@ -7,4 +7,3 @@ pub mod ReadingLemmas
 pub mod RefusalLaws
 pub mod StopLemmas
 pub mod TermLemmas
-pub mod TestMarkets

@@ -14,6 +14,3 @@ pub use rows::{start, take_limit};
 pub use solving::{Found, solve};
 pub use stop::Stop;
 pub use terms::{Terms, take_bounds, terms_of};
-
-#[cfg(test)]
-mod tests;

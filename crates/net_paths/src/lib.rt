@@ -13,6 +13,3 @@ pub use connection::{PathStop, connected};
 pub use detours::{Detour, branch_of, without};
 pub use loops_of_tree::{Loop, Loops, Member, is_lost, loops};
 pub use parts::bus_number;
-
-#[cfg(test)]
-mod tests;

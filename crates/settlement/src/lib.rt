@@ -13,6 +13,3 @@ mod worth;
 pub use settling::settle;
 pub use stops::MoneyStop;
 pub use worth::welfare;
-
-#[cfg(test)]
-mod tests;
