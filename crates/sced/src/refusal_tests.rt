@@ -74,20 +74,6 @@ fn refuses_malformed_files(rt: HostRuntime) -> Result<(), Fail> {
         (
             "case.m",
             plain,
-            "3 1 60 ",
-            "3 1 1e-10 ",
-            "case Cell bus row 3 col 3 TooFine",
-        ),
-        (
-            "case.m",
-            plain,
-            "3 1 60 ",
-            "3 1 Inf ",
-            "case Cell bus row 3 col 3 NotFinite",
-        ),
-        (
-            "case.m",
-            plain,
             "1 2 0 0.2",
             "1 1 0 0.2",
             "case SameEnds row 1",

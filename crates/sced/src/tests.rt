@@ -237,44 +237,24 @@ fn refuses_what_is_too_much(rt: HostRuntime) -> Result<(), Fail> {
 #[test]
 fn refuses_offers(rt: HostRuntime) -> Result<(), Fail> {
     let plain = case(&rt, BUSES, UNITS, FREE)?;
-    for (record, line) in [
-        ("", "refused offers Header\n"),
-        ("unit,side,mw\n", "refused offers Header\n"),
-        (
-            "unit,side,mw,price\n1,sell,1\n",
-            "refused offers Width line 2\n",
-        ),
-        (
-            "unit,side,mw,cost\n1,sell,1\n",
-            "refused offers Width line 2\n",
-        ),
-        (
-            "unit,side,mw,price\n1,sell,x,1\n",
-            "refused offers Cell line 2 col 3 BadNumber\n",
-        ),
-        (
-            "unit,side,mw,price\n1,give,1,1\n",
-            "refused offers Side line 2\n",
-        ),
-        (
-            "unit,side,mw,price\n1,sell,-1,1\n",
-            "refused offers Negative line 2\n",
-        ),
-        (
-            "unit,side,mw,price\n1,sell,1,2\n1,sell,1,1\n",
-            "refused offers OutOfOrder line 3\n",
-        ),
-        (
-            "unit,side,mw,price\n1,sell,101,1\n",
-            "refused offers OverCapacity line 2\n",
-        ),
-        (
-            "unit,side,mw,price\n1,buy,1,1\n",
-            "refused offers OverCapacity line 2\n",
-        ),
+    for offers in ["", "unit,side,mw\n"] {
+        let want = (Status::Refused, Text::Whole("refused offers Header\n"));
+        expect_pool(&rt, plain.as_bytes(), offers, want)?;
+    }
+    for (records, line) in [
+        ("price\n1,sell,1\n", "Width line 2"),
+        ("cost\n1,sell,1\n", "Width line 2"),
+        ("price\n1,sell,x,1\n", "Cell line 2 col 3 BadNumber"),
+        ("price\n1,give,1,1\n", "Side line 2"),
+        ("price\n1,sell,-1,1\n", "Negative line 2"),
+        ("price\n1,sell,1,2\n1,sell,1,1\n", "OutOfOrder line 3"),
+        ("price\n1,sell,101,1\n", "OverCapacity line 2"),
+        ("price\n1,buy,1,1\n", "OverCapacity line 2"),
     ] {
-        let want = (Status::Refused, Text::Whole(line));
-        expect_pool(&rt, plain.as_bytes(), record, want)?;
+        let offers = format!(in rt.alloc(); "unit,side,mw,{records}")?;
+        let line = format!(in rt.alloc(); "refused offers {line}\n")?;
+        let want = (Status::Refused, Text::Whole(line.as_str()));
+        expect_pool(&rt, plain.as_bytes(), offers.as_str(), want)?;
     }
     Ok(())
 }
