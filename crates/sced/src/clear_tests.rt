@@ -52,6 +52,11 @@ const SAME_LOAD: &str = "1 3 0 0 0 0 1 1 0 230 1 1.1 0.9;
 3 1 6.000e1 -0 0 0 1 1 0 230 1 1.1 0.9;
 ";
 
+const FINE_LOAD: &str = "1 3 0 0 0 0 1 1 0 230 1 1.1 0.9;
+2 1 0 0 0 0 1 1 0 230 1 1.1 0.9;
+3 1 1e-10 0 0 0 1 1 0 230 1 1.1 0.9;
+";
+
 /// Runs words over a case and its tables.
 fn expect_clear<R: Abort + AllocGlobal>(
     rt: &R,
@@ -98,6 +103,12 @@ fn clears_within_limits(rt: HostRuntime) -> Result<(), Fail> {
             (BUSES, UNITS, "Inf 0 0 0 0"),
             done,
             Text::Start("cleared\nwelfare -600\nenergy 10\n"),
+        ),
+        (
+            ALONE,
+            (FINE_LOAD, UNITS, "40 0 0 0 0"),
+            Status::Refused,
+            Text::Whole("refused case Cell bus row 3 col 3 TooFine\n"),
         ),
         (
             AFTER,

@@ -66,35 +66,6 @@ pub enum Text<'a> {
     Start(&'a str),
 }
 
-/// Room for all files of a run.
-pub const ROOM: Room = Room {
-    files: 10,
-    name: 16,
-    bytes: 65_536,
-};
-
-/// Runs the words of a line over a store, with puts that fail, by the number of each, and compares.
-pub fn answers<R: Abort + AllocGlobal>(
-    rt: &R,
-    line: &str,
-    store: &mut MemoryStore,
-    failing: &[u64],
-    want: (Status, Text<'_>),
-) -> Result<(), Fail> {
-    let mut sink = MemorySink::new(rt.alloc(), 8192, failing)?;
-    let mut words = Vec::new(rt.alloc());
-    for word in line.split(' ') {
-        words.push(String::from_str(rt.alloc(), word)?)?;
-    }
-    let status = run(rt.alloc(), words.as_slice(), store, &mut sink);
-    match want.1 {
-        Text::Whole(text) => assert_eq!(rt; sink.bytes(), text.as_bytes()),
-        Text::Start(text) => assert!(rt; sink.bytes().starts_with(text.as_bytes())),
-    }
-    assert_eq!(rt; status, want.0);
-    Ok(())
-}
-
 /// Runs the words of a line over files, with reads and puts that fail, by the number of each, and compares.
 pub fn expect<R: Abort + AllocGlobal>(
     rt: &R,
@@ -103,9 +74,25 @@ pub fn expect<R: Abort + AllocGlobal>(
     failing: (&[u64], &[u64]),
     want: (Status, Text<'_>),
 ) -> Result<(), Fail> {
-    let mut store = MemoryStore::new(rt.alloc(), ROOM, failing.0)?;
+    let room = Room {
+        files: 10,
+        name: 16,
+        bytes: 65_536,
+    };
+    let mut store = MemoryStore::new(rt.alloc(), room, failing.0)?;
     for (name, bytes) in files {
         assert!(rt; store.add(name, bytes).is_ok());
     }
-    answers(rt, line, &mut store, failing.1, want)
+    let mut sink = MemorySink::new(rt.alloc(), 8192, failing.1)?;
+    let mut words = Vec::new(rt.alloc());
+    for word in line.split(' ') {
+        words.push(String::from_str(rt.alloc(), word)?)?;
+    }
+    let status = run(rt.alloc(), words.as_slice(), &mut store, &mut sink);
+    match want.1 {
+        Text::Whole(text) => assert_eq!(rt; sink.bytes(), text.as_bytes()),
+        Text::Start(text) => assert!(rt; sink.bytes().starts_with(text.as_bytes())),
+    }
+    assert_eq!(rt; status, want.0);
+    Ok(())
 }

@@ -48,8 +48,6 @@ mod clear_tests;
 #[cfg(test)]
 mod fixture;
 #[cfg(test)]
-mod refusal_tests;
-#[cfg(test)]
 mod task_tests;
 #[cfg(test)]
 mod tests;

@@ -25,6 +25,8 @@ const MOVED: &str =
 const FARKAS: &str =
     "{\"energy\":\"-1/1\",\"kind\":\"farkas\",\"limits\":[{\"branch\":2,\"down\":\"0/1\",\"outage\":0,\"up\":\"2/1\"}],\"version\":1}";
 
+const HALVED: &str = "{\"energy\":\"2/4\",\"kind\":\"farkas\",\"limits\":[],\"version\":1}";
+
 const LIMITED: &str =
     "cleared\nwelfare -800\nenergy 10\nbus 1 price 10 congestion 0\nbus 2 price 30 congestion 20\nbus 3 price 40 congestion 30\nblock 1 sell 1 mw 50\nblock 2 sell 1 mw 10\nlimit 2 base flow 40 up 40 down 0 rent 1600\nunit 1 mw 50 paid 500\nunit 2 mw 10 paid 300\nload 1 mw 0 pays 0\nload 2 mw 0 pays 0\nload 3 mw 60 pays 2400\nsurplus 1600\n";
 
@@ -155,6 +157,20 @@ fn writes_and_verifies_certificates(rt: HostRuntime) -> Result<(), Fail> {
             FARKAS,
             whole(Status::Refuted, "no Bound\n"),
         ),
+        (
+            "verify --certificate in.json",
+            ALONE,
+            "40 0 0 0 0",
+            "{",
+            whole(Status::Refused, "refused certificate Key json\n"),
+        ),
+        (
+            "verify --certificate in.json",
+            ALONE,
+            "40 0 0 0 0",
+            HALVED,
+            whole(Status::Refused, "refused certificate Key energy\n"),
+        ),
     ] {
         let line = format!(in rt.alloc(); "sced {words} {market}")?;
         expect(
@@ -207,6 +223,20 @@ fn replays_edits(rt: HostRuntime) -> Result<(), Fail> {
             Status::Infeasible,
             "step 1 edit accepted\nstep 2 clear\ninfeasible\nbound -",
             LIMITED,
+            None,
+        ),
+        (
+            "price,1,sell,,5\n",
+            Status::Refused,
+            "refused edits Cell line 2 col 4 BadNumber\n",
+            "refused edits Cell line 2 col 4 BadNumber\n",
+            None,
+        ),
+        (
+            "demand,3,sell,,5\n",
+            Status::Refused,
+            "refused edits Word line 2\n",
+            "refused edits Word line 2\n",
             None,
         ),
     ] {
@@ -303,28 +333,20 @@ fn makes_rings(rt: HostRuntime) -> Result<(), Fail> {
     Ok(())
 }
 
-/// Seven files are read, then a certificate is written and a text is put; one of these fails, or none, and there are no other calls. All
-/// files are read before any is understood, so a failed read is told of a malformed case too.
+/// Seven files are read, then a certificate is written and a text is put; one of these fails, or none, and there are no other calls.
 #[test]
 fn tells_the_call_that_fails(rt: HostRuntime) -> Result<(), Fail> {
     let edits = "op,target,side,block,value\nclear,,,,\n";
     let line = format!(in rt.alloc();
         "sced replay {AFTER} --offsets offsets.csv --edits edits.csv --certificate out.json"
     )?;
-    let good = "40 0 45 0 0";
-    let bad = "x 0 45 0 0";
-    for (ratings, store_call, put, status, written) in [
-        (good, 0, 9, Status::ReadFailed, None),
-        (good, 1, 9, Status::ReadFailed, None),
-        (good, 2, 9, Status::ReadFailed, None),
-        (good, 3, 9, Status::ReadFailed, None),
-        (good, 4, 9, Status::ReadFailed, None),
-        (good, 5, 9, Status::ReadFailed, None),
-        (good, 6, 9, Status::ReadFailed, None),
-        (bad, 1, 9, Status::ReadFailed, None),
-        (good, 7, 9, Status::WriteFailed, None),
-        (good, 8, 0, Status::WriteFailed, Some(OPTIMAL)),
-        (good, 8, 1, Status::Done, Some(OPTIMAL)),
+    for (store_call, put, status, written) in [
+        (0, 9, Status::ReadFailed, None),
+        (3, 9, Status::ReadFailed, None),
+        (6, 9, Status::ReadFailed, None),
+        (7, 9, Status::WriteFailed, None),
+        (8, 0, Status::WriteFailed, Some(OPTIMAL)),
+        (8, 1, Status::Done, Some(OPTIMAL)),
     ] {
         let done = status == Status::Done;
         let want = Want {
@@ -337,7 +359,7 @@ fn tells_the_call_that_fails(rt: HostRuntime) -> Result<(), Fail> {
         expect(
             &rt,
             line.as_str(),
-            ratings,
+            "40 0 45 0 0",
             (OFFERS, edits, ""),
             (failing.0.as_slice(), failing.1.as_slice()),
             want,

@@ -48,10 +48,13 @@ fn clears(rt: HostRuntime) -> Result<(), Fail> {
     let dropping =
         "1 0 0 0 0 1 100 1 100 0;\n2 0 0 0 0 1 100 1 100 20;\n2 0 0 0 0 1 100 0 100 0;\n9 0 0 0 0 1 100 1 100 0;\n";
     let four = "unit,side,mw,price\n1,sell,100,10\n2,sell,80,30\n3,sell,50,1\n4,sell,50,1\n";
+    let spelled =
+        "1 3 0 0 0 0 1 1 0 230 1 1.1 0.9;\n2 1 0 0 0 0 1 1 0 230 1 1.1 0.9;\n3 1 6.000e1 0 -0 0 1 1 0 230 1 1.1 0.9;\n";
     for (buses, units, offers, text) in [
         (BUSES, UNITS, OFFERS, THREE_BUSES),
         (BUSES, buying, bids, BUYER),
         (dropped, dropping, four, DROPPED),
+        (spelled, UNITS, OFFERS, THREE_BUSES),
     ] {
         let case = case(&rt, buses, units, FREE)?;
         let want = (Status::Done, Text::Whole(text));
@@ -176,6 +179,14 @@ fn refuses_cases(rt: HostRuntime) -> Result<(), Fail> {
             "refused case Missing baseMVA\n",
         ),
         (
+            b"function mpc = t\nmpc.version = '2';\nmpc.version = '2';\n",
+            "refused case Twice version\n",
+        ),
+        (
+            b"function mpc = t\nmpc.version = '2';\nmpc.baseMVA = 1e2\nmpc.bus = [1 3; 1];\n",
+            "refused case Ragged bus row 2\n",
+        ),
+        (
             b"function mpc = t\nmpc.version = '2';\nmpc.gen = [1 2 3\n4 5 6];\n",
             "refused case Narrow gen\n",
         ),
@@ -191,6 +202,10 @@ fn refuses_cases(rt: HostRuntime) -> Result<(), Fail> {
     let one = "1 0 0 0 0 1 100 1 100 0;\n";
     for (other, line) in [
         (
+            "2 1 1e-10 0 0 0 1 1 0 230 1 1.1 0.9;\n",
+            "Cell bus row 2 col 3 TooFine",
+        ),
+        (
             "2 1 0 0 Inf 0 1 1 0 230 1 1.1 0.9;\n",
             "Cell bus row 2 col 5 NotFinite",
         ),
@@ -203,6 +218,7 @@ fn refuses_cases(rt: HostRuntime) -> Result<(), Fail> {
             "2 5 0 0 0 0 1 1 0 230 1 1.1 0.9;\n",
             "Cell bus row 2 col 2 Bounds",
         ),
+        ("2 1 0 0 0 0 1 1 0 230 1 1.1;\n", "Ragged bus row 2"),
     ] {
         let buses = format!(in rt.alloc(); "{bus}{other}")?;
         refuse_case(&rt, (buses.as_str(), one), line)?;
@@ -227,34 +243,58 @@ fn refuses_cases(rt: HostRuntime) -> Result<(), Fail> {
 /// A case of too many rows.
 #[test]
 fn refuses_what_is_too_much(rt: HostRuntime) -> Result<(), Fail> {
-    let mut buses = String::new(rt.alloc());
+    let mut units = String::new(rt.alloc());
     for _row in 0..1001 {
-        buses.push_str("1 3 0 0 0 0 1 1 0 230 1 1.1 0.9;\n")?;
+        units.push_str("1 0 0 0 0 1 100 1 100 0;\n")?;
     }
-    refuse_case(&rt, (buses.as_str(), UNITS), "TooMany bus count 1001")
+    refuse_case(&rt, (BUSES, units.as_str()), "TooMany gen count 1001")
 }
 
 #[test]
 fn refuses_offers(rt: HostRuntime) -> Result<(), Fail> {
     let plain = case(&rt, BUSES, UNITS, FREE)?;
-    for offers in ["", "unit,side,mw\n"] {
-        let want = (Status::Refused, Text::Whole("refused offers Header\n"));
-        expect_pool(&rt, plain.as_bytes(), offers, want)?;
-    }
-    for (records, line) in [
-        ("price\n1,sell,1\n", "Width line 2"),
-        ("cost\n1,sell,1\n", "Width line 2"),
-        ("price\n1,sell,x,1\n", "Cell line 2 col 3 BadNumber"),
-        ("price\n1,give,1,1\n", "Side line 2"),
-        ("price\n1,sell,-1,1\n", "Negative line 2"),
-        ("price\n1,sell,1,2\n1,sell,1,1\n", "OutOfOrder line 3"),
-        ("price\n1,sell,101,1\n", "OverCapacity line 2"),
-        ("price\n1,buy,1,1\n", "OverCapacity line 2"),
+    for (record, line) in [
+        ("", "refused offers Header\n"),
+        ("unit,side,mw\n", "refused offers Header\n"),
+        (
+            "unit,side,mw,price\n1,sell,1\n",
+            "refused offers Width line 2\n",
+        ),
+        (
+            "unit,side,mw,cost\n1,sell,1\n",
+            "refused offers Width line 2\n",
+        ),
+        (
+            "unit,side,mw,price\n1,sell,x,1\n",
+            "refused offers Cell line 2 col 3 BadNumber\n",
+        ),
+        (
+            "unit,side,mw,price\n1,give,1,1\n",
+            "refused offers Side line 2\n",
+        ),
+        (
+            "unit,side,mw,price\n3,sell,1,1\n",
+            "refused offers NoUnit line 2\n",
+        ),
+        (
+            "unit,side,mw,price\n1,sell,-1,1\n",
+            "refused offers Negative line 2\n",
+        ),
+        (
+            "unit,side,mw,price\n1,sell,1,2\n1,sell,1,1\n",
+            "refused offers OutOfOrder line 3\n",
+        ),
+        (
+            "unit,side,mw,price\n1,sell,101,1\n",
+            "refused offers OverCapacity line 2\n",
+        ),
+        (
+            "unit,side,mw,price\n1,buy,1,1\n",
+            "refused offers OverCapacity line 2\n",
+        ),
     ] {
-        let offers = format!(in rt.alloc(); "unit,side,mw,{records}")?;
-        let line = format!(in rt.alloc(); "refused offers {line}\n")?;
-        let want = (Status::Refused, Text::Whole(line.as_str()));
-        expect_pool(&rt, plain.as_bytes(), offers.as_str(), want)?;
+        let want = (Status::Refused, Text::Whole(line));
+        expect_pool(&rt, plain.as_bytes(), record, want)?;
     }
     Ok(())
 }
