@@ -1,7 +1,7 @@
 -- Statuses, and what the last clear came to, one outcome after another.
-use Rattle.std.proofs.Common.{◌≡◌, ◌<◌, ◌≤◌, ◌∙◌, ℕ, ◌+◌, Bool, true, false, if◌then◌else◌, List, [], ◌∷◌, All, drop, get_or, map, length, Option, None, refl, sym, ap, subst}
+use Rattle.std.proofs.Common.{◌≡◌, ◌<◌, ◌≤◌, ◌∙◌, ℕ, ◌+◌, Bool, true, false, if◌then◌else◌, List, [], ◌∷◌, All, drop, get_or, map, length, Option, None, Some, zero, suc, refl, sym, ap, subst}
 use Rattle.std.specs.Prelude.{option_and_then}
-use Rattle.std.proofs.lemmas.List.Elements.{All-cons, All-nil}
+use Rattle.std.proofs.lemmas.List.Elements.{All-cons, All-head, All-nil, All-tail}
 use Rattle.std.proofs.lemmas.List.{at_drop_all, at_drop_more}
 use Rattle.fraction_theory.specs.Fraction.{Fraction}
 use Rattle.market_model.specs.declared.answered.Outcome.{Outcome}
@@ -11,17 +11,25 @@ use Rattle.command_answers.specs.declared.status.Status.{Status}
 use Rattle.command_answers.specs.declared.status.Status.TheVariants as status
 use Rattle.market_model.specs.declared.answered.Outcome.TheVariants as outcome
 use Rattle.market_model.specs.declared.participants.Parts.{Parts}
+use Rattle.market_model.specs.LimitRows.{Row}
+use Rattle.market_model.specs.Market.{IsMarket}
 use Rattle.market_model.specs.Valued.{outcome_at}
+use Rattle.market_system.specs.Outcomes.{IsDecided}
+use Rattle.market_system.specs.WorkingPairs.{NoPairPasses}
+use Rattle.market_system.proofs.Completeness.{law_of_completeness}
 use Rattle.clear_loop.specs.Keeping.{cold}
 use Rattle.cert_format.specs.Written.{certificate_of}
+use Rattle.edit_table.specs.EditTable.{IsStep}
 use Rattle.edit_table.specs.declared.Step.{Step}
+use Rattle.edit_table.specs.declared.Step.TheVariants as edit
 use Rattle.edit_replay.specs.SessionStates.{SessionState}
-use Rattle.edit_replay.specs.Replays.{IsReplay}
+use Rattle.edit_replay.specs.Replays.{IsReplay, IsReply, edited_by, stepped}
+use Rattle.edit_replay.proofs.FrameLemmas.{steps_market}
 use Rattle.edit_replay.specs.declared.step_outcome.StepOutcome.TheVariants as step
 use Rattle.replay_text.specs.ReplayTexts.{replayed}
 use Rattle.command_answers.specs.Clearing.{AreSidesWithin, IsWithin}
 use Rattle.command_answers.specs.Tellings.{Telling}
-use Rattle.command_answers.specs.Replaying.{AreStepSidesWithin, ReplaysTo, clear_or, is_done, last_clear, replay_status, step_status}
+use Rattle.command_answers.specs.Replaying.{AreDecided, AreStepSidesWithin, NoPairPassesIn, ReplaysTo, clear_or, is_done, last_clear, replay_status, step_status}
 
 -- the first outcome and those behind it
 status_first : (o : StepOutcome Fraction) (os : List (StepOutcome Fraction)) → replay_status (o ∷ os) ≡ (if is_done (step_status o) then replay_status os else step_status o)
@@ -76,6 +84,26 @@ module _ {N : Type 0} (value : N → Fraction) (outcomes : List (StepOutcome N))
       ∙ sym (at_drop_more (last_from before) outcomes k x within ∙ ap (λ y. last_from before (y ∷ drop (k + 1) outcomes)) (sym item) ∙ last_first before (step_outcome_at value x) (map (step_outcome_at value) (drop (k + 1) outcomes)))
       ∙ told
 
+-- ---- each clear is decided
+decided_first : (bound : ℕ) (m : Parts) (before between : List Row) (s : Step) (o : Outcome Fraction) → IsMarket m → NoPairPasses m before bound → IsReply bound m before s (step.Clear o) between → IsDecided m o
+decided_first bound m before between (edit.Edit e) o market none is = absurd is
+decided_first bound m before between edit.Clear o market none is = law_of_completeness m before bound o market none is.right
+
+first_is : (m : Parts) (bound : ℕ) (before : List Row) (s : Step) (p : StepOutcome Fraction) (o : Outcome Fraction) (between : List Row) → Some p ≡ Some (step.Clear o) → IsReply bound m before s p between
+    → IsReply bound m before s (step.Clear o) between
+first_is m bound before s p o between is reply = let same : p ≡ step.Clear o = cc is in subst (λ (q : StepOutcome Fraction). IsReply bound m before s q between) same reply
+
+are_decided : (bound : ℕ) (m : Parts) (before after : List Row) (steps : List Step) (outcomes : List (StepOutcome Fraction)) → IsMarket m → All IsStep steps
+    → NoPairPassesIn m steps bound → IsReplay bound m before steps outcomes after → AreDecided m steps outcomes
+are_decided bound m before after [] [] market data_ok none replay k o is = cc is
+are_decided bound m before after [] (p ∷ outcomes) market data_ok none replay k o is = absurd replay
+are_decided bound m before after (s ∷ steps) [] market data_ok none replay k o is = absurd replay
+are_decided bound m before after (s ∷ steps) (p ∷ outcomes) market data_ok none replay zero o is =
+    decided_first bound m before replay.0 s o market (none 0 before) (first_is m bound before s p o replay.0 is replay.1)
+are_decided bound m before after (s ∷ steps) (p ∷ outcomes) market data_ok none replay (suc k) o is =
+    are_decided bound (stepped m s) replay.0 after steps outcomes (steps_market m (s ∷ []) market (All-cons IsStep s [] (All-head IsStep s steps data_ok) (All-nil IsStep))) (All-tail IsStep s steps data_ok)
+    (λ j taken. none (suc j) taken) replay.2 k o is
+
 -- ---- a replay as it is told
 module _ {N : Type 0} (value : N → Fraction) (bound : ℕ) (fits : (x : N) → IsWithin bound (value x)) where
   -- the two sides of an operation that was refused are within the bound, as all numbers of their type
@@ -94,14 +122,19 @@ module _ {N : Type 0} (value : N → Fraction) (bound : ℕ) (fits : (x : N) →
   all_within (o ∷ os) = All-cons (AreStepSidesWithin bound) (step_outcome_at value o) (map (step_outcome_at value) os) (step_within o) (all_within os)
 
   pub replays_to : (m : Parts) (steps : List Step) (start now : SessionState) (outcomes : List (StepOutcome N)) (t : Telling) → start ≡ record { market = m; kept = cold }
+      → IsMarket m → All IsStep steps
       → IsReplay bound start.market start.kept.rows steps (map (step_outcome_at value) outcomes) now.kept.rows
       → t.status ≡ replay_status (map (step_outcome_at value) outcomes) → t.text ≡ replayed m steps (map (step_outcome_at value) outcomes)
       → t.certificate ≡ option_and_then certificate_of (last_clear None (map (step_outcome_at value) outcomes)) → ReplaysTo bound m steps t
-  replays_to m steps start now outcomes t is replay status_is text_is certificate_is = record {
+  replays_to m steps start now outcomes t is market data_ok replay status_is text_is certificate_is =
+    let right : IsReplay bound m [] steps (map (step_outcome_at value) outcomes) now.kept.rows =
+    subst (λ (s : SessionState). IsReplay bound s.market s.kept.rows steps (map (step_outcome_at value) outcomes) now.kept.rows) is replay in
+    record {
     outcomes = map (step_outcome_at value) outcomes;
     taken = now.kept.rows;
-    right = subst (λ (s : SessionState). IsReplay bound s.market s.kept.rows steps (map (step_outcome_at value) outcomes) now.kept.rows) is replay;
+    right = right;
     sides = all_within outcomes;
+    decided = λ none. are_decided bound m [] now.kept.rows steps (map (step_outcome_at value) outcomes) market data_ok none right;
     status_is = status_is;
     text_is = text_is;
     certificate_is = certificate_is;

@@ -19,4 +19,6 @@ pub use told::Told;
 pub use verifying::verify_told;
 
 #[cfg(test)]
+mod network_tests;
+#[cfg(test)]
 mod tests;

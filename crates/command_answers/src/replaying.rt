@@ -111,7 +111,8 @@ fn last_certificate<N: Exact>(
 
 /// What replaying the steps of a market comes to.
 fn replay_outcome<N: Exact>(alloc: Global, market: Market, steps: &Steps) -> Result<Told, Memory>
-    requires { All IsStep steps.now }
+    requires market { IsMarket market }
+    requires steps { All IsStep steps.now }
     ensures status { IfOk result (λ told. IsOfWork told.status) }
     ensures replays { IfOk result (λ told. ReplaysTo N.bound market steps.now (telling_of told)) }
 {

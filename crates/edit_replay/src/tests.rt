@@ -7,7 +7,7 @@ ghost use Rattle.offer_book.specs.Edits.{number_of};
 ghost use Rattle.edit_table.specs.EditTable.{IsStep};
 
 use crate::{Session, Step, StepOutcome, Steps};
-use exact_fraction::{Exact, Frac, Frac63};
+use exact_fraction::{Exact, Frac, Frac63, Op};
 use market_model::{
     Answer, Block, Bus, Factor, Line, List, Market, Memory, Outcome, Parts, RowId, Side, Unit,
     assemble,
@@ -150,12 +150,12 @@ fn market(alloc: Global) -> Result<Market, Memory> {
     assemble(alloc, parts)
 }
 
-/// A new price of a sell block of the unit of row 2.
-fn price(block: i64, price: i64) -> Edit
+/// A new price of a sell block.
+fn price(unit: i64, block: i64, price: i64) -> Edit
     ensures { number_of result ≡ price }
 {
     Edit::Price {
-        unit: 2,
+        unit,
         side: Side::Sell,
         block,
         price,
@@ -186,7 +186,7 @@ fn steps(alloc: Global) -> Result<Steps, Memory>
     ensures { IfOk result (All IsStep) }
 {
     let mut steps = List::new(alloc);
-    push(&mut steps, Step::Edit(price(2, 20 * PRICE)))?;
+    push(&mut steps, Step::Edit(price(2, 2, 20 * PRICE)))?;
     push(&mut steps, Step::Clear)?;
     push(&mut steps, Step::Edit(limit(10 * MW)))?;
     push(&mut steps, Step::Clear)?;
@@ -235,7 +235,7 @@ fn starts_warm<N: Exact>(alloc: Global) -> Result<bool, Memory> {
     let mut session: Session<N> = Session::new(market(alloc)?);
     let first = session.clear(alloc)?;
     let once = has_taken(&session);
-    let cheaper = session.edit(&price(1, 20 * PRICE)).is_ok();
+    let cheaper = session.edit(&price(2, 1, 20 * PRICE)).is_ok();
     let second = session.clear(alloc)?;
     let twice = has_taken(&session);
     let wider = session.edit(&limit(50 * MW)).is_ok();
@@ -300,6 +300,76 @@ fn replays<N: Exact>(alloc: Global) -> Result<bool, Memory> {
     Ok(right && has_taken(&session))
 }
 
+/// A new load at bus 3.
+fn demand(mw: i64) -> Edit
+    ensures { number_of result ≡ mw }
+{
+    Edit::Demand { bus: 3, mw }
+}
+
+/// A price of all that 63 bits hold, which nothing is paid by; then prices at which what the first unit is paid is more than they hold; the
+/// first price again; and a load at which what both units are paid together is more.
+fn dear_steps(alloc: Global) -> Result<Steps, Memory>
+    ensures { IfOk result (All IsStep) }
+{
+    let mut steps = List::new(alloc);
+    push(&mut steps, Step::Edit(limit(1_000 * MW)))?;
+    push(
+        &mut steps,
+        Step::Edit(price(2, 1, 9_000_000_000_000 * PRICE)),
+    )?;
+    push(&mut steps, Step::Clear)?;
+    push(&mut steps, Step::Edit(price(2, 1, 300 * PRICE)))?;
+    push(&mut steps, Step::Edit(price(1, 1, 200 * PRICE)))?;
+    push(&mut steps, Step::Clear)?;
+    push(&mut steps, Step::Edit(price(1, 1, 10 * PRICE)))?;
+    push(&mut steps, Step::Clear)?;
+    push(&mut steps, Step::Edit(price(2, 1, 200 * PRICE)))?;
+    push(&mut steps, Step::Edit(price(1, 1, 60 * PRICE)))?;
+    push(&mut steps, Step::Edit(demand(110 * MW)))?;
+    push(&mut steps, Step::Clear)?;
+    Ok(steps)
+}
+
+/// Whether a clear makes 60 MW for 10.
+fn is_free<N: Exact>(outcome: &StepOutcome<N>) -> bool {
+    match outcome {
+        StepOutcome::Clear(outcome) => is_cleared(outcome, (60, 0), (10, 10)),
+        _ => false,
+    }
+}
+
+/// Whether a clear ended with this operation of two numbers.
+fn is_range<N: Exact>(outcome: &StepOutcome<N>, op: Op, left: N, right: N) -> bool {
+    match outcome {
+        StepOutcome::Clear(Outcome::Range(passed)) => {
+            passed.op == op
+                && passed.left.order(left) == Ordering::Equal
+                && passed.right.order(right) == Ordering::Equal
+        }
+        _ => false,
+    }
+}
+
+fn passes_63_bits(alloc: Global) -> Result<bool, Memory> {
+    let mut session: Session<Frac63> = Session::new(market(alloc)?);
+    let steps = dear_steps(alloc)?;
+    let outcomes = session.replay(alloc, &steps)?;
+    let told = outcomes.slice();
+    let paid = Frac63::of_parts(-200_000_000, 1);
+    let made = Frac63::of_parts(60_000_000_000, 1);
+    let first = Frac63::of_parts(-6_000_000_000_000_000_000, 1);
+    let second = Frac63::of_parts(-4_000_000_000_000_000_000, 1);
+    Ok(
+        told.len() == 12
+            && is_free(&told[2])
+            && is_range(&told[5], Op::Times, paid, made)
+            && is_free(&told[7])
+            && is_range(&told[11], Op::Plus, first, second)
+            && session.clearer().taken() == 0,
+    )
+}
+
 #[test]
 fn clears_between_edits(rt: HostRuntime) -> Result<(), Fail> {
     assert!(rt; starts_warm::<Frac>(rt.alloc())?);
@@ -311,5 +381,11 @@ fn clears_between_edits(rt: HostRuntime) -> Result<(), Fail> {
 fn refused_and_infeasible(rt: HostRuntime) -> Result<(), Fail> {
     assert!(rt; replays::<Frac>(rt.alloc())?);
     assert!(rt; replays::<Frac63>(rt.alloc())?);
+    Ok(())
+}
+
+#[test]
+fn numbers_too_large(rt: HostRuntime) -> Result<(), Fail> {
+    assert!(rt; passes_63_bits(rt.alloc())?);
     Ok(())
 }

@@ -26,7 +26,7 @@ use Rattle.command_words.specs.Words.{AsksCheck, AsksClear, AsksMake, AsksPool, 
 use Rattle.command_words.proofs.WordsLemmas.{asks-once, clears-once, enters-one, makes-once, names-apart, replays-once, verifies-once}
 use Rattle.command_answers.specs.Clearing.{TellsClear, most_size, status_of}
 use Rattle.command_answers.specs.Inputs.{IsCertified, IsLimited, IsReplayed, MarketCertificate, MarketSteps, MarketTexts}
-use Rattle.command_answers.specs.Replaying.{TellsReplay, is_done, replay_status, step_status}
+use Rattle.command_answers.specs.Replaying.{NoPairPassesIn, TellsReplay, is_done, replay_status, step_status}
 use Rattle.market_model.specs.LimitRows.{Row}
 use Rattle.edit_table.specs.declared.Step.{Step}
 use Rattle.edit_table.specs.declared.Step.TheVariants as step
@@ -38,7 +38,7 @@ use Rattle.command_answers.specs.Tellings.{ComesTo, Telling, Tells}
 use Rattle.command_answers.specs.Verifying.{IsCertificatePair, TellsVerdict, VerifiesTo, judged, passed, verdict_status}
 use Rattle.command_answers.specs.declared.status.Status.{Status}
 use Rattle.command_answers.specs.declared.status.Status.TheVariants as status
-use Rattle.sced.specs.Decided.{AsksMarket, AsksSteps, AsksVerdict, Decides, IsDecidedIn, IsDecidedOf, IsMadeOf, NoPairPassesIn, as_clear, as_pool}
+use Rattle.sced.specs.Decided.{AsksMarket, AsksSteps, AsksVerdict, Decides, IsDecidedIn, IsDecidedOf, IsMadeOf, as_clear, as_pool}
 use Rattle.sced.specs.Reading.{HaveTexts, IsTable, contingencies_header, edits_header, lodf_header, offsets_header}
 use Rattle.sced.specs.Told.{AnswersTo, AreClearFiles, ArePoolFiles, AreReplayFiles, AreVerifyFiles, OfFiles, checked, cleared, made, pooled, refused, replayed, verified}
 use Rattle.sced.proofs.FileLemmas.{AreAlike, certified-same, limited-same, pool-same, replayed-same}

@@ -1,20 +1,19 @@
 -- What a run's status decides, where no numbers become too large.
-use Rattle.std.specs.Prelude.{◌≡◌, ◌≢◌, ℕ, List, [], take, Option, Some, None, Ok}
+use Rattle.std.specs.Prelude.{◌≡◌, ◌≢◌, ℕ, List, [], Option, Some, None, Ok}
 use Rattle.fraction_theory.specs.Fraction.{Fraction}
 use Rattle.exact_fraction.specs.declared.Passed.{Passed}
 use Rattle.outside_store.specs.Files.{Files}
 use Rattle.market_model.specs.declared.participants.Parts.{Parts}
 use Rattle.market_model.specs.Dispatch.{Dispatch}
-use Rattle.market_model.specs.LimitRows.{Row}
 use Rattle.market_model.specs.Optimality.{Feasible}
 use Rattle.market_system.specs.WorkingPairs.{NoPairPasses}
 use Rattle.case_maker.specs.Rings.{ring_of}
 use Rattle.cert_format.specs.declared.certificate.Cert.{Cert}
 use Rattle.cert_verify.specs.Certificates.{first_reason}
 use Rattle.edit_table.specs.declared.Step.{Step}
-use Rattle.edit_replay.specs.Replays.{edited_by}
 use Rattle.command_words.specs.Words.{AsksClear, AsksMake, AsksPool, AsksReplay, AsksVerify, MarketNames}
 use Rattle.command_answers.specs.Clearing.{most_size}
+use Rattle.command_answers.specs.Replaying.{NoPairPassesIn}
 use Rattle.command_answers.specs.Verifying.{IsCertificatePair, verdict_status}
 use Rattle.command_answers.specs.declared.status.Status.{Status}
 use Rattle.command_answers.specs.declared.status.Status.TheVariants as status
@@ -45,10 +44,6 @@ pub record AsksSteps (files : Files) (words : List (List ℕ)) (m : Parts) (step
   pub certificate : Option (List ℕ)
   pub asks : AsksReplay words names edits certificate
   pub stand : AreReplayFiles files names edits (Ok (record { market = m; steps = steps }))
-
--- no working pair of the market, as any number of the steps edit it, passes the bound, whatever limits a clear of it begins with
-abbrev pub NoPairPassesIn : Parts → List Step → ℕ → Type 0
-NoPairPassesIn m steps bound = (k : ℕ) (taken : List Row) → NoPairPasses (edited_by m (take k steps)) taken bound
 
 -- Where the words ask to clear a market of which no working pair passes the bound, the status decides it. Where they ask whether a
 -- certificate holds of whose sums no pair passes it, the status says so. Where they ask for steps of a market of which no pair passes it,

@@ -1,6 +1,6 @@
 //! Checks of tables, with texts worked by hand.
 
-use crate::fixture::{BUSES, LINE, LOSS, SHIFT, Text, UNITS, case, expect};
+use crate::fixture::{BUSES, LINE, LOSS, SHIFT, UNITS, case, expect, expect_within, whole};
 use command_answers::Status;
 use std::process::Abort;
 use std::test::Fail;
@@ -55,13 +55,7 @@ fn expect_check<R: Abort + AllocGlobal>(
         ("listed.csv", texts[3].as_bytes()),
     ];
     let failing = (failing, [].as_slice());
-    expect(
-        rt,
-        line,
-        files.as_slice(),
-        failing,
-        (want.0, Text::Whole(want.1)),
-    )
+    expect(rt, line, files.as_slice(), failing, whole(want.0, want.1))
 }
 
 #[test]
@@ -109,6 +103,44 @@ fn checks_tables(rt: HostRuntime) -> Result<(), Fail> {
         ),
     ] {
         expect_check(&rt, ALL, files, [].as_slice(), want)?;
+    }
+    Ok(())
+}
+
+/// Shift tables with a record more.
+#[test]
+fn refuses_shift_tables(rt: HostRuntime) -> Result<(), Fail> {
+    let case = case(&rt, BUSES, UNITS, "0 0 0 0 0")?;
+    let line = "sced check --case case.m --ptdf shift.csv";
+    for (record, told) in [
+        ("1,2\n", "Width line 8"),
+        ("9,2,0.1\n", "NoBranch line 8"),
+        ("1,9,0\n", "NoBus line 8"),
+        ("1,2,1000.000001\n", "Cell line 8 col 3 Bounds"),
+    ] {
+        let table = format!(in rt.alloc(); "{SHIFT}{record}")?;
+        let told = format!(in rt.alloc(); "refused ptdf {told}\n")?;
+        let files = [case.as_str(), table.as_str(), "", ""];
+        let refused = (Status::Refused, told.as_str());
+        expect_check(&rt, line, files, [].as_slice(), refused)?;
+    }
+    Ok(())
+}
+
+/// A table whose only cell is as long as a file may be, and one of a byte more.
+#[test]
+fn refuses_a_file_that_is_too_long(rt: HostRuntime) -> Result<(), Fail> {
+    let case = case(&rt, BUSES, UNITS, "0 0 0 0 0")?;
+    let line = "sced check --case case.m --ptdf shift.csv";
+    let all = ([].as_slice(), [].as_slice());
+    for (length, told) in [
+        (33_554_432, "refused ptdf Header\n"),
+        (33_554_433, "refused ptdf TooLong limit 33554432\n"),
+    ] {
+        let table = "x".repeat(rt.alloc(), length)?;
+        let files = [("case.m", case.as_bytes()), ("shift.csv", table.as_bytes())];
+        let want = whole(Status::Refused, told);
+        expect_within(&rt, line, files.as_slice(), length, all, want)?;
     }
     Ok(())
 }

@@ -1,6 +1,6 @@
 //! Clears within limits, with texts worked by hand.
 
-use crate::fixture::{BUSES, LINE, LOSS, OFFERS, SHIFT, Text, UNITS, case, expect};
+use crate::fixture::{BUSES, LINE, LOSS, OFFERS, SHIFT, UNITS, Want, begins, case, expect, whole};
 use command_answers::Status;
 use std::process::Abort;
 use std::test::Fail;
@@ -52,18 +52,13 @@ const SAME_LOAD: &str = "1 3 0 0 0 0 1 1 0 230 1 1.1 0.9;
 3 1 6.000e1 -0 0 0 1 1 0 230 1 1.1 0.9;
 ";
 
-const FINE_LOAD: &str = "1 3 0 0 0 0 1 1 0 230 1 1.1 0.9;
-2 1 0 0 0 0 1 1 0 230 1 1.1 0.9;
-3 1 1e-10 0 0 0 1 1 0 230 1 1.1 0.9;
-";
-
 /// Runs words over a case and its tables.
 fn expect_clear<R: Abort + AllocGlobal>(
     rt: &R,
     line: &str,
     case: &str,
     failing: (&[u64], &[u64]),
-    want: (Status, Text<'_>),
+    want: Want<'_>,
 ) -> Result<(), Fail> {
     let files: [(&str, &[u8]); 10] = [
         ("case.m", case.as_bytes()),
@@ -85,94 +80,75 @@ fn clears_within_limits(rt: HostRuntime) -> Result<(), Fail> {
     let all = ([].as_slice(), [].as_slice());
     let done = Status::Done;
     let at_demand = "1 0 0 0 0 1 100 1 100 0;\n3 0 0 0 0 1 100 1 100 0;\n";
-    for (line, rows, status, text) in [
-        (
-            ALONE,
-            (BUSES, UNITS, "40 0 0 0 0"),
-            done,
-            Text::Whole(LIMITED),
-        ),
+    for (line, rows, want) in [
+        (ALONE, (BUSES, UNITS, "40 0 0 0 0"), whole(done, LIMITED)),
         (
             ALONE,
             (SAME_LOAD, UNITS, "0.4e2 0 0 0 0"),
-            done,
-            Text::Whole(LIMITED),
+            whole(done, LIMITED),
         ),
         (
             ALONE,
             (BUSES, UNITS, "Inf 0 0 0 0"),
-            done,
-            Text::Start("cleared\nwelfare -600\nenergy 10\n"),
-        ),
-        (
-            ALONE,
-            (FINE_LOAD, UNITS, "40 0 0 0 0"),
-            Status::Refused,
-            Text::Whole("refused case Cell bus row 3 col 3 TooFine\n"),
+            begins(done, "cleared\nwelfare -600\nenergy 10\n"),
         ),
         (
             AFTER,
             (BUSES, UNITS, "40 0 45 0 0"),
-            done,
-            Text::Whole(AFTER_OUTAGE),
+            whole(done, AFTER_OUTAGE),
         ),
         (
             AS_BEFORE,
             (BUSES, UNITS, "40 0 45 0 0"),
-            done,
-            Text::Whole(AFTER_AS_BEFORE),
+            whole(done, AFTER_AS_BEFORE),
         ),
-        (
-            ALONE,
-            (BUSES, at_demand, "40 0 0 0 0"),
-            done,
-            Text::Whole(THIRDS),
-        ),
+        (ALONE, (BUSES, at_demand, "40 0 0 0 0"), whole(done, THIRDS)),
         (
             "sced clear --case case.m --ptdf shift.csv --offers offers.csv --offsets offsets.csv",
             (FIRST_BUS, UNITS, "5 0 0 0 3"),
-            done,
-            Text::Whole(FIXED),
+            whole(done, FIXED),
         ),
         (
             "sced clear --case case.m --ptdf shift.csv --offers no_offers.csv",
             (BUSES, "1 0 0 0 0 1 100 1 60 60;\n", "0 0 0 0 0"),
-            done,
-            Text::Start("cleared\nwelfare 0\n"),
+            begins(done, "cleared\nwelfare 0\n"),
         ),
         (
             ALONE,
             (BUSES, UNITS, "10 0 0 0 0"),
-            Status::Infeasible,
-            Text::Start("infeasible\nbound -"),
+            begins(Status::Infeasible, "infeasible\nbound -"),
         ),
         (
             ALONE,
             (SHORT, UNITS, "0 0 0 0 0"),
-            Status::Infeasible,
-            Text::Start("infeasible\nbound -"),
+            begins(Status::Infeasible, "infeasible\nbound -"),
         ),
         (
             ALONE,
             (FIRST_BUS, UNITS, "5 0 0 0 3"),
-            Status::Refused,
-            Text::Whole("refused offsets NoOffset branch 2\n"),
+            whole(Status::Refused, "refused offsets NoOffset branch 2\n"),
+        ),
+        (
+            "sced clear --case case.m --ptdf no_shift.csv --offers offers.csv",
+            (BUSES, UNITS, "40 0 0 0 0"),
+            whole(Status::Refused, "refused factors NoShift branch 2\n"),
         ),
         (
             "sced clear --case case.m --ptdf shift.csv --offers offers.csv --contingencies listed.csv",
             (BUSES, UNITS, "0 0 0 0 0"),
-            Status::Refused,
-            Text::Whole("refused factors NoLoss branch 1\n"),
+            whole(Status::Refused, "refused factors NoLoss branch 1\n"),
         ),
         (
             "sced clear --case line.m --ptdf no_shift.csv --offers offers.csv --contingencies second.csv",
             (BUSES, UNITS, "0 0 0 0 0"),
-            Status::Refused,
-            Text::Whole("refused contingencies Islands branch 2 side 3\n"),
+            whole(
+                Status::Refused,
+                "refused contingencies Islands branch 2 side 3\n",
+            ),
         ),
     ] {
         let case = case(&rt, rows.0, rows.1, rows.2)?;
-        expect_clear(&rt, line, case.as_str(), all, (status, text))?;
+        expect_clear(&rt, line, case.as_str(), all, want)?;
     }
     Ok(())
 }
@@ -186,13 +162,7 @@ fn tells_failed_reads_and_puts(rt: HostRuntime) -> Result<(), Fail> {
         (ALONE, [].as_slice(), [0].as_slice(), Status::WriteFailed),
         (missing, [].as_slice(), [].as_slice(), Status::ReadFailed),
     ] {
-        expect_clear(
-            &rt,
-            line,
-            case.as_str(),
-            (reads, puts),
-            (status, Text::Whole("")),
-        )?;
+        expect_clear(&rt, line, case.as_str(), (reads, puts), whole(status, ""))?;
     }
     Ok(())
 }

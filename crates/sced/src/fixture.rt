@@ -59,11 +59,33 @@ pub fn case<R: AllocGlobal>(
     Ok(text)
 }
 
-/// A text, or how one begins.
+/// What a run is to end with: its status, the beginning and the end of its text, the whole where both are one, and the file that it wrote.
 #[derive(Clone, Copy)]
-pub enum Text<'a> {
-    Whole(&'a str),
-    Start(&'a str),
+pub struct Want<'a> {
+    pub status: Status,
+    pub start: &'a str,
+    pub end: &'a str,
+    pub written: Option<&'a str>,
+}
+
+/// A text that is told whole.
+pub fn whole(status: Status, text: &str) -> Want<'_> {
+    Want {
+        status,
+        start: text,
+        end: text,
+        written: None,
+    }
+}
+
+/// How a text begins, and that its last line ends.
+pub fn begins(status: Status, start: &str) -> Want<'_> {
+    Want {
+        status,
+        start,
+        end: "\n",
+        written: None,
+    }
 }
 
 /// Runs the words of a line over files, with reads and puts that fail, by the number of each, and compares.
@@ -72,12 +94,24 @@ pub fn expect<R: Abort + AllocGlobal>(
     line: &str,
     files: &[(&str, &[u8])],
     failing: (&[u64], &[u64]),
-    want: (Status, Text<'_>),
+    want: Want<'_>,
+) -> Result<(), Fail> {
+    expect_within(rt, line, files, 65_536, failing, want)
+}
+
+/// The same over files of at most so many bytes.
+pub fn expect_within<R: Abort + AllocGlobal>(
+    rt: &R,
+    line: &str,
+    files: &[(&str, &[u8])],
+    bytes: usize,
+    failing: (&[u64], &[u64]),
+    want: Want<'_>,
 ) -> Result<(), Fail> {
     let room = Room {
         files: 10,
         name: 16,
-        bytes: 65_536,
+        bytes,
     };
     let mut store = MemoryStore::new(rt.alloc(), room, failing.0)?;
     for (name, bytes) in files {
@@ -89,10 +123,17 @@ pub fn expect<R: Abort + AllocGlobal>(
         words.push(String::from_str(rt.alloc(), word)?)?;
     }
     let status = run(rt.alloc(), words.as_slice(), &mut store, &mut sink);
-    match want.1 {
-        Text::Whole(text) => assert_eq!(rt; sink.bytes(), text.as_bytes()),
-        Text::Start(text) => assert!(rt; sink.bytes().starts_with(text.as_bytes())),
+    assert_eq!(rt; status, want.status);
+    if want.start == want.end {
+        assert_eq!(rt; sink.bytes(), want.start.as_bytes());
+    } else {
+        assert!(rt; sink.bytes().starts_with(want.start.as_bytes()));
+        assert!(rt; sink.bytes().ends_with(want.end.as_bytes()));
     }
-    assert_eq!(rt; status, want.0);
+    match (store.bytes("out.json"), want.written) {
+        (Some(bytes), Some(text)) => assert_eq!(rt; bytes, text.as_bytes()),
+        (told, None) => assert!(rt; told.is_none()),
+        (None, Some(_)) => assert!(rt; false),
+    }
     Ok(())
 }

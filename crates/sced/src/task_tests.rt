@@ -1,9 +1,7 @@
 //! Certificates that are written and verified, replays of edits, and rings.
 
-use crate::fixture::{BUSES, LOSS, OFFERS, SHIFT, UNITS, case};
-use crate::run::run;
+use crate::fixture::{BUSES, LOSS, OFFERS, SHIFT, UNITS, Want, case, expect, whole};
 use command_answers::Status;
-use outside_store::{MemorySink, MemoryStore, Room};
 use std::process::Abort;
 use std::test::Fail;
 
@@ -25,8 +23,6 @@ const MOVED: &str =
 const FARKAS: &str =
     "{\"energy\":\"-1/1\",\"kind\":\"farkas\",\"limits\":[{\"branch\":2,\"down\":\"0/1\",\"outage\":0,\"up\":\"2/1\"}],\"version\":1}";
 
-const HALVED: &str = "{\"energy\":\"2/4\",\"kind\":\"farkas\",\"limits\":[],\"version\":1}";
-
 const LIMITED: &str =
     "cleared\nwelfare -800\nenergy 10\nbus 1 price 10 congestion 0\nbus 2 price 30 congestion 20\nbus 3 price 40 congestion 30\nblock 1 sell 1 mw 50\nblock 2 sell 1 mw 10\nlimit 2 base flow 40 up 40 down 0 rent 1600\nunit 1 mw 50 paid 500\nunit 2 mw 10 paid 300\nload 1 mw 0 pays 0\nload 2 mw 0 pays 0\nload 3 mw 60 pays 2400\nsurplus 1600\n";
 
@@ -41,27 +37,8 @@ const CHEAPER_CERTIFICATE: &str =
 const BLOCKED: &str =
     "step 1 edit accepted\nstep 2 edit accepted\nstep 3 clear\ncleared\nwelfare -2800\nenergy 10\nbus 1 price 10 congestion 0\nbus 2 price 30 congestion 20\nbus 3 price 40 congestion 30\nblock 1 sell 1 mw 10\nblock 2 sell 1 mw 90\nlimit 2 base flow 0 up 40 down 0 rent 0\nunit 1 mw 10 paid 100\nunit 2 mw 90 paid 2700\nload 1 mw 40 pays 400\nload 2 mw 0 pays 0\nload 3 mw 60 pays 2400\nsurplus 0\n";
 
-/// What a run is to end with: its status, the beginning and the end of its text, the whole where both are one, and the file that it wrote.
-#[derive(Clone, Copy)]
-struct Want<'a> {
-    status: Status,
-    start: &'a str,
-    end: &'a str,
-    written: Option<&'a str>,
-}
-
-/// A text that is told whole.
-fn whole(status: Status, text: &str) -> Want<'_> {
-    Want {
-        status,
-        start: text,
-        end: text,
-        written: None,
-    }
-}
-
-/// Runs a subcommand over the three-bus case with a limit of branch 2, with edits and a certificate.
-fn expect<R: Abort + AllocGlobal>(
+/// Runs a subcommand over the three-bus case with a limit of branch 2, with offers, edits and a certificate.
+fn expect_task<R: Abort + AllocGlobal>(
     rt: &R,
     line: &str,
     ratings: &str,
@@ -69,40 +46,18 @@ fn expect<R: Abort + AllocGlobal>(
     failing: (&[u64], &[u64]),
     want: Want<'_>,
 ) -> Result<(), Fail> {
-    let room = Room {
-        files: 10,
-        name: 16,
-        bytes: 65_536,
-    };
     let case = case(rt, BUSES, UNITS, ratings)?;
-    let mut store = MemoryStore::new(rt.alloc(), room, failing.0)?;
-    assert!(rt; store.add("case.m", case.as_bytes()).is_ok());
-    assert!(rt; store.add("shift.csv", SHIFT.as_bytes()).is_ok());
-    assert!(rt; store.add("loss.csv", LOSS.as_bytes()).is_ok());
-    assert!(rt; store.add("listed.csv", b"branch\n1\n").is_ok());
-    assert!(rt; store.add("offers.csv", inputs.0.as_bytes()).is_ok());
-    assert!(rt; store.add("offsets.csv", b"branch,mw\n").is_ok());
-    assert!(rt; store.add("edits.csv", inputs.1.as_bytes()).is_ok());
-    assert!(rt; store.add("in.json", inputs.2.as_bytes()).is_ok());
-    let mut sink = MemorySink::new(rt.alloc(), 8192, failing.1)?;
-    let mut words = Vec::new(rt.alloc());
-    for word in line.split(' ') {
-        words.push(String::from_str(rt.alloc(), word)?)?;
-    }
-    let status = run(rt.alloc(), words.as_slice(), &mut store, &mut sink);
-    assert_eq!(rt; status, want.status);
-    if want.start == want.end {
-        assert_eq!(rt; sink.bytes(), want.start.as_bytes());
-    } else {
-        assert!(rt; sink.bytes().starts_with(want.start.as_bytes()));
-        assert!(rt; sink.bytes().ends_with(want.end.as_bytes()));
-    }
-    match (store.bytes("out.json"), want.written) {
-        (Some(bytes), Some(text)) => assert_eq!(rt; bytes, text.as_bytes()),
-        (told, None) => assert!(rt; told.is_none()),
-        (None, Some(_)) => assert!(rt; false),
-    }
-    Ok(())
+    let files: [(&str, &[u8]); 8] = [
+        ("case.m", case.as_bytes()),
+        ("shift.csv", SHIFT.as_bytes()),
+        ("loss.csv", LOSS.as_bytes()),
+        ("listed.csv", b"branch\n1\n"),
+        ("offers.csv", inputs.0.as_bytes()),
+        ("offsets.csv", b"branch,mw\n"),
+        ("edits.csv", inputs.1.as_bytes()),
+        ("in.json", inputs.2.as_bytes()),
+    ];
+    expect(rt, line, files.as_slice(), failing, want)
 }
 
 const ALL: (&[u64], &[u64]) = (&[], &[]);
@@ -158,22 +113,20 @@ fn writes_and_verifies_certificates(rt: HostRuntime) -> Result<(), Fail> {
             whole(Status::Refuted, "no Bound\n"),
         ),
         (
-            "verify --certificate in.json",
+            "clear --certificate out.json",
             ALONE,
-            "40 0 0 0 0",
-            "{",
-            whole(Status::Refused, "refused certificate Key json\n"),
-        ),
-        (
-            "verify --certificate in.json",
-            ALONE,
-            "40 0 0 0 0",
-            HALVED,
-            whole(Status::Refused, "refused certificate Key energy\n"),
+            "10 0 0 0 0",
+            "",
+            Want {
+                status: Status::Infeasible,
+                start: "infeasible\nbound -",
+                end: "\n",
+                written: Some(FARKAS),
+            },
         ),
     ] {
         let line = format!(in rt.alloc(); "sced {words} {market}")?;
-        expect(
+        expect_task(
             &rt,
             line.as_str(),
             ratings,
@@ -181,6 +134,57 @@ fn writes_and_verifies_certificates(rt: HostRuntime) -> Result<(), Fail> {
             ALL,
             want,
         )?;
+    }
+    Ok(())
+}
+
+/// Certificates of the market with a limit of 40 that are none, or tell a reason before any sum is made of numbers that are too large.
+#[test]
+fn refuses_certificates(rt: HostRuntime) -> Result<(), Fail> {
+    let vast = "170141183460469231731687303715884105727/1";
+    let line = format!(in rt.alloc(); "sced verify {ALONE} --certificate in.json")?;
+    for (certificate, status, text) in [
+        ("{", Status::Refused, "refused certificate Key json\n"),
+        (
+            "{\"energy\":\"2/4\",\"kind\":\"farkas\",\"limits\":[],\"version\":1}",
+            Status::Refused,
+            "refused certificate Key energy\n",
+        ),
+        (
+            "{\"energy\":\"10/1\",\"kind\":\"optimal\",\"limits\":[],\"version\":1}",
+            Status::Refused,
+            "refused certificate Key blocks\n",
+        ),
+        (
+            "{\"energy\":\"1/1\",\"kind\":\"farkas\",\"limits\":[],\"version\":1,\"x\":0}",
+            Status::Refused,
+            "refused certificate Key extra\n",
+        ),
+        (
+            "{\"blocks\":[\"VAST\"],\"energy\":\"VAST\",\"kind\":\"optimal\",\"limits\":[],\"version\":1}",
+            Status::Refuted,
+            "no Count\n",
+        ),
+        (
+            "{\"energy\":\"VAST\",\"kind\":\"farkas\",\"limits\":[{\"branch\":2,\"down\":\"-1/1\",\"outage\":0,\"up\":\"VAST\"}],\"version\":1}",
+            Status::Refuted,
+            "no Sign branch 2 outage 0\n",
+        ),
+        (
+            "{\"energy\":\"VAST\",\"kind\":\"farkas\",\"limits\":[{\"branch\":2,\"down\":\"0/1\",\"outage\":0,\"up\":\"VAST\"}],\"version\":1}",
+            Status::Range,
+            "range ",
+        ),
+    ] {
+        let certificate = certificate.replace(rt.alloc(), "VAST", vast)?;
+        let want = Want {
+            status,
+            start: text,
+            end: "\n",
+            written: None,
+        };
+        let inputs = (OFFERS, "", certificate.as_str());
+        expect_task(&rt, line.as_str(), "40 0 0 0 0", inputs, ALL, want)?;
     }
     Ok(())
 }
@@ -253,7 +257,7 @@ fn replays_edits(rt: HostRuntime) -> Result<(), Fail> {
             end,
             written,
         };
-        expect(
+        expect_task(
             &rt,
             line.as_str(),
             "40 0 0 0 0",
@@ -275,7 +279,7 @@ fn keeps_the_order_of_prices(rt: HostRuntime) -> Result<(), Fail> {
         Status::Refused,
         "step 1 edit refused OutOfOrder 20\nstep 2 edit accepted\n",
     );
-    expect(
+    expect_task(
         &rt,
         line.as_str(),
         "40 0 0 0 0",
@@ -292,7 +296,7 @@ fn verifies_after_edits(rt: HostRuntime) -> Result<(), Fail> {
         "sced verify {ALONE} --edits edits.csv --certificate in.json"
     )?;
     let yes = whole(Status::Done, "yes\n");
-    expect(
+    expect_task(
         &rt,
         line.as_str(),
         "40 0 0 0 0",
@@ -302,51 +306,59 @@ fn verifies_after_edits(rt: HostRuntime) -> Result<(), Fail> {
     )
 }
 
+/// The first twice. Without branch 1, bus 1 sends its 42 MW over branch 4, which then carries no more; the rest is made at bus 3 for 60.
 #[test]
 fn makes_rings(rt: HostRuntime) -> Result<(), Fail> {
-    for (line, status, start) in [
-        (
-            "sced make 4 7",
-            Status::Done,
-            "ring 4 seed 7 buses 4 blocks 8 limits 16\ncleared\nwelfare -",
-        ),
+    let small = "ring 4 seed 7 buses 4 blocks 8 limits 16\ncleared\nwelfare -4631\nsurplus 1218\n";
+    for (line, status, start, end) in [
+        ("sced make 4 7", Status::Done, small, small),
+        ("sced make 4 7", Status::Done, small, small),
         (
             "sced make 16 1",
             Status::Done,
             "ring 16 seed 1 buses 16 blocks 32 limits 256\ncleared\nwelfare -",
+            "\n",
         ),
         (
             "sced make 64 1",
             Status::Done,
             "ring 64 seed 1 buses 64 blocks 128 limits 4096\ncleared\nwelfare -",
+            "\n",
         ),
-        ("sced make 5 7", Status::Usage, "error"),
+        ("sced make 5 7", Status::Usage, "error", "\n"),
     ] {
         let want = Want {
             status,
             start,
-            end: "\n",
+            end,
             written: None,
         };
-        expect(&rt, line, "40 0 0 0 0", (OFFERS, "", ""), ALL, want)?;
+        expect_task(&rt, line, "40 0 0 0 0", (OFFERS, "", ""), ALL, want)?;
     }
     Ok(())
 }
 
-/// Seven files are read, then a certificate is written and a text is put; one of these fails, or none, and there are no other calls.
+/// Seven files are read, then a certificate is written and a text is put; one of these fails, or none, and there are no other calls. All
+/// files are read before any is understood, so a failed read is told of a malformed case too.
 #[test]
 fn tells_the_call_that_fails(rt: HostRuntime) -> Result<(), Fail> {
     let edits = "op,target,side,block,value\nclear,,,,\n";
     let line = format!(in rt.alloc();
         "sced replay {AFTER} --offsets offsets.csv --edits edits.csv --certificate out.json"
     )?;
-    for (store_call, put, status, written) in [
-        (0, 9, Status::ReadFailed, None),
-        (3, 9, Status::ReadFailed, None),
-        (6, 9, Status::ReadFailed, None),
-        (7, 9, Status::WriteFailed, None),
-        (8, 0, Status::WriteFailed, Some(OPTIMAL)),
-        (8, 1, Status::Done, Some(OPTIMAL)),
+    let good = "40 0 45 0 0";
+    for (ratings, store_call, put, status, written) in [
+        (good, 0, 9, Status::ReadFailed, None),
+        (good, 1, 9, Status::ReadFailed, None),
+        (good, 2, 9, Status::ReadFailed, None),
+        (good, 3, 9, Status::ReadFailed, None),
+        (good, 4, 9, Status::ReadFailed, None),
+        (good, 5, 9, Status::ReadFailed, None),
+        (good, 6, 9, Status::ReadFailed, None),
+        ("x 0 45 0 0", 1, 9, Status::ReadFailed, None),
+        (good, 7, 9, Status::WriteFailed, None),
+        (good, 8, 0, Status::WriteFailed, Some(OPTIMAL)),
+        (good, 8, 1, Status::Done, Some(OPTIMAL)),
     ] {
         let done = status == Status::Done;
         let want = Want {
@@ -356,10 +368,10 @@ fn tells_the_call_that_fails(rt: HostRuntime) -> Result<(), Fail> {
             written,
         };
         let failing = ([store_call], [put]);
-        expect(
+        expect_task(
             &rt,
             line.as_str(),
-            "40 0 45 0 0",
+            ratings,
             (OFFERS, edits, ""),
             (failing.0.as_slice(), failing.1.as_slice()),
             want,

@@ -1,6 +1,6 @@
 //! The pool, with texts worked by hand, and refusals.
 
-use crate::fixture::{BUSES, OFFERS, Text, UNITS, case, expect};
+use crate::fixture::{BUSES, OFFERS, UNITS, Want, begins, case, expect, whole};
 use command_answers::Status;
 use std::process::Abort;
 use std::test::Fail;
@@ -32,7 +32,7 @@ fn expect_pool<R: Abort + AllocGlobal>(
     rt: &R,
     case: &[u8],
     offers: &str,
-    want: (Status, Text<'_>),
+    want: Want<'_>,
 ) -> Result<(), Fail> {
     let files = [("case.m", case), ("offers.csv", offers.as_bytes())];
     let all = ([].as_slice(), [].as_slice());
@@ -48,19 +48,16 @@ fn clears(rt: HostRuntime) -> Result<(), Fail> {
     let dropping =
         "1 0 0 0 0 1 100 1 100 0;\n2 0 0 0 0 1 100 1 100 20;\n2 0 0 0 0 1 100 0 100 0;\n9 0 0 0 0 1 100 1 100 0;\n";
     let four = "unit,side,mw,price\n1,sell,100,10\n2,sell,80,30\n3,sell,50,1\n4,sell,50,1\n";
-    let spelled =
-        "1 3 0 0 0 0 1 1 0 230 1 1.1 0.9;\n2 1 0 0 0 0 1 1 0 230 1 1.1 0.9;\n3 1 6.000e1 0 -0 0 1 1 0 230 1 1.1 0.9;\n";
     for (buses, units, offers, text) in [
         (BUSES, UNITS, OFFERS, THREE_BUSES),
         (BUSES, buying, bids, BUYER),
         (dropped, dropping, four, DROPPED),
-        (spelled, UNITS, OFFERS, THREE_BUSES),
     ] {
         let case = case(&rt, buses, units, FREE)?;
-        let want = (Status::Done, Text::Whole(text));
+        let want = whole(Status::Done, text);
         expect_pool(&rt, case.as_bytes(), offers, want)?;
     }
-    let want = (Status::Done, Text::Whole(THREE_BUSES));
+    let want = whole(Status::Done, THREE_BUSES);
     expect_pool(&rt, SAVED.as_bytes(), OFFERS, want)
 }
 
@@ -70,7 +67,7 @@ fn reads_other_spellings(rt: HostRuntime) -> Result<(), Fail> {
     let plain = case(&rt, BUSES, UNITS, FREE)?;
     for load in ["3 1 6.000e1 0 ", "3 1 60e0 -0 ", "3 1 0.6e2 0 "] {
         let spelled = plain.replace(rt.alloc(), "3 1 60 0 ", load)?;
-        let want = (Status::Done, Text::Whole(THREE_BUSES));
+        let want = whole(Status::Done, THREE_BUSES);
         expect_pool(&rt, spelled.as_bytes(), OFFERS, want)?;
     }
     Ok(())
@@ -92,7 +89,7 @@ fn refuses_a_case_that_ends_inside_a_bracket(rt: HostRuntime) -> Result<(), Fail
             let signed = bytes[length - 1] == b'-';
             let at = if signed { length - 1 } else { length };
             let line = format!(in rt.alloc(); "refused case BadToken at {at}\n")?;
-            let want = (Status::Refused, Text::Whole(line.as_str()));
+            let want = whole(Status::Refused, line.as_str());
             expect_pool(&rt, &bytes[..length], OFFERS, want)?;
         }
     }
@@ -104,8 +101,8 @@ fn refuses_a_case_that_ends_inside_a_bracket(rt: HostRuntime) -> Result<(), Fail
 fn tells_what_is_feasible(rt: HostRuntime) -> Result<(), Fail> {
     let held = "1 0 0 0 0 1 100 1 60 60;\n";
     let none = "unit,side,mw,price\n";
-    let cleared = (Status::Done, Text::Start("cleared\nwelfare 0\n"));
-    let infeasible = (Status::Infeasible, Text::Start("infeasible\nbound -"));
+    let cleared = begins(Status::Done, "cleared\nwelfare 0\n");
+    let infeasible = begins(Status::Infeasible, "infeasible\nbound -");
     for (demand, units, offers, want) in [
         ("250", UNITS, OFFERS, infeasible),
         ("60", held, none, cleared),
@@ -132,8 +129,8 @@ fn passes_127_bits(rt: HostRuntime) -> Result<(), Fail> {
     let dear =
         "cleared\nwelfare -27670116110564.327421\nenergy 9223372036854.775807\nbus 1 price 9223372036854.775807 congestion 0\n";
     for (demand, want) in [
-        ("9223372036.854775807", (Status::Range, Text::Whole(passed))),
-        ("1", (Status::Done, Text::Start(dear))),
+        ("9223372036.854775807", whole(Status::Range, passed)),
+        ("1", begins(Status::Done, dear)),
     ] {
         let row = format!(in rt.alloc(); "3 {demand} 0 0 0 1 1 0 230 1 1.1 0.9;\n")?;
         let buses = format!(in rt.alloc(); "1 {row}2 {row}3 {row}")?;
@@ -148,19 +145,11 @@ fn passes_127_bits(rt: HostRuntime) -> Result<(), Fail> {
     )?;
     let offers =
         "unit,side,mw,price\n1,sell,9223372036.854775807,9223372036854\n2,buy,9223372036.854775807,9223372036854.775807\n";
-    let traded = (
+    let traded = begins(
         Status::Done,
-        Text::Start("cleared\nwelfare 7155556589.796193054501249\n"),
+        "cleared\nwelfare 7155556589.796193054501249\n",
     );
     expect_pool(&rt, case.as_bytes(), offers, traded)
-}
-
-/// Compares the line that refuses a case of these bus and gen rows.
-fn refuse_case<R: Abort + AllocGlobal>(rt: &R, rows: (&str, &str), line: &str) -> Result<(), Fail> {
-    let text = case(rt, rows.0, rows.1, FREE)?;
-    let line = format!(in rt.alloc(); "refused case {line}\n")?;
-    let want = (Status::Refused, Text::Whole(line.as_str()));
-    expect_pool(rt, text.as_bytes(), "no table", want)
 }
 
 #[test]
@@ -179,122 +168,112 @@ fn refuses_cases(rt: HostRuntime) -> Result<(), Fail> {
             "refused case Missing baseMVA\n",
         ),
         (
-            b"function mpc = t\nmpc.version = '2';\nmpc.version = '2';\n",
-            "refused case Twice version\n",
-        ),
-        (
-            b"function mpc = t\nmpc.version = '2';\nmpc.baseMVA = 1e2\nmpc.bus = [1 3; 1];\n",
-            "refused case Ragged bus row 2\n",
-        ),
-        (
             b"function mpc = t\nmpc.version = '2';\nmpc.gen = [1 2 3\n4 5 6];\n",
             "refused case Narrow gen\n",
         ),
-        (
-            b"function mpc = t\nmpc.version = '2';\nmpc.branch = [\n1 2 0",
-            "refused case BadToken at 56\n",
-        ),
     ] {
-        let want = (Status::Refused, Text::Whole(line));
+        let want = whole(Status::Refused, line);
         expect_pool(&rt, text, "no table", want)?;
     }
-    let bus = "1 3 0 0 0 0 1 1 0 230 1 1.1 0.9;\n";
-    let one = "1 0 0 0 0 1 100 1 100 0;\n";
-    for (other, line) in [
-        (
-            "2 1 1e-10 0 0 0 1 1 0 230 1 1.1 0.9;\n",
-            "Cell bus row 2 col 3 TooFine",
-        ),
-        (
-            "2 1 0 0 Inf 0 1 1 0 230 1 1.1 0.9;\n",
-            "Cell bus row 2 col 5 NotFinite",
-        ),
-        (
-            "2 1 9223372036.854775808 0 0 0 1 1 0 230 1 1.1 0.9;\n",
-            "Cell bus row 2 col 3 OutOfRange",
-        ),
-        ("1 1 0 0 0 0 1 1 0 230 1 1.1 0.9;\n", "BusTwice row 2"),
-        (
-            "2 5 0 0 0 0 1 1 0 230 1 1.1 0.9;\n",
-            "Cell bus row 2 col 2 Bounds",
-        ),
-        ("2 1 0 0 0 0 1 1 0 230 1 1.1;\n", "Ragged bus row 2"),
-    ] {
-        let buses = format!(in rt.alloc(); "{bus}{other}")?;
-        refuse_case(&rt, (buses.as_str(), one), line)?;
-    }
-    for (unit, line) in [
-        ("7 0 0 0 0 1 100 1 100 0;\n", "NoBus gen row 1"),
-        ("1 0 0 0 0 1 100 1 100 200;\n", "MinAboveMax unit 1"),
-        (
-            "1 0 0 0 0 1 100 NaN 100 0;\n",
-            "Cell gen row 1 col 8 NotFinite",
-        ),
-    ] {
-        refuse_case(&rt, (BUSES, unit), line)?;
-    }
-    refuse_case(
-        &rt,
-        ("2 1 0 0 0 0 1 1 0 230 1 1.1 0.9;\n", UNITS),
-        "NoReference",
-    )
+    Ok(())
 }
 
-/// A case of too many rows.
+/// The case with another text in place of one of its own, or with a statement more.
 #[test]
-fn refuses_what_is_too_much(rt: HostRuntime) -> Result<(), Fail> {
-    let mut units = String::new(rt.alloc());
-    for _row in 0..1001 {
-        units.push_str("1 0 0 0 0 1 100 1 100 0;\n")?;
+fn refuses_changed_cases(rt: HostRuntime) -> Result<(), Fail> {
+    let plain = case(&rt, BUSES, UNITS, FREE)?;
+    let row = "1 3 0 0 0 0 1 1 0 230 1 1.1 0.9;\n".repeat(rt.alloc(), 999)?;
+    for (old, new, line) in [
+        (
+            "360;\n];\n",
+            "360;\n];\nmpc.bus(2,3) = 5;\n",
+            "Code line 18",
+        ),
+        ("360;\n];\n", "360;\n];\n%{\n", "Code line 18"),
+        (
+            "360;\n];\n",
+            "360;\n];\nmpc.baseMVA = 1e2;\n",
+            "Twice baseMVA",
+        ),
+        (
+            "2 1 0 0 0 0 1 1 0 230 1 1.1 0.9;",
+            "2 1 0;",
+            "Ragged bus row 2",
+        ),
+        (
+            "mpc.gen = [\n1 0 0 0 0 1 100 1 100 0;\n2 0 0 0 0 1 100 1 100 0;\n];",
+            "",
+            "Missing gen",
+        ),
+        (
+            "1 3 0 0 0 0 1 1 0 230 1 1.1 0.9;\n",
+            row.as_str(),
+            "TooMany bus count 1001",
+        ),
+        (
+            "3 1 60 ",
+            "3 1 1e999999999 ",
+            "Cell bus row 3 col 3 OutOfRange",
+        ),
+        (
+            "3 1 60 ",
+            "3 1 1e-999999999 ",
+            "Cell bus row 3 col 3 TooFine",
+        ),
+        (
+            "3 1 60 0 0 ",
+            "3 1 60 0 Inf ",
+            "Cell bus row 3 col 5 NotFinite",
+        ),
+        ("3 1 60 ", "3 5 60 ", "Cell bus row 3 col 2 Bounds"),
+        ("3 1 60 ", "2 1 60 ", "BusTwice row 3"),
+        ("1 3 0 ", "1 1 0 ", "NoReference"),
+        (
+            "1 0 0 0 0 1 100 1 ",
+            "7 0 0 0 0 1 100 1 ",
+            "NoBus gen row 1",
+        ),
+        (
+            "1 0 0 0 0 1 100 1 ",
+            "1 0 0 0 0 1 100 NaN ",
+            "Cell gen row 1 col 8 NotFinite",
+        ),
+        ("1 100 0;\n2 0", "1 100 200;\n2 0", "MinAboveMax unit 1"),
+        ("1 2 0 0.2", "1 1 0 0.2", "SameEnds row 1"),
+    ] {
+        let text = plain.replace(rt.alloc(), old, new)?;
+        let line = format!(in rt.alloc(); "refused case {line}\n")?;
+        let want = whole(Status::Refused, line.as_str());
+        expect_pool(&rt, text.as_bytes(), OFFERS, want)?;
     }
-    refuse_case(&rt, (BUSES, units.as_str()), "TooMany gen count 1001")
+    Ok(())
 }
 
 #[test]
 fn refuses_offers(rt: HostRuntime) -> Result<(), Fail> {
     let plain = case(&rt, BUSES, UNITS, FREE)?;
-    for (record, line) in [
-        ("", "refused offers Header\n"),
-        ("unit,side,mw\n", "refused offers Header\n"),
+    for offers in ["", "unit,side,mw\n"] {
+        let want = whole(Status::Refused, "refused offers Header\n");
+        expect_pool(&rt, plain.as_bytes(), offers, want)?;
+    }
+    for (records, line) in [
+        ("price\n1,sell,1\n", "Width line 2"),
+        ("cost\n1,sell,1\n", "Width line 2"),
+        ("price\n1,sell,x,1\n", "Cell line 2 col 3 BadNumber"),
+        ("price\n1,give,1,1\n", "Side line 2"),
         (
-            "unit,side,mw,price\n1,sell,1\n",
-            "refused offers Width line 2\n",
+            "price\n1,sell,100,10\n2,sell,100,30\n3,sell,1,1\n",
+            "NoUnit line 4",
         ),
-        (
-            "unit,side,mw,cost\n1,sell,1\n",
-            "refused offers Width line 2\n",
-        ),
-        (
-            "unit,side,mw,price\n1,sell,x,1\n",
-            "refused offers Cell line 2 col 3 BadNumber\n",
-        ),
-        (
-            "unit,side,mw,price\n1,give,1,1\n",
-            "refused offers Side line 2\n",
-        ),
-        (
-            "unit,side,mw,price\n3,sell,1,1\n",
-            "refused offers NoUnit line 2\n",
-        ),
-        (
-            "unit,side,mw,price\n1,sell,-1,1\n",
-            "refused offers Negative line 2\n",
-        ),
-        (
-            "unit,side,mw,price\n1,sell,1,2\n1,sell,1,1\n",
-            "refused offers OutOfOrder line 3\n",
-        ),
-        (
-            "unit,side,mw,price\n1,sell,101,1\n",
-            "refused offers OverCapacity line 2\n",
-        ),
-        (
-            "unit,side,mw,price\n1,buy,1,1\n",
-            "refused offers OverCapacity line 2\n",
-        ),
+        ("price\n1,sell,-1,1\n", "Negative line 2"),
+        ("price\n1,sell,1,2\n1,sell,1,1\n", "OutOfOrder line 3"),
+        ("price\n1,sell,101,1\n", "OverCapacity line 2"),
+        ("price\n1,buy,1,1\n", "OverCapacity line 2"),
     ] {
-        let want = (Status::Refused, Text::Whole(line));
-        expect_pool(&rt, plain.as_bytes(), record, want)?;
+        let offers = format!(in rt.alloc(); "unit,side,mw,{records}")?;
+        let line = format!(in rt.alloc(); "refused offers {line}\n")?;
+        let want = whole(Status::Refused, line.as_str());
+        expect_pool(&rt, plain.as_bytes(), offers.as_str(), want)?;
     }
     Ok(())
 }
@@ -321,10 +300,10 @@ fn refuses_words(rt: HostRuntime) -> Result<(), Fail> {
             "error: the argument '--case <case>' cannot be used multiple times\n",
         ),
     ] {
-        let want = (Status::Usage, Text::Start(start));
+        let want = begins(Status::Usage, start);
         expect(&rt, line, [].as_slice(), all, want)?;
     }
-    let none = (Status::ReadFailed, Text::Whole(""));
+    let none = whole(Status::ReadFailed, "");
     expect(
         &rt,
         "sced pool --offers=b --case=a",
