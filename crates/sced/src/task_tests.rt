@@ -1,6 +1,6 @@
 //! Certificates that are written and verified, replays of edits, and rings.
 
-use crate::fixture::{BUSES, LOSS, OFFERS, SHIFT, UNITS, Want, case, expect, whole};
+use crate::fixture::{BUSES, LOSS, OFFERS, SHIFT, UNITS, Want, begins, case, expect, whole};
 use command_answers::Status;
 use std::process::Abort;
 use std::test::Fail;
@@ -306,34 +306,24 @@ fn verifies_after_edits(rt: HostRuntime) -> Result<(), Fail> {
     )
 }
 
-/// The first twice. Without branch 1, bus 1 sends its 42 MW over branch 4, which then carries no more; the rest is made at bus 3 for 60.
+/// Two of them twice, with equal bytes. On that of four buses, where branch 1 is lost, bus 1 sends its 42 MW over branch 4, which carries no
+/// more; the rest is made at bus 3 for 60. That of sixteen was solved by the simplex method with all its rows, outside this repository.
 #[test]
 fn makes_rings(rt: HostRuntime) -> Result<(), Fail> {
-    let small = "ring 4 seed 7 buses 4 blocks 8 limits 16\ncleared\nwelfare -4631\nsurplus 1218\n";
-    for (line, status, start, end) in [
-        ("sced make 4 7", Status::Done, small, small),
-        ("sced make 4 7", Status::Done, small, small),
-        (
-            "sced make 16 1",
-            Status::Done,
-            "ring 16 seed 1 buses 16 blocks 32 limits 256\ncleared\nwelfare -",
-            "\n",
-        ),
-        (
-            "sced make 64 1",
-            Status::Done,
-            "ring 64 seed 1 buses 64 blocks 128 limits 4096\ncleared\nwelfare -",
-            "\n",
-        ),
-        ("sced make 5 7", Status::Usage, "error", "\n"),
+    let four = "ring 4 seed 7 buses 4 blocks 8 limits 16\ncleared\nwelfare -4631\nsurplus 1218\n";
+    let sixteen =
+        "ring 16 seed 1 buses 16 blocks 32 limits 256\ncleared\nwelfare -21253\nsurplus 2991\n";
+    let most = "ring 64 seed 1 buses 64 blocks 128 limits 4096\ncleared\nwelfare -";
+    for (line, want) in [
+        ("sced make 4 7", whole(Status::Done, four)),
+        ("sced make 4 7", whole(Status::Done, four)),
+        ("sced make 16 1", whole(Status::Done, sixteen)),
+        ("sced make 16 1", whole(Status::Done, sixteen)),
+        ("sced make 64 1", begins(Status::Done, most)),
+        ("sced make 5 7", begins(Status::Usage, "error")),
     ] {
-        let want = Want {
-            status,
-            start,
-            end,
-            written: None,
-        };
-        expect_task(&rt, line, "40 0 0 0 0", (OFFERS, "", ""), ALL, want)?;
+        let all = ([].as_slice(), [].as_slice());
+        expect(&rt, line, [].as_slice(), all, want)?;
     }
     Ok(())
 }
