@@ -1,7 +1,7 @@
 -- Statuses, and what the last clear came to, one outcome after another.
-use Rattle.std.proofs.Common.{◌≡◌, ◌<◌, ◌≤◌, ◌∙◌, ℕ, ◌+◌, Bool, true, false, if◌then◌else◌, List, [], ◌∷◌, All, drop, get_or, map, length, Option, None, Some, zero, suc, refl, sym, ap, subst}
+use Rattle.std.proofs.Common.{◌≡◌, ◌<◌, ◌≤◌, ◌∙◌, ℕ, ◌+◌, Bool, true, false, if◌then◌else◌, List, [], ◌∷◌, All, drop, take, get_or, map, length, Option, None, Some, zero, suc, refl, sym, ap, subst}
 use Rattle.std.specs.Prelude.{option_and_then}
-use Rattle.std.proofs.lemmas.List.Elements.{All-cons, All-head, All-nil, All-tail}
+use Rattle.std.proofs.lemmas.List.Elements.{All-cons, All-nil, All-tail, All-take}
 use Rattle.std.proofs.lemmas.List.{at_drop_all, at_drop_more}
 use Rattle.fraction_theory.specs.Fraction.{Fraction}
 use Rattle.market_model.specs.declared.answered.Outcome.{Outcome}
@@ -14,16 +14,18 @@ use Rattle.market_model.specs.declared.participants.Parts.{Parts}
 use Rattle.market_model.specs.LimitRows.{Row}
 use Rattle.market_model.specs.Market.{IsMarket}
 use Rattle.market_model.specs.Valued.{outcome_at}
-use Rattle.market_system.specs.Outcomes.{IsDecided}
+use Rattle.market_system.specs.Growth.{Growth}
+use Rattle.market_system.specs.Outcomes.{IsClear, IsDecided}
 use Rattle.market_system.specs.WorkingPairs.{NoPairPasses}
 use Rattle.market_system.proofs.Completeness.{law_of_completeness}
 use Rattle.clear_loop.specs.Keeping.{cold}
 use Rattle.cert_format.specs.Written.{certificate_of}
+use Rattle.offer_book.specs.Edits.{step_of}
 use Rattle.edit_table.specs.EditTable.{IsStep}
 use Rattle.edit_table.specs.declared.Step.{Step}
 use Rattle.edit_table.specs.declared.Step.TheVariants as edit
 use Rattle.edit_replay.specs.SessionStates.{SessionState}
-use Rattle.edit_replay.specs.Replays.{IsReplay, IsReply, edited_by, stepped}
+use Rattle.edit_replay.specs.Replays.{IsReplay}
 use Rattle.edit_replay.proofs.FrameLemmas.{steps_market}
 use Rattle.edit_replay.specs.declared.step_outcome.StepOutcome.TheVariants as step
 use Rattle.replay_text.specs.ReplayTexts.{replayed}
@@ -85,24 +87,38 @@ module _ {N : Type 0} (value : N → Fraction) (outcomes : List (StepOutcome N))
       ∙ told
 
 -- ---- each clear is decided
-decided_first : (bound : ℕ) (m : Parts) (before between : List Row) (s : Step) (o : Outcome Fraction) → IsMarket m → NoPairPasses m before bound → IsReply bound m before s (step.Clear o) between → IsDecided m o
-decided_first bound m before between (edit.Edit e) o market none is = absurd is
-decided_first bound m before between edit.Clear o market none is = law_of_completeness m before bound o market none is.right
+-- a clear in which no pair passes leaves the limits that it begins with, grown
+left_grown : (bound : ℕ) (m : Parts) (before after : List Row) (o : Outcome Fraction) → NoPairPasses m before bound → IsClear bound m before o after → Growth m before after
+left_grown bound m before after (outcome.Cleared a) none is = is.taken
+left_grown bound m before after (outcome.Infeasible f) none is = is.taken
+left_grown bound m before after (outcome.Range p) none is = absurd (none p is.right)
 
-first_is : (m : Parts) (bound : ℕ) (before : List Row) (s : Step) (p : StepOutcome Fraction) (o : Outcome Fraction) (between : List Row) → Some p ≡ Some (step.Clear o) → IsReply bound m before s p between
-    → IsReply bound m before s (step.Clear o) between
-first_is m bound before s p o between is reply = let same : p ≡ step.Clear o = cc is in subst (λ (q : StepOutcome Fraction). IsReply bound m before s q between) same reply
+-- what is first is decided, and what is behind it where it was
+module _ (m : Parts) (o q : Outcome Fraction) where
+  decided_first : (bound : ℕ) (before after : List Row) → IsMarket m → NoPairPasses m before bound → IsClear bound m before q after → Some (step.Clear q) ≡ Some (step.Clear o) → IsDecided m o
+  decided_first bound before after market none is same =
+      let here : q ≡ o = cc same in
+      subst (IsDecided m) here (law_of_completeness m before bound q market none is.right)
 
 are_decided : (bound : ℕ) (m : Parts) (before after : List Row) (steps : List Step) (outcomes : List (StepOutcome Fraction)) → IsMarket m → All IsStep steps
-    → NoPairPassesIn m steps bound → IsReplay bound m before steps outcomes after → AreDecided m steps outcomes
+    → NoPairPassesIn m before steps bound → IsReplay bound m before steps outcomes after → AreDecided m steps outcomes
 are_decided bound m before after [] [] market data_ok none replay k o is = cc is
 are_decided bound m before after [] (p ∷ outcomes) market data_ok none replay k o is = absurd replay
 are_decided bound m before after (s ∷ steps) [] market data_ok none replay k o is = absurd replay
-are_decided bound m before after (s ∷ steps) (p ∷ outcomes) market data_ok none replay zero o is =
-    decided_first bound m before replay.0 s o market (none 0 before) (first_is m bound before s p o replay.0 is replay.1)
-are_decided bound m before after (s ∷ steps) (p ∷ outcomes) market data_ok none replay (suc k) o is =
-    are_decided bound (stepped m s) replay.0 after steps outcomes (steps_market m (s ∷ []) market (All-cons IsStep s [] (All-head IsStep s steps data_ok) (All-nil IsStep))) (All-tail IsStep s steps data_ok)
-    (λ j taken. none (suc j) taken) replay.2 k o is
+are_decided bound m before after (edit.Edit e ∷ steps) (step.Clear q ∷ outcomes) market data_ok none replay k o is = absurd replay.1
+are_decided bound m before after (edit.Edit e ∷ steps) (step.Accepted ∷ outcomes) market data_ok none replay zero o is = cc is
+are_decided bound m before after (edit.Edit e ∷ steps) (step.Refused f ∷ outcomes) market data_ok none replay zero o is = cc is
+are_decided bound m before after (edit.Edit e ∷ steps) (step.Accepted ∷ outcomes) market data_ok none replay (suc k) o is =
+    are_decided bound (step_of m e) replay.0 after steps outcomes (steps_market m (edit.Edit e ∷ []) market (All-take IsStep 1 (edit.Edit e ∷ steps) data_ok)) (All-tail IsStep (edit.Edit e) steps data_ok)
+    (subst (λ (g : List Row). NoPairPassesIn (step_of m e) g steps bound) (sym replay.1.1) none) replay.2 k o is
+are_decided bound m before after (edit.Edit e ∷ steps) (step.Refused f ∷ outcomes) market data_ok none replay (suc k) o is =
+    are_decided bound (step_of m e) replay.0 after steps outcomes (steps_market m (edit.Edit e ∷ []) market (All-take IsStep 1 (edit.Edit e ∷ steps) data_ok)) (All-tail IsStep (edit.Edit e) steps data_ok)
+    (subst (λ (g : List Row). NoPairPassesIn (step_of m e) g steps bound) (sym replay.1.1) none) replay.2 k o is
+are_decided bound m before after (edit.Clear ∷ steps) (step.Accepted ∷ outcomes) market data_ok none replay k o is = absurd replay.1
+are_decided bound m before after (edit.Clear ∷ steps) (step.Refused f ∷ outcomes) market data_ok none replay k o is = absurd replay.1
+are_decided bound m before after (edit.Clear ∷ steps) (step.Clear q ∷ outcomes) market data_ok none replay zero o is = decided_first m o q bound before replay.0 market none.0 replay.1 is
+are_decided bound m before after (edit.Clear ∷ steps) (step.Clear q ∷ outcomes) market data_ok none replay (suc k) o is =
+    are_decided bound m replay.0 after steps outcomes market (All-tail IsStep edit.Clear steps data_ok) (none.1 replay.0 (left_grown bound m before replay.0 q none.0 replay.1)) replay.2 k o is
 
 -- ---- a replay as it is told
 module _ {N : Type 0} (value : N → Fraction) (bound : ℕ) (fits : (x : N) → IsWithin bound (value x)) where
@@ -134,6 +150,7 @@ module _ {N : Type 0} (value : N → Fraction) (bound : ℕ) (fits : (x : N) →
     taken = now.kept.rows;
     right = right;
     sides = all_within outcomes;
+    markets = λ k. steps_market m (take k steps) market (All-take IsStep k steps data_ok);
     decided = λ none. are_decided bound m [] now.kept.rows steps (map (step_outcome_at value) outcomes) market data_ok none right;
     status_is = status_is;
     text_is = text_is;

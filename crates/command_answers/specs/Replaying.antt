@@ -5,10 +5,13 @@ use Rattle.market_model.specs.declared.participants.Parts.{Parts}
 use Rattle.market_model.specs.declared.answered.Outcome.{Outcome}
 use Rattle.market_model.specs.LimitRows.{Row}
 use Rattle.market_model.specs.Market.{IsMarket}
+use Rattle.market_system.specs.Growth.{Growth}
 use Rattle.market_system.specs.Outcomes.{IsDecided}
 use Rattle.market_system.specs.WorkingPairs.{NoPairPasses}
 use Rattle.cert_format.specs.Written.{certificate_of}
+use Rattle.offer_book.specs.Edits.{step_of}
 use Rattle.edit_table.specs.declared.Step.{Step}
+use Rattle.edit_table.specs.declared.Step.TheVariants as edit
 use Rattle.edit_replay.specs.declared.step_outcome.StepOutcome.{StepOutcome}
 use Rattle.edit_replay.specs.declared.step_outcome.StepOutcome.TheVariants as step
 use Rattle.edit_replay.specs.Replays.{IsReplay, edited_by}
@@ -57,23 +60,27 @@ AreStepSidesWithin bound step.Accepted = Unit {0}
 AreStepSidesWithin bound (step.Refused f) = Unit {0}
 AreStepSidesWithin bound (step.Clear o) = AreSidesWithin bound o
 
--- no working pair of the market, as any number of the steps edit it, passes the bound, whatever limits a clear of it begins with
-abbrev pub NoPairPassesIn : Parts → List Step → ℕ → Type 0
-NoPairPassesIn m steps bound = (k : ℕ) (taken : List Row) → NoPairPasses (edited_by m (take k steps)) taken bound
+-- With these limits taken before, no working pair passes the bound at any clear of the steps: none of the market as it is edited by then,
+-- over limits that are reached from those that the clear before can have left.
+abbrev pub NoPairPassesIn : Parts → List Row → List Step → ℕ → Type 0
+NoPairPassesIn m before [] bound = Unit {0}
+NoPairPassesIn m before (edit.Edit e ∷ steps) bound = NoPairPassesIn (step_of m e) before steps bound
+NoPairPassesIn m before (edit.Clear ∷ steps) bound = NoPairPasses m before bound × ((after : List Row) → Growth m before after → NoPairPassesIn m after steps bound)
 
 -- each clear says whether a dispatch of the market, as the steps before it edit it, is feasible
 abbrev pub AreDecided : Parts → List Step → List (StepOutcome Fraction) → Type 0
 AreDecided m steps outcomes = (k : ℕ) (o : Outcome Fraction) → slice_get outcomes k ≡ Some (step.Clear o) → IsDecided (edited_by m (take k steps)) o
 
 -- What is told is that of right outcomes, one for each step: those of edits as the market stands then, and those of clears of the market
--- as it is edited by then, with no limits taken before the first. Each clear is decided, where no pair passes the bound. The certificate
--- is that of the last clear.
+-- as it is edited by then, with no limits taken before the first; each of these is a market. Each clear is decided, where no working pair
+-- passes the bound at any. The certificate is that of the last clear.
 pub record ReplaysTo (bound : ℕ) (m : Parts) (steps : List Step) (t : Telling) : Type 0 where
   pub outcomes : List (StepOutcome Fraction)
   pub taken : List Row
   pub right : IsReplay bound m [] steps outcomes taken
   pub sides : All (AreStepSidesWithin bound) outcomes
-  pub decided : NoPairPassesIn m steps bound → AreDecided m steps outcomes
+  pub markets : (k : ℕ) → IsMarket (edited_by m (take k steps))
+  pub decided : NoPairPassesIn m [] steps bound → AreDecided m steps outcomes
   pub status_is : t.status ≡ replay_status outcomes
   pub text_is : t.text ≡ replayed m steps outcomes
   pub certificate_is : t.certificate ≡ option_and_then certificate_of (last_clear None outcomes)

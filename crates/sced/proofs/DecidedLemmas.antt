@@ -1,5 +1,5 @@
 -- A text and a status that are right decide whether a dispatch is feasible, and whether a certificate holds, where no pair passes the bound.
-use Rattle.std.specs.Prelude.{◌≡◌, ◌≢◌, ℕ, Bool, true, false, if◌then◌else◌, List, [], ◌∷◌, Option, Some, None, codes, Result, Ok, ◌⊎◌}
+use Rattle.std.specs.Prelude.{◌≡◌, ◌≢◌, ℕ, Bool, true, false, if◌then◌else◌, List, [], ◌∷◌, Option, Some, None, codes, slice_get, take, Result, Ok, ◌⊎◌}
 use Rattle.std.specs.Str.{bytes_eq}
 use Rattle.std.proofs.Common.{suc, inl, inr, refl, sym, subst, ap, ◌∙◌}
 use Rattle.fraction_theory.specs.Fraction.{Fraction}
@@ -27,10 +27,8 @@ use Rattle.command_words.proofs.WordsLemmas.{asks-once, clears-once, enters-one,
 use Rattle.command_answers.specs.Clearing.{TellsClear, most_size, status_of}
 use Rattle.command_answers.specs.Inputs.{IsCertified, IsLimited, IsReplayed, MarketCertificate, MarketSteps, MarketTexts}
 use Rattle.command_answers.specs.Replaying.{NoPairPassesIn, TellsReplay, is_done, replay_status, step_status}
-use Rattle.market_model.specs.LimitRows.{Row}
 use Rattle.edit_table.specs.declared.Step.{Step}
-use Rattle.edit_table.specs.declared.Step.TheVariants as step
-use Rattle.edit_replay.specs.Replays.{IsReplay, IsReply, stepped}
+use Rattle.edit_replay.specs.Replays.{edited_by}
 use Rattle.edit_replay.specs.declared.step_outcome.StepOutcome.{StepOutcome}
 use Rattle.edit_replay.specs.declared.step_outcome.StepOutcome.TheVariants as reply
 use Rattle.command_answers.specs.Making.{MakesTo, cleared as ring_cleared, passed as ring_passed}
@@ -117,33 +115,33 @@ comes-decided m t (market, clears) none =
 told-of : {A : Type 0} (stand : Result A Refusal → Type 0) (right : A → Telling → Type 0) (x : A) (t : Telling) → OfOne stand → stand (Ok x) → Tells stand right t → right x t
 told-of {A} stand right x t once here tells = subst (λ (r : Result A Refusal). ComesTo right r t) (once tells.told (Ok x) tells.stands here) tells.comes
 
--- a replay in which no pair passes the bound tells of no numbers that are too large
-not-range : (bound : ℕ) (m : Parts) (before after : List Row) (s : Step) (o : StepOutcome Fraction) → ((taken : List Row) → NoPairPasses m taken bound) → IsReply bound m before s o after → step_status o ≢ status.Range
-not-range bound m before after (step.Edit e) reply.Accepted none is bad = cc bad
-not-range bound m before after (step.Edit e) (reply.Refused f) none is bad = cc bad
-not-range bound m before after (step.Edit e) (reply.Clear o) none is bad = elim is [ ]
-not-range bound m before after step.Clear reply.Accepted none is bad = elim is [ ]
-not-range bound m before after step.Clear (reply.Refused f) none is bad = elim is [ ]
-not-range bound m before after step.Clear (reply.Clear (outcome.Cleared a)) none is bad = cc bad
-not-range bound m before after step.Clear (reply.Clear (outcome.Infeasible f)) none is bad = cc bad
-not-range bound m before after step.Clear (reply.Clear (outcome.Range p)) none is bad = none before p is.right
+-- clears that are decided tell of no numbers that are too large
+not-range : (m : Parts) (o : Outcome Fraction) → IsDecided m o → status_of o ≢ status.Range
+not-range m (outcome.Cleared a) decided bad = cc bad
+not-range m (outcome.Infeasible f) decided bad = cc bad
+not-range m (outcome.Range p) decided bad = elim (decided.infeasible decided.cleared) [ ]
+
+abbrev NoClearIsRange : List (StepOutcome Fraction) → Type 0
+NoClearIsRange outcomes = (k : ℕ) (o : Outcome Fraction) → slice_get outcomes k ≡ Some (reply.Clear o) → status_of o ≢ status.Range
+
+step-not-range : (o : StepOutcome Fraction) (outcomes : List (StepOutcome Fraction)) → NoClearIsRange (o ∷ outcomes) → step_status o ≢ status.Range
+step-not-range reply.Accepted outcomes each bad = cc bad
+step-not-range (reply.Refused f) outcomes each bad = cc bad
+step-not-range (reply.Clear o) outcomes each bad = each 0 o refl bad
 
 first-of : (done : Bool) (rest here : Status) → rest ≢ status.Range → here ≢ status.Range → (if done then rest else here) ≢ status.Range
 first-of true rest here no_rest no_here = no_rest
 first-of false rest here no_rest no_here = no_here
 
-no-range : (bound : ℕ) (m : Parts) (before after : List Row) (steps : List Step) (outcomes : List (StepOutcome Fraction)) → NoPairPassesIn m steps bound → IsReplay bound m before steps outcomes after
-    → replay_status outcomes ≢ status.Range
+no-range : (outcomes : List (StepOutcome Fraction)) → NoClearIsRange outcomes → replay_status outcomes ≢ status.Range
 unfolding replay_status
-no-range bound m before after [] [] none is bad = cc bad
-no-range bound m before after [] (o ∷ outcomes) none is bad = elim is [ ]
-no-range bound m before after (s ∷ steps) [] none is bad = elim is [ ]
-no-range bound m before after (s ∷ steps) (o ∷ outcomes) none (between, is, rest) bad =
-    first-of (is_done (step_status o)) (replay_status outcomes) (step_status o) (no-range bound (stepped m s) between after steps outcomes (λ k taken. none (suc k) taken) rest)
-    (not-range bound m before between s o (λ taken. none 0 taken) is) bad
+no-range [] each bad = cc bad
+no-range (o ∷ outcomes) each bad =
+    first-of (is_done (step_status o)) (replay_status outcomes) (step_status o) (no-range outcomes (λ k p is. each (suc k) p is)) (step-not-range o outcomes each) bad
 
-replay-told : (r : MarketSteps) (t : Telling) → TellsReplay r t → NoPairPassesIn r.market r.steps most_size → t.status ≢ status.Range
-replay-told r t (market, replays) none bad = no-range most_size r.market [] replays.taken r.steps replays.outcomes none replays.right (sym replays.status_is ∙ bad)
+replay-told : (r : MarketSteps) (t : Telling) → TellsReplay r t → NoPairPassesIn r.market [] r.steps most_size → t.status ≢ status.Range
+replay-told r t (market, replays) none bad =
+    no-range replays.outcomes (λ k o is. not-range (edited_by r.market (take k r.steps)) o (replays.decided none k o is)) (sym replays.status_is ∙ bad)
 
 -- a certificate of whose sums no pair passes the bound is judged
 verdict-told : (m : Parts) (c : Cert Fraction) (t : Telling) → VerifiesTo most_size m c t → ((p : Passed Fraction) → ¬ (IsCertificatePair m most_size c p)) → t.status ≡ verdict_status (first_reason m c)
@@ -194,7 +192,7 @@ module _ (files : Files) (words : List (List ℕ)) (t : Telling) where
       comes-decided m t (told-of (AreClearFiles files names) TellsClear m t (clear-files-once files names) here told) none
 
   replayed-told : (m : Parts) (steps : List Step) (names : MarketNames) (edits : List ℕ) (certificate : Option (List ℕ)) → AsksReplay words names edits certificate
-      → Tells (AreReplayFiles files names edits) TellsReplay t → AsksSteps files words m steps → NoPairPassesIn m steps most_size → t.status ≢ status.Range
+      → Tells (AreReplayFiles files names edits) TellsReplay t → AsksSteps files words m steps → NoPairPassesIn m [] steps most_size → t.status ≢ status.Range
   replayed-told m steps names edits certificate asked told asks none =
       let made : MarketSteps = record { market = m; steps = steps } in
       let same = replays-once words asks.names names asks.edits edits asks.certificate certificate asks.asks asked in
@@ -233,7 +231,7 @@ module _ (files : Files) (words : List (List ℕ)) (t : Telling) where
   answers-verdict _ (checked names asked told) m c asks none = absurd (no-other words (codes "check") (codes "verify") asked.rows asks.asks.rows refl asked.enters asks.asks.enters)
   answers-verdict _ (made buses seed asked told) m c asks none = absurd (no-other words (codes "make") (codes "verify") asked.rows asks.asks.rows refl asked.enters asks.asks.enters)
 
-  answers-replay : (w : Option (List ℕ × List ℕ)) → AnswersTo (Some files) words t w → (m : Parts) (steps : List Step) → AsksSteps files words m steps → NoPairPassesIn m steps most_size → t.status ≢ status.Range
+  answers-replay : (w : Option (List ℕ × List ℕ)) → AnswersTo (Some files) words t w → (m : Parts) (steps : List Step) → AsksSteps files words m steps → NoPairPassesIn m [] steps most_size → t.status ≢ status.Range
   answers-replay _ (refused nothing usage) m steps asks none = absurd (not-refused words _ asks.asks.rows nothing asks.asks.enters)
   answers-replay _ (pooled case offers asked told) m steps asks none = absurd (no-other words (codes "pool") (codes "replay") asked.rows asks.asks.rows refl asked.enters asks.asks.enters)
   answers-replay _ (cleared names file asked told) m steps asks none = absurd (no-other words (codes "clear") (codes "replay") asked.rows asks.asks.rows refl asked.enters asks.asks.enters)

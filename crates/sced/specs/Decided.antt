@@ -46,11 +46,11 @@ pub record AsksSteps (files : Files) (words : List (List ℕ)) (m : Parts) (step
   pub stand : AreReplayFiles files names edits (Ok (record { market = m; steps = steps }))
 
 -- Where the words ask to clear a market of which no working pair passes the bound, the status decides it. Where they ask whether a
--- certificate holds of whose sums no pair passes it, the status says so. Where they ask for steps of a market of which no pair passes it,
--- the status is not that of too large numbers.
+-- certificate holds of whose sums no pair passes it, the status says so. Where they ask for steps of a market and none passes it at any
+-- clear, the status is not that of too large numbers.
 pub record IsDecidedIn (files : Files) (words : List (List ℕ)) (s : Status) : Type 0 where
   pub decided : (m : Parts) → AsksMarket files words m → NoPairPasses m [] most_size → Decides m s
-  pub replayed : (m : Parts) (steps : List Step) → AsksSteps files words m steps → NoPairPassesIn m steps most_size → s ≢ status.Range
+  pub replayed : (m : Parts) (steps : List Step) → AsksSteps files words m steps → NoPairPassesIn m [] steps most_size → s ≢ status.Range
   pub verified : (m : Parts) (c : Cert Fraction) → AsksVerdict files words m c → ((p : Passed Fraction) → ¬ (IsCertificatePair m most_size c p)) → s ≡ verdict_status (first_reason m c)
 
 -- so it is where the store tells its files
