@@ -143,16 +143,16 @@ module _ {N : Type 0} (value : N → Fraction) (bound : ℕ) (fits : (x : N) →
       → t.status ≡ replay_status (map (step_outcome_at value) outcomes) → t.text ≡ replayed m steps (map (step_outcome_at value) outcomes)
       → t.certificate ≡ option_and_then certificate_of (last_clear None (map (step_outcome_at value) outcomes)) → ReplaysTo bound m steps t
   replays_to m steps start now outcomes t is market data_ok replay status_is text_is certificate_is =
-    let right : IsReplay bound m [] steps (map (step_outcome_at value) outcomes) now.kept.rows =
-    subst (λ (s : SessionState). IsReplay bound s.market s.kept.rows steps (map (step_outcome_at value) outcomes) now.kept.rows) is replay in
-    record {
-    outcomes = map (step_outcome_at value) outcomes;
-    taken = now.kept.rows;
-    right = right;
-    sides = all_within outcomes;
-    markets = λ k. steps_market m (take k steps) market (All-take IsStep k steps data_ok);
-    decided = λ none. are_decided bound m [] now.kept.rows steps (map (step_outcome_at value) outcomes) market data_ok none right;
-    status_is = status_is;
-    text_is = text_is;
-    certificate_is = certificate_is;
-  }
+      let right : IsReplay bound m [] steps (map (step_outcome_at value) outcomes) now.kept.rows =
+      subst (λ (s : SessionState). IsReplay bound s.market s.kept.rows steps (map (step_outcome_at value) outcomes) now.kept.rows) is replay in
+      record {
+        outcomes = map (step_outcome_at value) outcomes;
+        taken = now.kept.rows;
+        right = right;
+        sides = all_within outcomes;
+        markets = λ k. steps_market m (take k steps) market (All-take IsStep k steps data_ok);
+        decided = λ none. are_decided bound m [] now.kept.rows steps (map (step_outcome_at value) outcomes) market data_ok none right;
+        status_is = status_is;
+        text_is = text_is;
+        certificate_is = certificate_is;
+      }

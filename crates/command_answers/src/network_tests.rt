@@ -1,5 +1,5 @@
-//! The five-bus system of PJM's training, after F. Li and R. Bo: its files, its report, whose prices are the published ones, and a replay
-//! with a negative price. These are the texts of `examples/pjm_five_bus`.
+//! The five-bus system of PJM's training, after F. Li and R. Bo: its files, its report, whose prices are the published ones, a replay
+//! with a negative price, and one in which nothing is feasible. These are the texts of `examples/pjm_five_bus`.
 
 use crate::{Status, clear_told, replay_told};
 use market_inputs::ClearBytes;
@@ -136,6 +136,19 @@ load 5 mw 0 pays 0
 surplus 19664.639242360779270:164710/508527
 ";
 
+const NARROW: &[u8] = b"op,target,side,block,value
+limit,6,base,,60
+clear,,,,
+";
+
+const INFEASIBLE: &[u8] = b"step 1 edit accepted
+step 2 clear
+infeasible
+bound -43.393200569:55703/120113
+energy 1
+limit 6 base up 0 down 2:9774/120113
+";
+
 #[test]
 fn clears_five_buses(rt: HostRuntime) -> Result<(), Fail> {
     let alloc = rt.alloc();
@@ -153,5 +166,8 @@ fn clears_five_buses(rt: HostRuntime) -> Result<(), Fail> {
     let replayed = replay_told(alloc, &bytes, PostRating::C, EDITS)?;
     assert_eq!(rt; replayed.status, Status::Done);
     assert_eq!(rt; replayed.text.as_slice(), REPLAY);
+    let narrowed = replay_told(alloc, &bytes, PostRating::C, NARROW)?;
+    assert_eq!(rt; narrowed.status, Status::Infeasible);
+    assert_eq!(rt; narrowed.text.as_slice(), INFEASIBLE);
     Ok(())
 }

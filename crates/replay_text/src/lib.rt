@@ -6,6 +6,3 @@ pub mod laws;
 mod replay;
 
 pub use replay::replay_text;
-
-#[cfg(test)]
-mod tests;

@@ -7,6 +7,3 @@ mod limits;
 mod outcome;
 
 pub use outcome::report;
-
-#[cfg(test)]
-mod tests;
