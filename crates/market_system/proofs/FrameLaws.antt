@@ -5,6 +5,7 @@ use Rattle.std.proofs.Common.{zero, suc, ap, ap₂, sym, ◌∙◌}
 use mathlib.Core.Path.{fun_ext}
 use Rattle.fraction_theory.specs.Fraction.{Fraction, whole}
 use Rattle.linear_system.specs.Systems.{System}
+use Rattle.linear_system.specs.SameSystems.{SameRows}
 use Rattle.market_model.specs.declared.participants.Block.{Block}
 use Rattle.market_model.specs.declared.participants.Line.{Line}
 use Rattle.market_model.specs.declared.participants.Parts.{Parts}
@@ -12,7 +13,7 @@ use Rattle.market_model.specs.declared.participants.Side.TheVariants.{Sell}
 use Rattle.market_model.specs.Dispatch.{places, block_at, line_at, unit_at, signed}
 use Rattle.market_model.specs.Frame.{block_frame, line_frame, frame, SameFrame}
 use Rattle.market_model.specs.LimitRows.{Cause, Row, Base, After, outage_of, row_id, rows, base_rows, rows_after, has_base, has_post, place_of_line, row_factor}
-use Rattle.market_system.specs.FrameLaw.{SameRows, LawOfTheFrame}
+use Rattle.market_system.specs.FrameLaw.{LawOfTheFrame}
 use Rattle.market_system.specs.MarketSystem.{balance_name, row_name, is_in, in_order, block_sign, block_coefficient, of_name, coefficient_by, same_row, system_over, system_of}
 
 mapped_at : {X Y : Type 0} (f : X → Y) (d : X) (e : Y) → f d ≡ e → (xs : List X) (i : ℕ) → slice_index_or (map f xs) i e ≡ f (slice_index_or xs i d)
@@ -98,31 +99,20 @@ module _ (m : Parts) where
       ∙ ap₂ (λ (sign : ℕ → Fraction) (rs : List Row). of_names (row_name m) (λ r. block_coefficient m r j) (sign j) rs w) sign_framed (in_order_framed g)
       ∙ sym (of_names_is m (λ r. block_coefficient m r j) (block_sign m j) (in_order m g) w)
 
-  -- the market's system has the rows of its frame's
-  pub system_framed : (g : List Row) → SameRows (system_of (frame m) g) (system_of m g)
-  unfolding system_over
-  system_framed g =
-      let row_names : balance_name (frame m) ∷ map (row_name (frame m)) (in_order (frame m) g) ≡ balance_name m ∷ map (row_name m) (in_order m g) =
-      ap₂ (λ (b : ℕ) (ns : List ℕ). b ∷ ns) block_count (ap₂ (λ (name : Row → ℕ) (rs : List Row). map name rs) name_framed (in_order_framed g)) in
-      record {
-        variables = ap₂ (λ (n : ℕ) (ns : List ℕ). places n ++ ns) block_count row_names;
-        columns = ap places block_count;
-        rows = row_names;
-        coefficient = fun_ext (λ w. fun_ext (λ j. entry_framed g w j));
-      }
+  row_names_framed : (g : List Row) → balance_name (frame m) ∷ map (row_name (frame m)) (in_order (frame m) g) ≡ balance_name m ∷ map (row_name m) (in_order m g)
+  row_names_framed g = ap₂ (λ (b : ℕ) (ns : List ℕ). b ∷ ns) block_count (ap₂ (λ (name : Row → ℕ) (rs : List Row). map name rs) name_framed (in_order_framed g))
 
-joined : (s t u : System) → SameRows s t → SameRows t u → SameRows s u
-joined s t u a b = record { variables = a.variables ∙ b.variables; columns = a.columns ∙ b.columns; rows = a.rows ∙ b.rows; coefficient = a.coefficient ∙ b.coefficient }
+  variables_framed : (g : List Row) → places (length (frame m).blocks) ++ (balance_name (frame m) ∷ map (row_name (frame m)) (in_order (frame m) g)) ≡ places (length m.blocks) ++ (balance_name m ∷ map (row_name m) (in_order m g))
+  variables_framed g = ap₂ (λ (n : ℕ) (ns : List ℕ). places n ++ ns) block_count (row_names_framed g)
 
-back : (s t : System) → SameRows s t → SameRows t s
-back s t a = record { variables = sym a.variables; columns = sym a.columns; rows = sym a.rows; coefficient = sym a.coefficient }
-
-alike : (m n : Parts) (g : List Row) → m ≡ n → SameRows (system_of m g) (system_of n g)
-alike m n g e = record {
-  variables = ap (λ (p : Parts). (system_of p g).variables) e;
-  columns = ap (λ (p : Parts). (system_of p g).columns) e;
-  rows = ap (λ (p : Parts). (system_of p g).rows) e;
-  coefficient = ap (λ (p : Parts). (system_of p g).coefficient) e;
+-- systems over the same rows of markets of one frame have the same rows
+same_rows : (m n : Parts) (g : List Row) → SameFrame m n → SameRows (system_of m g) (system_of n g)
+unfolding system_over
+same_rows m n g same = record {
+  variables = sym (variables_framed m g) ∙ ap (λ (p : Parts). places (length p.blocks) ++ (balance_name p ∷ map (row_name p) (in_order p g))) same ∙ variables_framed n g;
+  columns = ap places (sym (block_count m) ∙ ap (λ (p : Parts). length p.blocks) same ∙ block_count n);
+  rows = sym (row_names_framed m g) ∙ ap (λ (p : Parts). balance_name p ∷ map (row_name p) (in_order p g)) same ∙ row_names_framed n g;
+  coefficient = λ w j _ _. sym (entry_framed m g w j) ∙ ap (λ (p : Parts). coefficient_by p (in_order p g) w j) same ∙ entry_framed n g w j;
 }
 
 pub law_of_the_frame : LawOfTheFrame
@@ -133,6 +123,5 @@ law_of_the_frame m n g same = (
     balance = sym (block_count m) ∙ ap balance_name same ∙ block_count n;
     names = sym (name_framed m) ∙ ap row_name same ∙ name_framed n;
   },
-  joined (system_of m g) (system_of (frame m) g) (system_of n g) (back (system_of (frame m) g) (system_of m g) (system_framed m g))
-      (joined (system_of (frame m) g) (system_of (frame n) g) (system_of n g) (alike (frame m) (frame n) g same) (system_framed n g)),
+  same_rows m n g same,
 )

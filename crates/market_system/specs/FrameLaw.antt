@@ -1,17 +1,10 @@
 -- What of a market's system no edit changes.
 use Rattle.std.specs.Prelude.{◌≡◌, ℕ, List}
-use Rattle.linear_system.specs.Systems.{System}
+use Rattle.linear_system.specs.SameSystems.{SameRows}
 use Rattle.market_model.specs.declared.participants.Parts.{Parts}
 use Rattle.market_model.specs.Frame.{SameFrame}
 use Rattle.market_model.specs.LimitRows.{Row, rows, row_id}
 use Rattle.market_system.specs.MarketSystem.{balance_name, row_name, system_of}
-
--- the same names with the same coefficients; prices and bounds may differ
-pub record SameRows (s t : System) : Type 0 where
-  pub variables : s.variables ≡ t.variables
-  pub columns : s.columns ≡ t.columns
-  pub rows : s.rows ≡ t.rows
-  pub coefficient : s.coefficient ≡ t.coefficient
 
 -- the same limit rows with the same names, and the same names of variables
 pub record SameNames (m n : Parts) : Type 0 where
