@@ -107,7 +107,7 @@ fn checks_tables(rt: HostRuntime) -> Result<(), Fail> {
     Ok(())
 }
 
-/// Shift tables with a record more.
+/// Shift tables with a record more, and a branch from a bus to itself.
 #[test]
 fn refuses_shift_tables(rt: HostRuntime) -> Result<(), Fail> {
     let case = case(&rt, BUSES, UNITS, "0 0 0 0 0")?;
@@ -124,6 +124,10 @@ fn refuses_shift_tables(rt: HostRuntime) -> Result<(), Fail> {
         let refused = (Status::Refused, told.as_str());
         expect_check(&rt, line, files, [].as_slice(), refused)?;
     }
+    let looped = case.replace(rt.alloc(), "1 2 0 0.2", "1 1 0 0.2")?;
+    let files = [looped.as_str(), SHIFT, "", ""];
+    let refused = (Status::Refused, "refused case SameEnds row 1\n");
+    expect_check(&rt, line, files, [].as_slice(), refused)?;
     Ok(())
 }
 

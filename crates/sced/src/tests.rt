@@ -239,7 +239,6 @@ fn refuses_changed_cases(rt: HostRuntime) -> Result<(), Fail> {
             "Cell gen row 1 col 8 NotFinite",
         ),
         ("1 100 0;\n2 0", "1 100 200;\n2 0", "MinAboveMax unit 1"),
-        ("1 2 0 0.2", "1 1 0 0.2", "SameEnds row 1"),
     ] {
         let text = plain.replace(rt.alloc(), old, new)?;
         let line = format!(in rt.alloc(); "refused case {line}\n")?;
