@@ -131,7 +131,8 @@ fn refuses_shift_tables(rt: HostRuntime) -> Result<(), Fail> {
     Ok(())
 }
 
-/// A table whose only cell is as long as a file may be, and one of a byte more.
+/// A table whose only cell is as long as a file may be, and one of a byte more. It ends in a second where it is compiled for the gate, and
+/// not within the time of a test under `rt try`.
 #[test]
 fn refuses_a_file_that_is_too_long(rt: HostRuntime) -> Result<(), Fail> {
     let case = case(&rt, BUSES, UNITS, "0 0 0 0 0")?;

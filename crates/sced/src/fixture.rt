@@ -108,21 +108,36 @@ pub fn expect_within<R: Abort + AllocGlobal>(
     failing: (&[u64], &[u64]),
     want: Want<'_>,
 ) -> Result<(), Fail> {
-    let room = Room {
-        files: 10,
-        name: 16,
-        bytes,
-    };
-    let mut store = MemoryStore::new(rt.alloc(), room, failing.0)?;
+    let mut store = MemoryStore::new(rt.alloc(), room(bytes), failing.0)?;
     for (name, bytes) in files {
         assert!(rt; store.add(name, bytes).is_ok());
     }
-    let mut sink = MemorySink::new(rt.alloc(), 8192, failing.1)?;
+    answers(rt, line, &mut store, failing.1, want)
+}
+
+/// Room for all files of a run, each of at most so many bytes.
+pub fn room(bytes: usize) -> Room {
+    Room {
+        files: 10,
+        name: 16,
+        bytes,
+    }
+}
+
+/// Runs the words of a line over a store, with puts that fail, and compares.
+pub fn answers<R: Abort + AllocGlobal>(
+    rt: &R,
+    line: &str,
+    store: &mut MemoryStore,
+    failing: &[u64],
+    want: Want<'_>,
+) -> Result<(), Fail> {
+    let mut sink = MemorySink::new(rt.alloc(), 8192, failing)?;
     let mut words = Vec::new(rt.alloc());
     for word in line.split(' ') {
         words.push(String::from_str(rt.alloc(), word)?)?;
     }
-    let status = run(rt.alloc(), words.as_slice(), &mut store, &mut sink);
+    let status = run(rt.alloc(), words.as_slice(), store, &mut sink);
     assert_eq!(rt; status, want.status);
     if want.start == want.end {
         assert_eq!(rt; sink.bytes(), want.start.as_bytes());
