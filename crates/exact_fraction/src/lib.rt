@@ -35,13 +35,13 @@ pub struct Passed<N> {
 }
 
 /// Fractions in lowest terms whose numerators and denominators have a size of at most the type's bound.
-/// No call takes memory, and only `plus`, `minus` and `times` can pass the bound.
+/// No call takes memory, and only `plus`, `minus`, `times` and `plus_product` can pass the bound.
 pub trait Exact: Copy {
     ghost use Rattle.fraction_theory.specs.Fraction.{Fraction, neg_ℚ, over, recip_ℚ, whole};
     ghost use Rattle.fraction_theory.specs.Order.{◌<ℚ◌};
     ghost use Rattle.fraction_theory.specs.Signs.{sign_of};
     ghost use Rattle.std.specs.Ordering.{MatchOrdering};
-    ghost use Rattle.exact_fraction.specs.Passes.{IsExact};
+    ghost use Rattle.exact_fraction.specs.Passes.{IsExact, IsExactWith};
     ghost use Rattle.exact_fraction.specs.Written.{written, parts_text};
 
     /// The fraction that a number is, whatever its type.
@@ -84,6 +84,11 @@ pub trait Exact: Copy {
     /// The exact product, or, exactly where it passes the bound in lowest terms, the two sides.
     fn times(self, other: Self) -> Result<Self, Passed<Self>>
         ensures { IsExact value bound Op.Times self other result };
+
+    /// The exact sum with the product of two numbers, or, exactly where the product or then the sum passes the bound, that
+    /// operation with its two sides.
+    fn plus_product(self, left: Self, right: Self) -> Result<Self, Passed<Self>>
+        ensures { IsExactWith value bound self left right result };
 
     /// Writes the value in units, of which `10^places` are a whole, and gives the length of the text.
     fn write_exact(self, places: u8, buf: &mut [u8; 128]) -> usize

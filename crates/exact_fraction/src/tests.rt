@@ -58,6 +58,12 @@ fn calls<N: Exact>(rt: &impl Abort) {
     assert!(rt; is(third.plus(half), N::of_parts(-1, 6)));
     assert!(rt; is(third.minus(half), N::of_parts(5, 6)));
     assert!(rt; is(third.times(half), N::of_parts(-1, 6)));
+    assert!(rt;
+        is(
+            third.plus_product(half, N::of_parts(4, 3)),
+            N::of_parts(-1, 3)
+        )
+    );
     assert!(rt; is(Ok(half.neg()), N::of_parts(1, 2)));
     assert!(rt; third.order(half) == Ordering::Greater);
     assert!(rt; half.sign() == Sign::Below && third.sign() == Sign::Above);

@@ -1,4 +1,4 @@
-// Numbers to which products are added. What can't pass a bound is left out: a product by 0 and a sum with 0.
+// Numbers to which products are added, and those that are 0, of which a product is left out.
 ghost use Rattle.std.specs.Prelude.{◌≡◌, ◌↔◌, IsTrue, IfErr, IfOk, pos};
 ghost use Rattle.fraction_theory.specs.Fraction.{whole, ◌+ℚ◌, ◌*ℚ◌};
 ghost use Rattle.linear_dict.specs.Causes.{IsRefused, ProductOperation};
@@ -20,10 +20,5 @@ pub(crate) fn with_product<N: Exact>(number: N, left: N, right: N) -> Result<N, 
     ensures sum { IfOk result (λ sum. N.value sum ≡ N.value number +ℚ N.value left *ℚ N.value right) }
     ensures cause { IfErr result (IsRefused N.value N.bound (ProductOperation (N.value number) (N.value left) (N.value right))) }
 {
-    let product = left.times(right)?;
-    if is_zero(number) {
-        return Ok(product);
-    }
-    let sum = number.plus(product)?;
-    Ok(sum)
+    number.plus_product(left, right)
 }
