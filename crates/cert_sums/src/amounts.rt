@@ -29,6 +29,5 @@ pub(crate) fn with_share<N: Exact>(sum: N, factor: i64, number: N) -> Result<N, 
     if factor == 0 {
         return Ok(sum);
     }
-    let share = N::of_parts(factor, WHOLE).times(number)?;
-    sum.plus(share)
+    sum.plus_product(N::of_parts(factor, WHOLE), number)
 }

@@ -37,7 +37,6 @@ pub fn with_share<N: Exact>(sum: N, share: i64, number: N) -> Result<N, Passed<N
     if share == 0 {
         Ok(sum)
     } else {
-        let product = factor::<N>(share).times(number)?;
-        sum.plus(product)
+        sum.plus_product(factor(share), number)
     }
 }
