@@ -1,5 +1,5 @@
-use super::*;
-use std::alloc::AllocError;
+use case_text::{Field, read_case};
+use std::alloc::{AllocError, Global};
 use std::test::Fail;
 
 /// Texts that are no cases, each behind the fault of it. In a text `$` stands for a line end, `^` for a carriage return, `!` for a tab,
