@@ -1,10 +1,10 @@
 //! Systems that posing or running refuses, each with its two numbers as worked by hand.
 ghost use Rattle.std.specs.Prelude.{◌≡◌, IfOk, false, length};
 
-use crate::tests::between;
-use crate::{Bounds, Posed, Run, pose};
+use crate::method::between;
 use exact_fraction::{Exact, Frac63, Op, Passed};
 use linear_dict::Dict;
+use simplex_core::{Posed, Run, pose};
 use std::alloc::Global;
 use std::cmp::Ordering;
 use std::process::Abort;

@@ -1,5 +1,5 @@
-use Rattle.simplex_core.proofs.TestLemmas.{kept_two}
-use Rattle.simplex_core.proofs.tests.solved_127.Goals as goal
+use Rattle.simplex_tests.proofs.KeptColumns.{kept_two}
+use Rattle.simplex_tests.proofs.method.solved_127.Goals as goal
 
 pub has_value-requires : goal.has_value-requires
 has_value-requires g c = let k = kept_two 1 2 c.in-Solved.ensures.0 c.requires in k.0

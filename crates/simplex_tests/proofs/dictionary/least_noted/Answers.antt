@@ -1,6 +1,6 @@
 use Rattle.std.proofs.Common.{◌≡◌, ◌<◌, ◌∙◌, arith, ap, length, sym}
 use Rattle.linear_dict.specs.Dictionaries.{Dictionary, with_note}
-use Rattle.linear_dict.proofs.tests.least_noted.Goals as goal
+use Rattle.simplex_tests.proofs.dictionary.least_noted.Goals as goal
 
 pub note_at-requires-clause-live : goal.note_at-requires-clause-live
 unfolding with_note

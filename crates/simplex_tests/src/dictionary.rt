@@ -2,8 +2,8 @@
 ghost use Rattle.std.specs.Prelude.{◌≡◌, length};
 ghost use Rattle.std.specs.Option.{IfSome};
 
-use crate::{AddStop, Dict, Note, Place};
 use exact_fraction::{Exact, Frac, Frac63, Op, Passed, Sign};
+use linear_dict::{AddStop, Dict, Note, Place};
 use std::alloc::Global;
 use std::cmp::Ordering;
 use std::process::Abort;

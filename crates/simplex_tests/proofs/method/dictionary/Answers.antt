@@ -1,6 +1,6 @@
 use Rattle.std.proofs.Common.{◌≡◌, ◌∙◌, List, ℕ, [], ◌∷◌, ◌++◌, arith, ap, lit<}
-use Rattle.linear_dict.proofs.TestLemmas.{is_new, above_one, above_two, above_three}
-use Rattle.simplex_core.proofs.tests.dictionary.Goals as goal
+use Rattle.simplex_tests.proofs.NewNames.{is_new, above_one, above_two, above_three}
+use Rattle.simplex_tests.proofs.method.dictionary.Goals as goal
 
 pub add-requires-clause-absent : goal.add-requires-clause-absent
 add-requires-clause-absent g c =

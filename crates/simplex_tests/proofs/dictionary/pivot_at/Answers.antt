@@ -1,6 +1,6 @@
 use Rattle.std.proofs.Common.{arith, sym, ◌∙◌}
 use Rattle.fraction_theory.proofs.SignLaws.{not_nil_by_sign}
-use Rattle.linear_dict.proofs.tests.pivot_at.Goals as goal
+use Rattle.simplex_tests.proofs.dictionary.pivot_at.Goals as goal
 
 pub pivot-requires : goal.pivot-requires
 pivot-requires g c = record {

@@ -4,9 +4,9 @@ ghost use Rattle.std.specs.List.{Contains};
 ghost use Rattle.fraction_theory.specs.Order.{◌≤ℚ◌};
 ghost use Rattle.linear_dict.specs.Dictionaries.{IsDictionary};
 
-use crate::{Bounds, Posed, Run, Solved, pose};
 use exact_fraction::{Exact, Frac, Frac63, Passed};
 use linear_dict::Dict;
+use simplex_core::{Bounds, Posed, Run, Solved, pose};
 use std::alloc::Global;
 use std::cmp::Ordering;
 use std::process::Abort;

@@ -1,6 +1,6 @@
 use Rattle.std.proofs.Common.{◌≡◌, ◌∙◌, List, ℕ, [], ◌∷◌, lit<}
-use Rattle.linear_dict.proofs.TestLemmas.{is_new, above_one, above_three}
-use Rattle.simplex_core.proofs.tests.values_move_and_are_not_added_up.Goals as goal
+use Rattle.simplex_tests.proofs.NewNames.{is_new, above_one, above_three}
+use Rattle.simplex_tests.proofs.method.values_move_and_are_not_added_up.Goals as goal
 
 pub add-requires-clause-absent : goal.add-requires-clause-absent
 add-requires-clause-absent g c =

@@ -6,7 +6,7 @@ use Rattle.fraction_theory.specs.Fraction.{Fraction}
 use Rattle.fraction_theory.proofs.ListSums.{Contains-cases}
 use Rattle.fraction_theory.proofs.SignLaws.{not_nil_by_sign}
 use Rattle.linear_dict.specs.Dictionaries.{Dictionary, IsStart, pivoted}
-use Rattle.linear_dict.proofs.tests.then_added.Goals as goal
+use Rattle.simplex_tests.proofs.dictionary.then_added.Goals as goal
 
 one_row : {N : Type 0} {value : N → Fraction} {names : List ℕ} {row : ℕ} {entries : List N} {d : Dictionary} → IsStart value names row entries d → length d.basics ≡ 1
 one_row s = ap length s.basics

@@ -1,6 +1,6 @@
 use Rattle.std.proofs.Common.{[], ◌∷◌, lit<}
-use Rattle.linear_dict.proofs.TestLemmas.{is_new, above_one, above_two}
-use Rattle.linear_dict.proofs.tests.two_rows.Goals as goal
+use Rattle.simplex_tests.proofs.NewNames.{is_new, above_one, above_two}
+use Rattle.simplex_tests.proofs.dictionary.two_rows.Goals as goal
 
 pub add_row-requires-clause-absent : goal.add_row-requires-clause-absent
 add_row-requires-clause-absent g c =
