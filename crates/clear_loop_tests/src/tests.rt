@@ -6,7 +6,7 @@ ghost use Rattle.market_model.specs.declared.participants.Side.TheVariants as si
 ghost use Rattle.clear_loop.specs.Keeping.{FitsFrame};
 ghost use Rattle.clear_loop.specs.Worked.{IsWorkable, framed, worked};
 
-use crate::{ClearFault, Clearer};
+use clear_loop::{ClearFault, Clearer};
 use exact_fraction::{Exact, Frac, Frac63, Op};
 use market_model::{
     Answer, Block, Bus, Factor, Line, List, Market, Memory, Parts, RowId, Side, Unit, assemble,
