@@ -1,4 +1,4 @@
-use crate::{CertFault, Key, from_json, outcome_json, to_json};
+use cert_format::{CertFault, Key, from_json, outcome_json, to_json};
 use exact_fraction::{Exact, Frac63, Op, Passed};
 use market_model::{Dual, Duals, Farkas, List, Outcome, RowId};
 use std::test::Fail;
