@@ -1,4 +1,4 @@
-use crate::{WordsStop, request_of};
+use command_words::{WordsStop, request_of};
 use std::alloc::Global;
 use std::test::Fail;
 
