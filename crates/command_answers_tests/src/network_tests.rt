@@ -1,7 +1,7 @@
 //! The five-bus system of PJM's training, after F. Li and R. Bo: its files, its report, whose prices are the published ones, a replay
 //! with a negative price, and one in which nothing is feasible. These are the texts of `examples/pjm_five_bus`.
 
-use crate::{Status, clear_told, replay_told};
+use command_answers::{Status, clear_told, replay_told};
 use market_inputs::ClearBytes;
 use net_case::PostRating;
 use std::test::Fail;

@@ -1,6 +1,8 @@
 //! Each command on the case of three buses in a triangle, with a limit of 40 on branch 2.
 
-use crate::{Status, Told, check_told, clear_told, make_told, pool_told, replay_told, verify_told};
+use command_answers::{
+    Status, Told, check_told, clear_told, make_told, pool_told, replay_told, verify_told,
+};
 use market_inputs::{CheckBytes, ClearBytes};
 use net_case::PostRating;
 use std::process::Abort;
