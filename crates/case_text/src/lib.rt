@@ -174,6 +174,3 @@ pub fn read_case<'a>(alloc: Global, text: &'a [u8]) -> Result<RawCase<'a>, CaseF
     let mut tokens = Tokens::new(text);
     statements::read_statements(alloc, &mut tokens, text)
 }
-
-#[cfg(test)]
-mod tests;

@@ -10,6 +10,3 @@ mod writing;
 pub use certificate::{Cert, CertFault, Key};
 pub use reading::from_json;
 pub use writing::{outcome_json, to_json};
-
-#[cfg(test)]
-mod tests;

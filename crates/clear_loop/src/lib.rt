@@ -14,6 +14,3 @@ mod screen;
 
 pub use clearer::Clearer;
 pub use fault::ClearFault;
-
-#[cfg(test)]
-mod tests;

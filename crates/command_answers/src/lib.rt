@@ -17,8 +17,3 @@ pub use replaying::replay_told;
 pub use status::Status;
 pub use told::Told;
 pub use verifying::verify_told;
-
-#[cfg(test)]
-mod network_tests;
-#[cfg(test)]
-mod tests;

@@ -8,6 +8,3 @@ pub use words::{
     CheckFiles, ClearFiles, MarketFiles, PoolFiles, ReplayFiles, Request, RingWords, VerifyFiles,
     WordsStop, request_of,
 };
-
-#[cfg(test)]
-mod tests;

@@ -13,4 +13,3 @@ pub mod RowLemmas
 pub mod SplitLemmas
 pub mod StartLemmas
 pub mod TableLemmas
-pub mod TestLemmas

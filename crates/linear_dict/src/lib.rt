@@ -14,6 +14,3 @@ pub use adding::AddStop;
 pub use dict::Dict;
 pub use note::Note;
 pub use place::Place;
-
-#[cfg(test)]
-mod tests;

@@ -14,5 +14,4 @@ pub mod SearchLemmas
 pub mod StandLemmas
 pub mod StepLemmas
 pub mod SumLemmas
-pub mod TestLemmas
 pub mod TurnLaws

@@ -14,8 +14,3 @@ mod solving;
 pub use bounds::Bounds;
 pub use posing::pose;
 pub use solving::{Posed, Run, Solved};
-
-#[cfg(test)]
-mod refusals;
-#[cfg(test)]
-mod tests;

@@ -1,0 +1,404 @@
+//! Worked cases, at both types: two units that sell 100 MW each at buses 1 and 2, a load and a shunt of 10 at bus 3, and branch 2 with a limit
+//! in the base and one after the loss of branch 1, all of whose flow goes over to it.
+
+ghost use Rattle.std.specs.Prelude.{◌≡◌, [], ◌∷◌, pos, negsuc, true, None, Some, IfOk, IfSome};
+ghost use Rattle.market_model.specs.declared.participants.Side.TheVariants as side;
+ghost use Rattle.clear_loop.specs.Keeping.{FitsFrame};
+ghost use Rattle.clear_loop.specs.Worked.{IsWorkable, framed, worked};
+
+use clear_loop::{ClearFault, Clearer};
+use exact_fraction::{Exact, Frac, Frac63, Op};
+use market_model::{
+    Answer, Block, Bus, Factor, Line, List, Market, Memory, Parts, RowId, Side, Unit, assemble,
+};
+use std::alloc::Global;
+use std::cmp::Ordering;
+use std::test::Fail;
+
+type Cleared<N> = Result<Answer<N>, ClearFault<N>>;
+
+/// The numbers of the market that are edited: MW in 10^-9 and prices in 10^-6.
+#[derive(Clone, Copy)]
+struct Data {
+    base: i64,
+    post: i64,
+    first: i64,
+    second: i64,
+    load: i64,
+}
+
+/// The limit of 40 in the base alone: that after an outage is far off.
+const LIMITED: Data = Data {
+    base: 40_000_000_000,
+    post: 1_000_000_000_000,
+    first: 10_000_000,
+    second: 30_000_000,
+    load: 50_000_000_000,
+};
+
+fn buses(alloc: Global, load: i64) -> Result<List<Bus>, Memory>
+    ensures { IfOk result (λ list. list ≡ record { number = 1; pd = pos 0; gs = pos 0 } ∷ record { number = 2; pd = pos 0; gs = pos 0 } ∷ record { number = 3; pd = load; gs = pos 10000000000 } ∷ []) }
+{
+    let mut list = List::new(alloc);
+    list.push(Bus {
+        number: 1,
+        pd: 0,
+        gs: 0,
+    })?;
+    list.push(Bus {
+        number: 2,
+        pd: 0,
+        gs: 0,
+    })?;
+    list.push(Bus {
+        number: 3,
+        pd: load,
+        gs: 10_000_000_000,
+    })?;
+    Ok(list)
+}
+
+fn units(alloc: Global) -> Result<List<Unit>, Memory>
+    ensures { IfOk result (λ list. list ≡ record { row = 1; bus = 0; fixed = pos 0; up = pos 100000000000; down = pos 0 } ∷ record { row = 2; bus = 1; fixed = pos 0; up = pos 100000000000; down = pos 0 } ∷ []) }
+{
+    let mut list = List::new(alloc);
+    list.push(Unit {
+        row: 1,
+        bus: 0,
+        fixed: 0,
+        up: 100_000_000_000,
+        down: 0,
+    })?;
+    list.push(Unit {
+        row: 2,
+        bus: 1,
+        fixed: 0,
+        up: 100_000_000_000,
+        down: 0,
+    })?;
+    Ok(list)
+}
+
+fn blocks(alloc: Global, first: i64, second: i64) -> Result<List<Block>, Memory>
+    ensures { IfOk result (λ list. list ≡ record { unit = 0; side = side.Sell; quantity = pos 100000000000; price = first } ∷ record { unit = 1; side = side.Sell; quantity = pos 100000000000; price = second } ∷ []) }
+{
+    let mut list = List::new(alloc);
+    list.push(Block {
+        unit: 0,
+        side: Side::Sell,
+        quantity: 100_000_000_000,
+        price: first,
+    })?;
+    list.push(Block {
+        unit: 1,
+        side: Side::Sell,
+        quantity: 100_000_000_000,
+        price: second,
+    })?;
+    Ok(list)
+}
+
+fn line(row: u32, base: Option<i64>, post: Option<i64>) -> Line
+    ensures { result ≡ record { row = row; base = base; post = post; offset = pos 0 } }
+{
+    Line {
+        row,
+        base,
+        post,
+        offset: 0,
+    }
+}
+
+fn lines(alloc: Global, base: i64, post: i64) -> Result<List<Line>, Memory>
+    ensures { IfOk result (λ list. list ≡ record { row = 1; base = None; post = None; offset = pos 0 } ∷ record { row = 2; base = Some base; post = Some post; offset = pos 0 } ∷ record { row = 3; base = None; post = None; offset = pos 0 } ∷ []) }
+{
+    let mut list = List::new(alloc);
+    list.push(line(1, None, None))?;
+    list.push(line(2, Some(base), Some(post)))?;
+    list.push(line(3, None, None))?;
+    Ok(list)
+}
+
+fn factor_for(line: usize, of: usize, value: i64) -> Factor
+    ensures { result ≡ record { line = line; of = of; value = value } }
+{
+    Factor { line, of, value }
+}
+
+fn shift_factors(alloc: Global) -> Result<List<Factor>, Memory>
+    ensures { IfOk result (λ list. list ≡ record { line = 0; of = 1; value = negsuc 499999 } ∷ record { line = 0; of = 2; value = negsuc 249999 } ∷ record { line = 1; of = 1; value = negsuc 499999 } ∷ record { line = 1; of = 2; value = negsuc 749999 } ∷ []) }
+{
+    let mut list = List::new(alloc);
+    list.push(factor_for(0, 1, -500_000))?;
+    list.push(factor_for(0, 2, -250_000))?;
+    list.push(factor_for(1, 1, -500_000))?;
+    list.push(factor_for(1, 2, -750_000))?;
+    Ok(list)
+}
+
+fn loss_factors(alloc: Global) -> Result<List<Factor>, Memory>
+    ensures { IfOk result (λ list. list ≡ record { line = 1; of = 0; value = pos 1000000 } ∷ []) }
+{
+    let mut list = List::new(alloc);
+    list.push(factor_for(1, 0, 1_000_000))?;
+    Ok(list)
+}
+
+fn outages(alloc: Global) -> Result<List<u32>, Memory>
+    ensures { IfOk result (λ list. list ≡ 1 ∷ []) }
+{
+    let mut list = List::new(alloc);
+    list.push(1)?;
+    Ok(list)
+}
+
+/// The market with these numbers.
+fn market(alloc: Global, numbers: Data) -> Result<Market, Memory>
+    requires { IsWorkable numbers.base numbers.post numbers.first numbers.second numbers.load }
+    ensures { IfOk result (λ market. market ≡ worked numbers.base numbers.post numbers.first numbers.second numbers.load) }
+{
+    let parts = Parts {
+        buses: buses(alloc, numbers.load)?,
+        units: units(alloc)?,
+        blocks: blocks(alloc, numbers.first, numbers.second)?,
+        lines: lines(alloc, numbers.base, numbers.post)?,
+        outages: outages(alloc)?,
+        shift: shift_factors(alloc)?,
+        loss: loss_factors(alloc)?,
+    };
+    assemble(alloc, parts)
+}
+
+/// Whether limits are at least 0, and no number is the least of its type.
+fn is_workable(numbers: &Data) -> bool
+    ensures { result ≡ true → IsWorkable numbers.now.base numbers.now.post numbers.now.first numbers.now.second numbers.now.load }
+{
+    numbers.base >= 0
+        && numbers.post >= 0
+        && numbers.first > i64::MIN
+        && numbers.second > i64::MIN
+        && numbers.load > i64::MIN
+}
+
+/// One clear with these numbers.
+fn clear<N: Exact>(clearer: &mut Clearer<N>, alloc: Global, numbers: Data) -> Cleared<N>
+    requires { FitsFrame framed clearer.old }
+    ensures { FitsFrame framed clearer.new }
+{
+    if !is_workable(&numbers) {
+        return Err(ClearFault::Memory);
+    }
+    match market(alloc, numbers) {
+        Ok(market) => clearer.clear(alloc, &market),
+        Err(_) => Err(ClearFault::Memory),
+    }
+}
+
+fn is<N: Exact>(value: N, whole: i32, units: u32) -> bool {
+    value.order(N::of_parts(i64::from(whole) * i64::from(units), 1)) == Ordering::Equal
+}
+
+/// Whether a market is cleared with these MW of its blocks and whole prices at its buses.
+fn is_answer<N: Exact>(cleared: &Cleared<N>, mw: (i32, i32), prices: (i32, i32, i32)) -> bool {
+    match cleared {
+        Ok(answer) => match (answer.dispatch.slice(), answer.prices.slice()) {
+            ([first, second], [one, two, three]) => {
+                is(*first, mw.0, 1_000_000_000)
+                    && is(*second, mw.1, 1_000_000_000)
+                    && is(one.total, prices.0, 1_000_000)
+                    && is(two.total, prices.1, 1_000_000)
+                    && is(three.total, prices.2, 1_000_000)
+            }
+            _ => false,
+        },
+        Err(_) => false,
+    }
+}
+
+/// Whether nothing is feasible by a price of energy of -1 and one of 2 on the upper side of branch 2, with this bound.
+fn is_infeasible<N: Exact>(cleared: &Cleared<N>, bound: i32) -> bool {
+    match cleared {
+        Err(ClearFault::Infeasible(farkas)) => match farkas.duals.limits.slice() {
+            [dual] => {
+                dual.row == row(2, 0)
+                    && is(dual.up, 2, 1)
+                    && is(farkas.duals.energy, -1, 1)
+                    && is(farkas.bound, bound, 1_000_000_000)
+            }
+            _ => false,
+        },
+        _ => false,
+    }
+}
+
+/// Whether these two numbers became too large.
+fn is_range<N: Exact>(cleared: &Cleared<N>, op: Op, left: N, right: N) -> bool {
+    match cleared {
+        Err(ClearFault::Range(passed)) => {
+            passed.op == op
+                && passed.left.order(left) == Ordering::Equal
+                && passed.right.order(right) == Ordering::Equal
+        }
+        _ => false,
+    }
+}
+
+fn row(branch: u32, outage: u32) -> RowId {
+    RowId { branch, outage }
+}
+
+/// Whether this row alone is taken.
+fn has_taken<N: Exact>(clearer: &Clearer<N>, row: RowId) -> bool {
+    clearer.taken() == 1 && clearer.taken_row(0) == row
+}
+
+/// A clearer that keeps nothing, of the market of the tests.
+fn started<N: Exact>(alloc: Global) -> Option<Clearer<N>>
+    ensures { IfSome result (FitsFrame framed) }
+{
+    if !is_workable(&LIMITED) {
+        return None;
+    }
+    match market(alloc, LIMITED) {
+        Ok(market) => Some(Clearer::new(&market)),
+        Err(_) => None,
+    }
+}
+
+/// Limits that are far off, one of 45 after an outage, one of 40 in the base, another price, another limit.
+fn takes_limits<N: Exact>(alloc: Global) -> bool {
+    let mut clearer: Clearer<N> = match started(alloc) {
+        Some(clearer) => clearer,
+        None => return false,
+    };
+    let far = Data {
+        base: 1_000_000_000_000,
+        ..LIMITED
+    };
+    let free = clear(&mut clearer, alloc, far);
+    let none = clearer.taken() == 0;
+    let base = clear(&mut clearer, alloc, LIMITED);
+    let once = has_taken(&clearer, row(2, 0));
+    let cheap = Data {
+        second: 20_000_000,
+        ..LIMITED
+    };
+    let cheaper = clear(&mut clearer, alloc, cheap);
+    let wide = Data {
+        base: 50_000_000_000,
+        ..LIMITED
+    };
+    let wider = clear(&mut clearer, alloc, wide);
+    none && once
+        && has_taken(&clearer, row(2, 0))
+        && is_answer(&free, (60, 0), (10, 10, 10))
+        && is_answer(&base, (50, 10), (10, 30, 40))
+        && is_answer(&cheaper, (50, 10), (10, 20, 25))
+        && is_answer(&wider, (60, 0), (10, 10, 10))
+}
+
+/// Both limits, of which that after the outage is taken alone.
+fn takes_the_worst<N: Exact>(alloc: Global) -> bool {
+    let mut clearer: Clearer<N> = match started(alloc) {
+        Some(clearer) => clearer,
+        None => return false,
+    };
+    let both = Data {
+        post: 45_000_000_000,
+        ..LIMITED
+    };
+    let answer = clear(&mut clearer, alloc, both);
+    has_taken(&clearer, row(2, 1)) && is_answer(&answer, (45, 15), (10, 30, 30))
+}
+
+/// A limit of 10 that no dispatch keeps, and then one of 40.
+fn starts_from_infeasible<N: Exact>(alloc: Global) -> bool {
+    let mut clearer: Clearer<N> = match started(alloc) {
+        Some(clearer) => clearer,
+        None => return false,
+    };
+    let narrow = Data {
+        base: 10_000_000_000,
+        ..LIMITED
+    };
+    let nothing = clear(&mut clearer, alloc, narrow);
+    let answer = clear(&mut clearer, alloc, LIMITED);
+    is_infeasible(&nothing, -10)
+        && has_taken(&clearer, row(2, 0))
+        && is_answer(&answer, (50, 10), (10, 30, 40))
+}
+
+/// Prices of which the one that is paid nothing is all that the type holds, then two at which a block's worth, and a sum of two, are
+/// more than it holds; and a market that is not too large behind them.
+fn is_too_large(alloc: Global) -> bool {
+    let mut clearer: Clearer<Frac63> = match started(alloc) {
+        Some(clearer) => clearer,
+        None => return false,
+    };
+    let far = Data {
+        base: 1_000_000_000_000,
+        ..LIMITED
+    };
+    let high = Data {
+        second: 9_000_000_000_000_000_000,
+        ..far
+    };
+    let held = clear(&mut clearer, alloc, high);
+    let dear = Data {
+        first: 200_000_000,
+        second: 300_000_000,
+        ..far
+    };
+    let product = clear(&mut clearer, alloc, dear);
+    let dropped = clearer.taken() == 0;
+    let large = Data {
+        first: 60_000_000,
+        second: 200_000_000,
+        load: 110_000_000_000,
+        ..far
+    };
+    let sum = clear(&mut clearer, alloc, large);
+    let behind = clear(&mut clearer, alloc, LIMITED);
+    dropped
+        && is_answer(&held, (60, 0), (10, 10, 10))
+        && is_range(
+            &product,
+            Op::Times,
+            Frac63::of_parts(-200_000_000, 1),
+            Frac63::of_parts(60_000_000_000, 1),
+        )
+        && is_range(
+            &sum,
+            Op::Plus,
+            Frac63::of_parts(-6_000_000_000_000_000_000, 1),
+            Frac63::of_parts(-4_000_000_000_000_000_000, 1),
+        )
+        && is_answer(&behind, (50, 10), (10, 30, 40))
+}
+
+#[test]
+fn limits_are_taken(rt: HostRuntime) -> Result<(), Fail> {
+    assert!(rt; takes_limits::<Frac>(rt.alloc()));
+    assert!(rt; takes_limits::<Frac63>(rt.alloc()));
+    Ok(())
+}
+
+#[test]
+fn the_worst_limit_alone(rt: HostRuntime) -> Result<(), Fail> {
+    assert!(rt; takes_the_worst::<Frac>(rt.alloc()));
+    assert!(rt; takes_the_worst::<Frac63>(rt.alloc()));
+    Ok(())
+}
+
+#[test]
+fn nothing_feasible_and_then_something(rt: HostRuntime) -> Result<(), Fail> {
+    assert!(rt; starts_from_infeasible::<Frac>(rt.alloc()));
+    assert!(rt; starts_from_infeasible::<Frac63>(rt.alloc()));
+    Ok(())
+}
+
+#[test]
+fn numbers_too_large(rt: HostRuntime) -> Result<(), Fail> {
+    assert!(rt; is_too_large(rt.alloc()));
+    Ok(())
+}

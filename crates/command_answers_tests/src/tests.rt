@@ -1,0 +1,82 @@
+//! Each command on the case of three buses in a triangle, with a limit of 40 on branch 2.
+
+use command_answers::{
+    Status, Told, check_told, clear_told, make_told, pool_told, replay_told, verify_told,
+};
+use market_inputs::{CheckBytes, ClearBytes};
+use net_case::PostRating;
+use std::process::Abort;
+use std::test::Fail;
+
+const CASE: &[u8] = b"function mpc = t3
+mpc.version = '2';
+mpc.baseMVA = 100;
+mpc.bus = [
+1 3 0 0 0 0 1 1 0 230 1 1.1 0.9;
+2 1 0 0 0 0 1 1 0 230 1 1.1 0.9;
+3 1 60 0 0 0 1 1 0 230 1 1.1 0.9;
+];
+mpc.gen = [
+1 0 0 0 0 1 100 1 100 0;
+2 0 0 0 0 1 100 1 100 0;
+];
+mpc.branch = [
+1 2 0 0.2 0 0 0 0 0 0 1 -360 360;
+1 3 0 0.1 0 40 0 0 0 0 1 -360 360;
+2 3 0 0.1 0 0 0 0 0 0 1 -360 360;
+];
+";
+
+const PTDF: &[u8] =
+    b"branch,bus,factor\n1,2,-0.5\n2,2,-0.5\n3,2,0.5\n1,3,-0.25\n2,3,-0.75\n3,3,-0.25\n";
+
+const OFFERS: &[u8] = b"unit,side,mw,price\n1,sell,100,10\n2,sell,100,30\n";
+
+/// Prices of 40 at the limit.
+const CERTIFICATE: &[u8] =
+    b"{\"blocks\":[\"50000000000/1\",\"10000000000/1\"],\"energy\":\"10000000/1\",\"kind\":\"optimal\",\"limits\":[{\"branch\":2,\"down\":\"0/1\",\"outage\":0,\"up\":\"40000000/1\"}],\"version\":1}";
+
+/// Compares a status, and how the text begins.
+fn expect<R: Abort>(rt: &R, told: &Told, status: Status, start: &[u8]) {
+    assert_eq!(rt; told.status, status);
+    assert!(rt; told.text.starts_with(start));
+}
+
+#[test]
+fn tells_of_each_command(rt: HostRuntime) -> Result<(), Fail> {
+    let alloc = rt.alloc();
+    let bytes = ClearBytes {
+        case: CASE,
+        ptdf: PTDF,
+        lodf: b"branch,outage,factor\n",
+        contingencies: b"branch\n",
+        offers: OFFERS,
+        offsets: b"branch,mw\n",
+    };
+    let grid = CheckBytes {
+        case: CASE,
+        ptdf: PTDF,
+        lodf: b"branch,outage,factor\n",
+        contingencies: b"branch\n",
+    };
+    let edits = b"op,target,side,block,value\nclear,,,,\n";
+    let done = Status::Done;
+    let pooled = pool_told(alloc, CASE, OFFERS)?;
+    expect(&rt, &pooled, done, b"cleared\nwelfare -600\n");
+    let cleared = clear_told(alloc, &bytes, PostRating::C)?;
+    expect(&rt, &cleared, done, b"cleared\nwelfare -800\n");
+    assert!(rt; cleared.certificate.is_some());
+    let replayed = replay_told(alloc, &bytes, PostRating::C, edits)?;
+    expect(&rt, &replayed, done, b"step 1 clear\ncleared\n");
+    let verified = verify_told(alloc, &bytes, PostRating::C, edits, CERTIFICATE)?;
+    expect(&rt, &verified, done, b"yes\n");
+    expect(&rt, &check_told(alloc, &grid)?, done, b"bus most 0 ");
+    let made = make_told(alloc, 4, 7)?;
+    expect(
+        &rt,
+        &made,
+        done,
+        b"ring 4 seed 7 buses 4 blocks 8 limits 16\n",
+    );
+    Ok(())
+}

@@ -1,0 +1,146 @@
+use command_words::{WordsStop, request_of};
+use std::alloc::Global;
+use std::test::Fail;
+
+/// What words ask for, or the first line of the text that says how the program is used.
+fn told(alloc: Global, line: &str) -> Result<String, Fail> {
+    let mut words = Vec::new(alloc);
+    for word in line.split(' ') {
+        words.push(String::from_str(alloc, word)?)?;
+    }
+    match request_of(alloc, words.as_slice()) {
+        Ok(request) => Ok(format!(in alloc; "{request:?}")?),
+        Err(WordsStop::Usage(text)) => {
+            let first = text.lines().next().unwrap_or("");
+            Ok(String::from_str(alloc, first)?)
+        }
+        Err(WordsStop::Memory) => Ok(String::from_str(alloc, "memory")?),
+    }
+}
+
+const TABLE: [(&str, &str); 32] = [
+    (
+        "sced pool --case n.m --offers o.csv",
+        "Pool(PoolFiles { case: \"n.m\", offers: \"o.csv\" })",
+    ),
+    (
+        "sced clear --case n.m --ptdf p --offers o --lodf l --contingencies k --offsets s --post-rating b",
+        "Clear(ClearFiles { market: MarketFiles { case: \"n.m\", ptdf: \"p\", offers: \"o\", lodf: Some(\"l\"), contingencies: Some(\"k\"), offsets: Some(\"s\"), rating: B }, certificate: None })",
+    ),
+    (
+        "sced clear --post-rating=a --offers=o --ptdf=p --case=n.m",
+        "Clear(ClearFiles { market: MarketFiles { case: \"n.m\", ptdf: \"p\", offers: \"o\", lodf: None, contingencies: None, offsets: None, rating: A }, certificate: None })",
+    ),
+    (
+        "sced clear --case n.m --ptdf p --offers o --certificate x",
+        "Clear(ClearFiles { market: MarketFiles { case: \"n.m\", ptdf: \"p\", offers: \"o\", lodf: None, contingencies: None, offsets: None, rating: C }, certificate: Some(\"x\") })",
+    ),
+    (
+        "sced replay --case n.m --ptdf p --offers o --edits e --certificate x --lodf l",
+        "Replay(ReplayFiles { market: MarketFiles { case: \"n.m\", ptdf: \"p\", offers: \"o\", lodf: Some(\"l\"), contingencies: None, offsets: None, rating: C }, edits: \"e\", certificate: Some(\"x\") })",
+    ),
+    (
+        "sced verify --case n.m --ptdf p --offers o --certificate x --post-rating b",
+        "Verify(VerifyFiles { market: MarketFiles { case: \"n.m\", ptdf: \"p\", offers: \"o\", lodf: None, contingencies: None, offsets: None, rating: B }, edits: None, certificate: \"x\" })",
+    ),
+    (
+        "sced verify --case n.m --ptdf p --offers o --certificate x --edits e",
+        "Verify(VerifyFiles { market: MarketFiles { case: \"n.m\", ptdf: \"p\", offers: \"o\", lodf: None, contingencies: None, offsets: None, rating: C }, edits: Some(\"e\"), certificate: \"x\" })",
+    ),
+    (
+        "sced check --case n.m --ptdf p --lodf l",
+        "Check(CheckFiles { case: \"n.m\", ptdf: \"p\", lodf: Some(\"l\"), contingencies: None })",
+    ),
+    ("sced make 4 7", "Make(RingWords { buses: 4, seed: 7 })"),
+    (
+        "sced make 64 4294967295",
+        "Make(RingWords { buses: 64, seed: 4294967295 })",
+    ),
+    (
+        "sced make 16 +007",
+        "Make(RingWords { buses: 16, seed: 7 })",
+    ),
+    ("sced make -- 8 -0", "Make(RingWords { buses: 8, seed: 0 })"),
+    ("sced make 5 7", "error: invalid value '5' for '<N>'"),
+    (
+        "sced make 4 4294967296",
+        "error: invalid value '4294967296' for '<SEED>': 4294967296 is not in 0..=4294967295",
+    ),
+    ("sced make 4 -1", "error: unexpected argument '-1' found"),
+    (
+        "sced make 4 1e3",
+        "error: invalid value '1e3' for '<SEED>': invalid digit found in string",
+    ),
+    (
+        "sced make 4",
+        "error: the following required arguments were not provided:",
+    ),
+    (
+        "sced replay --case n.m --ptdf p --offers o",
+        "error: the following required arguments were not provided:",
+    ),
+    (
+        "sced verify --case n.m --ptdf p --offers o --edits e",
+        "error: the following required arguments were not provided:",
+    ),
+    (
+        "sced clear --case n.m --ptdf p --offers o --edits e",
+        "error: unexpected argument '--edits' found",
+    ),
+    (
+        "sced clear --case n.m --ptdf p",
+        "error: the following required arguments were not provided:",
+    ),
+    (
+        "sced clear --case n.m --ptdf p --offers o --post-rating d",
+        "error: invalid value 'd' for '--post-rating <post-rating>'",
+    ),
+    (
+        "sced clear --case n.m --ptdf p --offers o --lodf l --lodf l",
+        "error: the argument '--lodf <lodf>' cannot be used multiple times",
+    ),
+    (
+        "sced pool --case n.m --offers o --ptdf p",
+        "error: unexpected argument '--ptdf' found",
+    ),
+    (
+        "sced",
+        "error: 'sced' requires a subcommand but one was not provided",
+    ),
+    (
+        "sced --help",
+        "Clears the market of one interval of an electricity network",
+    ),
+    (
+        "sced pool --help",
+        "Clears the market as if no branch had a limit",
+    ),
+    (
+        "sced clear --help",
+        "Clears the market within the limits of the branches, before and after outages",
+    ),
+    (
+        "sced replay --help",
+        "Edits the market step by step, and clears it where a step says so",
+    ),
+    (
+        "sced verify --help",
+        "Tells whether a certificate holds for the market",
+    ),
+    (
+        "sced check --help",
+        "Tells by how much the tables of factors miss the laws of the network",
+    ),
+    (
+        "sced make --help",
+        "Makes a market of buses in a ring, clears it and sums it up",
+    ),
+];
+
+#[test]
+fn words_are_read(rt: HostRuntime) -> Result<(), Fail> {
+    for (line, want) in TABLE {
+        assert_eq!(rt; told(rt.alloc(), line)?.as_str(), want, "{line}");
+    }
+    Ok(())
+}

@@ -1,0 +1,2 @@
+pub mod NewNames
+pub mod KeptColumns
