@@ -93,7 +93,7 @@ left_grown bound m before after (outcome.Cleared a) none is = is.taken
 left_grown bound m before after (outcome.Infeasible f) none is = is.taken
 left_grown bound m before after (outcome.Range p) none is = absurd (none p is.right)
 
--- what is first is decided, and what is behind it where it was
+-- the outcome of a clear is decided
 module _ (m : Parts) (o q : Outcome Fraction) where
   decided_first : (bound : ℕ) (before after : List Row) → IsMarket m → NoPairPasses m before bound → IsClear bound m before q after → Some (step.Clear q) ≡ Some (step.Clear o) → IsDecided m o
   decided_first bound before after market none is same =

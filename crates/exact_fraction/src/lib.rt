@@ -107,6 +107,3 @@ pub trait Exact: Copy {
     /// Numbers of one value are one.
     ghost value_apart: { (x y : Self) → value x ≡ value y → x ≡ y };
 }
-
-#[cfg(test)]
-mod tests;

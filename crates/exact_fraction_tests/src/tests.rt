@@ -1,7 +1,7 @@
 //! What no clause says: numbers at the edges of the two types, texts, and each call once at both types.
 ghost use Rattle.std.specs.Prelude.{◌≤◌};
 
-use crate::{Exact, Frac, Frac63, Op, Passed, Sign};
+use exact_fraction::{Exact, Frac, Frac63, Op, Passed, Sign};
 use std::cmp::Ordering;
 use std::process::Abort;
 
