@@ -14,7 +14,7 @@ use Rattle.cert_format.proofs.FractionLemmas.{IsDigit, OnlyDigits, OnlyDigits-nu
 use Rattle.fraction_theory.specs.Fraction.{Fraction, over, whole, ◌+ℚ◌, ◌*ℚ◌}
 use Rattle.fraction_theory.proofs.FieldLaws.{over-one, whole-+ℚ, whole-*ℚ}
 use Rattle.exact_fraction.specs.Passes.{SumPasses, ProductPasses}
-use Rattle.exact_fraction.proofs.Whole.{whole_fits}
+use Rattle.exact_fraction.proofs.Whole.{alike_fits}
 
 -- ---- digits in front of others
 after_append : (n : ℕ) (xs ys : List ℕ) → digits_value_after 10 n (xs ++ ys) ≡ digits_value_after 10 (digits_value_after 10 n xs) ys
@@ -77,8 +77,8 @@ digit_refused bound v d x t ten ex et passes le =
     let sum : unsigned_abs (x.num +ℤ t.num) ≡ v + d = ap (λ z. unsigned_abs (z +ℤ t.num)) left ∙ ap (λ z. unsigned_abs (pos v +ℤ z)) right in
     let size_left = ap unsigned_abs left in
     let size_right = ap unsigned_abs right in
-    let den = den_by x v ex in
-    whole_fits bound x t den (den_by t d et) (omega (arith, size_left)) (omega (arith, size_right)) (omega (arith, den)) (omega (arith, sum)) passes
+    let den = den_by t d et in
+    alike_fits bound x t (pos t.den) (x.num +ℤ t.num) (den_by x v ex ∙ sym den) refl refl (omega (arith, size_left)) (omega (arith, size_right)) (omega (arith, den)) (omega (arith, sum)) passes
 
 -- ---- the digits of a number, from the place of a loop on
 module _ (n : ℕ) (cs : List ℕ) (are : cs ≡ number_text n) where

@@ -42,7 +42,7 @@ abbrev pub IsPriceRefusal : Parts → Duals Fraction → ℕ → ℕ → Passed 
 IsPriceRefusal m d i bound p = IsCongestionRefusal m d i bound p ⊎ IsRefusedIn (price_terms m d i) bound p
 
 -- ---- the same step by step
--- a product refused, or what it is added to
+-- a refused product, or the refused sum with it
 abbrev pub IsShareRefusal : Fraction → Fraction → Fraction → ℕ → Passed Fraction → Type 0
 IsShareRefusal sum k x bound p = IsRefusal Times k x bound p ⊎ IsRefusal Plus sum (k *ℚ x) bound p
 

@@ -20,7 +20,7 @@ pub(crate) fn datum<N: Exact>(number: i64) -> N
     N::of_parts(number, 1)
 }
 
-/// A sum with the share of a number that a factor in 10^-6 takes. A factor of 0 takes none.
+/// A sum plus a number times a factor, of shift or outage, in 10^-6. A factor of 0 adds nothing.
 pub(crate) fn with_share<N: Exact>(sum: N, factor: i64, number: N) -> Result<N, Passed<N>>
     requires { unsigned_abs factor ≤ most_factor }
     ensures sum { IfOk result (λ more. N.value more ≡ N.value sum +ℚ over factor (10 ^ 6) *ℚ N.value number) }

@@ -50,16 +50,16 @@ IsExactOrNone value bound op left right result = MatchOption result (Passes boun
 abbrev pub IsExact : {N : Type 0} → (N → Fraction) → ℕ → Op → N → N → Result N (Passed N) → Type 0
 IsExact value bound op left right result = MatchResult result (IsOutcome value bound op left right) (IsPassed value bound op left right)
 
--- r is x and the product of a and b, and neither that product nor the sum passes the bound
+-- r is x plus the product of a and b, and neither that product nor the sum passes the bound
 pub record IsSumWith {N : Type 0} (value : N → Fraction) (bound : ℕ) (x a b r : N) : Type 0 where
   pub exact : value r ≡ value x +ℚ value a *ℚ value b
   pub product_fits : ¬ (Passes bound Times (value a) (value b))
   pub sum_fits : ¬ (Passes bound Plus (value x) (value a *ℚ value b))
 
--- e is the product of a and b, which passes the bound, or the sum of x and what that product is
+-- e is the product of a and b, which passes the bound, or else the sum of x and that product, which does
 abbrev pub IsPassedWith : {N : Type 0} → (N → Fraction) → ℕ → N → N → N → Passed N → Type 0
 IsPassedWith {N} value bound x a b e = IsPassed value bound Times a b e ⊎ ((p : N) × (value p ≡ value a *ℚ value b) × IsPassed value bound Plus x p e)
 
--- the exact sum with a product, or, exactly where one of the two operations passes the bound, that one
+-- the exact sum of x and the product of a and b, or, exactly where one of the two operations passes the bound, that one
 abbrev pub IsExactWith : {N : Type 0} → (N → Fraction) → ℕ → N → N → N → Result N (Passed N) → Type 0
 IsExactWith value bound x a b result = MatchResult result (IsSumWith value bound x a b) (IsPassedWith value bound x a b)

@@ -85,10 +85,10 @@ pub trait Exact: Copy {
     fn times(self, other: Self) -> Result<Self, Passed<Self>>
         ensures { IsExact value bound Op.Times self other result };
 
-    /// The exact sum with the product of two numbers, or, exactly where the product or then the sum passes the bound, that
-    /// operation with its two sides.
-    fn plus_product(self, left: Self, right: Self) -> Result<Self, Passed<Self>>
-        ensures { IsExactWith value bound self left right result };
+    /// The exact sum of this number and `first * second`. Exactly where that product passes the bound, or else the sum with
+    /// it, the one that passes, with its two sides.
+    fn plus_product(self, first: Self, second: Self) -> Result<Self, Passed<Self>>
+        ensures { IsExactWith value bound self first second result };
 
     /// Writes the value in units, of which `10^places` are a whole, and gives the length of the text.
     fn write_exact(self, places: u8, buf: &mut [u8; 128]) -> usize

@@ -44,7 +44,7 @@ flow_terms m f r = flow_terms_in m f r.line r.cause
 abbrev pub LawOfRowFlows : Type 0
 LawOfRowFlows = (m : Parts) (x : Dispatch) (fs : List Fraction) (r : Row) → IsMarket m → fs ≡ flows_at m x → Contains (rows m) r → flow_by m (line_in m fs) r ≡ flow m x r
 
--- a product with a factor refused, or what it is added to
+-- a refused product with a factor, or the refused sum with it
 abbrev pub IsShareRefusal : Fraction → Fraction → Fraction → ℕ → Passed Fraction → Type 0
 IsShareRefusal sum k x bound p = IsRefusal Times k x bound p ⊎ IsRefusal Plus sum (k *ℚ x) bound p
 

@@ -9,7 +9,7 @@ ghost use Rattle.market_model.specs.Market.{most_factor};
 
 use exact_fraction::{Exact, Passed};
 
-/// In 10^-6.
+/// A factor of 1, in 10^-6.
 const WHOLE: u64 = 1_000_000;
 
 /// A datum as a number of its units.
@@ -28,7 +28,7 @@ pub fn factor<N: Exact>(number: i64) -> N
     N::of_parts(number, WHOLE)
 }
 
-/// A sum with the share of a number that a factor in 10^-6 takes. A factor of 0 takes none.
+/// A sum plus a number times a factor, of shift or outage, in 10^-6. A factor of 0 adds nothing.
 pub fn with_share<N: Exact>(sum: N, share: i64, number: N) -> Result<N, Passed<N>>
     requires { unsigned_abs share ≤ most_factor }
     ensures sum { IfOk result (λ more. N.value more ≡ N.value sum +ℚ over share (10 ^ 6) *ℚ N.value number) }

@@ -1,13 +1,13 @@
 -- Refused operations of a pivot.
 use Rattle.std.specs.Prelude.{◌≡◌, ◌≢◌, ℕ, ◌<◌}
-use Rattle.std.proofs.Common.{ap, sym, ◌∙◌, subst, subst₂}
+use Rattle.std.proofs.Common.{ap, sym, ◌∙◌, subst, subst₂, inl, inr}
 use mathlib.Core.Path.{ap₂}
 use Rattle.exact_fraction.specs.declared.Op.{Op}
 use Rattle.exact_fraction.specs.declared.Op.TheVariants.{Plus, Times}
 use Rattle.exact_fraction.specs.declared.Passed.{Passed}
-use Rattle.exact_fraction.specs.Passes.{IsPassed, Passes}
+use Rattle.exact_fraction.specs.Passes.{IsPassed, IsPassedWith, Passes}
 use Rattle.fraction_theory.specs.Fraction.{Fraction, ◌*ℚ◌}
-use Rattle.linear_dict.specs.Causes.{OnPassed, ClearOperation, IsRefused, MultipleOperation, PivotOperation, ProductOperation, SolveOperation, divide, scale, add, multiply, increase, product, sum, solving, scaling, adding}
+use Rattle.linear_dict.specs.Causes.{OnPassed, ClearOperation, IsRefused, PivotOperation, SolveOperation, divide, scale, add, solving, scaling, adding}
 use Rattle.linear_dict.specs.declared.adding.AddStop.{AddStop}
 use Rattle.linear_dict.specs.declared.adding.AddStop.TheVariants.{Passed as StoppedBy, Memory as NoMemory}
 use Rattle.linear_dict.specs.Tables.{pivoted_row}
@@ -21,6 +21,14 @@ refused value bound Asked op left right e x y p ex ey a =
       asked = subst (λ (o : Op). Asked o (value e.left) (value e.right)) (sym p.same_op) (subst₂ (Asked op) (sym (el ∙ ex)) (sym (er ∙ ey)) a);
       passes = subst (λ (o : Op). Passes bound o (value e.left) (value e.right)) (sym p.same_op) (subst₂ (Passes bound op) (sym el) (sym er) p.passes);
     }
+
+-- the same of a sum with a product, of which either may be refused
+pub refused_either : {N : Type 0} (value : N → Fraction) (bound : ℕ) (Asked : Op → Fraction → Fraction → Type 0) (number first second : N) (e : Passed N) (x y z : Fraction)
+    → IsPassedWith value bound number first second e → value number ≡ x → value first ≡ y → value second ≡ z → Asked Times y z → Asked Plus x (y *ℚ z) → IsRefused value bound Asked e
+refused_either value bound Asked number first second e x y z h ex ey ez times plus = elim h [
+  | inl p ↦ refused value bound Asked Times first second e y z p ey ez times
+  | inr p ↦ refused value bound Asked Plus number p.0 e x (y *ℚ z) p.2 ex (p.1 ∙ ap₂ ◌*ℚ◌ ey ez) plus
+]
 
 pub refused_as : {N : Type 0} (value : N → Fraction) (bound : ℕ) (Asked Other : Op → Fraction → Fraction → Type 0) (e : Passed N) → ((op : Op) (x y : Fraction) → Asked op x y → Other op x y)
     → IsRefused value bound Asked e → IsRefused value bound Other e
@@ -36,17 +44,6 @@ clear_of_pivot rows columns f g i r c hi n hc row solved _ _ _ (scale j hj) =
     subst₂ (PivotOperation rows columns f r c Times) (sym (row c hc)) (sym (solved j hj)) (scaling i j hi n hj)
 clear_of_pivot rows columns f g i r c hi n hc row solved _ _ _ (add j hj m) =
     subst₂ (PivotOperation rows columns f r c Plus) (sym (row j hj)) (sym (ap₂ ◌*ℚ◌ (row c hc) (solved j hj))) (adding i j hi n hj m)
-
--- what a product asks that is added to an entry of a row that is cleared, or to a sum
-pub clear_of_product : (columns : ℕ) (f : ℕ → ℕ → Fraction) (i r c j : ℕ) → j < columns → j ≢ c → (x a t : Fraction) → x ≡ f i j → a ≡ f i c → t ≡ f r j
-    → (op : Op) (u v : Fraction) → ProductOperation x a t op u v → ClearOperation columns f i r c op u v
-clear_of_product columns f i r c j hj n x a t ex ea et _ _ _ product = subst₂ (ClearOperation columns f i r c Times) (sym ea) (sym et) (scale j hj)
-clear_of_product columns f i r c j hj n x a t ex ea et _ _ _ sum = subst₂ (ClearOperation columns f i r c Plus) (sym ex) (sym (ap₂ ◌*ℚ◌ ea et)) (add j hj n)
-
-pub multiple_of_product : (count : ℕ) (f : ℕ → Fraction) (a : Fraction) (t : ℕ → Fraction) (c : ℕ) → c < count → (x y : Fraction) → x ≡ f c → y ≡ t c
-    → (op : Op) (u v : Fraction) → ProductOperation x a y op u v → MultipleOperation count f a t op u v
-multiple_of_product count f a t c hc x y ex ey _ _ _ product = subst (λ (z : Fraction). MultipleOperation count f a t Times a z) (sym ey) (multiply c hc)
-multiple_of_product count f a t c hc x y ex ey _ _ _ sum = subst₂ (MultipleOperation count f a t Plus) (sym ex) (ap (λ (z : Fraction). a *ℚ z) (sym ey)) (increase c hc)
 
 pub on_passed_as : {N : Type 0} (stop : AddStop N) (P Q : Passed N → Type 0) → ((e : Passed N) → P e → Q e) → OnPassed stop P → OnPassed stop Q
 on_passed_as (StoppedBy e) P Q f h = f e h

@@ -20,11 +20,6 @@ use Rattle.linear_dict.specs.Dictionaries.{AddsRow, Dictionary, system_of, choic
 use Rattle.linear_dict.specs.Places.{place_in}
 use Rattle.linear_dict.specs.Tables.{cell, pivoted_row}
 
--- what a number x to which the product of a and t is added asks
-pub data ProductOperation (x a t : Fraction) : Op → Fraction → Fraction → Type 0 where
-  product : ProductOperation x a t Times a t
-  sum : ProductOperation x a t Plus x (a *ℚ t)
-
 -- what solving row r for column c asks: each other entry, turned, times the inverse of the one there
 pub data SolveOperation (columns : ℕ) (f : ℕ → ℕ → Fraction) (r c : ℕ) : Op → Fraction → Fraction → Type 0 where
   divide : (j : ℕ) → j < columns → j ≢ c → SolveOperation columns f r c Times (neg_ℚ (f r j)) (recip_ℚ (f r c))

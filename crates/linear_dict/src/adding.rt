@@ -10,7 +10,7 @@ ghost use Rattle.linear_dict.specs.Tables.{cell};
 
 use crate::index::Variable;
 use crate::place::Place;
-use crate::product::{is_zero, with_product};
+use crate::zero::is_zero;
 use exact_fraction::{Exact, Passed};
 use plain_list::Memory;
 use std::alloc::Global;
@@ -121,7 +121,7 @@ fn add_multiple<N: Exact>(
     for c in 0..columns {
         let other = table[start + c];
         if !is_zero(other) {
-            let sum = with_product(sums[c], factor, other)?;
+            let sum = sums[c].plus_product(factor, other)?;
             sums[c] = sum;
         }
     }

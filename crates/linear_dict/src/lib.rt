@@ -7,8 +7,8 @@ mod dict;
 mod index;
 mod note;
 mod place;
-mod product;
 mod table;
+mod zero;
 
 pub use adding::AddStop;
 pub use dict::Dict;

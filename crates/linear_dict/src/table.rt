@@ -4,7 +4,7 @@ ghost use Rattle.fraction_theory.specs.Fraction.{whole};
 ghost use Rattle.linear_dict.specs.Causes.{ClearOperation, IsRefused, PivotOperation, SolveOperation};
 ghost use Rattle.linear_dict.specs.Tables.{cell, table_of, pivoted_cell, solved_cell, cleared_cell, Shows};
 
-use crate::product::{is_zero, with_product};
+use crate::zero::is_zero;
 use exact_fraction::{Exact, Passed};
 
 /// Solves a row for the variable of a column: its other entries are divided by the one there and negated, and that one
@@ -65,7 +65,7 @@ fn clear_row<N: Exact>(
     for j in 0..columns {
         let other = table[solved_start + j];
         if j != column && !is_zero(other) {
-            let entry = with_product(table[start + j], factor, other)?;
+            let entry = table[start + j].plus_product(factor, other)?;
             table[start + j] = entry;
         }
     }

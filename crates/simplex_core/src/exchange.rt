@@ -49,8 +49,8 @@ fn note_after<N: Exact>(dict: &Dict<N>, rank: usize, step: &Move<N>) -> Result<N
     let note = dict.note_at(rank);
     match dict.place_at(rank) {
         Place::Row(row) => {
-            let rise = dict.entry(row, step.column).times(step.displacement)?;
-            let value = note.value.plus(rise)?;
+            let entry = dict.entry(row, step.column);
+            let value = note.value.plus_product(entry, step.displacement)?;
             let reduced = N::of_parts(0, 1);
             Ok(Note {
                 value,
@@ -59,8 +59,8 @@ fn note_after<N: Exact>(dict: &Dict<N>, rank: usize, step: &Move<N>) -> Result<N
             })
         }
         Place::Column(column) => {
-            let rise = step.price.times(dict.entry(step.row, column))?;
-            let reduced = note.reduced.plus(rise)?;
+            let entry = dict.entry(step.row, column);
+            let reduced = note.reduced.plus_product(step.price, entry)?;
             if name == step.leaving {
                 let value = step.bound;
                 let at_high = step.above;

@@ -79,8 +79,7 @@ fn add_basic_price<N: Exact>(
         let other = dict.others(column);
         let rank = dict.rank_of(other);
         let note = dict.note_at(rank);
-        let product = price.times(dict.entry(row, column))?;
-        let reduced = note.reduced.plus(product)?;
+        let reduced = note.reduced.plus_product(price, dict.entry(row, column))?;
         dict.set_note_at(rank, Note { reduced, ..note });
     }
     Ok(())
@@ -164,8 +163,7 @@ fn add_bound<N: Exact>(dict: &mut Dict<N>, column: usize, name: u32) -> Result<(
         let basic = dict.basics(row);
         let rank = dict.rank_of(basic);
         let note = dict.note_at(rank);
-        let product = dict.entry(row, column).times(bound)?;
-        let value = note.value.plus(product)?;
+        let value = note.value.plus_product(dict.entry(row, column), bound)?;
         dict.set_note_at(rank, Note { value, ..note });
     }
     Ok(())

@@ -1,11 +1,11 @@
-use Rattle.std.proofs.Common.{◌∙◌, ◌+◌, ℕ, Vec, Global, arith, ap, length, map, subst, sym, ◌≡◌}
+use Rattle.std.proofs.Common.{◌∙◌, ◌+◌, ℕ, Vec, Global, arith, ap, length, map, refl, subst, sym, ◌≡◌}
 use Rattle.std.proofs.lemmas.List.{length-set}
 use Rattle.fraction_theory.specs.Fraction.{Fraction, ◌*ℚ◌}
 use Rattle.linear_dict.specs.Adding.{AreSums}
 use Rattle.linear_dict.specs.Tables.{cell}
 use Rattle.std.proofs.lemmas.Result.{err_from_is_err_and}
-use Rattle.linear_dict.specs.Causes.{MultipleOperation, ProductOperation}
-use Rattle.linear_dict.proofs.CauseLemmas.{multiple_of_product, refused_as}
+use Rattle.linear_dict.specs.Causes.{MultipleOperation, increase, multiply}
+use Rattle.linear_dict.proofs.CauseLemmas.{refused_either}
 use Rattle.linear_dict.proofs.AddingLemmas.{added_to, added-yet, sums_read, added_start, added_keep, added_step, added_end}
 use Rattle.linear_dict.proofs.ProductLemmas.{times_zero}
 use Rattle.linear_dict.proofs.TableLemmas.{cell_read_within}
@@ -30,7 +30,7 @@ loop-c-preserved g c =
           subst (λ (x : Vec g.row.N.Denot Global). (length x.items ≡ n) × ((f : ℕ → Fraction) → AreSums value c.args.sums.now.items n f → AreSums value x.items n (added_to f t (k + 1)))) (sym w.sums-is) (
             length-set c.loop-c.sums.items k w.in_ok-sum.sum ∙ c.loop-c.invariant.0,
             λ f s. added_step value n f t c.loop-c.sums.items k w.index.result.now w.in_ok-sum.sum (a *ℚ value c.index-table-start.result) (c.loop-c.invariant.1 f s) c.loop-c-test.true w.index.ensures
-                (ap (λ (x : Fraction). a *ℚ x) number) w.in_ok-sum.ensures.sum,
+                (ap (λ (x : Fraction). a *ℚ x) number) w.in_ok-sum.ensures.exact,
           )
       | else-not-is_zero w ↦
           subst (λ (x : Vec g.row.N.Denot Global). (length x.items ≡ n) × ((f : ℕ → Fraction) → AreSums value c.args.sums.now.items n f → AreSums value x.items n (added_to f t (k + 1)))) (sym w.sums-is) (
@@ -49,13 +49,11 @@ returns-in_err-sum-clause-cause g c =
     let a : Fraction = value c.args.factor in
     let t : ℕ → Fraction = cell n (map value c.args.table.now) c.args.row in
     let k : ℕ = c.loop-c.c in
-    let x : Fraction = value c.index.result.now in
-    let y : Fraction = value c.index-table-start.result in
-    let number : y ≡ t k = cell_read_within value c.args.table.now n c.args.row k c.index-table-start.result (Prim.omega (arith, c.requires.room, c.loop-c-test.true)) c.index-table-start.is in
+    let number : value c.index-table-start.result ≡ t k = cell_read_within value c.args.table.now n c.args.row k c.index-table-start.result (Prim.omega (arith, c.requires.room, c.loop-c-test.true)) c.index-table-start.is in
     let p = err_from_is_err_and c.from_residual.result c.from_residual.ensures.1 in
     rw (p.1, p.2) (λ f s.
     let u : ℕ → Fraction = λ j. a *ℚ t j in
-    refused_as value g.N.Exact.bound (ProductOperation x a y) (MultipleOperation n f a t) c.in_err-sum.field-0.0
-    (multiple_of_product n f a t k c.loop-c-test.true x y
-    (sums_read value c.loop-c.sums.items n (added_to f u k) k c.index.result.now (c.loop-c.invariant.1 f s) c.loop-c-test.true c.index.ensures ∙ added-yet value n f u k k (Prim.omega arith)) number)
-    c.in_err-sum.ensures.cause)
+    refused_either value g.N.Exact.bound (MultipleOperation n f a t) c.index.result.now c.args.factor c.index-table-start.result c.in_err-sum.field-0.0
+    (f k) a (t k) c.in_err-sum.ensures
+    (sums_read value c.loop-c.sums.items n (added_to f u k) k c.index.result.now (c.loop-c.invariant.1 f s) c.loop-c-test.true c.index.ensures ∙ added-yet value n f u k k (Prim.omega arith)) refl number
+    (multiply k c.loop-c-test.true) (increase k c.loop-c-test.true))

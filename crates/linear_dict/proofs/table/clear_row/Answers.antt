@@ -4,9 +4,9 @@ use Rattle.std.proofs.lemmas.List.{length-map}
 use Rattle.fraction_theory.specs.Fraction.{Fraction, ◌+ℚ◌, ◌*ℚ◌}
 use Rattle.std.proofs.lemmas.Result.{err_from_is_err_and}
 use Rattle.exact_fraction.specs.declared.Op.TheVariants.{Times}
-use Rattle.linear_dict.specs.Causes.{ClearOperation, ProductOperation, scale}
+use Rattle.linear_dict.specs.Causes.{ClearOperation, add, scale}
 use Rattle.linear_dict.specs.Tables.{cell, cleared_cell}
-use Rattle.linear_dict.proofs.CauseLemmas.{clear_of_product, refused, refused_as}
+use Rattle.linear_dict.proofs.CauseLemmas.{refused, refused_either}
 use Rattle.linear_dict.proofs.ProductLemmas.{stays_by_right}
 use Rattle.linear_dict.proofs.TableLemmas.{cell_read_within}
 use Rattle.linear_dict.proofs.PivotLemmas.{clear_nothing, is_stage_start, is_stage_keep, is_stage_skip, is_stage_step, is_stage_end, read_stage, cleared_number, IsStage}
@@ -42,7 +42,7 @@ loop-j-preserved g c =
       | then-j-column+then-not-is_zero+in_ok-entry w ↦
           subst (λ (t : Vec g.row.N.Denot Global). IsStage value columns old t.items number row column (j + 1)) (sym w.table-is)
           (is_stage_step value columns old cur number row column j w.in_ok-entry.entry c.requires.within c.requires.room c.loop-j-test.true w.if-j-column.true
-          (λ rows e. w.in_ok-entry.ensures.sum
+          (λ rows e. w.in_ok-entry.ensures.exact
           ∙ ap₂ ◌+ℚ◌
           (read_stage value columns old cur number row column j row j w.index.result.now
           c.requires.within c.requires.room c.loop-j-test.true (inr (inl (Prim.omega arith))) c.loop-j.invariant w.index.ensures rows e)
@@ -87,17 +87,14 @@ returns-in_err-entry-clause-cause g c =
     let j : ℕ = c.loop-j.j in
     let f : ℕ → ℕ → Fraction = cell columns (map value old) in
     let number : ℕ → Fraction = cleared_number value columns old row solved column in
-    let x : Fraction = value c.index.result.now in
-    let a : Fraction = value c.index-factor.result.now in
-    let t : Fraction = value c.index-other.result.now in
     let p = err_from_is_err_and c.from_residual.result c.from_residual.ensures.1 in
     rw (p.1, p.2) (λ rows e.
-    refused_as value g.N.Exact.bound (ProductOperation x a t) (ClearOperation columns f row solved column) c.in_err-entry.field-0.0
-    (clear_of_product columns f row solved column j c.loop-j-test.true c.if-j-column.true x a t
+    refused_either value g.N.Exact.bound (ClearOperation columns f row solved column) c.index.result.now c.index-factor.result.now c.index-other.result.now c.in_err-entry.field-0.0
+    (f row j) (f row column) (f solved j) c.in_err-entry.ensures
     (read_stage value columns old cur number row column j row j c.index.result.now c.requires.within c.requires.room c.loop-j-test.true (inr (inl (Prim.omega arith))) c.loop-j.invariant c.index.ensures rows e)
     (cell_read_within value old columns row column c.index-factor.result.now (Prim.omega (arith, c.requires.room, c.requires.within)) c.index-factor.ensures)
-    (read_stage value columns old cur number row column j solved j c.index-other.result.now c.requires.within c.requires.solved_room c.loop-j-test.true (inl (λ d. c.requires.other (sym d))) c.loop-j.invariant c.index-other.ensures rows e))
-    c.in_err-entry.ensures.cause)
+    (read_stage value columns old cur number row column j solved j c.index-other.result.now c.requires.within c.requires.solved_room c.loop-j-test.true (inl (λ d. c.requires.other (sym d))) c.loop-j.invariant c.index-other.ensures rows e)
+    (scale j c.loop-j-test.true) (add j c.loop-j-test.true c.if-j-column.true))
 
 pub returns-in_err-last-clause-cause : goal.returns-in_err-last-clause-cause
 returns-in_err-last-clause-cause g c =

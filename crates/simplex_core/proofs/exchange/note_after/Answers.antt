@@ -7,9 +7,8 @@ use Rattle.linear_dict.specs.Dictionaries.{Dictionary, choice_of, entry_of, note
 use Rattle.linear_dict.specs.Notes.{Noted, noted}
 use Rattle.linear_dict.proofs.SplitLemmas.{Contains-at}
 use Rattle.simplex_core.proofs.MoveLemmas.{note_with, moved-basic, moved-leaving, moved-staying}
-use Rattle.exact_fraction.specs.declared.Op.TheVariants.{Plus, Times}
 use Rattle.std.proofs.lemmas.Result.{err_from_is_err_and}
-use Rattle.linear_dict.proofs.CauseLemmas.{refused}
+use Rattle.linear_dict.proofs.CauseLemmas.{refused_either}
 use Rattle.simplex_core.specs.Operations.{MoveOperation, rising, adding_rise, pricing, adding_price}
 use Rattle.simplex_core.proofs.exchange.note_after.Goals as goal
 
@@ -21,9 +20,9 @@ returns-in_ok-value-in-Row-clause-note g c =
     let name : ℕ = slice_index d.names c.args.rank in
     let s = c.args.step.now in
     let n : Noted = noted value c.note_at-note.result in
-    let entry : value c.entry.result ≡ entry_of d name s.leaving = c.entry.ensures.entry ∙ ap₂ (entry_of d) c.in-Row.ensures.1 c.requires.leaving in
+    let entry : value c.entry-entry.result ≡ entry_of d name s.leaving = c.entry-entry.ensures.entry ∙ ap₂ (entry_of d) c.in-Row.ensures.1 c.requires.leaving in
     let moved : value c.in_ok-value-in-Row.value ≡ n.value +ℚ entry_of d name s.leaving *ℚ value s.displacement =
-    c.in_ok-value-in-Row.ensures.exact ∙ ap (λ (t : Fraction). n.value +ℚ t) (c.in_ok-rise-in-Row.ensures.exact ∙ ap (λ (t : Fraction). t *ℚ value s.displacement) entry) in
+    c.in_ok-value-in-Row.ensures.exact ∙ ap (λ (t : Fraction). n.value +ℚ t *ℚ value s.displacement) entry in
     ap₂ (λ (x y : Fraction). note_with n x y n.at_high) moved (c.of_parts-reduced.ensures ∙ over-one (pos 0))
     ∙ ap (λ (m : Noted). note_with m (m.value +ℚ entry_of d name s.leaving *ℚ value s.displacement) (whole (pos 0)) m.at_high) c.note_at-note.ensures
     ∙ sym (moved-basic d c.requires.sound s.leaving s.entering s.above (value s.bound) (value s.displacement) (value s.price) name
@@ -37,9 +36,9 @@ returns-then-name-step-clause-note g c =
     let name : ℕ = slice_index d.names c.args.rank in
     let s = c.args.step.now in
     let n : Noted = noted value c.note_at-note.result in
-    let entry : value c.entry-in-Column.result ≡ entry_of d s.entering name = c.entry-in-Column.ensures.entry ∙ ap₂ (entry_of d) c.requires.entering c.in-Column.ensures.1 in
+    let entry : value c.entry-entry-in-Column.result ≡ entry_of d s.entering name = c.entry-entry-in-Column.ensures.entry ∙ ap₂ (entry_of d) c.requires.entering c.in-Column.ensures.1 in
     let moved : value c.in_ok-reduced-in-Column.reduced ≡ n.reduced +ℚ value s.price *ℚ entry_of d s.entering name =
-    c.in_ok-reduced-in-Column.ensures.exact ∙ ap (λ (t : Fraction). n.reduced +ℚ t) (c.in_ok-rise-in-Column.ensures.exact ∙ ap (λ (t : Fraction). value s.price *ℚ t) entry) in
+    c.in_ok-reduced-in-Column.ensures.exact ∙ ap (λ (t : Fraction). n.reduced +ℚ value s.price *ℚ t) entry in
     ap (λ (x : Fraction). note_with n (value s.bound) x s.above) moved
     ∙ ap (λ (m : Noted). note_with m (value s.bound) (m.reduced +ℚ value s.price *ℚ entry_of d s.entering name) s.above) c.note_at-note.ensures
     ∙ sym (moved-leaving d c.requires.sound s.leaving s.entering s.above (value s.bound) (value s.displacement) (value s.price) name
@@ -53,27 +52,13 @@ returns-else-name-step-clause-note g c =
     let name : ℕ = slice_index d.names c.args.rank in
     let s = c.args.step.now in
     let n : Noted = noted value c.note_at-note.result in
-    let entry : value c.entry-in-Column.result ≡ entry_of d s.entering name = c.entry-in-Column.ensures.entry ∙ ap₂ (entry_of d) c.requires.entering c.in-Column.ensures.1 in
+    let entry : value c.entry-entry-in-Column.result ≡ entry_of d s.entering name = c.entry-entry-in-Column.ensures.entry ∙ ap₂ (entry_of d) c.requires.entering c.in-Column.ensures.1 in
     let moved : value c.in_ok-reduced-in-Column.reduced ≡ n.reduced +ℚ value s.price *ℚ entry_of d s.entering name =
-    c.in_ok-reduced-in-Column.ensures.exact ∙ ap (λ (t : Fraction). n.reduced +ℚ t) (c.in_ok-rise-in-Column.ensures.exact ∙ ap (λ (t : Fraction). value s.price *ℚ t) entry) in
+    c.in_ok-reduced-in-Column.ensures.exact ∙ ap (λ (t : Fraction). n.reduced +ℚ value s.price *ℚ t) entry in
     ap (λ (x : Fraction). note_with n n.value x n.at_high) moved
     ∙ ap (λ (m : Noted). note_with m m.value (m.reduced +ℚ value s.price *ℚ entry_of d s.entering name) m.at_high) c.note_at-note.ensures
     ∙ sym (moved-staying d c.requires.sound s.leaving s.entering s.above (value s.bound) (value s.displacement) (value s.price) name
     (subst (Contains d.others) c.in-Column.ensures.1 (Contains-at d.others c.in-Column.column c.in-Column.ensures.0)) (λ q. c.if-name-step.false (c.ranked-name.ensures ∙ q)))
-
-pub returns-in_err-rise-in-Row-clause-cause : goal.returns-in_err-rise-in-Row-clause-cause
-unfolding choice_of
-returns-in_err-rise-in-Row-clause-cause g c =
-    let value = g.N.Exact.value in
-    let d : Dictionary = c.args.dict.now in
-    let name : ℕ = slice_index d.names c.args.rank in
-    let s = c.args.step.now in
-    let p = err_from_is_err_and c.from_residual.result c.from_residual.ensures.1 in
-    let basic : Contains d.basics name = subst (Contains d.basics) c.in-Row.ensures.1 (Contains-at d.basics c.in-Row.row c.in-Row.ensures.0) in
-    let entry : value c.entry.result ≡ entry_of d name s.leaving = c.entry.ensures.entry ∙ ap₂ (entry_of d) c.in-Row.ensures.1 c.requires.leaving in
-    rw (p.1, p.2)
-    (refused value g.N.Exact.bound (MoveOperation d s.leaving s.entering (value s.displacement) (value s.price) name) Times c.entry.result s.displacement c.in_err-rise-in-Row.field-0.0
-    (entry_of d name s.leaving) (value s.displacement) c.in_err-rise-in-Row.ensures entry refl (rising basic))
 
 pub returns-in_err-value-in-Row-clause-cause : goal.returns-in_err-value-in-Row-clause-cause
 unfolding choice_of
@@ -82,27 +67,12 @@ returns-in_err-value-in-Row-clause-cause g c =
     let d : Dictionary = c.args.dict.now in
     let name : ℕ = slice_index d.names c.args.rank in
     let s = c.args.step.now in
-    let p = err_from_is_err_and c.from_residual-in_err-value-in-Row.result c.from_residual-in_err-value-in-Row.ensures.1 in
+    let p = err_from_is_err_and c.from_residual.result c.from_residual.ensures.1 in
     let basic : Contains d.basics name = subst (Contains d.basics) c.in-Row.ensures.1 (Contains-at d.basics c.in-Row.row c.in-Row.ensures.0) in
-    let entry : value c.entry.result ≡ entry_of d name s.leaving = c.entry.ensures.entry ∙ ap₂ (entry_of d) c.in-Row.ensures.1 c.requires.leaving in
+    let entry : value c.entry-entry.result ≡ entry_of d name s.leaving = c.entry-entry.ensures.entry ∙ ap₂ (entry_of d) c.in-Row.ensures.1 c.requires.leaving in
     rw (p.1, p.2)
-    (refused value g.N.Exact.bound (MoveOperation d s.leaving s.entering (value s.displacement) (value s.price) name) Plus c.note_at-note.result.value c.in_ok-rise-in-Row.rise c.in_err-value-in-Row.field-0.0
-    (note_of d name).value (entry_of d name s.leaving *ℚ value s.displacement) c.in_err-value-in-Row.ensures (ap Noted.value c.note_at-note.ensures)
-    (c.in_ok-rise-in-Row.ensures.exact ∙ ap (λ (t : Fraction). t *ℚ value s.displacement) entry) (adding_rise basic))
-
-pub returns-in_err-rise-in-Column-clause-cause : goal.returns-in_err-rise-in-Column-clause-cause
-unfolding choice_of
-returns-in_err-rise-in-Column-clause-cause g c =
-    let value = g.N.Exact.value in
-    let d : Dictionary = c.args.dict.now in
-    let name : ℕ = slice_index d.names c.args.rank in
-    let s = c.args.step.now in
-    let p = err_from_is_err_and c.from_residual-in_err-rise-in-Column.result c.from_residual-in_err-rise-in-Column.ensures.1 in
-    let other : Contains d.others name = subst (Contains d.others) c.in-Column.ensures.1 (Contains-at d.others c.in-Column.column c.in-Column.ensures.0) in
-    let entry : value c.entry-in-Column.result ≡ entry_of d s.entering name = c.entry-in-Column.ensures.entry ∙ ap₂ (entry_of d) c.requires.entering c.in-Column.ensures.1 in
-    rw (p.1, p.2)
-    (refused value g.N.Exact.bound (MoveOperation d s.leaving s.entering (value s.displacement) (value s.price) name) Times s.price c.entry-in-Column.result c.in_err-rise-in-Column.field-0.0
-    (value s.price) (entry_of d s.entering name) c.in_err-rise-in-Column.ensures refl entry (pricing other))
+    (refused_either value g.N.Exact.bound (MoveOperation d s.leaving s.entering (value s.displacement) (value s.price) name) c.note_at-note.result.value c.entry-entry.result s.displacement c.in_err-value-in-Row.field-0.0
+    (note_of d name).value (entry_of d name s.leaving) (value s.displacement) c.in_err-value-in-Row.ensures (ap Noted.value c.note_at-note.ensures) entry refl (rising basic) (adding_rise basic))
 
 pub returns-in_err-reduced-in-Column-clause-cause : goal.returns-in_err-reduced-in-Column-clause-cause
 unfolding choice_of
@@ -113,8 +83,7 @@ returns-in_err-reduced-in-Column-clause-cause g c =
     let s = c.args.step.now in
     let p = err_from_is_err_and c.from_residual-in_err-reduced-in-Column.result c.from_residual-in_err-reduced-in-Column.ensures.1 in
     let other : Contains d.others name = subst (Contains d.others) c.in-Column.ensures.1 (Contains-at d.others c.in-Column.column c.in-Column.ensures.0) in
-    let entry : value c.entry-in-Column.result ≡ entry_of d s.entering name = c.entry-in-Column.ensures.entry ∙ ap₂ (entry_of d) c.requires.entering c.in-Column.ensures.1 in
+    let entry : value c.entry-entry-in-Column.result ≡ entry_of d s.entering name = c.entry-entry-in-Column.ensures.entry ∙ ap₂ (entry_of d) c.requires.entering c.in-Column.ensures.1 in
     rw (p.1, p.2)
-    (refused value g.N.Exact.bound (MoveOperation d s.leaving s.entering (value s.displacement) (value s.price) name) Plus c.note_at-note.result.reduced c.in_ok-rise-in-Column.rise c.in_err-reduced-in-Column.field-0.0
-    (note_of d name).reduced (value s.price *ℚ entry_of d s.entering name) c.in_err-reduced-in-Column.ensures (ap Noted.reduced c.note_at-note.ensures)
-    (c.in_ok-rise-in-Column.ensures.exact ∙ ap (λ (t : Fraction). value s.price *ℚ t) entry) (adding_price other))
+    (refused_either value g.N.Exact.bound (MoveOperation d s.leaving s.entering (value s.displacement) (value s.price) name) c.note_at-note.result.reduced s.price c.entry-entry-in-Column.result c.in_err-reduced-in-Column.field-0.0
+    (note_of d name).reduced (value s.price) (entry_of d s.entering name) c.in_err-reduced-in-Column.ensures (ap Noted.reduced c.note_at-note.ensures) refl entry (pricing other) (adding_price other))

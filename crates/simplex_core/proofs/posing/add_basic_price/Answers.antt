@@ -1,12 +1,11 @@
 use Rattle.std.proofs.Common.{◌≡◌, ◌<◌, ◌∙◌, ℕ, arith, ap, sym, subst, length, slice_index, inl, inr, refl}
 use Rattle.std.specs.List.{Contains}
 use mathlib.Core.Path.{ap₂}
-use Rattle.exact_fraction.specs.declared.Op.TheVariants.{Plus, Times}
 use Rattle.fraction_theory.specs.Fraction.{◌+ℚ◌, ◌*ℚ◌}
 use Rattle.linear_system.proofs.ChoiceLaws.{column_entry-basic}
 use Rattle.linear_dict.specs.Dictionaries.{Dictionary, choice_of, note_of, system_of, with_note}
 use Rattle.linear_dict.specs.Notes.{Noted, noted}
-use Rattle.linear_dict.proofs.CauseLemmas.{refused}
+use Rattle.linear_dict.proofs.CauseLemmas.{refused_either}
 use Rattle.linear_dict.proofs.SplitLemmas.{Contains-at}
 use Rattle.std.proofs.lemmas.Result.{err_from_is_err_and}
 use Rattle.simplex_core.specs.Operations.{PriceOperation, scaling_price, adding_scaled}
@@ -54,7 +53,7 @@ loop-column-preserved g c =
     putting_step d s d.others f s.split.second_distinct s.split.second_named k e m n c.set_note_at.new.self hk
     (c.set_note_at.ensures ∙ ap (λ (x : ℕ). with_note e x n) (c.rank_of-rank.ensures.name ∙ name))
     (ap₂ with_reduced note (c.in_ok-reduced.ensures.exact ∙ ap₂ ◌+ℚ◌ (ap Noted.reduced note)
-    (c.in_ok-product.ensures.exact ∙ ap₂ ◌*ℚ◌ c.requires.price (entry ∙ sym (column_entry-basic (choice_of d) j w (choice_basic d s j basic)))))
+    (ap₂ ◌*ℚ◌ c.requires.price (entry ∙ sym (column_entry-basic (choice_of d) j w (choice_basic d s j basic)))))
     ∙ sym (price_added-other d s w j (Contains-at d.others k hk)))
 
 pub returns-clause-notes : goal.returns-clause-notes
@@ -70,22 +69,6 @@ returns-clause-notes g c =
       | inl b ↦ sym (price_added-basic d s w j b)
       | inr o ↦ absurd (apart o)
     ])
-
-pub returns-in_err-product-clause-cause : goal.returns-in_err-product-clause-cause
-returns-in_err-product-clause-cause g c =
-    let value = g.N.Exact.value in
-    let d : Dictionary = c.args.dict.now in
-    let j : ℕ = c.args.name in
-    let k : ℕ = c.loop-column.column in
-    let w : ℕ = slice_index d.others k in
-    let m = c.loop-column.invariant in
-    let hk : k < length d.others = Prim.omega (arith, c.loop-column-test.true, c.column_count-column-end.ensures) in
-    let basic : Contains d.basics j = subst (Contains d.basics) c.requires.name (Contains-at d.basics c.args.row c.requires.row) in
-    let entry : value c.entry.result ≡ (choice_of d).entry j w = c.entry.ensures.entry ∙ entry_read d c.loop-column.dict m.notes m.is c.args.row k j w c.requires.name refl in
-    let p = err_from_is_err_and c.from_residual.result c.from_residual.ensures.1 in
-    rw (p.1, p.2)
-    (refused value g.N.Exact.bound (PriceOperation d j) Times c.args.price c.entry.result c.in_err-product.field-0.0
-    ((system_of d).price j) ((choice_of d).entry j w) c.in_err-product.ensures c.requires.price entry (scaling_price w basic (Contains-at d.others k hk)))
 
 pub returns-in_err-reduced-clause-cause : goal.returns-in_err-reduced-clause-cause
 returns-in_err-reduced-clause-cause g c =
@@ -103,8 +86,8 @@ returns-in_err-reduced-clause-cause g c =
     let name : c.others-other.result ≡ w = c.others-other.ensures ∙ ap (λ (x : Dictionary). slice_index x.others k) m.is in
     let note : noted value c.note_at-note.result ≡ note_of d w = c.note_at-note.ensures ∙ ap (note_of e) (c.rank_of-rank.ensures.name ∙ name) ∙ putting_note d s d.others f s.split.second_distinct s.split.second_named k e m hk in
     let entry : value c.entry.result ≡ (choice_of d).entry j w = c.entry.ensures.entry ∙ entry_read d e m.notes m.is c.args.row k j w c.requires.name refl in
-    let p = err_from_is_err_and c.from_residual-in_err-reduced.result c.from_residual-in_err-reduced.ensures.1 in
+    let p = err_from_is_err_and c.from_residual.result c.from_residual.ensures.1 in
     rw (p.1, p.2)
-    (refused value g.N.Exact.bound (PriceOperation d j) Plus c.note_at-note.result.reduced c.in_ok-product.product c.in_err-reduced.field-0.0
-    (note_of d w).reduced ((system_of d).price j *ℚ (choice_of d).entry j w) c.in_err-reduced.ensures (ap Noted.reduced note)
-    (c.in_ok-product.ensures.exact ∙ ap₂ ◌*ℚ◌ c.requires.price entry) (adding_scaled w basic (Contains-at d.others k hk)))
+    (refused_either value g.N.Exact.bound (PriceOperation d j) c.note_at-note.result.reduced c.args.price c.entry.result c.in_err-reduced.field-0.0
+    (note_of d w).reduced ((system_of d).price j) ((choice_of d).entry j w) c.in_err-reduced.ensures (ap Noted.reduced note) c.requires.price entry
+    (scaling_price w basic (Contains-at d.others k hk)) (adding_scaled w basic (Contains-at d.others k hk)))

@@ -1,14 +1,13 @@
 use Rattle.std.proofs.Common.{◌≡◌, ◌<◌, ◌∙◌, ℕ, arith, ap, sym, subst, length, slice_index, inl, inr, refl}
 use Rattle.std.specs.List.{Contains}
 use mathlib.Core.Path.{ap₂}
-use Rattle.exact_fraction.specs.declared.Op.TheVariants.{Plus, Times}
 use Rattle.fraction_theory.specs.Fraction.{◌+ℚ◌, ◌*ℚ◌}
 use Rattle.fraction_theory.specs.declared.Sign.TheVariants.{Zero}
 use Rattle.fraction_theory.proofs.SignLaws.{sign_of_is}
 use Rattle.linear_system.specs.Choices.{at_bound}
 use Rattle.linear_dict.specs.Dictionaries.{Dictionary, choice_of, note_of, system_of, with_note}
 use Rattle.linear_dict.specs.Notes.{Noted, noted}
-use Rattle.linear_dict.proofs.CauseLemmas.{refused}
+use Rattle.linear_dict.proofs.CauseLemmas.{refused_either}
 use Rattle.linear_dict.proofs.SplitLemmas.{Contains-at}
 use Rattle.std.proofs.lemmas.Result.{err_from_is_err_and}
 use Rattle.simplex_core.specs.Operations.{BoundOperation, scaling_bound, adding_bound}
@@ -72,7 +71,7 @@ loop-row-preserved g c =
     let n : Noted = with_value (noted value c.note_at-note.result) (value c.in_ok-value.value) in
     putting_step d s d.basics f s.split.first_distinct s.split.first_named k e m n c.set_note_at.new.self hk
     (c.set_note_at.ensures ∙ ap (λ (x : ℕ). with_note e x n) (c.rank_of-rank.ensures.name ∙ name))
-    (ap₂ with_value note (c.in_ok-value.ensures.exact ∙ ap₂ ◌+ℚ◌ (ap Noted.value note) (c.in_ok-product.ensures.exact ∙ ap₂ ◌*ℚ◌ entry stands))
+    (ap₂ with_value note (c.in_ok-value.ensures.exact ∙ ap₂ ◌+ℚ◌ (ap Noted.value note) (ap₂ ◌*ℚ◌ entry stands))
     ∙ sym (bound_added-basic d s b w (Contains-at d.basics k hk)))
 
 pub returns-clause-notes : goal.returns-clause-notes
@@ -88,22 +87,6 @@ returns-clause-notes g c =
       | inl m ↦ absurd (apart m)
       | inr o ↦ sym (bound_added-other d s b w o)
     ])
-
-pub returns-in_err-product-clause-cause : goal.returns-in_err-product-clause-cause
-returns-in_err-product-clause-cause g c =
-    let value = g.N.Exact.value in
-    let d : Dictionary = c.args.dict.now in
-    let w : ℕ = c.args.name in
-    let k : ℕ = c.loop-row.row in
-    let b : ℕ = slice_index d.basics k in
-    let m = c.loop-row.invariant in
-    let hk : k < length d.basics = Prim.omega (arith, c.loop-row-test.true, c.row_count-row-end.ensures) in
-    let entry : value c.entry.result ≡ (choice_of d).entry b w = c.entry.ensures.entry ∙ entry_read d c.loop-row.dict m.notes m.is k c.args.column b w refl c.requires.name in
-    let stands : value c.bound_on-bound.result ≡ at_bound (system_of d) (choice_of d) w = stand_is value d w c.note-at.result c.bound_on-bound.result c.note-at.ensures c.bound_on-bound.ensures in
-    let p = err_from_is_err_and c.from_residual.result c.from_residual.ensures.1 in
-    rw (p.1, p.2)
-    (refused value g.N.Exact.bound (BoundOperation d w) Times c.entry.result c.bound_on-bound.result c.in_err-product.field-0.0
-    ((choice_of d).entry b w) (at_bound (system_of d) (choice_of d) w) c.in_err-product.ensures entry stands (scaling_bound b (Contains-at d.basics k hk)))
 
 pub returns-in_err-value-clause-cause : goal.returns-in_err-value-clause-cause
 returns-in_err-value-clause-cause g c =
@@ -121,8 +104,8 @@ returns-in_err-value-clause-cause g c =
     let note : noted value c.note_at-note.result ≡ note_of d b = c.note_at-note.ensures ∙ ap (note_of e) (c.rank_of-rank.ensures.name ∙ name) ∙ putting_note d s d.basics f s.split.first_distinct s.split.first_named k e m hk in
     let entry : value c.entry.result ≡ (choice_of d).entry b w = c.entry.ensures.entry ∙ entry_read d e m.notes m.is k c.args.column b w refl c.requires.name in
     let stands : value c.bound_on-bound.result ≡ at_bound (system_of d) (choice_of d) w = stand_is value d w c.note-at.result c.bound_on-bound.result c.note-at.ensures c.bound_on-bound.ensures in
-    let p = err_from_is_err_and c.from_residual-in_err-value.result c.from_residual-in_err-value.ensures.1 in
+    let p = err_from_is_err_and c.from_residual.result c.from_residual.ensures.1 in
     rw (p.1, p.2)
-    (refused value g.N.Exact.bound (BoundOperation d w) Plus c.note_at-note.result.value c.in_ok-product.product c.in_err-value.field-0.0
-    (note_of d b).value ((choice_of d).entry b w *ℚ at_bound (system_of d) (choice_of d) w) c.in_err-value.ensures (ap Noted.value note)
-    (c.in_ok-product.ensures.exact ∙ ap₂ ◌*ℚ◌ entry stands) (adding_bound b (Contains-at d.basics k hk)))
+    (refused_either value g.N.Exact.bound (BoundOperation d w) c.note_at-note.result.value c.entry.result c.bound_on-bound.result c.in_err-value.field-0.0
+    (note_of d b).value ((choice_of d).entry b w) (at_bound (system_of d) (choice_of d) w) c.in_err-value.ensures (ap Noted.value note) entry stands
+    (scaling_bound b (Contains-at d.basics k hk)) (adding_bound b (Contains-at d.basics k hk)))
