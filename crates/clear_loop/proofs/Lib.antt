@@ -7,4 +7,3 @@ pub mod PosingLemmas
 pub mod SolvedLemmas
 pub mod StartLemmas
 pub mod StopLemmas
-pub mod TestMarkets

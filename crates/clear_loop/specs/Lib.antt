@@ -4,4 +4,3 @@ pub mod Keeping
 pub mod Laws
 pub mod Rounds
 pub mod Starts
-pub mod Worked

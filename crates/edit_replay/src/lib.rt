@@ -9,6 +9,3 @@ mod step_outcome;
 pub use edit_table::{Step, StepFault, Steps, steps};
 pub use session::Session;
 pub use step_outcome::{Outcomes, StepOutcome};
-
-#[cfg(test)]
-mod tests;

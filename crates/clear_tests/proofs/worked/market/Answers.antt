@@ -2,8 +2,8 @@ use Rattle.std.proofs.Common.{◌≡◌, w64}
 use mir.Val.{to_z, of_z}
 use Rattle.std.proofs.lemmas.Int.{to_z-of_z}
 use Rattle.market_data.proofs.Data.{datum_fits}
-use Rattle.clear_loop.proofs.TestMarkets.{worked_is_market}
-use Rattle.clear_loop_tests.proofs.tests.market.Goals as goal
+use Rattle.clear_tests.proofs.WorkedMarkets.{worked_is_market}
+use Rattle.clear_tests.proofs.worked.market.Goals as goal
 
 pub assemble-requires : goal.assemble-requires
 assemble-requires c =

@@ -15,7 +15,7 @@ use Rattle.market_model.specs.Market.{IsMarket, IsBlock, IsLine, HasRoom}
 use Rattle.market_model.specs.Stairs.{stair_in}
 use Rattle.limit_rows.proofs.TestMarkets.{one_is_market}
 use Rattle.clear_loop.specs.Keeping.{Kept, FitsFrame}
-use Rattle.clear_loop.specs.Worked.{IsWorkable, block_of, bus_of, framed, line_free, line_limited, unit_of, worked}
+use Rattle.clear_tests.specs.Worked.{IsWorkable, block_of, bus_of, framed, line_free, line_limited, unit_of, worked}
 use Rattle.clear_loop.proofs.FrameLemmas.{law_of_the_start}
 
 module _ (base post first second load : ℤ) where

@@ -1,184 +1,18 @@
-//! Worked cases, at both types: two units that sell 100 MW each at buses 1 and 2, a load and a shunt of 10 at bus 3, and branch 2 with a limit
-//! in the base and one after the loss of branch 1, all of whose flow goes over to it.
+//! Clears one after another, at both types.
 
-ghost use Rattle.std.specs.Prelude.{◌≡◌, [], ◌∷◌, pos, negsuc, true, None, Some, IfOk, IfSome};
-ghost use Rattle.market_model.specs.declared.participants.Side.TheVariants as side;
+ghost use Rattle.std.specs.Prelude.{IfSome};
 ghost use Rattle.clear_loop.specs.Keeping.{FitsFrame};
-ghost use Rattle.clear_loop.specs.Worked.{IsWorkable, framed, worked};
+ghost use Rattle.clear_tests.specs.Worked.{framed};
 
+use crate::worked::{Data, LIMITED, is, is_workable, market};
 use clear_loop::{ClearFault, Clearer};
 use exact_fraction::{Exact, Frac, Frac63, Op};
-use market_model::{
-    Answer, Block, Bus, Factor, Line, List, Market, Memory, Parts, RowId, Side, Unit, assemble,
-};
+use market_model::{Answer, RowId};
 use std::alloc::Global;
 use std::cmp::Ordering;
 use std::test::Fail;
 
 type Cleared<N> = Result<Answer<N>, ClearFault<N>>;
-
-/// The numbers of the market that are edited: MW in 10^-9 and prices in 10^-6.
-#[derive(Clone, Copy)]
-struct Data {
-    base: i64,
-    post: i64,
-    first: i64,
-    second: i64,
-    load: i64,
-}
-
-/// The limit of 40 in the base alone: that after an outage is far off.
-const LIMITED: Data = Data {
-    base: 40_000_000_000,
-    post: 1_000_000_000_000,
-    first: 10_000_000,
-    second: 30_000_000,
-    load: 50_000_000_000,
-};
-
-fn buses(alloc: Global, load: i64) -> Result<List<Bus>, Memory>
-    ensures { IfOk result (λ list. list ≡ record { number = 1; pd = pos 0; gs = pos 0 } ∷ record { number = 2; pd = pos 0; gs = pos 0 } ∷ record { number = 3; pd = load; gs = pos 10000000000 } ∷ []) }
-{
-    let mut list = List::new(alloc);
-    list.push(Bus {
-        number: 1,
-        pd: 0,
-        gs: 0,
-    })?;
-    list.push(Bus {
-        number: 2,
-        pd: 0,
-        gs: 0,
-    })?;
-    list.push(Bus {
-        number: 3,
-        pd: load,
-        gs: 10_000_000_000,
-    })?;
-    Ok(list)
-}
-
-fn units(alloc: Global) -> Result<List<Unit>, Memory>
-    ensures { IfOk result (λ list. list ≡ record { row = 1; bus = 0; fixed = pos 0; up = pos 100000000000; down = pos 0 } ∷ record { row = 2; bus = 1; fixed = pos 0; up = pos 100000000000; down = pos 0 } ∷ []) }
-{
-    let mut list = List::new(alloc);
-    list.push(Unit {
-        row: 1,
-        bus: 0,
-        fixed: 0,
-        up: 100_000_000_000,
-        down: 0,
-    })?;
-    list.push(Unit {
-        row: 2,
-        bus: 1,
-        fixed: 0,
-        up: 100_000_000_000,
-        down: 0,
-    })?;
-    Ok(list)
-}
-
-fn blocks(alloc: Global, first: i64, second: i64) -> Result<List<Block>, Memory>
-    ensures { IfOk result (λ list. list ≡ record { unit = 0; side = side.Sell; quantity = pos 100000000000; price = first } ∷ record { unit = 1; side = side.Sell; quantity = pos 100000000000; price = second } ∷ []) }
-{
-    let mut list = List::new(alloc);
-    list.push(Block {
-        unit: 0,
-        side: Side::Sell,
-        quantity: 100_000_000_000,
-        price: first,
-    })?;
-    list.push(Block {
-        unit: 1,
-        side: Side::Sell,
-        quantity: 100_000_000_000,
-        price: second,
-    })?;
-    Ok(list)
-}
-
-fn line(row: u32, base: Option<i64>, post: Option<i64>) -> Line
-    ensures { result ≡ record { row = row; base = base; post = post; offset = pos 0 } }
-{
-    Line {
-        row,
-        base,
-        post,
-        offset: 0,
-    }
-}
-
-fn lines(alloc: Global, base: i64, post: i64) -> Result<List<Line>, Memory>
-    ensures { IfOk result (λ list. list ≡ record { row = 1; base = None; post = None; offset = pos 0 } ∷ record { row = 2; base = Some base; post = Some post; offset = pos 0 } ∷ record { row = 3; base = None; post = None; offset = pos 0 } ∷ []) }
-{
-    let mut list = List::new(alloc);
-    list.push(line(1, None, None))?;
-    list.push(line(2, Some(base), Some(post)))?;
-    list.push(line(3, None, None))?;
-    Ok(list)
-}
-
-fn factor_for(line: usize, of: usize, value: i64) -> Factor
-    ensures { result ≡ record { line = line; of = of; value = value } }
-{
-    Factor { line, of, value }
-}
-
-fn shift_factors(alloc: Global) -> Result<List<Factor>, Memory>
-    ensures { IfOk result (λ list. list ≡ record { line = 0; of = 1; value = negsuc 499999 } ∷ record { line = 0; of = 2; value = negsuc 249999 } ∷ record { line = 1; of = 1; value = negsuc 499999 } ∷ record { line = 1; of = 2; value = negsuc 749999 } ∷ []) }
-{
-    let mut list = List::new(alloc);
-    list.push(factor_for(0, 1, -500_000))?;
-    list.push(factor_for(0, 2, -250_000))?;
-    list.push(factor_for(1, 1, -500_000))?;
-    list.push(factor_for(1, 2, -750_000))?;
-    Ok(list)
-}
-
-fn loss_factors(alloc: Global) -> Result<List<Factor>, Memory>
-    ensures { IfOk result (λ list. list ≡ record { line = 1; of = 0; value = pos 1000000 } ∷ []) }
-{
-    let mut list = List::new(alloc);
-    list.push(factor_for(1, 0, 1_000_000))?;
-    Ok(list)
-}
-
-fn outages(alloc: Global) -> Result<List<u32>, Memory>
-    ensures { IfOk result (λ list. list ≡ 1 ∷ []) }
-{
-    let mut list = List::new(alloc);
-    list.push(1)?;
-    Ok(list)
-}
-
-/// The market with these numbers.
-fn market(alloc: Global, numbers: Data) -> Result<Market, Memory>
-    requires { IsWorkable numbers.base numbers.post numbers.first numbers.second numbers.load }
-    ensures { IfOk result (λ market. market ≡ worked numbers.base numbers.post numbers.first numbers.second numbers.load) }
-{
-    let parts = Parts {
-        buses: buses(alloc, numbers.load)?,
-        units: units(alloc)?,
-        blocks: blocks(alloc, numbers.first, numbers.second)?,
-        lines: lines(alloc, numbers.base, numbers.post)?,
-        outages: outages(alloc)?,
-        shift: shift_factors(alloc)?,
-        loss: loss_factors(alloc)?,
-    };
-    assemble(alloc, parts)
-}
-
-/// Whether limits are at least 0, and no number is the least of its type.
-fn is_workable(numbers: &Data) -> bool
-    ensures { result ≡ true → IsWorkable numbers.now.base numbers.now.post numbers.now.first numbers.now.second numbers.now.load }
-{
-    numbers.base >= 0
-        && numbers.post >= 0
-        && numbers.first > i64::MIN
-        && numbers.second > i64::MIN
-        && numbers.load > i64::MIN
-}
 
 /// One clear with these numbers.
 fn clear<N: Exact>(clearer: &mut Clearer<N>, alloc: Global, numbers: Data) -> Cleared<N>
@@ -192,10 +26,6 @@ fn clear<N: Exact>(clearer: &mut Clearer<N>, alloc: Global, numbers: Data) -> Cl
         Ok(market) => clearer.clear(alloc, &market),
         Err(_) => Err(ClearFault::Memory),
     }
-}
-
-fn is<N: Exact>(value: N, whole: i32, units: u32) -> bool {
-    value.order(N::of_parts(i64::from(whole) * i64::from(units), 1)) == Ordering::Equal
 }
 
 /// Whether a market is cleared with these MW of its blocks and whole prices at its buses.

@@ -1,17 +1,13 @@
-//! A worked case at both types: two units that sell 100 MW each at buses 1 and 2, for 10 and for 30, a load of 50 and a shunt of 10 at bus 3,
-//! and a limit of 40 on branch 2.
+//! Clears between edits of the market with the limit of 40, at both types.
 
-ghost use Rattle.std.specs.Prelude.{◌≡◌, [], ◌∷◌, pos, negsuc, All, Some, None, IfOk};
-ghost use Rattle.market_model.specs.declared.participants.Side.TheVariants as side;
+ghost use Rattle.std.specs.Prelude.{◌≡◌, All, IfOk};
 ghost use Rattle.offer_book.specs.Edits.{number_of};
 ghost use Rattle.edit_table.specs.EditTable.{IsStep};
 
-use crate::{Session, Step, StepOutcome, Steps};
+use crate::worked::{is, limited};
+use edit_replay::{Session, Step, StepOutcome, Steps};
 use exact_fraction::{Exact, Frac, Frac63, Op};
-use market_model::{
-    Answer, Block, Bus, Factor, Line, List, Market, Memory, Outcome, Parts, RowId, Side, Unit,
-    assemble,
-};
+use market_model::{Answer, List, Memory, Outcome, RowId, Side};
 use offer_book::{Edit, EditFault};
 use std::alloc::Global;
 use std::cmp::Ordering;
@@ -20,135 +16,6 @@ use std::test::Fail;
 const MW: i64 = 1_000_000_000;
 
 const PRICE: i64 = 1_000_000;
-
-fn buses(alloc: Global) -> Result<List<Bus>, Memory>
-    ensures { IfOk result (λ list. list ≡ record { number = 1; pd = pos 0; gs = pos 0 } ∷ record { number = 2; pd = pos 0; gs = pos 0 } ∷ record { number = 3; pd = pos 50000000000; gs = pos 10000000000 } ∷ []) }
-{
-    let mut list = List::new(alloc);
-    list.push(Bus {
-        number: 1,
-        pd: 0,
-        gs: 0,
-    })?;
-    list.push(Bus {
-        number: 2,
-        pd: 0,
-        gs: 0,
-    })?;
-    list.push(Bus {
-        number: 3,
-        pd: 50 * MW,
-        gs: 10 * MW,
-    })?;
-    Ok(list)
-}
-
-fn units(alloc: Global) -> Result<List<Unit>, Memory>
-    ensures { IfOk result (λ list. list ≡ record { row = 1; bus = 0; fixed = pos 0; up = pos 100000000000; down = pos 0 } ∷ record { row = 2; bus = 1; fixed = pos 0; up = pos 100000000000; down = pos 0 } ∷ []) }
-{
-    let mut list = List::new(alloc);
-    list.push(Unit {
-        row: 1,
-        bus: 0,
-        fixed: 0,
-        up: 100 * MW,
-        down: 0,
-    })?;
-    list.push(Unit {
-        row: 2,
-        bus: 1,
-        fixed: 0,
-        up: 100 * MW,
-        down: 0,
-    })?;
-    Ok(list)
-}
-
-fn blocks(alloc: Global) -> Result<List<Block>, Memory>
-    ensures { IfOk result (λ list. list ≡ record { unit = 0; side = side.Sell; quantity = pos 100000000000; price = pos 10000000 } ∷ record { unit = 1; side = side.Sell; quantity = pos 100000000000; price = pos 30000000 } ∷ []) }
-{
-    let mut list = List::new(alloc);
-    list.push(Block {
-        unit: 0,
-        side: Side::Sell,
-        quantity: 100 * MW,
-        price: 10 * PRICE,
-    })?;
-    list.push(Block {
-        unit: 1,
-        side: Side::Sell,
-        quantity: 100 * MW,
-        price: 30 * PRICE,
-    })?;
-    Ok(list)
-}
-
-fn line(row: u32, base: Option<i64>, post: Option<i64>) -> Line
-    ensures { result ≡ record { row = row; base = base; post = post; offset = pos 0 } }
-{
-    Line {
-        row,
-        base,
-        post,
-        offset: 0,
-    }
-}
-
-fn lines(alloc: Global) -> Result<List<Line>, Memory>
-    ensures { IfOk result (λ list. list ≡ record { row = 1; base = None; post = None; offset = pos 0 } ∷ record { row = 2; base = Some (pos 40000000000); post = Some (pos 1000000000000); offset = pos 0 } ∷ record { row = 3; base = None; post = None; offset = pos 0 } ∷ []) }
-{
-    let mut list = List::new(alloc);
-    list.push(line(1, None, None))?;
-    list.push(line(2, Some(40 * MW), Some(1_000 * MW)))?;
-    list.push(line(3, None, None))?;
-    Ok(list)
-}
-
-fn factor_for(line: usize, of: usize, value: i64) -> Factor
-    ensures { result ≡ record { line = line; of = of; value = value } }
-{
-    Factor { line, of, value }
-}
-
-fn shift_factors(alloc: Global) -> Result<List<Factor>, Memory>
-    ensures { IfOk result (λ list. list ≡ record { line = 0; of = 1; value = negsuc 499999 } ∷ record { line = 0; of = 2; value = negsuc 249999 } ∷ record { line = 1; of = 1; value = negsuc 499999 } ∷ record { line = 1; of = 2; value = negsuc 749999 } ∷ []) }
-{
-    let mut list = List::new(alloc);
-    list.push(factor_for(0, 1, -500_000))?;
-    list.push(factor_for(0, 2, -250_000))?;
-    list.push(factor_for(1, 1, -500_000))?;
-    list.push(factor_for(1, 2, -750_000))?;
-    Ok(list)
-}
-
-fn loss_factors(alloc: Global) -> Result<List<Factor>, Memory>
-    ensures { IfOk result (λ list. list ≡ record { line = 1; of = 0; value = pos 1000000 } ∷ []) }
-{
-    let mut list = List::new(alloc);
-    list.push(factor_for(1, 0, 1_000_000))?;
-    Ok(list)
-}
-
-fn outages(alloc: Global) -> Result<List<u32>, Memory>
-    ensures { IfOk result (λ list. list ≡ 1 ∷ []) }
-{
-    let mut list = List::new(alloc);
-    list.push(1)?;
-    Ok(list)
-}
-
-fn market(alloc: Global) -> Result<Market, Memory> {
-    let parts = Parts {
-        buses: buses(alloc)?,
-        units: units(alloc)?,
-        blocks: blocks(alloc)?,
-        lines: lines(alloc)?,
-        outages: outages(alloc)?,
-        shift: shift_factors(alloc)?,
-        loss: loss_factors(alloc)?,
-    };
-    assemble(alloc, parts)
-}
 
 /// A new price of a sell block.
 fn price(unit: i64, block: i64, price: i64) -> Edit
@@ -195,10 +62,6 @@ fn steps(alloc: Global) -> Result<Steps, Memory>
     Ok(steps)
 }
 
-fn is<N: Exact>(value: N, whole: i32, units: u32) -> bool {
-    value.order(N::of_parts(i64::from(whole) * i64::from(units), 1)) == Ordering::Equal
-}
-
 /// Whether a market is cleared with these MW of its blocks and whole prices at buses 2 and 3.
 fn is_answer<N: Exact>(answer: &Answer<N>, mw: (i32, i32), prices: (i32, i32)) -> bool {
     match (answer.dispatch.slice(), answer.prices.slice()) {
@@ -232,7 +95,7 @@ fn has_taken<N: Exact>(session: &Session<N>) -> bool {
 
 /// A clear, one after another price, and one after a limit that nothing reaches. Each starts from the limit that the first one took.
 fn starts_warm<N: Exact>(alloc: Global) -> Result<bool, Memory> {
-    let mut session: Session<N> = Session::new(market(alloc)?);
+    let mut session: Session<N> = Session::new(limited(alloc)?);
     let first = session.clear(alloc)?;
     let once = has_taken(&session);
     let cheaper = session.edit(&price(2, 1, 20 * PRICE)).is_ok();
@@ -283,7 +146,7 @@ fn is_infeasible<N: Exact>(outcome: &StepOutcome<N>) -> bool {
 
 /// What the steps come to, in a session that has cleared nothing.
 fn replays<N: Exact>(alloc: Global) -> Result<bool, Memory> {
-    let mut session: Session<N> = Session::new(market(alloc)?);
+    let mut session: Session<N> = Session::new(limited(alloc)?);
     let steps = steps(alloc)?;
     let outcomes = session.replay(alloc, &steps)?;
     let right = match outcomes.slice() {
@@ -352,7 +215,7 @@ fn is_range<N: Exact>(outcome: &StepOutcome<N>, op: Op, left: N, right: N) -> bo
 }
 
 fn passes_63_bits(alloc: Global) -> Result<bool, Memory> {
-    let mut session: Session<Frac63> = Session::new(market(alloc)?);
+    let mut session: Session<Frac63> = Session::new(limited(alloc)?);
     let steps = dear_steps(alloc)?;
     let outcomes = session.replay(alloc, &steps)?;
     let told = outcomes.slice();

@@ -1,8 +1,8 @@
 use Rattle.std.proofs.Common.{subst}
 use Rattle.market_model.specs.declared.participants.Parts.{Parts}
 use Rattle.clear_loop.specs.Keeping.{FitsFrame}
-use Rattle.clear_loop.proofs.TestMarkets.{fits_framed, fits_worked}
-use Rattle.clear_loop_tests.proofs.tests.clear.Goals as goal
+use Rattle.clear_tests.proofs.WorkedMarkets.{fits_framed, fits_worked}
+use Rattle.clear_tests.proofs.clears.clear.Goals as goal
 
 pub clear-requires : goal.clear-requires
 clear-requires g c = record {
