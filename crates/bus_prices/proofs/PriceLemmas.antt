@@ -22,9 +22,10 @@ use Rattle.exact_fraction.specs.declared.Passed.{Passed}
 use Rattle.market_model.specs.declared.answered.Dual.{Dual}
 use Rattle.market_model.specs.declared.answered.Duals.{Duals}
 use Rattle.market_model.specs.declared.participants.Parts.{Parts}
-use Rattle.market_model.specs.LimitRows.{Row, rows, row_id, row_factor}
+use Rattle.market_model.specs.declared.limits.Row.{Row}
+use Rattle.market_model.specs.LimitRows.{rows, row_id, row_factor}
 use Rattle.market_model.specs.NamedSums.{IsRefusal, IsRefusedIn}
-use Rattle.market_model.specs.Optimality.{IsOneSided, ProperDuals, pull, is_named, named_rows, congestion, congestion_terms}
+use Rattle.market_model.specs.Optimality.{IsOneSided, ProperDuals, pull, is_named, named_rows, congestion, congestion_terms, congestion_by}
 use Rattle.market_model.specs.Valued.{dual_at}
 use Rattle.market_model.proofs.MorePlaces.{sum_by_more}
 use Rattle.market_model.proofs.SumSteps.{plus_at, multiplied_at, refused_by_added}
@@ -57,7 +58,7 @@ module _ (m : Parts) (d : Duals Fraction) (i : ℕ) where
       ∙ sym (sum_by_more (λ s. term_value (term s)) (named_rows m d) k r h.inside)
 
   pub congestion_all : (k : ℕ) → length (named_rows m d) ≤ k → congestion_to k ≡ congestion m d i
-  unfolding congestion
+  unfolding congestion_by
   congestion_all k h =
       ap (sum_by (λ r. term_value (term r))) (take_all k (named_rows m d) h)
       ∙ sym (sum_named m d (λ r. term_value (term r)) (rows m) unnamed) ∙ sym (total-map term (rows m))

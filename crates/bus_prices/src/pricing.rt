@@ -3,7 +3,8 @@
 ghost use Rattle.std.specs.Prelude.{◌≡◌, ◌<◌, ◌^◌, length, map, unsigned_abs, Contains, IfOk, IfErr};
 ghost use Rattle.fraction_theory.specs.Fraction.{neg_ℚ, over, ◌+ℚ◌, ◌-ℚ◌, ◌*ℚ◌};
 ghost use Rattle.market_model.specs.Dispatch.{places};
-ghost use Rattle.market_model.specs.LimitRows.{Row, rows, row_factor, row_id};
+ghost use Rattle.market_model.specs.declared.limits.Row.{Row};
+ghost use Rattle.market_model.specs.LimitRows.{rows, row_factor, row_id};
 ghost use Rattle.market_model.specs.NamedSums.{IsRefusedIn};
 ghost use Rattle.market_model.specs.Optimality.{IsOneSided, ProperDuals, congestion, congestion_terms};
 ghost use Rattle.market_model.specs.Valued.{dual_at, duals_at, passed_at, price_at};

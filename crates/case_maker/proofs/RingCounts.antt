@@ -8,7 +8,9 @@ use Rattle.std.specs.List.{position_or_len}
 use Rattle.market_model.specs.declared.participants.Line.{Line}
 use Rattle.market_model.specs.declared.participants.Parts.{Parts}
 use Rattle.market_model.specs.Dispatch.{places, line_at}
-use Rattle.market_model.specs.LimitRows.{After, Base, Row, base_rows, has_base, has_post, place_of_line, rows, rows_after}
+use Rattle.market_model.specs.declared.limits.Row.{Row}
+use Rattle.market_model.specs.declared.limits.Cause.TheVariants.{Base, Branch}
+use Rattle.market_model.specs.LimitRows.{base_rows, has_base, has_post, place_of_line, rows, rows_after}
 use Rattle.case_maker.specs.Laws.{HasCounts}
 use Rattle.case_maker.specs.Rings.{blocks_of, bus_of, drawn, line_of, ring_of, unit_of}
 use Rattle.case_maker.proofs.PlaceLists.{count-all, count-others, length-flat, places-at}
@@ -29,7 +31,7 @@ module _ (n seed : ℕ) where
 
   after-count : (lost : ℕ) → lost < n → length (rows_after m lost) + 1 ≡ n
   after-count lost lt =
-      let mapped : length (rows_after m lost) ≡ length (filter (has_post m lost) (places (length m.lines))) = length-map (filter (has_post m lost) (places (length m.lines))) (λ l. let r : Row = record { line = l; cause = After lost } in r) in
+      let mapped : length (rows_after m lost) ≡ length (filter (has_post m lost) (places (length m.lines))) = length-map (filter (has_post m lost) (places (length m.lines))) (λ l. let r : Row = record { line = l; cause = Branch lost } in r) in
       let lines : length (filter (has_post m lost) (places (length m.lines))) ≡ length (filter (has_post m lost) (places n)) = ap (λ (k : ℕ). length (filter (has_post m lost) (places k))) lines-count in
       let kept : length (filter (has_post m lost) (places n)) + 1 ≡ n = count-others (has_post m lost) lost 0 n (λ l p q. post-of l (omega (arith, q))) (omega arith) (omega (arith, lt)) in
       omega (arith, mapped, lines, kept)

@@ -18,7 +18,10 @@ use Rattle.market_model.specs.declared.participants.Block.{Block}
 use Rattle.market_model.specs.declared.participants.Line.{Line}
 use Rattle.market_model.specs.declared.participants.Parts.{Parts}
 use Rattle.market_model.specs.Dispatch.{Dispatch, IsDispatch, accepted, balance, block_at, block_bus, blocks_at, demand, injection, line_at, places, raised_by, signed, unit_at, units_at, zero}
-use Rattle.market_model.specs.LimitRows.{After, Base, Cause, Row, flow, flow_after, limit, limit_in, line_flow, loss_factor, mw_or_zero, shift_factor}
+use Rattle.market_model.specs.declared.limits.Cause.{Cause}
+use Rattle.market_model.specs.declared.limits.Row.{Row}
+use Rattle.market_model.specs.declared.limits.Cause.TheVariants.{Base, Branch}
+use Rattle.market_model.specs.LimitRows.{flow, flow_after, limit, limit_in, line_flow, loss_factor, mw_or_zero, shift_factor, most_flow}
 use Rattle.market_model.specs.Optimality.{Feasible, Within}
 use Rattle.market_model.proofs.MarketSums.{balance-by_injections, demand-by_parts, fixed_part, injection-by_parts}
 use Rattle.market_model.proofs.PlainMarkets.{distinct_by_rise}
@@ -173,17 +176,17 @@ module _ (n seed : ℕ) where
 
   no-flow : (l : ℕ) (cause : Cause) → flow_after m (injection m serving) l cause ≡ zero
   no-flow l Base = no-line_flow l
-  no-flow l (After lost) =
+  no-flow l (Branch lost) =
       ap₂ (λ a b. a +ℚ loss_factor m l lost *ℚ b) (no-line_flow l) (no-line_flow lost)
       ∙ ap (λ t. zero +ℚ t) (times_nil ring_ℚ (loss_factor m l lost))
       ∙ nil_plus ring_ℚ zero
 
   limit-least : (l : ℕ) (cause : Cause) → zero ≤ℚ limit_in m l cause
   limit-least l Base = (lines-plain l).base
-  limit-least l (After lost) = (lines-plain l).post
+  limit-least l (Branch lost) = (lines-plain l).post
 
-  within : (r : Row) → Within m r (flow m serving r)
-  within r = subst (Within m r) (sym (no-flow r.line r.cause)) (record {
+  within : (r : Row) → Within (most_flow m r) (flow m serving r)
+  within r = subst (Within (most_flow m r)) (sym (no-flow r.line r.cause)) (record {
     above = by_le1 (limit m r ∷ []) (pneg (at 0)) pnil pone pnil (at 0) NonNeg-one (limit-least r.line r.cause) refl;
     below = limit-least r.line r.cause;
   })

@@ -12,12 +12,12 @@ use Rattle.exact_fraction.specs.declared.Op.TheVariants.{Plus, Minus, Times}
 use Rattle.exact_fraction.specs.declared.Passed.{Passed}
 use Rattle.market_model.specs.declared.answered.Duals.{Duals}
 use Rattle.market_model.specs.declared.participants.Parts.{Parts}
-use Rattle.market_model.specs.LimitRows.{Row, rows, row_id, row_factor}
+use Rattle.market_model.specs.declared.limits.Row.{Row}
+use Rattle.market_model.specs.LimitRows.{rows, row_id, row_factor}
 use Rattle.market_model.specs.NamedSums.{IsRefusal, IsRefusedIn}
-use Rattle.market_model.specs.Optimality.{up_of, down_of, pull, is_named, named_rows, congestion, congestion_terms}
+use Rattle.market_model.specs.Optimality.{up_of, down_of, pull, is_named, named_rows, congestion, congestion_terms, congestion_by}
 use Rattle.market_model.proofs.MorePlaces.{sum_by_more}
 use Rattle.market_model.proofs.SumSteps.{plus_at, multiplied_at, refused_by_added, refusal_same}
-use Rattle.limit_rows.specs.Places.{row_of}
 use Rattle.limit_rows.proofs.DualLemmas.{up_unnamed, down_unnamed, sum_named, terms_named}
 use Rattle.cert_sums.specs.declared.pricing.NamedRow.{NamedRow}
 use Rattle.cert_sums.specs.Named.{PricedRow, priced_at, priced_by, AreNamed}
@@ -38,10 +38,10 @@ module _ {N : Type 0} (value : N → Fraction) (m : Parts) (d : Duals Fraction) 
   pub named_at : (k : ℕ) (e : NamedRow N) → k < length named → e ≡ get_or named k e → IsNamedAt m d k (priced_at value e)
   named_at k e below is =
       let inside : k < length (named_rows m d) = Prim.omega (arith, below, named_count) in
-      let same : priced_at value e ≡ priced_by m d (get_or (named_rows m d) k (row_of e.row)) =
+      let same : priced_at value e ≡ priced_by m d (get_or (named_rows m d) k e.row) =
       ap (priced_at value) is ∙ sym (get_or-map (priced_at value) named k e (priced_at value e) below) ∙ ap (λ (es : List PricedRow). get_or es k (priced_at value e)) are
-      ∙ get_or-map (priced_by m d) (named_rows m d) k (row_of e.row) (priced_at value e) inside in
-      let at : row_of e.row ≡ get_or (named_rows m d) k (row_of e.row) = ap (λ (t : PricedRow). t.row) same in
+      ∙ get_or-map (priced_by m d) (named_rows m d) k e.row (priced_at value e) inside in
+      let at : e.row ≡ get_or (named_rows m d) k e.row = ap (λ (t : PricedRow). t.row) same in
       record {
         inside = inside;
         at = at;
@@ -76,7 +76,7 @@ module _ (m : Parts) (d : Duals Fraction) (i : ℕ) where
   congestion_to k = sum_by (λ r. term_value (term r)) (take k (named_rows m d))
 
   pub congestion_all : (k : ℕ) → length (named_rows m d) ≤ k → congestion_to k ≡ congestion m d i
-  unfolding congestion
+  unfolding congestion_by
   congestion_all k h =
       ap (sum_by (λ r. term_value (term r))) (take_all k (named_rows m d) h)
       ∙ sym (sum_named m d (λ r. term_value (term r)) (rows m) unnamed) ∙ sym (total-map term (rows m))

@@ -9,14 +9,17 @@ use Rattle.market_model.specs.declared.answered.Duals.{Duals}
 use Rattle.market_model.specs.declared.participants.Parts.{Parts}
 use Rattle.market_model.specs.Dispatch.{Dispatch, empty, injection, injection_terms, balance_terms}
 use Rattle.market_model.specs.Infeasibility.{farkas_terms}
-use Rattle.market_model.specs.LimitRows.{Cause, Base, After, Row, rows, limit, loss_factor, line_flow, line_terms, flow}
+use Rattle.market_model.specs.declared.limits.Cause.{Cause}
+use Rattle.market_model.specs.declared.limits.Row.{Row}
+use Rattle.market_model.specs.declared.limits.Cause.TheVariants.{Base, Branch}
+use Rattle.market_model.specs.LimitRows.{rows, limit, loss_factor, line_flow, line_terms, flow}
 use Rattle.market_model.specs.NamedSums.{IsRefusedIn, IsRefusal}
 use Rattle.market_model.specs.Optimality.{up_of, down_of, named_rows, congestion, congestion_terms}
 
 -- the flow of a row by the flows of lines: that of its own line, and after an outage what goes over of the lost one's
 abbrev pub flow_terms_in : Parts → Dispatch → ℕ → Cause → List Term
 flow_terms_in m x l Base = Plain (line_flow m (injection m x) l) ∷ []
-flow_terms_in m x l (After lost) = Plain (line_flow m (injection m x) l) ∷ Product (loss_factor m l lost) (line_flow m (injection m x) lost) ∷ []
+flow_terms_in m x l (Branch lost) = Plain (line_flow m (injection m x) l) ∷ Product (loss_factor m l lost) (line_flow m (injection m x) lost) ∷ []
 
 abbrev pub flow_terms : Parts → Dispatch → Row → List Term
 flow_terms m x r = flow_terms_in m x r.line r.cause

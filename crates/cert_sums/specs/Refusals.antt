@@ -7,7 +7,8 @@ use Rattle.market_data.specs.declared.participants.Bus.{Bus}
 use Rattle.market_model.specs.declared.answered.Duals.{Duals}
 use Rattle.market_model.specs.declared.participants.Parts.{Parts}
 use Rattle.market_model.specs.Dispatch.{Dispatch, injection_terms}
-use Rattle.market_model.specs.LimitRows.{Row, limit, line_terms, flow}
+use Rattle.market_model.specs.declared.limits.Row.{Row}
+use Rattle.market_model.specs.LimitRows.{limit, line_terms, flow}
 use Rattle.market_model.specs.NamedSums.{IsRefusedIn, IsRefusal}
 use Rattle.market_model.specs.Optimality.{up_of, down_of, named_rows, congestion_terms}
 use Rattle.market_model.specs.Valued.{passed_at}

@@ -8,7 +8,6 @@ ghost use Rattle.market_model.specs.Dispatch.{Dispatch, balance, empty, signed, 
 ghost use Rattle.market_model.specs.Infeasibility.{farkas_bound, part_above};
 ghost use Rattle.market_model.specs.LimitRows.{flow, limit};
 ghost use Rattle.market_model.specs.Valued.{passed_at};
-ghost use Rattle.limit_rows.specs.Places.{row_of};
 ghost use Rattle.cert_sums.specs.Bounds.{left_at, limits_terms};
 ghost use Rattle.cert_sums.specs.Named.{AreNamed, priced_at};
 ghost use Rattle.cert_sums.specs.Pairs.{IsFarkasPair};

@@ -5,7 +5,6 @@ ghost use Rattle.market_model.specs.Dispatch.{Dispatch, injection, places};
 ghost use Rattle.market_model.specs.LimitRows.{flow, line_flow, line_offset, line_terms};
 ghost use Rattle.market_model.specs.NamedSums.{IsRefusedIn};
 ghost use Rattle.market_model.specs.Valued.{passed_at};
-ghost use Rattle.limit_rows.specs.Places.{row_of};
 ghost use Rattle.cert_sums.specs.Pairs.{flow_terms};
 ghost use Rattle.cert_sums.specs.Refusals.{IsLineRefusal, IsStopped};
 ghost use Rattle.cert_sums.specs.Results.{put_in, AreFlows, AreInjections};
@@ -79,8 +78,8 @@ pub fn row_flow<N: Exact>(market: &Market, flows: &[N], row: LimitRow) -> Result
     requires flows { length flows.now ≡ length market.now.lines }
     requires line { row.line < length market.now.lines }
     requires lost { IfSome row.lost (λ lost. lost < length market.now.lines) }
-    ensures flow { (x : Dispatch) → AreFlows market.now x (map N.value flows.now) → IfOk result (λ mw. N.value mw ≡ flow market.now x (row_of row)) }
-    ensures cause { (x : Dispatch) → AreFlows market.now x (map N.value flows.now) → IfErr result (λ passed. IsRefusedIn (flow_terms market.now x (row_of row)) N.bound (passed_at N.value passed)) }
+    ensures flow { (x : Dispatch) → AreFlows market.now x (map N.value flows.now) → IfOk result (λ mw. N.value mw ≡ flow market.now x row) }
+    ensures cause { (x : Dispatch) → AreFlows market.now x (map N.value flows.now) → IfErr result (λ passed. IsRefusedIn (flow_terms market.now x row) N.bound (passed_at N.value passed)) }
 {
     let own = flows[row.line];
     match row.lost {

@@ -9,7 +9,8 @@ use Rattle.std.proofs.lemmas.List.Elements.{filter-append}
 use Rattle.std.proofs.lemmas.List.Folds.{find-append}
 use Rattle.market_model.specs.declared.participants.Parts.{Parts}
 use Rattle.market_model.specs.Dispatch.{places}
-use Rattle.market_model.specs.LimitRows.{Row, rows}
+use Rattle.market_model.specs.declared.limits.Row.{Row}
+use Rattle.market_model.specs.LimitRows.{rows}
 use Rattle.market_model.proofs.MorePlaces.{places_more}
 use Rattle.limit_rows.specs.Groups.{bears, groups, lines_of, rows_of}
 use Rattle.limit_rows.proofs.GroupLemmas.{places_at, rows-more}

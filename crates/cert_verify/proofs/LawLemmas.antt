@@ -11,7 +11,9 @@ use Rattle.market_model.specs.declared.answered.Farkas as infeasible
 use Rattle.market_model.specs.declared.participants.Parts.{Parts}
 use Rattle.market_model.specs.Dispatch.{Dispatch}
 use Rattle.market_model.specs.Infeasibility.{IsFarkas}
-use Rattle.market_model.specs.LimitRows.{Base, Row, rows, row_id}
+use Rattle.market_model.specs.declared.limits.Row.{Row}
+use Rattle.market_model.specs.declared.limits.Cause.TheVariants.{Base}
+use Rattle.market_model.specs.LimitRows.{rows, row_id}
 use Rattle.market_model.specs.Market.{IsMarket}
 use Rattle.market_model.specs.Optimality.{Feasible, ProperDuals, is_named, named_rows, welfare}
 use Rattle.market_model.specs.RightAnswers.{IsRight}

@@ -13,11 +13,11 @@ use Rattle.market_model.specs.declared.answered.Dual.{Dual}
 use Rattle.market_model.specs.declared.answered.Duals.{Duals}
 use Rattle.market_model.specs.declared.answered.RowId.{RowId}
 use Rattle.market_model.specs.declared.participants.Parts.{Parts}
-use Rattle.market_model.specs.LimitRows.{Row, rows, row_id}
+use Rattle.market_model.specs.declared.limits.Row.{Row}
+use Rattle.market_model.specs.LimitRows.{rows, row_id}
 use Rattle.market_model.specs.Optimality.{is_named, named_rows, same_id, up_in, down_in}
 use Rattle.market_model.specs.Valued.{dual_at}
 use Rattle.limit_rows.specs.Groups.{groups, rows_of}
-use Rattle.limit_rows.specs.Places.{row_of}
 use Rattle.limit_rows.specs.declared.places.LimitRow.{LimitRow}
 use Rattle.market_model.specs.Dispatch.{places}
 use Rattle.market_model.proofs.MorePlaces.{places_more}
@@ -110,11 +110,11 @@ entries_more {N} ds i e lt at =
 -- ---- the rows that are named, one by one
 module _ {N : Type 0} (value : N → Fraction) (m : Parts) where
   -- what is found under the name of a row
-  pub named_is : (ds : List (Dual N)) (energy : Fraction) (row : LimitRow) (e : Dual N) → lookup (same_pair (name_of (row_id m (row_of row)))) (map entry_of ds) ≡ Some e
-      → IsNamedAt value m (duals_by energy (map (dual_at value) ds)) (row_of row) (Some (record { row = row; up = e.up; down = e.down }))
+  pub named_is : (ds : List (Dual N)) (energy : Fraction) (row : LimitRow) (e : Dual N) → lookup (same_pair (name_of (row_id m row))) (map entry_of ds) ≡ Some e
+      → IsNamedAt value m (duals_by energy (map (dual_at value) ds)) row (Some (record { row = row; up = e.up; down = e.down }))
   named_is ds energy row e found =
-      let is = dual_named value (row_id m (row_of row)) ds e found in
-      (is.named, ap₂ (λ (u w : Fraction). record { row = row_of row; up = u; down = w }) (sym is.up) (sym is.down))
+      let is = dual_named value (row_id m row) ds e found in
+      (is.named, ap₂ (λ (u w : Fraction). record { row = row; up = u; down = w }) (sym is.up) (sym is.down))
 
   module _ (d : Duals Fraction) where
     pub row_kept : (r : Row) (xs : List (NamedRow N)) (e : NamedRow N) → IsNamedAt value m d r (Some e) → map (priced_at value) (xs ++ e ∷ []) ≡ map (priced_at value) xs ++ prices_of m d (r ∷ [])

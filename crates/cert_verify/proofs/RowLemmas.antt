@@ -9,12 +9,12 @@ use Rattle.market_model.specs.declared.answered.Dual.{Dual}
 use Rattle.market_model.specs.declared.answered.Duals.{Duals}
 use Rattle.market_model.specs.declared.participants.Parts.{Parts}
 use Rattle.market_model.specs.Dispatch.{Dispatch, injection, balance_terms}
-use Rattle.market_model.specs.LimitRows.{Row, rows, row_id, limit, flow}
+use Rattle.market_model.specs.declared.limits.Row.{Row}
+use Rattle.market_model.specs.LimitRows.{rows, row_id, limit, flow}
 use Rattle.market_model.specs.Market.{IsMarket}
 use Rattle.market_model.specs.NamedSums.{IsRefusedIn}
 use Rattle.market_model.specs.Valued.{passed_at}
 use Rattle.limit_rows.specs.Groups.{bears, groups}
-use Rattle.limit_rows.specs.Places.{row_of}
 use Rattle.limit_rows.specs.declared.places.LimitRow.{LimitRow}
 use Rattle.limit_rows.proofs.ApartLemmas.{same_row}
 use Rattle.limit_rows.proofs.NumberingLemmas.{row_on}
@@ -40,12 +40,12 @@ not_of m e none r c = by (is_of m e r) refl
     by false t = refl
 
 -- whether a dual has no row, where its name was looked up
-pub no_row_by : (m : Parts) (e : Dual Fraction) (o : Option LimitRow) → MatchOption o (IsUnknown m e) (λ row. Contains (rows m) (row_of row) × (row_id m (row_of row) ≡ e.row))
+pub no_row_by : (m : Parts) (e : Dual Fraction) (o : Option LimitRow) → MatchOption o (IsUnknown m e) (λ row. Contains (rows m) row × (row_id m row ≡ e.row))
     → (b : Bool) → is_some o ≡ not b → has_no_row m e ≡ b
 no_row_by m e None h true none = ap not (any_none (is_of m e) (rows m) (not_of m e h))
 no_row_by m e None h false none = absurd (true≢false (sym none))
 no_row_by m e (Some row) h true none = absurd (true≢false none)
-no_row_by m e (Some row) h false none = not_true (list_any (is_of m e) (rows m)) (any_of (is_of m e) (rows m) (row_of row) h.0 (named (row_id m (row_of row)) e.row h.1))
+no_row_by m e (Some row) h false none = not_true (list_any (is_of m e) (rows m)) (any_of (is_of m e) (rows m) row h.0 (named (row_id m row) e.row h.1))
 
 pub no_slack : (m : Parts) (x : Dispatch) (e : Dual Fraction) → IsUnknown m e → has_slack m x e ≡ false
 no_slack m x e none =

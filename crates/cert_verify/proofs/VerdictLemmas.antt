@@ -16,7 +16,8 @@ use Rattle.market_model.specs.declared.participants.Side.{Side}
 use Rattle.market_model.specs.declared.participants.Side.TheVariants.{Sell, Buy}
 use Rattle.market_model.specs.Dispatch.{Dispatch, zero, places, block_at, accepted, quantity, balance}
 use Rattle.market_model.specs.Infeasibility.{ShowsInfeasible, farkas_bound}
-use Rattle.market_model.specs.LimitRows.{Row, rows, row_id, limit, flow}
+use Rattle.market_model.specs.declared.limits.Row.{Row}
+use Rattle.market_model.specs.LimitRows.{rows, row_id, limit, flow, most_flow}
 use Rattle.market_model.specs.Optimality.{BlockSupported, Feasible, Gains, Loses, RowSupported, Supports, Within, same_id, up_in, down_in, up_of, down_of, price, unit_price}
 use Rattle.limit_rows.proofs.PlaceLemmas.{same_name}
 use Rattle.cert_verify.specs.declared.verdicts.Reason.TheVariants as reason
@@ -196,12 +197,12 @@ module _ (m : Parts) (x : Dispatch) where
       (λ e c. any_none (λ r. is_of m e r && prices_slack e (flow m x r) (limit m r)) (rows m)
       (λ r k. not_both (is_of m e r) (prices_slack e (flow m x r) (limit m r)) (λ t. slack_from e r (h e c r k (same_name (row_id m r) e.row t)))))
 
-  limits_to : limit_reason m x ≡ None → (r : Row) → Contains (rows m) r → Within m r (flow m x r)
+  limits_to : limit_reason m x ≡ None → (r : Row) → Contains (rows m) r → Within (most_flow m r) (flow m x r)
   limits_to h r c =
       let parts = or_parts (is_below (flow m x r) (neg_ℚ (limit m r))) (is_below (limit m r) (flow m x r)) (none_of (λ r. reason.Limit (row_id m r)) (is_broken m x) (rows m) h r c) in
       record { above = not_below (flow m x r) (neg_ℚ (limit m r)) parts.0; below = not_below (limit m r) (flow m x r) parts.1 }
 
-  limits_from : ((r : Row) → Contains (rows m) r → Within m r (flow m x r)) → limit_reason m x ≡ None
+  limits_from : ((r : Row) → Contains (rows m) r → Within (most_flow m r) (flow m x r)) → limit_reason m x ≡ None
   limits_from h =
       of_none (λ r. reason.Limit (row_id m r)) (is_broken m x) (rows m)
       (λ r c. let w = h r c in neither (is_below (flow m x r) (neg_ℚ (limit m r))) (is_below (limit m r) (flow m x r)) (below_not (flow m x r) (neg_ℚ (limit m r)) w.above) (below_not (limit m r) (flow m x r) w.below))

@@ -4,11 +4,11 @@ ghost use Rattle.std.specs.Prelude.{◌≡◌, ◌<◌, length, map, Contains, I
 ghost use Rattle.fraction_theory.specs.Fraction.{Fraction};
 ghost use Rattle.market_model.specs.declared.answered.Duals.{Duals};
 ghost use Rattle.market_model.specs.Dispatch.{Dispatch};
-ghost use Rattle.market_model.specs.LimitRows.{Row, row_id};
+ghost use Rattle.market_model.specs.declared.limits.Row.{Row};
+ghost use Rattle.market_model.specs.LimitRows.{row_id};
 ghost use Rattle.market_model.specs.NamedSums.{IsRefusedIn};
 ghost use Rattle.market_model.specs.Valued.{passed_at};
 ghost use Rattle.limit_rows.specs.Groups.{groups, rows_of};
-ghost use Rattle.limit_rows.specs.Places.{row_of};
 ghost use Rattle.cert_sums.specs.Pairs.{IsOptimalPair, flow_terms};
 ghost use Rattle.cert_sums.specs.Results.{AreFlows};
 ghost use Rattle.cert_verify.specs.declared.verdicts.Reason.TheVariants as reason;
@@ -27,8 +27,8 @@ fn is_broken<N: Exact>(market: &Market, flows: &[N], row: LimitRow) -> Result<bo
     requires flows { length flows.now ≡ length market.now.lines }
     requires line { row.line < length market.now.lines }
     requires lost { IfSome row.lost (λ lost. lost < length market.now.lines) }
-    ensures broken { (x : Dispatch) → AreFlows market.now x (map N.value flows.now) → IfOk result (λ broken. broken ≡ is_broken market.now x (row_of row)) }
-    ensures cause { (x : Dispatch) → AreFlows market.now x (map N.value flows.now) → IfErr result (λ passed. IsRefusedIn (flow_terms market.now x (row_of row)) N.bound (passed_at N.value passed)) }
+    ensures broken { (x : Dispatch) → AreFlows market.now x (map N.value flows.now) → IfOk result (λ broken. broken ≡ is_broken market.now x row) }
+    ensures cause { (x : Dispatch) → AreFlows market.now x (map N.value flows.now) → IfErr result (λ passed. IsRefusedIn (flow_terms market.now x row) N.bound (passed_at N.value passed)) }
 {
     let flow = row_flow(market, flows, row)?;
     Ok(passes(flow, datum(limit_at(market, row))))

@@ -5,7 +5,6 @@ ghost use Rattle.std.specs.Map.{lookup};
 ghost use Rattle.fraction_theory.specs.Fraction.{Fraction};
 ghost use Rattle.market_model.specs.Valued.{dual_at};
 ghost use Rattle.limit_rows.specs.Groups.{groups, rows_of};
-ghost use Rattle.limit_rows.specs.Places.{row_of};
 ghost use Rattle.cert_format.specs.Certificates.{NamesNoRowTwice};
 ghost use Rattle.cert_sums.specs.Named.{AreNamed, priced_at};
 ghost use Rattle.cert_verify.specs.Certificates.{duals_by};
@@ -63,7 +62,7 @@ fn named_at<N: Exact>(
 ) -> Option<NamedRow<N>>
     requires line { row.line < length market.now.lines }
     requires lost { IfSome row.lost (λ lost. lost < length market.now.lines) }
-    ensures { (ds : List (Dual N)) (energy : Fraction) → duals.now.entries ≡ map entry_of ds → IsNamedAt N.value market.now (duals_by energy (map (dual_at N.value) ds)) (row_of row) result }
+    ensures { (ds : List (Dual N)) (energy : Fraction) → duals.now.entries ≡ map entry_of ds → IsNamedAt N.value market.now (duals_by energy (map (dual_at N.value) ds)) row result }
 {
     match dual_of(duals, name_at(market, row)) {
         Some(dual) => Some(NamedRow {

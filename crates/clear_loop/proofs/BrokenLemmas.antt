@@ -15,13 +15,15 @@ use Rattle.market_model.specs.declared.answered.RowId.{RowId}
 use Rattle.market_model.specs.declared.participants.Parts.{Parts}
 use Rattle.market_model.specs.Dispatch.{Dispatch, places, injection}
 use Rattle.market_model.specs.Excess.{size_by, excess, IsWorst}
-use Rattle.market_model.specs.LimitRows.{Cause, Base, After, Row, rows, row_id, limit, line_flow, loss_factor, flow}
+use Rattle.market_model.specs.declared.limits.Cause.{Cause}
+use Rattle.market_model.specs.declared.limits.Row.{Row}
+use Rattle.market_model.specs.declared.limits.Cause.TheVariants.{Base, Branch}
+use Rattle.market_model.specs.LimitRows.{rows, row_id, limit, line_flow, loss_factor, flow, most_flow}
 use Rattle.market_model.specs.Market.{IsMarket}
 use Rattle.market_model.specs.NamedSums.{SameSize}
 use Rattle.market_model.specs.Optimality.{Within}
 use Rattle.market_system.specs.Growth.{Broken}
 use Rattle.limit_rows.specs.Groups.{cause_of}
-use Rattle.limit_rows.specs.Places.{row_of}
 use Rattle.limit_rows.specs.declared.places.LimitRow.{LimitRow}
 use Rattle.limit_rows.proofs.ApartLemmas.{names_apart}
 use Rattle.limit_rows.proofs.FactorLemmas.{IsLost}
@@ -83,11 +85,11 @@ module _ (m : Parts) (market : IsMarket m) (x : Dispatch) where
 
   pub terms_are : (l : ℕ) (cause : Cause) → l < length m.lines → IsLost m cause → flow_terms_in m flow_at l cause ≡ flow_terms_in m (line_flow m (injection m x)) l cause
   terms_are l Base line lost = ap (λ f. Plain f ∷ []) (line_is l line)
-  terms_are l (After k) line lost = ap₂ (λ f b. Plain f ∷ Product (loss_factor m l k) b ∷ []) (line_is l line) (line_is k lost.0)
+  terms_are l (Branch k) line lost = ap₂ (λ f b. Plain f ∷ Product (loss_factor m l k) b ∷ []) (line_is l line) (line_is k lost.0)
 
   -- where all limits hold, and where one is the worst
-  pub all_within : AllHold m flow_at → (r : Row) → Contains (rows m) r → Within m r (flow m x r)
-  all_within hold r c = subst (Within m r) (row_is r c) (hold r c)
+  pub all_within : AllHold m flow_at → (r : Row) → Contains (rows m) r → Within (most_flow m r) (flow m x r)
+  all_within hold r c = subst (Within (most_flow m r)) (row_is r c) (hold r c)
 
   -- the worst row of the flows is that of the dispatch
   worst_at : (place : ℕ) (r : Row) → IsWorst m (flow_by m flow_at) place r → IsWorst m (flow m x) place r
@@ -105,11 +107,11 @@ module _ (m : Parts) (market : IsMarket m) (x : Dispatch) where
 
   -- the row of its name
   pub found_worst : (id : RowId) (found : Option LimitRow) → IsWorstNamed m flow_at id
-      → MatchOption found ((r : Row) → Contains (rows m) r → row_id m r ≡ id → ⊥) (λ row. Contains (rows m) (row_of row) × (row_id m (row_of row) ≡ id))
-      → MatchOption found ((r : Row) → Contains (rows m) r → Within m r (flow m x r)) (λ row. (place : ℕ) × IsWorst m (flow m x) place (row_of row))
+      → MatchOption found ((r : Row) → Contains (rows m) r → row_id m r ≡ id → ⊥) (λ row. Contains (rows m) row × (row_id m row ≡ id))
+      → MatchOption found ((r : Row) → Contains (rows m) r → Within (most_flow m r) (flow m x r)) (λ row. (place : ℕ) × IsWorst m (flow m x) place row)
   found_worst id None (place, r, worst, named) none = absurd (none r (listed_row (rows m) place r worst.stands) (sym named))
   found_worst id (Some row) (place, r, worst, named) is =
-      let same : r ≡ row_of row = one_row m (names_apart m market) (whole (pos 0)) (λ _. whole (pos 0)) r (row_of row) (listed_row (rows m) place r worst.stands) is.0 (sym named ∙ sym is.1) in
+      let same : r ≡ row = one_row m (names_apart m market) (whole (pos 0)) (λ _. whole (pos 0)) r row (listed_row (rows m) place r worst.stands) is.0 (sym named ∙ sym is.1) in
       (place, subst (IsWorst m (flow m x) place) same (worst_at place r worst))
 
 -- it is broken

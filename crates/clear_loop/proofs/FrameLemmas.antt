@@ -5,7 +5,7 @@ use Rattle.linear_dict.specs.Dictionaries.{Dictionary}
 use Rattle.market_model.specs.declared.answered.RowId.{RowId}
 use Rattle.market_model.specs.declared.participants.Parts.{Parts}
 use Rattle.market_model.specs.Frame.{SameFrame}
-use Rattle.market_model.specs.LimitRows.{Row}
+use Rattle.market_model.specs.declared.limits.Row.{Row}
 use Rattle.market_system.proofs.FrameLaws.{law_of_the_frame}
 use Rattle.market_dict.proofs.HoldingLaws.{holds_in_frame}
 use Rattle.clear_loop.specs.Keeping.{IsStartOf}

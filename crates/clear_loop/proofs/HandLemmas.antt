@@ -9,14 +9,14 @@ use Rattle.market_model.specs.declared.answered.Duals.{Duals}
 use Rattle.market_model.specs.declared.answered.RowId.{RowId}
 use Rattle.market_model.specs.declared.participants.Parts.{Parts}
 use Rattle.market_model.specs.Dispatch.{Dispatch, places}
-use Rattle.market_model.specs.LimitRows.{Row, rows, row_id, flow}
+use Rattle.market_model.specs.declared.limits.Row.{Row}
+use Rattle.market_model.specs.LimitRows.{rows, row_id, flow, most_flow}
 use Rattle.market_model.specs.Optimality.{Feasible, Within}
 use Rattle.market_system.specs.Growth.{BestFor, Broken, Growth}
 use Rattle.market_system.specs.MarketSystem.{system_of}
 use Rattle.market_system.specs.SolvedLaws.{AreRows}
 use Rattle.linear_system.specs.Choices.{value}
 use Rattle.market_system.proofs.GrowthLaws.{broken_is_new, growth_none, growth_more, rows_few}
-use Rattle.limit_rows.specs.Places.{row_of}
 use Rattle.limit_rows.specs.declared.places.LimitRow.{LimitRow}
 use Rattle.limit_screen.specs.Flows.{dispatch_of}
 use Rattle.market_dict.specs.Findings.{IsSolvedBy}
@@ -40,18 +40,18 @@ grown_more m t g new grown (r, is, inside, broken) = subst (Growth m t) (sym is)
 -- rounds come nearer to all rows
 pub comes_nearer : (m : Parts) (old new : Taken) → GrowsByOne m (rows_in old) (rows_in new) → AreRows m (rows_in new) → (length (rows m) - length new.rows) < (length (rows m) - length old.rows)
 comes_nearer m old new (r, is, inside, broken) are =
-    let before : length (rows_in old) ≡ length old.rows = length-map old.rows row_of in
-    let after : length (rows_in new) ≡ length new.rows = length-map new.rows row_of in
+    let before : length (rows_in old) ≡ length old.rows = length-map old.rows in
+    let after : length (rows_in new) ≡ length new.rows = length-map new.rows in
     let one : length (rows_in new) ≡ length (rows_in old) + 1 = ap length is ∙ length-append (rows_in old) (r ∷ []) in
     let few : length (rows_in new) ≤ length (rows m) = rows_few m (rows_in new) are in
     Prim.omega (arith, before, after, one, few)
 
 module _ {N : Type 0} (worth : N → Fraction) (m : Parts) where
-  pub rows_grown : (old new : Taken) (row : LimitRow) → new.rows ≡ old.rows ++ row ∷ [] → rows_in new ≡ rows_in old ++ row_of row ∷ []
-  rows_grown old new row put = ap (map row_of) put ∙ map-append row_of old.rows (row ∷ [])
+  pub rows_grown : (old new : Taken) (row : LimitRow) → new.rows ≡ old.rows ++ row ∷ [] → rows_in new ≡ rows_in old ++ row ∷ []
+  rows_grown old new row put = ap (map row_of) put ∙ map-append old.rows (row ∷ [])
 
-  pub hand_grown : (old new : Taken) (row : LimitRow) (warm : Option Dictionary) (d : Dictionary) (terms : Terms N) → new.rows ≡ old.rows ++ row ∷ [] → new.names ≡ old.names ++ row_id m (row_of row) ∷ []
-      → old.names ≡ map (row_id m) (rows_in old) → warm ≡ Some d → Holds m (rows_in old ++ row_of row ∷ []) d → AreTerms worth m (rows_in old ++ row_of row ∷ []) terms
+  pub hand_grown : (old new : Taken) (row : LimitRow) (warm : Option Dictionary) (d : Dictionary) (terms : Terms N) → new.rows ≡ old.rows ++ row ∷ [] → new.names ≡ old.names ++ row_id m row ∷ []
+      → old.names ≡ map (row_id m) (rows_in old) → warm ≡ Some d → Holds m (rows_in old ++ row ∷ []) d → AreTerms worth m (rows_in old ++ row ∷ []) terms
       → IsInHand worth m (record { warm = warm; terms = terms; taken = new })
   hand_grown old new row warm d terms put named names is holds are =
       let grown = rows_grown old new row put in
@@ -59,7 +59,7 @@ module _ {N : Type 0} (worth : N → Fraction) (m : Parts) where
         start = (d, is, subst (λ g. Holds m g d) (sym grown) holds);
         terms = subst (λ g. AreTerms worth m g terms) (sym grown) are;
         names =
-            named ∙ ap (λ (ns : List RowId). ns ++ row_id m (row_of row) ∷ []) names ∙ sym (map-append (row_id m) (rows_in old) (row_of row ∷ []))
+            named ∙ ap (λ (ns : List RowId). ns ++ row_id m row ∷ []) names ∙ sym (map-append (row_id m) (rows_in old) (row ∷ []))
             ∙ sym (ap (map (row_id m)) grown);
       }
 
@@ -69,5 +69,5 @@ module _ {N : Type 0} (worth : N → Fraction) (m : Parts) where
       sym (length-map ds worth) ∙ ap (λ (x : Dispatch). length x.blocks) solved.dispatch
       ∙ length-map (places (length m.blocks)) (value (system_of m g) solved.choice) ∙ length-range_with_len 0 (length m.blocks)
 
-pub feasible_over_all : (m : Parts) (g : List Row) (x : Dispatch) → BestFor m g x → ((r : Row) → Contains (rows m) r → Within m r (flow m x r)) → Feasible m x
+pub feasible_over_all : (m : Parts) (g : List Row) (x : Dispatch) → BestFor m g x → ((r : Row) → Contains (rows m) r → Within (most_flow m r) (flow m x r)) → Feasible m x
 feasible_over_all m g x best all = record { blocks = best.feasible.blocks; balanced = best.feasible.balanced; limits = all }

@@ -3,7 +3,7 @@ use Rattle.std.specs.Prelude.{◌≡◌, ℕ, List}
 use Rattle.std.proofs.Common.{ap, ◌∙◌}
 use Rattle.linear_dict.specs.Dictionaries.{Dictionary, IsDictionary, pivoted}
 use Rattle.market_model.specs.declared.participants.Parts.{Parts}
-use Rattle.market_model.specs.LimitRows.{Row}
+use Rattle.market_model.specs.declared.limits.Row.{Row}
 use Rattle.market_dict.specs.Holding.{Holds}
 
 -- it holds the market over the same rows

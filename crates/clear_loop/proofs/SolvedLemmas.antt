@@ -16,7 +16,10 @@ use Rattle.market_model.specs.declared.answered.RowId.{RowId}
 use Rattle.market_model.specs.declared.participants.Parts.{Parts}
 use Rattle.market_model.specs.Dispatch.{Dispatch, unit_at, output, demand, injection, output_terms}
 use Rattle.market_model.specs.Excess.{size_of}
-use Rattle.market_model.specs.LimitRows.{Cause, Base, After, Row, rows, row_id, limit, line_flow, flow}
+use Rattle.market_model.specs.declared.limits.Cause.{Cause}
+use Rattle.market_model.specs.declared.limits.Row.{Row}
+use Rattle.market_model.specs.declared.limits.Cause.TheVariants.{Base, Branch}
+use Rattle.market_model.specs.LimitRows.{rows, row_id, limit, line_flow, flow}
 use Rattle.market_model.specs.Market.{IsMarket}
 use Rattle.market_model.specs.NamedSums.{IsAddedIn, IsRefusedIn, IsRefusal}
 use Rattle.market_model.specs.Optimality.{Feasible, Supports, IsOneSided, ProperDuals, named_rows, is_named, same_id, up_in, down_in, bus_price, unit_price, congestion, congestion_terms, welfare_terms}
@@ -125,7 +128,7 @@ module _ (m : Parts) (g : List Row) (x : Dispatch) (d : Duals Fraction) (market 
     flow_range : (l : ℕ) (cause : Cause) → l < length m.lines → IsLost m cause → Contains (rows m) (record { line = l; cause = cause })
         → IsRefusedIn (flow_terms_in m (line_flow m (injection m x)) l cause) bound p → IsRangeOf m g bound p
     flow_range l Base line lost c a = of_base_flow m g g (growth_none m g) solved.choice solved.is_choice bound p x injecting l line a
-    flow_range l (After k) line lost c a = at_x.flow_after l k line lost.0 c a
+    flow_range l (Branch k) line lost c a = at_x.flow_after l k line lost.0 c a
 
     row_range : (r : Row) → Contains (rows m) r → IsRowRefusal m (line_in m (flows_at m x)) bound r p → IsRangeOf m g bound p
     row_range r c (row_of_flow a) =
@@ -171,7 +174,7 @@ module _ (m : Parts) (g : List Row) (x : Dispatch) (d : Duals Fraction) (market 
             (subst (λ e. IsRefusedIn (surplus_terms m x e) bound p) solved.duals (subst (λ ts. IsRefusedIn ts bound p) left_is a)))
         settlement_range (of_injection i lt a) = at_x.at_bus i lt a
         settlement_range (of_line l lt a) = at_x.of_line l lt a
-        settlement_range (of_flow l k line lost c a) = at_x.flow_after l k line lost (named (record { line = l; cause = After k }) c).0 a
+        settlement_range (of_flow l k line lost c a) = at_x.flow_after l k line lost (named (record { line = l; cause = Branch k }) c).0 a
         settlement_range (of_offset r c a) = pairs.offset market r (named r c).0 a
         settlement_range (of_limit_less r c a) = pairs.limit_less r (named r c).0 a
         settlement_range (of_limit_more r c a) = pairs.limit_more r (named r c).0 a

@@ -4,7 +4,7 @@ use Rattle.fraction_theory.specs.Fraction.{Fraction}
 use Rattle.market_model.specs.declared.answered.Answer.{Answer}
 use Rattle.market_model.specs.declared.answered.Outcome.TheVariants as outcome
 use Rattle.market_model.specs.declared.participants.Parts.{Parts}
-use Rattle.market_model.specs.LimitRows.{Row}
+use Rattle.market_model.specs.declared.limits.Row.{Row}
 use Rattle.market_model.specs.Valued.{answer_at, farkas_at, passed_at}
 use Rattle.market_system.specs.Outcomes.{IsClear}
 use Rattle.clear_loop.specs.declared.fault.ClearFault.{ClearFault}

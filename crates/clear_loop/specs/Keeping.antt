@@ -5,7 +5,10 @@ use Rattle.std.specs.Coded.{Coded, code_by, coded×, coded_ℕ, coded_list, code
 use Rattle.linear_dict.specs.Dictionaries.{Dictionary, dictionary_code}
 use Rattle.market_model.specs.declared.participants.Parts.{Parts}
 use Rattle.market_model.specs.declared.answered.RowId.{RowId}
-use Rattle.market_model.specs.LimitRows.{Cause, Base, After, Row, row_id}
+use Rattle.market_model.specs.declared.limits.Cause.{Cause}
+use Rattle.market_model.specs.declared.limits.Row.{Row}
+use Rattle.market_model.specs.declared.limits.Cause.TheVariants.{Base, Branch}
+use Rattle.market_model.specs.LimitRows.{row_id}
 use Rattle.limit_rows.specs.Groups.{cause_of}
 use Rattle.market_dict.specs.Holding.{Holds}
 
@@ -31,11 +34,11 @@ FitsFrame m k = IsStartOf m k.rows k.names k.dict
 -- ---- its code
 abbrev pub lost_in : Cause → Option ℕ
 lost_in Base = None
-lost_in (After k) = Some k
+lost_in (Branch k) = Some k
 
 abbrev pub cause_back : (c : Cause) → cause_of (lost_in c) ≡ c
 cause_back Base = refl
-cause_back (After k) = refl
+cause_back (Branch k) = refl
 
 abbrev pub row_code : Coded Row
 row_code = code_by (ℕ × Option ℕ) (coded× coded_ℕ (coded_option coded_ℕ)) (λ r. (r.line, lost_in r.cause)) (λ p. record { line = p.0; cause = cause_of p.1 })

@@ -2,13 +2,12 @@
 use Rattle.std.specs.Prelude.{◌≡◌, Option, Some, None, List, [], length, map}
 use Rattle.linear_dict.specs.Dictionaries.{Dictionary}
 use Rattle.market_model.specs.declared.answered.RowId.{RowId}
-use Rattle.market_model.specs.LimitRows.{Row}
-use Rattle.limit_rows.specs.Places.{row_of}
+use Rattle.market_model.specs.declared.limits.Row.{Row}
 use Rattle.clear_loop.specs.declared.hand.Taken.{Taken}
 use Rattle.clear_loop.specs.Keeping.{Kept}
 
 abbrev pub rows_in : Taken → List Row
-rows_in t = map row_of t.rows
+rows_in t = t.rows
 
 abbrev pub rows_taken : Option Taken → List Row
 rows_taken None = []

@@ -3,7 +3,7 @@
 ghost use Rattle.std.specs.Prelude.{◌≡◌, List, length, map, IfOk, IfErr};
 ghost use Rattle.market_model.specs.Dispatch.{places};
 ghost use Rattle.market_model.specs.Fitting.{FitsMarket};
-ghost use Rattle.market_model.specs.LimitRows.{Row};
+ghost use Rattle.market_model.specs.declared.limits.Row.{Row};
 ghost use Rattle.market_model.specs.Optimality.{Feasible, ProperDuals};
 ghost use Rattle.market_model.specs.RightAnswers.{IsRight};
 ghost use Rattle.market_model.specs.Valued.{answer_at, duals_at, passed_at, price_at};

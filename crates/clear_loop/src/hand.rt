@@ -4,7 +4,6 @@ ghost use Rattle.std.specs.Prelude.{◌≡◌, [], ◌∷◌, ◌++◌, map, Con
 ghost use Rattle.market_model.specs.Dispatch.{Dispatch};
 ghost use Rattle.market_model.specs.LimitRows.{row_id, rows};
 ghost use Rattle.market_system.specs.Growth.{BestFor, Broken};
-ghost use Rattle.limit_rows.specs.Places.{row_of};
 ghost use Rattle.market_dict.specs.Holding.{Holds};
 ghost use Rattle.market_dict.specs.Terms.{AreTerms};
 ghost use Rattle.clear_loop.specs.Rounds.{IsInHand, StopsInRange};
@@ -60,9 +59,9 @@ pub(crate) fn started<N: Exact>(dict: Dict<N>) -> Warm<N>
 
 /// Puts a limit behind those taken.
 fn put_row(market: &Market, taken: &mut Taken, row: LimitRow) -> Result<(), Memory>
-    requires row { Contains (rows market.now) (row_of row) }
+    requires row { Contains (rows market.now) row }
     ensures rows { IfOk result (λ _. taken.new.rows ≡ taken.old.rows ++ row ∷ []) }
-    ensures names { IfOk result (λ _. taken.new.names ≡ taken.old.names ++ row_id market.now (row_of row) ∷ []) }
+    ensures names { IfOk result (λ _. taken.new.names ≡ taken.old.names ++ row_id market.now row ∷ []) }
 {
     let _lines = market.lines();
     let name = name_at(market, row);
@@ -82,10 +81,10 @@ pub(crate) fn with_row<N: Exact>(
     requires holds { Holds market.now (rows_in taken) dict }
     requires terms { AreTerms N.value market.now (rows_in taken) terms }
     requires names { taken.names ≡ map (row_id market.now) (rows_in taken) }
-    requires row { Contains (rows market.now) (row_of row) }
-    requires broken { (x : Dispatch) × BestFor market.now (rows_in taken) x × Broken market.now x (row_of row) }
+    requires row { Contains (rows market.now) row }
+    requires broken { (x : Dispatch) × BestFor market.now (rows_in taken) x × Broken market.now x row }
     ensures hand { IfOk result (IsInHand N.value market.now) }
-    ensures rows { IfOk result (λ hand. rows_in hand.taken ≡ rows_in taken ++ row_of row ∷ []) }
+    ensures rows { IfOk result (λ hand. rows_in hand.taken ≡ rows_in taken ++ row ∷ []) }
     ensures cause { IfErr result (StopsInRange N.value N.bound market.now (rows_in taken)) }
 {
     let _lines = market.lines();

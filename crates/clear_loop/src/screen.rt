@@ -2,10 +2,10 @@
 
 ghost use Rattle.std.specs.Prelude.{◌≡◌, ◌⊎◌, ℕ, length, Contains, IfOk, IfErr, MatchOption};
 ghost use Rattle.market_model.specs.Excess.{IsWorst};
-ghost use Rattle.market_model.specs.LimitRows.{Row, flow, rows};
+ghost use Rattle.market_model.specs.declared.limits.Row.{Row};
+ghost use Rattle.market_model.specs.LimitRows.{flow, rows, most_flow};
 ghost use Rattle.market_model.specs.Optimality.{Within};
 ghost use Rattle.market_model.specs.Valued.{passed_at};
-ghost use Rattle.limit_rows.specs.Places.{row_of};
 ghost use Rattle.limit_screen.specs.Flows.{dispatch_of, flows_at, line_in, IsFlowsRefusal};
 ghost use Rattle.limit_screen.specs.Screening.{IsScreenRefusal};
 ghost use Rattle.market_dict.specs.Findings.{OnPassed};
@@ -25,8 +25,8 @@ pub(crate) fn broken<N: Exact>(
 ) -> Result<Option<LimitRow>, Stop<N>>
     requires { length dispatch.now ≡ length market.now.blocks }
     ensures screened { IfOk result (λ found. MatchOption found
-        ((r : Row) → Contains (rows market.now) r → Within market.now r (flow market.now (dispatch_of N.value dispatch.now) r))
-        (λ row. (place : ℕ) × IsWorst market.now (flow market.now (dispatch_of N.value dispatch.now)) place (row_of row))) }
+        ((r : Row) → Contains (rows market.now) r → Within (most_flow market.now r) (flow market.now (dispatch_of N.value dispatch.now) r))
+        (λ row. (place : ℕ) × IsWorst market.now (flow market.now (dispatch_of N.value dispatch.now)) place row)) }
     ensures cause { IfErr result (λ stop. OnPassed stop (λ p. IsFlowsRefusal market.now (dispatch_of N.value dispatch.now) N.bound (passed_at N.value p)
         ⊎ IsScreenRefusal market.now (line_in market.now (flows_at market.now (dispatch_of N.value dispatch.now))) N.bound (passed_at N.value p))) }
 {

@@ -11,7 +11,7 @@ use Rattle.command_answers.specs.declared.status.Status.{Status}
 use Rattle.command_answers.specs.declared.status.Status.TheVariants as status
 use Rattle.market_model.specs.declared.answered.Outcome.TheVariants as outcome
 use Rattle.market_model.specs.declared.participants.Parts.{Parts}
-use Rattle.market_model.specs.LimitRows.{Row}
+use Rattle.market_model.specs.declared.limits.Row.{Row}
 use Rattle.market_model.specs.Market.{IsMarket}
 use Rattle.market_model.specs.Valued.{outcome_at}
 use Rattle.market_system.specs.Growth.{Growth}

@@ -3,7 +3,7 @@ use Rattle.std.specs.Prelude.{◌≡◌, ℕ, List, [], ◌∷◌, ◌++◌, len
 use Rattle.std.proofs.Common.{arith, ap, sym, ◌∙◌}
 use Rattle.fraction_theory.specs.Fraction.{Fraction}
 use Rattle.market_model.specs.declared.participants.Parts.{Parts}
-use Rattle.market_model.specs.LimitRows.{Row}
+use Rattle.market_model.specs.declared.limits.Row.{Row}
 use Rattle.market_system.proofs.Completeness.{law_of_completeness}
 use Rattle.offer_book.specs.Edits.{judge}
 use Rattle.offer_book.specs.declared.edit_parts.Edit.{Edit}

@@ -12,7 +12,8 @@ use Rattle.market_model.specs.declared.answered.RowId.{RowId}
 use Rattle.market_model.specs.Dispatch.{places}
 use Rattle.market_model.specs.Market.{IsMarket}
 use Rattle.market_model.proofs.ChangeLemmas.{same_default}
-use Rattle.market_model.specs.LimitRows.{Row, outage_of, place_of_line, row_id, rows}
+use Rattle.market_model.specs.declared.limits.Row.{Row}
+use Rattle.market_model.specs.LimitRows.{outage_of, place_of_line, row_id, rows}
 use Rattle.limit_rows.specs.Groups.{bears, cause_of, groups, lines_of, rows_of}
 use Rattle.limit_rows.proofs.FactorLemmas.{outage_stands}
 use Rattle.limit_rows.proofs.GroupLemmas.{length-map, place_at, row_at, row-of_outage, rows-groups}

@@ -15,7 +15,10 @@ use Rattle.market_model.specs.declared.participants.Line.{Line}
 use Rattle.market_model.specs.declared.participants.Parts.{Parts}
 use Rattle.market_model.specs.Dispatch.{places, line_at}
 use Rattle.market_model.specs.Factors.{factor_in, is_pair}
-use Rattle.market_model.specs.LimitRows.{Cause, Base, After, Row, place_of_line, rows, rows_after, base_rows, has_base, has_post, row_factor}
+use Rattle.market_model.specs.declared.limits.Cause.{Cause}
+use Rattle.market_model.specs.declared.limits.Row.{Row}
+use Rattle.market_model.specs.declared.limits.Cause.TheVariants.{Base, Branch}
+use Rattle.market_model.specs.LimitRows.{place_of_line, rows, rows_after, base_rows, has_base, has_post, row_factor}
 use Rattle.market_model.specs.Market.{IsMarket, IsFactor}
 use Rattle.limit_rows.proofs.GroupLemmas.{length-map, place_at, place-own, row_at}
 
@@ -39,7 +42,7 @@ unfolding row_factor
 factor-base m l i = factor-one 1000000 (Prim.omega arith) (factor_in m.shift l i) ∙ sym (+ℚ_nil (over (factor_in m.shift l i) 1000000))
 
 pub factor-after : (m : Parts) (l lost i : ℕ)
-    → over (factor_in m.shift l i *ℤ pos 1000000 +ℤ factor_in m.loss l lost *ℤ factor_in m.shift lost i) (10 ^ 12) ≡ row_factor m (record { line = l; cause = After lost }) i
+    → over (factor_in m.shift l i *ℤ pos 1000000 +ℤ factor_in m.loss l lost *ℤ factor_in m.shift lost i) (10 ^ 12) ≡ row_factor m (record { line = l; cause = Branch lost }) i
 unfolding row_factor
 factor-after m l lost i =
     factor-two 1000000 (Prim.omega arith) (factor_in m.shift l i) (factor_in m.loss l lost) (factor_in m.shift lost i)
@@ -49,7 +52,7 @@ factor-after m l lost i =
 -- a lost line is that of an outage
 abbrev pub IsLost : Parts → Cause → Type 0
 IsLost m Base = Unit {0}
-IsLost m (After lost) = (lost < length m.lines) × (1 ≤ (line_at m lost).row)
+IsLost m (Branch lost) = (lost < length m.lines) × (1 ≤ (line_at m lost).row)
 
 pub record Stands (m : Parts) (r : Row) : Type 0 where
   pub line : r.line < length m.lines
@@ -64,7 +67,7 @@ module _ (m : Parts) (market : IsMarket m) where
       let inside : k < length m.lines = Prim.omega (arith, h, length-range_with_len 0 (length m.lines)) in
       record { line = subst (λ (l : ℕ). l < length m.lines) (sym (place_at (length m.lines) k d inside)) inside; lost = lost }))
 
-  pub outage_stands : (i : ℕ) (d : ℕ) → i < length m.outages → IsLost m (After (place_of_line m (get_or m.outages i d)))
+  pub outage_stands : (i : ℕ) (d : ℕ) → i < length m.outages → IsLost m (Branch (place_of_line m (get_or m.outages i d)))
   outage_stands i d h = by (market.outages i d h)
     where
       by : {row : ℕ} → Contains (map (λ line. line.row) m.lines) row → (place_of_line m row < length m.lines) × (1 ≤ (line_at m (place_of_line m row)).row)
@@ -83,7 +86,7 @@ module _ (m : Parts) (market : IsMarket m) where
   rows_stand =
       All-append (Stands m) (base_rows m) (flat_map (λ row. rows_after m (place_of_line m row)) m.outages)
       (lines_stand Base (has_base m) tt)
-      (all_flat (λ row. rows_after m (place_of_line m row)) m.outages (λ i d h. lines_stand (After (place_of_line m (get_or m.outages i d))) (has_post m (place_of_line m (get_or m.outages i d))) (outage_stands i d h)))
+      (all_flat (λ row. rows_after m (place_of_line m row)) m.outages (λ i d h. lines_stand (Branch (place_of_line m (get_or m.outages i d))) (has_post m (place_of_line m (get_or m.outages i d))) (outage_stands i d h)))
 
   pub stands : (r : Row) → Contains (rows m) r → Stands m r
   stands r (k, lt, e) = subst (Stands m) e (rows_stand k r lt)

@@ -10,7 +10,9 @@ use Rattle.std.proofs.lemmas.Grind.{flat_map-append}
 use Rattle.market_model.specs.declared.answered.RowId.{RowId}
 use Rattle.market_model.specs.declared.participants.Parts.{Parts}
 use Rattle.market_model.specs.Dispatch.{places, line_at}
-use Rattle.market_model.specs.LimitRows.{Base, Row, outage_of, row_id, rows}
+use Rattle.market_model.specs.declared.limits.Row.{Row}
+use Rattle.market_model.specs.declared.limits.Cause.TheVariants.{Base}
+use Rattle.market_model.specs.LimitRows.{outage_of, row_id, rows}
 use Rattle.market_model.proofs.ChangeLemmas.{same_default}
 use Rattle.market_model.proofs.MorePlaces.{places_more}
 use Rattle.limit_rows.specs.Groups.{bears, cause_of, groups, is_named, lines_of, rows_of}

@@ -6,7 +6,8 @@ use Rattle.std.proofs.lemmas.List.{get_or-map}
 use Rattle.std.proofs.lemmas.List.Concat.{get_or-flat_map}
 use Rattle.std.proofs.lemmas.Option.{slice_get_within, get_or_from_slice_get}
 use Rattle.market_model.specs.declared.participants.Parts.{Parts}
-use Rattle.market_model.specs.LimitRows.{Row, rows}
+use Rattle.market_model.specs.declared.limits.Row.{Row}
+use Rattle.market_model.specs.LimitRows.{rows}
 use Rattle.limit_rows.specs.Groups.{cause_of, groups, lines_of, rows_of}
 use Rattle.limit_rows.proofs.GroupLemmas.{length-map, rows-groups, rows-more}
 

@@ -16,12 +16,13 @@ use Rattle.market_model.specs.declared.answered.RowId.{RowId}
 use Rattle.market_model.specs.declared.participants.Parts.{Parts}
 use Rattle.market_model.specs.Dispatch.{places, line_at}
 use Rattle.market_model.specs.Market.{IsMarket}
-use Rattle.market_model.specs.LimitRows.{Base, Row, outage_of, place_of_line, row_id, rows}
+use Rattle.market_model.specs.declared.limits.Row.{Row}
+use Rattle.market_model.specs.declared.limits.Cause.TheVariants.{Base}
+use Rattle.market_model.specs.LimitRows.{outage_of, place_of_line, row_id, rows}
 use Rattle.market_model.proofs.ChangeLemmas.{same_default}
 use Rattle.limit_rows.specs.Groups.{bears, cause_of, groups, is_named, lines_of, rows_of}
 use Rattle.limit_rows.proofs.ApartLemmas.{names_apart, outage_in}
 use Rattle.limit_rows.specs.declared.places.LimitRow.{LimitRow}
-use Rattle.limit_rows.specs.Places.{row_of}
 use Rattle.limit_rows.proofs.FactorLemmas.{IsLost, outage_stands, stands}
 use Rattle.limit_rows.proofs.GroupLemmas.{length-map, place_at, place-own, row-of_outage, rows-groups}
 use Rattle.limit_rows.proofs.NumberingLemmas.{row_on}
@@ -161,8 +162,8 @@ module _ (m : Parts) (market : IsMarket m) where
             (ap (λ (k : ℕ). bears m lost k) (sym line) ∙ ap (λ (h : Option ℕ). bears m h l) (sym group) ∙ row.bears)
 
 -- a row stands at places that are there
-pub at_places : (m : Parts) → IsMarket m → (row : LimitRow) → Contains (rows m) (row_of row) → (row.line < length m.lines) × IfSome row.lost (λ lost. lost < length m.lines)
-at_places m market row c = let h = stands m market (row_of row) c in (h.line, by row.lost h.lost)
+pub at_places : (m : Parts) → IsMarket m → (row : LimitRow) → Contains (rows m) row → (row.line < length m.lines) × IfSome row.lost (λ lost. lost < length m.lines)
+at_places m market row c = let h = stands m market row c in (h.line, by row.lost h.lost)
   where
     by : (lost : Option ℕ) → IsLost m (cause_of lost) → IfSome lost (λ k. k < length m.lines)
     by None h = tt

@@ -3,13 +3,16 @@ use Rattle.std.specs.Prelude.{ℕ, Bool, List, ◌∷◌, map, filter, length, O
 use Rattle.market_model.specs.declared.answered.RowId.{RowId}
 use Rattle.market_model.specs.declared.participants.Parts.{Parts}
 use Rattle.market_model.specs.Dispatch.{places}
-use Rattle.market_model.specs.LimitRows.{Cause, Base, After, Row, has_base, has_post, place_of_line, row_id}
+use Rattle.market_model.specs.declared.limits.Cause.{Cause}
+use Rattle.market_model.specs.declared.limits.Row.{Row}
+use Rattle.market_model.specs.declared.limits.Cause.TheVariants.{Base, Branch}
+use Rattle.market_model.specs.LimitRows.{has_base, has_post, place_of_line, row_id}
 use Rattle.market_model.specs.Optimality.{same_id}
 
 -- no outage, or that of the line of a place
 abbrev pub cause_of : Option ℕ → Cause
 cause_of None = Base
-cause_of (Some lost) = After lost
+cause_of (Some lost) = Branch lost
 
 -- whether a line has a row in a group
 abbrev pub bears : Parts → Option ℕ → ℕ → Bool

@@ -4,8 +4,8 @@ ghost use Rattle.std.specs.Prelude.{◌≡◌, ◌<◌, ◌≤◌, ◌*◌, ◌^
 ghost use Rattle.fraction_theory.specs.Fraction.{over};
 ghost use Rattle.market_model.specs.Factors.{factor_in};
 ghost use Rattle.market_model.specs.Market.{most_factor};
-ghost use Rattle.market_model.specs.LimitRows.{Row, factor_places, row_factor, row_id, rows};
-ghost use Rattle.limit_rows.specs.Places.{row_of};
+ghost use Rattle.market_model.specs.declared.limits.Row.{Row};
+ghost use Rattle.market_model.specs.LimitRows.{factor_places, row_factor, row_id, rows};
 
 use crate::places::{LimitRow, row_named};
 use market_model::{Market, RowId};
@@ -61,7 +61,7 @@ pub fn factor_at(market: &Market, row: LimitRow, bus: usize) -> i64
     requires lost { IfSome row.lost (λ lost. lost < length market.now.lines) }
     requires bus { bus < length market.now.buses }
     ensures size { unsigned_abs result < 2 ^ 63 }
-    ensures is { over result (10 ^ (2 * factor_places market.now)) ≡ row_factor market.now (row_of row) bus }
+    ensures is { over result (10 ^ (2 * factor_places market.now)) ≡ row_factor market.now row bus }
 {
     let own = finer(shift_of(market, row.line, bus));
     match row.lost {

@@ -2,7 +2,8 @@
 
 ghost use Rattle.std.specs.Prelude.{◌≡◌, ◌<◌, length, map, IfSome, Some};
 ghost use Rattle.std.specs.List.{position, slice_get};
-ghost use Rattle.market_model.specs.LimitRows.{Row, row_id, rows};
+ghost use Rattle.market_model.specs.declared.limits.Row.{Row};
+ghost use Rattle.market_model.specs.LimitRows.{row_id, rows};
 ghost use Rattle.limit_rows.specs.Groups.{is_named};
 
 use crate::groups::{count_of, group_at, group_count, line_behind, position_in};

@@ -3,9 +3,9 @@
 ghost use Rattle.std.specs.Prelude.{◌≡◌, ◌≢◌, ◌<◌, length, All, Contains, IfSome, MatchOption};
 ghost use Rattle.fraction_theory.specs.Fraction.{whole};
 ghost use Rattle.market_data.specs.Participants.{IsDatum};
-ghost use Rattle.market_model.specs.LimitRows.{Row, limit, outage_of, row_id, rows};
+ghost use Rattle.market_model.specs.declared.limits.Row.{Row};
+ghost use Rattle.market_model.specs.LimitRows.{limit, outage_of, row_id, rows};
 ghost use Rattle.limit_rows.specs.Groups.{cause_of, groups};
-ghost use Rattle.limit_rows.specs.Places.{row_of};
 
 use crate::groups::{has_row, place_of_line};
 use market_model::{Market, RowId};
@@ -23,7 +23,7 @@ pub struct LimitRow {
 pub fn limit_at(market: &Market, row: LimitRow) -> i64
     requires { row.line < length market.now.lines }
     ensures datum { IsDatum result }
-    ensures limit { whole result ≡ limit market.now (row_of row) }
+    ensures limit { whole result ≡ limit market.now row }
 {
     let line = market.lines().at(row.line);
     let limit = match row.lost {
@@ -37,7 +37,7 @@ pub fn limit_at(market: &Market, row: LimitRow) -> i64
 pub fn name_at(market: &Market, row: LimitRow) -> RowId
     requires line { row.line < length market.now.lines }
     requires lost { IfSome row.lost (λ lost. lost < length market.now.lines) }
-    ensures { result ≡ row_id market.now (row_of row) }
+    ensures { result ≡ row_id market.now row }
 {
     let outage = match row.lost {
         None => 0,
@@ -66,7 +66,7 @@ fn lost_named(market: &Market, outage: u32) -> Option<Option<usize>>
 
 /// The row of a name, where the market has one.
 pub fn row_named(market: &Market, name: RowId) -> Option<LimitRow>
-    ensures { MatchOption result ((r : Row) → Contains (rows market.now) r → row_id market.now r ≢ name) (λ row. Contains (rows market.now) (row_of row) × (row_id market.now (row_of row) ≡ name)) }
+    ensures { MatchOption result ((r : Row) → Contains (rows market.now) r → row_id market.now r ≢ name) (λ row. Contains (rows market.now) row × (row_id market.now row ≡ name)) }
 {
     let lost = lost_named(market, name.outage)?;
     let line = place_of_line(market, name.branch);

@@ -20,11 +20,13 @@ use Rattle.market_model.specs.declared.answered.RowId.{RowId}
 use Rattle.market_model.specs.declared.participants.Parts.{Parts}
 use Rattle.market_model.specs.Dispatch.{Dispatch, places, injection}
 use Rattle.market_model.specs.Excess.{size_by, size_of}
-use Rattle.market_model.specs.LimitRows.{Cause, Base, After, Row, rows, row_id, limit, line_flow, loss_factor, flow_after}
+use Rattle.market_model.specs.declared.limits.Cause.{Cause}
+use Rattle.market_model.specs.declared.limits.Row.{Row}
+use Rattle.market_model.specs.declared.limits.Cause.TheVariants.{Base, Branch}
+use Rattle.market_model.specs.LimitRows.{rows, row_id, limit, line_flow, loss_factor, flow_after}
 use Rattle.market_model.specs.Market.{IsMarket}
 use Rattle.market_model.proofs.MorePlaces.{places_more}
 use Rattle.limit_rows.specs.Groups.{bears, groups}
-use Rattle.limit_rows.specs.Places.{row_of}
 use Rattle.limit_rows.proofs.FactorLemmas.{IsLost, stands}
 use Rattle.limit_rows.proofs.NumberingLemmas.{row_on, all_before}
 use Rattle.limit_rows.proofs.PlaceLemmas.{lost_inside}
@@ -94,7 +96,7 @@ old_worst e rs old r h less =
 -- a row that holds changes nothing
 pub held : {N : Type 0} (value : N → Fraction) (e : Row → Fraction) (rs : List Row) (r : Row) (worst : Option (Broken N)) → IsWorstOf value e rs worst → e r ≤ℚ whole (pos 0) → IsWorstOf value e (rs ++ r ∷ []) worst
 held value e rs r None before h = all_hold e rs r before h
-held value e rs r (Some b) before h = (old_worst e rs (row_of b.row) r before.0 (≤ℚ_trans (e r) (whole (pos 0)) (e (row_of b.row)) h (<ℚ-≤ℚ (whole (pos 0)) (e (row_of b.row)) before.0.broken)), before.1)
+held value e rs r (Some b) before h = (old_worst e rs b.row r before.0 (≤ℚ_trans (e r) (whole (pos 0)) (e b.row) h (<ℚ-≤ℚ (whole (pos 0)) (e b.row) before.0.broken)), before.1)
 
 -- ---- a limit that holds
 from_opposite : (f F : Fraction) → neg_ℚ f ≤ℚ F → neg_ℚ F ≤ℚ f
@@ -133,7 +135,7 @@ law_of_row_flows m x fs r market puts c = let h = stands m market r c in by r.ca
   where
     by : (cause : Cause) → IsLost m cause → r.line < length m.lines → flow_in m (line_in m fs) r.line cause ≡ flow_after m (injection m x) r.line cause
     by Base lost inside = line_at_place m x fs r.line puts inside
-    by (After k) lost inside = ap₂ (λ a b. a +ℚ loss_factor m r.line k *ℚ b) (line_at_place m x fs r.line puts inside) (line_at_place m x fs k puts lost.0)
+    by (Branch k) lost inside = ap₂ (λ a b. a +ℚ loss_factor m r.line k *ℚ b) (line_at_place m x fs r.line puts inside) (line_at_place m x fs k puts lost.0)
 
 -- ---- rows of a group, line by line
 pub lines_more : (m : Parts) (lost : Option ℕ) (k : ℕ) (rs : List Row) → bears m lost k ≡ true

@@ -9,7 +9,10 @@ use Rattle.exact_fraction.specs.declared.Passed.{Passed}
 use Rattle.market_data.specs.declared.participants.Bus.{Bus}
 use Rattle.market_model.specs.declared.participants.Parts.{Parts}
 use Rattle.market_model.specs.Dispatch.{Dispatch, zero, places, injection, injection_terms}
-use Rattle.market_model.specs.LimitRows.{Cause, Base, After, Row, rows, loss_factor, line_flow, line_terms, flow}
+use Rattle.market_model.specs.declared.limits.Cause.{Cause}
+use Rattle.market_model.specs.declared.limits.Row.{Row}
+use Rattle.market_model.specs.declared.limits.Cause.TheVariants.{Base, Branch}
+use Rattle.market_model.specs.LimitRows.{rows, loss_factor, line_flow, line_terms, flow}
 use Rattle.market_model.specs.Market.{IsMarket}
 use Rattle.market_model.specs.NamedSums.{IsAddedIn, IsRefusal, IsRefusedIn}
 
@@ -28,14 +31,14 @@ line_in m fs l = slice_index_or fs (length m.buses + l) zero
 -- the flow of a row, where lines have these flows: after an outage with what goes over of the lost one
 abbrev pub flow_in : Parts → (ℕ → Fraction) → ℕ → Cause → Fraction
 flow_in m f l Base = f l
-flow_in m f l (After lost) = f l +ℚ loss_factor m l lost *ℚ f lost
+flow_in m f l (Branch lost) = f l +ℚ loss_factor m l lost *ℚ f lost
 
 abbrev pub flow_by : Parts → (ℕ → Fraction) → Row → Fraction
 flow_by m f r = flow_in m f r.line r.cause
 
 abbrev pub flow_terms_in : Parts → (ℕ → Fraction) → ℕ → Cause → List Term
 flow_terms_in m f l Base = Plain (f l) ∷ []
-flow_terms_in m f l (After lost) = Plain (f l) ∷ Product (loss_factor m l lost) (f lost) ∷ []
+flow_terms_in m f l (Branch lost) = Plain (f l) ∷ Product (loss_factor m l lost) (f lost) ∷ []
 
 abbrev pub flow_terms : Parts → (ℕ → Fraction) → Row → List Term
 flow_terms m f r = flow_terms_in m f r.line r.cause

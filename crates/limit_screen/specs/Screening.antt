@@ -9,17 +9,17 @@ use Rattle.market_model.specs.declared.answered.RowId.{RowId}
 use Rattle.market_model.specs.declared.participants.Parts.{Parts}
 use Rattle.market_model.specs.Dispatch.{zero}
 use Rattle.market_model.specs.Excess.{excess, size_of, IsWorst}
-use Rattle.market_model.specs.LimitRows.{Row, rows, row_id, limit}
+use Rattle.market_model.specs.declared.limits.Row.{Row}
+use Rattle.market_model.specs.LimitRows.{rows, row_id, limit}
 use Rattle.market_model.specs.NamedSums.{IsRefusal, IsRefusedIn}
 use Rattle.market_model.specs.Optimality.{Within}
 use Rattle.limit_rows.specs.Groups.{groups, rows_of}
-use Rattle.limit_rows.specs.Places.{row_of}
 use Rattle.limit_screen.specs.declared.screening.Broken.{Broken}
 use Rattle.limit_screen.specs.Flows.{flow_by, flow_terms}
 
 -- all limits of the market hold
 abbrev pub AllHold : Parts → (ℕ → Fraction) → Type 0
-AllHold m f = (r : Row) → Contains (rows m) r → Within m r (flow_by m f r)
+AllHold m f = (r : Row) → Contains (rows m) r → Within (limit m r) (flow_by m f r)
 
 -- the name of the row of greatest excess, the first of several
 abbrev pub IsWorstNamed : Parts → (ℕ → Fraction) → RowId → Type 0
@@ -49,7 +49,7 @@ pub record IsFirstMost (e : Row → Fraction) (rs : List Row) (r : Row) : Type 0
 -- the worst of some rows with its excess, or none where all of them hold
 abbrev pub IsWorstOf : {N : Type 0} → (N → Fraction) → (Row → Fraction) → List Row → Option (Broken N) → Type 0
 IsWorstOf value e rs None = All (λ s. e s ≤ℚ zero) rs
-IsWorstOf value e rs (Some b) = IsFirstMost e rs (row_of b.row) × (value b.excess ≡ e (row_of b.row))
+IsWorstOf value e rs (Some b) = IsFirstMost e rs b.row × (value b.excess ≡ e b.row)
 
 -- the rows of the first groups
 abbrev pub rows_to : Parts → ℕ → List Row

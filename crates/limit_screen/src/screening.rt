@@ -7,10 +7,9 @@ ghost use Rattle.exact_fraction.specs.declared.Op.TheVariants as Op;
 ghost use Rattle.market_model.specs.Valued.{passed_at};
 ghost use Rattle.market_model.specs.Dispatch.{zero};
 ghost use Rattle.market_model.specs.Excess.{size_of};
-ghost use Rattle.market_model.specs.LimitRows.{Row};
+ghost use Rattle.market_model.specs.declared.limits.Row.{Row};
 ghost use Rattle.market_model.specs.NamedSums.{IsRefusal, IsRefusedIn};
 ghost use Rattle.limit_rows.specs.Groups.{groups};
-ghost use Rattle.limit_rows.specs.Places.{row_of};
 ghost use Rattle.limit_screen.specs.Flows.{flow_by, flow_terms, line_in};
 ghost use Rattle.limit_screen.specs.Screening.{AllHold, IsWorstNamed, IsRowRefusal, IsScreenRefusal, IsWorstOf, excess_by, rows_to};
 
@@ -33,8 +32,8 @@ pub fn row_flow<N: Exact>(market: &Market, flows: &[N], row: LimitRow) -> Result
     requires flows { length flows.now ≡ length market.now.buses + length market.now.lines }
     requires line { row.line < length market.now.lines }
     requires lost { IfSome row.lost (λ lost. lost < length market.now.lines) }
-    ensures flow { IfOk result (λ flow. N.value flow ≡ flow_by market.now (line_in market.now (map N.value flows.now)) (row_of row)) }
-    ensures cause { IfErr result (λ passed. IsRefusedIn (flow_terms market.now (line_in market.now (map N.value flows.now)) (row_of row)) N.bound (passed_at N.value passed)) }
+    ensures flow { IfOk result (λ flow. N.value flow ≡ flow_by market.now (line_in market.now (map N.value flows.now)) row) }
+    ensures cause { IfErr result (λ passed. IsRefusedIn (flow_terms market.now (line_in market.now (map N.value flows.now)) row) N.bound (passed_at N.value passed)) }
 {
     let buses = market.buses().len();
     let own = flows[buses + row.line];
@@ -69,7 +68,7 @@ fn beyond<N: Exact>(flow: N, limit: N) -> Result<Option<N>, Passed<N>>
 /// The worse of two rows, and the first where they are as bad.
 fn worse<N: Exact>(worst: Option<Broken<N>>, row: LimitRow, excess: N) -> Option<Broken<N>>
     requires { zero <ℚ N.value excess }
-    ensures { (e : Row → Fraction) (rs : List Row) → IsWorstOf N.value e rs worst → N.value excess ≡ e (row_of row) → IsWorstOf N.value e (rs ++ row_of row ∷ []) result }
+    ensures { (e : Row → Fraction) (rs : List Row) → IsWorstOf N.value e rs worst → N.value excess ≡ e row → IsWorstOf N.value e (rs ++ row ∷ []) result }
 {
     match worst {
         Some(broken) => match excess.order(broken.excess) {
@@ -90,8 +89,8 @@ fn with_row<N: Exact>(
     requires flows { length flows.now ≡ length market.now.buses + length market.now.lines }
     requires line { row.line < length market.now.lines }
     requires lost { IfSome row.lost (λ lost. lost < length market.now.lines) }
-    ensures worst { (rs : List Row) → IsWorstOf N.value (excess_by market.now (line_in market.now (map N.value flows.now))) rs worst → IfOk result (IsWorstOf N.value (excess_by market.now (line_in market.now (map N.value flows.now))) (rs ++ row_of row ∷ [])) }
-    ensures cause { IfErr result (λ passed. IsRowRefusal market.now (line_in market.now (map N.value flows.now)) N.bound (row_of row) (passed_at N.value passed)) }
+    ensures worst { (rs : List Row) → IsWorstOf N.value (excess_by market.now (line_in market.now (map N.value flows.now))) rs worst → IfOk result (IsWorstOf N.value (excess_by market.now (line_in market.now (map N.value flows.now))) (rs ++ row ∷ [])) }
+    ensures cause { IfErr result (λ passed. IsRowRefusal market.now (line_in market.now (map N.value flows.now)) N.bound row (passed_at N.value passed)) }
 {
     let flow = row_flow(market, flows, row)?;
     match beyond(flow, datum(limit_at(market, row)))? {

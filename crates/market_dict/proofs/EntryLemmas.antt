@@ -12,7 +12,8 @@ use Rattle.market_model.specs.declared.answered.RowId.{RowId}
 use Rattle.market_model.specs.declared.participants.Block.{Block}
 use Rattle.market_model.specs.declared.participants.Parts.{Parts}
 use Rattle.market_model.specs.Dispatch.{places, signed, block_at, unit_at}
-use Rattle.market_model.specs.LimitRows.{Row, rows, row_id, row_factor, place_of_line}
+use Rattle.market_model.specs.declared.limits.Row.{Row}
+use Rattle.market_model.specs.LimitRows.{rows, row_id, row_factor, place_of_line}
 use Rattle.market_model.specs.Market.{IsMarket}
 use Rattle.market_model.proofs.MarketSums.{unit_bus-in}
 use Rattle.limit_rows.specs.Groups.{bears, groups, is_named, lines_of, rows_of}

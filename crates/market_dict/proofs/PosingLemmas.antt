@@ -8,7 +8,7 @@ use Rattle.linear_dict.specs.Dictionaries.{Dictionary}
 use Rattle.simplex_core.specs.declared.bounds.Bounds.{Bounds}
 use Rattle.market_model.specs.declared.participants.Parts.{Parts}
 use Rattle.market_model.specs.Dispatch.{places, zero}
-use Rattle.market_model.specs.LimitRows.{Row}
+use Rattle.market_model.specs.declared.limits.Row.{Row}
 use Rattle.market_model.specs.Optimality.{block_value}
 use Rattle.market_system.specs.MarketSystem.{needed, least_added, row_name}
 use Rattle.market_dict.specs.Holding.{Holds, lows}

@@ -7,7 +7,10 @@ use Rattle.linear_system.specs.Choices.{Choice, IsChoice}
 use Rattle.linear_dict.specs.Causes.{IsPairOf}
 use Rattle.market_model.specs.declared.participants.Parts.{Parts}
 use Rattle.market_model.specs.Dispatch.{empty, injection}
-use Rattle.market_model.specs.LimitRows.{Cause, Base, After, Row, rows, line_flow}
+use Rattle.market_model.specs.declared.limits.Cause.{Cause}
+use Rattle.market_model.specs.declared.limits.Row.{Row}
+use Rattle.market_model.specs.declared.limits.Cause.TheVariants.{Base, Branch}
+use Rattle.market_model.specs.LimitRows.{rows, line_flow}
 use Rattle.market_model.specs.Market.{IsMarket}
 use Rattle.market_model.specs.NamedSums.{IsRefusedIn}
 use Rattle.market_model.specs.Valued.{passed_at}
@@ -36,7 +39,7 @@ module _ (m : Parts) (t g : List Row) (h : Choice) (bound : ℕ) (p : Passed Fra
   flow_range : (l : ℕ) (cause : Cause) → l < length m.lines → IsLost m cause → Contains (rows m) (record { line = l; cause = cause })
       → IsRefusedIn (flow_terms_in m (line_flow m (injection m (empty m))) l cause) bound p → IsRangeOf m t bound p
   flow_range l Base line lost c a = of_base_flow m t g grown h choice bound p (empty m) (inl refl) l line a
-  flow_range l (After k) line lost c a = idle.flow_after l k line lost.0 c a
+  flow_range l (Branch k) line lost c a = idle.flow_after l k line lost.0 c a
 
   bound_range : (r : Row) → Contains (rows m) r → IsBoundRefusal m bound r p → IsRangeOf m t bound p
   bound_range r c (of_flow a) = let s = stands m market r c in flow_range r.line r.cause s.line s.lost c a

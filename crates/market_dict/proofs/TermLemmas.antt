@@ -12,7 +12,10 @@ use Rattle.exact_fraction.specs.declared.Passed.{Passed}
 use Rattle.market_model.specs.declared.participants.Block.{Block}
 use Rattle.market_model.specs.declared.participants.Parts.{Parts}
 use Rattle.market_model.specs.Dispatch.{Dispatch, places, signed, block_at, quantity, injection, balance, balance_terms}
-use Rattle.market_model.specs.LimitRows.{Cause, Base, After, Row, rows, line_flow, loss_factor}
+use Rattle.market_model.specs.declared.limits.Cause.{Cause}
+use Rattle.market_model.specs.declared.limits.Row.{Row}
+use Rattle.market_model.specs.declared.limits.Cause.TheVariants.{Base, Branch}
+use Rattle.market_model.specs.LimitRows.{rows, line_flow, loss_factor}
 use Rattle.market_model.specs.Market.{IsMarket}
 use Rattle.market_model.specs.NamedSums.{IsAddedIn, IsRefusal}
 use Rattle.market_model.proofs.MorePlaces.{total-places_more}
@@ -59,7 +62,7 @@ module _ (m : Parts) (x : Dispatch) (fs : List Fraction) (puts : fs ≡ flows_at
     where
       by : (cause : Cause) → IsLost m cause → r.line < length m.lines → flow_terms_in m (line_in m fs) r.line cause ≡ flow_terms_in m (line_flow m (injection m x)) r.line cause
       by Base lost inside = ap (λ (a : Fraction). Plain a ∷ []) (line_at_place r.line inside)
-      by (After k) lost inside = ap₂ (λ (a b : Fraction). Plain a ∷ Product (loss_factor m r.line k) b ∷ []) (line_at_place r.line inside) (line_at_place k lost.0)
+      by (Branch k) lost inside = ap₂ (λ (a b : Fraction). Plain a ∷ Product (loss_factor m r.line k) b ∷ []) (line_at_place r.line inside) (line_at_place k lost.0)
 
 -- ---- the balance, bus by bus
 module _ (m : Parts) (x : Dispatch) where

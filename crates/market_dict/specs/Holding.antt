@@ -7,7 +7,7 @@ use Rattle.linear_system.specs.SameSystems.{SameSystem}
 use Rattle.linear_dict.specs.Dictionaries.{Dictionary, IsDictionary, system_of as system_in}
 use Rattle.market_model.specs.declared.participants.Parts.{Parts}
 use Rattle.market_model.specs.Dispatch.{zero, places, quantity}
-use Rattle.market_model.specs.LimitRows.{Row}
+use Rattle.market_model.specs.declared.limits.Row.{Row}
 use Rattle.market_system.specs.MarketSystem.{balance_name, row_name, block_sign, needed, block_coefficient, least_added, most_added, system_of}
 use Rattle.market_system.specs.SolvedLaws.{AreRows}
 

@@ -5,7 +5,8 @@ use Rattle.exact_fraction.specs.declared.Op.TheVariants.{Minus}
 use Rattle.exact_fraction.specs.declared.Passed.{Passed}
 use Rattle.market_model.specs.declared.participants.Parts.{Parts}
 use Rattle.market_model.specs.Dispatch.{empty, injection, balance_terms}
-use Rattle.market_model.specs.LimitRows.{Row, rows, limit, line_flow, flow}
+use Rattle.market_model.specs.declared.limits.Row.{Row}
+use Rattle.market_model.specs.LimitRows.{rows, limit, line_flow, flow}
 use Rattle.market_model.specs.NamedSums.{IsAddedIn, IsRefusal, IsRefusedIn}
 use Rattle.limit_screen.specs.Flows.{flow_terms, IsFlowsRefusal}
 

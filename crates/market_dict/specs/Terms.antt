@@ -3,7 +3,7 @@ use Rattle.std.specs.Prelude.{◌≡◌, List, length, map}
 use Rattle.fraction_theory.specs.Fraction.{Fraction}
 use Rattle.market_model.specs.declared.participants.Parts.{Parts}
 use Rattle.market_model.specs.Dispatch.{places, empty}
-use Rattle.market_model.specs.LimitRows.{Row}
+use Rattle.market_model.specs.declared.limits.Row.{Row}
 use Rattle.market_model.specs.Optimality.{block_value}
 use Rattle.limit_screen.specs.Flows.{flows_at}
 use Rattle.market_dict.specs.Holding.{lows, highs}

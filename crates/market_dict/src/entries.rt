@@ -4,7 +4,6 @@ ghost use Rattle.std.specs.Prelude.{◌≡◌, ◌<◌, ◌≤◌, length, map, 
 ghost use Rattle.market_model.specs.Dispatch.{zero, places, signed, unit_at};
 ghost use Rattle.market_model.specs.LimitRows.{rows, row_factor};
 ghost use Rattle.market_system.specs.MarketSystem.{block_sign, block_coefficient};
-ghost use Rattle.limit_rows.specs.Places.{row_of};
 
 use exact_fraction::Exact;
 use limit_rows::{LimitRow, factor_at};
@@ -66,9 +65,9 @@ pub(crate) fn balance_entries<N: Exact>(alloc: Global, market: &Market) -> Resul
 
 /// By how much a MW of a block raises the flow of a limit.
 fn row_entry<N: Exact>(market: &Market, row: LimitRow, block: &Block) -> N
-    requires row { Contains (rows market.now) (row_of row) }
+    requires row { Contains (rows market.now) row }
     requires unit { block.now.unit < length market.now.units }
-    ensures { N.value result ≡ signed block.now.side (row_factor market.now (row_of row) (unit_at market.now block.now.unit).bus) }
+    ensures { N.value result ≡ signed block.now.side (row_factor market.now row (unit_at market.now block.now.unit).bus) }
 {
     let bus = market.units().at(block.unit).bus;
     by_side(block, N::of_parts(factor_at(market, row, bus), WHOLE))
@@ -80,8 +79,8 @@ pub(crate) fn row_entries<N: Exact>(
     market: &Market,
     row: LimitRow,
 ) -> Result<List<N>, Memory>
-    requires row { Contains (rows market.now) (row_of row) }
-    ensures { IfOk result (λ entries. map N.value entries ≡ map (block_coefficient market.now (row_of row)) (places (length market.now.blocks))) }
+    requires row { Contains (rows market.now) row }
+    ensures { IfOk result (λ entries. map N.value entries ≡ map (block_coefficient market.now row) (places (length market.now.blocks))) }
 {
     let mut entries = List::new(alloc);
     for block in market.blocks().slice() {

@@ -9,7 +9,8 @@ ghost use Rattle.linear_dict.specs.Dictionaries.{IsDictionary, choice_of, note_o
 ghost use Rattle.simplex_core.specs.Outcomes.{ShowsChoice};
 ghost use Rattle.simplex_theory.specs.Steps.{signed};
 ghost use Rattle.simplex_theory.specs.Stuck.{multiplier as multiplier_of, margin as margin_of};
-ghost use Rattle.market_model.specs.LimitRows.{Row, row_id};
+ghost use Rattle.market_model.specs.declared.limits.Row.{Row};
+ghost use Rattle.market_model.specs.LimitRows.{row_id};
 ghost use Rattle.market_model.specs.Valued.{dual_at, duals_at};
 ghost use Rattle.market_system.specs.MarketSystem.{balance_name, row_name, in_order, dual_by, duals_by as duals_of, choice_dispatch, choice_duals, system_of};
 ghost use Rattle.market_system.specs.SolvedLaws.{stuck_duals};

@@ -1,9 +1,9 @@
 //! The dictionary of a market: its start with the balance alone, and the limits that it takes.
 
 ghost use Rattle.std.specs.Prelude.{◌≡◌, List, [], ◌∷◌, ◌++◌, Contains, IfOk, IfErr};
-ghost use Rattle.market_model.specs.LimitRows.{Row, rows};
+ghost use Rattle.market_model.specs.declared.limits.Row.{Row};
+ghost use Rattle.market_model.specs.LimitRows.{rows};
 ghost use Rattle.market_system.specs.MarketSystem.{row_name as row_name_of};
-ghost use Rattle.limit_rows.specs.Places.{row_of};
 ghost use Rattle.market_dict.specs.Findings.{IsPairOver};
 ghost use Rattle.market_dict.specs.Holding.{Holds};
 
@@ -28,8 +28,8 @@ pub fn start<N: Exact>(alloc: Global, market: &Market) -> Result<Dict<N>, Memory
 
 /// The name of a limit's variable: its place among the market's limits, behind the blocks and the balance.
 fn row_name(market: &Market, row: LimitRow) -> u32
-    requires { Contains (rows market.now) (row_of row) }
-    ensures { result ≡ row_name_of market.now (row_of row) }
+    requires { Contains (rows market.now) row }
+    ensures { result ≡ row_name_of market.now row }
 {
     let _lines = market.lines();
     match position(market, name_at(market, row)) {
@@ -45,11 +45,11 @@ pub fn take_limit<N: Exact>(
     dict: &mut Dict<N>,
     row: LimitRow,
 ) -> Result<(), Stop<N>>
-    requires row { Contains (rows market.now) (row_of row) }
-    requires holds { (g : List Row) × Holds market.now g dict.old × ¬ (Contains g (row_of row)) }
-    ensures taken { (g : List Row) → Holds market.now g dict.old → IfOk result (λ _. Holds market.now (g ++ row_of row ∷ []) dict.new) }
+    requires row { Contains (rows market.now) row }
+    requires holds { (g : List Row) × Holds market.now g dict.old × ¬ (Contains g row) }
+    ensures taken { (g : List Row) → Holds market.now g dict.old → IfOk result (λ _. Holds market.now (g ++ row ∷ []) dict.new) }
     ensures kept { IfErr result (λ _. dict.new ≡ dict.old) }
-    ensures pair { (g : List Row) → Holds market.now g dict.old → IfErr result (IsPairOver N.value N.bound market.now (g ++ row_of row ∷ [])) }
+    ensures pair { (g : List Row) → Holds market.now g dict.old → IfErr result (IsPairOver N.value N.bound market.now (g ++ row ∷ [])) }
 {
     let _lines = market.lines();
     let entries = row_entries(alloc, market, row)?;

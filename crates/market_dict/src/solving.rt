@@ -5,7 +5,7 @@ ghost use Rattle.linear_dict.specs.Dictionaries.{system_of as system_in};
 ghost use Rattle.simplex_core.specs.Outcomes.{IsEmptyAt, ShowsChoice};
 ghost use Rattle.simplex_core.specs.States.{state_of};
 ghost use Rattle.simplex_theory.specs.States.{IsSolved};
-ghost use Rattle.market_model.specs.LimitRows.{Row};
+ghost use Rattle.market_model.specs.declared.limits.Row.{Row};
 ghost use Rattle.market_dict.specs.Findings.{IsFound, IsPairOver};
 ghost use Rattle.market_dict.specs.Holding.{HoldsSystem};
 

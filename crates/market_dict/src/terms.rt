@@ -4,12 +4,12 @@ ghost use Rattle.std.specs.Prelude.{◌≡◌, pos, ◌≤ℤ◌, List, [], ◌�
 ghost use Rattle.fraction_theory.specs.Fraction.{whole, neg_ℚ};
 ghost use Rattle.market_data.specs.Participants.{IsDatum};
 ghost use Rattle.market_model.specs.Dispatch.{zero, places, signed, empty, balance_terms};
-ghost use Rattle.market_model.specs.LimitRows.{Row, rows};
+ghost use Rattle.market_model.specs.declared.limits.Row.{Row};
+ghost use Rattle.market_model.specs.LimitRows.{rows};
 ghost use Rattle.market_model.specs.NamedSums.{IsAddedIn};
 ghost use Rattle.market_model.specs.Optimality.{block_value};
 ghost use Rattle.market_model.specs.Valued.{passed_at};
 ghost use Rattle.market_system.specs.MarketSystem.{needed as needed_of, least_added, most_added};
-ghost use Rattle.limit_rows.specs.Places.{row_of};
 ghost use Rattle.limit_screen.specs.Flows.{flows_at, IsFlowsRefusal};
 ghost use Rattle.market_dict.specs.Holding.{lows, highs};
 ghost use Rattle.market_dict.specs.Refusals.{IsBoundRefusal, IsTermsRefusal};
@@ -118,11 +118,11 @@ fn first_bounds<N: Exact>(
 
 /// By how much blocks may raise the flow of a limit: what the flow leaves of it on either side where nothing is accepted.
 fn row_bounds<N: Exact>(market: &Market, idle: &[N], row: LimitRow) -> Result<Bounds<N>, Passed<N>>
-    requires row { Contains (rows market.now) (row_of row) }
+    requires row { Contains (rows market.now) row }
     requires idle { map N.value idle.now ≡ flows_at market.now (empty market.now) }
-    ensures low { IfOk result (λ bounds. N.value bounds.low ≡ least_added market.now (row_of row)) }
-    ensures high { IfOk result (λ bounds. N.value bounds.high ≡ most_added market.now (row_of row)) }
-    ensures cause { IfErr result (λ passed. IsBoundRefusal market.now N.bound (row_of row) (passed_at N.value passed)) }
+    ensures low { IfOk result (λ bounds. N.value bounds.low ≡ least_added market.now row) }
+    ensures high { IfOk result (λ bounds. N.value bounds.high ≡ most_added market.now row) }
+    ensures cause { IfErr result (λ passed. IsBoundRefusal market.now N.bound row (passed_at N.value passed)) }
 {
     let _lines = market.lines();
     let flow = row_flow(market, idle, row)?;
@@ -138,8 +138,8 @@ pub fn terms_of<N: Exact>(
     market: &Market,
     taken: &[LimitRow],
 ) -> Result<Terms<N>, Stop<N>>
-    requires rows { All (λ r. Contains (rows market.now) (row_of r)) taken.now }
-    ensures terms { IfOk result (AreTerms N.value market.now (map row_of taken.now)) }
+    requires rows { All (λ r. Contains (rows market.now) r) taken.now }
+    ensures terms { IfOk result (AreTerms N.value market.now (taken.now)) }
     ensures cause { IfErr result (λ stop. OnPassed stop (λ p. IsTermsRefusal market.now N.bound (passed_at N.value p))) }
 {
     let prices = block_prices(alloc, market)?;
@@ -163,9 +163,9 @@ pub fn take_bounds<N: Exact>(
     terms: &mut Terms<N>,
     row: LimitRow,
 ) -> Result<(), Stop<N>>
-    requires row { Contains (rows market.now) (row_of row) }
+    requires row { Contains (rows market.now) row }
     requires terms { (g : List Row) × AreTerms N.value market.now g terms.old }
-    ensures taken { (g : List Row) → AreTerms N.value market.now g terms.old → IfOk result (λ _. AreTerms N.value market.now (g ++ row_of row ∷ []) terms.new) }
+    ensures taken { (g : List Row) → AreTerms N.value market.now g terms.old → IfOk result (λ _. AreTerms N.value market.now (g ++ row ∷ []) terms.new) }
     ensures kept { IfErr result (λ _. terms.new ≡ terms.old) }
     ensures cause { IfErr result (λ stop. OnPassed stop (λ p. IsTermsRefusal market.now N.bound (passed_at N.value p))) }
 {

@@ -20,7 +20,8 @@ use Rattle.market_model.specs.declared.participants.Side.TheVariants.{Sell, Buy}
 use Rattle.market_model.specs.declared.answered.Duals.{Duals}
 use Rattle.market_model.specs.Dispatch.{Dispatch, zero, places, block_at, unit_at, block_bus, signed, accepted, quantity, raised_by, demand, balance, empty}
 use Rattle.market_model.specs.Optimality.{up_of, down_of, pull, bus_price}
-use Rattle.market_model.specs.LimitRows.{Row, rows, flow, row_offset, limit}
+use Rattle.market_model.specs.declared.limits.Row.{Row}
+use Rattle.market_model.specs.LimitRows.{rows, flow, row_offset, limit}
 use Rattle.market_model.specs.Market.{IsMarket}
 use Rattle.market_model.specs.Infeasibility.{where_above, part_above, block_weight, limit_terms, farkas_terms, farkas_bound}
 use Rattle.market_model.specs.Laws.{LawOfInfeasibility}

@@ -20,7 +20,8 @@ use Rattle.market_model.specs.Optimality.{Feasible, Supports, Gains, Loses, pric
 use Rattle.market_model.specs.Settlement.{surplus}
 use Rattle.market_model.specs.Laws.{LawOfTheOptimum, LawOfTheSurplus, LawOfItsSign, LawOfNoLimits}
 use Rattle.market_model.proofs.RowLaws.{pulls, priced-by_pulls, pulls-rents, pulls-most, rents-sign}
-use Rattle.market_model.specs.LimitRows.{Row, flow, row_offset}
+use Rattle.market_model.specs.declared.limits.Row.{Row}
+use Rattle.market_model.specs.LimitRows.{flow, row_offset}
 use Rattle.market_model.proofs.PlaceSums.{places_all}
 use Rattle.market_model.proofs.MarketSums.{sum_by-neg, fixed_part, priced_injections-by_parts, priced_injections-by_outputs}
 

@@ -15,8 +15,11 @@ use Rattle.market_model.specs.declared.participants.Parts.{Parts}
 use Rattle.market_model.specs.declared.answered.Dual.{Dual}
 use Rattle.market_model.specs.declared.answered.Duals.{Duals}
 use Rattle.market_model.specs.Dispatch.{Dispatch, IsDispatch, zero, places, block_at, block_bus, accepted, quantity, injection, balance}
-use Rattle.market_model.specs.LimitRows.{Cause, Base, After, Row, place_of_line, has_base, has_post, rows_after, rows, row_id, limit, row_flow, row_offset, row_factor, line_flow, line_offset, shift_factor, loss_factor, flow}
-use Rattle.market_model.specs.Optimality.{Feasible, Supports, BlockSupported, Gains, Loses, price, IsOneSided, ProperDuals, is_named, named_rows, up_of, down_of, pull, congestion, bus_price}
+use Rattle.market_model.specs.declared.limits.Cause.{Cause}
+use Rattle.market_model.specs.declared.limits.Row.{Row}
+use Rattle.market_model.specs.declared.limits.Cause.TheVariants.{Base, Branch}
+use Rattle.market_model.specs.LimitRows.{causes, bears, rows_of, rows, row_id, limit, row_flow, row_offset, row_factor, line_flow, line_offset, shift_factor, loss_factor, flow}
+use Rattle.market_model.specs.Optimality.{Feasible, Supports, BlockSupported, Gains, Loses, price, IsOneSided, ProperDuals, is_named, named_rows, up_of, down_of, pull, congestion, bus_price, congestion_by, price_by}
 use Rattle.market_model.specs.Settlement.{rent}
 use Rattle.market_model.specs.Laws.{LawOfTheFlows, HasOffsetsWithin}
 use Rattle.market_model.proofs.MarketSums.{balance-by_injections, sum_by-neg}
@@ -28,22 +31,17 @@ no_items f (x ∷ xs) h = ap₂ ◌++◌ (h x) (no_items f xs h)
 
 pub no_rows : (m : Parts) → m.lines ≡ [] → rows m ≡ []
 unfolding rows
-no_rows m e =
-    ap₂ ◌++◌ (ap (λ (n : ℕ). map (λ l. record { line = l; cause = Base }) (filter (has_base m) (places n))) (ap length e))
-    (no_items (λ row. rows_after m (place_of_line m row)) m.outages (λ row. none (place_of_line m row)))
-  where
-    none : (k : ℕ) → rows_after m k ≡ []
-    none k = ap (λ (n : ℕ). map (λ l. record { line = l; cause = After k }) (filter (has_post m k) (places n))) (ap length e)
+no_rows m e = no_items (rows_of m) (causes m) (λ cause. ap (λ (n : ℕ). map (λ l. record { line = l; cause = cause }) (filter (bears m cause) (places n))) (ap length e))
 
 pub no_row : (m : Parts) (r : Row) → rows m ≡ [] → ¬ (Contains (rows m) r)
 no_row m r bare c = let k : Contains [] r = subst (λ (rs : List Row). Contains rs r) bare c in Prim.omega (arith, k.1)
 
 pub congestion-bare : (m : Parts) (d : Duals Fraction) (i : ℕ) → rows m ≡ [] → congestion m d i ≡ zero
-unfolding congestion
+unfolding congestion_by
 congestion-bare m d i e = ap (λ rs. total (map (λ r. Product (neg_ℚ (pull m d r)) (row_factor m r i)) rs)) e
 
 pub bus_price-bare : (m : Parts) (d : Duals Fraction) (i : ℕ) → rows m ≡ [] → bus_price m d i ≡ d.energy
-unfolding bus_price
+unfolding price_by
 bus_price-bare m d i e = ap (λ t. d.energy +ℚ t) (congestion-bare m d i e) ∙ by_ring ring_ℚ (d.energy ∷ []) (at 0 ⊕ pnil) (at 0) refl
 
 module _ (m : Parts) (d : Duals Fraction) (x : Dispatch) (bare : rows m ≡ []) where
@@ -98,18 +96,19 @@ law_of_the_flows m p r = by r.line r.cause
     by : (l : ℕ) (c : Cause) → row_flow m p (record { line = l; cause = c })
         ≡ row_offset m (record { line = l; cause = c }) +ℚ sum_by (λ i. row_factor m (record { line = l; cause = c }) i *ℚ p i) (places (length m.buses))
     by l Base =
-        line_flow-by_factors m p l
+        by_ring ring_ℚ (line_flow m p l ∷ []) (at 0 ⊕ pnil) (at 0) refl
+        ∙ line_flow-by_factors m p l
         ∙ ap₂ ◌+ℚ◌ (by_ring ring_ℚ (line_offset m l ∷ []) (at 0) (at 0 ⊕ pnil) refl)
         (sum_by-same (λ i. shift_factor m l i *ℚ p i) (λ i. (shift_factor m l i +ℚ zero) *ℚ p i) (places (length m.buses))
         (λ i. by_ring ring_ℚ (shift_factor m l i ∷ p i ∷ []) (at 0 ⊗ at 1) ((at 0 ⊕ pnil) ⊗ at 1) refl))
-    by l (After k) =
+    by l (Branch k) =
         let k_l : Fraction = loss_factor m l k in
         let o : Fraction = line_offset m l in
         let o_k : Fraction = line_offset m k in
         let s : Fraction = sum_by (λ i. shift_factor m l i *ℚ p i) (places (length m.buses)) in
         let s_k : Fraction = sum_by (λ i. shift_factor m k i *ℚ p i) (places (length m.buses)) in
-        ap₂ (λ (t u : Fraction). t +ℚ loss_factor m l k *ℚ u) (line_flow-by_factors m p l) (line_flow-by_factors m p k)
-        ∙ by_ring ring_ℚ (o ∷ s ∷ k_l ∷ o_k ∷ s_k ∷ []) ((at 0 ⊕ at 1) ⊕ at 2 ⊗ (at 3 ⊕ at 4)) ((at 0 ⊕ (at 2 ⊗ at 3 ⊕ pnil)) ⊕ (at 1 ⊕ at 2 ⊗ at 4)) refl
+        ap₂ (λ (t u : Fraction). t +ℚ (loss_factor m l k *ℚ u +ℚ zero)) (line_flow-by_factors m p l) (line_flow-by_factors m p k)
+        ∙ by_ring ring_ℚ (o ∷ s ∷ k_l ∷ o_k ∷ s_k ∷ []) ((at 0 ⊕ at 1) ⊕ (at 2 ⊗ (at 3 ⊕ at 4) ⊕ pnil)) ((at 0 ⊕ (at 2 ⊗ at 3 ⊕ pnil)) ⊕ (at 1 ⊕ at 2 ⊗ at 4)) refl
         ∙ ap (λ t. (o +ℚ (k_l *ℚ o_k +ℚ zero)) +ℚ t)
         (ap (λ t. s +ℚ t) (sym (sum_by-times (loss_factor m l k) (λ i. shift_factor m k i *ℚ p i) (places (length m.buses))))
         ∙ sym (sum_by-plus (λ i. shift_factor m l i *ℚ p i) (λ i. loss_factor m l k *ℚ (shift_factor m k i *ℚ p i)) (places (length m.buses)))
@@ -139,7 +138,7 @@ pulls m d x = sum_by (λ r. pull m d r *ℚ (flow m x r -ℚ row_offset m r)) (r
 -- injections at bus prices: the balance at the price of energy, less the pulls of the rows
 pub priced-by_pulls : (m : Parts) (d : Duals Fraction) (x : Dispatch)
     → sum_by (λ i. bus_price m d i *ℚ injection m x i) (places (length m.buses)) ≡ d.energy *ℚ balance m x -ℚ pulls m d x
-unfolding bus_price congestion
+unfolding price_by congestion_by
 priced-by_pulls m d x =
     let buses : List ℕ = places (length m.buses) in
     sum_by-same (λ i. (d.energy +ℚ congestion m d i) *ℚ injection m x i) (λ i. d.energy *ℚ injection m x i +ℚ sum_by (λ r. neg_ℚ (pull m d r) *ℚ row_factor m r i) (rows m) *ℚ injection m x i) buses

@@ -18,7 +18,7 @@ use Rattle.market_model.specs.Stairs.{stair_in}
 use Rattle.market_model.proofs.PlainMarkets.{plain_market, distinct_by_rise}
 use Rattle.market_model.specs.Market.{IsMarket, IsBlock, HasRoom}
 use Rattle.market_model.specs.Dispatch.{Dispatch, places, injection, balance, output, demand, accepted, quantity}
-use Rattle.market_model.specs.Optimality.{Feasible, Supports, BlockSupported, welfare, congestion, bus_price}
+use Rattle.market_model.specs.Optimality.{Feasible, Supports, BlockSupported, welfare, congestion, bus_price, congestion_by, price_by}
 use Rattle.market_model.specs.Settlement.{paid, pays, surplus}
 use Rattle.market_model.proofs.MarketSums.{fixed_part, most_raised, needed-at_most}
 use Rattle.market_model.proofs.WholeDispatch.{from_whole-<ℚ, from_whole-≤ℚ}
@@ -60,11 +60,11 @@ three_buses-balance = same_fraction (balance three_buses first_only) (whole (pos
 
 -- unit 1 is paid 600 for 60 MW, and the load pays as much
 pub three_buses-paid : paid three_buses first_only energy_at_ten 0 ≡ whole (pos (600 * 10 ^ 15))
-unfolding paid output bus_price congestion rows ◌+ℚ◌ ◌*ℚ◌ neg_ℚ over whole gcd gcd_in
+unfolding paid output price_by congestion_by rows ◌+ℚ◌ ◌*ℚ◌ neg_ℚ over whole gcd gcd_in
 three_buses-paid = same_fraction (paid three_buses first_only energy_at_ten 0) (whole (pos (600 * 10 ^ 15))) refl refl
 
 pub three_buses-pays : pays three_buses energy_at_ten 2 ≡ whole (pos (600 * 10 ^ 15))
-unfolding pays demand bus_price congestion rows ◌+ℚ◌ ◌*ℚ◌ neg_ℚ over whole gcd gcd_in
+unfolding pays demand price_by congestion_by rows ◌+ℚ◌ ◌*ℚ◌ neg_ℚ over whole gcd gcd_in
 three_buses-pays = same_fraction (pays three_buses energy_at_ten 2) (whole (pos (600 * 10 ^ 15))) refl refl
 
 pub three_buses-feasible : Feasible three_buses first_only
@@ -193,11 +193,11 @@ unfolding output ◌+ℚ◌ ◌*ℚ◌ neg_ℚ over whole gcd gcd_in
 with_buyer-output = same_fraction (output with_buyer bought 2) (whole (neg_ℤ (pos (30 * 10 ^ 9)))) refl refl
 
 pub with_buyer-paid : paid with_buyer bought energy_at_ten 2 ≡ whole (neg_ℤ (pos (300 * 10 ^ 15)))
-unfolding paid output bus_price congestion rows ◌+ℚ◌ ◌*ℚ◌ neg_ℚ over whole gcd gcd_in
+unfolding paid output price_by congestion_by rows ◌+ℚ◌ ◌*ℚ◌ neg_ℚ over whole gcd gcd_in
 with_buyer-paid = same_fraction (paid with_buyer bought energy_at_ten 2) (whole (neg_ℤ (pos (300 * 10 ^ 15)))) refl refl
 
 pub with_buyer-surplus : surplus with_buyer bought energy_at_ten ≡ whole (pos 0)
-unfolding surplus demand output bus_price congestion rows ◌+ℚ◌ ◌*ℚ◌ neg_ℚ over whole gcd gcd_in
+unfolding surplus demand output price_by congestion_by rows ◌+ℚ◌ ◌*ℚ◌ neg_ℚ over whole gcd gcd_in
 with_buyer-surplus = same_fraction (surplus with_buyer bought energy_at_ten) (whole (pos 0)) refl refl
 
 pub with_buyer-feasible : Feasible with_buyer bought
@@ -282,15 +282,15 @@ unfolding output ◌+ℚ◌ ◌*ℚ◌ neg_ℚ over whole gcd gcd_in
 with_shunt-output = same_fraction (output with_shunt less_sold 1) (whole (pos (20 * 10 ^ 9))) refl refl
 
 pub with_shunt-paid : paid with_shunt less_sold energy_at_ten 1 ≡ whole (pos (200 * 10 ^ 15))
-unfolding paid output bus_price congestion rows ◌+ℚ◌ ◌*ℚ◌ neg_ℚ over whole gcd gcd_in
+unfolding paid output price_by congestion_by rows ◌+ℚ◌ ◌*ℚ◌ neg_ℚ over whole gcd gcd_in
 with_shunt-paid = same_fraction (paid with_shunt less_sold energy_at_ten 1) (whole (pos (200 * 10 ^ 15))) refl refl
 
 pub with_shunt-pays : pays with_shunt energy_at_ten 1 ≡ whole (pos (50 * 10 ^ 15))
-unfolding pays demand bus_price congestion rows ◌+ℚ◌ ◌*ℚ◌ neg_ℚ over whole gcd gcd_in
+unfolding pays demand price_by congestion_by rows ◌+ℚ◌ ◌*ℚ◌ neg_ℚ over whole gcd gcd_in
 with_shunt-pays = same_fraction (pays with_shunt energy_at_ten 1) (whole (pos (50 * 10 ^ 15))) refl refl
 
 pub with_shunt-surplus : surplus with_shunt less_sold energy_at_ten ≡ whole (pos 0)
-unfolding surplus demand output bus_price congestion rows ◌+ℚ◌ ◌*ℚ◌ neg_ℚ over whole gcd gcd_in
+unfolding surplus demand output price_by congestion_by rows ◌+ℚ◌ ◌*ℚ◌ neg_ℚ over whole gcd gcd_in
 with_shunt-surplus = same_fraction (surplus with_shunt less_sold energy_at_ten) (whole (pos 0)) refl refl
 
 -- The short row: a load of 250 MW, of which the two units can serve 200.

@@ -9,7 +9,8 @@ use Rattle.fraction_theory.specs.declared.Sign.{Sign}
 use Rattle.fraction_theory.specs.declared.Sign.TheVariants.{Below, Zero, Above}
 use Rattle.market_model.specs.declared.participants.Parts.{Parts}
 use Rattle.market_model.specs.Dispatch.{zero}
-use Rattle.market_model.specs.LimitRows.{Row, rows, limit}
+use Rattle.market_model.specs.declared.limits.Row.{Row}
+use Rattle.market_model.specs.LimitRows.{rows, limit}
 
 abbrev pub size_by : Sign → Fraction → Fraction
 size_by Below x = neg_ℚ x

@@ -15,7 +15,8 @@ use Rattle.market_model.specs.declared.answered.Duals.{Duals}
 use Rattle.market_model.specs.declared.answered.Farkas.{Farkas}
 use Rattle.market_model.specs.Dispatch.{zero, places, block_at, signed, quantity, balance, empty}
 use Rattle.market_model.specs.Optimality.{unit_price, up_of, down_of, ProperDuals}
-use Rattle.market_model.specs.LimitRows.{Row, rows, flow, limit}
+use Rattle.market_model.specs.declared.limits.Row.{Row}
+use Rattle.market_model.specs.LimitRows.{rows, flow, most_flow}
 
 -- a number of this sign, where it is above 0, and else 0
 abbrev pub where_above : Sign → Fraction → Fraction
@@ -31,9 +32,9 @@ part_above x = where_above (sign_of x) x
 abbrev pub block_weight : Parts → Duals Fraction → ℕ → Fraction
 block_weight m d j = signed (block_at m j).side (unit_price m d (block_at m j).unit)
 
--- what is left of the limits of a row where nothing is accepted, at the prices of its two sides
+-- what the flow of a row leaves of its most where nothing is accepted, at the prices of its two sides
 abbrev pub limit_terms : Parts → Duals Fraction → Row → List Term
-limit_terms m d r = Product (up_of m d r) (limit m r -ℚ flow m (empty m) r) ∷ Product (down_of m d r) (limit m r +ℚ flow m (empty m) r) ∷ []
+limit_terms m d r = Product (up_of m d r) (most_flow m r -ℚ flow m (empty m) r) ∷ Product (down_of m d r) (most_flow m r +ℚ flow m (empty m) r) ∷ []
 
 -- what nothing accepted makes, and the most that each block adds to that
 abbrev pub farkas_terms : Parts → Duals Fraction → List Term

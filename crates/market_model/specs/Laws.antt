@@ -9,7 +9,8 @@ use Rattle.market_model.specs.declared.participants.Parts.{Parts}
 use Rattle.market_model.specs.declared.answered.Duals.{Duals}
 use Rattle.market_model.specs.Market.{IsMarket}
 use Rattle.market_model.specs.Dispatch.{Dispatch, zero, places, balance}
-use Rattle.market_model.specs.LimitRows.{Row, rows, row_flow, row_offset, row_factor}
+use Rattle.market_model.specs.declared.limits.Row.{Row}
+use Rattle.market_model.specs.LimitRows.{rows, limit, row_flow, row_offset, row_factor}
 use Rattle.market_model.specs.Optimality.{Feasible, Supports, Within, up_of, down_of, welfare}
 use Rattle.market_model.specs.Settlement.{rent, surplus}
 use Rattle.market_model.specs.Infeasibility.{ShowsInfeasible}
@@ -22,9 +23,9 @@ LawOfTheOptimum = (m : Parts) (d : Duals Fraction) (x y : Dispatch) → IsMarket
 abbrev pub LawOfTheSurplus : Type 0
 LawOfTheSurplus = (m : Parts) (d : Duals Fraction) (x : Dispatch) → IsMarket m → Feasible m x → Supports m x d → surplus m x d ≡ sum_by (rent m x d) (rows m)
 
--- the offset of each row with a price above 0 is within its limits
+-- the offset of each row with a price above 0 is within its limit
 abbrev pub HasOffsetsWithin : Parts → Duals Fraction → Type 0
-HasOffsetsWithin m d = (r : Row) → Contains (rows m) r → (zero <ℚ up_of m d r) ⊎ (zero <ℚ down_of m d r) → Within m r (row_offset m r)
+HasOffsetsWithin m d = (r : Row) → Contains (rows m) r → (zero <ℚ up_of m d r) ⊎ (zero <ℚ down_of m d r) → Within (limit m r) (row_offset m r)
 
 -- and then nothing is short
 abbrev pub LawOfItsSign : Type 0

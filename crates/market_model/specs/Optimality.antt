@@ -11,19 +11,20 @@ use Rattle.market_model.specs.declared.participants.Parts.{Parts}
 use Rattle.market_model.specs.declared.answered.Dual.{Dual}
 use Rattle.market_model.specs.declared.answered.Duals.{Duals}
 use Rattle.market_model.specs.declared.answered.RowId.{RowId}
-use Rattle.market_model.specs.Dispatch.{Dispatch, IsDispatch, zero, places, block_at, unit_at, signed, accepted, quantity, balance}
-use Rattle.market_model.specs.LimitRows.{Row, rows, row_id, limit, row_factor, flow}
+use Rattle.market_model.specs.Dispatch.{Dispatch, IsDispatch, zero, places, block_at, signed, accepted, quantity, balance}
+use Rattle.market_model.specs.declared.limits.Row.{Row}
+use Rattle.market_model.specs.LimitRows.{rows, row_id, limit, most_flow, row_factor, unit_factor, flow}
 
--- a flow of at most the limit on either side
-pub record Within (m : Parts) (r : Row) (f : Fraction) : Type 0 where
-  pub above : neg_ℚ (limit m r) ≤ℚ f
-  pub below : f ≤ℚ limit m r
+-- a flow of at most this size on either side
+pub record Within (most : Fraction) (f : Fraction) : Type 0 where
+  pub above : neg_ℚ most ≤ℚ f
+  pub below : f ≤ℚ most
 
 -- within the blocks' bounds, in balance, and within the limits of these rows
 pub record FeasibleFor (m : Parts) (g : List Row) (x : Dispatch) : Type 0 where
   pub blocks : IsDispatch m x
   pub balanced : balance m x ≡ zero
-  pub limits : (r : Row) → Contains g r → Within m r (flow m x r)
+  pub limits : (r : Row) → Contains g r → Within (most_flow m r) (flow m x r)
 
 -- within the limits of all rows
 abbrev pub Feasible : Parts → Dispatch → Type 0
@@ -85,21 +86,31 @@ pub record ProperDuals (m : Parts) (d : Duals Fraction) : Type 0 where
   pub named : map (λ e. e.row) d.limits ≡ map (row_id m) (named_rows m d)
   pub one_sided : All IsOneSided d.limits
 
--- ---- bus prices
--- what the limits take from the price at a bus, row by row
+-- ---- prices
+-- what the limits take from the price of a MW, row by row, where so much of it counts for the flow of a row
+abbrev pub taken_terms : Parts → Duals Fraction → (Row → Fraction) → List Term
+taken_terms m d factor = map (λ r. Product (neg_ℚ (pull m d r)) (factor r)) (rows m)
+
+unfoldable pub congestion_by : Parts → Duals Fraction → (Row → Fraction) → Fraction
+congestion_by m d factor = total (taken_terms m d factor)
+
+-- the price of energy, and what congestion adds to it
+unfoldable pub price_by : Parts → Duals Fraction → (Row → Fraction) → Fraction
+price_by m d factor = d.energy +ℚ congestion_by m d factor
+
+-- at a bus, by its factors
 abbrev pub congestion_terms : Parts → Duals Fraction → ℕ → List Term
-congestion_terms m d i = map (λ r. Product (neg_ℚ (pull m d r)) (row_factor m r i)) (rows m)
+congestion_terms m d i = taken_terms m d (λ r. row_factor m r i)
 
-unfoldable pub congestion : Parts → Duals Fraction → ℕ → Fraction
-congestion m d i = total (congestion_terms m d i)
+abbrev pub congestion : Parts → Duals Fraction → ℕ → Fraction
+congestion m d i = congestion_by m d (λ r. row_factor m r i)
 
--- the price at a bus: that of energy, and what congestion adds to it
-unfoldable pub bus_price : Parts → Duals Fraction → ℕ → Fraction
-bus_price m d i = d.energy +ℚ congestion m d i
+abbrev pub bus_price : Parts → Duals Fraction → ℕ → Fraction
+bus_price m d i = price_by m d (λ r. row_factor m r i)
 
--- the price that a unit is paid
+-- the price that a unit is paid, by its own factors
 abbrev pub unit_price : Parts → Duals Fraction → ℕ → Fraction
-unit_price m d u = bus_price m d (unit_at m u).bus
+unit_price m d u = price_by m d (λ r. unit_factor m r u)
 
 -- accepting more of a block of this side and price gains, where the price at its bus is `worth`
 abbrev pub Gains : Side → Fraction → Fraction → Type 0

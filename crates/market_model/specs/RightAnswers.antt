@@ -9,7 +9,8 @@ use Rattle.market_model.specs.declared.answered.Price.{Price}
 use Rattle.market_model.specs.declared.answered.Rent.{Rent}
 use Rattle.market_model.specs.declared.answered.UnitPay.{UnitPay}
 use Rattle.market_model.specs.Dispatch.{Dispatch, zero, output, demand}
-use Rattle.market_model.specs.LimitRows.{Row, row_id, flow}
+use Rattle.market_model.specs.declared.limits.Row.{Row}
+use Rattle.market_model.specs.LimitRows.{row_id, flow}
 use Rattle.market_model.specs.Optimality.{Feasible, Supports, ProperDuals, named_rows, welfare, congestion, bus_price}
 use Rattle.market_model.specs.Settlement.{paid, pays, rent, surplus}
 

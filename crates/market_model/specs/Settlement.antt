@@ -7,7 +7,8 @@ use Rattle.market_model.specs.declared.participants.Parts.{Parts}
 use Rattle.market_model.specs.declared.answered.Duals.{Duals}
 use Rattle.market_model.specs.Dispatch.{Dispatch, places, output, demand}
 use Rattle.market_model.specs.Optimality.{bus_price, unit_price, up_of, down_of}
-use Rattle.market_model.specs.LimitRows.{Row, limit, row_offset}
+use Rattle.market_model.specs.declared.limits.Row.{Row}
+use Rattle.market_model.specs.LimitRows.{limit, row_offset}
 
 -- a unit is paid its price for its output
 unfoldable pub paid : Parts → Dispatch → Duals Fraction → ℕ → Fraction
@@ -26,9 +27,13 @@ surplus_terms m x d =
 unfoldable pub surplus : Parts → Dispatch → Duals Fraction → Fraction
 surplus m x d = total (surplus_terms m x d)
 
--- what a limit earns: each of its prices for the limit less the fixed offset of its flow, on its side
+-- the size of a row's flow at which its prices are paid: its limit
+abbrev pub priced_flow : Parts → Dispatch → Row → Fraction
+priced_flow m x r = limit m r
+
+-- what a limit earns: each of its prices for that size less the fixed offset of its flow, on its side
 abbrev pub rent_terms : Parts → Dispatch → Duals Fraction → Row → List Term
-rent_terms m x d r = Product (up_of m d r) (limit m r -ℚ row_offset m r) ∷ Product (down_of m d r) (limit m r +ℚ row_offset m r) ∷ []
+rent_terms m x d r = Product (up_of m d r) (priced_flow m x r -ℚ row_offset m r) ∷ Product (down_of m d r) (priced_flow m x r +ℚ row_offset m r) ∷ []
 
 unfoldable pub rent : Parts → Dispatch → Duals Fraction → Row → Fraction
 rent m x d r = total (rent_terms m x d r)

@@ -5,12 +5,14 @@ mod answered;
 mod assembled;
 mod factor_table;
 pub mod laws;
+mod limits;
 mod participants;
 
 pub use answered::{
     Answer, Dual, Duals, Farkas, Load, Money, Outcome, Price, Rent, RowId, UnitPay,
 };
 pub use assembled::{Market, assemble};
+pub use limits::{Cause, Row};
 pub use market_data::{Bus, MONEY_PLACES, MW_PLACES, PRICE_PLACES, Unit, UnitList};
 pub use participants::{Block, Factor, Line, Parts, Side};
 pub use plain_list::{List, Memory};

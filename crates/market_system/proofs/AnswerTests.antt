@@ -22,7 +22,8 @@ use Rattle.market_model.specs.declared.participants.Side.{Side}
 use Rattle.market_model.specs.declared.participants.Side.TheVariants.{Sell, Buy}
 use Rattle.market_model.specs.Dispatch.{Dispatch, zero, places, block_at, accepted, quantity, balance}
 use Rattle.market_model.specs.Infeasibility.{IsFarkas, farkas_bound}
-use Rattle.market_model.specs.LimitRows.{Row, rows, row_id, limit, flow}
+use Rattle.market_model.specs.declared.limits.Row.{Row}
+use Rattle.market_model.specs.LimitRows.{rows, row_id, limit, flow, most_flow}
 use Rattle.market_model.specs.Optimality.{BlockSupported, Feasible, Gains, IsOneSided, Loses, ProperDuals, RowSupported, Supports, Within, down_of, named_rows, price, same_id, unit_price, up_of}
 use Rattle.market_model.specs.RightAnswers.{IsRight, dispatch_in}
 use Rattle.market_system.specs.SolvedLaws.{answer_of}
@@ -95,7 +96,7 @@ is_accepted m x j = at_most zero (accepted x j) && at_most (accepted x j) (quant
 abbrev is_within : Parts → Dispatch → Row → Bool
 is_within m x r = at_most (neg_ℚ (limit m r)) (flow m x r) && at_most (flow m x r) (limit m r)
 
-is_within-true : (m : Parts) (x : Dispatch) (r : Row) → is_within m x r ≡ true → Within m r (flow m x r)
+is_within-true : (m : Parts) (x : Dispatch) (r : Row) → is_within m x r ≡ true → Within (most_flow m r) (flow m x r)
 is_within-true m x r e =
     let parts = both (at_most-true (neg_ℚ (limit m r)) (flow m x r)) (at_most-true (flow m x r) (limit m r)) e in
     record { above = parts.0; below = parts.1 }
@@ -108,7 +109,7 @@ is_feasible-true : (m : Parts) (x : Dispatch) → is_feasible m x ≡ true → F
 is_feasible-true m x e =
     let bounds = λ (j : ℕ). both (at_most-true zero (accepted x j)) (at_most-true (accepted x j) (quantity m j)) in
     let blocks = each_place (is_accepted m x) (λ j. (zero ≤ℚ accepted x j) × (accepted x j ≤ℚ quantity m j)) bounds (length m.blocks) in
-    let limits = each_of (is_within m x) (λ r. Within m r (flow m x r)) (is_within-true m x) (rows m) in
+    let limits = each_of (is_within m x) (λ r. Within (most_flow m r) (flow m x r)) (is_within-true m x) (rows m) in
     let parts = both (eqb-true (length x.blocks) (length m.blocks)) (both blocks (both (same-true (balance m x) zero) limits)) e in
     record {
       blocks = record { count = parts.0; above = λ j lt. (parts.1.0 j lt).0; within = λ j lt. (parts.1.0 j lt).1 };

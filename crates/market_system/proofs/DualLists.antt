@@ -20,7 +20,8 @@ use Rattle.market_model.specs.declared.answered.Duals.{Duals}
 use Rattle.market_model.specs.declared.answered.RowId.{RowId}
 use Rattle.market_model.specs.declared.participants.Parts.{Parts}
 use Rattle.market_model.specs.Dispatch.{zero as nil}
-use Rattle.market_model.specs.LimitRows.{Row, rows, row_id}
+use Rattle.market_model.specs.declared.limits.Row.{Row}
+use Rattle.market_model.specs.LimitRows.{rows, row_id}
 use Rattle.market_model.specs.Optimality.{same_id, up_in, down_in, up_of, down_of, pull, is_named, named_rows, IsOneSided, ProperDuals}
 use Rattle.market_system.specs.MarketSystem.{same_row, is_in, in_order, dual_by, duals_by}
 use Rattle.market_system.proofs.RowOrder.{RowsApart, row_or_not, is_in-in, is_in-from, in_order-in, in_order-from, and_true, same_number, same_row-not, same_row-itself}

@@ -12,7 +12,10 @@ use Rattle.market_model.specs.declared.participants.Parts.{Parts}
 use Rattle.market_model.specs.declared.participants.Side.TheVariants.{Sell}
 use Rattle.market_model.specs.Dispatch.{places, block_at, line_at, unit_at, signed}
 use Rattle.market_model.specs.Frame.{block_frame, line_frame, frame, SameFrame}
-use Rattle.market_model.specs.LimitRows.{Cause, Row, Base, After, outage_of, row_id, rows, base_rows, rows_after, has_base, has_post, place_of_line, row_factor}
+use Rattle.market_model.specs.declared.limits.Cause.{Cause}
+use Rattle.market_model.specs.declared.limits.Row.{Row}
+use Rattle.market_model.specs.declared.limits.Cause.TheVariants.{Base, Branch}
+use Rattle.market_model.specs.LimitRows.{outage_of, row_id, rows, base_rows, rows_after, has_base, has_post, place_of_line, row_factor}
 use Rattle.market_system.specs.FrameLaw.{LawOfTheFrame}
 use Rattle.market_system.specs.MarketSystem.{balance_name, row_name, is_in, in_order, block_sign, block_coefficient, of_name, coefficient_by, same_row, system_over, system_of}
 
@@ -53,7 +56,7 @@ module _ (m : Parts) where
       ap₂ (λ (p : ℕ → Bool) (n : ℕ). position_or_len p (places n)) (fun_ext (λ l. ap (λ (k : Line). k.row == row) (line_framed l))) line_count
 
   after_framed : (lost : ℕ) → rows_after (frame m) lost ≡ rows_after m lost
-  after_framed lost = ap₂ (λ (p : ℕ → Bool) (n : ℕ). map (λ l. record { line = l; cause = After lost }) (filter p (places n))) (post_framed lost) line_count
+  after_framed lost = ap₂ (λ (p : ℕ → Bool) (n : ℕ). map (λ l. record { line = l; cause = Branch lost }) (filter p (places n))) (post_framed lost) line_count
 
   pub rows_framed : rows (frame m) ≡ rows m
   unfolding rows
@@ -66,7 +69,7 @@ module _ (m : Parts) where
 
   outage_framed : (c : Cause) → outage_of (frame m) c ≡ outage_of m c
   outage_framed Base = refl
-  outage_framed (After lost) = ap (λ (k : Line). k.row) (line_framed lost)
+  outage_framed (Branch lost) = ap (λ (k : Line). k.row) (line_framed lost)
 
   id_framed : row_id (frame m) ≡ row_id m
   id_framed = fun_ext (λ r. ap₂ (λ (b o : ℕ). record { branch = b; outage = o }) (ap (λ (k : Line). k.row) (line_framed r.line)) (outage_framed r.cause))

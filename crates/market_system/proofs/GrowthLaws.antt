@@ -7,7 +7,8 @@ use Rattle.fraction_theory.proofs.OrderLaws.{<ℚ-not-≤ℚ}
 use Rattle.fraction_theory.proofs.ListSums.{Contains-head, Contains-cons, Contains-cases}
 use Rattle.market_model.specs.declared.participants.Parts.{Parts}
 use Rattle.market_model.specs.Dispatch.{Dispatch}
-use Rattle.market_model.specs.LimitRows.{Row, rows, limit, flow}
+use Rattle.market_model.specs.declared.limits.Row.{Row}
+use Rattle.market_model.specs.LimitRows.{rows, limit, flow}
 use Rattle.market_model.specs.Optimality.{Within, FeasibleFor}
 use Rattle.market_system.specs.Growth.{Broken, BestFor, GrowsBy, Growth}
 use Rattle.market_system.specs.SolvedLaws.{AreRows}

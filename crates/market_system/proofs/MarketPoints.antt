@@ -20,7 +20,8 @@ use Rattle.market_model.specs.declared.participants.Side.{Side}
 use Rattle.market_model.specs.declared.participants.Side.TheVariants.{Sell, Buy}
 use Rattle.market_model.specs.declared.participants.Parts.{Parts}
 use Rattle.market_model.specs.Dispatch.{Dispatch, IsDispatch, zero as nil, places, block_at, block_bus, signed, accepted, quantity, raised_by, injection, balance, empty}
-use Rattle.market_model.specs.LimitRows.{Row, rows, limit, row_factor, row_offset, flow}
+use Rattle.market_model.specs.declared.limits.Row.{Row}
+use Rattle.market_model.specs.LimitRows.{rows, limit, row_factor, row_offset, flow, most_flow}
 use Rattle.market_model.specs.Market.{IsMarket}
 use Rattle.market_model.specs.Optimality.{Within, FeasibleFor, block_value, welfare}
 use Rattle.market_model.proofs.MarketSums.{block_bus-in, injection-by_empty, balance-by_empty}
@@ -363,7 +364,7 @@ module _ (m : Parts) (apart : RowsApart m) (g : List Row) where
             ∙ ap (λ t. balance m (empty m) +ℚ t)
             (≤ℚ_antisym (v (balance_name m)) (needed m) (subst (λ t. v (balance_name m) ≤ℚ t) high-balance (within.high (balance_name m) balance_in)) (subst (λ t. t ≤ℚ v (balance_name m)) low-balance (within.low (balance_name m) balance_in)))
             ∙ by_ring ring_ℚ (balance m (empty m) ∷ []) (at 0 ⊕ pneg (at 0)) pnil refl;
-        limits = λ r c. let here : Contains over r = in_order-in m g r (all r c) c in subst (Within m r) (sym (dispatch_flow r here)) (within_of r here);
+        limits = λ r c. let here : Contains over r = in_order-in m g r (all r c) c in subst (Within (most_flow m r)) (sym (dispatch_flow r here)) (within_of r here);
       }
         where
           length-map-places : length (map v (places (length m.blocks))) ≡ length m.blocks
@@ -373,7 +374,7 @@ module _ (m : Parts) (apart : RowsApart m) (g : List Row) where
               counted [] = refl
               counted (w ∷ ws) = ap suc (counted ws)
 
-          within_of : (r : Row) → Contains over r → Within m r (flow m (empty m) r +ℚ v (row_name m r))
+          within_of : (r : Row) → Contains over r → Within (most_flow m r) (flow m (empty m) r +ℚ v (row_name m r))
           within_of r c = record {
             above =
                 by_le1 (limit m r ∷ v (row_name m r) ∷ flow m (empty m) r ∷ []) (pneg (at 0)) (at 2 ⊕ at 1) pone (pneg (at 0) ⊕ pneg (at 2)) (at 1) NonNeg-one

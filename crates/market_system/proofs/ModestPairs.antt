@@ -27,7 +27,8 @@ use Rattle.market_model.specs.declared.participants.Parts.{Parts}
 use Rattle.market_model.specs.Market.{IsMarket}
 use Rattle.market_model.specs.Dispatch.{Dispatch, IsDispatch, places, block_at, unit_at, quantity, accepted, balance, empty, demand, output}
 use Rattle.market_model.specs.Infeasibility.{part_above, where_above, block_weight, farkas_terms}
-use Rattle.market_model.specs.LimitRows.{Row, rows, row_factor}
+use Rattle.market_model.specs.declared.limits.Row.{Row}
+use Rattle.market_model.specs.LimitRows.{rows, row_factor}
 use Rattle.market_model.specs.NamedSums.{SameSize, term_at, IsSumStep}
 use Rattle.market_model.specs.Optimality.{bus_price, block_value, congestion_terms, pull, unit_price, welfare_terms}
 use Rattle.market_model.specs.Settlement.{surplus_terms}

@@ -22,10 +22,13 @@ use Rattle.market_model.specs.declared.answered.Duals.{Duals}
 use Rattle.market_model.specs.declared.participants.Parts.{Parts}
 use Rattle.market_model.specs.Dispatch.{Dispatch, zero as nil, places, bus_at, injection, injection_terms, balance_terms, output_terms, empty}
 use Rattle.limit_rows.proofs.FactorLemmas.{IsLost, stands}
-use Rattle.market_model.specs.LimitRows.{Cause, Row, Base, After, rows, limit, shift_factor, loss_factor, line_offset, line_terms, line_flow, row_flow, row_offset, offset_terms, offset_terms_in, row_factor, factor_terms, flow}
+use Rattle.market_model.specs.declared.limits.Cause.{Cause}
+use Rattle.market_model.specs.declared.limits.Row.{Row}
+use Rattle.market_model.specs.declared.limits.Cause.TheVariants.{Base, Branch}
+use Rattle.market_model.specs.LimitRows.{rows, limit, shift_factor, loss_factor, line_offset, line_terms, line_flow, row_flow, row_offset, offset_terms, offset_terms_in, row_factor, factor_terms, flow}
 use Rattle.market_model.specs.Market.{IsMarket}
 use Rattle.market_model.specs.NamedSums.{SameSize, term_at, IsNextTerm, AreFactors, IsSumStep, IsRefusedIn, Adds, IsAddedIn, IsRefusal}
-use Rattle.market_model.specs.Optimality.{Supports, pull, up_of, down_of, congestion, congestion_terms, welfare_terms}
+use Rattle.market_model.specs.Optimality.{Supports, pull, up_of, down_of, congestion, congestion_terms, welfare_terms, congestion_by}
 use Rattle.market_model.specs.Settlement.{surplus_terms, rent_terms}
 use Rattle.market_system.specs.Growth.{Growth}
 use Rattle.market_system.specs.MarketNumbers.{IsBest, IsInjecting, MarketNumber, of_system, is_load, is_shunt, is_limit, is_line_offset, is_shift, is_loss, is_offset, is_row_factor, is_line_flow, is_row_flow, is_injection, is_balance, is_output, is_energy, is_bus_price, is_congestion, is_up_dual, is_down_dual, of_opposite}
@@ -226,7 +229,7 @@ module _ (m : Parts) (taken g : List Row) (reached : Growth m taken g) (h : Choi
             inl (subst (Number Factor) (first_of is_term) (is_shift l i lt inside), subst (IsCombined Number Quantity) (second_of is_term) (alone (injection m x i) (injected i inside)))
 
     -- that of a row after an outage: the line's own, and what goes over of the lost one's
-    pub of_flow_after : (l k : ℕ) → l < length m.lines → k < length m.lines → Contains (rows m) (record { line = l; cause = After k })
+    pub of_flow_after : (l k : ℕ) → l < length m.lines → k < length m.lines → Contains (rows m) (record { line = l; cause = Branch k })
         → IsRefusedIn (Plain (line_flow m (injection m x) l) ∷ Product (loss_factor m l k) (line_flow m (injection m x) k) ∷ []) bound p → IsRangeOf m taken bound p
     of_flow_after l k lt lost c = by_steps Quantity (Plain own ∷ Product loss over ∷ []) numbers products
       where
@@ -242,7 +245,7 @@ module _ (m : Parts) (taken g : List Row) (reached : Growth m taken g) (h : Choi
         numbers : (n : ℕ) → Number Quantity (prefix n (Plain own ∷ Product loss over ∷ []))
         numbers zero = is_line_flow x l 0 injecting lt
         numbers (suc zero) = subst (Number Quantity) (by_ring ring_ℚ (own ∷ []) (at 0) (at 0 ⊕ pnil) refl) (lined l lt)
-        numbers (suc (suc n)) = subst (Number Quantity) (ap (λ t. own +ℚ t) (by_ring ring_ℚ ((loss *ℚ over) ∷ []) (at 0) (at 0 ⊕ pnil) refl) ∙ rest n) (is_row_flow x (record { line = l; cause = After k }) injecting c)
+        numbers (suc (suc n)) = subst (Number Quantity) (ap (λ t. own +ℚ t) (by_ring ring_ℚ ((loss *ℚ over) ∷ []) (at 0) (at 0 ⊕ pnil) refl) ∙ rest n) (is_row_flow x (record { line = l; cause = Branch k }) injecting c)
           where
             rest : (n : ℕ) → own +ℚ (loss *ℚ over +ℚ whole (pos 0)) ≡ prefix (suc (suc n)) (Plain own ∷ Product loss over ∷ [])
             rest zero = refl
@@ -297,10 +300,10 @@ module _ (m : Parts) (taken g : List Row) (reached : Growth m taken g) (h : Choi
           → (Number Factor a × IsCombined Number Quantity b) ⊎ (IsCombined Number Quantity a × Number Factor b)
       products Base line lost zero a b h e = absurd Prim.cc
       products Base line lost (suc n) a b h e = absurd (Prim.omega (arith, h))
-      products (After k) line lost zero a b h e = absurd Prim.cc
-      products (After k) line lost (suc zero) a b h e =
+      products (Branch k) line lost zero a b h e = absurd Prim.cc
+      products (Branch k) line lost (suc zero) a b h e =
           inl (subst (Number Factor) (first_of e) (is_loss r.line k line lost.0), subst (IsCombined Number Quantity) (second_of e) (alone (line_offset m k) (is_line_offset k lost.0)))
-      products (After k) line lost (suc (suc n)) a b h e = absurd (Prim.omega (arith, h))
+      products (Branch k) line lost (suc (suc n)) a b h e = absurd (Prim.omega (arith, h))
 
   pub of_limit_less : (r : Row) → Contains (rows m) r → IsRefusal Minus (limit m r) (row_offset m r) bound p → IsRangeOf m taken bound p
   of_limit_less r c = by_difference Quantity (limit m r) (row_offset m r) (is_limit r c) (offset_number r c)
@@ -343,7 +346,7 @@ module _ (m : Parts) (taken g : List Row) (reached : Growth m taken g) (h : Choi
 
     -- what is added to the price of energy
     pub of_total : (i : ℕ) → i < length m.buses → IsRefusal Plus (choice_duals m g h).energy (congestion m (choice_duals m g h) i) bound p → IsRangeOf m taken bound p
-    unfolding congestion
+    unfolding congestion_by
     of_total i lt = by_sum Price (choice_duals m g h).energy (congestion m (choice_duals m g h) i) is_energy
         (subst (Number Price) (prefix-all (congestion_terms m (choice_duals m g h) i)) (is_congestion i (length (congestion_terms m (choice_duals m g h) i)) best lt))
 

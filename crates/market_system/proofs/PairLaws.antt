@@ -20,7 +20,8 @@ use Rattle.market_model.specs.Dispatch.{Dispatch, zero, bus_at, empty, injection
 use Rattle.market_model.specs.Optimality.{Feasible, Supports, welfare_terms}
 use Rattle.market_model.specs.Settlement.{surplus_terms}
 use Rattle.market_model.specs.Infeasibility.{ShowsInfeasible, farkas_terms}
-use Rattle.market_model.specs.LimitRows.{Row, rows}
+use Rattle.market_model.specs.declared.limits.Row.{Row}
+use Rattle.market_model.specs.LimitRows.{rows}
 use Rattle.market_system.specs.MarketSystem.{balance_name, system_of, choice_dispatch, choice_duals}
 use Rattle.market_system.specs.MarketNumbers.{IsBest, MarketNumber, of_system, is_load, is_shunt, is_injection, is_balance, is_output, is_farkas_bound, of_opposite}
 use Rattle.market_model.specs.NamedSums.{SameSize, term_at, IsNextTerm, IsRefusedIn, Adds, IsAddedIn, IsRefusal}

@@ -9,7 +9,10 @@ use Rattle.std.proofs.lemmas.List.Kept.{AllPairs-cons, AllPairs-filter}
 use Rattle.std.proofs.lemmas.List.Sums.{position_or_len_is}
 use Rattle.fraction_theory.proofs.ListSums.{Contains-head, Contains-cons, Contains-cases, Contains-filter, Contains-from_filter}
 use Rattle.market_model.specs.declared.participants.Parts.{Parts}
-use Rattle.market_model.specs.LimitRows.{Cause, Base, After, Row, rows}
+use Rattle.market_model.specs.declared.limits.Cause.{Cause}
+use Rattle.market_model.specs.declared.limits.Row.{Row}
+use Rattle.market_model.specs.declared.limits.Cause.TheVariants.{Base, Branch}
+use Rattle.market_model.specs.LimitRows.{rows}
 use Rattle.market_system.specs.MarketSystem.{same_cause, same_row, is_in, in_order, row_name}
 
 -- ---- rows that are one
@@ -25,13 +28,13 @@ number_itself a = elim (eqb_tells a a) [ inl t ↦ t.0 | inr t ↦ absurd (t.1 r
 
 same_cause-is : (a b : Cause) → same_cause a b ≡ true → a ≡ b
 same_cause-is Base Base h = refl
-same_cause-is Base (After k) h = absurd Prim.cc
-same_cause-is (After j) Base h = absurd Prim.cc
-same_cause-is (After j) (After k) h = ap After (same_number j k h)
+same_cause-is Base (Branch k) h = absurd Prim.cc
+same_cause-is (Branch j) Base h = absurd Prim.cc
+same_cause-is (Branch j) (Branch k) h = ap Branch (same_number j k h)
 
 same_cause-itself : (a : Cause) → same_cause a a ≡ true
 same_cause-itself Base = refl
-same_cause-itself (After k) = number_itself k
+same_cause-itself (Branch k) = number_itself k
 
 pub same_row-is : (a b : Row) → same_row a b ≡ true → a ≡ b
 same_row-is a b h =

@@ -20,9 +20,10 @@ use Rattle.market_model.specs.declared.participants.Side.{Side}
 use Rattle.market_model.specs.declared.participants.Side.TheVariants.{Sell, Buy}
 use Rattle.market_model.specs.declared.participants.Parts.{Parts}
 use Rattle.market_model.specs.Dispatch.{Dispatch, zero as nil, places, block_at, block_bus, unit_at, signed, accepted, quantity, balance, empty}
-use Rattle.market_model.specs.LimitRows.{Row, rows, row_id, limit, row_factor, flow}
+use Rattle.market_model.specs.declared.limits.Row.{Row}
+use Rattle.market_model.specs.LimitRows.{rows, row_id, limit, row_factor, flow, most_flow}
 use Rattle.market_model.specs.Market.{IsMarket}
-use Rattle.market_model.specs.Optimality.{Within, FeasibleFor, Feasible, block_value, price, welfare, pull, up_of, down_of, bus_price, congestion, unit_price, Gains, Loses, BlockSupported, RowSupported, Supports, ProperDuals}
+use Rattle.market_model.specs.Optimality.{Within, FeasibleFor, Feasible, block_value, price, welfare, pull, up_of, down_of, bus_price, congestion, unit_price, Gains, Loses, BlockSupported, RowSupported, Supports, ProperDuals, congestion_by, price_by}
 use Rattle.market_system.specs.Growth.{BestFor}
 use Rattle.market_system.specs.MarketSystem.{balance_name, row_name, is_in, in_order, block_sign, block_coefficient, coefficient_by, least_added, most_added, system_over, system_of, choice_dispatch, duals_by, choice_duals}
 use Rattle.market_system.specs.SolvedLaws.{state_at}
@@ -38,7 +39,7 @@ module _ (m : Parts) (names : NamesApart m) (energy : Fraction) (cost : Row → 
 
   -- what the rows of the list take at a bus
   pub price-made : (i : ℕ) → bus_price m made i ≡ energy +ℚ sum_by (λ r. neg_ℚ (cost r) *ℚ row_factor m r i) (in_order m g)
-  unfolding bus_price congestion
+  unfolding price_by congestion_by
   price-made i = ap (λ t. energy +ℚ t)
       (total-Product (λ r. neg_ℚ (pull m made r)) (λ r. row_factor m r i) (rows m)
       ∙ sum_by-members (λ r. neg_ℚ (pull m made r) *ℚ row_factor m r i) (λ r. kept (is_in g r) (neg_ℚ (cost r) *ℚ row_factor m r i)) (rows m)
@@ -211,5 +212,5 @@ module _ (m : Parts) (names : NamesApart m) (g : List Row) where
       solved_proper = proper-made m names energy_price costs g
 
       -- so where it breaks no row of the market, it is feasible
-      pub solved_feasible : ((r : Row) → Contains (rows m) r → Within m r (flow m dispatch r)) → Feasible m dispatch
+      pub solved_feasible : ((r : Row) → Contains (rows m) r → Within (most_flow m r) (flow m dispatch r)) → Feasible m dispatch
       solved_feasible holds = record { blocks = solved_best.feasible.blocks; balanced = solved_best.feasible.balanced; limits = holds }

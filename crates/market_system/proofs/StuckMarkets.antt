@@ -25,7 +25,10 @@ use Rattle.market_model.specs.declared.answered.Duals.{Duals}
 use Rattle.market_model.specs.declared.participants.Parts.{Parts}
 use Rattle.market_model.specs.Dispatch.{Dispatch, zero as nil, places, block_at, line_at, quantity, balance, empty}
 use Rattle.market_model.specs.Infeasibility.{part_above, where_above, block_weight, farkas_bound, ShowsInfeasible}
-use Rattle.market_model.specs.LimitRows.{Cause, Base, After, Row, rows, mw_or_zero, limit_in, limit, flow}
+use Rattle.market_model.specs.declared.limits.Cause.{Cause}
+use Rattle.market_model.specs.declared.limits.Row.{Row}
+use Rattle.market_model.specs.declared.limits.Cause.TheVariants.{Base, Branch}
+use Rattle.market_model.specs.LimitRows.{rows, mw_or_zero, limit_in, limit, flow}
 use Rattle.market_model.specs.Market.{IsMarket}
 use Rattle.market_model.specs.Optimality.{pull, up_of, down_of, ProperDuals}
 use Rattle.market_model.proofs.FarkasLaw.{farkas_bound-by_parts, left_of}
@@ -86,7 +89,7 @@ limit_sign m market r lt = by r.line r.cause lt
   where
     by : (l : ℕ) (c : Cause) → l < length m.lines → nil ≤ℚ limit_in m l c
     by l Base lt = at_least_nil (line_at m l).base (market.lines l _ lt).base
-    by l (After lost) lt = at_least_nil (line_at m l).post (market.lines l _ lt).post
+    by l (Branch lost) lt = at_least_nil (line_at m l).post (market.lines l _ lt).post
 
 bounds_ordered : (m : Parts) (names : NamesApart m) → IsMarket m → (g : List Row) → (w : ℕ) → Contains (system_of m g).variables w → (system_of m g).low w ≤ℚ (system_of m g).high w
 bounds_ordered m names market g w c = by w (name_of m (rows_apart m names) g w c)

@@ -3,7 +3,7 @@ use Rattle.std.specs.Prelude.{ℕ, List}
 use Rattle.fraction_theory.specs.Fraction.{Fraction}
 use Rattle.market_model.specs.declared.participants.Parts.{Parts}
 use Rattle.market_model.specs.declared.answered.Outcome.{Outcome}
-use Rattle.market_model.specs.LimitRows.{Row}
+use Rattle.market_model.specs.declared.limits.Row.{Row}
 use Rattle.market_model.specs.Market.{IsMarket}
 use Rattle.market_system.specs.Outcomes.{IsRightOutcome, IsDecided}
 use Rattle.market_system.specs.WorkingPairs.{NoPairPasses}

@@ -8,7 +8,8 @@ use Rattle.fraction_theory.specs.Order.{◌≤ℚ◌, ◌<ℚ◌}
 use Rattle.market_model.specs.declared.participants.Parts.{Parts}
 use Rattle.market_model.specs.Dispatch.{Dispatch}
 use Rattle.market_model.specs.Optimality.{FeasibleFor, welfare}
-use Rattle.market_model.specs.LimitRows.{Row, rows, flow, limit}
+use Rattle.market_model.specs.declared.limits.Row.{Row}
+use Rattle.market_model.specs.LimitRows.{rows, flow, limit}
 
 -- the flow passes the limit on one side
 abbrev pub Broken : Parts → Dispatch → Row → Type 0

@@ -10,7 +10,8 @@ use Rattle.simplex_theory.specs.Stuck.{multiplier}
 use Rattle.market_model.specs.declared.participants.Parts.{Parts}
 use Rattle.market_model.specs.declared.answered.Duals.{Duals}
 use Rattle.market_model.specs.Dispatch.{Dispatch, zero, bus_at, unit_at, empty, injection, injection_terms, balance_terms, output_terms}
-use Rattle.market_model.specs.LimitRows.{Row, rows as all_rows, limit, shift_factor, loss_factor, line_offset, line_terms, offset_terms, factor_terms, row_flow}
+use Rattle.market_model.specs.declared.limits.Row.{Row}
+use Rattle.market_model.specs.LimitRows.{rows as all_rows, limit, shift_factor, loss_factor, line_offset, line_terms, offset_terms, factor_terms, row_flow}
 use Rattle.market_model.specs.Optimality.{Feasible, Supports, up_of, down_of, pull, congestion_terms, bus_price}
 use Rattle.market_model.specs.Infeasibility.{ShowsInfeasible, farkas_terms}
 use Rattle.market_system.specs.MarketSystem.{balance_name, row_name, system_of, choice_dispatch, choice_duals}

@@ -15,7 +15,10 @@ use Rattle.market_model.specs.declared.answered.Dual.{Dual}
 use Rattle.market_model.specs.declared.answered.Duals.{Duals}
 use Rattle.market_model.specs.declared.answered.RowId.{RowId}
 use Rattle.market_model.specs.Dispatch.{Dispatch, zero, places, block_at, block_bus, signed, quantity, balance, empty}
-use Rattle.market_model.specs.LimitRows.{Cause, Base, After, Row, rows, row_id, row_factor, flow, limit}
+use Rattle.market_model.specs.declared.limits.Cause.{Cause}
+use Rattle.market_model.specs.declared.limits.Row.{Row}
+use Rattle.market_model.specs.declared.limits.Cause.TheVariants.{Base, Branch}
+use Rattle.market_model.specs.LimitRows.{rows, row_id, row_factor, flow, limit}
 use Rattle.market_model.specs.Optimality.{block_value}
 
 -- The names of the variables: a block's is its place, the balance's is the next, and limit rows follow in the market's
@@ -25,9 +28,9 @@ balance_name m = length m.blocks
 
 abbrev pub same_cause : Cause → Cause → Bool
 same_cause Base Base = true
-same_cause Base (After k) = false
-same_cause (After j) Base = false
-same_cause (After j) (After k) = j == k
+same_cause Base (Branch k) = false
+same_cause (Branch j) Base = false
+same_cause (Branch j) (Branch k) = j == k
 
 abbrev pub same_row : Row → Row → Bool
 same_row a b = (a.line == b.line) && same_cause a.cause b.cause
@@ -60,7 +63,7 @@ by_name m x y w = if w == balance_name m then y else x w
 
 -- by how much a MW of a block raises the flow of a row
 abbrev pub block_coefficient : Parts → Row → ℕ → Fraction
-block_coefficient m r j = signed (block_at m j).side (row_factor m r (block_bus m j))
+block_coefficient m r j = signed (block_at m j).side (unit_factor m r (block_at m j).unit)
 
 -- what is said of the row of a name, where one of these rows has it
 abbrev pub of_name : {X : Type 0} → Parts → (Row → X) → X → List Row → ℕ → X

@@ -7,7 +7,8 @@ use Rattle.market_model.specs.declared.answered.Outcome.TheVariants as outcome
 use Rattle.market_model.specs.declared.answered.Duals.{Duals}
 use Rattle.market_model.specs.Dispatch.{Dispatch, zero}
 use Rattle.market_model.specs.Infeasibility.{IsFarkas}
-use Rattle.market_model.specs.LimitRows.{Row, rows}
+use Rattle.market_model.specs.declared.limits.Row.{Row}
+use Rattle.market_model.specs.LimitRows.{rows}
 use Rattle.market_model.specs.Optimality.{Feasible, up_of, down_of}
 use Rattle.market_model.specs.RightAnswers.{IsRight}
 use Rattle.market_system.specs.Growth.{Growth}

@@ -9,7 +9,9 @@ use Rattle.linear_system.specs.Choices.{Choice, IsChoice}
 use Rattle.linear_system.specs.Pairs.{IsSystemPair}
 use Rattle.market_model.specs.declared.participants.Parts.{Parts}
 use Rattle.market_model.specs.Dispatch.{Dispatch, bus_at, injection, injection_terms, balance_terms, output_terms}
-use Rattle.market_model.specs.LimitRows.{Row, After, rows, limit, loss_factor, line_terms, line_flow, offset_terms, row_offset, flow}
+use Rattle.market_model.specs.declared.limits.Row.{Row}
+use Rattle.market_model.specs.declared.limits.Cause.TheVariants.{Branch}
+use Rattle.market_model.specs.LimitRows.{rows, limit, loss_factor, line_terms, line_flow, offset_terms, row_offset, flow}
 use Rattle.market_model.specs.Market.{IsMarket}
 use Rattle.market_model.specs.NamedSums.{SameSize, IsRefusedIn, IsAddedIn, IsRefusal}
 use Rattle.market_model.specs.Optimality.{congestion, congestion_terms, welfare_terms}
@@ -25,7 +27,7 @@ pub record InjectingPairs (m : Parts) (taken : List Row) (bound : ℕ) (p : Pass
   pub in_all : IsAddedIn (balance_terms m x) bound p → IsRangeOf m taken bound p
   pub of_line : (l : ℕ) → l < length m.lines → IsRefusedIn (line_terms m (injection m x) l) bound p → IsRangeOf m taken bound p
   -- the flow of a row after an outage, by its branch and the lost one
-  pub flow_after : (l k : ℕ) → l < length m.lines → k < length m.lines → Contains (rows m) (record { line = l; cause = After k })
+  pub flow_after : (l k : ℕ) → l < length m.lines → k < length m.lines → Contains (rows m) (record { line = l; cause = Branch k })
       → IsRefusedIn (Plain (line_flow m (injection m x) l) ∷ Product (loss_factor m l k) (line_flow m (injection m x) k) ∷ []) bound p → IsRangeOf m taken bound p
   -- the two bounds of a row, and by how much a flow passes its limit
   pub high : (r : Row) → Contains (rows m) r → IsRefusal Minus (limit m r) (flow m x r) bound p → IsRangeOf m taken bound p

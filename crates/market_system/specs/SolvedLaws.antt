@@ -14,7 +14,8 @@ use Rattle.market_model.specs.declared.participants.Parts.{Parts}
 use Rattle.market_model.specs.Dispatch.{Dispatch, accepted, places, block_at, signed as raised, output, demand}
 use Rattle.market_model.specs.Frame.{SameFrame}
 use Rattle.market_model.specs.Infeasibility.{IsFarkas}
-use Rattle.market_model.specs.LimitRows.{Row, rows, flow}
+use Rattle.market_model.specs.declared.limits.Row.{Row}
+use Rattle.market_model.specs.LimitRows.{rows, flow}
 use Rattle.market_model.specs.Market.{IsMarket}
 use Rattle.market_model.specs.Optimality.{Within, FeasibleFor, Feasible, Supports, ProperDuals, named_rows, welfare, block_value, congestion, bus_price, unit_price, up_of, down_of}
 use Rattle.market_model.specs.RightAnswers.{IsRight, rent_of}

@@ -11,7 +11,7 @@ use Rattle.exact_fraction.specs.Passes.{Passes}
 use Rattle.linear_system.specs.Choices.{Choice, IsChoice}
 use Rattle.linear_system.specs.Pairs.{IsPairCase, AreNear, OfEither}
 use Rattle.market_model.specs.declared.participants.Parts.{Parts}
-use Rattle.market_model.specs.LimitRows.{Row}
+use Rattle.market_model.specs.declared.limits.Row.{Row}
 use Rattle.market_model.specs.Optimality.{welfare_terms}
 use Rattle.market_model.specs.Settlement.{surplus_terms, rent_terms}
 use Rattle.market_system.specs.MarketSystem.{system_of, choice_dispatch, choice_duals}

@@ -6,7 +6,7 @@ use Rattle.fraction_theory.specs.Fraction.{Fraction}
 use Rattle.market_model.specs.declared.answered.Outcome.{Outcome}
 use Rattle.market_model.specs.declared.answered.Outcome.TheVariants as outcome
 use Rattle.market_model.specs.declared.participants.Parts.{Parts}
-use Rattle.market_model.specs.LimitRows.{Row}
+use Rattle.market_model.specs.declared.limits.Row.{Row}
 use Rattle.market_system.specs.Outcomes.{IsRightOutcome}
 use Rattle.offer_book.specs.declared.edit_parts.EditFault.{EditFault}
 use Rattle.edit_table.specs.declared.Step.{Step}

@@ -21,7 +21,8 @@ use Rattle.market_model.specs.declared.answered.UnitPay.{UnitPay}
 use Rattle.market_model.specs.declared.participants.Parts.{Parts}
 use Rattle.market_model.specs.Dispatch.{Dispatch, places, unit_at, output, demand}
 use Rattle.market_model.specs.Laws.{HasOffsetsWithin}
-use Rattle.market_model.specs.LimitRows.{Row, rows, row_id, limit, row_offset}
+use Rattle.market_model.specs.declared.limits.Row.{Row}
+use Rattle.market_model.specs.LimitRows.{rows, row_id, limit, row_offset}
 use Rattle.market_model.specs.Market.{IsMarket}
 use Rattle.market_model.specs.NamedSums.{SameSize, term_at, IsAddedIn, IsRefusal}
 use Rattle.market_model.specs.Optimality.{bus_price, unit_price, is_named, named_rows}

@@ -20,7 +20,10 @@ use Rattle.market_model.specs.declared.answered.Rent.{Rent}
 use Rattle.market_model.specs.declared.answered.RowId.{RowId}
 use Rattle.market_model.specs.declared.participants.Parts.{Parts}
 use Rattle.market_model.specs.Dispatch.{Dispatch, injection}
-use Rattle.market_model.specs.LimitRows.{Base, After, Cause, Row, row_id, limit, loss_factor, line_flow, flow_after, row_flow, line_offset, row_offset, offset_terms, flow}
+use Rattle.market_model.specs.declared.limits.Cause.{Cause}
+use Rattle.market_model.specs.declared.limits.Row.{Row}
+use Rattle.market_model.specs.declared.limits.Cause.TheVariants.{Base, Branch}
+use Rattle.market_model.specs.LimitRows.{row_id, limit, loss_factor, line_flow, flow_after, row_flow, line_offset, row_offset, offset_terms, flow}
 use Rattle.market_model.specs.NamedSums.{IsRefusal, IsRefusedIn}
 use Rattle.market_model.specs.Optimality.{IsOneSided, ProperDuals, named_rows}
 use Rattle.market_model.specs.RightAnswers.{rent_of}
@@ -67,16 +70,16 @@ not_zero_side e s h is some = by h.one some
 -- ---- a sum with what goes over to a line of a lost one
 module _ (m : Parts) (l k : ℕ) (a h b : Fraction) where
   module _ (bound : ℕ) (p : Passed Fraction) where
-    pub shared_flow : (f : ℕ → Fraction) → k < length m.lines → a ≡ line_flow m f l → h ≡ loss_factor m l k → b ≡ line_flow m f k → IsShareOf a h b bound p → IsShareRefusal m f l (After k) bound p
+    pub shared_flow : (f : ℕ → Fraction) → k < length m.lines → a ≡ line_flow m f l → h ≡ loss_factor m l k → b ≡ line_flow m f k → IsShareOf a h b bound p → IsShareRefusal m f l (Branch k) bound p
     shared_flow f below own share gone why = (
       below,
       subst (λ ts. IsRefusedIn ts bound p) (ap₂ (λ x t. Plain x ∷ t ∷ []) own (ap₂ Product share gone)) (share_refused a h b bound p why),
     )
 
-    pub shared_offset : a ≡ line_offset m l → h ≡ loss_factor m l k → b ≡ line_offset m k → IsShareOf a h b bound p → IsRefusedIn (offset_terms m (record { line = l; cause = After k })) bound p
+    pub shared_offset : a ≡ line_offset m l → h ≡ loss_factor m l k → b ≡ line_offset m k → IsShareOf a h b bound p → IsRefusedIn (offset_terms m (record { line = l; cause = Branch k })) bound p
     shared_offset own share gone why = subst (λ ts. IsRefusedIn ts bound p) (ap₂ (λ x t. Plain x ∷ t ∷ []) own (ap₂ Product share gone)) (share_refused a h b bound p why)
 
-  pub lost_offset : (s : Fraction) → a ≡ line_offset m l → h ≡ loss_factor m l k → b ≡ line_offset m k → s ≡ a +ℚ h *ℚ b → s ≡ row_offset m (record { line = l; cause = After k })
+  pub lost_offset : (s : Fraction) → a ≡ line_offset m l → h ≡ loss_factor m l k → b ≡ line_offset m k → s ≡ a +ℚ h *ℚ b → s ≡ row_offset m (record { line = l; cause = Branch k })
   unfolding row_offset
   lost_offset s own share gone e = e ∙ ap₂ (λ x y. x +ℚ y) own (ap₂ ◌*ℚ◌ share gone ∙ sym (+ℚ_nil (loss_factor m l k *ℚ line_offset m k)))
 
@@ -108,7 +111,7 @@ module _ {N : Type 0} (value : N → Fraction) (m : Parts) (duals : Duals N) (pr
 module _ (m : Parts) (x : Dispatch) (f : ℕ → Fraction) (same : (i : ℕ) → i < length m.buses → f i ≡ injection m x i) (d : Duals Fraction) (k : ℕ) (e : Dual Fraction) (r : Row) (h : IsRowOfDual m d k e r) where
   flow-same : (l : ℕ) (c : Cause) → flow_after m f l c ≡ flow_after m (injection m x) l c
   flow-same l Base = line_flow-same m f (injection m x) same l
-  flow-same l (After lost) = ap₂ (λ a b. a +ℚ loss_factor m l lost *ℚ b) (line_flow-same m f (injection m x) same l) (line_flow-same m f (injection m x) same lost)
+  flow-same l (Branch lost) = ap₂ (λ a b. a +ℚ loss_factor m l lost *ℚ b) (line_flow-same m f (injection m x) same l) (line_flow-same m f (injection m x) same lost)
 
   pub earned_is : earned_by m f e r ≡ rent_of m x d r
   unfolding rent
@@ -122,7 +125,7 @@ module _ (m : Parts) (x : Dispatch) (f : ℕ → Fraction) (same : (i : ℕ) →
 
     shared : (c : Cause) → Contains (named_rows m d) (record { line = r.line; cause = c }) → IsShareRefusal m f r.line c bound p → IsSettlementRefusal m x price d bound p
     shared Base listed why = absurd why
-    shared (After lost) listed why =
+    shared (Branch lost) listed why =
         of_flow r.line lost inside why.0 listed
         (subst₂ (λ a b. IsRefusedIn (Plain a ∷ Product (loss_factor m r.line lost) b ∷ []) bound p) (line_flow-same m f (injection m x) same r.line) (line_flow-same m f (injection m x) same lost) why.1)
 

@@ -12,7 +12,8 @@ use Rattle.market_model.specs.declared.answered.Rent.{Rent}
 use Rattle.market_model.specs.declared.answered.UnitPay.{UnitPay}
 use Rattle.market_model.specs.declared.participants.Parts.{Parts}
 use Rattle.market_model.specs.Dispatch.{Dispatch, zero, places, unit_at, output, demand}
-use Rattle.market_model.specs.LimitRows.{Row, limit, row_flow, row_offset}
+use Rattle.market_model.specs.declared.limits.Row.{Row}
+use Rattle.market_model.specs.LimitRows.{limit, row_flow, row_offset}
 use Rattle.market_model.specs.Optimality.{Feasible, Supports, named_rows, bus_price}
 use Rattle.market_model.specs.RightAnswers.{rent_of}
 

@@ -9,7 +9,10 @@ use Rattle.market_model.specs.declared.answered.Dual.{Dual}
 use Rattle.market_model.specs.declared.answered.Duals.{Duals}
 use Rattle.market_model.specs.declared.participants.Parts.{Parts}
 use Rattle.market_model.specs.Dispatch.{Dispatch, bus_at, injection, injection_terms, output, output_terms}
-use Rattle.market_model.specs.LimitRows.{Base, After, Cause, Row, limit, loss_factor, line_flow, line_terms, row_offset, offset_terms}
+use Rattle.market_model.specs.declared.limits.Cause.{Cause}
+use Rattle.market_model.specs.declared.limits.Row.{Row}
+use Rattle.market_model.specs.declared.limits.Cause.TheVariants.{Base, Branch}
+use Rattle.market_model.specs.LimitRows.{limit, loss_factor, line_flow, line_terms, row_offset, offset_terms}
 use Rattle.market_model.specs.NamedSums.{IsAddedIn, IsRefusal, IsRefusedIn}
 use Rattle.market_model.specs.Optimality.{named_rows}
 use Rattle.market_model.specs.Settlement.{rent_terms}
@@ -28,7 +31,7 @@ pub data IsSettlementRefusal (m : Parts) (x : Dispatch) (price : ℕ → Fractio
   -- what a bus puts in, the flow of a line, and that of a row after an outage
   of_injection : (i : ℕ) → i < length m.buses → IsAddedIn (injection_terms m x i) bound p → IsSettlementRefusal m x price d bound p
   of_line : (l : ℕ) → l < length m.lines → IsRefusedIn (line_terms m (injection m x) l) bound p → IsSettlementRefusal m x price d bound p
-  of_flow : (l k : ℕ) → l < length m.lines → k < length m.lines → Contains (named_rows m d) (record { line = l; cause = After k })
+  of_flow : (l k : ℕ) → l < length m.lines → k < length m.lines → Contains (named_rows m d) (record { line = l; cause = Branch k })
       → IsRefusedIn (Plain (line_flow m (injection m x) l) ∷ Product (loss_factor m l k) (line_flow m (injection m x) k) ∷ []) bound p → IsSettlementRefusal m x price d bound p
   -- the fixed offset of a row, its limit less that and with it, and its rent
   of_offset : (r : Row) → Contains (named_rows m d) r → IsRefusedIn (offset_terms m r) bound p → IsSettlementRefusal m x price d bound p
@@ -57,7 +60,7 @@ IsEarningRefusal e limit offset bound p = IsRefusal Minus limit offset bound p �
 -- what goes over to a line where buses put in f, with its own flow; nothing in the base
 abbrev pub IsShareRefusal : Parts → (ℕ → Fraction) → ℕ → Cause → ℕ → Passed Fraction → Type 0
 IsShareRefusal m f l Base bound p = ⊥
-IsShareRefusal m f l (After k) bound p = (k < length m.lines) × IsRefusedIn (Plain (line_flow m f l) ∷ Product (loss_factor m l k) (line_flow m f k) ∷ []) bound p
+IsShareRefusal m f l (Branch k) bound p = (k < length m.lines) × IsRefusedIn (Plain (line_flow m f l) ∷ Product (loss_factor m l k) (line_flow m f k) ∷ []) bound p
 
 -- for the flow of a row where buses put in f
 abbrev pub IsFlowRefusal : Parts → (ℕ → Fraction) → Row → ℕ → Passed Fraction → Type 0

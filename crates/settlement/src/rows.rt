@@ -2,11 +2,11 @@
 
 ghost use Rattle.std.specs.Prelude.{◌≡◌, ◌<◌, length, map, Contains, IfOk, IfErr, IfSome};
 ghost use Rattle.fraction_theory.specs.Sums.{total};
-ghost use Rattle.market_model.specs.LimitRows.{Row, row_flow, row_id, row_offset, rows, offset_terms};
+ghost use Rattle.market_model.specs.declared.limits.Row.{Row};
+ghost use Rattle.market_model.specs.LimitRows.{row_flow, row_id, row_offset, rows, offset_terms};
 ghost use Rattle.market_model.specs.NamedSums.{IsRefusedIn};
 ghost use Rattle.market_model.specs.Optimality.{IsOneSided};
 ghost use Rattle.market_model.specs.Valued.{dual_at, passed_at, rent_at};
-ghost use Rattle.limit_rows.specs.Places.{row_of};
 ghost use Rattle.limit_screen.specs.Flows.{put_in};
 ghost use Rattle.settlement.specs.Paying.{earned_by, earned_terms};
 ghost use Rattle.settlement.specs.Refusals.{IsEarningRefusal, IsFlowRefusal, IsRowRefusal};
@@ -21,7 +21,7 @@ pub fn found_row(market: &Market, name: RowId) -> LimitRow
     requires { (r : Row) × Contains (rows market.now) r × (row_id market.now r ≡ name) }
     ensures line { result.line < length market.now.lines }
     ensures lost { IfSome result.lost (λ lost. lost < length market.now.lines) }
-    ensures is { (r : Row) → Contains (rows market.now) r → row_id market.now r ≡ name → row_of result ≡ r }
+    ensures is { (r : Row) → Contains (rows market.now) r → row_id market.now r ≡ name → result ≡ r }
 {
     let _lines = market.lines();
     match row_named(market, name) {
@@ -35,8 +35,8 @@ fn row_flow<N: Exact>(market: &Market, row: LimitRow, injections: &[N]) -> Resul
     requires line { row.line < length market.now.lines }
     requires lost { IfSome row.lost (λ lost. lost < length market.now.lines) }
     requires injections { length injections.now ≡ length market.now.buses }
-    ensures flow { IfOk result (λ flow. N.value flow ≡ row_flow market.now (put_in (map N.value injections.now)) (row_of row)) }
-    ensures cause { IfErr result (λ passed. IsFlowRefusal market.now (put_in (map N.value injections.now)) (row_of row) N.bound (passed_at N.value passed)) }
+    ensures flow { IfOk result (λ flow. N.value flow ≡ row_flow market.now (put_in (map N.value injections.now)) row) }
+    ensures cause { IfErr result (λ passed. IsFlowRefusal market.now (put_in (map N.value injections.now)) row N.bound (passed_at N.value passed)) }
 {
     let own = line_flow(market, row.line, injections)?;
     match row.lost {
@@ -52,8 +52,8 @@ fn row_flow<N: Exact>(market: &Market, row: LimitRow, injections: &[N]) -> Resul
 fn row_offset<N: Exact>(market: &Market, row: LimitRow) -> Result<N, Passed<N>>
     requires line { row.line < length market.now.lines }
     requires lost { IfSome row.lost (λ lost. lost < length market.now.lines) }
-    ensures offset { IfOk result (λ mw. N.value mw ≡ row_offset market.now (row_of row)) }
-    ensures cause { IfErr result (λ passed. IsRefusedIn (offset_terms market.now (row_of row)) N.bound (passed_at N.value passed)) }
+    ensures offset { IfOk result (λ mw. N.value mw ≡ row_offset market.now row) }
+    ensures cause { IfErr result (λ passed. IsRefusedIn (offset_terms market.now row) N.bound (passed_at N.value passed)) }
 {
     let own = offset_of(market, row.line);
     match row.lost {
@@ -96,8 +96,8 @@ pub fn row_rent<N: Exact>(
     requires lost { IfSome row.lost (λ lost. lost < length market.now.lines) }
     requires one_sided { IsOneSided (dual_at N.value dual.now) }
     requires injections { length injections.now ≡ length market.now.buses }
-    ensures rent { IfOk result (λ rent. rent_at N.value rent ≡ earned_by market.now (put_in (map N.value injections.now)) (dual_at N.value dual.now) (row_of row)) }
-    ensures cause { IfErr result (λ passed. IsRowRefusal market.now (put_in (map N.value injections.now)) (dual_at N.value dual.now) (row_of row) N.bound (passed_at N.value passed)) }
+    ensures rent { IfOk result (λ rent. rent_at N.value rent ≡ earned_by market.now (put_in (map N.value injections.now)) (dual_at N.value dual.now) row) }
+    ensures cause { IfErr result (λ passed. IsRowRefusal market.now (put_in (map N.value injections.now)) (dual_at N.value dual.now) row N.bound (passed_at N.value passed)) }
 {
     let flow = row_flow(market, row, injections)?;
     let offset = row_offset(market, row)?;

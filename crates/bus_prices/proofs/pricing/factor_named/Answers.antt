@@ -2,8 +2,8 @@ use Rattle.std.proofs.Common.{◌≡◌, ◌<◌, ◌^◌, ℤ, ap, sym, subst, 
 use Rattle.std.specs.Prelude.{unsigned_abs}
 use Rattle.std.proofs.lemmas.Int.{to_z-of_z}
 use mir.Val.{to_z, of_z}
-use Rattle.market_model.specs.LimitRows.{Row, row_factor}
-use Rattle.limit_rows.specs.Places.{row_of}
+use Rattle.market_model.specs.declared.limits.Row.{Row}
+use Rattle.market_model.specs.LimitRows.{row_factor}
 use Rattle.limit_rows.proofs.ApartLemmas.{same_row}
 use Rattle.limit_rows.proofs.PlaceLemmas.{at_places}
 use Rattle.bus_prices.proofs.pricing.factor_named.Goals as goal
@@ -22,7 +22,7 @@ returns c =
       size = subst (λ (z : ℤ). unsigned_abs z < 2 ^ 63) (sym known) c.factor_at.ensures.size;
       is = λ r is named.
           rw known
-          (c.factor_at.ensures.is ∙ ap (λ (s : Row). row_factor m s c.args.bus) (same_row m c.lines-lines.ensures.market (row_of c.in-Some.row) r c.in-Some.ensures.0 is (c.in-Some.ensures.1 ∙ sym named)));
+          (c.factor_at.ensures.is ∙ ap (λ (s : Row). row_factor m s c.args.bus) (same_row m c.lines-lines.ensures.market c.in-Some.row r c.in-Some.ensures.0 is (c.in-Some.ensures.1 ∙ sym named)));
     }
 
 pub unreachable-requires : goal.unreachable-requires

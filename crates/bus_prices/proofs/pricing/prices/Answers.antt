@@ -1,7 +1,7 @@
 use Rattle.std.proofs.Common.{rules, Err, ◌≡◌, length, ap, ap₂, ◌∙◌, arith, refl}
 use Rattle.fraction_theory.specs.Fraction.{Fraction, ◌+ℚ◌}
 use Rattle.exact_fraction.specs.declared.Op.TheVariants.{Plus}
-use Rattle.market_model.specs.Optimality.{bus_price, congestion}
+use Rattle.market_model.specs.Optimality.{bus_price, congestion, price_by}
 use Rattle.market_model.specs.Valued.{duals_at, price_at}
 use Rattle.market_model.proofs.SumSteps.{refusal}
 use Rattle.bus_prices.specs.Prices.{price_of, of_congestion, of_total}
@@ -9,7 +9,7 @@ use Rattle.bus_prices.proofs.PriceLemmas.{put_more, all_put}
 use Rattle.bus_prices.proofs.pricing.prices.Goals as goal
 
 pub loop-bus-preserved : goal.loop-bus-preserved
-unfolding bus_price
+unfolding price_by
 loop-bus-preserved g c =
     let m = c.args.market.now in
     let d = duals_at g.N.Exact.value c.args.duals.now in

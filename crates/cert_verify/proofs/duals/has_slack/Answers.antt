@@ -3,7 +3,6 @@ use Rattle.std.proofs.lemmas.Int.{to_z-of_z}
 use mir.Val.{to_z, of_z}
 use Rattle.fraction_theory.specs.Fraction.{Fraction, whole}
 use Rattle.market_model.specs.Valued.{dual_at, passed_at}
-use Rattle.limit_rows.specs.Places.{row_of}
 use Rattle.limit_rows.proofs.PlaceLemmas.{at_places}
 use Rattle.cert_verify.specs.Reasons.{prices_slack}
 use Rattle.cert_verify.proofs.RowLemmas.{no_slack, row_pair, slack_named}
@@ -19,7 +18,7 @@ pub returns-in_err-flow-in-Some-clause-cause : goal.returns-in_err-flow-in-Some-
 returns-in_err-flow-in-Some-clause-cause g c =
     let given : c.from_residual.result ≡ Err c.in_err-flow-in-Some.field-0.0 = search rules in
     λ x d are. rw given
-    (row_pair c.args.market.now x d g.N.Exact.bound (passed_at g.N.Exact.value c.in_err-flow-in-Some.field-0.0) (row_of c.in-Some.row) c.in-Some.ensures.0 (c.in_err-flow-in-Some.ensures.cause x are))
+    (row_pair c.args.market.now x d g.N.Exact.bound (passed_at g.N.Exact.value c.in_err-flow-in-Some.field-0.0) c.in-Some.row c.in-Some.ensures.0 (c.in_err-flow-in-Some.ensures.cause x are))
 
 pub limit_at-requires : goal.limit_at-requires
 limit_at-requires g c = (at_places c.args.market.now c.lines-lines.ensures.market c.in-Some.row c.in-Some.ensures.0).0
@@ -29,7 +28,7 @@ returns-in_ok-flow-in-Some-clause-slack g c =
     let known : to_z w64 (of_z w64 c.limit_at.result) ≡ c.limit_at.result = to_z-of_z w64 c.limit_at.result (record { sfits = c.limit_at.type_inv }) in
     let e = dual_at g.N.Exact.value c.args.dual.now in
     λ x are. c.prices_slack.ensures ∙ ap₂ (λ (f l : Fraction). prices_slack e f l) (c.in_ok-flow-in-Some.ensures.flow x are) (c.datum.ensures ∙ ap whole known ∙ c.limit_at.ensures.limit)
-    ∙ sym (slack_named c.args.market.now c.lines-lines.ensures.market x e (row_of c.in-Some.row) c.in-Some.ensures.0 c.in-Some.ensures.1)
+    ∙ sym (slack_named c.args.market.now c.lines-lines.ensures.market x e c.in-Some.row c.in-Some.ensures.0 c.in-Some.ensures.1)
 
 pub returns-in-None-clause-slack : goal.returns-in-None-clause-slack
 returns-in-None-clause-slack g c =

@@ -1,5 +1,6 @@
 use Rattle.std.proofs.Common.{rules, Err, ◌≡◌, ◌∙◌, sym, arith}
-use Rattle.market_model.specs.LimitRows.{Row, row_id}
+use Rattle.market_model.specs.declared.limits.Row.{Row}
+use Rattle.market_model.specs.LimitRows.{row_id}
 use Rattle.cert_verify.specs.declared.verdicts.Reason.TheVariants as reason
 use Rattle.cert_verify.specs.Reasons.{is_broken}
 use Rattle.cert_verify.proofs.FindLemmas.{group_found, group_none, group_passed}

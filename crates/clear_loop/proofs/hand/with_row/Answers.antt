@@ -1,7 +1,6 @@
 use Rattle.std.proofs.Common.{Err, ap, ◌∙◌, ◌≡◌}
 use Rattle.std.proofs.lemmas.Result.{err_from_is_err_and}
 use Rattle.linear_dict.specs.Dictionaries.{choice_of}
-use Rattle.limit_rows.specs.Places.{row_of}
 use Rattle.market_dict.proofs.HoldingLaws.{holds_choice}
 use Rattle.market_system.proofs.GrowthLaws.{growth_none}
 use Rattle.clear_loop.specs.Starts.{rows_in}
@@ -10,7 +9,7 @@ use Rattle.clear_loop.proofs.StopLemmas.{pair_stop, terms_stop}
 use Rattle.clear_loop.proofs.hand.with_row.Goals as goal
 
 pub take_limit-requires-clause-holds : goal.take_limit-requires-clause-holds
-take_limit-requires-clause-holds g c = (rows_in c.args.taken, c.requires.holds, row_is_new c.args.market.now (rows_in c.args.taken) (row_of c.args.row) c.requires.broken)
+take_limit-requires-clause-holds g c = (rows_in c.args.taken, c.requires.holds, row_is_new c.args.market.now (rows_in c.args.taken) c.args.row c.requires.broken)
 
 pub returns-in_err-take_limit-clause-cause : goal.returns-in_err-take_limit-clause-cause
 returns-in_err-take_limit-clause-cause g c =
@@ -18,7 +17,7 @@ returns-in_err-take_limit-clause-cause g c =
     let given : c.from_residual.result ≡ Err c.in_err-take_limit.field-0.0 = p.1 ∙ ap Err p.2 in
     rw given
     (pair_stop g.N.Exact.value g.N.Exact.bound c.args.market.now (rows_in c.args.taken) _ c.in_err-take_limit.field-0.0
-    (grown_behind c.args.market.now (rows_in c.args.taken) (row_of c.args.row) c.requires.row c.requires.broken) (c.in_err-take_limit.ensures.pair (rows_in c.args.taken) c.requires.holds))
+    (grown_behind c.args.market.now (rows_in c.args.taken) c.args.row c.requires.row c.requires.broken) (c.in_err-take_limit.ensures.pair (rows_in c.args.taken) c.requires.holds))
 
 pub returns-in_err-take_bounds-clause-cause : goal.returns-in_err-take_bounds-clause-cause
 returns-in_err-take_bounds-clause-cause g c =

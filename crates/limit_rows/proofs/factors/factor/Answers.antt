@@ -1,8 +1,8 @@
 use Rattle.std.proofs.Common.{◌≡◌, ap, sym, ◌∙◌, w64}
 use Rattle.std.proofs.lemmas.Int.{to_z-of_z}
 use mir.Val.{to_z, of_z}
-use Rattle.market_model.specs.LimitRows.{Row, row_factor}
-use Rattle.limit_rows.specs.Places.{row_of}
+use Rattle.market_model.specs.declared.limits.Row.{Row}
+use Rattle.market_model.specs.LimitRows.{row_factor}
 use Rattle.limit_rows.proofs.ApartLemmas.{same_row}
 use Rattle.limit_rows.proofs.PlaceLemmas.{at_places}
 use Rattle.limit_rows.proofs.factors.factor.Goals as goal
@@ -19,4 +19,4 @@ returns c = λ r is named.
     let known : to_z w64 (of_z w64 c.factor_at.result) ≡ c.factor_at.result = to_z-of_z w64 c.factor_at.result (record { sfits = c.factor_at.type_inv }) in
     rw known
     (c.factor_at.ensures.is
-    ∙ ap (λ (s : Row). row_factor m s c.args.bus) (same_row m c.lines-lines.ensures.market (row_of c.in-Some.row) r c.in-Some.ensures.0 is (c.in-Some.ensures.1 ∙ sym named)))
+    ∙ ap (λ (s : Row). row_factor m s c.args.bus) (same_row m c.lines-lines.ensures.market c.in-Some.row r c.in-Some.ensures.0 is (c.in-Some.ensures.1 ∙ sym named)))

@@ -5,7 +5,7 @@ use Rattle.std.proofs.lemmas.Bool.{eq-eqb, ne_eqb}
 use Rattle.std.proofs.lemmas.Option.{get_or_from_slice_get}
 use Rattle.market_model.specs.declared.participants.Line.{Line}
 use Rattle.market_model.specs.Dispatch.{places, line_at}
-use Rattle.market_model.specs.LimitRows.{Row}
+use Rattle.market_model.specs.declared.limits.Row.{Row}
 use Rattle.limit_rows.specs.Groups.{bears, is_named, rows_of}
 use Rattle.limit_rows.proofs.GroupLemmas.{length-map, passed-more}
 use Rattle.limit_rows.proofs.NameLemmas.{other_outage, same_outage, other_branch, fails-more, rows_round}

@@ -3,7 +3,9 @@ use Rattle.std.proofs.lemmas.Option.{get_or_from_slice_get, slice_get-get_or}
 use Rattle.market_model.specs.declared.participants.Line.{Line}
 use Rattle.market_model.specs.declared.answered.RowId.{RowId}
 use Rattle.market_model.specs.Dispatch.{line_at}
-use Rattle.market_model.specs.LimitRows.{Base, Row, row_id, rows}
+use Rattle.market_model.specs.declared.limits.Row.{Row}
+use Rattle.market_model.specs.declared.limits.Cause.TheVariants.{Base}
+use Rattle.market_model.specs.LimitRows.{row_id, rows}
 use Rattle.limit_rows.proofs.NumberingLemmas.{all_before, counted-more, row_in_group}
 use Rattle.limit_rows.proofs.PlaceLemmas.{position_named}
 use Rattle.limit_rows.proofs.numbering.id.Goals as goal

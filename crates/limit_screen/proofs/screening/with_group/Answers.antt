@@ -2,7 +2,7 @@ use Rattle.std.proofs.Common.{rules, Err, ◌≡◌, ◌∙◌, ◌<◌, ◌++�
 use Rattle.std.specs.Prelude.{filter}
 use Rattle.std.proofs.lemmas.List.{append-nil}
 use Rattle.market_model.specs.Dispatch.{places}
-use Rattle.market_model.specs.LimitRows.{Row}
+use Rattle.market_model.specs.declared.limits.Row.{Row}
 use Rattle.limit_rows.specs.Groups.{bears, groups}
 use Rattle.limit_rows.proofs.GroupLemmas.{rows-more}
 use Rattle.limit_rows.proofs.NumberingLemmas.{row_on}

@@ -1,30 +1,29 @@
 use Rattle.std.proofs.Common.{subst, subst₂}
 use Rattle.fraction_theory.specs.Order.{◌<ℚ◌, ◌≤ℚ◌}
 use Rattle.market_model.specs.Dispatch.{zero}
-use Rattle.limit_rows.specs.Places.{row_of}
 use Rattle.limit_screen.specs.Screening.{IsWorstOf}
 use Rattle.limit_screen.proofs.ScreenLemmas.{not_past, new_worst, old_worst, worse_than_old, worse_than_held}
 use Rattle.limit_screen.proofs.screening.worse.Goals as goal
 
 pub returns-in-Greater : goal.returns-in-Greater
 returns-in-Greater g c = λ e rs before is.
-    let r = row_of c.args.row in
-    let old = row_of c.in-Some.broken.row in
+    let r = c.args.row in
+    let old = c.in-Some.broken.row in
     let h = subst (IsWorstOf g.N.Exact.value e rs) c.in-Some.is before in
     let more : e old <ℚ e r = subst₂ (λ x y. x <ℚ y) h.1 is c.in-Greater.ensures in
     (new_worst e rs r (worse_than_old e rs old r h.0 more) (subst (λ x. zero <ℚ x) is c.requires), is)
 
 pub returns-in-Less : goal.returns-in-Less
 returns-in-Less g c = λ e rs before is.
-    let r = row_of c.args.row in
-    let old = row_of c.in-Some.broken.row in
+    let r = c.args.row in
+    let old = c.in-Some.broken.row in
     let h = subst (IsWorstOf g.N.Exact.value e rs) c.in-Some.is before in
     let less : e r ≤ℚ e old = subst₂ (λ x y. x ≤ℚ y) is h.1 (not_past c.order.result (g.N.Exact.value c.args.excess) (g.N.Exact.value c.in-Some.broken.excess) c.order.ensures c.in-Less.is) in
     (old_worst e rs old r h.0 less, h.1)
 
 pub returns-in-None : goal.returns-in-None
 returns-in-None g c = λ e rs before is.
-    let r = row_of c.args.row in
+    let r = c.args.row in
     let h = subst (IsWorstOf g.N.Exact.value e rs) c.in-None.is before in
     let above : zero <ℚ e r = subst (λ x. zero <ℚ x) is c.requires in
     (new_worst e rs r (worse_than_held e rs r h above) above, is)

@@ -1,6 +1,6 @@
 use Rattle.std.proofs.Common.{List, None, map, subst, arith}
-use Rattle.market_model.specs.LimitRows.{Row, rows}
-use Rattle.limit_rows.specs.Places.{row_of}
+use Rattle.market_model.specs.declared.limits.Row.{Row}
+use Rattle.market_model.specs.LimitRows.{rows}
 use Rattle.limit_rows.proofs.PlaceLemmas.{at_places}
 use Rattle.limit_screen.specs.Flows.{line_in}
 use Rattle.limit_screen.specs.Screening.{IsFirstMost, IsWorstOf, excess_by, rows_to}
@@ -14,7 +14,7 @@ pub name_at-requires-clause-line : goal.name_at-requires-clause-line
 name_at-requires-clause-line g c =
     let m = c.args.market.now in
     let f = line_in m (map g.N.Exact.value c.args.flows.now) in
-    let r = row_of c.in-Some.broken.row in
+    let r = c.in-Some.broken.row in
     let all = all_rows m c.loop-group.group (omega (arith, c.loop-group-test.false, c.group_count-group-end.ensures.count)) in
     let some = subst (λ o. IsWorstOf g.N.Exact.value (excess_by m f) (rows_to m c.loop-group.group) o) c.in-Some.is c.loop-group.invariant in
     let here = subst (λ (rs : List Row). IsFirstMost (excess_by m f) rs r) all some.0 in
@@ -24,7 +24,7 @@ pub name_at-requires-clause-lost : goal.name_at-requires-clause-lost
 name_at-requires-clause-lost g c =
     let m = c.args.market.now in
     let f = line_in m (map g.N.Exact.value c.args.flows.now) in
-    let r = row_of c.in-Some.broken.row in
+    let r = c.in-Some.broken.row in
     let all = all_rows m c.loop-group.group (omega (arith, c.loop-group-test.false, c.group_count-group-end.ensures.count)) in
     let some = subst (λ o. IsWorstOf g.N.Exact.value (excess_by m f) (rows_to m c.loop-group.group) o) c.in-Some.is c.loop-group.invariant in
     let here = subst (λ (rs : List Row). IsFirstMost (excess_by m f) rs r) all some.0 in
@@ -34,7 +34,7 @@ pub returns-in-Some-clause-worst : goal.returns-in-Some-clause-worst
 returns-in-Some-clause-worst g c =
     let m = c.args.market.now in
     let f = line_in m (map g.N.Exact.value c.args.flows.now) in
-    let r = row_of c.in-Some.broken.row in
+    let r = c.in-Some.broken.row in
     let all = all_rows m c.loop-group.group (omega (arith, c.loop-group-test.false, c.group_count-group-end.ensures.count)) in
     let some = subst (λ o. IsWorstOf g.N.Exact.value (excess_by m f) (rows_to m c.loop-group.group) o) c.in-Some.is c.loop-group.invariant in
     let here = subst (λ (rs : List Row). IsFirstMost (excess_by m f) rs r) all some.0 in

@@ -3,7 +3,6 @@ use Rattle.std.specs.Prelude.{slice_index_or}
 use Rattle.market_model.specs.declared.participants.Block.{Block}
 use Rattle.market_model.specs.declared.participants.Side.TheVariants.{Sell}
 use Rattle.market_model.specs.Dispatch.{places}
-use Rattle.limit_rows.specs.Places.{row_of}
 use Rattle.market_system.specs.MarketSystem.{block_coefficient}
 use Rattle.market_dict.proofs.EntryLemmas.{row_entry_is}
 use Rattle.market_dict.proofs.ListedLemmas.{places_filled}
@@ -15,13 +14,13 @@ loop-block-preserved g c =
     let k = c.loop-block.block-index in
     let blocks = c.slice-block-items.ensures ∙ c.blocks-2.ensures.list in
     let read = ap (λ (bs : List Block). slice_index_or bs k (record { unit = 0; side = Sell; quantity = pos 0; price = pos 0 })) blocks in
-    subst (λ (xs : List g.row.N.Denot). map g.N.Exact.value xs ≡ map (block_coefficient m (row_of c.args.row)) (places (k + 1))) (sym c.in_ok-push.ensures)
-    (places_filled g.N.Exact.value (block_coefficient m (row_of c.args.row)) c.loop-block.entries k c.row_entry.result c.loop-block.invariant
-    (c.row_entry.ensures ∙ row_entry_is m (row_of c.args.row) k _ read))
+    subst (λ (xs : List g.row.N.Denot). map g.N.Exact.value xs ≡ map (block_coefficient m c.args.row) (places (k + 1))) (sym c.in_ok-push.ensures)
+    (places_filled g.N.Exact.value (block_coefficient m c.args.row) c.loop-block.entries k c.row_entry.result c.loop-block.invariant
+    (c.row_entry.ensures ∙ row_entry_is m c.args.row k _ read))
 
 pub returns : goal.returns
 returns g c =
     let m = c.args.market.now in
     let blocks = c.slice-block-items.ensures ∙ c.blocks-2.ensures.list in
     let all : c.loop-block.block-index ≡ length m.blocks = omega (arith, ap length blocks) in
-    subst (λ (n : ℕ). map g.N.Exact.value c.loop-block.entries ≡ map (block_coefficient m (row_of c.args.row)) (places n)) all c.loop-block.invariant
+    subst (λ (n : ℕ). map g.N.Exact.value c.loop-block.entries ≡ map (block_coefficient m c.args.row) (places n)) all c.loop-block.invariant

@@ -1,8 +1,7 @@
 use Rattle.std.proofs.Common.{◌≡◌, map}
 use Rattle.market_model.specs.Dispatch.{places}
-use Rattle.limit_rows.specs.Places.{row_of}
 use Rattle.market_system.specs.MarketSystem.{block_coefficient}
 use Rattle.market_dict.proofs.entries.row_entries.Given as goal
 
 abbrev pub invariant-loop-block : goal.invariant-loop-block
-invariant-loop-block g l = map g.N.Exact.value l.entries ≡ map (block_coefficient l.market (row_of l.row)) (places l.block-index)
+invariant-loop-block g l = map g.N.Exact.value l.entries ≡ map (block_coefficient l.market l.row) (places l.block-index)

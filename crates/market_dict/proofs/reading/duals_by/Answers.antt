@@ -4,7 +4,7 @@ use Rattle.fraction_theory.specs.Signs.{sign_of}
 use Rattle.market_model.specs.declared.answered.Dual.{Dual}
 use Rattle.market_model.specs.declared.answered.Duals.{Duals}
 use Rattle.market_model.specs.declared.answered.RowId.{RowId}
-use Rattle.market_model.specs.LimitRows.{Row}
+use Rattle.market_model.specs.declared.limits.Row.{Row}
 use Rattle.market_system.specs.MarketSystem.{balance_name, row_name, in_order, dual_by}
 use Rattle.market_dict.proofs.ReadingLemmas.{cost_at, duals_to, duals_more, duals_all, ranked_row, name_count, balance_rank, row_rank}
 use Rattle.market_dict.proofs.reading.duals_by.Goals as goal

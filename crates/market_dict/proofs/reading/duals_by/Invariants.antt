@@ -1,6 +1,6 @@
 use Rattle.std.proofs.Common.{◌≡◌, ◌+◌, ℕ, List, map}
 use Rattle.fraction_theory.specs.Fraction.{Fraction}
-use Rattle.market_model.specs.LimitRows.{Row}
+use Rattle.market_model.specs.declared.limits.Row.{Row}
 use Rattle.market_model.specs.Valued.{dual_at}
 use Rattle.market_system.specs.MarketSystem.{balance_name, row_name, in_order}
 use Rattle.market_dict.specs.Holding.{Holds}

@@ -2,7 +2,6 @@ use Rattle.std.proofs.Common.{◌∙◌, ℕ, map, ap, sym, subst}
 use Rattle.std.specs.List.{Contains}
 use Rattle.linear_dict.specs.Causes.{IsPairWith}
 use Rattle.linear_dict.specs.Dictionaries.{AddsRow}
-use Rattle.limit_rows.specs.Places.{row_of}
 use Rattle.market_dict.proofs.HoldingLaws.{name_is_new, row_named, holds_taken, pair_taken}
 use Rattle.market_dict.proofs.rows.take_limit.Goals as goal
 
@@ -10,13 +9,13 @@ pub add_row-requires-clause-absent : goal.add_row-requires-clause-absent
 add_row-requires-clause-absent g c =
     let h = c.requires.holds in
     subst (λ (n : ℕ). ¬ (Contains c.args.dict.now.names n)) (sym c.row_name-name.ensures)
-    (name_is_new c.args.market.now h.0 c.args.dict.now (row_of c.args.row) c.lines-lines.ensures.market h.1 c.requires.row h.2)
+    (name_is_new c.args.market.now h.0 c.args.dict.now c.args.row c.lines-lines.ensures.market h.1 c.requires.row h.2)
 
 pub returns-in-Ok-clause-taken : goal.returns-in-Ok-clause-taken
 returns-in-Ok-clause-taken g c = λ rs holds.
     let m = c.args.market.now in
     let d = c.args.dict.now in
-    let r = row_of c.args.row in
+    let r = c.args.row in
     let h = c.requires.holds in
     let fresh = name_is_new m h.0 d r c.lines-lines.ensures.market h.1 c.requires.row h.2 in
     holds_taken g.N.Exact.value m rs r c.slice.result.now d c.add_row.new.self holds c.requires.row (λ k. fresh (row_named m rs d holds r k))
@@ -27,7 +26,7 @@ pub returns-in-Err-Passed-clause-pair : goal.returns-in-Err-Passed-clause-pair
 returns-in-Err-Passed-clause-pair g c = λ rs holds.
     let m = c.args.market.now in
     let d = c.args.dict.now in
-    let r = row_of c.args.row in
+    let r = c.args.row in
     let h = c.requires.holds in
     let fresh = name_is_new m h.0 d r c.lines-lines.ensures.market h.1 c.requires.row h.2 in
     let pair = rw c.in-Err-Passed.field-0-is at c.in-Err-Passed.ensures.pair in

@@ -10,7 +10,6 @@ use Rattle.market_model.specs.LimitRows.{flow, limit}
 use Rattle.market_model.specs.NamedSums.{IsRefusedIn}
 use Rattle.market_model.specs.Valued.{passed_at}
 use Rattle.market_model.proofs.SumSteps.{refusal}
-use Rattle.limit_rows.specs.Places.{row_of}
 use Rattle.limit_rows.proofs.PlaceLemmas.{at_places}
 use Rattle.limit_screen.proofs.ScreenLemmas.{law_of_row_flows}
 use Rattle.market_dict.specs.Refusals.{of_flow, of_high, of_low}
@@ -35,12 +34,12 @@ returns-in_err-flow-clause-cause g c =
     let given : c.from_residual.result ≡ Err c.in_err-flow.field-0.0 = search rules in
     rw given
     (of_flow (subst (λ (ts : List Term). IsRefusedIn ts g.N.Exact.bound (passed_at g.N.Exact.value c.in_err-flow.field-0.0))
-    (row_terms m (empty m) (map g.N.Exact.value c.args.idle.now) c.requires.idle (row_of c.args.row) c.lines-lines.ensures.market c.requires.row) c.in_err-flow.ensures.cause))
+    (row_terms m (empty m) (map g.N.Exact.value c.args.idle.now) c.requires.idle c.args.row c.lines-lines.ensures.market c.requires.row) c.in_err-flow.ensures.cause))
 
 pub returns-in_err-high-clause-cause : goal.returns-in_err-high-clause-cause
 returns-in_err-high-clause-cause g c =
     let m = c.args.market.now in
-    let r = row_of c.args.row in
+    let r = c.args.row in
     let known : to_z w64 (of_z w64 c.limit_at.result) ≡ c.limit_at.result = to_z-of_z w64 c.limit_at.result (record { sfits = c.limit_at.type_inv }) in
     let limit_is = c.datum-limit.ensures ∙ ap whole known ∙ c.limit_at.ensures.limit in
     let flow_is = c.in_ok-flow.ensures.flow ∙ law_of_row_flows m (empty m) (map g.N.Exact.value c.args.idle.now) r c.lines-lines.ensures.market c.requires.idle c.requires.row in
@@ -50,7 +49,7 @@ returns-in_err-high-clause-cause g c =
 pub returns-in_err-low-clause-cause : goal.returns-in_err-low-clause-cause
 returns-in_err-low-clause-cause g c =
     let m = c.args.market.now in
-    let r = row_of c.args.row in
+    let r = c.args.row in
     let known : to_z w64 (of_z w64 c.limit_at.result) ≡ c.limit_at.result = to_z-of_z w64 c.limit_at.result (record { sfits = c.limit_at.type_inv }) in
     let limit_is = c.datum-limit.ensures ∙ ap whole known ∙ c.limit_at.ensures.limit in
     let flow_is = c.in_ok-flow.ensures.flow ∙ law_of_row_flows m (empty m) (map g.N.Exact.value c.args.idle.now) r c.lines-lines.ensures.market c.requires.idle c.requires.row in
@@ -60,7 +59,7 @@ returns-in_err-low-clause-cause g c =
 pub returns-clause-low : goal.returns-clause-low
 returns-clause-low g c =
     let m = c.args.market.now in
-    let r = row_of c.args.row in
+    let r = c.args.row in
     let known : to_z w64 (of_z w64 c.limit_at.result) ≡ c.limit_at.result = to_z-of_z w64 c.limit_at.result (record { sfits = c.limit_at.type_inv }) in
     let limit_is = c.datum-limit.ensures ∙ ap whole known ∙ c.limit_at.ensures.limit in
     let flow_is = c.in_ok-flow.ensures.flow ∙ law_of_row_flows m (empty m) (map g.N.Exact.value c.args.idle.now) r c.lines-lines.ensures.market c.requires.idle c.requires.row in
@@ -69,7 +68,7 @@ returns-clause-low g c =
 pub returns-clause-high : goal.returns-clause-high
 returns-clause-high g c =
     let m = c.args.market.now in
-    let r = row_of c.args.row in
+    let r = c.args.row in
     let known : to_z w64 (of_z w64 c.limit_at.result) ≡ c.limit_at.result = to_z-of_z w64 c.limit_at.result (record { sfits = c.limit_at.type_inv }) in
     let limit_is = c.datum-limit.ensures ∙ ap whole known ∙ c.limit_at.ensures.limit in
     let flow_is = c.in_ok-flow.ensures.flow ∙ law_of_row_flows m (empty m) (map g.N.Exact.value c.args.idle.now) r c.lines-lines.ensures.market c.requires.idle c.requires.row in

@@ -1,6 +1,5 @@
 use Rattle.std.proofs.Common.{rules, Err, ◌≡◌, ◌∙◌, map, ap, length}
 use Rattle.market_model.specs.Dispatch.{places, quantity, zero}
-use Rattle.limit_rows.specs.Places.{row_of}
 use Rattle.market_system.specs.MarketSystem.{needed, least_added, most_added}
 use Rattle.simplex_core.specs.declared.bounds.Bounds.{Bounds}
 use Rattle.market_dict.specs.Refusals.{of_row}
@@ -11,12 +10,12 @@ use Rattle.market_dict.proofs.terms.take_bounds.Goals as goal
 pub returns-in_err-bounds-clause-cause : goal.returns-in_err-bounds-clause-cause
 returns-in_err-bounds-clause-cause g c =
     let given : c.from_residual.result ≡ Err (StoppedBy c.in_err-bounds.field-0.0) = search rules in
-    rw given (of_row (row_of c.args.row) c.requires.row c.in_err-bounds.ensures.cause)
+    rw given (of_row c.args.row c.requires.row c.in_err-bounds.ensures.cause)
 
 pub returns-clause-taken : goal.returns-clause-taken
 returns-clause-taken g c = λ rs are.
     let m = c.args.market.now in
-    let r = row_of c.args.row in
+    let r = c.args.row in
     let low = λ (b : Bounds g.row.N.Denot). g.N.Exact.value b.low in
     let high = λ (b : Bounds g.row.N.Denot). g.N.Exact.value b.high in
     record {

@@ -1,8 +1,7 @@
 use Rattle.std.proofs.Common.{rules, Err, ◌+◌, ◌≡◌, ◌∙◌, ◌++◌, ◌∷◌, [], List, None, map, take, ap, sym, subst}
 use Rattle.std.specs.Prelude.{slice_index_or}
 use Rattle.std.proofs.lemmas.List.{take_more, map-append}
-use Rattle.market_model.specs.LimitRows.{Row}
-use Rattle.limit_rows.specs.Places.{row_of}
+use Rattle.market_model.specs.declared.limits.Row.{Row}
 use Rattle.limit_rows.specs.declared.places.LimitRow.{LimitRow}
 use Rattle.market_dict.specs.Refusals.{of_flows}
 use Rattle.market_dict.specs.Terms.{AreTerms}

@@ -1,5 +1,4 @@
 use Rattle.std.proofs.Common.{map, take}
-use Rattle.limit_rows.specs.Places.{row_of}
 use Rattle.market_dict.specs.Terms.{AreTerms}
 use Rattle.market_dict.proofs.terms.terms_of.Given as goal
 

@@ -1,4 +1,3 @@
-use Rattle.limit_rows.specs.Places.{row_of}
 use Rattle.limit_rows.proofs.ApartLemmas.{same_row}
 use Rattle.limit_rows.proofs.PlaceLemmas.{at_places}
 use Rattle.std.proofs.Common.{sym, ◌∙◌}
@@ -11,7 +10,7 @@ returns c =
     record {
       line = places.0;
       lost = places.1;
-      is = λ r listed named. same_row m c.lines-lines.ensures.market (row_of c.in-Some.row) r c.in-Some.ensures.0 listed (c.in-Some.ensures.1 ∙ sym named);
+      is = λ r listed named. same_row m c.lines-lines.ensures.market c.in-Some.row r c.in-Some.ensures.0 listed (c.in-Some.ensures.1 ∙ sym named);
     }
 
 pub unreachable-requires : goal.unreachable-requires

@@ -1,0 +1,16 @@
+//! Limit rows: the limits that a dispatch has to meet.
+
+/// Why a limit applies: in the base, while all lines are there, or after an outage.
+#[derive(Clone, Copy, PartialEq, Eq, Debug)]
+pub enum Cause {
+    Base,
+    /// The line at this place is lost.
+    Branch(usize),
+}
+
+/// A limit row: the limit of a line, by its place, under a cause.
+#[derive(Clone, Copy, PartialEq, Eq, Debug)]
+pub struct Row {
+    pub line: usize,
+    pub cause: Cause,
+}
