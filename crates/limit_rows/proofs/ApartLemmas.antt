@@ -1,5 +1,5 @@
 -- No two rows of a market have one name.
-use Rattle.std.specs.Prelude.{◌≡◌, ◌≢◌, ◌⊎◌, ℕ, ◌<◌, ◌≤◌, List, [], ◌∷◌, ◌++◌, map, length, All, AllPairs, Contains, Option, Some, None}
+use Rattle.std.specs.Prelude.{◌≡◌, ◌≢◌, ◌⊎◌, ℕ, ◌<◌, ◌≤◌, List, [], ◌∷◌, ◌++◌, map, length, All, AllPairs, Contains}
 use Rattle.std.specs.List.{flat_map}
 use Rattle.std.proofs.Common.{suc, arith, inl, inr, ap, sym, subst, ◌∙◌, get_or}
 use Rattle.std.proofs.lemmas.List.{get_or-map}
@@ -13,10 +13,11 @@ use Rattle.market_model.specs.Dispatch.{places}
 use Rattle.market_model.specs.Market.{IsMarket}
 use Rattle.market_model.proofs.ChangeLemmas.{same_default}
 use Rattle.market_model.specs.declared.limits.Row.{Row}
-use Rattle.market_model.specs.LimitRows.{outage_of, place_of_line, row_id, rows}
-use Rattle.limit_rows.specs.Groups.{bears, cause_of, groups, lines_of, rows_of}
+use Rattle.market_model.specs.declared.limits.Cause.{Cause}
+use Rattle.market_model.specs.declared.limits.Cause.TheVariants.{Base, Branch}
+use Rattle.market_model.specs.LimitRows.{outage_of, place_of_line, row_id, rows, bears, causes, lines_of, rows_of}
 use Rattle.limit_rows.proofs.FactorLemmas.{outage_stands}
-use Rattle.limit_rows.proofs.GroupLemmas.{length-map, place_at, row_at, row-of_outage, rows-groups}
+use Rattle.limit_rows.proofs.GroupLemmas.{length-map, place_at, row_at, row-of_outage, rows-causes}
 use Rattle.limit_rows.proofs.NumberingLemmas.{row_on}
 
 -- ---- lists whose elements are apart
@@ -34,47 +35,47 @@ AllPairs-map R f xs e h i j d p q =
     (subst (R (f (get_or xs i e))) (sym (get_or-map f xs j e d inside)) (h i j e p inside))
 
 -- ---- names
--- the outage of a group's rows
-abbrev pub outage_in : Parts → Option ℕ → ℕ
-outage_in m lost = outage_of m (cause_of lost)
+-- the outage of a cause's rows
+abbrev pub outage_in : Parts → Cause → ℕ
+outage_in m cause = outage_of m cause
 
 abbrev Differ : Parts → Row → Row → Type 0
 Differ m r s = row_id m r ≢ row_id m s
 
 module _ (m : Parts) (market : IsMarket m) where
-  abbrev after_of : ℕ → Option ℕ
-  after_of row = Some (place_of_line m row)
+  abbrev after_of : ℕ → Cause
+  after_of row = Branch (place_of_line m row)
 
-  groups_apart : AllPairs (λ g h. outage_in m g ≢ outage_in m h) (groups m)
-  groups_apart =
-      AllPairs-cons (λ g h. outage_in m g ≢ outage_in m h) None (map after_of m.outages)
-      (All-map (λ h. outage_in m None ≢ outage_in m h) after_of m.outages (λ k d lt e. absurd (let h = (outage_stands m market k d lt).1 in Prim.omega (arith, h, e))))
+  causes_apart : AllPairs (λ g h. outage_in m g ≢ outage_in m h) (causes m)
+  causes_apart =
+      AllPairs-cons (λ g h. outage_in m g ≢ outage_in m h) Base (map after_of m.outages)
+      (All-map (λ h. outage_in m Base ≢ outage_in m h) after_of m.outages (λ k d lt e. absurd (let h = (outage_stands m market k d lt).1 in Prim.omega (arith, h, e))))
       (AllPairs-map (λ g h. outage_in m g ≢ outage_in m h) after_of m.outages 0
       (λ i j d p q e. market.outages_distinct i j d p q (sym (row-of_outage m market i d (Prim.omega (arith, p, q))) ∙ e ∙ row-of_outage m market j d q)))
 
-  in_group : (lost : Option ℕ) → AllPairs (Differ m) (rows_of m lost)
-  in_group lost =
-      AllPairs-map (Differ m) (row_on lost) (lines_of m lost) 0
-      (AllPairs-filter (λ k l. Differ m (row_on lost k) (row_on lost l)) (bears m lost) (places (length m.lines)) apart)
+  in_group : (cause : Cause) → AllPairs (Differ m) (rows_of m cause)
+  in_group cause =
+      AllPairs-map (Differ m) (row_on cause) (lines_of m cause) 0
+      (AllPairs-filter (λ k l. Differ m (row_on cause k) (row_on cause l)) (bears m cause) (places (length m.lines)) apart)
     where
-      apart : AllPairs (λ k l. Differ m (row_on lost k) (row_on lost l)) (places (length m.lines))
+      apart : AllPairs (λ k l. Differ m (row_on cause k) (row_on cause l)) (places (length m.lines))
       apart i j d p q =
           let inside : j < length m.lines = Prim.omega (arith, q, length-range_with_len 0 (length m.lines)) in
           let below : i < length m.lines = Prim.omega (arith, p, inside) in
           let long : j < length (map (λ line. line.row) m.lines) = Prim.omega (arith, inside, length-map (λ line. line.row) m.lines) in
-          subst (λ (k : ℕ). Differ m (row_on lost k) (row_on lost (get_or (places (length m.lines)) j d))) (sym (place_at (length m.lines) i d below))
-          (subst (λ (l : ℕ). Differ m (row_on lost i) (row_on lost l)) (sym (place_at (length m.lines) j d inside))
+          subst (λ (k : ℕ). Differ m (row_on cause k) (row_on cause (get_or (places (length m.lines)) j d))) (sym (place_at (length m.lines) i d below))
+          (subst (λ (l : ℕ). Differ m (row_on cause i) (row_on cause l)) (sym (place_at (length m.lines) j d inside))
           (λ e. market.line_rows i j 0 p long (row_at m market i 0 below ∙ ap (λ (n : RowId). n.branch) e ∙ sym (row_at m market j 0 inside))))
 
-  -- rows of other groups have other outages
-  others : (g : Option ℕ) (gs : List (Option ℕ)) → All (λ h. outage_in m g ≢ outage_in m h) gs → All (λ s. outage_in m g ≢ outage_of m s.cause) (flat_map (rows_of m) gs)
+  -- rows under other causes have other outages
+  others : (g : Cause) (gs : List (Cause)) → All (λ h. outage_in m g ≢ outage_in m h) gs → All (λ s. outage_in m g ≢ outage_of m s.cause) (flat_map (rows_of m) gs)
   others g [] h = All-nil (λ s. outage_in m g ≢ outage_of m s.cause)
   others g (x ∷ xs) h =
       All-append (λ s. outage_in m g ≢ outage_of m s.cause) (rows_of m x) (flat_map (rows_of m) xs)
       (All-map (λ s. outage_in m g ≢ outage_of m s.cause) (row_on x) (lines_of m x) (λ k d lt. h 0 x (Prim.omega arith)))
       (others g xs (λ k d lt. h (suc k) d (Prim.omega (arith, lt))))
 
-  flat_apart : (gs : List (Option ℕ)) → AllPairs (λ g h. outage_in m g ≢ outage_in m h) gs → AllPairs (Differ m) (flat_map (rows_of m) gs)
+  flat_apart : (gs : List (Cause)) → AllPairs (λ g h. outage_in m g ≢ outage_in m h) gs → AllPairs (Differ m) (flat_map (rows_of m) gs)
   flat_apart [] h = λ i j d p q. absurd (Prim.omega (arith, q))
   flat_apart (g ∷ gs) h =
       AllPairs-append (Differ m) (rows_of m g) (flat_map (rows_of m) gs) (in_group g)
@@ -83,7 +84,7 @@ module _ (m : Parts) (market : IsMarket m) where
       (λ k d lt. λ i e here. λ same. others g gs (λ n f below. h 0 (suc n) f (Prim.omega arith) (Prim.omega (arith, below))) i e here (ap (λ (n : RowId). n.outage) same)))
 
   apart : AllPairs (Differ m) (rows m)
-  apart = subst (AllPairs (Differ m)) (sym (rows-groups m)) (flat_apart (groups m) groups_apart)
+  apart = subst (AllPairs (Differ m)) (sym (rows-causes m)) (flat_apart (causes m) causes_apart)
 
   -- so a name tells its row
   pub same_row : (r s : Row) → Contains (rows m) r → Contains (rows m) s → row_id m r ≡ row_id m s → r ≡ s

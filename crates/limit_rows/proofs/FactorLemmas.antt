@@ -4,7 +4,7 @@ use Rattle.std.specs.List.{flat_map}
 use Rattle.std.proofs.Common.{suc, arith, ap, sym, subst, ◌∙◌, get_or}
 use Rattle.std.proofs.Math.Nat.{mul-pos, mul_comm}
 use Rattle.std.proofs.lemmas.List.FromFn.{length-range_with_len}
-use Rattle.std.proofs.lemmas.List.Elements.{All-append, All-filter, All-map, All-nil}
+use Rattle.std.proofs.lemmas.List.Elements.{All-append, All-cons, All-filter, All-map, All-nil}
 use Rattle.fraction_theory.specs.Fraction.{Fraction, over, ◌+ℚ◌, ◌*ℚ◌}
 use Rattle.fraction_theory.proofs.Ring.{by_ring, at, padd, pmul}
 use Rattle.fraction_theory.proofs.IntegerLaws.{ring_ℤ}
@@ -18,7 +18,7 @@ use Rattle.market_model.specs.Factors.{factor_in, is_pair}
 use Rattle.market_model.specs.declared.limits.Cause.{Cause}
 use Rattle.market_model.specs.declared.limits.Row.{Row}
 use Rattle.market_model.specs.declared.limits.Cause.TheVariants.{Base, Branch}
-use Rattle.market_model.specs.LimitRows.{place_of_line, rows, rows_after, base_rows, has_base, has_post, row_factor}
+use Rattle.market_model.specs.LimitRows.{bears, causes, place_of_line, rows, rows_of, row_factor}
 use Rattle.market_model.specs.Market.{IsMarket, IsFactor}
 use Rattle.limit_rows.proofs.GroupLemmas.{length-map, place_at, place-own, row_at}
 
@@ -77,16 +77,16 @@ module _ (m : Parts) (market : IsMarket m) where
           let place : place_of_line m row ≡ k = ap (place_of_line m) (sym is) ∙ place-own m market k inside in
           (subst (λ (l : ℕ). l < length m.lines) (sym place) inside, subst (λ (l : ℕ). 1 ≤ (line_at m l).row) (sym place) (market.lines k _ inside).row)
 
-  all_flat : (f : ℕ → List Row) (xs : List ℕ) → ((i : ℕ) (d : ℕ) → i < length xs → All (Stands m) (f (get_or xs i d))) → All (Stands m) (flat_map f xs)
+  causes_stand : All (IsLost m) (causes m)
+  causes_stand = All-cons (IsLost m) Base (map (λ row. Branch (place_of_line m row)) m.outages) tt (All-map (IsLost m) (λ row. Branch (place_of_line m row)) m.outages outage_stands)
+
+  all_flat : (f : Cause → List Row) (xs : List Cause) → ((i : ℕ) (d : Cause) → i < length xs → All (Stands m) (f (get_or xs i d))) → All (Stands m) (flat_map f xs)
   all_flat f [] h = All-nil (Stands m)
   all_flat f (x ∷ xs) h = All-append (Stands m) (f x) (flat_map f xs) (h 0 x (Prim.omega arith)) (all_flat f xs (λ i d lt. h (suc i) d (Prim.omega (arith, lt))))
 
   rows_stand : All (Stands m) (rows m)
   unfolding rows
-  rows_stand =
-      All-append (Stands m) (base_rows m) (flat_map (λ row. rows_after m (place_of_line m row)) m.outages)
-      (lines_stand Base (has_base m) tt)
-      (all_flat (λ row. rows_after m (place_of_line m row)) m.outages (λ i d h. lines_stand (Branch (place_of_line m (get_or m.outages i d))) (has_post m (place_of_line m (get_or m.outages i d))) (outage_stands i d h)))
+  rows_stand = all_flat (rows_of m) (causes m) (λ i d h. lines_stand (get_or (causes m) i d) (bears m (get_or (causes m) i d)) (causes_stand i d h))
 
   pub stands : (r : Row) → Contains (rows m) r → Stands m r
   stands r (k, lt, e) = subst (Stands m) e (rows_stand k r lt)

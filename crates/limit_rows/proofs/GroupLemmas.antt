@@ -1,5 +1,5 @@
--- Rows by groups.
-use Rattle.std.specs.Prelude.{◌≡◌, ◌==◌, Contains, ℕ, ◌+◌, ◌<◌, ◌≤◌, Bool, true, false, List, [], ◌∷◌, ◌++◌, map, filter, length, Option, Some, None, option_map, ◌-◌, pos, refl, cond}
+-- Rows by causes.
+use Rattle.std.specs.Prelude.{◌≡◌, ◌==◌, Contains, ℕ, ◌+◌, ◌<◌, ◌≤◌, Bool, true, false, List, [], ◌∷◌, ◌++◌, map, filter, length, Some, None, option_map, ◌-◌, pos, refl, cond}
 use Rattle.std.specs.List.{flat_map, range_with_len, slice_get}
 use Rattle.std.proofs.Common.{zero, suc, arith, ap, sym, subst, ◌∙◌, get_or, take, length-append}
 use Rattle.std.proofs.lemmas.Bool.{eq-eqb, ne_eqb}
@@ -13,18 +13,15 @@ use Rattle.market_model.specs.declared.participants.Line.{Line}
 use Rattle.market_model.specs.declared.participants.Parts.{Parts}
 use Rattle.market_model.specs.Dispatch.{places, line_at}
 use Rattle.market_model.specs.Market.{IsMarket}
-use Rattle.market_model.specs.LimitRows.{rows, place_of_line}
+use Rattle.market_model.specs.declared.limits.Cause.{Cause}
+use Rattle.market_model.specs.declared.limits.Cause.TheVariants.{Branch}
+use Rattle.market_model.specs.LimitRows.{rows, place_of_line, causes, rows_of}
 use Rattle.market_model.proofs.MorePlaces.{places_more}
-use Rattle.limit_rows.specs.Groups.{groups, rows_of}
 
-flat_map-map : {X Y Z : Type 0} (f : Y → List Z) (g : X → Y) (xs : List X) → flat_map f (map g xs) ≡ flat_map (λ x. f (g x)) xs
-flat_map-map f g [] = refl
-flat_map-map f g (x ∷ xs) = ap (λ ys. f (g x) ++ ys) (flat_map-map f g xs)
-
--- the rows are those of the groups in order
-pub rows-groups : (m : Parts) → rows m ≡ flat_map (rows_of m) (groups m)
+-- the rows are those of the causes in order
+pub rows-causes : (m : Parts) → rows m ≡ flat_map (rows_of m) (causes m)
 unfolding rows
-rows-groups m = ap (λ ys. rows_of m None ++ ys) (sym (flat_map-map (rows_of m) (λ row. Some (place_of_line m row)) m.outages))
+rows-causes m = refl
 
 pub length-map : {X Y : Type 0} (f : X → Y) (xs : List X) → length (map f xs) ≡ length xs
 length-map f [] = refl
@@ -64,15 +61,15 @@ behind p n i count h passes before =
     ap (filter p) r.1 ∙ filter-append p (places i) (i ∷ r.0) ∙ ap (λ (b : Bool). filter p (places i) ++ cond b (i ∷ filter p r.0) (filter p r.0)) passes in
     ap (λ (k : ℕ). slice_get (filter p (places n)) k) (sym before) ∙ ap (λ is. slice_get is (length (filter p (places i)))) split ∙ slice_get-seam (filter p (places i)) (filter p r.0) i
 
--- ---- groups, one more
-pub rows-more : (m : Parts) (i : ℕ) (group : Option ℕ) → slice_get (groups m) i ≡ Some group
-    → flat_map (rows_of m) (take (i + 1) (groups m)) ≡ flat_map (rows_of m) (take i (groups m)) ++ rows_of m group
-rows-more m i group at =
-    let inside : i < length (groups m) = slice_get_within (groups m) i group at in
-    let is : get_or (groups m) i group ≡ group = get_or_from_slice_get (groups m) i group group at in
-    ap (flat_map (rows_of m)) (take_more (groups m) i group inside ∙ ap (λ (g : Option ℕ). take i (groups m) ++ g ∷ []) is)
-    ∙ flat_map-append (rows_of m) (take i (groups m)) (group ∷ [])
-    ∙ ap (λ ys. flat_map (rows_of m) (take i (groups m)) ++ ys) (append-nil (rows_of m group))
+-- ---- causes, one more
+pub rows-more : (m : Parts) (i : ℕ) (cause : Cause) → slice_get (causes m) i ≡ Some cause
+    → flat_map (rows_of m) (take (i + 1) (causes m)) ≡ flat_map (rows_of m) (take i (causes m)) ++ rows_of m cause
+rows-more m i cause at =
+    let inside : i < length (causes m) = slice_get_within (causes m) i cause at in
+    let is : get_or (causes m) i cause ≡ cause = get_or_from_slice_get (causes m) i cause cause at in
+    ap (flat_map (rows_of m)) (take_more (causes m) i cause inside ∙ ap (λ (g : Cause). take i (causes m) ++ g ∷ []) is)
+    ∙ flat_map-append (rows_of m) (take i (causes m)) (cause ∷ [])
+    ∙ ap (λ ys. flat_map (rows_of m) (take i (causes m)) ++ ys) (append-nil (rows_of m cause))
 
 -- ---- the line of a branch row
 pub place_at : (n k d : ℕ) → k < n → get_or (places n) k d ≡ k
@@ -112,11 +109,11 @@ module _ (m : Parts) (market : IsMarket m) where
           let is : (line_at m k).row ≡ row = sym (row_at k row inside) ∙ e in
           ap (λ (r : ℕ). (line_at m (place_of_line m r)).row) (sym is) ∙ ap (λ (l : ℕ). (line_at m l).row) (place-own k inside) ∙ is
 
-pub group_behind : (m : Parts) (i row : ℕ) → (i ≡ 0 → ⊥) → slice_get m.outages (i - 1) ≡ Some row → slice_get (groups m) i ≡ Some (Some (place_of_line m row))
-group_behind m zero row h e = absurd (h refl)
-group_behind m (suc i) row h e =
+pub cause_behind : (m : Parts) (i row : ℕ) → (i ≡ 0 → ⊥) → slice_get m.outages (i - 1) ≡ Some row → slice_get (causes m) i ≡ Some (Branch (place_of_line m row))
+cause_behind m zero row h e = absurd (h refl)
+cause_behind m (suc i) row h e =
     let k : suc i - 1 ≡ i = Prim.omega arith in
-    slice_get-map (λ r. Some (place_of_line m r)) m.outages i ∙ ap (option_map (λ r. Some (place_of_line m r))) (Prim.rw k at e)
+    slice_get-map (λ r. Branch (place_of_line m r)) m.outages i ∙ ap (option_map (λ r. Branch (place_of_line m r))) (Prim.rw k at e)
 
 pub outage_row : (m : Parts) (i row : ℕ) → IsMarket m → slice_get m.outages i ≡ Some row → (line_at m (place_of_line m row)).row ≡ row
 outage_row m i row market e =

@@ -1,5 +1,5 @@
 -- The rows of a market by the places of their lines, and by name.
-use Rattle.std.specs.Prelude.{◌≡◌, ◌≢◌, ◌⊎◌, ◌==◌, ℕ, ◌<◌, ◌≤◌, ◌&&◌, Bool, true, false, List, [], ◌∷◌, map, length, All, Contains, Option, Some, None, option_map, IfSome, refl}
+use Rattle.std.specs.Prelude.{◌≡◌, ◌≢◌, ◌⊎◌, ◌==◌, ℕ, ◌<◌, ◌≤◌, ◌&&◌, Bool, true, false, List, [], ◌∷◌, map, length, All, Contains, Some, option_map, refl}
 use Rattle.std.specs.List.{flat_map, slice_get, position}
 use Rattle.std.proofs.Common.{arith, inl, inr, ap, ap₂, sym, subst, ◌∙◌, get_or}
 use Rattle.std.proofs.lemmas.List.{get_or-map}
@@ -17,14 +17,14 @@ use Rattle.market_model.specs.declared.participants.Parts.{Parts}
 use Rattle.market_model.specs.Dispatch.{places, line_at}
 use Rattle.market_model.specs.Market.{IsMarket}
 use Rattle.market_model.specs.declared.limits.Row.{Row}
-use Rattle.market_model.specs.declared.limits.Cause.TheVariants.{Base}
-use Rattle.market_model.specs.LimitRows.{outage_of, place_of_line, row_id, rows}
+use Rattle.market_model.specs.declared.limits.Cause.TheVariants.{Base, Branch}
+use Rattle.market_model.specs.declared.limits.Cause.{Cause}
+use Rattle.market_model.specs.LimitRows.{IsCauseAmong, outage_of, place_of_line, row_id, rows, bears, causes, lines_of, rows_of}
 use Rattle.market_model.proofs.ChangeLemmas.{same_default}
-use Rattle.limit_rows.specs.Groups.{bears, cause_of, groups, is_named, lines_of, rows_of}
+use Rattle.limit_rows.specs.Naming.{is_named}
 use Rattle.limit_rows.proofs.ApartLemmas.{names_apart, outage_in}
-use Rattle.limit_rows.specs.declared.places.LimitRow.{LimitRow}
 use Rattle.limit_rows.proofs.FactorLemmas.{IsLost, outage_stands, stands}
-use Rattle.limit_rows.proofs.GroupLemmas.{length-map, place_at, place-own, row-of_outage, rows-groups}
+use Rattle.limit_rows.proofs.GroupLemmas.{length-map, place_at, place-own, row-of_outage, rows-causes}
 use Rattle.limit_rows.proofs.NumberingLemmas.{row_on}
 
 -- ---- members of lists
@@ -66,43 +66,43 @@ Contains-from_places n l (k, lt, e) =
 pub listed : {X : Type 0} (xs : List X) (k : ℕ) (x : X) → slice_get xs k ≡ Some x → Contains xs x
 listed xs k x e = (k, slice_get_within xs k x e, get_or_from_slice_get xs k x x e)
 
--- ---- the rows are those of the lines that have one in a group
--- a line that has a row in a group of the market
-pub record IsRowOf (m : Parts) (lost : Option ℕ) (l : ℕ) : Type 0 where
-  pub group : Contains (groups m) lost
+-- ---- the rows are those of the lines that have one under a cause
+-- a line that has a row under a cause of the market
+pub record IsRowOf (m : Parts) (cause : Cause) (l : ℕ) : Type 0 where
+  pub group : Contains (causes m) cause
   pub line : l < length m.lines
-  pub bears : bears m lost l ≡ true
+  pub bears : bears m cause l ≡ true
 
-pub row_to : (m : Parts) (lost : Option ℕ) (l : ℕ) → IsRowOf m lost l → Contains (rows m) (row_on lost l)
-row_to m lost l h =
-    subst (λ rs. Contains rs (row_on lost l)) (sym (rows-groups m))
-    (Contains-flat (rows_of m) (groups m) lost (row_on lost l) h.group
-    (Contains-map (row_on lost) (lines_of m lost) l (Contains-filter (bears m lost) (places (length m.lines)) l (Contains-places (length m.lines) l h.line) h.bears)))
+pub row_to : (m : Parts) (cause : Cause) (l : ℕ) → IsRowOf m cause l → Contains (rows m) (row_on cause l)
+row_to m cause l h =
+    subst (λ rs. Contains rs (row_on cause l)) (sym (rows-causes m))
+    (Contains-flat (rows_of m) (causes m) cause (row_on cause l) h.group
+    (Contains-map (row_on cause) (lines_of m cause) l (Contains-filter (bears m cause) (places (length m.lines)) l (Contains-places (length m.lines) l h.line) h.bears)))
 
-pub row_from : (m : Parts) (r : Row) → Contains (rows m) r → (lost : Option ℕ) × (l : ℕ) × IsRowOf m lost l × (row_on lost l ≡ r)
+pub row_from : (m : Parts) (r : Row) → Contains (rows m) r → (cause : Cause) × (l : ℕ) × IsRowOf m cause l × (row_on cause l ≡ r)
 row_from m r c =
-    let g = Contains-from_flat (rows_of m) (groups m) r (subst (λ rs. Contains rs r) (rows-groups m) c) in
+    let g = Contains-from_flat (rows_of m) (causes m) r (subst (λ rs. Contains rs r) (rows-causes m) c) in
     let l = Contains-from_map (row_on g.0) (lines_of m g.0) r g.2 in
     let kept = Contains-from_filter (bears m g.0) (places (length m.lines)) l.0 l.1 in
     (g.0, l.0, record { group = g.1; line = Contains-from_places (length m.lines) l.0 kept.0; bears = kept.1 }, l.2)
 
-pub none_of_outage : (m : Parts) (name : RowId) → All (λ lost. outage_in m lost ≢ name.outage) (groups m) → (r : Row) → Contains (rows m) r → row_id m r ≢ name
+pub none_of_outage : (m : Parts) (name : RowId) → All (λ cause. outage_in m cause ≢ name.outage) (causes m) → (r : Row) → Contains (rows m) r → row_id m r ≢ name
 none_of_outage m name none r c = λ e. by (row_from m r c) e
   where
-    by : (lost : Option ℕ) × (l : ℕ) × IsRowOf m lost l × (row_on lost l ≡ r) → row_id m r ≡ name → ⊥
-    by (lost, l, is, same) e = of_group is.group
+    by : (cause : Cause) × (l : ℕ) × IsRowOf m cause l × (row_on cause l ≡ r) → row_id m r ≡ name → ⊥
+    by (cause, l, is, same) e = of_group is.group
       where
-        of_group : Contains (groups m) lost → ⊥
-        of_group (k, lt, at) = none k lost lt (ap (outage_in m) at ∙ ap (λ (s : Row). outage_of m s.cause) same ∙ ap (λ (n : RowId). n.outage) e)
+        of_group : Contains (causes m) cause → ⊥
+        of_group (k, lt, at) = none k cause lt (ap (outage_in m) at ∙ ap (λ (s : Row). outage_of m s.cause) same ∙ ap (λ (n : RowId). n.outage) e)
 
--- ---- groups by outage
+-- ---- causes by outage
 module _ (m : Parts) (market : IsMarket m) where
-  group_from : (lost : Option ℕ) → Contains (groups m) lost → (lost ≡ None) ⊎ ((row : ℕ) × Contains m.outages row × (Some (place_of_line m row) ≡ lost))
-  group_from lost c = by (Contains-cases None (map (λ row. Some (place_of_line m row)) m.outages) lost c)
+  cause_from : (cause : Cause) → Contains (causes m) cause → (cause ≡ Base) ⊎ ((row : ℕ) × Contains m.outages row × (Branch (place_of_line m row) ≡ cause))
+  cause_from cause c = by (Contains-cases Base (map (λ row. Branch (place_of_line m row)) m.outages) cause c)
     where
-      by : (None ≡ lost) ⊎ Contains (map (λ row. Some (place_of_line m row)) m.outages) lost → (lost ≡ None) ⊎ ((row : ℕ) × Contains m.outages row × (Some (place_of_line m row) ≡ lost))
+      by : (Base ≡ cause) ⊎ Contains (map (λ row. Branch (place_of_line m row)) m.outages) cause → (cause ≡ Base) ⊎ ((row : ℕ) × Contains m.outages row × (Branch (place_of_line m row) ≡ cause))
       by (inl e) = inl (sym e)
-      by (inr d) = inr (Contains-from_map (λ row. Some (place_of_line m row)) m.outages lost d)
+      by (inr d) = inr (Contains-from_map (λ row. Branch (place_of_line m row)) m.outages cause d)
 
   outage_own : (row : ℕ) → Contains m.outages row → (line_at m (place_of_line m row)).row ≡ row
   outage_own row (k, lt, e) = ap (λ (o : ℕ). (line_at m (place_of_line m o)).row) (sym e) ∙ row-of_outage m market k row lt ∙ e
@@ -110,20 +110,20 @@ module _ (m : Parts) (market : IsMarket m) where
   outage_row-above : (row : ℕ) → Contains m.outages row → 1 ≤ row
   outage_row-above row (k, lt, e) = let h = (outage_stands m market k row lt).1 in let f = row-of_outage m market k row lt in Prim.omega (arith, h, f, e)
 
-  pub lost_inside : (k : ℕ) → Contains (groups m) (Some k) → k < length m.lines
-  lost_inside k c = by (group_from (Some k) c)
+  pub lost_inside : (k : ℕ) → Contains (causes m) (Branch k) → k < length m.lines
+  lost_inside k c = by (cause_from (Branch k) c)
     where
-      by : (Some k ≡ None) ⊎ ((row : ℕ) × Contains m.outages row × (Some (place_of_line m row) ≡ Some k)) → k < length m.lines
+      by : (Branch k ≡ Base) ⊎ ((row : ℕ) × Contains m.outages row × (Branch (place_of_line m row) ≡ Branch k)) → k < length m.lines
       by (inl e) = absurd Prim.cc
       by (inr (row, (i, lt, e), f)) =
           let place : place_of_line m row ≡ k = Prim.cc in
           subst (λ (l : ℕ). l < length m.lines) (ap (place_of_line m) e ∙ place) (outage_stands m market i row lt).0
 
-  -- groups of one outage are one
-  pub same_group : (g h : Option ℕ) → Contains (groups m) g → Contains (groups m) h → outage_in m g ≡ outage_in m h → g ≡ h
-  same_group g h c d e = by (group_from g c) (group_from h d)
+  -- causes of one outage are one
+  pub same_cause : (g h : Cause) → Contains (causes m) g → Contains (causes m) h → outage_in m g ≡ outage_in m h → g ≡ h
+  same_cause g h c d e = by (cause_from g c) (cause_from h d)
     where
-      by : (g ≡ None) ⊎ ((row : ℕ) × Contains m.outages row × (Some (place_of_line m row) ≡ g)) → (h ≡ None) ⊎ ((row : ℕ) × Contains m.outages row × (Some (place_of_line m row) ≡ h)) → g ≡ h
+      by : (g ≡ Base) ⊎ ((row : ℕ) × Contains m.outages row × (Branch (place_of_line m row) ≡ g)) → (h ≡ Base) ⊎ ((row : ℕ) × Contains m.outages row × (Branch (place_of_line m row) ≡ h)) → g ≡ h
       by (inl a) (inl b) = a ∙ sym b
       by (inl a) (inr (row, o, b)) =
           absurd (let f : 0 ≡ row = sym (ap (outage_in m) a) ∙ e ∙ sym (ap (outage_in m) b) ∙ outage_own row o in let k = outage_row-above row o in Prim.omega (arith, f, k))
@@ -131,43 +131,43 @@ module _ (m : Parts) (market : IsMarket m) where
           absurd (let f : row ≡ 0 = sym (outage_own row o) ∙ ap (outage_in m) a ∙ e ∙ ap (outage_in m) b in let k = outage_row-above row o in Prim.omega (arith, f, k))
       by (inr (row, o, a)) (inr (other, p, b)) =
           let f : row ≡ other = sym (outage_own row o) ∙ ap (outage_in m) a ∙ e ∙ sym (ap (outage_in m) b) ∙ outage_own other p in
-          sym a ∙ ap (λ (r : ℕ). Some (place_of_line m r)) f ∙ b
+          sym a ∙ ap (λ (r : ℕ). Branch (place_of_line m r)) f ∙ b
 
-  -- the group of a listed outage
-  pub of_outage : (k row : ℕ) → k < length m.outages → get_or m.outages k row ≡ row → Contains (groups m) (Some (place_of_line m row)) × ((line_at m (place_of_line m row)).row ≡ row)
+  -- the cause of a listed outage
+  pub of_outage : (k row : ℕ) → k < length m.outages → get_or m.outages k row ≡ row → Contains (causes m) (Branch (place_of_line m row)) × ((line_at m (place_of_line m row)).row ≡ row)
   of_outage k row lt e =
-      (Contains-cons None (map (λ r. Some (place_of_line m r)) m.outages) (Some (place_of_line m row)) (Contains-map (λ r. Some (place_of_line m r)) m.outages row (k, lt, e)), outage_own row (k, lt, e))
+      (Contains-cons Base (map (λ r. Branch (place_of_line m r)) m.outages) (Branch (place_of_line m row)) (Contains-map (λ r. Branch (place_of_line m r)) m.outages row (k, lt, e)), outage_own row (k, lt, e))
 
-  -- no group of an outage that is not listed
-  pub of_none : (outage : ℕ) → (outage ≡ 0 → ⊥) → ((k : ℕ) → k < length m.outages → get_or m.outages k 0 ≡ outage → ⊥) → All (λ lost. outage_in m lost ≢ outage) (groups m)
-  of_none outage some none k d lt = λ e. by (group_from (get_or (groups m) k d) (k, lt, same_default (groups m) k (get_or (groups m) k d) d lt)) e
+  -- no cause of an outage that is not listed
+  pub of_none : (outage : ℕ) → (outage ≡ 0 → ⊥) → ((k : ℕ) → k < length m.outages → get_or m.outages k 0 ≡ outage → ⊥) → All (λ cause. outage_in m cause ≢ outage) (causes m)
+  of_none outage some none k d lt = λ e. by (cause_from (get_or (causes m) k d) (k, lt, same_default (causes m) k (get_or (causes m) k d) d lt)) e
     where
-      by : {g : Option ℕ} → (g ≡ None) ⊎ ((row : ℕ) × Contains m.outages row × (Some (place_of_line m row) ≡ g)) → outage_in m g ≡ outage → ⊥
+      by : {g : Cause} → (g ≡ Base) ⊎ ((row : ℕ) × Contains m.outages row × (Branch (place_of_line m row) ≡ g)) → outage_in m g ≡ outage → ⊥
       by (inl a) e = some (sym e ∙ ap (outage_in m) a)
       by (inr (row, (i, below, at), a)) e =
           none i below (same_default m.outages i 0 row below ∙ at ∙ sym (outage_own row (i, below, at)) ∙ ap (outage_in m) a ∙ e)
 
   -- ---- a row by its name
   module _ (name : RowId) where
-    pub none_of_branch : (lost : Option ℕ) → Contains (groups m) lost → outage_in m lost ≡ name.outage
-        → (place_of_line m name.branch < length m.lines → bears m lost (place_of_line m name.branch) ≡ true → ⊥) → (r : Row) → Contains (rows m) r → row_id m r ≢ name
-    none_of_branch lost listed is none r c = λ e. by (row_from m r c) e
+    pub none_of_branch : (cause : Cause) → Contains (causes m) cause → outage_in m cause ≡ name.outage
+        → (place_of_line m name.branch < length m.lines → bears m cause (place_of_line m name.branch) ≡ true → ⊥) → (r : Row) → Contains (rows m) r → row_id m r ≢ name
+    none_of_branch cause listed is none r c = λ e. by (row_from m r c) e
       where
-        by : (g : Option ℕ) × (l : ℕ) × IsRowOf m g l × (row_on g l ≡ r) → row_id m r ≡ name → ⊥
+        by : (g : Cause) × (l : ℕ) × IsRowOf m g l × (row_on g l ≡ r) → row_id m r ≡ name → ⊥
         by (g, l, row, same) e =
             let named : row_id m (row_on g l) ≡ name = ap (row_id m) same ∙ e in
-            let group : g ≡ lost = same_group g lost row.group listed (ap (λ (n : RowId). n.outage) named ∙ sym is) in
+            let group : g ≡ cause = same_cause g cause row.group listed (ap (λ (n : RowId). n.outage) named ∙ sym is) in
             let line : l ≡ place_of_line m name.branch = sym (place-own m market l row.line) ∙ ap (λ (n : RowId). place_of_line m n.branch) named in
             none (subst (λ (k : ℕ). k < length m.lines) line row.line)
-            (ap (λ (k : ℕ). bears m lost k) (sym line) ∙ ap (λ (h : Option ℕ). bears m h l) (sym group) ∙ row.bears)
+            (ap (λ (k : ℕ). bears m cause k) (sym line) ∙ ap (λ (h : Cause). bears m h l) (sym group) ∙ row.bears)
 
 -- a row stands at places that are there
-pub at_places : (m : Parts) → IsMarket m → (row : LimitRow) → Contains (rows m) row → (row.line < length m.lines) × IfSome row.lost (λ lost. lost < length m.lines)
-at_places m market row c = let h = stands m market row c in (h.line, by row.lost h.lost)
+pub at_places : (m : Parts) → IsMarket m → (row : Row) → Contains (rows m) row → (row.line < length m.lines) × IsCauseAmong (length m.lines) row.cause
+at_places m market row c = let h = stands m market row c in (h.line, by row.cause h.lost)
   where
-    by : (lost : Option ℕ) → IsLost m (cause_of lost) → IfSome lost (λ k. k < length m.lines)
-    by None h = tt
-    by (Some k) h = h.0
+    by : (cause : Cause) → IsLost m cause → IsCauseAmong (length m.lines) cause
+    by Base h = tt
+    by (Branch k) h = h.0
 
 -- a line that was found has the row that was asked for
 pub found_row : (m : Parts) (row l : ℕ) → l ≡ place_of_line m row → l < length m.lines → (line_at m l).row ≡ row

@@ -1,3 +1,2 @@
-pub mod Groups
+pub mod Naming
 pub mod NamesApart
-pub mod Places

@@ -1,14 +1,14 @@
 //! The factors of limit rows.
 
-ghost use Rattle.std.specs.Prelude.{◌≡◌, ◌<◌, ◌≤◌, ◌*◌, ◌^◌, pos, ◌+ℤ◌, ◌*ℤ◌, unsigned_abs, Contains, IfSome, length};
+ghost use Rattle.std.specs.Prelude.{◌≡◌, ◌<◌, ◌≤◌, ◌*◌, ◌^◌, pos, ◌+ℤ◌, ◌*ℤ◌, unsigned_abs, Contains, length};
 ghost use Rattle.fraction_theory.specs.Fraction.{over};
 ghost use Rattle.market_model.specs.Factors.{factor_in};
 ghost use Rattle.market_model.specs.Market.{most_factor};
 ghost use Rattle.market_model.specs.declared.limits.Row.{Row};
-ghost use Rattle.market_model.specs.LimitRows.{factor_places, row_factor, row_id, rows};
+ghost use Rattle.market_model.specs.LimitRows.{factor_places, row_factor, row_id, rows, IsCauseAmong};
 
-use crate::places::{LimitRow, row_named};
-use market_model::{Market, RowId};
+use crate::places::row_named;
+use market_model::{Cause, Market, Row, RowId};
 
 /// In 10^-6.
 const WHOLE: i64 = 1_000_000;
@@ -56,17 +56,17 @@ fn with_lost(own: i64, loss: i64, lost: i64) -> i64
 
 /// How much of what the bus at a place puts in counts for the flow of a row, in 10^-12: the shift factor of its line, and after an
 /// outage what goes over to it of the lost line's.
-pub fn factor_at(market: &Market, row: LimitRow, bus: usize) -> i64
+pub fn factor_at(market: &Market, row: Row, bus: usize) -> i64
     requires line { row.line < length market.now.lines }
-    requires lost { IfSome row.lost (λ lost. lost < length market.now.lines) }
+    requires lost { IsCauseAmong (length market.now.lines) row.cause }
     requires bus { bus < length market.now.buses }
     ensures size { unsigned_abs result < 2 ^ 63 }
     ensures is { over result (10 ^ (2 * factor_places market.now)) ≡ row_factor market.now row bus }
 {
     let own = finer(shift_of(market, row.line, bus));
-    match row.lost {
-        None => own,
-        Some(lost) => with_lost(
+    match row.cause {
+        Cause::Base => own,
+        Cause::Branch(lost) => with_lost(
             own,
             loss_of(market, row.line, lost),
             shift_of(market, lost, bus),

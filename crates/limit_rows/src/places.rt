@@ -4,74 +4,60 @@ ghost use Rattle.std.specs.Prelude.{◌≡◌, ◌≢◌, ◌<◌, length, All, 
 ghost use Rattle.fraction_theory.specs.Fraction.{whole};
 ghost use Rattle.market_data.specs.Participants.{IsDatum};
 ghost use Rattle.market_model.specs.declared.limits.Row.{Row};
-ghost use Rattle.market_model.specs.LimitRows.{limit, outage_of, row_id, rows};
-ghost use Rattle.limit_rows.specs.Groups.{cause_of, groups};
+ghost use Rattle.market_model.specs.LimitRows.{causes, limit, outage_of, row_id, rows, IsCauseAmong};
 
-use crate::groups::{has_row, place_of_line};
-use market_model::{Market, RowId};
-
-/// A limit row: that of a line, in the base or after the loss of another line.
-#[derive(Clone, Copy, PartialEq, Eq, Debug)]
-pub struct LimitRow {
-    /// The place of its line.
-    pub line: usize,
-    /// The place of the lost line; none in the base.
-    pub lost: Option<usize>,
-}
+use crate::causes::{has_row, outage_of, place_of_line};
+use market_model::{Cause, Market, Row, RowId};
 
 /// The limit of a row, in 10^-9 MW; 0 where its line has none.
-pub fn limit_at(market: &Market, row: LimitRow) -> i64
+pub fn limit_at(market: &Market, row: Row) -> i64
     requires { row.line < length market.now.lines }
     ensures datum { IsDatum result }
     ensures limit { whole result ≡ limit market.now row }
 {
     let line = market.lines().at(row.line);
-    let limit = match row.lost {
-        None => line.base,
-        Some(_) => line.post,
+    let limit = match row.cause {
+        Cause::Base => line.base,
+        Cause::Branch(_) => line.post,
     };
     limit.unwrap_or(0)
 }
 
 /// The name of a row.
-pub fn name_at(market: &Market, row: LimitRow) -> RowId
+pub fn name_at(market: &Market, row: Row) -> RowId
     requires line { row.line < length market.now.lines }
-    requires lost { IfSome row.lost (λ lost. lost < length market.now.lines) }
+    requires lost { IsCauseAmong (length market.now.lines) row.cause }
     ensures { result ≡ row_id market.now row }
 {
-    let outage = match row.lost {
-        None => 0,
-        Some(lost) => market.lines().at(lost).row,
-    };
     RowId {
         branch: market.lines().at(row.line).row,
-        outage,
+        outage: outage_of(market, row.cause),
     }
 }
 
-/// The line that is lost in the group of rows of an outage, which is 0 for the base. Nothing where no group is that of the outage.
-fn lost_named(market: &Market, outage: u32) -> Option<Option<usize>>
-    ensures { MatchOption result (All (λ lost. outage_of market.now (cause_of lost) ≢ outage) (groups market.now)) (λ lost. Contains (groups market.now) lost × (outage_of market.now (cause_of lost) ≡ outage)) }
+/// The cause whose rows have this outage in their names. Nothing where the market has none such.
+fn cause_named(market: &Market, outage: u32) -> Option<Cause>
+    ensures { MatchOption result (All (λ cause. outage_of market.now cause ≢ outage) (causes market.now)) (λ cause. Contains (causes market.now) cause × (outage_of market.now cause ≡ outage)) }
 {
     if outage == 0 {
-        return Some(None);
+        return Some(Cause::Base);
     }
     for listed in market.outages().slice() {
         if *listed == outage {
-            return Some(Some(place_of_line(market, outage)));
+            return Some(Cause::Branch(place_of_line(market, outage)));
         }
     }
     None
 }
 
 /// The row of a name, where the market has one.
-pub fn row_named(market: &Market, name: RowId) -> Option<LimitRow>
+pub fn row_named(market: &Market, name: RowId) -> Option<Row>
     ensures { MatchOption result ((r : Row) → Contains (rows market.now) r → row_id market.now r ≢ name) (λ row. Contains (rows market.now) row × (row_id market.now row ≡ name)) }
 {
-    let lost = lost_named(market, name.outage)?;
+    let cause = cause_named(market, name.outage)?;
     let line = place_of_line(market, name.branch);
-    if line < market.lines().len() && has_row(market, lost, line) {
-        Some(LimitRow { line, lost })
+    if line < market.lines().len() && has_row(market, cause, line) {
+        Some(Row { line, cause })
     } else {
         None
     }

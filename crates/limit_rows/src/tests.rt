@@ -3,7 +3,7 @@
 ghost use Rattle.std.specs.Prelude.{◌≡◌, ◌∷◌, [], pos, negsuc, IfOk};
 
 use crate::{
-    count, factor, factor_at, group_count, has_row, id, limit_at, lost_of, name_at, position,
+    cause_at, cause_count, count, factor, factor_at, has_row, id, limit_at, name_at, position,
     row_named,
 };
 use market_model::{Bus, Factor, Line, List, Market, Memory, Parts, RowId, assemble};
@@ -142,12 +142,12 @@ fn by_place(market: &Market, name: RowId, bus: usize) -> Option<(RowId, i64, i64
     }
 }
 
-/// How many rows stand at a line, over all groups.
+/// How many rows stand at a line, under all causes.
 fn rows_at(market: &Market, line: usize) -> usize {
     let mut rows = 0;
-    for group in 0..group_count(market) {
+    for place in 0..cause_count(market) {
         if line < market.lines().len()
-            && has_row(market, lost_of(market, group), line)
+            && has_row(market, cause_at(market, place), line)
             && rows < 9
         {
             rows += 1;

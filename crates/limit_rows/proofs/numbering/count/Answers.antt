@@ -4,9 +4,9 @@ use Rattle.limit_rows.proofs.numbering.count.Goals as goal
 
 pub loop-place-preserved : goal.loop-place-preserved
 loop-place-preserved c =
-    let more = counted-more c.args.market.now c.loop-place.place c.group_at.result.lost c.group_at.ensures.lost in
+    let more = counted-more c.args.market.now c.loop-place.place c.cause_at.result c.cause_at.ensures.is in
     (omega (arith, c.loop-place.invariant.0, more, c.count_of-count.ensures.count), omega (arith, c.loop-place.invariant.1, c.count_of-count.ensures.few))
 
 pub returns : goal.returns
 returns c =
-    c.loop-place.invariant.0 ∙ ap length (all_before c.args.market.now c.loop-place.place (omega (arith, c.group_count-place-end.ensures.count, c.loop-place-test.false)))
+    c.loop-place.invariant.0 ∙ ap length (all_before c.args.market.now c.loop-place.place (omega (arith, c.cause_count-place-end.ensures.count, c.loop-place-test.false)))

@@ -1,12 +1,9 @@
-use Rattle.std.proofs.Common.{◌≡◌, ℕ, length, get_or, slice_get, Some, sym, ap, ◌∙◌, arith}
-use Rattle.std.proofs.lemmas.Option.{get_or_from_slice_get, slice_get-get_or}
-use Rattle.market_model.specs.declared.participants.Line.{Line}
-use Rattle.market_model.specs.declared.answered.RowId.{RowId}
-use Rattle.market_model.specs.Dispatch.{line_at}
+use Rattle.std.proofs.Common.{◌≡◌, length, get_or, slice_get, Some, sym, ap, ◌∙◌, arith}
+use Rattle.std.proofs.lemmas.Option.{slice_get-get_or}
 use Rattle.market_model.specs.declared.limits.Row.{Row}
 use Rattle.market_model.specs.declared.limits.Cause.TheVariants.{Base}
 use Rattle.market_model.specs.LimitRows.{row_id, rows}
-use Rattle.limit_rows.proofs.NumberingLemmas.{all_before, counted-more, row_in_group}
+use Rattle.limit_rows.proofs.NumberingLemmas.{all_before, counted-more, row_under_cause}
 use Rattle.limit_rows.proofs.PlaceLemmas.{position_named}
 use Rattle.limit_rows.proofs.numbering.id.Goals as goal
 
@@ -14,10 +11,7 @@ pub returns-then-left-count-clause-is : goal.returns-then-left-count-clause-is
 returns-then-left-count-clause-is c = λ r is.
     let m = c.args.market.now in
     let line = c.line_behind-line.result in
-    let same = row_in_group m c.loop-at.at c.loop-at.left c.args.place line c.group_at-group.result.lost r c.group_at-group.ensures.lost c.line_behind-line.ensures.is c.loop-at.invariant is in
-    let read : line_at m line ≡ c.at.result.now = get_or_from_slice_get m.lines line c.at.result.now _ (rw c.lines.ensures.list at c.at.ensures) in
-    let named : Line → ℕ → RowId = λ l o. record { branch = l.row; outage = o } in
-    ap (λ (l : Line). named l c.group_at-group.result.outage) (sym read) ∙ ap (λ (o : ℕ). named (line_at m line) o) (sym c.group_at-group.ensures.outage) ∙ ap (row_id m) (sym same)
+    c.name_at.ensures ∙ ap (row_id m) (sym (row_under_cause m c.loop-at.at c.loop-at.left c.args.place line c.cause_at-cause.result r c.cause_at-cause.ensures.is c.line_behind-line.ensures.is c.loop-at.invariant is))
 
 pub returns-then-left-count-clause-position : goal.returns-then-left-count-clause-position
 returns-then-left-count-clause-position c =
@@ -25,14 +19,14 @@ returns-then-left-count-clause-position c =
     let none : Row = record { line = 0; cause = Base } in
     let r : Row = get_or (rows m) c.args.place none in
     let here : slice_get (rows m) c.args.place ≡ Some r = slice_get-get_or (rows m) c.args.place none c.requires in
-    position_named m c.lines.ensures.market c.args.place _ r here (returns-then-left-count-clause-is c r here)
+    position_named m c.lines-lines.ensures.market c.args.place _ r here (returns-then-left-count-clause-is c r here)
 
 pub loop-at-preserved : goal.loop-at-preserved
 loop-at-preserved c =
-    let more = counted-more c.args.market.now c.loop-at.at c.group_at-group.result.lost c.group_at-group.ensures.lost in
+    let more = counted-more c.args.market.now c.loop-at.at c.cause_at-cause.result c.cause_at-cause.ensures.is in
     omega (arith, c.loop-at.invariant, more, c.count_of-count.ensures.count, c.if-left-count.false)
 
 pub unreachable-requires : goal.unreachable-requires
 unreachable-requires c =
-    let all = ap length (all_before c.args.market.now c.loop-at.at (omega (arith, c.group_count-at-end.ensures.count, c.loop-at-test.false))) in
+    let all = ap length (all_before c.args.market.now c.loop-at.at (omega (arith, c.cause_count-at-end.ensures.count, c.loop-at-test.false))) in
     omega (arith, all, c.loop-at.invariant, c.requires)

@@ -1,5 +1,5 @@
 use Rattle.std.proofs.Common.{◌≡◌, ◌≤◌, ◌*◌, length}
-use Rattle.limit_rows.specs.Groups.{is_named}
+use Rattle.limit_rows.specs.Naming.{is_named}
 use Rattle.limit_rows.proofs.NumberingLemmas.{rows_before}
 use Rattle.limit_rows.proofs.PositionLemmas.{Fails}
 use Rattle.limit_rows.proofs.numbering.position.Given as goal

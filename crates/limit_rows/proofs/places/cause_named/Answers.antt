@@ -1,10 +1,11 @@
-use Rattle.std.proofs.Common.{◌≡◌, ℕ, ◌<◌, List, length, get_or, Some, sym, ap, subst, ◌∙◌, arith}
+use Rattle.std.proofs.Common.{◌≡◌, ℕ, ◌<◌, List, length, get_or, sym, ap, subst, ◌∙◌, arith}
 use Rattle.std.specs.Prelude.{Contains}
 use Rattle.market_model.specs.Dispatch.{line_at}
 use Rattle.market_model.proofs.ChangeLemmas.{same_default}
-use Rattle.limit_rows.specs.Groups.{groups}
+use Rattle.market_model.specs.declared.limits.Cause.TheVariants.{Branch}
+use Rattle.market_model.specs.LimitRows.{causes}
 use Rattle.limit_rows.proofs.PlaceLemmas.{of_outage, of_none}
-use Rattle.limit_rows.proofs.places.lost_named.Goals as goal
+use Rattle.limit_rows.proofs.places.cause_named.Goals as goal
 
 pub returns-then-listed-outage : goal.returns-then-listed-outage
 returns-then-listed-outage c =
@@ -13,7 +14,7 @@ returns-then-listed-outage c =
     let i = c.loop-listed.listed-index in
     let inside : i < length m.outages = let long = ap length listed in omega (arith, c.loop-listed-test.true, long) in
     let is : get_or m.outages i c.args.outage ≡ c.args.outage = same_default m.outages i c.args.outage 0 inside ∙ ap (λ (os : List ℕ). get_or os i 0) (sym listed) ∙ c.if-listed-outage.true in
-    subst (λ (l : ℕ). Contains (groups m) (Some l) × ((line_at m l).row ≡ c.args.outage)) (sym c.place_of_line.ensures) (of_outage m c.outages.ensures.market i c.args.outage inside is)
+    subst (λ (l : ℕ). Contains (causes m) (Branch l) × ((line_at m l).row ≡ c.args.outage)) (sym c.place_of_line.ensures) (of_outage m c.outages.ensures.market i c.args.outage inside is)
 
 pub returns : goal.returns
 returns c =

@@ -5,7 +5,7 @@ use borrow.Author.Count.{below_more}
 use Rattle.market_model.specs.declared.participants.Line.{Line}
 use Rattle.market_model.specs.Dispatch.{line_at}
 use Rattle.limit_rows.proofs.GroupLemmas.{place-first}
-use Rattle.limit_rows.proofs.groups.place_of_line.Goals as goal
+use Rattle.limit_rows.proofs.causes.place_of_line.Goals as goal
 
 pub returns-then-at-row : goal.returns-then-at-row
 returns-then-at-row c =

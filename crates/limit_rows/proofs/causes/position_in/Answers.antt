@@ -6,43 +6,44 @@ use Rattle.std.proofs.lemmas.Option.{get_or_from_slice_get}
 use Rattle.market_model.specs.declared.participants.Line.{Line}
 use Rattle.market_model.specs.Dispatch.{places, line_at}
 use Rattle.market_model.specs.declared.limits.Row.{Row}
-use Rattle.limit_rows.specs.Groups.{bears, is_named, rows_of}
+use Rattle.market_model.specs.LimitRows.{bears, rows_of}
+use Rattle.limit_rows.specs.Naming.{is_named}
 use Rattle.limit_rows.proofs.GroupLemmas.{length-map, passed-more}
 use Rattle.limit_rows.proofs.NameLemmas.{other_outage, same_outage, other_branch, fails-more, rows_round}
 use Rattle.limit_rows.proofs.NumberingLemmas.{row_on}
 use Rattle.limit_rows.proofs.PositionLemmas.{position-behind, position-none}
-use Rattle.limit_rows.proofs.groups.position_in.Goals as goal
-use Rattle.limit_rows.proofs.groups.position_in.Goals.{then-has_row+else-at-row, else-has_row}
+use Rattle.limit_rows.proofs.causes.position_in.Goals as goal
+use Rattle.limit_rows.proofs.causes.position_in.Goals.{then-has_row+else-at-row, else-has_row}
 
-pub returns-then-group-row-clause-is : goal.returns-then-group-row-clause-is
-returns-then-group-row-clause-is c =
+pub returns-then-outage_of-row-clause-is : goal.returns-then-outage_of-row-clause-is
+returns-then-outage_of-row-clause-is c =
     let m = c.args.market.now in
     let p = is_named m c.args.row in
-    sym (position-none p (rows_of m c.args.group.lost) (other_outage m c.args.row c.args.group.lost (λ e. c.if-group-row.true (sym c.requires ∙ e))))
+    sym (position-none p (rows_of m c.args.cause) (other_outage m c.args.row c.args.cause (λ e. c.if-outage_of-row.true (c.outage_of.ensures ∙ e))))
 
 pub returns-then-at-row : goal.returns-then-at-row
 returns-then-at-row c =
     let m = c.args.market.now in
-    let lost = c.args.group.lost in
+    let cause = c.args.cause in
     let p = is_named m c.args.row in
     let inside : c.loop-place.place < length m.lines = search rules in
     let read : line_at m c.loop-place.place ≡ c.at.result.now = get_or_from_slice_get m.lines c.loop-place.place c.at.result.now _ (rw c.lines-then-has_row.ensures.list at c.at.ensures) in
-    let outage = c.requires ∙ c.if-group-row.false in
-    let round = rows_round m lost c.loop-place.place inside (sym c.has_row.ensures ∙ c.if-has_row.true) in
-    let before = filter (bears m lost) (places c.loop-place.place) in
-    let here : p (row_on lost c.loop-place.place) ≡ true = same_outage m c.args.row lost c.loop-place.place outage ∙ eq-eqb _ _ (ap (λ (l : Line). l.row) read ∙ c.if-at-row.true) in
+    let outage = sym c.outage_of.ensures ∙ c.if-outage_of-row.false in
+    let round = rows_round m cause c.loop-place.place inside (sym c.has_row.ensures ∙ c.if-has_row.true) in
+    let before = filter (bears m cause) (places c.loop-place.place) in
+    let here : p (row_on cause c.loop-place.place) ≡ true = same_outage m c.args.row cause c.loop-place.place outage ∙ eq-eqb _ _ (ap (λ (l : Line). l.row) read ∙ c.if-at-row.true) in
     record {
       few = omega (arith, c.loop-place.invariant.few, inside, c.lines.ensures.market.line_count);
       is =
           sym (ap (position p) round.1
-          ∙ position-behind p (map (row_on lost) before) round.0 (row_on lost c.loop-place.place) (other_branch m c.args.row lost before outage c.loop-place.invariant.none) here
-          ∙ ap (λ (k : ℕ). Some k) (length-map (row_on lost) before ∙ sym c.loop-place.invariant.count));
+          ∙ position-behind p (map (row_on cause) before) round.0 (row_on cause c.loop-place.place) (other_branch m c.args.row cause before outage c.loop-place.invariant.none) here
+          ∙ ap (λ (k : ℕ). Some k) (length-map (row_on cause) before ∙ sym c.loop-place.invariant.count));
     }
 
 pub loop-place-preserved : goal.loop-place-preserved
 loop-place-preserved c =
     let m = c.args.market.now in
-    let b = bears m c.args.group.lost in
+    let b = bears m c.args.cause in
     let i = c.loop-place.place in
     let test = c.has_row.ensures in
     let more = passed-more b i in
@@ -73,9 +74,9 @@ loop-place-preserved c =
 pub returns-clause-is : goal.returns-clause-is
 returns-clause-is c =
     let m = c.args.market.now in
-    let lost = c.args.group.lost in
-    let outage = c.requires ∙ c.if-group-row.false in
+    let cause = c.args.cause in
+    let outage = sym c.outage_of.ensures ∙ c.if-outage_of-row.false in
     let end : c.loop-place.place ≡ length m.lines = search (rules, arith) in
-    let none = other_branch m c.args.row lost (filter (bears m lost) (places c.loop-place.place)) outage c.loop-place.invariant.none in
-    sym (position-none (is_named m c.args.row) (rows_of m lost)
-    (subst (λ (n : ℕ). (k : ℕ) (d : Row) → k < length (map (row_on lost) (filter (bears m lost) (places n))) → is_named m c.args.row (get_or (map (row_on lost) (filter (bears m lost) (places n))) k d) ≡ false) end none))
+    let none = other_branch m c.args.row cause (filter (bears m cause) (places c.loop-place.place)) outage c.loop-place.invariant.none in
+    sym (position-none (is_named m c.args.row) (rows_of m cause)
+    (subst (λ (n : ℕ). (k : ℕ) (d : Row) → k < length (map (row_on cause) (filter (bears m cause) (places n))) → is_named m c.args.row (get_or (map (row_on cause) (filter (bears m cause) (places n))) k d) ≡ false) end none))

@@ -1,0 +1,120 @@
+//! Causes of limits, and the rows under each.
+
+ghost use Rattle.std.specs.Prelude.{◌≡◌, ◌≤◌, ◌<◌, ◌+◌, length, Some, IfSome};
+ghost use Rattle.std.specs.List.{position, slice_get};
+ghost use Rattle.market_model.specs.LimitRows.{bears, causes, lines_of, outage_of, place_of_line, rows_of, IsCauseAmong};
+ghost use Rattle.market_model.specs.Market.{most_lines, most_outages};
+ghost use Rattle.limit_rows.specs.Naming.{is_named};
+
+use market_model::{Cause, Market, RowId};
+
+/// The place of the line of a branch row; the number of lines where none has it.
+pub(crate) fn place_of_line(market: &Market, row: u32) -> usize
+    ensures { result ≡ place_of_line market.now row }
+{
+    let lines = market.lines();
+    for place in 0..lines.len() {
+        if lines.at(place).row == row {
+            return place;
+        }
+    }
+    lines.len()
+}
+
+/// How many causes of limits a market has: the base, and each outage.
+pub fn cause_count(market: &Market) -> usize
+    ensures count { result ≡ length (causes market.now) }
+    ensures few { result ≤ most_outages + 1 }
+{
+    market.outages().len() + 1
+}
+
+/// The cause at a place: the base first, then the outages as they are listed.
+pub fn cause_at(market: &Market, place: usize) -> Cause
+    requires { place < length (causes market.now) }
+    ensures is { slice_get (causes market.now) place ≡ Some result }
+    ensures lost { IsCauseAmong (length market.now.lines) result }
+{
+    if place == 0 {
+        Cause::Base
+    } else {
+        let outage = *market.outages().at(place - 1);
+        Cause::Branch(place_of_line(market, outage))
+    }
+}
+
+/// The branch row of the lost line of a cause; 0 in the base.
+pub(crate) fn outage_of(market: &Market, cause: Cause) -> u32
+    requires { IsCauseAmong (length market.now.lines) cause }
+    ensures { result ≡ outage_of market.now cause }
+{
+    match cause {
+        Cause::Base => 0,
+        Cause::Branch(lost) => market.lines().at(lost).row,
+    }
+}
+
+/// Whether the line at a place has a limit under a cause.
+pub fn has_row(market: &Market, cause: Cause, place: usize) -> bool
+    requires { place < length market.now.lines }
+    ensures { result ≡ bears market.now cause place }
+{
+    let line = market.lines().at(place);
+    match cause {
+        Cause::Base => line.base.is_some(),
+        Cause::Branch(lost) => place != lost && line.post.is_some(),
+    }
+}
+
+/// How many rows there are under a cause.
+pub(crate) fn count_of(market: &Market, cause: Cause) -> usize
+    ensures count { result ≡ length (lines_of market.now cause) }
+    ensures few { result ≤ most_lines }
+{
+    let mut count = 0;
+    for place in 0..market.lines().len() {
+        if has_row(market, cause, place) {
+            count += 1;
+        }
+    }
+    count
+}
+
+/// The line of a row under a cause, behind so many others.
+pub(crate) fn line_behind(market: &Market, cause: Cause, count: usize) -> usize
+    requires { count < length (lines_of market.now cause) }
+    ensures within { result < length market.now.lines }
+    ensures is { slice_get (lines_of market.now cause) count ≡ Some result }
+{
+    let mut left = count;
+    for place in 0..market.lines().len() {
+        if has_row(market, cause, place) {
+            if left == 0 {
+                return place;
+            }
+            left -= 1;
+        }
+    }
+    unreachable!()
+}
+
+/// The place of the row of a name among those under a cause.
+pub(crate) fn position_in(market: &Market, cause: Cause, row: RowId) -> Option<usize>
+    requires { IsCauseAmong (length market.now.lines) cause }
+    ensures few { IfSome result (λ place. place < most_lines) }
+    ensures is { result ≡ position (is_named market.now row) (rows_of market.now cause) }
+{
+    if outage_of(market, cause) != row.outage {
+        return None;
+    }
+    let mut before = 0;
+    for place in 0..market.lines().len() {
+        if has_row(market, cause, place) {
+            if market.lines().at(place).row == row.branch {
+                return Some(before);
+            }
+            before += 1;
+        }
+    }
+    None
+}
