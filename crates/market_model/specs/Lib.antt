@@ -13,4 +13,5 @@ pub mod Optimality
 pub mod RightAnswers
 pub mod Settlement
 pub mod Stairs
+pub mod SumTables
 pub mod Valued

@@ -4,7 +4,7 @@
 use Rattle.std.specs.Prelude.{◌≡◌, ◌⊎◌, ◌==◌, ◌&&◌, ◌||◌, ℕ, ◌<◌, Bool, false, List, [], ◌∷◌, length, map, filter, All, Contains, if◌then◌else◌}
 use Rattle.fraction_theory.specs.Fraction.{Fraction, whole, neg_ℚ, ◌+ℚ◌, ◌-ℚ◌}
 use Rattle.fraction_theory.specs.Order.{◌<ℚ◌, ◌≤ℚ◌}
-use Rattle.fraction_theory.specs.Sums.{Term, Product, total}
+use Rattle.fraction_theory.specs.Sums.{Term, Plain, Product, total}
 use Rattle.market_model.specs.declared.participants.Side.{Side}
 use Rattle.market_model.specs.declared.participants.Side.TheVariants.{Sell, Buy}
 use Rattle.market_model.specs.declared.participants.Parts.{Parts}
@@ -107,6 +107,10 @@ congestion m d i = congestion_by m d (λ r. row_factor m r i)
 
 abbrev pub bus_price : Parts → Duals Fraction → ℕ → Fraction
 bus_price m d i = price_by m d (λ r. row_factor m r i)
+
+-- its two parts
+abbrev pub price_terms : Parts → Duals Fraction → ℕ → List Term
+price_terms m d i = Plain d.energy ∷ Plain (congestion m d i) ∷ []
 
 -- the price that a unit is paid, by its own factors
 abbrev pub unit_price : Parts → Duals Fraction → ℕ → Fraction

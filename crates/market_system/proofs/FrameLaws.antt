@@ -15,7 +15,7 @@ use Rattle.market_model.specs.Frame.{block_frame, line_frame, frame, SameFrame}
 use Rattle.market_model.specs.declared.limits.Cause.{Cause}
 use Rattle.market_model.specs.declared.limits.Row.{Row}
 use Rattle.market_model.specs.declared.limits.Cause.TheVariants.{Base, Branch}
-use Rattle.market_model.specs.LimitRows.{outage_of, row_id, rows, base_rows, rows_after, has_base, has_post, place_of_line, row_factor}
+use Rattle.market_model.specs.LimitRows.{bears, causes, outage_of, row_id, rows, rows_of, place_of_line, row_factor, unit_factor}
 use Rattle.market_system.specs.FrameLaw.{LawOfTheFrame}
 use Rattle.market_system.specs.MarketSystem.{balance_name, row_name, is_in, in_order, block_sign, block_coefficient, of_name, coefficient_by, same_row, system_over, system_of}
 
@@ -45,24 +45,23 @@ module _ (m : Parts) where
   pub block_count : length (frame m).blocks ≡ length m.blocks
   block_count = counted block_frame m.blocks
 
-  base_framed : has_base (frame m) ≡ has_base m
-  base_framed = fun_ext (λ l. ap (λ (k : Line). is_some k.base) (line_framed l) ∙ some_or_none (line_at m l).base)
-
-  post_framed : (lost : ℕ) → has_post (frame m) lost ≡ has_post m lost
-  post_framed lost = fun_ext (λ l. ap (λ (b : Bool). not (l == lost) && b) (ap (λ (k : Line). is_some k.post) (line_framed l) ∙ some_or_none (line_at m l).post))
+  bears_framed : (cause : Cause) → bears (frame m) cause ≡ bears m cause
+  bears_framed Base = fun_ext (λ l. ap (λ (k : Line). is_some k.base) (line_framed l) ∙ some_or_none (line_at m l).base)
+  bears_framed (Branch lost) = fun_ext (λ l. ap (λ (b : Bool). not (l == lost) && b) (ap (λ (k : Line). is_some k.post) (line_framed l) ∙ some_or_none (line_at m l).post))
 
   place_framed : (row : ℕ) → place_of_line (frame m) row ≡ place_of_line m row
   place_framed row =
       ap₂ (λ (p : ℕ → Bool) (n : ℕ). position_or_len p (places n)) (fun_ext (λ l. ap (λ (k : Line). k.row == row) (line_framed l))) line_count
 
-  after_framed : (lost : ℕ) → rows_after (frame m) lost ≡ rows_after m lost
-  after_framed lost = ap₂ (λ (p : ℕ → Bool) (n : ℕ). map (λ l. record { line = l; cause = Branch lost }) (filter p (places n))) (post_framed lost) line_count
+  causes_framed : causes (frame m) ≡ causes m
+  causes_framed = ap (λ (f : ℕ → Cause). Base ∷ map f m.outages) (fun_ext (λ row. ap Branch (place_framed row)))
+
+  under_framed : (cause : Cause) → rows_of (frame m) cause ≡ rows_of m cause
+  under_framed cause = ap₂ (λ (p : ℕ → Bool) (n : ℕ). map (λ l. record { line = l; cause = cause }) (filter p (places n))) (bears_framed cause) line_count
 
   pub rows_framed : rows (frame m) ≡ rows m
   unfolding rows
-  rows_framed = ap₂ ◌++◌
-      (ap₂ (λ (p : ℕ → Bool) (n : ℕ). map (λ l. record { line = l; cause = Base }) (filter p (places n))) base_framed line_count)
-      (ap (λ (f : ℕ → List Row). flat_map f m.outages) (fun_ext (λ row. ap (rows_after (frame m)) (place_framed row) ∙ after_framed (place_of_line m row))))
+  rows_framed = ap₂ (λ (f : Cause → List Row) (cs : List Cause). flat_map f cs) (fun_ext under_framed) causes_framed
 
   name_framed : row_name (frame m) ≡ row_name m
   name_framed = fun_ext (λ r. ap₂ (λ (n : ℕ) (rs : List Row). n + 1 + position_or_len (same_row r) rs) block_count rows_framed)

@@ -11,7 +11,6 @@ mod ModestMarkets
 mod ModestNumbers
 pub mod ModestPairs
 pub mod PairCases
-pub mod PairLaws
 mod RangeRows
 pub mod RowOrder
 pub mod SolvedMarkets

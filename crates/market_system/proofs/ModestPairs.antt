@@ -1,5 +1,5 @@
 -- No working pair of a modest market without lines passes 127 bits.
-use Rattle.std.specs.Prelude.{◌≡◌, ℕ, Bool, true, false, ◌+◌, ◌*◌, ◌-◌, ◌^◌, ◌≤◌, ◌<◌, pos, List, [], ◌∷◌, ◌⊎◌, length, map, refl}
+use Rattle.std.specs.Prelude.{◌≡◌, ℕ, Bool, true, false, ◌+◌, ◌*◌, ◌-◌, ◌^◌, ◌≤◌, ◌<◌, pos, List, [], ◌∷◌, ◌⊎◌, length, map, Option, Some, None, refl}
 use Rattle.std.specs.List.{Contains}
 use Rattle.std.proofs.Common.{arith, ap, sym, ◌∙◌, subst, inl, inr}
 use Rattle.std.proofs.lemmas.List.{length-append, length-map}
@@ -30,15 +30,17 @@ use Rattle.market_model.specs.Infeasibility.{part_above, where_above, block_weig
 use Rattle.market_model.specs.declared.limits.Row.{Row}
 use Rattle.market_model.specs.LimitRows.{rows, row_factor}
 use Rattle.market_model.specs.NamedSums.{SameSize, term_at, IsSumStep}
-use Rattle.market_model.specs.Optimality.{bus_price, block_value, congestion_terms, pull, unit_price, welfare_terms}
+use Rattle.market_model.specs.Optimality.{bus_price, block_value, congestion_terms, price_terms, pull, unit_price, welfare_terms}
 use Rattle.market_model.specs.Settlement.{surplus_terms}
+use Rattle.market_model.specs.SumTables.{FlowSum, injection_at, balance_of_all, flow_of_line, flow_of_row, PriceSum, congestion_at, price_at, MoneySum, welfare_of_all, surplus_of_all, rent_of_row}
 use Rattle.market_model.proofs.FarkasLaw.{farkas_terms-bare}
-use Rattle.market_model.proofs.RowLaws.{no_rows, no_row, bus_price-bare}
+use Rattle.market_model.proofs.RowLaws.{no_rows, no_row, bus_price-bare, congestion-bare}
 use Rattle.market_system.specs.MarketSystem.{balance_name, system_of, choice_dispatch, choice_duals}
 use Rattle.market_system.specs.MarketNumbers.{MarketNumber, IsBest, IsInjecting, IsFarkasOf}
-use Rattle.market_system.specs.MarketNumbers.{of_system, is_fixed, is_up, is_down, is_load, is_shunt, is_limit, is_line_offset, is_shift, is_loss, is_offset, is_row_factor, is_line_flow, is_row_flow, is_injection, is_balance, is_output, is_energy, is_bus_price, is_congestion, is_up_dual, is_down_dual, is_farkas_energy, is_farkas_price, is_farkas_congestion, is_farkas_up, is_farkas_down, is_farkas_bound, of_opposite}
+use Rattle.market_system.specs.MarketNumbers.{NamedSum, offset_of, factor_of, of_flow, output_of, of_price, of_money, of_farkas_price, farkas_bound_of}
+use Rattle.market_system.specs.MarketNumbers.{of_system, of_sum, is_fixed, is_up, is_down, is_load, is_shunt, is_limit, is_line_offset, is_shift, is_loss, is_energy, is_up_dual, is_down_dual, is_farkas_energy, is_farkas_up, is_farkas_down, of_opposite}
 use Rattle.market_system.specs.ModestMarkets.{IsModest, LawOfModestMarkets, modest_mw, modest_price}
-use Rattle.market_system.specs.WorkingPairs.{IsMoneySum, IsMoneyCase, IsWorkingPair, of_welfare, of_surplus, of_rent}
+use Rattle.market_system.specs.WorkingPairs.{IsMoneyCase, IsWorkingPair}
 use Rattle.market_system.specs.Growth.{GrowsBy}
 use Rattle.market_system.proofs.SystemLaws.{from_places, variable_in}
 use Rattle.market_system.proofs.ModestNumbers.{IsWholeWithin, whole_within, nil_within, wider, neg_within, plus_within, times_within, same_within, sum_fits, product_fits, AreWithin, append_within, map_within, prefix_within, term_within}
@@ -178,6 +180,32 @@ module _ (m : Parts) (market : IsMarket m) (lines : m.lines ≡ []) (modest : Is
         weighed : ℕ → Term
         weighed j = Product (part_above (block_weight m d j)) (quantity m j)
 
+    -- the first terms of each sum that has a kind
+    abbrev WithinOf : Option Kind → Fraction → Type 0
+    WithinOf (Some kind) x = IsWholeWithin (most_of kind) x
+    WithinOf None x = Unit {0}
+
+    price_sum_within : (b most k : ℕ) (d : Duals Fraction) (terms : List Term) → PriceSum m d terms → 2 * b ≤ most → IsWholeWithin b d.energy → IsWholeWithin most (prefix k terms)
+    price_sum_within b most k d terms (congestion_at i lt) wide e = congestion_within most k i d
+    price_sum_within b most k d terms (price_at i lt) wide e = wider (2 * b) most (prefix k (price_terms m d i)) wide
+        (prefix_within 2 b k (price_terms m d i) (Prim.omega arith) (e, (subst (IsWholeWithin b) (sym (congestion-bare m d i bare)) (nil_within b), tt)))
+
+    flow_sum_within : (x : Dispatch) (k : ℕ) (terms : List Term) → IsInjecting m [] h x → FlowSum m x terms → IsWholeWithin most_value (prefix k terms)
+    flow_sum_within x k terms j (injection_at i lt) = wider most_injection most_value (prefix k terms) (Prim.omega arith) (injection_within m market modest x (injecting_small x j) i k lt)
+    flow_sum_within x k terms j balance_of_all = wider most_balance most_value (prefix k terms) (Prim.omega arith) (balance_within m market modest x (injecting_small x j) k)
+    flow_sum_within x k terms j (flow_of_line l lt) = absurd (no_line l lt)
+    flow_sum_within x k terms j (flow_of_row r c) = absurd (no_row m r bare c)
+
+    sum_within : (kind : Option Kind) (terms : List Term) (k : ℕ) → NamedSum m [] h kind terms → WithinOf kind (prefix k terms)
+    sum_within _ terms k (offset_of r c) = absurd (no_row m r bare c)
+    sum_within _ terms k (factor_of r i c lt) = absurd (no_row m r bare c)
+    sum_within _ terms k (of_flow x same j flow) = flow_sum_within x k terms j flow
+    sum_within _ terms k (output_of u best lt) = wider most_output most_value (prefix k terms) (Prim.omega arith) (output_terms_within m market modest (choice_dispatch m [] h) (best_small best) u k lt)
+    sum_within _ terms k (of_price same best price) = price_sum_within modest_price (4000 * modest_price) k (choice_duals m [] h) terms price (Prim.omega arith) price_is_modest
+    sum_within _ terms k (of_money same best money) = tt
+    sum_within _ terms k (of_farkas_price d same f price) = price_sum_within 1 4000 k d terms price (Prim.omega arith) (farkas_energy_within d f)
+    sum_within _ terms k (farkas_bound_of d f) = farkas_within d k f
+
     -- each number of the market
     number_within : (kind : Kind) (x : Fraction) → MarketNumber m [] h kind x → IsWholeWithin (most_of kind) x
     number_within kind x (of_system same y n) = system_within m market modest h is same y n
@@ -190,24 +218,13 @@ module _ (m : Parts) (market : IsMarket m) (lines : m.lines ≡ []) (modest : Is
     number_within Quantity x (is_line_offset l lt) = absurd (no_line l lt)
     number_within Factor x (is_shift l i lt k) = absurd (no_line l lt)
     number_within Factor x (is_loss l lost lt k) = absurd (no_line l lt)
-    number_within Quantity x (is_offset r k c) = absurd (no_row m r bare c)
-    number_within Factor x (is_row_factor r i k c lt) = absurd (no_row m r bare c)
-    number_within Quantity x (is_line_flow y l k j lt) = absurd (no_line l lt)
-    number_within Quantity x (is_row_flow y r j c) = absurd (no_row m r bare c)
-    number_within Quantity x (is_injection y i k j lt) = wider most_injection most_value x (Prim.omega arith) (injection_within m market modest y (injecting_small y j) i k lt)
-    number_within Quantity x (is_balance y k j) = wider most_balance most_value x (Prim.omega arith) (balance_within m market modest y (injecting_small y j) k)
-    number_within Quantity x (is_output u k best lt) = wider most_output most_value x (Prim.omega arith) (output_terms_within m market modest (choice_dispatch m [] h) (best_small best) u k lt)
     number_within Price x is_energy = wider modest_price (4000 * modest_price) x (Prim.omega arith) price_is_modest
-    number_within Price x (is_bus_price i best lt) = wider modest_price (4000 * modest_price) x (Prim.omega arith) (bus_price_within modest_price (choice_duals m [] h) i price_is_modest)
-    number_within Price x (is_congestion i k best lt) = congestion_within (4000 * modest_price) k i (choice_duals m [] h)
     number_within Price x (is_up_dual r c) = absurd (no_row m r bare c)
     number_within Price x (is_down_dual r c) = absurd (no_row m r bare c)
     number_within Factor x (is_farkas_energy d f) = wider 1 4000 x (Prim.omega arith) (farkas_energy_within d f)
-    number_within Factor x (is_farkas_price d i f lt) = wider 1 4000 x (Prim.omega arith) (bus_price_within 1 d i (farkas_energy_within d f))
-    number_within Factor x (is_farkas_congestion d i k f lt) = congestion_within 4000 k i d
     number_within Factor x (is_farkas_up d r f c) = absurd (no_row m r bare c)
     number_within Factor x (is_farkas_down d r f c) = absurd (no_row m r bare c)
-    number_within Quantity x (is_farkas_bound d k f) = farkas_within d k f
+    number_within kind x (of_sum same terms k named) = sum_within (Some same) terms k named
     number_within kind x (of_opposite same y n) = neg_within (most_of same) y (number_within same y n)
 
     -- a step in adding up money
@@ -237,12 +254,12 @@ module _ (m : Parts) (market : IsMarket m) (lines : m.lines ≡ []) (modest : Is
         paid : ℕ → Term
         paid u = Product (neg_ℚ (unit_price m d u)) (output m x u)
 
-    money_fits : IsBest m [] h → (terms : List Term) → IsMoneySum m [] h terms → (op : Op) (l r : Fraction) → IsSumStep terms op l r → Passes most op l r → ⊥
-    money_fits best terms of_welfare op l r step p =
+    money_sum_fits : IsBest m [] h → (terms : List Term) → MoneySum m [] (choice_dispatch m [] h) (choice_duals m [] h) terms → (op : Op) (l r : Fraction) → IsSumStep terms op l r → Passes most op l r → ⊥
+    money_sum_fits best terms welfare_of_all op l r step p =
         step_fits terms (modest_price * most_output)
         (Prim.omega (arith, market.block_count, length-map (places (length m.blocks)) (λ j. Product (block_value m j) (accepted (choice_dispatch m [] h) j)), length-range_with_len 0 (length m.blocks)))
         (welfare_each best) (Prim.omega arith) op l r step p
-    money_fits best terms of_surplus op l r step p =
+    money_sum_fits best terms surplus_of_all op l r step p =
         step_fits terms (modest_price * most_output)
         (Prim.omega (
           arith,
@@ -255,7 +272,21 @@ module _ (m : Parts) (market : IsMarket m) (lines : m.lines ≡ []) (modest : Is
           length-range_with_len 0 (length m.units),
         ))
         (surplus_each best) (Prim.omega arith) op l r step p
-    money_fits best terms (of_rent r c) op l k step p = absurd (Prim.omega (arith, c.1))
+    money_sum_fits best terms (rent_of_row r c) op l k step p = absurd (Prim.omega (arith, c.1))
+
+    abbrev FitsOf : Option Kind → List Term → Type 0
+    FitsOf (Some kind) terms = Unit {0}
+    FitsOf None terms = (op : Op) (l r : Fraction) → IsSumStep terms op l r → Passes most op l r → ⊥
+
+    money_fits : (kind : Option Kind) (terms : List Term) → NamedSum m [] h kind terms → FitsOf kind terms
+    money_fits _ terms (offset_of r c) = tt
+    money_fits _ terms (factor_of r i c lt) = tt
+    money_fits _ terms (of_flow x same j flow) = tt
+    money_fits _ terms (output_of u best lt) = tt
+    money_fits _ terms (of_price same best price) = tt
+    money_fits _ terms (of_money same best money) = money_sum_fits best terms money
+    money_fits _ terms (of_farkas_price d same f price) = tt
+    money_fits _ terms (farkas_bound_of d f) = tt
 
   pair_fits : (op : Op) (l r : Fraction) → IsWorkingPair m [] most op l r → ⊥
   pair_fits op l r pair = of_sides pair.sides
@@ -266,7 +297,7 @@ module _ (m : Parts) (market : IsMarket m) (lines : m.lines ≡ []) (modest : Is
 
       of_sides : IsPairCase (OfEither (MarketNumber m []) pair.one pair.near) op l r ⊎ IsMoneyCase m [] pair.one op l r → ⊥
       of_sides (inl c) = case_fits (OfEither (MarketNumber m []) pair.one pair.near) either_within op l r c pair.passes
-      of_sides (inr c) = money_fits pair.one pair.is_choice c.best c.terms c.money op l r c.step pair.passes
+      of_sides (inr c) = money_fits pair.one pair.is_choice None c.terms c.money op l r c.step pair.passes
 
   -- no rows can be taken
   nothing_taken : (more : List Row) → GrowsBy m [] more → more ≡ []

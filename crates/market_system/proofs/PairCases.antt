@@ -1,6 +1,6 @@
 -- What is refused outside the dictionary is a working pair of the market over the rows in hand: each operation by its name.
-use Rattle.std.specs.Prelude.{◌≡◌, ℕ, Contains, ◌+◌, ◌<◌, pos, Bool, true, false, List, [], ◌∷◌, length, map, refl, ◌⊎◌}
-use Rattle.std.specs.List.{range_with_len}
+use Rattle.std.specs.Prelude.{◌≡◌, ℕ, Contains, ◌+◌, ◌<◌, pos, List, [], ◌∷◌, ◌++◌, length, map, refl, ◌⊎◌, Option, Some, None}
+use Rattle.std.specs.List.{flat_map}
 use Rattle.std.proofs.Common.{zero, suc, arith, ap, ap₂, sym, ◌∙◌, subst, subst₂, inl, inr, get_or}
 use Rattle.std.proofs.lemmas.List.{get_or-map}
 use Rattle.std.proofs.lemmas.List.FromFn.{length-range_with_len, get_or-range_with_len}
@@ -8,54 +8,42 @@ use Rattle.fraction_theory.specs.Fraction.{Fraction, whole, neg_ℚ, ◌+ℚ◌,
 use Rattle.fraction_theory.specs.Sums.{Term, Plain, Product, term_value, prefix, total}
 use Rattle.fraction_theory.proofs.Ring.{by_ring, by_ring1, at, pnil, pone, pneg, ◌⊕◌}
 use Rattle.fraction_theory.proofs.FieldLaws.{ring_ℚ}
+use Rattle.fraction_theory.specs.Signs.{sign_of}
+use Rattle.fraction_theory.specs.declared.Sign.{Sign}
+use Rattle.fraction_theory.specs.declared.Sign.TheVariants.{Below, Zero, Above}
 use Rattle.fraction_theory.proofs.SumLaws.{prefix-more, prefix-all}
 use Rattle.exact_fraction.specs.declared.Op.{Op}
 use Rattle.exact_fraction.specs.declared.Op.TheVariants.{Plus, Minus, Times}
 use Rattle.exact_fraction.specs.declared.Passed.{Passed}
 use Rattle.exact_fraction.specs.Passes.{Passes}
 use Rattle.linear_system.specs.Choices.{Choice, IsChoice}
-use Rattle.linear_system.specs.Numbers.{Kind, Factor, Quantity, Price, SystemNumber, is_zero}
+use Rattle.linear_system.specs.Numbers.{Kind, Factor, Quantity, Price, SystemNumber, is_zero, is_high}
 use Rattle.linear_system.specs.Pairs.{IsCombined, alone, sum, difference, IsSummand, plain, IsPairCase, added, subtracted, scaled_right, scaled_left, OfEither, IsSystemPair}
 use Rattle.linear_system.proofs.PairLaws.{IsPairCase-each}
 use Rattle.fraction_theory.proofs.ListSums.{Contains-head, Contains-cons}
 use Rattle.market_model.specs.declared.answered.Duals.{Duals}
 use Rattle.market_model.specs.declared.participants.Parts.{Parts}
-use Rattle.market_model.specs.Dispatch.{Dispatch, zero as nil, places, bus_at, injection, injection_terms, balance_terms, output_terms, empty}
+use Rattle.market_model.specs.declared.participants.Side.{Side}
+use Rattle.market_model.specs.declared.participants.Side.TheVariants.{Sell, Buy}
+use Rattle.market_model.specs.Dispatch.{Dispatch, places, bus_at, unit_at, block_at, units_at, blocks_at, blocks_of, fixed_term, block_term, signed, quantity, injection, injection_terms, balance, balance_terms, empty}
+use Rattle.limit_rows.proofs.ApartLemmas.{names_apart}
 use Rattle.limit_rows.proofs.FactorLemmas.{IsLost, stands}
 use Rattle.market_model.specs.declared.limits.Cause.{Cause}
 use Rattle.market_model.specs.declared.limits.Row.{Row}
 use Rattle.market_model.specs.declared.limits.Cause.TheVariants.{Base, Branch}
-use Rattle.market_model.specs.LimitRows.{rows, limit, shift_factor, loss_factor, line_offset, line_terms, line_flow, row_flow, row_offset, offset_terms, offset_terms_in, row_factor, factor_terms, flow}
+use Rattle.market_model.specs.LimitRows.{rows, limit, shift_factor, line_offset, line_terms, line_flow, flow_terms, flow_terms_in, offset_terms_in, row_factor, factor_terms, factor_terms_in, flow}
 use Rattle.market_model.specs.Market.{IsMarket}
-use Rattle.market_model.specs.NamedSums.{SameSize, term_at, IsNextTerm, AreFactors, IsSumStep, IsRefusedIn, Adds, IsAddedIn, IsRefusal}
-use Rattle.market_model.specs.Optimality.{Supports, pull, up_of, down_of, congestion, congestion_terms, welfare_terms, congestion_by}
-use Rattle.market_model.specs.Settlement.{surplus_terms, rent_terms}
+use Rattle.market_model.specs.NamedSums.{SameSize, term_at, IsNextTerm, AreFactors, IsSumStep, IsRefusedIn, Adds, IsRefusal}
+use Rattle.market_model.specs.Optimality.{pull, up_of, down_of, congestion, price_by, price_terms, bus_price, unit_price}
+use Rattle.market_model.specs.Infeasibility.{where_above, part_above, block_weight, limit_terms, farkas_terms}
+use Rattle.market_model.specs.SumTables.{FlowSum, injection_at, balance_of_all, flow_of_line, flow_of_row, PriceSum, congestion_at, price_at}
 use Rattle.market_system.specs.Growth.{Growth}
-use Rattle.market_system.specs.MarketNumbers.{IsBest, IsInjecting, MarketNumber, of_system, is_load, is_shunt, is_limit, is_line_offset, is_shift, is_loss, is_offset, is_row_factor, is_line_flow, is_row_flow, is_injection, is_balance, is_output, is_energy, is_bus_price, is_congestion, is_up_dual, is_down_dual, of_opposite}
+use Rattle.market_system.specs.MarketNumbers.{IsBest, IsInjecting, IsFarkasOf, NamedSum, offset_of, factor_of, of_flow, output_of, of_price, of_money, of_farkas_price, farkas_bound_of, MarketNumber, of_system, of_sum, is_limit, is_line_offset, is_shift, is_loss, is_up_dual, is_down_dual, is_farkas_energy, is_farkas_up, is_farkas_down, of_opposite}
 use Rattle.market_system.specs.MarketSystem.{system_of, choice_dispatch, choice_duals}
 use Rattle.market_system.specs.PairLaw.{LawOfThePairs}
-use Rattle.market_system.specs.WorkingPairs.{IsMoneySum, of_welfare, of_surplus, of_rent, IsMoneyCase, IsWorkingPair, IsRangeOf}
-
--- ---- the factors of a product
-first_factor : Term → Fraction
-first_factor (Plain x) = x
-first_factor (Product x y) = x
-
-second_factor : Term → Fraction
-second_factor (Plain x) = x
-second_factor (Product x y) = y
-
-first_of : {a b c d : Fraction} → Product a b ≡ Product c d → a ≡ c
-unfolding first_factor
-first_of e = ap first_factor e
-
-second_of : {a b c d : Fraction} → Product a b ≡ Product c d → b ≡ d
-unfolding second_factor
-second_of e = ap second_factor e
-
-length-map : {X Y : Type 0} (f : X → Y) (xs : List X) → length (map f xs) ≡ length xs
-length-map f [] = refl
-length-map f (x ∷ xs) = ap suc (length-map f xs)
+use Rattle.market_system.proofs.DualLists.{rows_apart}
+use Rattle.market_system.proofs.MarketPoints.{high-block, block_in}
+use Rattle.market_system.specs.WorkingPairs.{IsMoneyCase, IsWorkingPair, IsRangeOf}
 
 -- ---- numbers of any sort that count with either sign
 module _ (N : Kind → Fraction → Type 0) (opposite : (kind : Kind) (x : Fraction) → N kind x → N kind (neg_ℚ x)) (kind : Kind) where
@@ -156,8 +144,8 @@ module _ (m : Parts) (taken g : List Row) (reached : Growth m taken g) (h : Choi
     };
   }
 
-  pub by_money : IsBest m g h → (terms : List Term) → IsMoneySum m g h terms → IsRefusedIn terms bound p → IsRangeOf m taken bound p
-  by_money best terms money r = record {
+  pub by_money : (terms : List Term) → NamedSum m g h None terms → IsRefusedIn terms bound p → IsRangeOf m taken bound p
+  by_money terms money r = record {
     rows = g;
     reached = reached;
     pair = record {
@@ -167,221 +155,186 @@ module _ (m : Parts) (taken g : List Row) (reached : Growth m taken g) (h : Choi
       is_choice = is;
       near_is_choice = is;
       are_near = inl refl;
-      sides = inr (record { best = best; terms = terms; money = money; step = r.step });
+      sides = inr (record { terms = terms; money = money; step = r.step });
     };
   }
 
   opposite : (kind : Kind) (x : Fraction) → Number kind x → Number kind (neg_ℚ x)
   opposite kind x n = of_opposite kind x n
 
-  by_added : (kind : Kind) (terms : List Term) → ((k : ℕ) → Number kind (prefix k terms)) → IsAddedIn terms bound p → IsRangeOf m taken bound p
-  by_added kind terms numbers a = by_numbers a.passes (added_case Number opposite kind terms numbers p.op p.left p.right a.place a.adds a.next)
+  -- ---- two numbers of a kind that are added or subtracted
+  summand : (kind : Kind) (x y : Fraction) → x ≡ y → Number kind y → IsSummand Number kind x
+  summand kind x y e n = subst (IsSummand Number kind) (sym e) (plain y (alone y n))
 
-  by_steps : (kind : Kind) (terms : List Term) → ((k : ℕ) → Number kind (prefix k terms))
-      → ((k : ℕ) (a b : Fraction) → k < length terms → term_at terms k ≡ Product a b → (Number Factor a × IsCombined Number kind b) ⊎ (IsCombined Number kind a × Number Factor b))
-      → IsRefusedIn terms bound p → IsRangeOf m taken bound p
-  by_steps kind terms numbers products r =
-      by_numbers r.passes (step_case Number opposite kind terms numbers products (sized Number opposite Factor) p.op p.left p.right r.step)
+  by_two : (kind : Kind) (x y : Fraction) → Number kind x → Number kind y → IsRefusal Plus x y bound p ⊎ IsRefusal Minus x y bound p → IsRangeOf m taken bound p
+  by_two kind x y n k (inl r) = by_numbers r.passes
+      (subst (λ (o : Op). IsPairCase Number o p.left p.right) (sym r.same_op) (added kind p.left p.right (summand kind p.left x r.same_left n) (summand kind p.right y r.same_right k)))
+  by_two kind x y n k (inr r) = by_numbers r.passes
+      (subst (λ (o : Op). IsPairCase Number o p.left p.right) (sym r.same_op) (subtracted kind p.left p.right (summand kind p.left x r.same_left n) (summand kind p.right y r.same_right k)))
 
-  -- two numbers of a kind that are added or subtracted
-  by_sum : (kind : Kind) (x y : Fraction) → Number kind x → Number kind y → IsRefusal Plus x y bound p → IsRangeOf m taken bound p
-  by_sum kind x y n k r = by_numbers r.passes
-      (subst (λ (o : Op). IsPairCase Number o p.left p.right) (sym r.same_op)
-      (added kind p.left p.right (subst (IsSummand Number kind) (sym r.same_left) (plain x (alone x n))) (subst (IsSummand Number kind) (sym r.same_right) (plain y (alone y k)))))
+  -- ---- the products among the terms of a sum
+  -- a factor and what it scales
+  abbrev IsScaling : Kind → Fraction → Fraction → Type 0
+  IsScaling kind a b = (Number Factor a × IsCombined Number kind b) ⊎ (IsCombined Number kind a × Number Factor b)
 
-  by_difference : (kind : Kind) (x y : Fraction) → Number kind x → Number kind y → IsRefusal Minus x y bound p → IsRangeOf m taken bound p
-  by_difference kind x y n k r = by_numbers r.passes
-      (subst (λ (o : Op). IsPairCase Number o p.left p.right) (sym r.same_op)
-      (subtracted kind p.left p.right (subst (IsSummand Number kind) (sym r.same_left) (plain x (alone x n))) (subst (IsSummand Number kind) (sym r.same_right) (plain y (alone y k)))))
+  abbrev IsScaled : Kind → Term → Type 0
+  IsScaled kind (Plain x) = Unit {0}
+  IsScaled kind (Product a b) = IsScaling kind a b
+
+  abbrev AreScaled : Kind → List Term → Type 0
+  AreScaled kind [] = Unit {0}
+  AreScaled kind (t ∷ ts) = IsScaled kind t × AreScaled kind ts
+
+  scaled_at : (kind : Kind) (terms : List Term) → AreScaled kind terms → (k : ℕ) (a b : Fraction) → k < length terms → term_at terms k ≡ Product a b → IsScaling kind a b
+  scaled_at kind [] all k a b lt e = absurd (Prim.omega (arith, lt))
+  scaled_at kind (t ∷ ts) all zero a b lt e = subst (IsScaled kind) e all.0
+  scaled_at kind (t ∷ ts) all (suc k) a b lt e = scaled_at kind ts all.1 k a b (Prim.omega (arith, lt)) e
+
+  scaled_append : (kind : Kind) (ts us : List Term) → AreScaled kind ts → AreScaled kind us → AreScaled kind (ts ++ us)
+  scaled_append kind [] us all more = more
+  scaled_append kind (t ∷ ts) us all more = (all.0, scaled_append kind ts us all.1 more)
+
+  scaled_map : {X : Type 0} (kind : Kind) (t : X → Term) (xs : List X) → ((x : X) → Contains xs x → IsScaled kind (t x)) → AreScaled kind (map t xs)
+  scaled_map kind t [] each = tt
+  scaled_map kind t (x ∷ xs) each = (each x (Contains-head x xs), scaled_map kind t xs (λ y c. each y (Contains-cons x xs y c)))
+
+  scaled_flat : {X : Type 0} (kind : Kind) (t : X → List Term) (xs : List X) → ((x : X) → Contains xs x → AreScaled kind (t x)) → AreScaled kind (flat_map t xs)
+  scaled_flat kind t [] each = tt
+  scaled_flat kind t (x ∷ xs) each = scaled_append kind (t x) (flat_map t xs) (each x (Contains-head x xs)) (scaled_flat kind t xs (λ y c. each y (Contains-cons x xs y c)))
+
+  by_steps : (kind : Kind) (terms : List Term) → NamedSum m g h (Some kind) terms → AreScaled kind terms → IsRefusedIn terms bound p → IsRangeOf m taken bound p
+  by_steps kind terms named scaled r =
+      by_numbers r.passes (step_case Number opposite kind terms (λ k. of_sum kind terms k named) (scaled_at kind terms scaled) (sized Number opposite Factor) p.op p.left p.right r.step)
+
+  whole_sum : (kind : Kind) (terms : List Term) → NamedSum m g h (Some kind) terms → Number kind (total terms)
+  whole_sum kind terms named = subst (Number kind) (prefix-all terms) (of_sum kind terms (length terms) named)
+
+  below : (n i : ℕ) → Contains (places n) i → i < n
+  below n i (k, lt, e) =
+      let long : length (places n) ≡ n = length-range_with_len 0 n in
+      let inside : k < n = Prim.omega (arith, lt, long) in
+      let here : get_or (places n) k i ≡ k = get_or-range_with_len 0 n k i inside ∙ Prim.omega arith in
+      subst (λ (j : ℕ). j < n) (sym here ∙ e) inside
 
   -- ---- where nothing is accepted, or at a best dispatch
-  module _ (x : Dispatch) (injecting : IsInjecting m g h x) where
+  module _ (market : IsMarket m) (x : Dispatch) (injecting : IsInjecting m g h x) where
     injected : (i : ℕ) → i < length m.buses → Number Quantity (injection m x i)
     unfolding injection
-    injected i lt = subst (Number Quantity) (prefix-all (injection_terms m x i)) (is_injection x i (length (injection_terms m x i)) injecting lt)
+    injected i lt = whole_sum Quantity (injection_terms m x i) (of_flow x (injection_terms m x i) injecting (injection_at i lt))
 
     lined : (l : ℕ) → l < length m.lines → Number Quantity (line_flow m (injection m x) l)
     unfolding line_flow
-    lined l lt = subst (Number Quantity) (prefix-all (line_terms m (injection m x) l)) (is_line_flow x l (length (line_terms m (injection m x) l)) injecting lt)
+    lined l lt = whole_sum Quantity (line_terms m (injection m x) l) (of_flow x (line_terms m (injection m x) l) injecting (flow_of_line l lt))
 
-    pub of_injection : (i : ℕ) → i < length m.buses → IsAddedIn (injection_terms m x i) bound p → IsRangeOf m taken bound p
-    of_injection i lt = by_added Quantity (injection_terms m x i) (λ k. is_injection x i k injecting lt)
+    row_flowed : (r : Row) → Contains (rows m) r → Number Quantity (flow m x r)
+    row_flowed r c = whole_sum Quantity (flow_terms m (line_flow m (injection m x)) r) (of_flow x (flow_terms m (line_flow m (injection m x)) r) injecting (flow_of_row r c))
 
-    pub of_balance : IsAddedIn (balance_terms m x) bound p → IsRangeOf m taken bound p
-    of_balance = by_added Quantity (balance_terms m x) (λ k. is_balance x k injecting)
+    balanced : Number Quantity (balance m x)
+    unfolding balance
+    balanced = whole_sum Quantity (balance_terms m x) (of_flow x (balance_terms m x) injecting balance_of_all)
 
-    -- the flow of a line, by its shift factors
-    pub of_line : (l : ℕ) → l < length m.lines → IsRefusedIn (line_terms m (injection m x) l) bound p → IsRangeOf m taken bound p
-    of_line l lt = by_steps Quantity (line_terms m (injection m x) l) (λ k. is_line_flow x l k injecting lt) products
-      where
-        f : ℕ → Term
-        f i = Product (shift_factor m l i) (injection m x i)
+    after : (l : ℕ) (cause : Cause) → l < length m.lines → IsLost m cause → AreScaled Quantity (flow_terms_in m (line_flow m (injection m x)) l cause)
+    after l Base lt lost = (tt, tt)
+    after l (Branch k) lt lost = (tt, (inl (is_loss l k lt lost.0, alone (line_flow m (injection m x) k) (lined k lost.0)), tt))
 
-        products : (k : ℕ) (a b : Fraction) → k < length (line_terms m (injection m x) l) → term_at (line_terms m (injection m x) l) k ≡ Product a b
-            → (Number Factor a × IsCombined Number Quantity b) ⊎ (IsCombined Number Quantity a × Number Factor b)
-        products zero a b h e = absurd Prim.cc
-        products (suc i) a b h e =
-            let long : length (places (length m.buses)) ≡ length m.buses = length-range_with_len 0 (length m.buses) in
-            let counted : length (map f (places (length m.buses))) ≡ length (places (length m.buses)) = length-map f (places (length m.buses)) in
-            let inside : i < length m.buses = Prim.omega (arith, h, long, counted) in
-            let here : get_or (places (length m.buses)) i 0 ≡ i = get_or-range_with_len 0 (length m.buses) i 0 inside ∙ Prim.omega arith in
-            let is_term : f i ≡ Product a b = sym (get_or-map f (places (length m.buses)) i 0 (Plain (whole (pos 0))) (Prim.omega (arith, inside, long)) ∙ ap f here) ∙ e in
-            inl (subst (Number Factor) (first_of is_term) (is_shift l i lt inside), subst (IsCombined Number Quantity) (second_of is_term) (alone (injection m x i) (injected i inside)))
+    flows_scaled : (terms : List Term) → FlowSum m x terms → AreScaled Quantity terms
+    flows_scaled terms (injection_at i lt) =
+        scaled_append Quantity (map (fixed_term m) (units_at m i) ++ map (block_term m x) (blocks_at m i)) (Plain (neg_ℚ (whole (bus_at m i).pd)) ∷ Plain (neg_ℚ (whole (bus_at m i).gs)) ∷ [])
+        (scaled_append Quantity (map (fixed_term m) (units_at m i)) (map (block_term m x) (blocks_at m i))
+        (scaled_map Quantity (fixed_term m) (units_at m i) (λ u c. tt))
+        (scaled_map Quantity (block_term m x) (blocks_at m i) (λ j c. tt)))
+        (tt, (tt, tt))
+    flows_scaled terms balance_of_all = scaled_map Quantity (λ i. Plain (injection m x i)) (places (length m.buses)) (λ i c. tt)
+    flows_scaled terms (flow_of_line l lt) = (
+      tt,
+      scaled_map Quantity (λ i. Product (shift_factor m l i) (injection m x i)) (places (length m.buses))
+          (λ i c. let inside = below (length m.buses) i c in inl (is_shift l i lt inside, alone (injection m x i) (injected i inside))),
+    )
+    flows_scaled terms (flow_of_row r c) = let s = stands m market r c in after r.line r.cause s.line s.lost
 
-    -- that of a row after an outage: the line's own, and what goes over of the lost one's
-    pub of_flow_after : (l k : ℕ) → l < length m.lines → k < length m.lines → Contains (rows m) (record { line = l; cause = Branch k })
-        → IsRefusedIn (Plain (line_flow m (injection m x) l) ∷ Product (loss_factor m l k) (line_flow m (injection m x) k) ∷ []) bound p → IsRangeOf m taken bound p
-    of_flow_after l k lt lost c = by_steps Quantity (Plain own ∷ Product loss over ∷ []) numbers products
-      where
-        own : Fraction
-        own = line_flow m (injection m x) l
-
-        over : Fraction
-        over = line_flow m (injection m x) k
-
-        loss : Fraction
-        loss = loss_factor m l k
-
-        numbers : (n : ℕ) → Number Quantity (prefix n (Plain own ∷ Product loss over ∷ []))
-        numbers zero = is_line_flow x l 0 injecting lt
-        numbers (suc zero) = subst (Number Quantity) (by_ring ring_ℚ (own ∷ []) (at 0) (at 0 ⊕ pnil) refl) (lined l lt)
-        numbers (suc (suc n)) = subst (Number Quantity) (ap (λ t. own +ℚ t) (by_ring ring_ℚ ((loss *ℚ over) ∷ []) (at 0) (at 0 ⊕ pnil) refl) ∙ rest n) (is_row_flow x (record { line = l; cause = Branch k }) injecting c)
-          where
-            rest : (n : ℕ) → own +ℚ (loss *ℚ over +ℚ whole (pos 0)) ≡ prefix (suc (suc n)) (Plain own ∷ Product loss over ∷ [])
-            rest zero = refl
-            rest (suc n) = refl
-
-        products : (n : ℕ) (a b : Fraction) → n < 2 → term_at (Plain own ∷ Product loss over ∷ []) n ≡ Product a b → (Number Factor a × IsCombined Number Quantity b) ⊎ (IsCombined Number Quantity a × Number Factor b)
-        products zero a b h e = absurd Prim.cc
-        products (suc zero) a b h e = inl (subst (Number Factor) (first_of e) (is_loss l k lt lost), subst (IsCombined Number Quantity) (second_of e) (alone over (lined k lost)))
-        products (suc (suc n)) a b h e = absurd (Prim.omega (arith, h))
-
-    -- that of a row of the base is the line's own
-    pub of_base_flow : (l : ℕ) → l < length m.lines → IsRefusedIn (Plain (line_flow m (injection m x) l) ∷ []) bound p → IsRangeOf m taken bound p
-    of_base_flow l lt = by_steps Quantity (Plain own ∷ []) numbers products
-      where
-        own : Fraction
-        own = line_flow m (injection m x) l
-
-        numbers : (n : ℕ) → Number Quantity (prefix n (Plain own ∷ []))
-        numbers zero = is_line_flow x l 0 injecting lt
-        numbers (suc zero) = subst (Number Quantity) (by_ring ring_ℚ (own ∷ []) (at 0) (at 0 ⊕ pnil) refl) (lined l lt)
-        numbers (suc (suc n)) = subst (Number Quantity) (by_ring ring_ℚ (own ∷ []) (at 0) (at 0 ⊕ pnil) refl) (lined l lt)
-
-        products : (n : ℕ) (a b : Fraction) → n < 1 → term_at (Plain own ∷ []) n ≡ Product a b → (Number Factor a × IsCombined Number Quantity b) ⊎ (IsCombined Number Quantity a × Number Factor b)
-        products zero a b h e = absurd Prim.cc
-        products (suc n) a b h e = absurd (Prim.omega (arith, h))
-
-    -- the bounds of a row: what is left of its limit on either side
-    pub of_high : (r : Row) → Contains (rows m) r → IsRefusal Minus (limit m r) (flow m x r) bound p → IsRangeOf m taken bound p
-    of_high r c = by_difference Quantity (limit m r) (flow m x r) (is_limit r c) (is_row_flow x r injecting c)
-
-    pub of_low : (r : Row) → Contains (rows m) r → IsRefusal Minus (neg_ℚ (limit m r)) (flow m x r) bound p → IsRangeOf m taken bound p
-    of_low r c = by_difference Quantity (neg_ℚ (limit m r)) (flow m x r) (of_opposite Quantity (limit m r) (is_limit r c)) (is_row_flow x r injecting c)
-
-    -- by how much a flow passes its limit
-    pub of_excess : (r : Row) (size : Fraction) → Contains (rows m) r → SameSize size (flow m x r) → IsRefusal Minus size (limit m r) bound p → IsRangeOf m taken bound p
-    of_excess r size c same = by_difference Quantity size (limit m r) (sized Number opposite Quantity size (flow m x r) same (is_row_flow x r injecting c)) (is_limit r c)
-
-  -- a bus's demand
-  pub of_demand : (i : ℕ) → i < length m.buses → IsRefusal Plus (whole (bus_at m i).pd) (whole (bus_at m i).gs) bound p → IsRangeOf m taken bound p
-  of_demand i lt = by_sum Quantity (whole (bus_at m i).pd) (whole (bus_at m i).gs) (is_load i lt) (is_shunt i lt)
-
-  -- the limit of a row less its fixed offset, and with it
-  offset_number : (r : Row) → Contains (rows m) r → Number Quantity (row_offset m r)
-  unfolding row_offset
-  offset_number r c = subst (Number Quantity) (prefix-all (offset_terms m r)) (is_offset r (length (offset_terms m r)) c)
-
-  -- that offset: the line's own, and what goes over of the lost one's
-  pub of_offset : IsMarket m → (r : Row) → Contains (rows m) r → IsRefusedIn (offset_terms m r) bound p → IsRangeOf m taken bound p
-  of_offset market r c = by_steps Quantity (offset_terms m r) (λ k. is_offset r k c) (let s = stands m market r c in products r.cause s.line s.lost)
-    where
-      products : (cause : Cause) → r.line < length m.lines → IsLost m cause → (n : ℕ) (a b : Fraction) → n < length (offset_terms_in m r.line cause) → term_at (offset_terms_in m r.line cause) n ≡ Product a b
-          → (Number Factor a × IsCombined Number Quantity b) ⊎ (IsCombined Number Quantity a × Number Factor b)
-      products Base line lost zero a b h e = absurd Prim.cc
-      products Base line lost (suc n) a b h e = absurd (Prim.omega (arith, h))
-      products (Branch k) line lost zero a b h e = absurd Prim.cc
-      products (Branch k) line lost (suc zero) a b h e =
-          inl (subst (Number Factor) (first_of e) (is_loss r.line k line lost.0), subst (IsCombined Number Quantity) (second_of e) (alone (line_offset m k) (is_line_offset k lost.0)))
-      products (Branch k) line lost (suc (suc n)) a b h e = absurd (Prim.omega (arith, h))
-
-  pub of_limit_less : (r : Row) → Contains (rows m) r → IsRefusal Minus (limit m r) (row_offset m r) bound p → IsRangeOf m taken bound p
-  of_limit_less r c = by_difference Quantity (limit m r) (row_offset m r) (is_limit r c) (offset_number r c)
-
-  pub of_limit_more : (r : Row) → Contains (rows m) r → IsRefusal Plus (limit m r) (row_offset m r) bound p → IsRangeOf m taken bound p
-  of_limit_more r c = by_sum Quantity (limit m r) (row_offset m r) (is_limit r c) (offset_number r c)
-
-  -- ---- at a best choice
-  module _ (best : IsBest m g h) where
-    pub of_output : (u : ℕ) → u < length m.units → IsAddedIn (output_terms m (choice_dispatch m g h) u) bound p → IsRangeOf m taken bound p
-    of_output u lt = by_added Quantity (output_terms m (choice_dispatch m g h) u) (λ k. is_output u k best lt)
-
-    -- what the limits take from a price
-    pub of_congestion : (i : ℕ) → i < length m.buses → IsRefusedIn (congestion_terms m (choice_duals m g h) i) bound p → IsRangeOf m taken bound p
+  -- ---- prices
+  module _ (kind : Kind) (d : Duals Fraction) (ups : (r : Row) → Contains (rows m) r → Number kind (up_of m d r)) (downs : (r : Row) → Contains (rows m) r → Number kind (down_of m d r)) where
+    prices_scaled : (terms : List Term) → PriceSum m d terms → AreScaled kind terms
     unfolding row_factor
-    of_congestion i lt = by_steps Price (congestion_terms m (choice_duals m g h) i) (λ k. is_congestion i k best lt) products
+    prices_scaled terms (congestion_at i lt) = scaled_map kind (λ r. Product (neg_ℚ (pull m d r)) (row_factor m r i)) (rows m) (λ r c. inr (
+      combined_opposite Number opposite kind (pull m d r) (difference (up_of m d r) (down_of m d r) (ups r c) (downs r c)),
+      whole_sum Factor (factor_terms m r i) (factor_of r i c lt),
+    ))
+    prices_scaled terms (price_at i lt) = (tt, (tt, tt))
+
+  -- ---- the fixed offset and the factor of a row
+  offset_scaled : (l : ℕ) (cause : Cause) → l < length m.lines → IsLost m cause → AreScaled Quantity (offset_terms_in m l cause)
+  offset_scaled l Base lt lost = (tt, tt)
+  offset_scaled l (Branch k) lt lost = (tt, (inl (is_loss l k lt lost.0, alone (line_offset m k) (is_line_offset k lost.0)), tt))
+
+  factor_scaled : (l : ℕ) (cause : Cause) (i : ℕ) → l < length m.lines → IsLost m cause → i < length m.buses → AreScaled Factor (factor_terms_in m l cause i)
+  factor_scaled l Base i lt lost bus = (tt, tt)
+  factor_scaled l (Branch k) i lt lost bus = (tt, (inl (is_loss l k lt lost.0, alone (shift_factor m k i) (is_shift k i lost.0 bus)), tt))
+
+  -- ---- the bound of duals that show that nothing is feasible
+  module _ (market : IsMarket m) (d : Duals Fraction) (f : IsFarkasOf m g h d) where
+    abbrev idle : IsInjecting m g h (empty m)
+    idle = inl refl
+
+    left_scaled : (r : Row) → Contains (rows m) r → AreScaled Quantity (limit_terms m d r)
+    left_scaled r c = (
+      inl (is_farkas_up d r f c, difference (limit m r) (flow m (empty m) r) (is_limit r c) (row_flowed market (empty m) idle r c)),
+      (inl (is_farkas_down d r f c, sum (limit m r) (flow m (empty m) r) (is_limit r c) (row_flowed market (empty m) idle r c)), tt),
+    )
+
+    unit_bus : (j : ℕ) → j < length m.blocks → (unit_at m (block_at m j).unit).bus < length m.buses
+    unit_bus j lt =
+        let unit = (market.blocks j (record { unit = 0; side = Sell; quantity = pos 0; price = pos 0 }) lt).unit in
+        (market.units (block_at m j).unit (record { row = 0; bus = 0; fixed = pos 0; up = pos 0; down = pos 0 }) unit).bus
+
+    price_number : (i : ℕ) → i < length m.buses → Number Factor (bus_price m d i)
+    unfolding price_by
+    price_number i lt = subst (Number Factor) (by_ring ring_ℚ (d.energy ∷ congestion m d i ∷ []) (at 0 ⊕ (at 1 ⊕ pnil)) (at 0 ⊕ at 1) refl)
+        (whole_sum Factor (price_terms m d i) (of_farkas_price d (price_terms m d i) f (price_at i lt)))
+
+    signed_number : (side : Side) (x : Fraction) → Number Factor x → Number Factor (signed side x)
+    signed_number Sell x n = n
+    signed_number Buy x n = of_opposite Factor x n
+
+    above_number : (s : Sign) (x : Fraction) → Number Factor x → Number Factor (where_above s x)
+    above_number Below x n = of_system Factor (whole (pos 0)) is_zero
+    above_number Zero x n = of_system Factor (whole (pos 0)) is_zero
+    above_number Above x n = n
+
+    bound_scaled : AreScaled Quantity (farkas_terms m d)
+    bound_scaled = (
+      inl (is_farkas_energy d f, alone (balance m (empty m)) (balanced market (empty m) idle)),
+      scaled_append Quantity (flat_map (limit_terms m d) (rows m)) (map (λ j. Product (part_above (block_weight m d j)) (quantity m j)) (places (length m.blocks)))
+          (scaled_flat Quantity (limit_terms m d) (rows m) left_scaled)
+          (scaled_map Quantity (λ j. Product (part_above (block_weight m d j)) (quantity m j)) (places (length m.blocks)) (λ j c.
+          let lt = below (length m.blocks) j c in
+          inl (
+            above_number (sign_of (block_weight m d j)) (block_weight m d j) (signed_number (block_at m j).side (unit_price m d (block_at m j).unit) (price_number (unit_at m (block_at m j).unit).bus (unit_bus j lt))),
+            alone (quantity m j) (quantity_number j lt),
+          ))),
+    )
       where
-        d : Duals Fraction
-        d = choice_duals m g h
+        quantity_number : (j : ℕ) → j < length m.blocks → Number Quantity (quantity m j)
+        quantity_number j lt =
+            let apart = rows_apart m (names_apart m market) in
+            subst (Number Quantity) (high-block m apart g j lt) (of_system Quantity ((system_of m g).high j) (is_high j (block_in m apart g j lt)))
 
-        f : Row → Term
-        f r = Product (neg_ℚ (pull m d r)) (row_factor m r i)
-
-        at_row : (rs : List Row) (k : ℕ) → k < length rs → (r : Row) × Contains rs r × (term_at (map f rs) k ≡ f r)
-        at_row [] k h = absurd (Prim.omega (arith, h))
-        at_row (r ∷ rs) zero h = (r, Contains-head r rs, refl)
-        at_row (r ∷ rs) (suc k) h = let found = at_row rs k (Prim.omega (arith, h)) in (found.0, Contains-cons r rs found.0 found.1, found.2)
-
-        products : (k : ℕ) (a b : Fraction) → k < length (congestion_terms m (choice_duals m g h) i) → term_at (congestion_terms m (choice_duals m g h) i) k ≡ Product a b
-            → (Number Factor a × IsCombined Number Price b) ⊎ (IsCombined Number Price a × Number Factor b)
-        products k a b h e =
-            let counted : length (map f (rows m)) ≡ length (rows m) = length-map f (rows m) in
-            let found = at_row (rows m) k (Prim.omega (arith, h, counted)) in
-            let r = found.0 in
-            let is_term : f r ≡ Product a b = sym found.2 ∙ e in
-            inr (
-              subst (IsCombined Number Price) (first_of is_term) (combined_opposite Number opposite Price (pull m d r) (difference (up_of m d r) (down_of m d r) (is_up_dual r found.1) (is_down_dual r found.1))),
-              subst (Number Factor) (prefix-all (factor_terms m r i) ∙ second_of is_term) (is_row_factor r i (length (factor_terms m r i)) found.1 lt),
-            )
-
-    -- what is added to the price of energy
-    pub of_total : (i : ℕ) → i < length m.buses → IsRefusal Plus (choice_duals m g h).energy (congestion m (choice_duals m g h) i) bound p → IsRangeOf m taken bound p
-    unfolding congestion_by
-    of_total i lt = by_sum Price (choice_duals m g h).energy (congestion m (choice_duals m g h) i) is_energy
-        (subst (Number Price) (prefix-all (congestion_terms m (choice_duals m g h) i)) (is_congestion i (length (congestion_terms m (choice_duals m g h) i)) best lt))
-
-    -- the sums of money
-    pub of_welfare_sum : IsRefusedIn (welfare_terms m (choice_dispatch m g h)) bound p → IsRangeOf m taken bound p
-    of_welfare_sum = by_money best (welfare_terms m (choice_dispatch m g h)) of_welfare
-
-    pub of_surplus_sum : IsRefusedIn (surplus_terms m (choice_dispatch m g h) (choice_duals m g h)) bound p → IsRangeOf m taken bound p
-    of_surplus_sum = by_money best (surplus_terms m (choice_dispatch m g h) (choice_duals m g h)) of_surplus
-
-    pub of_rent_sum : (r : Row) → Contains g r → IsRefusedIn (rent_terms m (choice_dispatch m g h) (choice_duals m g h) r) bound p → IsRangeOf m taken bound p
-    of_rent_sum r c = by_money best (rent_terms m (choice_dispatch m g h) (choice_duals m g h) r) (of_rent r c)
+  -- ---- every named sum
+  by_sum : IsMarket m → (kind : Option Kind) (terms : List Term) → NamedSum m g h kind terms → IsRefusedIn terms bound p → IsRangeOf m taken bound p
+  by_sum market _ terms (offset_of r c) = let s = stands m market r c in by_steps Quantity terms (offset_of r c) (offset_scaled r.line r.cause s.line s.lost)
+  by_sum market _ terms (factor_of r i c lt) = let s = stands m market r c in by_steps Factor terms (factor_of r i c lt) (factor_scaled r.line r.cause i s.line s.lost lt)
+  by_sum market _ terms (of_flow x same injecting flow) = by_steps Quantity terms (of_flow x terms injecting flow) (flows_scaled market x injecting terms flow)
+  by_sum market _ terms (output_of u best lt) =
+      by_steps Quantity terms (output_of u best lt) (tt, scaled_map Quantity (block_term m (choice_dispatch m g h)) (blocks_of m u) (λ j c. tt))
+  by_sum market _ terms (of_price same best price) = by_steps Price terms (of_price terms best price) (prices_scaled Price (choice_duals m g h) is_up_dual is_down_dual terms price)
+  by_sum market _ terms (of_money same best money) = by_money terms (of_money terms best money)
+  by_sum market _ terms (of_farkas_price d same f price) =
+      by_steps Factor terms (of_farkas_price d terms f price) (prices_scaled Factor d (λ r c. is_farkas_up d r f c) (λ r c. is_farkas_down d r f c) terms price)
+  by_sum market _ terms (farkas_bound_of d f) = by_steps Quantity terms (farkas_bound_of d f) (bound_scaled market d f)
 
 pub law_of_the_pairs : LawOfThePairs
-law_of_the_pairs m taken g h bound p reached is = record {
+law_of_the_pairs m taken g h bound p market reached is = record {
   system = of_system_pair m taken g reached bound p;
-  injecting = λ x injecting. record {
-    at_bus = of_injection m taken g reached h is bound p x injecting;
-    in_all = of_balance m taken g reached h is bound p x injecting;
-    of_line = of_line m taken g reached h is bound p x injecting;
-    flow_after = of_flow_after m taken g reached h is bound p x injecting;
-    high = of_high m taken g reached h is bound p x injecting;
-    low = of_low m taken g reached h is bound p x injecting;
-    excess = of_excess m taken g reached h is bound p x injecting;
-  };
-  best = λ best. record {
-    of_unit = of_output m taken g reached h is bound p best;
-    of_limits = of_congestion m taken g reached h is bound p best;
-    of_bus = of_total m taken g reached h is bound p best;
-    worth = of_welfare_sum m taken g reached h is bound p best;
-    left = of_surplus_sum m taken g reached h is bound p best;
-    earned = of_rent_sum m taken g reached h is bound p best;
-  };
-  demand = of_demand m taken g reached h is bound p;
-  offset = of_offset m taken g reached h is bound p;
-  limit_less = of_limit_less m taken g reached h is bound p;
-  limit_more = of_limit_more m taken g reached h is bound p;
+  sum = by_sum m taken g reached h is bound p market;
+  two = by_two m taken g reached h is bound p;
 }

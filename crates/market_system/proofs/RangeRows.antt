@@ -1,6 +1,6 @@
 -- The row of three big buses: numbers of 127 bits don't hold its welfare, and the sum that they don't hold is a working pair.
-use Rattle.std.specs.Prelude.{◌≡◌, ◌≢◌, ℕ, ◌^◌, ◌<◌, ◌-◌, pos, neg_ℤ, Bool, true, [], ◌∷◌, All, slice_index_or, if◌then◌else◌, refl}
-use Rattle.std.proofs.Common.{zero, suc, arith, ap, ap₂, sym, inl, inr, ◌∙◌}
+use Rattle.std.specs.Prelude.{◌≡◌, ◌≢◌, ℕ, ◌^◌, ◌<◌, ◌-◌, pos, neg_ℤ, Bool, true, [], ◌∷◌, All, slice_index_or, if◌then◌else◌, None, refl}
+use Rattle.std.proofs.Common.{zero, suc, arith, ap, ap₂, sym, subst, subst₂, inl, inr, ◌∙◌}
 use Rattle.std.proofs.lemmas.Int.{ints}
 use Rattle.fraction_theory.specs.Divisors.{gcd, gcd_in, lcm}
 use Rattle.fraction_theory.specs.Fraction.{Fraction, whole, over, ◌+ℚ◌, ◌*ℚ◌, neg_ℚ, same_fraction}
@@ -25,10 +25,14 @@ use Rattle.market_model.specs.Dispatch.{Dispatch, injection, balance, accepted, 
 use Rattle.market_model.specs.Optimality.{Feasible, Supports, BlockSupported, welfare_terms}
 use Rattle.market_model.proofs.RowLaws.{no_rows, supported_bare, supports_bare, feasible_bare}
 use Rattle.market_model.specs.NamedSums.{term_at}
+use Rattle.market_model.specs.SumTables.{welfare_of_all}
+use Rattle.linear_system.specs.Choices.{Choice}
+use Rattle.market_system.specs.MarketNumbers.{IsBest, NamedSum, of_money}
+use Rattle.market_system.specs.MarketSystem.{choice_dispatch, choice_duals}
 use Rattle.market_system.specs.WorkingPairs.{IsRangeOf}
 use Rattle.market_system.proofs.SystemLaws.{block_choice, block_choice_is}
 use Rattle.market_system.proofs.BlockChoices.{block_choice_dispatch, block_choice_energy}
-use Rattle.market_system.proofs.PairLaws.{IsChosen, range_of_welfare}
+use Rattle.market_system.proofs.PairCases.{law_of_the_pairs}
 
 -- 9223372036.854775807 MW, and the same number as a price
 abbrev most : ℕ
@@ -133,20 +137,28 @@ all_high : ℕ → Bool
 all_high j = true
 
 -- the choice in which the first block is basic, and the others stand at their quantities
-big_buses-chosen : IsChosen big_buses all_sold at_most_price
+abbrev chosen : Choice
+chosen = block_choice big_buses all_high 0 (Prim.omega arith)
+
+all_are_sold : choice_dispatch big_buses [] chosen ≡ all_sold
 unfolding all_high
-big_buses-chosen = record {
-  choice = block_choice big_buses all_high 0 (Prim.omega arith);
-  is = block_choice_is big_buses all_high 0 (Prim.omega arith);
-  dispatch = block_choice_dispatch big_buses big_buses-market all_sold refl big_buses-balance all_high 0 (Prim.omega arith) each;
-  duals = ap (λ e. record { energy = e; limits = [] }) (block_choice_energy big_buses big_buses-market all_sold refl big_buses-balance all_high 0 (Prim.omega arith));
-}
+all_are_sold = block_choice_dispatch big_buses big_buses-market all_sold refl big_buses-balance all_high 0 (Prim.omega arith) each
   where
     each : (j : ℕ) → j < 3 → j ≢ 0 → accepted all_sold j ≡ (if all_high j then quantity big_buses j else whole (pos 0))
     each zero h n = refl
     each (suc zero) h n = refl
     each (suc (suc zero)) h n = refl
     each (suc (suc (suc j))) h n = absurd (Prim.omega arith)
+
+at_that_price : choice_duals big_buses [] chosen ≡ at_most_price
+unfolding all_high
+at_that_price = ap (λ e. record { energy = e; limits = [] }) (block_choice_energy big_buses big_buses-market all_sold refl big_buses-balance all_high 0 (Prim.omega arith))
+
+chosen-best : IsBest big_buses [] chosen
+chosen-best = record {
+  feasible = subst (Feasible big_buses) (sym all_are_sold) big_buses-feasible;
+  supported = subst₂ (Supports big_buses) (sym all_are_sold) (sym at_that_price) big_buses-supports;
+}
 
 -- the second sum of the welfare, and its third term
 abbrev pub too_large : Passed Fraction
@@ -164,10 +176,13 @@ passes : SumPasses (2 ^ 127 - 1) too_large.left too_large.right
 unfolding SumPasses lcm gcd gcd_in whole
 passes = inr (inr (inl (Prim.omega arith)))
 
+-- the welfare is a sum of money at that choice
+welfare_named : NamedSum big_buses [] chosen None (welfare_terms big_buses all_sold)
+welfare_named = subst (λ (y : Dispatch). NamedSum big_buses [] chosen None (welfare_terms big_buses y)) all_are_sold (of_money (welfare_terms big_buses (choice_dispatch big_buses [] chosen)) chosen-best welfare_of_all)
+
 pub big_buses-range : IsRangeOf big_buses [] (2 ^ 127 - 1) too_large
 big_buses-range =
-    range_of_welfare big_buses (no_rows big_buses refl) all_sold at_most_price big_buses-feasible big_buses-supports big_buses-chosen (2 ^ 127 - 1) too_large
-    (record {
+    (law_of_the_pairs big_buses [] [] chosen (2 ^ 127 - 1) too_large big_buses-market ([], refl, tt) (block_choice_is big_buses all_high 0 (Prim.omega arith))).sum None (welfare_terms big_buses all_sold) welfare_named (record {
       step = (
         2,
         record {

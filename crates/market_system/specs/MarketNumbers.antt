@@ -1,22 +1,23 @@
 -- The numbers of a market at a choice of its system, each of a kind. Money is no kind: only its sums may stand in a pair.
 -- Source: own; the sums are those of the dispatch, of the prices and of the settlement.
-use Rattle.std.specs.Prelude.{◌≡◌, ℕ, ◌<◌, ◌==◌, pos, List, length, if◌then◌else◌, ◌⊎◌}
+use Rattle.std.specs.Prelude.{◌≡◌, ℕ, ◌<◌, List, length, Option, Some, None, ◌⊎◌}
 use Rattle.std.specs.List.{Contains}
 use Rattle.fraction_theory.specs.Fraction.{Fraction, whole, neg_ℚ}
-use Rattle.fraction_theory.specs.Sums.{prefix}
+use Rattle.fraction_theory.specs.Sums.{Term, prefix}
 use Rattle.linear_system.specs.Choices.{Choice, basics}
 use Rattle.linear_system.specs.Numbers.{Kind, Factor, Quantity, Price, SystemNumber}
 use Rattle.simplex_theory.specs.Stuck.{multiplier}
 use Rattle.market_model.specs.declared.participants.Parts.{Parts}
 use Rattle.market_model.specs.declared.answered.Duals.{Duals}
-use Rattle.market_model.specs.Dispatch.{Dispatch, zero, bus_at, unit_at, empty, injection, injection_terms, balance_terms, output_terms}
+use Rattle.market_model.specs.Dispatch.{Dispatch, zero, bus_at, unit_at, empty, output_terms}
 use Rattle.market_model.specs.declared.limits.Row.{Row}
-use Rattle.market_model.specs.LimitRows.{rows as all_rows, limit, shift_factor, loss_factor, line_offset, line_terms, offset_terms, factor_terms, row_flow}
-use Rattle.market_model.specs.Optimality.{Feasible, Supports, up_of, down_of, pull, congestion_terms, bus_price}
+use Rattle.market_model.specs.LimitRows.{rows as all_rows, limit, shift_factor, loss_factor, line_offset, offset_terms, factor_terms}
+use Rattle.market_model.specs.Optimality.{Feasible, Supports, up_of, down_of, pull}
 use Rattle.market_model.specs.Infeasibility.{ShowsInfeasible, farkas_terms}
 use Rattle.market_system.specs.MarketSystem.{balance_name, row_name, system_of, choice_dispatch, choice_duals}
 use Rattle.market_system.specs.Growth.{BestFor}
 use Rattle.market_model.specs.NamedSums.{SameSize}
+use Rattle.market_model.specs.SumTables.{FlowSum, PriceSum, MoneySum}
 
 -- the choice's dispatch is feasible, and its duals support it
 pub record IsBest (m : Parts) (rows : List Row) (h : Choice) : Type 0 where
@@ -38,9 +39,26 @@ pub record IsFarkasOf (m : Parts) (rows : List Row) (h : Choice) (d : Duals Frac
   pub one_sided : (r : Row) → Contains rows r → (up_of m d r ≡ zero) ⊎ (down_of m d r ≡ zero)
   pub no_others : (r : Row) → Contains (all_rows m) r → ¬ (Contains rows r) → (up_of m d r ≡ zero) × (down_of m d r ≡ zero)
 
+-- The sums that may be added up at a choice: each with the kind of its first terms, which money has not, its terms in order, and when it counts.
+pub data NamedSum (m : Parts) (rows : List Row) (h : Choice) : Option Kind → List Term → Type 0 where
+  -- the fixed offset of a row, and its factor at a bus
+  offset_of : (r : Row) → Contains (all_rows m) r → NamedSum m rows h (Some Quantity) (offset_terms m r)
+  factor_of : (r : Row) (i : ℕ) → Contains (all_rows m) r → i < length m.buses → NamedSum m rows h (Some Factor) (factor_terms m r i)
+  -- injections and flows
+  of_flow : (x : Dispatch) (terms : List Term) → IsInjecting m rows h x → FlowSum m x terms → NamedSum m rows h (Some Quantity) terms
+  -- at a best choice: a unit's output, prices, and money
+  output_of : (u : ℕ) → IsBest m rows h → u < length m.units → NamedSum m rows h (Some Quantity) (output_terms m (choice_dispatch m rows h) u)
+  of_price : (terms : List Term) → IsBest m rows h → PriceSum m (choice_duals m rows h) terms → NamedSum m rows h (Some Price) terms
+  of_money : (terms : List Term) → IsBest m rows h → MoneySum m rows (choice_dispatch m rows h) (choice_duals m rows h) terms → NamedSum m rows h None terms
+  -- at duals that show that nothing is feasible: prices, and the bound
+  of_farkas_price : (d : Duals Fraction) (terms : List Term) → IsFarkasOf m rows h d → PriceSum m d terms → NamedSum m rows h (Some Factor) terms
+  farkas_bound_of : (d : Duals Fraction) → IsFarkasOf m rows h d → NamedSum m rows h (Some Quantity) (farkas_terms m d)
+
 -- x is a number of this kind. The number of terms k is free: a whole sum is the prefix of all its terms.
 pub data MarketNumber (m : Parts) (rows : List Row) (h : Choice) : Kind → Fraction → Type 0 where
   of_system : (kind : Kind) (x : Fraction) → SystemNumber (system_of m rows) h kind x → MarketNumber m rows h kind x
+  -- the first terms of a sum
+  of_sum : (kind : Kind) (terms : List Term) (k : ℕ) → NamedSum m rows h (Some kind) terms → MarketNumber m rows h kind (prefix k terms)
   -- data in MW; the quantity of a block is a bound of the system
   is_fixed : (u : ℕ) → u < length m.units → MarketNumber m rows h Quantity (whole (unit_at m u).fixed)
   is_up : (u : ℕ) → u < length m.units → MarketNumber m rows h Quantity (whole (unit_at m u).up)
@@ -49,32 +67,15 @@ pub data MarketNumber (m : Parts) (rows : List Row) (h : Choice) : Kind → Frac
   is_shunt : (i : ℕ) → i < length m.buses → MarketNumber m rows h Quantity (whole (bus_at m i).gs)
   is_limit : (r : Row) → Contains (all_rows m) r → MarketNumber m rows h Quantity (limit m r)
   is_line_offset : (l : ℕ) → l < length m.lines → MarketNumber m rows h Quantity (line_offset m l)
-  -- the factors of lines, and the first terms of the offset and of a factor of a row
+  -- the factors of lines
   is_shift : (l i : ℕ) → l < length m.lines → i < length m.buses → MarketNumber m rows h Factor (shift_factor m l i)
   is_loss : (l lost : ℕ) → l < length m.lines → lost < length m.lines → MarketNumber m rows h Factor (loss_factor m l lost)
-  is_offset : (r : Row) (k : ℕ) → Contains (all_rows m) r → MarketNumber m rows h Quantity (prefix k (offset_terms m r))
-  is_row_factor : (r : Row) (i k : ℕ) → Contains (all_rows m) r → i < length m.buses → MarketNumber m rows h Factor (prefix k (factor_terms m r i))
-  -- the first terms of the flow of a line, and the flow of a row
-  is_line_flow : (x : Dispatch) (l k : ℕ) → IsInjecting m rows h x → l < length m.lines → MarketNumber m rows h Quantity (prefix k (line_terms m (injection m x) l))
-  is_row_flow : (x : Dispatch) (r : Row) → IsInjecting m rows h x → Contains (all_rows m) r → MarketNumber m rows h Quantity (row_flow m (injection m x) r)
-  -- the first terms of an injection, and of the balance
-  is_injection : (x : Dispatch) (i k : ℕ) → IsInjecting m rows h x → i < length m.buses → MarketNumber m rows h Quantity (prefix k (injection_terms m x i))
-  is_balance : (x : Dispatch) (k : ℕ) → IsInjecting m rows h x → MarketNumber m rows h Quantity (prefix k (balance_terms m x))
-  -- the first terms of a unit's output, at a best choice
-  is_output : (u k : ℕ) → IsBest m rows h → u < length m.units → MarketNumber m rows h Quantity (prefix k (output_terms m (choice_dispatch m rows h) u))
-  -- the price of energy, and at a best choice that at a bus
+  -- the duals of the choice, and those that show that nothing is feasible
   is_energy : MarketNumber m rows h Price (choice_duals m rows h).energy
-  is_bus_price : (i : ℕ) → IsBest m rows h → i < length m.buses → MarketNumber m rows h Price (bus_price m (choice_duals m rows h) i)
-  -- at a best choice the first terms of what limits take from it, and the prices of limits
-  is_congestion : (i k : ℕ) → IsBest m rows h → i < length m.buses → MarketNumber m rows h Price (prefix k (congestion_terms m (choice_duals m rows h) i))
   is_up_dual : (r : Row) → Contains (all_rows m) r → MarketNumber m rows h Price (up_of m (choice_duals m rows h) r)
   is_down_dual : (r : Row) → Contains (all_rows m) r → MarketNumber m rows h Price (down_of m (choice_duals m rows h) r)
-  -- at duals that show that nothing is feasible: the price of energy, that at a bus, and the first terms of the bound
   is_farkas_energy : (d : Duals Fraction) → IsFarkasOf m rows h d → MarketNumber m rows h Factor d.energy
-  is_farkas_price : (d : Duals Fraction) (i : ℕ) → IsFarkasOf m rows h d → i < length m.buses → MarketNumber m rows h Factor (bus_price m d i)
-  is_farkas_congestion : (d : Duals Fraction) (i k : ℕ) → IsFarkasOf m rows h d → i < length m.buses → MarketNumber m rows h Factor (prefix k (congestion_terms m d i))
   is_farkas_up : (d : Duals Fraction) (r : Row) → IsFarkasOf m rows h d → Contains (all_rows m) r → MarketNumber m rows h Factor (up_of m d r)
   is_farkas_down : (d : Duals Fraction) (r : Row) → IsFarkasOf m rows h d → Contains (all_rows m) r → MarketNumber m rows h Factor (down_of m d r)
-  is_farkas_bound : (d : Duals Fraction) (k : ℕ) → IsFarkasOf m rows h d → MarketNumber m rows h Quantity (prefix k (farkas_terms m d))
   -- the opposite of a number, of the same kind
   of_opposite : (kind : Kind) (x : Fraction) → MarketNumber m rows h kind x → MarketNumber m rows h kind (neg_ℚ x)

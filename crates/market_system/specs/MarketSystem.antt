@@ -14,11 +14,11 @@ use Rattle.market_model.specs.declared.participants.Parts.{Parts}
 use Rattle.market_model.specs.declared.answered.Dual.{Dual}
 use Rattle.market_model.specs.declared.answered.Duals.{Duals}
 use Rattle.market_model.specs.declared.answered.RowId.{RowId}
-use Rattle.market_model.specs.Dispatch.{Dispatch, zero, places, block_at, block_bus, signed, quantity, balance, empty}
+use Rattle.market_model.specs.Dispatch.{Dispatch, zero, places, block_at, signed, quantity, balance, empty}
 use Rattle.market_model.specs.declared.limits.Cause.{Cause}
 use Rattle.market_model.specs.declared.limits.Row.{Row}
 use Rattle.market_model.specs.declared.limits.Cause.TheVariants.{Base, Branch}
-use Rattle.market_model.specs.LimitRows.{rows, row_id, row_factor, flow, limit}
+use Rattle.market_model.specs.LimitRows.{rows, row_id, unit_factor, flow, limit}
 use Rattle.market_model.specs.Optimality.{block_value}
 
 -- The names of the variables: a block's is its place, the balance's is the next, and limit rows follow in the market's

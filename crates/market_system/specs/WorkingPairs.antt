@@ -1,8 +1,7 @@
 -- Working pairs of a market: two of its numbers that clearing it may have to combine, and whose outcome passes the bound of
 -- a type of numbers. An answer that numbers became too large names one.
 -- Source: own.
-use Rattle.std.specs.Prelude.{ℕ, List, ◌⊎◌}
-use Rattle.std.specs.List.{Contains}
+use Rattle.std.specs.Prelude.{ℕ, List, None, ◌⊎◌}
 use Rattle.fraction_theory.specs.Fraction.{Fraction}
 use Rattle.fraction_theory.specs.Sums.{Term}
 use Rattle.exact_fraction.specs.declared.Op.{Op}
@@ -12,24 +11,15 @@ use Rattle.linear_system.specs.Choices.{Choice, IsChoice}
 use Rattle.linear_system.specs.Pairs.{IsPairCase, AreNear, OfEither}
 use Rattle.market_model.specs.declared.participants.Parts.{Parts}
 use Rattle.market_model.specs.declared.limits.Row.{Row}
-use Rattle.market_model.specs.Optimality.{welfare_terms}
-use Rattle.market_model.specs.Settlement.{surplus_terms, rent_terms}
-use Rattle.market_system.specs.MarketSystem.{system_of, choice_dispatch, choice_duals}
-use Rattle.market_system.specs.MarketNumbers.{IsBest, MarketNumber}
+use Rattle.market_system.specs.MarketSystem.{system_of}
+use Rattle.market_system.specs.MarketNumbers.{MarketNumber, NamedSum}
 use Rattle.market_system.specs.Growth.{Reached}
 use Rattle.market_model.specs.NamedSums.{IsSumStep}
 
--- the sums of money at a choice
-pub data IsMoneySum (m : Parts) (rows : List Row) (h : Choice) : List Term → Type 0 where
-  of_welfare : IsMoneySum m rows h (welfare_terms m (choice_dispatch m rows h))
-  of_surplus : IsMoneySum m rows h (surplus_terms m (choice_dispatch m rows h) (choice_duals m rows h))
-  of_rent : (r : Row) → Contains rows r → IsMoneySum m rows h (rent_terms m (choice_dispatch m rows h) (choice_duals m rows h) r)
-
--- the sides of an operation that adds up money, at a best choice
+-- the sides of an operation that adds up money
 pub record IsMoneyCase (m : Parts) (rows : List Row) (h : Choice) (op : Op) (left right : Fraction) : Type 0 where
-  pub best : IsBest m rows h
   pub terms : List Term
-  pub money : IsMoneySum m rows h terms
+  pub money : NamedSum m rows h None terms
   pub step : IsSumStep terms op left right
 
 -- The pair passes the bound. It is of one choice of the market's system over these rows or of two near ones: two sides of one kind (numbers,
