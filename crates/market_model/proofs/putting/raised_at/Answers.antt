@@ -5,9 +5,9 @@ use Rattle.market_model.specs.declared.participants.Block.{Block}
 use Rattle.market_model.specs.declared.participants.Side.TheVariants.{Sell}
 use Rattle.market_model.specs.Dispatch.{block_at}
 use Rattle.market_model.specs.Valued.{passed_at}
-use Rattle.limit_screen.specs.Flows.{dispatch_of}
-use Rattle.limit_screen.proofs.FlowLemmas.{accepted_is, raised_none, raised_step, raised_refused, unit_read}
-use Rattle.limit_screen.proofs.flowing.raised_at.Goals as goal
+use Rattle.market_model.specs.PutIn.{dispatch_of}
+use Rattle.market_model.proofs.PutInSteps.{accepted_is, raised_none, raised_step, raised_refused, unit_read}
+use Rattle.market_model.proofs.putting.raised_at.Goals as goal
 
 pub loop-at-init : goal.loop-at-init
 loop-at-init g c = raised_none c.args.market.now (dispatch_of g.N.Exact.value c.args.dispatch.now) c.args.bus (g.N.Exact.value c.args.fixed) c.requires.fixed

@@ -2,8 +2,8 @@ use Rattle.std.proofs.Common.{rules, Err, ◌<◌, ◌≡◌, ◌∙◌, ap, len
 use Rattle.std.specs.Prelude.{slice_index_or}
 use Rattle.market_data.specs.declared.participants.Unit as unit
 use Rattle.market_model.specs.Valued.{passed_at}
-use Rattle.limit_screen.proofs.FlowLemmas.{fixed_step, fixed_refused}
-use Rattle.limit_screen.proofs.flowing.fixed_at.Goals as goal
+use Rattle.market_model.proofs.PutInSteps.{fixed_step, fixed_refused}
+use Rattle.market_model.proofs.putting.fixed_at.Goals as goal
 
 pub loop-at-preserved : goal.loop-at-preserved
 loop-at-preserved g c =

@@ -3,9 +3,9 @@ use Rattle.std.specs.Prelude.{slice_index_or}
 use Rattle.std.proofs.lemmas.Result.{IfOk-weaker, IfErr-weaker}
 use Rattle.market_data.specs.declared.participants.Bus.{Bus}
 use Rattle.market_model.specs.Valued.{passed_at}
-use Rattle.limit_screen.specs.Flows.{dispatch_of}
-use Rattle.limit_screen.proofs.FlowLemmas.{demand_less, demand_refused, fixed_refusal, raised_refusal}
-use Rattle.limit_screen.proofs.flowing.injection.Goals as goal
+use Rattle.market_model.specs.PutIn.{dispatch_of}
+use Rattle.market_model.proofs.PutInSteps.{demand_less, demand_refused, fixed_refusal, raised_refusal}
+use Rattle.market_model.proofs.putting.injection.Goals as goal
 
 pub returns-in_err-fixed-clause-cause : goal.returns-in_err-fixed-clause-cause
 returns-in_err-fixed-clause-cause g c =

@@ -1,8 +1,8 @@
 use Rattle.std.proofs.Common.{rules, Err, ◌≡◌, ◌∙◌, length, arith}
 use Rattle.market_model.specs.Dispatch.{injection}
-use Rattle.limit_screen.specs.Flows.{dispatch_of}
-use Rattle.limit_screen.proofs.FlowLemmas.{put_more, all_put}
-use Rattle.limit_screen.proofs.flowing.injections.Goals as goal
+use Rattle.market_model.specs.PutIn.{dispatch_of}
+use Rattle.market_model.proofs.PlaceLists.{put_more, all_put}
+use Rattle.market_model.proofs.putting.injections.Goals as goal
 
 pub loop-bus-preserved : goal.loop-bus-preserved
 loop-bus-preserved g c =
