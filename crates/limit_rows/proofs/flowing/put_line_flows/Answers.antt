@@ -1,16 +1,16 @@
 use Rattle.std.proofs.Common.{rules, Err, ◌≡◌, ◌∙◌, length, map, arith}
 use Rattle.market_model.specs.LimitRows.{line_flow}
-use Rattle.limit_screen.specs.Flows.{put_in}
-use Rattle.limit_screen.proofs.FlowLemmas.{put_more, all_put}
-use Rattle.limit_screen.proofs.flowing.put_lines.Goals as goal
+use Rattle.market_model.specs.PutIn.{put_in}
+use Rattle.market_model.proofs.PlaceLists.{put_more, all_put}
+use Rattle.limit_rows.proofs.flowing.put_line_flows.Goals as goal
 
 pub loop-line-preserved : goal.loop-line-preserved
 loop-line-preserved g c =
     put_more g.N.Exact.value (line_flow c.args.market.now (put_in (map g.N.Exact.value c.args.injections.now))) c.loop-line.out c.loop-line.line c.in_ok-mw.field-0
     (omega (arith, c.loop-line-test.true, c.loop-line.auto.out)) c.loop-line.invariant c.in_ok-mw.ensures.flow
 
-pub returns-clause-lines : goal.returns-clause-lines
-returns-clause-lines g c =
+pub returns-clause-flows : goal.returns-clause-flows
+returns-clause-flows g c =
     all_put g.N.Exact.value (line_flow c.args.market.now (put_in (map g.N.Exact.value c.args.injections.now))) c.loop-line.out c.loop-line.line (length c.args.market.now.lines)
     (c.loop-line.auto.out ∙ c.requires.out) (omega (arith, c.loop-line-test.false, c.requires.out)) c.loop-line.invariant
 

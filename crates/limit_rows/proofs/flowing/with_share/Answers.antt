@@ -1,8 +1,8 @@
 use Rattle.std.proofs.Common.{ap, sym, ◌∙◌, w64}
 use Rattle.std.proofs.lemmas.Int.{to_z-of_z}
 use mir.Val.{to_z}
-use Rattle.limit_screen.proofs.FlowLemmas.{no_share}
-use Rattle.limit_screen.proofs.amounts.with_share.Goals as goal
+use Rattle.limit_rows.proofs.FlowSteps.{no_share}
+use Rattle.limit_rows.proofs.flowing.with_share.Goals as goal
 
 pub returns-then-share-eq0-clause-sum : goal.returns-then-share-eq0-clause-sum
 returns-then-share-eq0-clause-sum g c =

@@ -5,9 +5,10 @@ use Rattle.fraction_theory.specs.Fraction.{over}
 use Rattle.fraction_theory.proofs.FieldLaws.{+ℚ_nil}
 use Rattle.market_model.specs.LimitRows.{line_flow as flow_of_line}
 use Rattle.market_model.specs.Valued.{passed_at}
-use Rattle.limit_screen.specs.Flows.{put_in}
-use Rattle.limit_screen.proofs.FlowLemmas.{line_step, line_refused, put_read}
-use Rattle.limit_screen.proofs.flowing.line_flow.Goals as goal
+use Rattle.market_model.specs.PutIn.{put_in}
+use Rattle.market_model.proofs.PlaceLists.{put_read}
+use Rattle.limit_rows.proofs.FlowSteps.{line_step, line_refused}
+use Rattle.limit_rows.proofs.flowing.line_flow.Goals as goal
 
 pub loop-bus-init : goal.loop-bus-init
 loop-bus-init g c = c.offset_of-flow.ensures ∙ sym (+ℚ_nil _)
