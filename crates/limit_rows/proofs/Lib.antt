@@ -4,6 +4,7 @@ pub mod ApartLemmas
 pub mod PlaceLemmas
 pub mod DualLemmas
 pub mod FactorLemmas
+pub mod FlowSteps
 pub mod PositionLemmas
 pub mod NameLemmas
 pub mod TestMarkets

@@ -1,14 +1,16 @@
-//! The limit rows of a market: how many there are, in which order, by place and by name, and their factors. It takes no memory.
+//! The limit rows of a market: how many there are, in which order, by place and by name, their factors and their flows. It takes no memory.
 #![tactic(auto)]
 
 mod causes;
 mod factors;
+mod flowing;
 pub mod laws;
 mod numbering;
 mod places;
 
 pub use causes::{cause_at, cause_count, has_row};
 pub use factors::{factor, factor_at, loss_of, shift_of};
+pub use flowing::{put_line_flows, row_flow, row_offset};
 pub use numbering::{count, id, position};
 pub use places::{limit_at, name_at, row_named};
 

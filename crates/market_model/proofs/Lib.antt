@@ -5,8 +5,10 @@ pub mod LimitCases
 pub mod MarketSums
 pub mod MorePlaces
 pub mod Optimum
+pub mod PlaceLists
 pub mod PlaceSums
 pub mod PlainMarkets
+pub mod PutInSteps
 pub mod RightFits
 pub mod RowLaws
 pub mod Rows

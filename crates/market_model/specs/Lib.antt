@@ -10,6 +10,7 @@ pub mod LimitRows
 pub mod Market
 pub mod NamedSums
 pub mod Optimality
+pub mod PutIn
 pub mod RightAnswers
 pub mod Settlement
 pub mod Stairs

@@ -1,13 +1,16 @@
 //! The plain data of one interval's market, and the answers to it.
 #![tactic(auto)]
 
+mod amounts;
 mod answered;
 mod assembled;
 mod factor_table;
 pub mod laws;
 mod limits;
 mod participants;
+mod putting;
 
+pub use amounts::datum;
 pub use answered::{
     Answer, Dual, Duals, Farkas, Load, Money, Outcome, Price, Rent, RowId, UnitPay,
 };
@@ -16,6 +19,7 @@ pub use limits::{Cause, Row};
 pub use market_data::{Bus, MONEY_PLACES, MW_PLACES, PRICE_PLACES, Unit, UnitList};
 pub use participants::{Block, Factor, Line, Parts, Side};
 pub use plain_list::{List, Memory};
+pub use putting::{injections, output};
 
 #[cfg(test)]
 mod tests;

@@ -1,0 +1,60 @@
+use Rattle.std.proofs.Common.{◌≡◌, ◌∙◌, ◌<◌, ℤ, ap, subst, sym, length, map, arith, w64}
+use Rattle.std.proofs.lemmas.Int.{to_z-of_z}
+use Rattle.std.proofs.lemmas.Result.{IfOk-weaker, IfErr-weaker}
+use mir.Val.{to_z, of_z}
+use Rattle.fraction_theory.specs.Fraction.{over}
+use Rattle.market_model.specs.declared.limits.Cause.{Cause}
+use Rattle.market_model.specs.LimitRows.{flow_by, flow_terms}
+use Rattle.market_model.specs.NamedSums.{IsRefusedIn}
+use Rattle.market_model.specs.PutIn.{put_in}
+use Rattle.market_model.specs.Valued.{passed_at}
+use Rattle.market_model.proofs.PlaceLists.{put_read}
+use Rattle.limit_rows.proofs.FlowSteps.{base_flow, flow_after, flow_refused, not_base}
+use Rattle.limit_rows.proofs.flowing.row_flow.Goals as goal
+
+pub returns-in-Base-clause-flow : goal.returns-in-Base-clause-flow
+returns-in-Base-clause-flow g c =
+    let m = c.args.market.now in
+    let l = c.args.row.line in
+    let f = put_in (map g.N.Exact.value c.args.flows.now) in
+    base_flow m f l _ (put_read g.N.Exact.value c.args.flows.now l c.index-flows-row.result (omega (arith, c.requires.flows, c.requires.line)) c.index-flows-row.is)
+    ∙ ap (λ (o : Cause). flow_by m f (record { line = l; cause = o })) (sym c.in-Base.is)
+
+pub returns-in-Branch-clause-flow : goal.returns-in-Branch-clause-flow
+returns-in-Branch-clause-flow g c =
+    let m = c.args.market.now in
+    let value = g.N.Exact.value in
+    let fs = c.args.flows.now in
+    let l = c.args.row.line in
+    let k = c.in-Branch.lost in
+    let f = put_in (map value fs) in
+    let below : k < length m.lines = rw c.in-Branch.is at c.requires.lost in
+    let own = put_read value fs l c.index-flows-row.result (omega (arith, c.requires.flows, c.requires.line)) c.index-flows-row.is in
+    let gone = put_read value fs k c.index-flows-lost.result (omega (arith, c.requires.flows, below)) c.index-flows-lost.is in
+    let known : to_z w64 (of_z w64 c.loss_of.result) ≡ c.loss_of.result = to_z-of_z w64 c.loss_of.result (record { sfits = c.loss_of.type_inv }) in
+    IfOk-weaker c.with_share.result _ _
+    (λ mw is.
+    flow_after m f l k _ _ _ own (ap (λ (z : ℤ). over z 1000000) (known ∙ c.loss_of.ensures.is)) gone (value mw) is
+    ∙ ap (λ (o : Cause). flow_by m f (record { line = l; cause = o })) (sym c.in-Branch.is))
+    c.with_share.ensures.sum
+
+pub returns-in-Branch-clause-after : goal.returns-in-Branch-clause-after
+returns-in-Branch-clause-after g c = IfErr-weaker c.with_share.result _ _ (λ e h. not_base c.args.row.cause c.in-Branch.lost c.in-Branch.is) c.with_share.ensures.cause
+
+pub returns-in-Branch-clause-cause : goal.returns-in-Branch-clause-cause
+returns-in-Branch-clause-cause g c =
+    let m = c.args.market.now in
+    let value = g.N.Exact.value in
+    let fs = c.args.flows.now in
+    let l = c.args.row.line in
+    let k = c.in-Branch.lost in
+    let f = put_in (map value fs) in
+    let below : k < length m.lines = rw c.in-Branch.is at c.requires.lost in
+    let own = put_read value fs l c.index-flows-row.result (omega (arith, c.requires.flows, c.requires.line)) c.index-flows-row.is in
+    let gone = put_read value fs k c.index-flows-lost.result (omega (arith, c.requires.flows, below)) c.index-flows-lost.is in
+    let known : to_z w64 (of_z w64 c.loss_of.result) ≡ c.loss_of.result = to_z-of_z w64 c.loss_of.result (record { sfits = c.loss_of.type_inv }) in
+    IfErr-weaker c.with_share.result _ _
+    (λ e h.
+    subst (λ (o : Cause). IsRefusedIn (flow_terms m f (record { line = l; cause = o })) g.N.Exact.bound (passed_at value e)) (sym c.in-Branch.is)
+    (flow_refused m f l k _ _ _ own (ap (λ (z : ℤ). over z 1000000) (known ∙ c.loss_of.ensures.is)) gone g.N.Exact.bound (passed_at value e) h))
+    c.with_share.ensures.cause
