@@ -10,11 +10,11 @@ use Rattle.std.proofs.lemmas.List.Folds.{find-append}
 use Rattle.market_model.specs.declared.participants.Parts.{Parts}
 use Rattle.market_model.specs.Dispatch.{places}
 use Rattle.market_model.specs.declared.limits.Row.{Row}
-use Rattle.market_model.specs.LimitRows.{rows}
+use Rattle.market_model.specs.declared.limits.Cause.{Cause}
+use Rattle.market_model.specs.LimitRows.{rows, bears, causes, lines_of, rows_of}
 use Rattle.market_model.proofs.MorePlaces.{places_more}
-use Rattle.limit_rows.specs.Groups.{bears, groups, lines_of, rows_of}
 use Rattle.limit_rows.proofs.GroupLemmas.{places_at, rows-more}
-use Rattle.limit_rows.proofs.NameLemmas.{groups_round, rows_round}
+use Rattle.limit_rows.proofs.NameLemmas.{causes_round, rows_round}
 use Rattle.limit_rows.proofs.NumberingLemmas.{all_before, row_on, rows_before}
 use Rattle.cert_verify.specs.declared.verdicts.Reason.{Reason}
 use Rattle.cert_verify.specs.Naming.{rows_at}
@@ -84,36 +84,36 @@ module _ (because : ℕ → Reason) (p : ℕ → Bool) where
 
 -- ---- row by row
 -- the rows of the lines before one, in a group
-abbrev pub rows_to : Parts → Option ℕ → ℕ → List Row
-rows_to m lost k = map (row_on lost) (filter (bears m lost) (places k))
+abbrev pub rows_to : Parts → Cause → ℕ → List Row
+rows_to m cause k = map (row_on cause) (filter (bears m cause) (places k))
 
-pub lines_more : (m : Parts) (lost : Option ℕ) (k : ℕ) → bears m lost k ≡ true → rows_to m lost (k + 1) ≡ rows_to m lost k ++ row_on lost k ∷ []
-lines_more m lost k e =
-    ap (map (row_on lost)) (ap (filter (bears m lost)) (places_more k) ∙ filter-append (bears m lost) (places k) (k ∷ []) ∙ ap (λ (b : Bool). filter (bears m lost) (places k) ++ cond b (k ∷ []) []) e)
-    ∙ mapped (filter (bears m lost) (places k))
+pub lines_more : (m : Parts) (cause : Cause) (k : ℕ) → bears m cause k ≡ true → rows_to m cause (k + 1) ≡ rows_to m cause k ++ row_on cause k ∷ []
+lines_more m cause k e =
+    ap (map (row_on cause)) (ap (filter (bears m cause)) (places_more k) ∙ filter-append (bears m cause) (places k) (k ∷ []) ∙ ap (λ (b : Bool). filter (bears m cause) (places k) ++ cond b (k ∷ []) []) e)
+    ∙ mapped (filter (bears m cause) (places k))
   where
-    mapped : (ls : List ℕ) → map (row_on lost) (ls ++ k ∷ []) ≡ map (row_on lost) ls ++ row_on lost k ∷ []
+    mapped : (ls : List ℕ) → map (row_on cause) (ls ++ k ∷ []) ≡ map (row_on cause) ls ++ row_on cause k ∷ []
     mapped [] = refl
-    mapped (l ∷ ls) = ap (λ rs. row_on lost l ∷ rs) (mapped ls)
+    mapped (l ∷ ls) = ap (λ rs. row_on cause l ∷ rs) (mapped ls)
 
-pub lines_same : (m : Parts) (lost : Option ℕ) (k : ℕ) → bears m lost k ≡ false → rows_to m lost (k + 1) ≡ rows_to m lost k
-lines_same m lost k e =
-    ap (map (row_on lost))
-    (ap (filter (bears m lost)) (places_more k) ∙ filter-append (bears m lost) (places k) (k ∷ []) ∙ ap (λ (b : Bool). filter (bears m lost) (places k) ++ cond b (k ∷ []) []) e
-    ∙ append-nil (filter (bears m lost) (places k)))
+pub lines_same : (m : Parts) (cause : Cause) (k : ℕ) → bears m cause k ≡ false → rows_to m cause (k + 1) ≡ rows_to m cause k
+lines_same m cause k e =
+    ap (map (row_on cause))
+    (ap (filter (bears m cause)) (places_more k) ∙ filter-append (bears m cause) (places k) (k ∷ []) ∙ ap (λ (b : Bool). filter (bears m cause) (places k) ++ cond b (k ∷ []) []) e
+    ∙ append-nil (filter (bears m cause) (places k)))
 
-pub lines_step : (m : Parts) (lost : Option ℕ) (k : ℕ) → rows_to m lost (k + 1) ≡ rows_to m lost k ++ rows_at m lost k
-lines_step m lost k = by (bears m lost k) refl
+pub lines_step : (m : Parts) (cause : Cause) (k : ℕ) → rows_to m cause (k + 1) ≡ rows_to m cause k ++ rows_at m cause k
+lines_step m cause k = by (bears m cause k) refl
   where
-    by : (b : Bool) → bears m lost k ≡ b → rows_to m lost (k + 1) ≡ rows_to m lost k ++ (if b then row_on lost k ∷ [] else [])
-    by true t = lines_more m lost k t
-    by false t = lines_same m lost k t ∙ sym (append-nil (rows_to m lost k))
+    by : (b : Bool) → bears m cause k ≡ b → rows_to m cause (k + 1) ≡ rows_to m cause k ++ (if b then row_on cause k ∷ [] else [])
+    by true t = lines_more m cause k t
+    by false t = lines_same m cause k t ∙ sym (append-nil (rows_to m cause k))
 
 -- rows behind those to a line, in a group
-lines_round : (m : Parts) (lost : Option ℕ) (k : ℕ) → k < length m.lines → bears m lost k ≡ true → (rest : List Row) × (rows_of m lost ≡ rows_to m lost k ++ (rows_at m lost k ++ rest))
-lines_round m lost k lt t =
-    let r = rows_round m lost k lt t in
-    (r.0, r.1 ∙ ap (λ (b : Bool). rows_to m lost k ++ ((if b then row_on lost k ∷ [] else []) ++ r.0)) (sym t))
+lines_round : (m : Parts) (cause : Cause) (k : ℕ) → k < length m.lines → bears m cause k ≡ true → (rest : List Row) × (rows_of m cause ≡ rows_to m cause k ++ (rows_at m cause k ++ rest))
+lines_round m cause k lt t =
+    let r = rows_round m cause k lt t in
+    (r.0, r.1 ∙ ap (λ (b : Bool). rows_to m cause k ++ ((if b then row_on cause k ∷ [] else []) ++ r.0)) (sym t))
 
 module _ (m : Parts) (because : Row → Reason) (p : Row → Bool) where
   -- what is found first in one part of a list is found first in the whole
@@ -134,34 +134,34 @@ module _ (m : Parts) (because : Row → Reason) (p : Row → Bool) where
       by None (Some x) e h = absurd Prim.cc
       by (Some w) (Some x) e h = absurd (true≢false e)
 
-  pub line_found : (lost : Option ℕ) (k : ℕ) (o : Option Reason) → find p (rows_to m lost k) ≡ None → k < length m.lines → is_some o ≡ true → o ≡ of_first because p (rows_at m lost k) → o ≡ of_first because p (rows_of m lost)
-  line_found lost k o none lt some is = by (bears m lost k) refl is
+  pub line_found : (cause : Cause) (k : ℕ) (o : Option Reason) → find p (rows_to m cause k) ≡ None → k < length m.lines → is_some o ≡ true → o ≡ of_first because p (rows_at m cause k) → o ≡ of_first because p (rows_of m cause)
+  line_found cause k o none lt some is = by (bears m cause k) refl is
     where
-      by : (b : Bool) → bears m lost k ≡ b → o ≡ of_first because p (if b then row_on lost k ∷ [] else []) → o ≡ of_first because p (rows_of m lost)
-      by true t h = let r = lines_round m lost k lt t in in_whole (rows_to m lost k) (rows_at m lost k) r.0 o none some is ∙ ap (of_first because p) (sym r.1)
+      by : (b : Bool) → bears m cause k ≡ b → o ≡ of_first because p (if b then row_on cause k ∷ [] else []) → o ≡ of_first because p (rows_of m cause)
+      by true t h = let r = lines_round m cause k lt t in in_whole (rows_to m cause k) (rows_at m cause k) r.0 o none some is ∙ ap (of_first because p) (sym r.1)
       by false t h = absurd (true≢false (sym some ∙ ap is_some h))
 
-  pub line_passed : (lost : Option ℕ) (k : ℕ) (o : Option Reason) → find p (rows_to m lost k) ≡ None → is_some o ≡ false → o ≡ of_first because p (rows_at m lost k) → find p (rows_to m lost (k + 1)) ≡ None
-  line_passed lost k o none idle is = ap (find p) (lines_step m lost k) ∙ none_before p (rows_to m lost k) (rows_at m lost k) none ∙ none_in (rows_at m lost k) o idle is
+  pub line_passed : (cause : Cause) (k : ℕ) (o : Option Reason) → find p (rows_to m cause k) ≡ None → is_some o ≡ false → o ≡ of_first because p (rows_at m cause k) → find p (rows_to m cause (k + 1)) ≡ None
+  line_passed cause k o none idle is = ap (find p) (lines_step m cause k) ∙ none_before p (rows_to m cause k) (rows_at m cause k) none ∙ none_in (rows_at m cause k) o idle is
 
-  pub line_none : (lost : Option ℕ) (k : ℕ) → k ≡ length m.lines → find p (rows_to m lost k) ≡ None → None ≡ of_first because p (rows_of m lost)
-  line_none lost k all e = sym (ap (λ (j : ℕ). option_map because (find p (rows_to m lost j))) (sym all) ∙ ap (option_map because) e)
+  pub line_none : (cause : Cause) (k : ℕ) → k ≡ length m.lines → find p (rows_to m cause k) ≡ None → None ≡ of_first because p (rows_of m cause)
+  line_none cause k all e = sym (ap (λ (j : ℕ). option_map because (find p (rows_to m cause j))) (sym all) ∙ ap (option_map because) e)
 
-  pub group_found : (i : ℕ) (lost : Option ℕ) (o : Option Reason) → find p (rows_before m i) ≡ None → slice_get (groups m) i ≡ Some lost → is_some o ≡ true → o ≡ of_first because p (rows_of m lost) → o ≡ of_first because p (rows m)
-  group_found i lost o none at some is = let r = groups_round m i lost at in in_whole (rows_before m i) (rows_of m lost) r.0 o none some is ∙ ap (of_first because p) (sym r.1)
+  pub cause_found : (i : ℕ) (cause : Cause) (o : Option Reason) → find p (rows_before m i) ≡ None → slice_get (causes m) i ≡ Some cause → is_some o ≡ true → o ≡ of_first because p (rows_of m cause) → o ≡ of_first because p (rows m)
+  cause_found i cause o none at some is = let r = causes_round m i cause at in in_whole (rows_before m i) (rows_of m cause) r.0 o none some is ∙ ap (of_first because p) (sym r.1)
 
-  pub group_passed : (i : ℕ) (lost : Option ℕ) (o : Option Reason) → find p (rows_before m i) ≡ None → slice_get (groups m) i ≡ Some lost → is_some o ≡ false → o ≡ of_first because p (rows_of m lost) → find p (rows_before m (i + 1)) ≡ None
-  group_passed i lost o none at idle is = ap (find p) (rows-more m i lost at) ∙ none_before p (rows_before m i) (rows_of m lost) none ∙ none_in (rows_of m lost) o idle is
+  pub cause_passed : (i : ℕ) (cause : Cause) (o : Option Reason) → find p (rows_before m i) ≡ None → slice_get (causes m) i ≡ Some cause → is_some o ≡ false → o ≡ of_first because p (rows_of m cause) → find p (rows_before m (i + 1)) ≡ None
+  cause_passed i cause o none at idle is = ap (find p) (rows-more m i cause at) ∙ none_before p (rows_before m i) (rows_of m cause) none ∙ none_in (rows_of m cause) o idle is
 
-  pub group_none : (i : ℕ) → length (groups m) ≤ i → find p (rows_before m i) ≡ None → None ≡ of_first because p (rows m)
-  group_none i all e = sym (ap (λ rs. option_map because (find p rs)) (sym (all_before m i all)) ∙ ap (option_map because) e)
+  pub cause_none : (i : ℕ) → length (causes m) ≤ i → find p (rows_before m i) ≡ None → None ≡ of_first because p (rows m)
+  cause_none i all e = sym (ap (λ rs. option_map because (find p rs)) (sym (all_before m i all)) ∙ ap (option_map because) e)
 
   -- ---- the row of a line alone
-  pub row_alone : (lost : Option ℕ) (k : ℕ) → bears m lost k ≡ true → p (row_on lost k) ≡ true → Some (because (row_on lost k)) ≡ of_first because p (rows_at m lost k)
-  row_alone lost k t e = sym (ap (λ (b : Bool). of_first because p (if b then row_on lost k ∷ [] else [])) t ∙ ap (option_map because) (found_first p (row_on lost k) [] e))
+  pub row_alone : (cause : Cause) (k : ℕ) → bears m cause k ≡ true → p (row_on cause k) ≡ true → Some (because (row_on cause k)) ≡ of_first because p (rows_at m cause k)
+  row_alone cause k t e = sym (ap (λ (b : Bool). of_first because p (if b then row_on cause k ∷ [] else [])) t ∙ ap (option_map because) (found_first p (row_on cause k) [] e))
 
-  pub row_alone_passed : (lost : Option ℕ) (k : ℕ) → bears m lost k ≡ true → p (row_on lost k) ≡ false → None ≡ of_first because p (rows_at m lost k)
-  row_alone_passed lost k t e = sym (ap (λ (b : Bool). of_first because p (if b then row_on lost k ∷ [] else [])) t ∙ ap (option_map because) (none_one p (row_on lost k) e))
+  pub row_alone_passed : (cause : Cause) (k : ℕ) → bears m cause k ≡ true → p (row_on cause k) ≡ false → None ≡ of_first because p (rows_at m cause k)
+  row_alone_passed cause k t e = sym (ap (λ (b : Bool). of_first because p (if b then row_on cause k ∷ [] else [])) t ∙ ap (option_map because) (none_one p (row_on cause k) e))
 
-  pub row_not_there : (lost : Option ℕ) (k : ℕ) → bears m lost k ≡ false → None ≡ of_first because p (rows_at m lost k)
-  row_not_there lost k t = sym (ap (λ (b : Bool). of_first because p (if b then row_on lost k ∷ [] else [])) t)
+  pub row_not_there : (cause : Cause) (k : ℕ) → bears m cause k ≡ false → None ≡ of_first because p (rows_at m cause k)
+  row_not_there cause k t = sym (ap (λ (b : Bool). of_first because p (if b then row_on cause k ∷ [] else [])) t)

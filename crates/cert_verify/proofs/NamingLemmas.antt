@@ -14,11 +14,10 @@ use Rattle.market_model.specs.declared.answered.Duals.{Duals}
 use Rattle.market_model.specs.declared.answered.RowId.{RowId}
 use Rattle.market_model.specs.declared.participants.Parts.{Parts}
 use Rattle.market_model.specs.declared.limits.Row.{Row}
-use Rattle.market_model.specs.LimitRows.{rows, row_id}
+use Rattle.market_model.specs.declared.limits.Cause.{Cause}
+use Rattle.market_model.specs.LimitRows.{rows, row_id, causes, rows_of}
 use Rattle.market_model.specs.Optimality.{is_named, named_rows, same_id, up_in, down_in}
 use Rattle.market_model.specs.Valued.{dual_at}
-use Rattle.limit_rows.specs.Groups.{groups, rows_of}
-use Rattle.limit_rows.specs.declared.places.LimitRow.{LimitRow}
 use Rattle.market_model.specs.Dispatch.{places}
 use Rattle.market_model.proofs.MorePlaces.{places_more}
 use Rattle.limit_rows.proofs.GroupLemmas.{rows-more}
@@ -110,7 +109,7 @@ entries_more {N} ds i e lt at =
 -- ---- the rows that are named, one by one
 module _ {N : Type 0} (value : N → Fraction) (m : Parts) where
   -- what is found under the name of a row
-  pub named_is : (ds : List (Dual N)) (energy : Fraction) (row : LimitRow) (e : Dual N) → lookup (same_pair (name_of (row_id m row))) (map entry_of ds) ≡ Some e
+  pub named_is : (ds : List (Dual N)) (energy : Fraction) (row : Row) (e : Dual N) → lookup (same_pair (name_of (row_id m row))) (map entry_of ds) ≡ Some e
       → IsNamedAt value m (duals_by energy (map (dual_at value) ds)) row (Some (record { row = row; up = e.up; down = e.down }))
   named_is ds energy row e found =
       let is = dual_named value (row_id m row) ds e found in
@@ -131,16 +130,16 @@ module _ {N : Type 0} (value : N → Fraction) (m : Parts) where
         ap (map (priced_by m d)) (filter-append (λ r. is_named d.limits (row_id m r)) rs ss)
         ∙ map-append (priced_by m d) (filter (λ r. is_named d.limits (row_id m r)) rs) (filter (λ r. is_named d.limits (row_id m r)) ss)
 
-    pub line_named : (lost : Option ℕ) (k : ℕ) (front old new : List PricedRow) → old ≡ front ++ prices_of m d (rows_to m lost k) → new ≡ old ++ prices_of m d (rows_at m lost k) → new ≡ front ++ prices_of m d (rows_to m lost (k + 1))
-    line_named lost k front old new before more =
-        more ∙ ap (λ (ys : List PricedRow). ys ++ prices_of m d (rows_at m lost k)) before ∙ append_assoc front (prices_of m d (rows_to m lost k)) (prices_of m d (rows_at m lost k))
-        ∙ ap (λ (ys : List PricedRow). front ++ ys) (sym (ap (prices_of m d) (lines_step m lost k) ∙ prices_join (rows_to m lost k) (rows_at m lost k)))
+    pub line_named : (cause : Cause) (k : ℕ) (front old new : List PricedRow) → old ≡ front ++ prices_of m d (rows_to m cause k) → new ≡ old ++ prices_of m d (rows_at m cause k) → new ≡ front ++ prices_of m d (rows_to m cause (k + 1))
+    line_named cause k front old new before more =
+        more ∙ ap (λ (ys : List PricedRow). ys ++ prices_of m d (rows_at m cause k)) before ∙ append_assoc front (prices_of m d (rows_to m cause k)) (prices_of m d (rows_at m cause k))
+        ∙ ap (λ (ys : List PricedRow). front ++ ys) (sym (ap (prices_of m d) (lines_step m cause k) ∙ prices_join (rows_to m cause k) (rows_at m cause k)))
 
-    pub group_named : (i : ℕ) (lost : Option ℕ) (old new : List PricedRow) → slice_get (groups m) i ≡ Some lost → old ≡ prices_of m d (rows_before m i) → new ≡ old ++ prices_of m d (rows_of m lost) → new ≡ prices_of m d (rows_before m (i + 1))
-    group_named i lost old new at before more =
-        more ∙ ap (λ (ys : List PricedRow). ys ++ prices_of m d (rows_of m lost)) before ∙ sym (ap (prices_of m d) (rows-more m i lost at) ∙ prices_join (rows_before m i) (rows_of m lost))
+    pub cause_named : (i : ℕ) (cause : Cause) (old new : List PricedRow) → slice_get (causes m) i ≡ Some cause → old ≡ prices_of m d (rows_before m i) → new ≡ old ++ prices_of m d (rows_of m cause) → new ≡ prices_of m d (rows_before m (i + 1))
+    cause_named i cause old new at before more =
+        more ∙ ap (λ (ys : List PricedRow). ys ++ prices_of m d (rows_of m cause)) before ∙ sym (ap (prices_of m d) (rows-more m i cause at) ∙ prices_join (rows_before m i) (rows_of m cause))
 
-    pub all_named : (i : ℕ) (xs : List (NamedRow N)) → length (groups m) ≤ i → map (priced_at value) xs ≡ prices_of m d (rows_before m i) → AreNamed value m d xs
+    pub all_named : (i : ℕ) (xs : List (NamedRow N)) → length (causes m) ≤ i → map (priced_at value) xs ≡ prices_of m d (rows_before m i) → AreNamed value m d xs
     all_named i xs all h = h ∙ ap (prices_of m d) (all_before m i all)
 
 -- what a push leaves

@@ -10,12 +10,12 @@ use Rattle.market_model.specs.declared.answered.Duals.{Duals}
 use Rattle.market_model.specs.declared.participants.Parts.{Parts}
 use Rattle.market_model.specs.Dispatch.{Dispatch, injection, balance_terms}
 use Rattle.market_model.specs.declared.limits.Row.{Row}
-use Rattle.market_model.specs.LimitRows.{rows, row_id, limit, flow}
+use Rattle.market_model.specs.declared.limits.Cause.TheVariants.{Base, Branch}
+use Rattle.market_model.specs.declared.limits.Cause.{Cause}
+use Rattle.market_model.specs.LimitRows.{IsCauseAmong, rows, row_id, limit, flow, bears, causes}
 use Rattle.market_model.specs.Market.{IsMarket}
 use Rattle.market_model.specs.NamedSums.{IsRefusedIn}
 use Rattle.market_model.specs.Valued.{passed_at}
-use Rattle.limit_rows.specs.Groups.{bears, groups}
-use Rattle.limit_rows.specs.declared.places.LimitRow.{LimitRow}
 use Rattle.limit_rows.proofs.ApartLemmas.{same_row}
 use Rattle.limit_rows.proofs.NumberingLemmas.{row_on}
 use Rattle.limit_rows.proofs.PlaceLemmas.{lost_inside, row_to, same_name}
@@ -40,7 +40,7 @@ not_of m e none r c = by (is_of m e r) refl
     by false t = refl
 
 -- whether a dual has no row, where its name was looked up
-pub no_row_by : (m : Parts) (e : Dual Fraction) (o : Option LimitRow) → MatchOption o (IsUnknown m e) (λ row. Contains (rows m) row × (row_id m row ≡ e.row))
+pub no_row_by : (m : Parts) (e : Dual Fraction) (o : Option Row) → MatchOption o (IsUnknown m e) (λ row. Contains (rows m) row × (row_id m row ≡ e.row))
     → (b : Bool) → is_some o ≡ not b → has_no_row m e ≡ b
 no_row_by m e None h true none = ap not (any_none (is_of m e) (rows m) (not_of m e h))
 no_row_by m e None h false none = absurd (true≢false (sym none))
@@ -63,10 +63,10 @@ slack_named m market x e r c same = by (prices_slack e (flow m x r) (limit m r))
         (λ s k. not_both (is_of m e s) (prices_slack e (flow m x s) (limit m s))
         (λ u. subst (λ (z : Row). prices_slack e (flow m x z) (limit m z) ≡ false) (same_row m market r s c k (same ∙ sym (same_name (row_id m s) e.row u))) t))
 
--- the line that is lost in a group is one of the market
-pub lost_below : (m : Parts) → IsMarket m → (lost : Option ℕ) → Contains (groups m) lost → IfSome lost (λ k. k < length m.lines)
-lost_below m market None c = tt
-lost_below m market (Some k) c = lost_inside m market k c
+-- the lost line of a cause is one of the market
+pub lost_below : (m : Parts) → IsMarket m → (cause : Cause) → Contains (causes m) cause → IsCauseAmong (length m.lines) cause
+lost_below m market Base c = tt
+lost_below m market (Branch k) c = lost_inside m market k c
 
 -- ---- refusals
 pub stopped_by : {N : Type 0} (value : N → Fraction) (p q : Passed Fraction → Type 0) (s : VerifyStop N) → ((e : Passed Fraction) → p e → q e) → IsStopped value p s → IsStopped value q s

@@ -6,9 +6,9 @@ use Rattle.market_model.specs.declared.answered.Duals.{Duals}
 use Rattle.market_model.specs.declared.answered.RowId.{RowId}
 use Rattle.market_model.specs.declared.participants.Parts.{Parts}
 use Rattle.market_model.specs.declared.limits.Row.{Row}
-use Rattle.market_model.specs.LimitRows.{row_id}
+use Rattle.market_model.specs.declared.limits.Cause.{Cause}
+use Rattle.market_model.specs.LimitRows.{row_id, bears}
 use Rattle.market_model.specs.Optimality.{is_named}
-use Rattle.limit_rows.specs.Groups.{bears, cause_of}
 use Rattle.cert_sums.specs.declared.pricing.NamedRow.{NamedRow}
 use Rattle.cert_sums.specs.Named.{PricedRow, priced_at, priced_by}
 
@@ -23,9 +23,9 @@ entry_of e = (name_of e.row, e)
 abbrev pub same_pair : ℕ × ℕ → ℕ × ℕ → Bool
 same_pair p q = (p.0 == q.0) && (p.1 == q.1)
 
--- the row of a line in a group, where it has one there
-abbrev pub rows_at : Parts → Option ℕ → ℕ → List Row
-rows_at m lost line = if bears m lost line then record { line = line; cause = cause_of lost } ∷ [] else []
+-- the row of a line under a cause, where it has one there
+abbrev pub rows_at : Parts → Cause → ℕ → List Row
+rows_at m cause line = if bears m cause line then record { line = line; cause = cause } ∷ [] else []
 
 -- a row with its prices, where duals name it
 abbrev pub IsNamedAt : {N : Type 0} → (N → Fraction) → Parts → Duals Fraction → Row → Option (NamedRow N) → Type 0

@@ -5,10 +5,9 @@ ghost use Rattle.fraction_theory.specs.Fraction.{Fraction};
 ghost use Rattle.market_model.specs.declared.answered.Duals.{Duals};
 ghost use Rattle.market_model.specs.Dispatch.{Dispatch};
 ghost use Rattle.market_model.specs.declared.limits.Row.{Row};
-ghost use Rattle.market_model.specs.LimitRows.{row_id};
+ghost use Rattle.market_model.specs.LimitRows.{row_id, causes, rows_of};
 ghost use Rattle.market_model.specs.NamedSums.{IsRefusedIn};
 ghost use Rattle.market_model.specs.Valued.{passed_at};
-ghost use Rattle.limit_rows.specs.Groups.{groups, rows_of};
 ghost use Rattle.cert_sums.specs.Pairs.{IsOptimalPair, flow_terms};
 ghost use Rattle.cert_sums.specs.Results.{AreFlows};
 ghost use Rattle.cert_verify.specs.declared.verdicts.Reason.TheVariants as reason;
@@ -19,14 +18,14 @@ use crate::Reason;
 use crate::comparing::{datum, passes};
 use cert_sums::row_flow;
 use exact_fraction::{Exact, Passed};
-use limit_rows::{LimitRow, group_count, has_row, limit_at, lost_of, name_at};
-use market_model::Market;
+use limit_rows::{cause_at, cause_count, has_row, limit_at, name_at};
+use market_model::{Cause, Market, Row};
 
 /// Whether the flow of a row passes its limit. Flows are by line.
-fn is_broken<N: Exact>(market: &Market, flows: &[N], row: LimitRow) -> Result<bool, Passed<N>>
+fn is_broken<N: Exact>(market: &Market, flows: &[N], row: Row) -> Result<bool, Passed<N>>
     requires flows { length flows.now ≡ length market.now.lines }
     requires line { row.line < length market.now.lines }
-    requires lost { IfSome row.lost (λ lost. lost < length market.now.lines) }
+    requires lost { IsCauseAmong (length market.now.lines) row.cause }
     ensures broken { (x : Dispatch) → AreFlows market.now x (map N.value flows.now) → IfOk result (λ broken. broken ≡ is_broken market.now x row) }
     ensures cause { (x : Dispatch) → AreFlows market.now x (map N.value flows.now) → IfErr result (λ passed. IsRefusedIn (flow_terms market.now x row) N.bound (passed_at N.value passed)) }
 {
@@ -34,22 +33,22 @@ fn is_broken<N: Exact>(market: &Market, flows: &[N], row: LimitRow) -> Result<bo
     Ok(passes(flow, datum(limit_at(market, row))))
 }
 
-/// The row of a line in a group, where it has one there and its flow passes its limit.
+/// The row of a line under a cause, where it has one there and its flow passes its limit.
 fn broken_at<N: Exact>(
     market: &Market,
     flows: &[N],
-    lost: Option<usize>,
+    cause: Cause,
     line: usize,
 ) -> Result<Option<Reason>, Passed<N>>
     requires flows { length flows.now ≡ length market.now.lines }
-    requires lost { Contains (groups market.now) lost }
+    requires cause { Contains (causes market.now) cause }
     requires line { line < length market.now.lines }
-    ensures first { (x : Dispatch) → AreFlows market.now x (map N.value flows.now) → IfOk result (λ first. first ≡ of_first (λ (r : Row). reason.Limit (row_id market.now r)) (is_broken market.now x) (rows_at market.now lost line)) }
+    ensures first { (x : Dispatch) → AreFlows market.now x (map N.value flows.now) → IfOk result (λ first. first ≡ of_first (λ (r : Row). reason.Limit (row_id market.now r)) (is_broken market.now x) (rows_at market.now cause line)) }
     ensures cause { (x : Dispatch) (d : Duals Fraction) → AreFlows market.now x (map N.value flows.now) → IfErr result (λ passed. IsOptimalPair market.now x d N.bound (passed_at N.value passed)) }
 {
     let _lines = market.lines();
-    if has_row(market, lost, line) {
-        let row = LimitRow { line, lost };
+    if has_row(market, cause, line) {
+        let row = Row { line, cause };
         let broken = is_broken(market, flows, row)?;
         if broken {
             Ok(Some(Reason::Limit {
@@ -63,19 +62,19 @@ fn broken_at<N: Exact>(
     }
 }
 
-/// The first of the base, or of those after the loss of a line.
-fn broken_after<N: Exact>(
+/// The first of those under a cause.
+fn broken_under<N: Exact>(
     market: &Market,
     flows: &[N],
-    lost: Option<usize>,
+    cause: Cause,
 ) -> Result<Option<Reason>, Passed<N>>
     requires flows { length flows.now ≡ length market.now.lines }
-    requires lost { Contains (groups market.now) lost }
-    ensures first { (x : Dispatch) → AreFlows market.now x (map N.value flows.now) → IfOk result (λ first. first ≡ of_first (λ (r : Row). reason.Limit (row_id market.now r)) (is_broken market.now x) (rows_of market.now lost)) }
+    requires cause { Contains (causes market.now) cause }
+    ensures first { (x : Dispatch) → AreFlows market.now x (map N.value flows.now) → IfOk result (λ first. first ≡ of_first (λ (r : Row). reason.Limit (row_id market.now r)) (is_broken market.now x) (rows_of market.now cause)) }
     ensures cause { (x : Dispatch) (d : Duals Fraction) → AreFlows market.now x (map N.value flows.now) → IfErr result (λ passed. IsOptimalPair market.now x d N.bound (passed_at N.value passed)) }
 {
     for line in 0..market.lines().len() {
-        let broken = broken_at(market, flows, lost, line)?;
+        let broken = broken_at(market, flows, cause, line)?;
         if broken.is_some() {
             return Ok(broken);
         }
@@ -92,8 +91,8 @@ pub(crate) fn broken_limit<N: Exact>(
     ensures first { (x : Dispatch) → AreFlows market.now x (map N.value flows.now) → IfOk result (λ first. first ≡ limit_reason market.now x) }
     ensures cause { (x : Dispatch) (d : Duals Fraction) → AreFlows market.now x (map N.value flows.now) → IfErr result (λ passed. IsOptimalPair market.now x d N.bound (passed_at N.value passed)) }
 {
-    for group in 0..group_count(market) {
-        let broken = broken_after(market, flows, lost_of(market, group))?;
+    for place in 0..cause_count(market) {
+        let broken = broken_under(market, flows, cause_at(market, place))?;
         if broken.is_some() {
             return Ok(broken);
         }

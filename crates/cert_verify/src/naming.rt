@@ -4,7 +4,7 @@ ghost use Rattle.std.specs.Prelude.{◌≡◌, ◌<◌, List, [], ◌∷◌, ◌
 ghost use Rattle.std.specs.Map.{lookup};
 ghost use Rattle.fraction_theory.specs.Fraction.{Fraction};
 ghost use Rattle.market_model.specs.Valued.{dual_at};
-ghost use Rattle.limit_rows.specs.Groups.{groups, rows_of};
+ghost use Rattle.market_model.specs.LimitRows.{causes, rows_of};
 ghost use Rattle.cert_format.specs.Certificates.{NamesNoRowTwice};
 ghost use Rattle.cert_sums.specs.Named.{AreNamed, priced_at};
 ghost use Rattle.cert_verify.specs.Certificates.{duals_by};
@@ -13,8 +13,8 @@ ghost use Rattle.cert_verify.specs.Naming.{IsNamedAt, entry_of, name_of, prices_
 use cert_sums::NamedRow;
 use exact_fraction::Exact;
 use indexmap::IndexMap;
-use limit_rows::{LimitRow, group_count, has_row, lost_of, name_at};
-use market_model::{Dual, List, Market, Memory, RowId};
+use limit_rows::{cause_at, cause_count, has_row, name_at};
+use market_model::{Cause, Dual, List, Market, Memory, Row, RowId};
 use std::alloc::Global;
 
 /// Adds a dual under a name that none has yet.
@@ -58,10 +58,10 @@ fn by_name<N: Exact>(
 fn named_at<N: Exact>(
     market: &Market,
     duals: &IndexMap<(u32, u32), Dual<N>>,
-    row: LimitRow,
+    row: Row,
 ) -> Option<NamedRow<N>>
     requires line { row.line < length market.now.lines }
-    requires lost { IfSome row.lost (λ lost. lost < length market.now.lines) }
+    requires lost { IsCauseAmong (length market.now.lines) row.cause }
     ensures { (ds : List (Dual N)) (energy : Fraction) → duals.now.entries ≡ map entry_of ds → IsNamedAt N.value market.now (duals_by energy (map (dual_at N.value) ds)) row result }
 {
     match dual_of(duals, name_at(market, row)) {
@@ -74,21 +74,21 @@ fn named_at<N: Exact>(
     }
 }
 
-/// Adds the row of a line in a group, where it has one there and duals name it.
+/// Adds the row of a line under a cause, where it has one there and duals name it.
 fn push_row<N: Exact>(
     market: &Market,
     duals: &IndexMap<(u32, u32), Dual<N>>,
-    lost: Option<usize>,
+    cause: Cause,
     line: usize,
     named: &mut List<NamedRow<N>>,
 ) -> Result<(), Memory>
-    requires lost { Contains (groups market.now) lost }
+    requires cause { Contains (causes market.now) cause }
     requires line { line < length market.now.lines }
-    ensures { (ds : List (Dual N)) (energy : Fraction) → duals.now.entries ≡ map entry_of ds → IfOk result (λ _. map (priced_at N.value) named.new ≡ map (priced_at N.value) named.old ++ prices_of market.now (duals_by energy (map (dual_at N.value) ds)) (rows_at market.now lost line)) }
+    ensures { (ds : List (Dual N)) (energy : Fraction) → duals.now.entries ≡ map entry_of ds → IfOk result (λ _. map (priced_at N.value) named.new ≡ map (priced_at N.value) named.old ++ prices_of market.now (duals_by energy (map (dual_at N.value) ds)) (rows_at market.now cause line)) }
 {
     let _lines = market.lines();
-    if has_row(market, lost, line) {
-        match named_at(market, duals, LimitRow { line, lost }) {
+    if has_row(market, cause, line) {
+        match named_at(market, duals, Row { line, cause }) {
             Some(entry) => named.push(entry),
             None => Ok(()),
         }
@@ -97,18 +97,18 @@ fn push_row<N: Exact>(
     }
 }
 
-/// Adds the rows of a group that duals name, in their order.
-fn push_group<N: Exact>(
+/// Adds the rows under a cause that duals name, in their order.
+fn push_rows<N: Exact>(
     market: &Market,
     duals: &IndexMap<(u32, u32), Dual<N>>,
-    lost: Option<usize>,
+    cause: Cause,
     named: &mut List<NamedRow<N>>,
 ) -> Result<(), Memory>
-    requires { Contains (groups market.now) lost }
-    ensures { (ds : List (Dual N)) (energy : Fraction) → duals.now.entries ≡ map entry_of ds → IfOk result (λ _. map (priced_at N.value) named.new ≡ map (priced_at N.value) named.old ++ prices_of market.now (duals_by energy (map (dual_at N.value) ds)) (rows_of market.now lost)) }
+    requires { Contains (causes market.now) cause }
+    ensures { (ds : List (Dual N)) (energy : Fraction) → duals.now.entries ≡ map entry_of ds → IfOk result (λ _. map (priced_at N.value) named.new ≡ map (priced_at N.value) named.old ++ prices_of market.now (duals_by energy (map (dual_at N.value) ds)) (rows_of market.now cause)) }
 {
     for line in 0..market.lines().len() {
-        push_row(market, duals, lost, line, named)?;
+        push_row(market, duals, cause, line, named)?;
     }
     Ok(())
 }
@@ -124,8 +124,8 @@ pub(crate) fn named_rows<N: Exact>(
 {
     let duals = by_name(alloc, limits)?;
     let mut named = List::new(alloc);
-    for group in 0..group_count(market) {
-        push_group(market, &duals, lost_of(market, group), &mut named)?;
+    for place in 0..cause_count(market) {
+        push_rows(market, &duals, cause_at(market, place), &mut named)?;
     }
     Ok(named)
 }

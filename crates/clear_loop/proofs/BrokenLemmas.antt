@@ -18,16 +18,14 @@ use Rattle.market_model.specs.Excess.{size_by, excess, IsWorst}
 use Rattle.market_model.specs.declared.limits.Cause.{Cause}
 use Rattle.market_model.specs.declared.limits.Row.{Row}
 use Rattle.market_model.specs.declared.limits.Cause.TheVariants.{Base, Branch}
-use Rattle.market_model.specs.LimitRows.{rows, row_id, limit, line_flow, loss_factor, flow, most_flow}
+use Rattle.market_model.specs.LimitRows.{IsCauseAmong, rows, row_id, limit, line_flow, loss_factor, flow, flow_by, flow_terms_in, most_flow}
 use Rattle.market_model.specs.Market.{IsMarket}
 use Rattle.market_model.specs.NamedSums.{SameSize}
 use Rattle.market_model.specs.Optimality.{Within}
 use Rattle.market_system.specs.Growth.{Broken}
-use Rattle.limit_rows.specs.Groups.{cause_of}
-use Rattle.limit_rows.specs.declared.places.LimitRow.{LimitRow}
 use Rattle.limit_rows.proofs.ApartLemmas.{names_apart}
 use Rattle.limit_rows.proofs.FactorLemmas.{IsLost}
-use Rattle.limit_screen.specs.Flows.{flow_by, flow_terms_in, flows_at, line_in}
+use Rattle.limit_screen.specs.Flows.{flows_at, line_in}
 use Rattle.limit_screen.specs.Screening.{AllHold, IsWorstNamed}
 use Rattle.limit_screen.proofs.ScreenLemmas.{below_nil, law_of_row_flows, listed_row}
 use Rattle.market_system.proofs.DualLists.{one_row}
@@ -59,9 +57,9 @@ sized_by f Zero = inl refl
 sized_by f Above = inl refl
 
 -- ---- places of rows
-pub lost_within : (m : Parts) (o : Option ℕ) → IsLost m (cause_of o) → IfSome o (λ k. k < length m.lines)
-lost_within m None h = tt
-lost_within m (Some k) h = h.0
+pub lost_within : (m : Parts) (cause : Cause) → IsLost m cause → IsCauseAmong (length m.lines) cause
+lost_within m Base h = tt
+lost_within m (Branch k) h = h.0
 
 -- ---- the flows of a dispatch
 module _ (m : Parts) (market : IsMarket m) (x : Dispatch) where
@@ -106,7 +104,7 @@ module _ (m : Parts) (market : IsMarket m) (x : Dispatch) where
       same s c = ap (excess m s) (row_is s c)
 
   -- the row of its name
-  pub found_worst : (id : RowId) (found : Option LimitRow) → IsWorstNamed m flow_at id
+  pub found_worst : (id : RowId) (found : Option Row) → IsWorstNamed m flow_at id
       → MatchOption found ((r : Row) → Contains (rows m) r → row_id m r ≡ id → ⊥) (λ row. Contains (rows m) row × (row_id m row ≡ id))
       → MatchOption found ((r : Row) → Contains (rows m) r → Within (most_flow m r) (flow m x r)) (λ row. (place : ℕ) × IsWorst m (flow m x) place row)
   found_worst id None (place, r, worst, named) none = absurd (none r (listed_row (rows m) place r worst.stands) (sym named))

@@ -17,7 +17,6 @@ use Rattle.market_system.specs.MarketSystem.{system_of}
 use Rattle.market_system.specs.SolvedLaws.{AreRows}
 use Rattle.linear_system.specs.Choices.{value}
 use Rattle.market_system.proofs.GrowthLaws.{broken_is_new, growth_none, growth_more, rows_few}
-use Rattle.limit_rows.specs.declared.places.LimitRow.{LimitRow}
 use Rattle.limit_screen.specs.Flows.{dispatch_of}
 use Rattle.market_dict.specs.Findings.{IsSolvedBy}
 use Rattle.market_dict.specs.Holding.{Holds}
@@ -40,17 +39,15 @@ grown_more m t g new grown (r, is, inside, broken) = subst (Growth m t) (sym is)
 -- rounds come nearer to all rows
 pub comes_nearer : (m : Parts) (old new : Taken) → GrowsByOne m (rows_in old) (rows_in new) → AreRows m (rows_in new) → (length (rows m) - length new.rows) < (length (rows m) - length old.rows)
 comes_nearer m old new (r, is, inside, broken) are =
-    let before : length (rows_in old) ≡ length old.rows = length-map old.rows in
-    let after : length (rows_in new) ≡ length new.rows = length-map new.rows in
     let one : length (rows_in new) ≡ length (rows_in old) + 1 = ap length is ∙ length-append (rows_in old) (r ∷ []) in
     let few : length (rows_in new) ≤ length (rows m) = rows_few m (rows_in new) are in
-    Prim.omega (arith, before, after, one, few)
+    Prim.omega (arith, one, few)
 
 module _ {N : Type 0} (worth : N → Fraction) (m : Parts) where
-  pub rows_grown : (old new : Taken) (row : LimitRow) → new.rows ≡ old.rows ++ row ∷ [] → rows_in new ≡ rows_in old ++ row ∷ []
-  rows_grown old new row put = ap (map row_of) put ∙ map-append old.rows (row ∷ [])
+  pub rows_grown : (old new : Taken) (row : Row) → new.rows ≡ old.rows ++ row ∷ [] → rows_in new ≡ rows_in old ++ row ∷ []
+  rows_grown old new row put = put
 
-  pub hand_grown : (old new : Taken) (row : LimitRow) (warm : Option Dictionary) (d : Dictionary) (terms : Terms N) → new.rows ≡ old.rows ++ row ∷ [] → new.names ≡ old.names ++ row_id m row ∷ []
+  pub hand_grown : (old new : Taken) (row : Row) (warm : Option Dictionary) (d : Dictionary) (terms : Terms N) → new.rows ≡ old.rows ++ row ∷ [] → new.names ≡ old.names ++ row_id m row ∷ []
       → old.names ≡ map (row_id m) (rows_in old) → warm ≡ Some d → Holds m (rows_in old ++ row ∷ []) d → AreTerms worth m (rows_in old ++ row ∷ []) terms
       → IsInHand worth m (record { warm = warm; terms = terms; taken = new })
   hand_grown old new row warm d terms put named names is holds are =

@@ -1,47 +1,47 @@
 -- What is refused at a dispatch that solves the market over rows in hand is a working pair of the market over these rows.
-use Rattle.std.specs.Prelude.{◌≡◌, ◌⊎◌, ℕ, ◌<◌, ◌||◌, pos, Bool, true, false, List, [], ◌∷◌, ◌++◌, length, if◌then◌else◌, Contains, refl}
+use Rattle.std.specs.Prelude.{◌≡◌, ◌⊎◌, ℕ, ◌<◌, ◌||◌, pos, Bool, true, false, List, [], ◌∷◌, ◌++◌, length, if◌then◌else◌, Some, None, Contains, refl}
 use Rattle.std.proofs.Common.{inl, inr, ap, ap₂, sym, subst, ◌∙◌}
 use Rattle.fraction_theory.specs.Fraction.{Fraction, whole, neg_ℚ}
 use Rattle.fraction_theory.specs.Order.{◌<ℚ◌}
 use Rattle.fraction_theory.specs.Signs.{sign_of}
-use Rattle.fraction_theory.specs.Sums.{Product}
+use Rattle.fraction_theory.specs.Sums.{Term, Product}
 use Rattle.fraction_theory.proofs.ListSums.{Contains-head, Contains-cons, Contains-from_filter}
 use Rattle.fraction_theory.proofs.OrderLaws.{<ℚ_irrefl}
 use Rattle.exact_fraction.specs.declared.Passed.{Passed}
 use Rattle.exact_fraction.specs.declared.Op.TheVariants.{Plus, Minus}
 use Rattle.linear_system.specs.Choices.{Choice, reduced}
+use Rattle.linear_system.specs.Numbers.{Quantity, Price}
 use Rattle.market_model.specs.declared.answered.Dual.{Dual}
 use Rattle.market_model.specs.declared.answered.Duals.{Duals}
 use Rattle.market_model.specs.declared.answered.RowId.{RowId}
 use Rattle.market_model.specs.declared.participants.Parts.{Parts}
-use Rattle.market_model.specs.Dispatch.{Dispatch, unit_at, output, demand, injection, output_terms}
+use Rattle.market_model.specs.Dispatch.{Dispatch, bus_at, unit_at, output, demand, injection, injection_terms, output_terms}
 use Rattle.market_model.specs.Excess.{size_of}
-use Rattle.market_model.specs.declared.limits.Cause.{Cause}
 use Rattle.market_model.specs.declared.limits.Row.{Row}
-use Rattle.market_model.specs.declared.limits.Cause.TheVariants.{Base, Branch}
-use Rattle.market_model.specs.LimitRows.{rows, row_id, limit, line_flow, flow}
+use Rattle.market_model.specs.LimitRows.{rows, row_id, limit, line_flow, line_terms, flow, flow_terms, offset_terms, row_offset}
 use Rattle.market_model.specs.Market.{IsMarket}
-use Rattle.market_model.specs.NamedSums.{IsAddedIn, IsRefusedIn, IsRefusal}
+use Rattle.market_model.specs.NamedSums.{SameSize, IsRefusedIn, IsRefusal}
+use Rattle.market_model.specs.SumTables.{FlowSum, injection_at, flow_of_line, flow_of_row, congestion_at, MoneySum, welfare_of_all, surplus_of_all, rent_of_row}
 use Rattle.market_model.specs.Optimality.{Feasible, Supports, IsOneSided, ProperDuals, named_rows, is_named, same_id, up_in, down_in, bus_price, unit_price, congestion, congestion_terms, welfare_terms}
 use Rattle.market_model.specs.Settlement.{rent_terms, surplus_terms}
 use Rattle.market_system.specs.Growth.{BestFor}
-use Rattle.market_system.specs.MarketNumbers.{IsInjecting}
+use Rattle.market_system.specs.MarketNumbers.{IsBest, IsInjecting, of_flow, output_of, of_price, of_money, offset_of, MarketNumber, is_load, is_shunt, is_limit, is_energy, of_opposite}
 use Rattle.market_system.specs.MarketSystem.{system_of, balance_name, row_name, is_in, choice_dispatch, choice_duals}
 use Rattle.market_system.specs.Outcomes.{PricesOnly}
-use Rattle.market_system.specs.PairLaw.{RefusalsArePairs, InjectingPairs, BestPairs}
+use Rattle.market_system.specs.PairLaw.{RefusalsArePairs}
 use Rattle.market_system.specs.WorkingPairs.{IsRangeOf}
 use Rattle.market_system.proofs.DualLists.{up-made, down-made}
 use Rattle.market_system.proofs.GrowthLaws.{growth_none}
-use Rattle.market_system.proofs.PairCases.{law_of_the_pairs, of_base_flow}
+use Rattle.market_system.proofs.PairCases.{law_of_the_pairs, row_flow_number, row_offset_number, congestion_number}
 use Rattle.market_system.proofs.RowOrder.{is_in-in, is_in-from}
 use Rattle.limit_rows.proofs.ApartLemmas.{names_apart}
-use Rattle.limit_rows.proofs.FactorLemmas.{IsLost, stands}
-use Rattle.limit_screen.specs.Flows.{flow_terms_in, flows_at, line_in, IsFlowsRefusal, of_injection as flows_of_injection, of_line as flows_of_line}
+use Rattle.limit_rows.proofs.FactorLemmas.{stands}
+use Rattle.limit_screen.specs.Flows.{flows_at, line_in, IsFlowsRefusal, of_injection as flows_of_injection, of_line as flows_of_line}
 use Rattle.limit_screen.specs.Screening.{IsRowRefusal, IsScreenRefusal, of_flow as row_of_flow, of_limit as row_of_limit}
 use Rattle.limit_screen.proofs.FlowLemmas.{map_same}
 use Rattle.bus_prices.specs.Prices.{IsPriceRefusal, of_congestion, of_total}
 use Rattle.settlement.specs.Paying.{ArePricesOf, left_terms}
-use Rattle.settlement.specs.Refusals.{IsSettlementRefusal, of_output, of_demand, of_money, of_injection, of_line, of_flow, of_offset, of_limit_less, of_limit_more, of_rent}
+use Rattle.settlement.specs.Refusals.{IsSettlementRefusal, of_output, of_demand, of_money as of_money_left, of_injection, of_line, of_row_flow, of_offset, of_limit_less, of_limit_more, of_rent}
 use Rattle.market_dict.specs.Findings.{IsSolvedBy}
 use Rattle.clear_loop.proofs.BrokenLemmas.{row_is, sized_by, terms_are}
 
@@ -112,45 +112,57 @@ module _ (m : Parts) (g : List Row) (x : Dispatch) (d : Duals Fraction) (market 
 
   module _ (bound : ℕ) (p : Passed Fraction) where
     pairs : RefusalsArePairs m g g solved.choice bound p
-    pairs = law_of_the_pairs m g g solved.choice bound p (growth_none m g) solved.is_choice
+    pairs = law_of_the_pairs m g g solved.choice bound p market (growth_none m g) solved.is_choice
 
     injecting : IsInjecting m g solved.choice x
     injecting = inr (solved.dispatch, best_for)
 
-    at_x : InjectingPairs m g bound p x
-    at_x = pairs.injecting x injecting
+    -- injections and flows
+    flow_sum : (terms : List Term) → FlowSum m x terms → IsRefusedIn terms bound p → IsRangeOf m g bound p
+    flow_sum terms sum a = pairs.sum (Some Quantity) terms (of_flow x terms injecting sum) a
 
     -- where a dispatch is screened
     pub flows_range : IsFlowsRefusal m x bound p → IsRangeOf m g bound p
-    flows_range (flows_of_injection i lt a) = at_x.at_bus i lt a
-    flows_range (flows_of_line l lt a) = at_x.of_line l lt a
+    flows_range (flows_of_injection i lt a) = flow_sum (injection_terms m x i) (injection_at i lt) a
+    flows_range (flows_of_line l lt a) = flow_sum (line_terms m (injection m x) l) (flow_of_line l lt) a
 
-    flow_range : (l : ℕ) (cause : Cause) → l < length m.lines → IsLost m cause → Contains (rows m) (record { line = l; cause = cause })
-        → IsRefusedIn (flow_terms_in m (line_flow m (injection m x)) l cause) bound p → IsRangeOf m g bound p
-    flow_range l Base line lost c a = of_base_flow m g g (growth_none m g) solved.choice solved.is_choice bound p x injecting l line a
-    flow_range l (Branch k) line lost c a = at_x.flow_after l k line lost.0 c a
+    flow_number : (r : Row) → Contains (rows m) r → MarketNumber m g solved.choice Quantity (flow m x r)
+    flow_number r c = row_flow_number m g g (growth_none m g) solved.choice solved.is_choice bound p market x injecting r c
+
+    sized : (r : Row) → Contains (rows m) r → SameSize (size_of (flow m x r)) (flow m x r) → MarketNumber m g solved.choice Quantity (size_of (flow m x r))
+    sized r c (inl e) = subst (MarketNumber m g solved.choice Quantity) (sym e) (flow_number r c)
+    sized r c (inr e) = subst (MarketNumber m g solved.choice Quantity) (sym e) (of_opposite Quantity (flow m x r) (flow_number r c))
 
     row_range : (r : Row) → Contains (rows m) r → IsRowRefusal m (line_in m (flows_at m x)) bound r p → IsRangeOf m g bound p
     row_range r c (row_of_flow a) =
         let s = stands m market r c in
-        flow_range r.line r.cause s.line s.lost c (subst (λ ts. IsRefusedIn ts bound p) (terms_are m market x r.line r.cause s.line s.lost) a)
+        flow_sum (flow_terms m (line_flow m (injection m x)) r) (flow_of_row r c) (subst (λ ts. IsRefusedIn ts bound p) (terms_are m market x r.line r.cause s.line s.lost) a)
     row_range r c (row_of_limit a) =
-        at_x.excess r (size_of (flow m x r)) c (sized_by (flow m x r) (sign_of (flow m x r))) (subst (λ f. IsRefusal Minus (size_of f) (limit m r) bound p) (row_is m market x r c) a)
+        pairs.two Quantity (size_of (flow m x r)) (limit m r) (sized r c (sized_by (flow m x r) (sign_of (flow m x r)))) (is_limit r c)
+        (inr (subst (λ f. IsRefusal Minus (size_of f) (limit m r) bound p) (row_is m market x r c) a))
 
     pub screen_range : IsScreenRefusal m (line_in m (flows_at m x)) bound p → IsRangeOf m g bound p
     screen_range (r, c, a) = row_range r c a
 
     -- where a feasible one is answered
     module _ (feasible : Feasible m x) where
-      best : BestPairs m g g solved.choice bound p
-      best = pairs.best (record { feasible = subst (Feasible m) solved.dispatch feasible; supported = solved.answers.supported })
+      best : IsBest m g solved.choice
+      best = record { feasible = subst (Feasible m) solved.dispatch feasible; supported = solved.answers.supported }
 
       pub price_range : IsPriceRefusal m d bound p → IsRangeOf m g bound p
-      price_range (of_congestion i lt a) = best.of_limits i lt (subst (λ e. IsRefusedIn (congestion_terms m e i) bound p) solved.duals a)
-      price_range (of_total i lt a) = best.of_bus i lt (subst (λ (e : Duals Fraction). IsRefusal Plus e.energy (congestion m e i) bound p) solved.duals a)
+      price_range (of_congestion i lt a) =
+          let terms = congestion_terms m (choice_duals m g solved.choice) i in
+          pairs.sum (Some Price) terms (of_price terms best (congestion_at i lt)) (subst (λ e. IsRefusedIn (congestion_terms m e i) bound p) solved.duals a)
+      price_range (of_total i lt a) =
+          pairs.two Price (choice_duals m g solved.choice).energy (congestion m (choice_duals m g solved.choice) i) is_energy
+          (congestion_number m g g (growth_none m g) solved.choice solved.is_choice bound p best i lt)
+          (inl (subst (λ (e : Duals Fraction). IsRefusal Plus e.energy (congestion m e i) bound p) solved.duals a))
+
+      money : (terms : List Term) → MoneySum m g (choice_dispatch m g solved.choice) (choice_duals m g solved.choice) terms → IsRefusedIn terms bound p → IsRangeOf m g bound p
+      money terms sum a = pairs.sum None terms (of_money terms best sum) a
 
       pub welfare_range : IsRefusedIn (welfare_terms m x) bound p → IsRangeOf m g bound p
-      welfare_range a = best.worth (subst (λ y. IsRefusedIn (welfare_terms m y) bound p) solved.dispatch a)
+      welfare_range a = money (welfare_terms m (choice_dispatch m g solved.choice)) welfare_of_all (subst (λ y. IsRefusedIn (welfare_terms m y) bound p) solved.dispatch a)
 
       module _ (price : ℕ → Fraction) (priced : ArePricesOf m d price) where
         at_unit : (u : ℕ) → u < length m.units → price (unit_at m u).bus ≡ unit_price m d u
@@ -166,18 +178,25 @@ module _ (m : Parts) (g : List Row) (x : Dispatch) (d : Duals Fraction) (market 
         named : (r : Row) → Contains (named_rows m d) r → Contains (rows m) r × Contains g r
         named = named_in_hand m g d prices_only proper
 
+        offset_number : (r : Row) → Contains (rows m) r → MarketNumber m g solved.choice Quantity (row_offset m r)
+        offset_number r c = row_offset_number m g g (growth_none m g) solved.choice solved.is_choice bound p r c
+
         pub settlement_range : IsSettlementRefusal m x price d bound p → IsRangeOf m g bound p
-        settlement_range (of_output u lt a) = best.of_unit u lt (subst (λ y. IsAddedIn (output_terms m y u) bound p) solved.dispatch a)
-        settlement_range (of_demand i lt a) = pairs.demand i lt a
-        settlement_range (of_money a) =
-            best.left (subst (λ y. IsRefusedIn (surplus_terms m y (choice_duals m g solved.choice)) bound p) solved.dispatch
+        settlement_range (of_output u lt a) =
+            let terms = output_terms m (choice_dispatch m g solved.choice) u in
+            pairs.sum (Some Quantity) terms (output_of u best lt) (subst (λ y. IsRefusedIn (output_terms m y u) bound p) solved.dispatch a)
+        settlement_range (of_demand i lt a) = pairs.two Quantity (whole (bus_at m i).pd) (whole (bus_at m i).gs) (is_load i lt) (is_shunt i lt) (inl a)
+        settlement_range (of_money_left a) =
+            money (surplus_terms m (choice_dispatch m g solved.choice) (choice_duals m g solved.choice)) surplus_of_all
+            (subst (λ y. IsRefusedIn (surplus_terms m y (choice_duals m g solved.choice)) bound p) solved.dispatch
             (subst (λ e. IsRefusedIn (surplus_terms m x e) bound p) solved.duals (subst (λ ts. IsRefusedIn ts bound p) left_is a)))
-        settlement_range (of_injection i lt a) = at_x.at_bus i lt a
-        settlement_range (of_line l lt a) = at_x.of_line l lt a
-        settlement_range (of_flow l k line lost c a) = at_x.flow_after l k line lost (named (record { line = l; cause = Branch k }) c).0 a
-        settlement_range (of_offset r c a) = pairs.offset market r (named r c).0 a
-        settlement_range (of_limit_less r c a) = pairs.limit_less r (named r c).0 a
-        settlement_range (of_limit_more r c a) = pairs.limit_more r (named r c).0 a
+        settlement_range (of_injection i lt a) = flow_sum (injection_terms m x i) (injection_at i lt) a
+        settlement_range (of_line l lt a) = flow_sum (line_terms m (injection m x) l) (flow_of_line l lt) a
+        settlement_range (of_row_flow r c a) = flow_sum (flow_terms m (line_flow m (injection m x)) r) (flow_of_row r (named r c).0) a
+        settlement_range (of_offset r c a) = pairs.sum (Some Quantity) (offset_terms m r) (offset_of r (named r c).0) a
+        settlement_range (of_limit_less r c a) = pairs.two Quantity (limit m r) (row_offset m r) (is_limit r (named r c).0) (offset_number r (named r c).0) (inr a)
+        settlement_range (of_limit_more r c a) = pairs.two Quantity (limit m r) (row_offset m r) (is_limit r (named r c).0) (offset_number r (named r c).0) (inl a)
         settlement_range (of_rent r c a) =
-            best.earned r (named r c).1 (subst (λ y. IsRefusedIn (rent_terms m y (choice_duals m g solved.choice) r) bound p) solved.dispatch
+            money (rent_terms m (choice_dispatch m g solved.choice) (choice_duals m g solved.choice) r) (rent_of_row r (named r c).1)
+            (subst (λ y. IsRefusedIn (rent_terms m y (choice_duals m g solved.choice) r) bound p) solved.dispatch
             (subst (λ e. IsRefusedIn (rent_terms m x e r) bound p) solved.duals a))

@@ -1,7 +1,7 @@
 -- A start that fits the frame of a market, and what a clear makes of it.
 use Rattle.std.specs.Prelude.{◌≡◌, ℕ, ◌<◌, List, [], length, map, All, Option, Some, None, Result, Ok, Err, Contains}
 use Rattle.std.proofs.Common.{arith, ap, sym, subst, ◌∙◌, get_or}
-use Rattle.std.proofs.lemmas.List.{get_or-map, length-map}
+use Rattle.market_model.proofs.ChangeLemmas.{same_default}
 use Rattle.fraction_theory.specs.Fraction.{Fraction}
 use Rattle.linear_dict.specs.Dictionaries.{Dictionary, choice_of}
 use Rattle.market_model.specs.declared.answered.Answer.{Answer}
@@ -16,7 +16,6 @@ use Rattle.market_system.specs.Growth.{Growth}
 use Rattle.market_system.specs.Outcomes.{PricesOnly}
 use Rattle.market_system.specs.SolvedLaws.{AreRows}
 use Rattle.market_system.proofs.GrowthLaws.{growth_none}
-use Rattle.limit_rows.specs.declared.places.LimitRow.{LimitRow}
 use Rattle.market_dict.specs.Findings.{OnPassed}
 use Rattle.market_dict.specs.Refusals.{IsTermsRefusal}
 use Rattle.market_dict.specs.Terms.{AreTerms}
@@ -54,22 +53,21 @@ module _ (m : Parts) (k : Kept) (w : Option Dictionary) (t : Option Taken) (view
   first_names : taken.names ≡ map (row_id m) (rows_in taken)
   first_names = names ∙ ap (λ (j : Kept). j.names) view ∙ start_named m k.rows k.names k.dict fits ∙ sym (ap (map (row_id m)) first_rows)
 
-  pub first_inside : (ls : List LimitRow) → ls ≡ taken.rows → All (λ r. Contains (rows_of_market m) r) ls
+  pub first_inside : (ls : List Row) → ls ≡ taken.rows → All (λ r. Contains (rows_of_market m) r) ls
   first_inside ls same i d lt =
       let are : AreRows m (rows_in taken) = subst (AreRows m) (sym first_rows) (start_rows m k.rows k.names k.dict fits) in
-      let r : Row = row_of (get_or ls i d) in
-      let lt' : i < length (ls) = Prim.omega (arith, lt, length-map ls row_of) in
-      let here : Contains (ls) r = (i, lt', get_or-ls i d r lt) in
-      are.rows r (subst (λ (xs : List LimitRow). Contains (xs) r) same here)
+      let r : Row = get_or ls i d in
+      let here : Contains ls r = (i, lt, same_default ls i r d lt) in
+      are.rows r (subst (λ (xs : List Row). Contains xs r) same here)
 
   module _ {N : Type 0} (worth : N → Fraction) (warm : Option Dictionary) (start : HoldsStart m k.rows warm) where
     pub first_stop : (bound : ℕ) (s : Stop N) → IsMarket m → OnPassed s (λ p. IsTermsRefusal m bound (passed_at worth p)) → StopsInRange worth bound m k.rows s
     first_stop bound s market refused = terms_stop worth bound m k.rows k.rows (choice_of start.0) s market (growth_none m k.rows) (holds_choice m k.rows start.0 market start.2) refused
 
-    pub first_in_hand : (terms : Terms N) (ls : List LimitRow) → ls ≡ taken.rows → AreTerms worth m (ls) terms → IsInHand worth m (record { warm = warm; terms = terms; taken = taken })
+    pub first_in_hand : (terms : Terms N) (ls : List Row) → ls ≡ taken.rows → AreTerms worth m ls terms → IsInHand worth m (record { warm = warm; terms = terms; taken = taken })
     first_in_hand terms ls same are = record {
       start = subst (λ g. HoldsStart m g warm) (sym first_rows) start;
-      terms = subst (λ (xs : List LimitRow). AreTerms worth m (xs) terms) same are;
+      terms = subst (λ (xs : List Row). AreTerms worth m xs terms) same are;
       names = first_names;
     }
 

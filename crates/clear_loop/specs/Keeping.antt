@@ -9,7 +9,6 @@ use Rattle.market_model.specs.declared.limits.Cause.{Cause}
 use Rattle.market_model.specs.declared.limits.Row.{Row}
 use Rattle.market_model.specs.declared.limits.Cause.TheVariants.{Base, Branch}
 use Rattle.market_model.specs.LimitRows.{row_id}
-use Rattle.limit_rows.specs.Groups.{cause_of}
 use Rattle.market_dict.specs.Holding.{Holds}
 
 -- the dictionary, and its limit rows in the order in which they were taken, with their names
@@ -32,17 +31,21 @@ abbrev pub FitsFrame : Parts → Kept → Type 0
 FitsFrame m k = IsStartOf m k.rows k.names k.dict
 
 -- ---- its code
-abbrev pub lost_in : Cause → Option ℕ
-lost_in Base = None
-lost_in (Branch k) = Some k
+abbrev pub coded_as : Cause → Option ℕ
+coded_as Base = None
+coded_as (Branch k) = Some k
 
-abbrev pub cause_back : (c : Cause) → cause_of (lost_in c) ≡ c
-cause_back Base = refl
-cause_back (Branch k) = refl
+abbrev pub read_as : Option ℕ → Cause
+read_as None = Base
+read_as (Some k) = Branch k
+
+abbrev pub read_back : (c : Cause) → read_as (coded_as c) ≡ c
+read_back Base = refl
+read_back (Branch k) = refl
 
 abbrev pub row_code : Coded Row
-row_code = code_by (ℕ × Option ℕ) (coded× coded_ℕ (coded_option coded_ℕ)) (λ r. (r.line, lost_in r.cause)) (λ p. record { line = p.0; cause = cause_of p.1 })
-    (λ r. ap (λ (c : Cause). record { line = r.line; cause = c }) (cause_back r.cause))
+row_code = code_by (ℕ × Option ℕ) (coded× coded_ℕ (coded_option coded_ℕ)) (λ r. (r.line, coded_as r.cause)) (λ p. record { line = p.0; cause = read_as p.1 })
+    (λ r. ap (λ (c : Cause). record { line = r.line; cause = c }) (read_back r.cause))
 
 abbrev pub name_code : Coded RowId
 name_code = code_by (ℕ × ℕ) (coded× coded_ℕ coded_ℕ) (λ n. (n.branch, n.outage)) (λ p. record { branch = p.0; outage = p.1 }) (λ _. refl)

@@ -11,17 +11,17 @@ ghost use Rattle.clear_loop.specs.Starts.{names_taken, rows_in, rows_taken};
 
 use dual_restart::Warm;
 use exact_fraction::Exact;
-use limit_rows::{LimitRow, name_at};
+use limit_rows::name_at;
 use linear_dict::Dict;
 use market_dict::{Stop, Terms, take_bounds, take_limit};
-use market_model::{Market, RowId};
+use market_model::{Market, Row, RowId};
 use plain_list::{List, Memory};
 use std::alloc::Global;
 
 /// The limits taken, in the order in which they were.
 #[derive(Drop)]
 pub(crate) struct Taken {
-    pub rows: List<LimitRow>,
+    pub rows: List<Row>,
     pub names: List<RowId>,
 }
 
@@ -58,7 +58,7 @@ pub(crate) fn started<N: Exact>(dict: Dict<N>) -> Warm<N>
 }
 
 /// Puts a limit behind those taken.
-fn put_row(market: &Market, taken: &mut Taken, row: LimitRow) -> Result<(), Memory>
+fn put_row(market: &Market, taken: &mut Taken, row: Row) -> Result<(), Memory>
     requires row { Contains (rows market.now) row }
     ensures rows { IfOk result (λ _. taken.new.rows ≡ taken.old.rows ++ row ∷ []) }
     ensures names { IfOk result (λ _. taken.new.names ≡ taken.old.names ++ row_id market.now row ∷ []) }
@@ -76,7 +76,7 @@ pub(crate) fn with_row<N: Exact>(
     dict: Dict<N>,
     terms: Terms<N>,
     taken: Taken,
-    row: LimitRow,
+    row: Row,
 ) -> Result<Hand<N>, Stop<N>>
     requires holds { Holds market.now (rows_in taken) dict }
     requires terms { AreTerms N.value market.now (rows_in taken) terms }

@@ -11,10 +11,10 @@ ghost use Rattle.limit_screen.specs.Screening.{IsScreenRefusal};
 ghost use Rattle.market_dict.specs.Findings.{OnPassed};
 
 use exact_fraction::Exact;
-use limit_rows::{LimitRow, row_named};
-use limit_screen::{datum, flows, worst};
+use limit_rows::row_named;
+use limit_screen::{flows, worst};
 use market_dict::Stop;
-use market_model::Market;
+use market_model::{Market, Row, datum};
 use std::alloc::Global;
 
 /// The limit that a dispatch breaks by the most, and the first of those in the market's order; none where all hold.
@@ -22,7 +22,7 @@ pub(crate) fn broken<N: Exact>(
     alloc: Global,
     market: &Market,
     dispatch: &[N],
-) -> Result<Option<LimitRow>, Stop<N>>
+) -> Result<Option<Row>, Stop<N>>
     requires { length dispatch.now ≡ length market.now.blocks }
     ensures screened { IfOk result (λ found. MatchOption found
         ((r : Row) → Contains (rows market.now) r → Within (most_flow market.now r) (flow market.now (dispatch_of N.value dispatch.now) r))

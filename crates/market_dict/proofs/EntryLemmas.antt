@@ -13,12 +13,14 @@ use Rattle.market_model.specs.declared.participants.Block.{Block}
 use Rattle.market_model.specs.declared.participants.Parts.{Parts}
 use Rattle.market_model.specs.Dispatch.{places, signed, block_at, unit_at}
 use Rattle.market_model.specs.declared.limits.Row.{Row}
-use Rattle.market_model.specs.LimitRows.{rows, row_id, row_factor, place_of_line}
+use Rattle.market_model.specs.declared.limits.Cause.{Cause}
+use Rattle.market_model.specs.declared.limits.Cause.TheVariants.{Branch}
+use Rattle.market_model.specs.LimitRows.{rows, row_id, row_factor, place_of_line, bears, causes, lines_of, rows_of}
 use Rattle.market_model.specs.Market.{IsMarket}
 use Rattle.market_model.proofs.MarketSums.{unit_bus-in}
-use Rattle.limit_rows.specs.Groups.{bears, groups, is_named, lines_of, rows_of}
+use Rattle.limit_rows.specs.Naming.{is_named}
 use Rattle.limit_rows.proofs.ApartLemmas.{names_apart}
-use Rattle.limit_rows.proofs.GroupLemmas.{rows-groups}
+use Rattle.limit_rows.proofs.GroupLemmas.{rows-causes}
 use Rattle.limit_rows.proofs.NumberingLemmas.{length-rows_of}
 use Rattle.limit_rows.proofs.PlaceLemmas.{position_named}
 use Rattle.market_system.specs.MarketSystem.{row_name, block_sign, block_coefficient}
@@ -65,14 +67,14 @@ flat_few f n few (x ∷ xs) =
 
 pub rows_few : (m : Parts) → IsMarket m → length (rows m) ≤ 1002000
 rows_few m market =
-    let each : (lost : Option ℕ) → length (rows_of m lost) ≤ 2000 = λ lost.
-    let long : length (rows_of m lost) ≡ length (lines_of m lost) = length-rows_of m lost in
+    let each : (cause : Cause) → length (rows_of m cause) ≤ 2000 = λ cause.
+    let long : length (rows_of m cause) ≡ length (lines_of m lost) = length-rows_of m cause in
     let few : length (lines_of m lost) ≤ length (places (length m.lines)) = filtered_few (bears m lost) (places (length m.lines)) in
     let counted : length (places (length m.lines)) ≡ length m.lines = length-range_with_len 0 (length m.lines) in
     Prim.omega (arith, long, few, counted, market.line_count) in
-    let all : length (flat_map (rows_of m) (groups m)) ≤ length (groups m) * 2000 = flat_few (rows_of m) 2000 each (groups m) in
-    let groups_few : length (groups m) ≤ 501 = Prim.omega (arith, market.outage_count, length-map m.outages (λ (row : ℕ). Some (place_of_line m row))) in
-    let same : length (rows m) ≡ length (flat_map (rows_of m) (groups m)) = ap length (rows-groups m) in
+    let all : length (flat_map (rows_of m) (causes m)) ≤ length (causes m) * 2000 = flat_few (rows_of m) 2000 each (causes m) in
+    let groups_few : length (causes m) ≤ 501 = Prim.omega (arith, market.outage_count, length-map m.outages (λ (row : ℕ). Branch (place_of_line m row))) in
+    let same : length (rows m) ≡ length (flat_map (rows_of m) (causes m)) = ap length (rows-causes m) in
     Prim.omega (arith, all, groups_few, same)
 
 -- ---- the name of a row by its position

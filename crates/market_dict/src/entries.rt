@@ -6,9 +6,8 @@ ghost use Rattle.market_model.specs.LimitRows.{rows, row_factor};
 ghost use Rattle.market_system.specs.MarketSystem.{block_sign, block_coefficient};
 
 use exact_fraction::Exact;
-use limit_rows::{LimitRow, factor_at};
-use limit_screen::datum;
-use market_model::{Block, Market, Side};
+use limit_rows::factor_at;
+use market_model::{Block, Market, Row, Side, datum};
 use plain_list::{List, Memory};
 use std::alloc::Global;
 
@@ -64,7 +63,7 @@ pub(crate) fn balance_entries<N: Exact>(alloc: Global, market: &Market) -> Resul
 }
 
 /// By how much a MW of a block raises the flow of a limit.
-fn row_entry<N: Exact>(market: &Market, row: LimitRow, block: &Block) -> N
+fn row_entry<N: Exact>(market: &Market, row: Row, block: &Block) -> N
     requires row { Contains (rows market.now) row }
     requires unit { block.now.unit < length market.now.units }
     ensures { N.value result ≡ signed block.now.side (row_factor market.now row (unit_at market.now block.now.unit).bus) }
@@ -77,7 +76,7 @@ fn row_entry<N: Exact>(market: &Market, row: LimitRow, block: &Block) -> N
 pub(crate) fn row_entries<N: Exact>(
     alloc: Global,
     market: &Market,
-    row: LimitRow,
+    row: Row,
 ) -> Result<List<N>, Memory>
     requires row { Contains (rows market.now) row }
     ensures { IfOk result (λ entries. map N.value entries ≡ map (block_coefficient market.now row) (places (length market.now.blocks))) }

@@ -21,9 +21,8 @@ ghost use Rattle.market_dict.specs.Holding.{Holds, HoldsSystem};
 use crate::stop::Stop;
 use exact_fraction::{Exact, Passed, Sign};
 use limit_rows::id;
-use limit_screen::datum;
 use linear_dict::{Dict, Place};
-use market_model::{Dual, Duals, Farkas, Market, RowId};
+use market_model::{Dual, Duals, Farkas, Market, RowId, datum};
 use plain_list::{List, Memory};
 use std::alloc::Global;
 

@@ -10,9 +10,9 @@ ghost use Rattle.market_dict.specs.Holding.{Holds};
 use crate::entries::{balance_entries, block_names, row_entries};
 use crate::stop::Stop;
 use exact_fraction::Exact;
-use limit_rows::{LimitRow, name_at, position};
+use limit_rows::{name_at, position};
 use linear_dict::{AddStop, Dict};
-use market_model::Market;
+use market_model::{Market, Row};
 use plain_list::Memory;
 use std::alloc::Global;
 
@@ -27,7 +27,7 @@ pub fn start<N: Exact>(alloc: Global, market: &Market) -> Result<Dict<N>, Memory
 }
 
 /// The name of a limit's variable: its place among the market's limits, behind the blocks and the balance.
-fn row_name(market: &Market, row: LimitRow) -> u32
+fn row_name(market: &Market, row: Row) -> u32
     requires { Contains (rows market.now) row }
     ensures { result ≡ row_name_of market.now row }
 {
@@ -43,7 +43,7 @@ pub fn take_limit<N: Exact>(
     alloc: Global,
     market: &Market,
     dict: &mut Dict<N>,
-    row: LimitRow,
+    row: Row,
 ) -> Result<(), Stop<N>>
     requires row { Contains (rows market.now) row }
     requires holds { (g : List Row) × Holds market.now g dict.old × ¬ (Contains g row) }

@@ -19,9 +19,9 @@ ghost use Rattle.market_dict.specs.Findings.{OnPassed};
 use crate::entries::zeros;
 use crate::stop::Stop;
 use exact_fraction::{Exact, Passed};
-use limit_rows::{LimitRow, limit_at};
-use limit_screen::{datum, flows, row_flow};
-use market_model::{Block, Market, Side};
+use limit_rows::limit_at;
+use limit_screen::{flows, row_flow};
+use market_model::{Block, Market, Row, Side, datum};
 use plain_list::{List, Memory};
 use simplex_core::Bounds;
 use std::alloc::Global;
@@ -117,7 +117,7 @@ fn first_bounds<N: Exact>(
 }
 
 /// By how much blocks may raise the flow of a limit: what the flow leaves of it on either side where nothing is accepted.
-fn row_bounds<N: Exact>(market: &Market, idle: &[N], row: LimitRow) -> Result<Bounds<N>, Passed<N>>
+fn row_bounds<N: Exact>(market: &Market, idle: &[N], row: Row) -> Result<Bounds<N>, Passed<N>>
     requires row { Contains (rows market.now) row }
     requires idle { map N.value idle.now ≡ flows_at market.now (empty market.now) }
     ensures low { IfOk result (λ bounds. N.value bounds.low ≡ least_added market.now row) }
@@ -136,10 +136,10 @@ fn row_bounds<N: Exact>(market: &Market, idle: &[N], row: LimitRow) -> Result<Bo
 pub fn terms_of<N: Exact>(
     alloc: Global,
     market: &Market,
-    taken: &[LimitRow],
+    taken: &[Row],
 ) -> Result<Terms<N>, Stop<N>>
     requires rows { All (λ r. Contains (rows market.now) r) taken.now }
-    ensures terms { IfOk result (AreTerms N.value market.now (taken.now)) }
+    ensures terms { IfOk result (AreTerms N.value market.now taken.now) }
     ensures cause { IfErr result (λ stop. OnPassed stop (λ p. IsTermsRefusal market.now N.bound (passed_at N.value p))) }
 {
     let prices = block_prices(alloc, market)?;
@@ -161,7 +161,7 @@ pub fn terms_of<N: Exact>(
 pub fn take_bounds<N: Exact>(
     market: &Market,
     terms: &mut Terms<N>,
-    row: LimitRow,
+    row: Row,
 ) -> Result<(), Stop<N>>
     requires row { Contains (rows market.now) row }
     requires terms { (g : List Row) × AreTerms N.value market.now g terms.old }

@@ -31,10 +31,10 @@ use Rattle.limit_rows.proofs.FactorLemmas.{IsLost, stands}
 use Rattle.market_model.specs.declared.limits.Cause.{Cause}
 use Rattle.market_model.specs.declared.limits.Row.{Row}
 use Rattle.market_model.specs.declared.limits.Cause.TheVariants.{Base, Branch}
-use Rattle.market_model.specs.LimitRows.{rows, limit, shift_factor, line_offset, line_terms, line_flow, flow_terms, flow_terms_in, offset_terms_in, row_factor, factor_terms, factor_terms_in, flow}
+use Rattle.market_model.specs.LimitRows.{rows, limit, shift_factor, line_offset, line_terms, line_flow, flow_terms, flow_terms_in, offset_terms, offset_terms_in, row_offset, row_factor, factor_terms, factor_terms_in, flow}
 use Rattle.market_model.specs.Market.{IsMarket}
 use Rattle.market_model.specs.NamedSums.{SameSize, term_at, IsNextTerm, AreFactors, IsSumStep, IsRefusedIn, Adds, IsRefusal}
-use Rattle.market_model.specs.Optimality.{pull, up_of, down_of, congestion, price_by, price_terms, bus_price, unit_price}
+use Rattle.market_model.specs.Optimality.{pull, up_of, down_of, congestion, congestion_by, congestion_terms, price_by, price_terms, bus_price, unit_price}
 use Rattle.market_model.specs.Infeasibility.{where_above, part_above, block_weight, limit_terms, farkas_terms}
 use Rattle.market_model.specs.SumTables.{FlowSum, injection_at, balance_of_all, flow_of_line, flow_of_row, PriceSum, congestion_at, price_at}
 use Rattle.market_system.specs.Growth.{Growth}
@@ -226,8 +226,8 @@ module _ (m : Parts) (taken g : List Row) (reached : Growth m taken g) (h : Choi
     unfolding line_flow
     lined l lt = whole_sum Quantity (line_terms m (injection m x) l) (of_flow x (line_terms m (injection m x) l) injecting (flow_of_line l lt))
 
-    row_flowed : (r : Row) → Contains (rows m) r → Number Quantity (flow m x r)
-    row_flowed r c = whole_sum Quantity (flow_terms m (line_flow m (injection m x)) r) (of_flow x (flow_terms m (line_flow m (injection m x)) r) injecting (flow_of_row r c))
+    pub row_flow_number : (r : Row) → Contains (rows m) r → Number Quantity (flow m x r)
+    row_flow_number r c = whole_sum Quantity (flow_terms m (line_flow m (injection m x)) r) (of_flow x (flow_terms m (line_flow m (injection m x)) r) injecting (flow_of_row r c))
 
     balanced : Number Quantity (balance m x)
     unfolding balance
@@ -253,6 +253,10 @@ module _ (m : Parts) (taken g : List Row) (reached : Growth m taken g) (h : Choi
     flows_scaled terms (flow_of_row r c) = let s = stands m market r c in after r.line r.cause s.line s.lost
 
   -- ---- prices
+  pub congestion_number : IsBest m g h → (i : ℕ) → i < length m.buses → Number Price (congestion m (choice_duals m g h) i)
+  unfolding congestion_by
+  congestion_number best i lt = whole_sum Price (congestion_terms m (choice_duals m g h) i) (of_price (congestion_terms m (choice_duals m g h) i) best (congestion_at i lt))
+
   module _ (kind : Kind) (d : Duals Fraction) (ups : (r : Row) → Contains (rows m) r → Number kind (up_of m d r)) (downs : (r : Row) → Contains (rows m) r → Number kind (down_of m d r)) where
     prices_scaled : (terms : List Term) → PriceSum m d terms → AreScaled kind terms
     unfolding row_factor
@@ -263,6 +267,10 @@ module _ (m : Parts) (taken g : List Row) (reached : Growth m taken g) (h : Choi
     prices_scaled terms (price_at i lt) = (tt, (tt, tt))
 
   -- ---- the fixed offset and the factor of a row
+  pub row_offset_number : (r : Row) → Contains (rows m) r → Number Quantity (row_offset m r)
+  unfolding row_offset
+  row_offset_number r c = whole_sum Quantity (offset_terms m r) (offset_of r c)
+
   offset_scaled : (l : ℕ) (cause : Cause) → l < length m.lines → IsLost m cause → AreScaled Quantity (offset_terms_in m l cause)
   offset_scaled l Base lt lost = (tt, tt)
   offset_scaled l (Branch k) lt lost = (tt, (inl (is_loss l k lt lost.0, alone (line_offset m k) (is_line_offset k lost.0)), tt))
@@ -278,8 +286,8 @@ module _ (m : Parts) (taken g : List Row) (reached : Growth m taken g) (h : Choi
 
     left_scaled : (r : Row) → Contains (rows m) r → AreScaled Quantity (limit_terms m d r)
     left_scaled r c = (
-      inl (is_farkas_up d r f c, difference (limit m r) (flow m (empty m) r) (is_limit r c) (row_flowed market (empty m) idle r c)),
-      (inl (is_farkas_down d r f c, sum (limit m r) (flow m (empty m) r) (is_limit r c) (row_flowed market (empty m) idle r c)), tt),
+      inl (is_farkas_up d r f c, difference (limit m r) (flow m (empty m) r) (is_limit r c) (row_flow_number market (empty m) idle r c)),
+      (inl (is_farkas_down d r f c, sum (limit m r) (flow m (empty m) r) (is_limit r c) (row_flow_number market (empty m) idle r c)), tt),
     )
 
     unit_bus : (j : ℕ) → j < length m.blocks → (unit_at m (block_at m j).unit).bus < length m.buses

@@ -6,5 +6,5 @@ use Rattle.cert_sums.specs.Results.{AreFlows}
 use Rattle.cert_verify.specs.Reasons.{is_broken}
 use Rattle.cert_verify.proofs.limits.broken_limit.Given as goal
 
-abbrev pub invariant-loop-group : goal.invariant-loop-group
-invariant-loop-group g l = (x : Dispatch) → AreFlows l.market x (map g.N.Exact.value l.flows) → find (is_broken l.market x) (rows_before l.market l.group) ≡ None
+abbrev pub invariant-loop-place : goal.invariant-loop-place
+invariant-loop-place g l = (x : Dispatch) → AreFlows l.market x (map g.N.Exact.value l.flows) → find (is_broken l.market x) (rows_before l.market l.place) ≡ None

@@ -7,6 +7,6 @@ use Rattle.cert_verify.specs.Certificates.{duals_by}
 use Rattle.cert_verify.specs.Naming.{prices_of}
 use Rattle.cert_verify.proofs.naming.named_rows.Given as goal
 
-abbrev pub invariant-loop-group : goal.invariant-loop-group
-invariant-loop-group g l =
-    (energy : Fraction) → map (priced_at g.N.Exact.value) l.named ≡ prices_of l.market (duals_by energy (map (dual_at g.N.Exact.value) l.limits)) (rows_before l.market l.group)
+abbrev pub invariant-loop-place : goal.invariant-loop-place
+invariant-loop-place g l =
+    (energy : Fraction) → map (priced_at g.N.Exact.value) l.named ≡ prices_of l.market (duals_by energy (map (dual_at g.N.Exact.value) l.limits)) (rows_before l.market l.place)

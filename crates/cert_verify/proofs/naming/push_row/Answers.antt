@@ -12,7 +12,7 @@ use Rattle.cert_verify.proofs.RowLemmas.{lost_below}
 use Rattle.cert_verify.proofs.naming.push_row.Goals as goal
 
 pub named_at-requires-clause-lost : goal.named_at-requires-clause-lost
-named_at-requires-clause-lost g c = lost_below c.args.market.now c.lines-lines.ensures.market c.args.lost c.requires.lost
+named_at-requires-clause-lost g c = lost_below c.args.market.now c.lines-lines.ensures.market c.args.cause c.requires.cause
 
 pub returns-in-Some : goal.returns-in-Some
 returns-in-Some g c = λ ds energy is.
@@ -22,8 +22,8 @@ returns-in-Some g c = λ ds energy is.
     let there = sym c.has_row.ensures ∙ c.if-has_row.true in
     let here = rw c.in-Some.is at c.named_at.ensures ds energy is in
     push_ok c.push.result _ _ _ c.push.ensures
-    (λ e. ap (map (priced_at value)) e ∙ row_kept value m d (row_on c.args.lost c.args.line) c.args.named.now c.in-Some.entry here
-    ∙ ap (λ (b : Bool). map (priced_at value) c.args.named.now ++ prices_of m d (if b then row_on c.args.lost c.args.line ∷ [] else [])) (sym there))
+    (λ e. ap (map (priced_at value)) e ∙ row_kept value m d (row_on c.args.cause c.args.line) c.args.named.now c.in-Some.entry here
+    ∙ ap (λ (b : Bool). map (priced_at value) c.args.named.now ++ prices_of m d (if b then row_on c.args.cause c.args.line ∷ [] else [])) (sym there))
 
 pub returns-in-None : goal.returns-in-None
 returns-in-None g c = λ ds energy is.
@@ -32,8 +32,8 @@ returns-in-None g c = λ ds energy is.
     let d = duals_by energy (map (dual_at value) ds) in
     let there = sym c.has_row.ensures ∙ c.if-has_row.true in
     let here = rw c.in-None.is at c.named_at.ensures ds energy is in
-    row_passed value m d (row_on c.args.lost c.args.line) c.args.named.now here
-    ∙ ap (λ (b : Bool). map (priced_at value) c.args.named.now ++ prices_of m d (if b then row_on c.args.lost c.args.line ∷ [] else [])) (sym there)
+    row_passed value m d (row_on c.args.cause c.args.line) c.args.named.now here
+    ∙ ap (λ (b : Bool). map (priced_at value) c.args.named.now ++ prices_of m d (if b then row_on c.args.cause c.args.line ∷ [] else [])) (sym there)
 
 pub returns-else-has_row : goal.returns-else-has_row
 returns-else-has_row g c = λ ds energy is.
@@ -41,4 +41,4 @@ returns-else-has_row g c = λ ds energy is.
     let value = g.N.Exact.value in
     let d = duals_by energy (map (dual_at value) ds) in
     let there = sym c.has_row.ensures ∙ c.if-has_row.false in
-    sym (append-nil (map (priced_at value) c.args.named.now)) ∙ ap (λ (b : Bool). map (priced_at value) c.args.named.now ++ prices_of m d (if b then row_on c.args.lost c.args.line ∷ [] else [])) (sym there)
+    sym (append-nil (map (priced_at value) c.args.named.now)) ∙ ap (λ (b : Bool). map (priced_at value) c.args.named.now ++ prices_of m d (if b then row_on c.args.cause c.args.line ∷ [] else [])) (sym there)

@@ -8,7 +8,6 @@ use Rattle.market_model.specs.Optimality.{Feasible, Within}
 use Rattle.market_model.specs.Valued.{duals_at}
 use Rattle.market_system.specs.Outcomes.{PricesOnly}
 use Rattle.market_system.proofs.GrowthLaws.{growth_none}
-use Rattle.limit_rows.specs.declared.places.LimitRow.{LimitRow}
 use Rattle.limit_screen.specs.Flows.{dispatch_of}
 use Rattle.market_dict.specs.Findings.{IsFound, IsSolvedBy}
 use Rattle.market_dict.specs.declared.solving.Found.{Found}
@@ -118,7 +117,7 @@ with_row-requires-clause-row g c =
     let m = c.args.market.now in
     let x = dispatch_of value c.slice-3.result.now in
     let worst =
-    subst (λ (o : Option LimitRow). MatchOption o ((r : Row) → Contains (rows m) r → Within (most_flow m r) (flow m x r)) (λ row. (place : ℕ) × IsWorst m (flow m x) place row)) c.in-Some.is c.in_ok-row.ensures.screened in
+    subst (λ (o : Option Row). MatchOption o ((r : Row) → Contains (rows m) r → Within (most_flow m r) (flow m x r)) (λ row. (place : ℕ) × IsWorst m (flow m x) place row)) c.in-Some.is c.in_ok-row.ensures.screened in
     worst_inside m x worst.0 c.in-Some.row worst.1
 
 pub with_row-requires-clause-broken : goal.with_row-requires-clause-broken
@@ -133,7 +132,7 @@ with_row-requires-clause-broken g c =
     let best : IsFound value m rs (found.Best c.in-Best.dict c.in-Best.dispatch c.in-Best.duals) =
     subst (λ (f : Found g.row.N.Denot). IsFound value m rs f) c.in-Best.is (c.in_ok-dict.ensures.found rs holds) in
     let worst =
-    subst (λ (o : Option LimitRow). MatchOption o ((r : Row) → Contains (rows m) r → Within (most_flow m r) (flow m x r)) (λ row. (place : ℕ) × IsWorst m (flow m x) place row)) c.in-Some.is c.in_ok-row.ensures.screened in (
+    subst (λ (o : Option Row). MatchOption o ((r : Row) → Contains (rows m) r → Within (most_flow m r) (flow m x r)) (λ row. (place : ℕ) × IsWorst m (flow m x) place row)) c.in-Some.is c.in_ok-row.ensures.screened in (
       x,
       best_for m rs x (duals_at value c.in-Best.duals) c.lines-lines.ensures.market (subst (λ xs. IsSolvedBy m rs (dispatch_of value xs) (duals_at value c.in-Best.duals)) (sym c.slice-3.ensures) best.1),
       worst_broken m x worst.0 c.in-Some.row worst.1,
@@ -163,7 +162,7 @@ answer_of-requires-clause-feasible g c =
     let best : IsFound value m rs (found.Best c.in-Best.dict c.in-Best.dispatch c.in-Best.duals) =
     subst (λ (f : Found g.row.N.Denot). IsFound value m rs f) c.in-Best.is (c.in_ok-dict.ensures.found rs holds) in
     let all =
-    subst (λ (o : Option LimitRow). MatchOption o ((r : Row) → Contains (rows m) r → Within (most_flow m r) (flow m x r)) (λ row. (place : ℕ) × IsWorst m (flow m x) place row)) c.in-None.is c.in_ok-row.ensures.screened in
+    subst (λ (o : Option Row). MatchOption o ((r : Row) → Contains (rows m) r → Within (most_flow m r) (flow m x r)) (λ row. (place : ℕ) × IsWorst m (flow m x) place row)) c.in-None.is c.in_ok-row.ensures.screened in
     subst (λ xs. Feasible m (dispatch_of value xs)) c.slice-3.ensures
     (feasible_over_all m rs x (best_for m rs x d c.lines-lines.ensures.market (subst (λ xs. IsSolvedBy m rs (dispatch_of value xs) d) (sym c.slice-3.ensures) best.1)) all)
 
@@ -192,7 +191,7 @@ returns-in_ok-with_row-in-Some-clause-round g c =
     let best : IsFound value m rs (found.Best c.in-Best.dict c.in-Best.dispatch c.in-Best.duals) =
     subst (λ (f : Found g.row.N.Denot). IsFound value m rs f) c.in-Best.is (c.in_ok-dict.ensures.found rs holds) in
     let worst =
-    subst (λ (o : Option LimitRow). MatchOption o ((r : Row) → Contains (rows m) r → Within (most_flow m r) (flow m x r)) (λ row. (place : ℕ) × IsWorst m (flow m x) place row)) c.in-Some.is c.in_ok-row.ensures.screened in (
+    subst (λ (o : Option Row). MatchOption o ((r : Row) → Contains (rows m) r → Within (most_flow m r) (flow m x r)) (λ row. (place : ℕ) × IsWorst m (flow m x) place row)) c.in-Some.is c.in_ok-row.ensures.screened in (
       c.in_ok-with_row-in-Some.ensures.hand,
       (
         c.in-Some.row,

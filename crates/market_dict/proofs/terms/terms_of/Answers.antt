@@ -2,7 +2,7 @@ use Rattle.std.proofs.Common.{rules, Err, ◌+◌, ◌≡◌, ◌∙◌, ◌++�
 use Rattle.std.specs.Prelude.{slice_index_or}
 use Rattle.std.proofs.lemmas.List.{take_more, map-append}
 use Rattle.market_model.specs.declared.limits.Row.{Row}
-use Rattle.limit_rows.specs.declared.places.LimitRow.{LimitRow}
+use Rattle.market_model.specs.declared.limits.Cause.TheVariants.{Base}
 use Rattle.market_dict.specs.Refusals.{of_flows}
 use Rattle.market_dict.specs.Terms.{AreTerms}
 use Rattle.market_dict.proofs.StopLemmas.{on_passed_weaker}
@@ -21,7 +21,6 @@ loop-row-preserved g c =
     let m = c.args.market.now in
     let k = c.loop-row.row-index in
     let taken = c.args.taken.now in
-    let none : LimitRow = record { line = 0; lost = None } in
-    let more : map row_of (take (k + 1) taken) ≡ map row_of (take k taken) ++ row_of (slice_index_or taken k none) ∷ [] =
-    ap (map row_of) (take_more taken k none c.loop-row-test.true) ∙ map-append row_of (take k taken) (slice_index_or taken k none ∷ []) in
-    subst (λ (rs : List Row). AreTerms g.N.Exact.value m rs c.take_bounds.new.terms) (sym more) (c.in_ok-take_bounds.ensures.taken (map row_of (take k taken)) c.loop-row.invariant)
+    let none : Row = record { line = 0; cause = Base } in
+    let more : take (k + 1) taken ≡ take k taken ++ slice_index_or taken k none ∷ [] = take_more taken k none c.loop-row-test.true in
+    subst (λ (rs : List Row). AreTerms g.N.Exact.value m rs c.take_bounds.new.terms) (sym more) (c.in_ok-take_bounds.ensures.taken (take k taken) c.loop-row.invariant)

@@ -3,4 +3,4 @@ use Rattle.market_dict.specs.Terms.{AreTerms}
 use Rattle.market_dict.proofs.terms.terms_of.Given as goal
 
 abbrev pub invariant-loop-row : goal.invariant-loop-row
-invariant-loop-row g l = AreTerms g.N.Exact.value l.market (map row_of (take l.row-index l.taken)) l.terms
+invariant-loop-row g l = AreTerms g.N.Exact.value l.market (take l.row-index l.taken) l.terms

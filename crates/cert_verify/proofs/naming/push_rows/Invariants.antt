@@ -6,9 +6,9 @@ use Rattle.cert_sums.specs.Named.{priced_at}
 use Rattle.cert_verify.specs.Certificates.{duals_by}
 use Rattle.cert_verify.specs.Naming.{entry_of, prices_of}
 use Rattle.cert_verify.proofs.FindLemmas.{rows_to}
-use Rattle.cert_verify.proofs.naming.push_group.Given as goal
+use Rattle.cert_verify.proofs.naming.push_rows.Given as goal
 
 abbrev pub invariant-loop-line : goal.invariant-loop-line
 invariant-loop-line g l =
     (ds : List (Dual g.row.N.Denot)) (energy : Fraction) → l.duals.entries ≡ map entry_of ds
-    → map (priced_at g.N.Exact.value) l.named ≡ map (priced_at g.N.Exact.value) l.fn.named ++ prices_of l.market (duals_by energy (map (dual_at g.N.Exact.value) ds)) (rows_to l.market l.lost l.line)
+    → map (priced_at g.N.Exact.value) l.named ≡ map (priced_at g.N.Exact.value) l.fn.named ++ prices_of l.market (duals_by energy (map (dual_at g.N.Exact.value) ds)) (rows_to l.market l.cause l.line)

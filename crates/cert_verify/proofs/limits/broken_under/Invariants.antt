@@ -4,7 +4,7 @@ use Rattle.market_model.specs.Dispatch.{Dispatch}
 use Rattle.cert_sums.specs.Results.{AreFlows}
 use Rattle.cert_verify.specs.Reasons.{is_broken}
 use Rattle.cert_verify.proofs.FindLemmas.{rows_to}
-use Rattle.cert_verify.proofs.limits.broken_after.Given as goal
+use Rattle.cert_verify.proofs.limits.broken_under.Given as goal
 
 abbrev pub invariant-loop-line : goal.invariant-loop-line
-invariant-loop-line g l = (x : Dispatch) → AreFlows l.market x (map g.N.Exact.value l.flows) → find (is_broken l.market x) (rows_to l.market l.lost l.line) ≡ None
+invariant-loop-line g l = (x : Dispatch) → AreFlows l.market x (map g.N.Exact.value l.flows) → find (is_broken l.market x) (rows_to l.market l.cause l.line) ≡ None
