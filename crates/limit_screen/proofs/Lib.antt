@@ -1,2 +1,1 @@
-pub mod FlowLemmas
 pub mod ScreenLemmas

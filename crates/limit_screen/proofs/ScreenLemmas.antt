@@ -1,15 +1,16 @@
--- The worst of some rows, with pone row more.
+-- The worst of some rows, with one row more.
 use Rattle.std.specs.Prelude.{◌≡◌, ◌⊎◌, ℕ, ◌+◌, ◌-◌, ◌<◌, ◌≤◌, pos, Bool, true, false, cond, List, [], ◌∷◌, ◌++◌, map, filter, length, All, Option, Some, None, IfSome, Contains, refl}
 use Rattle.std.specs.List.{slice_get}
 use Rattle.std.specs.Ordering.{MatchOrdering}
-use Rattle.std.proofs.Common.{zero, suc, arith, inl, inr, ap, ap₂, sym, subst, ◌∙◌, get_or, append_assoc, Ordering, Less, Equal, Greater}
-use Rattle.std.proofs.lemmas.List.{append-nil, map-append, get_or-append_right}
+use Rattle.std.proofs.Common.{zero, suc, arith, inl, inr, ap, ap₂, sym, subst, ◌∙◌, get_or, drop, take, length-drop, append_assoc, Ordering, Less, Equal, Greater}
+use Rattle.std.proofs.lemmas.List.{append-nil, map-append, get_or-append_right, get_or-drop, drop-map, take_all}
 use Rattle.std.proofs.lemmas.List.FromFn.{length-map-range_with_len, get_or-map-range_with_len}
 use Rattle.std.proofs.lemmas.List.Elements.{All-append, All-cons, All-nil, filter-append}
 use Rattle.std.proofs.lemmas.Option.{slice_get_within, get_or_from_slice_get}
 use Rattle.fraction_theory.specs.Fraction.{Fraction, whole, neg_ℚ, ◌+ℚ◌, ◌-ℚ◌, ◌*ℚ◌}
 use Rattle.fraction_theory.specs.Order.{◌<ℚ◌, ◌≤ℚ◌}
 use Rattle.fraction_theory.specs.Signs.{sign_of}
+use Rattle.fraction_theory.specs.Sums.{total}
 use Rattle.fraction_theory.specs.declared.Sign.{Sign}
 use Rattle.fraction_theory.specs.declared.Sign.TheVariants.{Below, Zero, Above}
 use Rattle.fraction_theory.proofs.FieldLaws.{+ℚ_neg}
@@ -22,16 +23,15 @@ use Rattle.market_model.specs.Dispatch.{Dispatch, places, injection}
 use Rattle.market_model.specs.Excess.{size_by, size_of}
 use Rattle.market_model.specs.declared.limits.Cause.{Cause}
 use Rattle.market_model.specs.declared.limits.Row.{Row}
-use Rattle.market_model.specs.declared.limits.Cause.TheVariants.{Base, Branch}
-use Rattle.market_model.specs.LimitRows.{rows, row_id, limit, line_flow, loss_factor, flow_after}
+use Rattle.market_model.specs.LimitRows.{IsCauseAmong, bears, causes, flow_by, flow_terms, limit, line_flow, row_id, rows}
 use Rattle.market_model.specs.Market.{IsMarket}
+use Rattle.market_model.specs.PutIn.{put_in}
 use Rattle.market_model.proofs.MorePlaces.{places_more}
-use Rattle.limit_rows.specs.Groups.{bears, groups}
-use Rattle.limit_rows.proofs.FactorLemmas.{IsLost, stands}
+use Rattle.limit_rows.proofs.FlowSteps.{flow_terms-same}
 use Rattle.limit_rows.proofs.NumberingLemmas.{row_on, all_before}
-use Rattle.limit_rows.proofs.PlaceLemmas.{lost_inside}
+use Rattle.limit_rows.proofs.PlaceLemmas.{at_places}
 use Rattle.limit_screen.specs.declared.screening.Broken.{Broken}
-use Rattle.limit_screen.specs.Flows.{flow_by, flow_in, flows_at, line_in, LawOfRowFlows}
+use Rattle.limit_screen.specs.Flows.{flows_at, line_in, LawOfRowFlows}
 use Rattle.limit_screen.specs.Screening.{AllHold, IsFirstMost, IsWorstNamed, IsWorstOf, excess_by, rows_to}
 
 -- ---- orders and differences
@@ -50,7 +50,7 @@ below_nil x y h = subst (λ z. (x -ℚ y) ≤ℚ z) (+ℚ_neg y) (+ℚ-≤ℚ x 
 from_below : (x y : Fraction) → (x -ℚ y) ≤ℚ whole (pos 0) → x ≤ℚ y
 from_below x y h = by_le1 (x ∷ y ∷ []) (at 0) (at 1) pone (padd (at 0) (pneg (at 1))) pnil NonNeg-one h refl
 
--- ---- pone row more
+-- ---- one row more
 slice_get-seam : (xs : List Row) (x : Row) → slice_get (xs ++ x ∷ []) (length xs) ≡ Some x
 slice_get-seam [] x = refl
 slice_get-seam (y ∷ xs) x = slice_get-seam xs x
@@ -82,7 +82,7 @@ worse_than_old e rs old r h more k d lt = ≤ℚ-<ℚ_trans (e (get_or rs k d)) 
 pub worse_than_held : (e : Row → Fraction) (rs : List Row) (r : Row) → All (λ s. e s ≤ℚ whole (pos 0)) rs → whole (pos 0) <ℚ e r → All (λ s. e s <ℚ e r) rs
 worse_than_held e rs r h more k d lt = ≤ℚ-<ℚ_trans (e (get_or rs k d)) (whole (pos 0)) (e r) (h k d lt) more
 
--- the old pone stays the worst
+-- the old one stays the worst
 pub old_worst : (e : Row → Fraction) (rs : List Row) (old r : Row) → IsFirstMost e rs old → e r ≤ℚ e old → IsFirstMost e (rs ++ r ∷ []) old
 old_worst e rs old r h less =
     let inside : h.place < length rs = slice_get_within rs h.place old h.stands in record {
@@ -131,33 +131,39 @@ line_at_place m x fs l puts h =
     ∙ get_or-map-range_with_len (line_flow m (injection m x)) 0 (length m.lines) l l (whole (pos 0)) h from_0
 
 pub law_of_row_flows : LawOfRowFlows
-law_of_row_flows m x fs r market puts c = let h = stands m market r c in by r.cause h.lost h.line
-  where
-    by : (cause : Cause) → IsLost m cause → r.line < length m.lines → flow_in m (line_in m fs) r.line cause ≡ flow_after m (injection m x) r.line cause
-    by Base lost inside = line_at_place m x fs r.line puts inside
-    by (Branch k) lost inside = ap₂ (λ a b. a +ℚ loss_factor m r.line k *ℚ b) (line_at_place m x fs r.line puts inside) (line_at_place m x fs k puts lost.0)
+law_of_row_flows m x fs r market puts c =
+    let places = at_places m market r c in
+    ap total (flow_terms-same m (line_in m fs) (line_flow m (injection m x)) (λ l lt. line_at_place m x fs l puts lt) r places.0 places.1)
 
--- ---- rows of a group, line by line
-pub lines_more : (m : Parts) (lost : Option ℕ) (k : ℕ) (rs : List Row) → bears m lost k ≡ true
-    → rs ++ map (row_on lost) (filter (bears m lost) (places (k + 1))) ≡ (rs ++ map (row_on lost) (filter (bears m lost) (places k))) ++ row_on lost k ∷ []
-lines_more m lost k rs e =
-    ap (λ ls. rs ++ map (row_on lost) ls) (ap (filter (bears m lost)) (places_more k) ∙ filter-append (bears m lost) (places k) (k ∷ []) ∙ ap (λ (b : Bool). filter (bears m lost) (places k) ++ cond b (k ∷ []) []) e)
-    ∙ ap (λ ss. rs ++ ss) (map-append (row_on lost) (filter (bears m lost) (places k)) (k ∷ []))
-    ∙ sym (append_assoc rs (map (row_on lost) (filter (bears m lost) (places k))) (row_on lost k ∷ []))
+-- of flows of buses and of lines, those of lines alone
+pub terms_behind : {N : Type 0} (value : N → Fraction) (m : Parts) (fs : List N) (n : ℕ) (r : Row) → n ≡ length m.buses → r.line < length m.lines → IsCauseAmong (length m.lines) r.cause
+    → flow_terms m (put_in (map value (take (length fs - n) (drop n fs)))) r ≡ flow_terms m (line_in m (map value fs)) r
+terms_behind {N} value m fs n r count inside among =
+    let all : take (length fs - n) (drop n fs) ≡ drop n fs = take_all (length fs - n) (drop n fs) (Prim.omega (arith, length-drop n fs)) in
+    flow_terms-same m (put_in (map value (take (length fs - n) (drop n fs)))) (line_in m (map value fs))
+    (λ l lt.
+    ap (λ (ys : List N). put_in (map value ys) l) all
+    ∙ ap (λ ys. get_or ys l (whole (pos 0))) (sym (drop-map value n fs)) ∙ get_or-drop n (map value fs) l (whole (pos 0))
+    ∙ ap (λ (k : ℕ). get_or (map value fs) (k + l) (whole (pos 0))) count)
+    r inside among
 
-pub lines_same : (m : Parts) (lost : Option ℕ) (k : ℕ) (rs : List Row) → bears m lost k ≡ false
-    → rs ++ map (row_on lost) (filter (bears m lost) (places (k + 1))) ≡ rs ++ map (row_on lost) (filter (bears m lost) (places k))
-lines_same m lost k rs e =
-    ap (λ ls. rs ++ map (row_on lost) ls)
-    (ap (filter (bears m lost)) (places_more k) ∙ filter-append (bears m lost) (places k) (k ∷ []) ∙ ap (λ (b : Bool). filter (bears m lost) (places k) ++ cond b (k ∷ []) []) e
-    ∙ append-nil (filter (bears m lost) (places k)))
+-- ---- rows of a cause, line by line
+pub lines_more : (m : Parts) (cause : Cause) (k : ℕ) (rs : List Row) → bears m cause k ≡ true
+    → rs ++ map (row_on cause) (filter (bears m cause) (places (k + 1))) ≡ (rs ++ map (row_on cause) (filter (bears m cause) (places k))) ++ row_on cause k ∷ []
+lines_more m cause k rs e =
+    ap (λ ls. rs ++ map (row_on cause) ls) (ap (filter (bears m cause)) (places_more k) ∙ filter-append (bears m cause) (places k) (k ∷ []) ∙ ap (λ (b : Bool). filter (bears m cause) (places k) ++ cond b (k ∷ []) []) e)
+    ∙ ap (λ ss. rs ++ ss) (map-append (row_on cause) (filter (bears m cause) (places k)) (k ∷ []))
+    ∙ sym (append_assoc rs (map (row_on cause) (filter (bears m cause) (places k))) (row_on cause k ∷ []))
 
-pub lost_in : (m : Parts) → IsMarket m → (o : Option ℕ) → Contains (groups m) o → IfSome o (λ k. k < length m.lines)
-lost_in m market None c = tt
-lost_in m market (Some k) c = lost_inside m market k c
+pub lines_same : (m : Parts) (cause : Cause) (k : ℕ) (rs : List Row) → bears m cause k ≡ false
+    → rs ++ map (row_on cause) (filter (bears m cause) (places (k + 1))) ≡ rs ++ map (row_on cause) (filter (bears m cause) (places k))
+lines_same m cause k rs e =
+    ap (λ ls. rs ++ map (row_on cause) ls)
+    (ap (filter (bears m cause)) (places_more k) ∙ filter-append (bears m cause) (places k) (k ∷ []) ∙ ap (λ (b : Bool). filter (bears m cause) (places k) ++ cond b (k ∷ []) []) e
+    ∙ append-nil (filter (bears m cause) (places k)))
 
 -- ---- the worst of all rows
-pub all_rows : (m : Parts) (k : ℕ) → length (groups m) ≤ k → rows_to m k ≡ rows m
+pub all_rows : (m : Parts) (k : ℕ) → length (causes m) ≤ k → rows_to m k ≡ rows m
 all_rows m k h = all_before m k h
 
 pub worst_named : (m : Parts) (f : ℕ → Fraction) (r : Row) (id : RowId) → IsFirstMost (excess_by m f) (rows m) r → id ≡ row_id m r → IsWorstNamed m f id

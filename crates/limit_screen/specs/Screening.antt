@@ -10,12 +10,10 @@ use Rattle.market_model.specs.declared.participants.Parts.{Parts}
 use Rattle.market_model.specs.Dispatch.{zero}
 use Rattle.market_model.specs.Excess.{excess, size_of, IsWorst}
 use Rattle.market_model.specs.declared.limits.Row.{Row}
-use Rattle.market_model.specs.LimitRows.{rows, row_id, limit}
+use Rattle.market_model.specs.LimitRows.{causes, flow_by, flow_terms, limit, row_id, rows, rows_of}
 use Rattle.market_model.specs.NamedSums.{IsRefusal, IsRefusedIn}
 use Rattle.market_model.specs.Optimality.{Within}
-use Rattle.limit_rows.specs.Groups.{groups, rows_of}
 use Rattle.limit_screen.specs.declared.screening.Broken.{Broken}
-use Rattle.limit_screen.specs.Flows.{flow_by, flow_terms}
 
 -- all limits of the market hold
 abbrev pub AllHold : Parts → (ℕ → Fraction) → Type 0
@@ -51,6 +49,6 @@ abbrev pub IsWorstOf : {N : Type 0} → (N → Fraction) → (Row → Fraction) 
 IsWorstOf value e rs None = All (λ s. e s ≤ℚ zero) rs
 IsWorstOf value e rs (Some b) = IsFirstMost e rs b.row × (value b.excess ≡ e b.row)
 
--- the rows of the first groups
+-- the rows of the first causes
 abbrev pub rows_to : Parts → ℕ → List Row
-rows_to m k = flat_map (rows_of m) (take k (groups m))
+rows_to m k = flat_map (rows_of m) (take k (causes m))

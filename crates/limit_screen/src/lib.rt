@@ -1,11 +1,9 @@
 //! The flows of a dispatch, and the limit that flows pass by the most.
 #![tactic(auto)]
 
-mod amounts;
 mod flowing;
 pub mod laws;
 mod screening;
 
-pub use amounts::{datum, factor, with_share};
-pub use flowing::{flows, injections, line_flow, offset_of};
+pub use flowing::flows;
 pub use screening::{row_flow, worst};

@@ -1,6 +1,6 @@
 //! Which limit flows pass by the most.
 
-ghost use Rattle.std.specs.Prelude.{◌≡◌, ◌+◌, ◌<◌, List, [], ◌∷◌, ◌++◌, length, map, IfOk, IfErr, IfSome, MatchOption};
+ghost use Rattle.std.specs.Prelude.{◌≡◌, ◌+◌, ◌<◌, List, [], ◌∷◌, ◌++◌, length, map, IfOk, IfErr, MatchOption};
 ghost use Rattle.fraction_theory.specs.Fraction.{Fraction, ◌-ℚ◌};
 ghost use Rattle.fraction_theory.specs.Order.{◌<ℚ◌, ◌≤ℚ◌};
 ghost use Rattle.exact_fraction.specs.declared.Op.TheVariants as Op;
@@ -8,39 +8,33 @@ ghost use Rattle.market_model.specs.Valued.{passed_at};
 ghost use Rattle.market_model.specs.Dispatch.{zero};
 ghost use Rattle.market_model.specs.Excess.{size_of};
 ghost use Rattle.market_model.specs.declared.limits.Row.{Row};
+ghost use Rattle.market_model.specs.LimitRows.{IsCauseAmong, causes, flow_by, flow_terms};
 ghost use Rattle.market_model.specs.NamedSums.{IsRefusal, IsRefusedIn};
-ghost use Rattle.limit_rows.specs.Groups.{groups};
-ghost use Rattle.limit_screen.specs.Flows.{flow_by, flow_terms, line_in};
+ghost use Rattle.limit_screen.specs.Flows.{line_in};
 ghost use Rattle.limit_screen.specs.Screening.{AllHold, IsWorstNamed, IsRowRefusal, IsScreenRefusal, IsWorstOf, excess_by, rows_to};
 
-use crate::amounts::{datum, with_share};
 use exact_fraction::{Exact, Passed, Sign};
-use limit_rows::{LimitRow, group_count, has_row, limit_at, loss_of, lost_of, name_at};
-use market_model::{Market, RowId};
+use limit_rows::{cause_at, cause_count, has_row, limit_at, name_at};
+use market_model::{Market, Row, RowId, datum};
 use std::cmp::Ordering;
 
 /// A row whose limit is passed.
 #[derive(Clone, Copy, Debug)]
 struct Broken<N> {
-    row: LimitRow,
+    row: Row,
     /// By how much, in 10^-9 MW.
     excess: N,
 }
 
 /// The flow of a row, of the flows by line behind those of buses. After an outage the part of the lost flow that goes over to the line is added.
-pub fn row_flow<N: Exact>(market: &Market, flows: &[N], row: LimitRow) -> Result<N, Passed<N>>
+pub fn row_flow<N: Exact>(market: &Market, flows: &[N], row: Row) -> Result<N, Passed<N>>
     requires flows { length flows.now ≡ length market.now.buses + length market.now.lines }
     requires line { row.line < length market.now.lines }
-    requires lost { IfSome row.lost (λ lost. lost < length market.now.lines) }
+    requires lost { IsCauseAmong (length market.now.lines) row.cause }
     ensures flow { IfOk result (λ flow. N.value flow ≡ flow_by market.now (line_in market.now (map N.value flows.now)) row) }
     ensures cause { IfErr result (λ passed. IsRefusedIn (flow_terms market.now (line_in market.now (map N.value flows.now)) row) N.bound (passed_at N.value passed)) }
 {
-    let buses = market.buses().len();
-    let own = flows[buses + row.line];
-    match row.lost {
-        None => Ok(own),
-        Some(lost) => with_share(own, loss_of(market, row.line, lost), flows[buses + lost]),
-    }
+    limit_rows::row_flow(market, &flows[market.buses().len()..], row)
 }
 
 /// The size of a flow.
@@ -66,7 +60,7 @@ fn beyond<N: Exact>(flow: N, limit: N) -> Result<Option<N>, Passed<N>>
 }
 
 /// The worse of two rows, and the first where they are as bad.
-fn worse<N: Exact>(worst: Option<Broken<N>>, row: LimitRow, excess: N) -> Option<Broken<N>>
+fn worse<N: Exact>(worst: Option<Broken<N>>, row: Row, excess: N) -> Option<Broken<N>>
     requires { zero <ℚ N.value excess }
     ensures { (e : Row → Fraction) (rs : List Row) → IsWorstOf N.value e rs worst → N.value excess ≡ e row → IsWorstOf N.value e (rs ++ row ∷ []) result }
 {
@@ -83,12 +77,12 @@ fn worse<N: Exact>(worst: Option<Broken<N>>, row: LimitRow, excess: N) -> Option
 fn with_row<N: Exact>(
     market: &Market,
     flows: &[N],
-    row: LimitRow,
+    row: Row,
     worst: Option<Broken<N>>,
 ) -> Result<Option<Broken<N>>, Passed<N>>
     requires flows { length flows.now ≡ length market.now.buses + length market.now.lines }
     requires line { row.line < length market.now.lines }
-    requires lost { IfSome row.lost (λ lost. lost < length market.now.lines) }
+    requires lost { IsCauseAmong (length market.now.lines) row.cause }
     ensures worst { (rs : List Row) → IsWorstOf N.value (excess_by market.now (line_in market.now (map N.value flows.now))) rs worst → IfOk result (IsWorstOf N.value (excess_by market.now (line_in market.now (map N.value flows.now))) (rs ++ row ∷ [])) }
     ensures cause { IfErr result (λ passed. IsRowRefusal market.now (line_in market.now (map N.value flows.now)) N.bound row (passed_at N.value passed)) }
 {
@@ -99,24 +93,24 @@ fn with_row<N: Exact>(
     }
 }
 
-/// The worst with the rows of a group more.
-fn with_group<N: Exact>(
+/// The worst with the rows of a cause more.
+fn with_cause<N: Exact>(
     market: &Market,
     flows: &[N],
-    group: usize,
+    place: usize,
     before: Option<Broken<N>>,
 ) -> Result<Option<Broken<N>>, Passed<N>>
     requires flows { length flows.now ≡ length market.now.buses + length market.now.lines }
-    requires group { group < length (groups market.now) }
-    requires before { IsWorstOf N.value (excess_by market.now (line_in market.now (map N.value flows.now))) (rows_to market.now group) before }
-    ensures worst { IfOk result (IsWorstOf N.value (excess_by market.now (line_in market.now (map N.value flows.now))) (rows_to market.now (group + 1))) }
+    requires place { place < length (causes market.now) }
+    requires before { IsWorstOf N.value (excess_by market.now (line_in market.now (map N.value flows.now))) (rows_to market.now place) before }
+    ensures worst { IfOk result (IsWorstOf N.value (excess_by market.now (line_in market.now (map N.value flows.now))) (rows_to market.now (place + 1))) }
     ensures cause { IfErr result (λ passed. IsScreenRefusal market.now (line_in market.now (map N.value flows.now)) N.bound (passed_at N.value passed)) }
 {
-    let lost = lost_of(market, group);
+    let cause = cause_at(market, place);
     let mut worst = before;
     for line in 0..market.lines().len() {
-        if has_row(market, lost, line) {
-            worst = with_row(market, flows, LimitRow { line, lost }, worst)?;
+        if has_row(market, cause, line) {
+            worst = with_row(market, flows, Row { line, cause }, worst)?;
         }
     }
     Ok(worst)
@@ -131,8 +125,8 @@ pub fn worst<N: Exact>(market: &Market, flows: &[N]) -> Result<Option<RowId>, Pa
 {
     let _lines = market.lines();
     let mut worst = None;
-    for group in 0..group_count(market) {
-        worst = with_group(market, flows, group, worst)?;
+    for place in 0..cause_count(market) {
+        worst = with_cause(market, flows, place, worst)?;
     }
     match worst {
         Some(broken) => Ok(Some(name_at(market, broken.row))),

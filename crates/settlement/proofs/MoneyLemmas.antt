@@ -32,7 +32,7 @@ use Rattle.market_model.specs.Valued.{dual_at, duals_at, load_at, rent_at, unit_
 use Rattle.market_model.proofs.Optimum.{law_of_the_surplus, law_of_its_sign}
 use Rattle.market_model.proofs.SumSteps.{plus_at, behind, in_front}
 use Rattle.limit_rows.proofs.DualLemmas.{up_unnamed, down_unnamed, sum_named}
-use Rattle.limit_screen.proofs.FlowLemmas.{map_same}
+use Rattle.market_model.proofs.PlaceLists.{map_same}
 use Rattle.settlement.specs.Laws.{IsRightMoney, LawOfRightMoney}
 use Rattle.settlement.specs.Paying.{pay_of_unit, pay_of_load, paid_terms, left_terms, ArePricesOf, IsSettlement, IsSupportedAt}
 use Rattle.settlement.proofs.ListLemmas.{map-map, sum_by-map, mapped_at}

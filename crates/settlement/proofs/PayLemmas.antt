@@ -21,29 +21,12 @@ use Rattle.market_model.specs.Optimality.{block_value, welfare_terms}
 use Rattle.market_model.specs.Valued.{load_at, unit_pay_at}
 use Rattle.market_model.proofs.MorePlaces.{total-filter_more, total-places_more}
 use Rattle.market_model.proofs.SumSteps.{plus_at, multiplied_at, refused_by_added, terms_at, tested_at, behind, in_front}
-use Rattle.limit_screen.specs.Flows.{dispatch_of}
-use Rattle.limit_screen.proofs.FlowLemmas.{accepted_is}
+use Rattle.market_model.proofs.PutInSteps.{accepted_is}
+use Rattle.market_model.specs.PutIn.{dispatch_of}
 use Rattle.settlement.specs.Paying.{total_at, pay_of_unit, pay_of_load, left_terms}
 use Rattle.settlement.specs.Refusals.{IsSettlementRefusal, of_output, of_demand, of_money, IsLoadRefusal, IsUnitRefusal}
 
 module _ {N : Type 0} (value : N → Fraction) (m : Parts) (ds : List N) where
-  abbrev pub output_to : ℕ → ℕ → Fraction
-  output_to place k = total (fixed_term m place ∷ map (block_term m (dispatch_of value ds)) (filter (λ j. (block_at m j).unit == place) (places k)))
-
-  -- an output with one block more
-  pub output_step : (place k : ℕ) (block : Block) (d : N) (old new : Fraction) → k < length ds → d ≡ get_or ds k d → block ≡ block_at m k → old ≡ output_to place k
-      → new ≡ old +ℚ (if block.unit == place then signed block.side (value d) else zero) → new ≡ output_to place (k + 1)
-  output_step place k block d old new h is at before e =
-      let f : Fraction = whole (unit_at m place).fixed in
-      let t : Fraction = total (map (block_term m (dispatch_of value ds)) (filter (λ j. (block_at m j).unit == place) (places k))) in
-      let more : Fraction = if (block_at m k).unit == place then signed (block_at m k).side (accepted (dispatch_of value ds) k) else zero in
-      e
-      ∙ ap (λ (b : Block). old +ℚ (if b.unit == place then signed b.side (value d) else zero)) at
-      ∙ ap (λ v. old +ℚ (if (block_at m k).unit == place then signed (block_at m k).side v else zero)) (sym (accepted_is value ds k d h is))
-      ∙ ap (λ s. s +ℚ more) before
-      ∙ +ℚ_assoc f t more
-      ∙ ap (λ s. f +ℚ s) (sym (total-filter_more (λ j. (block_at m j).unit == place) (block_term m (dispatch_of value ds)) k))
-
   abbrev pub welfare_to : ℕ → Fraction
   welfare_to k = total (map (λ j. Product (block_value m j) (accepted (dispatch_of value ds) j)) (places k))
 
@@ -57,17 +40,6 @@ module _ {N : Type 0} (value : N → Fraction) (m : Parts) (ds : List N) where
       ∙ sym (total-places_more (λ j. Product (block_value m j) (accepted (dispatch_of value ds) j)) k)
 
   module _ (bound : ℕ) (p : Passed Fraction) where
-    -- a block of a unit's output
-    pub output_refused : (place k : ℕ) (block : Block) (d : N) (sum : Fraction) → k < length m.blocks → k < length ds → d ≡ get_or ds k d → block ≡ block_at m k → (block.unit == place) ≡ true
-        → sum ≡ output_to place k → IsRefusal Plus sum (signed block.side (value d)) bound p → IsAddedIn (output_terms m (dispatch_of value ds) place) bound p
-    output_refused place k block d sum below lt at same belongs is h =
-        let x = dispatch_of value ds in
-        let test : ℕ → _ = λ j. (block_at m j).unit == place in
-        let r = tested_at test (block_term m x) (length m.blocks) k below (ap (λ (b : Block). b.unit == place) (sym same) ∙ belongs) in
-        plus_at (output_terms m x place) (fixed_term m place ∷ map (block_term m x) (filter test (places k))) r.0 (block_term m x k) (ap (λ ts. fixed_term m place ∷ ts) r.1)
-        bound p sum (signed block.side (value d)) is
-        ((ap (λ (b : Block). signed b.side (value d)) same ∙ ap (signed (block_at m k).side) (sym (accepted_is value ds k d lt at)))) h
-
     -- what a block is worth, and the sum with that
     pub worth_refused : (k : ℕ) (block : Block) (d : N) → k < length m.blocks → k < length ds → d ≡ get_or ds k d → block ≡ block_at m k
         → IsRefusal Times (neg_ℚ (signed block.side (whole block.price))) (value d) bound p → IsRefusedIn (welfare_terms m (dispatch_of value ds)) bound p

@@ -1,5 +1,5 @@
 -- What rows earn, and what is refused of that.
-use Rattle.std.specs.Prelude.{◌≡◌, ◌⊎◌, ℕ, ◌<◌, pos, List, [], ◌∷◌, length, Contains, refl}
+use Rattle.std.specs.Prelude.{◌≡◌, ◌≢◌, ◌⊎◌, ℕ, ◌<◌, pos, List, [], ◌∷◌, length, Contains, refl}
 use Rattle.std.proofs.Common.{inl, inr, arith, ap, ap₂, sym, subst, subst₂, ◌∙◌, get_or}
 use Rattle.std.proofs.lemmas.List.{get_or-map, length-map}
 use Rattle.fraction_theory.specs.Fraction.{Fraction, whole, ◌+ℚ◌, ◌-ℚ◌, ◌*ℚ◌}
@@ -23,7 +23,7 @@ use Rattle.market_model.specs.Dispatch.{Dispatch, injection}
 use Rattle.market_model.specs.declared.limits.Cause.{Cause}
 use Rattle.market_model.specs.declared.limits.Row.{Row}
 use Rattle.market_model.specs.declared.limits.Cause.TheVariants.{Base, Branch}
-use Rattle.market_model.specs.LimitRows.{row_id, limit, loss_factor, line_flow, flow_after, row_flow, line_offset, row_offset, offset_terms, flow}
+use Rattle.market_model.specs.LimitRows.{IsCauseAmong, flow, flow_by, flow_terms, limit, line_flow, offset_terms, row_id, row_offset}
 use Rattle.market_model.specs.NamedSums.{IsRefusal, IsRefusedIn}
 use Rattle.market_model.specs.Optimality.{IsOneSided, ProperDuals, named_rows}
 use Rattle.market_model.specs.RightAnswers.{rent_of}
@@ -32,10 +32,11 @@ use Rattle.market_model.specs.Settlement.{rent, rent_terms}
 use Rattle.market_model.specs.Valued.{dual_at, duals_at}
 use Rattle.market_model.proofs.SumSteps.{multiplied_at}
 use Rattle.limit_rows.proofs.DualLemmas.{IsRowOfDual, row_of_dual}
-use Rattle.limit_screen.specs.Flows.{IsLineRefusal, IsShareRefusal as IsShareOf}
-use Rattle.limit_screen.proofs.FlowLemmas.{line_terms-same, line_flow-same, share_refused}
+use Rattle.limit_rows.proofs.FlowSteps.{row_terms_are}
+use Rattle.limit_rows.specs.LineFlows.{AreFlows}
+use Rattle.market_model.specs.PutIn.{put_in}
 use Rattle.settlement.specs.Paying.{earned_by, earned_terms}
-use Rattle.settlement.specs.Refusals.{IsSettlementRefusal, of_line, of_flow, of_offset, of_limit_less, of_limit_more, of_rent, IsEarningRefusal, IsRowRefusal, IsShareRefusal}
+use Rattle.settlement.specs.Refusals.{IsSettlementRefusal, of_flow, of_offset, of_limit_less, of_limit_more, of_rent, IsEarningRefusal, IsRowRefusal}
 
 -- ---- what a limit earns with one price
 module _ (e : Dual Fraction) (f o : Fraction) where
@@ -67,27 +68,7 @@ not_zero_side e s h is some = by h.one some
     by (inl b) (inl t) = absurd (<ℚ_irrefl e.down (subst (λ x. e.down <ℚ x) (sym b.1) (sign_of_is e.down Below (sym t ∙ is))))
     by (inl b) (inr t) = absurd (<ℚ_irrefl e.down (subst (λ x. x <ℚ e.down) (sym b.1) (sign_of_is e.down Above (sym t ∙ is))))
 
--- ---- a sum with what goes over to a line of a lost one
-module _ (m : Parts) (l k : ℕ) (a h b : Fraction) where
-  module _ (bound : ℕ) (p : Passed Fraction) where
-    pub shared_flow : (f : ℕ → Fraction) → k < length m.lines → a ≡ line_flow m f l → h ≡ loss_factor m l k → b ≡ line_flow m f k → IsShareOf a h b bound p → IsShareRefusal m f l (Branch k) bound p
-    shared_flow f below own share gone why = (
-      below,
-      subst (λ ts. IsRefusedIn ts bound p) (ap₂ (λ x t. Plain x ∷ t ∷ []) own (ap₂ Product share gone)) (share_refused a h b bound p why),
-    )
-
-    pub shared_offset : a ≡ line_offset m l → h ≡ loss_factor m l k → b ≡ line_offset m k → IsShareOf a h b bound p → IsRefusedIn (offset_terms m (record { line = l; cause = Branch k })) bound p
-    shared_offset own share gone why = subst (λ ts. IsRefusedIn ts bound p) (ap₂ (λ x t. Plain x ∷ t ∷ []) own (ap₂ Product share gone)) (share_refused a h b bound p why)
-
-  pub lost_offset : (s : Fraction) → a ≡ line_offset m l → h ≡ loss_factor m l k → b ≡ line_offset m k → s ≡ a +ℚ h *ℚ b → s ≡ row_offset m (record { line = l; cause = Branch k })
-  unfolding row_offset
-  lost_offset s own share gone e = e ∙ ap₂ (λ x y. x +ℚ y) own (ap₂ ◌*ℚ◌ share gone ∙ sym (+ℚ_nil (loss_factor m l k *ℚ line_offset m k)))
-
-pub own_offset : (m : Parts) (l : ℕ) → line_offset m l ≡ row_offset m (record { line = l; cause = Base })
-unfolding row_offset
-own_offset m l = sym (+ℚ_nil (line_offset m l))
-
--- ---- rows of duals, where buses put in what a dispatch makes them
+-- ---- rows of duals, where lines have the flows of a dispatch
 same_rent : (row row' : RowId) (f f' r r' : Fraction) → row ≡ row' → f ≡ f' → r ≡ r' → ◌≡◌ {A = Rent Fraction} (record { row = row; flow = f; rent = r }) (record { row = row'; flow = f'; rent = r' })
 same_rent row row' f f' r r' a b c = Prim.rw a (Prim.rw b (Prim.rw c refl))
 
@@ -108,35 +89,31 @@ module _ {N : Type 0} (value : N → Fraction) (m : Parts) (duals : Duals N) (pr
   pub dual_row : IsMarket m → (r : Row) × IsRowOfDual m (duals_at value duals) k (dual_at value item) r
   dual_row market = row_of_dual m market (duals_at value duals) proper.named k (dual_at value item) below read
 
-module _ (m : Parts) (x : Dispatch) (f : ℕ → Fraction) (same : (i : ℕ) → i < length m.buses → f i ≡ injection m x i) (d : Duals Fraction) (k : ℕ) (e : Dual Fraction) (r : Row) (h : IsRowOfDual m d k e r) where
-  flow-same : (l : ℕ) (c : Cause) → flow_after m f l c ≡ flow_after m (injection m x) l c
-  flow-same l Base = line_flow-same m f (injection m x) same l
-  flow-same l (Branch lost) = ap₂ (λ a b. a +ℚ loss_factor m l lost *ℚ b) (line_flow-same m f (injection m x) same l) (line_flow-same m f (injection m x) same lost)
-
-  pub earned_is : earned_by m f e r ≡ rent_of m x d r
+module _ (m : Parts) (x : Dispatch) (flows : List Fraction) (are : AreFlows m x flows) (d : Duals Fraction) (k : ℕ) (e : Dual Fraction) (r : Row) (h : IsRowOfDual m d k e r) (inside : r.line < length m.lines)
+    (among : IsCauseAmong (length m.lines) r.cause) where
+  pub earned_is : earned_by m (put_in flows) e r ≡ rent_of m x d r
   unfolding rent
   earned_is =
-      same_rent e.row (row_id m r) (row_flow m f r) (flow m x r) (total (earned_terms e (limit m r) (row_offset m r))) (total (rent_terms m x d r)) (sym h.name) (flow-same r.line r.cause)
+      same_rent e.row (row_id m r) (flow_by m (put_in flows) r) (flow m x r) (total (earned_terms e (limit m r) (row_offset m r))) (total (rent_terms m x d r)) (sym h.name)
+      (ap total (row_terms_are m x flows are r inside among))
       (ap₂ (λ u v. total (Product u (limit m r -ℚ row_offset m r) ∷ Product v (limit m r +ℚ row_offset m r) ∷ [])) (sym h.up) (sym h.down))
 
-  module _ (price : ℕ → Fraction) (bound : ℕ) (p : Passed Fraction) (inside : r.line < length m.lines) where
+  module _ (price : ℕ → Fraction) (bound : ℕ) (p : Passed Fraction) where
     named : Contains (named_rows m d) r
     named = (k, h.inside, sym h.at)
 
-    shared : (c : Cause) → Contains (named_rows m d) (record { line = r.line; cause = c }) → IsShareRefusal m f r.line c bound p → IsSettlementRefusal m x price d bound p
-    shared Base listed why = absurd why
-    shared (Branch lost) listed why =
-        of_flow r.line lost inside why.0 listed
-        (subst₂ (λ a b. IsRefusedIn (Plain a ∷ Product (loss_factor m r.line lost) b ∷ []) bound p) (line_flow-same m f (injection m x) same r.line) (line_flow-same m f (injection m x) same lost) why.1)
+    of_row_flow : (c : Cause) → c ≢ Base → IsCauseAmong (length m.lines) c → Contains (named_rows m d) (record { line = r.line; cause = c })
+        → IsRefusedIn (flow_terms m (line_flow m (injection m x)) (record { line = r.line; cause = c })) bound p → IsSettlementRefusal m x price d bound p
+    of_row_flow Base after below listed why = absurd (after refl)
+    of_row_flow (Branch lost) after below listed why = of_flow r.line lost inside below listed why
 
-    pub row_refusal : IsRowRefusal m f e r bound p → IsSettlementRefusal m x price d bound p
+    pub row_refusal : IsRowRefusal m (put_in flows) e r bound p → IsSettlementRefusal m x price d bound p
     row_refusal why = by why
       where
-        by : (IsLineRefusal m f bound p ⊎ IsShareRefusal m f r.line r.cause bound p) ⊎ IsRefusedIn (offset_terms m r) bound p
+        by : (r.cause ≢ Base × IsRefusedIn (flow_terms m (put_in flows) r) bound p) ⊎ IsRefusedIn (offset_terms m r) bound p
             ⊎ IsRefusal Minus (limit m r) (row_offset m r) bound p ⊎ IsRefusal Plus (limit m r) (row_offset m r) bound p ⊎ IsRefusedIn (earned_terms e (limit m r) (row_offset m r)) bound p
             → IsSettlementRefusal m x price d bound p
-        by (inl (inl (l, lt, w))) = of_line l lt (subst (λ ts. IsRefusedIn ts bound p) (line_terms-same m f (injection m x) same l) w)
-        by (inl (inr w)) = shared r.cause named w
+        by (inl w) = of_row_flow r.cause w.0 among named (subst (λ ts. IsRefusedIn ts bound p) (row_terms_are m x flows are r inside among) w.1)
         by (inr (inl w)) = of_offset r named w
         by (inr (inr (inl w))) = of_limit_less r named w
         by (inr (inr (inr (inl w)))) = of_limit_more r named w

@@ -13,7 +13,7 @@ use Rattle.market_model.specs.declared.answered.UnitPay.{UnitPay}
 use Rattle.market_model.specs.declared.participants.Parts.{Parts}
 use Rattle.market_model.specs.Dispatch.{Dispatch, zero, places, unit_at, output, demand}
 use Rattle.market_model.specs.declared.limits.Row.{Row}
-use Rattle.market_model.specs.LimitRows.{limit, row_flow, row_offset}
+use Rattle.market_model.specs.LimitRows.{flow_by, limit, row_offset}
 use Rattle.market_model.specs.Optimality.{Feasible, Supports, named_rows, bus_price}
 use Rattle.market_model.specs.RightAnswers.{rent_of}
 
@@ -64,9 +64,9 @@ pub record IsSupportedAt (m : Parts) (x : Dispatch) (price : ℕ → Fraction) (
 abbrev pub earned_terms : Dual Fraction → Fraction → Fraction → List Term
 earned_terms e limit offset = Product e.up (limit -ℚ offset) ∷ Product e.down (limit +ℚ offset) ∷ []
 
--- the flow of a row where buses put in p, and what its limit earns at the prices of a dual
+-- the flow of a row where lines have flows f, and what its limit earns at the prices of a dual
 abbrev pub earned_by : Parts → (ℕ → Fraction) → Dual Fraction → Row → Rent Fraction
-earned_by m p e r = record { row = e.row; flow = row_flow m p r; rent = total (earned_terms e (limit m r) (row_offset m r)) }
+earned_by m f e r = record { row = e.row; flow = flow_by m f r; rent = total (earned_terms e (limit m r) (row_offset m r)) }
 
 -- what loads pay, and the opposite of what units are paid
 abbrev pub paid_terms : {N : Type 0} → (N → Fraction) → List (Load N) → List (UnitPay N) → List Term

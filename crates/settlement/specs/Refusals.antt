@@ -1,7 +1,6 @@
 -- The operations that may be refused where a dispatch is settled, each by its name.
-use Rattle.std.specs.Prelude.{◌⊎◌, ℕ, ◌<◌, [], ◌∷◌, length, Contains}
+use Rattle.std.specs.Prelude.{◌≢◌, ◌⊎◌, ℕ, ◌<◌, length, Contains}
 use Rattle.fraction_theory.specs.Fraction.{Fraction, whole, ◌+ℚ◌}
-use Rattle.fraction_theory.specs.Sums.{Plain, Product}
 use Rattle.exact_fraction.specs.declared.Op.TheVariants.{Plus, Minus, Times}
 use Rattle.exact_fraction.specs.declared.Passed.{Passed}
 use Rattle.market_data.specs.declared.participants.Bus.{Bus}
@@ -9,15 +8,13 @@ use Rattle.market_model.specs.declared.answered.Dual.{Dual}
 use Rattle.market_model.specs.declared.answered.Duals.{Duals}
 use Rattle.market_model.specs.declared.participants.Parts.{Parts}
 use Rattle.market_model.specs.Dispatch.{Dispatch, bus_at, injection, injection_terms, output, output_terms}
-use Rattle.market_model.specs.declared.limits.Cause.{Cause}
 use Rattle.market_model.specs.declared.limits.Row.{Row}
 use Rattle.market_model.specs.declared.limits.Cause.TheVariants.{Base, Branch}
-use Rattle.market_model.specs.LimitRows.{limit, loss_factor, line_flow, line_terms, row_offset, offset_terms}
+use Rattle.market_model.specs.LimitRows.{flow_terms, limit, line_flow, line_terms, offset_terms, row_offset}
 use Rattle.market_model.specs.NamedSums.{IsAddedIn, IsRefusal, IsRefusedIn}
 use Rattle.market_model.specs.Optimality.{named_rows}
 use Rattle.market_model.specs.Settlement.{rent_terms}
 use Rattle.market_model.specs.Valued.{passed_at}
-use Rattle.limit_screen.specs.Flows.{IsLineRefusal}
 use Rattle.settlement.specs.declared.stops.MoneyStop.{MoneyStop}
 use Rattle.settlement.specs.declared.stops.MoneyStop.TheVariants as why
 use Rattle.settlement.specs.Paying.{earned_terms, left_terms}
@@ -32,7 +29,7 @@ pub data IsSettlementRefusal (m : Parts) (x : Dispatch) (price : ℕ → Fractio
   of_injection : (i : ℕ) → i < length m.buses → IsAddedIn (injection_terms m x i) bound p → IsSettlementRefusal m x price d bound p
   of_line : (l : ℕ) → l < length m.lines → IsRefusedIn (line_terms m (injection m x) l) bound p → IsSettlementRefusal m x price d bound p
   of_flow : (l k : ℕ) → l < length m.lines → k < length m.lines → Contains (named_rows m d) (record { line = l; cause = Branch k })
-      → IsRefusedIn (Plain (line_flow m (injection m x) l) ∷ Product (loss_factor m l k) (line_flow m (injection m x) k) ∷ []) bound p → IsSettlementRefusal m x price d bound p
+      → IsRefusedIn (flow_terms m (line_flow m (injection m x)) (record { line = l; cause = Branch k })) bound p → IsSettlementRefusal m x price d bound p
   -- the fixed offset of a row, its limit less that and with it, and its rent
   of_offset : (r : Row) → Contains (named_rows m d) r → IsRefusedIn (offset_terms m r) bound p → IsSettlementRefusal m x price d bound p
   of_limit_less : (r : Row) → Contains (named_rows m d) r → IsRefusal Minus (limit m r) (row_offset m r) bound p → IsSettlementRefusal m x price d bound p
@@ -57,15 +54,6 @@ IsUnitRefusal m x bound unit price p = IsAddedIn (output_terms m x unit) bound p
 abbrev pub IsEarningRefusal : Dual Fraction → Fraction → Fraction → ℕ → Passed Fraction → Type 0
 IsEarningRefusal e limit offset bound p = IsRefusal Minus limit offset bound p ⊎ IsRefusal Plus limit offset bound p ⊎ IsRefusedIn (earned_terms e limit offset) bound p
 
--- what goes over to a line where buses put in f, with its own flow; nothing in the base
-abbrev pub IsShareRefusal : Parts → (ℕ → Fraction) → ℕ → Cause → ℕ → Passed Fraction → Type 0
-IsShareRefusal m f l Base bound p = ⊥
-IsShareRefusal m f l (Branch k) bound p = (k < length m.lines) × IsRefusedIn (Plain (line_flow m f l) ∷ Product (loss_factor m l k) (line_flow m f k) ∷ []) bound p
-
--- for the flow of a row where buses put in f
-abbrev pub IsFlowRefusal : Parts → (ℕ → Fraction) → Row → ℕ → Passed Fraction → Type 0
-IsFlowRefusal m f r bound p = IsLineRefusal m f bound p ⊎ IsShareRefusal m f r.line r.cause bound p
-
--- for a row with a dual where buses put in f
+-- for a row with a dual where lines have flows f: its flow after an outage, its offset, or what its limit earns
 abbrev pub IsRowRefusal : Parts → (ℕ → Fraction) → Dual Fraction → Row → ℕ → Passed Fraction → Type 0
-IsRowRefusal m f e r bound p = IsFlowRefusal m f r bound p ⊎ IsRefusedIn (offset_terms m r) bound p ⊎ IsEarningRefusal e (limit m r) (row_offset m r) bound p
+IsRowRefusal m f e r bound p = (r.cause ≢ Base × IsRefusedIn (flow_terms m f r) bound p) ⊎ IsRefusedIn (offset_terms m r) bound p ⊎ IsEarningRefusal e (limit m r) (row_offset m r) bound p

@@ -11,8 +11,7 @@ ghost use Rattle.settlement.specs.Refusals.{IsStop, IsLoadRefusal};
 
 use crate::MoneyStop;
 use exact_fraction::{Exact, Passed};
-use limit_screen::datum;
-use market_model::{Bus, List, Load, Market, Price};
+use market_model::{Bus, List, Load, Market, Price, datum};
 use std::alloc::Global;
 
 /// A bus's demand and what it pays at a price.

@@ -9,7 +9,7 @@ ghost use Rattle.market_model.specs.Laws.{HasOffsetsWithin};
 ghost use Rattle.market_model.specs.NamedSums.{IsAddedIn};
 ghost use Rattle.market_model.specs.Optimality.{ProperDuals};
 ghost use Rattle.market_model.specs.Valued.{duals_at, money_at, passed_at};
-ghost use Rattle.limit_screen.specs.Flows.{dispatch_of};
+ghost use Rattle.market_model.specs.PutIn.{dispatch_of};
 ghost use Rattle.settlement.specs.Paying.{total_at, paid_terms, FitsMoney, IsSettlement, IsSupportedAt};
 ghost use Rattle.settlement.specs.Refusals.{IsStop};
 
@@ -18,8 +18,7 @@ use crate::loads::loads;
 use crate::rents::rents;
 use crate::units::unit_pays;
 use exact_fraction::{Exact, Passed};
-use limit_screen::datum;
-use market_model::{Duals, Load, Market, Money, Price, UnitPay};
+use market_model::{Duals, Load, Market, Money, Price, UnitPay, datum};
 use std::alloc::Global;
 
 /// What loads pay, in bus order, less what units are paid, in unit order.

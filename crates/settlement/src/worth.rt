@@ -8,11 +8,10 @@ ghost use Rattle.market_model.specs.Dispatch.{signed};
 ghost use Rattle.market_model.specs.NamedSums.{IsRefusal, IsRefusedIn};
 ghost use Rattle.market_model.specs.Optimality.{welfare as welfare_of, welfare_terms};
 ghost use Rattle.market_model.specs.Valued.{passed_at};
-ghost use Rattle.limit_screen.specs.Flows.{dispatch_of};
+ghost use Rattle.market_model.specs.PutIn.{dispatch_of};
 
 use exact_fraction::{Exact, Passed};
-use limit_screen::datum;
-use market_model::{Block, Market, Side};
+use market_model::{Block, Market, Side, datum};
 
 /// What a MW is worth that is sold or bought at a price.
 fn worth_of_one<N: Exact>(side: Side, price: N) -> N

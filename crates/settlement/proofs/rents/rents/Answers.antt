@@ -4,8 +4,8 @@ use Rattle.market_model.specs.Optimality.{named_rows}
 use Rattle.market_model.specs.RightAnswers.{rent_of}
 use Rattle.market_model.specs.Valued.{dual_at, duals_at, passed_at, rent_at}
 use Rattle.limit_rows.proofs.DualLemmas.{named_count}
-use Rattle.limit_screen.specs.Flows.{dispatch_of, put_in}
-use Rattle.limit_screen.proofs.FlowLemmas.{put_is}
+use Rattle.limit_rows.proofs.PlaceLemmas.{at_places}
+use Rattle.market_model.specs.PutIn.{dispatch_of, put_in}
 use Rattle.settlement.specs.declared.stops.MoneyStop.TheVariants as why
 use Rattle.settlement.specs.Paying.{earned_by}
 use Rattle.settlement.specs.Refusals.{IsRowRefusal}
@@ -13,10 +13,10 @@ use Rattle.settlement.proofs.ListLemmas.{put_next, all_put_next}
 use Rattle.settlement.proofs.RowLemmas.{dual_one_sided, dual_row, earned_is, row_refusal}
 use Rattle.settlement.proofs.rents.rents.Goals as goal
 
-pub returns-in_err-mws-clause-cause : goal.returns-in_err-mws-clause-cause
-returns-in_err-mws-clause-cause g c =
-    let given : c.from_residual.result ≡ Err c.in_err-mws.field-0.0 = search rules in
-    λ price. rw given (c.in_err-mws.ensures.cause price _)
+pub returns-in_err-flows-clause-cause : goal.returns-in_err-flows-clause-cause
+returns-in_err-flows-clause-cause g c =
+    let given : c.from_residual.result ≡ Err c.in_err-flows.field-0.0 = search rules in
+    λ price. rw given (c.in_err-flows.ensures.cause price _)
 
 pub found_row-row-requires : goal.found_row-row-requires
 found_row-row-requires g c =
@@ -38,10 +38,12 @@ loop-dual-preserved g c =
     let k = c.loop-dual.dual-index in
     let e = dual_at value c.dual-item.result in
     let fs = map value c.deref.result.now in
-    let same = put_is m x fs (ap (map value) c.deref.ensures.value ∙ c.in_ok-mws.ensures.mws) in
+    let are = ap (map value) c.deref.ensures.value ∙ c.in_ok-flows.ensures.mws in
     let r = dual_row value m c.args.duals.now c.requires.duals c.slice-dual-items.result.now k c.dual-item.result c.slice-dual-items.ensures c.loop-dual-test.true c.dual-item.is c.lines-lines.ensures.market in
+    let is = c.found_row-row.ensures.is r.0 r.1.row r.1.name in
+    let places = at_places m c.lines-lines.ensures.market r.0 r.1.row in
     put_next (rent_at value) (rent_of m x d) (named_rows m d) c.loop-dual.rents c.push.new.self c.in_ok-rent.rent k r.0 r.1.inside r.1.at c.in_ok-push.ensures c.loop-dual.invariant
-    (c.in_ok-rent.ensures.rent ∙ ap (earned_by m (put_in fs) e) (c.found_row-row.ensures.is r.0 r.1.row r.1.name) ∙ earned_is m x (put_in fs) same d k e r.0 r.1)
+    (c.in_ok-rent.ensures.rent ∙ ap (earned_by m (put_in fs) e) is ∙ earned_is m x fs are d k e r.0 r.1 places.0 places.1)
 
 pub returns-clause-rents : goal.returns-clause-rents
 returns-clause-rents g c =
@@ -62,10 +64,11 @@ returns-in_err-rent-clause-cause g c =
     let e = dual_at value c.dual-item.result in
     let fs = map value c.deref.result.now in
     let p = passed_at value c.in_err-rent.field-0.0 in
-    let same = put_is m x fs (ap (map value) c.deref.ensures.value ∙ c.in_ok-mws.ensures.mws) in
+    let are = ap (map value) c.deref.ensures.value ∙ c.in_ok-flows.ensures.mws in
     let r = dual_row value m c.args.duals.now c.requires.duals c.slice-dual-items.result.now k c.dual-item.result c.slice-dual-items.ensures c.loop-dual-test.true c.dual-item.is c.lines-lines.ensures.market in
     let is = c.found_row-row.ensures.is r.0 r.1.row r.1.name in
+    let places = at_places m c.lines-lines.ensures.market r.0 r.1.row in
     let given : c.from_residual-in_err-rent.result ≡ Err (why.Passed c.in_err-rent.field-0.0) = search rules in
     λ price. rw given
-    (row_refusal m x (put_in fs) same d k e r.0 r.1 price g.N.Exact.bound p (subst (λ (t : Row). t.line < length m.lines) is c.found_row-row.ensures.line)
+    (row_refusal m x fs are d k e r.0 r.1 places.0 places.1 price g.N.Exact.bound p
     (subst (λ (t : Row). IsRowRefusal m (put_in fs) e t g.N.Exact.bound p) is c.in_err-rent.ensures.cause))

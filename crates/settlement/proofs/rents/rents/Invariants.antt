@@ -2,7 +2,7 @@ use Rattle.std.proofs.Common.{◌≡◌, map, take}
 use Rattle.market_model.specs.Optimality.{named_rows}
 use Rattle.market_model.specs.RightAnswers.{rent_of}
 use Rattle.market_model.specs.Valued.{duals_at, rent_at}
-use Rattle.limit_screen.specs.Flows.{dispatch_of}
+use Rattle.market_model.specs.PutIn.{dispatch_of}
 use Rattle.settlement.proofs.rents.rents.Given as goal
 
 abbrev pub invariant-loop-dual : goal.invariant-loop-dual

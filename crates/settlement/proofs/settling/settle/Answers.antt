@@ -8,7 +8,7 @@ use Rattle.market_model.specs.declared.answered.UnitPay.{UnitPay}
 use Rattle.market_model.specs.NamedSums.{IsAddedIn}
 use Rattle.market_model.specs.Valued.{duals_at, load_at, money_at, passed_at, rent_at, unit_pay_at}
 use Rattle.market_model.proofs.SumSteps.{refused_by_added}
-use Rattle.limit_screen.specs.Flows.{dispatch_of}
+use Rattle.market_model.specs.PutIn.{dispatch_of}
 use Rattle.settlement.specs.declared.stops.MoneyStop.TheVariants as why
 use Rattle.settlement.specs.Paying.{total_at, paid_terms, left_terms, pay_of_load, pay_of_unit}
 use Rattle.settlement.specs.Refusals.{of_money}

@@ -2,7 +2,7 @@ use Rattle.std.proofs.Common.{rules, Err, ◌≡◌, ◌<◌, ◌∙◌, ap, sym
 use Rattle.std.specs.Prelude.{slice_index_or}
 use Rattle.market_data.specs.declared.participants.Unit as unit
 use Rattle.market_model.specs.Valued.{passed_at, unit_pay_at}
-use Rattle.limit_screen.specs.Flows.{dispatch_of}
+use Rattle.market_model.specs.PutIn.{dispatch_of}
 use Rattle.settlement.specs.declared.stops.MoneyStop.TheVariants as why
 use Rattle.settlement.specs.Paying.{total_at, pay_of_unit}
 use Rattle.settlement.proofs.ListLemmas.{put_place}

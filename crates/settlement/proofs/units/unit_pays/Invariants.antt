@@ -1,7 +1,7 @@
 use Rattle.std.proofs.Common.{◌≡◌, map}
 use Rattle.market_model.specs.Dispatch.{places}
 use Rattle.market_model.specs.Valued.{unit_pay_at}
-use Rattle.limit_screen.specs.Flows.{dispatch_of}
+use Rattle.market_model.specs.PutIn.{dispatch_of}
 use Rattle.settlement.specs.Paying.{total_at, pay_of_unit}
 use Rattle.settlement.proofs.units.unit_pays.Given as goal
 

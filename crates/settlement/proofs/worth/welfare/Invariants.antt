@@ -2,7 +2,7 @@ use Rattle.std.proofs.Common.{◌≡◌, map}
 use Rattle.fraction_theory.specs.Sums.{Product, total}
 use Rattle.market_model.specs.Dispatch.{places, accepted}
 use Rattle.market_model.specs.Optimality.{block_value}
-use Rattle.limit_screen.specs.Flows.{dispatch_of}
+use Rattle.market_model.specs.PutIn.{dispatch_of}
 use Rattle.settlement.proofs.worth.welfare.Given as goal
 
 abbrev pub invariant-loop-place : goal.invariant-loop-place
