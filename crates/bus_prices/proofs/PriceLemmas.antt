@@ -28,7 +28,7 @@ use Rattle.market_model.specs.NamedSums.{IsRefusal, IsRefusedIn}
 use Rattle.market_model.specs.Optimality.{IsOneSided, ProperDuals, pull, is_named, named_rows, congestion, congestion_terms, congestion_by}
 use Rattle.market_model.specs.Valued.{dual_at}
 use Rattle.market_model.proofs.MorePlaces.{sum_by_more}
-use Rattle.market_model.proofs.SumSteps.{plus_at, multiplied_at, refused_by_added}
+use Rattle.market_model.proofs.SumSteps.{plus_at, multiplied_at}
 use Rattle.limit_rows.proofs.DualLemmas.{IsRowOfDual, up_unnamed, down_unnamed, sum_named, terms_named}
 use Rattle.bus_prices.specs.Prices.{IsShareRefusal}
 
@@ -75,7 +75,7 @@ module _ (m : Parts) (d : Duals Fraction) (i : ℕ) where
 
       by : IsRefusal Times price factor bound p ⊎ IsRefusal Plus sum (price *ℚ factor) bound p → IsRefusedIn (congestion_terms m d i) bound p
       by (inl c) = multiplied_at (congestion_terms m d i) split.0 split.1 (term r) split.2 bound p price factor (neg_ℚ (pull m d r)) (row_factor m r i) refl (inl price_is) (inl share) c
-      by (inr c) = refused_by_added (congestion_terms m d i) bound p
+      by (inr c) = 
           (plus_at (congestion_terms m d i) split.0 split.1 (term r) split.2 bound p sum (price *ℚ factor) (before ∙ sym split.3) (ap₂ ◌*ℚ◌ price_is share) c)
 
 -- ---- lists by place

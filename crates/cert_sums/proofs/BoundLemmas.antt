@@ -24,7 +24,7 @@ use Rattle.market_model.specs.NamedSums.{IsRefusal, IsRefusedIn}
 use Rattle.market_model.specs.Valued.{passed_at}
 use Rattle.market_model.specs.Optimality.{up_of, down_of, is_named, named_rows}
 use Rattle.market_model.proofs.MorePlaces.{sum_by_more, total-places_more}
-use Rattle.market_model.proofs.SumSteps.{plus_at, multiplied_at, refused_by_added, terms_at, behind}
+use Rattle.market_model.proofs.SumSteps.{plus_at, multiplied_at, terms_at, behind}
 use Rattle.limit_rows.proofs.DualLemmas.{up_unnamed, down_unnamed, sum_named}
 use Rattle.cert_sums.specs.Bounds.{left_at, limits_terms}
 use Rattle.cert_sums.specs.Named.{PricedRow}
@@ -171,7 +171,7 @@ module _ (m : Parts) (d : Duals Fraction) where
       above_refused (inr (inl c)) = in_bound
           (multiplied_at (farkas_terms m d) s.front (below ∷ s.rest) above s.split bound p e.up room_above (up_of m d e.row) room_above refl (inl h.up) (inl refl) c)
       above_refused (inr (inr c)) = in_bound
-          (refused_by_added (farkas_terms m d) bound p
+          (
           (plus_at (farkas_terms m d) s.front (below ∷ s.rest) above s.split bound p sum (e.up *ℚ room_above) (before ∙ sym s.sum) (ap (λ u. u *ℚ room_above) h.up) c))
 
       second : farkas_terms m d ≡ (s.front ++ above ∷ []) ++ below ∷ s.rest
@@ -187,7 +187,7 @@ module _ (m : Parts) (d : Duals Fraction) where
       below_refused (inr (inl c)) = in_bound
           (multiplied_at (farkas_terms m d) (s.front ++ above ∷ []) s.rest below second bound p e.down room_below (down_of m d e.row) room_below refl (inl h.down) (inl refl) c)
       below_refused (inr (inr c)) = in_bound
-          (refused_by_added (farkas_terms m d) bound p
+          (
           (plus_at (farkas_terms m d) (s.front ++ above ∷ []) s.rest below second bound p (sum +ℚ e.up *ℚ room_above) (e.down *ℚ room_below) with_above (ap (λ u. u *ℚ room_below) h.down) c))
 
       pub limit_refused : IsLimitRefusal m (empty m) e sum bound p → IsFarkasPair m d bound p
@@ -229,7 +229,7 @@ module _ (m : Parts) (d : Duals Fraction) where
       by : IsRefusal Times (part_above weight) mw bound p ⊎ IsRefusal Plus sum (part_above weight *ℚ mw) bound p → IsRefusedIn (farkas_terms m d) bound p
       by (inl c) = multiplied_at (farkas_terms m d) (limits_terms m d ++ map block_term (places k)) r.0 (block_term k) split bound p (part_above weight) mw (part_above (block_weight m d k)) (quantity m k) refl
           (inl (ap part_above weighs)) (inl is) c
-      by (inr c) = refused_by_added (farkas_terms m d) bound p
+      by (inr c) = 
           (plus_at (farkas_terms m d) (limits_terms m d ++ map block_term (places k)) r.0 (block_term k) split bound p sum (part_above weight *ℚ mw)
           (before ∙ sym (total-append (limits_terms m d) (map block_term (places k)))) (ap₂ (λ w q. part_above w *ℚ q) weighs is) c)
 

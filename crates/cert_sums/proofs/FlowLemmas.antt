@@ -20,9 +20,9 @@ use Rattle.market_model.specs.declared.participants.Block.{Block}
 use Rattle.market_model.specs.declared.participants.Parts.{Parts}
 use Rattle.market_model.specs.Dispatch.{Dispatch, places, bus_at, unit_at, block_at, block_bus, fixed_term, block_term, accepted, signed, units_at, blocks_at, injection, injection_terms, balance, balance_terms}
 use Rattle.market_model.specs.LimitRows.{line_flow, line_terms, line_offset, shift_factor, loss_factor, flow_after}
-use Rattle.market_model.specs.NamedSums.{SameSize, IsAddedIn, IsRefusal, IsRefusedIn}
+use Rattle.market_model.specs.NamedSums.{SameSize, IsRefusedIn, IsRefusal}
 use Rattle.market_model.proofs.MorePlaces.{total-filter_more, total-places_more}
-use Rattle.market_model.proofs.SumSteps.{plus_at, minus_at, multiplied_at, refused_by_added, terms_at, tested_at, behind}
+use Rattle.market_model.proofs.SumSteps.{plus_at, minus_at, multiplied_at, terms_at, tested_at, behind}
 use Rattle.limit_rows.specs.Groups.{cause_of}
 use Rattle.cert_sums.specs.Pairs.{flow_terms_in}
 use Rattle.cert_sums.specs.Refusals.{IsDemandRefusal, IsShareRefusal, IsLineRefusal}
@@ -54,7 +54,7 @@ module _ (m : Parts) (bus : ℕ) where
       ∙ sym (total-filter_more at_bus (fixed_term m) k)
 
   pub fixed_refused : (k : ℕ) (u : unit.Unit) (sum : Fraction) (bound : ℕ) (p : Passed Fraction) → k < length m.units → u ≡ unit_at m k → (u.bus == bus) ≡ true → sum ≡ total (fixed_to k)
-      → IsRefusal Plus sum (whole u.fixed) bound p → IsAddedIn (map (fixed_term m) (units_at m bus)) bound p
+      → IsRefusal Plus sum (whole u.fixed) bound p → IsRefusedIn (map (fixed_term m) (units_at m bus)) bound p
   fixed_refused k u sum bound p below at belongs is h =
       let r = tested_at at_bus (fixed_term m) (length m.units) k below (ap (λ (v : unit.Unit). v.bus == bus) (sym at) ∙ belongs) in
       plus_at (map (fixed_term m) (units_at m bus)) (fixed_to k) r.0 (fixed_term m k) r.1 bound p sum (whole u.fixed) is (ap (λ (v : unit.Unit). whole v.fixed) at) h
@@ -83,7 +83,7 @@ module _ (m : Parts) (bus : ℕ) where
 
     pub raised_refused : (k : ℕ) (block : Block) (belongs : Bool) (mw sum : Fraction) (bound : ℕ) (p : Passed Fraction) → k < length m.blocks → block ≡ block_at m k → belongs ≡ bus_block k → belongs ≡ true
         → accepted x k ≡ mw → sum ≡ total (raised_to k) → IsRefusal Plus sum (signed block.side mw) bound p
-        → IsAddedIn (map (fixed_term m) (units_at m bus) ++ map (block_term m x) (filter bus_block (places (length m.blocks)))) bound p
+        → IsRefusedIn (map (fixed_term m) (units_at m bus) ++ map (block_term m x) (filter bus_block (places (length m.blocks)))) bound p
     raised_refused k block belongs mw sum bound p below at is sure accept before h =
         let f : List Term = map (fixed_term m) (units_at m bus) in
         let r = tested_at bus_block (block_term m x) (length m.blocks) k below (sym is ∙ sure) in
@@ -116,7 +116,7 @@ module _ (m : Parts) (p : ℕ → Fraction) (l : ℕ) where
 
       by : IsRefusal Times h x bound e ⊎ IsRefusal Plus sum (h *ℚ x) bound e → IsRefusedIn (line_terms m p l) bound e
       by (inl c) = multiplied_at (line_terms m p l) (line_to k) split.0 (share_term k) split.1 bound e h x (shift_factor m l k) (p k) refl (inl is) (inl at) c
-      by (inr c) = refused_by_added (line_terms m p l) bound e
+      by (inr c) = 
           (plus_at (line_terms m p l) (line_to k) split.0 (share_term k) split.1 bound e sum (h *ℚ x) before (ap₂ ◌*ℚ◌ is at) c)
 
 -- a sum of a number and a share
@@ -125,7 +125,7 @@ share_refused a h x bound e why = by why
   where
     by : IsRefusal Times h x bound e ⊎ IsRefusal Plus a (h *ℚ x) bound e → IsRefusedIn (Plain a ∷ Product h x ∷ []) bound e
     by (inl c) = multiplied_at (Plain a ∷ Product h x ∷ []) (Plain a ∷ []) [] (Product h x) refl bound e h x h x refl (inl refl) (inl refl) c
-    by (inr c) = refused_by_added (Plain a ∷ Product h x ∷ []) bound e
+    by (inr c) = 
         (plus_at (Plain a ∷ Product h x ∷ []) (Plain a ∷ []) [] (Product h x) refl bound e a (h *ℚ x) (sym (+ℚ_nil a)) refl c)
 
 -- ---- lists by place
@@ -196,7 +196,7 @@ module _ {N : Type 0} (value : N → Fraction) (m : Parts) (x : Dispatch) (mws :
       → IsRefusedIn (balance_terms m x) bound p
   balance_refused k mw sum bound p below at before h =
       subst (λ ts. IsRefusedIn ts bound p) (sym balance-terms)
-      (refused_by_added (map (λ y. Plain (value y)) mws) bound p
+      (
       (plus_at (map (λ y. Plain (value y)) mws) (map (λ y. Plain (value y)) (take k mws)) (map (λ y. Plain (value y)) (drop (k + 1) mws)) (Plain (value mw)) (mapped_at (λ y. Plain (value y)) mws k mw below at)
       bound p sum (value mw) (before ∙ sym (total-map (λ y. Plain (value y)) (take k mws))) refl h))
 
@@ -229,7 +229,7 @@ module _ (m : Parts) (x : Dispatch) (l k : ℕ) (lost : Option ℕ) (some : Some
 prefix-front : (k : ℕ) (ts us : List Term) → k ≤ length ts → prefix k (ts ++ us) ≡ prefix k ts
 prefix-front k ts us h = ap total (take-append-le k ts us h)
 
-added_in_front : (ts us : List Term) (bound : ℕ) (p : Passed Fraction) → IsAddedIn ts bound p → IsAddedIn (ts ++ us) bound p
+added_in_front : (ts us : List Term) (bound : ℕ) (p : Passed Fraction) → IsRefusedIn ts bound p → IsRefusedIn (ts ++ us) bound p
 added_in_front ts us bound p h =
     let k = h.place in
     let inside : k < length ts = h.next.inside in
@@ -272,10 +272,10 @@ module _ (m : Parts) (x : Dispatch) (i : ℕ) (bound : ℕ) (p : Passed Fraction
   parts-are : injection_terms m x i ≡ front ++ less_load ∷ less_shunt ∷ []
   parts-are = refl
 
-  pub demand_refused : (b : Bus) (sum : Fraction) → b ≡ bus_at m i → sum ≡ total front → IsDemandRefusal sum b bound p → IsAddedIn (injection_terms m x i) bound p
+  pub demand_refused : (b : Bus) (sum : Fraction) → b ≡ bus_at m i → sum ≡ total front → IsDemandRefusal sum b bound p → IsRefusedIn (injection_terms m x i) bound p
   demand_refused b sum at is why = by why
     where
-      by : IsRefusal Minus sum (whole b.pd) bound p ⊎ IsRefusal Minus (sum -ℚ whole b.pd) (whole b.gs) bound p → IsAddedIn (injection_terms m x i) bound p
+      by : IsRefusal Minus sum (whole b.pd) bound p ⊎ IsRefusal Minus (sum -ℚ whole b.pd) (whole b.gs) bound p → IsRefusedIn (injection_terms m x i) bound p
       by (inl h) =
           minus_at (injection_terms m x i) front (less_shunt ∷ []) less_load parts-are bound p sum (whole b.pd) is
           (ap (λ (c : Bus). whole c.pd) at ∙ sym (neg_neg ring_ℚ (whole (bus_at m i).pd))) h
@@ -285,10 +285,10 @@ module _ (m : Parts) (x : Dispatch) (i : ℕ) (bound : ℕ) (p : Passed Fraction
           (ap (λ (c : Bus). whole c.gs) at ∙ sym (neg_neg ring_ℚ (whole (bus_at m i).gs))) h
 
   -- a step in front of load and shunt is a step of the injection
-  pub raised_refusal : IsAddedIn front bound p → IsAddedIn (injection_terms m x i) bound p
-  raised_refusal h = subst (λ ts. IsAddedIn ts bound p) (sym parts-are) (added_in_front front (less_load ∷ less_shunt ∷ []) bound p h)
+  pub raised_refusal : IsRefusedIn front bound p → IsRefusedIn (injection_terms m x i) bound p
+  raised_refusal h = subst (λ ts. IsRefusedIn ts bound p) (sym parts-are) (added_in_front front (less_load ∷ less_shunt ∷ []) bound p h)
 
-  pub fixed_refusal : IsAddedIn (map (fixed_term m) (units_at m i)) bound p → IsAddedIn (injection_terms m x i) bound p
+  pub fixed_refusal : IsRefusedIn (map (fixed_term m) (units_at m i)) bound p → IsRefusedIn (injection_terms m x i) bound p
   fixed_refusal h = raised_refusal (added_in_front (map (fixed_term m) (units_at m i)) (map (block_term m x) (blocks_at m i)) bound p h)
 
 -- the sum of the units with no block

@@ -17,7 +17,7 @@ use Rattle.market_model.specs.LimitRows.{rows, row_id, row_factor}
 use Rattle.market_model.specs.NamedSums.{IsRefusal, IsRefusedIn}
 use Rattle.market_model.specs.Optimality.{up_of, down_of, pull, is_named, named_rows, congestion, congestion_terms, congestion_by}
 use Rattle.market_model.proofs.MorePlaces.{sum_by_more}
-use Rattle.market_model.proofs.SumSteps.{plus_at, multiplied_at, refused_by_added, refusal_same}
+use Rattle.market_model.proofs.SumSteps.{plus_at, multiplied_at, refusal_same}
 use Rattle.limit_rows.proofs.DualLemmas.{up_unnamed, down_unnamed, sum_named, terms_named}
 use Rattle.cert_sums.specs.declared.pricing.NamedRow.{NamedRow}
 use Rattle.cert_sums.specs.Named.{PricedRow, priced_at, priced_by, AreNamed}
@@ -104,11 +104,11 @@ module _ (m : Parts) (d : Duals Fraction) (i : ℕ) where
         by (inr (inl c)) = inl
             (multiplied_at (congestion_terms m d i) split.0 split.1 (term e.row) split.2 bound p (neg_ℚ (e.up -ℚ e.down)) factor (neg_ℚ (pull m d e.row)) (row_factor m e.row i) refl (inl pull_is) (inl share) c)
         by (inr (inr c)) = inl
-            (refused_by_added (congestion_terms m d i) bound p
+            (
             (plus_at (congestion_terms m d i) split.0 split.1 (term e.row) split.2 bound p sum (neg_ℚ (e.up -ℚ e.down) *ℚ factor) (before ∙ sym split.3) (ap₂ ◌*ℚ◌ pull_is share) c))
 
 -- the price of energy and the congestion are added
 pub price_refused : (m : Parts) (d : Duals Fraction) (i : ℕ) (bound : ℕ) (p : Passed Fraction) → IsRefusal Plus d.energy (congestion m d i) bound p → IsRefusedIn (price_terms m d i) bound p
 price_refused m d i bound p h =
-    refused_by_added (price_terms m d i) bound p
+    
     (plus_at (price_terms m d i) (Plain d.energy ∷ []) [] (Plain (congestion m d i)) refl bound p d.energy (congestion m d i) (sym (+ℚ_nil d.energy)) refl h)

@@ -19,7 +19,7 @@ use Rattle.market_model.specs.PutIn.{AreInjections, put_in}
 use Rattle.market_model.proofs.MorePlaces.{total-places_more}
 use Rattle.market_model.proofs.PlaceLists.{map_same}
 use Rattle.market_model.proofs.PutInSteps.{put_is}
-use Rattle.market_model.proofs.SumSteps.{plus_at, multiplied_at, refused_by_added, terms_at}
+use Rattle.market_model.proofs.SumSteps.{plus_at, multiplied_at, terms_at}
 use Rattle.limit_rows.specs.LineFlows.{AreFlows, IsLineRefusal, IsShareRefusal}
 
 -- a factor of 0 takes nothing
@@ -52,8 +52,7 @@ module _ (m : Parts) (p : ℕ → Fraction) (l : ℕ) where
 
       by : IsRefusal Times h x bound e ⊎ IsRefusal Plus sum (h *ℚ x) bound e → IsRefusedIn (line_terms m p l) bound e
       by (inl c) = multiplied_at (line_terms m p l) (line_to k) split.0 (share_term k) split.1 bound e h x (shift_factor m l k) (p k) refl (inl is) (inl at) c
-      by (inr c) = refused_by_added (line_terms m p l) bound e
-          (plus_at (line_terms m p l) (line_to k) split.0 (share_term k) split.1 bound e sum (h *ℚ x) before (ap₂ ◌*ℚ◌ is at) c)
+      by (inr c) = (plus_at (line_terms m p l) (line_to k) split.0 (share_term k) split.1 bound e sum (h *ℚ x) before (ap₂ ◌*ℚ◌ is at) c)
 
 -- a sum of a number and a share
 pub share_refused : (a h x : Fraction) (bound : ℕ) (e : Passed Fraction) → IsShareRefusal a h x bound e → IsRefusedIn (Plain a ∷ Product h x ∷ []) bound e
@@ -61,8 +60,7 @@ share_refused a h x bound e why = by why
   where
     by : IsRefusal Times h x bound e ⊎ IsRefusal Plus a (h *ℚ x) bound e → IsRefusedIn (Plain a ∷ Product h x ∷ []) bound e
     by (inl c) = multiplied_at (Plain a ∷ Product h x ∷ []) (Plain a ∷ []) [] (Product h x) refl bound e h x h x refl (inl refl) (inl refl) c
-    by (inr c) = refused_by_added (Plain a ∷ Product h x ∷ []) bound e
-        (plus_at (Plain a ∷ Product h x ∷ []) (Plain a ∷ []) [] (Product h x) refl bound e a (h *ℚ x) (sym (+ℚ_nil a)) refl c)
+    by (inr c) = (plus_at (Plain a ∷ Product h x ∷ []) (Plain a ∷ []) [] (Product h x) refl bound e a (h *ℚ x) (sym (+ℚ_nil a)) refl c)
 
 -- ---- the flow of a row, where lines have flows f
 module _ (m : Parts) (f : ℕ → Fraction) (l : ℕ) where

@@ -9,7 +9,7 @@ use Rattle.market_model.specs.Dispatch.{Dispatch, zero, places, injection, injec
 use Rattle.market_model.specs.declared.limits.Row.{Row}
 use Rattle.market_model.specs.LimitRows.{rows, line_flow, line_terms, flow, flow_by}
 use Rattle.market_model.specs.Market.{IsMarket}
-use Rattle.market_model.specs.NamedSums.{IsAddedIn, IsRefusedIn}
+use Rattle.market_model.specs.NamedSums.{IsRefusedIn}
 
 -- what each bus puts in at a dispatch, and then the flow of each line
 abbrev pub flows_at : Parts → Dispatch → List Fraction
@@ -25,5 +25,5 @@ LawOfRowFlows = (m : Parts) (x : Dispatch) (fs : List Fraction) (r : Row) → Is
 
 -- an operation refused where the flows of a dispatch are added up
 pub data IsFlowsRefusal (m : Parts) (x : Dispatch) (bound : ℕ) (p : Passed Fraction) : Type 0 where
-  of_injection : (i : ℕ) → i < length m.buses → IsAddedIn (injection_terms m x i) bound p → IsFlowsRefusal m x bound p
+  of_injection : (i : ℕ) → i < length m.buses → IsRefusedIn (injection_terms m x i) bound p → IsFlowsRefusal m x bound p
   of_line : (l : ℕ) → l < length m.lines → IsRefusedIn (line_terms m (injection m x) l) bound p → IsFlowsRefusal m x bound p

@@ -17,7 +17,7 @@ use Rattle.market_model.specs.declared.limits.Row.{Row}
 use Rattle.market_model.specs.declared.limits.Cause.TheVariants.{Base, Branch}
 use Rattle.market_model.specs.LimitRows.{rows, line_flow, loss_factor}
 use Rattle.market_model.specs.Market.{IsMarket}
-use Rattle.market_model.specs.NamedSums.{IsAddedIn, IsRefusal}
+use Rattle.market_model.specs.NamedSums.{IsRefusedIn, IsRefusal}
 use Rattle.market_model.proofs.MorePlaces.{total-places_more}
 use Rattle.market_model.proofs.SumSteps.{plus_at, terms_at}
 use Rattle.limit_rows.proofs.FactorLemmas.{IsLost, stands}
@@ -72,7 +72,7 @@ module _ (m : Parts) (x : Dispatch) where
   pub balance_step : (k : ℕ) (mw old new : Fraction) → mw ≡ injection m x k → old ≡ balance_to k → new ≡ old +ℚ mw → new ≡ balance_to (k + 1)
   balance_step k mw old new is before e = e ∙ ap₂ ◌+ℚ◌ before is ∙ sym (total-places_more (λ i. Plain (injection m x i)) k)
 
-  pub balance_refused : (k : ℕ) (mw sum : Fraction) (bound : ℕ) (p : Passed Fraction) → k < length m.buses → mw ≡ injection m x k → sum ≡ balance_to k → IsRefusal Plus sum mw bound p → IsAddedIn (balance_terms m x) bound p
+  pub balance_refused : (k : ℕ) (mw sum : Fraction) (bound : ℕ) (p : Passed Fraction) → k < length m.buses → mw ≡ injection m x k → sum ≡ balance_to k → IsRefusal Plus sum mw bound p → IsRefusedIn (balance_terms m x) bound p
   balance_refused k mw sum bound p lt is before h =
       let r = terms_at (λ i. Plain (injection m x i)) (length m.buses) k lt in
       plus_at (balance_terms m x) (map (λ i. Plain (injection m x i)) (places k)) r.0 (Plain (injection m x k)) r.1 bound p sum mw before is h

@@ -7,7 +7,7 @@ use Rattle.market_model.specs.declared.participants.Parts.{Parts}
 use Rattle.market_model.specs.Dispatch.{empty, injection, balance_terms}
 use Rattle.market_model.specs.declared.limits.Row.{Row}
 use Rattle.market_model.specs.LimitRows.{rows, limit, line_flow, flow}
-use Rattle.market_model.specs.NamedSums.{IsAddedIn, IsRefusal, IsRefusedIn}
+use Rattle.market_model.specs.NamedSums.{IsRefusedIn, IsRefusal}
 use Rattle.limit_screen.specs.Flows.{flow_terms, IsFlowsRefusal}
 
 -- an operation refused for the bounds of a limit row: its flow where nothing is accepted, or what that leaves of the limit on a side
@@ -19,5 +19,5 @@ pub data IsBoundRefusal (m : Parts) (bound : ℕ) (r : Row) (p : Passed Fraction
 -- an operation refused for prices and bounds
 pub data IsTermsRefusal (m : Parts) (bound : ℕ) (p : Passed Fraction) : Type 0 where
   of_flows : IsFlowsRefusal m (empty m) bound p → IsTermsRefusal m bound p
-  of_balance : IsAddedIn (balance_terms m (empty m)) bound p → IsTermsRefusal m bound p
+  of_balance : IsRefusedIn (balance_terms m (empty m)) bound p → IsTermsRefusal m bound p
   of_row : (r : Row) → Contains (rows m) r → IsBoundRefusal m bound r p → IsTermsRefusal m bound p

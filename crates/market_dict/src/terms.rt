@@ -6,7 +6,7 @@ ghost use Rattle.market_data.specs.Participants.{IsDatum};
 ghost use Rattle.market_model.specs.Dispatch.{zero, places, signed, empty, balance_terms};
 ghost use Rattle.market_model.specs.declared.limits.Row.{Row};
 ghost use Rattle.market_model.specs.LimitRows.{rows};
-ghost use Rattle.market_model.specs.NamedSums.{IsAddedIn};
+ghost use Rattle.market_model.specs.NamedSums.{IsRefusedIn};
 ghost use Rattle.market_model.specs.Optimality.{block_value};
 ghost use Rattle.market_model.specs.Valued.{passed_at};
 ghost use Rattle.market_system.specs.MarketSystem.{needed as needed_of, least_added, most_added};
@@ -75,7 +75,7 @@ fn idle_flows<N: Exact>(alloc: Global, market: &Market) -> Result<Vec<N>, Stop<N
 fn needed<N: Exact>(market: &Market, idle: &[N]) -> Result<N, Passed<N>>
     requires { map N.value idle.now ≡ flows_at market.now (empty market.now) }
     ensures needed { IfOk result (λ mw. N.value mw ≡ needed_of market.now) }
-    ensures cause { IfErr result (λ passed. IsAddedIn (balance_terms market.now (empty market.now)) N.bound (passed_at N.value passed)) }
+    ensures cause { IfErr result (λ passed. IsRefusedIn (balance_terms market.now (empty market.now)) N.bound (passed_at N.value passed)) }
 {
     let mut balance: N = datum(0);
     for bus in 0..market.buses().len() {

@@ -10,7 +10,8 @@ use Rattle.fraction_theory.specs.Sums.{Term, Plain, term_value, total, prefix}
 use Rattle.fraction_theory.proofs.FieldLaws.{ring_ℚ, +ℚ_nil, +ℚ_assoc}
 use Rattle.fraction_theory.proofs.Ring.{neg_neg}
 use Rattle.fraction_theory.proofs.SumLaws.{total-append}
-use Rattle.exact_fraction.specs.declared.Op.TheVariants.{Plus, Minus}
+use Rattle.exact_fraction.specs.declared.Op.{Op}
+use Rattle.exact_fraction.specs.declared.Op.TheVariants.{Plus, Minus, Times}
 use Rattle.exact_fraction.specs.declared.Passed.{Passed}
 use Rattle.exact_fraction.specs.Passes.{outcome}
 use Rattle.market_data.specs.declared.participants.Bus.{Bus}
@@ -18,7 +19,7 @@ use Rattle.market_data.specs.declared.participants.Unit as unit
 use Rattle.market_model.specs.declared.participants.Block.{Block}
 use Rattle.market_model.specs.declared.participants.Parts.{Parts}
 use Rattle.market_model.specs.Dispatch.{Dispatch, zero, places, bus_at, unit_at, block_at, block_bus, fixed_term, block_term, accepted, signed, units_at, blocks_at, injection, injection_terms, output_terms}
-use Rattle.market_model.specs.NamedSums.{SameSize, IsAddedIn, IsRefusal}
+use Rattle.market_model.specs.NamedSums.{SameSize, IsNextTerm, IsSumStep, IsRefusal, IsRefusedIn}
 use Rattle.market_model.specs.PutIn.{dispatch_of, put_in, AreInjections, IsDemandRefusal}
 use Rattle.market_model.proofs.MorePlaces.{total-filter_more}
 use Rattle.market_model.proofs.SumSteps.{plus_at, minus_at, tested_at, behind}
@@ -42,7 +43,7 @@ module _ (m : Parts) (bus : ℕ) where
       ∙ sym (total-filter_more at_bus (fixed_term m) k)
 
   pub fixed_refused : (k : ℕ) (u : unit.Unit) (sum : Fraction) (bound : ℕ) (p : Passed Fraction) → k < length m.units → u ≡ unit_at m k → (u.bus == bus) ≡ true → sum ≡ total (fixed_to k)
-      → IsRefusal Plus sum (whole u.fixed) bound p → IsAddedIn (map (fixed_term m) (units_at m bus)) bound p
+      → IsRefusal Plus sum (whole u.fixed) bound p → IsRefusedIn (map (fixed_term m) (units_at m bus)) bound p
   fixed_refused k u sum bound p below at belongs is h =
       let r = tested_at at_bus (fixed_term m) (length m.units) k below (ap (λ (v : unit.Unit). v.bus == bus) (sym at) ∙ belongs) in
       plus_at (map (fixed_term m) (units_at m bus)) (fixed_to k) r.0 (fixed_term m k) r.1 bound p sum (whole u.fixed) is (ap (λ (v : unit.Unit). whole v.fixed) at) h
@@ -71,7 +72,7 @@ module _ (m : Parts) (bus : ℕ) where
 
     pub raised_refused : (k : ℕ) (block : Block) (belongs : Bool) (mw sum : Fraction) (bound : ℕ) (p : Passed Fraction) → k < length m.blocks → block ≡ block_at m k → belongs ≡ bus_block k → belongs ≡ true
         → accepted x k ≡ mw → sum ≡ total (raised_to k) → IsRefusal Plus sum (signed block.side mw) bound p
-        → IsAddedIn (map (fixed_term m) (units_at m bus) ++ map (block_term m x) (filter bus_block (places (length m.blocks)))) bound p
+        → IsRefusedIn (map (fixed_term m) (units_at m bus) ++ map (block_term m x) (filter bus_block (places (length m.blocks)))) bound p
     raised_refused k block belongs mw sum bound p below at is sure accept before h =
         let f : List Term = map (fixed_term m) (units_at m bus) in
         let r = tested_at bus_block (block_term m x) (length m.blocks) k below (sym is ∙ sure) in
@@ -91,21 +92,29 @@ module _ (m : Parts) (x : Dispatch) (fs : List Fraction) (puts : AreInjections m
 prefix-front : (k : ℕ) (ts us : List Term) → k ≤ length ts → prefix k (ts ++ us) ≡ prefix k ts
 prefix-front k ts us h = ap total (take-append-le k ts us h)
 
-added_in_front : (ts us : List Term) (bound : ℕ) (p : Passed Fraction) → IsAddedIn ts bound p → IsAddedIn (ts ++ us) bound p
-added_in_front ts us bound p h =
-    let k = h.place in
-    let inside : k < length ts = h.next.inside in
+next_in_front : (ts us : List Term) (op : Op) (l r : Fraction) (k : ℕ) → IsNextTerm ts op l r k → IsNextTerm (ts ++ us) op l r k
+next_in_front ts us op l r k next =
+    let inside : k < length ts = next.inside in
     record {
-      adds = h.adds;
-      place = k;
-      next = record {
-        inside = Prim.omega (arith, inside, length-append ts us);
-        before = subst (SameSize p.left) (sym (prefix-front k ts us (Prim.omega (arith, inside)))) h.next.before;
-        next = subst (λ (t : Term). SameSize p.right (term_value t)) (sym (get_or_append_left ts us (Plain (whole (pos 0))) k inside)) h.next.next;
-        after = subst (SameSize (outcome p.op p.left p.right)) (sym (prefix-front (k + 1) ts us (Prim.omega (arith, inside)))) h.next.after;
-      };
-      passes = h.passes;
+      inside = Prim.omega (arith, inside, length-append ts us);
+      before = subst (SameSize l) (sym (prefix-front k ts us (Prim.omega (arith, inside)))) next.before;
+      next = subst (λ (t : Term). SameSize r (term_value t)) (sym (get_or_append_left ts us (Plain (whole (pos 0))) k inside)) next.next;
+      after = subst (SameSize (outcome op l r)) (sym (prefix-front (k + 1) ts us (Prim.omega (arith, inside)))) next.after;
     }
+
+step_in_front : (ts us : List Term) (op : Op) (l r : Fraction) → IsSumStep ts op l r → IsSumStep (ts ++ us) op l r
+step_in_front ts us Plus l r (k, next) = (k, next_in_front ts us Plus l r k next)
+step_in_front ts us Minus l r (k, next) = (k, next_in_front ts us Minus l r k next)
+step_in_front ts us Times l r (k, a, b, factors) =
+    let inside : k < length ts = factors.inside in
+    (k, a, b, record {
+      inside = Prim.omega (arith, inside, length-append ts us);
+      product = get_or_append_left ts us (Plain (whole (pos 0))) k inside ∙ factors.product;
+      sides = factors.sides;
+    })
+
+refused_in_front : (ts us : List Term) (bound : ℕ) (p : Passed Fraction) → IsRefusedIn ts bound p → IsRefusedIn (ts ++ us) bound p
+refused_in_front ts us bound p h = record { step = step_in_front ts us p.op p.left p.right h.step; passes = h.passes }
 
 -- ---- what a bus puts in
 pub demand_less : (m : Parts) (x : Dispatch) (i : ℕ) (b : Bus) (sum left : Fraction) → b ≡ bus_at m i → sum ≡ total (map (fixed_term m) (units_at m i) ++ map (block_term m x) (blocks_at m i))
@@ -134,10 +143,10 @@ module _ (m : Parts) (x : Dispatch) (i : ℕ) (bound : ℕ) (p : Passed Fraction
   parts-are : injection_terms m x i ≡ front ++ less_load ∷ less_shunt ∷ []
   parts-are = refl
 
-  pub demand_refused : (b : Bus) (sum : Fraction) → b ≡ bus_at m i → sum ≡ total front → IsDemandRefusal sum b bound p → IsAddedIn (injection_terms m x i) bound p
+  pub demand_refused : (b : Bus) (sum : Fraction) → b ≡ bus_at m i → sum ≡ total front → IsDemandRefusal sum b bound p → IsRefusedIn (injection_terms m x i) bound p
   demand_refused b sum at is why = by why
     where
-      by : IsRefusal Minus sum (whole b.pd) bound p ⊎ IsRefusal Minus (sum -ℚ whole b.pd) (whole b.gs) bound p → IsAddedIn (injection_terms m x i) bound p
+      by : IsRefusal Minus sum (whole b.pd) bound p ⊎ IsRefusal Minus (sum -ℚ whole b.pd) (whole b.gs) bound p → IsRefusedIn (injection_terms m x i) bound p
       by (inl h) =
           minus_at (injection_terms m x i) front (less_shunt ∷ []) less_load parts-are bound p sum (whole b.pd) is
           (ap (λ (c : Bus). whole c.pd) at ∙ sym (neg_neg ring_ℚ (whole (bus_at m i).pd))) h
@@ -147,11 +156,11 @@ module _ (m : Parts) (x : Dispatch) (i : ℕ) (bound : ℕ) (p : Passed Fraction
           (ap (λ (c : Bus). whole c.gs) at ∙ sym (neg_neg ring_ℚ (whole (bus_at m i).gs))) h
 
   -- a step in front of load and shunt is a step of the injection
-  pub raised_refusal : IsAddedIn front bound p → IsAddedIn (injection_terms m x i) bound p
-  raised_refusal h = subst (λ ts. IsAddedIn ts bound p) (sym parts-are) (added_in_front front (less_load ∷ less_shunt ∷ []) bound p h)
+  pub raised_refusal : IsRefusedIn front bound p → IsRefusedIn (injection_terms m x i) bound p
+  raised_refusal h = subst (λ ts. IsRefusedIn ts bound p) (sym parts-are) (refused_in_front front (less_load ∷ less_shunt ∷ []) bound p h)
 
-  pub fixed_refusal : IsAddedIn (map (fixed_term m) (units_at m i)) bound p → IsAddedIn (injection_terms m x i) bound p
-  fixed_refusal h = raised_refusal (added_in_front (map (fixed_term m) (units_at m i)) (map (block_term m x) (blocks_at m i)) bound p h)
+  pub fixed_refusal : IsRefusedIn (map (fixed_term m) (units_at m i)) bound p → IsRefusedIn (injection_terms m x i) bound p
+  fixed_refusal h = raised_refusal (refused_in_front (map (fixed_term m) (units_at m i)) (map (block_term m x) (blocks_at m i)) bound p h)
 
 -- the sum of the units with no block
 pub raised_none : (m : Parts) (x : Dispatch) (bus : ℕ) (sum : Fraction) → sum ≡ total (map (fixed_term m) (units_at m bus)) → sum ≡ total (raised_to m bus x 0)
@@ -185,7 +194,7 @@ module _ {N : Type 0} (value : N → Fraction) (m : Parts) (ds : List N) where
   module _ (bound : ℕ) (p : Passed Fraction) where
     -- a block of a unit's output
     pub output_refused : (place k : ℕ) (block : Block) (d : N) (sum : Fraction) → k < length m.blocks → k < length ds → d ≡ get_or ds k d → block ≡ block_at m k → (block.unit == place) ≡ true
-        → sum ≡ output_to place k → IsRefusal Plus sum (signed block.side (value d)) bound p → IsAddedIn (output_terms m (dispatch_of value ds) place) bound p
+        → sum ≡ output_to place k → IsRefusal Plus sum (signed block.side (value d)) bound p → IsRefusedIn (output_terms m (dispatch_of value ds) place) bound p
     output_refused place k block d sum below lt at same belongs is h =
         let x = dispatch_of value ds in
         let test : ℕ → _ = λ j. (block_at m j).unit == place in

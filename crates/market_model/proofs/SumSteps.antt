@@ -15,7 +15,7 @@ use Rattle.exact_fraction.specs.declared.Op.TheVariants.{Plus, Minus, Times}
 use Rattle.exact_fraction.specs.declared.Passed.{Passed}
 use Rattle.exact_fraction.specs.Passes.{Passes, IsPassed, outcome}
 use Rattle.market_model.specs.Dispatch.{places}
-use Rattle.market_model.specs.NamedSums.{SameSize, term_at, IsNextTerm, IsSumStep, IsRefusedIn, Adds, IsAddedIn, IsRefusal}
+use Rattle.market_model.specs.NamedSums.{SameSize, term_at, IsNextTerm, IsSumStep, IsRefusedIn, IsRefusal}
 use Rattle.market_model.specs.Valued.{passed_at}
 
 -- what a refused operation of numbers is of their values
@@ -62,47 +62,30 @@ module _ (terms front rest : List Term) (t : Term) (split : terms ≡ front ++ t
   }
 
   module _ (bound : ℕ) (p : Passed Fraction) (l r : Fraction) where
-    added_at : (op : Op) → Adds op → IsNextTerm terms op l r (length front) → IsRefusal op l r bound p → IsAddedIn terms bound p
-    added_at op adds next h = record {
-      adds = subst Adds (sym h.same_op) adds;
-      place = length front;
-      next =
-          subst (λ (o : Op). IsNextTerm terms o p.left p.right (length front)) (sym h.same_op)
-          (subst₂ (λ (a b : Fraction). IsNextTerm terms op a b (length front)) (sym h.same_left) (sym h.same_right) next);
+    stepped : (op : Op) → IsSumStep terms op l r → IsRefusal op l r bound p → IsRefusedIn terms bound p
+    stepped op step h = record {
+      step =
+          subst (λ (o : Op). IsSumStep terms o p.left p.right) (sym h.same_op)
+          (subst₂ (λ (a b : Fraction). IsSumStep terms op a b) (sym h.same_left) (sym h.same_right) step);
       passes = h.passes;
     }
 
     -- the term is added
-    pub plus_at : l ≡ total front → r ≡ term_value t → IsRefusal Plus l r bound p → IsAddedIn terms bound p
-    plus_at left right h = added_at Plus tt (next_is Plus l r (inl left) (inl right) (inl (ap₂ ◌+ℚ◌ left right))) h
+    pub plus_at : l ≡ total front → r ≡ term_value t → IsRefusal Plus l r bound p → IsRefusedIn terms bound p
+    plus_at left right h = stepped Plus (length front, next_is Plus l r (inl left) (inl right) (inl (ap₂ ◌+ℚ◌ left right))) h
 
     -- its opposite is subtracted
-    pub minus_at : l ≡ total front → r ≡ neg_ℚ (term_value t) → IsRefusal Minus l r bound p → IsAddedIn terms bound p
+    pub minus_at : l ≡ total front → r ≡ neg_ℚ (term_value t) → IsRefusal Minus l r bound p → IsRefusedIn terms bound p
     minus_at left right h =
-        added_at Minus tt (next_is Minus l r (inl left) (inr right) (inl (ap₂ ◌-ℚ◌ left right ∙ by_ring ring_ℚ (total front ∷ term_value t ∷ []) (at 0 ⊕ pneg (pneg (at 1))) (at 0 ⊕ at 1) refl))) h
+        stepped Minus (length front, next_is Minus l r (inl left) (inr right) (inl (ap₂ ◌-ℚ◌ left right ∙ by_ring ring_ℚ (total front ∷ term_value t ∷ []) (at 0 ⊕ pneg (pneg (at 1))) (at 0 ⊕ at 1) refl))) h
 
     -- both are turned round
-    pub turned_at : l ≡ neg_ℚ (total front) → r ≡ neg_ℚ (term_value t) → IsRefusal Plus l r bound p → IsAddedIn terms bound p
+    pub turned_at : l ≡ neg_ℚ (total front) → r ≡ neg_ℚ (term_value t) → IsRefusal Plus l r bound p → IsRefusedIn terms bound p
     turned_at left right h =
-        added_at Plus tt (next_is Plus l r (inr left) (inr right) (inr (ap₂ ◌+ℚ◌ left right ∙ by_ring ring_ℚ (total front ∷ term_value t ∷ []) (pneg (at 0) ⊕ pneg (at 1)) (pneg (at 0 ⊕ at 1)) refl))) h
+        stepped Plus (length front, next_is Plus l r (inr left) (inr right) (inr (ap₂ ◌+ℚ◌ left right ∙ by_ring ring_ℚ (total front ∷ term_value t ∷ []) (pneg (at 0) ⊕ pneg (at 1)) (pneg (at 0 ⊕ at 1)) refl))) h
 
     pub multiplied_at : (a b : Fraction) → t ≡ Product a b → SameSize l a → SameSize r b → IsRefusal Times l r bound p → IsRefusedIn terms bound p
-    multiplied_at a b product left right h = record {
-      step =
-          subst (λ (o : Op). IsSumStep terms o p.left p.right) (sym h.same_op)
-          (subst₂ (λ (x y : Fraction). IsSumStep terms Times x y) (sym h.same_left) (sym h.same_right)
-          (length front, a, b, record { inside = inside; product = here ∙ product; sides = inl (left, right) }));
-      passes = h.passes;
-    }
-
--- what is added up is refused where terms are added up
-pub refused_by_added : (terms : List Term) (bound : ℕ) (p : Passed Fraction) → IsAddedIn terms bound p → IsRefusedIn terms bound p
-refused_by_added terms bound p a = record { step = by_op p.op a.adds a.next; passes = a.passes }
-  where
-    by_op : (o : Op) → Adds o → IsNextTerm terms o p.left p.right a.place → IsSumStep terms o p.left p.right
-    by_op Plus h next = (a.place, next)
-    by_op Minus h next = (a.place, next)
-    by_op Times h next = absurd h
+    multiplied_at a b product left right h = stepped Times (length front, a, b, record { inside = inside; product = here ∙ product; sides = inl (left, right) }) h
 
 -- the places from one on
 range_at : (a n k : ℕ) → k < n → (rest : List ℕ) × (range_with_len a n ≡ range_with_len a k ++ (a + k) ∷ rest)

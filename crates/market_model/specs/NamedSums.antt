@@ -40,19 +40,6 @@ pub record IsRefusedIn (terms : List Term) (bound : ℕ) (p : Passed Fraction) :
   pub step : IsSumStep terms p.op p.left p.right
   pub passes : Passes bound p.op p.left p.right
 
--- the operation adds or subtracts
-abbrev pub Adds : Op → Type 0
-Adds Plus = Unit {0}
-Adds Minus = Unit {0}
-Adds Times = ⊥
-
--- a sum or a difference that passes the bound, where the terms are added up
-pub record IsAddedIn (terms : List Term) (bound : ℕ) (p : Passed Fraction) : Type 0 where
-  pub adds : Adds p.op
-  pub place : ℕ
-  pub next : IsNextTerm terms p.op p.left p.right place
-  pub passes : Passes bound p.op p.left p.right
-
 -- this operation on these two numbers, which passes the bound
 pub record IsRefusal (op : Op) (left right : Fraction) (bound : ℕ) (p : Passed Fraction) : Type 0 where
   pub same_op : p.op ≡ op

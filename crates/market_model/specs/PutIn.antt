@@ -6,7 +6,7 @@ use Rattle.exact_fraction.specs.declared.Passed.{Passed}
 use Rattle.market_data.specs.declared.participants.Bus.{Bus}
 use Rattle.market_model.specs.declared.participants.Parts.{Parts}
 use Rattle.market_model.specs.Dispatch.{Dispatch, zero, places, injection, injection_terms}
-use Rattle.market_model.specs.NamedSums.{IsAddedIn, IsRefusal}
+use Rattle.market_model.specs.NamedSums.{IsRefusedIn, IsRefusal}
 
 -- the accepted MW of each block, as numbers
 abbrev pub dispatch_of : {N : Type 0} → (N → Fraction) → List N → Dispatch
@@ -26,4 +26,4 @@ IsDemandRefusal sum bus bound p = IsRefusal Minus sum (whole bus.pd) bound p ⊎
 
 -- an operation refused at a dispatch, in what a bus puts in
 abbrev pub IsInjectionRefusal : Parts → Dispatch → ℕ → Passed Fraction → Type 0
-IsInjectionRefusal m x bound p = (i : ℕ) × (i < length m.buses) × IsAddedIn (injection_terms m x i) bound p
+IsInjectionRefusal m x bound p = (i : ℕ) × (i < length m.buses) × IsRefusedIn (injection_terms m x i) bound p

@@ -6,7 +6,7 @@ ghost use Rattle.fraction_theory.specs.Sums.{total};
 ghost use Rattle.exact_fraction.specs.declared.Op.TheVariants as Op;
 ghost use Rattle.market_data.specs.Participants.{IsBus, IsDatum};
 ghost use Rattle.market_model.specs.Dispatch.{zero, signed, unit_at, units_at, blocks_at, fixed_term, block_term, injection, injection_terms, output as output_of, output_terms};
-ghost use Rattle.market_model.specs.NamedSums.{IsAddedIn, IsRefusal};
+ghost use Rattle.market_model.specs.NamedSums.{IsRefusedIn, IsRefusal};
 ghost use Rattle.market_model.specs.PutIn.{dispatch_of, AreInjections, IsDemandRefusal, IsInjectionRefusal};
 ghost use Rattle.market_model.specs.Valued.{passed_at};
 
@@ -47,7 +47,7 @@ fn with_block<N: Exact>(sum: N, block: &Block, belongs: bool, mw: N) -> Result<N
 /// What the fixed parts of the units at a bus come to.
 fn fixed_at<N: Exact>(market: &Market, bus: usize) -> Result<N, Passed<N>>
     ensures sum { IfOk result (λ mw. N.value mw ≡ total (map (fixed_term market.now) (units_at market.now bus))) }
-    ensures cause { IfErr result (λ passed. IsAddedIn (map (fixed_term market.now) (units_at market.now bus)) N.bound (passed_at N.value passed)) }
+    ensures cause { IfErr result (λ passed. IsRefusedIn (map (fixed_term market.now) (units_at market.now bus)) N.bound (passed_at N.value passed)) }
 {
     let mut mw: N = datum(0);
     for (at, unit) in market.units().slice().iter().enumerate() {
@@ -66,7 +66,7 @@ fn raised_at<N: Exact>(
     requires dispatch { length dispatch.now ≡ length market.now.blocks }
     requires fixed { N.value fixed ≡ total (map (fixed_term market.now) (units_at market.now bus)) }
     ensures sum { IfOk result (λ mw. N.value mw ≡ total (map (fixed_term market.now) (units_at market.now bus) ++ map (block_term market.now (dispatch_of N.value dispatch.now)) (blocks_at market.now bus))) }
-    ensures cause { IfErr result (λ passed. IsAddedIn (map (fixed_term market.now) (units_at market.now bus) ++ map (block_term market.now (dispatch_of N.value dispatch.now)) (blocks_at market.now bus)) N.bound (passed_at N.value passed)) }
+    ensures cause { IfErr result (λ passed. IsRefusedIn (map (fixed_term market.now) (units_at market.now bus) ++ map (block_term market.now (dispatch_of N.value dispatch.now)) (blocks_at market.now bus)) N.bound (passed_at N.value passed)) }
 {
     let mut mw = fixed;
     for (at, block) in market.blocks().slice().iter().enumerate() {
@@ -92,7 +92,7 @@ fn injection<N: Exact>(market: &Market, bus: usize, dispatch: &[N]) -> Result<N,
     requires bus { bus < length market.now.buses }
     requires dispatch { length dispatch.now ≡ length market.now.blocks }
     ensures sum { IfOk result (λ mw. N.value mw ≡ injection market.now (dispatch_of N.value dispatch.now) bus) }
-    ensures cause { IfErr result (λ passed. IsAddedIn (injection_terms market.now (dispatch_of N.value dispatch.now) bus) N.bound (passed_at N.value passed)) }
+    ensures cause { IfErr result (λ passed. IsRefusedIn (injection_terms market.now (dispatch_of N.value dispatch.now) bus) N.bound (passed_at N.value passed)) }
 {
     let fixed = fixed_at(market, bus)?;
     let raised = raised_at(market, bus, fixed, dispatch)?;
@@ -126,7 +126,7 @@ pub fn output<N: Exact>(market: &Market, unit: usize, dispatch: &[N]) -> Result<
     requires unit { unit < length market.now.units }
     requires dispatch { length dispatch.now ≡ length market.now.blocks }
     ensures output { IfOk result (λ mw. N.value mw ≡ output_of market.now (dispatch_of N.value dispatch.now) unit) }
-    ensures cause { IfErr result (λ passed. IsAddedIn (output_terms market.now (dispatch_of N.value dispatch.now) unit) N.bound (passed_at N.value passed)) }
+    ensures cause { IfErr result (λ passed. IsRefusedIn (output_terms market.now (dispatch_of N.value dispatch.now) unit) N.bound (passed_at N.value passed)) }
 {
     let mut mw: N = fixed_part(market, unit);
     for (at, block) in market.blocks().slice().iter().enumerate() {

@@ -33,7 +33,7 @@ use Rattle.market_model.specs.declared.limits.Row.{Row}
 use Rattle.market_model.specs.declared.limits.Cause.TheVariants.{Base, Branch}
 use Rattle.market_model.specs.LimitRows.{rows, limit, shift_factor, line_offset, line_terms, line_flow, flow_terms, flow_terms_in, offset_terms, offset_terms_in, row_offset, row_factor, factor_terms, factor_terms_in, flow}
 use Rattle.market_model.specs.Market.{IsMarket}
-use Rattle.market_model.specs.NamedSums.{SameSize, term_at, IsNextTerm, AreFactors, IsSumStep, IsRefusedIn, Adds, IsRefusal}
+use Rattle.market_model.specs.NamedSums.{SameSize, term_at, IsNextTerm, AreFactors, IsSumStep, IsRefusedIn, IsRefusal}
 use Rattle.market_model.specs.Optimality.{pull, up_of, down_of, congestion, congestion_by, congestion_terms, price_by, price_terms, bus_price, unit_price}
 use Rattle.market_model.specs.Infeasibility.{where_above, part_above, block_weight, limit_terms, farkas_terms}
 use Rattle.market_model.specs.SumTables.{FlowSum, injection_at, balance_of_all, flow_of_line, flow_of_row, PriceSum, congestion_at, price_at}
@@ -65,6 +65,12 @@ module _ (N : Kind → Fraction → Type 0) (opposite : (kind : Kind) (x : Fract
     term_is k h =
         by_ring1 ring_ℚ (term_value (term_at terms k) ∷ prefix k terms ∷ prefix (k + 1) terms ∷ []) (at 0) (at 2 ⊕ pneg (at 1)) (pneg pone) (at 2) (at 1 ⊕ at 0)
         (prefix-more k terms (Plain (whole (pos 0))) h) refl
+
+    -- the operation adds or subtracts
+    abbrev Adds : Op → Type 0
+    Adds Plus = Unit {0}
+    Adds Minus = Unit {0}
+    Adds Times = ⊥
 
     added_case : (op : Op) (l r : Fraction) (k : ℕ) → Adds op → IsNextTerm terms op l r k → IsPairCase N op l r
     added_case op l r k adds h = by op adds

@@ -24,7 +24,7 @@ use Rattle.market_model.specs.Laws.{HasOffsetsWithin}
 use Rattle.market_model.specs.declared.limits.Row.{Row}
 use Rattle.market_model.specs.LimitRows.{rows, row_id, limit, row_offset}
 use Rattle.market_model.specs.Market.{IsMarket}
-use Rattle.market_model.specs.NamedSums.{SameSize, term_at, IsAddedIn, IsRefusal}
+use Rattle.market_model.specs.NamedSums.{SameSize, term_at, IsRefusedIn, IsRefusal}
 use Rattle.market_model.specs.Optimality.{bus_price, unit_price, is_named, named_rows}
 use Rattle.market_model.specs.RightAnswers.{rent_of}
 use Rattle.market_model.specs.Settlement.{paid, pays, rent, surplus}
@@ -52,7 +52,7 @@ module _ {N : Type 0} (value : N → Fraction) (loads : List (Load N)) (units : 
 
   module _ (bound : ℕ) (p : Passed Fraction) where
     pub load_refused : (k : ℕ) (load : Load N) (sum : Fraction) → k < length loads → load ≡ get_or loads k load → sum ≡ sum_by (λ l. value l.pays) (take k loads)
-        → IsRefusal Plus sum (value load.pays) bound p → IsAddedIn (paid_terms value loads units) bound p
+        → IsRefusal Plus sum (value load.pays) bound p → IsRefusedIn (paid_terms value loads units) bound p
     load_refused k load sum below found is h =
         plus_at (paid_terms value loads units) (map load_term (take k loads)) (map load_term (drop (k + 1) loads) ++ map unit_term units) (load_term load)
         (in_front (map load_term loads) (map load_term (take k loads)) (map load_term (drop (k + 1) loads)) (map unit_term units) (load_term load) (mapped_at load_term loads k load below found))
@@ -60,7 +60,7 @@ module _ {N : Type 0} (value : N → Fraction) (loads : List (Load N)) (units : 
 
     pub unit_refused : (k : ℕ) (unit : UnitPay N) (sum : Fraction) → k < length units → unit ≡ get_or units k unit
         → sum ≡ sum_by (λ l. value l.pays) loads +ℚ sum_by (λ u. neg_ℚ (value u.paid)) (take k units)
-        → IsRefusal Plus sum (neg_ℚ (value unit.paid)) bound p → IsAddedIn (paid_terms value loads units) bound p
+        → IsRefusal Plus sum (neg_ℚ (value unit.paid)) bound p → IsRefusedIn (paid_terms value loads units) bound p
     unit_refused k unit sum below found is h =
         plus_at (paid_terms value loads units) (map load_term loads ++ map unit_term (take k units)) (map unit_term (drop (k + 1) units)) (unit_term unit)
         (behind (map load_term loads) (map unit_term units) (map unit_term (take k units)) (map unit_term (drop (k + 1) units)) (unit_term unit) (mapped_at unit_term units k unit below found))
@@ -80,7 +80,7 @@ prefix-same ts us k e = prefix_by k ts ∙ ap (λ vs. sum_by (λ v. v) (take k v
 pub total-same : (ts us : List Term) → map term_value ts ≡ map term_value us → total ts ≡ total us
 total-same ts us e = sym (sum_by-map term_value (λ v. v) ts) ∙ ap (sum_by (λ v. v)) e ∙ sum_by-map term_value (λ v. v) us
 
-pub added_same : (ts us : List Term) (bound : ℕ) (p : Passed Fraction) → map term_value ts ≡ map term_value us → IsAddedIn ts bound p → IsAddedIn us bound p
+pub added_same : (ts us : List Term) (bound : ℕ) (p : Passed Fraction) → map term_value ts ≡ map term_value us → IsRefusedIn ts bound p → IsRefusedIn us bound p
 added_same ts us bound p e h =
     let k = h.place in
     let long : length ts ≡ length us = sym (length-map ts term_value) ∙ ap length e ∙ length-map us term_value in
@@ -130,7 +130,7 @@ module _ {N : Type 0} (value : N → Fraction) (m : Parts) (x : Dispatch) (price
   pub surplus_is : (s : Fraction) → s ≡ sum_by (λ (l : Load N). value l.pays) loads +ℚ sum_by (λ (u : UnitPay N). neg_ℚ (value u.paid)) units → s ≡ total (left_terms m x price)
   surplus_is s e = e ∙ paid_total value loads units ∙ total-same (paid_terms value loads units) (left_terms m x price) paid_is
 
-  pub surplus_refused : (bound : ℕ) (p : Passed Fraction) → IsAddedIn (paid_terms value loads units) bound p → IsAddedIn (left_terms m x price) bound p
+  pub surplus_refused : (bound : ℕ) (p : Passed Fraction) → IsRefusedIn (paid_terms value loads units) bound p → IsRefusedIn (left_terms m x price) bound p
   surplus_refused bound p h = added_same (paid_terms value loads units) (left_terms m x price) bound p paid_is h
 
 -- ---- at the prices of duals

@@ -16,11 +16,11 @@ use Rattle.market_model.specs.declared.answered.UnitPay.{UnitPay}
 use Rattle.market_model.specs.declared.participants.Block.{Block}
 use Rattle.market_model.specs.declared.participants.Parts.{Parts}
 use Rattle.market_model.specs.Dispatch.{Dispatch, zero, places, signed, fixed_term, block_term, block_at, unit_at, bus_at, accepted, output, output_terms, demand}
-use Rattle.market_model.specs.NamedSums.{IsAddedIn, IsRefusal, IsRefusedIn}
+use Rattle.market_model.specs.NamedSums.{IsRefusedIn, IsRefusal}
 use Rattle.market_model.specs.Optimality.{block_value, welfare_terms}
 use Rattle.market_model.specs.Valued.{load_at, unit_pay_at}
 use Rattle.market_model.proofs.MorePlaces.{total-filter_more, total-places_more}
-use Rattle.market_model.proofs.SumSteps.{plus_at, multiplied_at, refused_by_added, terms_at, tested_at, behind, in_front}
+use Rattle.market_model.proofs.SumSteps.{plus_at, multiplied_at, terms_at, tested_at, behind, in_front}
 use Rattle.market_model.proofs.PutInSteps.{accepted_is}
 use Rattle.market_model.specs.PutIn.{dispatch_of}
 use Rattle.settlement.specs.Paying.{total_at, pay_of_unit, pay_of_load, left_terms}
@@ -57,7 +57,7 @@ module _ {N : Type 0} (value : N → Fraction) (m : Parts) (ds : List N) where
         let x = dispatch_of value ds in
         let f : ℕ → Term = λ j. Product (block_value m j) (accepted x j) in
         let r = terms_at f (length m.blocks) k below in
-        refused_by_added (welfare_terms m x) bound p
+        
         (plus_at (welfare_terms m x) (map f (places k)) r.0 (f k) r.1 bound p sum worth is
         ((w ∙ ap (λ (b : Block). neg_ℚ (signed b.side (whole b.price)) *ℚ value d) same ∙ ap (λ v. block_value m k *ℚ v) (sym (accepted_is value ds k d lt at)))) h)
 
@@ -109,7 +109,7 @@ module _ (m : Parts) (x : Dispatch) (price : ℕ → Fraction) (d : Duals Fracti
   pub unit_refusal : (u : ℕ) (t : Fraction) → u < length m.units → t ≡ price (unit_at m u).bus → IsUnitRefusal m x bound u t p → IsSettlementRefusal m x price d bound p
   unit_refusal u t below is why = by why
     where
-      by : IsAddedIn (output_terms m x u) bound p ⊎ IsRefusal Times t (output m x u) bound p → IsSettlementRefusal m x price d bound p
+      by : IsRefusedIn (output_terms m x u) bound p ⊎ IsRefusal Times t (output m x u) bound p → IsSettlementRefusal m x price d bound p
       by (inl h) = of_output u below h
       by (inr h) =
           let r = terms_at unit_term (length m.units) u below in

@@ -11,7 +11,7 @@ use Rattle.market_model.specs.Dispatch.{Dispatch, bus_at, injection, injection_t
 use Rattle.market_model.specs.declared.limits.Row.{Row}
 use Rattle.market_model.specs.declared.limits.Cause.TheVariants.{Base, Branch}
 use Rattle.market_model.specs.LimitRows.{flow_terms, limit, line_flow, line_terms, offset_terms, row_offset}
-use Rattle.market_model.specs.NamedSums.{IsAddedIn, IsRefusal, IsRefusedIn}
+use Rattle.market_model.specs.NamedSums.{IsRefusedIn, IsRefusal}
 use Rattle.market_model.specs.Optimality.{named_rows}
 use Rattle.market_model.specs.Settlement.{rent_terms}
 use Rattle.market_model.specs.Valued.{passed_at}
@@ -22,11 +22,11 @@ use Rattle.settlement.specs.Paying.{earned_terms, left_terms}
 -- an operation refused where a dispatch is settled at prices of the buses; all rows are rows of the market that the duals name
 pub data IsSettlementRefusal (m : Parts) (x : Dispatch) (price : ℕ → Fraction) (d : Duals Fraction) (bound : ℕ) (p : Passed Fraction) : Type 0 where
   -- a unit's output, a bus's demand, and what is paid for these
-  of_output : (u : ℕ) → u < length m.units → IsAddedIn (output_terms m x u) bound p → IsSettlementRefusal m x price d bound p
+  of_output : (u : ℕ) → u < length m.units → IsRefusedIn (output_terms m x u) bound p → IsSettlementRefusal m x price d bound p
   of_demand : (i : ℕ) → i < length m.buses → IsRefusal Plus (whole (bus_at m i).pd) (whole (bus_at m i).gs) bound p → IsSettlementRefusal m x price d bound p
   of_money : IsRefusedIn (left_terms m x price) bound p → IsSettlementRefusal m x price d bound p
   -- what a bus puts in, the flow of a line, and that of a row after an outage
-  of_injection : (i : ℕ) → i < length m.buses → IsAddedIn (injection_terms m x i) bound p → IsSettlementRefusal m x price d bound p
+  of_injection : (i : ℕ) → i < length m.buses → IsRefusedIn (injection_terms m x i) bound p → IsSettlementRefusal m x price d bound p
   of_line : (l : ℕ) → l < length m.lines → IsRefusedIn (line_terms m (injection m x) l) bound p → IsSettlementRefusal m x price d bound p
   of_flow : (l k : ℕ) → l < length m.lines → k < length m.lines → Contains (named_rows m d) (record { line = l; cause = Branch k })
       → IsRefusedIn (flow_terms m (line_flow m (injection m x)) (record { line = l; cause = Branch k })) bound p → IsSettlementRefusal m x price d bound p
@@ -48,7 +48,7 @@ IsLoadRefusal bound bus price p = IsRefusal Plus (whole bus.pd) (whole bus.gs) b
 
 -- for a unit at a price: its output, or what it is paid
 abbrev pub IsUnitRefusal : Parts → Dispatch → ℕ → ℕ → Fraction → Passed Fraction → Type 0
-IsUnitRefusal m x bound unit price p = IsAddedIn (output_terms m x unit) bound p ⊎ IsRefusal Times price (output m x unit) bound p
+IsUnitRefusal m x bound unit price p = IsRefusedIn (output_terms m x unit) bound p ⊎ IsRefusal Times price (output m x unit) bound p
 
 -- for a limit at the prices of a dual: the limit less its offset or with it, or what it earns
 abbrev pub IsEarningRefusal : Dual Fraction → Fraction → Fraction → ℕ → Passed Fraction → Type 0

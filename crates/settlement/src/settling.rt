@@ -6,7 +6,7 @@ ghost use Rattle.fraction_theory.specs.Order.{◌≤ℚ◌};
 ghost use Rattle.fraction_theory.specs.Sums.{sum_by};
 ghost use Rattle.market_model.specs.Dispatch.{zero};
 ghost use Rattle.market_model.specs.Laws.{HasOffsetsWithin};
-ghost use Rattle.market_model.specs.NamedSums.{IsAddedIn};
+ghost use Rattle.market_model.specs.NamedSums.{IsRefusedIn};
 ghost use Rattle.market_model.specs.Optimality.{ProperDuals};
 ghost use Rattle.market_model.specs.Valued.{duals_at, money_at, passed_at};
 ghost use Rattle.market_model.specs.PutIn.{dispatch_of};
@@ -24,7 +24,7 @@ use std::alloc::Global;
 /// What loads pay, in bus order, less what units are paid, in unit order.
 fn surplus<N: Exact>(loads: &[Load<N>], units: &[UnitPay<N>]) -> Result<N, Passed<N>>
     ensures left { IfOk result (λ left. N.value left ≡ sum_by (λ load. N.value load.pays) loads.now +ℚ sum_by (λ unit. neg_ℚ (N.value unit.paid)) units.now) }
-    ensures cause { IfErr result (λ passed. IsAddedIn (paid_terms N.value loads.now units.now) N.bound (passed_at N.value passed)) }
+    ensures cause { IfErr result (λ passed. IsRefusedIn (paid_terms N.value loads.now units.now) N.bound (passed_at N.value passed)) }
 {
     let mut surplus: N = datum(0);
     for load in loads {

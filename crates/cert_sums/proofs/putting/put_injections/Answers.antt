@@ -1,7 +1,6 @@
 use Rattle.std.proofs.Common.{rules, Err, ◌≡◌, ◌∙◌, length, arith}
 use Rattle.market_model.specs.Dispatch.{injection}
 use Rattle.market_model.specs.Valued.{passed_at}
-use Rattle.market_model.proofs.SumSteps.{refused_by_added}
 use Rattle.cert_sums.specs.Results.{dispatch_of}
 use Rattle.cert_sums.proofs.FlowLemmas.{put_more, all_put}
 use Rattle.cert_sums.proofs.putting.put_injections.Goals as goal
@@ -19,4 +18,4 @@ returns-clause-injections g c =
 pub returns-in_err-mw-clause-cause : goal.returns-in_err-mw-clause-cause
 returns-in_err-mw-clause-cause g c =
     let given : c.from_residual.result ≡ Err c.in_err-mw.field-0.0 = search rules in
-    rw given (c.loop-bus.bus, omega (arith, c.loop-bus-test.true, c.requires.out), refused_by_added _ g.N.Exact.bound (passed_at g.N.Exact.value c.in_err-mw.field-0.0) c.in_err-mw.ensures.cause)
+    rw given (c.loop-bus.bus, omega (arith, c.loop-bus-test.true, c.requires.out), c.in_err-mw.ensures.cause)

@@ -5,9 +5,8 @@ use Rattle.market_model.specs.declared.answered.Load.{Load}
 use Rattle.market_model.specs.declared.answered.Money.{Money}
 use Rattle.market_model.specs.declared.answered.Rent.{Rent}
 use Rattle.market_model.specs.declared.answered.UnitPay.{UnitPay}
-use Rattle.market_model.specs.NamedSums.{IsAddedIn}
+use Rattle.market_model.specs.NamedSums.{IsRefusedIn}
 use Rattle.market_model.specs.Valued.{duals_at, load_at, money_at, passed_at, rent_at, unit_pay_at}
-use Rattle.market_model.proofs.SumSteps.{refused_by_added}
 use Rattle.market_model.specs.PutIn.{dispatch_of}
 use Rattle.settlement.specs.declared.stops.MoneyStop.TheVariants as why
 use Rattle.settlement.specs.Paying.{total_at, paid_terms, left_terms, pay_of_load, pay_of_unit}
@@ -41,9 +40,9 @@ returns-in_err-surplus-clause-cause g c =
     let given : c.from_residual-in_err-surplus.result ≡ Err (why.Passed c.in_err-surplus.field-0.0) = search rules in
     rw given
     (of_money
-    (refused_by_added (left_terms m x price) g.N.Exact.bound p
+    (
     (surplus_refused value m x price c.in_ok-loads.loads c.in_ok-units.units c.in_ok-loads.ensures.loads c.in_ok-units.ensures.pays g.N.Exact.bound p
-    (subst₂ (λ (ls : List (Load g.row.N.Denot)) (us : List (UnitPay g.row.N.Denot)). IsAddedIn (paid_terms value ls us) g.N.Exact.bound p) c.slice.ensures c.slice-2.ensures c.in_err-surplus.ensures.cause))))
+    (subst₂ (λ (ls : List (Load g.row.N.Denot)) (us : List (UnitPay g.row.N.Denot)). IsRefusedIn (paid_terms value ls us) g.N.Exact.bound p) c.slice.ensures c.slice-2.ensures c.in_err-surplus.ensures.cause))))
 
 pub returns-clause-money : goal.returns-clause-money
 returns-clause-money g c =
