@@ -2,8 +2,8 @@
 use Rattle.std.specs.Prelude.{◌≡◌, ◌⊎◌, ℕ, ◌+◌, ◌-◌, ◌<◌, ◌≤◌, pos, Bool, true, false, cond, List, [], ◌∷◌, ◌++◌, map, filter, length, All, Option, Some, None, IfSome, Contains, refl}
 use Rattle.std.specs.List.{slice_get}
 use Rattle.std.specs.Ordering.{MatchOrdering}
-use Rattle.std.proofs.Common.{zero, suc, arith, inl, inr, ap, ap₂, sym, subst, ◌∙◌, get_or, drop, take, length-drop, append_assoc, Ordering, Less, Equal, Greater}
-use Rattle.std.proofs.lemmas.List.{append-nil, map-append, get_or-append_right, get_or-drop, drop-map, take_all}
+use Rattle.std.proofs.Common.{zero, suc, arith, inl, inr, ap, ap₂, sym, subst, ◌∙◌, get_or, drop, take, append_assoc, Ordering, Less, Equal, Greater}
+use Rattle.std.proofs.lemmas.List.{append-nil, map-append, get_or-append_right, get_or-drop, drop-map, take_rest}
 use Rattle.std.proofs.lemmas.List.FromFn.{length-map-range_with_len, get_or-map-range_with_len}
 use Rattle.std.proofs.lemmas.List.Elements.{All-append, All-cons, All-nil, filter-append}
 use Rattle.std.proofs.lemmas.Option.{slice_get_within, get_or_from_slice_get}
@@ -139,7 +139,7 @@ law_of_row_flows m x fs r market puts c =
 pub terms_behind : {N : Type 0} (value : N → Fraction) (m : Parts) (fs : List N) (n : ℕ) (r : Row) → n ≡ length m.buses → r.line < length m.lines → IsCauseAmong (length m.lines) r.cause
     → flow_terms m (put_in (map value (take (length fs - n) (drop n fs)))) r ≡ flow_terms m (line_in m (map value fs)) r
 terms_behind {N} value m fs n r count inside among =
-    let all : take (length fs - n) (drop n fs) ≡ drop n fs = take_all (length fs - n) (drop n fs) (Prim.omega (arith, length-drop n fs)) in
+    let all : take (length fs - n) (drop n fs) ≡ drop n fs = take_rest fs n in
     flow_terms-same m (put_in (map value (take (length fs - n) (drop n fs)))) (line_in m (map value fs))
     (λ l lt.
     ap (λ (ys : List N). put_in (map value ys) l) all

@@ -104,8 +104,8 @@ module _ (m : Parts) (x : Dispatch) (flows : List Fraction) (are : AreFlows m x 
 
     of_row_flow : (c : Cause) → c ≢ Base → IsCauseAmong (length m.lines) c → Contains (named_rows m d) (record { line = r.line; cause = c })
         → IsRefusedIn (flow_terms m (line_flow m (injection m x)) (record { line = r.line; cause = c })) bound p → IsSettlementRefusal m x price d bound p
-    of_row_flow Base after below listed why = absurd (after refl)
-    of_row_flow (Branch lost) after below listed why = of_flow r.line lost inside below listed why
+    of_row_flow Base after there listed why = absurd (after refl)
+    of_row_flow (Branch lost) after there listed why = of_flow r.line lost inside there listed why
 
     pub row_refusal : IsRowRefusal m (put_in flows) e r bound p → IsSettlementRefusal m x price d bound p
     row_refusal why = by why
