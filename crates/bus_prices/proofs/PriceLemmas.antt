@@ -75,8 +75,7 @@ module _ (m : Parts) (d : Duals Fraction) (i : ℕ) where
 
       by : IsRefusal Times price factor bound p ⊎ IsRefusal Plus sum (price *ℚ factor) bound p → IsRefusedIn (congestion_terms m d i) bound p
       by (inl c) = multiplied_at (congestion_terms m d i) split.0 split.1 (term r) split.2 bound p price factor (neg_ℚ (pull m d r)) (row_factor m r i) refl (inl price_is) (inl share) c
-      by (inr c) = 
-          (plus_at (congestion_terms m d i) split.0 split.1 (term r) split.2 bound p sum (price *ℚ factor) (before ∙ sym split.3) (ap₂ ◌*ℚ◌ price_is share) c)
+      by (inr c) = (plus_at (congestion_terms m d i) split.0 split.1 (term r) split.2 bound p sum (price *ℚ factor) (before ∙ sym split.3) (ap₂ ◌*ℚ◌ price_is share) c)
 
 -- ---- lists by place
 pub put_more : {N Y : Type 0} (value : N → Y) (f : ℕ → Y) (out : List N) (i : ℕ) (x : N) → i < length out → ((k : ℕ) (d : N) → k < i → value (get_or out k d) ≡ f k) → value x ≡ f i

@@ -229,8 +229,7 @@ module _ (m : Parts) (d : Duals Fraction) where
       by : IsRefusal Times (part_above weight) mw bound p ⊎ IsRefusal Plus sum (part_above weight *ℚ mw) bound p → IsRefusedIn (farkas_terms m d) bound p
       by (inl c) = multiplied_at (farkas_terms m d) (limits_terms m d ++ map block_term (places k)) r.0 (block_term k) split bound p (part_above weight) mw (part_above (block_weight m d k)) (quantity m k) refl
           (inl (ap part_above weighs)) (inl is) c
-      by (inr c) = 
-          (plus_at (farkas_terms m d) (limits_terms m d ++ map block_term (places k)) r.0 (block_term k) split bound p sum (part_above weight *ℚ mw)
+      by (inr c) = (plus_at (farkas_terms m d) (limits_terms m d ++ map block_term (places k)) r.0 (block_term k) split bound p sum (part_above weight *ℚ mw)
           (before ∙ sym (total-append (limits_terms m d) (map block_term (places k)))) (ap₂ (λ w q. part_above w *ℚ q) weighs is) c)
 
   -- the price of energy by the balance

@@ -116,8 +116,7 @@ module _ (m : Parts) (p : ℕ → Fraction) (l : ℕ) where
 
       by : IsRefusal Times h x bound e ⊎ IsRefusal Plus sum (h *ℚ x) bound e → IsRefusedIn (line_terms m p l) bound e
       by (inl c) = multiplied_at (line_terms m p l) (line_to k) split.0 (share_term k) split.1 bound e h x (shift_factor m l k) (p k) refl (inl is) (inl at) c
-      by (inr c) = 
-          (plus_at (line_terms m p l) (line_to k) split.0 (share_term k) split.1 bound e sum (h *ℚ x) before (ap₂ ◌*ℚ◌ is at) c)
+      by (inr c) = (plus_at (line_terms m p l) (line_to k) split.0 (share_term k) split.1 bound e sum (h *ℚ x) before (ap₂ ◌*ℚ◌ is at) c)
 
 -- a sum of a number and a share
 pub share_refused : (a h x : Fraction) (bound : ℕ) (e : Passed Fraction) → IsShareRefusal a h x bound e → IsRefusedIn (Plain a ∷ Product h x ∷ []) bound e
@@ -125,8 +124,7 @@ share_refused a h x bound e why = by why
   where
     by : IsRefusal Times h x bound e ⊎ IsRefusal Plus a (h *ℚ x) bound e → IsRefusedIn (Plain a ∷ Product h x ∷ []) bound e
     by (inl c) = multiplied_at (Plain a ∷ Product h x ∷ []) (Plain a ∷ []) [] (Product h x) refl bound e h x h x refl (inl refl) (inl refl) c
-    by (inr c) = 
-        (plus_at (Plain a ∷ Product h x ∷ []) (Plain a ∷ []) [] (Product h x) refl bound e a (h *ℚ x) (sym (+ℚ_nil a)) refl c)
+    by (inr c) = (plus_at (Plain a ∷ Product h x ∷ []) (Plain a ∷ []) [] (Product h x) refl bound e a (h *ℚ x) (sym (+ℚ_nil a)) refl c)
 
 -- ---- lists by place
 pub put_read : {N : Type 0} (value : N → Fraction) (xs : List N) (k : ℕ) (x : N) → k < length xs → x ≡ get_or xs k x → value x ≡ get_or (map value xs) k (whole (pos 0))

@@ -14,7 +14,7 @@ use Rattle.market_model.specs.Optimality.{Feasible, Supports, ProperDuals, bus_p
 use Rattle.market_model.specs.RightAnswers.{IsRight}
 use Rattle.market_model.specs.Valued.{answer_at, duals_at, money_at, price_at}
 use Rattle.bus_prices.specs.Prices.{price_of}
-use Rattle.limit_screen.specs.Flows.{dispatch_of}
+use Rattle.market_model.specs.PutIn.{dispatch_of}
 use Rattle.settlement.specs.Laws.{LawOfRightMoney}
 use Rattle.settlement.specs.Paying.{ArePricesOf, IsSettlement, total_at}
 use Rattle.settlement.proofs.ListLemmas.{map-map}

@@ -17,7 +17,7 @@ use Rattle.market_system.specs.MarketSystem.{system_of}
 use Rattle.market_system.specs.SolvedLaws.{AreRows}
 use Rattle.linear_system.specs.Choices.{value}
 use Rattle.market_system.proofs.GrowthLaws.{broken_is_new, growth_none, growth_more, rows_few}
-use Rattle.limit_screen.specs.Flows.{dispatch_of}
+use Rattle.market_model.specs.PutIn.{dispatch_of}
 use Rattle.market_dict.specs.Findings.{IsSolvedBy}
 use Rattle.market_dict.specs.Holding.{Holds}
 use Rattle.market_dict.specs.Terms.{AreTerms}

@@ -38,7 +38,7 @@ use Rattle.limit_rows.proofs.ApartLemmas.{names_apart}
 use Rattle.limit_rows.proofs.FactorLemmas.{stands}
 use Rattle.limit_screen.specs.Flows.{flows_at, line_in, IsFlowsRefusal, of_injection as flows_of_injection, of_line as flows_of_line}
 use Rattle.limit_screen.specs.Screening.{IsRowRefusal, IsScreenRefusal, of_flow as row_of_flow, of_limit as row_of_limit}
-use Rattle.limit_screen.proofs.FlowLemmas.{map_same}
+use Rattle.market_model.proofs.PlaceLists.{map_same}
 use Rattle.bus_prices.specs.Prices.{IsPriceRefusal, of_congestion, of_total}
 use Rattle.settlement.specs.Paying.{ArePricesOf, left_terms}
 use Rattle.settlement.specs.Refusals.{IsSettlementRefusal, of_output, of_demand, of_money as of_money_left, of_injection, of_line, of_row_flow, of_offset, of_limit_less, of_limit_more, of_rent}
@@ -192,7 +192,7 @@ module _ (m : Parts) (g : List Row) (x : Dispatch) (d : Duals Fraction) (market 
             (subst (λ e. IsRefusedIn (surplus_terms m x e) bound p) solved.duals (subst (λ ts. IsRefusedIn ts bound p) left_is a)))
         settlement_range (of_injection i lt a) = flow_sum (injection_terms m x i) (injection_at i lt) a
         settlement_range (of_line l lt a) = flow_sum (line_terms m (injection m x) l) (flow_of_line l lt) a
-        settlement_range (of_row_flow r c a) = flow_sum (flow_terms m (line_flow m (injection m x)) r) (flow_of_row r (named r c).0) a
+        settlement_range (of_row_flow r c after a) = flow_sum (flow_terms m (line_flow m (injection m x)) r) (flow_of_row r (named r c).0) a
         settlement_range (of_offset r c a) = pairs.sum (Some Quantity) (offset_terms m r) (offset_of r (named r c).0) a
         settlement_range (of_limit_less r c a) = pairs.two Quantity (limit m r) (row_offset m r) (is_limit r (named r c).0) (offset_number r (named r c).0) (inr a)
         settlement_range (of_limit_more r c a) = pairs.two Quantity (limit m r) (row_offset m r) (is_limit r (named r c).0) (offset_number r (named r c).0) (inl a)

@@ -8,7 +8,7 @@ ghost use Rattle.market_model.specs.Optimality.{Feasible, ProperDuals};
 ghost use Rattle.market_model.specs.RightAnswers.{IsRight};
 ghost use Rattle.market_model.specs.Valued.{answer_at, duals_at, passed_at, price_at};
 ghost use Rattle.bus_prices.specs.Prices.{price_of, IsPriceRefusal};
-ghost use Rattle.limit_screen.specs.Flows.{dispatch_of};
+ghost use Rattle.market_model.specs.PutIn.{dispatch_of};
 ghost use Rattle.market_dict.specs.Findings.{IsSolvedBy, OnPassed};
 ghost use Rattle.clear_loop.specs.Faults.{stop_of};
 ghost use Rattle.clear_loop.specs.Rounds.{StopsInRange};

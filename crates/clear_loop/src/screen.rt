@@ -6,7 +6,8 @@ ghost use Rattle.market_model.specs.declared.limits.Row.{Row};
 ghost use Rattle.market_model.specs.LimitRows.{flow, rows, most_flow};
 ghost use Rattle.market_model.specs.Optimality.{Within};
 ghost use Rattle.market_model.specs.Valued.{passed_at};
-ghost use Rattle.limit_screen.specs.Flows.{dispatch_of, flows_at, line_in, IsFlowsRefusal};
+ghost use Rattle.market_model.specs.PutIn.{dispatch_of};
+ghost use Rattle.limit_screen.specs.Flows.{flows_at, line_in, IsFlowsRefusal};
 ghost use Rattle.limit_screen.specs.Screening.{IsScreenRefusal};
 ghost use Rattle.market_dict.specs.Findings.{OnPassed};
 

@@ -68,14 +68,14 @@ flat_few f n few (x ∷ xs) =
 pub rows_few : (m : Parts) → IsMarket m → length (rows m) ≤ 1002000
 rows_few m market =
     let each : (cause : Cause) → length (rows_of m cause) ≤ 2000 = λ cause.
-    let long : length (rows_of m cause) ≡ length (lines_of m lost) = length-rows_of m cause in
-    let few : length (lines_of m lost) ≤ length (places (length m.lines)) = filtered_few (bears m lost) (places (length m.lines)) in
+    let long : length (rows_of m cause) ≡ length (lines_of m cause) = length-rows_of m cause in
+    let few : length (lines_of m cause) ≤ length (places (length m.lines)) = filtered_few (bears m cause) (places (length m.lines)) in
     let counted : length (places (length m.lines)) ≡ length m.lines = length-range_with_len 0 (length m.lines) in
     Prim.omega (arith, long, few, counted, market.line_count) in
     let all : length (flat_map (rows_of m) (causes m)) ≤ length (causes m) * 2000 = flat_few (rows_of m) 2000 each (causes m) in
-    let groups_few : length (causes m) ≤ 501 = Prim.omega (arith, market.outage_count, length-map m.outages (λ (row : ℕ). Branch (place_of_line m row))) in
+    let causes_few : length (causes m) ≤ 501 = Prim.omega (arith, market.outage_count, length-map m.outages (λ (row : ℕ). Branch (place_of_line m row))) in
     let same : length (rows m) ≡ length (flat_map (rows_of m) (causes m)) = ap length (rows-causes m) in
-    Prim.omega (arith, all, groups_few, same)
+    Prim.omega (arith, all, causes_few, same)
 
 -- ---- the name of a row by its position
 pub row_named_at : (m : Parts) → IsMarket m → (r : Row) → Contains (rows m) r → (name : RowId) → name ≡ row_id m r

@@ -15,13 +15,13 @@ use Rattle.market_model.specs.Dispatch.{Dispatch, places, signed, block_at, quan
 use Rattle.market_model.specs.declared.limits.Cause.{Cause}
 use Rattle.market_model.specs.declared.limits.Row.{Row}
 use Rattle.market_model.specs.declared.limits.Cause.TheVariants.{Base, Branch}
-use Rattle.market_model.specs.LimitRows.{rows, line_flow, loss_factor}
+use Rattle.market_model.specs.LimitRows.{rows, line_flow, loss_factor, flow_terms, flow_terms_in}
 use Rattle.market_model.specs.Market.{IsMarket}
 use Rattle.market_model.specs.NamedSums.{IsRefusedIn, IsRefusal}
 use Rattle.market_model.proofs.MorePlaces.{total-places_more}
 use Rattle.market_model.proofs.SumSteps.{plus_at, terms_at}
 use Rattle.limit_rows.proofs.FactorLemmas.{IsLost, stands}
-use Rattle.limit_screen.specs.Flows.{flow_terms, flow_terms_in, flows_at, line_in}
+use Rattle.limit_screen.specs.Flows.{flows_at, line_in}
 
 -- ---- flows where nothing is accepted
 module _ (m : Parts) (x : Dispatch) (fs : List Fraction) (puts : fs ≡ flows_at m x) where

@@ -13,7 +13,7 @@ use Rattle.market_model.specs.Valued.{duals_at, farkas_at}
 use Rattle.market_system.specs.MarketSystem.{system_of, choice_dispatch, choice_duals}
 use Rattle.market_system.specs.Outcomes.{PricesOnly}
 use Rattle.market_system.specs.SolvedLaws.{AnswersBy}
-use Rattle.limit_screen.specs.Flows.{dispatch_of}
+use Rattle.market_model.specs.PutIn.{dispatch_of}
 use Rattle.market_dict.specs.Holding.{Holds}
 use Rattle.market_dict.specs.declared.solving.Found.{Found}
 use Rattle.market_dict.specs.declared.solving.Found.TheVariants.{Best, Nothing}

@@ -6,9 +6,9 @@ use Rattle.exact_fraction.specs.declared.Passed.{Passed}
 use Rattle.market_model.specs.declared.participants.Parts.{Parts}
 use Rattle.market_model.specs.Dispatch.{empty, injection, balance_terms}
 use Rattle.market_model.specs.declared.limits.Row.{Row}
-use Rattle.market_model.specs.LimitRows.{rows, limit, line_flow, flow}
+use Rattle.market_model.specs.LimitRows.{rows, limit, line_flow, flow, flow_terms}
 use Rattle.market_model.specs.NamedSums.{IsRefusedIn, IsRefusal}
-use Rattle.limit_screen.specs.Flows.{flow_terms, IsFlowsRefusal}
+use Rattle.limit_screen.specs.Flows.{IsFlowsRefusal}
 
 -- an operation refused for the bounds of a limit row: its flow where nothing is accepted, or what that leaves of the limit on a side
 pub data IsBoundRefusal (m : Parts) (bound : ℕ) (r : Row) (p : Passed Fraction) : Type 0 where

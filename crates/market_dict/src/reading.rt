@@ -14,7 +14,7 @@ ghost use Rattle.market_model.specs.LimitRows.{row_id};
 ghost use Rattle.market_model.specs.Valued.{dual_at, duals_at};
 ghost use Rattle.market_system.specs.MarketSystem.{balance_name, row_name, in_order, dual_by, duals_by as duals_of, choice_dispatch, choice_duals, system_of};
 ghost use Rattle.market_system.specs.SolvedLaws.{stuck_duals};
-ghost use Rattle.limit_screen.specs.Flows.{dispatch_of};
+ghost use Rattle.market_model.specs.PutIn.{dispatch_of};
 ghost use Rattle.market_dict.specs.Findings.{OnPassed};
 ghost use Rattle.market_dict.specs.Holding.{Holds, HoldsSystem};
 

@@ -9,7 +9,8 @@ use Rattle.fraction_theory.specs.Sums.{sum_by, Term, Plain, Product, term_value,
 use Rattle.fraction_theory.proofs.FieldLaws.{ring_ℚ}
 use Rattle.fraction_theory.proofs.Ring.{neg_times, by_ring, at, padd, pmul, pneg, pnil}
 use Rattle.fraction_theory.proofs.SumLaws.{total-append, total-Plain}
-use Rattle.exact_fraction.specs.declared.Op.TheVariants.{Plus}
+use Rattle.exact_fraction.specs.declared.Op.{Op}
+use Rattle.exact_fraction.specs.declared.Op.TheVariants.{Plus, Minus, Times}
 use Rattle.exact_fraction.specs.declared.Passed.{Passed}
 use Rattle.exact_fraction.specs.Passes.{outcome}
 use Rattle.market_model.specs.declared.answered.Dual.{Dual}
@@ -24,7 +25,7 @@ use Rattle.market_model.specs.Laws.{HasOffsetsWithin}
 use Rattle.market_model.specs.declared.limits.Row.{Row}
 use Rattle.market_model.specs.LimitRows.{rows, row_id, limit, row_offset}
 use Rattle.market_model.specs.Market.{IsMarket}
-use Rattle.market_model.specs.NamedSums.{SameSize, term_at, IsRefusedIn, IsRefusal}
+use Rattle.market_model.specs.NamedSums.{SameSize, term_at, IsNextTerm, IsSumStep, IsRefusal, IsRefusedIn}
 use Rattle.market_model.specs.Optimality.{bus_price, unit_price, is_named, named_rows}
 use Rattle.market_model.specs.RightAnswers.{rent_of}
 use Rattle.market_model.specs.Settlement.{paid, pays, rent, surplus}
@@ -80,25 +81,38 @@ prefix-same ts us k e = prefix_by k ts ∙ ap (λ vs. sum_by (λ v. v) (take k v
 pub total-same : (ts us : List Term) → map term_value ts ≡ map term_value us → total ts ≡ total us
 total-same ts us e = sym (sum_by-map term_value (λ v. v) ts) ∙ ap (sum_by (λ v. v)) e ∙ sum_by-map term_value (λ v. v) us
 
-pub added_same : (ts us : List Term) (bound : ℕ) (p : Passed Fraction) → map term_value ts ≡ map term_value us → IsRefusedIn ts bound p → IsRefusedIn us bound p
-added_same ts us bound p e h =
-    let k = h.place in
-    let long : length ts ≡ length us = sym (length-map ts term_value) ∙ ap length e ∙ length-map us term_value in
-    let inside : k < length us = Prim.omega (arith, h.next.inside, long) in
-    let same : term_value (term_at ts k) ≡ term_value (term_at us k) =
-    sym (get_or-map term_value ts k (Plain (whole (pos 0))) (whole (pos 0)) h.next.inside)
-    ∙ ap (λ vs. get_or vs k (whole (pos 0))) e ∙ get_or-map term_value us k (Plain (whole (pos 0))) (whole (pos 0)) inside in
-    record {
-      adds = h.adds;
-      place = k;
-      next = record {
-        inside = inside;
-        before = subst (SameSize p.left) (prefix-same ts us k e) h.next.before;
-        next = subst (SameSize p.right) same h.next.next;
-        after = subst (SameSize (outcome p.op p.left p.right)) (prefix-same ts us (k + 1) e) h.next.after;
-      };
-      passes = h.passes;
-    }
+-- no term is a product
+abbrev NoProducts : List Term → Type 0
+NoProducts ts = (k : ℕ) (a b : Fraction) → term_at ts k ≡ Product a b → ⊥
+
+no_products : {X Y : Type 0} (f : X → Fraction) (g : Y → Fraction) (xs : List X) (ys : List Y) → NoProducts (map (λ x. Plain (f x)) xs ++ map (λ y. Plain (g y)) ys)
+no_products f g [] [] k a b e = absurd Prim.cc
+no_products f g [] (y ∷ ys) zero a b e = absurd Prim.cc
+no_products f g [] (y ∷ ys) (suc k) a b e = no_products f g [] ys k a b e
+no_products f g (x ∷ xs) ys zero a b e = absurd Prim.cc
+no_products f g (x ∷ xs) ys (suc k) a b e = no_products f g xs ys k a b e
+
+pub refused_same : (ts us : List Term) (bound : ℕ) (p : Passed Fraction) → NoProducts ts → map term_value ts ≡ map term_value us → IsRefusedIn ts bound p → IsRefusedIn us bound p
+refused_same ts us bound p none e h = record { step = by p.op p.left p.right h.step; passes = h.passes }
+  where
+    next_same : (op : Op) (l r : Fraction) (k : ℕ) → IsNextTerm ts op l r k → IsNextTerm us op l r k
+    next_same op l r k next =
+        let long : length ts ≡ length us = sym (length-map ts term_value) ∙ ap length e ∙ length-map us term_value in
+        let inside : k < length us = Prim.omega (arith, next.inside, long) in
+        let same : term_value (term_at ts k) ≡ term_value (term_at us k) =
+        sym (get_or-map term_value ts k (Plain (whole (pos 0))) (whole (pos 0)) next.inside)
+        ∙ ap (λ vs. get_or vs k (whole (pos 0))) e ∙ get_or-map term_value us k (Plain (whole (pos 0))) (whole (pos 0)) inside in
+        record {
+          inside = inside;
+          before = subst (SameSize l) (prefix-same ts us k e) next.before;
+          next = subst (SameSize r) same next.next;
+          after = subst (SameSize (outcome op l r)) (prefix-same ts us (k + 1) e) next.after;
+        }
+
+    by : (op : Op) (l r : Fraction) → IsSumStep ts op l r → IsSumStep us op l r
+    by Plus l r (k, next) = (k, next_same Plus l r k next)
+    by Minus l r (k, next) = (k, next_same Minus l r k next)
+    by Times l r (k, a, b, factors) = absurd (none k a b factors.product)
 
 -- ---- what is added up is what loads pay and units are paid
 module _ {N : Type 0} (value : N → Fraction) (m : Parts) (x : Dispatch) (price : ℕ → Fraction) (loads : List (Load N)) (units : List (UnitPay N))
@@ -131,7 +145,8 @@ module _ {N : Type 0} (value : N → Fraction) (m : Parts) (x : Dispatch) (price
   surplus_is s e = e ∙ paid_total value loads units ∙ total-same (paid_terms value loads units) (left_terms m x price) paid_is
 
   pub surplus_refused : (bound : ℕ) (p : Passed Fraction) → IsRefusedIn (paid_terms value loads units) bound p → IsRefusedIn (left_terms m x price) bound p
-  surplus_refused bound p h = added_same (paid_terms value loads units) (left_terms m x price) bound p paid_is h
+  surplus_refused bound p h =
+      refused_same (paid_terms value loads units) (left_terms m x price) bound p (no_products (λ (l : Load N). value l.pays) (λ (u : UnitPay N). neg_ℚ (value u.paid)) loads units) paid_is h
 
 -- ---- at the prices of duals
 module _ (m : Parts) (x : Dispatch) (price : ℕ → Fraction) (d : Duals Fraction) (market : IsMarket m) (priced : ArePricesOf m d price) where

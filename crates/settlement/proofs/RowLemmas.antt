@@ -36,7 +36,7 @@ use Rattle.limit_rows.proofs.FlowSteps.{row_terms_are}
 use Rattle.limit_rows.specs.LineFlows.{AreFlows}
 use Rattle.market_model.specs.PutIn.{put_in}
 use Rattle.settlement.specs.Paying.{earned_by, earned_terms}
-use Rattle.settlement.specs.Refusals.{IsSettlementRefusal, of_flow, of_offset, of_limit_less, of_limit_more, of_rent, IsEarningRefusal, IsRowRefusal}
+use Rattle.settlement.specs.Refusals.{IsSettlementRefusal, of_row_flow, of_offset, of_limit_less, of_limit_more, of_rent, IsEarningRefusal, IsRowRefusal}
 
 -- ---- what a limit earns with one price
 module _ (e : Dual Fraction) (f o : Fraction) where
@@ -102,18 +102,13 @@ module _ (m : Parts) (x : Dispatch) (flows : List Fraction) (are : AreFlows m x 
     named : Contains (named_rows m d) r
     named = (k, h.inside, sym h.at)
 
-    of_row_flow : (c : Cause) → c ≢ Base → IsCauseAmong (length m.lines) c → Contains (named_rows m d) (record { line = r.line; cause = c })
-        → IsRefusedIn (flow_terms m (line_flow m (injection m x)) (record { line = r.line; cause = c })) bound p → IsSettlementRefusal m x price d bound p
-    of_row_flow Base after there listed why = absurd (after refl)
-    of_row_flow (Branch lost) after there listed why = of_flow r.line lost inside there listed why
-
     pub row_refusal : IsRowRefusal m (put_in flows) e r bound p → IsSettlementRefusal m x price d bound p
     row_refusal why = by why
       where
         by : (r.cause ≢ Base × IsRefusedIn (flow_terms m (put_in flows) r) bound p) ⊎ IsRefusedIn (offset_terms m r) bound p
             ⊎ IsRefusal Minus (limit m r) (row_offset m r) bound p ⊎ IsRefusal Plus (limit m r) (row_offset m r) bound p ⊎ IsRefusedIn (earned_terms e (limit m r) (row_offset m r)) bound p
             → IsSettlementRefusal m x price d bound p
-        by (inl w) = of_row_flow r.cause w.0 among named (subst (λ ts. IsRefusedIn ts bound p) (row_terms_are m x flows are r inside among) w.1)
+        by (inl w) = of_row_flow r named w.0 (subst (λ ts. IsRefusedIn ts bound p) (row_terms_are m x flows are r inside among) w.1)
         by (inr (inl w)) = of_offset r named w
         by (inr (inr (inl w))) = of_limit_less r named w
         by (inr (inr (inr (inl w)))) = of_limit_more r named w

@@ -9,7 +9,7 @@ use Rattle.market_model.specs.declared.answered.Duals.{Duals}
 use Rattle.market_model.specs.declared.participants.Parts.{Parts}
 use Rattle.market_model.specs.Dispatch.{Dispatch, bus_at, injection, injection_terms, output, output_terms}
 use Rattle.market_model.specs.declared.limits.Row.{Row}
-use Rattle.market_model.specs.declared.limits.Cause.TheVariants.{Base, Branch}
+use Rattle.market_model.specs.declared.limits.Cause.TheVariants.{Base}
 use Rattle.market_model.specs.LimitRows.{flow_terms, limit, line_flow, line_terms, offset_terms, row_offset}
 use Rattle.market_model.specs.NamedSums.{IsRefusedIn, IsRefusal}
 use Rattle.market_model.specs.Optimality.{named_rows}
@@ -28,8 +28,7 @@ pub data IsSettlementRefusal (m : Parts) (x : Dispatch) (price : ℕ → Fractio
   -- what a bus puts in, the flow of a line, and that of a row after an outage
   of_injection : (i : ℕ) → i < length m.buses → IsRefusedIn (injection_terms m x i) bound p → IsSettlementRefusal m x price d bound p
   of_line : (l : ℕ) → l < length m.lines → IsRefusedIn (line_terms m (injection m x) l) bound p → IsSettlementRefusal m x price d bound p
-  of_flow : (l k : ℕ) → l < length m.lines → k < length m.lines → Contains (named_rows m d) (record { line = l; cause = Branch k })
-      → IsRefusedIn (flow_terms m (line_flow m (injection m x)) (record { line = l; cause = Branch k })) bound p → IsSettlementRefusal m x price d bound p
+  of_row_flow : (r : Row) → Contains (named_rows m d) r → r.cause ≢ Base → IsRefusedIn (flow_terms m (line_flow m (injection m x)) r) bound p → IsSettlementRefusal m x price d bound p
   -- the fixed offset of a row, its limit less that and with it, and its rent
   of_offset : (r : Row) → Contains (named_rows m d) r → IsRefusedIn (offset_terms m r) bound p → IsSettlementRefusal m x price d bound p
   of_limit_less : (r : Row) → Contains (named_rows m d) r → IsRefusal Minus (limit m r) (row_offset m r) bound p → IsSettlementRefusal m x price d bound p

@@ -3,7 +3,7 @@ use Rattle.std.proofs.lemmas.Result.{err_from_is_err_and}
 use Rattle.market_model.specs.Optimality.{welfare, welfare_terms}
 use Rattle.market_model.specs.NamedSums.{IsRefusedIn}
 use Rattle.market_model.specs.Valued.{duals_at, money_at, passed_at}
-use Rattle.limit_screen.specs.Flows.{dispatch_of}
+use Rattle.market_model.specs.PutIn.{dispatch_of}
 use Rattle.settlement.specs.Paying.{IsSettlement, total_at}
 use Rattle.settlement.specs.Refusals.{IsStop}
 use Rattle.settlement.proofs.MoneyLemmas.{law_of_right_money}

@@ -8,7 +8,7 @@ use Rattle.market_model.specs.Optimality.{Feasible, Within}
 use Rattle.market_model.specs.Valued.{duals_at}
 use Rattle.market_system.specs.Outcomes.{PricesOnly}
 use Rattle.market_system.proofs.GrowthLaws.{growth_none}
-use Rattle.limit_screen.specs.Flows.{dispatch_of}
+use Rattle.market_model.specs.PutIn.{dispatch_of}
 use Rattle.market_dict.specs.Findings.{IsFound, IsSolvedBy}
 use Rattle.market_dict.specs.declared.solving.Found.{Found}
 use Rattle.market_dict.specs.declared.solving.Found.TheVariants as found

@@ -5,7 +5,8 @@ use Rattle.market_model.specs.declared.answered.RowId.{RowId}
 use Rattle.std.proofs.lemmas.Result.{err_from_is_err_and}
 use Rattle.fraction_theory.specs.Fraction.{Fraction}
 use Rattle.market_model.specs.Valued.{passed_at}
-use Rattle.limit_screen.specs.Flows.{dispatch_of, flows_at, line_in}
+use Rattle.market_model.specs.PutIn.{dispatch_of}
+use Rattle.limit_screen.specs.Flows.{flows_at, line_in}
 use Rattle.limit_screen.specs.Screening.{AllHold, IsScreenRefusal, IsWorstNamed}
 use Rattle.market_dict.specs.declared.stop.Stop.TheVariants as stop
 use Rattle.clear_loop.proofs.BrokenLemmas.{all_within, found_worst}

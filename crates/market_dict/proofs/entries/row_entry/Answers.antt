@@ -6,7 +6,7 @@ use Rattle.market_data.specs.declared.participants.Unit as unit
 use Rattle.market_model.specs.Dispatch.{signed}
 use Rattle.market_model.specs.LimitRows.{row_factor}
 use Rattle.limit_rows.proofs.PlaceLemmas.{at_places}
-use Rattle.limit_screen.proofs.FlowLemmas.{unit_read}
+use Rattle.market_model.proofs.PutInSteps.{unit_read}
 use Rattle.market_dict.proofs.EntryLemmas.{unit_bus_is}
 use Rattle.market_dict.proofs.entries.row_entry.Goals as goal
 

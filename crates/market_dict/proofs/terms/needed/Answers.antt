@@ -5,7 +5,7 @@ use Rattle.exact_fraction.specs.declared.Op.TheVariants.{Plus}
 use Rattle.market_model.specs.Dispatch.{empty}
 use Rattle.market_model.specs.Valued.{passed_at}
 use Rattle.market_model.proofs.SumSteps.{refusal}
-use Rattle.limit_screen.proofs.FlowLemmas.{put_read}
+use Rattle.market_model.proofs.PlaceLists.{put_read}
 use Rattle.market_dict.proofs.TermLemmas.{flow_count, bus_at_place, balance_step, balance_refused, balance_all}
 use Rattle.market_dict.proofs.terms.needed.Goals as goal
 

@@ -14,7 +14,7 @@ returns-in_err-idle-clause-cause g c =
     rw given (on_passed_weaker c.in_err-idle.field-0.0 _ _ (λ p h. of_flows h) c.in_err-idle.ensures.cause)
 
 pub take_bounds-requires-clause-row : goal.take_bounds-requires-clause-row
-take_bounds-requires-clause-row g c = c.requires.rows c.loop-row.row-index (record { line = 0; lost = None }) c.loop-row-test.true
+take_bounds-requires-clause-row g c = c.requires.rows c.loop-row.row-index (record { line = 0; cause = Base }) c.loop-row-test.true
 
 pub loop-row-preserved : goal.loop-row-preserved
 loop-row-preserved g c =
