@@ -77,29 +77,7 @@ module _ (m : Parts) (d : Duals Fraction) (i : ℕ) where
       by (inl c) = multiplied_at (congestion_terms m d i) split.0 split.1 (term r) split.2 bound p price factor (neg_ℚ (pull m d r)) (row_factor m r i) refl (inl price_is) (inl share) c
       by (inr c) = (plus_at (congestion_terms m d i) split.0 split.1 (term r) split.2 bound p sum (price *ℚ factor) (before ∙ sym split.3) (ap₂ ◌*ℚ◌ price_is share) c)
 
--- ---- lists by place
-pub put_more : {N Y : Type 0} (value : N → Y) (f : ℕ → Y) (out : List N) (i : ℕ) (x : N) → i < length out → ((k : ℕ) (d : N) → k < i → value (get_or out k d) ≡ f k) → value x ≡ f i
-    → (k : ℕ) (d : N) → k < i + 1 → value (get_or (set out i x) k d) ≡ f k
-put_more value f out i x inside before here k d h = by (cases_lt k i)
-  where
-    by : (k < i) ⊎ (i ≤ k) → value (get_or (set out i x) k d) ≡ f k
-    by (inl lt) = let other : k ≡ i → ⊥ = Prim.omega (arith, lt) in ap value (get_or-set_other out i k x d other) ∙ before k d lt
-    by (inr ge) =
-        let same : k ≡ i = Prim.omega (arith, h, ge) in
-        ap (λ (n : ℕ). value (get_or (set out i x) n d)) same ∙ ap value (get_or-set_same out i x d inside) ∙ here ∙ ap f (sym same)
-
-all_from : {N Y : Type 0} (value : N → Y) (f : ℕ → Y) (a : ℕ) (out : List N) → ((k : ℕ) (d : N) → k < length out → value (get_or out k d) ≡ f (a + k)) → map value out ≡ map f (range_with_len a (length out))
-all_from value f a [] h = refl
-all_from value f a (x ∷ xs) h =
-    let first : a + 0 ≡ a = Prim.omega arith in
-    ap₂ (λ y ys. y ∷ ys) (h 0 x (Prim.omega arith) ∙ ap f first)
-    (all_from value f (a + 1) xs (λ k d lt. let e : a + suc k ≡ (a + 1) + k = Prim.omega arith in h (suc k) d (Prim.omega (arith, lt)) ∙ ap f e))
-
--- all places are put
-pub all_put : {N Y : Type 0} (value : N → Y) (f : ℕ → Y) (out : List N) (i n : ℕ) → length out ≡ n → n ≤ i → ((k : ℕ) (d : N) → k < i → value (get_or out k d) ≡ f k) → map value out ≡ map f (places n)
-all_put value f out i n count most h =
-    all_from value f 0 out (λ k d lt. let e : k ≡ 0 + k = Prim.omega arith in h k d (Prim.omega (arith, lt, count, most)) ∙ ap f e) ∙ ap (λ (j : ℕ). map f (places j)) count
-
+-- ---- the price that a row has
 -- the opposite of what a row's flow costs, where one side has no price
 pub lower_alone : (u v : Fraction) → v ≡ whole (pos 0) → neg_ℚ u ≡ neg_ℚ (u -ℚ v)
 lower_alone u v e = by_ring ring_ℚ (u ∷ []) (pneg (at 0)) (pneg (padd (at 0) (pneg pnil))) refl ∙ ap (λ w. neg_ℚ (u -ℚ w)) (sym e)

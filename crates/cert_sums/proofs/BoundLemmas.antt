@@ -1,7 +1,7 @@
 -- Steps of the Farkas bound: row by row, and block by block.
 use Rattle.std.specs.Prelude.{◌≡◌, ◌⊎◌, ℕ, ◌+◌, ◌<◌, ◌≤◌, pos, Bool, true, false, cond, List, [], ◌∷◌, ◌++◌, map, filter, length, take, replicate, refl}
 use Rattle.std.specs.List.{flat_map}
-use Rattle.std.proofs.Common.{zero, suc, arith, inl, inr, ap, ap₂, sym, subst, ◌∙◌, get_or, append_assoc}
+use Rattle.std.proofs.Common.{zero, suc, arith, inl, inr, ap, ap₂, sym, subst, subst₂, ◌∙◌, get_or, append_assoc}
 use Rattle.std.proofs.lemmas.List.{take_all}
 use Rattle.std.proofs.lemmas.Grind.{flat_map-append}
 use Rattle.fraction_theory.specs.Fraction.{Fraction, whole, ◌+ℚ◌, ◌-ℚ◌, ◌*ℚ◌}
@@ -31,8 +31,9 @@ use Rattle.cert_sums.specs.Named.{PricedRow}
 use Rattle.cert_sums.specs.Pairs.{IsFarkasPair, of_farkas_sum, of_farkas_prices, of_limit_less, of_limit_more, verified, bound_of_all, injection_at, balance_of_all, flow_of_line, flow_of_row, congestion_at, price_at}
 use Rattle.cert_sums.specs.declared.stops.VerifyStop.{VerifyStop}
 use Rattle.cert_sums.specs.declared.stops.VerifyStop.TheVariants as why
-use Rattle.cert_sums.specs.Results.{dispatch_of}
-use Rattle.cert_sums.specs.Refusals.{IsStopped, IsInjectionRefusal, IsLineRefusal, IsShareRefusal, IsAboveRefusal, IsBelowRefusal, IsLimitRefusal, in_flow, in_above, in_below, IsPriceRefusal}
+use Rattle.market_model.specs.PutIn.{dispatch_of, IsInjectionRefusal}
+use Rattle.limit_rows.specs.LineFlows.{IsLineRefusal, IsShareRefusal}
+use Rattle.cert_sums.specs.Refusals.{IsStopped, IsAboveRefusal, IsBelowRefusal, IsLimitRefusal, in_flow, in_above, in_below, IsPriceRefusal}
 use Rattle.cert_sums.proofs.NamedLemmas.{IsNamedAt, is_named_row, is_row}
 
 -- ---- prices of 0 make nothing
@@ -54,6 +55,15 @@ pub left_sum : (m : Parts) (x : Dispatch) (e : PricedRow) (sum above more l f : 
 left_sum m x e sum above more l f is flows first second =
     second ∙ ap (λ t. t +ℚ e.down *ℚ (l +ℚ f)) first ∙ +ℚ_assoc sum (e.up *ℚ (l -ℚ f)) (e.down *ℚ (l +ℚ f))
     ∙ ap₂ (λ a b. sum +ℚ (e.up *ℚ (a -ℚ b) +ℚ e.down *ℚ (a +ℚ b))) is flows
+
+-- a refusal on either side of a row, by the limit and the flow that were read
+module _ (m : Parts) (x : Dispatch) (e : PricedRow) (sum l f : Fraction) (bound : ℕ) (p : Passed Fraction) (is : l ≡ limit m e.row) (flows : f ≡ flow m x e.row) where
+  pub above_side : IsAboveRefusal sum e.up l f bound p → IsLimitRefusal m x e sum bound p
+  above_side h = in_above (subst₂ (λ a b. IsAboveRefusal sum e.up a b bound p) is flows h)
+
+  pub below_side : (above : Fraction) → above ≡ sum +ℚ e.up *ℚ (l -ℚ f) → IsBelowRefusal above e.down l f bound p → IsLimitRefusal m x e sum bound p
+  below_side above first h =
+      in_below (subst₂ (λ a b. IsBelowRefusal (sum +ℚ e.up *ℚ (a -ℚ b)) e.down a b bound p) is flows (subst (λ t. IsBelowRefusal t e.down l f bound p) first h))
 
 -- ---- a list round one of those that pass a test
 filter_at : {X : Type 0} (p : X → Bool) (xs : List X) (k : ℕ) (e : X) → k < length (filter p xs)

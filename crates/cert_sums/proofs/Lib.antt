@@ -1,4 +1,4 @@
-pub mod FlowLemmas
+pub mod BalanceSteps
 pub mod ListLemmas
 pub mod NamedLemmas
 pub mod BoundLemmas

@@ -29,11 +29,3 @@ mapped_at f xs k x h at = ap (map f) (split_at xs k x h at) ∙ map-append f (ta
 pub map-replicate : {A B : Type 0} (f : A → B) (n : ℕ) (x : A) (y : B) → f x ≡ y → map f (replicate n x) ≡ replicate n y
 map-replicate f zero x y e = refl
 map-replicate f (suc n) x y e = ap₂ (λ z zs. z ∷ zs) e (map-replicate f n x y e)
-
--- the front of a list
-pub take_front : {A : Type 0} (n : ℕ) (xs ys : List A) → n ≡ length xs → take n (xs ++ ys) ≡ xs
-take_front {A} n xs ys e = ap (λ (k : ℕ). take k (xs ++ ys)) e ∙ all xs
-  where
-    all : (zs : List A) → take (length zs) (zs ++ ys) ≡ zs
-    all [] = refl
-    all (z ∷ zs) = ap (λ us. z ∷ us) (all zs)

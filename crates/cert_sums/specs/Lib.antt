@@ -2,4 +2,3 @@ pub mod Bounds
 pub mod Named
 pub mod Pairs
 pub mod Refusals
-pub mod Results

@@ -2,27 +2,17 @@
 -- They are taken at the certificate's own dispatch and duals, and no step of a clearing stands among them.
 use Rattle.std.specs.Prelude.{ℕ, ◌<◌, List, [], ◌∷◌, length, Contains}
 use Rattle.fraction_theory.specs.Fraction.{Fraction}
-use Rattle.fraction_theory.specs.Sums.{Term, Plain, Product}
+use Rattle.fraction_theory.specs.Sums.{Term, Plain}
 use Rattle.exact_fraction.specs.declared.Op.TheVariants.{Plus, Minus}
 use Rattle.exact_fraction.specs.declared.Passed.{Passed}
 use Rattle.market_model.specs.declared.answered.Duals.{Duals}
 use Rattle.market_model.specs.declared.participants.Parts.{Parts}
 use Rattle.market_model.specs.Dispatch.{Dispatch, empty, injection, injection_terms, balance_terms}
 use Rattle.market_model.specs.Infeasibility.{farkas_terms}
-use Rattle.market_model.specs.declared.limits.Cause.{Cause}
 use Rattle.market_model.specs.declared.limits.Row.{Row}
-use Rattle.market_model.specs.declared.limits.Cause.TheVariants.{Base, Branch}
-use Rattle.market_model.specs.LimitRows.{rows, limit, loss_factor, line_flow, line_terms, flow}
+use Rattle.market_model.specs.LimitRows.{flow, flow_terms, limit, line_flow, line_terms, rows}
 use Rattle.market_model.specs.NamedSums.{IsRefusedIn, IsRefusal}
 use Rattle.market_model.specs.Optimality.{up_of, down_of, named_rows, congestion, congestion_terms}
-
--- the flow of a row by the flows of lines: that of its own line, and after an outage what goes over of the lost one's
-abbrev pub flow_terms_in : Parts → Dispatch → ℕ → Cause → List Term
-flow_terms_in m x l Base = Plain (line_flow m (injection m x) l) ∷ []
-flow_terms_in m x l (Branch lost) = Plain (line_flow m (injection m x) l) ∷ Product (loss_factor m l lost) (line_flow m (injection m x) lost) ∷ []
-
-abbrev pub flow_terms : Parts → Dispatch → Row → List Term
-flow_terms m x r = flow_terms_in m x r.line r.cause
 
 -- the price at a bus by its two parts
 abbrev pub price_terms : Parts → Duals Fraction → ℕ → List Term
@@ -33,7 +23,7 @@ pub data IsVerifiedSum (m : Parts) (x : Dispatch) (d : Duals Fraction) : List Te
   injection_at : (i : ℕ) → i < length m.buses → IsVerifiedSum m x d (injection_terms m x i)
   balance_of_all : IsVerifiedSum m x d (balance_terms m x)
   flow_of_line : (l : ℕ) → l < length m.lines → IsVerifiedSum m x d (line_terms m (injection m x) l)
-  flow_of_row : (r : Row) → Contains (rows m) r → IsVerifiedSum m x d (flow_terms m x r)
+  flow_of_row : (r : Row) → Contains (rows m) r → IsVerifiedSum m x d (flow_terms m (line_flow m (injection m x)) r)
   congestion_at : (i : ℕ) → i < length m.buses → IsVerifiedSum m x d (congestion_terms m d i)
   price_at : (i : ℕ) → i < length m.buses → IsVerifiedSum m x d (price_terms m d i)
 

@@ -1,34 +1,26 @@
 -- The operations that may be refused in each sum, and what stops one.
-use Rattle.std.specs.Prelude.{◌⊎◌, ℕ, ◌<◌, length, Contains}
-use Rattle.fraction_theory.specs.Fraction.{Fraction, whole, neg_ℚ, ◌+ℚ◌, ◌-ℚ◌, ◌*ℚ◌}
-use Rattle.exact_fraction.specs.declared.Op.TheVariants.{Plus, Minus, Times}
+use Rattle.std.specs.Prelude.{◌⊎◌, ℕ, Contains}
+use Rattle.fraction_theory.specs.Fraction.{Fraction, neg_ℚ, ◌+ℚ◌, ◌-ℚ◌, ◌*ℚ◌}
+use Rattle.exact_fraction.specs.declared.Op.TheVariants.{Plus, Minus}
 use Rattle.exact_fraction.specs.declared.Passed.{Passed}
-use Rattle.market_data.specs.declared.participants.Bus.{Bus}
 use Rattle.market_model.specs.declared.answered.Duals.{Duals}
 use Rattle.market_model.specs.declared.participants.Parts.{Parts}
-use Rattle.market_model.specs.Dispatch.{Dispatch, injection_terms}
+use Rattle.market_model.specs.Dispatch.{Dispatch, injection}
 use Rattle.market_model.specs.declared.limits.Row.{Row}
-use Rattle.market_model.specs.LimitRows.{limit, line_terms, flow}
+use Rattle.market_model.specs.LimitRows.{flow, flow_terms, limit, line_flow}
 use Rattle.market_model.specs.NamedSums.{IsRefusedIn, IsRefusal}
 use Rattle.market_model.specs.Optimality.{up_of, down_of, named_rows, congestion_terms}
 use Rattle.market_model.specs.Valued.{passed_at}
+use Rattle.limit_rows.specs.LineFlows.{IsShareRefusal}
 use Rattle.cert_sums.specs.declared.stops.VerifyStop.{VerifyStop}
 use Rattle.cert_sums.specs.declared.stops.VerifyStop.TheVariants as why
 use Rattle.cert_sums.specs.Named.{PricedRow}
-use Rattle.cert_sums.specs.Pairs.{flow_terms, price_terms}
+use Rattle.cert_sums.specs.Pairs.{price_terms}
 
 -- why a sum was not added up: an operation was refused, of which this holds, or memory was
 abbrev pub IsStopped : {N : Type 0} → (N → Fraction) → (Passed Fraction → Type 0) → VerifyStop N → Type 0
 IsStopped value refused (why.Range p) = refused (passed_at value p)
 IsStopped value refused why.Memory = Unit {0}
-
--- in what a bus puts in
-abbrev pub IsInjectionRefusal : Parts → Dispatch → ℕ → Passed Fraction → Type 0
-IsInjectionRefusal m x bound p = (i : ℕ) × (i < length m.buses) × IsRefusedIn (injection_terms m x i) bound p
-
--- in the flow of a line, where buses put in so much
-abbrev pub IsLineRefusal : Parts → (ℕ → Fraction) → ℕ → Passed Fraction → Type 0
-IsLineRefusal m mw bound p = (l : ℕ) × (l < length m.lines) × IsRefusedIn (line_terms m mw l) bound p
 
 -- the two prices of a row that duals name
 abbrev pub IsPricesRefusal : Parts → Duals Fraction → ℕ → Passed Fraction → Type 0
@@ -43,14 +35,6 @@ abbrev pub IsPriceRefusal : Parts → Duals Fraction → ℕ → ℕ → Passed 
 IsPriceRefusal m d i bound p = IsCongestionRefusal m d i bound p ⊎ IsRefusedIn (price_terms m d i) bound p
 
 -- ---- the same step by step
--- a refused product, or the refused sum with it
-abbrev pub IsShareRefusal : Fraction → Fraction → Fraction → ℕ → Passed Fraction → Type 0
-IsShareRefusal sum k x bound p = IsRefusal Times k x bound p ⊎ IsRefusal Plus sum (k *ℚ x) bound p
-
--- a difference refused where a sum is lowered by a bus's load, and then by its shunt
-abbrev pub IsDemandRefusal : Fraction → Bus → ℕ → Passed Fraction → Type 0
-IsDemandRefusal sum bus bound p = IsRefusal Minus sum (whole bus.pd) bound p ⊎ IsRefusal Minus (sum -ℚ whole bus.pd) (whole bus.gs) bound p
-
 -- the two prices of a row, or what they take by a factor
 abbrev pub IsPullRefusal : Fraction → Fraction → Fraction → Fraction → ℕ → Passed Fraction → Type 0
 IsPullRefusal sum up down k bound p = IsRefusal Minus up down bound p ⊎ IsShareRefusal sum (neg_ℚ (up -ℚ down)) k bound p
@@ -64,6 +48,6 @@ IsBelowRefusal sum price limit flow bound p = IsRefusal Plus limit flow bound p 
 
 -- the flow of a row, or what its prices make of what that leaves of the limit on either side
 pub data IsLimitRefusal (m : Parts) (x : Dispatch) (e : PricedRow) (sum : Fraction) (bound : ℕ) (p : Passed Fraction) : Type 0 where
-  in_flow : IsRefusedIn (flow_terms m x e.row) bound p → IsLimitRefusal m x e sum bound p
+  in_flow : IsRefusedIn (flow_terms m (line_flow m (injection m x)) e.row) bound p → IsLimitRefusal m x e sum bound p
   in_above : IsAboveRefusal sum e.up (limit m e.row) (flow m x e.row) bound p → IsLimitRefusal m x e sum bound p
   in_below : IsBelowRefusal (sum +ℚ e.up *ℚ (limit m e.row -ℚ flow m x e.row)) e.down (limit m e.row) (flow m x e.row) bound p → IsLimitRefusal m x e sum bound p

@@ -1,24 +1,23 @@
 //! The Farkas bound: the most that any dispatch within the blocks' bounds makes of the balance and of what is left of the limits.
 
-ghost use Rattle.std.specs.Prelude.{◌≡◌, ◌<◌, pos, ◌≤ℤ◌, length, map, replicate, IfOk, IfErr, IfSome};
+ghost use Rattle.std.specs.Prelude.{◌≡◌, ◌<◌, pos, ◌≤ℤ◌, length, map, replicate, IfOk, IfErr};
 ghost use Rattle.fraction_theory.specs.Fraction.{Fraction, whole, ◌+ℚ◌, ◌-ℚ◌, ◌*ℚ◌};
 ghost use Rattle.fraction_theory.specs.Sums.{total};
 ghost use Rattle.market_model.specs.declared.answered.Duals.{Duals};
 ghost use Rattle.market_model.specs.Dispatch.{Dispatch, balance, empty, signed, zero};
 ghost use Rattle.market_model.specs.Infeasibility.{farkas_bound, part_above};
-ghost use Rattle.market_model.specs.LimitRows.{flow, limit};
+ghost use Rattle.market_model.specs.LimitRows.{IsCauseAmong, flow, limit};
 ghost use Rattle.market_model.specs.Valued.{passed_at};
+ghost use Rattle.limit_rows.specs.LineFlows.{AreFlows, IsShareRefusal};
 ghost use Rattle.cert_sums.specs.Bounds.{left_at, limits_terms};
 ghost use Rattle.cert_sums.specs.Named.{AreNamed, priced_at};
 ghost use Rattle.cert_sums.specs.Pairs.{IsFarkasPair};
-ghost use Rattle.cert_sums.specs.Refusals.{IsAboveRefusal, IsBelowRefusal, IsLimitRefusal, IsShareRefusal, IsStopped};
-ghost use Rattle.cert_sums.specs.Results.{AreFlows};
+ghost use Rattle.cert_sums.specs.Refusals.{IsAboveRefusal, IsBelowRefusal, IsLimitRefusal, IsStopped};
 
-use crate::amounts::datum;
-use crate::{NamedRow, VerifyStop, balance, bus_price, injections, line_flows, row_flow};
+use crate::{NamedRow, VerifyStop, balance, bus_price, injections, line_flows};
 use exact_fraction::{Exact, Passed, Sign};
-use limit_rows::limit_at;
-use market_model::{Block, List, Market, Memory, Side};
+use limit_rows::{limit_at, row_flow};
+use market_model::{Block, List, Market, Memory, Side, datum};
 use std::alloc::Global;
 
 /// A sum with what the price of an upper limit makes of what a flow leaves of it. A price of 0 makes nothing.
@@ -56,7 +55,7 @@ fn with_limit<N: Exact>(
 ) -> Result<N, Passed<N>>
     requires flows { length flows.now ≡ length market.now.lines }
     requires line { entry.now.row.line < length market.now.lines }
-    requires lost { IfSome entry.now.row.lost (λ lost. lost < length market.now.lines) }
+    requires lost { IsCauseAmong (length market.now.lines) entry.now.row.cause }
     ensures sum { (x : Dispatch) → AreFlows market.now x (map N.value flows.now) → IfOk result (λ more. N.value more ≡ N.value sum +ℚ left_at market.now x (priced_at N.value entry.now)) }
     ensures cause { (x : Dispatch) → AreFlows market.now x (map N.value flows.now) → IfErr result (λ passed. IsLimitRefusal market.now x (priced_at N.value entry.now) (N.value sum) N.bound (passed_at N.value passed)) }
 {

@@ -1,8 +1,7 @@
 //! What the numbers of a certificate add up to at a market: the arithmetic of a verifier. It shares no code with the clearing but
-//! the exact numbers, the market and its limit rows.
+//! the exact numbers, the market and its limit rows, with their injections and flows.
 #![tactic(auto)]
 
-mod amounts;
 mod bounding;
 mod flowing;
 mod pricing;
@@ -10,7 +9,7 @@ mod putting;
 mod stops;
 
 pub use bounding::farkas_bound;
-pub use flowing::{line_flows, row_flow};
+pub use flowing::line_flows;
 pub use pricing::{NamedRow, bus_price};
 pub use putting::{balance, injections};
 pub use stops::VerifyStop;

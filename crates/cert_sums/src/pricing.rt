@@ -9,8 +9,8 @@ ghost use Rattle.cert_sums.specs.Named.{AreNamed};
 ghost use Rattle.cert_sums.specs.Refusals.{IsCongestionRefusal, IsPriceRefusal, IsPullRefusal};
 
 use exact_fraction::{Exact, Passed};
-use limit_rows::{LimitRow, factor_at};
-use market_model::Market;
+use limit_rows::factor_at;
+use market_model::{Market, Row};
 
 /// Factors of rows are in 10^-12.
 const WHOLE: u64 = 1_000_000_000_000;
@@ -18,7 +18,7 @@ const WHOLE: u64 = 1_000_000_000_000;
 /// A row of the market with the two prices that a certificate gives it.
 #[derive(Clone, Copy, Debug)]
 pub struct NamedRow<N> {
-    pub row: LimitRow,
+    pub row: Row,
     /// The price of its upper side: in 10^-6 per MWh, or a plain number where the duals show that nothing is feasible.
     pub up: N,
     /// The price of its lower side.

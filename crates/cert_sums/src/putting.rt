@@ -1,120 +1,16 @@
 //! What buses put in at a dispatch.
 
-ghost use Rattle.std.specs.Prelude.{◌≡◌, ◌<◌, ◌++◌, true, length, map, vec_len, IfOk, IfErr, if◌then◌else◌};
-ghost use Rattle.fraction_theory.specs.Fraction.{whole, ◌+ℚ◌, ◌-ℚ◌};
-ghost use Rattle.fraction_theory.specs.Sums.{total};
-ghost use Rattle.exact_fraction.specs.declared.Op.TheVariants as Op;
-ghost use Rattle.market_data.specs.Participants.{IsBus, IsDatum};
-ghost use Rattle.market_model.specs.Dispatch.{Dispatch, zero, signed, units_at, blocks_at, fixed_term, block_term, injection, injection_terms, balance, balance_terms};
-ghost use Rattle.market_model.specs.NamedSums.{IsRefusedIn, IsRefusal};
+ghost use Rattle.std.specs.Prelude.{◌≡◌, length, map, vec_len, IfOk, IfErr};
+ghost use Rattle.market_model.specs.Dispatch.{Dispatch, balance, balance_terms};
+ghost use Rattle.market_model.specs.NamedSums.{IsRefusedIn};
+ghost use Rattle.market_model.specs.PutIn.{dispatch_of, AreInjections, IsInjectionRefusal};
 ghost use Rattle.market_model.specs.Valued.{passed_at};
-ghost use Rattle.cert_sums.specs.Refusals.{IsDemandRefusal, IsInjectionRefusal, IsStopped};
-ghost use Rattle.cert_sums.specs.Results.{dispatch_of, AreInjections};
+ghost use Rattle.cert_sums.specs.Refusals.{IsStopped};
 
 use crate::VerifyStop;
-use crate::amounts::datum;
 use exact_fraction::{Exact, Passed};
-use market_model::{Block, Bus, Market, Side, Unit};
+use market_model::{Market, datum};
 use std::alloc::Global;
-
-/// A sum with the fixed part of a unit, where that is at the bus.
-#[tactic(auto, using(market_data::proofs::Data::datum_read))]
-fn with_unit<N: Exact>(sum: N, unit: &Unit, belongs: bool) -> Result<N, Passed<N>>
-    requires { IsDatum unit.now.fixed }
-    ensures sum { IfOk result (λ more. N.value more ≡ N.value sum +ℚ (if belongs then whole unit.now.fixed else zero)) }
-    ensures belongs { IfErr result (λ _. belongs ≡ true) }
-    ensures cause { IfErr result (λ passed. IsRefusal Op.Plus (N.value sum) (whole unit.now.fixed) N.bound (passed_at N.value passed)) }
-{
-    if belongs {
-        sum.plus(datum(unit.fixed))
-    } else {
-        Ok(sum)
-    }
-}
-
-/// A sum with what a block raises it by, where its unit is at the bus.
-fn with_block<N: Exact>(sum: N, block: &Block, belongs: bool, mw: N) -> Result<N, Passed<N>>
-    ensures sum { IfOk result (λ more. N.value more ≡ N.value sum +ℚ (if belongs then signed block.now.side (N.value mw) else zero)) }
-    ensures belongs { IfErr result (λ _. belongs ≡ true) }
-    ensures cause { IfErr result (λ passed. IsRefusal Op.Plus (N.value sum) (signed block.now.side (N.value mw)) N.bound (passed_at N.value passed)) }
-{
-    if !belongs {
-        return Ok(sum);
-    }
-    match block.side {
-        Side::Sell => sum.plus(mw),
-        Side::Buy => sum.plus(mw.neg()),
-    }
-}
-
-/// What the fixed parts of the units at a bus come to.
-fn fixed_at<N: Exact>(market: &Market, bus: usize) -> Result<N, Passed<N>>
-    ensures sum { IfOk result (λ mw. N.value mw ≡ total (map (fixed_term market.now) (units_at market.now bus))) }
-    ensures cause { IfErr result (λ passed. IsRefusedIn (map (fixed_term market.now) (units_at market.now bus)) N.bound (passed_at N.value passed)) }
-{
-    let mut mw: N = datum(0);
-    for (at, unit) in market.units().slice().iter().enumerate() {
-        mw = with_unit(mw, unit, unit.bus == bus)?;
-    }
-    Ok(mw)
-}
-
-/// The same with what the blocks of these units raise it by.
-fn raised_at<N: Exact>(
-    market: &Market,
-    bus: usize,
-    fixed: N,
-    dispatch: &[N],
-) -> Result<N, Passed<N>>
-    requires dispatch { length dispatch.now ≡ length market.now.blocks }
-    requires fixed { N.value fixed ≡ total (map (fixed_term market.now) (units_at market.now bus)) }
-    ensures sum { IfOk result (λ mw. N.value mw ≡ total (map (fixed_term market.now) (units_at market.now bus) ++ map (block_term market.now (dispatch_of N.value dispatch.now)) (blocks_at market.now bus))) }
-    ensures cause { IfErr result (λ passed. IsRefusedIn (map (fixed_term market.now) (units_at market.now bus) ++ map (block_term market.now (dispatch_of N.value dispatch.now)) (blocks_at market.now bus)) N.bound (passed_at N.value passed)) }
-{
-    let mut mw = fixed;
-    for (at, block) in market.blocks().slice().iter().enumerate() {
-        let belongs = market.units().at(block.unit).bus == bus;
-        mw = with_block(mw, block, belongs, dispatch[at])?;
-    }
-    Ok(mw)
-}
-
-/// What is left of a sum, less the load of a bus and its shunt.
-#[tactic(auto, using(market_data::proofs::Data::datum_read))]
-fn less_demand<N: Exact>(sum: N, bus: &Bus) -> Result<N, Passed<N>>
-    requires { IsBus bus.now }
-    ensures left { IfOk result (λ left. N.value left ≡ (N.value sum -ℚ whole bus.now.pd) -ℚ whole bus.now.gs) }
-    ensures cause { IfErr result (λ passed. IsDemandRefusal (N.value sum) bus.now N.bound (passed_at N.value passed)) }
-{
-    let unloaded = sum.minus(datum(bus.pd))?;
-    unloaded.minus(datum(bus.gs))
-}
-
-/// What a bus puts in.
-fn injection<N: Exact>(market: &Market, bus: usize, dispatch: &[N]) -> Result<N, Passed<N>>
-    requires bus { bus < length market.now.buses }
-    requires dispatch { length dispatch.now ≡ length market.now.blocks }
-    ensures sum { IfOk result (λ mw. N.value mw ≡ injection market.now (dispatch_of N.value dispatch.now) bus) }
-    ensures cause { IfErr result (λ passed. IsRefusedIn (injection_terms market.now (dispatch_of N.value dispatch.now) bus) N.bound (passed_at N.value passed)) }
-{
-    let fixed = fixed_at(market, bus)?;
-    let raised = raised_at(market, bus, fixed, dispatch)?;
-    less_demand(raised, &market.buses().slice()[bus])
-}
-
-/// Puts in what each bus puts into the network.
-fn put_injections<N: Exact>(market: &Market, dispatch: &[N], out: &mut [N]) -> Result<(), Passed<N>>
-    requires dispatch { length dispatch.now ≡ length market.now.blocks }
-    requires out { length out.old ≡ length market.now.buses }
-    ensures count { length out.new ≡ length out.old }
-    ensures injections { IfOk result (λ _. AreInjections market.now (dispatch_of N.value dispatch.now) (map N.value out.new)) }
-    ensures cause { IfErr result (λ passed. IsInjectionRefusal market.now (dispatch_of N.value dispatch.now) N.bound (passed_at N.value passed)) }
-{
-    for (bus, mw) in out.iter_mut().enumerate() {
-        *mw = injection(market, bus, dispatch)?;
-    }
-    Ok(())
-}
 
 /// What each bus puts into the network at a dispatch, in 10^-9 MW.
 pub fn injections<N: Exact>(
@@ -132,7 +28,7 @@ pub fn injections<N: Exact>(
         Ok(mws) => mws,
         Err(_) => return Err(VerifyStop::Memory),
     };
-    put_injections(market, dispatch, &mut mws)?;
+    market_model::injections(market, dispatch, &mut mws)?;
     Ok(mws)
 }
 

@@ -5,7 +5,7 @@ use Rattle.market_model.specs.Optimality.{bus_price, congestion, price_by}
 use Rattle.market_model.specs.Valued.{duals_at, price_at}
 use Rattle.market_model.proofs.SumSteps.{refusal}
 use Rattle.bus_prices.specs.Prices.{price_of, of_congestion, of_total}
-use Rattle.bus_prices.proofs.PriceLemmas.{put_more, all_put}
+use Rattle.market_model.proofs.PlaceLists.{put_more, all_put}
 use Rattle.bus_prices.proofs.pricing.prices.Goals as goal
 
 pub loop-bus-preserved : goal.loop-bus-preserved

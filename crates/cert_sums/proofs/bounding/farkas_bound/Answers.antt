@@ -6,8 +6,8 @@ use Rattle.market_model.specs.Valued.{passed_at}
 use Rattle.market_model.proofs.SumSteps.{refusal}
 use Rattle.cert_sums.specs.declared.stops.VerifyStop.TheVariants as why
 use Rattle.cert_sums.specs.Pairs.{IsFarkasPair}
-use Rattle.cert_sums.specs.Refusals.{IsInjectionRefusal, IsLineRefusal}
-use Rattle.cert_sums.specs.Results.{dispatch_of, AreInjections}
+use Rattle.market_model.specs.PutIn.{dispatch_of, AreInjections, IsInjectionRefusal}
+use Rattle.limit_rows.specs.LineFlows.{IsLineRefusal}
 use Rattle.cert_sums.proofs.BoundLemmas.{nothing_is, stopped_weaker, injection_pair, line_pair, balance_pair, energy_refused}
 use Rattle.cert_sums.proofs.bounding.farkas_bound.Goals as goal
 

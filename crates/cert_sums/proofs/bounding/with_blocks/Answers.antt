@@ -9,7 +9,7 @@ use Rattle.market_model.specs.Optimality.{bus_price}
 use Rattle.market_model.specs.Valued.{passed_at}
 use Rattle.market_model.proofs.MarketSums.{block_bus-in}
 use Rattle.cert_sums.proofs.BoundLemmas.{blocks_none, blocks_all, block_step, block_refused, price_pair}
-use Rattle.cert_sums.proofs.FlowLemmas.{unit_read}
+use Rattle.market_model.proofs.PutInSteps.{unit_read}
 use Rattle.cert_sums.proofs.bounding.with_blocks.Goals as goal
 
 pub loop-at-init : goal.loop-at-init

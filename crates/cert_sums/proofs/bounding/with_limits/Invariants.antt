@@ -3,7 +3,7 @@ use Rattle.fraction_theory.specs.Fraction.{Fraction, ◌*ℚ◌}
 use Rattle.market_model.specs.declared.answered.Duals.{Duals}
 use Rattle.market_model.specs.Dispatch.{balance, empty}
 use Rattle.cert_sums.specs.Named.{AreNamed}
-use Rattle.cert_sums.specs.Results.{AreFlows}
+use Rattle.limit_rows.specs.LineFlows.{AreFlows}
 use Rattle.cert_sums.proofs.BoundLemmas.{limits_to}
 use Rattle.cert_sums.proofs.bounding.with_limits.Given as goal
 

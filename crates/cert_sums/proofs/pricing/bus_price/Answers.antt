@@ -2,14 +2,14 @@ use Rattle.std.proofs.Common.{◌∙◌, ap₂, inr}
 use Rattle.std.proofs.lemmas.Result.{MatchResult-weaker}
 use Rattle.fraction_theory.specs.Fraction.{◌+ℚ◌}
 use Rattle.exact_fraction.specs.declared.Op.TheVariants.{Plus}
-use Rattle.market_model.specs.Optimality.{bus_price as price_at_bus, congestion}
+use Rattle.market_model.specs.Optimality.{congestion, price_by}
 use Rattle.market_model.specs.Valued.{passed_at}
 use Rattle.market_model.proofs.SumSteps.{refusal}
 use Rattle.cert_sums.proofs.NamedLemmas.{price_refused}
 use Rattle.cert_sums.proofs.pricing.bus_price.Goals as goal
 
 pub returns-clause-price : goal.returns-clause-price
-unfolding price_at_bus
+unfolding price_by
 returns-clause-price g c = λ d energy are. MatchResult-weaker c.plus.result c.plus.ensures (λ r is. is.exact ∙ ap₂ ◌+ℚ◌ energy (c.in_ok-congestion.ensures.sum d are)) (λ _ _. tt)
 
 pub returns-clause-cause : goal.returns-clause-cause

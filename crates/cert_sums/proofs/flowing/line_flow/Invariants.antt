@@ -1,8 +1,0 @@
-use Rattle.std.proofs.Common.{◌≡◌, map}
-use Rattle.fraction_theory.specs.Sums.{total}
-use Rattle.cert_sums.specs.Results.{put_in}
-use Rattle.cert_sums.proofs.FlowLemmas.{line_to}
-use Rattle.cert_sums.proofs.flowing.line_flow.Given as goal
-
-abbrev pub invariant-loop-bus : goal.invariant-loop-bus
-invariant-loop-bus g l = g.N.Exact.value l.flow ≡ total (line_to l.market (put_in (map g.N.Exact.value l.injections)) l.line l.bus)

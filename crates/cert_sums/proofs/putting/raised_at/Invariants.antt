@@ -1,8 +1,0 @@
-use Rattle.std.proofs.Common.{◌≡◌}
-use Rattle.fraction_theory.specs.Sums.{total}
-use Rattle.cert_sums.specs.Results.{dispatch_of}
-use Rattle.cert_sums.proofs.FlowLemmas.{raised_to}
-use Rattle.cert_sums.proofs.putting.raised_at.Given as goal
-
-abbrev pub invariant-loop-at : goal.invariant-loop-at
-invariant-loop-at g l = g.N.Exact.value l.mw ≡ total (raised_to l.market l.bus (dispatch_of g.N.Exact.value l.dispatch) l.at)
