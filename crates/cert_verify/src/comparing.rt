@@ -10,6 +10,24 @@ use exact_fraction::Exact;
 use market_model::{Dual, Side, datum};
 use std::cmp::Ordering;
 
+fn is_below<N: Exact>(left: N, right: N) -> bool
+    ensures { result ≡ is_below (N.value left) (N.value right) }
+{
+    match left.order(right) {
+        Ordering::Less => true,
+        Ordering::Equal | Ordering::Greater => false,
+    }
+}
+
+pub(crate) fn differ<N: Exact>(left: N, right: N) -> bool
+    ensures { result ≡ differ (N.value left) (N.value right) }
+{
+    match left.order(right) {
+        Ordering::Equal => false,
+        Ordering::Less | Ordering::Greater => true,
+    }
+}
+
 /// Whether a number is below 0.
 pub(crate) fn is_negative<N: Exact>(number: N) -> bool
     ensures { result ≡ is_below (N.value number) (whole (pos 0)) }
