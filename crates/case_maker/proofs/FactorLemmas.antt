@@ -6,7 +6,8 @@ use Rattle.std.proofs.lemmas.List.FromFn.{length-map-range_with_len}
 use Rattle.fraction_theory.specs.Fraction.{unsigned_abs-neg}
 use Rattle.market_model.specs.declared.participants.Factor.{Factor}
 use Rattle.market_model.specs.Dispatch.{places}
-use Rattle.market_model.specs.Market.{AreFactors, IsFactor, most_factor}
+use Rattle.market_model.specs.Market.{AreFactors, IsFactor}
+use Rattle.market_data.specs.Scales.{most_factor}
 use Rattle.case_maker.specs.Rings.{factor_by, factors_by, loss_of, share, shift_of}
 use Rattle.case_maker.proofs.PlaceLists.{All-flat, All-places, AllPairs-append, at-place, flat-more, map-more}
 

@@ -1,7 +1,7 @@
 //! What the flows come to round a loop.
 
 ghost use Rattle.std.specs.Prelude.{◌≡◌, ◌++◌, ◌≤◌, ◌<◌, ◌+◌, ◌^◌, ◌*ℤ◌, ℕ, List, length, unsigned_abs, All};
-ghost use Rattle.market_data.specs.Participants.{most_buses};
+ghost use Rattle.market_data.specs.Scales.{most_buses};
 ghost use Rattle.factor_residuals.specs.Kirchhoff.{loop_spot, reactance_at, signed, first_branch};
 ghost use Rattle.factor_residuals.specs.Columns.{IsLoopSum, with_drop, column_of};
 ghost use Rattle.factor_residuals.specs.Residuals.{AreReactances, IsResidual, loop_spots};
