@@ -1,7 +1,7 @@
 //! What leaves each bus.
 
 ghost use Rattle.std.specs.Prelude.{◌≡◌, ◌++◌, ◌∷◌, [], ◌≤◌, ◌<◌, ◌+◌, ◌*◌, ◌^◌, ◌+ℤ◌, ◌-ℤ◌, ℕ, pos, List, length, unsigned_abs, get_or, slice_set, IfOk};
-ghost use Rattle.market_data.specs.Scales.{most_factor, most_lines};
+ghost use Rattle.market_data.specs.Scales.{factor_one, most_factor, most_lines};
 ghost use Rattle.net_case.specs.Networks.{IsNetBranch};
 ghost use Rattle.net_case.specs.declared.live_parts.NetBranch.{NetBranch};
 ghost use Rattle.net_paths.specs.Loops.{kept};
@@ -12,6 +12,7 @@ ghost use Rattle.factor_residuals.specs.Residuals.{IsResidual, bus_spots};
 
 use crate::columns::{Factors, Flow};
 use crate::spots::{Residual, Spot};
+use market_data::FACTOR_ONE;
 use net_case::{NetBranch, Network};
 use net_paths::{bus_number, is_lost};
 use plain_list::Memory;
@@ -88,17 +89,17 @@ fn nodes_of(
 
 /// One MW at a place, in 10^-6.
 fn one_at(place: usize, bus: usize) -> i64
-    ensures size { unsigned_abs result ≤ 1000000 }
+    ensures size { unsigned_abs result ≤ factor_one }
     ensures is { result ≡ one_at place bus }
 {
-    if place == bus { 1_000_000 } else { 0 }
+    if place == bus { FACTOR_ONE as i64 } else { 0 }
 }
 
 /// What leaves a bus and did not go in there.
 fn missing_at(node: Node, goes_in: i64, goes_out: i64) -> i128
     requires node { IsWithin most_lines node }
-    requires goes_in { unsigned_abs goes_in ≤ 1000000 }
-    requires goes_out { unsigned_abs goes_out ≤ 1000000 }
+    requires goes_in { unsigned_abs goes_in ≤ factor_one }
+    requires goes_out { unsigned_abs goes_out ≤ factor_one }
     ensures size { unsigned_abs result < 10 ^ 37 }
     ensures is { result ≡ node.outflow -ℤ goes_in +ℤ goes_out }
 {

@@ -1,7 +1,7 @@
 -- What a network is, and what is kept of it.
 use Rattle.std.specs.Prelude.{◌≡◌, ◌≢◌, ℕ, ◌≤◌, ◌<◌, ◌==◌, ℤ, pos, negsuc, ◌≤ℤ◌, Bool, List, length, map, All, AllPairs, Contains, position, slice_get, slice_index_or, Option, Some, None, is_some, IfSome}
 use Rattle.market_data.specs.Participants.{IsDatum, IsBus, IsUnit}
-use Rattle.market_data.specs.Scales.{most_buses, most_units}
+use Rattle.market_data.specs.Scales.{most_buses, most_lines, most_units}
 use Rattle.market_data.specs.declared.participants.Bus.{Bus}
 use Rattle.market_data.specs.declared.participants.UnitList.{UnitList}
 use Rattle.net_case.specs.declared.live_parts.NetUnit.{NetUnit}
@@ -37,9 +37,6 @@ abbrev pub branch_place : LiveNetwork → ℤ → Option ℕ
 branch_place network n = place_of (map (λ branch. branch.row) network.branches) n
 
 -- ---- what is kept of it
-abbrev pub most_lines : ℕ
-most_lines = 2000
-
 -- the greatest BUS_I
 abbrev pub most_bus_number : ℕ
 most_bus_number = 2147483647

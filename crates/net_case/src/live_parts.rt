@@ -2,13 +2,14 @@
 
 ghost use Rattle.std.specs.Prelude.{◌≡◌, ◌≢◌, ℕ, ◌<◌, ◌≤◌, pos, ◌≤ℤ◌, ◌==◌, length, map, AllPairs, IfOk, MatchOption};
 ghost use Rattle.std.specs.Map.{lookup};
+ghost use Rattle.market_data.specs.Scales.{most_lines};
 ghost use Rattle.net_case.specs.Networks.{place_of, IsNetUnit, IsNetwork, AreUnits, has_bus, bus_place, branch_place};
 ghost use Rattle.net_case.specs.NetworkReading.{place_of_number, unit_within, unit_list_of};
 
 use crate::limits::MOST_BUS_NUMBER;
 use case_text::Field;
 use indexmap::IndexMap;
-use market_data::{Unit, UnitList};
+use market_data::{MOST_LINES, Unit, UnitList};
 use plain_list::{List, Memory};
 use record_reading::Why;
 use std::alloc::Global;

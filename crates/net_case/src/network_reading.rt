@@ -10,6 +10,7 @@ use crate::cells::row_count;
 use crate::gen_rows::read_units;
 use crate::live_parts::{Branches, NetFault, Network};
 use case_text::{Field, RawCase};
+use market_data::{MOST_BUSES, MOST_UNITS};
 use std::alloc::Global;
 
 /// The network of a case.

@@ -11,13 +11,11 @@ ghost use Rattle.offer_book.specs.OfferTable.{cell_fault, side_in, offer_in, end
 ghost use Rattle.offer_book.specs.Offers.{AreBlocks, HasSides, MayFollow, OfferIsRead, StairIsBounded};
 
 use csv_table::{Table, read_table};
+use market_data::MOST_BLOCKS;
 use market_model::{Block, List, MW_PLACES, Memory, PRICE_PLACES, Side, Unit, UnitList};
 use record_reading::{CellFault, FrameFault, Why, push_some};
 use std::alloc::Global;
 use thiserror::Error;
-
-/// The most records of the table.
-const MOST_BLOCKS: usize = 4000;
 
 /// Why a table of offers is refused. A line is a record's place, where the header's is 1.
 #[derive(Clone, Copy, Debug, PartialEq, Eq, Error)]
