@@ -1,5 +1,5 @@
 -- Factors that are listed for each pair: no two of one pair, and none out of range.
-use Rattle.std.proofs.Common.{◌≡◌, ◌≢◌, ◌≤◌, ◌<◌, ◌+◌, ◌-◌, ◌*◌, ◌/◌, ◌^◌, ◌∙◌, ℕ, ℤ, pos, neg_ℤ, Bool, true, false, List, [], ◌∷◌, ◌++◌, append_assoc, map, get_or, flat_map, zero, suc, sym, subst, ap, ap₂, arith, div-le_self, unsigned_abs, ltb, ◌==◌, All, AllPairs, if◌then◌else◌}
+use Rattle.std.proofs.Common.{◌≡◌, ◌≢◌, ◌≤◌, ◌<◌, ◌+◌, ◌-◌, ◌*◌, ◌/◌, ◌∙◌, ℕ, ℤ, pos, neg_ℤ, Bool, true, false, List, [], ◌∷◌, ◌++◌, append_assoc, map, get_or, flat_map, zero, suc, sym, subst, ap, ap₂, arith, div-le_self, unsigned_abs, ltb, ◌==◌, All, AllPairs, if◌then◌else◌}
 use Rattle.std.specs.List.{range_with_len}
 use Rattle.std.proofs.lemmas.List.Elements.{All-weaker}
 use Rattle.std.proofs.lemmas.List.FromFn.{length-map-range_with_len}

@@ -1,5 +1,5 @@
 -- The factors of a ring by pair, and as whole numbers of 10^-6.
-use Rattle.std.proofs.Common.{◌≡◌, ◌≢◌, ◌⊎◌, ◌≤◌, ◌<◌, ◌+◌, ◌-◌, ◌*◌, ◌/◌, ◌^◌, ◌∙◌, ℕ, ℤ, pos, neg_ℤ, ◌+ℤ◌, Bool, true, false, ◌==◌, ◌&&◌, List, ◌∷◌, ◌++◌, map, flat_map, zero, suc, refl, sym, ap, ap₂, arith, inl, inr, eq-eqb, lt-ltb, le-ltb, mul_left_comm, if◌then◌else◌}
+use Rattle.std.proofs.Common.{◌≡◌, ◌≢◌, ◌⊎◌, ◌≤◌, ◌<◌, ◌+◌, ◌-◌, ◌*◌, ◌/◌, ◌∙◌, ℕ, ℤ, pos, neg_ℤ, ◌+ℤ◌, Bool, true, false, ◌==◌, ◌&&◌, List, ◌∷◌, ◌++◌, map, flat_map, zero, suc, refl, sym, ap, ap₂, arith, inl, inr, eq-eqb, lt-ltb, le-ltb, mul_left_comm, if◌then◌else◌}
 use Rattle.std.specs.List.{range_with_len}
 use Rattle.std.proofs.lemmas.Int.{ints}
 use Rattle.std.proofs.lemmas.Bool.Decides.{eqb_tells}

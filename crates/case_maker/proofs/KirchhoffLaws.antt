@@ -1,5 +1,5 @@
 -- The factors of a ring obey Kirchhoff's laws.
-use Rattle.std.proofs.Common.{◌≡◌, ◌<◌, ◌+◌, ◌*◌, ◌^◌, ◌∙◌, ℕ, ℤ, pos, neg_ℤ, ◌+ℤ◌, ◌*ℤ◌, Bool, true, false, ◌==◌, List, [], ◌∷◌, refl, sym, subst, ap, ap₂, arith, ne_eqb, if◌then◌else◌}
+use Rattle.std.proofs.Common.{◌≡◌, ◌<◌, ◌+◌, ◌*◌, ◌∙◌, ℕ, ℤ, pos, neg_ℤ, ◌+ℤ◌, ◌*ℤ◌, Bool, true, false, ◌==◌, List, [], ◌∷◌, refl, sym, subst, ap, ap₂, arith, ne_eqb, if◌then◌else◌}
 use Rattle.std.proofs.Math.Nat.{mul-pos}
 use Rattle.fraction_theory.specs.Fraction.{neg_ℚ, over, whole, ◌+ℚ◌}
 use Rattle.fraction_theory.specs.Sums.{sum_by}

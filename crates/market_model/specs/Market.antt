@@ -1,5 +1,5 @@
 -- What every market keeps.
-use Rattle.std.specs.Prelude.{◌≡◌, ◌≢◌, ℕ, ◌<◌, ◌≤◌, ◌^◌, pos, ◌≤ℤ◌, List, length, map, slice_index_or, All, AllPairs, IfSome, Contains, unsigned_abs}
+use Rattle.std.specs.Prelude.{◌≡◌, ◌≢◌, ℕ, ◌<◌, ◌≤◌, pos, ◌≤ℤ◌, List, length, map, slice_index_or, All, AllPairs, IfSome, Contains, unsigned_abs}
 use Rattle.market_data.specs.Participants.{IsDatum, IsBus, IsUnit}
 pub use Rattle.market_data.specs.Scales.{most_factor, most_lines, most_outages}
 use Rattle.market_data.specs.Scales.{most_blocks, most_buses, most_units}
