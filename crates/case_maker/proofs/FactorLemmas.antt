@@ -1,12 +1,13 @@
 -- Factors that are listed for each pair: no two of one pair, and none out of range.
-use Rattle.std.proofs.Common.{◌≡◌, ◌≢◌, ◌≤◌, ◌<◌, ◌+◌, ◌-◌, ◌*◌, ◌/◌, ◌^◌, ◌∙◌, ℕ, ℤ, pos, neg_ℤ, Bool, true, false, List, [], ◌∷◌, ◌++◌, append_assoc, map, get_or, flat_map, zero, suc, sym, subst, ap, ap₂, arith, div-le_self, unsigned_abs, ltb, ◌==◌, All, AllPairs, if◌then◌else◌}
+use Rattle.std.proofs.Common.{◌≡◌, ◌≢◌, ◌≤◌, ◌<◌, ◌+◌, ◌-◌, ◌*◌, ◌/◌, ◌∙◌, ℕ, ℤ, pos, neg_ℤ, Bool, true, false, List, [], ◌∷◌, ◌++◌, append_assoc, map, get_or, flat_map, zero, suc, sym, subst, ap, ap₂, arith, div-le_self, unsigned_abs, ltb, ◌==◌, All, AllPairs, if◌then◌else◌}
 use Rattle.std.specs.List.{range_with_len}
 use Rattle.std.proofs.lemmas.List.Elements.{All-weaker}
 use Rattle.std.proofs.lemmas.List.FromFn.{length-map-range_with_len}
 use Rattle.fraction_theory.specs.Fraction.{unsigned_abs-neg}
+use Rattle.market_data.specs.Scales.{factor_one, most_factor}
 use Rattle.market_model.specs.declared.participants.Factor.{Factor}
 use Rattle.market_model.specs.Dispatch.{places}
-use Rattle.market_model.specs.Market.{AreFactors, IsFactor, most_factor}
+use Rattle.market_model.specs.Market.{AreFactors, IsFactor}
 use Rattle.case_maker.specs.Rings.{factor_by, factors_by, loss_of, share, shift_of}
 use Rattle.case_maker.proofs.PlaceLists.{All-flat, All-places, AllPairs-append, at-place, flat-more, map-more}
 
@@ -54,7 +55,7 @@ module _ (value : ℕ → ℕ → ℤ) where
 
 -- ---- sizes
 share-small : (parts n : ℕ) → parts ≤ 64 → unsigned_abs (share parts n) ≤ most_factor
-share-small parts n few = let h : parts * 10 ^ 6 / n ≤ parts * 10 ^ 6 = div-le_self (parts * 10 ^ 6) n in omega (arith, h, few)
+share-small parts n few = let h : parts * factor_one / n ≤ parts * factor_one = div-le_self (parts * factor_one) n in omega (arith, h, few)
 
 pub shift-small : (n l i : ℕ) → n ≤ 64 → i < n → unsigned_abs (shift_of n l i) ≤ most_factor
 shift-small n l i few lt = by (ltb l i)
@@ -66,6 +67,6 @@ shift-small n l i few lt = by (ltb l i)
 pub loss-small : (l lost : ℕ) → unsigned_abs (loss_of l lost) ≤ most_factor
 loss-small l lost = by (l == lost)
   where
-    by : (b : Bool) → unsigned_abs (if b then pos 0 else neg_ℤ (pos (10 ^ 6))) ≤ most_factor
+    by : (b : Bool) → unsigned_abs (if b then pos 0 else neg_ℤ (pos factor_one)) ≤ most_factor
     by true = omega arith
     by false = omega arith

@@ -1,5 +1,5 @@
 -- How many limits a ring has.
-use Rattle.std.proofs.Common.{◌≡◌, ◌<◌, ◌+◌, ◌-◌, ◌*◌, ◌∙◌, ℕ, Bool, true, false, not, ◌==◌, ◌&&◌, is_some, length, filter, flat_map, get_or, refl, ap, sym, subst, arith, eq-eqb, ne_eqb, length-append}
+use Rattle.std.proofs.Common.{◌≡◌, ◌<◌, ◌+◌, ◌-◌, ◌*◌, ◌∙◌, ℕ, Bool, true, false, not, ◌==◌, ◌&&◌, is_some, length, map, filter, flat_map, get_or, refl, ap, sym, subst, arith, eq-eqb, ne_eqb, length-append}
 use Rattle.std.proofs.lemmas.List.{length-map}
 use Rattle.std.proofs.lemmas.List.Folds.{flat_map-map}
 use Rattle.std.proofs.lemmas.List.FromFn.{length-map-range_with_len, length-range_with_len}
@@ -8,9 +8,10 @@ use Rattle.std.specs.List.{position_or_len}
 use Rattle.market_model.specs.declared.participants.Line.{Line}
 use Rattle.market_model.specs.declared.participants.Parts.{Parts}
 use Rattle.market_model.specs.Dispatch.{places, line_at}
+use Rattle.market_model.specs.declared.limits.Cause.{Cause}
 use Rattle.market_model.specs.declared.limits.Row.{Row}
 use Rattle.market_model.specs.declared.limits.Cause.TheVariants.{Base, Branch}
-use Rattle.market_model.specs.LimitRows.{base_rows, has_base, has_post, place_of_line, rows, rows_after}
+use Rattle.market_model.specs.LimitRows.{bears, lines_of, place_of_line, rows, rows_of}
 use Rattle.case_maker.specs.Laws.{HasCounts}
 use Rattle.case_maker.specs.Rings.{blocks_of, bus_of, drawn, line_of, ring_of, unit_of}
 use Rattle.case_maker.proofs.PlaceLists.{count-all, count-others, length-flat, places-at}
@@ -23,24 +24,26 @@ module _ (n seed : ℕ) where
   lines-count : length m.lines ≡ n
   lines-count = length-map-range_with_len (λ i. line_of i (drawn seed i)) 0 n
 
-  base-count : length (base_rows m) ≡ n
-  base-count =
-      length-map (filter (has_base m) (places (length m.lines))) (λ l. let r : Row = record { line = l; cause = Base } in r)
-      ∙ ap (λ (k : ℕ). length (filter (has_base m) (places k))) lines-count
-      ∙ count-all (has_base m) 0 n (λ l p q. ap (λ (line : Line). is_some line.base) (line-at n seed l (omega (arith, q))))
+  -- those under a cause are as many as the lines that bear it
+  kept-count : (cause : Cause) → length (rows_of m cause) ≡ length (filter (bears m cause) (places n))
+  kept-count cause =
+      length-map (lines_of m cause) (λ l. let r : Row = record { line = l; cause = cause } in r)
+      ∙ ap (λ (k : ℕ). length (filter (bears m cause) (places k))) lines-count
 
-  after-count : (lost : ℕ) → lost < n → length (rows_after m lost) + 1 ≡ n
+  base-count : length (rows_of m Base) ≡ n
+  base-count = kept-count Base ∙ count-all (bears m Base) 0 n (λ l p q. ap (λ (line : Line). is_some line.base) (line-at n seed l (omega (arith, q))))
+
+  after-count : (lost : ℕ) → lost < n → length (rows_of m (Branch lost)) + 1 ≡ n
   after-count lost lt =
-      let mapped : length (rows_after m lost) ≡ length (filter (has_post m lost) (places (length m.lines))) = length-map (filter (has_post m lost) (places (length m.lines))) (λ l. let r : Row = record { line = l; cause = Branch lost } in r) in
-      let lines : length (filter (has_post m lost) (places (length m.lines))) ≡ length (filter (has_post m lost) (places n)) = ap (λ (k : ℕ). length (filter (has_post m lost) (places k))) lines-count in
-      let kept : length (filter (has_post m lost) (places n)) + 1 ≡ n = count-others (has_post m lost) lost 0 n (λ l p q. post-of l (omega (arith, q))) (omega arith) (omega (arith, lt)) in
-      omega (arith, mapped, lines, kept)
+      let mapped : length (rows_of m (Branch lost)) ≡ length (filter (bears m (Branch lost)) (places n)) = kept-count (Branch lost) in
+      let kept : length (filter (bears m (Branch lost)) (places n)) + 1 ≡ n = count-others (bears m (Branch lost)) lost 0 n (λ l p q. post-of l (omega (arith, q))) (omega arith) (omega (arith, lt)) in
+      omega (arith, mapped, kept)
     where
       and-true : (b : Bool) → (b && true) ≡ b
       and-true true = refl
       and-true false = refl
 
-      post-of : (l : ℕ) → l < n → has_post m lost l ≡ not (l == lost)
+      post-of : (l : ℕ) → l < n → bears m (Branch lost) l ≡ not (l == lost)
       post-of l lt' = ap (λ (line : Line). not (l == lost) && is_some line.post) (line-at n seed l lt') ∙ and-true (not (l == lost))
 
   row-place : (i : ℕ) → i < n → place_of_line m (i + 1) ≡ i
@@ -57,18 +60,22 @@ module _ (n seed : ℕ) where
       here : ((line_at m (get_or (places n) i 0)).row == (i + 1)) ≡ true
       here = eq-eqb (line_at m (get_or (places n) i 0)).row (i + 1) (row-of i lt)
 
+  -- the outage of a branch row
+  abbrev lost_in : ℕ → Cause
+  lost_in row = Branch (place_of_line m row)
+
   pub limits-count : 0 < n → length (rows m) ≡ n * n
   unfolding rows
   limits-count some =
-      let after : length (flat_map (λ row. rows_after m (place_of_line m row)) m.outages) ≡ n * (n - 1) =
-      ap length (flat_map-map (λ row. rows_after m (place_of_line m row)) (λ i. i + 1) (places n))
-      ∙ length-flat (λ i. rows_after m (place_of_line m (i + 1))) 0 n (n - 1) (λ i p q.
+      let after : length (flat_map (rows_of m) (map lost_in m.outages)) ≡ n * (n - 1) =
+      ap length (flat_map-map (rows_of m) lost_in m.outages ∙ flat_map-map (λ row. rows_of m (lost_in row)) (λ i. i + 1) (places n))
+      ∙ length-flat (λ i. rows_of m (lost_in (i + 1))) 0 n (n - 1) (λ i p q.
       let lt : i < n = omega (arith, q) in
-      let one : length (rows_after m (place_of_line m (i + 1))) ≡ length (rows_after m i) = ap (λ (k : ℕ). length (rows_after m k)) (row-place i lt) in
-      let others : length (rows_after m i) + 1 ≡ n = after-count i lt in
+      let one : length (rows_of m (lost_in (i + 1))) ≡ length (rows_of m (Branch i)) = ap (λ (k : ℕ). length (rows_of m (Branch k))) (row-place i lt) in
+      let others : length (rows_of m (Branch i)) + 1 ≡ n = after-count i lt in
       omega (arith, one, others)) in
-      let both : length (rows m) ≡ length (base_rows m) + length (flat_map (λ row. rows_after m (place_of_line m row)) m.outages) = length-append (base_rows m) (flat_map (λ row. rows_after m (place_of_line m row)) m.outages) in
-      let base : length (base_rows m) ≡ n = base-count in
+      let both : length (rows m) ≡ length (rows_of m Base) + length (flat_map (rows_of m) (map lost_in m.outages)) = length-append (rows_of m Base) (flat_map (rows_of m) (map lost_in m.outages)) in
+      let base : length (rows_of m Base) ≡ n = base-count in
       square (n - 1) n (length (rows m)) (omega (arith, some)) (omega (arith, both, base, after))
     where
       square : (k n c : ℕ) → k + 1 ≡ n → c ≡ n + n * k → c ≡ n * n

@@ -21,7 +21,7 @@ use Rattle.market_model.specs.Dispatch.{Dispatch, IsDispatch, accepted, balance,
 use Rattle.market_model.specs.declared.limits.Cause.{Cause}
 use Rattle.market_model.specs.declared.limits.Row.{Row}
 use Rattle.market_model.specs.declared.limits.Cause.TheVariants.{Base, Branch}
-use Rattle.market_model.specs.LimitRows.{flow, flow_after, limit, limit_in, line_flow, loss_factor, mw_or_zero, shift_factor, most_flow}
+use Rattle.market_model.specs.LimitRows.{flow, limit, limit_in, line_flow, loss_factor, most_flow, mw_or_zero, row_flow, shift_factor}
 use Rattle.market_model.specs.Optimality.{Feasible, Within}
 use Rattle.market_model.proofs.MarketSums.{balance-by_injections, demand-by_parts, fixed_part, injection-by_parts}
 use Rattle.market_model.proofs.PlainMarkets.{distinct_by_rise}
@@ -174,11 +174,12 @@ module _ (n seed : ℕ) where
       ∙ sum_by-nil (places (length m.buses)))
       ∙ nil_plus ring_ℚ zero
 
-  no-flow : (l : ℕ) (cause : Cause) → flow_after m (injection m serving) l cause ≡ zero
-  no-flow l Base = no-line_flow l
+  no-flow : (l : ℕ) (cause : Cause) → row_flow m (injection m serving) (record { line = l; cause = cause }) ≡ zero
+  no-flow l Base = ap (λ a. a +ℚ zero) (no-line_flow l) ∙ nil_plus ring_ℚ zero
   no-flow l (Branch lost) =
-      ap₂ (λ a b. a +ℚ loss_factor m l lost *ℚ b) (no-line_flow l) (no-line_flow lost)
-      ∙ ap (λ t. zero +ℚ t) (times_nil ring_ℚ (loss_factor m l lost))
+      ap₂ (λ a b. a +ℚ (loss_factor m l lost *ℚ b +ℚ zero)) (no-line_flow l) (no-line_flow lost)
+      ∙ ap (λ t. zero +ℚ (t +ℚ zero)) (times_nil ring_ℚ (loss_factor m l lost))
+      ∙ ap (λ t. zero +ℚ t) (nil_plus ring_ℚ zero)
       ∙ nil_plus ring_ℚ zero
 
   limit-least : (l : ℕ) (cause : Cause) → zero ≤ℚ limit_in m l cause

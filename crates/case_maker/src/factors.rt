@@ -3,11 +3,9 @@
 ghost use Rattle.std.specs.Prelude.{◌≡◌, ◌<◌, ◌≤◌, IfOk};
 ghost use Rattle.case_maker.specs.Rings.{factor_by, factors_by, loss_of, share, shift_of};
 
+use market_data::FACTOR_ONE;
 use market_model::{Factor, List, Memory};
 use std::alloc::Global;
-
-/// What a factor of 1 is, in 10^-6.
-const WHOLE: usize = 1_000_000;
 
 /// So many of so many parts, in 10^-6.
 fn share(parts: usize, size: usize) -> i64
@@ -16,7 +14,7 @@ fn share(parts: usize, size: usize) -> i64
     requires few { size ≤ 64 }
     ensures { result ≡ share parts size }
 {
-    (parts * WHOLE / size) as i64
+    (parts * FACTOR_ONE as usize / size) as i64
 }
 
 /// What flows on a line of all that a bus puts in.
@@ -41,7 +39,11 @@ fn shift_factor(size: usize, line: usize, bus: usize) -> Factor
 fn loss_factor(line: usize, lost: usize) -> Factor
     ensures { result ≡ factor_by loss_of line lost }
 {
-    let value = if line == lost { 0 } else { -(WHOLE as i64) };
+    let value = if line == lost {
+        0
+    } else {
+        -(FACTOR_ONE as i64)
+    };
     Factor {
         line,
         of: lost,

@@ -6,6 +6,7 @@ ghost use Rattle.case_maker.specs.Rings.{IsRingSize, bus_of, half_sold, line_of,
 
 use crate::draws::{Drawn, Draws};
 use crate::factors::{loss_factors, shift_factors};
+use market_data::{MW_ONE, PRICE_ONE};
 use market_model::{Block, Bus, Line, List, Market, Memory, Parts, Side, Unit, assemble};
 use std::alloc::Global;
 
@@ -13,7 +14,7 @@ use std::alloc::Global;
 fn mw(amount: u32) -> i64
     ensures { result ≡ mw amount }
 {
-    i64::from(amount) * 1_000_000_000
+    i64::from(amount) * MW_ONE
 }
 
 /// A block of 50 MW that a unit sells at a whole price per MWh.
@@ -24,7 +25,7 @@ fn half_sold(unit: usize, price: u32) -> Block
         unit,
         side: Side::Sell,
         quantity: mw(50),
-        price: i64::from(price) * 1_000_000,
+        price: i64::from(price) * PRICE_ONE,
     }
 }
 

@@ -7,6 +7,7 @@ ghost use Rattle.clear_tests.specs.Worked.{framed};
 use crate::worked::{Data, LIMITED, is, is_workable, market};
 use clear_loop::{ClearFault, Clearer};
 use exact_fraction::{Exact, Frac, Frac63, Op};
+use market_data::{MW_ONE, PRICE_ONE};
 use market_model::{Answer, RowId};
 use std::alloc::Global;
 use std::cmp::Ordering;
@@ -33,11 +34,11 @@ fn is_answer<N: Exact>(cleared: &Cleared<N>, mw: (i32, i32), prices: (i32, i32, 
     match cleared {
         Ok(answer) => match (answer.dispatch.slice(), answer.prices.slice()) {
             ([first, second], [one, two, three]) => {
-                is(*first, mw.0, 1_000_000_000)
-                    && is(*second, mw.1, 1_000_000_000)
-                    && is(one.total, prices.0, 1_000_000)
-                    && is(two.total, prices.1, 1_000_000)
-                    && is(three.total, prices.2, 1_000_000)
+                is(*first, mw.0, MW_ONE as u32)
+                    && is(*second, mw.1, MW_ONE as u32)
+                    && is(one.total, prices.0, PRICE_ONE as u32)
+                    && is(two.total, prices.1, PRICE_ONE as u32)
+                    && is(three.total, prices.2, PRICE_ONE as u32)
             }
             _ => false,
         },
@@ -53,7 +54,7 @@ fn is_infeasible<N: Exact>(cleared: &Cleared<N>, bound: i32) -> bool {
                 dual.row == row(2, 0)
                     && is(dual.up, 2, 1)
                     && is(farkas.duals.energy, -1, 1)
-                    && is(farkas.bound, bound, 1_000_000_000)
+                    && is(farkas.bound, bound, MW_ONE as u32)
             }
             _ => false,
         },

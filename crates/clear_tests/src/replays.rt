@@ -7,15 +7,12 @@ ghost use Rattle.edit_table.specs.EditTable.{IsStep};
 use crate::worked::{is, limited};
 use edit_replay::{Session, Step, StepOutcome, Steps};
 use exact_fraction::{Exact, Frac, Frac63, Op};
+use market_data::{MW_ONE, PRICE_ONE};
 use market_model::{Answer, List, Memory, Outcome, RowId, Side};
 use offer_book::{Edit, EditFault};
 use std::alloc::Global;
 use std::cmp::Ordering;
 use std::test::Fail;
-
-const MW: i64 = 1_000_000_000;
-
-const PRICE: i64 = 1_000_000;
 
 /// A new price of a sell block.
 fn price(unit: i64, block: i64, price: i64) -> Edit
@@ -53,11 +50,11 @@ fn steps(alloc: Global) -> Result<Steps, Memory>
     ensures { IfOk result (All IsStep) }
 {
     let mut steps = List::new(alloc);
-    push(&mut steps, Step::Edit(price(2, 2, 20 * PRICE)))?;
+    push(&mut steps, Step::Edit(price(2, 2, 20 * PRICE_ONE)))?;
     push(&mut steps, Step::Clear)?;
-    push(&mut steps, Step::Edit(limit(10 * MW)))?;
+    push(&mut steps, Step::Edit(limit(10 * MW_ONE)))?;
     push(&mut steps, Step::Clear)?;
-    push(&mut steps, Step::Edit(limit(40 * MW)))?;
+    push(&mut steps, Step::Edit(limit(40 * MW_ONE)))?;
     push(&mut steps, Step::Clear)?;
     Ok(steps)
 }
@@ -66,10 +63,10 @@ fn steps(alloc: Global) -> Result<Steps, Memory>
 fn is_answer<N: Exact>(answer: &Answer<N>, mw: (i32, i32), prices: (i32, i32)) -> bool {
     match (answer.dispatch.slice(), answer.prices.slice()) {
         ([first, second], [_, two, three]) => {
-            is(*first, mw.0, 1_000_000_000)
-                && is(*second, mw.1, 1_000_000_000)
-                && is(two.total, prices.0, 1_000_000)
-                && is(three.total, prices.1, 1_000_000)
+            is(*first, mw.0, MW_ONE as u32)
+                && is(*second, mw.1, MW_ONE as u32)
+                && is(two.total, prices.0, PRICE_ONE as u32)
+                && is(three.total, prices.1, PRICE_ONE as u32)
         }
         _ => false,
     }
@@ -98,10 +95,10 @@ fn starts_warm<N: Exact>(alloc: Global) -> Result<bool, Memory> {
     let mut session: Session<N> = Session::new(limited(alloc)?);
     let first = session.clear(alloc)?;
     let once = has_taken(&session);
-    let cheaper = session.edit(&price(2, 1, 20 * PRICE)).is_ok();
+    let cheaper = session.edit(&price(2, 1, 20 * PRICE_ONE)).is_ok();
     let second = session.clear(alloc)?;
     let twice = has_taken(&session);
-    let wider = session.edit(&limit(50 * MW)).is_ok();
+    let wider = session.edit(&limit(50 * MW_ONE)).is_ok();
     let third = session.clear(alloc)?;
     Ok(
         once && cheaper
@@ -176,20 +173,20 @@ fn dear_steps(alloc: Global) -> Result<Steps, Memory>
     ensures { IfOk result (All IsStep) }
 {
     let mut steps = List::new(alloc);
-    push(&mut steps, Step::Edit(limit(1_000 * MW)))?;
+    push(&mut steps, Step::Edit(limit(1_000 * MW_ONE)))?;
     push(
         &mut steps,
-        Step::Edit(price(2, 1, 9_000_000_000_000 * PRICE)),
+        Step::Edit(price(2, 1, 9_000_000_000_000 * PRICE_ONE)),
     )?;
     push(&mut steps, Step::Clear)?;
-    push(&mut steps, Step::Edit(price(2, 1, 300 * PRICE)))?;
-    push(&mut steps, Step::Edit(price(1, 1, 200 * PRICE)))?;
+    push(&mut steps, Step::Edit(price(2, 1, 300 * PRICE_ONE)))?;
+    push(&mut steps, Step::Edit(price(1, 1, 200 * PRICE_ONE)))?;
     push(&mut steps, Step::Clear)?;
-    push(&mut steps, Step::Edit(price(1, 1, 10 * PRICE)))?;
+    push(&mut steps, Step::Edit(price(1, 1, 10 * PRICE_ONE)))?;
     push(&mut steps, Step::Clear)?;
-    push(&mut steps, Step::Edit(price(2, 1, 200 * PRICE)))?;
-    push(&mut steps, Step::Edit(price(1, 1, 60 * PRICE)))?;
-    push(&mut steps, Step::Edit(demand(110 * MW)))?;
+    push(&mut steps, Step::Edit(price(2, 1, 200 * PRICE_ONE)))?;
+    push(&mut steps, Step::Edit(price(1, 1, 60 * PRICE_ONE)))?;
+    push(&mut steps, Step::Edit(demand(110 * MW_ONE)))?;
     push(&mut steps, Step::Clear)?;
     Ok(steps)
 }

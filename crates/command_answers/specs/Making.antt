@@ -3,6 +3,7 @@ use Rattle.std.specs.Prelude.{◌≡◌, ℕ, List, [], ◌++◌, length, codes,
 use Rattle.fraction_theory.specs.Fraction.{Fraction}
 use Rattle.exact_fraction.specs.declared.Passed.{Passed}
 use Rattle.exact_fraction.specs.Written.{written}
+use Rattle.market_data.specs.Scales.{money_places}
 use Rattle.market_model.specs.declared.answered.Answer.{Answer}
 use Rattle.market_model.specs.declared.participants.Parts.{Parts}
 use Rattle.market_model.specs.LimitRows.{rows}
@@ -27,7 +28,7 @@ ring_line buses seed = title buses seed ++ counts (ring_of buses seed)
 
 -- what an answer is worth, and what is left of what loads pay
 unfoldable pub summary : Answer Fraction → List ℕ
-summary a = codes "cleared\nwelfare " ++ written 15 a.welfare ++ codes "\nsurplus " ++ written 15 a.money.surplus ++ codes "\n"
+summary a = codes "cleared\nwelfare " ++ written money_places a.welfare ++ codes "\nsurplus " ++ written money_places a.money.surplus ++ codes "\n"
 
 -- What is told is the size of the ring, with the worth and the surplus of a right answer of it; or, in their place, two of its numbers,
 -- each within the bound, whose outcome passes it.

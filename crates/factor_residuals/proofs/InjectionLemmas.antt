@@ -22,6 +22,7 @@ use Rattle.std.specs.Option.{option_map_or}
 use Rattle.fraction_theory.proofs.ListSums.{Contains-cons}
 use Rattle.std.proofs.lemmas.List.Elements.{All-append, All-contains, Contains-append_left, Contains-append_right}
 use Rattle.market_data.specs.WholeSums.{int_sum}
+use Rattle.market_data.specs.Scales.{factor_one}
 use Rattle.net_case.specs.declared.live_parts.NetBranch.{NetBranch}
 use Rattle.net_paths.specs.Connection.{bus_number}
 use Rattle.factor_tables.specs.Factors.{factor_at}
@@ -43,11 +44,11 @@ miss flow branches source sink b = net_outflow flow branches b -ℤ one_at sourc
 
 -- ---- millionths
 micro-whole : (n : ℤ) → micro n ≡ whole n *ℚ micro (pos 1)
-micro-whole n = same_value (micro n) (whole n *ℚ micro (pos 1)) n 1000000 (Prim.omega arith) (over_is n 1000000 (Prim.omega arith)) product
+micro-whole n = same_value (micro n) (whole n *ℚ micro (pos 1)) n factor_one (Prim.omega arith) (over_is n factor_one (Prim.omega arith)) product
   where
-    product : Is (whole n *ℚ micro (pos 1)) n 1000000
-    product = subst (λ m. Is (whole n *ℚ micro (pos 1)) m 1000000) (*ℤ-pos_one n)
-        (times_is (whole n) (micro (pos 1)) n (pos 1) 1 1000000 (whole_is n) (over_is (pos 1) 1000000 (Prim.omega arith)))
+    product : Is (whole n *ℚ micro (pos 1)) n factor_one
+    product = subst (λ m. Is (whole n *ℚ micro (pos 1)) m factor_one) (*ℤ-pos_one n)
+        (times_is (whole n) (micro (pos 1)) n (pos 1) 1 factor_one (whole_is n) (over_is (pos 1) factor_one (Prim.omega arith)))
 
 micro-plus : (m n : ℤ) → micro (m +ℤ n) ≡ micro m +ℚ micro n
 micro-plus m n = micro-whole (m +ℤ n) ∙ ap (λ t. t *ℚ micro (pos 1)) (whole-+ℚ m n)
@@ -67,8 +68,8 @@ micro-minus m n = ap micro (minus-is m n) ∙ micro-plus m (neg_ℤ n) ∙ ap (�
 micro-none : micro (pos 0) ≡ whole (pos 0)
 micro-none = micro-whole (pos 0) ∙ *ℚ_comm (whole (pos 0)) (micro (pos 1)) ∙ times_nil ring_ℚ (micro (pos 1))
 
-micro-one : micro (pos 1000000) ≡ whole (pos 1)
-micro-one = same_value (micro (pos 1000000)) (whole (pos 1)) (pos 1000000) 1000000 (Prim.omega arith) (over_is (pos 1000000) 1000000 (Prim.omega arith)) (one_is (pos 1000000) 1000000 refl)
+micro-one : micro (pos factor_one) ≡ whole (pos 1)
+micro-one = same_value (micro (pos factor_one)) (whole (pos 1)) (pos factor_one) factor_one (Prim.omega arith) (over_is (pos factor_one) factor_one (Prim.omega arith)) (one_is (pos factor_one) factor_one refl)
 
 -- ---- sums
 -- the sum of a whole number of millionths times x
@@ -112,7 +113,7 @@ module _ (h : ℕ → ℕ → ℤ) (n : ℕ) (p : ℕ → Fraction) (b : ℕ) wh
       (λ i. micro-sum (taken (λ row. h row i) b) (p i) branches)
 
 -- ---- what goes in
-at-place : (c : Bool) (x : Fraction) → micro (if c then pos 1000000 else pos 0) *ℚ x ≡ (if c then x else whole (pos 0))
+at-place : (c : Bool) (x : Fraction) → micro (if c then pos factor_one else pos 0) *ℚ x ≡ (if c then x else whole (pos 0))
 at-place true x = ap (λ t. t *ℚ x) micro-one ∙ *ℚ_comm (whole (pos 1)) x ∙ *ℚ_one x
 at-place false x = ap (λ t. t *ℚ x) micro-none ∙ *ℚ_comm (whole (pos 0)) x ∙ times_nil ring_ℚ x
 
@@ -150,7 +151,7 @@ micro-≤ m n h =
     (≤ℚ_of_same _ _ (*ℚ_comm (micro (pos 1)) (whole n) ∙ sym (micro-whole n))))
   where
     one_above : NonNeg (micro (pos 1))
-    one_above = record { sign = zero≤-cancel (micro (pos 1)).num 1000000 (Prim.omega arith) (subst (λ z. pos 0 ≤ℤ z) (sym (over_is (pos 1) 1000000 (Prim.omega arith)).cross) (zero≤-times (pos 1) (micro (pos 1)).den (Prim.omega (arith, ints)))) }
+    one_above = record { sign = zero≤-cancel (micro (pos 1)).num factor_one (Prim.omega arith) (subst (λ z. pos 0 ≤ℤ z) (sym (over_is (pos 1) factor_one (Prim.omega arith)).cross) (zero≤-times (pos 1) (micro (pos 1)).den (Prim.omega (arith, ints)))) }
 
 below-size : (m : ℤ) (g : ℕ) → unsigned_abs m ≤ g → (m ≤ℤ pos g) × (neg_ℤ m ≤ℤ pos g)
 below-size (pos n) g h = (Prim.omega (arith, ints, h), Prim.omega (arith, ints, h))

@@ -1,5 +1,5 @@
 -- What leaves a bus over one more branch.
-use Rattle.std.proofs.Common.{◌≡◌, ◌≢◌, ◌∙◌, ℕ, ◌+◌, ◌≤◌, ◌<◌, ◌==◌, ◌||◌, ℤ, pos, ◌+ℤ◌, ◌-ℤ◌, neg_ℤ, unsigned_abs, Bool, true, false, cond, List, [], ◌∷◌, ◌++◌, length, get_or, set, length-set, sym, ap, subst, refl, arith, inl, inr, get_or-set_same, get_or-set_other}
+use Rattle.std.proofs.Common.{◌≡◌, ◌≢◌, ◌∙◌, ℕ, ◌+◌, ◌*◌, ◌≤◌, ◌<◌, ◌==◌, ◌||◌, ℤ, pos, ◌+ℤ◌, ◌-ℤ◌, neg_ℤ, unsigned_abs, Bool, true, false, cond, List, [], ◌∷◌, ◌++◌, length, get_or, set, length-set, sym, ap, subst, refl, arith, inl, inr, get_or-set_same, get_or-set_other}
 use Rattle.std.specs.Prelude.{◌⊎◌}
 use mathlib.Core.Path.{ap₂}
 use Rattle.std.proofs.Common.{w64, to_z, of_z}
@@ -7,6 +7,7 @@ use Rattle.std.proofs.lemmas.Int.{ints, to_z-of_z}
 use Rattle.std.proofs.lemmas.Bool.{ne_eqb, eq-eqb}
 use Rattle.std.proofs.lemmas.List.Sums.{sum_by-append}
 use Rattle.market_data.specs.WholeSums.{int_sum}
+use Rattle.market_data.specs.Scales.{factor_one, most_factor, most_lines}
 use Rattle.net_case.specs.declared.live_parts.NetBranch.{NetBranch}
 use Rattle.factor_residuals.specs.declared.spots.Spot.{Spot}
 use Rattle.factor_residuals.specs.declared.node_sums.Node.{Node}
@@ -57,10 +58,10 @@ module _ (flow : Flows) (before : List NetBranch) (n : ℕ) (nodes nodes1 nodes2
         ap (λ ns. get_or ns b d) (second d) ∙ get_or-set_other nodes1 l.to b (left_by (get_or nodes1 l.to d) y) d nt
         ∙ ap (λ ns. get_or ns b d) (first d) ∙ get_or-set_other nodes l.from b (left_by (get_or nodes l.from d) x) d nf
 
-    pub within-more : (k p : ℕ) (d : Node) → unsigned_abs x ≤ 1000000000 → IsWithin k (get_or nodes p d) → IsWithin (k + 1) (get_or nodes2 p d)
+    pub within-more : (k p : ℕ) (d : Node) → unsigned_abs x ≤ most_factor → IsWithin k (get_or nodes p d) → IsWithin (k + 1) (get_or nodes2 p d)
     within-more k p d small h = by (same_or_not p l.from) (same_or_not p l.to)
       where
-        added : (node : Node) (z : ℤ) → unsigned_abs z ≤ 1000000000 → IsWithin k node → IsWithin (k + 1) (left_by node z)
+        added : (node : Node) (z : ℤ) → unsigned_abs z ≤ most_factor → IsWithin k node → IsWithin (k + 1) (left_by node z)
         added node z s w = record { outflow = omega (arith, ints, s, w.outflow); branches = omega (arith, ints, w.branches) }
 
         kept_within : (node : Node) → IsWithin k node → IsWithin (k + 1) node
@@ -109,7 +110,7 @@ pub within-wider : (k m : ℕ) (node : Node) → k ≤ m → IsWithin k node →
 within-wider k m node h w = record { outflow = omega (arith, h, w.outflow); branches = omega (arith, h, w.branches) }
 
 -- a flow that is read as its opposite
-pub back-is : (x : ℤ) → unsigned_abs x ≤ 1000000000 → to_z w64 (of_z w64 (pos 0 -ℤ to_z w64 (of_z w64 x))) ≡ neg_ℤ x
+pub back-is : (x : ℤ) → unsigned_abs x ≤ most_factor → to_z w64 (of_z w64 (pos 0 -ℤ to_z w64 (of_z w64 x))) ≡ neg_ℤ x
 back-is x h =
     let read : to_z w64 (of_z w64 x) ≡ x = to_z-of_z w64 x (omega (arith, ints, h)) in
     let back : to_z w64 (of_z w64 (pos 0 -ℤ x)) ≡ pos 0 -ℤ x = to_z-of_z w64 (pos 0 -ℤ x) (omega (arith, ints, h)) in
@@ -120,7 +121,7 @@ spot-is v v' b b' n n' of e f g =
     ap₂ (λ (x y : ℤ). record { value = x; bound = y; at = n; of = of }) e f ∙ ap (λ (m : ℕ). record { value = v'; bound = b'; at = m; of = of }) g
 
 -- what is missing, read with 64 bits
-pub missing-is : (o i g : ℤ) → unsigned_abs o ≤ 2000000000000 → unsigned_abs i ≤ 1000000 → unsigned_abs g ≤ 1000000
+pub missing-is : (o i g : ℤ) → unsigned_abs o ≤ most_factor * most_lines → unsigned_abs i ≤ factor_one → unsigned_abs g ≤ factor_one
     → to_z w64 (of_z w64 (to_z w64 (of_z w64 (to_z w64 (of_z w64 o) -ℤ to_z w64 (of_z w64 i))) +ℤ to_z w64 (of_z w64 g))) ≡ o -ℤ i +ℤ g
 missing-is o i g h j k =
     let outflow : to_z w64 (of_z w64 o) ≡ o = to_z-of_z w64 o (omega (arith, ints, h)) in

@@ -12,6 +12,7 @@ use Rattle.std.specs.Prelude.{not}
 use Rattle.std.proofs.lemmas.List.Elements.{All-append, All-contains, All-filter}
 use Rattle.std.proofs.lemmas.Map.Steps.{length-le_from_distinct_below}
 use Rattle.std.proofs.lemmas.Map.Made.{IsDistinct-from_AllPairs}
+use Rattle.market_data.specs.Scales.{most_buses}
 use Rattle.net_case.specs.declared.live_parts.NetBranch.{NetBranch}
 use Rattle.net_case.specs.Networks.{IsNetBranch}
 use Rattle.net_paths.specs.declared.steps.Step.{Step}
@@ -90,7 +91,7 @@ short_loops n tree (b ∷ rest) (l ∷ loops) ends rests zip =
     cons-of (λ members. length members ≤ n) l loops (short_loop n tree b l ends (head-of (IsNetBranch n) b rest rests) zip.0)
     (short_loops n tree rest loops ends (tail-of (IsNetBranch n) b rest rests) zip.1)
 
-pub loops_are_short : (n : ℕ) (branches : List NetBranch) (loops : List (List Member)) → All (IsNetBranch n) branches → AreLoops branches loops → n ≤ 1000 → All (λ members. length members ≤ 1000) loops
+pub loops_are_short : (n : ℕ) (branches : List NetBranch) (loops : List (List Member)) → All (IsNetBranch n) branches → AreLoops branches loops → n ≤ most_buses → All (λ members. length members ≤ most_buses) loops
 loops_are_short n branches loops ends are few =
     let parts = parts-all (IsNetBranch n) branches are.tree are.rest are.parts ends in
     let short = short_loops n are.tree are.rest loops parts.0 parts.1 are.loops_are in

@@ -1,5 +1,6 @@
 -- The columns of a table of factors, as they are read.
 use Rattle.std.specs.Prelude.{◌≡◌, ℕ, ◌*◌, ◌^◌, ◌<◌, ◌≤◌, ℤ, pos, ◌+ℤ◌, unsigned_abs, List, length, get_or}
+use Rattle.market_data.specs.Scales.{most_factor}
 use Rattle.net_case.specs.Networks.{LiveNetwork}
 use Rattle.net_case.specs.declared.live_parts.NetBranch.{NetBranch}
 use Rattle.net_paths.specs.Loops.{kept}
@@ -43,7 +44,7 @@ pub record HoldNodes (flow : Flows) (branches : List NetBranch) (buses : ℕ) (n
 
 -- what leaves a bus over at most k branches
 pub record IsWithin (k : ℕ) (node : Node) : Type 0 where
-  pub outflow : unsigned_abs node.outflow ≤ 1000000000 * k
+  pub outflow : unsigned_abs node.outflow ≤ most_factor * k
   pub branches : unsigned_abs node.branches ≤ k
 
 -- ---- round a loop

@@ -5,6 +5,7 @@ use Rattle.std.specs.Option.{option_map_or}
 use Rattle.fraction_theory.specs.Fraction.{Fraction, whole, over, ◌-ℚ◌, ◌*ℚ◌, neg_ℚ}
 use Rattle.fraction_theory.specs.Order.{◌≤ℚ◌}
 use Rattle.fraction_theory.specs.Sums.{sum_by}
+use Rattle.market_data.specs.Scales.{factor_one}
 use Rattle.net_case.specs.Networks.{LiveNetwork}
 use Rattle.net_case.specs.declared.live_parts.NetBranch.{NetBranch}
 use Rattle.net_paths.specs.Connection.{bus_number}
@@ -16,9 +17,9 @@ use Rattle.factor_residuals.specs.Residuals.{IsBusResidual, places}
 abbrev pub Injection : Type 0
 Injection = ℕ → Fraction
 
--- so many millionths
+-- so many parts of a factor of 1
 abbrev pub micro : ℤ → Fraction
-micro n = over n 1000000
+micro n = over n factor_one
 
 abbrev pub size_by : ℤ → Fraction → Fraction
 size_by (pos n) x = x

@@ -1,6 +1,7 @@
 -- By how much the flows that factors give miss Kirchhoff's laws, at a bus and round a loop.
 -- Source: Kirchhoff's laws; Wood and Wollenberg, on generation shift factors and line outage distribution factors.
 use Rattle.std.specs.Prelude.{ℕ, ◌*◌, ◌==◌, ◌||◌, ℤ, pos, ◌-ℤ◌, ◌+ℤ◌, ◌*ℤ◌, neg_ℤ, unsigned_abs, Bool, List, [], ◌∷◌, sum_by, count_by, Option, Some, None, slice_index_or, if◌then◌else◌}
+use Rattle.market_data.specs.Scales.{factor_one}
 use Rattle.market_data.specs.WholeSums.{int_sum}
 use Rattle.net_case.specs.Networks.{LiveNetwork, branch_place}
 use Rattle.net_case.specs.declared.live_parts.NetBranch.{NetBranch}
@@ -36,7 +37,7 @@ branches_at branches b = count_by (λ l. l.from == b || l.to == b) branches
 
 -- one MW at a place, in 10^-6
 abbrev pub one_at : ℕ → ℕ → ℤ
-one_at place b = if place == b then pos 1000000 else pos 0
+one_at place b = if place == b then pos factor_one else pos 0
 
 -- the net outflow less what goes in at the bus
 abbrev pub bus_miss : Column → ℕ → ℤ

@@ -1,6 +1,7 @@
 //! The columns of the tables of factors.
 
 ghost use Rattle.std.specs.Prelude.{◌≡◌, ◌≤◌, unsigned_abs};
+ghost use Rattle.market_data.specs.Scales.{most_factor};
 ghost use Rattle.factor_tables.specs.Factors.{factor_at};
 ghost use Rattle.factor_residuals.specs.Columns.{entries_of};
 
@@ -16,7 +17,7 @@ pub(crate) enum Factors<'a> {
 impl Factors<'_> {
     /// The factor of a branch's row in a column, in 10^-6.
     pub(crate) fn flow(self, branch: u32, column: u32) -> i64
-        ensures size { unsigned_abs result ≤ 1000000000 }
+        ensures size { unsigned_abs result ≤ most_factor }
         ensures is { result ≡ factor_at (entries_of self.entry) (branch, column) }
     {
         match self {

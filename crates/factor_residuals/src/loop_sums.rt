@@ -1,7 +1,7 @@
 //! What the flows come to round a loop.
 
 ghost use Rattle.std.specs.Prelude.{◌≡◌, ◌++◌, ◌≤◌, ◌<◌, ◌+◌, ◌^◌, ◌*ℤ◌, ℕ, List, length, unsigned_abs, All};
-ghost use Rattle.market_data.specs.Participants.{most_buses};
+ghost use Rattle.market_data.specs.Scales.{most_buses, most_factor};
 ghost use Rattle.factor_residuals.specs.Kirchhoff.{loop_spot, reactance_at, signed, first_branch};
 ghost use Rattle.factor_residuals.specs.Columns.{IsLoopSum, with_drop, column_of};
 ghost use Rattle.factor_residuals.specs.Residuals.{AreReactances, IsResidual, loop_spots};
@@ -33,7 +33,7 @@ struct LoopSum {
 /// The product of reactance and flow, with minus where the branch is passed from T_BUS to F_BUS.
 fn drop_over(reactance: i128, flow: i64, forward: bool) -> i128
     requires reactance { unsigned_abs reactance ≤ 10 ^ 22 }
-    requires flow { unsigned_abs flow ≤ 10 ^ 9 }
+    requires flow { unsigned_abs flow ≤ most_factor }
     ensures size { unsigned_abs result ≤ 10 ^ 31 }
     ensures is { result ≡ signed forward (reactance *ℤ flow) }
 {
@@ -44,7 +44,7 @@ fn drop_over(reactance: i128, flow: i64, forward: bool) -> i128
 /// With one branch more.
 fn with_drop(loop_sum: LoopSum, reactance: i128, flow: i64, forward: bool) -> LoopSum
     requires reactance { unsigned_abs reactance ≤ 10 ^ 22 }
-    requires flow { unsigned_abs flow ≤ 10 ^ 9 }
+    requires flow { unsigned_abs flow ≤ most_factor }
     requires loop_sum { IsLoopSum most_buses loop_sum }
     ensures is { result ≡ with_drop loop_sum (signed forward (reactance *ℤ flow)) reactance }
     ensures grows { (k : ℕ) → IsLoopSum k loop_sum → IsLoopSum (k + 1) result }

@@ -1,8 +1,8 @@
 //! What leaves each bus.
 
 ghost use Rattle.std.specs.Prelude.{◌≡◌, ◌++◌, ◌∷◌, [], ◌≤◌, ◌<◌, ◌+◌, ◌*◌, ◌^◌, ◌+ℤ◌, ◌-ℤ◌, ℕ, pos, List, length, unsigned_abs, get_or, slice_set, IfOk};
-ghost use Rattle.market_data.specs.Scales.{most_factor};
-ghost use Rattle.net_case.specs.Networks.{IsNetBranch, most_branches};
+ghost use Rattle.market_data.specs.Scales.{factor_one, most_factor, most_lines};
+ghost use Rattle.net_case.specs.Networks.{IsNetBranch};
 ghost use Rattle.net_case.specs.declared.live_parts.NetBranch.{NetBranch};
 ghost use Rattle.net_paths.specs.Loops.{kept};
 ghost use Rattle.factor_residuals.specs.Kirchhoff.{Flows, bus_spot, one_at};
@@ -12,6 +12,7 @@ ghost use Rattle.factor_residuals.specs.Residuals.{IsResidual, bus_spots};
 
 use crate::columns::{Factors, Flow};
 use crate::spots::{Residual, Spot};
+use market_data::FACTOR_ONE;
 use net_case::{NetBranch, Network};
 use net_paths::{bus_number, is_lost};
 use plain_list::Memory;
@@ -27,7 +28,7 @@ pub(crate) struct Node {
 /// With a flow more that leaves the bus.
 fn left_by(node: Node, flow: i64) -> Node
     requires flow { unsigned_abs flow ≤ most_factor }
-    requires within { IsWithin most_branches node }
+    requires within { IsWithin most_lines node }
     ensures { result ≡ left_by node flow }
 {
     Node {
@@ -40,7 +41,7 @@ fn left_by(node: Node, flow: i64) -> Node
 fn leave(nodes: &mut Vec<Node>, place: usize, flow: i64)
     requires place { place < length nodes.old.items }
     requires flow { unsigned_abs flow ≤ most_factor }
-    requires within { (d : Node) → IsWithin most_branches (get_or nodes.old.items place d) }
+    requires within { (d : Node) → IsWithin most_lines (get_or nodes.old.items place d) }
     ensures { (d : Node) → nodes.new.items ≡ slice_set nodes.old.items place (left_by (get_or nodes.old.items place d) flow) }
 {
     nodes[place] = left_by(nodes[place], flow);
@@ -50,7 +51,7 @@ fn leave(nodes: &mut Vec<Node>, place: usize, flow: i64)
 fn pass(nodes: &mut Vec<Node>, branch: &NetBranch, flow: i64)
     requires flow { unsigned_abs flow ≤ most_factor }
     requires branch { IsNetBranch (length nodes.old.items) branch.now }
-    requires within { (p : ℕ) (d : Node) → p < length nodes.old.items → IsWithin most_branches (get_or nodes.old.items p d) }
+    requires within { (p : ℕ) (d : Node) → p < length nodes.old.items → IsWithin most_lines (get_or nodes.old.items p d) }
     ensures within { (k p : ℕ) (d : Node) → p < length nodes.old.items → IsWithin k (get_or nodes.old.items p d) → IsWithin (k + 1) (get_or nodes.new.items p d) }
     ensures passed { (flows : Flows) (before : List NetBranch) → HoldNodes flows before (length nodes.old.items) nodes.old.items → flow ≡ flows branch.now.row
         → HoldNodes flows (before ++ branch.now ∷ []) (length nodes.old.items) nodes.new.items }
@@ -66,7 +67,7 @@ fn nodes_of(
     factors: Factors<'_>,
     column: &Flow,
 ) -> Result<Vec<Node>, Memory>
-    ensures within { IfOk result (λ nodes. (p : ℕ) (d : Node) → p < length network.now.buses → IsWithin most_branches (get_or nodes.items p d)) }
+    ensures within { IfOk result (λ nodes. (p : ℕ) (d : Node) → p < length network.now.buses → IsWithin most_lines (get_or nodes.items p d)) }
     ensures nodes { IfOk result (λ nodes. HoldNodes (flows_of factors.entry column.now.name) (kept column.now.lost network.now.branches) (length network.now.buses) nodes.items) }
 {
     let empty = Node {
@@ -88,17 +89,17 @@ fn nodes_of(
 
 /// One MW at a place, in 10^-6.
 fn one_at(place: usize, bus: usize) -> i64
-    ensures size { unsigned_abs result ≤ 1000000 }
+    ensures size { unsigned_abs result ≤ factor_one }
     ensures is { result ≡ one_at place bus }
 {
-    if place == bus { 1_000_000 } else { 0 }
+    if place == bus { FACTOR_ONE as i64 } else { 0 }
 }
 
 /// What leaves a bus and did not go in there.
 fn missing_at(node: Node, goes_in: i64, goes_out: i64) -> i128
-    requires node { IsWithin most_branches node }
-    requires goes_in { unsigned_abs goes_in ≤ 1000000 }
-    requires goes_out { unsigned_abs goes_out ≤ 1000000 }
+    requires node { IsWithin most_lines node }
+    requires goes_in { unsigned_abs goes_in ≤ factor_one }
+    requires goes_out { unsigned_abs goes_out ≤ factor_one }
     ensures size { unsigned_abs result < 10 ^ 37 }
     ensures is { result ≡ node.outflow -ℤ goes_in +ℤ goes_out }
 {
@@ -107,7 +108,7 @@ fn missing_at(node: Node, goes_in: i64, goes_out: i64) -> i128
 
 /// Half a unit for each branch at a bus, in a tenth of the unit.
 fn bound_at(node: Node) -> i128
-    requires { IsWithin most_branches node }
+    requires { IsWithin most_lines node }
     ensures { (count : ℕ) → node.branches ≡ pos count → result ≡ pos (5 * count) }
 {
     i128::from(5 * node.branches)
@@ -116,7 +117,7 @@ fn bound_at(node: Node) -> i128
 /// The residual of a column at a bus.
 fn bus_spot(network: &Network, node: Node, column: &Flow, bus: usize) -> Spot
     requires bus { bus < length network.now.buses }
-    requires within { IsWithin most_branches node }
+    requires within { IsWithin most_lines node }
     ensures size { unsigned_abs result.value < 10 ^ 37 }
     ensures is { (factors : Factors) → node ≡ node_at (flows_of factors column.now.name) (kept column.now.lost network.now.branches) bus
         → result ≡ bus_spot network.now (column_of network.now factors column.now) bus }

@@ -4,7 +4,7 @@ ghost use Rattle.std.specs.Prelude.{◌≡◌, ◌<◌, ◌≤◌, All, IfOk, le
 ghost use Rattle.std.specs.Borrow.{Bor};
 ghost use Rattle.factor_tables.specs.declared.by_pair.Loss.{Loss};
 ghost use Rattle.factor_tables.specs.declared.by_pair.Shift.{Shift};
-ghost use Rattle.market_data.specs.Participants.{most_buses};
+ghost use Rattle.market_data.specs.Scales.{most_buses};
 ghost use Rattle.net_case.specs.declared.live_parts.NetBranch.{NetBranch};
 ghost use Rattle.net_paths.specs.Loops.{AreLoops, kept};
 ghost use Rattle.net_paths.specs.Detours.{IsLiveRow, IsBranchOf};

@@ -1,7 +1,8 @@
 -- What the numbers of a record may name, and the faults that a record may have.
 use Rattle.std.specs.Prelude.{ℕ, ◌≤◌, ◌==◌, ◌&&◌, not, ℤ, pos, ◌≤ℤ◌, Bool, List, [], ◌∷◌, unsigned_abs, is_some, if◌then◌else◌, Result, Ok, Err}
 use Rattle.std.specs.Int.Signed.{le_z}
-use Rattle.net_case.specs.Networks.{LiveNetwork, branch_place, bus_place, has_bus, most_branches, most_bus_number}
+use Rattle.net_case.specs.Networks.{LiveNetwork, branch_place, bus_place, has_bus, most_bus_number}
+use Rattle.market_data.specs.Scales.{most_lines}
 use Rattle.factor_tables.specs.declared.by_pair.Column.{Column}
 use Rattle.factor_tables.specs.declared.by_pair.Column.TheVariants as column
 use Rattle.factor_tables.specs.declared.cells.FactorRecord.{FactorRecord}
@@ -67,11 +68,11 @@ IsSecond column.Outage rows n = (pos 1 ≤ℤ n) × (n ≤ℤ pos rows)
 pub record IsRowOf (rows : ℕ) (n : ℤ) : Type 0 where
   pub least : pos 1 ≤ℤ n
   pub most : n ≤ℤ pos rows
-  pub few : rows ≤ most_branches
+  pub few : rows ≤ most_lines
 
 -- numbers that name rows, of which there are so many of branches
 pub record IsPairOf (kind : Column) (rows : ℕ) (r : FactorRecord) : Type 0 where
   pub least : pos 1 ≤ℤ r.branch
   pub most : r.branch ≤ℤ pos rows
   pub of : IsSecond kind rows r.of
-  pub few : rows ≤ most_branches
+  pub few : rows ≤ most_lines

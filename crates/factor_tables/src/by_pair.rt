@@ -1,8 +1,7 @@
 //! Factors by pair.
 
 ghost use Rattle.std.specs.Prelude.{◌≡◌, ℕ, ◌≤◌, ◌<◌, ◌+◌, ◌++◌, ◌∷◌, [], List, unsigned_abs, length, get_or, slice_set, IfOk, false, true};
-ghost use Rattle.market_data.specs.Scales.{most_factor};
-ghost use Rattle.net_case.specs.Networks.{most_branches};
+ghost use Rattle.market_data.specs.Scales.{most_factor, most_lines};
 ghost use Rattle.factor_tables.specs.Factors.{Entry, AreFactors, IsFactor, factor_at, has_branch, has_outage, has_pair, marked_row};
 
 use indexmap::IndexMap;
@@ -37,7 +36,7 @@ pub(crate) struct Pairs {
 impl Pairs {
     // No factors, and no row of so many marked.
     pub(crate) fn new(alloc: Global, rows: usize) -> Result<Pairs, Memory>
-        requires { rows ≤ most_branches }
+        requires { rows ≤ most_lines }
         ensures none { IfOk result (λ pairs. pairs.by_pair.entries ≡ []) }
         ensures unmarked { IfOk result (λ pairs. (row : ℕ) → get_or pairs.marked.items row false ≡ false) }
         ensures rows { IfOk result (λ pairs. length pairs.marked.items ≡ rows + 1) }
@@ -96,7 +95,7 @@ pub struct Shift {
 
 impl Model for Shift {
     ghost use Rattle.std.specs.Prelude.{List};
-    ghost use Rattle.net_case.specs.Networks.{most_branches};
+    ghost use Rattle.market_data.specs.Scales.{most_lines};
     ghost use Rattle.factor_tables.specs.Factors.{Entry, AreFactors};
     ghost use Rattle.factor_tables.specs.declared.by_pair.Column.TheVariants as column;
 
@@ -134,7 +133,7 @@ pub struct Loss {
 
 impl Model for Loss {
     ghost use Rattle.std.specs.Prelude.{List};
-    ghost use Rattle.net_case.specs.Networks.{most_branches};
+    ghost use Rattle.market_data.specs.Scales.{most_lines};
     ghost use Rattle.factor_tables.specs.Factors.{Entry, AreFactors};
     ghost use Rattle.factor_tables.specs.declared.by_pair.Column.TheVariants as column;
 

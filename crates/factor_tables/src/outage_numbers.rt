@@ -7,11 +7,9 @@ ghost use Rattle.factor_tables.specs.OutageNumbers.{outage_number, outage_rows_o
 
 use crate::TableFault;
 use csv_table::{Table, read_table};
+use market_data::MOST_OUTAGES;
 use plain_list::List;
 use std::alloc::Global;
-
-/// The most outages of a table.
-const MOST_OUTAGES: usize = 500;
 
 /// Numbers that are to name branches, one for each record.
 pub type OutageRows = List<i64>;

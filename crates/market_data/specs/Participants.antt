@@ -3,13 +3,6 @@ use Rattle.std.specs.Prelude.{ℕ, ◌<◌, ◌≤◌, ◌^◌, ℤ, pos, ◌≤
 use Rattle.market_data.specs.declared.participants.Bus.{Bus}
 use Rattle.market_data.specs.declared.participants.Unit as unit
 
--- the most of each part
-abbrev pub most_buses : ℕ
-most_buses = 1000
-
-abbrev pub most_units : ℕ
-most_units = 1000
-
 -- a number of at most 63 bits
 abbrev pub IsDatum : ℤ → Type 0
 IsDatum n = unsigned_abs n < 2 ^ 63

@@ -1,22 +1,56 @@
 -- The units in which data are whole numbers, and the most of what is given.
-use Rattle.std.specs.Prelude.{ℕ}
+use Rattle.std.specs.Prelude.{ℕ, ◌*◌, ◌^◌}
 
 -- decimals of MW: a datum is a number of 10^-9 MW
 abbrev pub mw_places : ℕ
 mw_places = 9
 
+-- one MW as a datum
+abbrev pub mw_one : ℕ
+mw_one = 10 ^ mw_places
+
 -- decimals of prices: a datum is a number of 10^-6 per MWh
 abbrev pub price_places : ℕ
 price_places = 6
 
--- decimals of factors
+-- a price of 1 per MWh as a datum
+abbrev pub price_one : ℕ
+price_one = 10 ^ price_places
+
+-- decimals of money and welfare, a product of the two
+abbrev pub money_places : ℕ
+money_places = 15
+
+-- decimals of factors: a datum is a number of 10^-6
 abbrev pub factor_places : ℕ
 factor_places = 6
 
--- the greatest size of a factor, in 10^-6: that of 1000
-abbrev pub most_factor : ℕ
-most_factor = 1000000000
+-- a factor of 1 as a datum: of how many parts a factor is a number
+abbrev pub factor_one : ℕ
+factor_one = 10 ^ factor_places
 
--- the most outages of a market
+-- the same for a product of two factors
+abbrev pub factor_product_one : ℕ
+factor_product_one = 10 ^ (2 * factor_places)
+
+-- the greatest size of a factor as a datum: that of 1000
+abbrev pub most_factor : ℕ
+most_factor = 10 ^ 9
+
+-- the most of each part
+abbrev pub most_buses : ℕ
+most_buses = 1000
+
+abbrev pub most_units : ℕ
+most_units = 1000
+
+-- of all units
+abbrev pub most_blocks : ℕ
+most_blocks = 4000
+
+-- branches
+abbrev pub most_lines : ℕ
+most_lines = 2000
+
 abbrev pub most_outages : ℕ
 most_outages = 500

@@ -1,8 +1,11 @@
-//! The buses and units of a network, and the units in which their numbers are given.
+//! The buses and units of a network, the units in which their numbers are given, and the most of each.
 #![tactic(auto)]
 
 mod participants;
 mod scales;
 
 pub use participants::{Bus, Unit, UnitList};
-pub use scales::{FACTOR_PLACES, MONEY_PLACES, MOST_FACTOR, MW_PLACES, PRICE_PLACES};
+pub use scales::{
+    FACTOR_ONE, FACTOR_PLACES, FACTOR_PRODUCT_ONE, MONEY_PLACES, MOST_BLOCKS, MOST_BUSES,
+    MOST_FACTOR, MOST_LINES, MOST_OUTAGES, MOST_UNITS, MW_ONE, MW_PLACES, PRICE_ONE, PRICE_PLACES,
+};

@@ -1,16 +1,43 @@
-//! The units in which data are whole numbers.
+//! The units in which data are whole numbers, and the most of what is given.
 
 /// Decimal places of MW: a datum is a number of 10^-9 MW.
 pub const MW_PLACES: u8 = 9;
 
+/// One MW as a datum.
+pub const MW_ONE: i64 = 1_000_000_000;
+
 /// Decimal places of prices: a datum is a number of 10^-6 per MWh.
 pub const PRICE_PLACES: u8 = 6;
 
-/// Decimal places of factors.
-pub const FACTOR_PLACES: u8 = 6;
-
-/// The greatest size of a factor, in 10^-6.
-pub const MOST_FACTOR: u64 = 1_000_000_000;
+/// A price of 1 per MWh as a datum.
+pub const PRICE_ONE: i64 = 1_000_000;
 
 /// Decimal places of money and welfare, a product of the two.
 pub const MONEY_PLACES: u8 = 15;
+
+/// Decimal places of factors: a datum is a number of 10^-6.
+pub const FACTOR_PLACES: u8 = 6;
+
+/// A factor of 1 as a datum: of how many parts a factor is a number.
+pub const FACTOR_ONE: u64 = 1_000_000;
+
+/// The same for a product of two factors.
+pub const FACTOR_PRODUCT_ONE: u64 = 1_000_000_000_000;
+
+/// The greatest size of a factor as a datum: that of 1000.
+pub const MOST_FACTOR: u64 = 1_000_000_000;
+
+/// The most buses.
+pub const MOST_BUSES: usize = 1000;
+
+/// The most units.
+pub const MOST_UNITS: usize = 1000;
+
+/// The most blocks of all units.
+pub const MOST_BLOCKS: usize = 4000;
+
+/// The most branches.
+pub const MOST_LINES: usize = 2000;
+
+/// The most outages.
+pub const MOST_OUTAGES: usize = 500;

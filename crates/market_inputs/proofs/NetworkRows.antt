@@ -10,9 +10,9 @@ use Rattle.net_case.specs.declared.live_parts.Branches.TheVariants as branches
 use Rattle.net_case.specs.declared.live_parts.NetBranch.{NetBranch}
 use Rattle.net_case.specs.declared.live_parts.NetFault.{NetFault}
 use Rattle.net_case.specs.declared.live_parts.PostRating.{PostRating}
-use Rattle.market_data.specs.Participants.{most_buses, most_units}
+use Rattle.market_data.specs.Scales.{most_buses, most_lines, most_units}
 use Rattle.net_case.specs.Columns.{BR_STATUS, F_BUS, RATE_A, T_BUS}
-use Rattle.net_case.specs.Networks.{AreRows, LiveNetwork, most_branches}
+use Rattle.net_case.specs.Networks.{AreRows, LiveNetwork}
 use Rattle.net_case.specs.NetworkReading.{Places, branch_count, branch_row, branch_where, branches_in, bus_rows, few_rows, limit_in, limits_in, named_place, network_of, number_in, place_of_number, places_from, post_column, service_in, shifted_in, unit_row}
 use Rattle.net_case.proofs.RowLemmas.{few_rows-count, rows-listed, rows-none}
 
@@ -107,7 +107,7 @@ network-rows rating case network is =
     (λ units _ rest. and_then-gives P (branches_in (branches.Read rating) (places_from 0 buses.rows) case.branch) _ network
     (λ live gathers made.
     let all : AreRows (0 + length case.branch) (rows_in live) = gather-rows (branch_row rating (places_from 0 buses.rows)) (read-row rating (places_from 0 buses.rows)) case.branch [] 0 live (rows-none 0) gathers in
-    let last : 0 + length case.branch ≡ count = omega (arith, few_rows-count most_branches field.Branch case.branch count counts) in
+    let last : 0 + length case.branch ≡ count = omega (arith, few_rows-count most_lines field.Branch case.branch count counts) in
     subst P (same-ok _ network made) (subst (λ n. AreRows n (rows_in live)) last all))
     rest)
     rest)

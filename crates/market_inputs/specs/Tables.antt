@@ -1,8 +1,8 @@
 -- What the bytes of the tables of a network stand for.
 use Rattle.std.specs.Prelude.{◌≡◌, ◌≢◌, ℕ, ◌≤◌, ℤ, List, length, All, Result, Ok, Err}
 use Rattle.record_reading.specs.Steps.{and_then, or_as}
-use Rattle.market_data.specs.Participants.{IsUnit, most_units}
-use Rattle.market_data.specs.Scales.{most_outages}
+use Rattle.market_data.specs.Participants.{IsUnit}
+use Rattle.market_data.specs.Scales.{most_outages, most_units}
 use Rattle.market_model.specs.Market.{HaveRoom}
 use Rattle.net_case.specs.Networks.{LiveNetwork}
 use Rattle.net_case.specs.NetworkReading.{unit_list_of}

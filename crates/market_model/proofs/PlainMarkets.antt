@@ -2,12 +2,13 @@
 use Rattle.std.specs.Prelude.{◌≢◌, ℕ, ◌<◌, ◌≤◌, List, [], ◌∷◌, length, map, All, AllPairs, slice_index_or}
 use Rattle.std.proofs.Common.{arith, zero, suc}
 use Rattle.std.proofs.lemmas.List.Elements.{All-cons, All-nil}
-use Rattle.market_data.specs.Participants.{IsBus, IsUnit, most_buses, most_units}
+use Rattle.market_data.specs.Participants.{IsBus, IsUnit}
+use Rattle.market_data.specs.Scales.{most_blocks, most_buses, most_units}
 use Rattle.market_data.specs.declared.participants.Bus.{Bus}
 use Rattle.market_data.specs.declared.participants.Unit as unit
 use Rattle.market_model.specs.declared.participants.Block.{Block}
 use Rattle.market_model.specs.declared.participants.Parts.{Parts}
-use Rattle.market_model.specs.Market.{IsMarket, IsBlock, HasRoom, most_blocks}
+use Rattle.market_model.specs.Market.{IsMarket, IsBlock, HasRoom}
 
 -- numbers that rise are distinct
 pub distinct_by_rise : (xs : List ℕ) → AllPairs (λ a b. a < b) xs → AllPairs (λ a b. a ≢ b) xs

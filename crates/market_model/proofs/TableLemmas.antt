@@ -7,7 +7,7 @@ use mir.Val.{SFits}
 use Rattle.std.proofs.lemmas.Int.{ints}
 use Rattle.std.proofs.lemmas.Nat.{div-mul-add, mod-mul-add, mul-add-lt}
 use Rattle.market_model.specs.declared.participants.Factor.{Factor}
-use Rattle.market_model.specs.Market.{most_factor}
+use Rattle.market_data.specs.Scales.{most_factor}
 use Rattle.market_model.specs.Factors.{is_pair, factor_in, IsTable}
 
 abbrev pub NotOnePair : Factor → Factor → Type 0

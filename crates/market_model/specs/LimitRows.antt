@@ -5,6 +5,7 @@ use Rattle.std.specs.Prelude.{◌==◌, ◌&&◌, ℕ, ◌<◌, ◌^◌, ℤ, Bo
 use Rattle.std.specs.List.{flat_map, position_or_len}
 use Rattle.fraction_theory.specs.Fraction.{Fraction, whole, over}
 use Rattle.fraction_theory.specs.Sums.{Term, Plain, Product, total}
+use Rattle.market_data.specs.Scales as scales
 use Rattle.market_model.specs.declared.answered.RowId.{RowId}
 use Rattle.market_model.specs.declared.participants.Parts.{Parts}
 use Rattle.market_model.specs.declared.limits.Cause.{Cause}
@@ -71,7 +72,7 @@ most_flow m r = limit m r
 -- ---- factors and offsets
 -- how many decimal places a factor has
 abbrev pub factor_places : Parts → ℕ
-factor_places m = 6
+factor_places m = scales.factor_places
 
 -- what a factor stands for
 abbrev pub factor_value : Parts → ℤ → Fraction

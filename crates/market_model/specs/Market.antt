@@ -1,6 +1,8 @@
 -- What every market keeps.
-use Rattle.std.specs.Prelude.{◌≡◌, ◌≢◌, ℕ, ◌<◌, ◌≤◌, ◌^◌, pos, ◌≤ℤ◌, List, length, map, slice_index_or, All, AllPairs, IfSome, Contains, unsigned_abs}
-use Rattle.market_data.specs.Participants.{IsDatum, IsBus, IsUnit, most_buses, most_units}
+use Rattle.std.specs.Prelude.{◌≡◌, ◌≢◌, ℕ, ◌<◌, ◌≤◌, pos, ◌≤ℤ◌, List, length, map, slice_index_or, All, AllPairs, IfSome, Contains, unsigned_abs}
+use Rattle.market_data.specs.Participants.{IsDatum, IsBus, IsUnit}
+pub use Rattle.market_data.specs.Scales.{most_factor, most_lines, most_outages}
+use Rattle.market_data.specs.Scales.{most_blocks, most_buses, most_units}
 use Rattle.market_data.specs.declared.participants.Unit as unit
 use Rattle.market_model.specs.declared.participants.Block.{Block}
 use Rattle.market_model.specs.declared.participants.Factor.{Factor}
@@ -8,20 +10,6 @@ use Rattle.market_model.specs.declared.participants.Line.{Line}
 use Rattle.market_model.specs.declared.participants.Parts.{Parts}
 use Rattle.market_model.specs.declared.participants.Side.{Side}
 use Rattle.market_model.specs.Stairs.{stair_in, offered, room_of}
-
--- the most of each part
-abbrev pub most_blocks : ℕ
-most_blocks = 4000
-
-abbrev pub most_lines : ℕ
-most_lines = 2000
-
-abbrev pub most_outages : ℕ
-most_outages = 500
-
--- the greatest size of a factor, in 10^-6: that of 1000
-abbrev pub most_factor : ℕ
-most_factor = 10 ^ 9
 
 -- a block of one of so many units
 pub record IsBlock (units : ℕ) (block : Block) : Type 0 where

@@ -1,6 +1,7 @@
 //! Factors by line, and by bus or lost line.
 
 ghost use Rattle.std.specs.Prelude.{◌≤◌, ◌*◌, length, IfOk};
+ghost use Rattle.market_data.specs.Scales.{most_lines};
 ghost use Rattle.market_model.specs.Factors.{IsTable};
 ghost use Rattle.market_model.specs.Market.{AreFactors};
 
@@ -16,8 +17,8 @@ pub(crate) fn table_of(
     others: usize,
 ) -> Result<Vec<i64>, Memory>
     requires factors { AreFactors lines others factors.now }
-    requires lines { lines ≤ 2000 }
-    requires others { others ≤ 2000 }
+    requires lines { lines ≤ most_lines }
+    requires others { others ≤ most_lines }
     ensures { IfOk result (λ table. IsTable factors.now lines others table.items) }
 {
     let mut table = match vec![in alloc; 0i64; lines * others] {

@@ -26,10 +26,9 @@ use Rattle.net_case.specs.declared.live_parts.Branches.{Branches}
 use Rattle.net_case.specs.declared.live_parts.Branches.TheVariants as branches
 use Rattle.net_case.specs.declared.live_parts.PostRating.{PostRating}
 use Rattle.net_case.specs.declared.live_parts.PostRating.TheVariants as post
-use Rattle.market_data.specs.Participants.{most_buses, most_units}
-use Rattle.market_data.specs.Scales.{mw_places}
+use Rattle.market_data.specs.Scales.{most_buses, most_lines, most_units, mw_places}
 use Rattle.net_case.specs.Columns.{BR_STATUS, BUS_I, BUS_TYPE, F_BUS, GEN_BUS, GEN_STATUS, GS, PD, PMAX, PMIN, RATE_A, RATE_B, RATE_C, SHIFT, T_BUS}
-use Rattle.net_case.specs.Networks.{LiveNetwork, most_branches, most_bus_number}
+use Rattle.net_case.specs.Networks.{LiveNetwork, most_bus_number}
 use Rattle.net_case.specs.declared.bus_rows.BusRow.{BusRow}
 
 -- what is read in a cell, or the cell's fault
@@ -232,7 +231,7 @@ few_rows most f rows = if nat_lt most (length rows) then Err (fault.TooMany f (l
 -- branch rows that are skipped are not even counted
 abbrev pub branch_count : Branches → List Record → Result ℕ NetFault
 branch_count branches.Skip rows = Ok 0
-branch_count (branches.Read rating) rows = few_rows most_branches field.Branch rows
+branch_count (branches.Read rating) rows = few_rows most_lines field.Branch rows
 
 abbrev pub branches_in : Branches → Places → List Record → Result (List NetBranch) NetFault
 branches_in branches.Skip places rows = Ok []

@@ -1,6 +1,7 @@
 -- What a network is, and what is kept of it.
 use Rattle.std.specs.Prelude.{◌≡◌, ◌≢◌, ℕ, ◌≤◌, ◌<◌, ◌==◌, ℤ, pos, negsuc, ◌≤ℤ◌, Bool, List, length, map, All, AllPairs, Contains, position, slice_get, slice_index_or, Option, Some, None, is_some, IfSome}
-use Rattle.market_data.specs.Participants.{IsDatum, IsBus, IsUnit, most_buses, most_units}
+use Rattle.market_data.specs.Participants.{IsDatum, IsBus, IsUnit}
+use Rattle.market_data.specs.Scales.{most_buses, most_lines, most_units}
 use Rattle.market_data.specs.declared.participants.Bus.{Bus}
 use Rattle.market_data.specs.declared.participants.UnitList.{UnitList}
 use Rattle.net_case.specs.declared.live_parts.NetUnit.{NetUnit}
@@ -36,9 +37,6 @@ abbrev pub branch_place : LiveNetwork → ℤ → Option ℕ
 branch_place network n = place_of (map (λ branch. branch.row) network.branches) n
 
 -- ---- what is kept of it
-abbrev pub most_branches : ℕ
-most_branches = 2000
-
 -- the greatest BUS_I
 abbrev pub most_bus_number : ℕ
 most_bus_number = 2147483647
@@ -82,9 +80,9 @@ pub record AreBusRows (buses : List Bus) (rows : List (ℕ × Option ℕ)) : Typ
 pub record IsNetwork (network : LiveNetwork) : Type 0 where
   pub bus_count : length network.buses ≤ most_buses
   pub unit_count : length network.units ≤ most_units
-  pub branch_count : length network.branches ≤ most_branches
+  pub branch_count : length network.branches ≤ most_lines
   pub gen_count : network.gen_rows ≤ most_units
-  pub branch_row_count : network.branch_rows ≤ most_branches
+  pub branch_row_count : network.branch_rows ≤ most_lines
   pub buses : All IsBus network.buses
   pub numbers : All IsBusNumber (map (λ bus. bus.number) network.buses)
   pub distinct : AllPairs (λ a b. a ≢ b) (map (λ bus. bus.number) network.buses)

@@ -2,17 +2,17 @@
 
 ghost use Rattle.std.specs.Prelude.{◌≡◌, ◌≢◌, ℕ, ◌≤◌, ◌<◌, [], length, map, All, IfOk, IfSome, Err, Ok};
 ghost use Rattle.market_data.specs.Participants.{IsDatum};
+ghost use Rattle.market_data.specs.Scales.{most_lines};
 ghost use Rattle.record_reading.specs.Rows.{gather};
-ghost use Rattle.net_case.specs.Networks.{IsNetBranch, IsLimit, AreRows, ArePlaces, most_branches};
+ghost use Rattle.net_case.specs.Networks.{IsNetBranch, IsLimit, AreRows, ArePlaces};
 ghost use Rattle.net_case.specs.NetworkReading.{row_at, cell_in, is_infinite, is_below_all, limit_of, limit_in, shifted_in, post_column, limits_in, branch_where, branch_row, branch_count, branches_in};
 
 use crate::bus_rows::named_place;
 use crate::cells::{cell_fault, in_service, number, row_count, sign};
 use crate::columns::{BR_STATUS, F_BUS, RATE_A, RATE_B, RATE_C, SHIFT, T_BUS};
-use crate::limits::MOST_BRANCHES;
 use crate::live_parts::{Branches, NetBranch, NetFault, Places, PostRating, place_of_number};
 use case_text::{Field, RawCase};
-use market_data::MW_PLACES;
+use market_data::{MOST_LINES, MW_PLACES};
 use plain_list::List;
 use record_reading::{Why, push_some};
 use scaled_decimal::Sign;
@@ -175,7 +175,7 @@ fn live_branches(
     post: PostRating,
     count: usize,
 ) -> Result<List<NetBranch>, NetFault>
-    requires count { count ≤ most_branches }
+    requires count { count ≤ most_lines }
     requires all { count ≡ length case.now.branch }
     ensures count { IfOk result (λ branches. length branches ≤ count) }
     ensures branches { (buses : ℕ) → ArePlaces buses places.now.entries → IfOk result (All (IsNetBranch buses)) }
@@ -192,12 +192,12 @@ fn live_branches(
 
 /// The number of branch rows, where they are read.
 pub fn count_branches(case: &RawCase<'_>, branches: Branches) -> Result<usize, NetFault>
-    ensures few { IfOk result (λ count. count ≤ most_branches) }
+    ensures few { IfOk result (λ count. count ≤ most_lines) }
     ensures is { result ≡ branch_count branches case.now.branch }
 {
     match branches {
         Branches::Skip => Ok(0),
-        Branches::Read(_) => row_count(case, Field::Branch, MOST_BRANCHES),
+        Branches::Read(_) => row_count(case, Field::Branch, MOST_LINES),
     }
 }
 
@@ -209,7 +209,7 @@ pub fn read_branches(
     branches: Branches,
     count: usize,
 ) -> Result<List<NetBranch>, NetFault>
-    requires few { count ≤ most_branches }
+    requires few { count ≤ most_lines }
     requires count { branch_count branches case.now.branch ≡ Ok count }
     ensures count { IfOk result (λ branches. length branches ≤ count) }
     ensures branches { (buses : ℕ) → ArePlaces buses places.now.entries → IfOk result (All (IsNetBranch buses)) }

@@ -1,7 +1,7 @@
 //! Reading the gen rows of a case.
 
 ghost use Rattle.std.specs.Prelude.{◌≡◌, ◌≢◌, ℕ, ◌≤◌, ◌<◌, [], length, map, All, IfOk, IfSome, Err};
-ghost use Rattle.market_data.specs.Participants.{most_units};
+ghost use Rattle.market_data.specs.Scales.{most_units};
 ghost use Rattle.record_reading.specs.Rows.{gather};
 ghost use Rattle.net_case.specs.Networks.{IsNetUnit, AreRows, ArePlaces};
 ghost use Rattle.net_case.specs.NetworkReading.{row_at, bounds_in, unit_where, unit_row};

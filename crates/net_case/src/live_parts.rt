@@ -2,13 +2,14 @@
 
 ghost use Rattle.std.specs.Prelude.{◌≡◌, ◌≢◌, ℕ, ◌<◌, ◌≤◌, pos, ◌≤ℤ◌, ◌==◌, length, map, AllPairs, IfOk, MatchOption};
 ghost use Rattle.std.specs.Map.{lookup};
-ghost use Rattle.net_case.specs.Networks.{place_of, most_branches, IsNetUnit, IsNetwork, AreUnits, has_bus, bus_place, branch_place};
+ghost use Rattle.market_data.specs.Scales.{most_lines};
+ghost use Rattle.net_case.specs.Networks.{place_of, IsNetUnit, IsNetwork, AreUnits, has_bus, bus_place, branch_place};
 ghost use Rattle.net_case.specs.NetworkReading.{place_of_number, unit_within, unit_list_of};
 
-use crate::limits::{MOST_BRANCHES, MOST_BUS_NUMBER};
+use crate::limits::MOST_BUS_NUMBER;
 use case_text::Field;
 use indexmap::IndexMap;
-use market_data::{Unit, UnitList};
+use market_data::{MOST_LINES, Unit, UnitList};
 use plain_list::{List, Memory};
 use record_reading::Why;
 use std::alloc::Global;
@@ -131,9 +132,9 @@ pub fn place_of_number(places: &Places, number: i64) -> Option<Option<usize>>
 
 /// The number of a branch row, which is from 1 to the most that there are.
 fn row_number(row: i64) -> Option<u32>
-    ensures { MatchOption result ((m : ℕ) → 1 ≤ m → m ≤ most_branches → row ≢ pos m) (λ m. row ≡ pos m) }
+    ensures { MatchOption result ((m : ℕ) → 1 ≤ m → m ≤ most_lines → row ≢ pos m) (λ m. row ≡ pos m) }
 {
-    if 1 <= row && row <= MOST_BRANCHES as i64 {
+    if 1 <= row && row <= MOST_LINES as i64 {
         Some(row as u32)
     } else {
         None

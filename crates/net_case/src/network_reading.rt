@@ -8,9 +8,9 @@ use crate::branch_rows::{count_branches, read_branches};
 use crate::bus_rows::read_buses;
 use crate::cells::row_count;
 use crate::gen_rows::read_units;
-use crate::limits::{MOST_BUSES, MOST_UNITS};
 use crate::live_parts::{Branches, NetFault, Network};
 use case_text::{Field, RawCase};
+use market_data::{MOST_BUSES, MOST_UNITS};
 use std::alloc::Global;
 
 /// The network of a case.

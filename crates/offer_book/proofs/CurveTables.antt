@@ -15,7 +15,7 @@ use Rattle.market_data.specs.declared.participants.Unit as unit
 use Rattle.market_data.specs.declared.participants.UnitList.{UnitList}
 use Rattle.market_model.specs.declared.participants.Block.{Block}
 use Rattle.market_model.specs.declared.participants.Side.{Side}
-use Rattle.market_model.specs.Market.{most_blocks}
+use Rattle.market_data.specs.Scales.{most_blocks}
 use Rattle.market_model.specs.Stairs.{is_on_stair, stair_in, offered, room_of}
 use Rattle.market_model.proofs.ChangeLemmas.{on_stair}
 use Rattle.offer_book.specs.declared.offer_table.Offer.{Offer}

@@ -8,8 +8,7 @@ use Rattle.market_data.specs.declared.participants.UnitList.{UnitList}
 use Rattle.market_model.specs.declared.participants.Block.{Block}
 use Rattle.market_model.specs.declared.participants.Side.{Side}
 use Rattle.market_model.specs.declared.participants.Side.TheVariants.{Sell, Buy}
-use Rattle.market_data.specs.Scales.{mw_places, price_places}
-use Rattle.market_model.specs.Market.{most_blocks}
+use Rattle.market_data.specs.Scales.{most_blocks, mw_places, price_places}
 use Rattle.market_model.specs.Stairs.{stair_in, offered, room_of}
 use Rattle.record_reading.specs.Records.{Record, cell_of}
 use Rattle.record_reading.specs.Steps.{and_then, or_as, some_of}

@@ -5,7 +5,8 @@ use Rattle.market_model.specs.declared.participants.Side.TheVariants.{Sell, Buy}
 use Rattle.market_model.specs.declared.participants.Block.{Block}
 use Rattle.market_data.specs.Participants.{IsDatum}
 use Rattle.market_data.specs.declared.participants.Unit as unit
-use Rattle.market_model.specs.Market.{IsBlock, most_blocks}
+use Rattle.market_model.specs.Market.{IsBlock}
+use Rattle.market_data.specs.Scales.{most_blocks}
 use Rattle.offer_book.specs.declared.offer_table.Offer.{Offer}
 use Rattle.offer_book.specs.declared.offer_table.Stair.{Stair}
 

@@ -2,21 +2,20 @@
 
 ghost use Rattle.std.specs.Prelude.{◌≡◌, ◌≢◌, ℕ, ◌+◌, ◌*◌, ◌^◌, ◌≤◌, ◌<◌, ◌↔◌, ◌==◌, pos, ◌≤ℤ◌, ◌+ℤ◌, unsigned_abs, length, get_or, [], ◌∷◌, ◌++◌, Some, Ok, Err, All, IsTrue, IfOk, IfErr, IfSome, if◌then◌else◌};
 ghost use Rattle.std.specs.List.{position};
-ghost use Rattle.market_data.specs.Participants.{IsDatum, most_units};
-ghost use Rattle.market_model.specs.Market.{IsBlock, HaveRoom, most_blocks};
+ghost use Rattle.market_data.specs.Participants.{IsDatum};
+ghost use Rattle.market_data.specs.Scales.{most_blocks, most_units};
+ghost use Rattle.market_model.specs.Market.{IsBlock, HaveRoom};
 ghost use Rattle.record_reading.specs.Rows.{gather, listed};
 ghost use Rattle.market_model.specs.Stairs.{is_on_stair, stair_in, room_of};
 ghost use Rattle.offer_book.specs.OfferTable.{cell_fault, side_in, offer_in, ends_of, follows, block_after, block_where, row_in, block_in, frame_fault, blocks_of_table};
 ghost use Rattle.offer_book.specs.Offers.{AreBlocks, HasSides, MayFollow, OfferIsRead, StairIsBounded};
 
 use csv_table::{Table, read_table};
+use market_data::MOST_BLOCKS;
 use market_model::{Block, List, MW_PLACES, Memory, PRICE_PLACES, Side, Unit, UnitList};
 use record_reading::{CellFault, FrameFault, Why, push_some};
 use std::alloc::Global;
 use thiserror::Error;
-
-/// The most records of the table.
-const MOST_BLOCKS: usize = 4000;
 
 /// Why a table of offers is refused. A line is a record's place, where the header's is 1.
 #[derive(Clone, Copy, Debug, PartialEq, Eq, Error)]

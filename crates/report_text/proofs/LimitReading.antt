@@ -7,6 +7,7 @@ use Rattle.std.proofs.lemmas.List.{append_cancel_left, length-map}
 use Rattle.std.proofs.lemmas.Slice.Zip.{firsts-zip, seconds-zip}
 use Rattle.fraction_theory.specs.Fraction.{Fraction}
 use Rattle.exact_fraction.specs.Written.{number_text, written}
+use Rattle.market_data.specs.Scales.{money_places, mw_places, price_places}
 use Rattle.market_model.specs.declared.answered.Dual.{Dual}
 use Rattle.market_model.specs.declared.answered.Rent.{Rent}
 use Rattle.market_model.specs.declared.answered.RowId.{RowId}
@@ -90,18 +91,18 @@ same_entry p q e f = ap (λ (d : Dual Fraction). (d, p.1)) e ∙ ap (λ (r : Ren
 
 -- what stands behind the name of a limit
 abbrev behind_name : Entry → List ℕ → List ℕ
-behind_name p ts = codes "flow " ++ (written 9 p.1.flow ++ 32 ∷ (codes "up " ++ (written 6 p.0.up ++ 32 ∷ (codes "down " ++ (written 6 p.0.down ++ 32 ∷ (codes "rent " ++ (written 15 p.1.rent ++ 10 ∷ ts)))))))
+behind_name p ts = codes "flow " ++ (written mw_places p.1.flow ++ 32 ∷ (codes "up " ++ (written price_places p.0.up ++ 32 ∷ (codes "down " ++ (written price_places p.0.down ++ 32 ∷ (codes "rent " ++ (written money_places p.1.rent ++ 10 ∷ ts)))))))
 
 entry_apart : (p q : Entry) → OfOneRow p → OfOneRow q → (us vs : List ℕ) → entry_text p ++ us ≡ entry_text q ++ vs → (p ≡ q) × (us ≡ vs)
 unfolding rent_text
 entry_apart p q g h us vs e =
     let opened = λ (x : Entry) (ts : List ℕ).
-    in_order (row_text x.0.row) (codes " flow ") (written 9 x.1.flow) (codes " up ") (written 6 x.0.up) (codes " down ") (written 6 x.0.down) (codes " rent ") (written 15 x.1.rent) (codes "\n") ts in
+    in_order (row_text x.0.row) (codes " flow ") (written mw_places x.1.flow) (codes " up ") (written price_places x.0.up) (codes " down ") (written price_places x.0.down) (codes " rent ") (written money_places x.1.rent) (codes "\n") ts in
     let row = rows_apart p.0.row q.0.row (behind_name p us) (behind_name q vs) (sym (opened p us) ∙ e ∙ opened q vs) in
-    let flow = named_apart (codes "flow ") 9 32 p.1.flow q.1.flow _ _ (Prim.omega arith) row.1 in
-    let up = named_apart (codes "up ") 6 32 p.0.up q.0.up _ _ (Prim.omega arith) flow.1 in
-    let down = named_apart (codes "down ") 6 32 p.0.down q.0.down _ _ (Prim.omega arith) up.1 in
-    let rent = named_apart (codes "rent ") 15 10 p.1.rent q.1.rent us vs (Prim.omega arith) down.1 in
+    let flow = named_apart (codes "flow ") mw_places 32 p.1.flow q.1.flow _ _ (Prim.omega arith) row.1 in
+    let up = named_apart (codes "up ") price_places 32 p.0.up q.0.up _ _ (Prim.omega arith) flow.1 in
+    let down = named_apart (codes "down ") price_places 32 p.0.down q.0.down _ _ (Prim.omega arith) up.1 in
+    let rent = named_apart (codes "rent ") money_places 10 p.1.rent q.1.rent us vs (Prim.omega arith) down.1 in
     (same_entry p q (same_dual p.0 q.0 row.0 up.0 down.0) (same_rent p.1 q.1 (g ∙ row.0 ∙ sym h) flow.0 rent.0), rent.1)
   where
     in_order : (r a f b x c y d z n ts : List ℕ) → (r ++ a ++ f ++ b ++ x ++ c ++ y ++ d ++ z ++ n) ++ ts ≡ r ++ (a ++ (f ++ (b ++ (x ++ (c ++ (y ++ (d ++ (z ++ (n ++ ts)))))))))

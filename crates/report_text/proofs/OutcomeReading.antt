@@ -8,6 +8,7 @@ use Rattle.exact_fraction.specs.Written.{written, parts_text}
 use Rattle.exact_fraction.specs.declared.Op.{Op}
 use Rattle.exact_fraction.specs.declared.Op.TheVariants as op
 use Rattle.exact_fraction.specs.declared.Passed.{Passed}
+use Rattle.market_data.specs.Scales.{mw_places}
 use Rattle.market_model.specs.declared.participants.Parts.{Parts}
 use Rattle.market_model.specs.declared.answered.Answer.{Answer}
 use Rattle.market_model.specs.declared.answered.Duals.{Duals}
@@ -29,9 +30,9 @@ use Rattle.report_text.proofs.ReportReading.{same_duals, answers_apart}
 as_lines : (a b c n xs ys ls us : List ℕ) → (a ++ (b ++ xs ++ n) ++ (c ++ ys ++ n) ++ ls) ++ us ≡ ((a ++ b) ++ xs ++ (n ++ c) ++ ys ++ n) ++ (ls ++ us)
 as_lines a b c n xs ys ls us = Prim.simp append_assoc
 
-told : (f : Farkas Fraction) (us : List ℕ) → infeasible_text f ++ us ≡ (codes "infeasible\nbound " ++ written 9 f.bound ++ 10 ∷ codes "energy " ++ written 0 f.duals.energy ++ 10 ∷ []) ++ (flat_map limit_text f.duals.limits ++ us)
+told : (f : Farkas Fraction) (us : List ℕ) → infeasible_text f ++ us ≡ (codes "infeasible\nbound " ++ written mw_places f.bound ++ 10 ∷ codes "energy " ++ written 0 f.duals.energy ++ 10 ∷ []) ++ (flat_map limit_text f.duals.limits ++ us)
 unfolding infeasible_text bound_text plain_energy_text
-told f us = as_lines (codes "infeasible\n") (codes "bound ") (codes "energy ") (codes "\n") (written 9 f.bound) (written 0 f.duals.energy) (flat_map limit_text f.duals.limits) us
+told f us = as_lines (codes "infeasible\n") (codes "bound ") (codes "energy ") (codes "\n") (written mw_places f.bound) (written 0 f.duals.energy) (flat_map limit_text f.duals.limits) us
 
 same_farkas : (f g : Farkas Fraction) → f.duals ≡ g.duals → f.bound ≡ g.bound → f ≡ g
 same_farkas f g p q =
@@ -40,7 +41,7 @@ same_farkas f g p q =
 
 farkas_apart : (f g : Farkas Fraction) (us vs : List ℕ) → EndsLimits us → EndsLimits vs → infeasible_text f ++ us ≡ infeasible_text g ++ vs → (f ≡ g) × (us ≡ vs)
 farkas_apart f g us vs p q e =
-    let t = two_apart (codes "infeasible\nbound ") 9 0 10 (codes "energy ") f.bound g.bound f.duals.energy g.duals.energy (flat_map limit_text f.duals.limits ++ us) (flat_map limit_text g.duals.limits ++ vs) (Prim.omega arith)
+    let t = two_apart (codes "infeasible\nbound ") mw_places 0 10 (codes "energy ") f.bound g.bound f.duals.energy g.duals.energy (flat_map limit_text f.duals.limits ++ us) (flat_map limit_text g.duals.limits ++ vs) (Prim.omega arith)
     (sym (told f us) ∙ e ∙ told g vs) in
     let limits = limits_apart f.duals.limits g.duals.limits us vs p q t.2 in
     (same_farkas f g (same_duals f.duals g.duals t.1 limits.0) t.0, limits.1)

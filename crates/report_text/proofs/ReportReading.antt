@@ -4,6 +4,7 @@ use Rattle.std.specs.List.{AllByRecursion, flat_map, range_with_len}
 use Rattle.std.proofs.Common.{zero, suc, arith, ap, sym, ◌∙◌, subst, append_assoc}
 use Rattle.std.proofs.lemmas.List.{ext_get_or}
 use Rattle.fraction_theory.specs.Fraction.{Fraction}
+use Rattle.market_data.specs.Scales.{money_places, mw_places, price_places}
 use Rattle.market_model.specs.declared.participants.Side.{Side}
 use Rattle.market_model.specs.declared.participants.Parts.{Parts}
 use Rattle.market_model.specs.declared.answered.Price.{Price}
@@ -23,7 +24,7 @@ use Rattle.report_text.proofs.LimitReading.{EndsLimits, rents_apart}
 
 head_apart : (w x e f : Fraction) (us vs : List ℕ) → head_text w e ++ us ≡ head_text x f ++ vs → (w ≡ x) × (e ≡ f) × (us ≡ vs)
 unfolding head_text
-head_apart w x e f us vs h = two_apart (codes "cleared\nwelfare ") 15 6 10 (codes "energy ") w x e f us vs (Prim.omega arith) h
+head_apart w x e f us vs h = two_apart (codes "cleared\nwelfare ") money_places price_places 10 (codes "energy ") w x e f us vs (Prim.omega arith) h
 
 record SamePrice (p q : Price Fraction) : Type 0 where
   total : p.total ≡ q.total
@@ -32,12 +33,12 @@ record SamePrice (p q : Price Fraction) : Type 0 where
 bus_apart : (n : ℕ) (p q : Price Fraction) (us vs : List ℕ) → bus_text n p ++ us ≡ bus_text n q ++ vs → SamePrice p q × (us ≡ vs)
 unfolding bus_text
 bus_apart n p q us vs h =
-    let t = two_apart (codes "bus " ++ decimal n ++ codes " price ") 6 6 32 (codes "congestion ") p.total q.total p.congestion q.congestion us vs (Prim.omega arith) h in
+    let t = two_apart (codes "bus " ++ decimal n ++ codes " price ") price_places price_places 32 (codes "congestion ") p.total q.total p.congestion q.congestion us vs (Prim.omega arith) h in
     (record { total = t.0; congestion = t.1 }, t.2)
 
 block_apart : (row : ℕ) (side : Side) (n : ℕ) (x y : Fraction) (us vs : List ℕ) → block_text row side n x ++ us ≡ block_text row side n y ++ vs → (x ≡ y) × (us ≡ vs)
 unfolding block_text
-block_apart row side n x y us vs h = one_apart (codes "block " ++ decimal row ++ side_text side ++ decimal n ++ codes " mw ") 9 x y us vs h
+block_apart row side n x y us vs h = one_apart (codes "block " ++ decimal row ++ side_text side ++ decimal n ++ codes " mw ") mw_places x y us vs h
 
 same_pay : (p q : UnitPay Fraction) → p.mw ≡ q.mw → p.paid ≡ q.paid → p ≡ q
 same_pay p q e f =
@@ -47,7 +48,7 @@ same_pay p q e f =
 unit_apart : (row : ℕ) (p q : UnitPay Fraction) (us vs : List ℕ) → unit_text row p ++ us ≡ unit_text row q ++ vs → (p ≡ q) × (us ≡ vs)
 unfolding unit_text
 unit_apart row p q us vs h =
-    let t = two_apart (codes "unit " ++ decimal row ++ codes " mw ") 9 15 32 (codes "paid ") p.mw q.mw p.paid q.paid us vs (Prim.omega arith) h in
+    let t = two_apart (codes "unit " ++ decimal row ++ codes " mw ") mw_places money_places 32 (codes "paid ") p.mw q.mw p.paid q.paid us vs (Prim.omega arith) h in
     (same_pay p q t.0 t.1, t.2)
 
 same_load : (p q : Load Fraction) → p.mw ≡ q.mw → p.pays ≡ q.pays → p ≡ q
@@ -58,12 +59,12 @@ same_load p q e f =
 load_apart : (n : ℕ) (p q : Load Fraction) (us vs : List ℕ) → load_text n p ++ us ≡ load_text n q ++ vs → (p ≡ q) × (us ≡ vs)
 unfolding load_text
 load_apart n p q us vs h =
-    let t = two_apart (codes "load " ++ decimal n ++ codes " mw ") 9 15 32 (codes "pays ") p.mw q.mw p.pays q.pays us vs (Prim.omega arith) h in
+    let t = two_apart (codes "load " ++ decimal n ++ codes " mw ") mw_places money_places 32 (codes "pays ") p.mw q.mw p.pays q.pays us vs (Prim.omega arith) h in
     (same_load p q t.0 t.1, t.2)
 
 surplus_apart : (x y : Fraction) (us vs : List ℕ) → surplus_text x ++ us ≡ surplus_text y ++ vs → (x ≡ y) × (us ≡ vs)
 unfolding surplus_text
-surplus_apart x y us vs h = one_apart (codes "surplus ") 15 x y us vs h
+surplus_apart x y us vs h = one_apart (codes "surplus ") money_places x y us vs h
 
 -- the lines of some places, and what comes after them
 lines_apart : (f g : ℕ → List ℕ) (Same : ℕ → Type 0) → ((k : ℕ) (us vs : List ℕ) → f k ++ us ≡ g k ++ vs → Same k × (us ≡ vs))

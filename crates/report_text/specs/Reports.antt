@@ -6,6 +6,7 @@ use Rattle.exact_fraction.specs.Written.{number_text, written, parts_text}
 use Rattle.exact_fraction.specs.declared.Op.{Op}
 use Rattle.exact_fraction.specs.declared.Op.TheVariants as op
 use Rattle.exact_fraction.specs.declared.Passed.{Passed}
+use Rattle.market_data.specs.Scales.{money_places, mw_places, price_places}
 use Rattle.market_model.specs.declared.participants.Side.{Side}
 use Rattle.market_model.specs.declared.participants.Side.TheVariants.{Sell, Buy}
 use Rattle.market_model.specs.declared.participants.Block.{Block}
@@ -38,15 +39,15 @@ block_number m j = 1 + count_by (λ k. alike (block_at m k) (block_at m j)) (pla
 
 -- that the market is cleared, its welfare and the price of energy
 unfoldable pub head_text : Fraction → Fraction → List ℕ
-head_text welfare energy = codes "cleared\nwelfare " ++ written 15 welfare ++ codes "\nenergy " ++ written 6 energy ++ codes "\n"
+head_text welfare energy = codes "cleared\nwelfare " ++ written money_places welfare ++ codes "\nenergy " ++ written price_places energy ++ codes "\n"
 
 -- the price of a bus
 unfoldable pub bus_text : ℕ → Price Fraction → List ℕ
-bus_text number price = codes "bus " ++ decimal number ++ codes " price " ++ written 6 price.total ++ codes " congestion " ++ written 6 price.congestion ++ codes "\n"
+bus_text number price = codes "bus " ++ decimal number ++ codes " price " ++ written price_places price.total ++ codes " congestion " ++ written price_places price.congestion ++ codes "\n"
 
 -- the accepted MW of a block, the so-manieth of its unit and side
 unfoldable pub block_text : ℕ → Side → ℕ → Fraction → List ℕ
-block_text row side number mw = codes "block " ++ decimal row ++ side_text side ++ decimal number ++ codes " mw " ++ written 9 mw ++ codes "\n"
+block_text row side number mw = codes "block " ++ decimal row ++ side_text side ++ decimal number ++ codes " mw " ++ written mw_places mw ++ codes "\n"
 
 -- a limit in the base, or after the loss of a branch
 abbrev pub outage_text : ℕ → List ℕ
@@ -58,19 +59,19 @@ row_text id = codes "limit " ++ number_text id.branch ++ outage_text id.outage
 
 -- the flow of a limit, its two prices and what it earns
 unfoldable pub rent_text : Dual Fraction → Rent Fraction → List ℕ
-rent_text d r = row_text d.row ++ codes " flow " ++ written 9 r.flow ++ codes " up " ++ written 6 d.up ++ codes " down " ++ written 6 d.down ++ codes " rent " ++ written 15 r.rent ++ codes "\n"
+rent_text d r = row_text d.row ++ codes " flow " ++ written mw_places r.flow ++ codes " up " ++ written price_places d.up ++ codes " down " ++ written price_places d.down ++ codes " rent " ++ written money_places r.rent ++ codes "\n"
 
 -- a unit's output and what it is paid
 unfoldable pub unit_text : ℕ → UnitPay Fraction → List ℕ
-unit_text row pay = codes "unit " ++ decimal row ++ codes " mw " ++ written 9 pay.mw ++ codes " paid " ++ written 15 pay.paid ++ codes "\n"
+unit_text row pay = codes "unit " ++ decimal row ++ codes " mw " ++ written mw_places pay.mw ++ codes " paid " ++ written money_places pay.paid ++ codes "\n"
 
 -- a bus's demand and what it pays
 unfoldable pub load_text : ℕ → Load Fraction → List ℕ
-load_text number load = codes "load " ++ decimal number ++ codes " mw " ++ written 9 load.mw ++ codes " pays " ++ written 15 load.pays ++ codes "\n"
+load_text number load = codes "load " ++ decimal number ++ codes " mw " ++ written mw_places load.mw ++ codes " pays " ++ written money_places load.pays ++ codes "\n"
 
 -- what loads pay less what units are paid
 unfoldable pub surplus_text : Fraction → List ℕ
-surplus_text surplus = codes "surplus " ++ written 15 surplus ++ codes "\n"
+surplus_text surplus = codes "surplus " ++ written money_places surplus ++ codes "\n"
 
 -- the line of each place
 abbrev pub bus_line_at : Parts → Answer Fraction → ℕ → List ℕ
@@ -120,7 +121,7 @@ limit_text d = row_text d.row ++ codes " up " ++ written 0 d.up ++ codes " down 
 
 -- the bound that shows it, and the price of energy, which is a plain number
 unfoldable pub bound_text : Fraction → List ℕ
-bound_text bound = codes "bound " ++ written 9 bound ++ codes "\n"
+bound_text bound = codes "bound " ++ written mw_places bound ++ codes "\n"
 
 unfoldable pub plain_energy_text : Fraction → List ℕ
 plain_energy_text energy = codes "energy " ++ written 0 energy ++ codes "\n"

@@ -1,6 +1,7 @@
 -- The lines that tell residuals.
 use Rattle.std.specs.Prelude.{ℕ, ◌+◌, List, ◌++◌, codes, decimal, Option, Some, None}
 use Rattle.line_text.specs.Decimals.{decimal_text}
+use Rattle.market_data.specs.Scales.{factor_places}
 use Rattle.factor_residuals.specs.declared.spots.Spot.{Spot}
 use Rattle.factor_residuals.specs.declared.spots.Residual.{Residual}
 
@@ -25,8 +26,12 @@ lines_of kind places (Some most) over = most_line kind places most ++ over_line 
 unfoldable pub residual_lines : List ℕ → ℕ → Residual → List ℕ
 residual_lines kind places r = lines_of kind places r.most r.over
 
+-- decimals of a reactance times a ratio, each with 9, times a factor
+abbrev pub loop_places : ℕ
+loop_places = 18 + factor_places
+
 -- the residuals at the buses and round the loops, of shift factors and of outage factors
 unfoldable pub residuals_text : Residual → Residual → Residual → Residual → List ℕ
 residuals_text bus round outage_bus outage_round =
-    residual_lines (codes "bus") 6 bus ++ residual_lines (codes "loop") 24 round
-    ++ residual_lines (codes "outage bus") 6 outage_bus ++ residual_lines (codes "outage loop") 24 outage_round
+    residual_lines (codes "bus") factor_places bus ++ residual_lines (codes "loop") loop_places round
+    ++ residual_lines (codes "outage bus") factor_places outage_bus ++ residual_lines (codes "outage loop") loop_places outage_round

@@ -6,8 +6,12 @@ ghost use Rattle.residual_text.specs.ResidualLines.{place_text, most_line, over_
 
 use factor_residuals::{Residual, Spot};
 use line_text::Text;
+use market_data::FACTOR_PLACES;
 use plain_list::Memory;
 use std::alloc::Global;
+
+/// Decimal places of a reactance times a ratio, each with 9, times a factor.
+const LOOP_PLACES: u8 = 18 + FACTOR_PLACES;
 
 /// The bus or the loop of a residual, and the bus or the outage of its column.
 #[tactic(auto, using(std::proofs::Common::append_assoc), unfolding(crate::specs::ResidualLines::place_text))]
@@ -80,9 +84,9 @@ pub fn residuals_text(
     ensures { IfOk result (λ bytes. bytes.items ≡ residuals_text bus.now round.now outage_bus.now outage_round.now) }
 {
     let mut text = Text::new(alloc);
-    put_residual(&mut text, b"bus", 6, bus)?;
-    put_residual(&mut text, b"loop", 24, round)?;
-    put_residual(&mut text, b"outage bus", 6, outage_bus)?;
-    put_residual(&mut text, b"outage loop", 24, outage_round)?;
+    put_residual(&mut text, b"bus", FACTOR_PLACES, bus)?;
+    put_residual(&mut text, b"loop", LOOP_PLACES, round)?;
+    put_residual(&mut text, b"outage bus", FACTOR_PLACES, outage_bus)?;
+    put_residual(&mut text, b"outage loop", LOOP_PLACES, outage_round)?;
     Ok(text.into_bytes())
 }

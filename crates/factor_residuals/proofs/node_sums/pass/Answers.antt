@@ -1,5 +1,6 @@
 use Rattle.std.proofs.Common.{◌<◌, ℕ, List, length, subst, length-set, get_or-set_other, ◌≡◌, ◌∙◌, ℤ, pos, [], ap, sym, refl, slice_set, get_or, w64, to_z, of_z, neg_ℤ}
 use Rattle.std.proofs.lemmas.Int.{to_z-of_z}
+use Rattle.market_data.specs.Scales.{most_lines}
 use Rattle.factor_residuals.specs.Columns.{IsWithin, left_by}
 use Rattle.factor_residuals.specs.declared.node_sums.Node.{Node}
 use Rattle.factor_residuals.proofs.NodeLemmas.{passed, within-more, back-is}
@@ -12,7 +13,7 @@ leave-requires-2-clause-place c =
 
 pub leave-requires-2-clause-within : goal.leave-requires-2-clause-within
 leave-requires-2-clause-within c = λ d.
-    subst (IsWithin 2000) (sym (ap (λ (ns : List Node). get_or ns c.args.branch.now.to d) (c.leave.ensures d)
+    subst (IsWithin most_lines) (sym (ap (λ (ns : List Node). get_or ns c.args.branch.now.to d) (c.leave.ensures d)
     ∙ get_or-set_other c.args.nodes.now.items c.args.branch.now.from c.args.branch.now.to _ d (λ e. c.requires.branch.ends (sym e)))) (c.requires.within c.args.branch.now.to d c.requires.branch.to)
 
 pub returns-clause-within : goal.returns-clause-within

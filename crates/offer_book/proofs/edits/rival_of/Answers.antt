@@ -1,6 +1,7 @@
 use Rattle.std.proofs.Common.{◌≡◌, ◌≤ℤ◌, ℤ, pos, ◌+ℤ◌, ◌-ℤ◌, arith, w64}
 use Rattle.std.proofs.lemmas.Int.{ints, to_z-of_z}
 use mir.Val.{SFits, to_z, of_z}
+use Rattle.market_data.specs.Scales.{most_blocks}
 use Rattle.offer_book.specs.Edits.{price_of_block, rival_of}
 use Rattle.offer_book.proofs.edits.rival_of.Goals as goal
 
@@ -17,8 +18,8 @@ returns c =
     let after : c.price_of_block-after.result ≡ price_of_block m c.args.row c.args.side (c.args.number +ℤ pos 1) = rw (row, number, up) at c.price_of_block-after.ensures in
     rw (price, before, after) at c.rival.ensures
   where
-    one_less : (n : ℤ) → pos 1 ≤ℤ n → n ≤ℤ pos 4000 → SFits w64 (n -ℤ pos 1)
+    one_less : (n : ℤ) → pos 1 ≤ℤ n → n ≤ℤ pos most_blocks → SFits w64 (n -ℤ pos 1)
     one_less n least most = omega (arith, ints)
 
-    one_more : (n : ℤ) → pos 1 ≤ℤ n → n ≤ℤ pos 4000 → SFits w64 (n +ℤ pos 1)
+    one_more : (n : ℤ) → pos 1 ≤ℤ n → n ≤ℤ pos most_blocks → SFits w64 (n +ℤ pos 1)
     one_more n least most = omega (arith, ints)

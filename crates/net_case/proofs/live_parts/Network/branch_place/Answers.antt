@@ -2,7 +2,8 @@ use Rattle.std.proofs.Common.{◌≡◌, ◌∙◌, ℕ, ◌≤◌, List, sym, a
 use Rattle.std.specs.Prelude.{◌≢◌}
 use Rattle.std.proofs.lemmas.Int.{to_z-of_z}
 use Rattle.net_case.specs.declared.live_parts.NetBranch.{NetBranch}
-use Rattle.net_case.specs.Networks.{LiveNetwork, IsNetwork, place_of, branch_place, most_branches}
+use Rattle.net_case.specs.Networks.{LiveNetwork, IsNetwork, place_of, branch_place}
+use Rattle.market_data.specs.Scales.{most_lines}
 use Rattle.net_case.proofs.PlaceLemmas.{place-outside, within-most}
 use Rattle.net_case.proofs.live_parts.Network.branch_place.Goals as goal
 
@@ -18,5 +19,5 @@ returns-in-Some c =
 pub returns-in-None : goal.returns-in-None
 returns-in-None c =
     let kept : IsNetwork c.args.self.now = subst IsNetwork c.self.view_is c.self.invariant in
-    let out : (m : ℕ) → 1 ≤ m → m ≤ most_branches → c.args.row ≢ pos m = rw (to_z-of_z w64 c.args.row c.ranges.row) at c.in-None.ensures in
-    sym (place-outside (map (λ (b : NetBranch). b.row) c.args.self.now.branches) most_branches c.args.row (within-most c.args.self.now.branch_rows most_branches (map (λ (b : NetBranch). b.row) c.args.self.now.branches) kept.branch_row_count kept.rows_of_branches.range) out)
+    let out : (m : ℕ) → 1 ≤ m → m ≤ most_lines → c.args.row ≢ pos m = rw (to_z-of_z w64 c.args.row c.ranges.row) at c.in-None.ensures in
+    sym (place-outside (map (λ (b : NetBranch). b.row) c.args.self.now.branches) most_lines c.args.row (within-most c.args.self.now.branch_rows most_lines (map (λ (b : NetBranch). b.row) c.args.self.now.branches) kept.branch_row_count kept.rows_of_branches.range) out)
