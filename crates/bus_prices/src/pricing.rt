@@ -2,6 +2,7 @@
 
 ghost use Rattle.std.specs.Prelude.{◌≡◌, ◌<◌, ◌^◌, length, map, unsigned_abs, Contains, IfOk, IfErr};
 ghost use Rattle.fraction_theory.specs.Fraction.{neg_ℚ, over, ◌+ℚ◌, ◌-ℚ◌, ◌*ℚ◌};
+ghost use Rattle.market_data.specs.Scales.{factor_product_one};
 ghost use Rattle.market_model.specs.Dispatch.{places};
 ghost use Rattle.market_model.specs.declared.limits.Row.{Row};
 ghost use Rattle.market_model.specs.LimitRows.{rows, row_factor, row_id};
@@ -12,10 +13,8 @@ ghost use Rattle.bus_prices.specs.Prices.{price_of, IsShareRefusal, IsPriceRefus
 
 use exact_fraction::{Exact, Passed, Sign};
 use limit_rows::{factor_at, row_named};
+use market_data::FACTOR_PRODUCT_ONE;
 use market_model::{Dual, Duals, Market, Price, RowId};
-
-/// Factors of rows are in 10^-12.
-const WHOLE: u64 = 1_000_000_000_000;
 
 /// The opposite of what a MW on the flow of a dual's row costs: the price of its lower side, or less that of its upper one.
 fn opposite_pull<N: Exact>(dual: &Dual<N>) -> N
@@ -33,7 +32,7 @@ fn factor_named(market: &Market, name: RowId, bus: usize) -> i64
     requires row { (r : Row) × Contains (rows market.now) r × (row_id market.now r ≡ name) }
     requires bus { bus < length market.now.buses }
     ensures size { unsigned_abs result < 2 ^ 63 }
-    ensures is { (r : Row) → Contains (rows market.now) r → row_id market.now r ≡ name → over result (10 ^ 12) ≡ row_factor market.now r bus }
+    ensures is { (r : Row) → Contains (rows market.now) r → row_id market.now r ≡ name → over result factor_product_one ≡ row_factor market.now r bus }
 {
     let _lines = market.lines();
     match row_named(market, name) {
@@ -45,10 +44,10 @@ fn factor_named(market: &Market, name: RowId, bus: usize) -> i64
 /// A sum with a price's share by a factor in 10^-12.
 fn with_row<N: Exact>(sum: N, price: N, factor: i64) -> Result<N, Passed<N>>
     requires { unsigned_abs factor < 2 ^ 63 }
-    ensures sum { IfOk result (λ more. N.value more ≡ N.value sum +ℚ N.value price *ℚ over factor (10 ^ 12)) }
-    ensures cause { IfErr result (λ passed. IsShareRefusal (N.value sum) (N.value price) (over factor (10 ^ 12)) N.bound (passed_at N.value passed)) }
+    ensures sum { IfOk result (λ more. N.value more ≡ N.value sum +ℚ N.value price *ℚ over factor factor_product_one) }
+    ensures cause { IfErr result (λ passed. IsShareRefusal (N.value sum) (N.value price) (over factor factor_product_one) N.bound (passed_at N.value passed)) }
 {
-    let share = price.times(N::of_parts(factor, WHOLE))?;
+    let share = price.times(N::of_parts(factor, FACTOR_PRODUCT_ONE))?;
     sum.plus(share)
 }
 

@@ -10,6 +10,7 @@ use Rattle.fraction_theory.proofs.Ring.{by_ring, at, padd, pmul, pneg, pnil, tim
 use Rattle.fraction_theory.proofs.SumLaws.{total-map}
 use Rattle.exact_fraction.specs.declared.Op.TheVariants.{Plus, Minus, Times}
 use Rattle.exact_fraction.specs.declared.Passed.{Passed}
+use Rattle.market_data.specs.Scales.{factor_product_one}
 use Rattle.market_model.specs.declared.answered.Duals.{Duals}
 use Rattle.market_model.specs.declared.participants.Parts.{Parts}
 use Rattle.market_model.specs.declared.limits.Row.{Row}
@@ -56,9 +57,9 @@ is_row m d k e h = (Contains-from_filter (λ s. is_named d.limits (row_id m s)) 
 
 -- ---- the congestion at a bus
 -- a factor of 0 takes nothing
-pub no_pull : (s u v : Fraction) (k : ℤ) → k ≡ pos 0 → s ≡ s +ℚ neg_ℚ (u -ℚ v) *ℚ over k (10 ^ 12)
+pub no_pull : (s u v : Fraction) (k : ℤ) → k ≡ pos 0 → s ≡ s +ℚ neg_ℚ (u -ℚ v) *ℚ over k factor_product_one
 no_pull s u v k e =
-    let nil : over k (10 ^ 12) ≡ whole (pos 0) = ap (λ (n : ℤ). over n (10 ^ 12)) e ∙ over-same (pos 0) (pos 0) (10 ^ 12) 1 (Prim.omega arith) (Prim.omega arith) refl ∙ over-one (pos 0) in
+    let nil : over k factor_product_one ≡ whole (pos 0) = ap (λ (n : ℤ). over n factor_product_one) e ∙ over-same (pos 0) (pos 0) factor_product_one 1 (Prim.omega arith) (Prim.omega arith) refl ∙ over-one (pos 0) in
     sym (ap (λ t. s +ℚ neg_ℚ (u -ℚ v) *ℚ t) nil ∙ ap (λ t. s +ℚ t) (times_nil ring_ℚ (neg_ℚ (u -ℚ v))) ∙ +ℚ_nil s)
 
 module _ (m : Parts) (d : Duals Fraction) (i : ℕ) where

@@ -2,6 +2,7 @@
 
 ghost use Rattle.std.specs.Prelude.{◌≡◌, ◌<◌, ◌^◌, length, unsigned_abs, IfOk, IfErr};
 ghost use Rattle.fraction_theory.specs.Fraction.{Fraction, neg_ℚ, over, ◌+ℚ◌, ◌-ℚ◌, ◌*ℚ◌};
+ghost use Rattle.market_data.specs.Scales.{factor_product_one};
 ghost use Rattle.market_model.specs.declared.answered.Duals.{Duals};
 ghost use Rattle.market_model.specs.Optimality.{bus_price, congestion};
 ghost use Rattle.market_model.specs.Valued.{passed_at};
@@ -10,10 +11,8 @@ ghost use Rattle.cert_sums.specs.Refusals.{IsCongestionRefusal, IsPriceRefusal, 
 
 use exact_fraction::{Exact, Passed};
 use limit_rows::factor_at;
+use market_data::FACTOR_PRODUCT_ONE;
 use market_model::{Market, Row};
-
-/// Factors of rows are in 10^-12.
-const WHOLE: u64 = 1_000_000_000_000;
 
 /// A row of the market with the two prices that a certificate gives it.
 #[derive(Clone, Copy, Debug)]
@@ -28,14 +27,14 @@ pub struct NamedRow<N> {
 /// A sum less what the prices of a row take by its factor in 10^-12. A factor of 0 takes nothing.
 fn less_pull<N: Exact>(sum: N, up: N, down: N, factor: i64) -> Result<N, Passed<N>>
     requires { unsigned_abs factor < 2 ^ 63 }
-    ensures sum { IfOk result (λ more. N.value more ≡ N.value sum +ℚ neg_ℚ (N.value up -ℚ N.value down) *ℚ over factor (10 ^ 12)) }
-    ensures cause { IfErr result (λ passed. IsPullRefusal (N.value sum) (N.value up) (N.value down) (over factor (10 ^ 12)) N.bound (passed_at N.value passed)) }
+    ensures sum { IfOk result (λ more. N.value more ≡ N.value sum +ℚ neg_ℚ (N.value up -ℚ N.value down) *ℚ over factor factor_product_one) }
+    ensures cause { IfErr result (λ passed. IsPullRefusal (N.value sum) (N.value up) (N.value down) (over factor factor_product_one) N.bound (passed_at N.value passed)) }
 {
     if factor == 0 {
         return Ok(sum);
     }
     let pull = up.minus(down)?;
-    let share = pull.neg().times(N::of_parts(factor, WHOLE))?;
+    let share = pull.neg().times(N::of_parts(factor, FACTOR_PRODUCT_ONE))?;
     sum.plus(share)
 }
 

@@ -2,8 +2,8 @@
 
 ghost use Rattle.std.specs.Prelude.{◌≡◌, ◌≤◌, ◌<◌, ◌+◌, length, Some, IfSome};
 ghost use Rattle.std.specs.List.{position, slice_get};
+ghost use Rattle.market_data.specs.Scales.{most_lines, most_outages};
 ghost use Rattle.market_model.specs.LimitRows.{bears, causes, lines_of, outage_of, place_of_line, rows_of, IsCauseAmong};
-ghost use Rattle.market_model.specs.Market.{most_lines, most_outages};
 ghost use Rattle.limit_rows.specs.Naming.{is_named};
 
 use market_model::{Cause, Market, RowId};

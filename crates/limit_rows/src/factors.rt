@@ -2,16 +2,14 @@
 
 ghost use Rattle.std.specs.Prelude.{◌≡◌, ◌<◌, ◌≤◌, ◌*◌, ◌^◌, pos, ◌+ℤ◌, ◌*ℤ◌, unsigned_abs, Contains, length};
 ghost use Rattle.fraction_theory.specs.Fraction.{over};
+ghost use Rattle.market_data.specs.Scales.{factor_one, most_factor};
 ghost use Rattle.market_model.specs.Factors.{factor_in};
-ghost use Rattle.market_model.specs.Market.{most_factor};
 ghost use Rattle.market_model.specs.declared.limits.Row.{Row};
 ghost use Rattle.market_model.specs.LimitRows.{factor_places, row_factor, row_id, rows, IsCauseAmong};
 
 use crate::places::row_named;
+use market_data::FACTOR_ONE;
 use market_model::{Cause, Market, Row, RowId};
-
-/// In 10^-6.
-const WHOLE: i64 = 1_000_000;
 
 /// The shift factor of a line for a bus, in 10^-6, with its size.
 pub fn shift_of(market: &Market, line: usize, bus: usize) -> i64
@@ -38,14 +36,14 @@ pub fn loss_of(market: &Market, line: usize, lost: usize) -> i64
 /// A factor of 10^-6 in 10^-12.
 fn finer(shift: i64) -> i64
     requires { unsigned_abs shift ≤ most_factor }
-    ensures { result ≡ shift *ℤ pos 1000000 }
+    ensures { result ≡ shift *ℤ pos factor_one }
 {
-    shift * WHOLE
+    shift * FACTOR_ONE as i64
 }
 
 /// A factor with what goes over of the lost line's, in 10^-12.
 fn with_lost(own: i64, loss: i64, lost: i64) -> i64
-    requires own { unsigned_abs own ≤ most_factor * 1000000 }
+    requires own { unsigned_abs own ≤ most_factor * factor_one }
     requires loss { unsigned_abs loss ≤ most_factor }
     requires lost { unsigned_abs lost ≤ most_factor }
     ensures size { unsigned_abs result < 2 ^ 63 }

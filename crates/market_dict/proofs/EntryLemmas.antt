@@ -8,6 +8,7 @@ use Rattle.std.proofs.lemmas.List.FromFn.{length-range_with_len, get_or-range_wi
 use Rattle.std.proofs.lemmas.Option.{slice_get-get_or}
 use Rattle.fraction_theory.specs.Fraction.{Fraction, whole}
 use Rattle.market_data.specs.declared.participants.Unit as unit
+use Rattle.market_data.specs.Scales.{most_lines, most_outages}
 use Rattle.market_model.specs.declared.answered.RowId.{RowId}
 use Rattle.market_model.specs.declared.participants.Block.{Block}
 use Rattle.market_model.specs.declared.participants.Parts.{Parts}
@@ -65,15 +66,15 @@ flat_few f n few (x ∷ xs) =
     let more : suc (length xs) * n ≡ n + length xs * n = Prim.omega arith in
     Prim.omega (arith, rest, here, all, more)
 
-pub rows_few : (m : Parts) → IsMarket m → length (rows m) ≤ 1002000
+pub rows_few : (m : Parts) → IsMarket m → length (rows m) ≤ (most_outages + 1) * most_lines
 rows_few m market =
-    let each : (cause : Cause) → length (rows_of m cause) ≤ 2000 = λ cause.
+    let each : (cause : Cause) → length (rows_of m cause) ≤ most_lines = λ cause.
     let long : length (rows_of m cause) ≡ length (lines_of m cause) = length-rows_of m cause in
     let few : length (lines_of m cause) ≤ length (places (length m.lines)) = filtered_few (bears m cause) (places (length m.lines)) in
     let counted : length (places (length m.lines)) ≡ length m.lines = length-range_with_len 0 (length m.lines) in
     Prim.omega (arith, long, few, counted, market.line_count) in
-    let all : length (flat_map (rows_of m) (causes m)) ≤ length (causes m) * 2000 = flat_few (rows_of m) 2000 each (causes m) in
-    let causes_few : length (causes m) ≤ 501 = Prim.omega (arith, market.outage_count, length-map m.outages (λ (row : ℕ). Branch (place_of_line m row))) in
+    let all : length (flat_map (rows_of m) (causes m)) ≤ length (causes m) * most_lines = flat_few (rows_of m) most_lines each (causes m) in
+    let causes_few : length (causes m) ≤ most_outages + 1 = Prim.omega (arith, market.outage_count, length-map m.outages (λ (row : ℕ). Branch (place_of_line m row))) in
     let same : length (rows m) ≡ length (flat_map (rows_of m) (causes m)) = ap length (rows-causes m) in
     Prim.omega (arith, all, causes_few, same)
 

@@ -7,12 +7,10 @@ ghost use Rattle.market_system.specs.MarketSystem.{block_sign, block_coefficient
 
 use exact_fraction::Exact;
 use limit_rows::factor_at;
+use market_data::FACTOR_PRODUCT_ONE;
 use market_model::{Block, Market, Row, Side, datum};
 use plain_list::{List, Memory};
 use std::alloc::Global;
-
-/// Factors of rows are in 10^-12.
-const WHOLE: u64 = 1_000_000_000_000;
 
 /// So many zeros.
 pub(crate) fn zeros<N: Exact>(alloc: Global, count: usize) -> Result<Vec<N>, Memory>
@@ -69,7 +67,7 @@ fn row_entry<N: Exact>(market: &Market, row: Row, block: &Block) -> N
     ensures { N.value result ≡ signed block.now.side (row_factor market.now row (unit_at market.now block.now.unit).bus) }
 {
     let bus = market.units().at(block.unit).bus;
-    by_side(block, N::of_parts(factor_at(market, row, bus), WHOLE))
+    by_side(block, N::of_parts(factor_at(market, row, bus), FACTOR_PRODUCT_ONE))
 }
 
 /// By how much a MW of each block raises the flow of a limit.

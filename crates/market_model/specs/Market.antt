@@ -1,8 +1,7 @@
 -- What every market keeps.
 use Rattle.std.specs.Prelude.{◌≡◌, ◌≢◌, ℕ, ◌<◌, ◌≤◌, pos, ◌≤ℤ◌, List, length, map, slice_index_or, All, AllPairs, IfSome, Contains, unsigned_abs}
 use Rattle.market_data.specs.Participants.{IsDatum, IsBus, IsUnit}
-pub use Rattle.market_data.specs.Scales.{most_factor, most_lines, most_outages}
-use Rattle.market_data.specs.Scales.{most_blocks, most_buses, most_units}
+use Rattle.market_data.specs.Scales.{most_blocks, most_buses, most_factor, most_lines, most_outages, most_units}
 use Rattle.market_data.specs.declared.participants.Unit as unit
 use Rattle.market_model.specs.declared.participants.Block.{Block}
 use Rattle.market_model.specs.declared.participants.Factor.{Factor}

@@ -4,6 +4,7 @@ use Rattle.std.proofs.lemmas.List.{length-map}
 use mir.Val.{to_z, of_z}
 use Rattle.fraction_theory.specs.Fraction.{over}
 use Rattle.fraction_theory.proofs.FieldLaws.{over-one}
+use Rattle.market_data.specs.Scales.{factor_product_one}
 use Rattle.market_model.specs.declared.answered.Dual.{Dual}
 use Rattle.market_model.specs.Optimality.{IsOneSided}
 use Rattle.market_model.specs.Valued.{dual_at, duals_at, passed_at}
@@ -55,7 +56,7 @@ loop-dual-preserved g c =
     let r = row_of_dual m c.lines-lines.ensures.market d c.requires.duals.named k e below read in
     let known : to_z w64 (of_z w64 c.factor_named.result) ≡ c.factor_named.result = to_z-of_z w64 c.factor_named.result (record { sfits = c.factor_named.type_inv }) in
     congestion_step m d c.args.bus k e r.0 (g.N.Exact.value c.opposite_pull.result) _ (g.N.Exact.value c.loop-dual.sum) _ r.1 c.opposite_pull.ensures
-    (ap (λ (z : ℤ). over z 1000000000000) known ∙ c.factor_named.ensures.is r.0 r.1.row r.1.name) c.loop-dual.invariant c.in_ok-sum.ensures.sum
+    (ap (λ (z : ℤ). over z factor_product_one) known ∙ c.factor_named.ensures.is r.0 r.1.row r.1.name) c.loop-dual.invariant c.in_ok-sum.ensures.sum
 
 pub returns-clause-sum : goal.returns-clause-sum
 returns-clause-sum g c =
@@ -81,4 +82,4 @@ returns-in_err-sum-clause-cause g c =
     let given : c.from_residual.result ≡ Err c.in_err-sum.field-0.0 = search rules in
     rw given
     (congestion_refused m d c.args.bus k e r.0 (g.N.Exact.value c.opposite_pull.result) _ (g.N.Exact.value c.loop-dual.sum) g.N.Exact.bound (passed_at g.N.Exact.value c.in_err-sum.field-0.0) r.1 c.opposite_pull.ensures
-    (ap (λ (z : ℤ). over z 1000000000000) known ∙ c.factor_named.ensures.is r.0 r.1.row r.1.name) c.loop-dual.invariant c.in_err-sum.ensures.cause)
+    (ap (λ (z : ℤ). over z factor_product_one) known ∙ c.factor_named.ensures.is r.0 r.1.row r.1.name) c.loop-dual.invariant c.in_err-sum.ensures.cause)

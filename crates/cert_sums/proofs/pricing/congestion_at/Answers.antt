@@ -3,6 +3,7 @@ use Rattle.std.proofs.lemmas.Int.{to_z-of_z}
 use mir.Val.{to_z, of_z}
 use Rattle.fraction_theory.specs.Fraction.{over}
 use Rattle.fraction_theory.proofs.FieldLaws.{over-one}
+use Rattle.market_data.specs.Scales.{factor_product_one}
 use Rattle.market_model.specs.Valued.{passed_at}
 use Rattle.limit_rows.proofs.PlaceLemmas.{at_places}
 use Rattle.cert_sums.specs.Named.{priced_at}
@@ -32,7 +33,7 @@ loop-entry-preserved g c = λ d are.
     let k = c.loop-entry.entry-index in
     let known : to_z w64 (of_z w64 c.factor_at.result) ≡ c.factor_at.result = to_z-of_z w64 c.factor_at.result (record { sfits = c.factor_at.type_inv }) in
     congestion_step m d c.args.bus k (priced_at g.N.Exact.value c.entry-item.result) (named_at g.N.Exact.value m d c.args.named.now are k c.entry-item.result c.loop-entry-test.true c.entry-item.is)
-    _ (g.N.Exact.value c.loop-entry.sum) _ (ap (λ (z : ℤ). over z 1000000000000) known ∙ c.factor_at.ensures.is) (c.loop-entry.invariant d are) c.in_ok-sum.ensures.sum
+    _ (g.N.Exact.value c.loop-entry.sum) _ (ap (λ (z : ℤ). over z factor_product_one) known ∙ c.factor_at.ensures.is) (c.loop-entry.invariant d are) c.in_ok-sum.ensures.sum
 
 pub returns-clause-sum : goal.returns-clause-sum
 returns-clause-sum g c = λ d are.
@@ -48,4 +49,4 @@ returns-in_err-sum-clause-cause g c =
     λ d are. rw given
     (congestion_refused m d c.args.bus k (priced_at g.N.Exact.value c.entry-item.result) (named_at g.N.Exact.value m d c.args.named.now are k c.entry-item.result c.loop-entry-test.true c.entry-item.is)
     _ (g.N.Exact.value c.loop-entry.sum) g.N.Exact.bound (passed_at g.N.Exact.value c.in_err-sum.field-0.0)
-    (ap (λ (z : ℤ). over z 1000000000000) known ∙ c.factor_at.ensures.is) (c.loop-entry.invariant d are) c.in_err-sum.ensures.cause)
+    (ap (λ (z : ℤ). over z factor_product_one) known ∙ c.factor_at.ensures.is) (c.loop-entry.invariant d are) c.in_err-sum.ensures.cause)

@@ -3,6 +3,7 @@ use Rattle.std.proofs.lemmas.Int.{to_z-of_z}
 use mir.Val.{to_z, of_z}
 use Rattle.fraction_theory.specs.Fraction.{over}
 use Rattle.market_data.specs.declared.participants.Unit as unit
+use Rattle.market_data.specs.Scales.{factor_product_one}
 use Rattle.market_model.specs.Dispatch.{signed}
 use Rattle.market_model.specs.LimitRows.{row_factor}
 use Rattle.limit_rows.proofs.PlaceLemmas.{at_places}
@@ -29,4 +30,4 @@ returns g c =
     let known : to_z w64 (of_z w64 c.factor_at.result) ≡ c.factor_at.result = to_z-of_z w64 c.factor_at.result (record { sfits = c.factor_at.type_inv }) in
     c.by_side.ensures
     ∙ ap (signed c.args.block.now.side)
-    (c.of_parts.ensures ∙ ap (λ (z : ℤ). over z 1000000000000) known ∙ c.factor_at.ensures.is ∙ ap (λ (v : unit.Unit). row_factor m c.args.row v.bus) read)
+    (c.of_parts.ensures ∙ ap (λ (z : ℤ). over z factor_product_one) known ∙ c.factor_at.ensures.is ∙ ap (λ (v : unit.Unit). row_factor m c.args.row v.bus) read)
