@@ -28,7 +28,8 @@ use Rattle.market_model.proofs.SumSteps.{plus_at, multiplied_at, terms_at, behin
 use Rattle.limit_rows.proofs.DualLemmas.{up_unnamed, down_unnamed, sum_named}
 use Rattle.cert_sums.specs.Bounds.{left_at, limits_terms}
 use Rattle.cert_sums.specs.Named.{PricedRow}
-use Rattle.cert_sums.specs.Pairs.{IsFarkasPair, of_farkas_sum, of_farkas_prices, of_limit_less, of_limit_more, verified, bound_of_all, injection_at, balance_of_all, flow_of_line, flow_of_row, congestion_at, price_at}
+use Rattle.cert_sums.specs.Pairs.{IsFarkasPair, in_flow as flow_pair, in_price as price_sum_pair, of_prices, of_empty, in_bound as bound_pair, of_limit_less, of_limit_more}
+use Rattle.market_model.specs.SumTables.{injection_at, balance_of_all, flow_of_line, flow_of_row, congestion_at, price_at}
 use Rattle.cert_sums.specs.declared.stops.VerifyStop.{VerifyStop}
 use Rattle.cert_sums.specs.declared.stops.VerifyStop.TheVariants as why
 use Rattle.market_model.specs.PutIn.{dispatch_of, IsInjectionRefusal}
@@ -174,7 +175,7 @@ module _ (m : Parts) (d : Duals Fraction) where
       s = split_at k e h
 
       in_bound : IsRefusedIn (farkas_terms m d) bound p → IsFarkasPair m d bound p
-      in_bound why = of_farkas_sum (farkas_terms m d) bound_of_all why
+      in_bound why = bound_pair why
 
       above_refused : IsAboveRefusal sum e.up (limit m e.row) (flow m (empty m) e.row) bound p → IsFarkasPair m d bound p
       above_refused (inl c) = of_limit_less e.row (is_named_row m d k e h) c
@@ -201,7 +202,7 @@ module _ (m : Parts) (d : Duals Fraction) where
           (plus_at (farkas_terms m d) (s.front ++ above ∷ []) s.rest below second bound p (sum +ℚ e.up *ℚ room_above) (e.down *ℚ room_below) with_above (ap (λ u. u *ℚ room_below) h.down) c))
 
       pub limit_refused : IsLimitRefusal m (empty m) e sum bound p → IsFarkasPair m d bound p
-      limit_refused (in_flow c) = of_farkas_sum _ (verified _ (flow_of_row e.row (is_row m d k e h))) c
+      limit_refused (in_flow c) = of_empty (flow_pair _ (flow_of_row e.row (is_row m d k e h)) c)
       limit_refused (in_above c) = above_refused c
       limit_refused (in_below c) = below_refused c
 
@@ -225,7 +226,7 @@ module _ (m : Parts) (d : Duals Fraction) where
 
   pub block_refused : (k : ℕ) (weight mw sum : Fraction) (bound : ℕ) (p : Passed Fraction) → k < length m.blocks → weight ≡ block_weight m d k → mw ≡ quantity m k → sum ≡ blocks_to k
       → IsShareRefusal sum (part_above weight) mw bound p → IsFarkasPair m d bound p
-  block_refused k weight mw sum bound p inside weighs is before why = of_farkas_sum (farkas_terms m d) bound_of_all (by why)
+  block_refused k weight mw sum bound p inside weighs is before why = bound_pair (by why)
     where
       r : (rest : List Term) × (map block_term (places (length m.blocks)) ≡ map block_term (places k) ++ block_term k ∷ rest)
       r = terms_at block_term (length m.blocks) k inside
@@ -245,14 +246,14 @@ module _ (m : Parts) (d : Duals Fraction) where
   -- the price of energy by the balance
   pub energy_refused : (b : Fraction) (bound : ℕ) (p : Passed Fraction) → b ≡ balance m (empty m) → IsRefusal Times d.energy b bound p → IsFarkasPair m d bound p
   energy_refused b bound p is h =
-      of_farkas_sum (farkas_terms m d) bound_of_all
+      bound_pair
       (multiplied_at (farkas_terms m d) [] (flat_map (limit_terms m d) (rows m) ++ block_terms) energy_term refl bound p d.energy b d.energy (balance m (empty m)) refl (inl refl) (inl is) h)
 
   -- what is refused in a price of a bus
   pub price_pair : (i : ℕ) (bound : ℕ) (p : Passed Fraction) → i < length m.buses → IsPriceRefusal m d i bound p → IsFarkasPair m d bound p
-  price_pair i bound p lt (inl (inl c)) = of_farkas_sum _ (verified _ (congestion_at i lt)) c
-  price_pair i bound p lt (inl (inr c)) = of_farkas_prices c.0 c.1 c.2
-  price_pair i bound p lt (inr c) = of_farkas_sum _ (verified _ (price_at i lt)) c
+  price_pair i bound p lt (inl (inl c)) = of_empty (price_sum_pair _ (congestion_at i lt) c)
+  price_pair i bound p lt (inl (inr c)) = of_empty (of_prices c.0 c.1 c.2)
+  price_pair i bound p lt (inr c) = of_empty (price_sum_pair _ (price_at i lt) c)
 
 -- ---- where nothing is accepted
 pub nothing_is : {N : Type 0} (value : N → Fraction) (m : Parts) (xs ys : List N) (n : ℕ) → xs ≡ ys → map value ys ≡ replicate n (whole (pos 0)) → n ≡ length m.blocks → dispatch_of value xs ≡ empty m
@@ -265,10 +266,10 @@ stopped_weaker value p q why.Memory to h = tt
 
 module _ (m : Parts) (d : Duals Fraction) (bound : ℕ) (p : Passed Fraction) where
   pub injection_pair : (x : Dispatch) → x ≡ empty m → IsInjectionRefusal m x bound p → IsFarkasPair m d bound p
-  injection_pair x is (i, lt, h) = of_farkas_sum (injection_terms m (empty m) i) (verified _ (injection_at i lt)) (subst (λ (y : Dispatch). IsRefusedIn (injection_terms m y i) bound p) is h)
+  injection_pair x is (i, lt, h) = of_empty (flow_pair (injection_terms m (empty m) i) (injection_at i lt) (subst (λ (y : Dispatch). IsRefusedIn (injection_terms m y i) bound p) is h))
 
   pub line_pair : IsLineRefusal m (injection m (empty m)) bound p → IsFarkasPair m d bound p
-  line_pair (l, lt, h) = of_farkas_sum _ (verified _ (flow_of_line l lt)) h
+  line_pair (l, lt, h) = of_empty (flow_pair _ (flow_of_line l lt) h)
 
   pub balance_pair : IsRefusedIn (balance_terms m (empty m)) bound p → IsFarkasPair m d bound p
-  balance_pair h = of_farkas_sum _ (verified _ balance_of_all) h
+  balance_pair h = of_empty (flow_pair _ balance_of_all h)

@@ -15,13 +15,12 @@ use Rattle.market_model.specs.declared.participants.Parts.{Parts}
 use Rattle.market_model.specs.declared.limits.Row.{Row}
 use Rattle.market_model.specs.LimitRows.{rows, row_id, row_factor}
 use Rattle.market_model.specs.NamedSums.{IsRefusal, IsRefusedIn}
-use Rattle.market_model.specs.Optimality.{up_of, down_of, pull, is_named, named_rows, congestion, congestion_terms, congestion_by}
+use Rattle.market_model.specs.Optimality.{up_of, down_of, pull, is_named, named_rows, congestion, congestion_terms, congestion_by, price_terms}
 use Rattle.market_model.proofs.MorePlaces.{sum_by_more}
 use Rattle.market_model.proofs.SumSteps.{plus_at, multiplied_at, refusal_same}
 use Rattle.limit_rows.proofs.DualLemmas.{up_unnamed, down_unnamed, sum_named, terms_named}
 use Rattle.cert_sums.specs.declared.pricing.NamedRow.{NamedRow}
 use Rattle.cert_sums.specs.Named.{PricedRow, priced_at, priced_by, AreNamed}
-use Rattle.cert_sums.specs.Pairs.{price_terms}
 use Rattle.cert_sums.specs.Refusals.{IsPullRefusal, IsCongestionRefusal}
 
 -- the row that duals name at a place, with its prices

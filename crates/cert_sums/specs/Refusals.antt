@@ -9,13 +9,12 @@ use Rattle.market_model.specs.Dispatch.{Dispatch, injection}
 use Rattle.market_model.specs.declared.limits.Row.{Row}
 use Rattle.market_model.specs.LimitRows.{flow, flow_terms, limit, line_flow}
 use Rattle.market_model.specs.NamedSums.{IsRefusedIn, IsRefusal}
-use Rattle.market_model.specs.Optimality.{up_of, down_of, named_rows, congestion_terms}
+use Rattle.market_model.specs.Optimality.{up_of, down_of, named_rows, congestion_terms, price_terms}
 use Rattle.market_model.specs.Valued.{passed_at}
 use Rattle.limit_rows.specs.LineFlows.{IsShareRefusal}
 use Rattle.cert_sums.specs.declared.stops.VerifyStop.{VerifyStop}
 use Rattle.cert_sums.specs.declared.stops.VerifyStop.TheVariants as why
 use Rattle.cert_sums.specs.Named.{PricedRow}
-use Rattle.cert_sums.specs.Pairs.{price_terms}
 
 -- why a sum was not added up: an operation was refused, of which this holds, or memory was
 abbrev pub IsStopped : {N : Type 0} → (N → Fraction) → (Passed Fraction → Type 0) → VerifyStop N → Type 0

@@ -12,7 +12,8 @@ use Rattle.market_model.specs.Dispatch.{Dispatch, injection, balance_terms}
 use Rattle.market_model.specs.declared.limits.Row.{Row}
 use Rattle.market_model.specs.declared.limits.Cause.TheVariants.{Base, Branch}
 use Rattle.market_model.specs.declared.limits.Cause.{Cause}
-use Rattle.market_model.specs.LimitRows.{IsCauseAmong, rows, row_id, limit, flow, bears, causes}
+use Rattle.fraction_theory.specs.Sums.{total}
+use Rattle.market_model.specs.LimitRows.{IsCauseAmong, rows, row_id, limit, line_flow, flow, flow_by, flow_terms, bears, causes}
 use Rattle.market_model.specs.Market.{IsMarket}
 use Rattle.market_model.specs.NamedSums.{IsRefusedIn}
 use Rattle.market_model.specs.Valued.{passed_at}
@@ -21,8 +22,13 @@ use Rattle.limit_rows.proofs.NumberingLemmas.{row_on}
 use Rattle.limit_rows.proofs.PlaceLemmas.{lost_inside, row_to, same_name}
 use Rattle.cert_sums.specs.declared.stops.VerifyStop.{VerifyStop}
 use Rattle.cert_sums.specs.declared.stops.VerifyStop.TheVariants as why
-use Rattle.cert_sums.specs.Pairs.{IsOptimalPair, of_sum, of_prices, injection_at, balance_of_all, flow_of_line, flow_of_row, congestion_at, price_at, flow_terms}
-use Rattle.cert_sums.specs.Refusals.{IsInjectionRefusal, IsLineRefusal, IsPriceRefusal, IsStopped}
+use Rattle.cert_sums.specs.Pairs.{IsOptimalPair, in_flow, in_price, of_prices}
+use Rattle.market_model.specs.SumTables.{injection_at, balance_of_all, flow_of_line, flow_of_row, congestion_at, price_at}
+use Rattle.limit_rows.specs.LineFlows.{AreFlows, IsLineRefusal}
+use Rattle.limit_rows.proofs.FactorLemmas.{stands}
+use Rattle.limit_rows.proofs.FlowSteps.{row_terms_are}
+use Rattle.market_model.specs.PutIn.{put_in, IsInjectionRefusal}
+use Rattle.cert_sums.specs.Refusals.{IsPriceRefusal, IsStopped}
 use Rattle.cert_verify.specs.Reasons.{has_no_row, has_slack, is_of, prices_slack}
 use Rattle.cert_verify.proofs.TestLemmas.{any_of, any_none, any_true, not_both, not_true}
 use Rattle.cert_verify.proofs.VerdictLemmas.{named}
@@ -68,6 +74,14 @@ pub lost_below : (m : Parts) → IsMarket m → (cause : Cause) → Contains (ca
 lost_below m market Base c = tt
 lost_below m market (Branch k) c = lost_inside m market k c
 
+-- ---- flows of lines that are those of a dispatch
+module _ (m : Parts) (x : Dispatch) (flows : List Fraction) (are : AreFlows m x flows) (r : Row) (line : r.line < length m.lines) (lost : IsCauseAmong (length m.lines) r.cause) where
+  pub flow_there : flow_by m (put_in flows) r ≡ flow m x r
+  flow_there = ap total (row_terms_are m x flows are r line lost)
+
+  pub refused_there : (bound : ℕ) (p : Passed Fraction) → IsRefusedIn (flow_terms m (put_in flows) r) bound p → IsRefusedIn (flow_terms m (line_flow m (injection m x)) r) bound p
+  refused_there bound p h = subst (λ ts. IsRefusedIn ts bound p) (row_terms_are m x flows are r line lost) h
+
 -- ---- refusals
 pub stopped_by : {N : Type 0} (value : N → Fraction) (p q : Passed Fraction → Type 0) (s : VerifyStop N) → ((e : Passed Fraction) → p e → q e) → IsStopped value p s → IsStopped value q s
 stopped_by value p q (why.Range e) to h = to (passed_at value e) h
@@ -75,18 +89,18 @@ stopped_by value p q why.Memory to h = tt
 
 module _ (m : Parts) (x : Dispatch) (d : Duals Fraction) (bound : ℕ) (p : Passed Fraction) where
   pub injection_pair : IsInjectionRefusal m x bound p → IsOptimalPair m x d bound p
-  injection_pair (i, lt, h) = of_sum _ (injection_at i lt) h
+  injection_pair (i, lt, h) = in_flow _ (injection_at i lt) h
 
   pub balance_pair : IsRefusedIn (balance_terms m x) bound p → IsOptimalPair m x d bound p
-  balance_pair h = of_sum _ balance_of_all h
+  balance_pair h = in_flow _ balance_of_all h
 
   pub line_pair : IsLineRefusal m (injection m x) bound p → IsOptimalPair m x d bound p
-  line_pair (l, lt, h) = of_sum _ (flow_of_line l lt) h
+  line_pair (l, lt, h) = in_flow _ (flow_of_line l lt) h
 
-  pub row_pair : (r : Row) → Contains (rows m) r → IsRefusedIn (flow_terms m x r) bound p → IsOptimalPair m x d bound p
-  row_pair r c h = of_sum _ (flow_of_row r c) h
+  pub row_pair : (r : Row) → Contains (rows m) r → IsRefusedIn (flow_terms m (line_flow m (injection m x)) r) bound p → IsOptimalPair m x d bound p
+  row_pair r c h = in_flow _ (flow_of_row r c) h
 
   pub price_pair : (i : ℕ) → i < length m.buses → IsPriceRefusal m d i bound p → IsOptimalPair m x d bound p
-  price_pair i lt (inl (inl c)) = of_sum _ (congestion_at i lt) c
+  price_pair i lt (inl (inl c)) = in_price _ (congestion_at i lt) c
   price_pair i lt (inl (inr c)) = of_prices c.0 c.1 c.2
-  price_pair i lt (inr c) = of_sum _ (price_at i lt) c
+  price_pair i lt (inr c) = in_price _ (price_at i lt) c

@@ -9,20 +9,20 @@ ghost use Rattle.market_model.specs.Valued.{dual_at};
 ghost use Rattle.cert_format.specs.Certificates.{NamesNoRowTwice};
 ghost use Rattle.cert_sums.specs.Pairs.{IsFarkasPair, IsOptimalPair};
 ghost use Rattle.cert_sums.specs.Refusals.{IsPriceRefusal, IsStopped};
-ghost use Rattle.cert_sums.specs.Results.{dispatch_of};
+ghost use Rattle.market_model.specs.PutIn.{dispatch_of};
 ghost use Rattle.cert_verify.specs.Certificates.{duals_by};
 ghost use Rattle.cert_verify.specs.declared.verdicts.Reason.TheVariants as reason;
 ghost use Rattle.cert_verify.specs.Reasons.{balance_reason, block_reason, bound_reason, count_reason, farkas_reasons, first_of, is_below, limit_reason, optimal_reasons, row_reason, sign_reason, slack_reason, support_reason, where_so};
 
 use crate::blocks::{other_count, outside_block, unsupported_block};
-use crate::comparing::{datum, differ, is_negative};
+use crate::comparing::{differ, is_negative};
 use crate::duals::{missing_row, negative_price, slack_price};
 use crate::limits::broken_limit;
 use crate::naming::named_rows;
 use crate::{Reason, VerifyStop};
 use cert_sums::{balance, bus_price, farkas_bound, injections, line_flows};
 use exact_fraction::Exact;
-use market_model::{Dual, List, Market, Memory};
+use market_model::{Dual, List, Market, Memory, datum};
 use std::alloc::Global;
 
 /// What may be wrong with the parts of a certificate before any sum is made of them.

@@ -5,13 +5,13 @@ ghost use Rattle.fraction_theory.specs.Fraction.{Fraction};
 ghost use Rattle.market_model.specs.declared.answered.Duals.{Duals};
 ghost use Rattle.market_model.specs.Dispatch.{block_at, block_bus, places, quantity};
 ghost use Rattle.market_model.specs.Optimality.{bus_price, price};
-ghost use Rattle.cert_sums.specs.Results.{dispatch_of};
+ghost use Rattle.market_model.specs.PutIn.{dispatch_of};
 ghost use Rattle.cert_verify.specs.Reasons.{block_reason, count_reason, support_reason};
 
 use crate::Reason;
-use crate::comparing::{breaks_support, datum, is_outside};
+use crate::comparing::{breaks_support, is_outside};
 use exact_fraction::Exact;
-use market_model::{Market, Side};
+use market_model::{Market, Side, datum};
 
 /// Whether there is not one quantity for each block.
 pub(crate) fn other_count<N: Exact>(market: &Market, blocks: &[N]) -> Option<Reason>

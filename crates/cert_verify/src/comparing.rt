@@ -7,34 +7,8 @@ ghost use Rattle.market_model.specs.Valued.{dual_at};
 ghost use Rattle.cert_verify.specs.Reasons.{breaks_support, differ, gains, has_negative, is_below, is_outside, loses, passes, prices_slack};
 
 use exact_fraction::Exact;
-use market_model::{Dual, Side};
+use market_model::{Dual, Side, datum};
 use std::cmp::Ordering;
-
-/// A datum as a number of its units.
-pub(crate) fn datum<N: Exact>(number: i64) -> N
-    requires { IsDatum number }
-    ensures { N.value result ≡ whole number }
-{
-    N::of_parts(number, 1)
-}
-
-fn is_below<N: Exact>(left: N, right: N) -> bool
-    ensures { result ≡ is_below (N.value left) (N.value right) }
-{
-    match left.order(right) {
-        Ordering::Less => true,
-        Ordering::Equal | Ordering::Greater => false,
-    }
-}
-
-pub(crate) fn differ<N: Exact>(left: N, right: N) -> bool
-    ensures { result ≡ differ (N.value left) (N.value right) }
-{
-    match left.order(right) {
-        Ordering::Equal => false,
-        Ordering::Less | Ordering::Greater => true,
-    }
-}
 
 /// Whether a number is below 0.
 pub(crate) fn is_negative<N: Exact>(number: N) -> bool

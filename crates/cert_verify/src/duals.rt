@@ -6,15 +6,14 @@ ghost use Rattle.market_model.specs.declared.answered.Duals.{Duals};
 ghost use Rattle.market_model.specs.Dispatch.{Dispatch};
 ghost use Rattle.market_model.specs.Valued.{dual_at, passed_at};
 ghost use Rattle.cert_sums.specs.Pairs.{IsOptimalPair};
-ghost use Rattle.cert_sums.specs.Results.{AreFlows};
+ghost use Rattle.limit_rows.specs.LineFlows.{AreFlows};
 ghost use Rattle.cert_verify.specs.Reasons.{has_slack, row_reason, sign_reason, slack_reason};
 
 use crate::Reason;
-use crate::comparing::{datum, has_negative, prices_slack};
-use cert_sums::row_flow;
+use crate::comparing::{has_negative, prices_slack};
 use exact_fraction::{Exact, Passed};
-use limit_rows::{limit_at, row_named};
-use market_model::{Dual, Market};
+use limit_rows::{limit_at, row_flow, row_named};
+use market_model::{Dual, Market, datum};
 
 /// The first dual whose row the market has not.
 pub(crate) fn missing_row<N: Exact>(market: &Market, limits: &[Dual<N>]) -> Option<Reason>

@@ -3,23 +3,22 @@
 ghost use Rattle.std.specs.Prelude.{◌≡◌, ◌<◌, length, map, Contains, IfOk, IfErr, IfSome};
 ghost use Rattle.fraction_theory.specs.Fraction.{Fraction};
 ghost use Rattle.market_model.specs.declared.answered.Duals.{Duals};
-ghost use Rattle.market_model.specs.Dispatch.{Dispatch};
+ghost use Rattle.market_model.specs.Dispatch.{Dispatch, injection};
 ghost use Rattle.market_model.specs.declared.limits.Row.{Row};
-ghost use Rattle.market_model.specs.LimitRows.{row_id, causes, rows_of};
+ghost use Rattle.market_model.specs.LimitRows.{IsCauseAmong, row_id, causes, rows_of, flow_terms, line_flow};
 ghost use Rattle.market_model.specs.NamedSums.{IsRefusedIn};
 ghost use Rattle.market_model.specs.Valued.{passed_at};
-ghost use Rattle.cert_sums.specs.Pairs.{IsOptimalPair, flow_terms};
-ghost use Rattle.cert_sums.specs.Results.{AreFlows};
+ghost use Rattle.cert_sums.specs.Pairs.{IsOptimalPair};
+ghost use Rattle.limit_rows.specs.LineFlows.{AreFlows};
 ghost use Rattle.cert_verify.specs.declared.verdicts.Reason.TheVariants as reason;
 ghost use Rattle.cert_verify.specs.Naming.{rows_at};
 ghost use Rattle.cert_verify.specs.Reasons.{is_broken, limit_reason, of_first};
 
 use crate::Reason;
-use crate::comparing::{datum, passes};
-use cert_sums::row_flow;
+use crate::comparing::passes;
 use exact_fraction::{Exact, Passed};
-use limit_rows::{cause_at, cause_count, has_row, limit_at, name_at};
-use market_model::{Cause, Market, Row};
+use limit_rows::{cause_at, cause_count, has_row, limit_at, name_at, row_flow};
+use market_model::{Cause, Market, Row, datum};
 
 /// Whether the flow of a row passes its limit. Flows are by line.
 fn is_broken<N: Exact>(market: &Market, flows: &[N], row: Row) -> Result<bool, Passed<N>>
@@ -27,7 +26,7 @@ fn is_broken<N: Exact>(market: &Market, flows: &[N], row: Row) -> Result<bool, P
     requires line { row.line < length market.now.lines }
     requires lost { IsCauseAmong (length market.now.lines) row.cause }
     ensures broken { (x : Dispatch) → AreFlows market.now x (map N.value flows.now) → IfOk result (λ broken. broken ≡ is_broken market.now x row) }
-    ensures cause { (x : Dispatch) → AreFlows market.now x (map N.value flows.now) → IfErr result (λ passed. IsRefusedIn (flow_terms market.now x row) N.bound (passed_at N.value passed)) }
+    ensures cause { (x : Dispatch) → AreFlows market.now x (map N.value flows.now) → IfErr result (λ passed. IsRefusedIn (flow_terms market.now (line_flow market.now (injection market.now x)) row) N.bound (passed_at N.value passed)) }
 {
     let flow = row_flow(market, flows, row)?;
     Ok(passes(flow, datum(limit_at(market, row))))

@@ -4,7 +4,7 @@ ghost use Rattle.std.specs.Prelude.{◌≡◌, ◌<◌, List, [], ◌∷◌, ◌
 ghost use Rattle.std.specs.Map.{lookup};
 ghost use Rattle.fraction_theory.specs.Fraction.{Fraction};
 ghost use Rattle.market_model.specs.Valued.{dual_at};
-ghost use Rattle.market_model.specs.LimitRows.{causes, rows_of};
+ghost use Rattle.market_model.specs.LimitRows.{IsCauseAmong, causes, rows_of};
 ghost use Rattle.cert_format.specs.Certificates.{NamesNoRowTwice};
 ghost use Rattle.cert_sums.specs.Named.{AreNamed, priced_at};
 ghost use Rattle.cert_verify.specs.Certificates.{duals_by};

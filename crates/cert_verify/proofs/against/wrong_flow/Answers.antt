@@ -3,8 +3,9 @@ use Rattle.market_model.specs.Dispatch.{injection}
 use Rattle.market_model.specs.Valued.{passed_at}
 use Rattle.cert_sums.specs.declared.stops.VerifyStop.TheVariants as why
 use Rattle.cert_sums.specs.Pairs.{IsOptimalPair}
-use Rattle.cert_sums.specs.Refusals.{IsInjectionRefusal, IsLineRefusal}
-use Rattle.cert_sums.specs.Results.{dispatch_of}
+use Rattle.limit_rows.specs.LineFlows.{IsLineRefusal}
+use Rattle.market_model.specs.PutIn.{IsInjectionRefusal}
+use Rattle.market_model.specs.PutIn.{dispatch_of}
 use Rattle.cert_verify.proofs.RowLemmas.{balance_pair, injection_pair, line_pair, stopped_by}
 use Rattle.cert_verify.proofs.against.wrong_flow.Goals as goal
 

@@ -5,7 +5,7 @@ use Rattle.market_model.specs.Optimality.{bus_price}
 use Rattle.market_model.specs.Valued.{dual_at}
 use Rattle.cert_sums.specs.Pairs.{IsOptimalPair}
 use Rattle.cert_sums.specs.Refusals.{IsPriceRefusal}
-use Rattle.cert_sums.specs.Results.{dispatch_of}
+use Rattle.market_model.specs.PutIn.{dispatch_of}
 use Rattle.cert_verify.specs.Certificates.{duals_by}
 use Rattle.cert_verify.proofs.NamingLemmas.{counted}
 use Rattle.cert_verify.proofs.RowLemmas.{price_pair, stopped_by}

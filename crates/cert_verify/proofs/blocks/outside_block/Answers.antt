@@ -1,6 +1,6 @@
 use Rattle.std.proofs.Common.{◌≡◌, ◌<◌, ◌+◌, ◌∙◌, ℕ, ap, sym, length, arith}
 use Rattle.market_model.specs.Dispatch.{accepted, quantity}
-use Rattle.cert_sums.specs.Results.{dispatch_of}
+use Rattle.market_model.specs.PutIn.{dispatch_of}
 use Rattle.cert_verify.specs.declared.verdicts.Reason.TheVariants as reason
 use Rattle.cert_verify.specs.Reasons.{is_beyond}
 use Rattle.cert_verify.proofs.FindLemmas.{place_here, place_more}

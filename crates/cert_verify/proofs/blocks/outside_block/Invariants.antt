@@ -1,7 +1,7 @@
 use Rattle.std.proofs.Common.{◌≡◌, None}
 use Rattle.std.specs.List.{find}
 use Rattle.market_model.specs.Dispatch.{places}
-use Rattle.cert_sums.specs.Results.{dispatch_of}
+use Rattle.market_model.specs.PutIn.{dispatch_of}
 use Rattle.cert_verify.specs.Reasons.{is_beyond}
 use Rattle.cert_verify.proofs.blocks.outside_block.Given as goal
 

@@ -3,7 +3,7 @@ use Rattle.fraction_theory.specs.Fraction.{Fraction}
 use Rattle.market_model.specs.declared.answered.Duals.{Duals}
 use Rattle.market_model.specs.Dispatch.{accepted, block_at, places, quantity}
 use Rattle.market_model.specs.Optimality.{bus_price, price, unit_price}
-use Rattle.cert_sums.specs.Results.{dispatch_of}
+use Rattle.market_model.specs.PutIn.{dispatch_of}
 use Rattle.cert_verify.specs.declared.verdicts.Reason.TheVariants as reason
 use Rattle.cert_verify.specs.Reasons.{is_unsupported}
 use Rattle.cert_verify.proofs.FindLemmas.{place_here, place_more}

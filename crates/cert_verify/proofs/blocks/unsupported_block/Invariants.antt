@@ -4,7 +4,7 @@ use Rattle.market_model.specs.declared.answered.Duals.{Duals}
 use Rattle.fraction_theory.specs.Fraction.{Fraction}
 use Rattle.market_model.specs.Dispatch.{places}
 use Rattle.market_model.specs.Optimality.{bus_price}
-use Rattle.cert_sums.specs.Results.{dispatch_of}
+use Rattle.market_model.specs.PutIn.{dispatch_of}
 use Rattle.cert_verify.specs.Reasons.{is_unsupported}
 use Rattle.cert_verify.proofs.blocks.unsupported_block.Given as goal
 

@@ -5,7 +5,7 @@ use Rattle.fraction_theory.specs.Fraction.{Fraction, whole}
 use Rattle.market_model.specs.Valued.{dual_at, passed_at}
 use Rattle.limit_rows.proofs.PlaceLemmas.{at_places}
 use Rattle.cert_verify.specs.Reasons.{prices_slack}
-use Rattle.cert_verify.proofs.RowLemmas.{no_slack, row_pair, slack_named}
+use Rattle.cert_verify.proofs.RowLemmas.{flow_there, no_slack, refused_there, row_pair, slack_named}
 use Rattle.cert_verify.proofs.duals.has_slack.Goals as goal
 
 pub row_flow-requires-clause-line : goal.row_flow-requires-clause-line
@@ -17,8 +17,10 @@ row_flow-requires-clause-lost g c = (at_places c.args.market.now c.lines-lines.e
 pub returns-in_err-flow-in-Some-clause-cause : goal.returns-in_err-flow-in-Some-clause-cause
 returns-in_err-flow-in-Some-clause-cause g c =
     let given : c.from_residual.result ≡ Err c.in_err-flow-in-Some.field-0.0 = search rules in
+    let places = at_places c.args.market.now c.lines-lines.ensures.market c.in-Some.row c.in-Some.ensures.0 in
     λ x d are. rw given
-    (row_pair c.args.market.now x d g.N.Exact.bound (passed_at g.N.Exact.value c.in_err-flow-in-Some.field-0.0) c.in-Some.row c.in-Some.ensures.0 (c.in_err-flow-in-Some.ensures.cause x are))
+    (row_pair c.args.market.now x d g.N.Exact.bound (passed_at g.N.Exact.value c.in_err-flow-in-Some.field-0.0) c.in-Some.row c.in-Some.ensures.0
+    (refused_there c.args.market.now x (map g.N.Exact.value c.args.flows.now) are c.in-Some.row places.0 places.1 g.N.Exact.bound (passed_at g.N.Exact.value c.in_err-flow-in-Some.field-0.0) c.in_err-flow-in-Some.ensures.cause))
 
 pub limit_at-requires : goal.limit_at-requires
 limit_at-requires g c = (at_places c.args.market.now c.lines-lines.ensures.market c.in-Some.row c.in-Some.ensures.0).0
@@ -27,7 +29,8 @@ pub returns-in_ok-flow-in-Some-clause-slack : goal.returns-in_ok-flow-in-Some-cl
 returns-in_ok-flow-in-Some-clause-slack g c =
     let known : to_z w64 (of_z w64 c.limit_at.result) ≡ c.limit_at.result = to_z-of_z w64 c.limit_at.result (record { sfits = c.limit_at.type_inv }) in
     let e = dual_at g.N.Exact.value c.args.dual.now in
-    λ x are. c.prices_slack.ensures ∙ ap₂ (λ (f l : Fraction). prices_slack e f l) (c.in_ok-flow-in-Some.ensures.flow x are) (c.datum.ensures ∙ ap whole known ∙ c.limit_at.ensures.limit)
+    let places = at_places c.args.market.now c.lines-lines.ensures.market c.in-Some.row c.in-Some.ensures.0 in
+    λ x are. c.prices_slack.ensures ∙ ap₂ (λ (f l : Fraction). prices_slack e f l) (c.in_ok-flow-in-Some.ensures.flow ∙ flow_there c.args.market.now x (map g.N.Exact.value c.args.flows.now) are c.in-Some.row places.0 places.1) (c.datum.ensures ∙ ap whole known ∙ c.limit_at.ensures.limit)
     ∙ sym (slack_named c.args.market.now c.lines-lines.ensures.market x e c.in-Some.row c.in-Some.ensures.0 c.in-Some.ensures.1)
 
 pub returns-in-None-clause-slack : goal.returns-in-None-clause-slack

@@ -2,7 +2,7 @@ use Rattle.std.proofs.Common.{◌≡◌, None, map, take}
 use Rattle.std.specs.List.{find}
 use Rattle.market_model.specs.Dispatch.{Dispatch}
 use Rattle.market_model.specs.Valued.{dual_at}
-use Rattle.cert_sums.specs.Results.{AreFlows}
+use Rattle.limit_rows.specs.LineFlows.{AreFlows}
 use Rattle.cert_verify.specs.Reasons.{has_slack}
 use Rattle.cert_verify.proofs.duals.slack_price.Given as goal
 

@@ -2,7 +2,7 @@ use Rattle.std.proofs.Common.{◌≡◌, None, map}
 use Rattle.std.specs.List.{find}
 use Rattle.market_model.specs.Dispatch.{Dispatch}
 use Rattle.limit_rows.proofs.NumberingLemmas.{rows_before}
-use Rattle.cert_sums.specs.Results.{AreFlows}
+use Rattle.limit_rows.specs.LineFlows.{AreFlows}
 use Rattle.cert_verify.specs.Reasons.{is_broken}
 use Rattle.cert_verify.proofs.limits.broken_limit.Given as goal
 

@@ -1,7 +1,7 @@
 use Rattle.std.proofs.Common.{◌≡◌, None, map}
 use Rattle.std.specs.List.{find}
 use Rattle.market_model.specs.Dispatch.{Dispatch}
-use Rattle.cert_sums.specs.Results.{AreFlows}
+use Rattle.limit_rows.specs.LineFlows.{AreFlows}
 use Rattle.cert_verify.specs.Reasons.{is_broken}
 use Rattle.cert_verify.proofs.FindLemmas.{rows_to}
 use Rattle.cert_verify.proofs.limits.broken_under.Given as goal
