@@ -1,10 +1,8 @@
 -- Steps of the congestion at a bus, dual by dual.
 use Rattle.std.specs.Prelude.{◌≡◌, ◌⊎◌, ℕ, ◌+◌, ◌<◌, ◌≤◌, pos, false, List, [], ◌∷◌, ◌++◌, map, filter, length, take, refl}
-use Rattle.std.specs.List.{range_with_len}
-use Rattle.std.proofs.Common.{suc, inl, inr, arith, ap, ap₂, sym, subst, ◌∙◌, get_or, set}
-use Rattle.std.proofs.lemmas.Bool.{cases_lt}
+use Rattle.std.proofs.Common.{inl, inr, ap, ap₂, sym, subst, ◌∙◌, get_or}
 use Rattle.std.proofs.lemmas.List.Elements.{All-nil}
-use Rattle.std.proofs.lemmas.List.{get_or-map, get_or-set_same, get_or-set_other, take_all}
+use Rattle.std.proofs.lemmas.List.{get_or-map, take_all}
 use Rattle.fraction_theory.specs.Fraction.{Fraction, whole, neg_ℚ, ◌+ℚ◌, ◌-ℚ◌, ◌*ℚ◌}
 use Rattle.fraction_theory.specs.Sums.{sum_by, Term, Product, term_value, total}
 use Rattle.fraction_theory.specs.Order.{◌<ℚ◌}
@@ -14,7 +12,6 @@ use Rattle.fraction_theory.specs.declared.Sign.TheVariants.{Below, Above}
 use Rattle.fraction_theory.proofs.FieldLaws.{ring_ℚ}
 use Rattle.fraction_theory.proofs.OrderLaws.{<ℚ_irrefl}
 use Rattle.fraction_theory.proofs.SignLaws.{sign_of_is}
-use Rattle.market_model.specs.Dispatch.{places}
 use Rattle.fraction_theory.proofs.Ring.{by_ring, at, padd, pmul, pneg, pnil}
 use Rattle.fraction_theory.proofs.SumLaws.{total-map}
 use Rattle.exact_fraction.specs.declared.Op.TheVariants.{Plus, Times}

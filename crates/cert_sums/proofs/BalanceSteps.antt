@@ -11,7 +11,7 @@ use Rattle.market_model.specs.Dispatch.{Dispatch, places, injection, balance, ba
 use Rattle.market_model.specs.NamedSums.{IsRefusal, IsRefusedIn}
 use Rattle.market_model.specs.PutIn.{AreInjections}
 use Rattle.market_model.proofs.SumSteps.{plus_at}
-use Rattle.cert_sums.proofs.ListLemmas.{map-map, mapped_at}
+use Rattle.market_model.proofs.ListSteps.{map-map, mapped_at}
 
 module _ {N : Type 0} (value : N → Fraction) (m : Parts) (x : Dispatch) (mws : List N) (puts : AreInjections m x (map value mws)) where
   balance-terms : balance_terms m x ≡ map (λ mw. Plain (value mw)) mws

@@ -1,4 +1,3 @@
 pub mod BalanceSteps
-pub mod ListLemmas
 pub mod NamedLemmas
 pub mod BoundLemmas

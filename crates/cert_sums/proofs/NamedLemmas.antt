@@ -110,5 +110,4 @@ module _ (m : Parts) (d : Duals Fraction) (i : ℕ) where
 -- the price of energy and the congestion are added
 pub price_refused : (m : Parts) (d : Duals Fraction) (i : ℕ) (bound : ℕ) (p : Passed Fraction) → IsRefusal Plus d.energy (congestion m d i) bound p → IsRefusedIn (price_terms m d i) bound p
 price_refused m d i bound p h =
-    
     (plus_at (price_terms m d i) (Plain d.energy ∷ []) [] (Plain (congestion m d i)) refl bound p d.energy (congestion m d i) (sym (+ℚ_nil d.energy)) refl h)

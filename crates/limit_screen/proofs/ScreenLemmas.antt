@@ -1,13 +1,13 @@
 -- The worst of some rows, with one row more.
-use Rattle.std.specs.Prelude.{◌≡◌, ◌⊎◌, ℕ, ◌+◌, ◌-◌, ◌<◌, ◌≤◌, pos, Bool, true, false, cond, List, [], ◌∷◌, ◌++◌, map, filter, length, All, Option, Some, None, IfSome, Contains, refl}
+use Rattle.std.specs.Prelude.{◌≡◌, ◌⊎◌, ℕ, ◌+◌, ◌-◌, ◌<◌, ◌≤◌, pos, Bool, true, false, cond, List, [], ◌∷◌, ◌++◌, map, filter, length, All, Option, Some, None, Contains, refl}
 use Rattle.std.specs.List.{slice_get}
 use Rattle.std.specs.Ordering.{MatchOrdering}
-use Rattle.std.proofs.Common.{zero, suc, arith, inl, inr, ap, ap₂, sym, subst, ◌∙◌, get_or, drop, take, append_assoc, Ordering, Less, Equal, Greater}
+use Rattle.std.proofs.Common.{zero, suc, arith, inl, inr, ap, sym, subst, ◌∙◌, get_or, drop, take, append_assoc, Ordering, Less, Equal, Greater}
 use Rattle.std.proofs.lemmas.List.{append-nil, map-append, get_or-append_right, get_or-drop, drop-map, take_rest}
 use Rattle.std.proofs.lemmas.List.FromFn.{length-map-range_with_len, get_or-map-range_with_len}
 use Rattle.std.proofs.lemmas.List.Elements.{All-append, All-cons, All-nil, filter-append}
 use Rattle.std.proofs.lemmas.Option.{slice_get_within, get_or_from_slice_get}
-use Rattle.fraction_theory.specs.Fraction.{Fraction, whole, neg_ℚ, ◌+ℚ◌, ◌-ℚ◌, ◌*ℚ◌}
+use Rattle.fraction_theory.specs.Fraction.{Fraction, whole, neg_ℚ, ◌-ℚ◌}
 use Rattle.fraction_theory.specs.Order.{◌<ℚ◌, ◌≤ℚ◌}
 use Rattle.fraction_theory.specs.Signs.{sign_of}
 use Rattle.fraction_theory.specs.Sums.{total}
@@ -24,7 +24,6 @@ use Rattle.market_model.specs.Excess.{size_by, size_of}
 use Rattle.market_model.specs.declared.limits.Cause.{Cause}
 use Rattle.market_model.specs.declared.limits.Row.{Row}
 use Rattle.market_model.specs.LimitRows.{IsCauseAmong, bears, causes, flow_by, flow_terms, limit, line_flow, row_id, rows}
-use Rattle.market_model.specs.Market.{IsMarket}
 use Rattle.market_model.specs.PutIn.{put_in}
 use Rattle.market_model.proofs.MorePlaces.{places_more}
 use Rattle.limit_rows.proofs.FlowSteps.{flow_terms-same}

@@ -6,7 +6,7 @@ use Rattle.fraction_theory.specs.Signs.{sign_of}
 use Rattle.market_model.specs.declared.participants.Parts.{Parts}
 use Rattle.market_model.specs.declared.answered.Duals.{Duals}
 use Rattle.market_model.specs.Dispatch.{injection, balance}
-use Rattle.market_model.specs.Optimality.{bus_price, congestion, congestion_by, price_by}
+use Rattle.market_model.specs.Optimality.{congestion_by, price_by}
 use Rattle.market_model.specs.LimitRows.{rows}
 use Rattle.market_model.specs.Infeasibility.{farkas_bound}
 use Rattle.market_model.proofs.Rows.{short}

@@ -2,6 +2,7 @@ pub mod ChangeLemmas
 pub mod FarkasLaw
 mod FarkasRows
 pub mod LimitCases
+pub mod ListSteps
 pub mod MarketSums
 pub mod MorePlaces
 pub mod Optimum

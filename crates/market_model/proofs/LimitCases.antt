@@ -15,7 +15,7 @@ use Rattle.market_model.specs.Dispatch.{Dispatch, injection, balance, output, de
 use Rattle.market_model.specs.declared.limits.Row.{Row}
 use Rattle.market_model.specs.declared.limits.Cause.TheVariants.{Base, Branch}
 use Rattle.market_model.specs.LimitRows.{rows, row_id, line_flow, row_offset, row_factor, flow}
-use Rattle.market_model.specs.Optimality.{congestion, bus_price, welfare, congestion_by, price_by}
+use Rattle.market_model.specs.Optimality.{bus_price, welfare, congestion_by, price_by}
 use Rattle.market_model.specs.Infeasibility.{farkas_bound}
 use Rattle.market_model.specs.Settlement.{rent, surplus}
 

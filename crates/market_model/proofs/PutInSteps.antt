@@ -106,12 +106,16 @@ step_in_front : (ts us : List Term) (op : Op) (l r : Fraction) → IsSumStep ts 
 step_in_front ts us Plus l r (k, next) = (k, next_in_front ts us Plus l r k next)
 step_in_front ts us Minus l r (k, next) = (k, next_in_front ts us Minus l r k next)
 step_in_front ts us Times l r (k, a, b, factors) =
-    let inside : k < length ts = factors.inside in
-    (k, a, b, record {
-      inside = Prim.omega (arith, inside, length-append ts us);
-      product = get_or_append_left ts us (Plain (whole (pos 0))) k inside ∙ factors.product;
-      sides = factors.sides;
-    })
+    let inside : k < length ts = factors.inside in (
+      k,
+      a,
+      b,
+      record {
+        inside = Prim.omega (arith, inside, length-append ts us);
+        product = get_or_append_left ts us (Plain (whole (pos 0))) k inside ∙ factors.product;
+        sides = factors.sides;
+      },
+    )
 
 refused_in_front : (ts us : List Term) (bound : ℕ) (p : Passed Fraction) → IsRefusedIn ts bound p → IsRefusedIn (ts ++ us) bound p
 refused_in_front ts us bound p h = record { step = step_in_front ts us p.op p.left p.right h.step; passes = h.passes }

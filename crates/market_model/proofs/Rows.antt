@@ -18,7 +18,7 @@ use Rattle.market_model.specs.Stairs.{stair_in}
 use Rattle.market_model.proofs.PlainMarkets.{plain_market, distinct_by_rise}
 use Rattle.market_model.specs.Market.{IsMarket, IsBlock, HasRoom}
 use Rattle.market_model.specs.Dispatch.{Dispatch, places, injection, balance, output, demand, accepted, quantity}
-use Rattle.market_model.specs.Optimality.{Feasible, Supports, BlockSupported, welfare, congestion, bus_price, congestion_by, price_by}
+use Rattle.market_model.specs.Optimality.{Feasible, Supports, BlockSupported, welfare, congestion_by, price_by}
 use Rattle.market_model.specs.Settlement.{paid, pays, surplus}
 use Rattle.market_model.proofs.MarketSums.{fixed_part, most_raised, needed-at_most}
 use Rattle.market_model.proofs.WholeDispatch.{from_whole-<ℚ, from_whole-≤ℚ}

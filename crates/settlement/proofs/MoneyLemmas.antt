@@ -36,7 +36,8 @@ use Rattle.limit_rows.proofs.DualLemmas.{up_unnamed, down_unnamed, sum_named}
 use Rattle.market_model.proofs.PlaceLists.{map_same}
 use Rattle.settlement.specs.Laws.{IsRightMoney, LawOfRightMoney}
 use Rattle.settlement.specs.Paying.{pay_of_unit, pay_of_load, paid_terms, left_terms, ArePricesOf, IsSettlement, IsSupportedAt}
-use Rattle.settlement.proofs.ListLemmas.{map-map, sum_by-map, mapped_at}
+use Rattle.market_model.proofs.ListSteps.{map-map, mapped_at}
+use Rattle.settlement.proofs.ListLemmas.{sum_by-map}
 
 -- ---- adding up
 module _ {N : Type 0} (value : N → Fraction) (loads : List (Load N)) (units : List (UnitPay N)) where

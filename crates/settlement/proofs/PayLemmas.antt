@@ -1,10 +1,10 @@
 -- Outputs, demands and prices, and what is worth, paid and refused of them.
-use Rattle.std.specs.Prelude.{◌≡◌, ◌⊎◌, ℕ, ◌+◌, ◌<◌, ◌==◌, true, List, ◌∷◌, ◌++◌, map, filter, length, if◌then◌else◌, refl}
+use Rattle.std.specs.Prelude.{◌≡◌, ◌⊎◌, ℕ, ◌+◌, ◌<◌, List, ◌++◌, map, length, refl}
 use Rattle.std.proofs.Common.{ap, ap₂, sym, ◌∙◌, subst, inl, inr, get_or}
 use Rattle.std.proofs.lemmas.List.{get_or-map}
 use Rattle.fraction_theory.specs.Fraction.{Fraction, whole, neg_ℚ, ◌+ℚ◌, ◌*ℚ◌}
 use Rattle.fraction_theory.specs.Sums.{Term, Product, total}
-use Rattle.fraction_theory.proofs.FieldLaws.{ring_ℚ, +ℚ_assoc, +ℚ_nil}
+use Rattle.fraction_theory.proofs.FieldLaws.{ring_ℚ, +ℚ_nil}
 use Rattle.fraction_theory.proofs.Ring.{neg_neg}
 use Rattle.exact_fraction.specs.declared.Op.TheVariants.{Plus, Times}
 use Rattle.exact_fraction.specs.declared.Passed.{Passed}
@@ -15,12 +15,12 @@ use Rattle.market_model.specs.declared.answered.Price.{Price}
 use Rattle.market_model.specs.declared.answered.UnitPay.{UnitPay}
 use Rattle.market_model.specs.declared.participants.Block.{Block}
 use Rattle.market_model.specs.declared.participants.Parts.{Parts}
-use Rattle.market_model.specs.Dispatch.{Dispatch, zero, places, signed, fixed_term, block_term, block_at, unit_at, bus_at, accepted, output, output_terms, demand}
+use Rattle.market_model.specs.Dispatch.{Dispatch, zero, places, signed, block_at, unit_at, bus_at, accepted, output, output_terms, demand}
 use Rattle.market_model.specs.NamedSums.{IsRefusedIn, IsRefusal}
 use Rattle.market_model.specs.Optimality.{block_value, welfare_terms}
 use Rattle.market_model.specs.Valued.{load_at, unit_pay_at}
-use Rattle.market_model.proofs.MorePlaces.{total-filter_more, total-places_more}
-use Rattle.market_model.proofs.SumSteps.{plus_at, multiplied_at, terms_at, tested_at, behind, in_front}
+use Rattle.market_model.proofs.MorePlaces.{total-places_more}
+use Rattle.market_model.proofs.SumSteps.{plus_at, multiplied_at, terms_at, behind, in_front}
 use Rattle.market_model.proofs.PutInSteps.{accepted_is}
 use Rattle.market_model.specs.PutIn.{dispatch_of}
 use Rattle.settlement.specs.Paying.{total_at, pay_of_unit, pay_of_load, left_terms}
@@ -57,7 +57,6 @@ module _ {N : Type 0} (value : N → Fraction) (m : Parts) (ds : List N) where
         let x = dispatch_of value ds in
         let f : ℕ → Term = λ j. Product (block_value m j) (accepted x j) in
         let r = terms_at f (length m.blocks) k below in
-        
         (plus_at (welfare_terms m x) (map f (places k)) r.0 (f k) r.1 bound p sum worth is
         ((w ∙ ap (λ (b : Block). neg_ℚ (signed b.side (whole b.price)) *ℚ value d) same ∙ ap (λ v. block_value m k *ℚ v) (sym (accepted_is value ds k d lt at)))) h)
 

@@ -7,8 +7,8 @@ use Rattle.fraction_theory.specs.Order.{◌<ℚ◌}
 use Rattle.fraction_theory.specs.Signs.{sign_of}
 use Rattle.fraction_theory.specs.declared.Sign.{Sign}
 use Rattle.fraction_theory.specs.declared.Sign.TheVariants.{Below, Above}
-use Rattle.fraction_theory.specs.Sums.{Plain, Product, total}
-use Rattle.fraction_theory.proofs.FieldLaws.{ring_ℚ, +ℚ_nil}
+use Rattle.fraction_theory.specs.Sums.{Product, total}
+use Rattle.fraction_theory.proofs.FieldLaws.{ring_ℚ}
 use Rattle.fraction_theory.proofs.OrderLaws.{<ℚ_irrefl}
 use Rattle.fraction_theory.proofs.Ring.{by_ring, at, padd, pmul, pneg, pnil}
 use Rattle.fraction_theory.proofs.SignLaws.{sign_of_is}
@@ -19,11 +19,10 @@ use Rattle.market_model.specs.declared.answered.Duals.{Duals}
 use Rattle.market_model.specs.declared.answered.Rent.{Rent}
 use Rattle.market_model.specs.declared.answered.RowId.{RowId}
 use Rattle.market_model.specs.declared.participants.Parts.{Parts}
-use Rattle.market_model.specs.Dispatch.{Dispatch, injection}
-use Rattle.market_model.specs.declared.limits.Cause.{Cause}
+use Rattle.market_model.specs.Dispatch.{Dispatch}
 use Rattle.market_model.specs.declared.limits.Row.{Row}
-use Rattle.market_model.specs.declared.limits.Cause.TheVariants.{Base, Branch}
-use Rattle.market_model.specs.LimitRows.{IsCauseAmong, flow, flow_by, flow_terms, limit, line_flow, offset_terms, row_id, row_offset}
+use Rattle.market_model.specs.declared.limits.Cause.TheVariants.{Base}
+use Rattle.market_model.specs.LimitRows.{IsCauseAmong, flow, flow_by, flow_terms, limit, offset_terms, row_id, row_offset}
 use Rattle.market_model.specs.NamedSums.{IsRefusal, IsRefusedIn}
 use Rattle.market_model.specs.Optimality.{IsOneSided, ProperDuals, named_rows}
 use Rattle.market_model.specs.RightAnswers.{rent_of}

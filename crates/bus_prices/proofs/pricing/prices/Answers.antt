@@ -1,7 +1,7 @@
 use Rattle.std.proofs.Common.{rules, Err, ◌≡◌, length, ap, ap₂, ◌∙◌, arith, refl}
 use Rattle.fraction_theory.specs.Fraction.{Fraction, ◌+ℚ◌}
 use Rattle.exact_fraction.specs.declared.Op.TheVariants.{Plus}
-use Rattle.market_model.specs.Optimality.{bus_price, congestion, price_by}
+use Rattle.market_model.specs.Optimality.{congestion, price_by}
 use Rattle.market_model.specs.Valued.{duals_at, price_at}
 use Rattle.market_model.proofs.SumSteps.{refusal}
 use Rattle.bus_prices.specs.Prices.{price_of, of_congestion, of_total}

@@ -3,7 +3,7 @@ use Rattle.market_model.specs.Valued.{passed_at}
 use Rattle.exact_fraction.specs.declared.Op.TheVariants as Op
 use Rattle.market_model.proofs.SumSteps.{refusal}
 use Rattle.cert_sums.proofs.BalanceSteps.{balance_is, balance_refused}
-use Rattle.cert_sums.proofs.ListLemmas.{sum_step, sum_end}
+use Rattle.market_model.proofs.ListSteps.{sum_step, sum_end}
 use Rattle.cert_sums.proofs.putting.balance.Goals as goal
 
 pub loop-mw-preserved : goal.loop-mw-preserved

@@ -1,4 +1,4 @@
-use Rattle.std.proofs.Common.{rules, Err, ◌≡◌, ◌<◌, ◌∙◌, arith, ap, subst, length, map}
+use Rattle.std.proofs.Common.{rules, Err, ◌≡◌, ◌∙◌, arith, ap, subst, length, map}
 use Rattle.market_model.specs.declared.limits.Row.{Row}
 use Rattle.market_model.specs.Optimality.{named_rows}
 use Rattle.market_model.specs.RightAnswers.{rent_of}

@@ -9,7 +9,7 @@ use Rattle.market_model.specs.NamedSums.{IsRefusedIn}
 use Rattle.market_model.specs.Valued.{duals_at, load_at, money_at, passed_at, rent_at, unit_pay_at}
 use Rattle.market_model.specs.PutIn.{dispatch_of}
 use Rattle.settlement.specs.declared.stops.MoneyStop.TheVariants as why
-use Rattle.settlement.specs.Paying.{total_at, paid_terms, left_terms, pay_of_load, pay_of_unit}
+use Rattle.settlement.specs.Paying.{total_at, paid_terms, pay_of_load, pay_of_unit}
 use Rattle.settlement.specs.Refusals.{of_money}
 use Rattle.settlement.proofs.ListLemmas.{sum_by-map}
 use Rattle.settlement.proofs.MoneyLemmas.{surplus_is, surplus_refused, rents_are_left, left_not_negative, count_fits, rows_fit}

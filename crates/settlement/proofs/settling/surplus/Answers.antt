@@ -4,7 +4,8 @@ use Rattle.fraction_theory.specs.Sums.{sum_by}
 use Rattle.fraction_theory.proofs.FieldLaws.{+ℚ_nil}
 use Rattle.market_model.specs.declared.answered.Load.{Load}
 use Rattle.market_model.specs.declared.answered.UnitPay.{UnitPay}
-use Rattle.settlement.proofs.ListLemmas.{sum_step, sum_step_behind, sum_end}
+use Rattle.market_model.proofs.ListSteps.{sum_step, sum_end}
+use Rattle.settlement.proofs.ListLemmas.{sum_step_behind}
 use Rattle.exact_fraction.specs.declared.Op.TheVariants as Op
 use Rattle.market_model.specs.Valued.{passed_at}
 use Rattle.market_model.proofs.SumSteps.{refusal}

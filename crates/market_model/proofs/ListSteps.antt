@@ -1,6 +1,6 @@
--- Sums over lists, element by element.
-use Rattle.std.specs.Prelude.{◌≡◌, ℕ, ◌+◌, ◌<◌, ◌≤◌, List, [], ◌∷◌, ◌++◌, map, length, take, replicate, refl}
-use Rattle.std.proofs.Common.{zero, suc, ap, ap₂, sym, ◌∙◌, get_or, drop}
+-- Sums over lists, element by element, and lists round one element.
+use Rattle.std.specs.Prelude.{◌≡◌, ℕ, ◌+◌, ◌<◌, ◌≤◌, List, [], ◌∷◌, ◌++◌, map, length, take, refl}
+use Rattle.std.proofs.Common.{ap, sym, ◌∙◌, get_or, drop}
 use Rattle.std.proofs.lemmas.List.{map-append, take_all, take-append-drop, drop_more}
 use Rattle.fraction_theory.specs.Fraction.{Fraction, ◌+ℚ◌}
 use Rattle.fraction_theory.specs.Sums.{sum_by, Term}
@@ -24,8 +24,3 @@ split_at xs k x h at = sym (take-append-drop k xs) ∙ ap (λ ys. take k xs ++ y
 
 pub mapped_at : {T : Type 0} (f : T → Term) (xs : List T) (k : ℕ) (x : T) → k < length xs → x ≡ get_or xs k x → map f xs ≡ map f (take k xs) ++ f x ∷ map f (drop (k + 1) xs)
 mapped_at f xs k x h at = ap (map f) (split_at xs k x h at) ∙ map-append f (take k xs) (x ∷ drop (k + 1) xs)
-
--- the values of a list of one number
-pub map-replicate : {A B : Type 0} (f : A → B) (n : ℕ) (x : A) (y : B) → f x ≡ y → map f (replicate n x) ≡ replicate n y
-map-replicate f zero x y e = refl
-map-replicate f (suc n) x y e = ap₂ (λ z zs. z ∷ zs) e (map-replicate f n x y e)
