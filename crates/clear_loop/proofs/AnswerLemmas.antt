@@ -11,12 +11,12 @@ use Rattle.market_model.specs.declared.participants.Parts.{Parts}
 use Rattle.market_model.specs.Dispatch.{places}
 use Rattle.market_model.specs.Market.{IsMarket}
 use Rattle.market_model.specs.Optimality.{Feasible, Supports, ProperDuals, bus_price, congestion, welfare}
-use Rattle.market_model.specs.RightAnswers.{IsRight}
+use Rattle.market_model.specs.RightAnswers.{IsRight, settlement_at}
 use Rattle.market_model.specs.Valued.{answer_at, duals_at, money_at, price_at}
 use Rattle.bus_prices.specs.Prices.{price_of}
 use Rattle.market_model.specs.PutIn.{dispatch_of}
 use Rattle.settlement.specs.Laws.{LawOfRightMoney}
-use Rattle.settlement.specs.Paying.{ArePricesOf, IsSettlement, total_at}
+use Rattle.settlement.specs.Paying.{ArePricesOf, total_at}
 use Rattle.settlement.proofs.ListLemmas.{map-map}
 
 module _ {N : Type 0} (value : N → Fraction) (m : Parts) (d : Duals Fraction) (ps : List (Price N)) (made : map (price_at value) ps ≡ map (price_of m d) (places (length m.buses))) where
@@ -31,31 +31,16 @@ module _ {N : Type 0} (value : N → Fraction) (m : Parts) (d : Duals Fraction) 
       (sym (map-map (price_at value) (λ (p : Price Fraction). p.total) ps) ∙ ap (map (λ (p : Price Fraction). p.total)) made ∙ map-map (price_of m d) (λ (p : Price Fraction). p.total) (places (length m.buses)))
       ∙ get_or-map-range_with_len (bus_price m d) 0 (length m.buses) i i (whole (pos 0)) lt from_0
 
-  price_here : (i : ℕ) → i < length m.buses
-      → get_or (map (price_at value) ps) i (record { energy = whole (pos 0); congestion = whole (pos 0); total = whole (pos 0) }) ≡ record { energy = d.energy; congestion = congestion m d i; total = bus_price m d i }
-  price_here i lt =
-      let from_0 : 0 + i ≡ i = Prim.omega arith in
-      ap (λ (qs : List (Price Fraction)). get_or qs i (record { energy = whole (pos 0); congestion = whole (pos 0); total = whole (pos 0) })) made
-      ∙ get_or-map-range_with_len (price_of m d) 0 (length m.buses) i i (record { energy = whole (pos 0); congestion = whole (pos 0); total = whole (pos 0) }) lt from_0
-
 pub right_answer : {N : Type 0} (value : N → Fraction) (m : Parts) (ds : List N) (d : Duals N) (ps : List (Price N)) (w : N) (money : Money N)
     → LawOfRightMoney → IsMarket m → Feasible m (dispatch_of value ds) → Supports m (dispatch_of value ds) (duals_at value d) → ProperDuals m (duals_at value d)
     → map (price_at value) ps ≡ map (price_of m (duals_at value d)) (places (length m.buses)) → value w ≡ welfare m (dispatch_of value ds)
-    → IsSettlement m (dispatch_of value ds) (total_at value ps) (duals_at value d) (money_at value money)
+    → money_at value money ≡ settlement_at m (dispatch_of value ds) (total_at value ps) (duals_at value d)
     → IsRight m (answer_at value (record { dispatch = ds; duals = d; prices = ps; welfare = w; money = money }))
 right_answer value m ds d ps w money law market feasible supported proper made worth settled =
-    let right = law m (dispatch_of value ds) (total_at value ps) (duals_at value d) (money_at value money) market (prices_of value m (duals_at value d) ps made) settled in
+    let right = settled ∙ law m (dispatch_of value ds) (total_at value ps) (duals_at value d) market (prices_of value m (duals_at value d) ps made) in
     record {
       feasible = feasible;
       supported = supported;
       proper = proper;
-      price_count = length-map ps (price_at value) ∙ price_count value m (duals_at value d) ps made;
-      prices = price_here value m (duals_at value d) ps made;
-      welfare = worth;
-      unit_count = right.unit_count;
-      units = right.units;
-      load_count = right.load_count;
-      loads = right.loads;
-      rents = right.rents;
-      surplus = right.surplus;
+      made = λ i. record { dispatch = map value ds; duals = duals_at value d; prices = made i; welfare = worth i; money = right i };
     }

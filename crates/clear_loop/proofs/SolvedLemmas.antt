@@ -23,7 +23,7 @@ use Rattle.market_model.specs.Market.{IsMarket}
 use Rattle.market_model.specs.NamedSums.{SameSize, IsRefusedIn, IsRefusal}
 use Rattle.market_model.specs.SumTables.{FlowSum, injection_at, flow_of_line, flow_of_row, congestion_at, MoneySum, welfare_of_all, surplus_of_all, rent_of_row}
 use Rattle.market_model.specs.Optimality.{Feasible, Supports, IsOneSided, ProperDuals, named_rows, is_named, same_id, up_in, down_in, bus_price, unit_price, congestion, congestion_terms, welfare_terms}
-use Rattle.market_model.specs.Settlement.{rent_terms, surplus_terms}
+use Rattle.market_model.specs.Settlement.{left_terms, rent_terms, surplus_terms}
 use Rattle.market_system.specs.Growth.{BestFor}
 use Rattle.market_system.specs.MarketNumbers.{IsBest, IsInjecting, of_flow, output_of, of_price, of_money, offset_of, MarketNumber, is_load, is_shunt, is_limit, is_energy, of_opposite}
 use Rattle.market_system.specs.MarketSystem.{system_of, balance_name, row_name, is_in, choice_dispatch, choice_duals}
@@ -40,7 +40,7 @@ use Rattle.limit_screen.specs.Flows.{flows_at, line_in, IsFlowsRefusal, of_injec
 use Rattle.limit_screen.specs.Screening.{IsRowRefusal, IsScreenRefusal, of_flow as row_of_flow, of_limit as row_of_limit}
 use Rattle.market_model.proofs.PlaceLists.{map_same}
 use Rattle.bus_prices.specs.Prices.{IsPriceRefusal, of_congestion, of_total}
-use Rattle.settlement.specs.Paying.{ArePricesOf, left_terms}
+use Rattle.settlement.specs.Paying.{ArePricesOf}
 use Rattle.settlement.specs.Refusals.{IsSettlementRefusal, of_output, of_demand, of_money as of_money_left, of_injection, of_line, of_row_flow, of_offset, of_limit_less, of_limit_more, of_rent}
 use Rattle.market_dict.specs.Findings.{IsSolvedBy}
 use Rattle.clear_loop.proofs.BrokenLemmas.{row_is, sized_by, terms_are}

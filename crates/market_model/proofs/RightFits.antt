@@ -1,7 +1,8 @@
 -- A right answer has an entry for each part of its market.
-use Rattle.std.specs.Prelude.{map}
+use Rattle.std.specs.Prelude.{length, map}
 use Rattle.std.proofs.Common.{ap, sym, ◌∙◌}
 use Rattle.std.proofs.lemmas.List.{length-map}
+use Rattle.std.proofs.lemmas.List.FromFn.{length-map-range_with_len}
 use Rattle.std.proofs.lemmas.Simd.{map-map}
 use Rattle.fraction_theory.specs.Fraction.{Fraction}
 use Rattle.market_model.specs.declared.answered.Answer.{Answer}
@@ -9,18 +10,19 @@ use Rattle.market_model.specs.declared.answered.Dual.{Dual}
 use Rattle.market_model.specs.declared.answered.Rent.{Rent}
 use Rattle.market_model.specs.declared.participants.Parts.{Parts}
 use Rattle.market_model.specs.Fitting.{FitsMarket}
-use Rattle.market_model.specs.Optimality.{named_rows}
-use Rattle.market_model.specs.RightAnswers.{IsRight, dispatch_in, rent_of}
+use Rattle.market_model.specs.Optimality.{bus_price, named_rows}
+use Rattle.market_model.specs.Settlement.{pay_of_unit, pay_of_load}
+use Rattle.market_model.specs.RightAnswers.{IsRight, dispatch_in, price_made, rent_of}
 use Rattle.market_model.specs.Valued.{answer_at, dual_at, load_at, price_at, rent_at, unit_pay_at}
 
 -- the rents are those of the rows that the duals name, and proper duals name them in the same order
 pub fits_by_right : (m : Parts) (a : Answer Fraction) → IsRight m a → FitsMarket m a
 fits_by_right m a right = record {
   dispatch = right.feasible.blocks.count;
-  prices = right.price_count;
-  units = right.unit_count;
-  loads = right.load_count;
-  rents = ap (map (λ (r : Rent Fraction). r.row)) right.rents
+  prices = ap (λ (b : Answer Fraction). length b.prices) right.made ∙ length-map-range_with_len (price_made m a.duals) 0 (length m.buses);
+  units = ap (λ (b : Answer Fraction). length b.money.units) right.made ∙ length-map-range_with_len (pay_of_unit m (dispatch_in a) (bus_price m a.duals)) 0 (length m.units);
+  loads = ap (λ (b : Answer Fraction). length b.money.loads) right.made ∙ length-map-range_with_len (pay_of_load m (bus_price m a.duals)) 0 (length m.buses);
+  rents = ap (λ (b : Answer Fraction). map (λ (r : Rent Fraction). r.row) b.money.rents) right.made
       ∙ map-map (λ (r : Rent Fraction). r.row) (rent_of m (dispatch_in a) a.duals) (named_rows m a.duals)
       ∙ sym right.proper.named;
 }

@@ -1,18 +1,20 @@
 -- What an answer says, and when it is right for its market.
-use Rattle.std.specs.Prelude.{◌≡◌, ℕ, ◌<◌, length, map, slice_index_or}
+use Rattle.std.specs.Prelude.{◌≡◌, ℕ, length, map, slice_index_or}
 use Rattle.fraction_theory.specs.Fraction.{Fraction}
+use Rattle.fraction_theory.specs.Sums.{total}
 use Rattle.market_model.specs.declared.participants.Parts.{Parts}
 use Rattle.market_model.specs.declared.answered.Answer.{Answer}
 use Rattle.market_model.specs.declared.answered.Duals.{Duals}
 use Rattle.market_model.specs.declared.answered.Load.{Load}
+use Rattle.market_model.specs.declared.answered.Money.{Money}
 use Rattle.market_model.specs.declared.answered.Price.{Price}
 use Rattle.market_model.specs.declared.answered.Rent.{Rent}
 use Rattle.market_model.specs.declared.answered.UnitPay.{UnitPay}
-use Rattle.market_model.specs.Dispatch.{Dispatch, zero, output, demand}
+use Rattle.market_model.specs.Dispatch.{Dispatch, zero, places}
 use Rattle.market_model.specs.declared.limits.Row.{Row}
 use Rattle.market_model.specs.LimitRows.{row_id, flow}
 use Rattle.market_model.specs.Optimality.{Feasible, Supports, ProperDuals, named_rows, welfare, congestion, bus_price}
-use Rattle.market_model.specs.Settlement.{paid, pays, rent, surplus}
+use Rattle.market_model.specs.Settlement.{pay_of_unit, pay_of_load, left_terms, rent}
 
 -- an answer's entries by place; one past the end stands for zeros
 abbrev pub mw_of : Answer Fraction → ℕ → Fraction
@@ -35,18 +37,33 @@ dispatch_in a = record { blocks = a.dispatch }
 abbrev pub rent_of : Parts → Dispatch → Duals Fraction → Row → Rent Fraction
 rent_of m x d r = record { row = row_id m r; flow = flow m x r; rent = rent m x d r }
 
--- the dispatch is feasible and the duals support it; the prices are those of the duals, and the welfare and the
--- settlement those of the dispatch at these prices
+-- the settlement of a dispatch at prices by bus: units and buses in their order, the rows that duals name in theirs, and what loads pay less
+-- what units are paid
+abbrev pub settlement_at : Parts → Dispatch → (ℕ → Fraction) → Duals Fraction → Money Fraction
+settlement_at m x price d = record {
+  units = map (pay_of_unit m x price) (places (length m.units));
+  loads = map (pay_of_load m price) (places (length m.buses));
+  rents = map (rent_of m x d) (named_rows m d);
+  surplus = total (left_terms m x price);
+}
+
+-- the two parts of a price at a bus, and the price
+abbrev pub price_made : Parts → Duals Fraction → ℕ → Price Fraction
+price_made m d i = record { energy = d.energy; congestion = congestion m d i; total = bus_price m d i }
+
+-- a dispatch and duals, with the prices, the welfare and the settlement that they make
+abbrev pub answer_of : Parts → Dispatch → Duals Fraction → Answer Fraction
+answer_of m x d = record {
+  dispatch = x.blocks;
+  duals = d;
+  prices = map (price_made m d) (places (length m.buses));
+  welfare = welfare m x;
+  money = settlement_at m x (bus_price m d) d;
+}
+
+-- the dispatch is feasible, and the duals are proper and support it; prices, welfare and settlement are those that they make
 pub record IsRight (m : Parts) (a : Answer Fraction) : Type 0 where
   pub feasible : Feasible m (dispatch_in a)
   pub supported : Supports m (dispatch_in a) a.duals
   pub proper : ProperDuals m a.duals
-  pub price_count : length a.prices ≡ length m.buses
-  pub prices : (i : ℕ) → i < length m.buses → price_of a i ≡ record { energy = a.duals.energy; congestion = congestion m a.duals i; total = bus_price m a.duals i }
-  pub welfare : a.welfare ≡ welfare m (dispatch_in a)
-  pub unit_count : length a.money.units ≡ length m.units
-  pub units : (u : ℕ) → u < length m.units → pay_of a u ≡ record { mw = output m (dispatch_in a) u; paid = paid m (dispatch_in a) a.duals u }
-  pub load_count : length a.money.loads ≡ length m.buses
-  pub loads : (i : ℕ) → i < length m.buses → load_of a i ≡ record { mw = demand m i; pays = pays m a.duals i }
-  pub rents : a.money.rents ≡ map (rent_of m (dispatch_in a) a.duals) (named_rows m a.duals)
-  pub surplus : a.money.surplus ≡ surplus m (dispatch_in a) a.duals
+  pub made : a ≡ answer_of m (dispatch_in a) a.duals

@@ -3,25 +3,41 @@
 use Rattle.std.specs.Prelude.{ℕ, List, [], ◌∷◌, length, map, ◌++◌}
 use Rattle.fraction_theory.specs.Fraction.{Fraction, neg_ℚ, ◌+ℚ◌, ◌-ℚ◌, ◌*ℚ◌}
 use Rattle.fraction_theory.specs.Sums.{Term, Product, total}
+use Rattle.market_model.specs.declared.answered.Load.{Load}
+use Rattle.market_model.specs.declared.answered.UnitPay.{UnitPay}
 use Rattle.market_model.specs.declared.participants.Parts.{Parts}
 use Rattle.market_model.specs.declared.answered.Duals.{Duals}
-use Rattle.market_model.specs.Dispatch.{Dispatch, places, output, demand}
-use Rattle.market_model.specs.Optimality.{bus_price, unit_price, up_of, down_of}
+use Rattle.market_model.specs.Dispatch.{Dispatch, places, unit_at, output, demand}
+use Rattle.market_model.specs.Optimality.{bus_price, up_of, down_of}
 use Rattle.market_model.specs.declared.limits.Row.{Row}
 use Rattle.market_model.specs.LimitRows.{limit, row_offset}
 
--- a unit is paid its price for its output
-unfoldable pub paid : Parts → Dispatch → Duals Fraction → ℕ → Fraction
-paid m x d u = unit_price m d u *ℚ output m x u
+-- ---- at prices by bus
+-- a unit's output, and its bus's price for that
+abbrev pub pay_of_unit : Parts → Dispatch → (ℕ → Fraction) → ℕ → UnitPay Fraction
+pay_of_unit m x price u = record { mw = output m x u; paid = price (unit_at m u).bus *ℚ output m x u }
 
--- a load pays its bus price for its demand
+-- a bus's demand, and its price for that
+abbrev pub pay_of_load : Parts → (ℕ → Fraction) → ℕ → Load Fraction
+pay_of_load m price i = record { mw = demand m i; pays = price i *ℚ demand m i }
+
+-- what loads pay by bus, and the opposite of what units are paid by unit
+abbrev pub left_terms : Parts → Dispatch → (ℕ → Fraction) → List Term
+left_terms m x price =
+    map (λ i. Product (price i) (demand m i)) (places (length m.buses))
+    ++ map (λ u. Product (neg_ℚ (price (unit_at m u).bus)) (output m x u)) (places (length m.units))
+
+-- ---- at the prices of duals
+-- what a unit is paid for its output
+unfoldable pub paid : Parts → Dispatch → Duals Fraction → ℕ → Fraction
+paid m x d u = (pay_of_unit m x (bus_price m d) u).paid
+
+-- what a load pays for its demand
 unfoldable pub pays : Parts → Duals Fraction → ℕ → Fraction
-pays m d i = bus_price m d i *ℚ demand m i
+pays m d i = (pay_of_load m (bus_price m d) i).pays
 
 abbrev pub surplus_terms : Parts → Dispatch → Duals Fraction → List Term
-surplus_terms m x d =
-    map (λ i. Product (bus_price m d i) (demand m i)) (places (length m.buses))
-    ++ map (λ u. Product (neg_ℚ (unit_price m d u)) (output m x u)) (places (length m.units))
+surplus_terms m x d = left_terms m x (bus_price m d)
 
 -- what loads pay less what units are paid
 unfoldable pub surplus : Parts → Dispatch → Duals Fraction → Fraction

@@ -25,8 +25,7 @@ use Rattle.market_model.specs.Infeasibility.{IsFarkas, farkas_bound}
 use Rattle.market_model.specs.declared.limits.Row.{Row}
 use Rattle.market_model.specs.LimitRows.{rows, row_id, limit, flow, most_flow}
 use Rattle.market_model.specs.Optimality.{BlockSupported, Feasible, Gains, IsOneSided, Loses, ProperDuals, RowSupported, Supports, Within, down_of, named_rows, price, same_id, unit_price, up_of}
-use Rattle.market_model.specs.RightAnswers.{IsRight, dispatch_in}
-use Rattle.market_system.specs.SolvedLaws.{answer_of}
+use Rattle.market_model.specs.RightAnswers.{IsRight, answer_of, dispatch_in}
 use Rattle.market_system.proofs.LawsOfSolving.{law_of_the_answer}
 use Rattle.market_system.proofs.SystemLaws.{in_places}
 

@@ -65,32 +65,5 @@ law_of_growth m = record {
   few = rows_few m;
 }
 
--- ---- lists by places
-counted : {Y : Type 0} (f : ℕ → Y) (n : ℕ) → length (map f (places n)) ≡ n
-counted {Y} f n = over (places n) ∙ length-range_with_len 0 n
-  where
-    over : (ws : List ℕ) → length (map f ws) ≡ length ws
-    over [] = refl
-    over (w ∷ ws) = ap suc (over ws)
-
-at_place : {Y : Type 0} (f : ℕ → Y) (n i : ℕ) (d : Y) → i < n → slice_index_or (map f (places n)) i d ≡ f i
-at_place f n i d lt =
-    let long : length (places n) ≡ n = length-range_with_len 0 n in
-    let here : get_or (places n) i 0 ≡ i = get_or-range_with_len 0 n i 0 lt ∙ Prim.omega arith in
-    get_or-map f (places n) i 0 d (Prim.omega (arith, lt, long)) ∙ ap f here
-
 pub law_of_the_answer : LawOfTheAnswer
-law_of_the_answer m x d feasible supported proper = record {
-  feasible = feasible;
-  supported = supported;
-  proper = proper;
-  price_count = counted (λ i. record { energy = d.energy; congestion = congestion m d i; total = bus_price m d i }) (length m.buses);
-  prices = λ i lt. at_place (λ i. record { energy = d.energy; congestion = congestion m d i; total = bus_price m d i }) (length m.buses) i _ lt;
-  welfare = refl;
-  unit_count = counted (λ u. record { mw = output m x u; paid = paid m x d u }) (length m.units);
-  units = λ u lt. at_place (λ u. record { mw = output m x u; paid = paid m x d u }) (length m.units) u _ lt;
-  load_count = counted (λ i. record { mw = demand m i; pays = pays m d i }) (length m.buses);
-  loads = λ i lt. at_place (λ i. record { mw = demand m i; pays = pays m d i }) (length m.buses) i _ lt;
-  rents = refl;
-  surplus = refl;
-}
+law_of_the_answer m x d feasible supported proper = record { feasible = feasible; supported = supported; proper = proper; made = refl }

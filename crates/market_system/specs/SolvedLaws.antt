@@ -7,19 +7,17 @@ use Rattle.linear_system.specs.Choices.{Choice, IsChoice, value, reduced}
 use Rattle.simplex_theory.specs.States.{State, IsSolved}
 use Rattle.simplex_theory.specs.Steps.{signed}
 use Rattle.simplex_theory.specs.Stuck.{IsStuck, multiplier, margin}
-use Rattle.market_model.specs.declared.answered.Answer.{Answer}
 use Rattle.market_model.specs.declared.answered.Duals.{Duals}
 use Rattle.market_model.specs.declared.answered.Farkas.{Farkas}
 use Rattle.market_model.specs.declared.participants.Parts.{Parts}
-use Rattle.market_model.specs.Dispatch.{Dispatch, accepted, places, block_at, signed as raised, output, demand}
+use Rattle.market_model.specs.Dispatch.{Dispatch, accepted, places, block_at, signed as raised}
 use Rattle.market_model.specs.Frame.{SameFrame}
 use Rattle.market_model.specs.Infeasibility.{IsFarkas}
 use Rattle.market_model.specs.declared.limits.Row.{Row}
 use Rattle.market_model.specs.LimitRows.{rows, flow}
 use Rattle.market_model.specs.Market.{IsMarket}
-use Rattle.market_model.specs.Optimality.{Within, FeasibleFor, Feasible, Supports, ProperDuals, named_rows, welfare, block_value, congestion, bus_price, unit_price, up_of, down_of}
-use Rattle.market_model.specs.RightAnswers.{IsRight, rent_of}
-use Rattle.market_model.specs.Settlement.{paid, pays, surplus}
+use Rattle.market_model.specs.Optimality.{Within, FeasibleFor, Feasible, Supports, ProperDuals, welfare, block_value, unit_price, up_of, down_of}
+use Rattle.market_model.specs.RightAnswers.{IsRight, answer_of}
 use Rattle.market_system.specs.Growth.{Broken, BestFor, Growth}
 use Rattle.market_system.specs.MarketNumbers.{IsFarkasOf}
 use Rattle.market_system.specs.MarketSystem.{balance_name, row_name, in_order, system_of, choice_dispatch, duals_by, choice_duals}
@@ -65,21 +63,6 @@ LawOfTheSolved = (m : Parts) (g : List Row) (h : Choice) → IsMarket m → ((r 
     → IsChoice (system_of m g) h → IsSolved (system_of m g) (state_at (system_of m g) h) → AnswersBy m g h
 
 -- ---- right answers
--- a dispatch and duals, with the prices, the welfare and the settlement that they make
-abbrev pub answer_of : Parts → Dispatch → Duals Fraction → Answer Fraction
-answer_of m x d = record {
-  dispatch = x.blocks;
-  duals = d;
-  prices = map (λ i. record { energy = d.energy; congestion = congestion m d i; total = bus_price m d i }) (places (length m.buses));
-  welfare = welfare m x;
-  money = record {
-    units = map (λ u. record { mw = output m x u; paid = paid m x d u }) (places (length m.units));
-    loads = map (λ i. record { mw = demand m i; pays = pays m d i }) (places (length m.buses));
-    rents = map (rent_of m x d) (named_rows m d);
-    surplus = surplus m x d;
-  };
-}
-
 -- where the dispatch is feasible, and the duals are proper and support it, this is right
 abbrev pub LawOfTheAnswer : Type 0
 LawOfTheAnswer = (m : Parts) (x : Dispatch) (d : Duals Fraction) → Feasible m x → Supports m x d → ProperDuals m d → IsRight m (answer_of m x d)

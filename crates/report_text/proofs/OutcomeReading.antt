@@ -109,7 +109,8 @@ reports_apart m a b p q e = (outcomes_apart m a b p q [] [] tt tt (ap (λ t. t +
 answer_fits : (m : Parts) (a : Answer Fraction) → IsRight m a → FitsReport m a
 answer_fits m a right = record {
   fits = fits_by_right m a right;
-  energy = λ i d lt. ap (λ (p : Price Fraction). p.energy) (get_or_default a.prices i d (record { energy = zero; congestion = zero; total = zero }) lt ∙ right.prices i (Prim.omega (arith, lt, right.price_count)));
+  energy = subst (All (λ (p : Price Fraction). p.energy ≡ a.duals.energy)) (sym (ap (λ (b : Answer Fraction). b.prices) right.made))
+      (All-map (λ (p : Price Fraction). p.energy ≡ a.duals.energy) (price_made m a.duals) (places (length m.buses)) (λ k d lt. refl));
 }
 
 pub outcome_fits : (m : Parts) (a : Outcome Fraction) → IsRightIn m a → OutcomeFitsReport m a

@@ -27,15 +27,15 @@ use Rattle.market_model.specs.LimitRows.{rows, row_id, limit, row_offset}
 use Rattle.market_model.specs.Market.{IsMarket}
 use Rattle.market_model.specs.NamedSums.{SameSize, term_at, IsNextTerm, IsSumStep, IsRefusal, IsRefusedIn}
 use Rattle.market_model.specs.Optimality.{bus_price, unit_price, is_named, named_rows}
-use Rattle.market_model.specs.RightAnswers.{rent_of}
-use Rattle.market_model.specs.Settlement.{paid, pays, rent, surplus}
+use Rattle.market_model.specs.RightAnswers.{rent_of, settlement_at}
+use Rattle.market_model.specs.Settlement.{paid, pays, rent, surplus, pay_of_unit, pay_of_load, left_terms}
 use Rattle.market_model.specs.Valued.{dual_at, duals_at, load_at, rent_at, unit_pay_at}
 use Rattle.market_model.proofs.Optimum.{law_of_the_surplus, law_of_its_sign}
 use Rattle.market_model.proofs.SumSteps.{plus_at, behind, in_front}
 use Rattle.limit_rows.proofs.DualLemmas.{up_unnamed, down_unnamed, sum_named}
 use Rattle.market_model.proofs.PlaceLists.{map_same}
-use Rattle.settlement.specs.Laws.{IsRightMoney, LawOfRightMoney}
-use Rattle.settlement.specs.Paying.{pay_of_unit, pay_of_load, paid_terms, left_terms, ArePricesOf, IsSettlement, IsSupportedAt}
+use Rattle.settlement.specs.Laws.{LawOfRightMoney}
+use Rattle.settlement.specs.Paying.{paid_terms, ArePricesOf, IsSupportedAt}
 use Rattle.market_model.proofs.ListSteps.{map-map, mapped_at}
 use Rattle.settlement.proofs.ListLemmas.{sum_by-map}
 
@@ -163,29 +163,21 @@ module _ (m : Parts) (x : Dispatch) (price : ℕ → Fraction) (d : Duals Fracti
       (map_same (λ u. Product (neg_ℚ (price (unit_at m u).bus)) (output m x u)) (λ u. Product (neg_ℚ (unit_price m d u)) (output m x u)) (length m.units)
       (λ u lt. ap (λ t. Product (neg_ℚ t) (output m x u)) (at_unit u lt))))
 
-  module _ (money : Money Fraction) (is : IsSettlement m x price d money) where
-    pub right_money : IsRightMoney m x d money
-    unfolding paid pays
-    right_money = record {
-      unit_count = ap length is.units ∙ length-map-range_with_len (pay_of_unit m x price) 0 (length m.units);
-      units = λ u lt.
-          let from_0 : 0 + u ≡ u = Prim.omega arith in
-          ap (λ (us : List (UnitPay Fraction)). get_or us u (record { mw = whole (pos 0); paid = whole (pos 0) })) is.units
-          ∙ get_or-map-range_with_len (pay_of_unit m x price) 0 (length m.units) u u (record { mw = whole (pos 0); paid = whole (pos 0) }) lt from_0
-          ∙ ap (λ t. record { mw = output m x u; paid = t *ℚ output m x u }) (at_unit u lt);
-      load_count = ap length is.loads ∙ length-map-range_with_len (pay_of_load m price) 0 (length m.buses);
-      loads = λ i lt.
-          let from_0 : 0 + i ≡ i = Prim.omega arith in
-          ap (λ (ls : List (Load Fraction)). get_or ls i (record { mw = whole (pos 0); pays = whole (pos 0) })) is.loads
-          ∙ get_or-map-range_with_len (pay_of_load m price) 0 (length m.buses) i i (record { mw = whole (pos 0); pays = whole (pos 0) }) lt from_0
-          ∙ ap (λ t. record { mw = demand m i; pays = t *ℚ demand m i }) (priced i lt);
-      rents = is.rents;
-      surplus = is.surplus ∙ left_is_surplus;
-    }
+  units_same : map (pay_of_unit m x price) (places (length m.units)) ≡ map (pay_of_unit m x (bus_price m d)) (places (length m.units))
+  units_same = map_same (pay_of_unit m x price) (pay_of_unit m x (bus_price m d)) (length m.units) (λ u lt. ap (λ t. record { mw = output m x u; paid = t *ℚ output m x u }) (at_unit u lt))
+
+  loads_same : map (pay_of_load m price) (places (length m.buses)) ≡ map (pay_of_load m (bus_price m d)) (places (length m.buses))
+  loads_same = map_same (pay_of_load m price) (pay_of_load m (bus_price m d)) (length m.buses) (λ i lt. ap (λ t. record { mw = demand m i; pays = t *ℚ demand m i }) (priced i lt))
 
 -- a settlement at the prices of its duals is what a right answer says of money
 pub law_of_right_money : LawOfRightMoney
-law_of_right_money m x price d money market priced is = right_money m x price d market priced money is
+unfolding surplus
+law_of_right_money m x price d market priced = λ i. record {
+  units = units_same m x price d market priced i;
+  loads = loads_same m x price d market priced i;
+  rents = map (rent_of m x d) (named_rows m d);
+  surplus = left_is_surplus m x price d market priced i;
+}
 
 -- ---- what rows without duals earn
 module _ (m : Parts) (x : Dispatch) (d : Duals Fraction) where
@@ -198,12 +190,12 @@ module _ (m : Parts) (x : Dispatch) (d : Duals Fraction) where
   rents_of_named : sum_by (rent m x d) (rows m) ≡ sum_by (λ (t : Rent Fraction). t.rent) (map (rent_of m x d) (named_rows m d))
   rents_of_named = sum_named m d (rent m x d) (rows m) no_rent ∙ sym (sum_by-map (rent_of m x d) (λ (t : Rent Fraction). t.rent) (named_rows m d))
 
-  module _ (price : ℕ → Fraction) (market : IsMarket m) (money : Money Fraction) (is : IsSettlement m x price d money) (best : IsSupportedAt m x price d) where
+  module _ (price : ℕ → Fraction) (market : IsMarket m) (money : Money Fraction) (is : money ≡ settlement_at m x price d) (best : IsSupportedAt m x price d) where
     is_surplus : money.surplus ≡ surplus m x d
-    is_surplus = is.surplus ∙ left_is_surplus m x price d market best.prices
+    is_surplus = ap (λ (w : Money Fraction). w.surplus) is ∙ left_is_surplus m x price d market best.prices
 
     pub rents_are_left : money.surplus ≡ sum_by (λ (t : Rent Fraction). t.rent) money.rents
-    rents_are_left = is_surplus ∙ law_of_the_surplus m d x market best.feasible best.supported ∙ rents_of_named ∙ sym (ap (sum_by (λ (t : Rent Fraction). t.rent)) is.rents)
+    rents_are_left = is_surplus ∙ law_of_the_surplus m d x market best.feasible best.supported ∙ rents_of_named ∙ sym (ap (λ (w : Money Fraction). sum_by (λ (t : Rent Fraction). t.rent) w.rents) is)
 
     pub left_not_negative : HasOffsetsWithin m d → whole (pos 0) ≤ℚ money.surplus
     left_not_negative h = subst (λ s. whole (pos 0) ≤ℚ s) (sym is_surplus) (law_of_its_sign m d x market best.feasible best.supported h)

@@ -23,7 +23,8 @@ use Rattle.market_model.proofs.MorePlaces.{total-places_more}
 use Rattle.market_model.proofs.SumSteps.{plus_at, multiplied_at, terms_at, behind, in_front}
 use Rattle.market_model.proofs.PutInSteps.{accepted_is}
 use Rattle.market_model.specs.PutIn.{dispatch_of}
-use Rattle.settlement.specs.Paying.{total_at, pay_of_unit, pay_of_load, left_terms}
+use Rattle.market_model.specs.Settlement.{pay_of_unit, pay_of_load, left_terms}
+use Rattle.settlement.specs.Paying.{total_at}
 use Rattle.settlement.specs.Refusals.{IsSettlementRefusal, of_output, of_demand, of_money, IsLoadRefusal, IsUnitRefusal}
 
 module _ {N : Type 0} (value : N → Fraction) (m : Parts) (ds : List N) where

@@ -21,28 +21,6 @@ use Rattle.market_model.specs.RightAnswers.{rent_of}
 abbrev pub total_at : {N : Type 0} → (N → Fraction) → List (Price N) → ℕ → Fraction
 total_at value prices bus = slice_index_or (map (λ p. value p.total) prices) bus zero
 
--- a unit's output, and the price at its bus for that
-abbrev pub pay_of_unit : Parts → Dispatch → (ℕ → Fraction) → ℕ → UnitPay Fraction
-pay_of_unit m x price u = record { mw = output m x u; paid = price (unit_at m u).bus *ℚ output m x u }
-
--- a bus's demand, and its price for that
-abbrev pub pay_of_load : Parts → (ℕ → Fraction) → ℕ → Load Fraction
-pay_of_load m price i = record { mw = demand m i; pays = price i *ℚ demand m i }
-
--- what loads pay by bus, and the opposite of what units are paid by unit
-abbrev pub left_terms : Parts → Dispatch → (ℕ → Fraction) → List Term
-left_terms m x price =
-    map (λ i. Product (price i) (demand m i)) (places (length m.buses))
-    ++ map (λ u. Product (neg_ℚ (price (unit_at m u).bus)) (output m x u)) (places (length m.units))
-
--- The settlement of a dispatch at prices for the buses: units and buses in their order, the rows that duals name in theirs, and what loads
--- pay less what units are paid.
-pub record IsSettlement (m : Parts) (x : Dispatch) (price : ℕ → Fraction) (d : Duals Fraction) (money : Money Fraction) : Type 0 where
-  pub units : money.units ≡ map (pay_of_unit m x price) (places (length m.units))
-  pub loads : money.loads ≡ map (pay_of_load m price) (places (length m.buses))
-  pub rents : money.rents ≡ map (rent_of m x d) (named_rows m d)
-  pub surplus : money.surplus ≡ total (left_terms m x price)
-
 -- an entry for each unit and each bus, and a rent for each limit with duals
 pub record FitsMoney {N : Type 0} (m : Parts) (duals : Duals N) (money : Money N) : Type 0 where
   pub units : length money.units ≡ length m.units

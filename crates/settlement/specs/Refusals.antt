@@ -13,11 +13,11 @@ use Rattle.market_model.specs.declared.limits.Cause.TheVariants.{Base}
 use Rattle.market_model.specs.LimitRows.{flow_terms, limit, line_flow, line_terms, offset_terms, row_offset}
 use Rattle.market_model.specs.NamedSums.{IsRefusedIn, IsRefusal}
 use Rattle.market_model.specs.Optimality.{named_rows}
-use Rattle.market_model.specs.Settlement.{rent_terms}
+use Rattle.market_model.specs.Settlement.{rent_terms, left_terms}
 use Rattle.market_model.specs.Valued.{passed_at}
 use Rattle.settlement.specs.declared.stops.MoneyStop.{MoneyStop}
 use Rattle.settlement.specs.declared.stops.MoneyStop.TheVariants as why
-use Rattle.settlement.specs.Paying.{earned_terms, left_terms}
+use Rattle.settlement.specs.Paying.{earned_terms}
 
 -- an operation refused where a dispatch is settled at prices of the buses; all rows are rows of the market that the duals name
 pub data IsSettlementRefusal (m : Parts) (x : Dispatch) (price : ℕ → Fraction) (d : Duals Fraction) (bound : ℕ) (p : Passed Fraction) : Type 0 where

@@ -6,7 +6,8 @@ ghost use Rattle.market_data.specs.Participants.{IsBus};
 ghost use Rattle.market_model.specs.declared.answered.Duals.{Duals as DualsOf};
 ghost use Rattle.market_model.specs.Dispatch.{Dispatch, places};
 ghost use Rattle.market_model.specs.Valued.{passed_at, load_at};
-ghost use Rattle.settlement.specs.Paying.{total_at, pay_of_load};
+ghost use Rattle.market_model.specs.Settlement.{pay_of_load};
+ghost use Rattle.settlement.specs.Paying.{total_at};
 ghost use Rattle.settlement.specs.Refusals.{IsStop, IsLoadRefusal};
 
 use crate::MoneyStop;

@@ -10,7 +10,8 @@ ghost use Rattle.market_model.specs.NamedSums.{IsRefusedIn};
 ghost use Rattle.market_model.specs.Optimality.{ProperDuals};
 ghost use Rattle.market_model.specs.Valued.{duals_at, money_at, passed_at};
 ghost use Rattle.market_model.specs.PutIn.{dispatch_of};
-ghost use Rattle.settlement.specs.Paying.{total_at, paid_terms, FitsMoney, IsSettlement, IsSupportedAt};
+ghost use Rattle.market_model.specs.RightAnswers.{settlement_at};
+ghost use Rattle.settlement.specs.Paying.{total_at, paid_terms, FitsMoney, IsSupportedAt};
 ghost use Rattle.settlement.specs.Refusals.{IsStop};
 
 use crate::MoneyStop;
@@ -49,7 +50,7 @@ pub fn settle<N: Exact>(
     requires dispatch { length dispatch.now ≡ length market.now.blocks }
     requires prices { length prices.now ≡ length market.now.buses }
     requires duals { ProperDuals market.now (duals_at N.value duals.now) }
-    ensures money { IfOk result (λ money. IsSettlement market.now (dispatch_of N.value dispatch.now) (total_at N.value prices.now) (duals_at N.value duals.now) (money_at N.value money)) }
+    ensures money { IfOk result (λ money. money_at N.value money ≡ settlement_at market.now (dispatch_of N.value dispatch.now) (total_at N.value prices.now) (duals_at N.value duals.now)) }
     ensures fits { IfOk result (FitsMoney market.now duals.now) }
     ensures surplus_is_rents { IfOk result (λ money. IsSupportedAt market.now (dispatch_of N.value dispatch.now) (total_at N.value prices.now) (duals_at N.value duals.now) → N.value money.surplus ≡ sum_by (λ rent. N.value rent.rent) money.rents) }
     ensures not_negative { IfOk result (λ money. IsSupportedAt market.now (dispatch_of N.value dispatch.now) (total_at N.value prices.now) (duals_at N.value duals.now) → HasOffsetsWithin market.now (duals_at N.value duals.now) → zero ≤ℚ N.value money.surplus) }

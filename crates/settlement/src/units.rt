@@ -6,7 +6,8 @@ ghost use Rattle.market_model.specs.declared.answered.Duals.{Duals as DualsOf};
 ghost use Rattle.market_model.specs.Dispatch.{places, output as output_of};
 ghost use Rattle.market_model.specs.PutIn.{dispatch_of};
 ghost use Rattle.market_model.specs.Valued.{passed_at, unit_pay_at};
-ghost use Rattle.settlement.specs.Paying.{total_at, pay_of_unit};
+ghost use Rattle.market_model.specs.Settlement.{pay_of_unit};
+ghost use Rattle.settlement.specs.Paying.{total_at};
 ghost use Rattle.settlement.specs.Refusals.{IsStop, IsUnitRefusal};
 
 use crate::MoneyStop;

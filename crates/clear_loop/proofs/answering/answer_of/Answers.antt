@@ -4,7 +4,8 @@ use Rattle.market_model.specs.Optimality.{welfare, welfare_terms}
 use Rattle.market_model.specs.NamedSums.{IsRefusedIn}
 use Rattle.market_model.specs.Valued.{duals_at, money_at, passed_at}
 use Rattle.market_model.specs.PutIn.{dispatch_of}
-use Rattle.settlement.specs.Paying.{IsSettlement, total_at}
+use Rattle.market_model.specs.RightAnswers.{settlement_at}
+use Rattle.settlement.specs.Paying.{total_at}
 use Rattle.settlement.specs.Refusals.{IsStop}
 use Rattle.settlement.proofs.MoneyLemmas.{law_of_right_money}
 use Rattle.market_dict.specs.declared.stop.Stop.TheVariants as stop
@@ -68,5 +69,5 @@ returns-clause-right g c =
     right_answer value m c.args.dispatch c.args.duals c.in_ok-prices.prices c.in_ok-welfare.welfare c.in-Ok.money law_of_right_money market c.requires.feasible
     (supports m c.requires.solved.0 x d market c.requires.solved.1) (proper m c.requires.solved.0 x d market c.requires.solved.1) c.in_ok-prices.ensures.prices
     (c.in_ok-welfare.ensures.worth ∙ ap (λ xs. welfare m (dispatch_of value xs)) c.slice.ensures)
-    (subst (λ xs. IsSettlement m (dispatch_of value xs) (total_at value c.in_ok-prices.prices) d (money_at value c.in-Ok.money)) c.slice-2.ensures
-    (subst (λ ps. IsSettlement m (dispatch_of value c.slice-2.result.now) (total_at value ps) d (money_at value c.in-Ok.money)) c.slice-3.ensures c.in-Ok.ensures.money))
+    (subst (λ xs. money_at value c.in-Ok.money ≡ settlement_at m (dispatch_of value xs) (total_at value c.in_ok-prices.prices) d) c.slice-2.ensures
+    (subst (λ ps. money_at value c.in-Ok.money ≡ settlement_at m (dispatch_of value c.slice-2.result.now) (total_at value ps) d) c.slice-3.ensures c.in-Ok.ensures.money))

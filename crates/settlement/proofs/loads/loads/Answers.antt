@@ -3,7 +3,8 @@ use Rattle.std.specs.Prelude.{slice_index_or}
 use Rattle.market_data.specs.declared.participants.Bus.{Bus}
 use Rattle.market_model.specs.Valued.{passed_at, load_at}
 use Rattle.settlement.specs.declared.stops.MoneyStop.TheVariants as why
-use Rattle.settlement.specs.Paying.{total_at, pay_of_load}
+use Rattle.market_model.specs.Settlement.{pay_of_load}
+use Rattle.settlement.specs.Paying.{total_at}
 use Rattle.settlement.proofs.ListLemmas.{put_place}
 use Rattle.settlement.proofs.PayLemmas.{price_is, load_is, load_refusal}
 use Rattle.settlement.proofs.loads.loads.Goals as goal

@@ -1,7 +1,8 @@
 use Rattle.std.proofs.Common.{◌≡◌, map}
 use Rattle.market_model.specs.Dispatch.{places}
 use Rattle.market_model.specs.Valued.{load_at}
-use Rattle.settlement.specs.Paying.{total_at, pay_of_load}
+use Rattle.market_model.specs.Settlement.{pay_of_load}
+use Rattle.settlement.specs.Paying.{total_at}
 use Rattle.settlement.proofs.loads.loads.Given as goal
 
 abbrev pub invariant-loop-place : goal.invariant-loop-place

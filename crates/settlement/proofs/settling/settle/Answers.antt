@@ -9,7 +9,8 @@ use Rattle.market_model.specs.NamedSums.{IsRefusedIn}
 use Rattle.market_model.specs.Valued.{duals_at, load_at, money_at, passed_at, rent_at, unit_pay_at}
 use Rattle.market_model.specs.PutIn.{dispatch_of}
 use Rattle.settlement.specs.declared.stops.MoneyStop.TheVariants as why
-use Rattle.settlement.specs.Paying.{total_at, paid_terms, pay_of_load, pay_of_unit}
+use Rattle.market_model.specs.Settlement.{pay_of_load, pay_of_unit}
+use Rattle.settlement.specs.Paying.{total_at, paid_terms}
 use Rattle.settlement.specs.Refusals.{of_money}
 use Rattle.settlement.proofs.ListLemmas.{sum_by-map}
 use Rattle.settlement.proofs.MoneyLemmas.{surplus_is, surplus_refused, rents_are_left, left_not_negative, count_fits, rows_fit}
@@ -47,15 +48,15 @@ returns-in_err-surplus-clause-cause g c =
 pub returns-clause-money : goal.returns-clause-money
 returns-clause-money g c =
     let value = g.N.Exact.value in
-    record {
-      units = c.in_ok-units.ensures.pays;
-      loads = c.in_ok-loads.ensures.loads;
-      rents = c.in_ok-rents.ensures.rents;
+    λ i. record {
+      units = c.in_ok-units.ensures.pays i;
+      loads = c.in_ok-loads.ensures.loads i;
+      rents = c.in_ok-rents.ensures.rents i;
       surplus = surplus_is value c.args.market.now (dispatch_of value c.args.dispatch.now) (total_at value c.args.prices.now) c.in_ok-loads.loads c.in_ok-units.units c.in_ok-loads.ensures.loads c.in_ok-units.ensures.pays
           (value c.in_ok-surplus.surplus)
           (subst₂ (λ (ls : List (Load g.row.N.Denot)) (us : List (UnitPay g.row.N.Denot)).
           value c.in_ok-surplus.surplus ≡ sum_by (λ (l : Load g.row.N.Denot). value l.pays) ls +ℚ sum_by (λ (u : UnitPay g.row.N.Denot). neg_ℚ (value u.paid)) us)
-          c.slice.ensures c.slice-2.ensures c.in_ok-surplus.ensures.left);
+          c.slice.ensures c.slice-2.ensures c.in_ok-surplus.ensures.left) i;
     }
 
 pub returns-clause-fits : goal.returns-clause-fits

@@ -4,7 +4,8 @@ use Rattle.market_data.specs.declared.participants.Unit as unit
 use Rattle.market_model.specs.Valued.{passed_at, unit_pay_at}
 use Rattle.market_model.specs.PutIn.{dispatch_of}
 use Rattle.settlement.specs.declared.stops.MoneyStop.TheVariants as why
-use Rattle.settlement.specs.Paying.{total_at, pay_of_unit}
+use Rattle.market_model.specs.Settlement.{pay_of_unit}
+use Rattle.settlement.specs.Paying.{total_at}
 use Rattle.settlement.proofs.ListLemmas.{put_place}
 use Rattle.settlement.proofs.PayLemmas.{price_is, pay_is, unit_refusal}
 use Rattle.settlement.proofs.units.unit_pays.Goals as goal

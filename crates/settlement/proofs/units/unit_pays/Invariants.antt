@@ -2,7 +2,8 @@ use Rattle.std.proofs.Common.{◌≡◌, map}
 use Rattle.market_model.specs.Dispatch.{places}
 use Rattle.market_model.specs.Valued.{unit_pay_at}
 use Rattle.market_model.specs.PutIn.{dispatch_of}
-use Rattle.settlement.specs.Paying.{total_at, pay_of_unit}
+use Rattle.market_model.specs.Settlement.{pay_of_unit}
+use Rattle.settlement.specs.Paying.{total_at}
 use Rattle.settlement.proofs.units.unit_pays.Given as goal
 
 abbrev pub invariant-loop-place : goal.invariant-loop-place
