@@ -17,7 +17,7 @@ use Rattle.bus_prices.specs.Prices.{price_of}
 use Rattle.market_model.specs.PutIn.{dispatch_of}
 use Rattle.settlement.specs.Laws.{LawOfRightMoney}
 use Rattle.settlement.specs.Paying.{ArePricesOf, total_at}
-use Rattle.settlement.proofs.ListLemmas.{map-map}
+use Rattle.market_model.proofs.ListSteps.{map-map}
 
 module _ {N : Type 0} (value : N → Fraction) (m : Parts) (d : Duals Fraction) (ps : List (Price N)) (made : map (price_at value) ps ≡ map (price_of m d) (places (length m.buses))) where
   pub price_count : length ps ≡ length m.buses

@@ -67,7 +67,10 @@ fn row_entry<N: Exact>(market: &Market, row: Row, block: &Block) -> N
     ensures { N.value result ≡ signed block.now.side (row_factor market.now row (unit_at market.now block.now.unit).bus) }
 {
     let bus = market.units().at(block.unit).bus;
-    by_side(block, N::of_parts(factor_at(market, row, bus), FACTOR_PRODUCT_ONE))
+    by_side(
+        block,
+        N::of_parts(factor_at(market, row, bus), FACTOR_PRODUCT_ONE),
+    )
 }
 
 /// By how much a MW of each block raises the flow of a limit.

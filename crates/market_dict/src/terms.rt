@@ -158,11 +158,7 @@ pub fn terms_of<N: Exact>(
 }
 
 /// The same with the bounds of one limit more. After an `Err` the terms are as they were.
-pub fn take_bounds<N: Exact>(
-    market: &Market,
-    terms: &mut Terms<N>,
-    row: Row,
-) -> Result<(), Stop<N>>
+pub fn take_bounds<N: Exact>(market: &Market, terms: &mut Terms<N>, row: Row) -> Result<(), Stop<N>>
     requires row { Contains (rows market.now) row }
     requires terms { (g : List Row) × AreTerms N.value market.now g terms.old }
     ensures taken { (g : List Row) → AreTerms N.value market.now g terms.old → IfOk result (λ _. AreTerms N.value market.now (g ++ row ∷ []) terms.new) }

@@ -1,8 +1,9 @@
 -- Equal reports are of equal outcomes, and what comes after them is then the same.
-use Rattle.std.specs.Prelude.{◌≡◌, ℕ, List, [], ◌∷◌, ◌++◌, codes, refl}
+use Rattle.std.specs.Prelude.{◌≡◌, ℕ, All, List, [], ◌∷◌, ◌++◌, codes, length, refl}
 use Rattle.std.specs.List.{flat_map}
-use Rattle.std.proofs.Common.{ap, sym, ◌∙◌, arith, append_assoc}
-use Rattle.std.proofs.lemmas.List.{get_or_default, append_cancel_left}
+use Rattle.std.proofs.Common.{ap, sym, subst, ◌∙◌, arith, append_assoc}
+use Rattle.std.proofs.lemmas.List.{append_cancel_left}
+use Rattle.std.proofs.lemmas.List.Elements.{All-map}
 use Rattle.fraction_theory.specs.Fraction.{Fraction}
 use Rattle.exact_fraction.specs.Written.{written, parts_text}
 use Rattle.exact_fraction.specs.declared.Op.{Op}
@@ -16,8 +17,8 @@ use Rattle.market_model.specs.declared.answered.Farkas.{Farkas}
 use Rattle.market_model.specs.declared.answered.Outcome.{Outcome}
 use Rattle.market_model.specs.declared.answered.Outcome.TheVariants as outcome
 use Rattle.market_model.specs.declared.answered.Price.{Price}
-use Rattle.market_model.specs.Dispatch.{zero}
-use Rattle.market_model.specs.RightAnswers.{IsRight}
+use Rattle.market_model.specs.Dispatch.{places}
+use Rattle.market_model.specs.RightAnswers.{IsRight, price_made}
 use Rattle.market_model.proofs.RightFits.{fits_by_right}
 use Rattle.report_text.specs.Reports.{head_text, cleared_text, limit_text, bound_text, plain_energy_text, infeasible_text, op_text, range_text, report_text}
 use Rattle.report_text.specs.ReportLaws.{FitsReport, OutcomeFitsReport, IsRightIn, ReportsApart, RightReportsApart}
