@@ -21,13 +21,12 @@ use Rattle.market_model.specs.declared.answered.Duals.{Duals}
 use Rattle.market_model.specs.declared.participants.Parts.{Parts}
 use Rattle.market_model.specs.declared.limits.Row.{Row}
 use Rattle.market_model.specs.LimitRows.{rows, row_id, row_factor}
-use Rattle.market_model.specs.NamedSums.{IsRefusal, IsRefusedIn}
-use Rattle.market_model.specs.Optimality.{IsOneSided, ProperDuals, pull, is_named, named_rows, congestion, congestion_terms, congestion_by}
+use Rattle.market_model.specs.NamedSums.{IsRefusal, IsRefusedIn, IsShareRefusal}
+use Rattle.market_model.specs.Optimality.{IsOneSided, ProperDuals, net_shadow_price, names_row, named_rows, congestion, congestion_terms, congestion_by}
 use Rattle.market_model.specs.Valued.{dual_at}
 use Rattle.market_model.proofs.MorePlaces.{sum_by_more}
 use Rattle.market_model.proofs.SumSteps.{plus_at, multiplied_at}
 use Rattle.limit_rows.proofs.DualLemmas.{IsRowOfDual, up_unnamed, down_unnamed, sum_named, terms_named}
-use Rattle.bus_prices.specs.Prices.{IsShareRefusal}
 
 -- a dual that was read, with the values of its numbers
 pub dual_read : {N : Type 0} (value : N → Fraction) (ds : List (Dual N)) (k : ℕ) (e : Dual N) → k < length ds → e ≡ get_or ds k e → dual_at value e ≡ get_or (map (dual_at value) ds) k (dual_at value e)
@@ -35,9 +34,9 @@ dual_read value ds k e h is = sym (get_or-map (dual_at value) ds k e (dual_at va
 
 module _ (m : Parts) (d : Duals Fraction) (i : ℕ) where
   abbrev term : Row → Term
-  term r = Product (neg_ℚ (pull m d r)) (row_factor m r i)
+  term r = Product (neg_ℚ (net_shadow_price m d r)) (row_factor m r i)
 
-  unnamed : (r : Row) → is_named d.limits (row_id m r) ≡ false → term_value (term r) ≡ whole (pos 0)
+  unnamed : (r : Row) → names_row d.limits (row_id m r) ≡ false → term_value (term r) ≡ whole (pos 0)
   unnamed r h =
       ap₂ (λ u v. neg_ℚ (u -ℚ v) *ℚ row_factor m r i) (up_unnamed d.limits (row_id m r) h) (down_unnamed d.limits (row_id m r) h)
       ∙ by_ring ring_ℚ (row_factor m r i ∷ []) (pmul (pneg (padd pnil (pneg pnil))) (at 0)) pnil refl
@@ -67,11 +66,11 @@ module _ (m : Parts) (d : Duals Fraction) (i : ℕ) where
       split : (front : List Term) × (rest : List Term) × (map term (rows m) ≡ front ++ term r ∷ rest) × (total front ≡ congestion_to k)
       split = terms_named m d term unnamed k r h.inside h.at
 
-      price_is : price ≡ neg_ℚ (pull m d r)
+      price_is : price ≡ neg_ℚ (net_shadow_price m d r)
       price_is = is ∙ ap₂ (λ u v. neg_ℚ (u -ℚ v)) (sym h.up) (sym h.down)
 
       by : IsRefusal Times price factor bound p ⊎ IsRefusal Plus sum (price *ℚ factor) bound p → IsRefusedIn (congestion_terms m d i) bound p
-      by (inl c) = multiplied_at (congestion_terms m d i) split.0 split.1 (term r) split.2 bound p price factor (neg_ℚ (pull m d r)) (row_factor m r i) refl (inl price_is) (inl share) c
+      by (inl c) = multiplied_at (congestion_terms m d i) split.0 split.1 (term r) split.2 bound p price factor (neg_ℚ (net_shadow_price m d r)) (row_factor m r i) refl (inl price_is) (inl share) c
       by (inr c) = (plus_at (congestion_terms m d i) split.0 split.1 (term r) split.2 bound p sum (price *ℚ factor) (before ∙ sym split.3) (ap₂ ◌*ℚ◌ price_is share) c)
 
 -- ---- the price that a row has

@@ -6,10 +6,11 @@ ghost use Rattle.market_data.specs.Scales.{factor_product_one};
 ghost use Rattle.market_model.specs.Dispatch.{places};
 ghost use Rattle.market_model.specs.declared.limits.Row.{Row};
 ghost use Rattle.market_model.specs.LimitRows.{rows, row_factor, row_id};
-ghost use Rattle.market_model.specs.NamedSums.{IsRefusedIn};
+ghost use Rattle.market_model.specs.NamedSums.{IsRefusedIn, IsShareRefusal};
 ghost use Rattle.market_model.specs.Optimality.{IsOneSided, ProperDuals, congestion, congestion_terms};
 ghost use Rattle.market_model.specs.Valued.{dual_at, duals_at, passed_at, price_at};
-ghost use Rattle.bus_prices.specs.Prices.{price_of, IsShareRefusal, IsPriceRefusal};
+ghost use Rattle.market_model.specs.RightAnswers.{price_made};
+ghost use Rattle.bus_prices.specs.Prices.{IsPriceRefusal};
 
 use exact_fraction::{Exact, Passed, Sign};
 use limit_rows::{factor_at, row_named};
@@ -17,7 +18,7 @@ use market_data::FACTOR_PRODUCT_ONE;
 use market_model::{Dual, Duals, Market, Price, RowId};
 
 /// The opposite of what a MW on the flow of a dual's row costs: the price of its lower side, or less that of its upper one.
-fn opposite_pull<N: Exact>(dual: &Dual<N>) -> N
+fn opposite_net_price<N: Exact>(dual: &Dual<N>) -> N
     requires { IsOneSided (dual_at N.value dual.now) }
     ensures { N.value result ≡ neg_ℚ (N.value dual.now.up -ℚ N.value dual.now.down) }
 {
@@ -63,7 +64,7 @@ fn congestion_at<N: Exact>(market: &Market, duals: &Duals<N>, bus: usize) -> Res
     for dual in duals.limits.slice() {
         sum = with_row(
             sum,
-            opposite_pull(dual),
+            opposite_net_price(dual),
             factor_named(market, dual.row, bus),
         )?;
     }
@@ -80,7 +81,7 @@ pub fn prices<N: Exact>(
     requires duals { ProperDuals market.now (duals_at N.value duals.now) }
     requires out { length out.old ≡ length market.now.buses }
     ensures count { length out.new ≡ length out.old }
-    ensures prices { IfOk result (λ _. map (price_at N.value) out.new ≡ map (price_of market.now (duals_at N.value duals.now)) (places (length market.now.buses))) }
+    ensures prices { IfOk result (λ _. map (price_at N.value) out.new ≡ map (price_made market.now (duals_at N.value duals.now)) (places (length market.now.buses))) }
     ensures cause { IfErr result (λ passed. IsPriceRefusal market.now (duals_at N.value duals.now) N.bound (passed_at N.value passed)) }
 {
     for (bus, price) in out.iter_mut().enumerate() {

@@ -7,7 +7,7 @@ use Rattle.fraction_theory.specs.Fraction.{unsigned_abs-neg}
 use Rattle.market_data.specs.Scales.{factor_one, most_factor}
 use Rattle.market_model.specs.declared.participants.Factor.{Factor}
 use Rattle.market_model.specs.Dispatch.{places}
-use Rattle.market_model.specs.Market.{AreFactors, IsFactor}
+use Rattle.market_model.specs.Market.{AreTableFactors, IsTableFactor}
 use Rattle.case_maker.specs.Rings.{factor_by, factors_by, loss_of, share, shift_of}
 use Rattle.case_maker.proofs.PlaceLists.{All-flat, All-places, AllPairs-append, at-place, flat-more, map-more}
 
@@ -36,9 +36,9 @@ module _ (value : ℕ → ℕ → ℤ) where
       (All-places (λ (f : Factor). All (Apart f) (flat_map (row n) (range_with_len (a + 1) m))) (factor a) n
       (λ i lt. All-weaker (λ (g : Factor). a + 1 ≤ g.line) (Apart (factor a i)) (λ g up same. absurd (omega (arith, up, same))) (flat_map (row n) (range_with_len (a + 1) m)) later))
 
-  pub are-factors : (n : ℕ) → ((l i : ℕ) → l < n → i < n → unsigned_abs (value l i) ≤ most_factor) → AreFactors n n (factors_by value n)
+  pub are-factors : (n : ℕ) → ((l i : ℕ) → l < n → i < n → unsigned_abs (value l i) ≤ most_factor) → AreTableFactors n n (factors_by value n)
   are-factors n small = record {
-    each = All-flat (IsFactor n n) (row n) 0 n (λ l p q. let l' : l < n = omega (arith, q) in All-places (IsFactor n n) (factor l) n (λ i lt. record { line = l'; of = lt; size = small l i l' lt }));
+    each = All-flat (IsTableFactor n n) (row n) 0 n (λ l p q. let l' : l < n = omega (arith, q) in All-places (IsTableFactor n n) (factor l) n (λ i lt. record { line = l'; of = lt; size = small l i l' lt }));
     distinct = rows-apart n 0 n;
   }
 

@@ -17,7 +17,7 @@ use Rattle.market_data.specs.declared.participants.Unit as unit
 use Rattle.market_model.specs.declared.participants.Block.{Block}
 use Rattle.market_model.specs.declared.participants.Line.{Line}
 use Rattle.market_model.specs.declared.participants.Parts.{Parts}
-use Rattle.market_model.specs.Dispatch.{Dispatch, IsDispatch, accepted, balance, block_at, block_bus, blocks_at, demand, injection, line_at, places, raised_by, signed, unit_at, units_at, zero}
+use Rattle.market_model.specs.Dispatch.{Dispatch, IsDispatch, accepted, balance, block_at, block_bus, blocks_at, demand, injection, line_at, places, raised_by, signed_by_side, unit_at, units_at, zero}
 use Rattle.market_model.specs.declared.limits.Cause.{Cause}
 use Rattle.market_model.specs.declared.limits.Row.{Row}
 use Rattle.market_model.specs.declared.limits.Cause.TheVariants.{Base, Branch}
@@ -96,10 +96,10 @@ module _ (n seed : ℕ) where
   second-bus i lt = ap (λ (b : Block). (unit_at m b.unit).bus) (second-block n seed i lt) ∙ ap (λ (u : unit.Unit). u.bus) (unit-at n seed i lt)
 
   raised-first : (i : ℕ) → i < n → raised_by m serving (2 * i) ≡ whole (load i)
-  raised-first i lt = ap (λ (b : Block). signed b.side (accepted serving (2 * i))) (first-block n seed i lt) ∙ accepted-first i lt
+  raised-first i lt = ap (λ (b : Block). signed_by_side b.side (accepted serving (2 * i))) (first-block n seed i lt) ∙ accepted-first i lt
 
   raised-second : (i : ℕ) → i < n → raised_by m serving (2 * i + 1) ≡ zero
-  raised-second i lt = ap (λ (b : Block). signed b.side (accepted serving (2 * i + 1))) (second-block n seed i lt) ∙ accepted-second i lt
+  raised-second i lt = ap (λ (b : Block). signed_by_side b.side (accepted serving (2 * i + 1))) (second-block n seed i lt) ∙ accepted-second i lt
 
   raised-at : (i : ℕ) → i < n → sum_by (raised_by m serving) (blocks_at m i) ≡ whole (load i)
   raised-at i lt = sum_by-one (raised_by m serving) (2 * i) (blocks_at m i) apart here others ∙ raised-first i lt

@@ -1,5 +1,5 @@
 -- Matrices as rows of cells.
-use Rattle.std.specs.Prelude.{ℕ, ◌+◌, ◌-◌, ◌==◌, Bool, true, false, List, [], ◌∷◌, ◌++◌, length, slice_index_or, Option, Some, None, if◌then◌else◌, ◌≡◌, ◌<◌, ◌≤◌, All}
+use Rattle.std.specs.Prelude.{ℕ, ◌+◌, ◌-◌, Bool, true, false, List, [], ◌∷◌, ◌++◌, length, slice_index_or, if◌then◌else◌, ◌≡◌, ◌<◌, ◌≤◌, All}
 use Rattle.record_reading.specs.Records.{Record}
 use Rattle.case_tokens.specs.declared.Token.{Token}
 use Rattle.case_text.specs.declared.Field.{Field}

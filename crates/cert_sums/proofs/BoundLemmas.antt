@@ -20,9 +20,9 @@ use Rattle.market_model.specs.Dispatch.{Dispatch, places, injection, injection_t
 use Rattle.market_model.specs.Infeasibility.{where_above, part_above, block_weight, limit_terms, farkas_terms, farkas_bound}
 use Rattle.market_model.specs.declared.limits.Row.{Row}
 use Rattle.market_model.specs.LimitRows.{rows, row_id, limit, flow}
-use Rattle.market_model.specs.NamedSums.{IsRefusal, IsRefusedIn}
+use Rattle.market_model.specs.NamedSums.{IsRefusal, IsRefusedIn, IsShareRefusal}
 use Rattle.market_model.specs.Valued.{passed_at}
-use Rattle.market_model.specs.Optimality.{up_of, down_of, is_named, named_rows}
+use Rattle.market_model.specs.Optimality.{up_of, down_of, names_row, named_rows}
 use Rattle.market_model.proofs.MorePlaces.{sum_by_more, total-places_more}
 use Rattle.market_model.proofs.SumSteps.{plus_at, multiplied_at, terms_at, behind}
 use Rattle.limit_rows.proofs.DualLemmas.{up_unnamed, down_unnamed, sum_named}
@@ -33,8 +33,8 @@ use Rattle.market_model.specs.SumTables.{injection_at, balance_of_all, flow_of_l
 use Rattle.cert_sums.specs.declared.stops.VerifyStop.{VerifyStop}
 use Rattle.cert_sums.specs.declared.stops.VerifyStop.TheVariants as why
 use Rattle.market_model.specs.PutIn.{dispatch_of, IsInjectionRefusal}
-use Rattle.limit_rows.specs.LineFlows.{IsLineRefusal, IsShareRefusal}
-use Rattle.cert_sums.specs.Refusals.{IsStopped, IsAboveRefusal, IsBelowRefusal, IsLimitRefusal, in_flow, in_above, in_below, IsPriceRefusal}
+use Rattle.limit_rows.specs.LineFlows.{IsLineRefusal}
+use Rattle.cert_sums.specs.Refusals.{OnPassed, IsAboveRefusal, IsBelowRefusal, IsLimitRefusal, in_flow, in_above, in_below, IsPriceRefusal}
 use Rattle.cert_sums.proofs.NamedLemmas.{IsNamedAt, is_named_row, is_row}
 
 -- ---- prices of 0 make nothing
@@ -103,7 +103,7 @@ module _ (m : Parts) (d : Duals Fraction) where
   block_terms = map block_term (places (length m.blocks))
 
   -- a row without prices makes nothing
-  unnamed : (r : Row) → is_named d.limits (row_id m r) ≡ false → left r ≡ whole (pos 0)
+  unnamed : (r : Row) → names_row d.limits (row_id m r) ≡ false → left r ≡ whole (pos 0)
   unnamed r h =
       ap₂ (λ u v. u *ℚ (limit m r -ℚ flow m (empty m) r) +ℚ (v *ℚ (limit m r +ℚ flow m (empty m) r) +ℚ whole (pos 0))) (up_unnamed d.limits (row_id m r) h) (down_unnamed d.limits (row_id m r) h)
       ∙ by_ring ring_ℚ (limit m r ∷ flow m (empty m) r ∷ []) (padd (pmul pnil (padd (at 0) (pneg (at 1)))) (padd (pmul pnil (padd (at 0) (at 1))) pnil)) pnil refl
@@ -130,7 +130,7 @@ module _ (m : Parts) (d : Duals Fraction) where
   split_at : (k : ℕ) (e : PricedRow) → IsNamedAt m d k e → IsSplit k e.row
   split_at k e h =
       let r : Row = e.row in
-      let s = filter_at (λ t. is_named d.limits (row_id m t)) (rows m) k e.row h.inside in
+      let s = filter_at (λ t. names_row d.limits (row_id m t)) (rows m) k e.row h.inside in
       let f : Row → List Term = limit_terms m d in
       let rows_are : rows m ≡ s.0 ++ e.row ∷ s.1 = s.2 ∙ ap (λ (t : Row). s.0 ++ t ∷ s.1) (sym h.at) in
       record {
@@ -260,7 +260,7 @@ pub nothing_is : {N : Type 0} (value : N → Fraction) (m : Parts) (xs ys : List
 nothing_is value m xs ys n same zeros count = ap (λ (zs : List Fraction). record { blocks = zs }) (ap (map value) same ∙ zeros ∙ ap (λ (k : ℕ). replicate k (whole (pos 0))) count)
 
 -- why a sum stops, where each of its refusals is another's
-pub stopped_weaker : {N : Type 0} (value : N → Fraction) (p q : Passed Fraction → Type 0) (s : VerifyStop N) → ((e : Passed Fraction) → p e → q e) → IsStopped value p s → IsStopped value q s
+pub stopped_weaker : {N : Type 0} (value : N → Fraction) (p q : Passed Fraction → Type 0) (s : VerifyStop N) → ((e : Passed Fraction) → p e → q e) → OnPassed value p s → OnPassed value q s
 stopped_weaker value p q (why.Range e) to h = to (passed_at value e) h
 stopped_weaker value p q why.Memory to h = tt
 

@@ -1,5 +1,5 @@
 -- The named rows of duals, and the congestion at a bus row by row.
-use Rattle.std.specs.Prelude.{◌≡◌, ◌⊎◌, ℕ, ◌+◌, ◌<◌, ◌≤◌, ◌^◌, ℤ, pos, false, List, [], ◌∷◌, ◌++◌, map, length, take, Contains, refl}
+use Rattle.std.specs.Prelude.{◌≡◌, ◌⊎◌, ℕ, ◌+◌, ◌<◌, ◌≤◌, ℤ, pos, false, List, [], ◌∷◌, ◌++◌, map, length, take, Contains, refl}
 use Rattle.std.proofs.Common.{inl, inr, arith, ap, ap₂, sym, ◌∙◌, get_or}
 use Rattle.std.proofs.lemmas.List.{get_or-map, length-map, take_all}
 use Rattle.fraction_theory.specs.Fraction.{Fraction, whole, over, neg_ℚ, ◌+ℚ◌, ◌-ℚ◌, ◌*ℚ◌}
@@ -16,13 +16,13 @@ use Rattle.market_model.specs.declared.participants.Parts.{Parts}
 use Rattle.market_model.specs.declared.limits.Row.{Row}
 use Rattle.market_model.specs.LimitRows.{rows, row_id, row_factor}
 use Rattle.market_model.specs.NamedSums.{IsRefusal, IsRefusedIn}
-use Rattle.market_model.specs.Optimality.{up_of, down_of, pull, is_named, named_rows, congestion, congestion_terms, congestion_by, price_terms}
+use Rattle.market_model.specs.Optimality.{up_of, down_of, net_shadow_price, names_row, named_rows, congestion, congestion_terms, congestion_by, price_terms}
 use Rattle.market_model.proofs.MorePlaces.{sum_by_more}
 use Rattle.market_model.proofs.SumSteps.{plus_at, multiplied_at, refusal_same}
 use Rattle.limit_rows.proofs.DualLemmas.{up_unnamed, down_unnamed, sum_named, terms_named}
 use Rattle.cert_sums.specs.declared.pricing.NamedRow.{NamedRow}
 use Rattle.cert_sums.specs.Named.{PricedRow, priced_at, priced_by, AreNamed}
-use Rattle.cert_sums.specs.Refusals.{IsPullRefusal, IsCongestionRefusal}
+use Rattle.cert_sums.specs.Refusals.{IsNetPriceRefusal, IsCongestionRefusal}
 
 -- the row that duals name at a place, with its prices
 pub record IsNamedAt (m : Parts) (d : Duals Fraction) (k : ℕ) (e : PricedRow) : Type 0 where
@@ -53,20 +53,20 @@ pub is_named_row : (m : Parts) (d : Duals Fraction) (k : ℕ) (e : PricedRow) �
 is_named_row m d k e h = (k, h.inside, sym h.at)
 
 pub is_row : (m : Parts) (d : Duals Fraction) (k : ℕ) (e : PricedRow) → IsNamedAt m d k e → Contains (rows m) e.row
-is_row m d k e h = (Contains-from_filter (λ s. is_named d.limits (row_id m s)) (rows m) e.row (is_named_row m d k e h)).0
+is_row m d k e h = (Contains-from_filter (λ s. names_row d.limits (row_id m s)) (rows m) e.row (is_named_row m d k e h)).0
 
 -- ---- the congestion at a bus
 -- a factor of 0 takes nothing
-pub no_pull : (s u v : Fraction) (k : ℤ) → k ≡ pos 0 → s ≡ s +ℚ neg_ℚ (u -ℚ v) *ℚ over k factor_product_one
-no_pull s u v k e =
+pub no_net_price : (s u v : Fraction) (k : ℤ) → k ≡ pos 0 → s ≡ s +ℚ neg_ℚ (u -ℚ v) *ℚ over k factor_product_one
+no_net_price s u v k e =
     let nil : over k factor_product_one ≡ whole (pos 0) = ap (λ (n : ℤ). over n factor_product_one) e ∙ over-same (pos 0) (pos 0) factor_product_one 1 (Prim.omega arith) (Prim.omega arith) refl ∙ over-one (pos 0) in
     sym (ap (λ t. s +ℚ neg_ℚ (u -ℚ v) *ℚ t) nil ∙ ap (λ t. s +ℚ t) (times_nil ring_ℚ (neg_ℚ (u -ℚ v))) ∙ +ℚ_nil s)
 
 module _ (m : Parts) (d : Duals Fraction) (i : ℕ) where
   abbrev term : Row → Term
-  term r = Product (neg_ℚ (pull m d r)) (row_factor m r i)
+  term r = Product (neg_ℚ (net_shadow_price m d r)) (row_factor m r i)
 
-  unnamed : (r : Row) → is_named d.limits (row_id m r) ≡ false → term_value (term r) ≡ whole (pos 0)
+  unnamed : (r : Row) → names_row d.limits (row_id m r) ≡ false → term_value (term r) ≡ whole (pos 0)
   unnamed r h =
       ap₂ (λ u v. neg_ℚ (u -ℚ v) *ℚ row_factor m r i) (up_unnamed d.limits (row_id m r) h) (down_unnamed d.limits (row_id m r) h)
       ∙ by_ring ring_ℚ (row_factor m r i ∷ []) (pmul (pneg (padd pnil (pneg pnil))) (at 0)) pnil refl
@@ -82,17 +82,17 @@ module _ (m : Parts) (d : Duals Fraction) (i : ℕ) where
       ∙ sym (sum_named m d (λ r. term_value (term r)) (rows m) unnamed) ∙ sym (total-map term (rows m))
 
   module _ (k : ℕ) (e : PricedRow) (h : IsNamedAt m d k e) where
-    pull_is : neg_ℚ (e.up -ℚ e.down) ≡ neg_ℚ (pull m d e.row)
-    pull_is = ap₂ (λ u v. neg_ℚ (u -ℚ v)) h.up h.down
+    net_price_is : neg_ℚ (e.up -ℚ e.down) ≡ neg_ℚ (net_shadow_price m d e.row)
+    net_price_is = ap₂ (λ u v. neg_ℚ (u -ℚ v)) h.up h.down
 
     pub congestion_step : (factor old new : Fraction) → factor ≡ row_factor m e.row i → old ≡ congestion_to k → new ≡ old +ℚ neg_ℚ (e.up -ℚ e.down) *ℚ factor → new ≡ congestion_to (k + 1)
     congestion_step factor old new share before eq =
-        eq ∙ ap₂ (λ u v. old +ℚ u *ℚ v) pull_is share
+        eq ∙ ap₂ (λ u v. old +ℚ u *ℚ v) net_price_is share
         ∙ ap (λ s. s +ℚ term_value (term e.row)) before
         ∙ ap (λ (s : Row). congestion_to k +ℚ term_value (term s)) h.at
         ∙ sym (sum_by_more (λ s. term_value (term s)) (named_rows m d) k e.row h.inside)
 
-    pub congestion_refused : (factor sum : Fraction) (bound : ℕ) (p : Passed Fraction) → factor ≡ row_factor m e.row i → sum ≡ congestion_to k → IsPullRefusal sum e.up e.down factor bound p
+    pub congestion_refused : (factor sum : Fraction) (bound : ℕ) (p : Passed Fraction) → factor ≡ row_factor m e.row i → sum ≡ congestion_to k → IsNetPriceRefusal sum e.up e.down factor bound p
         → IsCongestionRefusal m d i bound p
     congestion_refused factor sum bound p share before why = by why
       where
@@ -102,10 +102,10 @@ module _ (m : Parts) (d : Duals Fraction) (i : ℕ) where
         by : IsRefusal Minus e.up e.down bound p ⊎ IsRefusal Times (neg_ℚ (e.up -ℚ e.down)) factor bound p ⊎ IsRefusal Plus sum (neg_ℚ (e.up -ℚ e.down) *ℚ factor) bound p → IsCongestionRefusal m d i bound p
         by (inl c) = inr (e.row, is_named_row m d k e h, refusal_same Minus e.up e.down (up_of m d e.row) (down_of m d e.row) bound p h.up h.down c)
         by (inr (inl c)) = inl
-            (multiplied_at (congestion_terms m d i) split.0 split.1 (term e.row) split.2 bound p (neg_ℚ (e.up -ℚ e.down)) factor (neg_ℚ (pull m d e.row)) (row_factor m e.row i) refl (inl pull_is) (inl share) c)
+            (multiplied_at (congestion_terms m d i) split.0 split.1 (term e.row) split.2 bound p (neg_ℚ (e.up -ℚ e.down)) factor (neg_ℚ (net_shadow_price m d e.row)) (row_factor m e.row i) refl (inl net_price_is) (inl share) c)
         by (inr (inr c)) = inl
             (
-            (plus_at (congestion_terms m d i) split.0 split.1 (term e.row) split.2 bound p sum (neg_ℚ (e.up -ℚ e.down) *ℚ factor) (before ∙ sym split.3) (ap₂ ◌*ℚ◌ pull_is share) c))
+            (plus_at (congestion_terms m d i) split.0 split.1 (term e.row) split.2 bound p sum (neg_ℚ (e.up -ℚ e.down) *ℚ factor) (before ∙ sym split.3) (ap₂ ◌*ℚ◌ net_price_is share) c))
 
 -- the price of energy and the congestion are added
 pub price_refused : (m : Parts) (d : Duals Fraction) (i : ℕ) (bound : ℕ) (p : Passed Fraction) → IsRefusal Plus d.energy (congestion m d i) bound p → IsRefusedIn (price_terms m d i) bound p

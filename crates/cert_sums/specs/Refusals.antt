@@ -8,18 +8,17 @@ use Rattle.market_model.specs.declared.participants.Parts.{Parts}
 use Rattle.market_model.specs.Dispatch.{Dispatch, injection}
 use Rattle.market_model.specs.declared.limits.Row.{Row}
 use Rattle.market_model.specs.LimitRows.{flow, flow_terms, limit, line_flow}
-use Rattle.market_model.specs.NamedSums.{IsRefusedIn, IsRefusal}
+use Rattle.market_model.specs.NamedSums.{IsRefusedIn, IsRefusal, IsShareRefusal}
 use Rattle.market_model.specs.Optimality.{up_of, down_of, named_rows, congestion_terms, price_terms}
 use Rattle.market_model.specs.Valued.{passed_at}
-use Rattle.limit_rows.specs.LineFlows.{IsShareRefusal}
 use Rattle.cert_sums.specs.declared.stops.VerifyStop.{VerifyStop}
 use Rattle.cert_sums.specs.declared.stops.VerifyStop.TheVariants as why
 use Rattle.cert_sums.specs.Named.{PricedRow}
 
 -- why a sum was not added up: an operation was refused, of which this holds, or memory was
-abbrev pub IsStopped : {N : Type 0} → (N → Fraction) → (Passed Fraction → Type 0) → VerifyStop N → Type 0
-IsStopped value refused (why.Range p) = refused (passed_at value p)
-IsStopped value refused why.Memory = Unit {0}
+abbrev pub OnPassed : {N : Type 0} → (N → Fraction) → (Passed Fraction → Type 0) → VerifyStop N → Type 0
+OnPassed value refused (why.Range p) = refused (passed_at value p)
+OnPassed value refused why.Memory = Unit {0}
 
 -- the two prices of a row that duals name
 abbrev pub IsPricesRefusal : Parts → Duals Fraction → ℕ → Passed Fraction → Type 0
@@ -35,8 +34,8 @@ IsPriceRefusal m d i bound p = IsCongestionRefusal m d i bound p ⊎ IsRefusedIn
 
 -- ---- the same step by step
 -- the two prices of a row, or what they take by a factor
-abbrev pub IsPullRefusal : Fraction → Fraction → Fraction → Fraction → ℕ → Passed Fraction → Type 0
-IsPullRefusal sum up down k bound p = IsRefusal Minus up down bound p ⊎ IsShareRefusal sum (neg_ℚ (up -ℚ down)) k bound p
+abbrev pub IsNetPriceRefusal : Fraction → Fraction → Fraction → Fraction → ℕ → Passed Fraction → Type 0
+IsNetPriceRefusal sum up down k bound p = IsRefusal Minus up down bound p ⊎ IsShareRefusal sum (neg_ℚ (up -ℚ down)) k bound p
 
 -- what a flow leaves of a limit, or what a price makes of that
 abbrev pub IsAboveRefusal : Fraction → Fraction → Fraction → Fraction → ℕ → Passed Fraction → Type 0

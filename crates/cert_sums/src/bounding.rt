@@ -4,15 +4,16 @@ ghost use Rattle.std.specs.Prelude.{◌≡◌, ◌<◌, pos, ◌≤ℤ◌, lengt
 ghost use Rattle.fraction_theory.specs.Fraction.{Fraction, whole, ◌+ℚ◌, ◌-ℚ◌, ◌*ℚ◌};
 ghost use Rattle.fraction_theory.specs.Sums.{total};
 ghost use Rattle.market_model.specs.declared.answered.Duals.{Duals};
-ghost use Rattle.market_model.specs.Dispatch.{Dispatch, balance, empty, signed, zero};
+ghost use Rattle.market_model.specs.Dispatch.{Dispatch, balance, empty, signed_by_side, zero};
 ghost use Rattle.market_model.specs.Infeasibility.{farkas_bound, part_above};
 ghost use Rattle.market_model.specs.LimitRows.{IsCauseAmong, flow, limit};
 ghost use Rattle.market_model.specs.Valued.{passed_at};
-ghost use Rattle.limit_rows.specs.LineFlows.{AreFlows, IsShareRefusal};
+ghost use Rattle.market_model.specs.NamedSums.{IsShareRefusal};
+ghost use Rattle.limit_rows.specs.LineFlows.{AreFlows};
 ghost use Rattle.cert_sums.specs.Bounds.{left_at, limits_terms};
 ghost use Rattle.cert_sums.specs.Named.{AreNamed, priced_at};
 ghost use Rattle.cert_sums.specs.Pairs.{IsFarkasPair};
-ghost use Rattle.cert_sums.specs.Refusals.{IsAboveRefusal, IsBelowRefusal, IsLimitRefusal, IsStopped};
+ghost use Rattle.cert_sums.specs.Refusals.{IsAboveRefusal, IsBelowRefusal, IsLimitRefusal, OnPassed};
 
 use crate::{NamedRow, VerifyStop, balance, bus_price, injections, line_flows};
 use exact_fraction::{Exact, Passed, Sign};
@@ -96,7 +97,7 @@ fn quantity_of<N: Exact>(block: &Block) -> N
 
 /// What a MW of a block makes: the price at its bus where it is sold, the opposite where it is bought.
 fn weight<N: Exact>(block: &Block, price: N) -> N
-    ensures { N.value result ≡ signed block.now.side (N.value price) }
+    ensures { N.value result ≡ signed_by_side block.now.side (N.value price) }
 {
     match block.side {
         Side::Sell => price,
@@ -161,7 +162,7 @@ pub fn farkas_bound<N: Exact>(
 ) -> Result<N, VerifyStop<N>>
     requires { (d : Duals Fraction) × AreNamed N.value market.now d named.now }
     ensures bound { (d : Duals Fraction) → N.value energy ≡ d.energy → AreNamed N.value market.now d named.now → IfOk result (λ bound. N.value bound ≡ farkas_bound market.now d) }
-    ensures cause { (d : Duals Fraction) → N.value energy ≡ d.energy → AreNamed N.value market.now d named.now → IfErr result (IsStopped N.value (IsFarkasPair market.now d N.bound)) }
+    ensures cause { (d : Duals Fraction) → N.value energy ≡ d.energy → AreNamed N.value market.now d named.now → IfErr result (OnPassed N.value (IsFarkasPair market.now d N.bound)) }
 {
     let nothing = nothing(alloc, market.blocks().len())?;
     let by_bus = injections(alloc, market, nothing.slice())?;

@@ -7,7 +7,7 @@ ghost use Rattle.market_model.specs.declared.answered.Duals.{Duals};
 ghost use Rattle.market_model.specs.Optimality.{bus_price, congestion};
 ghost use Rattle.market_model.specs.Valued.{passed_at};
 ghost use Rattle.cert_sums.specs.Named.{AreNamed};
-ghost use Rattle.cert_sums.specs.Refusals.{IsCongestionRefusal, IsPriceRefusal, IsPullRefusal};
+ghost use Rattle.cert_sums.specs.Refusals.{IsCongestionRefusal, IsPriceRefusal, IsNetPriceRefusal};
 
 use exact_fraction::{Exact, Passed};
 use limit_rows::factor_at;
@@ -25,16 +25,18 @@ pub struct NamedRow<N> {
 }
 
 /// A sum less what the prices of a row take by its factor in 10^-12. A factor of 0 takes nothing.
-fn less_pull<N: Exact>(sum: N, up: N, down: N, factor: i64) -> Result<N, Passed<N>>
+fn less_net_price<N: Exact>(sum: N, up: N, down: N, factor: i64) -> Result<N, Passed<N>>
     requires { unsigned_abs factor < 2 ^ 63 }
     ensures sum { IfOk result (λ more. N.value more ≡ N.value sum +ℚ neg_ℚ (N.value up -ℚ N.value down) *ℚ over factor factor_product_one) }
-    ensures cause { IfErr result (λ passed. IsPullRefusal (N.value sum) (N.value up) (N.value down) (over factor factor_product_one) N.bound (passed_at N.value passed)) }
+    ensures cause { IfErr result (λ passed. IsNetPriceRefusal (N.value sum) (N.value up) (N.value down) (over factor factor_product_one) N.bound (passed_at N.value passed)) }
 {
     if factor == 0 {
         return Ok(sum);
     }
-    let pull = up.minus(down)?;
-    let share = pull.neg().times(N::of_parts(factor, FACTOR_PRODUCT_ONE))?;
+    let net_price = up.minus(down)?;
+    let share = net_price
+        .neg()
+        .times(N::of_parts(factor, FACTOR_PRODUCT_ONE))?;
     sum.plus(share)
 }
 
@@ -52,7 +54,7 @@ fn congestion_at<N: Exact>(
     let _lines = market.lines();
     let mut sum: N = N::of_parts(0, 1);
     for entry in named {
-        sum = less_pull(sum, entry.up, entry.down, factor_at(market, entry.row, bus))?;
+        sum = less_net_price(sum, entry.up, entry.down, factor_at(market, entry.row, bus))?;
     }
     Ok(sum)
 }

@@ -5,7 +5,7 @@ ghost use Rattle.market_model.specs.Dispatch.{Dispatch, balance, balance_terms};
 ghost use Rattle.market_model.specs.NamedSums.{IsRefusedIn};
 ghost use Rattle.market_model.specs.PutIn.{dispatch_of, AreInjections, IsInjectionRefusal};
 ghost use Rattle.market_model.specs.Valued.{passed_at};
-ghost use Rattle.cert_sums.specs.Refusals.{IsStopped};
+ghost use Rattle.cert_sums.specs.Refusals.{OnPassed};
 
 use crate::VerifyStop;
 use exact_fraction::{Exact, Passed};
@@ -21,7 +21,7 @@ pub fn injections<N: Exact>(
     requires { length dispatch.now ≡ length market.now.blocks }
     ensures count { IfOk result (λ mws. vec_len mws ≡ length market.now.buses) }
     ensures injections { IfOk result (λ mws. AreInjections market.now (dispatch_of N.value dispatch.now) (map N.value mws.items)) }
-    ensures cause { IfErr result (IsStopped N.value (IsInjectionRefusal market.now (dispatch_of N.value dispatch.now) N.bound)) }
+    ensures cause { IfErr result (OnPassed N.value (IsInjectionRefusal market.now (dispatch_of N.value dispatch.now) N.bound)) }
 {
     let none: N = datum(0);
     let mut mws = match vec![in alloc; none; market.buses().len()] {

@@ -1,6 +1,6 @@
 -- The first that a test finds, as a loop comes to it.
 use Rattle.std.specs.Prelude.{◌≡◌, ℕ, ◌+◌, ◌<◌, ◌≤◌, Bool, true, false, cond, List, [], ◌∷◌, ◌++◌, length, map, filter, Option, Some, None, option_map, is_some, if◌then◌else◌, refl}
-use Rattle.std.specs.List.{find, flat_map, slice_get}
+use Rattle.std.specs.List.{find, slice_get}
 use Rattle.std.specs.Option.{option_or}
 use Rattle.std.proofs.Common.{zero, suc, arith, ap, sym, subst, ◌∙◌, get_or, take}
 use Rattle.std.proofs.lemmas.Bool.{true≢false}
@@ -11,7 +11,7 @@ use Rattle.market_model.specs.declared.participants.Parts.{Parts}
 use Rattle.market_model.specs.Dispatch.{places}
 use Rattle.market_model.specs.declared.limits.Row.{Row}
 use Rattle.market_model.specs.declared.limits.Cause.{Cause}
-use Rattle.market_model.specs.LimitRows.{rows, bears, causes, lines_of, rows_of}
+use Rattle.market_model.specs.LimitRows.{rows, bears, causes, rows_of}
 use Rattle.market_model.proofs.MorePlaces.{places_more}
 use Rattle.limit_rows.proofs.GroupLemmas.{places_at, rows-more}
 use Rattle.limit_rows.proofs.NameLemmas.{causes_round, rows_round}

@@ -1,5 +1,5 @@
 -- The duals of rows by their names.
-use Rattle.std.specs.Prelude.{◌≡◌, ◌≢◌, ◌==◌, ◌&&◌, ◌||◌, ℕ, ◌<◌, ◌≤◌, ◌+◌, Bool, true, false, cond, List, [], ◌∷◌, ◌++◌, length, map, filter, AllPairs, MatchOption, Option, Result, Ok, Err, MatchResult, IfOk, is_err, Some, None, if◌then◌else◌, refl}
+use Rattle.std.specs.Prelude.{◌≡◌, ◌≢◌, ◌==◌, ◌||◌, ℕ, ◌<◌, ◌≤◌, ◌+◌, Bool, true, false, cond, List, [], ◌∷◌, ◌++◌, length, map, filter, AllPairs, Option, Result, Ok, Err, MatchResult, IfOk, is_err, Some, None, if◌then◌else◌, refl}
 use Rattle.std.specs.List.{slice_get}
 use Rattle.std.specs.Map.{lookup}
 use Rattle.std.proofs.Common.{zero, suc, arith, ap, ap₂, sym, subst, ◌∙◌, append_assoc, get_or, take}
@@ -15,8 +15,8 @@ use Rattle.market_model.specs.declared.answered.RowId.{RowId}
 use Rattle.market_model.specs.declared.participants.Parts.{Parts}
 use Rattle.market_model.specs.declared.limits.Row.{Row}
 use Rattle.market_model.specs.declared.limits.Cause.{Cause}
-use Rattle.market_model.specs.LimitRows.{rows, row_id, causes, rows_of}
-use Rattle.market_model.specs.Optimality.{is_named, named_rows, same_id, up_in, down_in}
+use Rattle.market_model.specs.LimitRows.{row_id, causes, rows_of}
+use Rattle.market_model.specs.Optimality.{names_row, same_id, up_in, down_in}
 use Rattle.market_model.specs.Valued.{dual_at}
 use Rattle.market_model.specs.Dispatch.{places}
 use Rattle.market_model.proofs.MorePlaces.{places_more}
@@ -26,7 +26,7 @@ use Rattle.limit_rows.proofs.PlaceLemmas.{same_name}
 use Rattle.cert_format.specs.Certificates.{NamesNoRowTwice}
 use Rattle.cert_sums.specs.declared.pricing.NamedRow.{NamedRow}
 use Rattle.cert_sums.specs.Named.{AreNamed, PricedRow, priced_at, priced_by}
-use Rattle.cert_verify.specs.Certificates.{duals_by}
+use Rattle.cert_verify.specs.Certificates.{named_duals}
 use Rattle.cert_verify.specs.Naming.{IsNamedAt, entry_of, name_of, prices_of, rows_at, same_pair}
 use Rattle.cert_verify.proofs.FindLemmas.{lines_step, rows_to}
 use Rattle.cert_verify.proofs.VerdictLemmas.{other_id, own_id}
@@ -45,7 +45,7 @@ same_pair-id id row = by (same_id row id) (same_pair (name_of id) (name_of row))
 
 -- what a name has among duals
 pub record IsDualOf {N : Type 0} (value : N → Fraction) (ds : List (Dual N)) (id : RowId) (e : Dual N) : Type 0 where
-  pub named : is_named (map (dual_at value) ds) id ≡ true
+  pub named : names_row (map (dual_at value) ds) id ≡ true
   pub up : up_in (map (dual_at value) ds) id ≡ value e.up
   pub down : down_in (map (dual_at value) ds) id ≡ value e.down
 
@@ -53,13 +53,13 @@ module _ {N : Type 0} (value : N → Fraction) (id : RowId) where
   abbrev found : List (Dual N) → Option (Dual N)
   found ds = lookup (same_pair (name_of id)) (map entry_of ds)
 
-  pub not_named : (ds : List (Dual N)) → found ds ≡ None → is_named (map (dual_at value) ds) id ≡ false
+  pub not_named : (ds : List (Dual N)) → found ds ≡ None → names_row (map (dual_at value) ds) id ≡ false
   not_named [] e = refl
   not_named (d ∷ ds) e = by (same_id d.row id) refl (subst (λ (b : Bool). (if b then Some d else found ds) ≡ None) (same_pair-id id d.row) e) (λ h. not_named ds h)
     where
-      by : (b : Bool) → same_id d.row id ≡ b → (if b then Some d else found ds) ≡ None → (found ds ≡ None → is_named (map (dual_at value) ds) id ≡ false) → (same_id d.row id || is_named (map (dual_at value) ds) id) ≡ false
+      by : (b : Bool) → same_id d.row id ≡ b → (if b then Some d else found ds) ≡ None → (found ds ≡ None → names_row (map (dual_at value) ds) id ≡ false) → (same_id d.row id || names_row (map (dual_at value) ds) id) ≡ false
       by true t h more = absurd Prim.cc
-      by false t h more = ap (λ (b : Bool). b || is_named (map (dual_at value) ds) id) t ∙ more h
+      by false t h more = ap (λ (b : Bool). b || names_row (map (dual_at value) ds) id) t ∙ more h
 
   pub dual_named : (ds : List (Dual N)) (e : Dual N) → found ds ≡ Some e → IsDualOf value ds id e
   dual_named [] e h = absurd Prim.cc
@@ -68,13 +68,13 @@ module _ {N : Type 0} (value : N → Fraction) (id : RowId) where
       by : (b : Bool) → same_id d.row id ≡ b → (if b then Some d else found ds) ≡ Some e → (found ds ≡ Some e → IsDualOf value ds id e) → IsDualOf value (d ∷ ds) id e
       by true t g more =
           let same : d ≡ e = Prim.cc in record {
-            named = ap (λ (b : Bool). b || is_named (map (dual_at value) ds) id) t;
+            named = ap (λ (b : Bool). b || names_row (map (dual_at value) ds) id) t;
             up = ap (λ (b : Bool). if b then value d.up else up_in (map (dual_at value) ds) id) t ∙ ap (λ (f : Dual N). value f.up) same;
             down = ap (λ (b : Bool). if b then value d.down else down_in (map (dual_at value) ds) id) t ∙ ap (λ (f : Dual N). value f.down) same;
           }
       by false t g more =
           let r = more g in record {
-            named = ap (λ (b : Bool). b || is_named (map (dual_at value) ds) id) t ∙ r.named;
+            named = ap (λ (b : Bool). b || names_row (map (dual_at value) ds) id) t ∙ r.named;
             up = ap (λ (b : Bool). if b then value d.up else up_in (map (dual_at value) ds) id) t ∙ r.up;
             down = ap (λ (b : Bool). if b then value d.down else down_in (map (dual_at value) ds) id) t ∙ r.down;
           }
@@ -110,7 +110,7 @@ entries_more {N} ds i e lt at =
 module _ {N : Type 0} (value : N → Fraction) (m : Parts) where
   -- what is found under the name of a row
   pub named_is : (ds : List (Dual N)) (energy : Fraction) (row : Row) (e : Dual N) → lookup (same_pair (name_of (row_id m row))) (map entry_of ds) ≡ Some e
-      → IsNamedAt value m (duals_by energy (map (dual_at value) ds)) row (Some (record { row = row; up = e.up; down = e.down }))
+      → IsNamedAt value m (named_duals energy (map (dual_at value) ds)) row (Some (record { row = row; up = e.up; down = e.down }))
   named_is ds energy row e found =
       let is = dual_named value (row_id m row) ds e found in
       (is.named, ap₂ (λ (u w : Fraction). record { row = row; up = u; down = w }) (sym is.up) (sym is.down))
@@ -121,14 +121,14 @@ module _ {N : Type 0} (value : N → Fraction) (m : Parts) where
         map-append (priced_at value) xs (e ∷ []) ∙ ap (λ (y : PricedRow). map (priced_at value) xs ++ y ∷ []) is.1
         ∙ ap (λ (b : Bool). map (priced_at value) xs ++ map (priced_by m d) (cond b (r ∷ []) [])) (sym is.0)
 
-    pub row_passed : (r : Row) (xs : List (NamedRow N)) → is_named d.limits (row_id m r) ≡ false → map (priced_at value) xs ≡ map (priced_at value) xs ++ prices_of m d (r ∷ [])
+    pub row_passed : (r : Row) (xs : List (NamedRow N)) → names_row d.limits (row_id m r) ≡ false → map (priced_at value) xs ≡ map (priced_at value) xs ++ prices_of m d (r ∷ [])
     row_passed r xs free =
         sym (append-nil (map (priced_at value) xs)) ∙ ap (λ (b : Bool). map (priced_at value) xs ++ map (priced_by m d) (cond b (r ∷ []) [])) (sym free)
 
     prices_join : (rs ss : List Row) → prices_of m d (rs ++ ss) ≡ prices_of m d rs ++ prices_of m d ss
     prices_join rs ss =
-        ap (map (priced_by m d)) (filter-append (λ r. is_named d.limits (row_id m r)) rs ss)
-        ∙ map-append (priced_by m d) (filter (λ r. is_named d.limits (row_id m r)) rs) (filter (λ r. is_named d.limits (row_id m r)) ss)
+        ap (map (priced_by m d)) (filter-append (λ r. names_row d.limits (row_id m r)) rs ss)
+        ∙ map-append (priced_by m d) (filter (λ r. names_row d.limits (row_id m r)) rs) (filter (λ r. names_row d.limits (row_id m r)) ss)
 
     pub line_named : (cause : Cause) (k : ℕ) (front old new : List PricedRow) → old ≡ front ++ prices_of m d (rows_to m cause k) → new ≡ old ++ prices_of m d (rows_at m cause k) → new ≡ front ++ prices_of m d (rows_to m cause (k + 1))
     line_named cause k front old new before more =

@@ -1,5 +1,5 @@
 -- What is looked up of a row by its name, and the operations refused.
-use Rattle.std.specs.Prelude.{◌≡◌, ◌≢◌, ◌⊎◌, ◌&&◌, ◌<◌, ℕ, Bool, true, false, not, List, length, Contains, Option, Some, None, MatchOption, IfSome, is_some, refl}
+use Rattle.std.specs.Prelude.{◌≡◌, ◌≢◌, ◌&&◌, ◌<◌, ℕ, Bool, true, false, not, List, length, Contains, Option, Some, None, MatchOption, is_some, refl}
 use Rattle.std.specs.List.{list_any}
 use Rattle.std.proofs.Common.{inl, inr, ap, sym, subst, ◌∙◌}
 use Rattle.std.proofs.lemmas.Bool.{true≢false}
@@ -13,24 +13,22 @@ use Rattle.market_model.specs.declared.limits.Row.{Row}
 use Rattle.market_model.specs.declared.limits.Cause.TheVariants.{Base, Branch}
 use Rattle.market_model.specs.declared.limits.Cause.{Cause}
 use Rattle.fraction_theory.specs.Sums.{total}
-use Rattle.market_model.specs.LimitRows.{IsCauseAmong, rows, row_id, limit, line_flow, flow, flow_by, flow_terms, bears, causes}
+use Rattle.market_model.specs.LimitRows.{IsCauseAmong, rows, row_id, limit, line_flow, flow, flow_by, flow_terms, causes}
 use Rattle.market_model.specs.Market.{IsMarket}
 use Rattle.market_model.specs.NamedSums.{IsRefusedIn}
 use Rattle.market_model.specs.Valued.{passed_at}
 use Rattle.limit_rows.proofs.ApartLemmas.{same_row}
-use Rattle.limit_rows.proofs.NumberingLemmas.{row_on}
-use Rattle.limit_rows.proofs.PlaceLemmas.{lost_inside, row_to, same_name}
+use Rattle.limit_rows.proofs.PlaceLemmas.{lost_inside, same_name}
 use Rattle.cert_sums.specs.declared.stops.VerifyStop.{VerifyStop}
 use Rattle.cert_sums.specs.declared.stops.VerifyStop.TheVariants as why
 use Rattle.cert_sums.specs.Pairs.{IsOptimalPair, in_flow, in_price, of_prices}
 use Rattle.market_model.specs.SumTables.{injection_at, balance_of_all, flow_of_line, flow_of_row, congestion_at, price_at}
 use Rattle.limit_rows.specs.LineFlows.{AreFlows, IsLineRefusal}
-use Rattle.limit_rows.proofs.FactorLemmas.{stands}
 use Rattle.limit_rows.proofs.FlowSteps.{row_terms_are}
 use Rattle.market_model.specs.PutIn.{put_in, IsInjectionRefusal}
-use Rattle.cert_sums.specs.Refusals.{IsPriceRefusal, IsStopped}
+use Rattle.cert_sums.specs.Refusals.{IsPriceRefusal, OnPassed}
 use Rattle.cert_verify.specs.Reasons.{has_no_row, has_slack, is_of, prices_slack}
-use Rattle.cert_verify.proofs.TestLemmas.{any_of, any_none, any_true, not_both, not_true}
+use Rattle.cert_verify.proofs.TestLemmas.{any_of, any_none, not_both, not_true}
 use Rattle.cert_verify.proofs.VerdictLemmas.{named}
 
 -- ---- a row by its name
@@ -83,7 +81,7 @@ module _ (m : Parts) (x : Dispatch) (flows : List Fraction) (are : AreFlows m x 
   refused_there bound p h = subst (λ ts. IsRefusedIn ts bound p) (row_terms_are m x flows are r line lost) h
 
 -- ---- refusals
-pub stopped_by : {N : Type 0} (value : N → Fraction) (p q : Passed Fraction → Type 0) (s : VerifyStop N) → ((e : Passed Fraction) → p e → q e) → IsStopped value p s → IsStopped value q s
+pub stopped_by : {N : Type 0} (value : N → Fraction) (p q : Passed Fraction → Type 0) (s : VerifyStop N) → ((e : Passed Fraction) → p e → q e) → OnPassed value p s → OnPassed value q s
 stopped_by value p q (why.Range e) to h = to (passed_at value e) h
 stopped_by value p q why.Memory to h = tt
 

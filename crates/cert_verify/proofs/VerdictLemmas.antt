@@ -1,7 +1,7 @@
 -- A certificate has no reason against it exactly where it is true of the market.
-use Rattle.std.specs.Prelude.{◌≡◌, ◌≢◌, ◌⊎◌, ◌↔◌, ◌==◌, ◌&&◌, ◌<◌, ◌+◌, ℕ, Bool, true, false, not, List, [], ◌∷◌, length, All, AllPairs, Contains, Option, None, if◌then◌else◌, refl}
+use Rattle.std.specs.Prelude.{◌≡◌, ◌≢◌, ◌⊎◌, ◌==◌, ◌&&◌, ◌<◌, ◌+◌, ℕ, Bool, true, false, not, List, [], ◌∷◌, length, AllPairs, Contains, None, if◌then◌else◌, refl}
 use Rattle.std.specs.List.{list_any}
-use Rattle.std.proofs.Common.{suc, arith, inl, inr, ap, sym, subst, ◌∙◌, get_or}
+use Rattle.std.proofs.Common.{suc, arith, inl, inr, ap, sym, subst, ◌∙◌}
 use Rattle.std.proofs.lemmas.Bool.{or_parts, eq-eqb, eqb-true}
 use Rattle.std.proofs.lemmas.List.Elements.{All-contains}
 use Rattle.fraction_theory.specs.Fraction.{Fraction, neg_ℚ}
@@ -15,13 +15,13 @@ use Rattle.market_model.specs.declared.participants.Parts.{Parts}
 use Rattle.market_model.specs.declared.participants.Side.{Side}
 use Rattle.market_model.specs.declared.participants.Side.TheVariants.{Sell, Buy}
 use Rattle.market_model.specs.Dispatch.{Dispatch, zero, places, block_at, accepted, quantity, balance}
-use Rattle.market_model.specs.Infeasibility.{ShowsInfeasible, farkas_bound}
+use Rattle.market_model.specs.Infeasibility.{farkas_bound}
 use Rattle.market_model.specs.declared.limits.Row.{Row}
 use Rattle.market_model.specs.LimitRows.{rows, row_id, limit, flow, most_flow}
-use Rattle.market_model.specs.Optimality.{BlockSupported, Feasible, Gains, Loses, RowSupported, Supports, Within, same_id, up_in, down_in, up_of, down_of, price, unit_price}
+use Rattle.market_model.specs.Optimality.{BlockSupported, Gains, Loses, RowSupported, Supports, Within, same_id, up_in, down_in, up_of, down_of, price, unit_price}
 use Rattle.limit_rows.proofs.PlaceLemmas.{same_name}
 use Rattle.cert_verify.specs.declared.verdicts.Reason.TheVariants as reason
-use Rattle.cert_verify.specs.Certificates.{IsInfeasible, IsOptimum, NamesRows}
+use Rattle.cert_verify.specs.Certificates.{ProvesInfeasible, IsOptimum, NamesRows}
 use Rattle.cert_verify.specs.Reasons.{bound_reason, block_reason, count_reason, balance_reason, differ, farkas_reasons, first_of, gains, has_negative, has_no_row, has_slack, is_below, is_beyond, is_broken, is_of, is_unsupported, limit_reason, loses, optimal_reasons, prices_slack, row_reason, sign_reason, slack_reason, support_reason}
 use Rattle.cert_verify.proofs.TestLemmas.{below_true, below_of, not_below, below_not, same_by, same_not, neither, not_both, then_not, not_false, not_true, any_true, any_of, any_false, any_none, all_by, in_places, from_places, none_of, of_none, not_so, so_none, all_none, none_first}
 
@@ -296,7 +296,7 @@ module _ (m : Parts) (x : Dispatch) (d : Duals Fraction) where
 
 -- ---- duals that show that nothing is feasible
 module _ (m : Parts) (d : Duals Fraction) where
-  pub farkas_to : first_of (farkas_reasons m d) ≡ None → IsInfeasible m d
+  pub farkas_to : first_of (farkas_reasons m d) ≡ None → ProvesInfeasible m d
   farkas_to none =
       let all = all_none (farkas_reasons m d) none in record {
         rows = names_to m d.limits all.0;
@@ -307,7 +307,7 @@ module _ (m : Parts) (d : Duals Fraction) where
         };
       }
 
-  pub farkas_from : Apart d.limits → IsInfeasible m d → first_of (farkas_reasons m d) ≡ None
+  pub farkas_from : Apart d.limits → ProvesInfeasible m d → first_of (farkas_reasons m d) ≡ None
   farkas_from apart h =
       let names : row_reason m d.limits ≡ None = names_from m d.limits h.rows in
       let signs : sign_reason d.limits ≡ None = signs_of m d apart h.rows h.shows.up_signs h.shows.down_signs in

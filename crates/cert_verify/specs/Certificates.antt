@@ -16,7 +16,7 @@ use Rattle.cert_format.specs.declared.certificate.Cert.{Cert}
 use Rattle.cert_format.specs.declared.certificate.Cert.TheVariants.{Optimal, Farkas}
 use Rattle.cert_sums.specs.declared.stops.VerifyStop.{VerifyStop}
 use Rattle.cert_sums.specs.Pairs.{IsFarkasPair, IsOptimalPair}
-use Rattle.cert_sums.specs.Refusals.{IsStopped}
+use Rattle.cert_sums.specs.Refusals.{OnPassed}
 use Rattle.cert_verify.specs.Reasons.{first_of, optimal_reasons, farkas_reasons}
 use Rattle.cert_verify.specs.declared.verdicts.Reason.{Reason}
 
@@ -25,13 +25,13 @@ abbrev pub dispatch_by : List Fraction → Dispatch
 dispatch_by blocks = record { blocks = blocks }
 
 -- a price of energy, and those of rows
-abbrev pub duals_by : Fraction → List (Dual Fraction) → Duals Fraction
-duals_by energy limits = record { energy = energy; limits = limits }
+abbrev pub named_duals : Fraction → List (Dual Fraction) → Duals Fraction
+named_duals energy limits = record { energy = energy; limits = limits }
 
 -- the first reason against a certificate, where there is one
 abbrev pub first_reason : Parts → Cert Fraction → Option Reason
-first_reason m (Optimal blocks energy limits) = first_of (optimal_reasons m (dispatch_by blocks) (duals_by energy limits))
-first_reason m (Farkas energy limits) = first_of (farkas_reasons m (duals_by energy limits))
+first_reason m (Optimal blocks energy limits) = first_of (optimal_reasons m (dispatch_by blocks) (named_duals energy limits))
+first_reason m (Farkas energy limits) = first_of (farkas_reasons m (named_duals energy limits))
 
 -- each row that the duals name is a row of the market
 abbrev pub NamesRows : Parts → List (Dual Fraction) → Type 0
@@ -45,20 +45,20 @@ pub record IsOptimum (m : Parts) (x : Dispatch) (d : Duals Fraction) : Type 0 wh
   pub supported : Supports m x d
 
 -- duals of rows of the market that show that nothing is feasible
-pub record IsInfeasible (m : Parts) (d : Duals Fraction) : Type 0 where
+pub record ProvesInfeasible (m : Parts) (d : Duals Fraction) : Type 0 where
   pub rows : NamesRows m d.limits
   pub shows : ShowsInfeasible m d
 
 -- the certificate is true of the market
-abbrev pub Holds : Parts → Cert Fraction → Type 0
-Holds m (Optimal blocks energy limits) = IsOptimum m (dispatch_by blocks) (duals_by energy limits)
-Holds m (Farkas energy limits) = IsInfeasible m (duals_by energy limits)
+abbrev pub IsTrueOf : Parts → Cert Fraction → Type 0
+IsTrueOf m (Optimal blocks energy limits) = IsOptimum m (dispatch_by blocks) (named_duals energy limits)
+IsTrueOf m (Farkas energy limits) = ProvesInfeasible m (named_duals energy limits)
 
 -- ---- why there may be no verdict
 -- memory was refused, or an operation in the sums of the certificate's own dispatch and duals, which passes the bound of the numbers
 abbrev pub IsVerifyStop : {N : Type 0} → (N → Fraction) → Parts → ℕ → Cert Fraction → VerifyStop N → Type 0
-IsVerifyStop value m bound (Optimal blocks energy limits) = IsStopped value (IsOptimalPair m (dispatch_by blocks) (duals_by energy limits) bound)
-IsVerifyStop value m bound (Farkas energy limits) = IsStopped value (IsFarkasPair m (duals_by energy limits) bound)
+IsVerifyStop value m bound (Optimal blocks energy limits) = OnPassed value (IsOptimalPair m (dispatch_by blocks) (named_duals energy limits) bound)
+IsVerifyStop value m bound (Farkas energy limits) = OnPassed value (IsFarkasPair m (named_duals energy limits) bound)
 
 -- ---- the certificates of answers
 abbrev pub cert_of : Answer Fraction → Cert Fraction

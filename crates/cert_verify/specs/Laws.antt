@@ -14,13 +14,13 @@ use Rattle.market_model.specs.RightAnswers.{IsRight}
 use Rattle.cert_format.specs.declared.certificate.Cert.{Cert}
 use Rattle.cert_format.specs.declared.certificate.Cert.TheVariants.{Optimal, Farkas}
 use Rattle.cert_format.specs.Certificates.{RowsAreDistinct}
-use Rattle.cert_verify.specs.Certificates.{Holds, first_reason, dispatch_by, cert_of, cert_against}
+use Rattle.cert_verify.specs.Certificates.{IsTrueOf, first_reason, dispatch_by, cert_of, cert_against}
 use Rattle.cert_verify.specs.Reasons.{verdict_of}
 use Rattle.cert_verify.specs.declared.verdicts.Verdict.TheVariants.{Yes}
 
 -- a certificate that names no row twice is answered by yes exactly where it is true of the market
 abbrev pub LawOfTheVerdict : Type 0
-LawOfTheVerdict = (m : Parts) (c : Cert Fraction) → RowsAreDistinct c → (verdict_of (first_reason m c) ≡ Yes) ↔ Holds m c
+LawOfTheVerdict = (m : Parts) (c : Cert Fraction) → RowsAreDistinct c → (verdict_of (first_reason m c) ≡ Yes) ↔ IsTrueOf m c
 
 -- its dispatch is then feasible, and no feasible one is worth more
 abbrev pub LawOfTheBest : Type 0

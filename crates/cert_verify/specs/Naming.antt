@@ -8,7 +8,7 @@ use Rattle.market_model.specs.declared.participants.Parts.{Parts}
 use Rattle.market_model.specs.declared.limits.Row.{Row}
 use Rattle.market_model.specs.declared.limits.Cause.{Cause}
 use Rattle.market_model.specs.LimitRows.{row_id, bears}
-use Rattle.market_model.specs.Optimality.{is_named}
+use Rattle.market_model.specs.Optimality.{names_row}
 use Rattle.cert_sums.specs.declared.pricing.NamedRow.{NamedRow}
 use Rattle.cert_sums.specs.Named.{PricedRow, priced_at, priced_by}
 
@@ -29,8 +29,8 @@ rows_at m cause line = if bears m cause line then record { line = line; cause = 
 
 -- a row with its prices, where duals name it
 abbrev pub IsNamedAt : {N : Type 0} → (N → Fraction) → Parts → Duals Fraction → Row → Option (NamedRow N) → Type 0
-IsNamedAt value m d r found = MatchOption found (is_named d.limits (row_id m r) ≡ false) (λ e. (is_named d.limits (row_id m r) ≡ true) × (priced_at value e ≡ priced_by m d r))
+IsNamedAt value m d r found = MatchOption found (names_row d.limits (row_id m r) ≡ false) (λ e. (names_row d.limits (row_id m r) ≡ true) × (priced_at value e ≡ priced_by m d r))
 
 -- the prices of those rows that duals name
 abbrev pub prices_of : Parts → Duals Fraction → List Row → List PricedRow
-prices_of m d rs = map (priced_by m d) (filter (λ r. is_named d.limits (row_id m r)) rs)
+prices_of m d rs = map (priced_by m d) (filter (λ r. names_row d.limits (row_id m r)) rs)

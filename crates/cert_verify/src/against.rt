@@ -8,9 +8,9 @@ ghost use Rattle.market_model.specs.Optimality.{bus_price};
 ghost use Rattle.market_model.specs.Valued.{dual_at};
 ghost use Rattle.cert_format.specs.Certificates.{NamesNoRowTwice};
 ghost use Rattle.cert_sums.specs.Pairs.{IsFarkasPair, IsOptimalPair};
-ghost use Rattle.cert_sums.specs.Refusals.{IsPriceRefusal, IsStopped};
+ghost use Rattle.cert_sums.specs.Refusals.{IsPriceRefusal, OnPassed};
 ghost use Rattle.market_model.specs.PutIn.{dispatch_of};
-ghost use Rattle.cert_verify.specs.Certificates.{duals_by};
+ghost use Rattle.cert_verify.specs.Certificates.{named_duals};
 ghost use Rattle.cert_verify.specs.declared.verdicts.Reason.TheVariants as reason;
 ghost use Rattle.cert_verify.specs.Reasons.{balance_reason, block_reason, bound_reason, count_reason, farkas_reasons, first_of, is_below, limit_reason, optimal_reasons, row_reason, sign_reason, slack_reason, support_reason, where_so};
 
@@ -50,7 +50,7 @@ fn wrong_flow<N: Exact>(
 ) -> Result<Option<Reason>, VerifyStop<N>>
     requires { length blocks.now ≡ length market.now.blocks }
     ensures first { IfOk result (λ first. first ≡ first_of (balance_reason market.now (dispatch_of N.value blocks.now) ∷ limit_reason market.now (dispatch_of N.value blocks.now) ∷ slack_reason market.now (dispatch_of N.value blocks.now) (map (dual_at N.value) limits.now) ∷ [])) }
-    ensures cause { (d : Duals Fraction) → IfErr result (IsStopped N.value (IsOptimalPair market.now (dispatch_of N.value blocks.now) d N.bound)) }
+    ensures cause { (d : Duals Fraction) → IfErr result (OnPassed N.value (IsOptimalPair market.now (dispatch_of N.value blocks.now) d N.bound)) }
 {
     let by_bus = injections(alloc, market, blocks)?;
     if differ(balance(market, &by_bus)?, datum(0)) {
@@ -71,8 +71,8 @@ fn bus_prices<N: Exact>(
     limits: &[Dual<N>],
 ) -> Result<List<N>, VerifyStop<N>>
     requires { NamesNoRowTwice (map (dual_at N.value) limits.now) }
-    ensures prices { IfOk result (λ prices. map N.value prices ≡ map (bus_price market.now (duals_by (N.value energy) (map (dual_at N.value) limits.now))) (places (length market.now.buses))) }
-    ensures cause { IfErr result (IsStopped N.value (λ p. (bus : ℕ) × (bus < length market.now.buses) × IsPriceRefusal market.now (duals_by (N.value energy) (map (dual_at N.value) limits.now)) bus N.bound p)) }
+    ensures prices { IfOk result (λ prices. map N.value prices ≡ map (bus_price market.now (named_duals (N.value energy) (map (dual_at N.value) limits.now))) (places (length market.now.buses))) }
+    ensures cause { IfErr result (OnPassed N.value (λ p. (bus : ℕ) × (bus < length market.now.buses) × IsPriceRefusal market.now (named_duals (N.value energy) (map (dual_at N.value) limits.now)) bus N.bound p)) }
 {
     let named = match named_rows(alloc, market, limits) {
         Ok(named) => named,
@@ -98,8 +98,8 @@ fn wrong_support<N: Exact>(
 ) -> Result<Option<Reason>, VerifyStop<N>>
     requires blocks { length blocks.now ≡ length market.now.blocks }
     requires distinct { NamesNoRowTwice (map (dual_at N.value) limits.now) }
-    ensures first { IfOk result (λ first. first ≡ support_reason market.now (dispatch_of N.value blocks.now) (duals_by (N.value energy) (map (dual_at N.value) limits.now))) }
-    ensures cause { IfErr result (IsStopped N.value (IsOptimalPair market.now (dispatch_of N.value blocks.now) (duals_by (N.value energy) (map (dual_at N.value) limits.now)) N.bound)) }
+    ensures first { IfOk result (λ first. first ≡ support_reason market.now (dispatch_of N.value blocks.now) (named_duals (N.value energy) (map (dual_at N.value) limits.now))) }
+    ensures cause { IfErr result (OnPassed N.value (IsOptimalPair market.now (dispatch_of N.value blocks.now) (named_duals (N.value energy) (map (dual_at N.value) limits.now)) N.bound)) }
 {
     let prices = bus_prices(alloc, market, energy, limits)?;
     Ok(unsupported_block(market, blocks, prices.slice()))
@@ -114,8 +114,8 @@ pub(crate) fn against_optimal<N: Exact>(
     limits: &[Dual<N>],
 ) -> Result<Option<Reason>, VerifyStop<N>>
     requires { NamesNoRowTwice (map (dual_at N.value) limits.now) }
-    ensures first { IfOk result (λ first. first ≡ first_of (optimal_reasons market.now (dispatch_of N.value blocks.now) (duals_by (N.value energy) (map (dual_at N.value) limits.now)))) }
-    ensures cause { IfErr result (IsStopped N.value (IsOptimalPair market.now (dispatch_of N.value blocks.now) (duals_by (N.value energy) (map (dual_at N.value) limits.now)) N.bound)) }
+    ensures first { IfOk result (λ first. first ≡ first_of (optimal_reasons market.now (dispatch_of N.value blocks.now) (named_duals (N.value energy) (map (dual_at N.value) limits.now)))) }
+    ensures cause { IfErr result (OnPassed N.value (IsOptimalPair market.now (dispatch_of N.value blocks.now) (named_duals (N.value energy) (map (dual_at N.value) limits.now)) N.bound)) }
 {
     if let Some(reason) = wrong_part(market, blocks, limits) {
         return Ok(Some(reason));
@@ -145,8 +145,8 @@ fn wrong_bound<N: Exact>(
     limits: &[Dual<N>],
 ) -> Result<Option<Reason>, VerifyStop<N>>
     requires { NamesNoRowTwice (map (dual_at N.value) limits.now) }
-    ensures first { IfOk result (λ first. first ≡ bound_reason market.now (duals_by (N.value energy) (map (dual_at N.value) limits.now))) }
-    ensures cause { IfErr result (IsStopped N.value (IsFarkasPair market.now (duals_by (N.value energy) (map (dual_at N.value) limits.now)) N.bound)) }
+    ensures first { IfOk result (λ first. first ≡ bound_reason market.now (named_duals (N.value energy) (map (dual_at N.value) limits.now))) }
+    ensures cause { IfErr result (OnPassed N.value (IsFarkasPair market.now (named_duals (N.value energy) (map (dual_at N.value) limits.now)) N.bound)) }
 {
     let named = match named_rows(alloc, market, limits) {
         Ok(named) => named,
@@ -164,8 +164,8 @@ pub(crate) fn against_farkas<N: Exact>(
     limits: &[Dual<N>],
 ) -> Result<Option<Reason>, VerifyStop<N>>
     requires { NamesNoRowTwice (map (dual_at N.value) limits.now) }
-    ensures first { IfOk result (λ first. first ≡ first_of (farkas_reasons market.now (duals_by (N.value energy) (map (dual_at N.value) limits.now)))) }
-    ensures cause { IfErr result (IsStopped N.value (IsFarkasPair market.now (duals_by (N.value energy) (map (dual_at N.value) limits.now)) N.bound)) }
+    ensures first { IfOk result (λ first. first ≡ first_of (farkas_reasons market.now (named_duals (N.value energy) (map (dual_at N.value) limits.now)))) }
+    ensures cause { IfErr result (OnPassed N.value (IsFarkasPair market.now (named_duals (N.value energy) (map (dual_at N.value) limits.now)) N.bound)) }
 {
     if let Some(reason) = missing_row(market, limits) {
         return Ok(Some(reason));

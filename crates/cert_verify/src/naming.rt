@@ -7,7 +7,7 @@ ghost use Rattle.market_model.specs.Valued.{dual_at};
 ghost use Rattle.market_model.specs.LimitRows.{IsCauseAmong, causes, rows_of};
 ghost use Rattle.cert_format.specs.Certificates.{NamesNoRowTwice};
 ghost use Rattle.cert_sums.specs.Named.{AreNamed, priced_at};
-ghost use Rattle.cert_verify.specs.Certificates.{duals_by};
+ghost use Rattle.cert_verify.specs.Certificates.{named_duals};
 ghost use Rattle.cert_verify.specs.Naming.{IsNamedAt, entry_of, name_of, prices_of, rows_at, same_pair};
 
 use cert_sums::NamedRow;
@@ -62,7 +62,7 @@ fn named_at<N: Exact>(
 ) -> Option<NamedRow<N>>
     requires line { row.line < length market.now.lines }
     requires lost { IsCauseAmong (length market.now.lines) row.cause }
-    ensures { (ds : List (Dual N)) (energy : Fraction) → duals.now.entries ≡ map entry_of ds → IsNamedAt N.value market.now (duals_by energy (map (dual_at N.value) ds)) row result }
+    ensures { (ds : List (Dual N)) (energy : Fraction) → duals.now.entries ≡ map entry_of ds → IsNamedAt N.value market.now (named_duals energy (map (dual_at N.value) ds)) row result }
 {
     match dual_of(duals, name_at(market, row)) {
         Some(dual) => Some(NamedRow {
@@ -84,7 +84,7 @@ fn push_row<N: Exact>(
 ) -> Result<(), Memory>
     requires cause { Contains (causes market.now) cause }
     requires line { line < length market.now.lines }
-    ensures { (ds : List (Dual N)) (energy : Fraction) → duals.now.entries ≡ map entry_of ds → IfOk result (λ _. map (priced_at N.value) named.new ≡ map (priced_at N.value) named.old ++ prices_of market.now (duals_by energy (map (dual_at N.value) ds)) (rows_at market.now cause line)) }
+    ensures { (ds : List (Dual N)) (energy : Fraction) → duals.now.entries ≡ map entry_of ds → IfOk result (λ _. map (priced_at N.value) named.new ≡ map (priced_at N.value) named.old ++ prices_of market.now (named_duals energy (map (dual_at N.value) ds)) (rows_at market.now cause line)) }
 {
     let _lines = market.lines();
     if has_row(market, cause, line) {
@@ -105,7 +105,7 @@ fn push_rows<N: Exact>(
     named: &mut List<NamedRow<N>>,
 ) -> Result<(), Memory>
     requires { Contains (causes market.now) cause }
-    ensures { (ds : List (Dual N)) (energy : Fraction) → duals.now.entries ≡ map entry_of ds → IfOk result (λ _. map (priced_at N.value) named.new ≡ map (priced_at N.value) named.old ++ prices_of market.now (duals_by energy (map (dual_at N.value) ds)) (rows_of market.now cause)) }
+    ensures { (ds : List (Dual N)) (energy : Fraction) → duals.now.entries ≡ map entry_of ds → IfOk result (λ _. map (priced_at N.value) named.new ≡ map (priced_at N.value) named.old ++ prices_of market.now (named_duals energy (map (dual_at N.value) ds)) (rows_of market.now cause)) }
 {
     for line in 0..market.lines().len() {
         push_row(market, duals, cause, line, named)?;
@@ -120,7 +120,7 @@ pub(crate) fn named_rows<N: Exact>(
     limits: &[Dual<N>],
 ) -> Result<List<NamedRow<N>>, Memory>
     requires { NamesNoRowTwice (map (dual_at N.value) limits.now) }
-    ensures { IfOk result (λ named. (energy : Fraction) → AreNamed N.value market.now (duals_by energy (map (dual_at N.value) limits.now)) named) }
+    ensures { IfOk result (λ named. (energy : Fraction) → AreNamed N.value market.now (named_duals energy (map (dual_at N.value) limits.now)) named) }
 {
     let duals = by_name(alloc, limits)?;
     let mut named = List::new(alloc);

@@ -1,5 +1,5 @@
 -- The limit that is broken by the most, of the flows of a dispatch.
-use Rattle.std.specs.Prelude.{◌≡◌, ◌⊎◌, ℕ, ◌+◌, ◌-◌, ◌<◌, ◌≤◌, pos, List, [], ◌∷◌, length, map, Option, Some, None, MatchOption, IfSome, Contains, refl}
+use Rattle.std.specs.Prelude.{◌≡◌, ◌⊎◌, ℕ, ◌+◌, ◌-◌, ◌<◌, ◌≤◌, pos, List, [], ◌∷◌, length, map, Option, Some, None, MatchOption, Contains, refl}
 use Rattle.std.proofs.Common.{arith, inl, inr, ap, ap₂, sym, subst, ◌∙◌, get_or}
 use Rattle.std.proofs.lemmas.List.{get_or-append_right}
 use Rattle.std.proofs.lemmas.List.FromFn.{length-map-range_with_len, get_or-map-range_with_len}
@@ -14,7 +14,7 @@ use Rattle.fraction_theory.proofs.Ring.{at, pneg, pone}
 use Rattle.market_model.specs.declared.answered.RowId.{RowId}
 use Rattle.market_model.specs.declared.participants.Parts.{Parts}
 use Rattle.market_model.specs.Dispatch.{Dispatch, places, injection}
-use Rattle.market_model.specs.Excess.{size_by, excess, IsWorst}
+use Rattle.market_model.specs.Overrun.{size_by, overrun, IsWorst}
 use Rattle.market_model.specs.declared.limits.Cause.{Cause}
 use Rattle.market_model.specs.declared.limits.Row.{Row}
 use Rattle.market_model.specs.declared.limits.Cause.TheVariants.{Base, Branch}
@@ -96,12 +96,12 @@ module _ (m : Parts) (market : IsMarket m) (x : Dispatch) where
       record {
         stands = worst.stands;
         broken = subst (λ e. whole (pos 0) <ℚ e) (same r c) worst.broken;
-        most = λ s d. subst (λ e. e ≤ℚ excess m r (flow m x r)) (same s d) (subst (λ e. excess m s (flow_by m flow_at s) ≤ℚ e) (same r c) (worst.most s d));
-        first = λ i s lt stands. subst (λ e. e <ℚ excess m r (flow m x r)) (same s (listed_row (rows m) i s stands)) (subst (λ e. excess m s (flow_by m flow_at s) <ℚ e) (same r c) (worst.first i s lt stands));
+        most = λ s d. subst (λ e. e ≤ℚ overrun m r (flow m x r)) (same s d) (subst (λ e. overrun m s (flow_by m flow_at s) ≤ℚ e) (same r c) (worst.most s d));
+        first = λ i s lt stands. subst (λ e. e <ℚ overrun m r (flow m x r)) (same s (listed_row (rows m) i s stands)) (subst (λ e. overrun m s (flow_by m flow_at s) <ℚ e) (same r c) (worst.first i s lt stands));
       }
     where
-      same : (s : Row) → Contains (rows m) s → excess m s (flow_by m flow_at s) ≡ excess m s (flow m x s)
-      same s c = ap (excess m s) (row_is s c)
+      same : (s : Row) → Contains (rows m) s → overrun m s (flow_by m flow_at s) ≡ overrun m s (flow m x s)
+      same s c = ap (overrun m s) (row_is s c)
 
   -- the row of its name
   pub found_worst : (id : RowId) (found : Option Row) → IsWorstNamed m flow_at id

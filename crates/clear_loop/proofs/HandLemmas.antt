@@ -19,9 +19,9 @@ use Rattle.linear_system.specs.Choices.{value}
 use Rattle.market_system.proofs.GrowthLaws.{broken_is_new, growth_none, growth_more, rows_few}
 use Rattle.market_model.specs.PutIn.{dispatch_of}
 use Rattle.market_dict.specs.Findings.{IsSolvedBy}
-use Rattle.market_dict.specs.Holding.{Holds}
-use Rattle.market_dict.specs.Terms.{AreTerms}
-use Rattle.market_dict.specs.declared.terms.Terms.{Terms}
+use Rattle.market_dict.specs.Holding.{HoldsMarket}
+use Rattle.market_dict.specs.PricesAndBounds.{ArePricesAndBounds}
+use Rattle.market_dict.specs.declared.posing.PricesAndBounds.{PricesAndBounds}
 use Rattle.clear_loop.specs.Rounds.{GrowsByOne, IsInHand}
 use Rattle.clear_loop.specs.Starts.{rows_in}
 use Rattle.clear_loop.specs.declared.hand.Taken.{Taken}
@@ -47,14 +47,14 @@ module _ {N : Type 0} (worth : N → Fraction) (m : Parts) where
   pub rows_grown : (old new : Taken) (row : Row) → new.rows ≡ old.rows ++ row ∷ [] → rows_in new ≡ rows_in old ++ row ∷ []
   rows_grown old new row put = put
 
-  pub hand_grown : (old new : Taken) (row : Row) (warm : Option Dictionary) (d : Dictionary) (terms : Terms N) → new.rows ≡ old.rows ++ row ∷ [] → new.names ≡ old.names ++ row_id m row ∷ []
-      → old.names ≡ map (row_id m) (rows_in old) → warm ≡ Some d → Holds m (rows_in old ++ row ∷ []) d → AreTerms worth m (rows_in old ++ row ∷ []) terms
-      → IsInHand worth m (record { warm = warm; terms = terms; taken = new })
-  hand_grown old new row warm d terms put named names is holds are =
+  pub hand_grown : (old new : Taken) (row : Row) (warm : Option Dictionary) (d : Dictionary) (posing : PricesAndBounds N) → new.rows ≡ old.rows ++ row ∷ [] → new.names ≡ old.names ++ row_id m row ∷ []
+      → old.names ≡ map (row_id m) (rows_in old) → warm ≡ Some d → HoldsMarket m (rows_in old ++ row ∷ []) d → ArePricesAndBounds worth m (rows_in old ++ row ∷ []) posing
+      → IsInHand worth m (record { warm = warm; posing = posing; taken = new })
+  hand_grown old new row warm d posing put named names is holds are =
       let grown = rows_grown old new row put in
       record {
-        start = (d, is, subst (λ g. Holds m g d) (sym grown) holds);
-        terms = subst (λ g. AreTerms worth m g terms) (sym grown) are;
+        start = (d, is, subst (λ g. HoldsMarket m g d) (sym grown) holds);
+        posing = subst (λ g. ArePricesAndBounds worth m g posing) (sym grown) are;
         names =
             named ∙ ap (λ (ns : List RowId). ns ++ row_id m row ∷ []) names ∙ sym (map-append (row_id m) (rows_in old) (row ∷ []))
             ∙ sym (ap (map (row_id m)) grown);

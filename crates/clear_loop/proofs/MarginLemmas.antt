@@ -4,10 +4,10 @@ use Rattle.std.proofs.Common.{ap, ◌∙◌}
 use Rattle.linear_dict.specs.Dictionaries.{Dictionary, IsDictionary, pivoted}
 use Rattle.market_model.specs.declared.participants.Parts.{Parts}
 use Rattle.market_model.specs.declared.limits.Row.{Row}
-use Rattle.market_dict.specs.Holding.{Holds}
+use Rattle.market_dict.specs.Holding.{HoldsMarket}
 
 -- it holds the market over the same rows
-pub holds_exchanged : (m : Parts) (g : List Row) (d e : Dictionary) (r c : ℕ) → Holds m g d → e ≡ pivoted d r c → IsDictionary e → Holds m g e
+pub holds_exchanged : (m : Parts) (g : List Row) (d e : Dictionary) (r c : ℕ) → HoldsMarket m g d → e ≡ pivoted d r c → IsDictionary e → HoldsMarket m g e
 unfolding pivoted
 holds_exchanged m g d e r c holds is sound = record {
   live = ap (λ (x : Dictionary). x.spent) is ∙ holds.live;

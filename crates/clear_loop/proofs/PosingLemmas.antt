@@ -15,33 +15,33 @@ use Rattle.market_model.specs.declared.limits.Row.{Row}
 use Rattle.market_model.specs.Market.{IsMarket}
 use Rattle.market_model.specs.Optimality.{block_value}
 use Rattle.market_model.specs.Valued.{passed_at}
-use Rattle.market_system.specs.MarketSystem.{balance_name, row_name, needed, most_added}
+use Rattle.market_system.specs.MarketSystem.{balance_name, row_name, residual_demand, most_added}
 use Rattle.market_system.specs.WorkingPairs.{IsRangeOf}
 use Rattle.market_system.proofs.GrowthLaws.{growth_none}
-use Rattle.market_dict.specs.Holding.{Holds, HoldsSystem, lows, highs}
-use Rattle.market_dict.specs.Terms.{AreTerms}
-use Rattle.market_dict.specs.declared.terms.Terms.{Terms}
+use Rattle.market_dict.specs.Holding.{HoldsMarket, HoldsSystem, lows, highs}
+use Rattle.market_dict.specs.PricesAndBounds.{ArePricesAndBounds}
+use Rattle.market_dict.specs.declared.posing.PricesAndBounds.{PricesAndBounds}
 use Rattle.market_dict.proofs.HoldingLaws.{bounds_ordered, holds_posed, pair_posed}
 use Rattle.market_dict.proofs.RefusalLaws.{pair_range}
 use Rattle.clear_loop.specs.Rounds.{HoldsStart}
 
-module _ {N : Type 0} (value : N → Fraction) (m : Parts) (g : List Row) (terms : Terms N) (are : AreTerms value m g terms) (prices : List N) (bounds : List (Bounds N))
-    (priced : prices ≡ terms.prices) (bounded : bounds ≡ terms.bounds) where
+module _ {N : Type 0} (value : N → Fraction) (m : Parts) (g : List Row) (posing : PricesAndBounds N) (are : ArePricesAndBounds value m g posing) (prices : List N) (bounds : List (Bounds N))
+    (priced : prices ≡ posing.prices) (bounded : bounds ≡ posing.bounds) where
   low_count : length bounds ≡ length m.blocks + (length g + 1)
   low_count =
-      let back : List Fraction = needed m ∷ map (most_added m) g in
-      let all : length bounds ≡ length (highs m g) = ap length bounded ∙ sym (length-map terms.bounds (λ (b : Bounds N). value b.high)) ∙ ap length are.highs in
+      let back : List Fraction = residual_demand m ∷ map (most_added m) g in
+      let all : length bounds ≡ length (highs m g) = ap length bounded ∙ sym (length-map posing.bounds (λ (b : Bounds N). value b.high)) ∙ ap length are.highs in
       let split : length (highs m g) ≡ length (map (quantity m) (places (length m.blocks))) + length back = length-append (map (quantity m) (places (length m.blocks))) back in
       let front : length (map (quantity m) (places (length m.blocks))) ≡ length m.blocks = length-map-range_with_len (quantity m) 0 (length m.blocks) in
       let rest : length (map (most_added m) g) ≡ length g = length-map g (most_added m) in
       Prim.omega (arith, all, split, front, rest)
 
-  module _ (d : Dictionary) (holds : Holds m g d) where
+  module _ (d : Dictionary) (holds : HoldsMarket m g d) where
     columns_count : length d.columns ≡ length m.blocks
     columns_count = ap length holds.columns ∙ length-range_with_len 0 (length m.blocks)
 
     prices_for : length prices ≡ length d.columns
-    prices_for = ap length priced ∙ sym (length-map terms.prices value) ∙ ap length are.prices ∙ length-map-range_with_len (block_value m) 0 (length m.blocks) ∙ sym columns_count
+    prices_for = ap length priced ∙ sym (length-map posing.prices value) ∙ ap length are.prices ∙ length-map-range_with_len (block_value m) 0 (length m.blocks) ∙ sym columns_count
 
     bounds_for : length bounds ≡ length d.columns + length d.rows
     bounds_for =
@@ -61,7 +61,7 @@ module _ {N : Type 0} (value : N → Fraction) (m : Parts) (g : List Row) (terms
     high_values = ap (map (λ (b : Bounds N). value b.high)) bounded ∙ are.highs
 
   module _ (warm : Option Dictionary) (start : HoldsStart m g warm) where
-    at_start : (P : Dictionary → Type 0) → ((d : Dictionary) → Holds m g d → P d) → IfSome warm P
+    at_start : (P : Dictionary → Type 0) → ((d : Dictionary) → HoldsMarket m g d → P d) → IfSome warm P
     at_start P all = subst (λ (o : Option Dictionary). IfSome o P) (sym start.1) (all start.0 start.2)
 
     from_start : (P : Dictionary → Type 0) → IfSome warm P → P start.0

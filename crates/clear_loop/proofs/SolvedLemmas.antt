@@ -16,16 +16,16 @@ use Rattle.market_model.specs.declared.answered.Duals.{Duals}
 use Rattle.market_model.specs.declared.answered.RowId.{RowId}
 use Rattle.market_model.specs.declared.participants.Parts.{Parts}
 use Rattle.market_model.specs.Dispatch.{Dispatch, bus_at, unit_at, output, demand, injection, injection_terms, output_terms}
-use Rattle.market_model.specs.Excess.{size_of}
+use Rattle.market_model.specs.Overrun.{size_of}
 use Rattle.market_model.specs.declared.limits.Row.{Row}
 use Rattle.market_model.specs.LimitRows.{rows, row_id, limit, line_flow, line_terms, flow, flow_terms, offset_terms, row_offset}
 use Rattle.market_model.specs.Market.{IsMarket}
 use Rattle.market_model.specs.NamedSums.{SameSize, IsRefusedIn, IsRefusal}
 use Rattle.market_model.specs.SumTables.{FlowSum, injection_at, flow_of_line, flow_of_row, congestion_at, MoneySum, welfare_of_all, surplus_of_all, rent_of_row}
-use Rattle.market_model.specs.Optimality.{Feasible, Supports, IsOneSided, ProperDuals, named_rows, is_named, same_id, up_in, down_in, bus_price, unit_price, congestion, congestion_terms, welfare_terms}
+use Rattle.market_model.specs.Optimality.{Feasible, Supports, IsOneSided, ProperDuals, named_rows, names_row, same_id, up_in, down_in, bus_price, unit_price, congestion, congestion_terms, welfare_terms}
 use Rattle.market_model.specs.Settlement.{left_terms, rent_terms, surplus_terms}
 use Rattle.market_system.specs.Growth.{BestFor}
-use Rattle.market_system.specs.MarketNumbers.{IsBest, IsInjecting, of_flow, output_of, of_price, of_money, offset_of, MarketNumber, is_load, is_shunt, is_limit, is_energy, of_opposite}
+use Rattle.market_system.specs.MarketNumbers.{IsRightChoice, IsInjecting, of_flow, output_of, of_price, of_money, offset_of, MarketNumber, is_load, is_shunt, is_limit, is_energy, of_opposite}
 use Rattle.market_system.specs.MarketSystem.{system_of, balance_name, row_name, is_in, choice_dispatch, choice_duals}
 use Rattle.market_system.specs.Outcomes.{PricesOnly}
 use Rattle.market_system.specs.PairLaw.{RefusalsArePairs}
@@ -37,7 +37,7 @@ use Rattle.market_system.proofs.RowOrder.{is_in-in, is_in-from}
 use Rattle.limit_rows.proofs.ApartLemmas.{names_apart}
 use Rattle.limit_rows.proofs.FactorLemmas.{stands}
 use Rattle.limit_screen.specs.Flows.{flows_at, line_in, IsFlowsRefusal, of_injection as flows_of_injection, of_line as flows_of_line}
-use Rattle.limit_screen.specs.Screening.{IsRowRefusal, IsScreenRefusal, of_flow as row_of_flow, of_limit as row_of_limit}
+use Rattle.limit_screen.specs.Screening.{IsOverrunRefusal, IsScreenRefusal, of_flow as row_of_flow, of_limit as row_of_limit}
 use Rattle.market_model.proofs.PlaceLists.{map_same}
 use Rattle.bus_prices.specs.Prices.{IsPriceRefusal, of_congestion, of_total}
 use Rattle.settlement.specs.Paying.{ArePricesOf}
@@ -63,28 +63,28 @@ choice_prices m g h market r c out =
     (rw no at up, rw no at down)
 
 -- the dual that a list of duals has of a name
-named_dual : (ds : List (Dual Fraction)) (id : RowId) → is_named ds id ≡ true → (e : Dual Fraction) × Contains ds e × (up_in ds id ≡ e.up) × (down_in ds id ≡ e.down)
+named_dual : (ds : List (Dual Fraction)) (id : RowId) → names_row ds id ≡ true → (e : Dual Fraction) × Contains ds e × (up_in ds id ≡ e.up) × (down_in ds id ≡ e.down)
 named_dual [] id h = absurd cc
 named_dual (d ∷ ds) id h = by (same_id d.row id) refl (named_dual ds id)
   where
-    by : (t : Bool) → same_id d.row id ≡ t → (is_named ds id ≡ true → (e : Dual Fraction) × Contains ds e × (up_in ds id ≡ e.up) × (down_in ds id ≡ e.down))
+    by : (t : Bool) → same_id d.row id ≡ t → (names_row ds id ≡ true → (e : Dual Fraction) × Contains ds e × (up_in ds id ≡ e.up) × (down_in ds id ≡ e.down))
         → (e : Dual Fraction) × Contains (d ∷ ds) e × (up_in (d ∷ ds) id ≡ e.up) × (down_in (d ∷ ds) id ≡ e.down)
     by true e more = (d, Contains-head d ds, ap (λ (b : Bool). if b then d.up else up_in ds id) e, ap (λ (b : Bool). if b then d.down else down_in ds id) e)
     by false e more =
-        let rest = more (sym (ap (λ (b : Bool). b || is_named ds id) e) ∙ h) in
+        let rest = more (sym (ap (λ (b : Bool). b || names_row ds id) e) ∙ h) in
         (rest.0, Contains-cons d ds rest.0 rest.1, ap (λ (b : Bool). if b then d.up else up_in ds id) e ∙ rest.2, ap (λ (b : Bool). if b then d.down else down_in ds id) e ∙ rest.3)
 
 -- a row that proper duals name is in hand
 pub named_in_hand : (m : Parts) (g : List Row) (d : Duals Fraction) → PricesOnly m g d → ProperDuals m d → (r : Row) → Contains (named_rows m d) r → Contains (rows m) r × Contains g r
 named_in_hand m g d only proper r c =
-    let both = Contains-from_filter (λ (s : Row). is_named d.limits (row_id m s)) (rows m) r c in
+    let both = Contains-from_filter (λ (s : Row). names_row d.limits (row_id m s)) (rows m) r c in
     (both.0, by both.0 both.1 (is_in g r) refl)
   where
     one_price : (e : Dual Fraction) → e.up ≡ whole (pos 0) → e.down ≡ whole (pos 0) → ((whole (pos 0) <ℚ e.up) × (e.down ≡ whole (pos 0))) ⊎ ((e.up ≡ whole (pos 0)) × (whole (pos 0) <ℚ e.down)) → ⊥
     one_price e up down (inl a) = <ℚ_irrefl (whole (pos 0)) (subst (λ t. whole (pos 0) <ℚ t) up a.0)
     one_price e up down (inr a) = <ℚ_irrefl (whole (pos 0)) (subst (λ t. whole (pos 0) <ℚ t) down a.1)
 
-    unnamed : Contains (rows m) r → is_named d.limits (row_id m r) ≡ true → is_in g r ≡ false → ⊥
+    unnamed : Contains (rows m) r → names_row d.limits (row_id m r) ≡ true → is_in g r ≡ false → ⊥
     unnamed inside named e =
         let none = only r inside (λ k. let wrong : false ≡ true = sym e ∙ is_in-in g r k in absurd cc) in
         let found = named_dual d.limits (row_id m r) named in
@@ -92,7 +92,7 @@ named_in_hand m g d only proper r c =
         let sided : IsOneSided found.0 = subst IsOneSided at.2 (proper.one_sided at.0 found.0 at.1) in
         one_price found.0 (sym found.2 ∙ none.0) (sym found.3 ∙ none.1) sided.one
 
-    by : Contains (rows m) r → is_named d.limits (row_id m r) ≡ true → (t : Bool) → is_in g r ≡ t → Contains g r
+    by : Contains (rows m) r → names_row d.limits (row_id m r) ≡ true → (t : Bool) → is_in g r ≡ t → Contains g r
     by inside named true e = is_in-from g r e
     by inside named false e = absurd (unnamed inside named e)
 
@@ -133,7 +133,7 @@ module _ (m : Parts) (g : List Row) (x : Dispatch) (d : Duals Fraction) (market 
     sized r c (inl e) = subst (MarketNumber m g solved.choice Quantity) (sym e) (flow_number r c)
     sized r c (inr e) = subst (MarketNumber m g solved.choice Quantity) (sym e) (of_opposite Quantity (flow m x r) (flow_number r c))
 
-    row_range : (r : Row) → Contains (rows m) r → IsRowRefusal m (line_in m (flows_at m x)) bound r p → IsRangeOf m g bound p
+    row_range : (r : Row) → Contains (rows m) r → IsOverrunRefusal m (line_in m (flows_at m x)) bound r p → IsRangeOf m g bound p
     row_range r c (row_of_flow a) =
         let s = stands m market r c in
         flow_sum (flow_terms m (line_flow m (injection m x)) r) (flow_of_row r c) (subst (λ ts. IsRefusedIn ts bound p) (terms_are m market x r.line r.cause s.line s.lost) a)
@@ -146,7 +146,7 @@ module _ (m : Parts) (g : List Row) (x : Dispatch) (d : Duals Fraction) (market 
 
     -- where a feasible one is answered
     module _ (feasible : Feasible m x) where
-      best : IsBest m g solved.choice
+      best : IsRightChoice m g solved.choice
       best = record { feasible = subst (Feasible m) solved.dispatch feasible; supported = solved.answers.supported }
 
       pub price_range : IsPriceRefusal m d bound p → IsRangeOf m g bound p

@@ -17,11 +17,11 @@ use Rattle.bus_prices.specs.Prices.{IsPriceRefusal}
 use Rattle.limit_screen.specs.Flows.{flows_at, line_in, IsFlowsRefusal}
 use Rattle.limit_screen.specs.Screening.{IsScreenRefusal}
 use Rattle.settlement.specs.Paying.{ArePricesOf}
-use Rattle.settlement.specs.Refusals.{IsStop}
+use Rattle.settlement.specs.Refusals.{IsMoneyStop}
 use Rattle.settlement.specs.declared.stops.MoneyStop.{MoneyStop}
 use Rattle.settlement.specs.declared.stops.MoneyStop.TheVariants as money
 use Rattle.market_dict.specs.Findings.{IsPairOver, IsSolvedBy, OnPassed}
-use Rattle.market_dict.specs.Refusals.{IsTermsRefusal}
+use Rattle.market_dict.specs.Refusals.{IsPosingRefusal}
 use Rattle.market_dict.specs.declared.stop.Stop.{Stop}
 use Rattle.market_dict.specs.declared.stop.Stop.TheVariants as stop
 use Rattle.market_dict.proofs.RefusalLaws.{pair_range, terms_range}
@@ -36,7 +36,7 @@ module _ {N : Type 0} (value : N → Fraction) (bound : ℕ) (m : Parts) where
   pair_stop t g stop.Memory grown pair = tt
 
   -- where prices and bounds are made
-  pub terms_stop : (t g : List Row) (h : Choice) (s : Stop N) → IsMarket m → Growth m t g → IsChoice (system_of m g) h → OnPassed s (λ p. IsTermsRefusal m bound (passed_at value p)) → StopsInRange value bound m t s
+  pub terms_stop : (t g : List Row) (h : Choice) (s : Stop N) → IsMarket m → Growth m t g → IsChoice (system_of m g) h → OnPassed s (λ p. IsPosingRefusal m bound (passed_at value p)) → StopsInRange value bound m t s
   terms_stop t g h (stop.Passed p) market grown choice refused = terms_range m t g h bound (passed_at value p) market grown choice refused
   terms_stop t g h stop.Memory market grown choice refused = tt
 
@@ -58,6 +58,6 @@ module _ {N : Type 0} (value : N → Fraction) (bound : ℕ) (m : Parts) where
       price_stop (stop.Passed p) a = price_range m g x d market solved bound (passed_at value p) feasible a
       price_stop stop.Memory a = tt
 
-      pub money_stop : (price : ℕ → Fraction) → ArePricesOf m d price → (s : MoneyStop N) → IsStop value bound m x price d s → StopsInRange value bound m g (stop_of s)
+      pub money_stop : (price : ℕ → Fraction) → ArePricesOf m d price → (s : MoneyStop N) → IsMoneyStop value bound m x price d s → StopsInRange value bound m g (stop_of s)
       money_stop price priced (money.Passed p) a = settlement_range m g x d market solved bound (passed_at value p) feasible price priced a
       money_stop price priced money.Memory a = tt

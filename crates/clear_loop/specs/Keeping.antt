@@ -9,7 +9,7 @@ use Rattle.market_model.specs.declared.limits.Cause.{Cause}
 use Rattle.market_model.specs.declared.limits.Row.{Row}
 use Rattle.market_model.specs.declared.limits.Cause.TheVariants.{Base, Branch}
 use Rattle.market_model.specs.LimitRows.{row_id}
-use Rattle.market_dict.specs.Holding.{Holds}
+use Rattle.market_dict.specs.Holding.{HoldsMarket}
 
 -- the dictionary, and its limit rows in the order in which they were taken, with their names
 pub record Kept : Type 0 where
@@ -24,7 +24,7 @@ cold = record { dict = None; rows = []; names = [] }
 -- a start for a market, with these rows and names: none without rows, or a dictionary that holds the market over the rows
 abbrev pub IsStartOf : Parts → List Row → List RowId → Option Dictionary → Type 0
 IsStartOf m rows names None = (rows ≡ []) × (names ≡ [])
-IsStartOf m rows names (Some d) = Holds m rows d × (names ≡ map (row_id m) rows)
+IsStartOf m rows names (Some d) = HoldsMarket m rows d × (names ≡ map (row_id m) rows)
 
 -- what is kept is a start for this market
 abbrev pub FitsFrame : Parts → Kept → Type 0

@@ -16,8 +16,8 @@ use Rattle.market_system.specs.Growth.{BestFor, Broken}
 use Rattle.market_system.specs.Outcomes.{PricesOnly}
 use Rattle.market_system.specs.WorkingPairs.{IsRangeOf}
 use Rattle.market_dict.specs.Findings.{OnPassed}
-use Rattle.market_dict.specs.Holding.{Holds}
-use Rattle.market_dict.specs.Terms.{AreTerms}
+use Rattle.market_dict.specs.Holding.{HoldsMarket}
+use Rattle.market_dict.specs.PricesAndBounds.{ArePricesAndBounds}
 use Rattle.market_dict.specs.declared.stop.Stop.{Stop}
 use Rattle.clear_loop.specs.declared.hand.Hand.{Hand}
 use Rattle.clear_loop.specs.declared.rounds.Ended.{Ended}
@@ -27,12 +27,12 @@ use Rattle.clear_loop.specs.Starts.{rows_in}
 
 -- a dictionary that holds the market over these rows
 abbrev pub HoldsStart : Parts → List Row → Option Dictionary → Type 0
-HoldsStart m g start = (d : Dictionary) × (start ≡ Some d) × Holds m g d
+HoldsStart m g start = (d : Dictionary) × (start ≡ Some d) × HoldsMarket m g d
 
 -- a start over the rows in hand, with the prices and bounds of the market over them, and their names
 pub record IsInHand {N : Type 0} (value : N → Fraction) (m : Parts) (h : Hand N) : Type 0 where
   pub start : HoldsStart m (rows_in h.taken) h.warm
-  pub terms : AreTerms value m (rows_in h.taken) h.terms
+  pub posing : ArePricesAndBounds value m (rows_in h.taken) h.posing
   pub names : h.taken.names ≡ map (row_id m) (rows_in h.taken)
 
 -- the rows with one more of the market behind, which a best dispatch for them breaks
@@ -46,7 +46,7 @@ IsEnd value m g (Err f) = IsFarkas m (farkas_at value f) × PricesOnly m g (dual
 
 -- the clear ends so, with a dictionary that holds the market over the rows taken
 pub record IsEnded {N : Type 0} (value : N → Fraction) (m : Parts) (e : Ended N) : Type 0 where
-  pub holds : Holds m (rows_in e.taken) e.dict
+  pub holds : HoldsMarket m (rows_in e.taken) e.dict
   pub names : e.taken.names ≡ map (row_id m) (rows_in e.taken)
   pub end : IsEnd value m (rows_in e.taken) e.answer
 

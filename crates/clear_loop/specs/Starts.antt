@@ -1,5 +1,5 @@
 -- The limit rows taken, as a clearer has them.
-use Rattle.std.specs.Prelude.{◌≡◌, Option, Some, None, List, [], length, map}
+use Rattle.std.specs.Prelude.{◌≡◌, Option, Some, None, List, [], length}
 use Rattle.linear_dict.specs.Dictionaries.{Dictionary}
 use Rattle.market_model.specs.declared.answered.RowId.{RowId}
 use Rattle.market_model.specs.declared.limits.Row.{Row}

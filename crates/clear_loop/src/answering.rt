@@ -5,9 +5,9 @@ ghost use Rattle.market_model.specs.Dispatch.{places};
 ghost use Rattle.market_model.specs.Fitting.{FitsMarket};
 ghost use Rattle.market_model.specs.declared.limits.Row.{Row};
 ghost use Rattle.market_model.specs.Optimality.{Feasible, ProperDuals};
-ghost use Rattle.market_model.specs.RightAnswers.{IsRight};
+ghost use Rattle.market_model.specs.RightAnswers.{IsRight, price_made};
 ghost use Rattle.market_model.specs.Valued.{answer_at, duals_at, passed_at, price_at};
-ghost use Rattle.bus_prices.specs.Prices.{price_of, IsPriceRefusal};
+ghost use Rattle.bus_prices.specs.Prices.{IsPriceRefusal};
 ghost use Rattle.market_model.specs.PutIn.{dispatch_of};
 ghost use Rattle.market_dict.specs.Findings.{IsSolvedBy, OnPassed};
 ghost use Rattle.clear_loop.specs.Faults.{stop_of};
@@ -28,7 +28,7 @@ fn bus_prices<N: Exact>(
     duals: &Duals<N>,
 ) -> Result<List<Price<N>>, Stop<N>>
     requires { ProperDuals market.now (duals_at N.value duals.now) }
-    ensures prices { IfOk result (λ list. map (price_at N.value) list ≡ map (price_of market.now (duals_at N.value duals.now)) (places (length market.now.buses))) }
+    ensures prices { IfOk result (λ list. map (price_at N.value) list ≡ map (price_made market.now (duals_at N.value duals.now)) (places (length market.now.buses))) }
     ensures cause { IfErr result (λ stop. OnPassed stop (λ p. IsPriceRefusal market.now (duals_at N.value duals.now) N.bound (passed_at N.value p))) }
 {
     let energy = duals.energy;

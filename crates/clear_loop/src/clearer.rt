@@ -3,7 +3,7 @@
 ghost use Rattle.std.specs.Prelude.{◌≡◌, ◌<◌, List, length, map, slice_get, Some, IfOk, IfErr, false};
 ghost use Rattle.market_model.specs.Fitting.{FitsMarket};
 ghost use Rattle.market_model.specs.LimitRows.{row_id};
-ghost use Rattle.clear_loop.specs.Clearing.{ClearsTo, DropsStart, KeepsStart};
+ghost use Rattle.clear_loop.specs.Clearing.{ComesTo, DropsStart, KeepsStart};
 ghost use Rattle.clear_loop.specs.Keeping.{FitsFrame, Kept, cold};
 ghost use Rattle.clear_loop.specs.Rounds.{HoldsStart, IsInHand, StopsInRange};
 ghost use Rattle.clear_loop.specs.Starts.{rows_in};
@@ -15,7 +15,7 @@ use crate::rounds::{Ended, all_rounds};
 use dual_restart::Warm;
 use exact_fraction::Exact;
 use linear_dict::Dict;
-use market_dict::{Stop, terms_of};
+use market_dict::{Stop, prices_and_bounds};
 use market_model::{Answer, Market, RowId};
 use plain_list::Memory;
 use std::alloc::Global;
@@ -90,8 +90,12 @@ fn first_hand<N: Exact>(
     let _lines = market.lines();
     let warm = warmed(alloc, market, clearer.warm)?;
     let taken = rows_or_none(alloc, clearer.taken);
-    let terms = terms_of(alloc, market, taken.rows.slice())?;
-    Ok(Hand { warm, terms, taken })
+    let posing = prices_and_bounds(alloc, market, taken.rows.slice())?;
+    Ok(Hand {
+        warm,
+        posing,
+        taken,
+    })
 }
 
 impl<N: Exact> Clearer<N> {
@@ -132,7 +136,7 @@ impl<N: Exact> Clearer<N> {
     pub fn clear(&mut self, alloc: Global, market: &Market) -> Result<Answer<N>, ClearFault<N>>
         requires frame { FitsFrame market.now self.old }
         ensures fits { IfOk result (FitsMarket market.now) }
-        ensures clear { ClearsTo N.value N.bound market.now self.old.rows result self.new.rows }
+        ensures clear { ComesTo N.value N.bound market.now self.old.rows result self.new.rows }
         ensures frame { FitsFrame market.now self.new }
         ensures kept { KeepsStart result self.new }
         ensures dropped { IfErr result (λ fault. DropsStart fault self.new) }

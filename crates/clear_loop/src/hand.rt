@@ -4,8 +4,8 @@ ghost use Rattle.std.specs.Prelude.{◌≡◌, [], ◌∷◌, ◌++◌, map, Con
 ghost use Rattle.market_model.specs.Dispatch.{Dispatch};
 ghost use Rattle.market_model.specs.LimitRows.{row_id, rows};
 ghost use Rattle.market_system.specs.Growth.{BestFor, Broken};
-ghost use Rattle.market_dict.specs.Holding.{Holds};
-ghost use Rattle.market_dict.specs.Terms.{AreTerms};
+ghost use Rattle.market_dict.specs.Holding.{HoldsMarket};
+ghost use Rattle.market_dict.specs.PricesAndBounds.{ArePricesAndBounds};
 ghost use Rattle.clear_loop.specs.Rounds.{IsInHand, StopsInRange};
 ghost use Rattle.clear_loop.specs.Starts.{names_taken, rows_in, rows_taken};
 
@@ -13,7 +13,7 @@ use dual_restart::Warm;
 use exact_fraction::Exact;
 use limit_rows::name_at;
 use linear_dict::Dict;
-use market_dict::{Stop, Terms, take_bounds, take_limit};
+use market_dict::{PricesAndBounds, Stop, take_bounds, take_limit};
 use market_model::{Market, Row, RowId};
 use plain_list::{List, Memory};
 use std::alloc::Global;
@@ -29,7 +29,7 @@ pub(crate) struct Taken {
 #[derive(Drop)]
 pub(crate) struct Hand<N: Exact> {
     pub warm: Warm<N>,
-    pub terms: Terms<N>,
+    pub posing: PricesAndBounds<N>,
     pub taken: Taken,
 }
 
@@ -74,12 +74,12 @@ pub(crate) fn with_row<N: Exact>(
     alloc: Global,
     market: &Market,
     dict: Dict<N>,
-    terms: Terms<N>,
+    posing: PricesAndBounds<N>,
     taken: Taken,
     row: Row,
 ) -> Result<Hand<N>, Stop<N>>
-    requires holds { Holds market.now (rows_in taken) dict }
-    requires terms { AreTerms N.value market.now (rows_in taken) terms }
+    requires holds { HoldsMarket market.now (rows_in taken) dict }
+    requires posing { ArePricesAndBounds N.value market.now (rows_in taken) posing }
     requires names { taken.names ≡ map (row_id market.now) (rows_in taken) }
     requires row { Contains (rows market.now) row }
     requires broken { (x : Dispatch) × BestFor market.now (rows_in taken) x × Broken market.now x row }
@@ -89,14 +89,14 @@ pub(crate) fn with_row<N: Exact>(
 {
     let _lines = market.lines();
     let mut dict = dict;
-    let mut terms = terms;
+    let mut posing = posing;
     let mut taken = taken;
     take_limit(alloc, market, &mut dict, row)?;
-    take_bounds(market, &mut terms, row)?;
+    take_bounds(market, &mut posing, row)?;
     put_row(market, &mut taken, row)?;
     Ok(Hand {
         warm: started(dict),
-        terms,
+        posing,
         taken,
     })
 }

@@ -37,8 +37,12 @@ fn one_round<N: Exact>(alloc: Global, market: &Market, hand: Hand<N>) -> Result<
     ensures cause { IfErr result (StopsInRange N.value N.bound market.now (rows_in hand.taken)) }
 {
     let _lines = market.lines();
-    let Hand { warm, terms, taken } = hand;
-    let posed = warm.repose(terms.prices.slice(), terms.bounds.slice())?;
+    let Hand {
+        warm,
+        posing,
+        taken,
+    } = hand;
+    let posed = warm.repose(posing.prices.slice(), posing.bounds.slice())?;
     let (dict, dispatch, duals) = match solve(alloc, market, posed)? {
         Found::Best {
             dict,
@@ -54,7 +58,7 @@ fn one_round<N: Exact>(alloc: Global, market: &Market, hand: Hand<N>) -> Result<
         }
     };
     match broken(alloc, market, dispatch.slice())? {
-        Some(row) => Ok(Round::Broken(with_row(alloc, market, dict, terms, taken, row)?)),
+        Some(row) => Ok(Round::Broken(with_row(alloc, market, dict, posing, taken, row)?)),
         None => {
             let answer = answer_of(alloc, market, dispatch, duals)?;
             Ok(Round::Done(Ended {

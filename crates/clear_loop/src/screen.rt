@@ -1,7 +1,7 @@
 //! The limit that a dispatch breaks by the most.
 
 ghost use Rattle.std.specs.Prelude.{◌≡◌, ◌⊎◌, ℕ, length, Contains, IfOk, IfErr, MatchOption};
-ghost use Rattle.market_model.specs.Excess.{IsWorst};
+ghost use Rattle.market_model.specs.Overrun.{IsWorst};
 ghost use Rattle.market_model.specs.declared.limits.Row.{Row};
 ghost use Rattle.market_model.specs.LimitRows.{flow, rows, most_flow};
 ghost use Rattle.market_model.specs.Optimality.{Within};

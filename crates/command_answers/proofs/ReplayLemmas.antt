@@ -1,5 +1,5 @@
 -- Statuses, and what the last clear came to, one outcome after another.
-use Rattle.std.proofs.Common.{◌≡◌, ◌<◌, ◌≤◌, ◌∙◌, ℕ, ◌+◌, Bool, true, false, if◌then◌else◌, List, [], ◌∷◌, All, drop, take, get_or, map, length, Option, None, Some, zero, suc, refl, sym, ap, subst}
+use Rattle.std.proofs.Common.{◌≡◌, ◌<◌, ◌≤◌, ◌∙◌, ℕ, ◌+◌, true, false, if◌then◌else◌, List, [], ◌∷◌, All, drop, take, get_or, map, length, Option, None, Some, zero, suc, refl, sym, ap, subst}
 use Rattle.std.specs.Prelude.{option_and_then}
 use Rattle.std.proofs.lemmas.List.Elements.{All-cons, All-nil, All-tail, All-take}
 use Rattle.std.proofs.lemmas.List.{at_drop_all, at_drop_more}

@@ -1,5 +1,5 @@
 -- What is told of a ring that was cleared.
-use Rattle.std.proofs.Common.{◌≡◌, ◌∙◌, sym, subst, ap, ℕ, List, [], ◌++◌}
+use Rattle.std.proofs.Common.{◌≡◌, sym, subst, ℕ, [], ◌++◌}
 use Rattle.fraction_theory.specs.Fraction.{Fraction}
 use Rattle.exact_fraction.specs.declared.Passed.{Passed}
 use Rattle.market_model.specs.declared.participants.Parts.{Parts}

@@ -1,12 +1,11 @@
 -- What is told of inputs that are refused, and of a certificate whose sums become too large.
-use Rattle.std.proofs.Common.{◌≡◌, subst, ap, ℕ, List, Result, Ok, Err}
+use Rattle.std.proofs.Common.{◌≡◌, subst, ℕ, Result, Ok, Err}
 use Rattle.fraction_theory.specs.Fraction.{Fraction}
 use Rattle.exact_fraction.specs.declared.Passed.{Passed}
 use Rattle.market_model.specs.declared.participants.Parts.{Parts}
 use Rattle.market_model.specs.Valued.{passed_at}
 use Rattle.cert_format.specs.declared.certificate.Cert.{Cert}
 use Rattle.cert_format.specs.declared.certificate.Cert.TheVariants.{Optimal, Farkas}
-use Rattle.cert_sums.specs.declared.stops.VerifyStop.{VerifyStop}
 use Rattle.cert_sums.specs.declared.stops.VerifyStop.TheVariants as why
 use Rattle.cert_verify.specs.Certificates.{IsVerifyStop}
 use Rattle.refusal_text.specs.declared.refusals.Refusal.{Refusal}

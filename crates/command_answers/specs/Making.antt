@@ -12,7 +12,7 @@ use Rattle.market_system.specs.WorkingPairs.{IsRangeOf}
 use Rattle.report_text.specs.Reports.{range_text}
 use Rattle.case_maker.specs.Rings.{ring_of}
 use Rattle.command_answers.specs.declared.status.Status.TheVariants as status
-use Rattle.command_answers.specs.Clearing.{ArePassedWithin, most_size}
+use Rattle.command_answers.specs.Clearing.{ArePassedWithin}
 use Rattle.command_answers.specs.Tellings.{Telling, uncertified}
 
 -- the words that a ring is made by

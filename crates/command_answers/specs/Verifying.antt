@@ -8,7 +8,7 @@ use Rattle.report_text.specs.Reports.{range_text}
 use Rattle.cert_format.specs.declared.certificate.Cert.{Cert}
 use Rattle.cert_format.specs.declared.certificate.Cert.TheVariants.{Optimal, Farkas}
 use Rattle.cert_sums.specs.Pairs.{IsFarkasPair, IsOptimalPair}
-use Rattle.cert_verify.specs.Certificates.{dispatch_by, duals_by, first_reason}
+use Rattle.cert_verify.specs.Certificates.{dispatch_by, named_duals, first_reason}
 use Rattle.cert_verify.specs.declared.verdicts.Reason.{Reason}
 use Rattle.command_answers.specs.declared.status.Status.{Status}
 use Rattle.command_answers.specs.declared.status.Status.TheVariants as status
@@ -24,8 +24,8 @@ verdict_status (Some r) = status.Refuted
 
 -- an operation in the sums of the certificate's own dispatch and duals that passes the bound
 abbrev pub IsCertificatePair : Parts → ℕ → Cert Fraction → Passed Fraction → Type 0
-IsCertificatePair m bound (Optimal blocks energy limits) p = IsOptimalPair m (dispatch_by blocks) (duals_by energy limits) bound p
-IsCertificatePair m bound (Farkas energy limits) p = IsFarkasPair m (duals_by energy limits) bound p
+IsCertificatePair m bound (Optimal blocks energy limits) p = IsOptimalPair m (dispatch_by blocks) (named_duals energy limits) bound p
+IsCertificatePair m bound (Farkas energy limits) p = IsFarkasPair m (named_duals energy limits) bound p
 
 -- What is told is whether the certificate holds of the market, with the first reason where it does not; or two numbers of the
 -- certificate's own sums, each within the bound, whose outcome passes it.

@@ -56,12 +56,12 @@ value_at xs (Some place) = slice_index_or xs place (pos 0)
 abbrev pub reactance_at : LiveNetwork → List ℤ → ℕ → ℤ
 reactance_at network xs row = value_at xs (branch_place network (pos row))
 
-abbrev pub signed : Bool → ℤ → ℤ
-signed forward x = if forward then x else neg_ℤ x
+abbrev pub directed : Bool → ℤ → ℤ
+directed forward x = if forward then x else neg_ℤ x
 
 -- the sum round a loop of reactance times ratio times flow, against it where a branch is passed from T_BUS to F_BUS, in 10^-24
 abbrev pub loop_miss : Flows → Flows → List Member → ℤ
-loop_miss x flow members = int_sum (λ m. signed m.forward (x m.branch *ℤ flow m.branch)) members
+loop_miss x flow members = int_sum (λ m. directed m.forward (x m.branch *ℤ flow m.branch)) members
 
 abbrev pub first_branch : List Member → ℕ
 first_branch [] = 0

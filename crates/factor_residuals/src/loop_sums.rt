@@ -2,7 +2,7 @@
 
 ghost use Rattle.std.specs.Prelude.{◌≡◌, ◌++◌, ◌≤◌, ◌<◌, ◌+◌, ◌^◌, ◌*ℤ◌, ℕ, List, length, unsigned_abs, All};
 ghost use Rattle.market_data.specs.Scales.{most_buses, most_factor};
-ghost use Rattle.factor_residuals.specs.Kirchhoff.{loop_spot, reactance_at, signed, first_branch};
+ghost use Rattle.factor_residuals.specs.Kirchhoff.{loop_spot, reactance_at, directed, first_branch};
 ghost use Rattle.factor_residuals.specs.Columns.{IsLoopSum, with_drop, column_of};
 ghost use Rattle.factor_residuals.specs.Residuals.{AreReactances, IsResidual, loop_spots};
 
@@ -35,7 +35,7 @@ fn drop_over(reactance: i128, flow: i64, forward: bool) -> i128
     requires reactance { unsigned_abs reactance ≤ 10 ^ 22 }
     requires flow { unsigned_abs flow ≤ most_factor }
     ensures size { unsigned_abs result ≤ 10 ^ 31 }
-    ensures is { result ≡ signed forward (reactance *ℤ flow) }
+    ensures is { result ≡ directed forward (reactance *ℤ flow) }
 {
     let drop = reactance * i128::from(flow);
     if forward { drop } else { -drop }
@@ -46,7 +46,7 @@ fn with_drop(loop_sum: LoopSum, reactance: i128, flow: i64, forward: bool) -> Lo
     requires reactance { unsigned_abs reactance ≤ 10 ^ 22 }
     requires flow { unsigned_abs flow ≤ most_factor }
     requires loop_sum { IsLoopSum most_buses loop_sum }
-    ensures is { result ≡ with_drop loop_sum (signed forward (reactance *ℤ flow)) reactance }
+    ensures is { result ≡ with_drop loop_sum (directed forward (reactance *ℤ flow)) reactance }
     ensures grows { (k : ℕ) → IsLoopSum k loop_sum → IsLoopSum (k + 1) result }
 {
     LoopSum {

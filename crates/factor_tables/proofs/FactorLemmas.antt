@@ -1,6 +1,6 @@
 -- Entries by pair, and the rows that are marked.
 use Rattle.std.proofs.Common.{◌≡◌, ◌≢◌, ℕ, zero, suc, ◌+◌, ap, ◌∙◌, ◌≤◌, ◌<◌, ◌++◌, ◌∷◌, [], ℤ, pos, List, length, get_or, arith, refl, sym, Option, Some, None, Bool, true, false, All, inl, inr, length-append}
-use Rattle.std.specs.Prelude.{AllPairs, ◌==◌, ◌&&◌, ◌||◌, ◌⊎◌, Contains, if◌then◌else◌, is_some, IfSome, slice_set, unsigned_abs, unwrap_or}
+use Rattle.std.specs.Prelude.{◌==◌, ◌&&◌, ◌||◌, ◌⊎◌, Contains, if◌then◌else◌, is_some, IfSome, slice_set, unsigned_abs, unwrap_or}
 use Rattle.std.specs.List.{list_any}
 use Rattle.std.specs.Map.{lookup}
 use Rattle.std.proofs.Math.Logic.{⊎_elim}
@@ -15,7 +15,7 @@ use Rattle.std.proofs.lemmas.Option.{slice_get_within, get_or_from_slice_get}
 use Rattle.factor_tables.specs.declared.by_pair.Column.{Column}
 use Rattle.factor_tables.specs.declared.by_pair.Pairs.{Pairs}
 use Rattle.market_data.specs.Scales.{most_factor}
-use Rattle.factor_tables.specs.Factors.{AreFactors, Entry, HasNoPairTwice, IsFactor, Pair, factor_at, has_pair, marked_row, same_pair}
+use Rattle.factor_tables.specs.Factors.{ArePairFactors, Entry, HasNoPairTwice, IsFactorOfPair, Pair, factor_at, has_pair, marked_row, same_pair}
 
 pub is-none : {X : Type 0} (o : Option X) → is_some o ≡ false → o ≡ None
 is-none None none = refl
@@ -54,7 +54,7 @@ one_pair (a, b) (c, d) same =
     both false y passes = cc
 
 -- a pair's factor is that of a record, or 0
-pub factor_at-means : (entries : List Entry) (pair : Pair) → IsFactor entries pair (factor_at entries pair)
+pub factor_at-means : (entries : List Entry) (pair : Pair) → IsFactorOfPair entries pair (factor_at entries pair)
 factor_at-means entries pair = by (lookup (same_pair pair) entries) refl
   where
     by : (o : Option ℤ) → lookup (same_pair pair) entries ≡ o → Contains entries (pair, unwrap_or o (pos 0)) ⊎ ((is_some o ≡ false) × (unwrap_or o (pos 0) ≡ pos 0))
@@ -109,15 +109,15 @@ marked-push kind rows entries entry row is lt marked k = rw (list_any-append (λ
     by true same = let here : row ≡ k = eqb-true _ _ same in rw (same, ← here, get_or-set_same rows row true false lt) (or-true _)
     by false same = let other : k ≢ row = λ h. eqb-false _ _ same (sym h) in rw (same, get_or-set_other rows row k true false other, marked k) (or-false _)
 
-pub factors-push : (kind : Column) (old new : Pairs) (entry : Entry) (row : ℕ) → AreFactors kind old → has_pair old.by_pair.entries entry.0 ≡ false → row ≡ marked_row kind entry.0 → row < length old.marked.items
-    → unsigned_abs entry.1 ≤ most_factor → new.by_pair.entries ≡ old.by_pair.entries ++ entry ∷ [] → new.marked.items ≡ slice_set old.marked.items row true → AreFactors kind new
+pub factors-push : (kind : Column) (old new : Pairs) (entry : Entry) (row : ℕ) → ArePairFactors kind old → has_pair old.by_pair.entries entry.0 ≡ false → row ≡ marked_row kind entry.0 → row < length old.marked.items
+    → unsigned_abs entry.1 ≤ most_factor → new.by_pair.entries ≡ old.by_pair.entries ++ entry ∷ [] → new.marked.items ≡ slice_set old.marked.items row true → ArePairFactors kind new
 factors-push kind old new entry row are fresh is lt small entries marked = record {
   marked = λ k. rw (entries, marked) (marked-push kind old.marked.items old.by_pair.entries entry row is lt are.marked k);
   once = rw entries (once-push old.by_pair.entries entry are.once fresh);
   sizes = rw entries (All-append (λ (e : Entry). unsigned_abs e.1 ≤ most_factor) old.by_pair.entries (entry ∷ []) are.sizes (All-cons (λ (e : Entry). unsigned_abs e.1 ≤ most_factor) entry [] small (All-nil _)));
 }
 
-pub factors-none : (kind : Column) (pairs : Pairs) → pairs.by_pair.entries ≡ [] → ((k : ℕ) → get_or pairs.marked.items k false ≡ false) → AreFactors kind pairs
+pub factors-none : (kind : Column) (pairs : Pairs) → pairs.by_pair.entries ≡ [] → ((k : ℕ) → get_or pairs.marked.items k false ≡ false) → ArePairFactors kind pairs
 factors-none kind pairs none unmarked = record {
   marked = λ k. rw none (unmarked k);
   once = rw none (λ i j d lt within. absurd (omega (arith, within)));

@@ -27,8 +27,8 @@ abbrev pub factor_at : List Entry → Pair → ℤ
 factor_at entries pair = unwrap_or (lookup (same_pair pair) entries) (pos 0)
 
 -- what a pair's factor is: that of a record of the pair, and 0 where no record has it
-abbrev pub IsFactor : List Entry → Pair → ℤ → Type 0
-IsFactor entries pair factor = Contains entries (pair, factor) ⊎ ((has_pair entries pair ≡ false) × (factor ≡ pos 0))
+abbrev pub IsFactorOfPair : List Entry → Pair → ℤ → Type 0
+IsFactorOfPair entries pair factor = Contains entries (pair, factor) ⊎ ((has_pair entries pair ≡ false) × (factor ≡ pos 0))
 
 -- no pair stands twice, so that a pair has one record at most
 abbrev pub HasNoPairTwice : List Entry → Type 0
@@ -48,7 +48,7 @@ marked_row column.Bus pair = pair.0
 marked_row column.Outage pair = pair.1
 
 -- the rows of the records are marked and no others, no pair stands twice, and no factor is too great
-pub record AreFactors (kind : Column) (pairs : Pairs) : Type 0 where
+pub record ArePairFactors (kind : Column) (pairs : Pairs) : Type 0 where
   pub marked : (row : ℕ) → get_or pairs.marked.items row false ≡ list_any (λ entry. marked_row kind entry.0 == row) pairs.by_pair.entries
   pub once : HasNoPairTwice pairs.by_pair.entries
   pub sizes : All (λ entry. unsigned_abs entry.1 ≤ most_factor) pairs.by_pair.entries

@@ -2,7 +2,7 @@
 
 ghost use Rattle.std.specs.Prelude.{◌≡◌, ℕ, ◌≤◌, ◌<◌, ◌+◌, ◌++◌, ◌∷◌, [], List, unsigned_abs, length, get_or, slice_set, IfOk, false, true};
 ghost use Rattle.market_data.specs.Scales.{most_factor, most_lines};
-ghost use Rattle.factor_tables.specs.Factors.{Entry, AreFactors, IsFactor, factor_at, has_branch, has_outage, has_pair, marked_row};
+ghost use Rattle.factor_tables.specs.Factors.{Entry, ArePairFactors, IsFactorOfPair, factor_at, has_branch, has_outage, has_pair, marked_row};
 
 use indexmap::IndexMap;
 use plain_list::Memory;
@@ -96,21 +96,21 @@ pub struct Shift {
 impl Model for Shift {
     ghost use Rattle.std.specs.Prelude.{List};
     ghost use Rattle.market_data.specs.Scales.{most_lines};
-    ghost use Rattle.factor_tables.specs.Factors.{Entry, AreFactors};
+    ghost use Rattle.factor_tables.specs.Factors.{Entry, ArePairFactors};
     ghost use Rattle.factor_tables.specs.declared.by_pair.Column.TheVariants as column;
 
     ghost Value = { List Entry };
 
     ghost view = { λ shift. shift.pairs.by_pair.entries };
 
-    ghost invariant = { λ shift. AreFactors column.Bus shift.pairs };
+    ghost invariant = { λ shift. ArePairFactors column.Bus shift.pairs };
 }
 
 impl Shift {
     /// The factor of a branch's row and a bus's number, 0 where they have no record.
     pub fn factor(&self, branch: u32, bus: u32) -> i64
         ensures size { unsigned_abs result ≤ most_factor }
-        ensures means { IsFactor self.now (branch, bus) result }
+        ensures means { IsFactorOfPair self.now (branch, bus) result }
         ensures is { result ≡ factor_at self.now (branch, bus) }
     {
         self.pairs.factor((branch, bus))
@@ -134,21 +134,21 @@ pub struct Loss {
 impl Model for Loss {
     ghost use Rattle.std.specs.Prelude.{List};
     ghost use Rattle.market_data.specs.Scales.{most_lines};
-    ghost use Rattle.factor_tables.specs.Factors.{Entry, AreFactors};
+    ghost use Rattle.factor_tables.specs.Factors.{Entry, ArePairFactors};
     ghost use Rattle.factor_tables.specs.declared.by_pair.Column.TheVariants as column;
 
     ghost Value = { List Entry };
 
     ghost view = { λ loss. loss.pairs.by_pair.entries };
 
-    ghost invariant = { λ loss. AreFactors column.Outage loss.pairs };
+    ghost invariant = { λ loss. ArePairFactors column.Outage loss.pairs };
 }
 
 impl Loss {
     /// The factor of a branch's row and the row of the lost branch, 0 where they have no record.
     pub fn factor(&self, branch: u32, outage: u32) -> i64
         ensures size { unsigned_abs result ≤ most_factor }
-        ensures means { IsFactor self.now (branch, outage) result }
+        ensures means { IsFactorOfPair self.now (branch, outage) result }
         ensures is { result ≡ factor_at self.now (branch, outage) }
     {
         self.pairs.factor((branch, outage))

@@ -3,7 +3,7 @@
 ghost use Rattle.std.specs.Prelude.{◌≡◌, ◌≢◌, ℕ, ◌+◌, ◌<◌, ◌≤◌, ◌^◌, ◌&&◌, not, unsigned_abs, length, map, get_or, [], Ok, Err, IfOk, IfErr, false};
 ghost use Rattle.record_reading.specs.Rows.{read_rows};
 ghost use Rattle.market_data.specs.Scales.{most_factor};
-ghost use Rattle.factor_tables.specs.Factors.{AreFactors, HasNoPairTwice, has_pair, marked_row};
+ghost use Rattle.factor_tables.specs.Factors.{ArePairFactors, HasNoPairTwice, has_pair, marked_row};
 ghost use Rattle.factor_tables.specs.Records.{FactorIsRead};
 ghost use Rattle.factor_tables.specs.Rules.{IsPairOf, checked, fine, loss_faults, record_faults, shift_faults};
 ghost use Rattle.factor_tables.specs.Tables.{entry_in, factors_of, header_of, loss_of, shift_of};
@@ -107,7 +107,7 @@ fn pairs_of(
     column: Column,
     table: &Table,
 ) -> Result<Pairs, TableFault>
-    ensures kept { IfOk result (AreFactors column) }
+    ensures kept { IfOk result (ArePairFactors column) }
     ensures ok { IfOk result (λ pairs. read_rows (entry_in network.now column) [] 2 table.now ≡ Ok pairs.by_pair.entries) }
     ensures err { IfErr result (λ fault. fault ≢ TableFault.Memory → read_rows (entry_in network.now column) [] 2 table.now ≡ Err fault) }
 {
@@ -128,7 +128,7 @@ fn factors_of(
     bytes: &[u8],
 ) -> Result<Pairs, TableFault>
     requires { map (λ name. name.now) header.now ≡ header_of column }
-    ensures kept { IfOk result (AreFactors column) }
+    ensures kept { IfOk result (ArePairFactors column) }
     ensures ok { IfOk result (λ pairs. factors_of column network.now bytes.now ≡ Ok pairs.by_pair.entries) }
     ensures err { IfErr result (λ fault. fault ≢ TableFault.Memory → factors_of column network.now bytes.now ≡ Err fault) }
 {

@@ -16,7 +16,7 @@ use Rattle.market_model.specs.declared.limits.Row.{Row}
 use Rattle.market_model.specs.declared.limits.Cause.TheVariants.{Base}
 use Rattle.market_model.specs.LimitRows.{rows, row_id}
 use Rattle.market_model.specs.Market.{IsMarket}
-use Rattle.market_model.specs.Optimality.{same_id, up_in, down_in, up_of, down_of, is_named, named_rows}
+use Rattle.market_model.specs.Optimality.{same_id, up_in, down_in, up_of, down_of, names_row, named_rows}
 use Rattle.market_model.proofs.ChangeLemmas.{same_default}
 use Rattle.limit_rows.proofs.ApartLemmas.{names_apart}
 use Rattle.limit_rows.proofs.GroupLemmas.{length-map}
@@ -60,15 +60,15 @@ or_false : (a b : Bool) → (a || b) ≡ false → (a ≡ false) × (b ≡ false
 or_false true b h = absurd Prim.cc
 or_false false b h = (refl, h)
 
-pub up_unnamed : (ds : List (Dual Fraction)) (id : RowId) → is_named ds id ≡ false → up_in ds id ≡ whole (pos 0)
+pub up_unnamed : (ds : List (Dual Fraction)) (id : RowId) → names_row ds id ≡ false → up_in ds id ≡ whole (pos 0)
 up_unnamed [] id h = refl
 up_unnamed (d ∷ ds) id h =
-    let both = or_false (same_id d.row id) (is_named ds id) h in ap (λ (b : Bool). if b then d.up else up_in ds id) both.0 ∙ up_unnamed ds id both.1
+    let both = or_false (same_id d.row id) (names_row ds id) h in ap (λ (b : Bool). if b then d.up else up_in ds id) both.0 ∙ up_unnamed ds id both.1
 
-pub down_unnamed : (ds : List (Dual Fraction)) (id : RowId) → is_named ds id ≡ false → down_in ds id ≡ whole (pos 0)
+pub down_unnamed : (ds : List (Dual Fraction)) (id : RowId) → names_row ds id ≡ false → down_in ds id ≡ whole (pos 0)
 down_unnamed [] id h = refl
 down_unnamed (d ∷ ds) id h =
-    let both = or_false (same_id d.row id) (is_named ds id) h in ap (λ (b : Bool). if b then d.down else down_in ds id) both.0 ∙ down_unnamed ds id both.1
+    let both = or_false (same_id d.row id) (names_row ds id) h in ap (λ (b : Bool). if b then d.down else down_in ds id) both.0 ∙ down_unnamed ds id both.1
 
 -- ---- a list round one of those that pass a test
 filter_at : {X : Type 0} (p : X → Bool) (xs : List X) (k : ℕ) (e : X) → k < length (filter p xs)
@@ -91,10 +91,10 @@ filter_at {X} p (x ∷ xs) k e h = by (p x) refl k (λ j lt. filter_at p xs j e 
 -- ---- sums over rows that duals name
 module _ (m : Parts) (d : Duals Fraction) where
   abbrev named : Row → Bool
-  named r = is_named d.limits (row_id m r)
+  named r = names_row d.limits (row_id m r)
 
   -- what is 0 for rows without duals has one sum over all rows and over those with duals
-  pub sum_named : (f : Row → Fraction) (rs : List Row) → ((r : Row) → is_named d.limits (row_id m r) ≡ false → f r ≡ whole (pos 0)) → sum_by f rs ≡ sum_by f (filter named rs)
+  pub sum_named : (f : Row → Fraction) (rs : List Row) → ((r : Row) → names_row d.limits (row_id m r) ≡ false → f r ≡ whole (pos 0)) → sum_by f rs ≡ sum_by f (filter named rs)
   sum_named f rs none = sum_by-same f (λ r. kept (named r) (f r)) rs (λ r. by (named r) (none r)) ∙ sym (sum_by-filter f named rs)
     where
       by : {x : Fraction} (b : Bool) → (b ≡ false → x ≡ whole (pos 0)) → x ≡ kept b x
@@ -102,7 +102,7 @@ module _ (m : Parts) (d : Duals Fraction) where
       by false h = h refl
 
   -- terms round that of one of the rows with duals
-  pub terms_named : (t : Row → Term) → ((r : Row) → is_named d.limits (row_id m r) ≡ false → term_value (t r) ≡ whole (pos 0)) → (k : ℕ) (r : Row) → k < length (named_rows m d) → r ≡ get_or (named_rows m d) k r
+  pub terms_named : (t : Row → Term) → ((r : Row) → names_row d.limits (row_id m r) ≡ false → term_value (t r) ≡ whole (pos 0)) → (k : ℕ) (r : Row) → k < length (named_rows m d) → r ≡ get_or (named_rows m d) k r
       → (front : List Term) × (rest : List Term) × (map t (rows m) ≡ front ++ t r ∷ rest) × (total front ≡ sum_by (λ s. term_value (t s)) (take k (named_rows m d)))
   terms_named t none k r h at =
       let s = filter_at named (rows m) k r h in (
@@ -137,7 +137,7 @@ module _ (m : Parts) (market : IsMarket m) (d : Duals Fraction) (names : map (λ
   apart : NamesApart d.limits
   apart i j e p q = λ same.
       let inside : j < length (named_rows m d) = Prim.omega (arith, q, named_count) in
-      AllPairs-filter (λ r s. row_id m r ≢ row_id m s) (λ r. is_named d.limits (row_id m r)) (rows m) (names_apart m market) i j none p inside
+      AllPairs-filter (λ r s. row_id m r ≢ row_id m s) (λ r. names_row d.limits (row_id m r)) (rows m) (names_apart m market) i j none p inside
       (sym (name_at i e none (Prim.omega (arith, p, q))) ∙ same ∙ name_at j e none q)
 
   pub row_of_dual : (k : ℕ) (e : Dual Fraction) → k < length d.limits → e ≡ get_or d.limits k e → (r : Row) × IsRowOfDual m d k e r
@@ -147,7 +147,7 @@ module _ (m : Parts) (market : IsMarket m) (d : Duals Fraction) (names : map (λ
       let name : row_id m r ≡ e.row = sym (name_at k e none h) ∙ ap (λ (f : Dual Fraction). f.row) (sym at) in (
         r,
         record {
-          row = (Contains-from_filter (λ s. is_named d.limits (row_id m s)) (rows m) r (k, inside, same_default (named_rows m d) k r none inside)).0;
+          row = (Contains-from_filter (λ s. names_row d.limits (row_id m s)) (rows m) r (k, inside, same_default (named_rows m d) k r none inside)).0;
           name = name;
           inside = inside;
           at = same_default (named_rows m d) k none r inside;

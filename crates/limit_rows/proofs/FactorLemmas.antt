@@ -1,5 +1,5 @@
 -- The factor of a row in units of 10^-12, and where the lines of rows stand.
-use Rattle.std.specs.Prelude.{◌≡◌, ℕ, ◌*◌, ◌<◌, ◌≤◌, ◌^◌, Bool, true, false, if◌then◌else◌, unsigned_abs, ℤ, pos, ◌+ℤ◌, ◌*ℤ◌, List, [], ◌∷◌, map, filter, length, All, Contains, refl}
+use Rattle.std.specs.Prelude.{◌≡◌, ℕ, ◌*◌, ◌<◌, ◌≤◌, Bool, true, false, if◌then◌else◌, unsigned_abs, ℤ, pos, ◌+ℤ◌, ◌*ℤ◌, List, [], ◌∷◌, map, filter, length, All, Contains, refl}
 use Rattle.std.specs.List.{flat_map}
 use Rattle.std.proofs.Common.{suc, arith, ap, sym, subst, ◌∙◌, get_or}
 use Rattle.std.proofs.Math.Nat.{mul-pos, mul_comm}
@@ -20,7 +20,7 @@ use Rattle.market_model.specs.declared.limits.Cause.{Cause}
 use Rattle.market_model.specs.declared.limits.Row.{Row}
 use Rattle.market_model.specs.declared.limits.Cause.TheVariants.{Base, Branch}
 use Rattle.market_model.specs.LimitRows.{bears, causes, place_of_line, rows, rows_of, row_factor}
-use Rattle.market_model.specs.Market.{IsMarket, IsFactor}
+use Rattle.market_model.specs.Market.{IsMarket, IsTableFactor}
 use Rattle.limit_rows.proofs.GroupLemmas.{length-map, place_at, place-own, row_at}
 
 -- ---- factors of one width
@@ -93,7 +93,7 @@ module _ (m : Parts) (market : IsMarket m) where
   stands r (k, lt, e) = subst (Stands m) e (rows_stand k r lt)
 
 -- ---- the size of a factor
-pub factor_in-size : (lines others : ℕ) (fs : List Factor) (l o : ℕ) → All (IsFactor lines others) fs → unsigned_abs (factor_in fs l o) ≤ most_factor
+pub factor_in-size : (lines others : ℕ) (fs : List Factor) (l o : ℕ) → All (IsTableFactor lines others) fs → unsigned_abs (factor_in fs l o) ≤ most_factor
 factor_in-size lines others [] l o all = Prim.omega arith
 factor_in-size lines others (f ∷ fs) l o all = by (is_pair l o f) (all 0 f (Prim.omega arith)).size (factor_in-size lines others fs l o (λ k d lt. all (suc k) d (Prim.omega (arith, lt))))
   where

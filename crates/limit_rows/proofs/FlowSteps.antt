@@ -1,5 +1,5 @@
 -- Steps of the flows of lines and rows, and of the offsets of rows.
-use Rattle.std.specs.Prelude.{◌≡◌, ◌≢◌, ◌⊎◌, ℕ, ◌+◌, ◌<◌, ◌^◌, pos, ℤ, List, [], ◌∷◌, ◌++◌, map, length, refl}
+use Rattle.std.specs.Prelude.{◌≡◌, ◌≢◌, ◌⊎◌, ℕ, ◌+◌, ◌<◌, pos, ℤ, List, [], ◌∷◌, ◌++◌, map, length, refl}
 use Rattle.std.proofs.Common.{arith, inl, inr, ap, ap₂, sym, subst, ◌∙◌, get_or}
 use Rattle.std.proofs.lemmas.List.FromFn.{get_or-map-range_with_len}
 use Rattle.fraction_theory.specs.Fraction.{Fraction, whole, over, ◌+ℚ◌, ◌*ℚ◌}
@@ -15,13 +15,13 @@ use Rattle.market_model.specs.declared.limits.Row.{Row}
 use Rattle.market_model.specs.declared.participants.Parts.{Parts}
 use Rattle.market_model.specs.Dispatch.{Dispatch, places, injection}
 use Rattle.market_model.specs.LimitRows.{IsCauseAmong, flow_by, flow_terms, flow_terms_in, line_flow, line_offset, line_terms, loss_factor, offset_terms, row_offset, shift_factor}
-use Rattle.market_model.specs.NamedSums.{IsRefusal, IsRefusedIn}
+use Rattle.market_model.specs.NamedSums.{IsRefusal, IsRefusedIn, IsShareRefusal}
 use Rattle.market_model.specs.PutIn.{AreInjections, put_in}
 use Rattle.market_model.proofs.MorePlaces.{total-places_more}
 use Rattle.market_model.proofs.PlaceLists.{map_same}
 use Rattle.market_model.proofs.PutInSteps.{put_is}
 use Rattle.market_model.proofs.SumSteps.{plus_at, multiplied_at, terms_at}
-use Rattle.limit_rows.specs.LineFlows.{AreFlows, IsLineRefusal, IsShareRefusal}
+use Rattle.limit_rows.specs.LineFlows.{AreFlows, IsLineRefusal}
 
 -- a factor of 0 takes nothing
 pub no_share : (s x : Fraction) (k : ℤ) → k ≡ pos 0 → s ≡ s +ℚ over k factor_one *ℚ x

@@ -16,7 +16,7 @@ use Rattle.market_model.specs.declared.limits.Cause.{Cause}
 use Rattle.market_model.specs.LimitRows.{outage_of, row_id, rows, bears, causes, lines_of, rows_of}
 use Rattle.market_model.proofs.ChangeLemmas.{same_default}
 use Rattle.market_model.proofs.MorePlaces.{places_more}
-use Rattle.limit_rows.specs.Naming.{is_named}
+use Rattle.limit_rows.specs.Naming.{has_name}
 use Rattle.limit_rows.proofs.GroupLemmas.{places_at, rows-causes, rows-more}
 use Rattle.limit_rows.proofs.NumberingLemmas.{row_on, rows_before}
 use Rattle.limit_rows.proofs.PositionLemmas.{Fails}
@@ -30,16 +30,16 @@ and-true true c e = e
 and-true false c e = refl
 
 -- rows under a cause of another outage have other names
-pub other_outage : (m : Parts) (row : RowId) (cause : Cause) → (outage_of m cause ≡ row.outage → ⊥) → Fails (is_named m row) (rows_of m cause)
+pub other_outage : (m : Parts) (row : RowId) (cause : Cause) → (outage_of m cause ≡ row.outage → ⊥) → Fails (has_name m row) (rows_of m cause)
 other_outage m row cause h =
-    All-map (λ r. is_named m row r ≡ false) (row_on cause) (lines_of m cause) (λ k d lt. and-false ((line_at m (get_or (lines_of m cause) k d)).row == row.branch) _ (ne_eqb _ _ h))
+    All-map (λ r. has_name m row r ≡ false) (row_on cause) (lines_of m cause) (λ k d lt. and-false ((line_at m (get_or (lines_of m cause) k d)).row == row.branch) _ (ne_eqb _ _ h))
 
-pub same_outage : (m : Parts) (row : RowId) (cause : Cause) (l : ℕ) → outage_of m cause ≡ row.outage → is_named m row (row_on cause l) ≡ ((line_at m l).row == row.branch)
+pub same_outage : (m : Parts) (row : RowId) (cause : Cause) (l : ℕ) → outage_of m cause ≡ row.outage → has_name m row (row_on cause l) ≡ ((line_at m l).row == row.branch)
 same_outage m row cause l e = and-true ((line_at m l).row == row.branch) _ (eq-eqb _ _ e)
 
 -- lines whose rows have another branch
-pub other_branch : (m : Parts) (row : RowId) (cause : Cause) (ls : List ℕ) → outage_of m cause ≡ row.outage → Fails (λ l. (line_at m l).row == row.branch) ls → Fails (is_named m row) (map (row_on cause) ls)
-other_branch m row cause ls e h = All-map (λ r. is_named m row r ≡ false) (row_on cause) ls (λ k d lt. same_outage m row cause (get_or ls k d) e ∙ h k d lt)
+pub other_branch : (m : Parts) (row : RowId) (cause : Cause) (ls : List ℕ) → outage_of m cause ≡ row.outage → Fails (λ l. (line_at m l).row == row.branch) ls → Fails (has_name m row) (map (row_on cause) ls)
+other_branch m row cause ls e h = All-map (λ r. has_name m row r ≡ false) (row_on cause) ls (λ k d lt. same_outage m row cause (get_or ls k d) e ∙ h k d lt)
 
 pub fails-more : (p b : ℕ → Bool) (i : ℕ) → Fails p (filter b (places i)) → (b i ≡ true → p i ≡ false) → Fails p (filter b (places (i + 1)))
 fails-more p b i h here =
@@ -72,10 +72,10 @@ causes_round m i cause at = (
 )
 
 -- a name with a place is that of a row
-pub named_row : (m : Parts) (name : RowId) (i : ℕ) → position (is_named m name) (rows m) ≡ Some i → (r : Row) × Contains (rows m) r × (row_id m r ≡ name)
+pub named_row : (m : Parts) (name : RowId) (i : ℕ) → position (has_name m name) (rows m) ≡ Some i → (r : Row) × Contains (rows m) r × (row_id m r ≡ name)
 named_row m name i e =
     let none : Row = record { line = 0; cause = Base } in
-    let found = position-Some (is_named m name) (rows m) i none e in
+    let found = position-Some (has_name m name) (rows m) i none e in
     let r = get_or (rows m) i none in
     let both = halves ((row_id m r).branch == name.branch) ((row_id m r).outage == name.outage) found.1 in (
       r,

@@ -21,7 +21,7 @@ use Rattle.market_model.specs.declared.limits.Cause.TheVariants.{Base, Branch}
 use Rattle.market_model.specs.declared.limits.Cause.{Cause}
 use Rattle.market_model.specs.LimitRows.{IsCauseAmong, outage_of, place_of_line, row_id, rows, bears, causes, lines_of, rows_of}
 use Rattle.market_model.proofs.ChangeLemmas.{same_default}
-use Rattle.limit_rows.specs.Naming.{is_named}
+use Rattle.limit_rows.specs.Naming.{has_name}
 use Rattle.limit_rows.proofs.ApartLemmas.{names_apart, outage_in}
 use Rattle.limit_rows.proofs.FactorLemmas.{IsLost, outage_stands, stands}
 use Rattle.limit_rows.proofs.GroupLemmas.{length-map, place_at, place-own, row-of_outage, rows-causes}
@@ -187,13 +187,13 @@ same_name a b h = by (a.branch == b.branch) (a.outage == b.outage) refl refl h
     by false y e f g = absurd Prim.cc
 
 -- the row of a place is the first of its name
-pub position_named : (m : Parts) → IsMarket m → (place : ℕ) (name : RowId) (r : Row) → slice_get (rows m) place ≡ Some r → name ≡ row_id m r → position (is_named m name) (rows m) ≡ Some place
+pub position_named : (m : Parts) → IsMarket m → (place : ℕ) (name : RowId) (r : Row) → slice_get (rows m) place ≡ Some r → name ≡ row_id m r → position (has_name m name) (rows m) ≡ Some place
 position_named m market place name r is e =
     let inside : place < length (rows m) = slice_get_within (rows m) place r is in
     let here : (d : Row) → row_id m (get_or (rows m) place d) ≡ name = λ d. ap (row_id m) (get_or_from_slice_get (rows m) place r d is) ∙ sym e in
-    position-is (is_named m name) (rows m) place
-    (position_or_len_is (is_named m name) (rows m) place r (Prim.omega (arith, inside))
-    (λ k lt. other k lt (is_named m name (get_or (rows m) k r)) refl inside (here r))
+    position-is (has_name m name) (rows m) place
+    (position_or_len_is (has_name m name) (rows m) place r (Prim.omega (arith, inside))
+    (λ k lt. other k lt (has_name m name (get_or (rows m) k r)) refl inside (here r))
     (λ lt. named (here r)))
     inside
   where
@@ -203,12 +203,12 @@ position_named m market place name r is e =
         both : (a : RowId) → same_id a a ≡ true
         both a = Prim.rw (eq-eqb a.branch a.branch refl, eq-eqb a.outage a.outage refl) refl
 
-    other : (k : ℕ) → k < place → (b : Bool) → is_named m name (get_or (rows m) k r) ≡ b → place < length (rows m) → row_id m (get_or (rows m) place r) ≡ name → b ≡ false
+    other : (k : ℕ) → k < place → (b : Bool) → has_name m name (get_or (rows m) k r) ≡ b → place < length (rows m) → row_id m (get_or (rows m) place r) ≡ name → b ≡ false
     other k lt true t inside f = absurd (names_apart m market k place r lt inside (same_name _ _ t ∙ sym f))
     other k lt false t inside f = refl
 
-pub name_of_position : (m : Parts) (name : RowId) (place : ℕ) → position (is_named m name) (rows m) ≡ Some place → slice_get (map (row_id m) (rows m)) place ≡ Some name
+pub name_of_position : (m : Parts) (name : RowId) (place : ℕ) → position (has_name m name) (rows m) ≡ Some place → slice_get (map (row_id m) (rows m)) place ≡ Some name
 name_of_position m name place e =
     let none : Row = record { line = 0; cause = Base } in
-    let found = position-Some (is_named m name) (rows m) place none e in
+    let found = position-Some (has_name m name) (rows m) place none e in
     slice_get-map (row_id m) (rows m) place ∙ ap (option_map (row_id m)) (slice_get-get_or (rows m) place none found.0) ∙ ap (λ (n : RowId). Some n) (same_name _ _ found.1)

@@ -9,7 +9,7 @@ use Rattle.market_data.specs.declared.participants.Bus.{Bus}
 use Rattle.market_model.specs.declared.participants.Factor.{Factor}
 use Rattle.market_model.specs.declared.participants.Line.{Line}
 use Rattle.market_model.specs.declared.participants.Parts.{Parts}
-use Rattle.market_model.specs.Market.{IsMarket, IsLine, IsFactor, AreFactors}
+use Rattle.market_model.specs.Market.{IsMarket, IsLine, IsTableFactor, AreTableFactors}
 
 abbrev pub bus_of : ℕ → Bus
 bus_of number = record { number = number; pd = pos 0; gs = pos 0 }
@@ -51,13 +51,13 @@ Apart a b = a ≢ b
 abbrev OtherPair : Factor → Factor → Type 0
 OtherPair f g = f.line ≡ g.line → f.of ≢ g.of
 
-shifts-are : AreFactors 3 3 shifts
+shifts-are : AreTableFactors 3 3 shifts
 shifts-are = record {
-  each = All-cons (IsFactor 3 3) (shift_of 0 1 (negsuc 499999)) (shift_of 0 2 (negsuc 249999) ∷ shift_of 1 1 (negsuc 499999) ∷ shift_of 1 2 (negsuc 749999) ∷ []) (record { line = Prim.omega arith; of = Prim.omega arith; size = Prim.omega (arith, ints) })
-      (All-cons (IsFactor 3 3) (shift_of 0 2 (negsuc 249999)) (shift_of 1 1 (negsuc 499999) ∷ shift_of 1 2 (negsuc 749999) ∷ []) (record { line = Prim.omega arith; of = Prim.omega arith; size = Prim.omega (arith, ints) })
-      (All-cons (IsFactor 3 3) (shift_of 1 1 (negsuc 499999)) (shift_of 1 2 (negsuc 749999) ∷ []) (record { line = Prim.omega arith; of = Prim.omega arith; size = Prim.omega (arith, ints) })
-      (All-cons (IsFactor 3 3) (shift_of 1 2 (negsuc 749999)) ([]) (record { line = Prim.omega arith; of = Prim.omega arith; size = Prim.omega (arith, ints) })
-      (All-nil (IsFactor 3 3)))));
+  each = All-cons (IsTableFactor 3 3) (shift_of 0 1 (negsuc 499999)) (shift_of 0 2 (negsuc 249999) ∷ shift_of 1 1 (negsuc 499999) ∷ shift_of 1 2 (negsuc 749999) ∷ []) (record { line = Prim.omega arith; of = Prim.omega arith; size = Prim.omega (arith, ints) })
+      (All-cons (IsTableFactor 3 3) (shift_of 0 2 (negsuc 249999)) (shift_of 1 1 (negsuc 499999) ∷ shift_of 1 2 (negsuc 749999) ∷ []) (record { line = Prim.omega arith; of = Prim.omega arith; size = Prim.omega (arith, ints) })
+      (All-cons (IsTableFactor 3 3) (shift_of 1 1 (negsuc 499999)) (shift_of 1 2 (negsuc 749999) ∷ []) (record { line = Prim.omega arith; of = Prim.omega arith; size = Prim.omega (arith, ints) })
+      (All-cons (IsTableFactor 3 3) (shift_of 1 2 (negsuc 749999)) ([]) (record { line = Prim.omega arith; of = Prim.omega arith; size = Prim.omega (arith, ints) })
+      (All-nil (IsTableFactor 3 3)))));
   distinct = AllPairs-cons OtherPair (shift_of 0 1 (negsuc 499999)) (shift_of 0 2 (negsuc 249999) ∷ shift_of 1 1 (negsuc 499999) ∷ shift_of 1 2 (negsuc 749999) ∷ [])
       (All-cons (OtherPair (shift_of 0 1 (negsuc 499999))) (shift_of 0 2 (negsuc 249999)) (shift_of 1 1 (negsuc 499999) ∷ shift_of 1 2 (negsuc 749999) ∷ []) (λ e f. absurd (Prim.omega (arith, f)))
       (All-cons (OtherPair (shift_of 0 1 (negsuc 499999))) (shift_of 1 1 (negsuc 499999)) (shift_of 1 2 (negsuc 749999) ∷ []) (λ e. absurd (Prim.omega (arith, e)))
@@ -65,9 +65,9 @@ shifts-are = record {
       (three_apart OtherPair (shift_of 0 2 (negsuc 249999)) (shift_of 1 1 (negsuc 499999)) (shift_of 1 2 (negsuc 749999)) (λ e. absurd (Prim.omega (arith, e))) (λ e. absurd (Prim.omega (arith, e))) (λ e f. absurd (Prim.omega (arith, f))));
 }
 
-losses-are : AreFactors 3 3 losses
+losses-are : AreTableFactors 3 3 losses
 losses-are = record {
-  each = All-cons (IsFactor 3 3) (shift_of 1 0 (pos 1000000)) [] (record { line = Prim.omega arith; of = Prim.omega arith; size = Prim.omega (arith, ints) }) (All-nil (IsFactor 3 3));
+  each = All-cons (IsTableFactor 3 3) (shift_of 1 0 (pos 1000000)) [] (record { line = Prim.omega arith; of = Prim.omega arith; size = Prim.omega (arith, ints) }) (All-nil (IsTableFactor 3 3));
   distinct = one_alone OtherPair (shift_of 1 0 (pos 1000000));
 }
 

@@ -7,5 +7,5 @@ use Rattle.market_model.specs.LimitRows.{row_id}
 use Rattle.market_model.specs.Optimality.{same_id}
 
 -- a row of this name
-abbrev pub is_named : Parts → RowId → Row → Bool
-is_named m name r = same_id (row_id m r) name
+abbrev pub has_name : Parts → RowId → Row → Bool
+has_name m name r = same_id (row_id m r) name

@@ -4,7 +4,7 @@ ghost use Rattle.std.specs.Prelude.{◌≡◌, ◌≤◌, ◌<◌, ◌+◌, leng
 ghost use Rattle.std.specs.List.{position, slice_get};
 ghost use Rattle.market_data.specs.Scales.{most_lines, most_outages};
 ghost use Rattle.market_model.specs.LimitRows.{bears, causes, lines_of, outage_of, place_of_line, rows_of, IsCauseAmong};
-ghost use Rattle.limit_rows.specs.Naming.{is_named};
+ghost use Rattle.limit_rows.specs.Naming.{has_name};
 
 use market_model::{Cause, Market, RowId};
 
@@ -102,7 +102,7 @@ pub(crate) fn line_behind(market: &Market, cause: Cause, count: usize) -> usize
 pub(crate) fn position_in(market: &Market, cause: Cause, row: RowId) -> Option<usize>
     requires { IsCauseAmong (length market.now.lines) cause }
     ensures few { IfSome result (λ place. place < most_lines) }
-    ensures is { result ≡ position (is_named market.now row) (rows_of market.now cause) }
+    ensures is { result ≡ position (has_name market.now row) (rows_of market.now cause) }
 {
     if outage_of(market, cause) != row.outage {
         return None;

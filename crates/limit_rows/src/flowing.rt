@@ -6,10 +6,10 @@ ghost use Rattle.market_data.specs.Scales.{factor_one, most_factor};
 ghost use Rattle.market_model.specs.declared.limits.Cause.TheVariants as cause;
 ghost use Rattle.market_model.specs.Dispatch.{places};
 ghost use Rattle.market_model.specs.LimitRows.{IsCauseAmong, flow_by, flow_terms, line_flow, line_offset, line_terms, offset_terms, row_offset};
-ghost use Rattle.market_model.specs.NamedSums.{IsRefusedIn};
+ghost use Rattle.market_model.specs.NamedSums.{IsRefusedIn, IsShareRefusal};
 ghost use Rattle.market_model.specs.PutIn.{put_in};
 ghost use Rattle.market_model.specs.Valued.{passed_at};
-ghost use Rattle.limit_rows.specs.LineFlows.{IsLineRefusal, IsShareRefusal};
+ghost use Rattle.limit_rows.specs.LineFlows.{IsLineRefusal};
 
 use crate::factors::{loss_of, shift_of};
 use exact_fraction::{Exact, Passed};

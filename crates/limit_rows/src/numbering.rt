@@ -4,7 +4,7 @@ ghost use Rattle.std.specs.Prelude.{◌≡◌, ◌<◌, length, map, IfSome, Som
 ghost use Rattle.std.specs.List.{position, slice_get};
 ghost use Rattle.market_model.specs.declared.limits.Row.{Row};
 ghost use Rattle.market_model.specs.LimitRows.{row_id, rows};
-ghost use Rattle.limit_rows.specs.Naming.{is_named};
+ghost use Rattle.limit_rows.specs.Naming.{has_name};
 
 use crate::causes::{cause_at, cause_count, count_of, line_behind, position_in};
 use crate::places::name_at;
@@ -25,7 +25,7 @@ pub fn count(market: &Market) -> usize
 pub fn id(market: &Market, place: usize) -> RowId
     requires { place < length (rows market.now) }
     ensures is { (r : Row) → slice_get (rows market.now) place ≡ Some r → result ≡ row_id market.now r }
-    ensures position { position (is_named market.now result) (rows market.now) ≡ Some place }
+    ensures position { position (has_name market.now result) (rows market.now) ≡ Some place }
 {
     let _lines = market.lines();
     let mut left = place;
@@ -43,7 +43,7 @@ pub fn id(market: &Market, place: usize) -> RowId
 
 /// The place of the row of a name, where there is one.
 pub fn position(market: &Market, row: RowId) -> Option<usize>
-    ensures is { result ≡ position (is_named market.now row) (rows market.now) }
+    ensures is { result ≡ position (has_name market.now row) (rows market.now) }
     ensures id { IfSome result (λ place. slice_get (map (row_id market.now) (rows market.now)) place ≡ Some row) }
 {
     let mut before = 0;

@@ -20,7 +20,7 @@ use Rattle.fraction_theory.proofs.SignLaws.{IsSign, sign_of_is}
 use Rattle.market_model.specs.declared.answered.RowId.{RowId}
 use Rattle.market_model.specs.declared.participants.Parts.{Parts}
 use Rattle.market_model.specs.Dispatch.{Dispatch, places, injection}
-use Rattle.market_model.specs.Excess.{size_by, size_of}
+use Rattle.market_model.specs.Overrun.{size_by, size_of}
 use Rattle.market_model.specs.declared.limits.Cause.{Cause}
 use Rattle.market_model.specs.declared.limits.Row.{Row}
 use Rattle.market_model.specs.LimitRows.{IsCauseAmong, bears, causes, flow_by, flow_terms, limit, line_flow, row_id, rows}
@@ -31,7 +31,7 @@ use Rattle.limit_rows.proofs.NumberingLemmas.{row_on, all_before}
 use Rattle.limit_rows.proofs.PlaceLemmas.{at_places}
 use Rattle.limit_screen.specs.declared.screening.Broken.{Broken}
 use Rattle.limit_screen.specs.Flows.{flows_at, line_in, LawOfRowFlows}
-use Rattle.limit_screen.specs.Screening.{AllHold, IsFirstMost, IsWorstNamed, IsWorstOf, excess_by, rows_to}
+use Rattle.limit_screen.specs.Screening.{AllHold, IsFirstMost, IsWorstNamed, IsWorstOf, overrun_by, rows_to}
 
 -- ---- orders and differences
 pub not_past : (o : Ordering) (x y : Fraction) → MatchOrdering o (x <ℚ y) (x ≡ y) (y <ℚ x) → (o ≡ Less) ⊎ (o ≡ Equal) → x ≤ℚ y
@@ -165,22 +165,22 @@ lines_same m cause k rs e =
 pub all_rows : (m : Parts) (k : ℕ) → length (causes m) ≤ k → rows_to m k ≡ rows m
 all_rows m k h = all_before m k h
 
-pub worst_named : (m : Parts) (f : ℕ → Fraction) (r : Row) (id : RowId) → IsFirstMost (excess_by m f) (rows m) r → id ≡ row_id m r → IsWorstNamed m f id
+pub worst_named : (m : Parts) (f : ℕ → Fraction) (r : Row) (id : RowId) → IsFirstMost (overrun_by m f) (rows m) r → id ≡ row_id m r → IsWorstNamed m f id
 worst_named m f r id h e = (
   h.place,
   r,
   record {
     stands = h.stands;
     broken = h.broken;
-    most = λ s c. subst (λ t. excess_by m f t ≤ℚ excess_by m f r) c.2 (h.most c.0 s c.1);
+    most = λ s c. subst (λ t. overrun_by m f t ≤ℚ overrun_by m f r) c.2 (h.most c.0 s c.1);
     first = λ i s lt at. h.first i s lt at;
   },
   e,
 )
 
-pub all_hold_by : (m : Parts) (f : ℕ → Fraction) → All (λ s. excess_by m f s ≤ℚ whole (pos 0)) (rows m) → AllHold m f
+pub all_hold_by : (m : Parts) (f : ℕ → Fraction) → All (λ s. overrun_by m f s ≤ℚ whole (pos 0)) (rows m) → AllHold m f
 all_hold_by m f h r c =
-    let size : size_of (flow_by m f r) ≤ℚ limit m r = from_below (size_of (flow_by m f r)) (limit m r) (subst (λ t. excess_by m f t ≤ℚ whole (pos 0)) c.2 (h c.0 r c.1)) in
+    let size : size_of (flow_by m f r) ≤ℚ limit m r = from_below (size_of (flow_by m f r)) (limit m r) (subst (λ t. overrun_by m f t ≤ℚ whole (pos 0)) c.2 (h c.0 r c.1)) in
     let both = within_size (flow_by m f r) (limit m r) (sign_of (flow_by m f r)) refl size in
     record { above = both.0; below = both.1 }
 

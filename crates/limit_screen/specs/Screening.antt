@@ -8,7 +8,7 @@ use Rattle.exact_fraction.specs.declared.Passed.{Passed}
 use Rattle.market_model.specs.declared.answered.RowId.{RowId}
 use Rattle.market_model.specs.declared.participants.Parts.{Parts}
 use Rattle.market_model.specs.Dispatch.{zero}
-use Rattle.market_model.specs.Excess.{excess, size_of, IsWorst}
+use Rattle.market_model.specs.Overrun.{overrun, size_of, IsWorst}
 use Rattle.market_model.specs.declared.limits.Row.{Row}
 use Rattle.market_model.specs.LimitRows.{causes, flow_by, flow_terms, limit, row_id, rows, rows_of}
 use Rattle.market_model.specs.NamedSums.{IsRefusal, IsRefusedIn}
@@ -19,24 +19,24 @@ use Rattle.limit_screen.specs.declared.screening.Broken.{Broken}
 abbrev pub AllHold : Parts → (ℕ → Fraction) → Type 0
 AllHold m f = (r : Row) → Contains (rows m) r → Within (limit m r) (flow_by m f r)
 
--- the name of the row of greatest excess, the first of several
+-- the name of the row of greatest overrun, the first of several
 abbrev pub IsWorstNamed : Parts → (ℕ → Fraction) → RowId → Type 0
 IsWorstNamed m f id = (place : ℕ) × (r : Row) × IsWorst m (flow_by m f) place r × (id ≡ row_id m r)
 
 -- an operation refused for a row: its flow, or by how much that passes its limit
-pub data IsRowRefusal (m : Parts) (f : ℕ → Fraction) (bound : ℕ) (r : Row) (p : Passed Fraction) : Type 0 where
-  of_flow : IsRefusedIn (flow_terms m f r) bound p → IsRowRefusal m f bound r p
-  of_limit : IsRefusal Minus (size_of (flow_by m f r)) (limit m r) bound p → IsRowRefusal m f bound r p
+pub data IsOverrunRefusal (m : Parts) (f : ℕ → Fraction) (bound : ℕ) (r : Row) (p : Passed Fraction) : Type 0 where
+  of_flow : IsRefusedIn (flow_terms m f r) bound p → IsOverrunRefusal m f bound r p
+  of_limit : IsRefusal Minus (size_of (flow_by m f r)) (limit m r) bound p → IsOverrunRefusal m f bound r p
 
 -- an operation refused for a row of the market
 abbrev pub IsScreenRefusal : Parts → (ℕ → Fraction) → ℕ → Passed Fraction → Type 0
-IsScreenRefusal m f bound p = (r : Row) × Contains (rows m) r × IsRowRefusal m f bound r p
+IsScreenRefusal m f bound p = (r : Row) × Contains (rows m) r × IsOverrunRefusal m f bound r p
 
--- ---- the worst of some rows, by their excesses
-abbrev pub excess_by : Parts → (ℕ → Fraction) → Row → Fraction
-excess_by m f r = excess m r (flow_by m f r)
+-- ---- the worst of some rows, by their overruns
+abbrev pub overrun_by : Parts → (ℕ → Fraction) → Row → Fraction
+overrun_by m f r = overrun m r (flow_by m f r)
 
--- a row of the list with an excess above 0 that none has more of, and none before it as much
+-- a row of the list with an overrun above 0 that none has more of, and none before it as much
 pub record IsFirstMost (e : Row → Fraction) (rs : List Row) (r : Row) : Type 0 where
   pub place : ℕ
   pub stands : slice_get rs place ≡ Some r
@@ -44,10 +44,10 @@ pub record IsFirstMost (e : Row → Fraction) (rs : List Row) (r : Row) : Type 0
   pub most : All (λ s. e s ≤ℚ e r) rs
   pub first : (i : ℕ) (s : Row) → i < place → slice_get rs i ≡ Some s → e s <ℚ e r
 
--- the worst of some rows with its excess, or none where all of them hold
+-- the worst of some rows with its overrun, or none where all of them hold
 abbrev pub IsWorstOf : {N : Type 0} → (N → Fraction) → (Row → Fraction) → List Row → Option (Broken N) → Type 0
 IsWorstOf value e rs None = All (λ s. e s ≤ℚ zero) rs
-IsWorstOf value e rs (Some b) = IsFirstMost e rs b.row × (value b.excess ≡ e b.row)
+IsWorstOf value e rs (Some b) = IsFirstMost e rs b.row × (value b.overrun ≡ e b.row)
 
 -- the rows of the first causes
 abbrev pub rows_to : Parts → ℕ → List Row

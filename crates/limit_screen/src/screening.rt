@@ -6,12 +6,12 @@ ghost use Rattle.fraction_theory.specs.Order.{◌<ℚ◌, ◌≤ℚ◌};
 ghost use Rattle.exact_fraction.specs.declared.Op.TheVariants as Op;
 ghost use Rattle.market_model.specs.Valued.{passed_at};
 ghost use Rattle.market_model.specs.Dispatch.{zero};
-ghost use Rattle.market_model.specs.Excess.{size_of};
+ghost use Rattle.market_model.specs.Overrun.{size_of};
 ghost use Rattle.market_model.specs.declared.limits.Row.{Row};
 ghost use Rattle.market_model.specs.LimitRows.{IsCauseAmong, causes, flow_by, flow_terms};
 ghost use Rattle.market_model.specs.NamedSums.{IsRefusal, IsRefusedIn};
 ghost use Rattle.limit_screen.specs.Flows.{line_in};
-ghost use Rattle.limit_screen.specs.Screening.{AllHold, IsWorstNamed, IsRowRefusal, IsScreenRefusal, IsWorstOf, excess_by, rows_to};
+ghost use Rattle.limit_screen.specs.Screening.{AllHold, IsWorstNamed, IsOverrunRefusal, IsScreenRefusal, IsWorstOf, overrun_by, rows_to};
 
 use exact_fraction::{Exact, Passed, Sign};
 use limit_rows::{cause_at, cause_count, has_row, limit_at, name_at};
@@ -23,7 +23,7 @@ use std::cmp::Ordering;
 struct Broken<N> {
     row: Row,
     /// By how much, in 10^-9 MW.
-    excess: N,
+    overrun: N,
 }
 
 /// The flow of a row, of the flows by line behind those of buses. After an outage the part of the lost flow that goes over to the line is added.
@@ -49,7 +49,7 @@ fn size<N: Exact>(flow: N) -> N
 
 /// By how much a flow passes a limit; nothing where it doesn't.
 fn beyond<N: Exact>(flow: N, limit: N) -> Result<Option<N>, Passed<N>>
-    ensures excess { IfOk result (λ past. MatchOption past ((size_of (N.value flow) -ℚ N.value limit) ≤ℚ zero) (λ e. (zero <ℚ N.value e) × (N.value e ≡ size_of (N.value flow) -ℚ N.value limit))) }
+    ensures overrun { IfOk result (λ past. MatchOption past ((size_of (N.value flow) -ℚ N.value limit) ≤ℚ zero) (λ e. (zero <ℚ N.value e) × (N.value e ≡ size_of (N.value flow) -ℚ N.value limit))) }
     ensures cause { IfErr result (λ passed. IsRefusal Op.Minus (size_of (N.value flow)) (N.value limit) N.bound (passed_at N.value passed)) }
 {
     let size = size(flow);
@@ -60,16 +60,16 @@ fn beyond<N: Exact>(flow: N, limit: N) -> Result<Option<N>, Passed<N>>
 }
 
 /// The worse of two rows, and the first where they are as bad.
-fn worse<N: Exact>(worst: Option<Broken<N>>, row: Row, excess: N) -> Option<Broken<N>>
-    requires { zero <ℚ N.value excess }
-    ensures { (e : Row → Fraction) (rs : List Row) → IsWorstOf N.value e rs worst → N.value excess ≡ e row → IsWorstOf N.value e (rs ++ row ∷ []) result }
+fn worse<N: Exact>(worst: Option<Broken<N>>, row: Row, overrun: N) -> Option<Broken<N>>
+    requires { zero <ℚ N.value overrun }
+    ensures { (e : Row → Fraction) (rs : List Row) → IsWorstOf N.value e rs worst → N.value overrun ≡ e row → IsWorstOf N.value e (rs ++ row ∷ []) result }
 {
     match worst {
-        Some(broken) => match excess.order(broken.excess) {
-            Ordering::Greater => Some(Broken { row, excess }),
+        Some(broken) => match overrun.order(broken.overrun) {
+            Ordering::Greater => Some(Broken { row, overrun }),
             Ordering::Less | Ordering::Equal => Some(broken),
         },
-        None => Some(Broken { row, excess }),
+        None => Some(Broken { row, overrun }),
     }
 }
 
@@ -83,12 +83,12 @@ fn with_row<N: Exact>(
     requires flows { length flows.now ≡ length market.now.buses + length market.now.lines }
     requires line { row.line < length market.now.lines }
     requires lost { IsCauseAmong (length market.now.lines) row.cause }
-    ensures worst { (rs : List Row) → IsWorstOf N.value (excess_by market.now (line_in market.now (map N.value flows.now))) rs worst → IfOk result (IsWorstOf N.value (excess_by market.now (line_in market.now (map N.value flows.now))) (rs ++ row ∷ [])) }
-    ensures cause { IfErr result (λ passed. IsRowRefusal market.now (line_in market.now (map N.value flows.now)) N.bound row (passed_at N.value passed)) }
+    ensures worst { (rs : List Row) → IsWorstOf N.value (overrun_by market.now (line_in market.now (map N.value flows.now))) rs worst → IfOk result (IsWorstOf N.value (overrun_by market.now (line_in market.now (map N.value flows.now))) (rs ++ row ∷ [])) }
+    ensures cause { IfErr result (λ passed. IsOverrunRefusal market.now (line_in market.now (map N.value flows.now)) N.bound row (passed_at N.value passed)) }
 {
     let flow = row_flow(market, flows, row)?;
     match beyond(flow, datum(limit_at(market, row)))? {
-        Some(excess) => Ok(worse(worst, row, excess)),
+        Some(overrun) => Ok(worse(worst, row, overrun)),
         None => Ok(worst),
     }
 }
@@ -102,8 +102,8 @@ fn with_cause<N: Exact>(
 ) -> Result<Option<Broken<N>>, Passed<N>>
     requires flows { length flows.now ≡ length market.now.buses + length market.now.lines }
     requires place { place < length (causes market.now) }
-    requires before { IsWorstOf N.value (excess_by market.now (line_in market.now (map N.value flows.now))) (rows_to market.now place) before }
-    ensures worst { IfOk result (IsWorstOf N.value (excess_by market.now (line_in market.now (map N.value flows.now))) (rows_to market.now (place + 1))) }
+    requires before { IsWorstOf N.value (overrun_by market.now (line_in market.now (map N.value flows.now))) (rows_to market.now place) before }
+    ensures worst { IfOk result (IsWorstOf N.value (overrun_by market.now (line_in market.now (map N.value flows.now))) (rows_to market.now (place + 1))) }
     ensures cause { IfErr result (λ passed. IsScreenRefusal market.now (line_in market.now (map N.value flows.now)) N.bound (passed_at N.value passed)) }
 {
     let cause = cause_at(market, place);

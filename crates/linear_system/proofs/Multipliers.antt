@@ -1,15 +1,14 @@
 -- What multipliers of all variables say of the columns, where they give a combination of the columns at every solution.
-use Rattle.std.specs.Prelude.{◌≡◌, ◌≢◌, ℕ, ◌==◌, pos, Bool, true, false, List, [], ◌∷◌, cond, if◌then◌else◌, refl, ◌⊎◌}
+use Rattle.std.specs.Prelude.{◌≡◌, ℕ, ◌==◌, pos, Bool, true, false, List, [], ◌∷◌, if◌then◌else◌, refl, ◌⊎◌}
 use Rattle.std.specs.List.{Contains}
 use Rattle.std.proofs.Common.{arith, ap, sym, ◌∙◌, subst, inl, inr}
 use Rattle.std.proofs.lemmas.Bool.Decides.{eqb_tells}
 use mathlib.Core.Path.{ap₂}
-use Rattle.fraction_theory.specs.Fraction.{Fraction, whole, neg_ℚ, ◌+ℚ◌, ◌*ℚ◌}
+use Rattle.fraction_theory.specs.Fraction.{Fraction, whole, ◌+ℚ◌, ◌*ℚ◌}
 use Rattle.fraction_theory.specs.Sums.{sum_by, total}
-use Rattle.fraction_theory.proofs.Ring.{by_ring, at, pnil, pone, pneg, ◌⊕◌, ◌⊗◌}
+use Rattle.fraction_theory.proofs.Ring.{by_ring, at, pnil, pone, ◌⊗◌}
 use Rattle.fraction_theory.proofs.FieldLaws.{ring_ℚ}
-use Rattle.fraction_theory.proofs.SumLaws.{sum_by-nil, sum_by-same, sum_by-times}
-use Rattle.fraction_theory.proofs.ListSums.{Contains-head, Contains-cons, Contains-cases, Distinct-increasing, put_at, put_at-here, put_at-elsewhere, same_or_not, sum_by-members, sum_by-one, sum_by-within, sum_by-split, except}
+use Rattle.fraction_theory.proofs.ListSums.{Contains-head, Contains-cons, Contains-cases, Distinct-increasing, put_at, put_at-here, put_at-elsewhere, sum_by-members, sum_by-one, sum_by-within}
 use Rattle.linear_system.specs.Systems.{System, IsSystem, MeetsRows, activity, objective}
 use Rattle.linear_system.specs.Choices.{Choice, basics, others, IsChoice, reduced, reduced_terms}
 use Rattle.linear_system.proofs.ChoiceLaws.{others_are, is_other, basics_are, is_basic, others_distinct, objective_by_others}

@@ -1,13 +1,13 @@
 -- Systems with the same rows have the same choices and factors, and systems that agree at their names have the same
 -- numbers and working pairs.
-use Rattle.std.specs.Prelude.{◌≡◌, ℕ, Bool, List, [], ◌∷◌, map, filter, not, if◌then◌else◌, refl, ◌⊎◌}
+use Rattle.std.specs.Prelude.{◌≡◌, ℕ, List, [], ◌∷◌, map, filter, not, if◌then◌else◌, refl}
 use Rattle.std.specs.List.{Contains}
 use Rattle.std.proofs.Common.{ap, ap₂, sym, ◌∙◌, subst, inl, inr}
 use Rattle.fraction_theory.specs.Fraction.{Fraction, ◌*ℚ◌}
 use Rattle.fraction_theory.specs.Sums.{Term, Product, sum_by, prefix}
 use Rattle.fraction_theory.proofs.ListSums.{Contains-head, Contains-cons, sum_by-members}
 use Rattle.exact_fraction.specs.declared.Op.{Op}
-use Rattle.linear_system.specs.Choices.{Choice, basics, others, MeetsTable, IsChoice, at_bound, value_terms, column_entry, row_entry_terms, reduced_terms, OneExchange}
+use Rattle.linear_system.specs.Choices.{Choice, basics, others, MeetsTable, IsChoice, at_bound, value_terms, column_entry, row_entry_terms, reduced_terms}
 use Rattle.linear_system.specs.Numbers.{Kind, Factor, Quantity, Price, SystemNumber, is_zero, is_one, is_coefficient, is_entry, is_row_entry, is_low, is_high, is_value, is_price, is_reduced, is_opposite}
 use Rattle.linear_system.specs.Pairs.{AreNear, OfEither, IsSystemPair}
 use Rattle.linear_system.specs.SameSystems.{SameRows, SameSystem}

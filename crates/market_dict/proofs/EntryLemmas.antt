@@ -1,5 +1,5 @@
 -- What blocks count in the rows of a dictionary, and the names of its variables.
-use Rattle.std.specs.Prelude.{◌≡◌, ◌≢◌, ℕ, ◌<◌, ◌≤◌, ◌+◌, ◌*◌, pos, Bool, true, false, cond, List, [], ◌∷◌, length, filter, AllPairs, Contains, Option, Some}
+use Rattle.std.specs.Prelude.{◌≡◌, ◌≢◌, ℕ, ◌<◌, ◌≤◌, ◌+◌, ◌*◌, pos, Bool, true, false, cond, List, [], ◌∷◌, length, filter, AllPairs, Contains, Some}
 use Rattle.std.specs.List.{flat_map, position}
 use Rattle.std.proofs.Common.{suc, arith, ap, ap₂, sym, ◌∙◌, subst, get_or}
 use Rattle.std.proofs.lemmas.List.{length-append, length-map}
@@ -12,14 +12,14 @@ use Rattle.market_data.specs.Scales.{most_lines, most_outages}
 use Rattle.market_model.specs.declared.answered.RowId.{RowId}
 use Rattle.market_model.specs.declared.participants.Block.{Block}
 use Rattle.market_model.specs.declared.participants.Parts.{Parts}
-use Rattle.market_model.specs.Dispatch.{places, signed, block_at, unit_at}
+use Rattle.market_model.specs.Dispatch.{places, signed_by_side, block_at, unit_at}
 use Rattle.market_model.specs.declared.limits.Row.{Row}
 use Rattle.market_model.specs.declared.limits.Cause.{Cause}
 use Rattle.market_model.specs.declared.limits.Cause.TheVariants.{Branch}
 use Rattle.market_model.specs.LimitRows.{rows, row_id, row_factor, place_of_line, bears, causes, lines_of, rows_of}
 use Rattle.market_model.specs.Market.{IsMarket}
 use Rattle.market_model.proofs.MarketSums.{unit_bus-in}
-use Rattle.limit_rows.specs.Naming.{is_named}
+use Rattle.limit_rows.specs.Naming.{has_name}
 use Rattle.limit_rows.proofs.ApartLemmas.{names_apart}
 use Rattle.limit_rows.proofs.GroupLemmas.{rows-causes}
 use Rattle.limit_rows.proofs.NumberingLemmas.{length-rows_of}
@@ -29,11 +29,11 @@ use Rattle.market_system.proofs.DualLists.{rows_apart}
 use Rattle.market_system.proofs.RowOrder.{row_name-at}
 use Rattle.market_system.proofs.SystemLaws.{from_places}
 
-pub sign_entry : (m : Parts) (k : ℕ) (block : Block) (one entry : Fraction) → block ≡ block_at m k → one ≡ whole (pos 1) → entry ≡ signed block.side one → entry ≡ block_sign m k
-sign_entry m k block one entry at is e = e ∙ ap₂ (λ (b : Block) (x : Fraction). signed b.side x) at is
+pub sign_entry : (m : Parts) (k : ℕ) (block : Block) (one entry : Fraction) → block ≡ block_at m k → one ≡ whole (pos 1) → entry ≡ signed_by_side block.side one → entry ≡ block_sign m k
+sign_entry m k block one entry at is e = e ∙ ap₂ (λ (b : Block) (x : Fraction). signed_by_side b.side x) at is
 
-pub row_entry_is : (m : Parts) (r : Row) (k : ℕ) (block : Block) → block ≡ block_at m k → signed block.side (row_factor m r (unit_at m block.unit).bus) ≡ block_coefficient m r k
-row_entry_is m r k block at = ap (λ (b : Block). signed b.side (row_factor m r (unit_at m b.unit).bus)) at
+pub row_entry_is : (m : Parts) (r : Row) (k : ℕ) (block : Block) → block ≡ block_at m k → signed_by_side block.side (row_factor m r (unit_at m block.unit).bus) ≡ block_coefficient m r k
+row_entry_is m r k block at = ap (λ (b : Block). signed_by_side b.side (row_factor m r (unit_at m b.unit).bus)) at
 
 -- the bus of a unit that was read
 pub unit_bus_is : (m : Parts) (u : ℕ) (read : unit.Unit) → IsMarket m → u < length m.units → read ≡ unit_at m u → read.bus < length m.buses
@@ -80,7 +80,7 @@ rows_few m market =
 
 -- ---- the name of a row by its position
 pub row_named_at : (m : Parts) → IsMarket m → (r : Row) → Contains (rows m) r → (name : RowId) → name ≡ row_id m r
-    → (place : ℕ) × (place < length (rows m)) × (position (is_named m name) (rows m) ≡ Some place) × (row_name m r ≡ length m.blocks + 1 + place)
+    → (place : ℕ) × (place < length (rows m)) × (position (has_name m name) (rows m) ≡ Some place) × (row_name m r ≡ length m.blocks + 1 + place)
 row_named_at m market r (i, lt, at) name is = (
   i,
   lt,
@@ -89,7 +89,7 @@ row_named_at m market r (i, lt, at) name is = (
 )
 
 -- the place that was found
-pub place_found : (m : Parts) → IsMarket m → (r : Row) → Contains (rows m) r → (name : RowId) → name ≡ row_id m r → (place : ℕ) → position (is_named m name) (rows m) ≡ Some place
+pub place_found : (m : Parts) → IsMarket m → (r : Row) → Contains (rows m) r → (name : RowId) → name ≡ row_id m r → (place : ℕ) → position (has_name m name) (rows m) ≡ Some place
     → (place < length (rows m)) × (row_name m r ≡ length m.blocks + 1 + place)
 place_found m market r c name is place found =
     let named = row_named_at m market r c name is in

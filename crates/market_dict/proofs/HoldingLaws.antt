@@ -39,7 +39,7 @@ use Rattle.market_model.specs.Market.{IsMarket}
 use Rattle.market_model.specs.Optimality.{block_value}
 use Rattle.limit_rows.proofs.ApartLemmas.{names_apart}
 use Rattle.limit_rows.proofs.FactorLemmas.{stands}
-use Rattle.market_system.specs.MarketSystem.{balance_name, row_name, in_order, block_sign, needed, block_coefficient, least_added, most_added, system_over, system_of}
+use Rattle.market_system.specs.MarketSystem.{balance_name, row_name, in_order, block_sign, residual_demand, block_coefficient, least_added, most_added, system_over, system_of}
 use Rattle.market_system.specs.SolvedLaws.{AreRows, AnswersBy, StuckShows, state_at}
 use Rattle.market_system.proofs.DualLists.{rows_apart}
 use Rattle.market_system.proofs.FrameLaws.{law_of_the_frame, block_count, sign_framed, coefficient_framed}
@@ -48,11 +48,11 @@ use Rattle.market_system.proofs.MarketPoints.{IsNameOf, of_block, of_balance, of
 use Rattle.market_system.proofs.RowOrder.{RowsApart, in_order-in, in_order-from, one_name, pairs-append}
 use Rattle.market_system.proofs.StuckMarkets.{limit_sign}
 use Rattle.market_system.proofs.SystemLaws.{in_places, from_places}
-use Rattle.market_dict.specs.Holding.{taken_coefficients, Holds, HoldsSystem, lows, highs}
+use Rattle.market_dict.specs.Holding.{taken_coefficients, HoldsMarket, HoldsSystem, lows, highs}
 use Rattle.market_dict.proofs.NameLists.{ascending_same, flat_at, block_part, balance_part, row_part}
 
 -- ---- names
-module _ (m : Parts) (g : List Row) (d : Dictionary) (holds : Holds m g d) where
+module _ (m : Parts) (g : List Row) (d : Dictionary) (holds : HoldsMarket m g d) where
   -- a row of it is the balance, or that of a limit
   taken_name : (w : ℕ) → Contains d.rows w → (w ≡ balance_name m) ⊎ ((r : Row) × Contains g r × (row_name m r ≡ w))
   taken_name w c = elim (Contains-cases (balance_name m) (map (row_name m) g) w (subst (λ (ws : List ℕ). Contains ws w) holds.rows c)) [
@@ -175,7 +175,7 @@ module _ (d : Dictionary) (sound : IsDictionary d) where
   unfolding system_in
   names_are = refl
 
-module _ (m : Parts) (g : List Row) (d : Dictionary) (market : IsMarket m) (holds : Holds m g d) where
+module _ (m : Parts) (g : List Row) (d : Dictionary) (market : IsMarket m) (holds : HoldsMarket m g d) where
   apart : RowsApart m
   apart = rows_apart m (names_apart m market)
 
@@ -247,7 +247,7 @@ module _ (m : Parts) (g : List Row) (d : Dictionary) (market : IsMarket m) (hold
   holds_choice = same_rows_choice (system_in d) (system_of m g) holds_rows (choice_of d) (holds.sound.solutions holds.live)
 
 -- a limit that was not taken has a name that is not there
-pub name_is_new : (m : Parts) (g : List Row) (d : Dictionary) (r : Row) → IsMarket m → Holds m g d → Contains (rows m) r → ¬ (Contains g r) → ¬ (Contains d.names (row_name m r))
+pub name_is_new : (m : Parts) (g : List Row) (d : Dictionary) (r : Row) → IsMarket m → HoldsMarket m g d → Contains (rows m) r → ¬ (Contains g r) → ¬ (Contains d.names (row_name m r))
 name_is_new m g d r market holds c absent named = elim (holds.sound.put_in.either (row_name m r) named) [
   | inl k ↦ by (taken_name m g d holds (row_name m r) k)
   | inr k ↦ let lt = column_below m g d holds (row_name m r) k in absurd (Prim.omega (arith, lt))
@@ -259,7 +259,7 @@ name_is_new m g d r market holds c absent named = elim (holds.sound.put_in.eithe
 
 -- ---- the start, a row more, an edit
 pub holds_start : {N : Type 0} (value : N → Fraction) (m : Parts) (names : List ℕ) (entries : List N) (d : Dictionary) → names ≡ places (length m.blocks)
-    → map value entries ≡ map (block_sign m) (places (length m.blocks)) → IsStart value names (balance_name m) entries d → Holds m [] d
+    → map value entries ≡ map (block_sign m) (places (length m.blocks)) → IsStart value names (balance_name m) entries d → HoldsMarket m [] d
 holds_start value m names entries d blocks signs start = record {
   live = start.live;
   sound = start.sound;
@@ -279,8 +279,8 @@ one_more m g r are c absent = record {
     alone : (q : Row) → Contains (r ∷ []) q → q ≡ r
     alone q h = elim (Contains-cases r [] q h) [ inl e ↦ sym e | inr n ↦ absurd (Prim.omega (arith, n.1)) ]
 
-pub holds_taken : {N : Type 0} (value : N → Fraction) (m : Parts) (g : List Row) (r : Row) (entries : List N) (d new : Dictionary) → Holds m g d → Contains (rows m) r → ¬ (Contains g r)
-    → map value entries ≡ map (block_coefficient m r) (places (length m.blocks)) → AddsRow value d (row_name m r) entries new → Holds m (g ++ r ∷ []) new
+pub holds_taken : {N : Type 0} (value : N → Fraction) (m : Parts) (g : List Row) (r : Row) (entries : List N) (d new : Dictionary) → HoldsMarket m g d → Contains (rows m) r → ¬ (Contains g r)
+    → map value entries ≡ map (block_coefficient m r) (places (length m.blocks)) → AddsRow value d (row_name m r) entries new → HoldsMarket m (g ++ r ∷ []) new
 holds_taken value m g r entries d new holds c absent factors adds =
     let f : Row → List Fraction = λ q. map (block_coefficient m q) (places (length m.blocks)) in
     let signs : List Fraction = map (block_sign m) (places (length m.blocks)) in
@@ -297,7 +297,7 @@ holds_taken value m g r entries d new holds c absent factors adds =
       limits = one_more m g r holds.limits c absent;
     }
 
-pub holds_in_frame : (m n : Parts) (g : List Row) (d : Dictionary) → SameFrame m n → Holds m g d → Holds n g d
+pub holds_in_frame : (m n : Parts) (g : List Row) (d : Dictionary) → SameFrame m n → HoldsMarket m g d → HoldsMarket n g d
 holds_in_frame m n g d same holds =
     let names = (law_of_the_frame m n g same).0 in
     let blocks : length m.blocks ≡ length n.blocks = sym (block_count m) ∙ ap (λ (p : Parts). length p.blocks) same ∙ block_count n in
@@ -316,10 +316,10 @@ holds_in_frame m n g d same holds =
     }
 
 -- ---- posed at the market's prices and bounds
-module _ {N : Type 0} (value_of : N → Fraction) (m : Parts) (g : List Row) (d : Dictionary) (prices : List N) (bounds : List (Bounds N)) (e : Dictionary) (market : IsMarket m) (holds : Holds m g d)
+module _ {N : Type 0} (value_of : N → Fraction) (m : Parts) (g : List Row) (d : Dictionary) (prices : List N) (bounds : List (Bounds N)) (e : Dictionary) (market : IsMarket m) (holds : HoldsMarket m g d)
     (priced : map value_of prices ≡ map (block_value m) (places (length m.blocks))) (low : map (λ b. value_of b.low) bounds ≡ lows m g) (high : map (λ b. value_of b.high) bounds ≡ highs m g)
     (posing : IsPosing value_of d prices bounds e) where
-  posed : Holds m g e
+  posed : HoldsMarket m g e
   posed = record {
     live = posing.ready.live;
     sound = posing.ready.sound;
@@ -339,24 +339,24 @@ module _ {N : Type 0} (value_of : N → Fraction) (m : Parts) (g : List Row) (d 
       ∙ get_or-map-range_with_len (block_value m) 0 (length m.blocks) j j nil lt (Prim.omega arith)
 
   -- a bound of each, by the list of those handed in
-  module _ (bound : ℕ → Fraction) (first : ℕ → Fraction) (of_limit : Row → Fraction) (list : List Fraction) (is : list ≡ map first (places (length m.blocks)) ++ needed m ∷ map of_limit g)
+  module _ (bound : ℕ → Fraction) (first : ℕ → Fraction) (of_limit : Row → Fraction) (list : List Fraction) (is : list ≡ map first (places (length m.blocks)) ++ residual_demand m ∷ map of_limit g)
       (of_column : (k : ℕ) → k < length d.columns → bound (slice_index d.columns k) ≡ get_or list k nil) (of_taken : (k : ℕ) → k < length d.rows → bound (slice_index d.rows k) ≡ get_or list (length d.columns + k) nil) where
     block_bound : (j : ℕ) → j < length m.blocks → bound j ≡ first j
     block_bound j lt =
         ap bound (sym (column_at m g d holds j lt)) ∙ of_column j (below j lt) ∙ ap (λ (xs : List Fraction). get_or xs j nil) is
-        ∙ block_part first (needed m) of_limit (length m.blocks) g j nil lt
+        ∙ block_part first (residual_demand m) of_limit (length m.blocks) g j nil lt
 
-    balance_bound : bound (balance_name m) ≡ needed m
+    balance_bound : bound (balance_name m) ≡ residual_demand m
     balance_bound =
         ap bound (sym (balance_at m g d holds)) ∙ of_taken 0 (balance_first m g d holds)
         ∙ ap₂ (λ (xs : List Fraction) (k : ℕ). get_or xs (k + 0) nil) is (count m g d holds)
-        ∙ balance_part first (needed m) of_limit (length m.blocks) g nil
+        ∙ balance_part first (residual_demand m) of_limit (length m.blocks) g nil
 
     row_bound : (r : Row) → Contains g r → bound (row_name m r) ≡ of_limit r
     row_bound r c =
         ap bound (sym (row_at m g d holds r c)) ∙ of_taken (suc c.0) (row_below m g d holds r c)
         ∙ ap₂ (λ (xs : List Fraction) (k : ℕ). get_or xs (k + suc c.0) nil) is (count m g d holds)
-        ∙ row_part first (needed m) of_limit (length m.blocks) g c.0 r nil c.1
+        ∙ row_part first (residual_demand m) of_limit (length m.blocks) g c.0 r nil c.1
         ∙ ap of_limit c.2
 
   abbrev low_list : List Fraction
@@ -410,16 +410,16 @@ module _ (m : Parts) (g : List Row) (market : IsMarket m) (are : AreRows m g) wh
 
   place_order : (k : ℕ) → k < length m.blocks + suc (length g) → get_or (lows m g) k nil ≤ℚ get_or (highs m g) k nil
   place_order k lt = elim (lt_or_le k n) [
-    | inl l ↦ subst₂ ◌≤ℚ◌ (sym (block_part (λ j. nil) (needed m) (least_added m) n g k nil l)) (sym (block_part (quantity m) (needed m) (most_added m) n g k nil l)) (block_order k l)
+    | inl l ↦ subst₂ ◌≤ℚ◌ (sym (block_part (λ j. nil) (residual_demand m) (least_added m) n g k nil l)) (sym (block_part (quantity m) (residual_demand m) (most_added m) n g k nil l)) (block_order k l)
     | inr l ↦ elim (same_or_not k n) [
       | inl e ↦ let is : k ≡ n + 0 = Prim.omega (arith, e) in
-          at_place (n + 0) is (subst₂ ◌≤ℚ◌ (sym (balance_part (λ j. nil) (needed m) (least_added m) n g nil)) (sym (balance_part (quantity m) (needed m) (most_added m) n g nil)) (≤ℚ_refl (needed m)))
+          at_place (n + 0) is (subst₂ ◌≤ℚ◌ (sym (balance_part (λ j. nil) (residual_demand m) (least_added m) n g nil)) (sym (balance_part (quantity m) (residual_demand m) (most_added m) n g nil)) (≤ℚ_refl (residual_demand m)))
       | inr differ ↦
           let i : ℕ = k - suc n in
           let is : k ≡ n + suc i = Prim.omega (arith, l, differ) in
           let inside : i < length g = Prim.omega (arith, is, lt) in
           let r : Row = get_or g i some_row in
-          at_place (n + suc i) is (subst₂ ◌≤ℚ◌ (sym (row_part (λ j. nil) (needed m) (least_added m) n g i some_row nil inside)) (sym (row_part (quantity m) (needed m) (most_added m) n g i some_row nil inside))
+          at_place (n + suc i) is (subst₂ ◌≤ℚ◌ (sym (row_part (λ j. nil) (residual_demand m) (least_added m) n g i some_row nil inside)) (sym (row_part (quantity m) (residual_demand m) (most_added m) n g i some_row nil inside))
           (limit_order r (i, inside, any_default i inside)))
     ]
   ]
@@ -445,7 +445,7 @@ pub bounds_ordered : {N : Type 0} (value : N → Fraction) (m : Parts) (g : List
     → map (λ b. value b.low) bounds ≡ lows m g → map (λ b. value b.high) bounds ≡ highs m g → All (λ b. value b.low ≤ℚ value b.high) bounds
 bounds_ordered {N} value m g bounds market are low high k d lt =
     let size : length bounds ≡ length m.blocks + suc (length g) =
-    sym (length-map bounds (λ (b : Bounds N). value b.low)) ∙ ap length low ∙ length-append (map (λ j. nil) (places (length m.blocks))) (needed m ∷ map (least_added m) g)
+    sym (length-map bounds (λ (b : Bounds N). value b.low)) ∙ ap length low ∙ length-append (map (λ j. nil) (places (length m.blocks))) (residual_demand m ∷ map (least_added m) g)
     ∙ ap₂ (λ (x y : ℕ). x + suc y) (length-map-range_with_len (λ j. nil) 0 (length m.blocks)) (length-map g (least_added m)) in
     subst₂ ◌≤ℚ◌
     (ap (λ (xs : List Fraction). get_or xs k nil) (sym low) ∙ get_or-map (λ (b : Bounds N). value b.low) bounds k d nil lt)
@@ -453,14 +453,14 @@ bounds_ordered {N} value m g bounds market are low high k d lt =
     (place_order m g market are k (Prim.omega (arith, lt, size)))
 
 -- a working pair of the dictionary that would be posed is one of the market's system
-pub pair_posed : {N : Type 0} (value : N → Fraction) (bound : ℕ) (m : Parts) (g : List Row) (d : Dictionary) (prices : List N) (bounds : List (Bounds N)) (p : Passed N) → IsMarket m → Holds m g d
+pub pair_posed : {N : Type 0} (value : N → Fraction) (bound : ℕ) (m : Parts) (g : List Row) (d : Dictionary) (prices : List N) (bounds : List (Bounds N)) (p : Passed N) → IsMarket m → HoldsMarket m g d
     → map value prices ≡ map (block_value m) (places (length m.blocks)) → map (λ b. value b.low) bounds ≡ lows m g → map (λ b. value b.high) bounds ≡ highs m g
     → IsPairPosed value bound d prices bounds p → IsPairOf value bound (system_of m g) p
 pair_posed value bound m g d prices bounds p market holds priced low high pair =
     same_pair (system_in pair.0) (system_of m g) (holds_posed value m g d prices bounds pair.0 market holds priced low high pair.1).same bound p.op (value p.left) (value p.right) pair.2
 
 -- and so is one of the dictionary with one more of its limits
-pub pair_taken : {N : Type 0} (value : N → Fraction) (bound : ℕ) (m : Parts) (g : List Row) (r : Row) (entries : List N) (d : Dictionary) (p : Passed N) → IsMarket m → Holds m g d → Contains (rows m) r → ¬ (Contains g r)
+pub pair_taken : {N : Type 0} (value : N → Fraction) (bound : ℕ) (m : Parts) (g : List Row) (r : Row) (entries : List N) (d : Dictionary) (p : Passed N) → IsMarket m → HoldsMarket m g d → Contains (rows m) r → ¬ (Contains g r)
     → map value entries ≡ map (block_coefficient m r) (places (length m.blocks)) → IsPairWith value bound d (row_name m r) entries p → IsPairOf value bound (system_of m (g ++ r ∷ [])) p
 pair_taken value bound m g r entries d p market holds c absent factors pair =
     pair.2 (system_of m (g ++ r ∷ [])) (holds_rows m (g ++ r ∷ []) pair.0 market (holds_taken value m g r entries d pair.0 holds c absent factors pair.1))

@@ -39,13 +39,13 @@ use Rattle.limit_rows.proofs.ApartLemmas.{names_apart}
 use Rattle.market_system.specs.MarketSystem.{balance_name, row_name, in_order, dual_by, system_over}
 use Rattle.market_system.proofs.DualLists.{rows_apart}
 use Rattle.market_system.proofs.RowOrder.{in_order-from, row_name-at}
-use Rattle.market_dict.specs.Holding.{Holds}
+use Rattle.market_dict.specs.Holding.{HoldsMarket}
 use Rattle.market_dict.proofs.HoldingLaws.{holds_names}
 use Rattle.market_dict.proofs.ListedLemmas.{places-self}
 use Rattle.market_dict.proofs.NameLists.{three_parts, block_part, balance_part, row_part}
 
 -- ---- names by rank
-module _ (m : Parts) (g : List Row) (d : Dictionary) (market : IsMarket m) (holds : Holds m g d) where
+module _ (m : Parts) (g : List Row) (d : Dictionary) (market : IsMarket m) (holds : HoldsMarket m g d) where
   names_are : d.names ≡ three_parts (λ j. j) (balance_name m) (row_name m) (length m.blocks) (in_order m g)
   unfolding system_over
   names_are = holds_names m g d market holds ∙ ap (λ (ps : List ℕ). ps ++ balance_name m ∷ map (row_name m) (in_order m g)) (sym (places-self (length m.blocks)))
@@ -78,7 +78,7 @@ pub record IsRanked (m : Parts) (g : List Row) (d : Dictionary) (k place : ℕ) 
   pub stands : slice_get (rows m) place ≡ Some r
   pub named : slice_index d.names (balance_name m + 1 + k) ≡ balance_name m + 1 + place
 
-pub row_of_rank : (m : Parts) (g : List Row) (d : Dictionary) → IsMarket m → Holds m g d → (k : ℕ) (r : Row) → slice_get (in_order m g) k ≡ Some r → (place : ℕ) × IsRanked m g d k place r
+pub row_of_rank : (m : Parts) (g : List Row) (d : Dictionary) → IsMarket m → HoldsMarket m g d → (k : ℕ) (r : Row) → slice_get (in_order m g) k ≡ Some r → (place : ℕ) × IsRanked m g d k place r
 row_of_rank m g d market holds k r at =
     let c = (in_order-from m g r (k, slice_get_within (in_order m g) k r at, get_or_from_slice_get (in_order m g) k r r at)).0 in (
       c.0,
@@ -90,7 +90,7 @@ row_of_rank m g d market holds k r at =
       },
     )
 
-pub ranked_row : (m : Parts) (g : List Row) (d : Dictionary) → IsMarket m → Holds m g d → (k rank : ℕ) → balance_name m + 1 + k ≡ rank → rank < length d.names → (r : Row) × (slice_get (in_order m g) k ≡ Some r)
+pub ranked_row : (m : Parts) (g : List Row) (d : Dictionary) → IsMarket m → HoldsMarket m g d → (k rank : ℕ) → balance_name m + 1 + k ≡ rank → rank < length d.names → (r : Row) × (slice_get (in_order m g) k ≡ Some r)
 ranked_row m g d market holds k rank e lt =
     let count : length d.names ≡ balance_name m + 1 + length (in_order m g) = name_count m g d market holds in
     some (in_order m g) k (Prim.omega (arith, e, lt, count))
@@ -208,7 +208,7 @@ module _ (d : Dictionary) (sound : IsDictionary d) (row : ℕ) (within : row < l
   below_refused bound p = refused_pair (note_of d (slice_index d.basics row)).value (note_of d (slice_index d.basics row)).low bound p value_number low_number
 
 -- the place of the row of a rank among those of the market
-pub rank_place : (m : Parts) (g : List Row) (d : Dictionary) → IsMarket m → Holds m g d → (rank : ℕ) → balance_name m < rank → rank < length d.names
+pub rank_place : (m : Parts) (g : List Row) (d : Dictionary) → IsMarket m → HoldsMarket m g d → (rank : ℕ) → balance_name m < rank → rank < length d.names
     → (k : ℕ) × (r : Row) × (place : ℕ) × (balance_name m + 1 + k ≡ rank) × IsRanked m g d k place r
 rank_place m g d market holds rank behind within =
     let k : ℕ = rank - (balance_name m + 1) in

@@ -11,7 +11,7 @@ use Rattle.exact_fraction.specs.declared.Op.TheVariants.{Plus}
 use Rattle.exact_fraction.specs.declared.Passed.{Passed}
 use Rattle.market_model.specs.declared.participants.Block.{Block}
 use Rattle.market_model.specs.declared.participants.Parts.{Parts}
-use Rattle.market_model.specs.Dispatch.{Dispatch, places, signed, block_at, quantity, injection, balance, balance_terms}
+use Rattle.market_model.specs.Dispatch.{Dispatch, places, signed_by_side, block_at, quantity, injection, balance, balance_terms}
 use Rattle.market_model.specs.declared.limits.Cause.{Cause}
 use Rattle.market_model.specs.declared.limits.Row.{Row}
 use Rattle.market_model.specs.declared.limits.Cause.TheVariants.{Base, Branch}
@@ -85,8 +85,8 @@ module _ (m : Parts) (x : Dispatch) where
 pub twice : (x : Fraction) → x ≡ neg_ℚ (neg_ℚ x)
 twice x = sym (neg_neg ring_ℚ x)
 
-pub priced : (m : Parts) (k : ℕ) (block : Block) (price : Fraction) → block ≡ block_at m k → price ≡ neg_ℚ (signed block.side (whole block.price)) → price ≡ neg_ℚ (signed (block_at m k).side (whole (block_at m k).price))
-priced m k block price at e = e ∙ ap (λ (b : Block). neg_ℚ (signed b.side (whole b.price))) at
+pub priced : (m : Parts) (k : ℕ) (block : Block) (price : Fraction) → block ≡ block_at m k → price ≡ neg_ℚ (signed_by_side block.side (whole block.price)) → price ≡ neg_ℚ (signed_by_side (block_at m k).side (whole (block_at m k).price))
+priced m k block price at e = e ∙ ap (λ (b : Block). neg_ℚ (signed_by_side b.side (whole b.price))) at
 
 pub quantity_read : (m : Parts) (k : ℕ) (block : Block) (high : Fraction) → block ≡ block_at m k → high ≡ whole block.quantity → high ≡ quantity m k
 quantity_read m k block high at e = e ∙ ap (λ (b : Block). whole b.quantity) at

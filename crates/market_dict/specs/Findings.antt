@@ -14,7 +14,7 @@ use Rattle.market_system.specs.MarketSystem.{system_of, choice_dispatch, choice_
 use Rattle.market_system.specs.Outcomes.{PricesOnly}
 use Rattle.market_system.specs.SolvedLaws.{AnswersBy}
 use Rattle.market_model.specs.PutIn.{dispatch_of}
-use Rattle.market_dict.specs.Holding.{Holds}
+use Rattle.market_dict.specs.Holding.{HoldsMarket}
 use Rattle.market_dict.specs.declared.solving.Found.{Found}
 use Rattle.market_dict.specs.declared.solving.Found.TheVariants.{Best, Nothing}
 use Rattle.market_dict.specs.declared.stop.Stop.{Stop}
@@ -31,8 +31,8 @@ pub record IsSolvedBy (m : Parts) (g : List Row) (x : Dispatch) (d : Duals Fract
 -- a best dispatch for these rows with duals that support it, or duals that show that no dispatch of the market is feasible; with a
 -- dictionary that still holds the market over these rows
 abbrev pub IsFound : {N : Type 0} → (N → Fraction) → Parts → List Row → Found N → Type 0
-IsFound value m g (Best d xs duals) = Holds m g d × IsSolvedBy m g (dispatch_of value xs) (duals_at value duals)
-IsFound value m g (Nothing d farkas) = Holds m g d × IsFarkas m (farkas_at value farkas) × PricesOnly m g (duals_at value farkas.duals)
+IsFound value m g (Best d xs duals) = HoldsMarket m g d × IsSolvedBy m g (dispatch_of value xs) (duals_at value duals)
+IsFound value m g (Nothing d farkas) = HoldsMarket m g d × IsFarkas m (farkas_at value farkas) × PricesOnly m g (duals_at value farkas.duals)
 
 -- where numbers became too large, P holds of the two
 abbrev pub OnPassed : {N : Type 0} → Stop N → (Passed N → Type 0) → Type 0

@@ -1,4 +1,4 @@
 pub mod Findings
 pub mod Holding
 pub mod Refusals
-pub mod Terms
+pub mod PricesAndBounds

@@ -17,7 +17,7 @@ pub data IsBoundRefusal (m : Parts) (bound : ℕ) (r : Row) (p : Passed Fraction
   of_low : IsRefusal Minus (neg_ℚ (limit m r)) (flow m (empty m) r) bound p → IsBoundRefusal m bound r p
 
 -- an operation refused for prices and bounds
-pub data IsTermsRefusal (m : Parts) (bound : ℕ) (p : Passed Fraction) : Type 0 where
-  of_flows : IsFlowsRefusal m (empty m) bound p → IsTermsRefusal m bound p
-  of_balance : IsRefusedIn (balance_terms m (empty m)) bound p → IsTermsRefusal m bound p
-  of_row : (r : Row) → Contains (rows m) r → IsBoundRefusal m bound r p → IsTermsRefusal m bound p
+pub data IsPosingRefusal (m : Parts) (bound : ℕ) (p : Passed Fraction) : Type 0 where
+  of_flows : IsFlowsRefusal m (empty m) bound p → IsPosingRefusal m bound p
+  of_balance : IsRefusedIn (balance_terms m (empty m)) bound p → IsPosingRefusal m bound p
+  of_row : (r : Row) → Contains (rows m) r → IsBoundRefusal m bound r p → IsPosingRefusal m bound p

@@ -1,7 +1,7 @@
 //! Names of blocks, and what blocks count in the rows of a dictionary.
 
 ghost use Rattle.std.specs.Prelude.{◌≡◌, ◌<◌, ◌≤◌, length, map, replicate, Contains, IfOk};
-ghost use Rattle.market_model.specs.Dispatch.{zero, places, signed, unit_at};
+ghost use Rattle.market_model.specs.Dispatch.{zero, places, signed_by_side, unit_at};
 ghost use Rattle.market_model.specs.LimitRows.{rows, row_factor};
 ghost use Rattle.market_system.specs.MarketSystem.{block_sign, block_coefficient};
 
@@ -40,7 +40,7 @@ pub(crate) fn block_names(alloc: Global, count: u32) -> Result<List<u32>, Memory
 
 /// A number where a block sells, its opposite where it buys.
 fn by_side<N: Exact>(block: &Block, number: N) -> N
-    ensures { N.value result ≡ signed block.now.side (N.value number) }
+    ensures { N.value result ≡ signed_by_side block.now.side (N.value number) }
 {
     match block.side {
         Side::Sell => number,
@@ -64,7 +64,7 @@ pub(crate) fn balance_entries<N: Exact>(alloc: Global, market: &Market) -> Resul
 fn row_entry<N: Exact>(market: &Market, row: Row, block: &Block) -> N
     requires row { Contains (rows market.now) row }
     requires unit { block.now.unit < length market.now.units }
-    ensures { N.value result ≡ signed block.now.side (row_factor market.now row (unit_at market.now block.now.unit).bus) }
+    ensures { N.value result ≡ signed_by_side block.now.side (row_factor market.now row (unit_at market.now block.now.unit).bus) }
 {
     let bus = market.units().at(block.unit).bus;
     by_side(

@@ -4,13 +4,13 @@
 #![tactic(auto)]
 
 mod entries;
+mod posing;
 mod reading;
 mod rows;
 mod solving;
 mod stop;
-mod terms;
 
+pub use posing::{PricesAndBounds, prices_and_bounds, take_bounds};
 pub use rows::{start, take_limit};
 pub use solving::{Found, solve};
 pub use stop::Stop;
-pub use terms::{Terms, take_bounds, terms_of};

@@ -7,16 +7,16 @@ ghost use Rattle.fraction_theory.specs.Signs.{sign_of};
 ghost use Rattle.linear_dict.specs.Causes.{IsPairOf};
 ghost use Rattle.linear_dict.specs.Dictionaries.{IsDictionary, choice_of, note_of, system_of as system_in};
 ghost use Rattle.simplex_core.specs.Outcomes.{ShowsChoice};
-ghost use Rattle.simplex_theory.specs.Steps.{signed};
+ghost use Rattle.simplex_theory.specs.Steps.{opposite_if};
 ghost use Rattle.simplex_theory.specs.Stuck.{multiplier as multiplier_of, margin as margin_of};
 ghost use Rattle.market_model.specs.declared.limits.Row.{Row};
 ghost use Rattle.market_model.specs.LimitRows.{row_id};
 ghost use Rattle.market_model.specs.Valued.{dual_at, duals_at};
-ghost use Rattle.market_system.specs.MarketSystem.{balance_name, row_name, in_order, dual_by, duals_by as duals_of, choice_dispatch, choice_duals, system_of};
+ghost use Rattle.market_system.specs.MarketSystem.{balance_name, row_name, in_order, dual_by, duals_of_costs as duals_of, choice_dispatch, choice_duals, system_of};
 ghost use Rattle.market_system.specs.SolvedLaws.{stuck_duals};
 ghost use Rattle.market_model.specs.PutIn.{dispatch_of};
 ghost use Rattle.market_dict.specs.Findings.{OnPassed};
-ghost use Rattle.market_dict.specs.Holding.{Holds, HoldsSystem};
+ghost use Rattle.market_dict.specs.Holding.{HoldsMarket, HoldsSystem};
 
 use crate::stop::Stop;
 use exact_fraction::{Exact, Passed, Sign};
@@ -65,10 +65,10 @@ fn push_dual<N: Exact>(limits: &mut List<Dual<N>>, row: RowId, cost: N) -> Resul
 
 /// The name of the limit of a rank behind those of the blocks and of the balance.
 fn limit_of<N: Exact>(market: &Market, dict: &Dict<N>, rank: usize) -> RowId
-    requires holds { (g : List Row) × Holds market.now g dict.now }
+    requires holds { (g : List Row) × HoldsMarket market.now g dict.now }
     requires behind { balance_name market.now < rank }
     requires within { rank < length dict.now.names }
-    ensures { (g : List Row) (k : ℕ) (r : Row) → Holds market.now g dict.now → balance_name market.now + 1 + k ≡ rank → slice_get (in_order market.now g) k ≡ Some r → result ≡ row_id market.now r }
+    ensures { (g : List Row) (k : ℕ) (r : Row) → HoldsMarket market.now g dict.now → balance_name market.now + 1 + k ≡ rank → slice_get (in_order market.now g) k ≡ Some r → result ≡ row_id market.now r }
 {
     let name = dict.ranked(rank) as usize;
     id(market, name - market.blocks().len() - 1)
@@ -81,9 +81,9 @@ fn duals_by<N: Exact>(
     dict: &Dict<N>,
     costs: &[N],
 ) -> Result<Duals<N>, Memory>
-    requires holds { (g : List Row) × Holds market.now g dict.now }
+    requires holds { (g : List Row) × HoldsMarket market.now g dict.now }
     requires costs { length costs.now ≡ length dict.now.names }
-    ensures { (g : List Row) (cost : ℕ → Fraction) → Holds market.now g dict.now → map N.value costs.now ≡ map cost dict.now.names
+    ensures { (g : List Row) (cost : ℕ → Fraction) → HoldsMarket market.now g dict.now → map N.value costs.now ≡ map cost dict.now.names
         → IfOk result (λ duals. duals_at N.value duals ≡ duals_of market.now (neg_ℚ (cost (balance_name market.now))) (λ r. cost (row_name market.now r)) (in_order market.now g)) }
 {
     let balance = market.blocks().len();
@@ -148,7 +148,7 @@ fn multipliers<N: Exact>(
     requires live { dict.now.spent ≡ false }
     requires sound { IsDictionary dict.now }
     requires row { row < length dict.now.basics }
-    ensures { IfOk result (λ multipliers. map N.value multipliers ≡ map (λ w. signed (not above) (multiplier_of (choice_of dict.now) (slice_index dict.now.basics row) w)) dict.now.names) }
+    ensures { IfOk result (λ multipliers. map N.value multipliers ≡ map (λ w. opposite_if (not above) (multiplier_of (choice_of dict.now) (slice_index dict.now.basics row) w)) dict.now.names) }
 {
     let mut multipliers = List::new(alloc);
     for rank in 0..dict.name_count() {

@@ -5,7 +5,7 @@ ghost use Rattle.market_model.specs.declared.limits.Row.{Row};
 ghost use Rattle.market_model.specs.LimitRows.{rows};
 ghost use Rattle.market_system.specs.MarketSystem.{row_name as row_name_of};
 ghost use Rattle.market_dict.specs.Findings.{IsPairOver};
-ghost use Rattle.market_dict.specs.Holding.{Holds};
+ghost use Rattle.market_dict.specs.Holding.{HoldsMarket};
 
 use crate::entries::{balance_entries, block_names, row_entries};
 use crate::stop::Stop;
@@ -18,7 +18,7 @@ use std::alloc::Global;
 
 /// The dictionary of a market over none of its limits: the blocks are the other variables, and the balance is basic.
 pub fn start<N: Exact>(alloc: Global, market: &Market) -> Result<Dict<N>, Memory>
-    ensures { IfOk result (Holds market.now []) }
+    ensures { IfOk result (HoldsMarket market.now []) }
 {
     let blocks = market.blocks().len() as u32;
     let names = block_names(alloc, blocks)?;
@@ -46,10 +46,10 @@ pub fn take_limit<N: Exact>(
     row: Row,
 ) -> Result<(), Stop<N>>
     requires row { Contains (rows market.now) row }
-    requires holds { (g : List Row) × Holds market.now g dict.old × ¬ (Contains g row) }
-    ensures taken { (g : List Row) → Holds market.now g dict.old → IfOk result (λ _. Holds market.now (g ++ row ∷ []) dict.new) }
+    requires holds { (g : List Row) × HoldsMarket market.now g dict.old × ¬ (Contains g row) }
+    ensures taken { (g : List Row) → HoldsMarket market.now g dict.old → IfOk result (λ _. HoldsMarket market.now (g ++ row ∷ []) dict.new) }
     ensures kept { IfErr result (λ _. dict.new ≡ dict.old) }
-    ensures pair { (g : List Row) → Holds market.now g dict.old → IfErr result (IsPairOver N.value N.bound market.now (g ++ row ∷ [])) }
+    ensures pair { (g : List Row) → HoldsMarket market.now g dict.old → IfErr result (IsPairOver N.value N.bound market.now (g ++ row ∷ [])) }
 {
     let _lines = market.lines();
     let entries = row_entries(alloc, market, row)?;

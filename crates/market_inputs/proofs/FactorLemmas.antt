@@ -5,7 +5,7 @@ use Rattle.std.specs.List.{enumerate_from, flat_map}
 use Rattle.std.proofs.lemmas.List.{drop_all, drop_more}
 use Rattle.std.proofs.lemmas.List.Elements.{All-append, All-cons, All-nil, All-weaker}
 use Rattle.std.proofs.lemmas.List.Kept.{AllPairs-cons}
-use Rattle.market_model.specs.Market.{AreFactors}
+use Rattle.market_model.specs.Market.{AreTableFactors}
 use Rattle.market_model.specs.declared.participants.Factor.{Factor}
 use Rattle.market_data.specs.Scales.{most_factor}
 use Rattle.market_inputs.specs.Clearing.{AreSmall, factors_by, factors_of_line, unless_0}
@@ -115,7 +115,7 @@ module _ {A B : Type 0} (value : A → B → ℤ) (others : List B) where
       (factors_of_line (value x) k others) (at_place k x))
 
   -- factors that are gathered line by line are those of a market
-  pub factors_by-are : (lines : List A) → AreSmall (factors_by value lines others) → AreFactors (length lines) (length others) (factors_by value lines others)
+  pub factors_by-are : (lines : List A) → AreSmall (factors_by value lines others) → AreTableFactors (length lines) (length others) (factors_by value lines others)
   factors_by-are lines small = record {
     each = λ i d lt.
         let at : IsAt 0 (length lines) (length others) (get_or (factors_by value lines others) i d) = all-at 0 (length lines) lines (omega arith) i d lt in

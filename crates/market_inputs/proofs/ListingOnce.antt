@@ -1,9 +1,8 @@
 -- Numbers are listed as one list of outages, or have one first fault.
 use Rattle.std.proofs.Common.{◌≡◌, ◌≢◌, ◌∙◌, ◌⊎◌, ◌<◌, ◌+◌, refl, sym, ap, subst, arith, ℕ, ℤ, pos, List, [], ◌∷◌, ◌++◌, length, map, get_or, Bool, true, false, Result, Ok, Err, inl, inr, length-append}
-use Rattle.std.specs.Prelude.{AllPairs, Contains, unsigned_abs}
+use Rattle.std.specs.Prelude.{Contains, unsigned_abs}
 use Rattle.std.proofs.lemmas.List.{get_or_append_left}
 use Rattle.std.proofs.lemmas.List.Elements.{All-contains}
-use Rattle.std.proofs.Math.Logic.{⊎_elim}
 use Rattle.std.proofs.Math.Seq.{get_or-append_seam}
 use Rattle.net_case.specs.declared.live_parts.NetBranch.{NetBranch}
 use Rattle.net_case.specs.Networks.{AreRows, LiveNetwork}

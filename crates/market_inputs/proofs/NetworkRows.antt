@@ -1,5 +1,5 @@
 -- The rows of a network that was read: each live branch stands at its own row, and they rise.
-use Rattle.std.proofs.Common.{◌≡◌, ◌∙◌, ◌+◌, refl, sym, ap, subst, arith, ℕ, List, [], ◌∷◌, ◌++◌, length, map, Bool, true, false, Result, Ok, Err, Option, Some, None}
+use Rattle.std.proofs.Common.{◌≡◌, ◌+◌, refl, subst, arith, ℕ, List, [], ◌∷◌, ◌++◌, length, map, Bool, true, false, Result, Ok, Err, Option, Some, None}
 use Rattle.std.specs.Prelude.{◌==◌, IfSome, if◌then◌else◌}
 use Rattle.record_reading.specs.Records.{Record}
 use Rattle.record_reading.specs.Rows.{gather, listed}
@@ -8,7 +8,6 @@ use Rattle.case_text.specs.Matrices.{CaseMatrices}
 use Rattle.case_text.specs.declared.Field.TheVariants as field
 use Rattle.net_case.specs.declared.live_parts.Branches.TheVariants as branches
 use Rattle.net_case.specs.declared.live_parts.NetBranch.{NetBranch}
-use Rattle.net_case.specs.declared.live_parts.NetFault.{NetFault}
 use Rattle.net_case.specs.declared.live_parts.PostRating.{PostRating}
 use Rattle.market_data.specs.Scales.{most_buses, most_lines, most_units}
 use Rattle.net_case.specs.Columns.{BR_STATUS, F_BUS, RATE_A, T_BUS}

@@ -1,5 +1,5 @@
 -- The bytes of files stand for one market, or have one first fault: each step of the work tells one thing.
-use Rattle.std.proofs.Common.{◌≡◌, ◌∙◌, ◌<◌, ◌≤◌, refl, sym, ap, subst, arith, ℕ, ℤ, List, length, map, Result, Ok, Err}
+use Rattle.std.proofs.Common.{◌≡◌, ◌∙◌, refl, sym, ap, subst, arith, ℕ, ℤ, List, map, Result, Ok, Err}
 use Rattle.std.proofs.lemmas.Bool.{cases_lt}
 use Rattle.std.proofs.Math.Logic.{⊎_elim}
 use Rattle.record_reading.specs.Steps.{or_as}
@@ -10,9 +10,8 @@ use Rattle.net_case.specs.declared.live_parts.NetFault.{NetFault}
 use Rattle.net_case.specs.declared.live_parts.PostRating.{PostRating}
 use Rattle.net_case.specs.Networks.{AreRows, LiveNetwork}
 use Rattle.net_case.specs.NetworkReading.{network_of}
-use Rattle.net_paths.specs.Connection.{IsSplit, JoinAll, bus_number}
+use Rattle.net_paths.specs.Connection.{IsSplit, bus_number}
 use Rattle.outage_list.specs.declared.listing.OutageFault.TheVariants as outage
-use Rattle.market_model.specs.declared.participants.Parts.{Parts}
 use Rattle.refusal_text.specs.declared.refusals.Refusal.{Refusal}
 use Rattle.refusal_text.specs.declared.refusals.Refusal.TheVariants as refusal
 use Rattle.market_inputs.specs.Cases.{IsJoined, IsJoinedNetwork, joined, matrices_in, network_in, split}

@@ -1,9 +1,7 @@
 -- What a row of a live branch names, where the rows of live branches rise.
-use Rattle.std.proofs.Common.{◌≡◌, ◌≢◌, ◌∙◌, ◌<◌, ◌≤◌, ◌+◌, refl, sym, ap, subst, arith, ℕ, zero, suc, ℤ, pos, negsuc, List, [], ◌∷◌, ◌++◌, length, map, get_or, Bool, true, false, Option, Some, None, All, inl, inr}
-use Rattle.std.specs.Prelude.{◌==◌, ◌&&◌, ◌≤ℤ◌, AllPairs, Contains, is_some, position, unsigned_abs}
-use Rattle.std.specs.Int.Signed.{le_z}
-use Rattle.std.proofs.lemmas.Bool.{cases_lt, eqb-true, eq-eqb}
-use Rattle.std.proofs.lemmas.Int.{ints}
+use Rattle.std.proofs.Common.{◌≡◌, ◌∙◌, ◌<◌, ◌≤◌, sym, ap, arith, ℕ, ℤ, pos, negsuc, List, length, map, get_or, true, Some}
+use Rattle.std.specs.Prelude.{AllPairs, is_some}
+use Rattle.std.proofs.lemmas.Bool.{cases_lt}
 use Rattle.std.proofs.lemmas.Grind.{common_steps}
 use Rattle.std.proofs.lemmas.List.{get_or-map, get_or_default, length-map}
 use Rattle.std.proofs.lemmas.Option.{slice_get-get_or}

@@ -1,7 +1,7 @@
 -- One step of the work behind the other.
 use Rattle.std.proofs.Common.{◌≡◌, refl, sym, subst, Result, Ok, Err}
 use Rattle.net_case.specs.Networks.{LiveNetwork}
-use Rattle.net_paths.specs.Connection.{IsStop}
+use Rattle.net_paths.specs.Connection.{IsPathStop}
 use Rattle.net_paths.specs.declared.connection.PathStop.{PathStop}
 use Rattle.net_paths.specs.declared.connection.PathStop.TheVariants as path
 use Rattle.refusal_text.specs.declared.refusals.Refusal.{Refusal}
@@ -30,6 +30,6 @@ module _ {A B : Type 0} (P : Result A Refusal → Type 0) (Q : A → Result B Re
       go stop.Memory told = tt
 
 -- ---- a network that is split
-pub split-told : (network : LiveNetwork) (stop : PathStop) → IsStop network stop → IsToldAs (IsJoined network) (Err (split_stop stop))
+pub split-told : (network : LiveNetwork) (stop : PathStop) → IsPathStop network stop → IsToldAs (IsJoined network) (Err (split_stop stop))
 split-told network (path.Split bus) apart = split bus apart
 split-told network path.Memory apart = tt

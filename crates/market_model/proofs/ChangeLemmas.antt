@@ -16,7 +16,7 @@ use Rattle.market_model.specs.declared.participants.Side.{Side}
 use Rattle.market_model.specs.declared.participants.Side.TheVariants.{Sell, Buy}
 use Rattle.market_model.specs.Changes.{with_price, with_quantity, with_demand, with_limit, line_with}
 use Rattle.market_model.specs.Dispatch.{bus_at, unit_at, block_at, line_at}
-use Rattle.market_model.specs.Market.{IsMarket, IsBlock, IsLine, AreFactors, HasRoom}
+use Rattle.market_model.specs.Market.{IsMarket, IsBlock, IsLine, AreTableFactors, HasRoom}
 use Rattle.market_model.specs.Stairs.{same_side, is_on_stair, stair_in, offered, room_of}
 
 -- ---- stairs with one block changed
@@ -159,7 +159,7 @@ module _ (m : Parts) (market : IsMarket m) where
         line_rows = market.line_rows;
         outages = market.outages;
         outages_distinct = market.outages_distinct;
-        shift = subst (λ (n : ℕ). AreFactors (length m.lines) n m.shift) long market.shift;
+        shift = subst (λ (n : ℕ). AreTableFactors (length m.lines) n m.shift) long market.shift;
         loss = market.loss;
       }
 
@@ -185,8 +185,8 @@ module _ (m : Parts) (market : IsMarket m) where
         line_rows = subst (AllPairs (λ a b. a ≢ b)) rows market.line_rows;
         outages = subst (λ (rs : List ℕ). All (Contains rs) m.outages) rows market.outages;
         outages_distinct = market.outages_distinct;
-        shift = subst (λ (n : ℕ). AreFactors n (length m.buses) m.shift) long market.shift;
-        loss = subst (λ (n : ℕ). AreFactors n n m.loss) long market.loss;
+        shift = subst (λ (n : ℕ). AreTableFactors n (length m.buses) m.shift) long market.shift;
+        loss = subst (λ (n : ℕ). AreTableFactors n n m.loss) long market.loss;
       }
     where
       row_is : (k : Line) (t : Bool) → (line_with k t mw).row ≡ k.row

@@ -18,8 +18,8 @@ use Rattle.market_model.specs.declared.participants.Parts.{Parts}
 use Rattle.market_model.specs.declared.participants.Side.{Side}
 use Rattle.market_model.specs.declared.participants.Side.TheVariants.{Sell, Buy}
 use Rattle.market_model.specs.declared.answered.Duals.{Duals}
-use Rattle.market_model.specs.Dispatch.{Dispatch, zero, places, block_at, unit_at, block_bus, signed, accepted, quantity, raised_by, demand, balance, empty}
-use Rattle.market_model.specs.Optimality.{up_of, down_of, pull, bus_price}
+use Rattle.market_model.specs.Dispatch.{Dispatch, zero, places, block_at, unit_at, block_bus, signed_by_side, accepted, quantity, raised_by, demand, balance, empty}
+use Rattle.market_model.specs.Optimality.{up_of, down_of, net_shadow_price, bus_price}
 use Rattle.market_model.specs.declared.limits.Row.{Row}
 use Rattle.market_model.specs.LimitRows.{rows, flow, row_offset, limit}
 use Rattle.market_model.specs.Market.{IsMarket}
@@ -27,7 +27,7 @@ use Rattle.market_model.specs.Infeasibility.{where_above, part_above, block_weig
 use Rattle.market_model.specs.Laws.{LawOfInfeasibility}
 use Rattle.market_model.proofs.PlaceSums.{places_all}
 use Rattle.market_model.proofs.MarketSums.{fixed_part, raised_by-empty, priced_injections-by_parts}
-use Rattle.market_model.proofs.RowLaws.{along, pulls, priced-by_pulls, rent_sign}
+use Rattle.market_model.proofs.RowLaws.{along, row_prices, priced-by_rows, rent_sign}
 
 -- a block makes no more than the greater of its weight and 0 makes of all that it has
 pub weight-most : (w x q : Fraction) → zero ≤ℚ x → x ≤ℚ q → (w *ℚ x) ≤ℚ (part_above w *ℚ q)
@@ -43,7 +43,7 @@ weight-most w x q low high = by_sign (sign_of w) refl
     by_sign Zero is = none (≤ℚ_of_same w zero (sign_of_is w Zero is))
     by_sign Above is = *ℚ-≤ℚ w x q (NonNeg_from w (<ℚ-≤ℚ zero w (sign_of_is w Above is))) high
 
-weight_signed : (side : Side) (e x : Fraction) → signed side e *ℚ x ≡ e *ℚ signed side x
+weight_signed : (side : Side) (e x : Fraction) → signed_by_side side e *ℚ x ≡ e *ℚ signed_by_side side x
 weight_signed Sell e x = refl
 weight_signed Buy e x = by_ring ring_ℚ (e ∷ x ∷ []) (pneg (at 0) ⊗ at 1) (at 0 ⊗ pneg (at 1)) refl
 
@@ -83,26 +83,26 @@ farkas_bound-by_blocks m d bare =
     ∙ ap (λ (rs : List Row). d.energy *ℚ balance m (empty m) +ℚ (sum_by (left_of m d (empty m)) rs +ℚ sum_by (λ j. part_above (block_weight m d j) *ℚ quantity m j) (places (length m.blocks)))) bare
     ∙ ap (λ t. d.energy *ℚ balance m (empty m) +ℚ t) (by_ring ring_ℚ (sum_by (λ j. part_above (block_weight m d j) *ℚ quantity m j) (places (length m.blocks)) ∷ []) (pnil ⊕ at 0) (at 0) refl)
 
--- what is left and what is pulled come to the same for all dispatches
-left-and-pulls : (m : Parts) (d : Duals Fraction) (x y : Dispatch) → sum_by (left_of m d x) (rows m) +ℚ pulls m d x ≡ sum_by (left_of m d y) (rows m) +ℚ pulls m d y
-left-and-pulls m d x y = to_fixed x ∙ sym (to_fixed y)
+-- what is left and what rows count at their net prices come to the same for all dispatches
+left-and-row_prices : (m : Parts) (d : Duals Fraction) (x y : Dispatch) → sum_by (left_of m d x) (rows m) +ℚ row_prices m d x ≡ sum_by (left_of m d y) (rows m) +ℚ row_prices m d y
+left-and-row_prices m d x y = to_fixed x ∙ sym (to_fixed y)
   where
     fixed : Row → Fraction
-    fixed r = (up_of m d r +ℚ down_of m d r) *ℚ limit m r -ℚ pull m d r *ℚ row_offset m r
+    fixed r = (up_of m d r +ℚ down_of m d r) *ℚ limit m r -ℚ net_shadow_price m d r *ℚ row_offset m r
 
-    to_fixed : (z : Dispatch) → sum_by (left_of m d z) (rows m) +ℚ pulls m d z ≡ sum_by (λ r. (up_of m d r +ℚ down_of m d r) *ℚ limit m r -ℚ pull m d r *ℚ row_offset m r) (rows m)
+    to_fixed : (z : Dispatch) → sum_by (left_of m d z) (rows m) +ℚ row_prices m d z ≡ sum_by (λ r. (up_of m d r +ℚ down_of m d r) *ℚ limit m r -ℚ net_shadow_price m d r *ℚ row_offset m r) (rows m)
     to_fixed z =
-        sym (sum_by-plus (left_of m d z) (λ r. pull m d r *ℚ (flow m z r -ℚ row_offset m r)) (rows m))
-        ∙ sum_by-same (λ r. left_of m d z r +ℚ pull m d r *ℚ (flow m z r -ℚ row_offset m r)) (λ r. (up_of m d r +ℚ down_of m d r) *ℚ limit m r -ℚ pull m d r *ℚ row_offset m r) (rows m)
+        sym (sum_by-plus (left_of m d z) (λ r. net_shadow_price m d r *ℚ (flow m z r -ℚ row_offset m r)) (rows m))
+        ∙ sum_by-same (λ r. left_of m d z r +ℚ net_shadow_price m d r *ℚ (flow m z r -ℚ row_offset m r)) (λ r. (up_of m d r +ℚ down_of m d r) *ℚ limit m r -ℚ net_shadow_price m d r *ℚ row_offset m r) (rows m)
         (λ r. by_ring ring_ℚ (up_of m d r ∷ down_of m d r ∷ limit m r ∷ flow m z r ∷ row_offset m r ∷ [])
         ((at 0 ⊗ (at 2 ⊕ pneg (at 3)) ⊕ (at 1 ⊗ (at 2 ⊕ at 3) ⊕ pnil)) ⊕ (at 0 ⊕ pneg (at 1)) ⊗ (at 3 ⊕ pneg (at 4)))
         ((at 0 ⊕ at 1) ⊗ at 2 ⊕ pneg ((at 0 ⊕ pneg (at 1)) ⊗ at 4)) refl)
 
--- what the blocks make, by what is priced and pulled
-weights-by_pulls : (m : Parts) (d : Duals Fraction) (x : Dispatch) → IsMarket m
+-- what the blocks make, by what is priced and what rows count
+weights-by_rows : (m : Parts) (d : Duals Fraction) (x : Dispatch) → IsMarket m
     → sum_by (λ j. block_weight m d j *ℚ accepted x j) (places (length m.blocks))
-    ≡ (d.energy *ℚ balance m x -ℚ pulls m d x) -ℚ (d.energy *ℚ balance m (empty m) -ℚ pulls m d (empty m))
-weights-by_pulls m d x h =
+    ≡ (d.energy *ℚ balance m x -ℚ row_prices m d x) -ℚ (d.energy *ℚ balance m (empty m) -ℚ row_prices m d (empty m))
+weights-by_rows m d x h =
     let units : Fraction = sum_by (λ u. bus_price m d (unit_at m u).bus *ℚ fixed_part m u) (places (length m.units)) in
     let loads : Fraction = sum_by (λ i. bus_price m d i *ℚ demand m i) (places (length m.buses)) in
     let of_x : Fraction = sum_by (λ j. bus_price m d (block_bus m j) *ℚ raised_by m x j) (places (length m.blocks)) in
@@ -112,13 +112,13 @@ weights-by_pulls m d x h =
     (λ j. ap (λ t. bus_price m d (block_bus m j) *ℚ t) (raised_by-empty m j) ∙ by_ring ring_ℚ (bus_price m d (block_bus m j) ∷ []) (at 0 ⊗ pnil) pnil refl)
     ∙ sum_by-nil (places (length m.blocks)) in
     weights-by_raises m d x
-    ∙ by_ring3 ring_ℚ (of_x ∷ of_none ∷ units ∷ loads ∷ (d.energy *ℚ balance m x -ℚ pulls m d x) ∷ (d.energy *ℚ balance m (empty m) -ℚ pulls m d (empty m)) ∷ [])
+    ∙ by_ring3 ring_ℚ (of_x ∷ of_none ∷ units ∷ loads ∷ (d.energy *ℚ balance m x -ℚ row_prices m d x) ∷ (d.energy *ℚ balance m (empty m) -ℚ row_prices m d (empty m)) ∷ [])
     (at 0) (at 4 ⊕ pneg (at 5))
     (pneg pone) (at 4) ((at 2 ⊕ at 0) ⊕ pneg (at 3))
     pone (at 5) ((at 2 ⊕ at 1) ⊕ pneg (at 3))
     pone (at 1) pnil
-    (sym (priced-by_pulls m d x) ∙ priced_injections-by_parts m x (bus_price m d) h)
-    (sym (priced-by_pulls m d (empty m)) ∙ priced_injections-by_parts m (empty m) (bus_price m d) h)
+    (sym (priced-by_rows m d x) ∙ priced_injections-by_parts m x (bus_price m d) h)
+    (sym (priced-by_rows m d (empty m)) ∙ priced_injections-by_parts m (empty m) (bus_price m d) h)
     none refl
 
 pub law_of_infeasibility : LawOfInfeasibility
@@ -135,12 +135,12 @@ law_of_infeasibility m d x h shows f =
     (sum_by-≤ (λ r. zero) (left_of m d x) (rows m) (along (λ r. zero ≤ℚ left_of m d x r) (rows m)
     (λ r c. let w = f.limits r c in rent_sign (up_of m d r) (down_of m d r) (limit m r) (flow m x r) (shows.up_signs r c) (shows.down_signs r c) (λ a. w.below) (λ a. w.above)))) in
     let made : p +ℚ (left_none +ℚ weights) ≡ left =
-    by_ring3 ring_ℚ (p ∷ left_none ∷ weights ∷ left ∷ pulls m d x ∷ pulls m d (empty m) ∷ d.energy ∷ balance m x ∷ [])
+    by_ring3 ring_ℚ (p ∷ left_none ∷ weights ∷ left ∷ row_prices m d x ∷ row_prices m d (empty m) ∷ d.energy ∷ balance m x ∷ [])
     (at 0 ⊕ (at 1 ⊕ at 2)) (at 3)
     pone (at 2) ((at 6 ⊗ at 7 ⊕ pneg (at 4)) ⊕ pneg (at 0 ⊕ pneg (at 5)))
     (pneg pone) (at 3 ⊕ at 4) (at 1 ⊕ at 5)
     (at 6) (at 7) pnil
-    (weights-by_pulls m d x h) (left-and-pulls m d x (empty m)) f.balanced refl in
+    (weights-by_rows m d x h) (left-and-row_prices m d x (empty m)) f.balanced refl in
     let within : zero ≤ℚ farkas_bound m d =
     ≤ℚ_trans zero left (farkas_bound m d) some_left
     (subst₂ ◌≤ℚ◌ made (sym (farkas_bound-by_parts m d)) (+ℚ-≤ℚ p p _ _ (≤ℚ_refl p) (+ℚ-≤ℚ left_none left_none _ _ (≤ℚ_refl left_none) most))) in

@@ -14,7 +14,7 @@ use Rattle.market_model.specs.declared.participants.Side.TheVariants.{Sell, Buy}
 use Rattle.market_model.specs.declared.participants.Parts.{Parts}
 use Rattle.market_data.specs.Participants.{IsUnit}
 use Rattle.market_model.specs.Market.{IsMarket, IsBlock}
-use Rattle.market_model.specs.Dispatch.{Dispatch, IsDispatch, places, bus_at, unit_at, block_at, block_bus, signed, accepted, quantity, empty, raised_by, units_at, blocks_at, blocks_of, fixed_term, block_term, injection, balance, output, demand}
+use Rattle.market_model.specs.Dispatch.{Dispatch, IsDispatch, places, bus_at, unit_at, block_at, block_bus, signed_by_side, accepted, quantity, empty, raised_by, units_at, blocks_at, blocks_of, fixed_term, block_term, injection, balance, output, demand}
 use Rattle.market_model.proofs.PlaceSums.{places_all, gather, gather_times, sum_by-places, sum_in_step, sum_in_step-places}
 
 -- places in range
@@ -139,8 +139,8 @@ balance-by_lists m x h =
 
 -- what the blocks raise, with the accepted MW in step with the blocks
 pub raises-in_step : (m : Parts) (x : Dispatch) → length x.blocks ≡ length m.blocks
-    → sum_by (raised_by m x) (places (length m.blocks)) ≡ sum_in_step (λ block taken. signed block.side taken) m.blocks x.blocks
-raises-in_step m x h = sum_in_step-places (λ block taken. signed block.side taken) _ (whole (pos 0)) m.blocks x.blocks h
+    → sum_by (raised_by m x) (places (length m.blocks)) ≡ sum_in_step (λ block taken. signed_by_side block.side taken) m.blocks x.blocks
+raises-in_step m x h = sum_in_step-places (λ block taken. signed_by_side block.side taken) _ (whole (pos 0)) m.blocks x.blocks h
 
 -- what balances, raises what the demands leave
 pub balanced-raises : (m : Parts) (x : Dispatch) → IsMarket m → balance m x ≡ whole (pos 0)
@@ -169,7 +169,7 @@ abbrev pub least_raised : Side → Fraction → Fraction
 least_raised Sell q = whole (pos 0)
 least_raised Buy q = neg_ℚ q
 
-signed-within : (side : Side) (x q : Fraction) → whole (pos 0) ≤ℚ x → x ≤ℚ q → (least_raised side q ≤ℚ signed side x) × (signed side x ≤ℚ most_raised side q)
+signed-within : (side : Side) (x q : Fraction) → whole (pos 0) ≤ℚ x → x ≤ℚ q → (least_raised side q ≤ℚ signed_by_side side x) × (signed_by_side side x ≤ℚ most_raised side q)
 signed-within Sell x q h k = (h, k)
 signed-within Buy x q h k = (
   by_le1 (x ∷ q ∷ []) (pneg (at 1)) (pneg (at 0)) pone (at 0) (at 1) NonNeg-one k refl,
@@ -211,12 +211,12 @@ accepted-empty m j = by_count (length m.blocks) j
     by_count (suc n) zero = refl
     by_count (suc n) (suc i) = by_count n i
 
-signed-nil : (side : Side) → signed side (whole (pos 0)) ≡ whole (pos 0)
+signed-nil : (side : Side) → signed_by_side side (whole (pos 0)) ≡ whole (pos 0)
 signed-nil Sell = refl
 signed-nil Buy = by_ring ring_ℚ [] (pneg pnil) pnil refl
 
 pub raised_by-empty : (m : Parts) (j : ℕ) → raised_by m (empty m) j ≡ whole (pos 0)
-raised_by-empty m j = ap (signed (block_at m j).side) (accepted-empty m j) ∙ signed-nil (block_at m j).side
+raised_by-empty m j = ap (signed_by_side (block_at m j).side) (accepted-empty m j) ∙ signed-nil (block_at m j).side
 
 -- an injection, and the balance, by those of nothing accepted
 pub injection-by_empty : (m : Parts) (x : Dispatch) (i : ℕ) → injection m x i ≡ injection m (empty m) i +ℚ sum_by (raised_by m x) (blocks_at m i)

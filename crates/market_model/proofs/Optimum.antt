@@ -15,11 +15,11 @@ use Rattle.market_model.specs.declared.participants.Side.{Side}
 use Rattle.market_model.specs.declared.participants.Side.TheVariants.{Sell, Buy}
 use Rattle.market_model.specs.declared.answered.Duals.{Duals}
 use Rattle.market_model.specs.Market.{IsMarket}
-use Rattle.market_model.specs.Dispatch.{Dispatch, places, block_at, block_bus, unit_at, signed, accepted, quantity, raised_by, injection, balance, output, demand}
-use Rattle.market_model.specs.Optimality.{Feasible, Supports, Gains, Loses, price, block_value, welfare, pull, bus_price, unit_price}
+use Rattle.market_model.specs.Dispatch.{Dispatch, places, block_at, block_bus, unit_at, signed_by_side, accepted, quantity, raised_by, injection, balance, output, demand}
+use Rattle.market_model.specs.Optimality.{Feasible, Supports, Gains, Loses, price, block_value, welfare, net_shadow_price, bus_price, unit_price}
 use Rattle.market_model.specs.Settlement.{surplus}
 use Rattle.market_model.specs.Laws.{LawOfTheOptimum, LawOfTheSurplus, LawOfItsSign, LawOfNoLimits}
-use Rattle.market_model.proofs.RowLaws.{pulls, priced-by_pulls, pulls-rents, pulls-most, rents-sign}
+use Rattle.market_model.proofs.RowLaws.{row_prices, priced-by_rows, row_prices-rents, row_prices-most, rents-sign}
 use Rattle.market_model.specs.declared.limits.Row.{Row}
 use Rattle.market_model.specs.LimitRows.{flow, row_offset}
 use Rattle.market_model.proofs.PlaceSums.{places_all}
@@ -32,7 +32,7 @@ welfare-by_blocks m x = total-Product (block_value m) (accepted x) (places (leng
 
 -- what a block that takes z adds: its value, and what it raises at the price at its bus
 abbrev pub gain : Side → Fraction → Fraction → Fraction → Fraction
-gain side price worth z = neg_ℚ (signed side price) *ℚ z +ℚ worth *ℚ signed side z
+gain side price worth z = neg_ℚ (signed_by_side side price) *ℚ z +ℚ worth *ℚ signed_by_side side z
 
 -- a block that is supported gains at least as much as with any other quantity
 pub supported_gains : (side : Side) (price worth x q z : Fraction) → (Gains side price worth → x ≡ q) → (Loses side price worth → x ≡ whole (pos 0))
@@ -72,12 +72,12 @@ greatest_gains m d x y fx s fy =
     of_block : Dispatch → ℕ → Fraction
     of_block t j = gain (block_at m j).side (price m j) (unit_price m d (block_at m j).unit) (accepted t j)
 
--- the injections of a dispatch in balance, at bus prices, are the opposite of what the rows pull
+-- the injections of a dispatch in balance, at bus prices, are the opposite of what the rows net_shadow_price
 pub priced_injections-balanced : (m : Parts) (d : Duals Fraction) (x : Dispatch) → balance m x ≡ whole (pos 0)
-    → sum_by (λ i. bus_price m d i *ℚ injection m x i) (places (length m.buses)) ≡ neg_ℚ (pulls m d x)
+    → sum_by (λ i. bus_price m d i *ℚ injection m x i) (places (length m.buses)) ≡ neg_ℚ (row_prices m d x)
 priced_injections-balanced m d x e =
-    priced-by_pulls m d x
-    ∙ by_ring1 ring_ℚ (d.energy ∷ balance m x ∷ pulls m d x ∷ []) (at 0 ⊗ at 1 ⊕ pneg (at 2)) (pneg (at 2)) (at 0) (at 1) pnil e refl
+    priced-by_rows m d x
+    ∙ by_ring1 ring_ℚ (d.energy ∷ balance m x ∷ row_prices m d x ∷ []) (at 0 ⊗ at 1 ⊕ pneg (at 2)) (pneg (at 2)) (at 0) (at 1) pnil e refl
 
 -- what the blocks raise, at the prices of their buses, is the least where the duals support the dispatch
 pub priced_raises : (m : Parts) (d : Duals Fraction) (x y : Dispatch) → IsMarket m → Feasible m x → Supports m x d → Feasible m y
@@ -89,7 +89,7 @@ priced_raises m d x y h fx s fy =
     subst₂ ◌≤ℚ◌
     (sym (priced_injections-balanced m d x fx.balanced) ∙ priced_injections-by_parts m x (bus_price m d) h)
     (sym (priced_injections-balanced m d y fy.balanced) ∙ priced_injections-by_parts m y (bus_price m d) h)
-    (by_le1 (pulls m d x ∷ pulls m d y ∷ []) (pneg (at 0)) (pneg (at 1)) pone (at 1) (at 0) NonNeg-one (pulls-most m d x s y fy) refl)
+    (by_le1 (row_prices m d x ∷ row_prices m d y ∷ []) (pneg (at 0)) (pneg (at 1)) pone (at 1) (at 0) NonNeg-one (row_prices-most m d x s y fy) refl)
 
 pub law_of_the_optimum : LawOfTheOptimum
 law_of_the_optimum m d x y h fx s fy =
@@ -116,17 +116,17 @@ surplus-by_injections m d x h =
     ∙ by_ring ring_ℚ (loads ∷ units ∷ []) (at 0 ⊕ pneg (at 1)) (pneg (at 1 ⊕ pneg (at 0))) refl
     ∙ ap neg_ℚ (sym (priced_injections-by_outputs m x (bus_price m d) h))
 
--- in balance the surplus is what the rows pull
-pub surplus-by_pulls : (m : Parts) (d : Duals Fraction) (x : Dispatch) → IsMarket m → balance m x ≡ whole (pos 0) → surplus m x d ≡ pulls m d x
+-- in balance the surplus is what the rows net_shadow_price
+pub surplus-by_pulls : (m : Parts) (d : Duals Fraction) (x : Dispatch) → IsMarket m → balance m x ≡ whole (pos 0) → surplus m x d ≡ row_prices m d x
 surplus-by_pulls m d x h e =
-    surplus-by_injections m d x h ∙ ap neg_ℚ (priced_injections-balanced m d x e) ∙ by_ring ring_ℚ (pulls m d x ∷ []) (pneg (pneg (at 0))) (at 0) refl
+    surplus-by_injections m d x h ∙ ap neg_ℚ (priced_injections-balanced m d x e) ∙ by_ring ring_ℚ (row_prices m d x ∷ []) (pneg (pneg (at 0))) (at 0) refl
 
 pub law_of_the_surplus : LawOfTheSurplus
-law_of_the_surplus m d x h f s = surplus-by_pulls m d x h f.balanced ∙ pulls-rents m d x s
+law_of_the_surplus m d x h f s = surplus-by_pulls m d x h f.balanced ∙ row_prices-rents m d x s
 
 pub law_of_its_sign : LawOfItsSign
 law_of_its_sign m d x h f s within = subst (λ t. whole (pos 0) ≤ℚ t) (sym (law_of_the_surplus m d x h f s)) (rents-sign m d x s within)
 
 pub law_of_no_limits : LawOfNoLimits
 law_of_no_limits m d x h none e =
-    surplus-by_pulls m d x h e ∙ ap (λ (rs : List Row). sum_by (λ r. pull m d r *ℚ (flow m x r -ℚ row_offset m r)) rs) none
+    surplus-by_pulls m d x h e ∙ ap (λ (rs : List Row). sum_by (λ r. net_shadow_price m d r *ℚ (flow m x r -ℚ row_offset m r)) rs) none

@@ -18,7 +18,7 @@ use Rattle.market_data.specs.declared.participants.Bus.{Bus}
 use Rattle.market_data.specs.declared.participants.Unit as unit
 use Rattle.market_model.specs.declared.participants.Block.{Block}
 use Rattle.market_model.specs.declared.participants.Parts.{Parts}
-use Rattle.market_model.specs.Dispatch.{Dispatch, zero, places, bus_at, unit_at, block_at, block_bus, fixed_term, block_term, accepted, signed, units_at, blocks_at, injection, injection_terms, output_terms}
+use Rattle.market_model.specs.Dispatch.{Dispatch, zero, places, bus_at, unit_at, block_at, block_bus, fixed_term, block_term, accepted, signed_by_side, units_at, blocks_at, injection, injection_terms, output_terms}
 use Rattle.market_model.specs.NamedSums.{SameSize, IsNextTerm, IsSumStep, IsRefusal, IsRefusedIn}
 use Rattle.market_model.specs.PutIn.{dispatch_of, put_in, AreInjections, IsDemandRefusal}
 use Rattle.market_model.proofs.MorePlaces.{total-filter_more}
@@ -57,29 +57,29 @@ module _ (m : Parts) (bus : ℕ) where
     raised_to k = map (fixed_term m) (units_at m bus) ++ map (block_term m x) (filter bus_block (places k))
 
     pub raised_step : (k : ℕ) (block : Block) (belongs : Bool) (mw old new : Fraction) → block ≡ block_at m k → belongs ≡ bus_block k → accepted x k ≡ mw → old ≡ total (raised_to k)
-        → new ≡ old +ℚ (if belongs then signed block.side mw else whole (pos 0)) → new ≡ total (raised_to (k + 1))
+        → new ≡ old +ℚ (if belongs then signed_by_side block.side mw else whole (pos 0)) → new ≡ total (raised_to (k + 1))
     raised_step k block belongs mw old new at is accept before e =
         let f : List Term = map (fixed_term m) (units_at m bus) in
         let t : List Term = map (block_term m x) (filter bus_block (places k)) in
-        let more : Fraction = if bus_block k then signed (block_at m k).side (accepted x k) else whole (pos 0) in
-        e ∙ ap (λ (b : Bool). old +ℚ (if b then signed block.side mw else whole (pos 0))) is
-        ∙ ap (λ (b : Block). old +ℚ (if bus_block k then signed b.side mw else whole (pos 0))) at
-        ∙ ap (λ v. old +ℚ (if bus_block k then signed (block_at m k).side v else whole (pos 0))) (sym accept)
+        let more : Fraction = if bus_block k then signed_by_side (block_at m k).side (accepted x k) else whole (pos 0) in
+        e ∙ ap (λ (b : Bool). old +ℚ (if b then signed_by_side block.side mw else whole (pos 0))) is
+        ∙ ap (λ (b : Block). old +ℚ (if bus_block k then signed_by_side b.side mw else whole (pos 0))) at
+        ∙ ap (λ v. old +ℚ (if bus_block k then signed_by_side (block_at m k).side v else whole (pos 0))) (sym accept)
         ∙ ap (λ s. s +ℚ more) (before ∙ total-append f t)
         ∙ +ℚ_assoc (total f) (total t) more
         ∙ ap (λ s. total f +ℚ s) (sym (total-filter_more bus_block (block_term m x) k))
         ∙ sym (total-append f (map (block_term m x) (filter bus_block (places (k + 1)))))
 
     pub raised_refused : (k : ℕ) (block : Block) (belongs : Bool) (mw sum : Fraction) (bound : ℕ) (p : Passed Fraction) → k < length m.blocks → block ≡ block_at m k → belongs ≡ bus_block k → belongs ≡ true
-        → accepted x k ≡ mw → sum ≡ total (raised_to k) → IsRefusal Plus sum (signed block.side mw) bound p
+        → accepted x k ≡ mw → sum ≡ total (raised_to k) → IsRefusal Plus sum (signed_by_side block.side mw) bound p
         → IsRefusedIn (map (fixed_term m) (units_at m bus) ++ map (block_term m x) (filter bus_block (places (length m.blocks)))) bound p
     raised_refused k block belongs mw sum bound p below at is sure accept before h =
         let f : List Term = map (fixed_term m) (units_at m bus) in
         let r = tested_at bus_block (block_term m x) (length m.blocks) k below (sym is ∙ sure) in
         plus_at (f ++ map (block_term m x) (filter bus_block (places (length m.blocks)))) (raised_to k) r.0 (block_term m x k)
         (behind f (map (block_term m x) (filter bus_block (places (length m.blocks)))) (map (block_term m x) (filter bus_block (places k))) r.0 (block_term m x k) r.1)
-        bound p sum (signed block.side mw) before
-        (ap (λ (b : Block). signed b.side mw) at ∙ ap (signed (block_at m k).side) (sym accept)) h
+        bound p sum (signed_by_side block.side mw) before
+        (ap (λ (b : Block). signed_by_side b.side mw) at ∙ ap (signed_by_side (block_at m k).side) (sym accept)) h
 
 -- ---- what was put in
 module _ (m : Parts) (x : Dispatch) (fs : List Fraction) (puts : AreInjections m x fs) where
@@ -183,14 +183,14 @@ module _ {N : Type 0} (value : N → Fraction) (m : Parts) (ds : List N) where
 
   -- an output with one block more
   pub output_step : (place k : ℕ) (block : Block) (d : N) (old new : Fraction) → k < length ds → d ≡ get_or ds k d → block ≡ block_at m k → old ≡ output_to place k
-      → new ≡ old +ℚ (if block.unit == place then signed block.side (value d) else zero) → new ≡ output_to place (k + 1)
+      → new ≡ old +ℚ (if block.unit == place then signed_by_side block.side (value d) else zero) → new ≡ output_to place (k + 1)
   output_step place k block d old new h is at before e =
       let f : Fraction = whole (unit_at m place).fixed in
       let t : Fraction = total (map (block_term m (dispatch_of value ds)) (filter (λ j. (block_at m j).unit == place) (places k))) in
-      let more : Fraction = if (block_at m k).unit == place then signed (block_at m k).side (accepted (dispatch_of value ds) k) else zero in
+      let more : Fraction = if (block_at m k).unit == place then signed_by_side (block_at m k).side (accepted (dispatch_of value ds) k) else zero in
       e
-      ∙ ap (λ (b : Block). old +ℚ (if b.unit == place then signed b.side (value d) else zero)) at
-      ∙ ap (λ v. old +ℚ (if (block_at m k).unit == place then signed (block_at m k).side v else zero)) (sym (accepted_is value ds k d h is))
+      ∙ ap (λ (b : Block). old +ℚ (if b.unit == place then signed_by_side b.side (value d) else zero)) at
+      ∙ ap (λ v. old +ℚ (if (block_at m k).unit == place then signed_by_side (block_at m k).side v else zero)) (sym (accepted_is value ds k d h is))
       ∙ ap (λ s. s +ℚ more) before
       ∙ +ℚ_assoc f t more
       ∙ ap (λ s. f +ℚ s) (sym (total-filter_more (λ j. (block_at m j).unit == place) (block_term m (dispatch_of value ds)) k))
@@ -198,11 +198,11 @@ module _ {N : Type 0} (value : N → Fraction) (m : Parts) (ds : List N) where
   module _ (bound : ℕ) (p : Passed Fraction) where
     -- a block of a unit's output
     pub output_refused : (place k : ℕ) (block : Block) (d : N) (sum : Fraction) → k < length m.blocks → k < length ds → d ≡ get_or ds k d → block ≡ block_at m k → (block.unit == place) ≡ true
-        → sum ≡ output_to place k → IsRefusal Plus sum (signed block.side (value d)) bound p → IsRefusedIn (output_terms m (dispatch_of value ds) place) bound p
+        → sum ≡ output_to place k → IsRefusal Plus sum (signed_by_side block.side (value d)) bound p → IsRefusedIn (output_terms m (dispatch_of value ds) place) bound p
     output_refused place k block d sum below lt at same belongs is h =
         let x = dispatch_of value ds in
         let test : ℕ → _ = λ j. (block_at m j).unit == place in
         let r = tested_at test (block_term m x) (length m.blocks) k below (ap (λ (b : Block). b.unit == place) (sym same) ∙ belongs) in
         plus_at (output_terms m x place) (fixed_term m place ∷ map (block_term m x) (filter test (places k))) r.0 (block_term m x k) (ap (λ ts. fixed_term m place ∷ ts) r.1)
-        bound p sum (signed block.side (value d)) is
-        ((ap (λ (b : Block). signed b.side (value d)) same ∙ ap (signed (block_at m k).side) (sym (accepted_is value ds k d lt at)))) h
+        bound p sum (signed_by_side block.side (value d)) is
+        ((ap (λ (b : Block). signed_by_side b.side (value d)) same ∙ ap (signed_by_side (block_at m k).side) (sym (accepted_is value ds k d lt at)))) h

@@ -19,7 +19,7 @@ use Rattle.market_model.specs.declared.limits.Cause.{Cause}
 use Rattle.market_model.specs.declared.limits.Row.{Row}
 use Rattle.market_model.specs.declared.limits.Cause.TheVariants.{Base, Branch}
 use Rattle.market_model.specs.LimitRows.{causes, bears, rows_of, rows, row_id, limit, row_flow, row_offset, row_factor, line_flow, line_offset, shift_factor, loss_factor, flow}
-use Rattle.market_model.specs.Optimality.{Feasible, Supports, BlockSupported, Gains, Loses, price, IsOneSided, ProperDuals, is_named, named_rows, up_of, down_of, pull, congestion, bus_price, congestion_by, price_by}
+use Rattle.market_model.specs.Optimality.{Feasible, Supports, BlockSupported, Gains, Loses, price, IsOneSided, ProperDuals, names_row, named_rows, up_of, down_of, net_shadow_price, congestion, bus_price, congestion_by, price_by}
 use Rattle.market_model.specs.Settlement.{rent}
 use Rattle.market_model.specs.Laws.{LawOfTheFlows, HasOffsetsWithin}
 use Rattle.market_model.proofs.MarketSums.{balance-by_injections, sum_by-neg}
@@ -38,7 +38,7 @@ no_row m r bare c = let k : Contains [] r = subst (λ (rs : List Row). Contains 
 
 pub congestion-bare : (m : Parts) (d : Duals Fraction) (i : ℕ) → rows m ≡ [] → congestion m d i ≡ zero
 unfolding congestion_by
-congestion-bare m d i e = ap (λ rs. total (map (λ r. Product (neg_ℚ (pull m d r)) (row_factor m r i)) rs)) e
+congestion-bare m d i e = ap (λ rs. total (map (λ r. Product (neg_ℚ (net_shadow_price m d r)) (row_factor m r i)) rs)) e
 
 pub bus_price-bare : (m : Parts) (d : Duals Fraction) (i : ℕ) → rows m ≡ [] → bus_price m d i ≡ d.energy
 unfolding price_by
@@ -68,7 +68,7 @@ feasible_bare m x bare h e = record {
 }
 
 pub named_rows-bare : (m : Parts) (d : Duals Fraction) → rows m ≡ [] → named_rows m d ≡ []
-named_rows-bare m d bare = ap (λ (rs : List Row). filter (λ r. is_named d.limits (row_id m r)) rs) bare
+named_rows-bare m d bare = ap (λ (rs : List Row). filter (λ r. names_row d.limits (row_id m r)) rs) bare
 
 pub proper_bare : (m : Parts) (d : Duals Fraction) → rows m ≡ [] → d.limits ≡ [] → ProperDuals m d
 proper_bare m d bare e = record {
@@ -117,10 +117,10 @@ law_of_the_flows m p r = by r.line r.cause
         (λ i. by_ring ring_ℚ (shift_factor m l i ∷ p i ∷ loss_factor m l k ∷ shift_factor m k i ∷ []) (at 0 ⊗ at 1 ⊕ at 2 ⊗ (at 3 ⊗ at 1)) ((at 0 ⊕ (at 2 ⊗ at 3 ⊕ pnil)) ⊗ at 1) refl))
 
 -- ---- sums over buses and rows, exchanged
--- what prices of buses, made of pulls of rows, make of injections
-pub pulled : {R : Type 0} (rs : List R) (is : List ℕ) (q : R → Fraction) (a : R → ℕ → Fraction) (p : ℕ → Fraction)
+-- what prices of buses, made of the net prices of rows, make of injections
+pub by_net_prices : {R : Type 0} (rs : List R) (is : List ℕ) (q : R → Fraction) (a : R → ℕ → Fraction) (p : ℕ → Fraction)
     → sum_by (λ i. sum_by (λ r. neg_ℚ (q r) *ℚ a r i) rs *ℚ p i) is ≡ neg_ℚ (sum_by (λ r. q r *ℚ sum_by (λ i. a r i *ℚ p i) is) rs)
-pulled rs is q a p =
+by_net_prices rs is q a p =
     sum_by-same (λ i. sum_by (λ r. neg_ℚ (q r) *ℚ a r i) rs *ℚ p i) (λ i. sum_by (λ r. p i *ℚ (neg_ℚ (q r) *ℚ a r i)) rs) is
     (λ i. by_ring ring_ℚ (sum_by (λ r. neg_ℚ (q r) *ℚ a r i) rs ∷ p i ∷ []) (at 0 ⊗ at 1) (at 1 ⊗ at 0) refl ∙ sym (sum_by-times (p i) (λ r. neg_ℚ (q r) *ℚ a r i) rs))
     ∙ sum_by-exchange (λ i r. p i *ℚ (neg_ℚ (q r) *ℚ a r i)) is rs
@@ -131,25 +131,25 @@ pulled rs is q a p =
     ∙ by_ring ring_ℚ (q r ∷ sum_by (λ i. a r i *ℚ p i) is ∷ []) (pneg (at 0) ⊗ at 1) (pneg (at 0 ⊗ at 1)) refl)
     ∙ sum_by-neg (λ r. q r *ℚ sum_by (λ i. a r i *ℚ p i) is) rs
 
--- the rows' pulls on what flows beyond their offsets
-abbrev pub pulls : Parts → Duals Fraction → Dispatch → Fraction
-pulls m d x = sum_by (λ r. pull m d r *ℚ (flow m x r -ℚ row_offset m r)) (rows m)
+-- the rows at their net prices, on what flows beyond their offsets
+abbrev pub row_prices : Parts → Duals Fraction → Dispatch → Fraction
+row_prices m d x = sum_by (λ r. net_shadow_price m d r *ℚ (flow m x r -ℚ row_offset m r)) (rows m)
 
--- injections at bus prices: the balance at the price of energy, less the pulls of the rows
-pub priced-by_pulls : (m : Parts) (d : Duals Fraction) (x : Dispatch)
-    → sum_by (λ i. bus_price m d i *ℚ injection m x i) (places (length m.buses)) ≡ d.energy *ℚ balance m x -ℚ pulls m d x
+-- injections at bus prices: the balance at the price of energy, less that of the rows
+pub priced-by_rows : (m : Parts) (d : Duals Fraction) (x : Dispatch)
+    → sum_by (λ i. bus_price m d i *ℚ injection m x i) (places (length m.buses)) ≡ d.energy *ℚ balance m x -ℚ row_prices m d x
 unfolding price_by congestion_by
-priced-by_pulls m d x =
+priced-by_rows m d x =
     let buses : List ℕ = places (length m.buses) in
-    sum_by-same (λ i. (d.energy +ℚ congestion m d i) *ℚ injection m x i) (λ i. d.energy *ℚ injection m x i +ℚ sum_by (λ r. neg_ℚ (pull m d r) *ℚ row_factor m r i) (rows m) *ℚ injection m x i) buses
+    sum_by-same (λ i. (d.energy +ℚ congestion m d i) *ℚ injection m x i) (λ i. d.energy *ℚ injection m x i +ℚ sum_by (λ r. neg_ℚ (net_shadow_price m d r) *ℚ row_factor m r i) (rows m) *ℚ injection m x i) buses
     (λ i. by_ring ring_ℚ (d.energy ∷ congestion m d i ∷ injection m x i ∷ []) ((at 0 ⊕ at 1) ⊗ at 2) (at 0 ⊗ at 2 ⊕ at 1 ⊗ at 2) refl
-    ∙ ap (λ t. d.energy *ℚ injection m x i +ℚ t *ℚ injection m x i) (total-Product (λ r. neg_ℚ (pull m d r)) (λ r. row_factor m r i) (rows m)))
-    ∙ sum_by-plus (λ i. d.energy *ℚ injection m x i) (λ i. sum_by (λ r. neg_ℚ (pull m d r) *ℚ row_factor m r i) (rows m) *ℚ injection m x i) buses
+    ∙ ap (λ t. d.energy *ℚ injection m x i +ℚ t *ℚ injection m x i) (total-Product (λ r. neg_ℚ (net_shadow_price m d r)) (λ r. row_factor m r i) (rows m)))
+    ∙ sum_by-plus (λ i. d.energy *ℚ injection m x i) (λ i. sum_by (λ r. neg_ℚ (net_shadow_price m d r) *ℚ row_factor m r i) (rows m) *ℚ injection m x i) buses
     ∙ ap₂ ◌+ℚ◌
     (sum_by-times d.energy (injection m x) buses ∙ ap (λ t. d.energy *ℚ t) (sym (balance-by_injections m x)))
-    (pulled (rows m) buses (pull m d) (row_factor m) (injection m x)
-    ∙ ap neg_ℚ (sum_by-same (λ r. pull m d r *ℚ sum_by (λ i. row_factor m r i *ℚ injection m x i) buses) (λ r. pull m d r *ℚ (flow m x r -ℚ row_offset m r)) (rows m)
-    (λ r. ap (λ t. pull m d r *ℚ t)
+    (by_net_prices (rows m) buses (net_shadow_price m d) (row_factor m) (injection m x)
+    ∙ ap neg_ℚ (sum_by-same (λ r. net_shadow_price m d r *ℚ sum_by (λ i. row_factor m r i *ℚ injection m x i) buses) (λ r. net_shadow_price m d r *ℚ (flow m x r -ℚ row_offset m r)) (rows m)
+    (λ r. ap (λ t. net_shadow_price m d r *ℚ t)
     (by_ring1 ring_ℚ (flow m x r ∷ row_offset m r ∷ sum_by (λ i. row_factor m r i *ℚ injection m x i) buses ∷ []) (at 2) (at 0 ⊕ pneg (at 1)) (pneg pone) (at 0) (at 1 ⊕ at 2) (law_of_the_flows m (injection m x) r) refl))))
 
 -- ---- along the rows
@@ -174,15 +174,15 @@ module _ (u d limit f o : Fraction) (up_sign : zero ≤ℚ u) (down_sign : zero 
     | inr a ↦ *ℚ-≤ℚ d f g (NonNeg_from d down_sign) (subst (λ t. t ≤ℚ g) (sym (down a)) h)
   ]
 
-  -- no flow within the limit is pulled further
-  pub pulled_most : (g : Fraction) → neg_ℚ limit ≤ℚ g → g ≤ℚ limit → ((u -ℚ d) *ℚ (g -ℚ o)) ≤ℚ ((u -ℚ d) *ℚ (f -ℚ o))
-  pulled_most g low high =
+  -- no flow within the limit counts for more at its net price
+  pub net_price_most : (g : Fraction) → neg_ℚ limit ≤ℚ g → g ≤ℚ limit → ((u -ℚ d) *ℚ (g -ℚ o)) ≤ℚ ((u -ℚ d) *ℚ (f -ℚ o))
+  net_price_most g low high =
       by_le2 (u ∷ d ∷ f ∷ g ∷ o ∷ []) ((at 0 ⊕ pneg (at 1)) ⊗ (at 3 ⊕ pneg (at 4))) ((at 0 ⊕ pneg (at 1)) ⊗ (at 2 ⊕ pneg (at 4)))
       pone (at 0 ⊗ at 3) (at 0 ⊗ at 2) pone (at 1 ⊗ at 2) (at 1 ⊗ at 3) NonNeg-one (up_side g high) NonNeg-one (down_side g low) refl
 
-  -- what is pulled is the rent
-  pub pulled_rent : (u -ℚ d) *ℚ (f -ℚ o) ≡ u *ℚ (limit -ℚ o) +ℚ (d *ℚ (limit +ℚ o) +ℚ zero)
-  pulled_rent =
+  -- at its net price it is the rent
+  pub net_price_rent : (u -ℚ d) *ℚ (f -ℚ o) ≡ u *ℚ (limit -ℚ o) +ℚ (d *ℚ (limit +ℚ o) +ℚ zero)
+  net_price_rent =
       by_ring2 ring_ℚ (u ∷ d ∷ f ∷ o ∷ limit ∷ []) ((at 0 ⊕ pneg (at 1)) ⊗ (at 2 ⊕ pneg (at 3))) (at 0 ⊗ (at 4 ⊕ pneg (at 3)) ⊕ (at 1 ⊗ (at 4 ⊕ at 3) ⊕ pnil))
       (pneg pone) (at 0 ⊗ at 4) (at 0 ⊗ at 2) pone (at 1 ⊗ pneg (at 4)) (at 1 ⊗ at 2) up_is down_is refl
     where
@@ -220,17 +220,17 @@ rent_sign u d limit o up_sign down_sign up down =
 
 -- ---- all rows
 module _ (m : Parts) (d : Duals Fraction) (x : Dispatch) (s : Supports m x d) where
-  pub pulls-rents : pulls m d x ≡ sum_by (rent m x d) (rows m)
+  pub row_prices-rents : row_prices m d x ≡ sum_by (rent m x d) (rows m)
   unfolding rent
-  pulls-rents = sum_by-members (λ r. pull m d r *ℚ (flow m x r -ℚ row_offset m r)) (rent m x d) (rows m)
-      (λ r c. let h = s.rows r c in pulled_rent (up_of m d r) (down_of m d r) (limit m r) (flow m x r) (row_offset m r) h.up_sign h.down_sign h.up h.down)
+  row_prices-rents = sum_by-members (λ r. net_shadow_price m d r *ℚ (flow m x r -ℚ row_offset m r)) (rent m x d) (rows m)
+      (λ r c. let h = s.rows r c in net_price_rent (up_of m d r) (down_of m d r) (limit m r) (flow m x r) (row_offset m r) h.up_sign h.down_sign h.up h.down)
 
-  pub pulls-most : (y : Dispatch) → Feasible m y → pulls m d y ≤ℚ pulls m d x
-  pulls-most y f =
-      sum_by-≤ (λ r. pull m d r *ℚ (flow m y r -ℚ row_offset m r)) (λ r. pull m d r *ℚ (flow m x r -ℚ row_offset m r)) (rows m)
-      (along (λ r. (pull m d r *ℚ (flow m y r -ℚ row_offset m r)) ≤ℚ (pull m d r *ℚ (flow m x r -ℚ row_offset m r))) (rows m)
+  pub row_prices-most : (y : Dispatch) → Feasible m y → row_prices m d y ≤ℚ row_prices m d x
+  row_prices-most y f =
+      sum_by-≤ (λ r. net_shadow_price m d r *ℚ (flow m y r -ℚ row_offset m r)) (λ r. net_shadow_price m d r *ℚ (flow m x r -ℚ row_offset m r)) (rows m)
+      (along (λ r. (net_shadow_price m d r *ℚ (flow m y r -ℚ row_offset m r)) ≤ℚ (net_shadow_price m d r *ℚ (flow m x r -ℚ row_offset m r))) (rows m)
       (λ r c. let h = s.rows r c in let w = f.limits r c in
-      pulled_most (up_of m d r) (down_of m d r) (limit m r) (flow m x r) (row_offset m r) h.up_sign h.down_sign h.up h.down (flow m y r) w.above w.below))
+      net_price_most (up_of m d r) (down_of m d r) (limit m r) (flow m x r) (row_offset m r) h.up_sign h.down_sign h.up h.down (flow m y r) w.above w.below))
 
   pub rents-sign : HasOffsetsWithin m d → zero ≤ℚ sum_by (rent m x d) (rows m)
   unfolding rent

@@ -39,9 +39,9 @@ abbrev pub block_bus : Parts → ℕ → ℕ
 block_bus m j = (unit_at m (block_at m j).unit).bus
 
 -- what is sold counts up, what is bought counts down
-abbrev pub signed : Side → Fraction → Fraction
-signed Sell x = x
-signed Buy x = neg_ℚ x
+abbrev pub signed_by_side : Side → Fraction → Fraction
+signed_by_side Sell x = x
+signed_by_side Buy x = neg_ℚ x
 
 -- the accepted MW of each block
 pub record Dispatch : Type 0 where
@@ -66,7 +66,7 @@ empty m = record { blocks = replicate (length m.blocks) zero }
 
 -- by how much a block's acceptance raises its unit's output
 abbrev pub raised_by : Parts → Dispatch → ℕ → Fraction
-raised_by m x j = signed (block_at m j).side (accepted x j)
+raised_by m x j = signed_by_side (block_at m j).side (accepted x j)
 
 abbrev pub units_at : Parts → ℕ → List ℕ
 units_at m i = filter (λ u. (unit_at m u).bus == i) (places (length m.units))

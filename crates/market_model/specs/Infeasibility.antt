@@ -13,7 +13,7 @@ use Rattle.fraction_theory.specs.declared.Sign.TheVariants.{Below, Zero, Above}
 use Rattle.market_model.specs.declared.participants.Parts.{Parts}
 use Rattle.market_model.specs.declared.answered.Duals.{Duals}
 use Rattle.market_model.specs.declared.answered.Farkas.{Farkas}
-use Rattle.market_model.specs.Dispatch.{zero, places, block_at, signed, quantity, balance, empty}
+use Rattle.market_model.specs.Dispatch.{zero, places, block_at, signed_by_side, quantity, balance, empty}
 use Rattle.market_model.specs.Optimality.{unit_price, up_of, down_of, ProperDuals}
 use Rattle.market_model.specs.declared.limits.Row.{Row}
 use Rattle.market_model.specs.LimitRows.{rows, flow, most_flow}
@@ -30,7 +30,7 @@ part_above x = where_above (sign_of x) x
 
 -- what a MW of a block makes at duals: the price of its unit for a sell, the opposite for a buy
 abbrev pub block_weight : Parts → Duals Fraction → ℕ → Fraction
-block_weight m d j = signed (block_at m j).side (unit_price m d (block_at m j).unit)
+block_weight m d j = signed_by_side (block_at m j).side (unit_price m d (block_at m j).unit)
 
 -- what the flow of a row leaves of its most where nothing is accepted, at the prices of its two sides
 abbrev pub limit_terms : Parts → Duals Fraction → Row → List Term

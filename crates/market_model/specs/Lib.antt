@@ -1,6 +1,6 @@
 pub mod Changes
 pub mod Dispatch
-pub mod Excess
+pub mod Overrun
 pub mod Factors
 pub mod Fitting
 pub mod Frame

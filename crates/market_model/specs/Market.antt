@@ -31,14 +31,14 @@ pub record IsLine (line : Line) : Type 0 where
   pub offset : IsDatum line.offset
 
 -- a factor of one of so many lines, for one of so many buses or lost lines
-pub record IsFactor (lines others : ℕ) (factor : Factor) : Type 0 where
+pub record IsTableFactor (lines others : ℕ) (factor : Factor) : Type 0 where
   pub line : factor.line < lines
   pub of : factor.of < others
   pub size : unsigned_abs factor.value ≤ most_factor
 
 -- factors of which no two are of one pair
-pub record AreFactors (lines others : ℕ) (factors : List Factor) : Type 0 where
-  pub each : All (IsFactor lines others) factors
+pub record AreTableFactors (lines others : ℕ) (factors : List Factor) : Type 0 where
+  pub each : All (IsTableFactor lines others) factors
   pub distinct : AllPairs (λ f g. f.line ≡ g.line → f.of ≢ g.of) factors
 
 pub record IsMarket (parts : Parts) : Type 0 where
@@ -57,5 +57,5 @@ pub record IsMarket (parts : Parts) : Type 0 where
   pub line_rows : AllPairs (λ a b. a ≢ b) (map (λ line. line.row) parts.lines)
   pub outages : All (Contains (map (λ line. line.row) parts.lines)) parts.outages
   pub outages_distinct : AllPairs (λ a b. a ≢ b) parts.outages
-  pub shift : AreFactors (length parts.lines) (length parts.buses) parts.shift
-  pub loss : AreFactors (length parts.lines) (length parts.lines) parts.loss
+  pub shift : AreTableFactors (length parts.lines) (length parts.buses) parts.shift
+  pub loss : AreTableFactors (length parts.lines) (length parts.lines) parts.loss

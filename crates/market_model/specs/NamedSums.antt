@@ -1,6 +1,6 @@
 -- The operations that add up the terms of a sum in their order.
 use Rattle.std.specs.Prelude.{◌≡◌, ℕ, ◌+◌, ◌<◌, pos, List, length, slice_index_or, ◌⊎◌}
-use Rattle.fraction_theory.specs.Fraction.{Fraction, whole, neg_ℚ}
+use Rattle.fraction_theory.specs.Fraction.{Fraction, whole, neg_ℚ, ◌*ℚ◌}
 use Rattle.fraction_theory.specs.Sums.{Term, Plain, Product, term_value, prefix}
 use Rattle.exact_fraction.specs.declared.Op.{Op}
 use Rattle.exact_fraction.specs.declared.Op.TheVariants.{Plus, Minus, Times}
@@ -24,7 +24,7 @@ pub record IsNextTerm (terms : List Term) (op : Op) (l r : Fraction) (k : ℕ) :
   pub after : SameSize (outcome op l r) (prefix (k + 1) terms)
 
 -- the factors of the term k, in either order
-pub record AreFactors (terms : List Term) (l r : Fraction) (k : ℕ) (a b : Fraction) : Type 0 where
+pub record AreProductSides (terms : List Term) (l r : Fraction) (k : ℕ) (a b : Fraction) : Type 0 where
   pub inside : k < length terms
   pub product : term_at terms k ≡ Product a b
   pub sides : (SameSize l a × SameSize r b) ⊎ (SameSize l b × SameSize r a)
@@ -33,7 +33,7 @@ pub record AreFactors (terms : List Term) (l r : Fraction) (k : ℕ) (a b : Frac
 abbrev pub IsSumStep : List Term → Op → Fraction → Fraction → Type 0
 IsSumStep terms Plus l r = (k : ℕ) × IsNextTerm terms Plus l r k
 IsSumStep terms Minus l r = (k : ℕ) × IsNextTerm terms Minus l r k
-IsSumStep terms Times l r = (k : ℕ) × (a : Fraction) × (b : Fraction) × AreFactors terms l r k a b
+IsSumStep terms Times l r = (k : ℕ) × (a : Fraction) × (b : Fraction) × AreProductSides terms l r k a b
 
 -- an operation that passes the bound, where the terms are added up
 pub record IsRefusedIn (terms : List Term) (bound : ℕ) (p : Passed Fraction) : Type 0 where
@@ -46,3 +46,7 @@ pub record IsRefusal (op : Op) (left right : Fraction) (bound : ℕ) (p : Passed
   pub same_left : p.left ≡ left
   pub same_right : p.right ≡ right
   pub passes : Passes bound p.op p.left p.right
+
+-- a refused product of two numbers, or the refused sum with it
+abbrev pub IsShareRefusal : Fraction → Fraction → Fraction → ℕ → Passed Fraction → Type 0
+IsShareRefusal sum k x bound p = IsRefusal Times k x bound p ⊎ IsRefusal Plus sum (k *ℚ x) bound p

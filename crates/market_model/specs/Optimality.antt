@@ -11,7 +11,7 @@ use Rattle.market_model.specs.declared.participants.Parts.{Parts}
 use Rattle.market_model.specs.declared.answered.Dual.{Dual}
 use Rattle.market_model.specs.declared.answered.Duals.{Duals}
 use Rattle.market_model.specs.declared.answered.RowId.{RowId}
-use Rattle.market_model.specs.Dispatch.{Dispatch, IsDispatch, zero, places, block_at, signed, accepted, quantity, balance}
+use Rattle.market_model.specs.Dispatch.{Dispatch, IsDispatch, zero, places, block_at, signed_by_side, accepted, quantity, balance}
 use Rattle.market_model.specs.declared.limits.Row.{Row}
 use Rattle.market_model.specs.LimitRows.{rows, row_id, limit, most_flow, row_factor, unit_factor, flow}
 
@@ -35,7 +35,7 @@ price m j = whole (block_at m j).price
 
 -- what accepting a MW of a block is worth: a buy's price, and the negative of a sell's
 abbrev pub block_value : Parts → ℕ → Fraction
-block_value m j = neg_ℚ (signed (block_at m j).side (price m j))
+block_value m j = neg_ℚ (signed_by_side (block_at m j).side (price m j))
 
 abbrev pub welfare_terms : Parts → Dispatch → List Term
 welfare_terms m x = map (λ j. Product (block_value m j) (accepted x j)) (places (length m.blocks))
@@ -64,16 +64,16 @@ abbrev pub down_of : Parts → Duals Fraction → Row → Fraction
 down_of m d r = down_in d.limits (row_id m r)
 
 -- what a MW on the row's flow costs
-abbrev pub pull : Parts → Duals Fraction → Row → Fraction
-pull m d r = up_of m d r -ℚ down_of m d r
+abbrev pub net_shadow_price : Parts → Duals Fraction → Row → Fraction
+net_shadow_price m d r = up_of m d r -ℚ down_of m d r
 
-abbrev pub is_named : List (Dual Fraction) → RowId → Bool
-is_named [] id = false
-is_named (d ∷ ds) id = same_id d.row id || is_named ds id
+abbrev pub names_row : List (Dual Fraction) → RowId → Bool
+names_row [] id = false
+names_row (d ∷ ds) id = same_id d.row id || names_row ds id
 
 -- the rows that duals name, in the order of the market's rows
 abbrev pub named_rows : Parts → Duals Fraction → List Row
-named_rows m d = filter (λ r. is_named d.limits (row_id m r)) (rows m)
+named_rows m d = filter (λ r. names_row d.limits (row_id m r)) (rows m)
 
 -- one of the two prices of a limit is above 0, and the other is 0
 pub record IsOneSided (d : Dual Fraction) : Type 0 where
@@ -89,7 +89,7 @@ pub record ProperDuals (m : Parts) (d : Duals Fraction) : Type 0 where
 -- ---- prices
 -- what the limits take from the price of a MW, row by row, where so much of it counts for the flow of a row
 abbrev pub taken_terms : Parts → Duals Fraction → (Row → Fraction) → List Term
-taken_terms m d factor = map (λ r. Product (neg_ℚ (pull m d r)) (factor r)) (rows m)
+taken_terms m d factor = map (λ r. Product (neg_ℚ (net_shadow_price m d r)) (factor r)) (rows m)
 
 unfoldable pub congestion_by : Parts → Duals Fraction → (Row → Fraction) → Fraction
 congestion_by m d factor = total (taken_terms m d factor)

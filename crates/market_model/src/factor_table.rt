@@ -3,7 +3,7 @@
 ghost use Rattle.std.specs.Prelude.{◌≤◌, ◌*◌, length, IfOk};
 ghost use Rattle.market_data.specs.Scales.{most_lines};
 ghost use Rattle.market_model.specs.Factors.{IsTable};
-ghost use Rattle.market_model.specs.Market.{AreFactors};
+ghost use Rattle.market_model.specs.Market.{AreTableFactors};
 
 use crate::Factor;
 use plain_list::Memory;
@@ -16,7 +16,7 @@ pub(crate) fn table_of(
     lines: usize,
     others: usize,
 ) -> Result<Vec<i64>, Memory>
-    requires factors { AreFactors lines others factors.now }
+    requires factors { AreTableFactors lines others factors.now }
     requires lines { lines ≤ most_lines }
     requires others { others ≤ most_lines }
     ensures { IfOk result (λ table. IsTable factors.now lines others table.items) }

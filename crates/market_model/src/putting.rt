@@ -5,7 +5,7 @@ ghost use Rattle.fraction_theory.specs.Fraction.{whole, ◌+ℚ◌, ◌-ℚ◌};
 ghost use Rattle.fraction_theory.specs.Sums.{total};
 ghost use Rattle.exact_fraction.specs.declared.Op.TheVariants as Op;
 ghost use Rattle.market_data.specs.Participants.{IsBus, IsDatum};
-ghost use Rattle.market_model.specs.Dispatch.{zero, signed, unit_at, units_at, blocks_at, fixed_term, block_term, injection, injection_terms, output as output_of, output_terms};
+ghost use Rattle.market_model.specs.Dispatch.{zero, signed_by_side, unit_at, units_at, blocks_at, fixed_term, block_term, injection, injection_terms, output as output_of, output_terms};
 ghost use Rattle.market_model.specs.NamedSums.{IsRefusedIn, IsRefusal};
 ghost use Rattle.market_model.specs.PutIn.{dispatch_of, AreInjections, IsDemandRefusal, IsInjectionRefusal};
 ghost use Rattle.market_model.specs.Valued.{passed_at};
@@ -31,9 +31,9 @@ fn with_unit<N: Exact>(sum: N, unit: &Unit, belongs: bool) -> Result<N, Passed<N
 
 /// A sum with what a block raises it by, where that counts.
 fn with_block<N: Exact>(sum: N, block: &Block, belongs: bool, mw: N) -> Result<N, Passed<N>>
-    ensures sum { IfOk result (λ more. N.value more ≡ N.value sum +ℚ (if belongs then signed block.now.side (N.value mw) else zero)) }
+    ensures sum { IfOk result (λ more. N.value more ≡ N.value sum +ℚ (if belongs then signed_by_side block.now.side (N.value mw) else zero)) }
     ensures belongs { IfErr result (λ _. belongs ≡ true) }
-    ensures cause { IfErr result (λ passed. IsRefusal Op.Plus (N.value sum) (signed block.now.side (N.value mw)) N.bound (passed_at N.value passed)) }
+    ensures cause { IfErr result (λ passed. IsRefusal Op.Plus (N.value sum) (signed_by_side block.now.side (N.value mw)) N.bound (passed_at N.value passed)) }
 {
     if !belongs {
         return Ok(sum);

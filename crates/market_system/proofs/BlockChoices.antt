@@ -18,9 +18,9 @@ use Rattle.linear_system.proofs.ChoiceLaws.{others_are, is_other, is_basic, othe
 use Rattle.market_model.specs.declared.participants.Side.{Side}
 use Rattle.market_model.specs.declared.participants.Parts.{Parts}
 use Rattle.market_model.specs.Market.{IsMarket}
-use Rattle.market_model.specs.Dispatch.{Dispatch, zero, places, block_at, signed, accepted, quantity, raised_by, balance, empty}
+use Rattle.market_model.specs.Dispatch.{Dispatch, zero, places, block_at, signed_by_side, accepted, quantity, raised_by, balance, empty}
 use Rattle.market_model.specs.Optimality.{price, block_value}
-use Rattle.market_system.specs.MarketSystem.{balance_name, block_sign, needed, by_name, system_of, system_over, choice_dispatch}
+use Rattle.market_system.specs.MarketSystem.{balance_name, block_sign, residual_demand, by_name, system_of, system_over, choice_dispatch}
 use Rattle.market_model.proofs.MarketSums.{balance-by_empty}
 use Rattle.market_system.proofs.SystemLaws.{from_places, signed-times, variable_in, variable_below, block_or_balance, is_system, raised, meets_rows, from_rows, balance_is, not_balance, balance_choice, balance_others, balance_choice_is, block_choice, block_choice_is, block_choice_high, block_is_basic, the_block_is_basic, balance_not_basic}
 use Rattle.fraction_theory.proofs.ListSums.{Distinct-increasing}
@@ -33,8 +33,8 @@ pub by_name-block : (m : Parts) (x : ℕ → Fraction) (y : Fraction) (j : ℕ) 
 by_name-block m x y j h = ap (λ (b : Bool). if b then y else x j) (not_balance m j h)
 
 module _ (m : Parts) (market : IsMarket m) (x : Dispatch) (count : length x.blocks ≡ length m.blocks) (balanced : balance m x ≡ zero) where
-  -- what the blocks raise is what is needed
-  raises : raised m (accepted x) ≡ needed m
+  -- what the blocks raise is what is residual_demand
+  raises : raised m (accepted x) ≡ residual_demand m
   raises =
       sum_by-same (λ j. block_sign m j *ℚ accepted x j) (raised_by m x) (places (length m.blocks)) (λ j. signed-times (block_at m j).side (accepted x j))
       ∙ by_ring1 ring_ℚ (balance m (empty m) ∷ sum_by (raised_by m x) (places (length m.blocks)) ∷ []) (at 1) (pneg (at 0)) pone (at 0 ⊕ at 1) pnil
@@ -42,14 +42,14 @@ module _ (m : Parts) (market : IsMarket m) (x : Dispatch) (count : length x.bloc
 
   -- the dispatch as a point
   pub point : ℕ → Fraction
-  point w = by_name m (accepted x) (needed m) w
+  point w = by_name m (accepted x) (residual_demand m) w
 
   point_meets : MeetsRows (system_of m []) point
   unfolding point
   point_meets = meets_rows m point
-      (by_name-balance m (accepted x) (needed m) ∙ sym raises
+      (by_name-balance m (accepted x) (residual_demand m) ∙ sym raises
       ∙ sum_by-members (λ j. block_sign m j *ℚ accepted x j) (λ j. block_sign m j *ℚ point j) (places (length m.blocks))
-      (λ j c. ap (λ t. block_sign m j *ℚ t) (sym (by_name-block m (accepted x) (needed m) j (from_places (length m.blocks) j c)))))
+      (λ j c. ap (λ t. block_sign m j *ℚ t) (sym (by_name-block m (accepted x) (residual_demand m) j (from_places (length m.blocks) j c)))))
 
   module _ (h : Choice) (is : IsChoice (system_of m []) h) (same : (w : ℕ) → Contains (others (system_of m []) h) w → at_bound (system_of m []) h w ≡ point w) where
     value_is : (w : ℕ) → Contains (system_of m []).variables w → value (system_of m []) h w ≡ point w
@@ -69,10 +69,10 @@ module _ (m : Parts) (market : IsMarket m) (x : Dispatch) (count : length x.bloc
         (λ j lt. let below : j < length m.blocks = Prim.omega (arith, lt, long) in
         get_or-map-range_with_len (value (system_of m []) h) 0 (length m.blocks) j j zero below (Prim.omega arith)
         ∙ value_is j (variable_in m j (Prim.omega (arith, below)))
-        ∙ by_name-block m (accepted x) (needed m) j below))
+        ∙ by_name-block m (accepted x) (residual_demand m) j below))
 
 -- the value of a block by its sign and its price
-block_value-by_sign : (side : Side) (p : Fraction) → neg_ℚ (signed side p) ≡ neg_ℚ (signed side (whole (pos 1)) *ℚ p)
+block_value-by_sign : (side : Side) (p : Fraction) → neg_ℚ (signed_by_side side p) ≡ neg_ℚ (signed_by_side side (whole (pos 1)) *ℚ p)
 block_value-by_sign side p = ap neg_ℚ (sym (signed-times side p))
 
 module _ (m : Parts) (p : ℕ) (inside : p < length m.blocks) (h : Choice) (is : IsChoice (system_of m []) h)
@@ -125,23 +125,23 @@ module _ (m : Parts) (p : ℕ) (inside : p < length m.blocks) (h : Choice) (is :
       ∙ by_name-balance m (λ j. block_sign m j *ℚ (price m p -ℚ price m j)) (neg_ℚ (price m p)))
       ∙ by_ring ring_ℚ (price m p ∷ []) (pneg (pneg (at 0))) (at 0) refl
 
--- what stands at a bound: the block's quantity or 0, and the balance at what is needed
+-- what stands at a bound: the block's quantity or 0, and the balance at what is residual_demand
 module _ (m : Parts) (market : IsMarket m) (x : Dispatch) (count : length x.blocks ≡ length m.blocks) (balanced : balance m x ≡ zero) (high : ℕ → Bool) where
   at_place : (h : Choice) → ((w : ℕ) → h.high w ≡ high w) → (w : ℕ) → w < length m.blocks → accepted x w ≡ (if high w then quantity m w else zero)
       → at_bound (system_of m []) h w ≡ point m market x count balanced w
   unfolding at_bound system_over point
   at_place h flags w lt e =
-      ap (λ (b : Bool). if b then by_name m (quantity m) (needed m) w else by_name m (λ j. zero) (needed m) w) (flags w)
-      ∙ ap₂ (λ (a b : Fraction). if high w then a else b) (by_name-block m (quantity m) (needed m) w lt) (by_name-block m (λ j. zero) (needed m) w lt)
+      ap (λ (b : Bool). if b then by_name m (quantity m) (residual_demand m) w else by_name m (λ j. zero) (residual_demand m) w) (flags w)
+      ∙ ap₂ (λ (a b : Fraction). if high w then a else b) (by_name-block m (quantity m) (residual_demand m) w lt) (by_name-block m (λ j. zero) (residual_demand m) w lt)
       ∙ sym e
-      ∙ sym (by_name-block m (accepted x) (needed m) w lt)
+      ∙ sym (by_name-block m (accepted x) (residual_demand m) w lt)
 
   at_balance : (h : Choice) → at_bound (system_of m []) h (balance_name m) ≡ point m market x count balanced (balance_name m)
   unfolding at_bound system_over point
   at_balance h =
-      ap₂ (λ (a b : Fraction). if h.high (balance_name m) then a else b) (by_name-balance m (quantity m) (needed m)) (by_name-balance m (λ j. zero) (needed m))
-      ∙ either (h.high (balance_name m)) (needed m)
-      ∙ sym (by_name-balance m (accepted x) (needed m))
+      ap₂ (λ (a b : Fraction). if h.high (balance_name m) then a else b) (by_name-balance m (quantity m) (residual_demand m)) (by_name-balance m (λ j. zero) (residual_demand m))
+      ∙ either (h.high (balance_name m)) (residual_demand m)
+      ∙ sym (by_name-balance m (accepted x) (residual_demand m))
     where
       either : (b : Bool) (y : Fraction) → (if b then y else y) ≡ y
       either true y = refl

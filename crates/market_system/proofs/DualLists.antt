@@ -1,19 +1,19 @@
 -- Duals that are made of what a MW on the flow of each row costs.
-use Rattle.std.specs.Prelude.{◌≡◌, ◌≢◌, ℕ, ◌+◌, ◌<◌, ◌==◌, ◌&&◌, ◌||◌, pos, Bool, true, false, List, [], ◌∷◌, ◌++◌, length, map, filter, if◌then◌else◌, All, AllPairs, Contains, cond, refl, ◌⊎◌}
+use Rattle.std.specs.Prelude.{◌≡◌, ◌≢◌, ℕ, ◌+◌, ◌<◌, ◌==◌, ◌&&◌, ◌||◌, Bool, true, false, List, [], ◌∷◌, ◌++◌, length, map, filter, if◌then◌else◌, All, AllPairs, Contains, cond, refl, ◌⊎◌}
 use Rattle.std.specs.List.{flat_map}
 use Rattle.std.proofs.Common.{zero, suc, arith, ap, ap₂, sym, ◌∙◌, subst, inl, inr, get_or}
 use Rattle.std.proofs.lemmas.Bool.Decides.{eqb_tells}
 use Rattle.std.proofs.lemmas.List.Elements.{All-append, All-cons, All-nil}
-use Rattle.fraction_theory.specs.Fraction.{Fraction, whole, neg_ℚ, ◌-ℚ◌}
+use Rattle.fraction_theory.specs.Fraction.{Fraction, neg_ℚ, ◌-ℚ◌}
 use Rattle.fraction_theory.specs.Order.{◌≤ℚ◌, ◌<ℚ◌}
 use Rattle.fraction_theory.specs.Signs.{sign_of}
 use Rattle.fraction_theory.specs.declared.Sign.{Sign}
 use Rattle.fraction_theory.specs.declared.Sign.TheVariants.{Below, Zero, Above}
-use Rattle.fraction_theory.proofs.Ring.{by_ring, by_ring1, at, pnil, pone, pneg, ◌⊕◌}
+use Rattle.fraction_theory.proofs.Ring.{by_ring, at, pnil, pneg, ◌⊕◌}
 use Rattle.fraction_theory.proofs.FieldLaws.{ring_ℚ}
 use Rattle.fraction_theory.proofs.OrderLaws.{≤ℚ_refl, <ℚ-≤ℚ, <ℚ_irrefl}
 use Rattle.fraction_theory.proofs.SignLaws.{sign_of_is}
-use Rattle.fraction_theory.proofs.ListSums.{Contains-head, Contains-cons, Contains-cases, filter-members}
+use Rattle.fraction_theory.proofs.ListSums.{Contains-head, Contains-cons, filter-members}
 use Rattle.simplex_theory.proofs.Signs.{neg_above}
 use Rattle.market_model.specs.declared.answered.Dual.{Dual}
 use Rattle.market_model.specs.declared.answered.Duals.{Duals}
@@ -22,8 +22,8 @@ use Rattle.market_model.specs.declared.participants.Parts.{Parts}
 use Rattle.market_model.specs.Dispatch.{zero as nil}
 use Rattle.market_model.specs.declared.limits.Row.{Row}
 use Rattle.market_model.specs.LimitRows.{rows, row_id}
-use Rattle.market_model.specs.Optimality.{same_id, up_in, down_in, up_of, down_of, pull, is_named, named_rows, IsOneSided, ProperDuals}
-use Rattle.market_system.specs.MarketSystem.{same_row, is_in, in_order, dual_by, duals_by}
+use Rattle.market_model.specs.Optimality.{same_id, up_in, down_in, up_of, down_of, net_shadow_price, names_row, IsOneSided, ProperDuals}
+use Rattle.market_system.specs.MarketSystem.{is_in, in_order, dual_by, duals_of_costs}
 use Rattle.market_system.proofs.RowOrder.{RowsApart, row_or_not, is_in-in, is_in-from, in_order-in, in_order-from, and_true, same_number, same_row-not, same_row-itself}
 
 -- rows of a market have different names
@@ -136,47 +136,47 @@ module _ (m : Parts) (names : NamesApart m) (energy : Fraction) (cost : Row → 
   abbrev limits_of : List Row → List (Dual Fraction)
   limits_of rs = flat_map duals_of rs
 
-  up_in-append : (xs ys : List (Dual Fraction)) (id : RowId) → is_named xs id ≡ false → up_in (xs ++ ys) id ≡ up_in ys id
+  up_in-append : (xs ys : List (Dual Fraction)) (id : RowId) → names_row xs id ≡ false → up_in (xs ++ ys) id ≡ up_in ys id
   up_in-append [] ys id h = refl
   up_in-append (x ∷ xs) ys id h = by (same_id x.row id) refl h (up_in-append xs ys id)
     where
-      by : (t : Bool) → same_id x.row id ≡ t → (t || is_named xs id) ≡ false → (is_named xs id ≡ false → up_in (xs ++ ys) id ≡ up_in ys id) → up_in (x ∷ (xs ++ ys)) id ≡ up_in ys id
+      by : (t : Bool) → same_id x.row id ≡ t → (t || names_row xs id) ≡ false → (names_row xs id ≡ false → up_in (xs ++ ys) id ≡ up_in ys id) → up_in (x ∷ (xs ++ ys)) id ≡ up_in ys id
       by true e k more = absurd Prim.cc
       by false e k more = ap (λ (t : Bool). if t then x.up else up_in (xs ++ ys) id) e ∙ more k
 
-  down_in-append : (xs ys : List (Dual Fraction)) (id : RowId) → is_named xs id ≡ false → down_in (xs ++ ys) id ≡ down_in ys id
+  down_in-append : (xs ys : List (Dual Fraction)) (id : RowId) → names_row xs id ≡ false → down_in (xs ++ ys) id ≡ down_in ys id
   down_in-append [] ys id h = refl
   down_in-append (x ∷ xs) ys id h = by (same_id x.row id) refl h (down_in-append xs ys id)
     where
-      by : (t : Bool) → same_id x.row id ≡ t → (t || is_named xs id) ≡ false → (is_named xs id ≡ false → down_in (xs ++ ys) id ≡ down_in ys id) → down_in (x ∷ (xs ++ ys)) id ≡ down_in ys id
+      by : (t : Bool) → same_id x.row id ≡ t → (t || names_row xs id) ≡ false → (names_row xs id ≡ false → down_in (xs ++ ys) id ≡ down_in ys id) → down_in (x ∷ (xs ++ ys)) id ≡ down_in ys id
       by true e k more = absurd Prim.cc
       by false e k more = ap (λ (t : Bool). if t then x.down else down_in (xs ++ ys) id) e ∙ more k
 
-  is_named-append : (xs ys : List (Dual Fraction)) (id : RowId) → is_named (xs ++ ys) id ≡ (is_named xs id || is_named ys id)
+  is_named-append : (xs ys : List (Dual Fraction)) (id : RowId) → names_row (xs ++ ys) id ≡ (names_row xs id || names_row ys id)
   is_named-append [] ys id = refl
-  is_named-append (x ∷ xs) ys id = ap (λ (t : Bool). same_id x.row id || t) (is_named-append xs ys id) ∙ assoc (same_id x.row id) (is_named xs id) (is_named ys id)
+  is_named-append (x ∷ xs) ys id = ap (λ (t : Bool). same_id x.row id || t) (is_named-append xs ys id) ∙ assoc (same_id x.row id) (names_row xs id) (names_row ys id)
     where
       assoc : (a b c : Bool) → (a || (b || c)) ≡ ((a || b) || c)
       assoc true b c = refl
       assoc false b c = refl
 
   -- the duals of one row
-  unnamed : (r : Row) (id : RowId) → row_id m r ≢ id → is_named (duals_of r) id ≡ false
+  unnamed : (r : Row) (id : RowId) → row_id m r ≢ id → names_row (duals_of r) id ≡ false
   unnamed r id n = by (sign_of (cost r))
     where
       not_it : same_id (row_id m r) id ≡ false
       not_it = same_id-not (row_id m r) id n
 
-      by : (t : Sign) → is_named (dual_by (row_id m r) (cost r) t) id ≡ false
+      by : (t : Sign) → names_row (dual_by (row_id m r) (cost r) t) id ≡ false
       by Below = ap (λ (b : Bool). b || false) not_it
       by Zero = refl
       by Above = ap (λ (b : Bool). b || false) not_it
 
-  own_named : (r : Row) → is_named (duals_of r) (row_id m r) ≡ named_by (sign_of (cost r))
+  own_named : (r : Row) → names_row (duals_of r) (row_id m r) ≡ named_by (sign_of (cost r))
   unfolding named_by
   own_named r = by (sign_of (cost r))
     where
-      by : (t : Sign) → is_named (dual_by (row_id m r) (cost r) t) (row_id m r) ≡ named_by t
+      by : (t : Sign) → names_row (dual_by (row_id m r) (cost r) t) (row_id m r) ≡ named_by t
       by Below = ap (λ (b : Bool). b || false) (same_id-itself (row_id m r))
       by Zero = refl
       by Above = ap (λ (b : Bool). b || false) (same_id-itself (row_id m r))
@@ -264,7 +264,7 @@ module _ (m : Parts) (names : NamesApart m) (energy : Fraction) (cost : Row → 
           down_in-append (duals_of s) (limits_of rs) (row_id m r) (unnamed s (row_id m r) (λ e. n (one_row s r (all s (Contains-head s rs)) c e)))
           ∙ more ∙ sym (ap (λ (b : Bool). if b then down_here r else nil) (in_more s r rs n))
 
-  named_in_list : (rs : List Row) → ((s : Row) → Contains rs s → Contains (rows m) s) → (r : Row) → Contains (rows m) r → is_named (limits_of rs) (row_id m r) ≡ (is_in rs r && named_by (sign_of (cost r)))
+  named_in_list : (rs : List Row) → ((s : Row) → Contains rs s → Contains (rows m) s) → (r : Row) → Contains (rows m) r → names_row (limits_of rs) (row_id m r) ≡ (is_in rs r && named_by (sign_of (cost r)))
   named_in_list [] all r c = refl
   named_in_list (s ∷ rs) all r c = is_named-append (duals_of s) (limits_of rs) (row_id m r) ∙ by (row_or_not s r) (named_in_list rs (λ t k. all t (Contains-cons s rs t k)) r c)
     where
@@ -274,10 +274,10 @@ module _ (m : Parts) (names : NamesApart m) (energy : Fraction) (cost : Row → 
       or_and false true = refl
       or_and false false = refl
 
-      by : (s ≡ r) ⊎ (s ≢ r) → is_named (limits_of rs) (row_id m r) ≡ (is_in rs r && named_by (sign_of (cost r)))
-          → (is_named (duals_of s) (row_id m r) || is_named (limits_of rs) (row_id m r)) ≡ (is_in (s ∷ rs) r && named_by (sign_of (cost r)))
+      by : (s ≡ r) ⊎ (s ≢ r) → names_row (limits_of rs) (row_id m r) ≡ (is_in rs r && named_by (sign_of (cost r)))
+          → (names_row (duals_of s) (row_id m r) || names_row (limits_of rs) (row_id m r)) ≡ (is_in (s ∷ rs) r && named_by (sign_of (cost r)))
       by (inl e) more =
-          ap₂ ◌||◌ (ap (λ (x : Row). is_named (duals_of x) (row_id m r)) e ∙ own_named r) more
+          ap₂ ◌||◌ (ap (λ (x : Row). names_row (duals_of x) (row_id m r)) e ∙ own_named r) more
           ∙ or_and (is_in rs r) (named_by (sign_of (cost r)))
           ∙ sym (ap (λ (b : Bool). b && named_by (sign_of (cost r))) (ap (λ (x : Row). is_in (x ∷ rs) r) e ∙ in_head r rs))
       by (inr n) more =
@@ -287,7 +287,7 @@ module _ (m : Parts) (names : NamesApart m) (energy : Fraction) (cost : Row → 
   -- ---- duals of the rows of a list
   module _ (g : List Row) where
     abbrev pub made : Duals Fraction
-    made = duals_by m energy cost (in_order m g)
+    made = duals_of_costs m energy cost (in_order m g)
 
     over_rows : (r : Row) → Contains (in_order m g) r → Contains (rows m) r
     over_rows r c = (in_order-from m g r c).0
@@ -310,8 +310,8 @@ module _ (m : Parts) (names : NamesApart m) (energy : Fraction) (cost : Row → 
       pub down-made : down_of m made r ≡ (if is_in g r then down_here r else nil)
       down-made = down_in_list (in_order m g) over_rows r c ∙ ap (λ (b : Bool). if b then down_here r else nil) (in_order-tells r c)
 
-      pub pull-made : pull m made r ≡ (if is_in g r then cost r else nil)
-      pull-made = ap₂ ◌-ℚ◌ up-made down-made ∙ by (is_in g r)
+      pub net_price-made : net_shadow_price m made r ≡ (if is_in g r then cost r else nil)
+      net_price-made = ap₂ ◌-ℚ◌ up-made down-made ∙ by (is_in g r)
         where
           by : (b : Bool) → (if b then up_here r else nil) -ℚ (if b then down_here r else nil) ≡ (if b then cost r else nil)
           by true = up_less_down (cost r)
@@ -369,7 +369,7 @@ module _ (m : Parts) (names : NamesApart m) (energy : Fraction) (cost : Row → 
           ∙ ap (λ rs. map (row_id m) (filter (λ r. named_by (sign_of (cost r))) rs)) in_order-filter
           ∙ ap (map (row_id m))
           (both_filters (is_in g) (λ r. named_by (sign_of (cost r))) (rows m)
-          ∙ filter-members (λ r. is_in g r && named_by (sign_of (cost r))) (λ r. is_named (limits_of (in_order m g)) (row_id m r)) (rows m)
+          ∙ filter-members (λ r. is_in g r && named_by (sign_of (cost r))) (λ r. names_row (limits_of (in_order m g)) (row_id m r)) (rows m)
           (λ r c. sym (named_in_list (in_order m g) over_rows r c ∙ ap (λ (b : Bool). b && named_by (sign_of (cost r))) (in_order-tells r c))));
       one_sided = sides (in_order m g);
     }

@@ -4,18 +4,17 @@ use Rattle.std.specs.List.{flat_map, position_or_len}
 use Rattle.std.proofs.Common.{zero, suc, ap, ap₂, sym, ◌∙◌}
 use mathlib.Core.Path.{fun_ext}
 use Rattle.fraction_theory.specs.Fraction.{Fraction, whole}
-use Rattle.linear_system.specs.Systems.{System}
 use Rattle.linear_system.specs.SameSystems.{SameRows}
 use Rattle.market_model.specs.declared.participants.Block.{Block}
 use Rattle.market_model.specs.declared.participants.Line.{Line}
 use Rattle.market_model.specs.declared.participants.Parts.{Parts}
 use Rattle.market_model.specs.declared.participants.Side.TheVariants.{Sell}
-use Rattle.market_model.specs.Dispatch.{places, block_at, line_at, unit_at, signed}
+use Rattle.market_model.specs.Dispatch.{places, block_at, line_at, unit_at, signed_by_side}
 use Rattle.market_model.specs.Frame.{block_frame, line_frame, frame, SameFrame}
 use Rattle.market_model.specs.declared.limits.Cause.{Cause}
 use Rattle.market_model.specs.declared.limits.Row.{Row}
 use Rattle.market_model.specs.declared.limits.Cause.TheVariants.{Base, Branch}
-use Rattle.market_model.specs.LimitRows.{bears, causes, outage_of, row_id, rows, rows_of, place_of_line, row_factor, unit_factor}
+use Rattle.market_model.specs.LimitRows.{bears, causes, outage_of, row_id, rows, rows_of, place_of_line, row_factor}
 use Rattle.market_system.specs.FrameLaw.{LawOfTheFrame}
 use Rattle.market_system.specs.MarketSystem.{balance_name, row_name, is_in, in_order, block_sign, block_coefficient, of_name, coefficient_by, same_row, system_over, system_of}
 
@@ -74,11 +73,11 @@ module _ (m : Parts) where
   id_framed = fun_ext (λ r. ap₂ (λ (b o : ℕ). record { branch = b; outage = o }) (ap (λ (k : Line). k.row) (line_framed r.line)) (outage_framed r.cause))
 
   pub sign_framed : block_sign (frame m) ≡ block_sign m
-  sign_framed = fun_ext (λ j. ap (λ (b : Block). signed b.side (whole (pos 1))) (block_framed j))
+  sign_framed = fun_ext (λ j. ap (λ (b : Block). signed_by_side b.side (whole (pos 1))) (block_framed j))
 
   pub coefficient_framed : block_coefficient (frame m) ≡ block_coefficient m
   unfolding row_factor
-  coefficient_framed = fun_ext (λ r. fun_ext (λ j. ap (λ (b : Block). signed b.side (row_factor m r (unit_at m b.unit).bus)) (block_framed j)))
+  coefficient_framed = fun_ext (λ r. fun_ext (λ j. ap (λ (b : Block). signed_by_side b.side (row_factor m r (unit_at m b.unit).bus)) (block_framed j)))
 
   in_order_framed : (g : List Row) → in_order (frame m) g ≡ in_order m g
   in_order_framed [] = refl

@@ -1,6 +1,6 @@
 -- What grows by rows that best dispatches break.
-use Rattle.std.specs.Prelude.{◌≡◌, ◌≢◌, ℕ, ◌+◌, ◌≤◌, ◌<◌, List, [], ◌∷◌, ◌++◌, length, AllPairs, Contains, refl, ◌⊎◌}
-use Rattle.std.proofs.Common.{zero, suc, arith, ap, ap₂, sym, ◌∙◌, subst, inl, inr, append_assoc, get_or, length-append}
+use Rattle.std.specs.Prelude.{◌≡◌, ◌≢◌, ◌+◌, ◌≤◌, ◌<◌, List, [], ◌∷◌, ◌++◌, length, AllPairs, Contains, ◌⊎◌}
+use Rattle.std.proofs.Common.{suc, arith, ap, sym, ◌∙◌, subst, inl, inr, append_assoc, length-append}
 use Rattle.std.proofs.lemmas.List.{append-nil}
 use Rattle.fraction_theory.specs.Fraction.{neg_ℚ}
 use Rattle.fraction_theory.proofs.OrderLaws.{<ℚ-not-≤ℚ}
@@ -9,10 +9,10 @@ use Rattle.market_model.specs.declared.participants.Parts.{Parts}
 use Rattle.market_model.specs.Dispatch.{Dispatch}
 use Rattle.market_model.specs.declared.limits.Row.{Row}
 use Rattle.market_model.specs.LimitRows.{rows, limit, flow}
-use Rattle.market_model.specs.Optimality.{Within, FeasibleFor}
+use Rattle.market_model.specs.Optimality.{FeasibleFor}
 use Rattle.market_system.specs.Growth.{Broken, BestFor, GrowsBy, Growth}
 use Rattle.market_system.specs.SolvedLaws.{AreRows}
-use Rattle.market_system.proofs.RowOrder.{row_or_not, pairs-append}
+use Rattle.market_system.proofs.RowOrder.{pairs-append}
 
 -- a row that a feasible dispatch breaks is not in the list
 pub broken_is_new : (m : Parts) (g : List Row) (x : Dispatch) (r : Row) → FeasibleFor m g x → Broken m x r → ¬ (Contains g r)

@@ -1,12 +1,6 @@
 -- The laws of solving a market's system.
-use Rattle.std.specs.Prelude.{◌≡◌, ℕ, ◌+◌, ◌<◌, List, [], ◌∷◌, length, map, slice_index_or, refl}
-use Rattle.std.proofs.Common.{suc, arith, ap, sym, ◌∙◌, subst, get_or}
-use Rattle.std.proofs.lemmas.List.{get_or-map}
-use Rattle.std.proofs.lemmas.List.FromFn.{length-range_with_len, get_or-range_with_len}
-use Rattle.market_model.specs.declared.participants.Parts.{Parts}
-use Rattle.market_model.specs.Dispatch.{places, output, demand}
-use Rattle.market_model.specs.Optimality.{congestion, bus_price}
-use Rattle.market_model.specs.Settlement.{paid, pays}
+use Rattle.std.specs.Prelude.{length, refl}
+use Rattle.std.proofs.Common.{sym}
 use Rattle.market_system.specs.SolvedLaws.{LawOfTheSystem, LawOfThePoints, LawOfTheSolved, LawOfTheAnswer, LawOfTheStuck, LawOfGrowth}
 use Rattle.limit_rows.proofs.ApartLemmas.{names_apart}
 use Rattle.market_system.proofs.DualLists.{rows_apart}

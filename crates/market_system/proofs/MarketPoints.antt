@@ -1,12 +1,11 @@
 -- The points of a market's system over a list of limit rows are the dispatches that are feasible for the list.
-use Rattle.std.specs.Prelude.{◌≡◌, ◌≢◌, ℕ, ◌+◌, ◌<◌, ◌≤◌, ◌==◌, pos, Bool, true, false, List, [], ◌∷◌, ◌++◌, length, map, filter, slice_index_or, if◌then◌else◌, Contains, AllPairs, refl, ◌⊎◌}
-use Rattle.std.specs.List.Sorted.{IsStrictlyIncreasing}
-use Rattle.std.proofs.Common.{zero, suc, arith, ap, ap₂, sym, ◌∙◌, subst, subst₂, inl, inr, get_or}
+use Rattle.std.specs.Prelude.{◌≡◌, ◌≢◌, ℕ, ◌+◌, ◌<◌, ◌≤◌, ◌==◌, Bool, List, [], ◌∷◌, ◌++◌, length, map, filter, if◌then◌else◌, Contains, AllPairs, refl, ◌⊎◌}
+use Rattle.std.proofs.Common.{suc, arith, ap, sym, ◌∙◌, subst, subst₂, inl, inr, get_or}
 use Rattle.std.proofs.lemmas.Bool.Decides.{eqb_tells}
 use Rattle.std.proofs.lemmas.List.{get_or-map}
 use Rattle.std.proofs.lemmas.List.FromFn.{length-range_with_len, get_or-range_with_len}
 use Rattle.std.proofs.lemmas.List.Kept.{AllPairs-from_increasing}
-use Rattle.fraction_theory.specs.Fraction.{Fraction, whole, neg_ℚ, ◌+ℚ◌, ◌-ℚ◌, ◌*ℚ◌}
+use Rattle.fraction_theory.specs.Fraction.{Fraction, ◌+ℚ◌, ◌-ℚ◌, ◌*ℚ◌}
 use Rattle.fraction_theory.specs.Order.{◌≤ℚ◌}
 use Rattle.fraction_theory.specs.Sums.{sum_by}
 use Rattle.fraction_theory.proofs.Ring.{by_ring, by_ring1, at, pnil, pone, pneg, ◌⊕◌, ◌⊗◌}
@@ -19,7 +18,7 @@ use Rattle.linear_system.proofs.Multipliers.{by_columns, by_columns-column, by_c
 use Rattle.market_model.specs.declared.participants.Side.{Side}
 use Rattle.market_model.specs.declared.participants.Side.TheVariants.{Sell, Buy}
 use Rattle.market_model.specs.declared.participants.Parts.{Parts}
-use Rattle.market_model.specs.Dispatch.{Dispatch, IsDispatch, zero as nil, places, block_at, block_bus, signed, accepted, quantity, raised_by, injection, balance, empty}
+use Rattle.market_model.specs.Dispatch.{Dispatch, zero as nil, places, block_at, block_bus, signed_by_side, accepted, quantity, raised_by, injection, balance, empty}
 use Rattle.market_model.specs.declared.limits.Row.{Row}
 use Rattle.market_model.specs.LimitRows.{rows, limit, row_factor, row_offset, flow, most_flow}
 use Rattle.market_model.specs.Market.{IsMarket}
@@ -28,12 +27,12 @@ use Rattle.market_model.proofs.MarketSums.{block_bus-in, injection-by_empty, bal
 use Rattle.market_model.proofs.PlaceSums.{gather_times, places_all}
 use Rattle.market_model.proofs.RowLaws.{law_of_the_flows}
 use Rattle.market_model.proofs.Optimum.{welfare-by_blocks}
-use Rattle.market_system.specs.MarketSystem.{balance_name, row_name, in_order, block_sign, needed, by_name, block_coefficient, of_name, coefficient_by, least_added, most_added, bound_by, system_over, system_of}
-use Rattle.market_system.proofs.RowOrder.{RowsApart, in_order-in, in_order-from, in_order-ascends, one_name, row_or_not, pairs-append, pairs-map, increasing-from_pairs}
+use Rattle.market_system.specs.MarketSystem.{balance_name, row_name, in_order, block_sign, residual_demand, by_name, block_coefficient, of_name, coefficient_by, least_added, most_added, system_over, system_of}
+use Rattle.market_system.proofs.RowOrder.{RowsApart, in_order-in, in_order-from, in_order-ascends, one_name, pairs-append, pairs-map, increasing-from_pairs}
 use Rattle.market_system.proofs.SystemLaws.{in_places, from_places, places_ascend, signed-times}
 
 -- ---- what blocks add to the flow of a row
-turned : (side : Side) (a x : Fraction) → a *ℚ signed side x ≡ signed side a *ℚ x
+turned : (side : Side) (a x : Fraction) → a *ℚ signed_by_side side x ≡ signed_by_side side a *ℚ x
 turned Sell a x = refl
 turned Buy a x = by_ring ring_ℚ (a ∷ x ∷ []) (at 0 ⊗ pneg (at 1)) (pneg (at 0) ⊗ at 1) refl
 
@@ -230,27 +229,27 @@ module _ (m : Parts) (apart : RowsApart m) (g : List Row) where
 
   pub low-block : (j : ℕ) → j < length m.blocks → s.low j ≡ nil
   unfolding system_over
-  low-block j h = said-at_block (least_added m) (by_name m (λ j. nil) (needed m) j) j h ∙ not_balance j h (needed m) nil
+  low-block j h = said-at_block (least_added m) (by_name m (λ j. nil) (residual_demand m) j) j h ∙ not_balance j h (residual_demand m) nil
 
   pub high-block : (j : ℕ) → j < length m.blocks → s.high j ≡ quantity m j
   unfolding system_over
-  high-block j h = said-at_block (most_added m) (by_name m (quantity m) (needed m) j) j h ∙ not_balance j h (needed m) (quantity m j)
+  high-block j h = said-at_block (most_added m) (by_name m (quantity m) (residual_demand m) j) j h ∙ not_balance j h (residual_demand m) (quantity m j)
 
-  pub low-balance : s.low (balance_name m) ≡ needed m
+  pub low-balance : s.low (balance_name m) ≡ residual_demand m
   unfolding system_over
-  low-balance = said-at_balance (least_added m) (by_name m (λ j. nil) (needed m) (balance_name m)) ∙ the_balance (needed m) nil
+  low-balance = said-at_balance (least_added m) (by_name m (λ j. nil) (residual_demand m) (balance_name m)) ∙ the_balance (residual_demand m) nil
 
-  pub high-balance : s.high (balance_name m) ≡ needed m
+  pub high-balance : s.high (balance_name m) ≡ residual_demand m
   unfolding system_over
-  high-balance = said-at_balance (most_added m) (by_name m (quantity m) (needed m) (balance_name m)) ∙ the_balance (needed m) (quantity m (balance_name m))
+  high-balance = said-at_balance (most_added m) (by_name m (quantity m) (residual_demand m) (balance_name m)) ∙ the_balance (residual_demand m) (quantity m (balance_name m))
 
   pub low-row : (r : Row) → Contains over r → s.low (row_name m r) ≡ least_added m r
   unfolding system_over
-  low-row r c = said-at (least_added m) (by_name m (λ j. nil) (needed m) (row_name m r)) r c
+  low-row r c = said-at (least_added m) (by_name m (λ j. nil) (residual_demand m) (row_name m r)) r c
 
   pub high-row : (r : Row) → Contains over r → s.high (row_name m r) ≡ most_added m r
   unfolding system_over
-  high-row r c = said-at (most_added m) (by_name m (quantity m) (needed m) (row_name m r)) r c
+  high-row r c = said-at (most_added m) (by_name m (quantity m) (residual_demand m) (row_name m r)) r c
 
   pub activity-balance : (v : ℕ → Fraction) → activity s v (balance_name m) ≡ sum_by (λ j. block_sign m j *ℚ v j) (places (length m.blocks))
   unfolding activity system_over
@@ -279,7 +278,7 @@ module _ (m : Parts) (apart : RowsApart m) (g : List Row) where
     unfolding point_of
     point-block x j h = by_columns-column s is_system_of (accepted x) j (column_block j h)
 
-    pub point-balance : (x : Dispatch) → point_of x (balance_name m) ≡ balance m x +ℚ needed m
+    pub point-balance : (x : Dispatch) → point_of x (balance_name m) ≡ balance m x +ℚ residual_demand m
     unfolding point_of
     point-balance x =
         by_columns-row s is_system_of (accepted x) (balance_name m) balance_row
@@ -299,8 +298,8 @@ module _ (m : Parts) (apart : RowsApart m) (g : List Row) where
     pub point_within : (x : Dispatch) → FeasibleFor m g x → InBounds s (point_of x)
     point_within x f = record { low = λ w c. low_of w (name_of w c); high = λ w c. high_of w (name_of w c) }
       where
-        at_balance : point_of x (balance_name m) ≡ needed m
-        at_balance = point-balance x ∙ ap (λ t. t +ℚ needed m) f.balanced ∙ by_ring ring_ℚ (needed m ∷ []) (pnil ⊕ at 0) (at 0) refl
+        at_balance : point_of x (balance_name m) ≡ residual_demand m
+        at_balance = point-balance x ∙ ap (λ t. t +ℚ residual_demand m) f.balanced ∙ by_ring ring_ℚ (residual_demand m ∷ []) (pnil ⊕ at 0) (at 0) refl
 
         low_of : (w : ℕ) → IsNameOf w → s.low w ≤ℚ point_of x w
         low_of w (of_block j h) = subst₂ ◌≤ℚ◌ (sym (low-block j h)) (sym (point-block x j h)) (f.blocks.above j h)
@@ -362,7 +361,7 @@ module _ (m : Parts) (apart : RowsApart m) (g : List Row) where
         balanced =
             dispatch_balance
             ∙ ap (λ t. balance m (empty m) +ℚ t)
-            (≤ℚ_antisym (v (balance_name m)) (needed m) (subst (λ t. v (balance_name m) ≤ℚ t) high-balance (within.high (balance_name m) balance_in)) (subst (λ t. t ≤ℚ v (balance_name m)) low-balance (within.low (balance_name m) balance_in)))
+            (≤ℚ_antisym (v (balance_name m)) (residual_demand m) (subst (λ t. v (balance_name m) ≤ℚ t) high-balance (within.high (balance_name m) balance_in)) (subst (λ t. t ≤ℚ v (balance_name m)) low-balance (within.low (balance_name m) balance_in)))
             ∙ by_ring ring_ℚ (balance m (empty m) ∷ []) (at 0 ⊕ pneg (at 0)) pnil refl;
         limits = λ r c. let here : Contains over r = in_order-in m g r (all r c) c in subst (Within (most_flow m r)) (sym (dispatch_flow r here)) (within_of r here);
       }

@@ -17,7 +17,7 @@ use Rattle.linear_system.proofs.ChoiceLaws.{others_are, is_other, basics_are, is
 use Rattle.market_model.specs.declared.participants.Side.{Side}
 use Rattle.market_model.specs.declared.participants.Side.TheVariants.{Sell, Buy}
 use Rattle.market_model.specs.declared.participants.Parts.{Parts}
-use Rattle.market_model.specs.Dispatch.{block_at, signed}
+use Rattle.market_model.specs.Dispatch.{block_at, signed_by_side}
 use Rattle.market_model.specs.Optimality.{price}
 use Rattle.market_system.specs.MarketSystem.{balance_name, block_sign, system_of}
 use Rattle.market_system.proofs.SystemLaws.{variable_in, variable_below, block_or_balance, is_system, balance_is, not_balance, balance_choice, balance_choice_is, block_is_other, block_choice, block_choice_is, block_is_basic, the_block_is_basic}
@@ -63,11 +63,11 @@ no_smaller s distinct h k hh kk o c e more =
         ap (λ t. h.entry o w *ℚ t) (column_entry-other k w o other apart) ∙ by_ring ring_ℚ (h.entry o w ∷ []) (at 0 ⊗ pnil) pnil refl
 
 -- the sign of a side, and 1 over it
-sign_within : (side : Side) → IsWholeWithin 1 (signed side (whole (pos 1)))
+sign_within : (side : Side) → IsWholeWithin 1 (signed_by_side side (whole (pos 1)))
 sign_within Sell = whole_within 1 (pos 1) (Prim.omega arith)
 sign_within Buy = neg_within 1 (whole (pos 1)) (whole_within 1 (pos 1) (Prim.omega arith))
 
-recip_one : (side : Side) → signed side (whole (pos 1)) ≡ recip_ℚ (signed side (whole (pos 1)))
+recip_one : (side : Side) → signed_by_side side (whole (pos 1)) ≡ recip_ℚ (signed_by_side side (whole (pos 1)))
 unfolding whole neg_ℚ
 recip_one Sell = recip_unique (whole (pos 1)) (whole (pos 1)) one_not_nil refl
 recip_one Buy = recip_unique (neg_ℚ (whole (pos 1))) (neg_ℚ (whole (pos 1))) (λ e. let wrong : neg_ℤ (pos 1) ≡ pos 0 = ap (λ (f : Fraction). f.num) e in Prim.omega (arith, ints, wrong)) refl

@@ -18,10 +18,10 @@ use Rattle.market_model.specs.declared.participants.Side.{Side}
 use Rattle.market_model.specs.declared.participants.Side.TheVariants.{Sell, Buy}
 use Rattle.market_model.specs.declared.participants.Parts.{Parts}
 use Rattle.market_model.specs.Market.{IsMarket}
-use Rattle.market_model.specs.Dispatch.{Dispatch, IsDispatch, zero, places, bus_at, unit_at, block_at, signed, accepted, quantity, units_at, blocks_at, fixed_term, block_term, injection_terms, injection, balance_terms, balance, output_terms, output, demand_terms, demand, empty}
+use Rattle.market_model.specs.Dispatch.{Dispatch, IsDispatch, zero, places, bus_at, unit_at, block_at, signed_by_side, accepted, quantity, units_at, blocks_at, fixed_term, block_term, injection_terms, injection, balance_terms, balance, output_terms, output, demand_terms, demand, empty}
 use Rattle.market_model.specs.Optimality.{price, block_value}
 use Rattle.market_model.proofs.WholeDispatch.{from_whole-≤ℚ}
-use Rattle.market_system.specs.MarketSystem.{balance_name, block_sign, needed, by_name, system_of, system_over, choice_dispatch}
+use Rattle.market_system.specs.MarketSystem.{balance_name, block_sign, residual_demand, by_name, system_of, system_over, choice_dispatch}
 use Rattle.market_system.specs.ModestMarkets.{IsModest, IsModestBus, IsModestUnit, IsModestBlock, modest_mw, modest_price}
 use Rattle.market_system.proofs.SystemLaws.{from_places, variable_in, variable_below, block_or_balance}
 use Rattle.market_system.proofs.BlockChoices.{by_name-balance, by_name-block}
@@ -48,7 +48,7 @@ most_of Factor = 4000
 most_of Quantity = most_value
 most_of Price = 4000 * modest_price
 
-pub signed_within : (b : ℕ) (side : Side) (x : Fraction) → IsWholeWithin b x → IsWholeWithin b (signed side x)
+pub signed_within : (b : ℕ) (side : Side) (x : Fraction) → IsWholeWithin b x → IsWholeWithin b (signed_by_side side x)
 signed_within b Sell x h = h
 signed_within b Buy x h = neg_within b x h
 
@@ -97,7 +97,7 @@ module _ (m : Parts) (market : IsMarket m) (modest : IsModest m) where
   price_within j lt = let r : IsModestBlock (block_at m j) = modest.blocks j _ lt in whole_within modest_price (block_at m j).price r.price
 
   pub block_value_within : (j : ℕ) → j < length m.blocks → IsWholeWithin modest_price (block_value m j)
-  block_value_within j lt = neg_within modest_price (signed (block_at m j).side (price m j)) (signed_within modest_price (block_at m j).side (price m j) (price_within j lt))
+  block_value_within j lt = neg_within modest_price (signed_by_side (block_at m j).side (price m j)) (signed_within modest_price (block_at m j).side (price m j) (price_within j lt))
 
   -- what each block has accepted is whole, and at most what it may be
   module _ (x : Dispatch) (small : (j : ℕ) → j < length m.blocks → IsWholeWithin modest_mw (accepted x j)) where
@@ -160,13 +160,13 @@ module _ (m : Parts) (market : IsMarket m) (modest : IsModest m) where
   unfolding balance
   empty_balance_within = subst (IsWholeWithin most_balance) (prefix-all (balance_terms m (empty m))) (balance_within (empty m) empty_small (length (balance_terms m (empty m))))
 
-  needed_within : IsWholeWithin most_balance (needed m)
+  needed_within : IsWholeWithin most_balance (residual_demand m)
   needed_within = neg_within most_balance (balance m (empty m)) empty_balance_within
 
-  by_name_within : (f : ℕ → Fraction) (w : ℕ) → Contains (system_of m []).variables w → ((j : ℕ) → j < length m.blocks → IsWholeWithin modest_mw (f j)) → IsWholeWithin most_balance (by_name m f (needed m) w)
+  by_name_within : (f : ℕ → Fraction) (w : ℕ) → Contains (system_of m []).variables w → ((j : ℕ) → j < length m.blocks → IsWholeWithin modest_mw (f j)) → IsWholeWithin most_balance (by_name m f (residual_demand m) w)
   by_name_within f w c each = elim (block_or_balance m w (variable_below m w c)) [
-    | inl lt ↦ subst (IsWholeWithin most_balance) (sym (by_name-block m f (needed m) w lt)) (wider modest_mw most_balance (f w) (Prim.omega arith) (each w lt))
-    | inr e ↦ subst (λ (v : ℕ). IsWholeWithin most_balance (by_name m f (needed m) v)) (sym e) (subst (IsWholeWithin most_balance) (sym (by_name-balance m f (needed m))) needed_within)
+    | inl lt ↦ subst (IsWholeWithin most_balance) (sym (by_name-block m f (residual_demand m) w lt)) (wider modest_mw most_balance (f w) (Prim.omega arith) (each w lt))
+    | inr e ↦ subst (λ (v : ℕ). IsWholeWithin most_balance (by_name m f (residual_demand m) v)) (sym e) (subst (IsWholeWithin most_balance) (sym (by_name-balance m f (residual_demand m))) needed_within)
   ]
 
   pub low_within : (w : ℕ) → Contains (system_of m []).variables w → IsWholeWithin most_balance ((system_of m []).low w)

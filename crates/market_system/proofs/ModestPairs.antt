@@ -30,13 +30,13 @@ use Rattle.market_model.specs.Infeasibility.{part_above, where_above, block_weig
 use Rattle.market_model.specs.declared.limits.Row.{Row}
 use Rattle.market_model.specs.LimitRows.{rows, row_factor}
 use Rattle.market_model.specs.NamedSums.{SameSize, term_at, IsSumStep}
-use Rattle.market_model.specs.Optimality.{bus_price, block_value, congestion_terms, price_terms, pull, unit_price, welfare_terms}
+use Rattle.market_model.specs.Optimality.{bus_price, block_value, congestion_terms, price_terms, net_shadow_price, unit_price, welfare_terms}
 use Rattle.market_model.specs.Settlement.{surplus_terms}
 use Rattle.market_model.specs.SumTables.{FlowSum, injection_at, balance_of_all, flow_of_line, flow_of_row, PriceSum, congestion_at, price_at, MoneySum, welfare_of_all, surplus_of_all, rent_of_row}
 use Rattle.market_model.proofs.FarkasLaw.{farkas_terms-bare}
 use Rattle.market_model.proofs.RowLaws.{no_rows, no_row, bus_price-bare, congestion-bare}
 use Rattle.market_system.specs.MarketSystem.{balance_name, system_of, choice_dispatch, choice_duals}
-use Rattle.market_system.specs.MarketNumbers.{MarketNumber, IsBest, IsInjecting, IsFarkasOf}
+use Rattle.market_system.specs.MarketNumbers.{MarketNumber, IsRightChoice, IsInjecting, IsFarkasOf}
 use Rattle.market_system.specs.MarketNumbers.{NamedSum, offset_of, factor_of, of_flow, output_of, of_price, of_money, of_farkas_price, farkas_bound_of}
 use Rattle.market_system.specs.MarketNumbers.{of_system, of_sum, is_fixed, is_up, is_down, is_load, is_shunt, is_limit, is_line_offset, is_shift, is_loss, is_energy, is_up_dual, is_down_dual, is_farkas_energy, is_farkas_up, is_farkas_down, of_opposite}
 use Rattle.market_system.specs.ModestMarkets.{IsModest, LawOfModestMarkets, modest_mw, modest_price}
@@ -127,7 +127,7 @@ module _ (m : Parts) (market : IsMarket m) (lines : m.lines ≡ []) (modest : Is
 
   -- without limit rows congestion has no terms
   congestion_within : (b k i : ℕ) (d : Duals Fraction) → IsWholeWithin b (prefix k (congestion_terms m d i))
-  congestion_within b k i d = subst (λ (rs : List Row). IsWholeWithin b (prefix k (map (λ r. Product (neg_ℚ (pull m d r)) (row_factor m r i)) rs))) (sym bare)
+  congestion_within b k i d = subst (λ (rs : List Row). IsWholeWithin b (prefix k (map (λ r. Product (neg_ℚ (net_shadow_price m d r)) (row_factor m r i)) rs))) (sym bare)
       (wider (0 * b) b (prefix k []) (Prim.omega arith) (prefix_within 0 b k [] (Prim.omega arith) tt))
 
   module _ (h : Choice) (is : IsChoice (system_of m []) h) where
@@ -137,7 +137,7 @@ module _ (m : Parts) (market : IsMarket m) (lines : m.lines ≡ []) (modest : Is
         subst (λ (y : Dispatch). IsWholeWithin modest_mw (accepted y j)) (sym q.0)
         (dispatch_small m market modest h is (subst (λ (y : Dispatch). IsDispatch m y) q.0 q.1.feasible.blocks) j lt)
 
-    best_small : IsBest m [] h → (j : ℕ) → j < length m.blocks → IsWholeWithin modest_mw (accepted (choice_dispatch m [] h) j)
+    best_small : IsRightChoice m [] h → (j : ℕ) → j < length m.blocks → IsWholeWithin modest_mw (accepted (choice_dispatch m [] h) j)
     best_small best j lt = dispatch_small m market modest h is best.feasible.blocks j lt
 
     -- the price of energy, and at a bus
@@ -228,13 +228,13 @@ module _ (m : Parts) (market : IsMarket m) (lines : m.lines ≡ []) (modest : Is
     number_within kind x (of_opposite same y n) = neg_within (most_of same) y (number_within same y n)
 
     -- a step in adding up money
-    welfare_each : IsBest m [] h → AreWithin (modest_price * most_output) (welfare_terms m (choice_dispatch m [] h))
+    welfare_each : IsRightChoice m [] h → AreWithin (modest_price * most_output) (welfare_terms m (choice_dispatch m [] h))
     welfare_each best = map_within (modest_price * most_output) (λ j. Product (block_value m j) (accepted (choice_dispatch m [] h) j)) (places (length m.blocks))
         (λ j c. let lt = from_places (length m.blocks) j c in
         times_within modest_price most_output (block_value m j) (accepted (choice_dispatch m [] h) j) (block_value_within m market modest j lt)
         (wider modest_mw most_output (accepted (choice_dispatch m [] h) j) (Prim.omega arith) (best_small best j lt)))
 
-    surplus_each : IsBest m [] h → AreWithin (modest_price * most_output) (surplus_terms m (choice_dispatch m [] h) (choice_duals m [] h))
+    surplus_each : IsRightChoice m [] h → AreWithin (modest_price * most_output) (surplus_terms m (choice_dispatch m [] h) (choice_duals m [] h))
     surplus_each best = append_within (modest_price * most_output) (map paying (places (length m.buses))) (map paid (places (length m.units)))
         (map_within (modest_price * most_output) paying (places (length m.buses)) (λ i c.
         times_within modest_price most_output (bus_price m d i) (demand m i) (bus_price_within modest_price d i price_is_modest) (demand_within m market modest i (from_places (length m.buses) i c))))
@@ -254,7 +254,7 @@ module _ (m : Parts) (market : IsMarket m) (lines : m.lines ≡ []) (modest : Is
         paid : ℕ → Term
         paid u = Product (neg_ℚ (unit_price m d u)) (output m x u)
 
-    money_sum_fits : IsBest m [] h → (terms : List Term) → MoneySum m [] (choice_dispatch m [] h) (choice_duals m [] h) terms → (op : Op) (l r : Fraction) → IsSumStep terms op l r → Passes most op l r → ⊥
+    money_sum_fits : IsRightChoice m [] h → (terms : List Term) → MoneySum m [] (choice_dispatch m [] h) (choice_duals m [] h) terms → (op : Op) (l r : Fraction) → IsSumStep terms op l r → Passes most op l r → ⊥
     money_sum_fits best terms welfare_of_all op l r step p =
         step_fits terms (modest_price * most_output)
         (Prim.omega (arith, market.block_count, length-map (places (length m.blocks)) (λ j. Product (block_value m j) (accepted (choice_dispatch m [] h) j)), length-range_with_len 0 (length m.blocks)))

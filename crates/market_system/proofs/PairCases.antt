@@ -1,10 +1,9 @@
 -- What is refused outside the dictionary is a working pair of the market over the rows in hand: each operation by its name.
 use Rattle.std.specs.Prelude.{◌≡◌, ℕ, Contains, ◌+◌, ◌<◌, pos, List, [], ◌∷◌, ◌++◌, length, map, refl, ◌⊎◌, Option, Some, None}
 use Rattle.std.specs.List.{flat_map}
-use Rattle.std.proofs.Common.{zero, suc, arith, ap, ap₂, sym, ◌∙◌, subst, subst₂, inl, inr, get_or}
-use Rattle.std.proofs.lemmas.List.{get_or-map}
+use Rattle.std.proofs.Common.{zero, suc, arith, sym, ◌∙◌, subst, inl, inr, get_or}
 use Rattle.std.proofs.lemmas.List.FromFn.{length-range_with_len, get_or-range_with_len}
-use Rattle.fraction_theory.specs.Fraction.{Fraction, whole, neg_ℚ, ◌+ℚ◌, ◌-ℚ◌, ◌*ℚ◌}
+use Rattle.fraction_theory.specs.Fraction.{Fraction, whole, neg_ℚ, ◌-ℚ◌}
 use Rattle.fraction_theory.specs.Sums.{Term, Plain, Product, term_value, prefix, total}
 use Rattle.fraction_theory.proofs.Ring.{by_ring, by_ring1, at, pnil, pone, pneg, ◌⊕◌}
 use Rattle.fraction_theory.proofs.FieldLaws.{ring_ℚ}
@@ -25,7 +24,7 @@ use Rattle.market_model.specs.declared.answered.Duals.{Duals}
 use Rattle.market_model.specs.declared.participants.Parts.{Parts}
 use Rattle.market_model.specs.declared.participants.Side.{Side}
 use Rattle.market_model.specs.declared.participants.Side.TheVariants.{Sell, Buy}
-use Rattle.market_model.specs.Dispatch.{Dispatch, places, bus_at, unit_at, block_at, units_at, blocks_at, blocks_of, fixed_term, block_term, signed, quantity, injection, injection_terms, balance, balance_terms, empty}
+use Rattle.market_model.specs.Dispatch.{Dispatch, places, bus_at, unit_at, block_at, units_at, blocks_at, blocks_of, fixed_term, block_term, signed_by_side, quantity, injection, injection_terms, balance, balance_terms, empty}
 use Rattle.limit_rows.proofs.ApartLemmas.{names_apart}
 use Rattle.limit_rows.proofs.FactorLemmas.{IsLost, stands}
 use Rattle.market_model.specs.declared.limits.Cause.{Cause}
@@ -33,17 +32,17 @@ use Rattle.market_model.specs.declared.limits.Row.{Row}
 use Rattle.market_model.specs.declared.limits.Cause.TheVariants.{Base, Branch}
 use Rattle.market_model.specs.LimitRows.{rows, limit, shift_factor, line_offset, line_terms, line_flow, flow_terms, flow_terms_in, offset_terms, offset_terms_in, row_offset, row_factor, factor_terms, factor_terms_in, flow}
 use Rattle.market_model.specs.Market.{IsMarket}
-use Rattle.market_model.specs.NamedSums.{SameSize, term_at, IsNextTerm, AreFactors, IsSumStep, IsRefusedIn, IsRefusal}
-use Rattle.market_model.specs.Optimality.{pull, up_of, down_of, congestion, congestion_by, congestion_terms, price_by, price_terms, bus_price, unit_price}
+use Rattle.market_model.specs.NamedSums.{SameSize, term_at, IsNextTerm, IsSumStep, IsRefusedIn, IsRefusal}
+use Rattle.market_model.specs.Optimality.{net_shadow_price, up_of, down_of, congestion, congestion_by, congestion_terms, price_by, price_terms, bus_price, unit_price}
 use Rattle.market_model.specs.Infeasibility.{where_above, part_above, block_weight, limit_terms, farkas_terms}
 use Rattle.market_model.specs.SumTables.{FlowSum, injection_at, balance_of_all, flow_of_line, flow_of_row, PriceSum, congestion_at, price_at}
 use Rattle.market_system.specs.Growth.{Growth}
-use Rattle.market_system.specs.MarketNumbers.{IsBest, IsInjecting, IsFarkasOf, NamedSum, offset_of, factor_of, of_flow, output_of, of_price, of_money, of_farkas_price, farkas_bound_of, MarketNumber, of_system, of_sum, is_limit, is_line_offset, is_shift, is_loss, is_up_dual, is_down_dual, is_farkas_energy, is_farkas_up, is_farkas_down, of_opposite}
+use Rattle.market_system.specs.MarketNumbers.{IsRightChoice, IsInjecting, IsFarkasOf, NamedSum, offset_of, factor_of, of_flow, output_of, of_price, of_money, of_farkas_price, farkas_bound_of, MarketNumber, of_system, of_sum, is_limit, is_line_offset, is_shift, is_loss, is_up_dual, is_down_dual, is_farkas_energy, is_farkas_up, is_farkas_down, of_opposite}
 use Rattle.market_system.specs.MarketSystem.{system_of, choice_dispatch, choice_duals}
 use Rattle.market_system.specs.PairLaw.{LawOfThePairs}
 use Rattle.market_system.proofs.DualLists.{rows_apart}
 use Rattle.market_system.proofs.MarketPoints.{high-block, block_in}
-use Rattle.market_system.specs.WorkingPairs.{IsMoneyCase, IsWorkingPair, IsRangeOf}
+use Rattle.market_system.specs.WorkingPairs.{IsRangeOf}
 
 -- ---- numbers of any sort that count with either sign
 module _ (N : Kind → Fraction → Type 0) (opposite : (kind : Kind) (x : Fraction) → N kind x → N kind (neg_ℚ x)) (kind : Kind) where
@@ -259,15 +258,15 @@ module _ (m : Parts) (taken g : List Row) (reached : Growth m taken g) (h : Choi
     flows_scaled terms (flow_of_row r c) = let s = stands m market r c in after r.line r.cause s.line s.lost
 
   -- ---- prices
-  pub congestion_number : IsBest m g h → (i : ℕ) → i < length m.buses → Number Price (congestion m (choice_duals m g h) i)
+  pub congestion_number : IsRightChoice m g h → (i : ℕ) → i < length m.buses → Number Price (congestion m (choice_duals m g h) i)
   unfolding congestion_by
   congestion_number best i lt = whole_sum Price (congestion_terms m (choice_duals m g h) i) (of_price (congestion_terms m (choice_duals m g h) i) best (congestion_at i lt))
 
   module _ (kind : Kind) (d : Duals Fraction) (ups : (r : Row) → Contains (rows m) r → Number kind (up_of m d r)) (downs : (r : Row) → Contains (rows m) r → Number kind (down_of m d r)) where
     prices_scaled : (terms : List Term) → PriceSum m d terms → AreScaled kind terms
     unfolding row_factor
-    prices_scaled terms (congestion_at i lt) = scaled_map kind (λ r. Product (neg_ℚ (pull m d r)) (row_factor m r i)) (rows m) (λ r c. inr (
-      combined_opposite Number opposite kind (pull m d r) (difference (up_of m d r) (down_of m d r) (ups r c) (downs r c)),
+    prices_scaled terms (congestion_at i lt) = scaled_map kind (λ r. Product (neg_ℚ (net_shadow_price m d r)) (row_factor m r i)) (rows m) (λ r c. inr (
+      combined_opposite Number opposite kind (net_shadow_price m d r) (difference (up_of m d r) (down_of m d r) (ups r c) (downs r c)),
       whole_sum Factor (factor_terms m r i) (factor_of r i c lt),
     ))
     prices_scaled terms (price_at i lt) = (tt, (tt, tt))
@@ -306,7 +305,7 @@ module _ (m : Parts) (taken g : List Row) (reached : Growth m taken g) (h : Choi
     price_number i lt = subst (Number Factor) (by_ring ring_ℚ (d.energy ∷ congestion m d i ∷ []) (at 0 ⊕ (at 1 ⊕ pnil)) (at 0 ⊕ at 1) refl)
         (whole_sum Factor (price_terms m d i) (of_farkas_price d (price_terms m d i) f (price_at i lt)))
 
-    signed_number : (side : Side) (x : Fraction) → Number Factor x → Number Factor (signed side x)
+    signed_number : (side : Side) (x : Fraction) → Number Factor x → Number Factor (signed_by_side side x)
     signed_number Sell x n = n
     signed_number Buy x n = of_opposite Factor x n
 

@@ -27,7 +27,7 @@ use Rattle.market_model.proofs.RowLaws.{no_rows, supported_bare, supports_bare, 
 use Rattle.market_model.specs.NamedSums.{term_at}
 use Rattle.market_model.specs.SumTables.{welfare_of_all}
 use Rattle.linear_system.specs.Choices.{Choice}
-use Rattle.market_system.specs.MarketNumbers.{IsBest, NamedSum, of_money}
+use Rattle.market_system.specs.MarketNumbers.{IsRightChoice, NamedSum, of_money}
 use Rattle.market_system.specs.MarketSystem.{choice_dispatch, choice_duals}
 use Rattle.market_system.specs.WorkingPairs.{IsRangeOf}
 use Rattle.market_system.proofs.SystemLaws.{block_choice, block_choice_is}
@@ -154,7 +154,7 @@ at_that_price : choice_duals big_buses [] chosen ≡ at_most_price
 unfolding all_high
 at_that_price = ap (λ e. record { energy = e; limits = [] }) (block_choice_energy big_buses big_buses-market all_sold refl big_buses-balance all_high 0 (Prim.omega arith))
 
-chosen-best : IsBest big_buses [] chosen
+chosen-best : IsRightChoice big_buses [] chosen
 chosen-best = record {
   feasible = subst (Feasible big_buses) (sym all_are_sold) big_buses-feasible;
   supported = subst₂ (Supports big_buses) (sym all_are_sold) (sym at_that_price) big_buses-supports;

@@ -1,49 +1,49 @@
 -- A solved choice of a market's system over a list of limit rows: its dispatch is best for the list, and its duals support it over all
 -- rows of the market.
-use Rattle.std.specs.Prelude.{◌≡◌, ◌≢◌, ℕ, ◌<◌, pos, Bool, true, false, List, [], ◌∷◌, length, map, filter, if◌then◌else◌, Contains, refl, ◌⊎◌}
-use Rattle.std.proofs.Common.{zero, suc, arith, ap, ap₂, sym, ◌∙◌, subst, subst₂, inl, inr}
+use Rattle.std.specs.Prelude.{◌≡◌, ℕ, ◌<◌, pos, Bool, true, false, List, [], ◌∷◌, length, map, if◌then◌else◌, Contains, refl}
+use Rattle.std.proofs.Common.{ap, ap₂, sym, ◌∙◌, subst, subst₂, inl, inr}
 use Rattle.fraction_theory.specs.Fraction.{Fraction, whole, neg_ℚ, ◌+ℚ◌, ◌-ℚ◌, ◌*ℚ◌}
 use Rattle.fraction_theory.specs.Order.{◌≤ℚ◌, ◌<ℚ◌}
 use Rattle.fraction_theory.specs.Signs.{sign_of}
 use Rattle.fraction_theory.specs.Sums.{sum_by}
 use Rattle.fraction_theory.proofs.Ring.{by_ring, by_ring1, at, pnil, pone, pneg, ◌⊕◌, ◌⊗◌}
 use Rattle.fraction_theory.proofs.FieldLaws.{ring_ℚ}
-use Rattle.fraction_theory.proofs.OrderLaws.{≤ℚ_refl, ≤ℚ_antisym, ≤ℚ-or-<ℚ, <ℚ-not-≤ℚ, <ℚ-≤ℚ, by_le1, not-≤ℚ, NonNeg-one, <ℚ_irrefl}
-use Rattle.fraction_theory.proofs.SumLaws.{sum_by-same, sum_by-plus, sum_by-times, total-Product}
-use Rattle.fraction_theory.proofs.ListSums.{kept, sum_by-filter, sum_by-members, Contains-head, Contains-cons}
-use Rattle.linear_system.specs.Systems.{System, MeetsRows, InBounds, objective}
+use Rattle.fraction_theory.proofs.OrderLaws.{≤ℚ_refl, ≤ℚ_antisym, ≤ℚ-or-<ℚ, <ℚ-not-≤ℚ, by_le1, not-≤ℚ, NonNeg-one, <ℚ_irrefl}
+use Rattle.fraction_theory.proofs.SumLaws.{sum_by-same, sum_by-times, total-Product}
+use Rattle.fraction_theory.proofs.ListSums.{kept, sum_by-filter, sum_by-members}
+use Rattle.linear_system.specs.Systems.{System}
 use Rattle.linear_system.specs.Choices.{Choice, IsChoice, value, reduced}
 use Rattle.linear_system.proofs.Multipliers.{price_by_rows}
-use Rattle.simplex_theory.specs.States.{State, IsSolved}
+use Rattle.simplex_theory.specs.States.{IsSolved}
 use Rattle.market_model.specs.declared.answered.Duals.{Duals}
 use Rattle.market_model.specs.declared.participants.Side.{Side}
 use Rattle.market_model.specs.declared.participants.Side.TheVariants.{Sell, Buy}
 use Rattle.market_model.specs.declared.participants.Parts.{Parts}
-use Rattle.market_model.specs.Dispatch.{Dispatch, zero as nil, places, block_at, block_bus, unit_at, signed, accepted, quantity, balance, empty}
+use Rattle.market_model.specs.Dispatch.{Dispatch, zero as nil, block_at, block_bus, signed_by_side, accepted, empty}
 use Rattle.market_model.specs.declared.limits.Row.{Row}
-use Rattle.market_model.specs.LimitRows.{rows, row_id, limit, row_factor, flow, most_flow}
+use Rattle.market_model.specs.LimitRows.{rows, limit, row_factor, flow, most_flow}
 use Rattle.market_model.specs.Market.{IsMarket}
-use Rattle.market_model.specs.Optimality.{Within, FeasibleFor, Feasible, block_value, price, welfare, pull, up_of, down_of, bus_price, congestion, unit_price, Gains, Loses, BlockSupported, RowSupported, Supports, ProperDuals, congestion_by, price_by}
+use Rattle.market_model.specs.Optimality.{Within, Feasible, block_value, price, net_shadow_price, up_of, down_of, bus_price, unit_price, Gains, Loses, BlockSupported, RowSupported, Supports, ProperDuals, congestion_by, price_by}
 use Rattle.market_system.specs.Growth.{BestFor}
-use Rattle.market_system.specs.MarketSystem.{balance_name, row_name, is_in, in_order, block_sign, block_coefficient, coefficient_by, least_added, most_added, system_over, system_of, choice_dispatch, duals_by, choice_duals}
+use Rattle.market_system.specs.MarketSystem.{balance_name, row_name, is_in, in_order, block_sign, block_coefficient, coefficient_by, system_over, system_of, choice_dispatch, duals_of_costs, choice_duals}
 use Rattle.market_system.specs.SolvedLaws.{state_at}
-use Rattle.market_system.proofs.RowOrder.{RowsApart, is_in-in, is_in-from, in_order-in, in_order-from}
-use Rattle.market_system.proofs.DualLists.{NamesApart, rows_apart, up_by, down_by, up_sign, down_sign, up_costs, down_costs, up-made, down-made, pull-made, proper-made, in_order-filter}
-use Rattle.market_system.proofs.MarketPoints.{is_system_of, both_parts, said-at, said-at_balance, low-block, high-block, low-row, high-row, block_in, row_in, point_of, point_meets, point_within, point_welfare, dispatch_at, dispatch_at-accepted, dispatch_welfare, dispatch_flow, dispatch_feasible}
+use Rattle.market_system.proofs.RowOrder.{is_in-from, in_order-in}
+use Rattle.market_system.proofs.DualLists.{NamesApart, rows_apart, up_by, down_by, up_sign, down_sign, up_costs, down_costs, up-made, down-made, net_price-made, proper-made, in_order-filter}
+use Rattle.market_system.proofs.MarketPoints.{is_system_of, both_parts, said-at, said-at_balance, low-block, high-block, low-row, high-row, block_in, row_in, point_of, point_meets, point_within, point_welfare, dispatch_at-accepted, dispatch_welfare, dispatch_flow, dispatch_feasible}
 use Rattle.market_system.proofs.SystemLaws.{in_places}
 
 -- ---- bus prices of duals that are made by rows
 module _ (m : Parts) (names : NamesApart m) (energy : Fraction) (cost : Row → Fraction) (g : List Row) where
   abbrev made : Duals Fraction
-  made = duals_by m energy cost (in_order m g)
+  made = duals_of_costs m energy cost (in_order m g)
 
   -- what the rows of the list take at a bus
   pub price-made : (i : ℕ) → bus_price m made i ≡ energy +ℚ sum_by (λ r. neg_ℚ (cost r) *ℚ row_factor m r i) (in_order m g)
   unfolding price_by congestion_by
   price-made i = ap (λ t. energy +ℚ t)
-      (total-Product (λ r. neg_ℚ (pull m made r)) (λ r. row_factor m r i) (rows m)
-      ∙ sum_by-members (λ r. neg_ℚ (pull m made r) *ℚ row_factor m r i) (λ r. kept (is_in g r) (neg_ℚ (cost r) *ℚ row_factor m r i)) (rows m)
-      (λ r c. ap (λ t. neg_ℚ t *ℚ row_factor m r i) (pull-made m names energy cost g r c) ∙ by (is_in g r) (cost r) (row_factor m r i))
+      (total-Product (λ r. neg_ℚ (net_shadow_price m made r)) (λ r. row_factor m r i) (rows m)
+      ∙ sum_by-members (λ r. neg_ℚ (net_shadow_price m made r) *ℚ row_factor m r i) (λ r. kept (is_in g r) (neg_ℚ (cost r) *ℚ row_factor m r i)) (rows m)
+      (λ r c. ap (λ t. neg_ℚ t *ℚ row_factor m r i) (net_price-made m names energy cost g r c) ∙ by (is_in g r) (cost r) (row_factor m r i))
       ∙ sym (sum_by-filter (λ r. neg_ℚ (cost r) *ℚ row_factor m r i) (is_in g) (rows m))
       ∙ ap (sum_by (λ r. neg_ℚ (cost r) *ℚ row_factor m r i)) (sym (in_order-filter m names energy cost g)))
     where
@@ -52,10 +52,10 @@ module _ (m : Parts) (names : NamesApart m) (energy : Fraction) (cost : Row → 
       by false x a = by_ring ring_ℚ (a ∷ []) (pneg pnil ⊗ at 0) pnil refl
 
   -- what a MW of a block makes at them: what it makes of the balance and of the flows
-  pub weight-made : (j : ℕ) → signed (block_at m j).side (unit_price m made (block_at m j).unit)
+  pub weight-made : (j : ℕ) → signed_by_side (block_at m j).side (unit_price m made (block_at m j).unit)
       ≡ energy *ℚ block_sign m j -ℚ sum_by (λ r. cost r *ℚ block_coefficient m r j) (in_order m g)
   weight-made j =
-      ap (signed (block_at m j).side) (price-made (block_bus m j))
+      ap (signed_by_side (block_at m j).side) (price-made (block_bus m j))
       ∙ by (block_at m j).side
     where
       over : List Row
@@ -76,8 +76,8 @@ module _ (m : Parts) (names : NamesApart m) (energy : Fraction) (cost : Row → 
           (λ r. by_ring ring_ℚ (cost r ∷ factor r ∷ []) (at 0 ⊗ pneg (at 1)) (pneg pone ⊗ (at 0 ⊗ at 1)) refl)
           ∙ sum_by-times (neg_ℚ (whole (pos 1))) (λ r. cost r *ℚ factor r) over
 
-      by : (side : Side) → signed side (energy +ℚ sum_by (λ r. neg_ℚ (cost r) *ℚ factor r) over)
-          ≡ energy *ℚ signed side (whole (pos 1)) -ℚ sum_by (λ r. cost r *ℚ signed side (factor r)) over
+      by : (side : Side) → signed_by_side side (energy +ℚ sum_by (λ r. neg_ℚ (cost r) *ℚ factor r) over)
+          ≡ energy *ℚ signed_by_side side (whole (pos 1)) -ℚ sum_by (λ r. cost r *ℚ signed_by_side side (factor r)) over
       by Sell = ap (λ t. energy +ℚ t) turned ∙ by_ring ring_ℚ (energy ∷ sum_by (λ r. cost r *ℚ factor r) over ∷ []) (at 0 ⊕ pneg pone ⊗ at 1) (at 0 ⊗ pone ⊕ pneg (at 1)) refl
       by Buy =
           ap (λ t. neg_ℚ (energy +ℚ t)) turned
@@ -112,7 +112,7 @@ module _ (m : Parts) (names : NamesApart m) (g : List Row) where
     priced j lt = price_by_rows s (is_system_of m (rows_apart m names) g) (both_parts m (rows_apart m names) g) h choice j (in_places (length m.blocks) j lt)
 
     -- a block's reduced price is its value less what it raises at its unit's price
-    pub reduced-block : (j : ℕ) → j < length m.blocks → reduced s h j ≡ block_value m j +ℚ signed (block_at m j).side (unit_price m duals (block_at m j).unit)
+    pub reduced-block : (j : ℕ) → j < length m.blocks → reduced s h j ≡ block_value m j +ℚ signed_by_side (block_at m j).side (unit_price m duals (block_at m j).unit)
     reduced-block j lt =
         let costs : Fraction = sum_by (λ r. reduced s h (row_name m r) *ℚ block_coefficient m r j) (in_order m g) in
         by_ring1 ring_ℚ (block_value m j ∷ reduced s h j ∷ reduced s h (balance_name m) ∷ block_sign m j ∷ costs ∷ []) (at 1) (at 0 ⊕ (pneg (at 2) ⊗ at 3 ⊕ pneg (at 4))) (pneg pone) (at 0) (at 1 ⊕ (at 2 ⊗ at 3 ⊕ at 4))
@@ -146,11 +146,11 @@ module _ (m : Parts) (names : NamesApart m) (g : List Row) where
       ]
 
       -- gains and losses are signs of the reduced price
-      gain_sign : (side : Side) (p b r : Fraction) → r ≡ neg_ℚ (signed side p) +ℚ signed side b → Gains side p b → nil <ℚ r
+      gain_sign : (side : Side) (p b r : Fraction) → r ≡ neg_ℚ (signed_by_side side p) +ℚ signed_by_side side b → Gains side p b → nil <ℚ r
       gain_sign Sell p b r e l = not-≤ℚ r nil (λ n. <ℚ-not-≤ℚ p b l (by_le1 (p ∷ b ∷ []) (at 1) (at 0) pone (pneg (at 0) ⊕ at 1) pnil NonNeg-one (subst (λ t. t ≤ℚ nil) e n) refl))
       gain_sign Buy p b r e l = not-≤ℚ r nil (λ n. <ℚ-not-≤ℚ b p l (by_le1 (p ∷ b ∷ []) (at 0) (at 1) pone (pneg (pneg (at 0)) ⊕ pneg (at 1)) pnil NonNeg-one (subst (λ t. t ≤ℚ nil) e n) refl))
 
-      loss_sign : (side : Side) (p b r : Fraction) → r ≡ neg_ℚ (signed side p) +ℚ signed side b → Loses side p b → r <ℚ nil
+      loss_sign : (side : Side) (p b r : Fraction) → r ≡ neg_ℚ (signed_by_side side p) +ℚ signed_by_side side b → Loses side p b → r <ℚ nil
       loss_sign Sell p b r e l = not-≤ℚ nil r (λ n. <ℚ-not-≤ℚ b p l (by_le1 (p ∷ b ∷ []) (at 0) (at 1) pone pnil (pneg (at 0) ⊕ at 1) NonNeg-one (subst (λ t. nil ≤ℚ t) e n) refl))
       loss_sign Buy p b r e l = not-≤ℚ nil r (λ n. <ℚ-not-≤ℚ p b l (by_le1 (p ∷ b ∷ []) (at 1) (at 0) pone pnil (pneg (pneg (at 0)) ⊕ pneg (at 1)) NonNeg-one (subst (λ t. nil ≤ℚ t) e n) refl))
 

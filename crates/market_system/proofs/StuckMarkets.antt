@@ -1,43 +1,43 @@
 -- A basic variable of a market's system that is stuck beyond a bound: its duals, up to the one sign, show that no dispatch of the market is
 -- feasible, and their bound is what the variable lacks.
-use Rattle.std.specs.Prelude.{◌≡◌, ◌≢◌, ℕ, ◌<◌, ◌==◌, ℤ, pos, ◌≤ℤ◌, Option, Some, None, IfSome, Bool, true, false, not, List, [], ◌∷◌, length, map, filter, if◌then◌else◌, Contains, refl, ◌⊎◌}
-use Rattle.std.proofs.Common.{zero, suc, arith, ap, ap₂, sym, ◌∙◌, subst, subst₂, inl, inr}
+use Rattle.std.specs.Prelude.{◌≡◌, ℕ, ◌<◌, ℤ, pos, ◌≤ℤ◌, Option, Some, None, IfSome, Bool, true, false, not, List, [], ◌∷◌, length, map, if◌then◌else◌, Contains, refl}
+use Rattle.std.proofs.Common.{ap, ap₂, sym, ◌∙◌, subst, subst₂, inl, inr}
 use Rattle.fraction_theory.specs.Fraction.{Fraction, whole, neg_ℚ, ◌+ℚ◌, ◌-ℚ◌, ◌*ℚ◌}
 use Rattle.fraction_theory.specs.Order.{NonNeg, ◌≤ℚ◌, ◌<ℚ◌}
 use Rattle.fraction_theory.specs.Signs.{sign_of}
 use Rattle.fraction_theory.specs.declared.Sign.{Sign}
 use Rattle.fraction_theory.specs.declared.Sign.TheVariants.{Below, Zero, Above}
 use Rattle.fraction_theory.specs.Sums.{sum_by}
-use Rattle.fraction_theory.proofs.Ring.{by_ring, by_ring1, by_ring2, at, pnil, pone, pneg, ◌⊕◌, ◌⊗◌}
+use Rattle.fraction_theory.proofs.Ring.{by_ring, by_ring1, at, pnil, pone, pneg, ◌⊕◌, ◌⊗◌}
 use Rattle.fraction_theory.proofs.FieldLaws.{ring_ℚ}
 use Rattle.fraction_theory.proofs.OrderLaws.{≤ℚ_refl, ≤ℚ_trans, ≤ℚ_of_same, ≤ℚ_antisym, <ℚ-≤ℚ, *ℚ-≤ℚ, *ℚ-≤ℚ_neg, NonNeg_from, NonNeg-plus, le_to, by_le1, NonNeg-one, whole-≤ℚ}
 use Rattle.fraction_theory.proofs.SignLaws.{sign_of_is}
 use Rattle.fraction_theory.proofs.SumLaws.{sum_by-same, sum_by-nil}
 use Rattle.fraction_theory.proofs.ListSums.{kept, put_at, put_at-here, put_at-elsewhere, same_or_not, sum_by-filter, sum_by-members}
 use Rattle.linear_system.specs.Systems.{System, IsSystem, MeetsRows, InBounds}
-use Rattle.linear_system.specs.Choices.{Choice, IsChoice, basics}
+use Rattle.linear_system.specs.Choices.{Choice, IsChoice}
 use Rattle.linear_system.proofs.Multipliers.{multiplied}
-use Rattle.simplex_theory.specs.Steps.{signed}
+use Rattle.simplex_theory.specs.Steps.{opposite_if}
 use Rattle.simplex_theory.specs.Stuck.{IsStuck, multiplier, margin}
 use Rattle.simplex_theory.proofs.NameSums.{signed-sum}
 use Rattle.simplex_theory.proofs.StuckRows.{combined, corner, combined_vanishes, corner_reaches, corner_within, margin_below, each_most}
 use Rattle.market_model.specs.declared.answered.Duals.{Duals}
 use Rattle.market_model.specs.declared.participants.Parts.{Parts}
-use Rattle.market_model.specs.Dispatch.{Dispatch, zero as nil, places, block_at, line_at, quantity, balance, empty}
+use Rattle.market_model.specs.Dispatch.{zero as nil, places, block_at, line_at, quantity, balance, empty}
 use Rattle.market_model.specs.Infeasibility.{part_above, where_above, block_weight, farkas_bound, ShowsInfeasible}
 use Rattle.market_model.specs.declared.limits.Cause.{Cause}
 use Rattle.market_model.specs.declared.limits.Row.{Row}
 use Rattle.market_model.specs.declared.limits.Cause.TheVariants.{Base, Branch}
 use Rattle.market_model.specs.LimitRows.{rows, mw_or_zero, limit_in, limit, flow}
 use Rattle.market_model.specs.Market.{IsMarket}
-use Rattle.market_model.specs.Optimality.{pull, up_of, down_of, ProperDuals}
+use Rattle.market_model.specs.Optimality.{net_shadow_price, ProperDuals}
 use Rattle.market_model.proofs.FarkasLaw.{farkas_bound-by_parts, left_of}
-use Rattle.market_system.specs.MarketSystem.{balance_name, row_name, is_in, in_order, needed, block_sign, block_coefficient, least_added, most_added, system_over, system_of, duals_by}
+use Rattle.market_system.specs.MarketSystem.{balance_name, row_name, is_in, in_order, residual_demand, block_sign, block_coefficient, system_over, system_of, duals_of_costs}
 use Rattle.limit_rows.proofs.FactorLemmas.{stands}
 use Rattle.market_model.specs.NamedSums.{SameSize}
 use Rattle.market_system.specs.MarketNumbers.{IsFarkasOf}
 use Rattle.market_system.proofs.RowOrder.{in_order-from, is_in-in, is_in-from}
-use Rattle.market_system.proofs.DualLists.{NamesApart, rows_apart, one_is_nil, up_by, down_by, up_sign, down_sign, up-made, down-made, pull-made, proper-made, in_order-filter}
+use Rattle.market_system.proofs.DualLists.{NamesApart, rows_apart, one_is_nil, up_by, down_by, up_sign, down_sign, up-made, down-made, net_price-made, proper-made, in_order-filter}
 use Rattle.market_system.proofs.MarketPoints.{IsNameOf, of_block, of_balance, of_row, name_of, is_system_of, both_parts, low-block, high-block, low-balance, high-balance, low-row, high-row, block_in, balance_in, row_in}
 use Rattle.market_system.proofs.SolvedMarkets.{rows-at, weight-made}
 use Rattle.market_system.proofs.SystemLaws.{in_places, from_places}
@@ -115,11 +115,11 @@ module _ (m : Parts) (names : NamesApart m) (market : IsMarket m) (g : List Row)
 
   -- the multipliers with the one sign
   abbrev turned : ℕ → Fraction
-  turned w = signed (not above) (multiplier h b w)
+  turned w = opposite_if (not above) (multiplier h b w)
 
   -- the duals of the stuck variable: the price of energy is the opposite of the balance's multiplier, and a MW on a row's flow costs the row's
   abbrev pub stuck_duals : Duals Fraction
-  stuck_duals = duals_by m (neg_ℚ (turned (balance_name m))) (λ r. turned (row_name m r)) (in_order m g)
+  stuck_duals = duals_of_costs m (neg_ℚ (turned (balance_name m))) (λ r. turned (row_name m r)) (in_order m g)
 
   abbrev at_corner : ℕ → Fraction
   at_corner w = corner s h b above w
@@ -144,18 +144,18 @@ module _ (m : Parts) (names : NamesApart m) (market : IsMarket m) (g : List Row)
         ];
       }) w c)
 
-  signed_nil : (a : Bool) → signed a (whole (pos 0)) ≡ whole (pos 0)
+  signed_nil : (a : Bool) → opposite_if a (whole (pos 0)) ≡ whole (pos 0)
   signed_nil true = by_ring ring_ℚ [] (pneg pnil) pnil refl
   signed_nil false = refl
 
-  combined_turned : (v : ℕ → Fraction) → sum_by (λ w. turned w *ℚ v w) s.variables ≡ signed (not above) (combined s h b v)
+  combined_turned : (v : ℕ → Fraction) → sum_by (λ w. turned w *ℚ v w) s.variables ≡ opposite_if (not above) (combined s h b v)
   unfolding combined
   combined_turned v = sym (signed-sum (not above) (multiplier h b) v s.variables)
 
   vanishes : (v : ℕ → Fraction) → MeetsRows s v → sum_by (λ j. whole (pos 0) *ℚ v j) s.columns ≡ sum_by (λ w. turned w *ℚ v w) s.variables
   vanishes v meets =
       sum_by-same (λ j. whole (pos 0) *ℚ v j) (λ j. whole (pos 0)) s.columns (λ j. by_ring ring_ℚ (v j ∷ []) (pnil ⊗ at 0) pnil refl) ∙ sum_by-nil s.columns
-      ∙ sym (combined_turned v ∙ ap (signed (not above)) (combined_vanishes s h system b stuck.basic choice v meets) ∙ signed_nil (not above))
+      ∙ sym (combined_turned v ∙ ap (opposite_if (not above)) (combined_vanishes s h system b stuck.basic choice v meets) ∙ signed_nil (not above))
 
   at_column : (j : ℕ) → j < length m.blocks → whole (pos 0) ≡ turned j +ℚ sum_by (λ r. turned r *ℚ s.coefficient r j) s.rows
   unfolding system_over
@@ -187,7 +187,7 @@ module _ (m : Parts) (names : NamesApart m) (market : IsMarket m) (g : List Row)
   balance_most =
       by_ring ring_ℚ (turned (balance_name m) ∷ balance m (empty m) ∷ []) (pneg (at 0) ⊗ at 1) (at 0 ⊗ pneg (at 1)) refl
       ∙ ap (λ t. turned (balance_name m) *ℚ t)
-      (≤ℚ_antisym (needed m) (at_corner (balance_name m))
+      (≤ℚ_antisym (residual_demand m) (at_corner (balance_name m))
       (subst (λ t. t ≤ℚ at_corner (balance_name m)) (low-balance m (rows_apart m names) g) (within.low (balance_name m) (balance_in m (rows_apart m names) g)))
       (subst (λ t. at_corner (balance_name m) ≤ℚ t) (high-balance m (rows_apart m names) g) (within.high (balance_name m) (balance_in m (rows_apart m names) g))))
 
@@ -265,7 +265,7 @@ module _ (m : Parts) (names : NamesApart m) (market : IsMarket m) (g : List Row)
   turned_size : (w : ℕ) → SameSize (turned w) (multiplier h b w)
   turned_size w = by above
     where
-      by : (a : Bool) → SameSize (signed (not a) (multiplier h b w)) (multiplier h b w)
+      by : (a : Bool) → SameSize (opposite_if (not a) (multiplier h b w)) (multiplier h b w)
       by true = inl refl
       by false = inr refl
 
@@ -279,7 +279,7 @@ module _ (m : Parts) (names : NamesApart m) (market : IsMarket m) (g : List Row)
     basic = b;
     is_basic = stuck.basic;
     energy = neg_size (turned (balance_name m)) (multiplier h b (balance_name m)) (turned_size (balance_name m));
-    limits = λ r c. subst (λ x. SameSize x (multiplier h b (row_name m r))) (sym (pulled r (all r c) (is_in-in g r c))) (turned_size (row_name m r));
+    limits = λ r c. subst (λ x. SameSize x (multiplier h b (row_name m r))) (sym (by_net_prices r (all r c) (is_in-in g r c))) (turned_size (row_name m r));
     one_sided = λ r c. elim (one_is_nil (turned (row_name m r))) [
       | inl e ↦ inl (up-made m names energy_price costs g r (all r c) ∙ ap (λ (t : Bool). if t then up_by (sign_of (costs r)) (costs r) else nil) (is_in-in g r c) ∙ e)
       | inr e ↦ inr (down-made m names energy_price costs g r (all r c) ∙ ap (λ (t : Bool). if t then down_by (sign_of (costs r)) (costs r) else nil) (is_in-in g r c) ∙ e)
@@ -296,8 +296,8 @@ module _ (m : Parts) (names : NamesApart m) (market : IsMarket m) (g : List Row)
       costs : Row → Fraction
       costs r = turned (row_name m r)
 
-      pulled : (r : Row) → Contains (rows m) r → is_in g r ≡ true → pull m stuck_duals r ≡ costs r
-      pulled r c e = pull-made m names energy_price costs g r c ∙ ap (λ (t : Bool). if t then costs r else nil) e
+      by_net_prices : (r : Row) → Contains (rows m) r → is_in g r ≡ true → net_shadow_price m stuck_duals r ≡ costs r
+      by_net_prices r c e = net_price-made m names energy_price costs g r c ∙ ap (λ (t : Bool). if t then costs r else nil) e
 
       absent : (r : Row) → ¬ (Contains g r) → is_in g r ≡ false
       absent r n = by (is_in g r) refl

@@ -22,7 +22,7 @@ use Rattle.linear_system.proofs.ExchangeLaws.{exchanged_is, exchanged_once}
 use Rattle.market_model.specs.declared.participants.Side.{Side}
 use Rattle.market_model.specs.declared.participants.Side.TheVariants.{Sell, Buy}
 use Rattle.market_model.specs.declared.participants.Parts.{Parts}
-use Rattle.market_model.specs.Dispatch.{places, block_at, signed}
+use Rattle.market_model.specs.Dispatch.{places, block_at, signed_by_side}
 use Rattle.market_system.specs.MarketSystem.{balance_name, block_sign, system_of, system_over}
 use Rattle.market_model.proofs.MorePlaces.{places_more}
 
@@ -48,7 +48,7 @@ all_kept [] = refl
 all_kept (x ∷ xs) = ap (λ ys. x ∷ ys) (all_kept xs)
 
 -- a side's sign times a number
-pub signed-times : (side : Side) (x : Fraction) → signed side (whole (pos 1)) *ℚ x ≡ signed side x
+pub signed-times : (side : Side) (x : Fraction) → signed_by_side side (whole (pos 1)) *ℚ x ≡ signed_by_side side x
 signed-times Sell x = by_ring ring_ℚ (x ∷ []) (pone ⊗ at 0) (at 0) refl
 signed-times Buy x = by_ring ring_ℚ (x ∷ []) (pneg pone ⊗ at 0) (pneg (at 0)) refl
 
@@ -151,7 +151,7 @@ module _ (m : Parts) where
       sign_not_nil : block_sign m p ≢ whole (pos 0)
       sign_not_nil e = of_side (block_at m p).side e
         where
-          of_side : (side : Side) → signed side (whole (pos 1)) ≢ whole (pos 0)
+          of_side : (side : Side) → signed_by_side side (whole (pos 1)) ≢ whole (pos 0)
           of_side Sell h = one_not_nil h
           of_side Buy h = one_not_nil (by_ring1 ring_ℚ [] pone pnil (pneg pone) (pneg pone) pnil h refl)
 

@@ -14,7 +14,7 @@ use Rattle.market_model.specs.declared.participants.Parts.{Parts}
 use Rattle.market_model.specs.Dispatch.{injection, balance, output, demand}
 use Rattle.market_model.specs.Infeasibility.{IsFarkas, farkas_bound}
 use Rattle.market_model.specs.LimitRows.{rows, line_flow, row_offset, row_factor}
-use Rattle.market_model.specs.Optimality.{congestion, bus_price, welfare, congestion_by, price_by}
+use Rattle.market_model.specs.Optimality.{congestion, welfare, congestion_by, price_by}
 use Rattle.market_model.specs.RightAnswers.{IsRight}
 use Rattle.market_model.specs.Settlement.{paid, pays, rent, surplus}
 use Rattle.market_model.proofs.LimitCases.{mw, price, money, blocks, buses, line, shifts, losses, up_alone, down_alone, shunted, turned, after_outage, bought, shifted, narrow, narrow_duals}

@@ -1,5 +1,5 @@
 -- What of a market's system no edit changes.
-use Rattle.std.specs.Prelude.{◌≡◌, ℕ, List}
+use Rattle.std.specs.Prelude.{◌≡◌, List}
 use Rattle.linear_system.specs.SameSystems.{SameRows}
 use Rattle.market_model.specs.declared.participants.Parts.{Parts}
 use Rattle.market_model.specs.Frame.{SameFrame}

@@ -12,7 +12,7 @@ use Rattle.market_model.specs.declared.answered.Duals.{Duals}
 use Rattle.market_model.specs.Dispatch.{Dispatch, zero, bus_at, unit_at, empty, output_terms}
 use Rattle.market_model.specs.declared.limits.Row.{Row}
 use Rattle.market_model.specs.LimitRows.{rows as all_rows, limit, shift_factor, loss_factor, line_offset, offset_terms, factor_terms}
-use Rattle.market_model.specs.Optimality.{Feasible, Supports, up_of, down_of, pull}
+use Rattle.market_model.specs.Optimality.{Feasible, Supports, up_of, down_of, net_shadow_price}
 use Rattle.market_model.specs.Infeasibility.{ShowsInfeasible, farkas_terms}
 use Rattle.market_system.specs.MarketSystem.{balance_name, row_name, system_of, choice_dispatch, choice_duals}
 use Rattle.market_system.specs.Growth.{BestFor}
@@ -20,7 +20,7 @@ use Rattle.market_model.specs.NamedSums.{SameSize}
 use Rattle.market_model.specs.SumTables.{FlowSum, PriceSum, MoneySum}
 
 -- the choice's dispatch is feasible, and its duals support it
-pub record IsBest (m : Parts) (rows : List Row) (h : Choice) : Type 0 where
+pub record IsRightChoice (m : Parts) (rows : List Row) (h : Choice) : Type 0 where
   pub feasible : Feasible m (choice_dispatch m rows h)
   pub supported : Supports m (choice_dispatch m rows h) (choice_duals m rows h)
 
@@ -35,7 +35,7 @@ pub record IsFarkasOf (m : Parts) (rows : List Row) (h : Choice) (d : Duals Frac
   pub basic : ℕ
   pub is_basic : Contains (basics (system_of m rows) h) basic
   pub energy : SameSize d.energy (multiplier h basic (balance_name m))
-  pub limits : (r : Row) → Contains rows r → SameSize (pull m d r) (multiplier h basic (row_name m r))
+  pub limits : (r : Row) → Contains rows r → SameSize (net_shadow_price m d r) (multiplier h basic (row_name m r))
   pub one_sided : (r : Row) → Contains rows r → (up_of m d r ≡ zero) ⊎ (down_of m d r ≡ zero)
   pub no_others : (r : Row) → Contains (all_rows m) r → ¬ (Contains rows r) → (up_of m d r ≡ zero) × (down_of m d r ≡ zero)
 
@@ -47,9 +47,9 @@ pub data NamedSum (m : Parts) (rows : List Row) (h : Choice) : Option Kind → L
   -- injections and flows
   of_flow : (x : Dispatch) (terms : List Term) → IsInjecting m rows h x → FlowSum m x terms → NamedSum m rows h (Some Quantity) terms
   -- at a best choice: a unit's output, prices, and money
-  output_of : (u : ℕ) → IsBest m rows h → u < length m.units → NamedSum m rows h (Some Quantity) (output_terms m (choice_dispatch m rows h) u)
-  of_price : (terms : List Term) → IsBest m rows h → PriceSum m (choice_duals m rows h) terms → NamedSum m rows h (Some Price) terms
-  of_money : (terms : List Term) → IsBest m rows h → MoneySum m rows (choice_dispatch m rows h) (choice_duals m rows h) terms → NamedSum m rows h None terms
+  output_of : (u : ℕ) → IsRightChoice m rows h → u < length m.units → NamedSum m rows h (Some Quantity) (output_terms m (choice_dispatch m rows h) u)
+  of_price : (terms : List Term) → IsRightChoice m rows h → PriceSum m (choice_duals m rows h) terms → NamedSum m rows h (Some Price) terms
+  of_money : (terms : List Term) → IsRightChoice m rows h → MoneySum m rows (choice_dispatch m rows h) (choice_duals m rows h) terms → NamedSum m rows h None terms
   -- at duals that show that nothing is feasible: prices, and the bound
   of_farkas_price : (d : Duals Fraction) (terms : List Term) → IsFarkasOf m rows h d → PriceSum m d terms → NamedSum m rows h (Some Factor) terms
   farkas_bound_of : (d : Duals Fraction) → IsFarkasOf m rows h d → NamedSum m rows h (Some Quantity) (farkas_terms m d)

@@ -14,7 +14,7 @@ use Rattle.market_model.specs.declared.participants.Parts.{Parts}
 use Rattle.market_model.specs.declared.answered.Dual.{Dual}
 use Rattle.market_model.specs.declared.answered.Duals.{Duals}
 use Rattle.market_model.specs.declared.answered.RowId.{RowId}
-use Rattle.market_model.specs.Dispatch.{Dispatch, zero, places, block_at, signed, quantity, balance, empty}
+use Rattle.market_model.specs.Dispatch.{Dispatch, zero, places, block_at, signed_by_side, quantity, balance, empty}
 use Rattle.market_model.specs.declared.limits.Cause.{Cause}
 use Rattle.market_model.specs.declared.limits.Row.{Row}
 use Rattle.market_model.specs.declared.limits.Cause.TheVariants.{Base, Branch}
@@ -51,11 +51,11 @@ row_name m r = length m.blocks + 1 + position_or_len (same_row r) (rows m)
 
 -- by how much a MW of a block raises the balance
 abbrev pub block_sign : Parts → ℕ → Fraction
-block_sign m j = signed (block_at m j).side (whole (pos 1))
+block_sign m j = signed_by_side (block_at m j).side (whole (pos 1))
 
 -- what the blocks have to raise: the opposite of the balance with nothing accepted
-abbrev pub needed : Parts → Fraction
-needed m = neg_ℚ (balance m (empty m))
+abbrev pub residual_demand : Parts → Fraction
+residual_demand m = neg_ℚ (balance m (empty m))
 
 -- x at the blocks and y at the balance
 abbrev pub by_name : Parts → (ℕ → Fraction) → Fraction → ℕ → Fraction
@@ -63,7 +63,7 @@ by_name m x y w = if w == balance_name m then y else x w
 
 -- by how much a MW of a block raises the flow of a row
 abbrev pub block_coefficient : Parts → Row → ℕ → Fraction
-block_coefficient m r j = signed (block_at m j).side (unit_factor m r (block_at m j).unit)
+block_coefficient m r j = signed_by_side (block_at m j).side (unit_factor m r (block_at m j).unit)
 
 -- what is said of the row of a name, where one of these rows has it
 abbrev pub of_name : {X : Type 0} → Parts → (Row → X) → X → List Row → ℕ → X
@@ -93,8 +93,8 @@ system_over m rs = record {
   rows = balance_name m ∷ map (row_name m) rs;
   coefficient = coefficient_by m rs;
   price = block_value m;
-  low = bound_by m (least_added m) (by_name m (λ j. zero) (needed m)) rs;
-  high = bound_by m (most_added m) (by_name m (quantity m) (needed m)) rs;
+  low = bound_by m (least_added m) (by_name m (λ j. zero) (residual_demand m)) rs;
+  high = bound_by m (most_added m) (by_name m (quantity m) (residual_demand m)) rs;
 }
 
 -- the system of a market over a list of limit rows, whatever the order of the list
@@ -113,10 +113,10 @@ dual_by id x Above = record { row = id; up = x; down = zero } ∷ []
 
 -- duals with a price of energy, and for each of these rows the prices of its two sides by what a MW on its flow costs; a row for which that
 -- is 0 is not named
-abbrev pub duals_by : Parts → Fraction → (Row → Fraction) → List Row → Duals Fraction
-duals_by m energy cost rs = record { energy = energy; limits = flat_map (λ r. dual_by (row_id m r) (cost r) (sign_of (cost r))) rs }
+abbrev pub duals_of_costs : Parts → Fraction → (Row → Fraction) → List Row → Duals Fraction
+duals_of_costs m energy cost rs = record { energy = energy; limits = flat_map (λ r. dual_by (row_id m r) (cost r) (sign_of (cost r))) rs }
 
 -- the duals of a choice: the price of energy is the opposite of the reduced price of the balance, and the prices of the rows are by theirs,
 -- in the market's order
 abbrev pub choice_duals : Parts → List Row → Choice → Duals Fraction
-choice_duals m g h = duals_by m (neg_ℚ (reduced (system_of m g) h (balance_name m))) (λ r. reduced (system_of m g) h (row_name m r)) (in_order m g)
+choice_duals m g h = duals_of_costs m (neg_ℚ (reduced (system_of m g) h (balance_name m))) (λ r. reduced (system_of m g) h (row_name m r)) (in_order m g)

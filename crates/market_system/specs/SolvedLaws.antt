@@ -5,22 +5,20 @@ use Rattle.fraction_theory.specs.Fraction.{Fraction, neg_ℚ, ◌+ℚ◌}
 use Rattle.linear_system.specs.Systems.{System, IsSystem, MeetsRows, InBounds, objective}
 use Rattle.linear_system.specs.Choices.{Choice, IsChoice, value, reduced}
 use Rattle.simplex_theory.specs.States.{State, IsSolved}
-use Rattle.simplex_theory.specs.Steps.{signed}
+use Rattle.simplex_theory.specs.Steps.{opposite_if}
 use Rattle.simplex_theory.specs.Stuck.{IsStuck, multiplier, margin}
 use Rattle.market_model.specs.declared.answered.Duals.{Duals}
-use Rattle.market_model.specs.declared.answered.Farkas.{Farkas}
 use Rattle.market_model.specs.declared.participants.Parts.{Parts}
-use Rattle.market_model.specs.Dispatch.{Dispatch, accepted, places, block_at, signed as raised}
-use Rattle.market_model.specs.Frame.{SameFrame}
+use Rattle.market_model.specs.Dispatch.{Dispatch, accepted, places, block_at, signed_by_side as raised}
 use Rattle.market_model.specs.Infeasibility.{IsFarkas}
 use Rattle.market_model.specs.declared.limits.Row.{Row}
-use Rattle.market_model.specs.LimitRows.{rows, flow}
+use Rattle.market_model.specs.LimitRows.{rows}
 use Rattle.market_model.specs.Market.{IsMarket}
-use Rattle.market_model.specs.Optimality.{Within, FeasibleFor, Feasible, Supports, ProperDuals, welfare, block_value, unit_price, up_of, down_of}
+use Rattle.market_model.specs.Optimality.{FeasibleFor, Feasible, Supports, ProperDuals, welfare, block_value, unit_price}
 use Rattle.market_model.specs.RightAnswers.{IsRight, answer_of}
 use Rattle.market_system.specs.Growth.{Broken, BestFor, Growth}
 use Rattle.market_system.specs.MarketNumbers.{IsFarkasOf}
-use Rattle.market_system.specs.MarketSystem.{balance_name, row_name, in_order, system_of, choice_dispatch, duals_by, choice_duals}
+use Rattle.market_system.specs.MarketSystem.{balance_name, row_name, in_order, system_of, choice_dispatch, duals_of_costs, choice_duals}
 
 -- rows of the market, no two of them one
 pub record AreRows (m : Parts) (g : List Row) : Type 0 where
@@ -72,7 +70,7 @@ LawOfTheAnswer = (m : Parts) (x : Dispatch) (d : Duals Fraction) → Feasible m 
 -- row costs the row's
 abbrev pub stuck_duals : Parts → List Row → Choice → ℕ → Bool → Duals Fraction
 stuck_duals m g h b above =
-    duals_by m (neg_ℚ (signed (not above) (multiplier h b (balance_name m)))) (λ r. signed (not above) (multiplier h b (row_name m r))) (in_order m g)
+    duals_of_costs m (neg_ℚ (opposite_if (not above) (multiplier h b (balance_name m)))) (λ r. opposite_if (not above) (multiplier h b (row_name m r))) (in_order m g)
 
 -- Where a variable is stuck they show that no dispatch of the market is feasible, and their bound is what it leaves of the bound that it
 -- violates; and they are duals of the choice, so that their numbers are the market's.

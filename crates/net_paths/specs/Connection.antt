@@ -22,6 +22,6 @@ pub record IsSplit (network : LiveNetwork) (number : ℕ) : Type 0 where
   pub apart : ¬ AreJoined network.branches 0 place
   pub first : (p : ℕ) → p < place → AreJoined network.branches 0 p
 
-abbrev pub IsStop : LiveNetwork → PathStop → Type 0
-IsStop network (stop.Split number) = IsSplit network number
-IsStop network stop.Memory = Unit {0}
+abbrev pub IsPathStop : LiveNetwork → PathStop → Type 0
+IsPathStop network (stop.Split number) = IsSplit network number
+IsPathStop network stop.Memory = Unit {0}

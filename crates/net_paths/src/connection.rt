@@ -2,7 +2,7 @@
 
 ghost use Rattle.std.specs.Prelude.{◌≡◌, ℕ, ◌<◌, length, slice_index, is_some, IsSome, IsNone, MatchOption, OnOk, IfErr, None, Some};
 ghost use Rattle.net_paths.specs.Searching.{visit_at};
-ghost use Rattle.net_paths.specs.Connection.{JoinAll, IsStop};
+ghost use Rattle.net_paths.specs.Connection.{JoinAll, IsPathStop};
 
 use crate::parts::{bus_count, bus_number, live_branches};
 use crate::search::Search;
@@ -45,7 +45,7 @@ fn first_apart(search: &Search) -> Option<usize>
 /// Whether the live branches join all live buses to the first one.
 pub fn connected(alloc: Global, network: &Network) -> Result<(), PathStop>
     ensures joined { OnOk result (JoinAll network.now.branches (length network.now.buses)) }
-    ensures stop { IfErr result (IsStop network.now) }
+    ensures stop { IfErr result (IsPathStop network.now) }
 {
     let places = bus_count(network);
     if places == 0 {

@@ -1,5 +1,5 @@
 -- The blocks of a table have room in their units.
-use Rattle.std.specs.Prelude.{◌≡◌, ◌==◌, ◌<◌, ◌≤ℤ◌, ◌+ℤ◌, ℕ, ◌+◌, ℤ, pos, Bool, true, false, not, List, [], ◌∷◌, ◌++◌, length, All, Option, Some, None, Result, Ok, Err, slice_index_or, if◌then◌else◌, refl}
+use Rattle.std.specs.Prelude.{◌≡◌, ◌==◌, ◌<◌, ◌≤ℤ◌, ◌+ℤ◌, ℕ, ◌+◌, ℤ, pos, Bool, true, false, not, List, [], ◌∷◌, ◌++◌, length, All, Option, Some, None, Ok, Err, slice_index_or, if◌then◌else◌, refl}
 use Rattle.std.specs.List.{position}
 use Rattle.std.specs.Int.Signed.{lt_z, lt_z_no}
 use Rattle.std.proofs.Common.{arith, sym, ap, ◌∙◌, subst, append-nil}
@@ -18,7 +18,6 @@ use Rattle.market_model.specs.Market.{HaveRoom}
 use Rattle.market_model.specs.Stairs.{is_on_stair, stair_in, offered, room_of}
 use Rattle.market_model.proofs.ChangeLemmas.{part, offered-push, on_stair, same_default}
 use Rattle.offer_book.specs.declared.offer_table.Offer.{Offer}
-use Rattle.offer_book.specs.declared.offer_table.OfferFault.{OfferFault}
 use Rattle.offer_book.specs.declared.offer_table.OfferFault.TheVariants as fault
 use Rattle.offer_book.specs.Offers.{HasSides}
 use Rattle.offer_book.specs.OfferTable.{offer_in, row_in, block_after, block_where, block_in, unit_of_place, follows, last_price}

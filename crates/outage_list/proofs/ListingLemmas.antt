@@ -1,6 +1,6 @@
 -- Outages, one more of them, and the first number at fault.
-use Rattle.std.proofs.Common.{◌≡◌, ◌≢◌, ◌≤◌, ◌<◌, ◌+◌, ◌∷◌, ◌++◌, ℕ, zero, suc, ℤ, pos, negsuc, List, [], Bool, true, false, Option, Some, None, Err, length, map, get_or, refl, sym, ap, arith, ◌∙◌, All, inl, inr, length-append}
-use Rattle.std.specs.Prelude.{◌≤ℤ◌, ◌==◌, ◌||◌, unsigned_abs, is_some, position, AllPairs, Contains, slice_index_or}
+use Rattle.std.proofs.Common.{◌≡◌, ◌≢◌, ◌≤◌, ◌<◌, ◌+◌, ◌∷◌, ◌++◌, ℕ, zero, suc, ℤ, pos, negsuc, List, [], Bool, true, false, Option, Some, None, Err, length, map, get_or, refl, sym, arith, ◌∙◌, length-append}
+use Rattle.std.specs.Prelude.{◌≤ℤ◌, ◌==◌, ◌||◌, unsigned_abs, is_some, position, AllPairs, Contains}
 use Rattle.std.specs.List.{list_any}
 use Rattle.std.proofs.lemmas.Bool.{eqb-true, eq-eqb, cases_lt}
 use Rattle.std.proofs.lemmas.Int.{ints}
@@ -12,13 +12,12 @@ use Rattle.std.proofs.lemmas.List.Quantifiers.{position-Some}
 use Rattle.std.proofs.Math.Logic.{⊎_elim}
 use Rattle.net_case.specs.declared.live_parts.NetBranch.{NetBranch}
 use Rattle.net_case.specs.Networks.{LiveNetwork}
-use Rattle.net_paths.specs.declared.detours.Detour.{Detour}
 use Rattle.net_paths.specs.declared.detours.Detour.TheVariants as detour
 use Rattle.net_paths.specs.Detours.{IsBranchOf, IsDetour, IsLiveRow}
 use Rattle.factor_tables.specs.Rules.{is_live_branch}
 use Rattle.outage_list.specs.declared.listing.OutageFault.{OutageFault}
 use Rattle.outage_list.specs.declared.listing.OutageFault.TheVariants as fault
-use Rattle.outage_list.specs.Listing.{AreOutages, IsFaultOf, IsFirstFault, IsIsland, IsListed, IsOutage}
+use Rattle.outage_list.specs.Listing.{AreOutages, IsFirstFault, IsIsland, IsListed, IsOutage}
 
 -- a number from 1 on is its size
 pub its_size : (n : ℤ) → pos 1 ≤ℤ n → n ≡ pos (unsigned_abs n)

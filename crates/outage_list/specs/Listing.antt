@@ -1,5 +1,5 @@
 -- Which outages are listed: live branches, no one twice, none of which islands the network.
-use Rattle.std.specs.Prelude.{◌≡◌, ◌≢◌, ⊤, ℕ, ◌+◌, ℤ, pos, unsigned_abs, List, [], ◌∷◌, ◌++◌, length, map, All, AllPairs, Contains, false, true, Result, Ok, Err}
+use Rattle.std.specs.Prelude.{◌≡◌, ◌≢◌, ⊤, ℕ, ◌+◌, ℤ, pos, unsigned_abs, List, ◌∷◌, ◌++◌, length, map, All, AllPairs, Contains, false, true, Result, Ok, Err}
 use Rattle.net_case.specs.declared.live_parts.NetBranch.{NetBranch}
 use Rattle.net_case.specs.Networks.{LiveNetwork}
 use Rattle.net_paths.specs.Chains.{AreJoined}

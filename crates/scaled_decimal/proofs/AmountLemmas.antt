@@ -9,7 +9,7 @@ use Rattle.std.specs.Char.{digit_value}
 use Rattle.std.proofs.lemmas.Bool.{cases_lt, ne_eqb, eq-eqb, eqb-true, lt-ltb, le-ltb}
 use Rattle.fraction_theory.specs.declared.Sign.TheVariants.{Below, Zero, Above}
 use Rattle.scaled_decimal.specs.declared.DecimalFault.TheVariants.{TooFine, OutOfRange}
-use Rattle.scaled_decimal.specs.Decimal.{Decimal, signed, digits_number}
+use Rattle.scaled_decimal.specs.Decimal.{Decimal, with_sign, digits_number}
 use Rattle.fraction_theory.specs.Signs.{sign_of_int}
 use Rattle.scaled_decimal.specs.Reading.{whole_number, in_range, units_in}
 use Rattle.scaled_decimal.specs.Amount.{EndsInNoZero, IsSignificand}
@@ -68,7 +68,7 @@ shifted_by negative exact above under le =
     whole_exact negative (exact * 10 ^ (above - under)) (10 ^ under) (exact * 10 ^ above) (ten_above under)
     (ap (λ k. exact * 10 ^ k) at ∙ (ap (λ t. exact * t) (pow-add 10 (above - under) under) ∙ sym (mul_assoc exact (10 ^ (above - under)) (10 ^ under))))
 
-pub in_range_yes : (negative : Bool) (size : ℕ) → size < 2 ^ 63 → in_range negative size ≡ Ok (signed negative size)
+pub in_range_yes : (negative : Bool) (size : ℕ) → size < 2 ^ 63 → in_range negative size ≡ Ok (with_sign negative size)
 in_range_yes negative size h = Prim.rw (lt-ltb size (2 ^ 63) h) refl
 
 pub in_range_no : (negative : Bool) (size : ℕ) → 2 ^ 63 ≤ size → in_range negative size ≡ Err OutOfRange
@@ -197,31 +197,31 @@ shifted_out negative exact size above under raised cut le e full =
     shifted_by negative exact above under le ∙ in_range_no negative (exact * 10 ^ (above - under)) (Prim.omega (arith, same))
 
 pub shifted_in : (negative : Bool) (exact size above under raised : ℕ) → size ≡ min exact (2 ^ 63) → under ≤ above → raised ≡ min (size * 10 ^ (above - under)) (2 ^ 63) → raised ≢ 2 ^ 63
-    → (raised < 2 ^ 63) × (whole_number negative (exact * 10 ^ above) (10 ^ under) ≡ Ok (signed negative raised))
+    → (raised < 2 ^ 63) × (whole_number negative (exact * 10 ^ above) (10 ^ under) ≡ Ok (with_sign negative raised))
 shifted_in negative exact size above under raised cut le e full =
     let same = raised_cut exact size (10 ^ (above - under)) (ten_above (above - under)) cut in
     let low : exact * 10 ^ (above - under) < 2 ^ 63 = Prim.omega (arith, same) in
     let at : exact * 10 ^ (above - under) ≡ raised = Prim.omega (arith, same) in
-    (Prim.omega arith, shifted_by negative exact above under le ∙ (in_range_yes negative (exact * 10 ^ (above - under)) low ∙ ap (λ t. Ok (signed negative t)) at))
+    (Prim.omega arith, shifted_by negative exact above under le ∙ (in_range_yes negative (exact * 10 ^ (above - under)) low ∙ ap (λ t. Ok (with_sign negative t)) at))
 
-pub sign_zero : (negative : Bool) (n size zeros : ℕ) → IsSignificand n size zeros → size ≡ 0 → Zero ≡ sign_of_int (signed negative n)
+pub sign_zero : (negative : Bool) (n size zeros : ℕ) → IsSignificand n size zeros → size ≡ 0 → Zero ≡ sign_of_int (with_sign negative n)
 sign_zero negative n size zeros s z =
     let at : n ≡ 0 = eqb-true n 0 (sym (zero_together n size zeros s) ∙ eq-eqb size 0 z) in
-    Prim.rw at (elim negative as (λ b. Zero ≡ sign_of_int (signed b 0)) [ true ↦ refl | false ↦ refl ])
+    Prim.rw at (elim negative as (λ b. Zero ≡ sign_of_int (with_sign b 0)) [ true ↦ refl | false ↦ refl ])
 
-below : (n : ℕ) → 0 < n → Below ≡ sign_of_int (signed true n)
+below : (n : ℕ) → 0 < n → Below ≡ sign_of_int (with_sign true n)
 below zero h = absurd (Prim.omega arith)
 below (suc n) h = refl
 
-above : (n : ℕ) → 0 < n → Above ≡ sign_of_int (signed false n)
+above : (n : ℕ) → 0 < n → Above ≡ sign_of_int (with_sign false n)
 above zero h = absurd (Prim.omega arith)
 above (suc n) h = refl
 
 not_zero : (n size zeros : ℕ) → IsSignificand n size zeros → size ≢ 0 → 0 < n
 not_zero n size zeros s p = let q : n ≢ 0 = λ z. p (eqb-true size 0 (zero_together n size zeros s ∙ eq-eqb n 0 z)) in Prim.omega arith
 
-pub sign_below : (negative : Bool) (n size zeros : ℕ) → IsSignificand n size zeros → size ≢ 0 → negative ≡ true → Below ≡ sign_of_int (signed negative n)
+pub sign_below : (negative : Bool) (n size zeros : ℕ) → IsSignificand n size zeros → size ≢ 0 → negative ≡ true → Below ≡ sign_of_int (with_sign negative n)
 sign_below negative n size zeros s p e = Prim.rw e (below n (not_zero n size zeros s p))
 
-pub sign_above : (negative : Bool) (n size zeros : ℕ) → IsSignificand n size zeros → size ≢ 0 → negative ≡ false → Above ≡ sign_of_int (signed negative n)
+pub sign_above : (negative : Bool) (n size zeros : ℕ) → IsSignificand n size zeros → size ≢ 0 → negative ≡ false → Above ≡ sign_of_int (with_sign negative n)
 sign_above negative n size zeros s p e = Prim.rw e (above n (not_zero n size zeros s p))

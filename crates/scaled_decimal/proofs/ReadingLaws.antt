@@ -9,7 +9,7 @@ use Rattle.fraction_theory.specs.Fraction.{Fraction, over}
 use Rattle.fraction_theory.specs.declared.Sign.{Sign}
 use Rattle.scaled_decimal.specs.declared.DecimalFault.{DecimalFault}
 use Rattle.scaled_decimal.specs.declared.DecimalFault.TheVariants.{BadNumber, NotFinite, TooFine, OutOfRange}
-use Rattle.scaled_decimal.specs.Decimal.{Denotes, Decimal, Spells, IsNumber, signed, digits_number, tens_above, tens_under, value_of}
+use Rattle.scaled_decimal.specs.Decimal.{Denotes, Decimal, Spells, IsNumber, with_sign, digits_number, tens_above, tens_under, value_of}
 use Rattle.fraction_theory.specs.Signs.{sign_of, sign_of_int}
 use Rattle.scaled_decimal.specs.Reading.{Reads, OneReading, HasSign, OneSign, sign_of_decimal, decimal_in, is_not_finite, of_decimal, fault_of_text, in_range, units_in, units_of, sign_in, is_number_text}
 use Rattle.scaled_decimal.proofs.AmountLemmas.{ten_above, whole_exact, whole_not, in_range_yes, in_range_no}
@@ -21,30 +21,30 @@ use Rattle.scaled_decimal.proofs.GrammarLemmas.{Spells-from_decimal_in, decimal_
 abbrev top : ℕ → Decimal → ℕ
 top places d = digits_number d * 10 ^ (tens_above d + places)
 
-value_scaled : (places : ℕ) (d : Decimal) → signed d.negative (digits_number d * 10 ^ tens_above d) *ℤ pos (10 ^ places) ≡ signed d.negative (top places d)
+value_scaled : (places : ℕ) (d : Decimal) → with_sign d.negative (digits_number d * 10 ^ tens_above d) *ℤ pos (10 ^ places) ≡ with_sign d.negative (top places d)
 value_scaled places d =
     signed_times d.negative (digits_number d * 10 ^ tens_above d) (10 ^ places)
-    ∙ ap (signed d.negative) (mul_assoc (digits_number d) (10 ^ tens_above d) (10 ^ places) ∙ ap (λ t. digits_number d * t) (sym (pow-add 10 (tens_above d) places)))
+    ∙ ap (with_sign d.negative) (mul_assoc (digits_number d) (10 ^ tens_above d) (10 ^ places) ∙ ap (λ t. digits_number d * t) (sym (pow-add 10 (tens_above d) places)))
 
-cross_from_value : (places : ℕ) (d : Decimal) (n : ℤ) → over n (10 ^ places) ≡ value_of d → n *ℤ pos (10 ^ tens_under d) ≡ signed d.negative (top places d)
+cross_from_value : (places : ℕ) (d : Decimal) (n : ℤ) → over n (10 ^ places) ≡ value_of d → n *ℤ pos (10 ^ tens_under d) ≡ with_sign d.negative (top places d)
 unfolding value_of
 cross_from_value places d n e =
-    cross_from_over n (signed d.negative (digits_number d * 10 ^ tens_above d)) (10 ^ places) (10 ^ tens_under d) (ten_above places) (ten_above (tens_under d)) e ∙ value_scaled places d
+    cross_from_over n (with_sign d.negative (digits_number d * 10 ^ tens_above d)) (10 ^ places) (10 ^ tens_under d) (ten_above places) (ten_above (tens_under d)) e ∙ value_scaled places d
 
-value_from_cross : (places : ℕ) (d : Decimal) (n : ℤ) → n *ℤ pos (10 ^ tens_under d) ≡ signed d.negative (top places d) → over n (10 ^ places) ≡ value_of d
+value_from_cross : (places : ℕ) (d : Decimal) (n : ℤ) → n *ℤ pos (10 ^ tens_under d) ≡ with_sign d.negative (top places d) → over n (10 ^ places) ≡ value_of d
 unfolding value_of
 value_from_cross places d n e =
-    over_from_cross n (signed d.negative (digits_number d * 10 ^ tens_above d)) (10 ^ places) (10 ^ tens_under d) (ten_above places) (ten_above (tens_under d)) (e ∙ sym (value_scaled places d))
+    over_from_cross n (with_sign d.negative (digits_number d * 10 ^ tens_above d)) (10 ^ places) (10 ^ tens_under d) (ten_above places) (ten_above (tens_under d)) (e ∙ sym (value_scaled places d))
 
 size_of : (places : ℕ) (d : Decimal) (n : ℤ) → over n (10 ^ places) ≡ value_of d → top places d ≡ unsigned_abs n * 10 ^ tens_under d
 size_of places d n e =
     let c = cross_from_value places d n e in
     sym (abs_signed d.negative (top places d)) ∙ (ap unsigned_abs (sym c) ∙ unsigned_abs-mul n (pos (10 ^ tens_under d)))
 
-sign_is : (places : ℕ) (d : Decimal) (n : ℤ) → over n (10 ^ places) ≡ value_of d → signed d.negative (unsigned_abs n) ≡ n
+sign_is : (places : ℕ) (d : Decimal) (n : ℤ) → over n (10 ^ places) ≡ value_of d → with_sign d.negative (unsigned_abs n) ≡ n
 sign_is places d n e =
-    scale_cancel (signed d.negative (unsigned_abs n)) n (10 ^ tens_under d) (ten_above (tens_under d))
-    (signed_times d.negative (unsigned_abs n) (10 ^ tens_under d) ∙ (ap (signed d.negative) (sym (size_of places d n e)) ∙ sym (cross_from_value places d n e)))
+    scale_cancel (with_sign d.negative (unsigned_abs n)) n (10 ^ tens_under d) (ten_above (tens_under d))
+    (signed_times d.negative (unsigned_abs n) (10 ^ tens_under d) ∙ (ap (with_sign d.negative) (sym (size_of places d n e)) ∙ sym (cross_from_value places d n e)))
 
 units_in_is : (places : ℕ) (d : Decimal) (q : ℕ) → top places d ≡ q * 10 ^ tens_under d → units_in places d ≡ in_range d.negative q
 unfolding units_in
@@ -61,11 +61,11 @@ Reads-units_in places bytes d s =
     elim (cases_eq (top places d % bottom) 0) [
       | inl whole ↦
           let e : top places d ≡ q * bottom = Prim.omega (arith, div-add-mod' (top places d) bottom) in
-          let value : over (signed d.negative q) (10 ^ places) ≡ value_of d = value_from_cross places d (signed d.negative q) (signed_times d.negative q bottom ∙ ap (signed d.negative) (sym e)) in
+          let value : over (with_sign d.negative q) (10 ^ places) ≡ value_of d = value_from_cross places d (with_sign d.negative q) (signed_times d.negative q bottom ∙ ap (with_sign d.negative) (sym e)) in
           let found = units_in_is places d q e in
           elim (cases_lt q (2 ^ 63)) [
             | inl low ↦ subst (Reads places bytes) (sym (found ∙ in_range_yes d.negative q low)) ((d, s, value), Prim.omega (arith, abs_signed d.negative q))
-            | inr high ↦ subst (Reads places bytes) (sym (found ∙ in_range_no d.negative q high)) (signed d.negative q, (d, s, value), Prim.omega (arith, abs_signed d.negative q))
+            | inr high ↦ subst (Reads places bytes) (sym (found ∙ in_range_no d.negative q high)) (with_sign d.negative q, (d, s, value), Prim.omega (arith, abs_signed d.negative q))
           ]
       | inr part ↦ subst (Reads places bytes) (sym (units_in_none places d part))
           (value_of d, (d, s, refl), λ n e. part (ap (λ t. t % bottom) (size_of places d n (sym e)) ∙ mul-mod_left (unsigned_abs n) bottom))
@@ -116,19 +116,19 @@ units_of-Reads places bytes (Err TooFine) h =
     let q : ℕ = top places d / bottom in
     units_of-Spells places bytes d h.1.1 ∙ units_in_none places d (λ z.
     let e : top places d ≡ q * bottom = Prim.omega (arith, div-add-mod' (top places d) bottom) in
-    let value : over (signed d.negative q) (10 ^ places) ≡ value_of d = value_from_cross places d (signed d.negative q) (signed_times d.negative q bottom ∙ ap (signed d.negative) (sym e)) in
-    h.2 (signed d.negative q) (h.1.2 ∙ sym value))
+    let value : over (with_sign d.negative q) (10 ^ places) ≡ value_of d = value_from_cross places d (with_sign d.negative q) (signed_times d.negative q bottom ∙ ap (with_sign d.negative) (sym e)) in
+    h.2 (with_sign d.negative q) (h.1.2 ∙ sym value))
 units_of-Reads places bytes (Err OutOfRange) h =
     let n : ℤ = h.0 in
     let d : Decimal = h.1.0 in
     units_of-Spells places bytes d h.1.1 ∙ (units_in_is places d (unsigned_abs n) (size_of places d n h.1.2) ∙ in_range_no d.negative (unsigned_abs n) h.2)
 
 -- ---- the sign of a decimal
-value_sign : (d : Decimal) → sign_of (value_of d) ≡ sign_of_int (signed d.negative (digits_number d))
+value_sign : (d : Decimal) → sign_of (value_of d) ≡ sign_of_int (with_sign d.negative (digits_number d))
 unfolding value_of sign_of
 value_sign d =
-    sign_of_over (signed d.negative (digits_number d * 10 ^ tens_above d)) (10 ^ tens_under d) (ten_above (tens_under d))
-    ∙ (ap sign_of_int (sym (signed_times d.negative (digits_number d) (10 ^ tens_above d))) ∙ sign_scale (signed d.negative (digits_number d)) (10 ^ tens_above d) (ten_above (tens_above d)))
+    sign_of_over (with_sign d.negative (digits_number d * 10 ^ tens_above d)) (10 ^ tens_under d) (ten_above (tens_under d))
+    ∙ (ap sign_of_int (sym (signed_times d.negative (digits_number d) (10 ^ tens_above d))) ∙ sign_scale (with_sign d.negative (digits_number d)) (10 ^ tens_above d) (ten_above (tens_above d)))
 
 sign_option : (bytes : List ℕ) (o : Option Decimal) (word : Bool) → decimal_in bytes ≡ o → is_not_finite bytes ≡ word → HasSign bytes (of_decimal sign_of_decimal o word)
 sign_option bytes (Some d) word e w = (value_of d, (d, Spells-from_decimal_in bytes d e, refl), sym (value_sign d))

@@ -6,7 +6,7 @@ use Rattle.std.proofs.Math.Nat.{mul_assoc, mul_comm, zero-mul, mul-pos, mul-div_
 use Rattle.fraction_theory.specs.Fraction.{Fraction, over}
 use Rattle.fraction_theory.proofs.FractionLaws.{over_is, Is, same_value}
 use Rattle.fraction_theory.specs.declared.Sign.TheVariants.{Below, Above}
-use Rattle.scaled_decimal.specs.Decimal.{signed}
+use Rattle.scaled_decimal.specs.Decimal.{with_sign}
 use Rattle.fraction_theory.specs.Signs.{sign_of_int}
 
 neg_times : (k b : ℕ) → neg_ℤ (pos k) *ℤ pos b ≡ neg_ℤ (pos (k * b))
@@ -60,11 +60,11 @@ over_from_cross n m d e p q h =
     })
 
 -- ---- signs and sizes
-pub signed_times : (negative : Bool) (a b : ℕ) → signed negative a *ℤ pos b ≡ signed negative (a * b)
+pub signed_times : (negative : Bool) (a b : ℕ) → with_sign negative a *ℤ pos b ≡ with_sign negative (a * b)
 signed_times true a b = neg_times a b
 signed_times false a b = refl
 
-pub abs_signed : (negative : Bool) (n : ℕ) → unsigned_abs (signed negative n) ≡ n
+pub abs_signed : (negative : Bool) (n : ℕ) → unsigned_abs (with_sign negative n) ≡ n
 abs_signed true n = abs_neg n
 abs_signed false n = refl
 

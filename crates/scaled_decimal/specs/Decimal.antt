@@ -72,8 +72,8 @@ abbrev pub IsNumber : List ℕ → Type 0
 IsNumber bytes = ((d : Decimal) × Spells bytes d) ⊎ IsNotFinite bytes
 
 -- a number of this size, with a sign
-abbrev pub signed : Bool → ℕ → ℤ
-signed negative size = if negative then neg_ℤ (pos size) else pos size
+abbrev pub with_sign : Bool → ℕ → ℤ
+with_sign negative size = if negative then neg_ℤ (pos size) else pos size
 
 -- the number that all of a decimal's digits write, in units of its last digit
 abbrev pub digits_number : Decimal → ℕ
@@ -88,7 +88,7 @@ tens_under d = length d.part + (if d.exponent_negative then digits_value 10 d.ex
 
 -- The digits as one number, times ten to the power of the exponent less the number of digits behind the point.
 unfoldable pub value_of : Decimal → Fraction
-value_of d = over (signed d.negative (digits_number d * 10 ^ tens_above d)) (10 ^ tens_under d)
+value_of d = over (with_sign d.negative (digits_number d * 10 ^ tens_above d)) (10 ^ tens_under d)
 
 -- the bytes are a decimal of this value
 abbrev pub Denotes : List ℕ → Fraction → Type 0

@@ -8,7 +8,7 @@ use Rattle.fraction_theory.specs.declared.Sign.{Sign}
 use Rattle.fraction_theory.specs.Signs.{sign_of, sign_of_int}
 use Rattle.scaled_decimal.specs.declared.DecimalFault.{DecimalFault}
 use Rattle.scaled_decimal.specs.declared.DecimalFault.TheVariants.{BadNumber, NotFinite, TooFine, OutOfRange}
-use Rattle.scaled_decimal.specs.Decimal.{Decimal, Denotes, IsNumber, IsNotFinite, is_mark, is_point, signed, digits_number, tens_above, tens_under}
+use Rattle.scaled_decimal.specs.Decimal.{Decimal, Denotes, IsNumber, IsNotFinite, is_mark, is_point, with_sign, digits_number, tens_above, tens_under}
 
 -- The value is this many units of 10^-places. Or the text is no number, or infinite or no value, or the value is no whole number of units, or one out of range.
 abbrev pub Reads : ℕ → List ℕ → Result ℤ DecimalFault → Type 0
@@ -84,7 +84,7 @@ of_decimal f None word = Err (fault_of_text word)
 
 -- a number of this size and sign, or it is out of range
 abbrev pub in_range : Bool → ℕ → Result ℤ DecimalFault
-in_range negative size = if nat_lt size (2 ^ 63) then Ok (signed negative size) else Err OutOfRange
+in_range negative size = if nat_lt size (2 ^ 63) then Ok (with_sign negative size) else Err OutOfRange
 
 -- top over bottom, where that is a whole number in range
 unfoldable pub whole_number : Bool → ℕ → ℕ → Result ℤ DecimalFault
@@ -95,7 +95,7 @@ unfoldable pub units_in : ℕ → Decimal → Result ℤ DecimalFault
 units_in places d = whole_number d.negative (digits_number d * 10 ^ (tens_above d + places)) (10 ^ tens_under d)
 
 abbrev pub sign_of_decimal : Decimal → Result Sign DecimalFault
-sign_of_decimal d = Ok (sign_of_int (signed d.negative (digits_number d)))
+sign_of_decimal d = Ok (sign_of_int (with_sign d.negative (digits_number d)))
 
 -- what `read`, `sign_of` and `is_number` give
 unfoldable pub units_of : ℕ → List ℕ → Result ℤ DecimalFault

@@ -4,7 +4,7 @@ ghost use Rattle.std.specs.Prelude.{◌≡◌, ℕ, ◌+◌, ◌*◌, ◌^◌, �
 ghost use Rattle.std.specs.Char.{is_ascii_digit, digit_value};
 ghost use Rattle.std.specs.List.{AllPass};
 ghost use Rattle.std.specs.Str.Parse.{digits_value, digits_value_after};
-ghost use Rattle.scaled_decimal.specs.Decimal.{digits_number, signed};
+ghost use Rattle.scaled_decimal.specs.Decimal.{digits_number, with_sign};
 ghost use Rattle.fraction_theory.specs.Signs.{sign_of_int};
 ghost use Rattle.scaled_decimal.specs.Reading.{whole_number, units_in};
 ghost use Rattle.scaled_decimal.specs.View.{view, HasDigits};
@@ -107,7 +107,7 @@ fn exponent_size(digits: &[u8]) -> u128
 /// The sign of the decimal's value.
 pub fn sign_of_parts(numeral: &Numeral<'_>) -> Sign
     requires { HasDigits (view numeral.now) }
-    ensures { result ≡ sign_of_int (signed numeral.now.negative (digits_number (view numeral.now))) }
+    ensures { result ≡ sign_of_int (with_sign numeral.now.negative (digits_number (view numeral.now))) }
 {
     if significand_of(numeral).size == 0 {
         Sign::Zero

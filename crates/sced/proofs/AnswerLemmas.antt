@@ -2,7 +2,7 @@
 use Rattle.std.proofs.Common.{◌≡◌, subst, sym, ℕ, List, Option, Result, Ok, Err}
 use Rattle.std.specs.Prelude.{IfOk, MatchResult}
 use Rattle.outside_store.specs.Files.{Files}
-use Rattle.command_answers.specs.Tellings.{Telling, telling_of}
+use Rattle.command_answers.specs.Tellings.{telling_of}
 use Rattle.command_answers.specs.declared.status.Status.{Status}
 use Rattle.command_answers.specs.declared.told.Told.{Told}
 use Rattle.sced.specs.declared.run.Work.{Work}

@@ -1,7 +1,7 @@
 -- A text and a status that are right decide whether a dispatch is feasible, and whether a certificate holds, where no pair passes the bound.
-use Rattle.std.specs.Prelude.{◌≡◌, ◌≢◌, ℕ, Bool, true, false, if◌then◌else◌, List, [], ◌∷◌, Option, Some, None, codes, slice_get, take, Result, Ok, ◌⊎◌}
+use Rattle.std.specs.Prelude.{◌≡◌, ◌≢◌, ℕ, Bool, true, false, if◌then◌else◌, List, [], ◌∷◌, Option, Some, None, codes, slice_get, take, Result, Ok}
 use Rattle.std.specs.Str.{bytes_eq}
-use Rattle.std.proofs.Common.{suc, inl, inr, refl, sym, subst, ap, ◌∙◌}
+use Rattle.std.proofs.Common.{suc, refl, sym, subst, ap, ◌∙◌}
 use Rattle.fraction_theory.specs.Fraction.{Fraction}
 use Rattle.exact_fraction.specs.declared.Passed.{Passed}
 use Rattle.outside_store.specs.Files.{Files}
@@ -22,7 +22,7 @@ use Rattle.refusal_text.specs.declared.refusals.Refusal.TheVariants as refusal
 use Rattle.market_inputs.specs.Files.{sized}
 use Rattle.market_inputs.specs.Replaying.{certificate_in, steps_in}
 use Rattle.market_inputs.proofs.OnceLemmas.{OfOne, clear-once, is-once, pool-once, then-once}
-use Rattle.command_words.specs.Words.{AsksCheck, AsksClear, AsksMake, AsksPool, AsksReplay, AsksVerify, Enters, MarketNames, refuses}
+use Rattle.command_words.specs.Words.{AsksClear, AsksMake, AsksPool, AsksReplay, AsksVerify, Enters, MarketNames, refuses}
 use Rattle.command_words.proofs.WordsLemmas.{asks-once, clears-once, enters-one, makes-once, names-apart, replays-once, verifies-once}
 use Rattle.command_answers.specs.Clearing.{TellsClear, most_size, status_of}
 use Rattle.command_answers.specs.Inputs.{IsCertified, IsLimited, IsReplayed, MarketCertificate, MarketSteps, MarketTexts}
@@ -36,9 +36,9 @@ use Rattle.command_answers.specs.Tellings.{ComesTo, Telling, Tells}
 use Rattle.command_answers.specs.Verifying.{IsCertificatePair, TellsVerdict, VerifiesTo, judged, passed, verdict_status}
 use Rattle.command_answers.specs.declared.status.Status.{Status}
 use Rattle.command_answers.specs.declared.status.Status.TheVariants as status
-use Rattle.sced.specs.Decided.{AsksMarket, AsksSteps, AsksVerdict, Decides, IsDecidedIn, IsDecidedOf, IsMadeOf, as_clear, as_pool}
+use Rattle.sced.specs.Decided.{AsksMarket, AsksSteps, AsksVerdict, Decides, IsDecidedOf, IsMadeOf, as_clear, as_pool}
 use Rattle.sced.specs.Reading.{HaveTexts, IsTable, contingencies_header, edits_header, lodf_header, offsets_header}
-use Rattle.sced.specs.Told.{AnswersTo, AreClearFiles, ArePoolFiles, AreReplayFiles, AreVerifyFiles, OfFiles, checked, cleared, made, pooled, refused, replayed, verified}
+use Rattle.sced.specs.Told.{AnswersTo, AreClearFiles, ArePoolFiles, AreReplayFiles, AreVerifyFiles, checked, cleared, made, pooled, refused, replayed, verified}
 use Rattle.sced.proofs.FileLemmas.{AreAlike, certified-same, limited-same, pool-same, replayed-same}
 
 -- ---- files stand for one market, or have one first fault

@@ -1,7 +1,7 @@
 -- How a run ends, from a store that was only read.
 use Rattle.std.proofs.Common.{◌≡◌, ◌∙◌, ℕ, List, Option, Some, None, inl, inr, refl}
-use Rattle.std.specs.Prelude.{◌≢◌, ◌⊎◌, IsSome, take}
-use Rattle.outside_store.specs.Files.{Files, SameFiles, Written, Wrote}
+use Rattle.std.specs.Prelude.{◌⊎◌, IsSome, take}
+use Rattle.outside_store.specs.Files.{Files, SameFiles, Wrote}
 use Rattle.command_answers.specs.Tellings.{Telling}
 use Rattle.command_answers.specs.declared.status.Status.{Status}
 use Rattle.command_answers.specs.declared.status.Status.TheVariants as status

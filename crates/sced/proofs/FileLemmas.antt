@@ -1,11 +1,8 @@
 -- What is told of the bytes that were read is told of the files: one that is cut behind the first byte too many is too long all the same.
-use Rattle.std.proofs.Common.{◌≡◌, subst, sym, ℕ, List, Option, Some, None, Result, refl, ap, ◌∙◌}
+use Rattle.std.proofs.Common.{◌≡◌, subst, ℕ, List, Option, Some, None, Result, refl, ap, ◌∙◌}
 use Rattle.outside_store.specs.Files.{Files, Reads}
-use Rattle.cert_format.specs.declared.certificate.Cert.{Cert}
-use Rattle.fraction_theory.specs.Fraction.{Fraction}
 use Rattle.market_model.specs.declared.participants.Parts.{Parts}
 use Rattle.net_case.specs.declared.live_parts.PostRating.{PostRating}
-use Rattle.edit_table.specs.declared.Step.{Step}
 use Rattle.refusal_text.specs.declared.refusals.Input.TheVariants as input
 use Rattle.refusal_text.specs.declared.refusals.Refusal.{Refusal}
 use Rattle.refusal_text.specs.declared.refusals.Refusal.TheVariants as refusal

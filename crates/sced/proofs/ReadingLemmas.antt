@@ -1,12 +1,9 @@
 -- Files that stay as they were, and what was read of them.
-use Rattle.std.proofs.Common.{◌≡◌, ℕ, List, Result, Ok, Err, Option, Some, None, refl, sym, subst, ap, ◌∙◌}
+use Rattle.std.proofs.Common.{◌≡◌, ℕ, List, Result, Ok, Err, Option, Some, None, refl, sym, subst, ◌∙◌}
 use Rattle.std.specs.Prelude.{IfOk, MatchResult}
 use Rattle.outside_store.specs.Files.{Files, SameFiles, Reads}
 use Rattle.outside_store.specs.declared.Store.{Ghosts}
-use Rattle.command_words.specs.Words.{CheckNames, MarketNames}
-use Rattle.sced.specs.declared.reading.GridBytes.{GridBytes}
-use Rattle.sced.specs.declared.reading.MarketBytes.{MarketBytes}
-use Rattle.sced.specs.Reading.{ReadsGrid, ReadsMarket, ReadsTable, contingencies_header, lodf_header, offsets_header}
+use Rattle.sced.specs.Reading.{ReadsTable}
 use Rattle.sced.specs.Runs.{OnlyReads}
 
 -- ---- files that stay as they were

@@ -1,5 +1,5 @@
 -- What is right to tell of the words of a run and of the files that they name.
-use Rattle.std.specs.Prelude.{◌≡◌, ◌⊎◌, ℕ, List, Option, Some, None, option_map, Result}
+use Rattle.std.specs.Prelude.{◌≡◌, ℕ, List, Option, Some, None, option_map, Result}
 use Rattle.outside_store.specs.Files.{Files}
 use Rattle.market_inputs.specs.declared.checking.Inputs.{Inputs}
 use Rattle.market_model.specs.declared.participants.Parts.{Parts}

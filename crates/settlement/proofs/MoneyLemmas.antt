@@ -2,7 +2,7 @@
 use Rattle.std.specs.Prelude.{◌≡◌, ℕ, ◌+◌, ◌<◌, pos, false, List, [], ◌∷◌, ◌++◌, map, length, take, refl}
 use Rattle.std.proofs.Common.{zero, suc, arith, ap, ap₂, sym, ◌∙◌, subst, get_or, drop}
 use Rattle.std.proofs.lemmas.List.{map-append, get_or-map, length-map}
-use Rattle.std.proofs.lemmas.List.FromFn.{length-map-range_with_len, get_or-map-range_with_len}
+use Rattle.std.proofs.lemmas.List.FromFn.{length-map-range_with_len}
 use Rattle.fraction_theory.specs.Fraction.{Fraction, whole, neg_ℚ, ◌+ℚ◌, ◌-ℚ◌, ◌*ℚ◌}
 use Rattle.fraction_theory.specs.Order.{◌≤ℚ◌}
 use Rattle.fraction_theory.specs.Sums.{sum_by, Term, Plain, Product, term_value, total, prefix}
@@ -26,7 +26,7 @@ use Rattle.market_model.specs.declared.limits.Row.{Row}
 use Rattle.market_model.specs.LimitRows.{rows, row_id, limit, row_offset}
 use Rattle.market_model.specs.Market.{IsMarket}
 use Rattle.market_model.specs.NamedSums.{SameSize, term_at, IsNextTerm, IsSumStep, IsRefusal, IsRefusedIn}
-use Rattle.market_model.specs.Optimality.{bus_price, unit_price, is_named, named_rows}
+use Rattle.market_model.specs.Optimality.{bus_price, unit_price, names_row, named_rows}
 use Rattle.market_model.specs.RightAnswers.{rent_of, settlement_at}
 use Rattle.market_model.specs.Settlement.{paid, pays, rent, surplus, pay_of_unit, pay_of_load, left_terms}
 use Rattle.market_model.specs.Valued.{dual_at, duals_at, load_at, rent_at, unit_pay_at}
@@ -181,7 +181,7 @@ law_of_right_money m x price d market priced = λ i. record {
 
 -- ---- what rows without duals earn
 module _ (m : Parts) (x : Dispatch) (d : Duals Fraction) where
-  no_rent : (r : Row) → is_named d.limits (row_id m r) ≡ false → rent m x d r ≡ whole (pos 0)
+  no_rent : (r : Row) → names_row d.limits (row_id m r) ≡ false → rent m x d r ≡ whole (pos 0)
   unfolding rent
   no_rent r h =
       ap₂ (λ u v. u *ℚ (limit m r -ℚ row_offset m r) +ℚ (v *ℚ (limit m r +ℚ row_offset m r) +ℚ whole (pos 0))) (up_unnamed d.limits (row_id m r) h) (down_unnamed d.limits (row_id m r) h)

@@ -15,7 +15,7 @@ use Rattle.market_model.specs.declared.answered.Price.{Price}
 use Rattle.market_model.specs.declared.answered.UnitPay.{UnitPay}
 use Rattle.market_model.specs.declared.participants.Block.{Block}
 use Rattle.market_model.specs.declared.participants.Parts.{Parts}
-use Rattle.market_model.specs.Dispatch.{Dispatch, zero, places, signed, block_at, unit_at, bus_at, accepted, output, output_terms, demand}
+use Rattle.market_model.specs.Dispatch.{Dispatch, zero, places, signed_by_side, block_at, unit_at, bus_at, accepted, output, output_terms, demand}
 use Rattle.market_model.specs.NamedSums.{IsRefusedIn, IsRefusal}
 use Rattle.market_model.specs.Optimality.{block_value, welfare_terms}
 use Rattle.market_model.specs.Valued.{load_at, unit_pay_at}
@@ -33,33 +33,33 @@ module _ {N : Type 0} (value : N → Fraction) (m : Parts) (ds : List N) where
 
   -- the welfare with one block more
   pub welfare_step : (k : ℕ) (block : Block) (d : N) (worth old new : Fraction) → k < length ds → d ≡ get_or ds k d → block ≡ block_at m k → old ≡ welfare_to k
-      → worth ≡ neg_ℚ (signed block.side (whole block.price)) *ℚ value d → new ≡ old +ℚ worth → new ≡ welfare_to (k + 1)
+      → worth ≡ neg_ℚ (signed_by_side block.side (whole block.price)) *ℚ value d → new ≡ old +ℚ worth → new ≡ welfare_to (k + 1)
   welfare_step k block d worth old new h is at before w e =
       e
-      ∙ ap (λ t. old +ℚ t) (w ∙ ap (λ (b : Block). neg_ℚ (signed b.side (whole b.price)) *ℚ value d) at ∙ ap (λ v. block_value m k *ℚ v) (sym (accepted_is value ds k d h is)))
+      ∙ ap (λ t. old +ℚ t) (w ∙ ap (λ (b : Block). neg_ℚ (signed_by_side b.side (whole b.price)) *ℚ value d) at ∙ ap (λ v. block_value m k *ℚ v) (sym (accepted_is value ds k d h is)))
       ∙ ap (λ t. t +ℚ (block_value m k *ℚ accepted (dispatch_of value ds) k)) before
       ∙ sym (total-places_more (λ j. Product (block_value m j) (accepted (dispatch_of value ds) j)) k)
 
   module _ (bound : ℕ) (p : Passed Fraction) where
     -- what a block is worth, and the sum with that
     pub worth_refused : (k : ℕ) (block : Block) (d : N) → k < length m.blocks → k < length ds → d ≡ get_or ds k d → block ≡ block_at m k
-        → IsRefusal Times (neg_ℚ (signed block.side (whole block.price))) (value d) bound p → IsRefusedIn (welfare_terms m (dispatch_of value ds)) bound p
+        → IsRefusal Times (neg_ℚ (signed_by_side block.side (whole block.price))) (value d) bound p → IsRefusedIn (welfare_terms m (dispatch_of value ds)) bound p
     worth_refused k block d below lt at same h =
         let x = dispatch_of value ds in
         let f : ℕ → Term = λ j. Product (block_value m j) (accepted x j) in
         let r = terms_at f (length m.blocks) k below in
-        multiplied_at (welfare_terms m x) (map f (places k)) r.0 (f k) r.1 bound p (neg_ℚ (signed block.side (whole block.price))) (value d) (block_value m k) (accepted x k) refl
-        (inl (ap (λ (b : Block). neg_ℚ (signed b.side (whole b.price))) same)) (inl (sym (accepted_is value ds k d lt at))) h
+        multiplied_at (welfare_terms m x) (map f (places k)) r.0 (f k) r.1 bound p (neg_ℚ (signed_by_side block.side (whole block.price))) (value d) (block_value m k) (accepted x k) refl
+        (inl (ap (λ (b : Block). neg_ℚ (signed_by_side b.side (whole b.price))) same)) (inl (sym (accepted_is value ds k d lt at))) h
 
     pub welfare_refused : (k : ℕ) (block : Block) (d : N) (sum worth : Fraction) → k < length m.blocks → k < length ds → d ≡ get_or ds k d → block ≡ block_at m k
-        → sum ≡ welfare_to k → worth ≡ neg_ℚ (signed block.side (whole block.price)) *ℚ value d → IsRefusal Plus sum worth bound p
+        → sum ≡ welfare_to k → worth ≡ neg_ℚ (signed_by_side block.side (whole block.price)) *ℚ value d → IsRefusal Plus sum worth bound p
         → IsRefusedIn (welfare_terms m (dispatch_of value ds)) bound p
     welfare_refused k block d sum worth below lt at same is w h =
         let x = dispatch_of value ds in
         let f : ℕ → Term = λ j. Product (block_value m j) (accepted x j) in
         let r = terms_at f (length m.blocks) k below in
         (plus_at (welfare_terms m x) (map f (places k)) r.0 (f k) r.1 bound p sum worth is
-        ((w ∙ ap (λ (b : Block). neg_ℚ (signed b.side (whole b.price)) *ℚ value d) same ∙ ap (λ v. block_value m k *ℚ v) (sym (accepted_is value ds k d lt at)))) h)
+        ((w ∙ ap (λ (b : Block). neg_ℚ (signed_by_side b.side (whole b.price)) *ℚ value d) same ∙ ap (λ v. block_value m k *ℚ v) (sym (accepted_is value ds k d lt at)))) h)
 
 -- a price that was read by its place
 pub price_is : {N : Type 0} (value : N → Fraction) (prices : List (Price N)) (i : ℕ) (p : Price N) → i < length prices → total_at value prices i ≡ value (get_or prices i p).total

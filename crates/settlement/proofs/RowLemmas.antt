@@ -35,7 +35,7 @@ use Rattle.limit_rows.proofs.FlowSteps.{row_terms_are}
 use Rattle.limit_rows.specs.LineFlows.{AreFlows}
 use Rattle.market_model.specs.PutIn.{put_in}
 use Rattle.settlement.specs.Paying.{earned_by, earned_terms}
-use Rattle.settlement.specs.Refusals.{IsSettlementRefusal, of_row_flow, of_offset, of_limit_less, of_limit_more, of_rent, IsEarningRefusal, IsRowRefusal}
+use Rattle.settlement.specs.Refusals.{IsSettlementRefusal, of_row_flow, of_offset, of_limit_less, of_limit_more, of_rent, IsEarningRefusal, IsRentRefusal}
 
 -- ---- what a limit earns with one price
 module _ (e : Dual Fraction) (f o : Fraction) where
@@ -101,7 +101,7 @@ module _ (m : Parts) (x : Dispatch) (flows : List Fraction) (are : AreFlows m x 
     named : Contains (named_rows m d) r
     named = (k, h.inside, sym h.at)
 
-    pub row_refusal : IsRowRefusal m (put_in flows) e r bound p → IsSettlementRefusal m x price d bound p
+    pub row_refusal : IsRentRefusal m (put_in flows) e r bound p → IsSettlementRefusal m x price d bound p
     row_refusal why = by why
       where
         by : (r.cause ≢ Base × IsRefusedIn (flow_terms m (put_in flows) r) bound p) ⊎ IsRefusedIn (offset_terms m r) bound p

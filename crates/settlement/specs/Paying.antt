@@ -1,7 +1,7 @@
 -- What units are paid, loads pay and limits earn at prices for the buses.
 -- Schweppe and others, Spot Pricing of Electricity: the merchandising surplus.
 use Rattle.std.specs.Prelude.{◌≡◌, ℕ, ◌<◌, List, [], ◌∷◌, ◌++◌, length, map, slice_index_or}
-use Rattle.fraction_theory.specs.Fraction.{Fraction, neg_ℚ, ◌+ℚ◌, ◌-ℚ◌, ◌*ℚ◌}
+use Rattle.fraction_theory.specs.Fraction.{Fraction, neg_ℚ, ◌+ℚ◌, ◌-ℚ◌}
 use Rattle.fraction_theory.specs.Sums.{Term, Plain, Product, total}
 use Rattle.market_model.specs.declared.answered.Dual.{Dual}
 use Rattle.market_model.specs.declared.answered.Duals.{Duals}
@@ -11,11 +11,10 @@ use Rattle.market_model.specs.declared.answered.Price.{Price}
 use Rattle.market_model.specs.declared.answered.Rent.{Rent}
 use Rattle.market_model.specs.declared.answered.UnitPay.{UnitPay}
 use Rattle.market_model.specs.declared.participants.Parts.{Parts}
-use Rattle.market_model.specs.Dispatch.{Dispatch, zero, places, unit_at, output, demand}
+use Rattle.market_model.specs.Dispatch.{Dispatch, zero}
 use Rattle.market_model.specs.declared.limits.Row.{Row}
 use Rattle.market_model.specs.LimitRows.{flow_by, limit, row_offset}
-use Rattle.market_model.specs.Optimality.{Feasible, Supports, named_rows, bus_price}
-use Rattle.market_model.specs.RightAnswers.{rent_of}
+use Rattle.market_model.specs.Optimality.{Feasible, Supports, bus_price}
 
 -- the whole price at a bus; 0 past the end
 abbrev pub total_at : {N : Type 0} → (N → Fraction) → List (Price N) → ℕ → Fraction

@@ -36,9 +36,9 @@ pub data IsSettlementRefusal (m : Parts) (x : Dispatch) (price : ℕ → Fractio
   of_rent : (r : Row) → Contains (named_rows m d) r → IsRefusedIn (rent_terms m x d r) bound p → IsSettlementRefusal m x price d bound p
 
 -- why a dispatch was not settled: an operation was refused, or memory was
-abbrev pub IsStop : {N : Type 0} → (N → Fraction) → ℕ → Parts → Dispatch → (ℕ → Fraction) → Duals Fraction → MoneyStop N → Type 0
-IsStop value bound m x price d (why.Passed p) = IsSettlementRefusal m x price d bound (passed_at value p)
-IsStop value bound m x price d why.Memory = Unit {0}
+abbrev pub IsMoneyStop : {N : Type 0} → (N → Fraction) → ℕ → Parts → Dispatch → (ℕ → Fraction) → Duals Fraction → MoneyStop N → Type 0
+IsMoneyStop value bound m x price d (why.Passed p) = IsSettlementRefusal m x price d bound (passed_at value p)
+IsMoneyStop value bound m x price d why.Memory = Unit {0}
 
 -- ---- the same part by part
 -- for a load at a price: its demand, or what it pays
@@ -54,5 +54,5 @@ abbrev pub IsEarningRefusal : Dual Fraction → Fraction → Fraction → ℕ �
 IsEarningRefusal e limit offset bound p = IsRefusal Minus limit offset bound p ⊎ IsRefusal Plus limit offset bound p ⊎ IsRefusedIn (earned_terms e limit offset) bound p
 
 -- for a row with a dual where lines have flows f: its flow after an outage, its offset, or what its limit earns
-abbrev pub IsRowRefusal : Parts → (ℕ → Fraction) → Dual Fraction → Row → ℕ → Passed Fraction → Type 0
-IsRowRefusal m f e r bound p = (r.cause ≢ Base × IsRefusedIn (flow_terms m f r) bound p) ⊎ IsRefusedIn (offset_terms m r) bound p ⊎ IsEarningRefusal e (limit m r) (row_offset m r) bound p
+abbrev pub IsRentRefusal : Parts → (ℕ → Fraction) → Dual Fraction → Row → ℕ → Passed Fraction → Type 0
+IsRentRefusal m f e r bound p = (r.cause ≢ Base × IsRefusedIn (flow_terms m f r) bound p) ⊎ IsRefusedIn (offset_terms m r) bound p ⊎ IsEarningRefusal e (limit m r) (row_offset m r) bound p

@@ -8,7 +8,7 @@ ghost use Rattle.market_model.specs.Dispatch.{Dispatch, places};
 ghost use Rattle.market_model.specs.Valued.{passed_at, load_at};
 ghost use Rattle.market_model.specs.Settlement.{pay_of_load};
 ghost use Rattle.settlement.specs.Paying.{total_at};
-ghost use Rattle.settlement.specs.Refusals.{IsStop, IsLoadRefusal};
+ghost use Rattle.settlement.specs.Refusals.{IsMoneyStop, IsLoadRefusal};
 
 use crate::MoneyStop;
 use exact_fraction::{Exact, Passed};
@@ -36,7 +36,7 @@ pub fn loads<N: Exact>(
     prices: &[Price<N>],
 ) -> Result<List<Load<N>>, MoneyStop<N>>
     requires { length prices.now ≡ length market.now.buses }
-    ensures cause { (x : Dispatch) (d : DualsOf Fraction) → IfErr result (IsStop N.value N.bound market.now x (total_at N.value prices.now) d) }
+    ensures cause { (x : Dispatch) (d : DualsOf Fraction) → IfErr result (IsMoneyStop N.value N.bound market.now x (total_at N.value prices.now) d) }
     ensures loads { IfOk result (λ loads. map (load_at N.value) loads ≡ map (pay_of_load market.now (total_at N.value prices.now)) (places (length market.now.buses))) }
 {
     let mut loads = List::new(alloc);

@@ -8,7 +8,7 @@ ghost use Rattle.market_model.specs.PutIn.{dispatch_of, AreInjections};
 ghost use Rattle.market_model.specs.RightAnswers.{rent_of};
 ghost use Rattle.market_model.specs.Valued.{duals_at, rent_at};
 ghost use Rattle.limit_rows.specs.LineFlows.{AreFlows};
-ghost use Rattle.settlement.specs.Refusals.{IsStop};
+ghost use Rattle.settlement.specs.Refusals.{IsMoneyStop};
 
 use crate::MoneyStop;
 use crate::rows::{found_row, row_rent};
@@ -24,7 +24,7 @@ fn put_in_by_bus<N: Exact>(
     dispatch: &[N],
 ) -> Result<Vec<N>, MoneyStop<N>>
     requires { length dispatch.now ≡ length market.now.blocks }
-    ensures cause { (price : ℕ → Fraction) (d : DualsOf Fraction) → IfErr result (IsStop N.value N.bound market.now (dispatch_of N.value dispatch.now) price d) }
+    ensures cause { (price : ℕ → Fraction) (d : DualsOf Fraction) → IfErr result (IsMoneyStop N.value N.bound market.now (dispatch_of N.value dispatch.now) price d) }
     ensures count { IfOk result (λ mws. vec_len mws ≡ length market.now.buses) }
     ensures mws { IfOk result (λ mws. AreInjections market.now (dispatch_of N.value dispatch.now) (map N.value mws.items)) }
 {
@@ -44,7 +44,7 @@ fn flow_by_line<N: Exact>(
     dispatch: &[N],
 ) -> Result<Vec<N>, MoneyStop<N>>
     requires { length dispatch.now ≡ length market.now.blocks }
-    ensures cause { (price : ℕ → Fraction) (d : DualsOf Fraction) → IfErr result (IsStop N.value N.bound market.now (dispatch_of N.value dispatch.now) price d) }
+    ensures cause { (price : ℕ → Fraction) (d : DualsOf Fraction) → IfErr result (IsMoneyStop N.value N.bound market.now (dispatch_of N.value dispatch.now) price d) }
     ensures count { IfOk result (λ mws. vec_len mws ≡ length market.now.lines) }
     ensures mws { IfOk result (λ mws. AreFlows market.now (dispatch_of N.value dispatch.now) (map N.value mws.items)) }
 {
@@ -67,7 +67,7 @@ pub fn rents<N: Exact>(
 ) -> Result<List<Rent<N>>, MoneyStop<N>>
     requires dispatch { length dispatch.now ≡ length market.now.blocks }
     requires duals { ProperDuals market.now (duals_at N.value duals.now) }
-    ensures cause { (price : ℕ → Fraction) → IfErr result (IsStop N.value N.bound market.now (dispatch_of N.value dispatch.now) price (duals_at N.value duals.now)) }
+    ensures cause { (price : ℕ → Fraction) → IfErr result (IsMoneyStop N.value N.bound market.now (dispatch_of N.value dispatch.now) price (duals_at N.value duals.now)) }
     ensures rents { IfOk result (λ rents. map (rent_at N.value) rents ≡ map (rent_of market.now (dispatch_of N.value dispatch.now) (duals_at N.value duals.now)) (named_rows market.now (duals_at N.value duals.now))) }
 {
     let _lines = market.lines();

@@ -8,7 +8,7 @@ ghost use Rattle.market_model.specs.Optimality.{IsOneSided};
 ghost use Rattle.market_model.specs.PutIn.{put_in};
 ghost use Rattle.market_model.specs.Valued.{dual_at, passed_at, rent_at};
 ghost use Rattle.settlement.specs.Paying.{earned_by, earned_terms};
-ghost use Rattle.settlement.specs.Refusals.{IsEarningRefusal, IsRowRefusal};
+ghost use Rattle.settlement.specs.Refusals.{IsEarningRefusal, IsRentRefusal};
 
 use exact_fraction::{Exact, Passed, Sign};
 use limit_rows::{limit_at, row_flow, row_named, row_offset};
@@ -59,7 +59,7 @@ pub fn row_rent<N: Exact>(
     requires one_sided { IsOneSided (dual_at N.value dual.now) }
     requires flows { length flows.now ≡ length market.now.lines }
     ensures rent { IfOk result (λ rent. rent_at N.value rent ≡ earned_by market.now (put_in (map N.value flows.now)) (dual_at N.value dual.now) row) }
-    ensures cause { IfErr result (λ passed. IsRowRefusal market.now (put_in (map N.value flows.now)) (dual_at N.value dual.now) row N.bound (passed_at N.value passed)) }
+    ensures cause { IfErr result (λ passed. IsRentRefusal market.now (put_in (map N.value flows.now)) (dual_at N.value dual.now) row N.bound (passed_at N.value passed)) }
 {
     let flow = row_flow(market, flows, row)?;
     let offset = row_offset(market, row)?;

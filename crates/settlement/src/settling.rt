@@ -12,7 +12,7 @@ ghost use Rattle.market_model.specs.Valued.{duals_at, money_at, passed_at};
 ghost use Rattle.market_model.specs.PutIn.{dispatch_of};
 ghost use Rattle.market_model.specs.RightAnswers.{settlement_at};
 ghost use Rattle.settlement.specs.Paying.{total_at, paid_terms, FitsMoney, IsSupportedAt};
-ghost use Rattle.settlement.specs.Refusals.{IsStop};
+ghost use Rattle.settlement.specs.Refusals.{IsMoneyStop};
 
 use crate::MoneyStop;
 use crate::loads::loads;
@@ -54,7 +54,7 @@ pub fn settle<N: Exact>(
     ensures fits { IfOk result (FitsMoney market.now duals.now) }
     ensures surplus_is_rents { IfOk result (λ money. IsSupportedAt market.now (dispatch_of N.value dispatch.now) (total_at N.value prices.now) (duals_at N.value duals.now) → N.value money.surplus ≡ sum_by (λ rent. N.value rent.rent) money.rents) }
     ensures not_negative { IfOk result (λ money. IsSupportedAt market.now (dispatch_of N.value dispatch.now) (total_at N.value prices.now) (duals_at N.value duals.now) → HasOffsetsWithin market.now (duals_at N.value duals.now) → zero ≤ℚ N.value money.surplus) }
-    ensures cause { IfErr result (IsStop N.value N.bound market.now (dispatch_of N.value dispatch.now) (total_at N.value prices.now) (duals_at N.value duals.now)) }
+    ensures cause { IfErr result (IsMoneyStop N.value N.bound market.now (dispatch_of N.value dispatch.now) (total_at N.value prices.now) (duals_at N.value duals.now)) }
 {
     let _lines = market.lines();
     let units = unit_pays(alloc, market, dispatch, prices)?;

@@ -8,7 +8,7 @@ ghost use Rattle.market_model.specs.PutIn.{dispatch_of};
 ghost use Rattle.market_model.specs.Valued.{passed_at, unit_pay_at};
 ghost use Rattle.market_model.specs.Settlement.{pay_of_unit};
 ghost use Rattle.settlement.specs.Paying.{total_at};
-ghost use Rattle.settlement.specs.Refusals.{IsStop, IsUnitRefusal};
+ghost use Rattle.settlement.specs.Refusals.{IsMoneyStop, IsUnitRefusal};
 
 use crate::MoneyStop;
 use exact_fraction::{Exact, Passed};
@@ -42,7 +42,7 @@ pub fn unit_pays<N: Exact>(
 ) -> Result<List<UnitPay<N>>, MoneyStop<N>>
     requires dispatch { length dispatch.now ≡ length market.now.blocks }
     requires prices { length prices.now ≡ length market.now.buses }
-    ensures cause { (d : DualsOf Fraction) → IfErr result (IsStop N.value N.bound market.now (dispatch_of N.value dispatch.now) (total_at N.value prices.now) d) }
+    ensures cause { (d : DualsOf Fraction) → IfErr result (IsMoneyStop N.value N.bound market.now (dispatch_of N.value dispatch.now) (total_at N.value prices.now) d) }
     ensures pays { IfOk result (λ pays. map (unit_pay_at N.value) pays ≡ map (pay_of_unit market.now (dispatch_of N.value dispatch.now) (total_at N.value prices.now)) (places (length market.now.units))) }
 {
     let mut pays = List::new(alloc);

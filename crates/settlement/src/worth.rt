@@ -4,7 +4,7 @@ ghost use Rattle.std.specs.Prelude.{◌≡◌, length, IfOk, IfErr};
 ghost use Rattle.fraction_theory.specs.Fraction.{whole, neg_ℚ, ◌*ℚ◌};
 ghost use Rattle.exact_fraction.specs.declared.Op.TheVariants as Op;
 ghost use Rattle.market_data.specs.Participants.{IsDatum};
-ghost use Rattle.market_model.specs.Dispatch.{signed};
+ghost use Rattle.market_model.specs.Dispatch.{signed_by_side};
 ghost use Rattle.market_model.specs.NamedSums.{IsRefusal, IsRefusedIn};
 ghost use Rattle.market_model.specs.Optimality.{welfare as welfare_of, welfare_terms};
 ghost use Rattle.market_model.specs.Valued.{passed_at};
@@ -15,7 +15,7 @@ use market_model::{Block, Market, Side, datum};
 
 /// What a MW is worth that is sold or bought at a price.
 fn worth_of_one<N: Exact>(side: Side, price: N) -> N
-    ensures { N.value result ≡ neg_ℚ (signed side (N.value price)) }
+    ensures { N.value result ≡ neg_ℚ (signed_by_side side (N.value price)) }
 {
     match side {
         Side::Sell => price.neg(),
@@ -27,8 +27,8 @@ fn worth_of_one<N: Exact>(side: Side, price: N) -> N
 #[tactic(auto, using(market_data::proofs::Data::datum_read))]
 fn worth<N: Exact>(block: &Block, mw: N) -> Result<N, Passed<N>>
     requires { IsDatum block.now.price }
-    ensures worth { IfOk result (λ worth. N.value worth ≡ neg_ℚ (signed block.now.side (whole block.now.price)) *ℚ N.value mw) }
-    ensures cause { IfErr result (λ passed. IsRefusal Op.Times (neg_ℚ (signed block.now.side (whole block.now.price))) (N.value mw) N.bound (passed_at N.value passed)) }
+    ensures worth { IfOk result (λ worth. N.value worth ≡ neg_ℚ (signed_by_side block.now.side (whole block.now.price)) *ℚ N.value mw) }
+    ensures cause { IfErr result (λ passed. IsRefusal Op.Times (neg_ℚ (signed_by_side block.now.side (whole block.now.price))) (N.value mw) N.bound (passed_at N.value passed)) }
 {
     let value: N = worth_of_one(block.side, datum(block.price));
     value.times(mw)

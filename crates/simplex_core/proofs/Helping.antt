@@ -9,25 +9,25 @@ use Rattle.fraction_theory.proofs.OrderLaws.{<ℚ-≤ℚ}
 use Rattle.linear_dict.specs.Dictionaries.{Dictionary, IsDictionary, system_of, choice_of, note_of}
 use Rattle.linear_dict.specs.Notes.{Noted}
 use Rattle.linear_dict.proofs.SplitLemmas.{other_in}
-use Rattle.simplex_theory.specs.Steps.{signed, abs_ℚ, Helps}
+use Rattle.simplex_theory.specs.Steps.{opposite_if, abs_ℚ, Helps}
 use Rattle.simplex_theory.proofs.Signs.{signed-twice, abs_signed, abs_above}
 use Rattle.simplex_core.specs.States.{state_of}
 
-pub signed_same : (a f : Bool) (e : Fraction) → beq a f ≡ true → e ≡ signed f (signed a e)
+pub signed_same : (a f : Bool) (e : Fraction) → beq a f ≡ true → e ≡ opposite_if f (opposite_if a e)
 signed_same true true e h = sym (signed-twice true e)
 signed_same true false e h = absurd Prim.cc
 signed_same false true e h = absurd Prim.cc
 signed_same false false e h = refl
 
-pub signed_apart : (a f : Bool) (e : Fraction) → beq a f ≡ false → neg_ℚ e ≡ signed f (signed a e)
+pub signed_apart : (a f : Bool) (e : Fraction) → beq a f ≡ false → neg_ℚ e ≡ opposite_if f (opposite_if a e)
 signed_apart true true e h = absurd Prim.cc
 signed_apart true false e h = refl
 signed_apart false true e h = refl
 signed_apart false false e h = absurd Prim.cc
 
 -- a number above 0 that is another one but for signs is its size
-pub size_of_signed : (a f : Bool) (e t : Fraction) → t ≡ signed f (signed a e) → whole (pos 0) <ℚ t → t ≡ abs_ℚ e
-size_of_signed a f e t q h = sym (abs_above t (<ℚ-≤ℚ (whole (pos 0)) t h)) ∙ ap abs_ℚ q ∙ abs_signed f (signed a e) ∙ abs_signed a e
+pub size_of_signed : (a f : Bool) (e t : Fraction) → t ≡ opposite_if f (opposite_if a e) → whole (pos 0) <ℚ t → t ≡ abs_ℚ e
+size_of_signed a f e t q h = sym (abs_above t (<ℚ-≤ℚ (whole (pos 0)) t h)) ∙ ap abs_ℚ q ∙ abs_signed f (opposite_if a e) ∙ abs_signed a e
 
 -- a note that the code reads says what the system, the choice and the state have
 module _ (d : Dictionary) (w : ℕ) (n : Noted) (is : n ≡ note_of d w) where
@@ -58,14 +58,14 @@ module _ (d : Dictionary) (w : ℕ) (n : Noted) (is : n ≡ note_of d w) where
   module _ (v : ℕ) (above : Bool) where
     -- w's entry as the code turns it
     abbrev pub turned_entry : Fraction
-    turned_entry = signed n.at_high (signed above ((choice_of d).entry v w))
+    turned_entry = opposite_if n.at_high (opposite_if above ((choice_of d).entry v w))
 
     pub helps_is : IsDictionary d → Contains d.others w → n.low <ℚ n.high → whole (pos 0) <ℚ turned_entry → Helps (system_of d) (state_of d) v above w
     unfolding state_of
     helps_is h c free towards = record {
       other = other_in d h w c;
       free = subst (λ t. t <ℚ (system_of d).high w) low_is (subst (λ t. n.low <ℚ t) high_is free);
-      towards = subst (λ (f : Bool). whole (pos 0) <ℚ signed f (signed above ((choice_of d).entry v w))) flag_is towards;
+      towards = subst (λ (f : Bool). whole (pos 0) <ℚ opposite_if f (opposite_if above ((choice_of d).entry v w))) flag_is towards;
     }
 
     pub helps_free : Helps (system_of d) (state_of d) v above w → n.low <ℚ n.high
@@ -73,4 +73,4 @@ module _ (d : Dictionary) (w : ℕ) (n : Noted) (is : n ≡ note_of d w) where
 
     pub helps_towards : Helps (system_of d) (state_of d) v above w → whole (pos 0) <ℚ turned_entry
     unfolding state_of
-    helps_towards h = subst (λ (f : Bool). whole (pos 0) <ℚ signed f (signed above ((choice_of d).entry v w))) (sym flag_is) h.towards
+    helps_towards h = subst (λ (f : Bool). whole (pos 0) <ℚ opposite_if f (opposite_if above ((choice_of d).entry v w))) (sym flag_is) h.towards

@@ -14,7 +14,7 @@ use Rattle.linear_system.proofs.ChoiceLaws.{basics_are, others_are}
 use Rattle.linear_dict.specs.Dictionaries.{Dictionary, system_of}
 use Rattle.linear_dict.proofs.NameLemmas.{place_in-within}
 use Rattle.simplex_theory.specs.States.{State, IsWithin, Violates}
-use Rattle.simplex_theory.specs.Steps.{signed, abs_ℚ, Leaves, Helps, Enters, IsStep}
+use Rattle.simplex_theory.specs.Steps.{opposite_if, abs_ℚ, Leaves, Helps, Enters, IsStep}
 use Rattle.simplex_theory.specs.Trails.{trail_length}
 use Rattle.simplex_theory.proofs.Ending.{IsMethod, method_falls}
 use Rattle.simplex_core.specs.States.{state_of, IsReady}
@@ -88,7 +88,7 @@ module _ (s : System) (S : State) where
     ]
 
     helps_or_not : (w : ℕ) → Decision (Helps s S v above w)
-    helps_or_not w = elim (both (named (others s S.choice) w) (both (below (s.low w) (s.high w)) (below (whole (pos 0)) (signed (S.choice.high w) (signed above (S.choice.entry v w)))))) [
+    helps_or_not w = elim (both (named (others s S.choice) w) (both (below (s.low w) (s.high w)) (below (whole (pos 0)) (opposite_if (S.choice.high w) (opposite_if above (S.choice.entry v w)))))) [
       | inl p ↦ inl (record { other = p.0; free = p.1.0; towards = p.1.1 })
       | inr n ↦ inr (λ p. n (p.other, (p.free, p.towards)))
     ]

@@ -8,7 +8,7 @@ use Rattle.linear_system.specs.Choices.{Choice, basics, value}
 use Rattle.linear_system.proofs.ChoiceLaws.{basics_are}
 use Rattle.linear_dict.specs.Dictionaries.{Dictionary, system_of, choice_of}
 use Rattle.simplex_theory.specs.States.{IsWithin, IsSolved, IsOutOfReach, Violates}
-use Rattle.simplex_theory.specs.Steps.{Leaves, Helps, signed}
+use Rattle.simplex_theory.specs.Steps.{Leaves, Helps, opposite_if}
 use Rattle.simplex_theory.proofs.PosedNumbers.{posed_value, posed_reduced}
 use Rattle.simplex_theory.proofs.Signs.{neg_at_least, not_above}
 use Rattle.simplex_theory.proofs.Outcomes.{solved, out_of_reach, no_point}
@@ -68,10 +68,10 @@ stuck_at d ready v above leaves idle =
     record {
       basic = leaves.basic;
       violates = violates_by_value s (state_of d).value (value s h) above v (posed_value s (state_of d) ready.posed v (basics_are s h v leaves.basic).0) leaves.violates;
-      at_low = λ w c free flag. not_above (signed above (h.entry v w))
-          (λ l. idle w (record { other = c; free = free; towards = subst (λ (f : Bool). whole (pos 0) <ℚ signed f (signed above (h.entry v w))) (sym flag) l }));
-      at_high = λ w c free flag. neg_at_least (signed above (h.entry v w)) (not_above (neg_ℚ (signed above (h.entry v w)))
-          (λ l. idle w (record { other = c; free = free; towards = subst (λ (f : Bool). whole (pos 0) <ℚ signed f (signed above (h.entry v w))) (sym flag) l })));
+      at_low = λ w c free flag. not_above (opposite_if above (h.entry v w))
+          (λ l. idle w (record { other = c; free = free; towards = subst (λ (f : Bool). whole (pos 0) <ℚ opposite_if f (opposite_if above (h.entry v w))) (sym flag) l }));
+      at_high = λ w c free flag. neg_at_least (opposite_if above (h.entry v w)) (not_above (neg_ℚ (opposite_if above (h.entry v w)))
+          (λ l. idle w (record { other = c; free = free; towards = subst (λ (f : Bool). whole (pos 0) <ℚ opposite_if f (opposite_if above (h.entry v w))) (sym flag) l })));
     }
 
 pub empty_at : (d : Dictionary) → IsReady d → (v row : ℕ) (above : Bool) → Leaves (system_of d) (state_of d) v above → ((w : ℕ) → ¬ (Helps (system_of d) (state_of d) v above w))

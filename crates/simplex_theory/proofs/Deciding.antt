@@ -10,7 +10,7 @@ use Rattle.fraction_theory.proofs.ListSums.{Contains-head, Contains-cons, Contai
 use Rattle.linear_system.specs.Systems.{System, IsSystem}
 use Rattle.linear_system.specs.Choices.{Choice, basics, others}
 use Rattle.simplex_theory.specs.States.{State, IsWithin, Violates}
-use Rattle.simplex_theory.specs.Steps.{signed, abs_ℚ, Leaves, Helps, Enters}
+use Rattle.simplex_theory.specs.Steps.{opposite_if, abs_ℚ, Leaves, Helps, Enters}
 use Rattle.simplex_theory.proofs.LeastRatio.{IsLeast, least_alone, least_kept, least_replaced, help_above, least_enters}
 
 abbrev Ascending : List ℕ → Type 0
@@ -82,8 +82,8 @@ module _ (s : System) (S : State) where
     helps_or_not : (w : ℕ) → Contains (others s S.choice) w → Helps s S v above w ⊎ ¬ (Helps s S v above w)
     helps_or_not w c = elim (≤ℚ-or-<ℚ (s.high w) (s.low w)) [
       | inl closed ↦ inr (λ h. <ℚ-not-≤ℚ (s.low w) (s.high w) h.free closed)
-      | inr free ↦ elim (≤ℚ-or-<ℚ (signed (S.choice.high w) (signed above (S.choice.entry v w))) (whole (pos 0))) [
-        | inl away ↦ inr (λ h. <ℚ-not-≤ℚ (whole (pos 0)) (signed (S.choice.high w) (signed above (S.choice.entry v w))) h.towards away)
+      | inr free ↦ elim (≤ℚ-or-<ℚ (opposite_if (S.choice.high w) (opposite_if above (S.choice.entry v w))) (whole (pos 0))) [
+        | inl away ↦ inr (λ h. <ℚ-not-≤ℚ (whole (pos 0)) (opposite_if (S.choice.high w) (opposite_if above (S.choice.entry v w))) h.towards away)
         | inr towards ↦ inl (record { other = c; free = free; towards = towards })
       ]
     ]

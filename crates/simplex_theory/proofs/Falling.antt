@@ -13,7 +13,7 @@ use Rattle.linear_system.specs.Systems.{System, objective}
 use Rattle.linear_system.specs.Choices.{others, OneExchange, at_bound}
 use Rattle.linear_system.proofs.ChoiceLaws.{others_are, is_other, is_basic, others_fix_all}
 use Rattle.simplex_theory.specs.States.{State, IsPosed, Violates}
-use Rattle.simplex_theory.specs.Steps.{signed, IsStep, violated_bound, displacement}
+use Rattle.simplex_theory.specs.Steps.{opposite_if, IsStep, violated_bound, displacement}
 use Rattle.simplex_theory.proofs.Signs.{signed-both, signed-times, signed-nil}
 use Rattle.simplex_theory.proofs.NameSums.{sum_by-below}
 use Rattle.simplex_theory.proofs.Stretches.{by_answer}
@@ -30,7 +30,7 @@ above_difference : (x y : Fraction) → x <ℚ y → whole (pos 0) <ℚ (y -ℚ 
 above_difference x y l = not-≤ℚ (y -ℚ x) (whole (pos 0)) (λ h. <ℚ-not-≤ℚ x y l (by_le1 (x ∷ y ∷ []) (at 1) (at 0) pone (at 1 ⊕ pneg (at 0)) pnil NonNeg-one h refl))
 
 -- how far v moves to the bound that it violates, by the side
-displacement_sign : (s : System) (S : State) (v : ℕ) (above : Bool) → Violates s S.value above v → whole (pos 0) <ℚ signed above (displacement s S v above)
+displacement_sign : (s : System) (S : State) (v : ℕ) (above : Bool) → Violates s S.value above v → whole (pos 0) <ℚ opposite_if above (displacement s S v above)
 unfolding displacement violated_bound
 displacement_sign s S v true l = subst (λ t. whole (pos 0) <ℚ t) (by_ring ring_ℚ (S.value v ∷ s.high v ∷ []) (at 0 ⊕ pneg (at 1)) (pneg (at 1 ⊕ pneg (at 0))) refl) (above_difference (s.high v) (S.value v) l)
 displacement_sign s S v false l = above_difference (S.value v) (s.low v) l
@@ -38,7 +38,7 @@ displacement_sign s S v false l = above_difference (S.value v) (s.low v) l
 module _ (s : System) (S T : State) (v k : ℕ) (above : Bool) (posed : IsPosed s S) (step : IsStep s S T v k above) where
   -- how far the entering variable moves, by the bound at which it stood
   far : Fraction
-  far = signed (S.choice.high k) (T.choice.entry k v *ℚ displacement s S v above)
+  far = opposite_if (S.choice.high k) (T.choice.entry k v *ℚ displacement s S v above)
 
   far_above : whole (pos 0) <ℚ far
   unfolding far help
@@ -46,12 +46,12 @@ module _ (s : System) (S T : State) (v k : ℕ) (above : Bool) (posed : IsPosed 
       let i = T.choice.entry k v in
       let p = S.choice.entry v k in
       let w = displacement s S v above in
-      other_factor (help s S T v k above posed step) far (signed above w) step.enters.helps.towards
-      (signed-both (S.choice.high k) (signed above p) (i *ℚ w) ∙ signed-times above p (i *ℚ w)
-      ∙ ap (signed above) (by_ring1 ring_ℚ (p ∷ i ∷ w ∷ []) (at 0 ⊗ (at 1 ⊗ at 2)) (at 2) (at 2) (at 0 ⊗ at 1) pone (inverse s S T v k above posed step) refl))
+      other_factor (help s S T v k above posed step) far (opposite_if above w) step.enters.helps.towards
+      (signed-both (S.choice.high k) (opposite_if above p) (i *ℚ w) ∙ signed-times above p (i *ℚ w)
+      ∙ ap (opposite_if above) (by_ring1 ring_ℚ (p ∷ i ∷ w ∷ []) (at 0 ⊗ (at 1 ⊗ at 2)) (at 2) (at 2) (at 0 ⊗ at 1) pone (inverse s S T v k above posed step) refl))
       (displacement_sign s S v above step.leaves.violates)
 
-  entering_term : S.reduced k *ℚ T.value k ≡ S.reduced k *ℚ S.value k +ℚ far *ℚ signed (S.choice.high k) (S.reduced k)
+  entering_term : S.reduced k *ℚ T.value k ≡ S.reduced k *ℚ S.value k +ℚ far *ℚ opposite_if (S.choice.high k) (S.reduced k)
   unfolding far
   entering_term =
       let d = S.reduced k in
@@ -94,7 +94,7 @@ module _ (s : System) (S T : State) (v k : ℕ) (above : Bool) (posed : IsPosed 
       x = exchange s S T v k above posed step
 
       d : Fraction
-      d = signed (S.choice.high k) (S.reduced k)
+      d = opposite_if (S.choice.high k) (S.reduced k)
 
       f : ℕ → Fraction
       f w = S.reduced w *ℚ T.value w

@@ -7,7 +7,7 @@ use Rattle.fraction_theory.proofs.Ring.{at, ◌⊗◌}
 use Rattle.fraction_theory.proofs.OrderLaws.{by_le2, *ℚ-≤ℚ_cancel, ≤ℚ_of_same, ≤ℚ-or-<ℚ, <ℚ-≤ℚ, <ℚ_irrefl, <ℚ-not-≤ℚ, not-≤ℚ, NonNeg_from}
 use Rattle.linear_system.specs.Systems.{System}
 use Rattle.simplex_theory.specs.States.{State}
-use Rattle.simplex_theory.specs.Steps.{signed, abs_ℚ, Helps, Enters}
+use Rattle.simplex_theory.specs.Steps.{opposite_if, abs_ℚ, Helps, Enters}
 use Rattle.simplex_theory.proofs.Signs.{abs_signed, abs_above}
 
 -- Of the candidates k has the least d over e, compared by products, and of those that tie with it the least name.
@@ -71,9 +71,9 @@ module _ (s : System) (S : State) (v : ℕ) (above : Bool) where
   -- what helps has an entry that is not 0
   pub help_above : (w : ℕ) → Helps s S v above w → whole (pos 0) <ℚ abs_ℚ (S.choice.entry v w)
   help_above w helps =
-      let e = signed (S.choice.high w) (signed above (S.choice.entry v w)) in
+      let e = opposite_if (S.choice.high w) (opposite_if above (S.choice.entry v w)) in
       subst (λ t. whole (pos 0) <ℚ t)
-      (sym (abs_above e (<ℚ-≤ℚ (whole (pos 0)) e helps.towards)) ∙ abs_signed (S.choice.high w) (signed above (S.choice.entry v w)) ∙ abs_signed above (S.choice.entry v w))
+      (sym (abs_above e (<ℚ-≤ℚ (whole (pos 0)) e helps.towards)) ∙ abs_signed (S.choice.high w) (opposite_if above (S.choice.entry v w)) ∙ abs_signed above (S.choice.entry v w))
       helps.towards
 
   -- the search's answer enters

@@ -9,7 +9,7 @@ use Rattle.fraction_theory.proofs.Ring.{by_ring, at, pnil, pneg, ◌⊕◌, ◌�
 use Rattle.fraction_theory.proofs.FieldLaws.{ring_ℚ}
 use Rattle.fraction_theory.proofs.OrderLaws.{≤ℚ_refl, +ℚ-≤ℚ, +ℚ-<ℚ}
 use Rattle.fraction_theory.proofs.ListSums.{Contains-head, Contains-cons, Contains-cases, Distinct, except, put_at-here, put_at-elsewhere, same_or_not, sum_by-split, sum_by-members}
-use Rattle.simplex_theory.specs.Steps.{signed}
+use Rattle.simplex_theory.specs.Steps.{opposite_if}
 
 -- a sum of terms none of which is greater
 pub sum_by-at_most : (f g : ℕ → Fraction) (xs : List ℕ) → ((w : ℕ) → Contains xs w → f w ≤ℚ g w) → sum_by f xs ≤ℚ sum_by g xs
@@ -40,7 +40,7 @@ sum_by-change f g a xs d c h =
     ∙ ap (λ t. t +ℚ f a) (sym (sum_by-split g a xs d c))
 
 -- the sign of a sum of products
-pub signed-sum : (a : Bool) (e y : ℕ → Fraction) (xs : List ℕ) → signed a (sum_by (λ w. e w *ℚ y w) xs) ≡ sum_by (λ w. signed a (e w) *ℚ y w) xs
+pub signed-sum : (a : Bool) (e y : ℕ → Fraction) (xs : List ℕ) → opposite_if a (sum_by (λ w. e w *ℚ y w) xs) ≡ sum_by (λ w. opposite_if a (e w) *ℚ y w) xs
 signed-sum true e y [] = by_ring ring_ℚ [] (pneg pnil) pnil refl
 signed-sum true e y (x ∷ xs) =
     by_ring ring_ℚ (e x ∷ y x ∷ sum_by (λ w. e w *ℚ y w) xs ∷ []) (pneg (at 0 ⊗ at 1 ⊕ at 2)) (pneg (at 0) ⊗ at 1 ⊕ pneg (at 2)) refl

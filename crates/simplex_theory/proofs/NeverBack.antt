@@ -14,7 +14,7 @@ use Rattle.linear_system.specs.Systems.{System, objective}
 use Rattle.linear_system.specs.Choices.{others, at_bound}
 use Rattle.linear_system.proofs.ChoiceLaws.{others_are, is_other, is_basic}
 use Rattle.simplex_theory.specs.States.{State, IsPosed, IsWithin, Violates}
-use Rattle.simplex_theory.specs.Steps.{signed, abs_ℚ, IsStep}
+use Rattle.simplex_theory.specs.Steps.{opposite_if, abs_ℚ, IsStep}
 use Rattle.simplex_theory.proofs.Signs.{greatest_at_bound, lower_beyond_bound, abs_nil, neg_below}
 use Rattle.simplex_theory.proofs.NameSums.{sum_by-below, signed-sum}
 use Rattle.simplex_theory.proofs.Stretches.{Stretch, Fickle, fickle_or_not, At, still, Left, left_at, leaving_enters, greatest, by_answer, two_answers}
@@ -110,7 +110,7 @@ module _ (s : System) (p : ℕ → State) (n : ℕ) (leave enter : ℕ → ℕ) 
 
   -- the row of what leaves at step j, turned by the side on which it violates its bounds
   turned_row : ℕ → ℕ → Fraction
-  turned_row j w = signed (above j) ((p j).choice.entry (leave j) w)
+  turned_row j w = opposite_if (above j) ((p j).choice.entry (leave j) w)
 
   -- a variable that enters in the stretch, before what enters at step j and what leaves at step i: it doesn't help at step j
   small_term : (i j w : ℕ) → i < n → j < n → Contains (others s (p j).choice) w → Fickle stretch w → w < leave i → w < enter j → (turned_row j w *ℚ (p i).value w) ≤ℚ (turned_row j w *ℚ (p j).value w)
@@ -124,7 +124,7 @@ module _ (s : System) (p : ℕ → State) (n : ℕ) (leave enter : ℕ → ℕ) 
       ap (λ t. abs_ℚ t *ℚ abs_ℚ (S.choice.entry v w)) (flat j hj) ∙ ap (λ t. t *ℚ abs_ℚ (S.choice.entry v w)) abs_nil
       ∙ by_ring ring_ℚ (abs_ℚ (S.choice.entry v w) ∷ abs_ℚ (S.choice.entry v k) ∷ []) (pnil ⊗ at 0) (pnil ⊗ at 1) refl
       ∙ ap (λ t. t *ℚ abs_ℚ (S.choice.entry v k)) (sym abs_nil) ∙ ap (λ t. abs_ℚ t *ℚ abs_ℚ (S.choice.entry v k)) (sym (fickle_nil w j a (Prim.omega arith))) in
-      let idle : ¬ (whole (pos 0) <ℚ signed (S.choice.high w) (turned_row j w)) = λ towards.
+      let idle : ¬ (whole (pos 0) <ℚ opposite_if (S.choice.high w) (turned_row j w)) = λ towards.
       absurd (Prim.omega (arith, (step j hj).enters.least w (record { other = c; free = fickle_free w a; towards = towards }) tie)) in
       subst (λ t. (turned_row j w *ℚ (p i).value w) ≤ℚ (turned_row j w *ℚ t)) (sym ((posed j (Prim.omega arith)).stands w c))
       (greatest_at_bound (S.choice.high w) (turned_row j w) (s.low w) (s.high w) ((p i).value w) idle within.low within.high)
@@ -146,13 +146,13 @@ module _ (s : System) (p : ℕ → State) (n : ℕ) (leave enter : ℕ → ℕ) 
       (lower_beyond_bound (S.choice.high z) (turned_row j z) (s.low z) (s.high z) ((p i).value z) helps.towards by.0 by.1)
 
   -- what leaves at step j, at the values of step i and of step j, by its turned row
-  row_at : (i j : ℕ) (hi : i ≤ n) (hj : j < n) → signed (above j) ((p i).value (leave j)) ≡ sum_by (λ w. turned_row j w *ℚ (p i).value w) (others s (p j).choice)
+  row_at : (i j : ℕ) (hi : i ≤ n) (hj : j < n) → opposite_if (above j) ((p i).value (leave j)) ≡ sum_by (λ w. turned_row j w *ℚ (p i).value w) (others s (p j).choice)
   unfolding turned_row
   row_at i j hi hj =
-      ap (signed (above j)) (((posed j (Prim.omega arith)).choice.to_table (p i).value (posed i hi).meets).basic (leave j) (step j hj).leaves.basic)
+      ap (opposite_if (above j)) (((posed j (Prim.omega arith)).choice.to_table (p i).value (posed i hi).meets).basic (leave j) (step j hj).leaves.basic)
       ∙ signed-sum (above j) ((p j).choice.entry (leave j)) (p i).value (others s (p j).choice)
 
-  outside_no_further : (a : Bool) (v : ℕ) (x y : ℕ → Fraction) → signed a (x v) <ℚ signed a (y v) → Violates s y a v → IsWithin s x v → ⊥
+  outside_no_further : (a : Bool) (v : ℕ) (x y : ℕ → Fraction) → opposite_if a (x v) <ℚ opposite_if a (y v) → Violates s y a v → IsWithin s x v → ⊥
   outside_no_further true v x y l past within = <ℚ-not-≤ℚ (s.high v) (x v) (<ℚ_trans (s.high v) (y v) (x v) past (neg_below (x v) (y v) l)) within.high
   outside_no_further false v x y l past within = <ℚ-not-≤ℚ (x v) (s.low v) (<ℚ_trans (x v) (y v) (s.low v) l past) within.low
 
@@ -187,6 +187,6 @@ module _ (s : System) (p : ℕ → State) (n : ℕ) (leave enter : ℕ → ℕ) 
       let same : (p i).value w ≡ S.value w = same_stand s (p i) S (posed i (Prim.omega arith)) (posed j (Prim.omega arith)) w (is_other s (p i).choice w a.0 there.0) c there.1 in
       ≤ℚ_of_same (turned_row j w *ℚ (p i).value w) (turned_row j w *ℚ S.value w) (ap (λ t. turned_row j w *ℚ t) same))
       (fickle_or_not stretch w) in
-      let lower : signed (above j) ((p i).value v) <ℚ signed (above j) (S.value v) = subst₂ ◌<ℚ◌ (sym (row_at i j (Prim.omega arith) hj)) (sym (row_at j j (Prim.omega arith) hj))
+      let lower : opposite_if (above j) ((p i).value v) <ℚ opposite_if (above j) (S.value v) = subst₂ ◌<ℚ◌ (sym (row_at i j (Prim.omega arith) hj)) (sym (row_at j j (Prim.omega arith) hj))
       (sum_by-below (λ w. turned_row j w *ℚ (p i).value w) (λ w. turned_row j w *ℚ S.value w) (others s S.choice) z (step j hj).enters.helps.other each (great_term i j hi hj leaves flag)) in
       outside_no_further (above j) v (p i).value S.value lower (step j hj).leaves.violates (inside i v hi (step j hj).exchanged.exchange.leaving (subst (λ (t : ℕ). v < t) (sym leaves) smaller))

@@ -10,7 +10,7 @@ use Rattle.linear_system.specs.Systems.{System, MeetsRows, InBounds, objective}
 use Rattle.linear_system.specs.Choices.{basics, others, at_bound}
 use Rattle.linear_system.proofs.ChoiceLaws.{others_are, is_other, basics_are, is_basic}
 use Rattle.simplex_theory.specs.States.{State, IsPosed, IsWithin, Violates, IsSolved, HasNoPoint, IsOutOfReach}
-use Rattle.simplex_theory.specs.Steps.{signed, Helps}
+use Rattle.simplex_theory.specs.Steps.{opposite_if, Helps}
 use Rattle.simplex_theory.proofs.Signs.{greatest_at_bound, neg_at}
 use Rattle.simplex_theory.proofs.NameSums.{sum_by-at_most, signed-sum}
 use Rattle.simplex_theory.proofs.Stretches.{by_answer}
@@ -19,7 +19,7 @@ use Rattle.simplex_theory.proofs.Falling.{stands_high, stands_low}
 
 module _ (s : System) (S : State) (posed : IsPosed s S) where
   -- x times an other variable within its bounds is greatest where the variable stands, if that is so of x where the bounds differ
-  greatest_where_it_stands : (x : Fraction) (u : ℕ → Fraction) (w : ℕ) → Contains (others s S.choice) w → (s.low w <ℚ s.high w → ¬ (whole (pos 0) <ℚ signed (S.choice.high w) x)) → IsWithin s u w
+  greatest_where_it_stands : (x : Fraction) (u : ℕ → Fraction) (w : ℕ) → Contains (others s S.choice) w → (s.low w <ℚ s.high w → ¬ (whole (pos 0) <ℚ opposite_if (S.choice.high w) x)) → IsWithin s u w
       → (x *ℚ u w) ≤ℚ (x *ℚ S.value w)
   unfolding at_bound
   greatest_where_it_stands x u w c idle within = elim (≤ℚ-or-<ℚ (s.high w) (s.low w)) [
@@ -32,8 +32,8 @@ module _ (s : System) (S : State) (posed : IsPosed s S) where
         (greatest_at_bound (S.choice.high w) x (s.low w) (s.high w) (u w) (idle free) within.low within.high)
   ]
 
-  price_idle : (w : ℕ) → Contains (others s S.choice) w → s.low w <ℚ s.high w → ¬ (whole (pos 0) <ℚ signed (S.choice.high w) (S.reduced w))
-  price_idle w c free l = <ℚ-not-≤ℚ (whole (pos 0)) (signed (S.choice.high w) (S.reduced w)) l (price_sign s S posed w c free)
+  price_idle : (w : ℕ) → Contains (others s S.choice) w → s.low w <ℚ s.high w → ¬ (whole (pos 0) <ℚ opposite_if (S.choice.high w) (S.reduced w))
+  price_idle w c free l = <ℚ-not-≤ℚ (whole (pos 0)) (opposite_if (S.choice.high w) (S.reduced w)) l (price_sign s S posed w c free)
 
   within_of : (u : ℕ → Fraction) → InBounds s u → (w : ℕ) → Contains s.variables w → IsWithin s u w
   within_of u b w c = record { low = b.low w c; high = b.high w c }
@@ -86,18 +86,18 @@ module _ (s : System) (S : State) (posed : IsPosed s S) where
 
   -- no other variable helps v: no values of the others bring it back within its bounds
   module _ (v : ℕ) (above : Bool) (basic : Contains (basics s S.choice) v) (past : Violates s S.value above v) (idle : (w : ℕ) → ¬ (Helps s S v above w)) where
-    no_nearer : (u : ℕ → Fraction) → ((w : ℕ) → Contains (others s S.choice) w → IsWithin s u w) → u v ≡ sum_by (λ w. S.choice.entry v w *ℚ u w) (others s S.choice) → signed above (u v) ≤ℚ signed above (S.value v)
+    no_nearer : (u : ℕ → Fraction) → ((w : ℕ) → Contains (others s S.choice) w → IsWithin s u w) → u v ≡ sum_by (λ w. S.choice.entry v w *ℚ u w) (others s S.choice) → opposite_if above (u v) ≤ℚ opposite_if above (S.value v)
     no_nearer u within e = subst₂ ◌≤ℚ◌
-        (sym (ap (signed above) e ∙ signed-sum above (S.choice.entry v) u (others s S.choice)))
-        (sym (ap (signed above) ((posed.choice.to_table S.value posed.meets).basic v basic) ∙ signed-sum above (S.choice.entry v) S.value (others s S.choice)))
-        (sum_by-at_most (λ w. signed above (S.choice.entry v w) *ℚ u w) (λ w. signed above (S.choice.entry v w) *ℚ S.value w) (others s S.choice)
-        (λ w c. greatest_where_it_stands (signed above (S.choice.entry v w)) u w c
+        (sym (ap (opposite_if above) e ∙ signed-sum above (S.choice.entry v) u (others s S.choice)))
+        (sym (ap (opposite_if above) ((posed.choice.to_table S.value posed.meets).basic v basic) ∙ signed-sum above (S.choice.entry v) S.value (others s S.choice)))
+        (sum_by-at_most (λ w. opposite_if above (S.choice.entry v w) *ℚ u w) (λ w. opposite_if above (S.choice.entry v w) *ℚ S.value w) (others s S.choice)
+        (λ w c. greatest_where_it_stands (opposite_if above (S.choice.entry v w)) u w c
         (λ free towards. idle w (record { other = c; free = free; towards = towards })) (within w c)))
 
     pub out_of_reach : IsOutOfReach s S.choice v
     out_of_reach = record { basic = basic; apart = λ u within e w. still_past above u (no_nearer u within e) past w }
       where
-        still_past : (a : Bool) (u : ℕ → Fraction) → signed a (u v) ≤ℚ signed a (S.value v) → Violates s S.value a v → IsWithin s u v → ⊥
+        still_past : (a : Bool) (u : ℕ → Fraction) → opposite_if a (u v) ≤ℚ opposite_if a (S.value v) → Violates s S.value a v → IsWithin s u v → ⊥
         still_past true u l p w = <ℚ-not-≤ℚ (s.high v) (u v) (<ℚ-≤ℚ_trans (s.high v) (S.value v) (u v) p (neg_at (u v) (S.value v) l)) w.high
         still_past false u l p w = <ℚ-not-≤ℚ (u v) (s.low v) (≤ℚ-<ℚ_trans (u v) (S.value v) (s.low v) l p) w.low
 

@@ -15,7 +15,7 @@ use Rattle.linear_system.specs.Systems.{System, MeetsRows, objective}
 use Rattle.linear_system.specs.Choices.{basics, others, OneExchange, at_bound}
 use Rattle.linear_system.proofs.ChoiceLaws.{others_are, is_other, is_basic, others_distinct}
 use Rattle.simplex_theory.specs.States.{State, IsPosed}
-use Rattle.simplex_theory.specs.Steps.{signed, abs_ℚ, Helps, IsStep, violated_bound, displacement}
+use Rattle.simplex_theory.specs.Steps.{opposite_if, abs_ℚ, Helps, IsStep, violated_bound, displacement}
 use Rattle.simplex_theory.proofs.Signs.{nonpositive, neg_at_most, neg_at_least, signed-both, times-signed, signed-minus, abs_signed, abs_above, abs_below}
 use Rattle.simplex_theory.proofs.NameSums.{sum_by-change}
 use Rattle.simplex_theory.proofs.Stretches.{by_answer}
@@ -30,10 +30,10 @@ ratio_keeps t x y d hx ht hd ratio = elim (≤ℚ-or-<ℚ y (whole (pos 0))) [
 ]
 
 -- An other variable's reduced price, by the bound at which it stands, is at most 0.
-pub price_sign : (s : System) (S : State) → IsPosed s S → (w : ℕ) → Contains (others s S.choice) w → s.low w <ℚ s.high w → signed (S.choice.high w) (S.reduced w) ≤ℚ whole (pos 0)
+pub price_sign : (s : System) (S : State) → IsPosed s S → (w : ℕ) → Contains (others s S.choice) w → s.low w <ℚ s.high w → opposite_if (S.choice.high w) (S.reduced w) ≤ℚ whole (pos 0)
 price_sign s S posed w c free = by_answer (S.choice.high w)
-    (λ e. subst (λ (f : Bool). signed f (S.reduced w) ≤ℚ whole (pos 0)) (sym e) (neg_at_most (S.reduced w) (posed.high_price w c free e)))
-    (λ e. subst (λ (f : Bool). signed f (S.reduced w) ≤ℚ whole (pos 0)) (sym e) (posed.low_price w c free e))
+    (λ e. subst (λ (f : Bool). opposite_if f (S.reduced w) ≤ℚ whole (pos 0)) (sym e) (neg_at_most (S.reduced w) (posed.high_price w c free e)))
+    (λ e. subst (λ (f : Bool). opposite_if f (S.reduced w) ≤ℚ whole (pos 0)) (sym e) (posed.low_price w c free e))
 
 module _ (s : System) (S T : State) (v k : ℕ) (above : Bool) (posed : IsPosed s S) (step : IsStep s S T v k above) where
   pub exchange : OneExchange s S.choice T.choice v k
@@ -111,20 +111,20 @@ module _ (s : System) (S T : State) (v k : ℕ) (above : Bool) (posed : IsPosed 
 
   -- how much a reduced price rises against the row of v, turned where v is above its bounds
   rise : Fraction
-  rise = signed above (S.reduced k *ℚ T.choice.entry k v)
+  rise = opposite_if above (S.reduced k *ℚ T.choice.entry k v)
 
   -- the entering variable's entry, by its bound and the side of v
   unfoldable pub help : Fraction
-  help = signed (S.choice.high k) (signed above (S.choice.entry v k))
+  help = opposite_if (S.choice.high k) (opposite_if above (S.choice.entry v k))
 
-  rise_by_help : rise *ℚ help ≡ signed (S.choice.high k) (S.reduced k)
+  rise_by_help : rise *ℚ help ≡ opposite_if (S.choice.high k) (S.reduced k)
   unfolding rise help
   rise_by_help =
       let d = S.reduced k in
       let i = T.choice.entry k v in
       let p = S.choice.entry v k in
-      times-signed (S.choice.high k) (signed above (d *ℚ i)) (signed above p)
-      ∙ ap (signed (S.choice.high k)) (signed-both above (d *ℚ i) p ∙ by_ring1 ring_ℚ (d ∷ i ∷ p ∷ []) (at 0 ⊗ at 1 ⊗ at 2) (at 0) (at 0) (at 2 ⊗ at 1) pone inverse refl)
+      times-signed (S.choice.high k) (opposite_if above (d *ℚ i)) (opposite_if above p)
+      ∙ ap (opposite_if (S.choice.high k)) (signed-both above (d *ℚ i) p ∙ by_ring1 ring_ℚ (d ∷ i ∷ p ∷ []) (at 0 ⊗ at 1 ⊗ at 2) (at 0) (at 0) (at 2 ⊗ at 1) pone inverse refl)
 
   rise_sign : rise ≤ℚ whole (pos 0)
   unfolding help
@@ -133,36 +133,36 @@ module _ (s : System) (S T : State) (v k : ℕ) (above : Bool) (posed : IsPosed 
       (subst₂ ◌≤ℚ◌ (sym rise_by_help ∙ ring_ℚ.times_comm rise help) (by_ring ring_ℚ (help ∷ []) pnil (at 0 ⊗ pnil) refl)
       (price_sign s S posed k step.enters.helps.other step.enters.helps.free))
 
-  leaving_sign : signed (T.choice.high v) (T.reduced v) ≤ℚ whole (pos 0)
+  leaving_sign : opposite_if (T.choice.high v) (T.reduced v) ≤ℚ whole (pos 0)
   unfolding rise
   leaving_sign =
       let price : T.reduced v ≡ S.reduced k *ℚ T.choice.entry k v =
       step.moved.priced v (leaving_other s S.choice T.choice v k exchange)
       ∙ ap (λ t. t +ℚ S.reduced k *ℚ T.choice.entry k v) (posed.unpriced v (leaving_basic s S.choice T.choice v k exchange))
       ∙ by_ring ring_ℚ (S.reduced k ∷ T.choice.entry k v ∷ []) (pnil ⊕ at 0 ⊗ at 1) (at 0 ⊗ at 1) refl in
-      subst (λ (f : Bool). signed f (T.reduced v) ≤ℚ whole (pos 0)) (sym step.exchanged.flag) (subst (λ t. signed above t ≤ℚ whole (pos 0)) (sym price) rise_sign)
+      subst (λ (f : Bool). opposite_if f (T.reduced v) ≤ℚ whole (pos 0)) (sym step.exchanged.flag) (subst (λ t. opposite_if above t ≤ℚ whole (pos 0)) (sym price) rise_sign)
 
   -- the ratio test, for a variable that helps
-  ratio_of : (w : ℕ) → Helps s S v above w → (neg_ℚ (rise *ℚ help) *ℚ signed (S.choice.high w) (signed above (S.choice.entry v w))) ≤ℚ (neg_ℚ (signed (S.choice.high w) (S.reduced w)) *ℚ help)
+  ratio_of : (w : ℕ) → Helps s S v above w → (neg_ℚ (rise *ℚ help) *ℚ opposite_if (S.choice.high w) (opposite_if above (S.choice.entry v w))) ≤ℚ (neg_ℚ (opposite_if (S.choice.high w) (S.reduced w)) *ℚ help)
   unfolding help
   ratio_of w helps =
       let f = S.choice.high w in
       let g = S.choice.high k in
-      let e = signed f (signed above (S.choice.entry v w)) in
-      let kept : abs_ℚ (S.choice.entry v w) ≡ e = sym (abs_signed above (S.choice.entry v w)) ∙ sym (abs_signed f (signed above (S.choice.entry v w))) ∙ abs_above e (<ℚ-≤ℚ (whole (pos 0)) e helps.towards) in
-      let kept_k : abs_ℚ (S.choice.entry v k) ≡ help = sym (abs_signed above (S.choice.entry v k)) ∙ sym (abs_signed g (signed above (S.choice.entry v k))) ∙ abs_above help (<ℚ-≤ℚ (whole (pos 0)) help step.enters.helps.towards) in
-      let price : abs_ℚ (S.reduced w) ≡ neg_ℚ (signed f (S.reduced w)) = sym (abs_signed f (S.reduced w)) ∙ abs_below (signed f (S.reduced w)) (price_sign s S posed w helps.other helps.free) in
-      let price_k : abs_ℚ (S.reduced k) ≡ neg_ℚ (rise *ℚ help) = sym (abs_signed g (S.reduced k)) ∙ abs_below (signed g (S.reduced k)) (price_sign s S posed k step.enters.helps.other step.enters.helps.free) ∙ ap neg_ℚ (sym rise_by_help) in
+      let e = opposite_if f (opposite_if above (S.choice.entry v w)) in
+      let kept : abs_ℚ (S.choice.entry v w) ≡ e = sym (abs_signed above (S.choice.entry v w)) ∙ sym (abs_signed f (opposite_if above (S.choice.entry v w))) ∙ abs_above e (<ℚ-≤ℚ (whole (pos 0)) e helps.towards) in
+      let kept_k : abs_ℚ (S.choice.entry v k) ≡ help = sym (abs_signed above (S.choice.entry v k)) ∙ sym (abs_signed g (opposite_if above (S.choice.entry v k))) ∙ abs_above help (<ℚ-≤ℚ (whole (pos 0)) help step.enters.helps.towards) in
+      let price : abs_ℚ (S.reduced w) ≡ neg_ℚ (opposite_if f (S.reduced w)) = sym (abs_signed f (S.reduced w)) ∙ abs_below (opposite_if f (S.reduced w)) (price_sign s S posed w helps.other helps.free) in
+      let price_k : abs_ℚ (S.reduced k) ≡ neg_ℚ (rise *ℚ help) = sym (abs_signed g (S.reduced k)) ∙ abs_below (opposite_if g (S.reduced k)) (price_sign s S posed k step.enters.helps.other step.enters.helps.free) ∙ ap neg_ℚ (sym rise_by_help) in
       subst₂ ◌≤ℚ◌ (ap₂ ◌*ℚ◌ price_k kept) (ap₂ ◌*ℚ◌ price kept_k) (step.enters.ratio w helps)
 
-  staying_sign : (w : ℕ) → Contains (others s T.choice) w → w ≢ v → s.low w <ℚ s.high w → signed (T.choice.high w) (T.reduced w) ≤ℚ whole (pos 0)
+  staying_sign : (w : ℕ) → Contains (others s T.choice) w → w ≢ v → s.low w <ℚ s.high w → opposite_if (T.choice.high w) (T.reduced w) ≤ℚ whole (pos 0)
   unfolding rise help
   staying_sign w c n free =
       let f = S.choice.high w in
       let d = S.reduced k in
       let i = T.choice.entry k v in
       let e = S.choice.entry v w in
-      let y = signed f (signed above e) in
+      let y = opposite_if f (opposite_if above e) in
       let before = other_before s S.choice T.choice v k exchange w c n in
       let row : T.choice.entry k w ≡ neg_ℚ e *ℚ i =
       by_ring2 ring_ℚ (T.choice.entry k w ∷ S.choice.entry v k ∷ i ∷ e ∷ []) (at 0) (pneg (at 3) ⊗ at 2)
@@ -171,17 +171,17 @@ module _ (s : System) (S T : State) (v k : ℕ) (above : Bool) (posed : IsPosed 
       let price : T.reduced w ≡ S.reduced w -ℚ (d *ℚ i) *ℚ e =
       step.moved.priced w c ∙ ap (λ t. S.reduced w +ℚ d *ℚ t) row
       ∙ by_ring ring_ℚ (S.reduced w ∷ d ∷ i ∷ e ∷ []) (at 0 ⊕ at 1 ⊗ (pneg (at 3) ⊗ at 2)) (at 0 ⊕ pneg (at 1 ⊗ at 2 ⊗ at 3)) refl in
-      let product : rise *ℚ y ≡ signed f ((d *ℚ i) *ℚ e) = times-signed f (signed above (d *ℚ i)) (signed above e) ∙ ap (signed f) (signed-both above (d *ℚ i) e) in
-      let turned : signed f (T.reduced w) ≡ signed f (S.reduced w) -ℚ rise *ℚ y =
-      ap (signed f) price ∙ signed-minus f (S.reduced w) ((d *ℚ i) *ℚ e) ∙ ap (λ t. signed f (S.reduced w) -ℚ t) (sym product) in
+      let product : rise *ℚ y ≡ opposite_if f ((d *ℚ i) *ℚ e) = times-signed f (opposite_if above (d *ℚ i)) (opposite_if above e) ∙ ap (opposite_if f) (signed-both above (d *ℚ i) e) in
+      let turned : opposite_if f (T.reduced w) ≡ opposite_if f (S.reduced w) -ℚ rise *ℚ y =
+      ap (opposite_if f) price ∙ signed-minus f (S.reduced w) ((d *ℚ i) *ℚ e) ∙ ap (λ t. opposite_if f (S.reduced w) -ℚ t) (sym product) in
       let flag : T.choice.high w ≡ f = step.exchanged.flags w before (other_not_entering s S.choice T.choice v k exchange w c) in
-      subst (λ (b : Bool). signed b (T.reduced w) ≤ℚ whole (pos 0)) (sym flag) (subst (λ t. t ≤ℚ whole (pos 0)) (sym turned)
-      (ratio_keeps rise help y (signed f (S.reduced w)) step.enters.helps.towards rise_sign (price_sign s S posed w before free)
+      subst (λ (b : Bool). opposite_if b (T.reduced w) ≤ℚ whole (pos 0)) (sym flag) (subst (λ t. t ≤ℚ whole (pos 0)) (sym turned)
+      (ratio_keeps rise help y (opposite_if f (S.reduced w)) step.enters.helps.towards rise_sign (price_sign s S posed w before free)
       (λ towards. ratio_of w (record { other = before; free = free; towards = towards }))))
 
-  new_sign : (w : ℕ) → Contains (others s T.choice) w → s.low w <ℚ s.high w → signed (T.choice.high w) (T.reduced w) ≤ℚ whole (pos 0)
+  new_sign : (w : ℕ) → Contains (others s T.choice) w → s.low w <ℚ s.high w → opposite_if (T.choice.high w) (T.reduced w) ≤ℚ whole (pos 0)
   new_sign w c free = elim (same_or_not w v) [
-    | inl e ↦ subst (λ (u : ℕ). signed (T.choice.high u) (T.reduced u) ≤ℚ whole (pos 0)) (sym e) leaving_sign
+    | inl e ↦ subst (λ (u : ℕ). opposite_if (T.choice.high u) (T.reduced u) ≤ℚ whole (pos 0)) (sym e) leaving_sign
     | inr n ↦ staying_sign w c n free
   ]
 
@@ -195,6 +195,6 @@ module _ (s : System) (S T : State) (v k : ℕ) (above : Bool) (posed : IsPosed 
     meets = step_meets;
     prices = step_prices;
     unpriced = step.moved.unpriced;
-    low_price = λ w c free e. subst (λ (f : Bool). signed f (T.reduced w) ≤ℚ whole (pos 0)) e (new_sign w c free);
-    high_price = λ w c free e. neg_at_least (T.reduced w) (subst (λ (f : Bool). signed f (T.reduced w) ≤ℚ whole (pos 0)) e (new_sign w c free));
+    low_price = λ w c free e. subst (λ (f : Bool). opposite_if f (T.reduced w) ≤ℚ whole (pos 0)) e (new_sign w c free);
+    high_price = λ w c free e. neg_at_least (T.reduced w) (subst (λ (f : Bool). opposite_if f (T.reduced w) ≤ℚ whole (pos 0)) e (new_sign w c free));
   }

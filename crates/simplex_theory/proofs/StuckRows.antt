@@ -17,7 +17,7 @@ use Rattle.linear_system.specs.Systems.{System, IsSystem, MeetsRows, InBounds}
 use Rattle.linear_system.specs.Choices.{Choice, basics, others, IsChoice, at_bound, value, value_terms}
 use Rattle.linear_system.proofs.ChoiceLaws.{basics_are, others_are, is_other}
 use Rattle.simplex_theory.specs.States.{IsWithin, Violates, HasNoPoint}
-use Rattle.simplex_theory.specs.Steps.{signed}
+use Rattle.simplex_theory.specs.Steps.{opposite_if}
 use Rattle.simplex_theory.specs.Stuck.{multiplier, margin}
 use Rattle.simplex_theory.proofs.NameSums.{signed-sum, sum_by-at_most, sum_by-change}
 use Rattle.simplex_theory.proofs.Signs.{greatest_at_bound, neg_at_most}
@@ -102,14 +102,14 @@ module _ (s : System) (h : Choice) (system : IsSystem s) (b : ℕ) (basic : Cont
 
   module _ (above : Bool) where
     -- at the corner it is the margin
-    pub corner_reaches : signed (not above) (combined s h b (corner s h b above)) ≡ margin s h b above
+    pub corner_reaches : opposite_if (not above) (combined s h b (corner s h b above)) ≡ margin s h b above
     unfolding margin
-    corner_reaches = ap (signed (not above)) (combined_is (corner s h b above)
+    corner_reaches = ap (opposite_if (not above)) (combined_is (corner s h b above)
         ∙ ap₂ ◌-ℚ◌ (corner-itself s h b b above refl)
         (sum_by-members (λ w. h.entry b w *ℚ corner s h b above w) (λ w. h.entry b w *ℚ at_bound s h w) (others s h)
         (λ w c. ap (λ x. h.entry b w *ℚ x) (corner-other s h b w above (apart w c) (others_are s h w c).1)) ∙ sym basic_value)) ∙ by above
       where
-        by : (a : Bool) → signed (not a) ((if a then s.high b else s.low b) -ℚ value s h b) ≡ (if a then s.high b -ℚ value s h b else value s h b -ℚ s.low b)
+        by : (a : Bool) → opposite_if (not a) ((if a then s.high b else s.low b) -ℚ value s h b) ≡ (if a then s.high b -ℚ value s h b else value s h b -ℚ s.low b)
         by true = refl
         by false = by_ring ring_ℚ (s.low b ∷ value s h b ∷ []) (pneg (at 0 ⊕ pneg (at 1))) (at 1 ⊕ pneg (at 0)) refl
 
@@ -153,15 +153,15 @@ module _ (s : System) (h : Choice) (system : IsSystem s) (b : ℕ) (basic : Cont
       corner_within = record { low = λ w c. (corner_each w c).0; high = λ w c. (corner_each w c).1 }
 
       -- no other variable that has room brings b back
-      module _ (at_low : (w : ℕ) → Contains (others s h) w → s.low w <ℚ s.high w → h.high w ≡ false → signed above (h.entry b w) ≤ℚ whole (pos 0))
-          (at_high : (w : ℕ) → Contains (others s h) w → s.low w <ℚ s.high w → h.high w ≡ true → whole (pos 0) ≤ℚ signed above (h.entry b w)) where
-        idle : (w : ℕ) → Contains (others s h) w → s.low w <ℚ s.high w → ¬ (whole (pos 0) <ℚ signed (h.high w) (signed above (h.entry b w)))
-        idle w c free = by_answer {P = ¬ (whole (pos 0) <ℚ signed (h.high w) (signed above (h.entry b w)))} (h.high w)
-            (λ e l. <ℚ-not-≤ℚ (whole (pos 0)) (neg_ℚ (signed above (h.entry b w))) (subst (λ (x : Bool). whole (pos 0) <ℚ signed x (signed above (h.entry b w))) e l) (neg_at_most (signed above (h.entry b w)) (at_high w c free e)))
-            (λ e l. <ℚ-not-≤ℚ (whole (pos 0)) (signed above (h.entry b w)) (subst (λ (x : Bool). whole (pos 0) <ℚ signed x (signed above (h.entry b w))) e l) (at_low w c free e))
+      module _ (at_low : (w : ℕ) → Contains (others s h) w → s.low w <ℚ s.high w → h.high w ≡ false → opposite_if above (h.entry b w) ≤ℚ whole (pos 0))
+          (at_high : (w : ℕ) → Contains (others s h) w → s.low w <ℚ s.high w → h.high w ≡ true → whole (pos 0) ≤ℚ opposite_if above (h.entry b w)) where
+        idle : (w : ℕ) → Contains (others s h) w → s.low w <ℚ s.high w → ¬ (whole (pos 0) <ℚ opposite_if (h.high w) (opposite_if above (h.entry b w)))
+        idle w c free = by_answer {P = ¬ (whole (pos 0) <ℚ opposite_if (h.high w) (opposite_if above (h.entry b w)))} (h.high w)
+            (λ e l. <ℚ-not-≤ℚ (whole (pos 0)) (neg_ℚ (opposite_if above (h.entry b w))) (subst (λ (x : Bool). whole (pos 0) <ℚ opposite_if x (opposite_if above (h.entry b w))) e l) (neg_at_most (opposite_if above (h.entry b w)) (at_high w c free e)))
+            (λ e l. <ℚ-not-≤ℚ (whole (pos 0)) (opposite_if above (h.entry b w)) (subst (λ (x : Bool). whole (pos 0) <ℚ opposite_if x (opposite_if above (h.entry b w))) e l) (at_low w c free e))
 
         -- an other variable's term is greatest where it stands
-        stands_most : (u : ℕ → Fraction) (w : ℕ) → Contains (others s h) w → InBounds s u → (signed above (h.entry b w) *ℚ u w) ≤ℚ (signed above (h.entry b w) *ℚ at_bound s h w)
+        stands_most : (u : ℕ → Fraction) (w : ℕ) → Contains (others s h) w → InBounds s u → (opposite_if above (h.entry b w) *ℚ u w) ≤ℚ (opposite_if above (h.entry b w) *ℚ at_bound s h w)
         unfolding at_bound
         stands_most u w c within =
             let named : Contains s.variables w = (others_are s h w c).0 in
@@ -172,51 +172,51 @@ module _ (s : System) (h : Choice) (system : IsSystem s) (b : ℕ) (basic : Cont
                   let stands : (if h.high w then s.high w else s.low w) ≡ s.high w = by_answer {P = (if h.high w then s.high w else s.low w) ≡ s.high w} (h.high w)
                   (λ e. ap (λ (x : Bool). if x then s.high w else s.low w) e)
                   (λ e. ap (λ (x : Bool). if x then s.high w else s.low w) e ∙ one) in
-                  ≤ℚ_of_same _ _ (ap (λ t. signed above (h.entry b w) *ℚ t) (there ∙ sym stands))
-              | inr free ↦ greatest_at_bound (h.high w) (signed above (h.entry b w)) (s.low w) (s.high w) (u w) (idle w c free) (within.low w named) (within.high w named)
+                  ≤ℚ_of_same _ _ (ap (λ t. opposite_if above (h.entry b w) *ℚ t) (there ∙ sym stands))
+              | inr free ↦ greatest_at_bound (h.high w) (opposite_if above (h.entry b w)) (s.low w) (s.high w) (u w) (idle w c free) (within.low w named) (within.high w named)
             ]
 
-        turned : (a : Bool) (x : Fraction) → signed (not a) (neg_ℚ x) ≡ signed a x
+        turned : (a : Bool) (x : Fraction) → opposite_if (not a) (neg_ℚ x) ≡ opposite_if a x
         turned true x = refl
         turned false x = by_ring ring_ℚ (x ∷ []) (pneg (pneg (at 0))) (at 0) refl
 
-        itself : (a : Bool) (x : Fraction) → s.low b ≤ℚ x → x ≤ℚ s.high b → (signed (not a) (whole (pos 1)) *ℚ x) ≤ℚ (signed (not a) (whole (pos 1)) *ℚ (if a then s.high b else s.low b))
+        itself : (a : Bool) (x : Fraction) → s.low b ≤ℚ x → x ≤ℚ s.high b → (opposite_if (not a) (whole (pos 1)) *ℚ x) ≤ℚ (opposite_if (not a) (whole (pos 1)) *ℚ (if a then s.high b else s.low b))
         itself true x low high = by_le1 (x ∷ s.high b ∷ []) (pone ⊗ at 0) (pone ⊗ at 1) pone (at 0) (at 1) NonNeg-one high refl
         itself false x low high = by_le1 (x ∷ s.low b ∷ []) (pneg pone ⊗ at 0) (pneg pone ⊗ at 1) pone (at 1) (at 0) NonNeg-one low refl
 
         -- each variable's part is at most what it is at the corner
         pub each_most : (u : ℕ → Fraction) → InBounds s u → (w : ℕ) → Contains s.variables w
-            → (signed (not above) (multiplier h b w) *ℚ u w) ≤ℚ (signed (not above) (multiplier h b w) *ℚ corner s h b above w)
+            → (opposite_if (not above) (multiplier h b w) *ℚ u w) ≤ℚ (opposite_if (not above) (multiplier h b w) *ℚ corner s h b above w)
         each_most u within w c = elim (same_or_not w b) [
-          | inl e ↦ subst₂ (λ x y. (signed (not above) x *ℚ u w) ≤ℚ (signed (not above) x *ℚ y)) (sym (multiplier-itself s h b w e)) (sym (corner-itself s h b w above e))
-              (subst (λ (x : ℕ). (signed (not above) (whole (pos 1)) *ℚ u x) ≤ℚ (signed (not above) (whole (pos 1)) *ℚ (if above then s.high b else s.low b))) (sym e)
+          | inl e ↦ subst₂ (λ x y. (opposite_if (not above) x *ℚ u w) ≤ℚ (opposite_if (not above) x *ℚ y)) (sym (multiplier-itself s h b w e)) (sym (corner-itself s h b w above e))
+              (subst (λ (x : ℕ). (opposite_if (not above) (whole (pos 1)) *ℚ u x) ≤ℚ (opposite_if (not above) (whole (pos 1)) *ℚ (if above then s.high b else s.low b))) (sym e)
               (itself above (u b) (within.low b (basics_are s h b basic).0) (within.high b (basics_are s h b basic).0)))
           | inr n ↦ by_answer (h.basic w)
-              (λ e. subst (λ x. (signed (not above) x *ℚ u w) ≤ℚ (signed (not above) x *ℚ corner s h b above w)) (sym (multiplier-basic s h b w n e))
+              (λ e. subst (λ x. (opposite_if (not above) x *ℚ u w) ≤ℚ (opposite_if (not above) x *ℚ corner s h b above w)) (sym (multiplier-basic s h b w n e))
               (≤ℚ_of_same _ _ (nothing (not above) (u w) ∙ sym (nothing (not above) (corner s h b above w)))))
-              (λ e. subst₂ (λ x y. (signed (not above) x *ℚ u w) ≤ℚ (signed (not above) x *ℚ y)) (sym (multiplier-other s h b w n e)) (sym (corner-other s h b w above n e))
+              (λ e. subst₂ (λ x y. (opposite_if (not above) x *ℚ u w) ≤ℚ (opposite_if (not above) x *ℚ y)) (sym (multiplier-other s h b w n e)) (sym (corner-other s h b w above n e))
               (subst (λ x. (x *ℚ u w) ≤ℚ (x *ℚ at_bound s h w)) (sym (turned above (h.entry b w))) (stands_most u w (is_other s h w c e) within)))
         ]
           where
-            nothing : (a : Bool) (x : Fraction) → signed a (whole (pos 0)) *ℚ x ≡ whole (pos 0)
+            nothing : (a : Bool) (x : Fraction) → opposite_if a (whole (pos 0)) *ℚ x ≡ whole (pos 0)
             nothing true x = by_ring ring_ℚ (x ∷ []) (pneg pnil ⊗ at 0) pnil refl
             nothing false x = by_ring ring_ℚ (x ∷ []) (pnil ⊗ at 0) pnil refl
 
         -- so within the bounds the combination is at most the margin
-        pub combined_most : (u : ℕ → Fraction) → InBounds s u → signed (not above) (combined s h b u) ≤ℚ margin s h b above
+        pub combined_most : (u : ℕ → Fraction) → InBounds s u → opposite_if (not above) (combined s h b u) ≤ℚ margin s h b above
         unfolding combined
         combined_most u within = subst₂ ◌≤ℚ◌
             (sym (signed-sum (not above) (multiplier h b) u s.variables))
             (sym (signed-sum (not above) (multiplier h b) (corner s h b above) s.variables) ∙ corner_reaches)
-            (sum_by-at_most (λ w. signed (not above) (multiplier h b w) *ℚ u w) (λ w. signed (not above) (multiplier h b w) *ℚ corner s h b above w) s.variables (λ w c. each_most u within w c))
+            (sum_by-at_most (λ w. opposite_if (not above) (multiplier h b w) *ℚ u w) (λ w. opposite_if (not above) (multiplier h b w) *ℚ corner s h b above w) s.variables (λ w c. each_most u within w c))
 
         -- and where b violates that bound no point meets the rows
         pub stuck_none : IsChoice s h → Violates s (value s h) above b → HasNoPoint s
         stuck_none choice past = record {
           none = λ v meets within. <ℚ-not-≤ℚ (margin s h b above) (whole (pos 0)) (margin_below past)
-              (subst (λ x. x ≤ℚ margin s h b above) (ap (signed (not above)) (combined_vanishes choice v meets) ∙ nil (not above)) (combined_most v within));
+              (subst (λ x. x ≤ℚ margin s h b above) (ap (opposite_if (not above)) (combined_vanishes choice v meets) ∙ nil (not above)) (combined_most v within));
         }
           where
-            nil : (a : Bool) → signed a (whole (pos 0)) ≡ whole (pos 0)
+            nil : (a : Bool) → opposite_if a (whole (pos 0)) ≡ whole (pos 0)
             nil true = by_ring ring_ℚ [] (pneg pnil) pnil refl
             nil false = refl

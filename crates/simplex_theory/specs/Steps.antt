@@ -13,9 +13,9 @@ use Rattle.linear_system.specs.Choices.{basics, others, IsChoice, OneExchange}
 use Rattle.simplex_theory.specs.States.{State, IsWithin, Violates}
 
 -- the opposite of x where the test holds, else x
-abbrev pub signed : Bool → Fraction → Fraction
-signed true x = neg_ℚ x
-signed false x = x
+abbrev pub opposite_if : Bool → Fraction → Fraction
+opposite_if true x = neg_ℚ x
+opposite_if false x = x
 
 -- x by its sign, at least 0
 abbrev pub abs_by : Sign → Fraction → Fraction
@@ -39,7 +39,7 @@ pub record Leaves (s : System) (S : State) (v : ℕ) (above : Bool) : Type 0 whe
 pub record Helps (s : System) (S : State) (v : ℕ) (above : Bool) (w : ℕ) : Type 0 where
   pub other : Contains (others s S.choice) w
   pub free : s.low w <ℚ s.high w
-  pub towards : whole (pos 0) <ℚ signed (S.choice.high w) (signed above (S.choice.entry v w))
+  pub towards : whole (pos 0) <ℚ opposite_if (S.choice.high w) (opposite_if above (S.choice.entry v w))
 
 -- Of the variables that help, k is one whose reduced price is least against its entry, and of those that tie it has the
 -- least name. The ratios are compared by products.

@@ -7,7 +7,7 @@ use Rattle.fraction_theory.specs.Order.{◌≤ℚ◌, ◌<ℚ◌}
 use Rattle.linear_system.specs.Systems.{System}
 use Rattle.linear_system.specs.Choices.{Choice, basics, others, value}
 use Rattle.simplex_theory.specs.States.{Violates}
-use Rattle.simplex_theory.specs.Steps.{signed}
+use Rattle.simplex_theory.specs.Steps.{opposite_if}
 
 -- Where the others stand at their bounds, the basic variable b is above its high bound, or below its low one where `above`
 -- does not say so, and none of the others that has room brings it back. Where b is below, the entry of each of these is at
@@ -15,8 +15,8 @@ use Rattle.simplex_theory.specs.Steps.{signed}
 pub record IsStuck (s : System) (h : Choice) (b : ℕ) (above : Bool) : Type 0 where
   pub basic : Contains (basics s h) b
   pub violates : Violates s (value s h) above b
-  pub at_low : (w : ℕ) → Contains (others s h) w → s.low w <ℚ s.high w → h.high w ≡ false → signed above (h.entry b w) ≤ℚ whole (pos 0)
-  pub at_high : (w : ℕ) → Contains (others s h) w → s.low w <ℚ s.high w → h.high w ≡ true → whole (pos 0) ≤ℚ signed above (h.entry b w)
+  pub at_low : (w : ℕ) → Contains (others s h) w → s.low w <ℚ s.high w → h.high w ≡ false → opposite_if above (h.entry b w) ≤ℚ whole (pos 0)
+  pub at_high : (w : ℕ) → Contains (others s h) w → s.low w <ℚ s.high w → h.high w ≡ true → whole (pos 0) ≤ℚ opposite_if above (h.entry b w)
 
 -- 1 at the basic variable b, the opposites of its entries at the others, and 0 at the rest of the basic ones
 unfoldable pub multiplier : Choice → ℕ → ℕ → Fraction

@@ -15,8 +15,8 @@ use Rattle.bus_prices.proofs.pricing.congestion_at.Goals as goal
 pub loop-dual-init : goal.loop-dual-init
 loop-dual-init g c = c.of_parts-sum.ensures ∙ over-one (pos 0)
 
-pub opposite_pull-requires : goal.opposite_pull-requires
-opposite_pull-requires g c =
+pub opposite_net_price-requires : goal.opposite_net_price-requires
+opposite_net_price-requires g c =
     let m = c.args.market.now in
     let d = duals_at g.N.Exact.value c.args.duals.now in
     let k = c.loop-dual.dual-index in
@@ -55,7 +55,7 @@ loop-dual-preserved g c =
     let below : k < length d.limits = omega (arith, inside, length-map c.args.duals.now.limits (dual_at g.N.Exact.value)) in
     let r = row_of_dual m c.lines-lines.ensures.market d c.requires.duals.named k e below read in
     let known : to_z w64 (of_z w64 c.factor_named.result) ≡ c.factor_named.result = to_z-of_z w64 c.factor_named.result (record { sfits = c.factor_named.type_inv }) in
-    congestion_step m d c.args.bus k e r.0 (g.N.Exact.value c.opposite_pull.result) _ (g.N.Exact.value c.loop-dual.sum) _ r.1 c.opposite_pull.ensures
+    congestion_step m d c.args.bus k e r.0 (g.N.Exact.value c.opposite_net_price.result) _ (g.N.Exact.value c.loop-dual.sum) _ r.1 c.opposite_net_price.ensures
     (ap (λ (z : ℤ). over z factor_product_one) known ∙ c.factor_named.ensures.is r.0 r.1.row r.1.name) c.loop-dual.invariant c.in_ok-sum.ensures.sum
 
 pub returns-clause-sum : goal.returns-clause-sum
@@ -81,5 +81,5 @@ returns-in_err-sum-clause-cause g c =
     let known : to_z w64 (of_z w64 c.factor_named.result) ≡ c.factor_named.result = to_z-of_z w64 c.factor_named.result (record { sfits = c.factor_named.type_inv }) in
     let given : c.from_residual.result ≡ Err c.in_err-sum.field-0.0 = search rules in
     rw given
-    (congestion_refused m d c.args.bus k e r.0 (g.N.Exact.value c.opposite_pull.result) _ (g.N.Exact.value c.loop-dual.sum) g.N.Exact.bound (passed_at g.N.Exact.value c.in_err-sum.field-0.0) r.1 c.opposite_pull.ensures
+    (congestion_refused m d c.args.bus k e r.0 (g.N.Exact.value c.opposite_net_price.result) _ (g.N.Exact.value c.loop-dual.sum) g.N.Exact.bound (passed_at g.N.Exact.value c.in_err-sum.field-0.0) r.1 c.opposite_net_price.ensures
     (ap (λ (z : ℤ). over z factor_product_one) known ∙ c.factor_named.ensures.is r.0 r.1.row r.1.name) c.loop-dual.invariant c.in_err-sum.ensures.cause)

@@ -4,8 +4,9 @@ use Rattle.exact_fraction.specs.declared.Op.TheVariants.{Plus}
 use Rattle.market_model.specs.Optimality.{congestion, price_by}
 use Rattle.market_model.specs.Valued.{duals_at, price_at}
 use Rattle.market_model.proofs.SumSteps.{refusal}
-use Rattle.bus_prices.specs.Prices.{price_of, of_congestion, of_total}
+use Rattle.bus_prices.specs.Prices.{of_congestion, of_total}
 use Rattle.market_model.proofs.PlaceLists.{put_more, all_put}
+use Rattle.market_model.specs.RightAnswers.{price_made}
 use Rattle.bus_prices.proofs.pricing.prices.Goals as goal
 
 pub loop-bus-preserved : goal.loop-bus-preserved
@@ -14,13 +15,13 @@ loop-bus-preserved g c =
     let m = c.args.market.now in
     let d = duals_at g.N.Exact.value c.args.duals.now in
     let sum = c.in_ok-congestion.ensures.sum in
-    put_more (price_at g.N.Exact.value) (price_of m d) c.loop-bus.out c.loop-bus.bus _
+    put_more (price_at g.N.Exact.value) (price_made m d) c.loop-bus.out c.loop-bus.bus _
     (omega (arith, c.loop-bus-test.true, c.loop-bus.auto.out)) c.loop-bus.invariant
     (ap₂ (λ (x y : Fraction). record { energy = g.N.Exact.value c.args.duals.now.energy; congestion = x; total = y }) sum (c.in_ok-total.ensures.exact ∙ ap (λ x. g.N.Exact.value c.args.duals.now.energy +ℚ x) sum))
 
 pub returns-clause-prices : goal.returns-clause-prices
 returns-clause-prices g c =
-    all_put (price_at g.N.Exact.value) (price_of c.args.market.now (duals_at g.N.Exact.value c.args.duals.now)) c.loop-bus.out c.loop-bus.bus (length c.args.market.now.buses)
+    all_put (price_at g.N.Exact.value) (price_made c.args.market.now (duals_at g.N.Exact.value c.args.duals.now)) c.loop-bus.out c.loop-bus.bus (length c.args.market.now.buses)
     (c.loop-bus.auto.out ∙ c.requires.out) (omega (arith, c.loop-bus-test.false, c.requires.out)) c.loop-bus.invariant
 
 pub returns-in_err-congestion-clause-cause : goal.returns-in_err-congestion-clause-cause

@@ -4,7 +4,7 @@ use Rattle.fraction_theory.specs.Fraction.{whole}
 use Rattle.market_data.specs.declared.participants.Unit as unit
 use Rattle.market_model.specs.declared.participants.Block.{Block}
 use Rattle.market_model.specs.declared.participants.Side.TheVariants.{Sell}
-use Rattle.market_model.specs.Dispatch.{block_at, signed}
+use Rattle.market_model.specs.Dispatch.{block_at, signed_by_side}
 use Rattle.market_model.specs.Optimality.{bus_price}
 use Rattle.market_model.specs.Valued.{passed_at}
 use Rattle.market_model.proofs.MarketSums.{block_bus-in}
@@ -56,7 +56,7 @@ loop-at-preserved g c = λ d energy are start.
     let block = ap (λ (bs : List Block). slice_index_or bs k (record { unit = 0; side = Sell; quantity = pos 0; price = pos 0 })) blocks in
     let u = unit_read m c.units.result.now _ (block_at m k).unit c.at.result.now c.units.ensures.list (ap (λ (b : Block). b.unit) block) c.at.ensures in
     block_step m d k (value c.weight.result) _ (value c.loop-at.sum) _
-    (c.weight.ensures ∙ ap (λ (b : Block). signed b.side (value c.in_ok-price.price)) block ∙ ap (signed (block_at m k).side) (c.in_ok-price.ensures.price d energy are ∙ ap (λ (v : unit.Unit). bus_price m d v.bus) u))
+    (c.weight.ensures ∙ ap (λ (b : Block). signed_by_side b.side (value c.in_ok-price.price)) block ∙ ap (signed_by_side (block_at m k).side) (c.in_ok-price.ensures.price d energy are ∙ ap (λ (v : unit.Unit). bus_price m d v.bus) u))
     (c.quantity_of.ensures ∙ ap (λ (b : Block). whole b.quantity) block) (c.loop-at.invariant d energy are start) c.in_ok-sum.ensures.sum
 
 pub returns-in_err-sum-clause-cause : goal.returns-in_err-sum-clause-cause
@@ -71,7 +71,7 @@ returns-in_err-sum-clause-cause g c =
     let given : c.from_residual-in_err-sum.result ≡ Err c.in_err-sum.field-0.0 = search rules in
     λ d energy are start. rw given
     (block_refused m d k (value c.weight.result) _ (value c.loop-at.sum) g.N.Exact.bound (passed_at value c.in_err-sum.field-0.0) below
-    (c.weight.ensures ∙ ap (λ (b : Block). signed b.side (value c.in_ok-price.price)) block ∙ ap (signed (block_at m k).side) (c.in_ok-price.ensures.price d energy are ∙ ap (λ (v : unit.Unit). bus_price m d v.bus) u))
+    (c.weight.ensures ∙ ap (λ (b : Block). signed_by_side b.side (value c.in_ok-price.price)) block ∙ ap (signed_by_side (block_at m k).side) (c.in_ok-price.ensures.price d energy are ∙ ap (λ (v : unit.Unit). bus_price m d v.bus) u))
     (c.quantity_of.ensures ∙ ap (λ (b : Block). whole b.quantity) block) (c.loop-at.invariant d energy are start) c.in_err-sum.ensures.cause)
 
 pub returns-clause-bound : goal.returns-clause-bound

@@ -4,18 +4,18 @@ use Rattle.market_model.specs.Valued.{dual_at}
 use Rattle.cert_sums.specs.declared.pricing.NamedRow.{NamedRow}
 use Rattle.cert_sums.specs.declared.stops.VerifyStop.TheVariants as why
 use Rattle.cert_sums.specs.Named.{AreNamed}
-use Rattle.cert_verify.specs.Certificates.{duals_by}
+use Rattle.cert_verify.specs.Certificates.{named_duals}
 use Rattle.cert_verify.proofs.NamingLemmas.{price_more, pushed}
 use Rattle.cert_verify.proofs.against.bus_prices.Goals as goal
 
 pub bus_price-requires-clause-named : goal.bus_price-requires-clause-named
 bus_price-requires-clause-named g c =
-    let d = (duals_by (g.N.Exact.value c.args.energy) (map (dual_at g.N.Exact.value) c.args.limits.now)) in
+    let d = (named_duals (g.N.Exact.value c.args.energy) (map (dual_at g.N.Exact.value) c.args.limits.now)) in
     (d, subst (λ (xs : List (NamedRow g.row.N.Denot)). AreNamed g.N.Exact.value c.args.market.now d xs) (sym c.slice.ensures) (c.in-Ok.ensures (g.N.Exact.value c.args.energy)))
 
 pub returns-in_err-price-clause-cause : goal.returns-in_err-price-clause-cause
 returns-in_err-price-clause-cause g c =
-    let d = (duals_by (g.N.Exact.value c.args.energy) (map (dual_at g.N.Exact.value) c.args.limits.now)) in
+    let d = (named_duals (g.N.Exact.value c.args.energy) (map (dual_at g.N.Exact.value) c.args.limits.now)) in
     let are = subst (λ (xs : List (NamedRow g.row.N.Denot)). AreNamed g.N.Exact.value c.args.market.now d xs) (sym c.slice.ensures) (c.in-Ok.ensures (g.N.Exact.value c.args.energy)) in
     let inside : c.loop-bus.bus < length c.args.market.now.buses = omega (arith, c.loop-bus-test.true, c.len-bus-end.ensures, ap length c.buses.ensures.list) in
     let given : c.from_residual.result ≡ Err (why.Range c.in_err-price.field-0.0) = search rules in
@@ -23,7 +23,7 @@ returns-in_err-price-clause-cause g c =
 
 pub loop-bus-preserved : goal.loop-bus-preserved
 loop-bus-preserved g c =
-    let d = (duals_by (g.N.Exact.value c.args.energy) (map (dual_at g.N.Exact.value) c.args.limits.now)) in
+    let d = (named_duals (g.N.Exact.value c.args.energy) (map (dual_at g.N.Exact.value) c.args.limits.now)) in
     let are = subst (λ (xs : List (NamedRow g.row.N.Denot)). AreNamed g.N.Exact.value c.args.market.now d xs) (sym c.slice.ensures) (c.in-Ok.ensures (g.N.Exact.value c.args.energy)) in
     ap (map g.N.Exact.value) (pushed c.push.result _ _ c.push.ensures (sym c.is_err.ensures.value ∙ c.if-is_err.false))
     ∙ price_more g.N.Exact.value (bus_price c.args.market.now d) c.loop-bus.prices c.in_ok-price.price c.loop-bus.bus c.loop-bus.invariant (c.in_ok-price.ensures.price d refl are)

@@ -1,4 +1,4 @@
-use Rattle.std.proofs.Common.{◌≡◌, ◌<◌, ◌+◌, ◌∙◌, ℕ, ap, sym, length, arith}
+use Rattle.std.proofs.Common.{◌<◌, ◌+◌, ◌∙◌, ℕ, ap, sym, length, arith}
 use Rattle.market_model.specs.Dispatch.{accepted, quantity}
 use Rattle.market_model.specs.PutIn.{dispatch_of}
 use Rattle.cert_verify.specs.declared.verdicts.Reason.TheVariants as reason

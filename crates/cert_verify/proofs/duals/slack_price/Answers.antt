@@ -1,7 +1,7 @@
 use Rattle.std.proofs.Common.{rules, Err, ◌≡◌, sym, ◌∙◌, arith}
 use Rattle.fraction_theory.specs.Fraction.{Fraction}
 use Rattle.market_model.specs.declared.answered.Dual.{Dual}
-use Rattle.market_model.specs.Valued.{dual_at, passed_at}
+use Rattle.market_model.specs.Valued.{dual_at}
 use Rattle.cert_verify.specs.declared.verdicts.Reason.TheVariants as reason
 use Rattle.cert_verify.specs.Reasons.{has_slack}
 use Rattle.cert_verify.proofs.FindLemmas.{item_here, item_more, item_none}

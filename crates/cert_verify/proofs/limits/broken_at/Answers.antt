@@ -1,7 +1,7 @@
 use Rattle.std.proofs.Common.{rules, Err, Some, ◌≡◌, ◌∙◌, ap, sym, true, false}
 use Rattle.market_model.specs.declared.answered.RowId.{RowId}
 use Rattle.market_model.specs.declared.limits.Row.{Row}
-use Rattle.market_model.specs.LimitRows.{row_id, bears as bears_in}
+use Rattle.market_model.specs.LimitRows.{row_id}
 use Rattle.market_model.specs.Valued.{passed_at}
 use Rattle.limit_rows.proofs.NumberingLemmas.{row_on}
 use Rattle.limit_rows.proofs.PlaceLemmas.{row_to}

@@ -1,4 +1,4 @@
-use Rattle.std.proofs.Common.{rules, Err, ◌≡◌, ◌∙◌, ap, ap₂, sym, map, w64}
+use Rattle.std.proofs.Common.{rules, Err, ◌≡◌, ◌∙◌, ap, ap₂, map, w64}
 use Rattle.std.proofs.lemmas.Int.{to_z-of_z}
 use mir.Val.{to_z, of_z}
 use Rattle.fraction_theory.specs.Fraction.{Fraction, whole}

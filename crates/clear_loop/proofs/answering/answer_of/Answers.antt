@@ -6,7 +6,7 @@ use Rattle.market_model.specs.Valued.{duals_at, money_at, passed_at}
 use Rattle.market_model.specs.PutIn.{dispatch_of}
 use Rattle.market_model.specs.RightAnswers.{settlement_at}
 use Rattle.settlement.specs.Paying.{total_at}
-use Rattle.settlement.specs.Refusals.{IsStop}
+use Rattle.settlement.specs.Refusals.{IsMoneyStop}
 use Rattle.settlement.proofs.MoneyLemmas.{law_of_right_money}
 use Rattle.market_dict.specs.declared.stop.Stop.TheVariants as stop
 use Rattle.clear_loop.proofs.AnswerLemmas.{price_count, prices_of, right_answer}
@@ -44,8 +44,8 @@ returns-in-Err-clause-cause g c = λ rows solved.
     rw c.stopped.ensures
     (money_stop value g.N.Exact.bound m rows (dispatch_of value c.args.dispatch) d c.lines-lines.ensures.market solved c.requires.feasible (total_at value c.in_ok-prices.prices)
     (prices_of value m d c.in_ok-prices.prices c.in_ok-prices.ensures.prices) c.in-Err.refused
-    (subst (λ xs. IsStop value g.N.Exact.bound m (dispatch_of value xs) (total_at value c.in_ok-prices.prices) d c.in-Err.refused) c.slice-2.ensures
-    (subst (λ ps. IsStop value g.N.Exact.bound m (dispatch_of value c.slice-2.result.now) (total_at value ps) d c.in-Err.refused) c.slice-3.ensures c.in-Err.ensures.cause)))
+    (subst (λ xs. IsMoneyStop value g.N.Exact.bound m (dispatch_of value xs) (total_at value c.in_ok-prices.prices) d c.in-Err.refused) c.slice-2.ensures
+    (subst (λ ps. IsMoneyStop value g.N.Exact.bound m (dispatch_of value c.slice-2.result.now) (total_at value ps) d c.in-Err.refused) c.slice-3.ensures c.in-Err.ensures.cause)))
 
 pub returns-clause-fits : goal.returns-clause-fits
 returns-clause-fits g c =

@@ -30,6 +30,6 @@ returns-in_err-take_bounds-clause-cause g c =
 
 pub returns-clause-hand : goal.returns-clause-hand
 returns-clause-hand g c =
-    hand_grown g.N.Exact.value c.args.market.now c.args.taken c.put_row.new.taken c.args.row c.started.result c.take_limit.new.dict c.take_bounds.new.terms
+    hand_grown g.N.Exact.value c.args.market.now c.args.taken c.put_row.new.taken c.args.row c.started.result c.take_limit.new.dict c.take_bounds.new.posing
     c.in_ok-put_row.ensures.rows c.in_ok-put_row.ensures.names c.requires.names c.started.ensures
-    (c.in_ok-take_limit.ensures.taken (rows_in c.args.taken) c.requires.holds) (c.in_ok-take_bounds.ensures.taken (rows_in c.args.taken) c.requires.terms)
+    (c.in_ok-take_limit.ensures.taken (rows_in c.args.taken) c.requires.holds) (c.in_ok-take_bounds.ensures.taken (rows_in c.args.taken) c.requires.posing)

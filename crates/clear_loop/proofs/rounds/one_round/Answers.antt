@@ -3,7 +3,7 @@ use Rattle.std.specs.Prelude.{ℕ, Option, MatchOption, Contains}
 use Rattle.std.proofs.lemmas.Result.{err_from_is_err_and}
 use Rattle.market_model.specs.declared.limits.Row.{Row}
 use Rattle.market_model.specs.LimitRows.{flow, rows, most_flow}
-use Rattle.market_model.specs.Excess.{IsWorst}
+use Rattle.market_model.specs.Overrun.{IsWorst}
 use Rattle.market_model.specs.Optimality.{Feasible, Within}
 use Rattle.market_model.specs.Valued.{duals_at}
 use Rattle.market_system.specs.Outcomes.{PricesOnly}
@@ -23,15 +23,15 @@ use Rattle.clear_loop.proofs.rounds.one_round.Goals as goal
 
 pub repose-requires-clause-prices : goal.repose-requires-clause-prices
 repose-requires-clause-prices g c =
-    prices_fit g.N.Exact.value c.args.market.now (rows_in c.args.hand.taken) c.args.hand.terms c.requires.terms c.slice.result.now c.slice-2.result.now c.slice.ensures c.slice-2.ensures c.args.hand.warm c.requires.start
+    prices_fit g.N.Exact.value c.args.market.now (rows_in c.args.hand.taken) c.args.hand.posing c.requires.posing c.slice.result.now c.slice-2.result.now c.slice.ensures c.slice-2.ensures c.args.hand.warm c.requires.start
 
 pub repose-requires-clause-bounds : goal.repose-requires-clause-bounds
 repose-requires-clause-bounds g c =
-    bounds_fit g.N.Exact.value c.args.market.now (rows_in c.args.hand.taken) c.args.hand.terms c.requires.terms c.slice.result.now c.slice-2.result.now c.slice.ensures c.slice-2.ensures c.args.hand.warm c.requires.start
+    bounds_fit g.N.Exact.value c.args.market.now (rows_in c.args.hand.taken) c.args.hand.posing c.requires.posing c.slice.result.now c.slice-2.result.now c.slice.ensures c.slice-2.ensures c.args.hand.warm c.requires.start
 
 pub repose-requires-clause-ordered : goal.repose-requires-clause-ordered
 repose-requires-clause-ordered g c =
-    in_order g.N.Exact.value c.args.market.now (rows_in c.args.hand.taken) c.args.hand.terms c.requires.terms c.slice.result.now c.slice-2.result.now c.slice.ensures c.slice-2.ensures c.args.hand.warm c.requires.start
+    in_order g.N.Exact.value c.args.market.now (rows_in c.args.hand.taken) c.args.hand.posing c.requires.posing c.slice.result.now c.slice-2.result.now c.slice.ensures c.slice-2.ensures c.args.hand.warm c.requires.start
     c.lines-lines.ensures.market
 
 pub returns-in_err-posed-clause-cause : goal.returns-in_err-posed-clause-cause
@@ -39,14 +39,14 @@ returns-in_err-posed-clause-cause g c =
     let p = err_from_is_err_and c.from_residual.result c.from_residual.ensures.1 in
     let given : c.from_residual.result ≡ Err (stop.Passed c.in_err-posed.field-0.0) = p.1 ∙ ap Err p.2 in
     rw given
-    (posed_range g.N.Exact.value c.args.market.now (rows_in c.args.hand.taken) c.args.hand.terms c.requires.terms c.slice.result.now c.slice-2.result.now c.slice.ensures c.slice-2.ensures c.args.hand.warm c.requires.start
+    (posed_range g.N.Exact.value c.args.market.now (rows_in c.args.hand.taken) c.args.hand.posing c.requires.posing c.slice.result.now c.slice-2.result.now c.slice.ensures c.slice-2.ensures c.args.hand.warm c.requires.start
     c.lines-lines.ensures.market g.N.Exact.bound c.in_err-posed.field-0.0 c.in_err-posed.ensures.pair)
 
 pub solve-requires : goal.solve-requires
 solve-requires g c = record {
   holds = (
     rows_in c.args.hand.taken,
-    posed_system g.N.Exact.value c.args.market.now (rows_in c.args.hand.taken) c.args.hand.terms c.requires.terms c.slice.result.now c.slice-2.result.now c.slice.ensures c.slice-2.ensures c.args.hand.warm c.requires.start
+    posed_system g.N.Exact.value c.args.market.now (rows_in c.args.hand.taken) c.args.hand.posing c.requires.posing c.slice.result.now c.slice-2.result.now c.slice.ensures c.slice-2.ensures c.args.hand.warm c.requires.start
         c.lines-lines.ensures.market c.in_ok-posed.posed c.in_ok-posed.ensures.posed,
   );
 }
@@ -54,7 +54,7 @@ solve-requires g c = record {
 pub returns-in_err-dict-clause-cause : goal.returns-in_err-dict-clause-cause
 returns-in_err-dict-clause-cause g c =
     let holds =
-    posed_system g.N.Exact.value c.args.market.now (rows_in c.args.hand.taken) c.args.hand.terms c.requires.terms c.slice.result.now c.slice-2.result.now c.slice.ensures c.slice-2.ensures c.args.hand.warm c.requires.start
+    posed_system g.N.Exact.value c.args.market.now (rows_in c.args.hand.taken) c.args.hand.posing c.requires.posing c.slice.result.now c.slice-2.result.now c.slice.ensures c.slice-2.ensures c.args.hand.warm c.requires.start
     c.lines-lines.ensures.market c.in_ok-posed.posed c.in_ok-posed.ensures.posed in
     let p = err_from_is_err_and c.from_residual-in_err-dict.result c.from_residual-in_err-dict.ensures.1 in
     let given : c.from_residual-in_err-dict.result ≡ Err c.in_err-dict.field-0.0 = p.1 ∙ ap Err p.2 in
@@ -67,7 +67,7 @@ returns-in-Nothing-clause-round g c =
     let m = c.args.market.now in
     let rs = rows_in c.args.hand.taken in
     let holds =
-    posed_system g.N.Exact.value m rs c.args.hand.terms c.requires.terms c.slice.result.now c.slice-2.result.now c.slice.ensures c.slice-2.ensures c.args.hand.warm c.requires.start
+    posed_system g.N.Exact.value m rs c.args.hand.posing c.requires.posing c.slice.result.now c.slice-2.result.now c.slice.ensures c.slice-2.ensures c.args.hand.warm c.requires.start
     c.lines-lines.ensures.market c.in_ok-posed.posed c.in_ok-posed.ensures.posed in
     let none : IsFound g.N.Exact.value m rs (found.Nothing c.in-Nothing.dict c.in-Nothing.farkas) =
     subst (λ (f : Found g.row.N.Denot). IsFound g.N.Exact.value m rs f) c.in-Nothing.is (c.in_ok-dict.ensures.found rs holds) in
@@ -78,7 +78,7 @@ broken-requires g c =
     let m = c.args.market.now in
     let rs = rows_in c.args.hand.taken in
     let holds =
-    posed_system g.N.Exact.value m rs c.args.hand.terms c.requires.terms c.slice.result.now c.slice-2.result.now c.slice.ensures c.slice-2.ensures c.args.hand.warm c.requires.start
+    posed_system g.N.Exact.value m rs c.args.hand.posing c.requires.posing c.slice.result.now c.slice-2.result.now c.slice.ensures c.slice-2.ensures c.args.hand.warm c.requires.start
     c.lines-lines.ensures.market c.in_ok-posed.posed c.in_ok-posed.ensures.posed in
     let best : IsFound g.N.Exact.value m rs (found.Best c.in-Best.dict c.in-Best.dispatch c.in-Best.duals) =
     subst (λ (f : Found g.row.N.Denot). IsFound g.N.Exact.value m rs f) c.in-Best.is (c.in_ok-dict.ensures.found rs holds) in
@@ -90,7 +90,7 @@ returns-in_err-row-clause-cause g c =
     let m = c.args.market.now in
     let rs = rows_in c.args.hand.taken in
     let holds =
-    posed_system value m rs c.args.hand.terms c.requires.terms c.slice.result.now c.slice-2.result.now c.slice.ensures c.slice-2.ensures c.args.hand.warm c.requires.start
+    posed_system value m rs c.args.hand.posing c.requires.posing c.slice.result.now c.slice-2.result.now c.slice.ensures c.slice-2.ensures c.args.hand.warm c.requires.start
     c.lines-lines.ensures.market c.in_ok-posed.posed c.in_ok-posed.ensures.posed in
     let best : IsFound value m rs (found.Best c.in-Best.dict c.in-Best.dispatch c.in-Best.duals) =
     subst (λ (f : Found g.row.N.Denot). IsFound value m rs f) c.in-Best.is (c.in_ok-dict.ensures.found rs holds) in
@@ -105,7 +105,7 @@ with_row-requires-clause-holds g c =
     let m = c.args.market.now in
     let rs = rows_in c.args.hand.taken in
     let holds =
-    posed_system g.N.Exact.value m rs c.args.hand.terms c.requires.terms c.slice.result.now c.slice-2.result.now c.slice.ensures c.slice-2.ensures c.args.hand.warm c.requires.start
+    posed_system g.N.Exact.value m rs c.args.hand.posing c.requires.posing c.slice.result.now c.slice-2.result.now c.slice.ensures c.slice-2.ensures c.args.hand.warm c.requires.start
     c.lines-lines.ensures.market c.in_ok-posed.posed c.in_ok-posed.ensures.posed in
     let best : IsFound g.N.Exact.value m rs (found.Best c.in-Best.dict c.in-Best.dispatch c.in-Best.duals) =
     subst (λ (f : Found g.row.N.Denot). IsFound g.N.Exact.value m rs f) c.in-Best.is (c.in_ok-dict.ensures.found rs holds) in
@@ -127,7 +127,7 @@ with_row-requires-clause-broken g c =
     let rs = rows_in c.args.hand.taken in
     let x = dispatch_of value c.slice-3.result.now in
     let holds =
-    posed_system value m rs c.args.hand.terms c.requires.terms c.slice.result.now c.slice-2.result.now c.slice.ensures c.slice-2.ensures c.args.hand.warm c.requires.start
+    posed_system value m rs c.args.hand.posing c.requires.posing c.slice.result.now c.slice-2.result.now c.slice.ensures c.slice-2.ensures c.args.hand.warm c.requires.start
     c.lines-lines.ensures.market c.in_ok-posed.posed c.in_ok-posed.ensures.posed in
     let best : IsFound value m rs (found.Best c.in-Best.dict c.in-Best.dispatch c.in-Best.duals) =
     subst (λ (f : Found g.row.N.Denot). IsFound value m rs f) c.in-Best.is (c.in_ok-dict.ensures.found rs holds) in
@@ -143,7 +143,7 @@ answer_of-requires-clause-solved g c =
     let m = c.args.market.now in
     let rs = rows_in c.args.hand.taken in
     let holds =
-    posed_system g.N.Exact.value m rs c.args.hand.terms c.requires.terms c.slice.result.now c.slice-2.result.now c.slice.ensures c.slice-2.ensures c.args.hand.warm c.requires.start
+    posed_system g.N.Exact.value m rs c.args.hand.posing c.requires.posing c.slice.result.now c.slice-2.result.now c.slice.ensures c.slice-2.ensures c.args.hand.warm c.requires.start
     c.lines-lines.ensures.market c.in_ok-posed.posed c.in_ok-posed.ensures.posed in
     let best : IsFound g.N.Exact.value m rs (found.Best c.in-Best.dict c.in-Best.dispatch c.in-Best.duals) =
     subst (λ (f : Found g.row.N.Denot). IsFound g.N.Exact.value m rs f) c.in-Best.is (c.in_ok-dict.ensures.found rs holds) in
@@ -157,7 +157,7 @@ answer_of-requires-clause-feasible g c =
     let x = dispatch_of value c.slice-3.result.now in
     let d = duals_at value c.in-Best.duals in
     let holds =
-    posed_system value m rs c.args.hand.terms c.requires.terms c.slice.result.now c.slice-2.result.now c.slice.ensures c.slice-2.ensures c.args.hand.warm c.requires.start
+    posed_system value m rs c.args.hand.posing c.requires.posing c.slice.result.now c.slice-2.result.now c.slice.ensures c.slice-2.ensures c.args.hand.warm c.requires.start
     c.lines-lines.ensures.market c.in_ok-posed.posed c.in_ok-posed.ensures.posed in
     let best : IsFound value m rs (found.Best c.in-Best.dict c.in-Best.dispatch c.in-Best.duals) =
     subst (λ (f : Found g.row.N.Denot). IsFound value m rs f) c.in-Best.is (c.in_ok-dict.ensures.found rs holds) in
@@ -171,7 +171,7 @@ returns-in_err-answer-in-None-clause-cause g c =
     let m = c.args.market.now in
     let rs = rows_in c.args.hand.taken in
     let holds =
-    posed_system g.N.Exact.value m rs c.args.hand.terms c.requires.terms c.slice.result.now c.slice-2.result.now c.slice.ensures c.slice-2.ensures c.args.hand.warm c.requires.start
+    posed_system g.N.Exact.value m rs c.args.hand.posing c.requires.posing c.slice.result.now c.slice-2.result.now c.slice.ensures c.slice-2.ensures c.args.hand.warm c.requires.start
     c.lines-lines.ensures.market c.in_ok-posed.posed c.in_ok-posed.ensures.posed in
     let best : IsFound g.N.Exact.value m rs (found.Best c.in-Best.dict c.in-Best.dispatch c.in-Best.duals) =
     subst (λ (f : Found g.row.N.Denot). IsFound g.N.Exact.value m rs f) c.in-Best.is (c.in_ok-dict.ensures.found rs holds) in
@@ -186,7 +186,7 @@ returns-in_ok-with_row-in-Some-clause-round g c =
     let rs = rows_in c.args.hand.taken in
     let x = dispatch_of value c.slice-3.result.now in
     let holds =
-    posed_system value m rs c.args.hand.terms c.requires.terms c.slice.result.now c.slice-2.result.now c.slice.ensures c.slice-2.ensures c.args.hand.warm c.requires.start
+    posed_system value m rs c.args.hand.posing c.requires.posing c.slice.result.now c.slice-2.result.now c.slice.ensures c.slice-2.ensures c.args.hand.warm c.requires.start
     c.lines-lines.ensures.market c.in_ok-posed.posed c.in_ok-posed.ensures.posed in
     let best : IsFound value m rs (found.Best c.in-Best.dict c.in-Best.dispatch c.in-Best.duals) =
     subst (λ (f : Found g.row.N.Denot). IsFound value m rs f) c.in-Best.is (c.in_ok-dict.ensures.found rs holds) in
@@ -211,7 +211,7 @@ returns-in_ok-answer-in-None-clause-round g c =
     let m = c.args.market.now in
     let rs = rows_in c.args.hand.taken in
     let holds =
-    posed_system value m rs c.args.hand.terms c.requires.terms c.slice.result.now c.slice-2.result.now c.slice.ensures c.slice-2.ensures c.args.hand.warm c.requires.start
+    posed_system value m rs c.args.hand.posing c.requires.posing c.slice.result.now c.slice-2.result.now c.slice.ensures c.slice-2.ensures c.args.hand.warm c.requires.start
     c.lines-lines.ensures.market c.in_ok-posed.posed c.in_ok-posed.ensures.posed in
     let best : IsFound value m rs (found.Best c.in-Best.dict c.in-Best.dispatch c.in-Best.duals) =
     subst (λ (f : Found g.row.N.Denot). IsFound value m rs f) c.in-Best.is (c.in_ok-dict.ensures.found rs holds) in (

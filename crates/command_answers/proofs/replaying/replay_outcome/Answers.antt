@@ -1,4 +1,4 @@
-use Rattle.std.proofs.Common.{◌≡◌, ◌∙◌, ap, sym}
+use Rattle.std.proofs.Common.{◌∙◌, ap, sym}
 use Rattle.market_model.specs.Frame.{SameFrame, frame}
 use Rattle.edit_replay.specs.SessionStates.{SessionState}
 use Rattle.command_answers.proofs.ReplayLemmas.{replays_to}

@@ -1,7 +1,3 @@
-use Rattle.std.proofs.Common.{◌≡◌, subst, Ok}
-use Rattle.command_answers.specs.Inputs.{IsCertified, texts_of}
-use Rattle.command_answers.specs.Tellings.{telling_of}
-use Rattle.command_answers.specs.Verifying.{TellsVerdict}
 use Rattle.command_answers.proofs.IfOkLemmas.{if_ok-map}
 use Rattle.command_answers.proofs.verifying.verify_told.Goals as goal
 

@@ -1,8 +1,6 @@
-use Rattle.std.proofs.Common.{rules, ◌≡◌, ◌≢◌, ◌∙◌, sym, ap, subst, None, Ok, Err, Result, IfOk, IfErr, []}
+use Rattle.std.proofs.Common.{rules, ◌≡◌, ◌≢◌, sym, subst, None, Err, IfErr, []}
 use Rattle.record_reading.specs.Rows.{read_rows}
 use Rattle.csv_table.proofs.Framed.{framed-fault, framed-fits}
-use Rattle.factor_tables.specs.declared.by_pair.Pairs.{Pairs}
-use Rattle.factor_tables.specs.declared.table_fault.TableFault.{TableFault}
 use Rattle.factor_tables.specs.declared.table_fault.TableFault.TheVariants as fault
 use Rattle.factor_tables.specs.Records.{frame_fault}
 use Rattle.factor_tables.specs.Tables.{entry_in, factors_of, header_of}

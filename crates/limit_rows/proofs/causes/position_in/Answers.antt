@@ -7,7 +7,7 @@ use Rattle.market_model.specs.declared.participants.Line.{Line}
 use Rattle.market_model.specs.Dispatch.{places, line_at}
 use Rattle.market_model.specs.declared.limits.Row.{Row}
 use Rattle.market_model.specs.LimitRows.{bears, rows_of}
-use Rattle.limit_rows.specs.Naming.{is_named}
+use Rattle.limit_rows.specs.Naming.{has_name}
 use Rattle.limit_rows.proofs.GroupLemmas.{length-map, passed-more}
 use Rattle.limit_rows.proofs.NameLemmas.{other_outage, same_outage, other_branch, fails-more, rows_round}
 use Rattle.limit_rows.proofs.NumberingLemmas.{row_on}
@@ -18,14 +18,14 @@ use Rattle.limit_rows.proofs.causes.position_in.Goals.{then-has_row+else-at-row,
 pub returns-then-outage_of-row-clause-is : goal.returns-then-outage_of-row-clause-is
 returns-then-outage_of-row-clause-is c =
     let m = c.args.market.now in
-    let p = is_named m c.args.row in
+    let p = has_name m c.args.row in
     sym (position-none p (rows_of m c.args.cause) (other_outage m c.args.row c.args.cause (λ e. c.if-outage_of-row.true (c.outage_of.ensures ∙ e))))
 
 pub returns-then-at-row : goal.returns-then-at-row
 returns-then-at-row c =
     let m = c.args.market.now in
     let cause = c.args.cause in
-    let p = is_named m c.args.row in
+    let p = has_name m c.args.row in
     let inside : c.loop-place.place < length m.lines = search rules in
     let read : line_at m c.loop-place.place ≡ c.at.result.now = get_or_from_slice_get m.lines c.loop-place.place c.at.result.now _ (rw c.lines-then-has_row.ensures.list at c.at.ensures) in
     let outage = sym c.outage_of.ensures ∙ c.if-outage_of-row.false in
@@ -78,5 +78,5 @@ returns-clause-is c =
     let outage = sym c.outage_of.ensures ∙ c.if-outage_of-row.false in
     let end : c.loop-place.place ≡ length m.lines = search (rules, arith) in
     let none = other_branch m c.args.row cause (filter (bears m cause) (places c.loop-place.place)) outage c.loop-place.invariant.none in
-    sym (position-none (is_named m c.args.row) (rows_of m cause)
-    (subst (λ (n : ℕ). (k : ℕ) (d : Row) → k < length (map (row_on cause) (filter (bears m cause) (places n))) → is_named m c.args.row (get_or (map (row_on cause) (filter (bears m cause) (places n))) k d) ≡ false) end none))
+    sym (position-none (has_name m c.args.row) (rows_of m cause)
+    (subst (λ (n : ℕ). (k : ℕ) (d : Row) → k < length (map (row_on cause) (filter (bears m cause) (places n))) → has_name m c.args.row (get_or (map (row_on cause) (filter (bears m cause) (places n))) k d) ≡ false) end none))

@@ -2,7 +2,7 @@ use Rattle.std.proofs.Common.{◌≡◌, ◌+◌, ℕ, false, Some, None, sym, a
 use Rattle.std.specs.List.{position}
 use Rattle.std.proofs.lemmas.List.Elements.{All-append}
 use Rattle.market_model.specs.LimitRows.{rows, rows_of}
-use Rattle.limit_rows.specs.Naming.{is_named}
+use Rattle.limit_rows.specs.Naming.{has_name}
 use Rattle.limit_rows.proofs.GroupLemmas.{rows-more}
 use Rattle.limit_rows.proofs.NameLemmas.{causes_round}
 use Rattle.limit_rows.proofs.NumberingLemmas.{all_before, counted-more, rows_before}
@@ -11,10 +11,10 @@ use Rattle.limit_rows.proofs.PlaceLemmas.{name_of_position}
 use Rattle.limit_rows.proofs.numbering.position.Goals as goal
 use Rattle.limit_rows.proofs.numbering.position.Goals.{In-Some}
 
-found : (c : In-Some) → position (is_named c.args.market.now c.args.row) (rows c.args.market.now) ≡ Some (c.loop-at.before + c.in-Some.place)
+found : (c : In-Some) → position (has_name c.args.market.now c.args.row) (rows c.args.market.now) ≡ Some (c.loop-at.before + c.in-Some.place)
 found c =
     let m = c.args.market.now in
-    let p = is_named m c.args.row in
+    let p = has_name m c.args.row in
     let cause = c.cause_at-cause.result in
     let round = causes_round m c.loop-at.at cause c.cause_at-cause.ensures.is in
     ap (position p) round.1
@@ -30,7 +30,7 @@ returns-in-Some-clause-id c = name_of_position c.args.market.now c.args.row _ (f
 pub loop-at-preserved : goal.loop-at-preserved
 loop-at-preserved c =
     let m = c.args.market.now in
-    let p = is_named m c.args.row in
+    let p = has_name m c.args.row in
     let cause = c.cause_at-cause.result in
     let more = counted-more m c.loop-at.at cause c.cause_at-cause.ensures.is in
     let none : position p (rows_of m cause) ≡ None = sym c.position_in.ensures.is ∙ c.in-None.is in
@@ -44,6 +44,6 @@ loop-at-preserved c =
 pub returns-clause-is : goal.returns-clause-is
 returns-clause-is c =
     let m = c.args.market.now in
-    let p = is_named m c.args.row in
+    let p = has_name m c.args.row in
     let all = all_before m c.loop-at.at (omega (arith, c.cause_count-at-end.ensures.count, c.loop-at-test.false)) in
     sym (position-none p (rows m) (subst (Fails p) all c.loop-at.invariant.none))

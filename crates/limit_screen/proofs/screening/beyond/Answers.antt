@@ -5,8 +5,8 @@ use Rattle.market_model.specs.Dispatch.{zero}
 use Rattle.limit_screen.proofs.ScreenLemmas.{above_nil, below_nil, not_past}
 use Rattle.limit_screen.proofs.screening.beyond.Goals as goal
 
-pub returns-in_ok-minus-in-Greater-clause-excess : goal.returns-in_ok-minus-in-Greater-clause-excess
-returns-in_ok-minus-in-Greater-clause-excess g c =
+pub returns-in_ok-minus-in-Greater-clause-overrun : goal.returns-in_ok-minus-in-Greater-clause-overrun
+returns-in_ok-minus-in-Greater-clause-overrun g c =
     let is = c.in_ok-minus-in-Greater.ensures.exact ∙ ap (λ (x : Fraction). x -ℚ g.N.Exact.value c.args.limit) c.size-size.ensures in (
       subst (λ x. zero <ℚ x) (sym c.in_ok-minus-in-Greater.ensures.exact) (above_nil (g.N.Exact.value c.size-size.result) (g.N.Exact.value c.args.limit) c.in-Greater.ensures),
       is,
@@ -14,7 +14,7 @@ returns-in_ok-minus-in-Greater-clause-excess g c =
 
 pub returns-in-Less : goal.returns-in-Less
 returns-in-Less g c = record {
-  excess =
+  overrun =
       subst (λ x. (x -ℚ g.N.Exact.value c.args.limit) ≤ℚ zero) c.size-size.ensures
       (below_nil (g.N.Exact.value c.size-size.result) (g.N.Exact.value c.args.limit) (not_past c.order.result (g.N.Exact.value c.size-size.result) (g.N.Exact.value c.args.limit) c.order.ensures c.in-Less.is));
   cause = tt;

@@ -8,14 +8,14 @@ use Rattle.limit_rows.proofs.GroupLemmas.{rows-more}
 use Rattle.limit_rows.proofs.NumberingLemmas.{row_on}
 use Rattle.limit_rows.proofs.PlaceLemmas.{listed, row_to}
 use Rattle.limit_screen.specs.Flows.{line_in}
-use Rattle.limit_screen.specs.Screening.{IsWorstOf, excess_by, rows_to}
+use Rattle.limit_screen.specs.Screening.{IsWorstOf, overrun_by, rows_to}
 use Rattle.limit_screen.proofs.ScreenLemmas.{lines_more, lines_same}
 use Rattle.limit_screen.proofs.screening.with_cause.Goals as goal
 use Rattle.limit_screen.proofs.screening.with_cause.Goals.{then-has_row+in_ok-worst, else-has_row}
 
 pub loop-line-init : goal.loop-line-init
 loop-line-init g c =
-    let e = excess_by c.args.market.now (line_in c.args.market.now (map g.N.Exact.value c.args.flows.now)) in
+    let e = overrun_by c.args.market.now (line_in c.args.market.now (map g.N.Exact.value c.args.flows.now)) in
     subst (λ (rs : List Row). IsWorstOf g.N.Exact.value e rs c.args.before) (sym (append-nil (rows_to c.args.market.now c.args.place))) c.requires.before
 
 pub loop-line-preserved : goal.loop-line-preserved
@@ -23,7 +23,7 @@ loop-line-preserved g c =
     let m = c.args.market.now in
     let cause = c.cause_at-cause.result in
     let k = c.loop-line.line in
-    let e = excess_by m (line_in m (map g.N.Exact.value c.args.flows.now)) in
+    let e = overrun_by m (line_in m (map g.N.Exact.value c.args.flows.now)) in
     let rs = rows_to m c.args.place in
     let before = rs ++ map (row_on cause) (filter (bears m cause) (places k)) in
     elim c.if-has_row.branch [
@@ -54,7 +54,7 @@ pub returns-clause-worst : goal.returns-clause-worst
 returns-clause-worst g c =
     let m = c.args.market.now in
     let cause = c.cause_at-cause.result in
-    let e = excess_by m (line_in m (map g.N.Exact.value c.args.flows.now)) in
+    let e = overrun_by m (line_in m (map g.N.Exact.value c.args.flows.now)) in
     let all : c.loop-line.line ≡ length m.lines = omega (arith, c.loop-line-test.false, c.loop-line.auto.line-end, c.len-line-end.ensures, ap length c.lines.ensures.list) in
     let here = subst (λ (n : ℕ). IsWorstOf g.N.Exact.value e (rows_to m c.args.place ++ map (row_on cause) (filter (bears m cause) (places n))) c.loop-line.worst) all c.loop-line.invariant in
     subst (λ (rs : List Row). IsWorstOf g.N.Exact.value e rs c.loop-line.worst) (sym (rows-more m c.args.place cause c.cause_at-cause.ensures.is)) here

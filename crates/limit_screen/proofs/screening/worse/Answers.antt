@@ -18,7 +18,7 @@ returns-in-Less g c = λ e rs before is.
     let r = c.args.row in
     let old = c.in-Some.broken.row in
     let h = subst (IsWorstOf g.N.Exact.value e rs) c.in-Some.is before in
-    let less : e r ≤ℚ e old = subst₂ (λ x y. x ≤ℚ y) is h.1 (not_past c.order.result (g.N.Exact.value c.args.excess) (g.N.Exact.value c.in-Some.broken.excess) c.order.ensures c.in-Less.is) in
+    let less : e r ≤ℚ e old = subst₂ (λ x y. x ≤ℚ y) is h.1 (not_past c.order.result (g.N.Exact.value c.args.overrun) (g.N.Exact.value c.in-Some.broken.overrun) c.order.ensures c.in-Less.is) in
     (old_worst e rs old r h.0 less, h.1)
 
 pub returns-in-None : goal.returns-in-None

@@ -4,7 +4,7 @@ use mir.Val.{to_z, of_z}
 use Rattle.fraction_theory.specs.Fraction.{over}
 use Rattle.market_data.specs.declared.participants.Unit as unit
 use Rattle.market_data.specs.Scales.{factor_product_one}
-use Rattle.market_model.specs.Dispatch.{signed}
+use Rattle.market_model.specs.Dispatch.{signed_by_side}
 use Rattle.market_model.specs.LimitRows.{row_factor}
 use Rattle.limit_rows.proofs.PlaceLemmas.{at_places}
 use Rattle.market_model.proofs.PutInSteps.{unit_read}
@@ -29,5 +29,5 @@ returns g c =
     let read = unit_read m c.units.result.now c.args.block.now.unit c.args.block.now.unit c.at.result.now c.units.ensures.list refl c.at.ensures in
     let known : to_z w64 (of_z w64 c.factor_at.result) ≡ c.factor_at.result = to_z-of_z w64 c.factor_at.result (record { sfits = c.factor_at.type_inv }) in
     c.by_side.ensures
-    ∙ ap (signed c.args.block.now.side)
+    ∙ ap (signed_by_side c.args.block.now.side)
     (c.of_parts.ensures ∙ ap (λ (z : ℤ). over z factor_product_one) known ∙ c.factor_at.ensures.is ∙ ap (λ (v : unit.Unit). row_factor m c.args.row v.bus) read)

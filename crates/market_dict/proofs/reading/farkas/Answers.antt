@@ -3,7 +3,7 @@ use Rattle.std.specs.Prelude.{not}
 use Rattle.linear_dict.specs.Dictionaries.{choice_of, system_of as system_in}
 use Rattle.linear_dict.proofs.SplitLemmas.{Contains-at}
 use Rattle.linear_system.proofs.SameSystems.{same_pair}
-use Rattle.simplex_theory.specs.Steps.{signed}
+use Rattle.simplex_theory.specs.Steps.{opposite_if}
 use Rattle.simplex_theory.specs.Stuck.{multiplier}
 use Rattle.simplex_theory.proofs.SameStates.{same_margin}
 use Rattle.market_system.specs.MarketSystem.{system_of}
@@ -14,7 +14,7 @@ use Rattle.market_dict.proofs.reading.farkas.Goals as goal
 pub returns-clause-duals : goal.returns-clause-duals
 returns-clause-duals g c = λ rs holds.
     let d = c.args.dict.now in
-    c.in_ok-duals.ensures rs (λ w. signed (not c.args.above) (multiplier (choice_of d) (slice_index d.basics c.args.row) w)) holds.holds
+    c.in_ok-duals.ensures rs (λ w. opposite_if (not c.args.above) (multiplier (choice_of d) (slice_index d.basics c.args.row) w)) holds.holds
     (ap (map g.N.Exact.value) c.slice.ensures ∙ c.in_ok-costs.ensures)
 
 pub returns-clause-bound : goal.returns-clause-bound

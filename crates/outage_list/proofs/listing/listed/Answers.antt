@@ -1,4 +1,4 @@
-use Rattle.std.proofs.Common.{rules, arith, ◌≡◌, ◌<◌, ◌+◌, ◌∷◌, ◌++◌, ◌∙◌, ℤ, List, pos, sym, ap, Ok, Err, [], length, map, get_or, drop, length-append, append_assoc, w64}
+use Rattle.std.proofs.Common.{rules, arith, ◌≡◌, ◌<◌, ◌+◌, ◌∷◌, ◌++◌, ◌∙◌, ℤ, List, pos, ap, Ok, Err, [], length, map, get_or, drop, length-append, append_assoc, w64}
 use mir.Val.{SFits, to_z, of_z}
 use Rattle.std.proofs.lemmas.Int.{to_z-of_z}
 use Rattle.std.proofs.lemmas.List.{drop_more, map-append}

@@ -1,4 +1,3 @@
-use Rattle.std.proofs.Common.{subst}
 use Rattle.command_answers.specs.Tellings.{telling_of}
 use Rattle.sced.proofs.FileLemmas.{files-check}
 use Rattle.sced.proofs.ReadingLemmas.{if_ok-map, told-ok}

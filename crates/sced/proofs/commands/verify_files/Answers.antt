@@ -1,4 +1,4 @@
-use Rattle.std.proofs.Common.{◌≡◌, ◌∙◌, Err, Ok, subst}
+use Rattle.std.proofs.Common.{◌≡◌, ◌∙◌, Ok, subst}
 use Rattle.std.specs.Prelude.{MatchResult, option_map}
 use Rattle.outside_store.specs.Files.{Reads, SameFiles}
 use Rattle.command_answers.specs.Inputs.{IsCertified}

@@ -8,7 +8,7 @@ use Rattle.limit_rows.proofs.PlaceLemmas.{at_places}
 use Rattle.market_model.specs.PutIn.{dispatch_of, put_in}
 use Rattle.settlement.specs.declared.stops.MoneyStop.TheVariants as why
 use Rattle.settlement.specs.Paying.{earned_by}
-use Rattle.settlement.specs.Refusals.{IsRowRefusal}
+use Rattle.settlement.specs.Refusals.{IsRentRefusal}
 use Rattle.settlement.proofs.ListLemmas.{put_next, all_put_next}
 use Rattle.settlement.proofs.RowLemmas.{dual_one_sided, dual_row, earned_is, row_refusal}
 use Rattle.settlement.proofs.rents.rents.Goals as goal
@@ -71,4 +71,4 @@ returns-in_err-rent-clause-cause g c =
     let given : c.from_residual-in_err-rent.result ≡ Err (why.Passed c.in_err-rent.field-0.0) = search rules in
     λ price. rw given
     (row_refusal m x fs are d k e r.0 r.1 places.0 places.1 price g.N.Exact.bound p
-    (subst (λ (t : Row). IsRowRefusal m (put_in fs) e t g.N.Exact.bound p) is c.in_err-rent.ensures.cause))
+    (subst (λ (t : Row). IsRentRefusal m (put_in fs) e t g.N.Exact.bound p) is c.in_err-rent.ensures.cause))

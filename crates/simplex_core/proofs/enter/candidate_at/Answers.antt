@@ -10,7 +10,7 @@ use Rattle.fraction_theory.proofs.SignLaws.{sign_of_is}
 use Rattle.linear_dict.specs.Dictionaries.{choice_of}
 use Rattle.linear_dict.specs.Notes.{Noted, noted}
 use Rattle.linear_dict.proofs.SplitLemmas.{Contains-at}
-use Rattle.simplex_theory.specs.Steps.{signed, abs_ℚ}
+use Rattle.simplex_theory.specs.Steps.{opposite_if, abs_ℚ}
 use Rattle.simplex_core.specs.States.{state_of}
 use Rattle.simplex_core.proofs.Helping.{signed_same, signed_apart, size_of_signed, reduced_is, helps_is, helps_free, helps_towards}
 use Rattle.simplex_core.proofs.enter.candidate_at.Goals as goal
@@ -40,7 +40,7 @@ returns-in-Above g c =
     let e : Fraction = (choice_of d).entry v name in
     let entry : value c.entry-entry.result ≡ e = c.entry-entry.ensures.entry ∙ ap₂ (λ (x y : ℕ). (choice_of d).entry x y) c.requires.leaving c.requires.name in
     let t : Fraction = value c.if-leaving-note.towards in
-    let turned : t ≡ signed f (signed a e) = elim c.if-leaving-note.branch [
+    let turned : t ≡ opposite_if f (opposite_if a e) = elim c.if-leaving-note.branch [
       | then-leaving-note w ↦ ap value w.towards-is ∙ entry ∙ signed_same a f e w.if-leaving-note.true
       | else-leaving-note w ↦ ap value w.towards-is ∙ w.neg-towards.ensures ∙ ap neg_ℚ entry ∙ signed_apart a f e w.if-leaving-note.false
     ] in
@@ -69,7 +69,7 @@ returns-in-Below g c = λ h.
     let e : Fraction = (choice_of d).entry v name in
     let entry : value c.entry-entry.result ≡ e = c.entry-entry.ensures.entry ∙ ap₂ (λ (x y : ℕ). (choice_of d).entry x y) c.requires.leaving c.requires.name in
     let t : Fraction = value c.if-leaving-note.towards in
-    let turned : t ≡ signed f (signed a e) = elim c.if-leaving-note.branch [
+    let turned : t ≡ opposite_if f (opposite_if a e) = elim c.if-leaving-note.branch [
       | then-leaving-note w ↦ ap value w.towards-is ∙ entry ∙ signed_same a f e w.if-leaving-note.true
       | else-leaving-note w ↦ ap value w.towards-is ∙ w.neg-towards.ensures ∙ ap neg_ℚ entry ∙ signed_apart a f e w.if-leaving-note.false
     ] in

@@ -1,4 +1,4 @@
-use Rattle.std.proofs.Common.{◌≡◌, ◌<◌, ◌∙◌, arith, ap, length, sym}
+use Rattle.std.proofs.Common.{◌≡◌, ◌∙◌, arith, ap, length, sym}
 use Rattle.linear_dict.specs.Dictionaries.{Dictionary, with_note}
 use Rattle.simplex_tests.proofs.dictionary.least_noted.Goals as goal
 

@@ -1,4 +1,4 @@
-use Rattle.std.proofs.Common.{◌≡◌, ◌∙◌, List, ℕ, [], ◌∷◌, ◌++◌, arith, ap, lit<}
+use Rattle.std.proofs.Common.{◌∙◌, List, ℕ, [], ◌∷◌, ◌++◌, ap, lit<}
 use Rattle.simplex_tests.proofs.NewNames.{is_new, above_one, above_two, above_three}
 use Rattle.simplex_tests.proofs.method.dictionary.Goals as goal
 

@@ -1,4 +1,4 @@
-use Rattle.std.proofs.Common.{◌≡◌, ◌∙◌, List, ℕ, [], ◌∷◌, lit<}
+use Rattle.std.proofs.Common.{[], ◌∷◌, lit<}
 use Rattle.simplex_tests.proofs.NewNames.{is_new, above_one, above_three}
 use Rattle.simplex_tests.proofs.method.values_move_and_are_not_added_up.Goals as goal
 

@@ -1,4 +1,4 @@
-use Rattle.std.proofs.Common.{◌≡◌, ◌≤◌, ◌<◌, ℤ, pos, ◌≤ℤ◌, List, [], ◌∷◌, ◌++◌, Some, None, ℕ, get_or, zero, suc, arith, refl}
+use Rattle.std.proofs.Common.{◌≡◌, ◌<◌, pos, [], ◌∷◌, Some, None, ℕ, get_or, zero, suc, arith}
 use Rattle.std.proofs.lemmas.Int.{ints}
 use Rattle.std.proofs.lemmas.List.Elements.{All-cons, All-nil}
 use Rattle.market_data.specs.Participants.{IsBus, IsUnit}
@@ -7,7 +7,6 @@ use Rattle.market_data.specs.declared.participants.Unit as unit
 use Rattle.market_model.specs.declared.participants.Block.{Block}
 use Rattle.market_model.specs.declared.participants.Line.{Line}
 use Rattle.market_model.specs.declared.participants.Parts.{Parts}
-use Rattle.market_model.specs.declared.participants.Side.{Side}
 use Rattle.market_model.specs.declared.participants.Side.TheVariants.{Sell, Buy}
 use Rattle.market_model.specs.Market.{IsMarket, IsBlock, IsLine, HasRoom}
 use Rattle.market_model.specs.Stairs.{stair_in}

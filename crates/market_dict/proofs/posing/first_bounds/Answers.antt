@@ -6,7 +6,7 @@ use Rattle.market_model.specs.Dispatch.{places, quantity, zero}
 use Rattle.simplex_core.specs.declared.bounds.Bounds.{Bounds}
 use Rattle.market_dict.proofs.ListedLemmas.{places_filled, map-pushed}
 use Rattle.market_dict.proofs.TermLemmas.{quantity_read}
-use Rattle.market_dict.proofs.terms.first_bounds.Goals as goal
+use Rattle.market_dict.proofs.posing.first_bounds.Goals as goal
 
 pub quantity_of-high-requires : goal.quantity_of-high-requires
 quantity_of-high-requires g c =
@@ -40,7 +40,7 @@ returns-clause-lows g c =
     let blocks = c.slice-block-items.ensures ∙ c.blocks-2.ensures.list in
     let all : c.loop-block.block-index ≡ length m.blocks = omega (arith, ap length blocks) in
     ap (map low) c.in_ok-push-2.ensures
-    ∙ map-pushed low c.loop-block.bounds (map (λ j. zero) (places (length m.blocks))) (record { low = c.args.needed; high = c.args.needed }) _
+    ∙ map-pushed low c.loop-block.bounds (map (λ j. zero) (places (length m.blocks))) (record { low = c.args.residual_demand; high = c.args.residual_demand }) _
     (subst (λ (n : ℕ). map low c.loop-block.bounds ≡ map (λ j. zero) (places n)) all c.loop-block.invariant.lows) c.requires
 
 pub returns-clause-highs : goal.returns-clause-highs
@@ -50,5 +50,5 @@ returns-clause-highs g c =
     let blocks = c.slice-block-items.ensures ∙ c.blocks-2.ensures.list in
     let all : c.loop-block.block-index ≡ length m.blocks = omega (arith, ap length blocks) in
     ap (map high) c.in_ok-push-2.ensures
-    ∙ map-pushed high c.loop-block.bounds (map (quantity m) (places (length m.blocks))) (record { low = c.args.needed; high = c.args.needed }) _
+    ∙ map-pushed high c.loop-block.bounds (map (quantity m) (places (length m.blocks))) (record { low = c.args.residual_demand; high = c.args.residual_demand }) _
     (subst (λ (n : ℕ). map high c.loop-block.bounds ≡ map (quantity m) (places n)) all c.loop-block.invariant.highs) c.requires

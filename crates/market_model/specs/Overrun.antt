@@ -22,12 +22,12 @@ abbrev pub size_of : Fraction → Fraction
 size_of x = size_by (sign_of x) x
 
 -- by how much the size of a flow is above the limit of a row; at most 0 where the limit holds
-abbrev pub excess : Parts → Row → Fraction → Fraction
-excess m r f = size_of f -ℚ limit m r
+abbrev pub overrun : Parts → Row → Fraction → Fraction
+overrun m r f = size_of f -ℚ limit m r
 
--- Of the market's rows, with the flow f of each, the one at a place is broken, none has a greater excess, and none before it has the same.
+-- Of the market's rows, with the flow f of each, the one at a place is broken, none has a greater overrun, and none before it has the same.
 pub record IsWorst (m : Parts) (f : Row → Fraction) (place : ℕ) (r : Row) : Type 0 where
   pub stands : slice_get (rows m) place ≡ Some r
-  pub broken : zero <ℚ excess m r (f r)
-  pub most : (s : Row) → Contains (rows m) s → excess m s (f s) ≤ℚ excess m r (f r)
-  pub first : (i : ℕ) (s : Row) → i < place → slice_get (rows m) i ≡ Some s → excess m s (f s) <ℚ excess m r (f r)
+  pub broken : zero <ℚ overrun m r (f r)
+  pub most : (s : Row) → Contains (rows m) s → overrun m s (f s) ≤ℚ overrun m r (f r)
+  pub first : (i : ℕ) (s : Row) → i < place → slice_get (rows m) i ≡ Some s → overrun m s (f s) <ℚ overrun m r (f r)

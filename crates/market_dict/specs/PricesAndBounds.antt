@@ -7,11 +7,11 @@ use Rattle.market_model.specs.declared.limits.Row.{Row}
 use Rattle.market_model.specs.Optimality.{block_value}
 use Rattle.limit_screen.specs.Flows.{flows_at}
 use Rattle.market_dict.specs.Holding.{lows, highs}
-use Rattle.market_dict.specs.declared.terms.Terms.{Terms}
+use Rattle.market_dict.specs.declared.posing.PricesAndBounds.{PricesAndBounds}
 
 -- the prices and bounds of the market over these rows, and its flows where nothing is accepted
-pub record AreTerms {N : Type 0} (value : N → Fraction) (m : Parts) (g : List Row) (t : Terms N) : Type 0 where
+pub record ArePricesAndBounds {N : Type 0} (value : N → Fraction) (m : Parts) (g : List Row) (t : PricesAndBounds N) : Type 0 where
   pub prices : map value t.prices ≡ map (block_value m) (places (length m.blocks))
   pub lows : map (λ b. value b.low) t.bounds ≡ lows m g
   pub highs : map (λ b. value b.high) t.bounds ≡ highs m g
-  pub idle : map value t.idle.items ≡ flows_at m (empty m)
+  pub base_flows : map value t.base_flows.items ≡ flows_at m (empty m)

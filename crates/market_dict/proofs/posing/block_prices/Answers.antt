@@ -6,7 +6,7 @@ use Rattle.market_model.specs.Dispatch.{places}
 use Rattle.market_model.specs.Optimality.{block_value}
 use Rattle.market_dict.proofs.ListedLemmas.{places_filled}
 use Rattle.market_dict.proofs.TermLemmas.{priced}
-use Rattle.market_dict.proofs.terms.block_prices.Goals as goal
+use Rattle.market_dict.proofs.posing.block_prices.Goals as goal
 
 pub loop-block-preserved : goal.loop-block-preserved
 loop-block-preserved g c =

@@ -3,17 +3,17 @@
 ghost use Rattle.std.specs.Prelude.{◌≡◌, pos, ◌≤ℤ◌, List, [], ◌∷◌, ◌++◌, length, map, replicate, All, Contains, IfOk, IfErr};
 ghost use Rattle.fraction_theory.specs.Fraction.{whole, neg_ℚ};
 ghost use Rattle.market_data.specs.Participants.{IsDatum};
-ghost use Rattle.market_model.specs.Dispatch.{zero, places, signed, empty, balance_terms};
+ghost use Rattle.market_model.specs.Dispatch.{zero, places, signed_by_side, empty, balance_terms};
 ghost use Rattle.market_model.specs.declared.limits.Row.{Row};
 ghost use Rattle.market_model.specs.LimitRows.{rows};
 ghost use Rattle.market_model.specs.NamedSums.{IsRefusedIn};
 ghost use Rattle.market_model.specs.Optimality.{block_value};
 ghost use Rattle.market_model.specs.Valued.{passed_at};
-ghost use Rattle.market_system.specs.MarketSystem.{needed as needed_of, least_added, most_added};
+ghost use Rattle.market_system.specs.MarketSystem.{residual_demand as residual_demand_of, least_added, most_added};
 ghost use Rattle.limit_screen.specs.Flows.{flows_at, IsFlowsRefusal};
 ghost use Rattle.market_dict.specs.Holding.{lows, highs};
-ghost use Rattle.market_dict.specs.Refusals.{IsBoundRefusal, IsTermsRefusal};
-ghost use Rattle.market_dict.specs.Terms.{AreTerms};
+ghost use Rattle.market_dict.specs.Refusals.{IsBoundRefusal, IsPosingRefusal};
+ghost use Rattle.market_dict.specs.PricesAndBounds.{ArePricesAndBounds};
 ghost use Rattle.market_dict.specs.Findings.{OnPassed};
 
 use crate::entries::zeros;
@@ -28,19 +28,19 @@ use std::alloc::Global;
 
 /// Prices and bounds as the market has them now.
 #[derive(Drop)]
-pub struct Terms<N> {
+pub struct PricesAndBounds<N> {
     /// Of the blocks, in 10^-6 per MWh: the price of a buy, and the opposite of that of a sell.
     pub prices: List<N>,
     /// Of the blocks, the balance and the limits in the order taken, in 10^-9 MW: by how much blocks may raise these.
     pub bounds: List<Bounds<N>>,
     /// Where nothing is accepted, what each bus puts in and then what each line carries, in 10^-9 MW.
-    pub idle: Vec<N>,
+    pub base_flows: Vec<N>,
 }
 
 /// What a MW of a block is worth.
 fn block_price<N: Exact>(block: &Block) -> N
     requires { IsDatum block.now.price }
-    ensures { N.value result ≡ neg_ℚ (signed block.now.side (whole block.now.price)) }
+    ensures { N.value result ≡ neg_ℚ (signed_by_side block.now.side (whole block.now.price)) }
 {
     let price: N = datum(block.price);
     match block.side {
@@ -61,25 +61,25 @@ fn block_prices<N: Exact>(alloc: Global, market: &Market) -> Result<List<N>, Mem
 }
 
 /// Where nothing is accepted, what each bus puts in and then what each line carries.
-fn idle_flows<N: Exact>(alloc: Global, market: &Market) -> Result<Vec<N>, Stop<N>>
-    ensures flows { IfOk result (λ idle. map N.value idle.items ≡ flows_at market.now (empty market.now)) }
+fn base_flows_of<N: Exact>(alloc: Global, market: &Market) -> Result<Vec<N>, Stop<N>>
+    ensures flows { IfOk result (λ base_flows. map N.value base_flows.items ≡ flows_at market.now (empty market.now)) }
     ensures cause { IfErr result (λ stop. OnPassed stop (λ p. IsFlowsRefusal market.now (empty market.now) N.bound (passed_at N.value p))) }
 {
     let nothing = zeros(alloc, market.blocks().len())?;
-    let mut idle = zeros(alloc, market.buses().len() + market.lines().len())?;
-    flows(market, &nothing, &mut idle)?;
-    Ok(idle)
+    let mut base_flows = zeros(alloc, market.buses().len() + market.lines().len())?;
+    flows(market, &nothing, &mut base_flows)?;
+    Ok(base_flows)
 }
 
 /// What the blocks have to raise the balance by: the opposite of what all buses put in where nothing is accepted.
-fn needed<N: Exact>(market: &Market, idle: &[N]) -> Result<N, Passed<N>>
-    requires { map N.value idle.now ≡ flows_at market.now (empty market.now) }
-    ensures needed { IfOk result (λ mw. N.value mw ≡ needed_of market.now) }
+fn residual_demand<N: Exact>(market: &Market, base_flows: &[N]) -> Result<N, Passed<N>>
+    requires { map N.value base_flows.now ≡ flows_at market.now (empty market.now) }
+    ensures residual_demand { IfOk result (λ mw. N.value mw ≡ residual_demand_of market.now) }
     ensures cause { IfErr result (λ passed. IsRefusedIn (balance_terms market.now (empty market.now)) N.bound (passed_at N.value passed)) }
 {
     let mut balance: N = datum(0);
     for bus in 0..market.buses().len() {
-        balance = balance.plus(idle[bus])?;
+        balance = balance.plus(base_flows[bus])?;
     }
     Ok(balance.neg())
 }
@@ -97,9 +97,9 @@ fn quantity_of<N: Exact>(block: &Block) -> N
 fn first_bounds<N: Exact>(
     alloc: Global,
     market: &Market,
-    needed: N,
+    residual_demand: N,
 ) -> Result<List<Bounds<N>>, Memory>
-    requires { N.value needed ≡ needed_of market.now }
+    requires { N.value residual_demand ≡ residual_demand_of market.now }
     ensures lows { IfOk result (λ bounds. map (λ b. N.value b.low) bounds ≡ lows market.now []) }
     ensures highs { IfOk result (λ bounds. map (λ b. N.value b.high) bounds ≡ highs market.now []) }
 {
@@ -110,22 +110,22 @@ fn first_bounds<N: Exact>(
         bounds.push(Bounds { low, high })?;
     }
     bounds.push(Bounds {
-        low: needed,
-        high: needed,
+        low: residual_demand,
+        high: residual_demand,
     })?;
     Ok(bounds)
 }
 
 /// By how much blocks may raise the flow of a limit: what the flow leaves of it on either side where nothing is accepted.
-fn row_bounds<N: Exact>(market: &Market, idle: &[N], row: Row) -> Result<Bounds<N>, Passed<N>>
+fn row_bounds<N: Exact>(market: &Market, base_flows: &[N], row: Row) -> Result<Bounds<N>, Passed<N>>
     requires row { Contains (rows market.now) row }
-    requires idle { map N.value idle.now ≡ flows_at market.now (empty market.now) }
+    requires base_flows { map N.value base_flows.now ≡ flows_at market.now (empty market.now) }
     ensures low { IfOk result (λ bounds. N.value bounds.low ≡ least_added market.now row) }
     ensures high { IfOk result (λ bounds. N.value bounds.high ≡ most_added market.now row) }
     ensures cause { IfErr result (λ passed. IsBoundRefusal market.now N.bound row (passed_at N.value passed)) }
 {
     let _lines = market.lines();
-    let flow = row_flow(market, idle, row)?;
+    let flow = row_flow(market, base_flows, row)?;
     let limit: N = datum(limit_at(market, row));
     let high = limit.minus(flow)?;
     let low = limit.neg().minus(flow)?;
@@ -133,39 +133,43 @@ fn row_bounds<N: Exact>(market: &Market, idle: &[N], row: Row) -> Result<Bounds<
 }
 
 /// Prices and bounds of a market over the limits taken.
-pub fn terms_of<N: Exact>(
+pub fn prices_and_bounds<N: Exact>(
     alloc: Global,
     market: &Market,
     taken: &[Row],
-) -> Result<Terms<N>, Stop<N>>
+) -> Result<PricesAndBounds<N>, Stop<N>>
     requires rows { All (λ r. Contains (rows market.now) r) taken.now }
-    ensures terms { IfOk result (AreTerms N.value market.now taken.now) }
-    ensures cause { IfErr result (λ stop. OnPassed stop (λ p. IsTermsRefusal market.now N.bound (passed_at N.value p))) }
+    ensures posing { IfOk result (ArePricesAndBounds N.value market.now taken.now) }
+    ensures cause { IfErr result (λ stop. OnPassed stop (λ p. IsPosingRefusal market.now N.bound (passed_at N.value p))) }
 {
     let prices = block_prices(alloc, market)?;
-    let idle = idle_flows(alloc, market)?;
-    let needed = needed(market, &idle)?;
-    let bounds = first_bounds(alloc, market, needed)?;
-    let mut terms = Terms {
+    let base_flows = base_flows_of(alloc, market)?;
+    let residual_demand = residual_demand(market, &base_flows)?;
+    let bounds = first_bounds(alloc, market, residual_demand)?;
+    let mut posing = PricesAndBounds {
         prices,
         bounds,
-        idle,
+        base_flows,
     };
     for row in taken {
-        take_bounds(market, &mut terms, *row)?;
+        take_bounds(market, &mut posing, *row)?;
     }
-    Ok(terms)
+    Ok(posing)
 }
 
-/// The same with the bounds of one limit more. After an `Err` the terms are as they were.
-pub fn take_bounds<N: Exact>(market: &Market, terms: &mut Terms<N>, row: Row) -> Result<(), Stop<N>>
+/// The same with the bounds of one limit more. After an `Err` they are as they were.
+pub fn take_bounds<N: Exact>(
+    market: &Market,
+    posing: &mut PricesAndBounds<N>,
+    row: Row,
+) -> Result<(), Stop<N>>
     requires row { Contains (rows market.now) row }
-    requires terms { (g : List Row) × AreTerms N.value market.now g terms.old }
-    ensures taken { (g : List Row) → AreTerms N.value market.now g terms.old → IfOk result (λ _. AreTerms N.value market.now (g ++ row ∷ []) terms.new) }
-    ensures kept { IfErr result (λ _. terms.new ≡ terms.old) }
-    ensures cause { IfErr result (λ stop. OnPassed stop (λ p. IsTermsRefusal market.now N.bound (passed_at N.value p))) }
+    requires posing { (g : List Row) × ArePricesAndBounds N.value market.now g posing.old }
+    ensures taken { (g : List Row) → ArePricesAndBounds N.value market.now g posing.old → IfOk result (λ _. ArePricesAndBounds N.value market.now (g ++ row ∷ []) posing.new) }
+    ensures kept { IfErr result (λ _. posing.new ≡ posing.old) }
+    ensures cause { IfErr result (λ stop. OnPassed stop (λ p. IsPosingRefusal market.now N.bound (passed_at N.value p))) }
 {
-    let bounds = row_bounds(market, &terms.idle, row)?;
-    terms.bounds.push(bounds)?;
+    let bounds = row_bounds(market, &posing.base_flows, row)?;
+    posing.bounds.push(bounds)?;
     Ok(())
 }

@@ -1,17 +1,17 @@
-use Rattle.std.proofs.Common.{rules, Err, ◌+◌, ◌≡◌, ◌∙◌, ◌++◌, ◌∷◌, [], List, None, map, take, ap, sym, subst}
+use Rattle.std.proofs.Common.{rules, Err, ◌+◌, ◌≡◌, ◌++◌, ◌∷◌, [], List, take, sym, subst}
 use Rattle.std.specs.Prelude.{slice_index_or}
-use Rattle.std.proofs.lemmas.List.{take_more, map-append}
+use Rattle.std.proofs.lemmas.List.{take_more}
 use Rattle.market_model.specs.declared.limits.Row.{Row}
 use Rattle.market_model.specs.declared.limits.Cause.TheVariants.{Base}
 use Rattle.market_dict.specs.Refusals.{of_flows}
-use Rattle.market_dict.specs.Terms.{AreTerms}
+use Rattle.market_dict.specs.PricesAndBounds.{ArePricesAndBounds}
 use Rattle.market_dict.proofs.StopLemmas.{on_passed_weaker}
-use Rattle.market_dict.proofs.terms.terms_of.Goals as goal
+use Rattle.market_dict.proofs.posing.prices_and_bounds.Goals as goal
 
-pub returns-in_err-idle-clause-cause : goal.returns-in_err-idle-clause-cause
-returns-in_err-idle-clause-cause g c =
-    let given : c.from_residual-in_err-idle.result ≡ Err c.in_err-idle.field-0.0 = search rules in
-    rw given (on_passed_weaker c.in_err-idle.field-0.0 _ _ (λ p h. of_flows h) c.in_err-idle.ensures.cause)
+pub returns-in_err-base_flows-clause-cause : goal.returns-in_err-base_flows-clause-cause
+returns-in_err-base_flows-clause-cause g c =
+    let given : c.from_residual-in_err-base_flows.result ≡ Err c.in_err-base_flows.field-0.0 = search rules in
+    rw given (on_passed_weaker c.in_err-base_flows.field-0.0 _ _ (λ p h. of_flows h) c.in_err-base_flows.ensures.cause)
 
 pub take_bounds-requires-clause-row : goal.take_bounds-requires-clause-row
 take_bounds-requires-clause-row g c = c.requires.rows c.loop-row.row-index (record { line = 0; cause = Base }) c.loop-row-test.true
@@ -23,4 +23,4 @@ loop-row-preserved g c =
     let taken = c.args.taken.now in
     let none : Row = record { line = 0; cause = Base } in
     let more : take (k + 1) taken ≡ take k taken ++ slice_index_or taken k none ∷ [] = take_more taken k none c.loop-row-test.true in
-    subst (λ (rs : List Row). AreTerms g.N.Exact.value m rs c.take_bounds.new.terms) (sym more) (c.in_ok-take_bounds.ensures.taken (take k taken) c.loop-row.invariant)
+    subst (λ (rs : List Row). ArePricesAndBounds g.N.Exact.value m rs c.take_bounds.new.posing) (sym more) (c.in_ok-take_bounds.ensures.taken (take k taken) c.loop-row.invariant)
