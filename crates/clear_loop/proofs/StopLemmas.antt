@@ -24,7 +24,7 @@ use Rattle.market_dict.specs.Findings.{IsPairOver, IsSolvedBy, OnPassed}
 use Rattle.market_dict.specs.Refusals.{IsPosingRefusal}
 use Rattle.market_dict.specs.declared.stop.Stop.{Stop}
 use Rattle.market_dict.specs.declared.stop.Stop.TheVariants as stop
-use Rattle.market_dict.proofs.RefusalLaws.{pair_range, terms_range}
+use Rattle.market_dict.proofs.RefusalLaws.{pair_range, posing_range}
 use Rattle.clear_loop.specs.Faults.{stop_of}
 use Rattle.clear_loop.specs.Rounds.{StopsInRange}
 use Rattle.clear_loop.proofs.SolvedLemmas.{flows_range, price_range, screen_range, settlement_range}
@@ -37,7 +37,7 @@ module _ {N : Type 0} (value : N → Fraction) (bound : ℕ) (m : Parts) where
 
   -- where prices and bounds are made
   pub terms_stop : (t g : List Row) (h : Choice) (s : Stop N) → IsMarket m → Growth m t g → IsChoice (system_of m g) h → OnPassed s (λ p. IsPosingRefusal m bound (passed_at value p)) → StopsInRange value bound m t s
-  terms_stop t g h (stop.Passed p) market grown choice refused = terms_range m t g h bound (passed_at value p) market grown choice refused
+  terms_stop t g h (stop.Passed p) market grown choice refused = posing_range m t g h bound (passed_at value p) market grown choice refused
   terms_stop t g h stop.Memory market grown choice refused = tt
 
   -- rows reached from those in hand are reached from those before
