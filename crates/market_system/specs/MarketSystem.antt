@@ -14,7 +14,7 @@ use Rattle.market_model.specs.declared.participants.Parts.{Parts}
 use Rattle.market_model.specs.declared.answered.Dual.{Dual}
 use Rattle.market_model.specs.declared.answered.Duals.{Duals}
 use Rattle.market_model.specs.declared.answered.RowId.{RowId}
-use Rattle.market_model.specs.Dispatch.{Dispatch, zero, places, block_at, signed_by_side, quantity, balance, empty}
+use Rattle.market_model.specs.Dispatch.{Dispatch, zero, places, block_at, signed_by_side, quantity, balance, empty, dispatch_by}
 use Rattle.market_model.specs.declared.limits.Cause.{Cause}
 use Rattle.market_model.specs.declared.limits.Row.{Row}
 use Rattle.market_model.specs.declared.limits.Cause.TheVariants.{Base, Branch}
@@ -136,7 +136,7 @@ system_of m g = system_over m (in_order m g)
 
 -- the dispatch of a choice: the values of the blocks
 abbrev pub choice_dispatch : Parts → List Row → Choice → Dispatch
-choice_dispatch m g h = record { blocks = map (value (system_of m g) h) (places (length m.blocks)) }
+choice_dispatch m g h = dispatch_by (map (value (system_of m g) h) (places (length m.blocks)))
 
 -- the prices of a row by what a MW on its flow costs: of the upper side where that is above 0, of the lower one where it is below
 abbrev pub dual_by : RowId → Fraction → Sign → List (Dual Fraction)
