@@ -7,38 +7,45 @@ use Rattle.market_data.specs.declared.participants.Bus.{Bus}
 use Rattle.market_model.specs.declared.answered.Dual.{Dual}
 use Rattle.market_model.specs.declared.answered.Duals.{Duals}
 use Rattle.market_model.specs.declared.participants.Parts.{Parts}
-use Rattle.market_model.specs.Dispatch.{Dispatch, bus_at, injection, injection_terms, output, output_terms}
+use Rattle.market_model.specs.Dispatch.{Dispatch, bus_at, injection, output, output_terms}
 use Rattle.market_model.specs.declared.limits.Row.{Row}
 use Rattle.market_model.specs.declared.limits.Cause.TheVariants.{Base}
-use Rattle.market_model.specs.LimitRows.{flow_terms, limit, line_flow, line_terms, offset_terms, row_offset}
+use Rattle.market_model.specs.LimitRows.{flow_terms, limit, line_flow, offset_terms, row_offset}
 use Rattle.market_model.specs.NamedSums.{IsRefusedIn, IsRefusal}
 use Rattle.market_model.specs.Optimality.{named_rows}
 use Rattle.market_model.specs.Settlement.{rent_terms, left_terms}
 use Rattle.market_model.specs.Valued.{passed_at}
+use Rattle.limit_screen.specs.Flows.{IsFlowsRefusal}
 use Rattle.settlement.specs.declared.stops.MoneyStop.{MoneyStop}
 use Rattle.settlement.specs.declared.stops.MoneyStop.TheVariants as why
 use Rattle.settlement.specs.Paying.{earned_terms}
 
--- an operation refused where a dispatch is settled at prices of the buses; all rows are rows of the market that the duals name
-pub data IsSettlementRefusal (m : Parts) (x : Dispatch) (price : ℕ → Fraction) (d : Duals Fraction) (bound : ℕ) (p : Passed Fraction) : Type 0 where
+-- an operation refused where a dispatch whose flows are known is settled at prices of the buses; all rows are rows of the market that the duals name
+pub data IsMoneyRefusal (m : Parts) (x : Dispatch) (price : ℕ → Fraction) (d : Duals Fraction) (bound : ℕ) (p : Passed Fraction) : Type 0 where
   -- a unit's output, a bus's demand, and what is paid for these
-  of_output : (u : ℕ) → u < length m.units → IsRefusedIn (output_terms m x u) bound p → IsSettlementRefusal m x price d bound p
-  of_demand : (i : ℕ) → i < length m.buses → IsRefusal Plus (whole (bus_at m i).pd) (whole (bus_at m i).gs) bound p → IsSettlementRefusal m x price d bound p
-  of_money : IsRefusedIn (left_terms m x price) bound p → IsSettlementRefusal m x price d bound p
-  -- what a bus puts in, the flow of a line, and that of a row after an outage
-  of_injection : (i : ℕ) → i < length m.buses → IsRefusedIn (injection_terms m x i) bound p → IsSettlementRefusal m x price d bound p
-  of_line : (l : ℕ) → l < length m.lines → IsRefusedIn (line_terms m (injection m x) l) bound p → IsSettlementRefusal m x price d bound p
-  of_row_flow : (r : Row) → Contains (named_rows m d) r → r.cause ≢ Base → IsRefusedIn (flow_terms m (line_flow m (injection m x)) r) bound p → IsSettlementRefusal m x price d bound p
+  of_output : (u : ℕ) → u < length m.units → IsRefusedIn (output_terms m x u) bound p → IsMoneyRefusal m x price d bound p
+  of_demand : (i : ℕ) → i < length m.buses → IsRefusal Plus (whole (bus_at m i).pd) (whole (bus_at m i).gs) bound p → IsMoneyRefusal m x price d bound p
+  of_money : IsRefusedIn (left_terms m x price) bound p → IsMoneyRefusal m x price d bound p
+  -- the flow of a row after an outage
+  of_row_flow : (r : Row) → Contains (named_rows m d) r → r.cause ≢ Base → IsRefusedIn (flow_terms m (line_flow m (injection m x)) r) bound p → IsMoneyRefusal m x price d bound p
   -- the fixed offset of a row, its limit less that and with it, and its rent
-  of_offset : (r : Row) → Contains (named_rows m d) r → IsRefusedIn (offset_terms m r) bound p → IsSettlementRefusal m x price d bound p
-  of_limit_less : (r : Row) → Contains (named_rows m d) r → IsRefusal Minus (limit m r) (row_offset m r) bound p → IsSettlementRefusal m x price d bound p
-  of_limit_more : (r : Row) → Contains (named_rows m d) r → IsRefusal Plus (limit m r) (row_offset m r) bound p → IsSettlementRefusal m x price d bound p
-  of_rent : (r : Row) → Contains (named_rows m d) r → IsRefusedIn (rent_terms m x d r) bound p → IsSettlementRefusal m x price d bound p
+  of_offset : (r : Row) → Contains (named_rows m d) r → IsRefusedIn (offset_terms m r) bound p → IsMoneyRefusal m x price d bound p
+  of_limit_less : (r : Row) → Contains (named_rows m d) r → IsRefusal Minus (limit m r) (row_offset m r) bound p → IsMoneyRefusal m x price d bound p
+  of_limit_more : (r : Row) → Contains (named_rows m d) r → IsRefusal Plus (limit m r) (row_offset m r) bound p → IsMoneyRefusal m x price d bound p
+  of_rent : (r : Row) → Contains (named_rows m d) r → IsRefusedIn (rent_terms m x d r) bound p → IsMoneyRefusal m x price d bound p
 
--- why a dispatch was not settled: an operation was refused, or memory was
+-- where an operation was refused, P holds of it
+abbrev pub OnRefused : {N : Type 0} → MoneyStop N → (Passed N → Type 0) → Type 0
+OnRefused (why.Passed p) P = P p
+OnRefused why.Memory P = Unit {0}
+
+-- why it was not settled: an operation was refused, or memory was
 abbrev pub IsMoneyStop : {N : Type 0} → (N → Fraction) → ℕ → Parts → Dispatch → (ℕ → Fraction) → Duals Fraction → MoneyStop N → Type 0
-IsMoneyStop value bound m x price d (why.Passed p) = IsSettlementRefusal m x price d bound (passed_at value p)
-IsMoneyStop value bound m x price d why.Memory = Unit {0}
+IsMoneyStop value bound m x price d stop = OnRefused stop (λ p. IsMoneyRefusal m x price d bound (passed_at value p))
+
+-- the same where its flows are made too
+abbrev pub IsSettlementStop : {N : Type 0} → (N → Fraction) → ℕ → Parts → Dispatch → (ℕ → Fraction) → Duals Fraction → MoneyStop N → Type 0
+IsSettlementStop value bound m x price d stop = OnRefused stop (λ p. IsFlowsRefusal m x bound (passed_at value p) ⊎ IsMoneyRefusal m x price d bound (passed_at value p))
 
 -- ---- the same part by part
 -- for a load at a price: its demand, or what it pays
