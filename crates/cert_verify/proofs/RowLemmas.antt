@@ -88,18 +88,18 @@ stopped_by value p q why.Memory to h = tt
 
 module _ (m : Parts) (x : Dispatch) (d : Duals Fraction) (bound : ℕ) (p : Passed Fraction) where
   pub injection_pair : IsInjectionRefusal m x bound p → IsOptimalPair m x d bound p
-  injection_pair (i, lt, h) = in_flow _ (carried _ (injection_at i lt)) h
+  injection_pair (i, lt, h) = in_flow (_, carried _ (injection_at i lt), h)
 
   pub balance_pair : IsRefusedIn (balance_terms m x) bound p → IsOptimalPair m x d bound p
-  balance_pair h = in_flow _ balance_of_all h
+  balance_pair h = in_flow (_, balance_of_all, h)
 
   pub line_pair : IsLineRefusal m (injection m x) bound p → IsOptimalPair m x d bound p
-  line_pair (l, lt, h) = in_flow _ (carried _ (flow_of_line l lt)) h
+  line_pair (l, lt, h) = in_flow (_, carried _ (flow_of_line l lt), h)
 
   pub row_pair : (r : Row) → Contains (rows m) r → IsRefusedIn (flow_terms m (line_flow m (injection m x)) r) bound p → IsOptimalPair m x d bound p
-  row_pair r c h = in_flow _ (flow_of_row r c) h
+  row_pair r c h = in_flow (_, flow_of_row r c, h)
 
   pub price_pair : (i : ℕ) → i < length m.buses → IsPriceRefusal m d i bound p → IsOptimalPair m x d bound p
-  price_pair i lt (inl (inl c)) = in_price _ (congestion_at i lt) c
+  price_pair i lt (inl (inl c)) = in_price (_, congestion_at i lt, c)
   price_pair i lt (inl (inr c)) = of_prices c.0 c.1 c.2
-  price_pair i lt (inr c) = in_price _ (price_at i lt) c
+  price_pair i lt (inr c) = in_price (_, price_at i lt, c)

@@ -43,7 +43,7 @@ surplus_terms m x d = left_terms m x (bus_price m d)
 unfoldable pub surplus : Parts → Dispatch → Duals Fraction → Fraction
 surplus m x d = total (surplus_terms m x d)
 
--- the size at which the prices of a row are paid for where its flow is f: its limit
+-- the MW for which the prices of a row are paid, where its flow is f: its limit
 abbrev pub priced_flow : Parts → Row → Fraction → Fraction
 priced_flow m r f = limit m r
 

@@ -110,7 +110,7 @@ row_variables rs = Balance ∷ map Limit rs
 abbrev pub variables : Parts → List Row → List Variable
 variables m rs = columns m ++ row_variables rs
 
--- the variable of a name in a list; nothing is said at a name that none of them has
+-- the variable of a name in a list; a name that none of them has stands for the balance, and nothing is asked of it
 abbrev pub named : (Variable → ℕ) → List Variable → ℕ → Variable
 named name_of [] w = Balance
 named name_of (v ∷ vs) w = if w == name_of v then v else named name_of vs w
