@@ -21,7 +21,7 @@ use Rattle.market_model.specs.declared.limits.Row.{Row}
 use Rattle.market_model.specs.LimitRows.{rows, row_id, limit, line_flow, line_terms, flow, flow_terms, offset_terms, row_offset}
 use Rattle.market_model.specs.Market.{IsMarket}
 use Rattle.market_model.specs.NamedSums.{SameSize, IsRefusedIn, IsRefusal}
-use Rattle.market_model.specs.SumTables.{FlowSum, injection_at, flow_of_line, flow_of_row, congestion_at, MoneySum, welfare_of_all, surplus_of_all, rent_of_row}
+use Rattle.market_model.specs.SumTables.{injection_at, flow_of_line, FlowSum, carried, flow_of_row, congestion_at, MoneySum, welfare_of_all, surplus_of_all, rent_of_row}
 use Rattle.market_model.specs.Optimality.{Feasible, Supports, IsOneSided, ProperDuals, named_rows, names_row, same_id, up_in, down_in, bus_price, unit_price, congestion, congestion_terms, welfare_terms}
 use Rattle.market_model.specs.Settlement.{left_terms, rent_terms, surplus_terms}
 use Rattle.market_system.specs.Growth.{BestFor}
@@ -36,7 +36,7 @@ use Rattle.market_system.proofs.PairCases.{law_of_the_pairs, row_flow_number, ro
 use Rattle.market_system.proofs.RowOrder.{is_in-in, is_in-from}
 use Rattle.limit_rows.proofs.ApartLemmas.{names_apart}
 use Rattle.limit_rows.proofs.FactorLemmas.{stands}
-use Rattle.limit_screen.specs.Flows.{flows_at, line_in, IsFlowsRefusal, of_injection as flows_of_injection, of_line as flows_of_line}
+use Rattle.limit_screen.specs.Flows.{flows_at, line_in, IsFlowsRefusal}
 use Rattle.limit_screen.specs.Screening.{IsOverrunRefusal, IsScreenRefusal, of_flow as row_of_flow, of_limit as row_of_limit}
 use Rattle.market_model.proofs.PlaceLists.{map_same}
 use Rattle.bus_prices.specs.Prices.{IsPriceRefusal, of_congestion, of_total}
@@ -123,8 +123,7 @@ module _ (m : Parts) (g : List Row) (x : Dispatch) (d : Duals Fraction) (market 
 
     -- where a dispatch is screened
     pub flows_range : IsFlowsRefusal m x bound p → IsRangeOf m g bound p
-    flows_range (flows_of_injection i lt a) = flow_sum (injection_terms m x i) (injection_at i lt) a
-    flows_range (flows_of_line l lt a) = flow_sum (line_terms m (injection m x) l) (flow_of_line l lt) a
+    flows_range (terms, sum, a) = flow_sum terms (carried terms sum) a
 
     flow_number : (r : Row) → Contains (rows m) r → MarketNumber m g solved.choice Quantity (flow m x r)
     flow_number r c = row_flow_number m g g (growth_none m g) solved.choice solved.is_choice bound p market x injecting r c
@@ -190,8 +189,8 @@ module _ (m : Parts) (g : List Row) (x : Dispatch) (d : Duals Fraction) (market 
             money (surplus_terms m (choice_dispatch m g solved.choice) (choice_duals m g solved.choice)) surplus_of_all
             (subst (λ y. IsRefusedIn (surplus_terms m y (choice_duals m g solved.choice)) bound p) solved.dispatch
             (subst (λ e. IsRefusedIn (surplus_terms m x e) bound p) solved.duals (subst (λ ts. IsRefusedIn ts bound p) left_is a)))
-        settlement_range (of_injection i lt a) = flow_sum (injection_terms m x i) (injection_at i lt) a
-        settlement_range (of_line l lt a) = flow_sum (line_terms m (injection m x) l) (flow_of_line l lt) a
+        settlement_range (of_injection i lt a) = flow_sum (injection_terms m x i) (carried (injection_terms m x i) (injection_at i lt)) a
+        settlement_range (of_line l lt a) = flow_sum (line_terms m (injection m x) l) (carried (line_terms m (injection m x) l) (flow_of_line l lt)) a
         settlement_range (of_row_flow r c after a) = flow_sum (flow_terms m (line_flow m (injection m x)) r) (flow_of_row r (named r c).0) a
         settlement_range (of_offset r c a) = pairs.sum (Some Quantity) (offset_terms m r) (offset_of r (named r c).0) a
         settlement_range (of_limit_less r c a) = pairs.two Quantity (limit m r) (row_offset m r) (is_limit r (named r c).0) (offset_number r (named r c).0) (inr a)

@@ -30,6 +30,7 @@ use Rattle.limit_rows.proofs.FlowSteps.{flow_terms-same}
 use Rattle.limit_rows.proofs.NumberingLemmas.{row_on, all_before}
 use Rattle.limit_rows.proofs.PlaceLemmas.{at_places}
 use Rattle.limit_screen.specs.declared.screening.Broken.{Broken}
+use Rattle.market_model.specs.Market.{IsMarket}
 use Rattle.limit_screen.specs.Flows.{flows_at, line_in, LawOfRowFlows}
 use Rattle.limit_screen.specs.Screening.{AllHold, IsFirstMost, IsWorstNamed, IsWorstOf, overrun_by, rows_to}
 
@@ -129,10 +130,14 @@ line_at_place m x fs l puts h =
     ∙ ap (λ (i : ℕ). get_or back i (whole (pos 0))) left
     ∙ get_or-map-range_with_len (line_flow m (injection m x)) 0 (length m.lines) l l (whole (pos 0)) h from_0
 
-pub law_of_row_flows : LawOfRowFlows
-law_of_row_flows m x fs r market puts c =
+pub row_terms : (m : Parts) (x : Dispatch) (fs : List Fraction) (r : Row) → IsMarket m → fs ≡ flows_at m x → Contains (rows m) r
+    → flow_terms m (line_in m fs) r ≡ flow_terms m (line_flow m (injection m x)) r
+row_terms m x fs r market puts c =
     let places = at_places m market r c in
-    ap total (flow_terms-same m (line_in m fs) (line_flow m (injection m x)) (λ l lt. line_at_place m x fs l puts lt) r places.0 places.1)
+    flow_terms-same m (line_in m fs) (line_flow m (injection m x)) (λ l lt. line_at_place m x fs l puts lt) r places.0 places.1
+
+pub law_of_row_flows : LawOfRowFlows
+law_of_row_flows m x fs r market puts c = ap total (row_terms m x fs r market puts c)
 
 -- of flows of buses and of lines, those of lines alone
 pub terms_behind : {N : Type 0} (value : N → Fraction) (m : Parts) (fs : List N) (n : ℕ) (r : Row) → n ≡ length m.buses → r.line < length m.lines → IsCauseAmong (length m.lines) r.cause

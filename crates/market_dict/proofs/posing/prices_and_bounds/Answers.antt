@@ -3,7 +3,8 @@ use Rattle.std.specs.Prelude.{slice_index_or}
 use Rattle.std.proofs.lemmas.List.{take_more}
 use Rattle.market_model.specs.declared.limits.Row.{Row}
 use Rattle.market_model.specs.declared.limits.Cause.TheVariants.{Base}
-use Rattle.market_dict.specs.Refusals.{of_flows}
+use Rattle.market_model.specs.SumTables.{carried}
+use Rattle.market_dict.specs.Refusals.{of_sum}
 use Rattle.market_dict.specs.PricesAndBounds.{ArePricesAndBounds}
 use Rattle.market_dict.proofs.StopLemmas.{on_passed_weaker}
 use Rattle.market_dict.proofs.posing.prices_and_bounds.Goals as goal
@@ -11,7 +12,7 @@ use Rattle.market_dict.proofs.posing.prices_and_bounds.Goals as goal
 pub returns-in_err-base_flows-clause-cause : goal.returns-in_err-base_flows-clause-cause
 returns-in_err-base_flows-clause-cause g c =
     let given : c.from_residual-in_err-base_flows.result ≡ Err c.in_err-base_flows.field-0.0 = search rules in
-    rw given (on_passed_weaker c.in_err-base_flows.field-0.0 _ _ (λ p h. of_flows h) c.in_err-base_flows.ensures.cause)
+    rw given (on_passed_weaker c.in_err-base_flows.field-0.0 _ _ (λ p h. of_sum (h.0, carried h.0 h.1, h.2)) c.in_err-base_flows.ensures.cause)
 
 pub take_bounds-requires-clause-row : goal.take_bounds-requires-clause-row
 take_bounds-requires-clause-row g c = c.requires.rows c.loop-row.row-index (record { line = 0; cause = Base }) c.loop-row-test.true
