@@ -17,7 +17,7 @@ pub struct Market {
     lost: List<usize>,
     /// The place of the outage of each line, where it is lost in one.
     index: Vec<Option<usize>>,
-    /// The loss factors for these: a row of lines for each outage.
+    /// The loss factors for the lines that outages lose: a row of lines for each outage.
     loss: Vec<i64>,
 }
 
@@ -110,7 +110,8 @@ impl Market {
         self.shift[line * self.parts.buses.len() + bus]
     }
 
-    /// The loss factor of a line for a line that is lost, both by place, in 10^-6.
+    /// The loss factor of a line for a line that is lost, both by place, in 10^-6. It is read at once where an outage loses that line;
+    /// limit rows ask for no other, for which it is looked up in the list.
     pub fn loss(&self, line: usize, lost: usize) -> i64
         requires line { line < length self.now.lines }
         requires lost { lost < length self.now.lines }
