@@ -16,7 +16,7 @@ use Rattle.market_model.specs.declared.participants.Parts.{Parts}
 use Rattle.market_model.specs.Changes.{line_with, with_limit}
 use Rattle.market_model.specs.Dispatch.{places, line_at}
 use Rattle.market_model.specs.LimitRows.{place_of_line}
-use Rattle.market_model.specs.LostLines.{lost_lines, factor_after, AreLostLines, IsIndex}
+use Rattle.market_model.specs.LostLines.{lost_lines, factor_after, AreLostLines, IsOutageIndex}
 use Rattle.market_data.specs.Scales.{most_lines, most_outages}
 use Rattle.market_model.specs.Factors.{factor_in, IsTable}
 use Rattle.market_model.specs.Market.{IsMarket}
@@ -147,7 +147,7 @@ module _ (lines : ℕ) (lost : List ℕ) where
           ∙ get_or-set_same index line (Some n) None long
           ∙ ap Some (sym here)
 
-  pub index_all : (n : ℕ) (index : List (Option ℕ)) → n ≡ length lost → IndexTo lines lost n index → IsIndex lines lost index
+  pub index_all : (n : ℕ) (index : List (Option ℕ)) → n ≡ length lost → IndexTo lines lost n index → IsOutageIndex lines lost index
   index_all n index e h = record {
     count = h.count;
     found = λ line outage f. let at = h.found line outage f in (let lt = at.0 in Prim.omega (arith, lt, e), at.1);
@@ -176,7 +176,7 @@ module _ (m : Parts) (l : ℕ) (post : Bool) (mw : ℤ) where
   pub lost_kept : (lost : List ℕ) (index : List (Option ℕ)) (table : List ℤ) → AreLostLines m lost index table → AreLostLines (with_limit m l post mw) lost index table
   lost_kept lost index table h = record {
     lines = h.lines ∙ sym (ap (λ (f : ℕ → ℕ). map f m.outages) (fun_ext place_kept));
-    index = subst (λ (n : ℕ). IsIndex n lost index) (sym lines_kept) h.index;
+    index = subst (λ (n : ℕ). IsOutageIndex n lost index) (sym lines_kept) h.index;
     factors = subst (λ (n : ℕ). IsTable (length lost) n (factor_after m.loss lost) table) (sym lines_kept) h.factors;
   }
 

@@ -9,7 +9,7 @@ use Rattle.std.proofs.lemmas.Nat.{div-mul-add, mod-mul-add, mul-add-lt}
 use Rattle.market_model.specs.declared.participants.Factor.{Factor}
 use Rattle.market_data.specs.Scales.{most_factor}
 use Rattle.market_model.specs.Factors.{is_pair, factor_in, IsTable}
-use Rattle.market_model.specs.LostLines.{factor_after, IsIndex}
+use Rattle.market_model.specs.LostLines.{factor_after, IsOutageIndex}
 use Rattle.market_model.proofs.LostLemmas.{none_some}
 
 abbrev pub NotOnePair : Factor → Factor → Type 0
@@ -114,7 +114,7 @@ table_more lines others fs i d table inside apart p q h =
     (λ l o r s other. factor_in-other fs i d inside apart l o (λ e f. other (sym e) (sym f)))
 
 -- one factor more in the table of lost lines
-module _ (lines : ℕ) (lost : List ℕ) (index : List (Option ℕ)) (is : IsIndex lines lost index) (fs : List Factor) (i : ℕ) (d : Factor) (inside : i < length fs) (apart : AllPairs NotOnePair fs)
+module _ (lines : ℕ) (lost : List ℕ) (index : List (Option ℕ)) (is : IsOutageIndex lines lost index) (fs : List Factor) (i : ℕ) (d : Factor) (inside : i < length fs) (apart : AllPairs NotOnePair fs)
     (table : List ℤ) (h : IsTable (length lost) lines (factor_after (take i fs) lost) table) where
   abbrev outage_of : Option ℕ
   outage_of = slice_index_or index (get_or fs i d).of None

@@ -1,7 +1,7 @@
 //! A market whose parts fit together.
 
 use crate::factor_table::{listed_factor, loss_table, table_of};
-use crate::outages::{index_of, lost_lines, place_of_line};
+use crate::outages::{lost_lines, outage_index, place_of_line};
 use crate::{Block, Bus, Line, Parts, Unit};
 use plain_list::{List, Memory};
 use std::alloc::Global;
@@ -201,7 +201,7 @@ pub fn assemble(alloc: Global, parts: Parts) -> Result<Market, Memory>
     let lines = parts.lines.len();
     let shift = table_of(alloc, parts.shift.slice(), lines, parts.buses.len())?;
     let lost = lost_lines(alloc, &parts)?;
-    let index = index_of(alloc, lines, lost.slice())?;
+    let index = outage_index(alloc, lines, lost.slice())?;
     let loss = loss_table(alloc, parts.loss.slice(), lines, lost.slice(), &index)?;
     Ok(Market {
         parts,

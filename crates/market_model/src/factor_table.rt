@@ -3,7 +3,7 @@
 ghost use Rattle.std.specs.Prelude.{◌≡◌, ◌≤◌, ◌*◌, length, IfOk};
 ghost use Rattle.market_data.specs.Scales.{most_lines, most_outages};
 ghost use Rattle.market_model.specs.Factors.{factor_in, IsTable};
-ghost use Rattle.market_model.specs.LostLines.{factor_after, IsIndex};
+ghost use Rattle.market_model.specs.LostLines.{factor_after, IsOutageIndex};
 ghost use Rattle.market_model.specs.Market.{AreTableFactors};
 
 use crate::Factor;
@@ -43,7 +43,7 @@ pub(crate) fn loss_table(
     requires factors { AreTableFactors lines lines factors.now }
     requires lines { lines ≤ most_lines }
     requires lost { length lost.now ≤ most_outages }
-    requires index { IsIndex lines lost.now index.now }
+    requires index { IsOutageIndex lines lost.now index.now }
     ensures { IfOk result (λ table. IsTable (length lost.now) lines (factor_after factors.now lost.now) table.items) }
 {
     let mut table = match vec![in alloc; 0i64; lost.len() * lines] {

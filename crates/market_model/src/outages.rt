@@ -2,7 +2,7 @@
 
 ghost use Rattle.std.specs.Prelude.{◌≡◌, ◌≢◌, ◌<◌, length, All, AllPairs, IfOk};
 ghost use Rattle.market_model.specs.LimitRows.{place_of_line};
-ghost use Rattle.market_model.specs.LostLines.{lost_lines, IsIndex};
+ghost use Rattle.market_model.specs.LostLines.{lost_lines, IsOutageIndex};
 
 use crate::Parts;
 use plain_list::{List, Memory};
@@ -34,14 +34,14 @@ pub(crate) fn lost_lines(alloc: Global, parts: &Parts) -> Result<List<usize>, Me
 }
 
 /// The place of the outage of each line, where it is lost in one.
-pub(crate) fn index_of(
+pub(crate) fn outage_index(
     alloc: Global,
     lines: usize,
     lost: &[usize],
 ) -> Result<Vec<Option<usize>>, Memory>
     requires inside { All (λ line. line < lines) lost.now }
     requires distinct { AllPairs (λ a b. a ≢ b) lost.now }
-    ensures { IfOk result (λ index. IsIndex lines lost.now index.items) }
+    ensures { IfOk result (λ index. IsOutageIndex lines lost.now index.items) }
 {
     let mut index = match vec![in alloc; None; lines] {
         Ok(index) => index,

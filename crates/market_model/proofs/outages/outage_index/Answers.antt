@@ -1,6 +1,6 @@
 use Rattle.std.proofs.Common.{refl, arith}
 use Rattle.market_model.proofs.LostLemmas.{index_more, index_all}
-use Rattle.market_model.proofs.outages.index_of.Goals as goal
+use Rattle.market_model.proofs.outages.outage_index.Goals as goal
 
 pub loop-outage-preserved : goal.loop-outage-preserved
 loop-outage-preserved c = record {
