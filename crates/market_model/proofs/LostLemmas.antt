@@ -1,5 +1,5 @@
 -- The lines of branch rows and of outages, and the index of those that are lost.
-use Rattle.std.specs.Prelude.{◌≡◌, ◌≢◌, ◌==◌, ◌⊎◌, Contains, ℕ, ◌+◌, ◌*◌, ◌<◌, ◌≤◌, ℤ, pos, Bool, true, false, List, map, length, replicate, slice_set, slice_index_or, Option, Some, None, All, AllPairs, refl}
+use Rattle.std.specs.Prelude.{◌≡◌, ◌≢◌, ◌==◌, ◌⊎◌, Contains, ℕ, ◌+◌, ◌*◌, ◌<◌, ◌≤◌, ℤ, pos, Bool, true, false, List, map, length, slice_set, slice_index_or, Option, Some, None, All, AllPairs, refl}
 use Rattle.std.specs.List.{position_or_len}
 use Rattle.std.proofs.Common.{arith, ap, ap₂, sym, subst, ◌∙◌, inl, inr, get_or}
 use Rattle.std.proofs.Math.ListN.{get_or-map as get_or-mapped}
@@ -7,7 +7,7 @@ use Rattle.std.proofs.Math.Nat.{mul-le-mul}
 use Rattle.std.proofs.Math.Path.{fun_ext}
 use Rattle.std.proofs.lemmas.Bool.{cases_lt, eq-eqb, ne_eqb}
 use Rattle.std.proofs.lemmas.Bool.Decides.{eqb_tells}
-use Rattle.std.proofs.lemmas.List.{get_or_default, get_or-map, get_or-replicate, get_or-set_same, get_or-set_other, get_or_past, length-map, length-replicate, length-set}
+use Rattle.std.proofs.lemmas.List.{get_or_default, get_or-map, get_or-set_same, get_or-set_other, length-map, length-set}
 use Rattle.std.proofs.lemmas.List.FromFn.{length-range_with_len, get_or-range_with_len}
 use Rattle.std.proofs.lemmas.List.Sums.{position_or_len_is}
 use Rattle.std.proofs.lemmas.Nat.{mul-add-lt}
@@ -94,25 +94,7 @@ pub record IndexTo (lines : ℕ) (lost : List ℕ) (n : ℕ) (index : List (Opti
 pub none_some : (o : Option ℕ) (a : ℕ) → o ≡ None → o ≡ Some a → ⊥
 none_some o a e f = Prim.cc
 
--- no line has an outage yet
-abbrev pub none_listed : ℕ → List (Option ℕ)
-none_listed n = replicate n None
-
-read_none : (n i : ℕ) → slice_index_or (none_listed n) i None ≡ None
-read_none n i = by (cases_lt i n)
-  where
-    by : (i < n) ⊎ (n ≤ i) → slice_index_or (none_listed n) i None ≡ None
-    by (inl lt) = get_or-replicate n i None None lt
-    by (inr ge) = get_or_past (none_listed n) i None (let long : length (none_listed n) ≡ n = length-replicate n None in Prim.omega (arith, ge, long))
-
 module _ (lines : ℕ) (lost : List ℕ) where
-  pub index_none : IndexTo lines lost 0 (none_listed lines)
-  index_none = record {
-    count = length-replicate lines None;
-    found = λ line outage e. absurd (none_some (slice_index_or (none_listed lines) line None) outage (read_none lines line) e);
-    all = λ outage h. absurd (Prim.omega (arith, h));
-  }
-
   pub index_more : (n : ℕ) (line : ℕ) (index : List (Option ℕ)) → n < length lost → line ≡ slice_index_or lost n 0 → line < lines → AllPairs (λ a b. a ≢ b) lost → IndexTo lines lost n index
       → IndexTo lines lost (n + 1) (slice_set index line (Some n))
   index_more n line index inside is within apart h = record {
