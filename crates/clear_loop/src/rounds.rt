@@ -7,7 +7,7 @@ ghost use Rattle.clear_loop.specs.Starts.{rows_in};
 
 use crate::answering::answer_of;
 use crate::hand::{Hand, Taken, with_row};
-use crate::screen::broken;
+use crate::screen::{Screened, screened_at};
 use exact_fraction::Exact;
 use linear_dict::Dict;
 use market_dict::{Found, Stop, solve};
@@ -57,10 +57,12 @@ fn one_round<N: Exact>(alloc: Global, market: &Market, hand: Hand<N>) -> Result<
             }));
         }
     };
-    match broken(alloc, market, dispatch.slice())? {
-        Some(row) => Ok(Round::Broken(with_row(alloc, market, dict, posing, taken, row)?)),
-        None => {
-            let answer = answer_of(alloc, market, dispatch, duals)?;
+    match screened_at(alloc, market, dispatch.slice())? {
+        Screened::Broken(row) => Ok(Round::Broken(with_row(
+            alloc, market, dict, posing, taken, row,
+        )?)),
+        Screened::Within(flows) => {
+            let answer = answer_of(alloc, market, dispatch, &flows, duals)?;
             Ok(Round::Done(Ended {
                 dict,
                 taken,

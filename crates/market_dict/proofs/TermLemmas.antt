@@ -1,7 +1,7 @@
 -- The prices and bounds of a market's dictionary, one after the other.
 use Rattle.std.specs.Prelude.{◌≡◌, ℕ, ◌+◌, ◌-◌, ◌<◌, pos, List, [], ◌∷◌, ◌++◌, length, map}
 use Rattle.std.proofs.Common.{arith, ap, ap₂, sym, ◌∙◌, get_or, append_assoc}
-use Rattle.std.proofs.lemmas.List.{map-append, length-append, get_or_append_left}
+use Rattle.std.proofs.lemmas.List.{map-append, get_or_append_left}
 use Rattle.std.proofs.lemmas.List.FromFn.{length-map-range_with_len, get_or-map-range_with_len}
 use Rattle.fraction_theory.specs.Fraction.{Fraction, whole, neg_ℚ, ◌+ℚ◌}
 use Rattle.fraction_theory.specs.Sums.{Plain, total}
@@ -26,12 +26,6 @@ module _ (m : Parts) (x : Dispatch) (fs : List Fraction) (puts : fs ≡ flows_at
 
   back : List Fraction
   back = map (line_flow m (injection m x)) (places (length m.lines))
-
-  pub flow_count : length fs ≡ length m.buses + length m.lines
-  flow_count =
-      let first : length (map (injection m x) (places (length m.buses))) ≡ length m.buses = length-map-range_with_len (injection m x) 0 (length m.buses) in
-      let second : length (map (line_flow m (injection m x)) (places (length m.lines))) ≡ length m.lines = length-map-range_with_len (line_flow m (injection m x)) 0 (length m.lines) in
-      ap length puts ∙ length-append (map (injection m x) (places (length m.buses))) (map (line_flow m (injection m x)) (places (length m.lines))) ∙ ap₂ ◌+◌ first second
 
   pub bus_at_place : (i : ℕ) → i < length m.buses → get_or fs i (whole (pos 0)) ≡ injection m x i
   bus_at_place i lt =

@@ -42,7 +42,8 @@ use Rattle.market_system.specs.MarketNumbers.{of_system, of_sum, is_fixed, is_up
 use Rattle.market_system.specs.ModestMarkets.{IsModest, LawOfModestMarkets, modest_mw, modest_price}
 use Rattle.market_system.specs.WorkingPairs.{IsMoneyCase, IsWorkingPair}
 use Rattle.market_system.specs.Growth.{GrowsBy}
-use Rattle.market_system.proofs.SystemLaws.{from_places, variable_in}
+use Rattle.market_system.proofs.SystemLaws.{variable_in}
+use Rattle.market_system.proofs.VariableLaws.{from_places}
 use Rattle.market_system.proofs.ModestNumbers.{IsWholeWithin, whole_within, nil_within, wider, neg_within, plus_within, times_within, same_within, sum_fits, product_fits, AreWithin, append_within, map_within, prefix_within, term_within}
 use Rattle.market_system.proofs.ModestChoices.{entry_within, energy_within}
 use Rattle.market_system.proofs.ModestMarkets.{most_injection, most_balance, most_value, most_output, most_of, signed_within, load_within, shunt_within, fixed_within, up_within, down_within, quantity_within, price_within, block_value_within, injection_within, balance_within, output_terms_within, output_within, demand_within, empty_small, empty_balance_within, dispatch_small, system_within}

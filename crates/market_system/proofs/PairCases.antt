@@ -256,7 +256,7 @@ module _ (m : Parts) (taken g : List Row) (reached : Growth m taken g) (h : Choi
     )
 
     flows_scaled : (terms : List Term) → FlowSum m x terms → AreScaled Quantity terms
-    flows_scaled terms (carried same sum) = carried_scaled terms sum
+    flows_scaled terms (carried same part) = carried_scaled terms part
     flows_scaled terms balance_of_all = scaled_map Quantity (λ i. Plain (injection m x i)) (places (length m.buses)) (λ i c. tt)
     flows_scaled terms (flow_of_row r c) = let s = stands m market r c in after r.line r.cause s.line s.lost
 

@@ -12,9 +12,8 @@ use Rattle.market_model.specs.SumTables.{flow_of_row}
 use Rattle.market_model.specs.Valued.{passed_at}
 use Rattle.market_model.proofs.SumSteps.{refusal}
 use Rattle.limit_rows.proofs.PlaceLemmas.{at_places}
-use Rattle.limit_screen.proofs.ScreenLemmas.{law_of_row_flows, row_terms}
+use Rattle.limit_screen.proofs.ScreenLemmas.{flow_count, law_of_row_flows, row_terms}
 use Rattle.market_dict.specs.Refusals.{of_high, of_low, of_sum, of_bound}
-use Rattle.market_dict.proofs.TermLemmas.{flow_count}
 use Rattle.market_dict.proofs.posing.row_bounds.Goals as goal
 
 pub row_flow-requires-clause-flows : goal.row_flow-requires-clause-flows

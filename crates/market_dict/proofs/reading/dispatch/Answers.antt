@@ -4,7 +4,7 @@ use Rattle.linear_dict.specs.Notes.{Noted}
 use Rattle.linear_system.specs.Choices.{value as value_of}
 use Rattle.market_model.specs.Dispatch.{places, dispatch_by}
 use Rattle.market_system.specs.MarketSystem.{system_of}
-use Rattle.market_system.proofs.SystemLaws.{from_places}
+use Rattle.market_system.proofs.VariableLaws.{from_places}
 use Rattle.market_dict.proofs.HoldingLaws.{block_named, shown_value}
 use Rattle.market_dict.proofs.ListedLemmas.{map-members, places_filled}
 use Rattle.market_dict.proofs.ReadingLemmas.{name_count, block_rank}
