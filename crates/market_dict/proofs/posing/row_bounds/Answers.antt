@@ -11,9 +11,8 @@ use Rattle.market_model.specs.NamedSums.{IsRefusedIn}
 use Rattle.market_model.specs.Valued.{passed_at}
 use Rattle.market_model.proofs.SumSteps.{refusal}
 use Rattle.limit_rows.proofs.PlaceLemmas.{at_places}
-use Rattle.limit_screen.proofs.ScreenLemmas.{law_of_row_flows}
+use Rattle.limit_screen.proofs.ScreenLemmas.{flow_count, law_of_row_flows, row_terms_at}
 use Rattle.market_dict.specs.Refusals.{of_flow, of_high, of_low}
-use Rattle.market_dict.proofs.TermLemmas.{flow_count, row_terms}
 use Rattle.market_dict.proofs.posing.row_bounds.Goals as goal
 
 pub row_flow-requires-clause-flows : goal.row_flow-requires-clause-flows
@@ -31,10 +30,11 @@ limit_at-requires g c = (at_places c.args.market.now c.lines-lines.ensures.marke
 pub returns-in_err-flow-clause-cause : goal.returns-in_err-flow-clause-cause
 returns-in_err-flow-clause-cause g c =
     let m = c.args.market.now in
+    let places = at_places m c.lines-lines.ensures.market c.args.row c.requires.row in
     let given : c.from_residual.result ≡ Err c.in_err-flow.field-0.0 = search rules in
     rw given
     (of_flow (subst (λ (ts : List Term). IsRefusedIn ts g.N.Exact.bound (passed_at g.N.Exact.value c.in_err-flow.field-0.0))
-    (row_terms m (empty m) (map g.N.Exact.value c.args.base_flows.now) c.requires.base_flows c.args.row c.lines-lines.ensures.market c.requires.row) c.in_err-flow.ensures.cause))
+    (row_terms_at m (empty m) (map g.N.Exact.value c.args.base_flows.now) c.requires.base_flows c.args.row places.0 places.1) c.in_err-flow.ensures.cause))
 
 pub returns-in_err-high-clause-cause : goal.returns-in_err-high-clause-cause
 returns-in_err-high-clause-cause g c =
