@@ -7,12 +7,12 @@ use Rattle.market_model.specs.declared.answered.Duals.{Duals}
 use Rattle.market_model.specs.declared.participants.Parts.{Parts}
 use Rattle.market_model.specs.Dispatch.{Dispatch, balance, empty}
 use Rattle.market_model.specs.Infeasibility.{limit_terms}
-use Rattle.market_model.specs.LimitRows.{rows, limit, flow}
+use Rattle.market_model.specs.LimitRows.{rows, most_flow, flow}
 use Rattle.cert_sums.specs.Named.{PricedRow}
 
--- what the prices of a row make of what its flow leaves of its limit on either side
+-- what the prices of a row make of what its flow leaves of its most on either side
 abbrev pub left_at : Parts → Dispatch → PricedRow → Fraction
-left_at m x e = e.up *ℚ (limit m e.row -ℚ flow m x e.row) +ℚ e.down *ℚ (limit m e.row +ℚ flow m x e.row)
+left_at m x e = e.up *ℚ (most_flow m e.row -ℚ flow m x e.row) +ℚ e.down *ℚ (most_flow m e.row +ℚ flow m x e.row)
 
 -- the terms of the bound but those of blocks
 abbrev pub limits_terms : Parts → Duals Fraction → List Term

@@ -7,7 +7,7 @@ use Rattle.market_model.specs.declared.answered.Duals.{Duals}
 use Rattle.market_model.specs.declared.participants.Parts.{Parts}
 use Rattle.market_model.specs.Dispatch.{Dispatch, injection}
 use Rattle.market_model.specs.declared.limits.Row.{Row}
-use Rattle.market_model.specs.LimitRows.{flow, flow_terms, limit, line_flow}
+use Rattle.market_model.specs.LimitRows.{flow, flow_terms, most_flow, line_flow}
 use Rattle.market_model.specs.NamedSums.{IsRefusedIn, IsRefusal, IsShareRefusal}
 use Rattle.market_model.specs.Optimality.{up_of, down_of, named_rows, congestion_terms, price_terms}
 use Rattle.market_model.specs.Valued.{passed_at}
@@ -37,15 +37,15 @@ IsPriceRefusal m d i bound p = IsCongestionRefusal m d i bound p ⊎ IsRefusedIn
 abbrev pub IsNetPriceRefusal : Fraction → Fraction → Fraction → Fraction → ℕ → Passed Fraction → Type 0
 IsNetPriceRefusal sum up down k bound p = IsRefusal Minus up down bound p ⊎ IsShareRefusal sum (neg_ℚ (up -ℚ down)) k bound p
 
--- what a flow leaves of a limit, or what a price makes of that
+-- what a flow leaves of the most that it may be, or what a price makes of that
 abbrev pub IsAboveRefusal : Fraction → Fraction → Fraction → Fraction → ℕ → Passed Fraction → Type 0
 IsAboveRefusal sum price limit flow bound p = IsRefusal Minus limit flow bound p ⊎ IsShareRefusal sum price (limit -ℚ flow) bound p
 
 abbrev pub IsBelowRefusal : Fraction → Fraction → Fraction → Fraction → ℕ → Passed Fraction → Type 0
 IsBelowRefusal sum price limit flow bound p = IsRefusal Plus limit flow bound p ⊎ IsShareRefusal sum price (limit +ℚ flow) bound p
 
--- the flow of a row, or what its prices make of what that leaves of the limit on either side
+-- the flow of a row, or what its prices make of what that leaves of its most on either side
 pub data IsLimitRefusal (m : Parts) (x : Dispatch) (e : PricedRow) (sum : Fraction) (bound : ℕ) (p : Passed Fraction) : Type 0 where
   in_flow : IsRefusedIn (flow_terms m (line_flow m (injection m x)) e.row) bound p → IsLimitRefusal m x e sum bound p
-  in_above : IsAboveRefusal sum e.up (limit m e.row) (flow m x e.row) bound p → IsLimitRefusal m x e sum bound p
-  in_below : IsBelowRefusal (sum +ℚ e.up *ℚ (limit m e.row -ℚ flow m x e.row)) e.down (limit m e.row) (flow m x e.row) bound p → IsLimitRefusal m x e sum bound p
+  in_above : IsAboveRefusal sum e.up (most_flow m e.row) (flow m x e.row) bound p → IsLimitRefusal m x e sum bound p
+  in_below : IsBelowRefusal (sum +ℚ e.up *ℚ (most_flow m e.row -ℚ flow m x e.row)) e.down (most_flow m e.row) (flow m x e.row) bound p → IsLimitRefusal m x e sum bound p

@@ -22,12 +22,13 @@ use Rattle.limit_rows.proofs.PlaceLemmas.{lost_inside, same_name}
 use Rattle.cert_sums.specs.declared.stops.VerifyStop.{VerifyStop}
 use Rattle.cert_sums.specs.declared.stops.VerifyStop.TheVariants as why
 use Rattle.cert_sums.specs.Pairs.{IsOptimalPair, in_flow, in_price, of_prices}
-use Rattle.market_model.specs.SumTables.{injection_at, balance_of_all, flow_of_line, flow_of_row, congestion_at, price_at}
+use Rattle.market_model.specs.SumTables.{injection_at, flow_of_line, carried, balance_of_all, flow_of_row, congestion_at, price_at}
 use Rattle.limit_rows.specs.LineFlows.{AreFlows, IsLineRefusal}
 use Rattle.limit_rows.proofs.FlowSteps.{row_terms_are}
 use Rattle.market_model.specs.PutIn.{put_in, IsInjectionRefusal}
 use Rattle.cert_sums.specs.Refusals.{IsPriceRefusal, OnPassed}
-use Rattle.cert_verify.specs.Reasons.{has_no_row, has_slack, is_of, prices_slack}
+use Rattle.limit_rows.specs.Naming.{has_name}
+use Rattle.cert_verify.specs.Reasons.{has_no_row, has_slack, prices_slack}
 use Rattle.cert_verify.proofs.TestLemmas.{any_of, any_none, not_both, not_true}
 use Rattle.cert_verify.proofs.VerdictLemmas.{named}
 
@@ -36,35 +37,35 @@ use Rattle.cert_verify.proofs.VerdictLemmas.{named}
 abbrev pub IsUnknown : Parts → Dual Fraction → Type 0
 IsUnknown m e = (r : Row) → Contains (rows m) r → row_id m r ≢ e.row
 
-not_of : (m : Parts) (e : Dual Fraction) → IsUnknown m e → (r : Row) → Contains (rows m) r → is_of m e r ≡ false
-not_of m e none r c = by (is_of m e r) refl
+not_of : (m : Parts) (e : Dual Fraction) → IsUnknown m e → (r : Row) → Contains (rows m) r → has_name m e.row r ≡ false
+not_of m e none r c = by (has_name m e.row r) refl
   where
-    by : (b : Bool) → is_of m e r ≡ b → b ≡ false
+    by : (b : Bool) → has_name m e.row r ≡ b → b ≡ false
     by true t = absurd (none r c (same_name (row_id m r) e.row t))
     by false t = refl
 
 -- whether a dual has no row, where its name was looked up
 pub no_row_by : (m : Parts) (e : Dual Fraction) (o : Option Row) → MatchOption o (IsUnknown m e) (λ row. Contains (rows m) row × (row_id m row ≡ e.row))
     → (b : Bool) → is_some o ≡ not b → has_no_row m e ≡ b
-no_row_by m e None h true none = ap not (any_none (is_of m e) (rows m) (not_of m e h))
+no_row_by m e None h true none = ap not (any_none (has_name m e.row) (rows m) (not_of m e h))
 no_row_by m e None h false none = absurd (true≢false (sym none))
 no_row_by m e (Some row) h true none = absurd (true≢false none)
-no_row_by m e (Some row) h false none = not_true (list_any (is_of m e) (rows m)) (any_of (is_of m e) (rows m) row h.0 (named (row_id m row) e.row h.1))
+no_row_by m e (Some row) h false none = not_true (list_any (has_name m e.row) (rows m)) (any_of (has_name m e.row) (rows m) row h.0 (named (row_id m row) e.row h.1))
 
 pub no_slack : (m : Parts) (x : Dispatch) (e : Dual Fraction) → IsUnknown m e → has_slack m x e ≡ false
 no_slack m x e none =
-    any_none (λ r. is_of m e r && prices_slack e (flow m x r) (limit m r)) (rows m)
-    (λ r c. not_both (is_of m e r) (prices_slack e (flow m x r) (limit m r)) (λ t. absurd (true≢false (sym t ∙ not_of m e none r c))))
+    any_none (λ r. has_name m e.row r && prices_slack e (flow m x r) (limit m r)) (rows m)
+    (λ r c. not_both (has_name m e.row r) (prices_slack e (flow m x r) (limit m r)) (λ t. absurd (true≢false (sym t ∙ not_of m e none r c))))
 
 -- of the row of its name alone
 pub slack_named : (m : Parts) → IsMarket m → (x : Dispatch) (e : Dual Fraction) (r : Row) → Contains (rows m) r → row_id m r ≡ e.row → has_slack m x e ≡ prices_slack e (flow m x r) (limit m r)
 slack_named m market x e r c same = by (prices_slack e (flow m x r) (limit m r)) refl
   where
     by : (b : Bool) → prices_slack e (flow m x r) (limit m r) ≡ b → has_slack m x e ≡ b
-    by true t = any_of (λ s. is_of m e s && prices_slack e (flow m x s) (limit m s)) (rows m) r c (Prim.rw (named (row_id m r) e.row same, t) refl)
+    by true t = any_of (λ s. has_name m e.row s && prices_slack e (flow m x s) (limit m s)) (rows m) r c (Prim.rw (named (row_id m r) e.row same, t) refl)
     by false t =
-        any_none (λ s. is_of m e s && prices_slack e (flow m x s) (limit m s)) (rows m)
-        (λ s k. not_both (is_of m e s) (prices_slack e (flow m x s) (limit m s))
+        any_none (λ s. has_name m e.row s && prices_slack e (flow m x s) (limit m s)) (rows m)
+        (λ s k. not_both (has_name m e.row s) (prices_slack e (flow m x s) (limit m s))
         (λ u. subst (λ (z : Row). prices_slack e (flow m x z) (limit m z) ≡ false) (same_row m market r s c k (same ∙ sym (same_name (row_id m s) e.row u))) t))
 
 -- the lost line of a cause is one of the market
@@ -87,13 +88,13 @@ stopped_by value p q why.Memory to h = tt
 
 module _ (m : Parts) (x : Dispatch) (d : Duals Fraction) (bound : ℕ) (p : Passed Fraction) where
   pub injection_pair : IsInjectionRefusal m x bound p → IsOptimalPair m x d bound p
-  injection_pair (i, lt, h) = in_flow _ (injection_at i lt) h
+  injection_pair (i, lt, h) = in_flow _ (carried _ (injection_at i lt)) h
 
   pub balance_pair : IsRefusedIn (balance_terms m x) bound p → IsOptimalPair m x d bound p
   balance_pair h = in_flow _ balance_of_all h
 
   pub line_pair : IsLineRefusal m (injection m x) bound p → IsOptimalPair m x d bound p
-  line_pair (l, lt, h) = in_flow _ (flow_of_line l lt) h
+  line_pair (l, lt, h) = in_flow _ (carried _ (flow_of_line l lt)) h
 
   pub row_pair : (r : Row) → Contains (rows m) r → IsRefusedIn (flow_terms m (line_flow m (injection m x)) r) bound p → IsOptimalPair m x d bound p
   row_pair r c h = in_flow _ (flow_of_row r c) h

@@ -22,7 +22,8 @@ use Rattle.market_model.specs.Optimality.{BlockSupported, Gains, Loses, RowSuppo
 use Rattle.limit_rows.proofs.PlaceLemmas.{same_name}
 use Rattle.cert_verify.specs.declared.verdicts.Reason.TheVariants as reason
 use Rattle.cert_verify.specs.Certificates.{ProvesInfeasible, IsOptimum, NamesRows}
-use Rattle.cert_verify.specs.Reasons.{bound_reason, block_reason, count_reason, balance_reason, differ, farkas_reasons, first_of, gains, has_negative, has_no_row, has_slack, is_below, is_beyond, is_broken, is_of, is_unsupported, limit_reason, loses, optimal_reasons, prices_slack, row_reason, sign_reason, slack_reason, support_reason}
+use Rattle.limit_rows.specs.Naming.{has_name}
+use Rattle.cert_verify.specs.Reasons.{bound_reason, block_reason, count_reason, balance_reason, differ, farkas_reasons, first_of, gains, has_negative, has_no_row, has_slack, is_below, is_beyond, is_broken, is_unsupported, limit_reason, loses, optimal_reasons, prices_slack, row_reason, sign_reason, slack_reason, support_reason}
 use Rattle.cert_verify.proofs.TestLemmas.{below_true, below_of, not_below, below_not, same_by, same_not, neither, not_both, then_not, not_false, not_true, any_true, any_of, any_false, any_none, all_by, in_places, from_places, none_of, of_none, not_so, so_none, all_none, none_first}
 
 -- ---- names and their prices
@@ -132,16 +133,16 @@ record HasSigns (e : Dual Fraction) : Type 0 where
   pub down : zero ≤ℚ e.down
 
 names_to : (m : Parts) (ds : List (Dual Fraction)) → row_reason m ds ≡ None → NamesRows m ds
-names_to m ds h = all_by (λ e. (r : Row) × Contains (rows m) r × (row_id m r ≡ e.row)) ds (λ e c. by e (any_true (is_of m e) (rows m) (not_false (list_any (is_of m e) (rows m)) (none_of (λ e. reason.NoRow e.row) (has_no_row m) ds h e c))))
+names_to m ds h = all_by (λ e. (r : Row) × Contains (rows m) r × (row_id m r ≡ e.row)) ds (λ e c. by e (any_true (has_name m e.row) (rows m) (not_false (list_any (has_name m e.row) (rows m)) (none_of (λ e. reason.NoRow e.row) (has_no_row m) ds h e c))))
   where
-    by : (e : Dual Fraction) → (r : Row) × Contains (rows m) r × (is_of m e r ≡ true) → (r : Row) × Contains (rows m) r × (row_id m r ≡ e.row)
+    by : (e : Dual Fraction) → (r : Row) × Contains (rows m) r × (has_name m e.row r ≡ true) → (r : Row) × Contains (rows m) r × (row_id m r ≡ e.row)
     by e (r, c, t) = (r, c, same_name (row_id m r) e.row t)
 
 names_from : (m : Parts) (ds : List (Dual Fraction)) → NamesRows m ds → row_reason m ds ≡ None
 names_from m ds h = of_none (λ e. reason.NoRow e.row) (has_no_row m) ds (λ e c. by e (All-contains (λ e. (r : Row) × Contains (rows m) r × (row_id m r ≡ e.row)) ds e h c))
   where
     by : (e : Dual Fraction) → (r : Row) × Contains (rows m) r × (row_id m r ≡ e.row) → has_no_row m e ≡ false
-    by e (r, c, t) = not_true (list_any (is_of m e) (rows m)) (any_of (is_of m e) (rows m) r c (named (row_id m r) e.row t))
+    by e (r, c, t) = not_true (list_any (has_name m e.row) (rows m)) (any_of (has_name m e.row) (rows m) r c (named (row_id m r) e.row t))
 
 signs_to : (ds : List (Dual Fraction)) → sign_reason ds ≡ None → (e : Dual Fraction) → Contains ds e → HasSigns e
 signs_to ds h e c =
@@ -188,14 +189,14 @@ module _ (m : Parts) (x : Dispatch) where
   -- a dual prices no slack where the flow of no row of its name stands off
   slacks_to : (ds : List (Dual Fraction)) → slack_reason m x ds ≡ None → (e : Dual Fraction) → Contains ds e → (r : Row) → Contains (rows m) r → row_id m r ≡ e.row → Stands m x e.up e.down r
   slacks_to ds h e c r k same =
-      let none = any_false (λ r. is_of m e r && prices_slack e (flow m x r) (limit m r)) (rows m) (none_of (λ e. reason.Slack e.row) (has_slack m x) ds h e c) r k in
-      slack_to e r (then_not (is_of m e r) (prices_slack e (flow m x r) (limit m r)) none (named (row_id m r) e.row same))
+      let none = any_false (λ r. has_name m e.row r && prices_slack e (flow m x r) (limit m r)) (rows m) (none_of (λ e. reason.Slack e.row) (has_slack m x) ds h e c) r k in
+      slack_to e r (then_not (has_name m e.row r) (prices_slack e (flow m x r) (limit m r)) none (named (row_id m r) e.row same))
 
   slacks_from : (ds : List (Dual Fraction)) → ((e : Dual Fraction) → Contains ds e → (r : Row) → Contains (rows m) r → row_id m r ≡ e.row → Stands m x e.up e.down r) → slack_reason m x ds ≡ None
   slacks_from ds h =
       of_none (λ e. reason.Slack e.row) (has_slack m x) ds
-      (λ e c. any_none (λ r. is_of m e r && prices_slack e (flow m x r) (limit m r)) (rows m)
-      (λ r k. not_both (is_of m e r) (prices_slack e (flow m x r) (limit m r)) (λ t. slack_from e r (h e c r k (same_name (row_id m r) e.row t)))))
+      (λ e c. any_none (λ r. has_name m e.row r && prices_slack e (flow m x r) (limit m r)) (rows m)
+      (λ r k. not_both (has_name m e.row r) (prices_slack e (flow m x r) (limit m r)) (λ t. slack_from e r (h e c r k (same_name (row_id m r) e.row t)))))
 
   limits_to : limit_reason m x ≡ None → (r : Row) → Contains (rows m) r → Within (most_flow m r) (flow m x r)
   limits_to h r c =

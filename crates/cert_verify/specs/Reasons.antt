@@ -12,8 +12,9 @@ use Rattle.market_model.specs.declared.participants.Side.TheVariants.{Sell, Buy}
 use Rattle.market_model.specs.Dispatch.{Dispatch, zero, places, block_at, accepted, quantity, balance}
 use Rattle.market_model.specs.Infeasibility.{farkas_bound}
 use Rattle.market_model.specs.declared.limits.Row.{Row}
-use Rattle.market_model.specs.LimitRows.{rows, row_id, limit, flow}
-use Rattle.market_model.specs.Optimality.{price, same_id, unit_price}
+use Rattle.market_model.specs.LimitRows.{rows, row_id, limit, most_flow, flow}
+use Rattle.market_model.specs.Optimality.{price, unit_price}
+use Rattle.limit_rows.specs.Naming.{has_name}
 use Rattle.cert_verify.specs.declared.verdicts.Reason.{Reason}
 use Rattle.cert_verify.specs.declared.verdicts.Reason.TheVariants as reason
 use Rattle.cert_verify.specs.declared.verdicts.Verdict.{Verdict}
@@ -56,18 +57,14 @@ abbrev pub breaks_support : Side → Fraction → Fraction → Fraction → Frac
 breaks_support side price worth quantity mw = (gains side price worth && differ mw quantity) || (loses side price worth && differ mw zero)
 
 -- ---- the same of a market
--- a row has the name of a dual
-abbrev pub is_of : Parts → Dual Fraction → Row → Bool
-is_of m e r = same_id (row_id m r) e.row
-
 abbrev pub has_no_row : Parts → Dual Fraction → Bool
-has_no_row m e = not (list_any (is_of m e) (rows m))
+has_no_row m e = not (list_any (has_name m e.row) (rows m))
 
 abbrev pub is_broken : Parts → Dispatch → Row → Bool
-is_broken m x r = passes (flow m x r) (limit m r)
+is_broken m x r = passes (flow m x r) (most_flow m r)
 
 abbrev pub has_slack : Parts → Dispatch → Dual Fraction → Bool
-has_slack m x e = list_any (λ r. is_of m e r && prices_slack e (flow m x r) (limit m r)) (rows m)
+has_slack m x e = list_any (λ r. has_name m e.row r && prices_slack e (flow m x r) (limit m r)) (rows m)
 
 abbrev pub is_beyond : Parts → Dispatch → ℕ → Bool
 is_beyond m x j = is_outside (accepted x j) (quantity m j)

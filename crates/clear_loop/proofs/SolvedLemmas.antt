@@ -21,7 +21,7 @@ use Rattle.market_model.specs.declared.limits.Row.{Row}
 use Rattle.market_model.specs.LimitRows.{rows, row_id, limit, line_flow, line_terms, flow, flow_terms, offset_terms, row_offset}
 use Rattle.market_model.specs.Market.{IsMarket}
 use Rattle.market_model.specs.NamedSums.{SameSize, IsRefusedIn, IsRefusal}
-use Rattle.market_model.specs.SumTables.{FlowSum, injection_at, flow_of_line, flow_of_row, congestion_at, MoneySum, welfare_of_all, surplus_of_all, rent_of_row}
+use Rattle.market_model.specs.SumTables.{FlowSum, carried, flow_of_row, congestion_at, MoneySum, welfare_of_all, surplus_of_all, rent_of_row}
 use Rattle.market_model.specs.Optimality.{Feasible, Supports, IsOneSided, ProperDuals, named_rows, names_row, same_id, up_in, down_in, bus_price, unit_price, congestion, congestion_terms, welfare_terms}
 use Rattle.market_model.specs.Settlement.{left_terms, rent_terms, surplus_terms}
 use Rattle.market_system.specs.Growth.{BestFor}
@@ -35,9 +35,8 @@ use Rattle.market_system.proofs.GrowthLaws.{growth_none}
 use Rattle.market_system.proofs.PairCases.{law_of_the_pairs, row_flow_number, row_offset_number, congestion_number}
 use Rattle.market_system.proofs.RowOrder.{is_in-in, is_in-from}
 use Rattle.limit_rows.proofs.ApartLemmas.{names_apart}
-use Rattle.limit_rows.proofs.PlaceLemmas.{at_places}
-use Rattle.limit_screen.proofs.ScreenLemmas.{row_terms_at}
-use Rattle.limit_screen.specs.Flows.{flows_at, line_in, IsFlowsRefusal, of_injection, of_line}
+use Rattle.limit_screen.proofs.ScreenLemmas.{row_terms}
+use Rattle.limit_screen.specs.Flows.{flows_at, line_in, IsFlowsRefusal}
 use Rattle.limit_screen.specs.Screening.{IsOverrunRefusal, IsScreenRefusal, of_flow as row_of_flow, of_limit as row_of_limit}
 use Rattle.market_model.proofs.PlaceLists.{map_same}
 use Rattle.bus_prices.specs.Prices.{IsPriceRefusal, of_congestion, of_total}
@@ -124,8 +123,7 @@ module _ (m : Parts) (g : List Row) (x : Dispatch) (d : Duals Fraction) (market 
 
     -- where a dispatch is screened
     pub flows_range : IsFlowsRefusal m x bound p → IsRangeOf m g bound p
-    flows_range (of_injection i lt a) = flow_sum (injection_terms m x i) (injection_at i lt) a
-    flows_range (of_line l lt a) = flow_sum (line_terms m (injection m x) l) (flow_of_line l lt) a
+    flows_range (terms, sum, a) = flow_sum terms (carried terms sum) a
 
     flow_number : (r : Row) → Contains (rows m) r → MarketNumber m g solved.choice Quantity (flow m x r)
     flow_number r c = row_flow_number m g g (growth_none m g) solved.choice solved.is_choice bound p market x injecting r c
@@ -136,8 +134,7 @@ module _ (m : Parts) (g : List Row) (x : Dispatch) (d : Duals Fraction) (market 
 
     row_range : (r : Row) → Contains (rows m) r → IsOverrunRefusal m (line_in m (flows_at m x)) bound r p → IsRangeOf m g bound p
     row_range r c (row_of_flow a) =
-        let places = at_places m market r c in
-        flow_sum (flow_terms m (line_flow m (injection m x)) r) (flow_of_row r c) (subst (λ ts. IsRefusedIn ts bound p) (row_terms_at m x (flows_at m x) refl r places.0 places.1) a)
+        flow_sum (flow_terms m (line_flow m (injection m x)) r) (flow_of_row r c) (subst (λ ts. IsRefusedIn ts bound p) (row_terms m x (flows_at m x) r market refl c) a)
     row_range r c (row_of_limit a) =
         pairs.two Quantity (size_of (flow m x r)) (limit m r) (sized r c (sized_by (flow m x r) (sign_of (flow m x r)))) (is_limit r c)
         (inr (subst (λ f. IsRefusal Minus (size_of f) (limit m r) bound p) (row_is m market x (flows_at m x) refl r c) a))

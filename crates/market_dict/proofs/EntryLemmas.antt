@@ -27,7 +27,7 @@ use Rattle.limit_rows.proofs.PlaceLemmas.{position_named}
 use Rattle.market_system.specs.MarketSystem.{row_name, block_sign, block_coefficient}
 use Rattle.market_system.proofs.DualLists.{rows_apart}
 use Rattle.market_system.proofs.RowOrder.{row_name-at}
-use Rattle.market_system.proofs.SystemLaws.{from_places}
+use Rattle.market_system.proofs.VariableLaws.{from_places}
 
 pub sign_entry : (m : Parts) (k : ℕ) (block : Block) (one entry : Fraction) → block ≡ block_at m k → one ≡ whole (pos 1) → entry ≡ signed_by_side block.side one → entry ≡ block_sign m k
 sign_entry m k block one entry at is e = e ∙ ap₂ (λ (b : Block) (x : Fraction). signed_by_side b.side x) at is

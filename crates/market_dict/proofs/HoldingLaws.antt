@@ -39,15 +39,17 @@ use Rattle.market_model.specs.Market.{IsMarket}
 use Rattle.market_model.specs.Optimality.{block_value}
 use Rattle.limit_rows.proofs.ApartLemmas.{names_apart}
 use Rattle.limit_rows.proofs.FactorLemmas.{stands}
-use Rattle.market_system.specs.MarketSystem.{balance_name, row_name, in_order, block_sign, residual_demand, block_coefficient, least_added, most_added, system_over, system_of}
+use Rattle.market_system.specs.MarketSystem.{name, balance_name, row_name, in_order, block_sign, residual_demand, block_coefficient, least_added, most_added, system_of}
+use Rattle.market_system.specs.declared.variables.Variable.{Variable}
+use Rattle.market_system.specs.declared.variables.Variable.TheVariants.{Block, Balance, Limit}
 use Rattle.market_system.specs.SolvedLaws.{AreRows, AnswersBy, StuckShows, state_at}
 use Rattle.market_system.proofs.DualLists.{rows_apart}
 use Rattle.market_system.proofs.FrameLaws.{law_of_the_frame, block_count, sign_framed, coefficient_framed}
 use Rattle.market_system.proofs.LawsOfSolving.{law_of_the_solved, law_of_the_stuck}
-use Rattle.market_system.proofs.MarketPoints.{IsNameOf, of_block, of_balance, of_row, name_of, row_name_of, mapped, in_mapped, balance_row, row_row, is_system_of, said-at, said-at_balance, low-block, high-block, low-balance, high-balance, low-row, high-row}
+use Rattle.market_system.proofs.MarketPoints.{row_name_of, balance_row, row_row, is_system_of, coefficient-balance, coefficient-row, price-block, low-block, high-block, low-balance, high-balance, low-row, high-row}
 use Rattle.market_system.proofs.RowOrder.{RowsApart, in_order-in, in_order-from, one_name, pairs-append}
 use Rattle.market_system.proofs.StuckMarkets.{limit_sign}
-use Rattle.market_system.proofs.SystemLaws.{in_places, from_places}
+use Rattle.market_system.proofs.VariableLaws.{IsOf, by_variable, in_places, from_places, mapped, in_mapped, column_in as column_of_block, column_below as column_below_blocks}
 use Rattle.market_dict.specs.Holding.{taken_coefficients, HoldsMarket, HoldsSystem, lows, highs}
 use Rattle.market_dict.proofs.NameLists.{ascending_same, flat_at, block_part, balance_part, row_part}
 
@@ -193,7 +195,6 @@ module _ (m : Parts) (g : List Row) (d : Dictionary) (market : IsMarket m) (hold
       by (inr (r, k, e)) = subst (λ (x : ℕ). Contains (system_of m g).rows x) e (row_row m apart g r (listed r k))
 
   row_back : (w : ℕ) → Contains (system_of m g).rows w → Contains d.rows w
-  unfolding system_over
   row_back w c = by (row_name_of m apart g w c)
     where
       by : (w ≡ balance_name m) ⊎ ((r : Row) × Contains (in_order m g) r × (row_name m r ≡ w)) → Contains d.rows w
@@ -201,12 +202,10 @@ module _ (m : Parts) (g : List Row) (d : Dictionary) (market : IsMarket m) (hold
       by (inr (r, k, e)) = subst (λ (x : ℕ). Contains d.rows x) e (row_taken m g d holds r (in_order-from m g r k).1)
 
   column_to : (w : ℕ) → Contains d.columns w → Contains (system_of m g).columns w
-  unfolding system_over
-  column_to w c = subst (λ (ws : List ℕ). Contains ws w) holds.columns c
+  column_to w c = column_of_block m (in_order m g) w (column_below m g d holds w c)
 
   column_back : (w : ℕ) → Contains (system_of m g).columns w → Contains d.columns w
-  unfolding system_over
-  column_back w c = subst (λ (ws : List ℕ). Contains ws w) (sym holds.columns) c
+  column_back w c = block_taken m g d holds w (column_below_blocks m (in_order m g) w c)
 
   -- the names ascend in the market's order: blocks, the balance, and the limit rows in the market's order
   pub holds_names : d.names ≡ (system_of m g).variables
@@ -214,20 +213,12 @@ module _ (m : Parts) (g : List Row) (d : Dictionary) (market : IsMarket m) (hold
       (λ w c. elim (holds.sound.put_in.either w c) [ inl k ↦ system.row w (row_to w k) | inr k ↦ system.column w (column_to w k) ])
       (λ w c. elim (system.either w c) [ inl k ↦ holds.sound.put_in.second_named w (column_back w k) | inr k ↦ holds.sound.put_in.first_named w (row_back w k) ])
 
-  balance_entry_is : (j : ℕ) → (system_of m g).coefficient (balance_name m) j ≡ block_sign m j
-  unfolding system_over
-  balance_entry_is j = said-at_balance m apart g (λ (r : Row). block_coefficient m r j) (block_sign m j)
-
-  row_entry_is : (r : Row) → Contains g r → (j : ℕ) → (system_of m g).coefficient (row_name m r) j ≡ block_coefficient m r j
-  unfolding system_over
-  row_entry_is r c j = said-at m apart g (λ (q : Row). block_coefficient m q j) (block_sign m j) r (listed r c)
-
   entry_is : (r j : ℕ) → Contains d.rows r → j < length m.blocks → (system_in d).coefficient r j ≡ (system_of m g).coefficient r j
   entry_is r j c lt = by (taken_name m g d holds r c)
     where
       by : (r ≡ balance_name m) ⊎ ((q : Row) × Contains g q × (row_name m q ≡ r)) → (system_in d).coefficient r j ≡ (system_of m g).coefficient r j
-      by (inl e) = subst (λ (x : ℕ). (system_in d).coefficient x j ≡ (system_of m g).coefficient x j) (sym e) (balance_entry m g d holds j lt ∙ sym (balance_entry_is j))
-      by (inr (q, k, e)) = subst (λ (x : ℕ). (system_in d).coefficient x j ≡ (system_of m g).coefficient x j) e (row_entry m g d holds q k j lt ∙ sym (row_entry_is q k j))
+      by (inl e) = subst (λ (x : ℕ). (system_in d).coefficient x j ≡ (system_of m g).coefficient x j) (sym e) (balance_entry m g d holds j lt ∙ sym (coefficient-balance m apart g j lt))
+      by (inr (q, k, e)) = subst (λ (x : ℕ). (system_in d).coefficient x j ≡ (system_of m g).coefficient x j) e (row_entry m g d holds q k j lt ∙ sym (coefficient-row m apart g q (listed q k) j lt))
 
   -- so its system has the market's rows
   pub holds_rows : SameRows (system_in d) (system_of m g)
@@ -333,10 +324,10 @@ module _ {N : Type 0} (value_of : N → Fraction) (m : Parts) (g : List Row) (d 
   below j lt = Prim.omega (arith, lt, count m g d holds)
 
   price_is : (j : ℕ) → j < length m.blocks → (system_in e).price j ≡ (system_of m g).price j
-  unfolding system_over
   price_is j lt =
       ap (system_in e).price (sym (column_at m g d holds j lt)) ∙ posing.price j (below j lt) ∙ ap (λ (xs : List Fraction). get_or xs j nil) priced
       ∙ get_or-map-range_with_len (block_value m) 0 (length m.blocks) j j nil lt (Prim.omega arith)
+      ∙ sym (price-block m (rows_apart m (names_apart m market)) g j lt)
 
   -- a bound of each, by the list of those handed in
   module _ (bound : ℕ → Fraction) (first : ℕ → Fraction) (of_limit : Row → Fraction) (list : List Fraction) (is : list ≡ map first (places (length m.blocks)) ++ residual_demand m ∷ map of_limit g)
@@ -368,18 +359,15 @@ module _ {N : Type 0} (value_of : N → Fraction) (m : Parts) (g : List Row) (d 
   abbrev distinct_rows : RowsApart m
   distinct_rows = rows_apart m (names_apart m market)
 
-  low_is : (w : ℕ) → IsNameOf m (rows_apart m (names_apart m market)) g w → (system_in e).low w ≡ (system_of m g).low w
-  low_is _ (of_block j lt) = block_bound (system_in e).low (λ j. nil) (least_added m) low_list low posing.column_low posing.row_low j lt ∙ sym (low-block m distinct_rows g j lt)
-  low_is _ of_balance = balance_bound (system_in e).low (λ j. nil) (least_added m) low_list low posing.column_low posing.row_low ∙ sym (low-balance m distinct_rows g)
-  low_is _ (of_row r c) = row_bound (system_in e).low (λ j. nil) (least_added m) low_list low posing.column_low posing.row_low r (in_order-from m g r c).1 ∙ sym (low-row m distinct_rows g r c)
+  low_is : (v : Variable) → IsOf m (in_order m g) v → (system_in e).low (name m v) ≡ (system_of m g).low (name m v)
+  low_is (Block j) lt = block_bound (system_in e).low (λ j. nil) (least_added m) low_list low posing.column_low posing.row_low j lt ∙ sym (low-block m distinct_rows g j lt)
+  low_is Balance is = balance_bound (system_in e).low (λ j. nil) (least_added m) low_list low posing.column_low posing.row_low ∙ sym (low-balance m distinct_rows g)
+  low_is (Limit r) c = row_bound (system_in e).low (λ j. nil) (least_added m) low_list low posing.column_low posing.row_low r (in_order-from m g r c).1 ∙ sym (low-row m distinct_rows g r c)
 
-  high_is : (w : ℕ) → IsNameOf m (rows_apart m (names_apart m market)) g w → (system_in e).high w ≡ (system_of m g).high w
-  high_is _ (of_block j lt) = block_bound (system_in e).high (quantity m) (most_added m) high_list high posing.column_high posing.row_high j lt ∙ sym (high-block m distinct_rows g j lt)
-  high_is _ of_balance = balance_bound (system_in e).high (quantity m) (most_added m) high_list high posing.column_high posing.row_high ∙ sym (high-balance m distinct_rows g)
-  high_is _ (of_row r c) = row_bound (system_in e).high (quantity m) (most_added m) high_list high posing.column_high posing.row_high r (in_order-from m g r c).1 ∙ sym (high-row m distinct_rows g r c)
-
-  name_at : (w : ℕ) → Contains (system_in e).variables w → IsNameOf m (rows_apart m (names_apart m market)) g w
-  name_at w c = name_of m distinct_rows g w (subst (λ (ws : List ℕ). Contains ws w) (names_are e posed.sound ∙ holds_names m g e market posed) c)
+  high_is : (v : Variable) → IsOf m (in_order m g) v → (system_in e).high (name m v) ≡ (system_of m g).high (name m v)
+  high_is (Block j) lt = block_bound (system_in e).high (quantity m) (most_added m) high_list high posing.column_high posing.row_high j lt ∙ sym (high-block m distinct_rows g j lt)
+  high_is Balance is = balance_bound (system_in e).high (quantity m) (most_added m) high_list high posing.column_high posing.row_high ∙ sym (high-balance m distinct_rows g)
+  high_is (Limit r) c = row_bound (system_in e).high (quantity m) (most_added m) high_list high posing.column_high posing.row_high r (in_order-from m g r c).1 ∙ sym (high-row m distinct_rows g r c)
 
   -- its system is the market's
   pub holds_posed : HoldsSystem m g e
@@ -393,8 +381,8 @@ module _ {N : Type 0} (value_of : N → Fraction) (m : Parts) (g : List Row) (d 
           rows = same.rows;
           coefficient = same.coefficient;
           price = λ j c. price_is j (column_below m g e posed j (column_in e posed.sound j c));
-          low = λ w c. low_is w (name_at w c);
-          high = λ w c. high_is w (name_at w c);
+          low = λ w c. by_variable m (in_order m g) (λ (x : ℕ). (system_in e).low x ≡ (system_of m g).low x) low_is w (subst (λ (ws : List ℕ). Contains ws w) same.variables c);
+          high = λ w c. by_variable m (in_order m g) (λ (x : ℕ). (system_in e).high x ≡ (system_of m g).high x) high_is w (subst (λ (ws : List ℕ). Contains ws w) same.variables c);
         };
       }
 

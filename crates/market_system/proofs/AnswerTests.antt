@@ -27,7 +27,7 @@ use Rattle.market_model.specs.LimitRows.{rows, row_id, limit, flow, most_flow}
 use Rattle.market_model.specs.Optimality.{BlockSupported, Feasible, Gains, IsOneSided, Loses, ProperDuals, RowSupported, Supports, Within, down_of, named_rows, price, same_id, unit_price, up_of}
 use Rattle.market_model.specs.RightAnswers.{IsRight, answer_of, dispatch_in}
 use Rattle.market_system.proofs.LawsOfSolving.{law_of_the_answer}
-use Rattle.market_system.proofs.SystemLaws.{in_places}
+use Rattle.market_system.proofs.VariableLaws.{in_places}
 
 -- ---- tests of numbers, and of two things at once
 both : {s t : Bool} {P Q : Type 0} → (s ≡ true → P) → (t ≡ true → Q) → (s && t) ≡ true → P × Q

@@ -1,6 +1,6 @@
 -- A dispatch in balance of which all blocks but one stand at a bound is that of a choice, with that block's price as the
 -- price of energy.
-use Rattle.std.specs.Prelude.{◌≡◌, ◌≢◌, ℕ, ◌<◌, pos, Bool, true, false, not, List, [], ◌∷◌, ◌++◌, length, map, if◌then◌else◌, refl}
+use Rattle.std.specs.Prelude.{◌≡◌, ◌≢◌, ℕ, ◌<◌, pos, Bool, true, false, not, List, [], ◌∷◌, length, map, if◌then◌else◌, refl}
 use Rattle.std.specs.List.{Contains}
 use Rattle.std.proofs.Common.{arith, ap, sym, subst, ◌∙◌, inl, inr}
 use mathlib.Core.Path.{ap₂}
@@ -18,22 +18,19 @@ use Rattle.linear_system.proofs.ChoiceLaws.{others_are, is_other, is_basic, othe
 use Rattle.market_model.specs.declared.participants.Side.{Side}
 use Rattle.market_model.specs.declared.participants.Parts.{Parts}
 use Rattle.market_model.specs.Market.{IsMarket}
-use Rattle.market_model.specs.Dispatch.{Dispatch, zero, places, block_at, signed_by_side, accepted, quantity, raised_by, balance, empty}
+use Rattle.market_model.specs.Dispatch.{Dispatch, zero, places, block_at, signed_by_side, accepted, quantity, raised_by, balance, empty, dispatch_by}
 use Rattle.market_model.specs.Optimality.{price, block_value}
-use Rattle.market_system.specs.MarketSystem.{balance_name, block_sign, residual_demand, by_name, system_of, system_over, choice_dispatch}
+use Rattle.market_system.specs.MarketSystem.{name, variable_of, balance_name, block_sign, residual_demand, system_of, choice_dispatch}
 use Rattle.market_model.proofs.MarketSums.{balance-by_empty}
-use Rattle.market_system.proofs.SystemLaws.{from_places, signed-times, variable_in, variable_below, block_or_balance, is_system, raised, meets_rows, from_rows, balance_is, not_balance, balance_choice, balance_others, balance_choice_is, block_choice, block_choice_is, block_choice_high, block_is_basic, the_block_is_basic, balance_not_basic}
+use Rattle.market_system.proofs.SystemLaws.{none_ascend, balance_row, activity_is, signed-times, variable_in, variable_below, block_or_balance, is_system, raised, from_rows, balance_is, balance_choice, balance_others, balance_choice_is, block_choice, block_choice_is, block_choice_high, block_is_basic, the_block_is_basic, balance_not_basic}
+use Rattle.market_system.proofs.VariableLaws.{from_places, IsOf, column_in, variable_at, variables_are as listed, low-at, high-at, objective-at}
+use Rattle.market_system.specs.declared.variables.Variable.{Variable}
+use Rattle.market_system.specs.declared.variables.Variable.TheVariants.{Block, Balance, Limit}
+use Rattle.linear_system.proofs.Multipliers.{by_columns, by_columns-column, by_columns-row, by_columns-meets}
 use Rattle.fraction_theory.proofs.ListSums.{Distinct-increasing}
 
--- what is by name, at the balance and at a block
-pub by_name-balance : (m : Parts) (x : ℕ → Fraction) (y : Fraction) → by_name m x y (balance_name m) ≡ y
-by_name-balance m x y = ap (λ (b : Bool). if b then y else x (balance_name m)) (balance_is m (balance_name m) refl)
-
-pub by_name-block : (m : Parts) (x : ℕ → Fraction) (y : Fraction) (j : ℕ) → j < length m.blocks → by_name m x y j ≡ x j
-by_name-block m x y j h = ap (λ (b : Bool). if b then y else x j) (not_balance m j h)
-
 module _ (m : Parts) (market : IsMarket m) (x : Dispatch) (count : length x.blocks ≡ length m.blocks) (balanced : balance m x ≡ zero) where
-  -- what the blocks raise is what is residual_demand
+  -- what the blocks raise is the residual demand
   raises : raised m (accepted x) ≡ residual_demand m
   raises =
       sum_by-same (λ j. block_sign m j *ℚ accepted x j) (raised_by m x) (places (length m.blocks)) (λ j. signed-times (block_at m j).side (accepted x j))
@@ -42,14 +39,19 @@ module _ (m : Parts) (market : IsMarket m) (x : Dispatch) (count : length x.bloc
 
   -- the dispatch as a point
   pub point : ℕ → Fraction
-  point w = by_name m (accepted x) (residual_demand m) w
+  point = by_columns (system_of m []) (is_system m) (accepted x)
 
   point_meets : MeetsRows (system_of m []) point
   unfolding point
-  point_meets = meets_rows m point
-      (by_name-balance m (accepted x) (residual_demand m) ∙ sym raises
-      ∙ sum_by-members (λ j. block_sign m j *ℚ accepted x j) (λ j. block_sign m j *ℚ point j) (places (length m.blocks))
-      (λ j c. ap (λ t. block_sign m j *ℚ t) (sym (by_name-block m (accepted x) (residual_demand m) j (from_places (length m.blocks) j c)))))
+  point_meets = by_columns-meets (system_of m []) (is_system m) (accepted x)
+
+  point-block : (j : ℕ) → j < length m.blocks → point j ≡ accepted x j
+  unfolding point
+  point-block j lt = by_columns-column (system_of m []) (is_system m) (accepted x) j (column_in m [] j lt)
+
+  point-balance : point (balance_name m) ≡ residual_demand m
+  unfolding point
+  point-balance = by_columns-row (system_of m []) (is_system m) (accepted x) (balance_name m) (balance_row m) ∙ activity_is m (accepted x) ∙ raises
 
   module _ (h : Choice) (is : IsChoice (system_of m []) h) (same : (w : ℕ) → Contains (others (system_of m []) h) w → at_bound (system_of m []) h w ≡ point w) where
     value_is : (w : ℕ) → Contains (system_of m []).variables w → value (system_of m []) h w ≡ point w
@@ -61,15 +63,14 @@ module _ (m : Parts) (market : IsMarket m) (x : Dispatch) (count : length x.bloc
 
     -- a choice whose others stand where the dispatch is has that dispatch
     pub dispatch_is : choice_dispatch m [] h ≡ x
-    unfolding point
     dispatch_is =
         let long : length (map (value (system_of m []) h) (places (length m.blocks))) ≡ length m.blocks = length-map-range_with_len (value (system_of m []) h) 0 (length m.blocks) in
-        ap (λ bs. record { blocks = bs })
+        ap dispatch_by
         (ext_get_or zero (map (value (system_of m []) h) (places (length m.blocks))) x.blocks (long ∙ sym count)
         (λ j lt. let below : j < length m.blocks = Prim.omega (arith, lt, long) in
         get_or-map-range_with_len (value (system_of m []) h) 0 (length m.blocks) j j zero below (Prim.omega arith)
         ∙ value_is j (variable_in m j (Prim.omega (arith, below)))
-        ∙ by_name-block m (accepted x) (residual_demand m) j below))
+        ∙ point-block j below))
 
 -- the value of a block by its sign and its price
 block_value-by_sign : (side : Side) (p : Fraction) → neg_ℚ (signed_by_side side p) ≡ neg_ℚ (signed_by_side side (whole (pos 1)) *ℚ p)
@@ -78,30 +79,41 @@ block_value-by_sign side p = ap neg_ℚ (sym (signed-times side p))
 module _ (m : Parts) (p : ℕ) (inside : p < length m.blocks) (h : Choice) (is : IsChoice (system_of m []) h)
     (only : (b : ℕ) → Contains (basics (system_of m []) h) b → b ≡ p) (other : h.basic (balance_name m) ≡ false) where
   -- the objective by the balance and the blocks, at that price of energy: nothing is left at the block itself
+  left_of : Variable → Fraction
+  left_of (Block j) = block_sign m j *ℚ (price m p -ℚ price m j)
+  left_of Balance = neg_ℚ (price m p)
+  left_of (Limit r) = zero
+
   left_over : ℕ → Fraction
-  left_over w = by_name m (λ j. block_sign m j *ℚ (price m p -ℚ price m j)) (neg_ℚ (price m p)) w
+  left_over w = left_of (variable_of m [] w)
+
+  left-at : (v : Variable) → IsOf m [] v → left_over (name m v) ≡ left_of v
+  unfolding left_over
+  left-at v is = ap left_of (variable_at m [] (none_ascend m) v is)
 
   by_left_over : (v : ℕ → Fraction) → MeetsRows (system_of m []) v → objective (system_of m []) v ≡ sum_by (λ w. left_over w *ℚ v w) (others (system_of m []) h)
-  unfolding objective system_over left_over others
+  unfolding objective left_of others
   by_left_over v meets =
       let e : Fraction = price m p in
       let blocks : List ℕ = places (length m.blocks) in
       let f : ℕ → Fraction = λ w. left_over w *ℚ v w in
-      sum_by-same (λ j. block_value m j *ℚ v j) (λ j. block_sign m j *ℚ (e -ℚ price m j) *ℚ v j +ℚ neg_ℚ e *ℚ (block_sign m j *ℚ v j)) blocks
+      objective-at m [] (none_ascend m) v
+      ∙ sum_by-same (λ j. block_value m j *ℚ v j) (λ j. block_sign m j *ℚ (e -ℚ price m j) *ℚ v j +ℚ neg_ℚ e *ℚ (block_sign m j *ℚ v j)) blocks
       (λ j. ap (λ t. t *ℚ v j) (block_value-by_sign (block_at m j).side (price m j))
       ∙ by_ring ring_ℚ (block_sign m j ∷ price m j ∷ v j ∷ e ∷ []) (pneg (at 0 ⊗ at 1) ⊗ at 2) (((at 0 ⊗ (at 3 ⊕ pneg (at 1))) ⊗ at 2) ⊕ (pneg (at 3) ⊗ (at 0 ⊗ at 2))) refl)
       ∙ sum_by-plus (λ j. block_sign m j *ℚ (e -ℚ price m j) *ℚ v j) (λ j. neg_ℚ e *ℚ (block_sign m j *ℚ v j)) blocks
       ∙ ap₂ ◌+ℚ◌
       (sum_by-members (λ j. block_sign m j *ℚ (e -ℚ price m j) *ℚ v j) f blocks
-      (λ j c. ap (λ t. t *ℚ v j) (sym (by_name-block m (λ i. block_sign m i *ℚ (e -ℚ price m i)) (neg_ℚ e) j (from_places (length m.blocks) j c)))))
+      (λ j c. ap (λ t. t *ℚ v j) (sym (left-at (Block j) (from_places (length m.blocks) j c)))))
       (sum_by-times (neg_ℚ e) (λ j. block_sign m j *ℚ v j) blocks
       ∙ ap (λ t. neg_ℚ e *ℚ t) (sym (from_rows m v meets))
-      ∙ ap (λ t. t *ℚ v (balance_name m)) (sym (by_name-balance m (λ i. block_sign m i *ℚ (e -ℚ price m i)) (neg_ℚ e)))
+      ∙ ap (λ t. t *ℚ v (balance_name m)) (sym (left-at Balance tt))
       ∙ sym (ring_ℚ.plus_nil (f (balance_name m))))
       ∙ sym (sum_by-append f blocks (balance_name m ∷ []))
       ∙ sym
-      (sum_by-filter f (λ w. not (h.basic w)) (blocks ++ balance_name m ∷ [])
-      ∙ sum_by-members (λ w. kept (not (h.basic w)) (f w)) f (blocks ++ balance_name m ∷ []) nothing_lost)
+      (sum_by-filter f (λ w. not (h.basic w)) (system_of m []).variables
+      ∙ sum_by-members (λ w. kept (not (h.basic w)) (f w)) f (system_of m []).variables nothing_lost
+      ∙ ap (sum_by f) (listed m []))
     where
       nothing_lost : (w : ℕ) → Contains (system_of m []).variables w → kept (not (h.basic w)) (left_over w *ℚ v w) ≡ left_over w *ℚ v w
       nothing_lost w c = by_test (h.basic w) refl
@@ -111,37 +123,37 @@ module _ (m : Parts) (p : ℕ) (inside : p < length m.blocks) (h : Choice) (is :
           by_test true k =
               let at_p : w ≡ p = only w (is_basic (system_of m []) h w c k) in
               let nil : left_over p ≡ whole (pos 0) =
-              by_name-block m (λ j. block_sign m j *ℚ (price m p -ℚ price m j)) (neg_ℚ (price m p)) p inside
+              left-at (Block p) inside
               ∙ by_ring ring_ℚ (block_sign m p ∷ price m p ∷ []) (at 0 ⊗ (at 1 ⊕ pneg (at 1))) pnil refl in
               sym (ap (λ t. t *ℚ v w) (ap left_over at_p ∙ nil) ∙ by_ring ring_ℚ (v w ∷ []) (pnil ⊗ at 0) pnil refl)
 
   -- the price of energy of a choice in which the block is basic
   pub energy_is : neg_ℚ (reduced (system_of m []) h (balance_name m)) ≡ price m p
-  unfolding left_over
+  unfolding left_of
   energy_is =
       ap neg_ℚ
       (sym (reduced_is_one (system_of m []) (is_system m) h is left_over by_left_over (balance_name m)
       (is_other (system_of m []) h (balance_name m) (variable_in m (balance_name m) (Prim.omega arith)) other))
-      ∙ by_name-balance m (λ j. block_sign m j *ℚ (price m p -ℚ price m j)) (neg_ℚ (price m p)))
+      ∙ left-at Balance tt)
       ∙ by_ring ring_ℚ (price m p ∷ []) (pneg (pneg (at 0))) (at 0) refl
 
--- what stands at a bound: the block's quantity or 0, and the balance at what is residual_demand
+-- what stands at a bound: the block's quantity or 0, and the balance at the residual demand
 module _ (m : Parts) (market : IsMarket m) (x : Dispatch) (count : length x.blocks ≡ length m.blocks) (balanced : balance m x ≡ zero) (high : ℕ → Bool) where
   at_place : (h : Choice) → ((w : ℕ) → h.high w ≡ high w) → (w : ℕ) → w < length m.blocks → accepted x w ≡ (if high w then quantity m w else zero)
       → at_bound (system_of m []) h w ≡ point m market x count balanced w
-  unfolding at_bound system_over point
+  unfolding at_bound
   at_place h flags w lt e =
-      ap (λ (b : Bool). if b then by_name m (quantity m) (residual_demand m) w else by_name m (λ j. zero) (residual_demand m) w) (flags w)
-      ∙ ap₂ (λ (a b : Fraction). if high w then a else b) (by_name-block m (quantity m) (residual_demand m) w lt) (by_name-block m (λ j. zero) (residual_demand m) w lt)
+      ap (λ (b : Bool). if b then (system_of m []).high w else (system_of m []).low w) (flags w)
+      ∙ ap₂ (λ (a b : Fraction). if high w then a else b) (high-at m [] (none_ascend m) (Block w) lt) (low-at m [] (none_ascend m) (Block w) lt)
       ∙ sym e
-      ∙ sym (by_name-block m (accepted x) (residual_demand m) w lt)
+      ∙ sym (point-block m market x count balanced w lt)
 
   at_balance : (h : Choice) → at_bound (system_of m []) h (balance_name m) ≡ point m market x count balanced (balance_name m)
-  unfolding at_bound system_over point
+  unfolding at_bound
   at_balance h =
-      ap₂ (λ (a b : Fraction). if h.high (balance_name m) then a else b) (by_name-balance m (quantity m) (residual_demand m)) (by_name-balance m (λ j. zero) (residual_demand m))
+      ap₂ (λ (a b : Fraction). if h.high (balance_name m) then a else b) (high-at m [] (none_ascend m) Balance tt) (low-at m [] (none_ascend m) Balance tt)
       ∙ either (h.high (balance_name m)) (residual_demand m)
-      ∙ sym (by_name-balance m (accepted x) (residual_demand m))
+      ∙ sym (point-balance m market x count balanced)
     where
       either : (b : Bool) (y : Fraction) → (if b then y else y) ≡ y
       either true y = refl

@@ -1,9 +1,10 @@
 -- The rows of a market's system are of its frame alone.
-use Rattle.std.specs.Prelude.{◌≡◌, ℕ, ℤ, ◌+◌, ◌==◌, ◌&&◌, pos, Bool, if◌then◌else◌, not, List, [], ◌∷◌, ◌++◌, length, map, filter, Option, Some, None, is_some, option_map, slice_index_or, refl}
-use Rattle.std.specs.List.{flat_map, position_or_len}
-use Rattle.std.proofs.Common.{zero, suc, ap, ap₂, sym, ◌∙◌}
+use Rattle.std.specs.Prelude.{◌≡◌, ℕ, ℤ, ◌+◌, ◌==◌, ◌&&◌, pos, Bool, not, List, [], ◌∷◌, ◌++◌, length, map, filter, Option, Some, None, is_some, option_map, slice_index_or, refl}
+use Rattle.std.specs.List.{Contains, flat_map, position_or_len}
+use Rattle.std.proofs.Common.{zero, suc, ap, ap₂, sym, subst, ◌∙◌}
 use mathlib.Core.Path.{fun_ext}
 use Rattle.fraction_theory.specs.Fraction.{Fraction, whole}
+use Rattle.linear_system.specs.Systems.{System}
 use Rattle.linear_system.specs.SameSystems.{SameRows}
 use Rattle.market_model.specs.declared.participants.Block.{Block}
 use Rattle.market_model.specs.declared.participants.Line.{Line}
@@ -15,8 +16,11 @@ use Rattle.market_model.specs.declared.limits.Cause.{Cause}
 use Rattle.market_model.specs.declared.limits.Row.{Row}
 use Rattle.market_model.specs.declared.limits.Cause.TheVariants.{Base, Branch}
 use Rattle.market_model.specs.LimitRows.{bears, causes, outage_of, row_id, rows, rows_of, place_of_line, row_factor}
+use Rattle.linear_system.proofs.SameSystems.{rows_turned_round}
+use Rattle.market_system.specs.declared.variables.Variable.{Variable}
+use Rattle.market_system.specs.declared.variables.Variable.TheVariants as variable
 use Rattle.market_system.specs.FrameLaw.{LawOfTheFrame}
-use Rattle.market_system.specs.MarketSystem.{balance_name, row_name, is_in, in_order, block_sign, block_coefficient, of_name, coefficient_by, same_row, system_over, system_of}
+use Rattle.market_system.specs.MarketSystem.{balance_name, row_name, is_in, in_order, block_sign, block_coefficient, same_row, name, coefficient, columns, row_variables, variables, named, variable_of, system_over, system_of}
 
 mapped_at : {X Y : Type 0} (f : X → Y) (d : X) (e : Y) → f d ≡ e → (xs : List X) (i : ℕ) → slice_index_or (map f xs) i e ≡ f (slice_index_or xs i d)
 mapped_at f d e h [] i = sym h
@@ -83,38 +87,60 @@ module _ (m : Parts) where
   in_order_framed [] = refl
   in_order_framed (t ∷ ts) = ap (filter (is_in (t ∷ ts))) rows_framed
 
-  -- by name, with the names and what is said of a row as they are
-  of_names : {X : Type 0} → (Row → ℕ) → (Row → X) → X → List Row → ℕ → X
-  of_names name said other [] w = other
-  of_names name said other (r ∷ rs) w = if w == name r then said r else of_names name said other rs w
+  -- the variables, their names and their coefficients
+  names_framed : name (frame m) ≡ name m
+  names_framed = fun_ext by
+    where
+      by : (v : Variable) → name (frame m) v ≡ name m v
+      by (variable.Block j) = refl
+      by variable.Balance = block_count
+      by (variable.Limit r) = ap (λ (f : Row → ℕ). f r) name_framed
 
-  of_names_is : {X : Type 0} (n : Parts) (said : Row → X) (other : X) (rs : List Row) (w : ℕ) → of_name n said other rs w ≡ of_names (row_name n) said other rs w
-  unfolding of_names
-  of_names_is n said other [] w = refl
-  of_names_is n said other (r ∷ rs) w = ap (λ x. if w == row_name n r then said r else x) (of_names_is n said other rs w)
+  entries_framed : coefficient (frame m) ≡ coefficient m
+  entries_framed = fun_ext (λ r. fun_ext (by r))
+    where
+      by : (r j : Variable) → coefficient (frame m) r j ≡ coefficient m r j
+      by (variable.Block i) j = refl
+      by variable.Balance (variable.Block j) = ap (λ (f : ℕ → Fraction). f j) sign_framed
+      by variable.Balance variable.Balance = refl
+      by variable.Balance (variable.Limit q) = refl
+      by (variable.Limit r) (variable.Block j) = ap (λ (f : Row → ℕ → Fraction). f r j) coefficient_framed
+      by (variable.Limit r) variable.Balance = refl
+      by (variable.Limit r) (variable.Limit q) = refl
 
-  entry_framed : (g : List Row) (w j : ℕ) → coefficient_by (frame m) (in_order (frame m) g) w j ≡ coefficient_by m (in_order m g) w j
-  entry_framed g w j =
-      of_names_is (frame m) (λ r. block_coefficient (frame m) r j) (block_sign (frame m) j) (in_order (frame m) g) w
-      ∙ ap₂ (λ (name : Row → ℕ) (coefficient : Row → ℕ → Fraction). of_names name (λ r. coefficient r j) (block_sign (frame m) j) (in_order (frame m) g) w) name_framed coefficient_framed
-      ∙ ap₂ (λ (sign : ℕ → Fraction) (rs : List Row). of_names (row_name m) (λ r. block_coefficient m r j) (sign j) rs w) sign_framed (in_order_framed g)
-      ∙ sym (of_names_is m (λ r. block_coefficient m r j) (block_sign m j) (in_order m g) w)
+  columns_framed : columns (frame m) ≡ columns m
+  columns_framed = ap (λ (n : ℕ). map variable.Block (places n)) block_count
 
-  row_names_framed : (g : List Row) → balance_name (frame m) ∷ map (row_name (frame m)) (in_order (frame m) g) ≡ balance_name m ∷ map (row_name m) (in_order m g)
-  row_names_framed g = ap₂ (λ (b : ℕ) (ns : List ℕ). b ∷ ns) block_count (ap₂ (λ (name : Row → ℕ) (rs : List Row). map name rs) name_framed (in_order_framed g))
+  variables_framed : (g : List Row) → variables (frame m) (in_order (frame m) g) ≡ variables m (in_order m g)
+  variables_framed g = ap₂ (λ (cs : List Variable) (rs : List Row). cs ++ row_variables rs) columns_framed (in_order_framed g)
 
-  variables_framed : (g : List Row) → places (length (frame m).blocks) ++ (balance_name (frame m) ∷ map (row_name (frame m)) (in_order (frame m) g)) ≡ places (length m.blocks) ++ (balance_name m ∷ map (row_name m) (in_order m g))
-  variables_framed g = ap₂ (λ (n : ℕ) (ns : List ℕ). places n ++ ns) block_count (row_names_framed g)
+  variable_framed : (g : List Row) → variable_of (frame m) (in_order (frame m) g) ≡ variable_of m (in_order m g)
+  variable_framed g = ap₂ named names_framed (variables_framed g)
+
+  -- the system of the frame has the same rows
+  frame_rows : (g : List Row) → SameRows (system_of (frame m) g) (system_of m g)
+  unfolding system_over
+  frame_rows g = record {
+    variables = ap₂ map names_framed (variables_framed g);
+    columns = ap₂ map names_framed columns_framed;
+    rows = ap₂ (λ (f : Variable → ℕ) (rs : List Row). map f (row_variables rs)) names_framed (in_order_framed g);
+    coefficient = λ r j _ _. ap₂ (λ (f : Variable → Variable → Fraction) (v : ℕ → Variable). f (v r) (v j)) entries_framed (variable_framed g);
+  }
+
+rows_in_turn : (s t u : System) → SameRows s t → SameRows t u → SameRows s u
+rows_in_turn s t u first second = record {
+  variables = first.variables ∙ second.variables;
+  columns = first.columns ∙ second.columns;
+  rows = first.rows ∙ second.rows;
+  coefficient = λ r j c k. first.coefficient r j c k ∙ second.coefficient r j (subst (λ (ws : List ℕ). Contains ws r) first.rows c) (subst (λ (ws : List ℕ). Contains ws j) first.columns k);
+}
 
 -- systems over the same rows of markets of one frame have the same rows
 same_rows : (m n : Parts) (g : List Row) → SameFrame m n → SameRows (system_of m g) (system_of n g)
-unfolding system_over
-same_rows m n g same = record {
-  variables = sym (variables_framed m g) ∙ ap (λ (p : Parts). places (length p.blocks) ++ (balance_name p ∷ map (row_name p) (in_order p g))) same ∙ variables_framed n g;
-  columns = ap places (sym (block_count m) ∙ ap (λ (p : Parts). length p.blocks) same ∙ block_count n);
-  rows = sym (row_names_framed m g) ∙ ap (λ (p : Parts). balance_name p ∷ map (row_name p) (in_order p g)) same ∙ row_names_framed n g;
-  coefficient = λ w j _ _. sym (entry_framed m g w j) ∙ ap (λ (p : Parts). coefficient_by p (in_order p g) w j) same ∙ entry_framed n g w j;
-}
+same_rows m n g same =
+    rows_in_turn (system_of m g) (system_of (frame n) g) (system_of n g)
+    (subst (λ (p : Parts). SameRows (system_of m g) (system_of p g)) same (rows_turned_round (system_of (frame m) g) (system_of m g) (frame_rows m g)))
+    (frame_rows n g)
 
 pub law_of_the_frame : LawOfTheFrame
 law_of_the_frame m n g same = (

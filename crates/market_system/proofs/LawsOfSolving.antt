@@ -8,7 +8,7 @@ use Rattle.market_system.proofs.GrowthLaws.{broken_is_new, growth_none, growth_m
 use Rattle.market_system.proofs.MarketPoints.{is_system_of, point_of, point_meets, point_within, point_welfare, point-block, dispatch_feasible, dispatch_welfare}
 use Rattle.market_system.proofs.SolvedMarkets.{solved_best, solved_proper, solved_supports, reduced-block}
 use Rattle.market_system.proofs.StuckMarkets.{stuck_bound, stuck_shows, stuck_proper, stuck_of_choice}
-use Rattle.market_system.proofs.SystemLaws.{from_places}
+use Rattle.market_system.proofs.VariableLaws.{from_places}
 
 pub law_of_the_system : LawOfTheSystem
 law_of_the_system m g market = is_system_of m (rows_apart m (names_apart m market)) g

@@ -16,4 +16,5 @@ pub mod RowOrder
 pub mod SolvedMarkets
 pub mod StuckMarkets
 pub mod SystemLaws
+pub mod VariableLaws
 mod WorkedCases

@@ -1,7 +1,7 @@
 -- The numbers of a modest market without lines, at a choice of its system, are whole and small.
-use Rattle.std.specs.Prelude.{◌≡◌, ℕ, ◌*◌, ◌≤◌, ◌<◌, ◌==◌, pos, ◌≤ℤ◌, Bool, true, false, not, List, [], ◌∷◌, ◌++◌, length, map, filter, if◌then◌else◌, unsigned_abs, refl}
+use Rattle.std.specs.Prelude.{◌≡◌, ℕ, ◌+◌, ◌*◌, ◌≤◌, ◌<◌, ◌==◌, pos, ◌≤ℤ◌, Bool, true, false, not, List, [], ◌∷◌, ◌++◌, length, map, filter, if◌then◌else◌, unsigned_abs, refl}
 use Rattle.std.specs.List.{Contains}
-use Rattle.std.proofs.Common.{arith, sym, ◌∙◌, subst, inl, inr}
+use Rattle.std.proofs.Common.{arith, ap, sym, ◌∙◌, subst}
 use Rattle.std.proofs.lemmas.Int.{ints}
 use Rattle.std.proofs.lemmas.List.{length-append, length-map, get_or-replicate}
 use Rattle.std.proofs.lemmas.List.FromFn.{length-range_with_len, get_or-map-range_with_len}
@@ -21,10 +21,12 @@ use Rattle.market_model.specs.Market.{IsMarket}
 use Rattle.market_model.specs.Dispatch.{Dispatch, IsDispatch, zero, places, bus_at, unit_at, block_at, signed_by_side, accepted, quantity, units_at, blocks_at, fixed_term, block_term, injection_terms, injection, balance_terms, balance, output_terms, output, demand_terms, demand, empty}
 use Rattle.market_model.specs.Optimality.{price, block_value}
 use Rattle.market_model.proofs.WholeDispatch.{from_whole-≤ℚ}
-use Rattle.market_system.specs.MarketSystem.{balance_name, block_sign, residual_demand, by_name, system_of, system_over, choice_dispatch}
+use Rattle.market_system.specs.MarketSystem.{residual_demand, low, high, system_of, choice_dispatch}
+use Rattle.market_system.specs.declared.variables.Variable.{Variable}
+use Rattle.market_system.specs.declared.variables.Variable.TheVariants.{Block, Balance, Limit}
 use Rattle.market_system.specs.ModestMarkets.{IsModest, IsModestBus, IsModestUnit, IsModestBlock, modest_mw, modest_price}
-use Rattle.market_system.proofs.SystemLaws.{from_places, variable_in, variable_below, block_or_balance}
-use Rattle.market_system.proofs.BlockChoices.{by_name-balance, by_name-block}
+use Rattle.market_system.proofs.SystemLaws.{none_ascend, variables_are, variable_in, the_row, is_system}
+use Rattle.market_system.proofs.VariableLaws.{from_places, IsOf, by_variable, columns_are, column_below, coefficient-at, price-at, low-at, high-at}
 use Rattle.market_system.proofs.ModestNumbers.{IsWholeWithin, whole_within, nil_within, wider, neg_within, times_within, AreWithin, append_within, map_within, prefix_within, length-filter_le}
 use Rattle.market_system.proofs.ModestChoices.{block_sign_within, entry_within, column_within}
 
@@ -163,19 +165,16 @@ module _ (m : Parts) (market : IsMarket m) (modest : IsModest m) where
   needed_within : IsWholeWithin most_balance (residual_demand m)
   needed_within = neg_within most_balance (balance m (empty m)) empty_balance_within
 
-  by_name_within : (f : ℕ → Fraction) (w : ℕ) → Contains (system_of m []).variables w → ((j : ℕ) → j < length m.blocks → IsWholeWithin modest_mw (f j)) → IsWholeWithin most_balance (by_name m f (residual_demand m) w)
-  by_name_within f w c each = elim (block_or_balance m w (variable_below m w c)) [
-    | inl lt ↦ subst (IsWholeWithin most_balance) (sym (by_name-block m f (residual_demand m) w lt)) (wider modest_mw most_balance (f w) (Prim.omega arith) (each w lt))
-    | inr e ↦ subst (λ (v : ℕ). IsWholeWithin most_balance (by_name m f (residual_demand m) v)) (sym e) (subst (IsWholeWithin most_balance) (sym (by_name-balance m f (residual_demand m))) needed_within)
-  ]
+  variable_within : (v : Variable) → IsOf m [] v → IsWholeWithin most_balance (low m v) × IsWholeWithin most_balance (high m v)
+  variable_within (Block j) lt = (wider modest_mw most_balance zero (Prim.omega arith) (nil_within modest_mw), wider modest_mw most_balance (quantity m j) (Prim.omega arith) (quantity_within j lt))
+  variable_within Balance is = (needed_within, needed_within)
+  variable_within (Limit r) c = absurd (Prim.omega (arith, c.1))
 
   pub low_within : (w : ℕ) → Contains (system_of m []).variables w → IsWholeWithin most_balance ((system_of m []).low w)
-  unfolding system_over
-  low_within w c = by_name_within (λ j. zero) w c (λ j lt. nil_within modest_mw)
+  low_within = by_variable m [] (λ w. IsWholeWithin most_balance ((system_of m []).low w)) (λ v is. subst (IsWholeWithin most_balance) (sym (low-at m [] (none_ascend m) v is)) (variable_within v is).0)
 
   pub high_within : (w : ℕ) → Contains (system_of m []).variables w → IsWholeWithin most_balance ((system_of m []).high w)
-  unfolding system_over
-  high_within w c = by_name_within (quantity m) w c quantity_within
+  high_within = by_variable m [] (λ w. IsWholeWithin most_balance ((system_of m []).high w)) (λ v is. subst (IsWholeWithin most_balance) (sym (high-at m [] (none_ascend m) v is)) (variable_within v is).1)
 
   -- at a choice of the system
   module _ (h : Choice) (is : IsChoice (system_of m []) h) where
@@ -192,13 +191,13 @@ module _ (m : Parts) (market : IsMarket m) (modest : IsModest m) where
         (λ w k. times_within 1 most_balance (h.entry b w) (at_bound s h w) (entry_within m h is b w c k) (bound_within w (others_are s h w k).0))
 
     value_count : (b : ℕ) → length (value_terms s h b) ≤ 4001
-    unfolding value_terms others system_over
+    unfolding value_terms others
     value_count b = Prim.omega (
       arith,
       length-map (others s h) (λ w. Product (h.entry b w) (at_bound s h w)),
       length-filter_le (λ w. not (h.basic w)) s.variables,
-      length-append (places (length m.blocks)) (balance_name m ∷ []),
-      length-range_with_len 0 (length m.blocks),
+      ap length (variables_are m),
+      length-range_with_len 0 (length m.blocks + 1),
       market.block_count,
     )
 
@@ -222,31 +221,41 @@ module _ (m : Parts) (market : IsMarket m) (modest : IsModest m) where
         let below : v.number ≤ℤ (block_at m j).quantity = from_whole-≤ℚ v.number (block_at m j).quantity (subst (λ t. t ≤ℚ quantity m j) (e ∙ v.is) (d.within j lt)) in
         record { number = v.number; is = e ∙ v.is; within = Prim.omega (arith, ints, above, below, quantity_size j lt) }
 
-    row_each : (r w : ℕ) → Contains (others s h) w → AreWithin 1 (row_entry_terms s h r w)
-    unfolding row_entry_terms system_over
-    row_each r w c = map_within 1 (λ j. Product (s.coefficient r j) (column_entry h j w)) s.columns
-        (λ j k. let lt = from_places (length m.blocks) j k in times_within 1 1 (block_sign m j) (column_entry h j w) (block_sign_within m j) (column_within m h is j w (variable_in m j (Prim.omega (arith, lt))) c))
+    coefficient_within : (r j : ℕ) → Contains s.rows r → Contains s.columns j → IsWholeWithin 1 (s.coefficient r j)
+    coefficient_within r j c k =
+        subst (λ (u : ℕ). IsWholeWithin 1 (s.coefficient u j)) (sym (the_row m r c))
+        (subst (IsWholeWithin 1) (sym (coefficient-at m [] (none_ascend m) Balance (Block j) tt (column_below m [] j k))) (block_sign_within m j))
+
+    price_of_within : (j : ℕ) → Contains s.columns j → IsWholeWithin modest_price (s.price j)
+    price_of_within j k = let lt = column_below m [] j k in subst (IsWholeWithin modest_price) (sym (price-at m [] (none_ascend m) (Block j) lt)) (block_value_within j lt)
+
+    column_listed : (j : ℕ) → Contains s.columns j → Contains s.variables j
+    column_listed = (is_system m).column
+
+    row_each : (r w : ℕ) → Contains s.rows r → Contains (others s h) w → AreWithin 1 (row_entry_terms s h r w)
+    unfolding row_entry_terms
+    row_each r w d c = map_within 1 (λ j. Product (s.coefficient r j) (column_entry h j w)) s.columns
+        (λ j k. times_within 1 1 (s.coefficient r j) (column_entry h j w) (coefficient_within r j d k) (column_within m h is j w (column_listed j k) c))
 
     reduced_each : (w : ℕ) → Contains (others s h) w → AreWithin modest_price (reduced_terms s h w)
-    unfolding reduced_terms system_over
+    unfolding reduced_terms
     reduced_each w c = map_within modest_price (λ j. Product (s.price j) (column_entry h j w)) s.columns
-        (λ j k. let lt = from_places (length m.blocks) j k in times_within modest_price 1 (block_value m j) (column_entry h j w) (block_value_within j lt) (column_within m h is j w (variable_in m j (Prim.omega (arith, lt))) c))
+        (λ j k. times_within modest_price 1 (s.price j) (column_entry h j w) (price_of_within j k) (column_within m h is j w (column_listed j k) c))
 
     columns_count : (f : ℕ → Term) → length (map f s.columns) ≤ 4000
-    unfolding system_over
-    columns_count f = Prim.omega (arith, terms_of_places f (length m.blocks), market.block_count)
+    columns_count f = Prim.omega (arith, ap (λ (ws : List ℕ). length (map f ws)) (columns_are m []), terms_of_places f (length m.blocks), market.block_count)
 
     -- the numbers of the system
     pub system_within : (kind : Kind) (x : Fraction) → SystemNumber s h kind x → IsWholeWithin (most_of kind) x
-    unfolding system_over row_entry_terms reduced_terms
+    unfolding row_entry_terms reduced_terms
     system_within Factor x is_zero = nil_within 4000
     system_within Factor x is_one = whole_within 4000 (pos 1) (Prim.omega arith)
-    system_within Factor x (is_coefficient r j c k) = wider 1 4000 (block_sign m j) (Prim.omega arith) (block_sign_within m j)
+    system_within Factor x (is_coefficient r j c k) = wider 1 4000 (s.coefficient r j) (Prim.omega arith) (coefficient_within r j c k)
     system_within Factor x (is_entry b w c k) = wider 1 4000 (h.entry b w) (Prim.omega arith) (entry_within m h is b w c k)
-    system_within Factor x (is_row_entry r w k c d) = prefix_within 4000 1 k (row_entry_terms s h r w) (columns_count (λ j. Product (s.coefficient r j) (column_entry h j w))) (row_each r w d)
+    system_within Factor x (is_row_entry r w k c d) = prefix_within 4000 1 k (row_entry_terms s h r w) (columns_count (λ j. Product (s.coefficient r j) (column_entry h j w))) (row_each r w c d)
     system_within Quantity x (is_low w c) = wider most_balance most_value (s.low w) (Prim.omega arith) (low_within w c)
     system_within Quantity x (is_high w c) = wider most_balance most_value (s.high w) (Prim.omega arith) (high_within w c)
     system_within Quantity x (is_value b k c) = value_terms_within b k c
-    system_within Price x (is_price j c) = wider modest_price (4000 * modest_price) (block_value m j) (Prim.omega arith) (block_value_within j (from_places (length m.blocks) j c))
+    system_within Price x (is_price j c) = wider modest_price (4000 * modest_price) (s.price j) (Prim.omega arith) (price_of_within j c)
     system_within Price x (is_reduced w k c) = prefix_within 4000 modest_price k (reduced_terms s h w) (columns_count (λ j. Product (s.price j) (column_entry h j w))) (reduced_each w c)
     system_within kind x (is_opposite same y n) = neg_within (most_of same) y (system_within same y n)

@@ -1,6 +1,6 @@
 -- A solved choice of a market's system over a list of limit rows: its dispatch is best for the list, and its duals support it over all
 -- rows of the market.
-use Rattle.std.specs.Prelude.{◌≡◌, ℕ, ◌<◌, pos, Bool, true, false, List, [], ◌∷◌, length, map, if◌then◌else◌, Contains, refl}
+use Rattle.std.specs.Prelude.{◌≡◌, ℕ, ◌<◌, pos, Bool, true, false, List, [], ◌∷◌, length, if◌then◌else◌, Contains, refl}
 use Rattle.std.proofs.Common.{ap, ap₂, sym, ◌∙◌, subst, subst₂, inl, inr}
 use Rattle.fraction_theory.specs.Fraction.{Fraction, whole, neg_ℚ, ◌+ℚ◌, ◌-ℚ◌, ◌*ℚ◌}
 use Rattle.fraction_theory.specs.Order.{◌≤ℚ◌, ◌<ℚ◌}
@@ -25,12 +25,12 @@ use Rattle.market_model.specs.LimitRows.{rows, limit, row_factor, flow, most_flo
 use Rattle.market_model.specs.Market.{IsMarket}
 use Rattle.market_model.specs.Optimality.{Within, Feasible, block_value, price, net_shadow_price, up_of, down_of, bus_price, unit_price, Gains, Loses, BlockSupported, RowSupported, Supports, ProperDuals, congestion_by, price_by}
 use Rattle.market_system.specs.Growth.{BestFor}
-use Rattle.market_system.specs.MarketSystem.{balance_name, row_name, is_in, in_order, block_sign, block_coefficient, coefficient_by, system_over, system_of, choice_dispatch, duals_of_costs, choice_duals}
+use Rattle.market_system.specs.MarketSystem.{balance_name, row_name, is_in, in_order, block_sign, block_coefficient, system_of, choice_dispatch, duals_of_costs, choice_duals}
 use Rattle.market_system.specs.SolvedLaws.{state_at}
 use Rattle.market_system.proofs.RowOrder.{is_in-from, in_order-in}
 use Rattle.market_system.proofs.DualLists.{NamesApart, rows_apart, up_by, down_by, up_sign, down_sign, up_costs, down_costs, up-made, down-made, net_price-made, proper-made, in_order-filter}
-use Rattle.market_system.proofs.MarketPoints.{is_system_of, both_parts, said-at, said-at_balance, low-block, high-block, low-row, high-row, block_in, row_in, point_of, point_meets, point_within, point_welfare, dispatch_at-accepted, dispatch_welfare, dispatch_flow, dispatch_feasible}
-use Rattle.market_system.proofs.SystemLaws.{in_places}
+use Rattle.market_system.proofs.MarketPoints.{is_system_of, both_parts, coefficient-balance, coefficient-row, price-block, low-block, high-block, low-row, high-row, block_in, row_in, point_of, point_meets, point_within, point_welfare, dispatch_at-accepted, dispatch_welfare, dispatch_flow, dispatch_feasible}
+use Rattle.market_system.proofs.VariableLaws.{column_in, sum-rows}
 
 -- ---- bus prices of duals that are made by rows
 module _ (m : Parts) (names : NamesApart m) (energy : Fraction) (cost : Row → Fraction) (g : List Row) where
@@ -90,33 +90,29 @@ module _ (m : Parts) (names : NamesApart m) (g : List Row) where
   s = system_of m g
 
   -- a combination of the rows, at a column
-  pub rows-at : (c : ℕ → Fraction) (j : ℕ) → sum_by (λ r. c r *ℚ s.coefficient r j) s.rows
+  pub rows-at : (c : ℕ → Fraction) (j : ℕ) → j < length m.blocks → sum_by (λ r. c r *ℚ s.coefficient r j) s.rows
       ≡ c (balance_name m) *ℚ block_sign m j +ℚ sum_by (λ r. c (row_name m r) *ℚ block_coefficient m r j) (in_order m g)
-  unfolding system_over
-  rows-at c j = ap₂ ◌+ℚ◌
-      (ap (λ t. c (balance_name m) *ℚ t) (said-at_balance m (rows_apart m names) g (λ r. block_coefficient m r j) (block_sign m j)))
-      (over_names (in_order m g)
-      ∙ sum_by-members (λ r. c (row_name m r) *ℚ coefficient_by m (in_order m g) (row_name m r) j) (λ r. c (row_name m r) *ℚ block_coefficient m r j) (in_order m g)
-      (λ r k. ap (λ t. c (row_name m r) *ℚ t) (said-at m (rows_apart m names) g (λ t. block_coefficient m t j) (block_sign m j) r k)))
-    where
-      over_names : (rs : List Row) → sum_by (λ w. c w *ℚ coefficient_by m (in_order m g) w j) (map (row_name m) rs) ≡ sum_by (λ r. c (row_name m r) *ℚ coefficient_by m (in_order m g) (row_name m r) j) rs
-      over_names [] = refl
-      over_names (r ∷ rs) = ap (λ t. c (row_name m r) *ℚ coefficient_by m (in_order m g) (row_name m r) j +ℚ t) (over_names rs)
+  rows-at c j lt = sum-rows m (in_order m g) (λ r. c r *ℚ s.coefficient r j)
+      ∙ ap₂ ◌+ℚ◌
+      (ap (λ t. c (balance_name m) *ℚ t) (coefficient-balance m (rows_apart m names) g j lt))
+      (sum_by-members (λ r. c (row_name m r) *ℚ s.coefficient (row_name m r) j) (λ r. c (row_name m r) *ℚ block_coefficient m r j) (in_order m g)
+      (λ r k. ap (λ t. c (row_name m r) *ℚ t) (coefficient-row m (rows_apart m names) g r k j lt)))
 
   module _ (h : Choice) (choice : IsChoice (system_of m g) h) where
     abbrev duals : Duals Fraction
     duals = choice_duals m g h
 
     priced : (j : ℕ) → j < length m.blocks → block_value m j ≡ reduced s h j +ℚ sum_by (λ r. reduced s h r *ℚ s.coefficient r j) s.rows
-    unfolding system_over
-    priced j lt = price_by_rows s (is_system_of m (rows_apart m names) g) (both_parts m (rows_apart m names) g) h choice j (in_places (length m.blocks) j lt)
+    priced j lt =
+        sym (price-block m (rows_apart m names) g j lt)
+        ∙ price_by_rows s (is_system_of m (rows_apart m names) g) (both_parts m (rows_apart m names) g) h choice j (column_in m (in_order m g) j lt)
 
     -- a block's reduced price is its value less what it raises at its unit's price
     pub reduced-block : (j : ℕ) → j < length m.blocks → reduced s h j ≡ block_value m j +ℚ signed_by_side (block_at m j).side (unit_price m duals (block_at m j).unit)
     reduced-block j lt =
         let costs : Fraction = sum_by (λ r. reduced s h (row_name m r) *ℚ block_coefficient m r j) (in_order m g) in
         by_ring1 ring_ℚ (block_value m j ∷ reduced s h j ∷ reduced s h (balance_name m) ∷ block_sign m j ∷ costs ∷ []) (at 1) (at 0 ⊕ (pneg (at 2) ⊗ at 3 ⊕ pneg (at 4))) (pneg pone) (at 0) (at 1 ⊕ (at 2 ⊗ at 3 ⊕ at 4))
-        (priced j lt ∙ ap (λ t. reduced s h j +ℚ t) (rows-at (reduced s h) j)) refl
+        (priced j lt ∙ ap (λ t. reduced s h j +ℚ t) (rows-at (reduced s h) j lt)) refl
         ∙ ap (λ t. block_value m j +ℚ t) (sym (weight-made m names (neg_ℚ (reduced s h (balance_name m))) (λ r. reduced s h (row_name m r)) g j))
 
     -- ---- a solved choice

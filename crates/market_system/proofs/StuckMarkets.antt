@@ -1,6 +1,6 @@
 -- A basic variable of a market's system that is stuck beyond a bound: its duals, up to the one sign, show that no dispatch of the market is
 -- feasible, and their bound is what the variable lacks.
-use Rattle.std.specs.Prelude.{◌≡◌, ℕ, ◌<◌, ℤ, pos, ◌≤ℤ◌, Option, Some, None, IfSome, Bool, true, false, not, List, [], ◌∷◌, length, map, if◌then◌else◌, Contains, refl}
+use Rattle.std.specs.Prelude.{◌≡◌, ℕ, ◌<◌, ℤ, pos, ◌≤ℤ◌, Option, Some, None, IfSome, Bool, true, false, not, List, [], ◌∷◌, length, if◌then◌else◌, Contains, refl}
 use Rattle.std.proofs.Common.{ap, ap₂, sym, ◌∙◌, subst, subst₂, inl, inr}
 use Rattle.fraction_theory.specs.Fraction.{Fraction, whole, neg_ℚ, ◌+ℚ◌, ◌-ℚ◌, ◌*ℚ◌}
 use Rattle.fraction_theory.specs.Order.{NonNeg, ◌≤ℚ◌, ◌<ℚ◌}
@@ -32,15 +32,17 @@ use Rattle.market_model.specs.LimitRows.{rows, mw_or_zero, limit_in, limit, flow
 use Rattle.market_model.specs.Market.{IsMarket}
 use Rattle.market_model.specs.Optimality.{net_shadow_price, ProperDuals}
 use Rattle.market_model.proofs.FarkasLaw.{farkas_bound-by_parts, left_of}
-use Rattle.market_system.specs.MarketSystem.{balance_name, row_name, is_in, in_order, residual_demand, block_sign, block_coefficient, system_over, system_of, duals_of_costs}
+use Rattle.market_system.specs.MarketSystem.{name, balance_name, row_name, is_in, in_order, residual_demand, block_sign, block_coefficient, system_of, duals_of_costs}
 use Rattle.limit_rows.proofs.FactorLemmas.{stands}
 use Rattle.market_model.specs.NamedSums.{SameSize}
 use Rattle.market_system.specs.MarketNumbers.{IsFarkasOf}
 use Rattle.market_system.proofs.RowOrder.{in_order-from, is_in-in, is_in-from}
 use Rattle.market_system.proofs.DualLists.{NamesApart, rows_apart, one_is_nil, up_by, down_by, up_sign, down_sign, up-made, down-made, net_price-made, proper-made, in_order-filter}
-use Rattle.market_system.proofs.MarketPoints.{IsNameOf, of_block, of_balance, of_row, name_of, is_system_of, both_parts, low-block, high-block, low-balance, high-balance, low-row, high-row, block_in, balance_in, row_in}
+use Rattle.market_system.proofs.MarketPoints.{is_system_of, both_parts, low-block, high-block, low-balance, high-balance, low-row, high-row, block_in, balance_in, row_in}
 use Rattle.market_system.proofs.SolvedMarkets.{rows-at, weight-made}
-use Rattle.market_system.proofs.SystemLaws.{in_places, from_places}
+use Rattle.market_system.proofs.VariableLaws.{IsOf, by_variable, from_places, column_in, sum-columns, sum-rows}
+use Rattle.market_system.specs.declared.variables.Variable.{Variable}
+use Rattle.market_system.specs.declared.variables.Variable.TheVariants.{Block, Balance, Limit}
 
 -- ---- the most that a factor makes of a number between two bounds
 module _ (k low high c : Fraction) (above_low : low ≤ℚ c) (below_high : c ≤ℚ high) (most : (t : Fraction) → low ≤ℚ t → t ≤ℚ high → (k *ℚ t) ≤ℚ (k *ℚ c)) where
@@ -92,13 +94,13 @@ limit_sign m market r lt = by r.line r.cause lt
     by l (Branch lost) lt = at_least_nil (line_at m l).post (market.lines l _ lt).post
 
 bounds_ordered : (m : Parts) (names : NamesApart m) → IsMarket m → (g : List Row) → (w : ℕ) → Contains (system_of m g).variables w → (system_of m g).low w ≤ℚ (system_of m g).high w
-bounds_ordered m names market g w c = by w (name_of m (rows_apart m names) g w c)
+bounds_ordered m names market g = by_variable m (in_order m g) (λ w. (system_of m g).low w ≤ℚ (system_of m g).high w) by
   where
-    by : (w : ℕ) → IsNameOf m (rows_apart m names) g w → (system_of m g).low w ≤ℚ (system_of m g).high w
-    by w (of_block j lt) = subst₂ ◌≤ℚ◌ (sym (low-block m (rows_apart m names) g j lt)) (sym (high-block m (rows_apart m names) g j lt))
+    by : (v : Variable) → IsOf m (in_order m g) v → (system_of m g).low (name m v) ≤ℚ (system_of m g).high (name m v)
+    by (Block j) lt = subst₂ ◌≤ℚ◌ (sym (low-block m (rows_apart m names) g j lt)) (sym (high-block m (rows_apart m names) g j lt))
         (whole-≤ℚ (pos 0) (block_at m j).quantity (market.blocks j _ lt).quantity)
-    by w of_balance = ≤ℚ_of_same _ _ (low-balance m (rows_apart m names) g ∙ sym (high-balance m (rows_apart m names) g))
-    by w (of_row r c) = subst₂ ◌≤ℚ◌ (sym (low-row m (rows_apart m names) g r c)) (sym (high-row m (rows_apart m names) g r c))
+    by Balance is = ≤ℚ_of_same _ _ (low-balance m (rows_apart m names) g ∙ sym (high-balance m (rows_apart m names) g))
+    by (Limit r) c = subst₂ ◌≤ℚ◌ (sym (low-row m (rows_apart m names) g r c)) (sym (high-row m (rows_apart m names) g r c))
         (by_le1 (limit m r ∷ flow m (empty m) r ∷ []) (pneg (at 0) ⊕ pneg (at 1)) (at 0 ⊕ pneg (at 1)) (pone ⊕ pone) pnil (at 0) (NonNeg-plus (whole (pos 1)) (whole (pos 1)) NonNeg-one NonNeg-one)
         (limit_sign m market r (stands m market r (in_order-from m g r c).0).line) refl)
 
@@ -158,8 +160,7 @@ module _ (m : Parts) (names : NamesApart m) (market : IsMarket m) (g : List Row)
       ∙ sym (combined_turned v ∙ ap (opposite_if (not above)) (combined_vanishes s h system b stuck.basic choice v meets) ∙ signed_nil (not above))
 
   at_column : (j : ℕ) → j < length m.blocks → whole (pos 0) ≡ turned j +ℚ sum_by (λ r. turned r *ℚ s.coefficient r j) s.rows
-  unfolding system_over
-  at_column j lt = multiplied s system (both_parts m (rows_apart m names) g) (λ w. whole (pos 0)) turned vanishes j (in_places (length m.blocks) j lt)
+  at_column j lt = multiplied s system (both_parts m (rows_apart m names) g) (λ w. whole (pos 0)) turned vanishes j (column_in m (in_order m g) j lt)
 
   -- a block's weight at the duals is its multiplier
   pub block_multiplier : (j : ℕ) → j < length m.blocks → block_weight m stuck_duals j ≡ turned j
@@ -167,7 +168,7 @@ module _ (m : Parts) (names : NamesApart m) (market : IsMarket m) (g : List Row)
       let costs : Fraction = sum_by (λ r. turned (row_name m r) *ℚ block_coefficient m r j) (in_order m g) in
       weight-made m names (neg_ℚ (turned (balance_name m))) (λ r. turned (row_name m r)) g j
       ∙ by_ring1 ring_ℚ (turned (balance_name m) ∷ block_sign m j ∷ costs ∷ turned j ∷ []) (pneg (at 0) ⊗ at 1 ⊕ pneg (at 2)) (at 3) pone pnil (at 3 ⊕ (at 0 ⊗ at 1 ⊕ at 2))
-      (at_column j lt ∙ ap (λ t. turned j +ℚ t) (rows-at m names g turned j)) refl
+      (at_column j lt ∙ ap (λ t. turned j +ℚ t) (rows-at m names g turned j lt)) refl
 
   -- ---- the bound
   blocks_most : sum_by (λ j. part_above (block_weight m stuck_duals j) *ℚ quantity m j) (places (length m.blocks)) ≡ sum_by (λ w. turned w *ℚ at_corner w) (places (length m.blocks))
@@ -228,12 +229,7 @@ module _ (m : Parts) (names : NamesApart m) (market : IsMarket m) (g : List Row)
           (λ t p q. most_at (row_name m r) named t (subst (λ x. x ≤ℚ t) (sym low) p) (subst (λ x. t ≤ℚ x) (sym high) q))
 
   all_parts : (f : ℕ → Fraction) → sum_by f s.variables ≡ sum_by f (places (length m.blocks)) +ℚ (f (balance_name m) +ℚ sum_by (λ r. f (row_name m r)) (in_order m g))
-  unfolding system_over
-  all_parts f = both_parts m (rows_apart m names) g f ∙ ap (λ t. sum_by f (places (length m.blocks)) +ℚ (f (balance_name m) +ℚ t)) (named (in_order m g))
-    where
-      named : (rs : List Row) → sum_by f (map (row_name m) rs) ≡ sum_by (λ r. f (row_name m r)) rs
-      named [] = refl
-      named (r ∷ rs) = ap (λ t. f (row_name m r) +ℚ t) (named rs)
+  all_parts f = both_parts m (rows_apart m names) g f ∙ ap₂ ◌+ℚ◌ (sum-columns m (in_order m g) f f (λ j lt. refl)) (sum-rows m (in_order m g) f)
 
   -- the bound of the duals is what the variable leaves of the bound that it violates
   pub stuck_bound : farkas_bound m stuck_duals ≡ margin s h b above

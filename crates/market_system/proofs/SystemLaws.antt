@@ -1,13 +1,11 @@
 -- A market is a system, with the balance as its one row.
 use Rattle.std.specs.Prelude.{◌≡◌, ◌≢◌, ℕ, ◌+◌, ◌<◌, ◌==◌, pos, Bool, true, false, not, List, [], ◌∷◌, ◌++◌, ◌⊎◌, length, filter, cond, if◌then◌else◌, refl}
-use Rattle.std.specs.List.{Contains}
-use Rattle.std.specs.List.Sorted.{IsStrictlyIncreasing}
+use Rattle.std.specs.List.{AllPairs, Contains}
 use mathlib.Core.Path.{ap₂}
 use Rattle.std.proofs.lemmas.List.{append-nil}
 use Rattle.std.proofs.Common.{arith, ap, sym, ◌∙◌, subst, inl, inr}
 use Rattle.std.proofs.lemmas.Bool.Decides.{eqb_tells}
 use Rattle.std.proofs.lemmas.Int.{ints}
-use Rattle.std.proofs.lemmas.List.FromFn.{length-range_with_len, get_or-range_with_len}
 use Rattle.std.proofs.lemmas.List.Elements.{filter-append}
 use Rattle.fraction_theory.specs.Fraction.{Fraction, whole, ◌*ℚ◌}
 use Rattle.fraction_theory.specs.Sums.{sum_by}
@@ -23,25 +21,11 @@ use Rattle.market_model.specs.declared.participants.Side.{Side}
 use Rattle.market_model.specs.declared.participants.Side.TheVariants.{Sell, Buy}
 use Rattle.market_model.specs.declared.participants.Parts.{Parts}
 use Rattle.market_model.specs.Dispatch.{places, block_at, signed_by_side}
-use Rattle.market_system.specs.MarketSystem.{balance_name, block_sign, system_of, system_over}
+use Rattle.market_model.specs.declared.limits.Row.{Row}
+use Rattle.market_system.specs.declared.variables.Variable.TheVariants.{Balance}
+use Rattle.market_system.specs.MarketSystem.{balance_name, row_name, block_sign, system_of}
 use Rattle.market_model.proofs.MorePlaces.{places_more}
-
--- the places below a number are its members
-pub in_places : (n j : ℕ) → j < n → Contains (places n) j
-in_places n j h = let from_0 : 0 + j ≡ j = Prim.omega arith in (j, Prim.omega (arith, length-range_with_len 0 n), get_or-range_with_len 0 n j j h ∙ from_0)
-
-pub from_places : (n j : ℕ) → Contains (places n) j → j < n
-from_places n j c =
-    let below : c.0 < n = Prim.omega (arith, c.1, length-range_with_len 0 n) in
-    let is : 0 + c.0 ≡ j = sym (get_or-range_with_len 0 n c.0 j below) ∙ c.2 in
-    Prim.omega (arith, below, is)
-
-pub places_ascend : (n : ℕ) → IsStrictlyIncreasing (places n)
-places_ascend n k h =
-    let below : k + 1 < n = Prim.omega (arith, h, length-range_with_len 0 n) in
-    let first = get_or-range_with_len 0 n k 0 (Prim.omega arith) in
-    let second = get_or-range_with_len 0 n (k + 1) 0 below in
-    Prim.omega (arith, first, second)
+use Rattle.market_system.proofs.VariableLaws.{in_places, from_places, variables_are as listed, rows_are, is_system_over, activity-at}
 
 all_kept : {T : Type 0} (xs : List T) → filter (λ x. true) xs ≡ xs
 all_kept [] = refl
@@ -57,9 +41,12 @@ unfolding whole
 one_not_nil e = let wrong : pos 1 ≡ pos 0 = ap (λ (f : Fraction). f.num) e in Prim.omega (arith, ints, wrong)
 
 module _ (m : Parts) where
+  -- there are no limit rows
+  pub none_ascend : AllPairs (λ (a b : Row). row_name m a < row_name m b) []
+  none_ascend = λ i j d lt h. absurd (Prim.omega (arith, h))
+
   pub variables_are : (system_of m []).variables ≡ places (length m.blocks + 1)
-  unfolding system_over
-  variables_are = sym (places_more (length m.blocks))
+  variables_are = listed m [] ∙ sym (places_more (length m.blocks))
 
   pub variable_in : (w : ℕ) → w < length m.blocks + 1 → Contains (system_of m []).variables w
   variable_in w h = subst (λ (ws : List ℕ). Contains ws w) (sym variables_are) (in_places (length m.blocks + 1) w h)
@@ -67,38 +54,30 @@ module _ (m : Parts) where
   pub variable_below : (w : ℕ) → Contains (system_of m []).variables w → w < length m.blocks + 1
   variable_below w c = from_places (length m.blocks + 1) w (subst (λ (ws : List ℕ). Contains ws w) variables_are c)
 
-  the_row : (r : ℕ) → Contains (balance_name m ∷ []) r → r ≡ balance_name m
-  the_row r c = elim (Contains-cases (balance_name m) [] r c) [ inl e ↦ sym e | inr k ↦ absurd (Prim.omega (arith, k.1)) ]
+  pub the_row : (r : ℕ) → Contains (system_of m []).rows r → r ≡ balance_name m
+  the_row r c = elim (Contains-cases (balance_name m) [] r (subst (λ (ws : List ℕ). Contains ws r) (rows_are m []) c)) [ inl e ↦ sym e | inr k ↦ absurd (Prim.omega (arith, k.1)) ]
 
   pub block_or_balance : (w : ℕ) → w < length m.blocks + 1 → (w < length m.blocks) ⊎ (w ≡ length m.blocks)
   block_or_balance w h = elim (same_or_not w (length m.blocks)) [ inl e ↦ inr e | inr n ↦ inl (Prim.omega (arith, h, n)) ]
 
   pub is_system : IsSystem (system_of m [])
-  unfolding system_over
-  is_system = record {
-    ascending = subst IsStrictlyIncreasing (places_more (length m.blocks)) (places_ascend (length m.blocks + 1));
-    columns_ascend = places_ascend (length m.blocks);
-    rows_ascend = λ k h. absurd (Prim.omega (arith, h));
-    column = λ j c. variable_in j (let lt = from_places (length m.blocks) j c in Prim.omega (arith, lt));
-    row = λ r c. variable_in r (let e = the_row r c in Prim.omega (arith, e));
-    either = λ w c. elim (block_or_balance w (variable_below w c)) [
-      | inl h ↦ inl (in_places (length m.blocks) w h)
-      | inr e ↦ inr (subst (λ (t : ℕ). Contains (balance_name m ∷ []) t) (sym e) (Contains-head (balance_name m) []))
-    ];
-    apart = λ w c k. let lt = from_places (length m.blocks) w c in let e = the_row w k in Prim.omega (arith, lt, e);
-  }
+  is_system = is_system_over m [] none_ascend
 
   -- what a point raises the balance by
   abbrev pub raised : (ℕ → Fraction) → Fraction
   raised v = sum_by (λ j. block_sign m j *ℚ v j) (places (length m.blocks))
 
+  pub balance_row : Contains (system_of m []).rows (balance_name m)
+  balance_row = subst (λ (ws : List ℕ). Contains ws (balance_name m)) (sym (rows_are m [])) (Contains-head (balance_name m) [])
+
+  pub activity_is : (v : ℕ → Fraction) → activity (system_of m []) v (balance_name m) ≡ raised v
+  activity_is v = activity-at m [] none_ascend v Balance tt
+
   pub meets_rows : (v : ℕ → Fraction) → v (balance_name m) ≡ raised v → MeetsRows (system_of m []) v
-  unfolding system_over activity
-  meets_rows v e = record { row = λ r c. ap v (the_row r c) ∙ e }
+  meets_rows v e = record { row = λ r c. ap v (the_row r c) ∙ e ∙ sym (activity_is v) ∙ ap (activity (system_of m []) v) (sym (the_row r c)) }
 
   pub from_rows : (v : ℕ → Fraction) → MeetsRows (system_of m []) v → v (balance_name m) ≡ raised v
-  unfolding system_over activity
-  from_rows v h = h.row (balance_name m) (Contains-head (balance_name m) [])
+  from_rows v h = h.row (balance_name m) balance_row ∙ activity_is v
 
   pub balance_is : (w : ℕ) → w ≡ balance_name m → (w == balance_name m) ≡ true
   balance_is w e = elim (eqb_tells w (balance_name m)) [ inl t ↦ t.0 | inr t ↦ absurd (t.1 e) ]
@@ -112,9 +91,10 @@ module _ (m : Parts) where
 
   module _ (high : ℕ → Bool) where
     pub balance_others : others (system_of m []) (balance_choice high) ≡ places (length m.blocks)
-    unfolding others system_over
+    unfolding others
     balance_others =
-        filter-append (λ w. not (w == balance_name m)) (places (length m.blocks)) (balance_name m ∷ [])
+        ap (filter (λ w. not (w == balance_name m))) (listed m [])
+        ∙ filter-append (λ w. not (w == balance_name m)) (places (length m.blocks)) (balance_name m ∷ [])
         ∙ ap₂ ◌++◌
         (filter-members (λ w. not (w == balance_name m)) (λ w. true) (places (length m.blocks)) (λ w c. ap not (not_balance w (from_places (length m.blocks) w c)))
         ∙ all_kept (places (length m.blocks)))

@@ -14,15 +14,16 @@ use Rattle.market_model.specs.declared.participants.Parts.{Parts}
 use Rattle.market_model.specs.declared.answered.Dual.{Dual}
 use Rattle.market_model.specs.declared.answered.Duals.{Duals}
 use Rattle.market_model.specs.declared.answered.RowId.{RowId}
-use Rattle.market_model.specs.Dispatch.{Dispatch, zero, places, block_at, signed_by_side, quantity, balance, empty}
+use Rattle.market_model.specs.Dispatch.{Dispatch, zero, places, block_at, signed_by_side, quantity, balance, empty, dispatch_by}
 use Rattle.market_model.specs.declared.limits.Cause.{Cause}
 use Rattle.market_model.specs.declared.limits.Row.{Row}
 use Rattle.market_model.specs.declared.limits.Cause.TheVariants.{Base, Branch}
 use Rattle.market_model.specs.LimitRows.{rows, row_id, unit_factor, flow, limit}
 use Rattle.market_model.specs.Optimality.{block_value}
+use Rattle.market_system.specs.declared.variables.Variable.{Variable}
+use Rattle.market_system.specs.declared.variables.Variable.TheVariants.{Block, Balance, Limit}
 
--- The names of the variables: a block's is its place, the balance's is the next, and limit rows follow in the market's
--- order. So names ascend in the order in which sums over variables are added.
+-- the balance's name, behind the places of the blocks
 abbrev pub balance_name : Parts → ℕ
 balance_name m = length m.blocks
 
@@ -57,22 +58,9 @@ block_sign m j = signed_by_side (block_at m j).side (whole (pos 1))
 abbrev pub residual_demand : Parts → Fraction
 residual_demand m = neg_ℚ (balance m (empty m))
 
--- x at the blocks and y at the balance
-abbrev pub by_name : Parts → (ℕ → Fraction) → Fraction → ℕ → Fraction
-by_name m x y w = if w == balance_name m then y else x w
-
 -- by how much a MW of a block raises the flow of a row
 abbrev pub block_coefficient : Parts → Row → ℕ → Fraction
 block_coefficient m r j = signed_by_side (block_at m j).side (unit_factor m r (block_at m j).unit)
-
--- what is said of the row of a name, where one of these rows has it
-abbrev pub of_name : {X : Type 0} → Parts → (Row → X) → X → List Row → ℕ → X
-of_name m said other [] w = other
-of_name m said other (r ∷ rs) w = if w == row_name m r then said r else of_name m said other rs w
-
--- the coefficient of a block in the row of a name: that of the limit row that has it, and else that of the balance
-abbrev pub coefficient_by : Parts → List Row → ℕ → ℕ → Fraction
-coefficient_by m rs w j = of_name m (λ r. block_coefficient m r j) (block_sign m j) rs w
 
 -- what the blocks may add to the flow of a row, which is what nothing accepted leaves of its limit on either side
 abbrev pub least_added : Parts → Row → Fraction
@@ -81,20 +69,65 @@ least_added m r = neg_ℚ (limit m r) -ℚ flow m (empty m) r
 abbrev pub most_added : Parts → Row → Fraction
 most_added m r = limit m r -ℚ flow m (empty m) r
 
--- a bound by name: that of the limit row that has it, and else one for blocks and the balance
-abbrev pub bound_by : Parts → (Row → Fraction) → (ℕ → Fraction) → List Row → ℕ → Fraction
-bound_by m of_row others rs w = of_name m of_row (others w) rs w
+-- ---- what a variable has, by kind
+-- Its name: a block's is its place, the balance's is the next, and limit rows follow in the market's order. So names ascend in the order in
+-- which sums over variables are added.
+abbrev pub name : Parts → Variable → ℕ
+name m (Block j) = j
+name m Balance = balance_name m
+name m (Limit r) = row_name m r
 
--- the system of a market over limit rows that are in its order
+-- by how much a MW of a column raises a row
+abbrev pub coefficient : Parts → Variable → Variable → Fraction
+coefficient m Balance (Block j) = block_sign m j
+coefficient m (Limit r) (Block j) = block_coefficient m r j
+coefficient m row column = zero
+
+-- what a MW of it is worth
+abbrev pub price : Parts → Variable → Fraction
+price m (Block j) = block_value m j
+price m Balance = zero
+price m (Limit r) = zero
+
+-- its bounds
+abbrev pub low : Parts → Variable → Fraction
+low m (Block j) = zero
+low m Balance = residual_demand m
+low m (Limit r) = least_added m r
+
+abbrev pub high : Parts → Variable → Fraction
+high m (Block j) = quantity m j
+high m Balance = residual_demand m
+high m (Limit r) = most_added m r
+
+-- ---- the variables over limit rows that are in the market's order
+abbrev pub columns : Parts → List Variable
+columns m = map Block (places (length m.blocks))
+
+abbrev pub row_variables : List Row → List Variable
+row_variables rs = Balance ∷ map Limit rs
+
+abbrev pub variables : Parts → List Row → List Variable
+variables m rs = columns m ++ row_variables rs
+
+-- the variable of a name in a list; nothing is said at a name that none of them has
+abbrev pub named : (Variable → ℕ) → List Variable → ℕ → Variable
+named name_of [] w = Balance
+named name_of (v ∷ vs) w = if w == name_of v then v else named name_of vs w
+
+abbrev pub variable_of : Parts → List Row → ℕ → Variable
+variable_of m rs w = named (name m) (variables m rs) w
+
+-- the system of a market over them, by name
 unfoldable pub system_over : Parts → List Row → System
 system_over m rs = record {
-  variables = places (length m.blocks) ++ (balance_name m ∷ map (row_name m) rs);
-  columns = places (length m.blocks);
-  rows = balance_name m ∷ map (row_name m) rs;
-  coefficient = coefficient_by m rs;
-  price = block_value m;
-  low = bound_by m (least_added m) (by_name m (λ j. zero) (residual_demand m)) rs;
-  high = bound_by m (most_added m) (by_name m (quantity m) (residual_demand m)) rs;
+  variables = map (name m) (variables m rs);
+  columns = map (name m) (columns m);
+  rows = map (name m) (row_variables rs);
+  coefficient = λ r j. coefficient m (variable_of m rs r) (variable_of m rs j);
+  price = λ j. price m (variable_of m rs j);
+  low = λ w. low m (variable_of m rs w);
+  high = λ w. high m (variable_of m rs w);
 }
 
 -- the system of a market over a list of limit rows, whatever the order of the list
@@ -103,7 +136,7 @@ system_of m g = system_over m (in_order m g)
 
 -- the dispatch of a choice: the values of the blocks
 abbrev pub choice_dispatch : Parts → List Row → Choice → Dispatch
-choice_dispatch m g h = record { blocks = map (value (system_of m g) h) (places (length m.blocks)) }
+choice_dispatch m g h = dispatch_by (map (value (system_of m g) h) (places (length m.blocks)))
 
 -- the prices of a row by what a MW on its flow costs: of the upper side where that is above 0, of the lower one where it is below
 abbrev pub dual_by : RowId → Fraction → Sign → List (Dual Fraction)

@@ -9,7 +9,7 @@ use Rattle.simplex_theory.specs.Steps.{opposite_if}
 use Rattle.simplex_theory.specs.Stuck.{IsStuck, multiplier, margin}
 use Rattle.market_model.specs.declared.answered.Duals.{Duals}
 use Rattle.market_model.specs.declared.participants.Parts.{Parts}
-use Rattle.market_model.specs.Dispatch.{Dispatch, accepted, places, block_at, signed_by_side as raised}
+use Rattle.market_model.specs.Dispatch.{Dispatch, accepted, places, block_at, signed_by_side as raised, dispatch_by}
 use Rattle.market_model.specs.Infeasibility.{IsFarkas}
 use Rattle.market_model.specs.declared.limits.Row.{Row}
 use Rattle.market_model.specs.LimitRows.{rows}
@@ -37,7 +37,7 @@ pub record PointsAreDispatches (m : Parts) (g : List Row) : Type 0 where
       → (v : ℕ → Fraction) × MeetsRows (system_of m g) v × InBounds (system_of m g) v × (objective (system_of m g) v ≡ welfare m x)
       × ((j : ℕ) → Contains (places (length m.blocks)) j → v j ≡ accepted x j)
   pub dispatch : (v : ℕ → Fraction) → MeetsRows (system_of m g) v → InBounds (system_of m g) v
-      → FeasibleFor m g (record { blocks = map v (places (length m.blocks)) }) × (objective (system_of m g) v ≡ welfare m (record { blocks = map v (places (length m.blocks)) }))
+      → FeasibleFor m g (dispatch_by (map v (places (length m.blocks)))) × (objective (system_of m g) v ≡ welfare m (dispatch_by (map v (places (length m.blocks)))))
 
 abbrev pub LawOfThePoints : Type 0
 LawOfThePoints = (m : Parts) (g : List Row) → IsMarket m → ((r : Row) → Contains g r → Contains (rows m) r) → PointsAreDispatches m g

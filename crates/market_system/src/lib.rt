@@ -3,3 +3,6 @@
 #![tactic(auto)]
 
 pub mod laws;
+mod variables;
+
+pub use variables::Variable;

@@ -2,7 +2,6 @@ use Rattle.std.proofs.Common.{rules, Err, ◌≡◌, ◌∙◌, map, ap, length}
 use Rattle.market_model.specs.Dispatch.{places, quantity, zero}
 use Rattle.market_system.specs.MarketSystem.{residual_demand, least_added, most_added}
 use Rattle.simplex_core.specs.declared.bounds.Bounds.{Bounds}
-use Rattle.market_dict.specs.Refusals.{of_row}
 use Rattle.market_dict.specs.declared.stop.Stop.TheVariants.{Passed as StoppedBy}
 use Rattle.market_dict.proofs.TermLemmas.{bound_more}
 use Rattle.market_dict.proofs.posing.take_bounds.Goals as goal
@@ -10,7 +9,7 @@ use Rattle.market_dict.proofs.posing.take_bounds.Goals as goal
 pub returns-in_err-bounds-clause-cause : goal.returns-in_err-bounds-clause-cause
 returns-in_err-bounds-clause-cause g c =
     let given : c.from_residual.result ≡ Err (StoppedBy c.in_err-bounds.field-0.0) = search rules in
-    rw given (of_row c.args.row c.requires.row c.in_err-bounds.ensures.cause)
+    rw given c.in_err-bounds.ensures.cause
 
 pub returns-clause-taken : goal.returns-clause-taken
 returns-clause-taken g c = λ rs are.

@@ -1,0 +1,14 @@
+//! The variables of a market's linear system.
+
+use market_model::Row;
+
+/// A variable of a market's linear system, by what it is of.
+#[derive(Clone, Copy, Debug)]
+pub enum Variable {
+    /// What the block at this place has accepted.
+    Block(usize),
+    /// What the blocks raise the balance by.
+    Balance,
+    /// What the blocks add to the flow of a limit row.
+    Limit(Row),
+}
