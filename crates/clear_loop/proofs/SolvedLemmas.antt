@@ -15,10 +15,10 @@ use Rattle.market_model.specs.declared.answered.Dual.{Dual}
 use Rattle.market_model.specs.declared.answered.Duals.{Duals}
 use Rattle.market_model.specs.declared.answered.RowId.{RowId}
 use Rattle.market_model.specs.declared.participants.Parts.{Parts}
-use Rattle.market_model.specs.Dispatch.{Dispatch, bus_at, unit_at, output, demand, injection, injection_terms, output_terms}
+use Rattle.market_model.specs.Dispatch.{Dispatch, bus_at, unit_at, output, demand, injection, output_terms}
 use Rattle.market_model.specs.Overrun.{size_of}
 use Rattle.market_model.specs.declared.limits.Row.{Row}
-use Rattle.market_model.specs.LimitRows.{rows, row_id, limit, line_flow, line_terms, flow, flow_terms, offset_terms, row_offset}
+use Rattle.market_model.specs.LimitRows.{rows, row_id, limit, line_flow, flow, flow_terms, offset_terms, row_offset}
 use Rattle.market_model.specs.Market.{IsMarket}
 use Rattle.market_model.specs.NamedSums.{SameSize, IsRefusedIn, IsRefusal}
 use Rattle.market_model.specs.SumTables.{FlowSum, carried, flow_of_row, congestion_at, MoneySum, welfare_of_all, surplus_of_all, rent_of_row}

@@ -7,12 +7,12 @@ use Rattle.market_model.specs.declared.participants.Parts.{Parts}
 use Rattle.market_model.specs.Dispatch.{Dispatch}
 use Rattle.market_model.specs.Valued.{passed_at}
 use Rattle.limit_screen.specs.Flows.{IsFlowsRefusal}
-use Rattle.settlement.specs.Refusals.{IsMoneyStop, IsSettlementStop, OnRefused}
+use Rattle.settlement.specs.Refusals.{IsMoneyStop, IsSettlementStop, OnPassed}
 use Rattle.settlement.specs.declared.stops.MoneyStop.{MoneyStop}
 use Rattle.settlement.specs.declared.stops.MoneyStop.TheVariants as why
 
 module _ {N : Type 0} (value : N → Fraction) (bound : ℕ) (m : Parts) (x : Dispatch) (price : ℕ → Fraction) (d : Duals Fraction) where
-  pub in_flows : (s : MoneyStop N) → OnRefused s (λ p. IsFlowsRefusal m x bound (passed_at value p)) → IsSettlementStop value bound m x price d s
+  pub in_flows : (s : MoneyStop N) → OnPassed s (λ p. IsFlowsRefusal m x bound (passed_at value p)) → IsSettlementStop value bound m x price d s
   in_flows (why.Passed p) refused = inl refused
   in_flows why.Memory refused = tt
 

@@ -13,7 +13,7 @@ ghost use Rattle.market_model.specs.PutIn.{dispatch_of};
 ghost use Rattle.market_model.specs.RightAnswers.{settlement_at};
 ghost use Rattle.limit_screen.specs.Flows.{flows_at, IsFlowsRefusal};
 ghost use Rattle.settlement.specs.Paying.{total_at, paid_terms, FitsMoney, IsSupportedAt};
-ghost use Rattle.settlement.specs.Refusals.{IsMoneyStop, IsSettlementStop, OnRefused};
+ghost use Rattle.settlement.specs.Refusals.{IsMoneyStop, IsSettlementStop, OnPassed};
 
 use crate::MoneyStop;
 use crate::loads::loads;
@@ -47,7 +47,7 @@ fn flows_made<N: Exact>(
 ) -> Result<Vec<N>, MoneyStop<N>>
     requires { length dispatch.now ≡ length market.now.blocks }
     ensures flows { IfOk result (λ flows. map N.value flows.items ≡ flows_at market.now (dispatch_of N.value dispatch.now)) }
-    ensures cause { IfErr result (λ stop. OnRefused stop (λ p. IsFlowsRefusal market.now (dispatch_of N.value dispatch.now) N.bound (passed_at N.value p))) }
+    ensures cause { IfErr result (λ stop. OnPassed stop (λ p. IsFlowsRefusal market.now (dispatch_of N.value dispatch.now) N.bound (passed_at N.value p))) }
 {
     let none: N = datum(0);
     let places = market.buses().len() + market.lines().len();
