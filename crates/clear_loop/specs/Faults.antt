@@ -1,4 +1,4 @@
--- Why a clear ends without an answer.
+-- Why a clear ends without an answer, and what that is as an outcome.
 use Rattle.std.specs.Prelude.{Result, Ok, Err}
 use Rattle.plain_list.specs.declared.Memory.{Memory}
 use Rattle.market_model.specs.declared.answered.Answer.{Answer}
