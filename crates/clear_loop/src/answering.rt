@@ -14,7 +14,7 @@ ghost use Rattle.market_dict.specs.Findings.{IsSolvedBy, OnPassed};
 ghost use Rattle.clear_loop.specs.Faults.{stop_of};
 ghost use Rattle.clear_loop.specs.Rounds.{StopsInRange};
 
-use bus_prices::prices;
+use bus_prices::{dual_rows, price};
 use exact_fraction::Exact;
 use market_dict::Stop;
 use market_model::{Answer, Duals, Market, Price};
@@ -29,25 +29,15 @@ fn bus_prices<N: Exact>(
     duals: &Duals<N>,
 ) -> Result<List<Price<N>>, Stop<N>>
     requires { ProperDuals market.now (duals_at N.value duals.now) }
-    ensures prices { IfOk result (λ list. map (price_at N.value) list ≡ map (price_made market.now (duals_at N.value duals.now)) (places (length market.now.buses))) }
+    ensures prices { IfOk result (λ prices. map (price_at N.value) prices ≡ map (price_made market.now (duals_at N.value duals.now)) (places (length market.now.buses))) }
     ensures cause { IfErr result (λ stop. OnPassed stop (λ p. IsPriceRefusal market.now (duals_at N.value duals.now) N.bound (passed_at N.value p))) }
 {
-    let energy = duals.energy;
-    let blank = Price {
-        energy,
-        congestion: energy,
-        total: energy,
-    };
-    let mut by_bus = match vec![in alloc; blank; market.buses().len()] {
-        Ok(by_bus) => by_bus,
-        Err(_) => return Err(Stop::Memory),
-    };
-    prices(market, duals, &mut by_bus)?;
-    let mut list = List::new(alloc);
-    for price in &by_bus {
-        list.push(*price)?;
+    let rows = dual_rows(alloc, market, duals)?;
+    let mut prices = List::new(alloc);
+    for bus in 0..market.buses().len() {
+        prices.push(price(market, duals, rows.slice(), bus)?)?;
     }
-    Ok(list)
+    Ok(prices)
 }
 
 /// A stop of the settlement as one of the clear.

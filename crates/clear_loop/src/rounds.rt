@@ -37,12 +37,11 @@ fn one_round<N: Exact>(alloc: Global, market: &Market, hand: Hand<N>) -> Result<
     ensures cause { IfErr result (StopsInRange N.value N.bound market.now (rows_in hand.taken)) }
 {
     let _lines = market.lines();
-    let Hand {
-        warm,
-        posing,
-        taken,
-    } = hand;
-    let posed = warm.repose(posing.prices.slice(), posing.bounds.slice())?;
+    let posing = hand.posing;
+    let taken = hand.taken;
+    let posed = hand
+        .warm
+        .repose(posing.prices.slice(), posing.bounds.slice())?;
     let (dict, dispatch, duals) = match solve(alloc, market, posed)? {
         Found::Best {
             dict,

@@ -129,21 +129,19 @@ line_at_place m x fs l puts h =
     ∙ ap (λ (i : ℕ). get_or back i (whole (pos 0))) left
     ∙ get_or-map-range_with_len (line_flow m (injection m x)) 0 (length m.lines) l l (whole (pos 0)) h from_0
 
-module _ (m : Parts) (x : Dispatch) (fs : List Fraction) (puts : fs ≡ flows_at m x) where
-  pub flow_count : length fs ≡ length m.buses + length m.lines
-  flow_count =
-      let front : List Fraction = map (injection m x) (places (length m.buses)) in
-      let back : List Fraction = map (line_flow m (injection m x)) (places (length m.lines)) in
-      ap length puts ∙ length-append front back
-      ∙ ap₂ ◌+◌ (length-map-range_with_len (injection m x) 0 (length m.buses)) (length-map-range_with_len (line_flow m (injection m x)) 0 (length m.lines))
+pub flow_count : (m : Parts) (x : Dispatch) (fs : List Fraction) → fs ≡ flows_at m x → length fs ≡ length m.buses + length m.lines
+flow_count m x fs puts =
+    let front : List Fraction = map (injection m x) (places (length m.buses)) in
+    let back : List Fraction = map (line_flow m (injection m x)) (places (length m.lines)) in
+    ap length puts ∙ length-append front back
+    ∙ ap₂ ◌+◌ (length-map-range_with_len (injection m x) 0 (length m.buses)) (length-map-range_with_len (line_flow m (injection m x)) 0 (length m.lines))
 
-  -- the terms of a row's flow
-  pub row_terms_at : (r : Row) → r.line < length m.lines → IsCauseAmong (length m.lines) r.cause → flow_terms m (line_in m fs) r ≡ flow_terms m (line_flow m (injection m x)) r
-  row_terms_at r inside among = flow_terms-same m (line_in m fs) (line_flow m (injection m x)) (λ l lt. line_at_place m x fs l puts lt) r inside among
-
+-- the terms of a row's flow
 pub row_terms : (m : Parts) (x : Dispatch) (fs : List Fraction) (r : Row) → IsMarket m → fs ≡ flows_at m x → Contains (rows m) r
     → flow_terms m (line_in m fs) r ≡ flow_terms m (line_flow m (injection m x)) r
-row_terms m x fs r market puts c = let places = at_places m market r c in row_terms_at m x fs puts r places.0 places.1
+row_terms m x fs r market puts c =
+    let places = at_places m market r c in
+    flow_terms-same m (line_in m fs) (line_flow m (injection m x)) (λ l lt. line_at_place m x fs l puts lt) r places.0 places.1
 
 pub law_of_row_flows : LawOfRowFlows
 law_of_row_flows m x fs r market puts c = ap total (row_terms m x fs r market puts c)

@@ -1,5 +1,5 @@
 -- The prices and bounds of a market's dictionary, one after the other.
-use Rattle.std.specs.Prelude.{◌≡◌, ℕ, ◌+◌, ◌-◌, ◌<◌, pos, List, [], ◌∷◌, ◌++◌, length, map}
+use Rattle.std.specs.Prelude.{◌≡◌, ℕ, ◌+◌, ◌<◌, pos, List, [], ◌∷◌, ◌++◌, length, map}
 use Rattle.std.proofs.Common.{arith, ap, ap₂, sym, ◌∙◌, get_or, append_assoc}
 use Rattle.std.proofs.lemmas.List.{map-append, get_or_append_left}
 use Rattle.std.proofs.lemmas.List.FromFn.{length-map-range_with_len, get_or-map-range_with_len}
@@ -21,12 +21,6 @@ use Rattle.limit_screen.specs.Flows.{flows_at}
 
 -- ---- flows where nothing is accepted
 module _ (m : Parts) (x : Dispatch) (fs : List Fraction) (puts : fs ≡ flows_at m x) where
-  front : List Fraction
-  front = map (injection m x) (places (length m.buses))
-
-  back : List Fraction
-  back = map (line_flow m (injection m x)) (places (length m.lines))
-
   pub bus_at_place : (i : ℕ) → i < length m.buses → get_or fs i (whole (pos 0)) ≡ injection m x i
   bus_at_place i lt =
       let first : length (map (injection m x) (places (length m.buses))) ≡ length m.buses = length-map-range_with_len (injection m x) 0 (length m.buses) in

@@ -4,7 +4,6 @@ use Rattle.market_model.specs.Optimality.{named_rows}
 use Rattle.market_model.specs.RightAnswers.{rent_of}
 use Rattle.market_model.specs.Valued.{dual_at, duals_at, passed_at, rent_at}
 use Rattle.limit_rows.proofs.DualLemmas.{named_count}
-use Rattle.limit_rows.proofs.PlaceLemmas.{at_places}
 use Rattle.limit_screen.specs.Flows.{line_in}
 use Rattle.settlement.specs.declared.stops.MoneyStop.TheVariants as why
 use Rattle.settlement.specs.Paying.{earned_by}
@@ -34,9 +33,8 @@ loop-dual-preserved g c =
     let fs = map value c.args.flows.now in
     let r = dual_row value m c.args.duals.now c.requires.duals c.slice-dual-items.result.now k c.dual-item.result c.slice-dual-items.ensures c.loop-dual-test.true c.dual-item.is c.lines-lines.ensures.market in
     let is = c.found_row-row.ensures.is r.0 r.1.row r.1.name in
-    let places = at_places m c.lines-lines.ensures.market r.0 r.1.row in
     λ x are. put_next (rent_at value) (rent_of m x d) (named_rows m d) c.loop-dual.rents c.push.new.self c.in_ok-rent.rent k r.0 r.1.inside r.1.at c.in_ok-push.ensures (c.loop-dual.invariant x are)
-    (c.in_ok-rent.ensures.rent ∙ ap (earned_by m (line_in m fs) e) is ∙ earned_is m x fs are d k e r.0 r.1 places.0 places.1)
+    (c.in_ok-rent.ensures.rent ∙ ap (earned_by m (line_in m fs) e) is ∙ earned_is m x fs are d k e r.0 r.1 c.lines-lines.ensures.market)
 
 pub returns-clause-rents : goal.returns-clause-rents
 returns-clause-rents g c =
@@ -58,8 +56,7 @@ returns-in_err-rent-clause-cause g c =
     let p = passed_at value c.in_err-rent.field-0.0 in
     let r = dual_row value m c.args.duals.now c.requires.duals c.slice-dual-items.result.now k c.dual-item.result c.slice-dual-items.ensures c.loop-dual-test.true c.dual-item.is c.lines-lines.ensures.market in
     let is = c.found_row-row.ensures.is r.0 r.1.row r.1.name in
-    let places = at_places m c.lines-lines.ensures.market r.0 r.1.row in
     let given : c.from_residual.result ≡ Err (why.Passed c.in_err-rent.field-0.0) = search rules in
     λ x price are. rw given
-    (row_refusal m x fs are d k e r.0 r.1 places.0 places.1 price g.N.Exact.bound p
+    (row_refusal m x fs are d k e r.0 r.1 c.lines-lines.ensures.market price g.N.Exact.bound p
     (subst (λ (t : Row). IsRentRefusal m (line_in m fs) e t g.N.Exact.bound p) is c.in_err-rent.ensures.cause))
