@@ -1,8 +1,10 @@
 //! The price at each bus, in its two parts.
 
-ghost use Rattle.std.specs.Prelude.{◌≡◌, ◌<◌, ◌^◌, length, unsigned_abs, IfOk, IfErr};
+ghost use Rattle.std.specs.Prelude.{◌≡◌, ◌<◌, ◌^◌, length, unsigned_abs, Contains, IfOk, IfErr};
 ghost use Rattle.fraction_theory.specs.Fraction.{neg_ℚ, over, ◌+ℚ◌, ◌-ℚ◌, ◌*ℚ◌};
 ghost use Rattle.market_data.specs.Scales.{factor_product_one};
+ghost use Rattle.market_model.specs.declared.limits.Row.{Row};
+ghost use Rattle.market_model.specs.LimitRows.{rows, row_id};
 ghost use Rattle.market_model.specs.NamedSums.{IsRefusedIn, IsShareRefusal};
 ghost use Rattle.market_model.specs.Optimality.{IsOneSided, ProperDuals, congestion, congestion_terms, named_rows};
 ghost use Rattle.market_model.specs.Valued.{dual_at, duals_at, passed_at, price_at};
@@ -10,9 +12,9 @@ ghost use Rattle.market_model.specs.RightAnswers.{price_made};
 ghost use Rattle.bus_prices.specs.Prices.{IsPriceRefusal};
 
 use exact_fraction::{Exact, Passed, Sign};
-use limit_rows::{factor_at, found_row};
+use limit_rows::{factor_at, row_named};
 use market_data::FACTOR_PRODUCT_ONE;
-use market_model::{Dual, Duals, List, Market, Memory, Price, Row};
+use market_model::{Dual, Duals, List, Market, Memory, Price, Row, RowId};
 use std::alloc::Global;
 
 /// The opposite of what a MW on the flow of a dual's row costs: the price of its lower side, or less that of its upper one.
@@ -23,6 +25,18 @@ fn opposite_net_price<N: Exact>(dual: &Dual<N>) -> N
     match dual.down.sign() {
         Sign::Zero => dual.up.neg(),
         Sign::Below | Sign::Above => dual.down,
+    }
+}
+
+/// The row of a name that the market has.
+fn found_row(market: &Market, name: RowId) -> Row
+    requires { (r : Row) × Contains (rows market.now) r × (row_id market.now r ≡ name) }
+    ensures { (r : Row) → Contains (rows market.now) r → row_id market.now r ≡ name → result ≡ r }
+{
+    let _lines = market.lines();
+    match row_named(market, name) {
+        Some(row) => row,
+        None => unreachable!(),
     }
 }
 

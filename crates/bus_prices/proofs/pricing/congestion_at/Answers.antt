@@ -9,9 +9,9 @@ use Rattle.market_model.specs.declared.limits.Row.{Row}
 use Rattle.market_model.specs.declared.limits.Cause.TheVariants.{Base}
 use Rattle.market_model.specs.LimitRows.{IsCauseAmong, row_factor}
 use Rattle.market_model.specs.Valued.{dual_at, duals_at, passed_at}
-use Rattle.limit_rows.proofs.DualLemmas.{dual_one_sided, dual_row, named_count, row_read}
+use Rattle.limit_rows.proofs.DualLemmas.{named_count}
 use Rattle.limit_rows.proofs.PlaceLemmas.{at_places}
-use Rattle.bus_prices.proofs.PriceLemmas.{congestion_step, congestion_all, congestion_refused}
+use Rattle.bus_prices.proofs.PriceLemmas.{congestion_step, congestion_all, congestion_refused, dual_one_sided, dual_row, row_read}
 use Rattle.bus_prices.proofs.pricing.congestion_at.Goals as goal
 
 pub loop-place-init : goal.loop-place-init
