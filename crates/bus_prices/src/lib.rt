@@ -3,4 +3,4 @@
 
 mod pricing;
 
-pub use pricing::{dual_rows, price};
+pub use pricing::{price, prices};

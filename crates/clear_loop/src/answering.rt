@@ -14,7 +14,7 @@ ghost use Rattle.market_dict.specs.Findings.{IsSolvedBy, OnPassed};
 ghost use Rattle.clear_loop.specs.Faults.{stop_of};
 ghost use Rattle.clear_loop.specs.Rounds.{StopsInRange};
 
-use bus_prices::{dual_rows, price};
+use bus_prices::price;
 use exact_fraction::Exact;
 use market_dict::Stop;
 use market_model::{Answer, Duals, Market, Price};
@@ -32,10 +32,9 @@ fn bus_prices<N: Exact>(
     ensures prices { IfOk result (λ prices. map (price_at N.value) prices ≡ map (price_made market.now (duals_at N.value duals.now)) (places (length market.now.buses))) }
     ensures cause { IfErr result (λ stop. OnPassed stop (λ p. IsPriceRefusal market.now (duals_at N.value duals.now) N.bound (passed_at N.value p))) }
 {
-    let rows = dual_rows(alloc, market, duals)?;
     let mut prices = List::new(alloc);
     for bus in 0..market.buses().len() {
-        prices.push(price(market, duals, rows.slice(), bus)?)?;
+        prices.push(price(market, duals, bus)?)?;
     }
     Ok(prices)
 }

@@ -22,7 +22,7 @@ use Rattle.market_model.specs.declared.participants.Parts.{Parts}
 use Rattle.market_model.specs.Dispatch.{Dispatch}
 use Rattle.market_model.specs.declared.limits.Row.{Row}
 use Rattle.market_model.specs.declared.limits.Cause.TheVariants.{Base}
-use Rattle.market_model.specs.LimitRows.{IsCauseAmong, flow, flow_by, flow_terms, limit, offset_terms, row_id, row_offset}
+use Rattle.market_model.specs.LimitRows.{flow, flow_by, flow_terms, limit, offset_terms, row_id, row_offset}
 use Rattle.market_model.specs.NamedSums.{IsRefusal, IsRefusedIn}
 use Rattle.market_model.specs.Optimality.{IsOneSided, ProperDuals, named_rows}
 use Rattle.market_model.specs.RightAnswers.{rent_of}
