@@ -1,6 +1,6 @@
 -- The rows that duals name, and sums over them.
 use Rattle.std.specs.Prelude.{◌≡◌, ◌≢◌, ◌||◌, ℕ, ◌<◌, pos, Bool, true, false, cond, List, [], ◌∷◌, ◌++◌, map, filter, length, take, AllPairs, Contains, if◌then◌else◌, refl}
-use Rattle.std.proofs.Common.{zero, suc, arith, ap, sym, ◌∙◌, get_or}
+use Rattle.std.proofs.Common.{zero, suc, arith, ap, sym, subst, ◌∙◌, get_or}
 use Rattle.std.proofs.lemmas.Bool.{eq-eqb}
 use Rattle.std.proofs.lemmas.List.{get_or-map, map-append}
 use Rattle.std.proofs.lemmas.List.Kept.{AllPairs-filter}
@@ -16,7 +16,8 @@ use Rattle.market_model.specs.declared.limits.Row.{Row}
 use Rattle.market_model.specs.declared.limits.Cause.TheVariants.{Base}
 use Rattle.market_model.specs.LimitRows.{rows, row_id}
 use Rattle.market_model.specs.Market.{IsMarket}
-use Rattle.market_model.specs.Optimality.{same_id, up_in, down_in, up_of, down_of, names_row, named_rows}
+use Rattle.market_model.specs.Optimality.{IsOneSided, ProperDuals, same_id, up_in, down_in, up_of, down_of, names_row, named_rows}
+use Rattle.market_model.specs.Valued.{dual_at, duals_at}
 use Rattle.market_model.proofs.ChangeLemmas.{same_default}
 use Rattle.limit_rows.proofs.ApartLemmas.{names_apart}
 use Rattle.limit_rows.proofs.GroupLemmas.{length-map}
@@ -155,3 +156,20 @@ module _ (m : Parts) (market : IsMarket m) (d : Duals Fraction) (names : map (λ
           down = ap (down_in d.limits) (name ∙ ap (λ (f : Dual Fraction). f.row) at) ∙ down_at d.limits k e apart h ∙ ap (λ (f : Dual Fraction). f.down) (sym at);
         },
       )
+
+-- a dual of a list that was read
+module _ {N : Type 0} (value : N → Fraction) (m : Parts) (duals : Duals N) (proper : ProperDuals m (duals_at value duals)) (items : List (Dual N)) (k : ℕ) (item : Dual N)
+    (listed : items ≡ duals.limits) (inside : k < length items) (is : item ≡ get_or items k item) where
+  below : k < length (duals_at value duals).limits
+  below = Prim.omega (arith, inside, ap length listed, length-map (dual_at value) duals.limits)
+
+  read : dual_at value item ≡ get_or (duals_at value duals).limits k (dual_at value item)
+  read =
+      sym (get_or-map (dual_at value) duals.limits k item (dual_at value item) (Prim.omega (arith, inside, ap length listed))
+      ∙ ap (λ (es : List (Dual N)). dual_at value (get_or es k item)) (sym listed) ∙ ap (dual_at value) (sym is))
+
+  pub dual_one_sided : IsOneSided (dual_at value item)
+  dual_one_sided = subst IsOneSided (sym read) (proper.one_sided k (dual_at value item) below)
+
+  pub dual_row : IsMarket m → (r : Row) × IsRowOfDual m (duals_at value duals) k (dual_at value item) r
+  dual_row market = row_of_dual m market (duals_at value duals) proper.named k (dual_at value item) below read
