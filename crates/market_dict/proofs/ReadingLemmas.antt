@@ -41,14 +41,14 @@ use Rattle.market_system.proofs.VariableLaws.{variables_are}
 use Rattle.market_system.proofs.DualLists.{rows_apart}
 use Rattle.market_system.proofs.RowOrder.{in_order-from, row_name-at}
 use Rattle.market_dict.specs.Holding.{HoldsMarket}
-use Rattle.market_dict.proofs.HoldingLaws.{holds_names}
 use Rattle.market_dict.proofs.ListedLemmas.{places-self}
 use Rattle.market_dict.proofs.NameLists.{three_parts, block_part, balance_part, row_part}
 
 -- ---- names by rank
 module _ (m : Parts) (g : List Row) (d : Dictionary) (market : IsMarket m) (holds : HoldsMarket m g d) where
   names_are : d.names ≡ three_parts (λ j. j) (balance_name m) (row_name m) (length m.blocks) (in_order m g)
-  names_are = holds_names m g d market holds ∙ variables_are m (in_order m g) ∙ ap (λ (ps : List ℕ). ps ++ balance_name m ∷ map (row_name m) (in_order m g)) (sym (places-self (length m.blocks)))
+  unfolding system_in
+  names_are = holds.same.variables ∙ variables_are m (in_order m g) ∙ ap (λ (ps : List ℕ). ps ++ balance_name m ∷ map (row_name m) (in_order m g)) (sym (places-self (length m.blocks)))
 
   pub name_count : length d.names ≡ balance_name m + 1 + length (in_order m g)
   name_count =
