@@ -1,8 +1,6 @@
 -- A start is posed at the prices and bounds of the market.
-use Rattle.std.specs.Prelude.{◌≡◌, ℕ, ◌+◌, List, ◌∷◌, length, map, All, Option, IfSome}
-use Rattle.std.proofs.Common.{arith, ap, sym, subst, ◌∙◌, length-append}
-use Rattle.std.proofs.lemmas.List.{length-map}
-use Rattle.std.proofs.lemmas.List.FromFn.{length-map-range_with_len, length-range_with_len}
+use Rattle.std.specs.Prelude.{◌≡◌, ℕ, ◌+◌, List, length, map, All, Option, IfSome}
+use Rattle.std.proofs.Common.{ap, sym, subst, ◌∙◌}
 use Rattle.fraction_theory.specs.Fraction.{Fraction}
 use Rattle.fraction_theory.specs.Order.{◌≤ℚ◌}
 use Rattle.exact_fraction.specs.declared.Passed.{Passed}
@@ -10,12 +8,9 @@ use Rattle.linear_dict.specs.Dictionaries.{Dictionary}
 use Rattle.simplex_core.specs.Posings.{IsPairPosed, IsPosing}
 use Rattle.simplex_core.specs.declared.bounds.Bounds.{Bounds}
 use Rattle.market_model.specs.declared.participants.Parts.{Parts}
-use Rattle.market_model.specs.Dispatch.{places, quantity}
 use Rattle.market_model.specs.declared.limits.Row.{Row}
 use Rattle.market_model.specs.Market.{IsMarket}
-use Rattle.market_model.specs.Optimality.{block_value}
 use Rattle.market_model.specs.Valued.{passed_at}
-use Rattle.market_system.specs.MarketSystem.{balance_name, row_name, residual_demand, most_added}
 use Rattle.market_system.specs.WorkingPairs.{IsRangeOf}
 use Rattle.market_system.proofs.GrowthLaws.{growth_none}
 use Rattle.market_dict.specs.Holding.{HoldsMarket, HoldsSystem, prices as prices_of, lows, highs}

@@ -1,6 +1,6 @@
 -- A start that fits the frame of a market, and what a clear makes of it.
-use Rattle.std.specs.Prelude.{◌≡◌, ℕ, List, [], map, All, Option, Some, None, Result, Ok, Err, Contains}
-use Rattle.std.proofs.Common.{arith, ap, sym, subst, ◌∙◌, get_or}
+use Rattle.std.specs.Prelude.{◌≡◌, ℕ, List, [], map, All, Option, Some, None, IsSome, Result, Ok, Err, Contains}
+use Rattle.std.proofs.Common.{arith, ap, sym, subst, refl, ◌∙◌, get_or}
 use Rattle.market_model.proofs.ChangeLemmas.{same_default}
 use Rattle.fraction_theory.specs.Fraction.{Fraction}
 use Rattle.linear_dict.specs.Dictionaries.{Dictionary, choice_of}
@@ -17,6 +17,7 @@ use Rattle.market_system.specs.Outcomes.{PricesOnly}
 use Rattle.market_system.specs.SolvedLaws.{AreRows}
 use Rattle.market_system.proofs.GrowthLaws.{growth_none}
 use Rattle.market_dict.specs.Findings.{OnPassed}
+use Rattle.market_dict.specs.Holding.{HoldsMarket}
 use Rattle.market_dict.specs.Refusals.{IsPosingRefusal}
 use Rattle.market_dict.specs.PricesAndBounds.{ArePricesAndBounds}
 use Rattle.market_dict.specs.declared.stop.Stop.{Stop}
@@ -32,6 +33,14 @@ use Rattle.clear_loop.specs.declared.fault.ClearFault.TheVariants as why
 use Rattle.clear_loop.specs.declared.hand.Taken.{Taken}
 use Rattle.clear_loop.specs.declared.rounds.Ended.{Ended}
 use Rattle.clear_loop.proofs.StopLemmas.{terms_stop}
+
+-- a start at the margin, where nothing is kept
+pub started_cold : (m : Parts) (k : Kept) (warm started : Option Dictionary) (d : Dictionary) → k.dict ≡ warm → FitsFrame m k → ¬ (IsSome warm) → started ≡ Some d → HoldsMarket m [] d → HoldsStart m k.rows started
+started_cold m k warm started d same fits none is holds = by k.dict same fits
+  where
+    by : (o : Option Dictionary) → o ≡ warm → IsStartOf m k.rows k.names o → HoldsStart m k.rows started
+    by None e f = (d, is, subst (λ (rs : List Row). HoldsMarket m rs d) (sym f.0) holds)
+    by (Some x) e f = absurd (none (subst IsSome e refl))
 
 -- ---- a start
 pub start_named : (m : Parts) (rs : List Row) (names : List RowId) (start : Option Dictionary) → IsStartOf m rs names start → names ≡ map (row_id m) rs

@@ -54,7 +54,7 @@ at_member : {X Y : Type 0} (f : X → Y) (xs : List X) (x : X) (c : Contains xs 
 at_member f xs x c d = get_or-map f xs c.0 x d c.1 ∙ ap f c.2
 
 -- a list has what stands at a place of it
-at_place : {X : Type 0} (xs : List X) (k : ℕ) (d : X) → k < length xs → Contains xs (get_or xs k d)
+pub at_place : {X : Type 0} (xs : List X) (k : ℕ) (d : X) → k < length xs → Contains xs (get_or xs k d)
 at_place [] k d lt = absurd (Prim.omega (arith, lt))
 at_place (x ∷ xs) zero d lt = Contains-head x xs
 at_place (x ∷ xs) (suc k) d lt = Contains-cons x xs (get_or xs k d) (at_place xs k d (Prim.omega (arith, lt)))

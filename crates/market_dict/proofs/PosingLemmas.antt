@@ -1,5 +1,5 @@
 -- PricesAndBounds fit the dictionary that they are posed at.
-use Rattle.std.specs.Prelude.{◌≡◌, ◌+◌, List, length, map}
+use Rattle.std.specs.Prelude.{◌≡◌, ◌+◌, List, length}
 use Rattle.std.proofs.Common.{ap, ap₂, sym, ◌∙◌}
 use Rattle.std.proofs.lemmas.List.{length-append, length-map}
 use Rattle.fraction_theory.specs.Fraction.{Fraction}

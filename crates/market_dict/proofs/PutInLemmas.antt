@@ -1,6 +1,6 @@
 -- The coefficients of a dictionary's system, as its rows are put in.
-use Rattle.std.specs.Prelude.{◌≡◌, ℕ, ◌+◌, ◌*◌, ◌<◌, pos, List, [], ◌∷◌, ◌++◌, length, map, filter, slice_index, Contains, refl}
-use Rattle.std.proofs.Common.{suc, arith, ap, ap₂, sym, ◌∙◌, get_or}
+use Rattle.std.specs.Prelude.{◌≡◌, ℕ, ◌+◌, ◌*◌, ◌<◌, pos, List, [], ◌∷◌, ◌++◌, length, map, filter, slice_index, Contains}
+use Rattle.std.proofs.Common.{arith, ap, ap₂, sym, ◌∙◌, get_or}
 use Rattle.std.proofs.lemmas.List.{length-append, get_or_append_left, get_or-append-add}
 use Rattle.fraction_theory.specs.Fraction.{Fraction, whole}
 use Rattle.linear_system.specs.SameSystems.{SameRows}
