@@ -1,10 +1,10 @@
 -- What a dictionary that holds a market says of it.
-use Rattle.std.specs.Prelude.{◌≡◌, ◌≢◌, ℕ, ◌+◌, ◌<◌, pos, Bool, false, if◌then◌else◌, List, [], ◌∷◌, ◌++◌, length, map, slice_index, All, AllPairs, Contains, refl}
+use Rattle.std.specs.Prelude.{◌≡◌, ◌≢◌, ℕ, ◌+◌, ◌<◌, pos, Bool, false, List, [], ◌∷◌, ◌++◌, length, map, slice_index, All, AllPairs, Contains, refl}
 use Rattle.std.proofs.Common.{zero, suc, arith, ap, ap₂, sym, ◌∙◌, subst, subst₂, inl, inr, get_or}
 use Rattle.std.proofs.lemmas.List.{length-map, get_or-map, get_or-append-add, get_or_append_left, map-append}
 use Rattle.std.proofs.lemmas.List.Elements.{Contains-append_cases}
 use Rattle.std.proofs.lemmas.List.FromFn.{length-range_with_len, get_or-range_with_len, get_or-map-range_with_len}
-use Rattle.fraction_theory.specs.Fraction.{Fraction, whole, ◌-ℚ◌}
+use Rattle.fraction_theory.specs.Fraction.{Fraction, whole}
 use Rattle.fraction_theory.specs.Order.{◌≤ℚ◌}
 use Rattle.fraction_theory.proofs.OrderLaws.{≤ℚ_refl, by_le1, NonNeg-one, NonNeg-plus, whole-≤ℚ}
 use Rattle.fraction_theory.proofs.Ring.{at, pnil, pone, pneg, ◌⊕◌}
@@ -18,9 +18,8 @@ use Rattle.linear_dict.specs.Causes.{IsPairOf, IsPairWith}
 use Rattle.linear_dict.specs.Dictionaries.{Dictionary, IsDictionary, IsStart, AddsRow, system_of as system_in, choice_of, note_of}
 use Rattle.linear_dict.specs.Places.{is_among}
 use Rattle.linear_dict.proofs.NameLemmas.{among-tells, among-from}
-use Rattle.linear_dict.proofs.SplitLemmas.{Contains-at, system_is}
+use Rattle.linear_dict.proofs.SplitLemmas.{system_is}
 use Rattle.simplex_theory.specs.States.{IsSolved}
-use Rattle.simplex_theory.specs.Stuck.{margin}
 use Rattle.simplex_theory.proofs.SameStates.{same_value, same_reduced, same_solved, same_stuck, alike_solved}
 use Rattle.simplex_core.specs.Outcomes.{Keeps, ShowsChoice, IsEmptyAt}
 use Rattle.simplex_core.specs.Posings.{IsPosing, IsPairPosed}
@@ -394,13 +393,6 @@ module _ (m : Parts) (g : List Row) (e : Dictionary) (holds : HoldsSystem m g e)
   named_here : (w : ℕ) → Contains (system_of m g).variables w → Contains e.names w
   named_here w c = subst (λ (ws : List ℕ). Contains ws w) (sym holds.same.variables ∙ names_are e holds.holds.sound) c
 
-  basic_named : (row : ℕ) (above : Bool) → IsEmptyAt e row above → Contains e.names (slice_index e.basics row)
-  basic_named row above empty = holds.holds.sound.split.first_named (slice_index e.basics row) (Contains-at e.basics row empty.within)
-
-  low_and_high : (w : ℕ) → Contains e.names w → ((system_of m g).low w ≡ (note_of e w).low) × ((system_of m g).high w ≡ (note_of e w).high)
-  unfolding system_in
-  low_and_high w c = (sym (holds.same.low w (known w c)), sym (holds.same.high w (known w c)))
-
   module _ (market : IsMarket m) where
     solved_at : IsSolved (system_in e) (state_of e) → IsSolved (system_of m g) (state_at (system_of m g) (choice_of e))
     unfolding state_of
@@ -415,15 +407,3 @@ pub empty_shows : (m : Parts) (g : List Row) (e : Dictionary) (row : ℕ) (above
 empty_shows m g e row above market holds shows empty =
     law_of_the_stuck m g (choice_of e) (slice_index e.basics row) above market holds.holds.limits.rows (shown_choice m g e holds shows)
     (same_stuck (system_in e) (system_of m g) holds.same (choice_of e) (slice_index e.basics row) above empty.stuck)
-
--- what its stuck variable leaves of the bound that it violates, by what is noted
-pub empty_margin : (m : Parts) (g : List Row) (e : Dictionary) (row : ℕ) (above : Bool) → HoldsSystem m g e → ShowsChoice e → IsEmptyAt e row above
-    → margin (system_of m g) (choice_of e) (slice_index e.basics row) above
-    ≡ (if above then (note_of e (slice_index e.basics row)).high -ℚ (note_of e (slice_index e.basics row)).value else (note_of e (slice_index e.basics row)).value -ℚ (note_of e (slice_index e.basics row)).low)
-unfolding margin
-empty_margin m g e row above holds shows empty =
-    let b : ℕ = slice_index e.basics row in
-    let c : Contains e.names b = basic_named m g e holds shows row above empty in
-    ap₂ (λ x y. if above then x else y)
-    (ap₂ ◌-ℚ◌ (low_and_high m g e holds shows b c).1 (sym (shown_value m g e holds shows b c)))
-    (ap₂ ◌-ℚ◌ (sym (shown_value m g e holds shows b c)) (low_and_high m g e holds shows b c).0)

@@ -153,6 +153,10 @@ module _ (m : Parts) (rs : List Row) where
   unfolding system_over
   variable_in v is = in_mapped (name m) (variables m rs) v (is_variable v is)
 
+  pub row_listed : (v : Variable) → Contains (row_variables rs) v → Contains s.rows (name m v)
+  unfolding system_over
+  row_listed v c = in_mapped (name m) (row_variables rs) v c
+
   -- a name of its system is that of a variable, so what holds of each variable holds of each name
   pub by_variable : (P : ℕ → Type 0) → ((v : Variable) → IsOf m rs v → P (name m v)) → (w : ℕ) → Contains s.variables w → P w
   unfolding system_over
