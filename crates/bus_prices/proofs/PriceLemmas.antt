@@ -1,8 +1,8 @@
 -- Steps of the congestion at a bus, dual by dual.
 use Rattle.std.specs.Prelude.{◌≡◌, ◌⊎◌, ℕ, ◌+◌, ◌<◌, ◌≤◌, pos, false, List, [], ◌∷◌, ◌++◌, map, filter, length, take, refl}
-use Rattle.std.proofs.Common.{inl, inr, ap, ap₂, sym, subst, ◌∙◌, get_or}
+use Rattle.std.proofs.Common.{arith, inl, inr, ap, ap₂, sym, subst, ◌∙◌, get_or}
 use Rattle.std.proofs.lemmas.List.Elements.{All-nil}
-use Rattle.std.proofs.lemmas.List.{get_or-map, take_all}
+use Rattle.std.proofs.lemmas.List.{get_or-map, length-map, take_all}
 use Rattle.fraction_theory.specs.Fraction.{Fraction, whole, neg_ℚ, ◌+ℚ◌, ◌-ℚ◌, ◌*ℚ◌}
 use Rattle.fraction_theory.specs.Sums.{sum_by, Term, Product, term_value, total}
 use Rattle.fraction_theory.specs.Order.{◌<ℚ◌}
@@ -23,14 +23,35 @@ use Rattle.market_model.specs.declared.limits.Row.{Row}
 use Rattle.market_model.specs.LimitRows.{rows, row_id, row_factor}
 use Rattle.market_model.specs.NamedSums.{IsRefusal, IsRefusedIn, IsShareRefusal}
 use Rattle.market_model.specs.Optimality.{IsOneSided, ProperDuals, net_shadow_price, names_row, named_rows, congestion, congestion_terms, congestion_by}
-use Rattle.market_model.specs.Valued.{dual_at}
+use Rattle.market_model.specs.Market.{IsMarket}
+use Rattle.market_model.specs.Valued.{dual_at, duals_at}
+use Rattle.market_model.proofs.ChangeLemmas.{same_default}
 use Rattle.market_model.proofs.MorePlaces.{sum_by_more}
 use Rattle.market_model.proofs.SumSteps.{plus_at, multiplied_at}
-use Rattle.limit_rows.proofs.DualLemmas.{IsRowOfDual, up_unnamed, down_unnamed, sum_named, terms_named}
+use Rattle.limit_rows.proofs.DualLemmas.{IsRowOfDual, row_of_dual, up_unnamed, down_unnamed, sum_named, terms_named}
 
--- a dual that was read, with the values of its numbers
-pub dual_read : {N : Type 0} (value : N → Fraction) (ds : List (Dual N)) (k : ℕ) (e : Dual N) → k < length ds → e ≡ get_or ds k e → dual_at value e ≡ get_or (map (dual_at value) ds) k (dual_at value e)
-dual_read value ds k e h is = sym (get_or-map (dual_at value) ds k e (dual_at value e) h ∙ ap (dual_at value) (sym is))
+-- a dual of a list that was read
+module _ {N : Type 0} (value : N → Fraction) (m : Parts) (duals : Duals N) (proper : ProperDuals m (duals_at value duals)) (items : List (Dual N)) (k : ℕ) (item : Dual N)
+    (listed : items ≡ duals.limits) (inside : k < length items) (is : item ≡ get_or items k item) where
+  below : k < length (duals_at value duals).limits
+  below = Prim.omega (arith, inside, ap length listed, length-map duals.limits (dual_at value))
+
+  read : dual_at value item ≡ get_or (duals_at value duals).limits k (dual_at value item)
+  read =
+      sym (get_or-map (dual_at value) duals.limits k item (dual_at value item) (Prim.omega (arith, inside, ap length listed))
+      ∙ ap (λ (es : List (Dual N)). dual_at value (get_or es k item)) (sym listed) ∙ ap (dual_at value) (sym is))
+
+  pub dual_one_sided : IsOneSided (dual_at value item)
+  dual_one_sided = subst IsOneSided (sym read) (proper.one_sided k (dual_at value item) below)
+
+  pub dual_row : IsMarket m → (r : Row) × IsRowOfDual m (duals_at value duals) k (dual_at value item) r
+  dual_row market = row_of_dual m market (duals_at value duals) proper.named k (dual_at value item) below read
+
+  -- its row, where a list has the rows that the duals name
+  pub row_read : (market : IsMarket m) (rs : List Row) (r : Row) → rs ≡ named_rows m (duals_at value duals) → get_or rs k r ≡ (dual_row market).0
+  row_read market rs r are =
+      let here = dual_row market in
+      ap (λ (ss : List Row). get_or ss k r) are ∙ same_default (named_rows m (duals_at value duals)) k r here.0 here.1.inside ∙ sym here.1.at
 
 module _ (m : Parts) (d : Duals Fraction) (i : ℕ) where
   abbrev term : Row → Term

@@ -3,4 +3,4 @@
 
 mod pricing;
 
-pub use pricing::prices;
+pub use pricing::{dual_rows, price};

@@ -1,13 +1,12 @@
 //! The price at each bus, in its two parts.
 
-ghost use Rattle.std.specs.Prelude.{◌≡◌, ◌<◌, ◌^◌, length, map, unsigned_abs, Contains, IfOk, IfErr};
+ghost use Rattle.std.specs.Prelude.{◌≡◌, ◌<◌, ◌^◌, length, unsigned_abs, Contains, IfOk, IfErr};
 ghost use Rattle.fraction_theory.specs.Fraction.{neg_ℚ, over, ◌+ℚ◌, ◌-ℚ◌, ◌*ℚ◌};
 ghost use Rattle.market_data.specs.Scales.{factor_product_one};
-ghost use Rattle.market_model.specs.Dispatch.{places};
 ghost use Rattle.market_model.specs.declared.limits.Row.{Row};
-ghost use Rattle.market_model.specs.LimitRows.{rows, row_factor, row_id};
+ghost use Rattle.market_model.specs.LimitRows.{rows, row_id};
 ghost use Rattle.market_model.specs.NamedSums.{IsRefusedIn, IsShareRefusal};
-ghost use Rattle.market_model.specs.Optimality.{IsOneSided, ProperDuals, congestion, congestion_terms};
+ghost use Rattle.market_model.specs.Optimality.{IsOneSided, ProperDuals, congestion, congestion_terms, named_rows};
 ghost use Rattle.market_model.specs.Valued.{dual_at, duals_at, passed_at, price_at};
 ghost use Rattle.market_model.specs.RightAnswers.{price_made};
 ghost use Rattle.bus_prices.specs.Prices.{IsPriceRefusal};
@@ -15,7 +14,8 @@ ghost use Rattle.bus_prices.specs.Prices.{IsPriceRefusal};
 use exact_fraction::{Exact, Passed, Sign};
 use limit_rows::{factor_at, row_named};
 use market_data::FACTOR_PRODUCT_ONE;
-use market_model::{Dual, Duals, Market, Price, RowId};
+use market_model::{Dual, Duals, List, Market, Memory, Price, Row, RowId};
+use std::alloc::Global;
 
 /// The opposite of what a MW on the flow of a dual's row costs: the price of its lower side, or less that of its upper one.
 fn opposite_net_price<N: Exact>(dual: &Dual<N>) -> N
@@ -28,18 +28,33 @@ fn opposite_net_price<N: Exact>(dual: &Dual<N>) -> N
     }
 }
 
-/// The factor of the row of a name at a bus, in 10^-12.
-fn factor_named(market: &Market, name: RowId, bus: usize) -> i64
-    requires row { (r : Row) × Contains (rows market.now) r × (row_id market.now r ≡ name) }
-    requires bus { bus < length market.now.buses }
-    ensures size { unsigned_abs result < 2 ^ 63 }
-    ensures is { (r : Row) → Contains (rows market.now) r → row_id market.now r ≡ name → over result factor_product_one ≡ row_factor market.now r bus }
+/// The row of a name that the market has.
+fn found_row(market: &Market, name: RowId) -> Row
+    requires { (r : Row) × Contains (rows market.now) r × (row_id market.now r ≡ name) }
+    ensures { (r : Row) → Contains (rows market.now) r → row_id market.now r ≡ name → result ≡ r }
 {
     let _lines = market.lines();
     match row_named(market, name) {
-        Some(row) => factor_at(market, row, bus),
+        Some(row) => row,
         None => unreachable!(),
     }
+}
+
+/// The row of each dual, in the order of the duals.
+pub fn dual_rows<N: Exact>(
+    alloc: Global,
+    market: &Market,
+    duals: &Duals<N>,
+) -> Result<List<Row>, Memory>
+    requires { ProperDuals market.now (duals_at N.value duals.now) }
+    ensures { IfOk result (λ rows. rows ≡ named_rows market.now (duals_at N.value duals.now)) }
+{
+    let _lines = market.lines();
+    let mut rows = List::new(alloc);
+    for dual in duals.limits.slice() {
+        rows.push(found_row(market, dual.row))?;
+    }
+    Ok(rows)
 }
 
 /// A sum with a price's share by a factor in 10^-12.
@@ -53,46 +68,47 @@ fn with_row<N: Exact>(sum: N, price: N, factor: i64) -> Result<N, Passed<N>>
 }
 
 /// What the limits add to the price at a bus.
-fn congestion_at<N: Exact>(market: &Market, duals: &Duals<N>, bus: usize) -> Result<N, Passed<N>>
+fn congestion_at<N: Exact>(
+    market: &Market,
+    duals: &Duals<N>,
+    rows: &[Row],
+    bus: usize,
+) -> Result<N, Passed<N>>
     requires duals { ProperDuals market.now (duals_at N.value duals.now) }
+    requires rows { rows.now ≡ named_rows market.now (duals_at N.value duals.now) }
     requires bus { bus < length market.now.buses }
     ensures sum { IfOk result (λ mw. N.value mw ≡ congestion market.now (duals_at N.value duals.now) bus) }
     ensures cause { IfErr result (λ passed. IsRefusedIn (congestion_terms market.now (duals_at N.value duals.now) bus) N.bound (passed_at N.value passed)) }
 {
     let _lines = market.lines();
     let mut sum: N = N::of_parts(0, 1);
-    for dual in duals.limits.slice() {
-        sum = with_row(
-            sum,
-            opposite_net_price(dual),
-            factor_named(market, dual.row, bus),
-        )?;
+    for (place, dual) in duals.limits.slice().iter().enumerate() {
+        let factor = factor_at(market, rows[place], bus);
+        sum = with_row(sum, opposite_net_price(dual), factor)?;
     }
     Ok(sum)
 }
 
-/// The price at each bus, in 10^-6 per MWh: that of energy, and what the limits with duals add to it. The duals are as an answer has
-/// them: they name rows of the market in its order, and of each row one price is 0.
-pub fn prices<N: Exact>(
+/// The price at a bus, in 10^-6 per MWh: that of energy, and what the limits with duals add to it. The duals are as an answer has
+/// them: they name rows of the market in its order, and of each row one price is 0. The rows are these, as `dual_rows` finds them.
+pub fn price<N: Exact>(
     market: &Market,
     duals: &Duals<N>,
-    out: &mut [Price<N>],
-) -> Result<(), Passed<N>>
+    rows: &[Row],
+    bus: usize,
+) -> Result<Price<N>, Passed<N>>
     requires duals { ProperDuals market.now (duals_at N.value duals.now) }
-    requires out { length out.old ≡ length market.now.buses }
-    ensures count { length out.new ≡ length out.old }
-    ensures prices { IfOk result (λ _. map (price_at N.value) out.new ≡ map (price_made market.now (duals_at N.value duals.now)) (places (length market.now.buses))) }
+    requires rows { rows.now ≡ named_rows market.now (duals_at N.value duals.now) }
+    requires bus { bus < length market.now.buses }
+    ensures price { IfOk result (λ price. price_at N.value price ≡ price_made market.now (duals_at N.value duals.now) bus) }
     ensures cause { IfErr result (λ passed. IsPriceRefusal market.now (duals_at N.value duals.now) N.bound (passed_at N.value passed)) }
 {
-    for (bus, price) in out.iter_mut().enumerate() {
-        let energy = duals.energy;
-        let congestion = congestion_at(market, duals, bus)?;
-        let total = energy.plus(congestion)?;
-        *price = Price {
-            energy,
-            congestion,
-            total,
-        };
-    }
-    Ok(())
+    let energy = duals.energy;
+    let congestion = congestion_at(market, duals, rows, bus)?;
+    let total = energy.plus(congestion)?;
+    Ok(Price {
+        energy,
+        congestion,
+        total,
+    })
 }

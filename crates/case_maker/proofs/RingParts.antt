@@ -7,15 +7,16 @@ use Rattle.market_model.specs.declared.participants.Factor.{Factor}
 use Rattle.market_model.specs.declared.participants.Line.{Line}
 use Rattle.market_model.specs.declared.participants.Parts.{Parts}
 use Rattle.market_model.specs.Dispatch.{places, bus_at, unit_at, block_at, line_at}
+use Rattle.market_model.specs.Market.{bare_parts}
 use Rattle.case_maker.specs.Rings.{blocks_of, bus_of, drawn, factors_by, half_sold, line_of, loss_of, ring_of, shift_of, unit_of, with_bus}
 use Rattle.case_maker.proofs.PlaceLists.{at-place, first-of, flat-more, map-more, second-of}
 
 -- ---- a ring with its first buses
 abbrev pub first_buses : ℕ → ℕ → ℕ → Parts
-first_buses n seed k = record {
-  buses = map (λ i. bus_of i (drawn seed i)) (places k);
-  units = map unit_of (places k);
-  blocks = flat_map (λ i. blocks_of i (drawn seed i)) (places k);
+first_buses n seed k = record (bare_parts
+    (map (λ i. bus_of i (drawn seed i)) (places k))
+    (map unit_of (places k))
+    (flat_map (λ i. blocks_of i (drawn seed i)) (places k))) {
   lines = map (λ i. line_of i (drawn seed i)) (places k);
   outages = map (λ i. i + 1) (places k);
   shift = factors_by (shift_of n) n;
@@ -24,7 +25,7 @@ first_buses n seed k = record {
 
 pub no-bus : (n seed : ℕ) (buses : List Bus) (units : List unit.Unit) (blocks : List Block) (lines : List Line) (outages : List ℕ) (shift loss : List Factor)
     → buses ≡ [] → units ≡ [] → blocks ≡ [] → lines ≡ [] → outages ≡ [] → shift ≡ factors_by (shift_of n) n → loss ≡ factors_by loss_of n
-    → (let m : Parts = record { buses = buses; units = units; blocks = blocks; lines = lines; outages = outages; shift = shift; loss = loss } in m ≡ first_buses n seed 0)
+    → (let m : Parts = record (bare_parts buses units blocks) { lines = lines; outages = outages; shift = shift; loss = loss } in m ≡ first_buses n seed 0)
 no-bus n seed buses units blocks lines outages shift loss a b c d e f g = rw (a, b, c, d, e, f, g) refl
 
 pub all-buses : (n seed k : ℕ) (m : Parts) → k ≤ n → n ≤ k → m ≡ first_buses n seed k → m ≡ ring_of n seed

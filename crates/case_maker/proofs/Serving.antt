@@ -17,7 +17,7 @@ use Rattle.market_data.specs.declared.participants.Unit as unit
 use Rattle.market_model.specs.declared.participants.Block.{Block}
 use Rattle.market_model.specs.declared.participants.Line.{Line}
 use Rattle.market_model.specs.declared.participants.Parts.{Parts}
-use Rattle.market_model.specs.Dispatch.{Dispatch, IsDispatch, accepted, balance, block_at, block_bus, blocks_at, demand, injection, line_at, places, raised_by, signed_by_side, unit_at, units_at, zero}
+use Rattle.market_model.specs.Dispatch.{Dispatch, IsDispatch, accepted, balance, block_at, block_bus, blocks_at, demand, injection, line_at, places, raised_by, signed_by_side, unit_at, units_at, zero, dispatch_by}
 use Rattle.market_model.specs.declared.limits.Cause.{Cause}
 use Rattle.market_model.specs.declared.limits.Row.{Row}
 use Rattle.market_model.specs.declared.limits.Cause.TheVariants.{Base, Branch}
@@ -43,7 +43,7 @@ module _ (n seed : ℕ) where
   taken = flat_map (λ i. load i ∷ pos 0 ∷ []) (places n)
 
   abbrev pub serving : Dispatch
-  serving = record { blocks = map whole taken }
+  serving = dispatch_by (map whole taken)
 
   taken-count : length taken ≡ n * 2
   taken-count = length-flat (λ i. load i ∷ pos 0 ∷ []) 0 n 2 (λ i p q. refl)

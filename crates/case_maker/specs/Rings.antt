@@ -11,6 +11,7 @@ use Rattle.market_model.specs.declared.participants.Line.{Line}
 use Rattle.market_model.specs.declared.participants.Parts.{Parts}
 use Rattle.market_model.specs.declared.participants.Side.TheVariants.{Sell}
 use Rattle.market_model.specs.Dispatch.{places}
+use Rattle.market_model.specs.Market.{bare_parts}
 use Rattle.case_maker.specs.declared.draws.Drawn.{Drawn}
 
 -- how many buses a ring may have: at these sizes each factor is a whole number of 10^-6
@@ -91,10 +92,10 @@ factors_by value n = flat_map (λ l. map (factor_by value l) (places n)) (places
 -- ---- the ring
 -- the market of a ring of n buses; each branch is an outage
 abbrev pub ring_of : ℕ → ℕ → Parts
-ring_of n seed = record {
-  buses = map (λ i. bus_of i (drawn seed i)) (places n);
-  units = map unit_of (places n);
-  blocks = flat_map (λ i. blocks_of i (drawn seed i)) (places n);
+ring_of n seed = record (bare_parts
+    (map (λ i. bus_of i (drawn seed i)) (places n))
+    (map unit_of (places n))
+    (flat_map (λ i. blocks_of i (drawn seed i)) (places n))) {
   lines = map (λ i. line_of i (drawn seed i)) (places n);
   outages = map (λ i. i + 1) (places n);
   shift = factors_by (shift_of n) n;

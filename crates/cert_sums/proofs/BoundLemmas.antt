@@ -16,7 +16,7 @@ use Rattle.exact_fraction.specs.declared.Op.TheVariants.{Plus, Times}
 use Rattle.exact_fraction.specs.declared.Passed.{Passed}
 use Rattle.market_model.specs.declared.answered.Duals.{Duals}
 use Rattle.market_model.specs.declared.participants.Parts.{Parts}
-use Rattle.market_model.specs.Dispatch.{Dispatch, places, injection, injection_terms, balance, balance_terms, empty, quantity}
+use Rattle.market_model.specs.Dispatch.{Dispatch, places, injection, injection_terms, balance, balance_terms, empty, quantity, dispatch_by}
 use Rattle.market_model.specs.Infeasibility.{where_above, part_above, block_weight, limit_terms, farkas_terms, farkas_bound}
 use Rattle.market_model.specs.declared.limits.Row.{Row}
 use Rattle.market_model.specs.LimitRows.{rows, row_id, limit, flow}
@@ -29,7 +29,7 @@ use Rattle.limit_rows.proofs.DualLemmas.{up_unnamed, down_unnamed, sum_named}
 use Rattle.cert_sums.specs.Bounds.{left_at, limits_terms}
 use Rattle.cert_sums.specs.Named.{PricedRow}
 use Rattle.cert_sums.specs.Pairs.{IsFarkasPair, in_flow as flow_pair, in_price as price_sum_pair, of_prices, of_empty, in_bound as bound_pair, of_limit_less, of_limit_more}
-use Rattle.market_model.specs.SumTables.{injection_at, balance_of_all, flow_of_line, flow_of_row, congestion_at, price_at}
+use Rattle.market_model.specs.SumTables.{injection_at, flow_of_line, carried, balance_of_all, flow_of_row, congestion_at, price_at}
 use Rattle.cert_sums.specs.declared.stops.VerifyStop.{VerifyStop}
 use Rattle.cert_sums.specs.declared.stops.VerifyStop.TheVariants as why
 use Rattle.market_model.specs.PutIn.{dispatch_of, IsInjectionRefusal}
@@ -202,7 +202,7 @@ module _ (m : Parts) (d : Duals Fraction) where
           (plus_at (farkas_terms m d) (s.front ++ above ∷ []) s.rest below second bound p (sum +ℚ e.up *ℚ room_above) (e.down *ℚ room_below) with_above (ap (λ u. u *ℚ room_below) h.down) c))
 
       pub limit_refused : IsLimitRefusal m (empty m) e sum bound p → IsFarkasPair m d bound p
-      limit_refused (in_flow c) = of_empty (flow_pair _ (flow_of_row e.row (is_row m d k e h)) c)
+      limit_refused (in_flow c) = of_empty (flow_pair (_, flow_of_row e.row (is_row m d k e h), c))
       limit_refused (in_above c) = above_refused c
       limit_refused (in_below c) = below_refused c
 
@@ -251,13 +251,13 @@ module _ (m : Parts) (d : Duals Fraction) where
 
   -- what is refused in a price of a bus
   pub price_pair : (i : ℕ) (bound : ℕ) (p : Passed Fraction) → i < length m.buses → IsPriceRefusal m d i bound p → IsFarkasPair m d bound p
-  price_pair i bound p lt (inl (inl c)) = of_empty (price_sum_pair _ (congestion_at i lt) c)
+  price_pair i bound p lt (inl (inl c)) = of_empty (price_sum_pair (_, congestion_at i lt, c))
   price_pair i bound p lt (inl (inr c)) = of_empty (of_prices c.0 c.1 c.2)
-  price_pair i bound p lt (inr c) = of_empty (price_sum_pair _ (price_at i lt) c)
+  price_pair i bound p lt (inr c) = of_empty (price_sum_pair (_, price_at i lt, c))
 
 -- ---- where nothing is accepted
 pub nothing_is : {N : Type 0} (value : N → Fraction) (m : Parts) (xs ys : List N) (n : ℕ) → xs ≡ ys → map value ys ≡ replicate n (whole (pos 0)) → n ≡ length m.blocks → dispatch_of value xs ≡ empty m
-nothing_is value m xs ys n same zeros count = ap (λ (zs : List Fraction). record { blocks = zs }) (ap (map value) same ∙ zeros ∙ ap (λ (k : ℕ). replicate k (whole (pos 0))) count)
+nothing_is value m xs ys n same zeros count = ap dispatch_by (ap (map value) same ∙ zeros ∙ ap (λ (k : ℕ). replicate k (whole (pos 0))) count)
 
 -- why a sum stops, where each of its refusals is another's
 pub stopped_weaker : {N : Type 0} (value : N → Fraction) (p q : Passed Fraction → Type 0) (s : VerifyStop N) → ((e : Passed Fraction) → p e → q e) → OnPassed value p s → OnPassed value q s
@@ -266,10 +266,10 @@ stopped_weaker value p q why.Memory to h = tt
 
 module _ (m : Parts) (d : Duals Fraction) (bound : ℕ) (p : Passed Fraction) where
   pub injection_pair : (x : Dispatch) → x ≡ empty m → IsInjectionRefusal m x bound p → IsFarkasPair m d bound p
-  injection_pair x is (i, lt, h) = of_empty (flow_pair (injection_terms m (empty m) i) (injection_at i lt) (subst (λ (y : Dispatch). IsRefusedIn (injection_terms m y i) bound p) is h))
+  injection_pair x is (i, lt, h) = of_empty (flow_pair (injection_terms m (empty m) i, carried _ (injection_at i lt), subst (λ (y : Dispatch). IsRefusedIn (injection_terms m y i) bound p) is h))
 
   pub line_pair : IsLineRefusal m (injection m (empty m)) bound p → IsFarkasPair m d bound p
-  line_pair (l, lt, h) = of_empty (flow_pair _ (flow_of_line l lt) h)
+  line_pair (l, lt, h) = of_empty (flow_pair (_, carried _ (flow_of_line l lt), h))
 
   pub balance_pair : IsRefusedIn (balance_terms m (empty m)) bound p → IsFarkasPair m d bound p
-  balance_pair h = of_empty (flow_pair _ balance_of_all h)
+  balance_pair h = of_empty (flow_pair (_, balance_of_all, h))

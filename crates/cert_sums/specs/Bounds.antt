@@ -10,7 +10,7 @@ use Rattle.market_model.specs.Infeasibility.{limit_terms}
 use Rattle.market_model.specs.LimitRows.{rows, most_flow, flow}
 use Rattle.cert_sums.specs.Named.{PricedRow}
 
--- what the prices of a row make of what its flow leaves of its most on either side
+-- what the prices of a row make of what its flow leaves of the most that it may be, on either side
 abbrev pub left_at : Parts → Dispatch → PricedRow → Fraction
 left_at m x e = e.up *ℚ (most_flow m e.row -ℚ flow m x e.row) +ℚ e.down *ℚ (most_flow m e.row +ℚ flow m x e.row)
 

@@ -13,15 +13,15 @@ use Rattle.market_model.specs.Infeasibility.{farkas_terms}
 use Rattle.market_model.specs.LimitRows.{flow, most_flow}
 use Rattle.market_model.specs.NamedSums.{IsRefusedIn, IsRefusal}
 use Rattle.market_model.specs.Optimality.{up_of, down_of, named_rows}
-use Rattle.market_model.specs.SumTables.{FlowSum, PriceSum}
+use Rattle.market_model.specs.SumTables.{IsRefusedAmong, FlowSum, PriceSum}
 
 -- a pair of a dispatch and duals: a step of one of their sums, or the two prices of a row
 pub data IsOptimalPair (m : Parts) (x : Dispatch) (d : Duals Fraction) (bound : ℕ) (p : Passed Fraction) : Type 0 where
-  in_flow : (terms : List Term) → FlowSum m x terms → IsRefusedIn terms bound p → IsOptimalPair m x d bound p
-  in_price : (terms : List Term) → PriceSum m d terms → IsRefusedIn terms bound p → IsOptimalPair m x d bound p
+  in_flow : IsRefusedAmong (FlowSum m x) bound p → IsOptimalPair m x d bound p
+  in_price : IsRefusedAmong (PriceSum m d) bound p → IsOptimalPair m x d bound p
   of_prices : (r : Row) → Contains (named_rows m d) r → IsRefusal Minus (up_of m d r) (down_of m d r) bound p → IsOptimalPair m x d bound p
 
--- a pair of duals alone: the same where nothing is accepted, the bound, and what the flow of a row then leaves of its most on either side
+-- a pair of duals alone: the same where nothing is accepted, the bound, and what the flow of a row then leaves of the most that it may be, on either side
 pub data IsFarkasPair (m : Parts) (d : Duals Fraction) (bound : ℕ) (p : Passed Fraction) : Type 0 where
   of_empty : IsOptimalPair m (empty m) d bound p → IsFarkasPair m d bound p
   in_bound : IsRefusedIn (farkas_terms m d) bound p → IsFarkasPair m d bound p

@@ -15,7 +15,7 @@ use Rattle.cert_sums.specs.declared.stops.VerifyStop.{VerifyStop}
 use Rattle.cert_sums.specs.declared.stops.VerifyStop.TheVariants as why
 use Rattle.cert_sums.specs.Named.{PricedRow}
 
--- why a sum was not added up: an operation was refused, of which this holds, or memory was
+-- where an operation was refused, this holds of it; nothing is said where memory was
 abbrev pub OnPassed : {N : Type 0} → (N → Fraction) → (Passed Fraction → Type 0) → VerifyStop N → Type 0
 OnPassed value refused (why.Range p) = refused (passed_at value p)
 OnPassed value refused why.Memory = Unit {0}
@@ -44,7 +44,7 @@ IsAboveRefusal sum price limit flow bound p = IsRefusal Minus limit flow bound p
 abbrev pub IsBelowRefusal : Fraction → Fraction → Fraction → Fraction → ℕ → Passed Fraction → Type 0
 IsBelowRefusal sum price limit flow bound p = IsRefusal Plus limit flow bound p ⊎ IsShareRefusal sum price (limit +ℚ flow) bound p
 
--- the flow of a row, or what its prices make of what that leaves of its most on either side
+-- the flow of a row, or what its prices make of what that leaves of the most that it may be, on either side
 pub data IsLimitRefusal (m : Parts) (x : Dispatch) (e : PricedRow) (sum : Fraction) (bound : ℕ) (p : Passed Fraction) : Type 0 where
   in_flow : IsRefusedIn (flow_terms m (line_flow m (injection m x)) e.row) bound p → IsLimitRefusal m x e sum bound p
   in_above : IsAboveRefusal sum e.up (most_flow m e.row) (flow m x e.row) bound p → IsLimitRefusal m x e sum bound p

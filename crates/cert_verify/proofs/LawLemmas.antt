@@ -15,10 +15,11 @@ use Rattle.market_model.specs.Optimality.{ProperDuals, names_row, named_rows}
 use Rattle.market_model.proofs.ChangeLemmas.{same_default}
 use Rattle.market_model.proofs.FarkasLaw.{law_of_infeasibility}
 use Rattle.market_model.proofs.Optimum.{law_of_the_optimum}
+use Rattle.market_model.specs.Dispatch.{dispatch_by}
 use Rattle.limit_rows.proofs.ApartLemmas.{names_apart}
 use Rattle.limit_rows.proofs.DualLemmas.{row_of_dual, named_count}
 use Rattle.cert_format.specs.declared.certificate.Cert.TheVariants.{Optimal, Farkas}
-use Rattle.cert_verify.specs.Certificates.{NamesRows, named_duals, dispatch_by, first_reason}
+use Rattle.cert_verify.specs.Certificates.{NamesRows, named_duals, first_reason}
 use Rattle.cert_verify.specs.Laws.{LawOfTheVerdict, LawOfTheBest, LawOfNothingFeasible, LawOfRightAnswers, LawOfFarkasDuals}
 use Rattle.cert_verify.proofs.TestLemmas.{yes_none, none_yes}
 use Rattle.cert_verify.proofs.VerdictLemmas.{Apart, optimal_to, optimal_from, farkas_to, farkas_from}

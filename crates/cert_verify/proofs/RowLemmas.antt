@@ -22,7 +22,7 @@ use Rattle.limit_rows.proofs.PlaceLemmas.{lost_inside, same_name}
 use Rattle.cert_sums.specs.declared.stops.VerifyStop.{VerifyStop}
 use Rattle.cert_sums.specs.declared.stops.VerifyStop.TheVariants as why
 use Rattle.cert_sums.specs.Pairs.{IsOptimalPair, in_flow, in_price, of_prices}
-use Rattle.market_model.specs.SumTables.{injection_at, balance_of_all, flow_of_line, flow_of_row, congestion_at, price_at}
+use Rattle.market_model.specs.SumTables.{injection_at, flow_of_line, carried, balance_of_all, flow_of_row, congestion_at, price_at}
 use Rattle.limit_rows.specs.LineFlows.{AreFlows, IsLineRefusal}
 use Rattle.limit_rows.proofs.FlowSteps.{row_terms_are}
 use Rattle.market_model.specs.PutIn.{put_in, IsInjectionRefusal}
@@ -88,18 +88,18 @@ stopped_by value p q why.Memory to h = tt
 
 module _ (m : Parts) (x : Dispatch) (d : Duals Fraction) (bound : ℕ) (p : Passed Fraction) where
   pub injection_pair : IsInjectionRefusal m x bound p → IsOptimalPair m x d bound p
-  injection_pair (i, lt, h) = in_flow _ (injection_at i lt) h
+  injection_pair (i, lt, h) = in_flow (_, carried _ (injection_at i lt), h)
 
   pub balance_pair : IsRefusedIn (balance_terms m x) bound p → IsOptimalPair m x d bound p
-  balance_pair h = in_flow _ balance_of_all h
+  balance_pair h = in_flow (_, balance_of_all, h)
 
   pub line_pair : IsLineRefusal m (injection m x) bound p → IsOptimalPair m x d bound p
-  line_pair (l, lt, h) = in_flow _ (flow_of_line l lt) h
+  line_pair (l, lt, h) = in_flow (_, carried _ (flow_of_line l lt), h)
 
   pub row_pair : (r : Row) → Contains (rows m) r → IsRefusedIn (flow_terms m (line_flow m (injection m x)) r) bound p → IsOptimalPair m x d bound p
-  row_pair r c h = in_flow _ (flow_of_row r c) h
+  row_pair r c h = in_flow (_, flow_of_row r c, h)
 
   pub price_pair : (i : ℕ) → i < length m.buses → IsPriceRefusal m d i bound p → IsOptimalPair m x d bound p
-  price_pair i lt (inl (inl c)) = in_price _ (congestion_at i lt) c
+  price_pair i lt (inl (inl c)) = in_price (_, congestion_at i lt, c)
   price_pair i lt (inl (inr c)) = of_prices c.0 c.1 c.2
-  price_pair i lt (inr c) = in_price _ (price_at i lt) c
+  price_pair i lt (inr c) = in_price (_, price_at i lt, c)

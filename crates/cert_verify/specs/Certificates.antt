@@ -7,7 +7,7 @@ use Rattle.market_model.specs.declared.answered.Dual.{Dual}
 use Rattle.market_model.specs.declared.answered.Duals.{Duals}
 use Rattle.market_model.specs.declared.answered.Farkas as infeasible
 use Rattle.market_model.specs.declared.participants.Parts.{Parts}
-use Rattle.market_model.specs.Dispatch.{Dispatch}
+use Rattle.market_model.specs.Dispatch.{Dispatch, dispatch_by}
 use Rattle.market_model.specs.Infeasibility.{ShowsInfeasible}
 use Rattle.market_model.specs.declared.limits.Row.{Row}
 use Rattle.market_model.specs.LimitRows.{rows, row_id}
@@ -19,10 +19,6 @@ use Rattle.cert_sums.specs.Pairs.{IsFarkasPair, IsOptimalPair}
 use Rattle.cert_sums.specs.Refusals.{OnPassed}
 use Rattle.cert_verify.specs.Reasons.{first_of, optimal_reasons, farkas_reasons}
 use Rattle.cert_verify.specs.declared.verdicts.Reason.{Reason}
-
--- a dispatch of these quantities
-abbrev pub dispatch_by : List Fraction → Dispatch
-dispatch_by blocks = record { blocks = blocks }
 
 -- a price of energy, and those of rows
 abbrev pub named_duals : Fraction → List (Dual Fraction) → Duals Fraction

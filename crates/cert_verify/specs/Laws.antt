@@ -6,7 +6,7 @@ use Rattle.market_model.specs.declared.answered.Answer.{Answer}
 use Rattle.market_model.specs.declared.answered.Dual.{Dual}
 use Rattle.market_model.specs.declared.answered.Farkas as infeasible
 use Rattle.market_model.specs.declared.participants.Parts.{Parts}
-use Rattle.market_model.specs.Dispatch.{Dispatch}
+use Rattle.market_model.specs.Dispatch.{Dispatch, dispatch_by}
 use Rattle.market_model.specs.Infeasibility.{IsFarkas}
 use Rattle.market_model.specs.Market.{IsMarket}
 use Rattle.market_model.specs.Optimality.{Feasible, welfare}
@@ -14,7 +14,7 @@ use Rattle.market_model.specs.RightAnswers.{IsRight}
 use Rattle.cert_format.specs.declared.certificate.Cert.{Cert}
 use Rattle.cert_format.specs.declared.certificate.Cert.TheVariants.{Optimal, Farkas}
 use Rattle.cert_format.specs.Certificates.{RowsAreDistinct}
-use Rattle.cert_verify.specs.Certificates.{IsTrueOf, first_reason, dispatch_by, cert_of, cert_against}
+use Rattle.cert_verify.specs.Certificates.{IsTrueOf, first_reason, cert_of, cert_against}
 use Rattle.cert_verify.specs.Reasons.{verdict_of}
 use Rattle.cert_verify.specs.declared.verdicts.Verdict.TheVariants.{Yes}
 

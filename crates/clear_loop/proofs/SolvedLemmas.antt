@@ -15,13 +15,13 @@ use Rattle.market_model.specs.declared.answered.Dual.{Dual}
 use Rattle.market_model.specs.declared.answered.Duals.{Duals}
 use Rattle.market_model.specs.declared.answered.RowId.{RowId}
 use Rattle.market_model.specs.declared.participants.Parts.{Parts}
-use Rattle.market_model.specs.Dispatch.{Dispatch, bus_at, unit_at, output, demand, injection, injection_terms, output_terms}
+use Rattle.market_model.specs.Dispatch.{Dispatch, bus_at, unit_at, output, demand, injection, output_terms}
 use Rattle.market_model.specs.Overrun.{size_of}
 use Rattle.market_model.specs.declared.limits.Row.{Row}
-use Rattle.market_model.specs.LimitRows.{rows, row_id, limit, line_flow, line_terms, flow, flow_terms, offset_terms, row_offset}
+use Rattle.market_model.specs.LimitRows.{rows, row_id, limit, line_flow, flow, flow_terms, offset_terms, row_offset}
 use Rattle.market_model.specs.Market.{IsMarket}
 use Rattle.market_model.specs.NamedSums.{SameSize, IsRefusedIn, IsRefusal}
-use Rattle.market_model.specs.SumTables.{FlowSum, injection_at, flow_of_line, flow_of_row, congestion_at, MoneySum, welfare_of_all, surplus_of_all, rent_of_row}
+use Rattle.market_model.specs.SumTables.{FlowSum, carried, flow_of_row, congestion_at, MoneySum, welfare_of_all, surplus_of_all, rent_of_row}
 use Rattle.market_model.specs.Optimality.{Feasible, Supports, IsOneSided, ProperDuals, named_rows, names_row, same_id, up_in, down_in, bus_price, unit_price, congestion, congestion_terms, welfare_terms}
 use Rattle.market_model.specs.Settlement.{left_terms, rent_terms, surplus_terms}
 use Rattle.market_system.specs.Growth.{BestFor}
@@ -35,15 +35,15 @@ use Rattle.market_system.proofs.GrowthLaws.{growth_none}
 use Rattle.market_system.proofs.PairCases.{law_of_the_pairs, row_flow_number, row_offset_number, congestion_number}
 use Rattle.market_system.proofs.RowOrder.{is_in-in, is_in-from}
 use Rattle.limit_rows.proofs.ApartLemmas.{names_apart}
-use Rattle.limit_rows.proofs.FactorLemmas.{stands}
-use Rattle.limit_screen.specs.Flows.{flows_at, line_in, IsFlowsRefusal, of_injection as flows_of_injection, of_line as flows_of_line}
+use Rattle.limit_screen.proofs.ScreenLemmas.{row_terms}
+use Rattle.limit_screen.specs.Flows.{flows_at, line_in, IsFlowsRefusal}
 use Rattle.limit_screen.specs.Screening.{IsOverrunRefusal, IsScreenRefusal, of_flow as row_of_flow, of_limit as row_of_limit}
 use Rattle.market_model.proofs.PlaceLists.{map_same}
 use Rattle.bus_prices.specs.Prices.{IsPriceRefusal, of_congestion, of_total}
 use Rattle.settlement.specs.Paying.{ArePricesOf}
-use Rattle.settlement.specs.Refusals.{IsSettlementRefusal, of_output, of_demand, of_money as of_money_left, of_injection, of_line, of_row_flow, of_offset, of_limit_less, of_limit_more, of_rent}
+use Rattle.settlement.specs.Refusals.{IsMoneyRefusal, of_output, of_demand, of_money as of_money_left, of_row_flow, of_offset, of_limit_less, of_limit_more, of_rent}
 use Rattle.market_dict.specs.Findings.{IsSolvedBy}
-use Rattle.clear_loop.proofs.BrokenLemmas.{row_is, sized_by, terms_are}
+use Rattle.clear_loop.proofs.BrokenLemmas.{row_is, sized_by}
 
 -- ---- prices of rows in hand
 not_in : (g : List Row) (r : Row) → ¬ (Contains g r) → is_in g r ≡ false
@@ -123,8 +123,7 @@ module _ (m : Parts) (g : List Row) (x : Dispatch) (d : Duals Fraction) (market 
 
     -- where a dispatch is screened
     pub flows_range : IsFlowsRefusal m x bound p → IsRangeOf m g bound p
-    flows_range (flows_of_injection i lt a) = flow_sum (injection_terms m x i) (injection_at i lt) a
-    flows_range (flows_of_line l lt a) = flow_sum (line_terms m (injection m x) l) (flow_of_line l lt) a
+    flows_range (terms, sum, a) = flow_sum terms (carried terms sum) a
 
     flow_number : (r : Row) → Contains (rows m) r → MarketNumber m g solved.choice Quantity (flow m x r)
     flow_number r c = row_flow_number m g g (growth_none m g) solved.choice solved.is_choice bound p market x injecting r c
@@ -135,11 +134,10 @@ module _ (m : Parts) (g : List Row) (x : Dispatch) (d : Duals Fraction) (market 
 
     row_range : (r : Row) → Contains (rows m) r → IsOverrunRefusal m (line_in m (flows_at m x)) bound r p → IsRangeOf m g bound p
     row_range r c (row_of_flow a) =
-        let s = stands m market r c in
-        flow_sum (flow_terms m (line_flow m (injection m x)) r) (flow_of_row r c) (subst (λ ts. IsRefusedIn ts bound p) (terms_are m market x r.line r.cause s.line s.lost) a)
+        flow_sum (flow_terms m (line_flow m (injection m x)) r) (flow_of_row r c) (subst (λ ts. IsRefusedIn ts bound p) (row_terms m x (flows_at m x) r market refl c) a)
     row_range r c (row_of_limit a) =
         pairs.two Quantity (size_of (flow m x r)) (limit m r) (sized r c (sized_by (flow m x r) (sign_of (flow m x r)))) (is_limit r c)
-        (inr (subst (λ f. IsRefusal Minus (size_of f) (limit m r) bound p) (row_is m market x r c) a))
+        (inr (subst (λ f. IsRefusal Minus (size_of f) (limit m r) bound p) (row_is m market x (flows_at m x) refl r c) a))
 
     pub screen_range : IsScreenRefusal m (line_in m (flows_at m x)) bound p → IsRangeOf m g bound p
     screen_range (r, c, a) = row_range r c a
@@ -181,22 +179,20 @@ module _ (m : Parts) (g : List Row) (x : Dispatch) (d : Duals Fraction) (market 
         offset_number : (r : Row) → Contains (rows m) r → MarketNumber m g solved.choice Quantity (row_offset m r)
         offset_number r c = row_offset_number m g g (growth_none m g) solved.choice solved.is_choice bound p r c
 
-        pub settlement_range : IsSettlementRefusal m x price d bound p → IsRangeOf m g bound p
-        settlement_range (of_output u lt a) =
+        pub money_range : IsMoneyRefusal m x price d bound p → IsRangeOf m g bound p
+        money_range (of_output u lt a) =
             let terms = output_terms m (choice_dispatch m g solved.choice) u in
             pairs.sum (Some Quantity) terms (output_of u best lt) (subst (λ y. IsRefusedIn (output_terms m y u) bound p) solved.dispatch a)
-        settlement_range (of_demand i lt a) = pairs.two Quantity (whole (bus_at m i).pd) (whole (bus_at m i).gs) (is_load i lt) (is_shunt i lt) (inl a)
-        settlement_range (of_money_left a) =
+        money_range (of_demand i lt a) = pairs.two Quantity (whole (bus_at m i).pd) (whole (bus_at m i).gs) (is_load i lt) (is_shunt i lt) (inl a)
+        money_range (of_money_left a) =
             money (surplus_terms m (choice_dispatch m g solved.choice) (choice_duals m g solved.choice)) surplus_of_all
             (subst (λ y. IsRefusedIn (surplus_terms m y (choice_duals m g solved.choice)) bound p) solved.dispatch
             (subst (λ e. IsRefusedIn (surplus_terms m x e) bound p) solved.duals (subst (λ ts. IsRefusedIn ts bound p) left_is a)))
-        settlement_range (of_injection i lt a) = flow_sum (injection_terms m x i) (injection_at i lt) a
-        settlement_range (of_line l lt a) = flow_sum (line_terms m (injection m x) l) (flow_of_line l lt) a
-        settlement_range (of_row_flow r c after a) = flow_sum (flow_terms m (line_flow m (injection m x)) r) (flow_of_row r (named r c).0) a
-        settlement_range (of_offset r c a) = pairs.sum (Some Quantity) (offset_terms m r) (offset_of r (named r c).0) a
-        settlement_range (of_limit_less r c a) = pairs.two Quantity (limit m r) (row_offset m r) (is_limit r (named r c).0) (offset_number r (named r c).0) (inr a)
-        settlement_range (of_limit_more r c a) = pairs.two Quantity (limit m r) (row_offset m r) (is_limit r (named r c).0) (offset_number r (named r c).0) (inl a)
-        settlement_range (of_rent r c a) =
+        money_range (of_row_flow r c after a) = flow_sum (flow_terms m (line_flow m (injection m x)) r) (flow_of_row r (named r c).0) a
+        money_range (of_offset r c a) = pairs.sum (Some Quantity) (offset_terms m r) (offset_of r (named r c).0) a
+        money_range (of_limit_less r c a) = pairs.two Quantity (limit m r) (row_offset m r) (is_limit r (named r c).0) (offset_number r (named r c).0) (inr a)
+        money_range (of_limit_more r c a) = pairs.two Quantity (limit m r) (row_offset m r) (is_limit r (named r c).0) (offset_number r (named r c).0) (inl a)
+        money_range (of_rent r c a) =
             money (rent_terms m (choice_dispatch m g solved.choice) (choice_duals m g solved.choice) r) (rent_of_row r (named r c).1)
             (subst (λ y. IsRefusedIn (rent_terms m y (choice_duals m g solved.choice) r) bound p) solved.dispatch
             (subst (λ e. IsRefusedIn (rent_terms m x e r) bound p) solved.duals a))

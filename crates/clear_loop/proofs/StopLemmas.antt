@@ -27,7 +27,7 @@ use Rattle.market_dict.specs.declared.stop.Stop.TheVariants as stop
 use Rattle.market_dict.proofs.RefusalLaws.{pair_range, posing_range}
 use Rattle.clear_loop.specs.Faults.{stop_of}
 use Rattle.clear_loop.specs.Rounds.{StopsInRange}
-use Rattle.clear_loop.proofs.SolvedLemmas.{flows_range, price_range, screen_range, settlement_range}
+use Rattle.clear_loop.proofs.SolvedLemmas.{flows_range, price_range, screen_range, money_range}
 
 module _ {N : Type 0} (value : N → Fraction) (bound : ℕ) (m : Parts) where
   -- a pair of the dictionary over rows that are reached
@@ -59,5 +59,5 @@ module _ {N : Type 0} (value : N → Fraction) (bound : ℕ) (m : Parts) where
       price_stop stop.Memory a = tt
 
       pub money_stop : (price : ℕ → Fraction) → ArePricesOf m d price → (s : MoneyStop N) → IsMoneyStop value bound m x price d s → StopsInRange value bound m g (stop_of s)
-      money_stop price priced (money.Passed p) a = settlement_range m g x d market solved bound (passed_at value p) feasible price priced a
+      money_stop price priced (money.Passed p) a = money_range m g x d market solved bound (passed_at value p) feasible price priced a
       money_stop price priced money.Memory a = tt

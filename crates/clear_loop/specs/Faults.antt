@@ -1,4 +1,9 @@
--- Why a clear ends without an answer.
+-- Why a clear ends without an answer, and what that is as an outcome.
+use Rattle.std.specs.Prelude.{Result, Ok, Err}
+use Rattle.plain_list.specs.declared.Memory.{Memory}
+use Rattle.market_model.specs.declared.answered.Answer.{Answer}
+use Rattle.market_model.specs.declared.answered.Outcome.{Outcome}
+use Rattle.market_model.specs.declared.answered.Outcome.TheVariants as outcome
 use Rattle.market_dict.specs.declared.stop.Stop.{Stop}
 use Rattle.market_dict.specs.declared.stop.Stop.TheVariants as stop
 use Rattle.settlement.specs.declared.stops.MoneyStop.{MoneyStop}
@@ -15,3 +20,10 @@ fault_of stop.Memory = why.Memory
 abbrev pub stop_of : {N : Type 0} → MoneyStop N → Stop N
 stop_of (money.Passed p) = stop.Passed p
 stop_of money.Memory = stop.Memory
+
+-- the outcome of a clear, where there was memory
+abbrev pub outcome_of : {N : Type 0} → Result (Answer N) (ClearFault N) → Result (Outcome N) Memory
+outcome_of (Ok a) = Ok (outcome.Cleared a)
+outcome_of (Err (why.Infeasible f)) = Ok (outcome.Infeasible f)
+outcome_of (Err (why.Range p)) = Ok (outcome.Range p)
+outcome_of (Err why.Memory) = Err (record {})

@@ -9,12 +9,15 @@ use Rattle.market_model.specs.Dispatch.{Dispatch}
 use Rattle.market_model.specs.Fitting.{FitsMarket}
 use Rattle.market_model.specs.Infeasibility.{IsFarkas}
 use Rattle.market_model.specs.declared.limits.Row.{Row}
-use Rattle.market_model.specs.LimitRows.{rows, row_id}
+use Rattle.market_model.specs.LimitRows.{flow, most_flow, rows, row_id}
+use Rattle.market_model.specs.Optimality.{Within}
+use Rattle.market_model.specs.Overrun.{IsWorst}
 use Rattle.market_model.specs.RightAnswers.{IsRight}
 use Rattle.market_model.specs.Valued.{answer_at, duals_at, farkas_at, passed_at}
 use Rattle.market_system.specs.Growth.{BestFor, Broken}
 use Rattle.market_system.specs.Outcomes.{PricesOnly}
 use Rattle.market_system.specs.WorkingPairs.{IsRangeOf}
+use Rattle.limit_screen.specs.Flows.{flows_at}
 use Rattle.market_dict.specs.Findings.{OnPassed}
 use Rattle.market_dict.specs.Holding.{HoldsMarket}
 use Rattle.market_dict.specs.PricesAndBounds.{ArePricesAndBounds}
@@ -23,6 +26,8 @@ use Rattle.clear_loop.specs.declared.hand.Hand.{Hand}
 use Rattle.clear_loop.specs.declared.rounds.Ended.{Ended}
 use Rattle.clear_loop.specs.declared.rounds.Round.{Round}
 use Rattle.clear_loop.specs.declared.rounds.Round.TheVariants as round
+use Rattle.clear_loop.specs.declared.screen.Screened.{Screened}
+use Rattle.clear_loop.specs.declared.screen.Screened.TheVariants as screened
 use Rattle.clear_loop.specs.Starts.{rows_in}
 
 -- a dictionary that holds the market over these rows
@@ -38,6 +43,11 @@ pub record IsInHand {N : Type 0} (value : N → Fraction) (m : Parts) (h : Hand 
 -- the rows with one more of the market behind, which a best dispatch for them breaks
 abbrev pub GrowsByOne : Parts → List Row → List Row → Type 0
 GrowsByOne m g new = (r : Row) × (new ≡ g ++ r ∷ []) × Contains (rows m) r × ((x : Dispatch) × BestFor m g x × Broken m x r)
+
+-- what a look at all limits comes to at a dispatch: the worst of those that are broken, or the flows, where all hold
+abbrev pub IsScreened : {N : Type 0} → (N → Fraction) → Parts → Dispatch → Screened N → Type 0
+IsScreened value m x (screened.Broken row) = (place : ℕ) × IsWorst m (flow m x) place row
+IsScreened value m x (screened.Within flows) = ((r : Row) → Contains (rows m) r → Within (most_flow m r) (flow m x r)) × (map value flows.items ≡ flows_at m x)
 
 -- a right answer, or duals that show that nothing is feasible, with prices of no other rows
 abbrev pub IsEnd : {N : Type 0} → (N → Fraction) → Parts → List Row → Result (Answer N) (Farkas N) → Type 0

@@ -9,16 +9,17 @@ ghost use Rattle.market_model.specs.RightAnswers.{IsRight, price_made};
 ghost use Rattle.market_model.specs.Valued.{answer_at, duals_at, passed_at, price_at};
 ghost use Rattle.bus_prices.specs.Prices.{IsPriceRefusal};
 ghost use Rattle.market_model.specs.PutIn.{dispatch_of};
+ghost use Rattle.limit_screen.specs.Flows.{flows_at};
 ghost use Rattle.market_dict.specs.Findings.{IsSolvedBy, OnPassed};
 ghost use Rattle.clear_loop.specs.Faults.{stop_of};
 ghost use Rattle.clear_loop.specs.Rounds.{StopsInRange};
 
-use bus_prices::prices;
+use bus_prices::{dual_rows, price};
 use exact_fraction::Exact;
 use market_dict::Stop;
 use market_model::{Answer, Duals, Market, Price};
 use plain_list::List;
-use settlement::{MoneyStop, settle, welfare};
+use settlement::{MoneyStop, settle_flows, welfare};
 use std::alloc::Global;
 
 /// The price at each bus.
@@ -28,25 +29,15 @@ fn bus_prices<N: Exact>(
     duals: &Duals<N>,
 ) -> Result<List<Price<N>>, Stop<N>>
     requires { ProperDuals market.now (duals_at N.value duals.now) }
-    ensures prices { IfOk result (λ list. map (price_at N.value) list ≡ map (price_made market.now (duals_at N.value duals.now)) (places (length market.now.buses))) }
+    ensures prices { IfOk result (λ prices. map (price_at N.value) prices ≡ map (price_made market.now (duals_at N.value duals.now)) (places (length market.now.buses))) }
     ensures cause { IfErr result (λ stop. OnPassed stop (λ p. IsPriceRefusal market.now (duals_at N.value duals.now) N.bound (passed_at N.value p))) }
 {
-    let energy = duals.energy;
-    let blank = Price {
-        energy,
-        congestion: energy,
-        total: energy,
-    };
-    let mut by_bus = match vec![in alloc; blank; market.buses().len()] {
-        Ok(by_bus) => by_bus,
-        Err(_) => return Err(Stop::Memory),
-    };
-    prices(market, duals, &mut by_bus)?;
-    let mut list = List::new(alloc);
-    for price in &by_bus {
-        list.push(*price)?;
+    let rows = dual_rows(alloc, market, duals)?;
+    let mut prices = List::new(alloc);
+    for bus in 0..market.buses().len() {
+        prices.push(price(market, duals, rows.slice(), bus)?)?;
     }
-    Ok(list)
+    Ok(prices)
 }
 
 /// A stop of the settlement as one of the clear.
@@ -59,15 +50,18 @@ fn stopped<N: Exact>(refused: MoneyStop<N>) -> Stop<N>
     }
 }
 
-/// The answer of a feasible dispatch that solves the market over some of its limits, with its duals: bus prices, welfare and settlement.
+/// The answer of a feasible dispatch that solves the market over some of its limits, with its flows, by bus and then by line, and its
+/// duals: bus prices, welfare and settlement.
 pub(crate) fn answer_of<N: Exact>(
     alloc: Global,
     market: &Market,
     dispatch: List<N>,
+    flows: &[N],
     duals: Duals<N>,
 ) -> Result<Answer<N>, Stop<N>>
     requires solved { (g : List Row) × IsSolvedBy market.now g (dispatch_of N.value dispatch) (duals_at N.value duals) }
     requires feasible { Feasible market.now (dispatch_of N.value dispatch) }
+    requires flows { map N.value flows.now ≡ flows_at market.now (dispatch_of N.value dispatch) }
     ensures fits { IfOk result (FitsMarket market.now) }
     ensures right { IfOk result (λ answer. IsRight market.now (answer_at N.value answer)) }
     ensures duals { IfOk result (λ answer. answer.duals ≡ duals) }
@@ -76,7 +70,14 @@ pub(crate) fn answer_of<N: Exact>(
     let _lines = market.lines();
     let prices = bus_prices(alloc, market, &duals)?;
     let welfare = welfare(market, dispatch.slice())?;
-    let money = match settle(alloc, market, dispatch.slice(), prices.slice(), &duals) {
+    let money = match settle_flows(
+        alloc,
+        market,
+        dispatch.slice(),
+        flows,
+        prices.slice(),
+        &duals,
+    ) {
         Ok(money) => money,
         Err(refused) => return Err(stopped(refused)),
     };

@@ -1,11 +1,11 @@
 //! Why a market was not cleared.
 
 ghost use Rattle.std.specs.Prelude.{◌≡◌};
-ghost use Rattle.clear_loop.specs.Faults.{fault_of};
+ghost use Rattle.clear_loop.specs.Faults.{fault_of, outcome_of};
 
 use exact_fraction::Passed;
 use market_dict::Stop;
-use market_model::Farkas;
+use market_model::{Answer, Farkas, Memory, Outcome};
 
 /// Why a market was not cleared.
 #[derive(Drop, Debug)]
@@ -25,5 +25,17 @@ impl<N> From<Stop<N>> for ClearFault<N> {
             Stop::Passed(passed) => ClearFault::Range(passed),
             Stop::Memory => ClearFault::Memory,
         }
+    }
+}
+
+/// What a clear came to. That nothing is feasible, and that numbers became too large, are outcomes as an answer is.
+pub fn outcome<N>(cleared: Result<Answer<N>, ClearFault<N>>) -> Result<Outcome<N>, Memory>
+    ensures { result ≡ outcome_of cleared }
+{
+    match cleared {
+        Ok(answer) => Ok(Outcome::Cleared(answer)),
+        Err(ClearFault::Infeasible(farkas)) => Ok(Outcome::Infeasible(farkas)),
+        Err(ClearFault::Range(passed)) => Ok(Outcome::Range(passed)),
+        Err(ClearFault::Memory) => Err(Memory),
     }
 }

@@ -13,4 +13,4 @@ mod rounds;
 mod screen;
 
 pub use clearer::Clearer;
-pub use fault::ClearFault;
+pub use fault::{ClearFault, outcome};

@@ -7,7 +7,7 @@ ghost use Rattle.clear_loop.specs.Starts.{rows_in};
 
 use crate::answering::answer_of;
 use crate::hand::{Hand, Taken, with_row};
-use crate::screen::broken;
+use crate::screen::{Screened, screened_at};
 use exact_fraction::Exact;
 use linear_dict::Dict;
 use market_dict::{Found, Stop, solve};
@@ -37,12 +37,11 @@ fn one_round<N: Exact>(alloc: Global, market: &Market, hand: Hand<N>) -> Result<
     ensures cause { IfErr result (StopsInRange N.value N.bound market.now (rows_in hand.taken)) }
 {
     let _lines = market.lines();
-    let Hand {
-        warm,
-        posing,
-        taken,
-    } = hand;
-    let posed = warm.repose(posing.prices.slice(), posing.bounds.slice())?;
+    let posing = hand.posing;
+    let taken = hand.taken;
+    let posed = hand
+        .warm
+        .repose(posing.prices.slice(), posing.bounds.slice())?;
     let (dict, dispatch, duals) = match solve(alloc, market, posed)? {
         Found::Best {
             dict,
@@ -57,10 +56,12 @@ fn one_round<N: Exact>(alloc: Global, market: &Market, hand: Hand<N>) -> Result<
             }));
         }
     };
-    match broken(alloc, market, dispatch.slice())? {
-        Some(row) => Ok(Round::Broken(with_row(alloc, market, dict, posing, taken, row)?)),
-        None => {
-            let answer = answer_of(alloc, market, dispatch, duals)?;
+    match screened_at(alloc, market, dispatch.slice())? {
+        Screened::Broken(row) => Ok(Round::Broken(with_row(
+            alloc, market, dict, posing, taken, row,
+        )?)),
+        Screened::Within(flows) => {
+            let answer = answer_of(alloc, market, dispatch, &flows, duals)?;
             Ok(Round::Done(Ended {
                 dict,
                 taken,

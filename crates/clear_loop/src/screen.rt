@@ -1,33 +1,36 @@
-//! The limit that a dispatch breaks by the most.
+//! The limits that a dispatch breaks.
 
-ghost use Rattle.std.specs.Prelude.{◌≡◌, ◌⊎◌, ℕ, length, Contains, IfOk, IfErr, MatchOption};
-ghost use Rattle.market_model.specs.Overrun.{IsWorst};
-ghost use Rattle.market_model.specs.declared.limits.Row.{Row};
-ghost use Rattle.market_model.specs.LimitRows.{flow, rows, most_flow};
-ghost use Rattle.market_model.specs.Optimality.{Within};
+ghost use Rattle.std.specs.Prelude.{◌≡◌, ◌⊎◌, length, IfOk, IfErr};
 ghost use Rattle.market_model.specs.Valued.{passed_at};
 ghost use Rattle.market_model.specs.PutIn.{dispatch_of};
 ghost use Rattle.limit_screen.specs.Flows.{flows_at, line_in, IsFlowsRefusal};
 ghost use Rattle.limit_screen.specs.Screening.{IsScreenRefusal};
 ghost use Rattle.market_dict.specs.Findings.{OnPassed};
+ghost use Rattle.clear_loop.specs.Rounds.{IsScreened};
 
 use exact_fraction::Exact;
-use limit_rows::row_named;
-use limit_screen::{flows, worst};
+use limit_screen::{flows, worst_row};
 use market_dict::Stop;
 use market_model::{Market, Row, datum};
 use std::alloc::Global;
 
-/// The limit that a dispatch breaks by the most, and the first of those in the market's order; none where all hold.
-pub(crate) fn broken<N: Exact>(
+/// What a look at all limits comes to.
+#[derive(Drop)]
+pub(crate) enum Screened<N> {
+    /// The limit that is broken by the most, and the first of those in the market's order.
+    Broken(Row),
+    /// All limits hold. What each bus puts in, and then what each line carries, in 10^-9 MW.
+    Within(Vec<N>),
+}
+
+/// A look at all limits at a dispatch.
+pub(crate) fn screened_at<N: Exact>(
     alloc: Global,
     market: &Market,
     dispatch: &[N],
-) -> Result<Option<Row>, Stop<N>>
+) -> Result<Screened<N>, Stop<N>>
     requires { length dispatch.now ≡ length market.now.blocks }
-    ensures screened { IfOk result (λ found. MatchOption found
-        ((r : Row) → Contains (rows market.now) r → Within (most_flow market.now r) (flow market.now (dispatch_of N.value dispatch.now) r))
-        (λ row. (place : ℕ) × IsWorst market.now (flow market.now (dispatch_of N.value dispatch.now)) place row)) }
+    ensures screened { IfOk result (IsScreened N.value market.now (dispatch_of N.value dispatch.now)) }
     ensures cause { IfErr result (λ stop. OnPassed stop (λ p. IsFlowsRefusal market.now (dispatch_of N.value dispatch.now) N.bound (passed_at N.value p)
         ⊎ IsScreenRefusal market.now (line_in market.now (flows_at market.now (dispatch_of N.value dispatch.now))) N.bound (passed_at N.value p))) }
 {
@@ -39,8 +42,8 @@ pub(crate) fn broken<N: Exact>(
         Err(_) => return Err(Stop::Memory),
     };
     flows(market, dispatch, &mut by_place)?;
-    match worst(market, &by_place)? {
-        Some(name) => Ok(row_named(market, name)),
-        None => Ok(None),
+    match worst_row(market, &by_place)? {
+        Some(row) => Ok(Screened::Broken(row)),
+        None => Ok(Screened::Within(by_place)),
     }
 }

@@ -7,6 +7,7 @@ use Rattle.market_model.specs.declared.participants.Factor.{Factor}
 use Rattle.market_model.specs.declared.participants.Line.{Line}
 use Rattle.market_model.specs.declared.participants.Parts.{Parts}
 use Rattle.market_model.specs.declared.participants.Side.TheVariants.{Sell}
+use Rattle.market_model.specs.Market.{bare_parts}
 
 abbrev pub bus_of : ℕ → ℤ → ℕ → Bus
 bus_of number pd gs = record { number = number; pd = pd; gs = pos gs }
@@ -27,10 +28,10 @@ abbrev pub factor_of : ℕ → ℕ → ℤ → Factor
 factor_of line of value = record { line = line; of = of; value = value }
 
 abbrev pub worked : ℤ → ℤ → ℤ → ℤ → ℤ → Parts
-worked base post first second load = record {
-  buses = bus_of 1 (pos 0) 0 ∷ bus_of 2 (pos 0) 0 ∷ bus_of 3 load 10000000000 ∷ [];
-  units = unit_of 1 0 ∷ unit_of 2 1 ∷ [];
-  blocks = block_of 0 first ∷ block_of 1 second ∷ [];
+worked base post first second load = record (bare_parts
+    (bus_of 1 (pos 0) 0 ∷ bus_of 2 (pos 0) 0 ∷ bus_of 3 load 10000000000 ∷ [])
+    (unit_of 1 0 ∷ unit_of 2 1 ∷ [])
+    (block_of 0 first ∷ block_of 1 second ∷ [])) {
   lines = line_free 1 ∷ line_limited base post ∷ line_free 3 ∷ [];
   outages = 1 ∷ [];
   shift = factor_of 0 1 (negsuc 499999) ∷ factor_of 0 2 (negsuc 249999) ∷ factor_of 1 1 (negsuc 499999) ∷ factor_of 1 2 (negsuc 749999) ∷ [];

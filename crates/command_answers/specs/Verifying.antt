@@ -4,11 +4,12 @@ use Rattle.fraction_theory.specs.Fraction.{Fraction}
 use Rattle.exact_fraction.specs.declared.Passed.{Passed}
 use Rattle.market_model.specs.declared.participants.Parts.{Parts}
 use Rattle.market_model.specs.Market.{IsMarket}
+use Rattle.market_model.specs.Dispatch.{dispatch_by}
 use Rattle.report_text.specs.Reports.{range_text}
 use Rattle.cert_format.specs.declared.certificate.Cert.{Cert}
 use Rattle.cert_format.specs.declared.certificate.Cert.TheVariants.{Optimal, Farkas}
 use Rattle.cert_sums.specs.Pairs.{IsFarkasPair, IsOptimalPair}
-use Rattle.cert_verify.specs.Certificates.{dispatch_by, named_duals, first_reason}
+use Rattle.cert_verify.specs.Certificates.{named_duals, first_reason}
 use Rattle.cert_verify.specs.declared.verdicts.Reason.{Reason}
 use Rattle.command_answers.specs.declared.status.Status.{Status}
 use Rattle.command_answers.specs.declared.status.Status.TheVariants as status

@@ -13,7 +13,7 @@ ghost use Rattle.command_answers.specs.Tellings.{MadeTo, Tells, telling_of};
 use crate::status::Status;
 use crate::told::{Told, refused};
 use cert_format::outcome_json;
-use clear_loop::{ClearFault, Clearer};
+use clear_loop::{Clearer, outcome};
 use exact_fraction::{Exact, Frac};
 use market_inputs::{ClearBytes, Stop, clear_market, pool_market};
 use market_model::{Market, Memory, Outcome};
@@ -28,12 +28,7 @@ pub(crate) fn cleared<N: Exact>(alloc: Global, market: &Market) -> Result<Outcom
     ensures sides { IfOk result (λ outcome. AreSidesWithin N.bound (outcome_at N.value outcome)) }
 {
     let mut clearer = Clearer::new(market);
-    match clearer.clear(alloc, market) {
-        Ok(answer) => Ok(Outcome::Cleared(answer)),
-        Err(ClearFault::Infeasible(farkas)) => Ok(Outcome::Infeasible(farkas)),
-        Err(ClearFault::Range(passed)) => Ok(Outcome::Range(passed)),
-        Err(ClearFault::Memory) => Err(Memory),
-    }
+    outcome(clearer.clear(alloc, market))
 }
 
 /// The status of what a market was cleared to.

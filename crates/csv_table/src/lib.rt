@@ -178,7 +178,7 @@ impl Table {
         self.rows.count - 1
     }
 
-    /// The bytes of a cell with its quotes undone, rows and columns counted from 0: the record at `row` stands on line `row` + 2.
+    /// The bytes of a cell with its quotes undone, records and columns counted from 0: the record at place `row` stands on line `row` + 2.
     /// A column beyond the table's width is empty.
     pub fn cell(&self, row: usize, col: usize) -> &[u8]
         requires { row < length self.now }
@@ -187,7 +187,7 @@ impl Table {
         self.rows.cell(row + 1, col)
     }
 
-    /// The number of units of `10^-places` that the decimal in a cell is, rows and columns counted from 0.
+    /// The number of units of `10^-places` that the decimal in a cell is, records and columns counted from 0.
     pub fn number(&self, row: usize, col: usize, places: u8) -> Result<i64, CellFault>
         requires row { row < length self.now }
         requires line { row + 2 < 2 ^ 64 }

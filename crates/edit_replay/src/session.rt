@@ -13,8 +13,8 @@ ghost use Rattle.clear_loop.specs.Keeping.{FitsFrame, cold};
 ghost use Rattle.edit_replay.specs.Replays.{FitsStep, IsEditedPart, IsReplay, IsReply, edited_by, stepped, step_outcome_at};
 ghost use Rattle.edit_replay.specs.Sessions.{KeepsAfter};
 
-use crate::step_outcome::{Outcomes, StepOutcome, outcome, replied};
-use clear_loop::Clearer;
+use crate::step_outcome::{Outcomes, StepOutcome, replied};
+use clear_loop::{Clearer, outcome};
 use edit_table::{Step, Steps};
 use exact_fraction::Exact;
 use market_model::{List, Market, Memory, Outcome};

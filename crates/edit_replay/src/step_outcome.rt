@@ -2,10 +2,8 @@
 
 ghost use Rattle.std.specs.Prelude.{◌≡◌};
 ghost use Rattle.edit_replay.specs.Replays.{reply_of};
-ghost use Rattle.edit_replay.specs.Sessions.{outcome_of};
 
-use clear_loop::ClearFault;
-use market_model::{Answer, List, Memory, Outcome};
+use market_model::{List, Outcome};
 use offer_book::EditFault;
 
 /// What a step came to.
@@ -29,17 +27,5 @@ pub fn replied<N>(answer: Result<(), EditFault>) -> StepOutcome<N>
     match answer {
         Ok(()) => StepOutcome::Accepted,
         Err(fault) => StepOutcome::Refused(fault),
-    }
-}
-
-/// What a clear came to. That nothing is feasible, and that numbers became too large, are outcomes as an answer is.
-pub fn outcome<N>(cleared: Result<Answer<N>, ClearFault<N>>) -> Result<Outcome<N>, Memory>
-    ensures { result ≡ outcome_of cleared }
-{
-    match cleared {
-        Ok(answer) => Ok(Outcome::Cleared(answer)),
-        Err(ClearFault::Infeasible(farkas)) => Ok(Outcome::Infeasible(farkas)),
-        Err(ClearFault::Range(passed)) => Ok(Outcome::Range(passed)),
-        Err(ClearFault::Memory) => Err(Memory),
     }
 }

@@ -76,7 +76,7 @@ fn check_names(
     }
 }
 
-/// The pair and the factor of a row's record, in the light of those before it.
+/// The pair and the factor of a record, in the light of those before it.
 #[tactic(auto, unfolding(crate::specs::Tables::entry_in))]
 fn entry_of(
     network: &Network,

@@ -40,7 +40,7 @@ fn has_record(by_row: &IndexMap<u32, i64>, branch: u32) -> bool
     by_row.contains_key(&branch)
 }
 
-/// The row and the offset of a row's record, in the light of those before it.
+/// The branch row and the offset of a record, in the light of those before it.
 #[tactic(auto, unfolding(crate::specs::Offsets::offset_entry))]
 fn entry_of(
     network: &Network,

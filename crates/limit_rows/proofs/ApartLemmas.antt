@@ -17,7 +17,8 @@ use Rattle.market_model.specs.declared.limits.Cause.{Cause}
 use Rattle.market_model.specs.declared.limits.Cause.TheVariants.{Base, Branch}
 use Rattle.market_model.specs.LimitRows.{outage_of, place_of_line, row_id, rows, bears, causes, lines_of, rows_of}
 use Rattle.limit_rows.proofs.FactorLemmas.{outage_stands}
-use Rattle.limit_rows.proofs.GroupLemmas.{length-map, place_at, row_at, row-of_outage, rows-causes}
+use Rattle.market_model.proofs.LostLemmas.{place_at, row_at, row-of_outage}
+use Rattle.limit_rows.proofs.GroupLemmas.{length-map, rows-causes}
 use Rattle.limit_rows.proofs.NumberingLemmas.{row_on}
 
 -- ---- lists whose elements are apart

@@ -12,7 +12,6 @@ use Rattle.fraction_theory.proofs.FractionLaws.{Is, same_value, over_is, plus_is
 use Rattle.fraction_theory.proofs.FieldLaws.{over-same, widen, +ℚ_nil}
 use Rattle.market_data.specs.Scales.{factor_one, factor_product_one, most_factor}
 use Rattle.market_model.specs.declared.participants.Factor.{Factor}
-use Rattle.market_model.specs.declared.participants.Line.{Line}
 use Rattle.market_model.specs.declared.participants.Parts.{Parts}
 use Rattle.market_model.specs.Dispatch.{places, line_at}
 use Rattle.market_model.specs.Factors.{factor_in, is_pair}
@@ -21,7 +20,7 @@ use Rattle.market_model.specs.declared.limits.Row.{Row}
 use Rattle.market_model.specs.declared.limits.Cause.TheVariants.{Base, Branch}
 use Rattle.market_model.specs.LimitRows.{bears, causes, place_of_line, rows, rows_of, row_factor}
 use Rattle.market_model.specs.Market.{IsMarket, IsTableFactor}
-use Rattle.limit_rows.proofs.GroupLemmas.{length-map, place_at, place-own, row_at}
+use Rattle.market_model.proofs.LostLemmas.{outage_line, place_at}
 
 -- ---- factors of one width
 factor-one : (a : ℕ) → 0 < a → (h : ℤ) → over (h *ℤ pos a) (a * a) ≡ over h a
@@ -69,14 +68,7 @@ module _ (m : Parts) (market : IsMarket m) where
       record { line = subst (λ (l : ℕ). l < length m.lines) (sym (place_at (length m.lines) k d inside)) inside; lost = lost }))
 
   pub outage_stands : (i : ℕ) (d : ℕ) → i < length m.outages → IsLost m (Branch (place_of_line m (get_or m.outages i d)))
-  outage_stands i d h = by (market.outages i d h)
-    where
-      by : {row : ℕ} → Contains (map (λ line. line.row) m.lines) row → (place_of_line m row < length m.lines) × (1 ≤ (line_at m (place_of_line m row)).row)
-      by {row} (k, lt, e) =
-          let inside : k < length m.lines = Prim.omega (arith, lt, length-map (λ (line : Line). line.row) m.lines) in
-          let is : (line_at m k).row ≡ row = sym (row_at m market k row inside) ∙ e in
-          let place : place_of_line m row ≡ k = ap (place_of_line m) (sym is) ∙ place-own m market k inside in
-          (subst (λ (l : ℕ). l < length m.lines) (sym place) inside, subst (λ (l : ℕ). 1 ≤ (line_at m l).row) (sym place) (market.lines k _ inside).row)
+  outage_stands i d h = let at = outage_line m market i d h in (at.inside, (market.lines (place_of_line m (get_or m.outages i d)) _ at.inside).row)
 
   causes_stand : All (IsLost m) (causes m)
   causes_stand = All-cons (IsLost m) Base (map (λ row. Branch (place_of_line m row)) m.outages) tt (All-map (IsLost m) (λ row. Branch (place_of_line m row)) m.outages outage_stands)

@@ -24,7 +24,8 @@ use Rattle.market_model.proofs.ChangeLemmas.{same_default}
 use Rattle.limit_rows.specs.Naming.{has_name}
 use Rattle.limit_rows.proofs.ApartLemmas.{names_apart, outage_in}
 use Rattle.limit_rows.proofs.FactorLemmas.{IsLost, outage_stands, stands}
-use Rattle.limit_rows.proofs.GroupLemmas.{length-map, place_at, place-own, row-of_outage, rows-causes}
+use Rattle.market_model.proofs.LostLemmas.{place_at, place-own, row-of_outage}
+use Rattle.limit_rows.proofs.GroupLemmas.{length-map, rows-causes}
 use Rattle.limit_rows.proofs.NumberingLemmas.{row_on}
 
 -- ---- members of lists

@@ -9,7 +9,7 @@ use Rattle.market_data.specs.declared.participants.Bus.{Bus}
 use Rattle.market_model.specs.declared.participants.Factor.{Factor}
 use Rattle.market_model.specs.declared.participants.Line.{Line}
 use Rattle.market_model.specs.declared.participants.Parts.{Parts}
-use Rattle.market_model.specs.Market.{IsMarket, IsLine, IsTableFactor, AreTableFactors}
+use Rattle.market_model.specs.Market.{bare_parts, IsMarket, IsLine, IsTableFactor, AreTableFactors}
 
 abbrev pub bus_of : ℕ → Bus
 bus_of number = record { number = number; pd = pos 0; gs = pos 0 }
@@ -33,7 +33,7 @@ abbrev pub lines : Option ℤ → List Line
 lines third = line_of 1 None None ∷ line_of 2 (Some (pos 40)) (Some (pos 45)) ∷ line_of 3 None third ∷ []
 
 abbrev pub parts : Option ℤ → List ℕ → Parts
-parts third outages = record { buses = buses; units = []; blocks = []; lines = lines third; outages = outages; shift = shifts; loss = losses }
+parts third outages = record (bare_parts buses [] []) { lines = lines third; outages = outages; shift = shifts; loss = losses }
 
 -- no two of a list, where the first is apart from the others
 one_alone : {X : Type 0} (R : X → X → Type 0) (x : X) → AllPairs R (x ∷ [])

@@ -3,23 +3,10 @@
 ghost use Rattle.std.specs.Prelude.{◌≡◌, ◌≤◌, ◌<◌, ◌+◌, length, Some, IfSome};
 ghost use Rattle.std.specs.List.{position, slice_get};
 ghost use Rattle.market_data.specs.Scales.{most_lines, most_outages};
-ghost use Rattle.market_model.specs.LimitRows.{bears, causes, lines_of, outage_of, place_of_line, rows_of, IsCauseAmong};
+ghost use Rattle.market_model.specs.LimitRows.{bears, causes, lines_of, outage_of, rows_of, IsCauseAmong};
 ghost use Rattle.limit_rows.specs.Naming.{has_name};
 
 use market_model::{Cause, Market, RowId};
-
-/// The place of the line of a branch row; the number of lines where none has it.
-pub(crate) fn place_of_line(market: &Market, row: u32) -> usize
-    ensures { result ≡ place_of_line market.now row }
-{
-    let lines = market.lines();
-    for place in 0..lines.len() {
-        if lines.at(place).row == row {
-            return place;
-        }
-    }
-    lines.len()
-}
 
 /// How many causes of limits a market has: the base, and each outage.
 pub fn cause_count(market: &Market) -> usize
@@ -38,8 +25,7 @@ pub fn cause_at(market: &Market, place: usize) -> Cause
     if place == 0 {
         Cause::Base
     } else {
-        let outage = *market.outages().at(place - 1);
-        Cause::Branch(place_of_line(market, outage))
+        Cause::Branch(*market.lost_lines().at(place - 1))
     }
 }
 

@@ -6,7 +6,7 @@ ghost use Rattle.market_data.specs.Participants.{IsDatum};
 ghost use Rattle.market_model.specs.declared.limits.Row.{Row};
 ghost use Rattle.market_model.specs.LimitRows.{causes, limit, outage_of, row_id, rows, IsCauseAmong};
 
-use crate::causes::{has_row, outage_of, place_of_line};
+use crate::causes::{has_row, outage_of};
 use market_model::{Cause, Market, Row, RowId};
 
 /// The limit of a row, in 10^-9 MW; 0 where its line has none.
@@ -42,9 +42,10 @@ fn cause_named(market: &Market, outage: u32) -> Option<Cause>
     if outage == 0 {
         return Some(Cause::Base);
     }
-    for listed in market.outages().slice() {
+    let outages = market.outages().slice();
+    for (place, listed) in outages.iter().enumerate() {
         if *listed == outage {
-            return Some(Cause::Branch(place_of_line(market, outage)));
+            return Some(Cause::Branch(*market.lost_lines().at(place)));
         }
     }
     None
@@ -55,7 +56,7 @@ pub fn row_named(market: &Market, name: RowId) -> Option<Row>
     ensures { MatchOption result ((r : Row) → Contains (rows market.now) r → row_id market.now r ≢ name) (λ row. Contains (rows market.now) row × (row_id market.now row ≡ name)) }
 {
     let cause = cause_named(market, name.outage)?;
-    let line = place_of_line(market, name.branch);
+    let line = market.place_of_line(name.branch);
     if line < market.lines().len() && has_row(market, cause, line) {
         Some(Row { line, cause })
     } else {

@@ -2,8 +2,8 @@
 use Rattle.std.specs.Prelude.{◌≡◌, ◌⊎◌, ℕ, ◌+◌, ◌-◌, ◌<◌, ◌≤◌, pos, Bool, true, false, cond, List, [], ◌∷◌, ◌++◌, map, filter, length, All, Option, Some, None, Contains, refl}
 use Rattle.std.specs.List.{slice_get}
 use Rattle.std.specs.Ordering.{MatchOrdering}
-use Rattle.std.proofs.Common.{zero, suc, arith, inl, inr, ap, sym, subst, ◌∙◌, get_or, drop, take, append_assoc, Ordering, Less, Equal, Greater}
-use Rattle.std.proofs.lemmas.List.{append-nil, map-append, get_or-append_right, get_or-drop, drop-map, take_rest}
+use Rattle.std.proofs.Common.{zero, suc, arith, inl, inr, ap, ap₂, sym, subst, ◌∙◌, get_or, drop, take, append_assoc, Ordering, Less, Equal, Greater}
+use Rattle.std.proofs.lemmas.List.{append-nil, length-append, map-append, get_or-append_right, get_or-drop, drop-map, take_rest}
 use Rattle.std.proofs.lemmas.List.FromFn.{length-map-range_with_len, get_or-map-range_with_len}
 use Rattle.std.proofs.lemmas.List.Elements.{All-append, All-cons, All-nil, filter-append}
 use Rattle.std.proofs.lemmas.Option.{slice_get_within, get_or_from_slice_get}
@@ -17,21 +17,21 @@ use Rattle.fraction_theory.proofs.FieldLaws.{+ℚ_neg}
 use Rattle.fraction_theory.proofs.OrderLaws.{NonNeg-one, by_le1, ≤ℚ_refl, ≤ℚ_trans, <ℚ-≤ℚ, ≤ℚ_of_same, ≤ℚ-<ℚ_trans, +ℚ-≤ℚ, +ℚ-<ℚ}
 use Rattle.fraction_theory.proofs.Ring.{at, padd, pneg, pnil, pone}
 use Rattle.fraction_theory.proofs.SignLaws.{IsSign, sign_of_is}
-use Rattle.market_model.specs.declared.answered.RowId.{RowId}
 use Rattle.market_model.specs.declared.participants.Parts.{Parts}
 use Rattle.market_model.specs.Dispatch.{Dispatch, places, injection}
-use Rattle.market_model.specs.Overrun.{size_by, size_of}
+use Rattle.market_model.specs.Overrun.{size_by, size_of, IsWorst}
 use Rattle.market_model.specs.declared.limits.Cause.{Cause}
 use Rattle.market_model.specs.declared.limits.Row.{Row}
-use Rattle.market_model.specs.LimitRows.{IsCauseAmong, bears, causes, flow_by, flow_terms, limit, line_flow, row_id, rows}
+use Rattle.market_model.specs.LimitRows.{IsCauseAmong, bears, causes, flow_by, flow_terms, limit, line_flow, rows}
 use Rattle.market_model.specs.PutIn.{put_in}
 use Rattle.market_model.proofs.MorePlaces.{places_more}
 use Rattle.limit_rows.proofs.FlowSteps.{flow_terms-same}
 use Rattle.limit_rows.proofs.NumberingLemmas.{row_on, all_before}
 use Rattle.limit_rows.proofs.PlaceLemmas.{at_places}
 use Rattle.limit_screen.specs.declared.screening.Broken.{Broken}
+use Rattle.market_model.specs.Market.{IsMarket}
 use Rattle.limit_screen.specs.Flows.{flows_at, line_in, LawOfRowFlows}
-use Rattle.limit_screen.specs.Screening.{AllHold, IsFirstMost, IsWorstNamed, IsWorstOf, overrun_by, rows_to}
+use Rattle.limit_screen.specs.Screening.{AllHold, IsFirstMost, IsWorstOf, overrun_by, rows_to}
 
 -- ---- orders and differences
 pub not_past : (o : Ordering) (x y : Fraction) → MatchOrdering o (x <ℚ y) (x ≡ y) (y <ℚ x) → (o ≡ Less) ⊎ (o ≡ Equal) → x ≤ℚ y
@@ -129,10 +129,22 @@ line_at_place m x fs l puts h =
     ∙ ap (λ (i : ℕ). get_or back i (whole (pos 0))) left
     ∙ get_or-map-range_with_len (line_flow m (injection m x)) 0 (length m.lines) l l (whole (pos 0)) h from_0
 
-pub law_of_row_flows : LawOfRowFlows
-law_of_row_flows m x fs r market puts c =
+pub flow_count : (m : Parts) (x : Dispatch) (fs : List Fraction) → fs ≡ flows_at m x → length fs ≡ length m.buses + length m.lines
+flow_count m x fs puts =
+    let front : List Fraction = map (injection m x) (places (length m.buses)) in
+    let back : List Fraction = map (line_flow m (injection m x)) (places (length m.lines)) in
+    ap length puts ∙ length-append front back
+    ∙ ap₂ ◌+◌ (length-map-range_with_len (injection m x) 0 (length m.buses)) (length-map-range_with_len (line_flow m (injection m x)) 0 (length m.lines))
+
+-- the terms of a row's flow
+pub row_terms : (m : Parts) (x : Dispatch) (fs : List Fraction) (r : Row) → IsMarket m → fs ≡ flows_at m x → Contains (rows m) r
+    → flow_terms m (line_in m fs) r ≡ flow_terms m (line_flow m (injection m x)) r
+row_terms m x fs r market puts c =
     let places = at_places m market r c in
-    ap total (flow_terms-same m (line_in m fs) (line_flow m (injection m x)) (λ l lt. line_at_place m x fs l puts lt) r places.0 places.1)
+    flow_terms-same m (line_in m fs) (line_flow m (injection m x)) (λ l lt. line_at_place m x fs l puts lt) r places.0 places.1
+
+pub law_of_row_flows : LawOfRowFlows
+law_of_row_flows m x fs r market puts c = ap total (row_terms m x fs r market puts c)
 
 -- of flows of buses and of lines, those of lines alone
 pub terms_behind : {N : Type 0} (value : N → Fraction) (m : Parts) (fs : List N) (n : ℕ) (r : Row) → n ≡ length m.buses → r.line < length m.lines → IsCauseAmong (length m.lines) r.cause
@@ -165,17 +177,15 @@ lines_same m cause k rs e =
 pub all_rows : (m : Parts) (k : ℕ) → length (causes m) ≤ k → rows_to m k ≡ rows m
 all_rows m k h = all_before m k h
 
-pub worst_named : (m : Parts) (f : ℕ → Fraction) (r : Row) (id : RowId) → IsFirstMost (overrun_by m f) (rows m) r → id ≡ row_id m r → IsWorstNamed m f id
-worst_named m f r id h e = (
+pub first_is_worst : (m : Parts) (f : ℕ → Fraction) (r : Row) → IsFirstMost (overrun_by m f) (rows m) r → (place : ℕ) × IsWorst m (flow_by m f) place r
+first_is_worst m f r h = (
   h.place,
-  r,
   record {
     stands = h.stands;
     broken = h.broken;
     most = λ s c. subst (λ t. overrun_by m f t ≤ℚ overrun_by m f r) c.2 (h.most c.0 s c.1);
     first = λ i s lt at. h.first i s lt at;
   },
-  e,
 )
 
 pub all_hold_by : (m : Parts) (f : ℕ → Fraction) → All (λ s. overrun_by m f s ≤ℚ whole (pos 0)) (rows m) → AllHold m f

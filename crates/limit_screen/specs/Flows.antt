@@ -1,15 +1,15 @@
 -- The flows of lines at a dispatch, and of rows where lines have given flows.
 -- Wood and Wollenberg, Power Generation, Operation and Control: flows by shift factors, and after an outage by the flow that the lost
 -- branch had.
-use Rattle.std.specs.Prelude.{◌≡◌, ℕ, ◌+◌, ◌<◌, List, ◌++◌, length, map, slice_index_or, Contains}
+use Rattle.std.specs.Prelude.{◌≡◌, ℕ, ◌+◌, List, ◌++◌, length, map, slice_index_or, Contains}
 use Rattle.fraction_theory.specs.Fraction.{Fraction}
 use Rattle.exact_fraction.specs.declared.Passed.{Passed}
 use Rattle.market_model.specs.declared.participants.Parts.{Parts}
-use Rattle.market_model.specs.Dispatch.{Dispatch, zero, places, injection, injection_terms}
+use Rattle.market_model.specs.Dispatch.{Dispatch, zero, places, injection}
 use Rattle.market_model.specs.declared.limits.Row.{Row}
-use Rattle.market_model.specs.LimitRows.{rows, line_flow, line_terms, flow, flow_by}
+use Rattle.market_model.specs.LimitRows.{rows, line_flow, flow, flow_by}
 use Rattle.market_model.specs.Market.{IsMarket}
-use Rattle.market_model.specs.NamedSums.{IsRefusedIn}
+use Rattle.market_model.specs.SumTables.{IsRefusedAmong, CarriedSum}
 
 -- what each bus puts in at a dispatch, and then the flow of each line
 abbrev pub flows_at : Parts → Dispatch → List Fraction
@@ -24,6 +24,5 @@ abbrev pub LawOfRowFlows : Type 0
 LawOfRowFlows = (m : Parts) (x : Dispatch) (fs : List Fraction) (r : Row) → IsMarket m → fs ≡ flows_at m x → Contains (rows m) r → flow_by m (line_in m fs) r ≡ flow m x r
 
 -- an operation refused where the flows of a dispatch are added up
-pub data IsFlowsRefusal (m : Parts) (x : Dispatch) (bound : ℕ) (p : Passed Fraction) : Type 0 where
-  of_injection : (i : ℕ) → i < length m.buses → IsRefusedIn (injection_terms m x i) bound p → IsFlowsRefusal m x bound p
-  of_line : (l : ℕ) → l < length m.lines → IsRefusedIn (line_terms m (injection m x) l) bound p → IsFlowsRefusal m x bound p
+abbrev pub IsFlowsRefusal : Parts → Dispatch → ℕ → Passed Fraction → Type 0
+IsFlowsRefusal m x bound p = IsRefusedAmong (CarriedSum m x) bound p

@@ -6,4 +6,4 @@ pub mod laws;
 mod screening;
 
 pub use flowing::flows;
-pub use screening::{row_flow, worst};
+pub use screening::{row_flow, worst, worst_row};

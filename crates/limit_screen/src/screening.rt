@@ -1,12 +1,13 @@
 //! Which limit flows pass by the most.
 
-ghost use Rattle.std.specs.Prelude.{◌≡◌, ◌+◌, ◌<◌, List, [], ◌∷◌, ◌++◌, length, map, IfOk, IfErr, MatchOption};
+ghost use Rattle.std.specs.Prelude.{◌≡◌, ◌≢◌, ◌+◌, ◌<◌, ℕ, List, [], ◌∷◌, ◌++◌, length, map, IfOk, IfErr, MatchOption};
 ghost use Rattle.fraction_theory.specs.Fraction.{Fraction, ◌-ℚ◌};
 ghost use Rattle.fraction_theory.specs.Order.{◌<ℚ◌, ◌≤ℚ◌};
 ghost use Rattle.exact_fraction.specs.declared.Op.TheVariants as Op;
 ghost use Rattle.market_model.specs.Valued.{passed_at};
 ghost use Rattle.market_model.specs.Dispatch.{zero};
-ghost use Rattle.market_model.specs.Overrun.{size_of};
+ghost use Rattle.market_model.specs.Overrun.{size_of, IsWorst};
+ghost use Rattle.market_model.specs.declared.limits.Cause.TheVariants as cause;
 ghost use Rattle.market_model.specs.declared.limits.Row.{Row};
 ghost use Rattle.market_model.specs.LimitRows.{IsCauseAmong, causes, flow_by, flow_terms};
 ghost use Rattle.market_model.specs.NamedSums.{IsRefusal, IsRefusedIn};
@@ -32,6 +33,7 @@ pub fn row_flow<N: Exact>(market: &Market, flows: &[N], row: Row) -> Result<N, P
     requires line { row.line < length market.now.lines }
     requires lost { IsCauseAmong (length market.now.lines) row.cause }
     ensures flow { IfOk result (λ flow. N.value flow ≡ flow_by market.now (line_in market.now (map N.value flows.now)) row) }
+    ensures after { IfErr result (λ _. row.cause ≢ cause.Base) }
     ensures cause { IfErr result (λ passed. IsRefusedIn (flow_terms market.now (line_in market.now (map N.value flows.now)) row) N.bound (passed_at N.value passed)) }
 {
     limit_rows::row_flow(market, &flows[market.buses().len()..], row)
@@ -116,20 +118,33 @@ fn with_cause<N: Exact>(
     Ok(worst)
 }
 
-/// The name of the row whose limit the flows pass by the most, and the first of those in the market's order; none where all limits
-/// hold. The flows are those of buses and then of lines, as `flows` puts them.
+/// The row whose limit the flows pass by the most, and the first of those in the market's order; none where all limits hold. The flows
+/// are those of buses and then of lines, as `flows` puts them.
+pub fn worst_row<N: Exact>(market: &Market, flows: &[N]) -> Result<Option<Row>, Passed<N>>
+    requires { length flows.now ≡ length market.now.buses + length market.now.lines }
+    ensures worst { IfOk result (λ worst. MatchOption worst (AllHold market.now (line_in market.now (map N.value flows.now)))
+        (λ row. (place : ℕ) × IsWorst market.now (flow_by market.now (line_in market.now (map N.value flows.now))) place row)) }
+    ensures cause { IfErr result (λ passed. IsScreenRefusal market.now (line_in market.now (map N.value flows.now)) N.bound (passed_at N.value passed)) }
+{
+    let mut worst = None;
+    for place in 0..cause_count(market) {
+        worst = with_cause(market, flows, place, worst)?;
+    }
+    match worst {
+        Some(broken) => Ok(Some(broken.row)),
+        None => Ok(None),
+    }
+}
+
+/// Its name.
 pub fn worst<N: Exact>(market: &Market, flows: &[N]) -> Result<Option<RowId>, Passed<N>>
     requires { length flows.now ≡ length market.now.buses + length market.now.lines }
     ensures worst { IfOk result (λ worst. MatchOption worst (AllHold market.now (line_in market.now (map N.value flows.now))) (IsWorstNamed market.now (line_in market.now (map N.value flows.now)))) }
     ensures cause { IfErr result (λ passed. IsScreenRefusal market.now (line_in market.now (map N.value flows.now)) N.bound (passed_at N.value passed)) }
 {
     let _lines = market.lines();
-    let mut worst = None;
-    for place in 0..cause_count(market) {
-        worst = with_cause(market, flows, place, worst)?;
-    }
-    match worst {
-        Some(broken) => Ok(Some(name_at(market, broken.row))),
+    match worst_row(market, flows)? {
+        Some(row) => Ok(Some(name_at(market, row))),
         None => Ok(None),
     }
 }

@@ -6,23 +6,19 @@ use Rattle.exact_fraction.specs.declared.Passed.{Passed}
 use Rattle.linear_system.specs.Choices.{Choice, IsChoice}
 use Rattle.linear_dict.specs.Causes.{IsPairOf}
 use Rattle.market_model.specs.declared.participants.Parts.{Parts}
-use Rattle.market_model.specs.Dispatch.{empty, injection, injection_terms, balance_terms}
+use Rattle.market_model.specs.Dispatch.{empty}
 use Rattle.market_model.specs.declared.limits.Row.{Row}
-use Rattle.market_model.specs.LimitRows.{rows, limit, line_flow, line_terms, flow_terms, flow}
+use Rattle.market_model.specs.LimitRows.{rows, limit, flow}
 use Rattle.market_model.specs.Market.{IsMarket}
-use Rattle.market_model.specs.NamedSums.{IsRefusedIn}
-use Rattle.market_model.specs.SumTables.{FlowSum, injection_at, balance_of_all, flow_of_line, flow_of_row}
-use Rattle.fraction_theory.specs.Sums.{Term}
 use Rattle.linear_system.specs.Numbers.{Quantity}
 use Rattle.market_model.specs.Valued.{passed_at}
-use Rattle.limit_screen.specs.Flows.{IsFlowsRefusal, of_injection, of_line}
 use Rattle.market_system.specs.Growth.{Growth}
 use Rattle.market_system.specs.MarketSystem.{system_of}
 use Rattle.market_system.specs.MarketNumbers.{MarketNumber, of_flow as flows_named, is_limit, of_opposite}
 use Rattle.market_system.specs.PairLaw.{RefusalsArePairs}
 use Rattle.market_system.specs.WorkingPairs.{IsRangeOf}
 use Rattle.market_system.proofs.PairCases.{law_of_the_pairs, of_system_pair, row_flow_number}
-use Rattle.market_dict.specs.Refusals.{IsBoundRefusal, of_flow, of_high, of_low, IsPosingRefusal, of_flows, of_balance, of_row}
+use Rattle.market_dict.specs.Refusals.{IsLeavingRefusal, of_high, of_low, IsPosingRefusal, of_sum, of_bound}
 
 -- of the market's system
 pub pair_range : {N : Type 0} (value : N → Fraction) (bound : ℕ) (m : Parts) (t g : List Row) (p : Passed N) → Growth m t g → IsPairOf value bound (system_of m g) p → IsRangeOf m t bound (passed_at value p)
@@ -33,22 +29,13 @@ module _ (m : Parts) (t g : List Row) (h : Choice) (bound : ℕ) (p : Passed Fra
   pairs : RefusalsArePairs m t g h bound p
   pairs = law_of_the_pairs m t g h bound p market grown choice
 
-  base_sum : (terms : List Term) → FlowSum m (empty m) terms → IsRefusedIn terms bound p → IsRangeOf m t bound p
-  base_sum terms sum a = pairs.sum (Some Quantity) terms (flows_named (empty m) terms (inl refl) sum) a
-
-  flows_range : IsFlowsRefusal m (empty m) bound p → IsRangeOf m t bound p
-  flows_range (of_injection i lt a) = base_sum (injection_terms m (empty m) i) (injection_at i lt) a
-  flows_range (of_line l lt a) = base_sum (line_terms m (injection m (empty m)) l) (flow_of_line l lt) a
-
   flow_number : (r : Row) → Contains (rows m) r → MarketNumber m g h Quantity (flow m (empty m) r)
   flow_number r c = row_flow_number m t g grown h choice bound p market (empty m) (inl refl) r c
 
-  bound_range : (r : Row) → Contains (rows m) r → IsBoundRefusal m bound r p → IsRangeOf m t bound p
-  bound_range r c (of_flow a) = base_sum (flow_terms m (line_flow m (injection m (empty m))) r) (flow_of_row r c) a
+  bound_range : (r : Row) → Contains (rows m) r → IsLeavingRefusal m bound r p → IsRangeOf m t bound p
   bound_range r c (of_high a) = pairs.two Quantity (limit m r) (flow m (empty m) r) (is_limit r c) (flow_number r c) (inr a)
   bound_range r c (of_low a) = pairs.two Quantity (neg_ℚ (limit m r)) (flow m (empty m) r) (of_opposite Quantity (limit m r) (is_limit r c)) (flow_number r c) (inr a)
 
   pub posing_range : IsPosingRefusal m bound p → IsRangeOf m t bound p
-  posing_range (of_flows f) = flows_range f
-  posing_range (of_balance a) = base_sum (balance_terms m (empty m)) balance_of_all a
-  posing_range (of_row r c a) = bound_range r c a
+  posing_range (of_sum (terms, sum, a)) = pairs.sum (Some Quantity) terms (flows_named (empty m) terms (inl refl) sum) a
+  posing_range (of_bound r c a) = bound_range r c a

@@ -1,10 +1,10 @@
 -- The prices and bounds of a market's dictionary, one after the other.
-use Rattle.std.specs.Prelude.{◌≡◌, ℕ, ◌+◌, ◌-◌, ◌<◌, ◌≤◌, pos, List, [], ◌∷◌, ◌++◌, length, map, Contains}
+use Rattle.std.specs.Prelude.{◌≡◌, ℕ, ◌+◌, ◌<◌, pos, List, [], ◌∷◌, ◌++◌, length, map}
 use Rattle.std.proofs.Common.{arith, ap, ap₂, sym, ◌∙◌, get_or, append_assoc}
-use Rattle.std.proofs.lemmas.List.{map-append, length-append, get_or-append_right, get_or_append_left}
+use Rattle.std.proofs.lemmas.List.{map-append, get_or_append_left}
 use Rattle.std.proofs.lemmas.List.FromFn.{length-map-range_with_len, get_or-map-range_with_len}
 use Rattle.fraction_theory.specs.Fraction.{Fraction, whole, neg_ℚ, ◌+ℚ◌}
-use Rattle.fraction_theory.specs.Sums.{Plain, Product, total}
+use Rattle.fraction_theory.specs.Sums.{Plain, total}
 use Rattle.fraction_theory.proofs.FieldLaws.{ring_ℚ}
 use Rattle.fraction_theory.proofs.Ring.{neg_neg}
 use Rattle.exact_fraction.specs.declared.Op.TheVariants.{Plus}
@@ -12,7 +12,6 @@ use Rattle.exact_fraction.specs.declared.Passed.{Passed}
 use Rattle.market_model.specs.declared.participants.Block.{Block}
 use Rattle.market_model.specs.declared.participants.Parts.{Parts}
 use Rattle.market_model.specs.Dispatch.{Dispatch, places, signed_by_side, block_at, quantity, injection, balance, balance_terms}
-use Rattle.market_model.specs.declared.limits.Cause.{Cause}
 use Rattle.market_model.specs.declared.limits.Row.{Row}
 use Rattle.market_model.proofs.ListSteps.{map-map}
 use Rattle.market_system.specs.declared.variables.Variable.{Variable}
@@ -20,30 +19,15 @@ use Rattle.market_system.specs.declared.variables.Variable.TheVariants as variab
 use Rattle.market_system.specs.MarketSystem.{price, columns, row_variables, variables}
 use Rattle.market_dict.specs.Holding.{prices}
 use Rattle.market_dict.proofs.ListedLemmas.{map-pushed}
-use Rattle.market_model.specs.declared.limits.Cause.TheVariants.{Base, Branch}
-use Rattle.market_model.specs.LimitRows.{rows, line_flow, loss_factor, flow_terms, flow_terms_in}
-use Rattle.market_model.specs.Market.{IsMarket}
 use Rattle.market_model.specs.Optimality.{block_value}
+use Rattle.market_model.specs.LimitRows.{line_flow}
 use Rattle.market_model.specs.NamedSums.{IsRefusedIn, IsRefusal}
 use Rattle.market_model.proofs.MorePlaces.{total-places_more}
 use Rattle.market_model.proofs.SumSteps.{plus_at, terms_at}
-use Rattle.limit_rows.proofs.FactorLemmas.{IsLost, stands}
-use Rattle.limit_screen.specs.Flows.{flows_at, line_in}
+use Rattle.limit_screen.specs.Flows.{flows_at}
 
 -- ---- flows where nothing is accepted
 module _ (m : Parts) (x : Dispatch) (fs : List Fraction) (puts : fs ≡ flows_at m x) where
-  front : List Fraction
-  front = map (injection m x) (places (length m.buses))
-
-  back : List Fraction
-  back = map (line_flow m (injection m x)) (places (length m.lines))
-
-  pub flow_count : length fs ≡ length m.buses + length m.lines
-  flow_count =
-      let first : length (map (injection m x) (places (length m.buses))) ≡ length m.buses = length-map-range_with_len (injection m x) 0 (length m.buses) in
-      let second : length (map (line_flow m (injection m x)) (places (length m.lines))) ≡ length m.lines = length-map-range_with_len (line_flow m (injection m x)) 0 (length m.lines) in
-      ap length puts ∙ length-append (map (injection m x) (places (length m.buses))) (map (line_flow m (injection m x)) (places (length m.lines))) ∙ ap₂ ◌+◌ first second
-
   pub bus_at_place : (i : ℕ) → i < length m.buses → get_or fs i (whole (pos 0)) ≡ injection m x i
   bus_at_place i lt =
       let first : length (map (injection m x) (places (length m.buses))) ≡ length m.buses = length-map-range_with_len (injection m x) 0 (length m.buses) in
@@ -51,25 +35,6 @@ module _ (m : Parts) (x : Dispatch) (fs : List Fraction) (puts : fs ≡ flows_at
       ap (λ (ys : List Fraction). get_or ys i (whole (pos 0))) puts
       ∙ get_or_append_left (map (injection m x) (places (length m.buses))) (map (line_flow m (injection m x)) (places (length m.lines))) (whole (pos 0)) i (Prim.omega (arith, lt, first))
       ∙ get_or-map-range_with_len (injection m x) 0 (length m.buses) i i (whole (pos 0)) lt from_0
-
-  line_at_place : (l : ℕ) → l < length m.lines → line_in m fs l ≡ line_flow m (injection m x) l
-  line_at_place l h =
-      let count : length (map (injection m x) (places (length m.buses))) ≡ length m.buses = length-map-range_with_len (injection m x) 0 (length m.buses) in
-      let past : length m.buses ≤ length m.buses + l = Prim.omega arith in
-      let left : (length m.buses + l) - length m.buses ≡ l = Prim.omega arith in
-      let from_0 : 0 + l ≡ l = Prim.omega arith in
-      ap (λ (ys : List Fraction). get_or ys (length m.buses + l) (whole (pos 0))) puts
-      ∙ get_or-append_right (map (injection m x) (places (length m.buses))) (map (line_flow m (injection m x)) (places (length m.lines))) (length m.buses) (length m.buses + l) (whole (pos 0)) count past
-      ∙ ap (λ (i : ℕ). get_or (map (line_flow m (injection m x)) (places (length m.lines))) i (whole (pos 0))) left
-      ∙ get_or-map-range_with_len (line_flow m (injection m x)) 0 (length m.lines) l l (whole (pos 0)) h from_0
-
-  -- the terms of a row's flow
-  pub row_terms : (r : Row) → IsMarket m → Contains (rows m) r → flow_terms m (line_in m fs) r ≡ flow_terms m (line_flow m (injection m x)) r
-  row_terms r market c = let h = stands m market r c in by r.cause h.lost h.line
-    where
-      by : (cause : Cause) → IsLost m cause → r.line < length m.lines → flow_terms_in m (line_in m fs) r.line cause ≡ flow_terms_in m (line_flow m (injection m x)) r.line cause
-      by Base lost inside = ap (λ (a : Fraction). Plain a ∷ []) (line_at_place r.line inside)
-      by (Branch k) lost inside = ap₂ (λ (a b : Fraction). Plain a ∷ Product (loss_factor m r.line k) b ∷ []) (line_at_place r.line inside) (line_at_place k lost.0)
 
 -- ---- the balance, bus by bus
 module _ (m : Parts) (x : Dispatch) where

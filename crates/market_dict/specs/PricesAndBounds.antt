@@ -1,4 +1,4 @@
--- The prices and bounds of a market's system, in the order in which its dictionary has them.
+-- The prices and bounds of a market's system in a dictionary's order, with the flows that they are made from.
 use Rattle.std.specs.Prelude.{◌≡◌, List, map}
 use Rattle.fraction_theory.specs.Fraction.{Fraction}
 use Rattle.market_model.specs.declared.participants.Parts.{Parts}

@@ -4,20 +4,18 @@ use Rattle.fraction_theory.specs.Fraction.{Fraction, neg_ℚ}
 use Rattle.exact_fraction.specs.declared.Op.TheVariants.{Minus}
 use Rattle.exact_fraction.specs.declared.Passed.{Passed}
 use Rattle.market_model.specs.declared.participants.Parts.{Parts}
-use Rattle.market_model.specs.Dispatch.{empty, injection, balance_terms}
+use Rattle.market_model.specs.Dispatch.{empty}
 use Rattle.market_model.specs.declared.limits.Row.{Row}
-use Rattle.market_model.specs.LimitRows.{rows, limit, line_flow, flow, flow_terms}
-use Rattle.market_model.specs.NamedSums.{IsRefusedIn, IsRefusal}
-use Rattle.limit_screen.specs.Flows.{IsFlowsRefusal}
+use Rattle.market_model.specs.LimitRows.{rows, limit, flow}
+use Rattle.market_model.specs.NamedSums.{IsRefusal}
+use Rattle.market_model.specs.SumTables.{IsRefusedAmong, FlowSum}
 
--- an operation refused for the bounds of a limit row: its flow where nothing is accepted, or what that leaves of the limit on a side
-pub data IsBoundRefusal (m : Parts) (bound : ℕ) (r : Row) (p : Passed Fraction) : Type 0 where
-  of_flow : IsRefusedIn (flow_terms m (line_flow m (injection m (empty m))) r) bound p → IsBoundRefusal m bound r p
-  of_high : IsRefusal Minus (limit m r) (flow m (empty m) r) bound p → IsBoundRefusal m bound r p
-  of_low : IsRefusal Minus (neg_ℚ (limit m r)) (flow m (empty m) r) bound p → IsBoundRefusal m bound r p
+-- an operation refused for what the flow of a row, where nothing is accepted, leaves of its limit on either side
+pub data IsLeavingRefusal (m : Parts) (bound : ℕ) (r : Row) (p : Passed Fraction) : Type 0 where
+  of_high : IsRefusal Minus (limit m r) (flow m (empty m) r) bound p → IsLeavingRefusal m bound r p
+  of_low : IsRefusal Minus (neg_ℚ (limit m r)) (flow m (empty m) r) bound p → IsLeavingRefusal m bound r p
 
--- an operation refused for prices and bounds
+-- an operation refused for prices and bounds: in a sum of what flows where nothing is accepted, or in a bound of a row
 pub data IsPosingRefusal (m : Parts) (bound : ℕ) (p : Passed Fraction) : Type 0 where
-  of_flows : IsFlowsRefusal m (empty m) bound p → IsPosingRefusal m bound p
-  of_balance : IsRefusedIn (balance_terms m (empty m)) bound p → IsPosingRefusal m bound p
-  of_row : (r : Row) → Contains (rows m) r → IsBoundRefusal m bound r p → IsPosingRefusal m bound p
+  of_sum : IsRefusedAmong (FlowSum m (empty m)) bound p → IsPosingRefusal m bound p
+  of_bound : (r : Row) → Contains (rows m) r → IsLeavingRefusal m bound r p → IsPosingRefusal m bound p

@@ -12,7 +12,7 @@ ghost use Rattle.market_model.specs.Valued.{passed_at};
 ghost use Rattle.market_system.specs.MarketSystem.{residual_demand as residual_demand_of, least_added, most_added};
 ghost use Rattle.limit_screen.specs.Flows.{flows_at, IsFlowsRefusal};
 ghost use Rattle.market_dict.specs.Holding.{prices as prices_of, lows, highs};
-ghost use Rattle.market_dict.specs.Refusals.{IsBoundRefusal, IsPosingRefusal};
+ghost use Rattle.market_dict.specs.Refusals.{IsPosingRefusal};
 ghost use Rattle.market_dict.specs.PricesAndBounds.{ArePricesAndBounds};
 ghost use Rattle.market_dict.specs.Findings.{OnPassed};
 
@@ -122,7 +122,7 @@ fn row_bounds<N: Exact>(market: &Market, base_flows: &[N], row: Row) -> Result<B
     requires base_flows { map N.value base_flows.now ≡ flows_at market.now (empty market.now) }
     ensures low { IfOk result (λ bounds. N.value bounds.low ≡ least_added market.now row) }
     ensures high { IfOk result (λ bounds. N.value bounds.high ≡ most_added market.now row) }
-    ensures cause { IfErr result (λ passed. IsBoundRefusal market.now N.bound row (passed_at N.value passed)) }
+    ensures cause { IfErr result (λ passed. IsPosingRefusal market.now N.bound (passed_at N.value passed)) }
 {
     let _lines = market.lines();
     let flow = row_flow(market, base_flows, row)?;

@@ -6,6 +6,7 @@ use Rattle.market_data.specs.Scales.{most_factor}
 use Rattle.market_model.specs.declared.participants.Factor.{Factor}
 use Rattle.market_model.specs.declared.participants.Line.{Line}
 use Rattle.market_model.specs.declared.participants.Parts.{Parts}
+use Rattle.market_model.specs.Market.{bare_parts}
 use Rattle.net_case.specs.Networks.{LiveNetwork}
 use Rattle.net_case.specs.declared.live_parts.NetBranch.{NetBranch}
 use Rattle.net_case.specs.declared.live_parts.PostRating.{PostRating}
@@ -51,10 +52,7 @@ AreSmall factors = All (λ factor. unsigned_abs factor.value ≤ most_factor) fa
 -- ---- the market
 -- the market of a network with its tables, its offers and its offsets
 abbrev pub market_of : LiveNetwork → Tables → Offered → List OffsetEntry → Parts
-market_of network tables offered offsets = record {
-  buses = network.buses;
-  units = offered.units;
-  blocks = offered.blocks;
+market_of network tables offered offsets = record (bare_parts network.buses offered.units offered.blocks) {
   lines = map (line_of offsets) network.branches;
   outages = tables.outages;
   shift = shift_by tables.shift network.branches network.buses;

@@ -10,6 +10,7 @@ use Rattle.market_model.specs.Optimality.{congestion_by, price_by}
 use Rattle.market_model.specs.LimitRows.{rows}
 use Rattle.market_model.specs.Infeasibility.{farkas_bound}
 use Rattle.market_model.proofs.Rows.{short}
+use Rattle.market_model.specs.Market.{bare_parts}
 
 -- a plain price of energy, and no limit that has one
 abbrev energy_at : ℤ → Duals Fraction
@@ -22,15 +23,10 @@ short-bound = same_fraction (farkas_bound short (energy_at (pos 1))) (whole (neg
 
 -- The row of a unit that is held at 60 MW, with no blocks: with a load of 10^-9 MW more the bound is that, below 0.
 abbrev held : ℤ → Parts
-held load = record {
-  buses = record { number = 1; pd = pos 0; gs = pos 0 } ∷ record { number = 2; pd = load; gs = pos 0 } ∷ [];
-  units = record { row = 1; bus = 0; fixed = pos (60 * 10 ^ 9); up = pos 0; down = pos 0 } ∷ [];
-  blocks = [];
-  lines = [];
-  outages = [];
-  shift = [];
-  loss = [];
-}
+held load = bare_parts
+    (record { number = 1; pd = pos 0; gs = pos 0 } ∷ record { number = 2; pd = load; gs = pos 0 } ∷ [])
+    (record { row = 1; bus = 0; fixed = pos (60 * 10 ^ 9); up = pos 0; down = pos 0 } ∷ [])
+    []
 
 held-bound : farkas_bound (held (pos 60000000001)) (energy_at (pos 1)) ≡ whole (negsuc 0)
 unfolding farkas_bound balance injection congestion_by price_by rows ◌+ℚ◌ ◌*ℚ◌ neg_ℚ over whole gcd gcd_in

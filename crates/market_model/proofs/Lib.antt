@@ -3,6 +3,7 @@ pub mod FarkasLaw
 mod FarkasRows
 pub mod LimitCases
 pub mod ListSteps
+pub mod LostLemmas
 pub mod MarketSums
 pub mod MorePlaces
 pub mod Optimum

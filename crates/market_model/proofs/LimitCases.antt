@@ -11,13 +11,14 @@ use Rattle.market_model.specs.declared.participants.Factor.{Factor}
 use Rattle.market_model.specs.declared.participants.Line.{Line}
 use Rattle.market_model.specs.declared.participants.Parts.{Parts}
 use Rattle.market_model.specs.declared.participants.Side.TheVariants.{Sell, Buy}
-use Rattle.market_model.specs.Dispatch.{Dispatch, injection, balance, output, demand}
+use Rattle.market_model.specs.Dispatch.{Dispatch, injection, balance, output, demand, dispatch_by}
 use Rattle.market_model.specs.declared.limits.Row.{Row}
 use Rattle.market_model.specs.declared.limits.Cause.TheVariants.{Base, Branch}
 use Rattle.market_model.specs.LimitRows.{rows, row_id, line_flow, row_offset, row_factor, flow}
 use Rattle.market_model.specs.Optimality.{bus_price, welfare, congestion_by, price_by}
 use Rattle.market_model.specs.Infeasibility.{farkas_bound}
 use Rattle.market_model.specs.Settlement.{rent, surplus}
+use Rattle.market_model.specs.Market.{bare_parts}
 
 -- MW, prices and money
 abbrev pub mw : ℕ → ℤ
@@ -54,7 +55,7 @@ line row base post offset = record { row = row; base = base; post = post; offset
 
 -- two numbers of MW, of the two sell blocks
 abbrev sold : ℕ → ℕ → Dispatch
-sold x y = record { blocks = whole (mw x) ∷ whole (mw y) ∷ [] }
+sold x y = dispatch_by (whole (mw x) ∷ whole (mw y) ∷ [])
 
 -- the second branch in the base, and after the loss of the first
 abbrev second : Row
@@ -71,12 +72,8 @@ down_alone e d = record { energy = whole (price e); limits = record { row = reco
 
 -- ---- a limit of 40 MW on branch 2, with a load of 50 MW and a shunt of 10 MW at bus 3
 abbrev pub shunted : Parts
-shunted = record {
-  buses = buses 0 50 10;
-  units = units 0;
-  blocks = blocks;
+shunted = record (bare_parts (buses 0 50 10) (units 0) blocks) {
   lines = line 1 None None 0 ∷ line 2 (Some (mw 40)) None 0 ∷ line 3 None None 0 ∷ [];
-  outages = [];
   shift = shifts;
   loss = losses;
 }
@@ -107,12 +104,8 @@ shunted-surplus = same_fraction (surplus shunted (sold 50 10) (up_alone 10 0 40)
 
 -- ---- the load at bus 1 and the cheap unit at bus 3: the flow stands at the lower side of the limit
 abbrev pub turned : Parts
-turned = record {
-  buses = buses 60 0 0;
-  units = units 2;
-  blocks = blocks;
+turned = record (bare_parts (buses 60 0 0) (units 2) blocks) {
   lines = line 1 None None 0 ∷ line 2 (Some (mw 40)) None 0 ∷ line 3 None None 0 ∷ [];
-  outages = [];
   shift = shifts;
   loss = losses;
 }
@@ -143,10 +136,7 @@ turned-surplus = same_fraction (surplus turned (sold 40 20) (down_alone 70 80)) 
 
 -- ---- outages of branches 3 and 1, in this order; branch 1 has no base limit, and an offset of 4 MW
 abbrev listed : Parts
-listed = record {
-  buses = buses 0 60 0;
-  units = units 0;
-  blocks = blocks;
+listed = record (bare_parts (buses 0 60 0) (units 0) blocks) {
   lines = line 1 None (Some (mw 50)) 4 ∷ line 2 (Some (mw 40)) (Some (mw 45)) 0 ∷ line 3 None None 0 ∷ [];
   outages = 3 ∷ 1 ∷ [];
   shift = shifts;
@@ -184,10 +174,7 @@ listed-after = same_fraction (flow listed (sold 50 10) second_after) (whole (mw 
 
 -- ---- a limit of 45 MW on branch 2 after the loss of branch 1
 abbrev pub after_outage : Parts
-after_outage = record {
-  buses = buses 0 60 0;
-  units = units 0;
-  blocks = blocks;
+after_outage = record (bare_parts (buses 0 60 0) (units 0) blocks) {
   lines = line 1 None None 0 ∷ line 2 (Some (mw 40)) (Some (mw 45)) 0 ∷ line 3 None None 0 ∷ [];
   outages = 1 ∷ [];
   shift = shifts;
@@ -220,18 +207,17 @@ after_outage-surplus = same_fraction (surplus after_outage (sold 45 15) (up_alon
 
 -- ---- a unit at bus 3 buys up to 20 MW at 40, behind a limit of 45 MW
 abbrev pub bought : Parts
-bought = record {
-  buses = buses 0 50 0;
-  units = record { row = 1; bus = 0; fixed = pos 0; up = mw 100; down = pos 0 } ∷ record { row = 2; bus = 1; fixed = pos 0; up = mw 100; down = pos 0 } ∷ record { row = 3; bus = 2; fixed = pos 0; up = pos 0; down = mw 20 } ∷ [];
-  blocks = record { unit = 0; side = Sell; quantity = mw 100; price = price 10 } ∷ record { unit = 1; side = Sell; quantity = mw 100; price = price 30 } ∷ record { unit = 2; side = Buy; quantity = mw 20; price = price 40 } ∷ [];
+bought = record (bare_parts
+    (buses 0 50 0)
+    (record { row = 1; bus = 0; fixed = pos 0; up = mw 100; down = pos 0 } ∷ record { row = 2; bus = 1; fixed = pos 0; up = mw 100; down = pos 0 } ∷ record { row = 3; bus = 2; fixed = pos 0; up = pos 0; down = mw 20 } ∷ [])
+    (record { unit = 0; side = Sell; quantity = mw 100; price = price 10 } ∷ record { unit = 1; side = Sell; quantity = mw 100; price = price 30 } ∷ record { unit = 2; side = Buy; quantity = mw 20; price = price 40 } ∷ [])) {
   lines = line 1 None None 0 ∷ line 2 (Some (mw 45)) None 0 ∷ line 3 None None 0 ∷ [];
-  outages = [];
   shift = shifts;
   loss = losses;
 }
 
 abbrev half_bought : Dispatch
-half_bought = record { blocks = whole (mw 60) ∷ whole (mw 0) ∷ whole (mw 10) ∷ [] }
+half_bought = dispatch_by (whole (mw 60) ∷ whole (mw 0) ∷ whole (mw 10) ∷ [])
 
 bought-flow : flow bought half_bought second ≡ whole (mw 45)
 unfolding rows line_flow row_offset row_factor injection balance output demand welfare congestion_by price_by rent surplus farkas_bound sign_of ◌+ℚ◌ ◌*ℚ◌ neg_ℚ over whole gcd gcd_in
@@ -251,12 +237,8 @@ bought-surplus = same_fraction (surplus bought half_bought (up_alone 10 0 40)) (
 
 -- ---- an offset of 10 MW on branch 2, which has a limit of 5 MW: the surplus is below 0
 abbrev pub shifted : Parts
-shifted = record {
-  buses = buses 40 0 0;
-  units = units 0;
-  blocks = blocks;
+shifted = record (bare_parts (buses 40 0 0) (units 0) blocks) {
   lines = line 1 None None 0 ∷ line 2 (Some (mw 5)) None 10 ∷ line 3 None None 0 ∷ [];
-  outages = [];
   shift = shifts;
   loss = losses;
 }
@@ -275,12 +257,8 @@ shifted-surplus = same_fraction (surplus shifted (sold 30 10) (up_alone 10 0 40)
 
 -- ---- a limit of 10 MW on branch 2: even 60 MW at bus 2 leave 15
 abbrev pub narrow : Parts
-narrow = record {
-  buses = buses 0 60 0;
-  units = units 0;
-  blocks = blocks;
+narrow = record (bare_parts (buses 0 60 0) (units 0) blocks) {
   lines = line 1 None None 0 ∷ line 2 (Some (mw 10)) None 0 ∷ line 3 None None 0 ∷ [];
-  outages = [];
   shift = shifts;
   loss = losses;
 }

@@ -7,16 +7,11 @@ use Rattle.market_data.specs.Scales.{most_blocks, most_buses, most_units}
 use Rattle.market_data.specs.declared.participants.Bus.{Bus}
 use Rattle.market_data.specs.declared.participants.Unit as unit
 use Rattle.market_model.specs.declared.participants.Block.{Block}
-use Rattle.market_model.specs.declared.participants.Parts.{Parts}
-use Rattle.market_model.specs.Market.{IsMarket, IsBlock, HasRoom}
+use Rattle.market_model.specs.Market.{bare_parts, IsMarket, IsBlock, HasRoom}
 
 -- numbers that rise are distinct
 pub distinct_by_rise : (xs : List ℕ) → AllPairs (λ a b. a < b) xs → AllPairs (λ a b. a ≢ b) xs
 distinct_by_rise xs h i j d p q e = let less = h i j d p q in Prim.omega (arith, less, e)
-
--- the parts of a market without branches
-abbrev pub plain : List Bus → List unit.Unit → List Block → Parts
-plain buses units blocks = record { buses = buses; units = units; blocks = blocks; lines = []; outages = []; shift = []; loss = [] }
 
 pub record IsPlain (bs : List Bus) (us : List unit.Unit) (ks : List Block) : Type 0 where
   pub bus_count : length bs ≤ most_buses
@@ -29,7 +24,7 @@ pub record IsPlain (bs : List Bus) (us : List unit.Unit) (ks : List Block) : Typ
   pub blocks : All (IsBlock (length us)) ks
   pub room : (place : ℕ) (d : unit.Unit) → place < length us → HasRoom ks place (slice_index_or us place d)
 
-pub plain_market : (buses : List Bus) (units : List unit.Unit) (blocks : List Block) → IsPlain buses units blocks → IsMarket (plain buses units blocks)
+pub plain_market : (buses : List Bus) (units : List unit.Unit) (blocks : List Block) → IsPlain buses units blocks → IsMarket (bare_parts buses units blocks)
 plain_market buses units blocks h = record {
   bus_count = h.bus_count;
   unit_count = h.unit_count;
@@ -51,7 +46,7 @@ plain_market buses units blocks h = record {
 }
 
 -- a market of one bus, unit and block, and one of nothing
-pub one_each : (b : Bus) (u : unit.Unit) (k : Block) → IsBus b → IsUnit 1 u → IsBlock 1 k → HasRoom (k ∷ []) 0 u → IsMarket (plain (b ∷ []) (u ∷ []) (k ∷ []))
+pub one_each : (b : Bus) (u : unit.Unit) (k : Block) → IsBus b → IsUnit 1 u → IsBlock 1 k → HasRoom (k ∷ []) 0 u → IsMarket (bare_parts (b ∷ []) (u ∷ []) (k ∷ []))
 one_each b u k is_bus is_unit is_block room = plain_market (b ∷ []) (u ∷ []) (k ∷ []) (record {
   bus_count = Prim.omega arith;
   unit_count = Prim.omega arith;
@@ -68,7 +63,7 @@ one_each b u k is_bus is_unit is_block room = plain_market (b ∷ []) (u ∷ [])
     at_place zero d h = room
     at_place (suc n) d h = absurd (Prim.omega (arith, h))
 
-pub nothing : IsMarket (plain [] [] [])
+pub nothing : IsMarket (bare_parts [] [] [])
 nothing = plain_market [] [] [] (record {
   bus_count = Prim.omega arith;
   unit_count = Prim.omega arith;

@@ -16,8 +16,8 @@ use Rattle.market_data.specs.Participants.{IsBus, IsUnit}
 use Rattle.market_data.specs.declared.participants.Unit as unit
 use Rattle.market_model.specs.Stairs.{stair_in}
 use Rattle.market_model.proofs.PlainMarkets.{plain_market, distinct_by_rise}
-use Rattle.market_model.specs.Market.{IsMarket, IsBlock, HasRoom}
-use Rattle.market_model.specs.Dispatch.{Dispatch, places, injection, balance, output, demand, accepted, quantity}
+use Rattle.market_model.specs.Market.{bare_parts, IsMarket, IsBlock, HasRoom}
+use Rattle.market_model.specs.Dispatch.{Dispatch, places, injection, balance, output, demand, accepted, quantity, dispatch_by}
 use Rattle.market_model.specs.Optimality.{Feasible, Supports, BlockSupported, welfare, congestion_by, price_by}
 use Rattle.market_model.specs.Settlement.{paid, pays, surplus}
 use Rattle.market_model.proofs.MarketSums.{fixed_part, most_raised, needed-at_most}
@@ -32,19 +32,14 @@ not_below m n h k = let p : n <ℤ m = from_whole-<ℚ n m k in Prim.omega (arit
 
 -- The three-bus row: a load of 60 MW at the third bus; a unit at each of the first two sells 100 MW, at 10 and at 30.
 abbrev pub three_buses : Parts
-three_buses = record {
-  buses = record { number = 1; pd = pos 0; gs = pos 0 } ∷ record { number = 2; pd = pos 0; gs = pos 0 } ∷ record { number = 3; pd = pos (60 * 10 ^ 9); gs = pos 0 } ∷ [];
-  units = record { row = 1; bus = 0; fixed = pos 0; up = pos (100 * 10 ^ 9); down = pos 0 } ∷ record { row = 2; bus = 1; fixed = pos 0; up = pos (100 * 10 ^ 9); down = pos 0 } ∷ [];
-  blocks = record { unit = 0; side = Sell; quantity = pos (100 * 10 ^ 9); price = pos (10 * 10 ^ 6) } ∷ record { unit = 1; side = Sell; quantity = pos (100 * 10 ^ 9); price = pos (30 * 10 ^ 6) } ∷ [];
-  lines = [];
-  outages = [];
-  shift = [];
-  loss = [];
-}
+three_buses = bare_parts
+    (record { number = 1; pd = pos 0; gs = pos 0 } ∷ record { number = 2; pd = pos 0; gs = pos 0 } ∷ record { number = 3; pd = pos (60 * 10 ^ 9); gs = pos 0 } ∷ [])
+    (record { row = 1; bus = 0; fixed = pos 0; up = pos (100 * 10 ^ 9); down = pos 0 } ∷ record { row = 2; bus = 1; fixed = pos 0; up = pos (100 * 10 ^ 9); down = pos 0 } ∷ [])
+    (record { unit = 0; side = Sell; quantity = pos (100 * 10 ^ 9); price = pos (10 * 10 ^ 6) } ∷ record { unit = 1; side = Sell; quantity = pos (100 * 10 ^ 9); price = pos (30 * 10 ^ 6) } ∷ [])
 
 -- 60 MW of the first block, none of the second
 abbrev pub first_only : Dispatch
-first_only = record { blocks = whole (pos (60 * 10 ^ 9)) ∷ whole (pos 0) ∷ [] }
+first_only = dispatch_by (whole (pos (60 * 10 ^ 9)) ∷ whole (pos 0) ∷ [])
 
 -- a price of energy of 10, and no limit that has one
 abbrev pub energy_at_ten : Duals Fraction
@@ -163,21 +158,14 @@ three_buses-surplus = law_of_no_limits three_buses energy_at_ten first_only thre
 
 -- The row of a dispatchable load: a third unit, at bus 3, buys up to 30 MW at 40 and up to 20 MW at 5.
 abbrev pub with_buyer : Parts
-with_buyer = record {
-  buses = three_buses.buses;
-  units = record { row = 1; bus = 0; fixed = pos 0; up = pos (100 * 10 ^ 9); down = pos 0 } ∷ record { row = 2; bus = 1; fixed = pos 0; up = pos (100 * 10 ^ 9); down = pos 0 }
-      ∷ record { row = 3; bus = 2; fixed = pos 0; up = pos 0; down = pos (50 * 10 ^ 9) } ∷ [];
-  blocks = record { unit = 0; side = Sell; quantity = pos (100 * 10 ^ 9); price = pos (10 * 10 ^ 6) } ∷ record { unit = 1; side = Sell; quantity = pos (100 * 10 ^ 9); price = pos (30 * 10 ^ 6) }
-      ∷ record { unit = 2; side = Buy; quantity = pos (30 * 10 ^ 9); price = pos (40 * 10 ^ 6) } ∷ record { unit = 2; side = Buy; quantity = pos (20 * 10 ^ 9); price = pos (5 * 10 ^ 6) } ∷ [];
-  lines = [];
-  outages = [];
-  shift = [];
-  loss = [];
-}
+with_buyer = bare_parts
+    three_buses.buses
+    (record { row = 1; bus = 0; fixed = pos 0; up = pos (100 * 10 ^ 9); down = pos 0 } ∷ record { row = 2; bus = 1; fixed = pos 0; up = pos (100 * 10 ^ 9); down = pos 0 } ∷ record { row = 3; bus = 2; fixed = pos 0; up = pos 0; down = pos (50 * 10 ^ 9) } ∷ [])
+    (record { unit = 0; side = Sell; quantity = pos (100 * 10 ^ 9); price = pos (10 * 10 ^ 6) } ∷ record { unit = 1; side = Sell; quantity = pos (100 * 10 ^ 9); price = pos (30 * 10 ^ 6) } ∷ record { unit = 2; side = Buy; quantity = pos (30 * 10 ^ 9); price = pos (40 * 10 ^ 6) } ∷ record { unit = 2; side = Buy; quantity = pos (20 * 10 ^ 9); price = pos (5 * 10 ^ 6) } ∷ [])
 
 -- 90 MW of the first unit, of which the buyer takes 30
 abbrev pub bought : Dispatch
-bought = record { blocks = whole (pos (90 * 10 ^ 9)) ∷ whole (pos 0) ∷ whole (pos (30 * 10 ^ 9)) ∷ whole (pos 0) ∷ [] }
+bought = dispatch_by (whole (pos (90 * 10 ^ 9)) ∷ whole (pos 0) ∷ whole (pos (30 * 10 ^ 9)) ∷ whole (pos 0) ∷ [])
 
 pub with_buyer-welfare : welfare with_buyer bought ≡ whole (pos (300 * 10 ^ 15))
 unfolding welfare ◌+ℚ◌ ◌*ℚ◌ neg_ℚ over whole gcd gcd_in
@@ -237,19 +225,14 @@ with_buyer-supports = supports_bare with_buyer energy_at_ten bought (no_rows wit
 
 -- The row of a shunt and a fixed part: bus 2 has a shunt of 5 MW, and the unit there runs at 20 MW at least.
 abbrev pub with_shunt : Parts
-with_shunt = record {
-  buses = record { number = 1; pd = pos 0; gs = pos 0 } ∷ record { number = 2; pd = pos 0; gs = pos (5 * 10 ^ 9) } ∷ record { number = 3; pd = pos (60 * 10 ^ 9); gs = pos 0 } ∷ [];
-  units = record { row = 1; bus = 0; fixed = pos 0; up = pos (100 * 10 ^ 9); down = pos 0 } ∷ record { row = 2; bus = 1; fixed = pos (20 * 10 ^ 9); up = pos (80 * 10 ^ 9); down = pos 0 } ∷ [];
-  blocks = record { unit = 0; side = Sell; quantity = pos (100 * 10 ^ 9); price = pos (10 * 10 ^ 6) } ∷ record { unit = 1; side = Sell; quantity = pos (80 * 10 ^ 9); price = pos (30 * 10 ^ 6) } ∷ [];
-  lines = [];
-  outages = [];
-  shift = [];
-  loss = [];
-}
+with_shunt = bare_parts
+    (record { number = 1; pd = pos 0; gs = pos 0 } ∷ record { number = 2; pd = pos 0; gs = pos (5 * 10 ^ 9) } ∷ record { number = 3; pd = pos (60 * 10 ^ 9); gs = pos 0 } ∷ [])
+    (record { row = 1; bus = 0; fixed = pos 0; up = pos (100 * 10 ^ 9); down = pos 0 } ∷ record { row = 2; bus = 1; fixed = pos (20 * 10 ^ 9); up = pos (80 * 10 ^ 9); down = pos 0 } ∷ [])
+    (record { unit = 0; side = Sell; quantity = pos (100 * 10 ^ 9); price = pos (10 * 10 ^ 6) } ∷ record { unit = 1; side = Sell; quantity = pos (80 * 10 ^ 9); price = pos (30 * 10 ^ 6) } ∷ [])
 
 -- 45 MW of the first unit
 abbrev pub less_sold : Dispatch
-less_sold = record { blocks = whole (pos (45 * 10 ^ 9)) ∷ whole (pos 0) ∷ [] }
+less_sold = dispatch_by (whole (pos (45 * 10 ^ 9)) ∷ whole (pos 0) ∷ [])
 
 pub with_shunt-welfare : welfare with_shunt less_sold ≡ whole (neg_ℤ (pos (450 * 10 ^ 15)))
 unfolding welfare ◌+ℚ◌ ◌*ℚ◌ neg_ℚ over whole gcd gcd_in
@@ -295,15 +278,10 @@ with_shunt-surplus = same_fraction (surplus with_shunt less_sold energy_at_ten) 
 
 -- The short row: a load of 250 MW, of which the two units can serve 200.
 abbrev pub short : Parts
-short = record {
-  buses = record { number = 1; pd = pos 0; gs = pos 0 } ∷ record { number = 2; pd = pos 0; gs = pos 0 } ∷ record { number = 3; pd = pos (250 * 10 ^ 9); gs = pos 0 } ∷ [];
-  units = three_buses.units;
-  blocks = three_buses.blocks;
-  lines = [];
-  outages = [];
-  shift = [];
-  loss = [];
-}
+short = bare_parts
+    (record { number = 1; pd = pos 0; gs = pos 0 } ∷ record { number = 2; pd = pos 0; gs = pos 0 } ∷ record { number = 3; pd = pos (250 * 10 ^ 9); gs = pos 0 } ∷ [])
+    three_buses.units
+    three_buses.blocks
 
 pub short-market : IsMarket short
 short-market = plain_market short.buses short.units short.blocks (record {

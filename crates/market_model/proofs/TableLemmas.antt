@@ -1,14 +1,16 @@
--- A table of factors, one factor more.
-use Rattle.std.specs.Prelude.{◌≡◌, ◌≢◌, ℕ, ◌+◌, ◌*◌, ◌/◌, ◌%◌, ◌<◌, ◌==◌, ◌&&◌, ◌⊎◌, ℤ, pos, Bool, true, false, List, [], ◌∷◌, length, slice_set, slice_index_or, replicate, AllPairs, refl, if◌then◌else◌, unsigned_abs, ◌≤◌}
-use Rattle.std.proofs.Common.{zero, suc, arith, w64, take, get_or, sym, ap, ◌∙◌, inl, inr, add-one, subst}
+-- Tables of factors, one factor more.
+use Rattle.std.specs.Prelude.{◌≡◌, ◌≢◌, ℕ, ◌+◌, ◌*◌, ◌/◌, ◌%◌, ◌<◌, ◌==◌, ◌&&◌, ◌⊎◌, ℤ, pos, Bool, true, false, List, [], ◌∷◌, length, slice_set, slice_index_or, AllPairs, Option, Some, None, refl, if◌then◌else◌, unsigned_abs, ◌≤◌}
+use Rattle.std.proofs.Common.{zero, suc, arith, w64, take, drop, get_or, sym, ap, ◌∙◌, inl, inr, add-one, subst}
 use Rattle.std.proofs.lemmas.Bool.Decides.{eqb_tells}
-use Rattle.std.proofs.lemmas.List.{get_or-set_same, get_or-set_other, length-set}
+use Rattle.std.proofs.lemmas.List.{get_or-set_same, get_or-set_other, length-set, drop_more}
 use mir.Val.{SFits}
 use Rattle.std.proofs.lemmas.Int.{ints}
 use Rattle.std.proofs.lemmas.Nat.{div-mul-add, mod-mul-add, mul-add-lt}
 use Rattle.market_model.specs.declared.participants.Factor.{Factor}
 use Rattle.market_data.specs.Scales.{most_factor}
 use Rattle.market_model.specs.Factors.{is_pair, factor_in, IsTable}
+use Rattle.market_model.specs.LostLines.{factor_after, IsOutageIndex}
+use Rattle.market_model.proofs.LostLemmas.{none_some}
 
 abbrev pub NotOnePair : Factor → Factor → Type 0
 NotOnePair f g = f.line ≡ g.line → f.of ≢ g.of
@@ -54,42 +56,99 @@ factor_in-more l o fs i d lt apart = Prim.rw add-one (go fs i lt apart)
         let b = pair_true l o (get_or gs n d) second in
         p 0 (suc n) d (Prim.omega arith) (Prim.omega arith) (a.0 ∙ sym b.0) (a.1 ∙ sym b.1))
 
-module _ (lines others : ℕ) where
-  pub table_none : IsTable [] lines others (replicate (lines * others) (pos 0))
-  table_none = record { count = long (lines * others); each = λ l o p q. all (lines * others) (l * others + o) }
+-- a factor more changes no number but its own
+module _ (fs : List Factor) (i : ℕ) (d : Factor) (inside : i < length fs) (apart : AllPairs NotOnePair fs) where
+  pub factor_in-here : factor_in (take (i + 1) fs) (get_or fs i d).line (get_or fs i d).of ≡ (get_or fs i d).value
+  factor_in-here =
+      factor_in-more (get_or fs i d).line (get_or fs i d).of fs i d inside apart
+      ∙ ap (λ (b : Bool). if b then (get_or fs i d).value else factor_in (take i fs) (get_or fs i d).line (get_or fs i d).of) (pair_both (get_or fs i d).line (get_or fs i d).of (get_or fs i d) refl refl)
+
+  pub factor_in-other : (l o : ℕ) → ((get_or fs i d).line ≡ l → (get_or fs i d).of ≢ o) → factor_in (take (i + 1) fs) l o ≡ factor_in (take i fs) l o
+  factor_in-other l o other = factor_in-more l o fs i d inside apart ∙ by (is_pair l o (get_or fs i d)) refl
     where
-      long : (n : ℕ) → length (replicate n (pos 0)) ≡ n
-      long zero = refl
-      long (suc n) = ap suc (long n)
+      by : (b : Bool) → b ≡ is_pair l o (get_or fs i d) → (if b then (get_or fs i d).value else factor_in (take i fs) l o) ≡ factor_in (take i fs) l o
+      by true e = let is = pair_true l o (get_or fs i d) (sym e) in absurd (other is.0 is.1)
+      by false e = refl
 
-      all : (n i : ℕ) → slice_index_or (replicate n (pos 0)) i (pos 0) ≡ pos 0
-      all zero i = refl
-      all (suc n) zero = refl
-      all (suc n) (suc i) = all n i
+-- ---- tables
+-- two places of a table are one only where row and column are
+place_apart : (columns row column i j : ℕ) → column < columns → j < columns → (i ≡ row → j ≢ column) → (i * columns + j) ≢ (row * columns + column)
+place_apart columns row column i j p q other same =
+    other (sym (div-mul-add i columns j q) ∙ ap (λ (t : ℕ). t / columns) same ∙ div-mul-add row columns column p)
+    (sym (mod-mul-add i columns j q) ∙ ap (λ (t : ℕ). t % columns) same ∙ mod-mul-add row columns column p)
 
-  pub table_more : (fs : List Factor) (i : ℕ) (d : Factor) (table : List ℤ) → i < length fs → AllPairs NotOnePair fs
-      → (get_or fs i d).line < lines → (get_or fs i d).of < others → IsTable (take i fs) lines others table
-      → IsTable (take (i + 1) fs) lines others (slice_set table ((get_or fs i d).line * others + (get_or fs i d).of) (get_or fs i d).value)
-  table_more fs i d table lt apart inl' ino h = record {
-    count = length-set table ((get_or fs i d).line * others + (get_or fs i d).of) (get_or fs i d).value ∙ h.count;
-    each = λ l o p q. at_pair l o p q (is_pair l o (get_or fs i d)) refl ∙ sym (factor_in-more l o fs i d lt apart);
+module _ (rows columns : ℕ) (f g : ℕ → ℕ → ℤ) (table : List ℤ) (h : IsTable rows columns f table) where
+  -- of the same numbers
+  pub table_same : ((i j : ℕ) → i < rows → j < columns → g i j ≡ f i j) → IsTable rows columns g table
+  table_same same = record { count = h.count; each = λ i j p q. h.each i j p q ∙ sym (same i j p q) }
+
+  -- with one number put
+  pub table_put : (row column : ℕ) (value : ℤ) → row < rows → column < columns → g row column ≡ value
+      → ((i j : ℕ) → i < rows → j < columns → (i ≡ row → j ≢ column) → g i j ≡ f i j)
+      → IsTable rows columns g (slice_set table (row * columns + column) value)
+  table_put row column value p q here other = record {
+    count = length-set table (row * columns + column) value ∙ h.count;
+    each = λ i j r s. by i j r s (eqb_tells i row) (eqb_tells j column);
   }
     where
-      at_pair : (l o : ℕ) → l < lines → o < others → (b : Bool) → b ≡ is_pair l o (get_or fs i d)
-          → slice_index_or (slice_set table ((get_or fs i d).line * others + (get_or fs i d).of) (get_or fs i d).value) (l * others + o) (pos 0)
-          ≡ (if b then (get_or fs i d).value else factor_in (take i fs) l o)
-      at_pair l o p q true e =
-          let is = pair_true l o (get_or fs i d) (sym e) in
-          let same : (get_or fs i d).line * others + (get_or fs i d).of ≡ l * others + o = ap (λ (t : ℕ). t * others + (get_or fs i d).of) is.0 ∙ ap (λ (t : ℕ). l * others + t) is.1 in
-          let inside : (get_or fs i d).line * others + (get_or fs i d).of < length table = Prim.omega (arith, mul-add-lt (get_or fs i d).line others (get_or fs i d).of lines inl' ino, h.count) in
-          subst (λ (t : ℕ). slice_index_or (slice_set table ((get_or fs i d).line * others + (get_or fs i d).of) (get_or fs i d).value) t (pos 0) ≡ (get_or fs i d).value) same
-          (get_or-set_same table ((get_or fs i d).line * others + (get_or fs i d).of) (get_or fs i d).value (pos 0) inside)
-      at_pair l o p q false e =
-          let other : (l * others + o) ≢ ((get_or fs i d).line * others + (get_or fs i d).of) = λ same.
-          let line : (get_or fs i d).line ≡ l = sym (div-mul-add (get_or fs i d).line others (get_or fs i d).of ino) ∙ ap (λ (t : ℕ). t / others) (sym same) ∙ div-mul-add l others o q in
-          let of : (get_or fs i d).of ≡ o = sym (mod-mul-add (get_or fs i d).line others (get_or fs i d).of ino) ∙ ap (λ (t : ℕ). t % others) (sym same) ∙ mod-mul-add l others o q in
-          true_not_false (sym (pair_both l o (get_or fs i d) line of) ∙ sym e) in
-          get_or-set_other table ((get_or fs i d).line * others + (get_or fs i d).of) (l * others + o) (get_or fs i d).value (pos 0) other ∙ h.each l o p q
+      put : (i j : ℕ) → Type 0
+      put i j = slice_index_or (slice_set table (row * columns + column) value) (i * columns + j) (pos 0) ≡ g i j
+
+      away : (i j : ℕ) → i < rows → j < columns → (i ≡ row → j ≢ column) → put i j
+      away i j r s apart = get_or-set_other table (row * columns + column) (i * columns + j) value (pos 0) (place_apart columns row column i j q s apart) ∙ h.each i j r s ∙ sym (other i j r s apart)
+
+      by : (i j : ℕ) → i < rows → j < columns → ((i == row ≡ true) × (i ≡ row)) ⊎ ((i == row ≡ false) × (i ≢ row)) → ((j == column ≡ true) × (j ≡ column)) ⊎ ((j == column ≡ false) × (j ≢ column)) → put i j
+      by i j r s (inr a) b = away i j r s (λ e. absurd (a.1 e))
+      by i j r s (inl a) (inr b) = away i j r s (λ e. b.1)
+      by i j r s (inl a) (inl b) =
+          let inside : row * columns + column < length table = Prim.omega (arith, mul-add-lt row columns column rows p q, h.count) in
+          subst (λ (k : ℕ). put k j) (sym a.1) (subst (λ (k : ℕ). put row k) (sym b.1) (get_or-set_same table (row * columns + column) value (pos 0) inside ∙ sym here))
+
+-- one factor more in the table of all pairs
+pub table_more : (lines others : ℕ) (fs : List Factor) (i : ℕ) (d : Factor) (table : List ℤ) → i < length fs → AllPairs NotOnePair fs
+    → (get_or fs i d).line < lines → (get_or fs i d).of < others → IsTable lines others (factor_in (take i fs)) table
+    → IsTable lines others (factor_in (take (i + 1) fs)) (slice_set table ((get_or fs i d).line * others + (get_or fs i d).of) (get_or fs i d).value)
+table_more lines others fs i d table inside apart p q h =
+    table_put lines others (factor_in (take i fs)) (factor_in (take (i + 1) fs)) table h (get_or fs i d).line (get_or fs i d).of (get_or fs i d).value p q
+    (factor_in-here fs i d inside apart)
+    (λ l o r s other. factor_in-other fs i d inside apart l o (λ e f. other (sym e) (sym f)))
+
+-- one factor more in the table of lost lines
+module _ (lines : ℕ) (lost : List ℕ) (index : List (Option ℕ)) (is : IsOutageIndex lines lost index) (fs : List Factor) (i : ℕ) (d : Factor) (inside : i < length fs) (apart : AllPairs NotOnePair fs)
+    (table : List ℤ) (h : IsTable (length lost) lines (factor_after (take i fs) lost) table) where
+  abbrev outage_of : Option ℕ
+  outage_of = slice_index_or index (get_or fs i d).of None
+
+  pub loss_more : (outage : ℕ) → outage_of ≡ Some outage → (get_or fs i d).line < lines
+      → IsTable (length lost) lines (factor_after (take (i + 1) fs) lost) (slice_set table (outage * lines + (get_or fs i d).line) (get_or fs i d).value)
+  loss_more outage e p =
+      let at = is.found (get_or fs i d).of outage e in
+      table_put (length lost) lines (factor_after (take i fs) lost) (factor_after (take (i + 1) fs) lost) table h outage (get_or fs i d).line (get_or fs i d).value at.0 p
+      (ap (factor_in (take (i + 1) fs) (get_or fs i d).line) at.1 ∙ factor_in-here fs i d inside apart)
+      (λ k l r s other. factor_in-other fs i d inside apart l (slice_index_or lost k 0)
+      (λ line of. other (some_same k outage (sym (is.all k r) ∙ ap (λ (n : ℕ). slice_index_or index n None) (sym of) ∙ e)) (sym line)))
+    where
+      some_same : (a b : ℕ) → Some a ≡ Some b → a ≡ b
+      some_same a b f = Prim.cc
+
+  pub loss_none : outage_of ≡ None → IsTable (length lost) lines (factor_after (take (i + 1) fs) lost) table
+  loss_none e =
+      table_same (length lost) lines (factor_after (take i fs) lost) (factor_after (take (i + 1) fs) lost) table h
+      (λ k l r s. factor_in-other fs i d inside apart l (slice_index_or lost k 0)
+      (λ line of. none_some outage_of k e (ap (λ (n : ℕ). slice_index_or index n None) of ∙ is.all k r)))
+
+-- ---- the factor of a pair by a search: the first that is left, or those behind it
+pub search_here : (l o : ℕ) (fs : List Factor) (i : ℕ) (d : Factor) → i < length fs → (get_or fs i d).line ≡ l → (get_or fs i d).of ≡ o → factor_in (drop i fs) l o ≡ (get_or fs i d).value
+search_here l o fs i d lt p q =
+    ap (λ (gs : List Factor). factor_in gs l o) (drop_more fs i d lt)
+    ∙ ap (λ (b : Bool). if b then (get_or fs i d).value else factor_in (drop (i + 1) fs) l o) (pair_both l o (get_or fs i d) p q)
+
+pub search_on : (l o : ℕ) (fs : List Factor) (i : ℕ) (d : Factor) → i < length fs → ((get_or fs i d).line ≡ l → (get_or fs i d).of ≢ o) → factor_in (drop i fs) l o ≡ factor_in (drop (i + 1) fs) l o
+search_on l o fs i d lt other = ap (λ (gs : List Factor). factor_in gs l o) (drop_more fs i d lt) ∙ by (is_pair l o (get_or fs i d)) refl
+  where
+    by : (b : Bool) → b ≡ is_pair l o (get_or fs i d) → (if b then (get_or fs i d).value else factor_in (drop (i + 1) fs) l o) ≡ factor_in (drop (i + 1) fs) l o
+    by true e = let is = pair_true l o (get_or fs i d) (sym e) in absurd (other is.0 is.1)
+    by false e = refl
 
 -- a factor is a signed number of 64 bits
 pub factor_fits : (n : ℤ) → unsigned_abs n ≤ most_factor → SFits w64 n

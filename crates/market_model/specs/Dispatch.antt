@@ -47,6 +47,10 @@ signed_by_side Buy x = neg_ℚ x
 pub record Dispatch : Type 0 where
   pub blocks : List Fraction
 
+-- the dispatch that accepts so many MW of each block
+abbrev pub dispatch_by : List Fraction → Dispatch
+dispatch_by mws = record { blocks = mws }
+
 -- the accepted MW of a block
 abbrev pub accepted : Dispatch → ℕ → Fraction
 accepted x j = slice_index_or x.blocks j zero
@@ -62,7 +66,7 @@ pub record IsDispatch (m : Parts) (x : Dispatch) : Type 0 where
 
 -- nothing accepted
 abbrev pub empty : Parts → Dispatch
-empty m = record { blocks = replicate (length m.blocks) zero }
+empty m = dispatch_by (replicate (length m.blocks) zero)
 
 -- by how much a block's acceptance raises its unit's output
 abbrev pub raised_by : Parts → Dispatch → ℕ → Fraction

@@ -10,7 +10,7 @@ abbrev pub factor_in : List Factor → ℕ → ℕ → ℤ
 factor_in [] line of = pos 0
 factor_in (f ∷ fs) line of = if is_pair line of f then f.value else factor_in fs line of
 
--- a table row by row, with a row for each line, whose numbers are the factors
-pub record IsTable (factors : List Factor) (lines others : ℕ) (table : List ℤ) : Type 0 where
-  pub count : length table ≡ lines * others
-  pub each : (line of : ℕ) → line < lines → of < others → slice_index_or table (line * others + of) (pos 0) ≡ factor_in factors line of
+-- a table row by row, whose numbers are those of a function
+pub record IsTable (rows columns : ℕ) (number : ℕ → ℕ → ℤ) (table : List ℤ) : Type 0 where
+  pub count : length table ≡ rows * columns
+  pub each : (row column : ℕ) → row < rows → column < columns → slice_index_or table (row * columns + column) (pos 0) ≡ number row column

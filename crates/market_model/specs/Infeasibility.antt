@@ -32,7 +32,7 @@ part_above x = where_above (sign_of x) x
 abbrev pub block_weight : Parts → Duals Fraction → ℕ → Fraction
 block_weight m d j = signed_by_side (block_at m j).side (unit_price m d (block_at m j).unit)
 
--- what the flow of a row leaves of its most where nothing is accepted, at the prices of its two sides
+-- what the flow of a row, where nothing is accepted, leaves of the most that it may be, at the prices of its two sides
 abbrev pub limit_terms : Parts → Duals Fraction → Row → List Term
 limit_terms m d r = Product (up_of m d r) (most_flow m r -ℚ flow m (empty m) r) ∷ Product (down_of m d r) (most_flow m r +ℚ flow m (empty m) r) ∷ []
 
@@ -43,12 +43,12 @@ farkas_terms m d =
     ∷ (flat_map (limit_terms m d) (rows m)
     ++ map (λ j. Product (part_above (block_weight m d j)) (quantity m j)) (places (length m.blocks)))
 
--- the most that any dispatch within the blocks' bounds makes of the balance at the price of energy, and of what is left of the limits at
--- their prices
+-- the most that any dispatch within the blocks' bounds makes of the balance at the price of energy, and of what flows leave of the
+-- most that they may be at the prices of rows
 unfoldable pub farkas_bound : Parts → Duals Fraction → Fraction
 farkas_bound m d = total (farkas_terms m d)
 
--- that most is below 0, where at a feasible dispatch the balance makes 0 and no limit is passed
+-- that most is below 0, where at a feasible dispatch the balance makes 0 and no flow is beyond its most
 pub record ShowsInfeasible (m : Parts) (d : Duals Fraction) : Type 0 where
   pub up_signs : (r : Row) → Contains (rows m) r → zero ≤ℚ up_of m d r
   pub down_signs : (r : Row) → Contains (rows m) r → zero ≤ℚ down_of m d r

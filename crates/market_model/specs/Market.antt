@@ -1,7 +1,8 @@
 -- What every market keeps.
-use Rattle.std.specs.Prelude.{◌≡◌, ◌≢◌, ℕ, ◌<◌, ◌≤◌, pos, ◌≤ℤ◌, List, length, map, slice_index_or, All, AllPairs, IfSome, Contains, unsigned_abs}
+use Rattle.std.specs.Prelude.{◌≡◌, ◌≢◌, ℕ, ◌<◌, ◌≤◌, pos, ◌≤ℤ◌, List, [], length, map, slice_index_or, All, AllPairs, IfSome, Contains, unsigned_abs}
 use Rattle.market_data.specs.Participants.{IsDatum, IsBus, IsUnit}
 use Rattle.market_data.specs.Scales.{most_blocks, most_buses, most_factor, most_lines, most_outages, most_units}
+use Rattle.market_data.specs.declared.participants.Bus.{Bus}
 use Rattle.market_data.specs.declared.participants.Unit as unit
 use Rattle.market_model.specs.declared.participants.Block.{Block}
 use Rattle.market_model.specs.declared.participants.Factor.{Factor}
@@ -40,6 +41,10 @@ pub record IsTableFactor (lines others : ℕ) (factor : Factor) : Type 0 where
 pub record AreTableFactors (lines others : ℕ) (factors : List Factor) : Type 0 where
   pub each : All (IsTableFactor lines others) factors
   pub distinct : AllPairs (λ f g. f.line ≡ g.line → f.of ≢ g.of) factors
+
+-- the parts of a market that has nothing but buses, units and blocks
+abbrev pub bare_parts : List Bus → List unit.Unit → List Block → Parts
+bare_parts buses units blocks = record { buses = buses; units = units; blocks = blocks; lines = []; outages = []; shift = []; loss = [] }
 
 pub record IsMarket (parts : Parts) : Type 0 where
   pub bus_count : length parts.buses ≤ most_buses

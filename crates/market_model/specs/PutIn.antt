@@ -5,12 +5,12 @@ use Rattle.exact_fraction.specs.declared.Op.TheVariants.{Minus}
 use Rattle.exact_fraction.specs.declared.Passed.{Passed}
 use Rattle.market_data.specs.declared.participants.Bus.{Bus}
 use Rattle.market_model.specs.declared.participants.Parts.{Parts}
-use Rattle.market_model.specs.Dispatch.{Dispatch, zero, places, injection, injection_terms}
+use Rattle.market_model.specs.Dispatch.{Dispatch, zero, places, injection, injection_terms, dispatch_by}
 use Rattle.market_model.specs.NamedSums.{IsRefusedIn, IsRefusal}
 
 -- the accepted MW of each block, as numbers
 abbrev pub dispatch_of : {N : Type 0} → (N → Fraction) → List N → Dispatch
-dispatch_of value xs = record { blocks = map value xs }
+dispatch_of value xs = dispatch_by (map value xs)
 
 -- by place, what a list says; 0 past its end
 abbrev pub put_in : List Fraction → ℕ → Fraction

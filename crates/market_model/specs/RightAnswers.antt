@@ -10,7 +10,7 @@ use Rattle.market_model.specs.declared.answered.Money.{Money}
 use Rattle.market_model.specs.declared.answered.Price.{Price}
 use Rattle.market_model.specs.declared.answered.Rent.{Rent}
 use Rattle.market_model.specs.declared.answered.UnitPay.{UnitPay}
-use Rattle.market_model.specs.Dispatch.{Dispatch, zero, places}
+use Rattle.market_model.specs.Dispatch.{Dispatch, zero, places, dispatch_by}
 use Rattle.market_model.specs.declared.limits.Row.{Row}
 use Rattle.market_model.specs.LimitRows.{row_id, flow}
 use Rattle.market_model.specs.Optimality.{Feasible, Supports, ProperDuals, named_rows, welfare, congestion, bus_price}
@@ -31,7 +31,7 @@ load_of a i = slice_index_or a.money.loads i (record { mw = zero; pays = zero })
 
 -- the accepted MW of an answer
 abbrev pub dispatch_in : Answer Fraction → Dispatch
-dispatch_in a = record { blocks = a.dispatch }
+dispatch_in a = dispatch_by a.dispatch
 
 -- what a row earns, with its flow
 abbrev pub rent_of : Parts → Dispatch → Duals Fraction → Row → Rent Fraction

@@ -10,7 +10,7 @@ use Rattle.market_model.specs.declared.answered.Duals.{Duals}
 use Rattle.market_model.specs.Dispatch.{Dispatch, places, unit_at, output, demand}
 use Rattle.market_model.specs.Optimality.{bus_price, up_of, down_of}
 use Rattle.market_model.specs.declared.limits.Row.{Row}
-use Rattle.market_model.specs.LimitRows.{limit, row_offset}
+use Rattle.market_model.specs.LimitRows.{flow, limit, row_offset}
 
 -- ---- at prices by bus
 -- a unit's output, and its bus's price for that
@@ -43,13 +43,13 @@ surplus_terms m x d = left_terms m x (bus_price m d)
 unfoldable pub surplus : Parts → Dispatch → Duals Fraction → Fraction
 surplus m x d = total (surplus_terms m x d)
 
--- the size of a row's flow at which its prices are paid: its limit
-abbrev pub priced_flow : Parts → Dispatch → Row → Fraction
-priced_flow m x r = limit m r
+-- the MW for which the prices of a row are paid, where its flow is f: its limit
+abbrev pub priced_flow : Parts → Row → Fraction → Fraction
+priced_flow m r f = limit m r
 
 -- what a limit earns: each of its prices for that size less the fixed offset of its flow, on its side
 abbrev pub rent_terms : Parts → Dispatch → Duals Fraction → Row → List Term
-rent_terms m x d r = Product (up_of m d r) (priced_flow m x r -ℚ row_offset m r) ∷ Product (down_of m d r) (priced_flow m x r +ℚ row_offset m r) ∷ []
+rent_terms m x d r = Product (up_of m d r) (priced_flow m r (flow m x r) -ℚ row_offset m r) ∷ Product (down_of m d r) (priced_flow m r (flow m x r) +ℚ row_offset m r) ∷ []
 
 unfoldable pub rent : Parts → Dispatch → Duals Fraction → Row → Fraction
 rent m x d r = total (rent_terms m x d r)

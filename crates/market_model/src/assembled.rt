@@ -1,6 +1,7 @@
 //! A market whose parts fit together.
 
-use crate::factor_table::table_of;
+use crate::factor_table::{listed_factor, loss_table, table_of};
+use crate::outages::{lost_lines, outage_index, place_of_line};
 use crate::{Block, Bus, Line, Parts, Unit};
 use plain_list::{List, Memory};
 use std::alloc::Global;
@@ -12,21 +13,26 @@ pub struct Market {
     parts: Parts,
     /// The shift factors: a row of buses for each line.
     shift: Vec<i64>,
-    /// The loss factors: a row of lost lines for each line.
+    /// The places of the lines that outages lose, as the outages are listed.
+    lost: List<usize>,
+    /// The place of the outage of each line, where it is lost in one.
+    index: Vec<Option<usize>>,
+    /// The loss factors for the lines that outages lose: a row of lines for each outage.
     loss: Vec<i64>,
 }
 
 impl Model for Market {
     ghost use Rattle.std.specs.Prelude.{length};
     ghost use Rattle.market_model.specs.declared.participants.Parts.{Parts};
-    ghost use Rattle.market_model.specs.Factors.{IsTable};
+    ghost use Rattle.market_model.specs.Factors.{factor_in, IsTable};
+    ghost use Rattle.market_model.specs.LostLines.{AreLostLines};
     ghost use Rattle.market_model.specs.Market.{IsMarket};
 
     ghost Value = { Parts };
 
     ghost view = { λ m. m.parts };
 
-    ghost invariant = { λ m. IsMarket m.parts × IsTable m.parts.shift (length m.parts.lines) (length m.parts.buses) m.shift.items × IsTable m.parts.loss (length m.parts.lines) (length m.parts.lines) m.loss.items };
+    ghost invariant = { λ m. IsMarket m.parts × IsTable (length m.parts.lines) (length m.parts.buses) (factor_in m.parts.shift) m.shift.items × AreLostLines m.parts m.lost m.index.items m.loss.items };
 }
 
 impl Market {
@@ -35,6 +41,8 @@ impl Market {
     ghost use Rattle.market_model.specs.Changes.{with_price, with_quantity, with_demand, with_limit};
     ghost use Rattle.market_model.specs.Dispatch.{unit_at, block_at, line_at};
     ghost use Rattle.market_model.specs.Factors.{factor_in};
+    ghost use Rattle.market_model.specs.LimitRows.{place_of_line};
+    ghost use Rattle.market_model.specs.LostLines.{lost_lines};
     ghost use Rattle.market_model.specs.Market.{IsMarket};
     ghost use Rattle.market_model.specs.Stairs.{stair_in, offered, room_of};
 
@@ -78,6 +86,21 @@ impl Market {
         &self.parts.outages
     }
 
+    /// The places of the lines that the outages lose, in the same order.
+    pub fn lost_lines(&self) -> &List<usize>
+        ensures list { result.now ≡ lost_lines self.now }
+        ensures market { IsMarket self.now }
+    {
+        &self.lost
+    }
+
+    /// The place of the line of a branch row; the number of lines where none has it.
+    pub fn place_of_line(&self, row: u32) -> usize
+        ensures { result ≡ place_of_line self.now row }
+    {
+        place_of_line(&self.parts, row)
+    }
+
     /// The shift factor of a line for a bus, both by place, in 10^-6.
     pub fn shift(&self, line: usize, bus: usize) -> i64
         requires line { line < length self.now.lines }
@@ -87,13 +110,17 @@ impl Market {
         self.shift[line * self.parts.buses.len() + bus]
     }
 
-    /// The loss factor of a line for a line that is lost, both by place, in 10^-6.
+    /// The loss factor of a line for a line that is lost, both by place, in 10^-6. It is read at once where an outage loses that line;
+    /// limit rows ask for no other, for which it is looked up in the list.
     pub fn loss(&self, line: usize, lost: usize) -> i64
         requires line { line < length self.now.lines }
         requires lost { lost < length self.now.lines }
         ensures { result ≡ factor_in self.now.loss line lost }
     {
-        self.loss[line * self.parts.lines.len() + lost]
+        match self.index[lost] {
+            Some(outage) => self.loss[outage * self.parts.lines.len() + line],
+            None => listed_factor(self.parts.loss.slice(), line, lost),
+        }
     }
 
     /// Sets the price of a block, in 10^-6 per MWh.
@@ -173,6 +200,14 @@ pub fn assemble(alloc: Global, parts: Parts) -> Result<Market, Memory>
 {
     let lines = parts.lines.len();
     let shift = table_of(alloc, parts.shift.slice(), lines, parts.buses.len())?;
-    let loss = table_of(alloc, parts.loss.slice(), lines, lines)?;
-    Ok(Market { parts, shift, loss })
+    let lost = lost_lines(alloc, &parts)?;
+    let index = outage_index(alloc, lines, lost.slice())?;
+    let loss = loss_table(alloc, parts.loss.slice(), lines, lost.slice(), &index)?;
+    Ok(Market {
+        parts,
+        shift,
+        lost,
+        index,
+        loss,
+    })
 }

@@ -7,6 +7,7 @@ mod assembled;
 mod factor_table;
 pub mod laws;
 mod limits;
+mod outages;
 mod participants;
 mod putting;
 

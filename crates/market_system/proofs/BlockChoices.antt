@@ -18,7 +18,7 @@ use Rattle.linear_system.proofs.ChoiceLaws.{others_are, is_other, is_basic, othe
 use Rattle.market_model.specs.declared.participants.Side.{Side}
 use Rattle.market_model.specs.declared.participants.Parts.{Parts}
 use Rattle.market_model.specs.Market.{IsMarket}
-use Rattle.market_model.specs.Dispatch.{Dispatch, zero, places, block_at, signed_by_side, accepted, quantity, raised_by, balance, empty}
+use Rattle.market_model.specs.Dispatch.{Dispatch, zero, places, block_at, signed_by_side, accepted, quantity, raised_by, balance, empty, dispatch_by}
 use Rattle.market_model.specs.Optimality.{price, block_value}
 use Rattle.market_system.specs.MarketSystem.{name, variable_of, balance_name, block_sign, residual_demand, system_of, choice_dispatch}
 use Rattle.market_model.proofs.MarketSums.{balance-by_empty}
@@ -65,7 +65,7 @@ module _ (m : Parts) (market : IsMarket m) (x : Dispatch) (count : length x.bloc
     pub dispatch_is : choice_dispatch m [] h ≡ x
     dispatch_is =
         let long : length (map (value (system_of m []) h) (places (length m.blocks))) ≡ length m.blocks = length-map-range_with_len (value (system_of m []) h) 0 (length m.blocks) in
-        ap (λ bs. record { blocks = bs })
+        ap dispatch_by
         (ext_get_or zero (map (value (system_of m []) h) (places (length m.blocks))) x.blocks (long ∙ sym count)
         (λ j lt. let below : j < length m.blocks = Prim.omega (arith, lt, long) in
         get_or-map-range_with_len (value (system_of m []) h) 0 (length m.blocks) j j zero below (Prim.omega arith)

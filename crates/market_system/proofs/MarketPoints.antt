@@ -16,7 +16,7 @@ use Rattle.linear_system.proofs.Multipliers.{by_columns, by_columns-column, by_c
 use Rattle.market_model.specs.declared.participants.Side.{Side}
 use Rattle.market_model.specs.declared.participants.Side.TheVariants.{Sell, Buy}
 use Rattle.market_model.specs.declared.participants.Parts.{Parts}
-use Rattle.market_model.specs.Dispatch.{Dispatch, zero as nil, places, block_at, block_bus, signed_by_side, accepted, quantity, raised_by, injection, balance, empty}
+use Rattle.market_model.specs.Dispatch.{Dispatch, zero as nil, places, block_at, block_bus, signed_by_side, accepted, quantity, raised_by, injection, balance, empty, dispatch_by}
 use Rattle.market_model.specs.declared.limits.Row.{Row}
 use Rattle.market_model.specs.LimitRows.{rows, limit, row_factor, row_offset, flow, most_flow}
 use Rattle.market_model.specs.Market.{IsMarket}
@@ -190,7 +190,7 @@ module _ (m : Parts) (apart : RowsApart m) (g : List Row) where
 
     -- ---- a point as a dispatch
     abbrev pub dispatch_at : (ℕ → Fraction) → Dispatch
-    dispatch_at v = record { blocks = map v (places (length m.blocks)) }
+    dispatch_at v = dispatch_by (map v (places (length m.blocks)))
 
     pub dispatch_at-accepted : (v : ℕ → Fraction) (j : ℕ) → j < length m.blocks → accepted (dispatch_at v) j ≡ v j
     dispatch_at-accepted v j h =

@@ -32,7 +32,7 @@ use Rattle.market_model.specs.LimitRows.{rows, row_factor}
 use Rattle.market_model.specs.NamedSums.{SameSize, term_at, IsSumStep}
 use Rattle.market_model.specs.Optimality.{bus_price, block_value, congestion_terms, price_terms, net_shadow_price, unit_price, welfare_terms}
 use Rattle.market_model.specs.Settlement.{surplus_terms}
-use Rattle.market_model.specs.SumTables.{FlowSum, injection_at, balance_of_all, flow_of_line, flow_of_row, PriceSum, congestion_at, price_at, MoneySum, welfare_of_all, surplus_of_all, rent_of_row}
+use Rattle.market_model.specs.SumTables.{injection_at, flow_of_line, FlowSum, carried, balance_of_all, flow_of_row, PriceSum, congestion_at, price_at, MoneySum, welfare_of_all, surplus_of_all, rent_of_row}
 use Rattle.market_model.proofs.FarkasLaw.{farkas_terms-bare}
 use Rattle.market_model.proofs.RowLaws.{no_rows, no_row, bus_price-bare, congestion-bare}
 use Rattle.market_system.specs.MarketSystem.{balance_name, system_of, choice_dispatch, choice_duals}
@@ -192,9 +192,9 @@ module _ (m : Parts) (market : IsMarket m) (lines : m.lines ≡ []) (modest : Is
         (prefix_within 2 b k (price_terms m d i) (Prim.omega arith) (e, (subst (IsWholeWithin b) (sym (congestion-bare m d i bare)) (nil_within b), tt)))
 
     flow_sum_within : (x : Dispatch) (k : ℕ) (terms : List Term) → IsInjecting m [] h x → FlowSum m x terms → IsWholeWithin most_value (prefix k terms)
-    flow_sum_within x k terms j (injection_at i lt) = wider most_injection most_value (prefix k terms) (Prim.omega arith) (injection_within m market modest x (injecting_small x j) i k lt)
+    flow_sum_within x k terms j (carried same (injection_at i lt)) = wider most_injection most_value (prefix k terms) (Prim.omega arith) (injection_within m market modest x (injecting_small x j) i k lt)
     flow_sum_within x k terms j balance_of_all = wider most_balance most_value (prefix k terms) (Prim.omega arith) (balance_within m market modest x (injecting_small x j) k)
-    flow_sum_within x k terms j (flow_of_line l lt) = absurd (no_line l lt)
+    flow_sum_within x k terms j (carried same (flow_of_line l lt)) = absurd (no_line l lt)
     flow_sum_within x k terms j (flow_of_row r c) = absurd (no_row m r bare c)
 
     sum_within : (kind : Option Kind) (terms : List Term) (k : ℕ) → NamedSum m [] h kind terms → WithinOf kind (prefix k terms)

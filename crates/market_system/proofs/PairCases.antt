@@ -35,7 +35,7 @@ use Rattle.market_model.specs.Market.{IsMarket}
 use Rattle.market_model.specs.NamedSums.{SameSize, term_at, IsNextTerm, IsSumStep, IsRefusedIn, IsRefusal}
 use Rattle.market_model.specs.Optimality.{net_shadow_price, up_of, down_of, congestion, congestion_by, congestion_terms, price_by, price_terms, bus_price, unit_price}
 use Rattle.market_model.specs.Infeasibility.{where_above, part_above, block_weight, limit_terms, farkas_terms}
-use Rattle.market_model.specs.SumTables.{FlowSum, injection_at, balance_of_all, flow_of_line, flow_of_row, PriceSum, congestion_at, price_at}
+use Rattle.market_model.specs.SumTables.{CarriedSum, injection_at, flow_of_line, FlowSum, carried, balance_of_all, flow_of_row, PriceSum, congestion_at, price_at}
 use Rattle.market_system.specs.Growth.{Growth}
 use Rattle.market_system.specs.MarketNumbers.{IsRightChoice, IsInjecting, IsFarkasOf, NamedSum, offset_of, factor_of, of_flow, output_of, of_price, of_money, of_farkas_price, farkas_bound_of, MarketNumber, of_system, of_sum, is_limit, is_line_offset, is_shift, is_loss, is_up_dual, is_down_dual, is_farkas_energy, is_farkas_up, is_farkas_down, of_opposite}
 use Rattle.market_system.specs.MarketSystem.{system_of, choice_dispatch, choice_duals}
@@ -225,11 +225,11 @@ module _ (m : Parts) (taken g : List Row) (reached : Growth m taken g) (h : Choi
   module _ (market : IsMarket m) (x : Dispatch) (injecting : IsInjecting m g h x) where
     injected : (i : ℕ) → i < length m.buses → Number Quantity (injection m x i)
     unfolding injection
-    injected i lt = whole_sum Quantity (injection_terms m x i) (of_flow x (injection_terms m x i) injecting (injection_at i lt))
+    injected i lt = whole_sum Quantity (injection_terms m x i) (of_flow x (injection_terms m x i) injecting (carried (injection_terms m x i) (injection_at i lt)))
 
     lined : (l : ℕ) → l < length m.lines → Number Quantity (line_flow m (injection m x) l)
     unfolding line_flow
-    lined l lt = whole_sum Quantity (line_terms m (injection m x) l) (of_flow x (line_terms m (injection m x) l) injecting (flow_of_line l lt))
+    lined l lt = whole_sum Quantity (line_terms m (injection m x) l) (of_flow x (line_terms m (injection m x) l) injecting (carried (line_terms m (injection m x) l) (flow_of_line l lt)))
 
     pub row_flow_number : (r : Row) → Contains (rows m) r → Number Quantity (flow m x r)
     row_flow_number r c = whole_sum Quantity (flow_terms m (line_flow m (injection m x)) r) (of_flow x (flow_terms m (line_flow m (injection m x)) r) injecting (flow_of_row r c))
@@ -242,19 +242,22 @@ module _ (m : Parts) (taken g : List Row) (reached : Growth m taken g) (h : Choi
     after l Base lt lost = (tt, tt)
     after l (Branch k) lt lost = (tt, (inl (is_loss l k lt lost.0, alone (line_flow m (injection m x) k) (lined k lost.0)), tt))
 
-    flows_scaled : (terms : List Term) → FlowSum m x terms → AreScaled Quantity terms
-    flows_scaled terms (injection_at i lt) =
+    carried_scaled : (terms : List Term) → CarriedSum m x terms → AreScaled Quantity terms
+    carried_scaled terms (injection_at i lt) =
         scaled_append Quantity (map (fixed_term m) (units_at m i) ++ map (block_term m x) (blocks_at m i)) (Plain (neg_ℚ (whole (bus_at m i).pd)) ∷ Plain (neg_ℚ (whole (bus_at m i).gs)) ∷ [])
         (scaled_append Quantity (map (fixed_term m) (units_at m i)) (map (block_term m x) (blocks_at m i))
         (scaled_map Quantity (fixed_term m) (units_at m i) (λ u c. tt))
         (scaled_map Quantity (block_term m x) (blocks_at m i) (λ j c. tt)))
         (tt, (tt, tt))
-    flows_scaled terms balance_of_all = scaled_map Quantity (λ i. Plain (injection m x i)) (places (length m.buses)) (λ i c. tt)
-    flows_scaled terms (flow_of_line l lt) = (
+    carried_scaled terms (flow_of_line l lt) = (
       tt,
       scaled_map Quantity (λ i. Product (shift_factor m l i) (injection m x i)) (places (length m.buses))
           (λ i c. let inside = below (length m.buses) i c in inl (is_shift l i lt inside, alone (injection m x i) (injected i inside))),
     )
+
+    flows_scaled : (terms : List Term) → FlowSum m x terms → AreScaled Quantity terms
+    flows_scaled terms (carried same part) = carried_scaled terms part
+    flows_scaled terms balance_of_all = scaled_map Quantity (λ i. Plain (injection m x i)) (places (length m.buses)) (λ i c. tt)
     flows_scaled terms (flow_of_row r c) = let s = stands m market r c in after r.line r.cause s.line s.lost
 
   -- ---- prices

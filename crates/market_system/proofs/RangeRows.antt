@@ -20,8 +20,8 @@ use Rattle.market_data.specs.Participants.{IsBus, IsUnit}
 use Rattle.market_data.specs.declared.participants.Unit as unit
 use Rattle.market_model.specs.Stairs.{stair_in}
 use Rattle.market_model.proofs.PlainMarkets.{plain_market, distinct_by_rise}
-use Rattle.market_model.specs.Market.{IsMarket, IsBlock, HasRoom}
-use Rattle.market_model.specs.Dispatch.{Dispatch, injection, balance, accepted, quantity}
+use Rattle.market_model.specs.Market.{bare_parts, IsMarket, IsBlock, HasRoom}
+use Rattle.market_model.specs.Dispatch.{Dispatch, injection, balance, accepted, quantity, dispatch_by}
 use Rattle.market_model.specs.Optimality.{Feasible, Supports, BlockSupported, welfare_terms}
 use Rattle.market_model.proofs.RowLaws.{no_rows, supported_bare, supports_bare, feasible_bare}
 use Rattle.market_model.specs.NamedSums.{term_at}
@@ -40,21 +40,14 @@ most = 2 ^ 63 - 1
 
 -- each bus demands as much as the unit there offers, at that price
 abbrev pub big_buses : Parts
-big_buses = record {
-  buses = record { number = 1; pd = pos most; gs = pos 0 } ∷ record { number = 2; pd = pos most; gs = pos 0 } ∷ record { number = 3; pd = pos most; gs = pos 0 } ∷ [];
-  units = record { row = 1; bus = 0; fixed = pos 0; up = pos most; down = pos 0 } ∷ record { row = 2; bus = 1; fixed = pos 0; up = pos most; down = pos 0 }
-      ∷ record { row = 3; bus = 2; fixed = pos 0; up = pos most; down = pos 0 } ∷ [];
-  blocks = record { unit = 0; side = Sell; quantity = pos most; price = pos most } ∷ record { unit = 1; side = Sell; quantity = pos most; price = pos most }
-      ∷ record { unit = 2; side = Sell; quantity = pos most; price = pos most } ∷ [];
-  lines = [];
-  outages = [];
-  shift = [];
-  loss = [];
-}
+big_buses = bare_parts
+    (record { number = 1; pd = pos most; gs = pos 0 } ∷ record { number = 2; pd = pos most; gs = pos 0 } ∷ record { number = 3; pd = pos most; gs = pos 0 } ∷ [])
+    (record { row = 1; bus = 0; fixed = pos 0; up = pos most; down = pos 0 } ∷ record { row = 2; bus = 1; fixed = pos 0; up = pos most; down = pos 0 } ∷ record { row = 3; bus = 2; fixed = pos 0; up = pos most; down = pos 0 } ∷ [])
+    (record { unit = 0; side = Sell; quantity = pos most; price = pos most } ∷ record { unit = 1; side = Sell; quantity = pos most; price = pos most } ∷ record { unit = 2; side = Sell; quantity = pos most; price = pos most } ∷ [])
 
 -- all is sold
 abbrev pub all_sold : Dispatch
-all_sold = record { blocks = whole (pos most) ∷ whole (pos most) ∷ whole (pos most) ∷ [] }
+all_sold = dispatch_by (whole (pos most) ∷ whole (pos most) ∷ whole (pos most) ∷ [])
 
 abbrev pub at_most_price : Duals Fraction
 at_most_price = record { energy = whole (pos most); limits = [] }

@@ -18,6 +18,7 @@ use Rattle.market_model.specs.Optimality.{congestion, welfare, congestion_by, pr
 use Rattle.market_model.specs.RightAnswers.{IsRight}
 use Rattle.market_model.specs.Settlement.{paid, pays, rent, surplus}
 use Rattle.market_model.proofs.LimitCases.{mw, price, money, blocks, buses, line, shifts, losses, up_alone, down_alone, shunted, turned, after_outage, bought, shifted, narrow, narrow_duals}
+use Rattle.market_model.specs.Market.{bare_parts}
 use Rattle.market_system.proofs.AnswerTests.{right_by, infeasible_by}
 
 -- whole MW, prices and money, and parts of these
@@ -140,12 +141,11 @@ beyond_limit-right = right_by shifted beyond_limit refl refl refl refl
 
 -- ---- thirds: a limit of 40 MW on branch 2, with both units where they are but the second, which is at bus 3, as the load of 60 MW is
 abbrev beside_load : Parts
-beside_load = record {
-  buses = buses 0 60 0;
-  units = record { row = 1; bus = 0; fixed = pos 0; up = mw 100; down = pos 0 } ∷ record { row = 2; bus = 2; fixed = pos 0; up = mw 100; down = pos 0 } ∷ [];
-  blocks = blocks;
+beside_load = record (bare_parts
+    (buses 0 60 0)
+    (record { row = 1; bus = 0; fixed = pos 0; up = mw 100; down = pos 0 } ∷ record { row = 2; bus = 2; fixed = pos 0; up = mw 100; down = pos 0 } ∷ [])
+    blocks) {
   lines = line 1 None None 0 ∷ line 2 (Some (mw 40)) None 0 ∷ line 3 None None 0 ∷ [];
-  outages = [];
   shift = shifts;
   loss = losses;
 }

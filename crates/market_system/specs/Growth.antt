@@ -3,7 +3,7 @@
 -- Source: own; the method is that of taking violated limits alone (Wood and Wollenberg, security-constrained dispatch).
 use Rattle.std.specs.Prelude.{◌≡◌, List, [], ◌∷◌, ◌++◌, ◌⊎◌}
 use Rattle.std.specs.List.{Contains}
-use Rattle.fraction_theory.specs.Fraction.{neg_ℚ}
+use Rattle.fraction_theory.specs.Fraction.{Fraction, neg_ℚ}
 use Rattle.fraction_theory.specs.Order.{◌≤ℚ◌, ◌<ℚ◌}
 use Rattle.market_model.specs.declared.participants.Parts.{Parts}
 use Rattle.market_model.specs.Dispatch.{Dispatch}
@@ -15,10 +15,14 @@ use Rattle.market_model.specs.LimitRows.{rows, flow, limit}
 abbrev pub Broken : Parts → Dispatch → Row → Type 0
 Broken m x r = (limit m r <ℚ flow m x r) ⊎ (flow m x r <ℚ neg_ℚ (limit m r))
 
+-- the welfare of a dispatch, as far as these rows bear on it
+abbrev pub welfare_for : Parts → List Row → Dispatch → Fraction
+welfare_for m g x = welfare m x
+
 -- feasible for these rows, and of the greatest welfare of all dispatches that are
 pub record BestFor (m : Parts) (g : List Row) (x : Dispatch) : Type 0 where
   pub feasible : FeasibleFor m g x
-  pub best : (y : Dispatch) → FeasibleFor m g y → welfare m y ≤ℚ welfare m x
+  pub best : (y : Dispatch) → FeasibleFor m g y → welfare_for m g y ≤ℚ welfare_for m g x
 
 -- rows of the market behind old ones, each broken by a best dispatch of those before it
 abbrev pub GrowsBy : Parts → List Row → List Row → Type 0

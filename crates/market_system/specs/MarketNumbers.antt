@@ -46,7 +46,7 @@ pub data NamedSum (m : Parts) (rows : List Row) (h : Choice) : Option Kind → L
   factor_of : (r : Row) (i : ℕ) → Contains (all_rows m) r → i < length m.buses → NamedSum m rows h (Some Factor) (factor_terms m r i)
   -- injections and flows
   of_flow : (x : Dispatch) (terms : List Term) → IsInjecting m rows h x → FlowSum m x terms → NamedSum m rows h (Some Quantity) terms
-  -- at a best choice: a unit's output, prices, and money
+  -- at a right choice: a unit's output, prices, and money
   output_of : (u : ℕ) → IsRightChoice m rows h → u < length m.units → NamedSum m rows h (Some Quantity) (output_terms m (choice_dispatch m rows h) u)
   of_price : (terms : List Term) → IsRightChoice m rows h → PriceSum m (choice_duals m rows h) terms → NamedSum m rows h (Some Price) terms
   of_money : (terms : List Term) → IsRightChoice m rows h → MoneySum m rows (choice_dispatch m rows h) (choice_duals m rows h) terms → NamedSum m rows h None terms

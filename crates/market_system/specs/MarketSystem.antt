@@ -14,7 +14,7 @@ use Rattle.market_model.specs.declared.participants.Parts.{Parts}
 use Rattle.market_model.specs.declared.answered.Dual.{Dual}
 use Rattle.market_model.specs.declared.answered.Duals.{Duals}
 use Rattle.market_model.specs.declared.answered.RowId.{RowId}
-use Rattle.market_model.specs.Dispatch.{Dispatch, zero, places, block_at, signed_by_side, quantity, balance, empty}
+use Rattle.market_model.specs.Dispatch.{Dispatch, zero, places, block_at, signed_by_side, quantity, balance, empty, dispatch_by}
 use Rattle.market_model.specs.declared.limits.Cause.{Cause}
 use Rattle.market_model.specs.declared.limits.Row.{Row}
 use Rattle.market_model.specs.declared.limits.Cause.TheVariants.{Base, Branch}
@@ -110,7 +110,7 @@ row_variables rs = Balance ∷ map Limit rs
 abbrev pub variables : Parts → List Row → List Variable
 variables m rs = columns m ++ row_variables rs
 
--- the variable of a name in a list; nothing is said at a name that none of them has
+-- the variable of a name in a list; a name that none of them has stands for the balance, and nothing is asked of it
 abbrev pub named : (Variable → ℕ) → List Variable → ℕ → Variable
 named name_of [] w = Balance
 named name_of (v ∷ vs) w = if w == name_of v then v else named name_of vs w
@@ -136,7 +136,7 @@ system_of m g = system_over m (in_order m g)
 
 -- the dispatch of a choice: the values of the blocks
 abbrev pub choice_dispatch : Parts → List Row → Choice → Dispatch
-choice_dispatch m g h = record { blocks = map (value (system_of m g) h) (places (length m.blocks)) }
+choice_dispatch m g h = dispatch_by (map (value (system_of m g) h) (places (length m.blocks)))
 
 -- the prices of a row by what a MW on its flow costs: of the upper side where that is above 0, of the lower one where it is below
 abbrev pub dual_by : RowId → Fraction → Sign → List (Dual Fraction)

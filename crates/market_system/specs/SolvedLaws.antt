@@ -9,14 +9,14 @@ use Rattle.simplex_theory.specs.Steps.{opposite_if}
 use Rattle.simplex_theory.specs.Stuck.{IsStuck, multiplier, margin}
 use Rattle.market_model.specs.declared.answered.Duals.{Duals}
 use Rattle.market_model.specs.declared.participants.Parts.{Parts}
-use Rattle.market_model.specs.Dispatch.{Dispatch, accepted, places, block_at, signed_by_side as raised}
+use Rattle.market_model.specs.Dispatch.{Dispatch, accepted, places, block_at, signed_by_side as raised, dispatch_by}
 use Rattle.market_model.specs.Infeasibility.{IsFarkas}
 use Rattle.market_model.specs.declared.limits.Row.{Row}
 use Rattle.market_model.specs.LimitRows.{rows}
 use Rattle.market_model.specs.Market.{IsMarket}
-use Rattle.market_model.specs.Optimality.{FeasibleFor, Feasible, Supports, ProperDuals, welfare, block_value, unit_price}
+use Rattle.market_model.specs.Optimality.{FeasibleFor, Feasible, Supports, ProperDuals, block_value, unit_price}
 use Rattle.market_model.specs.RightAnswers.{IsRight, answer_of}
-use Rattle.market_system.specs.Growth.{Broken, BestFor, Growth}
+use Rattle.market_system.specs.Growth.{Broken, BestFor, Growth, welfare_for}
 use Rattle.market_system.specs.MarketNumbers.{IsFarkasOf}
 use Rattle.market_system.specs.MarketSystem.{balance_name, row_name, in_order, system_of, choice_dispatch, duals_of_costs, choice_duals}
 
@@ -34,10 +34,10 @@ LawOfTheSystem = (m : Parts) (g : List Row) → IsMarket m → IsSystem (system_
 -- blocks of a point within the bounds are a dispatch that is feasible for them, of its worth.
 pub record PointsAreDispatches (m : Parts) (g : List Row) : Type 0 where
   pub point : (x : Dispatch) → FeasibleFor m g x
-      → (v : ℕ → Fraction) × MeetsRows (system_of m g) v × InBounds (system_of m g) v × (objective (system_of m g) v ≡ welfare m x)
+      → (v : ℕ → Fraction) × MeetsRows (system_of m g) v × InBounds (system_of m g) v × (objective (system_of m g) v ≡ welfare_for m g x)
       × ((j : ℕ) → Contains (places (length m.blocks)) j → v j ≡ accepted x j)
   pub dispatch : (v : ℕ → Fraction) → MeetsRows (system_of m g) v → InBounds (system_of m g) v
-      → FeasibleFor m g (record { blocks = map v (places (length m.blocks)) }) × (objective (system_of m g) v ≡ welfare m (record { blocks = map v (places (length m.blocks)) }))
+      → FeasibleFor m g (dispatch_by (map v (places (length m.blocks)))) × (objective (system_of m g) v ≡ welfare_for m g (dispatch_by (map v (places (length m.blocks)))))
 
 abbrev pub LawOfThePoints : Type 0
 LawOfThePoints = (m : Parts) (g : List Row) → IsMarket m → ((r : Row) → Contains g r → Contains (rows m) r) → PointsAreDispatches m g

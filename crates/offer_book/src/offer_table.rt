@@ -100,7 +100,7 @@ fn side_of(text: &[u8], line: usize) -> Result<Side, OfferFault>
     }
 }
 
-/// The record of a row: its numbers from left to right, then its side.
+/// What a record says: its numbers from left to right, then its side.
 #[tactic(auto, unfolding(crate::specs::OfferTable::offer_in))]
 fn offer_of(table: &Table, row: usize) -> Result<Offer, OfferFault>
     requires { (row < length table.now) × (row + 2 < 2 ^ 64) }
@@ -279,7 +279,7 @@ fn place_of(units: &[Unit], row: u32) -> Option<usize>
     units.iter().position(|unit| unit.row == row)
 }
 
-/// The block of a row's record, where its unit is live.
+/// The block of a record, where its unit is live.
 #[tactic(auto, unfolding(crate::specs::OfferTable::block_in))]
 fn record_block(
     blocks: &[Block],

@@ -28,7 +28,7 @@ use Rattle.market_model.specs.Market.{IsMarket}
 use Rattle.market_model.specs.NamedSums.{SameSize, term_at, IsNextTerm, IsSumStep, IsRefusal, IsRefusedIn}
 use Rattle.market_model.specs.Optimality.{bus_price, unit_price, names_row, named_rows}
 use Rattle.market_model.specs.RightAnswers.{rent_of, settlement_at}
-use Rattle.market_model.specs.Settlement.{paid, pays, rent, surplus, pay_of_unit, pay_of_load, left_terms}
+use Rattle.market_model.specs.Settlement.{rent, surplus, pay_of_unit, pay_of_load, left_terms}
 use Rattle.market_model.specs.Valued.{dual_at, duals_at, load_at, rent_at, unit_pay_at}
 use Rattle.market_model.proofs.Optimum.{law_of_the_surplus, law_of_its_sign}
 use Rattle.market_model.proofs.SumSteps.{plus_at, behind, in_front}

@@ -25,7 +25,7 @@ use Rattle.market_model.proofs.PutInSteps.{accepted_is}
 use Rattle.market_model.specs.PutIn.{dispatch_of}
 use Rattle.market_model.specs.Settlement.{pay_of_unit, pay_of_load, left_terms}
 use Rattle.settlement.specs.Paying.{total_at}
-use Rattle.settlement.specs.Refusals.{IsSettlementRefusal, of_output, of_demand, of_money, IsLoadRefusal, IsUnitRefusal}
+use Rattle.settlement.specs.Refusals.{IsMoneyRefusal, of_output, of_demand, of_money, IsLoadRefusal, IsUnitRefusal}
 
 module _ {N : Type 0} (value : N → Fraction) (m : Parts) (ds : List N) where
   abbrev pub welfare_to : ℕ → Fraction
@@ -94,10 +94,10 @@ module _ (m : Parts) (x : Dispatch) (price : ℕ → Fraction) (d : Duals Fracti
   abbrev unit_term : ℕ → Term
   unit_term u = Product (neg_ℚ (price (unit_at m u).bus)) (output m x u)
 
-  pub load_refusal : (i : ℕ) (bus : Bus) (t : Fraction) → i < length m.buses → bus ≡ bus_at m i → t ≡ price i → IsLoadRefusal bound bus t p → IsSettlementRefusal m x price d bound p
+  pub load_refusal : (i : ℕ) (bus : Bus) (t : Fraction) → i < length m.buses → bus ≡ bus_at m i → t ≡ price i → IsLoadRefusal bound bus t p → IsMoneyRefusal m x price d bound p
   load_refusal i bus t below at is why = by why
     where
-      by : IsRefusal Plus (whole bus.pd) (whole bus.gs) bound p ⊎ IsRefusal Times t (whole bus.pd +ℚ whole bus.gs) bound p → IsSettlementRefusal m x price d bound p
+      by : IsRefusal Plus (whole bus.pd) (whole bus.gs) bound p ⊎ IsRefusal Times t (whole bus.pd +ℚ whole bus.gs) bound p → IsMoneyRefusal m x price d bound p
       by (inl h) = of_demand i below (subst (λ (b : Bus). IsRefusal Plus (whole b.pd) (whole b.gs) bound p) at h)
       by (inr h) =
           let r = terms_at load_term (length m.buses) i below in
@@ -106,10 +106,10 @@ module _ (m : Parts) (x : Dispatch) (price : ℕ → Fraction) (d : Duals Fracti
           (multiplied_at (left_terms m x price) (map load_term (places i)) (r.0 ++ rest) (load_term i) (in_front (map load_term (places (length m.buses))) (map load_term (places i)) r.0 rest (load_term i) r.1)
           bound p t (whole bus.pd +ℚ whole bus.gs) (price i) (demand m i) refl (inl is) (inl (demand_is m i bus at)) h)
 
-  pub unit_refusal : (u : ℕ) (t : Fraction) → u < length m.units → t ≡ price (unit_at m u).bus → IsUnitRefusal m x bound u t p → IsSettlementRefusal m x price d bound p
+  pub unit_refusal : (u : ℕ) (t : Fraction) → u < length m.units → t ≡ price (unit_at m u).bus → IsUnitRefusal m x bound u t p → IsMoneyRefusal m x price d bound p
   unit_refusal u t below is why = by why
     where
-      by : IsRefusedIn (output_terms m x u) bound p ⊎ IsRefusal Times t (output m x u) bound p → IsSettlementRefusal m x price d bound p
+      by : IsRefusedIn (output_terms m x u) bound p ⊎ IsRefusal Times t (output m x u) bound p → IsMoneyRefusal m x price d bound p
       by (inl h) = of_output u below h
       by (inr h) =
           let r = terms_at unit_term (length m.units) u below in

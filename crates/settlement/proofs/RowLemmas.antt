@@ -31,11 +31,10 @@ use Rattle.market_model.specs.Settlement.{rent, rent_terms}
 use Rattle.market_model.specs.Valued.{dual_at, duals_at}
 use Rattle.market_model.proofs.SumSteps.{multiplied_at}
 use Rattle.limit_rows.proofs.DualLemmas.{IsRowOfDual, row_of_dual}
-use Rattle.limit_rows.proofs.FlowSteps.{row_terms_are}
-use Rattle.limit_rows.specs.LineFlows.{AreFlows}
-use Rattle.market_model.specs.PutIn.{put_in}
+use Rattle.limit_screen.proofs.ScreenLemmas.{row_terms}
+use Rattle.limit_screen.specs.Flows.{flows_at, line_in}
 use Rattle.settlement.specs.Paying.{earned_by, earned_terms}
-use Rattle.settlement.specs.Refusals.{IsSettlementRefusal, of_row_flow, of_offset, of_limit_less, of_limit_more, of_rent, IsEarningRefusal, IsRentRefusal}
+use Rattle.settlement.specs.Refusals.{IsMoneyRefusal, of_row_flow, of_offset, of_limit_less, of_limit_more, of_rent, IsEarningRefusal, IsRentRefusal}
 
 -- ---- what a limit earns with one price
 module _ (e : Dual Fraction) (f o : Fraction) where
@@ -88,26 +87,25 @@ module _ {N : Type 0} (value : N → Fraction) (m : Parts) (duals : Duals N) (pr
   pub dual_row : IsMarket m → (r : Row) × IsRowOfDual m (duals_at value duals) k (dual_at value item) r
   dual_row market = row_of_dual m market (duals_at value duals) proper.named k (dual_at value item) below read
 
-module _ (m : Parts) (x : Dispatch) (flows : List Fraction) (are : AreFlows m x flows) (d : Duals Fraction) (k : ℕ) (e : Dual Fraction) (r : Row) (h : IsRowOfDual m d k e r) (inside : r.line < length m.lines)
-    (among : IsCauseAmong (length m.lines) r.cause) where
-  pub earned_is : earned_by m (put_in flows) e r ≡ rent_of m x d r
+module _ (m : Parts) (x : Dispatch) (flows : List Fraction) (are : flows ≡ flows_at m x) (d : Duals Fraction) (k : ℕ) (e : Dual Fraction) (r : Row) (h : IsRowOfDual m d k e r) (market : IsMarket m) where
+  pub earned_is : earned_by m (line_in m flows) e r ≡ rent_of m x d r
   unfolding rent
   earned_is =
-      same_rent e.row (row_id m r) (flow_by m (put_in flows) r) (flow m x r) (total (earned_terms e (limit m r) (row_offset m r))) (total (rent_terms m x d r)) (sym h.name)
-      (ap total (row_terms_are m x flows are r inside among))
+      same_rent e.row (row_id m r) (flow_by m (line_in m flows) r) (flow m x r) (total (earned_terms e (limit m r) (row_offset m r))) (total (rent_terms m x d r)) (sym h.name)
+      (ap total (row_terms m x flows r market are h.row))
       (ap₂ (λ u v. total (Product u (limit m r -ℚ row_offset m r) ∷ Product v (limit m r +ℚ row_offset m r) ∷ [])) (sym h.up) (sym h.down))
 
   module _ (price : ℕ → Fraction) (bound : ℕ) (p : Passed Fraction) where
     named : Contains (named_rows m d) r
     named = (k, h.inside, sym h.at)
 
-    pub row_refusal : IsRentRefusal m (put_in flows) e r bound p → IsSettlementRefusal m x price d bound p
+    pub row_refusal : IsRentRefusal m (line_in m flows) e r bound p → IsMoneyRefusal m x price d bound p
     row_refusal why = by why
       where
-        by : (r.cause ≢ Base × IsRefusedIn (flow_terms m (put_in flows) r) bound p) ⊎ IsRefusedIn (offset_terms m r) bound p
+        by : (r.cause ≢ Base × IsRefusedIn (flow_terms m (line_in m flows) r) bound p) ⊎ IsRefusedIn (offset_terms m r) bound p
             ⊎ IsRefusal Minus (limit m r) (row_offset m r) bound p ⊎ IsRefusal Plus (limit m r) (row_offset m r) bound p ⊎ IsRefusedIn (earned_terms e (limit m r) (row_offset m r)) bound p
-            → IsSettlementRefusal m x price d bound p
-        by (inl w) = of_row_flow r named w.0 (subst (λ ts. IsRefusedIn ts bound p) (row_terms_are m x flows are r inside among) w.1)
+            → IsMoneyRefusal m x price d bound p
+        by (inl w) = of_row_flow r named w.0 (subst (λ ts. IsRefusedIn ts bound p) (row_terms m x flows r market are h.row) w.1)
         by (inr (inl w)) = of_offset r named w
         by (inr (inr (inl w))) = of_limit_less r named w
         by (inr (inr (inr (inl w)))) = of_limit_more r named w

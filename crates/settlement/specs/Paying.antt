@@ -13,7 +13,8 @@ use Rattle.market_model.specs.declared.answered.UnitPay.{UnitPay}
 use Rattle.market_model.specs.declared.participants.Parts.{Parts}
 use Rattle.market_model.specs.Dispatch.{Dispatch, zero}
 use Rattle.market_model.specs.declared.limits.Row.{Row}
-use Rattle.market_model.specs.LimitRows.{flow_by, limit, row_offset}
+use Rattle.market_model.specs.LimitRows.{flow_by, row_offset}
+use Rattle.market_model.specs.Settlement.{priced_flow}
 use Rattle.market_model.specs.Optimality.{Feasible, Supports, bus_price}
 
 -- the whole price at a bus; 0 past the end
@@ -37,13 +38,13 @@ pub record IsSupportedAt (m : Parts) (x : Dispatch) (price : ℕ → Fraction) (
   pub supported : Supports m x d
 
 -- ---- parts of it
--- what a limit earns at the prices of a dual, where the flow has a fixed offset
+-- what a limit earns at the prices of a dual for flows of this size, where the flow has a fixed offset
 abbrev pub earned_terms : Dual Fraction → Fraction → Fraction → List Term
-earned_terms e limit offset = Product e.up (limit -ℚ offset) ∷ Product e.down (limit +ℚ offset) ∷ []
+earned_terms e size offset = Product e.up (size -ℚ offset) ∷ Product e.down (size +ℚ offset) ∷ []
 
 -- the flow of a row where lines have flows f, and what its limit earns at the prices of a dual
 abbrev pub earned_by : Parts → (ℕ → Fraction) → Dual Fraction → Row → Rent Fraction
-earned_by m f e r = record { row = e.row; flow = flow_by m f r; rent = total (earned_terms e (limit m r) (row_offset m r)) }
+earned_by m f e r = record { row = e.row; flow = flow_by m f r; rent = total (earned_terms e (priced_flow m r (flow_by m f r)) (row_offset m r)) }
 
 -- what loads pay, and the opposite of what units are paid
 abbrev pub paid_terms : {N : Type 0} → (N → Fraction) → List (Load N) → List (UnitPay N) → List Term

@@ -10,6 +10,6 @@ mod stops;
 mod units;
 mod worth;
 
-pub use settling::settle;
+pub use settling::{settle, settle_flows};
 pub use stops::MoneyStop;
 pub use worth::welfare;

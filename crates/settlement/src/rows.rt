@@ -1,17 +1,18 @@
 //! The rows of duals, and what their limits earn.
 
-ghost use Rattle.std.specs.Prelude.{◌≡◌, ◌<◌, length, map, Contains, IfOk, IfErr};
+ghost use Rattle.std.specs.Prelude.{◌≡◌, ◌+◌, ◌<◌, length, map, Contains, IfOk, IfErr};
 ghost use Rattle.fraction_theory.specs.Sums.{total};
 ghost use Rattle.market_model.specs.declared.limits.Row.{Row};
 ghost use Rattle.market_model.specs.LimitRows.{IsCauseAmong, row_id, rows};
 ghost use Rattle.market_model.specs.Optimality.{IsOneSided};
-ghost use Rattle.market_model.specs.PutIn.{put_in};
 ghost use Rattle.market_model.specs.Valued.{dual_at, passed_at, rent_at};
+ghost use Rattle.limit_screen.specs.Flows.{line_in};
 ghost use Rattle.settlement.specs.Paying.{earned_by, earned_terms};
 ghost use Rattle.settlement.specs.Refusals.{IsEarningRefusal, IsRentRefusal};
 
 use exact_fraction::{Exact, Passed, Sign};
-use limit_rows::{limit_at, row_flow, row_named, row_offset};
+use limit_rows::{limit_at, row_named, row_offset};
+use limit_screen::row_flow;
 use market_model::{Dual, Market, Rent, Row, RowId, datum};
 
 /// The row of a name that the market has.
@@ -47,7 +48,7 @@ fn earned<N: Exact>(dual: &Dual<N>, limit: N, offset: N) -> Result<N, Passed<N>>
     }
 }
 
-/// The flow of a row, of the flow of each line, and what its limit earns at the prices of a dual.
+/// The flow of a row, of flows by bus and then by line, and what its limit earns at the prices of a dual.
 pub fn row_rent<N: Exact>(
     market: &Market,
     row: Row,
@@ -57,9 +58,9 @@ pub fn row_rent<N: Exact>(
     requires line { row.line < length market.now.lines }
     requires lost { IsCauseAmong (length market.now.lines) row.cause }
     requires one_sided { IsOneSided (dual_at N.value dual.now) }
-    requires flows { length flows.now ≡ length market.now.lines }
-    ensures rent { IfOk result (λ rent. rent_at N.value rent ≡ earned_by market.now (put_in (map N.value flows.now)) (dual_at N.value dual.now) row) }
-    ensures cause { IfErr result (λ passed. IsRentRefusal market.now (put_in (map N.value flows.now)) (dual_at N.value dual.now) row N.bound (passed_at N.value passed)) }
+    requires flows { length flows.now ≡ length market.now.buses + length market.now.lines }
+    ensures rent { IfOk result (λ rent. rent_at N.value rent ≡ earned_by market.now (line_in market.now (map N.value flows.now)) (dual_at N.value dual.now) row) }
+    ensures cause { IfErr result (λ passed. IsRentRefusal market.now (line_in market.now (map N.value flows.now)) (dual_at N.value dual.now) row N.bound (passed_at N.value passed)) }
 {
     let flow = row_flow(market, flows, row)?;
     let offset = row_offset(market, row)?;

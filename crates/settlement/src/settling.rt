@@ -1,6 +1,6 @@
 //! The settlement of a dispatch.
 
-ghost use Rattle.std.specs.Prelude.{◌≡◌, length, IfOk, IfErr};
+ghost use Rattle.std.specs.Prelude.{◌≡◌, length, map, IfOk, IfErr};
 ghost use Rattle.fraction_theory.specs.Fraction.{neg_ℚ, ◌+ℚ◌};
 ghost use Rattle.fraction_theory.specs.Order.{◌≤ℚ◌};
 ghost use Rattle.fraction_theory.specs.Sums.{sum_by};
@@ -11,14 +11,16 @@ ghost use Rattle.market_model.specs.Optimality.{ProperDuals};
 ghost use Rattle.market_model.specs.Valued.{duals_at, money_at, passed_at};
 ghost use Rattle.market_model.specs.PutIn.{dispatch_of};
 ghost use Rattle.market_model.specs.RightAnswers.{settlement_at};
+ghost use Rattle.limit_screen.specs.Flows.{flows_at, IsFlowsRefusal};
 ghost use Rattle.settlement.specs.Paying.{total_at, paid_terms, FitsMoney, IsSupportedAt};
-ghost use Rattle.settlement.specs.Refusals.{IsMoneyStop};
+ghost use Rattle.settlement.specs.Refusals.{IsMoneyStop, IsSettlementStop, OnPassed};
 
 use crate::MoneyStop;
 use crate::loads::loads;
 use crate::rents::rents;
 use crate::units::unit_pays;
 use exact_fraction::{Exact, Passed};
+use limit_screen::flows;
 use market_model::{Duals, Load, Market, Money, Price, UnitPay, datum};
 use std::alloc::Global;
 
@@ -35,6 +37,59 @@ fn surplus<N: Exact>(loads: &[Load<N>], units: &[UnitPay<N>]) -> Result<N, Passe
         surplus = surplus.plus(unit.paid.neg())?;
     }
     Ok(surplus)
+}
+
+/// What each bus puts in at a dispatch, and then what each line carries.
+fn flows_made<N: Exact>(
+    alloc: Global,
+    market: &Market,
+    dispatch: &[N],
+) -> Result<Vec<N>, MoneyStop<N>>
+    requires { length dispatch.now ≡ length market.now.blocks }
+    ensures flows { IfOk result (λ flows. map N.value flows.items ≡ flows_at market.now (dispatch_of N.value dispatch.now)) }
+    ensures cause { IfErr result (λ stop. OnPassed stop (λ p. IsFlowsRefusal market.now (dispatch_of N.value dispatch.now) N.bound (passed_at N.value p))) }
+{
+    let none: N = datum(0);
+    let places = market.buses().len() + market.lines().len();
+    let mut by_place = match vec![in alloc; none; places] {
+        Ok(by_place) => by_place,
+        Err(_) => return Err(MoneyStop::Memory),
+    };
+    flows(market, dispatch, &mut by_place)?;
+    Ok(by_place)
+}
+
+/// The settlement of a dispatch whose flows are known: what each bus puts in, and then what each line carries, as `limit_screen::flows`
+/// puts them, in 10^-9 MW. The rest as in `settle`.
+pub fn settle_flows<N: Exact>(
+    alloc: Global,
+    market: &Market,
+    dispatch: &[N],
+    flows: &[N],
+    prices: &[Price<N>],
+    duals: &Duals<N>,
+) -> Result<Money<N>, MoneyStop<N>>
+    requires dispatch { length dispatch.now ≡ length market.now.blocks }
+    requires flows { map N.value flows.now ≡ flows_at market.now (dispatch_of N.value dispatch.now) }
+    requires prices { length prices.now ≡ length market.now.buses }
+    requires duals { ProperDuals market.now (duals_at N.value duals.now) }
+    ensures money { IfOk result (λ money. money_at N.value money ≡ settlement_at market.now (dispatch_of N.value dispatch.now) (total_at N.value prices.now) (duals_at N.value duals.now)) }
+    ensures fits { IfOk result (FitsMoney market.now duals.now) }
+    ensures surplus_is_rents { IfOk result (λ money. IsSupportedAt market.now (dispatch_of N.value dispatch.now) (total_at N.value prices.now) (duals_at N.value duals.now) → N.value money.surplus ≡ sum_by (λ rent. N.value rent.rent) money.rents) }
+    ensures not_negative { IfOk result (λ money. IsSupportedAt market.now (dispatch_of N.value dispatch.now) (total_at N.value prices.now) (duals_at N.value duals.now) → HasOffsetsWithin market.now (duals_at N.value duals.now) → zero ≤ℚ N.value money.surplus) }
+    ensures cause { IfErr result (IsMoneyStop N.value N.bound market.now (dispatch_of N.value dispatch.now) (total_at N.value prices.now) (duals_at N.value duals.now)) }
+{
+    let _lines = market.lines();
+    let units = unit_pays(alloc, market, dispatch, prices)?;
+    let loads = loads(alloc, market, prices)?;
+    let rents = rents(alloc, market, flows, duals)?;
+    let surplus = surplus(loads.slice(), units.slice())?;
+    Ok(Money {
+        units,
+        loads,
+        rents,
+        surplus,
+    })
 }
 
 /// The settlement of a dispatch at bus prices, one for each bus, with duals as an answer has them: what units are paid, loads pay and
@@ -54,17 +109,8 @@ pub fn settle<N: Exact>(
     ensures fits { IfOk result (FitsMoney market.now duals.now) }
     ensures surplus_is_rents { IfOk result (λ money. IsSupportedAt market.now (dispatch_of N.value dispatch.now) (total_at N.value prices.now) (duals_at N.value duals.now) → N.value money.surplus ≡ sum_by (λ rent. N.value rent.rent) money.rents) }
     ensures not_negative { IfOk result (λ money. IsSupportedAt market.now (dispatch_of N.value dispatch.now) (total_at N.value prices.now) (duals_at N.value duals.now) → HasOffsetsWithin market.now (duals_at N.value duals.now) → zero ≤ℚ N.value money.surplus) }
-    ensures cause { IfErr result (IsMoneyStop N.value N.bound market.now (dispatch_of N.value dispatch.now) (total_at N.value prices.now) (duals_at N.value duals.now)) }
+    ensures cause { IfErr result (IsSettlementStop N.value N.bound market.now (dispatch_of N.value dispatch.now) (total_at N.value prices.now) (duals_at N.value duals.now)) }
 {
-    let _lines = market.lines();
-    let units = unit_pays(alloc, market, dispatch, prices)?;
-    let loads = loads(alloc, market, prices)?;
-    let rents = rents(alloc, market, dispatch, duals)?;
-    let surplus = surplus(loads.slice(), units.slice())?;
-    Ok(Money {
-        units,
-        loads,
-        rents,
-        surplus,
-    })
+    let flows = flows_made(alloc, market, dispatch)?;
+    settle_flows(alloc, market, dispatch, &flows, prices, duals)
 }

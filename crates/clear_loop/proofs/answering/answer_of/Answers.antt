@@ -33,8 +33,8 @@ returns-in_err-welfare-clause-cause g c = λ rows solved.
     (welfare_range m rows (dispatch_of value c.args.dispatch) (duals_at value c.args.duals) c.lines-lines.ensures.market solved g.N.Exact.bound (passed_at value c.in_err-welfare.field-0.0) c.requires.feasible
     (subst (λ xs. IsRefusedIn (welfare_terms m (dispatch_of value xs)) g.N.Exact.bound (passed_at value c.in_err-welfare.field-0.0)) c.slice.ensures c.in_err-welfare.ensures.cause))
 
-pub settle-requires-clause-prices : goal.settle-requires-clause-prices
-settle-requires-clause-prices g c = ap length c.slice-3.ensures ∙ price_count g.N.Exact.value c.args.market.now (duals_at g.N.Exact.value c.args.duals) c.in_ok-prices.prices c.in_ok-prices.ensures.prices
+pub settle_flows-requires-clause-prices : goal.settle_flows-requires-clause-prices
+settle_flows-requires-clause-prices g c = ap length c.slice-3.ensures ∙ price_count g.N.Exact.value c.args.market.now (duals_at g.N.Exact.value c.args.duals) c.in_ok-prices.prices c.in_ok-prices.ensures.prices
 
 pub returns-in-Err-clause-cause : goal.returns-in-Err-clause-cause
 returns-in-Err-clause-cause g c = λ rows solved.

@@ -1,6 +1,8 @@
-use Rattle.std.proofs.Common.{◌≡◌, take}
+use Rattle.std.proofs.Common.{◌≡◌, map}
+use Rattle.market_model.specs.Dispatch.{places}
+use Rattle.market_model.specs.RightAnswers.{price_made}
+use Rattle.market_model.specs.Valued.{duals_at, price_at}
 use Rattle.clear_loop.proofs.answering.bus_prices.Given as goal
 
--- the prices pushed so far
-abbrev pub invariant-loop-price : goal.invariant-loop-price
-invariant-loop-price g l = l.list ≡ take l.price-index l.price-items
+abbrev pub invariant-loop-bus : goal.invariant-loop-bus
+invariant-loop-bus g l = map (price_at g.N.Exact.value) l.prices ≡ map (price_made l.market (duals_at g.N.Exact.value l.duals)) (places l.bus)

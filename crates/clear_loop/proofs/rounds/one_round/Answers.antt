@@ -1,10 +1,6 @@
-use Rattle.std.proofs.Common.{Err, ◌≡◌, ◌∙◌, ap, sym, subst, refl, length}
-use Rattle.std.specs.Prelude.{ℕ, Option, MatchOption, Contains}
+use Rattle.std.proofs.Common.{Err, ◌≡◌, ◌∙◌, ap, sym, subst, refl, length, map}
 use Rattle.std.proofs.lemmas.Result.{err_from_is_err_and}
-use Rattle.market_model.specs.declared.limits.Row.{Row}
-use Rattle.market_model.specs.LimitRows.{flow, rows, most_flow}
-use Rattle.market_model.specs.Overrun.{IsWorst}
-use Rattle.market_model.specs.Optimality.{Feasible, Within}
+use Rattle.market_model.specs.Optimality.{Feasible}
 use Rattle.market_model.specs.Valued.{duals_at}
 use Rattle.market_system.specs.Outcomes.{PricesOnly}
 use Rattle.market_system.proofs.GrowthLaws.{growth_none}
@@ -13,6 +9,8 @@ use Rattle.market_dict.specs.Findings.{IsFound, IsSolvedBy}
 use Rattle.market_dict.specs.declared.solving.Found.{Found}
 use Rattle.market_dict.specs.declared.solving.Found.TheVariants as found
 use Rattle.market_dict.specs.declared.stop.Stop.TheVariants as stop
+use Rattle.limit_screen.specs.Flows.{flows_at}
+use Rattle.clear_loop.specs.Rounds.{IsScreened}
 use Rattle.clear_loop.specs.Starts.{rows_in}
 use Rattle.clear_loop.proofs.BrokenLemmas.{worst_broken, worst_inside}
 use Rattle.clear_loop.proofs.HandLemmas.{dispatch_count, feasible_over_all}
@@ -73,8 +71,8 @@ returns-in-Nothing-clause-round g c =
     subst (λ (f : Found g.row.N.Denot). IsFound g.N.Exact.value m rs f) c.in-Nothing.is (c.in_ok-dict.ensures.found rs holds) in
     (record { holds = none.0; names = c.requires.names; end = (none.1, none.2) }, refl)
 
-pub broken-requires : goal.broken-requires
-broken-requires g c =
+pub screened_at-requires : goal.screened_at-requires
+screened_at-requires g c =
     let m = c.args.market.now in
     let rs = rows_in c.args.hand.taken in
     let holds =
@@ -117,8 +115,8 @@ with_row-requires-clause-row g c =
     let m = c.args.market.now in
     let x = dispatch_of value c.slice-3.result.now in
     let worst =
-    subst (λ (o : Option Row). MatchOption o ((r : Row) → Contains (rows m) r → Within (most_flow m r) (flow m x r)) (λ row. (place : ℕ) × IsWorst m (flow m x) place row)) c.in-Some.is c.in_ok-row.ensures.screened in
-    worst_inside m x worst.0 c.in-Some.row worst.1
+    subst (IsScreened value m x) c.in-Broken.is c.in_ok-row.ensures.screened in
+    worst_inside m x worst.0 c.in-Broken.row worst.1
 
 pub with_row-requires-clause-broken : goal.with_row-requires-clause-broken
 with_row-requires-clause-broken g c =
@@ -132,10 +130,10 @@ with_row-requires-clause-broken g c =
     let best : IsFound value m rs (found.Best c.in-Best.dict c.in-Best.dispatch c.in-Best.duals) =
     subst (λ (f : Found g.row.N.Denot). IsFound value m rs f) c.in-Best.is (c.in_ok-dict.ensures.found rs holds) in
     let worst =
-    subst (λ (o : Option Row). MatchOption o ((r : Row) → Contains (rows m) r → Within (most_flow m r) (flow m x r)) (λ row. (place : ℕ) × IsWorst m (flow m x) place row)) c.in-Some.is c.in_ok-row.ensures.screened in (
+    subst (IsScreened value m x) c.in-Broken.is c.in_ok-row.ensures.screened in (
       x,
       best_for m rs x (duals_at value c.in-Best.duals) c.lines-lines.ensures.market (subst (λ xs. IsSolvedBy m rs (dispatch_of value xs) (duals_at value c.in-Best.duals)) (sym c.slice-3.ensures) best.1),
-      worst_broken m x worst.0 c.in-Some.row worst.1,
+      worst_broken m x worst.0 c.in-Broken.row worst.1,
     )
 
 pub answer_of-requires-clause-solved : goal.answer_of-requires-clause-solved
@@ -162,12 +160,20 @@ answer_of-requires-clause-feasible g c =
     let best : IsFound value m rs (found.Best c.in-Best.dict c.in-Best.dispatch c.in-Best.duals) =
     subst (λ (f : Found g.row.N.Denot). IsFound value m rs f) c.in-Best.is (c.in_ok-dict.ensures.found rs holds) in
     let all =
-    subst (λ (o : Option Row). MatchOption o ((r : Row) → Contains (rows m) r → Within (most_flow m r) (flow m x r)) (λ row. (place : ℕ) × IsWorst m (flow m x) place row)) c.in-None.is c.in_ok-row.ensures.screened in
+    subst (IsScreened value m x) c.in-Within.is c.in_ok-row.ensures.screened in
     subst (λ xs. Feasible m (dispatch_of value xs)) c.slice-3.ensures
-    (feasible_over_all m rs x (best_for m rs x d c.lines-lines.ensures.market (subst (λ xs. IsSolvedBy m rs (dispatch_of value xs) d) (sym c.slice-3.ensures) best.1)) all)
+    (feasible_over_all m rs x (best_for m rs x d c.lines-lines.ensures.market (subst (λ xs. IsSolvedBy m rs (dispatch_of value xs) d) (sym c.slice-3.ensures) best.1)) all.0)
 
-pub returns-in_err-answer-in-None-clause-cause : goal.returns-in_err-answer-in-None-clause-cause
-returns-in_err-answer-in-None-clause-cause g c =
+pub answer_of-requires-clause-flows : goal.answer_of-requires-clause-flows
+answer_of-requires-clause-flows g c =
+    let value = g.N.Exact.value in
+    let m = c.args.market.now in
+    let x = dispatch_of value c.slice-3.result.now in
+    let all = subst (IsScreened value m x) c.in-Within.is c.in_ok-row.ensures.screened in
+    ap (map value) c.deref.ensures.value ∙ all.1 ∙ ap (λ xs. flows_at m (dispatch_of value xs)) c.slice-3.ensures
+
+pub returns-in_err-answer-in-Within-clause-cause : goal.returns-in_err-answer-in-Within-clause-cause
+returns-in_err-answer-in-Within-clause-cause g c =
     let m = c.args.market.now in
     let rs = rows_in c.args.hand.taken in
     let holds =
@@ -175,12 +181,12 @@ returns-in_err-answer-in-None-clause-cause g c =
     c.lines-lines.ensures.market c.in_ok-posed.posed c.in_ok-posed.ensures.posed in
     let best : IsFound g.N.Exact.value m rs (found.Best c.in-Best.dict c.in-Best.dispatch c.in-Best.duals) =
     subst (λ (f : Found g.row.N.Denot). IsFound g.N.Exact.value m rs f) c.in-Best.is (c.in_ok-dict.ensures.found rs holds) in
-    let p = err_from_is_err_and c.from_residual-in_err-answer-in-None.result c.from_residual-in_err-answer-in-None.ensures.1 in
-    let given : c.from_residual-in_err-answer-in-None.result ≡ Err c.in_err-answer-in-None.field-0.0 = p.1 ∙ ap Err p.2 in
-    rw given (c.in_err-answer-in-None.ensures.cause rs best.1)
+    let p = err_from_is_err_and c.from_residual-in_err-answer-in-Within.result c.from_residual-in_err-answer-in-Within.ensures.1 in
+    let given : c.from_residual-in_err-answer-in-Within.result ≡ Err c.in_err-answer-in-Within.field-0.0 = p.1 ∙ ap Err p.2 in
+    rw given (c.in_err-answer-in-Within.ensures.cause rs best.1)
 
-pub returns-in_ok-with_row-in-Some-clause-round : goal.returns-in_ok-with_row-in-Some-clause-round
-returns-in_ok-with_row-in-Some-clause-round g c =
+pub returns-in_ok-with_row-in-Broken-clause-round : goal.returns-in_ok-with_row-in-Broken-clause-round
+returns-in_ok-with_row-in-Broken-clause-round g c =
     let value = g.N.Exact.value in
     let m = c.args.market.now in
     let rs = rows_in c.args.hand.taken in
@@ -191,22 +197,22 @@ returns-in_ok-with_row-in-Some-clause-round g c =
     let best : IsFound value m rs (found.Best c.in-Best.dict c.in-Best.dispatch c.in-Best.duals) =
     subst (λ (f : Found g.row.N.Denot). IsFound value m rs f) c.in-Best.is (c.in_ok-dict.ensures.found rs holds) in
     let worst =
-    subst (λ (o : Option Row). MatchOption o ((r : Row) → Contains (rows m) r → Within (most_flow m r) (flow m x r)) (λ row. (place : ℕ) × IsWorst m (flow m x) place row)) c.in-Some.is c.in_ok-row.ensures.screened in (
-      c.in_ok-with_row-in-Some.ensures.hand,
+    subst (IsScreened value m x) c.in-Broken.is c.in_ok-row.ensures.screened in (
+      c.in_ok-with_row-in-Broken.ensures.hand,
       (
-        c.in-Some.row,
-        c.in_ok-with_row-in-Some.ensures.rows,
-        worst_inside m x worst.0 c.in-Some.row worst.1,
+        c.in-Broken.row,
+        c.in_ok-with_row-in-Broken.ensures.rows,
+        worst_inside m x worst.0 c.in-Broken.row worst.1,
         (
           x,
           best_for m rs x (duals_at value c.in-Best.duals) c.lines-lines.ensures.market (subst (λ xs. IsSolvedBy m rs (dispatch_of value xs) (duals_at value c.in-Best.duals)) (sym c.slice-3.ensures) best.1),
-          worst_broken m x worst.0 c.in-Some.row worst.1,
+          worst_broken m x worst.0 c.in-Broken.row worst.1,
         ),
       ),
     )
 
-pub returns-in_ok-answer-in-None-clause-round : goal.returns-in_ok-answer-in-None-clause-round
-returns-in_ok-answer-in-None-clause-round g c =
+pub returns-in_ok-answer-in-Within-clause-round : goal.returns-in_ok-answer-in-Within-clause-round
+returns-in_ok-answer-in-Within-clause-round g c =
     let value = g.N.Exact.value in
     let m = c.args.market.now in
     let rs = rows_in c.args.hand.taken in
@@ -219,9 +225,9 @@ returns-in_ok-answer-in-None-clause-round g c =
         holds = best.0;
         names = c.requires.names;
         end = (
-          c.in_ok-answer-in-None.ensures.fits,
-          c.in_ok-answer-in-None.ensures.right,
-          subst (λ ds. PricesOnly m rs (duals_at value ds)) (sym c.in_ok-answer-in-None.ensures.duals)
+          c.in_ok-answer-in-Within.ensures.fits,
+          c.in_ok-answer-in-Within.ensures.right,
+          subst (λ ds. PricesOnly m rs (duals_at value ds)) (sym c.in_ok-answer-in-Within.ensures.duals)
               (prices_only m rs (dispatch_of value c.in-Best.dispatch) (duals_at value c.in-Best.duals) c.lines-lines.ensures.market best.1),
         );
       },

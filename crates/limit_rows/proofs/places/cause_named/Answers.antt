@@ -1,24 +1,28 @@
-use Rattle.std.proofs.Common.{◌≡◌, ℕ, ◌<◌, List, length, get_or, sym, ap, subst, ◌∙◌, arith}
+use Rattle.std.proofs.Common.{◌≡◌, ℕ, ◌<◌, List, Some, length, get_or, slice_get, sym, ap, subst, ◌∙◌, arith}
 use Rattle.std.specs.Prelude.{Contains}
 use Rattle.market_model.specs.Dispatch.{line_at}
 use Rattle.market_model.proofs.ChangeLemmas.{same_default}
 use Rattle.market_model.specs.declared.limits.Cause.TheVariants.{Branch}
-use Rattle.market_model.specs.LimitRows.{causes}
+use Rattle.market_model.specs.LimitRows.{causes, place_of_line}
+use Rattle.market_model.specs.LostLines.{lost_lines}
+use Rattle.limit_rows.proofs.GroupLemmas.{lost_line-of}
 use Rattle.limit_rows.proofs.PlaceLemmas.{of_outage, of_none}
 use Rattle.limit_rows.proofs.places.cause_named.Goals as goal
 
 pub returns-then-listed-outage : goal.returns-then-listed-outage
 returns-then-listed-outage c =
     let m = c.args.market.now in
-    let listed : c.slice-listed-items.result.now ≡ m.outages = c.slice-listed-items.ensures ∙ c.outages.ensures.list in
-    let i = c.loop-listed.listed-index in
-    let inside : i < length m.outages = let long = ap length listed in omega (arith, c.loop-listed-test.true, long) in
+    let listed : c.slice-outages.result.now ≡ m.outages = c.slice-outages.ensures ∙ c.outages.ensures.list in
+    let i = c.loop-place.place in
+    let inside : i < length m.outages = let long = ap length listed in omega (arith, c.loop-place-test.true, long) in
     let is : get_or m.outages i c.args.outage ≡ c.args.outage = same_default m.outages i c.args.outage 0 inside ∙ ap (λ (os : List ℕ). get_or os i 0) (sym listed) ∙ c.if-listed-outage.true in
-    subst (λ (l : ℕ). Contains (causes m) (Branch l) × ((line_at m l).row ≡ c.args.outage)) (sym c.place_of_line.ensures) (of_outage m c.outages.ensures.market i c.args.outage inside is)
+    let lost : slice_get (lost_lines m) i ≡ Some c.at.result.now = rw c.lost_lines.ensures.list at c.at.ensures in
+    let line : c.at.result.now ≡ place_of_line m c.args.outage = lost_line-of m i c.args.outage c.at.result.now inside is lost in
+    subst (λ (l : ℕ). Contains (causes m) (Branch l) × ((line_at m l).row ≡ c.args.outage)) (sym line) (of_outage m c.outages.ensures.market i c.args.outage inside is)
 
 pub returns : goal.returns
 returns c =
     let m = c.args.market.now in
-    let listed : c.slice-listed-items.result.now ≡ m.outages = c.slice-listed-items.ensures ∙ c.outages.ensures.list in
+    let listed : c.slice-outages.result.now ≡ m.outages = c.slice-outages.ensures ∙ c.outages.ensures.list in
     of_none m c.outages.ensures.market c.args.outage c.if-outage-eq0.false
-    (λ k lt e. c.loop-listed.invariant k (let long = ap length listed in let end = c.loop-listed-test.false in omega (arith, lt, long, end)) (ap (λ (os : List ℕ). get_or os k 0) listed ∙ e))
+    (λ k lt e. c.loop-place.invariant k (let long = ap length listed in let end = c.loop-place-test.false in omega (arith, lt, long, end)) (ap (λ (os : List ℕ). get_or os k 0) listed ∙ e))

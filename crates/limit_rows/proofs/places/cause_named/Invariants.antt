@@ -1,5 +1,5 @@
 use Rattle.std.proofs.Common.{◌≡◌, ℕ, ◌<◌, get_or}
 use Rattle.limit_rows.proofs.places.cause_named.Given as goal
 
-abbrev pub invariant-loop-listed : goal.invariant-loop-listed
-invariant-loop-listed l = (k : ℕ) → k < l.listed-index → get_or l.listed-items k 0 ≡ l.outage → ⊥
+abbrev pub invariant-loop-place : goal.invariant-loop-place
+invariant-loop-place l = (k : ℕ) → k < l.place → get_or l.outages k 0 ≡ l.outage → ⊥

@@ -6,7 +6,8 @@ use Rattle.market_model.specs.Dispatch.{empty}
 use Rattle.market_model.specs.Valued.{passed_at}
 use Rattle.market_model.proofs.SumSteps.{refusal}
 use Rattle.market_model.proofs.PlaceLists.{put_read}
-use Rattle.market_dict.proofs.TermLemmas.{flow_count, bus_at_place, balance_step, balance_refused, balance_all}
+use Rattle.limit_screen.proofs.ScreenLemmas.{flow_count}
+use Rattle.market_dict.proofs.TermLemmas.{bus_at_place, balance_step, balance_refused, balance_all}
 use Rattle.market_dict.proofs.posing.residual_demand.Goals as goal
 
 pub bounds-base_flows-bus : goal.bounds-base_flows-bus

@@ -8,12 +8,12 @@ use Rattle.exact_fraction.specs.declared.Op.TheVariants.{Minus}
 use Rattle.market_model.specs.Dispatch.{empty}
 use Rattle.market_model.specs.LimitRows.{flow, limit}
 use Rattle.market_model.specs.NamedSums.{IsRefusedIn}
+use Rattle.market_model.specs.SumTables.{flow_of_row}
 use Rattle.market_model.specs.Valued.{passed_at}
 use Rattle.market_model.proofs.SumSteps.{refusal}
 use Rattle.limit_rows.proofs.PlaceLemmas.{at_places}
-use Rattle.limit_screen.proofs.ScreenLemmas.{law_of_row_flows}
-use Rattle.market_dict.specs.Refusals.{of_flow, of_high, of_low}
-use Rattle.market_dict.proofs.TermLemmas.{flow_count, row_terms}
+use Rattle.limit_screen.proofs.ScreenLemmas.{flow_count, law_of_row_flows, row_terms}
+use Rattle.market_dict.specs.Refusals.{of_high, of_low, of_sum, of_bound}
 use Rattle.market_dict.proofs.posing.row_bounds.Goals as goal
 
 pub row_flow-requires-clause-flows : goal.row_flow-requires-clause-flows
@@ -33,8 +33,8 @@ returns-in_err-flow-clause-cause g c =
     let m = c.args.market.now in
     let given : c.from_residual.result ≡ Err c.in_err-flow.field-0.0 = search rules in
     rw given
-    (of_flow (subst (λ (ts : List Term). IsRefusedIn ts g.N.Exact.bound (passed_at g.N.Exact.value c.in_err-flow.field-0.0))
-    (row_terms m (empty m) (map g.N.Exact.value c.args.base_flows.now) c.requires.base_flows c.args.row c.lines-lines.ensures.market c.requires.row) c.in_err-flow.ensures.cause))
+    (of_sum (_, flow_of_row c.args.row c.requires.row, subst (λ (ts : List Term). IsRefusedIn ts g.N.Exact.bound (passed_at g.N.Exact.value c.in_err-flow.field-0.0))
+    (row_terms m (empty m) (map g.N.Exact.value c.args.base_flows.now) c.args.row c.lines-lines.ensures.market c.requires.base_flows c.requires.row) c.in_err-flow.ensures.cause))
 
 pub returns-in_err-high-clause-cause : goal.returns-in_err-high-clause-cause
 returns-in_err-high-clause-cause g c =
@@ -44,7 +44,7 @@ returns-in_err-high-clause-cause g c =
     let limit_is = c.datum-limit.ensures ∙ ap whole known ∙ c.limit_at.ensures.limit in
     let flow_is = c.in_ok-flow.ensures.flow ∙ law_of_row_flows m (empty m) (map g.N.Exact.value c.args.base_flows.now) r c.lines-lines.ensures.market c.requires.base_flows c.requires.row in
     let given : c.from_residual-in_err-high.result ≡ Err c.in_err-high.field-0.0 = search rules in
-    rw given (of_high (refusal g.N.Exact.value g.N.Exact.bound Minus c.datum-limit.result c.in_ok-flow.flow (limit m r) (flow m (empty m) r) c.in_err-high.field-0.0 limit_is flow_is c.in_err-high.ensures))
+    rw given (of_bound c.args.row c.requires.row (of_high (refusal g.N.Exact.value g.N.Exact.bound Minus c.datum-limit.result c.in_ok-flow.flow (limit m r) (flow m (empty m) r) c.in_err-high.field-0.0 limit_is flow_is c.in_err-high.ensures)))
 
 pub returns-in_err-low-clause-cause : goal.returns-in_err-low-clause-cause
 returns-in_err-low-clause-cause g c =
@@ -54,7 +54,7 @@ returns-in_err-low-clause-cause g c =
     let limit_is = c.datum-limit.ensures ∙ ap whole known ∙ c.limit_at.ensures.limit in
     let flow_is = c.in_ok-flow.ensures.flow ∙ law_of_row_flows m (empty m) (map g.N.Exact.value c.args.base_flows.now) r c.lines-lines.ensures.market c.requires.base_flows c.requires.row in
     let given : c.from_residual-in_err-low.result ≡ Err c.in_err-low.field-0.0 = search rules in
-    rw given (of_low (refusal g.N.Exact.value g.N.Exact.bound Minus c.neg.result c.in_ok-flow.flow (neg_ℚ (limit m r)) (flow m (empty m) r) c.in_err-low.field-0.0 (c.neg.ensures ∙ ap neg_ℚ limit_is) flow_is c.in_err-low.ensures))
+    rw given (of_bound c.args.row c.requires.row (of_low (refusal g.N.Exact.value g.N.Exact.bound Minus c.neg.result c.in_ok-flow.flow (neg_ℚ (limit m r)) (flow m (empty m) r) c.in_err-low.field-0.0 (c.neg.ensures ∙ ap neg_ℚ limit_is) flow_is c.in_err-low.ensures)))
 
 pub returns-clause-low : goal.returns-clause-low
 returns-clause-low g c =

@@ -1,7 +1,6 @@
 use Rattle.std.proofs.Common.{rules, Err, ◌≡◌, ◌∙◌, map, ap}
 use Rattle.market_system.specs.MarketSystem.{low as low_of, high as high_of}
 use Rattle.simplex_core.specs.declared.bounds.Bounds.{Bounds}
-use Rattle.market_dict.specs.Refusals.{of_row}
 use Rattle.market_dict.specs.declared.stop.Stop.TheVariants.{Passed as StoppedBy}
 use Rattle.market_dict.proofs.TermLemmas.{bound_more}
 use Rattle.market_dict.proofs.posing.take_bounds.Goals as goal
@@ -9,7 +8,7 @@ use Rattle.market_dict.proofs.posing.take_bounds.Goals as goal
 pub returns-in_err-bounds-clause-cause : goal.returns-in_err-bounds-clause-cause
 returns-in_err-bounds-clause-cause g c =
     let given : c.from_residual.result ≡ Err (StoppedBy c.in_err-bounds.field-0.0) = search rules in
-    rw given (of_row c.args.row c.requires.row c.in_err-bounds.ensures.cause)
+    rw given c.in_err-bounds.ensures.cause
 
 pub returns-clause-taken : goal.returns-clause-taken
 returns-clause-taken g c = λ rs are.

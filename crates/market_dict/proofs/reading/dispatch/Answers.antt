@@ -1,9 +1,8 @@
 use Rattle.std.proofs.Common.{◌≡◌, ◌+◌, ◌∙◌, List, ℕ, map, ap, subst, sym, length, arith}
-use Rattle.fraction_theory.specs.Fraction.{Fraction}
 use Rattle.linear_dict.specs.Dictionaries.{note_of, choice_of}
 use Rattle.linear_dict.specs.Notes.{Noted}
 use Rattle.linear_system.specs.Choices.{value as value_of}
-use Rattle.market_model.specs.Dispatch.{Dispatch, places}
+use Rattle.market_model.specs.Dispatch.{places, dispatch_by}
 use Rattle.market_system.specs.MarketSystem.{system_of}
 use Rattle.market_system.proofs.VariableLaws.{from_places}
 use Rattle.market_dict.proofs.HoldingLaws.{block_named, shown_value}
@@ -27,7 +26,7 @@ returns g c = λ rs holds.
     let m = c.args.market.now in
     let d = c.args.dict.now in
     let all : c.loop-block.block ≡ length m.blocks = omega (arith, c.loop-block-test.false, c.loop-block.auto.block-end, c.len-block-end.ensures, ap length c.blocks-2.ensures.list) in
-    ap (λ (xs : List Fraction). let x : Dispatch = record { blocks = xs } in x)
+    ap dispatch_by
     (c.loop-block.invariant ∙ ap (λ (n : ℕ). map (λ w. (note_of d w).value) (places n)) all
     ∙ map-members (λ w. (note_of d w).value) (value_of (system_of m rs) (choice_of d)) (places (length m.blocks))
     (λ w k. shown_value m rs d holds c.requires.shows w (block_named m rs d holds.holds w (from_places (length m.blocks) w k))))

@@ -4,19 +4,13 @@ use Rattle.market_model.specs.Optimality.{named_rows}
 use Rattle.market_model.specs.RightAnswers.{rent_of}
 use Rattle.market_model.specs.Valued.{dual_at, duals_at, passed_at, rent_at}
 use Rattle.limit_rows.proofs.DualLemmas.{named_count}
-use Rattle.limit_rows.proofs.PlaceLemmas.{at_places}
-use Rattle.market_model.specs.PutIn.{dispatch_of, put_in}
+use Rattle.limit_screen.specs.Flows.{line_in}
 use Rattle.settlement.specs.declared.stops.MoneyStop.TheVariants as why
 use Rattle.settlement.specs.Paying.{earned_by}
 use Rattle.settlement.specs.Refusals.{IsRentRefusal}
 use Rattle.settlement.proofs.ListLemmas.{put_next, all_put_next}
 use Rattle.settlement.proofs.RowLemmas.{dual_one_sided, dual_row, earned_is, row_refusal}
 use Rattle.settlement.proofs.rents.rents.Goals as goal
-
-pub returns-in_err-flows-clause-cause : goal.returns-in_err-flows-clause-cause
-returns-in_err-flows-clause-cause g c =
-    let given : c.from_residual.result ≡ Err c.in_err-flows.field-0.0 = search rules in
-    λ price. rw given (c.in_err-flows.ensures.cause price _)
 
 pub found_row-row-requires : goal.found_row-row-requires
 found_row-row-requires g c =
@@ -33,42 +27,36 @@ pub loop-dual-preserved : goal.loop-dual-preserved
 loop-dual-preserved g c =
     let m = c.args.market.now in
     let value = g.N.Exact.value in
-    let x = dispatch_of value c.args.dispatch.now in
     let d = duals_at value c.args.duals.now in
     let k = c.loop-dual.dual-index in
     let e = dual_at value c.dual-item.result in
-    let fs = map value c.deref.result.now in
-    let are = ap (map value) c.deref.ensures.value ∙ c.in_ok-flows.ensures.mws in
+    let fs = map value c.args.flows.now in
     let r = dual_row value m c.args.duals.now c.requires.duals c.slice-dual-items.result.now k c.dual-item.result c.slice-dual-items.ensures c.loop-dual-test.true c.dual-item.is c.lines-lines.ensures.market in
     let is = c.found_row-row.ensures.is r.0 r.1.row r.1.name in
-    let places = at_places m c.lines-lines.ensures.market r.0 r.1.row in
-    put_next (rent_at value) (rent_of m x d) (named_rows m d) c.loop-dual.rents c.push.new.self c.in_ok-rent.rent k r.0 r.1.inside r.1.at c.in_ok-push.ensures c.loop-dual.invariant
-    (c.in_ok-rent.ensures.rent ∙ ap (earned_by m (put_in fs) e) is ∙ earned_is m x fs are d k e r.0 r.1 places.0 places.1)
+    λ x are. put_next (rent_at value) (rent_of m x d) (named_rows m d) c.loop-dual.rents c.push.new.self c.in_ok-rent.rent k r.0 r.1.inside r.1.at c.in_ok-push.ensures (c.loop-dual.invariant x are)
+    (c.in_ok-rent.ensures.rent ∙ ap (earned_by m (line_in m fs) e) is ∙ earned_is m x fs are d k e r.0 r.1 c.lines-lines.ensures.market)
 
 pub returns-clause-rents : goal.returns-clause-rents
 returns-clause-rents g c =
     let m = c.args.market.now in
     let value = g.N.Exact.value in
     let d = duals_at value c.args.duals.now in
-    c.loop-dual.invariant
-    ∙ all_put_next (rent_of m (dispatch_of value c.args.dispatch.now) d) (named_rows m d) c.args.duals.now.limits (dual_at value) c.loop-dual.dual-index
+    λ x are. c.loop-dual.invariant x are
+    ∙ all_put_next (rent_of m x d) (named_rows m d) c.args.duals.now.limits (dual_at value) c.loop-dual.dual-index
     (named_count m c.lines-lines.ensures.market d c.requires.duals.named) (omega (arith, c.loop-dual-test.false, ap length c.slice-dual-items.ensures))
 
 pub returns-in_err-rent-clause-cause : goal.returns-in_err-rent-clause-cause
 returns-in_err-rent-clause-cause g c =
     let m = c.args.market.now in
     let value = g.N.Exact.value in
-    let x = dispatch_of value c.args.dispatch.now in
     let d = duals_at value c.args.duals.now in
     let k = c.loop-dual.dual-index in
     let e = dual_at value c.dual-item.result in
-    let fs = map value c.deref.result.now in
+    let fs = map value c.args.flows.now in
     let p = passed_at value c.in_err-rent.field-0.0 in
-    let are = ap (map value) c.deref.ensures.value ∙ c.in_ok-flows.ensures.mws in
     let r = dual_row value m c.args.duals.now c.requires.duals c.slice-dual-items.result.now k c.dual-item.result c.slice-dual-items.ensures c.loop-dual-test.true c.dual-item.is c.lines-lines.ensures.market in
     let is = c.found_row-row.ensures.is r.0 r.1.row r.1.name in
-    let places = at_places m c.lines-lines.ensures.market r.0 r.1.row in
-    let given : c.from_residual-in_err-rent.result ≡ Err (why.Passed c.in_err-rent.field-0.0) = search rules in
-    λ price. rw given
-    (row_refusal m x fs are d k e r.0 r.1 places.0 places.1 price g.N.Exact.bound p
-    (subst (λ (t : Row). IsRentRefusal m (put_in fs) e t g.N.Exact.bound p) is c.in_err-rent.ensures.cause))
+    let given : c.from_residual.result ≡ Err (why.Passed c.in_err-rent.field-0.0) = search rules in
+    λ x price are. rw given
+    (row_refusal m x fs are d k e r.0 r.1 c.lines-lines.ensures.market price g.N.Exact.bound p
+    (subst (λ (t : Row). IsRentRefusal m (line_in m fs) e t g.N.Exact.bound p) is c.in_err-rent.ensures.cause))

@@ -3,7 +3,7 @@ use mir.Val.{to_z, of_z}
 use Rattle.market_data.specs.declared.participants.Bus.{Bus}
 use Rattle.market_model.specs.declared.participants.Parts.{Parts}
 use Rattle.market_model.specs.Changes.{with_demand}
-use Rattle.market_model.specs.Factors.{IsTable}
+use Rattle.market_model.specs.Factors.{factor_in, IsTable}
 use Rattle.market_model.specs.Market.{IsMarket}
 use Rattle.std.proofs.lemmas.List.{length-set}
 use Rattle.market_model.proofs.ChangeLemmas.{put_demand, kept_demand}
@@ -22,8 +22,8 @@ invariant_of-self c =
     let long : length c.self.inside.parts.buses ≡ length c.set.new.self = sym (ap length c.set.ensures ∙ length-set c.self.inside.parts.buses c.args.bus _) in (
       subst IsMarket (sym (changed c)) (kept_demand c.self.inside.parts c.self.invariant.0 c.args.bus c.args.pd
           (subst (λ (m : Parts). c.args.bus < length m.buses) (sym c.self.view_is) c.requires.bus) c.requires.load),
-      subst (λ (n : ℕ). IsTable c.self.inside.parts.shift (length c.self.inside.parts.lines) n c.self.inside.shift.items) long c.self.invariant.1,
-      c.self.invariant.2,
+      subst (λ (n : ℕ). IsTable (length c.self.inside.parts.lines) n (factor_in c.self.inside.parts.shift) c.self.inside.shift.items) long c.self.invariant.1,
+      record { lines = c.self.invariant.2.lines; index = c.self.invariant.2.index; factors = c.self.invariant.2.factors },
     )
 
 pub returns : goal.returns

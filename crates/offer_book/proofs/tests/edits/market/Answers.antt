@@ -8,7 +8,7 @@ use Rattle.market_model.specs.declared.participants.Block.{Block}
 use Rattle.market_model.specs.declared.participants.Line.{Line}
 use Rattle.market_model.specs.declared.participants.Parts.{Parts}
 use Rattle.market_model.specs.declared.participants.Side.TheVariants.{Sell, Buy}
-use Rattle.market_model.specs.Market.{IsMarket, IsBlock, IsLine, HasRoom}
+use Rattle.market_model.specs.Market.{bare_parts, IsMarket, IsBlock, IsLine, HasRoom}
 use Rattle.market_model.specs.Stairs.{stair_in}
 use Rattle.offer_book.proofs.tests.edits.market.Goals as goal
 
@@ -28,7 +28,7 @@ abbrev the_line : Line
 the_line = record { row = 2; base = Some (pos 40000000000); post = None; offset = pos 0 }
 
 abbrev the_parts : Parts
-the_parts = record { buses = the_bus ∷ []; units = the_unit ∷ []; blocks = cheap ∷ dear ∷ []; lines = the_line ∷ []; outages = []; shift = []; loss = [] }
+the_parts = record (bare_parts (the_bus ∷ []) (the_unit ∷ []) (cheap ∷ dear ∷ [])) { lines = the_line ∷ [] }
 
 has_room : HasRoom (cheap ∷ dear ∷ []) 0 the_unit
 unfolding stair_in

@@ -1,0 +1,97 @@
+use Rattle.std.proofs.Common.{rules, Err, subst₂, ◌≡◌, ◌∙◌, List, map, sym}
+use Rattle.std.proofs.lemmas.List.{length-map}
+use Rattle.fraction_theory.specs.Fraction.{Fraction, neg_ℚ, ◌+ℚ◌}
+use Rattle.fraction_theory.specs.Sums.{sum_by}
+use Rattle.market_model.specs.declared.answered.Load.{Load}
+use Rattle.market_model.specs.declared.answered.Money.{Money}
+use Rattle.market_model.specs.declared.answered.Rent.{Rent}
+use Rattle.market_model.specs.declared.answered.UnitPay.{UnitPay}
+use Rattle.market_model.specs.NamedSums.{IsRefusedIn}
+use Rattle.market_model.specs.Valued.{duals_at, load_at, money_at, passed_at, rent_at, unit_pay_at}
+use Rattle.market_model.specs.PutIn.{dispatch_of}
+use Rattle.limit_screen.proofs.ScreenLemmas.{flow_count}
+use Rattle.settlement.specs.declared.stops.MoneyStop.TheVariants as why
+use Rattle.market_model.specs.Settlement.{pay_of_load, pay_of_unit}
+use Rattle.settlement.specs.Paying.{total_at, paid_terms}
+use Rattle.settlement.specs.Refusals.{of_money}
+use Rattle.settlement.proofs.ListLemmas.{sum_by-map}
+use Rattle.settlement.proofs.MoneyLemmas.{surplus_is, surplus_refused, rents_are_left, left_not_negative, count_fits, rows_fit}
+use Rattle.settlement.proofs.settling.settle_flows.Goals as goal
+
+pub returns-in_err-units-clause-cause : goal.returns-in_err-units-clause-cause
+returns-in_err-units-clause-cause g c =
+    let given : c.from_residual.result ≡ Err c.in_err-units.field-0.0 = search rules in
+    rw given (c.in_err-units.ensures.cause (duals_at g.N.Exact.value c.args.duals.now))
+
+pub returns-in_err-loads-clause-cause : goal.returns-in_err-loads-clause-cause
+returns-in_err-loads-clause-cause g c =
+    let given : c.from_residual-in_err-loads.result ≡ Err c.in_err-loads.field-0.0 = search rules in
+    rw given (c.in_err-loads.ensures.cause (dispatch_of g.N.Exact.value c.args.dispatch.now) (duals_at g.N.Exact.value c.args.duals.now))
+
+pub rents-requires-clause-flows : goal.rents-requires-clause-flows
+rents-requires-clause-flows g c =
+    sym (length-map c.args.flows.now g.N.Exact.value) ∙ flow_count c.args.market.now (dispatch_of g.N.Exact.value c.args.dispatch.now) (map g.N.Exact.value c.args.flows.now) c.requires.flows
+
+pub returns-in_err-rents-clause-cause : goal.returns-in_err-rents-clause-cause
+returns-in_err-rents-clause-cause g c =
+    let given : c.from_residual-in_err-rents.result ≡ Err c.in_err-rents.field-0.0 = search rules in
+    rw given (c.in_err-rents.ensures.cause (dispatch_of g.N.Exact.value c.args.dispatch.now) (total_at g.N.Exact.value c.args.prices.now) c.requires.flows)
+
+pub returns-in_err-surplus-clause-cause : goal.returns-in_err-surplus-clause-cause
+returns-in_err-surplus-clause-cause g c =
+    let m = c.args.market.now in
+    let value = g.N.Exact.value in
+    let x = dispatch_of value c.args.dispatch.now in
+    let price = total_at value c.args.prices.now in
+    let p = passed_at value c.in_err-surplus.field-0.0 in
+    let given : c.from_residual-in_err-surplus.result ≡ Err (why.Passed c.in_err-surplus.field-0.0) = search rules in
+    rw given
+    (of_money
+    (
+    (surplus_refused value m x price c.in_ok-loads.loads c.in_ok-units.units c.in_ok-loads.ensures.loads c.in_ok-units.ensures.pays g.N.Exact.bound p
+    (subst₂ (λ (ls : List (Load g.row.N.Denot)) (us : List (UnitPay g.row.N.Denot)). IsRefusedIn (paid_terms value ls us) g.N.Exact.bound p) c.slice.ensures c.slice-2.ensures c.in_err-surplus.ensures.cause))))
+
+pub returns-clause-money : goal.returns-clause-money
+returns-clause-money g c =
+    let value = g.N.Exact.value in
+    λ i. record {
+      units = c.in_ok-units.ensures.pays i;
+      loads = c.in_ok-loads.ensures.loads i;
+      rents = c.in_ok-rents.ensures.rents (dispatch_of value c.args.dispatch.now) c.requires.flows i;
+      surplus = surplus_is value c.args.market.now (dispatch_of value c.args.dispatch.now) (total_at value c.args.prices.now) c.in_ok-loads.loads c.in_ok-units.units c.in_ok-loads.ensures.loads c.in_ok-units.ensures.pays
+          (value c.in_ok-surplus.surplus)
+          (subst₂ (λ (ls : List (Load g.row.N.Denot)) (us : List (UnitPay g.row.N.Denot)).
+          value c.in_ok-surplus.surplus ≡ sum_by (λ (l : Load g.row.N.Denot). value l.pays) ls +ℚ sum_by (λ (u : UnitPay g.row.N.Denot). neg_ℚ (value u.paid)) us)
+          c.slice.ensures c.slice-2.ensures c.in_ok-surplus.ensures.left) i;
+    }
+
+pub returns-clause-fits : goal.returns-clause-fits
+returns-clause-fits g c =
+    let m = c.args.market.now in
+    let value = g.N.Exact.value in
+    let x = dispatch_of value c.args.dispatch.now in
+    let price = total_at value c.args.prices.now in
+    record {
+      units = count_fits (unit_pay_at value) (pay_of_unit m x price) c.in_ok-units.units _ c.in_ok-units.ensures.pays;
+      loads = count_fits (load_at value) (pay_of_load m price) c.in_ok-loads.loads _ c.in_ok-loads.ensures.loads;
+      rents = rows_fit value m x c.args.duals.now c.in_ok-rents.rents c.requires.duals.named (c.in_ok-rents.ensures.rents x c.requires.flows);
+    }
+
+pub returns-clause-surplus_is_rents : goal.returns-clause-surplus_is_rents
+returns-clause-surplus_is_rents g c =
+    let m = c.args.market.now in
+    let value = g.N.Exact.value in
+    let x = dispatch_of value c.args.dispatch.now in
+    let money : Money g.row.N.Denot = record { units = c.in_ok-units.units; loads = c.in_ok-loads.loads; rents = c.in_ok-rents.rents; surplus = c.in_ok-surplus.surplus } in
+    λ best.
+    rents_are_left m x (duals_at value c.args.duals.now) (total_at value c.args.prices.now) c.lines-lines.ensures.market (money_at value money) (returns-clause-money g c) best
+    ∙ sum_by-map (rent_at value) (λ (r : Rent Fraction). r.rent) c.in_ok-rents.rents
+
+pub returns-clause-not_negative : goal.returns-clause-not_negative
+returns-clause-not_negative g c =
+    let m = c.args.market.now in
+    let value = g.N.Exact.value in
+    let x = dispatch_of value c.args.dispatch.now in
+    let money : Money g.row.N.Denot = record { units = c.in_ok-units.units; loads = c.in_ok-loads.loads; rents = c.in_ok-rents.rents; surplus = c.in_ok-surplus.surplus } in
+    λ best.
+    left_not_negative m x (duals_at value c.args.duals.now) (total_at value c.args.prices.now) c.lines-lines.ensures.market (money_at value money) (returns-clause-money g c) best
