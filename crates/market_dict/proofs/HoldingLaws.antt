@@ -15,7 +15,7 @@ use Rattle.linear_system.specs.SameSystems.{SameRows, SameSystem}
 use Rattle.linear_system.specs.Systems.{System, IsSystem}
 use Rattle.linear_system.proofs.SameSystems.{same_choice_of, same_pair, same_rows_choice}
 use Rattle.linear_dict.specs.Causes.{IsPairOf, IsPairWith}
-use Rattle.linear_dict.specs.Dictionaries.{Dictionary, IsDictionary, IsStart, AddsRow, system_of as system_in, choice_of, note_of}
+use Rattle.linear_dict.specs.Dictionaries.{Dictionary, IsDictionary, IsStart, AddsRow, system_in, choice_of, note_of}
 use Rattle.linear_dict.specs.Places.{is_among}
 use Rattle.linear_dict.proofs.NameLemmas.{among-tells, among-from}
 use Rattle.linear_dict.proofs.SplitLemmas.{system_is}
@@ -35,7 +35,7 @@ use Rattle.limit_rows.proofs.ApartLemmas.{names_apart}
 use Rattle.limit_rows.proofs.FactorLemmas.{stands}
 use Rattle.market_system.specs.declared.variables.Variable.{Variable}
 use Rattle.market_system.specs.declared.variables.Variable.TheVariants.{Block, Balance, Limit}
-use Rattle.market_system.specs.MarketSystem.{balance_name, row_name, in_order, block_sign, residual_demand, block_coefficient, name, coefficient, price, low, high, columns, row_variables, variables, variable_of, system_over, system_of}
+use Rattle.market_system.specs.MarketSystem.{balance_name, row_name, in_order, block_sign, residual_demand, block_coefficient, name, coefficient, objective_price, low, high, columns, row_variables, variables, variable_of, system_over, system_of}
 use Rattle.market_system.specs.SolvedLaws.{AreRows, AnswersBy, StuckShows, state_at}
 use Rattle.market_system.proofs.DualLists.{rows_apart}
 use Rattle.market_system.proofs.FrameLaws.{law_of_the_frame, rows_in_turn, same_columns, same_names}
@@ -280,10 +280,10 @@ module _ {N : Type 0} (value_of : N → Fraction) (m : Parts) (g : List Row) (d 
   row_at : (v : Variable) (c : Contains (row_variables g) v) → slice_index d.rows c.0 ≡ name m v
   row_at v c = ap (λ (ws : List ℕ). slice_index ws c.0) holds.rows ∙ at_member (name m) (row_variables g) v c 0
 
-  price_is : (v : Variable) → Contains (columns m) v → (system_in e).price (name m v) ≡ price m v
+  price_is : (v : Variable) → Contains (columns m) v → (system_in e).price (name m v) ≡ objective_price m v
   price_is v c =
       ap (system_in e).price (sym (column_at v c)) ∙ posing.price c.0 (Prim.omega (arith, count, c.1)) ∙ ap (λ (xs : List Fraction). get_or xs c.0 nil) priced
-      ∙ at_member (price m) (columns m) v c nil
+      ∙ at_member (objective_price m) (columns m) v c nil
 
   -- a bound of each, by the list of those handed in
   module _ (bound : ℕ → Fraction) (of : Variable → Fraction) (list : List Fraction) (is : list ≡ map of (variables m g))

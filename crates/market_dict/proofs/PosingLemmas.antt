@@ -7,7 +7,7 @@ use Rattle.linear_dict.specs.Dictionaries.{Dictionary}
 use Rattle.simplex_core.specs.declared.bounds.Bounds.{Bounds}
 use Rattle.market_model.specs.declared.participants.Parts.{Parts}
 use Rattle.market_model.specs.declared.limits.Row.{Row}
-use Rattle.market_system.specs.MarketSystem.{name, price, low, columns, row_variables, variables}
+use Rattle.market_system.specs.MarketSystem.{name, objective_price, low, columns, row_variables, variables}
 use Rattle.market_dict.specs.Holding.{HoldsMarket}
 use Rattle.market_dict.specs.PricesAndBounds.{ArePricesAndBounds}
 use Rattle.market_dict.specs.declared.posing.PricesAndBounds.{PricesAndBounds}
@@ -20,7 +20,7 @@ module _ {N : Type 0} (value : N → Fraction) (m : Parts) (g : List Row) (d : D
   row_count = ap length holds.rows ∙ length-map (row_variables g) (name m)
 
   pub price_count : length t.prices ≡ length d.columns
-  price_count = sym (length-map t.prices value) ∙ ap length are.prices ∙ length-map (columns m) (price m) ∙ sym column_count
+  price_count = sym (length-map t.prices value) ∙ ap length are.prices ∙ length-map (columns m) (objective_price m) ∙ sym column_count
 
   pub bound_count : length t.bounds ≡ length d.columns + length d.rows
   bound_count =

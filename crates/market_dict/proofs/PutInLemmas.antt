@@ -4,7 +4,7 @@ use Rattle.std.proofs.Common.{arith, ap, ap₂, sym, ◌∙◌, get_or}
 use Rattle.std.proofs.lemmas.List.{length-append, get_or_append_left, get_or-append-add}
 use Rattle.fraction_theory.specs.Fraction.{Fraction, whole}
 use Rattle.linear_system.specs.SameSystems.{SameRows}
-use Rattle.linear_dict.specs.Dictionaries.{Dictionary, IsDictionary, IsStart, AddsRow, system_of}
+use Rattle.linear_dict.specs.Dictionaries.{Dictionary, IsDictionary, IsStart, AddsRow, system_in}
 use Rattle.linear_dict.specs.Places.{place_in, is_among}
 use Rattle.linear_dict.specs.Tables.{cell}
 use Rattle.linear_dict.proofs.NameLemmas.{place_in-at, place_in-within}
@@ -15,13 +15,13 @@ nil = whole (pos 0)
 
 -- by the places of a row and a column
 module _ (d : Dictionary) (sound : IsDictionary d) where
-  by_places : (i k r j : ℕ) → i < length d.rows → slice_index d.rows i ≡ r → k < length d.columns → slice_index d.columns k ≡ j → (system_of d).coefficient r j ≡ cell (length d.columns) d.coefficients i k
-  unfolding system_of
+  by_places : (i k r j : ℕ) → i < length d.rows → slice_index d.rows i ≡ r → k < length d.columns → slice_index d.columns k ≡ j → (system_in d).coefficient r j ≡ cell (length d.columns) d.coefficients i k
+  unfolding system_in
   by_places i k r j hi at_i hk at_k = ap₂ (cell (length d.columns) d.coefficients) (place_in-at d.rows i r sound.put_in.first_distinct hi at_i) (place_in-at d.columns k j sound.put_in.second_distinct hk at_k)
 
 -- of the first row
 pub start_coefficient : {N : Type 0} (value : N → Fraction) (names : List ℕ) (row : ℕ) (entries : List N) (d : Dictionary) → IsStart value names row entries d
-    → (k : ℕ) → k < length names → (system_of d).coefficient row (slice_index names k) ≡ get_or (map value entries) k nil
+    → (k : ℕ) → k < length names → (system_in d).coefficient row (slice_index names k) ≡ get_or (map value entries) k nil
 unfolding cell
 start_coefficient value names row entries d start k lt =
     let wide : length d.columns ≡ length names = ap length start.columns in
@@ -38,7 +38,7 @@ module _ {N : Type 0} (value : N → Fraction) (old new : Dictionary) (row : ℕ
   wide : length new.columns ≡ length old.columns
   wide = ap length adds.columns
 
-  pub kept_coefficient : (r j : ℕ) → Contains old.rows r → Contains old.columns j → (system_of new).coefficient r j ≡ (system_of old).coefficient r j
+  pub kept_coefficient : (r j : ℕ) → Contains old.rows r → Contains old.columns j → (system_in new).coefficient r j ≡ (system_in old).coefficient r j
   unfolding cell
   kept_coefficient r j c k =
       let p = place_in-within old.rows r c in
@@ -52,7 +52,7 @@ module _ {N : Type 0} (value : N → Fraction) (old new : Dictionary) (row : ℕ
       ∙ get_or_append_left old.coefficients (map value entries) nil (i * length old.columns + l) inside
       ∙ sym (by_places old sound i l r j p.0 p.1 q.0 q.1)
 
-  pub added_coefficient : (k : ℕ) → k < length old.columns → (system_of new).coefficient row (slice_index old.columns k) ≡ get_or (map value entries) k nil
+  pub added_coefficient : (k : ℕ) → k < length old.columns → (system_in new).coefficient row (slice_index old.columns k) ≡ get_or (map value entries) k nil
   unfolding cell
   added_coefficient k lt =
       let last : length old.rows ≡ length old.rows + 0 = Prim.omega arith in
@@ -65,8 +65,8 @@ module _ {N : Type 0} (value : N → Fraction) (old new : Dictionary) (row : ℕ
       ∙ get_or-append-add old.coefficients (map value entries) k nil
 
 -- of a dictionary with the same lists
-pub same_put_in : (d e : Dictionary) → e.columns ≡ d.columns → e.rows ≡ d.rows → e.coefficients ≡ d.coefficients → e.names ≡ d.names → SameRows (system_of e) (system_of d)
-unfolding system_of
+pub same_put_in : (d e : Dictionary) → e.columns ≡ d.columns → e.rows ≡ d.rows → e.coefficients ≡ d.coefficients → e.names ≡ d.names → SameRows (system_in e) (system_in d)
+unfolding system_in
 same_put_in d e columns rows coefficients names = record {
   variables = names;
   columns = ap₂ (λ (cs ns : List ℕ). filter (is_among cs) ns) columns names;

@@ -23,7 +23,7 @@ use Rattle.linear_system.specs.Choices.{Choice, at_bound, basics, value, value_t
 use Rattle.linear_system.specs.Numbers.{Quantity, SystemNumber, is_low, is_high, is_value}
 use Rattle.linear_system.specs.Pairs.{IsPairCase, subtracted, IsSummand, plain, alone, OfEither, IsSystemPair}
 use Rattle.linear_system.specs.Systems.{System}
-use Rattle.linear_dict.specs.Dictionaries.{Dictionary, IsDictionary, system_of as system_in, choice_of, note_of}
+use Rattle.linear_dict.specs.Dictionaries.{Dictionary, IsDictionary, system_in, choice_of, note_of}
 use Rattle.linear_dict.proofs.SplitLemmas.{Contains-at}
 use Rattle.simplex_core.specs.Outcomes.{ShowsChoice}
 use Rattle.simplex_core.specs.States.{state_of}

@@ -16,7 +16,7 @@ use Rattle.market_model.specs.declared.limits.Row.{Row}
 use Rattle.market_model.proofs.ListSteps.{map-map}
 use Rattle.market_system.specs.declared.variables.Variable.{Variable}
 use Rattle.market_system.specs.declared.variables.Variable.TheVariants as variable
-use Rattle.market_system.specs.MarketSystem.{price, columns, row_variables, variables}
+use Rattle.market_system.specs.MarketSystem.{objective_price, columns, row_variables, variables}
 use Rattle.market_dict.specs.Holding.{prices}
 use Rattle.market_dict.proofs.ListedLemmas.{map-pushed}
 use Rattle.market_model.specs.Optimality.{block_value}
@@ -65,7 +65,7 @@ quantity_read m k block high at e = e ∙ ap (λ (b : Block). whole b.quantity) 
 
 -- ---- prices and bounds of the variables
 pub prices_are : (m : Parts) → prices m ≡ map (block_value m) (places (length m.blocks))
-prices_are m = map-map variable.Block (price m) (places (length m.blocks))
+prices_are m = map-map variable.Block (objective_price m) (places (length m.blocks))
 
 -- with no limit row
 pub first_ones : (m : Parts) (of : Variable → Fraction) → map of (variables m []) ≡ map (λ j. of (variable.Block j)) (places (length m.blocks)) ++ of variable.Balance ∷ []

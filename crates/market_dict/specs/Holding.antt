@@ -3,10 +3,10 @@
 use Rattle.std.specs.Prelude.{◌≡◌, false, List, map}
 use Rattle.fraction_theory.specs.Fraction.{Fraction}
 use Rattle.linear_system.specs.SameSystems.{SameRows, SameSystem}
-use Rattle.linear_dict.specs.Dictionaries.{Dictionary, IsDictionary, system_of as system_in}
+use Rattle.linear_dict.specs.Dictionaries.{Dictionary, IsDictionary, system_in}
 use Rattle.market_model.specs.declared.participants.Parts.{Parts}
 use Rattle.market_model.specs.declared.limits.Row.{Row}
-use Rattle.market_system.specs.MarketSystem.{name, price, low, high, columns as columns_of, row_variables, variables, system_of}
+use Rattle.market_system.specs.MarketSystem.{name, objective_price, low, high, columns as columns_of, row_variables, variables, system_of}
 use Rattle.market_system.specs.SolvedLaws.{AreRows}
 
 -- Its system has the rows of the market's system over these limit rows; its columns were put in in the market's order, and its rows as the
@@ -27,7 +27,7 @@ pub record HoldsSystem (m : Parts) (g : List Row) (d : Dictionary) : Type 0 wher
 
 -- ---- the prices and bounds of a market's variables, in the order in which its dictionary has them
 abbrev pub prices : Parts → List Fraction
-prices m = map (price m) (columns_of m)
+prices m = map (objective_price m) (columns_of m)
 
 abbrev pub lows : Parts → List Row → List Fraction
 lows m g = map (low m) (variables m g)

@@ -4,7 +4,7 @@ ghost use Rattle.std.specs.Prelude.{◌≡◌, ℕ, ◌<◌, false, not, List, �
 ghost use Rattle.fraction_theory.specs.Fraction.{Fraction, neg_ℚ};
 ghost use Rattle.fraction_theory.specs.Signs.{sign_of};
 ghost use Rattle.linear_dict.specs.Causes.{IsPairOf};
-ghost use Rattle.linear_dict.specs.Dictionaries.{IsDictionary, choice_of, note_of, system_of as system_in};
+ghost use Rattle.linear_dict.specs.Dictionaries.{IsDictionary, choice_of, note_of, system_in};
 ghost use Rattle.simplex_core.specs.Outcomes.{ShowsChoice};
 ghost use Rattle.simplex_theory.specs.Steps.{opposite_if};
 ghost use Rattle.simplex_theory.specs.Stuck.{multiplier as multiplier_of, margin as margin_of};

@@ -20,7 +20,7 @@ use Rattle.market_model.specs.Optimality.{block_value}
 use Rattle.market_model.proofs.ListSteps.{map-map}
 use Rattle.market_system.specs.declared.variables.Variable.{Variable}
 use Rattle.market_system.specs.declared.variables.Variable.TheVariants.{Block, Balance, Limit}
-use Rattle.market_system.specs.MarketSystem.{balance_name, row_name, name, coefficient, price, low, high, columns, row_variables, variables, named, variable_of, system_over}
+use Rattle.market_system.specs.MarketSystem.{balance_name, row_name, name, coefficient, objective_price, low, high, columns, row_variables, variables, named, variable_of, system_over}
 use Rattle.market_system.proofs.RowOrder.{increasing-from_pairs, pairs-append, pairs-map}
 
 -- ---- members of lists
@@ -239,9 +239,9 @@ module _ (m : Parts) (rs : List Row) where
     unfolding system_over
     coefficient-at r j is_row is_column = ap₂ (coefficient m) (variable_at r is_row) (variable_at j is_column)
 
-    pub price-at : (j : Variable) → IsOf m rs j → s.price (name m j) ≡ price m j
+    pub price-at : (j : Variable) → IsOf m rs j → s.price (name m j) ≡ objective_price m j
     unfolding system_over
-    price-at j is = ap (price m) (variable_at j is)
+    price-at j is = ap (objective_price m) (variable_at j is)
 
     pub low-at : (v : Variable) → IsOf m rs v → s.low (name m v) ≡ low m v
     unfolding system_over
