@@ -1,8 +1,8 @@
 -- Steps of the congestion at a bus, dual by dual.
-use Rattle.std.specs.Prelude.{◌≡◌, ◌⊎◌, ℕ, ◌+◌, ◌<◌, ◌≤◌, pos, false, List, [], ◌∷◌, ◌++◌, map, filter, length, take, refl}
-use Rattle.std.proofs.Common.{inl, inr, ap, ap₂, sym, subst, ◌∙◌, get_or}
+use Rattle.std.specs.Prelude.{◌≡◌, ◌⊎◌, ℕ, ◌+◌, ◌≤◌, pos, false, List, [], ◌∷◌, ◌++◌, map, filter, length, take, refl}
+use Rattle.std.proofs.Common.{inl, inr, ap, ap₂, sym, subst, ◌∙◌}
 use Rattle.std.proofs.lemmas.List.Elements.{All-nil}
-use Rattle.std.proofs.lemmas.List.{get_or-map, take_all}
+use Rattle.std.proofs.lemmas.List.{take_all}
 use Rattle.fraction_theory.specs.Fraction.{Fraction, whole, neg_ℚ, ◌+ℚ◌, ◌-ℚ◌, ◌*ℚ◌}
 use Rattle.fraction_theory.specs.Sums.{sum_by, Term, Product, term_value, total}
 use Rattle.fraction_theory.specs.Order.{◌<ℚ◌}
@@ -23,14 +23,9 @@ use Rattle.market_model.specs.declared.limits.Row.{Row}
 use Rattle.market_model.specs.LimitRows.{rows, row_id, row_factor}
 use Rattle.market_model.specs.NamedSums.{IsRefusal, IsRefusedIn, IsShareRefusal}
 use Rattle.market_model.specs.Optimality.{IsOneSided, ProperDuals, net_shadow_price, names_row, named_rows, congestion, congestion_terms, congestion_by}
-use Rattle.market_model.specs.Valued.{dual_at}
 use Rattle.market_model.proofs.MorePlaces.{sum_by_more}
 use Rattle.market_model.proofs.SumSteps.{plus_at, multiplied_at}
 use Rattle.limit_rows.proofs.DualLemmas.{IsRowOfDual, up_unnamed, down_unnamed, sum_named, terms_named}
-
--- a dual that was read, with the values of its numbers
-pub dual_read : {N : Type 0} (value : N → Fraction) (ds : List (Dual N)) (k : ℕ) (e : Dual N) → k < length ds → e ≡ get_or ds k e → dual_at value e ≡ get_or (map (dual_at value) ds) k (dual_at value e)
-dual_read value ds k e h is = sym (get_or-map (dual_at value) ds k e (dual_at value e) h ∙ ap (dual_at value) (sym is))
 
 module _ (m : Parts) (d : Duals Fraction) (i : ℕ) where
   abbrev term : Row → Term

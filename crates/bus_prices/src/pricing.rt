@@ -1,11 +1,9 @@
 //! The price at each bus, in its two parts.
 
-ghost use Rattle.std.specs.Prelude.{◌≡◌, ◌<◌, ◌^◌, length, map, unsigned_abs, Contains, IfOk, IfErr};
+ghost use Rattle.std.specs.Prelude.{◌≡◌, ◌<◌, ◌^◌, length, map, unsigned_abs, IfOk, IfErr};
 ghost use Rattle.fraction_theory.specs.Fraction.{neg_ℚ, over, ◌+ℚ◌, ◌-ℚ◌, ◌*ℚ◌};
 ghost use Rattle.market_data.specs.Scales.{factor_product_one};
 ghost use Rattle.market_model.specs.Dispatch.{places};
-ghost use Rattle.market_model.specs.declared.limits.Row.{Row};
-ghost use Rattle.market_model.specs.LimitRows.{rows, row_factor, row_id};
 ghost use Rattle.market_model.specs.NamedSums.{IsRefusedIn, IsShareRefusal};
 ghost use Rattle.market_model.specs.Optimality.{IsOneSided, ProperDuals, congestion, congestion_terms};
 ghost use Rattle.market_model.specs.Valued.{dual_at, duals_at, passed_at, price_at};
@@ -13,9 +11,9 @@ ghost use Rattle.market_model.specs.RightAnswers.{price_made};
 ghost use Rattle.bus_prices.specs.Prices.{IsPriceRefusal};
 
 use exact_fraction::{Exact, Passed, Sign};
-use limit_rows::{factor_at, row_named};
+use limit_rows::factor;
 use market_data::FACTOR_PRODUCT_ONE;
-use market_model::{Dual, Duals, Market, Price, RowId};
+use market_model::{Dual, Duals, Market, Price};
 
 /// The opposite of what a MW on the flow of a dual's row costs: the price of its lower side, or less that of its upper one.
 fn opposite_net_price<N: Exact>(dual: &Dual<N>) -> N
@@ -25,20 +23,6 @@ fn opposite_net_price<N: Exact>(dual: &Dual<N>) -> N
     match dual.down.sign() {
         Sign::Zero => dual.up.neg(),
         Sign::Below | Sign::Above => dual.down,
-    }
-}
-
-/// The factor of the row of a name at a bus, in 10^-12.
-fn factor_named(market: &Market, name: RowId, bus: usize) -> i64
-    requires row { (r : Row) × Contains (rows market.now) r × (row_id market.now r ≡ name) }
-    requires bus { bus < length market.now.buses }
-    ensures size { unsigned_abs result < 2 ^ 63 }
-    ensures is { (r : Row) → Contains (rows market.now) r → row_id market.now r ≡ name → over result factor_product_one ≡ row_factor market.now r bus }
-{
-    let _lines = market.lines();
-    match row_named(market, name) {
-        Some(row) => factor_at(market, row, bus),
-        None => unreachable!(),
     }
 }
 
@@ -62,11 +46,7 @@ fn congestion_at<N: Exact>(market: &Market, duals: &Duals<N>, bus: usize) -> Res
     let _lines = market.lines();
     let mut sum: N = N::of_parts(0, 1);
     for dual in duals.limits.slice() {
-        sum = with_row(
-            sum,
-            opposite_net_price(dual),
-            factor_named(market, dual.row, bus),
-        )?;
+        sum = with_row(sum, opposite_net_price(dual), factor(market, dual.row, bus))?;
     }
     Ok(sum)
 }

@@ -17,11 +17,11 @@ first_buses n seed k = record (bare_parts
     (map (λ i. bus_of i (drawn seed i)) (places k))
     (map unit_of (places k))
     (flat_map (λ i. blocks_of i (drawn seed i)) (places k))) {
-  lines = map (λ i. line_of i (drawn seed i)) (places k);
-  outages = map (λ i. i + 1) (places k);
-  shift = factors_by (shift_of n) n;
-  loss = factors_by loss_of n;
-}
+      lines = map (λ i. line_of i (drawn seed i)) (places k);
+      outages = map (λ i. i + 1) (places k);
+      shift = factors_by (shift_of n) n;
+      loss = factors_by loss_of n;
+    }
 
 pub no-bus : (n seed : ℕ) (buses : List Bus) (units : List unit.Unit) (blocks : List Block) (lines : List Line) (outages : List ℕ) (shift loss : List Factor)
     → buses ≡ [] → units ≡ [] → blocks ≡ [] → lines ≡ [] → outages ≡ [] → shift ≡ factors_by (shift_of n) n → loss ≡ factors_by loss_of n

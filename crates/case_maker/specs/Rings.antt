@@ -96,11 +96,11 @@ ring_of n seed = record (bare_parts
     (map (λ i. bus_of i (drawn seed i)) (places n))
     (map unit_of (places n))
     (flat_map (λ i. blocks_of i (drawn seed i)) (places n))) {
-  lines = map (λ i. line_of i (drawn seed i)) (places n);
-  outages = map (λ i. i + 1) (places n);
-  shift = factors_by (shift_of n) n;
-  loss = factors_by loss_of n;
-}
+      lines = map (λ i. line_of i (drawn seed i)) (places n);
+      outages = map (λ i. i + 1) (places n);
+      shift = factors_by (shift_of n) n;
+      loss = factors_by loss_of n;
+    }
 
 -- a market with one bus more: with its unit, its blocks and the branch that leaves it, which is an outage too
 abbrev pub with_bus : Parts → ℕ → Drawn → Parts

@@ -5,15 +5,10 @@ use Rattle.linear_dict.specs.Dictionaries.{Dictionary, IsDictionary, pivoted}
 use Rattle.market_model.specs.declared.participants.Parts.{Parts}
 use Rattle.market_model.specs.declared.limits.Row.{Row}
 use Rattle.market_dict.specs.Holding.{HoldsMarket}
+use Rattle.market_dict.proofs.HoldingLaws.{holds_same}
 
 -- it holds the market over the same rows
 pub holds_exchanged : (m : Parts) (g : List Row) (d e : Dictionary) (r c : ℕ) → HoldsMarket m g d → e ≡ pivoted d r c → IsDictionary e → HoldsMarket m g e
 unfolding pivoted
-holds_exchanged m g d e r c holds is sound = record {
-  live = ap (λ (x : Dictionary). x.spent) is ∙ holds.live;
-  sound = sound;
-  columns = ap (λ (x : Dictionary). x.columns) is ∙ holds.columns;
-  rows = ap (λ (x : Dictionary). x.rows) is ∙ holds.rows;
-  coefficients = ap (λ (x : Dictionary). x.coefficients) is ∙ holds.coefficients;
-  limits = holds.limits;
-}
+holds_exchanged m g d e r c holds is sound =
+    holds_same m g d e holds (ap (λ (x : Dictionary). x.spent) is ∙ holds.live) sound (ap (λ (x : Dictionary). x.columns) is) (ap (λ (x : Dictionary). x.rows) is) (ap (λ (x : Dictionary). x.coefficients) is) (ap (λ (x : Dictionary). x.names) is)

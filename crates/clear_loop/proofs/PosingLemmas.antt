@@ -1,8 +1,6 @@
 -- A start is posed at the prices and bounds of the market.
-use Rattle.std.specs.Prelude.{◌≡◌, ℕ, ◌+◌, List, ◌∷◌, length, map, All, Option, IfSome}
-use Rattle.std.proofs.Common.{arith, ap, sym, subst, ◌∙◌, length-append}
-use Rattle.std.proofs.lemmas.List.{length-map}
-use Rattle.std.proofs.lemmas.List.FromFn.{length-map-range_with_len, length-range_with_len}
+use Rattle.std.specs.Prelude.{◌≡◌, ℕ, ◌+◌, List, length, map, All, Option, IfSome}
+use Rattle.std.proofs.Common.{ap, sym, subst, ◌∙◌}
 use Rattle.fraction_theory.specs.Fraction.{Fraction}
 use Rattle.fraction_theory.specs.Order.{◌≤ℚ◌}
 use Rattle.exact_fraction.specs.declared.Passed.{Passed}
@@ -10,48 +8,29 @@ use Rattle.linear_dict.specs.Dictionaries.{Dictionary}
 use Rattle.simplex_core.specs.Posings.{IsPairPosed, IsPosing}
 use Rattle.simplex_core.specs.declared.bounds.Bounds.{Bounds}
 use Rattle.market_model.specs.declared.participants.Parts.{Parts}
-use Rattle.market_model.specs.Dispatch.{places, quantity}
 use Rattle.market_model.specs.declared.limits.Row.{Row}
 use Rattle.market_model.specs.Market.{IsMarket}
-use Rattle.market_model.specs.Optimality.{block_value}
 use Rattle.market_model.specs.Valued.{passed_at}
-use Rattle.market_system.specs.MarketSystem.{balance_name, row_name, residual_demand, most_added}
 use Rattle.market_system.specs.WorkingPairs.{IsRangeOf}
 use Rattle.market_system.proofs.GrowthLaws.{growth_none}
-use Rattle.market_dict.specs.Holding.{HoldsMarket, HoldsSystem, lows, highs}
+use Rattle.market_dict.specs.Holding.{HoldsMarket, HoldsSystem, prices as prices_of, lows, highs}
 use Rattle.market_dict.specs.PricesAndBounds.{ArePricesAndBounds}
 use Rattle.market_dict.specs.declared.posing.PricesAndBounds.{PricesAndBounds}
 use Rattle.market_dict.proofs.HoldingLaws.{bounds_ordered, holds_posed, pair_posed}
+use Rattle.market_dict.proofs.PosingLemmas.{price_count, bound_count}
 use Rattle.market_dict.proofs.RefusalLaws.{pair_range}
 use Rattle.clear_loop.specs.Rounds.{HoldsStart}
 
 module _ {N : Type 0} (value : N → Fraction) (m : Parts) (g : List Row) (posing : PricesAndBounds N) (are : ArePricesAndBounds value m g posing) (prices : List N) (bounds : List (Bounds N))
     (priced : prices ≡ posing.prices) (bounded : bounds ≡ posing.bounds) where
-  low_count : length bounds ≡ length m.blocks + (length g + 1)
-  low_count =
-      let back : List Fraction = residual_demand m ∷ map (most_added m) g in
-      let all : length bounds ≡ length (highs m g) = ap length bounded ∙ sym (length-map posing.bounds (λ (b : Bounds N). value b.high)) ∙ ap length are.highs in
-      let split : length (highs m g) ≡ length (map (quantity m) (places (length m.blocks))) + length back = length-append (map (quantity m) (places (length m.blocks))) back in
-      let front : length (map (quantity m) (places (length m.blocks))) ≡ length m.blocks = length-map-range_with_len (quantity m) 0 (length m.blocks) in
-      let rest : length (map (most_added m) g) ≡ length g = length-map g (most_added m) in
-      Prim.omega (arith, all, split, front, rest)
-
   module _ (d : Dictionary) (holds : HoldsMarket m g d) where
-    columns_count : length d.columns ≡ length m.blocks
-    columns_count = ap length holds.columns ∙ length-range_with_len 0 (length m.blocks)
-
     prices_for : length prices ≡ length d.columns
-    prices_for = ap length priced ∙ sym (length-map posing.prices value) ∙ ap length are.prices ∙ length-map-range_with_len (block_value m) 0 (length m.blocks) ∙ sym columns_count
+    prices_for = ap length priced ∙ price_count value m g d posing holds are
 
     bounds_for : length bounds ≡ length d.columns + length d.rows
-    bounds_for =
-        let rows : length d.rows ≡ length (balance_name m ∷ map (row_name m) g) = ap length holds.rows in
-        let names : length (map (row_name m) g) ≡ length g = length-map g (row_name m) in
-        let columns = columns_count in
-        let count = low_count in
-        Prim.omega (arith, rows, names, columns, count)
+    bounds_for = ap length bounded ∙ bound_count value m g d posing holds are
 
-    price_values : map value prices ≡ map (block_value m) (places (length m.blocks))
+    price_values : map value prices ≡ prices_of m
     price_values = ap (map value) priced ∙ are.prices
 
     low_values : map (λ (b : Bounds N). value b.low) bounds ≡ lows m g

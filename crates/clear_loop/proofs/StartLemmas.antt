@@ -1,6 +1,6 @@
 -- A start that fits the frame of a market, and what a clear makes of it.
-use Rattle.std.specs.Prelude.{◌≡◌, ℕ, List, [], map, All, Option, Some, None, Result, Ok, Err, Contains}
-use Rattle.std.proofs.Common.{arith, ap, sym, subst, ◌∙◌, get_or}
+use Rattle.std.specs.Prelude.{◌≡◌, ℕ, List, [], map, All, Option, Some, None, IsSome, Result, Ok, Err, Contains}
+use Rattle.std.proofs.Common.{arith, ap, sym, subst, refl, ◌∙◌, get_or}
 use Rattle.market_model.proofs.ChangeLemmas.{same_default}
 use Rattle.fraction_theory.specs.Fraction.{Fraction}
 use Rattle.linear_dict.specs.Dictionaries.{Dictionary, choice_of}
@@ -17,13 +17,14 @@ use Rattle.market_system.specs.Outcomes.{PricesOnly}
 use Rattle.market_system.specs.SolvedLaws.{AreRows}
 use Rattle.market_system.proofs.GrowthLaws.{growth_none}
 use Rattle.market_dict.specs.Findings.{OnPassed}
-use Rattle.market_dict.specs.Refusals.{IsPosingRefusal}
+use Rattle.market_dict.specs.Holding.{HoldsMarket}
+use Rattle.market_dict.specs.Refusals.{IsBoundsRefusal}
 use Rattle.market_dict.specs.PricesAndBounds.{ArePricesAndBounds}
 use Rattle.market_dict.specs.declared.stop.Stop.{Stop}
 use Rattle.market_dict.specs.declared.stop.Stop.TheVariants as stop
 use Rattle.market_dict.specs.declared.posing.PricesAndBounds.{PricesAndBounds}
 use Rattle.market_dict.proofs.HoldingLaws.{holds_choice}
-use Rattle.clear_loop.specs.Clearing.{ComesTo}
+use Rattle.clear_loop.specs.Clearing.{ClearComesTo}
 use Rattle.clear_loop.specs.Faults.{fault_of}
 use Rattle.clear_loop.specs.Keeping.{Kept, FitsFrame, IsStartOf}
 use Rattle.clear_loop.specs.Rounds.{HoldsStart, IsEnd, IsEnded, IsInHand, StopsInRange}
@@ -32,6 +33,14 @@ use Rattle.clear_loop.specs.declared.fault.ClearFault.TheVariants as why
 use Rattle.clear_loop.specs.declared.hand.Taken.{Taken}
 use Rattle.clear_loop.specs.declared.rounds.Ended.{Ended}
 use Rattle.clear_loop.proofs.StopLemmas.{terms_stop}
+
+-- a start at the margin, where nothing is kept
+pub started_cold : (m : Parts) (k : Kept) (warm started : Option Dictionary) (d : Dictionary) → k.dict ≡ warm → FitsFrame m k → ¬ (IsSome warm) → started ≡ Some d → HoldsMarket m [] d → HoldsStart m k.rows started
+started_cold m k warm started d same fits none is holds = by k.dict same fits
+  where
+    by : (o : Option Dictionary) → o ≡ warm → IsStartOf m k.rows k.names o → HoldsStart m k.rows started
+    by None e f = (d, is, subst (λ (rs : List Row). HoldsMarket m rs d) (sym f.0) holds)
+    by (Some x) e f = absurd (none (subst IsSome e refl))
 
 -- ---- a start
 pub start_named : (m : Parts) (rs : List Row) (names : List RowId) (start : Option Dictionary) → IsStartOf m rs names start → names ≡ map (row_id m) rs
@@ -61,8 +70,8 @@ module _ (m : Parts) (k : Kept) (w : Option Dictionary) (t : Option Taken) (view
       are.rows r (subst (λ (xs : List Row). Contains xs r) same here)
 
   module _ {N : Type 0} (worth : N → Fraction) (warm : Option Dictionary) (start : HoldsStart m k.rows warm) where
-    pub first_stop : (bound : ℕ) (s : Stop N) → IsMarket m → OnPassed s (λ p. IsPosingRefusal m bound (passed_at worth p)) → StopsInRange worth bound m k.rows s
-    first_stop bound s market refused = terms_stop worth bound m k.rows k.rows (choice_of start.0) s market (growth_none m k.rows) (holds_choice m k.rows start.0 market start.2) refused
+    pub first_stop : (bound : ℕ) (s : Stop N) → IsMarket m → OnPassed s (λ p. IsBoundsRefusal m bound (passed_at worth p)) → StopsInRange worth bound m k.rows s
+    first_stop bound s market refused = terms_stop worth bound m k.rows k.rows (choice_of start.0) s market (growth_none m k.rows) (holds_choice m k.rows start.0 start.2) refused
 
     pub first_in_hand : (posing : PricesAndBounds N) (ls : List Row) → ls ≡ taken.rows → ArePricesAndBounds worth m ls posing → IsInHand worth m (record { warm = warm; posing = posing; taken = taken })
     first_in_hand posing ls same are = record {
@@ -73,17 +82,17 @@ module _ (m : Parts) (k : Kept) (w : Option Dictionary) (t : Option Taken) (view
 
 -- ---- how a clear ends
 module _ {N : Type 0} (worth : N → Fraction) (bound : ℕ) (m : Parts) (before after : List Row) (are : AreRows m before) where
-  pub stopped_clear : (s : Stop N) → after ≡ [] → StopsInRange worth bound m before s → ComesTo worth bound m before (Err (fault_of s)) after
+  pub stopped_clear : (s : Stop N) → after ≡ [] → StopsInRange worth bound m before s → ClearComesTo worth bound m before (Err (fault_of s)) after
   stopped_clear (stop.Passed p) none range = record { rows = are; right = range; taken = none; priced = tt }
   stopped_clear stop.Memory none range = tt
 
   module _ (e : Ended N) (ended : IsEnded worth m e) (grown : Growth m before (rows_in e.taken)) (same : after ≡ rows_in e.taken) where
-    pub answered_clear : (a : Answer N) → e.answer ≡ Ok a → ComesTo worth bound m before (Ok a) after
+    pub answered_clear : (a : Answer N) → e.answer ≡ Ok a → ClearComesTo worth bound m before (Ok a) after
     answered_clear a is =
         let end : IsEnd worth m (rows_in e.taken) (Ok a) = subst (λ (r : Result (Answer N) (Farkas N)). IsEnd worth m (rows_in e.taken) r) is ended.end in
         record { rows = are; right = end.1; taken = subst (Growth m before) (sym same) grown; priced = subst (λ g. PricesOnly m g (duals_at worth a.duals)) (sym same) end.2 }
 
-    pub infeasible_clear : (f : Farkas N) → e.answer ≡ Err f → ComesTo worth bound m before (Err (why.Infeasible f)) after
+    pub infeasible_clear : (f : Farkas N) → e.answer ≡ Err f → ClearComesTo worth bound m before (Err (why.Infeasible f)) after
     infeasible_clear f is =
         let end : IsEnd worth m (rows_in e.taken) (Err f) = subst (λ (r : Result (Answer N) (Farkas N)). IsEnd worth m (rows_in e.taken) r) is ended.end in
         record { rows = are; right = end.0; taken = subst (Growth m before) (sym same) grown; priced = subst (λ g. PricesOnly m g (duals_at worth f.duals)) (sym same) end.1 }

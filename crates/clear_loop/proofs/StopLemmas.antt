@@ -21,7 +21,7 @@ use Rattle.settlement.specs.Refusals.{IsMoneyStop}
 use Rattle.settlement.specs.declared.stops.MoneyStop.{MoneyStop}
 use Rattle.settlement.specs.declared.stops.MoneyStop.TheVariants as money
 use Rattle.market_dict.specs.Findings.{IsPairOver, IsSolvedBy, OnPassed}
-use Rattle.market_dict.specs.Refusals.{IsPosingRefusal}
+use Rattle.market_dict.specs.Refusals.{IsBoundsRefusal}
 use Rattle.market_dict.specs.declared.stop.Stop.{Stop}
 use Rattle.market_dict.specs.declared.stop.Stop.TheVariants as stop
 use Rattle.market_dict.proofs.RefusalLaws.{pair_range, posing_range}
@@ -36,7 +36,7 @@ module _ {N : Type 0} (value : N → Fraction) (bound : ℕ) (m : Parts) where
   pair_stop t g stop.Memory grown pair = tt
 
   -- where prices and bounds are made
-  pub terms_stop : (t g : List Row) (h : Choice) (s : Stop N) → IsMarket m → Growth m t g → IsChoice (system_of m g) h → OnPassed s (λ p. IsPosingRefusal m bound (passed_at value p)) → StopsInRange value bound m t s
+  pub terms_stop : (t g : List Row) (h : Choice) (s : Stop N) → IsMarket m → Growth m t g → IsChoice (system_of m g) h → OnPassed s (λ p. IsBoundsRefusal m bound (passed_at value p)) → StopsInRange value bound m t s
   terms_stop t g h (stop.Passed p) market grown choice refused = posing_range m t g h bound (passed_at value p) market grown choice refused
   terms_stop t g h stop.Memory market grown choice refused = tt
 

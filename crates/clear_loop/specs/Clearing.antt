@@ -12,11 +12,11 @@ use Rattle.clear_loop.specs.declared.fault.ClearFault.TheVariants as why
 use Rattle.clear_loop.specs.Keeping.{Kept, cold}
 
 -- from these rows taken before to those after, a clear of the market comes to this outcome; nothing is said where there was no memory
-abbrev pub ComesTo : {N : Type 0} → (N → Fraction) → ℕ → Parts → List Row → Result (Answer N) (ClearFault N) → List Row → Type 0
-ComesTo value bound m before (Ok a) after = IsClear bound m before (outcome.Cleared (answer_at value a)) after
-ComesTo value bound m before (Err (why.Infeasible f)) after = IsClear bound m before (outcome.Infeasible (farkas_at value f)) after
-ComesTo value bound m before (Err (why.Range p)) after = IsClear bound m before (outcome.Range (passed_at value p)) after
-ComesTo value bound m before (Err why.Memory) after = Unit {0}
+abbrev pub ClearComesTo : {N : Type 0} → (N → Fraction) → ℕ → Parts → List Row → Result (Answer N) (ClearFault N) → List Row → Type 0
+ClearComesTo value bound m before (Ok a) after = IsClear bound m before (outcome.Cleared (answer_at value a)) after
+ClearComesTo value bound m before (Err (why.Infeasible f)) after = IsClear bound m before (outcome.Infeasible (farkas_at value f)) after
+ClearComesTo value bound m before (Err (why.Range p)) after = IsClear bound m before (outcome.Range (passed_at value p)) after
+ClearComesTo value bound m before (Err why.Memory) after = Unit {0}
 
 -- after an answer, and where the market is infeasible, a dictionary is kept
 abbrev pub KeepsStart : {N : Type 0} → Result (Answer N) (ClearFault N) → Kept → Type 0

@@ -3,7 +3,7 @@
 ghost use Rattle.std.specs.Prelude.{◌≡◌, ◌<◌, List, length, map, slice_get, Some, IfOk, IfErr, false};
 ghost use Rattle.market_model.specs.Fitting.{FitsMarket};
 ghost use Rattle.market_model.specs.LimitRows.{row_id};
-ghost use Rattle.clear_loop.specs.Clearing.{ComesTo, DropsStart, KeepsStart};
+ghost use Rattle.clear_loop.specs.Clearing.{ClearComesTo, DropsStart, KeepsStart};
 ghost use Rattle.clear_loop.specs.Keeping.{FitsFrame, Kept, cold};
 ghost use Rattle.clear_loop.specs.Rounds.{HoldsStart, IsInHand, StopsInRange};
 ghost use Rattle.clear_loop.specs.Starts.{rows_in};
@@ -136,7 +136,7 @@ impl<N: Exact> Clearer<N> {
     pub fn clear(&mut self, alloc: Global, market: &Market) -> Result<Answer<N>, ClearFault<N>>
         requires frame { FitsFrame market.now self.old }
         ensures fits { IfOk result (FitsMarket market.now) }
-        ensures clear { ComesTo N.value N.bound market.now self.old.rows result self.new.rows }
+        ensures clear { ClearComesTo N.value N.bound market.now self.old.rows result self.new.rows }
         ensures frame { FitsFrame market.now self.new }
         ensures kept { KeepsStart result self.new }
         ensures dropped { IfErr result (λ fault. DropsStart fault self.new) }

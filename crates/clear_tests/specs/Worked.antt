@@ -32,11 +32,11 @@ worked base post first second load = record (bare_parts
     (bus_of 1 (pos 0) 0 ∷ bus_of 2 (pos 0) 0 ∷ bus_of 3 load 10000000000 ∷ [])
     (unit_of 1 0 ∷ unit_of 2 1 ∷ [])
     (block_of 0 first ∷ block_of 1 second ∷ [])) {
-  lines = line_free 1 ∷ line_limited base post ∷ line_free 3 ∷ [];
-  outages = 1 ∷ [];
-  shift = factor_of 0 1 (negsuc 499999) ∷ factor_of 0 2 (negsuc 249999) ∷ factor_of 1 1 (negsuc 499999) ∷ factor_of 1 2 (negsuc 749999) ∷ [];
-  loss = factor_of 1 0 (pos 1000000) ∷ [];
-}
+      lines = line_free 1 ∷ line_limited base post ∷ line_free 3 ∷ [];
+      outages = 1 ∷ [];
+      shift = factor_of 0 1 (negsuc 499999) ∷ factor_of 0 2 (negsuc 249999) ∷ factor_of 1 1 (negsuc 499999) ∷ factor_of 1 2 (negsuc 749999) ∷ [];
+      loss = factor_of 1 0 (pos 1000000) ∷ [];
+    }
 
 -- one of its frame
 abbrev pub framed : Parts

@@ -155,3 +155,20 @@ module _ (m : Parts) (market : IsMarket m) (d : Duals Fraction) (names : map (λ
           down = ap (down_in d.limits) (name ∙ ap (λ (f : Dual Fraction). f.row) at) ∙ down_at d.limits k e apart h ∙ ap (λ (f : Dual Fraction). f.down) (sym at);
         },
       )
+
+-- a dual of a list that was read
+module _ {N : Type 0} (value : N → Fraction) (m : Parts) (duals : Duals N) (proper : ProperDuals m (duals_at value duals)) (items : List (Dual N)) (k : ℕ) (item : Dual N)
+    (listed : items ≡ duals.limits) (inside : k < length items) (is : item ≡ get_or items k item) where
+  below : k < length (duals_at value duals).limits
+  below = Prim.omega (arith, inside, ap length listed, length-map (dual_at value) duals.limits)
+
+  read : dual_at value item ≡ get_or (duals_at value duals).limits k (dual_at value item)
+  read =
+      sym (get_or-map (dual_at value) duals.limits k item (dual_at value item) (Prim.omega (arith, inside, ap length listed))
+      ∙ ap (λ (es : List (Dual N)). dual_at value (get_or es k item)) (sym listed) ∙ ap (dual_at value) (sym is))
+
+  pub dual_one_sided : IsOneSided (dual_at value item)
+  dual_one_sided = subst IsOneSided (sym read) (proper.one_sided k (dual_at value item) below)
+
+  pub dual_row : IsMarket m → (r : Row) × IsRowOfDual m (duals_at value duals) k (dual_at value item) r
+  dual_row market = row_of_dual m market (duals_at value duals) proper.named k (dual_at value item) below read

@@ -76,7 +76,8 @@ pub fn factor_at(market: &Market, row: Row, bus: usize) -> i64
 pub fn factor(market: &Market, row: RowId, bus: usize) -> i64
     requires row { (r : Row) × Contains (rows market.now) r × (row_id market.now r ≡ row) }
     requires bus { bus < length market.now.buses }
-    ensures { (r : Row) → Contains (rows market.now) r → row_id market.now r ≡ row → over result (10 ^ (2 * factor_places market.now)) ≡ row_factor market.now r bus }
+    ensures size { unsigned_abs result < 2 ^ 63 }
+    ensures is { (r : Row) → Contains (rows market.now) r → row_id market.now r ≡ row → over result (10 ^ (2 * factor_places market.now)) ≡ row_factor market.now r bus }
 {
     let _lines = market.lines();
     match row_named(market, row) {

@@ -32,7 +32,7 @@ use Rattle.linear_dict.proofs.MovedLemmas.{name_at}
 use Rattle.linear_dict.specs.declared.index.Variable.{Variable}
 use Rattle.linear_dict.specs.declared.place.Place.{Place}
 use Rattle.linear_dict.specs.declared.place.Place.TheVariants.{Row, Column}
-use Rattle.linear_dict.specs.Dictionaries.{AddsRow, Dictionary, IsDictionary, seen, system_of, choice_of, entry_of, note_of}
+use Rattle.linear_dict.specs.Dictionaries.{AddsRow, Dictionary, IsDictionary, seen, system_in, choice_of, entry_of, note_of}
 use Rattle.linear_dict.specs.Indexes.{name_of, AddsVariable, IsIndex}
 use Rattle.linear_dict.specs.Notes.{Noted, noted, blank}
 use Rattle.linear_dict.specs.Places.{place_in, is_among, StandsAt}
@@ -103,8 +103,8 @@ module _ {N : Type 0} (value : N → Fraction) (columns rows : List ℕ) (coeffi
     -- the sums in code are the sums over the columns
     pub code_sums : (k : ℕ) → k < length others → sum_by (row_term value (length others) table entries k) vs
         ≡ sum_by (λ j. get_or (map value entries) (place_in columns j) (whole (pos 0)) *ℚ column_entry (choice_of (seen value columns rows coefficients others basics table vs spent)) j (slice_index others k))
-        (system_of (seen value columns rows coefficients others basics table vs spent)).columns
-    unfolding number system_of
+        (system_in (seen value columns rows coefficients others basics table vs spent)).columns
+    unfolding number system_in
     code_sums k hk = sums_over vs k hk (λ v m. (m.0, slice_get-get_or vs m.0 v m.1 ∙ ap Some m.2))
 
     basic_false : (w : ℕ) → Contains others w → (choice_of d).basic w ≡ false
@@ -125,8 +125,8 @@ module _ {N : Type 0} (value : N → Fraction) (columns rows : List ℕ) (coeffi
       rest = filter test (drop (suc k) names)
 
       -- the columns before this variable's, it, and those after it
-      columns_split : test v.name ≡ true → (system_of d).columns ≡ before ++ v.name ∷ rest
-      unfolding test names before rest system_of
+      columns_split : test v.name ≡ true → (system_in d).columns ≡ before ++ v.name ∷ rest
+      unfolding test names before rest system_in
       columns_split e =
           let p = name_at vs k v got in
           let below : k < length (map name_of vs) = Prim.omega (arith, p.0, length-map vs (name_of {N = N})) in
@@ -135,14 +135,14 @@ module _ {N : Type 0} (value : N → Fraction) (columns rows : List ℕ) (coeffi
           ∙ ap (λ (xs : List ℕ). filter (is_among columns) (take k (map name_of vs)) ++ filter (is_among columns) xs) (drop-cons (map name_of vs) k 0 below ∙ ap (λ (x : ℕ). x ∷ drop (suc k) (map name_of vs)) p.1)
           ∙ ap (λ (b : Bool). filter (is_among columns) (take k (map name_of vs)) ++ cond b (v.name ∷ filter (is_among columns) (drop (suc k) (map name_of vs))) (filter (is_among columns) (drop (suc k) (map name_of vs)))) e
 
-      column_here : test v.name ≡ true → slice_get (system_of d).columns (length before) ≡ Some v.name
+      column_here : test v.name ≡ true → slice_get (system_in d).columns (length before) ≡ Some v.name
       column_here e =
           let at : slice_get (before ++ v.name ∷ rest) (length before) ≡ Some v.name =
           slice_get-get_or (before ++ v.name ∷ rest) (length before) v.name (Prim.omega (arith, length-append before (v.name ∷ rest))) ∙ ap Some (get_or-append_seam before v.name rest v.name) in
           ap (λ (xs : List ℕ). slice_get xs (length before)) (columns_split e) ∙ at
 
-      column_in : test v.name ≡ true → Contains (system_of d).columns v.name
-      column_in e = let r = column_here e in (length before, got_below (system_of d).columns (length before) v.name r, get_or_from_slice_get (system_of d).columns (length before) v.name v.name r)
+      column_in : test v.name ≡ true → Contains (system_in d).columns v.name
+      column_in e = let r = column_here e in (length before, got_below (system_in d).columns (length before) v.name r, get_or_from_slice_get (system_in d).columns (length before) v.name v.name r)
 
       -- the sum so far is that of the first terms
       prefix_here : test v.name ≡ true → (c : ℕ) → c < length others → prefix (length before) (put_terms d (map value entries) (slice_index others c)) ≡ sum_by (row_term value (length others) table entries c) (take k vs)
@@ -166,7 +166,7 @@ module _ {N : Type 0} (value : N → Fraction) (columns rows : List ℕ) (coeffi
             ap (λ (i : ℕ). get_or (map value entries) i (whole (pos 0))) (place_in-at columns j v.name h.put_in.second_distinct s.0 s.1),
           )
 
-      other_here : (c : ℕ) → c < length others → Contains (choices.others (system_of d) (choice_of d)) (slice_index others c)
+      other_here : (c : ℕ) → c < length others → Contains (choices.others (system_in d) (choice_of d)) (slice_index others c)
       other_here c hc = other_in d h (slice_index others c) (Contains-at others c hc)
 
       entry_here : (r c : ℕ) → v.place ≡ Row r → c < length others → ((choice_of d).basic v.name ≡ true) × ((choice_of d).entry v.name (slice_index others c) ≡ cell (length others) (map value table) r c) × Contains basics v.name
@@ -307,7 +307,7 @@ module _ {N : Type 0} (value : N → Fraction) (columns rows : List ℕ) (coeffi
       ∙ ap (λ (s : Bool). make (map value coefficients ++ map value entries) (map value table ++ map value fresh) (insert (map name_of vs) a.rank row) (insert (map (λ (x : Variable N). noted value x.note) vs) a.rank blank) s) live
 
   fresh_sums : (k : ℕ) → k < length others → get_or (map value fresh) k (whole (pos 0))
-      ≡ sum_by (λ j. get_or (map value entries) (place_in columns j) (whole (pos 0)) *ℚ column_entry (choice_of old) j (slice_index others k)) (system_of old).columns
+      ≡ sum_by (λ j. get_or (map value entries) (place_in columns j) (whole (pos 0)) *ℚ column_entry (choice_of old) j (slice_index others k)) (system_in old).columns
   unfolding old
   fresh_sums k hk = sums.at k hk ∙ code_sums value columns rows coefficients others basics table vs spent h index entries k hk
 
@@ -365,12 +365,12 @@ module _ {N : Type 0} (value : N → Fraction) (columns rows : List ℕ) (coeffi
 -- whatever the prices and bounds.
 pub row_pair : {N : Type 0} (value : N → Fraction) (d : Dictionary) → IsDictionary d → d.spent ≡ false → (row : ℕ) → ¬ (Contains d.names row) → (entries : List N) → length entries ≡ length d.columns
     → (bound : ℕ) (op : Op) (x y : Fraction) → AddOperation d (map value entries) op x y → Passes bound op x y
-    → (new : Dictionary) × AddsRow value d row entries new × ((s : System) → SameRows (system_of new) s → IsSystemPair s bound op x y)
+    → (new : Dictionary) × AddsRow value d row entries new × ((s : System) → SameRows (system_in new) s → IsSystemPair s bound op x y)
 unfolding note_of
 row_pair value d h live row absent entries count bound op x y asked passes =
     let es : List Fraction = map value entries in
     let b = belongs d.names row h.ascending absent in
-    let entry : ℕ → Fraction = λ k. sum_by (λ j. get_or es (place_in d.columns j) (whole (pos 0)) *ℚ column_entry (choice_of d) j (slice_index d.others k)) (system_of d).columns in
+    let entry : ℕ → Fraction = λ k. sum_by (λ j. get_or es (place_in d.columns j) (whole (pos 0)) *ℚ column_entry (choice_of d) j (slice_index d.others k)) (system_in d).columns in
     let n : ℕ = length d.others in
     let fresh : List Fraction = map entry (range_with_len 0 n) in
     let notes : List Noted = insert d.notes b.0 blank in

@@ -19,7 +19,7 @@ use Rattle.linear_system.proofs.ChoiceLaws.{same_choice, others_are, basics_are,
 use Rattle.linear_system.proofs.ExchangeLaws.{exchanged_is, exchanged_once}
 use Rattle.fraction_theory.proofs.ListSums.{Distinct-increasing}
 use Rattle.linear_dict.specs.Causes.{PivotOperation, solving, scaling, adding}
-use Rattle.linear_dict.specs.Dictionaries.{Dictionary, IsDictionary, system_of, choice_of, entry_of, note_of, pivoted}
+use Rattle.linear_dict.specs.Dictionaries.{Dictionary, IsDictionary, system_in, choice_of, entry_of, note_of, pivoted}
 use Rattle.linear_dict.specs.Places.{IsSplit}
 use Rattle.linear_dict.specs.Places.{place_in, is_among}
 use Rattle.linear_dict.specs.Tables.{cell, table_of, pivoted_cell, pivoted_row}
@@ -160,15 +160,15 @@ module _ (d : Dictionary) (h : IsDictionary d) (r c : ℕ) (hr : r < length d.ba
             ∙ sym (new_entry x w i j p.2 ej p.0 hj)
       ]
 
-  same_system : system_of (pivoted d r c) ≡ system_of d
-  unfolding system_of pivoted note_of
+  same_system : system_in (pivoted d r c) ≡ system_in d
+  unfolding system_in pivoted note_of
   same_system = refl
 
-  entries : (x w : ℕ) → Contains (basics (system_of d) (exchanged old a b)) x → Contains (others (system_of d) (exchanged old a b)) w → (exchanged old a b).entry x w ≡ new.entry x w
-  unfolding new choice_of pivoted new_basics new_others system_of a b
+  entries : (x w : ℕ) → Contains (basics (system_in d) (exchanged old a b)) x → Contains (others (system_in d) (exchanged old a b)) w → (exchanged old a b).entry x w ≡ new.entry x w
+  unfolding new choice_of pivoted new_basics new_others system_in a b
   entries x w cx cw =
-      let px = basics_are (system_of d) (exchanged old a b) x cx in
-      let pw = others_are (system_of d) (exchanged old a b) w cw in
+      let px = basics_are (system_in d) (exchanged old a b) x cx in
+      let pw = others_are (system_in d) (exchanged old a b) w cw in
       let bx : Contains new_basics x = among-from new_basics x (sym (same_basic x px.0) ∙ px.1) in
       let bw : Contains new_others w = elim (new_split.either w pw.0) [
         | inl k ↦ let wrong : true ≡ false = sym (among-tells new_basics w k) ∙ sym (same_basic w pw.0) ∙ pw.1 in absurd cc
@@ -181,17 +181,17 @@ module _ (d : Dictionary) (h : IsDictionary d) (r c : ℕ) (hr : r < length d.ba
   unfolding old new a b
   pivoted_basic w k = same_basic w k
 
-  pub pivoted_entry : (x w : ℕ) → Contains (basics (system_of d) (exchanged (choice_of d) (slice_index d.basics r) (slice_index d.others c))) x
-      → Contains (others (system_of d) (exchanged (choice_of d) (slice_index d.basics r) (slice_index d.others c))) w
+  pub pivoted_entry : (x w : ℕ) → Contains (basics (system_in d) (exchanged (choice_of d) (slice_index d.basics r) (slice_index d.others c))) x
+      → Contains (others (system_in d) (exchanged (choice_of d) (slice_index d.basics r) (slice_index d.others c))) w
       → (exchanged (choice_of d) (slice_index d.basics r) (slice_index d.others c)).entry x w ≡ (choice_of (pivoted d r c)).entry x w
   unfolding old new a b
   pivoted_entry x w cx cw = entries x w cx cw
 
   -- the pivoted dictionary is one
   pub pivoted_dictionary : d.spent ≡ false → cell (length d.others) d.table r c ≢ whole (pos 0) → IsDictionary (pivoted d r c)
-  unfolding f a b old new pivoted new_basics new_others system_of
+  unfolding f a b old new pivoted new_basics new_others system_in
   pivoted_dictionary live not_nil =
-      let s : System = system_of d in
+      let s : System = system_in d in
       let choice : IsChoice s (choice_of d) = h.solutions live in
       let system = system_is d h in
       let ca : Contains (basics s (choice_of d)) (slice_index d.basics r) = basic_in d h (slice_index d.basics r) a_in in
@@ -215,7 +215,7 @@ module _ (d : Dictionary) (h : IsDictionary d) (r c : ℕ) (hr : r < length d.ba
   near = exchanged old a b
 
   Number : Kind → Fraction → Type 0
-  Number = OfEither (SystemNumber (system_of d)) old near
+  Number = OfEither (SystemNumber (system_in d)) old near
 
   opposite : (x : Fraction) → Number Factor x → Number Factor (neg_ℚ x)
   unfolding Number
@@ -228,12 +228,12 @@ module _ (d : Dictionary) (h : IsDictionary d) (r c : ℕ) (hr : r < length d.ba
   entry_here i j hi hj =
       let x : ℕ = slice_index d.basics i in
       let w : ℕ = slice_index d.others j in
-      inl (subst (SystemNumber (system_of d) (choice_of d) Factor) (old_entry x w i j (place_in-at d.basics i x h.split.first_distinct hi refl) (place_in-at d.others j w h.split.second_distinct hj refl))
+      inl (subst (SystemNumber (system_in d) (choice_of d) Factor) (old_entry x w i j (place_in-at d.basics i x h.split.first_distinct hi refl) (place_in-at d.others j w h.split.second_distinct hj refl))
       (is_entry x w (basic_in d h x (Contains-at d.basics i hi)) (other_in d h w (Contains-at d.others j hj))))
 
-  once : OneExchange (system_of d) (choice_of d) (exchanged (choice_of d) (slice_index d.basics r) (slice_index d.others c)) (slice_index d.basics r) (slice_index d.others c)
+  once : OneExchange (system_in d) (choice_of d) (exchanged (choice_of d) (slice_index d.basics r) (slice_index d.others c)) (slice_index d.basics r) (slice_index d.others c)
   unfolding a b
-  once = exchanged_once (system_of d) (system_is d h) (choice_of d) (slice_index d.basics r) (slice_index d.others c)
+  once = exchanged_once (system_in d) (system_is d h) (choice_of d) (slice_index d.basics r) (slice_index d.others c)
       (basic_in d h (slice_index d.basics r) a_in) (other_in d h (slice_index d.others c) b_in)
 
   near_entry : (w : ℕ) → (exchanged old a b).entry b w ≡ entering_entry old a b w
@@ -241,25 +241,25 @@ module _ (d : Dictionary) (h : IsDictionary d) (r c : ℕ) (hr : r < length d.ba
   near_entry w = put_at-here b (entering_entry old a b w) (λ y. (if w == a then whole (pos 0) else old.entry y w) +ℚ old.entry y b *ℚ entering_entry old a b w) b refl
 
   -- an entry of b after the exchange
-  entry_near : (w j : ℕ) → Contains (others (system_of d) (exchanged old a b)) w → (w ≡ a) × (j ≡ c) ⊎ ((w ≢ a) × (j ≢ c) × (place_in d.others w ≡ j)) → Number Factor (pivoted_row f r c j)
+  entry_near : (w j : ℕ) → Contains (others (system_in d) (exchanged old a b)) w → (w ≡ a) × (j ≡ c) ⊎ ((w ≢ a) × (j ≢ c) × (place_in d.others w ≡ j)) → Number Factor (pivoted_row f r c j)
   unfolding Number near old a b
   entry_near w j cw way =
       let x : ℕ = slice_index d.basics r in
       let y : ℕ = slice_index d.others c in
       let k : Choice = exchanged (choice_of d) x y in
       let is : k.entry y w ≡ pivoted_row f r c j = near_entry w ∙ solved_entry w j way in
-      inr (subst (SystemNumber (system_of d) k Factor) is (is_entry y w (is_basic (system_of d) k y once.entering once.enters.1) cw))
+      inr (subst (SystemNumber (system_in d) k Factor) is (is_entry y w (is_basic (system_in d) k y once.entering once.enters.1) cw))
 
   -- an entry of the solved row is one of the choice after the exchange
   entry_solved : (j : ℕ) → j < length d.others → Number Factor (pivoted_row f r c j)
-  unfolding old a b system_of choice_of
+  unfolding old a b system_in choice_of
   entry_solved j hj =
       let x : ℕ = slice_index d.basics r in
       let y : ℕ = slice_index d.others c in
       let w : ℕ = slice_index d.others j in
       let k : Choice = exchanged (choice_of d) x y in
       let m : Contains d.others w = Contains-at d.others j hj in
-      let s : System = system_of d in
+      let s : System = system_in d in
       elim (same_or_not j c) [
         | inl e ↦ entry_near x j (is_other s k x once.leaving once.leaves.1) (inl (refl, e))
         | inr n ↦
@@ -278,10 +278,10 @@ module _ (d : Dictionary) (h : IsDictionary d) (r c : ℕ) (hr : r < length d.ba
 
   -- A refused operation of a pivot is a working pair of the system: of the choice in hand and the one after the exchange.
   pub pivot_pair : (bound : ℕ) → d.spent ≡ false → cell (length d.others) d.table r c ≢ whole (pos 0) → (op : Op) (x y : Fraction)
-      → PivotOperation (length d.basics) (length d.others) (cell (length d.others) d.table) r c op x y → Passes bound op x y → IsSystemPair (system_of d) bound op x y
+      → PivotOperation (length d.basics) (length d.others) (cell (length d.others) d.table) r c op x y → Passes bound op x y → IsSystemPair (system_in d) bound op x y
   unfolding f a b old near Number
   pivot_pair bound live not_nil op x y asked passes =
-      let s : System = system_of d in
+      let s : System = system_in d in
       let v : ℕ = slice_index d.basics r in
       let k : ℕ = slice_index d.others c in
       let pivot : (choice_of d).entry v k ≢ whole (pos 0) = λ e. not_nil (sym (old_entry v k r c a_at b_at) ∙ e) in record {

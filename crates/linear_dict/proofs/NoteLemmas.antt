@@ -4,12 +4,12 @@ use Rattle.std.proofs.Common.{◌∙◌}
 use Rattle.std.proofs.lemmas.List.{length-set}
 use Rattle.linear_system.specs.Systems.{activity}
 use Rattle.linear_system.specs.Choices.{IsChoice, basics, others}
-use Rattle.linear_dict.specs.Dictionaries.{Dictionary, IsDictionary, system_of, choice_of, entry_of}
+use Rattle.linear_dict.specs.Dictionaries.{Dictionary, IsDictionary, system_in, choice_of, entry_of}
 use Rattle.linear_dict.specs.Notes.{Noted}
 
 -- whether it is a choice is asked of names, coefficients, basic variables and entries alone
-pub choice_frame : (d : Dictionary) (ns : List Noted) → IsChoice (system_of d) (choice_of d) → IsChoice (system_of (record d { notes = ns })) (choice_of (record d { notes = ns }))
-unfolding system_of choice_of entry_of activity basics others
+pub choice_frame : (d : Dictionary) (ns : List Noted) → IsChoice (system_in d) (choice_of d) → IsChoice (system_in (record d { notes = ns })) (choice_of (record d { notes = ns }))
+unfolding system_in choice_of entry_of activity basics others
 choice_frame d ns h = record {
   to_table = λ v m. record { basic = (h.to_table v (record { row = m.row })).basic };
   to_rows = λ v m. record { row = (h.to_rows v (record { basic = m.basic })).row };

@@ -23,7 +23,7 @@ use Rattle.linear_system.proofs.PairLaws.{IsPairCase-each}
 use Rattle.linear_system.proofs.SameSystems.{same_rows_choice, same_rows_factor}
 use Rattle.linear_system.proofs.ChoiceLaws.{is_basic, basics_are, sum_by_others, column_entry-basic, column_entry-itself, column_entry-other}
 use Rattle.linear_dict.specs.Causes.{AddOperation, scaling_entry, adding_term, put_number, put_terms}
-use Rattle.linear_dict.specs.Dictionaries.{Dictionary, IsDictionary, system_of, choice_of, entry_of}
+use Rattle.linear_dict.specs.Dictionaries.{Dictionary, IsDictionary, system_in, choice_of, entry_of}
 use Rattle.linear_dict.specs.Notes.{Noted}
 use Rattle.linear_dict.specs.Places.{place_in, is_among}
 use Rattle.linear_dict.specs.Tables.{cell}
@@ -78,13 +78,13 @@ module _ (d : Dictionary) (h : IsDictionary d) (live : d.spent ≡ false) (row i
   }
 
   s : System
-  s = system_of d
+  s = system_in d
 
   c : Choice
   c = choice_of d
 
   after : System
-  after = system_of grown
+  after = system_in grown
 
   later : Choice
   later = choice_of grown
@@ -99,7 +99,7 @@ module _ (d : Dictionary) (h : IsDictionary d) (live : d.spent ≡ false) (row i
   not_row w k e = absent (subst (Contains d.names) (sym e) k)
 
   same_columns : after.columns ≡ s.columns
-  unfolding after s system_of
+  unfolding after s system_in
   same_columns = filter-insert (is_among d.columns) d.names i row (among-not d.columns row (λ k. absent (h.put_in.second_named row k)))
 
   among_grown : (w : ℕ) → Contains d.names w → is_among (d.basics ++ row ∷ []) w ≡ is_among d.basics w
@@ -110,7 +110,7 @@ module _ (d : Dictionary) (h : IsDictionary d) (live : d.spent ≡ false) (row i
   ]
 
   same_others : others after later ≡ others s c
-  unfolding others after later s c system_of choice_of
+  unfolding others after later s c system_in choice_of
   same_others =
       filter-insert (λ w. not (is_among (d.basics ++ row ∷ []) w)) d.names i row (ap not (among-tells (d.basics ++ row ∷ []) row (Contains-push d.basics row)))
       ∙ filter-members (λ w. not (is_among (d.basics ++ row ∷ []) w)) (λ w. not (is_among d.basics w)) d.names (λ w k. ap not (among_grown w k))
@@ -120,7 +120,7 @@ module _ (d : Dictionary) (h : IsDictionary d) (live : d.spent ≡ false) (row i
   row_number j = get_or es (place_in d.columns j) (whole (pos 0))
 
   new_activity : (v : ℕ → Fraction) → activity after v row ≡ sum_by (λ j. row_number j *ℚ v j) s.columns
-  unfolding activity after row_number system_of
+  unfolding activity after row_number system_in
   new_activity v =
       ap (sum_by (λ j. after.coefficient row j *ℚ v j)) same_columns
       ∙ sum_by-members (λ j. after.coefficient row j *ℚ v j) (λ j. row_number j *ℚ v j) s.columns
@@ -132,7 +132,7 @@ module _ (d : Dictionary) (h : IsDictionary d) (live : d.spent ≡ false) (row i
   new_sum v = new_activity v
 
   old_activity : (v : ℕ → Fraction) (r : ℕ) → Contains d.rows r → activity after v r ≡ activity s v r
-  unfolding activity after s system_of
+  unfolding activity after s system_in
   old_activity v r m =
       let p = place_in-within d.rows r m in
       ap (sum_by (λ j. after.coefficient r j *ℚ v j)) same_columns
@@ -156,9 +156,9 @@ module _ (d : Dictionary) (h : IsDictionary d) (live : d.spent ≡ false) (row i
       ap (λ (x : ℕ). cell (length d.others) (d.table ++ fresh) x (place_in d.others w)) (place-push_new d.basics row h.split.first_distinct no_basic)
       ∙ cell-new (length d.others) d.table fresh (length d.basics) (place_in d.others w) h.table_count
 
-  module _ (sums : (k : ℕ) → k < length d.others → get_or fresh k (whole (pos 0)) ≡ sum_by (λ j. get_or es (place_in d.columns j) (whole (pos 0)) *ℚ column_entry (choice_of d) j (slice_index d.others k)) (system_of d).columns) where
+  module _ (sums : (k : ℕ) → k < length d.others → get_or fresh k (whole (pos 0)) ≡ sum_by (λ j. get_or es (place_in d.columns j) (whole (pos 0)) *ℚ column_entry (choice_of d) j (slice_index d.others k)) (system_in d).columns) where
     new_row : (v : ℕ → Fraction) → MeetsTable s c v → activity after v row ≡ sum_by (λ w. later.entry row w *ℚ v w) (others after later)
-    unfolding row_number s c system_of
+    unfolding row_number s c system_in
     new_row v m =
         new_activity v
         ∙ sum_by_others s (Distinct-increasing d.names h.ascending) c v m row_number s.columns (λ j k. (Contains-from_filter (is_among d.columns) d.names j k).0)
@@ -169,7 +169,7 @@ module _ (d : Dictionary) (h : IsDictionary d) (live : d.spent ≡ false) (row i
         ∙ ap (sum_by (λ w. later.entry row w *ℚ v w)) (sym same_others)
 
     rows_before : (v : ℕ → Fraction) → MeetsRows after v → MeetsRows s v
-    unfolding after s system_of
+    unfolding after s system_in
     rows_before v m = record {
       row = λ r k.
           let q = Contains-from_filter (is_among d.rows) d.names r k in
@@ -179,7 +179,7 @@ module _ (d : Dictionary) (h : IsDictionary d) (live : d.spent ≡ false) (row i
     }
 
     basic_later : (b : ℕ) → Contains (d.basics ++ row ∷ []) b → Contains (basics after later) b
-    unfolding after later system_of choice_of
+    unfolding after later system_in choice_of
     basic_later b k = is_basic after later b
         (elim (Contains-push_cases d.basics row b k) [ inl p ↦ Contains-insert d.names i row b hi (h.split.first_named b p) | inr e ↦ subst (Contains (insert d.names i row)) e (Contains-inserted d.names i row hi) ])
         (among-tells (d.basics ++ row ∷ []) b k)
@@ -199,7 +199,7 @@ module _ (d : Dictionary) (h : IsDictionary d) (live : d.spent ≡ false) (row i
     }
 
     grown_choice : IsChoice after later
-    unfolding after later s c system_of choice_of
+    unfolding after later s c system_in choice_of
     grown_choice =
         let choice : IsChoice s c = h.solutions live in record {
           to_table = λ v m.
@@ -236,13 +236,13 @@ module _ (d : Dictionary) (h : IsDictionary d) (live : d.spent ≡ false) (row i
     }
 
     -- the new row's entries are the named sums
-    pub grown_entries : (k : ℕ) → k < length d.others → cell (length d.others) (d.table ++ fresh) (length d.basics) k ≡ total (row_entry_terms (system_of grown) (choice_of d) row (slice_index d.others k))
+    pub grown_entries : (k : ℕ) → k < length d.others → cell (length d.others) (d.table ++ fresh) (length d.basics) k ≡ total (row_entry_terms (system_in grown) (choice_of d) row (slice_index d.others k))
     unfolding row_entry_terms s c after row_number
     grown_entries k hk =
         let w : ℕ = slice_index d.others k in
         cell-new (length d.others) d.table fresh (length d.basics) k h.table_count ∙ sums k hk
         ∙ sym (new_sum (λ j. column_entry (choice_of d) j w))
-        ∙ sym (total-Product ((system_of grown).coefficient row) (λ j. column_entry (choice_of d) j w) (system_of grown).columns)
+        ∙ sym (total-Product ((system_in grown).coefficient row) (λ j. column_entry (choice_of d) j w) (system_in grown).columns)
 
     -- The later choice has the numbers that adding the row needs, whatever the prices and bounds.
     Number : Kind → Fraction → Type 0
@@ -253,18 +253,18 @@ module _ (d : Dictionary) (h : IsDictionary d) (live : d.spent ≡ false) (row i
     factor x n = λ t same. inl (same_rows_factor after t same later Factor x n refl)
 
     column_named : (j : ℕ) → Contains s.columns j → Contains d.names j
-    unfolding s system_of
+    unfolding s system_in
     column_named j k = (Contains-from_filter (is_among d.columns) d.names j k).0
 
     other_later : (w : ℕ) → Contains (others s c) w → Contains (others after later) w
     other_later w k = subst (λ (ws : List ℕ). Contains ws w) (sym same_others) k
 
     row_in : Contains after.rows row
-    unfolding after system_of
+    unfolding after system_in
     row_in = Contains-filter (is_among (d.rows ++ row ∷ [])) (insert d.names i row) row (Contains-inserted d.names i row hi) (among-tells (d.rows ++ row ∷ []) row (Contains-push d.rows row))
 
     coefficient_is : (j : ℕ) → after.coefficient row j ≡ put_number d es j
-    unfolding after system_of put_number
+    unfolding after system_in put_number
     coefficient_is j =
         ap (λ (p : ℕ). cell (length d.columns) (d.coefficients ++ es) p (place_in d.columns j)) (place-push_new d.rows row h.put_in.first_distinct no_row)
         ∙ cell-new (length d.columns) d.coefficients es (length d.rows) (place_in d.columns j) h.coefficient_count
@@ -312,26 +312,26 @@ module _ (d : Dictionary) (h : IsDictionary d) (live : d.spent ≡ false) (row i
     unfolding row_entry_terms put_terms s c
     prefix_stays k w o =
         ap (λ (js : List ℕ). prefix k (map (λ j. Product (after.coefficient row j) (column_entry later j w)) js)) same_columns
-        ∙ ap (prefix k) (map-members (λ j. Product (after.coefficient row j) (column_entry later j w)) (λ j. Product (put_number d es j) (column_entry (choice_of d) j w)) (system_of d).columns
+        ∙ ap (prefix k) (map-members (λ j. Product (after.coefficient row j) (column_entry later j w)) (λ j. Product (put_number d es j) (column_entry (choice_of d) j w)) (system_in d).columns
         (λ j m. ap₂ Product (coefficient_is j) (column_stays j w (column_named j m) (in_others d h w o))))
 
     added_case : (op : Op) (x y : Fraction) → AddOperation d es op x y → IsPairCase Number op x y
     unfolding s c
     added_case _ _ _ (scaling_entry j w cb k o) = scaled_right Factor _ _ (row_coefficient j k) (alone _ (entry_number j w (in_basics d h j cb) o))
     added_case _ _ _ (adding_term k j w got o) =
-        let m : Contains (system_of d).columns j = (k, got_below (system_of d).columns k j got, get_or_from_slice_get (system_of d).columns k j j got) in
+        let m : Contains (system_in d).columns j = (k, got_below (system_in d).columns k j got, get_or_from_slice_get (system_in d).columns k j j got) in
         added Factor _ _ (plain _ (alone _ (factor _ (subst (SystemNumber after later Factor) (prefix_stays k w o) (is_row_entry row w k row_in (other_later w o))))))
         (scaled _ _ (row_coefficient j m) (alone _ (column_number j w (column_named j m) o)))
 
     -- a refused operation of the row is a working pair of each system with it
-    pub added_pair : (bound : ℕ) (op : Op) (x y : Fraction) → AddOperation d es op x y → Passes bound op x y → (t : System) → SameRows (system_of grown) t → IsSystemPair t bound op x y
+    pub added_pair : (bound : ℕ) (op : Op) (x y : Fraction) → AddOperation d es op x y → Passes bound op x y → (t : System) → SameRows (system_in grown) t → IsSystemPair t bound op x y
     unfolding after later Number
     added_pair bound op x y asked passes t same = record {
       passes = passes;
       one = choice_of grown;
       near = choice_of grown;
-      is_choice = same_rows_choice (system_of grown) t same (choice_of grown) grown_choice;
-      near_is_choice = same_rows_choice (system_of grown) t same (choice_of grown) grown_choice;
+      is_choice = same_rows_choice (system_in grown) t same (choice_of grown) grown_choice;
+      near_is_choice = same_rows_choice (system_in grown) t same (choice_of grown) grown_choice;
       are_near = inl refl;
       sides = IsPairCase-each (λ kind z n. n t same) op x y (added_case op x y asked);
     }

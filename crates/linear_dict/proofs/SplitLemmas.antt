@@ -9,7 +9,7 @@ use Rattle.fraction_theory.proofs.ListSums.{Distinct, same_or_not, Contains-filt
 use Rattle.linear_system.specs.Choices.{basics, others}
 use Rattle.linear_system.specs.Systems.{IsSystem}
 use Rattle.linear_system.proofs.ChoiceLaws.{is_basic, is_other, basics_are, others_are}
-use Rattle.linear_dict.specs.Dictionaries.{Dictionary, IsDictionary, system_of, choice_of}
+use Rattle.linear_dict.specs.Dictionaries.{Dictionary, IsDictionary, system_in, choice_of}
 use Rattle.linear_dict.specs.Places.{IsSplit}
 use Rattle.linear_dict.specs.Places.{place_in, is_among}
 use Rattle.linear_dict.proofs.NameLemmas.{place_in-at, place_in-within, among-tells, among-from, among-not}
@@ -109,8 +109,8 @@ split_exchanged names first second r c s hr hc =
     }
 
 -- the system of a dictionary
-pub system_is : (d : Dictionary) → IsDictionary d → IsSystem (system_of d)
-unfolding system_of
+pub system_is : (d : Dictionary) → IsDictionary d → IsSystem (system_in d)
+unfolding system_in
 system_is d h = record {
   ascending = h.ascending;
   columns_ascend = IsStrictlyIncreasing-filter (is_among d.columns) d.names h.ascending;
@@ -126,22 +126,22 @@ system_is d h = record {
 
 module _ (d : Dictionary) (h : IsDictionary d) where
   -- the basic and the other variables of its choice
-  pub basic_in : (w : ℕ) → Contains d.basics w → Contains (basics (system_of d) (choice_of d)) w
-  unfolding system_of choice_of
-  basic_in w c = is_basic (system_of d) (choice_of d) w (h.split.first_named w c) (among-tells d.basics w c)
+  pub basic_in : (w : ℕ) → Contains d.basics w → Contains (basics (system_in d) (choice_of d)) w
+  unfolding system_in choice_of
+  basic_in w c = is_basic (system_in d) (choice_of d) w (h.split.first_named w c) (among-tells d.basics w c)
 
-  pub other_in : (w : ℕ) → Contains d.others w → Contains (others (system_of d) (choice_of d)) w
-  unfolding system_of choice_of
-  other_in w c = is_other (system_of d) (choice_of d) w (h.split.second_named w c) (among-not d.basics w (λ k. h.split.apart w k c))
+  pub other_in : (w : ℕ) → Contains d.others w → Contains (others (system_in d) (choice_of d)) w
+  unfolding system_in choice_of
+  other_in w c = is_other (system_in d) (choice_of d) w (h.split.second_named w c) (among-not d.basics w (λ k. h.split.apart w k c))
 
-  pub in_basics : (w : ℕ) → Contains (basics (system_of d) (choice_of d)) w → Contains d.basics w
+  pub in_basics : (w : ℕ) → Contains (basics (system_in d) (choice_of d)) w → Contains d.basics w
   unfolding choice_of
-  in_basics w c = among-from d.basics w (basics_are (system_of d) (choice_of d) w c).1
+  in_basics w c = among-from d.basics w (basics_are (system_in d) (choice_of d) w c).1
 
-  pub in_others : (w : ℕ) → Contains (others (system_of d) (choice_of d)) w → Contains d.others w
-  unfolding system_of choice_of
+  pub in_others : (w : ℕ) → Contains (others (system_in d) (choice_of d)) w → Contains d.others w
+  unfolding system_in choice_of
   in_others w c =
-      let o = others_are (system_of d) (choice_of d) w c in
+      let o = others_are (system_in d) (choice_of d) w c in
       elim (h.split.either w o.0) [
         | inl k ↦ let wrong : false ≡ true = sym o.1 ∙ among-tells d.basics w k in absurd cc
         | inr k ↦ k

@@ -15,7 +15,7 @@ use Rattle.linear_system.specs.Systems.{activity}
 use Rattle.linear_dict.specs.declared.index.Variable.{Variable}
 use Rattle.linear_dict.specs.declared.place.Place.{Place}
 use Rattle.linear_dict.specs.declared.place.Place.TheVariants.{Row, Column}
-use Rattle.linear_dict.specs.Dictionaries.{Dictionary, IsStart, seen, system_of, choice_of, entry_of, note_of}
+use Rattle.linear_dict.specs.Dictionaries.{Dictionary, IsStart, seen, system_in, choice_of, entry_of, note_of}
 use Rattle.linear_dict.specs.Indexes.{name_of, AddsVariable, IsIndex, IsStartedIndex}
 use Rattle.linear_dict.specs.Notes.{noted, blank}
 use Rattle.linear_dict.specs.Places.{IsSplit, StandsAt, is_among, place_in}
@@ -82,8 +82,8 @@ module _ {N : Type 0} (value : N → Fraction) where
     ])
 
     -- the rows as put in are the table
-    start_choice : IsChoice (system_of d) (choice_of d)
-    unfolding d system_of choice_of entry_of activity basics others
+    start_choice : IsChoice (system_in d) (choice_of d)
+    unfolding d system_in choice_of entry_of activity basics others
     start_choice =
         let number : ℕ → ℕ → Fraction = λ b w. cell (length columns) (map value entries) (place_in (row ∷ []) b) (place_in columns w) in record {
           to_table = λ v m. record { basic = λ b c. m.row b c ∙ ap (sum_by (λ w. number b w *ℚ v w)) same_columns };

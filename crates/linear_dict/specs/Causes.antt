@@ -16,7 +16,7 @@ use Rattle.linear_dict.specs.declared.adding.AddStop.{AddStop}
 use Rattle.linear_dict.specs.declared.adding.AddStop.TheVariants.{Passed as StoppedBy, Memory as NoMemory}
 use Rattle.linear_dict.specs.declared.index.Variable.{Variable}
 use Rattle.linear_dict.specs.declared.place.Place.TheVariants.{Row, Column}
-use Rattle.linear_dict.specs.Dictionaries.{AddsRow, Dictionary, system_of, choice_of}
+use Rattle.linear_dict.specs.Dictionaries.{AddsRow, Dictionary, system_in, choice_of}
 use Rattle.linear_dict.specs.Places.{place_in}
 use Rattle.linear_dict.specs.Tables.{cell, pivoted_row}
 
@@ -63,13 +63,13 @@ put_number d entries j = slice_index_or entries (place_in d.columns j) (whole (p
 
 -- the named sum that is the row's entry at the other variable w
 unfoldable pub put_terms : Dictionary → List Fraction → ℕ → List Term
-put_terms d entries w = map (λ j. Product (put_number d entries j) (column_entry (choice_of d) j w)) (system_of d).columns
+put_terms d entries w = map (λ j. Product (put_number d entries j) (column_entry (choice_of d) j w)) (system_in d).columns
 
 -- what adding a row asks: its number of a basic column times that one's entry, and a sum of first terms with the next term
 pub data AddOperation (d : Dictionary) (entries : List Fraction) : Op → Fraction → Fraction → Type 0 where
-  scaling_entry : (j w : ℕ) → Contains (basics (system_of d) (choice_of d)) j → Contains (system_of d).columns j → Contains (others (system_of d) (choice_of d)) w
+  scaling_entry : (j w : ℕ) → Contains (basics (system_in d) (choice_of d)) j → Contains (system_in d).columns j → Contains (others (system_in d) (choice_of d)) w
       → AddOperation d entries Times (put_number d entries j) ((choice_of d).entry j w)
-  adding_term : (k j w : ℕ) → slice_get (system_of d).columns k ≡ Some j → Contains (others (system_of d) (choice_of d)) w
+  adding_term : (k j w : ℕ) → slice_get (system_in d).columns k ≡ Some j → Contains (others (system_in d) (choice_of d)) w
       → AddOperation d entries Plus (prefix k (put_terms d entries w)) (put_number d entries j *ℚ column_entry (choice_of d) j w)
 
 -- Where the row was not added for a refusal, P holds of it.
@@ -83,4 +83,4 @@ IsPairOf value bound s e = IsSystemPair s bound e.op (value e.left) (value e.rig
 
 -- The row can be put in, and e is a working pair of the system with it, whatever prices and bounds that has.
 abbrev pub IsPairWith : {N : Type 0} → (N → Fraction) → ℕ → Dictionary → ℕ → List N → Passed N → Type 0
-IsPairWith value bound d row entries e = (new : Dictionary) × AddsRow value d row entries new × ((s : System) → SameRows (system_of new) s → IsPairOf value bound s e)
+IsPairWith value bound d row entries e = (new : Dictionary) × AddsRow value d row entries new × ((s : System) → SameRows (system_in new) s → IsPairOf value bound s e)

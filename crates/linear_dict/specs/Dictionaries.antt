@@ -71,8 +71,8 @@ unfoldable pub entry_of : Dictionary → ℕ → ℕ → Fraction
 entry_of d b w = cell (length d.others) d.table (place_in d.basics b) (place_in d.others w)
 
 -- the system of the rows as put in, with the prices and bounds of the notes
-unfoldable pub system_of : Dictionary → System
-system_of d = record {
+unfoldable pub system_in : Dictionary → System
+system_in d = record {
   variables = d.names;
   columns = filter (is_among d.columns) d.names;
   rows = filter (is_among d.rows) d.names;
@@ -97,7 +97,7 @@ pub record IsDictionary (d : Dictionary) : Type 0 where
   pub ascending : IsStrictlyIncreasing d.names
   pub put_in : IsSplit d.names d.rows d.columns
   pub split : IsSplit d.names d.basics d.others
-  pub solutions : d.spent ≡ false → IsChoice (system_of d) (choice_of d)
+  pub solutions : d.spent ≡ false → IsChoice (system_in d) (choice_of d)
 
 -- the dictionary after row place r and column place c have exchanged their names
 unfoldable pub pivoted : Dictionary → ℕ → ℕ → Dictionary
@@ -134,7 +134,7 @@ pub record AddsRow {N : Type 0} (value : N → Fraction) (old : Dictionary) (row
   pub basics : new.basics ≡ old.basics ++ row ∷ []
   pub table : take (length old.table) new.table ≡ old.table
   pub row_entries : (c : ℕ) → c < length old.others
-      → cell (length old.others) new.table (length old.basics) c ≡ total (row_entry_terms (system_of new) (choice_of old) row (slice_index old.others c))
+      → cell (length old.others) new.table (length old.basics) c ≡ total (row_entry_terms (system_in new) (choice_of old) row (slice_index old.others c))
   pub notes : (w : ℕ) → Contains old.names w → note_of new w ≡ note_of old w
   pub blank_note : note_of new row ≡ blank
   pub sound : IsDictionary new

@@ -4,7 +4,7 @@ ghost use Rattle.linear_dict.specs.Indexes.{IsStartedIndex, name_of};
 ghost use Rattle.linear_system.specs.Choices.{IsChoice};
 ghost use Rattle.fraction_theory.specs.Fraction.{whole};
 ghost use Rattle.linear_dict.specs.Causes.{AddOperation, IsPairOf, IsPairWith, IsRefused, OnPassed, PivotOperation};
-ghost use Rattle.linear_dict.specs.Dictionaries.{AddsRow, IsDictionary, IsStart, choice_of, note_of, pivoted, system_of, with_note};
+ghost use Rattle.linear_dict.specs.Dictionaries.{AddsRow, IsDictionary, IsStart, choice_of, note_of, pivoted, system_in, with_note};
 ghost use Rattle.linear_dict.specs.Notes.{noted};
 ghost use Rattle.linear_dict.specs.Places.{StandsAt};
 ghost use Rattle.linear_dict.specs.Tables.{cell};
@@ -236,7 +236,7 @@ impl<N: Exact> Dict<N> {
         requires column { c < length self.now.others }
         ensures value { N.value result ≡ cell (length self.now.others) self.now.table r c }
         ensures entry { N.value result ≡ (choice_of self.now).entry (slice_index self.now.basics r) (slice_index self.now.others c) }
-        ensures choice { IsChoice (system_of self.now) (choice_of self.now) }
+        ensures choice { IsChoice (system_in self.now) (choice_of self.now) }
     {
         self.table[r * self.others.len() + c]
     }
@@ -326,7 +326,7 @@ impl<N: Exact> Dict<N> {
         requires entry { cell (length self.old.others) self.old.table r c ≢ whole (pos 0) }
         ensures pivoted { MatchResult result (λ _. self.new ≡ pivoted self.old r c) (λ _. self.new.spent ≡ true) }
         ensures cause { IfErr result (IsRefused N.value N.bound (PivotOperation (length self.old.basics) (length self.old.others) (cell (length self.old.others) self.old.table) r c)) }
-        ensures pair { IfErr result (IsPairOf N.value N.bound (system_of self.old)) }
+        ensures pair { IfErr result (IsPairOf N.value N.bound (system_in self.old)) }
         ensures sound { IsDictionary self.new }
     {
         self.spent = true;

@@ -3,6 +3,7 @@ pub mod HoldingLaws
 pub mod ListedLemmas
 pub mod NameLists
 pub mod PosingLemmas
+pub mod PutInLemmas
 pub mod ReadingLemmas
 pub mod RefusalLaws
 pub mod StopLemmas

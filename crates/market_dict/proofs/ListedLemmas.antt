@@ -34,11 +34,3 @@ replicate_filled value y xs k x before here = map-pushed value xs (replicate k y
 pub map-members : {X Y : Type 0} (f g : X → Y) (xs : List X) → ((x : X) → Contains xs x → f x ≡ g x) → map f xs ≡ map g xs
 map-members f g [] h = refl
 map-members f g (x ∷ xs) h = ap₂ (λ y ys. y ∷ ys) (h x (0, Prim.omega arith, refl)) (map-members f g xs (λ y c. h y (suc c.0, Prim.omega (arith, c.1), c.2)))
-
--- the places by themselves
-pub places-self : (n : ℕ) → map (λ k. k) (places n) ≡ places n
-places-self n = map-self (places n)
-  where
-    map-self : (xs : List ℕ) → map (λ k. k) xs ≡ xs
-    map-self [] = refl
-    map-self (x ∷ xs) = ap (λ ys. x ∷ ys) (map-self xs)

@@ -1,17 +1,18 @@
 -- What a dictionary that holds a market has at its ranks, and what is read there.
-use Rattle.std.specs.Prelude.{AllPairs, Result, Ok, Err, IfOk, IfErr, ◌≡◌, ◌≢◌, ℕ, ◌+◌, ◌-◌, ◌<◌, ◌≤◌, ◌==◌, pos, Bool, true, false, if◌then◌else◌, List, [], ◌∷◌, ◌++◌, length, map, take, Contains, Some, slice_index, refl}
-use Rattle.std.specs.List.{flat_map, slice_get}
-use Rattle.std.proofs.Common.{zero, suc, arith, ap, ap₂, sym, ◌∙◌, subst, inl, inr, get_or}
+use Rattle.std.specs.Prelude.{AllPairs, Result, Ok, Err, IfOk, IfErr, ◌≡◌, ◌≢◌, ℕ, ◌+◌, ◌<◌, ◌≤◌, ◌==◌, pos, Bool, true, false, if◌then◌else◌, List, [], ◌∷◌, ◌++◌, length, map, take, Contains, slice_index, refl}
+use Rattle.std.specs.List.{flat_map}
+use Rattle.std.proofs.Common.{arith, ap, ap₂, sym, ◌∙◌, subst, inl, inr, get_or}
 use Rattle.std.proofs.lemmas.Bool.{eq-eqb}
 use Rattle.std.proofs.lemmas.Bool.Decides.{eqb_tells}
 use Rattle.std.proofs.lemmas.Grind.{flat_map-append}
-use Rattle.std.proofs.lemmas.List.{append-nil, length-append, length-map, take_more, take_all, get_or-map}
-use Rattle.std.proofs.lemmas.List.FromFn.{length-range_with_len}
-use Rattle.std.proofs.lemmas.Option.{slice_get-get_or, slice_get_within, get_or_from_slice_get}
+use Rattle.std.proofs.lemmas.List.Concat.{flat_map-cons}
+use Rattle.std.proofs.lemmas.List.Folds.{flat_map-map}
+use Rattle.std.proofs.lemmas.List.Elements.{Contains-append_cases}
+use Rattle.std.proofs.lemmas.List.{append-nil, length-map, take_more, take_all, get_or-map}
 use Rattle.fraction_theory.specs.Fraction.{Fraction, whole, neg_ℚ, ◌-ℚ◌}
 use Rattle.fraction_theory.specs.Signs.{sign_of}
 use Rattle.fraction_theory.specs.Sums.{prefix, total}
-use Rattle.fraction_theory.proofs.ListSums.{Contains-filter}
+use Rattle.fraction_theory.proofs.ListSums.{Contains-filter, Contains-cases}
 use Rattle.fraction_theory.proofs.SumLaws.{prefix-all}
 use Rattle.exact_fraction.specs.declared.Op.{Op}
 use Rattle.exact_fraction.specs.declared.Op.TheVariants.{Minus}
@@ -22,7 +23,7 @@ use Rattle.linear_system.specs.Choices.{Choice, at_bound, basics, value, value_t
 use Rattle.linear_system.specs.Numbers.{Quantity, SystemNumber, is_low, is_high, is_value}
 use Rattle.linear_system.specs.Pairs.{IsPairCase, subtracted, IsSummand, plain, alone, OfEither, IsSystemPair}
 use Rattle.linear_system.specs.Systems.{System}
-use Rattle.linear_dict.specs.Dictionaries.{Dictionary, IsDictionary, system_of as system_in, choice_of, note_of}
+use Rattle.linear_dict.specs.Dictionaries.{Dictionary, IsDictionary, system_in, choice_of, note_of}
 use Rattle.linear_dict.proofs.SplitLemmas.{Contains-at}
 use Rattle.simplex_core.specs.Outcomes.{ShowsChoice}
 use Rattle.simplex_core.specs.States.{state_of}
@@ -36,85 +37,14 @@ use Rattle.market_model.specs.LimitRows.{rows, row_id}
 use Rattle.market_model.specs.Market.{IsMarket}
 use Rattle.market_model.specs.NamedSums.{IsRefusal}
 use Rattle.limit_rows.proofs.ApartLemmas.{names_apart}
-use Rattle.market_system.specs.MarketSystem.{balance_name, row_name, in_order, dual_by}
-use Rattle.market_system.proofs.VariableLaws.{variables_are}
+use Rattle.market_system.specs.MarketSystem.{name, columns, row_variables, variables, variable_of, system_over, row_name, in_order, dual_by}
+use Rattle.market_system.specs.declared.variables.Variable.{Variable}
+use Rattle.market_system.specs.declared.variables.Variable.TheVariants as variable
+use Rattle.market_system.proofs.VariableLaws.{mapped, in_mapped, IsOf, of_more, variable_is, is_variable, variable_at}
 use Rattle.market_system.proofs.DualLists.{rows_apart}
-use Rattle.market_system.proofs.RowOrder.{in_order-from, row_name-at}
+use Rattle.market_system.proofs.RowOrder.{in_order-from, names-ascend, row_name-at}
 use Rattle.market_dict.specs.Holding.{HoldsMarket}
-use Rattle.market_dict.proofs.HoldingLaws.{holds_names}
-use Rattle.market_dict.proofs.ListedLemmas.{places-self}
-use Rattle.market_dict.proofs.NameLists.{three_parts, block_part, balance_part, row_part}
-
--- ---- names by rank
-module _ (m : Parts) (g : List Row) (d : Dictionary) (market : IsMarket m) (holds : HoldsMarket m g d) where
-  names_are : d.names ≡ three_parts (λ j. j) (balance_name m) (row_name m) (length m.blocks) (in_order m g)
-  names_are = holds_names m g d market holds ∙ variables_are m (in_order m g) ∙ ap (λ (ps : List ℕ). ps ++ balance_name m ∷ map (row_name m) (in_order m g)) (sym (places-self (length m.blocks)))
-
-  pub name_count : length d.names ≡ balance_name m + 1 + length (in_order m g)
-  name_count =
-      let long : length (map (λ j. j) (places (length m.blocks))) ≡ length m.blocks = length-map (places (length m.blocks)) (λ j. j) ∙ length-range_with_len 0 (length m.blocks) in
-      let rest : length (map (row_name m) (in_order m g)) ≡ length (in_order m g) = length-map (in_order m g) (row_name m) in
-      ap length names_are ∙ length-append (map (λ j. j) (places (length m.blocks))) (balance_name m ∷ map (row_name m) (in_order m g)) ∙ Prim.omega (arith, long, rest)
-
-  pub block_rank : (k : ℕ) → k < length m.blocks → slice_index d.names k ≡ k
-  block_rank k lt = ap (λ (ns : List ℕ). slice_index ns k) names_are ∙ block_part (λ j. j) (balance_name m) (row_name m) (length m.blocks) (in_order m g) k 0 lt
-
-  pub balance_rank : slice_index d.names (length m.blocks) ≡ balance_name m
-  balance_rank =
-      let here : length m.blocks ≡ length m.blocks + 0 = Prim.omega arith in
-      ap₂ (λ (ns : List ℕ) (k : ℕ). slice_index ns k) names_are here ∙ balance_part (λ j. j) (balance_name m) (row_name m) (length m.blocks) (in_order m g) 0
-
-  pub row_rank : (k : ℕ) (r : Row) → slice_get (in_order m g) k ≡ Some r → slice_index d.names (balance_name m + 1 + k) ≡ row_name m r
-  row_rank k r at =
-      let here : balance_name m + 1 + k ≡ length m.blocks + suc k = Prim.omega arith in
-      ap₂ (λ (ns : List ℕ) (i : ℕ). slice_index ns i) names_are here
-      ∙ row_part (λ j. j) (balance_name m) (row_name m) (length m.blocks) (in_order m g) k r 0 (slice_get_within (in_order m g) k r at)
-      ∙ ap (row_name m) (get_or_from_slice_get (in_order m g) k r r at)
-
--- the row of a name: its place among those of the market
-pub record IsRanked (m : Parts) (g : List Row) (d : Dictionary) (k place : ℕ) (r : Row) : Type 0 where
-  pub listed : slice_get (in_order m g) k ≡ Some r
-  pub inside : place < length (rows m)
-  pub stands : slice_get (rows m) place ≡ Some r
-  pub named : slice_index d.names (balance_name m + 1 + k) ≡ balance_name m + 1 + place
-
-pub row_of_rank : (m : Parts) (g : List Row) (d : Dictionary) → IsMarket m → HoldsMarket m g d → (k : ℕ) (r : Row) → slice_get (in_order m g) k ≡ Some r → (place : ℕ) × IsRanked m g d k place r
-row_of_rank m g d market holds k r at =
-    let c = (in_order-from m g r (k, slice_get_within (in_order m g) k r at, get_or_from_slice_get (in_order m g) k r r at)).0 in (
-      c.0,
-      record {
-        listed = at;
-        inside = c.1;
-        stands = slice_get-get_or (rows m) c.0 r c.1 ∙ ap Some c.2;
-        named = row_rank m g d market holds k r at ∙ ap (row_name m) (sym c.2) ∙ row_name-at m (rows_apart m (names_apart m market)) c.0 r c.1;
-      },
-    )
-
-pub ranked_row : (m : Parts) (g : List Row) (d : Dictionary) → IsMarket m → HoldsMarket m g d → (k rank : ℕ) → balance_name m + 1 + k ≡ rank → rank < length d.names → (r : Row) × (slice_get (in_order m g) k ≡ Some r)
-ranked_row m g d market holds k rank e lt =
-    let count : length d.names ≡ balance_name m + 1 + length (in_order m g) = name_count m g d market holds in
-    some (in_order m g) k (Prim.omega (arith, e, lt, count))
-  where
-    some : (rs : List Row) (k : ℕ) → k < length rs → (r : Row) × (slice_get rs k ≡ Some r)
-    some [] k h = absurd (Prim.omega (arith, h))
-    some (r ∷ rs) zero h = (r, refl)
-    some (r ∷ rs) (suc k) h = some rs k (Prim.omega (arith, h))
-
--- ---- the duals of the rows of so many ranks
-module _ (m : Parts) (cost : Row → Fraction) (rs : List Row) where
-  abbrev pub duals_to : ℕ → List (Dual Fraction)
-  duals_to k = flat_map (λ r. dual_by (row_id m r) (cost r) (sign_of (cost r))) (take k rs)
-
-  pub duals_more : (k : ℕ) (r : Row) → slice_get rs k ≡ Some r → duals_to (k + 1) ≡ duals_to k ++ dual_by (row_id m r) (cost r) (sign_of (cost r))
-  duals_more k r at =
-      let f : Row → List (Dual Fraction) = λ (s : Row). dual_by (row_id m s) (cost s) (sign_of (cost s)) in
-      let one : get_or rs k r ≡ r = get_or_from_slice_get rs k r r at in
-      ap (flat_map f) (take_more rs k r (slice_get_within rs k r at) ∙ ap (λ (s : Row). take k rs ++ s ∷ []) one)
-      ∙ flat_map-append f (take k rs) (r ∷ [])
-      ∙ ap (λ (ds : List (Dual Fraction)). duals_to k ++ ds) (append-nil (f r))
-
-  pub duals_all : (k : ℕ) → length rs ≤ k → duals_to k ≡ flat_map (λ r. dual_by (row_id m r) (cost r) (sign_of (cost r))) rs
-  duals_all k h = ap (flat_map (λ (s : Row). dual_by (row_id m s) (cost s) (sign_of (cost s)))) (take_all k rs h)
+use Rattle.market_dict.proofs.HoldingLaws.{at_place}
 
 -- a number that was read, by rank
 pub cost_at : {N : Type 0} (value : N → Fraction) (cost : ℕ → Fraction) (xs : List N) (names : List ℕ) (k : ℕ) (x : N) → map value xs ≡ map cost names → k < length xs → x ≡ get_or xs k x → value x ≡ cost (slice_index names k)
@@ -123,6 +53,118 @@ cost_at value cost xs names k x same lt is =
     ap value is ∙ sym (get_or-map value xs k x (whole (pos 0)) lt)
     ∙ ap (λ (ys : List Fraction). get_or ys k (whole (pos 0))) same
     ∙ get_or-map cost names k 0 (whole (pos 0)) (Prim.omega (arith, lt, long))
+
+-- ---- the variables by rank
+module _ (m : Parts) (g : List Row) (d : Dictionary) (market : IsMarket m) (holds : HoldsMarket m g d) where
+  abbrev pub listed : List Variable
+  listed = variables m (in_order m g)
+
+  names_are : d.names ≡ map (name m) listed
+  unfolding system_in system_over
+  names_are = holds.same.variables
+
+  pub name_count : length d.names ≡ length listed
+  name_count = ap length names_are ∙ length-map listed (name m)
+
+  abbrev pub at_rank : ℕ → Variable
+  at_rank k = get_or listed k variable.Balance
+
+  pub name_at_rank : (k : ℕ) → k < length d.names → slice_index d.names k ≡ name m (at_rank k)
+  name_at_rank k lt = ap (λ (ws : List ℕ). slice_index ws k) names_are ∙ get_or-map (name m) listed k variable.Balance 0 (Prim.omega (arith, lt, name_count))
+
+  -- it is one over all rows of the market
+  rank_is : (k : ℕ) → k < length d.names → IsOf m (rows m) (at_rank k)
+  rank_is k lt =
+      of_more m (in_order m g) (rows m) (λ r c. (in_order-from m g r c).0) (at_rank k)
+      (variable_is m (in_order m g) (at_rank k) (at_place listed k variable.Balance (Prim.omega (arith, lt, name_count))))
+
+  pub rank_known : (k : ℕ) → k < length d.names → Contains (map (name m) (variables m (rows m))) (slice_index d.names k)
+  rank_known k lt = subst (Contains (map (name m) (variables m (rows m)))) (sym (name_at_rank k lt)) (in_mapped (name m) (variables m (rows m)) (at_rank k) (is_variable m (rows m) (at_rank k) (rank_is k lt)))
+
+  rank_variable : (k : ℕ) → k < length d.names → variable_of m (rows m) (slice_index d.names k) ≡ at_rank k
+  rank_variable k lt = ap (variable_of m (rows m)) (name_at_rank k lt) ∙ variable_at m (rows m) (names-ascend m (rows_apart m (names_apart m market))) (at_rank k) (rank_is k lt)
+
+  -- as it was read
+  pub rank_read : (k w : ℕ) (read v : Variable) → k < length d.names → w ≡ slice_index d.names k → read ≡ variable_of m (rows m) w → read ≡ v → at_rank k ≡ v
+  rank_read k w read v lt at of is = sym (rank_variable k lt) ∙ ap (variable_of m (rows m)) (sym at) ∙ sym of ∙ is
+
+  -- so a limit of a rank is one of the market
+  pub rank_row : (k w : ℕ) (read : Variable) (r : Row) → k < length d.names → w ≡ slice_index d.names k → read ≡ variable_of m (rows m) w → read ≡ variable.Limit r → Contains (rows m) r
+  rank_row k w read r lt at of is = subst (IsOf m (rows m)) (rank_read k w read (variable.Limit r) lt at of is) (rank_is k lt)
+
+  pub rank_inside : (k : ℕ) → k < length d.names → k < length listed
+  rank_inside k lt = Prim.omega (arith, lt, name_count)
+
+  -- what it costs
+  pub rank_cost : {N : Type 0} (value : N → Fraction) (cost : ℕ → Fraction) (xs : List N) (k : ℕ) (x : N) (v : Variable) → map value xs ≡ map cost d.names → k < length xs → k < length d.names → x ≡ get_or xs k x → at_rank k ≡ v → value x ≡ cost (name m v)
+  rank_cost value cost xs k x v same h lt at is = cost_at value cost xs d.names k x same h at ∙ ap cost (name_at_rank k lt ∙ ap (name m) is)
+
+-- the variable of a name, by kind
+module _ (m : Parts) (market : IsMarket m) where
+  named_one : (v : Variable) → IsOf m (rows m) v → (w : ℕ) → w ≡ name m v → v ≡ variable_of m (rows m) w
+  named_one v is w e = sym (ap (variable_of m (rows m)) e ∙ variable_at m (rows m) (names-ascend m (rows_apart m (names_apart m market))) v is)
+
+  pub named_block : (w : ℕ) → w < length m.blocks → variable.Block w ≡ variable_of m (rows m) w
+  named_block w lt = named_one (variable.Block w) lt w refl
+
+  pub named_balance : (w : ℕ) → w ≡ length m.blocks → variable.Balance ≡ variable_of m (rows m) w
+  named_balance w e = named_one variable.Balance tt w e
+
+  pub named_limit : (w : ℕ) (r : Row) → Contains (rows m) r → w ≡ row_name m r → variable.Limit r ≡ variable_of m (rows m) w
+  named_limit w r c e = named_one (variable.Limit r) c w e
+
+  -- a name is below the count of all
+  pub name_below : (w : ℕ) → Contains (map (name m) (variables m (rows m))) w → w < length m.blocks + 1 + length (rows m)
+  name_below w c = let v = mapped (name m) (variables m (rows m)) w c in subst (λ (x : ℕ). x < length m.blocks + 1 + length (rows m)) v.2 (below v.0 (variable_is m (rows m) v.0 v.1))
+    where
+      below : (v : Variable) → IsOf m (rows m) v → name m v < length m.blocks + 1 + length (rows m)
+      below (variable.Block j) lt = Prim.omega (arith, lt)
+      below variable.Balance is = Prim.omega arith
+      below (variable.Limit r) (i, lt, at) = let named : row_name m r ≡ length m.blocks + 1 + i = ap (row_name m) (sym at) ∙ row_name-at m (rows_apart m (names_apart m market)) i r lt in Prim.omega (arith, named, lt)
+
+-- ---- the duals of variables by what a MW costs on each
+module _ (m : Parts) (cost : ℕ → Fraction) where
+  abbrev pub dual_of : Variable → List (Dual Fraction)
+  dual_of (variable.Block j) = []
+  dual_of variable.Balance = []
+  dual_of (variable.Limit r) = dual_by (row_id m r) (cost (row_name m r)) (sign_of (cost (row_name m r)))
+
+  abbrev pub duals_to : List Variable → ℕ → List (Dual Fraction)
+  duals_to vs k = flat_map dual_of (take k vs)
+
+  duals_more : (vs : List Variable) (k : ℕ) → k < length vs → duals_to vs (k + 1) ≡ duals_to vs k ++ dual_of (get_or vs k variable.Balance)
+  duals_more vs k lt =
+      let v : Variable = get_or vs k variable.Balance in
+      ap (flat_map dual_of) (take_more vs k variable.Balance lt)
+      ∙ flat_map-append dual_of (take k vs) (v ∷ [])
+      ∙ ap (λ (ds : List (Dual Fraction)). duals_to vs k ++ ds) (append-nil (dual_of v))
+
+  -- with one rank more
+  pub limits_step : (vs : List Variable) (k : ℕ) (v : Variable) (old new es : List (Dual Fraction)) → k < length vs → get_or vs k variable.Balance ≡ v → old ≡ duals_to vs k → new ≡ old ++ es → es ≡ dual_of v → new ≡ duals_to vs (k + 1)
+  limits_step vs k v old new es lt at before more is = more ∙ ap₂ (λ (ds fs : List (Dual Fraction)). ds ++ fs) before (is ∙ ap dual_of (sym at)) ∙ sym (duals_more vs k lt)
+
+  no_duals : (js : List ℕ) → flat_map dual_of (map variable.Block js) ≡ []
+  no_duals [] = refl
+  no_duals (j ∷ js) = flat_map-cons dual_of (variable.Block j) (map variable.Block js) ∙ no_duals js
+
+  pub duals_all : (rs : List Row) (k : ℕ) → length (variables m rs) ≤ k → duals_to (variables m rs) k ≡ flat_map (λ r. dual_of (variable.Limit r)) rs
+  duals_all rs k h =
+      ap (flat_map dual_of) (take_all k (variables m rs) h)
+      ∙ flat_map-append dual_of (columns m) (row_variables rs)
+      ∙ ap (λ (ds : List (Dual Fraction)). ds ++ flat_map dual_of (row_variables rs)) (no_duals (places (length m.blocks)))
+      ∙ flat_map-cons dual_of variable.Balance (map variable.Limit rs)
+      ∙ flat_map-map dual_of variable.Limit rs
+
+  -- where the balance is among the first
+  pub energy_step : {E : Type 0} (vs : List Variable) (k : ℕ) (v : Variable) → k < length vs → get_or vs k variable.Balance ≡ v → v ≢ variable.Balance → (Contains (take k vs) variable.Balance → E) → Contains (take (k + 1) vs) variable.Balance → E
+  energy_step vs k v lt at other before c =
+      elim (Contains-append_cases (take k vs) (get_or vs k variable.Balance ∷ []) variable.Balance (subst (λ (us : List Variable). Contains us variable.Balance) (take_more vs k variable.Balance lt) c)) [
+        | inl h ↦ before h
+        | inr h ↦ elim (Contains-cases (get_or vs k variable.Balance) [] variable.Balance h) [ inl e ↦ absurd (other (sym at ∙ e)) | inr n ↦ absurd (Prim.omega (arith, n.1)) ]
+      ]
+
+  pub balance_all : (rs : List Row) (k : ℕ) → length (variables m rs) ≤ k → Contains (take k (variables m rs)) variable.Balance
+  balance_all rs k h = subst (λ (us : List Variable). Contains us variable.Balance) (sym (take_all k (variables m rs) h)) (is_variable m rs variable.Balance tt)
 
 -- ---- the multipliers of a stuck variable
 not_eqb : (a b : ℕ) → a ≢ b → a == b ≡ false
@@ -206,16 +248,6 @@ module _ (d : Dictionary) (sound : IsDictionary d) (row : ℕ) (within : row < l
 
   pub below_refused : (bound : ℕ) (p : Passed Fraction) → IsRefusal Minus (note_of d (slice_index d.basics row)).value (note_of d (slice_index d.basics row)).low bound p → IsSystemPair (system_in d) bound p.op p.left p.right
   below_refused bound p = refused_pair (note_of d (slice_index d.basics row)).value (note_of d (slice_index d.basics row)).low bound p value_number low_number
-
--- the place of the row of a rank among those of the market
-pub rank_place : (m : Parts) (g : List Row) (d : Dictionary) → IsMarket m → HoldsMarket m g d → (rank : ℕ) → balance_name m < rank → rank < length d.names
-    → (k : ℕ) × (r : Row) × (place : ℕ) × (balance_name m + 1 + k ≡ rank) × IsRanked m g d k place r
-rank_place m g d market holds rank behind within =
-    let k : ℕ = rank - (balance_name m + 1) in
-    let e : balance_name m + 1 + k ≡ rank = Prim.omega arith in
-    let found = ranked_row m g d market holds k rank e within in
-    let ranked = row_of_rank m g d market holds k found.0 found.1 in
-    (k, found.0, ranked.0, e, ranked.1)
 
 -- ---- an exact number, or two that passed
 pub exact_ok : {N : Type 0} (value : N → Fraction) (bound : ℕ) (op : Op) (l r : N) (result : Result N (Passed N)) (z : Fraction) → IsExact value bound op l r result → outcome op (value l) (value r) ≡ z → IfOk result (λ x. value x ≡ z)

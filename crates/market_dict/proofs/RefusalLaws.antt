@@ -18,7 +18,7 @@ use Rattle.market_system.specs.MarketNumbers.{MarketNumber, of_flow as flows_nam
 use Rattle.market_system.specs.PairLaw.{RefusalsArePairs}
 use Rattle.market_system.specs.WorkingPairs.{IsRangeOf}
 use Rattle.market_system.proofs.PairCases.{law_of_the_pairs, of_system_pair, row_flow_number}
-use Rattle.market_dict.specs.Refusals.{IsLeavingRefusal, of_high, of_low, IsPosingRefusal, of_sum, of_bound}
+use Rattle.market_dict.specs.Refusals.{IsRoomRefusal, of_high, of_low, IsBoundsRefusal, of_sum, of_bound}
 
 -- of the market's system
 pub pair_range : {N : Type 0} (value : N → Fraction) (bound : ℕ) (m : Parts) (t g : List Row) (p : Passed N) → Growth m t g → IsPairOf value bound (system_of m g) p → IsRangeOf m t bound (passed_at value p)
@@ -32,10 +32,10 @@ module _ (m : Parts) (t g : List Row) (h : Choice) (bound : ℕ) (p : Passed Fra
   flow_number : (r : Row) → Contains (rows m) r → MarketNumber m g h Quantity (flow m (empty m) r)
   flow_number r c = row_flow_number m t g grown h choice bound p market (empty m) (inl refl) r c
 
-  bound_range : (r : Row) → Contains (rows m) r → IsLeavingRefusal m bound r p → IsRangeOf m t bound p
+  bound_range : (r : Row) → Contains (rows m) r → IsRoomRefusal m bound r p → IsRangeOf m t bound p
   bound_range r c (of_high a) = pairs.two Quantity (limit m r) (flow m (empty m) r) (is_limit r c) (flow_number r c) (inr a)
   bound_range r c (of_low a) = pairs.two Quantity (neg_ℚ (limit m r)) (flow m (empty m) r) (of_opposite Quantity (limit m r) (is_limit r c)) (flow_number r c) (inr a)
 
-  pub posing_range : IsPosingRefusal m bound p → IsRangeOf m t bound p
+  pub posing_range : IsBoundsRefusal m bound p → IsRangeOf m t bound p
   posing_range (of_sum (terms, sum, a)) = pairs.sum (Some Quantity) terms (flows_named (empty m) terms (inl refl) sum) a
   posing_range (of_bound r c a) = bound_range r c a

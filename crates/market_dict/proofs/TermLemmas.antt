@@ -13,6 +13,13 @@ use Rattle.market_model.specs.declared.participants.Block.{Block}
 use Rattle.market_model.specs.declared.participants.Parts.{Parts}
 use Rattle.market_model.specs.Dispatch.{Dispatch, places, signed_by_side, block_at, quantity, injection, balance, balance_terms}
 use Rattle.market_model.specs.declared.limits.Row.{Row}
+use Rattle.market_model.proofs.ListSteps.{map-map}
+use Rattle.market_system.specs.declared.variables.Variable.{Variable}
+use Rattle.market_system.specs.declared.variables.Variable.TheVariants as variable
+use Rattle.market_system.specs.MarketSystem.{objective_price, columns, row_variables, variables}
+use Rattle.market_dict.specs.Holding.{prices}
+use Rattle.market_dict.proofs.ListedLemmas.{map-pushed}
+use Rattle.market_model.specs.Optimality.{block_value}
 use Rattle.market_model.specs.LimitRows.{line_flow}
 use Rattle.market_model.specs.NamedSums.{IsRefusedIn, IsRefusal}
 use Rattle.market_model.proofs.MorePlaces.{total-places_more}
@@ -56,10 +63,18 @@ priced m k block price at e = e ∙ ap (λ (b : Block). neg_ℚ (signed_by_side 
 pub quantity_read : (m : Parts) (k : ℕ) (block : Block) (high : Fraction) → block ≡ block_at m k → high ≡ whole block.quantity → high ≡ quantity m k
 quantity_read m k block high at e = e ∙ ap (λ (b : Block). whole b.quantity) at
 
--- ---- one row more
-pub bound_more : {N : Type 0} (value : N → Fraction) (first : List Fraction) (y : Fraction) (of_row : Row → Fraction) (g : List Row) (r : Row) (xs : List N) (x : N)
-    → map value xs ≡ first ++ y ∷ map of_row g → value x ≡ of_row r → map value (xs ++ x ∷ []) ≡ first ++ y ∷ map of_row (g ++ r ∷ [])
-bound_more value first y of_row g r xs x before here =
-    map-append value xs (x ∷ []) ∙ ap₂ (λ (us vs : List Fraction). us ++ vs) before (ap (λ (z : Fraction). z ∷ []) here)
-    ∙ append_assoc first (y ∷ map of_row g) (of_row r ∷ [])
-    ∙ ap (λ (zs : List Fraction). first ++ y ∷ zs) (sym (map-append of_row g (r ∷ [])))
+-- ---- prices and bounds of the variables
+pub prices_are : (m : Parts) → prices m ≡ map (block_value m) (places (length m.blocks))
+prices_are m = map-map variable.Block (objective_price m) (places (length m.blocks))
+
+-- with no limit row
+pub first_ones : (m : Parts) (of : Variable → Fraction) → map of (variables m []) ≡ map (λ j. of (variable.Block j)) (places (length m.blocks)) ++ of variable.Balance ∷ []
+first_ones m of = map-append of (columns m) (row_variables []) ∙ ap (λ (xs : List Fraction). xs ++ of variable.Balance ∷ []) (map-map variable.Block of (places (length m.blocks)))
+
+-- with one row more
+pub bound_more : {N : Type 0} (value : N → Fraction) (m : Parts) (of : Variable → Fraction) (g : List Row) (r : Row) (xs : List N) (x : N)
+    → map value xs ≡ map of (variables m g) → value x ≡ of (variable.Limit r) → map value (xs ++ x ∷ []) ≡ map of (variables m (g ++ r ∷ []))
+bound_more value m of g r xs x before here =
+    map-pushed value xs (map of (variables m g)) x (of (variable.Limit r)) before here
+    ∙ sym (map-append of (variables m g) (variable.Limit r ∷ []))
+    ∙ ap (map of) (append_assoc (columns m) (row_variables g) (variable.Limit r ∷ []) ∙ ap (λ (vs : List Variable). columns m ++ variable.Balance ∷ vs) (sym (map-append variable.Limit g (r ∷ []))))

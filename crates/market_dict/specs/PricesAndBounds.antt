@@ -1,17 +1,16 @@
 -- The prices and bounds of a market's system in a dictionary's order, with the flows that they are made from.
-use Rattle.std.specs.Prelude.{◌≡◌, List, length, map}
+use Rattle.std.specs.Prelude.{◌≡◌, List, map}
 use Rattle.fraction_theory.specs.Fraction.{Fraction}
 use Rattle.market_model.specs.declared.participants.Parts.{Parts}
-use Rattle.market_model.specs.Dispatch.{places, empty}
+use Rattle.market_model.specs.Dispatch.{empty}
 use Rattle.market_model.specs.declared.limits.Row.{Row}
-use Rattle.market_model.specs.Optimality.{block_value}
 use Rattle.limit_screen.specs.Flows.{flows_at}
-use Rattle.market_dict.specs.Holding.{lows, highs}
+use Rattle.market_dict.specs.Holding.{prices, lows, highs}
 use Rattle.market_dict.specs.declared.posing.PricesAndBounds.{PricesAndBounds}
 
 -- the prices and bounds of the market over these rows, and its flows where nothing is accepted
 pub record ArePricesAndBounds {N : Type 0} (value : N → Fraction) (m : Parts) (g : List Row) (t : PricesAndBounds N) : Type 0 where
-  pub prices : map value t.prices ≡ map (block_value m) (places (length m.blocks))
+  pub prices : map value t.prices ≡ prices m
   pub lows : map (λ b. value b.low) t.bounds ≡ lows m g
   pub highs : map (λ b. value b.high) t.bounds ≡ highs m g
   pub base_flows : map value t.base_flows.items ≡ flows_at m (empty m)

@@ -11,11 +11,11 @@ use Rattle.market_model.specs.NamedSums.{IsRefusal}
 use Rattle.market_model.specs.SumTables.{IsRefusedAmong, FlowSum}
 
 -- an operation refused for what the flow of a row, where nothing is accepted, leaves of its limit on either side
-pub data IsLeavingRefusal (m : Parts) (bound : ℕ) (r : Row) (p : Passed Fraction) : Type 0 where
-  of_high : IsRefusal Minus (limit m r) (flow m (empty m) r) bound p → IsLeavingRefusal m bound r p
-  of_low : IsRefusal Minus (neg_ℚ (limit m r)) (flow m (empty m) r) bound p → IsLeavingRefusal m bound r p
+pub data IsRoomRefusal (m : Parts) (bound : ℕ) (r : Row) (p : Passed Fraction) : Type 0 where
+  of_high : IsRefusal Minus (limit m r) (flow m (empty m) r) bound p → IsRoomRefusal m bound r p
+  of_low : IsRefusal Minus (neg_ℚ (limit m r)) (flow m (empty m) r) bound p → IsRoomRefusal m bound r p
 
 -- an operation refused for prices and bounds: in a sum of what flows where nothing is accepted, or in a bound of a row
-pub data IsPosingRefusal (m : Parts) (bound : ℕ) (p : Passed Fraction) : Type 0 where
-  of_sum : IsRefusedAmong (FlowSum m (empty m)) bound p → IsPosingRefusal m bound p
-  of_bound : (r : Row) → Contains (rows m) r → IsLeavingRefusal m bound r p → IsPosingRefusal m bound p
+pub data IsBoundsRefusal (m : Parts) (bound : ℕ) (p : Passed Fraction) : Type 0 where
+  of_sum : IsRefusedAmong (FlowSum m (empty m)) bound p → IsBoundsRefusal m bound p
+  of_bound : (r : Row) → Contains (rows m) r → IsRoomRefusal m bound r p → IsBoundsRefusal m bound p

@@ -11,8 +11,8 @@ ghost use Rattle.market_model.specs.Optimality.{block_value};
 ghost use Rattle.market_model.specs.Valued.{passed_at};
 ghost use Rattle.market_system.specs.MarketSystem.{residual_demand as residual_demand_of, least_added, most_added};
 ghost use Rattle.limit_screen.specs.Flows.{flows_at, IsFlowsRefusal};
-ghost use Rattle.market_dict.specs.Holding.{lows, highs};
-ghost use Rattle.market_dict.specs.Refusals.{IsPosingRefusal};
+ghost use Rattle.market_dict.specs.Holding.{prices as prices_of, lows, highs};
+ghost use Rattle.market_dict.specs.Refusals.{IsBoundsRefusal};
 ghost use Rattle.market_dict.specs.PricesAndBounds.{ArePricesAndBounds};
 ghost use Rattle.market_dict.specs.Findings.{OnPassed};
 
@@ -51,7 +51,7 @@ fn block_price<N: Exact>(block: &Block) -> N
 
 /// What a MW of each block is worth.
 fn block_prices<N: Exact>(alloc: Global, market: &Market) -> Result<List<N>, Memory>
-    ensures { IfOk result (λ prices. map N.value prices ≡ map (block_value market.now) (places (length market.now.blocks))) }
+    ensures { IfOk result (λ prices. map N.value prices ≡ prices_of market.now) }
 {
     let mut prices = List::new(alloc);
     for block in market.blocks().slice() {
@@ -122,7 +122,7 @@ fn row_bounds<N: Exact>(market: &Market, base_flows: &[N], row: Row) -> Result<B
     requires base_flows { map N.value base_flows.now ≡ flows_at market.now (empty market.now) }
     ensures low { IfOk result (λ bounds. N.value bounds.low ≡ least_added market.now row) }
     ensures high { IfOk result (λ bounds. N.value bounds.high ≡ most_added market.now row) }
-    ensures cause { IfErr result (λ passed. IsPosingRefusal market.now N.bound (passed_at N.value passed)) }
+    ensures cause { IfErr result (λ passed. IsBoundsRefusal market.now N.bound (passed_at N.value passed)) }
 {
     let _lines = market.lines();
     let flow = row_flow(market, base_flows, row)?;
@@ -140,7 +140,7 @@ pub fn prices_and_bounds<N: Exact>(
 ) -> Result<PricesAndBounds<N>, Stop<N>>
     requires rows { All (λ r. Contains (rows market.now) r) taken.now }
     ensures posing { IfOk result (ArePricesAndBounds N.value market.now taken.now) }
-    ensures cause { IfErr result (λ stop. OnPassed stop (λ p. IsPosingRefusal market.now N.bound (passed_at N.value p))) }
+    ensures cause { IfErr result (λ stop. OnPassed stop (λ p. IsBoundsRefusal market.now N.bound (passed_at N.value p))) }
 {
     let prices = block_prices(alloc, market)?;
     let base_flows = base_flows_of(alloc, market)?;
@@ -157,7 +157,7 @@ pub fn prices_and_bounds<N: Exact>(
     Ok(posing)
 }
 
-/// The same with the bounds of one limit more. After an `Err` they are as they were.
+/// The same with the bounds of one limit more.
 pub fn take_bounds<N: Exact>(
     market: &Market,
     posing: &mut PricesAndBounds<N>,
@@ -166,8 +166,7 @@ pub fn take_bounds<N: Exact>(
     requires row { Contains (rows market.now) row }
     requires posing { (g : List Row) × ArePricesAndBounds N.value market.now g posing.old }
     ensures taken { (g : List Row) → ArePricesAndBounds N.value market.now g posing.old → IfOk result (λ _. ArePricesAndBounds N.value market.now (g ++ row ∷ []) posing.new) }
-    ensures kept { IfErr result (λ _. posing.new ≡ posing.old) }
-    ensures cause { IfErr result (λ stop. OnPassed stop (λ p. IsPosingRefusal market.now N.bound (passed_at N.value p))) }
+    ensures cause { IfErr result (λ stop. OnPassed stop (λ p. IsBoundsRefusal market.now N.bound (passed_at N.value p))) }
 {
     let bounds = row_bounds(market, &posing.base_flows, row)?;
     posing.bounds.push(bounds)?;

@@ -1,18 +1,17 @@
 //! What a dictionary that was run says of its market.
 
-ghost use Rattle.std.specs.Prelude.{◌≡◌, ℕ, ◌+◌, ◌<◌, false, not, List, ◌++◌, length, map, slice_index, Contains, IfOk, IfErr};
-ghost use Rattle.std.specs.List.{slice_get};
+ghost use Rattle.std.specs.Prelude.{◌≡◌, ℕ, ◌<◌, false, not, List, ◌++◌, length, map, slice_index, Contains, IfOk, IfErr};
 ghost use Rattle.fraction_theory.specs.Fraction.{Fraction, neg_ℚ};
 ghost use Rattle.fraction_theory.specs.Signs.{sign_of};
 ghost use Rattle.linear_dict.specs.Causes.{IsPairOf};
-ghost use Rattle.linear_dict.specs.Dictionaries.{IsDictionary, choice_of, note_of, system_of as system_in};
+ghost use Rattle.linear_dict.specs.Dictionaries.{IsDictionary, choice_of, note_of, system_in};
 ghost use Rattle.simplex_core.specs.Outcomes.{ShowsChoice};
 ghost use Rattle.simplex_theory.specs.Steps.{opposite_if};
 ghost use Rattle.simplex_theory.specs.Stuck.{multiplier as multiplier_of, margin as margin_of};
 ghost use Rattle.market_model.specs.declared.limits.Row.{Row};
-ghost use Rattle.market_model.specs.LimitRows.{row_id};
+ghost use Rattle.market_model.specs.LimitRows.{rows};
 ghost use Rattle.market_model.specs.Valued.{dual_at, duals_at};
-ghost use Rattle.market_system.specs.MarketSystem.{balance_name, row_name, in_order, dual_by, duals_of_costs as duals_of, choice_dispatch, choice_duals, system_of};
+ghost use Rattle.market_system.specs.MarketSystem.{name as name_of, variables, variable_of as variable_named, balance_name, row_name, in_order, dual_by, duals_of_costs as duals_of, choice_dispatch, choice_duals, system_of};
 ghost use Rattle.market_system.specs.SolvedLaws.{stuck_duals};
 ghost use Rattle.market_model.specs.PutIn.{dispatch_of};
 ghost use Rattle.market_dict.specs.Findings.{OnPassed};
@@ -20,9 +19,10 @@ ghost use Rattle.market_dict.specs.Holding.{HoldsMarket, HoldsSystem};
 
 use crate::stop::Stop;
 use exact_fraction::{Exact, Passed, Sign};
-use limit_rows::id;
+use limit_rows::{id, name_at, row_named};
 use linear_dict::{Dict, Place};
 use market_model::{Dual, Duals, Farkas, Market, RowId, datum};
+use market_system::Variable;
 use plain_list::{List, Memory};
 use std::alloc::Global;
 
@@ -37,8 +37,8 @@ pub(crate) fn dispatch<N: Exact>(
     ensures { (g : List Row) → HoldsSystem market.now g dict.now → IfOk result (λ values. dispatch_of N.value values ≡ choice_dispatch market.now g (choice_of dict.now)) }
 {
     let mut values = List::new(alloc);
-    for rank in 0..market.blocks().len() {
-        values.push(dict.note_at(rank).value)?;
+    for block in 0..market.blocks().len() as u32 {
+        values.push(dict.note(block).value)?;
     }
     Ok(values)
 }
@@ -63,18 +63,27 @@ fn push_dual<N: Exact>(limits: &mut List<Dual<N>>, row: RowId, cost: N) -> Resul
     }
 }
 
-/// The name of the limit of a rank behind those of the blocks and of the balance.
-fn limit_of<N: Exact>(market: &Market, dict: &Dict<N>, rank: usize) -> RowId
-    requires holds { (g : List Row) × HoldsMarket market.now g dict.now }
-    requires behind { balance_name market.now < rank }
-    requires within { rank < length dict.now.names }
-    ensures { (g : List Row) (k : ℕ) (r : Row) → HoldsMarket market.now g dict.now → balance_name market.now + 1 + k ≡ rank → slice_get (in_order market.now g) k ≡ Some r → result ≡ row_id market.now r }
+/// The variable of a name.
+fn variable_of(market: &Market, name: u32) -> Variable
+    requires { Contains (map (name_of market.now) (variables market.now (rows market.now))) name }
+    ensures { result ≡ variable_named market.now (rows market.now) name }
 {
-    let name = dict.ranked(rank) as usize;
-    id(market, name - market.blocks().len() - 1)
+    let _lines = market.lines();
+    let blocks = market.blocks().len();
+    let place = name as usize;
+    if place < blocks {
+        return Variable::Block(place);
+    }
+    if place == blocks {
+        return Variable::Balance;
+    }
+    match row_named(market, id(market, place - blocks - 1)) {
+        Some(row) => Variable::Limit(row),
+        None => unreachable!(),
+    }
 }
 
-/// The duals of what a MW costs on the balance and on the flow of each limit taken, by the ranks of their names.
+/// The duals of what a MW costs on the balance and on the flow of each limit taken, of what it costs on each variable by rank.
 fn duals_by<N: Exact>(
     alloc: Global,
     market: &Market,
@@ -86,15 +95,17 @@ fn duals_by<N: Exact>(
     ensures { (g : List Row) (cost : ℕ → Fraction) → HoldsMarket market.now g dict.now → map N.value costs.now ≡ map cost dict.now.names
         → IfOk result (λ duals. duals_at N.value duals ≡ duals_of market.now (neg_ℚ (cost (balance_name market.now))) (λ r. cost (row_name market.now r)) (in_order market.now g)) }
 {
-    let balance = market.blocks().len();
+    let _lines = market.lines();
+    let mut energy: N = datum(0);
     let mut limits = List::new(alloc);
-    for rank in balance + 1..costs.len() {
-        push_dual(&mut limits, limit_of(market, dict, rank), costs[rank])?;
+    for rank in 0..costs.len() {
+        match variable_of(market, dict.ranked(rank)) {
+            Variable::Block(_) => {}
+            Variable::Balance => energy = costs[rank].neg(),
+            Variable::Limit(row) => push_dual(&mut limits, name_at(market, row), costs[rank])?,
+        }
     }
-    Ok(Duals {
-        energy: costs[balance].neg(),
-        limits,
-    })
+    Ok(Duals { energy, limits })
 }
 
 /// The reduced prices noted, by rank.

@@ -38,7 +38,7 @@ fn row_name(market: &Market, row: Row) -> u32
     }
 }
 
-/// Puts in a limit row as the last one. After an `Err` the dictionary is as it was.
+/// Puts in a limit row as the last one.
 pub fn take_limit<N: Exact>(
     alloc: Global,
     market: &Market,
@@ -48,7 +48,6 @@ pub fn take_limit<N: Exact>(
     requires row { Contains (rows market.now) row }
     requires holds { (g : List Row) × HoldsMarket market.now g dict.old × ¬ (Contains g row) }
     ensures taken { (g : List Row) → HoldsMarket market.now g dict.old → IfOk result (λ _. HoldsMarket market.now (g ++ row ∷ []) dict.new) }
-    ensures kept { IfErr result (λ _. dict.new ≡ dict.old) }
     ensures pair { (g : List Row) → HoldsMarket market.now g dict.old → IfErr result (IsPairOver N.value N.bound market.now (g ++ row ∷ [])) }
 {
     let _lines = market.lines();

@@ -1,7 +1,7 @@
 //! From a posed dictionary of a market to a best dispatch for the limits taken, or to duals that show that none is feasible.
 
 ghost use Rattle.std.specs.Prelude.{List, IfOk, IfErr};
-ghost use Rattle.linear_dict.specs.Dictionaries.{system_of as system_in};
+ghost use Rattle.linear_dict.specs.Dictionaries.{system_in};
 ghost use Rattle.simplex_core.specs.Outcomes.{IsEmptyAt, ShowsChoice};
 ghost use Rattle.simplex_core.specs.States.{state_of};
 ghost use Rattle.simplex_theory.specs.States.{IsSolved};

@@ -211,10 +211,10 @@ bought = record (bare_parts
     (buses 0 50 0)
     (record { row = 1; bus = 0; fixed = pos 0; up = mw 100; down = pos 0 } ∷ record { row = 2; bus = 1; fixed = pos 0; up = mw 100; down = pos 0 } ∷ record { row = 3; bus = 2; fixed = pos 0; up = pos 0; down = mw 20 } ∷ [])
     (record { unit = 0; side = Sell; quantity = mw 100; price = price 10 } ∷ record { unit = 1; side = Sell; quantity = mw 100; price = price 30 } ∷ record { unit = 2; side = Buy; quantity = mw 20; price = price 40 } ∷ [])) {
-  lines = line 1 None None 0 ∷ line 2 (Some (mw 45)) None 0 ∷ line 3 None None 0 ∷ [];
-  shift = shifts;
-  loss = losses;
-}
+      lines = line 1 None None 0 ∷ line 2 (Some (mw 45)) None 0 ∷ line 3 None None 0 ∷ [];
+      shift = shifts;
+      loss = losses;
+    }
 
 abbrev half_bought : Dispatch
 half_bought = dispatch_by (whole (mw 60) ∷ whole (mw 0) ∷ whole (mw 10) ∷ [])

@@ -127,7 +127,7 @@ module _ (m : Parts) where
     coefficient = λ r j _ _. ap₂ (λ (f : Variable → Variable → Fraction) (v : ℕ → Variable). f (v r) (v j)) entries_framed (variable_framed g);
   }
 
-rows_in_turn : (s t u : System) → SameRows s t → SameRows t u → SameRows s u
+pub rows_in_turn : (s t u : System) → SameRows s t → SameRows t u → SameRows s u
 rows_in_turn s t u first second = record {
   variables = first.variables ∙ second.variables;
   columns = first.columns ∙ second.columns;
@@ -141,6 +141,13 @@ same_rows m n g same =
     rows_in_turn (system_of m g) (system_of (frame n) g) (system_of n g)
     (subst (λ (p : Parts). SameRows (system_of m g) (system_of p g)) same (rows_turned_round (system_of (frame m) g) (system_of m g) (frame_rows m g)))
     (frame_rows n g)
+
+-- they have the same columns, and the same names of variables
+pub same_columns : (m n : Parts) → SameFrame m n → columns m ≡ columns n
+same_columns m n same = sym (columns_framed m) ∙ ap columns same ∙ columns_framed n
+
+pub same_names : (m n : Parts) → SameFrame m n → name m ≡ name n
+same_names m n same = sym (names_framed m) ∙ ap name same ∙ names_framed n
 
 pub law_of_the_frame : LawOfTheFrame
 law_of_the_frame m n g same = (

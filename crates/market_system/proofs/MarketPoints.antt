@@ -1,6 +1,6 @@
 -- The points of a market's system over a list of limit rows are the dispatches that are feasible for the list.
-use Rattle.std.specs.Prelude.{◌≡◌, ℕ, ◌<◌, ◌==◌, List, [], ◌∷◌, length, map, filter, Contains, AllPairs, refl, ◌⊎◌}
-use Rattle.std.proofs.Common.{suc, arith, ap, sym, ◌∙◌, subst, subst₂, inl, inr, get_or}
+use Rattle.std.specs.Prelude.{◌≡◌, ℕ, ◌<◌, ◌==◌, List, [], ◌∷◌, length, map, filter, Contains, AllPairs, refl}
+use Rattle.std.proofs.Common.{suc, arith, ap, sym, ◌∙◌, subst, subst₂, get_or}
 use Rattle.std.proofs.lemmas.List.{get_or-map}
 use Rattle.std.proofs.lemmas.List.FromFn.{length-range_with_len, get_or-range_with_len}
 use Rattle.fraction_theory.specs.Fraction.{Fraction, ◌+ℚ◌, ◌-ℚ◌, ◌*ℚ◌}
@@ -10,7 +10,7 @@ use Rattle.fraction_theory.proofs.Ring.{by_ring, by_ring1, at, pnil, pone, pneg,
 use Rattle.fraction_theory.proofs.FieldLaws.{ring_ℚ}
 use Rattle.fraction_theory.proofs.OrderLaws.{≤ℚ_of_same, ≤ℚ_antisym, by_le1, NonNeg-one}
 use Rattle.fraction_theory.proofs.SumLaws.{sum_by-plus, sum_by-same}
-use Rattle.fraction_theory.proofs.ListSums.{Contains-head, Contains-cons, Contains-cases, sum_by-members}
+use Rattle.fraction_theory.proofs.ListSums.{Contains-head, sum_by-members}
 use Rattle.linear_system.specs.Systems.{System, IsSystem, MeetsRows, InBounds, activity, objective}
 use Rattle.linear_system.proofs.Multipliers.{by_columns, by_columns-column, by_columns-row, by_columns-meets}
 use Rattle.market_model.specs.declared.participants.Side.{Side}
@@ -30,7 +30,7 @@ use Rattle.market_system.specs.declared.variables.Variable.TheVariants.{Block, B
 use Rattle.market_system.specs.MarketSystem.{balance_name, row_name, in_order, block_sign, residual_demand, block_coefficient, least_added, most_added, name, system_of}
 use Rattle.market_system.proofs.RowOrder.{RowsApart, in_order-in, in_order-from, in_order-ascends}
 use Rattle.market_system.proofs.SystemLaws.{signed-times}
-use Rattle.market_system.proofs.VariableLaws.{from_places, mapped, in_mapped, IsOf, by_variable, variable_in, rows_are, column_in, sum-variables, is_system_over, coefficient-at, price-at, low-at, high-at, activity-at, objective-at}
+use Rattle.market_system.proofs.VariableLaws.{row_listed, limit_in, from_places, IsOf, by_variable, variable_in, column_in, sum-variables, is_system_over, coefficient-at, price-at, low-at, high-at, activity-at, objective-at}
 
 -- ---- what blocks add to the flow of a row
 turned : (side : Side) (a x : Fraction) → a *ℚ signed_by_side side x ≡ signed_by_side side a *ℚ x
@@ -75,12 +75,6 @@ module _ (m : Parts) (apart : RowsApart m) (g : List Row) where
   abbrev pub s : System
   s = system_of m g
 
-  pub row_name_of : (w : ℕ) → Contains s.rows w → (w ≡ balance_name m) ⊎ ((r : Row) × Contains over r × (row_name m r ≡ w))
-  row_name_of w c = elim (Contains-cases (balance_name m) (map (row_name m) over) w (subst (λ (ws : List ℕ). Contains ws w) (rows_are m over) c)) [
-    | inl e ↦ inl (sym e)
-    | inr k ↦ inr (mapped (row_name m) over w k)
-  ]
-
   pub block_in : (j : ℕ) → j < length m.blocks → Contains s.variables j
   block_in j h = variable_in m over (Block j) h
 
@@ -90,11 +84,11 @@ module _ (m : Parts) (apart : RowsApart m) (g : List Row) where
   pub row_in : (r : Row) → Contains over r → Contains s.variables (row_name m r)
   row_in r c = variable_in m over (Limit r) c
 
-  pub balance_row : Contains s.rows (balance_name m)
-  balance_row = subst (λ (ws : List ℕ). Contains ws (balance_name m)) (sym (rows_are m over)) (Contains-head (balance_name m) (map (row_name m) over))
+  balance_row : Contains s.rows (balance_name m)
+  balance_row = row_listed m over Balance (Contains-head Balance (map Limit over))
 
-  pub row_row : (r : Row) → Contains over r → Contains s.rows (row_name m r)
-  row_row r c = subst (λ (ws : List ℕ). Contains ws (row_name m r)) (sym (rows_are m over)) (Contains-cons (balance_name m) (map (row_name m) over) (row_name m r) (in_mapped (row_name m) over r c))
+  row_row : (r : Row) → Contains over r → Contains s.rows (row_name m r)
+  row_row r c = row_listed m over (Limit r) (limit_in m over r c)
 
   -- the names of a market's system ascend, whatever the order of the list
   pub is_system_of : IsSystem s

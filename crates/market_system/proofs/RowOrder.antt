@@ -131,23 +131,3 @@ module _ (m : Parts) (apart : RowsApart m) where
   pub in_order-ascends : (g : List Row) → AllPairs (λ (a b : Row). row_name m a < row_name m b) (in_order m g)
   in_order-ascends [] = λ i j d lt h. absurd (Prim.omega (arith, h))
   in_order-ascends (t ∷ ts) = AllPairs-filter (λ (a b : Row). row_name m a < row_name m b) (is_in (t ∷ ts)) (rows m) names-ascend
-
-  -- rows of one name are one
-  pub one_name : (a b : Row) → Contains (rows m) a → Contains (rows m) b → row_name m a ≡ row_name m b → a ≡ b
-  one_name a b (i, li, ia) (j, lj, jb) e =
-      let at_i : row_name m a ≡ length m.blocks + 1 + i = ap (row_name m) (sym ia) ∙ row_name-at i a li in
-      let at_j : row_name m b ≡ length m.blocks + 1 + j = ap (row_name m) (sym jb) ∙ row_name-at j b lj in
-      let same : i ≡ j = Prim.omega (arith, at_i, at_j, e) in
-      sym ia ∙ ap (λ (k : ℕ). get_or (rows m) k a) same ∙ other j a b lj ∙ jb
-    where
-      other : (k : ℕ) (x y : Row) → k < length (rows m) → get_or (rows m) k x ≡ get_or (rows m) k y
-      other k x y h = in_list (rows m) k x y h
-        where
-          in_list : (rs : List Row) (k : ℕ) (x y : Row) → k < length rs → get_or rs k x ≡ get_or rs k y
-          in_list [] k x y h = absurd (Prim.omega (arith, h))
-          in_list (r ∷ rs) zero x y h = refl
-          in_list (r ∷ rs) (suc k) x y h = in_list rs k x y (Prim.omega (arith, h))
-
-  -- and each is behind the blocks and the balance
-  pub row_name-behind : (r : Row) → length m.blocks < row_name m r
-  row_name-behind r = Prim.omega arith

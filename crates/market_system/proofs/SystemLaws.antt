@@ -25,7 +25,7 @@ use Rattle.market_model.specs.declared.limits.Row.{Row}
 use Rattle.market_system.specs.declared.variables.Variable.TheVariants.{Balance}
 use Rattle.market_system.specs.MarketSystem.{balance_name, row_name, block_sign, system_of}
 use Rattle.market_model.proofs.MorePlaces.{places_more}
-use Rattle.market_system.proofs.VariableLaws.{in_places, from_places, variables_are as listed, rows_are, is_system_over, activity-at}
+use Rattle.market_system.proofs.VariableLaws.{row_listed, in_places, from_places, variables_are as listed, rows_are, is_system_over, activity-at}
 
 all_kept : {T : Type 0} (xs : List T) → filter (λ x. true) xs ≡ xs
 all_kept [] = refl
@@ -68,7 +68,7 @@ module _ (m : Parts) where
   raised v = sum_by (λ j. block_sign m j *ℚ v j) (places (length m.blocks))
 
   pub balance_row : Contains (system_of m []).rows (balance_name m)
-  balance_row = subst (λ (ws : List ℕ). Contains ws (balance_name m)) (sym (rows_are m [])) (Contains-head (balance_name m) [])
+  balance_row = row_listed m [] Balance (Contains-head Balance [])
 
   pub activity_is : (v : ℕ → Fraction) → activity (system_of m []) v (balance_name m) ≡ raised v
   activity_is v = activity-at m [] none_ascend v Balance tt

@@ -145,10 +145,10 @@ beside_load = record (bare_parts
     (buses 0 60 0)
     (record { row = 1; bus = 0; fixed = pos 0; up = mw 100; down = pos 0 } ∷ record { row = 2; bus = 2; fixed = pos 0; up = mw 100; down = pos 0 } ∷ [])
     blocks) {
-  lines = line 1 None None 0 ∷ line 2 (Some (mw 40)) None 0 ∷ line 3 None None 0 ∷ [];
-  shift = shifts;
-  loss = losses;
-}
+      lines = line 1 None None 0 ∷ line 2 (Some (mw 40)) None 0 ∷ line 3 None None 0 ∷ [];
+      shift = shifts;
+      loss = losses;
+    }
 
 -- so many thirds of a MW, of a price and of money
 abbrev mw_thirds : ℕ → Fraction

@@ -84,10 +84,10 @@ coefficient m (Limit r) (Block j) = block_coefficient m r j
 coefficient m row column = zero
 
 -- what a MW of it is worth
-abbrev pub price : Parts → Variable → Fraction
-price m (Block j) = block_value m j
-price m Balance = zero
-price m (Limit r) = zero
+abbrev pub objective_price : Parts → Variable → Fraction
+objective_price m (Block j) = block_value m j
+objective_price m Balance = zero
+objective_price m (Limit r) = zero
 
 -- its bounds
 abbrev pub low : Parts → Variable → Fraction
@@ -125,7 +125,7 @@ system_over m rs = record {
   columns = map (name m) (columns m);
   rows = map (name m) (row_variables rs);
   coefficient = λ r j. coefficient m (variable_of m rs r) (variable_of m rs j);
-  price = λ j. price m (variable_of m rs j);
+  price = λ j. objective_price m (variable_of m rs j);
   low = λ w. low m (variable_of m rs w);
   high = λ w. high m (variable_of m rs w);
 }

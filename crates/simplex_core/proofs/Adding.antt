@@ -15,7 +15,7 @@ use Rattle.linear_system.specs.Systems.{System}
 use Rattle.linear_system.specs.Choices.{Choice, at_bound, column_entry, reduced, value}
 use Rattle.linear_system.specs.Pairs.{IsSystemPair}
 use Rattle.linear_system.proofs.ChoiceLaws.{column_entry-itself, column_entry-other}
-use Rattle.linear_dict.specs.Dictionaries.{Dictionary, IsDictionary, system_of, choice_of, note_of, with_note}
+use Rattle.linear_dict.specs.Dictionaries.{Dictionary, IsDictionary, system_in, choice_of, note_of, with_note}
 use Rattle.linear_dict.specs.Notes.{Noted}
 use Rattle.linear_dict.specs.Places.{is_among}
 use Rattle.simplex_core.specs.Operations.{PriceOperation, scaling_price, adding_scaled, adding_own, BoundOperation, scaling_bound, adding_bound}
@@ -44,19 +44,19 @@ value_so_far d k b = if (choice_of d).basic b then with_value (note_of d b) (sum
 module _ (d : Dictionary) (h : IsDictionary d) (w : ℕ) where
   pub price_added-basic : (j : ℕ) → Contains d.basics w → price_added d j w ≡ note_of d w
   unfolding price_added
-  price_added-basic j c = ap (λ (b : Bool). if b then note_of d w else with_reduced (note_of d w) ((note_of d w).reduced +ℚ (system_of d).price j *ℚ column_entry (choice_of d) j w)) (choice_basic d h w c)
+  price_added-basic j c = ap (λ (b : Bool). if b then note_of d w else with_reduced (note_of d w) ((note_of d w).reduced +ℚ (system_in d).price j *ℚ column_entry (choice_of d) j w)) (choice_basic d h w c)
 
-  pub price_added-other : (j : ℕ) → Contains d.others w → price_added d j w ≡ with_reduced (note_of d w) ((note_of d w).reduced +ℚ (system_of d).price j *ℚ column_entry (choice_of d) j w)
+  pub price_added-other : (j : ℕ) → Contains d.others w → price_added d j w ≡ with_reduced (note_of d w) ((note_of d w).reduced +ℚ (system_in d).price j *ℚ column_entry (choice_of d) j w)
   unfolding price_added
-  price_added-other j c = ap (λ (b : Bool). if b then note_of d w else with_reduced (note_of d w) ((note_of d w).reduced +ℚ (system_of d).price j *ℚ column_entry (choice_of d) j w)) (choice_other d h w c)
+  price_added-other j c = ap (λ (b : Bool). if b then note_of d w else with_reduced (note_of d w) ((note_of d w).reduced +ℚ (system_in d).price j *ℚ column_entry (choice_of d) j w)) (choice_other d h w c)
 
-  pub bound_added-basic : (j : ℕ) → Contains d.basics w → bound_added d j w ≡ with_value (note_of d w) ((note_of d w).value +ℚ (choice_of d).entry w j *ℚ at_bound (system_of d) (choice_of d) j)
+  pub bound_added-basic : (j : ℕ) → Contains d.basics w → bound_added d j w ≡ with_value (note_of d w) ((note_of d w).value +ℚ (choice_of d).entry w j *ℚ at_bound (system_in d) (choice_of d) j)
   unfolding bound_added
-  bound_added-basic j c = ap (λ (b : Bool). if b then with_value (note_of d w) ((note_of d w).value +ℚ (choice_of d).entry w j *ℚ at_bound (system_of d) (choice_of d) j) else note_of d w) (choice_basic d h w c)
+  bound_added-basic j c = ap (λ (b : Bool). if b then with_value (note_of d w) ((note_of d w).value +ℚ (choice_of d).entry w j *ℚ at_bound (system_in d) (choice_of d) j) else note_of d w) (choice_basic d h w c)
 
   pub bound_added-other : (j : ℕ) → Contains d.others w → bound_added d j w ≡ note_of d w
   unfolding bound_added
-  bound_added-other j c = ap (λ (b : Bool). if b then with_value (note_of d w) ((note_of d w).value +ℚ (choice_of d).entry w j *ℚ at_bound (system_of d) (choice_of d) j) else note_of d w) (choice_other d h w c)
+  bound_added-other j c = ap (λ (b : Bool). if b then with_value (note_of d w) ((note_of d w).value +ℚ (choice_of d).entry w j *ℚ at_bound (system_in d) (choice_of d) j) else note_of d w) (choice_other d h w c)
 
   pub reduced_so_far-basic : (k : ℕ) → Contains d.basics w → reduced_so_far d k w ≡ note_of d w
   unfolding reduced_so_far
@@ -76,11 +76,11 @@ module _ (d : Dictionary) (h : IsDictionary d) (w : ℕ) where
 
   reduced_note-basic : Contains d.basics w → reduced_note d w ≡ note_of d w
   unfolding reduced_note
-  reduced_note-basic c = ap (λ (b : Bool). if b then note_of d w else with_reduced (note_of d w) (reduced (system_of d) (choice_of d) w)) (choice_basic d h w c)
+  reduced_note-basic c = ap (λ (b : Bool). if b then note_of d w else with_reduced (note_of d w) (reduced (system_in d) (choice_of d) w)) (choice_basic d h w c)
 
-  reduced_note-other : Contains d.others w → reduced_note d w ≡ with_reduced (note_of d w) (reduced (system_of d) (choice_of d) w)
+  reduced_note-other : Contains d.others w → reduced_note d w ≡ with_reduced (note_of d w) (reduced (system_in d) (choice_of d) w)
   unfolding reduced_note
-  reduced_note-other c = ap (λ (b : Bool). if b then note_of d w else with_reduced (note_of d w) (reduced (system_of d) (choice_of d) w)) (choice_other d h w c)
+  reduced_note-other c = ap (λ (b : Bool). if b then note_of d w else with_reduced (note_of d w) (reduced (system_in d) (choice_of d) w)) (choice_other d h w c)
 
   pub asked_note-basic : Contains d.basics w → asked_note d w ≡ note_of d w
   unfolding asked_note
@@ -90,13 +90,13 @@ module _ (d : Dictionary) (h : IsDictionary d) (w : ℕ) where
   unfolding asked_note
   asked_note-other c = ap (λ (b : Bool). if b then note_of d w else at_asked (note_of d w) (note_of d w).reduced (asks_high (sign_of (note_of d w).reduced))) (choice_other d h w c)
 
-  value_note-basic : Contains d.basics w → value_note d w ≡ with_value (note_of d w) (value (system_of d) (choice_of d) w)
+  value_note-basic : Contains d.basics w → value_note d w ≡ with_value (note_of d w) (value (system_in d) (choice_of d) w)
   unfolding value_note
-  value_note-basic c = ap (λ (b : Bool). if b then with_value (note_of d w) (value (system_of d) (choice_of d) w) else note_of d w) (choice_basic d h w c)
+  value_note-basic c = ap (λ (b : Bool). if b then with_value (note_of d w) (value (system_in d) (choice_of d) w) else note_of d w) (choice_basic d h w c)
 
   value_note-other : Contains d.others w → value_note d w ≡ note_of d w
   unfolding value_note
-  value_note-other c = ap (λ (b : Bool). if b then with_value (note_of d w) (value (system_of d) (choice_of d) w) else note_of d w) (choice_other d h w c)
+  value_note-other c = ap (λ (b : Bool). if b then with_value (note_of d w) (value (system_in d) (choice_of d) w) else note_of d w) (choice_other d h w c)
 
 -- notes that differ in reduced prices alone, or in values of basic variables alone, keep the system
 kept_by : {X : Type 0} (p : Noted → X) (b : Bool) (x y : Noted) (z : X) → p x ≡ z → p y ≡ z → p (if b then x else y) ≡ z
@@ -104,14 +104,14 @@ kept_by p true x y z e f = e
 kept_by p false x y z e f = f
 
 module _ (d : Dictionary) (h : IsDictionary d) (k : ℕ) where
-  pub reduced_system : system_of (noted_anew d (reduced_so_far d k)) ≡ system_of d
+  pub reduced_system : system_in (noted_anew d (reduced_so_far d k)) ≡ system_in d
   unfolding reduced_so_far
   reduced_system = anew_system d h (reduced_so_far d k)
       (λ w. kept_by Noted.price ((choice_of d).basic w) _ _ _ refl refl)
       (λ w. kept_by Noted.low ((choice_of d).basic w) _ _ _ refl refl)
       (λ w. kept_by Noted.high ((choice_of d).basic w) _ _ _ refl refl)
 
-  pub value_system : system_of (noted_anew d (value_so_far d k)) ≡ system_of d
+  pub value_system : system_in (noted_anew d (value_so_far d k)) ≡ system_in d
   unfolding value_so_far
   value_system = anew_system d h (value_so_far d k)
       (λ w. kept_by Noted.price ((choice_of d).basic w) _ _ _ refl refl)
@@ -122,7 +122,7 @@ module _ (d : Dictionary) (h : IsDictionary d) (k : ℕ) where
   unfolding value_so_far
   value_choice = anew_choice d h (value_so_far d k) (λ w. kept_by Noted.at_high ((choice_of d).basic w) _ _ _ refl refl)
 
-  stands_still : (w : ℕ) → at_bound (system_of (noted_anew d (value_so_far d k))) (choice_of (noted_anew d (value_so_far d k))) w ≡ at_bound (system_of d) (choice_of d) w
+  stands_still : (w : ℕ) → at_bound (system_in (noted_anew d (value_so_far d k))) (choice_of (noted_anew d (value_so_far d k))) w ≡ at_bound (system_in d) (choice_of d) w
   stands_still w = ap₂ (λ (s : System) (c : Choice). at_bound s c w) value_system value_choice
 
   -- the note of a name with its sum so far
@@ -156,7 +156,7 @@ module _ (d : Dictionary) (h : IsDictionary d) (k : ℕ) where
             ∙ note_anew d f w c ∙ reduced_so_far-basic d h w k b ∙ sym (reduced_so_far-basic d h w (k + 1) b)
         | inr o ↦
             price_added-other e (anew_sound d h f) w j (from_others f w o)
-            ∙ ap (λ (n : Noted). with_reduced n (n.reduced +ℚ (system_of e).price j *ℚ column_entry (choice_of e) j w)) (reduced_here w o)
+            ∙ ap (λ (n : Noted). with_reduced n (n.reduced +ℚ (system_in e).price j *ℚ column_entry (choice_of e) j w)) (reduced_here w o)
             ∙ ap (λ (x : Fraction). with_reduced (note_of d w) (sum_by (price_term d w) (take k d.names) +ℚ x))
             (ap₂ ◌*ℚ◌ (ap (λ (s : System). s.price j) reduced_system) (anew_column_entry d h f j w))
             ∙ ap (with_reduced (note_of d w)) (sym (sum_more (price_term d w) d.names k j hk ej))
@@ -177,7 +177,7 @@ module _ (d : Dictionary) (h : IsDictionary d) (k : ℕ) where
       elim (h.split.either b c) [
         | inl m ↦
             bound_added-basic e (anew_sound d h f) b j (from_basics f b m)
-            ∙ ap (λ (n : Noted). with_value n (n.value +ℚ (choice_of e).entry b j *ℚ at_bound (system_of e) (choice_of e) j)) (value_here b m)
+            ∙ ap (λ (n : Noted). with_value n (n.value +ℚ (choice_of e).entry b j *ℚ at_bound (system_in e) (choice_of e) j)) (value_here b m)
             ∙ ap (λ (x : Fraction). with_value (note_of d b) (sum_by (bound_term d b) (take k d.names) +ℚ x))
             (ap₂ ◌*ℚ◌ (ap (λ (x : Choice). x.entry b j) value_choice) (stands_still j) ∙ sym (bound_term-other d h b j other))
             ∙ ap (with_value (note_of d b)) (sym (sum_more (bound_term d b) d.names k j hk ej))
@@ -205,28 +205,28 @@ module _ (d : Dictionary) (h : IsDictionary d) (k : ℕ) where
 
   -- what is refused on the way is a working pair of the system
   module _ (live : d.spent ≡ false) (bound : ℕ) where
-    pub price_pair : ((w : ℕ) → Contains d.rows w → (system_of d).price w ≡ whole (pos 0)) → (j : ℕ) (op : Op) (x y : Fraction)
-        → PriceOperation (noted_anew d (reduced_so_far d k)) j op x y → Passes bound op x y → IsSystemPair (system_of d) bound op x y
-    price_pair unpriced j _ _ _ (scaling_price w b o) = subst₂ (λ (x y : Fraction). Passes bound Times x y → IsSystemPair (system_of d) bound Times x y)
+    pub price_pair : ((w : ℕ) → Contains d.rows w → (system_in d).price w ≡ whole (pos 0)) → (j : ℕ) (op : Op) (x y : Fraction)
+        → PriceOperation (noted_anew d (reduced_so_far d k)) j op x y → Passes bound op x y → IsSystemPair (system_in d) bound op x y
+    price_pair unpriced j _ _ _ (scaling_price w b o) = subst₂ (λ (x y : Fraction). Passes bound Times x y → IsSystemPair (system_in d) bound Times x y)
         (sym (ap (λ (s : System). s.price j) reduced_system)) (sym (anew_entry d h (reduced_so_far d k) j w))
         (price_times d h live bound unpriced j w (to_basics j b) (to_others w o))
-    price_pair unpriced j _ _ _ (adding_scaled w b o) = subst₂ (λ (x y : Fraction). Passes bound Plus x y → IsSystemPair (system_of d) bound Plus x y)
+    price_pair unpriced j _ _ _ (adding_scaled w b o) = subst₂ (λ (x y : Fraction). Passes bound Plus x y → IsSystemPair (system_in d) bound Plus x y)
         (sym (ap Noted.reduced (reduced_here w (to_others w o)) ∙ price_prefix d h unpriced w k))
         (sym (ap₂ ◌*ℚ◌ (ap (λ (s : System). s.price j) reduced_system) (anew_entry d h (reduced_so_far d k) j w)))
         (price_plus d h live bound unpriced (length (filter (is_among d.columns) (take k d.names))) j w (to_basics j b) (to_others w o))
-    price_pair unpriced j _ _ _ (adding_own o) = subst₂ (λ (x y : Fraction). Passes bound Plus x y → IsSystemPair (system_of d) bound Plus x y)
+    price_pair unpriced j _ _ _ (adding_own o) = subst₂ (λ (x y : Fraction). Passes bound Plus x y → IsSystemPair (system_in d) bound Plus x y)
         (sym (ap Noted.reduced (reduced_here j (to_others j o)) ∙ price_prefix d h unpriced j k))
         (sym (ap (λ (s : System). s.price j) reduced_system))
         (price_plain d h live bound unpriced (length (filter (is_among d.columns) (take k d.names))) j (to_others j o))
 
     pub bound_pair : (j : ℕ) → Contains d.others j → (op : Op) (x y : Fraction)
-        → BoundOperation (noted_anew d (value_so_far d k)) j op x y → Passes bound op x y → IsSystemPair (system_of d) bound op x y
-    bound_pair j o _ _ _ (scaling_bound b c) = subst₂ (λ (x y : Fraction). Passes bound Times x y → IsSystemPair (system_of d) bound Times x y)
+        → BoundOperation (noted_anew d (value_so_far d k)) j op x y → Passes bound op x y → IsSystemPair (system_in d) bound op x y
+    bound_pair j o _ _ _ (scaling_bound b c) = subst₂ (λ (x y : Fraction). Passes bound Times x y → IsSystemPair (system_in d) bound Times x y)
         (sym (anew_entry d h (value_so_far d k) b j)) (sym (stands_still j))
         (value_times d h live bound b j (subst (λ (bs : List ℕ). Contains bs b) (anew_basics d h (value_so_far d k)) c) o)
     bound_pair j o _ _ _ (adding_bound b c) =
         let m : Contains d.basics b = subst (λ (bs : List ℕ). Contains bs b) (anew_basics d h (value_so_far d k)) c in
-        subst₂ (λ (x y : Fraction). Passes bound Plus x y → IsSystemPair (system_of d) bound Plus x y)
+        subst₂ (λ (x y : Fraction). Passes bound Plus x y → IsSystemPair (system_in d) bound Plus x y)
         (sym (ap Noted.value (value_here b m) ∙ bound_prefix d h b k))
         (sym (ap₂ ◌*ℚ◌ (anew_entry d h (value_so_far d k) b j) (stands_still j)))
         (value_plus d h live bound (length (filter (λ w. not ((choice_of d).basic w)) (take k d.names))) b j m o)
@@ -245,7 +245,7 @@ module _ (d : Dictionary) (h : IsDictionary d) where
     | inr o ↦ sym (value_so_far-other d h w 0 o)
   ])
 
-  pub prices_end : ((w : ℕ) → Contains d.rows w → (system_of d).price w ≡ whole (pos 0)) → (k : ℕ) → length d.names ≤ k → (e : Dictionary) → e ≡ noted_anew d (reduced_so_far d k) → e ≡ noted_anew d (reduced_note d)
+  pub prices_end : ((w : ℕ) → Contains d.rows w → (system_in d).price w ≡ whole (pos 0)) → (k : ℕ) → length d.names ≤ k → (e : Dictionary) → e ≡ noted_anew d (reduced_so_far d k) → e ≡ noted_anew d (reduced_note d)
   prices_end unpriced k past e is = is ∙ anew_same d h (reduced_so_far d k) (reduced_note d) (λ w c. elim (h.split.either w c) [
     | inl b ↦ reduced_so_far-basic d h w k b ∙ sym (reduced_note-basic d h w b)
     | inr o ↦
@@ -282,7 +282,7 @@ module _ (d : Dictionary) (h : IsDictionary d) where
 -- one variable's price
 module _ (d : Dictionary) (h : IsDictionary d) (j : ℕ) where
   -- a price of 0 adds nothing
-  pub priced_by_nil : (system_of d).price j ≡ whole (pos 0) → d ≡ noted_anew d (price_added d j)
+  pub priced_by_nil : (system_in d).price j ≡ whole (pos 0) → d ≡ noted_anew d (price_added d j)
   priced_by_nil nil = same_anew d h (price_added d j) (λ w c. elim (h.split.either w c) [
     | inl b ↦ sym (price_added-basic d h w j b)
     | inr o ↦
@@ -293,21 +293,21 @@ module _ (d : Dictionary) (h : IsDictionary d) (j : ℕ) where
   ])
 
   -- that of an other variable is added to its own reduced price alone
-  pub priced_own : Contains d.others j → (n : Noted) (e : Dictionary) → e ≡ with_note d j n → n ≡ with_reduced (note_of d j) ((note_of d j).reduced +ℚ (system_of d).price j) → e ≡ noted_anew d (price_added d j)
+  pub priced_own : Contains d.others j → (n : Noted) (e : Dictionary) → e ≡ with_note d j n → n ≡ with_reduced (note_of d j) ((note_of d j).reduced +ℚ (system_in d).price j) → e ≡ noted_anew d (price_added d j)
   priced_own other n e set is = set_anew d h j n (price_added d j) e (h.split.second_named j other) set
-      (is ∙ ap (λ x. with_reduced (note_of d j) ((note_of d j).reduced +ℚ x)) (by_ring ring_ℚ ((system_of d).price j ∷ []) (at 0) (at 0 ⊗ pone) refl ∙ ap (λ x. (system_of d).price j *ℚ x) (sym (column_entry-itself (choice_of d) j (choice_other d h j other))))
+      (is ∙ ap (λ x. with_reduced (note_of d j) ((note_of d j).reduced +ℚ x)) (by_ring ring_ℚ ((system_in d).price j ∷ []) (at 0) (at 0 ⊗ pone) refl ∙ ap (λ x. (system_in d).price j *ℚ x) (sym (column_entry-itself (choice_of d) j (choice_other d h j other))))
       ∙ sym (price_added-other d h j j other))
       (λ w c differ. elim (h.split.either w c) [
         | inl b ↦ sym (price_added-basic d h w j b)
         | inr o ↦
             ap (with_reduced (note_of d w))
-            (by_ring ring_ℚ ((note_of d w).reduced ∷ (system_of d).price j ∷ []) (at 0) (at 0 ⊕ at 1 ⊗ pnil) refl
-            ∙ ap (λ x. (note_of d w).reduced +ℚ (system_of d).price j *ℚ x) (sym (column_entry-other (choice_of d) j w (choice_other d h j other) (λ q. differ (sym q)))))
+            (by_ring ring_ℚ ((note_of d w).reduced ∷ (system_in d).price j ∷ []) (at 0) (at 0 ⊕ at 1 ⊗ pnil) refl
+            ∙ ap (λ x. (note_of d w).reduced +ℚ (system_in d).price j *ℚ x) (sym (column_entry-other (choice_of d) j w (choice_other d h j other) (λ q. differ (sym q)))))
             ∙ sym (price_added-other d h w j o)
       ])
 
 -- a bound of 0 adds nothing
-pub bounded_by_nil : (d : Dictionary) → IsDictionary d → (w : ℕ) → at_bound (system_of d) (choice_of d) w ≡ whole (pos 0) → d ≡ noted_anew d (bound_added d w)
+pub bounded_by_nil : (d : Dictionary) → IsDictionary d → (w : ℕ) → at_bound (system_in d) (choice_of d) w ≡ whole (pos 0) → d ≡ noted_anew d (bound_added d w)
 bounded_by_nil d h w nil = same_anew d h (bound_added d w) (λ b c. elim (h.split.either b c) [
   | inl m ↦
       ap (with_value (note_of d b))

@@ -7,7 +7,7 @@ use mathlib.Core.Path.{ap₂}
 use Rattle.fraction_theory.proofs.ListSums.{same_or_not}
 use Rattle.linear_system.specs.Systems.{System}
 use Rattle.linear_system.specs.Choices.{column_entry, reduced}
-use Rattle.linear_dict.specs.Dictionaries.{Dictionary, IsDictionary, system_of, choice_of, entry_of, note_of, with_note}
+use Rattle.linear_dict.specs.Dictionaries.{Dictionary, IsDictionary, system_in, choice_of, entry_of, note_of, with_note}
 use Rattle.linear_dict.specs.Notes.{Noted}
 use Rattle.linear_dict.specs.Places.{place_in}
 use Rattle.linear_dict.proofs.NameLemmas.{place_in-within}
@@ -30,7 +30,7 @@ module _ (d : Dictionary) (h : IsDictionary d) (f : ℕ → Noted) where
     | inr past ↦ ap p (note_unnamed (noted_anew d f) w (length-map d.names f) past ∙ sym (note_unnamed d w h.note_count past))
   ]
 
-  pub anew_system : ((w : ℕ) → (f w).price ≡ (note_of d w).price) → ((w : ℕ) → (f w).low ≡ (note_of d w).low) → ((w : ℕ) → (f w).high ≡ (note_of d w).high) → system_of (noted_anew d f) ≡ system_of d
+  pub anew_system : ((w : ℕ) → (f w).price ≡ (note_of d w).price) → ((w : ℕ) → (f w).low ≡ (note_of d w).low) → ((w : ℕ) → (f w).high ≡ (note_of d w).high) → system_in (noted_anew d f) ≡ system_in d
   unfolding noted_anew
   anew_system price low high = system_stays d (noted_anew d f) refl refl refl refl (anew_keeps Noted.price price) (anew_keeps Noted.low low) (anew_keeps Noted.high high)
 

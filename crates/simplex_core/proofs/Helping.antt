@@ -6,7 +6,7 @@ use mathlib.Core.Bool.{beq}
 use Rattle.fraction_theory.specs.Fraction.{Fraction, whole, neg_ℚ}
 use Rattle.fraction_theory.specs.Order.{◌<ℚ◌}
 use Rattle.fraction_theory.proofs.OrderLaws.{<ℚ-≤ℚ}
-use Rattle.linear_dict.specs.Dictionaries.{Dictionary, IsDictionary, system_of, choice_of, note_of}
+use Rattle.linear_dict.specs.Dictionaries.{Dictionary, IsDictionary, system_in, choice_of, note_of}
 use Rattle.linear_dict.specs.Notes.{Noted}
 use Rattle.linear_dict.proofs.SplitLemmas.{other_in}
 use Rattle.simplex_theory.specs.Steps.{opposite_if, abs_ℚ, Helps}
@@ -31,16 +31,16 @@ size_of_signed a f e t q h = sym (abs_above t (<ℚ-≤ℚ (whole (pos 0)) t h))
 
 -- a note that the code reads says what the system, the choice and the state have
 module _ (d : Dictionary) (w : ℕ) (n : Noted) (is : n ≡ note_of d w) where
-  pub low_is : n.low ≡ (system_of d).low w
-  unfolding system_of
+  pub low_is : n.low ≡ (system_in d).low w
+  unfolding system_in
   low_is = ap Noted.low is
 
-  pub high_is : n.high ≡ (system_of d).high w
-  unfolding system_of
+  pub high_is : n.high ≡ (system_in d).high w
+  unfolding system_in
   high_is = ap Noted.high is
 
-  pub price_is : n.price ≡ (system_of d).price w
-  unfolding system_of
+  pub price_is : n.price ≡ (system_in d).price w
+  unfolding system_in
   price_is = ap Noted.price is
 
   pub value_is : n.value ≡ (state_of d).value w
@@ -60,17 +60,17 @@ module _ (d : Dictionary) (w : ℕ) (n : Noted) (is : n ≡ note_of d w) where
     abbrev pub turned_entry : Fraction
     turned_entry = opposite_if n.at_high (opposite_if above ((choice_of d).entry v w))
 
-    pub helps_is : IsDictionary d → Contains d.others w → n.low <ℚ n.high → whole (pos 0) <ℚ turned_entry → Helps (system_of d) (state_of d) v above w
+    pub helps_is : IsDictionary d → Contains d.others w → n.low <ℚ n.high → whole (pos 0) <ℚ turned_entry → Helps (system_in d) (state_of d) v above w
     unfolding state_of
     helps_is h c free towards = record {
       other = other_in d h w c;
-      free = subst (λ t. t <ℚ (system_of d).high w) low_is (subst (λ t. n.low <ℚ t) high_is free);
+      free = subst (λ t. t <ℚ (system_in d).high w) low_is (subst (λ t. n.low <ℚ t) high_is free);
       towards = subst (λ (f : Bool). whole (pos 0) <ℚ opposite_if f (opposite_if above ((choice_of d).entry v w))) flag_is towards;
     }
 
-    pub helps_free : Helps (system_of d) (state_of d) v above w → n.low <ℚ n.high
-    helps_free h = subst (λ t. t <ℚ n.high) (sym low_is) (subst (λ t. (system_of d).low w <ℚ t) (sym high_is) h.free)
+    pub helps_free : Helps (system_in d) (state_of d) v above w → n.low <ℚ n.high
+    helps_free h = subst (λ t. t <ℚ n.high) (sym low_is) (subst (λ t. (system_in d).low w <ℚ t) (sym high_is) h.free)
 
-    pub helps_towards : Helps (system_of d) (state_of d) v above w → whole (pos 0) <ℚ turned_entry
+    pub helps_towards : Helps (system_in d) (state_of d) v above w → whole (pos 0) <ℚ turned_entry
     unfolding state_of
     helps_towards h = subst (λ (f : Bool). whole (pos 0) <ℚ opposite_if f (opposite_if above ((choice_of d).entry v w))) (sym flag_is) h.towards

@@ -11,7 +11,7 @@ use Rattle.fraction_theory.proofs.OrderLaws.{≤ℚ-or-<ℚ, <ℚ-not-≤ℚ, �
 use Rattle.linear_system.specs.Systems.{System}
 use Rattle.linear_system.specs.Choices.{basics, others}
 use Rattle.linear_system.proofs.ChoiceLaws.{basics_are, others_are}
-use Rattle.linear_dict.specs.Dictionaries.{Dictionary, system_of}
+use Rattle.linear_dict.specs.Dictionaries.{Dictionary, system_in}
 use Rattle.linear_dict.proofs.NameLemmas.{place_in-within}
 use Rattle.simplex_theory.specs.States.{State, IsWithin, Violates}
 use Rattle.simplex_theory.specs.Steps.{opposite_if, abs_ℚ, Leaves, Helps, Enters, IsStep}
@@ -185,21 +185,21 @@ module _ {B : Type 0} where
       | inr k ↦ or_right (f y) (first f ys) (only y) (first_finds f only ys x k e)
     ]
 
-basic_named : (d : Dictionary) (w : ℕ) → Contains (basics (system_of d) (state_of d).choice) w → Contains d.names w
-unfolding system_of
-basic_named d w m = (basics_are (system_of d) (state_of d).choice w m).0
+basic_named : (d : Dictionary) (w : ℕ) → Contains (basics (system_in d) (state_of d).choice) w → Contains d.names w
+unfolding system_in
+basic_named d w m = (basics_are (system_in d) (state_of d).choice w m).0
 
-other_named : (d : Dictionary) (w : ℕ) → Contains (others (system_of d) (state_of d).choice) w → Contains d.names w
-unfolding system_of
-other_named d w m = (others_are (system_of d) (state_of d).choice w m).0
+other_named : (d : Dictionary) (w : ℕ) → Contains (others (system_in d) (state_of d).choice) w → Contains d.names w
+unfolding system_in
+other_named d w m = (others_are (system_in d) (state_of d).choice w m).0
 
 -- v leaves d and k enters
 pub record IsTurn (d : Dictionary) (v k : ℕ) (above : Bool) : Type 0 where
-  pub leaves : Leaves (system_of d) (state_of d) v above
-  pub enters : Enters (system_of d) (state_of d) v above k
+  pub leaves : Leaves (system_in d) (state_of d) v above
+  pub enters : Enters (system_in d) (state_of d) v above k
 
 turn_or_not : (d : Dictionary) (v k : ℕ) (above : Bool) → Decision (IsTurn d v k above)
-turn_or_not d v k above = elim (both (leaves_or_not (system_of d) (state_of d) v above) (enters_or_not (system_of d) (state_of d) v above k)) [
+turn_or_not d v k above = elim (both (leaves_or_not (system_in d) (state_of d) v above) (enters_or_not (system_in d) (state_of d) v above k)) [
   | inl p ↦ inl (record { leaves = p.0; enters = p.1 })
   | inr n ↦ inr (λ p. n (p.leaves, p.enters))
 ]
@@ -244,11 +244,11 @@ module _ (d : Dictionary) where
     one_turn : (u j : ℕ) (b : Bool) → IsTurn d u j b → turned d u j b ≡ turned d v k above
     unfolding state_of
     one_turn u j b p =
-        let eu : u ≡ v = one_leaves (system_of d) (state_of d) ready.posed.bounds u v b above p.leaves turn.leaves in
+        let eu : u ≡ v = one_leaves (system_in d) (state_of d) ready.posed.bounds u v b above p.leaves turn.leaves in
         let pv : IsTurn d v j b = subst (λ (x : ℕ). IsTurn d x j b) eu p in
-        let eb : b ≡ above = one_side (system_of d) (state_of d) ready.posed.bounds b above v (basics_are (system_of d) (state_of d).choice v turn.leaves.basic).0 pv.leaves.violates turn.leaves.violates in
+        let eb : b ≡ above = one_side (system_in d) (state_of d) ready.posed.bounds b above v (basics_are (system_in d) (state_of d).choice v turn.leaves.basic).0 pv.leaves.violates turn.leaves.violates in
         let pa : IsTurn d v j above = subst (λ (x : Bool). IsTurn d v j x) eb pv in
-        let ej : j ≡ k = one_enters (system_of d) (state_of d) v j k above pa.enters turn.enters in
+        let ej : j ≡ k = one_enters (system_in d) (state_of d) v j k above pa.enters turn.enters in
         ap (λ (x : ℕ). turned d x j b) eu ∙ ap (λ (x : Bool). turned d v j x) eb ∙ ap (λ (x : ℕ). turned d v x above) ej
 
     taken_only : (u j : ℕ) (b : Bool) (p : Decision (IsTurn d u j b)) → Only (turned d v k above) (taken d u j b p)
@@ -282,18 +282,18 @@ module _ (d : Dictionary) where
         (first_finds b (either d v) (either_only v) d.names k (other_named d k turn.enters.helps.other) (tried above refl))
 
 -- The steps of dictionaries are steps of the method.
-pub method : IsMethod next system_of state_of IsReady
+pub method : IsMethod next system_in state_of IsReady
 unfolding Came
 method = record {
   posed = λ d g. g.posed;
   keeps = λ d y g e. let a = came d y e in subst IsReady a.4 (turned_ready d g a.0 a.1 a.2 a.3.leaves a.3.enters);
-  keeps_system = λ d y g e. let a = came d y e in ap system_of (sym a.4) ∙ turned_system d g a.0 a.1 a.2 a.3.leaves a.3.enters;
-  steps = λ d y g e. let a = came d y e in (a.0, a.1, a.2, subst (λ (x : Dictionary). IsStep (system_of d) (state_of d) (state_of x) a.0 a.1 a.2) a.4 (turned_step d g a.0 a.1 a.2 a.3.leaves a.3.enters));
+  keeps_system = λ d y g e. let a = came d y e in ap system_in (sym a.4) ∙ turned_system d g a.0 a.1 a.2 a.3.leaves a.3.enters;
+  steps = λ d y g e. let a = came d y e in (a.0, a.1, a.2, subst (λ (x : Dictionary). IsStep (system_in d) (state_of d) (state_of x) a.0 a.1 a.2) a.4 (turned_step d g a.0 a.1 a.2 a.3.leaves a.3.enters));
 }
 
 -- how many states are still to come, at most
 unfoldable pub to_come : Dictionary → ℕ
-to_come d = trail_length next (3 ^ length (system_of d).variables) d
+to_come d = trail_length next (3 ^ length (system_in d).variables) d
 
 pub to_come_falls : (d : Dictionary) → IsReady d → (v k : ℕ) (above : Bool) → IsTurn d v k above → to_come (turned d v k above) < to_come d
 unfolding to_come

@@ -8,7 +8,7 @@ use Rattle.std.proofs.lemmas.List.{length-map, get_or-map, get_or_past, get_or_d
 use Rattle.fraction_theory.specs.Fraction.{Fraction}
 use Rattle.fraction_theory.proofs.ListSums.{Distinct-increasing}
 use Rattle.linear_system.specs.Systems.{System}
-use Rattle.linear_dict.specs.Dictionaries.{Dictionary, IsDictionary, system_of, note_of, with_note}
+use Rattle.linear_dict.specs.Dictionaries.{Dictionary, IsDictionary, system_in, note_of, with_note}
 use Rattle.linear_dict.specs.Notes.{Noted, blank}
 use Rattle.linear_dict.specs.Places.{place_in, is_among}
 use Rattle.linear_dict.specs.Tables.{cell}
@@ -71,8 +71,8 @@ anew_is d h ns f count each = ap (λ (ms : List Noted). record d { notes = ms })
 -- Where prices and bounds stay, the system does.
 pub system_stays : (d e : Dictionary) → e.names ≡ d.names → e.columns ≡ d.columns → e.rows ≡ d.rows → e.coefficients ≡ d.coefficients
     → ((w : ℕ) → (note_of e w).price ≡ (note_of d w).price) → ((w : ℕ) → (note_of e w).low ≡ (note_of d w).low) → ((w : ℕ) → (note_of e w).high ≡ (note_of d w).high)
-    → system_of e ≡ system_of d
-unfolding system_of
+    → system_in e ≡ system_in d
+unfolding system_in
 system_stays d e names columns rows coefficients price low high =
     let make : List ℕ → List ℕ → List ℕ → List Fraction → (ℕ → Fraction) → (ℕ → Fraction) → (ℕ → Fraction) → System = λ ns cs rs ks p l h. record {
       variables = ns;

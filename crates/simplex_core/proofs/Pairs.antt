@@ -34,7 +34,7 @@ use Rattle.linear_system.specs.Numbers.{Kind, Factor, Quantity, Price, SystemNum
 use Rattle.linear_system.specs.Pairs.{IsCombined, IsPairCase, IsSummand, IsSystemPair, OfEither, alone, difference, plain, scaled, added, subtracted, scaled_left, scaled_right}
 use Rattle.linear_system.proofs.PairLaws.{IsPairCase-each}
 use Rattle.linear_dict.specs.Causes.{IsPairOf}
-use Rattle.linear_dict.specs.Dictionaries.{Dictionary, IsDictionary, system_of, choice_of, entry_of, note_of, pivoted}
+use Rattle.linear_dict.specs.Dictionaries.{Dictionary, IsDictionary, system_in, choice_of, entry_of, note_of, pivoted}
 use Rattle.linear_dict.specs.Places.{is_among}
 use Rattle.linear_dict.proofs.CauseLemmas.{refused}
 use Rattle.linear_dict.proofs.NameLemmas.{among-tells}
@@ -48,13 +48,13 @@ pair_by value bound s op left right e x y p ex ey f =
 
 module _ (d : Dictionary) (h : IsDictionary d) (live : d.spent ≡ false) (bound : ℕ) where
   s : System
-  s = system_of d
+  s = system_in d
 
   c : Choice
   c = choice_of d
 
   -- a case of the numbers of the choice in hand
-  pub lone : (op : Op) (x y : Fraction) → IsPairCase (SystemNumber (system_of d) (choice_of d)) op x y → Passes bound op x y → IsSystemPair (system_of d) bound op x y
+  pub lone : (op : Op) (x y : Fraction) → IsPairCase (SystemNumber (system_in d) (choice_of d)) op x y → Passes bound op x y → IsSystemPair (system_in d) bound op x y
   lone op x y case passes = record {
     passes = passes;
     one = choice_of d;
@@ -65,59 +65,59 @@ module _ (d : Dictionary) (h : IsDictionary d) (live : d.spent ≡ false) (bound
     sides = IsPairCase-each (λ kind z n. inl n) op x y case;
   }
 
-  pub entry_number : (b w : ℕ) → Contains d.basics b → Contains d.others w → SystemNumber (system_of d) (choice_of d) Factor ((choice_of d).entry b w)
+  pub entry_number : (b w : ℕ) → Contains d.basics b → Contains d.others w → SystemNumber (system_in d) (choice_of d) Factor ((choice_of d).entry b w)
   entry_number b w m o = is_entry b w (basic_in d h b m) (other_in d h w o)
 
   named : (w : ℕ) → Contains d.names w → Contains s.variables w
-  unfolding s system_of
+  unfolding s system_in
   named w m = m
 
   column : (j : ℕ) → Contains d.columns j → Contains s.columns j
-  unfolding s system_of
+  unfolding s system_in
   column j m = Contains-filter (is_among d.columns) d.names j (h.put_in.second_named j m) (among-tells d.columns j m)
 
-  pub bound_number : (w : ℕ) → Contains d.names w → SystemNumber (system_of d) (choice_of d) Quantity (at_bound (system_of d) (choice_of d) w)
+  pub bound_number : (w : ℕ) → Contains d.names w → SystemNumber (system_in d) (choice_of d) Quantity (at_bound (system_in d) (choice_of d) w)
   unfolding at_bound s
   bound_number w m = by ((choice_of d).high w)
     where
-      by : (b : Bool) → SystemNumber (system_of d) (choice_of d) Quantity (if b then (system_of d).high w else (system_of d).low w)
+      by : (b : Bool) → SystemNumber (system_in d) (choice_of d) Quantity (if b then (system_in d).high w else (system_in d).low w)
       by true = is_high w (named w m)
       by false = is_low w (named w m)
 
   -- the price of a variable, 0 where it is a row
-  price_number : ((w : ℕ) → Contains d.rows w → (system_of d).price w ≡ whole (pos 0)) → (j w : ℕ) → Contains d.names j → Contains d.others w → SystemNumber (system_of d) (choice_of d) Price ((system_of d).price j)
-  unfolding s system_of
+  price_number : ((w : ℕ) → Contains d.rows w → (system_in d).price w ≡ whole (pos 0)) → (j w : ℕ) → Contains d.names j → Contains d.others w → SystemNumber (system_in d) (choice_of d) Price ((system_in d).price j)
+  unfolding s system_in
   price_number unpriced j w m o = elim (h.put_in.either j m) [
-    | inl row ↦ subst (SystemNumber (system_of d) (choice_of d) Price) (sym (unpriced j row)) (is_reduced w 0 (other_in d h w o))
+    | inl row ↦ subst (SystemNumber (system_in d) (choice_of d) Price) (sym (unpriced j row)) (is_reduced w 0 (other_in d h w o))
     | inr k ↦ is_price j (column j k)
   ]
 
   -- the operations of a reduced price
-  pub price_times : ((w : ℕ) → Contains d.rows w → (system_of d).price w ≡ whole (pos 0)) → (j w : ℕ) → Contains d.basics j → Contains d.others w
-      → Passes bound Times ((system_of d).price j) ((choice_of d).entry j w) → IsSystemPair (system_of d) bound Times ((system_of d).price j) ((choice_of d).entry j w)
+  pub price_times : ((w : ℕ) → Contains d.rows w → (system_in d).price w ≡ whole (pos 0)) → (j w : ℕ) → Contains d.basics j → Contains d.others w
+      → Passes bound Times ((system_in d).price j) ((choice_of d).entry j w) → IsSystemPair (system_in d) bound Times ((system_in d).price j) ((choice_of d).entry j w)
   price_times unpriced j w m o = lone Times _ _ (scaled_left Price _ _ (alone _ (price_number unpriced j w (h.split.first_named j m) o)) (entry_number j w m o))
 
-  pub price_plus : ((w : ℕ) → Contains d.rows w → (system_of d).price w ≡ whole (pos 0)) → (k j w : ℕ) → Contains d.basics j → Contains d.others w
-      → let x : Fraction = prefix k (reduced_terms (system_of d) (choice_of d) w) in let y : Fraction = (system_of d).price j *ℚ (choice_of d).entry j w in
-      Passes bound Plus x y → IsSystemPair (system_of d) bound Plus x y
+  pub price_plus : ((w : ℕ) → Contains d.rows w → (system_in d).price w ≡ whole (pos 0)) → (k j w : ℕ) → Contains d.basics j → Contains d.others w
+      → let x : Fraction = prefix k (reduced_terms (system_in d) (choice_of d) w) in let y : Fraction = (system_in d).price j *ℚ (choice_of d).entry j w in
+      Passes bound Plus x y → IsSystemPair (system_in d) bound Plus x y
   price_plus unpriced k j w m o = lone Plus _ _ (added Price _ _ (plain _ (alone _ (is_reduced w k (other_in d h w o))))
-      (subst (IsSummand (SystemNumber (system_of d) (choice_of d)) Price) (ring_ℚ.times_comm ((choice_of d).entry j w) ((system_of d).price j))
+      (subst (IsSummand (SystemNumber (system_in d) (choice_of d)) Price) (ring_ℚ.times_comm ((choice_of d).entry j w) ((system_in d).price j))
       (scaled _ _ (entry_number j w m o) (alone _ (price_number unpriced j w (h.split.first_named j m) o)))))
 
-  pub price_plain : ((w : ℕ) → Contains d.rows w → (system_of d).price w ≡ whole (pos 0)) → (k w : ℕ) → Contains d.others w
-      → let x : Fraction = prefix k (reduced_terms (system_of d) (choice_of d) w) in
-      Passes bound Plus x ((system_of d).price w) → IsSystemPair (system_of d) bound Plus x ((system_of d).price w)
+  pub price_plain : ((w : ℕ) → Contains d.rows w → (system_in d).price w ≡ whole (pos 0)) → (k w : ℕ) → Contains d.others w
+      → let x : Fraction = prefix k (reduced_terms (system_in d) (choice_of d) w) in
+      Passes bound Plus x ((system_in d).price w) → IsSystemPair (system_in d) bound Plus x ((system_in d).price w)
   price_plain unpriced k w o = lone Plus _ _ (added Price _ _ (plain _ (alone _ (is_reduced w k (other_in d h w o)))) (plain _ (alone _ (price_number unpriced w w (h.split.second_named w o) o))))
 
   -- the operations of a value
   pub value_times : (b w : ℕ) → Contains d.basics b → Contains d.others w
-      → let x : Fraction = (choice_of d).entry b w in let y : Fraction = at_bound (system_of d) (choice_of d) w in
-      Passes bound Times x y → IsSystemPair (system_of d) bound Times x y
+      → let x : Fraction = (choice_of d).entry b w in let y : Fraction = at_bound (system_in d) (choice_of d) w in
+      Passes bound Times x y → IsSystemPair (system_in d) bound Times x y
   value_times b w m o = lone Times _ _ (scaled_right Quantity _ _ (entry_number b w m o) (alone _ (bound_number w (h.split.second_named w o))))
 
   pub value_plus : (k b w : ℕ) → Contains d.basics b → Contains d.others w
-      → let x : Fraction = prefix k (value_terms (system_of d) (choice_of d) b) in let y : Fraction = (choice_of d).entry b w *ℚ at_bound (system_of d) (choice_of d) w in
-      Passes bound Plus x y → IsSystemPair (system_of d) bound Plus x y
+      → let x : Fraction = prefix k (value_terms (system_in d) (choice_of d) b) in let y : Fraction = (choice_of d).entry b w *ℚ at_bound (system_in d) (choice_of d) w in
+      Passes bound Plus x y → IsSystemPair (system_in d) bound Plus x y
   value_plus k b w m o = lone Plus _ _ (added Quantity _ _ (plain _ (alone _ (is_value b k (basic_in d h b m)))) (scaled _ _ (entry_number b w m o) (alone _ (bound_number w (h.split.second_named w o)))))
 
 -- what holds of a refusal
@@ -149,10 +149,10 @@ abs_number s c kind x n = by (sign_of x)
 
 -- Numbers of a ready dictionary: its notes are those of its choice.
 module _ (d : Dictionary) (ready : IsReady d) where
-  value_number : (w : ℕ) → Contains d.names w → SystemNumber (system_of d) (choice_of d) Quantity (note_of d w).value
-  unfolding state_of system_of value
+  value_number : (w : ℕ) → Contains d.names w → SystemNumber (system_in d) (choice_of d) Quantity (note_of d w).value
+  unfolding state_of system_in value
   value_number w m =
-      let s : System = system_of d in
+      let s : System = system_in d in
       let h : Choice = choice_of d in
       let is : (note_of d w).value ≡ value s h w = posed_value s (state_of d) ready.posed w m in
       elim (ready.sound.split.either w m) [
@@ -162,55 +162,55 @@ module _ (d : Dictionary) (ready : IsReady d) where
         | inr o ↦ subst (SystemNumber s h Quantity) (sym (is ∙ value_other s h w (other_in d ready.sound w o))) (bound_number d ready.sound ready.live 0 w m)
       ]
 
-  pub reduced_number : (w : ℕ) → Contains d.others w → SystemNumber (system_of d) (choice_of d) Price (note_of d w).reduced
-  unfolding state_of system_of reduced
+  pub reduced_number : (w : ℕ) → Contains d.others w → SystemNumber (system_in d) (choice_of d) Price (note_of d w).reduced
+  unfolding state_of system_in reduced
   reduced_number w o =
-      let s : System = system_of d in
+      let s : System = system_in d in
       let h : Choice = choice_of d in
       let is : (note_of d w).reduced ≡ reduced s h w = posed_reduced s (state_of d) ready.posed w (ready.sound.split.second_named w o) in
       subst (SystemNumber s h Price)
       (whole_prefix (reduced_terms s h w) ∙ sym (ap (λ (x : Bool). if x then whole (pos 0) else total (reduced_terms s h w)) (others_are s h w (other_in d ready.sound w o)).1) ∙ sym is)
       (is_reduced w (length (reduced_terms s h w)) (other_in d ready.sound w o))
 
-  noted_price : (w : ℕ) → Contains d.others w → SystemNumber (system_of d) (choice_of d) Price ((state_of d).reduced w)
+  noted_price : (w : ℕ) → Contains d.others w → SystemNumber (system_in d) (choice_of d) Price ((state_of d).reduced w)
   unfolding state_of
   noted_price w o = reduced_number w o
 
-  nil_price : (b w : ℕ) → Contains d.basics b → Contains d.others w → SystemNumber (system_of d) (choice_of d) Price (note_of d b).reduced
+  nil_price : (b w : ℕ) → Contains d.basics b → Contains d.others w → SystemNumber (system_in d) (choice_of d) Price (note_of d b).reduced
   unfolding state_of
-  nil_price b w m o = subst (SystemNumber (system_of d) (choice_of d) Price) (sym (ready.posed.unpriced b (basic_in d ready.sound b m))) (is_reduced w 0 (other_in d ready.sound w o))
+  nil_price b w m o = subst (SystemNumber (system_in d) (choice_of d) Price) (sym (ready.posed.unpriced b (basic_in d ready.sound b m))) (is_reduced w 0 (other_in d ready.sound w o))
 
-  violated_number : (w : ℕ) (above : Bool) → Contains d.names w → SystemNumber (system_of d) (choice_of d) Quantity (violated_bound (system_of d) w above)
-  unfolding violated_bound system_of
+  violated_number : (w : ℕ) (above : Bool) → Contains d.names w → SystemNumber (system_in d) (choice_of d) Quantity (violated_bound (system_in d) w above)
+  unfolding violated_bound system_in
   violated_number w true m = is_high w m
   violated_number w false m = is_low w m
 
   -- comparing ratios
   pub ratio_pair : {N : Type 0} (of : N → Fraction) (bound v : ℕ) (one other : Candidate N) → Contains d.basics v → IsSized of d v one → IsSized of d v other
-      → (op : Op) (x y : Fraction) → RatioOperation of one other op x y → Passes bound op x y → IsSystemPair (system_of d) bound op x y
+      → (op : Op) (x y : Fraction) → RatioOperation of one other op x y → Passes bound op x y → IsSystemPair (system_in d) bound op x y
   ratio_pair {N} of bound v one other m so st op x y asked passes = lone d ready.sound ready.live bound op x y (case op x y asked) passes
     where
-      entry : (j : Candidate N) → IsSized of d v j → SystemNumber (system_of d) (choice_of d) Factor (of j.entry)
-      entry j z = subst (SystemNumber (system_of d) (choice_of d) Factor) (sym z.entry)
-          (abs_number (system_of d) (choice_of d) Factor _ (entry_number d ready.sound ready.live bound v j.name m (subst (Contains d.others) z.place (Contains-at d.others j.column z.within))))
+      entry : (j : Candidate N) → IsSized of d v j → SystemNumber (system_in d) (choice_of d) Factor (of j.entry)
+      entry j z = subst (SystemNumber (system_in d) (choice_of d) Factor) (sym z.entry)
+          (abs_number (system_in d) (choice_of d) Factor _ (entry_number d ready.sound ready.live bound v j.name m (subst (Contains d.others) z.place (Contains-at d.others j.column z.within))))
 
-      price : (j : Candidate N) → IsSized of d v j → SystemNumber (system_of d) (choice_of d) Price (of j.price)
-      price j z = subst (SystemNumber (system_of d) (choice_of d) Price) (sym z.price)
-          (abs_number (system_of d) (choice_of d) Price _ (noted_price j.name (subst (Contains d.others) z.place (Contains-at d.others j.column z.within))))
+      price : (j : Candidate N) → IsSized of d v j → SystemNumber (system_in d) (choice_of d) Price (of j.price)
+      price j z = subst (SystemNumber (system_in d) (choice_of d) Price) (sym z.price)
+          (abs_number (system_in d) (choice_of d) Price _ (noted_price j.name (subst (Contains d.others) z.place (Contains-at d.others j.column z.within))))
 
-      case : (op : Op) (x y : Fraction) → RatioOperation of one other op x y → IsPairCase (SystemNumber (system_of d) (choice_of d)) op x y
+      case : (op : Op) (x y : Fraction) → RatioOperation of one other op x y → IsPairCase (SystemNumber (system_in d) (choice_of d)) op x y
       case _ _ _ other_entry = scaled_right Price _ _ (entry other st) (alone _ (price one so))
       case _ _ _ one_entry = scaled_right Price _ _ (entry one so) (alone _ (price other st))
 
   pub lesser_pair : {N : Type 0} (of : N → Fraction) (bound v : ℕ) (above : Bool) (k : ℕ) (best : Option (Candidate N)) (next : Candidate N) → Contains d.basics v → IsBestSoFar of d v above k best → IsSized of d v next
-      → (op : Op) (x y : Fraction) → LesserOperation of best next op x y → Passes bound op x y → IsSystemPair (system_of d) bound op x y
+      → (op : Op) (x y : Fraction) → LesserOperation of best next op x y → Passes bound op x y → IsSystemPair (system_in d) bound op x y
   lesser_pair {N} of bound v above k best next m so st _ _ _ (compares kept op x y e asked) passes =
       let held = subst (λ (b : Option (Candidate N)). IsBestSoFar of d v above k b) e so in
       ratio_pair of bound v next kept m st held.0 op x y asked passes
 
   -- how far a variable is from its bound
-  pub displace_pair : (bound v : ℕ) (above : Bool) → Contains d.names v → Passes bound Minus (violated_bound (system_of d) v above) (note_of d v).value
-      → IsSystemPair (system_of d) bound Minus (violated_bound (system_of d) v above) (note_of d v).value
+  pub displace_pair : (bound v : ℕ) (above : Bool) → Contains d.names v → Passes bound Minus (violated_bound (system_in d) v above) (note_of d v).value
+      → IsSystemPair (system_in d) bound Minus (violated_bound (system_in d) v above) (note_of d v).value
   displace_pair bound v above m = lone d ready.sound ready.live bound Minus _ _ (subtracted Quantity _ _ (plain _ (alone _ (violated_number v above m))) (plain _ (alone _ (value_number v m))))
 
   module _ (r c : ℕ) (hr : r < length d.basics) (hc : c < length d.others) (v k : ℕ) (ev : slice_index d.basics r ≡ v) (ek : slice_index d.others c ≡ k) (above : Bool)
@@ -222,8 +222,8 @@ module _ (d : Dictionary) (ready : IsReady d) where
     unfolding after
     after_sound = pivoted_dictionary d ready.sound r c hr hc ready.live not_nil
 
-    same_system : system_of after ≡ system_of d
-    unfolding after system_of pivoted note_of
+    same_system : system_in after ≡ system_in d
+    unfolding after system_in pivoted note_of
     same_system = refl
 
     same_note : (w : ℕ) → note_of after w ≡ note_of d w
@@ -244,10 +244,10 @@ module _ (d : Dictionary) (ready : IsReady d) where
     k_in : Contains d.others k
     k_in = subst (Contains d.others) ek (Contains-at d.others c hc)
 
-    once : OneExchange (system_of d) (choice_of d) (choice_of after) v k
-    unfolding after system_of
+    once : OneExchange (system_in d) (choice_of d) (choice_of after) v k
+    unfolding after system_in
     once =
-        let s : System = system_of d in
+        let s : System = system_in d in
         let x : ℕ = slice_index d.basics r in
         let y : ℕ = slice_index d.others c in
         let o = exchanged_once s (system_is d ready.sound) (choice_of d) x y (basic_in d ready.sound x (Contains-at d.basics r hr)) (other_in d ready.sound y (Contains-at d.others c hc)) in
@@ -262,7 +262,7 @@ module _ (d : Dictionary) (ready : IsReady d) where
         subst₂ (λ (a b : ℕ). OneExchange s (choice_of d) (choice_of (pivoted d r c)) a b) ev ek found
 
     Number : Kind → Fraction → Type 0
-    Number = OfEither (SystemNumber (system_of d)) (choice_of d) (choice_of after)
+    Number = OfEither (SystemNumber (system_in d)) (choice_of d) (choice_of after)
 
     near_entry : (b w : ℕ) → Contains after.basics b → Contains after.others w → Number Factor (entry_of after b w)
     unfolding Number choice_of
@@ -278,7 +278,7 @@ module _ (d : Dictionary) (ready : IsReady d) where
 
     value_before : (w : ℕ) → Contains d.names w → Number Quantity (note_of after w).value
     unfolding Number
-    value_before w m = inl (subst (λ (n : Noted). SystemNumber (system_of d) (choice_of d) Quantity n.value) (sym (same_note w)) (value_number w m))
+    value_before w m = inl (subst (λ (n : Noted). SystemNumber (system_in d) (choice_of d) Quantity n.value) (sym (same_note w)) (value_number w m))
 
     price_before : Number Price (note_of d k).reduced
     unfolding Number
@@ -286,13 +286,13 @@ module _ (d : Dictionary) (ready : IsReady d) where
 
     reduced_before : (w : ℕ) → Contains d.names w → Number Price (note_of after w).reduced
     unfolding Number
-    reduced_before w m = inl (subst (λ (n : Noted). SystemNumber (system_of d) (choice_of d) Price n.reduced) (sym (same_note w)) (elim (ready.sound.split.either w m) [
+    reduced_before w m = inl (subst (λ (n : Noted). SystemNumber (system_in d) (choice_of d) Price n.reduced) (sym (same_note w)) (elim (ready.sound.split.either w m) [
       | inl b ↦ nil_price w k b k_in
       | inr o ↦ reduced_number w o
     ]))
 
     far : Fraction
-    far = displacement (system_of d) (state_of d) v above
+    far = displacement (system_in d) (state_of d) v above
 
     far_number : IsCombined Number Quantity far
     unfolding far displacement Number state_of
@@ -308,8 +308,8 @@ module _ (d : Dictionary) (ready : IsReady d) where
     move_case : (op : Op) (x y : Fraction) → MovesOperation after v k far (note_of d k).reduced op x y → IsPairCase Number op x y
     move_case _ _ _ (of_note w op x y o) = note_case w op x y o
 
-    pub move_pair : (bound : ℕ) (op : Op) (x y : Fraction) → MovesOperation (pivoted d r c) v k (displacement (system_of d) (state_of d) v above) (note_of d k).reduced op x y → Passes bound op x y
-        → IsSystemPair (system_of d) bound op x y
+    pub move_pair : (bound : ℕ) (op : Op) (x y : Fraction) → MovesOperation (pivoted d r c) v k (displacement (system_in d) (state_of d) v above) (note_of d k).reduced op x y → Passes bound op x y
+        → IsSystemPair (system_in d) bound op x y
     unfolding after far Number
     move_pair bound op x y asked passes = record {
       passes = passes;

@@ -9,7 +9,7 @@ use Rattle.linear_system.specs.Systems.{System}
 use Rattle.linear_system.specs.Choices.{Choice, basics, others, at_bound, reduced, value}
 use Rattle.exact_fraction.specs.declared.Passed.{Passed}
 use Rattle.linear_dict.specs.Causes.{IsPairOf}
-use Rattle.linear_dict.specs.Dictionaries.{Dictionary, IsDictionary, system_of, choice_of, note_of}
+use Rattle.linear_dict.specs.Dictionaries.{Dictionary, IsDictionary, system_in, choice_of, note_of}
 use Rattle.linear_dict.specs.Notes.{Noted}
 use Rattle.linear_dict.specs.Places.{place_in}
 use Rattle.linear_dict.proofs.NameLemmas.{place_in-within}
@@ -44,11 +44,11 @@ module _ (d : Dictionary) (h : IsDictionary d) (live : d.spent ≡ false)
   unfolding done noted_anew
   done_live = live
 
-  done_system : system_of done ≡ system_of stood
+  done_system : system_in done ≡ system_in stood
   unfolding done stood
   done_system = let e : Dictionary = noted_anew d (stand_note d) in anew_system e stood_sound (value_note e) (value-price e) (value-low e) (value-high e)
 
-  stood_system : system_of stood ≡ system_of d
+  stood_system : system_in stood ≡ system_in d
   unfolding stood
   stood_system = anew_system d h (stand_note d) (stand-price d) (stand-low d) (stand-high d)
 
@@ -58,14 +58,14 @@ module _ (d : Dictionary) (h : IsDictionary d) (live : d.spent ≡ false)
 
   -- the reduced price that each other variable is noted with
   asked : ℕ → Fraction
-  asked w = reduced (system_of d) (choice_of d) w
+  asked w = reduced (system_in d) (choice_of d) w
 
-  asked_is : (w : ℕ) → reduced (system_of done) (choice_of done) w ≡ asked w
+  asked_is : (w : ℕ) → reduced (system_in done) (choice_of done) w ≡ asked w
   unfolding asked stood
   asked_is w =
-      ap (λ (c : Choice). reduced (system_of done) c w) done_choice
+      ap (λ (c : Choice). reduced (system_in done) c w) done_choice
       ∙ ap (λ (s : System). reduced s (choice_of stood) w) (done_system ∙ stood_system)
-      ∙ anew_reduced d h (stand_note d) (system_of d) w
+      ∙ anew_reduced d h (stand_note d) (system_in d) w
 
   stood_note : (w : ℕ) → Contains d.names w → note_of stood w ≡ stand_note d w
   unfolding stood
@@ -81,39 +81,39 @@ module _ (d : Dictionary) (h : IsDictionary d) (live : d.spent ≡ false)
       let n : Contains d.names w = h.split.second_named w c in
       done_note w n ∙ value-other (noted_anew d (stand_note d)) stood_sound w c ∙ stood_note w n ∙ stand-other d h w c
 
-  basic_note : (b : ℕ) → Contains d.basics b → note_of done b ≡ record (note_of d b) { value = value (system_of stood) (choice_of stood) b }
+  basic_note : (b : ℕ) → Contains d.basics b → note_of done b ≡ record (note_of d b) { value = value (system_in stood) (choice_of stood) b }
   unfolding stood noted_anew
   basic_note b c =
       let n : Contains d.names b = h.split.first_named b c in
       done_note b n ∙ value-basic (noted_anew d (stand_note d)) stood_sound b c
-      ∙ ap (λ (m : Noted). let y : Noted = record m { value = value (system_of stood) (choice_of stood) b } in y) (stood_note b n ∙ stand-basic d h b c)
+      ∙ ap (λ (m : Noted). let y : Noted = record m { value = value (system_in stood) (choice_of stood) b } in y) (stood_note b n ∙ stand-basic d h b c)
 
   -- its others and basic variables
-  other_of : (w : ℕ) → Contains (others (system_of done) (choice_of done)) w → Contains d.others w
+  other_of : (w : ℕ) → Contains (others (system_in done) (choice_of done)) w → Contains d.others w
   unfolding done noted_anew
   other_of w c = in_others done done_sound w c
 
-  to_other : (w : ℕ) → Contains d.others w → Contains (others (system_of done) (choice_of done)) w
+  to_other : (w : ℕ) → Contains d.others w → Contains (others (system_in done) (choice_of done)) w
   unfolding done noted_anew
   to_other w c = other_in done done_sound w c
 
-  to_basic : (w : ℕ) → Contains d.basics w → Contains (basics (system_of done) (choice_of done)) w
+  to_basic : (w : ℕ) → Contains d.basics w → Contains (basics (system_in done) (choice_of done)) w
   unfolding done noted_anew
   to_basic w c = basic_in done done_sound w c
 
-  at_bound_is : (w : ℕ) → at_bound (system_of done) (choice_of done) w ≡ (if (note_of done w).at_high then (note_of done w).high else (note_of done w).low)
-  unfolding at_bound system_of choice_of
+  at_bound_is : (w : ℕ) → at_bound (system_in done) (choice_of done) w ≡ (if (note_of done w).at_high then (note_of done w).high else (note_of done w).low)
+  unfolding at_bound system_in choice_of
   at_bound_is w = refl
 
-  done_values : (w : ℕ) → Contains d.names w → (note_of done w).value ≡ value (system_of done) (choice_of done) w
+  done_values : (w : ℕ) → Contains d.names w → (note_of done w).value ≡ value (system_in done) (choice_of done) w
   done_values w c = elim (h.split.either w c) [
-    | inl b ↦ ap Noted.value (basic_note w b) ∙ ap (λ (s : System). value s (choice_of stood) w) (sym done_system) ∙ ap (λ (x : Choice). value (system_of done) x w) (sym done_choice)
-    | inr o ↦ ap Noted.value (other_note w o) ∙ sym (ap (λ (n : Noted). if n.at_high then n.high else n.low) (other_note w o)) ∙ sym (at_bound_is w) ∙ sym (value_other (system_of done) (choice_of done) w (to_other w o))
+    | inl b ↦ ap Noted.value (basic_note w b) ∙ ap (λ (s : System). value s (choice_of stood) w) (sym done_system) ∙ ap (λ (x : Choice). value (system_in done) x w) (sym done_choice)
+    | inr o ↦ ap Noted.value (other_note w o) ∙ sym (ap (λ (n : Noted). if n.at_high then n.high else n.low) (other_note w o)) ∙ sym (at_bound_is w) ∙ sym (value_other (system_in done) (choice_of done) w (to_other w o))
   ]
 
-  done_reduced : (w : ℕ) → Contains d.names w → (note_of done w).reduced ≡ reduced (system_of done) (choice_of done) w
+  done_reduced : (w : ℕ) → Contains d.names w → (note_of done w).reduced ≡ reduced (system_in done) (choice_of done) w
   done_reduced w c = elim (h.split.either w c) [
-    | inl b ↦ ap Noted.reduced (basic_note w b) ∙ unpriced w c ∙ sym (reduced_basic (system_of done) (choice_of done) w (to_basic w b))
+    | inl b ↦ ap Noted.reduced (basic_note w b) ∙ unpriced w c ∙ sym (reduced_basic (system_in done) (choice_of done) w (to_basic w b))
     | inr o ↦ ap Noted.reduced (other_note w o) ∙ sym (asked_is w)
   ]
 
@@ -121,16 +121,16 @@ module _ (d : Dictionary) (h : IsDictionary d) (live : d.spent ≡ false)
   unfolding done
   keeps p v s w = let e : Dictionary = noted_anew d (stand_note d) in anew_keeps e stood_sound (value_note e) p (v e) w ∙ anew_keeps d h (stand_note d) p (s d) w
 
-  named : (w : ℕ) → Contains (system_of done).variables w → Contains d.names w
-  unfolding done noted_anew system_of
+  named : (w : ℕ) → Contains (system_in done).variables w → Contains d.names w
+  unfolding done noted_anew system_in
   named w c = c
 
-  low_is : (w : ℕ) → (system_of done).low w ≡ (note_of d w).low
-  unfolding system_of
+  low_is : (w : ℕ) → (system_in done).low w ≡ (note_of d w).low
+  unfolding system_in
   low_is w = keeps Noted.low value-low stand-low w
 
-  high_is : (w : ℕ) → (system_of done).high w ≡ (note_of d w).high
-  unfolding system_of
+  high_is : (w : ℕ) → (system_in done).high w ≡ (note_of d w).high
+  unfolding system_in
   high_is w = keeps Noted.high value-high stand-high w
 
   -- the sign of what is noted is as the flag says
@@ -140,9 +140,9 @@ module _ (d : Dictionary) (h : IsDictionary d) (live : d.spent ≡ false)
   high_sign : (w : ℕ) → Contains d.others w → (note_of done w).at_high ≡ true → whole (pos 0) ≤ℚ (note_of done w).reduced
   high_sign w o e = subst (λ x. whole (pos 0) ≤ℚ x) (sym (ap Noted.reduced (other_note w o))) (asked_high (asked w) (sym (ap Noted.at_high (other_note w o)) ∙ e))
 
-  done_posed : IsPosed (system_of done) (state_of done)
+  done_posed : IsPosed (system_in done) (state_of done)
   unfolding state_of choice_of
-  done_posed = posed_by_choice (system_of done) (state_of done) (system_is done done_sound)
+  done_posed = posed_by_choice (system_in done) (state_of done) (system_is done done_sound)
       (λ w c. subst₂ ◌≤ℚ◌ (sym (low_is w)) (sym (high_is w)) (ordered w (named w c)))
       (done_sound.solutions done_live)
       (λ w c. done_values w (named w c))
@@ -155,24 +155,24 @@ module _ (d : Dictionary) (h : IsDictionary d) (live : d.spent ≡ false)
   unfolding done
   stands_ready = record { sound = done_sound; live = done_live; posed = done_posed }
 
-  pub stands_price : (w : ℕ) → (system_of (noted_anew (noted_anew d (stand_note d)) (value_note (noted_anew d (stand_note d))))).price w ≡ (note_of d w).price
-  unfolding done system_of
+  pub stands_price : (w : ℕ) → (system_in (noted_anew (noted_anew d (stand_note d)) (value_note (noted_anew d (stand_note d))))).price w ≡ (note_of d w).price
+  unfolding done system_in
   stands_price w = keeps Noted.price value-price stand-price w
 
-  pub stands_low : (w : ℕ) → (system_of (noted_anew (noted_anew d (stand_note d)) (value_note (noted_anew d (stand_note d))))).low w ≡ (note_of d w).low
+  pub stands_low : (w : ℕ) → (system_in (noted_anew (noted_anew d (stand_note d)) (value_note (noted_anew d (stand_note d))))).low w ≡ (note_of d w).low
   unfolding done
   stands_low w = low_is w
 
-  pub stands_high : (w : ℕ) → (system_of (noted_anew (noted_anew d (stand_note d)) (value_note (noted_anew d (stand_note d))))).high w ≡ (note_of d w).high
+  pub stands_high : (w : ℕ) → (system_in (noted_anew (noted_anew d (stand_note d)) (value_note (noted_anew d (stand_note d))))).high w ≡ (note_of d w).high
   unfolding done
   stands_high w = high_is w
 
   -- prices and bounds stay
-  pub stands_system : system_of (noted_anew (noted_anew d (stand_note d)) (value_note (noted_anew d (stand_note d)))) ≡ system_of d
+  pub stands_system : system_in (noted_anew (noted_anew d (stand_note d)) (value_note (noted_anew d (stand_note d)))) ≡ system_in d
   unfolding done stood
   stands_system = done_system ∙ stood_system
 
-  pub stands_first : system_of (noted_anew d (stand_note d)) ≡ system_of d
+  pub stands_first : system_in (noted_anew d (stand_note d)) ≡ system_in d
   unfolding stood
   stands_first = stood_system
 
@@ -221,8 +221,8 @@ module _ {N : Type 0} (value : N → Fraction) (d : Dictionary) (h : IsDictionar
     | inr column ↦ let at = place_in-within d.columns w column in ap (λ (x : ℕ). (note_of f x).value) (sym at.1) ∙ ap Noted.value (column_is (place_in d.columns w) at.0)
   ]
 
-  pub put_unpriced : (w : ℕ) → Contains f.rows w → (system_of f).price w ≡ whole (pos 0)
-  unfolding system_of
+  pub put_unpriced : (w : ℕ) → Contains f.rows w → (system_in f).price w ≡ whole (pos 0)
+  unfolding system_in
   put_unpriced w c =
       let at = place_in-within d.rows w (subst (λ (x : Dictionary). Contains x.rows w) put_frame c) in
       ap (λ (x : ℕ). (note_of f x).price) (sym at.1) ∙ ap Noted.price (row_is (place_in d.rows w) at.0)
@@ -278,10 +278,10 @@ module _ {N : Type 0} (value : N → Fraction) (d : Dictionary) (h : IsDictionar
       posing g k eg ek = subst (IsPosing value d prices bounds) (sym (ek ∙ ap (λ (x : Dictionary). noted_anew x (value_note x)) eg)) posed_so
 
       -- a working pair on the way is one of the system that would be posed
-      pub posed_pair : (most : ℕ) (p : Passed N) → IsPairOf value most (system_of f) p → IsPairPosed value most d prices bounds p
+      pub posed_pair : (most : ℕ) (p : Passed N) → IsPairOf value most (system_in f) p → IsPairPosed value most d prices bounds p
       unfolding end
       posed_pair most p pair = (end, posed_so, subst (λ (s : System). IsPairOf value most s p) (sym (stands_system f put_both put_live put_ordered put_reduced)) pair)
 
-      pub posed_pair_later : (most : ℕ) (p : Passed N) (g : Dictionary) → g ≡ noted_anew f (stand_note f) → IsPairOf value most (system_of g) p → IsPairPosed value most d prices bounds p
+      pub posed_pair_later : (most : ℕ) (p : Passed N) (g : Dictionary) → g ≡ noted_anew f (stand_note f) → IsPairOf value most (system_in g) p → IsPairPosed value most d prices bounds p
       posed_pair_later most p g eg pair =
-          posed_pair most p (subst (λ (s : System). IsPairOf value most s p) (ap system_of eg ∙ stands_first f put_both put_live put_ordered put_reduced) pair)
+          posed_pair most p (subst (λ (s : System). IsPairOf value most s p) (ap system_in eg ∙ stands_first f put_both put_live put_ordered put_reduced) pair)

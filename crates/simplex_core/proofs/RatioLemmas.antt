@@ -7,7 +7,7 @@ use mathlib.Core.Path.{ap₂}
 use Rattle.fraction_theory.specs.Fraction.{Fraction, whole, ◌*ℚ◌}
 use Rattle.fraction_theory.specs.Order.{◌<ℚ◌}
 use Rattle.linear_system.proofs.ChoiceLaws.{others_are}
-use Rattle.linear_dict.specs.Dictionaries.{Dictionary, IsDictionary, system_of}
+use Rattle.linear_dict.specs.Dictionaries.{Dictionary, IsDictionary, system_in}
 use Rattle.linear_dict.specs.Places.{place_in}
 use Rattle.simplex_theory.specs.Steps.{abs_ℚ, Helps}
 use Rattle.simplex_theory.proofs.LeastRatio.{IsLeast, least_alone, least_kept, least_replaced, help_above, least_enters}
@@ -22,7 +22,7 @@ least_same p q d e k to from l = record { one = to k l.one; ratio = λ w c. l.ra
 
 -- a variable of a rank below k that helps v
 pub record Earlier (d : Dictionary) (v : ℕ) (above : Bool) (k : ℕ) (w : ℕ) : Type 0 where
-  pub helps : Helps (system_of d) (state_of d) v above w
+  pub helps : Helps (system_in d) (state_of d) v above w
   pub rank : place_in d.names w < k
 
 abbrev pub price_of : Dictionary → ℕ → Fraction
@@ -40,9 +40,9 @@ module _ {N : Type 0} (value : N → Fraction) (d : Dictionary) (h : IsDictionar
   pub best_start : IsBestSoFar value d v above 0 None
   best_start = λ w e. Prim.omega (arith, e.rank)
 
-  helper_named : (w : ℕ) → Helps (system_of d) (state_of d) v above w → Contains d.names w
-  unfolding system_of
-  helper_named w p = (others_are (system_of d) (state_of d).choice w p.other).0
+  helper_named : (w : ℕ) → Helps (system_in d) (state_of d) v above w → Contains d.names w
+  unfolding system_in
+  helper_named w p = (others_are (system_in d) (state_of d).choice w p.other).0
 
   earlier_more : (k w : ℕ) → Earlier d v above k w → Earlier d v above (k + 1) w
   earlier_more k w e = record { helps = e.helps; rank = Prim.omega (arith, e.rank) }
@@ -63,25 +63,25 @@ module _ {N : Type 0} (value : N → Fraction) (d : Dictionary) (h : IsDictionar
       Prim.omega (arith, at.1, name_below d h (place_in d.names w) k e.rank hk)
 
   entry_above : (k w : ℕ) → Earlier d v above k w → whole (pos 0) <ℚ row_of d v w
-  entry_above k w e = help_above (system_of d) (state_of d) v above w e.helps
+  entry_above k w e = help_above (system_in d) (state_of d) v above w e.helps
 
   module _ (k : ℕ) (hk : k < length d.names) where
-    pub best_skip : (b : Option (Candidate N)) → ¬ (Helps (system_of d) (state_of d) v above (slice_index d.names k)) → IsBestSoFar value d v above k b → IsBestSoFar value d v above (k + 1) b
+    pub best_skip : (b : Option (Candidate N)) → ¬ (Helps (system_in d) (state_of d) v above (slice_index d.names k)) → IsBestSoFar value d v above k b → IsBestSoFar value d v above (k + 1) b
     best_skip None idle p = λ w e. elim (earlier_cases k w e) [
       | inl l ↦ p w l
-      | inr q ↦ idle (subst (λ (x : ℕ). Helps (system_of d) (state_of d) v above x) q e.helps)
+      | inr q ↦ idle (subst (λ (x : ℕ). Helps (system_in d) (state_of d) v above x) q e.helps)
     ]
     best_skip (Some j) idle p = (
       p.0,
       least_same (Earlier d v above k) (Earlier d v above (k + 1)) (price_of d) (row_of d v) j.name (earlier_more k)
           (λ w e. elim (earlier_cases k w e) [
             | inl l ↦ l
-            | inr q ↦ absurd (idle (subst (λ (x : ℕ). Helps (system_of d) (state_of d) v above x) q e.helps))
+            | inr q ↦ absurd (idle (subst (λ (x : ℕ). Helps (system_in d) (state_of d) v above x) q e.helps))
           ])
           p.1,
     )
 
-    module _ (next : Candidate N) (name : next.name ≡ slice_index d.names k) (helps : Helps (system_of d) (state_of d) v above next.name) (sized : IsSized value d v next) where
+    module _ (next : Candidate N) (name : next.name ≡ slice_index d.names k) (helps : Helps (system_in d) (state_of d) v above next.name) (sized : IsSized value d v next) where
       newest : Earlier d v above (k + 1) next.name
       newest = record { helps = helps; rank = Prim.omega (arith, ap (place_in d.names) name, rank_of d h k hk) }
 
@@ -118,7 +118,7 @@ module _ {N : Type 0} (value : N → Fraction) (d : Dictionary) (h : IsDictionar
   best_end k (Some j) past p = (
     p.0.within,
     p.0.place,
-    least_enters (system_of d) (state_of d) v above j.name
-        (least_same (Earlier d v above k) (Helps (system_of d) (state_of d) v above) (price_of d) (row_of d v) j.name (λ w e. e.helps)
+    least_enters (system_in d) (state_of d) v above j.name
+        (least_same (Earlier d v above k) (Helps (system_in d) (state_of d) v above) (price_of d) (row_of d v) j.name (λ w e. e.helps)
         (λ w helps. record { helps = helps; rank = Prim.omega (arith, past, (at_rank d h w (helper_named w helps)).0) }) p.1),
   )

@@ -6,7 +6,7 @@ use Rattle.fraction_theory.specs.Order.{◌<ℚ◌}
 use Rattle.linear_system.specs.Systems.{System}
 use Rattle.linear_system.specs.Choices.{Choice, basics, value}
 use Rattle.linear_system.proofs.ChoiceLaws.{basics_are}
-use Rattle.linear_dict.specs.Dictionaries.{Dictionary, system_of, choice_of}
+use Rattle.linear_dict.specs.Dictionaries.{Dictionary, system_in, choice_of}
 use Rattle.simplex_theory.specs.States.{IsWithin, IsSolved, IsOutOfReach, Violates}
 use Rattle.simplex_theory.specs.Steps.{Leaves, Helps, opposite_if}
 use Rattle.simplex_theory.proofs.PosedNumbers.{posed_value, posed_reduced}
@@ -40,17 +40,17 @@ keeps_turned d e h v k above t =
     }
 
 -- all basic variables are within their bounds
-pub solved_at : (d : Dictionary) → IsReady d → ((b : ℕ) → Contains (basics (system_of d) (choice_of d)) b → IsWithin (system_of d) (state_of d).value b) → IsSolved (system_of d) (state_of d)
+pub solved_at : (d : Dictionary) → IsReady d → ((b : ℕ) → Contains (basics (system_in d) (choice_of d)) b → IsWithin (system_in d) (state_of d).value b) → IsSolved (system_in d) (state_of d)
 unfolding state_of
-solved_at d ready inside = solved (system_of d) (state_of d) ready.posed inside
+solved_at d ready inside = solved (system_in d) (state_of d) ready.posed inside
 
 -- the numbers of a ready dictionary are those of its choice
 pub shows_choice : (d : Dictionary) → IsReady d → ShowsChoice d
-unfolding state_of system_of
+unfolding state_of system_in
 shows_choice d ready = record {
   choice = ready.posed.choice;
-  values = λ w c. posed_value (system_of d) (state_of d) ready.posed w c;
-  prices = λ w c. posed_reduced (system_of d) (state_of d) ready.posed w c;
+  values = λ w c. posed_value (system_in d) (state_of d) ready.posed w c;
+  prices = λ w c. posed_reduced (system_in d) (state_of d) ready.posed w c;
 }
 
 -- what is violated at the state's values is violated at the choice's
@@ -59,11 +59,11 @@ violates_by_value s v u true b e p = subst (λ x. s.high b <ℚ x) e p
 violates_by_value s v u false b e p = subst (λ x. x <ℚ s.low b) e p
 
 -- none of the others helps the variable of the row
-pub stuck_at : (d : Dictionary) → IsReady d → (v : ℕ) (above : Bool) → Leaves (system_of d) (state_of d) v above → ((w : ℕ) → ¬ (Helps (system_of d) (state_of d) v above w))
-    → IsStuck (system_of d) (choice_of d) v above
+pub stuck_at : (d : Dictionary) → IsReady d → (v : ℕ) (above : Bool) → Leaves (system_in d) (state_of d) v above → ((w : ℕ) → ¬ (Helps (system_in d) (state_of d) v above w))
+    → IsStuck (system_in d) (choice_of d) v above
 unfolding state_of
 stuck_at d ready v above leaves idle =
-    let s : System = system_of d in
+    let s : System = system_in d in
     let h : Choice = choice_of d in
     record {
       basic = leaves.basic;
@@ -74,18 +74,18 @@ stuck_at d ready v above leaves idle =
           (λ l. idle w (record { other = c; free = free; towards = subst (λ (f : Bool). whole (pos 0) <ℚ opposite_if f (opposite_if above (h.entry v w))) (sym flag) l })));
     }
 
-pub empty_at : (d : Dictionary) → IsReady d → (v row : ℕ) (above : Bool) → Leaves (system_of d) (state_of d) v above → ((w : ℕ) → ¬ (Helps (system_of d) (state_of d) v above w))
+pub empty_at : (d : Dictionary) → IsReady d → (v row : ℕ) (above : Bool) → Leaves (system_in d) (state_of d) v above → ((w : ℕ) → ¬ (Helps (system_in d) (state_of d) v above w))
     → row < length d.basics → slice_index d.basics row ≡ v → IsEmptyAt d row above
 unfolding state_of
 empty_at d ready v row above leaves idle within e = record {
-  none = no_point (system_of d) (state_of d) ready.posed v above leaves.basic leaves.violates idle;
+  none = no_point (system_in d) (state_of d) ready.posed v above leaves.basic leaves.violates idle;
   within = within;
-  stuck = subst (λ (w : ℕ). IsStuck (system_of d) (choice_of d) w above) (sym e) (stuck_at d ready v above leaves idle);
-  out_of_reach = subst (λ (w : ℕ). IsOutOfReach (system_of d) (choice_of d) w) (sym e) (out_of_reach (system_of d) (state_of d) ready.posed v above leaves.basic leaves.violates idle);
+  stuck = subst (λ (w : ℕ). IsStuck (system_in d) (choice_of d) w above) (sym e) (stuck_at d ready v above leaves idle);
+  out_of_reach = subst (λ (w : ℕ). IsOutOfReach (system_in d) (choice_of d) w) (sym e) (out_of_reach (system_in d) (state_of d) ready.posed v above leaves.basic leaves.violates idle);
 }
 
 -- with no working pair there is no refusal
-pub answered : {N : Type 0} (value : N → Fraction) (bound : ℕ) (d : Dictionary) (r : Run N) → ((op : Op) (left right : Fraction) → ¬ (IsSystemPair (system_of d) bound op left right)) → IsOutcome value bound d r → IsAnswered r
+pub answered : {N : Type 0} (value : N → Fraction) (bound : ℕ) (d : Dictionary) (r : Run N) → ((op : Op) (left right : Fraction) → ¬ (IsSystemPair (system_in d) bound op left right)) → IsOutcome value bound d r → IsAnswered r
 answered value bound d (Solved e) none o = tt
 answered value bound d (Empty e row above) none o = tt
 answered value bound d (Passed p) none o = none p.op (value p.left) (value p.right) o

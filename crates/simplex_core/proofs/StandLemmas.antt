@@ -11,7 +11,7 @@ use Rattle.fraction_theory.proofs.OrderLaws.{<ℚ-≤ℚ, ≤ℚ_of_same}
 use Rattle.fraction_theory.proofs.SignLaws.{IsSign, sign_of_is}
 use Rattle.linear_system.specs.Systems.{System}
 use Rattle.linear_system.specs.Choices.{Choice, column_entry, reduced, reduced_terms, value}
-use Rattle.linear_dict.specs.Dictionaries.{Dictionary, IsDictionary, system_of, choice_of, entry_of, note_of}
+use Rattle.linear_dict.specs.Dictionaries.{Dictionary, IsDictionary, system_in, choice_of, entry_of, note_of}
 use Rattle.linear_dict.specs.Notes.{Noted, noted}
 use Rattle.linear_dict.specs.Places.{is_among}
 use Rattle.linear_dict.specs.declared.note.Note.{Note}
@@ -58,7 +58,7 @@ asked_is value m n r v up price is er eu ev =
 unfoldable pub stand_note : Dictionary → ℕ → Noted
 stand_note d w =
     if (choice_of d).basic w then note_of d w
-    else at_asked (note_of d w) (reduced (system_of d) (choice_of d) w) (asks_high (sign_of (reduced (system_of d) (choice_of d) w)))
+    else at_asked (note_of d w) (reduced (system_in d) (choice_of d) w) (asks_high (sign_of (reduced (system_in d) (choice_of d) w)))
 
 module _ (d : Dictionary) (h : IsDictionary d) (w : ℕ) where
   pub choice_basic : Contains d.basics w → (choice_of d).basic w ≡ true
@@ -70,23 +70,23 @@ module _ (d : Dictionary) (h : IsDictionary d) (w : ℕ) where
   choice_other c = among-not d.basics w (λ m. h.split.apart w m c)
 
   abbrev asked : Noted
-  asked = at_asked (note_of d w) (reduced (system_of d) (choice_of d) w) (asks_high (sign_of (reduced (system_of d) (choice_of d) w)))
+  asked = at_asked (note_of d w) (reduced (system_in d) (choice_of d) w) (asks_high (sign_of (reduced (system_in d) (choice_of d) w)))
 
   pub stand-basic : Contains d.basics w → stand_note d w ≡ note_of d w
   unfolding stand_note
   stand-basic c = ap (λ (b : Bool). if b then note_of d w else asked) (choice_basic c)
 
-  pub stand-other : Contains d.others w → stand_note d w ≡ at_asked (note_of d w) (reduced (system_of d) (choice_of d) w) (asks_high (sign_of (reduced (system_of d) (choice_of d) w)))
+  pub stand-other : Contains d.others w → stand_note d w ≡ at_asked (note_of d w) (reduced (system_in d) (choice_of d) w) (asks_high (sign_of (reduced (system_in d) (choice_of d) w)))
   unfolding stand_note
   stand-other c = ap (λ (b : Bool). if b then note_of d w else asked) (choice_other c)
 
-  pub value-basic : Contains d.basics w → value_note d w ≡ record (note_of d w) { value = value (system_of d) (choice_of d) w }
+  pub value-basic : Contains d.basics w → value_note d w ≡ record (note_of d w) { value = value (system_in d) (choice_of d) w }
   unfolding value_note
-  value-basic c = ap (λ (b : Bool). if b then record (note_of d w) { value = value (system_of d) (choice_of d) w } else note_of d w) (choice_basic c)
+  value-basic c = ap (λ (b : Bool). if b then record (note_of d w) { value = value (system_in d) (choice_of d) w } else note_of d w) (choice_basic c)
 
   pub value-other : Contains d.others w → value_note d w ≡ note_of d w
   unfolding value_note
-  value-other c = ap (λ (b : Bool). if b then record (note_of d w) { value = value (system_of d) (choice_of d) w } else note_of d w) (choice_other c)
+  value-other c = ap (λ (b : Bool). if b then record (note_of d w) { value = value (system_in d) (choice_of d) w } else note_of d w) (choice_other c)
 
 -- what the two kinds of note keep
 kept_by : {X : Type 0} (p : Noted → X) (b : Bool) (x y : Noted) (z : X) → p x ≡ z → p y ≡ z → p (if b then x else y) ≡ z

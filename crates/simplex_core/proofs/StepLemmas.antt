@@ -3,7 +3,7 @@ use Rattle.std.specs.Prelude.{◌≡◌, ℕ, ◌<◌, Bool, true, false, length
 use Rattle.std.proofs.Common.{ap, sym, ◌∙◌}
 use Rattle.std.proofs.lemmas.List.{length-set, get_or-set_same}
 use Rattle.fraction_theory.specs.Fraction.{Fraction}
-use Rattle.linear_dict.specs.Dictionaries.{Dictionary, IsDictionary, system_of, choice_of, note_of, pivoted}
+use Rattle.linear_dict.specs.Dictionaries.{Dictionary, IsDictionary, system_in, choice_of, note_of, pivoted}
 use Rattle.linear_system.specs.Choices.{at_bound}
 use Rattle.linear_dict.specs.Notes.{Noted, noted}
 use Rattle.linear_dict.specs.Places.{place_in}
@@ -15,7 +15,7 @@ use Rattle.simplex_core.proofs.Helping.{low_is, high_is}
 use Rattle.simplex_core.specs.Turns.{moved_note, noted_anew, turned}
 
 -- the bound of a note that the code reads
-pub bound_is : {N : Type 0} (value : N → Fraction) (d : Dictionary) (v : ℕ) (n : Note N) (above : Bool) (x : N) → noted value n ≡ note_of d v → x ≡ (if above then n.high else n.low) → value x ≡ violated_bound (system_of d) v above
+pub bound_is : {N : Type 0} (value : N → Fraction) (d : Dictionary) (v : ℕ) (n : Note N) (above : Bool) (x : N) → noted value n ≡ note_of d v → x ≡ (if above then n.high else n.low) → value x ≡ violated_bound (system_in d) v above
 unfolding violated_bound
 bound_is value d v n true x is e = ap value e ∙ high_is d v (noted value n) is
 bound_is value d v n false x is e = ap value e ∙ low_is d v (noted value n) is
@@ -42,7 +42,7 @@ module _ (d : Dictionary) (r c : ℕ) where
   pivoted_leaving h = get_or-set_same d.others c (slice_index d.basics r) 0 h
 
   pub turned_is : IsDictionary d → (v k : ℕ) (above : Bool) (bound far price : Fraction) → r < length d.basics → slice_index d.basics r ≡ v → c < length d.others → slice_index d.others c ≡ k
-      → bound ≡ violated_bound (system_of d) v above → far ≡ displacement (system_of d) (state_of d) v above → price ≡ (note_of d k).reduced
+      → bound ≡ violated_bound (system_in d) v above → far ≡ displacement (system_in d) (state_of d) v above → price ≡ (note_of d k).reduced
       → noted_anew (pivoted d r c) (moved_note (pivoted d r c) v k above bound far price) ≡ turned d v k above
   unfolding turned
   turned_is h v k above bound far price hr ev hc ek eb ef ep =
@@ -50,12 +50,12 @@ module _ (d : Dictionary) (r c : ℕ) where
       ap (λ (i : ℕ). make i c bound far price) (sym (place_in-at d.basics r v h.split.first_distinct hr ev))
       ∙ ap (λ (j : ℕ). make (place_in d.basics v) j bound far price) (sym (place_in-at d.others c k h.split.second_distinct hc ek))
       ∙ ap (λ (x : Fraction). make (place_in d.basics v) (place_in d.others k) x far price) eb
-      ∙ ap (λ (y : Fraction). make (place_in d.basics v) (place_in d.others k) (violated_bound (system_of d) v above) y price) ef
-      ∙ ap (λ (z : Fraction). make (place_in d.basics v) (place_in d.others k) (violated_bound (system_of d) v above) (displacement (system_of d) (state_of d) v above) z) ep
+      ∙ ap (λ (y : Fraction). make (place_in d.basics v) (place_in d.others k) (violated_bound (system_in d) v above) y price) ef
+      ∙ ap (λ (z : Fraction). make (place_in d.basics v) (place_in d.others k) (violated_bound (system_in d) v above) (displacement (system_in d) (state_of d) v above) z) ep
 
 -- the bound at which a note that the code reads stands
-pub stand_is : {N : Type 0} (value : N → Fraction) (d : Dictionary) (w : ℕ) (n : Note N) (x : N) → noted value n ≡ note_of d w → x ≡ (if n.at_high then n.high else n.low) → value x ≡ at_bound (system_of d) (choice_of d) w
-unfolding at_bound system_of choice_of
+pub stand_is : {N : Type 0} (value : N → Fraction) (d : Dictionary) (w : ℕ) (n : Note N) (x : N) → noted value n ≡ note_of d w → x ≡ (if n.at_high then n.high else n.low) → value x ≡ at_bound (system_in d) (choice_of d) w
+unfolding at_bound system_in choice_of
 stand_is value d w n x is e = ap value e ∙ by n.at_high ∙ ap (λ (m : Noted). if m.at_high then m.high else m.low) is
   where
     by : (b : Bool) → value (if b then n.high else n.low) ≡ (if b then value n.high else value n.low)

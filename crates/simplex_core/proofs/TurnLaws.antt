@@ -12,7 +12,7 @@ use Rattle.linear_system.specs.Choices.{basics, others, IsChoice, OneExchange}
 use Rattle.linear_system.specs.Exchanges.{exchanged}
 use Rattle.linear_system.proofs.ChoiceLaws.{basics_are, others_are}
 use Rattle.linear_system.proofs.ExchangeLaws.{exchanged_once}
-use Rattle.linear_dict.specs.Dictionaries.{Dictionary, IsDictionary, system_of, choice_of, entry_of, note_of, pivoted}
+use Rattle.linear_dict.specs.Dictionaries.{Dictionary, IsDictionary, system_in, choice_of, entry_of, note_of, pivoted}
 use Rattle.linear_dict.specs.Notes.{Noted}
 use Rattle.linear_dict.specs.Places.{place_in}
 use Rattle.linear_dict.proofs.NameLemmas.{place_in-within, among-from, among-tells}
@@ -47,9 +47,9 @@ module _ (d : Dictionary) (v k : ℕ) (above : Bool) (bound far price : Fraction
   unfolding moved_note
   moved-high = kept_by ((choice_of d).basic w) _ _ Noted.high refl refl
 
-module _ (d : Dictionary) (ready : IsReady d) (v k : ℕ) (above : Bool) (leaves : Leaves (system_of d) (state_of d) v above) (enters : Enters (system_of d) (state_of d) v above k) where
+module _ (d : Dictionary) (ready : IsReady d) (v k : ℕ) (above : Bool) (leaves : Leaves (system_in d) (state_of d) v above) (enters : Enters (system_in d) (state_of d) v above k) where
   s : System
-  s = system_of d
+  s = system_in d
 
   r : ℕ
   r = place_in d.basics v
@@ -62,7 +62,7 @@ module _ (d : Dictionary) (ready : IsReady d) (v k : ℕ) (above : Bool) (leaves
   e = pivoted d r c
 
   f : ℕ → Noted
-  f = moved_note e v k above (violated_bound (system_of d) v above) (displacement (system_of d) (state_of d) v above) (note_of d k).reduced
+  f = moved_note e v k above (violated_bound (system_in d) v above) (displacement (system_in d) (state_of d) v above) (note_of d k).reduced
 
   t : Dictionary
   t = turned d v k above
@@ -89,7 +89,7 @@ module _ (d : Dictionary) (ready : IsReady d) (v k : ℕ) (above : Bool) (leaves
 
   entry_not_nil : (choice_of d).entry v k ≢ whole (pos 0)
   unfolding state_of
-  entry_not_nil q = <ℚ_irrefl (whole (pos 0)) (subst (λ x. whole (pos 0) <ℚ x) (ap abs_ℚ q ∙ abs_nil) (help_above (system_of d) (state_of d) v above k enters.helps))
+  entry_not_nil q = <ℚ_irrefl (whole (pos 0)) (subst (λ x. whole (pos 0) <ℚ x) (ap abs_ℚ q ∙ abs_nil) (help_above (system_in d) (state_of d) v above k enters.helps))
 
   pub pivot_not_nil : entry_of d v k ≢ whole (pos 0)
   unfolding choice_of
@@ -122,18 +122,18 @@ module _ (d : Dictionary) (ready : IsReady d) (v k : ℕ) (above : Bool) (leaves
     | inr past ↦ ap p (note_unnamed t w t_sound.note_count past ∙ sym (note_unnamed d w ready.sound.note_count past))
   ]
 
-  t_system : system_of t ≡ system_of d
+  t_system : system_in t ≡ system_in d
   unfolding t turned pivoted noted_anew f
   t_system = system_stays d t refl refl refl refl
-      (t_keeps Noted.price (λ w. moved-price e v k above (violated_bound (system_of d) v above) (displacement (system_of d) (state_of d) v above) (note_of d k).reduced w))
-      (t_keeps Noted.low (λ w. moved-low e v k above (violated_bound (system_of d) v above) (displacement (system_of d) (state_of d) v above) (note_of d k).reduced w))
-      (t_keeps Noted.high (λ w. moved-high e v k above (violated_bound (system_of d) v above) (displacement (system_of d) (state_of d) v above) (note_of d k).reduced w))
+      (t_keeps Noted.price (λ w. moved-price e v k above (violated_bound (system_in d) v above) (displacement (system_in d) (state_of d) v above) (note_of d k).reduced w))
+      (t_keeps Noted.low (λ w. moved-low e v k above (violated_bound (system_in d) v above) (displacement (system_in d) (state_of d) v above) (note_of d k).reduced w))
+      (t_keeps Noted.high (λ w. moved-high e v k above (violated_bound (system_in d) v above) (displacement (system_in d) (state_of d) v above) (note_of d k).reduced w))
 
   t_live : t.spent ≡ false
   unfolding t turned pivoted noted_anew
   t_live = ready.live
 
-  t_choice : IsChoice (system_of d) (choice_of t)
+  t_choice : IsChoice (system_in d) (choice_of t)
   t_choice = subst (λ (x : System). IsChoice x (choice_of t)) t_system (t_sound.solutions t_live)
 
   t_basic : (w : ℕ) → Contains d.names w → (choice_of t).basic w ≡ (exchanged (choice_of d) v k).basic w
@@ -141,14 +141,14 @@ module _ (d : Dictionary) (ready : IsReady d) (v k : ℕ) (above : Bool) (leaves
   t_basic w m = sym (pivoted_basic d ready.sound r c v_at.0 k_at.0 w m)
       ∙ ap (λ (x : ℕ). (exchanged (choice_of d) x (slice_index d.others c)).basic w) v_at.1 ∙ ap (λ (x : ℕ). (exchanged (choice_of d) v x).basic w) k_at.1
 
-  named : (w : ℕ) → Contains (system_of d).variables w → Contains d.names w
-  unfolding system_of
+  named : (w : ℕ) → Contains (system_in d).variables w → Contains d.names w
+  unfolding system_in
   named w m = m
 
-  t_exchange : OneExchange (system_of d) (choice_of d) (choice_of t) v k
-  unfolding state_of system_of
+  t_exchange : OneExchange (system_in d) (choice_of d) (choice_of t) v k
+  unfolding state_of system_in
   t_exchange =
-      let x = exchanged_once (system_of d) (system_is d ready.sound) (choice_of d) v k leaves.basic enters.helps.other in
+      let x = exchanged_once (system_in d) (system_is d ready.sound) (choice_of d) v k leaves.basic enters.helps.other in
       let v_named : Contains d.names v = ready.sound.split.first_named v v_in in
       let k_named : Contains d.names k = ready.sound.split.second_named k k_in in
       record {
@@ -164,14 +164,14 @@ module _ (d : Dictionary) (ready : IsReady d) (v k : ℕ) (above : Bool) (leaves
   v_other = subst (Contains (slice_set d.others (place_in d.others k) (slice_index d.basics (place_in d.basics v)))) v_at.1 (set-has d.others (place_in d.others k) (slice_index d.basics (place_in d.basics v)) k_at.0)
 
   -- the basic and other variables of the new choice in the table
-  now_basic : (b : ℕ) → Contains (basics (system_of d) (choice_of t)) b → Contains d.names b × Contains e.basics b
-  unfolding t turned noted_anew choice_of e r c system_of
-  now_basic b m = let a = basics_are (system_of d) (choice_of t) b m in (a.0, among-from _ b a.1)
+  now_basic : (b : ℕ) → Contains (basics (system_in d) (choice_of t)) b → Contains d.names b × Contains e.basics b
+  unfolding t turned noted_anew choice_of e r c system_in
+  now_basic b m = let a = basics_are (system_in d) (choice_of t) b m in (a.0, among-from _ b a.1)
 
-  now_other : (w : ℕ) → Contains (others (system_of d) (choice_of t)) w → Contains d.names w × Contains e.others w
-  unfolding t turned noted_anew choice_of e r c system_of pivoted
+  now_other : (w : ℕ) → Contains (others (system_in d) (choice_of t)) w → Contains d.names w × Contains e.others w
+  unfolding t turned noted_anew choice_of e r c system_in pivoted
   now_other w m =
-      let a = others_are (system_of d) (choice_of t) w m in (
+      let a = others_are (system_in d) (choice_of t) w m in (
         a.0,
         elim (e_sound.split.either w a.0) [
           | inl l ↦ let wrong : false ≡ true = sym a.1 ∙ among-tells e.basics w l in absurd Prim.cc
@@ -180,34 +180,34 @@ module _ (d : Dictionary) (ready : IsReady d) (v k : ℕ) (above : Bool) (leaves
       )
 
   bound : Fraction
-  bound = violated_bound (system_of d) v above
+  bound = violated_bound (system_in d) v above
 
   far : Fraction
-  far = displacement (system_of d) (state_of d) v above
+  far = displacement (system_in d) (state_of d) v above
 
   price : Fraction
   price = (note_of d k).reduced
 
   -- the three cases of a note
-  note-basic : (b : ℕ) → Contains (basics (system_of d) (choice_of t)) b → note_of t b ≡ note_with (note_of d b) ((note_of d b).value +ℚ entry_of e b v *ℚ far) (whole (pos 0)) (note_of d b).at_high
+  note-basic : (b : ℕ) → Contains (basics (system_in d) (choice_of t)) b → note_of t b ≡ note_with (note_of d b) ((note_of d b).value +ℚ entry_of e b v *ℚ far) (whole (pos 0)) (note_of d b).at_high
   unfolding f far
   note-basic b m =
       let a = now_basic b m in
-      t_note b a.0 ∙ moved-basic e e_sound v k above (violated_bound (system_of d) v above) (displacement (system_of d) (state_of d) v above) (note_of d k).reduced b a.1
+      t_note b a.0 ∙ moved-basic e e_sound v k above (violated_bound (system_in d) v above) (displacement (system_in d) (state_of d) v above) (note_of d k).reduced b a.1
       ∙ ap (λ (n : Noted). note_with n (n.value +ℚ entry_of e b v *ℚ far) (whole (pos 0)) n.at_high) (same_note b)
 
   note-leaving : note_of t v ≡ note_with (note_of d v) bound ((note_of d v).reduced +ℚ price *ℚ entry_of e k v) above
   unfolding f bound price
   note-leaving =
       t_note v (ready.sound.split.first_named v v_in)
-      ∙ moved-leaving e e_sound v k above (violated_bound (system_of d) v above) (displacement (system_of d) (state_of d) v above) (note_of d k).reduced v v_other refl
+      ∙ moved-leaving e e_sound v k above (violated_bound (system_in d) v above) (displacement (system_in d) (state_of d) v above) (note_of d k).reduced v v_other refl
       ∙ ap (λ (n : Noted). note_with n bound (n.reduced +ℚ price *ℚ entry_of e k v) above) (same_note v)
 
-  note-staying : (w : ℕ) → Contains (others (system_of d) (choice_of t)) w → w ≢ v → note_of t w ≡ note_with (note_of d w) (note_of d w).value ((note_of d w).reduced +ℚ price *ℚ entry_of e k w) (note_of d w).at_high
+  note-staying : (w : ℕ) → Contains (others (system_in d) (choice_of t)) w → w ≢ v → note_of t w ≡ note_with (note_of d w) (note_of d w).value ((note_of d w).reduced +ℚ price *ℚ entry_of e k w) (note_of d w).at_high
   unfolding f price
   note-staying w m n =
       let a = now_other w m in
-      t_note w a.0 ∙ moved-staying e e_sound v k above (violated_bound (system_of d) v above) (displacement (system_of d) (state_of d) v above) (note_of d k).reduced w a.1 n
+      t_note w a.0 ∙ moved-staying e e_sound v k above (violated_bound (system_in d) v above) (displacement (system_in d) (state_of d) v above) (note_of d k).reduced w a.1 n
       ∙ ap (λ (x : Noted). note_with x x.value (x.reduced +ℚ price *ℚ entry_of e k w) x.at_high) (same_note w)
 
   same_entry : (b w : ℕ) → (choice_of t).entry b w ≡ entry_of e b w
@@ -215,7 +215,7 @@ module _ (d : Dictionary) (ready : IsReady d) (v k : ℕ) (above : Bool) (leaves
   same_entry b w = refl
 
   -- From the old to the turned dictionary is a step.
-  pub turned_step : IsStep (system_of d) (state_of d) (state_of (turned d v k above)) v k above
+  pub turned_step : IsStep (system_in d) (state_of d) (state_of (turned d v k above)) v k above
   unfolding state_of t bound far price choice_of
   turned_step = record {
     leaves = leaves;
@@ -225,8 +225,8 @@ module _ (d : Dictionary) (ready : IsReady d) (v k : ℕ) (above : Bool) (leaves
       choice = t_choice;
       flag = ap Noted.at_high note-leaving;
       flags = λ w m n.
-          let now = other_after (system_of d) (choice_of d) (choice_of t) v k t_exchange w m n in
-          ap Noted.at_high (note-staying w now (other_not_leaving (system_of d) (choice_of d) (choice_of t) v k t_exchange w m));
+          let now = other_after (system_in d) (choice_of d) (choice_of t) v k t_exchange w m n in
+          ap Noted.at_high (note-staying w now (other_not_leaving (system_in d) (choice_of d) (choice_of t) v k t_exchange w m));
     };
     moved = record {
       leaving = ap Noted.value note-leaving;
@@ -241,7 +241,7 @@ module _ (d : Dictionary) (ready : IsReady d) (v k : ℕ) (above : Bool) (leaves
     };
   }
 
-  pub turned_system : system_of (turned d v k above) ≡ system_of d
+  pub turned_system : system_in (turned d v k above) ≡ system_in d
   unfolding t
   turned_system = t_system
 
@@ -251,7 +251,7 @@ module _ (d : Dictionary) (ready : IsReady d) (v k : ℕ) (above : Bool) (leaves
   turned_ready = record {
     sound = t_sound;
     live = t_live;
-    posed = subst (λ (x : System). IsPosed x (state_of (turned d v k above))) (sym t_system) (step_posed (system_of d) (state_of d) (state_of (turned d v k above)) v k above ready.posed turned_step);
+    posed = subst (λ (x : System). IsPosed x (state_of (turned d v k above))) (sym t_system) (step_posed (system_in d) (state_of d) (state_of (turned d v k above)) v k above ready.posed turned_step);
   }
 
   -- It has the columns and rows as they were put in.

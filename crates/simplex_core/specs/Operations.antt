@@ -4,22 +4,22 @@ use Rattle.std.specs.List.{Contains}
 use Rattle.exact_fraction.specs.declared.Op.{Op}
 use Rattle.exact_fraction.specs.declared.Op.TheVariants.{Plus, Times}
 use Rattle.fraction_theory.specs.Fraction.{Fraction, ◌*ℚ◌}
-use Rattle.linear_dict.specs.Dictionaries.{Dictionary, choice_of, entry_of, note_of, system_of}
+use Rattle.linear_dict.specs.Dictionaries.{Dictionary, choice_of, entry_of, note_of, system_in}
 use Rattle.linear_system.specs.Choices.{at_bound}
 use Rattle.simplex_core.specs.declared.enter.Candidate.{Candidate}
 
 -- what adding the price of j to the reduced prices of d asks: of a basic variable the price times its entry at each other
 -- one, added to the reduced price of that one; of an other variable its price, added to its own
 pub data PriceOperation (d : Dictionary) (j : ℕ) : Op → Fraction → Fraction → Type 0 where
-  scaling_price : (w : ℕ) → Contains d.basics j → Contains d.others w → PriceOperation d j Times ((system_of d).price j) ((choice_of d).entry j w)
-  adding_scaled : (w : ℕ) → Contains d.basics j → Contains d.others w → PriceOperation d j Plus (note_of d w).reduced ((system_of d).price j *ℚ (choice_of d).entry j w)
-  adding_own : Contains d.others j → PriceOperation d j Plus (note_of d j).reduced ((system_of d).price j)
+  scaling_price : (w : ℕ) → Contains d.basics j → Contains d.others w → PriceOperation d j Times ((system_in d).price j) ((choice_of d).entry j w)
+  adding_scaled : (w : ℕ) → Contains d.basics j → Contains d.others w → PriceOperation d j Plus (note_of d w).reduced ((system_in d).price j *ℚ (choice_of d).entry j w)
+  adding_own : Contains d.others j → PriceOperation d j Plus (note_of d j).reduced ((system_in d).price j)
 
 -- what adding the bound of the other variable w to the values of d asks: the entry of each basic variable times the bound,
 -- added to its value
 pub data BoundOperation (d : Dictionary) (w : ℕ) : Op → Fraction → Fraction → Type 0 where
-  scaling_bound : (b : ℕ) → Contains d.basics b → BoundOperation d w Times ((choice_of d).entry b w) (at_bound (system_of d) (choice_of d) w)
-  adding_bound : (b : ℕ) → Contains d.basics b → BoundOperation d w Plus (note_of d b).value ((choice_of d).entry b w *ℚ at_bound (system_of d) (choice_of d) w)
+  scaling_bound : (b : ℕ) → Contains d.basics b → BoundOperation d w Times ((choice_of d).entry b w) (at_bound (system_in d) (choice_of d) w)
+  adding_bound : (b : ℕ) → Contains d.basics b → BoundOperation d w Plus (note_of d b).value ((choice_of d).entry b w *ℚ at_bound (system_in d) (choice_of d) w)
 
 -- what comparing the ratios of two candidates asks: each one's entry times the other's price
 pub data RatioOperation {N : Type 0} (value : N → Fraction) (one other : Candidate N) : Op → Fraction → Fraction → Type 0 where

@@ -4,7 +4,7 @@ use Rattle.std.specs.List.{Contains}
 use Rattle.fraction_theory.specs.Fraction.{Fraction}
 use Rattle.linear_system.specs.Choices.{IsChoice, reduced, value}
 use Rattle.linear_dict.specs.Causes.{IsPairOf}
-use Rattle.linear_dict.specs.Dictionaries.{Dictionary, system_of, choice_of}
+use Rattle.linear_dict.specs.Dictionaries.{Dictionary, system_in, choice_of}
 use Rattle.simplex_theory.specs.States.{IsSolved, HasNoPoint, IsOutOfReach}
 use Rattle.simplex_theory.specs.Stuck.{IsStuck}
 use Rattle.simplex_core.specs.States.{state_of, IsReady}
@@ -18,33 +18,33 @@ pub record Keeps (d e : Dictionary) : Type 0 where
   pub rows : e.rows ≡ d.rows
   pub coefficients : e.coefficients ≡ d.coefficients
   pub names : e.names ≡ d.names
-  pub system : system_of e ≡ system_of d
+  pub system : system_in e ≡ system_in d
   pub ready : IsReady e
 
 -- The table is that of a choice of the system, with each other variable at the bound that its note says, and what is noted as
 -- values and as reduced prices are this choice's.
 pub record ShowsChoice (d : Dictionary) : Type 0 where
-  pub choice : IsChoice (system_of d) (choice_of d)
-  pub values : (w : ℕ) → Contains d.names w → (state_of d).value w ≡ value (system_of d) (choice_of d) w
-  pub prices : (w : ℕ) → Contains d.names w → (state_of d).reduced w ≡ reduced (system_of d) (choice_of d) w
+  pub choice : IsChoice (system_in d) (choice_of d)
+  pub values : (w : ℕ) → Contains d.names w → (state_of d).value w ≡ value (system_in d) (choice_of d) w
+  pub prices : (w : ℕ) → Contains d.names w → (state_of d).reduced w ≡ reduced (system_in d) (choice_of d) w
 
 -- the row place shows that no values are within the bounds: its variable is stuck on this side of its own
 pub record IsEmptyAt (d : Dictionary) (row : ℕ) (above : Bool) : Type 0 where
-  pub none : HasNoPoint (system_of d)
+  pub none : HasNoPoint (system_in d)
   pub within : row < length d.basics
-  pub stuck : IsStuck (system_of d) (choice_of d) (slice_index d.basics row) above
-  pub out_of_reach : IsOutOfReach (system_of d) (choice_of d) (slice_index d.basics row)
+  pub stuck : IsStuck (system_in d) (choice_of d) (slice_index d.basics row) above
+  pub out_of_reach : IsOutOfReach (system_in d) (choice_of d) (slice_index d.basics row)
 
 -- The run from d has come to e, solved or with the variable that shows that there is no point.
 abbrev pub IsSettled : Dictionary → Dictionary → Option Leaving → Type 0
-IsSettled d e None = Keeps d e × ShowsChoice e × IsSolved (system_of e) (state_of e)
+IsSettled d e None = Keeps d e × ShowsChoice e × IsSolved (system_in e) (state_of e)
 IsSettled d e (Some l) = Keeps d e × ShowsChoice e × IsEmptyAt e l.row l.above
 
 -- Solved holds the best values, Empty a row that shows that there are none, Passed a working pair of the system.
 abbrev pub IsOutcome : {N : Type 0} → (N → Fraction) → ℕ → Dictionary → Run N → Type 0
-IsOutcome value bound d (Solved e) = Keeps d e × ShowsChoice e × IsSolved (system_of e) (state_of e)
+IsOutcome value bound d (Solved e) = Keeps d e × ShowsChoice e × IsSolved (system_in e) (state_of e)
 IsOutcome value bound d (Empty e row above) = Keeps d e × ShowsChoice e × IsEmptyAt e row above
-IsOutcome value bound d (Passed p) = IsPairOf value bound (system_of d) p
+IsOutcome value bound d (Passed p) = IsPairOf value bound (system_in d) p
 
 -- solved or empty, and no refusal
 abbrev pub IsAnswered : {N : Type 0} → Run N → Type 0

@@ -8,7 +8,7 @@ use Rattle.fraction_theory.specs.declared.Sign.TheVariants.{Below, Zero, Above}
 use Rattle.linear_system.specs.Choices.{at_bound, column_entry, reduced, value}
 use Rattle.exact_fraction.specs.declared.Passed.{Passed}
 use Rattle.linear_dict.specs.Causes.{IsPairOf}
-use Rattle.linear_dict.specs.Dictionaries.{Dictionary, system_of, choice_of, note_of}
+use Rattle.linear_dict.specs.Dictionaries.{Dictionary, system_in, choice_of, note_of}
 use Rattle.linear_dict.specs.Notes.{Noted}
 use Rattle.simplex_core.specs.States.{IsReady}
 use Rattle.simplex_core.specs.declared.bounds.Bounds.{Bounds}
@@ -55,11 +55,11 @@ at_asked n price up = record n { value = if up then n.high else n.low; reduced =
 unfoldable pub price_added : Dictionary → ℕ → ℕ → Noted
 price_added d j w =
     if (choice_of d).basic w then note_of d w
-    else record (note_of d w) { reduced = (note_of d w).reduced +ℚ (system_of d).price j *ℚ column_entry (choice_of d) j w }
+    else record (note_of d w) { reduced = (note_of d w).reduced +ℚ (system_in d).price j *ℚ column_entry (choice_of d) j w }
 
 -- an other variable's note with its reduced price
 unfoldable pub reduced_note : Dictionary → ℕ → Noted
-reduced_note d w = if (choice_of d).basic w then note_of d w else record (note_of d w) { reduced = reduced (system_of d) (choice_of d) w }
+reduced_note d w = if (choice_of d).basic w then note_of d w else record (note_of d w) { reduced = reduced (system_in d) (choice_of d) w }
 
 -- an other variable's note at the bound that its reduced price asks for
 unfoldable pub asked_note : Dictionary → ℕ → Noted
@@ -68,12 +68,12 @@ asked_note d w = if (choice_of d).basic w then note_of d w else at_asked (note_o
 -- The note of b with what the bound of the other variable w makes in its value, where b is basic.
 unfoldable pub bound_added : Dictionary → ℕ → ℕ → Noted
 bound_added d w b =
-    if (choice_of d).basic b then record (note_of d b) { value = (note_of d b).value +ℚ (choice_of d).entry b w *ℚ at_bound (system_of d) (choice_of d) w }
+    if (choice_of d).basic b then record (note_of d b) { value = (note_of d b).value +ℚ (choice_of d).entry b w *ℚ at_bound (system_in d) (choice_of d) w }
     else note_of d b
 
 -- a basic variable's note with the value that follows from the others
 unfoldable pub value_note : Dictionary → ℕ → Noted
-value_note d w = if (choice_of d).basic w then record (note_of d w) { value = value (system_of d) (choice_of d) w } else note_of d w
+value_note d w = if (choice_of d).basic w then record (note_of d w) { value = value (system_in d) (choice_of d) w } else note_of d w
 
 -- The dictionary d with these prices of its columns and bounds of its columns and then of its rows, each in the order in
 -- which they were put in, is e, and ready. Its rows and its table stay.
@@ -85,13 +85,13 @@ pub record IsPosing {N : Type 0} (value : N → Fraction) (d : Dictionary) (pric
   pub others : e.others ≡ d.others
   pub basics : e.basics ≡ d.basics
   pub table : e.table ≡ d.table
-  pub price : (k : ℕ) → k < length d.columns → (system_of e).price (slice_index d.columns k) ≡ price_at value prices k
-  pub column_low : (k : ℕ) → k < length d.columns → (system_of e).low (slice_index d.columns k) ≡ low_at value bounds k
-  pub column_high : (k : ℕ) → k < length d.columns → (system_of e).high (slice_index d.columns k) ≡ high_at value bounds k
-  pub row_low : (k : ℕ) → k < length d.rows → (system_of e).low (slice_index d.rows k) ≡ low_at value bounds (length d.columns + k)
-  pub row_high : (k : ℕ) → k < length d.rows → (system_of e).high (slice_index d.rows k) ≡ high_at value bounds (length d.columns + k)
+  pub price : (k : ℕ) → k < length d.columns → (system_in e).price (slice_index d.columns k) ≡ price_at value prices k
+  pub column_low : (k : ℕ) → k < length d.columns → (system_in e).low (slice_index d.columns k) ≡ low_at value bounds k
+  pub column_high : (k : ℕ) → k < length d.columns → (system_in e).high (slice_index d.columns k) ≡ high_at value bounds k
+  pub row_low : (k : ℕ) → k < length d.rows → (system_in e).low (slice_index d.rows k) ≡ low_at value bounds (length d.columns + k)
+  pub row_high : (k : ℕ) → k < length d.rows → (system_in e).high (slice_index d.rows k) ≡ high_at value bounds (length d.columns + k)
   pub ready : IsReady e
 
 -- These prices and bounds can be posed, and e is a working pair of the system with them.
 abbrev pub IsPairPosed : {N : Type 0} → (N → Fraction) → ℕ → Dictionary → List N → List (Bounds N) → Passed N → Type 0
-IsPairPosed value bound d prices bounds e = (new : Dictionary) × IsPosing value d prices bounds new × IsPairOf value bound (system_of new) e
+IsPairPosed value bound d prices bounds e = (new : Dictionary) × IsPosing value d prices bounds new × IsPairOf value bound (system_in new) e

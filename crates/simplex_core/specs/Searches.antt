@@ -4,7 +4,7 @@ use Rattle.std.specs.List.{Contains}
 use Rattle.fraction_theory.specs.Fraction.{Fraction, ◌*ℚ◌}
 use Rattle.fraction_theory.specs.Order.{◌≤ℚ◌, ◌<ℚ◌}
 use Rattle.linear_system.specs.Choices.{basics}
-use Rattle.linear_dict.specs.Dictionaries.{Dictionary, system_of, choice_of}
+use Rattle.linear_dict.specs.Dictionaries.{Dictionary, system_in, choice_of}
 use Rattle.simplex_theory.specs.States.{IsWithin}
 use Rattle.simplex_theory.specs.Steps.{abs_ℚ, Leaves, Helps, Enters}
 use Rattle.simplex_core.specs.States.{state_of}
@@ -19,8 +19,8 @@ IsSide low high x (Some false) = x <ℚ low
 
 -- the variable that leaves, with its row place, or all basic variables are within their bounds
 abbrev pub IsLeaving : Dictionary → Option Leaving → Type 0
-IsLeaving d None = (b : ℕ) → Contains (basics (system_of d) (choice_of d)) b → IsWithin (system_of d) (state_of d).value b
-IsLeaving d (Some l) = (l.row < length d.basics) × (slice_index d.basics l.row ≡ l.name) × Leaves (system_of d) (state_of d) l.name l.above
+IsLeaving d None = (b : ℕ) → Contains (basics (system_in d) (choice_of d)) b → IsWithin (system_in d) (state_of d).value b
+IsLeaving d (Some l) = (l.row < length d.basics) × (slice_index d.basics l.row ≡ l.name) × Leaves (system_in d) (state_of d) l.name l.above
 
 -- k has the sizes of a variable's reduced price and of its entry in the row of v
 pub record IsSized {N : Type 0} (value : N → Fraction) (d : Dictionary) (v : ℕ) (k : Candidate N) : Type 0 where
@@ -31,8 +31,8 @@ pub record IsSized {N : Type 0} (value : N → Fraction) (d : Dictionary) (v : �
 
 -- the variable w as a candidate, where it helps v
 abbrev pub IsCandidate : {N : Type 0} → (N → Fraction) → Dictionary → ℕ → Bool → ℕ → Option (Candidate N) → Type 0
-IsCandidate value d v above w None = ¬ (Helps (system_of d) (state_of d) v above w)
-IsCandidate value d v above w (Some k) = (k.name ≡ w) × Helps (system_of d) (state_of d) v above w × IsSized value d v k
+IsCandidate value d v above w None = ¬ (Helps (system_in d) (state_of d) v above w)
+IsCandidate value d v above w (Some k) = (k.name ≡ w) × Helps (system_in d) (state_of d) v above w × IsSized value d v k
 
 -- the ratio of price to entry of k is below that of j, by products
 abbrev pub IsBelow : {N : Type 0} → (N → Fraction) → Candidate N → Candidate N → Type 0
@@ -45,5 +45,5 @@ IsLesser value (Some best) next r = (IsBelow value next best × (r ≡ next)) �
 
 -- the variable that enters, with its column place, or none helps
 abbrev pub IsEntering : {N : Type 0} → Dictionary → ℕ → Bool → Option (Candidate N) → Type 0
-IsEntering d v above None = (w : ℕ) → ¬ (Helps (system_of d) (state_of d) v above w)
-IsEntering d v above (Some k) = (k.column < length d.others) × (slice_index d.others k.column ≡ k.name) × Enters (system_of d) (state_of d) v above k.name
+IsEntering d v above None = (w : ℕ) → ¬ (Helps (system_in d) (state_of d) v above w)
+IsEntering d v above (Some k) = (k.column < length d.others) × (slice_index d.others k.column ≡ k.name) × Enters (system_in d) (state_of d) v above k.name

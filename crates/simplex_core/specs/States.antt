@@ -1,6 +1,6 @@
 -- A dictionary as a state of the dual simplex method.
 use Rattle.std.specs.Prelude.{◌≡◌, false}
-use Rattle.linear_dict.specs.Dictionaries.{Dictionary, IsDictionary, system_of, choice_of, note_of}
+use Rattle.linear_dict.specs.Dictionaries.{Dictionary, IsDictionary, system_in, choice_of, note_of}
 use Rattle.simplex_theory.specs.States.{State, IsPosed}
 
 -- the choice of its table, with the values and reduced prices that its notes say
@@ -11,4 +11,4 @@ state_of d = record { choice = choice_of d; value = λ w. (note_of d w).value; r
 pub record IsReady (d : Dictionary) : Type 0 where
   pub sound : IsDictionary d
   pub live : d.spent ≡ false
-  pub posed : IsPosed (system_of d) (state_of d)
+  pub posed : IsPosed (system_in d) (state_of d)

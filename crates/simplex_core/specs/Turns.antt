@@ -1,7 +1,7 @@
 -- A step of the method on a dictionary.
 use Rattle.std.specs.Prelude.{ℕ, pos, Bool, ◌==◌, if◌then◌else◌, map}
 use Rattle.fraction_theory.specs.Fraction.{Fraction, whole, ◌+ℚ◌, ◌*ℚ◌}
-use Rattle.linear_dict.specs.Dictionaries.{Dictionary, system_of, choice_of, entry_of, note_of, pivoted}
+use Rattle.linear_dict.specs.Dictionaries.{Dictionary, system_in, choice_of, entry_of, note_of, pivoted}
 use Rattle.linear_dict.specs.Notes.{Noted}
 use Rattle.linear_dict.specs.Places.{place_in}
 use Rattle.simplex_theory.specs.Steps.{violated_bound, displacement}
@@ -26,4 +26,4 @@ noted_anew d f = record d { notes = map f d.names }
 unfoldable pub turned : Dictionary → ℕ → ℕ → Bool → Dictionary
 turned d v k above =
     let e : Dictionary = pivoted d (place_in d.basics v) (place_in d.others k) in
-    noted_anew e (moved_note e v k above (violated_bound (system_of d) v above) (displacement (system_of d) (state_of d) v above) (note_of d k).reduced)
+    noted_anew e (moved_note e v k above (violated_bound (system_in d) v above) (displacement (system_in d) (state_of d) v above) (note_of d k).reduced)

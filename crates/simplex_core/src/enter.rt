@@ -4,7 +4,7 @@ ghost use Rattle.std.specs.List.{Contains};
 ghost use Rattle.fraction_theory.specs.Fraction.{◌*ℚ◌};
 ghost use Rattle.fraction_theory.specs.Order.{◌<ℚ◌};
 ghost use Rattle.linear_dict.specs.Causes.{IsPairOf, IsRefused};
-ghost use Rattle.linear_dict.specs.Dictionaries.{IsDictionary, system_of};
+ghost use Rattle.linear_dict.specs.Dictionaries.{IsDictionary, system_in};
 ghost use Rattle.simplex_theory.specs.Steps.{abs_ℚ, Helps};
 ghost use Rattle.simplex_core.specs.States.{IsReady, state_of};
 ghost use Rattle.simplex_core.specs.Operations.{LesserOperation, RatioOperation};
@@ -119,7 +119,7 @@ pub(crate) fn find_entering<N: Exact>(
     requires row { leaving.now.row < length dict.now.basics }
     requires leaving { slice_index dict.now.basics leaving.now.row ≡ leaving.now.name }
     ensures found { IfOk result (IsEntering dict.now leaving.now.name leaving.now.above) }
-    ensures pair { IfErr result (IsPairOf N.value N.bound (system_of dict.now)) }
+    ensures pair { IfErr result (IsPairOf N.value N.bound (system_in dict.now)) }
 {
     let mut best = None;
     for rank in 0..dict.name_count() {

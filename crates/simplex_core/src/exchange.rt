@@ -2,7 +2,7 @@
 ghost use Rattle.std.specs.Prelude.{◌≡◌, ◌≢◌, ◌<◌, IfErr, IfOk, if◌then◌else◌, false, length, slice_index, pos};
 ghost use Rattle.fraction_theory.specs.Fraction.{whole};
 ghost use Rattle.linear_dict.specs.Causes.{IsPairOf, IsRefused};
-ghost use Rattle.linear_dict.specs.Dictionaries.{IsDictionary, entry_of, system_of};
+ghost use Rattle.linear_dict.specs.Dictionaries.{IsDictionary, entry_of, system_in};
 ghost use Rattle.linear_dict.specs.Notes.{noted};
 ghost use Rattle.simplex_core.specs.Operations.{MoveOperation, MovesOperation};
 ghost use Rattle.simplex_core.specs.States.{IsReady};
@@ -119,7 +119,7 @@ pub(crate) fn step<N: Exact>(
     requires entering { slice_index dict.old.others entering.now.column ≡ entering.now.name }
     requires entry { entry_of dict.old leaving.now.name entering.now.name ≢ whole (pos 0) }
     ensures turned { IfOk result (λ _. dict.new ≡ turned dict.old leaving.now.name entering.now.name leaving.now.above) }
-    ensures pair { IfErr result (IsPairOf N.value N.bound (system_of dict.old)) }
+    ensures pair { IfErr result (IsPairOf N.value N.bound (system_in dict.old)) }
 {
     let note = dict.note(leaving.name);
     let bound = bound_on(&note, leaving.above);

@@ -4,7 +4,7 @@ ghost use Rattle.std.specs.List.{All, Contains};
 ghost use Rattle.fraction_theory.specs.Fraction.{whole};
 ghost use Rattle.fraction_theory.specs.Order.{◌≤ℚ◌};
 ghost use Rattle.linear_dict.specs.Causes.{IsPairOf, IsRefused};
-ghost use Rattle.linear_dict.specs.Dictionaries.{IsDictionary, note_of, system_of};
+ghost use Rattle.linear_dict.specs.Dictionaries.{IsDictionary, note_of, system_in};
 ghost use Rattle.linear_dict.specs.Notes.{noted};
 ghost use Rattle.simplex_core.specs.Operations.{BoundOperation, PriceOperation};
 ghost use Rattle.simplex_core.specs.Posings.{HasNotes, IsPairPosed, IsPosing, asked_note, bound_added, column_note, price_added, reduced_note, row_note, term_note, value_note};
@@ -71,7 +71,7 @@ fn add_basic_price<N: Exact>(
     requires sound { IsDictionary dict.old }
     requires row { row < length dict.old.basics }
     requires name { slice_index dict.old.basics row ≡ name }
-    requires price { N.value price ≡ (system_of dict.old).price name }
+    requires price { N.value price ≡ (system_in dict.old).price name }
     ensures notes { IfOk result (λ _. dict.new ≡ noted_anew dict.old (price_added dict.old name)) }
     ensures cause { IfErr result (IsRefused N.value N.bound (PriceOperation dict.old name)) }
 {
@@ -112,10 +112,10 @@ fn add_price<N: Exact>(dict: &mut Dict<N>, name: u32) -> Result<(), Passed<N>>
 fn put_reduced<N: Exact>(dict: &mut Dict<N>) -> Result<(), Passed<N>>
     requires live { dict.old.spent ≡ false }
     requires sound { IsDictionary dict.old }
-    requires unpriced { (w : ℕ) → Contains dict.old.rows w → (system_of dict.old).price w ≡ whole (pos 0) }
+    requires unpriced { (w : ℕ) → Contains dict.old.rows w → (system_in dict.old).price w ≡ whole (pos 0) }
     requires blank { (w : ℕ) → Contains dict.old.others w → (note_of dict.old w).reduced ≡ whole (pos 0) }
     ensures notes { IfOk result (λ _. dict.new ≡ noted_anew dict.old (reduced_note dict.old)) }
-    ensures pair { IfErr result (IsPairOf N.value N.bound (system_of dict.old)) }
+    ensures pair { IfErr result (IsPairOf N.value N.bound (system_in dict.old)) }
 {
     for rank in 0..dict.name_count() {
         let name = dict.ranked(rank);
@@ -175,7 +175,7 @@ fn put_basics<N: Exact>(dict: &mut Dict<N>) -> Result<(), Passed<N>>
     requires sound { IsDictionary dict.old }
     requires blank { (b : ℕ) → Contains dict.old.basics b → (note_of dict.old b).value ≡ whole (pos 0) }
     ensures notes { IfOk result (λ _. dict.new ≡ noted_anew dict.old (value_note dict.old)) }
-    ensures pair { IfErr result (IsPairOf N.value N.bound (system_of dict.old)) }
+    ensures pair { IfErr result (IsPairOf N.value N.bound (system_in dict.old)) }
 {
     for rank in 0..dict.name_count() {
         let name = dict.ranked(rank);

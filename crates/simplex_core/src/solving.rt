@@ -2,7 +2,7 @@
 ghost use Rattle.std.specs.Prelude.{◌≡◌, IfErr, IfOk};
 ghost use Rattle.std.specs.List.{Contains};
 ghost use Rattle.linear_dict.specs.Causes.{IsPairOf};
-ghost use Rattle.linear_dict.specs.Dictionaries.{system_of};
+ghost use Rattle.linear_dict.specs.Dictionaries.{system_in};
 ghost use Rattle.simplex_core.specs.States.{IsReady, state_of};
 ghost use Rattle.simplex_core.specs.Outcomes.{IsSettled, IsOutcome};
 
@@ -69,7 +69,7 @@ pub enum Run<N: Exact> {
 fn settle<N: Exact>(dict: &mut Dict<N>) -> Result<Option<Leaving>, Passed<N>>
     requires { IsReady dict.old }
     ensures settled { IfOk result (IsSettled dict.old dict.new) }
-    ensures pair { IfErr result (IsPairOf N.value N.bound (system_of dict.old)) }
+    ensures pair { IfErr result (IsPairOf N.value N.bound (system_in dict.old)) }
 {
     while let Some(variable) = find_leaving(dict) {
         match find_entering(dict, &variable)? {

@@ -1,15 +1,13 @@
-use Rattle.std.proofs.Common.{rules, Err, ◌≡◌, ◌<◌, List, ℤ, pos, length, get_or, ap, sym, subst, ◌∙◌, arith, w64}
+use Rattle.std.proofs.Common.{rules, Err, ◌≡◌, ℤ, pos, length, ap, ◌∙◌, arith, w64}
 use Rattle.std.proofs.lemmas.Int.{to_z-of_z}
 use Rattle.std.proofs.lemmas.List.{length-map}
 use mir.Val.{to_z, of_z}
 use Rattle.fraction_theory.specs.Fraction.{over}
 use Rattle.fraction_theory.proofs.FieldLaws.{over-one}
 use Rattle.market_data.specs.Scales.{factor_product_one}
-use Rattle.market_model.specs.declared.answered.Dual.{Dual}
-use Rattle.market_model.specs.Optimality.{IsOneSided}
 use Rattle.market_model.specs.Valued.{dual_at, duals_at, passed_at}
-use Rattle.limit_rows.proofs.DualLemmas.{row_of_dual, named_count}
-use Rattle.bus_prices.proofs.PriceLemmas.{congestion_step, congestion_all, congestion_refused, dual_read}
+use Rattle.limit_rows.proofs.DualLemmas.{named_count, dual_one_sided, dual_row}
+use Rattle.bus_prices.proofs.PriceLemmas.{congestion_step, congestion_all, congestion_refused}
 use Rattle.bus_prices.proofs.pricing.congestion_at.Goals as goal
 
 pub loop-dual-init : goal.loop-dual-init
@@ -17,46 +15,24 @@ loop-dual-init g c = c.of_parts-sum.ensures ∙ over-one (pos 0)
 
 pub opposite_net_price-requires : goal.opposite_net_price-requires
 opposite_net_price-requires g c =
-    let m = c.args.market.now in
-    let d = duals_at g.N.Exact.value c.args.duals.now in
-    let k = c.loop-dual.dual-index in
-    let listed : c.slice-dual-items.result.now ≡ c.args.duals.now.limits = c.slice-dual-items.ensures in
-    let inside : k < length c.args.duals.now.limits = omega (arith, c.loop-dual-test.true, ap length listed) in
-    let item = c.dual-item.is ∙ ap (λ (es : List (Dual g.row.N.Denot)). get_or es k c.dual-item.result) listed in
-    let e = dual_at g.N.Exact.value c.dual-item.result in
-    let read = dual_read g.N.Exact.value c.args.duals.now.limits k c.dual-item.result inside item in
-    let below : k < length d.limits = omega (arith, inside, length-map c.args.duals.now.limits (dual_at g.N.Exact.value)) in
-    subst IsOneSided (sym read) (c.requires.duals.one_sided k e below)
+    dual_one_sided g.N.Exact.value c.args.market.now c.args.duals.now c.requires.duals c.slice-dual-items.result.now c.loop-dual.dual-index c.dual-item.result
+    c.slice-dual-items.ensures c.loop-dual-test.true c.dual-item.is
 
-pub factor_named-requires-clause-row : goal.factor_named-requires-clause-row
-factor_named-requires-clause-row g c =
-    let m = c.args.market.now in
-    let d = duals_at g.N.Exact.value c.args.duals.now in
-    let k = c.loop-dual.dual-index in
-    let listed : c.slice-dual-items.result.now ≡ c.args.duals.now.limits = c.slice-dual-items.ensures in
-    let inside : k < length c.args.duals.now.limits = omega (arith, c.loop-dual-test.true, ap length listed) in
-    let item = c.dual-item.is ∙ ap (λ (es : List (Dual g.row.N.Denot)). get_or es k c.dual-item.result) listed in
-    let e = dual_at g.N.Exact.value c.dual-item.result in
-    let read = dual_read g.N.Exact.value c.args.duals.now.limits k c.dual-item.result inside item in
-    let below : k < length d.limits = omega (arith, inside, length-map c.args.duals.now.limits (dual_at g.N.Exact.value)) in
-    let r = row_of_dual m c.lines-lines.ensures.market d c.requires.duals.named k e below read in
+pub factor-requires-clause-row : goal.factor-requires-clause-row
+factor-requires-clause-row g c =
+    let r = dual_row g.N.Exact.value c.args.market.now c.args.duals.now c.requires.duals c.slice-dual-items.result.now c.loop-dual.dual-index c.dual-item.result
+    c.slice-dual-items.ensures c.loop-dual-test.true c.dual-item.is c.lines-lines.ensures.market in
     (r.0, r.1.row, r.1.name)
 
 pub loop-dual-preserved : goal.loop-dual-preserved
 loop-dual-preserved g c =
     let m = c.args.market.now in
     let d = duals_at g.N.Exact.value c.args.duals.now in
-    let k = c.loop-dual.dual-index in
-    let listed : c.slice-dual-items.result.now ≡ c.args.duals.now.limits = c.slice-dual-items.ensures in
-    let inside : k < length c.args.duals.now.limits = omega (arith, c.loop-dual-test.true, ap length listed) in
-    let item = c.dual-item.is ∙ ap (λ (es : List (Dual g.row.N.Denot)). get_or es k c.dual-item.result) listed in
-    let e = dual_at g.N.Exact.value c.dual-item.result in
-    let read = dual_read g.N.Exact.value c.args.duals.now.limits k c.dual-item.result inside item in
-    let below : k < length d.limits = omega (arith, inside, length-map c.args.duals.now.limits (dual_at g.N.Exact.value)) in
-    let r = row_of_dual m c.lines-lines.ensures.market d c.requires.duals.named k e below read in
-    let known : to_z w64 (of_z w64 c.factor_named.result) ≡ c.factor_named.result = to_z-of_z w64 c.factor_named.result (record { sfits = c.factor_named.type_inv }) in
-    congestion_step m d c.args.bus k e r.0 (g.N.Exact.value c.opposite_net_price.result) _ (g.N.Exact.value c.loop-dual.sum) _ r.1 c.opposite_net_price.ensures
-    (ap (λ (z : ℤ). over z factor_product_one) known ∙ c.factor_named.ensures.is r.0 r.1.row r.1.name) c.loop-dual.invariant c.in_ok-sum.ensures.sum
+    let r = dual_row g.N.Exact.value m c.args.duals.now c.requires.duals c.slice-dual-items.result.now c.loop-dual.dual-index c.dual-item.result
+    c.slice-dual-items.ensures c.loop-dual-test.true c.dual-item.is c.lines-lines.ensures.market in
+    let known : to_z w64 (of_z w64 c.factor.result) ≡ c.factor.result = to_z-of_z w64 c.factor.result (record { sfits = c.factor.type_inv }) in
+    congestion_step m d c.args.bus c.loop-dual.dual-index (dual_at g.N.Exact.value c.dual-item.result) r.0 (g.N.Exact.value c.opposite_net_price.result) _ (g.N.Exact.value c.loop-dual.sum) _ r.1 c.opposite_net_price.ensures
+    (ap (λ (z : ℤ). over z factor_product_one) known ∙ c.factor.ensures.is r.0 r.1.row r.1.name) c.loop-dual.invariant c.in_ok-sum.ensures.sum
 
 pub returns-clause-sum : goal.returns-clause-sum
 returns-clause-sum g c =
@@ -70,16 +46,11 @@ pub returns-in_err-sum-clause-cause : goal.returns-in_err-sum-clause-cause
 returns-in_err-sum-clause-cause g c =
     let m = c.args.market.now in
     let d = duals_at g.N.Exact.value c.args.duals.now in
-    let k = c.loop-dual.dual-index in
-    let listed : c.slice-dual-items.result.now ≡ c.args.duals.now.limits = c.slice-dual-items.ensures in
-    let inside : k < length c.args.duals.now.limits = omega (arith, c.loop-dual-test.true, ap length listed) in
-    let item = c.dual-item.is ∙ ap (λ (es : List (Dual g.row.N.Denot)). get_or es k c.dual-item.result) listed in
-    let e = dual_at g.N.Exact.value c.dual-item.result in
-    let read = dual_read g.N.Exact.value c.args.duals.now.limits k c.dual-item.result inside item in
-    let below : k < length d.limits = omega (arith, inside, length-map c.args.duals.now.limits (dual_at g.N.Exact.value)) in
-    let r = row_of_dual m c.lines-lines.ensures.market d c.requires.duals.named k e below read in
-    let known : to_z w64 (of_z w64 c.factor_named.result) ≡ c.factor_named.result = to_z-of_z w64 c.factor_named.result (record { sfits = c.factor_named.type_inv }) in
+    let r = dual_row g.N.Exact.value m c.args.duals.now c.requires.duals c.slice-dual-items.result.now c.loop-dual.dual-index c.dual-item.result
+    c.slice-dual-items.ensures c.loop-dual-test.true c.dual-item.is c.lines-lines.ensures.market in
+    let known : to_z w64 (of_z w64 c.factor.result) ≡ c.factor.result = to_z-of_z w64 c.factor.result (record { sfits = c.factor.type_inv }) in
     let given : c.from_residual.result ≡ Err c.in_err-sum.field-0.0 = search rules in
     rw given
-    (congestion_refused m d c.args.bus k e r.0 (g.N.Exact.value c.opposite_net_price.result) _ (g.N.Exact.value c.loop-dual.sum) g.N.Exact.bound (passed_at g.N.Exact.value c.in_err-sum.field-0.0) r.1 c.opposite_net_price.ensures
-    (ap (λ (z : ℤ). over z factor_product_one) known ∙ c.factor_named.ensures.is r.0 r.1.row r.1.name) c.loop-dual.invariant c.in_err-sum.ensures.cause)
+    (congestion_refused m d c.args.bus c.loop-dual.dual-index (dual_at g.N.Exact.value c.dual-item.result) r.0 (g.N.Exact.value c.opposite_net_price.result) _ (g.N.Exact.value c.loop-dual.sum) g.N.Exact.bound
+    (passed_at g.N.Exact.value c.in_err-sum.field-0.0) r.1 c.opposite_net_price.ensures
+    (ap (λ (z : ℤ). over z factor_product_one) known ∙ c.factor.ensures.is r.0 r.1.row r.1.name) c.loop-dual.invariant c.in_err-sum.ensures.cause)

@@ -25,7 +25,7 @@ returns-in_err-take_bounds-clause-cause g c =
     let given : c.from_residual-in_err-take_bounds.result ≡ Err c.in_err-take_bounds.field-0.0 = p.1 ∙ ap Err p.2 in
     rw given
     (terms_stop g.N.Exact.value g.N.Exact.bound c.args.market.now (rows_in c.args.taken) (rows_in c.args.taken) (choice_of c.args.dict) c.in_err-take_bounds.field-0.0
-    c.lines-lines.ensures.market (growth_none c.args.market.now (rows_in c.args.taken)) (holds_choice c.args.market.now (rows_in c.args.taken) c.args.dict c.lines-lines.ensures.market c.requires.holds)
+    c.lines-lines.ensures.market (growth_none c.args.market.now (rows_in c.args.taken)) (holds_choice c.args.market.now (rows_in c.args.taken) c.args.dict c.requires.holds)
     c.in_err-take_bounds.ensures.cause)
 
 pub returns-clause-hand : goal.returns-clause-hand

@@ -5,7 +5,8 @@ use Rattle.market_model.specs.declared.participants.Side.TheVariants.{Sell}
 use Rattle.market_model.specs.Dispatch.{places, quantity, zero}
 use Rattle.simplex_core.specs.declared.bounds.Bounds.{Bounds}
 use Rattle.market_dict.proofs.ListedLemmas.{places_filled, map-pushed}
-use Rattle.market_dict.proofs.TermLemmas.{quantity_read}
+use Rattle.market_dict.proofs.TermLemmas.{quantity_read, first_ones}
+use Rattle.market_system.specs.MarketSystem.{low as low_of, high as high_of}
 use Rattle.market_dict.proofs.posing.first_bounds.Goals as goal
 
 pub quantity_of-high-requires : goal.quantity_of-high-requires
@@ -42,6 +43,7 @@ returns-clause-lows g c =
     ap (map low) c.in_ok-push-2.ensures
     ∙ map-pushed low c.loop-block.bounds (map (λ j. zero) (places (length m.blocks))) (record { low = c.args.residual_demand; high = c.args.residual_demand }) _
     (subst (λ (n : ℕ). map low c.loop-block.bounds ≡ map (λ j. zero) (places n)) all c.loop-block.invariant.lows) c.requires
+    ∙ sym (first_ones m (low_of m))
 
 pub returns-clause-highs : goal.returns-clause-highs
 returns-clause-highs g c =
@@ -52,3 +54,4 @@ returns-clause-highs g c =
     ap (map high) c.in_ok-push-2.ensures
     ∙ map-pushed high c.loop-block.bounds (map (quantity m) (places (length m.blocks))) (record { low = c.args.residual_demand; high = c.args.residual_demand }) _
     (subst (λ (n : ℕ). map high c.loop-block.bounds ≡ map (quantity m) (places n)) all c.loop-block.invariant.highs) c.requires
+    ∙ sym (first_ones m (high_of m))

@@ -33,8 +33,12 @@ returns-in_err-flow-clause-cause g c =
     let m = c.args.market.now in
     let given : c.from_residual.result ≡ Err c.in_err-flow.field-0.0 = search rules in
     rw given
-    (of_sum (_, flow_of_row c.args.row c.requires.row, subst (λ (ts : List Term). IsRefusedIn ts g.N.Exact.bound (passed_at g.N.Exact.value c.in_err-flow.field-0.0))
-    (row_terms m (empty m) (map g.N.Exact.value c.args.base_flows.now) c.args.row c.lines-lines.ensures.market c.requires.base_flows c.requires.row) c.in_err-flow.ensures.cause))
+    (of_sum (
+      _,
+      flow_of_row c.args.row c.requires.row,
+      subst (λ (ts : List Term). IsRefusedIn ts g.N.Exact.bound (passed_at g.N.Exact.value c.in_err-flow.field-0.0))
+          (row_terms m (empty m) (map g.N.Exact.value c.args.base_flows.now) c.args.row c.lines-lines.ensures.market c.requires.base_flows c.requires.row) c.in_err-flow.ensures.cause,
+    ))
 
 pub returns-in_err-high-clause-cause : goal.returns-in_err-high-clause-cause
 returns-in_err-high-clause-cause g c =

@@ -1,6 +1,5 @@
-use Rattle.std.proofs.Common.{rules, Err, ◌≡◌, ◌∙◌, map, ap, length}
-use Rattle.market_model.specs.Dispatch.{places, quantity, zero}
-use Rattle.market_system.specs.MarketSystem.{residual_demand, least_added, most_added}
+use Rattle.std.proofs.Common.{rules, Err, ◌≡◌, ◌∙◌, map, ap}
+use Rattle.market_system.specs.MarketSystem.{low as low_of, high as high_of}
 use Rattle.simplex_core.specs.declared.bounds.Bounds.{Bounds}
 use Rattle.market_dict.specs.declared.stop.Stop.TheVariants.{Passed as StoppedBy}
 use Rattle.market_dict.proofs.TermLemmas.{bound_more}
@@ -21,9 +20,9 @@ returns-clause-taken g c = λ rs are.
       prices = are.prices;
       lows =
           ap (map low) c.in_ok-push.ensures
-          ∙ bound_more low (map (λ j. zero) (places (length m.blocks))) (residual_demand m) (least_added m) rs r c.args.posing.now.bounds c.in_ok-bounds.bounds are.lows c.in_ok-bounds.ensures.low;
+          ∙ bound_more low m (low_of m) rs r c.args.posing.now.bounds c.in_ok-bounds.bounds are.lows c.in_ok-bounds.ensures.low;
       highs =
           ap (map high) c.in_ok-push.ensures
-          ∙ bound_more high (map (quantity m) (places (length m.blocks))) (residual_demand m) (most_added m) rs r c.args.posing.now.bounds c.in_ok-bounds.bounds are.highs c.in_ok-bounds.ensures.high;
+          ∙ bound_more high m (high_of m) rs r c.args.posing.now.bounds c.in_ok-bounds.bounds are.highs c.in_ok-bounds.ensures.high;
       base_flows = are.base_flows;
     }

@@ -3,5 +3,5 @@ use Rattle.linear_dict.specs.Dictionaries.{note_of}
 use Rattle.market_model.specs.Dispatch.{places}
 use Rattle.market_dict.proofs.reading.dispatch.Given as goal
 
-abbrev pub invariant-loop-rank : goal.invariant-loop-rank
-invariant-loop-rank g l = map g.N.Exact.value l.values ≡ map (λ w. (note_of l.dict w).value) (places l.rank)
+abbrev pub invariant-loop-block : goal.invariant-loop-block
+invariant-loop-block g l = map g.N.Exact.value l.values ≡ map (λ w. (note_of l.dict w).value) (places l.block)

@@ -1,65 +1,96 @@
-use Rattle.std.proofs.Common.{◌≡◌, ◌<◌, ◌≤◌, ◌+◌, ◌-◌, ◌∙◌, ◌++◌, ℕ, List, ap, ap₂, sym, length, arith, slice_index}
+use Rattle.std.proofs.Common.{◌<◌, ◌≤◌, ◌∙◌, [], List, map, ap, ap₂, subst, sym, length, arith, refl}
+use Rattle.std.specs.List.{Contains}
+use Rattle.std.proofs.lemmas.List.{append-nil}
 use Rattle.fraction_theory.specs.Fraction.{Fraction, neg_ℚ}
 use Rattle.fraction_theory.specs.Signs.{sign_of}
 use Rattle.market_model.specs.declared.answered.Dual.{Dual}
 use Rattle.market_model.specs.declared.answered.Duals.{Duals}
 use Rattle.market_model.specs.declared.answered.RowId.{RowId}
-use Rattle.market_model.specs.declared.limits.Row.{Row}
-use Rattle.market_system.specs.MarketSystem.{balance_name, row_name, in_order, dual_by}
-use Rattle.market_dict.proofs.ReadingLemmas.{cost_at, duals_to, duals_more, duals_all, ranked_row, name_count, balance_rank, row_rank}
+use Rattle.market_model.specs.LimitRows.{rows}
+use Rattle.market_model.specs.Valued.{dual_at}
+use Rattle.limit_rows.proofs.PlaceLemmas.{at_places}
+use Rattle.market_system.specs.declared.variables.Variable.TheVariants as variable
+use Rattle.market_system.specs.MarketSystem.{name, variables, in_order, dual_by}
+use Rattle.market_dict.proofs.ReadingLemmas.{name_count, rank_known, rank_read, rank_row, rank_inside, rank_cost, limits_step, energy_step, duals_all, balance_all}
 use Rattle.market_dict.proofs.reading.duals_by.Goals as goal
+use Rattle.market_dict.proofs.reading.duals_by.Goals.{in-Block, in-Balance, in-Limit+in_ok-push_dual-in-Limit}
 
-pub bounds-costs-balance : goal.bounds-costs-balance
-bounds-costs-balance g c =
+pub variable_of-requires : goal.variable_of-requires
+variable_of-requires g c =
     let m = c.args.market.now in
     let h = c.requires.holds in
-    let count = name_count m h.0 c.args.dict.now c.blocks-2.ensures.market h.1 in
-    omega (arith, count, c.requires.costs, c.len-balance.ensures, ap length c.blocks-2.ensures.list)
+    subst (Contains (map (name m) (variables m (rows m)))) (sym c.ranked.ensures)
+    (rank_known m h.0 c.args.dict.now c.lines-lines.ensures.market h.1 c.loop-rank.rank (omega (arith, c.loop-rank-test.true, c.requires.costs)))
 
-pub offset_bounds-costs-balance : goal.offset_bounds-costs-balance
-offset_bounds-costs-balance g c =
+pub name_at-requires-clause-line : goal.name_at-requires-clause-line
+name_at-requires-clause-line g c =
     let m = c.args.market.now in
     let h = c.requires.holds in
-    let count = name_count m h.0 c.args.dict.now c.blocks-2.ensures.market h.1 in
-    omega (arith, count, c.requires.costs, c.len-balance.ensures, ap length c.blocks-2.ensures.list)
+    let market = c.lines-lines.ensures.market in
+    (at_places m market c.in-Limit.row
+    (rank_row m h.0 c.args.dict.now market h.1 c.loop-rank.rank c.ranked.result c.variable_of.result c.in-Limit.row (omega (arith, c.loop-rank-test.true, c.requires.costs)) c.ranked.ensures c.variable_of.ensures c.in-Limit.is)).0
+
+pub name_at-requires-clause-lost : goal.name_at-requires-clause-lost
+name_at-requires-clause-lost g c =
+    let m = c.args.market.now in
+    let h = c.requires.holds in
+    let market = c.lines-lines.ensures.market in
+    (at_places m market c.in-Limit.row
+    (rank_row m h.0 c.args.dict.now market h.1 c.loop-rank.rank c.ranked.result c.variable_of.result c.in-Limit.row (omega (arith, c.loop-rank-test.true, c.requires.costs)) c.ranked.ensures c.variable_of.ensures c.in-Limit.is)).1
 
 pub loop-rank-preserved : goal.loop-rank-preserved
-loop-rank-preserved g c = λ rs cost n holds same e.
+loop-rank-preserved g c =
     let m = c.args.market.now in
     let d = c.args.dict.now in
-    let market = c.blocks-2.ensures.market in
-    let rank = c.loop-rank.rank in
-    let by_row = λ (r : Row). cost (row_name m r) in
-    let balance : c.len-balance.result ≡ balance_name m = c.len-balance.ensures ∙ ap length c.blocks-2.ensures.list in
-    let k : ℕ = n - 1 in
-    let here : balance_name m + 1 + k ≡ rank = omega (arith, e, balance, c.loop-rank.auto.rank) in
-    let next : k + 1 ≡ n = omega (arith, e, balance, c.loop-rank.auto.rank) in
-    let within : rank < length d.names = omega (arith, c.requires.costs, c.loop-rank-test.true) in
-    let found = ranked_row m rs d market holds k rank here within in
-    let r = found.0 in
-    let priced = cost_at g.N.Exact.value cost c.args.costs.now d.names rank c.index-costs-rank.result same c.loop-rank-test.true c.index-costs-rank.is
-    ∙ ap cost (ap (slice_index d.names) (sym here) ∙ row_rank m rs d market holds k r found.1) in
-    let named = c.limit_of.ensures rs k r holds here found.1 in
-    c.in_ok-push_dual.ensures
-    ∙ ap₂ (λ (ds es : List (Dual Fraction)). ds ++ es) (c.loop-rank.invariant rs cost k holds same here) (ap₂ (λ (id : RowId) (x : Fraction). dual_by id x (sign_of x)) named priced)
-    ∙ sym (duals_more m by_row (in_order m rs) k r found.1)
-    ∙ ap (duals_to m by_row (in_order m rs)) next
+    let market = c.lines-lines.ensures.market in
+    let k = c.loop-rank.rank in
+    let worth = g.N.Exact.value in
+    let test = c.loop-rank-test.true in
+    let lt : k < length d.names = omega (arith, test, c.requires.costs) in
+    elim c.match-variable_of.branch [
+      | in-Block w ↦ record {
+        limits = λ rs cost holds same.
+            let vs = variables m (in_order m rs) in
+            let v = variable.Block w.in-Block.field-0 in
+            let is = rank_read m rs d market holds k c.ranked.result c.variable_of.result v lt c.ranked.ensures c.variable_of.ensures w.in-Block.is in
+            limits_step m cost vs k v _ _ [] (rank_inside m rs d market holds k lt) is (c.loop-rank.invariant.limits rs cost holds same) (ap (map (dual_at worth)) w.limits-is ∙ sym (append-nil _)) refl;
+        energy = λ rs cost holds same.
+            let v = variable.Block w.in-Block.field-0 in
+            let is = rank_read m rs d market holds k c.ranked.result c.variable_of.result v lt c.ranked.ensures c.variable_of.ensures w.in-Block.is in
+            energy_step m cost (variables m (in_order m rs)) k v (rank_inside m rs d market holds k lt) is (λ e. absurd cc) (λ before. ap worth w.energy-is ∙ c.loop-rank.invariant.energy rs cost holds same before);
+      }
+      | in-Balance w ↦ record {
+        limits = λ rs cost holds same.
+            let vs = variables m (in_order m rs) in
+            let is = rank_read m rs d market holds k c.ranked.result c.variable_of.result variable.Balance lt c.ranked.ensures c.variable_of.ensures w.in-Balance.is in
+            limits_step m cost vs k variable.Balance _ _ [] (rank_inside m rs d market holds k lt) is (c.loop-rank.invariant.limits rs cost holds same) (ap (map (dual_at worth)) w.limits-is ∙ sym (append-nil _)) refl;
+        energy = λ rs cost holds same among.
+            let is = rank_read m rs d market holds k c.ranked.result c.variable_of.result variable.Balance lt c.ranked.ensures c.variable_of.ensures w.in-Balance.is in
+            ap worth w.energy-is ∙ w.neg-energy.ensures
+            ∙ ap neg_ℚ (rank_cost m rs d market holds worth cost c.args.costs.now k w.index-costs-rank.result variable.Balance same test lt w.index-costs-rank.is is);
+      }
+      | in-Limit+in_ok-push_dual-in-Limit w ↦ record {
+        limits = λ rs cost holds same.
+            let vs = variables m (in_order m rs) in
+            let v = variable.Limit w.in-Limit.row in
+            let is = rank_read m rs d market holds k c.ranked.result c.variable_of.result v lt c.ranked.ensures c.variable_of.ensures w.in-Limit.is in
+            let priced = rank_cost m rs d market holds worth cost c.args.costs.now k w.index-costs-rank-in-Limit.result v same test lt w.index-costs-rank-in-Limit.is is in
+            limits_step m cost vs k v _ _ _ (rank_inside m rs d market holds k lt) is (c.loop-rank.invariant.limits rs cost holds same) (ap (map (dual_at worth)) w.limits-is ∙ w.in_ok-push_dual-in-Limit.ensures)
+            (ap₂ (λ (id : RowId) (x : Fraction). dual_by id x (sign_of x)) w.name_at.ensures priced);
+        energy = λ rs cost holds same.
+            let v = variable.Limit w.in-Limit.row in
+            let is = rank_read m rs d market holds k c.ranked.result c.variable_of.result v lt c.ranked.ensures c.variable_of.ensures w.in-Limit.is in
+            energy_step m cost (variables m (in_order m rs)) k v (rank_inside m rs d market holds k lt) is (λ e. absurd cc) (λ before. ap worth w.energy-is ∙ c.loop-rank.invariant.energy rs cost holds same before);
+      }
+    ]
 
 pub returns : goal.returns
 returns g c = λ rs cost holds same.
     let m = c.args.market.now in
     let d = c.args.dict.now in
-    let market = c.blocks-2.ensures.market in
-    let rank = c.loop-rank.rank in
-    let by_row = λ (r : Row). cost (row_name m r) in
-    let balance : c.len-balance.result ≡ balance_name m = c.len-balance.ensures ∙ ap length c.blocks-2.ensures.list in
-    let count = name_count m rs d market holds in
-    let k : ℕ = rank - (balance_name m + 1) in
-    let here : balance_name m + 1 + k ≡ rank = omega (arith, balance, c.loop-rank.auto.rank) in
-    let all : length (in_order m rs) ≤ k = omega (arith, here, count, c.requires.costs, c.loop-rank-test.false) in
-    let lt : c.len-balance.result < length c.args.costs.now = omega (arith, count, c.requires.costs, balance) in
-    let priced = cost_at g.N.Exact.value cost c.args.costs.now d.names c.len-balance.result c.index-costs-balance.result same lt c.index-costs-balance.is
-    ∙ ap cost (ap (slice_index d.names) balance ∙ balance_rank m rs d market holds) in
+    let k = c.loop-rank.rank in
+    let count = name_count m rs d c.lines-lines.ensures.market holds in
+    let all : length (variables m (in_order m rs)) ≤ k = omega (arith, count, c.requires.costs, c.loop-rank-test.false) in
     ap₂ (λ (x : Fraction) (ds : List (Dual Fraction)). let y : Duals Fraction = record { energy = x; limits = ds } in y)
-    (c.neg.ensures ∙ ap neg_ℚ priced)
-    (c.loop-rank.invariant rs cost k holds same here ∙ duals_all m by_row (in_order m rs) k all)
+    (c.loop-rank.invariant.energy rs cost holds same (balance_all m cost (in_order m rs) k all))
+    (c.loop-rank.invariant.limits rs cost holds same ∙ duals_all m cost (in_order m rs) k all)

@@ -1,6 +1,6 @@
 use Rattle.std.proofs.Common.{rules, Err, ◌≡◌, ◌∙◌, map, ap, slice_index}
 use Rattle.std.specs.Prelude.{not}
-use Rattle.linear_dict.specs.Dictionaries.{choice_of, system_of as system_in}
+use Rattle.linear_dict.specs.Dictionaries.{choice_of, system_in}
 use Rattle.linear_dict.proofs.SplitLemmas.{Contains-at}
 use Rattle.linear_system.proofs.SameSystems.{same_pair}
 use Rattle.simplex_theory.specs.Steps.{opposite_if}

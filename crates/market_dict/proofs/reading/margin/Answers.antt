@@ -1,7 +1,7 @@
 use Rattle.std.proofs.Common.{◌∙◌, ap, ap₂, sym, slice_index}
 use Rattle.fraction_theory.specs.Fraction.{◌-ℚ◌}
 use Rattle.exact_fraction.specs.declared.Op.TheVariants.{Minus}
-use Rattle.linear_dict.specs.Dictionaries.{note_of, choice_of, system_of}
+use Rattle.linear_dict.specs.Dictionaries.{note_of, choice_of, system_in}
 use Rattle.linear_dict.specs.Notes.{Noted}
 use Rattle.simplex_theory.specs.Stuck.{margin}
 use Rattle.market_model.specs.Valued.{passed_at}
@@ -15,7 +15,7 @@ returns-then-above-clause-margin g c =
     let b = slice_index d.basics c.args.row in
     let note = c.note-note.ensures ∙ ap (note_of d) c.basics.ensures in
     exact_ok g.N.Exact.value g.N.Exact.bound Minus c.note-note.result.high c.note-note.result.value c.minus.result _ c.minus.ensures
-    (ap₂ ◌-ℚ◌ (ap Noted.high note) (ap Noted.value note) ∙ margin_above d c.requires.sound c.args.row c.requires.row c.requires.shows ∙ ap (margin (system_of d) (choice_of d) b) (sym c.if-above.true))
+    (ap₂ ◌-ℚ◌ (ap Noted.high note) (ap Noted.value note) ∙ margin_above d c.requires.sound c.args.row c.requires.row c.requires.shows ∙ ap (margin (system_in d) (choice_of d) b) (sym c.if-above.true))
 
 pub returns-then-above-clause-pair : goal.returns-then-above-clause-pair
 returns-then-above-clause-pair g c =
@@ -32,7 +32,7 @@ returns-else-above-clause-margin g c =
     let b = slice_index d.basics c.args.row in
     let note = c.note-note.ensures ∙ ap (note_of d) c.basics.ensures in
     exact_ok g.N.Exact.value g.N.Exact.bound Minus c.note-note.result.value c.note-note.result.low c.minus-else-above.result _ c.minus-else-above.ensures
-    (ap₂ ◌-ℚ◌ (ap Noted.value note) (ap Noted.low note) ∙ margin_below d c.requires.sound c.args.row c.requires.row c.requires.shows ∙ ap (margin (system_of d) (choice_of d) b) (sym c.if-above.false))
+    (ap₂ ◌-ℚ◌ (ap Noted.value note) (ap Noted.low note) ∙ margin_below d c.requires.sound c.args.row c.requires.row c.requires.shows ∙ ap (margin (system_in d) (choice_of d) b) (sym c.if-above.false))
 
 pub returns-else-above-clause-pair : goal.returns-else-above-clause-pair
 returns-else-above-clause-pair g c =

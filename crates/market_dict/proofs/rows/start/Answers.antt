@@ -18,7 +18,7 @@ returns g c =
     let m = c.args.market.now in
     let blocks : c.len-blocks.result ≡ length m.blocks = c.len-blocks.ensures ∙ ap length c.blocks-2.ensures.list in
     IfOk-weaker c.start.result _ _
-    (λ d is. holds_start g.N.Exact.value m c.slice.result.now c.slice-2.result.now d (c.slice.ensures ∙ c.in_ok-names.ensures ∙ ap places blocks)
+    (λ d is. holds_start g.N.Exact.value m c.slice.result.now c.slice-2.result.now d c.blocks-2.ensures.market (c.slice.ensures ∙ c.in_ok-names.ensures ∙ ap places blocks)
     (ap (map g.N.Exact.value) c.slice-2.ensures ∙ c.in_ok-entries.ensures)
     (subst (λ (n : ℕ). IsStart g.N.Exact.value c.slice.result.now n c.slice-2.result.now d) blocks is))
     c.start.ensures

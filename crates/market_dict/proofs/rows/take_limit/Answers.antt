@@ -18,7 +18,7 @@ returns-in-Ok-clause-taken g c = λ rs holds.
     let r = c.args.row in
     let h = c.requires.holds in
     let fresh = name_is_new m h.0 d r c.lines-lines.ensures.market h.1 c.requires.row h.2 in
-    holds_taken g.N.Exact.value m rs r c.slice.result.now d c.add_row.new.self holds c.requires.row (λ k. fresh (row_named m rs d holds r k))
+    holds_taken g.N.Exact.value m rs r c.slice.result.now d c.add_row.new.self c.lines-lines.ensures.market holds c.requires.row (λ k. fresh (row_named m rs d holds r k))
     (ap (map g.N.Exact.value) c.slice.ensures ∙ c.in_ok-entries.ensures)
     (subst (λ (n : ℕ). AddsRow g.N.Exact.value d n c.slice.result.now c.add_row.new.self) c.row_name-name.ensures c.in-Ok.ensures.added)
 

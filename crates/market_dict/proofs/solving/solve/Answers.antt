@@ -1,5 +1,5 @@
 use Rattle.std.proofs.Common.{sym, subst}
-use Rattle.linear_dict.specs.Dictionaries.{system_of as system_in}
+use Rattle.linear_dict.specs.Dictionaries.{system_in}
 use Rattle.linear_system.proofs.SameSystems.{same_pair}
 use Rattle.market_system.specs.MarketSystem.{system_of}
 use Rattle.market_dict.specs.Holding.{HoldsSystem}

@@ -1,6 +1,6 @@
 use Rattle.std.proofs.Common.{◌<◌, ◌+◌, ℕ, Bool, Option, arith, sym, subst, length, slice_index}
 use Rattle.std.specs.List.{Contains}
-use Rattle.linear_dict.specs.Dictionaries.{Dictionary, system_of}
+use Rattle.linear_dict.specs.Dictionaries.{Dictionary, system_in}
 use Rattle.linear_dict.proofs.SplitLemmas.{Contains-at, in_others}
 use Rattle.simplex_theory.specs.Steps.{Helps}
 use Rattle.simplex_core.specs.States.{state_of}
@@ -25,7 +25,7 @@ loop-rank-preserved g c =
     let hk : k < length d.names = Prim.omega (arith, c.loop-rank-test.true, c.name_count-rank-end.ensures) in
     elim c.match-place_at.branch [
       | in-Column+in-Some+in_ok-lesser w ↦ subst (λ (b : Option (Candidate g.row.N.Denot)). IsBestSoFar value d v a (k + 1) b) (sym w.best-is)
-          (best_more value d c.requires.sound v a k hk w.in-Some.next w.in-Some.ensures.0 (subst (λ (x : ℕ). Helps (system_of d) (state_of d) v a x) (sym w.in-Some.ensures.0) w.in-Some.ensures.1) w.in-Some.ensures.2 c.loop-rank.best _ w.in_ok-lesser.ensures.lesser c.loop-rank.invariant)
+          (best_more value d c.requires.sound v a k hk w.in-Some.next w.in-Some.ensures.0 (subst (λ (x : ℕ). Helps (system_in d) (state_of d) v a x) (sym w.in-Some.ensures.0) w.in-Some.ensures.1) w.in-Some.ensures.2 c.loop-rank.best _ w.in_ok-lesser.ensures.lesser c.loop-rank.invariant)
       | in-Column+in_default-candidate_at w ↦ subst (λ (b : Option (Candidate g.row.N.Denot)). IsBestSoFar value d v a (k + 1) b) (sym w.best-is)
           (best_skip value d c.requires.sound v a k hk c.loop-rank.best (λ p. w.in_default-candidate_at.ensures p) c.loop-rank.invariant)
       | in_default w ↦ subst (λ (b : Option (Candidate g.row.N.Denot)). IsBestSoFar value d v a (k + 1) b) (sym w.best-is)

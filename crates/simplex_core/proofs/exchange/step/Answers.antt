@@ -3,7 +3,7 @@ use Rattle.std.proofs.lemmas.Result.{IfOk-equal}
 use mathlib.Core.Path.{ap₂}
 use Rattle.fraction_theory.specs.Fraction.{Fraction, whole, ◌-ℚ◌}
 use Rattle.linear_dict.specs.Tables.{cell}
-use Rattle.linear_dict.specs.Dictionaries.{Dictionary, system_of, entry_of, note_of}
+use Rattle.linear_dict.specs.Dictionaries.{Dictionary, system_in, entry_of, note_of}
 use Rattle.linear_dict.specs.Notes.{Noted, noted}
 use Rattle.linear_dict.proofs.NameLemmas.{entry_at}
 use Rattle.simplex_theory.specs.Steps.{violated_bound, displacement}
@@ -55,8 +55,8 @@ returns-clause-turned g c =
     let a : Bool = c.args.leaving.now.above in
     let n : Noted = noted value c.note-note.result in
     let is : n ≡ note_of d v = c.note-note.ensures in
-    let bound : value c.bound_on-bound.result ≡ violated_bound (system_of d) v a = bound_is value d v c.note-note.result a c.bound_on-bound.result is c.bound_on-bound.ensures in
-    let far : value c.in_ok-displacement.displacement ≡ displacement (system_of d) (state_of d) v a = c.in_ok-displacement.ensures.exact ∙ ap₂ (λ (x y : Fraction). x -ℚ y) bound (value_is d v n is) in
+    let bound : value c.bound_on-bound.result ≡ violated_bound (system_in d) v a = bound_is value d v c.note-note.result a c.bound_on-bound.result is c.bound_on-bound.ensures in
+    let far : value c.in_ok-displacement.displacement ≡ displacement (system_in d) (state_of d) v a = c.in_ok-displacement.ensures.exact ∙ ap₂ (λ (x y : Fraction). x -ℚ y) bound (value_is d v n is) in
     IfOk-equal c.move_notes.result c.move_notes.new.dict
     (noted_anew c.pivot.new.self (moved_note c.pivot.new.self v k a (value c.bound_on-bound.result) (value c.in_ok-displacement.displacement) (value c.note-price.result.reduced))) (turned d v k a)
     c.move_notes.ensures.notes
@@ -73,11 +73,11 @@ returns-in_err-displacement-clause-pair g c =
     let a : Bool = c.args.leaving.now.above in
     let n : Noted = noted value c.note-note.result in
     let is : n ≡ note_of d v = c.note-note.ensures in
-    let bound : value c.bound_on-bound.result ≡ violated_bound (system_of d) v a = bound_is value d v c.note-note.result a c.bound_on-bound.result is c.bound_on-bound.ensures in
+    let bound : value c.bound_on-bound.result ≡ violated_bound (system_in d) v a = bound_is value d v c.note-note.result a c.bound_on-bound.result is c.bound_on-bound.ensures in
     let p = err_from_is_err_and c.from_residual.result c.from_residual.ensures.1 in
     let basic : Contains d.basics v = subst (Contains d.basics) c.requires.leaving (Contains-at d.basics c.args.leaving.now.row c.requires.row) in
     rw (p.1, p.2)
-    (pair_by value g.N.Exact.bound (system_of d) Minus c.bound_on-bound.result c.note-note.result.value c.in_err-displacement.field-0.0 (violated_bound (system_of d) v a) (note_of d v).value
+    (pair_by value g.N.Exact.bound (system_in d) Minus c.bound_on-bound.result c.note-note.result.value c.in_err-displacement.field-0.0 (violated_bound (system_in d) v a) (note_of d v).value
     c.in_err-displacement.ensures bound (ap Noted.value is) (displace_pair d c.requires.ready g.N.Exact.bound v a (c.requires.sound.split.first_named v basic)))
 
 pub returns-clause-pair : goal.returns-clause-pair
@@ -90,15 +90,15 @@ returns-clause-pair g c =
     let a : Bool = c.args.leaving.now.above in
     let n : Noted = noted value c.note-note.result in
     let is : n ≡ note_of d v = c.note-note.ensures in
-    let bound : value c.bound_on-bound.result ≡ violated_bound (system_of d) v a = bound_is value d v c.note-note.result a c.bound_on-bound.result is c.bound_on-bound.ensures in
-    let far : value c.in_ok-displacement.displacement ≡ displacement (system_of d) (state_of d) v a = c.in_ok-displacement.ensures.exact ∙ ap₂ (λ (x y : Fraction). x -ℚ y) bound (value_is d v n is) in
+    let bound : value c.bound_on-bound.result ≡ violated_bound (system_in d) v a = bound_is value d v c.note-note.result a c.bound_on-bound.result is c.bound_on-bound.ensures in
+    let far : value c.in_ok-displacement.displacement ≡ displacement (system_in d) (state_of d) v a = c.in_ok-displacement.ensures.exact ∙ ap₂ (λ (x y : Fraction). x -ℚ y) bound (value_is d v n is) in
     let price : value c.note-price.result.reduced ≡ (note_of d k).reduced = ap Noted.reduced c.note-price.ensures in
     let entry = (λ (e : cell (length d.others) d.table c.args.leaving.now.row c.args.entering.now.column ≡ whole (pos 0)). c.requires.entry
     (sym (entry_at d c.requires.sound c.args.leaving.now.row c.args.entering.now.column c.requires.row c.requires.column ∙ ap₂ (entry_of d) c.requires.leaving c.requires.entering) ∙ e)) in
-    if_err_as (IsRefused value g.N.Exact.bound (MovesOperation c.pivot.new.self v k (value c.in_ok-displacement.displacement) (value c.note-price.result.reduced))) (IsPairOf value g.N.Exact.bound (system_of d)) c.move_notes.result
+    if_err_as (IsRefused value g.N.Exact.bound (MovesOperation c.pivot.new.self v k (value c.in_ok-displacement.displacement) (value c.note-price.result.reduced))) (IsPairOf value g.N.Exact.bound (system_in d)) c.move_notes.result
     (λ e r.
     move_pair d c.requires.ready c.args.leaving.now.row c.args.entering.now.column c.requires.row c.requires.column v k c.requires.leaving c.requires.entering a entry g.N.Exact.bound e.op (value e.left) (value e.right)
-    (subst (λ (x : Dictionary). MovesOperation x v k (displacement (system_of d) (state_of d) v a) (note_of d k).reduced e.op (value e.left) (value e.right)) c.in_ok-pivot.ensures.pivoted
+    (subst (λ (x : Dictionary). MovesOperation x v k (displacement (system_in d) (state_of d) v a) (note_of d k).reduced e.op (value e.left) (value e.right)) c.in_ok-pivot.ensures.pivoted
     (subst (λ (t : Fraction). MovesOperation c.pivot.new.self v k t (note_of d k).reduced e.op (value e.left) (value e.right)) far
     (subst (λ (t : Fraction). MovesOperation c.pivot.new.self v k (value c.in_ok-displacement.displacement) t e.op (value e.left) (value e.right)) price r.asked))) r.passes)
     c.move_notes.ensures.cause

@@ -1,6 +1,6 @@
 use Rattle.std.proofs.Common.{◌<◌, ◌∙◌, ℕ, arith, sym, subst, length, slice_index}
 use Rattle.std.specs.List.{Contains}
-use Rattle.linear_dict.specs.Dictionaries.{Dictionary, system_of}
+use Rattle.linear_dict.specs.Dictionaries.{Dictionary, system_in}
 use Rattle.linear_dict.specs.Notes.{Noted, noted}
 use Rattle.linear_dict.proofs.SplitLemmas.{Contains-at}
 use Rattle.simplex_theory.specs.States.{Violates}
@@ -22,10 +22,10 @@ returns-in-Some g c =
     let n : Noted = noted g.N.Exact.value c.note_at.result in
     let is = c.note_at.ensures in
     let below : k < length d.names = Prim.omega (arith, c.loop-rank-test.true, c.name_count-rank-end.ensures) in
-    let past : Violates (system_of d) (state_of d).value c.in-Some.above ranked = side_violates (system_of d) (state_of d).value ranked n.low n.high n.value (low_is d ranked n is) (high_is d ranked n is) (value_is d ranked n is) c.in-Some.above c.in-Some.ensures in (
+    let past : Violates (system_in d) (state_of d).value c.in-Some.above ranked = side_violates (system_in d) (state_of d).value ranked n.low n.high n.value (low_is d ranked n is) (high_is d ranked n is) (value_is d ranked n is) c.in-Some.above c.in-Some.ensures in (
       c.in-Row.ensures.0,
       c.in-Row.ensures.1 ∙ sym c.ranked-name.ensures,
-      subst (λ (w : ℕ). Leaves (system_of d) (state_of d) w c.in-Some.above) (sym c.ranked-name.ensures)
+      subst (λ (w : ℕ). Leaves (system_in d) (state_of d) w c.in-Some.above) (sym c.ranked-name.ensures)
           (first_leaves d c.requires.sound k c.in-Row.row c.in-Some.above c.loop-rank.invariant below c.in-Row.ensures.0 c.in-Row.ensures.1 past),
     )
 
@@ -37,7 +37,7 @@ loop-rank-preserved g c =
       | in-Row+in_default-violated_side w ↦
           let n : Noted = noted g.N.Exact.value w.note_at.result in
           let is = w.note_at.ensures in
-          side_within (system_of d) (state_of d).value ranked n.low n.high n.value (low_is d ranked n is) (high_is d ranked n is) (value_is d ranked n is) w.in_default-violated_side.ensures
+          side_within (system_in d) (state_of d).value ranked n.low n.high n.value (low_is d ranked n is) (high_is d ranked n is) (value_is d ranked n is) w.in_default-violated_side.ensures
       | in_default w ↦ absurd (c.requires.sound.split.apart ranked m
           (subst (Contains d.others) w.in_default.ensures.1 (Contains-at d.others w.in_default.field-0 w.in_default.ensures.0)))
     ])

@@ -3,7 +3,7 @@ use Rattle.std.specs.List.{Contains}
 use mathlib.Core.Path.{ap₂}
 use Rattle.fraction_theory.specs.Fraction.{◌+ℚ◌, ◌*ℚ◌}
 use Rattle.linear_system.proofs.ChoiceLaws.{column_entry-basic}
-use Rattle.linear_dict.specs.Dictionaries.{Dictionary, choice_of, note_of, system_of, with_note}
+use Rattle.linear_dict.specs.Dictionaries.{Dictionary, choice_of, note_of, system_in, with_note}
 use Rattle.linear_dict.specs.Notes.{Noted, noted}
 use Rattle.linear_dict.proofs.CauseLemmas.{refused_either}
 use Rattle.linear_dict.proofs.SplitLemmas.{Contains-at}
@@ -89,5 +89,5 @@ returns-in_err-reduced-clause-cause g c =
     let p = err_from_is_err_and c.from_residual.result c.from_residual.ensures.1 in
     rw (p.1, p.2)
     (refused_either value g.N.Exact.bound (PriceOperation d j) c.note_at-note.result.reduced c.args.price c.entry.result c.in_err-reduced.field-0.0
-    (note_of d w).reduced ((system_of d).price j) ((choice_of d).entry j w) c.in_err-reduced.ensures (ap Noted.reduced note) c.requires.price entry
+    (note_of d w).reduced ((system_in d).price j) ((choice_of d).entry j w) c.in_err-reduced.ensures (ap Noted.reduced note) c.requires.price entry
     (scaling_price w basic (Contains-at d.others k hk)) (adding_scaled w basic (Contains-at d.others k hk)))

@@ -5,7 +5,7 @@ use Rattle.fraction_theory.specs.Fraction.{◌+ℚ◌, ◌*ℚ◌}
 use Rattle.fraction_theory.specs.declared.Sign.TheVariants.{Zero}
 use Rattle.fraction_theory.proofs.SignLaws.{sign_of_is}
 use Rattle.linear_system.specs.Choices.{at_bound}
-use Rattle.linear_dict.specs.Dictionaries.{Dictionary, choice_of, note_of, system_of, with_note}
+use Rattle.linear_dict.specs.Dictionaries.{Dictionary, choice_of, note_of, system_in, with_note}
 use Rattle.linear_dict.specs.Notes.{Noted, noted}
 use Rattle.linear_dict.proofs.CauseLemmas.{refused_either}
 use Rattle.linear_dict.proofs.SplitLemmas.{Contains-at}
@@ -67,7 +67,7 @@ loop-row-preserved g c =
     let name : c.basics-basic.result ≡ b = c.basics-basic.ensures ∙ ap (λ (x : Dictionary). slice_index x.basics k) m.is in
     let note : noted value c.note_at-note.result ≡ note_of d b = c.note_at-note.ensures ∙ ap (note_of e) (c.rank_of-rank.ensures.name ∙ name) ∙ putting_note d s d.basics f s.split.first_distinct s.split.first_named k e m hk in
     let entry : value c.entry.result ≡ (choice_of d).entry b w = c.entry.ensures.entry ∙ entry_read d e m.notes m.is k c.args.column b w refl c.requires.name in
-    let stands : value c.bound_on-bound.result ≡ at_bound (system_of d) (choice_of d) w = stand_is value d w c.note-at.result c.bound_on-bound.result c.note-at.ensures c.bound_on-bound.ensures in
+    let stands : value c.bound_on-bound.result ≡ at_bound (system_in d) (choice_of d) w = stand_is value d w c.note-at.result c.bound_on-bound.result c.note-at.ensures c.bound_on-bound.ensures in
     let n : Noted = with_value (noted value c.note_at-note.result) (value c.in_ok-value.value) in
     putting_step d s d.basics f s.split.first_distinct s.split.first_named k e m n c.set_note_at.new.self hk
     (c.set_note_at.ensures ∙ ap (λ (x : ℕ). with_note e x n) (c.rank_of-rank.ensures.name ∙ name))
@@ -103,9 +103,9 @@ returns-in_err-value-clause-cause g c =
     let name : c.basics-basic.result ≡ b = c.basics-basic.ensures ∙ ap (λ (x : Dictionary). slice_index x.basics k) m.is in
     let note : noted value c.note_at-note.result ≡ note_of d b = c.note_at-note.ensures ∙ ap (note_of e) (c.rank_of-rank.ensures.name ∙ name) ∙ putting_note d s d.basics f s.split.first_distinct s.split.first_named k e m hk in
     let entry : value c.entry.result ≡ (choice_of d).entry b w = c.entry.ensures.entry ∙ entry_read d e m.notes m.is k c.args.column b w refl c.requires.name in
-    let stands : value c.bound_on-bound.result ≡ at_bound (system_of d) (choice_of d) w = stand_is value d w c.note-at.result c.bound_on-bound.result c.note-at.ensures c.bound_on-bound.ensures in
+    let stands : value c.bound_on-bound.result ≡ at_bound (system_in d) (choice_of d) w = stand_is value d w c.note-at.result c.bound_on-bound.result c.note-at.ensures c.bound_on-bound.ensures in
     let p = err_from_is_err_and c.from_residual.result c.from_residual.ensures.1 in
     rw (p.1, p.2)
     (refused_either value g.N.Exact.bound (BoundOperation d w) c.note_at-note.result.value c.entry.result c.bound_on-bound.result c.in_err-value.field-0.0
-    (note_of d b).value ((choice_of d).entry b w) (at_bound (system_of d) (choice_of d) w) c.in_err-value.ensures (ap Noted.value note) entry stands
+    (note_of d b).value ((choice_of d).entry b w) (at_bound (system_in d) (choice_of d) w) c.in_err-value.ensures (ap Noted.value note) entry stands
     (scaling_bound b (Contains-at d.basics k hk)) (adding_bound b (Contains-at d.basics k hk)))

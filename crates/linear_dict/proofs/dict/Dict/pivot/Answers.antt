@@ -7,7 +7,7 @@ use Rattle.std.specs.List.Sorted.{IsStrictlyIncreasing}
 use Rattle.fraction_theory.specs.Fraction.{whole}
 use Rattle.linear_dict.specs.declared.index.Variable.{Variable}
 use Rattle.linear_dict.specs.Causes.{IsPairOf, IsRefused, PivotOperation}
-use Rattle.linear_dict.specs.Dictionaries.{Dictionary, pivoted, seen, system_of}
+use Rattle.linear_dict.specs.Dictionaries.{Dictionary, pivoted, seen, system_in}
 use Rattle.linear_dict.specs.Places.{place_in}
 use Rattle.linear_dict.specs.Tables.{cell, table_of, pivoted_cell}
 use Rattle.linear_dict.proofs.ExchangeLemmas.{pivot_pair, spent_dictionary}
@@ -40,7 +40,7 @@ returns-in_err-pivot_table-clause-pair g c =
     let refused = subst₂ (λ (m n : ℕ). IsRefused value g.N.Exact.bound (PivotOperation m n (cell n (map value s.table.items)) c.args.r c.args.c) e) rows columns c.in_err-pivot_table.ensures.cause in
     let p = err_from_is_err_and c.from_residual.result c.from_residual.ensures.1 in
     rw (p.1, p.2)
-    (subst (λ (d : Dictionary). IsPairOf value g.N.Exact.bound (system_of d) e) c.self.view_is
+    (subst (λ (d : Dictionary). IsPairOf value g.N.Exact.bound (system_in d) e) c.self.view_is
     (pivot_pair (seen value s.columns.items s.rows.items s.coefficients.items s.others.items s.basics.items s.table.items s.variables.items s.spent) c.self.invariant.1 c.args.r c.args.c
     (Prim.omega (arith, lr, c.requires.row)) (Prim.omega (arith, lc, c.requires.column)) g.N.Exact.bound (ap (λ (d : Dictionary). d.spent) c.self.view_is ∙ c.requires.live) entry
     e.op (value e.left) (value e.right) refused.asked refused.passes))
