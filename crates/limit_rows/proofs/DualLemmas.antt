@@ -1,6 +1,6 @@
 -- The rows that duals name, and sums over them.
 use Rattle.std.specs.Prelude.{◌≡◌, ◌≢◌, ◌||◌, ℕ, ◌<◌, pos, Bool, true, false, cond, List, [], ◌∷◌, ◌++◌, map, filter, length, take, AllPairs, Contains, if◌then◌else◌, refl}
-use Rattle.std.proofs.Common.{zero, suc, arith, ap, sym, ◌∙◌, get_or}
+use Rattle.std.proofs.Common.{zero, suc, arith, ap, sym, subst, ◌∙◌, get_or}
 use Rattle.std.proofs.lemmas.Bool.{eq-eqb}
 use Rattle.std.proofs.lemmas.List.{get_or-map, map-append}
 use Rattle.std.proofs.lemmas.List.Kept.{AllPairs-filter}
@@ -16,7 +16,8 @@ use Rattle.market_model.specs.declared.limits.Row.{Row}
 use Rattle.market_model.specs.declared.limits.Cause.TheVariants.{Base}
 use Rattle.market_model.specs.LimitRows.{rows, row_id}
 use Rattle.market_model.specs.Market.{IsMarket}
-use Rattle.market_model.specs.Optimality.{same_id, up_in, down_in, up_of, down_of, names_row, named_rows}
+use Rattle.market_model.specs.Optimality.{IsOneSided, ProperDuals, same_id, up_in, down_in, up_of, down_of, names_row, named_rows}
+use Rattle.market_model.specs.Valued.{dual_at, duals_at}
 use Rattle.market_model.proofs.ChangeLemmas.{same_default}
 use Rattle.limit_rows.proofs.ApartLemmas.{names_apart}
 use Rattle.limit_rows.proofs.GroupLemmas.{length-map}

@@ -7,7 +7,7 @@ ghost use Rattle.market_model.specs.Factors.{factor_in};
 ghost use Rattle.market_model.specs.declared.limits.Row.{Row};
 ghost use Rattle.market_model.specs.LimitRows.{factor_places, row_factor, row_id, rows, IsCauseAmong};
 
-use crate::places::row_named;
+use crate::places::found_row;
 use market_data::FACTOR_ONE;
 use market_model::{Cause, Market, Row, RowId};
 
@@ -79,9 +79,5 @@ pub fn factor(market: &Market, row: RowId, bus: usize) -> i64
     ensures size { unsigned_abs result < 2 ^ 63 }
     ensures is { (r : Row) → Contains (rows market.now) r → row_id market.now r ≡ row → over result (10 ^ (2 * factor_places market.now)) ≡ row_factor market.now r bus }
 {
-    let _lines = market.lines();
-    match row_named(market, row) {
-        Some(row) => factor_at(market, row, bus),
-        None => unreachable!(),
-    }
+    factor_at(market, found_row(market, row), bus)
 }

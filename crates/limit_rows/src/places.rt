@@ -63,3 +63,17 @@ pub fn row_named(market: &Market, name: RowId) -> Option<Row>
         None
     }
 }
+
+/// The row of a name that the market has.
+pub fn found_row(market: &Market, name: RowId) -> Row
+    requires { (r : Row) × Contains (rows market.now) r × (row_id market.now r ≡ name) }
+    ensures line { result.line < length market.now.lines }
+    ensures lost { IsCauseAmong (length market.now.lines) result.cause }
+    ensures is { (r : Row) → Contains (rows market.now) r → row_id market.now r ≡ name → result ≡ r }
+{
+    let _lines = market.lines();
+    match row_named(market, name) {
+        Some(row) => row,
+        None => unreachable!(),
+    }
+}

@@ -1,7 +1,6 @@
 -- What rows earn, and what is refused of that.
-use Rattle.std.specs.Prelude.{◌≡◌, ◌≢◌, ◌⊎◌, ℕ, ◌<◌, pos, List, [], ◌∷◌, length, Contains, refl}
-use Rattle.std.proofs.Common.{inl, inr, arith, ap, ap₂, sym, subst, subst₂, ◌∙◌, get_or}
-use Rattle.std.proofs.lemmas.List.{get_or-map, length-map}
+use Rattle.std.specs.Prelude.{◌≡◌, ◌≢◌, ◌⊎◌, ℕ, pos, List, [], ◌∷◌, Contains, refl}
+use Rattle.std.proofs.Common.{inl, inr, ap, ap₂, sym, subst, subst₂, ◌∙◌}
 use Rattle.fraction_theory.specs.Fraction.{Fraction, whole, ◌+ℚ◌, ◌-ℚ◌, ◌*ℚ◌}
 use Rattle.fraction_theory.specs.Order.{◌<ℚ◌}
 use Rattle.fraction_theory.specs.Signs.{sign_of}
@@ -24,13 +23,12 @@ use Rattle.market_model.specs.declared.limits.Row.{Row}
 use Rattle.market_model.specs.declared.limits.Cause.TheVariants.{Base}
 use Rattle.market_model.specs.LimitRows.{flow, flow_by, flow_terms, limit, offset_terms, row_id, row_offset}
 use Rattle.market_model.specs.NamedSums.{IsRefusal, IsRefusedIn}
-use Rattle.market_model.specs.Optimality.{IsOneSided, ProperDuals, named_rows}
+use Rattle.market_model.specs.Optimality.{IsOneSided, named_rows}
 use Rattle.market_model.specs.RightAnswers.{rent_of}
 use Rattle.market_model.specs.Market.{IsMarket}
 use Rattle.market_model.specs.Settlement.{rent, rent_terms}
-use Rattle.market_model.specs.Valued.{dual_at, duals_at}
 use Rattle.market_model.proofs.SumSteps.{multiplied_at}
-use Rattle.limit_rows.proofs.DualLemmas.{IsRowOfDual, row_of_dual}
+use Rattle.limit_rows.proofs.DualLemmas.{IsRowOfDual}
 use Rattle.limit_screen.proofs.ScreenLemmas.{row_terms}
 use Rattle.limit_screen.specs.Flows.{flows_at, line_in}
 use Rattle.settlement.specs.Paying.{earned_by, earned_terms}
@@ -69,23 +67,6 @@ not_zero_side e s h is some = by h.one some
 -- ---- rows of duals, where lines have the flows of a dispatch
 same_rent : (row row' : RowId) (f f' r r' : Fraction) → row ≡ row' → f ≡ f' → r ≡ r' → ◌≡◌ {A = Rent Fraction} (record { row = row; flow = f; rent = r }) (record { row = row'; flow = f'; rent = r' })
 same_rent row row' f f' r r' a b c = Prim.rw a (Prim.rw b (Prim.rw c refl))
-
--- a dual of a list that was read
-module _ {N : Type 0} (value : N → Fraction) (m : Parts) (duals : Duals N) (proper : ProperDuals m (duals_at value duals)) (items : List (Dual N)) (k : ℕ) (item : Dual N)
-    (listed : items ≡ duals.limits) (inside : k < length items) (is : item ≡ get_or items k item) where
-  below : k < length (duals_at value duals).limits
-  below = Prim.omega (arith, inside, ap length listed, length-map duals.limits (dual_at value))
-
-  read : dual_at value item ≡ get_or (duals_at value duals).limits k (dual_at value item)
-  read =
-      sym (get_or-map (dual_at value) duals.limits k item (dual_at value item) (Prim.omega (arith, inside, ap length listed))
-      ∙ ap (λ (es : List (Dual N)). dual_at value (get_or es k item)) (sym listed) ∙ ap (dual_at value) (sym is))
-
-  pub dual_one_sided : IsOneSided (dual_at value item)
-  dual_one_sided = subst IsOneSided (sym read) (proper.one_sided k (dual_at value item) below)
-
-  pub dual_row : IsMarket m → (r : Row) × IsRowOfDual m (duals_at value duals) k (dual_at value item) r
-  dual_row market = row_of_dual m market (duals_at value duals) proper.named k (dual_at value item) below read
 
 module _ (m : Parts) (x : Dispatch) (flows : List Fraction) (are : flows ≡ flows_at m x) (d : Duals Fraction) (k : ℕ) (e : Dual Fraction) (r : Row) (h : IsRowOfDual m d k e r) (market : IsMarket m) where
   pub earned_is : earned_by m (line_in m flows) e r ≡ rent_of m x d r

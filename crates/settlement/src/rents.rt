@@ -10,8 +10,9 @@ ghost use Rattle.limit_screen.specs.Flows.{flows_at};
 ghost use Rattle.settlement.specs.Refusals.{IsMoneyStop};
 
 use crate::MoneyStop;
-use crate::rows::{found_row, row_rent};
+use crate::rows::row_rent;
 use exact_fraction::Exact;
+use limit_rows::found_row;
 use market_model::{Duals, List, Market, Rent};
 use std::alloc::Global;
 

@@ -1,9 +1,8 @@
-//! The rows of duals, and what their limits earn.
+//! What the limits of rows earn.
 
-ghost use Rattle.std.specs.Prelude.{◌≡◌, ◌+◌, ◌<◌, length, map, Contains, IfOk, IfErr};
+ghost use Rattle.std.specs.Prelude.{◌≡◌, ◌+◌, ◌<◌, length, map, IfOk, IfErr};
 ghost use Rattle.fraction_theory.specs.Sums.{total};
-ghost use Rattle.market_model.specs.declared.limits.Row.{Row};
-ghost use Rattle.market_model.specs.LimitRows.{IsCauseAmong, row_id, rows};
+ghost use Rattle.market_model.specs.LimitRows.{IsCauseAmong};
 ghost use Rattle.market_model.specs.Optimality.{IsOneSided};
 ghost use Rattle.market_model.specs.Valued.{dual_at, passed_at, rent_at};
 ghost use Rattle.limit_screen.specs.Flows.{line_in};
@@ -11,23 +10,9 @@ ghost use Rattle.settlement.specs.Paying.{earned_by, earned_terms};
 ghost use Rattle.settlement.specs.Refusals.{IsEarningRefusal, IsRentRefusal};
 
 use exact_fraction::{Exact, Passed, Sign};
-use limit_rows::{limit_at, row_named, row_offset};
+use limit_rows::{limit_at, row_offset};
 use limit_screen::row_flow;
-use market_model::{Dual, Market, Rent, Row, RowId, datum};
-
-/// The row of a name that the market has.
-pub fn found_row(market: &Market, name: RowId) -> Row
-    requires { (r : Row) × Contains (rows market.now) r × (row_id market.now r ≡ name) }
-    ensures line { result.line < length market.now.lines }
-    ensures lost { IsCauseAmong (length market.now.lines) result.cause }
-    ensures is { (r : Row) → Contains (rows market.now) r → row_id market.now r ≡ name → result ≡ r }
-{
-    let _lines = market.lines();
-    match row_named(market, name) {
-        Some(row) => row,
-        None => unreachable!(),
-    }
-}
+use market_model::{Dual, Market, Rent, Row, datum};
 
 /// What a limit earns with the one of its two prices that is not 0: on the upper side for the limit less the fixed offset of the
 /// flow, on the lower side for the two together.

@@ -4,15 +4,7 @@ use Rattle.std.proofs.lemmas.Int.{to_z-of_z}
 use mir.Val.{to_z, of_z}
 use Rattle.market_model.specs.declared.limits.Row.{Row}
 use Rattle.market_model.specs.LimitRows.{row_factor}
-use Rattle.limit_rows.proofs.ApartLemmas.{same_row}
-use Rattle.limit_rows.proofs.PlaceLemmas.{at_places}
 use Rattle.limit_rows.proofs.factors.factor.Goals as goal
-
-pub factor_at-requires-clause-line : goal.factor_at-requires-clause-line
-factor_at-requires-clause-line c = (at_places c.args.market.now c.lines-lines.ensures.market c.in-Some.row c.in-Some.ensures.0).0
-
-pub factor_at-requires-clause-lost : goal.factor_at-requires-clause-lost
-factor_at-requires-clause-lost c = (at_places c.args.market.now c.lines-lines.ensures.market c.in-Some.row c.in-Some.ensures.0).1
 
 pub returns : goal.returns
 returns c =

@@ -3,13 +3,13 @@ use Rattle.market_model.specs.declared.limits.Row.{Row}
 use Rattle.market_model.specs.Optimality.{named_rows}
 use Rattle.market_model.specs.RightAnswers.{rent_of}
 use Rattle.market_model.specs.Valued.{dual_at, duals_at, passed_at, rent_at}
-use Rattle.limit_rows.proofs.DualLemmas.{named_count}
+use Rattle.limit_rows.proofs.DualLemmas.{dual_one_sided, dual_row, named_count}
 use Rattle.limit_screen.specs.Flows.{line_in}
 use Rattle.settlement.specs.declared.stops.MoneyStop.TheVariants as why
 use Rattle.settlement.specs.Paying.{earned_by}
 use Rattle.settlement.specs.Refusals.{IsRentRefusal}
 use Rattle.settlement.proofs.ListLemmas.{put_next, all_put_next}
-use Rattle.settlement.proofs.RowLemmas.{dual_one_sided, dual_row, earned_is, row_refusal}
+use Rattle.settlement.proofs.RowLemmas.{earned_is, row_refusal}
 use Rattle.settlement.proofs.rents.rents.Goals as goal
 
 pub found_row-row-requires : goal.found_row-row-requires

@@ -1,7 +1,7 @@
 use Rattle.limit_rows.proofs.ApartLemmas.{same_row}
 use Rattle.limit_rows.proofs.PlaceLemmas.{at_places}
 use Rattle.std.proofs.Common.{sym, ◌∙◌}
-use Rattle.settlement.proofs.rows.found_row.Goals as goal
+use Rattle.limit_rows.proofs.places.found_row.Goals as goal
 
 pub returns : goal.returns
 returns c =
