@@ -1,31 +1,29 @@
--- Steps of the congestion at a bus, dual by dual.
-use Rattle.std.specs.Prelude.{◌≡◌, ◌⊎◌, ℕ, ◌+◌, ◌≤◌, pos, false, List, [], ◌∷◌, ◌++◌, map, filter, length, take, refl}
-use Rattle.std.proofs.Common.{inl, inr, ap, ap₂, sym, subst, ◌∙◌}
-use Rattle.std.proofs.lemmas.List.Elements.{All-nil}
-use Rattle.std.proofs.lemmas.List.{take_all}
+-- Steps of the congestion at a bus, dual by dual, and of prices, bus by bus.
+use Rattle.std.specs.Prelude.{◌≡◌, ◌⊎◌, ℕ, ◌+◌, ◌<◌, ◌≤◌, pos, false, List, [], ◌∷◌, ◌++◌, map, length, take, refl}
+use Rattle.std.proofs.Common.{arith, inl, inr, ap, ap₂, sym, ◌∙◌, get_or, set}
+use Rattle.std.proofs.lemmas.List.{take_all, get_or-set_other}
 use Rattle.fraction_theory.specs.Fraction.{Fraction, whole, neg_ℚ, ◌+ℚ◌, ◌-ℚ◌, ◌*ℚ◌}
-use Rattle.fraction_theory.specs.Sums.{sum_by, Term, Product, term_value, total}
-use Rattle.fraction_theory.specs.Order.{◌<ℚ◌}
-use Rattle.fraction_theory.specs.Signs.{sign_of}
-use Rattle.fraction_theory.specs.declared.Sign.{Sign}
-use Rattle.fraction_theory.specs.declared.Sign.TheVariants.{Below, Above}
-use Rattle.fraction_theory.proofs.FieldLaws.{ring_ℚ}
-use Rattle.fraction_theory.proofs.OrderLaws.{<ℚ_irrefl}
-use Rattle.fraction_theory.proofs.SignLaws.{sign_of_is}
+use Rattle.fraction_theory.specs.Sums.{sum_by, Term, Plain, Product, term_value, total}
+use Rattle.fraction_theory.proofs.FieldLaws.{ring_ℚ, +ℚ_nil}
 use Rattle.fraction_theory.proofs.Ring.{by_ring, at, padd, pmul, pneg, pnil}
 use Rattle.fraction_theory.proofs.SumLaws.{total-map}
 use Rattle.exact_fraction.specs.declared.Op.TheVariants.{Plus, Times}
 use Rattle.exact_fraction.specs.declared.Passed.{Passed}
 use Rattle.market_model.specs.declared.answered.Dual.{Dual}
 use Rattle.market_model.specs.declared.answered.Duals.{Duals}
+use Rattle.market_model.specs.declared.answered.Price.{Price}
 use Rattle.market_model.specs.declared.participants.Parts.{Parts}
 use Rattle.market_model.specs.declared.limits.Row.{Row}
+use Rattle.market_model.specs.Dispatch.{places}
 use Rattle.market_model.specs.LimitRows.{rows, row_id, row_factor}
 use Rattle.market_model.specs.NamedSums.{IsRefusal, IsRefusedIn, IsShareRefusal}
-use Rattle.market_model.specs.Optimality.{IsOneSided, ProperDuals, net_shadow_price, names_row, named_rows, congestion, congestion_terms, congestion_by}
+use Rattle.market_model.specs.Optimality.{net_shadow_price, names_row, named_rows, congestion, congestion_terms, congestion_by, price_by, price_terms}
+use Rattle.market_model.specs.RightAnswers.{price_made}
 use Rattle.market_model.proofs.MorePlaces.{sum_by_more}
+use Rattle.market_model.proofs.PlaceLists.{put_more, map_same}
 use Rattle.market_model.proofs.SumSteps.{plus_at, multiplied_at}
 use Rattle.limit_rows.proofs.DualLemmas.{IsRowOfDual, up_unnamed, down_unnamed, sum_named, terms_named}
+use Rattle.bus_prices.specs.PriceParts.{HaveParts, price_of_parts}
 
 module _ (m : Parts) (d : Duals Fraction) (i : ℕ) where
   abbrev term : Row → Term
@@ -76,19 +74,56 @@ lower_alone u v e = by_ring ring_ℚ (u ∷ []) (pneg (at 0)) (pneg (padd (at 0)
 pub upper_alone : (u v : Fraction) → u ≡ whole (pos 0) → v ≡ neg_ℚ (u -ℚ v)
 upper_alone u v e = by_ring ring_ℚ (v ∷ []) (at 0) (pneg (padd pnil (pneg (at 0)))) refl ∙ ap (λ w. neg_ℚ (w -ℚ v)) (sym e)
 
--- a price that is not 0 is that of the side that has one
-pub not_zero_side : (e : Dual Fraction) (s : Sign) → IsOneSided e → s ≡ sign_of e.down → (s ≡ Below) ⊎ (s ≡ Above) → e.up ≡ whole (pos 0)
-not_zero_side e s h is some = by h.one some
-  where
-    by : ((whole (pos 0) <ℚ e.up) × (e.down ≡ whole (pos 0))) ⊎ ((e.up ≡ whole (pos 0)) × (whole (pos 0) <ℚ e.down)) → (s ≡ Below) ⊎ (s ≡ Above) → e.up ≡ whole (pos 0)
-    by (inr b) some = b.0
-    by (inl b) (inl t) = absurd (<ℚ_irrefl e.down (subst (λ x. e.down <ℚ x) (sym b.1) (sign_of_is e.down Below (sym t ∙ is))))
-    by (inl b) (inr t) = absurd (<ℚ_irrefl e.down (subst (λ x. x <ℚ e.down) (sym b.1) (sign_of_is e.down Above (sym t ∙ is))))
+-- ---- prices by bus, whose parts are put place by place
+-- the first prices have these parts
+pub record HaveFirstParts {N : Type 0} (value : N → Fraction) (energy : Fraction) (congestion : ℕ → Fraction) (count : ℕ) (prices : List (Price N)) : Type 0 where
+  pub energy_at : (bus : ℕ) (p : Price N) → bus < count → value (get_or prices bus p).energy ≡ energy
+  pub congestion_at : (bus : ℕ) (p : Price N) → bus < count → value (get_or prices bus p).congestion ≡ congestion bus
 
--- duals of no row are proper
-filter_none : {X : Type 0} (xs : List X) → filter (λ x. false) xs ≡ []
-filter_none [] = refl
-filter_none (x ∷ xs) = filter_none xs
+-- those from a place on are as before
+abbrev pub AreLeft : {N : Type 0} → List (Price N) → ℕ → List (Price N) → Type 0
+AreLeft {N} old count new = (bus : ℕ) (p : Price N) → count ≤ bus → get_or new bus p ≡ get_or old bus p
 
-pub none_proper : (m : Parts) (energy : Fraction) → ProperDuals m (record { energy = energy; limits = [] })
-none_proper m energy = record { named = sym (ap (map (row_id m)) (filter_none (rows m))); one_sided = All-nil IsOneSided }
+module _ {N : Type 0} (value : N → Fraction) where
+  pub part_put : (energy : Fraction) (congestion : ℕ → Fraction) (i : ℕ) (prices : List (Price N)) (x : Price N) → i < length prices → HaveFirstParts value energy congestion i prices
+      → value x.energy ≡ energy → value x.congestion ≡ congestion i → HaveFirstParts value energy congestion (i + 1) (set prices i x)
+  part_put energy congestion i prices x inside before e f = record {
+    energy_at = put_more (λ (p : Price N). value p.energy) (λ bus. energy) prices i x inside before.energy_at e;
+    congestion_at = put_more (λ (p : Price N). value p.congestion) congestion prices i x inside before.congestion_at f;
+  }
+
+  pub all_parts : (energy : Fraction) (congestion : ℕ → Fraction) (count : ℕ) (prices : List (Price N)) → length prices ≤ count → HaveFirstParts value energy congestion count prices → HaveParts value energy congestion prices
+  all_parts energy congestion count prices most h = record {
+    energy_at = λ bus p lt. h.energy_at bus p (Prim.omega (arith, lt, most));
+    congestion_at = λ bus p lt. h.congestion_at bus p (Prim.omega (arith, lt, most));
+  }
+
+  pub same_parts : (energy : Fraction) (f g : ℕ → Fraction) (prices : List (Price N)) → ((bus : ℕ) → f bus ≡ g bus) → HaveParts value energy f prices → HaveParts value energy g prices
+  same_parts energy f g prices e h = record { energy_at = h.energy_at; congestion_at = λ bus p lt. h.congestion_at bus p lt ∙ e bus }
+
+  -- the parts of a price behind those that were put
+  pub read_energy : (energy : Fraction) (congestion : ℕ → Fraction) (old prices : List (Price N)) (i : ℕ) (p : Price N) → i < length old → HaveParts value energy congestion old → AreLeft old i prices
+      → value (get_or prices i p).energy ≡ energy
+  read_energy energy congestion old prices i p inside h left = ap (λ (q : Price N). value q.energy) (left i p (Prim.omega arith)) ∙ h.energy_at i p inside
+
+  pub read_congestion : (energy : Fraction) (congestion : ℕ → Fraction) (old prices : List (Price N)) (i : ℕ) (p : Price N) → i < length old → HaveParts value energy congestion old → AreLeft old i prices
+      → value (get_or prices i p).congestion ≡ congestion i
+  read_congestion energy congestion old prices i p inside h left = ap (λ (q : Price N). value q.congestion) (left i p (Prim.omega arith)) ∙ h.congestion_at i p inside
+
+pub still_left : {N : Type 0} (old prices : List (Price N)) (i : ℕ) (x : Price N) → AreLeft old i prices → AreLeft old (i + 1) (set prices i x)
+still_left old prices i x left bus p most = let other : bus ≡ i → ⊥ = Prim.omega (arith, most) in get_or-set_other prices i bus x p other ∙ left bus p (Prim.omega (arith, most))
+
+same_price : (energy c c' t t' : Fraction) → c ≡ c' → t ≡ t' → ◌≡◌ {A = Price Fraction} (record { energy = energy; congestion = c; total = t }) (record { energy = energy; congestion = c'; total = t' })
+same_price energy c c' t t' e f = Prim.rw e (Prim.rw f refl)
+
+-- ---- the prices of all buses
+module _ (m : Parts) (d : Duals Fraction) where
+  pub made_of_parts : (congestion' : ℕ → Fraction) (n : ℕ) → ((i : ℕ) → congestion' i ≡ congestion m d i) → map (price_of_parts d.energy congestion') (places n) ≡ map (price_made m d) (places n)
+  unfolding price_by
+  made_of_parts congestion' n e =
+      map_same (price_of_parts d.energy congestion') (price_made m d) n
+      (λ i lt. same_price d.energy (congestion' i) (congestion m d i) (d.energy +ℚ congestion' i) (d.energy +ℚ congestion m d i) (e i) (ap (λ x. d.energy +ℚ x) (e i)))
+
+  pub total_refused : (i : ℕ) (sum : Fraction) (bound : ℕ) (p : Passed Fraction) → sum ≡ congestion m d i → IsRefusal Plus d.energy sum bound p → IsRefusedIn (price_terms m d i) bound p
+  total_refused i sum bound p is h =
+      plus_at (price_terms m d i) (Plain d.energy ∷ []) [] (Plain (congestion m d i)) refl bound p d.energy sum (sym (+ℚ_nil d.energy)) is h

@@ -1,1 +1,1 @@
-pub mod Prices
+pub mod PriceParts

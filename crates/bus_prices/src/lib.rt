@@ -3,4 +3,4 @@
 
 mod pricing;
 
-pub use pricing::{price, prices};
+pub use pricing::prices;

@@ -1,19 +1,22 @@
 //! The price at each bus, in its two parts.
 
-ghost use Rattle.std.specs.Prelude.{◌≡◌, ◌<◌, ◌^◌, length, map, unsigned_abs, IfOk, IfErr};
-ghost use Rattle.fraction_theory.specs.Fraction.{neg_ℚ, over, ◌+ℚ◌, ◌-ℚ◌, ◌*ℚ◌};
+ghost use Rattle.std.specs.Prelude.{◌≡◌, ◌<◌, ◌^◌, ℕ, length, map, unsigned_abs, IfOk, IfErr};
+ghost use Rattle.fraction_theory.specs.Fraction.{Fraction, neg_ℚ, over, ◌+ℚ◌, ◌-ℚ◌, ◌*ℚ◌};
+ghost use Rattle.exact_fraction.specs.declared.Op.TheVariants.{Plus};
 ghost use Rattle.market_data.specs.Scales.{factor_product_one};
-ghost use Rattle.market_model.specs.Dispatch.{places};
-ghost use Rattle.market_model.specs.NamedSums.{IsRefusedIn, IsShareRefusal};
-ghost use Rattle.market_model.specs.Optimality.{IsOneSided, ProperDuals, congestion, congestion_terms};
-ghost use Rattle.market_model.specs.Valued.{dual_at, duals_at, passed_at, price_at};
+ghost use Rattle.market_model.specs.Dispatch.{places, zero};
+ghost use Rattle.market_model.specs.LimitRows.{row_factor, IsCauseAmong};
+ghost use Rattle.market_model.specs.NamedSums.{IsRefusal, IsShareRefusal};
+ghost use Rattle.market_model.specs.Optimality.{IsOneSided, ProperDuals};
 ghost use Rattle.market_model.specs.RightAnswers.{price_made};
-ghost use Rattle.bus_prices.specs.Prices.{IsPriceRefusal};
+ghost use Rattle.market_model.specs.SumTables.{IsRefusedAmong, PriceSum};
+ghost use Rattle.market_model.specs.Valued.{dual_at, duals_at, passed_at, price_at};
+ghost use Rattle.bus_prices.specs.PriceParts.{HaveParts, price_of_parts};
 
 use exact_fraction::{Exact, Passed, Sign};
-use limit_rows::factor;
+use limit_rows::{factor_at, found_row};
 use market_data::FACTOR_PRODUCT_ONE;
-use market_model::{Dual, Duals, Market, Price};
+use market_model::{Dual, Duals, Market, Price, Row, datum};
 
 /// The opposite of what a MW on the flow of a dual's row costs: the price of its lower side, or less that of its upper one.
 fn opposite_net_price<N: Exact>(dual: &Dual<N>) -> N
@@ -27,7 +30,7 @@ fn opposite_net_price<N: Exact>(dual: &Dual<N>) -> N
 }
 
 /// A sum with a price's share by a factor in 10^-12.
-fn with_row<N: Exact>(sum: N, price: N, factor: i64) -> Result<N, Passed<N>>
+fn with_share<N: Exact>(sum: N, price: N, factor: i64) -> Result<N, Passed<N>>
     requires { unsigned_abs factor < 2 ^ 63 }
     ensures sum { IfOk result (λ more. N.value more ≡ N.value sum +ℚ N.value price *ℚ over factor factor_product_one) }
     ensures cause { IfErr result (λ passed. IsShareRefusal (N.value sum) (N.value price) (over factor factor_product_one) N.bound (passed_at N.value passed)) }
@@ -36,40 +39,62 @@ fn with_row<N: Exact>(sum: N, price: N, factor: i64) -> Result<N, Passed<N>>
     sum.plus(share)
 }
 
-/// What the limits add to the price at a bus.
-fn congestion_at<N: Exact>(market: &Market, duals: &Duals<N>, bus: usize) -> Result<N, Passed<N>>
-    requires duals { ProperDuals market.now (duals_at N.value duals.now) }
-    requires bus { bus < length market.now.buses }
-    ensures sum { IfOk result (λ mw. N.value mw ≡ congestion market.now (duals_at N.value duals.now) bus) }
-    ensures cause { IfErr result (λ passed. IsRefusedIn (congestion_terms market.now (duals_at N.value duals.now) bus) N.bound (passed_at N.value passed)) }
+/// Puts the price of energy at each bus, where limits add nothing yet.
+fn put_energy<N: Exact>(energy: N, out: &mut [Price<N>])
+    ensures { HaveParts N.value (N.value energy) (λ bus. zero) out.new }
 {
-    let _lines = market.lines();
-    let mut sum: N = N::of_parts(0, 1);
-    for dual in duals.limits.slice() {
-        sum = with_row(sum, opposite_net_price(dual), factor(market, dual.row, bus))?;
+    let none: N = datum(0);
+    for place in out.iter_mut() {
+        *place = Price {
+            energy,
+            congestion: none,
+            total: energy,
+        };
     }
-    Ok(sum)
 }
 
-/// The price at a bus, in 10^-6 per MWh: that of energy, and what the limits with duals add to it. The duals are as an answer has
-/// them: they name rows of the market in its order, and of each row one price is 0.
-pub fn price<N: Exact>(market: &Market, duals: &Duals<N>, bus: usize) -> Result<Price<N>, Passed<N>>
-    requires duals { ProperDuals market.now (duals_at N.value duals.now) }
-    requires bus { bus < length market.now.buses }
-    ensures price { IfOk result (λ price. price_at N.value price ≡ price_made market.now (duals_at N.value duals.now) bus) }
-    ensures cause { IfErr result (λ passed. IsPriceRefusal market.now (duals_at N.value duals.now) N.bound (passed_at N.value passed)) }
+/// Adds at each bus what a row adds there: a price by the row's factor.
+fn add_row<N: Exact>(
+    market: &Market,
+    row: Row,
+    price: N,
+    out: &mut [Price<N>],
+) -> Result<(), Passed<N>>
+    requires line { row.line < length market.now.lines }
+    requires lost { IsCauseAmong (length market.now.lines) row.cause }
+    requires out { length out.old ≡ length market.now.buses }
+    ensures parts { (energy : Fraction) (before : ℕ → Fraction) → HaveParts N.value energy before out.old → IfOk result (λ _. HaveParts N.value energy (λ bus. before bus +ℚ N.value price *ℚ row_factor market.now row bus) out.new) }
+    ensures cause { (energy : Fraction) (before : ℕ → Fraction) → HaveParts N.value energy before out.old → IfErr result (λ passed. (bus : ℕ) × (bus < length market.now.buses) × IsShareRefusal (before bus) (N.value price) (row_factor market.now row bus) N.bound (passed_at N.value passed)) }
 {
-    let energy = duals.energy;
-    let congestion = congestion_at(market, duals, bus)?;
-    let total = energy.plus(congestion)?;
-    Ok(Price {
-        energy,
-        congestion,
-        total,
-    })
+    for (bus, place) in out.iter_mut().enumerate() {
+        let congestion = with_share(place.congestion, price, factor_at(market, row, bus))?;
+        *place = Price {
+            energy: place.energy,
+            congestion,
+            total: place.total,
+        };
+    }
+    Ok(())
 }
 
-/// The price at each bus.
+/// Puts at each bus the price that its two parts make.
+fn put_totals<N: Exact>(out: &mut [Price<N>]) -> Result<(), Passed<N>>
+    ensures prices { (energy : Fraction) (congestion : ℕ → Fraction) → HaveParts N.value energy congestion out.old → IfOk result (λ _. map (price_at N.value) out.new ≡ map (price_of_parts energy congestion) (places (length out.old))) }
+    ensures cause { (energy : Fraction) (congestion : ℕ → Fraction) → HaveParts N.value energy congestion out.old → IfErr result (λ passed. (bus : ℕ) × (bus < length out.old) × IsRefusal Plus energy (congestion bus) N.bound (passed_at N.value passed)) }
+{
+    for place in out.iter_mut() {
+        let total = place.energy.plus(place.congestion)?;
+        *place = Price {
+            energy: place.energy,
+            congestion: place.congestion,
+            total,
+        };
+    }
+    Ok(())
+}
+
+/// The price at each bus, in 10^-6 per MWh: that of energy, and what the limits with duals add to it. The duals are as an answer has
+/// them: they name rows of the market in its order, and of each row one price is 0.
 pub fn prices<N: Exact>(
     market: &Market,
     duals: &Duals<N>,
@@ -79,11 +104,13 @@ pub fn prices<N: Exact>(
     requires out { length out.old ≡ length market.now.buses }
     ensures count { length out.new ≡ length out.old }
     ensures prices { IfOk result (λ _. map (price_at N.value) out.new ≡ map (price_made market.now (duals_at N.value duals.now)) (places (length market.now.buses))) }
-    ensures cause { IfErr result (λ passed. IsPriceRefusal market.now (duals_at N.value duals.now) N.bound (passed_at N.value passed)) }
+    ensures cause { IfErr result (λ passed. IsRefusedAmong (PriceSum market.now (duals_at N.value duals.now)) N.bound (passed_at N.value passed)) }
 {
-    for (bus, place) in out.iter_mut().enumerate() {
-        let at_bus = price(market, duals, bus)?;
-        *place = at_bus;
+    let _lines = market.lines();
+    put_energy(duals.energy, out);
+    for dual in duals.limits.slice() {
+        let row = found_row(market, dual.row);
+        add_row(market, row, opposite_net_price(dual), out)?;
     }
-    Ok(())
+    put_totals(out)
 }

@@ -1,7 +1,7 @@
 -- The value of a certificate is in the grammar, and gives the certificate again.
-use Rattle.std.specs.Prelude.{◌≡◌, ℕ, ◌≤◌, List, [], ◌∷◌, map, Bool, true, false, codes, All, Some, None, Ok, Err, IsUtf8, unsigned_abs}
+use Rattle.std.specs.Prelude.{◌≡◌, ℕ, ◌≤◌, List, [], ◌∷◌, map, Bool, true, false, codes, All, Option, Some, None, option_map, Result, Ok, Err, IfOk, IsOk, OnOk, IsUtf8, unsigned_abs}
 use Rattle.std.specs.Str.{is_utf8}
-use Rattle.std.proofs.Common.{suc, arith, ap, ◌∙◌, refl}
+use Rattle.std.proofs.Common.{suc, arith, ap, get_or, ◌∙◌, refl, subst}
 use Rattle.std.proofs.lemmas.Bool.{lt-ltb}
 use Rattle.std.proofs.lemmas.List.Elements.{All-cons, All-nil}
 use Rattle.market_model.specs.Valued.{dual_at}
@@ -20,7 +20,7 @@ use Rattle.serde_json.proofs.OnLiterals.{serde_json_on_literals}
 use Rattle.cert_format.specs.declared.certificate.Cert.{Cert}
 use Rattle.cert_format.specs.declared.certificate.Cert.TheVariants as cert
 use Rattle.cert_format.specs.declared.certificate.Key.TheVariants as key
-use Rattle.cert_format.specs.Certificates.{CertFits, DualFits, Fits, RowFits, RowsAreDistinct, cert_at, limits_of, most_part}
+use Rattle.cert_format.specs.Certificates.{CertFits, DualFits, Fits, NumbersFit, RowFits, RowsAreDistinct, cert_at, limits_of, most_part}
 use Rattle.cert_format.specs.FractionTexts.{fraction_of}
 use Rattle.cert_format.specs.Grammar.{cert_in, cert_read, each, farkas_in, fraction_in, limit_in, optimal_in}
 use Rattle.cert_format.specs.Written.{cert_data, cert_text, fraction_data, limit_data}
@@ -152,11 +152,11 @@ unfolding each
 blocks-back [] h = refl
 blocks-back (x ∷ xs) h = rw (fraction-back most_part x (h 0 x (omega arith)), blocks-back xs (λ k d lt. h (suc k) d (omega (arith, lt)))) refl
 
-limit-back : (d : Dual Fraction) → DualFits d → limit_in most_part (limit_data d) ≡ Some d
+limit-back : (d : Dual Fraction) → DualFits most_part d → limit_in most_part (limit_data d) ≡ Some d
 unfolding serde_json_on_literals limit_in
 limit-back d h = rw (lt-ltb _ _ h.row.branch, lt-ltb _ _ h.row.outage, fraction-back most_part d.up h.up, fraction-back most_part d.down h.down) refl
 
-limits-back : (ds : List (Dual Fraction)) → All DualFits ds → each (limit_in most_part) (items_of (map limit_data ds)) ≡ Some ds
+limits-back : (ds : List (Dual Fraction)) → All (DualFits most_part) ds → each (limit_in most_part) (items_of (map limit_data ds)) ≡ Some ds
 unfolding each
 limits-back [] h = refl
 limits-back (d ∷ ds) h = rw (limit-back d (h 0 d (omega arith)), limits-back ds (λ k x lt. h (suc k) x (omega (arith, lt)))) refl
@@ -164,13 +164,13 @@ limits-back (d ∷ ds) h = rw (limit-back d (h 0 d (omega arith)), limits-back d
 cert-back : (c : Cert Fraction) → CertFits c → cert_in most_part (cert_data c) ≡ Ok c
 unfolding serde_json_on_literals cert_in optimal_in farkas_in
 cert-back (cert.Optimal blocks energy limits) h =
-    rw (fraction-back most_part energy h.1, blocks-back blocks h.0, limits-back limits h.2, names-distinct limits h.3) refl
+    rw (fraction-back most_part energy h.numbers.1, blocks-back blocks h.numbers.0, limits-back limits h.numbers.2, names-distinct limits h.distinct) refl
 cert-back (cert.Farkas energy limits) h =
-    rw (fraction-back most_part energy h.0, limits-back limits h.1, names-distinct limits h.2) refl
+    rw (fraction-back most_part energy h.numbers.0, limits-back limits h.numbers.1, names-distinct limits h.distinct) refl
 
 rows-fit : (c : Cert Fraction) → CertFits c → RowsFit c
-rows-fit (cert.Optimal blocks energy limits) h k d lt = (h.2 k d lt).row
-rows-fit (cert.Farkas energy limits) h k d lt = (h.1 k d lt).row
+rows-fit (cert.Optimal blocks energy limits) h k d lt = (h.numbers.2 k d lt).row
+rows-fit (cert.Farkas energy limits) h k d lt = (h.numbers.1 k d lt).row
 
 pub reads-back : (c : Cert Fraction) → CertFits c → cert_read (cert_text c) ≡ Ok c
 unfolding cert_read
@@ -191,23 +191,57 @@ unfolding cert_read
 json-value bytes d text e = rw (is_utf8-from_IsUtf8 bytes text, e) refl
 
 -- ---- what is written of numbers of a type
-module _ {N : Type 0} (value : N → Fraction) (bound : ℕ) (small : bound ≤ most_part) (fits : (x : N) → (unsigned_abs (value x).num ≤ bound) × ((value x).den ≤ bound)) where
-  within : (x : N) → Fits most_part (value x)
-  within x = let h = fits x in record { num = omega (arith, h.0, small); den = omega (arith, h.1, small) }
+module _ (less most : ℕ) (small : less ≤ most) where
+  part-more : (x : Fraction) → Fits less x → Fits most x
+  part-more x h = record { num = omega (arith, h.num, small); den = omega (arith, h.den, small) }
 
-  blocks-fit : (xs : List N) → All (Fits most_part) (map value xs)
-  blocks-fit [] = All-nil (Fits most_part)
-  blocks-fit (x ∷ xs) = All-cons (Fits most_part) (value x) (map value xs) (within x) (blocks-fit xs)
+  dual-more : (d : Dual Fraction) → DualFits less d → DualFits most d
+  dual-more d h = record { row = h.row; up = part-more d.up h.up; down = part-more d.down h.down }
 
-  limits-fit : (ds : List (Dual N)) → All (λ d. RowFits d.row) ds → All DualFits (map (dual_at value) ds)
-  limits-fit [] h = All-nil DualFits
+  pub numbers-more : (c : Cert Fraction) → NumbersFit less c → NumbersFit most c
+  numbers-more (cert.Optimal blocks energy limits) h = (λ k x lt. part-more (get_or blocks k x) (h.0 k x lt), part-more energy h.1, λ k d lt. dual-more (get_or limits k d) (h.2 k d lt))
+  numbers-more (cert.Farkas energy limits) h = (part-more energy h.0, λ k d lt. dual-more (get_or limits k d) (h.1 k d lt))
+
+module _ {N : Type 0} (value : N → Fraction) (bound : ℕ) (fits : (x : N) → (unsigned_abs (value x).num ≤ bound) × ((value x).den ≤ bound)) where
+  within : (x : N) → Fits bound (value x)
+  within x = let h = fits x in record { num = h.0; den = h.1 }
+
+  blocks-fit : (xs : List N) → All (Fits bound) (map value xs)
+  blocks-fit [] = All-nil (Fits bound)
+  blocks-fit (x ∷ xs) = All-cons (Fits bound) (value x) (map value xs) (within x) (blocks-fit xs)
+
+  limits-fit : (ds : List (Dual N)) → All (λ d. RowFits d.row) ds → All (DualFits bound) (map (dual_at value) ds)
+  limits-fit [] h = All-nil (DualFits bound)
   limits-fit (d ∷ ds) h =
-      All-cons DualFits (dual_at value d) (map (dual_at value) ds) (record { row = h 0 d (omega arith); up = within d.up; down = within d.down })
+      All-cons (DualFits bound) (dual_at value d) (map (dual_at value) ds) (record { row = h 0 d (omega arith); up = within d.up; down = within d.down })
       (limits-fit ds (λ k x lt. h (suc k) x (omega (arith, lt))))
 
-  cert-fits : (c : Cert N) → All (λ d. RowFits d.row) (limits_of c) → RowsAreDistinct (cert_at value c) → CertFits (cert_at value c)
-  cert-fits (cert.Optimal blocks energy limits) h once = (blocks-fit blocks, within energy, limits-fit limits h, once)
-  cert-fits (cert.Farkas energy limits) h once = (within energy, limits-fit limits h, once)
+  pub numbers-fit : (c : Cert N) → All (λ d. RowFits d.row) (limits_of c) → NumbersFit bound (cert_at value c)
+  numbers-fit (cert.Optimal blocks energy limits) h = (blocks-fit blocks, within energy, limits-fit limits h)
+  numbers-fit (cert.Farkas energy limits) h = (within energy, limits-fit limits h)
 
-  pub written-back : (c : Cert N) (bytes : List ℕ) → All (λ d. RowFits d.row) (limits_of c) → bytes ≡ cert_text (cert_at value c) → RowsAreDistinct (cert_at value c) → cert_read bytes ≡ Ok (cert_at value c)
-  written-back c bytes h text once = ap cert_read text ∙ reads-back (cert_at value c) (cert-fits c h once)
+  pub written-back : bound ≤ most_part → (c : Cert N) (bytes : List ℕ) → All (λ d. RowFits d.row) (limits_of c) → bytes ≡ cert_text (cert_at value c) → RowsAreDistinct (cert_at value c) → cert_read bytes ≡ Ok (cert_at value c)
+  written-back small c bytes h text once =
+      ap cert_read text ∙ reads-back (cert_at value c) (record { numbers = numbers-more bound most_part small (cert_at value c) (numbers-fit c h); distinct = once })
+
+-- ---- what is written of an outcome
+-- what holds where one step ended well holds where the next one did, which ends well only then
+pub passed_on : {A B E F : Type 0} (r : Result A E) (s : Result B F) (P Q : Type 0) → OnOk r (IsOk s) → OnOk s P → (P → Q) → OnOk r Q
+passed_on (Ok a) (Ok b) P Q h k to = to k
+passed_on (Ok a) (Err f) P Q h k to = cc h
+passed_on (Err e) s P Q h k to = tt
+
+module _ {V E : Type 0} (items : V → List ℕ) (bound : ℕ) (small : bound ≤ most_part) (c : Cert Fraction) (once : RowsAreDistinct c) where
+  made_back : (r : Result (Option V) E) → IfOk r (λ made. option_map items made ≡ Some (cert_text c)) → OnOk r (NumbersFit bound c) → IfOk r (λ made. option_map (λ v. cert_read (items v)) made ≡ Some (Ok c))
+  made_back (Ok (Some v)) text fits =
+      let is : items v ≡ cert_text c = cc text in
+      ap Some (ap cert_read is ∙ reads-back c (record { numbers = numbers-more bound most_part small c fits; distinct = once }))
+  made_back (Ok None) text fits = cc text
+  made_back (Err e) text fits = tt
+
+  -- the certificate that there is
+  pub cert_back : (d : Cert Fraction) → Some d ≡ Some c → (r : Result (Option V) E) → IfOk r (λ made. option_map items made ≡ Some (cert_text d)) → OnOk r (NumbersFit bound d)
+      → IfOk r (λ made. option_map (λ v. cert_read (items v)) made ≡ Some (Ok c))
+  cert_back d is r text fits =
+      let same : d ≡ c = cc is in
+      made_back r (subst (λ (e : Cert Fraction). IfOk r (λ made. option_map items made ≡ Some (cert_text e))) same text) (subst (λ (e : Cert Fraction). OnOk r (NumbersFit bound e)) same fits)

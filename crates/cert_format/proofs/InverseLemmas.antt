@@ -48,14 +48,14 @@ in_32-fits : (o : Option ℕ) (n : ℕ) → in_32 o ≡ Some n → n < 2 ^ 32
 in_32-fits None n h = cc
 in_32-fits (Some m) n h = let p = cond_some (nat_lt m (2 ^ 32)) m n h in subst (λ k. k < 2 ^ 32) p.1 (ltb-true _ _ p.0)
 
-limit_in-fits : (d : Data) (x : Dual Fraction) → limit_in most_part d ≡ Some x → DualFits x
+limit_in-fits : (d : Data) (x : Dual Fraction) → limit_in most_part d ≡ Some x → DualFits most_part x
 unfolding limit_in
 limit_in-fits d x h =
     option_and_then_some _ (in_32 (number_at (codes "branch") d)) x h (λ branch e1 h1.
     option_and_then_some _ (in_32 (number_at (codes "outage") d)) x h1 (λ outage e2 h2.
     option_and_then_some _ (fraction_at most_part (codes "up") d) x h2 (λ up e3 h3.
     option_and_then_some _ (fraction_at most_part (codes "down") d) x h3 (λ down e4 h4.
-    subst DualFits (cond_some (has_size 4 d) (record { row = record { branch = branch; outage = outage }; up = up; down = down }) x h4).1 (record {
+    subst (DualFits most_part) (cond_some (has_size 4 d) (record { row = record { branch = branch; outage = outage }; up = up; down = down }) x h4).1 (record {
       row = record { branch = in_32-fits (number_at (codes "branch") d) branch e1; outage = in_32-fits (number_at (codes "outage") d) outage e2 };
       up = fraction_at-fits most_part (codes "up") d up e3;
       down = fraction_at-fits most_part (codes "down") d down e4;
@@ -75,12 +75,12 @@ each-all P read reads (item d ds) xs h =
 blocks_in-fit : (d : Data) (xs : List Fraction) → blocks_in most_part d ≡ Some xs → All (Fits most_part) xs
 blocks_in-fit d xs h = option_and_then_some (each (fraction_in most_part)) (option_and_then as_array (get (codes "blocks") d)) xs h (λ ds e f. each-all (Fits most_part) (fraction_in most_part) (fraction_in-fits most_part) ds xs f)
 
-limits_in-fit : (d : Data) (xs : List (Dual Fraction)) → limits_in most_part d ≡ Some xs → All DualFits xs × NamesNoRowTwice xs
+limits_in-fit : (d : Data) (xs : List (Dual Fraction)) → limits_in most_part d ≡ Some xs → All (DualFits most_part) xs × NamesNoRowTwice xs
 limits_in-fit d xs h =
     option_and_then_some if_distinct (option_and_then (each (limit_in most_part)) (option_and_then as_array (get (codes "limits") d))) xs h (λ ys e1 h1.
     let p = cond_some (distinct ys) ys xs h1 in
     option_and_then_some (each (limit_in most_part)) (option_and_then as_array (get (codes "limits") d)) ys e1 (λ ds e2 h2.
-    (subst (All DualFits) p.1 (each-all DualFits (limit_in most_part) limit_in-fits ds ys h2), subst NamesNoRowTwice p.1 (distinct-names ys p.0))))
+    (subst (All (DualFits most_part)) p.1 (each-all (DualFits most_part) (limit_in most_part) limit_in-fits ds ys h2), subst NamesNoRowTwice p.1 (distinct-names ys p.0))))
 
 -- ---- certificates
 optimal_in-fits : (energy : Fraction) (d : Data) (c : Cert Fraction) → Fits most_part energy → optimal_in most_part energy d ≡ Ok c → CertFits c
@@ -90,7 +90,7 @@ optimal_in-fits energy d c fits h =
     let limits = needed key.Limits (limits_in most_part d) _ c blocks.rest in
     let is : cert.Optimal blocks.value energy limits.value ≡ c = ok_is _ c (checked key.Extra (has_size 5 d) (Ok (cert.Optimal blocks.value energy limits.value)) c limits.rest) in
     let fit = limits_in-fit d limits.value limits.is in
-    subst CertFits is (blocks_in-fit d blocks.value blocks.is, fits, fit.0, fit.1)
+    subst CertFits is (record { numbers = (blocks_in-fit d blocks.value blocks.is, fits, fit.0); distinct = fit.1 })
 
 farkas_in-fits : (energy : Fraction) (d : Data) (c : Cert Fraction) → Fits most_part energy → farkas_in most_part energy d ≡ Ok c → CertFits c
 unfolding farkas_in
@@ -98,7 +98,7 @@ farkas_in-fits energy d c fits h =
     let limits = needed key.Limits (limits_in most_part d) _ c (checked key.Blocks (is_none (get (codes "blocks") d)) _ c h) in
     let is : cert.Farkas energy limits.value ≡ c = ok_is _ c (checked key.Extra (has_size 4 d) (Ok (cert.Farkas energy limits.value)) c limits.rest) in
     let fit = limits_in-fit d limits.value limits.is in
-    subst CertFits is (fits, fit.0, fit.1)
+    subst CertFits is (record { numbers = (fits, fit.0); distinct = fit.1 })
 
 of_kind-fits : (energy : Fraction) (d : Data) (k : Kind) (c : Cert Fraction) → Fits most_part energy → of_kind most_part energy d k ≡ Ok c → CertFits c
 of_kind-fits energy d kind.Optimal c fits h = optimal_in-fits energy d c fits h
@@ -117,8 +117,4 @@ cert_read-fits bytes c h = let value = needed key.Json (json_of bytes) (cert_in 
 
 -- so no row is named twice
 pub cert_read-distinct : (bytes : List ℕ) (c : Cert Fraction) → cert_read bytes ≡ Ok c → RowsAreDistinct c
-cert_read-distinct bytes c h = of_fits c (cert_read-fits bytes c h)
-  where
-    of_fits : (c : Cert Fraction) → CertFits c → RowsAreDistinct c
-    of_fits (cert.Optimal blocks energy limits) h = h.3
-    of_fits (cert.Farkas energy limits) h = h.2
+cert_read-distinct bytes c h = (cert_read-fits bytes c h).distinct

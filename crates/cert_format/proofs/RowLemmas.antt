@@ -9,8 +9,8 @@ use Rattle.fraction_theory.specs.Fraction.{Fraction}
 use Rattle.market_model.specs.declared.answered.Dual.{Dual}
 use Rattle.market_model.specs.declared.answered.RowId.{RowId}
 use Rattle.market_model.specs.Valued.{dual_at}
-use Rattle.cert_format.specs.Certificates.{NamesNoRowTwice}
-use Rattle.cert_format.specs.Grammar.{distinct, if_distinct, is_of, is_row}
+use Rattle.cert_format.specs.Certificates.{NamesNoRowTwice, name_of, same_pair}
+use Rattle.cert_format.specs.Grammar.{distinct, if_distinct, is_of}
 
 abbrev Duals : Type 0
 Duals = List (Dual Fraction)
@@ -101,25 +101,22 @@ repeated done x None h = refl
 repeated done x (Some xs) h = rw (distinct-twice done x xs h) refl
 
 -- ---- the rows of duals with any numbers
-abbrev pub pair_of : {N : Type 0} → Dual N → ℕ × ℕ
-pair_of d = (d.row.branch, d.row.outage)
-
-same_test : {N : Type 0} (value : N → Fraction) (limits : List (Dual N)) (row : RowId) → list_any (is_row row) (map (λ d. pair_of d) limits) ≡ list_any (is_of row) (map (dual_at value) limits)
+same_test : {N : Type 0} (value : N → Fraction) (limits : List (Dual N)) (row : RowId) → list_any (same_pair (name_of row)) (map (λ d. name_of d.row) limits) ≡ list_any (is_of row) (map (dual_at value) limits)
 same_test value [] row = refl
 same_test value (d ∷ limits) row = ap (λ b. ((row.branch == d.row.branch) && (row.outage == d.row.outage)) || b) (same_test value limits row)
 
-module _ {N : Type 0} (value : N → Fraction) (limits : List (Dual N)) (x : Dual N) (keys : List (ℕ × ℕ)) (rows : keys ≡ map (λ d. pair_of d) limits) where
+module _ {N : Type 0} (value : N → Fraction) (limits : List (Dual N)) (x : Dual N) (keys : List (ℕ × ℕ)) (rows : keys ≡ map (λ d. name_of d.row) limits) where
   abbrev has : Bool
-  has = list_any (is_row x.row) keys
+  has = list_any (same_pair (name_of x.row)) keys
 
   -- whether the row is there
   pub test_is : has ≡ list_any (is_of x.row) (map (dual_at value) limits)
-  test_is = ap (λ ks. list_any (is_row x.row) ks) rows ∙ same_test value limits x.row
+  test_is = ap (λ ks. list_any (same_pair (name_of x.row)) ks) rows ∙ same_test value limits x.row
 
   module _ (fresh : has ≡ false) (next : List (Dual N)) (pushed : next ≡ limits ++ x ∷ []) where
     -- the rows with one more
-    pub rows-push : (more : List (ℕ × ℕ)) → more ≡ keys ++ pair_of x ∷ [] → more ≡ map (λ d. pair_of d) next
-    rows-push more e = e ∙ ap (λ ks. ks ++ pair_of x ∷ []) rows ∙ sym (map-append (λ d. pair_of d) limits (x ∷ [])) ∙ ap (map (λ d. pair_of d)) (sym pushed)
+    pub rows-push : (more : List (ℕ × ℕ)) → more ≡ keys ++ name_of x.row ∷ [] → more ≡ map (λ d. name_of d.row) next
+    rows-push more e = e ∙ ap (λ ks. ks ++ name_of x.row ∷ []) rows ∙ sym (map-append (λ d. name_of d.row) limits (x ∷ [])) ∙ ap (map (λ d. name_of d.row)) (sym pushed)
 
     pub seen-push : map (dual_at value) next ≡ map (dual_at value) limits ++ dual_at value x ∷ []
     seen-push = ap (map (dual_at value)) pushed ∙ map-append (dual_at value) limits (x ∷ [])

@@ -1,7 +1,9 @@
 -- Certificates, and those of what a clear came to.
-use Rattle.std.specs.Prelude.{◌≢◌, ℕ, ◌<◌, ◌≤◌, ◌-◌, ◌^◌, List, map, All, AllPairs, Option, Some, None, unsigned_abs}
+use Rattle.std.specs.Prelude.{◌≢◌, ◌==◌, ◌&&◌, ℕ, ◌<◌, ◌≤◌, ◌-◌, ◌^◌, Bool, List, map, All, AllPairs, Option, Some, None, unsigned_abs}
 use Rattle.fraction_theory.specs.Fraction.{Fraction}
+use Rattle.market_model.specs.declared.answered.Answer.{Answer}
 use Rattle.market_model.specs.declared.answered.Dual.{Dual}
+use Rattle.market_model.specs.declared.answered.Farkas as infeasible
 use Rattle.market_model.specs.declared.answered.RowId.{RowId}
 use Rattle.market_model.specs.declared.answered.Outcome.{Outcome}
 use Rattle.market_model.specs.declared.answered.Outcome.TheVariants as outcome
@@ -18,6 +20,13 @@ cert_at value (cert.Farkas energy limits) = cert.Farkas (value energy) (map (dua
 abbrev pub limits_of : {N : Type 0} → Cert N → List (Dual N)
 limits_of (cert.Optimal blocks energy limits) = limits
 limits_of (cert.Farkas energy limits) = limits
+
+-- the name of a row as a pair: the branch row, and that of its outage
+abbrev pub name_of : RowId → ℕ × ℕ
+name_of row = (row.branch, row.outage)
+
+abbrev pub same_pair : ℕ × ℕ → ℕ × ℕ → Bool
+same_pair p q = (p.0 == q.0) && (p.1 == q.1)
 
 -- no row is named twice
 abbrev pub NamesNoRowTwice : List (Dual Fraction) → Type 0
@@ -40,19 +49,32 @@ pub record RowFits (row : RowId) : Type 0 where
   pub branch : row.branch < 2 ^ 32
   pub outage : row.outage < 2 ^ 32
 
-pub record DualFits (d : Dual Fraction) : Type 0 where
+pub record DualFits (most : ℕ) (d : Dual Fraction) : Type 0 where
   pub row : RowFits d.row
-  pub up : Fits most_part d.up
-  pub down : Fits most_part d.down
+  pub up : Fits most d.up
+  pub down : Fits most d.down
 
--- a certificate that has a text: every number is within its bound, and no row is named twice
-abbrev pub CertFits : Cert Fraction → Type 0
-CertFits (cert.Optimal blocks energy limits) = All (Fits most_part) blocks × Fits most_part energy × All DualFits limits × NamesNoRowTwice limits
-CertFits (cert.Farkas energy limits) = Fits most_part energy × All DualFits limits × NamesNoRowTwice limits
+-- every number of a certificate is within its bound
+abbrev pub NumbersFit : ℕ → Cert Fraction → Type 0
+NumbersFit most (cert.Optimal blocks energy limits) = All (Fits most) blocks × Fits most energy × All (DualFits most) limits
+NumbersFit most (cert.Farkas energy limits) = Fits most energy × All (DualFits most) limits
 
--- the certificate of what a clear came to: the dispatch with the duals of an answer, or the duals that show that no dispatch is
--- feasible; there is none where numbers became too large
+-- a certificate that has a text: its numbers are within their bounds, and no row is named twice
+pub record CertFits (c : Cert Fraction) : Type 0 where
+  pub numbers : NumbersFit most_part c
+  pub distinct : RowsAreDistinct c
+
+-- ---- the certificates of what a clear came to
+-- the dispatch of an answer with its duals
+abbrev pub cert_of : Answer Fraction → Cert Fraction
+cert_of a = cert.Optimal a.dispatch a.duals.energy a.duals.limits
+
+-- the duals that show that no dispatch is feasible
+abbrev pub cert_against : infeasible.Farkas Fraction → Cert Fraction
+cert_against f = cert.Farkas f.duals.energy f.duals.limits
+
+-- one of these; there is none where numbers became too large
 abbrev pub cert_of_outcome : Outcome Fraction → Option (Cert Fraction)
-cert_of_outcome (outcome.Cleared a) = Some (cert.Optimal a.dispatch a.duals.energy a.duals.limits)
-cert_of_outcome (outcome.Infeasible f) = Some (cert.Farkas f.duals.energy f.duals.limits)
+cert_of_outcome (outcome.Cleared a) = Some (cert_of a)
+cert_of_outcome (outcome.Infeasible f) = Some (cert_against f)
 cert_of_outcome (outcome.Range p) = None

@@ -5,6 +5,7 @@ use Rattle.std.specs.Str.{bytes_eq, is_utf8}
 use Rattle.fraction_theory.specs.Fraction.{Fraction}
 use Rattle.market_model.specs.declared.answered.Dual.{Dual}
 use Rattle.market_model.specs.declared.answered.RowId.{RowId}
+use Rattle.market_model.specs.Optimality.{same_id}
 use Rattle.serde_json.specs.Data.{Data, Items, no_items, item}
 use Rattle.serde_json.specs.Events.{members_len}
 use Rattle.serde_json.specs.Find.{as_array, as_number, as_object, as_str, as_u64, get}
@@ -71,12 +72,9 @@ unfoldable pub each : {A : Type 0} → (Data → Option A) → Items → Option 
 each read no_items = Some []
 each read (item d ds) = option_and_then (λ x. option_and_then (λ xs. Some (x ∷ xs)) (each read ds)) (read d)
 
--- whether a branch and an outage are those of a row
-abbrev pub is_row : RowId → ℕ × ℕ → Bool
-is_row row pair = (row.branch == pair.0) && (row.outage == pair.1)
-
+-- whether a dual is of a row
 abbrev pub is_of : RowId → Dual Fraction → Bool
-is_of row d = is_row row (d.row.branch, d.row.outage)
+is_of row d = same_id row d.row
 
 -- no row is named twice; a law says that this is so
 abbrev pub distinct : List (Dual Fraction) → Bool

@@ -8,8 +8,8 @@ ghost use Rattle.market_model.specs.Valued.{dual_at};
 ghost use Rattle.cert_format.specs.declared.certificate.CertFault.TheVariants as fault;
 ghost use Rattle.cert_format.specs.declared.certificate.Key.{Key};
 ghost use Rattle.cert_format.specs.declared.certificate.Key.TheVariants as key;
-ghost use Rattle.cert_format.specs.Certificates.{RowsAreDistinct, cert_at};
-ghost use Rattle.cert_format.specs.Grammar.{Gives, blocks_in, cert_in, cert_read, each, farkas_in, fraction_at, fraction_in, has_size, has_version, if_distinct, in_32, is_row, kind_in, limit_in, limits_in, need, number_at, optimal_in, size_of, text_at};
+ghost use Rattle.cert_format.specs.Certificates.{RowsAreDistinct, cert_at, name_of, same_pair};
+ghost use Rattle.cert_format.specs.Grammar.{Gives, blocks_in, cert_in, cert_read, each, farkas_in, fraction_at, fraction_in, has_size, has_version, if_distinct, in_32, kind_in, limit_in, limits_in, need, number_at, optimal_in, size_of, text_at};
 
 use crate::fractions::fraction;
 use crate::{Cert, CertFault, Key};
@@ -121,8 +121,8 @@ fn blocks_in<N: Exact>(alloc: Global, value: &Value) -> Result<List<N>, CertFaul
 
 /// Adds a row to those that were named, and tells whether it is new.
 fn add_row(rows: &mut IndexSet<(u32, u32)>, row: RowId) -> Result<bool, Memory>
-    ensures is_new { IfOk result (λ is_new. is_new ≡ not (list_any (is_row row) rows.old.keys)) }
-    ensures keys { IfOk result (λ is_new. rows.new.keys ≡ (if is_new then rows.old.keys ++ (row.branch, row.outage) ∷ [] else rows.old.keys)) }
+    ensures is_new { IfOk result (λ is_new. is_new ≡ not (list_any (same_pair (name_of row)) rows.old.keys)) }
+    ensures keys { IfOk result (λ is_new. rows.new.keys ≡ (if is_new then rows.old.keys ++ name_of row ∷ [] else rows.old.keys)) }
 {
     match rows.insert((row.branch, row.outage)) {
         Ok(is_new) => Ok(is_new),

@@ -1,10 +1,12 @@
 //! The text of a certificate.
 
-ghost use Rattle.std.specs.Prelude.{◌≡◌, ℕ, ◌≤◌, List, Some, IfOk, OnOk, Ok, All, map, option_map};
+ghost use Rattle.std.specs.Prelude.{◌≡◌, ℕ, ◌≤◌, List, Some, IfOk, IfSome, IsOk, OnOk, Ok, All, map, option_map};
+ghost use Rattle.fraction_theory.specs.Fraction.{Fraction};
 ghost use Rattle.serde_json.specs.View.{view};
 ghost use Rattle.market_model.specs.Valued.{dual_at, outcome_at};
+ghost use Rattle.cert_format.specs.declared.certificate.Cert.{Cert};
 ghost use Rattle.cert_format.specs.declared.certificate.Cert.TheVariants as cert;
-ghost use Rattle.cert_format.specs.Certificates.{RowFits, RowsAreDistinct, cert_at, limits_of, most_part};
+ghost use Rattle.cert_format.specs.Certificates.{NumbersFit, RowFits, RowsAreDistinct, cert_at, cert_of_outcome, limits_of, most_part};
 ghost use Rattle.cert_format.specs.Grammar.{cert_read};
 ghost use Rattle.cert_format.specs.Written.{blocks_data, cert_data, cert_text, certificate_of, fraction_data, limit_data, limits_data};
 
@@ -140,7 +142,8 @@ pub fn to_json<N: Exact>(alloc: Global, cert: &Cert<N>) -> Result<Vec<u8>, Memor
 
 /// A text that there is, where memory was not refused.
 fn made(text: Result<Vec<u8>, AllocError>) -> Result<Option<Vec<u8>>, Memory>
-    ensures { (bytes : List ℕ) → IfOk text (λ v. v.items ≡ bytes) → IfOk result (λ o. option_map (λ v. v.items) o ≡ Some bytes) }
+    ensures text { (bytes : List ℕ) → IfOk text (λ v. v.items ≡ bytes) → IfOk result (λ o. option_map (λ v. v.items) o ≡ Some bytes) }
+    ensures made { OnOk result (IsOk text) }
 {
     match text {
         Ok(bytes) => Ok(Some(bytes)),
@@ -148,12 +151,16 @@ fn made(text: Result<Vec<u8>, AllocError>) -> Result<Option<Vec<u8>>, Memory>
     }
 }
 
-/// The text of the certificate of what a clear came to, where there is one.
+/// The text of the certificate of what a clear came to, where there is one. Where that names no row twice and its numbers have 127 bits
+/// at most, the text is read back as it.
 pub fn outcome_json<N: Exact>(
     alloc: Global,
     outcome: &Outcome<N>,
 ) -> Result<Option<Vec<u8>>, Memory>
-    ensures { IfOk result (λ made. option_map (λ bytes. bytes.items) made ≡ certificate_of (outcome_at N.value outcome.now)) }
+    ensures text { IfOk result (λ made. option_map (λ bytes. bytes.items) made ≡ certificate_of (outcome_at N.value outcome.now)) }
+    ensures fits { OnOk result (IfSome (cert_of_outcome (outcome_at N.value outcome.now)) (NumbersFit N.bound)) }
+    ensures reads_back { (c : Cert Fraction) → cert_of_outcome (outcome_at N.value outcome.now) ≡ Some c → N.bound ≤ most_part → RowsAreDistinct c
+        → IfOk result (λ made. option_map (λ bytes. cert_read bytes.items) made ≡ Some (Ok c)) }
 {
     match outcome {
         Outcome::Cleared(answer) => {

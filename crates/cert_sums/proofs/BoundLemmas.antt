@@ -26,8 +26,8 @@ use Rattle.market_model.specs.Optimality.{up_of, down_of, names_row, named_rows}
 use Rattle.market_model.proofs.MorePlaces.{sum_by_more, total-places_more}
 use Rattle.market_model.proofs.SumSteps.{plus_at, multiplied_at, terms_at, behind}
 use Rattle.limit_rows.proofs.DualLemmas.{up_unnamed, down_unnamed, sum_named}
-use Rattle.cert_sums.specs.Bounds.{left_at, limits_terms}
-use Rattle.cert_sums.specs.Named.{PricedRow}
+use Rattle.cert_sums.specs.Bounds.{limits_terms}
+use Rattle.cert_sums.specs.Named.{PricedRow, priced_by}
 use Rattle.cert_sums.specs.Pairs.{IsFarkasPair, in_flow as flow_pair, in_price as price_sum_pair, of_prices, of_empty, in_bound as bound_pair, of_limit_less, of_limit_more}
 use Rattle.market_model.specs.SumTables.{injection_at, flow_of_line, carried, balance_of_all, flow_of_row, congestion_at, price_at}
 use Rattle.cert_sums.specs.declared.stops.VerifyStop.{VerifyStop}
@@ -51,11 +51,13 @@ none_above s w room t is some = nothing_made s (part_above w) room (sym (ap (λ 
     by (inr e) = ap (λ (u : Sign). where_above u w) e
 
 -- what the two prices of a row make, one added behind the other
-pub left_sum : (m : Parts) (x : Dispatch) (e : PricedRow) (sum above more l f : Fraction) → l ≡ limit m e.row → f ≡ flow m x e.row → above ≡ sum +ℚ e.up *ℚ (l -ℚ f) → more ≡ above +ℚ e.down *ℚ (l +ℚ f)
-    → more ≡ sum +ℚ left_at m x e
-left_sum m x e sum above more l f is flows first second =
+pub left_sum : (m : Parts) (d : Duals Fraction) (e : PricedRow) (sum above more l f : Fraction) → e ≡ priced_by m d e.row → l ≡ limit m e.row → f ≡ flow m (empty m) e.row → above ≡ sum +ℚ e.up *ℚ (l -ℚ f)
+    → more ≡ above +ℚ e.down *ℚ (l +ℚ f) → more ≡ sum +ℚ total (limit_terms m d e.row)
+left_sum m d e sum above more l f priced is flows first second =
     second ∙ ap (λ t. t +ℚ e.down *ℚ (l +ℚ f)) first ∙ +ℚ_assoc sum (e.up *ℚ (l -ℚ f)) (e.down *ℚ (l +ℚ f))
     ∙ ap₂ (λ a b. sum +ℚ (e.up *ℚ (a -ℚ b) +ℚ e.down *ℚ (a +ℚ b))) is flows
+    ∙ ap₂ (λ u v. sum +ℚ (u *ℚ (limit m e.row -ℚ flow m (empty m) e.row) +ℚ v *ℚ (limit m e.row +ℚ flow m (empty m) e.row))) (ap (λ (t : PricedRow). t.up) priced) (ap (λ (t : PricedRow). t.down) priced)
+    ∙ ap (λ t. sum +ℚ (up_of m d e.row *ℚ (limit m e.row -ℚ flow m (empty m) e.row) +ℚ t)) (sym (+ℚ_nil (down_of m d e.row *ℚ (limit m e.row +ℚ flow m (empty m) e.row))))
 
 -- a refusal on either side of a row, by the limit and the flow that were read
 module _ (m : Parts) (x : Dispatch) (e : PricedRow) (sum l f : Fraction) (bound : ℕ) (p : Passed Fraction) (is : l ≡ limit m e.row) (flows : f ≡ flow m x e.row) where
@@ -146,14 +148,9 @@ module _ (m : Parts) (d : Duals Fraction) where
       }
 
   module _ (k : ℕ) (e : PricedRow) (h : IsNamedAt m d k e) where
-    left_is : left_at m (empty m) e ≡ left e.row
-    left_is =
-        ap₂ (λ u v. u *ℚ (limit m e.row -ℚ flow m (empty m) e.row) +ℚ v *ℚ (limit m e.row +ℚ flow m (empty m) e.row)) h.up h.down
-        ∙ ap (λ t. up_of m d e.row *ℚ (limit m e.row -ℚ flow m (empty m) e.row) +ℚ t) (sym (+ℚ_nil (down_of m d e.row *ℚ (limit m e.row +ℚ flow m (empty m) e.row))))
-
-    pub limits_step : (old new : Fraction) → old ≡ limits_to k → new ≡ old +ℚ left_at m (empty m) e → new ≡ limits_to (k + 1)
+    pub limits_step : (old new : Fraction) → old ≡ limits_to k → new ≡ old +ℚ left e.row → new ≡ limits_to (k + 1)
     limits_step old new before eq =
-        eq ∙ ap₂ ◌+ℚ◌ before left_is
+        eq ∙ ap (λ t. t +ℚ left e.row) before
         ∙ +ℚ_assoc (d.energy *ℚ balance m (empty m)) (sum_by left (take k (named_rows m d))) (left e.row)
         ∙ ap (λ t. d.energy *ℚ balance m (empty m) +ℚ t)
         (ap (λ (r : Row). sum_by left (take k (named_rows m d)) +ℚ left r) h.at ∙ sym (sum_by_more left (named_rows m d) k e.row h.inside))

@@ -49,6 +49,10 @@ module _ {N : Type 0} (value : N → Fraction) (m : Parts) (d : Duals Fraction) 
         down = ap (λ (t : PricedRow). t.down) same ∙ ap (down_of m d) (sym at);
       }
 
+-- it has the prices that duals give it
+pub priced_is : (m : Parts) (d : Duals Fraction) (k : ℕ) (e : PricedRow) → IsNamedAt m d k e → e ≡ priced_by m d e.row
+priced_is m d k e h = λ i. record { row = e.row; up = h.up i; down = h.down i }
+
 pub is_named_row : (m : Parts) (d : Duals Fraction) (k : ℕ) (e : PricedRow) → IsNamedAt m d k e → Contains (named_rows m d) e.row
 is_named_row m d k e h = (k, h.inside, sym h.at)
 

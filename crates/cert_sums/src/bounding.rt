@@ -5,13 +5,13 @@ ghost use Rattle.fraction_theory.specs.Fraction.{Fraction, whole, ◌+ℚ◌, �
 ghost use Rattle.fraction_theory.specs.Sums.{total};
 ghost use Rattle.market_model.specs.declared.answered.Duals.{Duals};
 ghost use Rattle.market_model.specs.Dispatch.{Dispatch, balance, empty, signed_by_side, zero};
-ghost use Rattle.market_model.specs.Infeasibility.{farkas_bound, part_above};
+ghost use Rattle.market_model.specs.Infeasibility.{farkas_bound, limit_terms, part_above};
 ghost use Rattle.market_model.specs.LimitRows.{IsCauseAmong, flow, limit};
 ghost use Rattle.market_model.specs.Valued.{passed_at};
 ghost use Rattle.market_model.specs.NamedSums.{IsShareRefusal};
 ghost use Rattle.limit_rows.specs.LineFlows.{AreFlows};
-ghost use Rattle.cert_sums.specs.Bounds.{left_at, limits_terms};
-ghost use Rattle.cert_sums.specs.Named.{AreNamed, priced_at};
+ghost use Rattle.cert_sums.specs.Bounds.{limits_terms};
+ghost use Rattle.cert_sums.specs.Named.{AreNamed, priced_at, priced_by};
 ghost use Rattle.cert_sums.specs.Pairs.{IsFarkasPair};
 ghost use Rattle.cert_sums.specs.Refusals.{IsAboveRefusal, IsBelowRefusal, IsLimitRefusal, OnPassed};
 
@@ -47,7 +47,7 @@ fn with_below<N: Exact>(sum: N, price: N, limit: N, flow: N) -> Result<N, Passed
     sum.plus(share)
 }
 
-/// A sum with what the prices of a row make of what its flow leaves of its limit on either side.
+/// A sum with what the prices that duals give a row make of what its flow leaves of its limit on either side, where nothing is accepted.
 fn with_limit<N: Exact>(
     market: &Market,
     sum: N,
@@ -57,7 +57,7 @@ fn with_limit<N: Exact>(
     requires flows { length flows.now ≡ length market.now.lines }
     requires line { entry.now.row.line < length market.now.lines }
     requires lost { IsCauseAmong (length market.now.lines) entry.now.row.cause }
-    ensures sum { (x : Dispatch) → AreFlows market.now x (map N.value flows.now) → IfOk result (λ more. N.value more ≡ N.value sum +ℚ left_at market.now x (priced_at N.value entry.now)) }
+    ensures sum { (d : Duals Fraction) → priced_at N.value entry.now ≡ priced_by market.now d entry.now.row → AreFlows market.now (empty market.now) (map N.value flows.now) → IfOk result (λ more. N.value more ≡ N.value sum +ℚ total (limit_terms market.now d entry.now.row)) }
     ensures cause { (x : Dispatch) → AreFlows market.now x (map N.value flows.now) → IfErr result (λ passed. IsLimitRefusal market.now x (priced_at N.value entry.now) (N.value sum) N.bound (passed_at N.value passed)) }
 {
     let flow = row_flow(market, flows, entry.row)?;

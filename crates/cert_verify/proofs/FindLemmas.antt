@@ -1,10 +1,10 @@
 -- The first that a test finds, as a loop comes to it.
-use Rattle.std.specs.Prelude.{◌≡◌, ℕ, ◌+◌, ◌<◌, ◌≤◌, Bool, true, false, cond, List, [], ◌∷◌, ◌++◌, length, map, filter, Option, Some, None, option_map, is_some, if◌then◌else◌, refl}
+use Rattle.std.specs.Prelude.{◌≡◌, ℕ, ◌+◌, ◌<◌, ◌≤◌, Bool, true, false, cond, List, [], ◌∷◌, ◌++◌, length, map, filter, Option, Some, None, option_map, is_some, refl}
 use Rattle.std.specs.List.{find, slice_get}
 use Rattle.std.specs.Option.{option_or}
 use Rattle.std.proofs.Common.{zero, suc, arith, ap, sym, subst, ◌∙◌, get_or, take}
 use Rattle.std.proofs.lemmas.Bool.{true≢false}
-use Rattle.std.proofs.lemmas.List.{append-nil, take_more}
+use Rattle.std.proofs.lemmas.List.{map-append, take_more}
 use Rattle.std.proofs.lemmas.List.Elements.{filter-append}
 use Rattle.std.proofs.lemmas.List.Folds.{find-append}
 use Rattle.market_model.specs.declared.participants.Parts.{Parts}
@@ -17,7 +17,7 @@ use Rattle.limit_rows.proofs.GroupLemmas.{places_at, rows-more}
 use Rattle.limit_rows.proofs.NameLemmas.{causes_round, rows_round}
 use Rattle.limit_rows.proofs.NumberingLemmas.{all_before, row_on, rows_before}
 use Rattle.cert_verify.specs.declared.verdicts.Reason.{Reason}
-use Rattle.cert_verify.specs.Naming.{rows_at}
+use Rattle.cert_verify.specs.Naming.{rows_among}
 use Rattle.cert_verify.specs.Reasons.{of_first}
 
 -- ---- in a list with parts
@@ -85,35 +85,19 @@ module _ (because : ℕ → Reason) (p : ℕ → Bool) where
 -- ---- row by row
 -- the rows of the lines before one, in a group
 abbrev pub rows_to : Parts → Cause → ℕ → List Row
-rows_to m cause k = map (row_on cause) (filter (bears m cause) (places k))
+rows_to m cause k = rows_among m cause (places k)
 
-pub lines_more : (m : Parts) (cause : Cause) (k : ℕ) → bears m cause k ≡ true → rows_to m cause (k + 1) ≡ rows_to m cause k ++ row_on cause k ∷ []
-lines_more m cause k e =
-    ap (map (row_on cause)) (ap (filter (bears m cause)) (places_more k) ∙ filter-append (bears m cause) (places k) (k ∷ []) ∙ ap (λ (b : Bool). filter (bears m cause) (places k) ++ cond b (k ∷ []) []) e)
-    ∙ mapped (filter (bears m cause) (places k))
-  where
-    mapped : (ls : List ℕ) → map (row_on cause) (ls ++ k ∷ []) ≡ map (row_on cause) ls ++ row_on cause k ∷ []
-    mapped [] = refl
-    mapped (l ∷ ls) = ap (λ rs. row_on cause l ∷ rs) (mapped ls)
+rows_join : (m : Parts) (cause : Cause) (ks ls : List ℕ) → rows_among m cause (ks ++ ls) ≡ rows_among m cause ks ++ rows_among m cause ls
+rows_join m cause ks ls = ap (map (row_on cause)) (filter-append (bears m cause) ks ls) ∙ map-append (row_on cause) (filter (bears m cause) ks) (filter (bears m cause) ls)
 
-pub lines_same : (m : Parts) (cause : Cause) (k : ℕ) → bears m cause k ≡ false → rows_to m cause (k + 1) ≡ rows_to m cause k
-lines_same m cause k e =
-    ap (map (row_on cause))
-    (ap (filter (bears m cause)) (places_more k) ∙ filter-append (bears m cause) (places k) (k ∷ []) ∙ ap (λ (b : Bool). filter (bears m cause) (places k) ++ cond b (k ∷ []) []) e
-    ∙ append-nil (filter (bears m cause) (places k)))
-
-pub lines_step : (m : Parts) (cause : Cause) (k : ℕ) → rows_to m cause (k + 1) ≡ rows_to m cause k ++ rows_at m cause k
-lines_step m cause k = by (bears m cause k) refl
-  where
-    by : (b : Bool) → bears m cause k ≡ b → rows_to m cause (k + 1) ≡ rows_to m cause k ++ (if b then row_on cause k ∷ [] else [])
-    by true t = lines_more m cause k t
-    by false t = lines_same m cause k t ∙ sym (append-nil (rows_to m cause k))
+pub lines_step : (m : Parts) (cause : Cause) (k : ℕ) → rows_to m cause (k + 1) ≡ rows_to m cause k ++ rows_among m cause (k ∷ [])
+lines_step m cause k = ap (rows_among m cause) (places_more k) ∙ rows_join m cause (places k) (k ∷ [])
 
 -- rows behind those to a line, in a group
-lines_round : (m : Parts) (cause : Cause) (k : ℕ) → k < length m.lines → bears m cause k ≡ true → (rest : List Row) × (rows_of m cause ≡ rows_to m cause k ++ (rows_at m cause k ++ rest))
+lines_round : (m : Parts) (cause : Cause) (k : ℕ) → k < length m.lines → bears m cause k ≡ true → (rest : List Row) × (rows_of m cause ≡ rows_to m cause k ++ (rows_among m cause (k ∷ []) ++ rest))
 lines_round m cause k lt t =
     let r = rows_round m cause k lt t in
-    (r.0, r.1 ∙ ap (λ (b : Bool). rows_to m cause k ++ ((if b then row_on cause k ∷ [] else []) ++ r.0)) (sym t))
+    (r.0, r.1 ∙ ap (λ (b : Bool). rows_to m cause k ++ (map (row_on cause) (cond b (k ∷ []) []) ++ r.0)) (sym t))
 
 module _ (m : Parts) (because : Row → Reason) (p : Row → Bool) where
   -- what is found first in one part of a list is found first in the whole
@@ -134,15 +118,15 @@ module _ (m : Parts) (because : Row → Reason) (p : Row → Bool) where
       by None (Some x) e h = absurd Prim.cc
       by (Some w) (Some x) e h = absurd (true≢false e)
 
-  pub line_found : (cause : Cause) (k : ℕ) (o : Option Reason) → find p (rows_to m cause k) ≡ None → k < length m.lines → is_some o ≡ true → o ≡ of_first because p (rows_at m cause k) → o ≡ of_first because p (rows_of m cause)
+  pub line_found : (cause : Cause) (k : ℕ) (o : Option Reason) → find p (rows_to m cause k) ≡ None → k < length m.lines → is_some o ≡ true → o ≡ of_first because p (rows_among m cause (k ∷ [])) → o ≡ of_first because p (rows_of m cause)
   line_found cause k o none lt some is = by (bears m cause k) refl is
     where
-      by : (b : Bool) → bears m cause k ≡ b → o ≡ of_first because p (if b then row_on cause k ∷ [] else []) → o ≡ of_first because p (rows_of m cause)
-      by true t h = let r = lines_round m cause k lt t in in_whole (rows_to m cause k) (rows_at m cause k) r.0 o none some is ∙ ap (of_first because p) (sym r.1)
+      by : (b : Bool) → bears m cause k ≡ b → o ≡ of_first because p (map (row_on cause) (cond b (k ∷ []) [])) → o ≡ of_first because p (rows_of m cause)
+      by true t h = let r = lines_round m cause k lt t in in_whole (rows_to m cause k) (rows_among m cause (k ∷ [])) r.0 o none some is ∙ ap (of_first because p) (sym r.1)
       by false t h = absurd (true≢false (sym some ∙ ap is_some h))
 
-  pub line_passed : (cause : Cause) (k : ℕ) (o : Option Reason) → find p (rows_to m cause k) ≡ None → is_some o ≡ false → o ≡ of_first because p (rows_at m cause k) → find p (rows_to m cause (k + 1)) ≡ None
-  line_passed cause k o none idle is = ap (find p) (lines_step m cause k) ∙ none_before p (rows_to m cause k) (rows_at m cause k) none ∙ none_in (rows_at m cause k) o idle is
+  pub line_passed : (cause : Cause) (k : ℕ) (o : Option Reason) → find p (rows_to m cause k) ≡ None → is_some o ≡ false → o ≡ of_first because p (rows_among m cause (k ∷ [])) → find p (rows_to m cause (k + 1)) ≡ None
+  line_passed cause k o none idle is = ap (find p) (lines_step m cause k) ∙ none_before p (rows_to m cause k) (rows_among m cause (k ∷ [])) none ∙ none_in (rows_among m cause (k ∷ [])) o idle is
 
   pub line_none : (cause : Cause) (k : ℕ) → k ≡ length m.lines → find p (rows_to m cause k) ≡ None → None ≡ of_first because p (rows_of m cause)
   line_none cause k all e = sym (ap (λ (j : ℕ). option_map because (find p (rows_to m cause j))) (sym all) ∙ ap (option_map because) e)
@@ -157,11 +141,11 @@ module _ (m : Parts) (because : Row → Reason) (p : Row → Bool) where
   cause_none i all e = sym (ap (λ rs. option_map because (find p rs)) (sym (all_before m i all)) ∙ ap (option_map because) e)
 
   -- ---- the row of a line alone
-  pub row_alone : (cause : Cause) (k : ℕ) → bears m cause k ≡ true → p (row_on cause k) ≡ true → Some (because (row_on cause k)) ≡ of_first because p (rows_at m cause k)
-  row_alone cause k t e = sym (ap (λ (b : Bool). of_first because p (if b then row_on cause k ∷ [] else [])) t ∙ ap (option_map because) (found_first p (row_on cause k) [] e))
+  pub row_alone : (cause : Cause) (k : ℕ) → bears m cause k ≡ true → p (row_on cause k) ≡ true → Some (because (row_on cause k)) ≡ of_first because p (rows_among m cause (k ∷ []))
+  row_alone cause k t e = sym (ap (λ (b : Bool). of_first because p (map (row_on cause) (cond b (k ∷ []) []))) t ∙ ap (option_map because) (found_first p (row_on cause k) [] e))
 
-  pub row_alone_passed : (cause : Cause) (k : ℕ) → bears m cause k ≡ true → p (row_on cause k) ≡ false → None ≡ of_first because p (rows_at m cause k)
-  row_alone_passed cause k t e = sym (ap (λ (b : Bool). of_first because p (if b then row_on cause k ∷ [] else [])) t ∙ ap (option_map because) (none_one p (row_on cause k) e))
+  pub row_alone_passed : (cause : Cause) (k : ℕ) → bears m cause k ≡ true → p (row_on cause k) ≡ false → None ≡ of_first because p (rows_among m cause (k ∷ []))
+  row_alone_passed cause k t e = sym (ap (λ (b : Bool). of_first because p (map (row_on cause) (cond b (k ∷ []) []))) t ∙ ap (option_map because) (none_one p (row_on cause k) e))
 
-  pub row_not_there : (cause : Cause) (k : ℕ) → bears m cause k ≡ false → None ≡ of_first because p (rows_at m cause k)
-  row_not_there cause k t = sym (ap (λ (b : Bool). of_first because p (if b then row_on cause k ∷ [] else [])) t)
+  pub row_not_there : (cause : Cause) (k : ℕ) → bears m cause k ≡ false → None ≡ of_first because p (rows_among m cause (k ∷ []))
+  row_not_there cause k t = sym (ap (λ (b : Bool). of_first because p (map (row_on cause) (cond b (k ∷ []) []))) t)

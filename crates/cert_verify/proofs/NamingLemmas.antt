@@ -23,11 +23,11 @@ use Rattle.market_model.proofs.MorePlaces.{places_more}
 use Rattle.limit_rows.proofs.GroupLemmas.{rows-more}
 use Rattle.limit_rows.proofs.NumberingLemmas.{all_before, rows_before}
 use Rattle.limit_rows.proofs.PlaceLemmas.{same_name}
-use Rattle.cert_format.specs.Certificates.{NamesNoRowTwice}
+use Rattle.cert_format.specs.Certificates.{NamesNoRowTwice, name_of, same_pair}
 use Rattle.cert_sums.specs.declared.pricing.NamedRow.{NamedRow}
 use Rattle.cert_sums.specs.Named.{AreNamed, PricedRow, priced_at, priced_by}
 use Rattle.cert_verify.specs.Certificates.{named_duals}
-use Rattle.cert_verify.specs.Naming.{IsNamedAt, entry_of, name_of, prices_of, rows_at, same_pair}
+use Rattle.cert_verify.specs.Naming.{IsNamedAt, entry_of, prices_of, rows_among}
 use Rattle.cert_verify.proofs.FindLemmas.{lines_step, rows_to}
 use Rattle.cert_verify.proofs.VerdictLemmas.{other_id, own_id}
 
@@ -130,10 +130,10 @@ module _ {N : Type 0} (value : N → Fraction) (m : Parts) where
         ap (map (priced_by m d)) (filter-append (λ r. names_row d.limits (row_id m r)) rs ss)
         ∙ map-append (priced_by m d) (filter (λ r. names_row d.limits (row_id m r)) rs) (filter (λ r. names_row d.limits (row_id m r)) ss)
 
-    pub line_named : (cause : Cause) (k : ℕ) (front old new : List PricedRow) → old ≡ front ++ prices_of m d (rows_to m cause k) → new ≡ old ++ prices_of m d (rows_at m cause k) → new ≡ front ++ prices_of m d (rows_to m cause (k + 1))
+    pub line_named : (cause : Cause) (k : ℕ) (front old new : List PricedRow) → old ≡ front ++ prices_of m d (rows_to m cause k) → new ≡ old ++ prices_of m d (rows_among m cause (k ∷ [])) → new ≡ front ++ prices_of m d (rows_to m cause (k + 1))
     line_named cause k front old new before more =
-        more ∙ ap (λ (ys : List PricedRow). ys ++ prices_of m d (rows_at m cause k)) before ∙ append_assoc front (prices_of m d (rows_to m cause k)) (prices_of m d (rows_at m cause k))
-        ∙ ap (λ (ys : List PricedRow). front ++ ys) (sym (ap (prices_of m d) (lines_step m cause k) ∙ prices_join (rows_to m cause k) (rows_at m cause k)))
+        more ∙ ap (λ (ys : List PricedRow). ys ++ prices_of m d (rows_among m cause (k ∷ []))) before ∙ append_assoc front (prices_of m d (rows_to m cause k)) (prices_of m d (rows_among m cause (k ∷ [])))
+        ∙ ap (λ (ys : List PricedRow). front ++ ys) (sym (ap (prices_of m d) (lines_step m cause k) ∙ prices_join (rows_to m cause k) (rows_among m cause (k ∷ []))))
 
     pub cause_named : (i : ℕ) (cause : Cause) (old new : List PricedRow) → slice_get (causes m) i ≡ Some cause → old ≡ prices_of m d (rows_before m i) → new ≡ old ++ prices_of m d (rows_of m cause) → new ≡ prices_of m d (rows_before m (i + 1))
     cause_named i cause old new at before more =

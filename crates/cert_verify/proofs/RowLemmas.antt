@@ -1,14 +1,14 @@
 -- What is looked up of a row by its name, and the operations refused.
-use Rattle.std.specs.Prelude.{◌≡◌, ◌≢◌, ◌&&◌, ◌<◌, ℕ, Bool, true, false, not, List, length, Contains, Option, Some, None, MatchOption, is_some, refl}
+use Rattle.std.specs.Prelude.{◌≡◌, ◌≢◌, ◌&&◌, ◌<◌, ℕ, Bool, true, false, not, List, [], ◌∷◌, ◌++◌, length, Contains, Option, Some, None, MatchOption, is_some, refl}
 use Rattle.std.specs.List.{list_any}
-use Rattle.std.proofs.Common.{inl, inr, ap, sym, subst, ◌∙◌}
+use Rattle.std.proofs.Common.{inl, inr, ap, ap₂, sym, subst, ◌∙◌}
 use Rattle.std.proofs.lemmas.Bool.{true≢false}
 use Rattle.fraction_theory.specs.Fraction.{Fraction}
 use Rattle.exact_fraction.specs.declared.Passed.{Passed}
 use Rattle.market_model.specs.declared.answered.Dual.{Dual}
 use Rattle.market_model.specs.declared.answered.Duals.{Duals}
 use Rattle.market_model.specs.declared.participants.Parts.{Parts}
-use Rattle.market_model.specs.Dispatch.{Dispatch, injection, balance_terms}
+use Rattle.market_model.specs.Dispatch.{Dispatch, balance, injection, zero}
 use Rattle.market_model.specs.declared.limits.Row.{Row}
 use Rattle.market_model.specs.declared.limits.Cause.TheVariants.{Base, Branch}
 use Rattle.market_model.specs.declared.limits.Cause.{Cause}
@@ -23,13 +23,15 @@ use Rattle.cert_sums.specs.declared.stops.VerifyStop.{VerifyStop}
 use Rattle.cert_sums.specs.declared.stops.VerifyStop.TheVariants as why
 use Rattle.cert_sums.specs.Pairs.{IsOptimalPair, in_flow, in_price, of_prices}
 use Rattle.market_model.specs.SumTables.{injection_at, flow_of_line, carried, balance_of_all, flow_of_row, congestion_at, price_at}
-use Rattle.limit_rows.specs.LineFlows.{AreFlows, IsLineRefusal}
+use Rattle.limit_rows.specs.LineFlows.{AreFlows}
 use Rattle.limit_rows.proofs.FlowSteps.{row_terms_are}
-use Rattle.market_model.specs.PutIn.{put_in, IsInjectionRefusal}
+use Rattle.market_model.specs.PutIn.{put_in}
 use Rattle.cert_sums.specs.Refusals.{IsPriceRefusal, OnPassed}
 use Rattle.limit_rows.specs.Naming.{has_name}
-use Rattle.cert_verify.specs.Reasons.{has_no_row, has_slack, prices_slack}
-use Rattle.cert_verify.proofs.TestLemmas.{any_of, any_none, not_both, not_true}
+use Rattle.cert_verify.specs.declared.verdicts.Reason.TheVariants as reason
+use Rattle.cert_verify.specs.Reasons.{NoneOf, balance_reason, differ, has_no_row, has_slack, part_reasons, prices_slack}
+use Rattle.cert_verify.specs.Stops.{IsBalanceRefusal, IsFlowRefusal, IsOptimalStop, at_balance, at_limits, at_support}
+use Rattle.cert_verify.proofs.TestLemmas.{any_of, any_none, none_first, none_join, not_both, not_true, so_none}
 use Rattle.cert_verify.proofs.VerdictLemmas.{named}
 
 -- ---- a row by its name
@@ -86,20 +88,29 @@ pub stopped_by : {N : Type 0} (value : N → Fraction) (p q : Passed Fraction �
 stopped_by value p q (why.Range e) to h = to (passed_at value e) h
 stopped_by value p q why.Memory to h = tt
 
+-- the reasons before flows do not hold where a dispatch balances, as was seen by numbers
+pub before_flows : (m : Parts) (x : Dispatch) (ds : List (Dual Fraction)) (all nothing : Fraction) → all ≡ balance m x → nothing ≡ zero → differ all nothing ≡ false → NoneOf (part_reasons m x ds)
+    → NoneOf (part_reasons m x ds ++ balance_reason m x ∷ [])
+before_flows m x ds all nothing is none same before =
+    let balanced : balance_reason m x ≡ None = so_none (differ (balance m x) zero) reason.Balance (sym (ap₂ (λ (a b : Fraction). differ a b) is none) ∙ same) in
+    none_join (part_reasons m x ds) (balance_reason m x ∷ []) before (none_first (balance_reason m x ∷ []) (balanced, tt))
+
+-- each is of a certificate's pairs
 module _ (m : Parts) (x : Dispatch) (d : Duals Fraction) (bound : ℕ) (p : Passed Fraction) where
-  pub injection_pair : IsInjectionRefusal m x bound p → IsOptimalPair m x d bound p
-  injection_pair (i, lt, h) = in_flow (_, carried _ (injection_at i lt), h)
+  balance_pair : IsBalanceRefusal m x bound p → IsOptimalPair m x d bound p
+  balance_pair (inl (i, lt, h)) = in_flow (_, carried _ (injection_at i lt), h)
+  balance_pair (inr h) = in_flow (_, balance_of_all, h)
 
-  pub balance_pair : IsRefusedIn (balance_terms m x) bound p → IsOptimalPair m x d bound p
-  balance_pair h = in_flow (_, balance_of_all, h)
+  flow_pair : IsFlowRefusal m x bound p → IsOptimalPair m x d bound p
+  flow_pair (inl (l, lt, h)) = in_flow (_, carried _ (flow_of_line l lt), h)
+  flow_pair (inr (r, c, h)) = in_flow (_, flow_of_row r c, h)
 
-  pub line_pair : IsLineRefusal m (injection m x) bound p → IsOptimalPair m x d bound p
-  line_pair (l, lt, h) = in_flow (_, carried _ (flow_of_line l lt), h)
-
-  pub row_pair : (r : Row) → Contains (rows m) r → IsRefusedIn (flow_terms m (line_flow m (injection m x)) r) bound p → IsOptimalPair m x d bound p
-  row_pair r c h = in_flow (_, flow_of_row r c, h)
-
-  pub price_pair : (i : ℕ) → i < length m.buses → IsPriceRefusal m d i bound p → IsOptimalPair m x d bound p
+  price_pair : (i : ℕ) → i < length m.buses → IsPriceRefusal m d i bound p → IsOptimalPair m x d bound p
   price_pair i lt (inl (inl c)) = in_price (_, congestion_at i lt, c)
   price_pair i lt (inl (inr c)) = of_prices c.0 c.1 c.2
   price_pair i lt (inr c) = in_price (_, price_at i lt, c)
+
+  pub optimal_pair : IsOptimalStop m x d bound p → IsOptimalPair m x d bound p
+  optimal_pair (at_balance h none) = balance_pair h
+  optimal_pair (at_limits h none) = flow_pair h
+  optimal_pair (at_support h none) = price_pair h.0 h.1 h.2

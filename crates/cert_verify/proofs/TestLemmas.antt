@@ -1,5 +1,5 @@
 -- What tests of numbers and of lists mean.
-use Rattle.std.specs.Prelude.{◌≡◌, ◌≢◌, ◌⊎◌, ◌||◌, ◌&&◌, ℕ, ◌+◌, ◌<◌, ℤ, pos, ◌<ℤ◌, int_lt, Bool, true, false, not, cond, List, [], ◌∷◌, length, map, All, Contains, Option, Some, None, option_map, refl}
+use Rattle.std.specs.Prelude.{◌≡◌, ◌⊎◌, ◌||◌, ◌&&◌, ℕ, ◌+◌, ◌<◌, ℤ, pos, ◌<ℤ◌, int_lt, Bool, true, false, not, cond, List, [], ◌∷◌, ◌++◌, length, map, All, Contains, Option, Some, None, option_map, refl}
 use Rattle.std.specs.List.{find, list_any}
 use Rattle.std.specs.Ordering.{MatchOrdering}
 use Rattle.std.proofs.Common.{arith, inl, inr, ap, sym, subst, ◌∙◌, get_or, Ordering, Less, Equal, Greater}
@@ -15,7 +15,7 @@ use Rattle.fraction_theory.proofs.OrderLaws.{<ℚ-≤ℚ, <ℚ-not-≤ℚ, ≤�
 use Rattle.market_model.specs.Dispatch.{places}
 use Rattle.market_model.proofs.ChangeLemmas.{same_default}
 use Rattle.cert_verify.specs.declared.verdicts.Reason.{Reason}
-use Rattle.cert_verify.specs.Reasons.{breaks_support, is_below, is_outside, differ, of_first, where_so, first_of, verdict_of}
+use Rattle.cert_verify.specs.Reasons.{NoneOf, breaks_support, is_below, is_outside, differ, of_first, where_so, first_of, verdict_of}
 use Rattle.cert_verify.specs.declared.verdicts.Verdict.TheVariants.{Yes}
 
 -- ---- numbers
@@ -171,6 +171,12 @@ all_none (Some r ∷ os) e = absurd Prim.cc
 pub none_first : (os : List (Option Reason)) → AllNone os → first_of os ≡ None
 none_first [] h = refl
 none_first (o ∷ os) h = Prim.rw h.0 (none_first os h.1)
+
+-- nor of two lists, where there is none of either
+pub none_join : (os ps : List (Option Reason)) → NoneOf os → NoneOf ps → NoneOf (os ++ ps)
+none_join [] ps e f = f
+none_join (None ∷ os) ps e f = none_join os ps e f
+none_join (Some r ∷ os) ps e f = absurd Prim.cc
 
 pub yes_none : (o : Option Reason) → verdict_of o ≡ Yes → o ≡ None
 yes_none None e = refl

@@ -23,7 +23,7 @@ use Rattle.limit_rows.proofs.PlaceLemmas.{same_name}
 use Rattle.cert_verify.specs.declared.verdicts.Reason.TheVariants as reason
 use Rattle.cert_verify.specs.Certificates.{ProvesInfeasible, IsOptimum, NamesRows}
 use Rattle.limit_rows.specs.Naming.{has_name}
-use Rattle.cert_verify.specs.Reasons.{bound_reason, block_reason, count_reason, balance_reason, differ, farkas_reasons, first_of, gains, has_negative, has_no_row, has_slack, is_below, is_beyond, is_broken, is_unsupported, limit_reason, loses, optimal_reasons, prices_slack, row_reason, sign_reason, slack_reason, support_reason}
+use Rattle.cert_verify.specs.Reasons.{bound_reason, block_reason, count_reason, balance_reason, differ, farkas_reasons, first_of, gains, has_negative, has_no_row, has_slack, is_below, is_beyond, is_overloaded, is_unsupported, limit_reason, loses, optimal_reasons, prices_slack, row_reason, sign_reason, slack_reason, support_reason}
 use Rattle.cert_verify.proofs.TestLemmas.{below_true, below_of, not_below, below_not, same_by, same_not, neither, not_both, then_not, not_false, not_true, any_true, any_of, any_false, any_none, all_by, in_places, from_places, none_of, of_none, not_so, so_none, all_none, none_first}
 
 -- ---- names and their prices
@@ -200,12 +200,12 @@ module _ (m : Parts) (x : Dispatch) where
 
   limits_to : limit_reason m x ≡ None → (r : Row) → Contains (rows m) r → Within (most_flow m r) (flow m x r)
   limits_to h r c =
-      let parts = or_parts (is_below (flow m x r) (neg_ℚ (limit m r))) (is_below (limit m r) (flow m x r)) (none_of (λ r. reason.Limit (row_id m r)) (is_broken m x) (rows m) h r c) in
+      let parts = or_parts (is_below (flow m x r) (neg_ℚ (limit m r))) (is_below (limit m r) (flow m x r)) (none_of (λ r. reason.Limit (row_id m r)) (is_overloaded m x) (rows m) h r c) in
       record { above = not_below (flow m x r) (neg_ℚ (limit m r)) parts.0; below = not_below (limit m r) (flow m x r) parts.1 }
 
   limits_from : ((r : Row) → Contains (rows m) r → Within (most_flow m r) (flow m x r)) → limit_reason m x ≡ None
   limits_from h =
-      of_none (λ r. reason.Limit (row_id m r)) (is_broken m x) (rows m)
+      of_none (λ r. reason.Limit (row_id m r)) (is_overloaded m x) (rows m)
       (λ r c. let w = h r c in neither (is_below (flow m x r) (neg_ℚ (limit m r))) (is_below (limit m r) (flow m x r)) (below_not (flow m x r) (neg_ℚ (limit m r)) w.above) (below_not (limit m r) (flow m x r) w.below))
 
   inside_to : block_reason m x ≡ None → (j : ℕ) → j < length m.blocks → (zero ≤ℚ accepted x j) × (accepted x j ≤ℚ quantity m j)

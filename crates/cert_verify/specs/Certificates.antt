@@ -1,11 +1,9 @@
 -- What a certificate says of a market, and the first reason against it.
 -- Source: own, of what is feasible, what duals support and what shows a market infeasible.
-use Rattle.std.specs.Prelude.{◌≡◌, ℕ, List, Option, length, All, Contains}
+use Rattle.std.specs.Prelude.{◌≡◌, List, Option, length, All, Contains}
 use Rattle.fraction_theory.specs.Fraction.{Fraction}
-use Rattle.market_model.specs.declared.answered.Answer.{Answer}
 use Rattle.market_model.specs.declared.answered.Dual.{Dual}
 use Rattle.market_model.specs.declared.answered.Duals.{Duals}
-use Rattle.market_model.specs.declared.answered.Farkas as infeasible
 use Rattle.market_model.specs.declared.participants.Parts.{Parts}
 use Rattle.market_model.specs.Dispatch.{Dispatch, dispatch_by}
 use Rattle.market_model.specs.Infeasibility.{ShowsInfeasible}
@@ -14,9 +12,6 @@ use Rattle.market_model.specs.LimitRows.{rows, row_id}
 use Rattle.market_model.specs.Optimality.{Feasible, Supports}
 use Rattle.cert_format.specs.declared.certificate.Cert.{Cert}
 use Rattle.cert_format.specs.declared.certificate.Cert.TheVariants.{Optimal, Farkas}
-use Rattle.cert_sums.specs.declared.stops.VerifyStop.{VerifyStop}
-use Rattle.cert_sums.specs.Pairs.{IsFarkasPair, IsOptimalPair}
-use Rattle.cert_sums.specs.Refusals.{OnPassed}
 use Rattle.cert_verify.specs.Reasons.{first_of, optimal_reasons, farkas_reasons}
 use Rattle.cert_verify.specs.declared.verdicts.Reason.{Reason}
 
@@ -49,16 +44,3 @@ pub record ProvesInfeasible (m : Parts) (d : Duals Fraction) : Type 0 where
 abbrev pub IsTrueOf : Parts → Cert Fraction → Type 0
 IsTrueOf m (Optimal blocks energy limits) = IsOptimum m (dispatch_by blocks) (named_duals energy limits)
 IsTrueOf m (Farkas energy limits) = ProvesInfeasible m (named_duals energy limits)
-
--- ---- why there may be no verdict
--- memory was refused, or an operation in the sums of the certificate's own dispatch and duals, which passes the bound of the numbers
-abbrev pub IsVerifyStop : {N : Type 0} → (N → Fraction) → Parts → ℕ → Cert Fraction → VerifyStop N → Type 0
-IsVerifyStop value m bound (Optimal blocks energy limits) = OnPassed value (IsOptimalPair m (dispatch_by blocks) (named_duals energy limits) bound)
-IsVerifyStop value m bound (Farkas energy limits) = OnPassed value (IsFarkasPair m (named_duals energy limits) bound)
-
--- ---- the certificates of answers
-abbrev pub cert_of : Answer Fraction → Cert Fraction
-cert_of a = Optimal a.dispatch a.duals.energy a.duals.limits
-
-abbrev pub cert_against : infeasible.Farkas Fraction → Cert Fraction
-cert_against f = Farkas f.duals.energy f.duals.limits

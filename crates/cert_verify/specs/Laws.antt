@@ -13,8 +13,8 @@ use Rattle.market_model.specs.Optimality.{Feasible, welfare}
 use Rattle.market_model.specs.RightAnswers.{IsRight}
 use Rattle.cert_format.specs.declared.certificate.Cert.{Cert}
 use Rattle.cert_format.specs.declared.certificate.Cert.TheVariants.{Optimal, Farkas}
-use Rattle.cert_format.specs.Certificates.{RowsAreDistinct}
-use Rattle.cert_verify.specs.Certificates.{IsTrueOf, first_reason, cert_of, cert_against}
+use Rattle.cert_format.specs.Certificates.{RowsAreDistinct, cert_against, cert_of}
+use Rattle.cert_verify.specs.Certificates.{IsTrueOf, first_reason}
 use Rattle.cert_verify.specs.Reasons.{verdict_of}
 use Rattle.cert_verify.specs.declared.verdicts.Verdict.TheVariants.{Yes}
 

@@ -1,31 +1,24 @@
 -- Duals by the names of their rows.
-use Rattle.std.specs.Prelude.{◌≡◌, ◌==◌, ◌&&◌, ℕ, Bool, true, false, List, [], ◌∷◌, map, filter, Option, MatchOption, if◌then◌else◌}
+use Rattle.std.specs.Prelude.{◌≡◌, ℕ, true, false, List, map, filter, Option, MatchOption}
 use Rattle.fraction_theory.specs.Fraction.{Fraction}
 use Rattle.market_model.specs.declared.answered.Dual.{Dual}
 use Rattle.market_model.specs.declared.answered.Duals.{Duals}
-use Rattle.market_model.specs.declared.answered.RowId.{RowId}
 use Rattle.market_model.specs.declared.participants.Parts.{Parts}
 use Rattle.market_model.specs.declared.limits.Row.{Row}
 use Rattle.market_model.specs.declared.limits.Cause.{Cause}
 use Rattle.market_model.specs.LimitRows.{row_id, bears}
 use Rattle.market_model.specs.Optimality.{names_row}
+use Rattle.cert_format.specs.Certificates.{name_of}
 use Rattle.cert_sums.specs.declared.pricing.NamedRow.{NamedRow}
 use Rattle.cert_sums.specs.Named.{PricedRow, priced_at, priced_by}
-
--- the branch row of a row, and that of its outage
-abbrev pub name_of : RowId → ℕ × ℕ
-name_of row = (row.branch, row.outage)
 
 -- a dual with the name of its row
 abbrev pub entry_of : {N : Type 0} → Dual N → (ℕ × ℕ) × Dual N
 entry_of e = (name_of e.row, e)
 
-abbrev pub same_pair : ℕ × ℕ → ℕ × ℕ → Bool
-same_pair p q = (p.0 == q.0) && (p.1 == q.1)
-
--- the row of a line under a cause, where it has one there
-abbrev pub rows_at : Parts → Cause → ℕ → List Row
-rows_at m cause line = if bears m cause line then record { line = line; cause = cause } ∷ [] else []
+-- the rows that some lines have under a cause; those of all lines are `rows_of`
+abbrev pub rows_among : Parts → Cause → List ℕ → List Row
+rows_among m cause lines = map (λ l. record { line = l; cause = cause }) (filter (bears m cause) lines)
 
 -- a row with its prices, where duals name it
 abbrev pub IsNamedAt : {N : Type 0} → (N → Fraction) → Parts → Duals Fraction → Row → Option (NamedRow N) → Type 0

@@ -1,6 +1,6 @@
 -- The reasons that there may be against a certificate of a market, and the first of them.
 -- Source: own, of what is feasible, what duals support and what shows a market infeasible.
-use Rattle.std.specs.Prelude.{ℕ, ◌+◌, ◌==◌, ◌&&◌, ◌||◌, ◌*ℤ◌, pos, int_lt, Bool, not, List, [], ◌∷◌, length, Option, Some, None, option_map, if◌then◌else◌}
+use Rattle.std.specs.Prelude.{◌≡◌, ℕ, ◌+◌, ◌==◌, ◌&&◌, ◌||◌, ◌*ℤ◌, pos, int_lt, Bool, not, List, [], ◌∷◌, ◌++◌, length, Option, Some, None, option_map, if◌then◌else◌}
 use Rattle.std.specs.List.{find, list_any}
 use Rattle.std.specs.Option.{option_or}
 use Rattle.fraction_theory.specs.Fraction.{Fraction, neg_ℚ}
@@ -60,8 +60,9 @@ breaks_support side price worth quantity mw = (gains side price worth && differ 
 abbrev pub has_no_row : Parts → Dual Fraction → Bool
 has_no_row m e = not (list_any (has_name m e.row) (rows m))
 
-abbrev pub is_broken : Parts → Dispatch → Row → Bool
-is_broken m x r = passes (flow m x r) (most_flow m r)
+-- the flow of a row passes the most that it may be
+abbrev pub is_overloaded : Parts → Dispatch → Row → Bool
+is_overloaded m x r = passes (flow m x r) (most_flow m r)
 
 abbrev pub has_slack : Parts → Dispatch → Dual Fraction → Bool
 has_slack m x e = list_any (λ r. has_name m e.row r && prices_slack e (flow m x r) (limit m r)) (rows m)
@@ -98,7 +99,7 @@ balance_reason m x = where_so (differ (balance m x) zero) reason.Balance
 
 -- over all rows of the market
 abbrev pub limit_reason : Parts → Dispatch → Option Reason
-limit_reason m x = of_first (λ r. reason.Limit (row_id m r)) (is_broken m x) (rows m)
+limit_reason m x = of_first (λ r. reason.Limit (row_id m r)) (is_overloaded m x) (rows m)
 
 abbrev pub slack_reason : Parts → Dispatch → List (Dual Fraction) → Option Reason
 slack_reason m x ds = of_first (λ e. reason.Slack e.row) (has_slack m x) ds
@@ -114,22 +115,29 @@ abbrev pub first_of : List (Option Reason) → Option Reason
 first_of [] = None
 first_of (o ∷ os) = option_or o (first_of os)
 
+-- there is none
+abbrev pub NoneOf : List (Option Reason) → Type 0
+NoneOf reasons = first_of reasons ≡ None
+
+-- against what duals name, with their signs
+abbrev pub dual_reasons : Parts → List (Dual Fraction) → List (Option Reason)
+dual_reasons m ds = row_reason m ds ∷ sign_reason ds ∷ []
+
+-- against the parts of a dispatch and duals, before anything is added up
+abbrev pub part_reasons : Parts → Dispatch → List (Dual Fraction) → List (Option Reason)
+part_reasons m x ds = count_reason m x ∷ (dual_reasons m ds ++ block_reason m x ∷ [])
+
+-- against its flows
+abbrev pub flow_reasons : Parts → Dispatch → List (Dual Fraction) → List (Option Reason)
+flow_reasons m x ds = balance_reason m x ∷ limit_reason m x ∷ slack_reason m x ds ∷ []
+
 -- against a dispatch and duals that support it
 abbrev pub optimal_reasons : Parts → Dispatch → Duals Fraction → List (Option Reason)
-optimal_reasons m x d =
-    count_reason m x
-    ∷ row_reason m d.limits
-    ∷ sign_reason d.limits
-    ∷ block_reason m x
-    ∷ balance_reason m x
-    ∷ limit_reason m x
-    ∷ slack_reason m x d.limits
-    ∷ support_reason m x d
-    ∷ []
+optimal_reasons m x d = part_reasons m x d.limits ++ flow_reasons m x d.limits ++ support_reason m x d ∷ []
 
 -- against duals that show that nothing is feasible
 abbrev pub farkas_reasons : Parts → Duals Fraction → List (Option Reason)
-farkas_reasons m d = row_reason m d.limits ∷ sign_reason d.limits ∷ bound_reason m d ∷ []
+farkas_reasons m d = dual_reasons m d.limits ++ bound_reason m d ∷ []
 
 -- yes where there is no reason against
 abbrev pub verdict_of : Option Reason → Verdict

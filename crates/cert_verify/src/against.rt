@@ -1,18 +1,18 @@
 //! The first reason against a certificate of either kind, in the order in which reasons are told.
 
-ghost use Rattle.std.specs.Prelude.{◌≡◌, ℕ, ◌<◌, ◌∷◌, [], length, map, not, IfOk, IfErr};
+ghost use Rattle.std.specs.Prelude.{◌≡◌, length, map, not, IfOk, IfErr};
 ghost use Rattle.fraction_theory.specs.Fraction.{Fraction};
-ghost use Rattle.market_model.specs.declared.answered.Duals.{Duals};
 ghost use Rattle.market_model.specs.Dispatch.{places, zero};
 ghost use Rattle.market_model.specs.Optimality.{bus_price};
 ghost use Rattle.market_model.specs.Valued.{dual_at};
 ghost use Rattle.cert_format.specs.Certificates.{NamesNoRowTwice};
-ghost use Rattle.cert_sums.specs.Pairs.{IsFarkasPair, IsOptimalPair};
-ghost use Rattle.cert_sums.specs.Refusals.{IsPriceRefusal, OnPassed};
+ghost use Rattle.cert_sums.specs.Pairs.{IsFarkasPair};
+ghost use Rattle.cert_sums.specs.Refusals.{OnPassed};
 ghost use Rattle.market_model.specs.PutIn.{dispatch_of};
 ghost use Rattle.cert_verify.specs.Certificates.{named_duals};
 ghost use Rattle.cert_verify.specs.declared.verdicts.Reason.TheVariants as reason;
-ghost use Rattle.cert_verify.specs.Reasons.{balance_reason, block_reason, bound_reason, count_reason, farkas_reasons, first_of, is_below, limit_reason, optimal_reasons, row_reason, sign_reason, slack_reason, support_reason, where_so};
+ghost use Rattle.cert_verify.specs.Reasons.{NoneOf, bound_reason, farkas_reasons, first_of, flow_reasons, is_below, optimal_reasons, part_reasons, support_reason, where_so};
+ghost use Rattle.cert_verify.specs.Stops.{IsBusPriceRefusal, IsFarkasStop, IsOptimalStop};
 
 use crate::blocks::{other_count, outside_block, unsupported_block};
 use crate::comparing::{differ, is_negative};
@@ -27,7 +27,7 @@ use std::alloc::Global;
 
 /// What may be wrong with the parts of a certificate before any sum is made of them.
 fn wrong_part<N: Exact>(market: &Market, blocks: &[N], limits: &[Dual<N>]) -> Option<Reason>
-    ensures { result ≡ first_of (count_reason market.now (dispatch_of N.value blocks.now) ∷ row_reason market.now (map (dual_at N.value) limits.now) ∷ sign_reason (map (dual_at N.value) limits.now) ∷ block_reason market.now (dispatch_of N.value blocks.now) ∷ []) }
+    ensures { result ≡ first_of (part_reasons market.now (dispatch_of N.value blocks.now) (map (dual_at N.value) limits.now)) }
 {
     if let Some(reason) = other_count(market, blocks) {
         return Some(reason);
@@ -49,8 +49,8 @@ fn wrong_flow<N: Exact>(
     limits: &[Dual<N>],
 ) -> Result<Option<Reason>, VerifyStop<N>>
     requires { length blocks.now ≡ length market.now.blocks }
-    ensures first { IfOk result (λ first. first ≡ first_of (balance_reason market.now (dispatch_of N.value blocks.now) ∷ limit_reason market.now (dispatch_of N.value blocks.now) ∷ slack_reason market.now (dispatch_of N.value blocks.now) (map (dual_at N.value) limits.now) ∷ [])) }
-    ensures cause { (d : Duals Fraction) → IfErr result (OnPassed N.value (IsOptimalPair market.now (dispatch_of N.value blocks.now) d N.bound)) }
+    ensures first { IfOk result (λ first. first ≡ first_of (flow_reasons market.now (dispatch_of N.value blocks.now) (map (dual_at N.value) limits.now))) }
+    ensures cause { (energy : Fraction) → NoneOf (part_reasons market.now (dispatch_of N.value blocks.now) (map (dual_at N.value) limits.now)) → IfErr result (OnPassed N.value (IsOptimalStop market.now (dispatch_of N.value blocks.now) (named_duals energy (map (dual_at N.value) limits.now)) N.bound)) }
 {
     let by_bus = injections(alloc, market, blocks)?;
     if differ(balance(market, &by_bus)?, datum(0)) {
@@ -72,7 +72,7 @@ fn bus_prices<N: Exact>(
 ) -> Result<List<N>, VerifyStop<N>>
     requires { NamesNoRowTwice (map (dual_at N.value) limits.now) }
     ensures prices { IfOk result (λ prices. map N.value prices ≡ map (bus_price market.now (named_duals (N.value energy) (map (dual_at N.value) limits.now))) (places (length market.now.buses))) }
-    ensures cause { IfErr result (OnPassed N.value (λ p. (bus : ℕ) × (bus < length market.now.buses) × IsPriceRefusal market.now (named_duals (N.value energy) (map (dual_at N.value) limits.now)) bus N.bound p)) }
+    ensures cause { IfErr result (OnPassed N.value (IsBusPriceRefusal market.now (named_duals (N.value energy) (map (dual_at N.value) limits.now)) N.bound)) }
 {
     let named = match named_rows(alloc, market, limits) {
         Ok(named) => named,
@@ -99,7 +99,7 @@ fn wrong_support<N: Exact>(
     requires blocks { length blocks.now ≡ length market.now.blocks }
     requires distinct { NamesNoRowTwice (map (dual_at N.value) limits.now) }
     ensures first { IfOk result (λ first. first ≡ support_reason market.now (dispatch_of N.value blocks.now) (named_duals (N.value energy) (map (dual_at N.value) limits.now))) }
-    ensures cause { IfErr result (OnPassed N.value (IsOptimalPair market.now (dispatch_of N.value blocks.now) (named_duals (N.value energy) (map (dual_at N.value) limits.now)) N.bound)) }
+    ensures cause { IfErr result (OnPassed N.value (IsBusPriceRefusal market.now (named_duals (N.value energy) (map (dual_at N.value) limits.now)) N.bound)) }
 {
     let prices = bus_prices(alloc, market, energy, limits)?;
     Ok(unsupported_block(market, blocks, prices.slice()))
@@ -115,7 +115,7 @@ pub(crate) fn against_optimal<N: Exact>(
 ) -> Result<Option<Reason>, VerifyStop<N>>
     requires { NamesNoRowTwice (map (dual_at N.value) limits.now) }
     ensures first { IfOk result (λ first. first ≡ first_of (optimal_reasons market.now (dispatch_of N.value blocks.now) (named_duals (N.value energy) (map (dual_at N.value) limits.now)))) }
-    ensures cause { IfErr result (OnPassed N.value (IsOptimalPair market.now (dispatch_of N.value blocks.now) (named_duals (N.value energy) (map (dual_at N.value) limits.now)) N.bound)) }
+    ensures cause { IfErr result (OnPassed N.value (IsOptimalStop market.now (dispatch_of N.value blocks.now) (named_duals (N.value energy) (map (dual_at N.value) limits.now)) N.bound)) }
 {
     if let Some(reason) = wrong_part(market, blocks, limits) {
         return Ok(Some(reason));
@@ -165,7 +165,7 @@ pub(crate) fn against_farkas<N: Exact>(
 ) -> Result<Option<Reason>, VerifyStop<N>>
     requires { NamesNoRowTwice (map (dual_at N.value) limits.now) }
     ensures first { IfOk result (λ first. first ≡ first_of (farkas_reasons market.now (named_duals (N.value energy) (map (dual_at N.value) limits.now)))) }
-    ensures cause { IfErr result (OnPassed N.value (IsFarkasPair market.now (named_duals (N.value energy) (map (dual_at N.value) limits.now)) N.bound)) }
+    ensures cause { IfErr result (OnPassed N.value (IsFarkasStop market.now (named_duals (N.value energy) (map (dual_at N.value) limits.now)) N.bound)) }
 {
     if let Some(reason) = missing_row(market, limits) {
         return Ok(Some(reason));

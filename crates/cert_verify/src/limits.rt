@@ -1,18 +1,16 @@
 //! The first limit of the market that a dispatch breaks, among all of them.
 
-ghost use Rattle.std.specs.Prelude.{◌≡◌, ◌<◌, length, map, Contains, IfOk, IfErr, IfSome};
-ghost use Rattle.fraction_theory.specs.Fraction.{Fraction};
-ghost use Rattle.market_model.specs.declared.answered.Duals.{Duals};
+ghost use Rattle.std.specs.Prelude.{◌≡◌, ◌<◌, ◌∷◌, [], length, map, Contains, IfOk, IfErr, IfSome};
 ghost use Rattle.market_model.specs.Dispatch.{Dispatch, injection};
 ghost use Rattle.market_model.specs.declared.limits.Row.{Row};
 ghost use Rattle.market_model.specs.LimitRows.{IsCauseAmong, row_id, causes, rows_of, flow_terms, line_flow};
 ghost use Rattle.market_model.specs.NamedSums.{IsRefusedIn};
 ghost use Rattle.market_model.specs.Valued.{passed_at};
-ghost use Rattle.cert_sums.specs.Pairs.{IsOptimalPair};
 ghost use Rattle.limit_rows.specs.LineFlows.{AreFlows};
 ghost use Rattle.cert_verify.specs.declared.verdicts.Reason.TheVariants as reason;
-ghost use Rattle.cert_verify.specs.Naming.{rows_at};
-ghost use Rattle.cert_verify.specs.Reasons.{is_broken, limit_reason, of_first};
+ghost use Rattle.cert_verify.specs.Naming.{rows_among};
+ghost use Rattle.cert_verify.specs.Reasons.{is_overloaded, limit_reason, of_first};
+ghost use Rattle.cert_verify.specs.Stops.{IsFlowRefusal};
 
 use crate::Reason;
 use crate::comparing::passes;
@@ -21,11 +19,11 @@ use limit_rows::{cause_at, cause_count, has_row, limit_at, name_at, row_flow};
 use market_model::{Cause, Market, Row, datum};
 
 /// Whether the flow of a row passes its limit. Flows are by line.
-fn is_broken<N: Exact>(market: &Market, flows: &[N], row: Row) -> Result<bool, Passed<N>>
+fn is_overloaded<N: Exact>(market: &Market, flows: &[N], row: Row) -> Result<bool, Passed<N>>
     requires flows { length flows.now ≡ length market.now.lines }
     requires line { row.line < length market.now.lines }
     requires lost { IsCauseAmong (length market.now.lines) row.cause }
-    ensures broken { (x : Dispatch) → AreFlows market.now x (map N.value flows.now) → IfOk result (λ broken. broken ≡ is_broken market.now x row) }
+    ensures broken { (x : Dispatch) → AreFlows market.now x (map N.value flows.now) → IfOk result (λ broken. broken ≡ is_overloaded market.now x row) }
     ensures cause { (x : Dispatch) → AreFlows market.now x (map N.value flows.now) → IfErr result (λ passed. IsRefusedIn (flow_terms market.now (line_flow market.now (injection market.now x)) row) N.bound (passed_at N.value passed)) }
 {
     let flow = row_flow(market, flows, row)?;
@@ -42,13 +40,13 @@ fn broken_at<N: Exact>(
     requires flows { length flows.now ≡ length market.now.lines }
     requires cause { Contains (causes market.now) cause }
     requires line { line < length market.now.lines }
-    ensures first { (x : Dispatch) → AreFlows market.now x (map N.value flows.now) → IfOk result (λ first. first ≡ of_first (λ (r : Row). reason.Limit (row_id market.now r)) (is_broken market.now x) (rows_at market.now cause line)) }
-    ensures cause { (x : Dispatch) (d : Duals Fraction) → AreFlows market.now x (map N.value flows.now) → IfErr result (λ passed. IsOptimalPair market.now x d N.bound (passed_at N.value passed)) }
+    ensures first { (x : Dispatch) → AreFlows market.now x (map N.value flows.now) → IfOk result (λ first. first ≡ of_first (λ (r : Row). reason.Limit (row_id market.now r)) (is_overloaded market.now x) (rows_among market.now cause (line ∷ []))) }
+    ensures cause { (x : Dispatch) → AreFlows market.now x (map N.value flows.now) → IfErr result (λ passed. IsFlowRefusal market.now x N.bound (passed_at N.value passed)) }
 {
     let _lines = market.lines();
     if has_row(market, cause, line) {
         let row = Row { line, cause };
-        let broken = is_broken(market, flows, row)?;
+        let broken = is_overloaded(market, flows, row)?;
         if broken {
             Ok(Some(Reason::Limit {
                 row: name_at(market, row),
@@ -69,8 +67,8 @@ fn broken_under<N: Exact>(
 ) -> Result<Option<Reason>, Passed<N>>
     requires flows { length flows.now ≡ length market.now.lines }
     requires cause { Contains (causes market.now) cause }
-    ensures first { (x : Dispatch) → AreFlows market.now x (map N.value flows.now) → IfOk result (λ first. first ≡ of_first (λ (r : Row). reason.Limit (row_id market.now r)) (is_broken market.now x) (rows_of market.now cause)) }
-    ensures cause { (x : Dispatch) (d : Duals Fraction) → AreFlows market.now x (map N.value flows.now) → IfErr result (λ passed. IsOptimalPair market.now x d N.bound (passed_at N.value passed)) }
+    ensures first { (x : Dispatch) → AreFlows market.now x (map N.value flows.now) → IfOk result (λ first. first ≡ of_first (λ (r : Row). reason.Limit (row_id market.now r)) (is_overloaded market.now x) (rows_of market.now cause)) }
+    ensures cause { (x : Dispatch) → AreFlows market.now x (map N.value flows.now) → IfErr result (λ passed. IsFlowRefusal market.now x N.bound (passed_at N.value passed)) }
 {
     for line in 0..market.lines().len() {
         let broken = broken_at(market, flows, cause, line)?;
@@ -88,7 +86,7 @@ pub(crate) fn broken_limit<N: Exact>(
 ) -> Result<Option<Reason>, Passed<N>>
     requires { length flows.now ≡ length market.now.lines }
     ensures first { (x : Dispatch) → AreFlows market.now x (map N.value flows.now) → IfOk result (λ first. first ≡ limit_reason market.now x) }
-    ensures cause { (x : Dispatch) (d : Duals Fraction) → AreFlows market.now x (map N.value flows.now) → IfErr result (λ passed. IsOptimalPair market.now x d N.bound (passed_at N.value passed)) }
+    ensures cause { (x : Dispatch) → AreFlows market.now x (map N.value flows.now) → IfErr result (λ passed. IsFlowRefusal market.now x N.bound (passed_at N.value passed)) }
 {
     for place in 0..cause_count(market) {
         let broken = broken_under(market, flows, cause_at(market, place))?;

@@ -5,10 +5,10 @@ ghost use Rattle.std.specs.Map.{lookup};
 ghost use Rattle.fraction_theory.specs.Fraction.{Fraction};
 ghost use Rattle.market_model.specs.Valued.{dual_at};
 ghost use Rattle.market_model.specs.LimitRows.{IsCauseAmong, causes, rows_of};
-ghost use Rattle.cert_format.specs.Certificates.{NamesNoRowTwice};
+ghost use Rattle.cert_format.specs.Certificates.{NamesNoRowTwice, name_of, same_pair};
 ghost use Rattle.cert_sums.specs.Named.{AreNamed, priced_at};
 ghost use Rattle.cert_verify.specs.Certificates.{named_duals};
-ghost use Rattle.cert_verify.specs.Naming.{IsNamedAt, entry_of, name_of, prices_of, rows_at, same_pair};
+ghost use Rattle.cert_verify.specs.Naming.{IsNamedAt, entry_of, prices_of, rows_among};
 
 use cert_sums::NamedRow;
 use exact_fraction::Exact;
@@ -84,7 +84,7 @@ fn push_row<N: Exact>(
 ) -> Result<(), Memory>
     requires cause { Contains (causes market.now) cause }
     requires line { line < length market.now.lines }
-    ensures { (ds : List (Dual N)) (energy : Fraction) → duals.now.entries ≡ map entry_of ds → IfOk result (λ _. map (priced_at N.value) named.new ≡ map (priced_at N.value) named.old ++ prices_of market.now (named_duals energy (map (dual_at N.value) ds)) (rows_at market.now cause line)) }
+    ensures { (ds : List (Dual N)) (energy : Fraction) → duals.now.entries ≡ map entry_of ds → IfOk result (λ _. map (priced_at N.value) named.new ≡ map (priced_at N.value) named.old ++ prices_of market.now (named_duals energy (map (dual_at N.value) ds)) (rows_among market.now cause (line ∷ []))) }
 {
     let _lines = market.lines();
     if has_row(market, cause, line) {

@@ -2,8 +2,9 @@
 
 ghost use Rattle.std.specs.Prelude.{◌≡◌, IfOk, IfErr};
 ghost use Rattle.cert_format.specs.Certificates.{RowsAreDistinct, cert_at};
-ghost use Rattle.cert_verify.specs.Certificates.{IsVerifyStop, first_reason};
+ghost use Rattle.cert_verify.specs.Certificates.{first_reason};
 ghost use Rattle.cert_verify.specs.Reasons.{verdict_of};
+ghost use Rattle.cert_verify.specs.Stops.{IsVerifyStop};
 
 use crate::against::{against_farkas, against_optimal};
 use crate::{Reason, Verdict, VerifyStop};
@@ -27,7 +28,8 @@ fn told(reason: Option<Reason>) -> Verdict
 /// kind. No row is named twice.
 ///
 /// The first reason against it is told, in the order of [`Reason`]. Rows of the certificate are gone through in its own order, limits in
-/// that of the market, and blocks in theirs. The definitions are the market's own: nothing of a way to a best dispatch is looked at.
+/// that of the market, and blocks in theirs. So numbers are too large only where no reason holds that comes before their sum. The
+/// definitions are the market's own: nothing of a way to a best dispatch is looked at.
 pub fn verify<N: Exact>(
     alloc: Global,
     market: &Market,

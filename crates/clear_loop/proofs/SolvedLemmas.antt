@@ -1,47 +1,48 @@
 -- What is refused at a dispatch that solves the market over rows in hand is a working pair of the market over these rows.
 use Rattle.std.specs.Prelude.{◌≡◌, ◌⊎◌, ℕ, ◌<◌, ◌||◌, pos, Bool, true, false, List, [], ◌∷◌, ◌++◌, length, if◌then◌else◌, Some, None, Contains, refl}
-use Rattle.std.proofs.Common.{inl, inr, ap, ap₂, sym, subst, ◌∙◌}
+use Rattle.std.proofs.Common.{zero, suc, arith, inl, inr, ap, ap₂, sym, subst, ◌∙◌}
 use Rattle.fraction_theory.specs.Fraction.{Fraction, whole, neg_ℚ}
 use Rattle.fraction_theory.specs.Order.{◌<ℚ◌}
 use Rattle.fraction_theory.specs.Signs.{sign_of}
-use Rattle.fraction_theory.specs.Sums.{Term, Product}
+use Rattle.fraction_theory.specs.Sums.{Term, Plain, Product}
+use Rattle.fraction_theory.proofs.FieldLaws.{+ℚ_nil}
 use Rattle.fraction_theory.proofs.ListSums.{Contains-head, Contains-cons, Contains-from_filter}
 use Rattle.fraction_theory.proofs.OrderLaws.{<ℚ_irrefl}
 use Rattle.exact_fraction.specs.declared.Passed.{Passed}
-use Rattle.exact_fraction.specs.declared.Op.TheVariants.{Plus, Minus}
+use Rattle.exact_fraction.specs.declared.Op.{Op}
+use Rattle.exact_fraction.specs.declared.Op.TheVariants.{Plus, Minus, Times}
 use Rattle.linear_system.specs.Choices.{Choice, reduced}
-use Rattle.linear_system.specs.Numbers.{Quantity, Price}
+use Rattle.linear_system.specs.Numbers.{Kind, Quantity, Price}
 use Rattle.market_model.specs.declared.answered.Dual.{Dual}
 use Rattle.market_model.specs.declared.answered.Duals.{Duals}
 use Rattle.market_model.specs.declared.answered.RowId.{RowId}
 use Rattle.market_model.specs.declared.participants.Parts.{Parts}
-use Rattle.market_model.specs.Dispatch.{Dispatch, bus_at, unit_at, output, demand, injection, output_terms}
+use Rattle.market_model.specs.Dispatch.{Dispatch, bus_at, unit_at, output, demand, injection, output_terms, balance_terms}
 use Rattle.market_model.specs.Overrun.{size_of}
 use Rattle.market_model.specs.declared.limits.Row.{Row}
 use Rattle.market_model.specs.LimitRows.{rows, row_id, limit, line_flow, flow, flow_terms, offset_terms, row_offset}
 use Rattle.market_model.specs.Market.{IsMarket}
-use Rattle.market_model.specs.NamedSums.{SameSize, IsRefusedIn, IsRefusal}
-use Rattle.market_model.specs.SumTables.{FlowSum, carried, flow_of_row, congestion_at, MoneySum, welfare_of_all, surplus_of_all, rent_of_row}
-use Rattle.market_model.specs.Optimality.{Feasible, Supports, IsOneSided, ProperDuals, named_rows, names_row, same_id, up_in, down_in, bus_price, unit_price, congestion, congestion_terms, welfare_terms}
+use Rattle.market_model.specs.NamedSums.{SameSize, term_at, IsNextTerm, IsSumStep, IsRefusedIn, IsRefusal}
+use Rattle.market_model.specs.SumTables.{IsRefusedAmong, FlowSum, carried, balance_of_all, flow_of_row, PriceSum, PaymentSum, left_of_all, rent_of_row, MoneySum, welfare_of_all, payment_at_duals, PaidRowSum, flow_after_outage, offset_of_row, upper_of_row, lower_of_row, SettledSum, output_of_unit, demand_of_bus, payment, paid_row}
+use Rattle.market_model.specs.Optimality.{Feasible, Supports, IsOneSided, ProperDuals, named_rows, names_row, same_id, up_in, down_in, bus_price, unit_price, welfare_terms}
 use Rattle.market_model.specs.Settlement.{left_terms, rent_terms, surplus_terms}
 use Rattle.market_system.specs.Growth.{BestFor}
-use Rattle.market_system.specs.MarketNumbers.{IsRightChoice, IsInjecting, of_flow, output_of, of_price, of_money, offset_of, MarketNumber, is_load, is_shunt, is_limit, is_energy, of_opposite}
+use Rattle.market_system.specs.MarketNumbers.{IsRightChoice, IsInjecting, of_flow, output_of, of_price, of_money, offset_of, MarketNumber, is_load, is_shunt, is_limit, of_opposite, of_sum}
 use Rattle.market_system.specs.MarketSystem.{system_of, balance_name, row_name, is_in, choice_dispatch, choice_duals}
 use Rattle.market_system.specs.Outcomes.{PricesOnly}
 use Rattle.market_system.specs.PairLaw.{RefusalsArePairs}
 use Rattle.market_system.specs.WorkingPairs.{IsRangeOf}
 use Rattle.market_system.proofs.DualLists.{up-made, down-made}
 use Rattle.market_system.proofs.GrowthLaws.{growth_none}
-use Rattle.market_system.proofs.PairCases.{law_of_the_pairs, row_flow_number, row_offset_number, congestion_number}
+use Rattle.market_system.proofs.PairCases.{law_of_the_pairs, row_flow_number, row_offset_number}
 use Rattle.market_system.proofs.RowOrder.{is_in-in, is_in-from}
 use Rattle.limit_rows.proofs.ApartLemmas.{names_apart}
 use Rattle.limit_screen.proofs.ScreenLemmas.{row_terms}
 use Rattle.limit_screen.specs.Flows.{flows_at, line_in, IsFlowsRefusal}
 use Rattle.limit_screen.specs.Screening.{IsOverrunRefusal, IsScreenRefusal, of_flow as row_of_flow, of_limit as row_of_limit}
 use Rattle.market_model.proofs.PlaceLists.{map_same}
-use Rattle.bus_prices.specs.Prices.{IsPriceRefusal, of_congestion, of_total}
 use Rattle.settlement.specs.Paying.{ArePricesOf}
-use Rattle.settlement.specs.Refusals.{IsMoneyRefusal, of_output, of_demand, of_money as of_money_left, of_row_flow, of_offset, of_limit_less, of_limit_more, of_rent}
+use Rattle.settlement.specs.Refusals.{IsMoneyRefusal}
 use Rattle.market_dict.specs.Findings.{IsSolvedBy}
 use Rattle.clear_loop.proofs.BrokenLemmas.{row_is, sized_by}
 
@@ -117,6 +118,32 @@ module _ (m : Parts) (g : List Row) (x : Dispatch) (d : Duals Fraction) (market 
     injecting : IsInjecting m g solved.choice x
     injecting = inr (solved.dispatch, best_for)
 
+    -- an operation that adds up two numbers of one kind is one on such numbers, up to sign; before the first stands 0
+    two_terms : (kind : Kind) (a b : Fraction) → MarketNumber m g solved.choice kind (whole (pos 0)) → MarketNumber m g solved.choice kind a → MarketNumber m g solved.choice kind b
+        → IsRefusedIn (Plain a ∷ Plain b ∷ []) bound p → IsRangeOf m g bound p
+    two_terms kind a b none first second h = by p.op refl h.step
+      where
+        of_size : (x y : Fraction) → SameSize x y → MarketNumber m g solved.choice kind y → MarketNumber m g solved.choice kind x
+        of_size x y (inl e) n = subst (MarketNumber m g solved.choice kind) (sym e) n
+        of_size x y (inr e) n = subst (MarketNumber m g solved.choice kind) (sym e) (of_opposite kind y n)
+
+        sides : (op : Op) (k : ℕ) → IsNextTerm (Plain a ∷ Plain b ∷ []) op p.left p.right k → MarketNumber m g solved.choice kind p.left × MarketNumber m g solved.choice kind p.right
+        sides op zero next = (of_size p.left (whole (pos 0)) next.before none, of_size p.right a next.next first)
+        sides op (suc zero) next = (of_size p.left a (subst (SameSize p.left) (+ℚ_nil a) next.before) first, of_size p.right b next.next second)
+        sides op (suc (suc k)) next = absurd (Prim.omega (arith, next.inside))
+
+        no_product : (k : ℕ) (x y : Fraction) → term_at (Plain a ∷ Plain b ∷ []) k ≡ Product x y → ⊥
+        no_product zero x y e = absurd Prim.cc
+        no_product (suc zero) x y e = absurd Prim.cc
+        no_product (suc (suc k)) x y e = absurd Prim.cc
+
+        by : (op : Op) → p.op ≡ op → IsSumStep (Plain a ∷ Plain b ∷ []) op p.left p.right → IsRangeOf m g bound p
+        by Plus e (k, next) =
+            let n = sides Plus k next in pairs.two kind p.left p.right n.0 n.1 (inl (record { same_op = e; same_left = refl; same_right = refl; passes = h.passes }))
+        by Minus e (k, next) =
+            let n = sides Minus k next in pairs.two kind p.left p.right n.0 n.1 (inr (record { same_op = e; same_left = refl; same_right = refl; passes = h.passes }))
+        by Times e (k, x, y, factors) = absurd (no_product k x y factors.product)
+
     -- injections and flows
     flow_sum : (terms : List Term) → FlowSum m x terms → IsRefusedIn terms bound p → IsRangeOf m g bound p
     flow_sum terms sum a = pairs.sum (Some Quantity) terms (of_flow x terms injecting sum) a
@@ -147,14 +174,8 @@ module _ (m : Parts) (g : List Row) (x : Dispatch) (d : Duals Fraction) (market 
       best : IsRightChoice m g solved.choice
       best = record { feasible = subst (Feasible m) solved.dispatch feasible; supported = solved.answers.supported }
 
-      pub price_range : IsPriceRefusal m d bound p → IsRangeOf m g bound p
-      price_range (of_congestion i lt a) =
-          let terms = congestion_terms m (choice_duals m g solved.choice) i in
-          pairs.sum (Some Price) terms (of_price terms best (congestion_at i lt)) (subst (λ e. IsRefusedIn (congestion_terms m e i) bound p) solved.duals a)
-      price_range (of_total i lt a) =
-          pairs.two Price (choice_duals m g solved.choice).energy (congestion m (choice_duals m g solved.choice) i) is_energy
-          (congestion_number m g g (growth_none m g) solved.choice solved.is_choice bound p best i lt)
-          (inl (subst (λ (e : Duals Fraction). IsRefusal Plus e.energy (congestion m e i) bound p) solved.duals a))
+      pub price_range : IsRefusedAmong (PriceSum m d) bound p → IsRangeOf m g bound p
+      price_range (terms, sum, a) = pairs.sum (Some Price) terms (of_price terms best (subst (λ (e : Duals Fraction). PriceSum m e terms) solved.duals sum)) a
 
       money : (terms : List Term) → MoneySum m g (choice_dispatch m g solved.choice) (choice_duals m g solved.choice) terms → IsRefusedIn terms bound p → IsRangeOf m g bound p
       money terms sum a = pairs.sum None terms (of_money terms best sum) a
@@ -179,20 +200,31 @@ module _ (m : Parts) (g : List Row) (x : Dispatch) (d : Duals Fraction) (market 
         offset_number : (r : Row) → Contains (rows m) r → MarketNumber m g solved.choice Quantity (row_offset m r)
         offset_number r c = row_offset_number m g g (growth_none m g) solved.choice solved.is_choice bound p r c
 
-        pub money_range : IsMoneyRefusal m x price d bound p → IsRangeOf m g bound p
-        money_range (of_output u lt a) =
-            let terms = output_terms m (choice_dispatch m g solved.choice) u in
-            pairs.sum (Some Quantity) terms (output_of u best lt) (subst (λ y. IsRefusedIn (output_terms m y u) bound p) solved.dispatch a)
-        money_range (of_demand i lt a) = pairs.two Quantity (whole (bus_at m i).pd) (whole (bus_at m i).gs) (is_load i lt) (is_shunt i lt) (inl a)
-        money_range (of_money_left a) =
-            money (surplus_terms m (choice_dispatch m g solved.choice) (choice_duals m g solved.choice)) surplus_of_all
+        none : MarketNumber m g solved.choice Quantity (whole (pos 0))
+        none = of_sum Quantity (balance_terms m x) 0 (of_flow x (balance_terms m x) injecting balance_of_all)
+
+        payment_range : (terms : List Term) → PaymentSum m (named_rows m d) x price d terms → IsRefusedIn terms bound p → IsRangeOf m g bound p
+        payment_range terms left_of_all a =
+            money (surplus_terms m (choice_dispatch m g solved.choice) (choice_duals m g solved.choice)) (payment_at_duals _ left_of_all)
             (subst (λ y. IsRefusedIn (surplus_terms m y (choice_duals m g solved.choice)) bound p) solved.dispatch
             (subst (λ e. IsRefusedIn (surplus_terms m x e) bound p) solved.duals (subst (λ ts. IsRefusedIn ts bound p) left_is a)))
-        money_range (of_row_flow r c after a) = flow_sum (flow_terms m (line_flow m (injection m x)) r) (flow_of_row r (named r c).0) a
-        money_range (of_offset r c a) = pairs.sum (Some Quantity) (offset_terms m r) (offset_of r (named r c).0) a
-        money_range (of_limit_less r c a) = pairs.two Quantity (limit m r) (row_offset m r) (is_limit r (named r c).0) (offset_number r (named r c).0) (inr a)
-        money_range (of_limit_more r c a) = pairs.two Quantity (limit m r) (row_offset m r) (is_limit r (named r c).0) (offset_number r (named r c).0) (inl a)
-        money_range (of_rent r c a) =
-            money (rent_terms m (choice_dispatch m g solved.choice) (choice_duals m g solved.choice) r) (rent_of_row r (named r c).1)
+        payment_range terms (rent_of_row r c) a =
+            money (rent_terms m (choice_dispatch m g solved.choice) (choice_duals m g solved.choice) r) (payment_at_duals _ (rent_of_row r (named r c).1))
             (subst (λ y. IsRefusedIn (rent_terms m y (choice_duals m g solved.choice) r) bound p) solved.dispatch
             (subst (λ e. IsRefusedIn (rent_terms m x e r) bound p) solved.duals a))
+
+        paid_row_range : (r : Row) (terms : List Term) → Contains (rows m) r → PaidRowSum m (line_flow m (injection m x)) r terms → IsRefusedIn terms bound p → IsRangeOf m g bound p
+        paid_row_range r terms c (flow_after_outage after) a = flow_sum terms (flow_of_row r c) a
+        paid_row_range r terms c offset_of_row a = pairs.sum (Some Quantity) terms (offset_of r c) a
+        paid_row_range r terms c upper_of_row a = two_terms Quantity (limit m r) (neg_ℚ (row_offset m r)) none (is_limit r c) (of_opposite Quantity (row_offset m r) (offset_number r c)) a
+        paid_row_range r terms c lower_of_row a = two_terms Quantity (limit m r) (row_offset m r) none (is_limit r c) (offset_number r c) a
+
+        settled_range : (terms : List Term) → SettledSum m x price d terms → IsRefusedIn terms bound p → IsRangeOf m g bound p
+        settled_range terms (output_of_unit u lt) a =
+            pairs.sum (Some Quantity) (output_terms m (choice_dispatch m g solved.choice) u) (output_of u best lt) (subst (λ y. IsRefusedIn (output_terms m y u) bound p) solved.dispatch a)
+        settled_range terms (demand_of_bus i lt) a = two_terms Quantity (whole (bus_at m i).pd) (whole (bus_at m i).gs) none (is_load i lt) (is_shunt i lt) a
+        settled_range terms (payment _ sum) a = payment_range terms sum a
+        settled_range terms (paid_row r _ c sum) a = paid_row_range r terms (named r c).0 sum a
+
+        pub money_range : IsMoneyRefusal m x price d bound p → IsRangeOf m g bound p
+        money_range (terms, sum, a) = settled_range terms sum a

@@ -16,12 +16,12 @@ use Rattle.market_system.specs.Growth.{Growth}
 use Rattle.market_system.specs.Outcomes.{PricesOnly}
 use Rattle.market_system.specs.SolvedLaws.{AreRows}
 use Rattle.market_system.proofs.GrowthLaws.{growth_none}
-use Rattle.market_dict.specs.Findings.{OnPassed}
+use Rattle.market_model.specs.Stops.{OnPassed}
 use Rattle.market_dict.specs.Holding.{HoldsMarket}
 use Rattle.market_dict.specs.Refusals.{IsBoundsRefusal}
 use Rattle.market_dict.specs.PricesAndBounds.{ArePricesAndBounds}
-use Rattle.market_dict.specs.declared.stop.Stop.{Stop}
-use Rattle.market_dict.specs.declared.stop.Stop.TheVariants as stop
+use Rattle.market_model.specs.declared.stops.Stop.{Stop}
+use Rattle.market_model.specs.declared.stops.Stop.TheVariants as stop
 use Rattle.market_dict.specs.declared.posing.PricesAndBounds.{PricesAndBounds}
 use Rattle.market_dict.proofs.HoldingLaws.{holds_choice}
 use Rattle.clear_loop.specs.Clearing.{ClearComesTo}

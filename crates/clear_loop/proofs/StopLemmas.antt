@@ -9,23 +9,21 @@ use Rattle.market_model.specs.Dispatch.{Dispatch}
 use Rattle.market_model.specs.declared.limits.Row.{Row}
 use Rattle.market_model.specs.Market.{IsMarket}
 use Rattle.market_model.specs.Optimality.{Feasible}
+use Rattle.market_model.specs.Stops.{OnPassed}
+use Rattle.market_model.specs.SumTables.{IsRefusedAmong, PriceSum}
 use Rattle.market_model.specs.Valued.{passed_at}
 use Rattle.market_system.specs.Growth.{Growth}
 use Rattle.market_system.specs.MarketSystem.{system_of}
 use Rattle.market_system.proofs.GrowthLaws.{growth_again}
-use Rattle.bus_prices.specs.Prices.{IsPriceRefusal}
 use Rattle.limit_screen.specs.Flows.{flows_at, line_in, IsFlowsRefusal}
 use Rattle.limit_screen.specs.Screening.{IsScreenRefusal}
 use Rattle.settlement.specs.Paying.{ArePricesOf}
 use Rattle.settlement.specs.Refusals.{IsMoneyStop}
-use Rattle.settlement.specs.declared.stops.MoneyStop.{MoneyStop}
-use Rattle.settlement.specs.declared.stops.MoneyStop.TheVariants as money
-use Rattle.market_dict.specs.Findings.{IsPairOver, IsSolvedBy, OnPassed}
+use Rattle.market_dict.specs.Findings.{IsPairOver, IsSolvedBy}
 use Rattle.market_dict.specs.Refusals.{IsBoundsRefusal}
-use Rattle.market_dict.specs.declared.stop.Stop.{Stop}
-use Rattle.market_dict.specs.declared.stop.Stop.TheVariants as stop
+use Rattle.market_model.specs.declared.stops.Stop.{Stop}
+use Rattle.market_model.specs.declared.stops.Stop.TheVariants as stop
 use Rattle.market_dict.proofs.RefusalLaws.{pair_range, posing_range}
-use Rattle.clear_loop.specs.Faults.{stop_of}
 use Rattle.clear_loop.specs.Rounds.{StopsInRange}
 use Rattle.clear_loop.proofs.SolvedLemmas.{flows_range, price_range, screen_range, money_range}
 
@@ -54,10 +52,10 @@ module _ {N : Type 0} (value : N → Fraction) (bound : ℕ) (m : Parts) where
 
     -- where it is priced and settled
     module _ (feasible : Feasible m x) where
-      pub price_stop : (s : Stop N) → OnPassed s (λ p. IsPriceRefusal m d bound (passed_at value p)) → StopsInRange value bound m g s
+      pub price_stop : (s : Stop N) → OnPassed s (λ p. IsRefusedAmong (PriceSum m d) bound (passed_at value p)) → StopsInRange value bound m g s
       price_stop (stop.Passed p) a = price_range m g x d market solved bound (passed_at value p) feasible a
       price_stop stop.Memory a = tt
 
-      pub money_stop : (price : ℕ → Fraction) → ArePricesOf m d price → (s : MoneyStop N) → IsMoneyStop value bound m x price d s → StopsInRange value bound m g (stop_of s)
-      money_stop price priced (money.Passed p) a = money_range m g x d market solved bound (passed_at value p) feasible price priced a
-      money_stop price priced money.Memory a = tt
+      pub money_stop : (price : ℕ → Fraction) → ArePricesOf m d price → (s : Stop N) → IsMoneyStop value bound m x price d s → StopsInRange value bound m g s
+      money_stop price priced (stop.Passed p) a = money_range m g x d market solved bound (passed_at value p) feasible price priced a
+      money_stop price priced stop.Memory a = tt

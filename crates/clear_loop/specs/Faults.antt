@@ -4,10 +4,8 @@ use Rattle.plain_list.specs.declared.Memory.{Memory}
 use Rattle.market_model.specs.declared.answered.Answer.{Answer}
 use Rattle.market_model.specs.declared.answered.Outcome.{Outcome}
 use Rattle.market_model.specs.declared.answered.Outcome.TheVariants as outcome
-use Rattle.market_dict.specs.declared.stop.Stop.{Stop}
-use Rattle.market_dict.specs.declared.stop.Stop.TheVariants as stop
-use Rattle.settlement.specs.declared.stops.MoneyStop.{MoneyStop}
-use Rattle.settlement.specs.declared.stops.MoneyStop.TheVariants as money
+use Rattle.market_model.specs.declared.stops.Stop.{Stop}
+use Rattle.market_model.specs.declared.stops.Stop.TheVariants as stop
 use Rattle.clear_loop.specs.declared.fault.ClearFault.{ClearFault}
 use Rattle.clear_loop.specs.declared.fault.ClearFault.TheVariants as why
 
@@ -15,11 +13,6 @@ use Rattle.clear_loop.specs.declared.fault.ClearFault.TheVariants as why
 abbrev pub fault_of : {N : Type 0} → Stop N → ClearFault N
 fault_of (stop.Passed p) = why.Range p
 fault_of stop.Memory = why.Memory
-
--- that of a settlement as one of the dictionary
-abbrev pub stop_of : {N : Type 0} → MoneyStop N → Stop N
-stop_of (money.Passed p) = stop.Passed p
-stop_of money.Memory = stop.Memory
 
 -- the outcome of a clear, where there was memory
 abbrev pub outcome_of : {N : Type 0} → Result (Answer N) (ClearFault N) → Result (Outcome N) Memory

@@ -18,10 +18,10 @@ use Rattle.market_system.specs.Growth.{BestFor, Broken}
 use Rattle.market_system.specs.Outcomes.{PricesOnly}
 use Rattle.market_system.specs.WorkingPairs.{IsRangeOf}
 use Rattle.limit_screen.specs.Flows.{flows_at}
-use Rattle.market_dict.specs.Findings.{OnPassed}
+use Rattle.market_model.specs.Stops.{OnPassed}
 use Rattle.market_dict.specs.Holding.{HoldsMarket}
 use Rattle.market_dict.specs.PricesAndBounds.{ArePricesAndBounds}
-use Rattle.market_dict.specs.declared.stop.Stop.{Stop}
+use Rattle.market_model.specs.declared.stops.Stop.{Stop}
 use Rattle.clear_loop.specs.declared.hand.Hand.{Hand}
 use Rattle.clear_loop.specs.declared.rounds.Ended.{Ended}
 use Rattle.clear_loop.specs.declared.rounds.Round.{Round}

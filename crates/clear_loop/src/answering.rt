@@ -6,20 +6,19 @@ ghost use Rattle.market_model.specs.Fitting.{FitsMarket};
 ghost use Rattle.market_model.specs.declared.limits.Row.{Row};
 ghost use Rattle.market_model.specs.Optimality.{Feasible, ProperDuals};
 ghost use Rattle.market_model.specs.RightAnswers.{IsRight, price_made};
+ghost use Rattle.market_model.specs.Stops.{OnPassed};
+ghost use Rattle.market_model.specs.SumTables.{IsRefusedAmong, PriceSum};
 ghost use Rattle.market_model.specs.Valued.{answer_at, duals_at, passed_at, price_at};
-ghost use Rattle.bus_prices.specs.Prices.{IsPriceRefusal};
 ghost use Rattle.market_model.specs.PutIn.{dispatch_of};
 ghost use Rattle.limit_screen.specs.Flows.{flows_at};
-ghost use Rattle.market_dict.specs.Findings.{IsSolvedBy, OnPassed};
-ghost use Rattle.clear_loop.specs.Faults.{stop_of};
+ghost use Rattle.market_dict.specs.Findings.{IsSolvedBy};
 ghost use Rattle.clear_loop.specs.Rounds.{StopsInRange};
 
-use bus_prices::price;
+use bus_prices::prices;
 use exact_fraction::Exact;
-use market_dict::Stop;
-use market_model::{Answer, Duals, Market, Price};
+use market_model::{Answer, Duals, Market, Price, Stop, datum};
 use plain_list::List;
-use settlement::{MoneyStop, settle_flows, welfare};
+use settlement::{settle_flows, welfare};
 use std::alloc::Global;
 
 /// The price at each bus.
@@ -30,23 +29,20 @@ fn bus_prices<N: Exact>(
 ) -> Result<List<Price<N>>, Stop<N>>
     requires { ProperDuals market.now (duals_at N.value duals.now) }
     ensures prices { IfOk result (λ prices. map (price_at N.value) prices ≡ map (price_made market.now (duals_at N.value duals.now)) (places (length market.now.buses))) }
-    ensures cause { IfErr result (λ stop. OnPassed stop (λ p. IsPriceRefusal market.now (duals_at N.value duals.now) N.bound (passed_at N.value p))) }
+    ensures cause { IfErr result (λ stop. OnPassed stop (λ p. IsRefusedAmong (PriceSum market.now (duals_at N.value duals.now)) N.bound (passed_at N.value p))) }
 {
-    let mut prices = List::new(alloc);
-    for bus in 0..market.buses().len() {
-        prices.push(price(market, duals, bus)?)?;
+    let none: N = datum(0);
+    let unpriced = Price {
+        energy: none,
+        congestion: none,
+        total: none,
+    };
+    let mut by_bus = List::new(alloc);
+    for _ in 0..market.buses().len() {
+        by_bus.push(unpriced)?;
     }
-    Ok(prices)
-}
-
-/// A stop of the settlement as one of the clear.
-fn stopped<N: Exact>(refused: MoneyStop<N>) -> Stop<N>
-    ensures { result ≡ stop_of refused }
-{
-    match refused {
-        MoneyStop::Passed(passed) => Stop::Passed(passed),
-        MoneyStop::Memory => Stop::Memory,
-    }
+    prices(market, duals, by_bus.slice_mut())?;
+    Ok(by_bus)
 }
 
 /// The answer of a feasible dispatch that solves the market over some of its limits, with its flows, by bus and then by line, and its
@@ -69,17 +65,14 @@ pub(crate) fn answer_of<N: Exact>(
     let _lines = market.lines();
     let prices = bus_prices(alloc, market, &duals)?;
     let welfare = welfare(market, dispatch.slice())?;
-    let money = match settle_flows(
+    let money = settle_flows(
         alloc,
         market,
         dispatch.slice(),
         flows,
         prices.slice(),
         &duals,
-    ) {
-        Ok(money) => money,
-        Err(refused) => return Err(stopped(refused)),
-    };
+    )?;
     Ok(Answer {
         dispatch,
         duals,

@@ -4,8 +4,7 @@ ghost use Rattle.std.specs.Prelude.{◌≡◌};
 ghost use Rattle.clear_loop.specs.Faults.{fault_of, outcome_of};
 
 use exact_fraction::Passed;
-use market_dict::Stop;
-use market_model::{Answer, Farkas, Memory, Outcome};
+use market_model::{Answer, Farkas, Memory, Outcome, Stop};
 
 /// Why a market was not cleared.
 #[derive(Drop, Debug)]

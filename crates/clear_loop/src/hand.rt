@@ -13,8 +13,8 @@ use dual_restart::Warm;
 use exact_fraction::Exact;
 use limit_rows::name_at;
 use linear_dict::Dict;
-use market_dict::{PricesAndBounds, Stop, take_bounds, take_limit};
-use market_model::{Market, Row, RowId};
+use market_dict::{PricesAndBounds, take_bounds, take_limit};
+use market_model::{Market, Row, RowId, Stop};
 use plain_list::{List, Memory};
 use std::alloc::Global;
 

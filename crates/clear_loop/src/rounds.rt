@@ -10,8 +10,8 @@ use crate::hand::{Hand, Taken, with_row};
 use crate::screen::{Screened, screened_at};
 use exact_fraction::Exact;
 use linear_dict::Dict;
-use market_dict::{Found, Stop, solve};
-use market_model::{Answer, Farkas, Market};
+use market_dict::{Found, solve};
+use market_model::{Answer, Farkas, Market, Stop};
 use std::alloc::Global;
 
 /// How a clear ends: with an answer, or with duals that show that no dispatch is feasible.

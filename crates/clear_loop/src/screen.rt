@@ -1,17 +1,16 @@
 //! The limits that a dispatch breaks.
 
 ghost use Rattle.std.specs.Prelude.{◌≡◌, ◌⊎◌, length, IfOk, IfErr};
+ghost use Rattle.market_model.specs.Stops.{OnPassed};
 ghost use Rattle.market_model.specs.Valued.{passed_at};
 ghost use Rattle.market_model.specs.PutIn.{dispatch_of};
 ghost use Rattle.limit_screen.specs.Flows.{flows_at, line_in, IsFlowsRefusal};
 ghost use Rattle.limit_screen.specs.Screening.{IsScreenRefusal};
-ghost use Rattle.market_dict.specs.Findings.{OnPassed};
 ghost use Rattle.clear_loop.specs.Rounds.{IsScreened};
 
 use exact_fraction::Exact;
 use limit_screen::{flows, worst_row};
-use market_dict::Stop;
-use market_model::{Market, Row, datum};
+use market_model::{Market, Row, Stop, datum};
 use std::alloc::Global;
 
 /// What a look at all limits comes to.

@@ -1,4 +1,5 @@
 pub mod IfOkLemmas
 pub mod ReplayLemmas
 pub mod RingLemmas
+pub mod RoundTripLemmas
 pub mod TellingLemmas

@@ -1,6 +1,6 @@
 -- Statuses, and what the last clear came to, one outcome after another.
 use Rattle.std.proofs.Common.{◌≡◌, ◌<◌, ◌≤◌, ◌∙◌, ℕ, ◌+◌, true, false, if◌then◌else◌, List, [], ◌∷◌, All, drop, take, get_or, map, length, Option, None, Some, zero, suc, refl, sym, ap, subst}
-use Rattle.std.specs.Prelude.{option_and_then}
+use Rattle.std.specs.Prelude.{IfSome, option_and_then}
 use Rattle.std.proofs.lemmas.List.Elements.{All-cons, All-nil, All-tail, All-take}
 use Rattle.std.proofs.lemmas.List.{at_drop_all, at_drop_more}
 use Rattle.fraction_theory.specs.Fraction.{Fraction}
@@ -19,6 +19,7 @@ use Rattle.market_system.specs.Outcomes.{IsClear, IsDecided}
 use Rattle.market_system.specs.WorkingPairs.{NoPairPasses}
 use Rattle.market_system.proofs.Completeness.{law_of_completeness}
 use Rattle.clear_loop.specs.Keeping.{cold}
+use Rattle.cert_format.specs.Certificates.{NumbersFit, cert_of_outcome}
 use Rattle.cert_format.specs.Written.{certificate_of}
 use Rattle.offer_book.specs.Edits.{step_of}
 use Rattle.edit_table.specs.EditTable.{IsStep}
@@ -38,7 +39,7 @@ status_first : (o : StepOutcome Fraction) (os : List (StepOutcome Fraction)) →
 unfolding replay_status
 status_first o os = refl
 
-last_first : (before : Option (Outcome Fraction)) (o : StepOutcome Fraction) (os : List (StepOutcome Fraction)) → last_clear before (o ∷ os) ≡ last_clear (clear_or before o) os
+pub last_first : (before : Option (Outcome Fraction)) (o : StepOutcome Fraction) (os : List (StepOutcome Fraction)) → last_clear before (o ∷ os) ≡ last_clear (clear_or before o) os
 unfolding last_clear
 last_first before o os = refl
 
@@ -46,7 +47,7 @@ status_none : replay_status [] ≡ status.Done
 unfolding replay_status
 status_none = refl
 
-last_none : (before : Option (Outcome Fraction)) → last_clear before [] ≡ before
+pub last_none : (before : Option (Outcome Fraction)) → last_clear before [] ≡ before
 unfolding last_clear
 last_none before = refl
 
@@ -141,8 +142,9 @@ module _ {N : Type 0} (value : N → Fraction) (bound : ℕ) (fits : (x : N) →
       → IsMarket m → All IsStep steps
       → IsReplay bound start.market start.kept.rows steps (map (step_outcome_at value) outcomes) now.kept.rows
       → t.status ≡ replay_status (map (step_outcome_at value) outcomes) → t.text ≡ replayed m steps (map (step_outcome_at value) outcomes)
-      → t.certificate ≡ option_and_then certificate_of (last_clear None (map (step_outcome_at value) outcomes)) → ReplaysTo bound m steps t
-  replays_to m steps start now outcomes t is market data_ok replay status_is text_is certificate_is =
+      → t.certificate ≡ option_and_then certificate_of (last_clear None (map (step_outcome_at value) outcomes))
+      → IfSome (option_and_then cert_of_outcome (last_clear None (map (step_outcome_at value) outcomes))) (NumbersFit bound) → ReplaysTo bound m steps t
+  replays_to m steps start now outcomes t is market data_ok replay status_is text_is certificate_is certificate_fits =
       let right : IsReplay bound m [] steps (map (step_outcome_at value) outcomes) now.kept.rows =
       subst (λ (s : SessionState). IsReplay bound s.market s.kept.rows steps (map (step_outcome_at value) outcomes) now.kept.rows) is replay in
       record {
@@ -155,4 +157,5 @@ module _ {N : Type 0} (value : N → Fraction) (bound : ℕ) (fits : (x : N) →
         status_is = status_is;
         text_is = text_is;
         certificate_is = certificate_is;
+        certificate_fits = certificate_fits;
       }

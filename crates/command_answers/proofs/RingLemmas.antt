@@ -21,10 +21,10 @@ use Rattle.command_answers.specs.Tellings.{Telling, uncertified}
 use Rattle.command_answers.specs.declared.status.Status.TheVariants as status
 
 module _ {N : Type 0} (value : N → Fraction) (bound : ℕ) (buses seed : ℕ) (m : Parts) (ring : m ≡ ring_of buses seed) (o : Outcome N) (right : IsRightOutcome bound m [] (outcome_at value o)) where
-  pub ring_cleared : (a : Answer N) (t : Telling) → o ≡ outcome.Cleared a → t ≡ uncertified status.Done ((title buses seed ++ counts m) ++ summary (answer_at value a)) → MakesTo bound buses seed t
-  ring_cleared a t is told =
+  pub ring_cleared : (a : Answer N) (t : Telling) → IsMarket m → o ≡ outcome.Cleared a → t ≡ uncertified status.Done ((title buses seed ++ counts m) ++ summary (answer_at value a)) → MakesTo bound buses seed t
+  ring_cleared a t market is told =
       let here = subst (λ (x : Outcome N). IsRightOutcome bound m [] (outcome_at value x)) is right in
-      cleared (answer_at value a) (rw ring at here) (rw ring at told)
+      cleared (answer_at value a) (subst IsMarket ring market) (rw ring at here) (rw ring at told)
 
   pub ring_passed : (p : Passed N) (t : Telling) → o ≡ outcome.Range p → AreSidesWithin bound (outcome_at value o)
       → t ≡ uncertified status.Range ((title buses seed ++ counts m) ++ report_text m (outcome_at value o)) → MakesTo bound buses seed t

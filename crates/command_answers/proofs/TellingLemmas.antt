@@ -3,11 +3,12 @@ use Rattle.std.proofs.Common.{◌≡◌, subst, ℕ, Result, Ok, Err}
 use Rattle.fraction_theory.specs.Fraction.{Fraction}
 use Rattle.exact_fraction.specs.declared.Passed.{Passed}
 use Rattle.market_model.specs.declared.participants.Parts.{Parts}
-use Rattle.market_model.specs.Valued.{passed_at}
+use Rattle.market_model.specs.Dispatch.{dispatch_by}
 use Rattle.cert_format.specs.declared.certificate.Cert.{Cert}
 use Rattle.cert_format.specs.declared.certificate.Cert.TheVariants.{Optimal, Farkas}
-use Rattle.cert_sums.specs.declared.stops.VerifyStop.TheVariants as why
-use Rattle.cert_verify.specs.Certificates.{IsVerifyStop}
+use Rattle.cert_verify.specs.Certificates.{named_duals}
+use Rattle.cert_verify.specs.Stops.{IsCertificateStop}
+use Rattle.cert_verify.proofs.RowLemmas.{optimal_pair}
 use Rattle.refusal_text.specs.declared.refusals.Refusal.{Refusal}
 use Rattle.market_inputs.specs.Stops.{IsToldAs}
 use Rattle.market_inputs.specs.declared.stops.Stop.{Stop}
@@ -26,6 +27,7 @@ pub refused-tells : {A : Type 0} (stand : Result A Refusal → Type 0) (right : 
     → t ≡ refusal_of r → Tells stand right t
 refused-tells stand right cause r t is stands tells = told-made stand right (Err (stop.Refused r)) t (subst (λ (s : Stop). IsToldAs stand (Err s)) is stands) tells
 
-pub pair-of : {N : Type 0} (value : N → Fraction) (m : Parts) (bound : ℕ) (c : Cert Fraction) (p : Passed N) → IsVerifyStop value m bound c (why.Range p) → IsCertificatePair m bound c (passed_at value p)
-pair-of value m bound (Optimal blocks energy limits) p is = is
-pair-of value m bound (Farkas energy limits) p is = is
+-- an operation at which a verification stops is one in the sums of the certificate
+pub pair-of : (m : Parts) (bound : ℕ) (c : Cert Fraction) (p : Passed Fraction) → IsCertificateStop m bound c p → IsCertificatePair m bound c p
+pair-of m bound (Optimal blocks energy limits) p is = optimal_pair m (dispatch_by blocks) (named_duals energy limits) bound p is
+pair-of m bound (Farkas energy limits) p is = is.refused

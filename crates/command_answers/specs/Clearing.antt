@@ -1,5 +1,5 @@
 -- What clearing a market comes to.
-use Rattle.std.specs.Prelude.{◌≡◌, ℕ, ◌≤◌, ◌-◌, ◌^◌, [], unsigned_abs}
+use Rattle.std.specs.Prelude.{◌≡◌, ℕ, ◌≤◌, [], IfSome, unsigned_abs}
 use Rattle.fraction_theory.specs.Fraction.{Fraction}
 use Rattle.exact_fraction.specs.declared.Passed.{Passed}
 use Rattle.market_model.specs.declared.participants.Parts.{Parts}
@@ -8,6 +8,7 @@ use Rattle.market_model.specs.declared.answered.Outcome.TheVariants as outcome
 use Rattle.market_model.specs.Market.{IsMarket}
 use Rattle.market_system.specs.Outcomes.{IsRightOutcome}
 use Rattle.report_text.specs.Reports.{report_text}
+use Rattle.cert_format.specs.Certificates.{NumbersFit, cert_of_outcome, most_part}
 use Rattle.cert_format.specs.Written.{certificate_of}
 use Rattle.command_answers.specs.declared.status.Status.{Status}
 use Rattle.command_answers.specs.declared.status.Status.TheVariants as status
@@ -35,7 +36,7 @@ AreSidesWithin bound (outcome.Range p) = ArePassedWithin bound p
 
 -- What is told is that of a right outcome of the market, with no limits taken before: the report of a right answer, of duals that show
 -- that no dispatch is feasible, or of two numbers of the market, each within the bound, whose outcome passes it. Its certificate is that
--- of the answer, or of the duals.
+-- of the answer, or of the duals, and its numbers are within their bounds.
 pub record ClearsTo (bound : ℕ) (m : Parts) (t : Telling) : Type 0 where
   pub outcome : Outcome Fraction
   pub right : IsRightOutcome bound m [] outcome
@@ -43,10 +44,11 @@ pub record ClearsTo (bound : ℕ) (m : Parts) (t : Telling) : Type 0 where
   pub status_is : t.status ≡ status_of outcome
   pub text_is : t.text ≡ report_text m outcome
   pub certificate_is : t.certificate ≡ certificate_of outcome
+  pub certificate_fits : IfSome (cert_of_outcome outcome) (NumbersFit bound)
 
--- the greatest size of a numerator or denominator: that of 127 bits
+-- the greatest size of a numerator or denominator, in what is told and in certificates
 abbrev pub most_size : ℕ
-most_size = 2 ^ 127 - 1
+most_size = most_part
 
 -- the same of a market, which keeps what every market keeps, by numbers of 127 bits
 abbrev pub TellsClear : Parts → Telling → Type 0

@@ -1,6 +1,7 @@
 pub mod Checking
 pub mod Clearing
 pub mod Inputs
+pub mod Laws
 pub mod Making
 pub mod Replaying
 pub mod Status

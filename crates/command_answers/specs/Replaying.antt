@@ -1,5 +1,5 @@
 -- What replaying edits and clears of a market comes to.
-use Rattle.std.specs.Prelude.{◌≡◌, ℕ, Bool, true, false, if◌then◌else◌, List, [], ◌∷◌, All, Option, Some, None, option_and_then, slice_get, take}
+use Rattle.std.specs.Prelude.{◌≡◌, ℕ, Bool, true, false, if◌then◌else◌, List, [], ◌∷◌, All, Option, Some, None, IfSome, option_and_then, slice_get, take}
 use Rattle.fraction_theory.specs.Fraction.{Fraction}
 use Rattle.market_model.specs.declared.participants.Parts.{Parts}
 use Rattle.market_model.specs.declared.answered.Outcome.{Outcome}
@@ -8,6 +8,7 @@ use Rattle.market_model.specs.Market.{IsMarket}
 use Rattle.market_system.specs.Growth.{Growth}
 use Rattle.market_system.specs.Outcomes.{IsDecided}
 use Rattle.market_system.specs.WorkingPairs.{NoPairPasses}
+use Rattle.cert_format.specs.Certificates.{NumbersFit, cert_of_outcome}
 use Rattle.cert_format.specs.Written.{certificate_of}
 use Rattle.offer_book.specs.Edits.{step_of}
 use Rattle.edit_table.specs.declared.Step.{Step}
@@ -73,7 +74,7 @@ AreDecided m steps outcomes = (k : ℕ) (o : Outcome Fraction) → slice_get out
 
 -- What is told is that of right outcomes, one for each step: those of edits as the market stands then, and those of clears of the market
 -- as it is edited by then, with no limits taken before the first; each of these is a market. Each clear is decided, where no working pair
--- passes the bound at any. The certificate is that of the last clear.
+-- passes the bound at any. The certificate is that of the last clear, and its numbers are within their bounds.
 pub record ReplaysTo (bound : ℕ) (m : Parts) (steps : List Step) (t : Telling) : Type 0 where
   pub outcomes : List (StepOutcome Fraction)
   pub taken : List Row
@@ -84,6 +85,7 @@ pub record ReplaysTo (bound : ℕ) (m : Parts) (steps : List Step) (t : Telling)
   pub status_is : t.status ≡ replay_status outcomes
   pub text_is : t.text ≡ replayed m steps outcomes
   pub certificate_is : t.certificate ≡ option_and_then certificate_of (last_clear None outcomes)
+  pub certificate_fits : IfSome (option_and_then cert_of_outcome (last_clear None outcomes)) (NumbersFit bound)
 
 -- the same of a market, which keeps what every market keeps, by numbers of 127 bits
 abbrev pub TellsReplay : MarketSteps → Telling → Type 0

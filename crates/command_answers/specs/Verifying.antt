@@ -10,6 +10,7 @@ use Rattle.cert_format.specs.declared.certificate.Cert.{Cert}
 use Rattle.cert_format.specs.declared.certificate.Cert.TheVariants.{Optimal, Farkas}
 use Rattle.cert_sums.specs.Pairs.{IsFarkasPair, IsOptimalPair}
 use Rattle.cert_verify.specs.Certificates.{named_duals, first_reason}
+use Rattle.cert_verify.specs.Stops.{IsCertificateStop}
 use Rattle.cert_verify.specs.declared.verdicts.Reason.{Reason}
 use Rattle.command_answers.specs.declared.status.Status.{Status}
 use Rattle.command_answers.specs.declared.status.Status.TheVariants as status
@@ -29,10 +30,10 @@ IsCertificatePair m bound (Optimal blocks energy limits) p = IsOptimalPair m (di
 IsCertificatePair m bound (Farkas energy limits) p = IsFarkasPair m (named_duals energy limits) bound p
 
 -- What is told is whether the certificate holds of the market, with the first reason where it does not; or two numbers of the
--- certificate's own sums, each within the bound, whose outcome passes it.
+-- certificate's own sums, each within the bound, whose outcome passes it, where none of the reasons before such a sum holds.
 pub data VerifiesTo (bound : ℕ) (m : Parts) (c : Cert Fraction) (t : Telling) : Type 0 where
   judged : t ≡ uncertified (verdict_status (first_reason m c)) (verdict_line (first_reason m c)) → VerifiesTo bound m c t
-  passed : (p : Passed Fraction) → IsCertificatePair m bound c p → ArePassedWithin bound p → t ≡ uncertified status.Range (range_text p) → VerifiesTo bound m c t
+  passed : (p : Passed Fraction) → IsCertificateStop m bound c p → ArePassedWithin bound p → t ≡ uncertified status.Range (range_text p) → VerifiesTo bound m c t
 
 -- the same of a market, which keeps what every market keeps, by numbers of 127 bits
 abbrev pub TellsVerdict : MarketCertificate → Telling → Type 0

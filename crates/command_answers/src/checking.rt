@@ -1,6 +1,7 @@
 //! Tables that are checked against a network.
 
 ghost use Rattle.std.specs.Prelude.{◌≡◌, Bool, IfOk};
+ghost use Rattle.market_tables.specs.Tables.{grid_lent};
 ghost use Rattle.market_inputs.specs.Checking.{AreFit};
 ghost use Rattle.command_answers.specs.Checking.{AreResiduals, TellsCheck, are_within, check_status_of};
 ghost use Rattle.command_answers.specs.Inputs.{IsCheck};
@@ -12,7 +13,8 @@ use crate::told::{Told, refused, uncertified};
 use factor_residuals::{
     Residual, bus_residual, loop_residual, outage_bus_residual, outage_loop_residual,
 };
-use market_inputs::{CheckBytes, Inputs, Stop, check_inputs};
+use market_inputs::{Inputs, Stop, check_inputs};
+use market_tables::GridTables;
 use plain_list::Memory;
 use residual_text::residuals_text;
 use std::alloc::Global;
@@ -86,9 +88,9 @@ fn residuals_told(alloc: Global, inputs: &Inputs) -> Result<Told, Memory>
 }
 
 /// What the whole bytes of a case and of its tables come to.
-pub fn check_told(alloc: Global, bytes: &CheckBytes<'_>) -> Result<Told, Memory>
+pub fn check_told(alloc: Global, bytes: &GridTables<&[u8]>) -> Result<Told, Memory>
     ensures status { IfOk result (λ told. IsOfWork told.status) }
-    ensures tells { IfOk result (λ told. Tells (IsCheck bytes.now.case.now bytes.now.ptdf.now bytes.now.lodf.now bytes.now.contingencies.now) TellsCheck (telling_of told)) }
+    ensures tells { IfOk result (λ told. Tells (IsCheck (grid_lent bytes.now)) TellsCheck (telling_of told)) }
 {
     match check_inputs(alloc, bytes) {
         Ok(inputs) => residuals_told(alloc, &inputs),

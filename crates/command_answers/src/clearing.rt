@@ -1,12 +1,13 @@
 //! Markets that are cleared.
 
 ghost use Rattle.std.specs.Prelude.{◌≡◌, [], IfOk};
+ghost use Rattle.market_tables.specs.Tables.{tables_lent};
 ghost use Rattle.market_model.specs.Fitting.{FitsOutcome};
 ghost use Rattle.market_model.specs.Market.{IsMarket};
 ghost use Rattle.market_model.specs.Valued.{outcome_at};
 ghost use Rattle.market_system.specs.Outcomes.{IsRightOutcome};
 ghost use Rattle.command_answers.specs.Clearing.{AreSidesWithin, ClearsTo, TellsClear, status_of};
-ghost use Rattle.command_answers.specs.Inputs.{IsLimited, IsPool, texts_of};
+ghost use Rattle.command_answers.specs.Inputs.{IsLimited, IsPool};
 ghost use Rattle.command_answers.specs.Status.{IsOfWork};
 ghost use Rattle.command_answers.specs.Tellings.{MadeTo, Tells, telling_of};
 
@@ -15,8 +16,9 @@ use crate::told::{Told, refused};
 use cert_format::outcome_json;
 use clear_loop::{Clearer, outcome};
 use exact_fraction::{Exact, Frac};
-use market_inputs::{ClearBytes, Stop, clear_market, pool_market};
+use market_inputs::{Stop, clear_market, pool_market};
 use market_model::{Market, Memory, Outcome};
+use market_tables::MarketTables;
 use net_case::PostRating;
 use report_text::report;
 use std::alloc::Global;
@@ -78,9 +80,13 @@ pub fn pool_told(alloc: Global, case: &[u8], offers: &[u8]) -> Result<Told, Memo
 }
 
 /// What the whole bytes of the files of a market come to, by the rating that limits branches after an outage.
-pub fn clear_told(alloc: Global, bytes: &ClearBytes<'_>, rating: PostRating) -> Result<Told, Memory>
+pub fn clear_told(
+    alloc: Global,
+    bytes: &MarketTables<&[u8]>,
+    rating: PostRating,
+) -> Result<Told, Memory>
     ensures status { IfOk result (λ told. IsOfWork told.status) }
-    ensures tells { IfOk result (λ told. Tells (IsLimited rating (texts_of bytes.now)) TellsClear (telling_of told)) }
+    ensures tells { IfOk result (λ told. Tells (IsLimited rating (tables_lent bytes.now)) TellsClear (telling_of told)) }
 {
     market_told(alloc, clear_market(alloc, bytes, rating))
 }

@@ -3,6 +3,7 @@
 
 mod checking;
 mod clearing;
+pub mod laws;
 mod making;
 mod replaying;
 mod status;

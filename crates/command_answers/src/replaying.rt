@@ -1,14 +1,16 @@
 //! Edits and clears of a market, one after another.
 
-ghost use Rattle.std.specs.Prelude.{◌≡◌, ◌≢◌, None, All, IfOk, IfSome, length, map, option_and_then, option_map};
+ghost use Rattle.std.specs.Prelude.{◌≡◌, ◌≢◌, None, All, IfOk, IfSome, OnOk, length, map, option_and_then, option_map};
 ghost use Rattle.fraction_theory.specs.Fraction.{Fraction};
+ghost use Rattle.cert_format.specs.Certificates.{NumbersFit, cert_of_outcome};
 ghost use Rattle.cert_format.specs.Written.{certificate_of};
 ghost use Rattle.edit_replay.specs.Replays.{step_outcome_at};
 ghost use Rattle.edit_table.specs.EditTable.{AreSteps, IsStep};
+ghost use Rattle.market_tables.specs.Tables.{tables_lent};
 ghost use Rattle.market_inputs.specs.Stops.{IsToldAs};
 ghost use Rattle.market_model.specs.Market.{IsMarket};
 ghost use Rattle.market_model.specs.Valued.{outcome_at};
-ghost use Rattle.command_answers.specs.Inputs.{IsReplayed, steps_with, texts_of};
+ghost use Rattle.command_answers.specs.Inputs.{IsReplayed, steps_with};
 ghost use Rattle.command_answers.specs.Replaying.{ReplaysTo, TellsReplay, clear_or, is_done, last_clear, replay_status, step_status};
 ghost use Rattle.command_answers.specs.Status.{IsOfWork};
 ghost use Rattle.command_answers.specs.Tellings.{Tells, telling_of};
@@ -19,8 +21,9 @@ use crate::told::{Told, refused};
 use cert_format::outcome_json;
 use edit_replay::{Outcomes, Session, StepOutcome, Steps};
 use exact_fraction::{Exact, Frac};
-use market_inputs::{ClearBytes, Stop, clear_market, edit_steps};
+use market_inputs::{Stop, clear_market, edit_steps};
 use market_model::{Market, Memory, Outcome};
+use market_tables::MarketTables;
 use net_case::PostRating;
 use replay_text::replay_text;
 use std::alloc::Global;
@@ -35,11 +38,11 @@ pub(crate) struct Replayed {
 /// What the files of a replay stand for.
 pub(crate) fn replay_inputs(
     alloc: Global,
-    bytes: &ClearBytes<'_>,
+    bytes: &MarketTables<&[u8]>,
     rating: PostRating,
     edits: &[u8],
 ) -> Result<Replayed, Stop>
-    ensures told { IsToldAs (IsReplayed rating (texts_of bytes.now) edits.now) (steps_with result) }
+    ensures told { IsToldAs (IsReplayed rating (tables_lent bytes.now) edits.now) (steps_with result) }
     ensures kept { IfOk result (λ made. IsMarket made.market × AreSteps made.steps) }
 {
     let market = clear_market(alloc, bytes, rating)?;
@@ -97,7 +100,8 @@ fn last_certificate<N: Exact>(
     alloc: Global,
     outcomes: &Outcomes<N>,
 ) -> Result<Option<Vec<u8>>, Memory>
-    ensures { IfOk result (λ made. option_map (λ bytes. bytes.items) made ≡ option_and_then certificate_of (last_clear None (map (step_outcome_at N.value) outcomes.now))) }
+    ensures text { IfOk result (λ made. option_map (λ bytes. bytes.items) made ≡ option_and_then certificate_of (last_clear None (map (step_outcome_at N.value) outcomes.now))) }
+    ensures fits { OnOk result (IfSome (option_and_then cert_of_outcome (last_clear None (map (step_outcome_at N.value) outcomes.now))) (NumbersFit N.bound)) }
 {
     let mut last = None;
     for outcome in outcomes.slice() {
@@ -129,12 +133,12 @@ fn replay_outcome<N: Exact>(alloc: Global, market: Market, steps: &Steps) -> Res
 /// What the whole bytes of the files of a market and of a table of edits come to.
 pub fn replay_told(
     alloc: Global,
-    bytes: &ClearBytes<'_>,
+    bytes: &MarketTables<&[u8]>,
     rating: PostRating,
     edits: &[u8],
 ) -> Result<Told, Memory>
     ensures status { IfOk result (λ told. IsOfWork told.status) }
-    ensures tells { IfOk result (λ told. Tells (IsReplayed rating (texts_of bytes.now) edits.now) TellsReplay (telling_of told)) }
+    ensures tells { IfOk result (λ told. Tells (IsReplayed rating (tables_lent bytes.now) edits.now) TellsReplay (telling_of told)) }
 {
     match replay_inputs(alloc, bytes, rating, edits) {
         Ok(replayed) => replay_outcome::<Frac>(alloc, replayed.market, &replayed.steps),

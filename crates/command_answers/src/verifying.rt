@@ -7,9 +7,10 @@ ghost use Rattle.cert_verify.specs.Certificates.{first_reason};
 ghost use Rattle.cert_verify.specs.Reasons.{verdict_of};
 ghost use Rattle.edit_replay.specs.Replays.{edited_by};
 ghost use Rattle.edit_table.specs.EditTable.{IsStep};
+ghost use Rattle.market_tables.specs.Tables.{tables_lent};
 ghost use Rattle.market_inputs.specs.Stops.{IsToldAs};
 ghost use Rattle.market_model.specs.Market.{IsMarket};
-ghost use Rattle.command_answers.specs.Inputs.{IsCertified, certificate_with, texts_of};
+ghost use Rattle.command_answers.specs.Inputs.{IsCertified, certificate_with};
 ghost use Rattle.command_answers.specs.Status.{IsOfWork};
 ghost use Rattle.command_answers.specs.Tellings.{Tells, telling_of};
 ghost use Rattle.command_answers.specs.Verdicts.{verdict_line};
@@ -23,8 +24,9 @@ use cert_format::Cert;
 use cert_verify::{Verdict, VerifyStop, verify};
 use edit_table::{Step, Steps};
 use exact_fraction::{Exact, Frac};
-use market_inputs::{ClearBytes, Stop, read_certificate};
+use market_inputs::{Stop, read_certificate};
 use market_model::{Market, Memory, Outcome};
+use market_tables::MarketTables;
 use net_case::PostRating;
 use offer_book::edit;
 use report_text::report;
@@ -54,12 +56,12 @@ fn edited(market: Market, steps: &Steps) -> Market
 /// What the files of a verification stand for.
 fn verify_inputs(
     alloc: Global,
-    bytes: &ClearBytes<'_>,
+    bytes: &MarketTables<&[u8]>,
     rating: PostRating,
     edits: &[u8],
     certificate: &[u8],
 ) -> Result<Certified<Frac>, Stop>
-    ensures told { IsToldAs (IsCertified rating (texts_of bytes.now) edits.now certificate.now) (certificate_with ⟦<Frac as Exact>⟧.value result) }
+    ensures told { IsToldAs (IsCertified rating (tables_lent bytes.now) edits.now certificate.now) (certificate_with ⟦<Frac as Exact>⟧.value result) }
     ensures kept { IfOk result (λ made. IsMarket made.market) }
     ensures distinct { IfOk result (λ made. RowsAreDistinct (cert_at ⟦<Frac as Exact>⟧.value made.certificate)) }
 {
@@ -108,13 +110,13 @@ fn verdict_told<N: Exact>(
 /// What the whole bytes of the files of a market, of a table of edits and of a certificate come to.
 pub fn verify_told(
     alloc: Global,
-    bytes: &ClearBytes<'_>,
+    bytes: &MarketTables<&[u8]>,
     rating: PostRating,
     edits: &[u8],
     certificate: &[u8],
 ) -> Result<Told, Memory>
     ensures status { IfOk result (λ told. IsOfWork told.status) }
-    ensures tells { IfOk result (λ told. Tells (IsCertified rating (texts_of bytes.now) edits.now certificate.now) TellsVerdict (telling_of told)) }
+    ensures tells { IfOk result (λ told. Tells (IsCertified rating (tables_lent bytes.now) edits.now certificate.now) TellsVerdict (telling_of told)) }
 {
     match verify_inputs(alloc, bytes, rating, edits, certificate) {
         Ok(made) => verdict_told(alloc, &made.market, &made.certificate),

@@ -2,7 +2,7 @@
 //! with a negative price, and one in which nothing is feasible. These are the texts of `examples/pjm_five_bus`.
 
 use command_answers::{Status, clear_told, replay_told};
-use market_inputs::ClearBytes;
+use market_tables::{GridTables, MarketTables};
 use net_case::PostRating;
 use std::test::Fail;
 
@@ -152,13 +152,16 @@ limit 6 base up 0 down 2:9774/120113
 #[test]
 fn clears_five_buses(rt: HostRuntime) -> Result<(), Fail> {
     let alloc = rt.alloc();
-    let bytes = ClearBytes {
+    let grid = GridTables {
         case: CASE,
         ptdf: PTDF,
-        lodf: b"branch,outage,factor\n",
-        contingencies: b"branch\n",
+        lodf: b"branch,outage,factor\n".as_slice(),
+        contingencies: b"branch\n".as_slice(),
+    };
+    let bytes = MarketTables {
+        grid,
         offers: OFFERS,
-        offsets: b"branch,mw\n",
+        offsets: b"branch,mw\n".as_slice(),
     };
     let cleared = clear_told(alloc, &bytes, PostRating::C)?;
     assert_eq!(rt; cleared.status, Status::Done);

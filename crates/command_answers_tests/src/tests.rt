@@ -3,7 +3,7 @@
 use command_answers::{
     Status, Told, check_told, clear_told, make_told, pool_told, replay_told, verify_told,
 };
-use market_inputs::{CheckBytes, ClearBytes};
+use market_tables::{GridTables, MarketTables};
 use net_case::PostRating;
 use std::process::Abort;
 use std::test::Fail;
@@ -45,19 +45,16 @@ fn expect<R: Abort>(rt: &R, told: &Told, status: Status, start: &[u8]) {
 #[test]
 fn tells_of_each_command(rt: HostRuntime) -> Result<(), Fail> {
     let alloc = rt.alloc();
-    let bytes = ClearBytes {
+    let grid = GridTables {
         case: CASE,
         ptdf: PTDF,
-        lodf: b"branch,outage,factor\n",
-        contingencies: b"branch\n",
-        offers: OFFERS,
-        offsets: b"branch,mw\n",
+        lodf: b"branch,outage,factor\n".as_slice(),
+        contingencies: b"branch\n".as_slice(),
     };
-    let grid = CheckBytes {
-        case: CASE,
-        ptdf: PTDF,
-        lodf: b"branch,outage,factor\n",
-        contingencies: b"branch\n",
+    let bytes = MarketTables {
+        grid,
+        offers: OFFERS,
+        offsets: b"branch,mw\n".as_slice(),
     };
     let edits = b"op,target,side,block,value\nclear,,,,\n";
     let done = Status::Done;

@@ -45,7 +45,10 @@ unfolding clap_on_literals refuses sced_app sced_app_over
 least-taken = refl
 
 least-named : named_by least
-    ≡ Some (record { case = codes "n.m"; ptdf = codes "p"; offers = codes "o"; lodf = None; contingencies = None; offsets = None; rating = post.C })
+    ≡ Some (record {
+      tables = record { grid = record { case = codes "n.m"; ptdf = codes "p"; lodf = None; contingencies = None }; offers = codes "o"; offsets = None };
+      rating = post.C;
+    })
 unfolding clap_on_literals sced_app sced_app_over
 least-named = refl
 
@@ -54,7 +57,10 @@ unfolding clap_on_literals refuses sced_app sced_app_over
 by_b-taken = refl
 
 by_b-named : named_by by_b
-    ≡ Some (record { case = codes "n.m"; ptdf = codes "p"; offers = codes "o"; lodf = Some (codes "l"); contingencies = Some (codes "k"); offsets = Some (codes "s"); rating = post.B })
+    ≡ Some (record {
+      tables = record { grid = record { case = codes "n.m"; ptdf = codes "p"; lodf = Some (codes "l"); contingencies = Some (codes "k") }; offers = codes "o"; offsets = Some (codes "s") };
+      rating = post.B;
+    })
 unfolding clap_on_literals sced_app sced_app_over
 by_b-named = refl
 

@@ -3,7 +3,8 @@ use Rattle.std.specs.Borrow.{Bor}
 use Rattle.std.specs.Prelude.{List, Option, option_map}
 use Rattle.clap.specs.Words.{Text}
 use Rattle.command_words.specs.Words.{AsksCheck, AsksClear, AsksMake, AsksPool, AsksReplay, AsksVerify, CheckNames, MarketNames}
-use Rattle.command_words.specs.declared.words.CheckFiles.{CheckFiles}
+use Rattle.market_tables.specs.Tables.{map_grid, map_tables}
+use Rattle.market_tables.specs.declared.GridTables.{GridTables}
 use Rattle.command_words.specs.declared.words.MarketFiles.{MarketFiles}
 use Rattle.command_words.specs.declared.words.Request.{Request}
 use Rattle.command_words.specs.declared.words.Request.TheVariants as request
@@ -13,25 +14,12 @@ abbrev pub text_of_name : Option (Bor Text) → Option Text
 text_of_name = option_map (λ name. name.now)
 
 -- the names of the files of a market as texts
-abbrev pub names_of_market : MarketFiles → MarketNames
-names_of_market files = record {
-  case = files.case.now;
-  ptdf = files.ptdf.now;
-  offers = files.offers.now;
-  lodf = text_of_name files.lodf;
-  contingencies = text_of_name files.contingencies;
-  offsets = text_of_name files.offsets;
-  rating = files.rating;
-}
+abbrev pub names_of_market : MarketFiles (Bor Text) (Option (Bor Text)) → MarketNames
+names_of_market files = record { tables = map_tables (λ name. name.now) text_of_name files.tables; rating = files.rating }
 
 -- the names of what is to be checked as texts
-abbrev pub names_to_check : CheckFiles → CheckNames
-names_to_check files = record {
-  case = files.case.now;
-  ptdf = files.ptdf.now;
-  lodf = text_of_name files.lodf;
-  contingencies = text_of_name files.contingencies;
-}
+abbrev pub names_to_check : GridTables (Bor Text) (Option (Bor Text)) → CheckNames
+names_to_check = map_grid (λ name. name.now) text_of_name
 
 abbrev pub Asks : List Text → Request → Type 0
 Asks words (request.Pool files) = AsksPool words files.case.now files.offers.now

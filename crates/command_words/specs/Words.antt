@@ -7,8 +7,10 @@ use Rattle.std.specs.Str.Parse.{IsNumeral, digits_value, without_leading_plus}
 use Rattle.clap.specs.Words.{App, Kinds, Row, Rule, Text, fault_of, first_of, new_app, new_rule, one_of, subcommand_of, with_rule, with_subcommand}
 use Rattle.clap.specs.declared.builder.value_parser.ValueParser.{ValueParser}
 use Rattle.clap.specs.declared.builder.value_parser.ValueParser.TheVariants.{Names, Signed}
+use Rattle.market_tables.specs.declared.GridTables.{GridTables}
 use Rattle.net_case.specs.declared.live_parts.PostRating.{PostRating}
 use Rattle.net_case.specs.declared.live_parts.PostRating.TheVariants as post
+use Rattle.command_words.specs.declared.words.MarketFiles.{MarketFiles}
 
 -- a list of names, as a command borrows it
 abbrev pub NameList : Type 0
@@ -142,25 +144,31 @@ pub record AsksPool (words : List Text) (case offers : Text) : Type 0 where
   pub case_is : case ≡ file_of (codes "case") rows
   pub offers_is : offers ≡ file_of (codes "offers") rows
 
--- the names of the files of a market with limits, of which three may be left out, and the rating that limits branches after outages
-pub record MarketNames : Type 0 where
-  pub case : Text
-  pub ptdf : Text
-  pub offers : Text
-  pub lodf : Option Text
-  pub contingencies : Option Text
-  pub offsets : Option Text
-  pub rating : PostRating
+-- the names of the files that `check` reads; those of the outage factors and of the outages may be left out
+abbrev pub CheckNames : Type 0
+CheckNames = GridTables Text (Option Text)
+
+-- the names that options give
+abbrev pub check_names : List Row → CheckNames
+check_names rows = record {
+  case = file_of (codes "case") rows;
+  ptdf = file_of (codes "ptdf") rows;
+  lodf = first_of (codes "lodf") rows;
+  contingencies = first_of (codes "contingencies") rows;
+}
+
+-- the names of the files of a market with limits, of which some may be left out, and the rating that limits branches after outages
+abbrev pub MarketNames : Type 0
+MarketNames = MarketFiles Text (Option Text)
 
 -- the names that options give
 abbrev pub market_names : List Row → MarketNames
 market_names rows = record {
-  case = file_of (codes "case") rows;
-  ptdf = file_of (codes "ptdf") rows;
-  offers = file_of (codes "offers") rows;
-  lodf = first_of (codes "lodf") rows;
-  contingencies = first_of (codes "contingencies") rows;
-  offsets = first_of (codes "offsets") rows;
+  tables = record {
+    grid = check_names rows;
+    offers = file_of (codes "offers") rows;
+    offsets = first_of (codes "offsets") rows;
+  };
   rating = rating_of rows;
 }
 
@@ -189,22 +197,6 @@ pub record AsksVerify (words : List Text) (names : MarketNames) (edits : Option 
   pub names_are : names ≡ market_names rows
   pub edits_is : edits ≡ first_of (codes "edits") rows
   pub certificate_is : certificate ≡ file_of (codes "certificate") rows
-
--- the names of the files that `check` reads; those of the outage factors and of the outages may be left out
-pub record CheckNames : Type 0 where
-  pub case : Text
-  pub ptdf : Text
-  pub lodf : Option Text
-  pub contingencies : Option Text
-
--- the names that options give
-abbrev pub check_names : List Row → CheckNames
-check_names rows = record {
-  case = file_of (codes "case") rows;
-  ptdf = file_of (codes "ptdf") rows;
-  lodf = first_of (codes "lodf") rows;
-  contingencies = first_of (codes "contingencies") rows;
-}
 
 -- the words enter `check`, and these are the names of its files
 pub record AsksCheck (words : List Text) (names : CheckNames) : Type 0 where
@@ -255,10 +247,13 @@ ReadsSeed rows seed = (text : Text) (n : ℕ) → one_of (codes "SEED") rows ≡
 abbrev pub IsPoolFile : Text → Text → Text → Type 0
 IsPoolFile case offers file = (file ≡ case) ⊎ (file ≡ offers)
 
+-- `check` reads this file, of those of these names
+abbrev pub IsCheckFile : CheckNames → Text → Type 0
+IsCheckFile names file = (file ≡ names.case) ⊎ (file ≡ names.ptdf) ⊎ (names.lodf ≡ Some file) ⊎ (names.contingencies ≡ Some file)
+
 -- this is a file of the market of these names
 abbrev pub IsMarketFile : MarketNames → Text → Type 0
-IsMarketFile names file = (file ≡ names.case) ⊎ (file ≡ names.ptdf) ⊎ (file ≡ names.offers)
-    ⊎ (names.lodf ≡ Some file) ⊎ (names.contingencies ≡ Some file) ⊎ (names.offsets ≡ Some file)
+IsMarketFile names file = IsCheckFile names.tables.grid file ⊎ (file ≡ names.tables.offers) ⊎ (names.tables.offsets ≡ Some file)
 
 -- `replay` reads this file, of those of the market and the edits
 abbrev pub IsReplayFile : MarketNames → Text → Text → Type 0
@@ -267,10 +262,6 @@ IsReplayFile names edits file = IsMarketFile names file ⊎ (file ≡ edits)
 -- `verify` reads this file, of those of the market, the edits and the certificate
 abbrev pub IsVerifyFile : MarketNames → Option Text → Text → Text → Type 0
 IsVerifyFile names edits certificate file = IsMarketFile names file ⊎ (edits ≡ Some file) ⊎ (file ≡ certificate)
-
--- `check` reads this file, of those of these names
-abbrev pub IsCheckFile : CheckNames → Text → Type 0
-IsCheckFile names file = (file ≡ names.case) ⊎ (file ≡ names.ptdf) ⊎ (names.lodf ≡ Some file) ⊎ (names.contingencies ≡ Some file)
 
 -- the words name this file for `pool` to read
 abbrev pub NamesForPool : List Text → Text → Type 0

@@ -5,6 +5,6 @@ mod command;
 mod words;
 
 pub use words::{
-    CheckFiles, ClearFiles, MarketFiles, PoolFiles, ReplayFiles, Request, RingWords, VerifyFiles,
-    WordsStop, request_of,
+    CheckNames, ClearFiles, MarketFiles, MarketNames, PoolFiles, ReplayFiles, Request, RingWords,
+    VerifyFiles, WordsStop, request_of,
 };

@@ -8,6 +8,7 @@ ghost use Rattle.command_words.specs.Requests.{Asks, names_of_market, names_to_c
 use crate::command::sced_command;
 use clap::ArgMatches;
 use clap::error::ErrorKind;
+use market_tables::{GridTables, MarketTables};
 use net_case::PostRating;
 use std::alloc::{AllocError, Global};
 
@@ -24,24 +25,24 @@ pub struct PoolFiles<'a> {
     pub offers: &'a str,
 }
 
-/// The names of the files of a market with limits, where they are named, and the rating that limits
-/// a branch after an outage.
+/// The names of the files that `check` reads, where they are named.
+pub type CheckNames<'a> = GridTables<&'a str, Option<&'a str>>;
+
+/// The files of a market with limits, and the rating that limits a branch after an outage.
 #[derive(Clone, Copy, Debug)]
-pub struct MarketFiles<'a> {
-    pub case: &'a str,
-    pub ptdf: &'a str,
-    pub offers: &'a str,
-    pub lodf: Option<&'a str>,
-    pub contingencies: Option<&'a str>,
-    pub offsets: Option<&'a str>,
+pub struct MarketFiles<T, O> {
+    pub tables: MarketTables<T, O>,
     pub rating: PostRating,
 }
+
+/// The names of these files, where they are named, and the rating.
+pub type MarketNames<'a> = MarketFiles<&'a str, Option<&'a str>>;
 
 /// The names of the files that `clear` reads, and of the certificate that it writes, where it is
 /// named.
 #[derive(Clone, Copy, Debug)]
 pub struct ClearFiles<'a> {
-    pub market: MarketFiles<'a>,
+    pub market: MarketNames<'a>,
     pub certificate: Option<&'a str>,
 }
 
@@ -49,7 +50,7 @@ pub struct ClearFiles<'a> {
 /// named.
 #[derive(Clone, Copy, Debug)]
 pub struct ReplayFiles<'a> {
-    pub market: MarketFiles<'a>,
+    pub market: MarketNames<'a>,
     pub edits: &'a str,
     pub certificate: Option<&'a str>,
 }
@@ -57,18 +58,9 @@ pub struct ReplayFiles<'a> {
 /// The names of the files that `verify` reads, where they are named.
 #[derive(Clone, Copy, Debug)]
 pub struct VerifyFiles<'a> {
-    pub market: MarketFiles<'a>,
+    pub market: MarketNames<'a>,
     pub edits: Option<&'a str>,
     pub certificate: &'a str,
-}
-
-/// The names of the files that `check` reads, where they are named.
-#[derive(Clone, Copy, Debug)]
-pub struct CheckFiles<'a> {
-    pub case: &'a str,
-    pub ptdf: &'a str,
-    pub lodf: Option<&'a str>,
-    pub contingencies: Option<&'a str>,
 }
 
 /// The ring that `make` makes: how many buses it has, of 4, 8, 16, 32 and 64, and the seed of its
@@ -86,7 +78,7 @@ pub enum Request<'a> {
     Clear(ClearFiles<'a>),
     Replay(ReplayFiles<'a>),
     Verify(VerifyFiles<'a>),
-    Check(CheckFiles<'a>),
+    Check(CheckNames<'a>),
     Make(RingWords),
 }
 
@@ -134,17 +126,28 @@ fn pool_files<'a>(matches: &ArgMatches<'a>) -> PoolFiles<'a>
     }
 }
 
+/// The files that `check` is to read.
+fn check_files<'a>(matches: &ArgMatches<'a>) -> CheckNames<'a>
+    ensures { names_to_check result ≡ check_names (rows_of (found_of matches.now)) }
+{
+    GridTables {
+        case: named_file(matches, "case"),
+        ptdf: named_file(matches, "ptdf"),
+        lodf: named_table(matches, "lodf"),
+        contingencies: named_table(matches, "contingencies"),
+    }
+}
+
 /// The files of the market.
-fn market_files<'a>(matches: &ArgMatches<'a>) -> MarketFiles<'a>
+fn market_files<'a>(matches: &ArgMatches<'a>) -> MarketNames<'a>
     ensures { names_of_market result ≡ market_names (rows_of (found_of matches.now)) }
 {
     MarketFiles {
-        case: named_file(matches, "case"),
-        ptdf: named_file(matches, "ptdf"),
-        offers: named_file(matches, "offers"),
-        lodf: named_table(matches, "lodf"),
-        contingencies: named_table(matches, "contingencies"),
-        offsets: named_table(matches, "offsets"),
+        tables: MarketTables {
+            grid: check_files(matches),
+            offers: named_file(matches, "offers"),
+            offsets: named_table(matches, "offsets"),
+        },
         rating: named_rating(matches),
     }
 }
@@ -183,18 +186,6 @@ fn verify_files<'a>(matches: &ArgMatches<'a>) -> VerifyFiles<'a>
         market: market_files(matches),
         edits: named_table(matches, "edits"),
         certificate: named_file(matches, "certificate"),
-    }
-}
-
-/// The files that `check` is to read.
-fn check_files<'a>(matches: &ArgMatches<'a>) -> CheckFiles<'a>
-    ensures { names_to_check result ≡ check_names (rows_of (found_of matches.now)) }
-{
-    CheckFiles {
-        case: named_file(matches, "case"),
-        ptdf: named_file(matches, "ptdf"),
-        lodf: named_table(matches, "lodf"),
-        contingencies: named_table(matches, "contingencies"),
     }
 }
 

@@ -25,31 +25,31 @@ const TABLE: [(&str, &str); 32] = [
     ),
     (
         "sced clear --case n.m --ptdf p --offers o --lodf l --contingencies k --offsets s --post-rating b",
-        "Clear(ClearFiles { market: MarketFiles { case: \"n.m\", ptdf: \"p\", offers: \"o\", lodf: Some(\"l\"), contingencies: Some(\"k\"), offsets: Some(\"s\"), rating: B }, certificate: None })",
+        "Clear(ClearFiles { market: MarketFiles { tables: MarketTables { grid: GridTables { case: \"n.m\", ptdf: \"p\", lodf: Some(\"l\"), contingencies: Some(\"k\") }, offers: \"o\", offsets: Some(\"s\") }, rating: B }, certificate: None })",
     ),
     (
         "sced clear --post-rating=a --offers=o --ptdf=p --case=n.m",
-        "Clear(ClearFiles { market: MarketFiles { case: \"n.m\", ptdf: \"p\", offers: \"o\", lodf: None, contingencies: None, offsets: None, rating: A }, certificate: None })",
+        "Clear(ClearFiles { market: MarketFiles { tables: MarketTables { grid: GridTables { case: \"n.m\", ptdf: \"p\", lodf: None, contingencies: None }, offers: \"o\", offsets: None }, rating: A }, certificate: None })",
     ),
     (
         "sced clear --case n.m --ptdf p --offers o --certificate x",
-        "Clear(ClearFiles { market: MarketFiles { case: \"n.m\", ptdf: \"p\", offers: \"o\", lodf: None, contingencies: None, offsets: None, rating: C }, certificate: Some(\"x\") })",
+        "Clear(ClearFiles { market: MarketFiles { tables: MarketTables { grid: GridTables { case: \"n.m\", ptdf: \"p\", lodf: None, contingencies: None }, offers: \"o\", offsets: None }, rating: C }, certificate: Some(\"x\") })",
     ),
     (
         "sced replay --case n.m --ptdf p --offers o --edits e --certificate x --lodf l",
-        "Replay(ReplayFiles { market: MarketFiles { case: \"n.m\", ptdf: \"p\", offers: \"o\", lodf: Some(\"l\"), contingencies: None, offsets: None, rating: C }, edits: \"e\", certificate: Some(\"x\") })",
+        "Replay(ReplayFiles { market: MarketFiles { tables: MarketTables { grid: GridTables { case: \"n.m\", ptdf: \"p\", lodf: Some(\"l\"), contingencies: None }, offers: \"o\", offsets: None }, rating: C }, edits: \"e\", certificate: Some(\"x\") })",
     ),
     (
         "sced verify --case n.m --ptdf p --offers o --certificate x --post-rating b",
-        "Verify(VerifyFiles { market: MarketFiles { case: \"n.m\", ptdf: \"p\", offers: \"o\", lodf: None, contingencies: None, offsets: None, rating: B }, edits: None, certificate: \"x\" })",
+        "Verify(VerifyFiles { market: MarketFiles { tables: MarketTables { grid: GridTables { case: \"n.m\", ptdf: \"p\", lodf: None, contingencies: None }, offers: \"o\", offsets: None }, rating: B }, edits: None, certificate: \"x\" })",
     ),
     (
         "sced verify --case n.m --ptdf p --offers o --certificate x --edits e",
-        "Verify(VerifyFiles { market: MarketFiles { case: \"n.m\", ptdf: \"p\", offers: \"o\", lodf: None, contingencies: None, offsets: None, rating: C }, edits: Some(\"e\"), certificate: \"x\" })",
+        "Verify(VerifyFiles { market: MarketFiles { tables: MarketTables { grid: GridTables { case: \"n.m\", ptdf: \"p\", lodf: None, contingencies: None }, offers: \"o\", offsets: None }, rating: C }, edits: Some(\"e\"), certificate: \"x\" })",
     ),
     (
         "sced check --case n.m --ptdf p --lodf l",
-        "Check(CheckFiles { case: \"n.m\", ptdf: \"p\", lodf: Some(\"l\"), contingencies: None })",
+        "Check(GridTables { case: \"n.m\", ptdf: \"p\", lodf: Some(\"l\"), contingencies: None })",
     ),
     ("sced make 4 7", "Make(RingWords { buses: 4, seed: 7 })"),
     (

@@ -1,5 +1,6 @@
 -- What the bytes of a table stand for: its records, the frame that they must fit, and the numbers in their cells.
-use Rattle.std.specs.Prelude.{ℕ, ℤ, Bool, false, List, [], ◌∷◌, ◌+◌, length, nat_lt, if◌then◌else◌, Option, Some, None, Result, Ok, Err}
+use Rattle.std.specs.Prelude.{ℕ, ℤ, Bool, false, List, [], ◌∷◌, ◌++◌, ◌+◌, codes, length, nat_lt, if◌then◌else◌, Option, Some, None, Result, Ok, Err}
+use Rattle.std.specs.List.{join_by}
 use Rattle.std.specs.Str.{bytes_eq}
 use Rattle.std.specs.Cmp.Lexicographic.{pointwise}
 use Rattle.std.specs.Option.{option_map_or}
@@ -37,6 +38,10 @@ frame_of header most (h ∷ rows) =
 -- the records under a table's header, or the first fault of the table as a whole, seen as another
 abbrev pub framed : {F : Type 0} → (FrameFault → F) → Record → Option ℕ → List ℕ → Result (List Record) F
 framed told header most bytes = or_as told (frame_of header most (table_of bytes))
+
+-- the text of a table that has this header and no records: the cells with commas between, and the end of the line
+abbrev pub header_line : Record → List ℕ
+header_line header = join_by (λ cell. cell) (codes ",") header ++ codes "\n"
 
 -- the number in a record's cell, in units of so many places; lines count from 1, the columns of a fault too
 abbrev pub number_in : ℕ → Record → ℕ → ℕ → Result ℤ CellFault

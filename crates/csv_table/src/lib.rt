@@ -14,7 +14,7 @@
 ghost use Rattle.std.specs.Prelude.{◌≡◌, ◌≢◌, ◌<◌, ◌≤◌, ◌+◌, ◌++◌, ◌∷◌, ◌^◌, unsigned_abs, IfOk, IfErr, IfSome, Ok, Err, map, drop, length, get_or, List, ℕ, []};
 ghost use Rattle.csv.specs.Records.{fields_of, partial_of};
 ghost use Rattle.record_reading.specs.Records.{Record, cell_of};
-ghost use Rattle.csv_table.specs.Table.{frame_of, is_over, number_in, same_record, table_of};
+ghost use Rattle.csv_table.specs.Table.{frame_of, header_line, is_over, number_in, same_record, table_of};
 ghost use Rattle.csv_table.specs.Rows.{IsFlat, IsPushStop, IsRowsStop, first_of, records_in};
 
 use csv::{ByteRecord, ReaderBuilder};
@@ -116,7 +116,7 @@ impl Rows {
     }
 
     // Whether the cells of the first record are these names.
-    fn is_header(&self, header: &[&[u8]]) -> bool
+    fn is_header(&self, header: &[&str]) -> bool
         requires flat { IsFlat self.now }
         requires some { 0 < self.now.count }
         ensures { result ≡ same_record (first_of (records_in self.now)) (map (λ f. f.now) header.now) }
@@ -125,7 +125,7 @@ impl Rows {
             return false;
         }
         for (col, name) in header.iter().enumerate() {
-            if self.cell(0, col) != *name {
+            if self.cell(0, col) != name.as_bytes() {
                 return false;
             }
         }
@@ -222,7 +222,7 @@ fn is_above(count: usize, most: Option<usize>) -> bool
 pub fn read_table(
     alloc: Global,
     bytes: &[u8],
-    header: &[&[u8]],
+    header: &[&str],
     most: Option<usize>,
 ) -> Result<Table, FrameFault>
     ensures ok { IfOk result (λ table.
@@ -244,6 +244,15 @@ pub fn read_table(
         return Err(FrameFault::TooMany { count });
     }
     Ok(Table { rows })
+}
+
+/// The text of a table that has this header and no records: the line of its cells, with commas between.
+pub fn header_line(alloc: Global, header: &[&str]) -> Result<Vec<u8>, AllocError>
+    ensures { IfOk result (λ bytes. bytes.items ≡ header_line (map (λ name. name.now) header.now)) }
+{
+    let mut line = header.join(alloc, ",")?;
+    line.push_str("\n")?;
+    Ok(line.into_bytes())
 }
 
 #[cfg(test)]

@@ -53,9 +53,11 @@ outcome_fits : {N : Type 0} (m n : Parts) (o : Outcome N) → SameFrame m n → 
 outcome_fits m n (outcome.Cleared a) same fits = record {
   dispatch = fits.dispatch ∙ as_many_blocks m n same;
   prices = fits.prices ∙ as_many_buses m n same;
-  units = fits.units ∙ as_many_units m n same;
-  loads = fits.loads ∙ as_many_buses m n same;
-  rents = fits.rents;
+  money = record {
+    units = fits.money.units ∙ as_many_units m n same;
+    loads = fits.money.loads ∙ as_many_buses m n same;
+    rents = fits.money.rents;
+  };
 }
 outcome_fits m n (outcome.Infeasible f) same fits = tt
 outcome_fits m n (outcome.Range p) same fits = tt

@@ -16,6 +16,9 @@ use thiserror::Error;
 /// The most records of the table.
 const MOST_STEPS: usize = 10_000;
 
+/// The header of the table of edits.
+pub const EDIT_HEADER: &[&str] = &["op", "target", "side", "block", "value"];
+
 // The columns.
 const OP: usize = 0;
 
@@ -278,14 +281,7 @@ pub fn steps(alloc: Global, bytes: &[u8]) -> Result<Steps, StepFault>
     ensures kept { IfOk result AreSteps }
     ensures is { result ≢ Err StepFault.Memory → result ≡ steps_of_table bytes.now }
 {
-    let header = [
-        b"op".as_slice(),
-        b"target".as_slice(),
-        b"side".as_slice(),
-        b"block".as_slice(),
-        b"value".as_slice(),
-    ];
-    let table = read_table(alloc, bytes, header.as_slice(), Some(MOST_STEPS))?;
+    let table = read_table(alloc, bytes, EDIT_HEADER, Some(MOST_STEPS))?;
     steps_of(alloc, &table)
 }
 

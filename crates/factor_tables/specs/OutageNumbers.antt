@@ -12,5 +12,8 @@ use Rattle.factor_tables.specs.Records.{frame_fault, number}
 abbrev pub outage_number : List ℤ → ℕ → Record → Result ℤ TableFault
 outage_number done line r = number line r 0 0
 
+abbrev pub outage_header : Record
+outage_header = codes "branch" ∷ []
+
 unfoldable pub outage_rows_of : List ℕ → Result (List ℤ) TableFault
-outage_rows_of bytes = and_then (framed frame_fault (codes "branch" ∷ []) (Some most_outages) bytes) (read_rows outage_number [] 2)
+outage_rows_of bytes = and_then (framed frame_fault outage_header (Some most_outages) bytes) (read_rows outage_number [] 2)

@@ -25,6 +25,10 @@ abbrev pub header_of : Column → Record
 header_of column.Bus = codes "branch" ∷ codes "bus" ∷ codes "factor" ∷ []
 header_of column.Outage = codes "branch" ∷ codes "outage" ∷ codes "factor" ∷ []
 
+-- that of the outage factors
+abbrev pub loss_header : Record
+loss_header = header_of column.Outage
+
 -- the pairs and factors of a table of this kind, or the first fault
 unfoldable pub factors_of : Column → LiveNetwork → List ℕ → Result (List Entry) TableFault
 factors_of kind network bytes = and_then (framed frame_fault (header_of kind) None bytes) (read_rows (entry_in network kind) [] 2)

@@ -16,6 +16,12 @@ use csv_table::{Table, read_table};
 use net_case::Network;
 use std::alloc::Global;
 
+/// The header of the table of shift factors.
+const SHIFT_HEADER: &[&str] = &["branch", "bus", "factor"];
+
+/// The header of the table of outage factors.
+pub const LOSS_HEADER: &[&str] = &["branch", "outage", "factor"];
+
 /// Refuses a record that names a row that is not there, or one out of service with a factor that is not 0.
 #[tactic(auto, unfolding(crate::specs::Rules::shift_faults))]
 fn check_shift(network: &Network, numbers: FactorRecord, line: usize) -> Result<(), TableFault>
@@ -124,7 +130,7 @@ fn factors_of(
     alloc: Global,
     network: &Network,
     column: Column,
-    header: &[&[u8]],
+    header: &[&str],
     bytes: &[u8],
 ) -> Result<Pairs, TableFault>
     requires { map (λ name. name.now) header.now ≡ header_of column }
@@ -141,12 +147,7 @@ pub fn shift(alloc: Global, network: &Network, bytes: &[u8]) -> Result<Shift, Ta
     ensures once { IfOk result HasNoPairTwice }
     ensures is { result ≢ Err TableFault.Memory → result ≡ shift_of network.now bytes.now }
 {
-    let header = [
-        b"branch".as_slice(),
-        b"bus".as_slice(),
-        b"factor".as_slice(),
-    ];
-    let pairs = factors_of(alloc, network, Column::Bus, header.as_slice(), bytes)?;
+    let pairs = factors_of(alloc, network, Column::Bus, SHIFT_HEADER, bytes)?;
     Ok(Shift { pairs })
 }
 
@@ -155,11 +156,6 @@ pub fn outage(alloc: Global, network: &Network, bytes: &[u8]) -> Result<Loss, Ta
     ensures once { IfOk result HasNoPairTwice }
     ensures is { result ≢ Err TableFault.Memory → result ≡ loss_of network.now bytes.now }
 {
-    let header = [
-        b"branch".as_slice(),
-        b"outage".as_slice(),
-        b"factor".as_slice(),
-    ];
-    let pairs = factors_of(alloc, network, Column::Outage, header.as_slice(), bytes)?;
+    let pairs = factors_of(alloc, network, Column::Outage, LOSS_HEADER, bytes)?;
     Ok(Loss { pairs })
 }

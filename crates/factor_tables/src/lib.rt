@@ -16,9 +16,9 @@ mod table_fault;
 
 pub use by_pair::{Loss, Shift};
 pub use covering::{Uncovered, cover};
-pub use factor_reading::{outage, shift};
+pub use factor_reading::{LOSS_HEADER, outage, shift};
 pub use names::{is_live_branch, is_row};
 pub use offset_list::Offsets;
-pub use offset_reading::offsets;
-pub use outage_numbers::{OutageRows, outage_rows};
+pub use offset_reading::{OFFSET_HEADER, offsets};
+pub use outage_numbers::{OUTAGE_HEADER, OutageRows, outage_rows};
 pub use table_fault::TableFault;

@@ -17,6 +17,9 @@ use indexmap::IndexMap;
 use net_case::{NetBranch, Network};
 use std::alloc::Global;
 
+/// The header of the table of offsets.
+pub const OFFSET_HEADER: &[&str] = &["branch", "mw"];
+
 /// Refuses a record that names a row that is not there, or one out of service with an offset that is not 0.
 #[tactic(auto, unfolding(crate::specs::Offsets::offset_faults))]
 fn check_offset(network: &Network, numbers: OffsetRecord, line: usize) -> Result<(), TableFault>
@@ -105,8 +108,7 @@ fn missing(by_row: &IndexMap<u32, i64>, branches: &[NetBranch]) -> Option<u32>
 pub fn offsets(alloc: Global, network: &Network, bytes: &[u8]) -> Result<Offsets, TableFault>
     ensures { result ≢ Err TableFault.Memory → result ≡ offsets_of network.now bytes.now }
 {
-    let header = [b"branch".as_slice(), b"mw".as_slice()];
-    let table = read_table(alloc, bytes, header.as_slice(), None)?;
+    let table = read_table(alloc, bytes, OFFSET_HEADER, None)?;
     let by_row = entries_of(alloc, network, &table)?;
     match missing(&by_row, network.branches().slice()) {
         Some(branch) => Err(TableFault::NoOffset { branch }),

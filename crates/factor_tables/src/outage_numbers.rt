@@ -14,6 +14,9 @@ use std::alloc::Global;
 /// Numbers that are to name branches, one for each record.
 pub type OutageRows = List<i64>;
 
+/// The header of the table of outages.
+pub const OUTAGE_HEADER: &[&str] = &["branch"];
+
 /// The numbers of a table's records.
 fn numbers_of(alloc: Global, table: &Table) -> Result<List<i64>, TableFault>
     ensures count { IfOk result (λ numbers. length numbers ≤ length table.now) }
@@ -32,7 +35,6 @@ pub fn outage_rows(alloc: Global, bytes: &[u8]) -> Result<OutageRows, TableFault
     ensures few { IfOk result (λ rows. length rows ≤ most_outages) }
     ensures is { result ≢ Err TableFault.Memory → result ≡ outage_rows_of bytes.now }
 {
-    let header = [b"branch".as_slice()];
-    let table = read_table(alloc, bytes, header.as_slice(), Some(MOST_OUTAGES))?;
+    let table = read_table(alloc, bytes, OUTAGE_HEADER, Some(MOST_OUTAGES))?;
     numbers_of(alloc, &table)
 }

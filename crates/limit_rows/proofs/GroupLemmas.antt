@@ -48,7 +48,7 @@ range_at a (suc n) (suc k) h =
 pub places_at : (n k : ℕ) → k < n → (rest : List ℕ) × (places n ≡ places k ++ k ∷ rest)
 places_at n k h = let r = range_at 0 n k h in let e : 0 + k ≡ k = Prim.omega arith in (r.0, r.1 ∙ ap (λ (i : ℕ). places k ++ i ∷ r.0) e)
 
-slice_get-seam : (xs ys : List ℕ) (x : ℕ) → slice_get (xs ++ x ∷ ys) (length xs) ≡ Some x
+pub slice_get-seam : {X : Type 0} (xs ys : List X) (x : X) → slice_get (xs ++ x ∷ ys) (length xs) ≡ Some x
 slice_get-seam [] ys x = refl
 slice_get-seam (y ∷ xs) ys x = slice_get-seam xs ys x
 

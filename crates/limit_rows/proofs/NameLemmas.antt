@@ -1,11 +1,11 @@
--- Rows by their names.
+-- A row with those round it, and the row of a name.
 use Rattle.std.specs.Prelude.{◌≡◌, ◌==◌, ◌&&◌, ℕ, ◌+◌, ◌<◌, Bool, true, false, List, [], ◌∷◌, ◌++◌, map, filter, length, Some, refl, cond, Contains}
 use Rattle.std.specs.List.{flat_map, slice_get, position}
-use Rattle.std.proofs.Common.{ap, sym, subst, ◌∙◌, append_assoc, get_or, take, drop, ap₂}
-use Rattle.std.proofs.lemmas.Bool.{eq-eqb, eqb-true, ne_eqb}
+use Rattle.std.proofs.Common.{ap, sym, ◌∙◌, append_assoc, length-append, get_or, take, drop, ap₂}
+use Rattle.std.proofs.lemmas.Bool.{eqb-true}
 use Rattle.std.proofs.lemmas.List.{map-append, take-append-drop}
 use Rattle.std.proofs.lemmas.List.Quantifiers.{position-Some}
-use Rattle.std.proofs.lemmas.List.Elements.{All-append, All-cons, All-map, All-nil, filter-append}
+use Rattle.std.proofs.lemmas.List.Elements.{filter-append}
 use Rattle.std.proofs.lemmas.Grind.{flat_map-append}
 use Rattle.market_model.specs.declared.answered.RowId.{RowId}
 use Rattle.market_model.specs.declared.participants.Parts.{Parts}
@@ -15,39 +15,9 @@ use Rattle.market_model.specs.declared.limits.Cause.TheVariants.{Base}
 use Rattle.market_model.specs.declared.limits.Cause.{Cause}
 use Rattle.market_model.specs.LimitRows.{outage_of, row_id, rows, bears, causes, lines_of, rows_of}
 use Rattle.market_model.proofs.ChangeLemmas.{same_default}
-use Rattle.market_model.proofs.MorePlaces.{places_more}
 use Rattle.limit_rows.specs.Naming.{has_name}
-use Rattle.limit_rows.proofs.GroupLemmas.{places_at, rows-causes, rows-more}
+use Rattle.limit_rows.proofs.GroupLemmas.{length-map, places_at, rows-causes, rows-more, slice_get-seam}
 use Rattle.limit_rows.proofs.NumberingLemmas.{row_on, rows_before}
-use Rattle.limit_rows.proofs.PositionLemmas.{Fails}
-
-and-false : (b c : Bool) → c ≡ false → (b && c) ≡ false
-and-false true c e = e
-and-false false c e = refl
-
-and-true : (b c : Bool) → c ≡ true → (b && c) ≡ b
-and-true true c e = e
-and-true false c e = refl
-
--- rows under a cause of another outage have other names
-pub other_outage : (m : Parts) (row : RowId) (cause : Cause) → (outage_of m cause ≡ row.outage → ⊥) → Fails (has_name m row) (rows_of m cause)
-other_outage m row cause h =
-    All-map (λ r. has_name m row r ≡ false) (row_on cause) (lines_of m cause) (λ k d lt. and-false ((line_at m (get_or (lines_of m cause) k d)).row == row.branch) _ (ne_eqb _ _ h))
-
-pub same_outage : (m : Parts) (row : RowId) (cause : Cause) (l : ℕ) → outage_of m cause ≡ row.outage → has_name m row (row_on cause l) ≡ ((line_at m l).row == row.branch)
-same_outage m row cause l e = and-true ((line_at m l).row == row.branch) _ (eq-eqb _ _ e)
-
--- lines whose rows have another branch
-pub other_branch : (m : Parts) (row : RowId) (cause : Cause) (ls : List ℕ) → outage_of m cause ≡ row.outage → Fails (λ l. (line_at m l).row == row.branch) ls → Fails (has_name m row) (map (row_on cause) ls)
-other_branch m row cause ls e h = All-map (λ r. has_name m row r ≡ false) (row_on cause) ls (λ k d lt. same_outage m row cause (get_or ls k d) e ∙ h k d lt)
-
-pub fails-more : (p b : ℕ → Bool) (i : ℕ) → Fails p (filter b (places i)) → (b i ≡ true → p i ≡ false) → Fails p (filter b (places (i + 1)))
-fails-more p b i h here =
-    subst (Fails p) (sym (ap (filter b) (places_more i) ∙ filter-append b (places i) (i ∷ []))) (All-append (λ l. p l ≡ false) (filter b (places i)) (filter b (i ∷ [])) h (by (b i) here))
-  where
-    by : (t : Bool) → (t ≡ true → p i ≡ false) → Fails p (cond t (i ∷ []) [])
-    by true f = All-cons (λ l. p l ≡ false) i [] (f refl) (All-nil (λ l. p l ≡ false))
-    by false f = All-nil (λ l. p l ≡ false)
 
 -- the rows under a cause round the row of a line
 pub rows_round : (m : Parts) (cause : Cause) (i : ℕ) → i < length m.lines → bears m cause i ≡ true
@@ -70,6 +40,22 @@ causes_round m i cause at = (
       ∙ ap (λ rs. rs ++ flat_map (rows_of m) (drop (i + 1) (causes m))) (rows-more m i cause at)
       ∙ append_assoc (rows_before m i) (rows_of m cause) (flat_map (rows_of m) (drop (i + 1) (causes m))),
 )
+
+-- the row of a line under a cause stands behind the rows of the causes before and of the lines before
+pub row_place : (m : Parts) (i : ℕ) (cause : Cause) (l : ℕ) → slice_get (causes m) i ≡ Some cause → l < length m.lines → bears m cause l ≡ true
+    → slice_get (rows m) (length (rows_before m i) + length (filter (bears m cause) (places l))) ≡ Some (row_on cause l)
+row_place m i cause l at inside passes =
+    let outer = causes_round m i cause at in
+    let inner = rows_round m cause l inside passes in
+    let before : List Row = map (row_on cause) (filter (bears m cause) (places l)) in
+    let split : rows m ≡ (rows_before m i ++ before) ++ row_on cause l ∷ (inner.0 ++ outer.0) =
+    outer.1 ∙ ap (λ rs. rows_before m i ++ (rs ++ outer.0)) inner.1 ∙ ap (λ rs. rows_before m i ++ rs) (append_assoc before (row_on cause l ∷ inner.0) outer.0)
+    ∙ sym (append_assoc (rows_before m i) before (row_on cause l ∷ (inner.0 ++ outer.0))) in
+    let count : length (rows_before m i ++ before) ≡ length (rows_before m i) + length (filter (bears m cause) (places l)) =
+    length-append (rows_before m i) before ∙ ap (λ (k : ℕ). length (rows_before m i) + k) (length-map (row_on cause) (filter (bears m cause) (places l))) in
+    ap (λ rs. slice_get rs (length (rows_before m i) + length (filter (bears m cause) (places l)))) split
+    ∙ ap (λ (k : ℕ). slice_get ((rows_before m i ++ before) ++ row_on cause l ∷ (inner.0 ++ outer.0)) k) (sym count)
+    ∙ slice_get-seam (rows_before m i ++ before) (inner.0 ++ outer.0) (row_on cause l)
 
 -- a name with a place is that of a row
 pub named_row : (m : Parts) (name : RowId) (i : ℕ) → position (has_name m name) (rows m) ≡ Some i → (r : Row) × Contains (rows m) r × (row_id m r ≡ name)

@@ -7,7 +7,7 @@ use Rattle.std.proofs.lemmas.List.FromFn.{length-range_with_len}
 use Rattle.std.proofs.lemmas.List.Elements.{Contains-append_left, Contains-append_right, Contains-append_cases}
 use Rattle.std.proofs.lemmas.Bool.{eq-eqb, eqb-true}
 use Rattle.std.proofs.lemmas.List.Quantifiers.{position-Some}
-use Rattle.limit_rows.proofs.PositionLemmas.{position-is}
+use Rattle.limit_rows.proofs.PositionLemmas.{Fails, position-is}
 use Rattle.market_model.specs.Optimality.{same_id}
 use Rattle.std.proofs.lemmas.List.Sums.{passes_at_first, position_or_len_is}
 use Rattle.std.proofs.lemmas.Option.{slice_get_within, get_or_from_slice_get, slice_get-get_or, slice_get-map}
@@ -86,6 +86,10 @@ row_from m r c =
     let l = Contains-from_map (row_on g.0) (lines_of m g.0) r g.2 in
     let kept = Contains-from_filter (bears m g.0) (places (length m.lines)) l.0 l.1 in
     (g.0, l.0, record { group = g.1; line = Contains-from_places (length m.lines) l.0 kept.0; bears = kept.1 }, l.2)
+
+-- a row of the market has its line under its cause
+pub row_parts : (m : Parts) (r : Row) → Contains (rows m) r → IsRowOf m r.cause r.line
+row_parts m r c = let f = row_from m r c in subst (λ (s : Row). IsRowOf m s.cause s.line) f.3 f.2
 
 pub none_of_outage : (m : Parts) (name : RowId) → All (λ cause. outage_in m cause ≢ name.outage) (causes m) → (r : Row) → Contains (rows m) r → row_id m r ≢ name
 none_of_outage m name none r c = λ e. by (row_from m r c) e
@@ -213,3 +217,11 @@ name_of_position m name place e =
     let none : Row = record { line = 0; cause = Base } in
     let found = position-Some (has_name m name) (rows m) place none e in
     slice_get-map (row_id m) (rows m) place ∙ ap (option_map (row_id m)) (slice_get-get_or (rows m) place none found.0) ∙ ap (λ (n : RowId). Some n) (same_name _ _ found.1)
+
+-- where no row has a name, none of them passes the test for it
+pub none_named : (m : Parts) (name : RowId) → ((r : Row) → Contains (rows m) r → row_id m r ≢ name) → Fails (has_name m name) (rows m)
+none_named m name none k d lt = by (has_name m name (get_or (rows m) k d)) refl
+  where
+    by : (b : Bool) → has_name m name (get_or (rows m) k d) ≡ b → b ≡ false
+    by true t = absurd (none (get_or (rows m) k d) (k, lt, same_default (rows m) k (get_or (rows m) k d) d lt) (same_name _ _ t))
+    by false t = refl

@@ -33,53 +33,12 @@ len-behind p (x ∷ xs) ys h = by (p x) (fails-head p x xs h) (len-behind p xs y
     by true e ih = absurd Prim.cc
     by false e ih = Prim.omega (arith, ih)
 
--- others behind
-len-before : {X : Type 0} (p : X → Bool) (zs ws : List X) → position_or_len p zs < length zs → position_or_len p (zs ++ ws) ≡ position_or_len p zs
-len-before p [] ws h = absurd (Prim.omega (arith, h))
-len-before p (z ∷ zs) ws h = by (p z) (λ lt. len-before p zs ws lt) h
-  where
-    by : (b : Bool) → (position_or_len p zs < length zs → position_or_len p (zs ++ ws) ≡ position_or_len p zs) → cond (not b) (1 + position_or_len p zs) 0 < length (z ∷ zs) → cond (not b) (1 + position_or_len p (zs ++ ws)) 0 ≡ cond (not b) (1 + position_or_len p zs) 0
-    by true rest lt = refl
-    by false rest lt = ap (λ (k : ℕ). 1 + k) (rest (Prim.omega (arith, lt)))
-
 pub position-is : {X : Type 0} (p : X → Bool) (xs : List X) (i : ℕ) → position_or_len p xs ≡ i → i < length xs → position p xs ≡ Some i
 position-is p xs i e lt = ap (λ (k : ℕ). cond (nat_lt k (length xs)) (Some k) None) e ∙ by (ltb_tells i (length xs))
   where
     by : ((nat_lt i (length xs) ≡ true) × (i < length xs)) ⊎ ((nat_lt i (length xs) ≡ false) × (length xs ≤ i)) → cond (nat_lt i (length xs)) (Some i) None ≡ Some i
     by (inl t) = ap (λ (b : Bool). cond b (Some i) None) t.0
     by (inr t) = absurd (Prim.omega (arith, t.1, lt))
-
--- what a place says
-position-found : {X : Type 0} (p : X → Bool) (xs : List X) (i : ℕ) → position p xs ≡ Some i → (position_or_len p xs ≡ i) × (i < length xs)
-position-found p xs i e = by (ltb_tells (position_or_len p xs) (length xs)) e
-  where
-    by : ((nat_lt (position_or_len p xs) (length xs) ≡ true) × (position_or_len p xs < length xs)) ⊎ ((nat_lt (position_or_len p xs) (length xs) ≡ false) × (length xs ≤ position_or_len p xs))
-        → cond (nat_lt (position_or_len p xs) (length xs)) (Some (position_or_len p xs)) None ≡ Some i → (position_or_len p xs ≡ i) × (i < length xs)
-    by (inl t) f =
-        let g : Some (position_or_len p xs) ≡ Some i = sym (ap (λ (b : Bool). cond b (Some (position_or_len p xs)) None) t.0) ∙ f in
-        let same : position_or_len p xs ≡ i = Prim.cc in
-        (same, Prim.omega (arith, same, t.1))
-    by (inr t) f =
-        let g : None ≡ Some i = sym (ap (λ (b : Bool). cond b (Some (position_or_len p xs)) None) t.0) ∙ f in
-        absurd Prim.cc
-
--- the first that passes, behind others that fail
-pub position-behind : {X : Type 0} (p : X → Bool) (xs ys : List X) (y : X) → Fails p xs → p y ≡ true → position p (xs ++ y ∷ ys) ≡ Some (length xs)
-position-behind p xs ys y h here =
-    position-is p (xs ++ y ∷ ys) (length xs) (len-behind p xs (y ∷ ys) h ∙ by (p y) here) (Prim.omega (arith, length-append xs (y ∷ ys)))
-  where
-    by : (b : Bool) → b ≡ true → length xs + cond (not b) (1 + position_or_len p ys) 0 ≡ length xs
-    by true e = Prim.omega arith
-    by false e = absurd Prim.cc
-
--- a place in a list, behind others that fail and before others
-pub position-within : {X : Type 0} (p : X → Bool) (xs zs ws : List X) (j : ℕ) → Fails p xs → position p zs ≡ Some j → position p (xs ++ (zs ++ ws)) ≡ Some (length xs + j)
-position-within p xs zs ws j h e =
-    let found = position-found p zs j e in
-    let inside : position_or_len p zs < length zs = Prim.omega (arith, found.0, found.1) in
-    position-is p (xs ++ (zs ++ ws)) (length xs + j)
-    (len-behind p xs (zs ++ ws) h ∙ ap (λ (k : ℕ). length xs + k) (len-before p zs ws inside ∙ found.0))
-    (Prim.omega (arith, length-append xs (zs ++ ws), length-append zs ws, found.1))
 
 -- no place where none passes
 pub position-none : {X : Type 0} (p : X → Bool) (xs : List X) → Fails p xs → position p xs ≡ None
@@ -92,17 +51,3 @@ position-none p xs h = by (ltb_tells (position_or_len p xs) (length xs))
         → cond (nat_lt (position_or_len p xs) (length xs)) (Some (position_or_len p xs)) None ≡ None
     by (inl t) = absurd (Prim.omega (arith, t.1, all))
     by (inr t) = ap (λ (b : Bool). cond b (Some (position_or_len p xs)) None) t.0
-
--- and the other way round
-pub fails-none : {X : Type 0} (p : X → Bool) (xs : List X) → position p xs ≡ None → Fails p xs
-fails-none p xs e k d h = not-true (p (get_or xs k d)) (prefix_len_passes (λ x. not (p x)) xs k d (Prim.omega (arith, all, h)))
-  where
-    all : length xs ≤ position_or_len p xs
-    all = by (ltb_tells (position_or_len p xs) (length xs)) e
-      where
-        by : ((nat_lt (position_or_len p xs) (length xs) ≡ true) × (position_or_len p xs < length xs)) ⊎ ((nat_lt (position_or_len p xs) (length xs) ≡ false) × (length xs ≤ position_or_len p xs))
-            → cond (nat_lt (position_or_len p xs) (length xs)) (Some (position_or_len p xs)) None ≡ None → length xs ≤ position_or_len p xs
-        by (inl t) f =
-            let g : Some (position_or_len p xs) ≡ None = sym (ap (λ (b : Bool). cond b (Some (position_or_len p xs)) None) t.0) ∙ f in
-            absurd Prim.cc
-        by (inr t) f = t.1

@@ -1,12 +1,12 @@
 //! Causes of limits, and the rows under each.
 
-ghost use Rattle.std.specs.Prelude.{◌≡◌, ◌≤◌, ◌<◌, ◌+◌, length, Some, IfSome};
-ghost use Rattle.std.specs.List.{position, slice_get};
+ghost use Rattle.std.specs.Prelude.{◌≡◌, ◌≤◌, ◌<◌, ◌+◌, filter, length, Some};
+ghost use Rattle.std.specs.List.{slice_get};
 ghost use Rattle.market_data.specs.Scales.{most_lines, most_outages};
-ghost use Rattle.market_model.specs.LimitRows.{bears, causes, lines_of, outage_of, rows_of, IsCauseAmong};
-ghost use Rattle.limit_rows.specs.Naming.{has_name};
+ghost use Rattle.market_model.specs.Dispatch.{places};
+ghost use Rattle.market_model.specs.LimitRows.{bears, causes, lines_of, outage_of, IsCauseAmong};
 
-use market_model::{Cause, Market, RowId};
+use market_model::{Cause, Market};
 
 /// How many causes of limits a market has: the base, and each outage.
 pub fn cause_count(market: &Market) -> usize
@@ -52,18 +52,27 @@ pub fn has_row(market: &Market, cause: Cause, place: usize) -> bool
     }
 }
 
-/// How many rows there are under a cause.
-pub(crate) fn count_of(market: &Market, cause: Cause) -> usize
-    ensures count { result ≡ length (lines_of market.now cause) }
-    ensures few { result ≤ most_lines }
+/// How many rows the lines before a place have under a cause.
+pub(crate) fn count_before(market: &Market, cause: Cause, end: usize) -> usize
+    requires { end ≤ length market.now.lines }
+    ensures count { result ≡ length (filter (bears market.now cause) (places end)) }
+    ensures few { result ≤ end }
 {
     let mut count = 0;
-    for place in 0..market.lines().len() {
+    for place in 0..end {
         if has_row(market, cause, place) {
             count += 1;
         }
     }
     count
+}
+
+/// How many rows there are under a cause.
+pub(crate) fn count_of(market: &Market, cause: Cause) -> usize
+    ensures count { result ≡ length (lines_of market.now cause) }
+    ensures few { result ≤ most_lines }
+{
+    count_before(market, cause, market.lines().len())
 }
 
 /// The line of a row under a cause, behind so many others.
@@ -82,25 +91,4 @@ pub(crate) fn line_behind(market: &Market, cause: Cause, count: usize) -> usize
         }
     }
     unreachable!()
-}
-
-/// The place of the row of a name among those under a cause.
-pub(crate) fn position_in(market: &Market, cause: Cause, row: RowId) -> Option<usize>
-    requires { IsCauseAmong (length market.now.lines) cause }
-    ensures few { IfSome result (λ place. place < most_lines) }
-    ensures is { result ≡ position (has_name market.now row) (rows_of market.now cause) }
-{
-    if outage_of(market, cause) != row.outage {
-        return None;
-    }
-    let mut before = 0;
-    for place in 0..market.lines().len() {
-        if has_row(market, cause, place) {
-            if market.lines().at(place).row == row.branch {
-                return Some(before);
-            }
-            before += 1;
-        }
-    }
-    None
 }

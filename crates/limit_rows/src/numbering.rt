@@ -1,13 +1,13 @@
 //! The rows of a market by place and by name.
 
-ghost use Rattle.std.specs.Prelude.{◌≡◌, ◌<◌, length, map, IfSome, Some};
+ghost use Rattle.std.specs.Prelude.{◌≡◌, ◌<◌, length, map, Contains, IfSome, Some};
 ghost use Rattle.std.specs.List.{position, slice_get};
 ghost use Rattle.market_model.specs.declared.limits.Row.{Row};
 ghost use Rattle.market_model.specs.LimitRows.{row_id, rows};
 ghost use Rattle.limit_rows.specs.Naming.{has_name};
 
-use crate::causes::{cause_at, cause_count, count_of, line_behind, position_in};
-use crate::places::name_at;
+use crate::causes::{cause_at, cause_count, count_before, count_of, line_behind};
+use crate::places::{name_at, row_named};
 use market_model::{Market, Row, RowId};
 
 /// How many limit rows a market has.
@@ -21,6 +21,41 @@ pub fn count(market: &Market) -> usize
     count
 }
 
+/// The row at a place.
+pub fn row_at(market: &Market, place: usize) -> Row
+    requires { place < length (rows market.now) }
+    ensures { slice_get (rows market.now) place ≡ Some result }
+{
+    let mut left = place;
+    for at in 0..cause_count(market) {
+        let cause = cause_at(market, at);
+        let count = count_of(market, cause);
+        if left < count {
+            let line = line_behind(market, cause, left);
+            return Row { line, cause };
+        }
+        left -= count;
+    }
+    unreachable!()
+}
+
+/// The place of a row.
+pub fn place_of(market: &Market, row: Row) -> usize
+    requires { Contains (rows market.now) row }
+    ensures { slice_get (rows market.now) result ≡ Some row }
+{
+    let _lines = market.lines();
+    let mut before = 0;
+    for at in 0..cause_count(market) {
+        let cause = cause_at(market, at);
+        if cause == row.cause {
+            return before + count_before(market, cause, row.line);
+        }
+        before += count_of(market, cause);
+    }
+    unreachable!()
+}
+
 /// The name of the row at a place.
 pub fn id(market: &Market, place: usize) -> RowId
     requires { place < length (rows market.now) }
@@ -28,17 +63,7 @@ pub fn id(market: &Market, place: usize) -> RowId
     ensures position { position (has_name market.now result) (rows market.now) ≡ Some place }
 {
     let _lines = market.lines();
-    let mut left = place;
-    for at in 0..cause_count(market) {
-        let cause = cause_at(market, at);
-        let count = count_of(market, cause);
-        if left < count {
-            let line = line_behind(market, cause, left);
-            return name_at(market, Row { line, cause });
-        }
-        left -= count;
-    }
-    unreachable!()
+    name_at(market, row_at(market, place))
 }
 
 /// The place of the row of a name, where there is one.
@@ -46,13 +71,9 @@ pub fn position(market: &Market, row: RowId) -> Option<usize>
     ensures is { result ≡ position (has_name market.now row) (rows market.now) }
     ensures id { IfSome result (λ place. slice_get (map (row_id market.now) (rows market.now)) place ≡ Some row) }
 {
-    let mut before = 0;
-    for at in 0..cause_count(market) {
-        let cause = cause_at(market, at);
-        match position_in(market, cause, row) {
-            Some(place) => return Some(before + place),
-            None => before += count_of(market, cause),
-        }
+    let _lines = market.lines();
+    match row_named(market, row) {
+        Some(named) => Some(place_of(market, named)),
+        None => None,
     }
-    None
 }

@@ -22,7 +22,7 @@ use Rattle.market_model.specs.Dispatch.{Dispatch, places, injection}
 use Rattle.market_model.specs.Overrun.{size_by, size_of, IsWorst}
 use Rattle.market_model.specs.declared.limits.Cause.{Cause}
 use Rattle.market_model.specs.declared.limits.Row.{Row}
-use Rattle.market_model.specs.LimitRows.{IsCauseAmong, bears, causes, flow_by, flow_terms, limit, line_flow, rows}
+use Rattle.market_model.specs.LimitRows.{bears, causes, flow_by, flow_terms, limit, line_flow, rows}
 use Rattle.market_model.specs.PutIn.{put_in}
 use Rattle.market_model.proofs.MorePlaces.{places_more}
 use Rattle.limit_rows.proofs.FlowSteps.{flow_terms-same}
@@ -147,16 +147,14 @@ pub law_of_row_flows : LawOfRowFlows
 law_of_row_flows m x fs r market puts c = ap total (row_terms m x fs r market puts c)
 
 -- of flows of buses and of lines, those of lines alone
-pub terms_behind : {N : Type 0} (value : N → Fraction) (m : Parts) (fs : List N) (n : ℕ) (r : Row) → n ≡ length m.buses → r.line < length m.lines → IsCauseAmong (length m.lines) r.cause
-    → flow_terms m (put_in (map value (take (length fs - n) (drop n fs)))) r ≡ flow_terms m (line_in m (map value fs)) r
-terms_behind {N} value m fs n r count inside among =
-    let all : take (length fs - n) (drop n fs) ≡ drop n fs = take_rest fs n in
-    flow_terms-same m (put_in (map value (take (length fs - n) (drop n fs)))) (line_in m (map value fs))
-    (λ l lt.
-    ap (λ (ys : List N). put_in (map value ys) l) all
-    ∙ ap (λ ys. get_or ys l (whole (pos 0))) (sym (drop-map value n fs)) ∙ get_or-drop n (map value fs) l (whole (pos 0))
-    ∙ ap (λ (k : ℕ). get_or (map value fs) (k + l) (whole (pos 0))) count)
-    r inside among
+pub lines_behind : {N : Type 0} (value : N → Fraction) (m : Parts) (fs : List N) (n : ℕ) → n ≡ length m.buses → put_in (map value (take (length fs - n) (drop n fs))) ≡ line_in m (map value fs)
+lines_behind {N} value m fs n count i l = at_line i
+  where
+    at_line : put_in (map value (take (length fs - n) (drop n fs))) l ≡ line_in m (map value fs) l
+    at_line =
+        ap (λ (ys : List N). put_in (map value ys) l) (take_rest fs n)
+        ∙ ap (λ ys. get_or ys l (whole (pos 0))) (sym (drop-map value n fs)) ∙ get_or-drop n (map value fs) l (whole (pos 0))
+        ∙ ap (λ (k : ℕ). get_or (map value fs) (k + l) (whole (pos 0))) count
 
 -- ---- rows of a cause, line by line
 pub lines_more : (m : Parts) (cause : Cause) (k : ℕ) (rs : List Row) → bears m cause k ≡ true

@@ -1,9 +1,9 @@
 //! What buses put in at a dispatch, and what flows on lines.
 
 ghost use Rattle.std.specs.Prelude.{◌≡◌, ◌+◌, length, map, IfOk, IfErr};
-ghost use Rattle.market_model.specs.PutIn.{dispatch_of};
+ghost use Rattle.market_model.specs.PutIn.{dispatch_of, put_in};
 ghost use Rattle.market_model.specs.Valued.{passed_at};
-ghost use Rattle.limit_screen.specs.Flows.{flows_at, IsFlowsRefusal};
+ghost use Rattle.limit_screen.specs.Flows.{flows_at, line_in, IsFlowsRefusal};
 
 use exact_fraction::{Exact, Passed};
 use limit_rows::put_line_flows;
@@ -20,4 +20,13 @@ pub fn flows<N: Exact>(market: &Market, dispatch: &[N], out: &mut [N]) -> Result
     let (by_bus, by_line) = out.split_at_mut(market.buses().len());
     injections(market, dispatch, by_bus)?;
     put_line_flows(market, by_bus, by_line)
+}
+
+/// Of the flows by bus and then by line, those of lines.
+pub fn line_flows<'a, N: Exact>(market: &Market, flows: &'a [N]) -> &'a [N]
+    requires { length flows.now ≡ length market.now.buses + length market.now.lines }
+    ensures count { length result.now ≡ length market.now.lines }
+    ensures is { put_in (map N.value result.now) ≡ line_in market.now (map N.value flows.now) }
+{
+    &flows[market.buses().len()..]
 }

@@ -5,5 +5,5 @@ mod flowing;
 pub mod laws;
 mod screening;
 
-pub use flowing::flows;
-pub use screening::{row_flow, worst, worst_row};
+pub use flowing::{flows, line_flows};
+pub use screening::{worst, worst_row};

@@ -1,21 +1,21 @@
 //! Which limit flows pass by the most.
 
-ghost use Rattle.std.specs.Prelude.{◌≡◌, ◌≢◌, ◌+◌, ◌<◌, ℕ, List, [], ◌∷◌, ◌++◌, length, map, IfOk, IfErr, MatchOption};
+ghost use Rattle.std.specs.Prelude.{◌≡◌, ◌+◌, ◌<◌, ℕ, List, [], ◌∷◌, ◌++◌, length, map, IfOk, IfErr, MatchOption};
 ghost use Rattle.fraction_theory.specs.Fraction.{Fraction, ◌-ℚ◌};
 ghost use Rattle.fraction_theory.specs.Order.{◌<ℚ◌, ◌≤ℚ◌};
 ghost use Rattle.exact_fraction.specs.declared.Op.TheVariants as Op;
 ghost use Rattle.market_model.specs.Valued.{passed_at};
 ghost use Rattle.market_model.specs.Dispatch.{zero};
 ghost use Rattle.market_model.specs.Overrun.{size_of, IsWorst};
-ghost use Rattle.market_model.specs.declared.limits.Cause.TheVariants as cause;
 ghost use Rattle.market_model.specs.declared.limits.Row.{Row};
-ghost use Rattle.market_model.specs.LimitRows.{IsCauseAmong, causes, flow_by, flow_terms};
-ghost use Rattle.market_model.specs.NamedSums.{IsRefusal, IsRefusedIn};
+ghost use Rattle.market_model.specs.LimitRows.{IsCauseAmong, causes, flow_by};
+ghost use Rattle.market_model.specs.NamedSums.{IsRefusal};
 ghost use Rattle.limit_screen.specs.Flows.{line_in};
 ghost use Rattle.limit_screen.specs.Screening.{AllHold, IsWorstNamed, IsOverrunRefusal, IsScreenRefusal, IsWorstOf, overrun_by, rows_to};
 
+use crate::flowing::line_flows;
 use exact_fraction::{Exact, Passed, Sign};
-use limit_rows::{cause_at, cause_count, has_row, limit_at, name_at};
+use limit_rows::{cause_at, cause_count, has_row, limit_at, name_at, row_flow};
 use market_model::{Market, Row, RowId, datum};
 use std::cmp::Ordering;
 
@@ -25,18 +25,6 @@ struct Broken<N> {
     row: Row,
     /// By how much, in 10^-9 MW.
     overrun: N,
-}
-
-/// The flow of a row, of the flows by line behind those of buses. After an outage the part of the lost flow that goes over to the line is added.
-pub fn row_flow<N: Exact>(market: &Market, flows: &[N], row: Row) -> Result<N, Passed<N>>
-    requires flows { length flows.now ≡ length market.now.buses + length market.now.lines }
-    requires line { row.line < length market.now.lines }
-    requires lost { IsCauseAmong (length market.now.lines) row.cause }
-    ensures flow { IfOk result (λ flow. N.value flow ≡ flow_by market.now (line_in market.now (map N.value flows.now)) row) }
-    ensures after { IfErr result (λ _. row.cause ≢ cause.Base) }
-    ensures cause { IfErr result (λ passed. IsRefusedIn (flow_terms market.now (line_in market.now (map N.value flows.now)) row) N.bound (passed_at N.value passed)) }
-{
-    limit_rows::row_flow(market, &flows[market.buses().len()..], row)
 }
 
 /// The size of a flow.
@@ -88,7 +76,7 @@ fn with_row<N: Exact>(
     ensures worst { (rs : List Row) → IsWorstOf N.value (overrun_by market.now (line_in market.now (map N.value flows.now))) rs worst → IfOk result (IsWorstOf N.value (overrun_by market.now (line_in market.now (map N.value flows.now))) (rs ++ row ∷ [])) }
     ensures cause { IfErr result (λ passed. IsOverrunRefusal market.now (line_in market.now (map N.value flows.now)) N.bound row (passed_at N.value passed)) }
 {
-    let flow = row_flow(market, flows, row)?;
+    let flow = row_flow(market, line_flows(market, flows), row)?;
     match beyond(flow, datum(limit_at(market, row)))? {
         Some(overrun) => Ok(worse(worst, row, overrun)),
         None => Ok(worst),

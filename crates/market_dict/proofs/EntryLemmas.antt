@@ -1,29 +1,26 @@
 -- What blocks count in the rows of a dictionary, and the names of its variables.
 use Rattle.std.specs.Prelude.{◌≡◌, ◌≢◌, ℕ, ◌<◌, ◌≤◌, ◌+◌, ◌*◌, pos, Bool, true, false, cond, List, [], ◌∷◌, length, filter, AllPairs, Contains, Some}
-use Rattle.std.specs.List.{flat_map, position}
+use Rattle.std.specs.List.{flat_map, slice_get}
 use Rattle.std.proofs.Common.{suc, arith, ap, ap₂, sym, ◌∙◌, subst, get_or}
 use Rattle.std.proofs.lemmas.List.{length-append, length-map}
 use Rattle.std.proofs.lemmas.List.Concat.{flat_map-cons}
 use Rattle.std.proofs.lemmas.List.FromFn.{length-range_with_len, get_or-range_with_len}
-use Rattle.std.proofs.lemmas.Option.{slice_get-get_or}
+use Rattle.std.proofs.lemmas.Option.{slice_get_within, get_or_from_slice_get}
 use Rattle.fraction_theory.specs.Fraction.{Fraction, whole}
 use Rattle.market_data.specs.declared.participants.Unit as unit
 use Rattle.market_data.specs.Scales.{most_lines, most_outages}
-use Rattle.market_model.specs.declared.answered.RowId.{RowId}
 use Rattle.market_model.specs.declared.participants.Block.{Block}
 use Rattle.market_model.specs.declared.participants.Parts.{Parts}
 use Rattle.market_model.specs.Dispatch.{places, signed_by_side, block_at, unit_at}
 use Rattle.market_model.specs.declared.limits.Row.{Row}
 use Rattle.market_model.specs.declared.limits.Cause.{Cause}
 use Rattle.market_model.specs.declared.limits.Cause.TheVariants.{Branch}
-use Rattle.market_model.specs.LimitRows.{rows, row_id, row_factor, place_of_line, bears, causes, lines_of, rows_of}
+use Rattle.market_model.specs.LimitRows.{rows, row_factor, place_of_line, bears, causes, lines_of, rows_of}
 use Rattle.market_model.specs.Market.{IsMarket}
 use Rattle.market_model.proofs.MarketSums.{unit_bus-in}
-use Rattle.limit_rows.specs.Naming.{has_name}
 use Rattle.limit_rows.proofs.ApartLemmas.{names_apart}
 use Rattle.limit_rows.proofs.GroupLemmas.{rows-causes}
 use Rattle.limit_rows.proofs.NumberingLemmas.{length-rows_of}
-use Rattle.limit_rows.proofs.PlaceLemmas.{position_named}
 use Rattle.market_system.specs.MarketSystem.{row_name, block_sign, block_coefficient}
 use Rattle.market_system.proofs.DualLists.{rows_apart}
 use Rattle.market_system.proofs.RowOrder.{row_name-at}
@@ -78,21 +75,10 @@ rows_few m market =
     let same : length (rows m) ≡ length (flat_map (rows_of m) (causes m)) = ap length (rows-causes m) in
     Prim.omega (arith, all, causes_few, same)
 
--- ---- the name of a row by its position
-pub row_named_at : (m : Parts) → IsMarket m → (r : Row) → Contains (rows m) r → (name : RowId) → name ≡ row_id m r
-    → (place : ℕ) × (place < length (rows m)) × (position (has_name m name) (rows m) ≡ Some place) × (row_name m r ≡ length m.blocks + 1 + place)
-row_named_at m market r (i, lt, at) name is = (
-  i,
-  lt,
-  position_named m market i name r (slice_get-get_or (rows m) i r lt ∙ ap Some at) is,
-  ap (row_name m) (sym at) ∙ row_name-at m (rows_apart m (names_apart m market)) i r lt,
-)
-
--- the place that was found
-pub place_found : (m : Parts) → IsMarket m → (r : Row) → Contains (rows m) r → (name : RowId) → name ≡ row_id m r → (place : ℕ) → position (has_name m name) (rows m) ≡ Some place
-    → (place < length (rows m)) × (row_name m r ≡ length m.blocks + 1 + place)
-place_found m market r c name is place found =
-    let named = row_named_at m market r c name is in
-    let one : Some named.0 ≡ Some place = sym named.2 ∙ found in
-    let same : named.0 ≡ place = Prim.cc in
-    (subst (λ (k : ℕ). k < length (rows m)) same named.1, named.3 ∙ ap (λ (k : ℕ). length m.blocks + 1 + k) same)
+-- ---- the name of a row by its place
+pub name_at_place : (m : Parts) → IsMarket m → (r : Row) (place : ℕ) → slice_get (rows m) place ≡ Some r → (place < length (rows m)) × (row_name m r ≡ length m.blocks + 1 + place)
+name_at_place m market r place e =
+    let inside = slice_get_within (rows m) place r e in (
+      inside,
+      ap (row_name m) (sym (get_or_from_slice_get (rows m) place r r e)) ∙ row_name-at m (rows_apart m (names_apart m market)) place r inside,
+    )

@@ -6,5 +6,4 @@ pub mod PosingLemmas
 pub mod PutInLemmas
 pub mod ReadingLemmas
 pub mod RefusalLaws
-pub mod StopLemmas
 pub mod TermLemmas

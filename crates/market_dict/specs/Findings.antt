@@ -1,13 +1,14 @@
 -- What a market comes to over some of its limit rows.
 use Rattle.std.specs.Prelude.{◌≡◌, ℕ, List}
 use Rattle.fraction_theory.specs.Fraction.{Fraction}
-use Rattle.exact_fraction.specs.declared.Passed.{Passed}
 use Rattle.linear_system.specs.Choices.{Choice, IsChoice}
 use Rattle.linear_dict.specs.Causes.{IsPairOf}
 use Rattle.market_model.specs.declared.participants.Parts.{Parts}
+use Rattle.market_model.specs.declared.stops.Stop.{Stop}
 use Rattle.market_model.specs.declared.answered.Duals.{Duals}
 use Rattle.market_model.specs.Dispatch.{Dispatch}
 use Rattle.market_model.specs.Infeasibility.{IsFarkas}
+use Rattle.market_model.specs.Stops.{OnPassed}
 use Rattle.market_model.specs.declared.limits.Row.{Row}
 use Rattle.market_model.specs.Valued.{duals_at, farkas_at}
 use Rattle.market_system.specs.MarketSystem.{system_of, choice_dispatch, choice_duals}
@@ -17,8 +18,6 @@ use Rattle.market_model.specs.PutIn.{dispatch_of}
 use Rattle.market_dict.specs.Holding.{HoldsMarket}
 use Rattle.market_dict.specs.declared.solving.Found.{Found}
 use Rattle.market_dict.specs.declared.solving.Found.TheVariants.{Best, Nothing}
-use Rattle.market_dict.specs.declared.stop.Stop.{Stop}
-use Rattle.market_dict.specs.declared.stop.Stop.TheVariants.{Passed as StoppedBy, Memory as NoMemory}
 
 -- the dispatch and the duals are those of a choice of basic variables that solves the market over these rows
 pub record IsSolvedBy (m : Parts) (g : List Row) (x : Dispatch) (d : Duals Fraction) : Type 0 where
@@ -33,11 +32,6 @@ pub record IsSolvedBy (m : Parts) (g : List Row) (x : Dispatch) (d : Duals Fract
 abbrev pub IsFound : {N : Type 0} → (N → Fraction) → Parts → List Row → Found N → Type 0
 IsFound value m g (Best d xs duals) = HoldsMarket m g d × IsSolvedBy m g (dispatch_of value xs) (duals_at value duals)
 IsFound value m g (Nothing d farkas) = HoldsMarket m g d × IsFarkas m (farkas_at value farkas) × PricesOnly m g (duals_at value farkas.duals)
-
--- where numbers became too large, P holds of the two
-abbrev pub OnPassed : {N : Type 0} → Stop N → (Passed N → Type 0) → Type 0
-OnPassed (StoppedBy p) P = P p
-OnPassed NoMemory P = Unit {0}
 
 -- where numbers became too large, they are a working pair of the market's system over these rows
 abbrev pub IsPairOver : {N : Type 0} → (N → Fraction) → ℕ → Parts → List Row → Stop N → Type 0

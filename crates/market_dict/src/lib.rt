@@ -8,9 +8,7 @@ mod posing;
 mod reading;
 mod rows;
 mod solving;
-mod stop;
 
 pub use posing::{PricesAndBounds, prices_and_bounds, take_bounds};
 pub use rows::{start, take_limit};
 pub use solving::{Found, solve};
-pub use stop::Stop;

@@ -8,20 +8,19 @@ ghost use Rattle.market_model.specs.declared.limits.Row.{Row};
 ghost use Rattle.market_model.specs.LimitRows.{rows};
 ghost use Rattle.market_model.specs.NamedSums.{IsRefusedIn};
 ghost use Rattle.market_model.specs.Optimality.{block_value};
+ghost use Rattle.market_model.specs.Stops.{OnPassed};
 ghost use Rattle.market_model.specs.Valued.{passed_at};
 ghost use Rattle.market_system.specs.MarketSystem.{residual_demand as residual_demand_of, least_added, most_added};
 ghost use Rattle.limit_screen.specs.Flows.{flows_at, IsFlowsRefusal};
 ghost use Rattle.market_dict.specs.Holding.{prices as prices_of, lows, highs};
 ghost use Rattle.market_dict.specs.Refusals.{IsBoundsRefusal};
 ghost use Rattle.market_dict.specs.PricesAndBounds.{ArePricesAndBounds};
-ghost use Rattle.market_dict.specs.Findings.{OnPassed};
 
 use crate::entries::zeros;
-use crate::stop::Stop;
 use exact_fraction::{Exact, Passed};
-use limit_rows::limit_at;
-use limit_screen::{flows, row_flow};
-use market_model::{Block, Market, Row, Side, datum};
+use limit_rows::{limit_at, row_flow};
+use limit_screen::{flows, line_flows};
+use market_model::{Block, Market, Row, Side, Stop, datum};
 use plain_list::{List, Memory};
 use simplex_core::Bounds;
 use std::alloc::Global;
@@ -125,7 +124,7 @@ fn row_bounds<N: Exact>(market: &Market, base_flows: &[N], row: Row) -> Result<B
     ensures cause { IfErr result (λ passed. IsBoundsRefusal market.now N.bound (passed_at N.value passed)) }
 {
     let _lines = market.lines();
-    let flow = row_flow(market, base_flows, row)?;
+    let flow = row_flow(market, line_flows(market, base_flows), row)?;
     let limit: N = datum(limit_at(market, row));
     let high = limit.minus(flow)?;
     let low = limit.neg().minus(flow)?;

@@ -10,18 +10,17 @@ ghost use Rattle.simplex_theory.specs.Steps.{opposite_if};
 ghost use Rattle.simplex_theory.specs.Stuck.{multiplier as multiplier_of, margin as margin_of};
 ghost use Rattle.market_model.specs.declared.limits.Row.{Row};
 ghost use Rattle.market_model.specs.LimitRows.{rows};
+ghost use Rattle.market_model.specs.Stops.{OnPassed};
 ghost use Rattle.market_model.specs.Valued.{dual_at, duals_at};
 ghost use Rattle.market_system.specs.MarketSystem.{name as name_of, variables, variable_of as variable_named, balance_name, row_name, in_order, dual_by, duals_of_costs as duals_of, choice_dispatch, choice_duals, system_of};
 ghost use Rattle.market_system.specs.SolvedLaws.{stuck_duals};
 ghost use Rattle.market_model.specs.PutIn.{dispatch_of};
-ghost use Rattle.market_dict.specs.Findings.{OnPassed};
 ghost use Rattle.market_dict.specs.Holding.{HoldsMarket, HoldsSystem};
 
-use crate::stop::Stop;
 use exact_fraction::{Exact, Passed, Sign};
-use limit_rows::{id, name_at, row_named};
+use limit_rows::{name_at, row_at};
 use linear_dict::{Dict, Place};
-use market_model::{Dual, Duals, Farkas, Market, RowId, datum};
+use market_model::{Dual, Duals, Farkas, Market, RowId, Stop, datum};
 use market_system::Variable;
 use plain_list::{List, Memory};
 use std::alloc::Global;
@@ -77,10 +76,7 @@ fn variable_of(market: &Market, name: u32) -> Variable
     if place == blocks {
         return Variable::Balance;
     }
-    match row_named(market, id(market, place - blocks - 1)) {
-        Some(row) => Variable::Limit(row),
-        None => unreachable!(),
-    }
+    Variable::Limit(row_at(market, place - blocks - 1))
 }
 
 /// The duals of what a MW costs on the balance and on the flow of each limit taken, of what it costs on each variable by rank.

@@ -8,11 +8,10 @@ ghost use Rattle.market_dict.specs.Findings.{IsPairOver};
 ghost use Rattle.market_dict.specs.Holding.{HoldsMarket};
 
 use crate::entries::{balance_entries, block_names, row_entries};
-use crate::stop::Stop;
 use exact_fraction::Exact;
-use limit_rows::{name_at, position};
+use limit_rows::place_of;
 use linear_dict::{AddStop, Dict};
-use market_model::{Market, Row};
+use market_model::{Market, Row, Stop};
 use plain_list::Memory;
 use std::alloc::Global;
 
@@ -32,10 +31,8 @@ fn row_name(market: &Market, row: Row) -> u32
     ensures { result ≡ row_name_of market.now row }
 {
     let _lines = market.lines();
-    match position(market, name_at(market, row)) {
-        Some(place) => (market.blocks().len() + 1 + place) as u32,
-        None => unreachable!(),
-    }
+    let place = place_of(market, row);
+    (market.blocks().len() + 1 + place) as u32
 }
 
 /// Puts in a limit row as the last one.

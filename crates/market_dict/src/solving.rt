@@ -10,10 +10,9 @@ ghost use Rattle.market_dict.specs.Findings.{IsFound, IsPairOver};
 ghost use Rattle.market_dict.specs.Holding.{HoldsSystem};
 
 use crate::reading::{dispatch, duals, farkas};
-use crate::stop::Stop;
 use exact_fraction::Exact;
 use linear_dict::Dict;
-use market_model::{Duals, Farkas, Market};
+use market_model::{Duals, Farkas, Market, Stop};
 use plain_list::{List, Memory};
 use simplex_core::{Posed, Run};
 use std::alloc::Global;

@@ -1,5 +1,5 @@
 -- The steps of a clear, one behind the other.
-use Rattle.std.proofs.Common.{◌≡◌, ap, sym, ℕ, List, Result, Ok, Err}
+use Rattle.std.proofs.Common.{◌≡◌, ap, sym, List, Result, Ok, Err}
 use Rattle.case_text.specs.Matrices.{CaseMatrices}
 use Rattle.market_model.specs.declared.participants.Parts.{Parts}
 use Rattle.net_case.specs.Networks.{LiveNetwork}
@@ -11,88 +11,89 @@ use Rattle.market_inputs.specs.declared.stops.Stop.{Stop}
 use Rattle.market_inputs.specs.declared.tables.Tables.{Tables}
 use Rattle.market_inputs.specs.Cases.{IsJoinedNetwork, matrices_in}
 use Rattle.market_inputs.specs.Clearing.{IsClearMarket, market_of}
+use Rattle.market_inputs.specs.Files.{SizedTables}
 use Rattle.market_inputs.specs.Steps.{Is, Then}
 use Rattle.market_inputs.specs.Stops.{IsToldAs}
 use Rattle.market_inputs.specs.Tables.{AreTables, cover_in, offers_in, offsets_in}
 use Rattle.market_inputs.proofs.StepLemmas.{goes-on, stops}
 
 -- ---- before the tables are read
-module _ (rating : PostRating) (case ptdf lodf contingencies offers offsets : Result (List ℕ) Refusal) where
+module _ (rating : PostRating) (files : SizedTables) where
   abbrev in_all : Result Parts Refusal → Type 0
-  in_all = IsClearMarket rating case ptdf lodf contingencies offers offsets
+  in_all = IsClearMarket rating files
 
   abbrev behind_cover : LiveNetwork → Tables → Result Parts Refusal → Type 0
-  behind_cover network tables = Then (Is (offers_in network offers)) (λ offered. Then (Is (offsets_in network offsets)) (λ moved. Is (Ok (market_of network tables offered moved))))
+  behind_cover network tables = Then (Is (offers_in network files.offers)) (λ offered. Then (Is (offsets_in network files.offsets)) (λ moved. Is (Ok (market_of network tables offered moved))))
 
   abbrev behind_tables : LiveNetwork → Tables → Result Parts Refusal → Type 0
   behind_tables network tables = Then (Is (cover_in network tables)) (λ _. behind_cover network tables)
 
   abbrev behind_network : LiveNetwork → Result Parts Refusal → Type 0
-  behind_network network = Then (AreTables network ptdf lodf contingencies) (behind_tables network)
+  behind_network network = Then (AreTables network files.grid) (behind_tables network)
 
   abbrev behind_case : CaseMatrices → Result Parts Refusal → Type 0
   behind_case raw = Then (IsJoinedNetwork rating raw) behind_network
 
   -- the case stops the work
-  pub case-stop : (r : Result CaseMatrices Stop) (out : Result Parts Stop) (e : Stop) → IsToldAs (Is (matrices_in case)) r → r ≡ Err e → out ≡ Err e → IsToldAs in_all out
-  case-stop r out e told is gives = stops (Is (matrices_in case)) behind_case r out e told is gives
+  pub case-stop : (r : Result CaseMatrices Stop) (out : Result Parts Stop) (e : Stop) → IsToldAs (Is (matrices_in files.grid.case)) r → r ≡ Err e → out ≡ Err e → IsToldAs in_all out
+  case-stop r out e told is gives = stops (Is (matrices_in files.grid.case)) behind_case r out e told is gives
 
-  module _ (raw : CaseMatrices) (raw-is : matrices_in case ≡ Ok raw) where
+  module _ (raw : CaseMatrices) (raw-is : matrices_in files.grid.case ≡ Ok raw) where
     -- its rows do
     pub network-stop : (r : Result LiveNetwork Stop) (out : Result Parts Stop) (e : Stop) → IsToldAs (IsJoinedNetwork rating raw) r → r ≡ Err e → out ≡ Err e → IsToldAs in_all out
-    network-stop r out e told is gives = goes-on (Is (matrices_in case)) behind_case raw out raw-is (stops (IsJoinedNetwork rating raw) behind_network r out e told is gives)
+    network-stop r out e told is gives = goes-on (Is (matrices_in files.grid.case)) behind_case raw out raw-is (stops (IsJoinedNetwork rating raw) behind_network r out e told is gives)
 
     module _ (network : LiveNetwork) (network-is : IsJoinedNetwork rating raw (Ok network)) where
       -- its tables do
-      pub tables-stop : (r : Result Tables Stop) (out : Result Parts Stop) (e : Stop) → IsToldAs (AreTables network ptdf lodf contingencies) r → r ≡ Err e → out ≡ Err e → IsToldAs in_all out
+      pub tables-stop : (r : Result Tables Stop) (out : Result Parts Stop) (e : Stop) → IsToldAs (AreTables network files.grid) r → r ≡ Err e → out ≡ Err e → IsToldAs in_all out
       tables-stop r out e told is gives =
-          goes-on (Is (matrices_in case)) behind_case raw out raw-is
-          (goes-on (IsJoinedNetwork rating raw) behind_network network out network-is (stops (AreTables network ptdf lodf contingencies) (behind_tables network) r out e told is gives))
+          goes-on (Is (matrices_in files.grid.case)) behind_case raw out raw-is
+          (goes-on (IsJoinedNetwork rating raw) behind_network network out network-is (stops (AreTables network files.grid) (behind_tables network) r out e told is gives))
 
       -- what these lack does
-      pub cover-stop : (tables : Tables) → AreTables network ptdf lodf contingencies (Ok tables) → (r : Result (Unit {0}) Stop) (out : Result Parts Stop) (e : Stop) → IsToldAs (Is (cover_in network tables)) r
+      pub cover-stop : (tables : Tables) → AreTables network files.grid (Ok tables) → (r : Result (Unit {0}) Stop) (out : Result Parts Stop) (e : Stop) → IsToldAs (Is (cover_in network tables)) r
           → r ≡ Err e → out ≡ Err e → IsToldAs in_all out
       cover-stop tables tables-are r out e told is gives =
-          goes-on (Is (matrices_in case)) behind_case raw out raw-is
+          goes-on (Is (matrices_in files.grid.case)) behind_case raw out raw-is
           (goes-on (IsJoinedNetwork rating raw) behind_network network out network-is
-          (goes-on (AreTables network ptdf lodf contingencies) (behind_tables network) tables out tables-are
+          (goes-on (AreTables network files.grid) (behind_tables network) tables out tables-are
           (stops (Is (cover_in network tables)) (λ _. behind_cover network tables) r out e told is gives)))
 
 -- ---- behind what the tables lack
 -- the tables lack nothing
-pub record IsCovered (rating : PostRating) (case ptdf lodf contingencies : Result (List ℕ) Refusal) (raw : CaseMatrices) (network : LiveNetwork) (tables : Tables) : Type 0 where
-  pub raw_is : matrices_in case ≡ Ok raw
+pub record IsCovered (rating : PostRating) (files : SizedTables) (raw : CaseMatrices) (network : LiveNetwork) (tables : Tables) : Type 0 where
+  pub raw_is : matrices_in files.grid.case ≡ Ok raw
   pub network_is : IsJoinedNetwork rating raw (Ok network)
-  pub tables_are : AreTables network ptdf lodf contingencies (Ok tables)
+  pub tables_are : AreTables network files.grid (Ok tables)
   pub covers : cover_in network tables ≡ Ok tt
 
-module _ (rating : PostRating) (case ptdf lodf contingencies offers offsets : Result (List ℕ) Refusal) (raw : CaseMatrices) (network : LiveNetwork) (tables : Tables)
-    (covered : IsCovered rating case ptdf lodf contingencies raw network tables) where
+module _ (rating : PostRating) (files : SizedTables) (raw : CaseMatrices) (network : LiveNetwork) (tables : Tables)
+    (covered : IsCovered rating files raw network tables) where
   -- the market, once the offers and the offsets are read
   abbrev made : Offered → List OffsetEntry → Result Parts Refusal → Type 0
   made offered moved = Is (Ok (market_of network tables offered moved))
 
   abbrev behind_offers : Offered → Result Parts Refusal → Type 0
-  behind_offers offered = Then (Is (offsets_in network offsets)) (made offered)
+  behind_offers offered = Then (Is (offsets_in network files.offsets)) (made offered)
 
-  behind-cover : (out : Result Parts Stop) → IsToldAs (Then (Is (offers_in network offers)) behind_offers) out → IsToldAs (IsClearMarket rating case ptdf lodf contingencies offers offsets) out
+  behind-cover : (out : Result Parts Stop) → IsToldAs (Then (Is (offers_in network files.offers)) behind_offers) out → IsToldAs (IsClearMarket rating files) out
   behind-cover out rest = goes-on _ _ raw out covered.raw_is (goes-on _ _ network out covered.network_is (goes-on _ _ tables out covered.tables_are (goes-on _ _ tt out covered.covers rest)))
 
   -- the offers stop the work
-  pub offers-stop : (r : Result Offered Stop) (out : Result Parts Stop) (e : Stop) → IsToldAs (Is (offers_in network offers)) r → r ≡ Err e → out ≡ Err e
-      → IsToldAs (IsClearMarket rating case ptdf lodf contingencies offers offsets) out
-  offers-stop r out e told is gives = behind-cover out (stops (Is (offers_in network offers)) behind_offers r out e told is gives)
+  pub offers-stop : (r : Result Offered Stop) (out : Result Parts Stop) (e : Stop) → IsToldAs (Is (offers_in network files.offers)) r → r ≡ Err e → out ≡ Err e
+      → IsToldAs (IsClearMarket rating files) out
+  offers-stop r out e told is gives = behind-cover out (stops (Is (offers_in network files.offers)) behind_offers r out e told is gives)
 
-  module _ (offered : Offered) (offered-is : offers_in network offers ≡ Ok offered) where
+  module _ (offered : Offered) (offered-is : offers_in network files.offers ≡ Ok offered) where
     -- the offsets stop the work
-    pub offsets-stop : (r : Result (List OffsetEntry) Stop) (out : Result Parts Stop) (e : Stop) → IsToldAs (Is (offsets_in network offsets)) r → r ≡ Err e → out ≡ Err e
-        → IsToldAs (IsClearMarket rating case ptdf lodf contingencies offers offsets) out
+    pub offsets-stop : (r : Result (List OffsetEntry) Stop) (out : Result Parts Stop) (e : Stop) → IsToldAs (Is (offsets_in network files.offsets)) r → r ≡ Err e → out ≡ Err e
+        → IsToldAs (IsClearMarket rating files) out
     offsets-stop r out e told is gives =
-        behind-cover out (goes-on (Is (offers_in network offers)) behind_offers offered out offered-is (stops (Is (offsets_in network offsets)) (made offered) r out e told is gives))
+        behind-cover out (goes-on (Is (offers_in network files.offers)) behind_offers offered out offered-is (stops (Is (offsets_in network files.offsets)) (made offered) r out e told is gives))
 
     -- nothing does
-    pub all-read : (moved : List OffsetEntry) (market : Parts) → offsets_in network offsets ≡ Ok moved → market ≡ market_of network tables offered moved
-        → IsClearMarket rating case ptdf lodf contingencies offers offsets (Ok market)
+    pub all-read : (moved : List OffsetEntry) (market : Parts) → offsets_in network files.offsets ≡ Ok moved → market ≡ market_of network tables offered moved
+        → IsClearMarket rating files (Ok market)
     all-read moved market is same =
-        behind-cover (Ok market) (goes-on (Is (offers_in network offers)) behind_offers offered (Ok market) offered-is
-        (goes-on (Is (offsets_in network offsets)) (made offered) moved (Ok market) is (ap Ok (sym same))))
+        behind-cover (Ok market) (goes-on (Is (offers_in network files.offers)) behind_offers offered (Ok market) offered-is
+        (goes-on (Is (offsets_in network files.offsets)) (made offered) moved (Ok market) is (ap Ok (sym same))))

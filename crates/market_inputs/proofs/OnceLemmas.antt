@@ -8,14 +8,17 @@ use Rattle.net_case.specs.declared.live_parts.Branches.TheVariants as branches
 use Rattle.net_case.specs.declared.live_parts.NetBranch.{NetBranch}
 use Rattle.net_case.specs.declared.live_parts.NetFault.{NetFault}
 use Rattle.net_case.specs.declared.live_parts.PostRating.{PostRating}
+use Rattle.net_case.specs.declared.live_parts.PostRating.TheVariants as rating
 use Rattle.net_case.specs.Networks.{AreRows, LiveNetwork}
 use Rattle.net_case.specs.NetworkReading.{network_of}
 use Rattle.net_paths.specs.Connection.{IsSplit, bus_number}
 use Rattle.outage_list.specs.declared.listing.OutageFault.TheVariants as outage
 use Rattle.refusal_text.specs.declared.refusals.Refusal.{Refusal}
 use Rattle.refusal_text.specs.declared.refusals.Refusal.TheVariants as refusal
-use Rattle.market_inputs.specs.Cases.{IsJoined, IsJoinedNetwork, joined, matrices_in, network_in, split}
+use Rattle.market_inputs.specs.Cases.{IsJoined, IsJoinedNetwork, joined, matrices_in, network_in, reactances_in, split}
+use Rattle.market_inputs.specs.Checking.{AreInputs, inputs_of}
 use Rattle.market_inputs.specs.Clearing.{IsClearMarket, market_of}
+use Rattle.market_inputs.specs.Files.{SizedGrid, SizedTables}
 use Rattle.market_inputs.specs.Pooling.{IsPoolMarket, pool_of}
 use Rattle.market_inputs.specs.Steps.{Is, Onward, Then}
 use Rattle.market_inputs.specs.Tables.{AreListed, AreOutagesIn, AreTables, cover_in, loss_in, numbers_in, offers_in, offsets_in, shift_in}
@@ -82,10 +85,10 @@ module _ (network : LiveNetwork) (kept : HasRows network) where
   outages-once : (bytes : Result (List ℕ) Refusal) → OfOne (AreOutagesIn network bytes)
   outages-once bytes = then-once _ _ (is-once (numbers_in bytes)) (λ numbers _. listed-once numbers)
 
-  tables-once : (ptdf lodf contingencies : Result (List ℕ) Refusal) → OfOne (AreTables network ptdf lodf contingencies)
-  tables-once ptdf lodf contingencies =
-      then-once _ _ (is-once (shift_in network ptdf))
-      (λ shift _. then-once _ _ (is-once (loss_in network lodf)) (λ loss _. then-once _ _ (outages-once contingencies) (λ outages _. is-once (Ok (record { shift = shift; loss = loss; outages = outages })))))
+  tables-once : (grid : SizedGrid) → OfOne (AreTables network grid)
+  tables-once grid =
+      then-once _ _ (is-once (shift_in network grid.ptdf))
+      (λ shift _. then-once _ _ (is-once (loss_in network grid.lodf)) (λ loss _. then-once _ _ (outages-once grid.contingencies) (λ outages _. is-once (Ok (record { shift = shift; loss = loss; outages = outages })))))
 
 -- ---- the markets
 pub pool-once : (case offers : Result (List ℕ) Refusal) → OfOne (IsPoolMarket case offers)
@@ -93,11 +96,20 @@ pool-once case offers =
     then-once _ _ (is-once (matrices_in case))
     (λ matrices _. then-once _ _ (is-once (network_in branches.Skip matrices)) (λ network _. then-once _ _ (is-once (offers_in network offers)) (λ offered _. is-once (Ok (pool_of network offered)))))
 
-pub clear-once : (rating : PostRating) (case ptdf lodf contingencies offers offsets : Result (List ℕ) Refusal) → OfOne (IsClearMarket rating case ptdf lodf contingencies offers offsets)
-clear-once rating case ptdf lodf contingencies offers offsets =
-    then-once _ _ (is-once (matrices_in case))
+pub clear-once : (rating : PostRating) (files : SizedTables) → OfOne (IsClearMarket rating files)
+clear-once rating files =
+    then-once _ _ (is-once (matrices_in files.grid.case))
     (λ matrices _. then-once _ _ (joined-network-once rating matrices)
-    (λ network is. then-once _ _ (tables-once network (joined-rows rating matrices network is) ptdf lodf contingencies)
+    (λ network is. then-once _ _ (tables-once network (joined-rows rating matrices network is) files.grid)
     (λ tables _. then-once _ _ (is-once (cover_in network tables))
-    (λ _ _. then-once _ _ (is-once (offers_in network offers))
-    (λ offered _. then-once _ _ (is-once (offsets_in network offsets)) (λ moved _. is-once (Ok (market_of network tables offered moved))))))))
+    (λ _ _. then-once _ _ (is-once (offers_in network files.offers))
+    (λ offered _. then-once _ _ (is-once (offsets_in network files.offsets)) (λ moved _. is-once (Ok (market_of network tables offered moved))))))))
+
+-- ---- what a check works on
+pub inputs-once : (files : SizedGrid) → OfOne (AreInputs files)
+inputs-once files =
+    then-once _ _ (is-once (matrices_in files.case))
+    (λ matrices _. then-once _ _ (joined-network-once rating.C matrices)
+    (λ network is. then-once _ _ (is-once (reactances_in matrices network))
+    (λ reactances _. then-once _ _ (tables-once network (joined-rows rating.C matrices network is) files)
+    (λ tables _. is-once (Ok (inputs_of network reactances tables))))))

@@ -1,5 +1,5 @@
 -- What a check works on.
-use Rattle.std.specs.Prelude.{ℕ, ℤ, List, All, Result, Ok}
+use Rattle.std.specs.Prelude.{ℤ, List, All, Result, Ok}
 use Rattle.net_case.specs.Networks.{LiveNetwork}
 use Rattle.net_case.specs.declared.live_parts.PostRating.TheVariants as rating
 use Rattle.net_paths.specs.Detours.{IsLiveRow}
@@ -8,6 +8,7 @@ use Rattle.refusal_text.specs.declared.refusals.Refusal.{Refusal}
 use Rattle.market_inputs.specs.declared.checking.Inputs.{Inputs}
 use Rattle.market_inputs.specs.declared.tables.Tables.{Tables}
 use Rattle.market_inputs.specs.Cases.{IsJoinedNetwork, matrices_in, reactances_in}
+use Rattle.market_inputs.specs.Files.{SizedGrid}
 use Rattle.market_inputs.specs.Steps.{Is, Then}
 use Rattle.market_inputs.specs.Tables.{AreTables}
 
@@ -17,12 +18,12 @@ inputs_of network reactances tables = record { network = network; reactances = r
 
 -- What the bytes of a case and of its tables stand for, or the first fault. The case comes first: its text, its rows, whether it is
 -- joined, and its reactances.
-abbrev pub AreInputs : Result (List ℕ) Refusal → Result (List ℕ) Refusal → Result (List ℕ) Refusal → Result (List ℕ) Refusal → Result Inputs Refusal → Type 0
-AreInputs case ptdf lodf contingencies told =
-    Then (Is (matrices_in case)) (λ matrices.
+abbrev pub AreInputs : SizedGrid → Result Inputs Refusal → Type 0
+AreInputs grid told =
+    Then (Is (matrices_in grid.case)) (λ matrices.
     Then (IsJoinedNetwork rating.C matrices) (λ network.
     Then (Is (reactances_in matrices network)) (λ reactances.
-    Then (AreTables network ptdf lodf contingencies) (λ tables.
+    Then (AreTables network grid) (λ tables.
     Is (Ok (inputs_of network reactances tables)))))) told
 
 -- one reactance for each live branch, and outages that are rows of live branches

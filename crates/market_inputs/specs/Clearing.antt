@@ -16,6 +16,7 @@ use Rattle.refusal_text.specs.declared.refusals.Refusal.{Refusal}
 use Rattle.market_inputs.specs.declared.offers.Offered.{Offered}
 use Rattle.market_inputs.specs.declared.tables.Tables.{Tables}
 use Rattle.market_inputs.specs.Cases.{IsJoinedNetwork, matrices_in}
+use Rattle.market_inputs.specs.Files.{SizedTables}
 use Rattle.market_inputs.specs.Steps.{Is, Then}
 use Rattle.market_inputs.specs.Tables.{AreTables, cover_in, offers_in, offsets_in}
 
@@ -61,13 +62,12 @@ market_of network tables offered offsets = record (bare_parts network.buses offe
 
 -- What the bytes of the files of a clear stand for, or the first fault. The case comes first, then the three tables and what they
 -- lack, the offers and the offsets.
-abbrev pub IsClearMarket : PostRating → Result (List ℕ) Refusal → Result (List ℕ) Refusal → Result (List ℕ) Refusal → Result (List ℕ) Refusal → Result (List ℕ) Refusal
-    → Result (List ℕ) Refusal → Result Parts Refusal → Type 0
-IsClearMarket rating case ptdf lodf contingencies offers offsets told =
-    Then (Is (matrices_in case)) (λ matrices.
+abbrev pub IsClearMarket : PostRating → SizedTables → Result Parts Refusal → Type 0
+IsClearMarket rating files told =
+    Then (Is (matrices_in files.grid.case)) (λ matrices.
     Then (IsJoinedNetwork rating matrices) (λ network.
-    Then (AreTables network ptdf lodf contingencies) (λ tables.
+    Then (AreTables network files.grid) (λ tables.
     Then (Is (cover_in network tables)) (λ _.
-    Then (Is (offers_in network offers)) (λ offered.
-    Then (Is (offsets_in network offsets)) (λ moved.
+    Then (Is (offers_in network files.offers)) (λ offered.
+    Then (Is (offsets_in network files.offsets)) (λ moved.
     Is (Ok (market_of network tables offered moved)))))))) told

@@ -21,6 +21,7 @@ use Rattle.refusal_text.specs.declared.refusals.Refusal.{Refusal}
 use Rattle.refusal_text.specs.declared.refusals.Refusal.TheVariants as refusal
 use Rattle.market_inputs.specs.declared.offers.Offered.{Offered}
 use Rattle.market_inputs.specs.declared.tables.Tables.{Tables}
+use Rattle.market_inputs.specs.Files.{SizedGrid}
 use Rattle.market_inputs.specs.Steps.{Is, Then}
 
 -- ---- the tables of factors and of outages
@@ -49,11 +50,11 @@ pub record MayBeLost (network : LiveNetwork) (rows : List ℕ) : Type 0 where
   pub are : AreOutages network rows
 
 -- the three tables of a network: the shift factors come first, then the outage factors and the outages
-abbrev pub AreTables : LiveNetwork → Result (List ℕ) Refusal → Result (List ℕ) Refusal → Result (List ℕ) Refusal → Result Tables Refusal → Type 0
-AreTables network ptdf lodf contingencies told =
-    Then (Is (shift_in network ptdf)) (λ shift.
-    Then (Is (loss_in network lodf)) (λ loss.
-    Then (AreOutagesIn network contingencies) (λ outages.
+abbrev pub AreTables : LiveNetwork → SizedGrid → Result Tables Refusal → Type 0
+AreTables network grid told =
+    Then (Is (shift_in network grid.ptdf)) (λ shift.
+    Then (Is (loss_in network grid.lodf)) (λ loss.
+    Then (AreOutagesIn network grid.contingencies) (λ outages.
     Is (Ok (record { shift = shift; loss = loss; outages = outages }))))) told
 
 -- what the two tables of factors lack

@@ -3,10 +3,9 @@
 ghost use Rattle.std.specs.Prelude.{◌≡◌, IfOk};
 ghost use Rattle.market_model.specs.Market.{IsMarket};
 ghost use Rattle.net_case.specs.Networks.{IsNetwork};
-ghost use Rattle.refusal_text.specs.declared.refusals.Input.TheVariants as input;
-ghost use Rattle.refusal_text.specs.declared.refusals.Refusal.TheVariants as refusal;
+ghost use Rattle.market_tables.specs.Tables.{tables_lent};
 ghost use Rattle.market_inputs.specs.Clearing.{IsClearMarket, market_of};
-ghost use Rattle.market_inputs.specs.Files.{sized};
+ghost use Rattle.market_inputs.specs.Files.{sized_tables};
 ghost use Rattle.market_inputs.specs.Stops.{IsToldAs};
 ghost use Rattle.market_inputs.specs.Tables.{AreOffered, MayBeLost};
 
@@ -17,22 +16,9 @@ use crate::stops::Stop;
 use crate::tables::{Tables, check_cover, offset_table, read_tables};
 use factor_tables::Offsets;
 use market_model::{Market, Memory, Parts, assemble};
+use market_tables::MarketTables;
 use net_case::{Network, PostRating};
 use std::alloc::Global;
-
-/// The whole bytes of the files of a clear.
-#[derive(Clone, Copy, Debug)]
-pub struct ClearBytes<'a> {
-    pub case: &'a [u8],
-    /// The table of shift factors.
-    pub ptdf: &'a [u8],
-    /// The table of outage factors.
-    pub lodf: &'a [u8],
-    /// The table of listed outages.
-    pub contingencies: &'a [u8],
-    pub offers: &'a [u8],
-    pub offsets: &'a [u8],
-}
 
 /// The parts of a market with limits.
 fn limited_parts(
@@ -63,20 +49,21 @@ fn limited_parts(
     })
 }
 
-/// The market of a case with its tables, its offers and its offsets. The limits after an outage are of the rating that is asked for.
+/// The market of a case with its tables, its offers and its offsets, of the whole bytes of these. The limits after an outage are of the
+/// rating that is asked for.
 ///
 /// The whole case is read first, then the tables of factors, the outages, the offers and the offsets.
 pub fn clear_market(
     alloc: Global,
-    bytes: &ClearBytes<'_>,
+    bytes: &MarketTables<&[u8]>,
     rating: PostRating,
 ) -> Result<Market, Stop>
-    ensures told { IsToldAs (IsClearMarket rating (sized (refusal.TooLong input.Case) bytes.now.case.now) (sized (refusal.TooLong input.Ptdf) bytes.now.ptdf.now) (sized (refusal.TooLong input.Lodf) bytes.now.lodf.now) (sized (refusal.TooLong input.Contingencies) bytes.now.contingencies.now) (sized (refusal.TooLong input.Offers) bytes.now.offers.now) (sized (refusal.TooLong input.Offsets) bytes.now.offsets.now)) result }
+    ensures told { IsToldAs (IsClearMarket rating (sized_tables (tables_lent bytes.now))) result }
     ensures kept { IfOk result IsMarket }
 {
-    let raw = case_matrices(alloc, bytes.case)?;
+    let raw = case_matrices(alloc, bytes.grid.case)?;
     let network = joined_network(alloc, &raw, rating)?;
-    let tables = read_tables(alloc, &network, bytes.ptdf, bytes.lodf, bytes.contingencies)?;
+    let tables = read_tables(alloc, &network, &bytes.grid)?;
     check_cover(&network, &tables)?;
     let offered = offer_table(alloc, &network, bytes.offers)?;
     let offsets = offset_table(alloc, &network, bytes.offsets)?;

@@ -13,8 +13,8 @@ mod replays;
 mod stops;
 mod tables;
 
-pub use checking::{CheckBytes, Inputs, check_inputs};
-pub use clearing::{ClearBytes, clear_market};
+pub use checking::{Inputs, check_inputs};
+pub use clearing::clear_market;
 pub use lengths::MOST_BYTES;
 pub use pooling::pool_market;
 pub use replays::{edit_steps, read_certificate};

@@ -4,7 +4,8 @@ ghost use Rattle.std.specs.Prelude.{◌≡◌, ◌≤◌, length, IfOk};
 ghost use Rattle.market_data.specs.Scales.{most_outages};
 ghost use Rattle.refusal_text.specs.declared.refusals.Input.TheVariants as input;
 ghost use Rattle.refusal_text.specs.declared.refusals.Refusal.TheVariants as refusal;
-ghost use Rattle.market_inputs.specs.Files.{sized};
+ghost use Rattle.market_tables.specs.Tables.{grid_lent};
+ghost use Rattle.market_inputs.specs.Files.{sized, sized_grid};
 ghost use Rattle.market_inputs.specs.Steps.{Is};
 ghost use Rattle.market_inputs.specs.Stops.{IsToldAs};
 ghost use Rattle.market_inputs.specs.Tables.{AreOutagesIn, AreTables, MayBeLost, cover_in, loss_in, numbers_in, offsets_in, shift_in};
@@ -12,6 +13,7 @@ ghost use Rattle.market_inputs.specs.Tables.{AreOutagesIn, AreTables, MayBeLost,
 use crate::lengths::check_length;
 use crate::stops::{Stop, table_stop};
 use factor_tables::{Loss, Offsets, OutageRows, Shift, cover, offsets, outage, outage_rows, shift};
+use market_tables::GridTables;
 use net_case::Network;
 use outage_list::{Outages, listed};
 use refusal_text::{Input, Refusal};
@@ -72,16 +74,14 @@ fn outage_table(alloc: Global, network: &Network, bytes: &[u8]) -> Result<Outage
 pub(crate) fn read_tables(
     alloc: Global,
     network: &Network,
-    ptdf: &[u8],
-    lodf: &[u8],
-    contingencies: &[u8],
+    grid: &GridTables<&[u8]>,
 ) -> Result<Tables, Stop>
-    ensures told { IsToldAs (AreTables network.now (sized (refusal.TooLong input.Ptdf) ptdf.now) (sized (refusal.TooLong input.Lodf) lodf.now) (sized (refusal.TooLong input.Contingencies) contingencies.now)) result }
+    ensures told { IsToldAs (AreTables network.now (sized_grid (grid_lent grid.now))) result }
     ensures kept { IfOk result (λ tables. MayBeLost network.now tables.outages) }
 {
-    let shift = shift_table(alloc, network, ptdf)?;
-    let loss = loss_table(alloc, network, lodf)?;
-    let outages = outage_table(alloc, network, contingencies)?;
+    let shift = shift_table(alloc, network, grid.ptdf)?;
+    let loss = loss_table(alloc, network, grid.lodf)?;
+    let outages = outage_table(alloc, network, grid.contingencies)?;
     Ok(Tables {
         shift,
         loss,

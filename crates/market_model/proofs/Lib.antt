@@ -6,6 +6,7 @@ pub mod ListSteps
 pub mod LostLemmas
 pub mod MarketSums
 pub mod MorePlaces
+pub mod OneSidedDuals
 pub mod Optimum
 pub mod PlaceLists
 pub mod PlaceSums
@@ -14,6 +15,7 @@ pub mod PutInSteps
 pub mod RightFits
 pub mod RowLaws
 pub mod Rows
+pub mod StopLemmas
 pub mod SumSteps
 pub mod TableLemmas
 pub mod WholeDispatch

@@ -20,11 +20,13 @@ pub fits_by_right : (m : Parts) (a : Answer Fraction) → IsRight m a → FitsMa
 fits_by_right m a right = record {
   dispatch = right.feasible.blocks.count;
   prices = ap (λ (b : Answer Fraction). length b.prices) right.made ∙ length-map-range_with_len (price_made m a.duals) 0 (length m.buses);
-  units = ap (λ (b : Answer Fraction). length b.money.units) right.made ∙ length-map-range_with_len (pay_of_unit m (dispatch_in a) (bus_price m a.duals)) 0 (length m.units);
-  loads = ap (λ (b : Answer Fraction). length b.money.loads) right.made ∙ length-map-range_with_len (pay_of_load m (bus_price m a.duals)) 0 (length m.buses);
-  rents = ap (λ (b : Answer Fraction). map (λ (r : Rent Fraction). r.row) b.money.rents) right.made
-      ∙ map-map (λ (r : Rent Fraction). r.row) (rent_of m (dispatch_in a) a.duals) (named_rows m a.duals)
-      ∙ sym right.proper.named;
+  money = record {
+    units = ap (λ (b : Answer Fraction). length b.money.units) right.made ∙ length-map-range_with_len (pay_of_unit m (dispatch_in a) (bus_price m a.duals)) 0 (length m.units);
+    loads = ap (λ (b : Answer Fraction). length b.money.loads) right.made ∙ length-map-range_with_len (pay_of_load m (bus_price m a.duals)) 0 (length m.buses);
+    rents = ap (λ (b : Answer Fraction). map (λ (r : Rent Fraction). r.row) b.money.rents) right.made
+        ∙ map-map (λ (r : Rent Fraction). r.row) (rent_of m (dispatch_in a) a.duals) (named_rows m a.duals)
+        ∙ sym right.proper.named;
+  };
 }
 
 -- the same of the answer in numbers of its type
@@ -32,8 +34,10 @@ pub fits_by_value : {N : Type 0} (value : N → Fraction) (m : Parts) (a : Answe
 fits_by_value value m a fits = record {
   dispatch = sym (length-map a.dispatch value) ∙ fits.dispatch;
   prices = sym (length-map a.prices (price_at value)) ∙ fits.prices;
-  units = sym (length-map a.money.units (unit_pay_at value)) ∙ fits.units;
-  loads = sym (length-map a.money.loads (load_at value)) ∙ fits.loads;
-  rents = sym (map-map (λ (r : Rent Fraction). r.row) (rent_at value) a.money.rents)
-      ∙ fits.rents ∙ map-map (λ (d : Dual Fraction). d.row) (dual_at value) a.duals.limits;
+  money = record {
+    units = sym (length-map a.money.units (unit_pay_at value)) ∙ fits.money.units;
+    loads = sym (length-map a.money.loads (load_at value)) ∙ fits.money.loads;
+    rents = sym (map-map (λ (r : Rent Fraction). r.row) (rent_at value) a.money.rents)
+        ∙ fits.money.rents ∙ map-map (λ (d : Dual Fraction). d.row) (dual_at value) a.duals.limits;
+  };
 }

@@ -2,16 +2,22 @@
 use Rattle.std.specs.Prelude.{◌≡◌, length, map}
 use Rattle.market_model.specs.declared.participants.Parts.{Parts}
 use Rattle.market_model.specs.declared.answered.Answer.{Answer}
+use Rattle.market_model.specs.declared.answered.Duals.{Duals}
+use Rattle.market_model.specs.declared.answered.Money.{Money}
 use Rattle.market_model.specs.declared.answered.Outcome.{Outcome}
 use Rattle.market_model.specs.declared.answered.Outcome.TheVariants as outcome
 
--- the rents are of the same limits as the duals, in the same order
+-- of a settlement: an entry for each unit and each bus; the rents are of the same limits as the duals, in the same order
+pub record FitsMoney {N : Type 0} (market : Parts) (duals : Duals N) (money : Money N) : Type 0 where
+  pub units : length money.units ≡ length market.units
+  pub loads : length money.loads ≡ length market.buses
+  pub rents : map (λ r. r.row) money.rents ≡ map (λ d. d.row) duals.limits
+
+-- of an answer: an entry for each block and each bus, and in the settlement as there
 pub record FitsMarket {N : Type 0} (market : Parts) (answer : Answer N) : Type 0 where
   pub dispatch : length answer.dispatch ≡ length market.blocks
   pub prices : length answer.prices ≡ length market.buses
-  pub units : length answer.money.units ≡ length market.units
-  pub loads : length answer.money.loads ≡ length market.buses
-  pub rents : map (λ r. r.row) answer.money.rents ≡ map (λ d. d.row) answer.duals.limits
+  pub money : FitsMoney market answer.duals answer.money
 
 -- an answer in an outcome does
 abbrev pub FitsOutcome : {N : Type 0} → Parts → Outcome N → Type 0

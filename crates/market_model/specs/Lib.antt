@@ -15,5 +15,6 @@ pub mod PutIn
 pub mod RightAnswers
 pub mod Settlement
 pub mod Stairs
+pub mod Stops
 pub mod SumTables
 pub mod Valued

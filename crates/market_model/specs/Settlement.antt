@@ -2,7 +2,7 @@
 -- Schweppe and others, Spot Pricing of Electricity: the merchandising surplus. The offsets in rents are own.
 use Rattle.std.specs.Prelude.{ℕ, List, [], ◌∷◌, length, map, ◌++◌}
 use Rattle.fraction_theory.specs.Fraction.{Fraction, neg_ℚ, ◌+ℚ◌, ◌-ℚ◌, ◌*ℚ◌}
-use Rattle.fraction_theory.specs.Sums.{Term, Product, total}
+use Rattle.fraction_theory.specs.Sums.{Term, Plain, Product, total}
 use Rattle.market_model.specs.declared.answered.Load.{Load}
 use Rattle.market_model.specs.declared.answered.UnitPay.{UnitPay}
 use Rattle.market_model.specs.declared.participants.Parts.{Parts}
@@ -47,9 +47,20 @@ surplus m x d = total (surplus_terms m x d)
 abbrev pub priced_flow : Parts → Row → Fraction → Fraction
 priced_flow m r f = limit m r
 
--- what a limit earns: each of its prices for that size less the fixed offset of its flow, on its side
+-- what the upper price of a limit is paid for, where flows are paid for at this size and the flow has a fixed offset: the size less the offset
+abbrev pub upper_terms : Fraction → Fraction → List Term
+upper_terms size offset = Plain size ∷ Plain (neg_ℚ offset) ∷ []
+
+-- what its lower price is paid for: the two together
+abbrev pub lower_terms : Fraction → Fraction → List Term
+lower_terms size offset = Plain size ∷ Plain offset ∷ []
+
+-- what a limit earns at its upper and its lower price, each for what it is paid for
+abbrev pub earned_terms : Fraction → Fraction → Fraction → Fraction → List Term
+earned_terms up down size offset = Product up (size -ℚ offset) ∷ Product down (size +ℚ offset) ∷ []
+
 abbrev pub rent_terms : Parts → Dispatch → Duals Fraction → Row → List Term
-rent_terms m x d r = Product (up_of m d r) (priced_flow m r (flow m x r) -ℚ row_offset m r) ∷ Product (down_of m d r) (priced_flow m r (flow m x r) +ℚ row_offset m r) ∷ []
+rent_terms m x d r = earned_terms (up_of m d r) (down_of m d r) (priced_flow m r (flow m x r)) (row_offset m r)
 
 unfoldable pub rent : Parts → Dispatch → Duals Fraction → Row → Fraction
 rent m x d r = total (rent_terms m x d r)

@@ -10,6 +10,7 @@ mod limits;
 mod outages;
 mod participants;
 mod putting;
+mod stops;
 
 pub use amounts::datum;
 pub use answered::{
@@ -21,6 +22,7 @@ pub use market_data::{Bus, MONEY_PLACES, MW_PLACES, PRICE_PLACES, Unit, UnitList
 pub use participants::{Block, Factor, Line, Parts, Side};
 pub use plain_list::{List, Memory};
 pub use putting::{injections, output};
+pub use stops::Stop;
 
 #[cfg(test)]
 mod tests;

@@ -32,7 +32,7 @@ use Rattle.market_model.specs.LimitRows.{rows, row_factor}
 use Rattle.market_model.specs.NamedSums.{SameSize, term_at, IsSumStep}
 use Rattle.market_model.specs.Optimality.{bus_price, block_value, congestion_terms, price_terms, net_shadow_price, unit_price, welfare_terms}
 use Rattle.market_model.specs.Settlement.{surplus_terms}
-use Rattle.market_model.specs.SumTables.{injection_at, flow_of_line, FlowSum, carried, balance_of_all, flow_of_row, PriceSum, congestion_at, price_at, MoneySum, welfare_of_all, surplus_of_all, rent_of_row}
+use Rattle.market_model.specs.SumTables.{injection_at, flow_of_line, FlowSum, carried, balance_of_all, flow_of_row, PriceSum, congestion_at, price_at, PaymentSum, left_of_all, rent_of_row, MoneySum, welfare_of_all, payment_at_duals}
 use Rattle.market_model.proofs.FarkasLaw.{farkas_terms-bare}
 use Rattle.market_model.proofs.RowLaws.{no_rows, no_row, bus_price-bare, congestion-bare}
 use Rattle.market_system.specs.MarketSystem.{balance_name, system_of, choice_dispatch, choice_duals}
@@ -255,12 +255,8 @@ module _ (m : Parts) (market : IsMarket m) (lines : m.lines ≡ []) (modest : Is
         paid : ℕ → Term
         paid u = Product (neg_ℚ (unit_price m d u)) (output m x u)
 
-    money_sum_fits : IsRightChoice m [] h → (terms : List Term) → MoneySum m [] (choice_dispatch m [] h) (choice_duals m [] h) terms → (op : Op) (l r : Fraction) → IsSumStep terms op l r → Passes most op l r → ⊥
-    money_sum_fits best terms welfare_of_all op l r step p =
-        step_fits terms (modest_price * most_output)
-        (Prim.omega (arith, market.block_count, length-map (places (length m.blocks)) (λ j. Product (block_value m j) (accepted (choice_dispatch m [] h) j)), length-range_with_len 0 (length m.blocks)))
-        (welfare_each best) (Prim.omega arith) op l r step p
-    money_sum_fits best terms surplus_of_all op l r step p =
+    payment_fits : IsRightChoice m [] h → (terms : List Term) → PaymentSum m [] (choice_dispatch m [] h) (bus_price m (choice_duals m [] h)) (choice_duals m [] h) terms → (op : Op) (l r : Fraction) → IsSumStep terms op l r → Passes most op l r → ⊥
+    payment_fits best terms left_of_all op l r step p =
         step_fits terms (modest_price * most_output)
         (Prim.omega (
           arith,
@@ -273,7 +269,14 @@ module _ (m : Parts) (market : IsMarket m) (lines : m.lines ≡ []) (modest : Is
           length-range_with_len 0 (length m.units),
         ))
         (surplus_each best) (Prim.omega arith) op l r step p
-    money_sum_fits best terms (rent_of_row r c) op l k step p = absurd (Prim.omega (arith, c.1))
+    payment_fits best terms (rent_of_row r c) op l k step p = absurd (Prim.omega (arith, c.1))
+
+    money_sum_fits : IsRightChoice m [] h → (terms : List Term) → MoneySum m [] (choice_dispatch m [] h) (choice_duals m [] h) terms → (op : Op) (l r : Fraction) → IsSumStep terms op l r → Passes most op l r → ⊥
+    money_sum_fits best terms welfare_of_all op l r step p =
+        step_fits terms (modest_price * most_output)
+        (Prim.omega (arith, market.block_count, length-map (places (length m.blocks)) (λ j. Product (block_value m j) (accepted (choice_dispatch m [] h) j)), length-range_with_len 0 (length m.blocks)))
+        (welfare_each best) (Prim.omega arith) op l r step p
+    money_sum_fits best terms (payment_at_duals _ payment) op l r step p = payment_fits best terms payment op l r step p
 
     abbrev FitsOf : Option Kind → List Term → Type 0
     FitsOf (Some kind) terms = Unit {0}

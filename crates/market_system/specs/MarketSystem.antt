@@ -77,11 +77,17 @@ name m (Block j) = j
 name m Balance = balance_name m
 name m (Limit r) = row_name m r
 
--- by how much a MW of a column raises a row
+-- by how much a MW of a column raises a row; blocks are the columns, and the balance and limit rows the rows
 abbrev pub coefficient : Parts → Variable → Variable → Fraction
 coefficient m Balance (Block j) = block_sign m j
+coefficient m Balance Balance = zero
+coefficient m Balance (Limit s) = zero
 coefficient m (Limit r) (Block j) = block_coefficient m r j
-coefficient m row column = zero
+coefficient m (Limit r) Balance = zero
+coefficient m (Limit r) (Limit s) = zero
+coefficient m (Block k) (Block j) = zero
+coefficient m (Block k) Balance = zero
+coefficient m (Block k) (Limit s) = zero
 
 -- what a MW of it is worth
 abbrev pub objective_price : Parts → Variable → Fraction

@@ -17,6 +17,9 @@ use record_reading::{CellFault, FrameFault, Why, push_some};
 use std::alloc::Global;
 use thiserror::Error;
 
+/// The header of the table.
+const OFFER_HEADER: &[&str] = &["unit", "side", "mw", "price"];
+
 /// Why a table of offers is refused. A line is a record's place, where the header's is 1.
 #[derive(Clone, Copy, Debug, PartialEq, Eq, Error)]
 pub enum OfferFault {
@@ -247,13 +250,7 @@ pub fn blocks(alloc: Global, units: &UnitList, bytes: &[u8]) -> Result<List<Bloc
     ensures room { All HasSides units.now.units → IfOk result (HaveRoom units.now.units) }
     ensures is { result ≢ Err OfferFault.Memory → result ≡ blocks_of_table units.now bytes.now }
 {
-    let header = [
-        b"unit".as_slice(),
-        b"side".as_slice(),
-        b"mw".as_slice(),
-        b"price".as_slice(),
-    ];
-    match read_table(alloc, bytes, header.as_slice(), Some(MOST_BLOCKS)) {
+    match read_table(alloc, bytes, OFFER_HEADER, Some(MOST_BLOCKS)) {
         Ok(table) => blocks_of(alloc, units, &table),
         Err(fault) => Err(OfferFault::from(fault)),
     }

@@ -85,7 +85,7 @@ replays_read_apart m [] (o ∷ outcomes) others none l e = absurd none
 replays_read_apart m (s ∷ steps) outcomes others k l e = steps_apart 1 m (s ∷ steps) outcomes others k l e
 
 -- ---- right outcomes fit
-right_in : (bound : ℕ) (m : Parts) (taken : List Row) (o : Outcome Fraction) → IsRightOutcome bound m taken o → IsRightIn m o
+pub right_in : (bound : ℕ) (m : Parts) (taken : List Row) (o : Outcome Fraction) → IsRightOutcome bound m taken o → IsRightIn m o
 right_in bound m taken (outcome.Cleared a) right = right
 right_in bound m taken (outcome.Infeasible f) right = right
 right_in bound m taken (outcome.Range p) right = tt
@@ -98,7 +98,7 @@ reply_fits bound m before after step.Clear reply.Accepted none = absurd none
 reply_fits bound m before after step.Clear (reply.Refused f) none = absurd none
 reply_fits bound m before after step.Clear (reply.Clear o) is = outcome_fits m o (right_in bound m before o is.right)
 
-replay_fits : (bound : ℕ) (m : Parts) (before after : List Row) (steps : List Step) (os : List (StepOutcome Fraction)) → IsReplay bound m before steps os after → OutcomesFit m steps os
+pub replay_fits : (bound : ℕ) (m : Parts) (before after : List Row) (steps : List Step) (os : List (StepOutcome Fraction)) → IsReplay bound m before steps os after → OutcomesFit m steps os
 replay_fits bound m before after [] [] replay = tt
 replay_fits bound m before after [] (o ∷ os) none = absurd none
 replay_fits bound m before after (s ∷ steps) [] none = absurd none

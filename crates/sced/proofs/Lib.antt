@@ -2,4 +2,6 @@ pub mod AnswerLemmas
 pub mod DecidedLemmas
 pub mod EndLemmas
 pub mod FileLemmas
+mod HeadlineLemmas
 pub mod ReadingLemmas
+mod RunLemmas

@@ -3,7 +3,7 @@ use Rattle.std.proofs.Common.{◌≡◌, ℕ, List, Result, Ok, Err, Option, Som
 use Rattle.std.specs.Prelude.{IfOk, MatchResult}
 use Rattle.outside_store.specs.Files.{Files, SameFiles, Reads}
 use Rattle.outside_store.specs.declared.Store.{Ghosts}
-use Rattle.sced.specs.Reading.{ReadsTable}
+use Rattle.sced.specs.Reading.{ReadsTable, Source, header_alone, in_file}
 use Rattle.sced.specs.Runs.{OnlyReads}
 
 -- ---- files that stay as they were
@@ -27,9 +27,9 @@ reads-same None now name bytes same read = tt
 reads-same (Some f) None name bytes same read = absurd same
 reads-same (Some f) (Some h) name bytes same (whole, at, cut) = (whole, sym (same name) ∙ at, cut)
 
-pub table-same : (old now : Option Files) (name : Option (List ℕ)) (header bytes : List ℕ) → SameFiles old now → ReadsTable now name header bytes → ReadsTable old name header bytes
-table-same old now (Some name) header bytes same read = reads-same old now name bytes same read
-table-same old now None header bytes same read = read
+pub table-same : (old now : Option Files) (source : Source) (bytes : List ℕ) → SameFiles old now → ReadsTable now source bytes → ReadsTable old source bytes
+table-same old now (in_file name) bytes same read = reads-same old now name bytes same read
+table-same old now (header_alone header) bytes same read = read
 
 -- what only reads some files only reads those of a wider choice
 pub reads-of : {S : Type 0} (store : Ghosts S) (old new : S) (asked wider : List ℕ → Type 0) (failed : Type 0) → ((file : List ℕ) → asked file → wider file)

@@ -1,68 +1,66 @@
 -- The files that words name, and the bytes that are read of them.
-use Rattle.std.specs.Prelude.{◌≡◌, ℕ, List, Option, Some, None, codes}
+use Rattle.std.specs.Prelude.{◌≡◌, ℕ, List, Option, Some, None}
 use Rattle.outside_store.specs.Files.{Files, Reads}
 use Rattle.market_inputs.specs.Files.{most_file}
 use Rattle.command_words.specs.Words.{CheckNames, MarketNames}
-use Rattle.command_answers.specs.Inputs.{MarketTexts}
-use Rattle.sced.specs.declared.reading.GridBytes.{GridBytes}
-use Rattle.sced.specs.declared.reading.MarketBytes.{MarketBytes}
+use Rattle.csv_table.specs.Table.{header_line}
+use Rattle.factor_tables.specs.Offsets.{offset_header}
+use Rattle.factor_tables.specs.OutageNumbers.{outage_header}
+use Rattle.factor_tables.specs.Tables.{loss_header}
+use Rattle.market_tables.specs.Tables.{EachOf, EachOfGrid, GridTexts, MarketTexts}
+use Rattle.market_tables.specs.declared.GridTables.{GridTables}
+use Rattle.market_tables.specs.declared.MarketTables.{MarketTables}
+use Rattle.record_reading.specs.Records.{Record}
 
--- ---- a table that no file is named for is its header alone
-abbrev pub lodf_header : List ℕ
-lodf_header = codes "branch,outage,factor\n"
+-- ---- where the text of a table comes from
+-- a file of this name, or this header alone
+pub data Source : Type 0 where
+  in_file : List ℕ → Source
+  header_alone : Record → Source
 
-abbrev pub contingencies_header : List ℕ
-contingencies_header = codes "branch\n"
+-- that of a table which no file may be named for
+abbrev pub source_of : Record → Option (List ℕ) → Source
+source_of header (Some name) = in_file name
+source_of header None = header_alone header
 
-abbrev pub offsets_header : List ℕ
-offsets_header = codes "branch,mw\n"
-
-abbrev pub edits_header : List ℕ
-edits_header = codes "op,target,side,block,value\n"
-
--- what is read of a table, which no file may be named for
-abbrev pub ReadsTable : Option Files → Option (List ℕ) → List ℕ → List ℕ → Type 0
-ReadsTable files (Some name) header bytes = Reads files name most_file bytes
-ReadsTable files None header bytes = bytes ≡ header
-
--- the bytes of a table, which no file may be named for
-abbrev pub IsTable : Files → Option (List ℕ) → List ℕ → List ℕ → Type 0
-IsTable files (Some name) header bytes = files name ≡ Some bytes
-IsTable files None header bytes = bytes ≡ header
-
--- what is read of a case and of its tables
-pub record ReadsGrid (files : Option Files) (names : CheckNames) (grid : GridBytes) : Type 0 where
-  pub case : Reads files names.case most_file grid.case.items
-  pub ptdf : Reads files names.ptdf most_file grid.ptdf.items
-  pub lodf : ReadsTable files names.lodf lodf_header grid.lodf.items
-  pub contingencies : ReadsTable files names.contingencies contingencies_header grid.contingencies.items
-
--- the names of the case and of its tables
-abbrev pub grid_names : MarketNames → CheckNames
-grid_names names = record { case = names.case; ptdf = names.ptdf; lodf = names.lodf; contingencies = names.contingencies }
-
--- what is read of the files of a market
-pub record ReadsMarket (files : Option Files) (names : MarketNames) (bytes : MarketBytes) : Type 0 where
-  pub grid : ReadsGrid files (grid_names names) bytes.grid
-  pub offers : Reads files names.offers most_file bytes.offers.items
-  pub offsets : ReadsTable files names.offsets offsets_header bytes.offsets.items
-
--- the texts that were read
-abbrev pub texts_in : MarketBytes → MarketTexts
-texts_in bytes = record {
-  case = bytes.grid.case.items;
-  ptdf = bytes.grid.ptdf.items;
-  lodf = bytes.grid.lodf.items;
-  contingencies = bytes.grid.contingencies.items;
-  offers = bytes.offers.items;
-  offsets = bytes.offsets.items;
+-- those of the files of a check
+abbrev pub grid_sources : CheckNames → GridTables Source Source
+grid_sources names = record {
+  case = in_file names.case;
+  ptdf = in_file names.ptdf;
+  lodf = source_of loss_header names.lodf;
+  contingencies = source_of outage_header names.contingencies;
 }
 
--- the whole texts of the files of a market
-pub record HaveTexts (files : Files) (names : MarketNames) (texts : MarketTexts) : Type 0 where
-  pub case : files names.case ≡ Some texts.case
-  pub ptdf : files names.ptdf ≡ Some texts.ptdf
-  pub lodf : IsTable files names.lodf lodf_header texts.lodf
-  pub contingencies : IsTable files names.contingencies contingencies_header texts.contingencies
-  pub offers : files names.offers ≡ Some texts.offers
-  pub offsets : IsTable files names.offsets offsets_header texts.offsets
+-- those of the files of a market
+abbrev pub table_sources : MarketNames → MarketTables Source Source
+table_sources names = record {
+  grid = grid_sources names.tables.grid;
+  offers = in_file names.tables.offers;
+  offsets = source_of offset_header names.tables.offsets;
+}
+
+-- ---- the texts
+-- what is read of a table
+abbrev pub ReadsTable : Option Files → Source → List ℕ → Type 0
+ReadsTable files (in_file name) bytes = Reads files name most_file bytes
+ReadsTable files (header_alone header) bytes = bytes ≡ header_line header
+
+-- the whole text of a table
+abbrev pub IsTable : Files → Source → List ℕ → Type 0
+IsTable files (in_file name) text = files name ≡ Some text
+IsTable files (header_alone header) text = text ≡ header_line header
+
+-- what is read of the files of a check, and of those of a market
+abbrev pub ReadsGrid : Option Files → CheckNames → GridTexts → Type 0
+ReadsGrid files names bytes = EachOfGrid (ReadsTable files) (grid_sources names) bytes
+
+abbrev pub ReadsMarket : Option Files → MarketNames → MarketTexts → Type 0
+ReadsMarket files names bytes = EachOf (ReadsTable files) (table_sources names) bytes
+
+-- their whole texts
+abbrev pub HaveGridTexts : Files → CheckNames → GridTexts → Type 0
+HaveGridTexts files names texts = EachOfGrid (IsTable files) (grid_sources names) texts
+
+abbrev pub HaveTexts : Files → MarketNames → MarketTexts → Type 0
+HaveTexts files names texts = EachOf (IsTable files) (table_sources names) texts

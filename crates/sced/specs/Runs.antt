@@ -3,11 +3,26 @@ use Rattle.std.specs.Prelude.{◌≡◌, ◌⊎◌, ℕ, List, Option, Some, Non
 use Rattle.outside_store.specs.Causes.{Rose, Still}
 use Rattle.outside_store.specs.Files.{Files, SameFiles, Wrote}
 use Rattle.outside_store.specs.Sinks.{Took}
+use Rattle.outside_store.specs.declared.Sink as Sink
+use Rattle.outside_store.specs.declared.Store as Store
 use Rattle.outside_store.specs.declared.Store.{Ghosts}
 use Rattle.command_words.specs.Words.{AsksNothing, NamesFile, NamesToWrite}
 use Rattle.command_answers.specs.Tellings.{Telling}
 use Rattle.command_answers.specs.declared.status.Status.{Status}
 use Rattle.command_answers.specs.declared.status.Status.TheVariants as status
+
+-- What a run meets outside: the files, where the store tells them; how often a read and a write of each name failed; what the sink took,
+-- where it tells that; and how often a put failed.
+pub record Outside : Type 0 where
+  pub files : Option Files
+  pub failed_reads : List ℕ → ℕ
+  pub failed_writes : List ℕ → ℕ
+  pub taken : Option (List ℕ)
+  pub failed_puts : ℕ
+
+-- what this store and this sink are to a run
+abbrev pub outside_of : {S K : Type 0} → Store.Ghosts S → Sink.Ghosts K → S → K → Outside
+outside_of store sink s k = record { files = store.files s; failed_reads = store.failed_reads s; failed_writes = store.failed_writes s; taken = sink.taken k; failed_puts = sink.faults k }
 
 -- a status that comes with no text
 abbrev pub IsSilent : Status → Type 0
@@ -35,16 +50,16 @@ pub record OnlyReads {S : Type 0} (store : Ghosts S) (old new : S) (asked : List
 
 -- ---- what a run counts
 -- a run ends for a failed read only where one of a file that the words name for reading failed, and else none is counted
-pub record CountsReads {S : Type 0} (store : Ghosts S) (old new : S) (words : List (List ℕ)) (s : Status) : Type 0 where
-  pub failed : s ≡ status.ReadFailed → (file : List ℕ) × NamesFile words file × Rose (store.failed_reads old file) (store.failed_reads new file)
-  pub still : ¬ (s ≡ status.ReadFailed) → Still (store.failed_reads old) (store.failed_reads new)
+pub record CountsReads (words : List (List ℕ)) (before after : Outside) (s : Status) : Type 0 where
+  pub failed : s ≡ status.ReadFailed → (file : List ℕ) × NamesFile words file × Rose (before.failed_reads file) (after.failed_reads file)
+  pub still : ¬ (s ≡ status.ReadFailed) → Still before.failed_reads after.failed_reads
 
 -- it ends for a failed write or put only where a write of a file that the words name for writing failed, or a put, and else neither is
--- counted; of the sink these are its counts of faults
-pub record CountsWrites {S : Type 0} (store : Ghosts S) (old new : S) (before now : ℕ) (words : List (List ℕ)) (s : Status) : Type 0 where
+-- counted
+pub record CountsWrites (words : List (List ℕ)) (before after : Outside) (s : Status) : Type 0 where
   pub failed : s ≡ status.WriteFailed
-      → ((file : List ℕ) × NamesToWrite words file × Rose (store.failed_writes old file) (store.failed_writes new file)) ⊎ Rose before now
-  pub still : ¬ (s ≡ status.WriteFailed) → Still (store.failed_writes old) (store.failed_writes new) × (now ≡ before)
+      → ((file : List ℕ) × NamesToWrite words file × Rose (before.failed_writes file) (after.failed_writes file)) ⊎ Rose before.failed_puts after.failed_puts
+  pub still : ¬ (s ≡ status.WriteFailed) → Still before.failed_writes after.failed_writes × (after.failed_puts ≡ before.failed_puts)
 
 -- ---- what a run leaves
 -- a file with its bytes is written, or none is
@@ -69,9 +84,9 @@ pub record WritesFor {S : Type 0} (store : Ghosts S) (old new : S) (name : Optio
   pub still : ¬ failed → Still (store.failed_writes old) (store.failed_writes new)
 
 -- where a run has nothing to tell, nothing is put and every file is as it was
-pub record LeavesAll (before now : Option Files) (taken_before taken_now : Option (List ℕ)) : Type 0 where
-  pub files : SameFiles before now
-  pub taken : taken_now ≡ taken_before
+pub record LeavesAll (before after : Outside) : Type 0 where
+  pub files : SameFiles before.files after.files
+  pub taken : after.taken ≡ before.taken
 
 -- the words are refused only where they are none that the program takes, and then always, but for a failed put and want of memory
 pub record TellsUsage (words : List (List ℕ)) (s : Status) : Type 0 where

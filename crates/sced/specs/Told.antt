@@ -7,15 +7,17 @@ use Rattle.refusal_text.specs.declared.refusals.Refusal.{Refusal}
 use Rattle.command_words.specs.Words.{AsksCheck, AsksClear, AsksMake, AsksNothing, AsksPool, AsksReplay, AsksVerify, CheckNames, MarketNames}
 use Rattle.command_answers.specs.Checking.{TellsCheck}
 use Rattle.command_answers.specs.Clearing.{TellsClear, most_size}
-use Rattle.command_answers.specs.Inputs.{IsCertified, IsCheck, IsLimited, IsPool, IsReplayed, MarketCertificate, MarketSteps, MarketTexts}
+use Rattle.command_answers.specs.Inputs.{IsCertified, IsCheck, IsLimited, IsPool, IsReplayed, MarketCertificate, MarketSteps}
 use Rattle.command_answers.specs.Making.{MakesTo}
 use Rattle.command_answers.specs.Replaying.{TellsReplay}
 use Rattle.command_answers.specs.Tellings.{Telling, Tells, telling_of}
 use Rattle.command_answers.specs.Verifying.{TellsVerdict}
 use Rattle.command_answers.specs.declared.status.Status.{Status}
 use Rattle.command_answers.specs.declared.status.Status.TheVariants as status
-use Rattle.sced.specs.Reading.{HaveTexts, IsTable, contingencies_header, edits_header, lodf_header}
-use Rattle.sced.specs.Runs.{Ends}
+use Rattle.edit_table.specs.EditTable.{header as edit_header}
+use Rattle.market_tables.specs.Tables.{GridTexts, MarketTexts}
+use Rattle.sced.specs.Reading.{HaveGridTexts, HaveTexts, IsTable, source_of}
+use Rattle.sced.specs.Runs.{Ends, Outside}
 use Rattle.sced.specs.declared.run.Work.{Work}
 
 -- ---- the files
@@ -47,21 +49,15 @@ pub record AreVerifyFiles (files : Files) (names : MarketNames) (edits_name : Op
   pub edits : List ℕ
   pub certificate : List ℕ
   pub have : HaveTexts files names texts
-  pub edits_are : IsTable files edits_name edits_header edits
+  pub edits_are : IsTable files (source_of edit_header edits_name) edits
   pub certificate_is : files certificate_name ≡ Some certificate
   pub certified : IsCertified names.rating texts edits certificate told
 
 -- those of a check stand for these inputs
 pub record AreCheckFiles (files : Files) (names : CheckNames) (told : Result Inputs Refusal) : Type 0 where
-  pub case : List ℕ
-  pub ptdf : List ℕ
-  pub lodf : List ℕ
-  pub contingencies : List ℕ
-  pub case_is : files names.case ≡ Some case
-  pub ptdf_is : files names.ptdf ≡ Some ptdf
-  pub lodf_is : IsTable files names.lodf lodf_header lodf
-  pub contingencies_is : IsTable files names.contingencies contingencies_header contingencies
-  pub inputs : IsCheck case ptdf lodf contingencies told
+  pub texts : GridTexts
+  pub have : HaveGridTexts files names texts
+  pub inputs : IsCheck texts told
 
 -- ---- where the files are told
 -- what is told is right for what the files stand for
@@ -98,8 +94,8 @@ pub data AnswersTo (files : Option Files) (words : List (List ℕ)) (t : Telling
   made : (buses seed : ℕ) → AsksMake words buses seed → MakesTo most_size buses seed t → AnswersTo files words t None
 
 -- what is told is right for the words and for the files that these name, and so is the file that is written
-pub record Answers (words : List (List ℕ)) (before now : Option Files) (taken_before taken_now : Option (List ℕ)) (s : Status) : Type 0 where
+pub record Answers (words : List (List ℕ)) (before after : Outside) (s : Status) : Type 0 where
   pub telling : Telling
   pub written : Option (List ℕ × List ℕ)
-  pub right : AnswersTo before words telling written
-  pub ends : Ends telling written before now taken_before taken_now s
+  pub right : AnswersTo before.files words telling written
+  pub ends : Ends telling written before.files after.files before.taken after.taken s

@@ -52,6 +52,32 @@ const SAME_LOAD: &str = "1 3 0 0 0 0 1 1 0 230 1 1.1 0.9;
 3 1 6.000e1 -0 0 0 1 1 0 230 1 1.1 0.9;
 ";
 
+/// A load of 60 at bus 4, to which three branches lead that may carry 10 each.
+const STAR: &str = "function mpc = s4
+mpc.version = '2';
+mpc.baseMVA = 100;
+mpc.bus = [
+1 1 0 0 0 0 1 1 0 230 1 1.1 0.9;
+2 1 0 0 0 0 1 1 0 230 1 1.1 0.9;
+3 1 0 0 0 0 1 1 0 230 1 1.1 0.9;
+4 3 60 0 0 0 1 1 0 230 1 1.1 0.9;
+];
+mpc.gen = [
+1 0 0 0 0 1 100 1 100 0;
+2 0 0 0 0 1 100 1 100 0;
+3 0 0 0 0 1 100 1 100 0;
+];
+mpc.branch = [
+1 4 0 0.1 0 10 0 0 0 0 1 -360 360;
+2 4 0 0.1 0 10 0 0 0 0 1 -360 360;
+3 4 0 0.1 0 10 0 0 0 0 1 -360 360;
+];
+";
+
+/// 60 MW are wanted and 30 can come: a price of 1 on each branch and for energy leaves 30 less 60.
+const CUT: &str =
+    "infeasible\nbound -30\nenergy 1\nlimit 1 base up 1 down 0\nlimit 2 base up 1 down 0\nlimit 3 base up 1 down 0\n";
+
 /// Runs words over a case and its tables.
 fn expect_clear<R: Abort + AllocGlobal>(
     rt: &R,
@@ -165,4 +191,25 @@ fn tells_failed_reads_and_puts(rt: HostRuntime) -> Result<(), Fail> {
         expect_clear(&rt, line, case.as_str(), (reads, puts), whole(status, ""))?;
     }
     Ok(())
+}
+
+#[test]
+fn shows_infeasible_by_three_limits(rt: HostRuntime) -> Result<(), Fail> {
+    let files: [(&str, &[u8]); 3] = [
+        ("star.m", STAR.as_bytes()),
+        ("shift.csv", b"branch,bus,factor\n1,1,1\n2,2,1\n3,3,1\n"),
+        (
+            "offers.csv",
+            b"unit,side,mw,price\n1,sell,100,10\n2,sell,100,20\n3,sell,100,30\n",
+        ),
+    ];
+    let line = "sced clear --case star.m --ptdf shift.csv --offers offers.csv";
+    let all = ([].as_slice(), [].as_slice());
+    expect(
+        &rt,
+        line,
+        files.as_slice(),
+        all,
+        whole(Status::Infeasible, CUT),
+    )
 }

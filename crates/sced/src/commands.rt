@@ -12,10 +12,10 @@ ghost use Rattle.command_words.specs.Words.{IsCheckFile, IsMarketFile, IsPoolFil
 ghost use Rattle.sced.specs.Runs.{IsSilent, OnlyReads};
 ghost use Rattle.sced.specs.Told.{AreCheckFiles, AreClearFiles, ArePoolFiles, AreReplayFiles, AreVerifyFiles, OfFiles};
 
-use crate::reading::{lent, read_file, read_grid, read_market, read_table};
+use crate::reading::{read_file, read_grid, read_market, read_table};
 use command_answers::{Status, Told, check_told, clear_told, pool_told, replay_told, verify_told};
-use command_words::{CheckFiles, MarketFiles, PoolFiles, ReplayFiles, VerifyFiles};
-use market_inputs::CheckBytes;
+use command_words::{CheckNames, MarketNames, PoolFiles, ReplayFiles, VerifyFiles};
+use edit_table::EDIT_HEADER;
 use outside_store::Store;
 use plain_list::Memory;
 use std::alloc::Global;
@@ -49,7 +49,7 @@ pub fn pool_files<S: Store>(
 /// What the files of a market come to.
 pub fn clear_files<S: Store>(
     alloc: Global,
-    files: &MarketFiles<'_>,
+    files: &MarketNames<'_>,
     store: &mut S,
 ) -> Result<Told, Status>
     ensures told { MatchResult result (λ told. IsOfWork told.status) IsSilent }
@@ -57,7 +57,7 @@ pub fn clear_files<S: Store>(
     ensures reads { OnlyReads S.Store store.old store.new (IsMarketFile (names_of_market files.now)) (result ≡ Err Status.ReadFailed) }
 {
     let bytes = read_market(alloc, files, store)?;
-    or_memory(clear_told(alloc, &lent(&bytes), files.rating))
+    or_memory(clear_told(alloc, &bytes.as_slices(), files.rating))
 }
 
 /// What these come to with a table of edits.
@@ -73,7 +73,12 @@ pub fn replay_files<S: Store>(
 {
     let bytes = read_market(alloc, &files.market, store)?;
     let edits = read_file(alloc, store, files.edits)?;
-    let told = replay_told(alloc, &lent(&bytes), files.market.rating, edits.as_slice());
+    let told = replay_told(
+        alloc,
+        &bytes.as_slices(),
+        files.market.rating,
+        edits.as_slice(),
+    );
     or_memory(told)
 }
 
@@ -89,11 +94,11 @@ pub fn verify_files<S: Store>(
     ensures reads { OnlyReads S.Store store.old store.new (IsVerifyFile (names_of_market files.now.market) (option_map (λ n. n.now) files.now.edits) files.now.certificate.now) (result ≡ Err Status.ReadFailed) }
 {
     let bytes = read_market(alloc, &files.market, store)?;
-    let edits = read_table(alloc, store, files.edits, b"op,target,side,block,value\n")?;
+    let edits = read_table(alloc, store, files.edits, EDIT_HEADER)?;
     let certificate = read_file(alloc, store, files.certificate)?;
     or_memory(verify_told(
         alloc,
-        &lent(&bytes),
+        &bytes.as_slices(),
         files.market.rating,
         edits.as_slice(),
         certificate.as_slice(),
@@ -103,7 +108,7 @@ pub fn verify_files<S: Store>(
 /// What the case and its tables come to.
 pub fn check_files<S: Store>(
     alloc: Global,
-    files: &CheckFiles<'_>,
+    files: &CheckNames<'_>,
     store: &mut S,
 ) -> Result<Told, Status>
     ensures told { MatchResult result (λ told. IsOfWork told.status) IsSilent }
@@ -111,11 +116,5 @@ pub fn check_files<S: Store>(
     ensures reads { OnlyReads S.Store store.old store.new (IsCheckFile (names_to_check files.now)) (result ≡ Err Status.ReadFailed) }
 {
     let grid = read_grid(alloc, files, store)?;
-    let bytes = CheckBytes {
-        case: grid.case.as_slice(),
-        ptdf: grid.ptdf.as_slice(),
-        lodf: grid.lodf.as_slice(),
-        contingencies: grid.contingencies.as_slice(),
-    };
-    or_memory(check_told(alloc, &bytes))
+    or_memory(check_told(alloc, &grid.as_slices()))
 }

@@ -1,7 +1,12 @@
 //! `sced`: clears the market of one interval of an electricity network, and checks the tables that say how flows split.
 #![tactic(auto)]
 
+ghost use Rattle.std.specs.Prelude.{◌≡◌};
+ghost use Rattle.std.specs.Process.{exit_status};
+ghost use Rattle.command_answers.specs.Status.{code_of};
+
 mod commands;
+pub mod laws;
 mod reading;
 pub mod run;
 
@@ -29,6 +34,14 @@ fn collected(rt: &HostRuntime) -> Result<Vec<String>, Status> {
     }
 }
 
+/// The exit code of a status.
+fn exit_code(status: Status) -> ExitCode
+    ensures { exit_status result ≡ code_of status }
+{
+    ExitCode::from(status.code())
+}
+
+/// Hands the words of this run, the real files and standard output to `run`, and ends with the exit code of its status.
 fn main(rt: HostRuntime) -> ExitCode {
     let status = match collected(&rt) {
         Ok(words) => {
@@ -38,7 +51,7 @@ fn main(rt: HostRuntime) -> ExitCode {
         }
         Err(status) => status,
     };
-    ExitCode::from(status.code())
+    exit_code(status)
 }
 
 #[cfg(test)]

@@ -5,9 +5,9 @@ ghost use Rattle.outside_store.specs.Causes.{Rose, Still};
 ghost use Rattle.outside_store.specs.Sinks.{Took, CountFault};
 ghost use Rattle.command_answers.specs.Tellings.{telling_of};
 ghost use Rattle.command_words.specs.Words.{NamesFile, NamesToWrite};
-ghost use Rattle.sced.specs.Decided.{IsDecidedOf, IsMadeOf};
-ghost use Rattle.sced.specs.Runs.{CountsReads, CountsWrites, Ends, IsSilent, IsTold, FailedFor, Keeps, LeavesAll, OnlyReads, TellsUsage, WritesFor};
-ghost use Rattle.sced.specs.Told.{Answers, AnswersTo, name_for, written_by};
+ghost use Rattle.sced.specs.Promise.{Runs};
+ghost use Rattle.sced.specs.Runs.{Ends, FailedFor, IsSilent, IsTold, Keeps, OnlyReads, TellsUsage, WritesFor, outside_of};
+ghost use Rattle.sced.specs.Told.{AnswersTo, name_for, written_by};
 
 use crate::commands::{
     check_files, clear_files, or_memory, pool_files, replay_files, verify_files,
@@ -121,25 +121,9 @@ fn finish<S: Store, K: Sink>(store: &mut S, out: &mut K, work: &Work<'_>) -> Sta
 /// Runs the command that the words ask for, over the files of a store: writes the certificate that it comes to, where a file is named
 /// for it, and puts its text.
 ///
-/// The whole text is made first and put once.
+/// The whole text is made first and put once. What the contract means in its users' words, `laws` says.
 pub fn run<S: Store, K: Sink>(alloc: Global, words: &[String], store: &mut S, out: &mut K) -> Status
-    // The words are refused only where they are none that the program takes, and then always, but for a failed put and want of memory.
-    ensures usage { TellsUsage (map string_bytes words.entry.now) result }
-    // It ends for a failed read only where one of a file that the words name for reading failed.
-    ensures reads { CountsReads S.Store store.old store.new (map string_bytes words.entry.now) result }
-    // It ends for a failed write or put only where one failed, of a file that the words name for writing or of the text.
-    ensures writes { CountsWrites S.Store store.old store.new (K.faults out.old) (K.faults out.new) (map string_bytes words.entry.now) result }
-    // Where a failed write is counted, nothing is put.
-    ensures cut { ¬ (Still (S.failed_writes store.old) (S.failed_writes store.new)) → K.taken out.new ≡ K.taken out.old }
-    // Where a read failed or memory was refused, no text is put and no file is written.
-    ensures silent { IsSilent result → LeavesAll (S.files store.old) (S.files store.new) (K.taken out.old) (K.taken out.new) }
-    // Else a certificate is written where the words name a file for it, and one text is put, once. They and the status are right for the
-    // whole bytes of the files that the words name, where the store tells its files.
-    ensures told { ¬ IsSilent result → Answers (map string_bytes words.entry.now) (S.files store.old) (S.files store.new) (K.taken out.old) (K.taken out.new) result }
-    // Where no two numbers of a market pass 127 bits together, a status that comes with a text tells whether a dispatch is feasible, or
-    // whether a certificate holds, and is not that of too large numbers in a replay; a ring is then cleared.
-    ensures decided { IsTold result → IsDecidedOf (S.files store.old) (map string_bytes words.entry.now) result }
-    ensures made { IsTold result → IsMadeOf (map string_bytes words.entry.now) result }
+    ensures runs { Runs (map string_bytes words.entry.now) (outside_of S.Store K.Sink store.old out.old) (outside_of S.Store K.Sink store.new out.new) result }
 {
     match asked_work(alloc, words, store) {
         Ok(work) => finish(store, out, &work),

@@ -2,4 +2,3 @@ pub mod ListLemmas
 pub mod PayLemmas
 pub mod RowLemmas
 pub mod MoneyLemmas
-pub mod RefusalLemmas

@@ -1,9 +1,9 @@
 -- Outputs, demands and prices, and what is worth, paid and refused of them.
-use Rattle.std.specs.Prelude.{◌≡◌, ◌⊎◌, ℕ, ◌+◌, ◌<◌, List, ◌++◌, map, length, refl}
-use Rattle.std.proofs.Common.{ap, ap₂, sym, ◌∙◌, subst, inl, inr, get_or}
+use Rattle.std.specs.Prelude.{◌≡◌, ◌⊎◌, ℕ, ◌+◌, ◌<◌, List, [], ◌∷◌, ◌++◌, map, length, refl}
+use Rattle.std.proofs.Common.{ap, ap₂, sym, ◌∙◌, inl, inr, get_or}
 use Rattle.std.proofs.lemmas.List.{get_or-map}
 use Rattle.fraction_theory.specs.Fraction.{Fraction, whole, neg_ℚ, ◌+ℚ◌, ◌*ℚ◌}
-use Rattle.fraction_theory.specs.Sums.{Term, Product, total}
+use Rattle.fraction_theory.specs.Sums.{Term, Plain, Product, total}
 use Rattle.fraction_theory.proofs.FieldLaws.{ring_ℚ, +ℚ_nil}
 use Rattle.fraction_theory.proofs.Ring.{neg_neg}
 use Rattle.exact_fraction.specs.declared.Op.TheVariants.{Plus, Times}
@@ -15,7 +15,7 @@ use Rattle.market_model.specs.declared.answered.Price.{Price}
 use Rattle.market_model.specs.declared.answered.UnitPay.{UnitPay}
 use Rattle.market_model.specs.declared.participants.Block.{Block}
 use Rattle.market_model.specs.declared.participants.Parts.{Parts}
-use Rattle.market_model.specs.Dispatch.{Dispatch, zero, places, signed_by_side, block_at, unit_at, bus_at, accepted, output, output_terms, demand}
+use Rattle.market_model.specs.Dispatch.{Dispatch, zero, places, signed_by_side, block_at, unit_at, bus_at, accepted, output, output_terms, demand, demand_terms}
 use Rattle.market_model.specs.NamedSums.{IsRefusedIn, IsRefusal}
 use Rattle.market_model.specs.Optimality.{block_value, welfare_terms}
 use Rattle.market_model.specs.Valued.{load_at, unit_pay_at}
@@ -24,8 +24,9 @@ use Rattle.market_model.proofs.SumSteps.{plus_at, multiplied_at, terms_at, behin
 use Rattle.market_model.proofs.PutInSteps.{accepted_is}
 use Rattle.market_model.specs.PutIn.{dispatch_of}
 use Rattle.market_model.specs.Settlement.{pay_of_unit, pay_of_load, left_terms}
+use Rattle.market_model.specs.SumTables.{demand_of_bus, left_of_all, output_of_unit, payment}
 use Rattle.settlement.specs.Paying.{total_at}
-use Rattle.settlement.specs.Refusals.{IsMoneyRefusal, of_output, of_demand, of_money, IsLoadRefusal, IsUnitRefusal}
+use Rattle.settlement.specs.Refusals.{IsMoneyRefusal}
 
 module _ {N : Type 0} (value : N → Fraction) (m : Parts) (ds : List N) where
   abbrev pub welfare_to : ℕ → Fraction
@@ -94,26 +95,31 @@ module _ (m : Parts) (x : Dispatch) (price : ℕ → Fraction) (d : Duals Fracti
   abbrev unit_term : ℕ → Term
   unit_term u = Product (neg_ℚ (price (unit_at m u).bus)) (output m x u)
 
-  pub load_refusal : (i : ℕ) (bus : Bus) (t : Fraction) → i < length m.buses → bus ≡ bus_at m i → t ≡ price i → IsLoadRefusal bound bus t p → IsMoneyRefusal m x price d bound p
-  load_refusal i bus t below at is why = by why
-    where
-      by : IsRefusal Plus (whole bus.pd) (whole bus.gs) bound p ⊎ IsRefusal Times t (whole bus.pd +ℚ whole bus.gs) bound p → IsMoneyRefusal m x price d bound p
-      by (inl h) = of_demand i below (subst (λ (b : Bus). IsRefusal Plus (whole b.pd) (whole b.gs) bound p) at h)
-      by (inr h) =
-          let r = terms_at load_term (length m.buses) i below in
-          let rest : List Term = map unit_term (places (length m.units)) in
-          of_money
-          (multiplied_at (left_terms m x price) (map load_term (places i)) (r.0 ++ rest) (load_term i) (in_front (map load_term (places (length m.buses))) (map load_term (places i)) r.0 rest (load_term i) r.1)
-          bound p t (whole bus.pd +ℚ whole bus.gs) (price i) (demand m i) refl (inl is) (inl (demand_is m i bus at)) h)
+  pub load_refusal : (i : ℕ) (bus : Bus) (t : Fraction) → i < length m.buses → bus ≡ bus_at m i → t ≡ price i
+      → IsRefusal Plus (whole bus.pd) (whole bus.gs) bound p ⊎ IsRefusal Times t (whole bus.pd +ℚ whole bus.gs) bound p → IsMoneyRefusal m x price d bound p
+  load_refusal i bus t below at is (inl h) = (
+    demand_terms m i,
+    demand_of_bus i below,
+    plus_at (demand_terms m i) (Plain (whole (bus_at m i).pd) ∷ []) [] (Plain (whole (bus_at m i).gs)) refl bound p (whole bus.pd) (whole bus.gs)
+        (ap (λ (b : Bus). whole b.pd) at ∙ sym (+ℚ_nil (whole (bus_at m i).pd))) (ap (λ (b : Bus). whole b.gs) at) h,
+  )
+  load_refusal i bus t below at is (inr h) =
+      let r = terms_at load_term (length m.buses) i below in
+      let rest : List Term = map unit_term (places (length m.units)) in (
+        left_terms m x price,
+        payment _ left_of_all,
+        multiplied_at (left_terms m x price) (map load_term (places i)) (r.0 ++ rest) (load_term i) (in_front (map load_term (places (length m.buses))) (map load_term (places i)) r.0 rest (load_term i) r.1)
+            bound p t (whole bus.pd +ℚ whole bus.gs) (price i) (demand m i) refl (inl is) (inl (demand_is m i bus at)) h,
+      )
 
-  pub unit_refusal : (u : ℕ) (t : Fraction) → u < length m.units → t ≡ price (unit_at m u).bus → IsUnitRefusal m x bound u t p → IsMoneyRefusal m x price d bound p
-  unit_refusal u t below is why = by why
-    where
-      by : IsRefusedIn (output_terms m x u) bound p ⊎ IsRefusal Times t (output m x u) bound p → IsMoneyRefusal m x price d bound p
-      by (inl h) = of_output u below h
-      by (inr h) =
-          let r = terms_at unit_term (length m.units) u below in
-          let front : List Term = map load_term (places (length m.buses)) in
-          of_money
-          (multiplied_at (left_terms m x price) (front ++ map unit_term (places u)) r.0 (unit_term u) (behind front (map unit_term (places (length m.units))) (map unit_term (places u)) r.0 (unit_term u) r.1)
-          bound p t (output m x u) (neg_ℚ (price (unit_at m u).bus)) (output m x u) refl (inr (is ∙ sym (neg_neg ring_ℚ (price (unit_at m u).bus)))) (inl refl) h)
+  pub unit_refusal : (u : ℕ) (t : Fraction) → u < length m.units → t ≡ price (unit_at m u).bus → IsRefusedIn (output_terms m x u) bound p ⊎ IsRefusal Times t (output m x u) bound p
+      → IsMoneyRefusal m x price d bound p
+  unit_refusal u t below is (inl h) = (output_terms m x u, output_of_unit u below, h)
+  unit_refusal u t below is (inr h) =
+      let r = terms_at unit_term (length m.units) u below in
+      let front : List Term = map load_term (places (length m.buses)) in (
+        left_terms m x price,
+        payment _ left_of_all,
+        multiplied_at (left_terms m x price) (front ++ map unit_term (places u)) r.0 (unit_term u) (behind front (map unit_term (places (length m.units))) (map unit_term (places u)) r.0 (unit_term u) r.1)
+            bound p t (output m x u) (neg_ℚ (price (unit_at m u).bus)) (output m x u) refl (inr (is ∙ sym (neg_neg ring_ℚ (price (unit_at m u).bus)))) (inl refl) h,
+      )

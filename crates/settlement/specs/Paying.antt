@@ -1,12 +1,11 @@
 -- What units are paid, loads pay and limits earn at prices for the buses.
 -- Schweppe and others, Spot Pricing of Electricity: the merchandising surplus.
-use Rattle.std.specs.Prelude.{◌≡◌, ℕ, ◌<◌, List, [], ◌∷◌, ◌++◌, length, map, slice_index_or}
-use Rattle.fraction_theory.specs.Fraction.{Fraction, neg_ℚ, ◌+ℚ◌, ◌-ℚ◌}
-use Rattle.fraction_theory.specs.Sums.{Term, Plain, Product, total}
+use Rattle.std.specs.Prelude.{◌≡◌, ℕ, ◌<◌, List, ◌++◌, length, map, slice_index_or}
+use Rattle.fraction_theory.specs.Fraction.{Fraction, neg_ℚ}
+use Rattle.fraction_theory.specs.Sums.{Term, Plain, total}
 use Rattle.market_model.specs.declared.answered.Dual.{Dual}
 use Rattle.market_model.specs.declared.answered.Duals.{Duals}
 use Rattle.market_model.specs.declared.answered.Load.{Load}
-use Rattle.market_model.specs.declared.answered.Money.{Money}
 use Rattle.market_model.specs.declared.answered.Price.{Price}
 use Rattle.market_model.specs.declared.answered.Rent.{Rent}
 use Rattle.market_model.specs.declared.answered.UnitPay.{UnitPay}
@@ -14,18 +13,12 @@ use Rattle.market_model.specs.declared.participants.Parts.{Parts}
 use Rattle.market_model.specs.Dispatch.{Dispatch, zero}
 use Rattle.market_model.specs.declared.limits.Row.{Row}
 use Rattle.market_model.specs.LimitRows.{flow_by, row_offset}
-use Rattle.market_model.specs.Settlement.{priced_flow}
+use Rattle.market_model.specs.Settlement.{earned_terms, priced_flow}
 use Rattle.market_model.specs.Optimality.{Feasible, Supports, bus_price}
 
 -- the whole price at a bus; 0 past the end
 abbrev pub total_at : {N : Type 0} → (N → Fraction) → List (Price N) → ℕ → Fraction
 total_at value prices bus = slice_index_or (map (λ p. value p.total) prices) bus zero
-
--- an entry for each unit and each bus, and a rent for each limit with duals
-pub record FitsMoney {N : Type 0} (m : Parts) (duals : Duals N) (money : Money N) : Type 0 where
-  pub units : length money.units ≡ length m.units
-  pub loads : length money.loads ≡ length m.buses
-  pub rents : map (λ r. r.row) money.rents ≡ map (λ d. d.row) duals.limits
 
 -- the prices are those of the duals
 abbrev pub ArePricesOf : Parts → Duals Fraction → (ℕ → Fraction) → Type 0
@@ -38,13 +31,9 @@ pub record IsSupportedAt (m : Parts) (x : Dispatch) (price : ℕ → Fraction) (
   pub supported : Supports m x d
 
 -- ---- parts of it
--- what a limit earns at the prices of a dual for flows of this size, where the flow has a fixed offset
-abbrev pub earned_terms : Dual Fraction → Fraction → Fraction → List Term
-earned_terms e size offset = Product e.up (size -ℚ offset) ∷ Product e.down (size +ℚ offset) ∷ []
-
 -- the flow of a row where lines have flows f, and what its limit earns at the prices of a dual
 abbrev pub earned_by : Parts → (ℕ → Fraction) → Dual Fraction → Row → Rent Fraction
-earned_by m f e r = record { row = e.row; flow = flow_by m f r; rent = total (earned_terms e (priced_flow m r (flow_by m f r)) (row_offset m r)) }
+earned_by m f e r = record { row = e.row; flow = flow_by m f r; rent = total (earned_terms e.up e.down (priced_flow m r (flow_by m f r)) (row_offset m r)) }
 
 -- what loads pay, and the opposite of what units are paid
 abbrev pub paid_terms : {N : Type 0} → (N → Fraction) → List (Load N) → List (UnitPay N) → List Term

@@ -6,10 +6,11 @@ mod loads;
 mod rents;
 mod rows;
 mod settling;
-mod stops;
 mod units;
 mod worth;
 
 pub use settling::{settle, settle_flows};
-pub use stops::MoneyStop;
+
+/// Why a settlement was not made.
+pub use market_model::Stop as MoneyStop;
 pub use worth::welfare;

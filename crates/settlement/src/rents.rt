@@ -9,11 +9,10 @@ ghost use Rattle.market_model.specs.Valued.{duals_at, rent_at};
 ghost use Rattle.limit_screen.specs.Flows.{flows_at};
 ghost use Rattle.settlement.specs.Refusals.{IsMoneyStop};
 
-use crate::MoneyStop;
 use crate::rows::row_rent;
 use exact_fraction::Exact;
 use limit_rows::found_row;
-use market_model::{Duals, List, Market, Rent};
+use market_model::{Duals, List, Market, Rent, Stop};
 use std::alloc::Global;
 
 /// The flow and the rent of each row with a dual, in the order of the duals, of the flows of a dispatch by bus and then by line.
@@ -22,7 +21,7 @@ pub fn rents<N: Exact>(
     market: &Market,
     flows: &[N],
     duals: &Duals<N>,
-) -> Result<List<Rent<N>>, MoneyStop<N>>
+) -> Result<List<Rent<N>>, Stop<N>>
     requires flows { length flows.now ≡ length market.now.buses + length market.now.lines }
     requires duals { ProperDuals market.now (duals_at N.value duals.now) }
     ensures cause { (x : Dispatch) (price : ℕ → Fraction) → map N.value flows.now ≡ flows_at market.now x → IfErr result (IsMoneyStop N.value N.bound market.now x price (duals_at N.value duals.now)) }

@@ -1,25 +1,29 @@
 //! What the limits of rows earn.
 
-ghost use Rattle.std.specs.Prelude.{◌≡◌, ◌+◌, ◌<◌, length, map, IfOk, IfErr};
+ghost use Rattle.std.specs.Prelude.{◌≡◌, ◌⊎◌, ◌+◌, ◌<◌, length, map, IfOk, IfErr};
 ghost use Rattle.fraction_theory.specs.Sums.{total};
-ghost use Rattle.market_model.specs.LimitRows.{IsCauseAmong};
+ghost use Rattle.market_model.specs.LimitRows.{IsCauseAmong, flow_by, row_offset as offset_of_row};
+ghost use Rattle.market_model.specs.NamedSums.{IsRefusedIn};
 ghost use Rattle.market_model.specs.Optimality.{IsOneSided};
+ghost use Rattle.market_model.specs.Settlement.{earned_terms, lower_terms, priced_flow, upper_terms};
+ghost use Rattle.market_model.specs.SumTables.{IsRefusedAmong, PaidRowSum};
 ghost use Rattle.market_model.specs.Valued.{dual_at, passed_at, rent_at};
 ghost use Rattle.limit_screen.specs.Flows.{line_in};
-ghost use Rattle.settlement.specs.Paying.{earned_by, earned_terms};
-ghost use Rattle.settlement.specs.Refusals.{IsEarningRefusal, IsRentRefusal};
+ghost use Rattle.settlement.specs.Paying.{earned_by};
 
 use exact_fraction::{Exact, Passed, Sign};
-use limit_rows::{limit_at, row_offset};
-use limit_screen::row_flow;
+use limit_rows::{limit_at, row_flow, row_offset};
+use limit_screen::line_flows;
 use market_model::{Dual, Market, Rent, Row, datum};
 
 /// What a limit earns with the one of its two prices that is not 0: on the upper side for the limit less the fixed offset of the
 /// flow, on the lower side for the two together.
 fn earned<N: Exact>(dual: &Dual<N>, limit: N, offset: N) -> Result<N, Passed<N>>
     requires { IsOneSided (dual_at N.value dual.now) }
-    ensures rent { IfOk result (λ rent. N.value rent ≡ total (earned_terms (dual_at N.value dual.now) (N.value limit) (N.value offset))) }
-    ensures cause { IfErr result (λ passed. IsEarningRefusal (dual_at N.value dual.now) (N.value limit) (N.value offset) N.bound (passed_at N.value passed)) }
+    ensures rent { IfOk result (λ rent. N.value rent ≡ total (earned_terms (N.value dual.now.up) (N.value dual.now.down) (N.value limit) (N.value offset))) }
+    ensures cause { IfErr result (λ passed. IsRefusedIn (upper_terms (N.value limit) (N.value offset)) N.bound (passed_at N.value passed)
+        ⊎ IsRefusedIn (lower_terms (N.value limit) (N.value offset)) N.bound (passed_at N.value passed)
+        ⊎ IsRefusedIn (earned_terms (N.value dual.now.up) (N.value dual.now.down) (N.value limit) (N.value offset)) N.bound (passed_at N.value passed)) }
 {
     match dual.down.sign() {
         Sign::Zero => {
@@ -45,9 +49,10 @@ pub fn row_rent<N: Exact>(
     requires one_sided { IsOneSided (dual_at N.value dual.now) }
     requires flows { length flows.now ≡ length market.now.buses + length market.now.lines }
     ensures rent { IfOk result (λ rent. rent_at N.value rent ≡ earned_by market.now (line_in market.now (map N.value flows.now)) (dual_at N.value dual.now) row) }
-    ensures cause { IfErr result (λ passed. IsRentRefusal market.now (line_in market.now (map N.value flows.now)) (dual_at N.value dual.now) row N.bound (passed_at N.value passed)) }
+    ensures cause { let lines = line_in market.now (map N.value flows.now) in IfErr result (λ passed. IsRefusedAmong (PaidRowSum market.now lines row) N.bound (passed_at N.value passed)
+        ⊎ IsRefusedIn (earned_terms (N.value dual.now.up) (N.value dual.now.down) (priced_flow market.now row (flow_by market.now lines row)) (offset_of_row market.now row)) N.bound (passed_at N.value passed)) }
 {
-    let flow = row_flow(market, flows, row)?;
+    let flow = row_flow(market, line_flows(market, flows), row)?;
     let offset = row_offset(market, row)?;
     let rent = earned(dual, datum(limit_at(market, row)), offset)?;
     Ok(Rent {

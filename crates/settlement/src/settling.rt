@@ -5,23 +5,24 @@ ghost use Rattle.fraction_theory.specs.Fraction.{neg_ℚ, ◌+ℚ◌};
 ghost use Rattle.fraction_theory.specs.Order.{◌≤ℚ◌};
 ghost use Rattle.fraction_theory.specs.Sums.{sum_by};
 ghost use Rattle.market_model.specs.Dispatch.{zero};
+ghost use Rattle.market_model.specs.Fitting.{FitsMoney};
 ghost use Rattle.market_model.specs.Laws.{HasOffsetsWithin};
 ghost use Rattle.market_model.specs.NamedSums.{IsRefusedIn};
 ghost use Rattle.market_model.specs.Optimality.{ProperDuals};
+ghost use Rattle.market_model.specs.Stops.{OnPassed};
 ghost use Rattle.market_model.specs.Valued.{duals_at, money_at, passed_at};
 ghost use Rattle.market_model.specs.PutIn.{dispatch_of};
 ghost use Rattle.market_model.specs.RightAnswers.{settlement_at};
 ghost use Rattle.limit_screen.specs.Flows.{flows_at, IsFlowsRefusal};
-ghost use Rattle.settlement.specs.Paying.{total_at, paid_terms, FitsMoney, IsSupportedAt};
-ghost use Rattle.settlement.specs.Refusals.{IsMoneyStop, IsSettlementStop, OnPassed};
+ghost use Rattle.settlement.specs.Paying.{total_at, paid_terms, IsSupportedAt};
+ghost use Rattle.settlement.specs.Refusals.{IsMoneyStop, IsSettlementStop};
 
-use crate::MoneyStop;
 use crate::loads::loads;
 use crate::rents::rents;
 use crate::units::unit_pays;
 use exact_fraction::{Exact, Passed};
 use limit_screen::flows;
-use market_model::{Duals, Load, Market, Money, Price, UnitPay, datum};
+use market_model::{Duals, Load, Market, Money, Price, Stop, UnitPay, datum};
 use std::alloc::Global;
 
 /// What loads pay, in bus order, less what units are paid, in unit order.
@@ -40,11 +41,7 @@ fn surplus<N: Exact>(loads: &[Load<N>], units: &[UnitPay<N>]) -> Result<N, Passe
 }
 
 /// What each bus puts in at a dispatch, and then what each line carries.
-fn flows_made<N: Exact>(
-    alloc: Global,
-    market: &Market,
-    dispatch: &[N],
-) -> Result<Vec<N>, MoneyStop<N>>
+fn flows_made<N: Exact>(alloc: Global, market: &Market, dispatch: &[N]) -> Result<Vec<N>, Stop<N>>
     requires { length dispatch.now ≡ length market.now.blocks }
     ensures flows { IfOk result (λ flows. map N.value flows.items ≡ flows_at market.now (dispatch_of N.value dispatch.now)) }
     ensures cause { IfErr result (λ stop. OnPassed stop (λ p. IsFlowsRefusal market.now (dispatch_of N.value dispatch.now) N.bound (passed_at N.value p))) }
@@ -53,7 +50,7 @@ fn flows_made<N: Exact>(
     let places = market.buses().len() + market.lines().len();
     let mut by_place = match vec![in alloc; none; places] {
         Ok(by_place) => by_place,
-        Err(_) => return Err(MoneyStop::Memory),
+        Err(_) => return Err(Stop::Memory),
     };
     flows(market, dispatch, &mut by_place)?;
     Ok(by_place)
@@ -68,7 +65,7 @@ pub fn settle_flows<N: Exact>(
     flows: &[N],
     prices: &[Price<N>],
     duals: &Duals<N>,
-) -> Result<Money<N>, MoneyStop<N>>
+) -> Result<Money<N>, Stop<N>>
     requires dispatch { length dispatch.now ≡ length market.now.blocks }
     requires flows { map N.value flows.now ≡ flows_at market.now (dispatch_of N.value dispatch.now) }
     requires prices { length prices.now ≡ length market.now.buses }
@@ -101,7 +98,7 @@ pub fn settle<N: Exact>(
     dispatch: &[N],
     prices: &[Price<N>],
     duals: &Duals<N>,
-) -> Result<Money<N>, MoneyStop<N>>
+) -> Result<Money<N>, Stop<N>>
     requires dispatch { length dispatch.now ≡ length market.now.blocks }
     requires prices { length prices.now ≡ length market.now.buses }
     requires duals { ProperDuals market.now (duals_at N.value duals.now) }

@@ -1,4 +1,4 @@
-use Rattle.std.proofs.Common.{rules, ◌≡◌, ◌∙◌, sym, ap, Some, Err, [], List, ℕ, map, Bor}
+use Rattle.std.proofs.Common.{rules, ◌≡◌, ◌∙◌, refl, sym, ap, Some, Err, [], List}
 use Rattle.record_reading.specs.Rows.{read_rows}
 use Rattle.csv_table.proofs.Framed.{framed-fault, framed-fits}
 use Rattle.edit_table.specs.declared.Step.{Step}
@@ -8,12 +8,10 @@ use Rattle.edit_table.proofs.steps.Goals as goal
 pub returns-in_err-table-clause-is : goal.returns-in_err-table-clause-is
 unfolding steps_of_table
 returns-in_err-table-clause-is c =
-    let names : map (λ (name : Bor (List ℕ)). name.now) c.as_slice-6.result.now ≡ header = search rules in
     let given : c.from_residual.result ≡ Err (frame_fault c.in_err-table.field-0.0) = search rules in
-    λ other. rw given (sym (framed-fault frame_fault (read_rows (λ (_ : List Step). step_in) [] 2) (Some most_steps) c.args.bytes.now header _ c.in_err-table.field-0.0 names c.in_err-table.ensures.err (λ m. other (given ∙ ap Err m))))
+    λ other. rw given (sym (framed-fault frame_fault (read_rows (λ (_ : List Step). step_in) [] 2) (Some most_steps) c.args.bytes.now header _ c.in_err-table.field-0.0 refl c.in_err-table.ensures.err (λ m. other (given ∙ ap Err m))))
 
 pub returns-clause-is : goal.returns-clause-is
 unfolding steps_of_table
 returns-clause-is c =
-    let names : map (λ (name : Bor (List ℕ)). name.now) c.as_slice-6.result.now ≡ header = search rules in
-    λ other. c.steps_of.ensures.is other ∙ sym (framed-fits frame_fault (read_rows (λ (_ : List Step). step_in) [] 2) (Some most_steps) c.args.bytes.now header _ _ names c.in_ok-table.ensures.ok)
+    λ other. c.steps_of.ensures.is other ∙ sym (framed-fits frame_fault (read_rows (λ (_ : List Step). step_in) [] 2) (Some most_steps) c.args.bytes.now header _ _ refl c.in_ok-table.ensures.ok)

@@ -2,7 +2,8 @@ use Rattle.std.proofs.Common.{◌∙◌}
 use Rattle.fraction_theory.proofs.SignLaws.{sign_of_is}
 use Rattle.fraction_theory.specs.declared.Sign.TheVariants.{Zero}
 use Rattle.market_model.specs.Valued.{dual_at}
-use Rattle.bus_prices.proofs.PriceLemmas.{lower_alone, upper_alone, not_zero_side}
+use Rattle.market_model.proofs.OneSidedDuals.{not_zero_side}
+use Rattle.bus_prices.proofs.PriceLemmas.{lower_alone, upper_alone}
 use Rattle.bus_prices.proofs.pricing.opposite_net_price.Goals as goal
 
 pub returns-in-Zero : goal.returns-in-Zero

@@ -1,18 +1,80 @@
-use Rattle.std.proofs.Common.{arith, ◌∙◌, length}
-use Rattle.market_model.specs.Valued.{duals_at, price_at}
-use Rattle.market_model.specs.RightAnswers.{price_made}
-use Rattle.market_model.proofs.PlaceLists.{put_more, all_put}
+use Rattle.std.proofs.Common.{rules, Err, ℕ, ◌≡◌, ◌∙◌, ◌<◌, ◌≤◌, ◌+◌, ap, arith, length, map, refl}
+use Rattle.std.proofs.lemmas.Result.{IfErr-weaker, IfOk-weaker}
+use Rattle.std.proofs.lemmas.List.{length-map}
+use Rattle.market_model.specs.Dispatch.{places}
+use Rattle.market_model.specs.declared.limits.Row.{Row}
+use Rattle.market_model.specs.LimitRows.{row_factor}
+use Rattle.market_model.specs.Optimality.{named_rows, price_terms, congestion_terms}
+use Rattle.market_model.specs.SumTables.{congestion_at, price_at as total_at}
+use Rattle.market_model.specs.Valued.{dual_at, duals_at, passed_at}
+use Rattle.limit_rows.proofs.DualLemmas.{named_count, dual_one_sided, dual_row}
+use Rattle.bus_prices.proofs.PriceLemmas.{congestion_all, congestion_refused, congestion_step, congestion_to, made_of_parts, same_parts, total_refused}
+use Rattle.bus_prices.specs.PriceParts.{price_of_parts}
 use Rattle.bus_prices.proofs.pricing.prices.Goals as goal
 
-pub price-requires-clause-bus : goal.price-requires-clause-bus
-price-requires-clause-bus g c = omega (arith, c.loop-bus-test.true, c.requires.out)
+pub found_row-row-requires : goal.found_row-row-requires
+found_row-row-requires g c =
+    let r = dual_row g.N.Exact.value c.args.market.now c.args.duals.now c.requires.duals c.slice-dual-items.result.now c.loop-dual.dual-index c.dual-item.result
+    c.slice-dual-items.ensures c.loop-dual-test.true c.dual-item.is c.lines-lines.ensures.market in
+    (r.0, r.1.row, r.1.name)
 
-pub loop-bus-preserved : goal.loop-bus-preserved
-loop-bus-preserved g c =
-    put_more (price_at g.N.Exact.value) (price_made c.args.market.now (duals_at g.N.Exact.value c.args.duals.now)) c.loop-bus.out c.loop-bus.bus _
-    (omega (arith, c.loop-bus-test.true, c.loop-bus.auto.out)) c.loop-bus.invariant c.in_ok-at_bus.ensures.price
+pub opposite_net_price-requires : goal.opposite_net_price-requires
+opposite_net_price-requires g c =
+    dual_one_sided g.N.Exact.value c.args.market.now c.args.duals.now c.requires.duals c.slice-dual-items.result.now c.loop-dual.dual-index c.dual-item.result
+    c.slice-dual-items.ensures c.loop-dual-test.true c.dual-item.is
+
+pub loop-dual-preserved : goal.loop-dual-preserved
+loop-dual-preserved g c =
+    let m = c.args.market.now in
+    let value = g.N.Exact.value in
+    let d = duals_at value c.args.duals.now in
+    let k = c.loop-dual.dual-index in
+    let r = dual_row value m c.args.duals.now c.requires.duals c.slice-dual-items.result.now k c.dual-item.result c.slice-dual-items.ensures c.loop-dual-test.true c.dual-item.is c.lines-lines.ensures.market in
+    let is = c.found_row-row.ensures.is r.0 r.1.row r.1.name in
+    same_parts value d.energy _ (λ bus. congestion_to m d bus (k + 1)) _
+    (λ bus. congestion_step m d bus k (dual_at value c.dual-item.result) r.0 (value c.opposite_net_price.result) (row_factor m c.found_row-row.result bus) (congestion_to m d bus k) _ r.1 c.opposite_net_price.ensures
+    (ap (λ (s : Row). row_factor m s bus) is) refl refl)
+    (c.in_ok-add_row.ensures.parts d.energy (λ bus. congestion_to m d bus k) c.loop-dual.invariant)
+
+pub returns-in_err-add_row-clause-cause : goal.returns-in_err-add_row-clause-cause
+returns-in_err-add_row-clause-cause g c =
+    let m = c.args.market.now in
+    let value = g.N.Exact.value in
+    let d = duals_at value c.args.duals.now in
+    let k = c.loop-dual.dual-index in
+    let r = dual_row value m c.args.duals.now c.requires.duals c.slice-dual-items.result.now k c.dual-item.result c.slice-dual-items.ensures c.loop-dual-test.true c.dual-item.is c.lines-lines.ensures.market in
+    let is = c.found_row-row.ensures.is r.0 r.1.row r.1.name in
+    let why = c.in_err-add_row.ensures.cause d.energy (λ bus. congestion_to m d bus k) c.loop-dual.invariant in
+    let given : c.from_residual.result ≡ Err c.in_err-add_row.field-0.0 = search rules in
+    rw given (
+      congestion_terms m d why.0,
+      congestion_at why.0 why.1,
+      congestion_refused m d why.0 k (dual_at value c.dual-item.result) r.0 (value c.opposite_net_price.result) (row_factor m c.found_row-row.result why.0) (congestion_to m d why.0 k) g.N.Exact.bound
+          (passed_at value c.in_err-add_row.field-0.0) r.1 c.opposite_net_price.ensures (ap (λ (s : Row). row_factor m s why.0) is) refl why.2,
+    )
 
 pub returns-clause-prices : goal.returns-clause-prices
 returns-clause-prices g c =
-    all_put (price_at g.N.Exact.value) (price_made c.args.market.now (duals_at g.N.Exact.value c.args.duals.now)) c.loop-bus.out c.loop-bus.bus (length c.args.market.now.buses)
-    (c.loop-bus.auto.out ∙ c.requires.out) (omega (arith, c.loop-bus-test.false, c.requires.out)) c.loop-bus.invariant
+    let m = c.args.market.now in
+    let d = duals_at g.N.Exact.value c.args.duals.now in
+    let k = c.loop-dual.dual-index in
+    let count = named_count m c.lines-lines.ensures.market d c.requires.duals.named in
+    let all : length (named_rows m d) ≤ k = omega (arith, c.loop-dual-test.false, ap length c.slice-dual-items.ensures, count, length-map c.args.duals.now.limits (dual_at g.N.Exact.value)) in
+    IfOk-weaker c.put_totals.result _ _
+    (λ _ is.
+    is ∙ ap (λ (n : ℕ). map (price_of_parts d.energy (λ bus. congestion_to m d bus k)) (places n)) (c.loop-dual.auto.out ∙ c.put_energy.auto.out ∙ c.requires.out)
+    ∙ made_of_parts m d (λ bus. congestion_to m d bus k) (length m.buses) (λ bus. congestion_all m d bus k all))
+    (c.put_totals.ensures.prices d.energy (λ bus. congestion_to m d bus k) c.loop-dual.invariant)
+
+pub returns-clause-cause : goal.returns-clause-cause
+returns-clause-cause g c =
+    let m = c.args.market.now in
+    let d = duals_at g.N.Exact.value c.args.duals.now in
+    let k = c.loop-dual.dual-index in
+    let count = named_count m c.lines-lines.ensures.market d c.requires.duals.named in
+    let all : length (named_rows m d) ≤ k = omega (arith, c.loop-dual-test.false, ap length c.slice-dual-items.ensures, count, length-map c.args.duals.now.limits (dual_at g.N.Exact.value)) in
+    IfErr-weaker c.put_totals.result _ _
+    (λ p why.
+    let inside : why.0 < length m.buses = omega (arith, why.1, c.loop-dual.auto.out, c.requires.out) in
+    (price_terms m d why.0, total_at why.0 inside, total_refused m d why.0 (congestion_to m d why.0 k) g.N.Exact.bound (passed_at g.N.Exact.value p) (congestion_all m d why.0 k all) why.2))
+    (c.put_totals.ensures.cause d.energy (λ bus. congestion_to m d bus k) c.loop-dual.invariant)

@@ -1,8 +1,7 @@
-use Rattle.std.proofs.Common.{◌≡◌, ℕ, ◌<◌, get_or}
-use Rattle.market_model.specs.declared.answered.Price.{Price}
-use Rattle.market_model.specs.Valued.{duals_at, price_at}
-use Rattle.market_model.specs.RightAnswers.{price_made}
+use Rattle.market_model.specs.Valued.{duals_at}
+use Rattle.bus_prices.specs.PriceParts.{HaveParts}
+use Rattle.bus_prices.proofs.PriceLemmas.{congestion_to}
 use Rattle.bus_prices.proofs.pricing.prices.Given as goal
 
-abbrev pub invariant-loop-bus : goal.invariant-loop-bus
-invariant-loop-bus g l = (k : ℕ) (d : Price g.row.N.Denot) → k < l.bus → price_at g.N.Exact.value (get_or l.out k d) ≡ price_made l.market (duals_at g.N.Exact.value l.duals) k
+abbrev pub invariant-loop-dual : goal.invariant-loop-dual
+invariant-loop-dual g l = HaveParts g.N.Exact.value (g.N.Exact.value l.duals.energy) (λ bus. congestion_to l.market (duals_at g.N.Exact.value l.duals) bus l.dual-index) l.out

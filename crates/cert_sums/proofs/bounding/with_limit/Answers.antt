@@ -5,6 +5,7 @@ use mir.Val.{to_z, of_z}
 use Rattle.fraction_theory.specs.Fraction.{whole}
 use Rattle.fraction_theory.specs.Sums.{Term, total}
 use Rattle.market_data.proofs.Data.{datum_fits}
+use Rattle.market_model.specs.Dispatch.{empty}
 use Rattle.market_model.specs.NamedSums.{IsRefusedIn}
 use Rattle.market_model.specs.Valued.{passed_at}
 use Rattle.limit_rows.proofs.FlowSteps.{row_terms_are}
@@ -21,12 +22,13 @@ returns-in_err-flow-clause-cause g c = λ x are.
     rw given (in_flow (subst (λ (ts : List Term). IsRefusedIn ts g.N.Exact.bound (passed_at value c.in_err-flow.field-0.0)) terms c.in_err-flow.ensures.cause))
 
 pub returns-clause-sum : goal.returns-clause-sum
-returns-clause-sum g c = λ x are.
+returns-clause-sum g c = λ d priced are.
+    let m = c.args.market.now in
     let value = g.N.Exact.value in
     let known : to_z w64 (of_z w64 c.limit_at.result) ≡ c.limit_at.result = to_z-of_z w64 c.limit_at.result (datum_fits c.limit_at.result c.limit_at.ensures.datum) in
-    let terms = row_terms_are c.args.market.now x (map value c.args.flows.now) are c.args.entry.now.row c.requires.line c.requires.lost in
+    let terms = row_terms_are m (empty m) (map value c.args.flows.now) are c.args.entry.now.row c.requires.line c.requires.lost in
     IfOk-weaker c.with_below.result _ _
-    (λ more e. left_sum c.args.market.now x (priced_at value c.args.entry.now) (value c.args.sum) (value c.in_ok-above.above) (value more) (value c.datum-limit.result) (value c.in_ok-flow.flow)
+    (λ more e. left_sum m d (priced_at value c.args.entry.now) (value c.args.sum) (value c.in_ok-above.above) (value more) (value c.datum-limit.result) (value c.in_ok-flow.flow) priced
     (c.datum-limit.ensures ∙ ap whole known ∙ c.limit_at.ensures.limit) (c.in_ok-flow.ensures.flow ∙ ap total terms) c.in_ok-above.ensures.sum e)
     c.with_below.ensures.sum
 

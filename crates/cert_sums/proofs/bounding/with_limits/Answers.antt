@@ -4,7 +4,7 @@ use Rattle.market_model.specs.Valued.{passed_at}
 use Rattle.limit_rows.proofs.PlaceLemmas.{at_places}
 use Rattle.cert_sums.specs.Named.{priced_at}
 use Rattle.cert_sums.proofs.BoundLemmas.{limits_none, limits_all, limits_step, limit_refused}
-use Rattle.cert_sums.proofs.NamedLemmas.{named_at, named_count, is_row}
+use Rattle.cert_sums.proofs.NamedLemmas.{named_at, named_count, is_row, priced_is}
 use Rattle.cert_sums.proofs.bounding.with_limits.Goals as goal
 
 pub loop-entry-init : goal.loop-entry-init
@@ -28,8 +28,9 @@ pub loop-entry-preserved : goal.loop-entry-preserved
 loop-entry-preserved g c = λ d are flows start.
     let m = c.args.market.now in
     let k = c.loop-entry.entry-index in
-    limits_step m d k (priced_at g.N.Exact.value c.entry-item.result) (named_at g.N.Exact.value m d c.args.named.now are k c.entry-item.result c.loop-entry-test.true c.entry-item.is)
-    (g.N.Exact.value c.loop-entry.sum) _ (c.loop-entry.invariant d are flows start) (c.in_ok-sum.ensures.sum (empty m) flows)
+    let e = priced_at g.N.Exact.value c.entry-item.result in
+    let h = named_at g.N.Exact.value m d c.args.named.now are k c.entry-item.result c.loop-entry-test.true c.entry-item.is in
+    limits_step m d k e h (g.N.Exact.value c.loop-entry.sum) _ (c.loop-entry.invariant d are flows start) (c.in_ok-sum.ensures.sum d (priced_is m d k e h) flows)
 
 pub returns-clause-sum : goal.returns-clause-sum
 returns-clause-sum g c = λ d are flows start.

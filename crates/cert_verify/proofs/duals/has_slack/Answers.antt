@@ -1,11 +1,11 @@
-use Rattle.std.proofs.Common.{rules, Err, ◌≡◌, ◌∙◌, ap, ap₂, sym, map, w64}
+use Rattle.std.proofs.Common.{rules, Err, inr, ◌≡◌, ◌∙◌, ap, ap₂, sym, map, w64}
 use Rattle.std.proofs.lemmas.Int.{to_z-of_z}
 use mir.Val.{to_z, of_z}
 use Rattle.fraction_theory.specs.Fraction.{Fraction, whole}
 use Rattle.market_model.specs.Valued.{dual_at, passed_at}
 use Rattle.limit_rows.proofs.PlaceLemmas.{at_places}
 use Rattle.cert_verify.specs.Reasons.{prices_slack}
-use Rattle.cert_verify.proofs.RowLemmas.{flow_there, no_slack, refused_there, row_pair, slack_named}
+use Rattle.cert_verify.proofs.RowLemmas.{flow_there, no_slack, refused_there, slack_named}
 use Rattle.cert_verify.proofs.duals.has_slack.Goals as goal
 
 pub row_flow-requires-clause-line : goal.row_flow-requires-clause-line
@@ -18,9 +18,9 @@ pub returns-in_err-flow-in-Some-clause-cause : goal.returns-in_err-flow-in-Some-
 returns-in_err-flow-in-Some-clause-cause g c =
     let given : c.from_residual.result ≡ Err c.in_err-flow-in-Some.field-0.0 = search rules in
     let places = at_places c.args.market.now c.lines-lines.ensures.market c.in-Some.row c.in-Some.ensures.0 in
-    λ x d are. rw given
-    (row_pair c.args.market.now x d g.N.Exact.bound (passed_at g.N.Exact.value c.in_err-flow-in-Some.field-0.0) c.in-Some.row c.in-Some.ensures.0
-    (refused_there c.args.market.now x (map g.N.Exact.value c.args.flows.now) are c.in-Some.row places.0 places.1 g.N.Exact.bound (passed_at g.N.Exact.value c.in_err-flow-in-Some.field-0.0) c.in_err-flow-in-Some.ensures.cause))
+    λ x are. rw given
+    (inr
+    (c.in-Some.row, c.in-Some.ensures.0, refused_there c.args.market.now x (map g.N.Exact.value c.args.flows.now) are c.in-Some.row places.0 places.1 g.N.Exact.bound (passed_at g.N.Exact.value c.in_err-flow-in-Some.field-0.0) c.in_err-flow-in-Some.ensures.cause))
 
 pub limit_at-requires : goal.limit_at-requires
 limit_at-requires g c = (at_places c.args.market.now c.lines-lines.ensures.market c.in-Some.row c.in-Some.ensures.0).0

@@ -24,4 +24,4 @@ returns-clause-first g c = λ x are.
 pub returns-in_err-slack-clause-cause : goal.returns-in_err-slack-clause-cause
 returns-in_err-slack-clause-cause g c =
     let given : c.from_residual.result ≡ Err c.in_err-slack.field-0.0 = search rules in
-    λ x d are. rw given (c.in_err-slack.ensures.cause x d are)
+    λ x are. rw given (c.in_err-slack.ensures.cause x are)

@@ -2,9 +2,9 @@ use Rattle.std.proofs.Common.{◌≡◌, None, map}
 use Rattle.std.specs.List.{find}
 use Rattle.market_model.specs.Dispatch.{Dispatch}
 use Rattle.limit_rows.specs.LineFlows.{AreFlows}
-use Rattle.cert_verify.specs.Reasons.{is_broken}
+use Rattle.cert_verify.specs.Reasons.{is_overloaded}
 use Rattle.cert_verify.proofs.FindLemmas.{rows_to}
 use Rattle.cert_verify.proofs.limits.broken_under.Given as goal
 
 abbrev pub invariant-loop-line : goal.invariant-loop-line
-invariant-loop-line g l = (x : Dispatch) → AreFlows l.market x (map g.N.Exact.value l.flows) → find (is_broken l.market x) (rows_to l.market l.cause l.line) ≡ None
+invariant-loop-line g l = (x : Dispatch) → AreFlows l.market x (map g.N.Exact.value l.flows) → find (is_overloaded l.market x) (rows_to l.market l.cause l.line) ≡ None

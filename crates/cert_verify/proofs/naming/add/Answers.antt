@@ -1,6 +1,6 @@
 use Rattle.std.proofs.Common.{rules}
 use Rattle.indexmap.proofs.CallerLemmas.{insert_entry-new}
-use Rattle.cert_verify.specs.Naming.{same_pair}
+use Rattle.cert_format.specs.Certificates.{same_pair}
 use Rattle.cert_verify.proofs.naming.add.Goals as goal
 
 pub returns : goal.returns

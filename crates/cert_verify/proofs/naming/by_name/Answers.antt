@@ -1,7 +1,8 @@
 use Rattle.std.proofs.Common.{◌≡◌, ◌<◌, ◌∙◌, ◌++◌, ◌∷◌, [], None, ℕ, List, ap, sym, subst, length, arith}
 use Rattle.std.specs.Map.{lookup}
 use Rattle.market_model.specs.declared.answered.Dual.{Dual}
-use Rattle.cert_verify.specs.Naming.{entry_of, name_of, same_pair}
+use Rattle.cert_format.specs.Certificates.{name_of, same_pair}
+use Rattle.cert_verify.specs.Naming.{entry_of}
 use Rattle.cert_verify.proofs.NamingLemmas.{absent, entries_more}
 use Rattle.cert_verify.proofs.naming.by_name.Goals as goal
 

@@ -3,7 +3,7 @@ use Rattle.std.specs.Map.{lookup}
 use Rattle.market_model.specs.declared.answered.Dual.{Dual}
 use Rattle.market_model.specs.declared.answered.RowId.{RowId}
 use Rattle.market_model.specs.LimitRows.{row_id}
-use Rattle.cert_verify.specs.Naming.{name_of, same_pair}
+use Rattle.cert_format.specs.Certificates.{name_of, same_pair}
 use Rattle.cert_verify.proofs.NamingLemmas.{named_is, not_named}
 use Rattle.cert_verify.proofs.naming.named_at.Goals as goal
 

@@ -8,7 +8,7 @@ use Rattle.market_model.specs.RightAnswers.{settlement_at}
 use Rattle.settlement.specs.Paying.{total_at}
 use Rattle.settlement.specs.Refusals.{IsMoneyStop}
 use Rattle.settlement.proofs.MoneyLemmas.{law_of_right_money}
-use Rattle.market_dict.specs.declared.stop.Stop.TheVariants as stop
+use Rattle.market_model.specs.declared.stops.Stop.TheVariants as stop
 use Rattle.clear_loop.proofs.AnswerLemmas.{price_count, prices_of, right_answer}
 use Rattle.clear_loop.proofs.HandLemmas.{dispatch_count}
 use Rattle.clear_loop.proofs.SolvedLemmas.{proper, supports, welfare_range}
@@ -36,16 +36,19 @@ returns-in_err-welfare-clause-cause g c = λ rows solved.
 pub settle_flows-requires-clause-prices : goal.settle_flows-requires-clause-prices
 settle_flows-requires-clause-prices g c = ap length c.slice-3.ensures ∙ price_count g.N.Exact.value c.args.market.now (duals_at g.N.Exact.value c.args.duals) c.in_ok-prices.prices c.in_ok-prices.ensures.prices
 
-pub returns-in-Err-clause-cause : goal.returns-in-Err-clause-cause
-returns-in-Err-clause-cause g c = λ rows solved.
+pub returns-in_err-money-clause-cause : goal.returns-in_err-money-clause-cause
+returns-in_err-money-clause-cause g c = λ rows solved.
     let value = g.N.Exact.value in
     let m = c.args.market.now in
     let d = duals_at value c.args.duals in
-    rw c.stopped.ensures
+    let stop = c.in_err-money.field-0.0 in
+    let p = err_from_is_err_and c.from_residual-in_err-money.result c.from_residual-in_err-money.ensures.1 in
+    let given : c.from_residual-in_err-money.result ≡ Err stop = p.1 ∙ ap Err p.2 in
+    rw given
     (money_stop value g.N.Exact.bound m rows (dispatch_of value c.args.dispatch) d c.lines-lines.ensures.market solved c.requires.feasible (total_at value c.in_ok-prices.prices)
-    (prices_of value m d c.in_ok-prices.prices c.in_ok-prices.ensures.prices) c.in-Err.refused
-    (subst (λ xs. IsMoneyStop value g.N.Exact.bound m (dispatch_of value xs) (total_at value c.in_ok-prices.prices) d c.in-Err.refused) c.slice-2.ensures
-    (subst (λ ps. IsMoneyStop value g.N.Exact.bound m (dispatch_of value c.slice-2.result.now) (total_at value ps) d c.in-Err.refused) c.slice-3.ensures c.in-Err.ensures.cause)))
+    (prices_of value m d c.in_ok-prices.prices c.in_ok-prices.ensures.prices) stop
+    (subst (λ xs. IsMoneyStop value g.N.Exact.bound m (dispatch_of value xs) (total_at value c.in_ok-prices.prices) d stop) c.slice-2.ensures
+    (subst (λ ps. IsMoneyStop value g.N.Exact.bound m (dispatch_of value c.slice-2.result.now) (total_at value ps) d stop) c.slice-3.ensures c.in_err-money.ensures.cause)))
 
 pub returns-clause-fits : goal.returns-clause-fits
 returns-clause-fits g c =
@@ -54,9 +57,7 @@ returns-clause-fits g c =
     record {
       dispatch = dispatch_count value m c.requires.solved.0 c.args.dispatch (duals_at value c.args.duals) c.requires.solved.1;
       prices = price_count value m (duals_at value c.args.duals) c.in_ok-prices.prices c.in_ok-prices.ensures.prices;
-      units = c.in-Ok.ensures.fits.units;
-      loads = c.in-Ok.ensures.fits.loads;
-      rents = c.in-Ok.ensures.fits.rents;
+      money = c.in_ok-money.ensures.fits;
     }
 
 pub returns-clause-right : goal.returns-clause-right
@@ -66,8 +67,8 @@ returns-clause-right g c =
     let x = dispatch_of value c.args.dispatch in
     let d = duals_at value c.args.duals in
     let market = c.lines-lines.ensures.market in
-    right_answer value m c.args.dispatch c.args.duals c.in_ok-prices.prices c.in_ok-welfare.welfare c.in-Ok.money law_of_right_money market c.requires.feasible
+    right_answer value m c.args.dispatch c.args.duals c.in_ok-prices.prices c.in_ok-welfare.welfare c.in_ok-money.money law_of_right_money market c.requires.feasible
     (supports m c.requires.solved.0 x d market c.requires.solved.1) (proper m c.requires.solved.0 x d market c.requires.solved.1) c.in_ok-prices.ensures.prices
     (c.in_ok-welfare.ensures.worth ∙ ap (λ xs. welfare m (dispatch_of value xs)) c.slice.ensures)
-    (subst (λ xs. money_at value c.in-Ok.money ≡ settlement_at m (dispatch_of value xs) (total_at value c.in_ok-prices.prices) d) c.slice-2.ensures
-    (subst (λ ps. money_at value c.in-Ok.money ≡ settlement_at m (dispatch_of value c.slice-2.result.now) (total_at value ps) d) c.slice-3.ensures c.in-Ok.ensures.money))
+    (subst (λ xs. money_at value c.in_ok-money.money ≡ settlement_at m (dispatch_of value xs) (total_at value c.in_ok-prices.prices) d) c.slice-2.ensures
+    (subst (λ ps. money_at value c.in_ok-money.money ≡ settlement_at m (dispatch_of value c.slice-2.result.now) (total_at value ps) d) c.slice-3.ensures c.in_ok-money.ensures.money))

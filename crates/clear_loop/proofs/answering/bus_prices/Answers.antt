@@ -1,9 +1,8 @@
-use Rattle.market_model.specs.RightAnswers.{price_made}
-use Rattle.market_model.specs.Valued.{duals_at, price_at}
-use Rattle.settlement.proofs.ListLemmas.{put_place}
+use Rattle.std.proofs.Common.{◌≡◌, ◌∙◌, ap, length, map}
+use Rattle.market_model.specs.Valued.{price_at}
+use Rattle.plain_list.proofs.WrittenItems.{all_written}
 use Rattle.clear_loop.proofs.answering.bus_prices.Goals as goal
 
-pub loop-bus-preserved : goal.loop-bus-preserved
-loop-bus-preserved g c =
-    put_place (price_at g.N.Exact.value) (price_made c.args.market.now (duals_at g.N.Exact.value c.args.duals.now)) c.loop-bus.prices c.push.new.self c.in_ok-price.field-0 c.loop-bus.bus
-    c.in_ok-push.ensures c.loop-bus.invariant c.in_ok-price.ensures.price
+pub returns-clause-prices : goal.returns-clause-prices
+returns-clause-prices g c =
+    ap (map (price_at g.N.Exact.value)) (all_written c.loop.by_bus c.prices.new.out (c.in_ok-prices.ensures.count ∙ ap length c.slice_mut.ensures.value)) ∙ c.in_ok-prices.ensures.prices

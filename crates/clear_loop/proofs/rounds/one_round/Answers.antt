@@ -8,7 +8,7 @@ use Rattle.market_model.specs.PutIn.{dispatch_of}
 use Rattle.market_dict.specs.Findings.{IsFound, IsSolvedBy}
 use Rattle.market_dict.specs.declared.solving.Found.{Found}
 use Rattle.market_dict.specs.declared.solving.Found.TheVariants as found
-use Rattle.market_dict.specs.declared.stop.Stop.TheVariants as stop
+use Rattle.market_model.specs.declared.stops.Stop.TheVariants as stop
 use Rattle.limit_screen.specs.Flows.{flows_at}
 use Rattle.clear_loop.specs.Rounds.{IsScreened}
 use Rattle.clear_loop.specs.Starts.{rows_in}

@@ -10,7 +10,7 @@ use Rattle.market_model.specs.Valued.{passed_at}
 use Rattle.market_model.specs.PutIn.{dispatch_of}
 use Rattle.limit_screen.specs.Flows.{flows_at, line_in}
 use Rattle.limit_screen.specs.Screening.{AllHold, IsScreenRefusal}
-use Rattle.market_dict.specs.declared.stop.Stop.TheVariants as stop
+use Rattle.market_model.specs.declared.stops.Stop.TheVariants as stop
 use Rattle.clear_loop.proofs.BrokenLemmas.{all_within, worst_at}
 use Rattle.clear_loop.proofs.screen.screened_at.Goals as goal
 

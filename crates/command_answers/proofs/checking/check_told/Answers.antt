@@ -1,3 +1,4 @@
+use Rattle.market_tables.specs.Tables.{grid_lent}
 use Rattle.command_answers.specs.Checking.{TellsCheck}
 use Rattle.command_answers.specs.Inputs.{IsCheck}
 use Rattle.command_answers.specs.Tellings.{telling_of}
@@ -7,7 +8,6 @@ use Rattle.command_answers.proofs.checking.check_told.Goals as goal
 
 pub returns-in-Err-Refused-clause-tells : goal.returns-in-Err-Refused-clause-tells
 returns-in-Err-Refused-clause-tells c =
-    let b = c.args.bytes.now in
     if_ok-map _ _ c.refused.result
-    (λ told is. refused-tells (IsCheck b.case.now b.ptdf.now b.lodf.now b.contingencies.now) TellsCheck c.in-Err-Refused.field-0 c.in-Err-Refused.refusal (telling_of told) c.in-Err-Refused.field-0-is c.in-Err-Refused.ensures.told is)
+    (λ told is. refused-tells (IsCheck (grid_lent c.args.bytes.now)) TellsCheck c.in-Err-Refused.field-0 c.in-Err-Refused.refusal (telling_of told) c.in-Err-Refused.field-0-is c.in-Err-Refused.ensures.told is)
     c.refused.ensures.telling

@@ -1,5 +1,5 @@
 use Rattle.std.proofs.Common.{◌≡◌, rules, subst}
-use Rattle.cert_verify.specs.Certificates.{IsVerifyStop}
+use Rattle.cert_verify.specs.Stops.{IsVerifyStop}
 use Rattle.cert_format.specs.Certificates.{cert_at}
 use Rattle.market_model.specs.Valued.{passed_at}
 use Rattle.command_answers.specs.Clearing.{ArePassedWithin}
@@ -7,7 +7,6 @@ use Rattle.command_answers.specs.Tellings.{telling_of, uncertified}
 use Rattle.command_answers.specs.Verifying.{passed}
 use Rattle.command_answers.specs.declared.status.Status.TheVariants as status
 use Rattle.report_text.specs.Reports.{range_text}
-use Rattle.command_answers.proofs.TellingLemmas.{pair-of}
 use Rattle.command_answers.proofs.verifying.verdict_told.Goals as goal
 
 pub returns-in_ok-text-in-Err-Range-clause-verifies : goal.returns-in_ok-text-in-Err-Range-clause-verifies
@@ -16,4 +15,4 @@ returns-in_ok-text-in-Err-Range-clause-verifies g c =
     let within : ArePassedWithin g.N.Exact.bound p = search rules in
     let is : telling_of c.uncertified-in-Err-Range.result ≡ uncertified status.Range (range_text p) = search rules in
     let cause = subst (IsVerifyStop g.N.Exact.value c.args.market.now g.N.Exact.bound (cert_at g.N.Exact.value c.args.certificate.now)) c.in-Err-Range.field-0-is c.in-Err-Range.ensures.cause in
-    passed p (pair-of g.N.Exact.value c.args.market.now g.N.Exact.bound (cert_at g.N.Exact.value c.args.certificate.now) c.in-Err-Range.passed cause) within is
+    passed p cause within is

@@ -18,7 +18,7 @@ returns-then-ne c =
     let here = get_or-map (λ (f : Bor (List ℕ)). f.now) c.args.header.now c.loop-col.col (record { ref_ptr = (0, 0); now = [] }) in
     let differs = not-true _ (sym c.if-ne.ensures) in
     let lt : c.loop-col.col < length (map (λ (f : Bor (List ℕ)). f.now) c.args.header.now) = rw (length-map) c.loop-col-test.true in
-    sym (other-at (first_of (records_in c.args.self.now)) (map (λ (f : Bor (List ℕ)). f.now) c.args.header.now) c.loop-col.col lt (rw (here, ← c.cell.ensures) differs))
+    sym (other-at (first_of (records_in c.args.self.now)) (map (λ (f : Bor (List ℕ)). f.now) c.args.header.now) c.loop-col.col lt (rw (here, ← c.as_bytes.ensures.value, ← c.cell.ensures) differs))
 
 pub returns : goal.returns
 returns c =

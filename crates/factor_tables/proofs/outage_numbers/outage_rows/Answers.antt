@@ -1,20 +1,18 @@
-use Rattle.std.proofs.Common.{rules, ◌≡◌, ◌∙◌, sym, ap, Some, Err, [], ◌∷◌, codes, List, ℕ, map, Bor}
+use Rattle.std.proofs.Common.{rules, ◌≡◌, ◌∙◌, refl, sym, ap, Some, Err, []}
 use Rattle.record_reading.specs.Rows.{read_rows}
 use Rattle.market_data.specs.Scales.{most_outages}
 use Rattle.factor_tables.specs.Records.{frame_fault}
-use Rattle.factor_tables.specs.OutageNumbers.{outage_number, outage_rows_of}
+use Rattle.factor_tables.specs.OutageNumbers.{outage_header, outage_number, outage_rows_of}
 use Rattle.csv_table.proofs.Framed.{framed-fault, framed-fits}
 use Rattle.factor_tables.proofs.outage_numbers.outage_rows.Goals as goal
 
 pub returns-in_err-table-clause-is : goal.returns-in_err-table-clause-is
 unfolding outage_rows_of
 returns-in_err-table-clause-is c =
-    let names : map (λ (name : Bor (List ℕ)). name.now) c.as_slice-2.result.now ≡ codes "branch" ∷ [] = search rules in
     let given : c.from_residual.result ≡ Err (frame_fault c.in_err-table.field-0.0) = search rules in
-    λ other. rw given (sym (framed-fault frame_fault (read_rows outage_number [] 2) (Some most_outages) c.args.bytes.now _ _ c.in_err-table.field-0.0 names c.in_err-table.ensures.err (λ m. other (given ∙ ap Err m))))
+    λ other. rw given (sym (framed-fault frame_fault (read_rows outage_number [] 2) (Some most_outages) c.args.bytes.now outage_header _ c.in_err-table.field-0.0 refl c.in_err-table.ensures.err (λ m. other (given ∙ ap Err m))))
 
 pub returns-clause-is : goal.returns-clause-is
 unfolding outage_rows_of
 returns-clause-is c =
-    let names : map (λ (name : Bor (List ℕ)). name.now) c.as_slice-2.result.now ≡ codes "branch" ∷ [] = search rules in
-    λ other. c.numbers_of.ensures.is other ∙ sym (framed-fits frame_fault (read_rows outage_number [] 2) (Some most_outages) c.args.bytes.now _ _ _ names c.in_ok-table.ensures.ok)
+    λ other. c.numbers_of.ensures.is other ∙ sym (framed-fits frame_fault (read_rows outage_number [] 2) (Some most_outages) c.args.bytes.now outage_header _ _ refl c.in_ok-table.ensures.ok)

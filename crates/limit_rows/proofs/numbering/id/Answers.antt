@@ -1,32 +1,23 @@
-use Rattle.std.proofs.Common.{◌≡◌, length, get_or, slice_get, Some, sym, ap, ◌∙◌, arith}
-use Rattle.std.proofs.lemmas.Option.{slice_get-get_or}
-use Rattle.market_model.specs.declared.limits.Row.{Row}
-use Rattle.market_model.specs.declared.limits.Cause.TheVariants.{Base}
+use Rattle.std.proofs.Common.{◌≡◌, Some, sym, ap, ◌∙◌}
 use Rattle.market_model.specs.LimitRows.{row_id, rows}
-use Rattle.limit_rows.proofs.NumberingLemmas.{all_before, counted-more, row_under_cause}
-use Rattle.limit_rows.proofs.PlaceLemmas.{position_named}
+use Rattle.limit_rows.proofs.PlaceLemmas.{at_places, listed, position_named}
 use Rattle.limit_rows.proofs.numbering.id.Goals as goal
 
-pub returns-then-left-count-clause-is : goal.returns-then-left-count-clause-is
-returns-then-left-count-clause-is c = λ r is.
+pub name_at-requires-clause-line : goal.name_at-requires-clause-line
+name_at-requires-clause-line c =
     let m = c.args.market.now in
-    let line = c.line_behind-line.result in
-    c.name_at.ensures ∙ ap (row_id m) (sym (row_under_cause m c.loop-at.at c.loop-at.left c.args.place line c.cause_at-cause.result r c.cause_at-cause.ensures.is c.line_behind-line.ensures.is c.loop-at.invariant is))
+    (at_places m c.lines-lines.ensures.market c.row_at.result (listed (rows m) c.args.place c.row_at.result c.row_at.ensures)).0
 
-pub returns-then-left-count-clause-position : goal.returns-then-left-count-clause-position
-returns-then-left-count-clause-position c =
+pub name_at-requires-clause-lost : goal.name_at-requires-clause-lost
+name_at-requires-clause-lost c =
     let m = c.args.market.now in
-    let none : Row = record { line = 0; cause = Base } in
-    let r : Row = get_or (rows m) c.args.place none in
-    let here : slice_get (rows m) c.args.place ≡ Some r = slice_get-get_or (rows m) c.args.place none c.requires in
-    position_named m c.lines-lines.ensures.market c.args.place _ r here (returns-then-left-count-clause-is c r here)
+    (at_places m c.lines-lines.ensures.market c.row_at.result (listed (rows m) c.args.place c.row_at.result c.row_at.ensures)).1
 
-pub loop-at-preserved : goal.loop-at-preserved
-loop-at-preserved c =
-    let more = counted-more c.args.market.now c.loop-at.at c.cause_at-cause.result c.cause_at-cause.ensures.is in
-    omega (arith, c.loop-at.invariant, more, c.count_of-count.ensures.count, c.if-left-count.false)
+pub returns-clause-is : goal.returns-clause-is
+returns-clause-is c = λ r is.
+    let same : Some c.row_at.result ≡ Some r = sym c.row_at.ensures ∙ is in
+    let one : c.row_at.result ≡ r = cc in
+    c.name_at.ensures ∙ ap (row_id c.args.market.now) one
 
-pub unreachable-requires : goal.unreachable-requires
-unreachable-requires c =
-    let all = ap length (all_before c.args.market.now c.loop-at.at (omega (arith, c.cause_count-at-end.ensures.count, c.loop-at-test.false))) in
-    omega (arith, all, c.loop-at.invariant, c.requires)
+pub returns-clause-position : goal.returns-clause-position
+returns-clause-position c = position_named c.args.market.now c.lines-lines.ensures.market c.args.place _ c.row_at.result c.row_at.ensures c.name_at.ensures

@@ -6,8 +6,8 @@ use Rattle.market_model.specs.declared.limits.Cause.TheVariants.{Base}
 use Rattle.market_model.specs.SumTables.{balance_of_all, carried}
 use Rattle.market_dict.specs.Refusals.{of_sum}
 use Rattle.market_dict.specs.PricesAndBounds.{ArePricesAndBounds}
-use Rattle.market_dict.specs.declared.stop.Stop.TheVariants.{Passed as StoppedBy}
-use Rattle.market_dict.proofs.StopLemmas.{on_passed_weaker}
+use Rattle.market_model.specs.declared.stops.Stop.TheVariants.{Passed as StoppedBy}
+use Rattle.market_model.proofs.StopLemmas.{on_passed_weaker}
 use Rattle.market_dict.proofs.posing.prices_and_bounds.Goals as goal
 
 pub returns-in_err-base_flows-clause-cause : goal.returns-in_err-base_flows-clause-cause

@@ -1,7 +1,7 @@
 use Rattle.std.proofs.Common.{rules, Err, ◌≡◌, ◌∙◌, map, ap}
 use Rattle.market_system.specs.MarketSystem.{low as low_of, high as high_of}
 use Rattle.simplex_core.specs.declared.bounds.Bounds.{Bounds}
-use Rattle.market_dict.specs.declared.stop.Stop.TheVariants.{Passed as StoppedBy}
+use Rattle.market_model.specs.declared.stops.Stop.TheVariants.{Passed as StoppedBy}
 use Rattle.market_dict.proofs.TermLemmas.{bound_more}
 use Rattle.market_dict.proofs.posing.take_bounds.Goals as goal
 

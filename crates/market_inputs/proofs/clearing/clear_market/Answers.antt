@@ -1,53 +1,43 @@
 use Rattle.std.proofs.Common.{◌≡◌, ◌∙◌, Err, rules}
-use Rattle.refusal_text.specs.declared.refusals.Input.TheVariants as input
-use Rattle.refusal_text.specs.declared.refusals.Refusal.TheVariants as refusal
-use Rattle.market_inputs.specs.Files.{sized}
+use Rattle.market_tables.specs.Tables.{tables_lent}
+use Rattle.market_inputs.specs.Files.{sized_tables}
 use Rattle.market_inputs.proofs.ClearLemmas.{all-read, case-stop, cover-stop, network-stop, offers-stop, offsets-stop, tables-stop}
 use Rattle.market_inputs.proofs.clearing.clear_market.Goals as goal
 
 pub returns-in_err-raw-clause-told : goal.returns-in_err-raw-clause-told
 returns-in_err-raw-clause-told c =
-    let b = c.args.bytes.now in
+    let files = sized_tables (tables_lent c.args.bytes.now) in
     let out = c.from_residual.result in
     let given : out ≡ Err c.in_err-raw.field-0.0 = search rules in
-    case-stop c.args.rating (sized (refusal.TooLong input.Case) b.case.now) (sized (refusal.TooLong input.Ptdf) b.ptdf.now) (sized (refusal.TooLong input.Lodf) b.lodf.now)
-    (sized (refusal.TooLong input.Contingencies) b.contingencies.now) (sized (refusal.TooLong input.Offers) b.offers.now) (sized (refusal.TooLong input.Offsets) b.offsets.now)
-    c.case_matrices.result out c.in_err-raw.field-0.0 c.case_matrices.ensures c.in_err-raw.was given
+    case-stop c.args.rating files c.case_matrices.result out c.in_err-raw.field-0.0 c.case_matrices.ensures c.in_err-raw.was given
 
 pub returns-in_err-network-clause-told : goal.returns-in_err-network-clause-told
 returns-in_err-network-clause-told c =
-    let b = c.args.bytes.now in
+    let files = sized_tables (tables_lent c.args.bytes.now) in
     let out = c.from_residual-in_err-network.result in
     let given : out ≡ Err c.in_err-network.field-0.0 = search rules in
-    network-stop c.args.rating (sized (refusal.TooLong input.Case) b.case.now) (sized (refusal.TooLong input.Ptdf) b.ptdf.now) (sized (refusal.TooLong input.Lodf) b.lodf.now)
-    (sized (refusal.TooLong input.Contingencies) b.contingencies.now) (sized (refusal.TooLong input.Offers) b.offers.now) (sized (refusal.TooLong input.Offsets) b.offsets.now)
-    c.in_ok-raw.raw c.in_ok-raw.ensures c.joined_network.result out c.in_err-network.field-0.0 c.joined_network.ensures.told c.in_err-network.was given
+    network-stop c.args.rating files c.in_ok-raw.raw c.in_ok-raw.ensures c.joined_network.result out c.in_err-network.field-0.0 c.joined_network.ensures.told c.in_err-network.was given
 
 pub returns-in_err-tables-clause-told : goal.returns-in_err-tables-clause-told
 returns-in_err-tables-clause-told c =
-    let b = c.args.bytes.now in
+    let files = sized_tables (tables_lent c.args.bytes.now) in
     let out = c.from_residual-in_err-tables.result in
     let given : out ≡ Err c.in_err-tables.field-0.0 = search rules in
-    tables-stop c.args.rating (sized (refusal.TooLong input.Case) b.case.now) (sized (refusal.TooLong input.Ptdf) b.ptdf.now) (sized (refusal.TooLong input.Lodf) b.lodf.now)
-    (sized (refusal.TooLong input.Contingencies) b.contingencies.now) (sized (refusal.TooLong input.Offers) b.offers.now) (sized (refusal.TooLong input.Offsets) b.offsets.now)
-    c.in_ok-raw.raw c.in_ok-raw.ensures c.in_ok-network.network c.in_ok-network.ensures.told c.read_tables.result out c.in_err-tables.field-0.0 c.read_tables.ensures.told c.in_err-tables.was given
+    tables-stop c.args.rating files c.in_ok-raw.raw c.in_ok-raw.ensures c.in_ok-network.network c.in_ok-network.ensures.told c.read_tables.result out c.in_err-tables.field-0.0 c.read_tables.ensures.told c.in_err-tables.was given
 
 pub returns-in_err-check_cover-clause-told : goal.returns-in_err-check_cover-clause-told
 returns-in_err-check_cover-clause-told c =
-    let b = c.args.bytes.now in
+    let files = sized_tables (tables_lent c.args.bytes.now) in
     let out = c.from_residual-in_err-check_cover.result in
     let given : out ≡ Err c.in_err-check_cover.field-0.0 = search rules in
-    cover-stop c.args.rating (sized (refusal.TooLong input.Case) b.case.now) (sized (refusal.TooLong input.Ptdf) b.ptdf.now) (sized (refusal.TooLong input.Lodf) b.lodf.now)
-    (sized (refusal.TooLong input.Contingencies) b.contingencies.now) (sized (refusal.TooLong input.Offers) b.offers.now) (sized (refusal.TooLong input.Offsets) b.offsets.now)
-    c.in_ok-raw.raw c.in_ok-raw.ensures c.in_ok-network.network c.in_ok-network.ensures.told c.in_ok-tables.tables c.in_ok-tables.ensures.told c.check_cover.result out c.in_err-check_cover.field-0.0 c.check_cover.ensures c.in_err-check_cover.was given
+    cover-stop c.args.rating files c.in_ok-raw.raw c.in_ok-raw.ensures c.in_ok-network.network c.in_ok-network.ensures.told c.in_ok-tables.tables c.in_ok-tables.ensures.told c.check_cover.result out c.in_err-check_cover.field-0.0 c.check_cover.ensures c.in_err-check_cover.was given
 
 pub returns-in_err-offered-clause-told : goal.returns-in_err-offered-clause-told
 returns-in_err-offered-clause-told c =
-    let b = c.args.bytes.now in
+    let files = sized_tables (tables_lent c.args.bytes.now) in
     let out = c.from_residual-in_err-offered.result in
     let given : out ≡ Err c.in_err-offered.field-0.0 = search rules in
-    offers-stop c.args.rating (sized (refusal.TooLong input.Case) b.case.now) (sized (refusal.TooLong input.Ptdf) b.ptdf.now) (sized (refusal.TooLong input.Lodf) b.lodf.now)
-    (sized (refusal.TooLong input.Contingencies) b.contingencies.now) (sized (refusal.TooLong input.Offers) b.offers.now) (sized (refusal.TooLong input.Offsets) b.offsets.now) c.in_ok-raw.raw
+    offers-stop c.args.rating files c.in_ok-raw.raw
     c.in_ok-network.network c.in_ok-tables.tables (record {
       raw_is = c.in_ok-raw.ensures;
       network_is = c.in_ok-network.ensures.told;
@@ -58,11 +48,10 @@ returns-in_err-offered-clause-told c =
 
 pub returns-in_err-offsets-clause-told : goal.returns-in_err-offsets-clause-told
 returns-in_err-offsets-clause-told c =
-    let b = c.args.bytes.now in
+    let files = sized_tables (tables_lent c.args.bytes.now) in
     let out = c.from_residual-in_err-offsets.result in
     let given : out ≡ Err c.in_err-offsets.field-0.0 = search rules in
-    offsets-stop c.args.rating (sized (refusal.TooLong input.Case) b.case.now) (sized (refusal.TooLong input.Ptdf) b.ptdf.now) (sized (refusal.TooLong input.Lodf) b.lodf.now)
-    (sized (refusal.TooLong input.Contingencies) b.contingencies.now) (sized (refusal.TooLong input.Offers) b.offers.now) (sized (refusal.TooLong input.Offsets) b.offsets.now) c.in_ok-raw.raw
+    offsets-stop c.args.rating files c.in_ok-raw.raw
     c.in_ok-network.network c.in_ok-tables.tables (record {
       raw_is = c.in_ok-raw.ensures;
       network_is = c.in_ok-network.ensures.told;
@@ -73,9 +62,8 @@ returns-in_err-offsets-clause-told c =
 
 pub returns-clause-told : goal.returns-clause-told
 returns-clause-told c =
-    let b = c.args.bytes.now in
-    all-read c.args.rating (sized (refusal.TooLong input.Case) b.case.now) (sized (refusal.TooLong input.Ptdf) b.ptdf.now) (sized (refusal.TooLong input.Lodf) b.lodf.now)
-    (sized (refusal.TooLong input.Contingencies) b.contingencies.now) (sized (refusal.TooLong input.Offers) b.offers.now) (sized (refusal.TooLong input.Offsets) b.offsets.now) c.in_ok-raw.raw
+    let files = sized_tables (tables_lent c.args.bytes.now) in
+    all-read c.args.rating files c.in_ok-raw.raw
     c.in_ok-network.network c.in_ok-tables.tables (record {
       raw_is = c.in_ok-raw.ensures;
       network_is = c.in_ok-network.ensures.told;

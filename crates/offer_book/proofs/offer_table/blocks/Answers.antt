@@ -1,4 +1,4 @@
-use Rattle.std.proofs.Common.{rules, ◌≡◌, ◌≢◌, ◌∙◌, sym, ap, Some, Ok, Err, Result, IfOk, All, List, [], ℕ, map, Bor}
+use Rattle.std.proofs.Common.{◌≡◌, ◌≢◌, ◌∙◌, refl, sym, ap, Some, Ok, Err, Result, IfOk, All, List, []}
 use Rattle.market_model.specs.declared.participants.Block.{Block}
 use Rattle.market_model.specs.Market.{HaveRoom}
 use Rattle.market_data.specs.Scales.{most_blocks}
@@ -14,14 +14,12 @@ use Rattle.offer_book.proofs.offer_table.blocks.Goals as goal
 pub returns-in-Ok-clause-is : goal.returns-in-Ok-clause-is
 unfolding blocks_of_table
 returns-in-Ok-clause-is c =
-    let names : map (λ (name : Bor (List ℕ)). name.now) c.as_slice-5.result.now ≡ header = search rules in
-    λ other. c.blocks_of.ensures.is other ∙ sym (framed-fits frame_fault (gather (block_in c.args.units.now) [] 2) (Some most_blocks) c.args.bytes.now header _ _ names c.in-Ok.ensures.ok)
+    λ other. c.blocks_of.ensures.is other ∙ sym (framed-fits frame_fault (gather (block_in c.args.units.now) [] 2) (Some most_blocks) c.args.bytes.now header _ _ refl c.in-Ok.ensures.ok)
 
 pub returns-in-Err-clause-is : goal.returns-in-Err-clause-is
 unfolding blocks_of_table
 returns-in-Err-clause-is c =
-    let names : map (λ (name : Bor (List ℕ)). name.now) c.as_slice-5.result.now ≡ header = search rules in
-    λ other. rw c.from.ensures (sym (framed-fault frame_fault (gather (block_in c.args.units.now) [] 2) (Some most_blocks) c.args.bytes.now header _ c.in-Err.fault names c.in-Err.ensures.err (λ m. other (ap Err (c.from.ensures ∙ m)))))
+    λ other. rw c.from.ensures (sym (framed-fault frame_fault (gather (block_in c.args.units.now) [] 2) (Some most_blocks) c.args.bytes.now header _ c.in-Err.fault refl c.in-Err.ensures.err (λ m. other (ap Err (c.from.ensures ∙ m)))))
 
 pub returns-in-Ok-clause-room : goal.returns-in-Ok-clause-room
 returns-in-Ok-clause-room c = λ sides. by c.blocks_of.result (λ fine. c.blocks_of.ensures.is fine) sides

@@ -15,6 +15,6 @@ loop-place-preserved g c =
     let buses = c.slice-bus-items.ensures ∙ c.buses.ensures.list in
     let number = ap (λ (bs : List Bus). (slice_index_or bs i (record { number = 0; pd = pos 0; gs = pos 0 })).number) buses in
     let read = entry_is (load_at g.N.Exact.value) c.args.answer.now.money.loads i c.at.result.now (record { mw = zero; pays = zero })
-    (omega (arith, c.requires.loads, ap length buses)) c.at.ensures in
+    (omega (arith, c.requires.money.loads, ap length buses)) c.at.ensures in
     lines_more (load_line_at m (answer_at g.N.Exact.value c.args.answer.now)) c.args.text.now c.loop-place.text c.load_line.new.text i c.loop-place.invariant
     (c.in_ok-load_line.ensures ∙ ap (λ t. c.loop-place.text ++ t) (ap (λ n. load_text n load) number ∙ ap (load_text (bus_at m i).number) read))

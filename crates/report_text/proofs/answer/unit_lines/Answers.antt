@@ -15,6 +15,6 @@ loop-place-preserved g c =
     let units = c.slice-unit-items.ensures ∙ c.units.ensures.list in
     let row = ap (λ (us : List unit.Unit). (slice_index_or us i (record { row = 0; bus = 0; fixed = pos 0; up = pos 0; down = pos 0 })).row) units in
     let read = entry_is (unit_pay_at g.N.Exact.value) c.args.answer.now.money.units i c.at.result.now (record { mw = zero; paid = zero })
-    (omega (arith, c.requires.units, ap length units)) c.at.ensures in
+    (omega (arith, c.requires.money.units, ap length units)) c.at.ensures in
     lines_more (unit_line_at m (answer_at g.N.Exact.value c.args.answer.now)) c.args.text.now c.loop-place.text c.unit_line.new.text i c.loop-place.invariant
     (c.in_ok-unit_line.ensures ∙ ap (λ t. c.loop-place.text ++ t) (ap (λ n. unit_text n pay) row ∙ ap (unit_text (unit_at m i).row) read))

@@ -1,4 +1,6 @@
 use Rattle.std.proofs.Common.{subst}
+use Rattle.std.specs.Prelude.{vec_items}
+use Rattle.market_tables.specs.Tables.{map_tables}
 use Rattle.outside_store.specs.Files.{Reads}
 use Rattle.command_answers.specs.Inputs.{IsReplayed}
 use Rattle.command_answers.specs.Replaying.{TellsReplay}
@@ -15,6 +17,6 @@ returns-clause-right g c =
     let edits : Reads files c.args.files.now.edits.now 33554432 c.as_slice.result.now = reads-same _ _ _ _ c.read_market.ensures.reads.same (rw c.as_slice.ensures.value c.in_ok-edits.ensures.bytes) in
     told-ok _ _ c.or_memory.result c.replay_told-told.result c.or_memory.ensures
     (if_ok-map _ _ c.replay_told-told.result
-    (λ told is. files-replay files names _ c.in_ok-bytes.bytes _ (telling_of told) c.in_ok-bytes.ensures.bytes edits
-    (subst (λ x. Tells (IsReplayed names.rating x c.as_slice.result.now) TellsReplay (telling_of told)) c.lent.ensures is))
+    (λ told is. files-replay files names _ (map_tables vec_items vec_items c.in_ok-bytes.bytes) _ (telling_of told) c.in_ok-bytes.ensures.bytes edits
+    (subst (λ x. Tells (IsReplayed names.rating x c.as_slice.result.now) TellsReplay (telling_of told)) c.as_slices.ensures is))
     c.replay_told-told.ensures.tells)

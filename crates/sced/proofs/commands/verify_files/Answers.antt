@@ -1,12 +1,14 @@
 use Rattle.std.proofs.Common.{◌≡◌, ◌∙◌, Ok, subst}
-use Rattle.std.specs.Prelude.{MatchResult, option_map}
+use Rattle.std.specs.Prelude.{MatchResult, option_map, vec_items}
+use Rattle.edit_table.specs.EditTable.{header as edit_header}
+use Rattle.market_tables.specs.Tables.{map_tables}
 use Rattle.outside_store.specs.Files.{Reads, SameFiles}
 use Rattle.command_answers.specs.Inputs.{IsCertified}
 use Rattle.command_answers.specs.Tellings.{Tells, telling_of}
 use Rattle.command_answers.specs.Verifying.{TellsVerdict}
 use Rattle.command_answers.specs.declared.status.Status.TheVariants as status
 use Rattle.command_words.specs.Requests.{names_of_market}
-use Rattle.sced.specs.Reading.{ReadsTable, edits_header}
+use Rattle.sced.specs.Reading.{ReadsTable, source_of}
 use Rattle.sced.proofs.FileLemmas.{files-verify}
 use Rattle.sced.proofs.ReadingLemmas.{if_ok-map, reads-same, same_then, table-same, told-ok}
 use Rattle.sced.proofs.commands.verify_files.Goals as goal
@@ -16,13 +18,13 @@ returns-clause-right g c =
     let files = g.S.Store.files c.args.store.now in
     let names = names_of_market c.args.files.now.market in
     let later : SameFiles files (g.S.Store.files c.read_table.new.store) = same_then _ _ _ c.read_market.ensures.reads.same c.read_table.ensures.reads.same in
-    let edits : ReadsTable files (option_map (λ n. n.now) c.args.files.now.edits) edits_header c.as_slice.result.now =
-    table-same _ _ _ _ _ c.read_market.ensures.reads.same (rw c.as_slice.ensures.value c.in_ok-edits.ensures.bytes) in
+    let edits : ReadsTable files (source_of edit_header (option_map (λ n. n.now) c.args.files.now.edits)) c.as_slice.result.now =
+    table-same _ _ _ _ c.read_market.ensures.reads.same (rw c.as_slice.ensures.value c.in_ok-edits.ensures.bytes) in
     let certificate : Reads files c.args.files.now.certificate.now 33554432 c.as_slice-2.result.now = reads-same _ _ _ _ later (rw c.as_slice-2.ensures.value c.in_ok-certificate.ensures.bytes) in
     told-ok _ _ c.or_memory.result c.verify_told.result c.or_memory.ensures
     (if_ok-map _ _ c.verify_told.result
-    (λ told is. files-verify files names _ _ c.in_ok-bytes.bytes _ _ (telling_of told) c.in_ok-bytes.ensures.bytes edits certificate
-    (subst (λ x. Tells (IsCertified names.rating x c.as_slice.result.now c.as_slice-2.result.now) TellsVerdict (telling_of told)) c.lent.ensures is))
+    (λ told is. files-verify files names _ _ (map_tables vec_items vec_items c.in_ok-bytes.bytes) _ _ (telling_of told) c.in_ok-bytes.ensures.bytes edits certificate
+    (subst (λ x. Tells (IsCertified names.rating x c.as_slice.result.now c.as_slice-2.result.now) TellsVerdict (telling_of told)) c.as_slices.ensures is))
     c.verify_told.ensures.tells)
 
 pub returns-clause-reads : goal.returns-clause-reads

@@ -2,7 +2,7 @@ use Rattle.std.proofs.Common.{rules, Err, ◌≡◌, ◌<◌, ◌∙◌, ap, sym
 use Rattle.std.specs.Prelude.{slice_index_or}
 use Rattle.market_data.specs.declared.participants.Bus.{Bus}
 use Rattle.market_model.specs.Valued.{passed_at, load_at}
-use Rattle.settlement.specs.declared.stops.MoneyStop.TheVariants as why
+use Rattle.market_model.specs.declared.stops.Stop.TheVariants as why
 use Rattle.market_model.specs.Settlement.{pay_of_load}
 use Rattle.settlement.specs.Paying.{total_at}
 use Rattle.settlement.proofs.ListLemmas.{put_place}

@@ -1,13 +1,16 @@
-use Rattle.std.proofs.Common.{rules, Err, ◌≡◌, ◌∙◌, arith, ap, subst, length, map}
+use Rattle.std.proofs.Common.{rules, Err, ◌≡◌, ◌⊎◌, ◌∙◌, arith, ap, subst, length, map}
 use Rattle.market_model.specs.declared.limits.Row.{Row}
+use Rattle.market_model.specs.LimitRows.{flow_by, row_offset}
+use Rattle.market_model.specs.NamedSums.{IsRefusedIn}
 use Rattle.market_model.specs.Optimality.{named_rows}
 use Rattle.market_model.specs.RightAnswers.{rent_of}
+use Rattle.market_model.specs.Settlement.{earned_terms, priced_flow}
+use Rattle.market_model.specs.SumTables.{IsRefusedAmong, PaidRowSum}
 use Rattle.market_model.specs.Valued.{dual_at, duals_at, passed_at, rent_at}
 use Rattle.limit_rows.proofs.DualLemmas.{dual_one_sided, dual_row, named_count}
 use Rattle.limit_screen.specs.Flows.{line_in}
-use Rattle.settlement.specs.declared.stops.MoneyStop.TheVariants as why
+use Rattle.market_model.specs.declared.stops.Stop.TheVariants as why
 use Rattle.settlement.specs.Paying.{earned_by}
-use Rattle.settlement.specs.Refusals.{IsRentRefusal}
 use Rattle.settlement.proofs.ListLemmas.{put_next, all_put_next}
 use Rattle.settlement.proofs.RowLemmas.{earned_is, row_refusal}
 use Rattle.settlement.proofs.rents.rents.Goals as goal
@@ -59,4 +62,4 @@ returns-in_err-rent-clause-cause g c =
     let given : c.from_residual.result ≡ Err (why.Passed c.in_err-rent.field-0.0) = search rules in
     λ x price are. rw given
     (row_refusal m x fs are d k e r.0 r.1 c.lines-lines.ensures.market price g.N.Exact.bound p
-    (subst (λ (t : Row). IsRentRefusal m (line_in m fs) e t g.N.Exact.bound p) is c.in_err-rent.ensures.cause))
+    (subst (λ (t : Row). IsRefusedAmong (PaidRowSum m (line_in m fs) t) g.N.Exact.bound p ⊎ IsRefusedIn (earned_terms e.up e.down (priced_flow m t (flow_by m (line_in m fs) t)) (row_offset m t)) g.N.Exact.bound p) is c.in_err-rent.ensures.cause))

@@ -1,12 +1,13 @@
-use Rattle.std.proofs.Common.{◌∙◌, ap, refl}
+use Rattle.std.proofs.Common.{rules, Err, ◌≡◌, ◌∙◌, ap, inl, inr, refl}
 use Rattle.std.proofs.lemmas.Result.{MatchResult-weaker}
 use Rattle.fraction_theory.specs.Fraction.{◌*ℚ◌}
 use Rattle.fraction_theory.specs.declared.Sign.TheVariants.{Zero}
 use Rattle.fraction_theory.proofs.SignLaws.{sign_of_is}
-use Rattle.exact_fraction.specs.declared.Op.TheVariants.{Times}
+use Rattle.exact_fraction.specs.declared.Op.TheVariants.{Plus, Minus, Times}
 use Rattle.market_model.specs.Valued.{dual_at, passed_at}
 use Rattle.market_model.proofs.SumSteps.{refusal}
-use Rattle.settlement.proofs.RowLemmas.{upper_earned, lower_earned, upper_refused, lower_refused, not_zero_side}
+use Rattle.market_model.proofs.OneSidedDuals.{not_zero_side}
+use Rattle.settlement.proofs.RowLemmas.{less_refused, lower_earned, lower_refused, more_refused, upper_earned, upper_refused}
 use Rattle.settlement.proofs.rows.earned.Goals as goal
 
 pub returns-in_ok-room-in-Zero-clause-rent : goal.returns-in_ok-room-in-Zero-clause-rent
@@ -25,8 +26,24 @@ returns-in_ok-room-in-Zero-clause-cause g c =
     let e = dual_at value c.args.dual.now in
     MatchResult-weaker c.times.result c.times.ensures (λ _ _. tt)
     (λ p is.
-    upper_refused e (value c.args.limit) (value c.args.offset) g.N.Exact.bound (passed_at value p) (value c.in_ok-room-in-Zero.room) c.in_ok-room-in-Zero.ensures.exact
-    (refusal value g.N.Exact.bound Times c.args.dual.now.up c.in_ok-room-in-Zero.room _ _ p refl refl is))
+    inr (inr (upper_refused e (value c.args.limit) (value c.args.offset) g.N.Exact.bound (passed_at value p) (value c.in_ok-room-in-Zero.room) c.in_ok-room-in-Zero.ensures.exact
+    (refusal value g.N.Exact.bound Times c.args.dual.now.up c.in_ok-room-in-Zero.room _ _ p refl refl is))))
+
+pub returns-in_err-room-in-Zero-clause-cause : goal.returns-in_err-room-in-Zero-clause-cause
+returns-in_err-room-in-Zero-clause-cause g c =
+    let value = g.N.Exact.value in
+    let given : c.from_residual.result ≡ Err c.in_err-room-in-Zero.field-0.0 = search rules in
+    rw given
+    (inl (less_refused (dual_at value c.args.dual.now) (value c.args.limit) (value c.args.offset) g.N.Exact.bound (passed_at value c.in_err-room-in-Zero.field-0.0)
+    (refusal value g.N.Exact.bound Minus c.args.limit c.args.offset _ _ c.in_err-room-in-Zero.field-0.0 refl refl c.in_err-room-in-Zero.ensures)))
+
+pub returns-in_err-room-in-Below-clause-cause : goal.returns-in_err-room-in-Below-clause-cause
+returns-in_err-room-in-Below-clause-cause g c =
+    let value = g.N.Exact.value in
+    let given : c.from_residual-in_err-room-in-Below.result ≡ Err c.in_err-room-in-Below.field-0.0 = search rules in
+    rw given
+    (inr (inl (more_refused (dual_at value c.args.dual.now) (value c.args.limit) (value c.args.offset) g.N.Exact.bound (passed_at value c.in_err-room-in-Below.field-0.0)
+    (refusal value g.N.Exact.bound Plus c.args.limit c.args.offset _ _ c.in_err-room-in-Below.field-0.0 refl refl c.in_err-room-in-Below.ensures))))
 
 pub returns-in_ok-room-in-Below : goal.returns-in_ok-room-in-Below
 returns-in_ok-room-in-Below g c =
@@ -40,6 +57,6 @@ returns-in_ok-room-in-Below g c =
           (λ _ _. tt);
       cause = MatchResult-weaker c.times-in-Below.result c.times-in-Below.ensures (λ _ _. tt)
           (λ p is.
-          lower_refused e (value c.args.limit) (value c.args.offset) g.N.Exact.bound (passed_at value p) (value c.in_ok-room-in-Below.room) c.in_ok-room-in-Below.ensures.exact
-          (refusal value g.N.Exact.bound Times c.args.dual.now.down c.in_ok-room-in-Below.room _ _ p refl refl is));
+          inr (inr (lower_refused e (value c.args.limit) (value c.args.offset) g.N.Exact.bound (passed_at value p) (value c.in_ok-room-in-Below.room) c.in_ok-room-in-Below.ensures.exact
+          (refusal value g.N.Exact.bound Times c.args.dual.now.down c.in_ok-room-in-Below.room _ _ p refl refl is))));
     }

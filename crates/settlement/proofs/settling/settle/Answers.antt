@@ -1,9 +1,11 @@
-use Rattle.std.proofs.Common.{rules, Err, ◌≡◌, ◌∙◌, ap, map}
+use Rattle.std.proofs.Common.{rules, Err, ◌≡◌, ◌∙◌, ap, inl, inr, map}
 use Rattle.std.proofs.lemmas.Result.{IfErr-weaker}
-use Rattle.market_model.specs.Valued.{duals_at}
+use Rattle.market_model.specs.Valued.{duals_at, passed_at}
 use Rattle.market_model.specs.PutIn.{dispatch_of}
 use Rattle.settlement.specs.Paying.{total_at}
-use Rattle.settlement.proofs.RefusalLemmas.{in_flows, in_money}
+use Rattle.market_model.proofs.StopLemmas.{on_passed_weaker}
+use Rattle.limit_screen.specs.Flows.{IsFlowsRefusal}
+use Rattle.settlement.specs.Refusals.{IsMoneyRefusal}
 use Rattle.settlement.proofs.settling.settle.Goals as goal
 
 pub settle_flows-requires-clause-flows : goal.settle_flows-requires-clause-flows
@@ -14,10 +16,13 @@ returns-in_err-flows-clause-cause g c =
     let value = g.N.Exact.value in
     let given : c.from_residual.result ≡ Err c.in_err-flows.field-0.0 = search rules in
     rw given
-    (in_flows value g.N.Exact.bound c.args.market.now (dispatch_of value c.args.dispatch.now) (total_at value c.args.prices.now) (duals_at value c.args.duals.now) c.in_err-flows.field-0.0 c.in_err-flows.ensures.cause)
+    (on_passed_weaker c.in_err-flows.field-0.0 (λ p. IsFlowsRefusal c.args.market.now (dispatch_of value c.args.dispatch.now) g.N.Exact.bound (passed_at value p)) _ (λ p refused. inl refused) c.in_err-flows.ensures.cause)
 
 pub returns-clause-cause : goal.returns-clause-cause
 returns-clause-cause g c =
     let value = g.N.Exact.value in
     IfErr-weaker c.settle_flows.result _ _
-    (in_money value g.N.Exact.bound c.args.market.now (dispatch_of value c.args.dispatch.now) (total_at value c.args.prices.now) (duals_at value c.args.duals.now)) c.settle_flows.ensures.cause
+    (λ stop.
+    on_passed_weaker stop (λ p. IsMoneyRefusal c.args.market.now (dispatch_of value c.args.dispatch.now) (total_at value c.args.prices.now) (duals_at value c.args.duals.now) g.N.Exact.bound (passed_at value p)) _
+    (λ p refused. inr refused))
+    c.settle_flows.ensures.cause

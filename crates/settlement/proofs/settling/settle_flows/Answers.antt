@@ -10,10 +10,10 @@ use Rattle.market_model.specs.NamedSums.{IsRefusedIn}
 use Rattle.market_model.specs.Valued.{duals_at, load_at, money_at, passed_at, rent_at, unit_pay_at}
 use Rattle.market_model.specs.PutIn.{dispatch_of}
 use Rattle.limit_screen.proofs.ScreenLemmas.{flow_count}
-use Rattle.settlement.specs.declared.stops.MoneyStop.TheVariants as why
-use Rattle.market_model.specs.Settlement.{pay_of_load, pay_of_unit}
+use Rattle.market_model.specs.declared.stops.Stop.TheVariants as why
+use Rattle.market_model.specs.Settlement.{left_terms, pay_of_load, pay_of_unit}
+use Rattle.market_model.specs.SumTables.{left_of_all, payment}
 use Rattle.settlement.specs.Paying.{total_at, paid_terms}
-use Rattle.settlement.specs.Refusals.{of_money}
 use Rattle.settlement.proofs.ListLemmas.{sum_by-map}
 use Rattle.settlement.proofs.MoneyLemmas.{surplus_is, surplus_refused, rents_are_left, left_not_negative, count_fits, rows_fit}
 use Rattle.settlement.proofs.settling.settle_flows.Goals as goal
@@ -45,11 +45,12 @@ returns-in_err-surplus-clause-cause g c =
     let price = total_at value c.args.prices.now in
     let p = passed_at value c.in_err-surplus.field-0.0 in
     let given : c.from_residual-in_err-surplus.result ≡ Err (why.Passed c.in_err-surplus.field-0.0) = search rules in
-    rw given
-    (of_money
-    (
-    (surplus_refused value m x price c.in_ok-loads.loads c.in_ok-units.units c.in_ok-loads.ensures.loads c.in_ok-units.ensures.pays g.N.Exact.bound p
-    (subst₂ (λ (ls : List (Load g.row.N.Denot)) (us : List (UnitPay g.row.N.Denot)). IsRefusedIn (paid_terms value ls us) g.N.Exact.bound p) c.slice.ensures c.slice-2.ensures c.in_err-surplus.ensures.cause))))
+    rw given (
+      left_terms m x price,
+      payment _ left_of_all,
+      surplus_refused value m x price c.in_ok-loads.loads c.in_ok-units.units c.in_ok-loads.ensures.loads c.in_ok-units.ensures.pays g.N.Exact.bound p
+          (subst₂ (λ (ls : List (Load g.row.N.Denot)) (us : List (UnitPay g.row.N.Denot)). IsRefusedIn (paid_terms value ls us) g.N.Exact.bound p) c.slice.ensures c.slice-2.ensures c.in_err-surplus.ensures.cause),
+    )
 
 pub returns-clause-money : goal.returns-clause-money
 returns-clause-money g c =

@@ -3,7 +3,7 @@ use Rattle.std.specs.Prelude.{slice_index_or}
 use Rattle.market_data.specs.declared.participants.Unit as unit
 use Rattle.market_model.specs.Valued.{passed_at, unit_pay_at}
 use Rattle.market_model.specs.PutIn.{dispatch_of}
-use Rattle.settlement.specs.declared.stops.MoneyStop.TheVariants as why
+use Rattle.market_model.specs.declared.stops.Stop.TheVariants as why
 use Rattle.market_model.specs.Settlement.{pay_of_unit}
 use Rattle.settlement.specs.Paying.{total_at}
 use Rattle.settlement.proofs.ListLemmas.{put_place}

@@ -1,0 +1,5 @@
+use Rattle.command_answers.proofs.RoundTripLemmas.{law_of_the_round_trip}
+use Rattle.command_answers.proofs.laws.certificates_come_back.Goals as goal
+
+pub returns : goal.returns
+returns c = law_of_the_round_trip

@@ -1,0 +1,421 @@
+-- The laws of every run.
+use Rattle.std.specs.Prelude.{◌≡◌, ◌≢◌, ◌⊎◌, ℕ, Bool, true, false, if◌then◌else◌, List, [], ◌++◌, Option, Some, None, Ok, Err, Result, codes, length, nat_lt, slice_get, take}
+use Rattle.std.proofs.Common.{inl, inr, refl, sym, subst, ap, ◌∙◌}
+use Rattle.fraction_theory.specs.Fraction.{Fraction}
+use Rattle.exact_fraction.specs.declared.Passed.{Passed}
+use Rattle.outside_store.specs.Files.{Files, SameFiles, Wrote}
+use Rattle.market_model.specs.declared.answered.Answer.{Answer}
+use Rattle.market_model.specs.declared.answered.Farkas.{Farkas}
+use Rattle.market_model.specs.declared.answered.Outcome.{Outcome}
+use Rattle.market_model.specs.declared.answered.Outcome.TheVariants as outcome
+use Rattle.market_model.specs.declared.participants.Parts.{Parts}
+use Rattle.market_model.specs.Market.{IsMarket}
+use Rattle.market_model.specs.Infeasibility.{IsFarkas}
+use Rattle.market_model.specs.RightAnswers.{IsRight, dispatch_in}
+use Rattle.market_model.specs.Settlement.{surplus}
+use Rattle.market_model.proofs.FarkasLaw.{law_of_infeasibility}
+use Rattle.market_model.proofs.Optimum.{law_of_the_optimum, law_of_the_surplus}
+use Rattle.market_system.specs.Outcomes.{IsDecided}
+use Rattle.market_system.proofs.Completeness.{law_of_completeness}
+use Rattle.net_case.specs.declared.live_parts.PostRating.{PostRating}
+use Rattle.case_maker.specs.Rings.{ring_of}
+use Rattle.record_reading.specs.Steps.{or_as}
+use Rattle.cert_format.specs.Certificates.{RowsAreDistinct}
+use Rattle.cert_format.specs.Grammar.{cert_read}
+use Rattle.cert_format.specs.Written.{certificate_of}
+use Rattle.cert_format.specs.declared.certificate.Cert.{Cert}
+use Rattle.cert_format.specs.declared.certificate.Key.{Key}
+use Rattle.cert_format.proofs.InverseLemmas.{cert_read-distinct}
+use Rattle.cert_verify.specs.Certificates.{first_reason}
+use Rattle.cert_verify.specs.Reasons.{verdict_of}
+use Rattle.cert_verify.specs.declared.verdicts.Reason.{Reason}
+use Rattle.cert_verify.proofs.LawLemmas.{law_of_the_verdict}
+use Rattle.edit_table.specs.declared.Step.{Step}
+use Rattle.edit_table.specs.declared.Step.TheVariants as step
+use Rattle.edit_replay.specs.Replays.{edited_by}
+use Rattle.report_text.proofs.OutcomeReading.{outcome_fits}
+use Rattle.replay_text.proofs.ReplayReading.{replay_fits, right_in}
+use Rattle.refusal_text.specs.Refusals.{refusal_line}
+use Rattle.refusal_text.specs.declared.refusals.Input.TheVariants as input
+use Rattle.refusal_text.specs.declared.refusals.Refusal.{Refusal}
+use Rattle.refusal_text.specs.declared.refusals.Refusal.TheVariants as refusal
+use Rattle.market_inputs.specs.Files.{most_file, sized}
+use Rattle.market_inputs.specs.Replaying.{certificate_in}
+use Rattle.market_inputs.specs.Steps.{Is, Onward, Then}
+use Rattle.market_inputs.specs.declared.checking.Inputs.{Inputs}
+use Rattle.command_words.specs.Words.{AsksClear, AsksReplay, MarketNames, NamesToWrite}
+use Rattle.command_words.proofs.WordsLemmas.{clears-once}
+use Rattle.command_answers.specs.Clearing.{TellsClear, most_size, status_of}
+use Rattle.residual_text.specs.ResidualLines.{residuals_text}
+use Rattle.command_answers.specs.Checking.{AreResiduals, TellsCheck, are_within, check_status_of}
+use Rattle.command_answers.specs.declared.checking.Residuals.{Residuals}
+use Rattle.market_tables.specs.Tables.{MarketTexts}
+use Rattle.command_answers.specs.Inputs.{IsCertified, MarketCertificate, MarketSteps}
+use Rattle.command_answers.specs.Making.{MakesTo}
+use Rattle.command_answers.specs.Making as making
+use Rattle.command_answers.specs.Replaying.{TellsReplay}
+use Rattle.command_answers.specs.Tellings.{ComesTo, Telling, Tells, refusal_of}
+use Rattle.command_answers.specs.Verdicts.{verdict_line}
+use Rattle.command_answers.specs.Verifying.{TellsVerdict, VerifiesTo, judged, passed, verdict_status}
+use Rattle.command_answers.specs.declared.status.Status.{Status}
+use Rattle.command_answers.specs.declared.status.Status.TheVariants as status
+use Rattle.sced.specs.Decided.{AsksMarket, AsksSteps, AsksVerdict, as_clear, as_pool}
+use Rattle.sced.specs.Headline.{AreReported, IsBest, IsFirstFault, IsOfReached, IsPriced, IsVerdict, LawOfCheck, LawOfCleared, LawOfComplete, LawOfFaults, LawOfInfeasible, LawOfMake, LawOfOutside, LawOfRange, LawOfRoundTrip, LawOfVerify, NonePasses, RefusesEdit, Reports, in_clear, in_replay, no, of_clear, of_step, passes, to_check, to_clear, to_replay, to_verify, yes}
+use Rattle.sced.specs.Runs.{IsSilent, Keeps, Outside}
+use Rattle.sced.specs.Runs as ending
+use Rattle.sced.specs.Told.{Answers, AnswersTo, AreCheckFiles, AreClearFiles, ArePoolFiles, AreReplayFiles, AreVerifyFiles, checked, cleared, made, named_bytes, pooled, refused, replayed, verified}
+use Rattle.command_answers.specs.Laws.{Certifies, IsYesOrRange}
+use Rattle.command_answers.proofs.RoundTripLemmas.{law_of_the_round_trip, law_of_yes}
+use Rattle.sced.proofs.DecidedLemmas.{check-told, clear-told, make-told, no-other, not-refused, replay-told, verify-told}
+use Rattle.sced.proofs.RunLemmas.{IsOutcomeOf, IsPrinted, cleared-at, printed, refused-at, refused-status, reported}
+use Rattle.sced.proofs.RunLemmas as run
+
+-- ---- cleared and infeasible
+right-best : (m : Parts) (a : Answer Fraction) → IsMarket m → IsRight m a → IsBest m (dispatch_in a) × IsPriced m a
+unfolding surplus
+right-best m a market right = (
+  record {
+    offered = right.feasible.blocks;
+    balances = right.feasible.balanced;
+    within = right.feasible.limits;
+    greatest = λ y feasible. law_of_the_optimum m a.duals (dispatch_in a) y market right.feasible right.supported feasible;
+  },
+  record {
+    prices = ap (λ (b : Answer Fraction). b.prices) right.made;
+    supported = right.supported;
+    worth = ap (λ (b : Answer Fraction). b.welfare) right.made;
+    money = ap (λ (b : Answer Fraction). b.money) right.made;
+    surplus = ap (λ (b : Answer Fraction). b.money.surplus) right.made ∙ law_of_the_surplus m a.duals (dispatch_in a) market right.feasible right.supported;
+  },
+)
+
+cleared-of : (words : List (List ℕ)) (files : Files) (m : Parts) (a : Answer Fraction) → IsOutcomeOf words files m (outcome.Cleared a) → IsBest m (dispatch_in a) × IsPriced m a
+cleared-of words files m a (run.in_clear asks market right) = right-best m a market right
+cleared-of words files m a (run.in_replay start steps k asks edited market earlier taken replay right decided) = right-best m a market right
+
+pub law_of_cleared : LawOfCleared
+law_of_cleared words files text s m a prints reports = cleared-of words files m a (reported words files text s m (outcome.Cleared a) _ (printed words files text s prints) reports)
+
+infeasible-of : (words : List (List ℕ)) (files : Files) (m : Parts) (f : Farkas Fraction) → IsOutcomeOf words files m (outcome.Infeasible f) → IsMarket m × IsFarkas m f
+infeasible-of words files m f (run.in_clear asks market right) = (market, right)
+infeasible-of words files m f (run.in_replay start steps k asks edited market earlier taken replay right decided) = (market, right)
+
+pub law_of_infeasible : LawOfInfeasible
+law_of_infeasible words files text s m f prints reports =
+    let is = infeasible-of words files m f (reported words files text s m (outcome.Infeasible f) _ (printed words files text s prints) reports) in
+    ((λ x. law_of_infeasibility m f.duals x is.0 is.1.shows), is.1.shows, is.1.bound)
+
+-- ---- range
+range-of : (words : List (List ℕ)) (files : Files) (m : Parts) (p : Passed Fraction) → IsOutcomeOf words files m (outcome.Range p) → IsOfReached words files m p
+range-of words files m p (run.in_clear asks market right) = in_clear asks right
+range-of words files m p (run.in_replay start steps k asks edited market earlier taken replay right decided) = in_replay start steps k earlier taken asks edited replay right
+
+pub law_of_range : LawOfRange
+law_of_range words files text s m p prints reports = range-of words files m p (reported words files text s m (outcome.Range p) _ (printed words files text s prints) reports)
+
+-- ---- complete
+module _ (words : List (List ℕ)) (files : Files) (text : List ℕ) (s : Status) (after : Option Files) (p : IsPrinted words files after text s) where
+  clear-reported : (m : Parts) → AsksMarket files words m → TellsClear m p.telling → (o : Outcome Fraction) × Reports words files text m o × (s ≡ status_of o)
+  clear-reported m asks (market, clears) = (
+    clears.outcome,
+    of_clear asks (outcome_fits m clears.outcome (right_in most_size m [] clears.outcome clears.right)) (sym p.text_is ∙ clears.text_is),
+    sym p.status_is ∙ clears.status_is,
+  )
+
+  step-reported : (m : Parts) (steps : List Step) (k : ℕ) → AsksSteps files words m steps → slice_get steps k ≡ Some step.Clear → TellsReplay (record { market = m; steps = steps }) p.telling
+      → (o : Outcome Fraction) × Reports words files text (edited_by m (take k steps)) o
+  step-reported m steps k asks at (market, replays) =
+      let here = cleared-at most_size m [] replays.taken steps replays.outcomes k replays.right at in
+      (here.0, of_step m steps replays.outcomes k asks (replay_fits most_size m [] replays.taken steps replays.outcomes replays.right) (sym p.text_is ∙ replays.text_is) here.1 refl)
+
+  all-reported : AreReported words files text s
+  all-reported = record {
+    market = λ m asks. clear-reported m asks (clear-told files words p.telling p.written (Ok m) p.answers asks);
+    steps = λ m steps k asks at. step-reported m steps k asks at (replay-told files words p.telling p.written (Ok (record { market = m; steps = steps })) p.answers asks);
+  }
+
+decided-of : (words : List (List ℕ)) (files : Files) (m : Parts) (o : Outcome Fraction) → NonePasses words files → IsOutcomeOf words files m o → IsDecided m o
+decided-of words files m o none (run.in_clear asks market right) = law_of_completeness m [] most_size o market (none.market m asks) right
+decided-of words files m o none (run.in_replay start steps k asks edited market earlier taken replay right decided) = decided (none.steps start steps asks)
+
+pub law_of_complete : LawOfComplete
+law_of_complete words files text s prints =
+    let p = printed words files text s prints in
+    (all-reported words files text s _ p, λ none m o reports. decided-of words files m o none (reported words files text s m o _ p reports))
+
+-- ---- verify
+-- a certificate that stands with a market is read of its text
+seen-certificate : (r : Result (Cert Fraction) Key) (c : Cert Fraction) → or_as refusal.Certificate r ≡ Ok c → r ≡ Ok c
+seen-certificate (Ok x) c is = cc is
+seen-certificate (Err e) c is = cc is
+
+sized-read : (long : Bool) (too_long : Refusal) (bytes : List ℕ) (c : Cert Fraction) → certificate_in (if long then Err too_long else Ok bytes) ≡ Ok c → cert_read bytes ≡ Ok c
+sized-read true too_long bytes c is = cc is
+sized-read false too_long bytes c is = seen-certificate (cert_read bytes) c is
+
+read-in : (too_long : Refusal) (bytes : List ℕ) (c : Cert Fraction) → certificate_in (sized too_long bytes) ≡ Ok c → cert_read bytes ≡ Ok c
+unfolding sized
+read-in too_long bytes c is = sized-read (nat_lt most_file (length bytes)) too_long bytes c is
+
+abbrev certificate_or : Cert Fraction → Result MarketCertificate Refusal → Cert Fraction
+certificate_or c (Ok stood) = stood.certificate
+certificate_or c (Err r) = c
+
+certified-read : (rating : PostRating) (t : MarketTexts) (edits certificate : List ℕ) (m : Parts) (c : Cert Fraction) → IsCertified rating t edits certificate (Ok (record { market = m; certificate = c })) → cert_read certificate ≡ Ok c
+certified-read rating t edits certificate m c h = first h.made h.rest
+  where
+    second : (stepped : MarketSteps) (made : Result (Cert Fraction) Refusal) → certificate_in (sized (refusal.TooLong input.Certificate) certificate) ≡ made
+        → Onward {B = MarketCertificate} made (λ read. Is (Ok (record { market = edited_by stepped.market stepped.steps; certificate = read }))) (Ok (record { market = m; certificate = c })) → cert_read certificate ≡ Ok c
+    second stepped (Ok read) is rest = let same : read ≡ c = ap (certificate_or c) rest in read-in (refusal.TooLong input.Certificate) certificate c (is ∙ ap Ok same)
+    second stepped (Err r) is rest = cc rest
+
+    first : (made : Result MarketSteps Refusal) → Onward {B = MarketCertificate} made (λ stepped. Then (Is (certificate_in (sized (refusal.TooLong input.Certificate) certificate))) (λ read. Is (Ok (record { market = edited_by stepped.market stepped.steps; certificate = read }))))
+        (Ok (record { market = m; certificate = c })) → cert_read certificate ≡ Ok c
+    first (Ok stepped) rest = second stepped rest.made rest.is rest.rest
+    first (Err r) rest = cc rest
+
+asked-read : (files : Files) (words : List (List ℕ)) (m : Parts) (c : Cert Fraction) (asks : AsksVerdict files words m c) → cert_read asks.stand.certificate ≡ Ok c
+asked-read files words m c asks = certified-read asks.names.rating asks.stand.texts asks.stand.edits asks.stand.certificate m c asks.stand.certified
+
+verdict-line-yes : verdict_line None ≡ codes "yes\n"
+unfolding verdict_line
+verdict-line-yes = refl
+
+module _ (m : Parts) (c : Cert Fraction) (apart : RowsAreDistinct c) (text : List ℕ) where
+  no-yes : (why : Reason) → verdict_of (Some why) ≡ verdict_of None → ⊥
+  no-yes why bad = cc bad
+
+  verdict-by : (r : Option Reason) → first_reason m c ≡ r → text ≡ verdict_line r → IsVerdict m c text (verdict_status r)
+  verdict-by None is line = yes ((law_of_the_verdict m c apart).0 (ap verdict_of is)) (line ∙ verdict-line-yes)
+  verdict-by (Some why) is line = no (λ holds. no-yes why (sym (ap verdict_of is) ∙ (law_of_the_verdict m c apart).1 holds)) (line ∙ ap verdict_line (sym is))
+
+  verdict-of : (t : Telling) (s : Status) → t.text ≡ text → t.status ≡ s → VerifiesTo most_size m c t → IsVerdict m c text s
+  verdict-of t s words ends (judged is) =
+      let line = sym words ∙ ap (λ (x : Telling). x.text) is in
+      subst (IsVerdict m c text) (sym (ap (λ (x : Telling). x.status) is) ∙ ends) (verdict-by (first_reason m c) refl line)
+  verdict-of t s words ends (passed p pair within is) =
+      let line = sym words ∙ ap (λ (x : Telling). x.text) is in
+      subst (IsVerdict m c text) (sym (ap (λ (x : Telling). x.status) is) ∙ ends) (passes p pair line)
+
+pub law_of_verify : LawOfVerify
+law_of_verify words files text s m c prints asks =
+    let p = printed words files text s prints in
+    let told = verify-told files words p.telling p.written (Ok (record { market = m; certificate = c })) p.answers asks in
+    verdict-of m c (cert_read-distinct asks.stand.certificate c (asked-read files words m c asks)) text p.telling s p.text_is p.status_is told.1
+
+-- ---- round trip
+-- what is written of a clear is its certificate, where a file is named for it
+clear-written : (files : Files) (words : List (List ℕ)) (t : Telling) (w : Option (List ℕ × List ℕ)) (names : MarketNames) (file : Option (List ℕ)) → AsksClear words names file → AnswersTo (Some files) words t w → w ≡ named_bytes file t.certificate
+clear-written files words t _ names file asks (cleared names' file' asked told) = ap (λ f. named_bytes f t.certificate) (clears-once words names' names file' file asked asks).1
+clear-written files words t _ names file asks (refused nothing usage) = absurd (not-refused words _ asks.rows nothing asks.enters)
+clear-written files words t _ names file asks (pooled case offers asked told) = absurd (no-other words (codes "pool") (codes "clear") asked.rows asks.rows refl asked.enters asks.enters)
+clear-written files words t _ names file asks (replayed names' edits file' asked told) = absurd (no-other words (codes "replay") (codes "clear") asked.rows asks.rows refl asked.enters asks.enters)
+clear-written files words t _ names file asks (verified names' edits certificate asked told) = absurd (no-other words (codes "verify") (codes "clear") asked.rows asks.rows refl asked.enters asks.enters)
+clear-written files words t _ names file asks (checked names' asked told) = absurd (no-other words (codes "check") (codes "clear") asked.rows asks.rows refl asked.enters asks.enters)
+clear-written files words t _ names file asks (made buses seed asked told) = absurd (no-other words (codes "make") (codes "clear") asked.rows asks.rows refl asked.enters asks.enters)
+
+has-certificate : (o : Outcome Fraction) → (status_of o ≡ status.Done) ⊎ (status_of o ≡ status.Infeasible) → (bytes : List ℕ) × (certificate_of o ≡ Some bytes)
+has-certificate (outcome.Cleared a) is = (_, refl)
+has-certificate (outcome.Infeasible f) is = (_, refl)
+has-certificate (outcome.Range p) (inl is) = cc is
+has-certificate (outcome.Range p) (inr is) = cc is
+
+told-certificate : (m : Parts) (t : Telling) (s : Status) → t.status ≡ s → (s ≡ status.Done) ⊎ (s ≡ status.Infeasible) → TellsClear m t → (bytes : List ℕ) × (t.certificate ≡ Some bytes)
+told-certificate m t s ends which (market, clears) =
+    let is = sym clears.status_is ∙ ends in
+    let some = has-certificate clears.outcome (subst (λ (x : Status). (x ≡ status.Done) ⊎ (x ≡ status.Infeasible)) (sym is) which) in
+    (some.0, clears.certificate_is ∙ some.1)
+
+kept-certificate : (w : Option (List ℕ × List ℕ)) (files later : Files) (file bytes : List ℕ) (after : Option Files) → w ≡ Some (file, bytes) → after ≡ Some later → Keeps ⊥ w (Some files) after → later file ≡ Some bytes
+kept-certificate w files later file bytes after is now kept =
+    (subst (λ a. Keeps ⊥ (Some (file, bytes)) (Some files) a) now (subst (λ x. Keeps ⊥ x (Some files) after) is kept)).done (λ never. never)
+
+yes-or-range : (t : Telling) (answer : List ℕ) (s : Status) → t.text ≡ answer → t.status ≡ s → IsYesOrRange t → ((s ≡ status.Done) × (answer ≡ codes "yes\n")) ⊎ (s ≡ status.Range)
+yes-or-range t answer s words ends (inl is) = inl (sym ends ∙ ap (λ (x : Telling). x.status) is, sym words ∙ ap (λ (x : Telling). x.text) is)
+yes-or-range t answer s words ends (inr is) = inr (sym ends ∙ is)
+
+pub law_of_round_trip : LawOfRoundTrip
+law_of_round_trip words again files later text answer s t names file m c clear asked market which now verify asks same =
+    let p = printed words files text s clear in
+    let q = printed again later answer t verify in
+    let tells = clear-told files words p.telling p.written (Ok m) p.answers market in
+    let some = told-certificate m p.telling s p.status_is which tells in
+    let written = clear-written files words p.telling p.written names (Some file) asked p.answers ∙ ap (named_bytes (Some file)) some.1 in
+    let here : later file ≡ Some some.0 = kept-certificate p.written files later file some.0 clear.after.files written now p.kept in
+    let there : later file ≡ Some asks.stand.certificate = sym (ap later same) ∙ asks.stand.certificate_is in
+    let bytes : asks.stand.certificate ≡ some.0 = cc (here, there) in
+    let trip = law_of_the_round_trip m p.telling some.0 tells some.1 in
+    let read : cert_read some.0 ≡ Ok c = ap cert_read (sym bytes) ∙ asked-read later again m c asks in
+    let certificate : trip.0 ≡ c = cc (trip.2.read, read) in
+    yes-or-range q.telling answer t q.text_is q.status_is
+    (law_of_yes m some.0 c q.telling (subst (Certifies m some.0) certificate trip.2)
+    (verify-told later again q.telling q.written (Ok (record { market = m; certificate = c })) q.answers asks))
+
+-- ---- check
+check-of : (inputs : Inputs) (t : Telling) (text : List ℕ) (s : Status) → t.text ≡ text → t.status ≡ s → TellsCheck inputs t
+    → (r : Residuals) × AreResiduals inputs r × (s ≡ check_status_of r) × (text ≡ residuals_text r.bus r.round r.outage_bus r.outage_round)
+check-of inputs t text s words ends (r, are, is) = (r, are, sym ends ∙ ap (λ (x : Telling). x.status) is, sym words ∙ ap (λ (x : Telling). x.text) is)
+
+pub law_of_check : LawOfCheck
+law_of_check words files text s inputs prints asks =
+    let p = printed words files text s prints in
+    check-of inputs p.telling text s p.text_is p.status_is (check-told files words p.telling p.written (Ok inputs) p.answers asks)
+
+-- ---- faults
+module _ (words : List (List ℕ)) (files : Files) (text : List ℕ) (s : Status) (after : Option Files) (p : IsPrinted words files after text s) where
+  refusal-put : (r : Refusal) → p.telling ≡ refusal_of r → (s ≡ status.Refused) × (text ≡ refusal_line r)
+  refusal-put r is = (sym p.status_is ∙ ap (λ (t : Telling). t.status) is, sym p.text_is ∙ ap (λ (t : Telling). t.text) is)
+
+  fault-told : (r : Refusal) → IsFirstFault words files r → (s ≡ status.Refused) × (text ≡ refusal_line r)
+  fault-told r (to_clear asks) = refusal-put r (clear-told files words p.telling p.written (Err r) p.answers asks)
+  fault-told r (to_replay asks) = refusal-put r (replay-told files words p.telling p.written (Err r) p.answers asks)
+  fault-told r (to_verify asks) = refusal-put r (verify-told files words p.telling p.written (Err r) p.answers asks)
+  fault-told r (to_check asks) = refusal-put r (check-told files words p.telling p.written (Err r) p.answers asks)
+
+  abbrev Why : Type 0
+  Why = ((r : Refusal) × IsFirstFault words files r × (text ≡ refusal_line r)) ⊎ RefusesEdit words files
+
+  -- what is told of files with a fault is told of one
+  by-fault : {A : Type 0} (stand : Result A Refusal → Type 0) (right : A → Telling → Type 0) → ((r : Refusal) → stand (Err r) → IsFirstFault words files r) → ((x : A) → stand (Ok x) → right x p.telling → Why)
+      → Tells stand right p.telling → Why
+  by-fault {A} stand right fault other tells = by tells.told tells.stands tells.comes
+    where
+      by : (r : Result A Refusal) → stand r → ComesTo right r p.telling → Why
+      by (Ok x) stands comes = other x stands comes
+      by (Err r) stands comes = inl (r, fault r stands, (refusal-put r comes).1)
+
+  module _ (bad : p.telling.status ≡ status.Refused) where
+    no-clear : (o : Outcome Fraction) → status_of o ≡ status.Refused → Why
+    no-clear (outcome.Cleared a) is = cc is
+    no-clear (outcome.Infeasible f) is = cc is
+    no-clear (outcome.Range q) is = cc is
+
+    of-clear : (m : Parts) → TellsClear m p.telling → Why
+    of-clear m (market, clears) = no-clear clears.outcome (sym clears.status_is ∙ bad)
+
+    of-steps : (r : MarketSteps) → AsksSteps files words r.market r.steps → TellsReplay r p.telling → Why
+    of-steps r asks (market, replays) =
+        let here = refused-status replays.outcomes (sym replays.status_is ∙ bad) in
+        let edit = refused-at most_size r.market [] replays.taken r.steps replays.outcomes here.0 here.1 replays.right here.2 in
+        inr (record { market = r.market; steps = r.steps; asks = asks; place = here.0; edit = edit.0; stands = edit.1; fault = here.1; refused = edit.2 })
+
+    of-verdict : (v : MarketCertificate) → TellsVerdict v p.telling → Why
+    of-verdict v (market, judged is) = verdict-status (first_reason v.market v.certificate) (sym (ap (λ (t : Telling). t.status) is) ∙ bad)
+      where
+        verdict-status : (r : Option Reason) → verdict_status r ≡ status.Refused → Why
+        verdict-status None wrong = cc wrong
+        verdict-status (Some why) wrong = cc wrong
+    of-verdict v (market, passed q pair within is) = absurd (range-refused (sym (ap (λ (t : Telling). t.status) is) ∙ bad))
+      where
+        range-refused : status.Range ≡ status.Refused → ⊥
+        range-refused wrong = cc wrong
+
+    of-check : (inputs : Inputs) → TellsCheck inputs p.telling → Why
+    of-check inputs (r, are, is) = check-status (are_within r) (sym (ap (λ (t : Telling). t.status) is) ∙ bad)
+      where
+        check-status : (b : Bool) → (if b then status.Done else status.Refuted) ≡ status.Refused → Why
+        check-status true wrong = cc wrong
+        check-status false wrong = cc wrong
+
+    of-ring : (buses seed : ℕ) → MakesTo most_size buses seed p.telling → Why
+    of-ring buses seed (making.cleared a market right is) = let wrong : status.Done ≡ status.Refused = sym (ap (λ (t : Telling). t.status) is) ∙ bad in cc wrong
+    of-ring buses seed (making.passed q pair within is) = let wrong : status.Range ≡ status.Refused = sym (ap (λ (t : Telling). t.status) is) ∙ bad in cc wrong
+
+    why-refused : (w : Option (List ℕ × List ℕ)) → AnswersTo (Some files) words p.telling w → Why
+    why-refused _ (refused nothing usage) = let wrong : status.Usage ≡ status.Refused = sym usage ∙ bad in cc wrong
+    why-refused _ (pooled case offers asked tells) = by-fault (ArePoolFiles files case offers) TellsClear (λ r stands. to_clear (as_pool case offers asked stands)) (λ m stands right. of-clear m right) tells
+    why-refused _ (cleared names file asked tells) = by-fault (AreClearFiles files names) TellsClear (λ r stands. to_clear (as_clear names file asked stands)) (λ m stands right. of-clear m right) tells
+    why-refused _ (replayed names edits file asked tells) =
+        by-fault (AreReplayFiles files names edits) TellsReplay (λ r stands. to_replay (record { names = names; edits = edits; certificate = file; asks = asked; stand = stands }))
+        (λ r stands right. of-steps r (record { names = names; edits = edits; certificate = file; asks = asked; stand = stands }) right) tells
+    why-refused _ (verified names edits certificate asked tells) =
+        by-fault (AreVerifyFiles files names edits certificate) TellsVerdict (λ r stands. to_verify (record { names = names; edits = edits; certificate = certificate; asks = asked; stand = stands }))
+        (λ v stands right. of-verdict v right) tells
+    why-refused _ (checked names asked tells) = by-fault (AreCheckFiles files names) TellsCheck (λ r stands. to_check (record { names = names; asks = asked; stand = stands })) (λ inputs stands right. of-check inputs right) tells
+    why-refused _ (made buses seed asked makes) = of-ring buses seed makes
+
+pub law_of_faults : LawOfFaults
+law_of_faults words files text s prints =
+    let p = printed words files text s prints in
+    (fault-told words files text s _ p, λ is. why-refused words files text s _ p (p.status_is ∙ is) p.written p.answers)
+
+-- ---- make
+ring-of : (bound buses seed : ℕ) (t : Telling) → t.status ≡ status.Done → MakesTo bound buses seed t
+    → (a : Answer Fraction) × IsMarket (ring_of buses seed) × IsRight (ring_of buses seed) a × (t.text ≡ making.ring_line buses seed ++ making.summary a)
+ring-of bound buses seed t done (making.cleared a market right is) = (a, market, right, ap (λ (x : Telling). x.text) is)
+ring-of bound buses seed t done (making.passed q pair within is) = absurd (range-done (sym (ap (λ (x : Telling). x.status) is) ∙ done))
+  where
+    range-done : status.Range ≡ status.Done → ⊥
+    range-done wrong = cc wrong
+
+pub law_of_make : LawOfMake
+law_of_make words files text s buses seed prints asks done =
+    let p = printed words files text s prints in
+    let ring = ring-of most_size buses seed p.telling (p.status_is ∙ done) (make-told (Some files) words p.telling buses seed asks p.written p.answers) in
+    let best = right-best (ring_of buses seed) ring.0 ring.1 ring.2 in
+    (ring.0, best.0, best.1, sym p.text_is ∙ ring.3)
+
+-- ---- outside
+silent-or : (s : Status) → IsSilent s ⊎ ¬ (IsSilent s)
+silent-or s = by s
+  where
+    neither : (s : Status) → (s ≡ status.ReadFailed → ⊥) → (s ≡ status.Memory → ⊥) → ¬ (IsSilent s)
+    neither s a b (inl e) = a e
+    neither s a b (inr e) = b e
+
+    by : (s : Status) → IsSilent s ⊎ ¬ (IsSilent s)
+    by status.Done = inr (neither status.Done (λ e. cc e) (λ e. cc e))
+    by status.Usage = inr (neither status.Usage (λ e. cc e) (λ e. cc e))
+    by status.Refused = inr (neither status.Refused (λ e. cc e) (λ e. cc e))
+    by status.Infeasible = inr (neither status.Infeasible (λ e. cc e) (λ e. cc e))
+    by status.Range = inr (neither status.Range (λ e. cc e) (λ e. cc e))
+    by status.ReadFailed = inl (inl refl)
+    by status.WriteFailed = inr (neither status.WriteFailed (λ e. cc e) (λ e. cc e))
+    by status.Memory = inl (inr refl)
+    by status.Refuted = inr (neither status.Refuted (λ e. cc e) (λ e. cc e))
+
+abbrev name_in : Option (List ℕ × List ℕ) → Option (List ℕ)
+name_in None = None
+name_in (Some (name, bytes)) = Some name
+
+named-file : (file certificate : Option (List ℕ)) (name bytes : List ℕ) → named_bytes file certificate ≡ Some (name, bytes) → file ≡ Some name
+named-file (Some f) (Some c) name bytes is = ap name_in is
+named-file (Some f) None name bytes is = cc is
+named-file None c name bytes is = cc is
+
+-- what is written is named for it
+written-named : (files : Option Files) (words : List (List ℕ)) (t : Telling) (w : Option (List ℕ × List ℕ)) (name bytes : List ℕ) → AnswersTo files words t w → w ≡ Some (name, bytes) → NamesToWrite words name
+written-named files words t _ name bytes (refused nothing usage) is = cc is
+written-named files words t _ name bytes (pooled case offers asked told) is = cc is
+written-named files words t _ name bytes (cleared names file asked told) is = inl (names, subst (AsksClear words names) (named-file file t.certificate name bytes is) asked)
+written-named files words t _ name bytes (replayed names edits file asked told) is = inr (names, edits, subst (AsksReplay words names edits) (named-file file t.certificate name bytes is) asked)
+written-named files words t _ name bytes (verified names edits certificate asked told) is = cc is
+written-named files words t _ name bytes (checked names asked told) is = cc is
+written-named files words t _ name bytes (made buses seed asked told) is = cc is
+
+same-at : (a b : Option Files) (f h : Files) (n : List ℕ) → a ≡ Some f → b ≡ Some h → SameFiles a b → h n ≡ f n
+same-at a b f h n before after same = (subst (SameFiles (Some f)) after (subst (λ x. SameFiles x b) before same)) n
+
+wrote-at : (failed : Type 0) (name bytes : List ℕ) (a b : Option Files) (f h : Files) (n : List ℕ) → a ≡ Some f → b ≡ Some h → n ≢ name → Wrote failed name bytes a b → h n ≡ f n
+wrote-at failed name bytes a b f h n before after apart wrote = (subst (Wrote failed name bytes (Some f)) after (subst (λ x. Wrote failed name bytes x b) before wrote)).others n apart
+
+module _ (words : List (List ℕ)) (before after : Outside) (s : Status) (f h : Files) (was : before.files ≡ Some f) (is_now : after.files ≡ Some h) (n : List ℕ) (free : ¬ (NamesToWrite words n)) where
+  kept-at : (w : Option (List ℕ × List ℕ)) → ((name bytes : List ℕ) → w ≡ Some (name, bytes) → NamesToWrite words name) → Keeps ⊥ w before.files after.files → h n ≡ f n
+  kept-at None named kept = same-at before.files after.files f h n was is_now kept
+  kept-at (Some (name, bytes)) named kept = wrote-at ⊥ name bytes before.files after.files f h n was is_now (λ same. free (subst (NamesToWrite words) (sym same) (named name bytes refl))) kept
+
+  answers-at : Answers words before after s → h n ≡ f n
+  answers-at a = by a.ends
+    where
+      by : ending.Ends a.telling a.written before.files after.files before.taken after.taken s → h n ≡ f n
+      by (ending.told kept took right) = kept-at a.written (λ name bytes is. written-named before.files words a.telling a.written name bytes a.right is) kept
+      by (ending.unwritten name bytes is wrote none failed) =
+          wrote-at (Unit {0}) name bytes before.files after.files f h n was is_now (λ same. free (subst (NamesToWrite words) (sym same) (written-named before.files words a.telling a.written name bytes a.right is))) wrote
+
+pub law_of_outside : LawOfOutside
+law_of_outside words before after s runs = record {
+  others = λ f h was is_now n free. elim (silent-or s) [
+    | inl silent ↦ same-at before.files after.files f h n was is_now (runs.silent silent).files
+    | inr loud ↦ answers-at words before after s f h was is_now n free (runs.told loud)
+  ];
+}

@@ -1,0 +1,185 @@
+-- What the text of a run and its status tell: the telling that was put, and what its clears came to.
+use Rattle.std.specs.Prelude.{◌≡◌, ◌⊎◌, ℕ, if◌then◌else◌, List, [], ◌∷◌, ◌++◌, Option, Some, Ok, slice_get, take}
+use Rattle.std.proofs.Common.{inl, inr, refl, sym, subst, ap, ◌∙◌, suc, zero}
+use Rattle.std.proofs.lemmas.List.{append_cancel_left}
+use Rattle.fraction_theory.specs.Fraction.{Fraction}
+use Rattle.outside_store.specs.Files.{Files}
+use Rattle.outside_store.specs.Sinks.{Took}
+use Rattle.market_model.specs.declared.answered.Outcome.{Outcome}
+use Rattle.market_model.specs.declared.answered.Outcome.TheVariants as outcome
+use Rattle.market_model.specs.declared.limits.Row.{Row}
+use Rattle.market_model.specs.declared.participants.Parts.{Parts}
+use Rattle.market_model.specs.Market.{IsMarket}
+use Rattle.market_system.specs.Outcomes.{IsClear, IsDecided, IsRightOutcome}
+use Rattle.offer_book.specs.Edits.{judge}
+use Rattle.offer_book.specs.declared.edit_parts.Edit.{Edit}
+use Rattle.offer_book.specs.declared.edit_parts.EditFault.{EditFault}
+use Rattle.edit_table.specs.declared.Step.{Step}
+use Rattle.edit_table.specs.declared.Step.TheVariants as step
+use Rattle.edit_replay.specs.Replays.{IsReplay, IsReply, edited_by, stepped}
+use Rattle.edit_replay.specs.declared.step_outcome.StepOutcome.{StepOutcome}
+use Rattle.edit_replay.specs.declared.step_outcome.StepOutcome.TheVariants as reply
+use Rattle.report_text.specs.ReportLaws.{OutcomeFitsReport}
+use Rattle.report_text.specs.Reports.{report_text}
+use Rattle.report_text.proofs.OutcomeReading.{outcome_fits, reports_apart}
+use Rattle.replay_text.specs.ReplayTextLaws.{OutcomesFit}
+use Rattle.replay_text.specs.ReplayTexts.{replayed}
+use Rattle.replay_text.proofs.ReplayReading.{replay_fits, replays_read_apart, right_in}
+use Rattle.command_answers.specs.Clearing.{TellsClear, most_size, status_of}
+use Rattle.command_answers.specs.Replaying.{NoPairPassesIn, TellsReplay, is_done, replay_status, step_status}
+use Rattle.command_answers.specs.Tellings.{Telling}
+use Rattle.command_answers.specs.declared.status.Status.{Status}
+use Rattle.command_answers.specs.declared.status.Status.TheVariants as status
+use Rattle.sced.specs.Decided.{AsksMarket, AsksSteps}
+use Rattle.sced.specs.Headline.{Prints, Reports, of_clear, of_step}
+use Rattle.sced.specs.Runs.{Ends, IsSilent, IsTold, Keeps, told, unwritten}
+use Rattle.sced.specs.Told.{Answers, AnswersTo}
+use Rattle.sced.proofs.DecidedLemmas.{clear-told, replay-told}
+
+-- ---- the telling that was put
+pub not-silent : (s : Status) → IsTold s → ¬ (IsSilent s)
+not-silent s ended (inl e) = subst IsTold e ended
+not-silent s ended (inr e) = subst IsTold e ended
+
+taken-text : (failed : Type 0) (t earlier text : List ℕ) (a b : Option (List ℕ)) → a ≡ Some earlier → b ≡ Some (earlier ++ text) → ¬ failed → Took failed t a b → t ≡ text
+taken-text failed t earlier text a b before after whole took =
+    let here : Took failed t (Some earlier) (Some (earlier ++ text)) = subst (λ x. Took failed t (Some earlier) x) after (subst (λ x. Took failed t x b) before took) in
+    append_cancel_left earlier t text (sym (here.whole whole))
+
+-- what was right to tell was put
+pub record IsPrinted (words : List (List ℕ)) (files : Files) (after : Option Files) (text : List ℕ) (s : Status) : Type 0 where
+  pub telling : Telling
+  pub written : Option (List ℕ × List ℕ)
+  pub answers : AnswersTo (Some files) words telling written
+  pub text_is : telling.text ≡ text
+  pub status_is : telling.status ≡ s
+  pub kept : Keeps ⊥ written (Some files) after
+
+pub printed : (words : List (List ℕ)) (files : Files) (text : List ℕ) (s : Status) → (p : Prints words files text s) → IsPrinted words files p.after.files text s
+printed words files text s p = by (p.runs.told (not-silent s p.ended))
+  where
+    status-is : (t : Telling) → (s ≡ t.status) ⊎ (s ≡ status.WriteFailed) → t.status ≡ s
+    status-is t (inl same) = sym same
+    status-is t (inr failed) = absurd (subst IsTold failed p.ended)
+
+    ended : (t : Telling) (w : Option (List ℕ × List ℕ)) → AnswersTo (Some files) words t w → Ends t w p.before.files p.after.files p.before.taken p.after.taken s → IsPrinted words files p.after.files text s
+    ended t w answers (told kept took right) = record {
+      telling = t;
+      written = w;
+      answers = answers;
+      text_is = taken-text (s ≡ status.WriteFailed) t.text p.earlier text p.before.taken p.after.taken p.put_before p.put_after (λ failed. subst IsTold failed p.ended) took;
+      status_is = status-is t right;
+      kept = subst (λ f. Keeps ⊥ w f p.after.files) p.files_are kept;
+    }
+    ended t w answers (unwritten name bytes is wrote none failed) = absurd (subst IsTold failed p.ended)
+
+    by : Answers words p.before p.after s → IsPrinted words files p.after.files text s
+    by a = ended a.telling a.written (subst (λ f. AnswersTo f words a.telling a.written) p.files_are a.right) a.ends
+
+-- ---- one step of a replay
+-- a clear among the steps, with the rows that it begins and ends with
+pub record IsClearAt (bound : ℕ) (m : Parts) (before : List Row) (steps : List Step) (k : ℕ) (o : Outcome Fraction) : Type 0 where
+  pub earlier : List (StepOutcome Fraction)
+  pub taken : List Row
+  pub replay : IsReplay bound m before (take k steps) earlier taken
+  pub after : List Row
+  pub clear : IsClear bound (edited_by m (take k steps)) taken o after
+
+module _ (bound : ℕ) where
+  clear-here : (m : Parts) (before between : List Row) (s : Step) (x : StepOutcome Fraction) (o : Outcome Fraction) → IsReply bound m before s x between → Some x ≡ Some (reply.Clear o) → IsClear bound m before o between
+  clear-here m before between (step.Edit e) reply.Accepted o is same = cc same
+  clear-here m before between (step.Edit e) (reply.Refused f) o is same = cc same
+  clear-here m before between (step.Edit e) (reply.Clear q) o none same = absurd none
+  clear-here m before between step.Clear reply.Accepted o none same = absurd none
+  clear-here m before between step.Clear (reply.Refused f) o none same = absurd none
+  clear-here m before between step.Clear (reply.Clear q) o is same = let here : q ≡ o = cc same in subst (λ (y : Outcome Fraction). IsClear bound m before y between) here is
+
+  pub clear-at : (m : Parts) (before after : List Row) (steps : List Step) (outcomes : List (StepOutcome Fraction)) (k : ℕ) (o : Outcome Fraction)
+      → IsReplay bound m before steps outcomes after → slice_get outcomes k ≡ Some (reply.Clear o) → IsClearAt bound m before steps k o
+  clear-at m before after [] [] k o replay is = cc is
+  clear-at m before after [] (x ∷ outcomes) k o none is = absurd none
+  clear-at m before after (s ∷ steps) [] k o none is = absurd none
+  clear-at m before after (s ∷ steps) (x ∷ outcomes) zero o replay is = record { earlier = []; taken = before; replay = refl; after = replay.0; clear = clear-here m before replay.0 s x o replay.1 is }
+  clear-at m before after (s ∷ steps) (x ∷ outcomes) (suc k) o replay is =
+      let rest = clear-at (stepped m s) replay.0 after steps outcomes k o replay.2 is in
+      record { earlier = x ∷ rest.earlier; taken = rest.taken; replay = (replay.0, replay.1, rest.replay); after = rest.after; clear = rest.clear }
+
+  -- each clear among the steps has an outcome
+  cleared-here : (m : Parts) (before between : List Row) (s : Step) (x : StepOutcome Fraction) → IsReply bound m before s x between → Some s ≡ Some step.Clear → (o : Outcome Fraction) × (Some x ≡ Some (reply.Clear o))
+  cleared-here m before between (step.Edit e) x is same = cc same
+  cleared-here m before between step.Clear reply.Accepted none same = absurd none
+  cleared-here m before between step.Clear (reply.Refused f) none same = absurd none
+  cleared-here m before between step.Clear (reply.Clear o) is same = (o, refl)
+
+  pub cleared-at : (m : Parts) (before after : List Row) (steps : List Step) (outcomes : List (StepOutcome Fraction)) (k : ℕ)
+      → IsReplay bound m before steps outcomes after → slice_get steps k ≡ Some step.Clear → (o : Outcome Fraction) × (slice_get outcomes k ≡ Some (reply.Clear o))
+  cleared-at m before after [] outcomes k replay is = cc is
+  cleared-at m before after (s ∷ steps) [] k none is = absurd none
+  cleared-at m before after (s ∷ steps) (x ∷ outcomes) zero replay is = cleared-here m before replay.0 s x replay.1 is
+  cleared-at m before after (s ∷ steps) (x ∷ outcomes) (suc k) replay is = cleared-at (stepped m s) replay.0 after steps outcomes k replay.2 is
+
+  -- a refused outcome is that of an edit which is judged so
+  refused-here : (m : Parts) (before between : List Row) (s : Step) (x : StepOutcome Fraction) (f : EditFault) → IsReply bound m before s x between → Some x ≡ Some (reply.Refused f) → (e : Edit) × (Some s ≡ Some (step.Edit e)) × (judge m e ≡ Some f)
+  refused-here m before between (step.Edit e) reply.Accepted f is same = cc same
+  refused-here m before between (step.Edit e) (reply.Refused g) f is same = let here : g ≡ f = cc same in (e, refl, is.0 ∙ ap Some here)
+  refused-here m before between (step.Edit e) (reply.Clear o) f none same = absurd none
+  refused-here m before between step.Clear reply.Accepted f none same = absurd none
+  refused-here m before between step.Clear (reply.Refused g) f none same = absurd none
+  refused-here m before between step.Clear (reply.Clear o) f is same = cc same
+
+  pub refused-at : (m : Parts) (before after : List Row) (steps : List Step) (outcomes : List (StepOutcome Fraction)) (k : ℕ) (f : EditFault)
+      → IsReplay bound m before steps outcomes after → slice_get outcomes k ≡ Some (reply.Refused f) → (e : Edit) × (slice_get steps k ≡ Some (step.Edit e)) × (judge (edited_by m (take k steps)) e ≡ Some f)
+  refused-at m before after [] [] k f replay is = cc is
+  refused-at m before after [] (x ∷ outcomes) k f none is = absurd none
+  refused-at m before after (s ∷ steps) [] k f none is = absurd none
+  refused-at m before after (s ∷ steps) (x ∷ outcomes) zero f replay is = refused-here m before replay.0 s x f replay.1 is
+  refused-at m before after (s ∷ steps) (x ∷ outcomes) (suc k) f replay is = refused-at (stepped m s) replay.0 after steps outcomes k f replay.2 is
+
+-- the status of a refused edit is that of one of the outcomes
+refused-first : (x : StepOutcome Fraction) (rest : Status) → (if is_done (step_status x) then rest else step_status x) ≡ status.Refused → ((f : EditFault) × (x ≡ reply.Refused f)) ⊎ (rest ≡ status.Refused)
+refused-first reply.Accepted rest is = inr is
+refused-first (reply.Refused f) rest is = inl (f, refl)
+refused-first (reply.Clear o) rest is = by o is
+  where
+    by : (o : Outcome Fraction) → (if is_done (status_of o) then rest else status_of o) ≡ status.Refused → ((f : EditFault) × (reply.Clear o ≡ reply.Refused f)) ⊎ (rest ≡ status.Refused)
+    by (outcome.Cleared a) is = inr is
+    by (outcome.Infeasible f) is = cc is
+    by (outcome.Range p) is = cc is
+
+pub refused-status : (outcomes : List (StepOutcome Fraction)) → replay_status outcomes ≡ status.Refused → (k : ℕ) × (f : EditFault) × (slice_get outcomes k ≡ Some (reply.Refused f))
+unfolding replay_status
+refused-status [] is = cc is
+refused-status (x ∷ outcomes) is = elim (refused-first x (replay_status outcomes) is) [
+  | inl (f, same) ↦ (0, f, ap Some same)
+  | inr rest ↦ (let later = refused-status outcomes rest in (suc later.0, later.1, later.2))
+]
+
+-- ---- what is reported
+-- what a clear that the words ask for came to, and with which rows it began
+pub data IsOutcomeOf (words : List (List ℕ)) (files : Files) (m : Parts) (o : Outcome Fraction) : Type 0 where
+  in_clear : AsksMarket files words m → IsMarket m → IsRightOutcome most_size m [] o → IsOutcomeOf words files m o
+  in_replay : (start : Parts) (steps : List Step) (k : ℕ) → AsksSteps files words start steps → m ≡ edited_by start (take k steps) → IsMarket m
+      → (earlier : List (StepOutcome Fraction)) (taken : List Row) → IsReplay most_size start [] (take k steps) earlier taken → IsRightOutcome most_size m taken o
+      → (NoPairPassesIn start [] steps most_size → IsDecided m o) → IsOutcomeOf words files m o
+
+module _ (words : List (List ℕ)) (files : Files) (m : Parts) (o : Outcome Fraction) (t : Telling) where
+  clear-outcome : AsksMarket files words m → OutcomeFitsReport m o → t.text ≡ report_text m o → TellsClear m t → IsOutcomeOf words files m o
+  clear-outcome asks fits is (market, clears) =
+      let same : clears.outcome ≡ o = reports_apart m clears.outcome o (outcome_fits m clears.outcome (right_in most_size m [] clears.outcome clears.right)) fits (sym clears.text_is ∙ is) in
+      in_clear asks market (subst (IsRightOutcome most_size m []) same clears.right)
+
+  step-outcome : (start : Parts) (steps : List Step) (outcomes : List (StepOutcome Fraction)) (k : ℕ) → AsksSteps files words start steps → OutcomesFit start steps outcomes
+      → t.text ≡ replayed start steps outcomes → slice_get outcomes k ≡ Some (reply.Clear o) → m ≡ edited_by start (take k steps)
+      → TellsReplay (record { market = start; steps = steps }) t → IsOutcomeOf words files m o
+  step-outcome start steps outcomes k asks fits is at edited (market, replays) =
+      let same : replays.outcomes ≡ outcomes = replays_read_apart start steps replays.outcomes outcomes (replay_fits most_size start [] replays.taken steps replays.outcomes replays.right) fits (sym replays.text_is ∙ is) in
+      let here = clear-at most_size start [] replays.taken steps replays.outcomes k o replays.right (ap (λ (os : List (StepOutcome Fraction)). slice_get os k) same ∙ at) in
+      in_replay start steps k asks edited (subst IsMarket (sym edited) (replays.markets k)) here.earlier here.taken here.replay
+      (subst (λ (n : Parts). IsRightOutcome most_size n here.taken o) (sym edited) here.clear.right)
+      (λ none. subst (λ (n : Parts). IsDecided n o) (sym edited) (replays.decided none k o (ap (λ (os : List (StepOutcome Fraction)). slice_get os k) same ∙ at)))
+
+pub reported : (words : List (List ℕ)) (files : Files) (text : List ℕ) (s : Status) (m : Parts) (o : Outcome Fraction) (after : Option Files) → IsPrinted words files after text s → Reports words files text m o → IsOutcomeOf words files m o
+reported words files text s m o after p (of_clear asks fits is) = clear-outcome words files m o p.telling asks fits (p.text_is ∙ is) (clear-told files words p.telling p.written (Ok m) p.answers asks)
+reported words files text s m o after p (of_step start steps outcomes k asks fits is at edited) =
+    step-outcome words files m o p.telling start steps outcomes k asks fits (p.text_is ∙ is) at edited
+    (replay-told files words p.telling p.written (Ok (record { market = start; steps = steps })) p.answers asks)

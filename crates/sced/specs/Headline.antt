@@ -1,0 +1,197 @@
+-- The promise of a run in the words of its users: laws of every run of the program, each from what `run` promises alone.
+-- Wood and Wollenberg, Power Generation, Operation and Control: dispatch within limits of the base and after outages. Schweppe and others, Spot
+-- Pricing of Electricity: prices and the surplus. Farkas: why no dispatch qualifies.
+use Rattle.std.specs.Prelude.{◌≡◌, ◌⊎◌, ℕ, List, [], ◌++◌, length, map, take, Contains, codes, slice_get, Some, Ok, Err}
+use Rattle.fraction_theory.specs.Fraction.{Fraction}
+use Rattle.fraction_theory.specs.Order.{◌≤ℚ◌}
+use Rattle.fraction_theory.specs.Sums.{sum_by}
+use Rattle.exact_fraction.specs.declared.Passed.{Passed}
+use Rattle.outside_store.specs.Files.{Files}
+use Rattle.market_model.specs.declared.answered.Answer.{Answer}
+use Rattle.market_model.specs.declared.answered.Farkas.{Farkas}
+use Rattle.market_model.specs.declared.answered.Outcome.{Outcome}
+use Rattle.market_model.specs.declared.answered.Outcome.TheVariants.{Cleared, Infeasible, Range}
+use Rattle.market_model.specs.declared.limits.Row.{Row}
+use Rattle.market_model.specs.declared.participants.Parts.{Parts}
+use Rattle.market_model.specs.Dispatch.{Dispatch, IsDispatch, balance, places, zero}
+use Rattle.market_model.specs.Infeasibility.{ShowsInfeasible, farkas_bound}
+use Rattle.market_model.specs.LimitRows.{flow, limit, rows}
+use Rattle.market_model.specs.Optimality.{Feasible, Supports, Within, bus_price, welfare}
+use Rattle.market_model.specs.RightAnswers.{dispatch_in, price_made, settlement_at}
+use Rattle.market_model.specs.Settlement.{rent}
+use Rattle.market_system.specs.Outcomes.{IsDecided}
+use Rattle.market_system.specs.WorkingPairs.{IsRangeOf, NoPairPasses}
+use Rattle.case_maker.specs.Rings.{ring_of}
+use Rattle.cert_format.specs.declared.certificate.Cert.{Cert}
+use Rattle.cert_verify.specs.Certificates.{IsTrueOf, first_reason}
+use Rattle.offer_book.specs.Edits.{judge}
+use Rattle.offer_book.specs.declared.edit_parts.Edit.{Edit}
+use Rattle.offer_book.specs.declared.edit_parts.EditFault.{EditFault}
+use Rattle.edit_table.specs.declared.Step.{Step}
+use Rattle.edit_table.specs.declared.Step.TheVariants as step
+use Rattle.edit_replay.specs.Replays.{IsReplay, edited_by}
+use Rattle.edit_replay.specs.declared.step_outcome.StepOutcome.{StepOutcome}
+use Rattle.edit_replay.specs.declared.step_outcome.StepOutcome.TheVariants as reply
+use Rattle.report_text.specs.ReportLaws.{OutcomeFitsReport}
+use Rattle.report_text.specs.Reports.{range_text, report_text}
+use Rattle.replay_text.specs.ReplayTextLaws.{OutcomesFit}
+use Rattle.replay_text.specs.ReplayTexts.{replayed}
+use Rattle.refusal_text.specs.Refusals.{refusal_line}
+use Rattle.refusal_text.specs.declared.refusals.Refusal.{Refusal}
+use Rattle.command_words.specs.Words.{AsksClear, AsksMake, MarketNames, NamesToWrite}
+use Rattle.residual_text.specs.ResidualLines.{residuals_text}
+use Rattle.market_inputs.specs.declared.checking.Inputs.{Inputs}
+use Rattle.command_answers.specs.Checking.{AreResiduals, check_status_of}
+use Rattle.command_answers.specs.declared.checking.Residuals.{Residuals}
+use Rattle.command_answers.specs.Clearing.{most_size, status_of}
+use Rattle.command_answers.specs.Making.{ring_line, summary}
+use Rattle.command_answers.specs.Replaying.{NoPairPassesIn}
+use Rattle.cert_verify.specs.Stops.{IsCertificateStop}
+use Rattle.command_answers.specs.Verdicts.{verdict_line}
+use Rattle.command_answers.specs.declared.status.Status.{Status}
+use Rattle.command_answers.specs.declared.status.Status.TheVariants as status
+use Rattle.sced.specs.Decided.{AsksMarket, AsksSteps, AsksVerdict, AsksToCheck, AsksToClear, AsksToReplay, AsksToVerify}
+use Rattle.sced.specs.Promise.{Runs}
+use Rattle.sced.specs.Runs.{IsTold, Outside}
+
+-- ---- what a run prints
+-- A run of these words over these files put this text behind what was put before, and ended with this status: no call failed, and memory was
+-- not refused.
+pub record Prints (words : List (List ℕ)) (files : Files) (text : List ℕ) (s : Status) : Type 0 where
+  pub before : Outside
+  pub after : Outside
+  pub runs : Runs words before after s
+  pub ended : IsTold s
+  pub files_are : before.files ≡ Some files
+  pub earlier : List ℕ
+  pub put_before : before.taken ≡ Some earlier
+  pub put_after : after.taken ≡ Some (earlier ++ text)
+
+-- The words ask to clear this market, and the text is the report of this outcome; or they ask for steps, the text is that of outcomes of
+-- these, and this is one of a clear, of the market as the steps before it edit it.
+pub data Reports (words : List (List ℕ)) (files : Files) (text : List ℕ) (m : Parts) (o : Outcome Fraction) : Type 0 where
+  of_clear : AsksMarket files words m → OutcomeFitsReport m o → text ≡ report_text m o → Reports words files text m o
+  of_step : (start : Parts) (steps : List Step) (outcomes : List (StepOutcome Fraction)) (k : ℕ) → AsksSteps files words start steps → OutcomesFit start steps outcomes
+      → text ≡ replayed start steps outcomes → slice_get outcomes k ≡ Some (reply.Clear o) → m ≡ edited_by start (take k steps) → Reports words files text m o
+
+-- ---- cleared
+-- within the offers, in balance, and within every limit of the base and after every listed outage; and no dispatch that is so is worth more
+pub record IsBest (m : Parts) (x : Dispatch) : Type 0 where
+  pub offered : IsDispatch m x
+  pub balances : balance m x ≡ zero
+  pub within : (r : Row) → Contains (rows m) r → Within (limit m r) (flow m x r)
+  pub greatest : (y : Dispatch) → Feasible m y → welfare m y ≤ℚ welfare m x
+
+-- the prices are those of the duals, which support the dispatch; the settlement is at these prices, and its surplus is the sum of the rents
+pub record IsPriced (m : Parts) (a : Answer Fraction) : Type 0 where
+  pub prices : a.prices ≡ map (price_made m a.duals) (places (length m.buses))
+  pub supported : Supports m (dispatch_in a) a.duals
+  pub worth : a.welfare ≡ welfare m (dispatch_in a)
+  pub money : a.money ≡ settlement_at m (dispatch_in a) (bus_price m a.duals) a.duals
+  pub surplus : a.money.surplus ≡ sum_by (rent m (dispatch_in a) a.duals) (rows m)
+
+-- what is printed as cleared is best, and priced by duals that support it
+abbrev pub LawOfCleared : Type 0
+LawOfCleared = (words : List (List ℕ)) (files : Files) (text : List ℕ) (s : Status) (m : Parts) (a : Answer Fraction)
+    → Prints words files text s → Reports words files text m (Cleared a) → IsBest m (dispatch_in a) × IsPriced m a
+
+-- ---- infeasible
+-- where infeasible is printed no dispatch qualifies, and the printed duals show it with the printed bound
+abbrev pub LawOfInfeasible : Type 0
+LawOfInfeasible = (words : List (List ℕ)) (files : Files) (text : List ℕ) (s : Status) (m : Parts) (f : Farkas Fraction)
+    → Prints words files text s → Reports words files text m (Infeasible f)
+    → ((x : Dispatch) → ¬ (Feasible m x)) × ShowsInfeasible m f.duals × (f.bound ≡ farkas_bound m f.duals)
+
+-- ---- complete
+-- every clear that the words ask for is reported: of the one market with its status, and at each such step
+pub record AreReported (words : List (List ℕ)) (files : Files) (text : List ℕ) (s : Status) : Type 0 where
+  pub market : (m : Parts) → AsksMarket files words m → (o : Outcome Fraction) × Reports words files text m o × (s ≡ status_of o)
+  pub steps : (m : Parts) (steps : List Step) (k : ℕ) → AsksSteps files words m steps → slice_get steps k ≡ Some step.Clear
+      → (o : Outcome Fraction) × Reports words files text (edited_by m (take k steps)) o
+
+-- no working pair passes 127 bits, of the market to clear or at any clear of the steps
+pub record NonePasses (words : List (List ℕ)) (files : Files) : Type 0 where
+  pub market : (m : Parts) → AsksMarket files words m → NoPairPasses m [] most_size
+  pub steps : (m : Parts) (steps : List Step) → AsksSteps files words m steps → NoPairPassesIn m [] steps most_size
+
+-- and where no working pair passes, what is reported is cleared where some dispatch qualifies, and infeasible where none does
+abbrev pub LawOfComplete : Type 0
+LawOfComplete = (words : List (List ℕ)) (files : Files) (text : List ℕ) (s : Status) → Prints words files text s
+    → AreReported words files text s × (NonePasses words files → (m : Parts) (o : Outcome Fraction) → Reports words files text m o → IsDecided m o)
+
+-- ---- range
+-- two numbers of the market over rows that its clear may have reached: in a replay behind those that clears before it reached
+pub data IsOfReached (words : List (List ℕ)) (files : Files) (m : Parts) (p : Passed Fraction) : Type 0 where
+  in_clear : AsksMarket files words m → IsRangeOf m [] most_size p → IsOfReached words files m p
+  in_replay : (start : Parts) (steps : List Step) (k : ℕ) (earlier : List (StepOutcome Fraction)) (taken : List Row) → AsksSteps files words start steps
+      → m ≡ edited_by start (take k steps) → IsReplay most_size start [] (take k steps) earlier taken → IsRangeOf m taken most_size p → IsOfReached words files m p
+
+-- where range is printed the two printed numbers are a working pair of the market, which passes 127 bits
+abbrev pub LawOfRange : Type 0
+LawOfRange = (words : List (List ℕ)) (files : Files) (text : List ℕ) (s : Status) (m : Parts) (p : Passed Fraction)
+    → Prints words files text s → Reports words files text m (Range p) → IsOfReached words files m p
+
+-- ---- verify
+-- yes where the certificate is true of the market, no with the first reason where it is not, or two numbers of its sums that pass 127 bits,
+-- where no reason before their sum holds
+pub data IsVerdict (m : Parts) (c : Cert Fraction) (text : List ℕ) : Status → Type 0 where
+  yes : IsTrueOf m c → text ≡ codes "yes\n" → IsVerdict m c text status.Done
+  no : ¬ (IsTrueOf m c) → text ≡ verdict_line (first_reason m c) → IsVerdict m c text status.Refuted
+  passes : (p : Passed Fraction) → IsCertificateStop m most_size c p → text ≡ range_text p → IsVerdict m c text status.Range
+
+abbrev pub LawOfVerify : Type 0
+LawOfVerify = (words : List (List ℕ)) (files : Files) (text : List ℕ) (s : Status) (m : Parts) (c : Cert Fraction)
+    → Prints words files text s → AsksVerdict files words m c → IsVerdict m c text s
+
+-- ---- round trip
+-- what a clear of a market writes as its certificate is verified with yes against that market, or numbers are too large
+abbrev pub LawOfRoundTrip : Type 0
+LawOfRoundTrip = (words again : List (List ℕ)) (files later : Files) (text answer : List ℕ) (s t : Status) (names : MarketNames) (file : List ℕ) (m : Parts) (c : Cert Fraction)
+    → (clear : Prints words files text s) → AsksClear words names (Some file) → AsksMarket files words m → (s ≡ status.Done) ⊎ (s ≡ status.Infeasible)
+    → clear.after.files ≡ Some later → Prints again later answer t → (asks : AsksVerdict later again m c) → asks.certificate ≡ file
+    → ((t ≡ status.Done) × (answer ≡ codes "yes\n")) ⊎ (t ≡ status.Range)
+
+-- ---- check
+-- the residuals of the tables are told, and whether they are within what rounding explains
+abbrev pub LawOfCheck : Type 0
+LawOfCheck = (words : List (List ℕ)) (files : Files) (text : List ℕ) (s : Status) (inputs : Inputs) → Prints words files text s → AsksToCheck files words (Ok inputs)
+    → (r : Residuals) × AreResiduals inputs r × (s ≡ check_status_of r) × (text ≡ residuals_text r.bus r.round r.outage_bus r.outage_round)
+
+-- ---- faults
+-- the first fault of the files that the words name, in the one order of work
+pub data IsFirstFault (words : List (List ℕ)) (files : Files) (r : Refusal) : Type 0 where
+  to_clear : AsksToClear files words (Err r) → IsFirstFault words files r
+  to_replay : AsksToReplay files words (Err r) → IsFirstFault words files r
+  to_verify : AsksToVerify files words (Err r) → IsFirstFault words files r
+  to_check : AsksToCheck files words (Err r) → IsFirstFault words files r
+
+-- an edit among the steps that the words ask for is refused
+pub record RefusesEdit (words : List (List ℕ)) (files : Files) : Type 0 where
+  pub market : Parts
+  pub steps : List Step
+  pub asks : AsksSteps files words market steps
+  pub place : ℕ
+  pub edit : Edit
+  pub stands : slice_get steps place ≡ Some (step.Edit edit)
+  pub fault : EditFault
+  pub refused : judge (edited_by market (take place steps)) edit ≡ Some fault
+
+-- a fault of the files is told wherever there is one, and its status only there or for an edit that is refused
+abbrev pub LawOfFaults : Type 0
+LawOfFaults = (words : List (List ℕ)) (files : Files) (text : List ℕ) (s : Status) → Prints words files text s
+    → ((r : Refusal) → IsFirstFault words files r → (s ≡ status.Refused) × (text ≡ refusal_line r))
+    × (s ≡ status.Refused → ((r : Refusal) × IsFirstFault words files r × (text ≡ refusal_line r)) ⊎ RefusesEdit words files)
+
+-- ---- make
+-- where a ring is cleared the worth and the surplus are those of an answer that is best and priced
+abbrev pub LawOfMake : Type 0
+LawOfMake = (words : List (List ℕ)) (files : Files) (text : List ℕ) (s : Status) (buses seed : ℕ) → Prints words files text s → AsksMake words buses seed → s ≡ status.Done
+    → (a : Answer Fraction) × IsBest (ring_of buses seed) (dispatch_in a) × IsPriced (ring_of buses seed) a × (text ≡ ring_line buses seed ++ summary a)
+
+-- ---- outside
+-- no file is touched but those that the words name for writing
+pub record TouchesOnly (words : List (List ℕ)) (before after : Outside) : Type 0 where
+  pub others : (f h : Files) → before.files ≡ Some f → after.files ≡ Some h → (n : List ℕ) → ¬ (NamesToWrite words n) → h n ≡ f n
+
+abbrev pub LawOfOutside : Type 0
+LawOfOutside = (words : List (List ℕ)) (before after : Outside) (s : Status) → Runs words before after s → TouchesOnly words before after

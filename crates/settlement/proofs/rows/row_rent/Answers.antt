@@ -1,0 +1,39 @@
+use Rattle.std.proofs.Common.{rules, Err, ◌≡◌, ◌∙◌, ap, inl, map, subst, w64}
+use Rattle.std.proofs.lemmas.Int.{to_z-of_z}
+use mir.Val.{to_z, of_z}
+use Rattle.fraction_theory.specs.Fraction.{whole}
+use Rattle.market_model.specs.LimitRows.{flow_terms, offset_terms}
+use Rattle.market_model.specs.NamedSums.{IsRefusedIn}
+use Rattle.market_model.specs.SumTables.{flow_after_outage, offset_of_row}
+use Rattle.market_model.specs.Valued.{dual_at, passed_at}
+use Rattle.limit_screen.specs.Flows.{line_in}
+use Rattle.settlement.proofs.RowLemmas.{earning_refused}
+use Rattle.settlement.proofs.rows.row_rent.Goals as goal
+
+pub returns-in_err-flow-clause-cause : goal.returns-in_err-flow-clause-cause
+returns-in_err-flow-clause-cause g c =
+    let m = c.args.market.now in
+    let value = g.N.Exact.value in
+    let r = c.args.row in
+    let given : c.from_residual.result ≡ Err c.in_err-flow.field-0.0 = search rules in
+    rw given
+    (inl (
+      flow_terms m (line_in m (map value c.args.flows.now)) r,
+      flow_after_outage c.in_err-flow.ensures.after,
+      subst (λ f. IsRefusedIn (flow_terms m f r) g.N.Exact.bound (passed_at value c.in_err-flow.field-0.0)) c.line_flows.ensures.is c.in_err-flow.ensures.cause,
+    ))
+
+pub returns-in_err-offset-clause-cause : goal.returns-in_err-offset-clause-cause
+returns-in_err-offset-clause-cause g c =
+    let given : c.from_residual-in_err-offset.result ≡ Err c.in_err-offset.field-0.0 = search rules in
+    rw given (inl (offset_terms c.args.market.now c.args.row, offset_of_row, c.in_err-offset.ensures.cause))
+
+pub returns-in_err-rent-clause-cause : goal.returns-in_err-rent-clause-cause
+returns-in_err-rent-clause-cause g c =
+    let m = c.args.market.now in
+    let value = g.N.Exact.value in
+    let known : to_z w64 (of_z w64 c.limit_at.result) ≡ c.limit_at.result = to_z-of_z w64 c.limit_at.result (record { sfits = c.limit_at.type_inv }) in
+    let given : c.from_residual-in_err-rent.result ≡ Err c.in_err-rent.field-0.0 = search rules in
+    rw given
+    (earning_refused m (line_in m (map value c.args.flows.now)) (dual_at value c.args.dual.now) c.args.row (value c.datum.result) (value c.in_ok-offset.offset) g.N.Exact.bound (passed_at value c.in_err-rent.field-0.0)
+    (c.datum.ensures ∙ ap whole known ∙ c.limit_at.ensures.limit) c.in_ok-offset.ensures.offset c.in_err-rent.ensures.cause)
