@@ -31,7 +31,7 @@ use Rattle.edit_replay.proofs.FrameLemmas.{steps_market}
 use Rattle.edit_replay.specs.declared.step_outcome.StepOutcome.TheVariants as step
 use Rattle.replay_text.specs.ReplayTexts.{replayed}
 use Rattle.command_answers.specs.Clearing.{AreSidesWithin, IsWithin}
-use Rattle.command_answers.specs.Tellings.{Telling}
+use Rattle.command_answers.specs.Tellings.{Telling, certified}
 use Rattle.command_answers.specs.Replaying.{AreDecided, AreStepSidesWithin, NoPairPassesIn, ReplaysTo, clear_or, is_done, last_clear, replay_status, step_status}
 
 -- the first outcome and those behind it
@@ -142,7 +142,7 @@ module _ {N : Type 0} (value : N → Fraction) (bound : ℕ) (fits : (x : N) →
       → IsMarket m → All IsStep steps
       → IsReplay bound start.market start.kept.rows steps (map (step_outcome_at value) outcomes) now.kept.rows
       → t.status ≡ replay_status (map (step_outcome_at value) outcomes) → t.text ≡ replayed m steps (map (step_outcome_at value) outcomes)
-      → t.certificate ≡ option_and_then certificate_of (last_clear None (map (step_outcome_at value) outcomes))
+      → t.outputs ≡ certified (option_and_then certificate_of (last_clear None (map (step_outcome_at value) outcomes)))
       → IfSome (option_and_then cert_of_outcome (last_clear None (map (step_outcome_at value) outcomes))) (NumbersFit bound) → ReplaysTo bound m steps t
   replays_to m steps start now outcomes t is market data_ok replay status_is text_is certificate_is certificate_fits =
       let right : IsReplay bound m [] steps (map (step_outcome_at value) outcomes) now.kept.rows =

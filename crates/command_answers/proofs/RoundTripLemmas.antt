@@ -42,6 +42,7 @@ use Rattle.command_answers.specs.Replaying.{ReplaysTo, last_clear}
 use Rattle.command_answers.specs.Tellings.{ComesTo, Telling, Tells, uncertified}
 use Rattle.command_answers.specs.Verdicts.{verdict_line}
 use Rattle.command_answers.specs.Verifying.{TellsVerdict, judged, passed, verdict_status}
+use Rattle.command_answers.specs.declared.told.Outputs.{Outputs}
 use Rattle.command_answers.proofs.ReplayLemmas.{last_first, last_none}
 
 -- ---- of one clear
@@ -62,7 +63,7 @@ of_outcome m taken (outcome.Infeasible f) text market right fits is = (cert_agai
 of_outcome m taken (outcome.Range p) text market right fits is = cc is
 
 pub law_of_the_round_trip : LawOfTheRoundTrip
-law_of_the_round_trip m t text (market, clears) is = of_outcome m [] clears.outcome text market clears.right clears.certificate_fits (sym clears.certificate_is ∙ is)
+law_of_the_round_trip m t text (market, clears) is = of_outcome m [] clears.outcome text market clears.right clears.certificate_fits (sym (ap (λ (o : Outputs (List ℕ)). o.certificate) clears.certificate_is) ∙ is)
 
 -- ---- of the last clear of a replay
 -- an outcome is that of the last clear of steps
@@ -127,7 +128,7 @@ module _ (r : MarketSteps) (t : Telling) (text : List ℕ) (replays : ReplaysTo 
       from (inr h) = last_certifies o h fits is
 
 pub law_of_the_replay : LawOfTheReplay
-law_of_the_replay r t text (market, replays) is = by_last r t text replays (last_clear None replays.outcomes) refl replays.certificate_fits (sym replays.certificate_is ∙ is)
+law_of_the_replay r t text (market, replays) is = by_last r t text replays (last_clear None replays.outcomes) refl replays.certificate_fits (sym (ap (λ (o : Outputs (List ℕ)). o.certificate) replays.certificate_is) ∙ is)
 
 -- ---- of verifying
 pub law_of_yes : LawOfYes
@@ -164,9 +165,9 @@ module _ (rating : PostRating) (files : MarketTexts) (edits text : List ℕ) (no
     rest = record { made = Ok c; is = read; rest = refl };
   }
 
-  told_yes : (clear verify : Telling) → length text ≤ most_file → clear.certificate ≡ Some text → (told : Result Parts Refusal) → IsLimited rating files told → ComesTo TellsClear told clear
+  told_yes : (clear verify : Telling) → length text ≤ most_file → clear.outputs.certificate ≡ Some text → (told : Result Parts Refusal) → IsLimited rating files told → ComesTo TellsClear told clear
       → Tells (IsCertified rating files edits text) TellsVerdict verify → IsYesOrRange verify
-  told_yes clear verify short is (Err r) limited comes verified = let no = ap (λ (t : Telling). t.certificate) comes in cc (is, no)
+  told_yes clear verify short is (Err r) limited comes verified = let no = ap (λ (t : Telling). t.outputs.certificate) comes in cc (is, no)
   told_yes clear verify short is (Ok m) limited comes verified =
       let trip = law_of_the_round_trip m clear text comes is in
       let c = trip.0 in

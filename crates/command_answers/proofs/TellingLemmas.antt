@@ -1,5 +1,6 @@
--- What is told of inputs that are refused, and of a certificate whose sums become too large.
-use Rattle.std.proofs.Common.{◌≡◌, subst, ℕ, Result, Ok, Err}
+-- What is told of inputs that are refused, of a certificate whose sums become too large, and of a certificate alone.
+use Rattle.std.proofs.Common.{◌≡◌, ◌∙◌, ap, subst, ℕ, List, Option, Result, Ok, Err}
+use Rattle.std.specs.Prelude.{option_map}
 use Rattle.fraction_theory.specs.Fraction.{Fraction}
 use Rattle.exact_fraction.specs.declared.Passed.{Passed}
 use Rattle.market_model.specs.declared.participants.Parts.{Parts}
@@ -13,7 +14,8 @@ use Rattle.refusal_text.specs.declared.refusals.Refusal.{Refusal}
 use Rattle.market_inputs.specs.Stops.{IsToldAs}
 use Rattle.market_inputs.specs.declared.stops.Stop.{Stop}
 use Rattle.market_inputs.specs.declared.stops.Stop.TheVariants as stop
-use Rattle.command_answers.specs.Tellings.{MadeTo, Telling, Tells, refusal_of}
+use Rattle.command_answers.specs.declared.told.Outputs.{Outputs}
+use Rattle.command_answers.specs.Tellings.{MadeTo, Telling, Tells, certified, map_outputs, refusal_of}
 use Rattle.command_answers.specs.Verifying.{IsCertificatePair}
 
 -- what is right for what was made, or for why nothing was, is right for what the inputs stand for
@@ -31,3 +33,8 @@ refused-tells stand right cause r t is stands tells = told-made stand right (Err
 pub pair-of : (m : Parts) (bound : ℕ) (c : Cert Fraction) (p : Passed Fraction) → IsCertificateStop m bound c p → IsCertificatePair m bound c p
 pair-of m bound (Optimal blocks energy limits) p is = optimal_pair m (dispatch_by blocks) (named_duals energy limits) bound p is
 pair-of m bound (Farkas energy limits) p is = is.refused
+
+-- a certificate alone, as its bytes
+pub certified-as : {T : Type 0} (bytes : T → List ℕ) (outputs : Outputs T) (made : Option T) (certificate : Option (List ℕ)) → outputs ≡ certified made → option_map bytes made ≡ certificate
+    → map_outputs bytes outputs ≡ certified certificate
+certified-as bytes outputs made certificate is same = ap (map_outputs bytes) is ∙ ap certified same

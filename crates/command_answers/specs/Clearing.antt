@@ -12,7 +12,7 @@ use Rattle.cert_format.specs.Certificates.{NumbersFit, cert_of_outcome, most_par
 use Rattle.cert_format.specs.Written.{certificate_of}
 use Rattle.command_answers.specs.declared.status.Status.{Status}
 use Rattle.command_answers.specs.declared.status.Status.TheVariants as status
-use Rattle.command_answers.specs.Tellings.{Telling}
+use Rattle.command_answers.specs.Tellings.{Telling, certified}
 
 -- the status of what a clear came to
 abbrev pub status_of : Outcome Fraction → Status
@@ -43,7 +43,7 @@ pub record ClearsTo (bound : ℕ) (m : Parts) (t : Telling) : Type 0 where
   pub sides : AreSidesWithin bound outcome
   pub status_is : t.status ≡ status_of outcome
   pub text_is : t.text ≡ report_text m outcome
-  pub certificate_is : t.certificate ≡ certificate_of outcome
+  pub certificate_is : t.outputs ≡ certified (certificate_of outcome)
   pub certificate_fits : IfSome (cert_of_outcome outcome) (NumbersFit bound)
 
 -- the greatest size of a numerator or denominator, in what is told and in certificates

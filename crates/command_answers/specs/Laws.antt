@@ -33,7 +33,7 @@ pub record Certifies (m : Parts) (text : List ℕ) (c : Cert Fraction) : Type 0 
 -- what a clear of a market writes is read as the certificate of what it came to, which is true of the market
 abbrev pub LawOfTheRoundTrip : Type 0
 LawOfTheRoundTrip =
-    (m : Parts) (t : Telling) (text : List ℕ) (tells : TellsClear m t) → t.certificate ≡ Some text → (c : Cert Fraction) × (cert_of_outcome tells.1.outcome ≡ Some c) × Certifies m text c
+    (m : Parts) (t : Telling) (text : List ℕ) (tells : TellsClear m t) → t.outputs.certificate ≡ Some text → (c : Cert Fraction) × (cert_of_outcome tells.1.outcome ≡ Some c) × Certifies m text c
 
 abbrev pub IsEdit : Step → Type 0
 IsEdit (step.Edit e) = Unit {0}
@@ -50,7 +50,7 @@ pub record CertifiesLast (r : MarketSteps) (text : List ℕ) (c : Cert Fraction)
 -- so is what a replay writes, as that of what its last clear came to
 abbrev pub LawOfTheReplay : Type 0
 LawOfTheReplay =
-    (r : MarketSteps) (t : Telling) (text : List ℕ) (tells : TellsReplay r t) → t.certificate ≡ Some text
+    (r : MarketSteps) (t : Telling) (text : List ℕ) (tells : TellsReplay r t) → t.outputs.certificate ≡ Some text
     → (c : Cert Fraction) × (option_and_then cert_of_outcome (last_clear None tells.1.outcomes) ≡ Some c) × CertifiesLast r text c
 
 -- ---- when it is verified
@@ -66,5 +66,5 @@ LawOfYes = (m : Parts) (text : List ℕ) (c : Cert Fraction) (t : Telling) → C
 -- longer than a file may be
 abbrev pub LawOfTheSameFiles : Type 0
 LawOfTheSameFiles =
-    (rating : PostRating) (files : MarketTexts) (edits text : List ℕ) (clear verify : Telling) → Tells (IsLimited rating files) TellsClear clear → clear.certificate ≡ Some text → length text ≤ most_file
+    (rating : PostRating) (files : MarketTexts) (edits text : List ℕ) (clear verify : Telling) → Tells (IsLimited rating files) TellsClear clear → clear.outputs.certificate ≡ Some text → length text ≤ most_file
     → steps_in (sized (refusal.TooLong input.Edits) edits) ≡ Ok [] → Tells (IsCertified rating files edits text) TellsVerdict verify → IsYesOrRange verify

@@ -21,7 +21,7 @@ use Rattle.command_answers.specs.declared.status.Status.{Status}
 use Rattle.command_answers.specs.declared.status.Status.TheVariants as status
 use Rattle.command_answers.specs.Clearing.{AreSidesWithin, most_size, status_of}
 use Rattle.command_answers.specs.Inputs.{MarketSteps}
-use Rattle.command_answers.specs.Tellings.{Telling}
+use Rattle.command_answers.specs.Tellings.{Telling, certified}
 
 -- the status of one step's outcome
 abbrev pub step_status : StepOutcome Fraction → Status
@@ -84,7 +84,7 @@ pub record ReplaysTo (bound : ℕ) (m : Parts) (steps : List Step) (t : Telling)
   pub decided : NoPairPassesIn m [] steps bound → AreDecided m steps outcomes
   pub status_is : t.status ≡ replay_status outcomes
   pub text_is : t.text ≡ replayed m steps outcomes
-  pub certificate_is : t.certificate ≡ option_and_then certificate_of (last_clear None outcomes)
+  pub certificate_is : t.outputs ≡ certified (option_and_then certificate_of (last_clear None outcomes))
   pub certificate_fits : IfSome (option_and_then cert_of_outcome (last_clear None outcomes)) (NumbersFit bound)
 
 -- the same of a market, which keeps what every market keeps, by numbers of 127 bits

@@ -1,4 +1,4 @@
--- What the inputs of a command come to: a status, the text that goes with it, and the certificate that there is of it.
+-- What the inputs of a command come to: a status, the text that goes with it, and what there is to write to files.
 use Rattle.std.specs.Prelude.{◌≡◌, ℕ, List, Option, None, option_map, Result, Ok, Err}
 use Rattle.refusal_text.specs.Refusals.{refusal_line}
 use Rattle.refusal_text.specs.declared.refusals.Refusal.{Refusal}
@@ -6,19 +6,28 @@ use Rattle.market_inputs.specs.declared.stops.Stop.{Stop}
 use Rattle.market_inputs.specs.declared.stops.Stop.TheVariants as stop
 use Rattle.command_answers.specs.declared.status.Status.{Status}
 use Rattle.command_answers.specs.declared.status.Status.TheVariants as status
+use Rattle.command_answers.specs.declared.told.Outputs.{Outputs}
 use Rattle.command_answers.specs.declared.told.Told.{Told}
+
+-- what there is for each file, as something else
+abbrev pub map_outputs : {T U : Type 0} → (T → U) → Outputs T → Outputs U
+map_outputs f outputs = record { certificate = option_map f outputs.certificate }
+
+-- a certificate alone, where there is one
+abbrev pub certified : {T : Type 0} → Option T → Outputs T
+certified certificate = record { certificate = certificate }
 
 pub record Telling : Type 0 where
   pub status : Status
   pub text : List ℕ
-  pub certificate : Option (List ℕ)
+  pub outputs : Outputs (List ℕ)
 
 abbrev pub telling_of : Told → Telling
-telling_of t = record { status = t.status; text = t.text.items; certificate = option_map (λ bytes. bytes.items) t.certificate }
+telling_of t = record { status = t.status; text = t.text.items; outputs = map_outputs (λ bytes. bytes.items) t.outputs }
 
--- a status and its text, of which there is no certificate
+-- a status and its text, with nothing for a file
 abbrev pub uncertified : Status → List ℕ → Telling
-uncertified s text = record { status = s; text = text; certificate = None }
+uncertified s text = record { status = s; text = text; outputs = certified None }
 
 -- what a file that is refused comes to: the line that says why
 abbrev pub refusal_of : Refusal → Telling

@@ -12,7 +12,7 @@ ghost use Rattle.command_answers.specs.Status.{IsOfWork};
 ghost use Rattle.command_answers.specs.Tellings.{MadeTo, Tells, telling_of};
 
 use crate::status::Status;
-use crate::told::{Told, refused};
+use crate::told::{Outputs, Told, refused};
 use cert_format::outcome_json;
 use clear_loop::{Clearer, outcome};
 use exact_fraction::{Exact, Frac};
@@ -54,7 +54,7 @@ fn clear_outcome<N: Exact>(alloc: Global, market: &Market) -> Result<Told, Memor
     Ok(Told {
         status: clear_status(&outcome),
         text: report(alloc, market, &outcome)?,
-        certificate: outcome_json(alloc, &outcome)?,
+        outputs: Outputs::certified(outcome_json(alloc, &outcome)?),
     })
 }
 

@@ -1,4 +1,4 @@
-//! What the inputs of each command come to: a status, the text that goes with it, and the certificate that there is of it.
+//! What the inputs of each command come to: a status, the text that goes with it, and what there is to write to files.
 #![tactic(auto)]
 
 mod checking;
@@ -16,5 +16,5 @@ pub use clearing::{clear_told, pool_told};
 pub use making::make_told;
 pub use replaying::replay_told;
 pub use status::Status;
-pub use told::Told;
+pub use told::{Outputs, Told};
 pub use verifying::verify_told;

@@ -17,7 +17,7 @@ ghost use Rattle.command_answers.specs.Tellings.{Tells, telling_of};
 
 use crate::clearing::clear_status;
 use crate::status::Status;
-use crate::told::{Told, refused};
+use crate::told::{Outputs, Told, refused};
 use cert_format::outcome_json;
 use edit_replay::{Outcomes, Session, StepOutcome, Steps};
 use exact_fraction::{Exact, Frac};
@@ -126,7 +126,7 @@ fn replay_outcome<N: Exact>(alloc: Global, market: Market, steps: &Steps) -> Res
     Ok(Told {
         status: replay_status(&outcomes),
         text,
-        certificate: last_certificate(alloc, &outcomes)?,
+        outputs: Outputs::certified(last_certificate(alloc, &outcomes)?),
     })
 }
 

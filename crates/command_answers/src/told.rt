@@ -2,22 +2,38 @@
 
 ghost use Rattle.std.specs.Prelude.{◌≡◌, IfOk};
 ghost use Rattle.command_answers.specs.Status.{IsOfWork};
-ghost use Rattle.command_answers.specs.Tellings.{refusal_of, telling_of, uncertified};
+ghost use Rattle.command_answers.specs.Tellings.{certified, refusal_of, telling_of, uncertified};
 
 use crate::status::Status;
 use plain_list::Memory;
 use refusal_text::{Refusal, refusal_text};
 use std::alloc::Global;
 
-/// A status, the text that goes with it, and the certificate that there is of it.
+/// What a command has to write to files, whatever stands for each: its bytes, the name of its file. They are written in this order.
+#[derive(Clone, Copy, Debug, Drop)]
+pub struct Outputs<T> {
+    /// The certificate of what was cleared last.
+    pub certificate: Option<T>,
+}
+
+impl<T> Outputs<T> {
+    /// A certificate alone, where there is one.
+    pub fn certified(certificate: Option<T>) -> Outputs<T>
+        ensures { result ≡ certified certificate }
+    {
+        Outputs { certificate }
+    }
+}
+
+/// A status, the text that goes with it, and the bytes that there are for files.
 #[derive(Drop)]
 pub struct Told {
     pub status: Status,
     pub text: Vec<u8>,
-    pub certificate: Option<Vec<u8>>,
+    pub outputs: Outputs<Vec<u8>>,
 }
 
-/// A status and its text, of which there is no certificate.
+/// A status and its text, with nothing for a file.
 pub(crate) fn uncertified(status: Status, text: Vec<u8>) -> Told
     ensures status { result.status ≡ status }
     ensures telling { telling_of result ≡ uncertified status text.items }
@@ -25,7 +41,7 @@ pub(crate) fn uncertified(status: Status, text: Vec<u8>) -> Told
     Told {
         status,
         text,
-        certificate: None,
+        outputs: Outputs::certified(None),
     }
 }
 

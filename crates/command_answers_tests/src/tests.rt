@@ -62,7 +62,7 @@ fn tells_of_each_command(rt: HostRuntime) -> Result<(), Fail> {
     expect(&rt, &pooled, done, b"cleared\nwelfare -600\n");
     let cleared = clear_told(alloc, &bytes, PostRating::C)?;
     expect(&rt, &cleared, done, b"cleared\nwelfare -800\n");
-    assert!(rt; cleared.certificate.is_some());
+    assert!(rt; cleared.outputs.certificate.is_some());
     let replayed = replay_told(alloc, &bytes, PostRating::C, edits)?;
     expect(&rt, &replayed, done, b"step 1 clear\ncleared\n");
     let verified = verify_told(alloc, &bytes, PostRating::C, edits, CERTIFICATE)?;

@@ -184,7 +184,7 @@ module _ (files : Files) (words : List (List ℕ)) (t : Telling) where
       let here : AreClearFiles files names r = subst (λ (n : MarketNames). AreClearFiles files n r) (clears-once words names' names file' file asks asked).0 stands in
       told-of (AreClearFiles files names) TellsClear r t (clear-files-once files names) here told
 
-  pub clear-told : (w : Option (List ℕ × List ℕ)) (r : Result Parts Refusal) → AnswersTo (Some files) words t w → AsksToClear files words r → ComesTo TellsClear r t
+  pub clear-told : (w : List (List ℕ × List ℕ)) (r : Result Parts Refusal) → AnswersTo (Some files) words t w → AsksToClear files words r → ComesTo TellsClear r t
   clear-told _ r (refused nothing usage) asks = absurd (taken-market words nothing (entered files words r asks))
   clear-told _ r (pooled case offers asked told) asks = pooled-told r case offers asked told asks
   clear-told _ r (cleared names file asked told) asks = cleared-told r names file asked told asks
@@ -193,7 +193,7 @@ module _ (files : Files) (words : List (List ℕ)) (t : Telling) where
   clear-told _ r (checked names asked told) asks = absurd (neither words (codes "check") asked.rows refl refl asked.enters (entered files words r asks))
   clear-told _ r (made buses seed asked told) asks = absurd (neither words (codes "make") asked.rows refl refl asked.enters (entered files words r asks))
 
-  pub replay-told : (w : Option (List ℕ × List ℕ)) (r : Result MarketSteps Refusal) → AnswersTo (Some files) words t w → AsksToReplay files words r → ComesTo TellsReplay r t
+  pub replay-told : (w : List (List ℕ × List ℕ)) (r : Result MarketSteps Refusal) → AnswersTo (Some files) words t w → AsksToReplay files words r → ComesTo TellsReplay r t
   replay-told _ r (refused nothing usage) asks = absurd (not-refused words _ asks.asks.rows nothing asks.asks.enters)
   replay-told _ r (pooled case offers asked told) asks = absurd (no-other words (codes "pool") (codes "replay") asked.rows asks.asks.rows refl asked.enters asks.asks.enters)
   replay-told _ r (cleared names file asked told) asks = absurd (no-other words (codes "clear") (codes "replay") asked.rows asks.asks.rows refl asked.enters asks.asks.enters)
@@ -206,7 +206,7 @@ module _ (files : Files) (words : List (List ℕ)) (t : Telling) where
       subst (λ (x : List ℕ). AreReplayFiles files names x r) same.1 (subst (λ (x : MarketNames). AreReplayFiles files x asks.edits r) same.0 asks.stand) in
       told-of (AreReplayFiles files names edits) TellsReplay r t (replay-files-once files names edits) here told
 
-  pub verify-told : (w : Option (List ℕ × List ℕ)) (r : Result MarketCertificate Refusal) → AnswersTo (Some files) words t w → AsksToVerify files words r → ComesTo TellsVerdict r t
+  pub verify-told : (w : List (List ℕ × List ℕ)) (r : Result MarketCertificate Refusal) → AnswersTo (Some files) words t w → AsksToVerify files words r → ComesTo TellsVerdict r t
   verify-told _ r (refused nothing usage) asks = absurd (not-refused words _ asks.asks.rows nothing asks.asks.enters)
   verify-told _ r (pooled case offers asked told) asks = absurd (no-other words (codes "pool") (codes "verify") asked.rows asks.asks.rows refl asked.enters asks.asks.enters)
   verify-told _ r (cleared names file asked told) asks = absurd (no-other words (codes "clear") (codes "verify") asked.rows asks.asks.rows refl asked.enters asks.asks.enters)
@@ -221,7 +221,7 @@ module _ (files : Files) (words : List (List ℕ)) (t : Telling) where
       (subst (λ (x : MarketNames). AreVerifyFiles files x asks.edits asks.certificate r) same.0 asks.stand)) in
       told-of (AreVerifyFiles files names edits certificate) TellsVerdict r t (verify-files-once files names edits certificate) here told
 
-  pub check-told : (w : Option (List ℕ × List ℕ)) (r : Result Inputs Refusal) → AnswersTo (Some files) words t w → AsksToCheck files words r → ComesTo TellsCheck r t
+  pub check-told : (w : List (List ℕ × List ℕ)) (r : Result Inputs Refusal) → AnswersTo (Some files) words t w → AsksToCheck files words r → ComesTo TellsCheck r t
   check-told _ r (refused nothing usage) asks = absurd (not-refused words _ asks.asks.rows nothing asks.asks.enters)
   check-told _ r (pooled case offers asked told) asks = absurd (no-other words (codes "pool") (codes "check") asked.rows asks.asks.rows refl asked.enters asks.asks.enters)
   check-told _ r (cleared names file asked told) asks = absurd (no-other words (codes "clear") (codes "check") asked.rows asks.asks.rows refl asked.enters asks.asks.enters)
@@ -232,14 +232,14 @@ module _ (files : Files) (words : List (List ℕ)) (t : Telling) where
       let here : AreCheckFiles files names r = subst (λ (n : CheckNames). AreCheckFiles files n r) (checks-once words asks.names names asks.asks asked) asks.stand in
       told-of (AreCheckFiles files names) TellsCheck r t (check-files-once files names) here told
 
-  pub told-decided : (w : Option (List ℕ × List ℕ)) → AnswersTo (Some files) words t w → IsDecidedIn files words t.status
+  pub told-decided : (w : List (List ℕ × List ℕ)) → AnswersTo (Some files) words t w → IsDecidedIn files words t.status
   told-decided w answers = record {
     decided = λ m asks none. comes-decided m t (clear-told w (Ok m) answers asks) none;
     replayed = λ m steps asks none. replay-decided (record { market = m; steps = steps }) t (replay-told w (Ok (record { market = m; steps = steps })) answers asks) none;
     verified = λ m c asks none. verdict-told m c t (verify-told w (Ok (record { market = m; certificate = c })) answers asks).1 none;
   }
 
-pub answers-decided : (files : Option Files) (words : List (List ℕ)) (t : Telling) (w : Option (List ℕ × List ℕ)) → AnswersTo files words t w → IsDecidedOf files words t.status
+pub answers-decided : (files : Option Files) (words : List (List ℕ)) (t : Telling) (w : List (List ℕ × List ℕ)) → AnswersTo files words t w → IsDecidedOf files words t.status
 answers-decided None words t w answers = tt
 answers-decided (Some files) words t w answers = told-decided files words t w answers
 
@@ -248,7 +248,7 @@ module _ (files : Option Files) (words : List (List ℕ)) (t : Telling) (buses s
   other-made : (name : List ℕ) (rows : List clap_words.Row) → bytes_eq name (codes "make") ≡ false → Enters words name rows → MakesTo most_size buses seed t
   other-made name rows apart enters = absurd (no-other words name (codes "make") rows asks.rows apart enters asks.enters)
 
-  pub make-told : (w : Option (List ℕ × List ℕ)) → AnswersTo files words t w → MakesTo most_size buses seed t
+  pub make-told : (w : List (List ℕ × List ℕ)) → AnswersTo files words t w → MakesTo most_size buses seed t
   make-told _ (refused nothing usage) = absurd (not-refused words _ asks.rows nothing asks.enters)
   make-told _ (pooled case offers asked told) = other-made (codes "pool") asked.rows refl asked.enters
   make-told _ (cleared names file asked told) = other-made (codes "clear") asked.rows refl asked.enters
@@ -259,5 +259,5 @@ module _ (files : Option Files) (words : List (List ℕ)) (t : Telling) (buses s
       let same = makes-once words n buses s seed asked asks in
       subst (λ x. MakesTo most_size buses x t) same.1 (subst (λ x. MakesTo most_size x s t) same.0 told)
 
-pub answers-made : (files : Option Files) (words : List (List ℕ)) (t : Telling) (w : Option (List ℕ × List ℕ)) → AnswersTo files words t w → IsMadeOf words t.status
+pub answers-made : (files : Option Files) (words : List (List ℕ)) (t : Telling) (w : List (List ℕ × List ℕ)) → AnswersTo files words t w → IsMadeOf words t.status
 answers-made files words t w answers = λ buses seed asks none. ring-told buses seed t (make-told files words t buses seed asks w answers) none

@@ -1,12 +1,13 @@
 -- How a run ends, from a store that was only read.
-use Rattle.std.proofs.Common.{◌≡◌, ◌∙◌, ℕ, List, Option, Some, None, inl, inr, refl}
-use Rattle.std.specs.Prelude.{◌⊎◌, IsSome, take}
+use Rattle.std.proofs.Common.{◌≡◌, ◌∙◌, ℕ, List, [], ◌∷◌, Option, Some, None, Result, Ok, Err, inl, inr, refl}
+use Rattle.std.specs.Prelude.{◌⊎◌, IsErr, take}
 use Rattle.outside_store.specs.Files.{Files, SameFiles, Wrote}
+use Rattle.outside_store.specs.declared.Failed.{Failed}
 use Rattle.command_answers.specs.Tellings.{Telling}
 use Rattle.command_answers.specs.declared.status.Status.{Status}
 use Rattle.command_answers.specs.declared.status.Status.TheVariants as status
 use Rattle.sced.specs.Runs.{Ends, Keeps, told, unwritten}
-use Rattle.sced.proofs.ReadingLemmas.{same_then}
+use Rattle.sced.proofs.ReadingLemmas.{same_files, same_then}
 
 -- a write that failed was of a file
 surely : (failed : Type 0) (name bytes : List ℕ) (a b : Option Files) → failed → Wrote failed name bytes a b → Wrote (Unit {0}) name bytes a b
@@ -15,10 +16,15 @@ surely failed name bytes None (Some h) bad wrote = elim wrote [ ]
 surely failed name bytes (Some f) None bad wrote = elim wrote [ ]
 surely failed name bytes (Some f) (Some h) bad wrote = record { done = λ not. absurd (not tt); cut = λ _. wrote.cut bad; others = wrote.others }
 
-pub ends-cut : (failed : Type 0) (t : Telling) (w : Option (List ℕ × List ℕ)) (before now : Option Files) (taken : Option (List ℕ)) → failed → IsSome w → Keeps failed w before now
+-- and so was one of files that are written one after another
+keeps-surely : (failed : Type 0) (w : List (List ℕ × List ℕ)) (before now : Option Files) → failed → Keeps failed w before now → Keeps (Unit {0}) w before now
+keeps-surely failed [] before now bad (fine, same) = absurd (fine bad)
+keeps-surely failed ((name, bytes) ∷ rest) before now bad (inl (_, wrote)) = inl (tt, surely failed name bytes before now bad wrote)
+keeps-surely failed ((name, bytes) ∷ rest) before now bad (inr (between, wrote, kept)) = inr (between, wrote, keeps-surely failed rest between now bad kept)
+
+pub ends-cut : (failed : Type 0) (t : Telling) (w : List (List ℕ × List ℕ)) (before now : Option Files) (taken : Option (List ℕ)) → failed → Keeps failed w before now
     → Ends t w before now taken taken status.WriteFailed
-ends-cut failed t None before now taken bad some kept = absurd (cc some)
-ends-cut failed t (Some (name, bytes)) before now taken bad some kept = unwritten name bytes refl (surely failed name bytes before now bad kept) refl refl
+ends-cut failed t w before now taken bad kept = unwritten (keeps-surely failed w before now bad kept) refl refl
 
 -- what was written to files is written to those that are the same
 cut-from : (failed : Type 0) (name bytes : List ℕ) (e f h : Files) → ((n : List ℕ) → f n ≡ e n) → (failed → (h name ≡ f name) ⊎ ((k : ℕ) × (h name ≡ Some (take k bytes))))
@@ -40,11 +46,24 @@ wrote-from failed name bytes (Some e) (Some f) (Some h) same wrote = record {
   others = λ n apart. wrote.others n apart ∙ same n;
 }
 
-keeps-from : (failed : Type 0) (w : Option (List ℕ × List ℕ)) (a b c : Option Files) → SameFiles a b → Keeps failed w b c → Keeps failed w a c
-keeps-from failed None a b c same kept = same_then a b c same kept
-keeps-from failed (Some (name, bytes)) a b c same kept = wrote-from failed name bytes a b c same kept
+keeps-from : (failed : Type 0) (w : List (List ℕ × List ℕ)) (a b c : Option Files) → SameFiles a b → Keeps failed w b c → Keeps failed w a c
+keeps-from failed [] a b c same (fine, kept) = (fine, same_then a b c same kept)
+keeps-from failed ((name, bytes) ∷ rest) a b c same (inl (bad, wrote)) = inl (bad, wrote-from failed name bytes a b c same wrote)
+keeps-from failed ((name, bytes) ∷ rest) a b c same (inr (between, wrote, kept)) = inr (between, wrote-from ⊥ name bytes a b between same wrote, kept)
 
-pub ends-from : (t : Telling) (w : Option (List ℕ × List ℕ)) (a b c : Option Files) (taken_before taken_now : Option (List ℕ)) (s : Status) → SameFiles a b → Ends t w b c taken_before taken_now s
+pub ends-from : (t : Telling) (w : List (List ℕ × List ℕ)) (a b c : Option Files) (taken_before taken_now : Option (List ℕ)) (s : Status) → SameFiles a b → Ends t w b c taken_before taken_now s
     → Ends t w a c taken_before taken_now s
 ends-from t w a b c before now s same (told kept took right) = told (keeps-from ⊥ w a b c same kept) took right
-ends-from t w a b c before now s same (unwritten name bytes is wrote none failed) = unwritten name bytes is (wrote-from (Unit {0}) name bytes a b c same wrote) none failed
+ends-from t w a b c before now s same (unwritten kept none failed) = unwritten (keeps-from (Unit {0}) w a b c same kept) none failed
+
+-- ---- one write, of which it is known whether it failed
+-- one that did not fail is whole
+whole : (failed : Type 0) (name bytes : List ℕ) (a b : Option Files) → ¬ failed → Wrote failed name bytes a b → Wrote ⊥ name bytes a b
+whole failed name bytes None None fine wrote = tt
+whole failed name bytes None (Some h) fine wrote = elim wrote [ ]
+whole failed name bytes (Some f) None fine wrote = elim wrote [ ]
+whole failed name bytes (Some f) (Some h) fine wrote = record { done = λ _. wrote.done fine; cut = λ bad. absurd bad; others = wrote.others }
+
+pub keeps-one : (r : Result (Unit {0}) Failed) (name bytes : List ℕ) (before now : Option Files) → Wrote (IsErr r) name bytes before now → Keeps (IsErr r) ((name, bytes) ∷ []) before now
+keeps-one (Ok _) name bytes before now wrote = inr (now, whole _ name bytes before now (λ bad. cc bad) wrote, (λ bad. cc bad, same_files now))
+keeps-one (Err e) name bytes before now wrote = inl (refl, wrote)

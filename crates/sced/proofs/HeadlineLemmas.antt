@@ -1,28 +1,26 @@
 -- The laws of every run.
-use Rattle.std.specs.Prelude.{◌≡◌, ◌≢◌, ◌⊎◌, ℕ, Bool, true, false, if◌then◌else◌, List, [], ◌++◌, Option, Some, None, Ok, Err, Result, codes, length, nat_lt, slice_get, take}
+use Rattle.std.specs.Prelude.{◌≡◌, ◌≢◌, ◌⊎◌, ℕ, Bool, true, false, if◌then◌else◌, List, [], ◌∷◌, ◌++◌, Option, Some, None, Ok, Err, Result, codes, length, nat_lt, option_and_then, option_map}
 use Rattle.std.proofs.Common.{inl, inr, refl, sym, subst, ap, ◌∙◌}
 use Rattle.fraction_theory.specs.Fraction.{Fraction}
 use Rattle.exact_fraction.specs.declared.Passed.{Passed}
-use Rattle.outside_store.specs.Files.{Files, SameFiles, Wrote}
+use Rattle.outside_store.specs.Files.{Files, SameFiles}
 use Rattle.market_model.specs.declared.answered.Answer.{Answer}
-use Rattle.market_model.specs.declared.answered.Farkas.{Farkas}
 use Rattle.market_model.specs.declared.answered.Outcome.{Outcome}
 use Rattle.market_model.specs.declared.answered.Outcome.TheVariants as outcome
 use Rattle.market_model.specs.declared.participants.Parts.{Parts}
 use Rattle.market_model.specs.Market.{IsMarket}
-use Rattle.market_model.specs.Infeasibility.{IsFarkas}
 use Rattle.market_model.specs.RightAnswers.{IsRight, dispatch_in}
 use Rattle.market_model.specs.Settlement.{surplus}
 use Rattle.market_model.proofs.FarkasLaw.{law_of_infeasibility}
 use Rattle.market_model.proofs.Optimum.{law_of_the_optimum, law_of_the_surplus}
-use Rattle.market_system.specs.Outcomes.{IsDecided}
+use Rattle.market_system.specs.WorkingPairs.{IsRangeOf}
 use Rattle.market_system.proofs.Completeness.{law_of_completeness}
 use Rattle.net_case.specs.declared.live_parts.PostRating.{PostRating}
 use Rattle.case_maker.specs.Rings.{ring_of}
 use Rattle.record_reading.specs.Steps.{or_as}
-use Rattle.cert_format.specs.Certificates.{RowsAreDistinct}
+use Rattle.cert_format.specs.Certificates.{RowsAreDistinct, cert_of_outcome}
 use Rattle.cert_format.specs.Grammar.{cert_read}
-use Rattle.cert_format.specs.Written.{certificate_of}
+use Rattle.cert_format.specs.Written.{cert_text, certificate_of}
 use Rattle.cert_format.specs.declared.certificate.Cert.{Cert}
 use Rattle.cert_format.specs.declared.certificate.Key.{Key}
 use Rattle.cert_format.proofs.InverseLemmas.{cert_read-distinct}
@@ -31,10 +29,10 @@ use Rattle.cert_verify.specs.Reasons.{verdict_of}
 use Rattle.cert_verify.specs.declared.verdicts.Reason.{Reason}
 use Rattle.cert_verify.proofs.LawLemmas.{law_of_the_verdict}
 use Rattle.edit_table.specs.declared.Step.{Step}
-use Rattle.edit_table.specs.declared.Step.TheVariants as step
 use Rattle.edit_replay.specs.Replays.{edited_by}
-use Rattle.report_text.proofs.OutcomeReading.{outcome_fits}
-use Rattle.replay_text.proofs.ReplayReading.{replay_fits, right_in}
+use Rattle.report_text.specs.Reports.{range_text}
+use Rattle.report_text.proofs.OutcomeReading.{outcome_fits, reports_apart}
+use Rattle.replay_text.proofs.ReplayReading.{replay_fits, replays_read_apart, right_in}
 use Rattle.refusal_text.specs.Refusals.{refusal_line}
 use Rattle.refusal_text.specs.declared.refusals.Input.TheVariants as input
 use Rattle.refusal_text.specs.declared.refusals.Refusal.{Refusal}
@@ -44,8 +42,8 @@ use Rattle.market_inputs.specs.Replaying.{certificate_in}
 use Rattle.market_inputs.specs.Steps.{Is, Onward, Then}
 use Rattle.market_inputs.specs.declared.checking.Inputs.{Inputs}
 use Rattle.command_words.specs.Words.{AsksClear, AsksReplay, MarketNames, NamesToWrite}
-use Rattle.command_words.proofs.WordsLemmas.{clears-once}
-use Rattle.command_answers.specs.Clearing.{TellsClear, most_size, status_of}
+use Rattle.command_words.proofs.WordsLemmas.{clears-once, replays-once}
+use Rattle.command_answers.specs.Clearing.{ArePassedWithin, TellsClear, most_size, status_of}
 use Rattle.residual_text.specs.ResidualLines.{residuals_text}
 use Rattle.command_answers.specs.Checking.{AreResiduals, TellsCheck, are_within, check_status_of}
 use Rattle.command_answers.specs.declared.checking.Residuals.{Residuals}
@@ -53,22 +51,22 @@ use Rattle.market_tables.specs.Tables.{MarketTexts}
 use Rattle.command_answers.specs.Inputs.{IsCertified, MarketCertificate, MarketSteps}
 use Rattle.command_answers.specs.Making.{MakesTo}
 use Rattle.command_answers.specs.Making as making
-use Rattle.command_answers.specs.Replaying.{TellsReplay}
-use Rattle.command_answers.specs.Tellings.{ComesTo, Telling, Tells, refusal_of}
+use Rattle.command_answers.specs.Replaying.{TellsReplay, last_clear}
+use Rattle.command_answers.specs.Tellings.{ComesTo, Telling, Tells, certified, refusal_of, uncertified}
+use Rattle.command_answers.specs.declared.told.Outputs.{Outputs}
 use Rattle.command_answers.specs.Verdicts.{verdict_line}
 use Rattle.command_answers.specs.Verifying.{TellsVerdict, VerifiesTo, judged, passed, verdict_status}
 use Rattle.command_answers.specs.declared.status.Status.{Status}
 use Rattle.command_answers.specs.declared.status.Status.TheVariants as status
-use Rattle.sced.specs.Decided.{AsksMarket, AsksSteps, AsksVerdict, as_clear, as_pool}
-use Rattle.sced.specs.Headline.{AreReported, IsBest, IsFirstFault, IsOfReached, IsPriced, IsVerdict, LawOfCheck, LawOfCleared, LawOfComplete, LawOfFaults, LawOfInfeasible, LawOfMake, LawOfOutside, LawOfRange, LawOfRoundTrip, LawOfVerify, NonePasses, RefusesEdit, Reports, in_clear, in_replay, no, of_clear, of_step, passes, to_check, to_clear, to_replay, to_verify, yes}
+use Rattle.sced.specs.Decided.{AsksSteps, AsksVerdict, as_clear, as_pool}
+use Rattle.sced.specs.Headline.{HasCertificate, IsAsked, IsBest, IsFirstFault, IsMade, IsPriced, IsReplayed, IsReported, IsVerdict, LawOfAsked, LawOfCertificate, LawOfCheck, LawOfCleared, LawOfComplete, LawOfFaults, LawOfInfeasible, LawOfLastCertificate, LawOfMake, LawOfOutside, LawOfRange, LawOfReplay, LawOfRoundTrip, LawOfVerify, RefusesEdit, cleared_ring, for_check, for_clear, for_nothing, for_ring, for_steps, for_verdict, no, passes, range_ring, to_check, to_clear, to_replay, to_verify, with_fault, yes}
 use Rattle.sced.specs.Runs.{IsSilent, Keeps, Outside}
 use Rattle.sced.specs.Runs as ending
-use Rattle.sced.specs.Told.{Answers, AnswersTo, AreCheckFiles, AreClearFiles, ArePoolFiles, AreReplayFiles, AreVerifyFiles, checked, cleared, made, named_bytes, pooled, refused, replayed, verified}
-use Rattle.command_answers.specs.Laws.{Certifies, IsYesOrRange}
-use Rattle.command_answers.proofs.RoundTripLemmas.{law_of_the_round_trip, law_of_yes}
+use Rattle.sced.specs.Told.{Answers, AnswersTo, AreCheckFiles, AreClearFiles, ArePoolFiles, AreReplayFiles, AreVerifyFiles, checked, cleared, made, named_bytes, named_outputs, pooled, refused, replayed, verified}
+use Rattle.command_answers.specs.Laws.{Certifies, CertifiesLast, IsYesOrRange}
+use Rattle.command_answers.proofs.RoundTripLemmas.{law_of_the_replay, law_of_the_round_trip, law_of_yes}
 use Rattle.sced.proofs.DecidedLemmas.{check-told, clear-told, make-told, no-other, not-refused, replay-told, verify-told}
-use Rattle.sced.proofs.RunLemmas.{IsOutcomeOf, IsPrinted, cleared-at, printed, refused-at, refused-status, reported}
-use Rattle.sced.proofs.RunLemmas as run
+use Rattle.sced.proofs.RunLemmas.{IsPrinted, cleared-at, edit-at, printed, refused-at, refused-status, reported}
 
 -- ---- cleared and infeasible
 right-best : (m : Parts) (a : Answer Fraction) → IsMarket m → IsRight m a → IsBest m (dispatch_in a) × IsPriced m a
@@ -83,65 +81,99 @@ right-best m a market right = (
   record {
     prices = ap (λ (b : Answer Fraction). b.prices) right.made;
     supported = right.supported;
+    proper = right.proper;
     worth = ap (λ (b : Answer Fraction). b.welfare) right.made;
     money = ap (λ (b : Answer Fraction). b.money) right.made;
     surplus = ap (λ (b : Answer Fraction). b.money.surplus) right.made ∙ law_of_the_surplus m a.duals (dispatch_in a) market right.feasible right.supported;
   },
 )
 
-cleared-of : (words : List (List ℕ)) (files : Files) (m : Parts) (a : Answer Fraction) → IsOutcomeOf words files m (outcome.Cleared a) → IsBest m (dispatch_in a) × IsPriced m a
-cleared-of words files m a (run.in_clear asks market right) = right-best m a market right
-cleared-of words files m a (run.in_replay start steps k asks edited market earlier taken replay right decided) = right-best m a market right
-
 pub law_of_cleared : LawOfCleared
-law_of_cleared words files text s m a prints reports = cleared-of words files m a (reported words files text s m (outcome.Cleared a) _ (printed words files text s prints) reports)
-
-infeasible-of : (words : List (List ℕ)) (files : Files) (m : Parts) (f : Farkas Fraction) → IsOutcomeOf words files m (outcome.Infeasible f) → IsMarket m × IsFarkas m f
-infeasible-of words files m f (run.in_clear asks market right) = (market, right)
-infeasible-of words files m f (run.in_replay start steps k asks edited market earlier taken replay right decided) = (market, right)
+law_of_cleared words files text s m a prints reports =
+    let is = reported words files text s m (outcome.Cleared a) _ (printed words files text s prints) reports in
+    right-best m a is.market is.right
 
 pub law_of_infeasible : LawOfInfeasible
 law_of_infeasible words files text s m f prints reports =
-    let is = infeasible-of words files m f (reported words files text s m (outcome.Infeasible f) _ (printed words files text s prints) reports) in
-    ((λ x. law_of_infeasibility m f.duals x is.0 is.1.shows), is.1.shows, is.1.bound)
+    let is = reported words files text s m (outcome.Infeasible f) _ (printed words files text s prints) reports in
+    ((λ x. law_of_infeasibility m f.duals x is.market is.right.shows), is.right)
 
 -- ---- range
-range-of : (words : List (List ℕ)) (files : Files) (m : Parts) (p : Passed Fraction) → IsOutcomeOf words files m (outcome.Range p) → IsOfReached words files m p
-range-of words files m p (run.in_clear asks market right) = in_clear asks right
-range-of words files m p (run.in_replay start steps k asks edited market earlier taken replay right decided) = in_replay start steps k earlier taken asks edited replay right
-
 pub law_of_range : LawOfRange
-law_of_range words files text s m p prints reports = range-of words files m p (reported words files text s m (outcome.Range p) _ (printed words files text s prints) reports)
+law_of_range words files text s m p prints reports =
+    let is = reported words files text s m (outcome.Range p) _ (printed words files text s prints) reports in
+    record { taken = is.taken; begins = is.begins; pair = is.right; sides = is.sides }
 
 -- ---- complete
-module _ (words : List (List ℕ)) (files : Files) (text : List ℕ) (s : Status) (after : Option Files) (p : IsPrinted words files after text s) where
-  clear-reported : (m : Parts) → AsksMarket files words m → TellsClear m p.telling → (o : Outcome Fraction) × Reports words files text m o × (s ≡ status_of o)
-  clear-reported m asks (market, clears) = (
-    clears.outcome,
-    of_clear asks (outcome_fits m clears.outcome (right_in most_size m [] clears.outcome clears.right)) (sym p.text_is ∙ clears.text_is),
-    sym p.status_is ∙ clears.status_is,
-  )
-
-  step-reported : (m : Parts) (steps : List Step) (k : ℕ) → AsksSteps files words m steps → slice_get steps k ≡ Some step.Clear → TellsReplay (record { market = m; steps = steps }) p.telling
-      → (o : Outcome Fraction) × Reports words files text (edited_by m (take k steps)) o
-  step-reported m steps k asks at (market, replays) =
-      let here = cleared-at most_size m [] replays.taken steps replays.outcomes k replays.right at in
-      (here.0, of_step m steps replays.outcomes k asks (replay_fits most_size m [] replays.taken steps replays.outcomes replays.right) (sym p.text_is ∙ replays.text_is) here.1 refl)
-
-  all-reported : AreReported words files text s
-  all-reported = record {
-    market = λ m asks. clear-reported m asks (clear-told files words p.telling p.written (Ok m) p.answers asks);
-    steps = λ m steps k asks at. step-reported m steps k asks at (replay-told files words p.telling p.written (Ok (record { market = m; steps = steps })) p.answers asks);
-  }
-
-decided-of : (words : List (List ℕ)) (files : Files) (m : Parts) (o : Outcome Fraction) → NonePasses words files → IsOutcomeOf words files m o → IsDecided m o
-decided-of words files m o none (run.in_clear asks market right) = law_of_completeness m [] most_size o market (none.market m asks) right
-decided-of words files m o none (run.in_replay start steps k asks edited market earlier taken replay right decided) = decided (none.steps start steps asks)
+market-reported : (m : Parts) (t : Telling) (text : List ℕ) (s : Status) → t.text ≡ text → t.status ≡ s → TellsClear m t → IsReported m text s
+market-reported m t text s words ends (market, clears) = record {
+  outcome = clears.outcome;
+  fits = outcome_fits m clears.outcome (right_in most_size m [] clears.outcome clears.right);
+  text_is = sym words ∙ clears.text_is;
+  status_is = sym ends ∙ clears.status_is;
+}
 
 pub law_of_complete : LawOfComplete
 law_of_complete words files text s prints =
+    let p = printed words files text s prints in (
+      λ m asks. market-reported m p.telling text s p.text_is p.status_is (clear-told files words p.telling p.written (Ok m) p.answers asks),
+      λ m o reports. (let is = reported words files text s m o _ p reports in
+          record { taken = is.taken; begins = is.begins; decided = λ none. law_of_completeness m is.taken most_size o is.market none is.right }),
+    )
+
+-- ---- replay
+steps-replayed : (m : Parts) (steps : List Step) (t : Telling) (text : List ℕ) (s : Status) → t.text ≡ text → t.status ≡ s → TellsReplay (record { market = m; steps = steps }) t → IsReplayed m steps text s
+steps-replayed m steps t text s words ends (market, replays) =
+    let fit = replay_fits most_size m [] replays.taken steps replays.outcomes replays.right in
+    let is = sym words ∙ replays.text_is in
+    record {
+      outcomes = replays.outcomes;
+      fit = fit;
+      text_is = is;
+      only = λ others fits same. replays_read_apart m steps others replays.outcomes fits fit (sym same ∙ is);
+      status_is = sym ends ∙ replays.status_is;
+      edits = λ k e at. edit-at most_size m [] replays.taken steps replays.outcomes k e replays.right at;
+      clears = λ k at. cleared-at most_size m [] replays.taken steps replays.outcomes k replays.right at;
+    }
+
+pub law_of_replay : LawOfReplay
+law_of_replay words files text s m steps prints asks =
     let p = printed words files text s prints in
-    (all-reported words files text s _ p, λ none m o reports. decided-of words files m o none (reported words files text s m o _ p reports))
+    steps-replayed m steps p.telling text s p.text_is p.status_is (replay-told files words p.telling p.written (Ok (record { market = m; steps = steps })) p.answers asks)
+
+-- ---- asked
+-- what is told of files is told of what they stand for, or of their first fault
+asked-of : {A : Type 0} (words : List (List ℕ)) (files : Files) (s : Status) (t : Telling) (stand : Result A Refusal → Type 0) (right : A → Telling → Type 0) → ((x : A) → stand (Ok x) → IsAsked words files s)
+    → ((r : Refusal) → stand (Err r) → IsFirstFault words files r) → Tells stand right t → IsAsked words files s
+asked-of {A} words files s t stand right asks fault tells = by tells.told tells.stands
+  where
+    by : (r : Result A Refusal) → stand r → IsAsked words files s
+    by (Ok x) stands = asks x stands
+    by (Err r) stands = with_fault s r (fault r stands)
+
+asked-told : (words : List (List ℕ)) (files : Files) (s : Status) (t : Telling) (w : List (List ℕ × List ℕ)) → t.status ≡ s → AnswersTo (Some files) words t w → IsAsked words files s
+asked-told words files s t _ ends (refused nothing usage) = subst (IsAsked words files) (sym usage ∙ ends) (for_nothing nothing)
+asked-told words files s t _ ends (pooled case offers asked tells) =
+    asked-of words files s t (ArePoolFiles files case offers) TellsClear (λ m stands. for_clear s m (as_pool case offers asked stands)) (λ r stands. to_clear (as_pool case offers asked stands)) tells
+asked-told words files s t _ ends (cleared names file asked tells) =
+    asked-of words files s t (AreClearFiles files names) TellsClear (λ m stands. for_clear s m (as_clear names file asked stands)) (λ r stands. to_clear (as_clear names file asked stands)) tells
+asked-told words files s t _ ends (replayed names edits file asked tells) =
+    asked-of words files s t (AreReplayFiles files names edits) TellsReplay
+    (λ r stands. for_steps s r.market r.steps (record { names = names; edits = edits; certificate = file; asks = asked; stand = stands }))
+    (λ r stands. to_replay (record { names = names; edits = edits; certificate = file; asks = asked; stand = stands })) tells
+asked-told words files s t _ ends (verified names edits certificate asked tells) =
+    asked-of words files s t (AreVerifyFiles files names edits certificate) TellsVerdict
+    (λ v stands. for_verdict s v.market v.certificate (record { names = names; edits = edits; certificate = certificate; asks = asked; stand = stands }))
+    (λ r stands. to_verify (record { names = names; edits = edits; certificate = certificate; asks = asked; stand = stands })) tells
+asked-told words files s t _ ends (checked names asked tells) =
+    asked-of words files s t (AreCheckFiles files names) TellsCheck (λ inputs stands. for_check s inputs (record { names = names; asks = asked; stand = stands }))
+    (λ r stands. to_check (record { names = names; asks = asked; stand = stands })) tells
+asked-told words files s t _ ends (made buses seed asked makes) = for_ring s buses seed asked
+
+pub law_of_asked : LawOfAsked
+law_of_asked words files text s prints =
+    let p = printed words files text s prints in
+    asked-told words files s p.telling p.written p.status_is p.answers
 
 -- ---- verify
 -- a certificate that stands with a market is read of its text
@@ -205,8 +237,8 @@ law_of_verify words files text s m c prints asks =
 
 -- ---- round trip
 -- what is written of a clear is its certificate, where a file is named for it
-clear-written : (files : Files) (words : List (List ℕ)) (t : Telling) (w : Option (List ℕ × List ℕ)) (names : MarketNames) (file : Option (List ℕ)) → AsksClear words names file → AnswersTo (Some files) words t w → w ≡ named_bytes file t.certificate
-clear-written files words t _ names file asks (cleared names' file' asked told) = ap (λ f. named_bytes f t.certificate) (clears-once words names' names file' file asked asks).1
+clear-written : (files : Files) (words : List (List ℕ)) (t : Telling) (w : List (List ℕ × List ℕ)) (names : MarketNames) (file : Option (List ℕ)) → AsksClear words names file → AnswersTo (Some files) words t w → w ≡ named_outputs (certified file) t.outputs
+clear-written files words t _ names file asks (cleared names' file' asked told) = ap (λ f. named_outputs (certified f) t.outputs) (clears-once words names' names file' file asked asks).1
 clear-written files words t _ names file asks (refused nothing usage) = absurd (not-refused words _ asks.rows nothing asks.enters)
 clear-written files words t _ names file asks (pooled case offers asked told) = absurd (no-other words (codes "pool") (codes "clear") asked.rows asks.rows refl asked.enters asks.enters)
 clear-written files words t _ names file asks (replayed names' edits file' asked told) = absurd (no-other words (codes "replay") (codes "clear") asked.rows asks.rows refl asked.enters asks.enters)
@@ -220,27 +252,107 @@ has-certificate (outcome.Infeasible f) is = (_, refl)
 has-certificate (outcome.Range p) (inl is) = cc is
 has-certificate (outcome.Range p) (inr is) = cc is
 
-told-certificate : (m : Parts) (t : Telling) (s : Status) → t.status ≡ s → (s ≡ status.Done) ⊎ (s ≡ status.Infeasible) → TellsClear m t → (bytes : List ℕ) × (t.certificate ≡ Some bytes)
+told-certificate : (m : Parts) (t : Telling) (s : Status) → t.status ≡ s → (s ≡ status.Done) ⊎ (s ≡ status.Infeasible) → TellsClear m t → (bytes : List ℕ) × (t.outputs.certificate ≡ Some bytes)
 told-certificate m t s ends which (market, clears) =
     let is = sym clears.status_is ∙ ends in
     let some = has-certificate clears.outcome (subst (λ (x : Status). (x ≡ status.Done) ⊎ (x ≡ status.Infeasible)) (sym is) which) in
-    (some.0, clears.certificate_is ∙ some.1)
+    (some.0, ap (λ (o : Outputs (List ℕ)). o.certificate) clears.certificate_is ∙ some.1)
 
-kept-certificate : (w : Option (List ℕ × List ℕ)) (files later : Files) (file bytes : List ℕ) (after : Option Files) → w ≡ Some (file, bytes) → after ≡ Some later → Keeps ⊥ w (Some files) after → later file ≡ Some bytes
+-- a file has this text, or what it had where there is none
+abbrev HasText : Option (List ℕ) → Option (List ℕ) → Option (List ℕ) → Type 0
+HasText (Some text) had has = has ≡ Some text
+HasText None had has = has ≡ had
+
+kept-one : (files later : Files) (file bytes : List ℕ) → Keeps ⊥ ((file, bytes) ∷ []) (Some files) (Some later) → later file ≡ Some bytes
+kept-one files later file bytes (inl (never, wrote)) = absurd never
+kept-one files later file bytes (inr (Some between, wrote, (fine, same))) = same file ∙ wrote.done (λ never. never)
+kept-one files later file bytes (inr (None, wrote, (fine, same))) = elim wrote [ ]
+
+kept-certificate : (w : List (List ℕ × List ℕ)) (files later : Files) (file bytes : List ℕ) (after : Option Files) → w ≡ (file, bytes) ∷ [] → after ≡ Some later → Keeps ⊥ w (Some files) after → later file ≡ Some bytes
 kept-certificate w files later file bytes after is now kept =
-    (subst (λ a. Keeps ⊥ (Some (file, bytes)) (Some files) a) now (subst (λ x. Keeps ⊥ x (Some files) after) is kept)).done (λ never. never)
+    kept-one files later file bytes (subst (λ a. Keeps ⊥ ((file, bytes) ∷ []) (Some files) a) now (subst (λ x. Keeps ⊥ x (Some files) after) is kept))
 
 yes-or-range : (t : Telling) (answer : List ℕ) (s : Status) → t.text ≡ answer → t.status ≡ s → IsYesOrRange t → ((s ≡ status.Done) × (answer ≡ codes "yes\n")) ⊎ (s ≡ status.Range)
 yes-or-range t answer s words ends (inl is) = inl (sym ends ∙ ap (λ (x : Telling). x.status) is, sym words ∙ ap (λ (x : Telling). x.text) is)
 yes-or-range t answer s words ends (inr is) = inr (sym ends ∙ is)
 
+-- ---- certificate
+-- where a file is named for the certificate, it has the one that there is, or what it had
+kept-as : (files later : Files) (file : List ℕ) (certificate : Option (List ℕ)) (w : List (List ℕ × List ℕ)) (after : Option Files) → w ≡ named_bytes (Some file) certificate [] → after ≡ Some later
+    → Keeps ⊥ w (Some files) after → HasText certificate (files file) (later file)
+kept-as files later file certificate w after is now kept = by certificate (subst (λ a. Keeps ⊥ (named_bytes (Some file) certificate []) (Some files) a) now (subst (λ x. Keeps ⊥ x (Some files) after) is kept))
+  where
+    by : (c : Option (List ℕ)) → Keeps ⊥ (named_bytes (Some file) c []) (Some files) (Some later) → HasText c (files file) (later file)
+    by (Some bytes) kept = kept-one files later file bytes kept
+    by None (fine, same) = same file
+
+text-of : (certificate : Option (Cert Fraction)) (had has : Option (List ℕ)) (c : Cert Fraction) → certificate ≡ Some c → HasText (option_map cert_text certificate) had has → has ≡ Some (cert_text c)
+text-of certificate had has c is h = subst (λ x. HasText (option_map cert_text x) had has) is h
+
+had-of : (certificate : Option (Cert Fraction)) (had has : Option (List ℕ)) → certificate ≡ None → HasText (option_map cert_text certificate) had has → has ≡ had
+had-of certificate had has is h = subst (λ x. HasText (option_map cert_text x) had has) is h
+
+certificate-kept : (holds : List ℕ → Cert Fraction → Type 0) (certificate : Option (Cert Fraction)) (had has : Option (List ℕ)) → HasText (option_map cert_text certificate) had has
+    → ((c : Cert Fraction) → certificate ≡ Some c → holds (cert_text c) c) → HasCertificate holds certificate had has
+certificate-kept holds certificate had has h each = record {
+  some = λ c is. (cert_text c, text-of certificate had has c is h, each c is);
+  none = λ is. had-of certificate had has is h;
+}
+
+one-certificate : (o : Option (Cert Fraction)) (a b : Cert Fraction) → o ≡ Some a → o ≡ Some b → a ≡ b
+one-certificate o a b first second = cc (first, second)
+
+pub law_of_certificate : LawOfCertificate
+law_of_certificate words files later text s names file m o clear now asked market fits is =
+    let p = printed words files text s clear in
+    let tells = clear-told files words p.telling p.written (Ok m) p.answers market in
+    let same : tells.1.outcome ≡ o = reports_apart m tells.1.outcome o (outcome_fits m tells.1.outcome (right_in most_size m [] tells.1.outcome tells.1.right)) fits (sym tells.1.text_is ∙ p.text_is ∙ is) in
+    let put : p.telling.outputs.certificate ≡ certificate_of o = ap (λ (x : Outputs (List ℕ)). x.certificate) tells.1.certificate_is ∙ ap certificate_of same in
+    let written = clear-written files words p.telling p.written names (Some file) asked p.answers ∙ ap (λ c. named_bytes (Some file) c []) put in
+    certificate-kept (Certifies m) (cert_of_outcome o) (files file) (later file) (kept-as files later file (certificate_of o) p.written clear.after.files written now p.kept)
+    (λ c some. (let trip = law_of_the_round_trip m p.telling (cert_text c) tells (put ∙ ap (option_map cert_text) some) in
+    let one : trip.0 ≡ c = one-certificate (cert_of_outcome o) trip.0 c (ap cert_of_outcome (sym same) ∙ trip.1) some in
+    subst (Certifies m (cert_text c)) one trip.2))
+
+-- what is written of a replay is its certificate, where a file is named for it
+replay-written : (files : Files) (words : List (List ℕ)) (t : Telling) (w : List (List ℕ × List ℕ)) (names : MarketNames) (edits : List ℕ) (file : Option (List ℕ)) → AsksReplay words names edits file → AnswersTo (Some files) words t w
+    → w ≡ named_outputs (certified file) t.outputs
+replay-written files words t _ names edits file asks (replayed names' edits' file' asked told) = ap (λ f. named_outputs (certified f) t.outputs) (replays-once words names' names edits' edits file' file asked asks).2
+replay-written files words t _ names edits file asks (refused nothing usage) = absurd (not-refused words _ asks.rows nothing asks.enters)
+replay-written files words t _ names edits file asks (pooled case offers asked told) = absurd (no-other words (codes "pool") (codes "replay") asked.rows asks.rows refl asked.enters asks.enters)
+replay-written files words t _ names edits file asks (cleared names' file' asked told) = absurd (no-other words (codes "clear") (codes "replay") asked.rows asks.rows refl asked.enters asks.enters)
+replay-written files words t _ names edits file asks (verified names' edits' certificate asked told) = absurd (no-other words (codes "verify") (codes "replay") asked.rows asks.rows refl asked.enters asks.enters)
+replay-written files words t _ names edits file asks (checked names' asked told) = absurd (no-other words (codes "check") (codes "replay") asked.rows asks.rows refl asked.enters asks.enters)
+replay-written files words t _ names edits file asks (made buses seed asked told) = absurd (no-other words (codes "make") (codes "replay") asked.rows asks.rows refl asked.enters asks.enters)
+
+-- the text of the certificate of an outcome that there may be
+text-of-last : (o : Option (Outcome Fraction)) → option_and_then certificate_of o ≡ option_map cert_text (option_and_then cert_of_outcome o)
+text-of-last None = refl
+text-of-last (Some o) = refl
+
+pub law_of_last_certificate : LawOfLastCertificate
+law_of_last_certificate words files later text s names edits file r outcomes replay now asked steps fits is =
+    let p = printed words files text s replay in
+    let tells = replay-told files words p.telling p.written (Ok r) p.answers steps in
+    let same : tells.1.outcomes ≡ outcomes =
+    replays_read_apart r.market r.steps tells.1.outcomes outcomes (replay_fits most_size r.market [] tells.1.taken r.steps tells.1.outcomes tells.1.right) fits (sym tells.1.text_is ∙ p.text_is ∙ is) in
+    let last = last_clear None outcomes in
+    let put : p.telling.outputs.certificate ≡ option_map cert_text (option_and_then cert_of_outcome last) =
+    ap (λ (x : Outputs (List ℕ)). x.certificate) tells.1.certificate_is ∙ ap (λ os. option_and_then certificate_of (last_clear None os)) same ∙ text-of-last last in
+    let written = replay-written files words p.telling p.written names edits (Some file) asked p.answers ∙ ap (λ c. named_bytes (Some file) c []) put in
+    certificate-kept (CertifiesLast r) (option_and_then cert_of_outcome last) (files file) (later file)
+    (kept-as files later file (option_map cert_text (option_and_then cert_of_outcome last)) p.written replay.after.files written now p.kept)
+    (λ c some. (let trip = law_of_the_replay r p.telling (cert_text c) tells (put ∙ ap (option_map cert_text) some) in
+    let one : trip.0 ≡ c = one-certificate (option_and_then cert_of_outcome last) trip.0 c (ap (λ os. option_and_then cert_of_outcome (last_clear None os)) (sym same) ∙ trip.1) some in
+    subst (CertifiesLast r (cert_text c)) one trip.2))
+
 pub law_of_round_trip : LawOfRoundTrip
-law_of_round_trip words again files later text answer s t names file m c clear asked market which now verify asks same =
+law_of_round_trip words again files later text answer s t names file m c clear now asked market which verify asks same =
     let p = printed words files text s clear in
     let q = printed again later answer t verify in
     let tells = clear-told files words p.telling p.written (Ok m) p.answers market in
     let some = told-certificate m p.telling s p.status_is which tells in
-    let written = clear-written files words p.telling p.written names (Some file) asked p.answers ∙ ap (named_bytes (Some file)) some.1 in
+    let written = clear-written files words p.telling p.written names (Some file) asked p.answers ∙ ap (λ c. named_bytes (Some file) c []) some.1 in
     let here : later file ≡ Some some.0 = kept-certificate p.written files later file some.0 clear.after.files written now p.kept in
     let there : later file ≡ Some asks.stand.certificate = sym (ap later same) ∙ asks.stand.certificate_is in
     let bytes : asks.stand.certificate ≡ some.0 = cc (here, there) in
@@ -321,7 +433,7 @@ module _ (words : List (List ℕ)) (files : Files) (text : List ℕ) (s : Status
     of-ring buses seed (making.cleared a market right is) = let wrong : status.Done ≡ status.Refused = sym (ap (λ (t : Telling). t.status) is) ∙ bad in cc wrong
     of-ring buses seed (making.passed q pair within is) = let wrong : status.Range ≡ status.Refused = sym (ap (λ (t : Telling). t.status) is) ∙ bad in cc wrong
 
-    why-refused : (w : Option (List ℕ × List ℕ)) → AnswersTo (Some files) words p.telling w → Why
+    why-refused : (w : List (List ℕ × List ℕ)) → AnswersTo (Some files) words p.telling w → Why
     why-refused _ (refused nothing usage) = let wrong : status.Usage ≡ status.Refused = sym usage ∙ bad in cc wrong
     why-refused _ (pooled case offers asked tells) = by-fault (ArePoolFiles files case offers) TellsClear (λ r stands. to_clear (as_pool case offers asked stands)) (λ m stands right. of-clear m right) tells
     why-refused _ (cleared names file asked tells) = by-fault (AreClearFiles files names) TellsClear (λ r stands. to_clear (as_clear names file asked stands)) (λ m stands right. of-clear m right) tells
@@ -340,20 +452,25 @@ law_of_faults words files text s prints =
     (fault-told words files text s _ p, λ is. why-refused words files text s _ p (p.status_is ∙ is) p.written p.answers)
 
 -- ---- make
-ring-of : (bound buses seed : ℕ) (t : Telling) → t.status ≡ status.Done → MakesTo bound buses seed t
-    → (a : Answer Fraction) × IsMarket (ring_of buses seed) × IsRight (ring_of buses seed) a × (t.text ≡ making.ring_line buses seed ++ making.summary a)
-ring-of bound buses seed t done (making.cleared a market right is) = (a, market, right, ap (λ (x : Telling). x.text) is)
-ring-of bound buses seed t done (making.passed q pair within is) = absurd (range-done (sym (ap (λ (x : Telling). x.status) is) ∙ done))
-  where
-    range-done : status.Range ≡ status.Done → ⊥
-    range-done wrong = cc wrong
+ring-answer : (bound buses seed : ℕ) (t : Telling) → MakesTo bound buses seed t
+    → ((a : Answer Fraction) × IsMarket (ring_of buses seed) × IsRight (ring_of buses seed) a × (t ≡ uncertified status.Done (making.ring_line buses seed ++ making.summary a)))
+    ⊎ ((p : Passed Fraction) × IsRangeOf (ring_of buses seed) [] bound p × ArePassedWithin bound p × (t ≡ uncertified status.Range (making.ring_line buses seed ++ range_text p)))
+ring-answer bound buses seed t (making.cleared a market right is) = inl (a, market, right, is)
+ring-answer bound buses seed t (making.passed q pair within is) = inr (q, pair, within, is)
+
+ring-made : (buses seed : ℕ) (t : Telling) (text : List ℕ) (s : Status) → t.text ≡ text → t.status ≡ s
+    → ((a : Answer Fraction) × IsMarket (ring_of buses seed) × IsRight (ring_of buses seed) a × (t ≡ uncertified status.Done (making.ring_line buses seed ++ making.summary a)))
+    ⊎ ((p : Passed Fraction) × IsRangeOf (ring_of buses seed) [] most_size p × ArePassedWithin most_size p × (t ≡ uncertified status.Range (making.ring_line buses seed ++ range_text p))) → IsMade buses seed text s
+ring-made buses seed t text s words ends (inl (a, market, right, is)) =
+    let best = right-best (ring_of buses seed) a market right in
+    subst (IsMade buses seed text) (sym (ap (λ (x : Telling). x.status) is) ∙ ends) (cleared_ring a best.0 best.1 (sym words ∙ ap (λ (x : Telling). x.text) is))
+ring-made buses seed t text s words ends (inr (p, pair, within, is)) =
+    subst (IsMade buses seed text) (sym (ap (λ (x : Telling). x.status) is) ∙ ends) (range_ring p pair within (sym words ∙ ap (λ (x : Telling). x.text) is))
 
 pub law_of_make : LawOfMake
-law_of_make words files text s buses seed prints asks done =
+law_of_make words files text s buses seed prints asks =
     let p = printed words files text s prints in
-    let ring = ring-of most_size buses seed p.telling (p.status_is ∙ done) (make-told (Some files) words p.telling buses seed asks p.written p.answers) in
-    let best = right-best (ring_of buses seed) ring.0 ring.1 ring.2 in
-    (ring.0, best.0, best.1, sym p.text_is ∙ ring.3)
+    ring-made buses seed p.telling text s p.text_is p.status_is (ring-answer most_size buses seed p.telling (make-told (Some files) words p.telling buses seed asks p.written p.answers))
 
 -- ---- outside
 silent-or : (s : Status) → IsSilent s ⊎ ¬ (IsSilent s)
@@ -374,43 +491,53 @@ silent-or s = by s
     by status.Memory = inl (inr refl)
     by status.Refuted = inr (neither status.Refuted (λ e. cc e) (λ e. cc e))
 
-abbrev name_in : Option (List ℕ × List ℕ) → Option (List ℕ)
-name_in None = None
-name_in (Some (name, bytes)) = Some name
+-- each file that is written is one of these
+abbrev AreNamed : (List ℕ → Type 0) → List (List ℕ × List ℕ) → Type 0
+AreNamed P [] = Unit {0}
+AreNamed P ((name, bytes) ∷ rest) = P name × AreNamed P rest
 
-named-file : (file certificate : Option (List ℕ)) (name bytes : List ℕ) → named_bytes file certificate ≡ Some (name, bytes) → file ≡ Some name
-named-file (Some f) (Some c) name bytes is = ap name_in is
-named-file (Some f) None name bytes is = cc is
-named-file None c name bytes is = cc is
+bytes-named : (P : List ℕ → Type 0) (file certificate : Option (List ℕ)) → ((name : List ℕ) → file ≡ Some name → P name) → AreNamed P (named_bytes file certificate [])
+bytes-named P (Some name) (Some bytes) named = (named name refl, tt)
+bytes-named P (Some name) None named = tt
+bytes-named P None bytes named = tt
 
 -- what is written is named for it
-written-named : (files : Option Files) (words : List (List ℕ)) (t : Telling) (w : Option (List ℕ × List ℕ)) (name bytes : List ℕ) → AnswersTo files words t w → w ≡ Some (name, bytes) → NamesToWrite words name
-written-named files words t _ name bytes (refused nothing usage) is = cc is
-written-named files words t _ name bytes (pooled case offers asked told) is = cc is
-written-named files words t _ name bytes (cleared names file asked told) is = inl (names, subst (AsksClear words names) (named-file file t.certificate name bytes is) asked)
-written-named files words t _ name bytes (replayed names edits file asked told) is = inr (names, edits, subst (AsksReplay words names edits) (named-file file t.certificate name bytes is) asked)
-written-named files words t _ name bytes (verified names edits certificate asked told) is = cc is
-written-named files words t _ name bytes (checked names asked told) is = cc is
-written-named files words t _ name bytes (made buses seed asked told) is = cc is
+written-named : (files : Option Files) (words : List (List ℕ)) (t : Telling) (w : List (List ℕ × List ℕ)) → AnswersTo files words t w → AreNamed (NamesToWrite words) w
+written-named files words t _ (refused nothing usage) = tt
+written-named files words t _ (pooled case offers asked told) = tt
+written-named files words t _ (cleared names file asked told) = bytes-named (NamesToWrite words) file t.outputs.certificate (λ name is. inl (names, subst (AsksClear words names) is asked))
+written-named files words t _ (replayed names edits file asked told) = bytes-named (NamesToWrite words) file t.outputs.certificate (λ name is. inr (names, edits, subst (AsksReplay words names edits) is asked))
+written-named files words t _ (verified names edits certificate asked told) = tt
+written-named files words t _ (checked names asked told) = tt
+written-named files words t _ (made buses seed asked told) = tt
+
+-- a file that is none of those that are written has what it had
+module _ (P : List ℕ → Type 0) (n : List ℕ) (free : ¬ (P n)) (failed : Type 0) where
+  apart : (name : List ℕ) → P name → n ≢ name
+  apart name is same = free (subst P (sym same) is)
+
+  kept-at : (w : List (List ℕ × List ℕ)) (f h : Files) → AreNamed P w → Keeps failed w (Some f) (Some h) → h n ≡ f n
+  kept-at [] f h named (fine, same) = same n
+  kept-at ((name, bytes) ∷ rest) f h named (inl (bad, wrote)) = wrote.others n (apart name named.0)
+  kept-at ((name, bytes) ∷ rest) f h named (inr (Some g, wrote, kept)) = kept-at rest g h named.1 kept ∙ wrote.others n (apart name named.0)
+  kept-at ((name, bytes) ∷ rest) f h named (inr (None, wrote, kept)) = elim wrote [ ]
 
 same-at : (a b : Option Files) (f h : Files) (n : List ℕ) → a ≡ Some f → b ≡ Some h → SameFiles a b → h n ≡ f n
 same-at a b f h n before after same = (subst (SameFiles (Some f)) after (subst (λ x. SameFiles x b) before same)) n
 
-wrote-at : (failed : Type 0) (name bytes : List ℕ) (a b : Option Files) (f h : Files) (n : List ℕ) → a ≡ Some f → b ≡ Some h → n ≢ name → Wrote failed name bytes a b → h n ≡ f n
-wrote-at failed name bytes a b f h n before after apart wrote = (subst (Wrote failed name bytes (Some f)) after (subst (λ x. Wrote failed name bytes x b) before wrote)).others n apart
-
 module _ (words : List (List ℕ)) (before after : Outside) (s : Status) (f h : Files) (was : before.files ≡ Some f) (is_now : after.files ≡ Some h) (n : List ℕ) (free : ¬ (NamesToWrite words n)) where
-  kept-at : (w : Option (List ℕ × List ℕ)) → ((name bytes : List ℕ) → w ≡ Some (name, bytes) → NamesToWrite words name) → Keeps ⊥ w before.files after.files → h n ≡ f n
-  kept-at None named kept = same-at before.files after.files f h n was is_now kept
-  kept-at (Some (name, bytes)) named kept = wrote-at ⊥ name bytes before.files after.files f h n was is_now (λ same. free (subst (NamesToWrite words) (sym same) (named name bytes refl))) kept
+  told-files : (failed : Type 0) (w : List (List ℕ × List ℕ)) → Keeps failed w before.files after.files → Keeps failed w (Some f) (Some h)
+  told-files failed w kept = subst (λ y. Keeps failed w (Some f) y) is_now (subst (λ x. Keeps failed w x after.files) was kept)
 
   answers-at : Answers words before after s → h n ≡ f n
   answers-at a = by a.ends
     where
+      named : AreNamed (NamesToWrite words) a.written
+      named = written-named before.files words a.telling a.written a.right
+
       by : ending.Ends a.telling a.written before.files after.files before.taken after.taken s → h n ≡ f n
-      by (ending.told kept took right) = kept-at a.written (λ name bytes is. written-named before.files words a.telling a.written name bytes a.right is) kept
-      by (ending.unwritten name bytes is wrote none failed) =
-          wrote-at (Unit {0}) name bytes before.files after.files f h n was is_now (λ same. free (subst (NamesToWrite words) (sym same) (written-named before.files words a.telling a.written name bytes a.right is))) wrote
+      by (ending.told kept took right) = kept-at (NamesToWrite words) n free ⊥ a.written f h named (told-files ⊥ a.written kept)
+      by (ending.unwritten kept none failed) = kept-at (NamesToWrite words) n free (Unit {0}) a.written f h named (told-files (Unit {0}) a.written kept)
 
 pub law_of_outside : LawOfOutside
 law_of_outside words before after s runs = record {

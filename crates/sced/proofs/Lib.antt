@@ -3,5 +3,6 @@ pub mod DecidedLemmas
 pub mod EndLemmas
 pub mod FileLemmas
 mod HeadlineLemmas
+mod PromiseLemmas
 pub mod ReadingLemmas
 mod RunLemmas

@@ -1,7 +1,9 @@
 -- What the text of a run and its status tell: the telling that was put, and what its clears came to.
-use Rattle.std.specs.Prelude.{◌≡◌, ◌⊎◌, ℕ, if◌then◌else◌, List, [], ◌∷◌, ◌++◌, Option, Some, Ok, slice_get, take}
+use Rattle.std.specs.Prelude.{◌≡◌, ◌⊎◌, ℕ, if◌then◌else◌, List, [], ◌∷◌, ◌++◌, Option, Some, Ok, slice_get, take, All}
 use Rattle.std.proofs.Common.{inl, inr, refl, sym, subst, ap, ◌∙◌, suc, zero}
+use Rattle.std.specs.Option.{option_map_or}
 use Rattle.std.proofs.lemmas.List.{append_cancel_left}
+use Rattle.std.proofs.lemmas.List.Elements.{All-head, All-tail}
 use Rattle.fraction_theory.specs.Fraction.{Fraction}
 use Rattle.outside_store.specs.Files.{Files}
 use Rattle.outside_store.specs.Sinks.{Took}
@@ -10,7 +12,7 @@ use Rattle.market_model.specs.declared.answered.Outcome.TheVariants as outcome
 use Rattle.market_model.specs.declared.limits.Row.{Row}
 use Rattle.market_model.specs.declared.participants.Parts.{Parts}
 use Rattle.market_model.specs.Market.{IsMarket}
-use Rattle.market_system.specs.Outcomes.{IsClear, IsDecided, IsRightOutcome}
+use Rattle.market_system.specs.Outcomes.{IsClear, IsRightOutcome}
 use Rattle.offer_book.specs.Edits.{judge}
 use Rattle.offer_book.specs.declared.edit_parts.Edit.{Edit}
 use Rattle.offer_book.specs.declared.edit_parts.EditFault.{EditFault}
@@ -25,13 +27,13 @@ use Rattle.report_text.proofs.OutcomeReading.{outcome_fits, reports_apart}
 use Rattle.replay_text.specs.ReplayTextLaws.{OutcomesFit}
 use Rattle.replay_text.specs.ReplayTexts.{replayed}
 use Rattle.replay_text.proofs.ReplayReading.{replay_fits, replays_read_apart, right_in}
-use Rattle.command_answers.specs.Clearing.{TellsClear, most_size, status_of}
-use Rattle.command_answers.specs.Replaying.{NoPairPassesIn, TellsReplay, is_done, replay_status, step_status}
+use Rattle.command_answers.specs.Clearing.{AreSidesWithin, TellsClear, most_size, status_of}
+use Rattle.command_answers.specs.Replaying.{AreStepSidesWithin, TellsReplay, is_done, replay_status, step_status}
 use Rattle.command_answers.specs.Tellings.{Telling}
 use Rattle.command_answers.specs.declared.status.Status.{Status}
 use Rattle.command_answers.specs.declared.status.Status.TheVariants as status
 use Rattle.sced.specs.Decided.{AsksMarket, AsksSteps}
-use Rattle.sced.specs.Headline.{Prints, Reports, of_clear, of_step}
+use Rattle.sced.specs.Headline.{BeginsWith, Prints, Reports, in_clear, in_replay, of_clear, of_step, outcome_of_edit}
 use Rattle.sced.specs.Runs.{Ends, IsSilent, IsTold, Keeps, told, unwritten}
 use Rattle.sced.specs.Told.{Answers, AnswersTo}
 use Rattle.sced.proofs.DecidedLemmas.{clear-told, replay-told}
@@ -49,7 +51,7 @@ taken-text failed t earlier text a b before after whole took =
 -- what was right to tell was put
 pub record IsPrinted (words : List (List ℕ)) (files : Files) (after : Option Files) (text : List ℕ) (s : Status) : Type 0 where
   pub telling : Telling
-  pub written : Option (List ℕ × List ℕ)
+  pub written : List (List ℕ × List ℕ)
   pub answers : AnswersTo (Some files) words telling written
   pub text_is : telling.text ≡ text
   pub status_is : telling.status ≡ s
@@ -62,7 +64,7 @@ printed words files text s p = by (p.runs.told (not-silent s p.ended))
     status-is t (inl same) = sym same
     status-is t (inr failed) = absurd (subst IsTold failed p.ended)
 
-    ended : (t : Telling) (w : Option (List ℕ × List ℕ)) → AnswersTo (Some files) words t w → Ends t w p.before.files p.after.files p.before.taken p.after.taken s → IsPrinted words files p.after.files text s
+    ended : (t : Telling) (w : List (List ℕ × List ℕ)) → AnswersTo (Some files) words t w → Ends t w p.before.files p.after.files p.before.taken p.after.taken s → IsPrinted words files p.after.files text s
     ended t w answers (told kept took right) = record {
       telling = t;
       written = w;
@@ -71,17 +73,16 @@ printed words files text s p = by (p.runs.told (not-silent s p.ended))
       status_is = status-is t right;
       kept = subst (λ f. Keeps ⊥ w f p.after.files) p.files_are kept;
     }
-    ended t w answers (unwritten name bytes is wrote none failed) = absurd (subst IsTold failed p.ended)
+    ended t w answers (unwritten kept none failed) = absurd (subst IsTold failed p.ended)
 
     by : Answers words p.before p.after s → IsPrinted words files p.after.files text s
     by a = ended a.telling a.written (subst (λ f. AnswersTo f words a.telling a.written) p.files_are a.right) a.ends
 
 -- ---- one step of a replay
 -- a clear among the steps, with the rows that it begins and ends with
-pub record IsClearAt (bound : ℕ) (m : Parts) (before : List Row) (steps : List Step) (k : ℕ) (o : Outcome Fraction) : Type 0 where
-  pub earlier : List (StepOutcome Fraction)
+pub record IsClearAt (bound : ℕ) (m : Parts) (before : List Row) (steps : List Step) (outcomes : List (StepOutcome Fraction)) (k : ℕ) (o : Outcome Fraction) : Type 0 where
   pub taken : List Row
-  pub replay : IsReplay bound m before (take k steps) earlier taken
+  pub replay : IsReplay bound m before (take k steps) (take k outcomes) taken
   pub after : List Row
   pub clear : IsClear bound (edited_by m (take k steps)) taken o after
 
@@ -95,14 +96,30 @@ module _ (bound : ℕ) where
   clear-here m before between step.Clear (reply.Clear q) o is same = let here : q ≡ o = cc same in subst (λ (y : Outcome Fraction). IsClear bound m before y between) here is
 
   pub clear-at : (m : Parts) (before after : List Row) (steps : List Step) (outcomes : List (StepOutcome Fraction)) (k : ℕ) (o : Outcome Fraction)
-      → IsReplay bound m before steps outcomes after → slice_get outcomes k ≡ Some (reply.Clear o) → IsClearAt bound m before steps k o
+      → IsReplay bound m before steps outcomes after → slice_get outcomes k ≡ Some (reply.Clear o) → IsClearAt bound m before steps outcomes k o
   clear-at m before after [] [] k o replay is = cc is
   clear-at m before after [] (x ∷ outcomes) k o none is = absurd none
   clear-at m before after (s ∷ steps) [] k o none is = absurd none
-  clear-at m before after (s ∷ steps) (x ∷ outcomes) zero o replay is = record { earlier = []; taken = before; replay = refl; after = replay.0; clear = clear-here m before replay.0 s x o replay.1 is }
+  clear-at m before after (s ∷ steps) (x ∷ outcomes) zero o replay is = record { taken = before; replay = refl; after = replay.0; clear = clear-here m before replay.0 s x o replay.1 is }
   clear-at m before after (s ∷ steps) (x ∷ outcomes) (suc k) o replay is =
       let rest = clear-at (stepped m s) replay.0 after steps outcomes k o replay.2 is in
-      record { earlier = x ∷ rest.earlier; taken = rest.taken; replay = (replay.0, replay.1, rest.replay); after = rest.after; clear = rest.clear }
+      record { taken = rest.taken; replay = (replay.0, replay.1, rest.replay); after = rest.after; clear = rest.clear }
+
+  -- each edit among the steps comes to what it is judged to
+  edit-here : (m : Parts) (before between : List Row) (s : Step) (e : Edit) (x : StepOutcome Fraction) → IsReply bound m before s x between → Some s ≡ Some (step.Edit e) → x ≡ outcome_of_edit m e
+  edit-here m before between (step.Edit d) e reply.Accepted is same =
+      let here : d ≡ e = cc same in ap (λ (j : Option EditFault). option_map_or reply.Refused j reply.Accepted) (sym is.0) ∙ ap (outcome_of_edit m) here
+  edit-here m before between (step.Edit d) e (reply.Refused f) is same =
+      let here : d ≡ e = cc same in ap (λ (j : Option EditFault). option_map_or reply.Refused j reply.Accepted) (sym is.0) ∙ ap (outcome_of_edit m) here
+  edit-here m before between (step.Edit d) e (reply.Clear o) none same = absurd none
+  edit-here m before between step.Clear e x is same = cc same
+
+  pub edit-at : (m : Parts) (before after : List Row) (steps : List Step) (outcomes : List (StepOutcome Fraction)) (k : ℕ) (e : Edit)
+      → IsReplay bound m before steps outcomes after → slice_get steps k ≡ Some (step.Edit e) → slice_get outcomes k ≡ Some (outcome_of_edit (edited_by m (take k steps)) e)
+  edit-at m before after [] outcomes k e replay is = cc is
+  edit-at m before after (s ∷ steps) [] k e none is = absurd none
+  edit-at m before after (s ∷ steps) (x ∷ outcomes) zero e replay is = ap Some (edit-here m before replay.0 s e x replay.1 is)
+  edit-at m before after (s ∷ steps) (x ∷ outcomes) (suc k) e replay is = edit-at (stepped m s) replay.0 after steps outcomes k e replay.2 is
 
   -- each clear among the steps has an outcome
   cleared-here : (m : Parts) (before between : List Row) (s : Step) (x : StepOutcome Fraction) → IsReply bound m before s x between → Some s ≡ Some step.Clear → (o : Outcome Fraction) × (Some x ≡ Some (reply.Clear o))
@@ -155,31 +172,48 @@ refused-status (x ∷ outcomes) is = elim (refused-first x (replay_status outcom
 ]
 
 -- ---- what is reported
--- what a clear that the words ask for came to, and with which rows it began
-pub data IsOutcomeOf (words : List (List ℕ)) (files : Files) (m : Parts) (o : Outcome Fraction) : Type 0 where
-  in_clear : AsksMarket files words m → IsMarket m → IsRightOutcome most_size m [] o → IsOutcomeOf words files m o
-  in_replay : (start : Parts) (steps : List Step) (k : ℕ) → AsksSteps files words start steps → m ≡ edited_by start (take k steps) → IsMarket m
-      → (earlier : List (StepOutcome Fraction)) (taken : List Row) → IsReplay most_size start [] (take k steps) earlier taken → IsRightOutcome most_size m taken o
-      → (NoPairPassesIn start [] steps most_size → IsDecided m o) → IsOutcomeOf words files m o
+-- of each outcome that is a clear's, two numbers that are too large are each within the bound
+sides-here : (bound : ℕ) (x : StepOutcome Fraction) (o : Outcome Fraction) → AreStepSidesWithin bound x → Some x ≡ Some (reply.Clear o) → AreSidesWithin bound o
+sides-here bound reply.Accepted o h same = cc same
+sides-here bound (reply.Refused f) o h same = cc same
+sides-here bound (reply.Clear q) o h same = let here : q ≡ o = cc same in subst (AreSidesWithin bound) here h
 
-module _ (words : List (List ℕ)) (files : Files) (m : Parts) (o : Outcome Fraction) (t : Telling) where
-  clear-outcome : AsksMarket files words m → OutcomeFitsReport m o → t.text ≡ report_text m o → TellsClear m t → IsOutcomeOf words files m o
+sides-at : (bound : ℕ) (outcomes : List (StepOutcome Fraction)) (k : ℕ) (o : Outcome Fraction) → All (AreStepSidesWithin bound) outcomes → slice_get outcomes k ≡ Some (reply.Clear o) → AreSidesWithin bound o
+sides-at bound [] k o all is = cc is
+sides-at bound (x ∷ outcomes) zero o all is = sides-here bound x o (All-head (AreStepSidesWithin bound) x outcomes all) is
+sides-at bound (x ∷ outcomes) (suc k) o all is = sides-at bound outcomes k o (All-tail (AreStepSidesWithin bound) x outcomes all) is
+
+-- what a clear that the words ask for came to, and with which rows it began
+pub record IsOutcomeOf (words : List (List ℕ)) (files : Files) (text : List ℕ) (m : Parts) (o : Outcome Fraction) : Type 0 where
+  pub market : IsMarket m
+  pub taken : List Row
+  pub begins : BeginsWith words files text m taken
+  pub right : IsRightOutcome most_size m taken o
+  pub sides : AreSidesWithin most_size o
+
+module _ (words : List (List ℕ)) (files : Files) (text : List ℕ) (m : Parts) (o : Outcome Fraction) (t : Telling) where
+  clear-outcome : AsksMarket files words m → OutcomeFitsReport m o → t.text ≡ report_text m o → TellsClear m t → IsOutcomeOf words files text m o
   clear-outcome asks fits is (market, clears) =
       let same : clears.outcome ≡ o = reports_apart m clears.outcome o (outcome_fits m clears.outcome (right_in most_size m [] clears.outcome clears.right)) fits (sym clears.text_is ∙ is) in
-      in_clear asks market (subst (IsRightOutcome most_size m []) same clears.right)
+      record { market = market; taken = []; begins = in_clear asks; right = subst (IsRightOutcome most_size m []) same clears.right; sides = subst (AreSidesWithin most_size) same clears.sides }
 
   step-outcome : (start : Parts) (steps : List Step) (outcomes : List (StepOutcome Fraction)) (k : ℕ) → AsksSteps files words start steps → OutcomesFit start steps outcomes
-      → t.text ≡ replayed start steps outcomes → slice_get outcomes k ≡ Some (reply.Clear o) → m ≡ edited_by start (take k steps)
-      → TellsReplay (record { market = start; steps = steps }) t → IsOutcomeOf words files m o
-  step-outcome start steps outcomes k asks fits is at edited (market, replays) =
+      → t.text ≡ replayed start steps outcomes → text ≡ replayed start steps outcomes → slice_get outcomes k ≡ Some (reply.Clear o) → m ≡ edited_by start (take k steps)
+      → TellsReplay (record { market = start; steps = steps }) t → IsOutcomeOf words files text m o
+  step-outcome start steps outcomes k asks fits is text_is at edited (market, replays) =
       let same : replays.outcomes ≡ outcomes = replays_read_apart start steps replays.outcomes outcomes (replay_fits most_size start [] replays.taken steps replays.outcomes replays.right) fits (sym replays.text_is ∙ is) in
-      let here = clear-at most_size start [] replays.taken steps replays.outcomes k o replays.right (ap (λ (os : List (StepOutcome Fraction)). slice_get os k) same ∙ at) in
-      in_replay start steps k asks edited (subst IsMarket (sym edited) (replays.markets k)) here.earlier here.taken here.replay
-      (subst (λ (n : Parts). IsRightOutcome most_size n here.taken o) (sym edited) here.clear.right)
-      (λ none. subst (λ (n : Parts). IsDecided n o) (sym edited) (replays.decided none k o (ap (λ (os : List (StepOutcome Fraction)). slice_get os k) same ∙ at)))
+      let right = subst (λ (os : List (StepOutcome Fraction)). IsReplay most_size start [] steps os replays.taken) same replays.right in
+      let here = clear-at most_size start [] replays.taken steps outcomes k o right at in
+      record {
+        market = subst IsMarket (sym edited) (replays.markets k);
+        taken = here.taken;
+        begins = in_replay start steps outcomes k here.taken asks text_is edited here.replay;
+        right = subst (λ (n : Parts). IsRightOutcome most_size n here.taken o) (sym edited) here.clear.right;
+        sides = sides-at most_size outcomes k o (subst (All (AreStepSidesWithin most_size)) same replays.sides) at;
+      }
 
-pub reported : (words : List (List ℕ)) (files : Files) (text : List ℕ) (s : Status) (m : Parts) (o : Outcome Fraction) (after : Option Files) → IsPrinted words files after text s → Reports words files text m o → IsOutcomeOf words files m o
-reported words files text s m o after p (of_clear asks fits is) = clear-outcome words files m o p.telling asks fits (p.text_is ∙ is) (clear-told files words p.telling p.written (Ok m) p.answers asks)
+pub reported : (words : List (List ℕ)) (files : Files) (text : List ℕ) (s : Status) (m : Parts) (o : Outcome Fraction) (after : Option Files) → IsPrinted words files after text s → Reports words files text m o → IsOutcomeOf words files text m o
+reported words files text s m o after p (of_clear asks fits is) = clear-outcome words files text m o p.telling asks fits (p.text_is ∙ is) (clear-told files words p.telling p.written (Ok m) p.answers asks)
 reported words files text s m o after p (of_step start steps outcomes k asks fits is at edited) =
-    step-outcome words files m o p.telling start steps outcomes k asks fits (p.text_is ∙ is) at edited
+    step-outcome words files text m o p.telling start steps outcomes k asks fits (p.text_is ∙ is) is at edited
     (replay-told files words p.telling p.written (Ok (record { market = start; steps = steps })) p.answers asks)

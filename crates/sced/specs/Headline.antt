@@ -1,7 +1,8 @@
 -- The promise of a run in the words of its users: laws of every run of the program, each from what `run` promises alone.
 -- Wood and Wollenberg, Power Generation, Operation and Control: dispatch within limits of the base and after outages. Schweppe and others, Spot
 -- Pricing of Electricity: prices and the surplus. Farkas: why no dispatch qualifies.
-use Rattle.std.specs.Prelude.{◌≡◌, ◌⊎◌, ℕ, List, [], ◌++◌, length, map, take, Contains, codes, slice_get, Some, Ok, Err}
+use Rattle.std.specs.Prelude.{◌≡◌, ◌⊎◌, ℕ, List, [], ◌++◌, length, map, take, Contains, codes, slice_get, Option, Some, None, option_and_then, Ok, Err}
+use Rattle.std.specs.Option.{option_map_or}
 use Rattle.fraction_theory.specs.Fraction.{Fraction}
 use Rattle.fraction_theory.specs.Order.{◌≤ℚ◌}
 use Rattle.fraction_theory.specs.Sums.{sum_by}
@@ -14,14 +15,15 @@ use Rattle.market_model.specs.declared.answered.Outcome.TheVariants.{Cleared, In
 use Rattle.market_model.specs.declared.limits.Row.{Row}
 use Rattle.market_model.specs.declared.participants.Parts.{Parts}
 use Rattle.market_model.specs.Dispatch.{Dispatch, IsDispatch, balance, places, zero}
-use Rattle.market_model.specs.Infeasibility.{ShowsInfeasible, farkas_bound}
+use Rattle.market_model.specs.Infeasibility.{IsFarkas}
 use Rattle.market_model.specs.LimitRows.{flow, limit, rows}
-use Rattle.market_model.specs.Optimality.{Feasible, Supports, Within, bus_price, welfare}
+use Rattle.market_model.specs.Optimality.{Feasible, ProperDuals, Supports, Within, bus_price, welfare}
 use Rattle.market_model.specs.RightAnswers.{dispatch_in, price_made, settlement_at}
 use Rattle.market_model.specs.Settlement.{rent}
 use Rattle.market_system.specs.Outcomes.{IsDecided}
 use Rattle.market_system.specs.WorkingPairs.{IsRangeOf, NoPairPasses}
 use Rattle.case_maker.specs.Rings.{ring_of}
+use Rattle.cert_format.specs.Certificates.{cert_of_outcome}
 use Rattle.cert_format.specs.declared.certificate.Cert.{Cert}
 use Rattle.cert_verify.specs.Certificates.{IsTrueOf, first_reason}
 use Rattle.offer_book.specs.Edits.{judge}
@@ -38,14 +40,16 @@ use Rattle.replay_text.specs.ReplayTextLaws.{OutcomesFit}
 use Rattle.replay_text.specs.ReplayTexts.{replayed}
 use Rattle.refusal_text.specs.Refusals.{refusal_line}
 use Rattle.refusal_text.specs.declared.refusals.Refusal.{Refusal}
-use Rattle.command_words.specs.Words.{AsksClear, AsksMake, MarketNames, NamesToWrite}
+use Rattle.command_words.specs.Words.{AsksClear, AsksMake, AsksNothing, AsksReplay, MarketNames, NamesToWrite}
 use Rattle.residual_text.specs.ResidualLines.{residuals_text}
 use Rattle.market_inputs.specs.declared.checking.Inputs.{Inputs}
 use Rattle.command_answers.specs.Checking.{AreResiduals, check_status_of}
 use Rattle.command_answers.specs.declared.checking.Residuals.{Residuals}
-use Rattle.command_answers.specs.Clearing.{most_size, status_of}
+use Rattle.command_answers.specs.Clearing.{ArePassedWithin, most_size, status_of}
+use Rattle.command_answers.specs.Inputs.{MarketSteps}
+use Rattle.command_answers.specs.Laws.{Certifies, CertifiesLast}
 use Rattle.command_answers.specs.Making.{ring_line, summary}
-use Rattle.command_answers.specs.Replaying.{NoPairPassesIn}
+use Rattle.command_answers.specs.Replaying.{last_clear, replay_status}
 use Rattle.cert_verify.specs.Stops.{IsCertificateStop}
 use Rattle.command_answers.specs.Verdicts.{verdict_line}
 use Rattle.command_answers.specs.declared.status.Status.{Status}
@@ -67,12 +71,41 @@ pub record Prints (words : List (List ℕ)) (files : Files) (text : List ℕ) (s
   pub put_before : before.taken ≡ Some earlier
   pub put_after : after.taken ≡ Some (earlier ++ text)
 
+-- the first fault of the files that the words name, in the one order of work
+pub data IsFirstFault (words : List (List ℕ)) (files : Files) (r : Refusal) : Type 0 where
+  to_clear : AsksToClear files words (Err r) → IsFirstFault words files r
+  to_replay : AsksToReplay files words (Err r) → IsFirstFault words files r
+  to_verify : AsksToVerify files words (Err r) → IsFirstFault words files r
+  to_check : AsksToCheck files words (Err r) → IsFirstFault words files r
+
+-- a run that puts a text was asked for one of these: for nothing that the program does, for work on what the files stand for, for a ring, or on
+-- files with a first fault
+pub data IsAsked (words : List (List ℕ)) (files : Files) : Status → Type 0 where
+  for_nothing : AsksNothing words → IsAsked words files status.Usage
+  for_clear : (s : Status) (m : Parts) → AsksMarket files words m → IsAsked words files s
+  for_steps : (s : Status) (m : Parts) (steps : List Step) → AsksSteps files words m steps → IsAsked words files s
+  for_verdict : (s : Status) (m : Parts) (c : Cert Fraction) → AsksVerdict files words m c → IsAsked words files s
+  for_check : (s : Status) (inputs : Inputs) → AsksToCheck files words (Ok inputs) → IsAsked words files s
+  for_ring : (s : Status) (buses seed : ℕ) → AsksMake words buses seed → IsAsked words files s
+  with_fault : (s : Status) (r : Refusal) → IsFirstFault words files r → IsAsked words files s
+
+abbrev pub LawOfAsked : Type 0
+LawOfAsked = (words : List (List ℕ)) (files : Files) (text : List ℕ) (s : Status) → Prints words files text s → IsAsked words files s
+
+-- ---- what is reported
 -- The words ask to clear this market, and the text is the report of this outcome; or they ask for steps, the text is that of outcomes of
 -- these, and this is one of a clear, of the market as the steps before it edit it.
 pub data Reports (words : List (List ℕ)) (files : Files) (text : List ℕ) (m : Parts) (o : Outcome Fraction) : Type 0 where
   of_clear : AsksMarket files words m → OutcomeFitsReport m o → text ≡ report_text m o → Reports words files text m o
   of_step : (start : Parts) (steps : List Step) (outcomes : List (StepOutcome Fraction)) (k : ℕ) → AsksSteps files words start steps → OutcomesFit start steps outcomes
       → text ≡ replayed start steps outcomes → slice_get outcomes k ≡ Some (reply.Clear o) → m ≡ edited_by start (take k steps) → Reports words files text m o
+
+-- the rows with which that clear begins: none, or in a replay those with which the clears before it ended
+pub data BeginsWith (words : List (List ℕ)) (files : Files) (text : List ℕ) (m : Parts) : List Row → Type 0 where
+  in_clear : AsksMarket files words m → BeginsWith words files text m []
+  in_replay : (start : Parts) (steps : List Step) (outcomes : List (StepOutcome Fraction)) (k : ℕ) (taken : List Row) → AsksSteps files words start steps
+      → text ≡ replayed start steps outcomes → m ≡ edited_by start (take k steps) → IsReplay most_size start [] (take k steps) (take k outcomes) taken
+      → BeginsWith words files text m taken
 
 -- ---- cleared
 -- within the offers, in balance, and within every limit of the base and after every listed outage; and no dispatch that is so is worth more
@@ -82,10 +115,12 @@ pub record IsBest (m : Parts) (x : Dispatch) : Type 0 where
   pub within : (r : Row) → Contains (rows m) r → Within (limit m r) (flow m x r)
   pub greatest : (y : Dispatch) → Feasible m y → welfare m y ≤ℚ welfare m x
 
--- the prices are those of the duals, which support the dispatch; the settlement is at these prices, and its surplus is the sum of the rents
+-- the prices are those of the duals, which support the dispatch and name rows of the market in its order, each with one price; the settlement
+-- is at these prices, and its surplus is the sum of the rents
 pub record IsPriced (m : Parts) (a : Answer Fraction) : Type 0 where
   pub prices : a.prices ≡ map (price_made m a.duals) (places (length m.buses))
   pub supported : Supports m (dispatch_in a) a.duals
+  pub proper : ProperDuals m a.duals
   pub worth : a.welfare ≡ welfare m (dispatch_in a)
   pub money : a.money ≡ settlement_at m (dispatch_in a) (bus_price m a.duals) a.duals
   pub surplus : a.money.surplus ≡ sum_by (rent m (dispatch_in a) a.duals) (rows m)
@@ -96,40 +131,65 @@ LawOfCleared = (words : List (List ℕ)) (files : Files) (text : List ℕ) (s : 
     → Prints words files text s → Reports words files text m (Cleared a) → IsBest m (dispatch_in a) × IsPriced m a
 
 -- ---- infeasible
--- where infeasible is printed no dispatch qualifies, and the printed duals show it with the printed bound
+-- where infeasible is printed no dispatch qualifies, and the printed duals, which name rows of the market, show it with the printed bound
 abbrev pub LawOfInfeasible : Type 0
 LawOfInfeasible = (words : List (List ℕ)) (files : Files) (text : List ℕ) (s : Status) (m : Parts) (f : Farkas Fraction)
     → Prints words files text s → Reports words files text m (Infeasible f)
-    → ((x : Dispatch) → ¬ (Feasible m x)) × ShowsInfeasible m f.duals × (f.bound ≡ farkas_bound m f.duals)
+    → ((x : Dispatch) → ¬ (Feasible m x)) × IsFarkas m f
+
+-- ---- replay
+-- what an edit of the market as it is then comes to: it is accepted, or refused for this fault
+abbrev pub outcome_of_edit : Parts → Edit → StepOutcome Fraction
+outcome_of_edit m e = option_map_or reply.Refused (judge m e) reply.Accepted
+
+-- The text is that of outcomes of the steps, of these alone, and the status goes with them: each edit comes to what it is judged to, of the
+-- market as the steps before it edit it, and each clear has an outcome.
+pub record IsReplayed (m : Parts) (steps : List Step) (text : List ℕ) (s : Status) : Type 0 where
+  pub outcomes : List (StepOutcome Fraction)
+  pub fit : OutcomesFit m steps outcomes
+  pub text_is : text ≡ replayed m steps outcomes
+  pub only : (others : List (StepOutcome Fraction)) → OutcomesFit m steps others → text ≡ replayed m steps others → others ≡ outcomes
+  pub status_is : s ≡ replay_status outcomes
+  pub edits : (k : ℕ) (e : Edit) → slice_get steps k ≡ Some (step.Edit e) → slice_get outcomes k ≡ Some (outcome_of_edit (edited_by m (take k steps)) e)
+  pub clears : (k : ℕ) → slice_get steps k ≡ Some step.Clear → (o : Outcome Fraction) × (slice_get outcomes k ≡ Some (reply.Clear o))
+
+abbrev pub LawOfReplay : Type 0
+LawOfReplay = (words : List (List ℕ)) (files : Files) (text : List ℕ) (s : Status) (m : Parts) (steps : List Step)
+    → Prints words files text s → AsksSteps files words m steps → IsReplayed m steps text s
 
 -- ---- complete
--- every clear that the words ask for is reported: of the one market with its status, and at each such step
-pub record AreReported (words : List (List ℕ)) (files : Files) (text : List ℕ) (s : Status) : Type 0 where
-  pub market : (m : Parts) → AsksMarket files words m → (o : Outcome Fraction) × Reports words files text m o × (s ≡ status_of o)
-  pub steps : (m : Parts) (steps : List Step) (k : ℕ) → AsksSteps files words m steps → slice_get steps k ≡ Some step.Clear
-      → (o : Outcome Fraction) × Reports words files text (edited_by m (take k steps)) o
+-- a market that is to be cleared is reported, with the status of its outcome
+pub record IsReported (m : Parts) (text : List ℕ) (s : Status) : Type 0 where
+  pub outcome : Outcome Fraction
+  pub fits : OutcomeFitsReport m outcome
+  pub text_is : text ≡ report_text m outcome
+  pub status_is : s ≡ status_of outcome
 
--- no working pair passes 127 bits, of the market to clear or at any clear of the steps
-pub record NonePasses (words : List (List ℕ)) (files : Files) : Type 0 where
-  pub market : (m : Parts) → AsksMarket files words m → NoPairPasses m [] most_size
-  pub steps : (m : Parts) (steps : List Step) → AsksSteps files words m steps → NoPairPassesIn m [] steps most_size
+-- and where no working pair passes 127 bits, over rows that are reached from those with which a clear begins, what is reported of it is cleared
+-- where some dispatch qualifies, and infeasible where none does
+pub record IsDecidedFrom (words : List (List ℕ)) (files : Files) (text : List ℕ) (m : Parts) (o : Outcome Fraction) : Type 0 where
+  pub taken : List Row
+  pub begins : BeginsWith words files text m taken
+  pub decided : NoPairPasses m taken most_size → IsDecided m o
 
--- and where no working pair passes, what is reported is cleared where some dispatch qualifies, and infeasible where none does
 abbrev pub LawOfComplete : Type 0
 LawOfComplete = (words : List (List ℕ)) (files : Files) (text : List ℕ) (s : Status) → Prints words files text s
-    → AreReported words files text s × (NonePasses words files → (m : Parts) (o : Outcome Fraction) → Reports words files text m o → IsDecided m o)
+    → ((m : Parts) → AsksMarket files words m → IsReported m text s)
+    × ((m : Parts) (o : Outcome Fraction) → Reports words files text m o → IsDecidedFrom words files text m o)
 
 -- ---- range
--- two numbers of the market over rows that its clear may have reached: in a replay behind those that clears before it reached
-pub data IsOfReached (words : List (List ℕ)) (files : Files) (m : Parts) (p : Passed Fraction) : Type 0 where
-  in_clear : AsksMarket files words m → IsRangeOf m [] most_size p → IsOfReached words files m p
-  in_replay : (start : Parts) (steps : List Step) (k : ℕ) (earlier : List (StepOutcome Fraction)) (taken : List Row) → AsksSteps files words start steps
-      → m ≡ edited_by start (take k steps) → IsReplay most_size start [] (take k steps) earlier taken → IsRangeOf m taken most_size p → IsOfReached words files m p
+-- Two numbers, each within 127 bits, that are a working pair of the market, over rows that are reached from those with which its clear begins:
+-- the pair passes 127 bits.
+pub record IsRangeFrom (words : List (List ℕ)) (files : Files) (text : List ℕ) (m : Parts) (p : Passed Fraction) : Type 0 where
+  pub taken : List Row
+  pub begins : BeginsWith words files text m taken
+  pub pair : IsRangeOf m taken most_size p
+  pub sides : ArePassedWithin most_size p
 
--- where range is printed the two printed numbers are a working pair of the market, which passes 127 bits
+-- where range is printed the two printed numbers are so
 abbrev pub LawOfRange : Type 0
 LawOfRange = (words : List (List ℕ)) (files : Files) (text : List ℕ) (s : Status) (m : Parts) (p : Passed Fraction)
-    → Prints words files text s → Reports words files text m (Range p) → IsOfReached words files m p
+    → Prints words files text s → Reports words files text m (Range p) → IsRangeFrom words files text m p
 
 -- ---- verify
 -- yes where the certificate is true of the market, no with the first reason where it is not, or two numbers of its sums that pass 127 bits,
@@ -143,12 +203,31 @@ abbrev pub LawOfVerify : Type 0
 LawOfVerify = (words : List (List ℕ)) (files : Files) (text : List ℕ) (s : Status) (m : Parts) (c : Cert Fraction)
     → Prints words files text s → AsksVerdict files words m c → IsVerdict m c text s
 
+-- ---- certificate
+-- a file has the text of this certificate, of which that holds; or it has what it had, where there is no certificate
+pub record HasCertificate (holds : List ℕ → Cert Fraction → Type 0) (certificate : Option (Cert Fraction)) (had has : Option (List ℕ)) : Type 0 where
+  pub some : (c : Cert Fraction) → certificate ≡ Some c → (text : List ℕ) × (has ≡ Some text) × holds text c
+  pub none : certificate ≡ None → has ≡ had
+
+-- the file that the words name for it has the certificate of the outcome that is reported, which is read as it is and is true of the market
+abbrev pub LawOfCertificate : Type 0
+LawOfCertificate = (words : List (List ℕ)) (files later : Files) (text : List ℕ) (s : Status) (names : MarketNames) (file : List ℕ) (m : Parts) (o : Outcome Fraction)
+    → (clear : Prints words files text s) → clear.after.files ≡ Some later → AsksClear words names (Some file) → AsksMarket files words m
+    → OutcomeFitsReport m o → text ≡ report_text m o → HasCertificate (Certifies m) (cert_of_outcome o) (files file) (later file)
+
+-- in a replay, that of the last clear and of the market as the steps before it edit it
+abbrev pub LawOfLastCertificate : Type 0
+LawOfLastCertificate = (words : List (List ℕ)) (files later : Files) (text : List ℕ) (s : Status) (names : MarketNames) (edits file : List ℕ) (r : MarketSteps) (outcomes : List (StepOutcome Fraction))
+    → (replay : Prints words files text s) → replay.after.files ≡ Some later → AsksReplay words names edits (Some file) → AsksToReplay files words (Ok r)
+    → OutcomesFit r.market r.steps outcomes → text ≡ replayed r.market r.steps outcomes
+    → HasCertificate (CertifiesLast r) (option_and_then cert_of_outcome (last_clear None outcomes)) (files file) (later file)
+
 -- ---- round trip
--- what a clear of a market writes as its certificate is verified with yes against that market, or numbers are too large
+-- of what a clear of a market wrote `verify` says yes against that market, or that numbers are too large
 abbrev pub LawOfRoundTrip : Type 0
 LawOfRoundTrip = (words again : List (List ℕ)) (files later : Files) (text answer : List ℕ) (s t : Status) (names : MarketNames) (file : List ℕ) (m : Parts) (c : Cert Fraction)
-    → (clear : Prints words files text s) → AsksClear words names (Some file) → AsksMarket files words m → (s ≡ status.Done) ⊎ (s ≡ status.Infeasible)
-    → clear.after.files ≡ Some later → Prints again later answer t → (asks : AsksVerdict later again m c) → asks.certificate ≡ file
+    → (clear : Prints words files text s) → clear.after.files ≡ Some later → AsksClear words names (Some file) → AsksMarket files words m
+    → (s ≡ status.Done) ⊎ (s ≡ status.Infeasible) → Prints again later answer t → (asks : AsksVerdict later again m c) → asks.certificate ≡ file
     → ((t ≡ status.Done) × (answer ≡ codes "yes\n")) ⊎ (t ≡ status.Range)
 
 -- ---- check
@@ -158,13 +237,6 @@ LawOfCheck = (words : List (List ℕ)) (files : Files) (text : List ℕ) (s : St
     → (r : Residuals) × AreResiduals inputs r × (s ≡ check_status_of r) × (text ≡ residuals_text r.bus r.round r.outage_bus r.outage_round)
 
 -- ---- faults
--- the first fault of the files that the words name, in the one order of work
-pub data IsFirstFault (words : List (List ℕ)) (files : Files) (r : Refusal) : Type 0 where
-  to_clear : AsksToClear files words (Err r) → IsFirstFault words files r
-  to_replay : AsksToReplay files words (Err r) → IsFirstFault words files r
-  to_verify : AsksToVerify files words (Err r) → IsFirstFault words files r
-  to_check : AsksToCheck files words (Err r) → IsFirstFault words files r
-
 -- an edit among the steps that the words ask for is refused
 pub record RefusesEdit (words : List (List ℕ)) (files : Files) : Type 0 where
   pub market : Parts
@@ -183,10 +255,15 @@ LawOfFaults = (words : List (List ℕ)) (files : Files) (text : List ℕ) (s : S
     × (s ≡ status.Refused → ((r : Refusal) × IsFirstFault words files r × (text ≡ refusal_line r)) ⊎ RefusesEdit words files)
 
 -- ---- make
--- where a ring is cleared the worth and the surplus are those of an answer that is best and priced
+-- the worth and the surplus of an answer that is best and priced, or two numbers of the ring as above; where no pair passes it is cleared
+pub data IsMade (buses seed : ℕ) (text : List ℕ) : Status → Type 0 where
+  cleared_ring : (a : Answer Fraction) → IsBest (ring_of buses seed) (dispatch_in a) → IsPriced (ring_of buses seed) a → text ≡ ring_line buses seed ++ summary a
+      → IsMade buses seed text status.Done
+  range_ring : (p : Passed Fraction) → IsRangeOf (ring_of buses seed) [] most_size p → ArePassedWithin most_size p → text ≡ ring_line buses seed ++ range_text p
+      → IsMade buses seed text status.Range
+
 abbrev pub LawOfMake : Type 0
-LawOfMake = (words : List (List ℕ)) (files : Files) (text : List ℕ) (s : Status) (buses seed : ℕ) → Prints words files text s → AsksMake words buses seed → s ≡ status.Done
-    → (a : Answer Fraction) × IsBest (ring_of buses seed) (dispatch_in a) × IsPriced (ring_of buses seed) a × (text ≡ ring_line buses seed ++ summary a)
+LawOfMake = (words : List (List ℕ)) (files : Files) (text : List ℕ) (s : Status) (buses seed : ℕ) → Prints words files text s → AsksMake words buses seed → IsMade buses seed text s
 
 -- ---- outside
 -- no file is touched but those that the words name for writing

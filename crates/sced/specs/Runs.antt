@@ -1,5 +1,5 @@
 -- What a run's status says of its words and of the outside.
-use Rattle.std.specs.Prelude.{◌≡◌, ◌⊎◌, ℕ, List, Option, Some, None}
+use Rattle.std.specs.Prelude.{◌≡◌, ◌⊎◌, ℕ, List, [], ◌∷◌, Option}
 use Rattle.outside_store.specs.Causes.{Rose, Still}
 use Rattle.outside_store.specs.Files.{Files, SameFiles, Wrote}
 use Rattle.outside_store.specs.Sinks.{Took}
@@ -62,25 +62,25 @@ pub record CountsWrites (words : List (List ℕ)) (before after : Outside) (s : 
   pub still : ¬ (s ≡ status.WriteFailed) → Still before.failed_writes after.failed_writes × (after.failed_puts ≡ before.failed_puts)
 
 -- ---- what a run leaves
--- a file with its bytes is written, or none is
-abbrev pub Keeps : Type 0 → Option (List ℕ × List ℕ) → Option Files → Option Files → Type 0
-Keeps failed None before now = SameFiles before now
-Keeps failed (Some (name, bytes)) before now = Wrote failed name bytes before now
+-- files are written with their bytes one after another; the first write that fails ends it, and no file behind it is written
+abbrev pub Keeps : Type 0 → List (List ℕ × List ℕ) → Option Files → Option Files → Type 0
+Keeps failed [] before now = (¬ failed) × SameFiles before now
+Keeps failed ((name, bytes) ∷ rest) before now =
+    (failed × Wrote failed name bytes before now) ⊎ ((between : Option Files) × Wrote ⊥ name bytes before between × Keeps failed rest between now)
 
--- How a run ends that has something to tell: the file that there is to write is written, and the text is put, and the status is that which
--- goes with it, or that of a failed put. Or the write failed, and nothing is put.
-pub data Ends (t : Telling) (written : Option (List ℕ × List ℕ)) (before now : Option Files) (taken_before taken_now : Option (List ℕ)) (s : Status) : Type 0 where
+-- How a run ends that has something to tell: the files that there are to write are written, and the text is put, and the status is that
+-- which goes with it, or that of a failed put. Or a write failed, and nothing is put.
+pub data Ends (t : Telling) (written : List (List ℕ × List ℕ)) (before now : Option Files) (taken_before taken_now : Option (List ℕ)) (s : Status) : Type 0 where
   told : Keeps ⊥ written before now → Took (s ≡ status.WriteFailed) t.text taken_before taken_now → (s ≡ t.status) ⊎ (s ≡ status.WriteFailed) → Ends t written before now taken_before taken_now s
-  unwritten : (name bytes : List ℕ) → written ≡ Some (name, bytes) → Wrote (Unit {0}) name bytes before now → taken_now ≡ taken_before → s ≡ status.WriteFailed
-      → Ends t written before now taken_before taken_now s
+  unwritten : Keeps (Unit {0}) written before now → taken_now ≡ taken_before → s ≡ status.WriteFailed → Ends t written before now taken_before taken_now s
 
--- a failed write of the file of this name is counted
-abbrev pub FailedFor : {S : Type 0} → Ghosts S → S → S → Option (List ℕ) → Type 0
-FailedFor store old new name = (file : List ℕ) × (name ≡ Some file) × Rose (store.failed_writes old file) (store.failed_writes new file)
+-- a failed write of a file that was asked for is counted
+abbrev pub FailedFor : {S : Type 0} → Ghosts S → S → S → (List ℕ → Type 0) → Type 0
+FailedFor store old new asked = (file : List ℕ) × asked file × Rose (store.failed_writes old file) (store.failed_writes new file)
 
--- a step that may write the file of this name failed only where that is counted, and else no failed write is
-pub record WritesFor {S : Type 0} (store : Ghosts S) (old new : S) (name : Option (List ℕ)) (failed : Type 0) : Type 0 where
-  pub cause : failed → FailedFor store old new name
+-- a step that may write files failed only where that is counted of one that was asked for, and else no failed write is
+pub record WritesFor {S : Type 0} (store : Ghosts S) (old new : S) (asked : List ℕ → Type 0) (failed : Type 0) : Type 0 where
+  pub cause : failed → FailedFor store old new asked
   pub still : ¬ failed → Still (store.failed_writes old) (store.failed_writes new)
 
 -- where a run has nothing to tell, nothing is put and every file is as it was

@@ -1,5 +1,5 @@
 -- What is right to tell of the words of a run and of the files that they name.
-use Rattle.std.specs.Prelude.{◌≡◌, ℕ, List, Option, Some, None, option_map, Result}
+use Rattle.std.specs.Prelude.{◌≡◌, ℕ, List, [], ◌∷◌, Option, Some, None, Result}
 use Rattle.outside_store.specs.Files.{Files}
 use Rattle.market_inputs.specs.declared.checking.Inputs.{Inputs}
 use Rattle.market_model.specs.declared.participants.Parts.{Parts}
@@ -10,8 +10,9 @@ use Rattle.command_answers.specs.Clearing.{TellsClear, most_size}
 use Rattle.command_answers.specs.Inputs.{IsCertified, IsCheck, IsLimited, IsPool, IsReplayed, MarketCertificate, MarketSteps}
 use Rattle.command_answers.specs.Making.{MakesTo}
 use Rattle.command_answers.specs.Replaying.{TellsReplay}
-use Rattle.command_answers.specs.Tellings.{Telling, Tells, telling_of}
+use Rattle.command_answers.specs.Tellings.{Telling, Tells, certified, map_outputs, telling_of}
 use Rattle.command_answers.specs.Verifying.{TellsVerdict}
+use Rattle.command_answers.specs.declared.told.Outputs.{Outputs}
 use Rattle.command_answers.specs.declared.status.Status.{Status}
 use Rattle.command_answers.specs.declared.status.Status.TheVariants as status
 use Rattle.edit_table.specs.EditTable.{header as edit_header}
@@ -66,36 +67,44 @@ OfFiles None stand right t = Unit {0}
 OfFiles (Some files) stand right t = Tells (stand files) right t
 
 -- ---- the words
--- a file that is named, with the bytes that there are for it
-abbrev pub named_bytes : Option (List ℕ) → Option (List ℕ) → Option (List ℕ × List ℕ)
-named_bytes (Some name) (Some bytes) = Some (name, bytes)
-named_bytes (Some name) None = None
-named_bytes None bytes = None
+-- a file that is named, with the bytes that there are for it, before others
+abbrev pub named_bytes : Option (List ℕ) → Option (List ℕ) → List (List ℕ × List ℕ) → List (List ℕ × List ℕ)
+named_bytes (Some name) (Some bytes) others = (name, bytes) ∷ others
+named_bytes (Some name) None others = others
+named_bytes None bytes others = others
 
--- the file that is named for a certificate, and that with the bytes of the certificate that there is
-abbrev pub name_for : Work → Option (List ℕ)
-name_for work = option_map (λ name. name.now) work.file
+-- the files that are named for outputs, with the bytes that there are for them
+abbrev pub named_outputs : Outputs (List ℕ) → Outputs (List ℕ) → List (List ℕ × List ℕ)
+named_outputs names outputs = named_bytes names.certificate outputs.certificate []
 
-abbrev pub written_by : Work → Option (List ℕ × List ℕ)
-written_by work = named_bytes (name_for work) (telling_of work.told).certificate
+-- a file of this name is named for an output
+abbrev pub IsOutputFile : Outputs (List ℕ) → List ℕ → Type 0
+IsOutputFile names file = names.certificate ≡ Some file
+
+-- the files that are named for what is told, and those with the bytes that there are for them
+abbrev pub names_for : Work → Outputs (List ℕ)
+names_for work = map_outputs (λ name. name.now) work.files
+
+abbrev pub written_by : Work → List (List ℕ × List ℕ)
+written_by work = named_outputs (names_for work) (telling_of work.told).outputs
 
 -- The words are refused, or what is told is right for the files that they name. The one file that there is to write is a certificate
 -- that a clear or a replay has, where the words name a file for it.
-pub data AnswersTo (files : Option Files) (words : List (List ℕ)) (t : Telling) : Option (List ℕ × List ℕ) → Type 0 where
-  refused : AsksNothing words → t.status ≡ status.Usage → AnswersTo files words t None
-  pooled : (case offers : List ℕ) → AsksPool words case offers → OfFiles files (λ f. ArePoolFiles f case offers) TellsClear t → AnswersTo files words t None
+pub data AnswersTo (files : Option Files) (words : List (List ℕ)) (t : Telling) : List (List ℕ × List ℕ) → Type 0 where
+  refused : AsksNothing words → t.status ≡ status.Usage → AnswersTo files words t []
+  pooled : (case offers : List ℕ) → AsksPool words case offers → OfFiles files (λ f. ArePoolFiles f case offers) TellsClear t → AnswersTo files words t []
   cleared : (names : MarketNames) (file : Option (List ℕ)) → AsksClear words names file → OfFiles files (λ f. AreClearFiles f names) TellsClear t
-      → AnswersTo files words t (named_bytes file t.certificate)
+      → AnswersTo files words t (named_outputs (certified file) t.outputs)
   replayed : (names : MarketNames) (edits : List ℕ) (file : Option (List ℕ)) → AsksReplay words names edits file → OfFiles files (λ f. AreReplayFiles f names edits) TellsReplay t
-      → AnswersTo files words t (named_bytes file t.certificate)
+      → AnswersTo files words t (named_outputs (certified file) t.outputs)
   verified : (names : MarketNames) (edits : Option (List ℕ)) (certificate : List ℕ) → AsksVerify words names edits certificate
-      → OfFiles files (λ f. AreVerifyFiles f names edits certificate) TellsVerdict t → AnswersTo files words t None
-  checked : (names : CheckNames) → AsksCheck words names → OfFiles files (λ f. AreCheckFiles f names) TellsCheck t → AnswersTo files words t None
-  made : (buses seed : ℕ) → AsksMake words buses seed → MakesTo most_size buses seed t → AnswersTo files words t None
+      → OfFiles files (λ f. AreVerifyFiles f names edits certificate) TellsVerdict t → AnswersTo files words t []
+  checked : (names : CheckNames) → AsksCheck words names → OfFiles files (λ f. AreCheckFiles f names) TellsCheck t → AnswersTo files words t []
+  made : (buses seed : ℕ) → AsksMake words buses seed → MakesTo most_size buses seed t → AnswersTo files words t []
 
 -- what is told is right for the words and for the files that these name, and so is the file that is written
 pub record Answers (words : List (List ℕ)) (before after : Outside) (s : Status) : Type 0 where
   pub telling : Telling
-  pub written : Option (List ℕ × List ℕ)
+  pub written : List (List ℕ × List ℕ)
   pub right : AnswersTo before.files words telling written
   pub ends : Ends telling written before.files after.files before.taken after.taken s

@@ -1,7 +1,13 @@
 //! What every run of the program means for those who read what it prints: laws that follow from what `run` promises, each the contract of a
 //! function that does nothing.
 
-ghost use Rattle.sced.specs.Headline.{LawOfCheck, LawOfCleared, LawOfComplete, LawOfFaults, LawOfInfeasible, LawOfMake, LawOfOutside, LawOfRange, LawOfRoundTrip, LawOfVerify};
+ghost use Rattle.sced.specs.Headline.{LawOfAsked, LawOfCertificate, LawOfCheck, LawOfCleared, LawOfComplete, LawOfFaults, LawOfInfeasible, LawOfLastCertificate, LawOfMake, LawOfOutside, LawOfRange, LawOfReplay, LawOfRoundTrip, LawOfVerify};
+
+/// A run that puts a text was asked for nothing that the program does, for work on what the files stand for, for a ring, or on files with
+/// a first fault.
+pub fn asked()
+    ensures { LawOfAsked }
+{}
 
 /// What is printed as cleared balances, is within the offers, meets every limit of the base and after every listed outage of the
 /// market as edited, and has the greatest welfare of all dispatches that do; its prices are those of its duals, which support it,
@@ -15,8 +21,13 @@ pub fn infeasible()
     ensures { LawOfInfeasible }
 {}
 
-/// Each clear that the words ask for is reported. Where no working pair passes, it is cleared where some dispatch qualifies, and
-/// infeasible where none does.
+/// A replay tells of each step, and of it alone, what it came to: an edit what it is judged to, a clear its outcome.
+pub fn replay()
+    ensures { LawOfReplay }
+{}
+
+/// A market that is to be cleared is reported. Where no working pair passes, what is reported is cleared where some dispatch qualifies,
+/// and infeasible where none does.
 pub fn complete()
     ensures { LawOfComplete }
 {}
@@ -32,7 +43,18 @@ pub fn verify()
     ensures { LawOfVerify }
 {}
 
-/// What a clear of a market writes as its certificate, `verify` says yes of against that market, or that numbers are too large.
+/// The file that is named for a certificate has that of the outcome that is reported, which is true of the market; or what it had, where
+/// there is none.
+pub fn certificate()
+    ensures { LawOfCertificate }
+{}
+
+/// The same of the last clear of a replay.
+pub fn last_certificate()
+    ensures { LawOfLastCertificate }
+{}
+
+/// Of what a clear of a market wrote `verify` says yes against that market, or that numbers are too large.
 pub fn round_trip()
     ensures { LawOfRoundTrip }
 {}
@@ -42,12 +64,12 @@ pub fn check()
     ensures { LawOfCheck }
 {}
 
-/// The first fault of the files is told exactly where there is one; their status comes else only for an edit that is refused.
+/// The first fault of the files is told exactly where there is one; its status comes else only for an edit that is refused.
 pub fn faults()
     ensures { LawOfFaults }
 {}
 
-/// A ring that is cleared has the worth and the surplus of an answer that is best and priced.
+/// A ring has the worth and the surplus of an answer that is best and priced, or two of its numbers that pass 127 bits.
 pub fn make()
     ensures { LawOfMake }
 {}
@@ -65,11 +87,15 @@ mod tests {
     /// A program's functions are proved where `main` or a test reaches them: this one reaches the laws.
     #[test]
     fn laws_stand(_rt: HostRuntime) -> Result<(), Fail> {
+        asked();
         cleared();
         infeasible();
+        replay();
         complete();
         range();
         verify();
+        certificate();
+        last_certificate();
         round_trip();
         check();
         faults();

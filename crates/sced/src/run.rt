@@ -1,18 +1,18 @@
-//! From words and files to the certificate that is written and the text that is put.
+//! From words and files to the files that are written and the text that is put.
 
-ghost use Rattle.std.specs.Prelude.{◌≡◌, ◌⊎◌, ℕ, List, map, option_map, string_bytes, Some, Ok, Err, IfErr, IfOk, IsErr, IsSome, MatchResult};
+ghost use Rattle.std.specs.Prelude.{◌≡◌, ◌⊎◌, ℕ, List, [], map, option_map, string_bytes, vec_items, Some, Ok, Err, IfOk, IsErr, MatchResult};
 ghost use Rattle.outside_store.specs.Causes.{Rose, Still};
 ghost use Rattle.outside_store.specs.Sinks.{Took, CountFault};
-ghost use Rattle.command_answers.specs.Tellings.{telling_of};
+ghost use Rattle.command_answers.specs.Tellings.{map_outputs, telling_of};
 ghost use Rattle.command_words.specs.Words.{NamesFile, NamesToWrite};
 ghost use Rattle.sced.specs.Promise.{Runs};
 ghost use Rattle.sced.specs.Runs.{Ends, FailedFor, IsSilent, IsTold, Keeps, OnlyReads, TellsUsage, WritesFor, outside_of};
-ghost use Rattle.sced.specs.Told.{AnswersTo, name_for, written_by};
+ghost use Rattle.sced.specs.Told.{AnswersTo, IsOutputFile, named_bytes, names_for, written_by};
 
 use crate::commands::{
     check_files, clear_files, or_memory, pool_files, replay_files, verify_files,
 };
-use command_answers::{Status, Told, make_told};
+use command_answers::{Outputs, Status, Told, make_told};
 use command_words::{Request, WordsStop, request_of};
 use outside_store::{Failed, Sink, Store};
 use std::alloc::Global;
@@ -21,16 +21,16 @@ use std::alloc::Global;
 #[derive(Drop)]
 pub(crate) struct Work<'a> {
     pub told: Told,
-    /// The file that the words name for the certificate to be written to.
-    pub file: Option<&'a str>,
+    /// The names of the files that its outputs are written to, where the words name them.
+    pub files: Outputs<&'a str>,
 }
 
-/// What a command comes to, with the file that is named for its certificate.
-fn with_file<'a>(told: Result<Told, Status>, file: Option<&'a str>) -> Result<Work<'a>, Status>
-    ensures { MatchResult result (λ work. (told ≡ Ok work.told) × (name_for work ≡ option_map (λ n. n.now) file.entry)) (λ status. told ≡ Err status) }
+/// What a command comes to, with the files that are named for its outputs.
+fn with_files<'a>(told: Result<Told, Status>, files: Outputs<&'a str>) -> Result<Work<'a>, Status>
+    ensures { MatchResult result (λ work. (told ≡ Ok work.told) × (names_for work ≡ map_outputs (λ n. n.now) files.entry)) (λ status. told ≡ Err status) }
 {
     match told {
-        Ok(told) => Ok(Work { told, file }),
+        Ok(told) => Ok(Work { told, files }),
         Err(status) => Err(status),
     }
 }
@@ -45,48 +45,71 @@ fn asked_work<'a, S: Store>(
     ensures usage { MatchResult result (λ work. TellsUsage (map string_bytes words.entry.now) work.told.status) (TellsUsage (map string_bytes words.entry.now)) }
     ensures told { MatchResult result (λ work. IsTold work.told.status) IsSilent }
     ensures answers { IfOk result (λ work. AnswersTo (S.files store.old) (map string_bytes words.entry.now) (telling_of work.told) (written_by work)) }
-    ensures named { IfOk result (λ work. (name : List ℕ) → name_for work ≡ Some name → NamesToWrite (map string_bytes words.entry.now) name) }
+    ensures named { IfOk result (λ work. (file : List ℕ) → IsOutputFile (names_for work) file → NamesToWrite (map string_bytes words.entry.now) file) }
     ensures reads { OnlyReads S.Store store.old store.new (NamesFile (map string_bytes words.entry.now)) (result ≡ Err Status.ReadFailed) }
 {
+    let none = Outputs { certificate: None };
     match request_of(alloc, words) {
-        Ok(Request::Pool(files)) => with_file(pool_files(alloc, &files, store), None),
-        Ok(Request::Clear(files)) => with_file(
+        Ok(Request::Pool(files)) => with_files(pool_files(alloc, &files, store), none),
+        Ok(Request::Clear(files)) => with_files(
             clear_files(alloc, &files.market, store),
-            files.certificate,
+            Outputs {
+                certificate: files.certificate,
+            },
         ),
-        Ok(Request::Replay(files)) => with_file(
+        Ok(Request::Replay(files)) => with_files(
             replay_files(alloc, &files, store),
-            files.certificate,
+            Outputs {
+                certificate: files.certificate,
+            },
         ),
-        Ok(Request::Verify(files)) => with_file(verify_files(alloc, &files, store), None),
-        Ok(Request::Check(files)) => with_file(check_files(alloc, &files, store), None),
-        Ok(Request::Make(ring)) => with_file(
+        Ok(Request::Verify(files)) => with_files(verify_files(alloc, &files, store), none),
+        Ok(Request::Check(files)) => with_files(check_files(alloc, &files, store), none),
+        Ok(Request::Make(ring)) => with_files(
             or_memory(make_told(alloc, ring.buses, ring.seed)),
-            None,
+            none,
         ),
         Err(WordsStop::Usage(text)) => Ok(Work {
             told: Told {
                 status: Status::Usage,
                 text: text.into_bytes(),
-                certificate: None,
+                outputs: Outputs { certificate: None },
             },
-            file: None,
+            files: none,
         }),
         Err(WordsStop::Memory) => Err(Status::Memory),
     }
 }
 
-/// Writes the certificate that there is to the file that is named for it.
-fn keep<S: Store>(store: &mut S, work: &Work<'_>) -> Result<(), Failed>
-    ensures kept { Keeps (IsErr result) (written_by work.now) (S.files store.old) (S.files store.new) }
-    ensures some { IfErr result (λ _. IsSome (written_by work.now)) }
-    ensures writes { WritesFor S.Store store.old store.new (name_for work.now) (IsErr result) }
+/// Writes the bytes that there are to the file that is named for them.
+fn keep_output<S: Store>(
+    store: &mut S,
+    name: Option<&str>,
+    bytes: Option<&[u8]>,
+) -> Result<(), Failed>
+    ensures kept { Keeps (IsErr result) (named_bytes (option_map (λ n. n.now) name.entry) (option_map (λ b. b.now) bytes.entry) []) (S.files store.old) (S.files store.new) }
+    ensures writes { WritesFor S.Store store.old store.new (λ file. option_map (λ n. n.now) name.entry ≡ Some file) (IsErr result) }
     ensures reads { Still (S.failed_reads store.old) (S.failed_reads store.new) }
 {
-    match (work.file, &work.told.certificate) {
-        (Some(name), Some(bytes)) => store.write(name, bytes.as_slice()),
+    match (name, bytes) {
+        (Some(name), Some(bytes)) => store.write(name, bytes),
         _ => Ok(()),
     }
+}
+
+/// Writes the outputs that there are to the files that are named for them, one after another.
+fn keep<S: Store>(store: &mut S, work: &Work<'_>) -> Result<(), Failed>
+    ensures kept { Keeps (IsErr result) (written_by work.now) (S.files store.old) (S.files store.new) }
+    ensures writes { WritesFor S.Store store.old store.new (IsOutputFile (names_for work.now)) (IsErr result) }
+    ensures reads { Still (S.failed_reads store.old) (S.failed_reads store.new) }
+{
+    let outputs = &work.told.outputs;
+    keep_output(
+        store,
+        work.files.certificate,
+        outputs.certificate.as_deref(),
+    )?;
+    Ok(())
 }
 
 /// Puts the text.
@@ -102,14 +125,14 @@ fn put<K: Sink>(out: &mut K, told: &Told) -> Status
     }
 }
 
-/// Writes the certificate that there is, and then puts the text.
+/// Writes the outputs that there are, and then puts the text.
 fn finish<S: Store, K: Sink>(store: &mut S, out: &mut K, work: &Work<'_>) -> Status
     requires { IsTold work.now.told.status }
     ensures status { (result ≡ work.now.told.status) ⊎ (result ≡ Status.WriteFailed) }
     ensures ends { Ends (telling_of work.now.told) (written_by work.now) (S.files store.old) (S.files store.new) (K.taken out.old) (K.taken out.new) result }
     ensures cut { ¬ (Still (S.failed_writes store.old) (S.failed_writes store.new)) → K.taken out.new ≡ K.taken out.old }
     ensures reads { Still (S.failed_reads store.old) (S.failed_reads store.new) }
-    ensures failed { result ≡ Status.WriteFailed → FailedFor S.Store store.old store.new (name_for work.now) ⊎ Rose (K.faults out.old) (K.faults out.new) }
+    ensures failed { result ≡ Status.WriteFailed → FailedFor S.Store store.old store.new (IsOutputFile (names_for work.now)) ⊎ Rose (K.faults out.old) (K.faults out.new) }
     ensures still { ¬ (result ≡ Status.WriteFailed) → Still (S.failed_writes store.old) (S.failed_writes store.new) × (K.faults out.new ≡ K.faults out.old) }
 {
     match keep(store, work) {
@@ -118,8 +141,8 @@ fn finish<S: Store, K: Sink>(store: &mut S, out: &mut K, work: &Work<'_>) -> Sta
     }
 }
 
-/// Runs the command that the words ask for, over the files of a store: writes the certificate that it comes to, where a file is named
-/// for it, and puts its text.
+/// Runs the command that the words ask for, over the files of a store: writes what it comes to for files that are named for it, and puts
+/// its text.
 ///
 /// The whole text is made first and put once. What the contract means in its users' words, `laws` says.
 pub fn run<S: Store, K: Sink>(alloc: Global, words: &[String], store: &mut S, out: &mut K) -> Status

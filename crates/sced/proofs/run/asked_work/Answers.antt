@@ -1,5 +1,6 @@
 use Rattle.std.proofs.Common.{None, refl}
 use Rattle.std.specs.Prelude.{map, string_bytes}
+use Rattle.command_answers.specs.Tellings.{certified}
 use Rattle.command_words.specs.Requests.{names_of_market, names_to_check, text_of_name}
 use Rattle.command_words.proofs.RequestLemmas.{asks-check, asks-clear, asks-make, asks-pool, asks-replay, asks-verify}
 use Rattle.sced.specs.Told.{checked, cleared, made, pooled, refused, replayed, verified}
@@ -12,40 +13,40 @@ returns-in-Ok-Pool-clause-answers g c =
     let files = g.S.Store.files c.args.store.now in
     let words = map string_bytes c.args.words.now in
     let asks = asks-pool words c.in-Ok-Pool.field-0 c.in-Ok-Pool.files c.in-Ok-Pool.field-0-is c.in-Ok-Pool.ensures.asked in
-    work-ok _ _ c.with_file.result c.pool_files.result None c.with_file.ensures c.pool_files.ensures.right
-    (λ work right name. named-by files words work None name (pooled c.in-Ok-Pool.files.case.now c.in-Ok-Pool.files.offers.now asks right))
+    work-ok _ _ c.with_files.result c.pool_files.result (certified None) c.with_files.ensures c.pool_files.ensures.right
+    (λ work right name. named-by files words work (certified None) name (pooled c.in-Ok-Pool.files.case.now c.in-Ok-Pool.files.offers.now asks right))
 
 pub returns-in-Ok-Clear-clause-answers : goal.returns-in-Ok-Clear-clause-answers
 returns-in-Ok-Clear-clause-answers g c =
     let files = g.S.Store.files c.args.store.now in
     let words = map string_bytes c.args.words.now in
     let asks = asks-clear words c.in-Ok-Clear.field-0 c.in-Ok-Clear.files c.in-Ok-Clear.field-0-is c.in-Ok-Clear.ensures.asked in
-    work-ok _ _ c.with_file-in-Ok-Clear.result c.clear_files.result (text_of_name c.in-Ok-Clear.files.certificate) c.with_file-in-Ok-Clear.ensures c.clear_files.ensures.right
-    (λ work right name. named-by files words work (text_of_name c.in-Ok-Clear.files.certificate) name (cleared (names_of_market c.in-Ok-Clear.files.market) (text_of_name c.in-Ok-Clear.files.certificate) asks right))
+    work-ok _ _ c.with_files-in-Ok-Clear.result c.clear_files.result (certified (text_of_name c.in-Ok-Clear.files.certificate)) c.with_files-in-Ok-Clear.ensures c.clear_files.ensures.right
+    (λ work right name. named-by files words work (certified (text_of_name c.in-Ok-Clear.files.certificate)) name (cleared (names_of_market c.in-Ok-Clear.files.market) (text_of_name c.in-Ok-Clear.files.certificate) asks right))
 
 pub returns-in-Ok-Replay-clause-answers : goal.returns-in-Ok-Replay-clause-answers
 returns-in-Ok-Replay-clause-answers g c =
     let files = g.S.Store.files c.args.store.now in
     let words = map string_bytes c.args.words.now in
     let asks = asks-replay words c.in-Ok-Replay.field-0 c.in-Ok-Replay.files c.in-Ok-Replay.field-0-is c.in-Ok-Replay.ensures.asked in
-    work-ok _ _ c.with_file-in-Ok-Replay.result c.replay_files.result (text_of_name c.in-Ok-Replay.files.certificate) c.with_file-in-Ok-Replay.ensures c.replay_files.ensures.right
-    (λ work right name. named-by files words work (text_of_name c.in-Ok-Replay.files.certificate) name (replayed (names_of_market c.in-Ok-Replay.files.market) c.in-Ok-Replay.files.edits.now (text_of_name c.in-Ok-Replay.files.certificate) asks right))
+    work-ok _ _ c.with_files-in-Ok-Replay.result c.replay_files.result (certified (text_of_name c.in-Ok-Replay.files.certificate)) c.with_files-in-Ok-Replay.ensures c.replay_files.ensures.right
+    (λ work right name. named-by files words work (certified (text_of_name c.in-Ok-Replay.files.certificate)) name (replayed (names_of_market c.in-Ok-Replay.files.market) c.in-Ok-Replay.files.edits.now (text_of_name c.in-Ok-Replay.files.certificate) asks right))
 
 pub returns-in-Ok-Verify-clause-answers : goal.returns-in-Ok-Verify-clause-answers
 returns-in-Ok-Verify-clause-answers g c =
     let files = g.S.Store.files c.args.store.now in
     let words = map string_bytes c.args.words.now in
     let asks = asks-verify words c.in-Ok-Verify.field-0 c.in-Ok-Verify.files c.in-Ok-Verify.field-0-is c.in-Ok-Verify.ensures.asked in
-    work-ok _ _ c.with_file-in-Ok-Verify.result c.verify_files.result None c.with_file-in-Ok-Verify.ensures c.verify_files.ensures.right
-    (λ work right name. named-by files words work None name (verified (names_of_market c.in-Ok-Verify.files.market) (text_of_name c.in-Ok-Verify.files.edits) c.in-Ok-Verify.files.certificate.now asks right))
+    work-ok _ _ c.with_files-in-Ok-Verify.result c.verify_files.result (certified None) c.with_files-in-Ok-Verify.ensures c.verify_files.ensures.right
+    (λ work right name. named-by files words work (certified None) name (verified (names_of_market c.in-Ok-Verify.files.market) (text_of_name c.in-Ok-Verify.files.edits) c.in-Ok-Verify.files.certificate.now asks right))
 
 pub returns-in-Ok-Check-clause-answers : goal.returns-in-Ok-Check-clause-answers
 returns-in-Ok-Check-clause-answers g c =
     let files = g.S.Store.files c.args.store.now in
     let words = map string_bytes c.args.words.now in
     let asks = asks-check words c.in-Ok-Check.field-0 c.in-Ok-Check.files c.in-Ok-Check.field-0-is c.in-Ok-Check.ensures.asked in
-    work-ok _ _ c.with_file-in-Ok-Check.result c.check_files.result None c.with_file-in-Ok-Check.ensures c.check_files.ensures.right
-    (λ work right name. named-by files words work None name (checked (names_to_check c.in-Ok-Check.files) asks right))
+    work-ok _ _ c.with_files-in-Ok-Check.result c.check_files.result (certified None) c.with_files-in-Ok-Check.ensures c.check_files.ensures.right
+    (λ work right name. named-by files words work (certified None) name (checked (names_to_check c.in-Ok-Check.files) asks right))
 
 pub returns-in-Ok-Make-clause-answers : goal.returns-in-Ok-Make-clause-answers
 returns-in-Ok-Make-clause-answers g c =
@@ -53,8 +54,8 @@ returns-in-Ok-Make-clause-answers g c =
     let words = map string_bytes c.args.words.now in
     let ring = c.in-Ok-Make.ring in
     let asks = asks-make words c.in-Ok-Make.field-0 ring c.in-Ok-Make.field-0-is c.in-Ok-Make.ensures.asked in
-    work-ok _ _ c.with_file-in-Ok-Make.result c.or_memory.result None c.with_file-in-Ok-Make.ensures (told-ok _ _ c.or_memory.result c.make_told.result c.or_memory.ensures c.make_told.ensures.makes)
-    (λ work right name. named-by files words work None name (made ring.buses ring.seed asks right))
+    work-ok _ _ c.with_files-in-Ok-Make.result c.or_memory.result (certified None) c.with_files-in-Ok-Make.ensures (told-ok _ _ c.or_memory.result c.make_told.result c.or_memory.ensures c.make_told.ensures.makes)
+    (λ work right name. named-by files words work (certified None) name (made ring.buses ring.seed asks right))
 
 pub returns-in-Err-Usage-clause-answers : goal.returns-in-Err-Usage-clause-answers
 returns-in-Err-Usage-clause-answers g c = refused (c.in-Err-Usage.ensures.refused (λ bad. absurd (let is = c.in-Err-Usage.field-0-is in cc (is, bad)))) refl

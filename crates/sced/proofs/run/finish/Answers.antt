@@ -5,4 +5,4 @@ use Rattle.sced.proofs.EndLemmas.{ends-cut}
 use Rattle.sced.proofs.run.finish.Goals as goal
 
 pub returns-in-Err-clause-ends : goal.returns-in-Err-clause-ends
-returns-in-Err-clause-ends g c = ends-cut _ (telling_of c.args.work.now.told) (written_by c.args.work.now) _ _ _ refl c.in-Err.ensures.some c.in-Err.ensures.kept
+returns-in-Err-clause-ends g c = ends-cut _ (telling_of c.args.work.now.told) (written_by c.args.work.now) _ _ _ refl c.in-Err.ensures.kept
