@@ -78,29 +78,3 @@ pub fn make()
 pub fn outside()
     ensures { LawOfOutside }
 {}
-
-#[cfg(test)]
-mod tests {
-    use super::*;
-    use std::test::Fail;
-
-    /// A program's functions are proved where `main` or a test reaches them: this one reaches the laws.
-    #[test]
-    fn laws_stand(_rt: HostRuntime) -> Result<(), Fail> {
-        asked();
-        cleared();
-        infeasible();
-        replay();
-        complete();
-        range();
-        verify();
-        certificate();
-        last_certificate();
-        round_trip();
-        check();
-        faults();
-        make();
-        outside();
-        Ok(())
-    }
-}
