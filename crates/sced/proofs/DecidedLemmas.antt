@@ -39,8 +39,9 @@ use Rattle.sced.specs.Decided.{AsksToCheck, AsksToClear, AsksToReplay, AsksToVer
 use Rattle.edit_table.specs.EditTable.{header as edit_header}
 use Rattle.market_tables.specs.Tables.{GridTexts, MarketTexts}
 use Rattle.market_tables.proofs.EachLemmas.{same-grid, same-tables}
-use Rattle.sced.specs.Reading.{HaveGridTexts, HaveTexts, IsTable, Source, grid_sources, header_alone, in_file, source_of, table_sources}
-use Rattle.sced.specs.Told.{AnswersTo, AreCheckFiles, AreClearFiles, ArePoolFiles, AreReplayFiles, AreVerifyFiles, checked, cleared, made, pooled, refused, replayed, verified}
+use Rattle.command_files.specs.Reading.{HaveGridTexts, HaveTexts, IsTable, Source, grid_sources, header_alone, in_file, source_of, table_sources}
+use Rattle.sced.specs.Told.{AnswersTo, checked, cleared, made, pooled, refused, replayed, verified}
+use Rattle.command_files.specs.Standing.{AreCheckFiles, AreClearFiles, ArePoolFiles, AreReplayFiles, AreVerifyFiles}
 
 -- ---- files stand for one market, or have one first fault
 same-bytes : (a b : List ℕ) (o : Option (List ℕ)) → o ≡ Some a → o ≡ Some b → a ≡ b

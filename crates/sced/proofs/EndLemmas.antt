@@ -7,7 +7,7 @@ use Rattle.command_answers.specs.Tellings.{Telling}
 use Rattle.command_answers.specs.declared.status.Status.{Status}
 use Rattle.command_answers.specs.declared.status.Status.TheVariants as status
 use Rattle.sced.specs.Runs.{Ends, Keeps, told, unwritten}
-use Rattle.sced.proofs.ReadingLemmas.{same_files, same_then}
+use Rattle.command_files.proofs.ReadingLemmas.{same_files, same_then}
 
 -- a write that failed was of a file
 surely : (failed : Type 0) (name bytes : List ℕ) (a b : Option Files) → failed → Wrote failed name bytes a b → Wrote (Unit {0}) name bytes a b

@@ -60,12 +60,15 @@ use Rattle.command_answers.specs.declared.status.Status.{Status}
 use Rattle.command_answers.specs.declared.status.Status.TheVariants as status
 use Rattle.sced.specs.Decided.{AsksSteps, AsksVerdict, as_clear, as_pool}
 use Rattle.sced.specs.Headline.{HasCertificate, IsAsked, IsBest, IsFirstFault, IsMade, IsPriced, IsReplayed, IsReported, IsVerdict, LawOfAsked, LawOfCertificate, LawOfCheck, LawOfCleared, LawOfComplete, LawOfFaults, LawOfInfeasible, LawOfLastCertificate, LawOfMake, LawOfOutside, LawOfRange, LawOfReplay, LawOfRoundTrip, LawOfVerify, RefusesEdit, cleared_ring, for_check, for_clear, for_nothing, for_ring, for_steps, for_verdict, no, passes, range_ring, to_check, to_clear, to_replay, to_verify, with_fault, yes}
-use Rattle.sced.specs.Runs.{IsSilent, Keeps, Outside}
+use Rattle.sced.specs.Runs.{Keeps, Outside}
+use Rattle.command_files.specs.OnlyReads.{IsSilent}
 use Rattle.sced.specs.Runs as ending
-use Rattle.sced.specs.Told.{Answers, AnswersTo, AreCheckFiles, AreClearFiles, ArePoolFiles, AreReplayFiles, AreVerifyFiles, checked, cleared, made, named_bytes, named_outputs, pooled, refused, replayed, verified}
+use Rattle.sced.specs.Told.{Answers, AnswersTo, checked, cleared, made, named_bytes, named_outputs, pooled, refused, replayed, verified}
+use Rattle.command_files.specs.Standing.{AreCheckFiles, AreClearFiles, ArePoolFiles, AreReplayFiles, AreVerifyFiles}
 use Rattle.command_answers.specs.Laws.{Certifies, CertifiesLast, IsYesOrRange}
 use Rattle.command_answers.proofs.RoundTripLemmas.{law_of_the_replay, law_of_the_round_trip, law_of_yes}
 use Rattle.sced.proofs.DecidedLemmas.{check-told, clear-told, make-told, no-other, not-refused, replay-told, verify-told}
+use Rattle.sced.proofs.FailureLemmas.{silent-or}
 use Rattle.sced.proofs.RunLemmas.{IsPrinted, cleared-at, edit-at, printed, refused-at, refused-status, reported}
 
 -- ---- cleared and infeasible
@@ -89,19 +92,19 @@ right-best m a market right = (
 )
 
 pub law_of_cleared : LawOfCleared
-law_of_cleared words files text s m a prints reports =
-    let is = reported words files text s m (outcome.Cleared a) _ (printed words files text s prints) reports in
+law_of_cleared words files text s m a place prints reports =
+    let is = reported words files text s m (outcome.Cleared a) place _ (printed words files text s prints) reports in
     right-best m a is.market is.right
 
 pub law_of_infeasible : LawOfInfeasible
-law_of_infeasible words files text s m f prints reports =
-    let is = reported words files text s m (outcome.Infeasible f) _ (printed words files text s prints) reports in
+law_of_infeasible words files text s m f place prints reports =
+    let is = reported words files text s m (outcome.Infeasible f) place _ (printed words files text s prints) reports in
     ((λ x. law_of_infeasibility m f.duals x is.market is.right.shows), is.right)
 
 -- ---- range
 pub law_of_range : LawOfRange
-law_of_range words files text s m p prints reports =
-    let is = reported words files text s m (outcome.Range p) _ (printed words files text s prints) reports in
+law_of_range words files text s m p place prints reports =
+    let is = reported words files text s m (outcome.Range p) place _ (printed words files text s prints) reports in
     record { taken = is.taken; begins = is.begins; pair = is.right; sides = is.sides }
 
 -- ---- complete
@@ -117,7 +120,7 @@ pub law_of_complete : LawOfComplete
 law_of_complete words files text s prints =
     let p = printed words files text s prints in (
       λ m asks. market-reported m p.telling text s p.text_is p.status_is (clear-told files words p.telling p.written (Ok m) p.answers asks),
-      λ m o reports. (let is = reported words files text s m o _ p reports in
+      λ m o place reports. (let is = reported words files text s m o place _ p reports in
           record { taken = is.taken; begins = is.begins; decided = λ none. law_of_completeness m is.taken most_size o is.market none is.right }),
     )
 
@@ -227,7 +230,7 @@ module _ (m : Parts) (c : Cert Fraction) (apart : RowsAreDistinct c) (text : Lis
       subst (IsVerdict m c text) (sym (ap (λ (x : Telling). x.status) is) ∙ ends) (verdict-by (first_reason m c) refl line)
   verdict-of t s words ends (passed p pair within is) =
       let line = sym words ∙ ap (λ (x : Telling). x.text) is in
-      subst (IsVerdict m c text) (sym (ap (λ (x : Telling). x.status) is) ∙ ends) (passes p pair line)
+      subst (IsVerdict m c text) (sym (ap (λ (x : Telling). x.status) is) ∙ ends) (passes p pair within line)
 
 pub law_of_verify : LawOfVerify
 law_of_verify words files text s m c prints asks =
@@ -295,7 +298,7 @@ had-of certificate had has is h = subst (λ x. HasText (option_map cert_text x) 
 certificate-kept : (holds : List ℕ → Cert Fraction → Type 0) (certificate : Option (Cert Fraction)) (had has : Option (List ℕ)) → HasText (option_map cert_text certificate) had has
     → ((c : Cert Fraction) → certificate ≡ Some c → holds (cert_text c) c) → HasCertificate holds certificate had has
 certificate-kept holds certificate had has h each = record {
-  some = λ c is. (cert_text c, text-of certificate had has c is h, each c is);
+  some = λ c is. (text-of certificate had has c is h, each c is);
   none = λ is. had-of certificate had has is h;
 }
 
@@ -374,15 +377,38 @@ law_of_check words files text s inputs prints asks =
     check-of inputs p.telling text s p.text_is p.status_is (check-told files words p.telling p.written (Ok inputs) p.answers asks)
 
 -- ---- faults
+-- nothing is written where there is no certificate
+no-outputs : (file : Option (List ℕ)) (o : Outputs (List ℕ)) → o.certificate ≡ None → named_outputs (certified file) o ≡ []
+no-outputs (Some name) o none = ap (λ c. named_bytes (Some name) c []) none
+no-outputs None o none = refl
+
+none-written : (files : Files) (words : List (List ℕ)) (t : Telling) (w : List (List ℕ × List ℕ)) → t.outputs.certificate ≡ None → AnswersTo (Some files) words t w → w ≡ []
+none-written files words t _ none (refused nothing usage) = refl
+none-written files words t _ none (pooled case offers asked tells) = refl
+none-written files words t _ none (cleared names file asked tells) = no-outputs file t.outputs none
+none-written files words t _ none (replayed names edits file asked tells) = no-outputs file t.outputs none
+none-written files words t _ none (verified names edits certificate asked tells) = refl
+none-written files words t _ none (checked names asked tells) = refl
+none-written files words t _ none (made buses seed asked makes) = refl
+
 module _ (words : List (List ℕ)) (files : Files) (text : List ℕ) (s : Status) (after : Option Files) (p : IsPrinted words files after text s) where
   refusal-put : (r : Refusal) → p.telling ≡ refusal_of r → (s ≡ status.Refused) × (text ≡ refusal_line r)
   refusal-put r is = (sym p.status_is ∙ ap (λ (t : Telling). t.status) is, sym p.text_is ∙ ap (λ (t : Telling). t.text) is)
 
-  fault-told : (r : Refusal) → IsFirstFault words files r → (s ≡ status.Refused) × (text ≡ refusal_line r)
-  fault-told r (to_clear asks) = refusal-put r (clear-told files words p.telling p.written (Err r) p.answers asks)
-  fault-told r (to_replay asks) = refusal-put r (replay-told files words p.telling p.written (Err r) p.answers asks)
-  fault-told r (to_verify asks) = refusal-put r (verify-told files words p.telling p.written (Err r) p.answers asks)
-  fault-told r (to_check asks) = refusal-put r (check-told files words p.telling p.written (Err r) p.answers asks)
+  -- and no file is touched
+  refusal-alone : (r : Refusal) → p.telling ≡ refusal_of r → (s ≡ status.Refused) × (text ≡ refusal_line r) × SameFiles (Some files) after
+  refusal-alone r is =
+      let here = refusal-put r is in
+      (here.0, here.1, kept-none p.written after (none-written files words p.telling p.written (ap (λ (t : Telling). t.outputs.certificate) is) p.answers) p.kept)
+    where
+      kept-none : (w : List (List ℕ × List ℕ)) (now : Option Files) → w ≡ [] → Keeps ⊥ w (Some files) now → SameFiles (Some files) now
+      kept-none w now is kept = (subst (λ x. Keeps ⊥ x (Some files) now) is kept).1
+
+  fault-told : (r : Refusal) → IsFirstFault words files r → (s ≡ status.Refused) × (text ≡ refusal_line r) × SameFiles (Some files) after
+  fault-told r (to_clear asks) = refusal-alone r (clear-told files words p.telling p.written (Err r) p.answers asks)
+  fault-told r (to_replay asks) = refusal-alone r (replay-told files words p.telling p.written (Err r) p.answers asks)
+  fault-told r (to_verify asks) = refusal-alone r (verify-told files words p.telling p.written (Err r) p.answers asks)
+  fault-told r (to_check asks) = refusal-alone r (check-told files words p.telling p.written (Err r) p.answers asks)
 
   abbrev Why : Type 0
   Why = ((r : Refusal) × IsFirstFault words files r × (text ≡ refusal_line r)) ⊎ RefusesEdit words files
@@ -473,24 +499,6 @@ law_of_make words files text s buses seed prints asks =
     ring-made buses seed p.telling text s p.text_is p.status_is (ring-answer most_size buses seed p.telling (make-told (Some files) words p.telling buses seed asks p.written p.answers))
 
 -- ---- outside
-silent-or : (s : Status) → IsSilent s ⊎ ¬ (IsSilent s)
-silent-or s = by s
-  where
-    neither : (s : Status) → (s ≡ status.ReadFailed → ⊥) → (s ≡ status.Memory → ⊥) → ¬ (IsSilent s)
-    neither s a b (inl e) = a e
-    neither s a b (inr e) = b e
-
-    by : (s : Status) → IsSilent s ⊎ ¬ (IsSilent s)
-    by status.Done = inr (neither status.Done (λ e. cc e) (λ e. cc e))
-    by status.Usage = inr (neither status.Usage (λ e. cc e) (λ e. cc e))
-    by status.Refused = inr (neither status.Refused (λ e. cc e) (λ e. cc e))
-    by status.Infeasible = inr (neither status.Infeasible (λ e. cc e) (λ e. cc e))
-    by status.Range = inr (neither status.Range (λ e. cc e) (λ e. cc e))
-    by status.ReadFailed = inl (inl refl)
-    by status.WriteFailed = inr (neither status.WriteFailed (λ e. cc e) (λ e. cc e))
-    by status.Memory = inl (inr refl)
-    by status.Refuted = inr (neither status.Refuted (λ e. cc e) (λ e. cc e))
-
 -- each file that is written is one of these
 abbrev AreNamed : (List ℕ → Type 0) → List (List ℕ × List ℕ) → Type 0
 AreNamed P [] = Unit {0}

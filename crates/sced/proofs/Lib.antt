@@ -1,8 +1,7 @@
 pub mod AnswerLemmas
 pub mod DecidedLemmas
 pub mod EndLemmas
-pub mod FileLemmas
+mod FailureLemmas
 mod HeadlineLemmas
 mod PromiseLemmas
-pub mod ReadingLemmas
 mod RunLemmas

@@ -34,7 +34,8 @@ use Rattle.command_answers.specs.declared.status.Status.{Status}
 use Rattle.command_answers.specs.declared.status.Status.TheVariants as status
 use Rattle.sced.specs.Decided.{AsksMarket, AsksSteps}
 use Rattle.sced.specs.Headline.{BeginsWith, Prints, Reports, in_clear, in_replay, of_clear, of_step, outcome_of_edit}
-use Rattle.sced.specs.Runs.{Ends, IsSilent, IsTold, Keeps, told, unwritten}
+use Rattle.sced.specs.Runs.{Ends, IsTold, Keeps, told, unwritten}
+use Rattle.command_files.specs.OnlyReads.{IsSilent}
 use Rattle.sced.specs.Told.{Answers, AnswersTo}
 use Rattle.sced.proofs.DecidedLemmas.{clear-told, replay-told}
 
@@ -184,22 +185,22 @@ sides-at bound (x ∷ outcomes) zero o all is = sides-here bound x o (All-head (
 sides-at bound (x ∷ outcomes) (suc k) o all is = sides-at bound outcomes k o (All-tail (AreStepSidesWithin bound) x outcomes all) is
 
 -- what a clear that the words ask for came to, and with which rows it began
-pub record IsOutcomeOf (words : List (List ℕ)) (files : Files) (text : List ℕ) (m : Parts) (o : Outcome Fraction) : Type 0 where
+pub record IsOutcomeOf (words : List (List ℕ)) (files : Files) (text : List ℕ) (m : Parts) (o : Outcome Fraction) (place : ℕ) : Type 0 where
   pub market : IsMarket m
   pub taken : List Row
-  pub begins : BeginsWith words files text m taken
+  pub begins : BeginsWith words files text m place taken
   pub right : IsRightOutcome most_size m taken o
   pub sides : AreSidesWithin most_size o
 
 module _ (words : List (List ℕ)) (files : Files) (text : List ℕ) (m : Parts) (o : Outcome Fraction) (t : Telling) where
-  clear-outcome : AsksMarket files words m → OutcomeFitsReport m o → t.text ≡ report_text m o → TellsClear m t → IsOutcomeOf words files text m o
+  clear-outcome : AsksMarket files words m → OutcomeFitsReport m o → t.text ≡ report_text m o → TellsClear m t → IsOutcomeOf words files text m o 0
   clear-outcome asks fits is (market, clears) =
       let same : clears.outcome ≡ o = reports_apart m clears.outcome o (outcome_fits m clears.outcome (right_in most_size m [] clears.outcome clears.right)) fits (sym clears.text_is ∙ is) in
       record { market = market; taken = []; begins = in_clear asks; right = subst (IsRightOutcome most_size m []) same clears.right; sides = subst (AreSidesWithin most_size) same clears.sides }
 
   step-outcome : (start : Parts) (steps : List Step) (outcomes : List (StepOutcome Fraction)) (k : ℕ) → AsksSteps files words start steps → OutcomesFit start steps outcomes
       → t.text ≡ replayed start steps outcomes → text ≡ replayed start steps outcomes → slice_get outcomes k ≡ Some (reply.Clear o) → m ≡ edited_by start (take k steps)
-      → TellsReplay (record { market = start; steps = steps }) t → IsOutcomeOf words files text m o
+      → TellsReplay (record { market = start; steps = steps }) t → IsOutcomeOf words files text m o k
   step-outcome start steps outcomes k asks fits is text_is at edited (market, replays) =
       let same : replays.outcomes ≡ outcomes = replays_read_apart start steps replays.outcomes outcomes (replay_fits most_size start [] replays.taken steps replays.outcomes replays.right) fits (sym replays.text_is ∙ is) in
       let right = subst (λ (os : List (StepOutcome Fraction)). IsReplay most_size start [] steps os replays.taken) same replays.right in
@@ -207,13 +208,14 @@ module _ (words : List (List ℕ)) (files : Files) (text : List ℕ) (m : Parts)
       record {
         market = subst IsMarket (sym edited) (replays.markets k);
         taken = here.taken;
-        begins = in_replay start steps outcomes k here.taken asks text_is edited here.replay;
+        begins = in_replay start steps outcomes k here.taken asks fits text_is edited here.replay;
         right = subst (λ (n : Parts). IsRightOutcome most_size n here.taken o) (sym edited) here.clear.right;
         sides = sides-at most_size outcomes k o (subst (All (AreStepSidesWithin most_size)) same replays.sides) at;
       }
 
-pub reported : (words : List (List ℕ)) (files : Files) (text : List ℕ) (s : Status) (m : Parts) (o : Outcome Fraction) (after : Option Files) → IsPrinted words files after text s → Reports words files text m o → IsOutcomeOf words files text m o
-reported words files text s m o after p (of_clear asks fits is) = clear-outcome words files text m o p.telling asks fits (p.text_is ∙ is) (clear-told files words p.telling p.written (Ok m) p.answers asks)
-reported words files text s m o after p (of_step start steps outcomes k asks fits is at edited) =
+pub reported : (words : List (List ℕ)) (files : Files) (text : List ℕ) (s : Status) (m : Parts) (o : Outcome Fraction) (place : ℕ) (after : Option Files) → IsPrinted words files after text s → Reports words files text m o place
+    → IsOutcomeOf words files text m o place
+reported words files text s m o _ after p (of_clear asks fits is) = clear-outcome words files text m o p.telling asks fits (p.text_is ∙ is) (clear-told files words p.telling p.written (Ok m) p.answers asks)
+reported words files text s m o _ after p (of_step start steps outcomes k asks fits is at edited) =
     step-outcome words files text m o p.telling start steps outcomes k asks fits (p.text_is ∙ is) is at edited
     (replay-told files words p.telling p.written (Ok (record { market = start; steps = steps })) p.answers asks)

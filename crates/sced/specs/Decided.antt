@@ -20,7 +20,7 @@ use Rattle.command_answers.specs.declared.status.Status.TheVariants as status
 use Rattle.market_inputs.specs.declared.checking.Inputs.{Inputs}
 use Rattle.refusal_text.specs.declared.refusals.Refusal.{Refusal}
 use Rattle.command_answers.specs.Inputs.{MarketCertificate, MarketSteps}
-use Rattle.sced.specs.Told.{AreCheckFiles, AreClearFiles, ArePoolFiles, AreReplayFiles, AreVerifyFiles}
+use Rattle.command_files.specs.Standing.{AreCheckFiles, AreClearFiles, ArePoolFiles, AreReplayFiles, AreVerifyFiles}
 
 -- the status says whether a dispatch of the market is feasible
 pub record Decides (m : Parts) (s : Status) : Type 0 where

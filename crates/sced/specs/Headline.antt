@@ -7,7 +7,8 @@ use Rattle.fraction_theory.specs.Fraction.{Fraction}
 use Rattle.fraction_theory.specs.Order.{◌≤ℚ◌}
 use Rattle.fraction_theory.specs.Sums.{sum_by}
 use Rattle.exact_fraction.specs.declared.Passed.{Passed}
-use Rattle.outside_store.specs.Files.{Files}
+use Rattle.outside_store.specs.Causes.{Rose, Still}
+use Rattle.outside_store.specs.Files.{Files, SameFiles}
 use Rattle.market_model.specs.declared.answered.Answer.{Answer}
 use Rattle.market_model.specs.declared.answered.Farkas.{Farkas}
 use Rattle.market_model.specs.declared.answered.Outcome.{Outcome}
@@ -24,6 +25,7 @@ use Rattle.market_system.specs.Outcomes.{IsDecided}
 use Rattle.market_system.specs.WorkingPairs.{IsRangeOf, NoPairPasses}
 use Rattle.case_maker.specs.Rings.{ring_of}
 use Rattle.cert_format.specs.Certificates.{cert_of_outcome}
+use Rattle.cert_format.specs.Written.{cert_text}
 use Rattle.cert_format.specs.declared.certificate.Cert.{Cert}
 use Rattle.cert_verify.specs.Certificates.{IsTrueOf, first_reason}
 use Rattle.offer_book.specs.Edits.{judge}
@@ -40,7 +42,7 @@ use Rattle.replay_text.specs.ReplayTextLaws.{OutcomesFit}
 use Rattle.replay_text.specs.ReplayTexts.{replayed}
 use Rattle.refusal_text.specs.Refusals.{refusal_line}
 use Rattle.refusal_text.specs.declared.refusals.Refusal.{Refusal}
-use Rattle.command_words.specs.Words.{AsksClear, AsksMake, AsksNothing, AsksReplay, MarketNames, NamesToWrite}
+use Rattle.command_words.specs.Words.{AsksClear, AsksMake, AsksNothing, AsksReplay, MarketNames, NamesFile, NamesToWrite}
 use Rattle.residual_text.specs.ResidualLines.{residuals_text}
 use Rattle.market_inputs.specs.declared.checking.Inputs.{Inputs}
 use Rattle.command_answers.specs.Checking.{AreResiduals, check_status_of}
@@ -56,7 +58,9 @@ use Rattle.command_answers.specs.declared.status.Status.{Status}
 use Rattle.command_answers.specs.declared.status.Status.TheVariants as status
 use Rattle.sced.specs.Decided.{AsksMarket, AsksSteps, AsksVerdict, AsksToCheck, AsksToClear, AsksToReplay, AsksToVerify}
 use Rattle.sced.specs.Promise.{Runs}
-use Rattle.sced.specs.Runs.{IsTold, Outside}
+use Rattle.command_files.specs.OnlyReads.{IsSilent}
+use Rattle.sced.specs.Runs.{IsTold, LeavesAll, Outside}
+use Rattle.sced.specs.Told.{Answers}
 
 -- ---- what a run prints
 -- A run of these words over these files put this text behind what was put before, and ended with this status: no call failed, and memory was
@@ -93,19 +97,20 @@ abbrev pub LawOfAsked : Type 0
 LawOfAsked = (words : List (List ℕ)) (files : Files) (text : List ℕ) (s : Status) → Prints words files text s → IsAsked words files s
 
 -- ---- what is reported
--- The words ask to clear this market, and the text is the report of this outcome; or they ask for steps, the text is that of outcomes of
--- these, and this is one of a clear, of the market as the steps before it edit it.
-pub data Reports (words : List (List ℕ)) (files : Files) (text : List ℕ) (m : Parts) (o : Outcome Fraction) : Type 0 where
-  of_clear : AsksMarket files words m → OutcomeFitsReport m o → text ≡ report_text m o → Reports words files text m o
-  of_step : (start : Parts) (steps : List Step) (outcomes : List (StepOutcome Fraction)) (k : ℕ) → AsksSteps files words start steps → OutcomesFit start steps outcomes
-      → text ≡ replayed start steps outcomes → slice_get outcomes k ≡ Some (reply.Clear o) → m ≡ edited_by start (take k steps) → Reports words files text m o
+-- The words ask to clear this market, and the text is the report of this outcome, at place 0; or they ask for steps, the text is that of
+-- outcomes of these, and at this place is this one of a clear, of the market as the steps before it edit it.
+pub data Reports (words : List (List ℕ)) (files : Files) (text : List ℕ) (m : Parts) (o : Outcome Fraction) : ℕ → Type 0 where
+  of_clear : AsksMarket files words m → OutcomeFitsReport m o → text ≡ report_text m o → Reports words files text m o 0
+  of_step : (start : Parts) (steps : List Step) (outcomes : List (StepOutcome Fraction)) (k : ℕ) → AsksSteps files words start steps
+      → OutcomesFit start steps outcomes → text ≡ replayed start steps outcomes → slice_get outcomes k ≡ Some (reply.Clear o)
+      → m ≡ edited_by start (take k steps) → Reports words files text m o k
 
--- the rows with which that clear begins: none, or in a replay those with which the clears before it ended
-pub data BeginsWith (words : List (List ℕ)) (files : Files) (text : List ℕ) (m : Parts) : List Row → Type 0 where
-  in_clear : AsksMarket files words m → BeginsWith words files text m []
+-- the rows with which the clear at that place begins: none, or in a replay those with which the clears before it ended
+pub data BeginsWith (words : List (List ℕ)) (files : Files) (text : List ℕ) (m : Parts) : ℕ → List Row → Type 0 where
+  in_clear : AsksMarket files words m → BeginsWith words files text m 0 []
   in_replay : (start : Parts) (steps : List Step) (outcomes : List (StepOutcome Fraction)) (k : ℕ) (taken : List Row) → AsksSteps files words start steps
-      → text ≡ replayed start steps outcomes → m ≡ edited_by start (take k steps) → IsReplay most_size start [] (take k steps) (take k outcomes) taken
-      → BeginsWith words files text m taken
+      → OutcomesFit start steps outcomes → text ≡ replayed start steps outcomes → m ≡ edited_by start (take k steps)
+      → IsReplay most_size start [] (take k steps) (take k outcomes) taken → BeginsWith words files text m k taken
 
 -- ---- cleared
 -- within the offers, in balance, and within every limit of the base and after every listed outage; and no dispatch that is so is worth more
@@ -127,14 +132,14 @@ pub record IsPriced (m : Parts) (a : Answer Fraction) : Type 0 where
 
 -- what is printed as cleared is best, and priced by duals that support it
 abbrev pub LawOfCleared : Type 0
-LawOfCleared = (words : List (List ℕ)) (files : Files) (text : List ℕ) (s : Status) (m : Parts) (a : Answer Fraction)
-    → Prints words files text s → Reports words files text m (Cleared a) → IsBest m (dispatch_in a) × IsPriced m a
+LawOfCleared = (words : List (List ℕ)) (files : Files) (text : List ℕ) (s : Status) (m : Parts) (a : Answer Fraction) (place : ℕ)
+    → Prints words files text s → Reports words files text m (Cleared a) place → IsBest m (dispatch_in a) × IsPriced m a
 
 -- ---- infeasible
 -- where infeasible is printed no dispatch qualifies, and the printed duals, which name rows of the market, show it with the printed bound
 abbrev pub LawOfInfeasible : Type 0
-LawOfInfeasible = (words : List (List ℕ)) (files : Files) (text : List ℕ) (s : Status) (m : Parts) (f : Farkas Fraction)
-    → Prints words files text s → Reports words files text m (Infeasible f)
+LawOfInfeasible = (words : List (List ℕ)) (files : Files) (text : List ℕ) (s : Status) (m : Parts) (f : Farkas Fraction) (place : ℕ)
+    → Prints words files text s → Reports words files text m (Infeasible f) place
     → ((x : Dispatch) → ¬ (Feasible m x)) × IsFarkas m f
 
 -- ---- replay
@@ -167,73 +172,76 @@ pub record IsReported (m : Parts) (text : List ℕ) (s : Status) : Type 0 where
 
 -- and where no working pair passes 127 bits, over rows that are reached from those with which a clear begins, what is reported of it is cleared
 -- where some dispatch qualifies, and infeasible where none does
-pub record IsDecidedFrom (words : List (List ℕ)) (files : Files) (text : List ℕ) (m : Parts) (o : Outcome Fraction) : Type 0 where
+pub record IsDecidedFrom (words : List (List ℕ)) (files : Files) (text : List ℕ) (m : Parts) (o : Outcome Fraction) (place : ℕ) : Type 0 where
   pub taken : List Row
-  pub begins : BeginsWith words files text m taken
+  pub begins : BeginsWith words files text m place taken
   pub decided : NoPairPasses m taken most_size → IsDecided m o
 
 abbrev pub LawOfComplete : Type 0
 LawOfComplete = (words : List (List ℕ)) (files : Files) (text : List ℕ) (s : Status) → Prints words files text s
     → ((m : Parts) → AsksMarket files words m → IsReported m text s)
-    × ((m : Parts) (o : Outcome Fraction) → Reports words files text m o → IsDecidedFrom words files text m o)
+    × ((m : Parts) (o : Outcome Fraction) (place : ℕ) → Reports words files text m o place → IsDecidedFrom words files text m o place)
 
 -- ---- range
 -- Two numbers, each within 127 bits, that are a working pair of the market, over rows that are reached from those with which its clear begins:
 -- the pair passes 127 bits.
-pub record IsRangeFrom (words : List (List ℕ)) (files : Files) (text : List ℕ) (m : Parts) (p : Passed Fraction) : Type 0 where
+pub record IsRangeFrom (words : List (List ℕ)) (files : Files) (text : List ℕ) (m : Parts) (p : Passed Fraction) (place : ℕ) : Type 0 where
   pub taken : List Row
-  pub begins : BeginsWith words files text m taken
+  pub begins : BeginsWith words files text m place taken
   pub pair : IsRangeOf m taken most_size p
   pub sides : ArePassedWithin most_size p
 
 -- where range is printed the two printed numbers are so
 abbrev pub LawOfRange : Type 0
-LawOfRange = (words : List (List ℕ)) (files : Files) (text : List ℕ) (s : Status) (m : Parts) (p : Passed Fraction)
-    → Prints words files text s → Reports words files text m (Range p) → IsRangeFrom words files text m p
+LawOfRange = (words : List (List ℕ)) (files : Files) (text : List ℕ) (s : Status) (m : Parts) (p : Passed Fraction) (place : ℕ)
+    → Prints words files text s → Reports words files text m (Range p) place → IsRangeFrom words files text m p place
 
 -- ---- verify
--- yes where the certificate is true of the market, no with the first reason where it is not, or two numbers of its sums that pass 127 bits,
--- where no reason before their sum holds
+-- yes where the certificate is true of the market, no with the first reason where it is not, or two numbers of its sums, each within 127 bits,
+-- that pass these together, where no reason before their sum holds
 pub data IsVerdict (m : Parts) (c : Cert Fraction) (text : List ℕ) : Status → Type 0 where
   yes : IsTrueOf m c → text ≡ codes "yes\n" → IsVerdict m c text status.Done
   no : ¬ (IsTrueOf m c) → text ≡ verdict_line (first_reason m c) → IsVerdict m c text status.Refuted
-  passes : (p : Passed Fraction) → IsCertificateStop m most_size c p → text ≡ range_text p → IsVerdict m c text status.Range
+  passes : (p : Passed Fraction) → IsCertificateStop m most_size c p → ArePassedWithin most_size p → text ≡ range_text p → IsVerdict m c text status.Range
 
 abbrev pub LawOfVerify : Type 0
 LawOfVerify = (words : List (List ℕ)) (files : Files) (text : List ℕ) (s : Status) (m : Parts) (c : Cert Fraction)
     → Prints words files text s → AsksVerdict files words m c → IsVerdict m c text s
 
 -- ---- certificate
--- a file has the text of this certificate, of which that holds; or it has what it had, where there is no certificate
+-- a file has the text of this certificate and nothing more, of which that holds; or it has what it had, where there is no certificate
 pub record HasCertificate (holds : List ℕ → Cert Fraction → Type 0) (certificate : Option (Cert Fraction)) (had has : Option (List ℕ)) : Type 0 where
-  pub some : (c : Cert Fraction) → certificate ≡ Some c → (text : List ℕ) × (has ≡ Some text) × holds text c
+  pub some : (c : Cert Fraction) → certificate ≡ Some c → (has ≡ Some (cert_text c)) × holds (cert_text c) c
   pub none : certificate ≡ None → has ≡ had
 
 -- the file that the words name for it has the certificate of the outcome that is reported, which is read as it is and is true of the market
 abbrev pub LawOfCertificate : Type 0
-LawOfCertificate = (words : List (List ℕ)) (files later : Files) (text : List ℕ) (s : Status) (names : MarketNames) (file : List ℕ) (m : Parts) (o : Outcome Fraction)
-    → (clear : Prints words files text s) → clear.after.files ≡ Some later → AsksClear words names (Some file) → AsksMarket files words m
+LawOfCertificate = (words : List (List ℕ)) (files later : Files) (text : List ℕ) (s : Status) (names : MarketNames) (file : List ℕ) (m : Parts)
+    (o : Outcome Fraction) → (clear : Prints words files text s) → clear.after.files ≡ Some later → AsksClear words names (Some file) → AsksMarket files words m
     → OutcomeFitsReport m o → text ≡ report_text m o → HasCertificate (Certifies m) (cert_of_outcome o) (files file) (later file)
 
 -- in a replay, that of the last clear and of the market as the steps before it edit it
 abbrev pub LawOfLastCertificate : Type 0
-LawOfLastCertificate = (words : List (List ℕ)) (files later : Files) (text : List ℕ) (s : Status) (names : MarketNames) (edits file : List ℕ) (r : MarketSteps) (outcomes : List (StepOutcome Fraction))
-    → (replay : Prints words files text s) → replay.after.files ≡ Some later → AsksReplay words names edits (Some file) → AsksToReplay files words (Ok r)
+LawOfLastCertificate = (words : List (List ℕ)) (files later : Files) (text : List ℕ) (s : Status) (names : MarketNames) (edits file : List ℕ)
+    (r : MarketSteps) (outcomes : List (StepOutcome Fraction)) → (replay : Prints words files text s) → replay.after.files ≡ Some later
+    → AsksReplay words names edits (Some file) → AsksToReplay files words (Ok r)
     → OutcomesFit r.market r.steps outcomes → text ≡ replayed r.market r.steps outcomes
     → HasCertificate (CertifiesLast r) (option_and_then cert_of_outcome (last_clear None outcomes)) (files file) (later file)
 
 -- ---- round trip
 -- of what a clear of a market wrote `verify` says yes against that market, or that numbers are too large
 abbrev pub LawOfRoundTrip : Type 0
-LawOfRoundTrip = (words again : List (List ℕ)) (files later : Files) (text answer : List ℕ) (s t : Status) (names : MarketNames) (file : List ℕ) (m : Parts) (c : Cert Fraction)
-    → (clear : Prints words files text s) → clear.after.files ≡ Some later → AsksClear words names (Some file) → AsksMarket files words m
+LawOfRoundTrip = (words again : List (List ℕ)) (files later : Files) (text answer : List ℕ) (s t : Status) (names : MarketNames) (file : List ℕ)
+    (m : Parts) (c : Cert Fraction) → (clear : Prints words files text s) → clear.after.files ≡ Some later
+    → AsksClear words names (Some file) → AsksMarket files words m
     → (s ≡ status.Done) ⊎ (s ≡ status.Infeasible) → Prints again later answer t → (asks : AsksVerdict later again m c) → asks.certificate ≡ file
     → ((t ≡ status.Done) × (answer ≡ codes "yes\n")) ⊎ (t ≡ status.Range)
 
 -- ---- check
 -- the residuals of the tables are told, and whether they are within what rounding explains
 abbrev pub LawOfCheck : Type 0
-LawOfCheck = (words : List (List ℕ)) (files : Files) (text : List ℕ) (s : Status) (inputs : Inputs) → Prints words files text s → AsksToCheck files words (Ok inputs)
+LawOfCheck = (words : List (List ℕ)) (files : Files) (text : List ℕ) (s : Status) (inputs : Inputs)
+    → Prints words files text s → AsksToCheck files words (Ok inputs)
     → (r : Residuals) × AreResiduals inputs r × (s ≡ check_status_of r) × (text ≡ residuals_text r.bus r.round r.outage_bus r.outage_round)
 
 -- ---- faults
@@ -248,22 +256,23 @@ pub record RefusesEdit (words : List (List ℕ)) (files : Files) : Type 0 where
   pub fault : EditFault
   pub refused : judge (edited_by market (take place steps)) edit ≡ Some fault
 
--- a fault of the files is told wherever there is one, and its status only there or for an edit that is refused
+-- a fault of the files is told wherever there is one, and no file is touched then; and its status comes only there or for an edit that is refused
 abbrev pub LawOfFaults : Type 0
-LawOfFaults = (words : List (List ℕ)) (files : Files) (text : List ℕ) (s : Status) → Prints words files text s
-    → ((r : Refusal) → IsFirstFault words files r → (s ≡ status.Refused) × (text ≡ refusal_line r))
+LawOfFaults = (words : List (List ℕ)) (files : Files) (text : List ℕ) (s : Status) → (run : Prints words files text s)
+    → ((r : Refusal) → IsFirstFault words files r → (s ≡ status.Refused) × (text ≡ refusal_line r) × SameFiles (Some files) run.after.files)
     × (s ≡ status.Refused → ((r : Refusal) × IsFirstFault words files r × (text ≡ refusal_line r)) ⊎ RefusesEdit words files)
 
 -- ---- make
 -- the worth and the surplus of an answer that is best and priced, or two numbers of the ring as above; where no pair passes it is cleared
 pub data IsMade (buses seed : ℕ) (text : List ℕ) : Status → Type 0 where
-  cleared_ring : (a : Answer Fraction) → IsBest (ring_of buses seed) (dispatch_in a) → IsPriced (ring_of buses seed) a → text ≡ ring_line buses seed ++ summary a
-      → IsMade buses seed text status.Done
+  cleared_ring : (a : Answer Fraction) → IsBest (ring_of buses seed) (dispatch_in a) → IsPriced (ring_of buses seed) a
+      → text ≡ ring_line buses seed ++ summary a → IsMade buses seed text status.Done
   range_ring : (p : Passed Fraction) → IsRangeOf (ring_of buses seed) [] most_size p → ArePassedWithin most_size p → text ≡ ring_line buses seed ++ range_text p
       → IsMade buses seed text status.Range
 
 abbrev pub LawOfMake : Type 0
-LawOfMake = (words : List (List ℕ)) (files : Files) (text : List ℕ) (s : Status) (buses seed : ℕ) → Prints words files text s → AsksMake words buses seed → IsMade buses seed text s
+LawOfMake = (words : List (List ℕ)) (files : Files) (text : List ℕ) (s : Status) (buses seed : ℕ)
+    → Prints words files text s → AsksMake words buses seed → IsMade buses seed text s
 
 -- ---- outside
 -- no file is touched but those that the words name for writing
@@ -272,3 +281,33 @@ pub record TouchesOnly (words : List (List ℕ)) (before after : Outside) : Type
 
 abbrev pub LawOfOutside : Type 0
 LawOfOutside = (words : List (List ℕ)) (before after : Outside) (s : Status) → Runs words before after s → TouchesOnly words before after
+
+-- ---- answered
+-- no failed call is counted, of a read, of a write or of a put
+pub record NoneFails (before after : Outside) : Type 0 where
+  pub reads : (n : List ℕ) → ¬ (Rose (before.failed_reads n) (after.failed_reads n))
+  pub writes : (n : List ℕ) → ¬ (Rose (before.failed_writes n) (after.failed_writes n))
+  pub puts : ¬ (Rose before.failed_puts after.failed_puts)
+
+-- where none is, a run puts a text behind what was put before, and its status is one that comes with a text; or memory was refused
+abbrev pub LawOfAnswered : Type 0
+LawOfAnswered = (words : List (List ℕ)) (before after : Outside) (s : Status) (earlier : List ℕ) → Runs words before after s
+    → before.taken ≡ Some earlier → NoneFails before after → (s ≡ status.Memory) ⊎ (IsTold s × ((text : List ℕ) × (after.taken ≡ Some (earlier ++ text))))
+
+-- ---- cut short
+-- Where a read failed or memory was refused, nothing is put and every file is as it was. Where a failed write is counted, nothing is put. Where
+-- a write or a put failed, what is put is a beginning of what is right to tell, or nothing.
+pub record IsCutShort (words : List (List ℕ)) (before after : Outside) (s : Status) : Type 0 where
+  pub silent : IsSilent s → LeavesAll before after
+  pub unwritten : ¬ (Still before.failed_writes after.failed_writes) → after.taken ≡ before.taken
+  pub begun : (earlier now : List ℕ) → s ≡ status.WriteFailed → before.taken ≡ Some earlier → after.taken ≡ Some now
+      → (right : Answers words before after s) × (k : ℕ) × (now ≡ earlier ++ take k right.telling.text)
+
+abbrev pub LawOfCutShort : Type 0
+LawOfCutShort = (words : List (List ℕ)) (before after : Outside) (s : Status) → Runs words before after s → IsCutShort words before after s
+
+-- ---- missing
+-- where a file that the words name for reading is not there, nothing is told
+abbrev pub LawOfMissing : Type 0
+LawOfMissing = (words : List (List ℕ)) (before after : Outside) (s : Status) (files : Files) (file : List ℕ) → Runs words before after s
+    → before.files ≡ Some files → NamesFile words file → files file ≡ None → IsSilent s

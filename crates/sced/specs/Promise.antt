@@ -3,7 +3,8 @@ use Rattle.std.specs.Prelude.{◌≡◌, ℕ, List}
 use Rattle.outside_store.specs.Causes.{Still}
 use Rattle.command_answers.specs.declared.status.Status.{Status}
 use Rattle.sced.specs.Decided.{IsDecidedOf, IsMadeOf}
-use Rattle.sced.specs.Runs.{CountsReads, CountsWrites, IsSilent, IsTold, LeavesAll, Outside, TellsUsage}
+use Rattle.sced.specs.Runs.{CountsReads, CountsWrites, IsTold, LeavesAll, Outside, TellsUsage}
+use Rattle.command_files.specs.OnlyReads.{IsSilent}
 use Rattle.sced.specs.Told.{Answers}
 
 -- a run of these words, from what was outside before to what is after it, ends with this status

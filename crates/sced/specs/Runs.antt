@@ -24,10 +24,6 @@ pub record Outside : Type 0 where
 abbrev pub outside_of : {S K : Type 0} → Store.Ghosts S → Sink.Ghosts K → S → K → Outside
 outside_of store sink s k = record { files = store.files s; failed_reads = store.failed_reads s; failed_writes = store.failed_writes s; taken = sink.taken k; failed_puts = sink.faults k }
 
--- a status that comes with no text
-abbrev pub IsSilent : Status → Type 0
-IsSilent s = (s ≡ status.ReadFailed) ⊎ (s ≡ status.Memory)
-
 -- a status that comes with a text, where that can be put
 abbrev pub IsTold : Status → Type 0
 IsTold status.Done = Unit {0}
@@ -39,14 +35,6 @@ IsTold status.Refuted = Unit {0}
 IsTold status.ReadFailed = ⊥
 IsTold status.WriteFailed = ⊥
 IsTold status.Memory = ⊥
-
--- What a step that only reads leaves of a store: every file is as it was, and no failed write is counted. Where the step failed for a
--- read, the count of failed reads of a file that it was asked to read rose; else no failed read is counted.
-pub record OnlyReads {S : Type 0} (store : Ghosts S) (old new : S) (asked : List ℕ → Type 0) (failed : Type 0) : Type 0 where
-  pub same : SameFiles (store.files old) (store.files new)
-  pub failed_read : failed → (file : List ℕ) × asked file × Rose (store.failed_reads old file) (store.failed_reads new file)
-  pub reads : ¬ failed → Still (store.failed_reads old) (store.failed_reads new)
-  pub writes : Still (store.failed_writes old) (store.failed_writes new)
 
 -- ---- what a run counts
 -- a run ends for a failed read only where one of a file that the words name for reading failed, and else none is counted

@@ -1,7 +1,7 @@
 //! What every run of the program means for those who read what it prints: laws that follow from what `run` promises, each the contract of a
 //! function that does nothing.
 
-ghost use Rattle.sced.specs.Headline.{LawOfAsked, LawOfCertificate, LawOfCheck, LawOfCleared, LawOfComplete, LawOfFaults, LawOfInfeasible, LawOfLastCertificate, LawOfMake, LawOfOutside, LawOfRange, LawOfReplay, LawOfRoundTrip, LawOfVerify};
+ghost use Rattle.sced.specs.Headline.{LawOfAnswered, LawOfAsked, LawOfCertificate, LawOfCheck, LawOfCleared, LawOfComplete, LawOfCutShort, LawOfFaults, LawOfInfeasible, LawOfLastCertificate, LawOfMake, LawOfMissing, LawOfOutside, LawOfRange, LawOfReplay, LawOfRoundTrip, LawOfVerify};
 
 /// A run that puts a text was asked for nothing that the program does, for work on what the files stand for, for a ring, or on files with
 /// a first fault.
@@ -64,7 +64,8 @@ pub fn check()
     ensures { LawOfCheck }
 {}
 
-/// The first fault of the files is told exactly where there is one; its status comes else only for an edit that is refused.
+/// The first fault of the files is told exactly where there is one, and no file is touched then; its status comes else only for an edit
+/// that is refused.
 pub fn faults()
     ensures { LawOfFaults }
 {}
@@ -77,4 +78,19 @@ pub fn make()
 /// No file is touched but those that the words name for writing.
 pub fn outside()
     ensures { LawOfOutside }
+{}
+
+/// Where no failed call is counted a run puts a text, with a status that comes with one, unless memory was refused.
+pub fn answered()
+    ensures { LawOfAnswered }
+{}
+
+/// What a run leaves that ended for a failed call or for want of memory: nothing, or a beginning of what is right to tell.
+pub fn cut_short()
+    ensures { LawOfCutShort }
+{}
+
+/// Where a file that the words name for reading is not there, nothing is told.
+pub fn missing()
+    ensures { LawOfMissing }
 {}

@@ -5,9 +5,7 @@ ghost use Rattle.std.specs.Prelude.{◌≡◌};
 ghost use Rattle.std.specs.Process.{exit_status};
 ghost use Rattle.command_answers.specs.Status.{code_of};
 
-mod commands;
 pub mod laws;
-mod reading;
 pub mod run;
 
 use command_answers::Status;

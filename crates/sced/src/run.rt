@@ -6,13 +6,14 @@ ghost use Rattle.outside_store.specs.Sinks.{Took, CountFault};
 ghost use Rattle.command_answers.specs.Tellings.{map_outputs, telling_of};
 ghost use Rattle.command_words.specs.Words.{NamesFile, NamesToWrite};
 ghost use Rattle.sced.specs.Promise.{Runs};
-ghost use Rattle.sced.specs.Runs.{Ends, FailedFor, IsSilent, IsTold, Keeps, OnlyReads, TellsUsage, WritesFor, outside_of};
+ghost use Rattle.sced.specs.Runs.{Ends, FailedFor, IsTold, Keeps, TellsUsage, WritesFor, outside_of};
+ghost use Rattle.command_files.specs.OnlyReads.{IsSilent, OnlyReads};
 ghost use Rattle.sced.specs.Told.{AnswersTo, IsOutputFile, named_bytes, names_for, written_by};
 
-use crate::commands::{
+use command_answers::{Outputs, Status, Told, make_told};
+use command_files::{
     check_files, clear_files, or_memory, pool_files, replay_files, verify_files,
 };
-use command_answers::{Outputs, Status, Told, make_told};
 use command_words::{Request, WordsStop, request_of};
 use outside_store::{Failed, Sink, Store};
 use std::alloc::Global;
@@ -36,7 +37,7 @@ fn with_files<'a>(told: Result<Told, Status>, files: Outputs<&'a str>) -> Result
 }
 
 /// What the words and the files that they name come to.
-#[tactic(auto, using(crate::proofs::ReadingLemmas::same_files))]
+#[tactic(auto, using(command_files::proofs::ReadingLemmas::same_files))]
 fn asked_work<'a, S: Store>(
     alloc: Global,
     words: &'a [String],

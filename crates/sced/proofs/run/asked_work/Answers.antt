@@ -5,7 +5,7 @@ use Rattle.command_words.specs.Requests.{names_of_market, names_to_check, text_o
 use Rattle.command_words.proofs.RequestLemmas.{asks-check, asks-clear, asks-make, asks-pool, asks-replay, asks-verify}
 use Rattle.sced.specs.Told.{checked, cleared, made, pooled, refused, replayed, verified}
 use Rattle.sced.proofs.AnswerLemmas.{named-by, work-ok}
-use Rattle.sced.proofs.ReadingLemmas.{told-ok}
+use Rattle.command_files.proofs.ReadingLemmas.{told-ok}
 use Rattle.sced.proofs.run.asked_work.Goals as goal
 
 pub returns-in-Ok-Pool-clause-answers : goal.returns-in-Ok-Pool-clause-answers

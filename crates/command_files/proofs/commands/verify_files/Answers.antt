@@ -8,10 +8,10 @@ use Rattle.command_answers.specs.Tellings.{Tells, telling_of}
 use Rattle.command_answers.specs.Verifying.{TellsVerdict}
 use Rattle.command_answers.specs.declared.status.Status.TheVariants as status
 use Rattle.command_words.specs.Requests.{names_of_market}
-use Rattle.sced.specs.Reading.{ReadsTable, source_of}
-use Rattle.sced.proofs.FileLemmas.{files-verify}
-use Rattle.sced.proofs.ReadingLemmas.{if_ok-map, reads-same, same_then, table-same, told-ok}
-use Rattle.sced.proofs.commands.verify_files.Goals as goal
+use Rattle.command_files.specs.Reading.{ReadsTable, source_of}
+use Rattle.command_files.proofs.FileLemmas.{files-verify}
+use Rattle.command_files.proofs.ReadingLemmas.{if_ok-map, reads-same, same_then, table-same, told-ok}
+use Rattle.command_files.proofs.commands.verify_files.Goals as goal
 
 pub returns-clause-right : goal.returns-clause-right
 returns-clause-right g c =

@@ -3,8 +3,8 @@ use Rattle.std.proofs.Common.{◌≡◌, ℕ, List, Result, Ok, Err, Option, Som
 use Rattle.std.specs.Prelude.{IfOk, MatchResult}
 use Rattle.outside_store.specs.Files.{Files, SameFiles, Reads}
 use Rattle.outside_store.specs.declared.Store.{Ghosts}
-use Rattle.sced.specs.Reading.{ReadsTable, Source, header_alone, in_file}
-use Rattle.sced.specs.Runs.{OnlyReads}
+use Rattle.command_files.specs.Reading.{ReadsTable, Source, header_alone, in_file}
+use Rattle.command_files.specs.OnlyReads.{OnlyReads}
 
 -- ---- files that stay as they were
 pub same_files : (files : Option Files) → SameFiles files files

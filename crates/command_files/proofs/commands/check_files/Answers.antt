@@ -4,9 +4,9 @@ use Rattle.market_tables.specs.Tables.{map_grid}
 use Rattle.command_answers.specs.Checking.{TellsCheck}
 use Rattle.command_answers.specs.Inputs.{IsCheck}
 use Rattle.command_answers.specs.Tellings.{Tells, telling_of}
-use Rattle.sced.proofs.FileLemmas.{files-check}
-use Rattle.sced.proofs.ReadingLemmas.{if_ok-map, told-ok}
-use Rattle.sced.proofs.commands.check_files.Goals as goal
+use Rattle.command_files.proofs.FileLemmas.{files-check}
+use Rattle.command_files.proofs.ReadingLemmas.{if_ok-map, told-ok}
+use Rattle.command_files.proofs.commands.check_files.Goals as goal
 
 pub returns-clause-right : goal.returns-clause-right
 returns-clause-right g c =

@@ -6,9 +6,9 @@ use Rattle.command_answers.specs.Inputs.{IsReplayed}
 use Rattle.command_answers.specs.Replaying.{TellsReplay}
 use Rattle.command_answers.specs.Tellings.{Tells, telling_of}
 use Rattle.command_words.specs.Requests.{names_of_market}
-use Rattle.sced.proofs.FileLemmas.{files-replay}
-use Rattle.sced.proofs.ReadingLemmas.{if_ok-map, reads-same, told-ok}
-use Rattle.sced.proofs.commands.replay_files.Goals as goal
+use Rattle.command_files.proofs.FileLemmas.{files-replay}
+use Rattle.command_files.proofs.ReadingLemmas.{if_ok-map, reads-same, told-ok}
+use Rattle.command_files.proofs.commands.replay_files.Goals as goal
 
 pub returns-clause-right : goal.returns-clause-right
 returns-clause-right g c =

@@ -9,8 +9,8 @@ ghost use Rattle.command_answers.specs.Tellings.{telling_of};
 ghost use Rattle.command_answers.specs.Verifying.{TellsVerdict};
 ghost use Rattle.command_words.specs.Requests.{names_of_market, names_to_check};
 ghost use Rattle.command_words.specs.Words.{IsCheckFile, IsMarketFile, IsPoolFile, IsReplayFile, IsVerifyFile};
-ghost use Rattle.sced.specs.Runs.{IsSilent, OnlyReads};
-ghost use Rattle.sced.specs.Told.{AreCheckFiles, AreClearFiles, ArePoolFiles, AreReplayFiles, AreVerifyFiles, OfFiles};
+ghost use Rattle.command_files.specs.OnlyReads.{IsSilent, OnlyReads};
+ghost use Rattle.command_files.specs.Standing.{AreCheckFiles, AreClearFiles, ArePoolFiles, AreReplayFiles, AreVerifyFiles, OfFiles};
 
 use crate::reading::{read_file, read_grid, read_market, read_table};
 use command_answers::{Status, Told, check_told, clear_told, pool_told, replay_told, verify_told};

@@ -1,5 +1,5 @@
-use Rattle.sced.proofs.ReadingLemmas.{reads-same, same_then, table-same}
-use Rattle.sced.proofs.reading.read_grid.Goals as goal
+use Rattle.command_files.proofs.ReadingLemmas.{reads-same, same_then, table-same}
+use Rattle.command_files.proofs.reading.read_grid.Goals as goal
 
 pub returns-clause-bytes : goal.returns-clause-bytes
 returns-clause-bytes g c =

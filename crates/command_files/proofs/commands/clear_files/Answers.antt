@@ -5,9 +5,9 @@ use Rattle.command_answers.specs.Clearing.{TellsClear}
 use Rattle.command_answers.specs.Inputs.{IsLimited}
 use Rattle.command_answers.specs.Tellings.{Tells, telling_of}
 use Rattle.command_words.specs.Requests.{names_of_market}
-use Rattle.sced.proofs.FileLemmas.{files-clear}
-use Rattle.sced.proofs.ReadingLemmas.{if_ok-map, told-ok}
-use Rattle.sced.proofs.commands.clear_files.Goals as goal
+use Rattle.command_files.proofs.FileLemmas.{files-clear}
+use Rattle.command_files.proofs.ReadingLemmas.{if_ok-map, told-ok}
+use Rattle.command_files.proofs.commands.clear_files.Goals as goal
 
 pub returns-clause-right : goal.returns-clause-right
 returns-clause-right g c =

@@ -6,8 +6,8 @@ ghost use Rattle.market_tables.specs.Tables.{map_grid, map_tables};
 ghost use Rattle.command_words.specs.Requests.{names_of_market, names_to_check};
 ghost use Rattle.command_words.specs.Words.{IsCheckFile, IsMarketFile};
 ghost use Rattle.market_inputs.specs.Files.{most_file};
-ghost use Rattle.sced.specs.Reading.{ReadsGrid, ReadsMarket, ReadsTable, source_of};
-ghost use Rattle.sced.specs.Runs.{IsSilent, OnlyReads};
+ghost use Rattle.command_files.specs.Reading.{ReadsGrid, ReadsMarket, ReadsTable, source_of};
+ghost use Rattle.command_files.specs.OnlyReads.{IsSilent, OnlyReads};
 
 use command_answers::Status;
 use command_words::{CheckNames, MarketNames};

@@ -1,8 +1,8 @@
 use Rattle.outside_store.specs.Files.{Reads}
 use Rattle.command_answers.specs.Tellings.{telling_of}
-use Rattle.sced.proofs.FileLemmas.{files-pool}
-use Rattle.sced.proofs.ReadingLemmas.{if_ok-map, reads-same, told-ok}
-use Rattle.sced.proofs.commands.pool_files.Goals as goal
+use Rattle.command_files.proofs.FileLemmas.{files-pool}
+use Rattle.command_files.proofs.ReadingLemmas.{if_ok-map, reads-same, told-ok}
+use Rattle.command_files.proofs.commands.pool_files.Goals as goal
 
 pub returns-clause-right : goal.returns-clause-right
 returns-clause-right g c =

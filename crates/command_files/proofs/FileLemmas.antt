@@ -21,8 +21,8 @@ use Rattle.command_answers.specs.Inputs.{IsCertified, IsCheck, IsLimited, IsPool
 use Rattle.command_answers.specs.Replaying.{TellsReplay}
 use Rattle.command_answers.specs.Tellings.{Telling, Tells}
 use Rattle.command_answers.specs.Verifying.{TellsVerdict}
-use Rattle.sced.specs.Reading.{IsTable, ReadsGrid, ReadsMarket, ReadsTable, Source, grid_sources, header_alone, in_file, source_of, table_sources}
-use Rattle.sced.specs.Told.{AreCheckFiles, AreClearFiles, ArePoolFiles, AreReplayFiles, AreVerifyFiles, OfFiles}
+use Rattle.command_files.specs.Reading.{IsTable, ReadsGrid, ReadsMarket, ReadsTable, Source, grid_sources, header_alone, in_file, source_of, table_sources}
+use Rattle.command_files.specs.Standing.{AreCheckFiles, AreClearFiles, ArePoolFiles, AreReplayFiles, AreVerifyFiles, OfFiles}
 
 -- ---- a table
 -- the whole text of a table that was read

@@ -1,0 +1,3 @@
+pub mod OnlyReads
+pub mod Reading
+pub mod Standing

@@ -1,0 +1,56 @@
+-- What the files that words name stand for, and what is right to tell of them.
+use Rattle.std.specs.Prelude.{◌≡◌, ℕ, List, Option, Some, None, Result}
+use Rattle.outside_store.specs.Files.{Files}
+use Rattle.market_inputs.specs.declared.checking.Inputs.{Inputs}
+use Rattle.market_model.specs.declared.participants.Parts.{Parts}
+use Rattle.market_tables.specs.Tables.{GridTexts, MarketTexts}
+use Rattle.refusal_text.specs.declared.refusals.Refusal.{Refusal}
+use Rattle.edit_table.specs.EditTable.{header as edit_header}
+use Rattle.command_words.specs.Words.{CheckNames, MarketNames}
+use Rattle.command_answers.specs.Inputs.{IsCertified, IsCheck, IsLimited, IsPool, IsReplayed, MarketCertificate, MarketSteps}
+use Rattle.command_answers.specs.Tellings.{Telling, Tells}
+use Rattle.command_files.specs.Reading.{HaveGridTexts, HaveTexts, IsTable, source_of}
+
+-- the files of a pool stand for this market, or this is their first fault
+pub record ArePoolFiles (files : Files) (case_name offers_name : List ℕ) (told : Result Parts Refusal) : Type 0 where
+  pub case : List ℕ
+  pub offers : List ℕ
+  pub case_is : files case_name ≡ Some case
+  pub offers_is : files offers_name ≡ Some offers
+  pub market : IsPool case offers told
+
+-- those of a clear do
+pub record AreClearFiles (files : Files) (names : MarketNames) (told : Result Parts Refusal) : Type 0 where
+  pub texts : MarketTexts
+  pub have : HaveTexts files names texts
+  pub market : IsLimited names.rating texts told
+
+-- those of a replay stand for this market and these steps
+pub record AreReplayFiles (files : Files) (names : MarketNames) (edits_name : List ℕ) (told : Result MarketSteps Refusal) : Type 0 where
+  pub texts : MarketTexts
+  pub edits : List ℕ
+  pub have : HaveTexts files names texts
+  pub edits_are : files edits_name ≡ Some edits
+  pub steps : IsReplayed names.rating texts edits told
+
+-- those of a verification stand for this market, edited, and this certificate
+pub record AreVerifyFiles (files : Files) (names : MarketNames) (edits_name : Option (List ℕ)) (certificate_name : List ℕ) (told : Result MarketCertificate Refusal) : Type 0 where
+  pub texts : MarketTexts
+  pub edits : List ℕ
+  pub certificate : List ℕ
+  pub have : HaveTexts files names texts
+  pub edits_are : IsTable files (source_of edit_header edits_name) edits
+  pub certificate_is : files certificate_name ≡ Some certificate
+  pub certified : IsCertified names.rating texts edits certificate told
+
+-- those of a check stand for these inputs
+pub record AreCheckFiles (files : Files) (names : CheckNames) (told : Result Inputs Refusal) : Type 0 where
+  pub texts : GridTexts
+  pub have : HaveGridTexts files names texts
+  pub inputs : IsCheck texts told
+
+-- ---- where the files are told
+-- what is told is right for what the files stand for
+abbrev pub OfFiles : {A : Type 0} → Option Files → (Files → Result A Refusal → Type 0) → (A → Telling → Type 0) → Telling → Type 0
+OfFiles None stand right t = Unit {0}
+OfFiles (Some files) stand right t = Tells (stand files) right t

@@ -1,0 +1,7 @@
+//! The files that words name, read whole, and each command over them.
+#![tactic(auto)]
+
+mod commands;
+mod reading;
+
+pub use commands::{check_files, clear_files, or_memory, pool_files, replay_files, verify_files};
