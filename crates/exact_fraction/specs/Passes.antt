@@ -14,9 +14,13 @@ SumPasses bound x y =
     let q : ℤ = y.num *ℤ pos (m / y.den) in
     (bound < unsigned_abs p) ⊎ (bound < unsigned_abs q) ⊎ (bound < unsigned_abs (p +ℤ q)) ⊎ (bound < m)
 
--- In lowest terms, the product's numerator or denominator passes the bound.
+-- in lowest terms, the numerator or the denominator of a number passes the bound
+abbrev pub IsTooLarge : ℕ → Fraction → Type 0
+IsTooLarge bound x = (bound < unsigned_abs x.num) ⊎ (bound < x.den)
+
+-- a product passes the bound where it is too large
 unfoldable pub ProductPasses : ℕ → Fraction → Fraction → Type 0
-ProductPasses bound x y = (bound < unsigned_abs (x *ℚ y).num) ⊎ (bound < (x *ℚ y).den)
+ProductPasses bound x y = IsTooLarge bound (x *ℚ y)
 
 -- The outcome passes the bound. A difference is the sum with the opposite, whose numerator has the same size.
 abbrev pub Passes : ℕ → Op → Fraction → Fraction → Type 0
@@ -50,16 +54,16 @@ IsExactOrNone value bound op left right result = MatchOption result (Passes boun
 abbrev pub IsExact : {N : Type 0} → (N → Fraction) → ℕ → Op → N → N → Result N (Passed N) → Type 0
 IsExact value bound op left right result = MatchResult result (IsOutcome value bound op left right) (IsPassed value bound op left right)
 
--- r is x plus the product of a and b, and neither that product nor the sum passes the bound
-pub record IsSumWith {N : Type 0} (value : N → Fraction) (bound : ℕ) (x a b r : N) : Type 0 where
+-- r is x plus the product of a and b
+pub record IsSumWith {N : Type 0} (value : N → Fraction) (x a b r : N) : Type 0 where
   pub exact : value r ≡ value x +ℚ value a *ℚ value b
-  pub product_fits : ¬ (Passes bound Times (value a) (value b))
-  pub sum_fits : ¬ (Passes bound Plus (value x) (value a *ℚ value b))
 
--- e is the product of a and b, which passes the bound, or else the sum of x and that product, which does
-abbrev pub IsPassedWith : {N : Type 0} → (N → Fraction) → ℕ → N → N → N → Passed N → Type 0
-IsPassedWith {N} value bound x a b e = IsPassed value bound Times a b e ⊎ ((p : N) × (value p ≡ value a *ℚ value b) × IsPassed value bound Plus x p e)
+-- That sum is too large, and e is an operation on the way to it that passes the bound: the product of a and b where that passes, or else
+-- the sum of x and that product.
+pub record IsPassedWith {N : Type 0} (value : N → Fraction) (bound : ℕ) (x a b : N) (e : Passed N) : Type 0 where
+  pub too_large : IsTooLarge bound (value x +ℚ value a *ℚ value b)
+  pub passed : IsPassed value bound Times a b e ⊎ ((p : N) × (value p ≡ value a *ℚ value b) × IsPassed value bound Plus x p e)
 
--- the exact sum of x and the product of a and b, or, exactly where one of the two operations passes the bound, that one
+-- the exact sum of x and the product of a and b, or, exactly where that is too large, an operation on the way that passes the bound
 abbrev pub IsExactWith : {N : Type 0} → (N → Fraction) → ℕ → N → N → N → Result N (Passed N) → Type 0
-IsExactWith value bound x a b result = MatchResult result (IsSumWith value bound x a b) (IsPassedWith value bound x a b)
+IsExactWith value bound x a b result = MatchResult result (IsSumWith value x a b) (IsPassedWith value bound x a b)

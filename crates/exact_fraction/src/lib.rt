@@ -10,6 +10,7 @@ mod divisor;
 pub mod laws;
 mod ratio;
 mod text;
+mod wide_sum;
 mod word;
 
 /// Fractions of numbers of 127 bits: the bound is 2^127 - 1.

@@ -135,6 +135,72 @@ fn edges_of_127_bits(rt: HostRuntime) {
     }
 }
 
+/// A number and two sides whose product is added to it: the parts of the sum, or the operation that is refused, in 63 bits. In 127 bits all
+/// are answered.
+#[test]
+fn sums_with_products(rt: HostRuntime) {
+    const MOST: i64 = i64::MAX;
+    const HALF: u64 = 1 << 31;
+    for ((x, x_den), (a, a_den), (b, b_den), text, op) in [
+        ((-MOST, 1), (1 << 32, 1), (1 << 31, 1), "1/1", None),
+        (
+            (0, 1),
+            (1 << 32, 1),
+            (1 << 31, 1),
+            "9223372036854775808/1",
+            Some(Op::Times),
+        ),
+        (
+            (1, 1 << 62),
+            (1, 3),
+            (1, 1),
+            "4611686018427387907/13835058055282163712",
+            Some(Op::Plus),
+        ),
+        (
+            (1, (HALF - 1) * HALF),
+            (1, 1),
+            (1, (HALF + 1) * HALF),
+            "2/4611686018427387903",
+            None,
+        ),
+        (
+            (5, 7),
+            (-MOST, 1),
+            (1 << 31, 1),
+            "-138649284399962590773669527547/7",
+            Some(Op::Times),
+        ),
+    ] {
+        match (
+            fraction::<Frac63>(x, x_den),
+            fraction::<Frac63>(a, a_den),
+            fraction::<Frac63>(b, b_den),
+        ) {
+            (Some(number), Some(first), Some(second)) => {
+                match number.plus_product(first, second) {
+                    Ok(sum) => assert!(rt; op.is_none() && is_in_parts(sum, text), "{text}"),
+                    Err(passed) => assert!(rt; Some(passed.op) == op, "{text}"),
+                }
+            }
+            _ => assert!(rt; false),
+        }
+        match (
+            fraction::<Frac>(x, x_den),
+            fraction::<Frac>(a, a_den),
+            fraction::<Frac>(b, b_den),
+        ) {
+            (Some(number), Some(first), Some(second)) => {
+                match number.plus_product(first, second) {
+                    Ok(sum) => assert!(rt; is_in_parts(sum, text), "{text}"),
+                    Err(_) => assert!(rt; false, "{text}"),
+                }
+            }
+            _ => assert!(rt; false),
+        }
+    }
+}
+
 /// Each way through a sum, a product and a comparison, at both types.
 fn ways<N: Exact>(rt: &impl Abort) {
     const MOST: i64 = i64::MAX;

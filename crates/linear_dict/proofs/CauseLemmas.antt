@@ -25,7 +25,7 @@ refused value bound Asked op left right e x y p ex ey a =
 -- the same of a sum with a product, of which either may be refused
 pub refused_either : {N : Type 0} (value : N → Fraction) (bound : ℕ) (Asked : Op → Fraction → Fraction → Type 0) (number first second : N) (e : Passed N) (x y z : Fraction)
     → IsPassedWith value bound number first second e → value number ≡ x → value first ≡ y → value second ≡ z → Asked Times y z → Asked Plus x (y *ℚ z) → IsRefused value bound Asked e
-refused_either value bound Asked number first second e x y z h ex ey ez times plus = elim h [
+refused_either value bound Asked number first second e x y z h ex ey ez times plus = elim h.passed [
   | inl p ↦ refused value bound Asked Times first second e y z p ey ez times
   | inr p ↦ refused value bound Asked Plus number p.0 e x (y *ℚ z) p.2 ex (p.1 ∙ ap₂ ◌*ℚ◌ ey ez) plus
 ]
