@@ -1,7 +1,7 @@
 -- Runs that a failed call or want of memory ends, and files that are not there.
-use Rattle.std.specs.Prelude.{◌≡◌, ◌⊎◌, ℕ, List, [], ◌∷◌, ◌++◌, Option, Some, None, Result, codes, take}
+use Rattle.std.specs.Prelude.{◌≡◌, ◌⊎◌, ℕ, List, ◌++◌, Option, Some, None, Result, codes, take}
 use Rattle.std.proofs.Common.{inl, inr, refl, sym, subst, subst₂, ap, ◌∙◌}
-use Rattle.std.proofs.lemmas.List.{append_nil}
+use Rattle.std.proofs.lemmas.List.{append-nil}
 use Rattle.outside_store.specs.Causes.{Rose}
 use Rattle.outside_store.specs.Files.{Files}
 use Rattle.outside_store.specs.Sinks.{Took}
@@ -19,8 +19,7 @@ use Rattle.command_answers.specs.declared.status.Status.TheVariants as status
 use Rattle.command_files.specs.OnlyReads.{IsSilent}
 use Rattle.command_files.specs.Reading.{HaveGridTexts, HaveTexts, IsTable, source_of}
 use Rattle.command_files.specs.Standing.{AreCheckFiles, AreClearFiles, ArePoolFiles, AreReplayFiles, AreVerifyFiles}
-use Rattle.sced.specs.Headline.{LawOfAnswered, LawOfCutShort, LawOfMissing, NoneFails}
-use Rattle.sced.specs.Promise.{Runs}
+use Rattle.sced.specs.Headline.{LawOfAnswered, LawOfCutShort, LawOfMissing}
 use Rattle.sced.specs.Runs.{Ends, IsTold, Outside}
 use Rattle.sced.specs.Runs as ending
 use Rattle.sced.specs.Told.{Answers, AnswersTo, checked, cleared, made, pooled, refused, replayed, verified}
@@ -109,7 +108,7 @@ law_of_cut_short words before after s runs = record {
         by (ending.told kept took right) =
             let here : Took (s ≡ status.WriteFailed) a.telling.text (Some earlier) (Some now) = subst₂ (Took (s ≡ status.WriteFailed) a.telling.text) was has took in
             let cut = here.cut is in (a, cut.0, cut.1)
-        by (ending.unwritten kept none failed) = let same : now ≡ earlier = cc (none, was, has) in (a, 0, same ∙ sym (append_nil earlier))
+        by (ending.unwritten kept none failed) = let same : now ≡ earlier = cc (none, was, has) in (a, 0, same ∙ sym (append-nil earlier))
 
 -- ---- missing
 -- a file is there

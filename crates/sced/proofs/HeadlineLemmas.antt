@@ -61,7 +61,6 @@ use Rattle.command_answers.specs.declared.status.Status.TheVariants as status
 use Rattle.sced.specs.Decided.{AsksSteps, AsksVerdict, as_clear, as_pool}
 use Rattle.sced.specs.Headline.{HasCertificate, IsAsked, IsBest, IsFirstFault, IsMade, IsPriced, IsReplayed, IsReported, IsVerdict, LawOfAsked, LawOfCertificate, LawOfCheck, LawOfCleared, LawOfComplete, LawOfFaults, LawOfInfeasible, LawOfLastCertificate, LawOfMake, LawOfOutside, LawOfRange, LawOfReplay, LawOfRoundTrip, LawOfVerify, RefusesEdit, cleared_ring, for_check, for_clear, for_nothing, for_ring, for_steps, for_verdict, no, passes, range_ring, to_check, to_clear, to_replay, to_verify, with_fault, yes}
 use Rattle.sced.specs.Runs.{Keeps, Outside}
-use Rattle.command_files.specs.OnlyReads.{IsSilent}
 use Rattle.sced.specs.Runs as ending
 use Rattle.sced.specs.Told.{Answers, AnswersTo, checked, cleared, made, named_bytes, named_outputs, pooled, refused, replayed, verified}
 use Rattle.command_files.specs.Standing.{AreCheckFiles, AreClearFiles, ArePoolFiles, AreReplayFiles, AreVerifyFiles}

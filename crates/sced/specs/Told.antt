@@ -1,23 +1,17 @@
 -- What is right to tell of the words of a run and of the files that they name.
-use Rattle.std.specs.Prelude.{◌≡◌, ℕ, List, [], ◌∷◌, Option, Some, None, Result}
+use Rattle.std.specs.Prelude.{◌≡◌, ℕ, List, [], ◌∷◌, Option, Some, None}
 use Rattle.outside_store.specs.Files.{Files}
-use Rattle.market_inputs.specs.declared.checking.Inputs.{Inputs}
-use Rattle.market_model.specs.declared.participants.Parts.{Parts}
-use Rattle.refusal_text.specs.declared.refusals.Refusal.{Refusal}
 use Rattle.command_words.specs.Words.{AsksCheck, AsksClear, AsksMake, AsksNothing, AsksPool, AsksReplay, AsksVerify, CheckNames, MarketNames}
 use Rattle.command_answers.specs.Checking.{TellsCheck}
 use Rattle.command_answers.specs.Clearing.{TellsClear, most_size}
-use Rattle.command_answers.specs.Inputs.{IsCertified, IsCheck, IsLimited, IsPool, IsReplayed, MarketCertificate, MarketSteps}
 use Rattle.command_answers.specs.Making.{MakesTo}
 use Rattle.command_answers.specs.Replaying.{TellsReplay}
-use Rattle.command_answers.specs.Tellings.{Telling, Tells, certified, map_outputs, telling_of}
+use Rattle.command_answers.specs.Tellings.{Telling, certified, map_outputs, telling_of}
 use Rattle.command_answers.specs.Verifying.{TellsVerdict}
 use Rattle.command_answers.specs.declared.told.Outputs.{Outputs}
 use Rattle.command_answers.specs.declared.status.Status.{Status}
 use Rattle.command_answers.specs.declared.status.Status.TheVariants as status
-use Rattle.edit_table.specs.EditTable.{header as edit_header}
-use Rattle.market_tables.specs.Tables.{GridTexts, MarketTexts}
-use Rattle.command_files.specs.Reading.{HaveGridTexts, HaveTexts, IsTable, source_of}
+use Rattle.command_files.specs.Standing.{AreCheckFiles, AreClearFiles, ArePoolFiles, AreReplayFiles, AreVerifyFiles, OfFiles}
 use Rattle.sced.specs.Runs.{Ends, Outside}
 use Rattle.sced.specs.declared.run.Work.{Work}
 
