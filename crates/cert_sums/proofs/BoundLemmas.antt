@@ -16,8 +16,8 @@ use Rattle.exact_fraction.specs.declared.Op.TheVariants.{Plus, Times}
 use Rattle.exact_fraction.specs.declared.Passed.{Passed}
 use Rattle.market_model.specs.declared.answered.Duals.{Duals}
 use Rattle.market_model.specs.declared.participants.Parts.{Parts}
-use Rattle.market_model.specs.Dispatch.{Dispatch, places, injection, injection_terms, balance, balance_terms, empty, quantity, dispatch_by}
-use Rattle.market_model.specs.Infeasibility.{where_above, part_above, block_weight, limit_terms, farkas_terms, farkas_bound}
+use Rattle.market_model.specs.Dispatch.{Dispatch, places, injection, balance, balance_terms, empty, quantity, dispatch_by}
+use Rattle.market_model.specs.Infeasibility.{where_above, part_above, block_weight, limit_terms, nothing_terms, farkas_terms, farkas_bound}
 use Rattle.market_model.specs.declared.limits.Row.{Row}
 use Rattle.market_model.specs.LimitRows.{rows, row_id, limit, flow}
 use Rattle.market_model.specs.NamedSums.{IsRefusal, IsRefusedIn, IsShareRefusal}
@@ -26,15 +26,13 @@ use Rattle.market_model.specs.Optimality.{up_of, down_of, names_row, named_rows}
 use Rattle.market_model.proofs.MorePlaces.{sum_by_more, total-places_more}
 use Rattle.market_model.proofs.SumSteps.{plus_at, multiplied_at, terms_at, behind}
 use Rattle.limit_rows.proofs.DualLemmas.{up_unnamed, down_unnamed, sum_named}
-use Rattle.cert_sums.specs.Bounds.{limits_terms}
 use Rattle.cert_sums.specs.Named.{PricedRow, priced_by}
-use Rattle.cert_sums.specs.Pairs.{IsFarkasPair, in_flow as flow_pair, in_price as price_sum_pair, of_prices, of_empty, in_bound as bound_pair, of_limit_less, of_limit_more}
-use Rattle.market_model.specs.SumTables.{injection_at, flow_of_line, carried, balance_of_all, flow_of_row, congestion_at, price_at}
+use Rattle.cert_sums.specs.Pairs.{IsFarkasPair, in_flow as flow_pair, of_empty, in_bound as bound_pair, of_limit_less, of_limit_more}
+use Rattle.market_model.specs.SumTables.{IsRefusedAmong, InjectionSum, balance_from_bus, balance_of_all, LineFlowSum, limited_line, limited_row, flow_in_balance, flow_in_limits, farkas_bound_of_all}
 use Rattle.cert_sums.specs.declared.stops.VerifyStop.{VerifyStop}
 use Rattle.cert_sums.specs.declared.stops.VerifyStop.TheVariants as why
-use Rattle.market_model.specs.PutIn.{dispatch_of, IsInjectionRefusal}
-use Rattle.limit_rows.specs.LineFlows.{IsLineRefusal}
-use Rattle.cert_sums.specs.Refusals.{OnPassed, IsAboveRefusal, IsBelowRefusal, IsLimitRefusal, in_flow, in_above, in_below, IsPriceRefusal}
+use Rattle.market_model.specs.PutIn.{dispatch_of}
+use Rattle.cert_sums.specs.Refusals.{OnPassed, IsAboveRefusal, IsBelowRefusal, IsLimitRefusal, in_flow, in_above, in_below}
 use Rattle.cert_sums.proofs.NamedLemmas.{IsNamedAt, is_named_row, is_row}
 
 -- ---- prices of 0 make nothing
@@ -117,7 +115,7 @@ module _ (m : Parts) (d : Duals Fraction) where
   pub limits_none : (s : Fraction) → s ≡ d.energy *ℚ balance m (empty m) → s ≡ limits_to 0
   limits_none s e = e ∙ sym (+ℚ_nil (d.energy *ℚ balance m (empty m)))
 
-  pub limits_all : (k : ℕ) → length (named_rows m d) ≤ k → limits_to k ≡ total (limits_terms m d)
+  pub limits_all : (k : ℕ) → length (named_rows m d) ≤ k → limits_to k ≡ total (nothing_terms m d)
   limits_all k h =
       ap (λ t. d.energy *ℚ balance m (empty m) +ℚ t)
       (ap (sum_by left) (take_all k (named_rows m d) h) ∙ sym (sum_named m d left (rows m) unnamed) ∙ sym (total-flat_map (limit_terms m d) (rows m)))
@@ -172,7 +170,7 @@ module _ (m : Parts) (d : Duals Fraction) where
       s = split_at k e h
 
       in_bound : IsRefusedIn (farkas_terms m d) bound p → IsFarkasPair m d bound p
-      in_bound why = bound_pair why
+      in_bound why = bound_pair (_, farkas_bound_of_all, why)
 
       above_refused : IsAboveRefusal sum e.up (limit m e.row) (flow m (empty m) e.row) bound p → IsFarkasPair m d bound p
       above_refused (inl c) = of_limit_less e.row (is_named_row m d k e h) c
@@ -199,58 +197,52 @@ module _ (m : Parts) (d : Duals Fraction) where
           (plus_at (farkas_terms m d) (s.front ++ above ∷ []) s.rest below second bound p (sum +ℚ e.up *ℚ room_above) (e.down *ℚ room_below) with_above (ap (λ u. u *ℚ room_below) h.down) c))
 
       pub limit_refused : IsLimitRefusal m (empty m) e sum bound p → IsFarkasPair m d bound p
-      limit_refused (in_flow c) = of_empty (flow_pair (_, flow_of_row e.row (is_row m d k e h), c))
+      limit_refused (in_flow (terms, part, c)) = of_empty (flow_pair (terms, flow_in_limits terms (limited_row e.row terms (is_row m d k e h) part), c))
       limit_refused (in_above c) = above_refused c
       limit_refused (in_below c) = below_refused c
 
   -- ---- the blocks of the bound
   abbrev pub blocks_to : ℕ → Fraction
-  blocks_to k = total (limits_terms m d) +ℚ total (map block_term (places k))
+  blocks_to k = total (nothing_terms m d) +ℚ total (map block_term (places k))
 
-  pub blocks_none : (s : Fraction) → s ≡ total (limits_terms m d) → s ≡ blocks_to 0
-  blocks_none s e = e ∙ sym (+ℚ_nil (total (limits_terms m d)))
+  pub blocks_none : (s : Fraction) → s ≡ total (nothing_terms m d) → s ≡ blocks_to 0
+  blocks_none s e = e ∙ sym (+ℚ_nil (total (nothing_terms m d)))
 
   pub blocks_all : blocks_to (length m.blocks) ≡ farkas_bound m d
   unfolding farkas_bound
-  blocks_all = sym (total-append (limits_terms m d) block_terms)
+  blocks_all = sym (total-append (nothing_terms m d) block_terms)
 
   pub block_step : (k : ℕ) (weight mw old new : Fraction) → weight ≡ block_weight m d k → mw ≡ quantity m k → old ≡ blocks_to k → new ≡ old +ℚ part_above weight *ℚ mw → new ≡ blocks_to (k + 1)
   block_step k weight mw old new weighs is before eq =
       eq ∙ ap₂ (λ w q. old +ℚ part_above w *ℚ q) weighs is
       ∙ ap (λ t. t +ℚ part_above (block_weight m d k) *ℚ quantity m k) before
-      ∙ +ℚ_assoc (total (limits_terms m d)) (total (map block_term (places k))) (part_above (block_weight m d k) *ℚ quantity m k)
-      ∙ ap (λ t. total (limits_terms m d) +ℚ t) (sym (total-places_more block_term k))
+      ∙ +ℚ_assoc (total (nothing_terms m d)) (total (map block_term (places k))) (part_above (block_weight m d k) *ℚ quantity m k)
+      ∙ ap (λ t. total (nothing_terms m d) +ℚ t) (sym (total-places_more block_term k))
 
   pub block_refused : (k : ℕ) (weight mw sum : Fraction) (bound : ℕ) (p : Passed Fraction) → k < length m.blocks → weight ≡ block_weight m d k → mw ≡ quantity m k → sum ≡ blocks_to k
       → IsShareRefusal sum (part_above weight) mw bound p → IsFarkasPair m d bound p
-  block_refused k weight mw sum bound p inside weighs is before why = bound_pair (by why)
+  block_refused k weight mw sum bound p inside weighs is before why = bound_pair (_, farkas_bound_of_all, by why)
     where
       r : (rest : List Term) × (map block_term (places (length m.blocks)) ≡ map block_term (places k) ++ block_term k ∷ rest)
       r = terms_at block_term (length m.blocks) k inside
 
       front : List Term
-      front = limits_terms m d ++ map block_term (places k)
+      front = nothing_terms m d ++ map block_term (places k)
 
-      split : farkas_terms m d ≡ (limits_terms m d ++ map block_term (places k)) ++ block_term k ∷ r.0
-      split = behind (limits_terms m d) block_terms (map block_term (places k)) r.0 (block_term k) r.1
+      split : farkas_terms m d ≡ (nothing_terms m d ++ map block_term (places k)) ++ block_term k ∷ r.0
+      split = behind (nothing_terms m d) block_terms (map block_term (places k)) r.0 (block_term k) r.1
 
       by : IsRefusal Times (part_above weight) mw bound p ⊎ IsRefusal Plus sum (part_above weight *ℚ mw) bound p → IsRefusedIn (farkas_terms m d) bound p
-      by (inl c) = multiplied_at (farkas_terms m d) (limits_terms m d ++ map block_term (places k)) r.0 (block_term k) split bound p (part_above weight) mw (part_above (block_weight m d k)) (quantity m k) refl
+      by (inl c) = multiplied_at (farkas_terms m d) (nothing_terms m d ++ map block_term (places k)) r.0 (block_term k) split bound p (part_above weight) mw (part_above (block_weight m d k)) (quantity m k) refl
           (inl (ap part_above weighs)) (inl is) c
-      by (inr c) = (plus_at (farkas_terms m d) (limits_terms m d ++ map block_term (places k)) r.0 (block_term k) split bound p sum (part_above weight *ℚ mw)
-          (before ∙ sym (total-append (limits_terms m d) (map block_term (places k)))) (ap₂ (λ w q. part_above w *ℚ q) weighs is) c)
+      by (inr c) = (plus_at (farkas_terms m d) (nothing_terms m d ++ map block_term (places k)) r.0 (block_term k) split bound p sum (part_above weight *ℚ mw)
+          (before ∙ sym (total-append (nothing_terms m d) (map block_term (places k)))) (ap₂ (λ w q. part_above w *ℚ q) weighs is) c)
 
   -- the price of energy by the balance
   pub energy_refused : (b : Fraction) (bound : ℕ) (p : Passed Fraction) → b ≡ balance m (empty m) → IsRefusal Times d.energy b bound p → IsFarkasPair m d bound p
   energy_refused b bound p is h =
       bound_pair
-      (multiplied_at (farkas_terms m d) [] (flat_map (limit_terms m d) (rows m) ++ block_terms) energy_term refl bound p d.energy b d.energy (balance m (empty m)) refl (inl refl) (inl is) h)
-
-  -- what is refused in a price of a bus
-  pub price_pair : (i : ℕ) (bound : ℕ) (p : Passed Fraction) → i < length m.buses → IsPriceRefusal m d i bound p → IsFarkasPair m d bound p
-  price_pair i bound p lt (inl (inl c)) = of_empty (price_sum_pair (_, congestion_at i lt, c))
-  price_pair i bound p lt (inl (inr c)) = of_empty (of_prices c.0 c.1 c.2)
-  price_pair i bound p lt (inr c) = of_empty (price_sum_pair (_, price_at i lt, c))
+      (_, farkas_bound_of_all, multiplied_at (farkas_terms m d) [] (flat_map (limit_terms m d) (rows m) ++ block_terms) energy_term refl bound p d.energy b d.energy (balance m (empty m)) refl (inl refl) (inl is) h)
 
 -- ---- where nothing is accepted
 pub nothing_is : {N : Type 0} (value : N → Fraction) (m : Parts) (xs ys : List N) (n : ℕ) → xs ≡ ys → map value ys ≡ replicate n (whole (pos 0)) → n ≡ length m.blocks → dispatch_of value xs ≡ empty m
@@ -262,11 +254,12 @@ stopped_weaker value p q (why.Range e) to h = to (passed_at value e) h
 stopped_weaker value p q why.Memory to h = tt
 
 module _ (m : Parts) (d : Duals Fraction) (bound : ℕ) (p : Passed Fraction) where
-  pub injection_pair : (x : Dispatch) → x ≡ empty m → IsInjectionRefusal m x bound p → IsFarkasPair m d bound p
-  injection_pair x is (i, lt, h) = of_empty (flow_pair (injection_terms m (empty m) i, carried _ (injection_at i lt), subst (λ (y : Dispatch). IsRefusedIn (injection_terms m y i) bound p) is h))
+  pub injection_pair : (x : Dispatch) → x ≡ empty m → IsRefusedAmong (InjectionSum m x) bound p → IsFarkasPair m d bound p
+  injection_pair x is h =
+      let sum = subst (λ (y : Dispatch). IsRefusedAmong (InjectionSum m y) bound p) is h in of_empty (flow_pair (sum.0, flow_in_balance sum.0 (balance_from_bus sum.0 sum.1), sum.2))
 
-  pub line_pair : IsLineRefusal m (injection m (empty m)) bound p → IsFarkasPair m d bound p
-  line_pair (l, lt, h) = of_empty (flow_pair (_, carried _ (flow_of_line l lt), h))
+  pub line_pair : IsRefusedAmong (LineFlowSum m (injection m (empty m))) bound p → IsFarkasPair m d bound p
+  line_pair (terms, sum, h) = of_empty (flow_pair (terms, flow_in_limits terms (limited_line terms sum), h))
 
   pub balance_pair : IsRefusedIn (balance_terms m (empty m)) bound p → IsFarkasPair m d bound p
-  balance_pair h = of_empty (flow_pair (_, balance_of_all, h))
+  balance_pair h = of_empty (flow_pair (_, flow_in_balance _ balance_of_all, h))

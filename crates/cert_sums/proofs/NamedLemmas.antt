@@ -17,12 +17,13 @@ use Rattle.market_model.specs.declared.limits.Row.{Row}
 use Rattle.market_model.specs.LimitRows.{rows, row_id, row_factor}
 use Rattle.market_model.specs.NamedSums.{IsRefusal, IsRefusedIn}
 use Rattle.market_model.specs.Optimality.{up_of, down_of, net_shadow_price, names_row, named_rows, congestion, congestion_terms, congestion_by, price_terms}
+use Rattle.market_model.specs.SumTables.{congestion_at}
 use Rattle.market_model.proofs.MorePlaces.{sum_by_more}
 use Rattle.market_model.proofs.SumSteps.{plus_at, multiplied_at, refusal_same}
 use Rattle.limit_rows.proofs.DualLemmas.{up_unnamed, down_unnamed, sum_named, terms_named}
 use Rattle.cert_sums.specs.declared.pricing.NamedRow.{NamedRow}
 use Rattle.cert_sums.specs.Named.{PricedRow, priced_at, priced_by, AreNamed}
-use Rattle.cert_sums.specs.Refusals.{IsNetPriceRefusal, IsCongestionRefusal}
+use Rattle.cert_sums.specs.Refusals.{IsNetPriceRefusal, IsPriceRefusal, IsPricesRefusal}
 
 -- the row that duals name at a place, with its prices
 pub record IsNamedAt (m : Parts) (d : Duals Fraction) (k : ℕ) (e : PricedRow) : Type 0 where
@@ -97,19 +98,25 @@ module _ (m : Parts) (d : Duals Fraction) (i : ℕ) where
         ∙ sym (sum_by_more (λ s. term_value (term s)) (named_rows m d) k e.row h.inside)
 
     pub congestion_refused : (factor sum : Fraction) (bound : ℕ) (p : Passed Fraction) → factor ≡ row_factor m e.row i → sum ≡ congestion_to k → IsNetPriceRefusal sum e.up e.down factor bound p
-        → IsCongestionRefusal m d i bound p
+        → IsRefusedIn (congestion_terms m d i) bound p ⊎ IsPricesRefusal m d bound p
     congestion_refused factor sum bound p share before why = by why
       where
         split : (front : List Term) × (rest : List Term) × (map term (rows m) ≡ front ++ term e.row ∷ rest) × (total front ≡ congestion_to k)
         split = terms_named m d term unnamed k e.row h.inside h.at
 
-        by : IsRefusal Minus e.up e.down bound p ⊎ IsRefusal Times (neg_ℚ (e.up -ℚ e.down)) factor bound p ⊎ IsRefusal Plus sum (neg_ℚ (e.up -ℚ e.down) *ℚ factor) bound p → IsCongestionRefusal m d i bound p
+        by : IsRefusal Minus e.up e.down bound p ⊎ IsRefusal Times (neg_ℚ (e.up -ℚ e.down)) factor bound p ⊎ IsRefusal Plus sum (neg_ℚ (e.up -ℚ e.down) *ℚ factor) bound p
+            → IsRefusedIn (congestion_terms m d i) bound p ⊎ IsPricesRefusal m d bound p
         by (inl c) = inr (e.row, is_named_row m d k e h, refusal_same Minus e.up e.down (up_of m d e.row) (down_of m d e.row) bound p h.up h.down c)
         by (inr (inl c)) = inl
             (multiplied_at (congestion_terms m d i) split.0 split.1 (term e.row) split.2 bound p (neg_ℚ (e.up -ℚ e.down)) factor (neg_ℚ (net_shadow_price m d e.row)) (row_factor m e.row i) refl (inl net_price_is) (inl share) c)
         by (inr (inr c)) = inl
             (
             (plus_at (congestion_terms m d i) split.0 split.1 (term e.row) split.2 bound p sum (neg_ℚ (e.up -ℚ e.down) *ℚ factor) (before ∙ sym split.3) (ap₂ ◌*ℚ◌ net_price_is share) c))
+
+-- what is refused in the congestion is in the price
+pub in_congestion : (m : Parts) (d : Duals Fraction) (i : ℕ) (bound : ℕ) (p : Passed Fraction) → IsRefusedIn (congestion_terms m d i) bound p ⊎ IsPricesRefusal m d bound p → IsPriceRefusal m d i bound p
+in_congestion m d i bound p (inl h) = inl (congestion_terms m d i, congestion_at, h)
+in_congestion m d i bound p (inr h) = inr h
 
 -- the price of energy and the congestion are added
 pub price_refused : (m : Parts) (d : Duals Fraction) (i : ℕ) (bound : ℕ) (p : Passed Fraction) → IsRefusal Plus d.energy (congestion m d i) bound p → IsRefusedIn (price_terms m d i) bound p

@@ -1,5 +1,5 @@
 -- The operations that may be refused in each sum, and what stops one.
-use Rattle.std.specs.Prelude.{◌⊎◌, ℕ, Contains}
+use Rattle.std.specs.Prelude.{◌⊎◌, ℕ, ◌<◌, length, Contains}
 use Rattle.fraction_theory.specs.Fraction.{Fraction, neg_ℚ, ◌+ℚ◌, ◌-ℚ◌, ◌*ℚ◌}
 use Rattle.exact_fraction.specs.declared.Op.TheVariants.{Plus, Minus}
 use Rattle.exact_fraction.specs.declared.Passed.{Passed}
@@ -7,9 +7,10 @@ use Rattle.market_model.specs.declared.answered.Duals.{Duals}
 use Rattle.market_model.specs.declared.participants.Parts.{Parts}
 use Rattle.market_model.specs.Dispatch.{Dispatch, injection}
 use Rattle.market_model.specs.declared.limits.Row.{Row}
-use Rattle.market_model.specs.LimitRows.{flow, flow_terms, most_flow, line_flow}
-use Rattle.market_model.specs.NamedSums.{IsRefusedIn, IsRefusal, IsShareRefusal}
-use Rattle.market_model.specs.Optimality.{up_of, down_of, named_rows, congestion_terms, price_terms}
+use Rattle.market_model.specs.LimitRows.{flow, most_flow, line_flow}
+use Rattle.market_model.specs.NamedSums.{IsRefusal, IsShareRefusal}
+use Rattle.market_model.specs.Optimality.{up_of, down_of, named_rows}
+use Rattle.market_model.specs.SumTables.{IsRefusedAmong, RowFlowSum, BusPriceSum}
 use Rattle.market_model.specs.Valued.{passed_at}
 use Rattle.cert_sums.specs.declared.stops.VerifyStop.{VerifyStop}
 use Rattle.cert_sums.specs.declared.stops.VerifyStop.TheVariants as why
@@ -24,13 +25,13 @@ OnPassed value refused why.Memory = Unit {0}
 abbrev pub IsPricesRefusal : Parts → Duals Fraction → ℕ → Passed Fraction → Type 0
 IsPricesRefusal m d bound p = (r : Row) × Contains (named_rows m d) r × IsRefusal Minus (up_of m d r) (down_of m d r) bound p
 
--- in what limits add to the price at a bus
-abbrev pub IsCongestionRefusal : Parts → Duals Fraction → ℕ → ℕ → Passed Fraction → Type 0
-IsCongestionRefusal m d i bound p = IsRefusedIn (congestion_terms m d i) bound p ⊎ IsPricesRefusal m d bound p
-
--- in the price at a bus
+-- in the price at a bus: of one of its sums, or of two prices of which it is made
 abbrev pub IsPriceRefusal : Parts → Duals Fraction → ℕ → ℕ → Passed Fraction → Type 0
-IsPriceRefusal m d i bound p = IsCongestionRefusal m d i bound p ⊎ IsRefusedIn (price_terms m d i) bound p
+IsPriceRefusal m d i bound p = IsRefusedAmong (BusPriceSum m d i) bound p ⊎ IsPricesRefusal m d bound p
+
+-- in the price at some bus
+abbrev pub IsBusPriceRefusal : Parts → Duals Fraction → ℕ → Passed Fraction → Type 0
+IsBusPriceRefusal m d bound p = (i : ℕ) × (i < length m.buses) × IsPriceRefusal m d i bound p
 
 -- ---- the same step by step
 -- the two prices of a row, or what they take by a factor
@@ -46,6 +47,6 @@ IsBelowRefusal sum price limit flow bound p = IsRefusal Plus limit flow bound p 
 
 -- the flow of a row, or what its prices make of what that leaves of the most that it may be, on either side
 pub data IsLimitRefusal (m : Parts) (x : Dispatch) (e : PricedRow) (sum : Fraction) (bound : ℕ) (p : Passed Fraction) : Type 0 where
-  in_flow : IsRefusedIn (flow_terms m (line_flow m (injection m x)) e.row) bound p → IsLimitRefusal m x e sum bound p
+  in_flow : IsRefusedAmong (RowFlowSum m (line_flow m (injection m x)) e.row) bound p → IsLimitRefusal m x e sum bound p
   in_above : IsAboveRefusal sum e.up (most_flow m e.row) (flow m x e.row) bound p → IsLimitRefusal m x e sum bound p
   in_below : IsBelowRefusal (sum +ℚ e.up *ℚ (most_flow m e.row -ℚ flow m x e.row)) e.down (most_flow m e.row) (flow m x e.row) bound p → IsLimitRefusal m x e sum bound p

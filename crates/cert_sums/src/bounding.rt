@@ -5,12 +5,11 @@ ghost use Rattle.fraction_theory.specs.Fraction.{Fraction, whole, ◌+ℚ◌, �
 ghost use Rattle.fraction_theory.specs.Sums.{total};
 ghost use Rattle.market_model.specs.declared.answered.Duals.{Duals};
 ghost use Rattle.market_model.specs.Dispatch.{Dispatch, balance, empty, signed_by_side, zero};
-ghost use Rattle.market_model.specs.Infeasibility.{farkas_bound, limit_terms, part_above};
+ghost use Rattle.market_model.specs.Infeasibility.{farkas_bound, limit_terms, nothing_terms, part_above};
 ghost use Rattle.market_model.specs.LimitRows.{IsCauseAmong, flow, limit};
 ghost use Rattle.market_model.specs.Valued.{passed_at};
 ghost use Rattle.market_model.specs.NamedSums.{IsShareRefusal};
 ghost use Rattle.limit_rows.specs.LineFlows.{AreFlows};
-ghost use Rattle.cert_sums.specs.Bounds.{limits_terms};
 ghost use Rattle.cert_sums.specs.Named.{AreNamed, priced_at, priced_by};
 ghost use Rattle.cert_sums.specs.Pairs.{IsFarkasPair};
 ghost use Rattle.cert_sums.specs.Refusals.{IsAboveRefusal, IsBelowRefusal, IsLimitRefusal, OnPassed};
@@ -75,7 +74,7 @@ fn with_limits<N: Exact>(
 ) -> Result<N, Passed<N>>
     requires flows { length flows.now ≡ length market.now.lines }
     requires named { (d : Duals Fraction) × AreNamed N.value market.now d named.now }
-    ensures sum { (d : Duals Fraction) → AreNamed N.value market.now d named.now → AreFlows market.now (empty market.now) (map N.value flows.now) → N.value of_energy ≡ d.energy *ℚ balance market.now (empty market.now) → IfOk result (λ sum. N.value sum ≡ total (limits_terms market.now d)) }
+    ensures sum { (d : Duals Fraction) → AreNamed N.value market.now d named.now → AreFlows market.now (empty market.now) (map N.value flows.now) → N.value of_energy ≡ d.energy *ℚ balance market.now (empty market.now) → IfOk result (λ sum. N.value sum ≡ total (nothing_terms market.now d)) }
     ensures cause { (d : Duals Fraction) → AreNamed N.value market.now d named.now → AreFlows market.now (empty market.now) (map N.value flows.now) → N.value of_energy ≡ d.energy *ℚ balance market.now (empty market.now) → IfErr result (λ passed. IsFarkasPair market.now d N.bound (passed_at N.value passed)) }
 {
     let _lines = market.lines();
@@ -127,8 +126,8 @@ fn with_blocks<N: Exact>(
     named: &[NamedRow<N>],
 ) -> Result<N, Passed<N>>
     requires named { (d : Duals Fraction) × AreNamed N.value market.now d named.now }
-    ensures bound { (d : Duals Fraction) → N.value energy ≡ d.energy → AreNamed N.value market.now d named.now → N.value of_limits ≡ total (limits_terms market.now d) → IfOk result (λ bound. N.value bound ≡ farkas_bound market.now d) }
-    ensures cause { (d : Duals Fraction) → N.value energy ≡ d.energy → AreNamed N.value market.now d named.now → N.value of_limits ≡ total (limits_terms market.now d) → IfErr result (λ passed. IsFarkasPair market.now d N.bound (passed_at N.value passed)) }
+    ensures bound { (d : Duals Fraction) → N.value energy ≡ d.energy → AreNamed N.value market.now d named.now → N.value of_limits ≡ total (nothing_terms market.now d) → IfOk result (λ bound. N.value bound ≡ farkas_bound market.now d) }
+    ensures cause { (d : Duals Fraction) → N.value energy ≡ d.energy → AreNamed N.value market.now d named.now → N.value of_limits ≡ total (nothing_terms market.now d) → IfErr result (λ passed. IsFarkasPair market.now d N.bound (passed_at N.value passed)) }
 {
     let _units = market.units();
     let mut sum = of_limits;

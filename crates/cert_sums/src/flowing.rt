@@ -3,7 +3,8 @@
 ghost use Rattle.std.specs.Prelude.{◌≡◌, length, map, vec_len, IfOk, IfErr};
 ghost use Rattle.market_model.specs.Dispatch.{Dispatch, injection};
 ghost use Rattle.market_model.specs.PutIn.{AreInjections};
-ghost use Rattle.limit_rows.specs.LineFlows.{AreFlows, IsLineRefusal};
+ghost use Rattle.market_model.specs.SumTables.{IsRefusedAmong, LineFlowSum};
+ghost use Rattle.limit_rows.specs.LineFlows.{AreFlows};
 ghost use Rattle.cert_sums.specs.Refusals.{OnPassed};
 
 use crate::VerifyStop;
@@ -21,7 +22,7 @@ pub fn line_flows<N: Exact>(
     requires { length injections.now ≡ length market.now.buses }
     ensures count { IfOk result (λ flows. vec_len flows ≡ length market.now.lines) }
     ensures flows { (x : Dispatch) → AreInjections market.now x (map N.value injections.now) → IfOk result (λ flows. AreFlows market.now x (map N.value flows.items)) }
-    ensures cause { (x : Dispatch) → AreInjections market.now x (map N.value injections.now) → IfErr result (OnPassed N.value (IsLineRefusal market.now (injection market.now x) N.bound)) }
+    ensures cause { (x : Dispatch) → AreInjections market.now x (map N.value injections.now) → IfErr result (OnPassed N.value (IsRefusedAmong (LineFlowSum market.now (injection market.now x)) N.bound)) }
 {
     let none: N = datum(0);
     let mut flows = match vec![in alloc; none; market.lines().len()] {

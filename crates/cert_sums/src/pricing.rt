@@ -1,13 +1,14 @@
 //! Bus prices of duals whose signs are not known.
 
-ghost use Rattle.std.specs.Prelude.{◌≡◌, ◌<◌, ◌^◌, length, unsigned_abs, IfOk, IfErr};
+ghost use Rattle.std.specs.Prelude.{◌≡◌, ◌⊎◌, ◌<◌, ◌^◌, length, unsigned_abs, IfOk, IfErr};
 ghost use Rattle.fraction_theory.specs.Fraction.{Fraction, neg_ℚ, over, ◌+ℚ◌, ◌-ℚ◌, ◌*ℚ◌};
 ghost use Rattle.market_data.specs.Scales.{factor_product_one};
 ghost use Rattle.market_model.specs.declared.answered.Duals.{Duals};
-ghost use Rattle.market_model.specs.Optimality.{bus_price, congestion};
+ghost use Rattle.market_model.specs.NamedSums.{IsRefusedIn};
+ghost use Rattle.market_model.specs.Optimality.{bus_price, congestion, congestion_terms};
 ghost use Rattle.market_model.specs.Valued.{passed_at};
 ghost use Rattle.cert_sums.specs.Named.{AreNamed};
-ghost use Rattle.cert_sums.specs.Refusals.{IsCongestionRefusal, IsPriceRefusal, IsNetPriceRefusal};
+ghost use Rattle.cert_sums.specs.Refusals.{IsPriceRefusal, IsPricesRefusal, IsNetPriceRefusal};
 
 use exact_fraction::{Exact, Passed};
 use limit_rows::factor_at;
@@ -49,7 +50,7 @@ fn congestion_at<N: Exact>(
     requires named { (d : Duals Fraction) × AreNamed N.value market.now d named.now }
     requires bus { bus < length market.now.buses }
     ensures sum { (d : Duals Fraction) → AreNamed N.value market.now d named.now → IfOk result (λ sum. N.value sum ≡ congestion market.now d bus) }
-    ensures cause { (d : Duals Fraction) → AreNamed N.value market.now d named.now → IfErr result (λ passed. IsCongestionRefusal market.now d bus N.bound (passed_at N.value passed)) }
+    ensures cause { (d : Duals Fraction) → AreNamed N.value market.now d named.now → IfErr result (λ passed. IsRefusedIn (congestion_terms market.now d bus) N.bound (passed_at N.value passed) ⊎ IsPricesRefusal market.now d N.bound (passed_at N.value passed)) }
 {
     let _lines = market.lines();
     let mut sum: N = N::of_parts(0, 1);

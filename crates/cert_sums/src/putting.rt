@@ -3,7 +3,8 @@
 ghost use Rattle.std.specs.Prelude.{◌≡◌, length, map, vec_len, IfOk, IfErr};
 ghost use Rattle.market_model.specs.Dispatch.{Dispatch, balance, balance_terms};
 ghost use Rattle.market_model.specs.NamedSums.{IsRefusedIn};
-ghost use Rattle.market_model.specs.PutIn.{dispatch_of, AreInjections, IsInjectionRefusal};
+ghost use Rattle.market_model.specs.PutIn.{dispatch_of, AreInjections};
+ghost use Rattle.market_model.specs.SumTables.{IsRefusedAmong, InjectionSum};
 ghost use Rattle.market_model.specs.Valued.{passed_at};
 ghost use Rattle.cert_sums.specs.Refusals.{OnPassed};
 
@@ -21,7 +22,7 @@ pub fn injections<N: Exact>(
     requires { length dispatch.now ≡ length market.now.blocks }
     ensures count { IfOk result (λ mws. vec_len mws ≡ length market.now.buses) }
     ensures injections { IfOk result (λ mws. AreInjections market.now (dispatch_of N.value dispatch.now) (map N.value mws.items)) }
-    ensures cause { IfErr result (OnPassed N.value (IsInjectionRefusal market.now (dispatch_of N.value dispatch.now) N.bound)) }
+    ensures cause { IfErr result (OnPassed N.value (IsRefusedAmong (InjectionSum market.now (dispatch_of N.value dispatch.now)) N.bound)) }
 {
     let none: N = datum(0);
     let mut mws = match vec![in alloc; none; market.buses().len()] {

@@ -1,7 +1,7 @@
 -- What is looked up of a row by its name, and the operations refused.
 use Rattle.std.specs.Prelude.{◌≡◌, ◌≢◌, ◌&&◌, ◌<◌, ℕ, Bool, true, false, not, List, [], ◌∷◌, ◌++◌, length, Contains, Option, Some, None, MatchOption, is_some, refl}
 use Rattle.std.specs.List.{list_any}
-use Rattle.std.proofs.Common.{inl, inr, ap, ap₂, sym, subst, ◌∙◌}
+use Rattle.std.proofs.Common.{ap, ap₂, sym, subst, ◌∙◌}
 use Rattle.std.proofs.lemmas.Bool.{true≢false}
 use Rattle.fraction_theory.specs.Fraction.{Fraction}
 use Rattle.exact_fraction.specs.declared.Passed.{Passed}
@@ -21,16 +21,16 @@ use Rattle.limit_rows.proofs.ApartLemmas.{same_row}
 use Rattle.limit_rows.proofs.PlaceLemmas.{lost_inside, same_name}
 use Rattle.cert_sums.specs.declared.stops.VerifyStop.{VerifyStop}
 use Rattle.cert_sums.specs.declared.stops.VerifyStop.TheVariants as why
-use Rattle.cert_sums.specs.Pairs.{IsOptimalPair, in_flow, in_price, of_prices}
-use Rattle.market_model.specs.SumTables.{injection_at, flow_of_line, carried, balance_of_all, flow_of_row, congestion_at, price_at}
+use Rattle.cert_sums.specs.Pairs.{IsOptimalPair, in_flow, in_price}
+use Rattle.market_model.specs.SumTables.{flow_in_balance, flow_in_limits}
 use Rattle.limit_rows.specs.LineFlows.{AreFlows}
 use Rattle.limit_rows.proofs.FlowSteps.{row_terms_are}
 use Rattle.market_model.specs.PutIn.{put_in}
-use Rattle.cert_sums.specs.Refusals.{IsPriceRefusal, OnPassed}
+use Rattle.cert_sums.specs.Refusals.{OnPassed}
 use Rattle.limit_rows.specs.Naming.{has_name}
 use Rattle.cert_verify.specs.declared.verdicts.Reason.TheVariants as reason
 use Rattle.cert_verify.specs.Reasons.{NoneOf, balance_reason, differ, has_no_row, has_slack, part_reasons, prices_slack}
-use Rattle.cert_verify.specs.Stops.{IsBalanceRefusal, IsFlowRefusal, IsOptimalStop, at_balance, at_limits, at_support}
+use Rattle.cert_verify.specs.Stops.{IsOptimalStop, at_balance, at_limits, at_support}
 use Rattle.cert_verify.proofs.TestLemmas.{any_of, any_none, none_first, none_join, not_both, not_true, so_none}
 use Rattle.cert_verify.proofs.VerdictLemmas.{named}
 
@@ -97,20 +97,7 @@ before_flows m x ds all nothing is none same before =
 
 -- each is of a certificate's pairs
 module _ (m : Parts) (x : Dispatch) (d : Duals Fraction) (bound : ℕ) (p : Passed Fraction) where
-  balance_pair : IsBalanceRefusal m x bound p → IsOptimalPair m x d bound p
-  balance_pair (inl (i, lt, h)) = in_flow (_, carried _ (injection_at i lt), h)
-  balance_pair (inr h) = in_flow (_, balance_of_all, h)
-
-  flow_pair : IsFlowRefusal m x bound p → IsOptimalPair m x d bound p
-  flow_pair (inl (l, lt, h)) = in_flow (_, carried _ (flow_of_line l lt), h)
-  flow_pair (inr (r, c, h)) = in_flow (_, flow_of_row r c, h)
-
-  price_pair : (i : ℕ) → i < length m.buses → IsPriceRefusal m d i bound p → IsOptimalPair m x d bound p
-  price_pair i lt (inl (inl c)) = in_price (_, congestion_at i lt, c)
-  price_pair i lt (inl (inr c)) = of_prices c.0 c.1 c.2
-  price_pair i lt (inr c) = in_price (_, price_at i lt, c)
-
   pub optimal_pair : IsOptimalStop m x d bound p → IsOptimalPair m x d bound p
-  optimal_pair (at_balance h none) = balance_pair h
-  optimal_pair (at_limits h none) = flow_pair h
-  optimal_pair (at_support h none) = price_pair h.0 h.1 h.2
+  optimal_pair (at_balance (terms, sum, h) none) = in_flow (terms, flow_in_balance terms sum, h)
+  optimal_pair (at_limits (terms, sum, h) none) = in_flow (terms, flow_in_limits terms sum, h)
+  optimal_pair (at_support h none) = in_price h

@@ -1,43 +1,25 @@
 -- Why there may be no verdict, and which reasons were looked at by then.
 -- Source: own; reasons are looked at in the order in which they are told.
-use Rattle.std.specs.Prelude.{◌⊎◌, ℕ, ◌<◌, [], ◌∷◌, ◌++◌, length, Contains}
+use Rattle.std.specs.Prelude.{ℕ, [], ◌∷◌, ◌++◌}
 use Rattle.fraction_theory.specs.Fraction.{Fraction}
 use Rattle.exact_fraction.specs.declared.Passed.{Passed}
 use Rattle.market_model.specs.declared.answered.Duals.{Duals}
-use Rattle.market_model.specs.declared.limits.Row.{Row}
 use Rattle.market_model.specs.declared.participants.Parts.{Parts}
-use Rattle.market_model.specs.Dispatch.{Dispatch, balance_terms, dispatch_by, injection}
-use Rattle.market_model.specs.LimitRows.{flow_terms, line_flow, rows}
-use Rattle.market_model.specs.NamedSums.{IsRefusedIn}
-use Rattle.market_model.specs.PutIn.{IsInjectionRefusal}
-use Rattle.limit_rows.specs.LineFlows.{IsLineRefusal}
+use Rattle.market_model.specs.Dispatch.{Dispatch, dispatch_by}
+use Rattle.market_model.specs.SumTables.{IsRefusedAmong, BalanceSum, LimitFlowSum}
 use Rattle.cert_format.specs.declared.certificate.Cert.{Cert}
 use Rattle.cert_format.specs.declared.certificate.Cert.TheVariants.{Optimal, Farkas}
 use Rattle.cert_sums.specs.declared.stops.VerifyStop.{VerifyStop}
 use Rattle.cert_sums.specs.Pairs.{IsFarkasPair}
-use Rattle.cert_sums.specs.Refusals.{IsPriceRefusal, OnPassed}
+use Rattle.cert_sums.specs.Refusals.{IsBusPriceRefusal, OnPassed}
 use Rattle.cert_verify.specs.Certificates.{named_duals}
 use Rattle.cert_verify.specs.Reasons.{NoneOf, balance_reason, dual_reasons, flow_reasons, part_reasons}
 
--- ---- an operation that is refused
--- in what buses put in, or in all of that
-abbrev pub IsBalanceRefusal : Parts → Dispatch → ℕ → Passed Fraction → Type 0
-IsBalanceRefusal m x bound p = IsInjectionRefusal m x bound p ⊎ IsRefusedIn (balance_terms m x) bound p
-
--- in the flow of a line, or of a row
-abbrev pub IsFlowRefusal : Parts → Dispatch → ℕ → Passed Fraction → Type 0
-IsFlowRefusal m x bound p = IsLineRefusal m (injection m x) bound p ⊎ ((r : Row) × Contains (rows m) r × IsRefusedIn (flow_terms m (line_flow m (injection m x)) r) bound p)
-
--- in the price at a bus
-abbrev pub IsBusPriceRefusal : Parts → Duals Fraction → ℕ → Passed Fraction → Type 0
-IsBusPriceRefusal m d bound p = (bus : ℕ) × (bus < length m.buses) × IsPriceRefusal m d bus bound p
-
--- ---- by when
 -- An operation is refused that a reason asks for, and none of the reasons before that one holds: the balance is added up where nothing is
 -- wrong with the parts, flows where the dispatch balances too, and prices where nothing is wrong with its flows either.
 pub data IsOptimalStop (m : Parts) (x : Dispatch) (d : Duals Fraction) (bound : ℕ) (p : Passed Fraction) : Type 0 where
-  at_balance : IsBalanceRefusal m x bound p → NoneOf (part_reasons m x d.limits) → IsOptimalStop m x d bound p
-  at_limits : IsFlowRefusal m x bound p → NoneOf (part_reasons m x d.limits ++ balance_reason m x ∷ []) → IsOptimalStop m x d bound p
+  at_balance : IsRefusedAmong (BalanceSum m x) bound p → NoneOf (part_reasons m x d.limits) → IsOptimalStop m x d bound p
+  at_limits : IsRefusedAmong (LimitFlowSum m x) bound p → NoneOf (part_reasons m x d.limits ++ balance_reason m x ∷ []) → IsOptimalStop m x d bound p
   at_support : IsBusPriceRefusal m d bound p → NoneOf (part_reasons m x d.limits ++ flow_reasons m x d.limits) → IsOptimalStop m x d bound p
 
 -- the same of duals alone: the bound is added up where nothing is wrong with what they name

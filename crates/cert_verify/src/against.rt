@@ -7,12 +7,12 @@ ghost use Rattle.market_model.specs.Optimality.{bus_price};
 ghost use Rattle.market_model.specs.Valued.{dual_at};
 ghost use Rattle.cert_format.specs.Certificates.{NamesNoRowTwice};
 ghost use Rattle.cert_sums.specs.Pairs.{IsFarkasPair};
-ghost use Rattle.cert_sums.specs.Refusals.{OnPassed};
+ghost use Rattle.cert_sums.specs.Refusals.{IsBusPriceRefusal, OnPassed};
 ghost use Rattle.market_model.specs.PutIn.{dispatch_of};
 ghost use Rattle.cert_verify.specs.Certificates.{named_duals};
 ghost use Rattle.cert_verify.specs.declared.verdicts.Reason.TheVariants as reason;
 ghost use Rattle.cert_verify.specs.Reasons.{NoneOf, bound_reason, farkas_reasons, first_of, flow_reasons, is_below, optimal_reasons, part_reasons, support_reason, where_so};
-ghost use Rattle.cert_verify.specs.Stops.{IsBusPriceRefusal, IsFarkasStop, IsOptimalStop};
+ghost use Rattle.cert_verify.specs.Stops.{IsFarkasStop, IsOptimalStop};
 
 use crate::blocks::{other_count, outside_block, unsupported_block};
 use crate::comparing::{differ, is_negative};

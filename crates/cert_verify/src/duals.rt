@@ -2,10 +2,10 @@
 
 ghost use Rattle.std.specs.Prelude.{◌≡◌, length, map, IfOk, IfErr};
 ghost use Rattle.market_model.specs.Dispatch.{Dispatch};
+ghost use Rattle.market_model.specs.SumTables.{IsRefusedAmong, LimitFlowSum};
 ghost use Rattle.market_model.specs.Valued.{dual_at, passed_at};
 ghost use Rattle.limit_rows.specs.LineFlows.{AreFlows};
 ghost use Rattle.cert_verify.specs.Reasons.{has_slack, row_reason, sign_reason, slack_reason};
-ghost use Rattle.cert_verify.specs.Stops.{IsFlowRefusal};
 
 use crate::Reason;
 use crate::comparing::{has_negative, prices_slack};
@@ -41,7 +41,7 @@ pub(crate) fn negative_price<N: Exact>(limits: &[Dual<N>]) -> Option<Reason>
 fn has_slack<N: Exact>(market: &Market, flows: &[N], dual: &Dual<N>) -> Result<bool, Passed<N>>
     requires { length flows.now ≡ length market.now.lines }
     ensures slack { (x : Dispatch) → AreFlows market.now x (map N.value flows.now) → IfOk result (λ slack. slack ≡ has_slack market.now x (dual_at N.value dual.now)) }
-    ensures cause { (x : Dispatch) → AreFlows market.now x (map N.value flows.now) → IfErr result (λ passed. IsFlowRefusal market.now x N.bound (passed_at N.value passed)) }
+    ensures cause { (x : Dispatch) → AreFlows market.now x (map N.value flows.now) → IfErr result (λ passed. IsRefusedAmong (LimitFlowSum market.now x) N.bound (passed_at N.value passed)) }
 {
     let _lines = market.lines();
     match row_named(market, dual.row) {
@@ -61,7 +61,7 @@ pub(crate) fn slack_price<N: Exact>(
 ) -> Result<Option<Reason>, Passed<N>>
     requires { length flows.now ≡ length market.now.lines }
     ensures first { (x : Dispatch) → AreFlows market.now x (map N.value flows.now) → IfOk result (λ reason. reason ≡ slack_reason market.now x (map (dual_at N.value) limits.now)) }
-    ensures cause { (x : Dispatch) → AreFlows market.now x (map N.value flows.now) → IfErr result (λ passed. IsFlowRefusal market.now x N.bound (passed_at N.value passed)) }
+    ensures cause { (x : Dispatch) → AreFlows market.now x (map N.value flows.now) → IfErr result (λ passed. IsRefusedAmong (LimitFlowSum market.now x) N.bound (passed_at N.value passed)) }
 {
     for dual in limits {
         let slack = has_slack(market, flows, dual)?;

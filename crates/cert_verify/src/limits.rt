@@ -5,12 +5,12 @@ ghost use Rattle.market_model.specs.Dispatch.{Dispatch, injection};
 ghost use Rattle.market_model.specs.declared.limits.Row.{Row};
 ghost use Rattle.market_model.specs.LimitRows.{IsCauseAmong, row_id, causes, rows_of, flow_terms, line_flow};
 ghost use Rattle.market_model.specs.NamedSums.{IsRefusedIn};
+ghost use Rattle.market_model.specs.SumTables.{IsRefusedAmong, LimitFlowSum};
 ghost use Rattle.market_model.specs.Valued.{passed_at};
 ghost use Rattle.limit_rows.specs.LineFlows.{AreFlows};
 ghost use Rattle.cert_verify.specs.declared.verdicts.Reason.TheVariants as reason;
 ghost use Rattle.cert_verify.specs.Naming.{rows_among};
 ghost use Rattle.cert_verify.specs.Reasons.{is_overloaded, limit_reason, of_first};
-ghost use Rattle.cert_verify.specs.Stops.{IsFlowRefusal};
 
 use crate::Reason;
 use crate::comparing::passes;
@@ -41,7 +41,7 @@ fn broken_at<N: Exact>(
     requires cause { Contains (causes market.now) cause }
     requires line { line < length market.now.lines }
     ensures first { (x : Dispatch) → AreFlows market.now x (map N.value flows.now) → IfOk result (λ first. first ≡ of_first (λ (r : Row). reason.Limit (row_id market.now r)) (is_overloaded market.now x) (rows_among market.now cause (line ∷ []))) }
-    ensures cause { (x : Dispatch) → AreFlows market.now x (map N.value flows.now) → IfErr result (λ passed. IsFlowRefusal market.now x N.bound (passed_at N.value passed)) }
+    ensures cause { (x : Dispatch) → AreFlows market.now x (map N.value flows.now) → IfErr result (λ passed. IsRefusedAmong (LimitFlowSum market.now x) N.bound (passed_at N.value passed)) }
 {
     let _lines = market.lines();
     if has_row(market, cause, line) {
@@ -68,7 +68,7 @@ fn broken_under<N: Exact>(
     requires flows { length flows.now ≡ length market.now.lines }
     requires cause { Contains (causes market.now) cause }
     ensures first { (x : Dispatch) → AreFlows market.now x (map N.value flows.now) → IfOk result (λ first. first ≡ of_first (λ (r : Row). reason.Limit (row_id market.now r)) (is_overloaded market.now x) (rows_of market.now cause)) }
-    ensures cause { (x : Dispatch) → AreFlows market.now x (map N.value flows.now) → IfErr result (λ passed. IsFlowRefusal market.now x N.bound (passed_at N.value passed)) }
+    ensures cause { (x : Dispatch) → AreFlows market.now x (map N.value flows.now) → IfErr result (λ passed. IsRefusedAmong (LimitFlowSum market.now x) N.bound (passed_at N.value passed)) }
 {
     for line in 0..market.lines().len() {
         let broken = broken_at(market, flows, cause, line)?;
@@ -86,7 +86,7 @@ pub(crate) fn broken_limit<N: Exact>(
 ) -> Result<Option<Reason>, Passed<N>>
     requires { length flows.now ≡ length market.now.lines }
     ensures first { (x : Dispatch) → AreFlows market.now x (map N.value flows.now) → IfOk result (λ first. first ≡ limit_reason market.now x) }
-    ensures cause { (x : Dispatch) → AreFlows market.now x (map N.value flows.now) → IfErr result (λ passed. IsFlowRefusal market.now x N.bound (passed_at N.value passed)) }
+    ensures cause { (x : Dispatch) → AreFlows market.now x (map N.value flows.now) → IfErr result (λ passed. IsRefusedAmong (LimitFlowSum market.now x) N.bound (passed_at N.value passed)) }
 {
     for place in 0..cause_count(market) {
         let broken = broken_under(market, flows, cause_at(market, place))?;

@@ -17,13 +17,14 @@ use Rattle.market_model.specs.declared.answered.Dual.{Dual}
 use Rattle.market_model.specs.declared.answered.Duals.{Duals}
 use Rattle.market_model.specs.declared.answered.RowId.{RowId}
 use Rattle.market_model.specs.declared.participants.Parts.{Parts}
-use Rattle.market_model.specs.Dispatch.{Dispatch, bus_at, unit_at, output, demand, injection, output_terms, balance_terms}
+use Rattle.market_model.specs.Dispatch.{Dispatch, bus_at, unit_at, output, demand, injection, balance_terms}
 use Rattle.market_model.specs.Overrun.{size_of}
 use Rattle.market_model.specs.declared.limits.Row.{Row}
-use Rattle.market_model.specs.LimitRows.{rows, row_id, limit, line_flow, flow, flow_terms, offset_terms, row_offset}
+use Rattle.market_model.specs.LimitRows.{rows, row_id, limit, line_flow, flow, flow_terms, row_offset}
 use Rattle.market_model.specs.Market.{IsMarket}
 use Rattle.market_model.specs.NamedSums.{SameSize, term_at, IsNextTerm, IsSumStep, IsRefusedIn, IsRefusal}
-use Rattle.market_model.specs.SumTables.{IsRefusedAmong, FlowSum, carried, balance_of_all, flow_of_row, PriceSum, PaymentSum, left_of_all, rent_of_row, MoneySum, welfare_of_all, payment_at_duals, PaidRowSum, flow_after_outage, offset_of_row, upper_of_row, lower_of_row, SettledSum, output_of_unit, demand_of_bus, payment, paid_row}
+use Rattle.market_model.proofs.SumParts.{flow_carried}
+use Rattle.market_model.specs.SumTables.{IsRefusedAmong, balance_of_all, flow_of_row, limited_row, FlowSum, flow_in_balance, flow_in_limits, OutputSum, PriceSum, PaymentSum, left_of_all, rent_of_row, MoneySum, welfare_of_all, payment_at_duals, PaidRowSum, flow_after_outage, paid_offset, upper_of_row, lower_of_row, SettledSum, paid_output, demand_of_bus, payment, paid_row}
 use Rattle.market_model.specs.Optimality.{Feasible, Supports, IsOneSided, ProperDuals, named_rows, names_row, same_id, up_in, down_in, bus_price, unit_price, welfare_terms}
 use Rattle.market_model.specs.Settlement.{left_terms, rent_terms, surplus_terms}
 use Rattle.market_system.specs.Growth.{BestFor}
@@ -150,7 +151,7 @@ module _ (m : Parts) (g : List Row) (x : Dispatch) (d : Duals Fraction) (market 
 
     -- where a dispatch is screened
     pub flows_range : IsFlowsRefusal m x bound p → IsRangeOf m g bound p
-    flows_range (terms, sum, a) = flow_sum terms (carried terms sum) a
+    flows_range (terms, sum, a) = flow_sum terms (flow_carried m x terms sum) a
 
     flow_number : (r : Row) → Contains (rows m) r → MarketNumber m g solved.choice Quantity (flow m x r)
     flow_number r c = row_flow_number m g g (growth_none m g) solved.choice solved.is_choice bound p market x injecting r c
@@ -160,8 +161,8 @@ module _ (m : Parts) (g : List Row) (x : Dispatch) (d : Duals Fraction) (market 
     sized r c (inr e) = subst (MarketNumber m g solved.choice Quantity) (sym e) (of_opposite Quantity (flow m x r) (flow_number r c))
 
     row_range : (r : Row) → Contains (rows m) r → IsOverrunRefusal m (line_in m (flows_at m x)) bound r p → IsRangeOf m g bound p
-    row_range r c (row_of_flow a) =
-        flow_sum (flow_terms m (line_flow m (injection m x)) r) (flow_of_row r c) (subst (λ ts. IsRefusedIn ts bound p) (row_terms m x (flows_at m x) r market refl c) a)
+    row_range r c (row_of_flow (_, flow_of_row, a)) =
+        flow_sum (flow_terms m (line_flow m (injection m x)) r) (flow_in_limits _ (limited_row r _ c flow_of_row)) (subst (λ ts. IsRefusedIn ts bound p) (row_terms m x (flows_at m x) r market refl c) a)
     row_range r c (row_of_limit a) =
         pairs.two Quantity (size_of (flow m x r)) (limit m r) (sized r c (sized_by (flow m x r) (sign_of (flow m x r)))) (is_limit r c)
         (inr (subst (λ f. IsRefusal Minus (size_of f) (limit m r) bound p) (row_is m market x (flows_at m x) refl r c) a))
@@ -201,7 +202,7 @@ module _ (m : Parts) (g : List Row) (x : Dispatch) (d : Duals Fraction) (market 
         offset_number r c = row_offset_number m g g (growth_none m g) solved.choice solved.is_choice bound p r c
 
         none : MarketNumber m g solved.choice Quantity (whole (pos 0))
-        none = of_sum Quantity (balance_terms m x) 0 (of_flow x (balance_terms m x) injecting balance_of_all)
+        none = of_sum Quantity (balance_terms m x) 0 (of_flow x (balance_terms m x) injecting (flow_in_balance _ balance_of_all))
 
         payment_range : (terms : List Term) → PaymentSum m (named_rows m d) x price d terms → IsRefusedIn terms bound p → IsRangeOf m g bound p
         payment_range terms left_of_all a =
@@ -214,14 +215,13 @@ module _ (m : Parts) (g : List Row) (x : Dispatch) (d : Duals Fraction) (market 
             (subst (λ e. IsRefusedIn (rent_terms m x e r) bound p) solved.duals a))
 
         paid_row_range : (r : Row) (terms : List Term) → Contains (rows m) r → PaidRowSum m (line_flow m (injection m x)) r terms → IsRefusedIn terms bound p → IsRangeOf m g bound p
-        paid_row_range r terms c (flow_after_outage after) a = flow_sum terms (flow_of_row r c) a
-        paid_row_range r terms c offset_of_row a = pairs.sum (Some Quantity) terms (offset_of r c) a
+        paid_row_range r terms c (flow_after_outage same after sum) a = flow_sum terms (flow_in_limits _ (limited_row r _ c sum)) a
+        paid_row_range r terms c (paid_offset same sum) a = pairs.sum (Some Quantity) terms (offset_of r terms c sum) a
         paid_row_range r terms c upper_of_row a = two_terms Quantity (limit m r) (neg_ℚ (row_offset m r)) none (is_limit r c) (of_opposite Quantity (row_offset m r) (offset_number r c)) a
         paid_row_range r terms c lower_of_row a = two_terms Quantity (limit m r) (row_offset m r) none (is_limit r c) (offset_number r c) a
 
         settled_range : (terms : List Term) → SettledSum m x price d terms → IsRefusedIn terms bound p → IsRangeOf m g bound p
-        settled_range terms (output_of_unit u lt) a =
-            pairs.sum (Some Quantity) (output_terms m (choice_dispatch m g solved.choice) u) (output_of u best lt) (subst (λ y. IsRefusedIn (output_terms m y u) bound p) solved.dispatch a)
+        settled_range terms (paid_output same sum) a = pairs.sum (Some Quantity) terms (output_of terms best (subst (λ (y : Dispatch). OutputSum m y terms) solved.dispatch sum)) a
         settled_range terms (demand_of_bus i lt) a = two_terms Quantity (whole (bus_at m i).pd) (whole (bus_at m i).gs) none (is_load i lt) (is_shunt i lt) a
         settled_range terms (payment _ sum) a = payment_range terms sum a
         settled_range terms (paid_row r _ c sum) a = paid_row_range r terms (named r c).0 sum a

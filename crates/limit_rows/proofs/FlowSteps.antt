@@ -17,11 +17,12 @@ use Rattle.market_model.specs.Dispatch.{Dispatch, places, injection}
 use Rattle.market_model.specs.LimitRows.{IsCauseAmong, flow_by, flow_terms, flow_terms_in, line_flow, line_offset, line_terms, loss_factor, offset_terms, row_offset, shift_factor}
 use Rattle.market_model.specs.NamedSums.{IsRefusal, IsRefusedIn, IsShareRefusal}
 use Rattle.market_model.specs.PutIn.{AreInjections, put_in}
+use Rattle.market_model.specs.SumTables.{IsRefusedAmong, LineFlowSum, flow_of_line}
 use Rattle.market_model.proofs.MorePlaces.{total-places_more}
 use Rattle.market_model.proofs.PlaceLists.{map_same}
 use Rattle.market_model.proofs.PutInSteps.{put_is}
 use Rattle.market_model.proofs.SumSteps.{plus_at, multiplied_at, terms_at}
-use Rattle.limit_rows.specs.LineFlows.{AreFlows, IsLineRefusal}
+use Rattle.limit_rows.specs.LineFlows.{AreFlows}
 
 -- a factor of 0 takes nothing
 pub no_share : (s x : Fraction) (k : ℤ) → k ≡ pos 0 → s ≡ s +ℚ over k factor_one *ℚ x
@@ -114,8 +115,8 @@ module _ (m : Parts) (x : Dispatch) (mws : List Fraction) (puts : AreInjections 
   pub lines_put : (flows : List Fraction) → flows ≡ map (line_flow m (put_in mws)) (places (length m.lines)) → AreFlows m x flows
   lines_put flows e = e ∙ map_same (line_flow m (put_in mws)) (line_flow m (injection m x)) (length m.lines) (λ l lt. line_flow-same m (put_in mws) (injection m x) (put_is m x mws puts) l)
 
-  pub line_refusal : (bound : ℕ) (e : Passed Fraction) → IsLineRefusal m (put_in mws) bound e → IsLineRefusal m (injection m x) bound e
-  line_refusal bound e (l, lt, why) = (l, lt, subst (λ ts. IsRefusedIn ts bound e) (line_terms-same m (put_in mws) (injection m x) (put_is m x mws puts) l) why)
+  pub line_refusal : (bound : ℕ) (e : Passed Fraction) → IsRefusedAmong (LineFlowSum m (put_in mws)) bound e → IsRefusedAmong (LineFlowSum m (injection m x)) bound e
+  line_refusal bound e (_, flow_of_line l lt, why) = (_, flow_of_line l lt, subst (λ ts. IsRefusedIn ts bound e) (line_terms-same m (put_in mws) (injection m x) (put_is m x mws puts) l) why)
 
 -- and lines have the flows of that
 module _ (m : Parts) (x : Dispatch) (flows : List Fraction) (are : AreFlows m x flows) where

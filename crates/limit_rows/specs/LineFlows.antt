@@ -1,16 +1,10 @@
--- The flows of lines at a dispatch, and what may be refused of them.
-use Rattle.std.specs.Prelude.{◌≡◌, ℕ, ◌<◌, List, length, map}
+-- The flows of lines at a dispatch.
+use Rattle.std.specs.Prelude.{◌≡◌, List, length, map}
 use Rattle.fraction_theory.specs.Fraction.{Fraction}
-use Rattle.exact_fraction.specs.declared.Passed.{Passed}
 use Rattle.market_model.specs.declared.participants.Parts.{Parts}
 use Rattle.market_model.specs.Dispatch.{Dispatch, places, injection}
-use Rattle.market_model.specs.LimitRows.{line_flow, line_terms}
-use Rattle.market_model.specs.NamedSums.{IsRefusedIn}
+use Rattle.market_model.specs.LimitRows.{line_flow}
 
 -- the flow of each line at a dispatch
 abbrev pub AreFlows : Parts → Dispatch → List Fraction → Type 0
 AreFlows m x flows = flows ≡ map (line_flow m (injection m x)) (places (length m.lines))
-
--- an operation refused where buses put in so much, in the flow of a line
-abbrev pub IsLineRefusal : Parts → (ℕ → Fraction) → ℕ → Passed Fraction → Type 0
-IsLineRefusal m p bound e = (l : ℕ) × (l < length m.lines) × IsRefusedIn (line_terms m p l) bound e

@@ -8,8 +8,8 @@ ghost use Rattle.market_model.specs.Dispatch.{places};
 ghost use Rattle.market_model.specs.LimitRows.{IsCauseAmong, flow_by, flow_terms, line_flow, line_offset, line_terms, offset_terms, row_offset};
 ghost use Rattle.market_model.specs.NamedSums.{IsRefusedIn, IsShareRefusal};
 ghost use Rattle.market_model.specs.PutIn.{put_in};
+ghost use Rattle.market_model.specs.SumTables.{IsRefusedAmong, LineFlowSum};
 ghost use Rattle.market_model.specs.Valued.{passed_at};
-ghost use Rattle.limit_rows.specs.LineFlows.{IsLineRefusal};
 
 use crate::factors::{loss_of, shift_of};
 use exact_fraction::{Exact, Passed};
@@ -61,7 +61,7 @@ pub fn put_line_flows<N: Exact>(
     requires out { length out.old ≡ length market.now.lines }
     ensures count { length out.new ≡ length out.old }
     ensures flows { IfOk result (λ _. map N.value out.new ≡ map (line_flow market.now (put_in (map N.value injections.now))) (places (length market.now.lines))) }
-    ensures cause { IfErr result (λ passed. IsLineRefusal market.now (put_in (map N.value injections.now)) N.bound (passed_at N.value passed)) }
+    ensures cause { IfErr result (λ passed. IsRefusedAmong (LineFlowSum market.now (put_in (map N.value injections.now))) N.bound (passed_at N.value passed)) }
 {
     for (line, mw) in out.iter_mut().enumerate() {
         *mw = line_flow(market, line, injections)?;

@@ -10,9 +10,10 @@ use Rattle.market_model.specs.declared.participants.Parts.{Parts}
 use Rattle.market_model.specs.Dispatch.{zero}
 use Rattle.market_model.specs.Overrun.{overrun, size_of, IsWorst}
 use Rattle.market_model.specs.declared.limits.Row.{Row}
-use Rattle.market_model.specs.LimitRows.{causes, flow_by, flow_terms, limit, row_id, rows, rows_of}
-use Rattle.market_model.specs.NamedSums.{IsRefusal, IsRefusedIn}
+use Rattle.market_model.specs.LimitRows.{causes, flow_by, limit, row_id, rows, rows_of}
+use Rattle.market_model.specs.NamedSums.{IsRefusal}
 use Rattle.market_model.specs.Optimality.{Within}
+use Rattle.market_model.specs.SumTables.{IsRefusedAmong, RowFlowSum}
 use Rattle.limit_screen.specs.declared.screening.Broken.{Broken}
 
 -- all limits of the market hold
@@ -25,7 +26,7 @@ IsWorstNamed m f id = (place : ℕ) × (r : Row) × IsWorst m (flow_by m f) plac
 
 -- an operation refused for a row: its flow, or by how much that passes its limit
 pub data IsOverrunRefusal (m : Parts) (f : ℕ → Fraction) (bound : ℕ) (r : Row) (p : Passed Fraction) : Type 0 where
-  of_flow : IsRefusedIn (flow_terms m f r) bound p → IsOverrunRefusal m f bound r p
+  of_flow : IsRefusedAmong (RowFlowSum m f r) bound p → IsOverrunRefusal m f bound r p
   of_limit : IsRefusal Minus (size_of (flow_by m f r)) (limit m r) bound p → IsOverrunRefusal m f bound r p
 
 -- an operation refused for a row of the market

@@ -16,6 +16,7 @@ pub mod RightFits
 pub mod RowLaws
 pub mod Rows
 pub mod StopLemmas
+pub mod SumParts
 pub mod SumSteps
 pub mod TableLemmas
 pub mod WholeDispatch

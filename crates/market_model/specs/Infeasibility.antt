@@ -36,12 +36,13 @@ block_weight m d j = signed_by_side (block_at m j).side (unit_price m d (block_a
 abbrev pub limit_terms : Parts → Duals Fraction → Row → List Term
 limit_terms m d r = Product (up_of m d r) (most_flow m r -ℚ flow m (empty m) r) ∷ Product (down_of m d r) (most_flow m r +ℚ flow m (empty m) r) ∷ []
 
--- what nothing accepted makes, and the most that each block adds to that
+-- what nothing accepted makes: of the balance at the price of energy, and of what its flows leave at the prices of rows
+abbrev pub nothing_terms : Parts → Duals Fraction → List Term
+nothing_terms m d = Product d.energy (balance m (empty m)) ∷ flat_map (limit_terms m d) (rows m)
+
+-- that, and the most that each block adds to it
 abbrev pub farkas_terms : Parts → Duals Fraction → List Term
-farkas_terms m d =
-    Product d.energy (balance m (empty m))
-    ∷ (flat_map (limit_terms m d) (rows m)
-    ++ map (λ j. Product (part_above (block_weight m d j)) (quantity m j)) (places (length m.blocks)))
+farkas_terms m d = nothing_terms m d ++ map (λ j. Product (part_above (block_weight m d j)) (quantity m j)) (places (length m.blocks))
 
 -- the most that any dispatch within the blocks' bounds makes of the balance at the price of energy, and of what flows leave of the
 -- most that they may be at the prices of rows

@@ -1,12 +1,12 @@
 -- What buses put in, by lists of numbers, and what may be refused of that.
-use Rattle.std.specs.Prelude.{◌≡◌, ◌⊎◌, ℕ, ◌<◌, List, length, map, slice_index_or}
+use Rattle.std.specs.Prelude.{◌≡◌, ◌⊎◌, ℕ, List, length, map, slice_index_or}
 use Rattle.fraction_theory.specs.Fraction.{Fraction, whole, ◌-ℚ◌}
 use Rattle.exact_fraction.specs.declared.Op.TheVariants.{Minus}
 use Rattle.exact_fraction.specs.declared.Passed.{Passed}
 use Rattle.market_data.specs.declared.participants.Bus.{Bus}
 use Rattle.market_model.specs.declared.participants.Parts.{Parts}
-use Rattle.market_model.specs.Dispatch.{Dispatch, zero, places, injection, injection_terms, dispatch_by}
-use Rattle.market_model.specs.NamedSums.{IsRefusedIn, IsRefusal}
+use Rattle.market_model.specs.Dispatch.{Dispatch, zero, places, injection, dispatch_by}
+use Rattle.market_model.specs.NamedSums.{IsRefusal}
 
 -- the accepted MW of each block, as numbers
 abbrev pub dispatch_of : {N : Type 0} → (N → Fraction) → List N → Dispatch
@@ -23,7 +23,3 @@ AreInjections m x mws = mws ≡ map (injection m x) (places (length m.buses))
 -- a difference refused where a sum is lowered by a bus's load, and then by its shunt
 abbrev pub IsDemandRefusal : Fraction → Bus → ℕ → Passed Fraction → Type 0
 IsDemandRefusal sum bus bound p = IsRefusal Minus sum (whole bus.pd) bound p ⊎ IsRefusal Minus (sum -ℚ whole bus.pd) (whole bus.gs) bound p
-
--- an operation refused at a dispatch, in what a bus puts in
-abbrev pub IsInjectionRefusal : Parts → Dispatch → ℕ → Passed Fraction → Type 0
-IsInjectionRefusal m x bound p = (i : ℕ) × (i < length m.buses) × IsRefusedIn (injection_terms m x i) bound p

@@ -1,4 +1,4 @@
--- The sums of a market that are added up, each by its terms in order.
+-- The sums of a market that are added up, each by its terms in order and in one place. A part is some of them, or other parts together.
 -- Wood and Wollenberg: injections and flows; Schweppe and others, Spot Pricing of Electricity: prices and money.
 use Rattle.std.specs.Prelude.{◌≢◌, ℕ, ◌<◌, List, length, Contains}
 use Rattle.fraction_theory.specs.Fraction.{Fraction}
@@ -9,7 +9,8 @@ use Rattle.market_model.specs.declared.limits.Cause.TheVariants.{Base}
 use Rattle.market_model.specs.declared.limits.Row.{Row}
 use Rattle.market_model.specs.declared.participants.Parts.{Parts}
 use Rattle.market_model.specs.Dispatch.{Dispatch, injection, injection_terms, balance_terms, output_terms, demand_terms}
-use Rattle.market_model.specs.LimitRows.{rows, line_flow, line_terms, flow_by, flow_terms, offset_terms, row_offset}
+use Rattle.market_model.specs.Infeasibility.{farkas_terms}
+use Rattle.market_model.specs.LimitRows.{rows, line_flow, line_terms, flow_by, flow_terms, offset_terms, factor_terms, row_offset}
 use Rattle.market_model.specs.NamedSums.{IsRefusedIn}
 use Rattle.market_model.specs.Optimality.{bus_price, congestion_terms, named_rows, price_terms, welfare_terms}
 use Rattle.market_model.specs.Settlement.{left_terms, lower_terms, priced_flow, rent_terms, upper_terms}
@@ -18,22 +19,66 @@ use Rattle.market_model.specs.Settlement.{left_terms, lower_terms, priced_flow, 
 abbrev pub IsRefusedAmong : (List Term → Type 0) → ℕ → Passed Fraction → Type 0
 IsRefusedAmong IsSum bound p = (terms : List Term) × IsSum terms × IsRefusedIn terms bound p
 
+-- ---- injections and flows
+-- of a dispatch: what a bus puts in
+pub data InjectionSum (m : Parts) (x : Dispatch) : List Term → Type 0 where
+  injection_at : (i : ℕ) → i < length m.buses → InjectionSum m x (injection_terms m x i)
+
+-- that, and all that buses put in
+pub data BalanceSum (m : Parts) (x : Dispatch) : List Term → Type 0 where
+  balance_from_bus : (terms : List Term) → InjectionSum m x terms → BalanceSum m x terms
+  balance_of_all : BalanceSum m x (balance_terms m x)
+
+-- where buses put in p: the flow of a line
+pub data LineFlowSum (m : Parts) (p : ℕ → Fraction) : List Term → Type 0 where
+  flow_of_line : (l : ℕ) → l < length m.lines → LineFlowSum m p (line_terms m p l)
+
+-- where lines have flows f: the flow of a row
+pub data RowFlowSum (m : Parts) (f : ℕ → Fraction) (r : Row) : List Term → Type 0 where
+  flow_of_row : RowFlowSum m f r (flow_terms m f r)
+
 -- of a dispatch: what a bus puts in, and the flow of a line
 pub data CarriedSum (m : Parts) (x : Dispatch) : List Term → Type 0 where
-  injection_at : (i : ℕ) → i < length m.buses → CarriedSum m x (injection_terms m x i)
-  flow_of_line : (l : ℕ) → l < length m.lines → CarriedSum m x (line_terms m (injection m x) l)
+  carried_from_bus : (terms : List Term) → InjectionSum m x terms → CarriedSum m x terms
+  carried_on_line : (terms : List Term) → LineFlowSum m (injection m x) terms → CarriedSum m x terms
 
--- these, all that buses put in, and the flow of a row
+-- the flow of a line, and of a row of the market
+pub data LimitFlowSum (m : Parts) (x : Dispatch) : List Term → Type 0 where
+  limited_line : (terms : List Term) → LineFlowSum m (injection m x) terms → LimitFlowSum m x terms
+  limited_row : (r : Row) (terms : List Term) → Contains (rows m) r → RowFlowSum m (line_flow m (injection m x)) r terms → LimitFlowSum m x terms
+
+-- all of these
 pub data FlowSum (m : Parts) (x : Dispatch) : List Term → Type 0 where
-  carried : (terms : List Term) → CarriedSum m x terms → FlowSum m x terms
-  balance_of_all : FlowSum m x (balance_terms m x)
-  flow_of_row : (r : Row) → Contains (rows m) r → FlowSum m x (flow_terms m (line_flow m (injection m x)) r)
+  flow_in_balance : (terms : List Term) → BalanceSum m x terms → FlowSum m x terms
+  flow_in_limits : (terms : List Term) → LimitFlowSum m x terms → FlowSum m x terms
 
+-- the fixed offset of a row
+pub data OffsetSum (m : Parts) (r : Row) : List Term → Type 0 where
+  offset_of_row : OffsetSum m r (offset_terms m r)
+
+-- its factor at a bus
+pub data FactorSum (m : Parts) (r : Row) : List Term → Type 0 where
+  factor_at_bus : (i : ℕ) → i < length m.buses → FactorSum m r (factor_terms m r i)
+
+-- of a dispatch: the output of a unit
+pub data OutputSum (m : Parts) (x : Dispatch) : List Term → Type 0 where
+  output_of_unit : (u : ℕ) → u < length m.units → OutputSum m x (output_terms m x u)
+
+-- ---- prices
 -- of duals: what limits take from the price at a bus, and that price
-pub data PriceSum (m : Parts) (d : Duals Fraction) : List Term → Type 0 where
-  congestion_at : (i : ℕ) → i < length m.buses → PriceSum m d (congestion_terms m d i)
-  price_at : (i : ℕ) → i < length m.buses → PriceSum m d (price_terms m d i)
+pub data BusPriceSum (m : Parts) (d : Duals Fraction) (i : ℕ) : List Term → Type 0 where
+  congestion_at : BusPriceSum m d i (congestion_terms m d i)
+  price_at : BusPriceSum m d i (price_terms m d i)
 
+-- the same at every bus
+pub data PriceSum (m : Parts) (d : Duals Fraction) : List Term → Type 0 where
+  price_of_bus : (i : ℕ) (terms : List Term) → i < length m.buses → BusPriceSum m d i terms → PriceSum m d terms
+
+-- the bound of duals that are to show that nothing is feasible
+pub data BoundSum (m : Parts) (d : Duals Fraction) : List Term → Type 0 where
+  farkas_bound_of_all : BoundSum m d (farkas_terms m d)
+
+-- ---- money
 -- of payments at prices by bus: what is left, and with duals the rents of some rows
 pub data PaymentSum (m : Parts) (g : List Row) (x : Dispatch) (price : ℕ → Fraction) (d : Duals Fraction) : List Term → Type 0 where
   left_of_all : PaymentSum m g x price d (left_terms m x price)
@@ -46,14 +91,14 @@ pub data MoneySum (m : Parts) (g : List Row) (x : Dispatch) (d : Duals Fraction)
 
 -- of a row whose prices are paid, where lines have flows f: its flow after an outage, its fixed offset, and what each of its prices is paid for
 pub data PaidRowSum (m : Parts) (f : ℕ → Fraction) (r : Row) : List Term → Type 0 where
-  flow_after_outage : r.cause ≢ Base → PaidRowSum m f r (flow_terms m f r)
-  offset_of_row : PaidRowSum m f r (offset_terms m r)
+  flow_after_outage : (terms : List Term) → r.cause ≢ Base → RowFlowSum m f r terms → PaidRowSum m f r terms
+  paid_offset : (terms : List Term) → OffsetSum m r terms → PaidRowSum m f r terms
   upper_of_row : PaidRowSum m f r (upper_terms (priced_flow m r (flow_by m f r)) (row_offset m r))
   lower_of_row : PaidRowSum m f r (lower_terms (priced_flow m r (flow_by m f r)) (row_offset m r))
 
 -- of a settlement at prices by bus: the outputs of units, the demands of buses, payments, and of each row that the duals name what is paid for
 pub data SettledSum (m : Parts) (x : Dispatch) (price : ℕ → Fraction) (d : Duals Fraction) : List Term → Type 0 where
-  output_of_unit : (u : ℕ) → u < length m.units → SettledSum m x price d (output_terms m x u)
+  paid_output : (terms : List Term) → OutputSum m x terms → SettledSum m x price d terms
   demand_of_bus : (i : ℕ) → i < length m.buses → SettledSum m x price d (demand_terms m i)
   payment : (terms : List Term) → PaymentSum m (named_rows m d) x price d terms → SettledSum m x price d terms
   paid_row : (r : Row) (terms : List Term) → Contains (named_rows m d) r → PaidRowSum m (line_flow m (injection m x)) r terms → SettledSum m x price d terms

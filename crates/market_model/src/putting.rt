@@ -7,7 +7,8 @@ ghost use Rattle.exact_fraction.specs.declared.Op.TheVariants as Op;
 ghost use Rattle.market_data.specs.Participants.{IsBus, IsDatum};
 ghost use Rattle.market_model.specs.Dispatch.{zero, signed_by_side, unit_at, units_at, blocks_at, fixed_term, block_term, injection, injection_terms, output as output_of, output_terms};
 ghost use Rattle.market_model.specs.NamedSums.{IsRefusedIn, IsRefusal};
-ghost use Rattle.market_model.specs.PutIn.{dispatch_of, AreInjections, IsDemandRefusal, IsInjectionRefusal};
+ghost use Rattle.market_model.specs.PutIn.{dispatch_of, AreInjections, IsDemandRefusal};
+ghost use Rattle.market_model.specs.SumTables.{IsRefusedAmong, InjectionSum};
 ghost use Rattle.market_model.specs.Valued.{passed_at};
 
 use crate::amounts::datum;
@@ -105,7 +106,7 @@ pub fn injections<N: Exact>(market: &Market, dispatch: &[N], out: &mut [N]) -> R
     requires out { length out.old ≡ length market.now.buses }
     ensures count { length out.new ≡ length out.old }
     ensures injections { IfOk result (λ _. AreInjections market.now (dispatch_of N.value dispatch.now) (map N.value out.new)) }
-    ensures cause { IfErr result (λ passed. IsInjectionRefusal market.now (dispatch_of N.value dispatch.now) N.bound (passed_at N.value passed)) }
+    ensures cause { IfErr result (λ passed. IsRefusedAmong (InjectionSum market.now (dispatch_of N.value dispatch.now)) N.bound (passed_at N.value passed)) }
 {
     for (bus, mw) in out.iter_mut().enumerate() {
         *mw = injection(market, bus, dispatch)?;

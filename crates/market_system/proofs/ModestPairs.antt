@@ -32,7 +32,7 @@ use Rattle.market_model.specs.LimitRows.{rows, row_factor}
 use Rattle.market_model.specs.NamedSums.{SameSize, term_at, IsSumStep}
 use Rattle.market_model.specs.Optimality.{bus_price, block_value, congestion_terms, price_terms, net_shadow_price, unit_price, welfare_terms}
 use Rattle.market_model.specs.Settlement.{surplus_terms}
-use Rattle.market_model.specs.SumTables.{injection_at, flow_of_line, FlowSum, carried, balance_of_all, flow_of_row, PriceSum, congestion_at, price_at, PaymentSum, left_of_all, rent_of_row, MoneySum, welfare_of_all, payment_at_duals}
+use Rattle.market_model.specs.SumTables.{injection_at, balance_from_bus, balance_of_all, flow_of_line, limited_line, limited_row, FlowSum, flow_in_balance, flow_in_limits, output_of_unit, BusPriceSum, PriceSum, price_of_bus, congestion_at, price_at, farkas_bound_of_all, PaymentSum, left_of_all, rent_of_row, MoneySum, welfare_of_all, payment_at_duals}
 use Rattle.market_model.proofs.FarkasLaw.{farkas_terms-bare}
 use Rattle.market_model.proofs.RowLaws.{no_rows, no_row, bus_price-bare, congestion-bare}
 use Rattle.market_system.specs.MarketSystem.{balance_name, system_of, choice_dispatch, choice_duals}
@@ -186,26 +186,29 @@ module _ (m : Parts) (market : IsMarket m) (lines : m.lines ≡ []) (modest : Is
     WithinOf (Some kind) x = IsWholeWithin (most_of kind) x
     WithinOf None x = Unit {0}
 
-    price_sum_within : (b most k : ℕ) (d : Duals Fraction) (terms : List Term) → PriceSum m d terms → 2 * b ≤ most → IsWholeWithin b d.energy → IsWholeWithin most (prefix k terms)
-    price_sum_within b most k d terms (congestion_at i lt) wide e = congestion_within most k i d
-    price_sum_within b most k d terms (price_at i lt) wide e = wider (2 * b) most (prefix k (price_terms m d i)) wide
+    bus_price_sum_within : (b most k : ℕ) (d : Duals Fraction) (i : ℕ) (terms : List Term) → BusPriceSum m d i terms → 2 * b ≤ most → IsWholeWithin b d.energy → IsWholeWithin most (prefix k terms)
+    bus_price_sum_within b most k d i terms congestion_at wide e = congestion_within most k i d
+    bus_price_sum_within b most k d i terms price_at wide e = wider (2 * b) most (prefix k (price_terms m d i)) wide
         (prefix_within 2 b k (price_terms m d i) (Prim.omega arith) (e, (subst (IsWholeWithin b) (sym (congestion-bare m d i bare)) (nil_within b), tt)))
 
+    price_sum_within : (b most k : ℕ) (d : Duals Fraction) (terms : List Term) → PriceSum m d terms → 2 * b ≤ most → IsWholeWithin b d.energy → IsWholeWithin most (prefix k terms)
+    price_sum_within b most k d terms (price_of_bus i same lt part) wide e = bus_price_sum_within b most k d i terms part wide e
+
     flow_sum_within : (x : Dispatch) (k : ℕ) (terms : List Term) → IsInjecting m [] h x → FlowSum m x terms → IsWholeWithin most_value (prefix k terms)
-    flow_sum_within x k terms j (carried same (injection_at i lt)) = wider most_injection most_value (prefix k terms) (Prim.omega arith) (injection_within m market modest x (injecting_small x j) i k lt)
-    flow_sum_within x k terms j balance_of_all = wider most_balance most_value (prefix k terms) (Prim.omega arith) (balance_within m market modest x (injecting_small x j) k)
-    flow_sum_within x k terms j (carried same (flow_of_line l lt)) = absurd (no_line l lt)
-    flow_sum_within x k terms j (flow_of_row r c) = absurd (no_row m r bare c)
+    flow_sum_within x k terms j (flow_in_balance same (balance_from_bus also (injection_at i lt))) = wider most_injection most_value (prefix k terms) (Prim.omega arith) (injection_within m market modest x (injecting_small x j) i k lt)
+    flow_sum_within x k terms j (flow_in_balance same balance_of_all) = wider most_balance most_value (prefix k terms) (Prim.omega arith) (balance_within m market modest x (injecting_small x j) k)
+    flow_sum_within x k terms j (flow_in_limits same (limited_line also (flow_of_line l lt))) = absurd (no_line l lt)
+    flow_sum_within x k terms j (flow_in_limits same (limited_row r also c part)) = absurd (no_row m r bare c)
 
     sum_within : (kind : Option Kind) (terms : List Term) (k : ℕ) → NamedSum m [] h kind terms → WithinOf kind (prefix k terms)
-    sum_within _ terms k (offset_of r c) = absurd (no_row m r bare c)
-    sum_within _ terms k (factor_of r i c lt) = absurd (no_row m r bare c)
+    sum_within _ terms k (offset_of r same c part) = absurd (no_row m r bare c)
+    sum_within _ terms k (factor_of r same c part) = absurd (no_row m r bare c)
     sum_within _ terms k (of_flow x same j flow) = flow_sum_within x k terms j flow
-    sum_within _ terms k (output_of u best lt) = wider most_output most_value (prefix k terms) (Prim.omega arith) (output_terms_within m market modest (choice_dispatch m [] h) (best_small best) u k lt)
+    sum_within _ terms k (output_of same best (output_of_unit u lt)) = wider most_output most_value (prefix k terms) (Prim.omega arith) (output_terms_within m market modest (choice_dispatch m [] h) (best_small best) u k lt)
     sum_within _ terms k (of_price same best price) = price_sum_within modest_price (4000 * modest_price) k (choice_duals m [] h) terms price (Prim.omega arith) price_is_modest
     sum_within _ terms k (of_money same best money) = tt
     sum_within _ terms k (of_farkas_price d same f price) = price_sum_within 1 4000 k d terms price (Prim.omega arith) (farkas_energy_within d f)
-    sum_within _ terms k (farkas_bound_of d f) = farkas_within d k f
+    sum_within _ terms k (farkas_bound_of d same f farkas_bound_of_all) = farkas_within d k f
 
     -- each number of the market
     number_within : (kind : Kind) (x : Fraction) → MarketNumber m [] h kind x → IsWholeWithin (most_of kind) x
@@ -283,14 +286,14 @@ module _ (m : Parts) (market : IsMarket m) (lines : m.lines ≡ []) (modest : Is
     FitsOf None terms = (op : Op) (l r : Fraction) → IsSumStep terms op l r → Passes most op l r → ⊥
 
     money_fits : (kind : Option Kind) (terms : List Term) → NamedSum m [] h kind terms → FitsOf kind terms
-    money_fits _ terms (offset_of r c) = tt
-    money_fits _ terms (factor_of r i c lt) = tt
+    money_fits _ terms (offset_of r same c part) = tt
+    money_fits _ terms (factor_of r same c part) = tt
     money_fits _ terms (of_flow x same j flow) = tt
-    money_fits _ terms (output_of u best lt) = tt
+    money_fits _ terms (output_of same best part) = tt
     money_fits _ terms (of_price same best price) = tt
     money_fits _ terms (of_money same best money) = money_sum_fits best terms money
     money_fits _ terms (of_farkas_price d same f price) = tt
-    money_fits _ terms (farkas_bound_of d f) = tt
+    money_fits _ terms (farkas_bound_of d same f part) = tt
 
   pair_fits : (op : Op) (l r : Fraction) → IsWorkingPair m [] most op l r → ⊥
   pair_fits op l r pair = of_sides pair.sides

@@ -35,7 +35,7 @@ use Rattle.market_model.specs.Market.{IsMarket}
 use Rattle.market_model.specs.NamedSums.{SameSize, term_at, IsNextTerm, IsSumStep, IsRefusedIn, IsRefusal}
 use Rattle.market_model.specs.Optimality.{net_shadow_price, up_of, down_of, congestion, congestion_by, congestion_terms, price_by, price_terms, bus_price, unit_price}
 use Rattle.market_model.specs.Infeasibility.{where_above, part_above, block_weight, limit_terms, farkas_terms}
-use Rattle.market_model.specs.SumTables.{CarriedSum, injection_at, flow_of_line, FlowSum, carried, balance_of_all, flow_of_row, PriceSum, congestion_at, price_at}
+use Rattle.market_model.specs.SumTables.{injection_at, balance_from_bus, balance_of_all, flow_of_line, flow_of_row, limited_line, limited_row, FlowSum, flow_in_balance, flow_in_limits, offset_of_row, factor_at_bus, output_of_unit, BusPriceSum, PriceSum, price_of_bus, congestion_at, price_at, farkas_bound_of_all}
 use Rattle.market_system.specs.Growth.{Growth}
 use Rattle.market_system.specs.MarketNumbers.{IsRightChoice, IsInjecting, IsFarkasOf, NamedSum, offset_of, factor_of, of_flow, output_of, of_price, of_money, of_farkas_price, farkas_bound_of, MarketNumber, of_system, of_sum, is_limit, is_line_offset, is_shift, is_loss, is_up_dual, is_down_dual, is_farkas_energy, is_farkas_up, is_farkas_down, of_opposite}
 use Rattle.market_system.specs.MarketSystem.{system_of, choice_dispatch, choice_duals}
@@ -225,59 +225,59 @@ module _ (m : Parts) (taken g : List Row) (reached : Growth m taken g) (h : Choi
   module _ (market : IsMarket m) (x : Dispatch) (injecting : IsInjecting m g h x) where
     injected : (i : ℕ) → i < length m.buses → Number Quantity (injection m x i)
     unfolding injection
-    injected i lt = whole_sum Quantity (injection_terms m x i) (of_flow x (injection_terms m x i) injecting (carried (injection_terms m x i) (injection_at i lt)))
+    injected i lt = whole_sum Quantity (injection_terms m x i) (of_flow x (injection_terms m x i) injecting (flow_in_balance _ (balance_from_bus _ (injection_at i lt))))
 
     lined : (l : ℕ) → l < length m.lines → Number Quantity (line_flow m (injection m x) l)
     unfolding line_flow
-    lined l lt = whole_sum Quantity (line_terms m (injection m x) l) (of_flow x (line_terms m (injection m x) l) injecting (carried (line_terms m (injection m x) l) (flow_of_line l lt)))
+    lined l lt = whole_sum Quantity (line_terms m (injection m x) l) (of_flow x (line_terms m (injection m x) l) injecting (flow_in_limits _ (limited_line _ (flow_of_line l lt))))
 
     pub row_flow_number : (r : Row) → Contains (rows m) r → Number Quantity (flow m x r)
-    row_flow_number r c = whole_sum Quantity (flow_terms m (line_flow m (injection m x)) r) (of_flow x (flow_terms m (line_flow m (injection m x)) r) injecting (flow_of_row r c))
+    row_flow_number r c = whole_sum Quantity (flow_terms m (line_flow m (injection m x)) r) (of_flow x (flow_terms m (line_flow m (injection m x)) r) injecting (flow_in_limits _ (limited_row r _ c flow_of_row)))
 
     balanced : Number Quantity (balance m x)
     unfolding balance
-    balanced = whole_sum Quantity (balance_terms m x) (of_flow x (balance_terms m x) injecting balance_of_all)
+    balanced = whole_sum Quantity (balance_terms m x) (of_flow x (balance_terms m x) injecting (flow_in_balance _ balance_of_all))
 
     after : (l : ℕ) (cause : Cause) → l < length m.lines → IsLost m cause → AreScaled Quantity (flow_terms_in m (line_flow m (injection m x)) l cause)
     after l Base lt lost = (tt, tt)
     after l (Branch k) lt lost = (tt, (inl (is_loss l k lt lost.0, alone (line_flow m (injection m x) k) (lined k lost.0)), tt))
 
-    carried_scaled : (terms : List Term) → CarriedSum m x terms → AreScaled Quantity terms
-    carried_scaled terms (injection_at i lt) =
+    flows_scaled : (terms : List Term) → FlowSum m x terms → AreScaled Quantity terms
+    flows_scaled terms (flow_in_balance same (balance_from_bus also (injection_at i lt))) =
         scaled_append Quantity (map (fixed_term m) (units_at m i) ++ map (block_term m x) (blocks_at m i)) (Plain (neg_ℚ (whole (bus_at m i).pd)) ∷ Plain (neg_ℚ (whole (bus_at m i).gs)) ∷ [])
         (scaled_append Quantity (map (fixed_term m) (units_at m i)) (map (block_term m x) (blocks_at m i))
         (scaled_map Quantity (fixed_term m) (units_at m i) (λ u c. tt))
         (scaled_map Quantity (block_term m x) (blocks_at m i) (λ j c. tt)))
         (tt, (tt, tt))
-    carried_scaled terms (flow_of_line l lt) = (
+    flows_scaled terms (flow_in_limits same (limited_line also (flow_of_line l lt))) = (
       tt,
       scaled_map Quantity (λ i. Product (shift_factor m l i) (injection m x i)) (places (length m.buses))
           (λ i c. let inside = below (length m.buses) i c in inl (is_shift l i lt inside, alone (injection m x i) (injected i inside))),
     )
-
-    flows_scaled : (terms : List Term) → FlowSum m x terms → AreScaled Quantity terms
-    flows_scaled terms (carried same part) = carried_scaled terms part
-    flows_scaled terms balance_of_all = scaled_map Quantity (λ i. Plain (injection m x i)) (places (length m.buses)) (λ i c. tt)
-    flows_scaled terms (flow_of_row r c) = let s = stands m market r c in after r.line r.cause s.line s.lost
+    flows_scaled terms (flow_in_balance same balance_of_all) = scaled_map Quantity (λ i. Plain (injection m x i)) (places (length m.buses)) (λ i c. tt)
+    flows_scaled terms (flow_in_limits same (limited_row r also c flow_of_row)) = let s = stands m market r c in after r.line r.cause s.line s.lost
 
   -- ---- prices
   pub congestion_number : IsRightChoice m g h → (i : ℕ) → i < length m.buses → Number Price (congestion m (choice_duals m g h) i)
   unfolding congestion_by
-  congestion_number best i lt = whole_sum Price (congestion_terms m (choice_duals m g h) i) (of_price (congestion_terms m (choice_duals m g h) i) best (congestion_at i lt))
+  congestion_number best i lt = whole_sum Price (congestion_terms m (choice_duals m g h) i) (of_price (congestion_terms m (choice_duals m g h) i) best (price_of_bus i _ lt congestion_at))
 
   module _ (kind : Kind) (d : Duals Fraction) (ups : (r : Row) → Contains (rows m) r → Number kind (up_of m d r)) (downs : (r : Row) → Contains (rows m) r → Number kind (down_of m d r)) where
-    prices_scaled : (terms : List Term) → PriceSum m d terms → AreScaled kind terms
+    bus_prices_scaled : (i : ℕ) → i < length m.buses → (terms : List Term) → BusPriceSum m d i terms → AreScaled kind terms
     unfolding row_factor
-    prices_scaled terms (congestion_at i lt) = scaled_map kind (λ r. Product (neg_ℚ (net_shadow_price m d r)) (row_factor m r i)) (rows m) (λ r c. inr (
+    bus_prices_scaled i lt terms congestion_at = scaled_map kind (λ r. Product (neg_ℚ (net_shadow_price m d r)) (row_factor m r i)) (rows m) (λ r c. inr (
       combined_opposite Number opposite kind (net_shadow_price m d r) (difference (up_of m d r) (down_of m d r) (ups r c) (downs r c)),
-      whole_sum Factor (factor_terms m r i) (factor_of r i c lt),
+      whole_sum Factor (factor_terms m r i) (factor_of r _ c (factor_at_bus i lt)),
     ))
-    prices_scaled terms (price_at i lt) = (tt, (tt, tt))
+    bus_prices_scaled i lt terms price_at = (tt, (tt, tt))
+
+    prices_scaled : (terms : List Term) → PriceSum m d terms → AreScaled kind terms
+    prices_scaled terms (price_of_bus i same lt part) = bus_prices_scaled i lt terms part
 
   -- ---- the fixed offset and the factor of a row
   pub row_offset_number : (r : Row) → Contains (rows m) r → Number Quantity (row_offset m r)
   unfolding row_offset
-  row_offset_number r c = whole_sum Quantity (offset_terms m r) (offset_of r c)
+  row_offset_number r c = whole_sum Quantity (offset_terms m r) (offset_of r _ c offset_of_row)
 
   offset_scaled : (l : ℕ) (cause : Cause) → l < length m.lines → IsLost m cause → AreScaled Quantity (offset_terms_in m l cause)
   offset_scaled l Base lt lost = (tt, tt)
@@ -306,7 +306,7 @@ module _ (m : Parts) (taken g : List Row) (reached : Growth m taken g) (h : Choi
     price_number : (i : ℕ) → i < length m.buses → Number Factor (bus_price m d i)
     unfolding price_by
     price_number i lt = subst (Number Factor) (by_ring ring_ℚ (d.energy ∷ congestion m d i ∷ []) (at 0 ⊕ (at 1 ⊕ pnil)) (at 0 ⊕ at 1) refl)
-        (whole_sum Factor (price_terms m d i) (of_farkas_price d (price_terms m d i) f (price_at i lt)))
+        (whole_sum Factor (price_terms m d i) (of_farkas_price d (price_terms m d i) f (price_of_bus i _ lt price_at)))
 
     signed_number : (side : Side) (x : Fraction) → Number Factor x → Number Factor (signed_by_side side x)
     signed_number Sell x n = n
@@ -337,16 +337,16 @@ module _ (m : Parts) (taken g : List Row) (reached : Growth m taken g) (h : Choi
 
   -- ---- every named sum
   by_sum : IsMarket m → (kind : Option Kind) (terms : List Term) → NamedSum m g h kind terms → IsRefusedIn terms bound p → IsRangeOf m taken bound p
-  by_sum market _ terms (offset_of r c) = let s = stands m market r c in by_steps Quantity terms (offset_of r c) (offset_scaled r.line r.cause s.line s.lost)
-  by_sum market _ terms (factor_of r i c lt) = let s = stands m market r c in by_steps Factor terms (factor_of r i c lt) (factor_scaled r.line r.cause i s.line s.lost lt)
+  by_sum market _ terms (offset_of r same c offset_of_row) = let s = stands m market r c in by_steps Quantity terms (offset_of r terms c offset_of_row) (offset_scaled r.line r.cause s.line s.lost)
+  by_sum market _ terms (factor_of r same c (factor_at_bus i lt)) = let s = stands m market r c in by_steps Factor terms (factor_of r terms c (factor_at_bus i lt)) (factor_scaled r.line r.cause i s.line s.lost lt)
   by_sum market _ terms (of_flow x same injecting flow) = by_steps Quantity terms (of_flow x terms injecting flow) (flows_scaled market x injecting terms flow)
-  by_sum market _ terms (output_of u best lt) =
-      by_steps Quantity terms (output_of u best lt) (tt, scaled_map Quantity (block_term m (choice_dispatch m g h)) (blocks_of m u) (λ j c. tt))
+  by_sum market _ terms (output_of same best (output_of_unit u lt)) =
+      by_steps Quantity terms (output_of terms best (output_of_unit u lt)) (tt, scaled_map Quantity (block_term m (choice_dispatch m g h)) (blocks_of m u) (λ j c. tt))
   by_sum market _ terms (of_price same best price) = by_steps Price terms (of_price terms best price) (prices_scaled Price (choice_duals m g h) is_up_dual is_down_dual terms price)
   by_sum market _ terms (of_money same best money) = by_money terms (of_money terms best money)
   by_sum market _ terms (of_farkas_price d same f price) =
       by_steps Factor terms (of_farkas_price d terms f price) (prices_scaled Factor d (λ r c. is_farkas_up d r f c) (λ r c. is_farkas_down d r f c) terms price)
-  by_sum market _ terms (farkas_bound_of d f) = by_steps Quantity terms (farkas_bound_of d f) (bound_scaled market d f)
+  by_sum market _ terms (farkas_bound_of d same f farkas_bound_of_all) = by_steps Quantity terms (farkas_bound_of d terms f farkas_bound_of_all) (bound_scaled market d f)
 
 pub law_of_the_pairs : LawOfThePairs
 law_of_the_pairs m taken g h bound p market reached is = record {

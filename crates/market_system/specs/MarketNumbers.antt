@@ -9,15 +9,15 @@ use Rattle.linear_system.specs.Numbers.{Kind, Factor, Quantity, Price, SystemNum
 use Rattle.simplex_theory.specs.Stuck.{multiplier}
 use Rattle.market_model.specs.declared.participants.Parts.{Parts}
 use Rattle.market_model.specs.declared.answered.Duals.{Duals}
-use Rattle.market_model.specs.Dispatch.{Dispatch, zero, bus_at, unit_at, empty, output_terms}
+use Rattle.market_model.specs.Dispatch.{Dispatch, zero, bus_at, unit_at, empty}
 use Rattle.market_model.specs.declared.limits.Row.{Row}
-use Rattle.market_model.specs.LimitRows.{rows as all_rows, limit, shift_factor, loss_factor, line_offset, offset_terms, factor_terms}
+use Rattle.market_model.specs.LimitRows.{rows as all_rows, limit, shift_factor, loss_factor, line_offset}
 use Rattle.market_model.specs.Optimality.{Feasible, Supports, up_of, down_of, net_shadow_price}
-use Rattle.market_model.specs.Infeasibility.{ShowsInfeasible, farkas_terms}
+use Rattle.market_model.specs.Infeasibility.{ShowsInfeasible}
 use Rattle.market_system.specs.MarketSystem.{balance_name, row_name, system_of, choice_dispatch, choice_duals}
 use Rattle.market_system.specs.Growth.{BestFor}
 use Rattle.market_model.specs.NamedSums.{SameSize}
-use Rattle.market_model.specs.SumTables.{FlowSum, PriceSum, MoneySum}
+use Rattle.market_model.specs.SumTables.{FlowSum, OffsetSum, FactorSum, OutputSum, PriceSum, BoundSum, MoneySum}
 
 -- the choice's dispatch is feasible, and its duals support it
 pub record IsRightChoice (m : Parts) (rows : List Row) (h : Choice) : Type 0 where
@@ -42,17 +42,17 @@ pub record IsFarkasOf (m : Parts) (rows : List Row) (h : Choice) (d : Duals Frac
 -- The sums that may be added up at a choice: each with the kind of its first terms, which money has not, its terms in order, and when it counts.
 pub data NamedSum (m : Parts) (rows : List Row) (h : Choice) : Option Kind → List Term → Type 0 where
   -- the fixed offset of a row, and its factor at a bus
-  offset_of : (r : Row) → Contains (all_rows m) r → NamedSum m rows h (Some Quantity) (offset_terms m r)
-  factor_of : (r : Row) (i : ℕ) → Contains (all_rows m) r → i < length m.buses → NamedSum m rows h (Some Factor) (factor_terms m r i)
+  offset_of : (r : Row) (terms : List Term) → Contains (all_rows m) r → OffsetSum m r terms → NamedSum m rows h (Some Quantity) terms
+  factor_of : (r : Row) (terms : List Term) → Contains (all_rows m) r → FactorSum m r terms → NamedSum m rows h (Some Factor) terms
   -- injections and flows
   of_flow : (x : Dispatch) (terms : List Term) → IsInjecting m rows h x → FlowSum m x terms → NamedSum m rows h (Some Quantity) terms
   -- at a right choice: a unit's output, prices, and money
-  output_of : (u : ℕ) → IsRightChoice m rows h → u < length m.units → NamedSum m rows h (Some Quantity) (output_terms m (choice_dispatch m rows h) u)
+  output_of : (terms : List Term) → IsRightChoice m rows h → OutputSum m (choice_dispatch m rows h) terms → NamedSum m rows h (Some Quantity) terms
   of_price : (terms : List Term) → IsRightChoice m rows h → PriceSum m (choice_duals m rows h) terms → NamedSum m rows h (Some Price) terms
   of_money : (terms : List Term) → IsRightChoice m rows h → MoneySum m rows (choice_dispatch m rows h) (choice_duals m rows h) terms → NamedSum m rows h None terms
   -- at duals that show that nothing is feasible: prices, and the bound
   of_farkas_price : (d : Duals Fraction) (terms : List Term) → IsFarkasOf m rows h d → PriceSum m d terms → NamedSum m rows h (Some Factor) terms
-  farkas_bound_of : (d : Duals Fraction) → IsFarkasOf m rows h d → NamedSum m rows h (Some Quantity) (farkas_terms m d)
+  farkas_bound_of : (d : Duals Fraction) (terms : List Term) → IsFarkasOf m rows h d → BoundSum m d terms → NamedSum m rows h (Some Quantity) terms
 
 -- x is a number of this kind. The number of terms k is free: a whole sum is the prefix of all its terms.
 pub data MarketNumber (m : Parts) (rows : List Row) (h : Choice) : Kind → Fraction → Type 0 where

@@ -24,7 +24,7 @@ use Rattle.market_model.proofs.SumSteps.{plus_at, multiplied_at, terms_at, behin
 use Rattle.market_model.proofs.PutInSteps.{accepted_is}
 use Rattle.market_model.specs.PutIn.{dispatch_of}
 use Rattle.market_model.specs.Settlement.{pay_of_unit, pay_of_load, left_terms}
-use Rattle.market_model.specs.SumTables.{demand_of_bus, left_of_all, output_of_unit, payment}
+use Rattle.market_model.specs.SumTables.{demand_of_bus, left_of_all, output_of_unit, paid_output, payment}
 use Rattle.settlement.specs.Paying.{total_at}
 use Rattle.settlement.specs.Refusals.{IsMoneyRefusal}
 
@@ -114,7 +114,7 @@ module _ (m : Parts) (x : Dispatch) (price : ℕ → Fraction) (d : Duals Fracti
 
   pub unit_refusal : (u : ℕ) (t : Fraction) → u < length m.units → t ≡ price (unit_at m u).bus → IsRefusedIn (output_terms m x u) bound p ⊎ IsRefusal Times t (output m x u) bound p
       → IsMoneyRefusal m x price d bound p
-  unit_refusal u t below is (inl h) = (output_terms m x u, output_of_unit u below, h)
+  unit_refusal u t below is (inl h) = (output_terms m x u, paid_output _ (output_of_unit u below), h)
   unit_refusal u t below is (inr h) =
       let r = terms_at unit_term (length m.units) u below in
       let front : List Term = map load_term (places (length m.buses)) in (

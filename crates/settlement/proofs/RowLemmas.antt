@@ -20,7 +20,7 @@ use Rattle.market_model.specs.Optimality.{named_rows}
 use Rattle.market_model.specs.RightAnswers.{rent_of}
 use Rattle.market_model.specs.Market.{IsMarket}
 use Rattle.market_model.specs.Settlement.{earned_terms, lower_terms, priced_flow, rent, rent_terms, upper_terms}
-use Rattle.market_model.specs.SumTables.{IsRefusedAmong, rent_of_row, PaidRowSum, flow_after_outage, offset_of_row, upper_of_row, lower_of_row, payment, paid_row}
+use Rattle.market_model.specs.SumTables.{IsRefusedAmong, rent_of_row, PaidRowSum, flow_after_outage, flow_of_row, offset_of_row, paid_offset, upper_of_row, lower_of_row, payment, paid_row}
 use Rattle.market_model.proofs.SumSteps.{minus_at, multiplied_at, plus_at}
 use Rattle.limit_rows.proofs.DualLemmas.{IsRowOfDual}
 use Rattle.limit_screen.proofs.ScreenLemmas.{row_terms}
@@ -81,9 +81,9 @@ module _ (m : Parts) (x : Dispatch) (flows : List Fraction) (are : flows ≡ flo
 
     -- the sums of the row are those where lines have the flows of the dispatch
     paid_row_same : (terms : List Term) → PaidRowSum m (line_in m flows) r terms → IsRefusedIn terms bound p → IsMoneyRefusal m x price d bound p
-    paid_row_same terms (flow_after_outage after) a =
-        (flow_terms m (line_flow m (injection m x)) r, paid_row r _ named (flow_after_outage after), subst (λ ts. IsRefusedIn ts bound p) (row_terms m x flows r market are h.row) a)
-    paid_row_same terms offset_of_row a = (offset_terms m r, paid_row r _ named offset_of_row, a)
+    paid_row_same terms (flow_after_outage same after flow_of_row) a =
+        (flow_terms m (line_flow m (injection m x)) r, paid_row r _ named (flow_after_outage _ after flow_of_row), subst (λ ts. IsRefusedIn ts bound p) (row_terms m x flows r market are h.row) a)
+    paid_row_same terms (paid_offset same offset_of_row) a = (offset_terms m r, paid_row r _ named (paid_offset _ offset_of_row), a)
     paid_row_same terms upper_of_row a = (upper_terms (limit m r) (row_offset m r), paid_row r _ named upper_of_row, a)
     paid_row_same terms lower_of_row a = (lower_terms (limit m r) (row_offset m r), paid_row r _ named lower_of_row, a)
 

@@ -5,7 +5,7 @@ use Rattle.market_model.specs.Dispatch.{places}
 use Rattle.market_model.specs.declared.limits.Row.{Row}
 use Rattle.market_model.specs.LimitRows.{row_factor}
 use Rattle.market_model.specs.Optimality.{named_rows, price_terms, congestion_terms}
-use Rattle.market_model.specs.SumTables.{congestion_at, price_at as total_at}
+use Rattle.market_model.specs.SumTables.{congestion_at, price_at as total_at, price_of_bus}
 use Rattle.market_model.specs.Valued.{dual_at, duals_at, passed_at}
 use Rattle.limit_rows.proofs.DualLemmas.{named_count, dual_one_sided, dual_row}
 use Rattle.bus_prices.proofs.PriceLemmas.{congestion_all, congestion_refused, congestion_step, congestion_to, made_of_parts, same_parts, total_refused}
@@ -48,7 +48,7 @@ returns-in_err-add_row-clause-cause g c =
     let given : c.from_residual.result ≡ Err c.in_err-add_row.field-0.0 = search rules in
     rw given (
       congestion_terms m d why.0,
-      congestion_at why.0 why.1,
+      price_of_bus why.0 _ why.1 congestion_at,
       congestion_refused m d why.0 k (dual_at value c.dual-item.result) r.0 (value c.opposite_net_price.result) (row_factor m c.found_row-row.result why.0) (congestion_to m d why.0 k) g.N.Exact.bound
           (passed_at value c.in_err-add_row.field-0.0) r.1 c.opposite_net_price.ensures (ap (λ (s : Row). row_factor m s why.0) is) refl why.2,
     )
@@ -76,5 +76,5 @@ returns-clause-cause g c =
     IfErr-weaker c.put_totals.result _ _
     (λ p why.
     let inside : why.0 < length m.buses = omega (arith, why.1, c.loop-dual.auto.out, c.requires.out) in
-    (price_terms m d why.0, total_at why.0 inside, total_refused m d why.0 (congestion_to m d why.0 k) g.N.Exact.bound (passed_at g.N.Exact.value p) (congestion_all m d why.0 k all) why.2))
+    (price_terms m d why.0, price_of_bus why.0 _ inside total_at, total_refused m d why.0 (congestion_to m d why.0 k) g.N.Exact.bound (passed_at g.N.Exact.value p) (congestion_all m d why.0 k all) why.2))
     (c.put_totals.ensures.cause d.energy (λ bus. congestion_to m d bus k) c.loop-dual.invariant)

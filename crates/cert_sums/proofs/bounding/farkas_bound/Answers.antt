@@ -6,8 +6,8 @@ use Rattle.market_model.specs.Valued.{passed_at}
 use Rattle.market_model.proofs.SumSteps.{refusal}
 use Rattle.cert_sums.specs.declared.stops.VerifyStop.TheVariants as why
 use Rattle.cert_sums.specs.Pairs.{IsFarkasPair}
-use Rattle.market_model.specs.PutIn.{dispatch_of, AreInjections, IsInjectionRefusal}
-use Rattle.limit_rows.specs.LineFlows.{IsLineRefusal}
+use Rattle.market_model.specs.PutIn.{dispatch_of, AreInjections}
+use Rattle.market_model.specs.SumTables.{IsRefusedAmong, InjectionSum, LineFlowSum}
 use Rattle.cert_sums.proofs.BoundLemmas.{nothing_is, stopped_weaker, injection_pair, line_pair, balance_pair, energy_refused}
 use Rattle.cert_sums.proofs.bounding.farkas_bound.Goals as goal
 
@@ -18,7 +18,7 @@ returns-in_err-by_bus-clause-cause g c =
     let is = nothing_is value m c.slice.result.now c.in_ok-nothing.nothing _ c.slice.ensures c.in_ok-nothing.ensures (c.len.ensures ∙ ap length c.blocks-2.ensures.list) in
     let given : c.from_residual-in_err-by_bus.result ≡ Err c.in_err-by_bus.field-0.0 = search rules in
     λ d energy are. rw given
-    (stopped_weaker value (IsInjectionRefusal m (dispatch_of value c.slice.result.now) g.N.Exact.bound) (IsFarkasPair m d g.N.Exact.bound) c.in_err-by_bus.field-0.0
+    (stopped_weaker value (IsRefusedAmong (InjectionSum m (dispatch_of value c.slice.result.now)) g.N.Exact.bound) (IsFarkasPair m d g.N.Exact.bound) c.in_err-by_bus.field-0.0
     (λ p. injection_pair m d g.N.Exact.bound p (dispatch_of value c.slice.result.now) is) c.in_err-by_bus.ensures.cause)
 
 pub returns-in_err-by_line-clause-cause : goal.returns-in_err-by_line-clause-cause
@@ -29,7 +29,7 @@ returns-in_err-by_line-clause-cause g c =
     let puts = subst (λ (x : Dispatch). AreInjections m x (map value c.deref.result.now)) is (ap (map value) c.deref.ensures.value ∙ c.in_ok-by_bus.ensures.injections) in
     let given : c.from_residual-in_err-by_line.result ≡ Err c.in_err-by_line.field-0.0 = search rules in
     λ d energy are. rw given
-    (stopped_weaker value (IsLineRefusal m (injection m (empty m)) g.N.Exact.bound) (IsFarkasPair m d g.N.Exact.bound) c.in_err-by_line.field-0.0
+    (stopped_weaker value (IsRefusedAmong (LineFlowSum m (injection m (empty m))) g.N.Exact.bound) (IsFarkasPair m d g.N.Exact.bound) c.in_err-by_line.field-0.0
     (λ p. line_pair m d g.N.Exact.bound p) (c.in_err-by_line.ensures.cause (empty m) puts))
 
 pub returns-in_err-all-clause-cause : goal.returns-in_err-all-clause-cause

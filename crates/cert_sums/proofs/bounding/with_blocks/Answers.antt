@@ -8,7 +8,8 @@ use Rattle.market_model.specs.Dispatch.{block_at, signed_by_side}
 use Rattle.market_model.specs.Optimality.{bus_price}
 use Rattle.market_model.specs.Valued.{passed_at}
 use Rattle.market_model.proofs.MarketSums.{block_bus-in}
-use Rattle.cert_sums.proofs.BoundLemmas.{blocks_none, blocks_all, block_step, block_refused, price_pair}
+use Rattle.cert_sums.specs.Pairs.{in_price, of_empty}
+use Rattle.cert_sums.proofs.BoundLemmas.{blocks_none, blocks_all, block_step, block_refused}
 use Rattle.market_model.proofs.PutInSteps.{unit_read}
 use Rattle.cert_sums.proofs.bounding.with_blocks.Goals as goal
 
@@ -45,7 +46,7 @@ returns-in_err-price-clause-cause g c =
     let bus = subst (λ (v : unit.Unit). v.bus < length m.buses) (sym u) (block_bus-in m c.units-units.ensures.market k below) in
     let given : c.from_residual.result ≡ Err c.in_err-price.field-0.0 = search rules in
     λ d energy are start. rw given
-    (price_pair m d c.at.result.now.bus g.N.Exact.bound (passed_at g.N.Exact.value c.in_err-price.field-0.0) bus (c.in_err-price.ensures.cause d energy are))
+    (of_empty (in_price (c.at.result.now.bus, bus, c.in_err-price.ensures.cause d energy are)))
 
 pub loop-at-preserved : goal.loop-at-preserved
 loop-at-preserved g c = λ d energy are start.

@@ -7,6 +7,7 @@ use Rattle.fraction_theory.specs.Sums.{Term, total}
 use Rattle.market_data.proofs.Data.{datum_fits}
 use Rattle.market_model.specs.Dispatch.{empty}
 use Rattle.market_model.specs.NamedSums.{IsRefusedIn}
+use Rattle.market_model.specs.SumTables.{flow_of_row}
 use Rattle.market_model.specs.Valued.{passed_at}
 use Rattle.limit_rows.proofs.FlowSteps.{row_terms_are}
 use Rattle.cert_sums.specs.Named.{priced_at}
@@ -19,7 +20,7 @@ returns-in_err-flow-clause-cause g c = λ x are.
     let value = g.N.Exact.value in
     let given : c.from_residual.result ≡ Err c.in_err-flow.field-0.0 = search rules in
     let terms = row_terms_are c.args.market.now x (map value c.args.flows.now) are c.args.entry.now.row c.requires.line c.requires.lost in
-    rw given (in_flow (subst (λ (ts : List Term). IsRefusedIn ts g.N.Exact.bound (passed_at value c.in_err-flow.field-0.0)) terms c.in_err-flow.ensures.cause))
+    rw given (in_flow (_, flow_of_row, subst (λ (ts : List Term). IsRefusedIn ts g.N.Exact.bound (passed_at value c.in_err-flow.field-0.0)) terms c.in_err-flow.ensures.cause))
 
 pub returns-clause-sum : goal.returns-clause-sum
 returns-clause-sum g c = λ d priced are.

@@ -1,8 +1,8 @@
-use Rattle.std.proofs.Common.{rules, Err, ◌≡◌, ◌∙◌, ap, inl, inr, map, sym}
+use Rattle.std.proofs.Common.{rules, Err, ◌≡◌, ◌∙◌, ap, map, sym}
 use Rattle.market_model.specs.Dispatch.{injection}
 use Rattle.market_model.specs.Valued.{dual_at}
-use Rattle.market_model.specs.PutIn.{IsInjectionRefusal, dispatch_of}
-use Rattle.limit_rows.specs.LineFlows.{IsLineRefusal}
+use Rattle.market_model.specs.PutIn.{dispatch_of}
+use Rattle.market_model.specs.SumTables.{IsRefusedAmong, InjectionSum, balance_from_bus, balance_of_all, LineFlowSum, limited_line}
 use Rattle.cert_sums.specs.declared.stops.VerifyStop.TheVariants as why
 use Rattle.cert_verify.specs.Certificates.{named_duals}
 use Rattle.cert_verify.specs.Stops.{IsOptimalStop, at_balance, at_limits}
@@ -17,7 +17,7 @@ returns-in_err-by_bus-clause-cause g c =
     let ds = map (dual_at value) c.args.limits.now in
     let given : c.from_residual.result ≡ Err c.in_err-by_bus.field-0.0 = search rules in
     λ energy none. rw given
-    (stopped_by value (IsInjectionRefusal m x g.N.Exact.bound) (IsOptimalStop m x (named_duals energy ds) g.N.Exact.bound) c.in_err-by_bus.field-0.0 (λ p h. at_balance (inl h) none) c.in_err-by_bus.ensures.cause)
+    (stopped_by value (IsRefusedAmong (InjectionSum m x) g.N.Exact.bound) (IsOptimalStop m x (named_duals energy ds) g.N.Exact.bound) c.in_err-by_bus.field-0.0 (λ p h. at_balance (h.0, balance_from_bus h.0 h.1, h.2) none) c.in_err-by_bus.ensures.cause)
 
 pub returns-in_err-balance-clause-cause : goal.returns-in_err-balance-clause-cause
 returns-in_err-balance-clause-cause g c =
@@ -25,7 +25,7 @@ returns-in_err-balance-clause-cause g c =
     let x = dispatch_of value c.args.blocks.now in
     let puts = ap (map value) c.deref.ensures.value ∙ c.in_ok-by_bus.ensures.injections in
     let given : c.from_residual-in_err-balance.result ≡ Err (why.Range c.in_err-balance.field-0.0) = search rules in
-    λ energy none. rw given (at_balance (inr (c.in_err-balance.ensures.cause x puts)) none)
+    λ energy none. rw given (at_balance (_, balance_of_all, c.in_err-balance.ensures.cause x puts) none)
 
 pub returns-in_err-by_line-clause-cause : goal.returns-in_err-by_line-clause-cause
 returns-in_err-by_line-clause-cause g c =
@@ -39,7 +39,7 @@ returns-in_err-by_line-clause-cause g c =
     λ energy none.
     let before = before_flows m x ds (value c.in_ok-balance.field-0) (value c.datum.result) (c.in_ok-balance.ensures.sum x puts) c.datum.ensures (sym c.differ.ensures ∙ c.if-differ.false) none in
     rw given
-    (stopped_by value (IsLineRefusal m (injection m x) g.N.Exact.bound) (IsOptimalStop m x (named_duals energy ds) g.N.Exact.bound) c.in_err-by_line.field-0.0 (λ p h. at_limits (inl h) before) (c.in_err-by_line.ensures.cause x puts_then))
+    (stopped_by value (IsRefusedAmong (LineFlowSum m (injection m x)) g.N.Exact.bound) (IsOptimalStop m x (named_duals energy ds) g.N.Exact.bound) c.in_err-by_line.field-0.0 (λ p h. at_limits (h.0, limited_line h.0 h.1, h.2) before) (c.in_err-by_line.ensures.cause x puts_then))
 
 pub returns-in_err-reason-clause-cause : goal.returns-in_err-reason-clause-cause
 returns-in_err-reason-clause-cause g c =

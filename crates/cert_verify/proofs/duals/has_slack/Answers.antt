@@ -1,7 +1,8 @@
-use Rattle.std.proofs.Common.{rules, Err, inr, ◌≡◌, ◌∙◌, ap, ap₂, sym, map, w64}
+use Rattle.std.proofs.Common.{rules, Err, ◌≡◌, ◌∙◌, ap, ap₂, sym, map, w64}
 use Rattle.std.proofs.lemmas.Int.{to_z-of_z}
 use mir.Val.{to_z, of_z}
 use Rattle.fraction_theory.specs.Fraction.{Fraction, whole}
+use Rattle.market_model.specs.SumTables.{flow_of_row, limited_row}
 use Rattle.market_model.specs.Valued.{dual_at, passed_at}
 use Rattle.limit_rows.proofs.PlaceLemmas.{at_places}
 use Rattle.cert_verify.specs.Reasons.{prices_slack}
@@ -19,8 +20,7 @@ returns-in_err-flow-in-Some-clause-cause g c =
     let given : c.from_residual.result ≡ Err c.in_err-flow-in-Some.field-0.0 = search rules in
     let places = at_places c.args.market.now c.lines-lines.ensures.market c.in-Some.row c.in-Some.ensures.0 in
     λ x are. rw given
-    (inr
-    (c.in-Some.row, c.in-Some.ensures.0, refused_there c.args.market.now x (map g.N.Exact.value c.args.flows.now) are c.in-Some.row places.0 places.1 g.N.Exact.bound (passed_at g.N.Exact.value c.in_err-flow-in-Some.field-0.0) c.in_err-flow-in-Some.ensures.cause))
+    ((_, limited_row c.in-Some.row _ c.in-Some.ensures.0 flow_of_row, refused_there c.args.market.now x (map g.N.Exact.value c.args.flows.now) are c.in-Some.row places.0 places.1 g.N.Exact.bound (passed_at g.N.Exact.value c.in_err-flow-in-Some.field-0.0) c.in_err-flow-in-Some.ensures.cause))
 
 pub limit_at-requires : goal.limit_at-requires
 limit_at-requires g c = (at_places c.args.market.now c.lines-lines.ensures.market c.in-Some.row c.in-Some.ensures.0).0

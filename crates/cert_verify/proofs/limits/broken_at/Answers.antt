@@ -1,7 +1,8 @@
-use Rattle.std.proofs.Common.{rules, Err, Some, inr, ◌≡◌, ◌∙◌, ap, sym}
+use Rattle.std.proofs.Common.{rules, Err, Some, ◌≡◌, ◌∙◌, ap, sym}
 use Rattle.market_model.specs.declared.answered.RowId.{RowId}
 use Rattle.market_model.specs.declared.limits.Row.{Row}
 use Rattle.market_model.specs.LimitRows.{row_id}
+use Rattle.market_model.specs.SumTables.{flow_of_row, limited_row}
 use Rattle.limit_rows.proofs.NumberingLemmas.{row_on}
 use Rattle.limit_rows.proofs.PlaceLemmas.{row_to}
 use Rattle.cert_verify.specs.declared.verdicts.Reason.TheVariants as reason
@@ -21,7 +22,7 @@ returns-in_err-broken-clause-cause g c =
     let m = c.args.market.now in
     let given : c.from_residual.result ≡ Err c.in_err-broken.field-0.0 = search rules in
     let listed = row_to m c.args.cause c.args.line (record { group = c.requires.cause; line = c.requires.line; bears = sym c.has_row.ensures ∙ c.if-has_row.true }) in
-    λ x are. rw given (inr (row_on c.args.cause c.args.line, listed, c.in_err-broken.ensures.cause x are))
+    λ x are. rw given (_, limited_row (row_on c.args.cause c.args.line) _ listed flow_of_row, c.in_err-broken.ensures.cause x are)
 
 pub returns-then-broken-clause-first : goal.returns-then-broken-clause-first
 returns-then-broken-clause-first g c = λ x are.

@@ -1,6 +1,7 @@
 use Rattle.std.proofs.Common.{rules, Err, ◌≡◌, ◌∙◌, length, map, arith}
 use Rattle.market_model.specs.LimitRows.{line_flow}
 use Rattle.market_model.specs.PutIn.{put_in}
+use Rattle.market_model.specs.SumTables.{flow_of_line}
 use Rattle.market_model.proofs.PlaceLists.{put_more, all_put}
 use Rattle.limit_rows.proofs.flowing.put_line_flows.Goals as goal
 
@@ -17,4 +18,4 @@ returns-clause-flows g c =
 pub returns-in_err-mw-clause-cause : goal.returns-in_err-mw-clause-cause
 returns-in_err-mw-clause-cause g c =
     let given : c.from_residual.result ≡ Err c.in_err-mw.field-0.0 = search rules in
-    rw given (c.loop-line.line, omega (arith, c.loop-line-test.true, c.requires.out), c.in_err-mw.ensures.cause)
+    rw given (_, flow_of_line c.loop-line.line (omega (arith, c.loop-line-test.true, c.requires.out)), c.in_err-mw.ensures.cause)

@@ -4,7 +4,7 @@ use Rattle.std.proofs.lemmas.Result.{IfOk-weaker, IfErr-weaker}
 use Rattle.market_model.specs.PutIn.{dispatch_of}
 use Rattle.market_model.specs.Valued.{passed_at}
 use Rattle.limit_rows.proofs.FlowSteps.{lines_put, line_refusal}
-use Rattle.market_model.specs.SumTables.{injection_at, flow_of_line}
+use Rattle.market_model.specs.SumTables.{carried_from_bus, carried_on_line}
 use Rattle.limit_screen.proofs.flowing.flows.Goals as goal
 
 pub returns-clause-flows : goal.returns-clause-flows
@@ -24,11 +24,11 @@ returns-clause-cause g c =
     let x = dispatch_of g.N.Exact.value c.args.dispatch.now in
     let mws = map g.N.Exact.value c.injections.new.out in
     IfErr-weaker c.put_line_flows.result _ _
-    (λ e h. let why = line_refusal m x mws c.in_ok-injections.ensures.injections g.N.Exact.bound (passed_at g.N.Exact.value e) h in (_, flow_of_line why.0 why.1, why.2))
+    (λ e h. let why = line_refusal m x mws c.in_ok-injections.ensures.injections g.N.Exact.bound (passed_at g.N.Exact.value e) h in (why.0, carried_on_line why.0 why.1, why.2))
     c.put_line_flows.ensures.cause
 
 pub returns-in_err-injections-clause-cause : goal.returns-in_err-injections-clause-cause
 returns-in_err-injections-clause-cause g c =
     let given : c.from_residual.result ≡ Err c.in_err-injections.field-0.0 = search rules in
     let why = c.in_err-injections.ensures.cause in
-    rw given (_, injection_at why.0 why.1, why.2)
+    rw given (why.0, carried_from_bus why.0 why.1, why.2)

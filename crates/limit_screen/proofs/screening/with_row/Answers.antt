@@ -1,15 +1,29 @@
-use Rattle.std.proofs.Common.{◌≡◌, ◌∙◌, map, ap, ap₂, subst, w64}
+use Rattle.std.proofs.Common.{rules, Err, ◌≡◌, ◌∙◌, map, ap, ap₂, subst, w64}
 use Rattle.std.proofs.lemmas.Int.{to_z-of_z}
 use mir.Val.{to_z, of_z}
 use Rattle.fraction_theory.specs.Fraction.{whole, ◌-ℚ◌}
 use Rattle.fraction_theory.specs.Order.{◌≤ℚ◌}
 use Rattle.market_model.specs.Dispatch.{zero}
-use Rattle.market_model.specs.LimitRows.{flow_by}
+use Rattle.market_model.specs.LimitRows.{flow_by, flow_terms}
+use Rattle.market_model.specs.NamedSums.{IsRefusedIn}
 use Rattle.market_model.specs.Overrun.{size_of}
+use Rattle.market_model.specs.SumTables.{flow_of_row}
+use Rattle.market_model.specs.Valued.{passed_at}
 use Rattle.limit_screen.specs.Flows.{line_in}
-use Rattle.limit_screen.specs.Screening.{overrun_by}
+use Rattle.limit_screen.specs.Screening.{of_flow, overrun_by}
 use Rattle.limit_screen.proofs.ScreenLemmas.{held}
 use Rattle.limit_screen.proofs.screening.with_row.Goals as goal
+
+pub returns-in_err-flow-clause-cause : goal.returns-in_err-flow-clause-cause
+returns-in_err-flow-clause-cause g c =
+    let m = c.args.market.now in
+    let given : c.from_residual.result ≡ Err c.in_err-flow.field-0.0 = search rules in
+    rw given
+    (of_flow (
+      flow_terms m (line_in m (map g.N.Exact.value c.args.flows.now)) c.args.row,
+      flow_of_row,
+      subst (λ f. IsRefusedIn (flow_terms m f c.args.row) g.N.Exact.bound (passed_at g.N.Exact.value c.in_err-flow.field-0.0)) c.line_flows.ensures.is c.in_err-flow.ensures.cause,
+    ))
 
 pub returns-in-Some-clause-worst : goal.returns-in-Some-clause-worst
 returns-in-Some-clause-worst g c = λ rs before.

@@ -8,7 +8,7 @@ use Rattle.exact_fraction.specs.declared.Op.TheVariants.{Minus}
 use Rattle.market_model.specs.Dispatch.{empty}
 use Rattle.market_model.specs.LimitRows.{flow, flow_by, flow_terms, limit}
 use Rattle.market_model.specs.NamedSums.{IsRefusedIn}
-use Rattle.market_model.specs.SumTables.{flow_of_row}
+use Rattle.market_model.specs.SumTables.{flow_in_limits, flow_of_row, limited_row}
 use Rattle.market_model.specs.Valued.{passed_at}
 use Rattle.market_model.proofs.SumSteps.{refusal}
 use Rattle.limit_rows.proofs.PlaceLemmas.{at_places}
@@ -35,7 +35,7 @@ returns-in_err-flow-clause-cause g c =
     rw given
     (of_sum (
       _,
-      flow_of_row c.args.row c.requires.row,
+      flow_in_limits _ (limited_row c.args.row _ c.requires.row flow_of_row),
       subst (λ (ts : List Term). IsRefusedIn ts g.N.Exact.bound (passed_at g.N.Exact.value c.in_err-flow.field-0.0))
           (row_terms m (empty m) (map g.N.Exact.value c.args.base_flows.now) c.args.row c.lines-lines.ensures.market c.requires.base_flows c.requires.row)
           (subst (λ f. IsRefusedIn (flow_terms m f c.args.row) g.N.Exact.bound (passed_at g.N.Exact.value c.in_err-flow.field-0.0)) c.line_flows.ensures.is c.in_err-flow.ensures.cause),

@@ -1,6 +1,7 @@
 use Rattle.std.proofs.Common.{rules, Err, ◌≡◌, ◌∙◌, length, arith}
 use Rattle.market_model.specs.Dispatch.{injection}
 use Rattle.market_model.specs.PutIn.{dispatch_of}
+use Rattle.market_model.specs.SumTables.{injection_at}
 use Rattle.market_model.proofs.PlaceLists.{put_more, all_put}
 use Rattle.market_model.proofs.putting.injections.Goals as goal
 
@@ -17,4 +18,4 @@ returns-clause-injections g c =
 pub returns-in_err-mw-clause-cause : goal.returns-in_err-mw-clause-cause
 returns-in_err-mw-clause-cause g c =
     let given : c.from_residual.result ≡ Err c.in_err-mw.field-0.0 = search rules in
-    rw given (c.loop-bus.bus, omega (arith, c.loop-bus-test.true, c.requires.out), c.in_err-mw.ensures.cause)
+    rw given (_, injection_at c.loop-bus.bus (omega (arith, c.loop-bus-test.true, c.requires.out)), c.in_err-mw.ensures.cause)

@@ -4,7 +4,7 @@ use mir.Val.{to_z, of_z}
 use Rattle.fraction_theory.specs.Fraction.{whole}
 use Rattle.market_model.specs.LimitRows.{flow_terms, offset_terms}
 use Rattle.market_model.specs.NamedSums.{IsRefusedIn}
-use Rattle.market_model.specs.SumTables.{flow_after_outage, offset_of_row}
+use Rattle.market_model.specs.SumTables.{flow_after_outage, flow_of_row, offset_of_row, paid_offset}
 use Rattle.market_model.specs.Valued.{dual_at, passed_at}
 use Rattle.limit_screen.specs.Flows.{line_in}
 use Rattle.settlement.proofs.RowLemmas.{earning_refused}
@@ -19,14 +19,14 @@ returns-in_err-flow-clause-cause g c =
     rw given
     (inl (
       flow_terms m (line_in m (map value c.args.flows.now)) r,
-      flow_after_outage c.in_err-flow.ensures.after,
+      flow_after_outage _ c.in_err-flow.ensures.after flow_of_row,
       subst (λ f. IsRefusedIn (flow_terms m f r) g.N.Exact.bound (passed_at value c.in_err-flow.field-0.0)) c.line_flows.ensures.is c.in_err-flow.ensures.cause,
     ))
 
 pub returns-in_err-offset-clause-cause : goal.returns-in_err-offset-clause-cause
 returns-in_err-offset-clause-cause g c =
     let given : c.from_residual-in_err-offset.result ≡ Err c.in_err-offset.field-0.0 = search rules in
-    rw given (inl (offset_terms c.args.market.now c.args.row, offset_of_row, c.in_err-offset.ensures.cause))
+    rw given (inl (offset_terms c.args.market.now c.args.row, paid_offset _ offset_of_row, c.in_err-offset.ensures.cause))
 
 pub returns-in_err-rent-clause-cause : goal.returns-in_err-rent-clause-cause
 returns-in_err-rent-clause-cause g c =
