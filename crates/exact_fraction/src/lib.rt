@@ -86,8 +86,8 @@ pub trait Exact: Copy {
     fn times(self, other: Self) -> Result<Self, Passed<Self>>
         ensures { IsExact value bound Op.Times self other result };
 
-    /// The exact sum of this number and `first * second`. Exactly where that product passes the bound, or else the sum with
-    /// it, the one that passes, with its two sides.
+    /// The exact sum of this number and `first * second`. Exactly where its value passes the bound in lowest terms, an operation on
+    /// the way that passes, with its two sides: that product, or else the sum with it.
     fn plus_product(self, first: Self, second: Self) -> Result<Self, Passed<Self>>
         ensures { IsExactWith value bound self first second result };
 
