@@ -16,17 +16,13 @@ use Rattle.fraction_theory.specs.Sums.{total}
 use Rattle.market_model.specs.LimitRows.{IsCauseAmong, rows, row_id, limit, line_flow, flow, flow_by, flow_terms, causes}
 use Rattle.market_model.specs.Market.{IsMarket}
 use Rattle.market_model.specs.NamedSums.{IsRefusedIn}
-use Rattle.market_model.specs.Valued.{passed_at}
 use Rattle.limit_rows.proofs.ApartLemmas.{same_row}
 use Rattle.limit_rows.proofs.PlaceLemmas.{lost_inside, same_name}
-use Rattle.cert_sums.specs.declared.stops.VerifyStop.{VerifyStop}
-use Rattle.cert_sums.specs.declared.stops.VerifyStop.TheVariants as why
 use Rattle.cert_sums.specs.Pairs.{IsOptimalPair, in_flow, in_price}
 use Rattle.market_model.specs.SumTables.{flow_in_balance, flow_in_limits}
 use Rattle.limit_rows.specs.LineFlows.{AreFlows}
 use Rattle.limit_rows.proofs.FlowSteps.{row_terms_are}
 use Rattle.market_model.specs.PutIn.{put_in}
-use Rattle.cert_sums.specs.Refusals.{OnPassed}
 use Rattle.limit_rows.specs.Naming.{has_name}
 use Rattle.cert_verify.specs.declared.verdicts.Reason.TheVariants as reason
 use Rattle.cert_verify.specs.Reasons.{NoneOf, balance_reason, differ, has_no_row, has_slack, part_reasons, prices_slack}
@@ -84,10 +80,6 @@ module _ (m : Parts) (x : Dispatch) (flows : List Fraction) (are : AreFlows m x 
   refused_there bound p h = subst (λ ts. IsRefusedIn ts bound p) (row_terms_are m x flows are r line lost) h
 
 -- ---- refusals
-pub stopped_by : {N : Type 0} (value : N → Fraction) (p q : Passed Fraction → Type 0) (s : VerifyStop N) → ((e : Passed Fraction) → p e → q e) → OnPassed value p s → OnPassed value q s
-stopped_by value p q (why.Range e) to h = to (passed_at value e) h
-stopped_by value p q why.Memory to h = tt
-
 -- the reasons before flows do not hold where a dispatch balances, as was seen by numbers
 pub before_flows : (m : Parts) (x : Dispatch) (ds : List (Dual Fraction)) (all nothing : Fraction) → all ≡ balance m x → nothing ≡ zero → differ all nothing ≡ false → NoneOf (part_reasons m x ds)
     → NoneOf (part_reasons m x ds ++ balance_reason m x ∷ [])

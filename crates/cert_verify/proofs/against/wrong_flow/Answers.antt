@@ -4,9 +4,10 @@ use Rattle.market_model.specs.Valued.{dual_at}
 use Rattle.market_model.specs.PutIn.{dispatch_of}
 use Rattle.market_model.specs.SumTables.{IsRefusedAmong, InjectionSum, balance_from_bus, balance_of_all, LineFlowSum, limited_line}
 use Rattle.cert_sums.specs.declared.stops.VerifyStop.TheVariants as why
+use Rattle.cert_sums.proofs.BoundLemmas.{stopped_weaker}
 use Rattle.cert_verify.specs.Certificates.{named_duals}
 use Rattle.cert_verify.specs.Stops.{IsOptimalStop, at_balance, at_limits}
-use Rattle.cert_verify.proofs.RowLemmas.{before_flows, stopped_by}
+use Rattle.cert_verify.proofs.RowLemmas.{before_flows}
 use Rattle.cert_verify.proofs.against.wrong_flow.Goals as goal
 
 pub returns-in_err-by_bus-clause-cause : goal.returns-in_err-by_bus-clause-cause
@@ -17,7 +18,7 @@ returns-in_err-by_bus-clause-cause g c =
     let ds = map (dual_at value) c.args.limits.now in
     let given : c.from_residual.result ≡ Err c.in_err-by_bus.field-0.0 = search rules in
     λ energy none. rw given
-    (stopped_by value (IsRefusedAmong (InjectionSum m x) g.N.Exact.bound) (IsOptimalStop m x (named_duals energy ds) g.N.Exact.bound) c.in_err-by_bus.field-0.0 (λ p h. at_balance (h.0, balance_from_bus h.0 h.1, h.2) none) c.in_err-by_bus.ensures.cause)
+    (stopped_weaker value (IsRefusedAmong (InjectionSum m x) g.N.Exact.bound) (IsOptimalStop m x (named_duals energy ds) g.N.Exact.bound) c.in_err-by_bus.field-0.0 (λ p h. at_balance (h.0, balance_from_bus h.0 h.1, h.2) none) c.in_err-by_bus.ensures.cause)
 
 pub returns-in_err-balance-clause-cause : goal.returns-in_err-balance-clause-cause
 returns-in_err-balance-clause-cause g c =
@@ -39,7 +40,7 @@ returns-in_err-by_line-clause-cause g c =
     λ energy none.
     let before = before_flows m x ds (value c.in_ok-balance.field-0) (value c.datum.result) (c.in_ok-balance.ensures.sum x puts) c.datum.ensures (sym c.differ.ensures ∙ c.if-differ.false) none in
     rw given
-    (stopped_by value (IsRefusedAmong (LineFlowSum m (injection m x)) g.N.Exact.bound) (IsOptimalStop m x (named_duals energy ds) g.N.Exact.bound) c.in_err-by_line.field-0.0 (λ p h. at_limits (h.0, limited_line h.0 h.1, h.2) before) (c.in_err-by_line.ensures.cause x puts_then))
+    (stopped_weaker value (IsRefusedAmong (LineFlowSum m (injection m x)) g.N.Exact.bound) (IsOptimalStop m x (named_duals energy ds) g.N.Exact.bound) c.in_err-by_line.field-0.0 (λ p h. at_limits (h.0, limited_line h.0 h.1, h.2) before) (c.in_err-by_line.ensures.cause x puts_then))
 
 pub returns-in_err-reason-clause-cause : goal.returns-in_err-reason-clause-cause
 returns-in_err-reason-clause-cause g c =
