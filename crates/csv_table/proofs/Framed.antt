@@ -1,17 +1,15 @@
 -- From a table as a whole to its records.
-use Rattle.std.proofs.Common.{◌≡◌, ◌≢◌, ℕ, List, Option, Result, Ok, Err, refl, ap}
+use Rattle.std.proofs.Common.{◌≡◌, ℕ, List, Option, Result, Ok, Err, refl}
 use Rattle.record_reading.specs.Records.{Record}
 use Rattle.record_reading.specs.Steps.{and_then}
 use Rattle.record_reading.specs.declared.FrameFault.{FrameFault}
-use Rattle.record_reading.specs.declared.FrameFault.TheVariants as frame
 use Rattle.csv_table.specs.Table.{frame_of, framed, table_of}
 
 module _ {A F : Type 0} (told : FrameFault → F) (read : List Record → Result A F) (most : Option ℕ) (bytes : List ℕ) (header h : Record) where
   -- a table that fits goes on with its records
-  pub framed-fits : (rows : List Record) → h ≡ header → frame_of h most (table_of bytes) ≡ Ok rows → and_then (framed told header most bytes) read ≡ read rows
-  framed-fits rows same fits = rw (← same, fits) refl
+  pub framed-fits : (rows : List Record) → h ≡ header → Ok rows ≡ frame_of h most (table_of bytes) → and_then (framed told header most bytes) read ≡ read rows
+  framed-fits rows same fits = rw (← same, ← fits) refl
 
   -- a table that does not fit is refused
-  pub framed-fault : (e : FrameFault) → h ≡ header → (e ≢ frame.Memory → frame_of h most (table_of bytes) ≡ Err e) → told e ≢ told frame.Memory
-      → and_then (framed told header most bytes) read ≡ Err (told e)
-  framed-fault e same fails other = let is = fails (λ m. other (ap told m)) in rw (← same, is) refl
+  pub framed-fault : (e : FrameFault) → h ≡ header → Err e ≡ frame_of h most (table_of bytes) → and_then (framed told header most bytes) read ≡ Err (told e)
+  framed-fault e same fails = rw (← same, ← fails) refl

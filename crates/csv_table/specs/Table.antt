@@ -8,7 +8,6 @@ use Rattle.csv.specs.Reading.{default_config, records, strip_bom}
 use Rattle.scaled_decimal.specs.Reading.{units_of}
 use Rattle.record_reading.specs.Records.{Record, cell_of, first_ragged}
 use Rattle.record_reading.specs.Steps.{or_as}
-use Rattle.record_reading.specs.declared.CellFault.{CellFault}
 use Rattle.record_reading.specs.declared.FrameFault.{FrameFault}
 use Rattle.record_reading.specs.declared.FrameFault.TheVariants as fault
 use Rattle.record_reading.specs.declared.Why.TheVariants as why
@@ -44,5 +43,5 @@ abbrev pub header_line : Record → List ℕ
 header_line header = join_by (λ cell. cell) (codes ",") header ++ codes "\n"
 
 -- the number in a record's cell, in units of so many places; lines count from 1, the columns of a fault too
-abbrev pub number_in : ℕ → Record → ℕ → ℕ → Result ℤ CellFault
-number_in line r col places = or_as (λ decimal. record { line = line; col = col + 1; why = why.Decimal decimal }) (units_of places (cell_of r col))
+abbrev pub number_in : ℕ → Record → ℕ → ℕ → Result ℤ FrameFault
+number_in line r col places = or_as (λ decimal. fault.Cell line (col + 1) (why.Decimal decimal)) (units_of places (cell_of r col))

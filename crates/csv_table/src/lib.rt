@@ -11,14 +11,15 @@
 //! A cell is bytes, and what they mean is left to the reader of each table.
 #![tactic(auto)]
 
-ghost use Rattle.std.specs.Prelude.{◌≡◌, ◌≢◌, ◌<◌, ◌≤◌, ◌+◌, ◌++◌, ◌∷◌, ◌^◌, unsigned_abs, IfOk, IfErr, IfSome, Ok, Err, map, drop, length, get_or, List, ℕ, []};
+ghost use Rattle.std.specs.Prelude.{◌≡◌, ◌<◌, ◌≤◌, ◌+◌, ◌++◌, ◌∷◌, ◌^◌, unsigned_abs, IfOk, IfErr, IfSome, map, drop, length, get_or, List, ℕ, []};
 ghost use Rattle.csv.specs.Records.{fields_of, partial_of};
 ghost use Rattle.record_reading.specs.Records.{Record, cell_of};
 ghost use Rattle.csv_table.specs.Table.{frame_of, header_line, is_over, number_in, same_record, table_of};
 ghost use Rattle.csv_table.specs.Rows.{IsFlat, IsPushStop, IsRowsStop, first_of, records_in};
 
 use csv::{ByteRecord, ReaderBuilder};
-use record_reading::{CellFault, FrameFault, Why};
+use plain_list::Memory;
+use record_reading::{FrameFault, Why};
 use scaled_decimal::read;
 use std::alloc::{AllocError, Global};
 use std::marker::Model;
@@ -188,7 +189,7 @@ impl Table {
     }
 
     /// The number of units of `10^-places` that the decimal in a cell is, records and columns counted from 0.
-    pub fn number(&self, row: usize, col: usize, places: u8) -> Result<i64, CellFault>
+    pub fn number(&self, row: usize, col: usize, places: u8) -> Result<i64, FrameFault>
         requires row { row < length self.now }
         requires line { row + 2 < 2 ^ 64 }
         requires col { col + 1 < 2 ^ 64 }
@@ -198,7 +199,7 @@ impl Table {
     {
         match read(self.cell(row, col), places) {
             Ok(number) => Ok(number),
-            Err(why) => Err(CellFault {
+            Err(why) => Err(FrameFault::Cell {
                 line: row + 2,
                 col: col + 1,
                 why: Why::Decimal(why),
@@ -217,25 +218,12 @@ fn is_above(count: usize, most: Option<usize>) -> bool
     }
 }
 
-/// Reads the table of a text that has this header and at most `most` records under it, or tells the first fault of its frame.
-/// With no `most` any number of records will do. `Memory` alone may come at any text.
-pub fn read_table(
-    alloc: Global,
-    bytes: &[u8],
-    header: &[&str],
-    most: Option<usize>,
-) -> Result<Table, FrameFault>
-    ensures ok { IfOk result (λ table.
-        frame_of (map (λ name. name.now) header.now) most (table_of bytes.now) ≡ Ok table) }
-    ensures err { IfErr result (λ fault. fault ≢ FrameFault.Memory →
-        frame_of (map (λ name. name.now) header.now) most (table_of bytes.now) ≡ Err fault) }
+// The records under the header, where the first of some records is the header, and they are not too many.
+fn under_header(rows: Rows, header: &[&str], most: Option<usize>) -> Result<Table, FrameFault>
+    requires { IsFlat rows }
+    ensures is { result ≡ frame_of (map (λ name. name.now) header.now) most (records_in rows) }
     ensures few { IfOk result (λ table. IfSome most (λ most. length table ≤ most)) }
 {
-    let rows = match rows_of(alloc, bytes) {
-        Ok(rows) => rows,
-        Err(RowsStop::Width { line }) => return Err(FrameFault::Width { line }),
-        Err(_) => return Err(FrameFault::Memory),
-    };
     if rows.count == 0 || !rows.is_header(header) {
         return Err(FrameFault::Header);
     }
@@ -244,6 +232,24 @@ pub fn read_table(
         return Err(FrameFault::TooMany { count });
     }
     Ok(Table { rows })
+}
+
+/// Reads the table of a text that has this header and at most `most` records under it, or tells the first fault of its frame.
+/// With no `most` any number of records will do.
+pub fn read_table(
+    alloc: Global,
+    bytes: &[u8],
+    header: &[&str],
+    most: Option<usize>,
+) -> Result<Result<Table, FrameFault>, Memory>
+    ensures is { IfOk result (λ read. read ≡ frame_of (map (λ name. name.now) header.now) most (table_of bytes.now)) }
+    ensures few { IfOk result (λ read. IfOk read (λ table. IfSome most (λ most. length table ≤ most))) }
+{
+    match rows_of(alloc, bytes) {
+        Ok(rows) => Ok(under_header(rows, header, most)),
+        Err(RowsStop::Width { line }) => Ok(Err(FrameFault::Width { line })),
+        Err(_) => Err(Memory),
+    }
 }
 
 /// The text of a table that has this header and no records: the line of its cells, with commas between.

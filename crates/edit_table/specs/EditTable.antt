@@ -9,9 +9,6 @@ use Rattle.market_model.specs.declared.participants.Side.TheVariants.{Sell, Buy}
 use Rattle.record_reading.specs.Records.{Record, cell_of}
 use Rattle.record_reading.specs.Steps.{and_then, or_as}
 use Rattle.record_reading.specs.Rows.{read_rows}
-use Rattle.record_reading.specs.declared.CellFault.{CellFault}
-use Rattle.record_reading.specs.declared.FrameFault.{FrameFault}
-use Rattle.record_reading.specs.declared.FrameFault.TheVariants as frame
 use Rattle.csv_table.specs.Table.{framed, number_in}
 use Rattle.offer_book.specs.Edits.{number_of}
 use Rattle.offer_book.specs.declared.edit_parts.Edit.TheVariants as edit
@@ -25,16 +22,6 @@ use Rattle.edit_table.specs.declared.StepFault.TheVariants as fault
 -- the most steps of a table
 abbrev pub most_steps : ℕ
 most_steps = 10000
-
--- ---- the faults of a table as a whole and of a cell
-abbrev pub frame_fault : FrameFault → StepFault
-frame_fault frame.Header = fault.Header
-frame_fault (frame.Width line) = fault.Width line
-frame_fault (frame.TooMany count) = fault.TooMany count
-frame_fault frame.Memory = fault.Memory
-
-abbrev pub cell_fault : CellFault → StepFault
-cell_fault f = fault.Cell f.line f.col f.why
 
 -- ---- the columns
 abbrev pub header : Record
@@ -87,7 +74,7 @@ form_in r =
 -- ---- the numbers of a record
 -- the number in a cell, in units of so many places
 abbrev pub number : ℕ → Record → ℕ → ℕ → Result ℤ StepFault
-number line r col places = or_as cell_fault (number_in line r col places)
+number line r col places = or_as fault.Frame (number_in line r col places)
 
 -- the step of a record of a form: its numbers, from left to right
 unfoldable pub numbers_in : ℕ → Record → Form → Result Step StepFault
@@ -117,7 +104,7 @@ step_in line r = option_map_or (numbers_in line r) (form_in r) (Err (fault.Word 
 
 -- the steps that the bytes stand for, in the order of their records
 unfoldable pub steps_of_table : List ℕ → Result (List Step) StepFault
-steps_of_table bytes = and_then (framed frame_fault header (Some most_steps) bytes) (read_rows (λ _. step_in) [] 2)
+steps_of_table bytes = and_then (framed fault.Frame header (Some most_steps) bytes) (read_rows (λ _. step_in) [] 2)
 
 -- ---- what is kept of steps
 -- an edit's number has at most 63 bits

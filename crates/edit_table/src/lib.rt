@@ -3,13 +3,13 @@
 
 ghost use Rattle.std.specs.Prelude.{◌≡◌, ◌≢◌, ◌+◌, ◌<◌, ◌≤◌, ◌^◌, length, get_or, [], Ok, Err, IfOk};
 ghost use Rattle.record_reading.specs.Rows.{read_rows};
-ghost use Rattle.edit_table.specs.EditTable.{AreSteps, IsStep, cell_fault, form_in, frame_fault, is_bare, is_empty, most_steps, numbers_in, post_in, side_in, step_in, steps_of_table};
+ghost use Rattle.edit_table.specs.EditTable.{AreSteps, IsStep, form_in, is_bare, is_empty, most_steps, numbers_in, post_in, side_in, step_in, steps_of_table};
 ghost use Rattle.edit_table.specs.declared.Form.TheVariants as form;
 
 use csv_table::{Table, read_table};
 use market_model::{List, MW_PLACES, Memory, PRICE_PLACES, Side};
 use offer_book::Edit;
-use record_reading::{CellFault, FrameFault, Why};
+use record_reading::FrameFault;
 use std::alloc::Global;
 use thiserror::Error;
 
@@ -45,14 +45,8 @@ pub type Steps = List<Step>;
 /// Why a table of edits is refused. A line is a record's place, where the header's is 1.
 #[derive(Clone, Copy, Debug, PartialEq, Eq, Error)]
 pub enum StepFault {
-    #[error("another header")]
-    Header,
-    #[error("another width in line {line}")]
-    Width { line: usize },
-    #[error("{count} records")]
-    TooMany { count: usize },
-    #[error("line {line}, column {col}: {why:?}")]
-    Cell { line: usize, col: usize, why: Why },
+    #[error("{0}")]
+    Frame(FrameFault),
     /// A word that says nothing here, or a cell that is to be empty and is not.
     #[error("the words of line {line} say no step")]
     Word { line: usize },
@@ -61,27 +55,12 @@ pub enum StepFault {
 }
 
 impl From<FrameFault> for StepFault {
-    ghost from_gives = { λ frame fault. fault ≡ frame_fault frame };
+    ghost use Rattle.edit_table.specs.declared.StepFault.TheVariants as step_fault;
+
+    ghost from_gives = { λ frame fault. fault ≡ step_fault.Frame frame };
 
     fn from(fault: FrameFault) -> StepFault {
-        match fault {
-            FrameFault::Header => StepFault::Header,
-            FrameFault::Width { line } => StepFault::Width { line },
-            FrameFault::TooMany { count } => StepFault::TooMany { count },
-            FrameFault::Memory => StepFault::Memory,
-        }
-    }
-}
-
-impl From<CellFault> for StepFault {
-    ghost from_gives = { λ cell fault. fault ≡ cell_fault cell };
-
-    fn from(fault: CellFault) -> StepFault {
-        StepFault::Cell {
-            line: fault.line,
-            col: fault.col,
-            why: fault.why,
-        }
+        StepFault::Frame(fault)
     }
 }
 
@@ -281,7 +260,7 @@ pub fn steps(alloc: Global, bytes: &[u8]) -> Result<Steps, StepFault>
     ensures kept { IfOk result AreSteps }
     ensures is { result ≢ Err StepFault.Memory → result ≡ steps_of_table bytes.now }
 {
-    let table = read_table(alloc, bytes, EDIT_HEADER, Some(MOST_STEPS))?;
+    let table = read_table(alloc, bytes, EDIT_HEADER, Some(MOST_STEPS))??;
     steps_of(alloc, &table)
 }
 

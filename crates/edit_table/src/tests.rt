@@ -1,7 +1,7 @@
 use crate::{Step, StepFault, steps};
 use market_model::Side;
 use offer_book::Edit;
-use record_reading::Why;
+use record_reading::{FrameFault, Why};
 use scaled_decimal::DecimalFault;
 use std::alloc::Global;
 use std::test::Fail;
@@ -55,11 +55,11 @@ fn count(alloc: Global, rows: &str) -> Result<usize, StepFault> {
 #[test]
 fn tells_the_first_fault(rt: HostRuntime) -> Result<(), Fail> {
     let no_number = |col| {
-        Err(StepFault::Cell {
+        Err(StepFault::Frame(FrameFault::Cell {
             line: 2,
             col,
             why: Why::Decimal(DecimalFault::BadNumber),
-        })
+        }))
     };
     for (rows, want) in [
         ("", Ok(0)),
@@ -74,7 +74,10 @@ fn tells_the_first_fault(rt: HostRuntime) -> Result<(), Fail> {
         ("limit,1,base,1,5\n", Err(StepFault::Word { line: 2 })),
         ("clear,,,,\nclear,,,,0\n", Err(StepFault::Word { line: 3 })),
         ("Clear,,,,\n", Err(StepFault::Word { line: 2 })),
-        ("clear\n", Err(StepFault::Width { line: 2 })),
+        (
+            "clear\n",
+            Err(StepFault::Frame(FrameFault::Width { line: 2 })),
+        ),
     ] {
         assert_eq!(rt; count(rt.alloc(), rows), want);
     }

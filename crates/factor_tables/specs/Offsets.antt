@@ -4,7 +4,7 @@ use Rattle.std.specs.List.{find}
 use Rattle.std.specs.Map.{lookup}
 use Rattle.std.specs.Option.{option_map_or}
 use Rattle.record_reading.specs.Records.{Record}
-use Rattle.record_reading.specs.Steps.{and_then}
+use Rattle.record_reading.specs.Steps.{and_then, checked, fine}
 use Rattle.record_reading.specs.Rows.{read_rows}
 use Rattle.csv_table.specs.Table.{framed}
 use Rattle.market_data.specs.Participants.{IsDatum}
@@ -13,8 +13,8 @@ use Rattle.net_case.specs.declared.live_parts.NetBranch.{NetBranch}
 use Rattle.factor_tables.specs.declared.cells.OffsetRecord.{OffsetRecord}
 use Rattle.factor_tables.specs.declared.table_fault.TableFault.{TableFault}
 use Rattle.factor_tables.specs.declared.table_fault.TableFault.TheVariants as fault
-use Rattle.factor_tables.specs.Records.{frame_fault, offset_in}
-use Rattle.factor_tables.specs.Rules.{checked, fine, is_live_branch, is_row, is_used}
+use Rattle.factor_tables.specs.Records.{offset_in}
+use Rattle.factor_tables.specs.Rules.{is_live_branch, is_row, is_used}
 
 -- a record: a branch's row, and its offset
 abbrev pub OffsetEntry : Type 0
@@ -55,4 +55,4 @@ abbrev pub offset_header : Record
 offset_header = codes "branch" ∷ codes "mw" ∷ []
 
 unfoldable pub offsets_of : LiveNetwork → List ℕ → Result (List OffsetEntry) TableFault
-offsets_of network bytes = and_then (and_then (framed frame_fault offset_header None bytes) (read_rows (offset_entry network) [] 2)) (with_all_offsets network)
+offsets_of network bytes = and_then (and_then (framed fault.Frame offset_header None bytes) (read_rows (offset_entry network) [] 2)) (with_all_offsets network)

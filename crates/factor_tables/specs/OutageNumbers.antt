@@ -6,7 +6,8 @@ use Rattle.record_reading.specs.Rows.{read_rows}
 use Rattle.csv_table.specs.Table.{framed}
 use Rattle.market_data.specs.Scales.{most_outages}
 use Rattle.factor_tables.specs.declared.table_fault.TableFault.{TableFault}
-use Rattle.factor_tables.specs.Records.{frame_fault, number}
+use Rattle.factor_tables.specs.declared.table_fault.TableFault.TheVariants as fault
+use Rattle.factor_tables.specs.Records.{number}
 
 -- the number of a record of the table of outages
 abbrev pub outage_number : List ℤ → ℕ → Record → Result ℤ TableFault
@@ -16,4 +17,4 @@ abbrev pub outage_header : Record
 outage_header = codes "branch" ∷ []
 
 unfoldable pub outage_rows_of : List ℕ → Result (List ℤ) TableFault
-outage_rows_of bytes = and_then (framed frame_fault outage_header (Some most_outages) bytes) (read_rows outage_number [] 2)
+outage_rows_of bytes = and_then (framed fault.Frame outage_header (Some most_outages) bytes) (read_rows outage_number [] 2)

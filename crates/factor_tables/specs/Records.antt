@@ -3,8 +3,6 @@ use Rattle.std.specs.Prelude.{ℕ, ◌<◌, ◌≤◌, ◌^◌, ℤ, nat_lt, uns
 use Rattle.record_reading.specs.Records.{Record}
 use Rattle.record_reading.specs.Steps.{and_then, or_as}
 use Rattle.csv_table.specs.Table.{number_in}
-use Rattle.record_reading.specs.declared.CellFault.{CellFault}
-use Rattle.record_reading.specs.declared.FrameFault.{FrameFault}
 use Rattle.record_reading.specs.declared.FrameFault.TheVariants as frame
 use Rattle.record_reading.specs.declared.Why.TheVariants as why
 use Rattle.factor_tables.specs.declared.cells.FactorRecord.{FactorRecord}
@@ -13,24 +11,14 @@ use Rattle.factor_tables.specs.declared.table_fault.TableFault.{TableFault}
 use Rattle.factor_tables.specs.declared.table_fault.TableFault.TheVariants as fault
 use Rattle.market_data.specs.Scales.{factor_places, most_factor, mw_places}
 
--- ---- the faults of a table as a whole and of a cell
-abbrev pub frame_fault : FrameFault → TableFault
-frame_fault frame.Header = fault.Header
-frame_fault (frame.Width line) = fault.Width line
-frame_fault (frame.TooMany count) = fault.TooMany count
-frame_fault frame.Memory = fault.Memory
-
-abbrev pub cell_fault : CellFault → TableFault
-cell_fault f = fault.Cell f.line f.col f.why
-
 -- ---- the numbers of a record
 -- the number in a cell, in units of so many places
 abbrev pub number : ℕ → Record → ℕ → ℕ → Result ℤ TableFault
-number line r col places = or_as cell_fault (number_in line r col places)
+number line r col places = or_as fault.Frame (number_in line r col places)
 
 -- the factor in the third cell, of a size of 1000 at most
 unfoldable pub factor_in : ℕ → Record → Result ℤ TableFault
-factor_in line r = and_then (number line r 2 factor_places) (λ factor. if nat_lt most_factor (unsigned_abs factor) then Err (fault.Cell line 3 why.Bounds) else Ok factor)
+factor_in line r = and_then (number line r 2 factor_places) (λ factor. if nat_lt most_factor (unsigned_abs factor) then Err (fault.Frame (frame.Cell line 3 why.Bounds)) else Ok factor)
 
 -- the numbers of a record of factors, from left to right
 unfoldable pub record_in : ℕ → Record → Result FactorRecord TableFault

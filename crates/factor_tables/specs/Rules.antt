@@ -1,5 +1,5 @@
 -- What the numbers of a record may name, and the faults that a record may have.
-use Rattle.std.specs.Prelude.{ℕ, ◌≤◌, ◌==◌, ◌&&◌, not, ℤ, pos, ◌≤ℤ◌, Bool, List, [], ◌∷◌, unsigned_abs, is_some, if◌then◌else◌, Result, Ok, Err}
+use Rattle.std.specs.Prelude.{ℕ, ◌≤◌, ◌==◌, ◌&&◌, not, ℤ, pos, ◌≤ℤ◌, Bool, List, [], ◌∷◌, unsigned_abs, is_some}
 use Rattle.std.specs.Int.Signed.{le_z}
 use Rattle.net_case.specs.Networks.{LiveNetwork, branch_place, bus_place, has_bus, most_bus_number}
 use Rattle.market_data.specs.Scales.{most_lines}
@@ -25,15 +25,6 @@ is_live_bus network n = is_some (bus_place network n)
 -- a factor or an offset that is not 0
 abbrev pub is_used : ℤ → Bool
 is_used amount = not (unsigned_abs amount == 0)
-
--- the first of some faults that there is, or else a result; beside each fault stands whether there is it
-abbrev pub checked : {A : Type 0} → List (Bool × TableFault) → Result A TableFault → Result A TableFault
-checked [] result = result
-checked (first ∷ others) result = if first.0 then Err first.1 else checked others result
-
--- no fault
-abbrev pub fine : Result (Unit {0}) TableFault
-fine = Ok tt
 
 unfoldable pub shift_faults : LiveNetwork → ℕ → FactorRecord → List (Bool × TableFault)
 shift_faults network line r =

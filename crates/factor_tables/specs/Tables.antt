@@ -1,7 +1,7 @@
 -- What the tables of factors stand for: the list of their records, or the first fault.
 use Rattle.std.specs.Prelude.{ℕ, List, [], ◌∷◌, codes, if◌then◌else◌, None, Result, Ok, Err}
 use Rattle.record_reading.specs.Records.{Record}
-use Rattle.record_reading.specs.Steps.{and_then}
+use Rattle.record_reading.specs.Steps.{and_then, checked, fine}
 use Rattle.record_reading.specs.Rows.{read_rows}
 use Rattle.csv_table.specs.Table.{framed}
 use Rattle.net_case.specs.Networks.{LiveNetwork}
@@ -10,8 +10,8 @@ use Rattle.factor_tables.specs.declared.by_pair.Column.TheVariants as column
 use Rattle.factor_tables.specs.declared.table_fault.TableFault.{TableFault}
 use Rattle.factor_tables.specs.declared.table_fault.TableFault.TheVariants as fault
 use Rattle.factor_tables.specs.Factors.{Entry, has_pair}
-use Rattle.factor_tables.specs.Records.{frame_fault, record_in}
-use Rattle.factor_tables.specs.Rules.{checked, fine, pair_of, record_faults}
+use Rattle.factor_tables.specs.Records.{record_in}
+use Rattle.factor_tables.specs.Rules.{pair_of, record_faults}
 
 -- the pair and the factor of a record behind others: its numbers, then what they name, then whether the pair stood before
 unfoldable pub entry_in : LiveNetwork → Column → List Entry → ℕ → Record → Result Entry TableFault
@@ -31,7 +31,7 @@ loss_header = header_of column.Outage
 
 -- the pairs and factors of a table of this kind, or the first fault
 unfoldable pub factors_of : Column → LiveNetwork → List ℕ → Result (List Entry) TableFault
-factors_of kind network bytes = and_then (framed frame_fault (header_of kind) None bytes) (read_rows (entry_in network kind) [] 2)
+factors_of kind network bytes = and_then (framed fault.Frame (header_of kind) None bytes) (read_rows (entry_in network kind) [] 2)
 
 abbrev pub shift_of : LiveNetwork → List ℕ → Result (List Entry) TableFault
 shift_of network bytes = factors_of column.Bus network bytes

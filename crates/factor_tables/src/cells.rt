@@ -7,7 +7,7 @@ ghost use Rattle.factor_tables.specs.Records.{FactorIsRead, OffsetIsRead, factor
 use crate::TableFault;
 use csv_table::Table;
 use market_data::{FACTOR_PLACES, MOST_FACTOR, MW_PLACES};
-use record_reading::Why;
+use record_reading::{FrameFault, Why};
 
 /// A record of a table of factors as it is written.
 #[derive(Clone, Copy, Debug)]
@@ -36,11 +36,11 @@ fn factor_of(table: &Table, row: usize) -> Result<i64, TableFault>
 {
     let factor = table.number(row, 2, FACTOR_PLACES)?;
     if factor.unsigned_abs() > MOST_FACTOR {
-        return Err(TableFault::Cell {
+        return Err(TableFault::Frame(FrameFault::Cell {
             line: row + 2,
             col: 3,
             why: Why::Bounds,
-        });
+        }));
     }
     Ok(factor)
 }

@@ -2,10 +2,11 @@
 
 ghost use Rattle.std.specs.Prelude.{◌≡◌, ◌≢◌, ℕ, ◌+◌, ◌<◌, ◌≤◌, ◌^◌, ◌&&◌, not, unsigned_abs, length, map, get_or, [], Ok, Err, IfOk, IfErr, false};
 ghost use Rattle.record_reading.specs.Rows.{read_rows};
+ghost use Rattle.record_reading.specs.Steps.{checked, fine};
 ghost use Rattle.market_data.specs.Scales.{most_factor};
 ghost use Rattle.factor_tables.specs.Factors.{ArePairFactors, HasNoPairTwice, has_pair, marked_row};
 ghost use Rattle.factor_tables.specs.Records.{FactorIsRead};
-ghost use Rattle.factor_tables.specs.Rules.{IsPairOf, checked, fine, loss_faults, record_faults, shift_faults};
+ghost use Rattle.factor_tables.specs.Rules.{IsPairOf, loss_faults, record_faults, shift_faults};
 ghost use Rattle.factor_tables.specs.Tables.{entry_in, factors_of, header_of, loss_of, shift_of};
 
 use crate::TableFault;
@@ -138,7 +139,7 @@ fn factors_of(
     ensures ok { IfOk result (λ pairs. factors_of column network.now bytes.now ≡ Ok pairs.by_pair.entries) }
     ensures err { IfErr result (λ fault. fault ≢ TableFault.Memory → factors_of column network.now bytes.now ≡ Err fault) }
 {
-    let table = read_table(alloc, bytes, header, None)?;
+    let table = read_table(alloc, bytes, header, None)??;
     pairs_of(alloc, network, column, &table)
 }
 

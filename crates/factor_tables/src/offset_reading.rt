@@ -3,10 +3,11 @@
 ghost use Rattle.std.specs.Prelude.{◌≡◌, ◌≢◌, ℕ, ◌+◌, ◌<◌, ◌^◌, length, get_or, [], List, Ok, Err, IfOk, IfErr, is_some, option_map, false};
 ghost use Rattle.std.specs.List.{find};
 ghost use Rattle.record_reading.specs.Rows.{read_rows};
+ghost use Rattle.record_reading.specs.Steps.{checked, fine};
 ghost use Rattle.market_data.specs.Participants.{IsDatum};
 ghost use Rattle.factor_tables.specs.Offsets.{AreOffsets, OffsetEntry, has_offset, offset_entry, offset_faults, offsets_of, wants_offset, with_all_offsets};
 ghost use Rattle.factor_tables.specs.Records.{OffsetIsRead};
-ghost use Rattle.factor_tables.specs.Rules.{IsRowOf, checked, fine};
+ghost use Rattle.factor_tables.specs.Rules.{IsRowOf};
 
 use crate::TableFault;
 use crate::cells::{OffsetRecord, offset_of};
@@ -108,7 +109,7 @@ fn missing(by_row: &IndexMap<u32, i64>, branches: &[NetBranch]) -> Option<u32>
 pub fn offsets(alloc: Global, network: &Network, bytes: &[u8]) -> Result<Offsets, TableFault>
     ensures { result ≢ Err TableFault.Memory → result ≡ offsets_of network.now bytes.now }
 {
-    let table = read_table(alloc, bytes, OFFSET_HEADER, None)?;
+    let table = read_table(alloc, bytes, OFFSET_HEADER, None)??;
     let by_row = entries_of(alloc, network, &table)?;
     match missing(&by_row, network.branches().slice()) {
         Some(branch) => Err(TableFault::NoOffset { branch }),

@@ -35,6 +35,6 @@ pub fn outage_rows(alloc: Global, bytes: &[u8]) -> Result<OutageRows, TableFault
     ensures few { IfOk result (λ rows. length rows ≤ most_outages) }
     ensures is { result ≢ Err TableFault.Memory → result ≡ outage_rows_of bytes.now }
 {
-    let table = read_table(alloc, bytes, OUTAGE_HEADER, Some(MOST_OUTAGES))?;
+    let table = read_table(alloc, bytes, OUTAGE_HEADER, Some(MOST_OUTAGES))??;
     numbers_of(alloc, &table)
 }

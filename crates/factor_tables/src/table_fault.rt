@@ -1,23 +1,16 @@
 //! Why a table is refused.
 
 ghost use Rattle.std.specs.Prelude.{◌≡◌};
-ghost use Rattle.factor_tables.specs.Records.{cell_fault, frame_fault};
 
 use plain_list::Memory;
-use record_reading::{CellFault, FrameFault, Why};
+use record_reading::FrameFault;
 use thiserror::Error;
 
 /// Why a table is refused. A line is a record's place, where the header's is 1.
 #[derive(Clone, Copy, Debug, PartialEq, Eq, Error)]
 pub enum TableFault {
-    #[error("another header")]
-    Header,
-    #[error("another width in line {line}")]
-    Width { line: usize },
-    #[error("{count} records")]
-    TooMany { count: usize },
-    #[error("line {line}, column {col}: {why:?}")]
-    Cell { line: usize, col: usize, why: Why },
+    #[error("{0}")]
+    Frame(FrameFault),
     #[error("no branch row of a number in line {line}")]
     NoBranch { line: usize },
     #[error("no bus row of the number in line {line}")]
@@ -38,27 +31,12 @@ pub enum TableFault {
 }
 
 impl From<FrameFault> for TableFault {
-    ghost from_gives = { λ frame fault. fault ≡ frame_fault frame };
+    ghost use Rattle.factor_tables.specs.declared.table_fault.TableFault.TheVariants as table_fault;
+
+    ghost from_gives = { λ frame fault. fault ≡ table_fault.Frame frame };
 
     fn from(fault: FrameFault) -> TableFault {
-        match fault {
-            FrameFault::Header => TableFault::Header,
-            FrameFault::Width { line } => TableFault::Width { line },
-            FrameFault::TooMany { count } => TableFault::TooMany { count },
-            FrameFault::Memory => TableFault::Memory,
-        }
-    }
-}
-
-impl From<CellFault> for TableFault {
-    ghost from_gives = { λ cell fault. fault ≡ cell_fault cell };
-
-    fn from(fault: CellFault) -> TableFault {
-        TableFault::Cell {
-            line: fault.line,
-            col: fault.col,
-            why: fault.why,
-        }
+        TableFault::Frame(fault)
     }
 }
 

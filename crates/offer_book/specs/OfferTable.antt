@@ -11,30 +11,17 @@ use Rattle.market_model.specs.declared.participants.Side.TheVariants.{Sell, Buy}
 use Rattle.market_data.specs.Scales.{most_blocks, mw_places, price_places}
 use Rattle.market_model.specs.Stairs.{stair_in, offered, room_of}
 use Rattle.record_reading.specs.Records.{Record, cell_of}
-use Rattle.record_reading.specs.Steps.{and_then, or_as, some_of}
+use Rattle.record_reading.specs.Steps.{and_then, checked, or_as, some_of}
 use Rattle.csv_table.specs.Table.{framed, number_in}
-use Rattle.record_reading.specs.declared.CellFault.{CellFault}
-use Rattle.record_reading.specs.declared.FrameFault.{FrameFault}
-use Rattle.record_reading.specs.declared.FrameFault.TheVariants as frame
 use Rattle.record_reading.specs.Rows.{gather}
 use Rattle.offer_book.specs.declared.offer_table.Offer.{Offer}
 use Rattle.offer_book.specs.declared.offer_table.Stair.{Stair}
 use Rattle.offer_book.specs.declared.offer_table.OfferFault.{OfferFault}
 use Rattle.offer_book.specs.declared.offer_table.OfferFault.TheVariants as fault
 
--- ---- the faults of a table as a whole and of a cell
-abbrev pub frame_fault : FrameFault → OfferFault
-frame_fault frame.Header = fault.Header
-frame_fault (frame.Width line) = fault.Width line
-frame_fault (frame.TooMany count) = fault.TooMany count
-frame_fault frame.Memory = fault.Memory
-
-abbrev pub cell_fault : CellFault → OfferFault
-cell_fault f = fault.Cell f.line f.col f.why
-
 -- the number in a cell, in units of so many places
 abbrev pub number : ℕ → Record → ℕ → ℕ → Result ℤ OfferFault
-number line r col places = or_as cell_fault (number_in line r col places)
+number line r col places = or_as fault.Frame (number_in line r col places)
 
 abbrev pub side_in : ℕ → List ℕ → Result Side OfferFault
 side_in line text = if bytes_eq text (codes "sell") then Ok Sell else if bytes_eq text (codes "buy") then Ok Buy else Err (fault.Side line)
@@ -67,10 +54,12 @@ unit_of_place units place = slice_index_or units place (record { row = 0; bus = 
 -- the block of a live unit's offer, after the blocks of its stair
 unfoldable pub block_after : unit.Unit → List Block → ℕ → ℕ → Offer → Result Block OfferFault
 block_after u stair place line offer =
-    if lt_z offer.quantity (pos 0) then Err (fault.Negative line)
-    else if not (follows offer.side (last_price stair) offer.price) then Err (fault.OutOfOrder line)
-    else if lt_z (room_of offer.side u) (offered stair +ℤ offer.quantity) then Err (fault.OverCapacity line)
-    else Ok (record { unit = place; side = offer.side; quantity = offer.quantity; price = offer.price })
+    checked
+    ((lt_z offer.quantity (pos 0), fault.Negative line)
+    ∷ (not (follows offer.side (last_price stair) offer.price), fault.OutOfOrder line)
+    ∷ (lt_z (room_of offer.side u) (offered stair +ℤ offer.quantity), fault.OverCapacity line)
+    ∷ [])
+    (Ok (record { unit = place; side = offer.side; quantity = offer.quantity; price = offer.price }))
 
 -- the gen row of a number, from 1 to the number of rows
 unfoldable pub row_in : ℕ → ℕ → ℤ → Result ℕ OfferFault
@@ -93,4 +82,4 @@ header = codes "unit" ∷ codes "side" ∷ codes "mw" ∷ codes "price" ∷ []
 
 -- the blocks that the bytes stand for, in the order of their records
 unfoldable pub blocks_of_table : UnitList → List ℕ → Result (List Block) OfferFault
-blocks_of_table units bytes = and_then (framed frame_fault header (Some most_blocks) bytes) (gather (block_in units) [] 2)
+blocks_of_table units bytes = and_then (framed fault.Frame header (Some most_blocks) bytes) (gather (block_in units) [] 2)

@@ -7,13 +7,13 @@ ghost use Rattle.market_data.specs.Scales.{most_blocks, most_units};
 ghost use Rattle.market_model.specs.Market.{IsBlock, HaveRoom};
 ghost use Rattle.record_reading.specs.Rows.{gather, listed};
 ghost use Rattle.market_model.specs.Stairs.{is_on_stair, stair_in, room_of};
-ghost use Rattle.offer_book.specs.OfferTable.{cell_fault, side_in, offer_in, ends_of, follows, block_after, block_where, row_in, block_in, frame_fault, blocks_of_table};
+ghost use Rattle.offer_book.specs.OfferTable.{side_in, offer_in, ends_of, follows, block_after, block_where, row_in, block_in, blocks_of_table};
 ghost use Rattle.offer_book.specs.Offers.{AreBlocks, HasSides, MayFollow, OfferIsRead, StairIsBounded};
 
 use csv_table::{Table, read_table};
 use market_data::MOST_BLOCKS;
 use market_model::{Block, List, MW_PLACES, Memory, PRICE_PLACES, Side, Unit, UnitList};
-use record_reading::{CellFault, FrameFault, Why, push_some};
+use record_reading::{FrameFault, push_some};
 use std::alloc::Global;
 use thiserror::Error;
 
@@ -23,14 +23,8 @@ const OFFER_HEADER: &[&str] = &["unit", "side", "mw", "price"];
 /// Why a table of offers is refused. A line is a record's place, where the header's is 1.
 #[derive(Clone, Copy, Debug, PartialEq, Eq, Error)]
 pub enum OfferFault {
-    #[error("another header")]
-    Header,
-    #[error("another width in line {line}")]
-    Width { line: usize },
-    #[error("{count} records")]
-    TooMany { count: usize },
-    #[error("line {line}, column {col}: {why:?}")]
-    Cell { line: usize, col: usize, why: Why },
+    #[error("{0}")]
+    Frame(FrameFault),
     #[error("no side in line {line}")]
     Side { line: usize },
     #[error("no unit of the number in line {line}")]
@@ -46,27 +40,12 @@ pub enum OfferFault {
 }
 
 impl From<FrameFault> for OfferFault {
-    ghost from_gives = { λ frame fault. fault ≡ frame_fault frame };
+    ghost use Rattle.offer_book.specs.declared.offer_table.OfferFault.TheVariants as offer_fault;
+
+    ghost from_gives = { λ frame fault. fault ≡ offer_fault.Frame frame };
 
     fn from(fault: FrameFault) -> OfferFault {
-        match fault {
-            FrameFault::Header => OfferFault::Header,
-            FrameFault::Width { line } => OfferFault::Width { line },
-            FrameFault::TooMany { count } => OfferFault::TooMany { count },
-            FrameFault::Memory => OfferFault::Memory,
-        }
-    }
-}
-
-impl From<CellFault> for OfferFault {
-    ghost from_gives = { λ cell fault. fault ≡ cell_fault cell };
-
-    fn from(fault: CellFault) -> OfferFault {
-        OfferFault::Cell {
-            line: fault.line,
-            col: fault.col,
-            why: fault.why,
-        }
+        OfferFault::Frame(fault)
     }
 }
 
@@ -250,10 +229,8 @@ pub fn blocks(alloc: Global, units: &UnitList, bytes: &[u8]) -> Result<List<Bloc
     ensures room { All HasSides units.now.units → IfOk result (HaveRoom units.now.units) }
     ensures is { result ≢ Err OfferFault.Memory → result ≡ blocks_of_table units.now bytes.now }
 {
-    match read_table(alloc, bytes, OFFER_HEADER, Some(MOST_BLOCKS)) {
-        Ok(table) => blocks_of(alloc, units, &table),
-        Err(fault) => Err(OfferFault::from(fault)),
-    }
+    let table = read_table(alloc, bytes, OFFER_HEADER, Some(MOST_BLOCKS))??;
+    blocks_of(alloc, units, &table)
 }
 
 /// The gen row of a number, from 1 to the number of rows.

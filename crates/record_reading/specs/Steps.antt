@@ -1,5 +1,5 @@
 -- Steps one after the other, of which the first fault is told.
-use Rattle.std.specs.Prelude.{Option, Some, Result, Ok, Err}
+use Rattle.std.specs.Prelude.{Bool, List, [], ◌∷◌, if◌then◌else◌, Option, Some, Result, Ok, Err}
 
 -- the second step on the first one's value, or the first one's fault
 abbrev pub and_then : {A B F : Type 0} → Result A F → (A → Result B F) → Result B F
@@ -15,3 +15,12 @@ or_as f (Err e) = Err (f e)
 abbrev pub some_of : {A F : Type 0} → Result A F → Result (Option A) F
 some_of (Ok x) = Ok (Some x)
 some_of (Err e) = Err e
+
+-- the first of some faults that there is, or else a result; beside each fault stands whether there is it
+abbrev pub checked : {A F : Type 0} → List (Bool × F) → Result A F → Result A F
+checked [] result = result
+checked (first ∷ others) result = if first.0 then Err first.1 else checked others result
+
+-- no fault
+abbrev pub fine : {F : Type 0} → Result (Unit {0}) F
+fine = Ok tt

@@ -6,6 +6,8 @@ use Rattle.case_text.specs.declared.Field.{Field}
 use Rattle.case_text.specs.declared.Field.TheVariants as field
 use Rattle.case_text.specs.declared.CaseFault.{CaseFault}
 use Rattle.case_text.specs.declared.CaseFault.TheVariants as case_fault
+use Rattle.record_reading.specs.declared.FrameFault.{FrameFault}
+use Rattle.record_reading.specs.declared.FrameFault.TheVariants as frame_fault
 use Rattle.record_reading.specs.declared.Why.{Why}
 use Rattle.record_reading.specs.declared.Why.TheVariants as why
 use Rattle.net_case.specs.declared.live_parts.NetFault.{NetFault}
@@ -63,11 +65,15 @@ net_words net_fault.NoReference = codes "NoReference"
 net_words (net_fault.MinAboveMax unit) = codes "MinAboveMax " ++ codes "unit " ++ decimal unit
 net_words net_fault.Memory = []
 
+-- what every table may have wrong
+unfoldable pub frame_words : FrameFault → List ℕ
+frame_words frame_fault.Header = codes "Header"
+frame_words (frame_fault.Width line) = codes "Width" ++ codes " line " ++ decimal line
+frame_words (frame_fault.TooMany count) = codes "TooMany count " ++ decimal count
+frame_words (frame_fault.Cell line col w) = codes "Cell line " ++ decimal line ++ codes " col " ++ decimal col ++ codes " " ++ why_name w
+
 unfoldable pub offer_words : OfferFault → List ℕ
-offer_words offer_fault.Header = codes "Header"
-offer_words (offer_fault.Width line) = codes "Width" ++ codes " line " ++ decimal line
-offer_words (offer_fault.TooMany count) = codes "TooMany count " ++ decimal count
-offer_words (offer_fault.Cell line col w) = codes "Cell line " ++ decimal line ++ codes " col " ++ decimal col ++ codes " " ++ why_name w
+offer_words (offer_fault.Frame f) = frame_words f
 offer_words (offer_fault.Side line) = codes "Side" ++ codes " line " ++ decimal line
 offer_words (offer_fault.NoUnit line) = codes "NoUnit" ++ codes " line " ++ decimal line
 offer_words (offer_fault.Negative line) = codes "Negative" ++ codes " line " ++ decimal line
@@ -76,18 +82,12 @@ offer_words (offer_fault.OverCapacity line) = codes "OverCapacity" ++ codes " li
 offer_words offer_fault.Memory = []
 
 unfoldable pub step_words : StepFault → List ℕ
-step_words step_fault.Header = codes "Header"
-step_words (step_fault.Width line) = codes "Width" ++ codes " line " ++ decimal line
-step_words (step_fault.TooMany count) = codes "TooMany count " ++ decimal count
-step_words (step_fault.Cell line col w) = codes "Cell line " ++ decimal line ++ codes " col " ++ decimal col ++ codes " " ++ why_name w
+step_words (step_fault.Frame f) = frame_words f
 step_words (step_fault.Word line) = codes "Word" ++ codes " line " ++ decimal line
 step_words step_fault.Memory = []
 
 unfoldable pub table_words : TableFault → List ℕ
-table_words table_fault.Header = codes "Header"
-table_words (table_fault.Width line) = codes "Width" ++ codes " line " ++ decimal line
-table_words (table_fault.TooMany count) = codes "TooMany count " ++ decimal count
-table_words (table_fault.Cell line col w) = codes "Cell line " ++ decimal line ++ codes " col " ++ decimal col ++ codes " " ++ why_name w
+table_words (table_fault.Frame f) = frame_words f
 table_words (table_fault.NoBranch line) = codes "NoBranch" ++ codes " line " ++ decimal line
 table_words (table_fault.NoBus line) = codes "NoBus" ++ codes " line " ++ decimal line
 table_words (table_fault.DeadBranch line) = codes "DeadBranch" ++ codes " line " ++ decimal line

@@ -1,7 +1,7 @@
 //! Why a file is refused, and the line that says so.
 
 ghost use Rattle.std.specs.Prelude.{◌≡◌, ◌++◌, codes, decimal, IfOk};
-ghost use Rattle.refusal_text.specs.Refusals.{field_name, why_name, case_words, net_words, table_words, side_text, outage_words, lack_words, offer_words, step_words, key_name, input_name, refusal_words, refusal_line};
+ghost use Rattle.refusal_text.specs.Refusals.{field_name, why_name, case_words, net_words, frame_words, table_words, side_text, outage_words, lack_words, offer_words, step_words, key_name, input_name, refusal_words, refusal_line};
 
 use case_text::{CaseFault, Field};
 use cert_format::Key;
@@ -12,7 +12,7 @@ use net_case::NetFault;
 use offer_book::OfferFault;
 use outage_list::OutageFault;
 use plain_list::{List, Memory};
-use record_reading::Why;
+use record_reading::{FrameFault, Why};
 use scaled_decimal::DecimalFault;
 use std::alloc::Global;
 
@@ -182,18 +182,28 @@ fn write_net_fault(text: &mut Text, fault: NetFault) -> Result<(), Memory>
     }
 }
 
+/// What every table may have wrong.
+#[tactic(auto, using(std::proofs::Common::append_assoc), unfolding(crate::specs::Refusals::frame_words))]
+fn write_frame_fault(text: &mut Text, fault: FrameFault) -> Result<(), Memory>
+    ensures { IfOk result (λ _. text.new ≡ text.old ++ frame_words fault) }
+{
+    match fault {
+        FrameFault::Header => text.word(b"Header"),
+        FrameFault::Width { line } => at_line(text, b"Width", line),
+        FrameFault::TooMany { count } => numbered(text, b"TooMany count ", count),
+        FrameFault::Cell { line, col, why } => {
+            text.word(b"Cell line ")?;
+            write_place(text, line, col, why)
+        }
+    }
+}
+
 #[tactic(auto, using(std::proofs::Common::append_assoc), unfolding(crate::specs::Refusals::offer_words))]
 fn write_offer_fault(text: &mut Text, fault: OfferFault) -> Result<(), Memory>
     ensures { IfOk result (λ _. text.new ≡ text.old ++ offer_words fault) }
 {
     match fault {
-        OfferFault::Header => text.word(b"Header"),
-        OfferFault::Width { line } => at_line(text, b"Width", line),
-        OfferFault::TooMany { count } => numbered(text, b"TooMany count ", count),
-        OfferFault::Cell { line, col, why } => {
-            text.word(b"Cell line ")?;
-            write_place(text, line, col, why)
-        }
+        OfferFault::Frame(fault) => write_frame_fault(text, fault),
         OfferFault::Side { line } => at_line(text, b"Side", line),
         OfferFault::NoUnit { line } => at_line(text, b"NoUnit", line),
         OfferFault::Negative { line } => at_line(text, b"Negative", line),
@@ -208,13 +218,7 @@ fn write_step_fault(text: &mut Text, fault: StepFault) -> Result<(), Memory>
     ensures { IfOk result (λ _. text.new ≡ text.old ++ step_words fault) }
 {
     match fault {
-        StepFault::Header => text.word(b"Header"),
-        StepFault::Width { line } => at_line(text, b"Width", line),
-        StepFault::TooMany { count } => numbered(text, b"TooMany count ", count),
-        StepFault::Cell { line, col, why } => {
-            text.word(b"Cell line ")?;
-            write_place(text, line, col, why)
-        }
+        StepFault::Frame(fault) => write_frame_fault(text, fault),
         StepFault::Word { line } => at_line(text, b"Word", line),
         StepFault::Memory => Ok(()),
     }
@@ -225,13 +229,7 @@ fn write_table_fault(text: &mut Text, fault: TableFault) -> Result<(), Memory>
     ensures { IfOk result (λ _. text.new ≡ text.old ++ table_words fault) }
 {
     match fault {
-        TableFault::Header => text.word(b"Header"),
-        TableFault::Width { line } => at_line(text, b"Width", line),
-        TableFault::TooMany { count } => numbered(text, b"TooMany count ", count),
-        TableFault::Cell { line, col, why } => {
-            text.word(b"Cell line ")?;
-            write_place(text, line, col, why)
-        }
+        TableFault::Frame(fault) => write_frame_fault(text, fault),
         TableFault::NoBranch { line } => at_line(text, b"NoBranch", line),
         TableFault::NoBus { line } => at_line(text, b"NoBus", line),
         TableFault::DeadBranch { line } => at_line(text, b"DeadBranch", line),

@@ -1,22 +1,22 @@
 use Rattle.std.proofs.Common.{rules, arith, ◌≡◌, ◌<◌, ◌≤◌, ◌+◌, ◌++◌, ◌∷◌, ◌∙◌, sym, ap, Err, [], length, length-append}
 use Rattle.record_reading.specs.Steps.{or_as}
 use Rattle.record_reading.proofs.RowLemmas.{read_rows-end, read_rows-fault, read_rows-step}
-use Rattle.factor_tables.specs.Records.{cell_fault}
+use Rattle.factor_tables.specs.declared.table_fault.TableFault.TheVariants as fault
 use Rattle.factor_tables.specs.OutageNumbers.{outage_number}
 use Rattle.factor_tables.proofs.outage_numbers.numbers_of.Goals as goal
 
 pub returns-in_err-number-clause-is : goal.returns-in_err-number-clause-is
 returns-in_err-number-clause-is c =
     let lt : c.loop-row.row < length c.args.table.now = omega arith in
-    let fails = ap (or_as cell_fault) (sym c.number.ensures.is ∙ c.in_err-number.was) in
-    let here = c.loop-row.invariant.is ∙ read_rows-fault outage_number c.loop-row.numbers (c.loop-row.row + 2) c.args.table.now c.loop-row.row (cell_fault c.in_err-number.field-0.0) lt fails in
-    let given : c.from_residual.result ≡ Err (cell_fault c.in_err-number.field-0.0) = search rules in
+    let fails = ap (or_as fault.Frame) (sym c.number.ensures.is ∙ c.in_err-number.was) in
+    let here = c.loop-row.invariant.is ∙ read_rows-fault outage_number c.loop-row.numbers (c.loop-row.row + 2) c.args.table.now c.loop-row.row (fault.Frame c.in_err-number.field-0.0) lt fails in
+    let given : c.from_residual.result ≡ Err (fault.Frame c.in_err-number.field-0.0) = search rules in
     λ _. given ∙ sym here
 
 pub loop-row-preserved : goal.loop-row-preserved
 loop-row-preserved c =
     let lt : c.loop-row.row < length c.args.table.now = omega arith in
-    let reads = ap (or_as cell_fault) (sym c.number.ensures.is ∙ c.in_ok-number.was) in
+    let reads = ap (or_as fault.Frame) (sym c.number.ensures.is ∙ c.in_ok-number.was) in
     let here = c.loop-row.invariant.is ∙ read_rows-step outage_number c.loop-row.numbers (c.loop-row.row + 2) c.args.table.now c.loop-row.row c.in_ok-number.number lt reads in
     let added : c.push.new.self ≡ c.loop-row.numbers ++ c.in_ok-number.number ∷ [] = search rules in
     let next : c.loop-row.row + 2 + 1 ≡ c.loop-row.row + 1 + 2 = omega arith in

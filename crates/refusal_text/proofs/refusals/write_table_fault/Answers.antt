@@ -3,14 +3,8 @@ use Rattle.std.proofs.lemmas.Result.{IfOk-weaker}
 use Rattle.refusal_text.specs.Refusals.{table_words}
 use Rattle.refusal_text.proofs.refusals.write_table_fault.Goals as goal
 
-pub returns-in-TooMany : goal.returns-in-TooMany
-unfolding table_words
-returns-in-TooMany c =
-    IfOk-weaker c.numbered.result _ _
-    (λ _ e. e ∙ append_assoc c.args.text.now (codes "TooMany count ") (decimal c.in-TooMany.count) ∙ ap (λ f. c.args.text.now ++ table_words f) (sym c.in-TooMany.is)) c.numbered.ensures
-
 pub returns-in-NoOffset : goal.returns-in-NoOffset
 unfolding table_words
 returns-in-NoOffset c =
-    IfOk-weaker c.numbered-in-NoOffset.result _ _
-    (λ _ e. e ∙ append_assoc c.args.text.now (codes "NoOffset branch ") (decimal c.in-NoOffset.branch) ∙ ap (λ f. c.args.text.now ++ table_words f) (sym c.in-NoOffset.is)) c.numbered-in-NoOffset.ensures
+    IfOk-weaker c.numbered.result _ _
+    (λ _ e. e ∙ append_assoc c.args.text.now (codes "NoOffset branch ") (decimal c.in-NoOffset.branch) ∙ ap (λ f. c.args.text.now ++ table_words f) (sym c.in-NoOffset.is)) c.numbered.ensures
