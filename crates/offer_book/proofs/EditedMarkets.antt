@@ -15,9 +15,9 @@ use Rattle.market_model.proofs.ChangeLemmas.{kept_price, kept_quantity, kept_dem
 use Rattle.offer_book.specs.declared.edit_parts.Edit.{Edit}
 use Rattle.offer_book.specs.declared.edit_parts.Edit.TheVariants as edit
 use Rattle.offer_book.specs.declared.edit_parts.EditFault.TheVariants as fault
-use Rattle.offer_book.specs.Edits.{number_of, is_block_of, place_of_block, place_of_bus, place_of_limit, limit_of, rival_of, excess, judge_quantity, step_of}
+use Rattle.offer_book.specs.Edits.{number_of, is_block_of, place_of_block, place_of_bus, place_of_limit, limit_of, rival_of, over_capacity, judge_quantity, step_of}
 use Rattle.offer_book.specs.EditLaws.{LawOfEditedMarkets}
-use Rattle.offer_book.proofs.ExcessLemmas.{within_room}
+use Rattle.offer_book.proofs.CapacityLemmas.{within_room}
 
 some_same : (x y : ℕ) → ◌≡◌ {A = Option ℕ} (Some x) (Some y) → x ≡ y
 some_same x y e = Prim.cc
@@ -83,13 +83,13 @@ not_below a b e = lt_z_no {a = a} {b = b} (Prim.rw e tt)
 
 module _ (m : Parts) (market : IsMarket m) where
   pub quantity_kept : (j : ℕ) (mw : ℤ) → j < length m.blocks → IsMarket (if is_some (judge_quantity m mw j) then m else with_quantity m j mw)
-  quantity_kept j mw inside = by (lt_z mw (pos 0)) (lt_z (pos 0) (excess m j mw)) refl refl
+  quantity_kept j mw inside = by (lt_z mw (pos 0)) (lt_z (pos 0) (over_capacity m j mw)) refl refl
     where
-      by : (negative over : Bool) → lt_z mw (pos 0) ≡ negative → lt_z (pos 0) (excess m j mw) ≡ over
-          → IsMarket (if is_some (if negative then Some fault.Negative else if over then Some (fault.OverCapacity (excess m j mw)) else None) then m else with_quantity m j mw)
+      by : (negative over : Bool) → lt_z mw (pos 0) ≡ negative → lt_z (pos 0) (over_capacity m j mw) ≡ over
+          → IsMarket (if is_some (if negative then Some fault.Negative else if over then Some (fault.OverCapacity (over_capacity m j mw)) else None) then m else with_quantity m j mw)
       by true over e f = market
       by false true e f = market
-      by false false e f = kept_quantity m market j mw inside (not_below mw (pos 0) e) (within_room m j mw (not_below (pos 0) (excess m j mw) f))
+      by false false e f = kept_quantity m market j mw inside (not_below mw (pos 0) e) (within_room m j mw (not_below (pos 0) (over_capacity m j mw) f))
 
   pub stepped : (e : Edit) → IsDatum (number_of e) → IsMarket (step_of m e)
   stepped (edit.Price row side number price) datum = by (place_of_block m row side number) (rival_of m row side number price) refl

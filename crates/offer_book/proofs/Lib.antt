@@ -1,7 +1,7 @@
 pub mod RoomLemmas
 pub mod StairLemmas
 pub mod SearchLemmas
-pub mod ExcessLemmas
+pub mod CapacityLemmas
 pub mod FrameOfEdits
 pub mod EditedMarkets
 pub mod CurveLemmas

@@ -61,13 +61,13 @@ unfoldable pub rival_of : Parts → ℤ → Side → ℤ → ℤ → Option ℤ
 rival_of m row side number price = rival side (price_of_block m row side (number -ℤ pos 1)) price (price_of_block m row side (number +ℤ pos 1))
 
 -- by how much a side's blocks would exceed the room of their unit, if the block at a place offered so much
-unfoldable pub excess : Parts → ℕ → ℤ → ℤ
-excess m j mw = offered (stair_in (block_at m j).unit (block_at m j).side (with_quantity m j mw).blocks) -ℤ room_of (block_at m j).side (unit_at m (block_at m j).unit)
+unfoldable pub over_capacity : Parts → ℕ → ℤ → ℤ
+over_capacity m j mw = offered (stair_in (block_at m j).unit (block_at m j).side (with_quantity m j mw).blocks) -ℤ room_of (block_at m j).side (unit_at m (block_at m j).unit)
 
 abbrev pub judge_quantity : Parts → ℤ → ℕ → Option EditFault
 judge_quantity m mw j =
     if lt_z mw (pos 0) then Some fault.Negative
-    else if lt_z (pos 0) (excess m j mw) then Some (fault.OverCapacity (excess m j mw))
+    else if lt_z (pos 0) (over_capacity m j mw) then Some (fault.OverCapacity (over_capacity m j mw))
     else None
 
 -- why an edit is refused: the first cause that there is, and None where it is accepted

@@ -5,7 +5,7 @@ ghost use Rattle.std.specs.List.{slice_get};
 ghost use Rattle.market_data.specs.Participants.{IsDatum};
 ghost use Rattle.market_model.specs.Dispatch.{line_at};
 ghost use Rattle.market_data.specs.Scales.{most_blocks};
-ghost use Rattle.offer_book.specs.Edits.{answer, blocks_of_side, excess, is_block_of, judge, limit_of, number_of, place_of_block, place_of_bus, place_of_limit, price_of_block, rival, rival_of, step_of};
+ghost use Rattle.offer_book.specs.Edits.{answer, blocks_of_side, over_capacity, is_block_of, judge, limit_of, number_of, place_of_block, place_of_bus, place_of_limit, price_of_block, rival, rival_of, step_of};
 ghost use Rattle.offer_book.specs.declared.edit_parts.Edit.TheVariants as edit;
 
 use crate::edit_parts::{Edit, EditFault};
@@ -110,7 +110,7 @@ fn edit_price(
 }
 
 /// By how much a sum with one part replaced by another exceeds a room.
-fn excess_with(sum: i128, old: i64, new: i64, room: i64) -> i128
+fn over_capacity_with(sum: i128, old: i64, new: i64, room: i64) -> i128
     requires { unsigned_abs sum < 2 ^ 80 }
     ensures { result ≡ ((sum -ℤ old) +ℤ new) -ℤ room }
 {
@@ -118,15 +118,15 @@ fn excess_with(sum: i128, old: i64, new: i64, room: i64) -> i128
 }
 
 /// By how much a side's blocks would exceed the room of their unit, if the block at a place offered so much.
-#[tactic(auto, unfolding(crate::specs::Edits::excess))]
-fn excess(market: &Market, place: usize, mw: i64) -> i128
+#[tactic(auto, unfolding(crate::specs::Edits::over_capacity))]
+fn over_capacity(market: &Market, place: usize, mw: i64) -> i128
     requires { place < length market.now.blocks }
-    ensures { result ≡ excess market.now place mw }
+    ensures { result ≡ over_capacity market.now place mw }
 {
     let block = *market.blocks().at(place);
     let unit = *market.units().at(block.unit);
     let stair = stair_of(market.blocks().slice(), block.unit, block.side);
-    excess_with(stair.sum, block.quantity, mw, room(unit, block.side))
+    over_capacity_with(stair.sum, block.quantity, mw, room(unit, block.side))
 }
 
 fn edit_quantity(
@@ -146,7 +146,7 @@ fn edit_quantity(
     if mw < 0 {
         return Err(EditFault::Negative);
     }
-    let over = excess(market, place, mw);
+    let over = over_capacity(market, place, mw);
     if over > 0 {
         return Err(EditFault::OverCapacity { over });
     }

@@ -14,7 +14,7 @@ use Rattle.market_model.specs.Changes.{with_quantity}
 use Rattle.market_model.specs.Dispatch.{unit_at, block_at}
 use Rattle.market_model.specs.Stairs.{same_side, is_on_stair, stair_in, offered, room_of}
 use Rattle.market_model.proofs.ChangeLemmas.{offered-set, part}
-use Rattle.offer_book.specs.Edits.{excess}
+use Rattle.offer_book.specs.Edits.{over_capacity}
 
 -- ---- no step passes 128 bits
 module _ (sum old new room : ℤ) (small : unsigned_abs sum < 2 ^ 80) (old_fits : SFits w64 old) (new_fits : SFits w64 new) (room_fits : SFits w64 room) where
@@ -48,18 +48,18 @@ offered-replaced blocks j mw d inside = by (get_or blocks j d) (record (get_or b
         let new : part b.unit b.side b' ≡ mw = ap (part b.unit b.side) e ∙ own_part (record b { quantity = mw }) in
         Prim.omega (arith, ints, old, new, h)
 
--- the excess, from what is read of a market
-pub excess-is : (m : Parts) (j : ℕ) (mw sum room : ℤ) (block : Block) (u : unit.Unit) → j < length m.blocks → block ≡ block_at m j → u ≡ unit_at m block.unit
-    → sum ≡ offered (stair_in block.unit block.side m.blocks) → room ≡ room_of block.side u → ((sum -ℤ block.quantity) +ℤ mw) -ℤ room ≡ excess m j mw
-unfolding excess
-excess-is m j mw sum room block u inside at here all rooms =
+-- by how much blocks are over the capacity, from what is read of a market
+pub over_capacity-is : (m : Parts) (j : ℕ) (mw sum room : ℤ) (block : Block) (u : unit.Unit) → j < length m.blocks → block ≡ block_at m j → u ≡ unit_at m block.unit
+    → sum ≡ offered (stair_in block.unit block.side m.blocks) → room ≡ room_of block.side u → ((sum -ℤ block.quantity) +ℤ mw) -ℤ room ≡ over_capacity m j mw
+unfolding over_capacity
+over_capacity-is m j mw sum room block u inside at here all rooms =
     ap (λ (r : ℤ). ((sum -ℤ block.quantity) +ℤ mw) -ℤ r) (rooms ∙ ap (room_of block.side) here)
     ∙ ap (λ (s : ℤ). ((s -ℤ block.quantity) +ℤ mw) -ℤ room_of block.side (unit_at m block.unit)) all
     ∙ ap (λ (b : Block). ((offered (stair_in b.unit b.side m.blocks) -ℤ b.quantity) +ℤ mw) -ℤ room_of b.side (unit_at m b.unit)) at
     ∙ ap (λ (s : ℤ). s -ℤ room_of (block_at m j).side (unit_at m (block_at m j).unit)) (sym (offered-replaced m.blocks j mw _ inside))
 
--- without an excess the blocks are within the room
-pub within_room : (m : Parts) (j : ℕ) (mw : ℤ) → excess m j mw ≤ℤ pos 0
+-- where they are not, the blocks are within the room
+pub within_room : (m : Parts) (j : ℕ) (mw : ℤ) → over_capacity m j mw ≤ℤ pos 0
     → offered (stair_in (block_at m j).unit (block_at m j).side (with_quantity m j mw).blocks) ≤ℤ room_of (block_at m j).side (unit_at m (block_at m j).unit)
-unfolding excess
+unfolding over_capacity
 within_room m j mw none = Prim.omega (arith, ints)

@@ -3,8 +3,8 @@ use Rattle.std.proofs.lemmas.Int.{to_z-of_z}
 use mir.Syntax.{w128}
 use mir.Val.{to_z, of_z}
 use Rattle.std.specs.Prelude.{◌+ℤ◌, ◌-ℤ◌}
-use Rattle.offer_book.proofs.ExcessLemmas.{without_fits, replaced_fits, excess_fits}
-use Rattle.offer_book.proofs.edits.excess_with.Goals as goal
+use Rattle.offer_book.proofs.CapacityLemmas.{without_fits, replaced_fits, excess_fits}
+use Rattle.offer_book.proofs.edits.over_capacity_with.Goals as goal
 
 pub overflow_sub-result-2 : goal.overflow_sub-result-2
 overflow_sub-result-2 c =
