@@ -23,6 +23,7 @@ use Rattle.market_model.specs.LimitRows.{rows, row_id, limit, flow}
 use Rattle.market_model.specs.NamedSums.{IsRefusal, IsRefusedIn, IsShareRefusal}
 use Rattle.market_model.specs.Valued.{passed_at}
 use Rattle.market_model.specs.Optimality.{up_of, down_of, names_row, named_rows}
+use Rattle.market_model.proofs.FarkasLaw.{total-flat_map}
 use Rattle.market_model.proofs.MorePlaces.{sum_by_more, total-places_more}
 use Rattle.market_model.proofs.SumSteps.{plus_at, multiplied_at, terms_at, behind}
 use Rattle.limit_rows.proofs.DualLemmas.{up_unnamed, down_unnamed, sum_named}
@@ -83,10 +84,6 @@ filter_at {X} p (x ∷ xs) k e h = by (p x) refl k (λ j lt. filter_at p xs j e 
     by false t j more lt =
         let r = more j lt in
         (x ∷ r.0, r.1, ap (λ ys. x ∷ ys) r.2, ap (λ (b : Bool). cond b (x ∷ filter p r.0) (filter p r.0)) t ∙ r.3)
-
-total-flat_map : {T : Type 0} (f : T → List Term) (xs : List T) → total (flat_map f xs) ≡ sum_by (λ x. total (f x)) xs
-total-flat_map f [] = refl
-total-flat_map f (x ∷ xs) = total-append (f x) (flat_map f xs) ∙ ap (λ t. total (f x) +ℚ t) (total-flat_map f xs)
 
 -- ---- the rows of the bound
 module _ (m : Parts) (d : Duals Fraction) where

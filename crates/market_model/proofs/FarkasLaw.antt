@@ -58,7 +58,8 @@ weights-by_raises m d x =
 abbrev pub left_of : Parts → Duals Fraction → Dispatch → Row → Fraction
 left_of m d x r = up_of m d r *ℚ (limit m r -ℚ flow m x r) +ℚ (down_of m d r *ℚ (limit m r +ℚ flow m x r) +ℚ zero)
 
-total-flat_map : {T : Type 0} (f : T → List Term) (xs : List T) → total (flat_map f xs) ≡ sum_by (λ x. total (f x)) xs
+-- the total of lists one behind the other
+pub total-flat_map : {T : Type 0} (f : T → List Term) (xs : List T) → total (flat_map f xs) ≡ sum_by (λ x. total (f x)) xs
 total-flat_map f [] = refl
 total-flat_map f (x ∷ xs) = total-append (f x) (flat_map f xs) ∙ ap (λ t. total (f x) +ℚ t) (total-flat_map f xs)
 
