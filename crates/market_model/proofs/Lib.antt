@@ -18,4 +18,5 @@ pub mod Rows
 pub mod StopLemmas
 pub mod SumSteps
 pub mod TableLemmas
+pub mod UnitPrices
 pub mod WholeDispatch
