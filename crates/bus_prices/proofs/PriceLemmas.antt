@@ -17,13 +17,13 @@ use Rattle.market_model.specs.declared.limits.Row.{Row}
 use Rattle.market_model.specs.Dispatch.{places}
 use Rattle.market_model.specs.LimitRows.{rows, row_id, row_factor}
 use Rattle.market_model.specs.NamedSums.{IsRefusal, IsRefusedIn, IsShareRefusal}
-use Rattle.market_model.specs.Optimality.{net_shadow_price, names_row, named_rows, congestion, congestion_terms, congestion_by, price_by, price_terms}
-use Rattle.market_model.specs.RightAnswers.{price_made}
+use Rattle.market_model.specs.Optimality.{net_shadow_price, names_row, named_rows, congestion, congestion_terms, congestion_by, price_terms}
+use Rattle.market_model.specs.RightAnswers.{price_made, price_of_parts}
 use Rattle.market_model.proofs.MorePlaces.{sum_by_more}
 use Rattle.market_model.proofs.PlaceLists.{put_more, map_same}
 use Rattle.market_model.proofs.SumSteps.{plus_at, multiplied_at}
 use Rattle.limit_rows.proofs.DualLemmas.{IsRowOfDual, up_unnamed, down_unnamed, sum_named, terms_named}
-use Rattle.bus_prices.specs.PriceParts.{HaveParts, price_of_parts}
+use Rattle.bus_prices.specs.PriceParts.{HaveParts}
 
 module _ (m : Parts) (d : Duals Fraction) (i : ℕ) where
   abbrev term : Row → Term
@@ -113,16 +113,11 @@ module _ {N : Type 0} (value : N → Fraction) where
 pub still_left : {N : Type 0} (old prices : List (Price N)) (i : ℕ) (x : Price N) → AreLeft old i prices → AreLeft old (i + 1) (set prices i x)
 still_left old prices i x left bus p most = let other : bus ≡ i → ⊥ = Prim.omega (arith, most) in get_or-set_other prices i bus x p other ∙ left bus p (Prim.omega (arith, most))
 
-same_price : (energy c c' t t' : Fraction) → c ≡ c' → t ≡ t' → ◌≡◌ {A = Price Fraction} (record { energy = energy; congestion = c; total = t }) (record { energy = energy; congestion = c'; total = t' })
-same_price energy c c' t t' e f = Prim.rw e (Prim.rw f refl)
-
 -- ---- the prices of all buses
 module _ (m : Parts) (d : Duals Fraction) where
-  pub made_of_parts : (congestion' : ℕ → Fraction) (n : ℕ) → ((i : ℕ) → congestion' i ≡ congestion m d i) → map (price_of_parts d.energy congestion') (places n) ≡ map (price_made m d) (places n)
-  unfolding price_by
+  pub made_of_parts : (congestion' : ℕ → Fraction) (n : ℕ) → ((i : ℕ) → congestion' i ≡ congestion m d i) → map (λ i. price_of_parts d.energy (congestion' i)) (places n) ≡ map (price_made m d) (places n)
   made_of_parts congestion' n e =
-      map_same (price_of_parts d.energy congestion') (price_made m d) n
-      (λ i lt. same_price d.energy (congestion' i) (congestion m d i) (d.energy +ℚ congestion' i) (d.energy +ℚ congestion m d i) (e i) (ap (λ x. d.energy +ℚ x) (e i)))
+      map_same (λ i. price_of_parts d.energy (congestion' i)) (price_made m d) n (λ i lt. ap (price_of_parts d.energy) (e i))
 
   pub total_refused : (i : ℕ) (sum : Fraction) (bound : ℕ) (p : Passed Fraction) → sum ≡ congestion m d i → IsRefusal Plus d.energy sum bound p → IsRefusedIn (price_terms m d i) bound p
   total_refused i sum bound p is h =

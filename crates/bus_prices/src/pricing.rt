@@ -1,21 +1,19 @@
 //! The price at each bus, in its two parts.
 
-ghost use Rattle.std.specs.Prelude.{◌≡◌, ◌<◌, ◌^◌, ℕ, length, map, unsigned_abs, IfOk, IfErr};
-ghost use Rattle.fraction_theory.specs.Fraction.{Fraction, neg_ℚ, over, ◌+ℚ◌, ◌-ℚ◌, ◌*ℚ◌};
+ghost use Rattle.std.specs.Prelude.{◌≡◌, ◌<◌, ℕ, length, map, IfOk, IfErr};
+ghost use Rattle.fraction_theory.specs.Fraction.{Fraction, neg_ℚ, ◌+ℚ◌, ◌-ℚ◌, ◌*ℚ◌};
 ghost use Rattle.exact_fraction.specs.declared.Op.TheVariants.{Plus};
-ghost use Rattle.market_data.specs.Scales.{factor_product_one};
 ghost use Rattle.market_model.specs.Dispatch.{places, zero};
 ghost use Rattle.market_model.specs.LimitRows.{row_factor, IsCauseAmong};
 ghost use Rattle.market_model.specs.NamedSums.{IsRefusal, IsShareRefusal};
 ghost use Rattle.market_model.specs.Optimality.{IsOneSided, ProperDuals};
-ghost use Rattle.market_model.specs.RightAnswers.{price_made};
+ghost use Rattle.market_model.specs.RightAnswers.{price_made, price_of_parts};
 ghost use Rattle.market_model.specs.SumTables.{IsRefusedAmong, PriceSum};
 ghost use Rattle.market_model.specs.Valued.{dual_at, duals_at, passed_at, price_at};
-ghost use Rattle.bus_prices.specs.PriceParts.{HaveParts, price_of_parts};
+ghost use Rattle.bus_prices.specs.PriceParts.{HaveParts};
 
 use exact_fraction::{Exact, Passed, Sign};
-use limit_rows::{factor_at, found_row};
-use market_data::FACTOR_PRODUCT_ONE;
+use limit_rows::{found_row, row_factor};
 use market_model::{Dual, Duals, Market, Price, Row, datum};
 
 /// The opposite of what a MW on the flow of a dual's row costs: the price of its lower side, or less that of its upper one.
@@ -29,13 +27,12 @@ fn opposite_net_price<N: Exact>(dual: &Dual<N>) -> N
     }
 }
 
-/// A sum with a price's share by a factor in 10^-12.
-fn with_share<N: Exact>(sum: N, price: N, factor: i64) -> Result<N, Passed<N>>
-    requires { unsigned_abs factor < 2 ^ 63 }
-    ensures sum { IfOk result (λ more. N.value more ≡ N.value sum +ℚ N.value price *ℚ over factor factor_product_one) }
-    ensures cause { IfErr result (λ passed. IsShareRefusal (N.value sum) (N.value price) (over factor factor_product_one) N.bound (passed_at N.value passed)) }
+/// A sum with a price's share by a factor.
+fn with_share<N: Exact>(sum: N, price: N, factor: N) -> Result<N, Passed<N>>
+    ensures sum { IfOk result (λ more. N.value more ≡ N.value sum +ℚ N.value price *ℚ N.value factor) }
+    ensures cause { IfErr result (λ passed. IsShareRefusal (N.value sum) (N.value price) (N.value factor) N.bound (passed_at N.value passed)) }
 {
-    let share = price.times(N::of_parts(factor, FACTOR_PRODUCT_ONE))?;
+    let share = price.times(factor)?;
     sum.plus(share)
 }
 
@@ -67,7 +64,7 @@ fn add_row<N: Exact>(
     ensures cause { (energy : Fraction) (before : ℕ → Fraction) → HaveParts N.value energy before out.old → IfErr result (λ passed. (bus : ℕ) × (bus < length market.now.buses) × IsShareRefusal (before bus) (N.value price) (row_factor market.now row bus) N.bound (passed_at N.value passed)) }
 {
     for (bus, place) in out.iter_mut().enumerate() {
-        let congestion = with_share(place.congestion, price, factor_at(market, row, bus))?;
+        let congestion = with_share(place.congestion, price, row_factor(market, row, bus))?;
         *place = Price {
             energy: place.energy,
             congestion,
@@ -79,7 +76,7 @@ fn add_row<N: Exact>(
 
 /// Puts at each bus the price that its two parts make.
 fn put_totals<N: Exact>(out: &mut [Price<N>]) -> Result<(), Passed<N>>
-    ensures prices { (energy : Fraction) (congestion : ℕ → Fraction) → HaveParts N.value energy congestion out.old → IfOk result (λ _. map (price_at N.value) out.new ≡ map (price_of_parts energy congestion) (places (length out.old))) }
+    ensures prices { (energy : Fraction) (congestion : ℕ → Fraction) → HaveParts N.value energy congestion out.old → IfOk result (λ _. map (price_at N.value) out.new ≡ map (λ bus. price_of_parts energy (congestion bus)) (places (length out.old))) }
     ensures cause { (energy : Fraction) (congestion : ℕ → Fraction) → HaveParts N.value energy congestion out.old → IfErr result (λ passed. (bus : ℕ) × (bus < length out.old) × IsRefusal Plus energy (congestion bus) N.bound (passed_at N.value passed)) }
 {
     for place in out.iter_mut() {

@@ -11,7 +11,7 @@ use Rattle.market_model.specs.Dispatch.{places, line_at}
 use Rattle.market_model.specs.declared.limits.Cause.{Cause}
 use Rattle.market_model.specs.declared.limits.Row.{Row}
 use Rattle.market_model.specs.declared.limits.Cause.TheVariants.{Base, Branch}
-use Rattle.market_model.specs.LimitRows.{bears, lines_of, place_of_line, rows, rows_of}
+use Rattle.market_model.specs.LimitRows.{bears, lines_of, lost_lines, place_of_line, rows, rows_of}
 use Rattle.case_maker.specs.Laws.{HasCounts}
 use Rattle.case_maker.specs.Rings.{blocks_of, bus_of, drawn, line_of, ring_of, unit_of}
 use Rattle.case_maker.proofs.PlaceLists.{count-all, count-others, length-flat, places-at}
@@ -67,14 +67,14 @@ module _ (n seed : ℕ) where
   pub limits-count : 0 < n → length (rows m) ≡ n * n
   unfolding rows
   limits-count some =
-      let after : length (flat_map (rows_of m) (map lost_in m.outages)) ≡ n * (n - 1) =
-      ap length (flat_map-map (rows_of m) lost_in m.outages ∙ flat_map-map (λ row. rows_of m (lost_in row)) (λ i. i + 1) (places n))
+      let after : length (flat_map (rows_of m) (map Branch (lost_lines m))) ≡ n * (n - 1) =
+      ap length (flat_map-map (rows_of m) Branch (lost_lines m) ∙ flat_map-map (λ l. rows_of m (Branch l)) (place_of_line m) m.outages ∙ flat_map-map (λ row. rows_of m (lost_in row)) (λ i. i + 1) (places n))
       ∙ length-flat (λ i. rows_of m (lost_in (i + 1))) 0 n (n - 1) (λ i p q.
       let lt : i < n = omega (arith, q) in
       let one : length (rows_of m (lost_in (i + 1))) ≡ length (rows_of m (Branch i)) = ap (λ (k : ℕ). length (rows_of m (Branch k))) (row-place i lt) in
       let others : length (rows_of m (Branch i)) + 1 ≡ n = after-count i lt in
       omega (arith, one, others)) in
-      let both : length (rows m) ≡ length (rows_of m Base) + length (flat_map (rows_of m) (map lost_in m.outages)) = length-append (rows_of m Base) (flat_map (rows_of m) (map lost_in m.outages)) in
+      let both : length (rows m) ≡ length (rows_of m Base) + length (flat_map (rows_of m) (map Branch (lost_lines m))) = length-append (rows_of m Base) (flat_map (rows_of m) (map Branch (lost_lines m))) in
       let base : length (rows_of m Base) ≡ n = base-count in
       square (n - 1) n (length (rows m)) (omega (arith, some)) (omega (arith, both, base, after))
     where

@@ -1,16 +1,15 @@
 -- The named rows of duals, and the congestion at a bus row by row.
-use Rattle.std.specs.Prelude.{◌≡◌, ◌⊎◌, ℕ, ◌+◌, ◌<◌, ◌≤◌, ℤ, pos, false, List, [], ◌∷◌, ◌++◌, map, length, take, Contains, refl}
+use Rattle.std.specs.Prelude.{◌≡◌, ◌⊎◌, ℕ, ◌+◌, ◌<◌, ◌≤◌, pos, false, List, [], ◌∷◌, ◌++◌, map, length, take, Contains, refl}
 use Rattle.std.proofs.Common.{inl, inr, arith, ap, ap₂, sym, ◌∙◌, get_or}
 use Rattle.std.proofs.lemmas.List.{get_or-map, length-map, take_all}
-use Rattle.fraction_theory.specs.Fraction.{Fraction, whole, over, neg_ℚ, ◌+ℚ◌, ◌-ℚ◌, ◌*ℚ◌}
+use Rattle.fraction_theory.specs.Fraction.{Fraction, whole, neg_ℚ, ◌+ℚ◌, ◌-ℚ◌, ◌*ℚ◌}
 use Rattle.fraction_theory.specs.Sums.{sum_by, Term, Plain, Product, term_value, total}
-use Rattle.fraction_theory.proofs.FieldLaws.{ring_ℚ, over-same, over-one, +ℚ_nil}
+use Rattle.fraction_theory.proofs.FieldLaws.{ring_ℚ, +ℚ_nil}
 use Rattle.fraction_theory.proofs.ListSums.{Contains-from_filter}
 use Rattle.fraction_theory.proofs.Ring.{by_ring, at, padd, pmul, pneg, pnil, times_nil}
 use Rattle.fraction_theory.proofs.SumLaws.{total-map}
 use Rattle.exact_fraction.specs.declared.Op.TheVariants.{Plus, Minus, Times}
 use Rattle.exact_fraction.specs.declared.Passed.{Passed}
-use Rattle.market_data.specs.Scales.{factor_product_one}
 use Rattle.market_model.specs.declared.answered.Duals.{Duals}
 use Rattle.market_model.specs.declared.participants.Parts.{Parts}
 use Rattle.market_model.specs.declared.limits.Row.{Row}
@@ -62,10 +61,8 @@ is_row m d k e h = (Contains-from_filter (λ s. names_row d.limits (row_id m s))
 
 -- ---- the congestion at a bus
 -- a factor of 0 takes nothing
-pub no_net_price : (s u v : Fraction) (k : ℤ) → k ≡ pos 0 → s ≡ s +ℚ neg_ℚ (u -ℚ v) *ℚ over k factor_product_one
-no_net_price s u v k e =
-    let nil : over k factor_product_one ≡ whole (pos 0) = ap (λ (n : ℤ). over n factor_product_one) e ∙ over-same (pos 0) (pos 0) factor_product_one 1 (Prim.omega arith) (Prim.omega arith) refl ∙ over-one (pos 0) in
-    sym (ap (λ t. s +ℚ neg_ℚ (u -ℚ v) *ℚ t) nil ∙ ap (λ t. s +ℚ t) (times_nil ring_ℚ (neg_ℚ (u -ℚ v))) ∙ +ℚ_nil s)
+pub no_net_price : (s u v k : Fraction) → k ≡ whole (pos 0) → s ≡ s +ℚ neg_ℚ (u -ℚ v) *ℚ k
+no_net_price s u v k e = sym (ap (λ t. s +ℚ neg_ℚ (u -ℚ v) *ℚ t) e ∙ ap (λ t. s +ℚ t) (times_nil ring_ℚ (neg_ℚ (u -ℚ v))) ∙ +ℚ_nil s)
 
 module _ (m : Parts) (d : Duals Fraction) (i : ℕ) where
   abbrev term : Row → Term

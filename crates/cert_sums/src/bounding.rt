@@ -1,12 +1,13 @@
 //! The Farkas bound: the most that any dispatch within the blocks' bounds makes of the balance and of what is left of the limits.
 
-ghost use Rattle.std.specs.Prelude.{◌≡◌, ◌<◌, pos, ◌≤ℤ◌, length, map, replicate, IfOk, IfErr};
-ghost use Rattle.fraction_theory.specs.Fraction.{Fraction, whole, ◌+ℚ◌, ◌-ℚ◌, ◌*ℚ◌};
+ghost use Rattle.std.specs.Prelude.{◌≡◌, ◌<◌, length, map, IfOk, IfErr};
+ghost use Rattle.fraction_theory.specs.Fraction.{Fraction, ◌+ℚ◌, ◌-ℚ◌, ◌*ℚ◌};
 ghost use Rattle.fraction_theory.specs.Sums.{total};
 ghost use Rattle.market_model.specs.declared.answered.Duals.{Duals};
-ghost use Rattle.market_model.specs.Dispatch.{Dispatch, balance, empty, signed_by_side, zero};
+ghost use Rattle.market_model.specs.Dispatch.{Dispatch, balance, empty};
 ghost use Rattle.market_model.specs.Infeasibility.{farkas_bound, limit_terms, nothing_terms, part_above};
 ghost use Rattle.market_model.specs.LimitRows.{IsCauseAmong, flow, limit};
+ghost use Rattle.market_model.specs.Optimality.{unit_price};
 ghost use Rattle.market_model.specs.Valued.{passed_at};
 ghost use Rattle.market_model.specs.NamedSums.{IsShareRefusal};
 ghost use Rattle.limit_rows.specs.LineFlows.{AreFlows};
@@ -17,7 +18,7 @@ ghost use Rattle.cert_sums.specs.Refusals.{IsAboveRefusal, IsBelowRefusal, IsLim
 use crate::{NamedRow, VerifyStop, balance, bus_price, injections, line_flows};
 use exact_fraction::{Exact, Passed, Sign};
 use limit_rows::{limit_at, row_flow};
-use market_model::{Block, List, Market, Memory, Side, datum};
+use market_model::{Market, block_quantity, by_side, datum, zeros};
 use std::alloc::Global;
 
 /// A sum with what the price of an upper limit makes of what a flow leaves of it. A price of 0 makes nothing.
@@ -85,25 +86,6 @@ fn with_limits<N: Exact>(
     Ok(sum)
 }
 
-/// The quantity of a block.
-#[tactic(auto, using(market_data::proofs::Data::datum_read))]
-fn quantity_of<N: Exact>(block: &Block) -> N
-    requires { pos 0 ≤ℤ block.now.quantity }
-    ensures { N.value result ≡ whole block.now.quantity }
-{
-    datum(block.quantity)
-}
-
-/// What a MW of a block makes: the price at its bus where it is sold, the opposite where it is bought.
-fn weight<N: Exact>(block: &Block, price: N) -> N
-    ensures { N.value result ≡ signed_by_side block.now.side (N.value price) }
-{
-    match block.side {
-        Side::Sell => price,
-        Side::Buy => price.neg(),
-    }
-}
-
 /// A sum with what a quantity makes, where a MW of it makes so much; nothing where that is not above 0.
 fn with_most<N: Exact>(sum: N, weight: N, quantity: N) -> Result<N, Passed<N>>
     ensures sum { IfOk result (λ more. N.value more ≡ N.value sum +ℚ part_above (N.value weight) *ℚ N.value quantity) }
@@ -118,7 +100,22 @@ fn with_most<N: Exact>(sum: N, weight: N, quantity: N) -> Result<N, Passed<N>>
     }
 }
 
-/// A sum with the most that the blocks make at the prices of their buses.
+/// The price of the unit at a place: that of its bus.
+fn unit_price<N: Exact>(
+    market: &Market,
+    energy: N,
+    named: &[NamedRow<N>],
+    unit: usize,
+) -> Result<N, Passed<N>>
+    requires named { (d : Duals Fraction) × AreNamed N.value market.now d named.now }
+    requires unit { unit < length market.now.units }
+    ensures price { (d : Duals Fraction) → N.value energy ≡ d.energy → AreNamed N.value market.now d named.now → IfOk result (λ price. N.value price ≡ unit_price market.now d unit) }
+    ensures cause { (d : Duals Fraction) → N.value energy ≡ d.energy → AreNamed N.value market.now d named.now → IfErr result (λ passed. IsFarkasPair market.now d N.bound (passed_at N.value passed)) }
+{
+    bus_price(market, energy, named, market.units().at(unit).bus)
+}
+
+/// A sum with the most that the blocks make at the prices of their units.
 fn with_blocks<N: Exact>(
     market: &Market,
     of_limits: N,
@@ -132,22 +129,10 @@ fn with_blocks<N: Exact>(
     let _units = market.units();
     let mut sum = of_limits;
     for (at, block) in market.blocks().slice().iter().enumerate() {
-        let bus = market.units().at(block.unit).bus;
-        let price = bus_price(market, energy, named, bus)?;
-        sum = with_most(sum, weight(block, price), quantity_of(block))?;
+        let price = unit_price(market, energy, named, block.unit)?;
+        sum = with_most(sum, by_side(block.side, price), block_quantity(block))?;
     }
     Ok(sum)
-}
-
-/// Nothing accepted of so many blocks.
-fn nothing<N: Exact>(alloc: Global, blocks: usize) -> Result<List<N>, Memory>
-    ensures { IfOk result (λ mws. map N.value mws ≡ replicate blocks zero) }
-{
-    let mut mws = List::new(alloc);
-    for block in 0..blocks {
-        mws.push(datum(0))?;
-    }
-    Ok(mws)
 }
 
 /// The bound of a price of energy and of named rows with their prices: what these make where nothing is accepted, and the most that each
@@ -163,8 +148,8 @@ pub fn farkas_bound<N: Exact>(
     ensures bound { (d : Duals Fraction) → N.value energy ≡ d.energy → AreNamed N.value market.now d named.now → IfOk result (λ bound. N.value bound ≡ farkas_bound market.now d) }
     ensures cause { (d : Duals Fraction) → N.value energy ≡ d.energy → AreNamed N.value market.now d named.now → IfErr result (OnPassed N.value (IsFarkasPair market.now d N.bound)) }
 {
-    let nothing = nothing(alloc, market.blocks().len())?;
-    let by_bus = injections(alloc, market, nothing.slice())?;
+    let nothing = zeros(alloc, market.blocks().len())?;
+    let by_bus = injections(alloc, market, &nothing)?;
     let by_line = line_flows(alloc, market, &by_bus)?;
     let all = balance(market, &by_bus)?;
     let of_energy = energy.times(all)?;

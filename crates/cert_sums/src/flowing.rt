@@ -10,7 +10,7 @@ ghost use Rattle.cert_sums.specs.Refusals.{OnPassed};
 use crate::VerifyStop;
 use exact_fraction::Exact;
 use limit_rows::put_line_flows;
-use market_model::{Market, datum};
+use market_model::{Market, zeros};
 use std::alloc::Global;
 
 /// The flow of each line at a dispatch, of what each bus puts in, in 10^-9 MW.
@@ -24,11 +24,7 @@ pub fn line_flows<N: Exact>(
     ensures flows { (x : Dispatch) → AreInjections market.now x (map N.value injections.now) → IfOk result (λ flows. AreFlows market.now x (map N.value flows.items)) }
     ensures cause { (x : Dispatch) → AreInjections market.now x (map N.value injections.now) → IfErr result (OnPassed N.value (IsRefusedAmong (LineFlowSum market.now (injection market.now x)) N.bound)) }
 {
-    let none: N = datum(0);
-    let mut flows = match vec![in alloc; none; market.lines().len()] {
-        Ok(flows) => flows,
-        Err(_) => return Err(VerifyStop::Memory),
-    };
+    let mut flows = zeros(alloc, market.lines().len())?;
     put_line_flows(market, injections, &mut flows)?;
     Ok(flows)
 }

@@ -1,8 +1,7 @@
 //! Bus prices of duals whose signs are not known.
 
-ghost use Rattle.std.specs.Prelude.{◌≡◌, ◌⊎◌, ◌<◌, ◌^◌, length, unsigned_abs, IfOk, IfErr};
-ghost use Rattle.fraction_theory.specs.Fraction.{Fraction, neg_ℚ, over, ◌+ℚ◌, ◌-ℚ◌, ◌*ℚ◌};
-ghost use Rattle.market_data.specs.Scales.{factor_product_one};
+ghost use Rattle.std.specs.Prelude.{◌≡◌, ◌⊎◌, ◌<◌, length, IfOk, IfErr};
+ghost use Rattle.fraction_theory.specs.Fraction.{Fraction, neg_ℚ, ◌+ℚ◌, ◌-ℚ◌, ◌*ℚ◌};
 ghost use Rattle.market_model.specs.declared.answered.Duals.{Duals};
 ghost use Rattle.market_model.specs.NamedSums.{IsRefusedIn};
 ghost use Rattle.market_model.specs.Optimality.{bus_price, congestion, congestion_terms};
@@ -10,10 +9,9 @@ ghost use Rattle.market_model.specs.Valued.{passed_at};
 ghost use Rattle.cert_sums.specs.Named.{AreNamed};
 ghost use Rattle.cert_sums.specs.Refusals.{IsPriceRefusal, IsPricesRefusal, IsNetPriceRefusal};
 
-use exact_fraction::{Exact, Passed};
-use limit_rows::factor_at;
-use market_data::FACTOR_PRODUCT_ONE;
-use market_model::{Market, Row};
+use exact_fraction::{Exact, Passed, Sign};
+use limit_rows::row_factor;
+use market_model::{Market, Row, datum};
 
 /// A row of the market with the two prices that a certificate gives it.
 #[derive(Clone, Copy, Debug)]
@@ -25,19 +23,16 @@ pub struct NamedRow<N> {
     pub down: N,
 }
 
-/// A sum less what the prices of a row take by its factor in 10^-12. A factor of 0 takes nothing.
-fn less_net_price<N: Exact>(sum: N, up: N, down: N, factor: i64) -> Result<N, Passed<N>>
-    requires { unsigned_abs factor < 2 ^ 63 }
-    ensures sum { IfOk result (λ more. N.value more ≡ N.value sum +ℚ neg_ℚ (N.value up -ℚ N.value down) *ℚ over factor factor_product_one) }
-    ensures cause { IfErr result (λ passed. IsNetPriceRefusal (N.value sum) (N.value up) (N.value down) (over factor factor_product_one) N.bound (passed_at N.value passed)) }
+/// A sum less what the prices of a row take by its factor. A factor of 0 takes nothing.
+fn less_net_price<N: Exact>(sum: N, up: N, down: N, factor: N) -> Result<N, Passed<N>>
+    ensures sum { IfOk result (λ more. N.value more ≡ N.value sum +ℚ neg_ℚ (N.value up -ℚ N.value down) *ℚ N.value factor) }
+    ensures cause { IfErr result (λ passed. IsNetPriceRefusal (N.value sum) (N.value up) (N.value down) (N.value factor) N.bound (passed_at N.value passed)) }
 {
-    if factor == 0 {
+    if factor.sign() == Sign::Zero {
         return Ok(sum);
     }
     let net_price = up.minus(down)?;
-    let share = net_price
-        .neg()
-        .times(N::of_parts(factor, FACTOR_PRODUCT_ONE))?;
+    let share = net_price.neg().times(factor)?;
     sum.plus(share)
 }
 
@@ -53,9 +48,14 @@ fn congestion_at<N: Exact>(
     ensures cause { (d : Duals Fraction) → AreNamed N.value market.now d named.now → IfErr result (λ passed. IsRefusedIn (congestion_terms market.now d bus) N.bound (passed_at N.value passed) ⊎ IsPricesRefusal market.now d N.bound (passed_at N.value passed)) }
 {
     let _lines = market.lines();
-    let mut sum: N = N::of_parts(0, 1);
+    let mut sum: N = datum(0);
     for entry in named {
-        sum = less_net_price(sum, entry.up, entry.down, factor_at(market, entry.row, bus))?;
+        sum = less_net_price(
+            sum,
+            entry.up,
+            entry.down,
+            row_factor(market, entry.row, bus),
+        )?;
     }
     Ok(sum)
 }

@@ -10,7 +10,7 @@ ghost use Rattle.cert_sums.specs.Refusals.{OnPassed};
 
 use crate::VerifyStop;
 use exact_fraction::{Exact, Passed};
-use market_model::{Market, datum};
+use market_model::{Market, datum, zeros};
 use std::alloc::Global;
 
 /// What each bus puts into the network at a dispatch, in 10^-9 MW.
@@ -24,11 +24,7 @@ pub fn injections<N: Exact>(
     ensures injections { IfOk result (λ mws. AreInjections market.now (dispatch_of N.value dispatch.now) (map N.value mws.items)) }
     ensures cause { IfErr result (OnPassed N.value (IsRefusedAmong (InjectionSum market.now (dispatch_of N.value dispatch.now)) N.bound)) }
 {
-    let none: N = datum(0);
-    let mut mws = match vec![in alloc; none; market.buses().len()] {
-        Ok(mws) => mws,
-        Err(_) => return Err(VerifyStop::Memory),
-    };
+    let mut mws = zeros(alloc, market.buses().len())?;
     market_model::injections(market, dispatch, &mut mws)?;
     Ok(mws)
 }

@@ -11,13 +11,12 @@ use Rattle.market_model.specs.declared.participants.Parts.{Parts}
 use Rattle.market_model.specs.Dispatch.{places}
 use Rattle.market_model.specs.declared.limits.Row.{Row}
 use Rattle.market_model.specs.declared.limits.Cause.{Cause}
-use Rattle.market_model.specs.LimitRows.{rows, bears, causes, rows_of}
+use Rattle.market_model.specs.LimitRows.{rows, bears, causes, rows_among, rows_of}
 use Rattle.market_model.proofs.MorePlaces.{places_more}
 use Rattle.limit_rows.proofs.GroupLemmas.{places_at, rows-more}
 use Rattle.limit_rows.proofs.NameLemmas.{causes_round, rows_round}
 use Rattle.limit_rows.proofs.NumberingLemmas.{all_before, row_on, rows_before}
 use Rattle.cert_verify.specs.declared.verdicts.Reason.{Reason}
-use Rattle.cert_verify.specs.Naming.{rows_among}
 use Rattle.cert_verify.specs.Reasons.{of_first}
 
 -- ---- in a list with parts

@@ -70,7 +70,7 @@ law_of_right_answers m a market right =
     let apart = apart_by m market a.duals right.proper in (
       apart,
       (law_of_the_verdict m (Optimal a.dispatch a.duals.energy a.duals.limits) apart).1
-          (record { count = right.feasible.blocks.count; rows = names_by m market a.duals right.proper; feasible = right.feasible; supported = right.supported }),
+          (record { rows = names_by m market a.duals right.proper; feasible = right.feasible; supported = right.supported }),
     )
 
 pub law_of_farkas_duals : LawOfFarkasDuals

@@ -15,7 +15,7 @@ use Rattle.market_model.specs.declared.answered.RowId.{RowId}
 use Rattle.market_model.specs.declared.participants.Parts.{Parts}
 use Rattle.market_model.specs.declared.limits.Row.{Row}
 use Rattle.market_model.specs.declared.limits.Cause.{Cause}
-use Rattle.market_model.specs.LimitRows.{row_id, causes, rows_of}
+use Rattle.market_model.specs.LimitRows.{row_id, causes, rows_among, rows_of}
 use Rattle.market_model.specs.Optimality.{names_row, same_id, up_in, down_in}
 use Rattle.market_model.specs.Valued.{dual_at}
 use Rattle.market_model.specs.Dispatch.{places}
@@ -27,7 +27,7 @@ use Rattle.cert_format.specs.Certificates.{NamesNoRowTwice, name_of, same_pair}
 use Rattle.cert_sums.specs.declared.pricing.NamedRow.{NamedRow}
 use Rattle.cert_sums.specs.Named.{AreNamed, PricedRow, priced_at, priced_by}
 use Rattle.cert_verify.specs.Certificates.{named_duals}
-use Rattle.cert_verify.specs.Naming.{IsNamedAt, entry_of, prices_of, rows_among}
+use Rattle.cert_verify.specs.Naming.{IsNamedAt, entry_of, prices_of}
 use Rattle.cert_verify.proofs.FindLemmas.{lines_step, rows_to}
 use Rattle.cert_verify.proofs.VerdictLemmas.{other_id, own_id}
 

@@ -4,10 +4,9 @@ use Rattle.std.specs.List.{find, list_any}
 use Rattle.std.specs.Ordering.{MatchOrdering}
 use Rattle.std.proofs.Common.{arith, inl, inr, ap, sym, subst, ◌∙◌, get_or, Ordering, Less, Equal, Greater}
 use Rattle.std.proofs.lemmas.Bool.{true≢false, or_parts, or_cases}
-use Rattle.std.proofs.lemmas.Int.{ints}
 use Rattle.std.proofs.lemmas.List.FromFn.{length-range_with_len, get_or-range_with_len}
-use Rattle.std.proofs.lemmas.List.{get_or-map}
-use Rattle.fraction_theory.specs.Fraction.{Fraction, whole}
+use Rattle.std.proofs.lemmas.Int.{ints}
+use Rattle.fraction_theory.specs.Fraction.{Fraction}
 use Rattle.market_model.specs.declared.participants.Side.{Side}
 use Rattle.fraction_theory.specs.Order.{◌≤ℚ◌, ◌<ℚ◌}
 use Rattle.fraction_theory.proofs.ListSums.{Contains-head, Contains-cons, Contains-cases}
@@ -186,16 +185,6 @@ pub none_yes : (o : Option Reason) → o ≡ None → verdict_of o ≡ Yes
 none_yes o e = Prim.rw e refl
 
 -- ---- blocks
--- a number that was read of a list
-pub number_read : {N : Type 0} (value : N → Fraction) (xs : List N) (k : ℕ) (x : N) → k < length xs → x ≡ get_or xs k x → value x ≡ get_or (map value xs) k (whole (pos 0))
-number_read value xs k x lt at = ap value at ∙ sym (get_or-map value xs k x (whole (pos 0)) lt)
-
-pub price_read : {N : Type 0} (value : N → Fraction) (f : ℕ → Fraction) (xs : List N) (n k : ℕ) (x : N) → map value xs ≡ map f (places n) → k < n → k < length xs → x ≡ get_or xs k x → value x ≡ f k
-price_read value f xs n k x all inside lt at =
-    let from_0 : 0 + k ≡ k = Prim.omega arith in
-    number_read value xs k x lt at ∙ ap (λ (ys : List Fraction). get_or ys k (whole (pos 0))) all
-    ∙ get_or-map f (places n) k k (whole (pos 0)) (Prim.omega (arith, inside, length-range_with_len 0 n)) ∙ ap f (get_or-range_with_len 0 n k k inside ∙ from_0)
-
 pub outside_same : (y y' q q' : Fraction) → y ≡ y' → q ≡ q' → is_outside y q ≡ is_outside y' q'
 outside_same y y' q q' e f = ap (λ z. is_outside z q) e ∙ ap (is_outside y') f
 

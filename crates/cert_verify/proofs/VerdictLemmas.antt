@@ -270,7 +270,6 @@ module _ (m : Parts) (x : Dispatch) (d : Duals Fraction) where
       let all = all_none (optimal_reasons m x d) none in
       let counted : length x.blocks ≡ length m.blocks = eqb-true (length x.blocks) (length m.blocks) (not_false (length x.blocks == length m.blocks) (not_so (not (length x.blocks == length m.blocks)) reason.Count all.0)) in
       let inside = inside_to m x all.1.1.1.0 in record {
-        count = counted;
         rows = names_to m d.limits all.1.0;
         feasible = record {
           blocks = record { count = counted; above = λ j lt. (inside j lt).0; within = λ j lt. (inside j lt).1 };
@@ -285,7 +284,7 @@ module _ (m : Parts) (x : Dispatch) (d : Duals Fraction) where
 
   pub optimal_from : Apart d.limits → IsOptimum m x d → first_of (optimal_reasons m x d) ≡ None
   optimal_from apart h =
-      let count : count_reason m x ≡ None = so_none (not (length x.blocks == length m.blocks)) reason.Count (not_true (length x.blocks == length m.blocks) (eq-eqb (length x.blocks) (length m.blocks) h.count)) in
+      let count : count_reason m x ≡ None = so_none (not (length x.blocks == length m.blocks)) reason.Count (not_true (length x.blocks == length m.blocks) (eq-eqb (length x.blocks) (length m.blocks) h.feasible.blocks.count)) in
       let names : row_reason m d.limits ≡ None = names_from m d.limits h.rows in
       let signs : sign_reason d.limits ≡ None = signs_of m d apart h.rows (λ r c. (h.supported.rows r c).up_sign) (λ r c. (h.supported.rows r c).down_sign) in
       let inside : block_reason m x ≡ None = inside_from m x (λ j lt. (h.feasible.blocks.above j lt, h.feasible.blocks.within j lt)) in

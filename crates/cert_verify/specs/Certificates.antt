@@ -1,6 +1,6 @@
 -- What a certificate says of a market, and the first reason against it.
 -- Source: own, of what is feasible, what duals support and what shows a market infeasible.
-use Rattle.std.specs.Prelude.{◌≡◌, List, Option, length, All, Contains}
+use Rattle.std.specs.Prelude.{◌≡◌, List, Option, All, Contains}
 use Rattle.fraction_theory.specs.Fraction.{Fraction}
 use Rattle.market_model.specs.declared.answered.Dual.{Dual}
 use Rattle.market_model.specs.declared.answered.Duals.{Duals}
@@ -28,9 +28,8 @@ first_reason m (Farkas energy limits) = first_of (farkas_reasons m (named_duals 
 abbrev pub NamesRows : Parts → List (Dual Fraction) → Type 0
 NamesRows m ds = All (λ e. (r : Row) × Contains (rows m) r × (row_id m r ≡ e.row)) ds
 
--- one quantity for each block, a feasible dispatch, and duals of rows of the market that support it
+-- a feasible dispatch, which has one quantity for each block, and duals of rows of the market that support it
 pub record IsOptimum (m : Parts) (x : Dispatch) (d : Duals Fraction) : Type 0 where
-  pub count : length x.blocks ≡ length m.blocks
   pub rows : NamesRows m d.limits
   pub feasible : Feasible m x
   pub supported : Supports m x d

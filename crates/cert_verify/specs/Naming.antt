@@ -5,8 +5,7 @@ use Rattle.market_model.specs.declared.answered.Dual.{Dual}
 use Rattle.market_model.specs.declared.answered.Duals.{Duals}
 use Rattle.market_model.specs.declared.participants.Parts.{Parts}
 use Rattle.market_model.specs.declared.limits.Row.{Row}
-use Rattle.market_model.specs.declared.limits.Cause.{Cause}
-use Rattle.market_model.specs.LimitRows.{row_id, bears}
+use Rattle.market_model.specs.LimitRows.{row_id}
 use Rattle.market_model.specs.Optimality.{names_row}
 use Rattle.cert_format.specs.Certificates.{name_of}
 use Rattle.cert_sums.specs.declared.pricing.NamedRow.{NamedRow}
@@ -15,10 +14,6 @@ use Rattle.cert_sums.specs.Named.{PricedRow, priced_at, priced_by}
 -- a dual with the name of its row
 abbrev pub entry_of : {N : Type 0} → Dual N → (ℕ × ℕ) × Dual N
 entry_of e = (name_of e.row, e)
-
--- the rows that some lines have under a cause; those of all lines are `rows_of`
-abbrev pub rows_among : Parts → Cause → List ℕ → List Row
-rows_among m cause lines = map (λ l. record { line = l; cause = cause }) (filter (bears m cause) lines)
 
 -- a row with its prices, where duals name it
 abbrev pub IsNamedAt : {N : Type 0} → (N → Fraction) → Parts → Duals Fraction → Row → Option (NamedRow N) → Type 0

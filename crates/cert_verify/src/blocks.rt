@@ -3,15 +3,16 @@
 ghost use Rattle.std.specs.Prelude.{◌≡◌, ◌<◌, length, map};
 ghost use Rattle.fraction_theory.specs.Fraction.{Fraction};
 ghost use Rattle.market_model.specs.declared.answered.Duals.{Duals};
-ghost use Rattle.market_model.specs.Dispatch.{block_at, block_bus, places, quantity};
-ghost use Rattle.market_model.specs.Optimality.{bus_price, price};
-ghost use Rattle.market_model.specs.PutIn.{dispatch_of};
+ghost use Rattle.market_model.specs.Dispatch.{places};
+ghost use Rattle.market_model.specs.Optimality.{bus_price};
+ghost use Rattle.market_model.specs.PutIn.{dispatch_of, put_in};
+ghost use Rattle.market_model.specs.Settlement.{price_for_unit};
 ghost use Rattle.cert_verify.specs.Reasons.{block_reason, count_reason, support_reason};
 
 use crate::Reason;
 use crate::comparing::{breaks_support, is_outside};
 use exact_fraction::Exact;
-use market_model::{Market, Side, datum};
+use market_model::{Market, block_price, block_quantity};
 
 /// Whether there is not one quantity for each block.
 pub(crate) fn other_count<N: Exact>(market: &Market, blocks: &[N]) -> Option<Reason>
@@ -24,38 +25,13 @@ pub(crate) fn other_count<N: Exact>(market: &Market, blocks: &[N]) -> Option<Rea
     }
 }
 
-/// What a block offers.
-fn quantity_of<N: Exact>(market: &Market, block: usize) -> N
-    requires { block < length market.now.blocks }
-    ensures { N.value result ≡ quantity market.now block }
+/// The price of the unit at a place: that of its bus.
+fn unit_price<N: Exact>(market: &Market, prices: &[N], unit: usize) -> N
+    requires prices { length prices.now ≡ length market.now.buses }
+    requires unit { unit < length market.now.units }
+    ensures { N.value result ≡ price_for_unit market.now (put_in (map N.value prices.now)) unit }
 {
-    datum(market.blocks().slice()[block].quantity)
-}
-
-/// The price of a block.
-fn price_of<N: Exact>(market: &Market, block: usize) -> N
-    requires { block < length market.now.blocks }
-    ensures { N.value result ≡ price market.now block }
-{
-    datum(market.blocks().slice()[block].price)
-}
-
-fn side_of(market: &Market, block: usize) -> Side
-    requires { block < length market.now.blocks }
-    ensures { result ≡ (block_at market.now block).side }
-{
-    market.blocks().slice()[block].side
-}
-
-/// The place of the bus of a block.
-fn bus_of(market: &Market, block: usize) -> usize
-    requires { block < length market.now.blocks }
-    ensures within { result < length market.now.buses }
-    ensures is { result ≡ block_bus market.now block }
-{
-    let _units = market.units();
-    let unit = market.blocks().slice()[block].unit;
-    market.units().at(unit).bus
+    prices[market.units().at(unit).bus]
 }
 
 /// The first block whose quantity is below 0 or above what it offers.
@@ -63,15 +39,15 @@ pub(crate) fn outside_block<N: Exact>(market: &Market, blocks: &[N]) -> Option<R
     requires { length blocks.now ≡ length market.now.blocks }
     ensures { result ≡ block_reason market.now (dispatch_of N.value blocks.now) }
 {
-    for at in 0..market.blocks().len() {
-        if is_outside(blocks[at], quantity_of(market, at)) {
+    for (at, block) in market.blocks().slice().iter().enumerate() {
+        if is_outside(blocks[at], block_quantity(block)) {
             return Some(Reason::Block { n: at + 1 });
         }
     }
     None
 }
 
-/// The first block that gains at the price of its bus and is not accepted whole, or loses and is accepted. Prices are by bus.
+/// The first block that gains at the price of its unit and is not accepted whole, or loses and is accepted. Prices are by bus.
 pub(crate) fn unsupported_block<N: Exact>(
     market: &Market,
     blocks: &[N],
@@ -81,13 +57,14 @@ pub(crate) fn unsupported_block<N: Exact>(
     requires prices { length prices.now ≡ length market.now.buses }
     ensures { (d : Duals Fraction) → map N.value prices.now ≡ map (bus_price market.now d) (places (length market.now.buses)) → result ≡ support_reason market.now (dispatch_of N.value blocks.now) d }
 {
-    for at in 0..market.blocks().len() {
-        let worth = prices[bus_of(market, at)];
+    let _units = market.units();
+    for (at, block) in market.blocks().slice().iter().enumerate() {
+        let worth = unit_price(market, prices, block.unit);
         if breaks_support(
-            side_of(market, at),
-            price_of(market, at),
+            block.side,
+            block_price(block),
             worth,
-            quantity_of(market, at),
+            block_quantity(block),
             blocks[at],
         ) {
             return Some(Reason::Support { n: at + 1 });

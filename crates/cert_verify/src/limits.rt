@@ -3,13 +3,12 @@
 ghost use Rattle.std.specs.Prelude.{◌≡◌, ◌<◌, ◌∷◌, [], length, map, Contains, IfOk, IfErr, IfSome};
 ghost use Rattle.market_model.specs.Dispatch.{Dispatch, injection};
 ghost use Rattle.market_model.specs.declared.limits.Row.{Row};
-ghost use Rattle.market_model.specs.LimitRows.{IsCauseAmong, row_id, causes, rows_of, flow_terms, line_flow};
+ghost use Rattle.market_model.specs.LimitRows.{IsCauseAmong, row_id, causes, rows_among, rows_of, flow_terms, line_flow};
 ghost use Rattle.market_model.specs.NamedSums.{IsRefusedIn};
 ghost use Rattle.market_model.specs.SumTables.{IsRefusedAmong, LimitFlowSum};
 ghost use Rattle.market_model.specs.Valued.{passed_at};
 ghost use Rattle.limit_rows.specs.LineFlows.{AreFlows};
 ghost use Rattle.cert_verify.specs.declared.verdicts.Reason.TheVariants as reason;
-ghost use Rattle.cert_verify.specs.Naming.{rows_among};
 ghost use Rattle.cert_verify.specs.Reasons.{is_overloaded, limit_reason, of_first};
 
 use crate::Reason;

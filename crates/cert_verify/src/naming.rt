@@ -4,11 +4,11 @@ ghost use Rattle.std.specs.Prelude.{◌≡◌, ◌<◌, List, [], ◌∷◌, ◌
 ghost use Rattle.std.specs.Map.{lookup};
 ghost use Rattle.fraction_theory.specs.Fraction.{Fraction};
 ghost use Rattle.market_model.specs.Valued.{dual_at};
-ghost use Rattle.market_model.specs.LimitRows.{IsCauseAmong, causes, rows_of};
+ghost use Rattle.market_model.specs.LimitRows.{IsCauseAmong, causes, rows_among, rows_of};
 ghost use Rattle.cert_format.specs.Certificates.{NamesNoRowTwice, name_of, same_pair};
 ghost use Rattle.cert_sums.specs.Named.{AreNamed, priced_at};
 ghost use Rattle.cert_verify.specs.Certificates.{named_duals};
-ghost use Rattle.cert_verify.specs.Naming.{IsNamedAt, entry_of, prices_of, rows_among};
+ghost use Rattle.cert_verify.specs.Naming.{IsNamedAt, entry_of, prices_of};
 
 use cert_sums::NamedRow;
 use exact_fraction::Exact;

@@ -1,8 +1,8 @@
 -- The answer of a dispatch and duals is right.
-use Rattle.std.specs.Prelude.{◌≡◌, ◌+◌, pos, List, length, map}
-use Rattle.std.proofs.Common.{arith, ap, sym, ◌∙◌, get_or}
+use Rattle.std.specs.Prelude.{◌≡◌, pos, List, length, map}
+use Rattle.std.proofs.Common.{ap, sym, ◌∙◌}
 use Rattle.std.proofs.lemmas.List.{length-map}
-use Rattle.std.proofs.lemmas.List.FromFn.{length-map-range_with_len, get_or-map-range_with_len}
+use Rattle.std.proofs.lemmas.List.FromFn.{length-map-range_with_len}
 use Rattle.fraction_theory.specs.Fraction.{Fraction, whole}
 use Rattle.market_model.specs.declared.answered.Duals.{Duals}
 use Rattle.market_model.specs.declared.answered.Money.{Money}
@@ -10,13 +10,14 @@ use Rattle.market_model.specs.declared.answered.Price.{Price}
 use Rattle.market_model.specs.declared.participants.Parts.{Parts}
 use Rattle.market_model.specs.Dispatch.{places}
 use Rattle.market_model.specs.Market.{IsMarket}
-use Rattle.market_model.specs.Optimality.{Feasible, Supports, ProperDuals, bus_price, welfare}
+use Rattle.market_model.specs.Optimality.{Feasible, Supports, ProperDuals, bus_price, price_by, welfare}
 use Rattle.market_model.specs.RightAnswers.{IsRight, settlement_at, price_made}
 use Rattle.market_model.specs.Valued.{answer_at, duals_at, money_at, price_at}
 use Rattle.market_model.specs.PutIn.{dispatch_of}
 use Rattle.settlement.specs.Laws.{LawOfRightMoney}
 use Rattle.settlement.specs.Paying.{ArePricesOf, total_at}
 use Rattle.market_model.proofs.ListSteps.{map-map}
+use Rattle.market_model.proofs.PlaceLists.{filled_at}
 
 module _ {N : Type 0} (value : N → Fraction) (m : Parts) (d : Duals Fraction) (ps : List (Price N)) (made : map (price_at value) ps ≡ map (price_made m d) (places (length m.buses))) where
   pub price_count : length ps ≡ length m.buses
@@ -24,11 +25,10 @@ module _ {N : Type 0} (value : N → Fraction) (m : Parts) (d : Duals Fraction) 
 
   -- the whole prices are those of the duals
   pub prices_of : ArePricesOf m d (total_at value ps)
-  prices_of i lt =
-      let from_0 : 0 + i ≡ i = Prim.omega arith in
-      ap (λ (ts : List Fraction). get_or ts i (whole (pos 0)))
+  unfolding price_by
+  prices_of =
+      filled_at (bus_price m d) (map (λ (p : Price N). value p.total) ps) (length m.buses) (whole (pos 0))
       (sym (map-map (price_at value) (λ (p : Price Fraction). p.total) ps) ∙ ap (map (λ (p : Price Fraction). p.total)) made ∙ map-map (price_made m d) (λ (p : Price Fraction). p.total) (places (length m.buses)))
-      ∙ get_or-map-range_with_len (bus_price m d) 0 (length m.buses) i i (whole (pos 0)) lt from_0
 
 pub right_answer : {N : Type 0} (value : N → Fraction) (m : Parts) (ds : List N) (d : Duals N) (ps : List (Price N)) (w : N) (money : Money N)
     → LawOfRightMoney → IsMarket m → Feasible m (dispatch_of value ds) → Supports m (dispatch_of value ds) (duals_at value d) → ProperDuals m (duals_at value d)

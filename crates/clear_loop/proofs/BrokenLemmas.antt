@@ -1,6 +1,6 @@
 -- The limit that is broken by the most, of the flows of a dispatch.
-use Rattle.std.specs.Prelude.{◌≡◌, ◌⊎◌, ℕ, pos, List, [], ◌∷◌, length, Contains, refl}
-use Rattle.std.proofs.Common.{inl, inr, ap, subst}
+use Rattle.std.specs.Prelude.{◌≡◌, ◌⊎◌, ℕ, pos, List, [], ◌∷◌, Contains, refl}
+use Rattle.std.proofs.Common.{inl, inr, ap, subst, get_or}
 use Rattle.fraction_theory.specs.Fraction.{Fraction, whole, neg_ℚ, ◌-ℚ◌}
 use Rattle.fraction_theory.specs.Order.{◌<ℚ◌, ◌≤ℚ◌}
 use Rattle.fraction_theory.specs.Signs.{sign_of}
@@ -11,15 +11,13 @@ use Rattle.fraction_theory.proofs.Ring.{at, pneg, pone}
 use Rattle.market_model.specs.declared.participants.Parts.{Parts}
 use Rattle.market_model.specs.Dispatch.{Dispatch}
 use Rattle.market_model.specs.Overrun.{size_by, overrun, IsWorst}
-use Rattle.market_model.specs.declared.limits.Cause.{Cause}
 use Rattle.market_model.specs.declared.limits.Row.{Row}
-use Rattle.market_model.specs.declared.limits.Cause.TheVariants.{Base, Branch}
-use Rattle.market_model.specs.LimitRows.{IsCauseAmong, rows, limit, flow, flow_by, most_flow}
+use Rattle.market_model.specs.LimitRows.{rows, limit, flow, flow_by, most_flow}
 use Rattle.market_model.specs.Market.{IsMarket}
 use Rattle.market_model.specs.NamedSums.{SameSize}
-use Rattle.market_model.specs.Optimality.{Within}
+use Rattle.market_model.specs.Optimality.{AreWithin, Within}
+use Rattle.market_model.proofs.ChangeLemmas.{same_default}
 use Rattle.market_system.specs.Growth.{Broken}
-use Rattle.limit_rows.proofs.FactorLemmas.{IsLost}
 use Rattle.limit_screen.specs.Flows.{flows_at, line_in}
 use Rattle.limit_screen.specs.Screening.{AllHold}
 use Rattle.limit_screen.proofs.ScreenLemmas.{below_nil, law_of_row_flows, listed_row}
@@ -50,11 +48,6 @@ sized_by f Below = inr refl
 sized_by f Zero = inl refl
 sized_by f Above = inl refl
 
--- ---- places of rows
-pub lost_within : (m : Parts) (cause : Cause) → IsLost m cause → IsCauseAmong (length m.lines) cause
-lost_within m Base h = tt
-lost_within m (Branch k) h = h.0
-
 -- ---- the flows of a dispatch
 module _ (m : Parts) (market : IsMarket m) (x : Dispatch) (fs : List Fraction) (puts : fs ≡ flows_at m x) where
   abbrev flow_at : Row → Fraction
@@ -64,7 +57,7 @@ module _ (m : Parts) (market : IsMarket m) (x : Dispatch) (fs : List Fraction) (
   row_is r c = law_of_row_flows m x fs r market puts c
 
   -- where all limits hold, and where one is the worst
-  pub all_within : AllHold m (line_in m fs) → (r : Row) → Contains (rows m) r → Within (most_flow m r) (flow m x r)
+  pub all_within : AllHold m (line_in m fs) → AreWithin (rows m) (most_flow m) (flow m x)
   all_within hold r c = subst (Within (most_flow m r)) (row_is r c) (hold r c)
 
   -- the worst row of the flows is that of the dispatch
@@ -74,7 +67,9 @@ module _ (m : Parts) (market : IsMarket m) (x : Dispatch) (fs : List Fraction) (
       record {
         stands = worst.stands;
         broken = subst (λ e. whole (pos 0) <ℚ e) (same r c) worst.broken;
-        most = λ s d. subst (λ e. e ≤ℚ overrun m r (flow m x r)) (same s d) (subst (λ e. overrun m s (flow_at s) ≤ℚ e) (same r c) (worst.most s d));
+        most = λ k d lt.
+            let s : Row = get_or (rows m) k d in
+            subst (λ e. e ≤ℚ overrun m r (flow m x r)) (same s (k, lt, same_default (rows m) k s d lt)) (subst (λ e. overrun m s (flow_at s) ≤ℚ e) (same r c) (worst.most k d lt));
         first = λ i s lt stands. subst (λ e. e <ℚ overrun m r (flow m x r)) (same s (listed_row (rows m) i s stands)) (subst (λ e. overrun m s (flow_at s) <ℚ e) (same r c) (worst.first i s lt stands));
       }
     where

@@ -1,6 +1,6 @@
 -- What is refused at a dispatch that solves the market over rows in hand is a working pair of the market over these rows.
-use Rattle.std.specs.Prelude.{◌≡◌, ◌⊎◌, ℕ, ◌<◌, ◌||◌, pos, Bool, true, false, List, [], ◌∷◌, ◌++◌, length, if◌then◌else◌, Some, None, Contains, refl}
-use Rattle.std.proofs.Common.{zero, suc, arith, inl, inr, ap, ap₂, sym, subst, ◌∙◌}
+use Rattle.std.specs.Prelude.{◌≡◌, ◌⊎◌, ℕ, ◌<◌, ◌||◌, pos, Bool, true, false, List, [], ◌∷◌, if◌then◌else◌, Some, None, Contains, refl}
+use Rattle.std.proofs.Common.{zero, suc, arith, inl, inr, ap, sym, subst, ◌∙◌}
 use Rattle.fraction_theory.specs.Fraction.{Fraction, whole, neg_ℚ}
 use Rattle.fraction_theory.specs.Order.{◌<ℚ◌}
 use Rattle.fraction_theory.specs.Signs.{sign_of}
@@ -17,14 +17,14 @@ use Rattle.market_model.specs.declared.answered.Dual.{Dual}
 use Rattle.market_model.specs.declared.answered.Duals.{Duals}
 use Rattle.market_model.specs.declared.answered.RowId.{RowId}
 use Rattle.market_model.specs.declared.participants.Parts.{Parts}
-use Rattle.market_model.specs.Dispatch.{Dispatch, bus_at, unit_at, output, demand, injection, balance_terms}
+use Rattle.market_model.specs.Dispatch.{Dispatch, bus_at, unit_at, output, demand, injection, balance_terms, output_terms}
 use Rattle.market_model.specs.Overrun.{size_of}
 use Rattle.market_model.specs.declared.limits.Row.{Row}
 use Rattle.market_model.specs.LimitRows.{rows, row_id, limit, line_flow, flow, flow_terms, row_offset}
 use Rattle.market_model.specs.Market.{IsMarket}
 use Rattle.market_model.specs.NamedSums.{SameSize, term_at, IsNextTerm, IsSumStep, IsRefusedIn, IsRefusal}
 use Rattle.market_model.proofs.SumParts.{flow_carried}
-use Rattle.market_model.specs.SumTables.{IsRefusedAmong, balance_of_all, flow_of_row, limited_row, FlowSum, flow_in_balance, flow_in_limits, OutputSum, PriceSum, PaymentSum, left_of_all, rent_of_row, MoneySum, welfare_of_all, payment_at_duals, PaidRowSum, flow_after_outage, paid_offset, upper_of_row, lower_of_row, SettledSum, paid_output, demand_of_bus, payment, paid_row}
+use Rattle.market_model.specs.SumTables.{IsRefusedAmong, balance_of_all, flow_of_row, limited_row, FlowSum, flow_in_balance, flow_in_limits, OutputSum, PriceSum, PaymentSum, left_of_all, rent_of_row, MoneySum, welfare_of_all, payment_at_duals, PaidRowSum, flow_after_outage, paid_offset, upper_of_row, lower_of_row, SettledSum, paid_output, demand_of_bus, payment, paid_row, offset_of_row, output_of_unit}
 use Rattle.market_model.specs.Optimality.{Feasible, Supports, IsOneSided, ProperDuals, named_rows, names_row, same_id, up_in, down_in, bus_price, unit_price, welfare_terms}
 use Rattle.market_model.specs.Settlement.{left_terms, rent_terms, surplus_terms}
 use Rattle.market_system.specs.Growth.{BestFor}
@@ -41,7 +41,7 @@ use Rattle.limit_rows.proofs.ApartLemmas.{names_apart}
 use Rattle.limit_screen.proofs.ScreenLemmas.{row_terms}
 use Rattle.limit_screen.specs.Flows.{flows_at, line_in, IsFlowsRefusal}
 use Rattle.limit_screen.specs.Screening.{IsOverrunRefusal, IsScreenRefusal, of_flow as row_of_flow, of_limit as row_of_limit}
-use Rattle.market_model.proofs.PlaceLists.{map_same}
+use Rattle.market_model.proofs.UnitPrices.{left_at}
 use Rattle.settlement.specs.Paying.{ArePricesOf}
 use Rattle.settlement.specs.Refusals.{IsMoneyRefusal}
 use Rattle.market_dict.specs.Findings.{IsSolvedBy}
@@ -185,16 +185,6 @@ module _ (m : Parts) (g : List Row) (x : Dispatch) (d : Duals Fraction) (market 
       welfare_range a = money (welfare_terms m (choice_dispatch m g solved.choice)) welfare_of_all (subst (λ y. IsRefusedIn (welfare_terms m y) bound p) solved.dispatch a)
 
       module _ (price : ℕ → Fraction) (priced : ArePricesOf m d price) where
-        at_unit : (u : ℕ) → u < length m.units → price (unit_at m u).bus ≡ unit_price m d u
-        at_unit u lt = priced (unit_at m u).bus (market.units u (record { row = 0; bus = 0; fixed = pos 0; up = pos 0; down = pos 0 }) lt).bus
-
-        left_is : left_terms m x price ≡ surplus_terms m x d
-        left_is =
-            ap₂ ◌++◌
-            (map_same (λ i. Product (price i) (demand m i)) (λ i. Product (bus_price m d i) (demand m i)) (length m.buses) (λ i lt. ap (λ t. Product t (demand m i)) (priced i lt)))
-            (map_same (λ u. Product (neg_ℚ (price (unit_at m u).bus)) (output m x u)) (λ u. Product (neg_ℚ (unit_price m d u)) (output m x u)) (length m.units)
-            (λ u lt. ap (λ t. Product (neg_ℚ t) (output m x u)) (at_unit u lt)))
-
         named : (r : Row) → Contains (named_rows m d) r → Contains (rows m) r × Contains g r
         named = named_in_hand m g d prices_only proper
 
@@ -208,7 +198,7 @@ module _ (m : Parts) (g : List Row) (x : Dispatch) (d : Duals Fraction) (market 
         payment_range terms left_of_all a =
             money (surplus_terms m (choice_dispatch m g solved.choice) (choice_duals m g solved.choice)) (payment_at_duals _ left_of_all)
             (subst (λ y. IsRefusedIn (surplus_terms m y (choice_duals m g solved.choice)) bound p) solved.dispatch
-            (subst (λ e. IsRefusedIn (surplus_terms m x e) bound p) solved.duals (subst (λ ts. IsRefusedIn ts bound p) left_is a)))
+            (subst (λ e. IsRefusedIn (surplus_terms m x e) bound p) solved.duals (subst (λ ts. IsRefusedIn ts bound p) (left_at m d price market priced x) a)))
         payment_range terms (rent_of_row r c) a =
             money (rent_terms m (choice_dispatch m g solved.choice) (choice_duals m g solved.choice) r) (payment_at_duals _ (rent_of_row r (named r c).1))
             (subst (λ y. IsRefusedIn (rent_terms m y (choice_duals m g solved.choice) r) bound p) solved.dispatch

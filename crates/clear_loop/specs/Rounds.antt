@@ -10,7 +10,7 @@ use Rattle.market_model.specs.Fitting.{FitsMarket}
 use Rattle.market_model.specs.Infeasibility.{IsFarkas}
 use Rattle.market_model.specs.declared.limits.Row.{Row}
 use Rattle.market_model.specs.LimitRows.{flow, most_flow, rows, row_id}
-use Rattle.market_model.specs.Optimality.{Within}
+use Rattle.market_model.specs.Optimality.{AreWithin}
 use Rattle.market_model.specs.Overrun.{IsWorst}
 use Rattle.market_model.specs.RightAnswers.{IsRight}
 use Rattle.market_model.specs.Valued.{answer_at, duals_at, farkas_at, passed_at}
@@ -47,7 +47,7 @@ GrowsByOne m g new = (r : Row) × (new ≡ g ++ r ∷ []) × Contains (rows m) r
 -- what a look at all limits comes to at a dispatch: the worst of those that are broken, or the flows, where all hold
 abbrev pub IsScreened : {N : Type 0} → (N → Fraction) → Parts → Dispatch → Screened N → Type 0
 IsScreened value m x (screened.Broken row) = (place : ℕ) × IsWorst m (flow m x) place row
-IsScreened value m x (screened.Within flows) = ((r : Row) → Contains (rows m) r → Within (most_flow m r) (flow m x r)) × (map value flows.items ≡ flows_at m x)
+IsScreened value m x (screened.Within flows) = AreWithin (rows m) (most_flow m) (flow m x) × (map value flows.items ≡ flows_at m x)
 
 -- a right answer, or duals that show that nothing is feasible, with prices of no other rows
 abbrev pub IsEnd : {N : Type 0} → (N → Fraction) → Parts → List Row → Result (Answer N) (Farkas N) → Type 0

@@ -3,7 +3,7 @@
 ghost use Rattle.std.specs.Prelude.{◌≡◌, ◌<◌, List, length, map, slice_get, Some, IfOk, IfErr, false};
 ghost use Rattle.market_model.specs.Fitting.{FitsMarket};
 ghost use Rattle.market_model.specs.LimitRows.{row_id};
-ghost use Rattle.clear_loop.specs.Clearing.{ClearComesTo, DropsStart, KeepsStart};
+ghost use Rattle.clear_loop.specs.Clearing.{ClearComesTo, KeepsStart};
 ghost use Rattle.clear_loop.specs.Keeping.{FitsFrame, Kept, cold};
 ghost use Rattle.clear_loop.specs.Rounds.{HoldsStart, IsInHand, StopsInRange};
 ghost use Rattle.clear_loop.specs.Starts.{rows_in};
@@ -139,7 +139,6 @@ impl<N: Exact> Clearer<N> {
         ensures clear { ClearComesTo N.value N.bound market.now self.old.rows result self.new.rows }
         ensures frame { FitsFrame market.now self.new }
         ensures kept { KeepsStart result self.new }
-        ensures dropped { IfErr result (λ fault. DropsStart fault self.new) }
     {
         let before = std::mem::replace(self, unused());
         let hand = first_hand(alloc, market, before)?;

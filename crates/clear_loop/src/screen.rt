@@ -9,8 +9,8 @@ ghost use Rattle.limit_screen.specs.Screening.{IsScreenRefusal};
 ghost use Rattle.clear_loop.specs.Rounds.{IsScreened};
 
 use exact_fraction::Exact;
-use limit_screen::{flows, worst_row};
-use market_model::{Market, Row, Stop, datum};
+use limit_screen::{flows_made, worst_row};
+use market_model::{Market, Row, Stop};
 use std::alloc::Global;
 
 /// What a look at all limits comes to.
@@ -34,13 +34,7 @@ pub(crate) fn screened_at<N: Exact>(
         ⊎ IsScreenRefusal market.now (line_in market.now (flows_at market.now (dispatch_of N.value dispatch.now))) N.bound (passed_at N.value p))) }
 {
     let _lines = market.lines();
-    let none: N = datum(0);
-    let places = market.buses().len() + market.lines().len();
-    let mut by_place = match vec![in alloc; none; places] {
-        Ok(by_place) => by_place,
-        Err(_) => return Err(Stop::Memory),
-    };
-    flows(market, dispatch, &mut by_place)?;
+    let by_place = flows_made(alloc, market, dispatch)?;
     match worst_row(market, &by_place)? {
         Some(row) => Ok(Screened::Broken(row)),
         None => Ok(Screened::Within(by_place)),

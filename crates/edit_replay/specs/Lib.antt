@@ -1,4 +1,3 @@
 pub mod ReplayLaws
 pub mod Replays
 pub mod SessionStates
-pub mod Sessions

@@ -9,9 +9,9 @@ ghost use Rattle.market_model.specs.Valued.{outcome_at};
 ghost use Rattle.market_system.specs.Outcomes.{IsClear};
 ghost use Rattle.offer_book.specs.Edits.{answer, judge, number_of, step_of};
 ghost use Rattle.edit_table.specs.EditTable.{IsStep};
+ghost use Rattle.clear_loop.specs.Clearing.{KeepsAfter};
 ghost use Rattle.clear_loop.specs.Keeping.{FitsFrame, cold};
 ghost use Rattle.edit_replay.specs.Replays.{FitsStep, IsEditedPart, IsReplay, IsReply, edited_by, stepped, step_outcome_at};
-ghost use Rattle.edit_replay.specs.Sessions.{KeepsAfter};
 
 use crate::step_outcome::{Outcomes, StepOutcome, replied};
 use clear_loop::{Clearer, outcome};

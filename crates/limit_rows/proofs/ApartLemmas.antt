@@ -9,13 +9,13 @@ use Rattle.std.proofs.lemmas.List.Kept.{AllPairs-cons, AllPairs-filter}
 use Rattle.std.proofs.lemmas.Bool.{cases_lt}
 use Rattle.market_model.specs.declared.participants.Parts.{Parts}
 use Rattle.market_model.specs.declared.answered.RowId.{RowId}
-use Rattle.market_model.specs.Dispatch.{places}
+use Rattle.market_model.specs.Dispatch.{line_at, places}
 use Rattle.market_model.specs.Market.{IsMarket}
 use Rattle.market_model.proofs.ChangeLemmas.{same_default}
 use Rattle.market_model.specs.declared.limits.Row.{Row}
 use Rattle.market_model.specs.declared.limits.Cause.{Cause}
 use Rattle.market_model.specs.declared.limits.Cause.TheVariants.{Base, Branch}
-use Rattle.market_model.specs.LimitRows.{outage_of, place_of_line, row_id, rows, bears, causes, lines_of, rows_of}
+use Rattle.market_model.specs.LimitRows.{lost_lines, outage_of, place_of_line, row_id, rows, bears, causes, lines_of, rows_of}
 use Rattle.limit_rows.proofs.FactorLemmas.{outage_stands}
 use Rattle.market_model.proofs.LostLemmas.{place_at, row_at, row-of_outage}
 use Rattle.limit_rows.proofs.GroupLemmas.{length-map, rows-causes}
@@ -44,15 +44,14 @@ abbrev Differ : Parts → Row → Row → Type 0
 Differ m r s = row_id m r ≢ row_id m s
 
 module _ (m : Parts) (market : IsMarket m) where
-  abbrev after_of : ℕ → Cause
-  after_of row = Branch (place_of_line m row)
-
   causes_apart : AllPairs (λ g h. outage_in m g ≢ outage_in m h) (causes m)
   causes_apart =
-      AllPairs-cons (λ g h. outage_in m g ≢ outage_in m h) Base (map after_of m.outages)
-      (All-map (λ h. outage_in m Base ≢ outage_in m h) after_of m.outages (λ k d lt e. absurd (let h = (outage_stands m market k d lt).1 in Prim.omega (arith, h, e))))
-      (AllPairs-map (λ g h. outage_in m g ≢ outage_in m h) after_of m.outages 0
-      (λ i j d p q e. market.outages_distinct i j d p q (sym (row-of_outage m market i d (Prim.omega (arith, p, q))) ∙ e ∙ row-of_outage m market j d q)))
+      AllPairs-cons (λ g h. outage_in m g ≢ outage_in m h) Base (map Branch (lost_lines m))
+      (All-map (λ h. outage_in m Base ≢ outage_in m h) Branch (lost_lines m)
+      (All-map (λ l. 0 ≢ (line_at m l).row) (place_of_line m) m.outages (λ k d lt e. absurd (let h = (outage_stands m market k d lt).1 in Prim.omega (arith, h, e)))))
+      (AllPairs-map (λ g h. outage_in m g ≢ outage_in m h) Branch (lost_lines m) 0
+      (AllPairs-map (λ k l. (line_at m k).row ≢ (line_at m l).row) (place_of_line m) m.outages 0
+      (λ i j d p q e. market.outages_distinct i j d p q (sym (row-of_outage m market i d (Prim.omega (arith, p, q))) ∙ e ∙ row-of_outage m market j d q))))
 
   in_group : (cause : Cause) → AllPairs (Differ m) (rows_of m cause)
   in_group cause =

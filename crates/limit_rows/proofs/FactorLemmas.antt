@@ -18,7 +18,7 @@ use Rattle.market_model.specs.Factors.{factor_in, is_pair}
 use Rattle.market_model.specs.declared.limits.Cause.{Cause}
 use Rattle.market_model.specs.declared.limits.Row.{Row}
 use Rattle.market_model.specs.declared.limits.Cause.TheVariants.{Base, Branch}
-use Rattle.market_model.specs.LimitRows.{bears, causes, place_of_line, rows, rows_of, row_factor}
+use Rattle.market_model.specs.LimitRows.{bears, causes, lost_lines, place_of_line, rows, rows_of, row_factor}
 use Rattle.market_model.specs.Market.{IsMarket, IsTableFactor}
 use Rattle.market_model.proofs.LostLemmas.{outage_line, place_at}
 
@@ -71,7 +71,7 @@ module _ (m : Parts) (market : IsMarket m) where
   outage_stands i d h = let at = outage_line m market i d h in (at.inside, (market.lines (place_of_line m (get_or m.outages i d)) _ at.inside).row)
 
   causes_stand : All (IsLost m) (causes m)
-  causes_stand = All-cons (IsLost m) Base (map (λ row. Branch (place_of_line m row)) m.outages) tt (All-map (IsLost m) (λ row. Branch (place_of_line m row)) m.outages outage_stands)
+  causes_stand = All-cons (IsLost m) Base (map Branch (lost_lines m)) tt (All-map (IsLost m) Branch (lost_lines m) (All-map (λ l. IsLost m (Branch l)) (place_of_line m) m.outages outage_stands))
 
   all_flat : (f : Cause → List Row) (xs : List Cause) → ((i : ℕ) (d : Cause) → i < length xs → All (Stands m) (f (get_or xs i d))) → All (Stands m) (flat_map f xs)
   all_flat f [] h = All-nil (Stands m)

@@ -1,7 +1,6 @@
 -- Steps of the flows of lines and rows, and of the offsets of rows.
 use Rattle.std.specs.Prelude.{◌≡◌, ◌≢◌, ◌⊎◌, ℕ, ◌+◌, ◌<◌, pos, ℤ, List, [], ◌∷◌, ◌++◌, map, length, refl}
-use Rattle.std.proofs.Common.{arith, inl, inr, ap, ap₂, sym, subst, ◌∙◌, get_or}
-use Rattle.std.proofs.lemmas.List.FromFn.{get_or-map-range_with_len}
+use Rattle.std.proofs.Common.{arith, inl, inr, ap, ap₂, sym, subst, ◌∙◌}
 use Rattle.fraction_theory.specs.Fraction.{Fraction, whole, over, ◌+ℚ◌, ◌*ℚ◌}
 use Rattle.fraction_theory.specs.Sums.{Term, Plain, Product, total}
 use Rattle.fraction_theory.proofs.FieldLaws.{ring_ℚ, over-same, over-one, +ℚ_nil, +ℚ_assoc, *ℚ_comm}
@@ -19,7 +18,7 @@ use Rattle.market_model.specs.NamedSums.{IsRefusal, IsRefusedIn, IsShareRefusal}
 use Rattle.market_model.specs.PutIn.{AreInjections, put_in}
 use Rattle.market_model.specs.SumTables.{IsRefusedAmong, LineFlowSum, flow_of_line}
 use Rattle.market_model.proofs.MorePlaces.{total-places_more}
-use Rattle.market_model.proofs.PlaceLists.{map_same}
+use Rattle.market_model.proofs.PlaceLists.{filled_at, map_same}
 use Rattle.market_model.proofs.PutInSteps.{put_is}
 use Rattle.market_model.proofs.SumSteps.{plus_at, multiplied_at, terms_at}
 use Rattle.limit_rows.specs.LineFlows.{AreFlows}
@@ -121,9 +120,7 @@ module _ (m : Parts) (x : Dispatch) (mws : List Fraction) (puts : AreInjections 
 -- and lines have the flows of that
 module _ (m : Parts) (x : Dispatch) (flows : List Fraction) (are : AreFlows m x flows) where
   pub flow_is : (l : ℕ) → l < length m.lines → put_in flows l ≡ line_flow m (injection m x) l
-  flow_is l lt =
-      let e : 0 + l ≡ l = Prim.omega arith in
-      ap (λ (ys : List Fraction). get_or ys l (whole (pos 0))) are ∙ get_or-map-range_with_len (line_flow m (injection m x)) 0 (length m.lines) l l (whole (pos 0)) lt e
+  flow_is = filled_at (line_flow m (injection m x)) flows (length m.lines) (whole (pos 0)) are
 
   pub row_terms_are : (r : Row) → r.line < length m.lines → IsCauseAmong (length m.lines) r.cause → flow_terms m (put_in flows) r ≡ flow_terms m (line_flow m (injection m x)) r
   row_terms_are r inside among = flow_terms-same m (put_in flows) (line_flow m (injection m x)) flow_is r inside among

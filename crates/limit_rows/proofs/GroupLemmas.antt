@@ -11,9 +11,7 @@ use Rattle.market_model.specs.Dispatch.{places}
 use Rattle.market_model.specs.Market.{IsMarket}
 use Rattle.market_model.specs.declared.limits.Cause.{Cause}
 use Rattle.market_model.specs.declared.limits.Cause.TheVariants.{Branch}
-use Rattle.market_model.specs.LimitRows.{rows, place_of_line, causes, rows_of}
-use Rattle.market_model.specs.LostLines.{lost_lines}
-use Rattle.market_model.proofs.ListSteps.{map-map}
+use Rattle.market_model.specs.LimitRows.{rows, place_of_line, causes, lost_lines, rows_of}
 use Rattle.market_model.proofs.LostLemmas.{lost_inside}
 use Rattle.market_model.proofs.MorePlaces.{places_more}
 
@@ -75,7 +73,7 @@ pub cause_behind : (m : Parts) (i l : ℕ) → (i ≡ 0 → ⊥) → slice_get (
 cause_behind m zero l h e = absurd (h refl)
 cause_behind m (suc i) l h e =
     let k : suc i - 1 ≡ i = Prim.omega arith in
-    ap (λ (cs : List Cause). slice_get cs i) (sym (map-map (place_of_line m) Branch m.outages)) ∙ slice_get-map Branch (lost_lines m) i ∙ ap (option_map Branch) (Prim.rw k at e)
+    slice_get-map Branch (lost_lines m) i ∙ ap (option_map Branch) (Prim.rw k at e)
 
 pub lost_line-inside : (m : Parts) → IsMarket m → (i l : ℕ) → slice_get (lost_lines m) i ≡ Some l → l < length m.lines
 lost_line-inside m market i l e = subst (λ (k : ℕ). k < length m.lines) (get_or_from_slice_get (lost_lines m) i l l e) (lost_inside m market i l (slice_get_within (lost_lines m) i l e))

@@ -1,5 +1,5 @@
 -- A row with those round it, and the row of a name.
-use Rattle.std.specs.Prelude.{◌≡◌, ◌==◌, ◌&&◌, ℕ, ◌+◌, ◌<◌, Bool, true, false, List, [], ◌∷◌, ◌++◌, map, filter, length, Some, refl, cond, Contains}
+use Rattle.std.specs.Prelude.{◌≡◌, ◌==◌, ◌&&◌, ℕ, ◌+◌, ◌<◌, Bool, true, false, List, ◌∷◌, ◌++◌, map, filter, length, Some, refl, cond, Contains}
 use Rattle.std.specs.List.{flat_map, slice_get, position}
 use Rattle.std.proofs.Common.{ap, sym, ◌∙◌, append_assoc, length-append, get_or, take, drop, ap₂}
 use Rattle.std.proofs.lemmas.Bool.{eqb-true}
@@ -9,11 +9,11 @@ use Rattle.std.proofs.lemmas.List.Elements.{filter-append}
 use Rattle.std.proofs.lemmas.Grind.{flat_map-append}
 use Rattle.market_model.specs.declared.answered.RowId.{RowId}
 use Rattle.market_model.specs.declared.participants.Parts.{Parts}
-use Rattle.market_model.specs.Dispatch.{places, line_at}
+use Rattle.market_model.specs.Dispatch.{places}
 use Rattle.market_model.specs.declared.limits.Row.{Row}
 use Rattle.market_model.specs.declared.limits.Cause.TheVariants.{Base}
 use Rattle.market_model.specs.declared.limits.Cause.{Cause}
-use Rattle.market_model.specs.LimitRows.{outage_of, row_id, rows, bears, causes, lines_of, rows_of}
+use Rattle.market_model.specs.LimitRows.{row_id, rows, bears, causes, rows_of}
 use Rattle.market_model.proofs.ChangeLemmas.{same_default}
 use Rattle.limit_rows.specs.Naming.{has_name}
 use Rattle.limit_rows.proofs.GroupLemmas.{length-map, places_at, rows-causes, rows-more, slice_get-seam}

@@ -19,7 +19,7 @@ use Rattle.market_model.specs.Market.{IsMarket}
 use Rattle.market_model.specs.declared.limits.Row.{Row}
 use Rattle.market_model.specs.declared.limits.Cause.TheVariants.{Base, Branch}
 use Rattle.market_model.specs.declared.limits.Cause.{Cause}
-use Rattle.market_model.specs.LimitRows.{IsCauseAmong, outage_of, place_of_line, row_id, rows, bears, causes, lines_of, rows_of}
+use Rattle.market_model.specs.LimitRows.{IsCauseAmong, outage_of, place_of_line, row_id, rows, bears, causes, lines_of, lost_lines, rows_of}
 use Rattle.market_model.proofs.ChangeLemmas.{same_default}
 use Rattle.limit_rows.specs.Naming.{has_name}
 use Rattle.limit_rows.proofs.ApartLemmas.{names_apart, outage_in}
@@ -103,11 +103,14 @@ none_of_outage m name none r c = λ e. by (row_from m r c) e
 -- ---- causes by outage
 module _ (m : Parts) (market : IsMarket m) where
   cause_from : (cause : Cause) → Contains (causes m) cause → (cause ≡ Base) ⊎ ((row : ℕ) × Contains m.outages row × (Branch (place_of_line m row) ≡ cause))
-  cause_from cause c = by (Contains-cases Base (map (λ row. Branch (place_of_line m row)) m.outages) cause c)
+  cause_from cause c = by (Contains-cases Base (map Branch (lost_lines m)) cause c)
     where
-      by : (Base ≡ cause) ⊎ Contains (map (λ row. Branch (place_of_line m row)) m.outages) cause → (cause ≡ Base) ⊎ ((row : ℕ) × Contains m.outages row × (Branch (place_of_line m row) ≡ cause))
+      by : (Base ≡ cause) ⊎ Contains (map Branch (lost_lines m)) cause → (cause ≡ Base) ⊎ ((row : ℕ) × Contains m.outages row × (Branch (place_of_line m row) ≡ cause))
       by (inl e) = inl (sym e)
-      by (inr d) = inr (Contains-from_map (λ row. Branch (place_of_line m row)) m.outages cause d)
+      by (inr d) =
+          let line = Contains-from_map Branch (lost_lines m) cause d in
+          let row = Contains-from_map (place_of_line m) m.outages line.0 line.1 in
+          inr (row.0, row.1, ap Branch row.2 ∙ line.2)
 
   outage_own : (row : ℕ) → Contains m.outages row → (line_at m (place_of_line m row)).row ≡ row
   outage_own row (k, lt, e) = ap (λ (o : ℕ). (line_at m (place_of_line m o)).row) (sym e) ∙ row-of_outage m market k row lt ∙ e
@@ -140,8 +143,10 @@ module _ (m : Parts) (market : IsMarket m) where
 
   -- the cause of a listed outage
   pub of_outage : (k row : ℕ) → k < length m.outages → get_or m.outages k row ≡ row → Contains (causes m) (Branch (place_of_line m row)) × ((line_at m (place_of_line m row)).row ≡ row)
-  of_outage k row lt e =
-      (Contains-cons Base (map (λ r. Branch (place_of_line m r)) m.outages) (Branch (place_of_line m row)) (Contains-map (λ r. Branch (place_of_line m r)) m.outages row (k, lt, e)), outage_own row (k, lt, e))
+  of_outage k row lt e = (
+    Contains-cons Base (map Branch (lost_lines m)) (Branch (place_of_line m row)) (Contains-map Branch (lost_lines m) (place_of_line m row) (Contains-map (place_of_line m) m.outages row (k, lt, e))),
+    outage_own row (k, lt, e),
+  )
 
   -- no cause of an outage that is not listed
   pub of_none : (outage : ℕ) → (outage ≡ 0 → ⊥) → ((k : ℕ) → k < length m.outages → get_or m.outages k 0 ≡ outage → ⊥) → All (λ cause. outage_in m cause ≢ outage) (causes m)

@@ -1,10 +1,9 @@
 -- The first place in a list that passes a test.
-use Rattle.std.specs.Prelude.{◌≡◌, ◌⊎◌, ℕ, ◌+◌, ◌<◌, ◌≤◌, Bool, true, false, not, List, [], ◌∷◌, ◌++◌, length, All, Some, None, refl, cond, nat_lt}
+use Rattle.std.specs.Prelude.{◌≡◌, ◌⊎◌, ℕ, ◌+◌, ◌<◌, ◌≤◌, Bool, true, false, not, List, [], ◌∷◌, ◌++◌, length, All, Some, None, cond, nat_lt}
 use Rattle.std.specs.List.{position, position_or_len}
-use Rattle.std.proofs.Common.{suc, arith, inl, inr, ap, sym, ◌∙◌, get_or, length-append}
-use Rattle.std.proofs.lemmas.Bool.{not-true, cases_lt, lt-ltb, le-ltb}
+use Rattle.std.proofs.Common.{suc, arith, inl, inr, ap, ◌∙◌}
+use Rattle.std.proofs.lemmas.Bool.{cases_lt, lt-ltb, le-ltb}
 use Rattle.std.proofs.lemmas.List.{append-nil}
-use Rattle.std.proofs.lemmas.List.Sums.{prefix_len_passes}
 
 ltb_tells : (a b : ℕ) → ((nat_lt a b ≡ true) × (a < b)) ⊎ ((nat_lt a b ≡ false) × (b ≤ a))
 ltb_tells a b = by (cases_lt a b)

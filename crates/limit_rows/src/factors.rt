@@ -5,10 +5,11 @@ ghost use Rattle.fraction_theory.specs.Fraction.{over};
 ghost use Rattle.market_data.specs.Scales.{factor_one, most_factor};
 ghost use Rattle.market_model.specs.Factors.{factor_in};
 ghost use Rattle.market_model.specs.declared.limits.Row.{Row};
-ghost use Rattle.market_model.specs.LimitRows.{factor_places, row_factor, row_id, rows, IsCauseAmong};
+ghost use Rattle.market_model.specs.LimitRows.{factor_places, row_factor, row_id, rows, unit_factor, IsCauseAmong};
 
 use crate::places::found_row;
-use market_data::FACTOR_ONE;
+use exact_fraction::Exact;
+use market_data::{FACTOR_ONE, FACTOR_PRODUCT_ONE};
 use market_model::{Cause, Market, Row, RowId};
 
 /// The shift factor of a line for a bus, in 10^-6, with its size.
@@ -72,7 +73,27 @@ pub fn factor_at(market: &Market, row: Row, bus: usize) -> i64
     }
 }
 
-/// The same factor by the name of the row.
+/// The same factor as a number.
+pub fn row_factor<N: Exact>(market: &Market, row: Row, bus: usize) -> N
+    requires line { row.line < length market.now.lines }
+    requires lost { IsCauseAmong (length market.now.lines) row.cause }
+    requires bus { bus < length market.now.buses }
+    ensures { N.value result ≡ row_factor market.now row bus }
+{
+    N::of_parts(factor_at(market, row, bus), FACTOR_PRODUCT_ONE)
+}
+
+/// How much of what the unit at a place puts out counts for the flow of a row: the factor of its bus.
+pub fn unit_factor<N: Exact>(market: &Market, row: Row, unit: usize) -> N
+    requires line { row.line < length market.now.lines }
+    requires lost { IsCauseAmong (length market.now.lines) row.cause }
+    requires unit { unit < length market.now.units }
+    ensures { N.value result ≡ unit_factor market.now row unit }
+{
+    row_factor(market, row, market.units().at(unit).bus)
+}
+
+/// The factor of a bus by the name of the row, in 10^-12.
 pub fn factor(market: &Market, row: RowId, bus: usize) -> i64
     requires row { (r : Row) × Contains (rows market.now) r × (row_id market.now r ≡ row) }
     requires bus { bus < length market.now.buses }

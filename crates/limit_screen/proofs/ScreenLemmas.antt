@@ -19,7 +19,7 @@ use Rattle.fraction_theory.proofs.Ring.{at, padd, pneg, pnil, pone}
 use Rattle.fraction_theory.proofs.SignLaws.{IsSign, sign_of_is}
 use Rattle.market_model.specs.declared.participants.Parts.{Parts}
 use Rattle.market_model.specs.Dispatch.{Dispatch, places, injection}
-use Rattle.market_model.specs.Overrun.{size_by, size_of, IsWorst}
+use Rattle.market_model.specs.Overrun.{size_by, size_of, IsFirstMost}
 use Rattle.market_model.specs.declared.limits.Cause.{Cause}
 use Rattle.market_model.specs.declared.limits.Row.{Row}
 use Rattle.market_model.specs.LimitRows.{bears, causes, flow_by, flow_terms, limit, line_flow, rows}
@@ -31,7 +31,7 @@ use Rattle.limit_rows.proofs.PlaceLemmas.{at_places}
 use Rattle.limit_screen.specs.declared.screening.Broken.{Broken}
 use Rattle.market_model.specs.Market.{IsMarket}
 use Rattle.limit_screen.specs.Flows.{flows_at, line_in, LawOfRowFlows}
-use Rattle.limit_screen.specs.Screening.{AllHold, IsFirstMost, IsWorstOf, overrun_by, rows_to}
+use Rattle.limit_screen.specs.Screening.{AllHold, IsWorstOf, overrun_by, rows_to}
 
 -- ---- orders and differences
 pub not_past : (o : Ordering) (x y : Fraction) → MatchOrdering o (x <ℚ y) (x ≡ y) (y <ℚ x) → (o ≡ Less) ⊎ (o ≡ Equal) → x ≤ℚ y
@@ -66,27 +66,25 @@ all_hold : (e : Row → Fraction) (rs : List Row) (r : Row) → All (λ s. e s �
 all_hold e rs r all here = All-append (λ s. e s ≤ℚ whole (pos 0)) rs (r ∷ []) all (All-one (λ s. e s ≤ℚ whole (pos 0)) r here)
 
 -- the new row is the worst
-pub new_worst : (e : Row → Fraction) (rs : List Row) (r : Row) → All (λ s. e s <ℚ e r) rs → whole (pos 0) <ℚ e r → IsFirstMost e (rs ++ r ∷ []) r
+pub new_worst : (e : Row → Fraction) (rs : List Row) (r : Row) → All (λ s. e s <ℚ e r) rs → whole (pos 0) <ℚ e r → IsFirstMost e (rs ++ r ∷ []) (length rs) r
 new_worst e rs r less above = record {
-  place = length rs;
   stands = slice_get-seam rs r;
   broken = above;
   most = All-append (λ s. e s ≤ℚ e r) rs (r ∷ []) (λ k d lt. <ℚ-≤ℚ (e (get_or rs k d)) (e r) (less k d lt)) (All-one (λ s. e s ≤ℚ e r) r (≤ℚ_refl (e r)));
   first = λ i s lt at. subst (λ t. e t <ℚ e r) (get_or_from_slice_get rs i s s (sym (slice_get-left rs (r ∷ []) i lt) ∙ at)) (less i s lt);
 }
 
-pub worse_than_old : (e : Row → Fraction) (rs : List Row) (old r : Row) → IsFirstMost e rs old → e old <ℚ e r → All (λ s. e s <ℚ e r) rs
-worse_than_old e rs old r h more k d lt = ≤ℚ-<ℚ_trans (e (get_or rs k d)) (e old) (e r) (h.most k d lt) more
+pub worse_than_old : (e : Row → Fraction) (rs : List Row) (place : ℕ) (old r : Row) → IsFirstMost e rs place old → e old <ℚ e r → All (λ s. e s <ℚ e r) rs
+worse_than_old e rs place old r h more k d lt = ≤ℚ-<ℚ_trans (e (get_or rs k d)) (e old) (e r) (h.most k d lt) more
 
 pub worse_than_held : (e : Row → Fraction) (rs : List Row) (r : Row) → All (λ s. e s ≤ℚ whole (pos 0)) rs → whole (pos 0) <ℚ e r → All (λ s. e s <ℚ e r) rs
 worse_than_held e rs r h more k d lt = ≤ℚ-<ℚ_trans (e (get_or rs k d)) (whole (pos 0)) (e r) (h k d lt) more
 
 -- the old one stays the worst
-pub old_worst : (e : Row → Fraction) (rs : List Row) (old r : Row) → IsFirstMost e rs old → e r ≤ℚ e old → IsFirstMost e (rs ++ r ∷ []) old
-old_worst e rs old r h less =
-    let inside : h.place < length rs = slice_get_within rs h.place old h.stands in record {
-      place = h.place;
-      stands = slice_get-left rs (r ∷ []) h.place inside ∙ h.stands;
+pub old_worst : (e : Row → Fraction) (rs : List Row) (place : ℕ) (old r : Row) → IsFirstMost e rs place old → e r ≤ℚ e old → IsFirstMost e (rs ++ r ∷ []) place old
+old_worst e rs place old r h less =
+    let inside : place < length rs = slice_get_within rs place old h.stands in record {
+      stands = slice_get-left rs (r ∷ []) place inside ∙ h.stands;
       broken = h.broken;
       most = All-append (λ s. e s ≤ℚ e old) rs (r ∷ []) h.most (All-one (λ s. e s ≤ℚ e old) r less);
       first = λ i s lt at. h.first i s lt (sym (slice_get-left rs (r ∷ []) i (Prim.omega (arith, lt, inside))) ∙ at);
@@ -95,7 +93,7 @@ old_worst e rs old r h less =
 -- a row that holds changes nothing
 pub held : {N : Type 0} (value : N → Fraction) (e : Row → Fraction) (rs : List Row) (r : Row) (worst : Option (Broken N)) → IsWorstOf value e rs worst → e r ≤ℚ whole (pos 0) → IsWorstOf value e (rs ++ r ∷ []) worst
 held value e rs r None before h = all_hold e rs r before h
-held value e rs r (Some b) before h = (old_worst e rs b.row r before.0 (≤ℚ_trans (e r) (whole (pos 0)) (e b.row) h (<ℚ-≤ℚ (whole (pos 0)) (e b.row) before.0.broken)), before.1)
+held value e rs r (Some b) ((place, worst), is) h = ((place, old_worst e rs place b.row r worst (≤ℚ_trans (e r) (whole (pos 0)) (e b.row) h (<ℚ-≤ℚ (whole (pos 0)) (e b.row) worst.broken))), is)
 
 -- ---- a limit that holds
 from_opposite : (f F : Fraction) → neg_ℚ f ≤ℚ F → neg_ℚ F ≤ℚ f
@@ -174,17 +172,6 @@ lines_same m cause k rs e =
 -- ---- the worst of all rows
 pub all_rows : (m : Parts) (k : ℕ) → length (causes m) ≤ k → rows_to m k ≡ rows m
 all_rows m k h = all_before m k h
-
-pub first_is_worst : (m : Parts) (f : ℕ → Fraction) (r : Row) → IsFirstMost (overrun_by m f) (rows m) r → (place : ℕ) × IsWorst m (flow_by m f) place r
-first_is_worst m f r h = (
-  h.place,
-  record {
-    stands = h.stands;
-    broken = h.broken;
-    most = λ s c. subst (λ t. overrun_by m f t ≤ℚ overrun_by m f r) c.2 (h.most c.0 s c.1);
-    first = λ i s lt at. h.first i s lt at;
-  },
-)
 
 pub all_hold_by : (m : Parts) (f : ℕ → Fraction) → All (λ s. overrun_by m f s ≤ℚ whole (pos 0)) (rows m) → AllHold m f
 all_hold_by m f h r c =

@@ -7,13 +7,13 @@ use Rattle.exact_fraction.specs.declared.Passed.{Passed}
 use Rattle.market_model.specs.declared.participants.Parts.{Parts}
 use Rattle.market_model.specs.Dispatch.{Dispatch, zero, places, injection}
 use Rattle.market_model.specs.declared.limits.Row.{Row}
-use Rattle.market_model.specs.LimitRows.{rows, line_flow, flow, flow_by}
+use Rattle.market_model.specs.LimitRows.{rows, line_flows, flow, flow_by}
 use Rattle.market_model.specs.Market.{IsMarket}
 use Rattle.market_model.specs.SumTables.{IsRefusedAmong, CarriedSum}
 
 -- what each bus puts in at a dispatch, and then the flow of each line
 abbrev pub flows_at : Parts → Dispatch → List Fraction
-flows_at m x = map (injection m x) (places (length m.buses)) ++ map (line_flow m (injection m x)) (places (length m.lines))
+flows_at m x = map (injection m x) (places (length m.buses)) ++ line_flows m x
 
 -- of numbers for each bus and then for each line, that of a line
 abbrev pub line_in : Parts → List Fraction → ℕ → Fraction

@@ -1,24 +1,24 @@
 -- Which limit is passed by the most, where lines have given flows.
-use Rattle.std.specs.Prelude.{◌≡◌, ℕ, ◌<◌, List, Option, Some, None, All, Contains, take}
-use Rattle.std.specs.List.{flat_map, slice_get}
+use Rattle.std.specs.Prelude.{◌≡◌, ℕ, List, Option, Some, None, All, Contains, take}
+use Rattle.std.specs.List.{flat_map}
 use Rattle.fraction_theory.specs.Fraction.{Fraction}
-use Rattle.fraction_theory.specs.Order.{◌<ℚ◌, ◌≤ℚ◌}
+use Rattle.fraction_theory.specs.Order.{◌≤ℚ◌}
 use Rattle.exact_fraction.specs.declared.Op.TheVariants.{Minus}
 use Rattle.exact_fraction.specs.declared.Passed.{Passed}
 use Rattle.market_model.specs.declared.answered.RowId.{RowId}
 use Rattle.market_model.specs.declared.participants.Parts.{Parts}
 use Rattle.market_model.specs.Dispatch.{zero}
-use Rattle.market_model.specs.Overrun.{overrun, size_of, IsWorst}
+use Rattle.market_model.specs.Overrun.{overrun, size_of, IsFirstMost, IsWorst}
 use Rattle.market_model.specs.declared.limits.Row.{Row}
 use Rattle.market_model.specs.LimitRows.{causes, flow_by, limit, row_id, rows, rows_of}
 use Rattle.market_model.specs.NamedSums.{IsRefusal}
-use Rattle.market_model.specs.Optimality.{Within}
+use Rattle.market_model.specs.Optimality.{AreWithin}
 use Rattle.market_model.specs.SumTables.{IsRefusedAmong, RowFlowSum}
 use Rattle.limit_screen.specs.declared.screening.Broken.{Broken}
 
 -- all limits of the market hold
 abbrev pub AllHold : Parts → (ℕ → Fraction) → Type 0
-AllHold m f = (r : Row) → Contains (rows m) r → Within (limit m r) (flow_by m f r)
+AllHold m f = AreWithin (rows m) (limit m) (flow_by m f)
 
 -- the name of the row of greatest overrun, the first of several
 abbrev pub IsWorstNamed : Parts → (ℕ → Fraction) → RowId → Type 0
@@ -37,18 +37,10 @@ IsScreenRefusal m f bound p = (r : Row) × Contains (rows m) r × IsOverrunRefus
 abbrev pub overrun_by : Parts → (ℕ → Fraction) → Row → Fraction
 overrun_by m f r = overrun m r (flow_by m f r)
 
--- a row of the list with an overrun above 0 that none has more of, and none before it as much
-pub record IsFirstMost (e : Row → Fraction) (rs : List Row) (r : Row) : Type 0 where
-  pub place : ℕ
-  pub stands : slice_get rs place ≡ Some r
-  pub broken : zero <ℚ e r
-  pub most : All (λ s. e s ≤ℚ e r) rs
-  pub first : (i : ℕ) (s : Row) → i < place → slice_get rs i ≡ Some s → e s <ℚ e r
-
--- the worst of some rows with its overrun, or none where all of them hold
+-- the worst of some rows with its overrun, the first of several, or none where all of them hold
 abbrev pub IsWorstOf : {N : Type 0} → (N → Fraction) → (Row → Fraction) → List Row → Option (Broken N) → Type 0
 IsWorstOf value e rs None = All (λ s. e s ≤ℚ zero) rs
-IsWorstOf value e rs (Some b) = IsFirstMost e rs b.row × (value b.overrun ≡ e b.row)
+IsWorstOf value e rs (Some b) = ((place : ℕ) × IsFirstMost e rs place b.row) × (value b.overrun ≡ e b.row)
 
 -- the rows of the first causes
 abbrev pub rows_to : Parts → ℕ → List Row

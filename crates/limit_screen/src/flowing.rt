@@ -2,12 +2,14 @@
 
 ghost use Rattle.std.specs.Prelude.{◌≡◌, ◌+◌, length, map, IfOk, IfErr};
 ghost use Rattle.market_model.specs.PutIn.{dispatch_of, put_in};
+ghost use Rattle.market_model.specs.Stops.{OnPassed};
 ghost use Rattle.market_model.specs.Valued.{passed_at};
 ghost use Rattle.limit_screen.specs.Flows.{flows_at, line_in, IsFlowsRefusal};
 
 use exact_fraction::{Exact, Passed};
 use limit_rows::put_line_flows;
-use market_model::{Market, injections};
+use market_model::{Market, Stop, injections, zeros};
+use std::alloc::Global;
 
 /// What each bus puts in at a dispatch, and then the flow of each line, in 10^-9 MW.
 pub fn flows<N: Exact>(market: &Market, dispatch: &[N], out: &mut [N]) -> Result<(), Passed<N>>
@@ -20,6 +22,21 @@ pub fn flows<N: Exact>(market: &Market, dispatch: &[N], out: &mut [N]) -> Result
     let (by_bus, by_line) = out.split_at_mut(market.buses().len());
     injections(market, dispatch, by_bus)?;
     put_line_flows(market, by_bus, by_line)
+}
+
+/// The same in a vector of their own.
+pub fn flows_made<N: Exact>(
+    alloc: Global,
+    market: &Market,
+    dispatch: &[N],
+) -> Result<Vec<N>, Stop<N>>
+    requires { length dispatch.now ≡ length market.now.blocks }
+    ensures flows { IfOk result (λ flows. map N.value flows.items ≡ flows_at market.now (dispatch_of N.value dispatch.now)) }
+    ensures cause { IfErr result (λ stop. OnPassed stop (λ p. IsFlowsRefusal market.now (dispatch_of N.value dispatch.now) N.bound (passed_at N.value p))) }
+{
+    let mut by_place = zeros(alloc, market.buses().len() + market.lines().len())?;
+    flows(market, dispatch, &mut by_place)?;
+    Ok(by_place)
 }
 
 /// Of the flows by bus and then by line, those of lines.

@@ -19,17 +19,6 @@ map-members : {X Y : Type 0} (f g : X → Y) (xs : List X) → ((x : X) → Cont
 map-members f g [] h = refl
 map-members f g (x ∷ xs) h = ap₂ (λ y ys. y ∷ ys) (h x (Contains-head x xs)) (map-members f g xs (λ z c. h z (Contains-cons x xs z c)))
 
-pub turned_round : (s t : System) → SameSystem s t → SameSystem t s
-turned_round s t same = record {
-  variables = sym same.variables;
-  columns = sym same.columns;
-  rows = sym same.rows;
-  coefficient = λ r j c k. sym (same.coefficient r j (subst (λ (ws : List ℕ). Contains ws r) (sym same.rows) c) (subst (λ (ws : List ℕ). Contains ws j) (sym same.columns) k));
-  price = λ j c. sym (same.price j (subst (λ (ws : List ℕ). Contains ws j) (sym same.columns) c));
-  low = λ w c. sym (same.low w (subst (λ (ws : List ℕ). Contains ws w) (sym same.variables) c));
-  high = λ w c. sym (same.high w (subst (λ (ws : List ℕ). Contains ws w) (sym same.variables) c));
-}
-
 pub rows_turned_round : (s t : System) → SameRows s t → SameRows t s
 rows_turned_round s t same = record {
   variables = sym same.variables;
@@ -38,9 +27,14 @@ rows_turned_round s t same = record {
   coefficient = λ r j c k. sym (same.coefficient r j (subst (λ (ws : List ℕ). Contains ws r) (sym same.rows) c) (subst (λ (ws : List ℕ). Contains ws j) (sym same.columns) k));
 }
 
--- systems that agree at their names have the same rows
-pub same_system_rows : (s t : System) → SameSystem s t → SameRows s t
-same_system_rows s t same = record { variables = same.variables; columns = same.columns; rows = same.rows; coefficient = same.coefficient }
+pub turned_round : (s t : System) → SameSystem s t → SameSystem t s
+turned_round s t same =
+    let rows = same.same_rows in record {
+      same_rows = rows_turned_round s t rows;
+      price = λ j c. sym (same.price j (subst (λ (ws : List ℕ). Contains ws j) (sym rows.columns) c));
+      low = λ w c. sym (same.low w (subst (λ (ws : List ℕ). Contains ws w) (sym rows.variables) c));
+      high = λ w c. sym (same.high w (subst (λ (ws : List ℕ). Contains ws w) (sym rows.variables) c));
+    }
 
 module _ (s t : System) (same : SameRows s t) where
   rows_activity : (v : ℕ → Fraction) (r : ℕ) → Contains s.rows r → activity s v r ≡ activity t v r
@@ -100,16 +94,16 @@ same_rows_choice s t same h choice = record {
 
 module _ (s t : System) (same : SameSystem s t) where
   pub same_rows_met : (v : ℕ → Fraction) → MeetsRows s v → MeetsRows t v
-  same_rows_met v meets = rows_met s t (same_system_rows s t same) v meets
+  same_rows_met v meets = rows_met s t same.same_rows v meets
 
   pub same_basics : (h : Choice) → basics s h ≡ basics t h
-  same_basics h = rows_basics s t (same_system_rows s t same) h
+  same_basics h = rows_basics s t same.same_rows h
 
   pub same_others : (h : Choice) → others s h ≡ others t h
-  same_others h = rows_others s t (same_system_rows s t same) h
+  same_others h = rows_others s t same.same_rows h
 
   pub same_table_met : (h : Choice) (v : ℕ → Fraction) → MeetsTable s h v → MeetsTable t h v
-  same_table_met h v meets = rows_table_met s t (same_system_rows s t same) h v meets
+  same_table_met h v meets = rows_table_met s t same.same_rows h v meets
 
   same_bound : (h : Choice) (w : ℕ) → Contains s.variables w → at_bound s h w ≡ at_bound t h w
   unfolding at_bound
@@ -123,23 +117,23 @@ module _ (s t : System) (same : SameSystem s t) where
       ∙ ap (map (λ w. Product (h.entry b w) (at_bound t h w))) (same_others h)
 
   same_row_entry_terms : (h : Choice) (r w : ℕ) → Contains s.rows r → row_entry_terms s h r w ≡ row_entry_terms t h r w
-  same_row_entry_terms h r w c = rows_row_entry_terms s t (same_system_rows s t same) h r w c
+  same_row_entry_terms h r w c = rows_row_entry_terms s t same.same_rows h r w c
 
   same_reduced_terms : (h : Choice) (w : ℕ) → reduced_terms s h w ≡ reduced_terms t h w
   unfolding reduced_terms
   same_reduced_terms h w =
       map-members (λ j. Product (s.price j) (column_entry h j w)) (λ j. Product (t.price j) (column_entry h j w)) s.columns
       (λ j k. ap (λ x. Product x (column_entry h j w)) (same.price j k))
-      ∙ ap (map (λ j. Product (t.price j) (column_entry h j w))) same.columns
+      ∙ ap (map (λ j. Product (t.price j) (column_entry h j w))) same.same_rows.columns
 
   in_variables : (w : ℕ) → Contains s.variables w → Contains t.variables w
-  in_variables w c = subst (λ (ws : List ℕ). Contains ws w) same.variables c
+  in_variables w c = subst (λ (ws : List ℕ). Contains ws w) same.same_rows.variables c
 
   in_columns : (w : ℕ) → Contains s.columns w → Contains t.columns w
-  in_columns w c = subst (λ (ws : List ℕ). Contains ws w) same.columns c
+  in_columns w c = subst (λ (ws : List ℕ). Contains ws w) same.same_rows.columns c
 
   in_rows : (w : ℕ) → Contains s.rows w → Contains t.rows w
-  in_rows w c = subst (λ (ws : List ℕ). Contains ws w) same.rows c
+  in_rows w c = subst (λ (ws : List ℕ). Contains ws w) same.same_rows.rows c
 
   in_basics : (h : Choice) (w : ℕ) → Contains (basics s h) w → Contains (basics t h) w
   in_basics h w c = subst (λ (ws : List ℕ). Contains ws w) (same_basics h) c
@@ -151,7 +145,7 @@ module _ (s t : System) (same : SameSystem s t) where
   pub same_number : (h : Choice) (kind : Kind) (x : Fraction) → SystemNumber s h kind x → SystemNumber t h kind x
   same_number h _ _ is_zero = is_zero
   same_number h _ _ is_one = is_one
-  same_number h _ _ (is_coefficient r j c k) = subst (SystemNumber t h Factor) (sym (same.coefficient r j c k)) (is_coefficient r j (in_rows r c) (in_columns j k))
+  same_number h _ _ (is_coefficient r j c k) = subst (SystemNumber t h Factor) (sym (same.same_rows.coefficient r j c k)) (is_coefficient r j (in_rows r c) (in_columns j k))
   same_number h _ _ (is_entry b w c k) = is_entry b w (in_basics h b c) (in_others h w k)
   same_number h _ _ (is_row_entry r w n c k) = subst (λ (ts : List Term). SystemNumber t h Factor (prefix n ts)) (sym (same_row_entry_terms h r w c)) (is_row_entry r w n (in_rows r c) (in_others h w k))
   same_number h _ _ (is_low w c) = subst (SystemNumber t h Quantity) (sym (same.low w c)) (is_low w (in_variables w c))
@@ -162,7 +156,7 @@ module _ (s t : System) (same : SameSystem s t) where
   same_number h _ _ (is_opposite kind x n) = is_opposite kind x (same_number h kind x n)
 
 pub same_choice_of : (s t : System) → SameSystem s t → (h : Choice) → IsChoice s h → IsChoice t h
-same_choice_of s t same h choice = same_rows_choice s t (same_system_rows s t same) h choice
+same_choice_of s t same h choice = same_rows_choice s t same.same_rows h choice
 
 same_near : (s t : System) → SameSystem s t → (h k : Choice) → AreNear s h k → AreNear t h k
 same_near s t same h k (inl e) = inl e
@@ -170,11 +164,11 @@ same_near s t same h k (inr (a, b, x)) = inr (
   a,
   b,
   record {
-    leaving = subst (λ (ws : List ℕ). Contains ws a) same.variables x.leaving;
-    entering = subst (λ (ws : List ℕ). Contains ws b) same.variables x.entering;
+    leaving = subst (λ (ws : List ℕ). Contains ws a) same.same_rows.variables x.leaving;
+    entering = subst (λ (ws : List ℕ). Contains ws b) same.same_rows.variables x.entering;
     leaves = x.leaves;
     enters = x.enters;
-    stays = λ w c. x.stays w (subst (λ (ws : List ℕ). Contains ws w) (sym same.variables) c);
+    stays = λ w c. x.stays w (subst (λ (ws : List ℕ). Contains ws w) (sym same.same_rows.variables) c);
   },
 )
 

@@ -10,12 +10,9 @@ pub record SameRows (s t : System) : Type 0 where
   pub rows : s.rows ≡ t.rows
   pub coefficient : (r j : ℕ) → Contains s.rows r → Contains s.columns j → s.coefficient r j ≡ t.coefficient r j
 
--- the same names, with the same coefficients, prices and bounds at these
+-- besides the same prices and bounds at these names
 pub record SameSystem (s t : System) : Type 0 where
-  pub variables : s.variables ≡ t.variables
-  pub columns : s.columns ≡ t.columns
-  pub rows : s.rows ≡ t.rows
-  pub coefficient : (r j : ℕ) → Contains s.rows r → Contains s.columns j → s.coefficient r j ≡ t.coefficient r j
+  pub same_rows : SameRows s t
   pub price : (j : ℕ) → Contains s.columns j → s.price j ≡ t.price j
   pub low : (w : ℕ) → Contains s.variables w → s.low w ≡ t.low w
   pub high : (w : ℕ) → Contains s.variables w → s.high w ≡ t.high w

@@ -1,7 +1,7 @@
 -- What blocks count in the rows of a dictionary, and the names of its variables.
 use Rattle.std.specs.Prelude.{◌≡◌, ◌≢◌, ℕ, ◌<◌, ◌≤◌, ◌+◌, ◌*◌, pos, Bool, true, false, cond, List, [], ◌∷◌, length, filter, AllPairs, Contains, Some}
 use Rattle.std.specs.List.{flat_map, slice_get}
-use Rattle.std.proofs.Common.{suc, arith, ap, ap₂, sym, ◌∙◌, subst, get_or}
+use Rattle.std.proofs.Common.{suc, arith, ap, ap₂, sym, ◌∙◌, get_or}
 use Rattle.std.proofs.lemmas.List.{length-append, length-map}
 use Rattle.std.proofs.lemmas.List.Concat.{flat_map-cons}
 use Rattle.std.proofs.lemmas.List.FromFn.{length-range_with_len, get_or-range_with_len}
@@ -11,13 +11,12 @@ use Rattle.market_data.specs.declared.participants.Unit as unit
 use Rattle.market_data.specs.Scales.{most_lines, most_outages}
 use Rattle.market_model.specs.declared.participants.Block.{Block}
 use Rattle.market_model.specs.declared.participants.Parts.{Parts}
-use Rattle.market_model.specs.Dispatch.{places, signed_by_side, block_at, unit_at}
+use Rattle.market_model.specs.Dispatch.{places, signed_by_side, block_at}
 use Rattle.market_model.specs.declared.limits.Row.{Row}
 use Rattle.market_model.specs.declared.limits.Cause.{Cause}
 use Rattle.market_model.specs.declared.limits.Cause.TheVariants.{Branch}
-use Rattle.market_model.specs.LimitRows.{rows, row_factor, place_of_line, bears, causes, lines_of, rows_of}
+use Rattle.market_model.specs.LimitRows.{rows, place_of_line, unit_factor, bears, causes, lines_of, lost_lines, rows_of}
 use Rattle.market_model.specs.Market.{IsMarket}
-use Rattle.market_model.proofs.MarketSums.{unit_bus-in}
 use Rattle.limit_rows.proofs.ApartLemmas.{names_apart}
 use Rattle.limit_rows.proofs.GroupLemmas.{rows-causes}
 use Rattle.limit_rows.proofs.NumberingLemmas.{length-rows_of}
@@ -29,12 +28,8 @@ use Rattle.market_system.proofs.VariableLaws.{from_places}
 pub sign_entry : (m : Parts) (k : ℕ) (block : Block) (one entry : Fraction) → block ≡ block_at m k → one ≡ whole (pos 1) → entry ≡ signed_by_side block.side one → entry ≡ block_sign m k
 sign_entry m k block one entry at is e = e ∙ ap₂ (λ (b : Block) (x : Fraction). signed_by_side b.side x) at is
 
-pub row_entry_is : (m : Parts) (r : Row) (k : ℕ) (block : Block) → block ≡ block_at m k → signed_by_side block.side (row_factor m r (unit_at m block.unit).bus) ≡ block_coefficient m r k
-row_entry_is m r k block at = ap (λ (b : Block). signed_by_side b.side (row_factor m r (unit_at m b.unit).bus)) at
-
--- the bus of a unit that was read
-pub unit_bus_is : (m : Parts) (u : ℕ) (read : unit.Unit) → IsMarket m → u < length m.units → read ≡ unit_at m u → read.bus < length m.buses
-unit_bus_is m u read market lt at = subst (λ (v : unit.Unit). v.bus < length m.buses) (sym at) (unit_bus-in m market u lt)
+pub row_entry_is : (m : Parts) (r : Row) (k : ℕ) (block : Block) → block ≡ block_at m k → signed_by_side block.side (unit_factor m r block.unit) ≡ block_coefficient m r k
+row_entry_is m r k block at = ap (λ (b : Block). signed_by_side b.side (unit_factor m r b.unit)) at
 
 -- ---- the names of blocks and of the balance
 pub places_distinct : (n : ℕ) → AllPairs (λ x y. x ≢ y) (places n)
@@ -71,7 +66,7 @@ rows_few m market =
     let counted : length (places (length m.lines)) ≡ length m.lines = length-range_with_len 0 (length m.lines) in
     Prim.omega (arith, long, few, counted, market.line_count) in
     let all : length (flat_map (rows_of m) (causes m)) ≤ length (causes m) * most_lines = flat_few (rows_of m) most_lines each (causes m) in
-    let causes_few : length (causes m) ≤ most_outages + 1 = Prim.omega (arith, market.outage_count, length-map m.outages (λ (row : ℕ). Branch (place_of_line m row))) in
+    let causes_few : length (causes m) ≤ most_outages + 1 = Prim.omega (arith, market.outage_count, length-map (lost_lines m) Branch, length-map m.outages (place_of_line m)) in
     let same : length (rows m) ≡ length (flat_map (rows_of m) (causes m)) = ap length (rows-causes m) in
     Prim.omega (arith, all, causes_few, same)
 

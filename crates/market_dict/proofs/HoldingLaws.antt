@@ -326,10 +326,7 @@ module _ {N : Type 0} (value_of : N → Fraction) (m : Parts) (g : List Row) (d 
   holds_posed = record {
     holds = posed;
     same = record {
-      variables = posed.same.variables;
-      columns = posed.same.columns;
-      rows = posed.same.rows;
-      coefficient = posed.same.coefficient;
+      same_rows = posed.same;
       price = price_same;
       low = λ w c. by_variable m (in_order m g) (λ (x : ℕ). (system_in e).low x ≡ (system_of m g).low x) low_is w (subst (λ (ws : List ℕ). Contains ws w) posed.same.variables c);
       high = λ w c. by_variable m (in_order m g) (λ (x : ℕ). (system_in e).high x ≡ (system_of m g).high x) high_is w (subst (λ (ws : List ℕ). Contains ws w) posed.same.variables c);
@@ -391,7 +388,7 @@ module _ (m : Parts) (g : List Row) (e : Dictionary) (holds : HoldsSystem m g e)
   shown_reduced w c = shows.prices w c ∙ same_reduced (system_in e) (system_of m g) holds.same (choice_of e) w
 
   named_here : (w : ℕ) → Contains (system_of m g).variables w → Contains e.names w
-  named_here w c = subst (λ (ws : List ℕ). Contains ws w) (sym holds.same.variables ∙ names_are e holds.holds.sound) c
+  named_here w c = subst (λ (ws : List ℕ). Contains ws w) (sym holds.same.same_rows.variables ∙ names_are e holds.holds.sound) c
 
   module _ (market : IsMarket m) where
     solved_at : IsSolved (system_in e) (state_of e) → IsSolved (system_of m g) (state_at (system_of m g) (choice_of e))

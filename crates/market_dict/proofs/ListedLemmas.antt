@@ -1,7 +1,7 @@
 -- Lists that are filled place by place.
-use Rattle.std.specs.Prelude.{◌≡◌, ℕ, ◌+◌, ◌<◌, ◌≤◌, List, [], ◌∷◌, ◌++◌, map, length, take, replicate, slice_index}
+use Rattle.std.specs.Prelude.{◌≡◌, ℕ, ◌+◌, ◌<◌, ◌≤◌, List, [], ◌∷◌, ◌++◌, map, length, take, slice_index}
 use Rattle.std.proofs.Common.{suc, arith, ap, ap₂, sym, ◌∙◌, refl}
-use Rattle.std.proofs.lemmas.List.{map-append, take_more, take_all, replicate-append-replicate}
+use Rattle.std.proofs.lemmas.List.{map-append, take_more, take_all}
 use Rattle.std.specs.List.{Contains}
 use Rattle.market_model.specs.Dispatch.{places}
 use Rattle.market_model.proofs.MorePlaces.{places_more}
@@ -22,13 +22,6 @@ names_filled value f names xs k x lt before here =
 
 pub names_all : {Y : Type 0} (f : ℕ → Y) (names : List ℕ) (k : ℕ) → length names ≤ k → map f (take k names) ≡ map f names
 names_all f names k h = ap (map f) (take_all k names h)
-
--- zeros
-pub replicate-more : {Y : Type 0} (n : ℕ) (y : Y) → replicate (n + 1) y ≡ replicate n y ++ y ∷ []
-replicate-more n y = sym (replicate-append-replicate n 1 y)
-
-pub replicate_filled : {N Y : Type 0} (value : N → Y) (y : Y) (xs : List N) (k : ℕ) (x : N) → map value xs ≡ replicate k y → value x ≡ y → map value (xs ++ x ∷ []) ≡ replicate (k + 1) y
-replicate_filled value y xs k x before here = map-pushed value xs (replicate k y) x y before here ∙ sym (replicate-more k y)
 
 -- functions that agree on the elements of a list
 pub map-members : {X Y : Type 0} (f g : X → Y) (xs : List X) → ((x : X) → Contains xs x → f x ≡ g x) → map f xs ≡ map g xs

@@ -5,8 +5,6 @@ use Rattle.std.proofs.lemmas.List.{map-append, get_or_append_left}
 use Rattle.std.proofs.lemmas.List.FromFn.{length-map-range_with_len, get_or-map-range_with_len}
 use Rattle.fraction_theory.specs.Fraction.{Fraction, whole, neg_ℚ, ◌+ℚ◌}
 use Rattle.fraction_theory.specs.Sums.{Plain, total}
-use Rattle.fraction_theory.proofs.FieldLaws.{ring_ℚ}
-use Rattle.fraction_theory.proofs.Ring.{neg_neg}
 use Rattle.exact_fraction.specs.declared.Op.TheVariants.{Plus}
 use Rattle.exact_fraction.specs.declared.Passed.{Passed}
 use Rattle.market_model.specs.declared.participants.Block.{Block}
@@ -54,8 +52,6 @@ module _ (m : Parts) (x : Dispatch) where
   balance_all k mw e is = is ∙ ap balance_to e
 
 -- ---- a buy's price
-pub twice : (x : Fraction) → x ≡ neg_ℚ (neg_ℚ x)
-twice x = sym (neg_neg ring_ℚ x)
 
 pub priced : (m : Parts) (k : ℕ) (block : Block) (price : Fraction) → block ≡ block_at m k → price ≡ neg_ℚ (signed_by_side block.side (whole block.price)) → price ≡ neg_ℚ (signed_by_side (block_at m k).side (whole (block_at m k).price))
 priced m k block price at e = e ∙ ap (λ (b : Block). neg_ℚ (signed_by_side b.side (whole b.price))) at

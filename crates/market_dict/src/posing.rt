@@ -1,13 +1,10 @@
 //! The prices and bounds of a market's blocks, of its balance and of the limits taken, in the order in which its dictionary has them.
 
-ghost use Rattle.std.specs.Prelude.{◌≡◌, pos, ◌≤ℤ◌, List, [], ◌∷◌, ◌++◌, length, map, replicate, All, Contains, IfOk, IfErr};
-ghost use Rattle.fraction_theory.specs.Fraction.{whole, neg_ℚ};
-ghost use Rattle.market_data.specs.Participants.{IsDatum};
-ghost use Rattle.market_model.specs.Dispatch.{zero, places, signed_by_side, empty, balance_terms};
+ghost use Rattle.std.specs.Prelude.{◌≡◌, List, [], ◌∷◌, ◌++◌, map, All, Contains, IfOk, IfErr};
+ghost use Rattle.market_model.specs.Dispatch.{empty, balance_terms};
 ghost use Rattle.market_model.specs.declared.limits.Row.{Row};
 ghost use Rattle.market_model.specs.LimitRows.{rows};
 ghost use Rattle.market_model.specs.NamedSums.{IsRefusedIn};
-ghost use Rattle.market_model.specs.Optimality.{block_value};
 ghost use Rattle.market_model.specs.Stops.{OnPassed};
 ghost use Rattle.market_model.specs.Valued.{passed_at};
 ghost use Rattle.market_system.specs.MarketSystem.{residual_demand as residual_demand_of, least_added, most_added};
@@ -16,11 +13,10 @@ ghost use Rattle.market_dict.specs.Holding.{prices as prices_of, lows, highs};
 ghost use Rattle.market_dict.specs.Refusals.{IsBoundsRefusal};
 ghost use Rattle.market_dict.specs.PricesAndBounds.{ArePricesAndBounds};
 
-use crate::entries::zeros;
 use exact_fraction::{Exact, Passed};
 use limit_rows::{limit_at, row_flow};
-use limit_screen::{flows, line_flows};
-use market_model::{Block, Market, Row, Side, Stop, datum};
+use limit_screen::{flows_made, line_flows};
+use market_model::{Market, Row, Stop, block_quantity, block_value, datum, zeros};
 use plain_list::{List, Memory};
 use simplex_core::Bounds;
 use std::alloc::Global;
@@ -36,25 +32,13 @@ pub struct PricesAndBounds<N> {
     pub base_flows: Vec<N>,
 }
 
-/// What a MW of a block is worth.
-fn block_price<N: Exact>(block: &Block) -> N
-    requires { IsDatum block.now.price }
-    ensures { N.value result ≡ neg_ℚ (signed_by_side block.now.side (whole block.now.price)) }
-{
-    let price: N = datum(block.price);
-    match block.side {
-        Side::Sell => price.neg(),
-        Side::Buy => price,
-    }
-}
-
 /// What a MW of each block is worth.
 fn block_prices<N: Exact>(alloc: Global, market: &Market) -> Result<List<N>, Memory>
     ensures { IfOk result (λ prices. map N.value prices ≡ prices_of market.now) }
 {
     let mut prices = List::new(alloc);
     for block in market.blocks().slice() {
-        prices.push(block_price(block))?;
+        prices.push(block_value(block))?;
     }
     Ok(prices)
 }
@@ -65,9 +49,7 @@ fn base_flows_of<N: Exact>(alloc: Global, market: &Market) -> Result<Vec<N>, Sto
     ensures cause { IfErr result (λ stop. OnPassed stop (λ p. IsFlowsRefusal market.now (empty market.now) N.bound (passed_at N.value p))) }
 {
     let nothing = zeros(alloc, market.blocks().len())?;
-    let mut base_flows = zeros(alloc, market.buses().len() + market.lines().len())?;
-    flows(market, &nothing, &mut base_flows)?;
-    Ok(base_flows)
+    flows_made(alloc, market, &nothing)
 }
 
 /// What the blocks have to raise the balance by: the opposite of what all buses put in where nothing is accepted.
@@ -83,15 +65,6 @@ fn residual_demand<N: Exact>(market: &Market, base_flows: &[N]) -> Result<N, Pas
     Ok(balance.neg())
 }
 
-/// All that a block has.
-#[tactic(auto, using(market_data::proofs::Data::datum_read))]
-fn quantity_of<N: Exact>(block: &Block) -> N
-    requires { pos 0 ≤ℤ block.now.quantity }
-    ensures { N.value result ≡ whole block.now.quantity }
-{
-    datum(block.quantity)
-}
-
 /// The bounds of the blocks and of the balance.
 fn first_bounds<N: Exact>(
     alloc: Global,
@@ -105,7 +78,7 @@ fn first_bounds<N: Exact>(
     let low: N = datum(0);
     let mut bounds = List::new(alloc);
     for block in market.blocks().slice() {
-        let high = quantity_of(block);
+        let high = block_quantity(block);
         bounds.push(Bounds { low, high })?;
     }
     bounds.push(Bounds {

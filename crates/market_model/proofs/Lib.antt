@@ -19,4 +19,5 @@ pub mod StopLemmas
 pub mod SumParts
 pub mod SumSteps
 pub mod TableLemmas
+pub mod UnitPrices
 pub mod WholeDispatch

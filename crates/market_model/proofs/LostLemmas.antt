@@ -15,8 +15,8 @@ use Rattle.market_model.specs.declared.participants.Line.{Line}
 use Rattle.market_model.specs.declared.participants.Parts.{Parts}
 use Rattle.market_model.specs.Changes.{line_with, with_limit}
 use Rattle.market_model.specs.Dispatch.{places, line_at}
-use Rattle.market_model.specs.LimitRows.{place_of_line}
-use Rattle.market_model.specs.LostLines.{lost_lines, factor_after, AreLostLines, IsOutageIndex}
+use Rattle.market_model.specs.LimitRows.{place_of_line, lost_lines}
+use Rattle.market_model.specs.LostLines.{factor_after, AreLostLines, IsOutageIndex}
 use Rattle.market_data.specs.Scales.{most_lines, most_outages}
 use Rattle.market_model.specs.Factors.{factor_in, IsTable}
 use Rattle.market_model.specs.Market.{IsMarket}

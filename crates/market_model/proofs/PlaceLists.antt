@@ -3,6 +3,7 @@ use Rattle.std.specs.Prelude.{◌≡◌, ◌⊎◌, ℕ, ◌+◌, ◌<◌, ◌�
 use Rattle.std.specs.List.{range_with_len}
 use Rattle.std.proofs.Common.{zero, suc, arith, inl, inr, ap, ap₂, sym, ◌∙◌, get_or, set}
 use Rattle.std.proofs.lemmas.Bool.{cases_lt}
+use Rattle.std.proofs.lemmas.List.FromFn.{get_or-map-range_with_len}
 use Rattle.std.proofs.lemmas.List.{get_or-map, get_or-set_same, get_or-set_other}
 use Rattle.fraction_theory.specs.Fraction.{Fraction, whole}
 use Rattle.market_model.specs.Dispatch.{places}
@@ -10,6 +11,10 @@ use Rattle.market_model.specs.Dispatch.{places}
 -- a number that was read by its place
 pub put_read : {N : Type 0} (value : N → Fraction) (xs : List N) (k : ℕ) (x : N) → k < length xs → x ≡ get_or xs k x → value x ≡ get_or (map value xs) k (whole (pos 0))
 put_read value xs k x h is = sym (get_or-map value xs k x (whole (pos 0)) h ∙ ap value (sym is))
+
+-- a list of what is so at each place, read
+pub filled_at : {Y : Type 0} (f : ℕ → Y) (ys : List Y) (n : ℕ) (d : Y) → ys ≡ map f (places n) → (k : ℕ) → k < n → get_or ys k d ≡ f k
+filled_at f ys n d all k lt = ap (λ (zs : List _). get_or zs k d) all ∙ get_or-map-range_with_len f 0 n k k d lt (Prim.omega arith)
 
 -- ---- lists by place
 pub put_more : {N Y : Type 0} (value : N → Y) (f : ℕ → Y) (out : List N) (i : ℕ) (x : N) → i < length out → ((k : ℕ) (d : N) → k < i → value (get_or out k d) ≡ f k) → value x ≡ f i

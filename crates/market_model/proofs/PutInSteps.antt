@@ -3,7 +3,6 @@ use Rattle.std.specs.Prelude.{◌≡◌, ◌⊎◌, ℕ, ◌+◌, ◌<◌, ◌�
 use Rattle.std.specs.List.{slice_get}
 use Rattle.std.proofs.Common.{arith, inl, inr, ap, ap₂, sym, subst, ◌∙◌, get_or, append_assoc, length-append}
 use Rattle.std.proofs.lemmas.Option.{get_or_from_slice_get}
-use Rattle.std.proofs.lemmas.List.FromFn.{get_or-map-range_with_len}
 use Rattle.std.proofs.lemmas.List.{get_or-map, get_or_append_left, take-append-le}
 use Rattle.fraction_theory.specs.Fraction.{Fraction, whole, neg_ℚ, ◌+ℚ◌, ◌-ℚ◌}
 use Rattle.fraction_theory.specs.Sums.{Term, Plain, term_value, total, prefix}
@@ -22,6 +21,7 @@ use Rattle.market_model.specs.Dispatch.{Dispatch, zero, places, bus_at, unit_at,
 use Rattle.market_model.specs.NamedSums.{SameSize, IsNextTerm, IsSumStep, IsRefusal, IsRefusedIn}
 use Rattle.market_model.specs.PutIn.{dispatch_of, put_in, AreInjections, IsDemandRefusal}
 use Rattle.market_model.proofs.MorePlaces.{total-filter_more}
+use Rattle.market_model.proofs.PlaceLists.{filled_at}
 use Rattle.market_model.proofs.SumSteps.{plus_at, minus_at, tested_at, behind}
 
 -- the accepted MW of a block, as a number
@@ -84,9 +84,7 @@ module _ (m : Parts) (bus : ℕ) where
 -- ---- what was put in
 module _ (m : Parts) (x : Dispatch) (fs : List Fraction) (puts : AreInjections m x fs) where
   pub put_is : (i : ℕ) → i < length m.buses → put_in fs i ≡ injection m x i
-  put_is i lt =
-      let e : 0 + i ≡ i = Prim.omega arith in
-      ap (λ (ys : List Fraction). get_or ys i (whole (pos 0))) puts ∙ get_or-map-range_with_len (injection m x) 0 (length m.buses) i i (whole (pos 0)) lt e
+  put_is = filled_at (injection m x) fs (length m.buses) (whole (pos 0)) puts
 
 -- steps of sums in front of more terms
 prefix-front : (k : ℕ) (ts us : List Term) → k ≤ length ts → prefix k (ts ++ us) ≡ prefix k ts

@@ -19,9 +19,13 @@ use Rattle.market_model.specs.Factors.{factor_in}
 abbrev pub place_of_line : Parts → ℕ → ℕ
 place_of_line m row = position_or_len (λ l. (line_at m l).row == row) (places (length m.lines))
 
+-- the lines that the outages lose, in the order in which these are listed
+abbrev pub lost_lines : Parts → List ℕ
+lost_lines m = map (place_of_line m) m.outages
+
 -- the causes under which lines have limits, in order: the base, then the outages as they are listed
 abbrev pub causes : Parts → List Cause
-causes m = Base ∷ map (λ row. Branch (place_of_line m row)) m.outages
+causes m = Base ∷ map Branch (lost_lines m)
 
 -- whether a line has a limit under a cause; it has none after its own outage
 abbrev pub bears : Parts → Cause → ℕ → Bool
@@ -31,9 +35,13 @@ bears m (Branch lost) l = not (l == lost) && is_some (line_at m l).post
 abbrev pub lines_of : Parts → Cause → List ℕ
 lines_of m cause = filter (bears m cause) (places (length m.lines))
 
+-- the rows that some lines have under a cause
+abbrev pub rows_among : Parts → Cause → List ℕ → List Row
+rows_among m cause lines = map (λ l. record { line = l; cause = cause }) (filter (bears m cause) lines)
+
 -- the rows under a cause, by line
 abbrev pub rows_of : Parts → Cause → List Row
-rows_of m cause = map (λ l. record { line = l; cause = cause }) (lines_of m cause)
+rows_of m cause = rows_among m cause (places (length m.lines))
 
 -- the rows of a market in order: those of each cause, in the order of the causes
 unfoldable pub rows : Parts → List Row
@@ -135,6 +143,11 @@ row_factor m r i = total (factor_terms m r i)
 abbrev pub unit_factor : Parts → Row → ℕ → Fraction
 unit_factor m r u = row_factor m r (unit_at m u).bus
 
--- ---- the flow at a dispatch
+-- ---- at a dispatch
+-- the flow of each line
+abbrev pub line_flows : Parts → Dispatch → List Fraction
+line_flows m x = map (line_flow m (injection m x)) (places (length m.lines))
+
+-- the flow of a row
 abbrev pub flow : Parts → Dispatch → Row → Fraction
 flow m x r = row_flow m (injection m x) r

@@ -1,14 +1,10 @@
 -- The lines that outages lose, by place, and what a market keeps of them beside its parts.
 -- Source: own.
-use Rattle.std.specs.Prelude.{◌≡◌, ℕ, ◌<◌, ℤ, List, length, map, slice_index_or, Option, Some, None}
+use Rattle.std.specs.Prelude.{◌≡◌, ℕ, ◌<◌, ℤ, List, length, slice_index_or, Option, Some, None}
 use Rattle.market_model.specs.declared.participants.Factor.{Factor}
 use Rattle.market_model.specs.declared.participants.Parts.{Parts}
 use Rattle.market_model.specs.Factors.{factor_in, IsTable}
-use Rattle.market_model.specs.LimitRows.{place_of_line}
-
--- the lines that the outages lose, in the order in which these are listed
-abbrev pub lost_lines : Parts → List ℕ
-lost_lines m = map (place_of_line m) m.outages
+use Rattle.market_model.specs.LimitRows.{lost_lines}
 
 -- for each of so many lines the place of its outage, where it is one of those that are lost
 pub record IsOutageIndex (lines : ℕ) (lost : List ℕ) (index : List (Option ℕ)) : Type 0 where

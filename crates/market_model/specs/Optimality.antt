@@ -20,11 +20,15 @@ pub record Within (most : Fraction) (f : Fraction) : Type 0 where
   pub above : neg_ℚ most ≤ℚ f
   pub below : f ≤ℚ most
 
+-- the flow f of each of these rows is at most so much on either side
+abbrev pub AreWithin : List Row → (Row → Fraction) → (Row → Fraction) → Type 0
+AreWithin g most f = (r : Row) → Contains g r → Within (most r) (f r)
+
 -- within the blocks' bounds, in balance, and within the limits of these rows
 pub record FeasibleFor (m : Parts) (g : List Row) (x : Dispatch) : Type 0 where
   pub blocks : IsDispatch m x
   pub balanced : balance m x ≡ zero
-  pub limits : (r : Row) → Contains g r → Within (most_flow m r) (flow m x r)
+  pub limits : AreWithin g (most_flow m) (flow m x)
 
 -- within the limits of all rows
 abbrev pub Feasible : Parts → Dispatch → Type 0

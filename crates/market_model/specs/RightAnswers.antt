@@ -1,20 +1,21 @@
 -- What an answer says, and when it is right for its market.
 use Rattle.std.specs.Prelude.{◌≡◌, ℕ, length, map, slice_index_or}
-use Rattle.fraction_theory.specs.Fraction.{Fraction}
+use Rattle.fraction_theory.specs.Fraction.{Fraction, ◌+ℚ◌}
 use Rattle.fraction_theory.specs.Sums.{total}
 use Rattle.market_model.specs.declared.participants.Parts.{Parts}
 use Rattle.market_model.specs.declared.answered.Answer.{Answer}
+use Rattle.market_model.specs.declared.answered.Dual.{Dual}
 use Rattle.market_model.specs.declared.answered.Duals.{Duals}
 use Rattle.market_model.specs.declared.answered.Load.{Load}
 use Rattle.market_model.specs.declared.answered.Money.{Money}
 use Rattle.market_model.specs.declared.answered.Price.{Price}
 use Rattle.market_model.specs.declared.answered.Rent.{Rent}
 use Rattle.market_model.specs.declared.answered.UnitPay.{UnitPay}
-use Rattle.market_model.specs.Dispatch.{Dispatch, zero, places, dispatch_by}
+use Rattle.market_model.specs.Dispatch.{Dispatch, zero, places, injection, dispatch_by}
 use Rattle.market_model.specs.declared.limits.Row.{Row}
-use Rattle.market_model.specs.LimitRows.{row_id, flow}
-use Rattle.market_model.specs.Optimality.{Feasible, Supports, ProperDuals, named_rows, welfare, congestion, bus_price}
-use Rattle.market_model.specs.Settlement.{pay_of_unit, pay_of_load, left_terms, rent}
+use Rattle.market_model.specs.LimitRows.{row_id, line_flow, flow_by}
+use Rattle.market_model.specs.Optimality.{Feasible, Supports, ProperDuals, named_rows, up_of, down_of, welfare, congestion, bus_price}
+use Rattle.market_model.specs.Settlement.{pay_of_unit, pay_of_load, left_terms, rent_terms_by}
 
 -- an answer's entries by place; one past the end stands for zeros
 abbrev pub mw_of : Answer Fraction → ℕ → Fraction
@@ -33,9 +34,13 @@ load_of a i = slice_index_or a.money.loads i (record { mw = zero; pays = zero })
 abbrev pub dispatch_in : Answer Fraction → Dispatch
 dispatch_in a = dispatch_by a.dispatch
 
--- what a row earns, with its flow
+-- the flow of a row where lines have flows f, and what its limit earns at the prices of a dual
+abbrev pub rent_by : Parts → (ℕ → Fraction) → Dual Fraction → Row → Rent Fraction
+rent_by m f e r = record { row = e.row; flow = flow_by m f r; rent = total (rent_terms_by m f r e.up e.down) }
+
+-- the same of a row at a dispatch and the prices that duals give it
 abbrev pub rent_of : Parts → Dispatch → Duals Fraction → Row → Rent Fraction
-rent_of m x d r = record { row = row_id m r; flow = flow m x r; rent = rent m x d r }
+rent_of m x d r = rent_by m (line_flow m (injection m x)) (record { row = row_id m r; up = up_of m d r; down = down_of m d r }) r
 
 -- the settlement of a dispatch at prices by bus: units and buses in their order, the rows that duals name in theirs, and what loads pay less
 -- what units are paid
@@ -47,9 +52,13 @@ settlement_at m x price d = record {
   surplus = total (left_terms m x price);
 }
 
--- the two parts of a price at a bus, and the price
+-- a price of its two parts
+abbrev pub price_of_parts : Fraction → Fraction → Price Fraction
+price_of_parts energy congestion = record { energy = energy; congestion = congestion; total = energy +ℚ congestion }
+
+-- the price at a bus, of its two parts
 abbrev pub price_made : Parts → Duals Fraction → ℕ → Price Fraction
-price_made m d i = record { energy = d.energy; congestion = congestion m d i; total = bus_price m d i }
+price_made m d i = price_of_parts d.energy (congestion m d i)
 
 -- a dispatch and duals, with the prices, the welfare and the settlement that they make
 abbrev pub answer_of : Parts → Dispatch → Duals Fraction → Answer Fraction

@@ -7,15 +7,19 @@ use Rattle.market_model.specs.declared.answered.Load.{Load}
 use Rattle.market_model.specs.declared.answered.UnitPay.{UnitPay}
 use Rattle.market_model.specs.declared.participants.Parts.{Parts}
 use Rattle.market_model.specs.declared.answered.Duals.{Duals}
-use Rattle.market_model.specs.Dispatch.{Dispatch, places, unit_at, output, demand}
+use Rattle.market_model.specs.Dispatch.{Dispatch, places, unit_at, injection, output, demand}
 use Rattle.market_model.specs.Optimality.{bus_price, up_of, down_of}
 use Rattle.market_model.specs.declared.limits.Row.{Row}
-use Rattle.market_model.specs.LimitRows.{flow, limit, row_offset}
+use Rattle.market_model.specs.LimitRows.{flow_by, limit, line_flow, row_offset}
 
 -- ---- at prices by bus
--- a unit's output, and its bus's price for that
+-- what a unit is paid for a MW: the price of its bus
+abbrev pub price_for_unit : Parts → (ℕ → Fraction) → ℕ → Fraction
+price_for_unit m price u = price (unit_at m u).bus
+
+-- a unit's output, and its price for that
 abbrev pub pay_of_unit : Parts → Dispatch → (ℕ → Fraction) → ℕ → UnitPay Fraction
-pay_of_unit m x price u = record { mw = output m x u; paid = price (unit_at m u).bus *ℚ output m x u }
+pay_of_unit m x price u = record { mw = output m x u; paid = price_for_unit m price u *ℚ output m x u }
 
 -- a bus's demand, and its price for that
 abbrev pub pay_of_load : Parts → (ℕ → Fraction) → ℕ → Load Fraction
@@ -25,7 +29,7 @@ pay_of_load m price i = record { mw = demand m i; pays = price i *ℚ demand m i
 abbrev pub left_terms : Parts → Dispatch → (ℕ → Fraction) → List Term
 left_terms m x price =
     map (λ i. Product (price i) (demand m i)) (places (length m.buses))
-    ++ map (λ u. Product (neg_ℚ (price (unit_at m u).bus)) (output m x u)) (places (length m.units))
+    ++ map (λ u. Product (neg_ℚ (price_for_unit m price u)) (output m x u)) (places (length m.units))
 
 -- ---- at the prices of duals
 -- what a unit is paid for its output
@@ -59,8 +63,13 @@ lower_terms size offset = Plain size ∷ Plain offset ∷ []
 abbrev pub earned_terms : Fraction → Fraction → Fraction → Fraction → List Term
 earned_terms up down size offset = Product up (size -ℚ offset) ∷ Product down (size +ℚ offset) ∷ []
 
+-- what the limit of a row earns at two prices, where lines have flows f
+abbrev pub rent_terms_by : Parts → (ℕ → Fraction) → Row → Fraction → Fraction → List Term
+rent_terms_by m f r up down = earned_terms up down (priced_flow m r (flow_by m f r)) (row_offset m r)
+
+-- the same at a dispatch and the prices of duals
 abbrev pub rent_terms : Parts → Dispatch → Duals Fraction → Row → List Term
-rent_terms m x d r = earned_terms (up_of m d r) (down_of m d r) (priced_flow m r (flow m x r)) (row_offset m r)
+rent_terms m x d r = rent_terms_by m (line_flow m (injection m x)) r (up_of m d r) (down_of m d r)
 
 unfoldable pub rent : Parts → Dispatch → Duals Fraction → Row → Fraction
 rent m x d r = total (rent_terms m x d r)

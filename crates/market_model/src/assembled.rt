@@ -41,8 +41,7 @@ impl Market {
     ghost use Rattle.market_model.specs.Changes.{with_price, with_quantity, with_demand, with_limit};
     ghost use Rattle.market_model.specs.Dispatch.{unit_at, block_at, line_at};
     ghost use Rattle.market_model.specs.Factors.{factor_in};
-    ghost use Rattle.market_model.specs.LimitRows.{place_of_line};
-    ghost use Rattle.market_model.specs.LostLines.{lost_lines};
+    ghost use Rattle.market_model.specs.LimitRows.{lost_lines, place_of_line};
     ghost use Rattle.market_model.specs.Market.{IsMarket};
     ghost use Rattle.market_model.specs.Stairs.{stair_in, offered, room_of};
 

@@ -4,6 +4,7 @@
 mod amounts;
 mod answered;
 mod assembled;
+mod blocks;
 mod factor_table;
 pub mod laws;
 mod limits;
@@ -12,11 +13,12 @@ mod participants;
 mod putting;
 mod stops;
 
-pub use amounts::datum;
+pub use amounts::{datum, zeros};
 pub use answered::{
     Answer, Dual, Duals, Farkas, Load, Money, Outcome, Price, Rent, RowId, UnitPay,
 };
 pub use assembled::{Market, assemble};
+pub use blocks::{block_price, block_quantity, block_value, by_side};
 pub use limits::{Cause, Row};
 pub use market_data::{Bus, MONEY_PLACES, MW_PLACES, PRICE_PLACES, Unit, UnitList};
 pub use participants::{Block, Factor, Line, Parts, Side};

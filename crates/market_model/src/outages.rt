@@ -1,8 +1,8 @@
 //! The lines that outages lose, by place.
 
 ghost use Rattle.std.specs.Prelude.{◌≡◌, ◌≢◌, ◌<◌, length, All, AllPairs, IfOk};
-ghost use Rattle.market_model.specs.LimitRows.{place_of_line};
-ghost use Rattle.market_model.specs.LostLines.{lost_lines, IsOutageIndex};
+ghost use Rattle.market_model.specs.LimitRows.{lost_lines, place_of_line};
+ghost use Rattle.market_model.specs.LostLines.{IsOutageIndex};
 
 use crate::Parts;
 use plain_list::{List, Memory};

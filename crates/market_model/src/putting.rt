@@ -12,7 +12,8 @@ ghost use Rattle.market_model.specs.SumTables.{IsRefusedAmong, InjectionSum};
 ghost use Rattle.market_model.specs.Valued.{passed_at};
 
 use crate::amounts::datum;
-use crate::{Block, Bus, Market, Side, Unit};
+use crate::blocks::by_side;
+use crate::{Block, Bus, Market, Unit};
 use exact_fraction::{Exact, Passed};
 
 /// A sum with the fixed part of a unit, where that counts.
@@ -36,12 +37,10 @@ fn with_block<N: Exact>(sum: N, block: &Block, belongs: bool, mw: N) -> Result<N
     ensures belongs { IfErr result (λ _. belongs ≡ true) }
     ensures cause { IfErr result (λ passed. IsRefusal Op.Plus (N.value sum) (signed_by_side block.now.side (N.value mw)) N.bound (passed_at N.value passed)) }
 {
-    if !belongs {
-        return Ok(sum);
-    }
-    match block.side {
-        Side::Sell => sum.plus(mw),
-        Side::Buy => sum.plus(mw.neg()),
+    if belongs {
+        sum.plus(by_side(block.side, mw))
+    } else {
+        Ok(sum)
     }
 }
 

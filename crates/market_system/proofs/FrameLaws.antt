@@ -57,7 +57,7 @@ module _ (m : Parts) where
       ap₂ (λ (p : ℕ → Bool) (n : ℕ). position_or_len p (places n)) (fun_ext (λ l. ap (λ (k : Line). k.row == row) (line_framed l))) line_count
 
   causes_framed : causes (frame m) ≡ causes m
-  causes_framed = ap (λ (f : ℕ → Cause). Base ∷ map f m.outages) (fun_ext (λ row. ap Branch (place_framed row)))
+  causes_framed = ap (λ (f : ℕ → ℕ). Base ∷ map Branch (map f m.outages)) (fun_ext place_framed)
 
   under_framed : (cause : Cause) → rows_of (frame m) cause ≡ rows_of m cause
   under_framed cause = ap₂ (λ (p : ℕ → Bool) (n : ℕ). map (λ l. record { line = l; cause = cause }) (filter p (places n))) (bears_framed cause) line_count

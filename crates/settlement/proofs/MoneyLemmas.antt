@@ -20,18 +20,19 @@ use Rattle.market_model.specs.declared.answered.Money.{Money}
 use Rattle.market_model.specs.declared.answered.Rent.{Rent}
 use Rattle.market_model.specs.declared.answered.UnitPay.{UnitPay}
 use Rattle.market_model.specs.declared.participants.Parts.{Parts}
-use Rattle.market_model.specs.Dispatch.{Dispatch, places, unit_at, output, demand}
+use Rattle.market_model.specs.Dispatch.{Dispatch, places, output, demand}
 use Rattle.market_model.specs.Laws.{HasOffsetsWithin}
 use Rattle.market_model.specs.declared.limits.Row.{Row}
 use Rattle.market_model.specs.LimitRows.{rows, row_id, limit, row_offset}
 use Rattle.market_model.specs.Market.{IsMarket}
 use Rattle.market_model.specs.NamedSums.{SameSize, term_at, IsNextTerm, IsSumStep, IsRefusal, IsRefusedIn}
-use Rattle.market_model.specs.Optimality.{bus_price, unit_price, names_row, named_rows}
+use Rattle.market_model.specs.Optimality.{bus_price, names_row, named_rows}
 use Rattle.market_model.specs.RightAnswers.{rent_of, settlement_at}
-use Rattle.market_model.specs.Settlement.{rent, surplus, pay_of_unit, pay_of_load, left_terms}
+use Rattle.market_model.specs.Settlement.{rent, surplus, pay_of_unit, pay_of_load, price_for_unit, left_terms}
 use Rattle.market_model.specs.Valued.{dual_at, duals_at, load_at, rent_at, unit_pay_at}
 use Rattle.market_model.proofs.Optimum.{law_of_the_surplus, law_of_its_sign}
 use Rattle.market_model.proofs.SumSteps.{plus_at, behind, in_front}
+use Rattle.market_model.proofs.UnitPrices.{at_unit, left_at}
 use Rattle.limit_rows.proofs.DualLemmas.{up_unnamed, down_unnamed, sum_named}
 use Rattle.market_model.proofs.PlaceLists.{map_same}
 use Rattle.settlement.specs.Laws.{LawOfRightMoney}
@@ -126,24 +127,24 @@ module _ {N : Type 0} (value : N → Fraction) (m : Parts) (x : Dispatch) (price
       ∙ map-map (pay_of_load m price) (λ (l : Load Fraction). l.pays) (places (length m.buses))
       ∙ sym (map-map (λ i. Product (price i) (demand m i)) term_value (places (length m.buses)))
 
-  unit_values : map term_value (map (λ (u : UnitPay N). Plain (neg_ℚ (value u.paid))) units) ≡ map term_value (map (λ u. Product (neg_ℚ (price (unit_at m u).bus)) (output m x u)) (places (length m.units)))
+  unit_values : map term_value (map (λ (u : UnitPay N). Plain (neg_ℚ (value u.paid))) units) ≡ map term_value (map (λ u. Product (neg_ℚ (price_for_unit m price u)) (output m x u)) (places (length m.units)))
   unit_values =
       map-map (λ (u : UnitPay N). Plain (neg_ℚ (value u.paid))) term_value units
       ∙ sym (map-map (unit_pay_at value) (λ (u : UnitPay Fraction). neg_ℚ u.paid) units)
       ∙ ap (map (λ (u : UnitPay Fraction). neg_ℚ u.paid)) unit_each
       ∙ map-map (pay_of_unit m x price) (λ (u : UnitPay Fraction). neg_ℚ u.paid) (places (length m.units))
-      ∙ map_same (λ u. neg_ℚ (price (unit_at m u).bus *ℚ output m x u)) (λ u. neg_ℚ (price (unit_at m u).bus) *ℚ output m x u) (length m.units)
-      (λ u lt. sym (neg_times ring_ℚ (price (unit_at m u).bus) (output m x u)))
-      ∙ sym (map-map (λ u. Product (neg_ℚ (price (unit_at m u).bus)) (output m x u)) term_value (places (length m.units)))
+      ∙ map_same (λ u. neg_ℚ (price_for_unit m price u *ℚ output m x u)) (λ u. neg_ℚ (price_for_unit m price u) *ℚ output m x u) (length m.units)
+      (λ u lt. sym (neg_times ring_ℚ (price_for_unit m price u) (output m x u)))
+      ∙ sym (map-map (λ u. Product (neg_ℚ (price_for_unit m price u)) (output m x u)) term_value (places (length m.units)))
 
   paid_is : map term_value (paid_terms value loads units) ≡ map term_value (left_terms m x price)
   paid_is =
       map-append term_value (map (λ (l : Load N). Plain (value l.pays)) loads) (map (λ (u : UnitPay N). Plain (neg_ℚ (value u.paid))) units)
       ∙ ap₂ ◌++◌ load_values unit_values
-      ∙ sym (map-append term_value (map (λ i. Product (price i) (demand m i)) (places (length m.buses))) (map (λ u. Product (neg_ℚ (price (unit_at m u).bus)) (output m x u)) (places (length m.units))))
+      ∙ sym (map-append term_value (map (λ i. Product (price i) (demand m i)) (places (length m.buses))) (map (λ u. Product (neg_ℚ (price_for_unit m price u)) (output m x u)) (places (length m.units))))
 
-  pub surplus_is : (s : Fraction) → s ≡ sum_by (λ (l : Load N). value l.pays) loads +ℚ sum_by (λ (u : UnitPay N). neg_ℚ (value u.paid)) units → s ≡ total (left_terms m x price)
-  surplus_is s e = e ∙ paid_total value loads units ∙ total-same (paid_terms value loads units) (left_terms m x price) paid_is
+  pub surplus_is : (s : Fraction) → s ≡ total (paid_terms value loads units) → s ≡ total (left_terms m x price)
+  surplus_is s e = e ∙ total-same (paid_terms value loads units) (left_terms m x price) paid_is
 
   pub surplus_refused : (bound : ℕ) (p : Passed Fraction) → IsRefusedIn (paid_terms value loads units) bound p → IsRefusedIn (left_terms m x price) bound p
   surplus_refused bound p h =
@@ -151,20 +152,12 @@ module _ {N : Type 0} (value : N → Fraction) (m : Parts) (x : Dispatch) (price
 
 -- ---- at the prices of duals
 module _ (m : Parts) (x : Dispatch) (price : ℕ → Fraction) (d : Duals Fraction) (market : IsMarket m) (priced : ArePricesOf m d price) where
-  at_unit : (u : ℕ) → u < length m.units → price (unit_at m u).bus ≡ unit_price m d u
-  at_unit u lt = priced (unit_at m u).bus (market.units u (record { row = 0; bus = 0; fixed = pos 0; up = pos 0; down = pos 0 }) lt).bus
-
   left_is_surplus : total (left_terms m x price) ≡ surplus m x d
   unfolding surplus
-  left_is_surplus =
-      ap total
-      (ap₂ ◌++◌
-      (map_same (λ i. Product (price i) (demand m i)) (λ i. Product (bus_price m d i) (demand m i)) (length m.buses) (λ i lt. ap (λ t. Product t (demand m i)) (priced i lt)))
-      (map_same (λ u. Product (neg_ℚ (price (unit_at m u).bus)) (output m x u)) (λ u. Product (neg_ℚ (unit_price m d u)) (output m x u)) (length m.units)
-      (λ u lt. ap (λ t. Product (neg_ℚ t) (output m x u)) (at_unit u lt))))
+  left_is_surplus = ap total (left_at m d price market priced x)
 
   units_same : map (pay_of_unit m x price) (places (length m.units)) ≡ map (pay_of_unit m x (bus_price m d)) (places (length m.units))
-  units_same = map_same (pay_of_unit m x price) (pay_of_unit m x (bus_price m d)) (length m.units) (λ u lt. ap (λ t. record { mw = output m x u; paid = t *ℚ output m x u }) (at_unit u lt))
+  units_same = map_same (pay_of_unit m x price) (pay_of_unit m x (bus_price m d)) (length m.units) (λ u lt. ap (λ t. record { mw = output m x u; paid = t *ℚ output m x u }) (at_unit m d price market priced u lt))
 
   loads_same : map (pay_of_load m price) (places (length m.buses)) ≡ map (pay_of_load m (bus_price m d)) (places (length m.buses))
   loads_same = map_same (pay_of_load m price) (pay_of_load m (bus_price m d)) (length m.buses) (λ i lt. ap (λ t. record { mw = demand m i; pays = t *ℚ demand m i }) (priced i lt))
@@ -188,6 +181,7 @@ module _ (m : Parts) (x : Dispatch) (d : Duals Fraction) where
       ∙ by_ring ring_ℚ (limit m r ∷ row_offset m r ∷ []) (padd (pmul pnil (padd (at 0) (pneg (at 1)))) (padd (pmul pnil (padd (at 0) (at 1))) pnil)) pnil refl
 
   rents_of_named : sum_by (rent m x d) (rows m) ≡ sum_by (λ (t : Rent Fraction). t.rent) (map (rent_of m x d) (named_rows m d))
+  unfolding rent
   rents_of_named = sum_named m d (rent m x d) (rows m) no_rent ∙ sym (sum_by-map (rent_of m x d) (λ (t : Rent Fraction). t.rent) (named_rows m d))
 
   module _ (price : ℕ → Fraction) (market : IsMarket m) (money : Money Fraction) (is : money ≡ settlement_at m x price d) (best : IsSupportedAt m x price d) where

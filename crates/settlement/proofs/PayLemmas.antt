@@ -15,7 +15,7 @@ use Rattle.market_model.specs.declared.answered.Price.{Price}
 use Rattle.market_model.specs.declared.answered.UnitPay.{UnitPay}
 use Rattle.market_model.specs.declared.participants.Block.{Block}
 use Rattle.market_model.specs.declared.participants.Parts.{Parts}
-use Rattle.market_model.specs.Dispatch.{Dispatch, zero, places, signed_by_side, block_at, unit_at, bus_at, accepted, output, output_terms, demand, demand_terms}
+use Rattle.market_model.specs.Dispatch.{Dispatch, zero, places, signed_by_side, block_at, bus_at, accepted, output, output_terms, demand, demand_terms}
 use Rattle.market_model.specs.NamedSums.{IsRefusedIn, IsRefusal}
 use Rattle.market_model.specs.Optimality.{block_value, welfare_terms}
 use Rattle.market_model.specs.Valued.{load_at, unit_pay_at}
@@ -23,7 +23,7 @@ use Rattle.market_model.proofs.MorePlaces.{total-places_more}
 use Rattle.market_model.proofs.SumSteps.{plus_at, multiplied_at, terms_at, behind, in_front}
 use Rattle.market_model.proofs.PutInSteps.{accepted_is}
 use Rattle.market_model.specs.PutIn.{dispatch_of}
-use Rattle.market_model.specs.Settlement.{pay_of_unit, pay_of_load, left_terms}
+use Rattle.market_model.specs.Settlement.{pay_of_unit, pay_of_load, price_for_unit, left_terms}
 use Rattle.market_model.specs.SumTables.{demand_of_bus, left_of_all, output_of_unit, paid_output, payment}
 use Rattle.settlement.specs.Paying.{total_at}
 use Rattle.settlement.specs.Refusals.{IsMoneyRefusal}
@@ -83,9 +83,9 @@ load_is value m price i bus t load at is mw pays =
     let d : value load.mw ≡ demand m i = mw ∙ demand_is m i bus at in
     same_load (value load.mw) (value load.pays) (demand m i) (price i *ℚ demand m i) d (pays ∙ ap₂ ◌*ℚ◌ is d)
 
-pub pay_is : {N : Type 0} (value : N → Fraction) (m : Parts) (x : Dispatch) (price : ℕ → Fraction) (u : ℕ) (t : Fraction) (pay : UnitPay N) → t ≡ price (unit_at m u).bus
+pub pay_is : {N : Type 0} (value : N → Fraction) (m : Parts) (x : Dispatch) (price : ℕ → Fraction) (u : ℕ) (t : Fraction) (pay : UnitPay N) → t ≡ price_for_unit m price u
     → value pay.mw ≡ output m x u → value pay.paid ≡ t *ℚ value pay.mw → unit_pay_at value pay ≡ pay_of_unit m x price u
-pay_is value m x price u t pay is mw paid = same_pay (value pay.mw) (value pay.paid) (output m x u) (price (unit_at m u).bus *ℚ output m x u) mw (paid ∙ ap₂ ◌*ℚ◌ is mw)
+pay_is value m x price u t pay is mw paid = same_pay (value pay.mw) (value pay.paid) (output m x u) (price_for_unit m price u *ℚ output m x u) mw (paid ∙ ap₂ ◌*ℚ◌ is mw)
 
 -- ---- refusals of loads and units
 module _ (m : Parts) (x : Dispatch) (price : ℕ → Fraction) (d : Duals Fraction) (bound : ℕ) (p : Passed Fraction) where
@@ -93,7 +93,7 @@ module _ (m : Parts) (x : Dispatch) (price : ℕ → Fraction) (d : Duals Fracti
   load_term i = Product (price i) (demand m i)
 
   abbrev unit_term : ℕ → Term
-  unit_term u = Product (neg_ℚ (price (unit_at m u).bus)) (output m x u)
+  unit_term u = Product (neg_ℚ (price_for_unit m price u)) (output m x u)
 
   pub load_refusal : (i : ℕ) (bus : Bus) (t : Fraction) → i < length m.buses → bus ≡ bus_at m i → t ≡ price i
       → IsRefusal Plus (whole bus.pd) (whole bus.gs) bound p ⊎ IsRefusal Times t (whole bus.pd +ℚ whole bus.gs) bound p → IsMoneyRefusal m x price d bound p
@@ -112,7 +112,7 @@ module _ (m : Parts) (x : Dispatch) (price : ℕ → Fraction) (d : Duals Fracti
             bound p t (whole bus.pd +ℚ whole bus.gs) (price i) (demand m i) refl (inl is) (inl (demand_is m i bus at)) h,
       )
 
-  pub unit_refusal : (u : ℕ) (t : Fraction) → u < length m.units → t ≡ price (unit_at m u).bus → IsRefusedIn (output_terms m x u) bound p ⊎ IsRefusal Times t (output m x u) bound p
+  pub unit_refusal : (u : ℕ) (t : Fraction) → u < length m.units → t ≡ price_for_unit m price u → IsRefusedIn (output_terms m x u) bound p ⊎ IsRefusal Times t (output m x u) bound p
       → IsMoneyRefusal m x price d bound p
   unit_refusal u t below is (inl h) = (output_terms m x u, paid_output _ (output_of_unit u below), h)
   unit_refusal u t below is (inr h) =
@@ -121,5 +121,5 @@ module _ (m : Parts) (x : Dispatch) (price : ℕ → Fraction) (d : Duals Fracti
         left_terms m x price,
         payment _ left_of_all,
         multiplied_at (left_terms m x price) (front ++ map unit_term (places u)) r.0 (unit_term u) (behind front (map unit_term (places (length m.units))) (map unit_term (places u)) r.0 (unit_term u) r.1)
-            bound p t (output m x u) (neg_ℚ (price (unit_at m u).bus)) (output m x u) refl (inr (is ∙ sym (neg_neg ring_ℚ (price (unit_at m u).bus)))) (inl refl) h,
+            bound p t (output m x u) (neg_ℚ (price_for_unit m price u)) (output m x u) refl (inr (is ∙ sym (neg_neg ring_ℚ (price_for_unit m price u)))) (inl refl) h,
       )

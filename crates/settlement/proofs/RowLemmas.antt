@@ -17,15 +17,14 @@ use Rattle.market_model.specs.declared.limits.Row.{Row}
 use Rattle.market_model.specs.LimitRows.{flow, flow_by, flow_terms, limit, line_flow, offset_terms, row_id, row_offset}
 use Rattle.market_model.specs.NamedSums.{IsRefusal, IsRefusedIn}
 use Rattle.market_model.specs.Optimality.{named_rows}
-use Rattle.market_model.specs.RightAnswers.{rent_of}
+use Rattle.market_model.specs.RightAnswers.{rent_by, rent_of}
 use Rattle.market_model.specs.Market.{IsMarket}
-use Rattle.market_model.specs.Settlement.{earned_terms, lower_terms, priced_flow, rent, rent_terms, upper_terms}
+use Rattle.market_model.specs.Settlement.{earned_terms, lower_terms, rent_terms, rent_terms_by, upper_terms}
 use Rattle.market_model.specs.SumTables.{IsRefusedAmong, rent_of_row, PaidRowSum, flow_after_outage, flow_of_row, offset_of_row, paid_offset, upper_of_row, lower_of_row, payment, paid_row}
 use Rattle.market_model.proofs.SumSteps.{minus_at, multiplied_at, plus_at}
 use Rattle.limit_rows.proofs.DualLemmas.{IsRowOfDual}
 use Rattle.limit_screen.proofs.ScreenLemmas.{row_terms}
 use Rattle.limit_screen.specs.Flows.{flows_at, line_in}
-use Rattle.settlement.specs.Paying.{earned_by}
 use Rattle.settlement.specs.Refusals.{IsMoneyRefusal}
 
 -- ---- what a limit earns with one price
@@ -58,7 +57,7 @@ module _ (e : Dual Fraction) (f o : Fraction) where
 -- the same for the limit of a row, of its flow where lines have flows f
 pub earning_refused : (m : Parts) (f : ℕ → Fraction) (e : Dual Fraction) (r : Row) (size offset : Fraction) (bound : ℕ) (p : Passed Fraction) → size ≡ limit m r → offset ≡ row_offset m r
     → IsRefusedIn (upper_terms size offset) bound p ⊎ IsRefusedIn (lower_terms size offset) bound p ⊎ IsRefusedIn (earned_terms e.up e.down size offset) bound p
-    → IsRefusedAmong (PaidRowSum m f r) bound p ⊎ IsRefusedIn (earned_terms e.up e.down (priced_flow m r (flow_by m f r)) (row_offset m r)) bound p
+    → IsRefusedAmong (PaidRowSum m f r) bound p ⊎ IsRefusedIn (rent_terms_by m f r e.up e.down) bound p
 earning_refused m f e r size offset bound p s o (inl a) = inl (upper_terms (limit m r) (row_offset m r), upper_of_row, subst₂ (λ u v. IsRefusedIn (upper_terms u v) bound p) s o a)
 earning_refused m f e r size offset bound p s o (inr (inl a)) = inl (lower_terms (limit m r) (row_offset m r), lower_of_row, subst₂ (λ u v. IsRefusedIn (lower_terms u v) bound p) s o a)
 earning_refused m f e r size offset bound p s o (inr (inr a)) = inr (subst₂ (λ u v. IsRefusedIn (earned_terms e.up e.down u v) bound p) s o a)
@@ -68,12 +67,10 @@ same_rent : (row row' : RowId) (f f' r r' : Fraction) → row ≡ row' → f ≡
 same_rent row row' f f' r r' a b c = Prim.rw a (Prim.rw b (Prim.rw c refl))
 
 module _ (m : Parts) (x : Dispatch) (flows : List Fraction) (are : flows ≡ flows_at m x) (d : Duals Fraction) (k : ℕ) (e : Dual Fraction) (r : Row) (h : IsRowOfDual m d k e r) (market : IsMarket m) where
-  pub earned_is : earned_by m (line_in m flows) e r ≡ rent_of m x d r
-  unfolding rent
-  earned_is =
-      same_rent e.row (row_id m r) (flow_by m (line_in m flows) r) (flow m x r) (total (earned_terms e.up e.down (limit m r) (row_offset m r))) (total (rent_terms m x d r)) (sym h.name)
-      (ap total (row_terms m x flows r market are h.row))
-      (ap₂ (λ u v. total (Product u (limit m r -ℚ row_offset m r) ∷ Product v (limit m r +ℚ row_offset m r) ∷ [])) (sym h.up) (sym h.down))
+  pub rent_is : rent_by m (line_in m flows) e r ≡ rent_of m x d r
+  rent_is =
+      same_rent e.row (row_id m r) (flow_by m (line_in m flows) r) (flow m x r) (total (rent_terms_by m (line_in m flows) r e.up e.down)) (total (rent_terms m x d r)) (sym h.name)
+      (ap total (row_terms m x flows r market are h.row)) (ap₂ (λ u v. total (rent_terms_by m (line_in m flows) r u v)) (sym h.up) (sym h.down))
 
   module _ (price : ℕ → Fraction) (bound : ℕ) (p : Passed Fraction) where
     named : Contains (named_rows m d) r
@@ -87,11 +84,11 @@ module _ (m : Parts) (x : Dispatch) (flows : List Fraction) (are : flows ≡ flo
     paid_row_same terms upper_of_row a = (upper_terms (limit m r) (row_offset m r), paid_row r _ named upper_of_row, a)
     paid_row_same terms lower_of_row a = (lower_terms (limit m r) (row_offset m r), paid_row r _ named lower_of_row, a)
 
-    pub row_refusal : IsRefusedAmong (PaidRowSum m (line_in m flows) r) bound p ⊎ IsRefusedIn (earned_terms e.up e.down (priced_flow m r (flow_by m (line_in m flows) r)) (row_offset m r)) bound p
+    pub row_refusal : IsRefusedAmong (PaidRowSum m (line_in m flows) r) bound p ⊎ IsRefusedIn (rent_terms_by m (line_in m flows) r e.up e.down) bound p
         → IsMoneyRefusal m x price d bound p
     row_refusal (inl (terms, sum, a)) = paid_row_same terms sum a
     row_refusal (inr a) = (
       rent_terms m x d r,
       payment _ (rent_of_row r named),
-      subst₂ (λ u v. IsRefusedIn (earned_terms u v (limit m r) (row_offset m r)) bound p) (sym h.up) (sym h.down) a,
+      subst₂ (λ u v. IsRefusedIn (rent_terms_by m (line_in m flows) r u v) bound p) (sym h.up) (sym h.down) a,
     )

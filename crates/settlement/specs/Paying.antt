@@ -2,18 +2,13 @@
 -- Schweppe and others, Spot Pricing of Electricity: the merchandising surplus.
 use Rattle.std.specs.Prelude.{◌≡◌, ℕ, ◌<◌, List, ◌++◌, length, map, slice_index_or}
 use Rattle.fraction_theory.specs.Fraction.{Fraction, neg_ℚ}
-use Rattle.fraction_theory.specs.Sums.{Term, Plain, total}
-use Rattle.market_model.specs.declared.answered.Dual.{Dual}
+use Rattle.fraction_theory.specs.Sums.{Term, Plain}
 use Rattle.market_model.specs.declared.answered.Duals.{Duals}
 use Rattle.market_model.specs.declared.answered.Load.{Load}
 use Rattle.market_model.specs.declared.answered.Price.{Price}
-use Rattle.market_model.specs.declared.answered.Rent.{Rent}
 use Rattle.market_model.specs.declared.answered.UnitPay.{UnitPay}
 use Rattle.market_model.specs.declared.participants.Parts.{Parts}
 use Rattle.market_model.specs.Dispatch.{Dispatch, zero}
-use Rattle.market_model.specs.declared.limits.Row.{Row}
-use Rattle.market_model.specs.LimitRows.{flow_by, row_offset}
-use Rattle.market_model.specs.Settlement.{earned_terms, priced_flow}
 use Rattle.market_model.specs.Optimality.{Feasible, Supports, bus_price}
 
 -- the whole price at a bus; 0 past the end
@@ -30,11 +25,6 @@ pub record IsSupportedAt (m : Parts) (x : Dispatch) (price : ℕ → Fraction) (
   pub feasible : Feasible m x
   pub supported : Supports m x d
 
--- ---- parts of it
--- the flow of a row where lines have flows f, and what its limit earns at the prices of a dual
-abbrev pub earned_by : Parts → (ℕ → Fraction) → Dual Fraction → Row → Rent Fraction
-earned_by m f e r = record { row = e.row; flow = flow_by m f r; rent = total (earned_terms e.up e.down (priced_flow m r (flow_by m f r)) (row_offset m r)) }
-
--- what loads pay, and the opposite of what units are paid
+-- what loads pay and the opposite of what units are paid, where both are made
 abbrev pub paid_terms : {N : Type 0} → (N → Fraction) → List (Load N) → List (UnitPay N) → List Term
 paid_terms value loads units = map (λ load. Plain (value load.pays)) loads ++ map (λ unit. Plain (neg_ℚ (value unit.paid))) units

@@ -2,14 +2,14 @@
 
 ghost use Rattle.std.specs.Prelude.{◌≡◌, ◌⊎◌, ◌+◌, ◌<◌, length, map, IfOk, IfErr};
 ghost use Rattle.fraction_theory.specs.Sums.{total};
-ghost use Rattle.market_model.specs.LimitRows.{IsCauseAmong, flow_by, row_offset as offset_of_row};
+ghost use Rattle.market_model.specs.LimitRows.{IsCauseAmong};
 ghost use Rattle.market_model.specs.NamedSums.{IsRefusedIn};
 ghost use Rattle.market_model.specs.Optimality.{IsOneSided};
-ghost use Rattle.market_model.specs.Settlement.{earned_terms, lower_terms, priced_flow, upper_terms};
+ghost use Rattle.market_model.specs.RightAnswers.{rent_by};
+ghost use Rattle.market_model.specs.Settlement.{earned_terms, lower_terms, rent_terms_by, upper_terms};
 ghost use Rattle.market_model.specs.SumTables.{IsRefusedAmong, PaidRowSum};
 ghost use Rattle.market_model.specs.Valued.{dual_at, passed_at, rent_at};
 ghost use Rattle.limit_screen.specs.Flows.{line_in};
-ghost use Rattle.settlement.specs.Paying.{earned_by};
 
 use exact_fraction::{Exact, Passed, Sign};
 use limit_rows::{limit_at, row_flow, row_offset};
@@ -48,9 +48,9 @@ pub fn row_rent<N: Exact>(
     requires lost { IsCauseAmong (length market.now.lines) row.cause }
     requires one_sided { IsOneSided (dual_at N.value dual.now) }
     requires flows { length flows.now ≡ length market.now.buses + length market.now.lines }
-    ensures rent { IfOk result (λ rent. rent_at N.value rent ≡ earned_by market.now (line_in market.now (map N.value flows.now)) (dual_at N.value dual.now) row) }
+    ensures rent { IfOk result (λ rent. rent_at N.value rent ≡ rent_by market.now (line_in market.now (map N.value flows.now)) (dual_at N.value dual.now) row) }
     ensures cause { let lines = line_in market.now (map N.value flows.now) in IfErr result (λ passed. IsRefusedAmong (PaidRowSum market.now lines row) N.bound (passed_at N.value passed)
-        ⊎ IsRefusedIn (earned_terms (N.value dual.now.up) (N.value dual.now.down) (priced_flow market.now row (flow_by market.now lines row)) (offset_of_row market.now row)) N.bound (passed_at N.value passed)) }
+        ⊎ IsRefusedIn (rent_terms_by market.now lines row (N.value dual.now.up) (N.value dual.now.down)) N.bound (passed_at N.value passed)) }
 {
     let flow = row_flow(market, line_flows(market, flows), row)?;
     let offset = row_offset(market, row)?;

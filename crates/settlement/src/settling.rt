@@ -1,19 +1,17 @@
 //! The settlement of a dispatch.
 
 ghost use Rattle.std.specs.Prelude.{◌≡◌, length, map, IfOk, IfErr};
-ghost use Rattle.fraction_theory.specs.Fraction.{neg_ℚ, ◌+ℚ◌};
 ghost use Rattle.fraction_theory.specs.Order.{◌≤ℚ◌};
-ghost use Rattle.fraction_theory.specs.Sums.{sum_by};
+ghost use Rattle.fraction_theory.specs.Sums.{sum_by, total};
 ghost use Rattle.market_model.specs.Dispatch.{zero};
 ghost use Rattle.market_model.specs.Fitting.{FitsMoney};
 ghost use Rattle.market_model.specs.Laws.{HasOffsetsWithin};
 ghost use Rattle.market_model.specs.NamedSums.{IsRefusedIn};
 ghost use Rattle.market_model.specs.Optimality.{ProperDuals};
-ghost use Rattle.market_model.specs.Stops.{OnPassed};
 ghost use Rattle.market_model.specs.Valued.{duals_at, money_at, passed_at};
 ghost use Rattle.market_model.specs.PutIn.{dispatch_of};
 ghost use Rattle.market_model.specs.RightAnswers.{settlement_at};
-ghost use Rattle.limit_screen.specs.Flows.{flows_at, IsFlowsRefusal};
+ghost use Rattle.limit_screen.specs.Flows.{flows_at};
 ghost use Rattle.settlement.specs.Paying.{total_at, paid_terms, IsSupportedAt};
 ghost use Rattle.settlement.specs.Refusals.{IsMoneyStop, IsSettlementStop};
 
@@ -21,13 +19,13 @@ use crate::loads::loads;
 use crate::rents::rents;
 use crate::units::unit_pays;
 use exact_fraction::{Exact, Passed};
-use limit_screen::flows;
+use limit_screen::flows_made;
 use market_model::{Duals, Load, Market, Money, Price, Stop, UnitPay, datum};
 use std::alloc::Global;
 
 /// What loads pay, in bus order, less what units are paid, in unit order.
 fn surplus<N: Exact>(loads: &[Load<N>], units: &[UnitPay<N>]) -> Result<N, Passed<N>>
-    ensures left { IfOk result (λ left. N.value left ≡ sum_by (λ load. N.value load.pays) loads.now +ℚ sum_by (λ unit. neg_ℚ (N.value unit.paid)) units.now) }
+    ensures left { IfOk result (λ left. N.value left ≡ total (paid_terms N.value loads.now units.now)) }
     ensures cause { IfErr result (λ passed. IsRefusedIn (paid_terms N.value loads.now units.now) N.bound (passed_at N.value passed)) }
 {
     let mut surplus: N = datum(0);
@@ -38,22 +36,6 @@ fn surplus<N: Exact>(loads: &[Load<N>], units: &[UnitPay<N>]) -> Result<N, Passe
         surplus = surplus.plus(unit.paid.neg())?;
     }
     Ok(surplus)
-}
-
-/// What each bus puts in at a dispatch, and then what each line carries.
-fn flows_made<N: Exact>(alloc: Global, market: &Market, dispatch: &[N]) -> Result<Vec<N>, Stop<N>>
-    requires { length dispatch.now ≡ length market.now.blocks }
-    ensures flows { IfOk result (λ flows. map N.value flows.items ≡ flows_at market.now (dispatch_of N.value dispatch.now)) }
-    ensures cause { IfErr result (λ stop. OnPassed stop (λ p. IsFlowsRefusal market.now (dispatch_of N.value dispatch.now) N.bound (passed_at N.value p))) }
-{
-    let none: N = datum(0);
-    let places = market.buses().len() + market.lines().len();
-    let mut by_place = match vec![in alloc; none; places] {
-        Ok(by_place) => by_place,
-        Err(_) => return Err(Stop::Memory),
-    };
-    flows(market, dispatch, &mut by_place)?;
-    Ok(by_place)
 }
 
 /// The settlement of a dispatch whose flows are known: what each bus puts in, and then what each line carries, as `limit_screen::flows`

@@ -8,7 +8,7 @@ ghost use Rattle.market_model.specs.Dispatch.{places, output as output_of, outpu
 ghost use Rattle.market_model.specs.NamedSums.{IsRefusal, IsRefusedIn};
 ghost use Rattle.market_model.specs.PutIn.{dispatch_of};
 ghost use Rattle.market_model.specs.Valued.{passed_at, unit_pay_at};
-ghost use Rattle.market_model.specs.Settlement.{pay_of_unit};
+ghost use Rattle.market_model.specs.Settlement.{pay_of_unit, price_for_unit};
 ghost use Rattle.settlement.specs.Paying.{total_at};
 ghost use Rattle.settlement.specs.Refusals.{IsMoneyStop};
 
@@ -16,7 +16,16 @@ use exact_fraction::{Exact, Passed};
 use market_model::{List, Market, Price, Stop, UnitPay, output};
 use std::alloc::Global;
 
-/// What a unit puts out, and what it is paid for that at its bus's price.
+/// What a unit is paid for a MW: the price of its bus.
+fn price_for<N: Exact>(market: &Market, place: usize, prices: &[Price<N>]) -> N
+    requires place { place < length market.now.units }
+    requires prices { length prices.now ≡ length market.now.buses }
+    ensures { N.value result ≡ price_for_unit market.now (total_at N.value prices.now) place }
+{
+    prices[market.units().at(place).bus].total
+}
+
+/// What a unit puts out, and what it is paid for that at its price.
 fn unit_pay<N: Exact>(
     market: &Market,
     place: usize,
@@ -48,8 +57,8 @@ pub fn unit_pays<N: Exact>(
     ensures pays { IfOk result (λ pays. map (unit_pay_at N.value) pays ≡ map (pay_of_unit market.now (dispatch_of N.value dispatch.now) (total_at N.value prices.now)) (places (length market.now.units))) }
 {
     let mut pays = List::new(alloc);
-    for (place, unit) in market.units().slice().iter().enumerate() {
-        let pay = unit_pay(market, place, dispatch, prices[unit.bus].total)?;
+    for place in 0..market.units().len() {
+        let pay = unit_pay(market, place, dispatch, price_for(market, place, prices))?;
         pays.push(pay)?;
     }
     Ok(pays)

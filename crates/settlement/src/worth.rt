@@ -11,26 +11,15 @@ ghost use Rattle.market_model.specs.Valued.{passed_at};
 ghost use Rattle.market_model.specs.PutIn.{dispatch_of};
 
 use exact_fraction::{Exact, Passed};
-use market_model::{Block, Market, Side, datum};
-
-/// What a MW is worth that is sold or bought at a price.
-fn worth_of_one<N: Exact>(side: Side, price: N) -> N
-    ensures { N.value result ≡ neg_ℚ (signed_by_side side (N.value price)) }
-{
-    match side {
-        Side::Sell => price.neg(),
-        Side::Buy => price,
-    }
-}
+use market_model::{Block, Market, block_value, datum};
 
 /// What the accepted MW of a block are worth: a buy's price for them, or the negative of a sell's.
-#[tactic(auto, using(market_data::proofs::Data::datum_read))]
 fn worth<N: Exact>(block: &Block, mw: N) -> Result<N, Passed<N>>
     requires { IsDatum block.now.price }
     ensures worth { IfOk result (λ worth. N.value worth ≡ neg_ℚ (signed_by_side block.now.side (whole block.now.price)) *ℚ N.value mw) }
     ensures cause { IfErr result (λ passed. IsRefusal Op.Times (neg_ℚ (signed_by_side block.now.side (whole block.now.price))) (N.value mw) N.bound (passed_at N.value passed)) }
 {
-    let value: N = worth_of_one(block.side, datum(block.price));
+    let value: N = block_value(block);
     value.times(mw)
 }
 

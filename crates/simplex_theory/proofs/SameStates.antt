@@ -39,7 +39,7 @@ module _ (s t : System) (same : SameSystem s t) where
   same_price_total h w =
       total-Product s.price (λ j. column_entry h j w) s.columns
       ∙ sum_by-members (λ j. s.price j *ℚ column_entry h j w) (λ j. t.price j *ℚ column_entry h j w) s.columns (λ j c. ap (λ x. x *ℚ column_entry h j w) (same.price j c))
-      ∙ ap (sum_by (λ j. t.price j *ℚ column_entry h j w)) same.columns
+      ∙ ap (sum_by (λ j. t.price j *ℚ column_entry h j w)) same.same_rows.columns
       ∙ sym (total-Product t.price (λ j. column_entry h j w) t.columns)
 
   -- and its reduced price
@@ -52,10 +52,10 @@ module _ (s t : System) (same : SameSystem s t) where
   unfolding objective
   same_objective v =
       sum_by-members (λ j. s.price j *ℚ v j) (λ j. t.price j *ℚ v j) s.columns (λ j c. ap (λ x. x *ℚ v j) (same.price j c))
-      ∙ ap (sum_by (λ j. t.price j *ℚ v j)) same.columns
+      ∙ ap (sum_by (λ j. t.price j *ℚ v j)) same.same_rows.columns
 
   back_to : (w : ℕ) → Contains t.variables w → Contains s.variables w
-  back_to w c = subst (λ (ws : List ℕ). Contains ws w) (sym same.variables) c
+  back_to w c = subst (λ (ws : List ℕ). Contains ws w) (sym same.same_rows.variables) c
 
   -- a point in the bounds of the one is in those of the other
   pub same_within : (v : ℕ → Fraction) → InBounds s v → InBounds t v

@@ -1,8 +1,5 @@
-use Rattle.std.proofs.Common.{◌≡◌, ◌<◌, ◌∙◌, ℤ, length, ap, ap₂, arith, w64}
-use Rattle.std.proofs.lemmas.Int.{to_z-of_z}
-use mir.Val.{to_z, of_z}
-use Rattle.fraction_theory.specs.Fraction.{over, ◌+ℚ◌, ◌*ℚ◌}
-use Rattle.market_data.specs.Scales.{factor_product_one}
+use Rattle.std.proofs.Common.{◌<◌, ◌∙◌, length, ap₂, arith}
+use Rattle.fraction_theory.specs.Fraction.{◌+ℚ◌, ◌*ℚ◌}
 use Rattle.market_model.specs.LimitRows.{row_factor}
 use Rattle.bus_prices.proofs.PriceLemmas.{part_put, read_congestion, read_energy, still_left}
 use Rattle.bus_prices.proofs.pricing.add_row.Goals as goal
@@ -14,13 +11,11 @@ loop-bus-preserved g c =
     let old = c.args.out.now in
     let inside : i < length c.loop-bus.out = omega (arith, c.loop-bus-test.true) in
     let was_inside : i < length old = omega (arith, inside, c.loop-bus.auto.out) in
-    let known : to_z w64 (of_z w64 c.factor_at.result) ≡ c.factor_at.result = to_z-of_z w64 c.factor_at.result (record { sfits = c.factor_at.type_inv }) in
-    let factor = ap (λ (z : ℤ). over z factor_product_one) known ∙ c.factor_at.ensures.is in
     record {
       done = λ energy before h.
           part_put value energy (λ bus. before bus +ℚ value c.args.price *ℚ row_factor c.args.market.now c.args.row bus) i c.loop-bus.out _ inside (c.loop-bus.invariant.done energy before h)
           (read_energy value energy before old c.loop-bus.out i c.index-out-bus.result was_inside h c.loop-bus.invariant.left)
           (c.in_ok-congestion.ensures.sum
-          ∙ ap₂ (λ u v. u +ℚ value c.args.price *ℚ v) (read_congestion value energy before old c.loop-bus.out i c.index-out-bus.result was_inside h c.loop-bus.invariant.left) factor);
+          ∙ ap₂ (λ u v. u +ℚ value c.args.price *ℚ v) (read_congestion value energy before old c.loop-bus.out i c.index-out-bus.result was_inside h c.loop-bus.invariant.left) c.row_factor.ensures);
       left = still_left old c.loop-bus.out i _ c.loop-bus.invariant.left;
     }

@@ -5,11 +5,11 @@ use Rattle.market_model.specs.Dispatch.{places}
 use Rattle.market_model.specs.declared.limits.Row.{Row}
 use Rattle.market_model.specs.LimitRows.{row_factor}
 use Rattle.market_model.specs.Optimality.{named_rows, price_terms, congestion_terms}
+use Rattle.market_model.specs.RightAnswers.{price_of_parts}
 use Rattle.market_model.specs.SumTables.{congestion_at, price_at as total_at, price_of_bus}
 use Rattle.market_model.specs.Valued.{dual_at, duals_at, passed_at}
 use Rattle.limit_rows.proofs.DualLemmas.{named_count, dual_one_sided, dual_row}
 use Rattle.bus_prices.proofs.PriceLemmas.{congestion_all, congestion_refused, congestion_step, congestion_to, made_of_parts, same_parts, total_refused}
-use Rattle.bus_prices.specs.PriceParts.{price_of_parts}
 use Rattle.bus_prices.proofs.pricing.prices.Goals as goal
 
 pub found_row-row-requires : goal.found_row-row-requires
@@ -62,7 +62,7 @@ returns-clause-prices g c =
     let all : length (named_rows m d) ≤ k = omega (arith, c.loop-dual-test.false, ap length c.slice-dual-items.ensures, count, length-map c.args.duals.now.limits (dual_at g.N.Exact.value)) in
     IfOk-weaker c.put_totals.result _ _
     (λ _ is.
-    is ∙ ap (λ (n : ℕ). map (price_of_parts d.energy (λ bus. congestion_to m d bus k)) (places n)) (c.loop-dual.auto.out ∙ c.put_energy.auto.out ∙ c.requires.out)
+    is ∙ ap (λ (n : ℕ). map (λ bus. price_of_parts d.energy (congestion_to m d bus k)) (places n)) (c.loop-dual.auto.out ∙ c.put_energy.auto.out ∙ c.requires.out)
     ∙ made_of_parts m d (λ bus. congestion_to m d bus k) (length m.buses) (λ bus. congestion_all m d bus k all))
     (c.put_totals.ensures.prices d.energy (λ bus. congestion_to m d bus k) c.loop-dual.invariant)
 

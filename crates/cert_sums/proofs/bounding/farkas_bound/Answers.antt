@@ -15,18 +15,18 @@ pub returns-in_err-by_bus-clause-cause : goal.returns-in_err-by_bus-clause-cause
 returns-in_err-by_bus-clause-cause g c =
     let m = c.args.market.now in
     let value = g.N.Exact.value in
-    let is = nothing_is value m c.slice.result.now c.in_ok-nothing.nothing _ c.slice.ensures c.in_ok-nothing.ensures (c.len.ensures ∙ ap length c.blocks-2.ensures.list) in
+    let is = nothing_is value m c.deref.result.now c.in_ok-nothing.nothing.items _ c.deref.ensures.value c.in_ok-nothing.ensures.zeros (c.len.ensures ∙ ap length c.blocks-2.ensures.list) in
     let given : c.from_residual-in_err-by_bus.result ≡ Err c.in_err-by_bus.field-0.0 = search rules in
     λ d energy are. rw given
-    (stopped_weaker value (IsRefusedAmong (InjectionSum m (dispatch_of value c.slice.result.now)) g.N.Exact.bound) (IsFarkasPair m d g.N.Exact.bound) c.in_err-by_bus.field-0.0
-    (λ p. injection_pair m d g.N.Exact.bound p (dispatch_of value c.slice.result.now) is) c.in_err-by_bus.ensures.cause)
+    (stopped_weaker value (IsRefusedAmong (InjectionSum m (dispatch_of value c.deref.result.now)) g.N.Exact.bound) (IsFarkasPair m d g.N.Exact.bound) c.in_err-by_bus.field-0.0
+    (λ p. injection_pair m d g.N.Exact.bound p (dispatch_of value c.deref.result.now) is) c.in_err-by_bus.ensures.cause)
 
 pub returns-in_err-by_line-clause-cause : goal.returns-in_err-by_line-clause-cause
 returns-in_err-by_line-clause-cause g c =
     let m = c.args.market.now in
     let value = g.N.Exact.value in
-    let is = nothing_is value m c.slice.result.now c.in_ok-nothing.nothing _ c.slice.ensures c.in_ok-nothing.ensures (c.len.ensures ∙ ap length c.blocks-2.ensures.list) in
-    let puts = subst (λ (x : Dispatch). AreInjections m x (map value c.deref.result.now)) is (ap (map value) c.deref.ensures.value ∙ c.in_ok-by_bus.ensures.injections) in
+    let is = nothing_is value m c.deref.result.now c.in_ok-nothing.nothing.items _ c.deref.ensures.value c.in_ok-nothing.ensures.zeros (c.len.ensures ∙ ap length c.blocks-2.ensures.list) in
+    let puts = subst (λ (x : Dispatch). AreInjections m x (map value c.deref-2.result.now)) is (ap (map value) c.deref-2.ensures.value ∙ c.in_ok-by_bus.ensures.injections) in
     let given : c.from_residual-in_err-by_line.result ≡ Err c.in_err-by_line.field-0.0 = search rules in
     λ d energy are. rw given
     (stopped_weaker value (IsRefusedAmong (LineFlowSum m (injection m (empty m))) g.N.Exact.bound) (IsFarkasPair m d g.N.Exact.bound) c.in_err-by_line.field-0.0
@@ -36,8 +36,8 @@ pub returns-in_err-all-clause-cause : goal.returns-in_err-all-clause-cause
 returns-in_err-all-clause-cause g c =
     let m = c.args.market.now in
     let value = g.N.Exact.value in
-    let is = nothing_is value m c.slice.result.now c.in_ok-nothing.nothing _ c.slice.ensures c.in_ok-nothing.ensures (c.len.ensures ∙ ap length c.blocks-2.ensures.list) in
-    let puts = subst (λ (x : Dispatch). AreInjections m x (map value c.deref-2.result.now)) is (ap (map value) c.deref-2.ensures.value ∙ c.in_ok-by_bus.ensures.injections) in
+    let is = nothing_is value m c.deref.result.now c.in_ok-nothing.nothing.items _ c.deref.ensures.value c.in_ok-nothing.ensures.zeros (c.len.ensures ∙ ap length c.blocks-2.ensures.list) in
+    let puts = subst (λ (x : Dispatch). AreInjections m x (map value c.deref-3.result.now)) is (ap (map value) c.deref-3.ensures.value ∙ c.in_ok-by_bus.ensures.injections) in
     let given : c.from_residual-in_err-all.result ≡ Err (why.Range c.in_err-all.field-0.0) = search rules in
     λ d energy are. rw given (balance_pair m d g.N.Exact.bound (passed_at value c.in_err-all.field-0.0) (c.in_err-all.ensures.cause (empty m) puts))
 
@@ -45,8 +45,8 @@ pub returns-in_err-of_energy-clause-cause : goal.returns-in_err-of_energy-clause
 returns-in_err-of_energy-clause-cause g c =
     let m = c.args.market.now in
     let value = g.N.Exact.value in
-    let is = nothing_is value m c.slice.result.now c.in_ok-nothing.nothing _ c.slice.ensures c.in_ok-nothing.ensures (c.len.ensures ∙ ap length c.blocks-2.ensures.list) in
-    let puts = subst (λ (x : Dispatch). AreInjections m x (map value c.deref-2.result.now)) is (ap (map value) c.deref-2.ensures.value ∙ c.in_ok-by_bus.ensures.injections) in
+    let is = nothing_is value m c.deref.result.now c.in_ok-nothing.nothing.items _ c.deref.ensures.value c.in_ok-nothing.ensures.zeros (c.len.ensures ∙ ap length c.blocks-2.ensures.list) in
+    let puts = subst (λ (x : Dispatch). AreInjections m x (map value c.deref-3.result.now)) is (ap (map value) c.deref-3.ensures.value ∙ c.in_ok-by_bus.ensures.injections) in
     let given : c.from_residual-in_err-of_energy.result ≡ Err (why.Range c.in_err-of_energy.field-0.0) = search rules in
     λ d energy are. rw given
     (energy_refused m d (value c.in_ok-all.all) g.N.Exact.bound (passed_at value c.in_err-of_energy.field-0.0) (c.in_ok-all.ensures.sum (empty m) puts)
@@ -56,10 +56,10 @@ pub returns-in_err-of_limits-clause-cause : goal.returns-in_err-of_limits-clause
 returns-in_err-of_limits-clause-cause g c =
     let m = c.args.market.now in
     let value = g.N.Exact.value in
-    let is = nothing_is value m c.slice.result.now c.in_ok-nothing.nothing _ c.slice.ensures c.in_ok-nothing.ensures (c.len.ensures ∙ ap length c.blocks-2.ensures.list) in
-    let puts = subst (λ (x : Dispatch). AreInjections m x (map value c.deref.result.now)) is (ap (map value) c.deref.ensures.value ∙ c.in_ok-by_bus.ensures.injections) in
-    let puts-2 = subst (λ (x : Dispatch). AreInjections m x (map value c.deref-2.result.now)) is (ap (map value) c.deref-2.ensures.value ∙ c.in_ok-by_bus.ensures.injections) in
-    let flows = ap (map value) c.deref-3.ensures.value ∙ c.in_ok-by_line.ensures.flows (empty m) puts in
+    let is = nothing_is value m c.deref.result.now c.in_ok-nothing.nothing.items _ c.deref.ensures.value c.in_ok-nothing.ensures.zeros (c.len.ensures ∙ ap length c.blocks-2.ensures.list) in
+    let puts = subst (λ (x : Dispatch). AreInjections m x (map value c.deref-2.result.now)) is (ap (map value) c.deref-2.ensures.value ∙ c.in_ok-by_bus.ensures.injections) in
+    let puts-2 = subst (λ (x : Dispatch). AreInjections m x (map value c.deref-3.result.now)) is (ap (map value) c.deref-3.ensures.value ∙ c.in_ok-by_bus.ensures.injections) in
+    let flows = ap (map value) c.deref-4.ensures.value ∙ c.in_ok-by_line.ensures.flows (empty m) puts in
     let given : c.from_residual-in_err-of_limits.result ≡ Err (why.Range c.in_err-of_limits.field-0.0) = search rules in
     λ d energy are. rw given (c.in_err-of_limits.ensures.cause d are flows (c.in_ok-of_energy.ensures.exact ∙ ap₂ ◌*ℚ◌ energy (c.in_ok-all.ensures.sum (empty m) puts-2)))
 
@@ -67,10 +67,10 @@ pub returns-in_err-with_blocks-clause-cause : goal.returns-in_err-with_blocks-cl
 returns-in_err-with_blocks-clause-cause g c =
     let m = c.args.market.now in
     let value = g.N.Exact.value in
-    let is = nothing_is value m c.slice.result.now c.in_ok-nothing.nothing _ c.slice.ensures c.in_ok-nothing.ensures (c.len.ensures ∙ ap length c.blocks-2.ensures.list) in
-    let puts = subst (λ (x : Dispatch). AreInjections m x (map value c.deref.result.now)) is (ap (map value) c.deref.ensures.value ∙ c.in_ok-by_bus.ensures.injections) in
-    let puts-2 = subst (λ (x : Dispatch). AreInjections m x (map value c.deref-2.result.now)) is (ap (map value) c.deref-2.ensures.value ∙ c.in_ok-by_bus.ensures.injections) in
-    let flows = ap (map value) c.deref-3.ensures.value ∙ c.in_ok-by_line.ensures.flows (empty m) puts in
+    let is = nothing_is value m c.deref.result.now c.in_ok-nothing.nothing.items _ c.deref.ensures.value c.in_ok-nothing.ensures.zeros (c.len.ensures ∙ ap length c.blocks-2.ensures.list) in
+    let puts = subst (λ (x : Dispatch). AreInjections m x (map value c.deref-2.result.now)) is (ap (map value) c.deref-2.ensures.value ∙ c.in_ok-by_bus.ensures.injections) in
+    let puts-2 = subst (λ (x : Dispatch). AreInjections m x (map value c.deref-3.result.now)) is (ap (map value) c.deref-3.ensures.value ∙ c.in_ok-by_bus.ensures.injections) in
+    let flows = ap (map value) c.deref-4.ensures.value ∙ c.in_ok-by_line.ensures.flows (empty m) puts in
     let given : c.from_residual-in_err-with_blocks.result ≡ Err (why.Range c.in_err-with_blocks.field-0.0) = search rules in
     λ d energy are. rw given
     (c.in_err-with_blocks.ensures.cause d energy are
@@ -80,10 +80,10 @@ pub returns-clause-bound : goal.returns-clause-bound
 returns-clause-bound g c =
     let m = c.args.market.now in
     let value = g.N.Exact.value in
-    let is = nothing_is value m c.slice.result.now c.in_ok-nothing.nothing _ c.slice.ensures c.in_ok-nothing.ensures (c.len.ensures ∙ ap length c.blocks-2.ensures.list) in
-    let puts = subst (λ (x : Dispatch). AreInjections m x (map value c.deref.result.now)) is (ap (map value) c.deref.ensures.value ∙ c.in_ok-by_bus.ensures.injections) in
-    let puts-2 = subst (λ (x : Dispatch). AreInjections m x (map value c.deref-2.result.now)) is (ap (map value) c.deref-2.ensures.value ∙ c.in_ok-by_bus.ensures.injections) in
-    let flows = ap (map value) c.deref-3.ensures.value ∙ c.in_ok-by_line.ensures.flows (empty m) puts in
+    let is = nothing_is value m c.deref.result.now c.in_ok-nothing.nothing.items _ c.deref.ensures.value c.in_ok-nothing.ensures.zeros (c.len.ensures ∙ ap length c.blocks-2.ensures.list) in
+    let puts = subst (λ (x : Dispatch). AreInjections m x (map value c.deref-2.result.now)) is (ap (map value) c.deref-2.ensures.value ∙ c.in_ok-by_bus.ensures.injections) in
+    let puts-2 = subst (λ (x : Dispatch). AreInjections m x (map value c.deref-3.result.now)) is (ap (map value) c.deref-3.ensures.value ∙ c.in_ok-by_bus.ensures.injections) in
+    let flows = ap (map value) c.deref-4.ensures.value ∙ c.in_ok-by_line.ensures.flows (empty m) puts in
     λ d energy are.
     c.in_ok-with_blocks.ensures.bound d energy are
     (c.in_ok-of_limits.ensures.sum d are flows (c.in_ok-of_energy.ensures.exact ∙ ap₂ ◌*ℚ◌ energy (c.in_ok-all.ensures.sum (empty m) puts-2)))

@@ -1,33 +1,28 @@
 use Rattle.std.proofs.Common.{rules, Err, ◌≡◌, ◌∙◌, ◌<◌, pos, ◌≤ℤ◌, ap, sym, subst, length, arith, List}
 use Rattle.std.specs.Prelude.{slice_index_or}
 use Rattle.fraction_theory.specs.Fraction.{whole}
-use Rattle.market_data.specs.declared.participants.Unit as unit
 use Rattle.market_model.specs.declared.participants.Block.{Block}
 use Rattle.market_model.specs.declared.participants.Side.TheVariants.{Sell}
 use Rattle.market_model.specs.Dispatch.{block_at, signed_by_side}
-use Rattle.market_model.specs.Optimality.{bus_price}
+use Rattle.market_model.specs.Optimality.{unit_price}
 use Rattle.market_model.specs.Valued.{passed_at}
-use Rattle.market_model.proofs.MarketSums.{block_bus-in}
-use Rattle.cert_sums.specs.Pairs.{in_price, of_empty}
 use Rattle.cert_sums.proofs.BoundLemmas.{blocks_none, blocks_all, block_step, block_refused}
-use Rattle.market_model.proofs.PutInSteps.{unit_read}
 use Rattle.cert_sums.proofs.bounding.with_blocks.Goals as goal
 
 pub loop-at-init : goal.loop-at-init
 loop-at-init g c = λ d energy are start. blocks_none c.args.market.now d (g.N.Exact.value c.args.of_limits) start
 
-pub bus_price-requires-clause-bus : goal.bus_price-requires-clause-bus
-bus_price-requires-clause-bus g c =
+pub unit_price-requires-clause-unit : goal.unit_price-requires-clause-unit
+unit_price-requires-clause-unit g c =
     let m = c.args.market.now in
     let k = c.loop-at.at in
+    let none : Block = record { unit = 0; side = Sell; quantity = pos 0; price = pos 0 } in
     let blocks = c.slice-block-items.ensures ∙ c.blocks-2.ensures.list in
-    let block = ap (λ (bs : List Block). slice_index_or bs k (record { unit = 0; side = Sell; quantity = pos 0; price = pos 0 })) blocks in
-    let u = unit_read m c.units.result.now _ (block_at m k).unit c.at.result.now c.units.ensures.list (ap (λ (b : Block). b.unit) block) c.at.ensures in
-    let below : k < length m.blocks = omega (arith, c.loop-at-test.true, ap length blocks) in
-    subst (λ (v : unit.Unit). v.bus < length m.buses) (sym u) (block_bus-in m c.units-units.ensures.market k below)
+    subst (λ (bs : List Block). (slice_index_or bs k (record { unit = 0; side = Sell; quantity = pos 0; price = pos 0 })).unit < length m.units) (sym blocks)
+    (c.units-units.ensures.market.blocks k none (omega (arith, c.loop-at-test.true, ap length blocks))).unit
 
-pub quantity_of-requires : goal.quantity_of-requires
-quantity_of-requires g c =
+pub block_quantity-requires : goal.block_quantity-requires
+block_quantity-requires g c =
     let m = c.args.market.now in
     let k = c.loop-at.at in
     let none : Block = record { unit = 0; side = Sell; quantity = pos 0; price = pos 0 } in
@@ -37,16 +32,8 @@ quantity_of-requires g c =
 
 pub returns-in_err-price-clause-cause : goal.returns-in_err-price-clause-cause
 returns-in_err-price-clause-cause g c =
-    let m = c.args.market.now in
-    let k = c.loop-at.at in
-    let blocks = c.slice-block-items.ensures ∙ c.blocks-2.ensures.list in
-    let block = ap (λ (bs : List Block). slice_index_or bs k (record { unit = 0; side = Sell; quantity = pos 0; price = pos 0 })) blocks in
-    let u = unit_read m c.units.result.now _ (block_at m k).unit c.at.result.now c.units.ensures.list (ap (λ (b : Block). b.unit) block) c.at.ensures in
-    let below : k < length m.blocks = omega (arith, c.loop-at-test.true, ap length blocks) in
-    let bus = subst (λ (v : unit.Unit). v.bus < length m.buses) (sym u) (block_bus-in m c.units-units.ensures.market k below) in
     let given : c.from_residual.result ≡ Err c.in_err-price.field-0.0 = search rules in
-    λ d energy are start. rw given
-    (of_empty (in_price (c.at.result.now.bus, bus, c.in_err-price.ensures.cause d energy are)))
+    λ d energy are start. rw given (c.in_err-price.ensures.cause d energy are)
 
 pub loop-at-preserved : goal.loop-at-preserved
 loop-at-preserved g c = λ d energy are start.
@@ -55,10 +42,9 @@ loop-at-preserved g c = λ d energy are start.
     let value = g.N.Exact.value in
     let blocks = c.slice-block-items.ensures ∙ c.blocks-2.ensures.list in
     let block = ap (λ (bs : List Block). slice_index_or bs k (record { unit = 0; side = Sell; quantity = pos 0; price = pos 0 })) blocks in
-    let u = unit_read m c.units.result.now _ (block_at m k).unit c.at.result.now c.units.ensures.list (ap (λ (b : Block). b.unit) block) c.at.ensures in
-    block_step m d k (value c.weight.result) _ (value c.loop-at.sum) _
-    (c.weight.ensures ∙ ap (λ (b : Block). signed_by_side b.side (value c.in_ok-price.price)) block ∙ ap (signed_by_side (block_at m k).side) (c.in_ok-price.ensures.price d energy are ∙ ap (λ (v : unit.Unit). bus_price m d v.bus) u))
-    (c.quantity_of.ensures ∙ ap (λ (b : Block). whole b.quantity) block) (c.loop-at.invariant d energy are start) c.in_ok-sum.ensures.sum
+    block_step m d k (value c.by_side.result) _ (value c.loop-at.sum) _
+    (c.by_side.ensures ∙ ap (λ (b : Block). signed_by_side b.side (value c.in_ok-price.price)) block ∙ ap (signed_by_side (block_at m k).side) (c.in_ok-price.ensures.price d energy are ∙ ap (λ (b : Block). unit_price m d b.unit) block))
+    (c.block_quantity.ensures ∙ ap (λ (b : Block). whole b.quantity) block) (c.loop-at.invariant d energy are start) c.in_ok-sum.ensures.sum
 
 pub returns-in_err-sum-clause-cause : goal.returns-in_err-sum-clause-cause
 returns-in_err-sum-clause-cause g c =
@@ -67,13 +53,12 @@ returns-in_err-sum-clause-cause g c =
     let value = g.N.Exact.value in
     let blocks = c.slice-block-items.ensures ∙ c.blocks-2.ensures.list in
     let block = ap (λ (bs : List Block). slice_index_or bs k (record { unit = 0; side = Sell; quantity = pos 0; price = pos 0 })) blocks in
-    let u = unit_read m c.units.result.now _ (block_at m k).unit c.at.result.now c.units.ensures.list (ap (λ (b : Block). b.unit) block) c.at.ensures in
     let below : k < length m.blocks = omega (arith, c.loop-at-test.true, ap length blocks) in
     let given : c.from_residual-in_err-sum.result ≡ Err c.in_err-sum.field-0.0 = search rules in
     λ d energy are start. rw given
-    (block_refused m d k (value c.weight.result) _ (value c.loop-at.sum) g.N.Exact.bound (passed_at value c.in_err-sum.field-0.0) below
-    (c.weight.ensures ∙ ap (λ (b : Block). signed_by_side b.side (value c.in_ok-price.price)) block ∙ ap (signed_by_side (block_at m k).side) (c.in_ok-price.ensures.price d energy are ∙ ap (λ (v : unit.Unit). bus_price m d v.bus) u))
-    (c.quantity_of.ensures ∙ ap (λ (b : Block). whole b.quantity) block) (c.loop-at.invariant d energy are start) c.in_err-sum.ensures.cause)
+    (block_refused m d k (value c.by_side.result) _ (value c.loop-at.sum) g.N.Exact.bound (passed_at value c.in_err-sum.field-0.0) below
+    (c.by_side.ensures ∙ ap (λ (b : Block). signed_by_side b.side (value c.in_ok-price.price)) block ∙ ap (signed_by_side (block_at m k).side) (c.in_ok-price.ensures.price d energy are ∙ ap (λ (b : Block). unit_price m d b.unit) block))
+    (c.block_quantity.ensures ∙ ap (λ (b : Block). whole b.quantity) block) (c.loop-at.invariant d energy are start) c.in_err-sum.ensures.cause)
 
 pub returns-clause-bound : goal.returns-clause-bound
 returns-clause-bound g c =

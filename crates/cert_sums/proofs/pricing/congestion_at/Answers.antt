@@ -1,9 +1,4 @@
-use Rattle.std.proofs.Common.{rules, Err, ◌≡◌, ◌∙◌, ℤ, pos, ap, arith, w64}
-use Rattle.std.proofs.lemmas.Int.{to_z-of_z}
-use mir.Val.{to_z, of_z}
-use Rattle.fraction_theory.specs.Fraction.{over}
-use Rattle.fraction_theory.proofs.FieldLaws.{over-one}
-use Rattle.market_data.specs.Scales.{factor_product_one}
+use Rattle.std.proofs.Common.{rules, Err, ◌≡◌, ◌∙◌, arith}
 use Rattle.market_model.specs.Valued.{passed_at}
 use Rattle.limit_rows.proofs.PlaceLemmas.{at_places}
 use Rattle.cert_sums.specs.Named.{priced_at}
@@ -11,17 +6,17 @@ use Rattle.cert_sums.proofs.NamedLemmas.{named_at, named_count, is_row, congesti
 use Rattle.cert_sums.proofs.pricing.congestion_at.Goals as goal
 
 pub loop-entry-init : goal.loop-entry-init
-loop-entry-init g c = λ d are. c.of_parts-sum.ensures ∙ over-one (pos 0)
+loop-entry-init g c = λ d are. c.datum-sum.ensures
 
-pub factor_at-requires-clause-line : goal.factor_at-requires-clause-line
-factor_at-requires-clause-line g c =
+pub row_factor-requires-clause-line : goal.row_factor-requires-clause-line
+row_factor-requires-clause-line g c =
     let m = c.args.market.now in
     let k = c.loop-entry.entry-index in
     let h = named_at g.N.Exact.value m c.requires.named.0 c.args.named.now c.requires.named.1 k c.entry-item.result c.loop-entry-test.true c.entry-item.is in
     (at_places m c.lines-lines.ensures.market c.entry-item.result.row (is_row m c.requires.named.0 k (priced_at g.N.Exact.value c.entry-item.result) h)).0
 
-pub factor_at-requires-clause-lost : goal.factor_at-requires-clause-lost
-factor_at-requires-clause-lost g c =
+pub row_factor-requires-clause-lost : goal.row_factor-requires-clause-lost
+row_factor-requires-clause-lost g c =
     let m = c.args.market.now in
     let k = c.loop-entry.entry-index in
     let h = named_at g.N.Exact.value m c.requires.named.0 c.args.named.now c.requires.named.1 k c.entry-item.result c.loop-entry-test.true c.entry-item.is in
@@ -31,9 +26,8 @@ pub loop-entry-preserved : goal.loop-entry-preserved
 loop-entry-preserved g c = λ d are.
     let m = c.args.market.now in
     let k = c.loop-entry.entry-index in
-    let known : to_z w64 (of_z w64 c.factor_at.result) ≡ c.factor_at.result = to_z-of_z w64 c.factor_at.result (record { sfits = c.factor_at.type_inv }) in
     congestion_step m d c.args.bus k (priced_at g.N.Exact.value c.entry-item.result) (named_at g.N.Exact.value m d c.args.named.now are k c.entry-item.result c.loop-entry-test.true c.entry-item.is)
-    _ (g.N.Exact.value c.loop-entry.sum) _ (ap (λ (z : ℤ). over z factor_product_one) known ∙ c.factor_at.ensures.is) (c.loop-entry.invariant d are) c.in_ok-sum.ensures.sum
+    _ (g.N.Exact.value c.loop-entry.sum) _ c.row_factor.ensures (c.loop-entry.invariant d are) c.in_ok-sum.ensures.sum
 
 pub returns-clause-sum : goal.returns-clause-sum
 returns-clause-sum g c = λ d are.
@@ -44,9 +38,8 @@ pub returns-in_err-sum-clause-cause : goal.returns-in_err-sum-clause-cause
 returns-in_err-sum-clause-cause g c =
     let m = c.args.market.now in
     let k = c.loop-entry.entry-index in
-    let known : to_z w64 (of_z w64 c.factor_at.result) ≡ c.factor_at.result = to_z-of_z w64 c.factor_at.result (record { sfits = c.factor_at.type_inv }) in
     let given : c.from_residual.result ≡ Err c.in_err-sum.field-0.0 = search rules in
     λ d are. rw given
     (congestion_refused m d c.args.bus k (priced_at g.N.Exact.value c.entry-item.result) (named_at g.N.Exact.value m d c.args.named.now are k c.entry-item.result c.loop-entry-test.true c.entry-item.is)
     _ (g.N.Exact.value c.loop-entry.sum) g.N.Exact.bound (passed_at g.N.Exact.value c.in_err-sum.field-0.0)
-    (ap (λ (z : ℤ). over z factor_product_one) known ∙ c.factor_at.ensures.is) (c.loop-entry.invariant d are) c.in_err-sum.ensures.cause)
+    c.row_factor.ensures (c.loop-entry.invariant d are) c.in_err-sum.ensures.cause)

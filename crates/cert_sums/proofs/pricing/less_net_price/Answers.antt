@@ -1,9 +1,10 @@
-use Rattle.std.proofs.Common.{ap, sym, ◌∙◌, w64}
-use Rattle.std.proofs.lemmas.Int.{to_z-of_z}
-use mir.Val.{to_z}
+use Rattle.std.proofs.Common.{rules, ◌≡◌, ◌∙◌, sym}
+use Rattle.fraction_theory.specs.declared.Sign.TheVariants.{Zero}
+use Rattle.fraction_theory.proofs.SignLaws.{sign_of_is}
 use Rattle.cert_sums.proofs.NamedLemmas.{no_net_price}
 use Rattle.cert_sums.proofs.pricing.less_net_price.Goals as goal
 
-pub returns-then-factor-eq0-clause-sum : goal.returns-then-factor-eq0-clause-sum
-returns-then-factor-eq0-clause-sum g c =
-    no_net_price (g.N.Exact.value c.args.sum) (g.N.Exact.value c.args.up) (g.N.Exact.value c.args.down) c.args.factor (sym (to_z-of_z w64 c.args.factor c.ranges.factor) ∙ ap (to_z w64) c.if-factor-eq0.true)
+pub returns-then-eq-clause-sum : goal.returns-then-eq-clause-sum
+returns-then-eq-clause-sum g c =
+    let zero : c.sign.result ≡ Zero = search rules in
+    no_net_price (g.N.Exact.value c.args.sum) (g.N.Exact.value c.args.up) (g.N.Exact.value c.args.down) (g.N.Exact.value c.args.factor) (sign_of_is (g.N.Exact.value c.args.factor) Zero (sym zero ∙ c.sign.ensures))

@@ -4,5 +4,5 @@ use Rattle.cert_sums.proofs.putting.injections.Goals as goal
 
 pub returns-in_err-injections-clause-cause : goal.returns-in_err-injections-clause-cause
 returns-in_err-injections-clause-cause g c =
-    let given : c.from_residual.result ≡ Err (why.Range c.in_err-injections.field-0.0) = search rules in
+    let given : c.from_residual-in_err-injections.result ≡ Err (why.Range c.in_err-injections.field-0.0) = search rules in
     rw given c.in_err-injections.ensures.cause

@@ -1,14 +1,44 @@
-use Rattle.std.proofs.Common.{◌≡◌, ◌<◌, ◌+◌, ◌∙◌, ℕ, ap, sym, length, map, arith}
-use Rattle.fraction_theory.specs.Fraction.{Fraction}
+use Rattle.std.proofs.Common.{◌≡◌, ◌<◌, ◌≤ℤ◌, ◌+◌, ◌∙◌, ℕ, List, ap, sym, subst, length, map, pos, arith}
+use Rattle.std.specs.Prelude.{slice_index_or}
+use Rattle.fraction_theory.specs.Fraction.{Fraction, whole}
+use Rattle.market_data.specs.Participants.{IsDatum}
 use Rattle.market_model.specs.declared.answered.Duals.{Duals}
-use Rattle.market_model.specs.Dispatch.{accepted, block_at, places, quantity}
+use Rattle.market_model.specs.declared.participants.Block.{Block}
+use Rattle.market_model.specs.declared.participants.Side.TheVariants.{Sell}
+use Rattle.market_model.specs.Dispatch.{accepted, block_at, places, quantity, zero}
 use Rattle.market_model.specs.Optimality.{bus_price, price, unit_price}
-use Rattle.market_model.specs.PutIn.{dispatch_of}
+use Rattle.market_model.specs.PutIn.{dispatch_of, put_in}
+use Rattle.market_model.specs.Settlement.{price_for_unit}
+use Rattle.market_model.proofs.MarketSums.{block_unit-in}
+use Rattle.market_model.proofs.PlaceLists.{filled_at, put_read}
+use Rattle.market_model.proofs.UnitPrices.{at_unit}
 use Rattle.cert_verify.specs.declared.verdicts.Reason.TheVariants as reason
 use Rattle.cert_verify.specs.Reasons.{is_unsupported}
 use Rattle.cert_verify.proofs.FindLemmas.{place_here, place_more}
-use Rattle.cert_verify.proofs.TestLemmas.{number_read, price_read, support_same}
+use Rattle.cert_verify.proofs.TestLemmas.{support_same}
 use Rattle.cert_verify.proofs.blocks.unsupported_block.Goals as goal
+
+pub unit_price-worth-requires-clause-unit : goal.unit_price-worth-requires-clause-unit
+unit_price-worth-requires-clause-unit g c =
+    let m = c.args.market.now in
+    let k = c.loop-at.at in
+    let none : Block = record { unit = 0; side = Sell; quantity = pos 0; price = pos 0 } in
+    let blocks = c.slice-block-items.ensures ∙ c.blocks-2.ensures.list in
+    subst (λ (bs : List Block). (slice_index_or bs k none).unit < length m.units) (sym blocks) (c.units-units.ensures.market.blocks k none (omega (arith, c.loop-at-test.true, ap length blocks))).unit
+
+pub block_price-requires : goal.block_price-requires
+block_price-requires g c =
+    let k = c.loop-at.at in
+    let none : Block = record { unit = 0; side = Sell; quantity = pos 0; price = pos 0 } in
+    let blocks = c.slice-block-items.ensures ∙ c.blocks-2.ensures.list in
+    subst (λ (bs : List Block). IsDatum (slice_index_or bs k none).price) (sym blocks) (c.units-units.ensures.market.blocks k none (omega (arith, c.loop-at-test.true, ap length blocks))).price
+
+pub block_quantity-requires : goal.block_quantity-requires
+block_quantity-requires g c =
+    let k = c.loop-at.at in
+    let none : Block = record { unit = 0; side = Sell; quantity = pos 0; price = pos 0 } in
+    let blocks = c.slice-block-items.ensures ∙ c.blocks-2.ensures.list in
+    subst (λ (bs : List Block). pos 0 ≤ℤ (slice_index_or bs k none).quantity) (sym blocks) (c.units-units.ensures.market.blocks k none (omega (arith, c.loop-at-test.true, ap length blocks))).quantity
 
 pub returns-then-breaks_support : goal.returns-then-breaks_support
 returns-then-breaks_support g c =
@@ -16,14 +46,16 @@ returns-then-breaks_support g c =
     let k = c.loop-at.at in
     let value = g.N.Exact.value in
     let x = dispatch_of value c.args.blocks.now in
-    let inside : k < length m.blocks = omega (arith, c.loop-at-test.true, c.len-at-end.ensures, ap length c.blocks-2.ensures.list) in
-    let place : c.bus_of.result < length m.buses = c.bus_of.ensures.within in
+    let blocks = c.slice-block-items.ensures ∙ c.blocks-2.ensures.list in
+    let read = ap (λ (bs : List Block). slice_index_or bs k (record { unit = 0; side = Sell; quantity = pos 0; price = pos 0 })) blocks in
+    let inside : k < length m.blocks = omega (arith, c.loop-at-test.true, ap length blocks) in
     let here = λ (d : Duals Fraction) (all : map value c.args.prices.now ≡ map (bus_price m d) (places (length m.buses))).
-    support_same c.side_of.result (block_at m k).side (value c.price_of.result) (price m k) (value c.index-prices-bus_of.result) (unit_price m d (block_at m k).unit) (value c.quantity_of.result) (quantity m k) (value c.index-blocks-at.result) (accepted x k)
-    c.side_of.ensures c.price_of.ensures
-    (price_read value (bus_price m d) c.args.prices.now (length m.buses) c.bus_of.result c.index-prices-bus_of.result all place (omega (arith, place, c.requires.prices)) c.index-prices-bus_of.is ∙ ap (bus_price m d) c.bus_of.ensures.is)
-    c.quantity_of.ensures
-    (number_read value c.args.blocks.now k c.index-blocks-at.result (omega (arith, inside, c.requires.blocks)) c.index-blocks-at.is) in
+    support_same _ (block_at m k).side (value c.block_price.result) (price m k) (value c.unit_price-worth.result) (unit_price m d (block_at m k).unit) (value c.block_quantity.result) (quantity m k) (value c.index-blocks-at.result) (accepted x k)
+    (ap (λ (b : Block). b.side) read) (c.block_price.ensures ∙ ap (λ (b : Block). whole b.price) read)
+    (c.unit_price-worth.ensures ∙ ap (λ (b : Block). price_for_unit m (put_in (map value c.args.prices.now)) b.unit) read
+    ∙ at_unit m d (put_in (map value c.args.prices.now)) c.units-units.ensures.market (filled_at (bus_price m d) (map value c.args.prices.now) (length m.buses) zero all) (block_at m k).unit (block_unit-in m c.units-units.ensures.market k inside))
+    (c.block_quantity.ensures ∙ ap (λ (b : Block). whole b.quantity) read)
+    (put_read value c.args.blocks.now k c.index-blocks-at.result (omega (arith, inside, c.requires.blocks)) c.index-blocks-at.is) in
     λ d all. place_here (λ (j : ℕ). reason.Support (j + 1)) (is_unsupported m x d) (length m.blocks) k (c.loop-at.invariant d all) inside (sym (here d all) ∙ sym c.breaks_support.ensures ∙ c.if-breaks_support.true)
 
 pub loop-at-preserved : goal.loop-at-preserved
@@ -32,12 +64,14 @@ loop-at-preserved g c =
     let k = c.loop-at.at in
     let value = g.N.Exact.value in
     let x = dispatch_of value c.args.blocks.now in
-    let inside : k < length m.blocks = omega (arith, c.loop-at-test.true, c.len-at-end.ensures, ap length c.blocks-2.ensures.list) in
-    let place : c.bus_of.result < length m.buses = c.bus_of.ensures.within in
+    let blocks = c.slice-block-items.ensures ∙ c.blocks-2.ensures.list in
+    let read = ap (λ (bs : List Block). slice_index_or bs k (record { unit = 0; side = Sell; quantity = pos 0; price = pos 0 })) blocks in
+    let inside : k < length m.blocks = omega (arith, c.loop-at-test.true, ap length blocks) in
     let here = λ (d : Duals Fraction) (all : map value c.args.prices.now ≡ map (bus_price m d) (places (length m.buses))).
-    support_same c.side_of.result (block_at m k).side (value c.price_of.result) (price m k) (value c.index-prices-bus_of.result) (unit_price m d (block_at m k).unit) (value c.quantity_of.result) (quantity m k) (value c.index-blocks-at.result) (accepted x k)
-    c.side_of.ensures c.price_of.ensures
-    (price_read value (bus_price m d) c.args.prices.now (length m.buses) c.bus_of.result c.index-prices-bus_of.result all place (omega (arith, place, c.requires.prices)) c.index-prices-bus_of.is ∙ ap (bus_price m d) c.bus_of.ensures.is)
-    c.quantity_of.ensures
-    (number_read value c.args.blocks.now k c.index-blocks-at.result (omega (arith, inside, c.requires.blocks)) c.index-blocks-at.is) in
+    support_same _ (block_at m k).side (value c.block_price.result) (price m k) (value c.unit_price-worth.result) (unit_price m d (block_at m k).unit) (value c.block_quantity.result) (quantity m k) (value c.index-blocks-at.result) (accepted x k)
+    (ap (λ (b : Block). b.side) read) (c.block_price.ensures ∙ ap (λ (b : Block). whole b.price) read)
+    (c.unit_price-worth.ensures ∙ ap (λ (b : Block). price_for_unit m (put_in (map value c.args.prices.now)) b.unit) read
+    ∙ at_unit m d (put_in (map value c.args.prices.now)) c.units-units.ensures.market (filled_at (bus_price m d) (map value c.args.prices.now) (length m.buses) zero all) (block_at m k).unit (block_unit-in m c.units-units.ensures.market k inside))
+    (c.block_quantity.ensures ∙ ap (λ (b : Block). whole b.quantity) read)
+    (put_read value c.args.blocks.now k c.index-blocks-at.result (omega (arith, inside, c.requires.blocks)) c.index-blocks-at.is) in
     λ d all. place_more (λ (j : ℕ). reason.Support (j + 1)) (is_unsupported m x d) k (c.loop-at.invariant d all) (sym (here d all) ∙ sym c.breaks_support.ensures ∙ c.if-breaks_support.false)

@@ -1,4 +1,4 @@
-use Rattle.std.proofs.Common.{◌≡◌, ◌∙◌, ap, length, map}
+use Rattle.std.proofs.Common.{◌∙◌, ap, length, map}
 use Rattle.market_model.specs.Valued.{price_at}
 use Rattle.plain_list.proofs.WrittenItems.{all_written}
 use Rattle.clear_loop.proofs.answering.bus_prices.Goals as goal

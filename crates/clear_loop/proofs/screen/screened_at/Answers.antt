@@ -1,5 +1,5 @@
-use Rattle.std.proofs.lemmas.Grind.{common_steps}
-use Rattle.std.proofs.Common.{arith, Err, inl, inr, ap, sym, subst, ◌∙◌, ◌≡◌, ℕ, map}
+use Rattle.std.proofs.lemmas.List.{length-map}
+use Rattle.std.proofs.Common.{rules, Err, inl, inr, ap, sym, subst, ◌∙◌, ◌≡◌, ℕ, map}
 use Rattle.std.specs.Prelude.{List, MatchOption, Option}
 use Rattle.std.proofs.lemmas.Result.{err_from_is_err_and}
 use Rattle.fraction_theory.specs.Fraction.{Fraction}
@@ -8,24 +8,34 @@ use Rattle.market_model.specs.LimitRows.{flow_by}
 use Rattle.market_model.specs.Overrun.{IsWorst}
 use Rattle.market_model.specs.Valued.{passed_at}
 use Rattle.market_model.specs.PutIn.{dispatch_of}
-use Rattle.limit_screen.specs.Flows.{flows_at, line_in}
+use Rattle.market_model.proofs.StopLemmas.{on_passed_weaker}
+use Rattle.limit_screen.specs.Flows.{flows_at, line_in, IsFlowsRefusal}
 use Rattle.limit_screen.specs.Screening.{AllHold, IsScreenRefusal}
 use Rattle.market_model.specs.declared.stops.Stop.TheVariants as stop
+use Rattle.limit_screen.proofs.ScreenLemmas.{flow_count}
 use Rattle.clear_loop.proofs.BrokenLemmas.{all_within, worst_at}
 use Rattle.clear_loop.proofs.screen.screened_at.Goals as goal
 
-pub returns-in_err-flows-clause-cause : goal.returns-in_err-flows-clause-cause
-returns-in_err-flows-clause-cause g c =
-    let p = err_from_is_err_and c.from_residual.result c.from_residual.ensures.1 in
-    let given : c.from_residual.result ≡ Err (stop.Passed c.in_err-flows.field-0.0) = p.1 ∙ ap Err p.2 in
-    rw given (inl c.in_err-flows.ensures.cause)
+pub returns-in_err-by_place-clause-cause : goal.returns-in_err-by_place-clause-cause
+returns-in_err-by_place-clause-cause g c =
+    let value = g.N.Exact.value in
+    let given : c.from_residual.result ≡ Err c.in_err-by_place.field-0.0 = search rules in
+    rw given
+    (on_passed_weaker c.in_err-by_place.field-0.0 (λ p. IsFlowsRefusal c.args.market.now (dispatch_of value c.args.dispatch.now) g.N.Exact.bound (passed_at value p)) _ (λ p refused. inl refused) c.in_err-by_place.ensures.cause)
+
+pub worst_row-requires : goal.worst_row-requires
+worst_row-requires g c =
+    let value = g.N.Exact.value in
+    let m = c.args.market.now in
+    let x = dispatch_of value c.args.dispatch.now in
+    let fs : map value c.deref.result.now ≡ flows_at m x = ap (map value) c.deref.ensures.value ∙ c.in_ok-by_place.ensures.flows in
+    sym (length-map c.deref.result.now value) ∙ flow_count m x (map value c.deref.result.now) fs
 
 pub returns-in_err-row-clause-cause : goal.returns-in_err-row-clause-cause
 returns-in_err-row-clause-cause g c =
     let value = g.N.Exact.value in
     let m = c.args.market.now in
-    let same : c.deref.result.now ≡ c.flows.new.out = grind (arith, common_steps) in
-    let fs : map value c.deref.result.now ≡ flows_at m (dispatch_of value c.args.dispatch.now) = ap (map value) same ∙ c.in_ok-flows.ensures.flows in
+    let fs : map value c.deref.result.now ≡ flows_at m (dispatch_of value c.args.dispatch.now) = ap (map value) c.deref.ensures.value ∙ c.in_ok-by_place.ensures.flows in
     let p = err_from_is_err_and c.from_residual-in_err-row.result c.from_residual-in_err-row.ensures.1 in
     let given : c.from_residual-in_err-row.result ≡ Err (stop.Passed c.in_err-row.field-0.0) = p.1 ∙ ap Err p.2 in
     rw given (inr (subst (λ (ys : List Fraction). IsScreenRefusal m (line_in m ys) g.N.Exact.bound (passed_at value c.in_err-row.field-0.0)) fs c.in_err-row.ensures.cause))
@@ -35,8 +45,7 @@ returns-in-Some-clause-screened g c =
     let value = g.N.Exact.value in
     let m = c.args.market.now in
     let x = dispatch_of value c.args.dispatch.now in
-    let same : c.deref.result.now ≡ c.flows.new.out = grind (arith, common_steps) in
-    let fs : map value c.deref.result.now ≡ flows_at m x = ap (map value) same ∙ c.in_ok-flows.ensures.flows in
+    let fs : map value c.deref.result.now ≡ flows_at m x = ap (map value) c.deref.ensures.value ∙ c.in_ok-by_place.ensures.flows in
     let f = line_in m (map value c.deref.result.now) in
     let worst = subst (λ (o : Option Row). MatchOption o (AllHold m f) (λ row. (place : ℕ) × IsWorst m (flow_by m f) place row)) c.in-Some.is c.in_ok-row.ensures.worst in
     (worst.0, worst_at m c.lines-lines.ensures.market x (map value c.deref.result.now) fs worst.0 c.in-Some.row worst.1)
@@ -46,8 +55,7 @@ returns-in-None-clause-screened g c =
     let value = g.N.Exact.value in
     let m = c.args.market.now in
     let x = dispatch_of value c.args.dispatch.now in
-    let same : c.deref.result.now ≡ c.flows.new.out = grind (arith, common_steps) in
-    let fs : map value c.deref.result.now ≡ flows_at m x = ap (map value) same ∙ c.in_ok-flows.ensures.flows in
+    let fs : map value c.deref.result.now ≡ flows_at m x = ap (map value) c.deref.ensures.value ∙ c.in_ok-by_place.ensures.flows in
     let f = line_in m (map value c.deref.result.now) in
     let hold = subst (λ (o : Option Row). MatchOption o (AllHold m f) (λ row. (place : ℕ) × IsWorst m (flow_by m f) place row)) c.in-None.is c.in_ok-row.ensures.worst in
     (all_within m c.lines-lines.ensures.market x (map value c.deref.result.now) fs hold, ap (map value) (sym c.deref.ensures.value) ∙ fs)

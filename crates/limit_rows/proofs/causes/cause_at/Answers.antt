@@ -1,5 +1,5 @@
 use Rattle.std.proofs.Common.{◌≡◌, ◌-◌, Some, slice_get}
-use Rattle.market_model.specs.LostLines.{lost_lines}
+use Rattle.market_model.specs.LimitRows.{lost_lines}
 use Rattle.limit_rows.proofs.GroupLemmas.{cause_behind, lost_line-inside}
 use Rattle.limit_rows.proofs.causes.cause_at.Goals as goal
 

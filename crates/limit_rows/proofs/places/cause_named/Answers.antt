@@ -3,8 +3,7 @@ use Rattle.std.specs.Prelude.{Contains}
 use Rattle.market_model.specs.Dispatch.{line_at}
 use Rattle.market_model.proofs.ChangeLemmas.{same_default}
 use Rattle.market_model.specs.declared.limits.Cause.TheVariants.{Branch}
-use Rattle.market_model.specs.LimitRows.{causes, place_of_line}
-use Rattle.market_model.specs.LostLines.{lost_lines}
+use Rattle.market_model.specs.LimitRows.{causes, lost_lines, place_of_line}
 use Rattle.limit_rows.proofs.GroupLemmas.{lost_line-of}
 use Rattle.limit_rows.proofs.PlaceLemmas.{of_outage, of_none}
 use Rattle.limit_rows.proofs.places.cause_named.Goals as goal

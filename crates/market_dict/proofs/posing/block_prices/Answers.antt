@@ -15,8 +15,8 @@ loop-block-preserved g c =
     let blocks = c.slice-block-items.ensures ∙ c.blocks-2.ensures.list in
     let read = ap (λ (bs : List Block). slice_index_or bs k (record { unit = 0; side = Sell; quantity = pos 0; price = pos 0 })) blocks in
     subst (λ (xs : List g.row.N.Denot). map g.N.Exact.value xs ≡ map (block_value m) (places (k + 1))) (sym c.in_ok-push.ensures)
-    (places_filled g.N.Exact.value (block_value m) c.loop-block.prices k c.block_price.result c.loop-block.invariant
-    (priced m k _ (g.N.Exact.value c.block_price.result) read c.block_price.ensures))
+    (places_filled g.N.Exact.value (block_value m) c.loop-block.prices k c.block_value.result c.loop-block.invariant
+    (priced m k _ (g.N.Exact.value c.block_value.result) read c.block_value.ensures))
 
 pub returns : goal.returns
 returns g c =

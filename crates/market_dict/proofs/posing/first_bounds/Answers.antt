@@ -9,8 +9,8 @@ use Rattle.market_dict.proofs.TermLemmas.{quantity_read, first_ones}
 use Rattle.market_system.specs.MarketSystem.{low as low_of, high as high_of}
 use Rattle.market_dict.proofs.posing.first_bounds.Goals as goal
 
-pub quantity_of-high-requires : goal.quantity_of-high-requires
-quantity_of-high-requires g c =
+pub block_quantity-high-requires : goal.block_quantity-high-requires
+block_quantity-high-requires g c =
     let blocks = c.slice-block-items.ensures ∙ c.blocks-2.ensures.list in
     let none : Block = record { unit = 0; side = Sell; quantity = pos 0; price = pos 0 } in
     subst (λ (bs : List Block). pos 0 ≤ℤ (slice_index_or bs c.loop-block.block-index none).quantity) (sym blocks)
@@ -27,11 +27,11 @@ loop-block-preserved g c =
     record {
       lows =
           subst (λ (xs : List (Bounds g.row.N.Denot)). map low xs ≡ map (λ j. zero) (places (k + 1))) (sym c.in_ok-push.ensures)
-          (places_filled low (λ j. zero) c.loop-block.bounds k (record { low = c.datum-low.result; high = c.quantity_of-high.result }) c.loop-block.invariant.lows c.datum-low.ensures);
+          (places_filled low (λ j. zero) c.loop-block.bounds k (record { low = c.datum-low.result; high = c.block_quantity-high.result }) c.loop-block.invariant.lows c.datum-low.ensures);
       highs =
           subst (λ (xs : List (Bounds g.row.N.Denot)). map high xs ≡ map (quantity m) (places (k + 1))) (sym c.in_ok-push.ensures)
-          (places_filled high (quantity m) c.loop-block.bounds k (record { low = c.datum-low.result; high = c.quantity_of-high.result }) c.loop-block.invariant.highs
-          (quantity_read m k _ (g.N.Exact.value c.quantity_of-high.result) read c.quantity_of-high.ensures));
+          (places_filled high (quantity m) c.loop-block.bounds k (record { low = c.datum-low.result; high = c.block_quantity-high.result }) c.loop-block.invariant.highs
+          (quantity_read m k _ (g.N.Exact.value c.block_quantity-high.result) read c.block_quantity-high.ensures));
     }
 
 pub returns-clause-lows : goal.returns-clause-lows

@@ -1,6 +1,6 @@
 use Rattle.std.proofs.Common.{◌≡◌, ◌≢◌, ◌<◌, ℕ, length, sym, subst, ◌∙◌}
 use Rattle.std.specs.Prelude.{All, AllPairs}
-use Rattle.market_model.specs.LostLines.{lost_lines}
+use Rattle.market_model.specs.LimitRows.{lost_lines}
 use Rattle.market_model.proofs.LostLemmas.{lost_inside, lost_distinct}
 use Rattle.market_model.proofs.assembled.assemble.Goals as goal
 

@@ -1,7 +1,7 @@
 use Rattle.std.proofs.Common.{rules, Err, subst₂, ◌≡◌, ◌∙◌, List, map, sym}
 use Rattle.std.proofs.lemmas.List.{length-map}
-use Rattle.fraction_theory.specs.Fraction.{Fraction, neg_ℚ, ◌+ℚ◌}
-use Rattle.fraction_theory.specs.Sums.{sum_by}
+use Rattle.fraction_theory.specs.Fraction.{Fraction}
+use Rattle.fraction_theory.specs.Sums.{total}
 use Rattle.market_model.specs.declared.answered.Load.{Load}
 use Rattle.market_model.specs.declared.answered.Money.{Money}
 use Rattle.market_model.specs.declared.answered.Rent.{Rent}
@@ -61,9 +61,7 @@ returns-clause-money g c =
       rents = c.in_ok-rents.ensures.rents (dispatch_of value c.args.dispatch.now) c.requires.flows i;
       surplus = surplus_is value c.args.market.now (dispatch_of value c.args.dispatch.now) (total_at value c.args.prices.now) c.in_ok-loads.loads c.in_ok-units.units c.in_ok-loads.ensures.loads c.in_ok-units.ensures.pays
           (value c.in_ok-surplus.surplus)
-          (subst₂ (λ (ls : List (Load g.row.N.Denot)) (us : List (UnitPay g.row.N.Denot)).
-          value c.in_ok-surplus.surplus ≡ sum_by (λ (l : Load g.row.N.Denot). value l.pays) ls +ℚ sum_by (λ (u : UnitPay g.row.N.Denot). neg_ℚ (value u.paid)) us)
-          c.slice.ensures c.slice-2.ensures c.in_ok-surplus.ensures.left) i;
+          (subst₂ (λ (ls : List (Load g.row.N.Denot)) (us : List (UnitPay g.row.N.Denot)). value c.in_ok-surplus.surplus ≡ total (paid_terms value ls us)) c.slice.ensures c.slice-2.ensures c.in_ok-surplus.ensures.left) i;
     }
 
 pub returns-clause-fits : goal.returns-clause-fits

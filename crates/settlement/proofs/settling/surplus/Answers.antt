@@ -9,7 +9,7 @@ use Rattle.settlement.proofs.ListLemmas.{sum_step_behind}
 use Rattle.exact_fraction.specs.declared.Op.TheVariants as Op
 use Rattle.market_model.specs.Valued.{passed_at}
 use Rattle.market_model.proofs.SumSteps.{refusal}
-use Rattle.settlement.proofs.MoneyLemmas.{load_refused, unit_refused}
+use Rattle.settlement.proofs.MoneyLemmas.{load_refused, paid_total, unit_refused}
 use Rattle.settlement.proofs.settling.surplus.Goals as goal
 
 pub loop-load-preserved : goal.loop-load-preserved
@@ -31,6 +31,7 @@ returns-clause-left g c =
     c.loop-unit.invariant
     ∙ ap (λ t. sum_by (λ (load : Load g.row.N.Denot). g.N.Exact.value load.pays) c.args.loads.now +ℚ t)
     (sum_end (λ (unit : UnitPay g.row.N.Denot). neg_ℚ (g.N.Exact.value unit.paid)) c.args.units.now c.loop-unit.unit-index c.loop-unit-test.false)
+    ∙ paid_total g.N.Exact.value c.args.loads.now c.args.units.now
 
 pub returns-in_err-surplus-clause-cause : goal.returns-in_err-surplus-clause-cause
 returns-in_err-surplus-clause-cause g c =
