@@ -1,5 +1,5 @@
 -- What is refused at a dispatch that solves the market over rows in hand is a working pair of the market over these rows.
-use Rattle.std.specs.Prelude.{◌≡◌, ◌⊎◌, ℕ, ◌<◌, ◌||◌, pos, Bool, true, false, List, [], ◌∷◌, if◌then◌else◌, Some, None, Contains, refl}
+use Rattle.std.specs.Prelude.{◌≡◌, ◌⊎◌, ℕ, ◌||◌, pos, Bool, true, false, List, [], ◌∷◌, if◌then◌else◌, Some, None, Contains, refl}
 use Rattle.std.proofs.Common.{zero, suc, arith, inl, inr, ap, sym, subst, ◌∙◌}
 use Rattle.fraction_theory.specs.Fraction.{Fraction, whole, neg_ℚ}
 use Rattle.fraction_theory.specs.Order.{◌<ℚ◌}

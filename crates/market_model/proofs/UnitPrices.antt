@@ -1,5 +1,5 @@
 -- What units are paid for a MW, where prices by bus are those of duals.
-use Rattle.std.specs.Prelude.{◌≡◌, ℕ, ◌<◌, ◌++◌, pos, length, map}
+use Rattle.std.specs.Prelude.{◌≡◌, ℕ, ◌<◌, ◌++◌, pos, length}
 use Rattle.std.proofs.Common.{ap, ap₂}
 use Rattle.fraction_theory.specs.Fraction.{Fraction, neg_ℚ}
 use Rattle.fraction_theory.specs.Sums.{Product}
