@@ -4,7 +4,7 @@ use mir.Syntax.{w128}
 use mathlib.Core.Path.{ap₂}
 use Rattle.std.proofs.lemmas.Int.{ints, unsigned_abs-mul, to_z-of_z}
 use Rattle.std.proofs.Math.Nat.{mul-le-mul}
-use Rattle.market_data.specs.Scales.{most_factor}
+use Rattle.market_data.specs.Scales.{most_factor, most_scaled_reactance}
 use Rattle.factor_residuals.specs.declared.loop_sums.LoopSum.{LoopSum}
 
 -- a number that is read as one of 128 bits
@@ -12,10 +12,10 @@ pub small_is : (n : ℤ) → unsigned_abs n ≤ 10000000000000000000000000000000
 small_is n h = to_z-of_z w128 n (omega (arith, ints, h))
 
 -- a product of two numbers of these sizes
-pub product-size : (x y : ℤ) → unsigned_abs x ≤ 10000000000000000000000 → unsigned_abs y ≤ most_factor → unsigned_abs (x *ℤ y) ≤ 10000000000000000000000000000000
+pub product-size : (x y : ℤ) → unsigned_abs x ≤ most_scaled_reactance → unsigned_abs y ≤ most_factor → unsigned_abs (x *ℤ y) ≤ 10000000000000000000000000000000
 product-size x y h k = subst (λ n. n ≤ 10000000000000000000000000000000) (sym (unsigned_abs-mul x y)) (mul-le-mul h k)
 
-module _ (x y z : ℤ) (h : unsigned_abs x ≤ 10000000000000000000000) (k : unsigned_abs y ≤ most_factor) (e : z ≡ y) where
+module _ (x y z : ℤ) (h : unsigned_abs x ≤ most_scaled_reactance) (k : unsigned_abs y ≤ most_factor) (e : z ≡ y) where
   product : ℤ
   product = to_z w128 (of_z w128 (to_z w128 (of_z w128 x) *ℤ to_z w128 (of_z w128 z)))
 

@@ -1,6 +1,6 @@
 -- The columns of a table of factors, as they are read.
 use Rattle.std.specs.Prelude.{◌≡◌, ℕ, ◌*◌, ◌^◌, ◌<◌, ◌≤◌, ℤ, pos, ◌+ℤ◌, unsigned_abs, List, length, get_or}
-use Rattle.market_data.specs.Scales.{most_factor}
+use Rattle.market_data.specs.Scales.{most_factor, most_scaled_reactance}
 use Rattle.net_case.specs.Networks.{LiveNetwork}
 use Rattle.net_case.specs.declared.live_parts.NetBranch.{NetBranch}
 use Rattle.net_paths.specs.Loops.{kept}
@@ -55,4 +55,4 @@ with_drop loop_sum drop reactance = record { miss = loop_sum.miss +ℤ drop; siz
 -- what at most k branches come to
 pub record IsLoopSum (k : ℕ) (loop_sum : LoopSum) : Type 0 where
   pub miss : unsigned_abs loop_sum.miss ≤ 10 ^ 31 * k
-  pub sizes : unsigned_abs loop_sum.sizes ≤ 10 ^ 22 * k
+  pub sizes : unsigned_abs loop_sum.sizes ≤ most_scaled_reactance * k

@@ -2,6 +2,7 @@
 use Rattle.std.specs.Prelude.{◌≡◌, ℕ, zero, suc, ◌*◌, ◌<◌, ◌≤◌, ℤ, pos, unsigned_abs, Bool, List, [], ◌∷◌, ◌++◌, length, map, All, Contains, Some, MatchOption}
 use Rattle.std.specs.Int.Signed.{lt_z}
 use Rattle.std.specs.List.{find, flat_map, AllZip}
+use Rattle.market_data.specs.Scales.{most_scaled_reactance}
 use Rattle.net_case.specs.Networks.{LiveNetwork}
 use Rattle.net_case.specs.declared.live_parts.NetBranch.{NetBranch}
 use Rattle.net_paths.specs.Connection.{bus_number}
@@ -101,7 +102,7 @@ pub record IsOutageLoopResidual (network : LiveNetwork) (xs : List ℤ) (loss : 
   pub is : IsResidual spots residual
 
 -- ---- what they are of
--- each live branch has a reactance times ratio of at most 10^22
+-- each live branch has a reactance times ratio, which is not too great
 pub record AreReactances (network : LiveNetwork) (xs : List ℤ) : Type 0 where
   pub count : length xs ≡ length network.branches
-  pub sizes : All (λ x. unsigned_abs x ≤ 10000000000000000000000) xs
+  pub sizes : All (λ x. unsigned_abs x ≤ most_scaled_reactance) xs

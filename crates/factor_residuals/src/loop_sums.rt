@@ -1,7 +1,7 @@
 //! What the flows come to round a loop.
 
 ghost use Rattle.std.specs.Prelude.{◌≡◌, ◌++◌, ◌≤◌, ◌<◌, ◌+◌, ◌^◌, ◌*ℤ◌, ℕ, List, length, unsigned_abs, All};
-ghost use Rattle.market_data.specs.Scales.{most_buses, most_factor};
+ghost use Rattle.market_data.specs.Scales.{most_buses, most_factor, most_scaled_reactance};
 ghost use Rattle.factor_residuals.specs.Kirchhoff.{loop_spot, reactance_at, directed, first_branch};
 ghost use Rattle.factor_residuals.specs.Columns.{IsLoopSum, with_drop, column_of};
 ghost use Rattle.factor_residuals.specs.Residuals.{AreReactances, IsResidual, loop_spots};
@@ -14,7 +14,7 @@ use net_paths::{Loops, Member};
 /// The reactance times the ratio of the branch of a row, in 10^-18.
 fn reactance_at(network: &Network, reactances: &Reactances, row: u32) -> i128
     requires { AreReactances network.now reactances.now }
-    ensures size { unsigned_abs result ≤ 10 ^ 22 }
+    ensures size { unsigned_abs result ≤ most_scaled_reactance }
     ensures is { result ≡ reactance_at network.now reactances.now row }
 {
     match network.branch_place(i64::from(row)) {
@@ -32,7 +32,7 @@ struct LoopSum {
 
 /// The product of reactance and flow, with minus where the branch is passed from T_BUS to F_BUS.
 fn drop_over(reactance: i128, flow: i64, forward: bool) -> i128
-    requires reactance { unsigned_abs reactance ≤ 10 ^ 22 }
+    requires reactance { unsigned_abs reactance ≤ most_scaled_reactance }
     requires flow { unsigned_abs flow ≤ most_factor }
     ensures size { unsigned_abs result ≤ 10 ^ 31 }
     ensures is { result ≡ directed forward (reactance *ℤ flow) }
@@ -43,7 +43,7 @@ fn drop_over(reactance: i128, flow: i64, forward: bool) -> i128
 
 /// With one branch more.
 fn with_drop(loop_sum: LoopSum, reactance: i128, flow: i64, forward: bool) -> LoopSum
-    requires reactance { unsigned_abs reactance ≤ 10 ^ 22 }
+    requires reactance { unsigned_abs reactance ≤ most_scaled_reactance }
     requires flow { unsigned_abs flow ≤ most_factor }
     requires loop_sum { IsLoopSum most_buses loop_sum }
     ensures is { result ≡ with_drop loop_sum (directed forward (reactance *ℤ flow)) reactance }

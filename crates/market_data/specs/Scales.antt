@@ -37,6 +37,30 @@ factor_product_one = 10 ^ (2 * factor_places)
 abbrev pub most_factor : ℕ
 most_factor = 10 ^ 9
 
+-- decimals of reactances and of ratios: of both a datum is a number of 10^-9
+abbrev pub reactance_places : ℕ
+reactance_places = 9
+
+-- a ratio of 1 as a datum
+abbrev pub ratio_one : ℕ
+ratio_one = 10 ^ reactance_places
+
+-- the greatest size of a reactance as a datum: that of 1000
+abbrev pub most_reactance : ℕ
+most_reactance = 10 ^ 12
+
+-- the greatest ratio as a datum: that of 10
+abbrev pub most_ratio : ℕ
+most_ratio = 10 ^ 10
+
+-- decimals of a reactance times a ratio
+abbrev pub scaled_reactance_places : ℕ
+scaled_reactance_places = 2 * reactance_places
+
+-- the greatest size of a reactance times a ratio as a datum
+abbrev pub most_scaled_reactance : ℕ
+most_scaled_reactance = 10 ^ 22
+
 -- the most of each part
 abbrev pub most_buses : ℕ
 most_buses = 1000

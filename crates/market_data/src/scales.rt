@@ -27,6 +27,21 @@ pub const FACTOR_PRODUCT_ONE: u64 = 1_000_000_000_000;
 /// The greatest size of a factor as a datum: that of 1000.
 pub const MOST_FACTOR: u64 = 1_000_000_000;
 
+/// Decimal places of reactances and of ratios: of both a datum is a number of 10^-9.
+pub const REACTANCE_PLACES: u8 = 9;
+
+/// A ratio of 1 as a datum.
+pub const RATIO_ONE: i64 = 1_000_000_000;
+
+/// The greatest size of a reactance as a datum: that of 1000.
+pub const MOST_REACTANCE: i64 = 1_000_000_000_000;
+
+/// The greatest ratio as a datum: that of 10.
+pub const MOST_RATIO: i64 = 10_000_000_000;
+
+/// Decimal places of a reactance times a ratio.
+pub const SCALED_REACTANCE_PLACES: u8 = 18;
+
 /// The most buses.
 pub const MOST_BUSES: usize = 1000;
 

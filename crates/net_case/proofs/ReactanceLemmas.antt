@@ -1,11 +1,12 @@
 -- The size of a reactance, and the reactances from a branch on.
-use Rattle.std.proofs.Common.{◌≡◌, ℕ, ◌+◌, ◌*◌, ◌^◌, ◌≤◌, ◌<◌, ℤ, pos, negsuc, List, [], ◌∷◌, ◌++◌, length, get_or, drop, arith, refl, sym, ap, append_assoc, w64, Result, Ok, Err}
+use Rattle.std.proofs.Common.{◌≡◌, ℕ, ◌+◌, ◌*◌, ◌^◌, ◌≤◌, ◌<◌, ℤ, pos, neg_ℤ, List, [], ◌∷◌, ◌++◌, length, get_or, drop, arith, refl, sym, ap, append_assoc, w64, Result, Ok, Err}
 use mir.Val.{SFits, to_z, of_z}
 use mir.Syntax.{w128}
 use Rattle.std.specs.Prelude.{◌≤ℤ◌, ◌*ℤ◌, unsigned_abs}
 use Rattle.std.proofs.lemmas.Int.{ints, unsigned_abs-mul, to_z-of_z}
 use Rattle.std.proofs.Math.Nat.{mul-le-mul_left}
 use Rattle.std.proofs.lemmas.List.{append-nil, drop_all, drop_more}
+use Rattle.market_data.specs.Scales.{most_ratio, most_reactance, most_scaled_reactance}
 use Rattle.record_reading.specs.Records.{Record}
 use Rattle.record_reading.specs.Steps.{and_then}
 use Rattle.net_case.specs.NetworkReading.{row_at}
@@ -13,30 +14,30 @@ use Rattle.net_case.specs.ReactanceReading.{reactance_in, reactances_in}
 use Rattle.net_case.specs.declared.live_parts.NetBranch.{NetBranch}
 use Rattle.net_case.specs.declared.live_parts.NetFault.{NetFault}
 
-pub size_of_product : (x r : ℤ) → negsuc 999999999999 ≤ℤ x → x ≤ℤ pos 1000000000000 → pos 0 ≤ℤ r → r ≤ℤ pos 10000000000 → unsigned_abs (x *ℤ r) ≤ 10 ^ 22
+pub size_of_product : (x r : ℤ) → neg_ℤ (pos most_reactance) ≤ℤ x → x ≤ℤ pos most_reactance → pos 0 ≤ℤ r → r ≤ℤ pos most_ratio → unsigned_abs (x *ℤ r) ≤ most_scaled_reactance
 size_of_product x r low high least most =
-    let a : unsigned_abs x ≤ 1000000000000 = Prim.omega (arith, ints) in
-    let b : unsigned_abs r ≤ 10000000000 = Prim.omega (arith, ints) in
-    let one : unsigned_abs x * unsigned_abs r ≤ unsigned_abs x * 10000000000 = mul-le-mul_left (unsigned_abs x) b in
+    let a : unsigned_abs x ≤ most_reactance = Prim.omega (arith, ints) in
+    let b : unsigned_abs r ≤ most_ratio = Prim.omega (arith, ints) in
+    let one : unsigned_abs x * unsigned_abs r ≤ unsigned_abs x * most_ratio = mul-le-mul_left (unsigned_abs x) b in
     rw (unsigned_abs-mul x r) (within (unsigned_abs x) (unsigned_abs x * unsigned_abs r) a one)
   where
-    within : (m n : ℕ) → m ≤ 1000000000000 → n ≤ m * 10000000000 → n ≤ 10000000000000000000000
+    within : (m n : ℕ) → m ≤ most_reactance → n ≤ m * most_ratio → n ≤ most_scaled_reactance
     within m n le lt = omega arith
 
-fits_64 : (n : ℤ) → negsuc 999999999999 ≤ℤ n → n ≤ℤ pos 1000000000000 → SFits w64 n
+fits_64 : (n : ℤ) → neg_ℤ (pos most_reactance) ≤ℤ n → n ≤ℤ pos most_reactance → SFits w64 n
 fits_64 n low high = Prim.omega (arith, ints)
 
-pub fits_128 : (n : ℤ) → unsigned_abs n ≤ 10 ^ 22 → SFits w128 n
+pub fits_128 : (n : ℤ) → unsigned_abs n ≤ most_scaled_reactance → SFits w128 n
 fits_128 n size = Prim.omega (arith, ints, size)
 
 -- a product that is passed on keeps its size
-pub size_kept : (x r p : ℤ) → negsuc 999999999999 ≤ℤ x → x ≤ℤ pos 1000000000000 → pos 0 ≤ℤ r → r ≤ℤ pos 10000000000
-    → p ≡ to_z w64 (of_z w64 x) *ℤ to_z w64 (of_z w64 r) → unsigned_abs (to_z w128 (of_z w128 p)) ≤ 10 ^ 22
+pub size_kept : (x r p : ℤ) → neg_ℤ (pos most_reactance) ≤ℤ x → x ≤ℤ pos most_reactance → pos 0 ≤ℤ r → r ≤ℤ pos most_ratio
+    → p ≡ to_z w64 (of_z w64 x) *ℤ to_z w64 (of_z w64 r) → unsigned_abs (to_z w128 (of_z w128 p)) ≤ most_scaled_reactance
 size_kept x r p low high least most is =
-    let ratio_low : negsuc 999999999999 ≤ℤ r = Prim.omega (arith, ints) in
-    let ratio_high : r ≤ℤ pos 1000000000000 = Prim.omega (arith, ints) in
+    let ratio_low : neg_ℤ (pos most_reactance) ≤ℤ r = Prim.omega (arith, ints) in
+    let ratio_high : r ≤ℤ pos most_reactance = Prim.omega (arith, ints) in
     let e : p ≡ x *ℤ r = rw (to_z-of_z w64 x (fits_64 x low high), to_z-of_z w64 r (fits_64 r ratio_low ratio_high)) at is in
-    let size : unsigned_abs p ≤ 10 ^ 22 = rw e (size_of_product x r low high least most) in
+    let size : unsigned_abs p ≤ most_scaled_reactance = rw e (size_of_product x r low high least most) in
     rw (to_z-of_z w128 p (fits_128 p size)) size
 
 module _ (matrix : List Record) (branches : List NetBranch) where

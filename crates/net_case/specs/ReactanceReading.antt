@@ -1,6 +1,7 @@
 -- The reactances of live branches that a case stands for, or the first fault.
-use Rattle.std.specs.Prelude.{ℕ, ◌&&◌, ℤ, pos, negsuc, ◌*ℤ◌, List, [], ◌∷◌, Result, Ok, Err, if◌then◌else◌}
+use Rattle.std.specs.Prelude.{ℕ, ◌&&◌, ℤ, pos, neg_ℤ, ◌*ℤ◌, List, [], ◌∷◌, Result, Ok, Err, if◌then◌else◌}
 use Rattle.std.specs.Int.Signed.{lt_z, le_z}
+use Rattle.market_data.specs.Scales.{most_ratio, most_reactance, ratio_one, reactance_places}
 use Rattle.record_reading.specs.Records.{Record}
 use Rattle.record_reading.specs.Steps.{and_then}
 use Rattle.case_text.specs.Matrices.{CaseMatrices}
@@ -13,10 +14,6 @@ use Rattle.net_case.specs.declared.live_parts.NetFault.{NetFault}
 use Rattle.net_case.specs.declared.live_parts.NetFault.TheVariants as fault
 use Rattle.record_reading.specs.declared.Why.TheVariants as why
 
--- the decimals of BR_X and of TAP
-abbrev pub reactance_places : ℕ
-reactance_places = 9
-
 -- the number in a branch row's cell, from low to high
 unfoldable pub bounded_in : ℕ → Record → ℕ → ℤ → ℤ → Result ℤ NetFault
 bounded_in row r col low high =
@@ -25,13 +22,13 @@ bounded_in row r col low high =
 
 -- a TAP of 0 counts as a ratio of 1
 abbrev pub ratio_of : ℤ → ℤ
-ratio_of tap = if lt_z (pos 0) tap then tap else pos 1000000000
+ratio_of tap = if lt_z (pos 0) tap then tap else pos ratio_one
 
--- BR_X from -1000 to 1000, times the ratio of a TAP from 0 to 10
+-- BR_X of a size of 1000 at most, times the ratio of a TAP from 0 to 10
 unfoldable pub reactance_in : ℕ → Record → Result ℤ NetFault
 reactance_in row r =
-    and_then (bounded_in row r BR_X (negsuc 999999999999) (pos 1000000000000)) (λ x.
-    and_then (bounded_in row r TAP (pos 0) (pos 10000000000)) (λ tap.
+    and_then (bounded_in row r BR_X (neg_ℤ (pos most_reactance)) (pos most_reactance)) (λ x.
+    and_then (bounded_in row r TAP (pos 0) (pos most_ratio)) (λ tap.
     Ok (x *ℤ ratio_of tap)))
 
 -- the reactance of each branch, in their order

@@ -1,7 +1,7 @@
 -- The lines that tell residuals.
 use Rattle.std.specs.Prelude.{ℕ, ◌+◌, List, ◌++◌, codes, decimal, Option, Some, None}
 use Rattle.line_text.specs.Decimals.{decimal_text}
-use Rattle.market_data.specs.Scales.{factor_places}
+use Rattle.market_data.specs.Scales.{factor_places, scaled_reactance_places}
 use Rattle.factor_residuals.specs.declared.spots.Spot.{Spot}
 use Rattle.factor_residuals.specs.declared.spots.Residual.{Residual}
 
@@ -26,9 +26,9 @@ lines_of kind places (Some most) over = most_line kind places most ++ over_line 
 unfoldable pub residual_lines : List ℕ → ℕ → Residual → List ℕ
 residual_lines kind places r = lines_of kind places r.most r.over
 
--- decimals of a reactance times a ratio, each with 9, times a factor
+-- decimals of a reactance times a ratio, times a factor
 abbrev pub loop_places : ℕ
-loop_places = 18 + factor_places
+loop_places = scaled_reactance_places + factor_places
 
 -- the residuals at the buses and round the loops, of shift factors and of outage factors
 unfoldable pub residuals_text : Residual → Residual → Residual → Residual → List ℕ

@@ -6,12 +6,12 @@ ghost use Rattle.residual_text.specs.ResidualLines.{place_text, most_line, over_
 
 use factor_residuals::{Residual, Spot};
 use line_text::Text;
-use market_data::FACTOR_PLACES;
+use market_data::{FACTOR_PLACES, SCALED_REACTANCE_PLACES};
 use plain_list::Memory;
 use std::alloc::Global;
 
-/// Decimal places of a reactance times a ratio, each with 9, times a factor.
-const LOOP_PLACES: u8 = 18 + FACTOR_PLACES;
+/// Decimal places of a reactance times a ratio, times a factor.
+const LOOP_PLACES: u8 = SCALED_REACTANCE_PLACES + FACTOR_PLACES;
 
 /// The bus or the loop of a residual, and the bus or the outage of its column.
 #[tactic(auto, using(std::proofs::Common::append_assoc), unfolding(crate::specs::ResidualLines::place_text))]

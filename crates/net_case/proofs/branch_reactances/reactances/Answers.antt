@@ -1,4 +1,4 @@
-use Rattle.std.proofs.Common.{rules, ◌≡◌, ◌∙◌, ◌++◌, ◌∷◌, ◌<◌, ◌≤◌, ◌^◌, ℤ, [], refl, sym, ap, arith, length, length-append, get_or, map, None, false, Err}
+use Rattle.std.proofs.Common.{rules, ◌≡◌, ◌∙◌, ◌++◌, ◌∷◌, ◌<◌, ◌≤◌, ℤ, [], refl, sym, ap, arith, length, length-append, get_or, map, None, false, Err}
 use mir.Val.{to_z, of_z}
 use mir.Syntax.{w128}
 use Rattle.std.specs.Prelude.{unsigned_abs}
@@ -6,6 +6,7 @@ use Rattle.std.proofs.lemmas.Int.{to_z-of_z}
 use Rattle.std.proofs.lemmas.List.Elements.{All-nil, All-push}
 use Rattle.std.proofs.lemmas.List.{length-map}
 use Rattle.std.proofs.Math.ListN.{get_or-map}
+use Rattle.market_data.specs.Scales.{most_scaled_reactance}
 use Rattle.net_case.specs.ReactanceReading.{reactances_in}
 use Rattle.net_case.specs.declared.live_parts.NetBranch.{NetBranch}
 use Rattle.net_case.proofs.ReactanceLemmas.{fits_128, from-step, from-fault, from-end, from-start}
@@ -14,7 +15,7 @@ use Rattle.net_case.proofs.branch_reactances.reactances.Goals as goal
 pub loop-branch-init : goal.loop-branch-init
 loop-branch-init c = rw c.new-list.ensures (record {
   count = refl;
-  size = All-nil (λ (x : ℤ). unsigned_abs x ≤ 10 ^ 22);
+  size = All-nil (λ (x : ℤ). unsigned_abs x ≤ most_scaled_reactance);
   is = from-start c.args.case.now.branch _;
 })
 
@@ -48,7 +49,7 @@ loop-branch-preserved c =
     let added : c.push.new.self ≡ c.loop-branch.list ++ x ∷ [] = rw kept at c.in_ok-push.ensures in
     rw added (record {
       count = omega (arith, c.loop-branch.invariant.count, length-append c.loop-branch.list (x ∷ []));
-      size = All-push (λ (n : ℤ). unsigned_abs n ≤ 10 ^ 22) c.loop-branch.list x c.loop-branch.invariant.size c.in_ok-reactance.ensures.size;
+      size = All-push (λ (n : ℤ). unsigned_abs n ≤ most_scaled_reactance) c.loop-branch.list x c.loop-branch.invariant.size c.in_ok-reactance.ensures.size;
       is = here;
     })
 
