@@ -19,7 +19,7 @@ use Rattle.command_answers.specs.declared.status.Status.TheVariants as status
 use Rattle.command_files.specs.OnlyReads.{IsSilent}
 use Rattle.command_files.specs.Reading.{HaveGridTexts, HaveTexts, IsTable, source_of}
 use Rattle.command_files.specs.Standing.{AreCheckFiles, AreClearFiles, ArePoolFiles, AreReplayFiles, AreVerifyFiles}
-use Rattle.sced.specs.Headline.{LawOfAnswered, LawOfCutShort, LawOfMissing}
+use Rattle.sced.specs.Headline.{LawOfAnswered, LawOfCauses, LawOfCutShort, LawOfMissing}
 use Rattle.sced.specs.Runs.{Ends, IsTold, Outside}
 use Rattle.sced.specs.Runs as ending
 use Rattle.sced.specs.Told.{Answers, AnswersTo, checked, cleared, made, pooled, refused, replayed, verified}
@@ -88,6 +88,10 @@ law_of_answered words before after s earlier runs was none = elim (silent-or s) 
 
     put : Answers words before after s → (text : List ℕ) × (after.taken ≡ Some (earlier ++ text))
     put a = put-by a.telling a.written a.ends
+
+-- ---- causes
+pub law_of_causes : LawOfCauses
+law_of_causes words before after s runs = (runs.reads, runs.writes)
 
 -- ---- cut short
 pub law_of_cut_short : LawOfCutShort

@@ -59,7 +59,7 @@ use Rattle.command_answers.specs.Verifying.{TellsVerdict, VerifiesTo, judged, pa
 use Rattle.command_answers.specs.declared.status.Status.{Status}
 use Rattle.command_answers.specs.declared.status.Status.TheVariants as status
 use Rattle.sced.specs.Decided.{AsksSteps, AsksVerdict, as_clear, as_pool}
-use Rattle.sced.specs.Headline.{HasCertificate, IsAsked, IsBest, IsFirstFault, IsMade, IsPriced, IsReplayed, IsReported, IsVerdict, LawOfAsked, LawOfCertificate, LawOfCheck, LawOfCleared, LawOfComplete, LawOfFaults, LawOfInfeasible, LawOfLastCertificate, LawOfMake, LawOfOutside, LawOfRange, LawOfReplay, LawOfRoundTrip, LawOfVerify, RefusesEdit, cleared_ring, for_check, for_clear, for_nothing, for_ring, for_steps, for_verdict, no, passes, range_ring, to_check, to_clear, to_replay, to_verify, with_fault, yes}
+use Rattle.sced.specs.Headline.{HasCertificate, IsAsked, HasGreatestWelfare, IsFirstFault, IsMade, IsPriced, IsReplayed, IsReported, IsVerdict, LawOfAsked, LawOfCertificate, LawOfCheck, LawOfCleared, LawOfComplete, LawOfFaults, LawOfInfeasible, LawOfLastCertificate, LawOfMake, LawOfOutside, LawOfRange, LawOfReplay, LawOfRoundTrip, LawOfVerify, RefusesEdit, cleared_ring, for_check, for_clear, for_nothing, for_ring, for_steps, for_verdict, no, passes, range_ring, to_check, to_clear, to_replay, to_verify, with_fault, yes}
 use Rattle.sced.specs.Runs.{Keeps, Outside}
 use Rattle.sced.specs.Runs as ending
 use Rattle.sced.specs.Told.{Answers, AnswersTo, checked, cleared, made, named_bytes, named_outputs, pooled, refused, replayed, verified}
@@ -71,7 +71,7 @@ use Rattle.sced.proofs.FailureLemmas.{silent-or}
 use Rattle.sced.proofs.RunLemmas.{IsPrinted, cleared-at, edit-at, printed, refused-at, refused-status, reported}
 
 -- ---- cleared and infeasible
-right-best : (m : Parts) (a : Answer Fraction) → IsMarket m → IsRight m a → IsBest m (dispatch_in a) × IsPriced m a
+right-best : (m : Parts) (a : Answer Fraction) → IsMarket m → IsRight m a → HasGreatestWelfare m (dispatch_in a) × IsPriced m a
 unfolding surplus
 right-best m a market right = (
   record {

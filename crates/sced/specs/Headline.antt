@@ -59,7 +59,7 @@ use Rattle.command_answers.specs.declared.status.Status.TheVariants as status
 use Rattle.sced.specs.Decided.{AsksMarket, AsksSteps, AsksVerdict, AsksToCheck, AsksToClear, AsksToReplay, AsksToVerify}
 use Rattle.sced.specs.Promise.{Runs}
 use Rattle.command_files.specs.OnlyReads.{IsSilent}
-use Rattle.sced.specs.Runs.{IsTold, LeavesAll, Outside}
+use Rattle.sced.specs.Runs.{CountsReads, CountsWrites, IsTold, LeavesAll, Outside}
 use Rattle.sced.specs.Told.{Answers}
 
 -- ---- what a run prints
@@ -114,7 +114,7 @@ pub data BeginsWith (words : List (List ℕ)) (files : Files) (text : List ℕ) 
 
 -- ---- cleared
 -- within the offers, in balance, and within every limit of the base and after every listed outage; and no dispatch that is so is worth more
-pub record IsBest (m : Parts) (x : Dispatch) : Type 0 where
+pub record HasGreatestWelfare (m : Parts) (x : Dispatch) : Type 0 where
   pub offered : IsDispatch m x
   pub balances : balance m x ≡ zero
   pub within : (r : Row) → Contains (rows m) r → Within (limit m r) (flow m x r)
@@ -133,7 +133,7 @@ pub record IsPriced (m : Parts) (a : Answer Fraction) : Type 0 where
 -- what is printed as cleared is best, and priced by duals that support it
 abbrev pub LawOfCleared : Type 0
 LawOfCleared = (words : List (List ℕ)) (files : Files) (text : List ℕ) (s : Status) (m : Parts) (a : Answer Fraction) (place : ℕ)
-    → Prints words files text s → Reports words files text m (Cleared a) place → IsBest m (dispatch_in a) × IsPriced m a
+    → Prints words files text s → Reports words files text m (Cleared a) place → HasGreatestWelfare m (dispatch_in a) × IsPriced m a
 
 -- ---- infeasible
 -- where infeasible is printed no dispatch qualifies, and the printed duals, which name rows of the market, show it with the printed bound
@@ -265,7 +265,7 @@ LawOfFaults = (words : List (List ℕ)) (files : Files) (text : List ℕ) (s : S
 -- ---- make
 -- the worth and the surplus of an answer that is best and priced, or two numbers of the ring as above; where no pair passes it is cleared
 pub data IsMade (buses seed : ℕ) (text : List ℕ) : Status → Type 0 where
-  cleared_ring : (a : Answer Fraction) → IsBest (ring_of buses seed) (dispatch_in a) → IsPriced (ring_of buses seed) a
+  cleared_ring : (a : Answer Fraction) → HasGreatestWelfare (ring_of buses seed) (dispatch_in a) → IsPriced (ring_of buses seed) a
       → text ≡ ring_line buses seed ++ summary a → IsMade buses seed text status.Done
   range_ring : (p : Passed Fraction) → IsRangeOf (ring_of buses seed) [] most_size p → ArePassedWithin most_size p → text ≡ ring_line buses seed ++ range_text p
       → IsMade buses seed text status.Range
@@ -293,6 +293,13 @@ pub record NoneFails (before after : Outside) : Type 0 where
 abbrev pub LawOfAnswered : Type 0
 LawOfAnswered = (words : List (List ℕ)) (before after : Outside) (s : Status) (earlier : List ℕ) → Runs words before after s
     → before.taken ≡ Some earlier → NoneFails before after → (s ≡ status.Memory) ⊎ (IsTold s × ((text : List ℕ) × (after.taken ≡ Some (earlier ++ text))))
+
+-- ---- causes
+-- a run ends for a failed read only where one of a file that the words name for reading is counted, and for a failed write or put only where one
+-- is, of a file that they name for writing or of the text; with every other status no such count moves
+abbrev pub LawOfCauses : Type 0
+LawOfCauses = (words : List (List ℕ)) (before after : Outside) (s : Status) → Runs words before after s
+    → CountsReads words before after s × CountsWrites words before after s
 
 -- ---- cut short
 -- Where a read failed or memory was refused, nothing is put and every file is as it was. Where a failed write is counted, nothing is put. Where

@@ -1,7 +1,7 @@
 //! What every run of the program means for those who read what it prints: laws that follow from what `run` promises, each the contract of a
 //! function that does nothing.
 
-ghost use Rattle.sced.specs.Headline.{LawOfAnswered, LawOfAsked, LawOfCertificate, LawOfCheck, LawOfCleared, LawOfComplete, LawOfCutShort, LawOfFaults, LawOfInfeasible, LawOfLastCertificate, LawOfMake, LawOfMissing, LawOfOutside, LawOfRange, LawOfReplay, LawOfRoundTrip, LawOfVerify};
+ghost use Rattle.sced.specs.Headline.{LawOfAnswered, LawOfAsked, LawOfCauses, LawOfCertificate, LawOfCheck, LawOfCleared, LawOfComplete, LawOfCutShort, LawOfFaults, LawOfInfeasible, LawOfLastCertificate, LawOfMake, LawOfMissing, LawOfOutside, LawOfRange, LawOfReplay, LawOfRoundTrip, LawOfVerify};
 
 /// A run that puts a text was asked for nothing that the program does, for work on what the files stand for, for a ring, or on files with
 /// a first fault.
@@ -83,6 +83,11 @@ pub fn outside()
 /// Where no failed call is counted a run puts a text, with a status that comes with one, unless memory was refused.
 pub fn answered()
     ensures { LawOfAnswered }
+{}
+
+/// A run ends for a failed read, write or put only where one is counted that the words ask for; else no such count moves.
+pub fn causes()
+    ensures { LawOfCauses }
 {}
 
 /// What a run leaves that ended for a failed call or for want of memory: nothing, or a beginning of what is right to tell.

@@ -11,9 +11,7 @@ ghost use Rattle.command_files.specs.OnlyReads.{IsSilent, OnlyReads};
 ghost use Rattle.sced.specs.Told.{AnswersTo, IsOutputFile, named_bytes, names_for, written_by};
 
 use command_answers::{Outputs, Status, Told, make_told};
-use command_files::{
-    check_files, clear_files, or_memory, pool_files, replay_files, verify_files,
-};
+use command_files::{check_files, clear_files, or_memory, pool_files, replay_files, verify_files};
 use command_words::{Request, WordsStop, request_of};
 use outside_store::{Failed, Sink, Store};
 use std::alloc::Global;
