@@ -227,7 +227,7 @@ fn refused_in_the_row<N: Exact>(rt: &impl Abort, alloc: Global, big: N) {
     refuses_pivot(rt, alloc, (half, big), (zero, zero), pair);
 }
 
-/// In another row: `big` x after x = 2y - 2z and after x = 2y, at z and at y, and x + z/2 after x = y - `big` z.
+/// In another row: `big` x after x = 2y - 2z and after x = 2y, at z and at y, and x - z/2 after x = y - `big` z.
 fn refused_in_another<N: Exact>(rt: &impl Abort, alloc: Global, big: N) {
     let (zero, half) = (N::of_parts(0, 1), N::of_parts(1, 2));
     let (one, two) = (N::of_parts(1, 1), N::of_parts(2, 1));
@@ -235,8 +235,8 @@ fn refused_in_another<N: Exact>(rt: &impl Abort, alloc: Global, big: N) {
     refuses_pivot(rt, alloc, (half, one), (big, zero), at_other);
     let at_leaving = (Op::Times, big, two);
     refuses_pivot(rt, alloc, (half, zero), (big, zero), at_leaving);
-    let sum = (Op::Plus, half, big.neg());
-    refuses_pivot(rt, alloc, (one, big), (one, half), sum);
+    let sum = (Op::Plus, half.neg(), big.neg());
+    refuses_pivot(rt, alloc, (one, big), (one, half.neg()), sum);
 }
 
 /// The place of the least name, by the name and by its rank.
