@@ -15,7 +15,7 @@ ghost use Rattle.cert_sums.specs.Named.{AreNamed, priced_at, priced_by};
 ghost use Rattle.cert_sums.specs.Pairs.{IsFarkasPair};
 ghost use Rattle.cert_sums.specs.Refusals.{IsAboveRefusal, IsBelowRefusal, IsLimitRefusal, OnPassed};
 
-use crate::{NamedRow, VerifyStop, balance, bus_price, injections, line_flows};
+use crate::{NamedRow, VerifyStop, bus_price, injections, line_flows};
 use exact_fraction::{Exact, Passed, Sign};
 use limit_rows::{limit_at, row_flow};
 use market_model::{Market, block_quantity, by_side, datum, zeros};

@@ -11,5 +11,5 @@ mod stops;
 pub use bounding::farkas_bound;
 pub use flowing::line_flows;
 pub use pricing::{NamedRow, bus_price};
-pub use putting::{balance, injections};
+pub use putting::injections;
 pub use stops::VerifyStop;

@@ -1,16 +1,13 @@
 //! What buses put in at a dispatch.
 
 ghost use Rattle.std.specs.Prelude.{◌≡◌, length, map, vec_len, IfOk, IfErr};
-ghost use Rattle.market_model.specs.Dispatch.{Dispatch, balance, balance_terms};
-ghost use Rattle.market_model.specs.NamedSums.{IsRefusedIn};
 ghost use Rattle.market_model.specs.PutIn.{dispatch_of, AreInjections};
 ghost use Rattle.market_model.specs.SumTables.{IsRefusedAmong, InjectionSum};
-ghost use Rattle.market_model.specs.Valued.{passed_at};
 ghost use Rattle.cert_sums.specs.Refusals.{OnPassed};
 
 use crate::VerifyStop;
-use exact_fraction::{Exact, Passed};
-use market_model::{Market, datum, zeros};
+use exact_fraction::Exact;
+use market_model::{Market, zeros};
 use std::alloc::Global;
 
 /// What each bus puts into the network at a dispatch, in 10^-9 MW.
@@ -27,16 +24,4 @@ pub fn injections<N: Exact>(
     let mut mws = zeros(alloc, market.buses().len())?;
     market_model::injections(market, dispatch, &mut mws)?;
     Ok(mws)
-}
-
-/// What all buses put in at a dispatch, of what each puts in, in 10^-9 MW.
-pub fn balance<N: Exact>(market: &Market, injections: &[N]) -> Result<N, Passed<N>>
-    ensures sum { (x : Dispatch) → AreInjections market.now x (map N.value injections.now) → IfOk result (λ sum. N.value sum ≡ balance market.now x) }
-    ensures cause { (x : Dispatch) → AreInjections market.now x (map N.value injections.now) → IfErr result (λ passed. IsRefusedIn (balance_terms market.now x) N.bound (passed_at N.value passed)) }
-{
-    let mut sum: N = datum(0);
-    for mw in injections {
-        sum = sum.plus(*mw)?;
-    }
-    Ok(sum)
 }

@@ -20,7 +20,7 @@ use crate::duals::{missing_row, negative_price, slack_price};
 use crate::limits::broken_limit;
 use crate::naming::named_rows;
 use crate::{Reason, VerifyStop};
-use cert_sums::{balance, bus_price, farkas_bound, injections, line_flows};
+use cert_sums::{bus_price, farkas_bound, injections, line_flows};
 use exact_fraction::Exact;
 use market_model::{Dual, List, Market, Memory, datum};
 use std::alloc::Global;

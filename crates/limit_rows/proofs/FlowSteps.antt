@@ -13,7 +13,7 @@ use Rattle.market_model.specs.declared.limits.Cause.TheVariants.{Base, Branch}
 use Rattle.market_model.specs.declared.limits.Row.{Row}
 use Rattle.market_model.specs.declared.participants.Parts.{Parts}
 use Rattle.market_model.specs.Dispatch.{Dispatch, places, injection}
-use Rattle.market_model.specs.LimitRows.{IsCauseAmong, flow_by, flow_terms, flow_terms_in, line_flow, line_offset, line_terms, loss_factor, offset_terms, row_offset, shift_factor}
+use Rattle.market_model.specs.LimitRows.{IsCauseAmong, flow_by, flow_terms, terms_under, line_flow, line_offset, line_terms, loss_factor, offset_terms, row_offset, shift_factor}
 use Rattle.market_model.specs.NamedSums.{IsRefusal, IsRefusedIn, IsShareRefusal}
 use Rattle.market_model.specs.PutIn.{AreInjections, put_in}
 use Rattle.market_model.specs.SumTables.{IsRefusedAmong, LineFlowSum, flow_of_line}
@@ -96,7 +96,7 @@ module _ (m : Parts) (f g : ℕ → Fraction) (same : (l : ℕ) → l < length m
   pub flow_terms-same : (r : Row) → r.line < length m.lines → IsCauseAmong (length m.lines) r.cause → flow_terms m f r ≡ flow_terms m g r
   flow_terms-same r inside among = by r.cause among
     where
-      by : (cause : Cause) → IsCauseAmong (length m.lines) cause → flow_terms_in m f r.line cause ≡ flow_terms_in m g r.line cause
+      by : (cause : Cause) → IsCauseAmong (length m.lines) cause → terms_under m f r.line cause ≡ terms_under m g r.line cause
       by Base h = ap (λ (a : Fraction). Plain a ∷ []) (same r.line inside)
       by (Branch k) h = ap₂ (λ (a b : Fraction). Plain a ∷ Product (loss_factor m r.line k) b ∷ []) (same r.line inside) (same k h)
 

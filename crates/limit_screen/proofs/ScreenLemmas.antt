@@ -3,7 +3,8 @@ use Rattle.std.specs.Prelude.{◌≡◌, ◌⊎◌, ℕ, ◌+◌, ◌-◌, ◌<�
 use Rattle.std.specs.List.{slice_get}
 use Rattle.std.specs.Ordering.{MatchOrdering}
 use Rattle.std.proofs.Common.{zero, suc, arith, inl, inr, ap, ap₂, sym, subst, ◌∙◌, get_or, drop, take, append_assoc, Ordering, Less, Equal, Greater}
-use Rattle.std.proofs.lemmas.List.{append-nil, length-append, map-append, get_or-append_right, get_or-drop, drop-map, take_rest}
+use Rattle.std.proofs.lemmas.List.{append-nil, length-append, map-append, get_or-append_right, get_or-drop, drop-map, take-map, take_rest}
+use Rattle.std.proofs.Math.Seq.{take-append_seam}
 use Rattle.std.proofs.lemmas.List.FromFn.{length-map-range_with_len, get_or-map-range_with_len}
 use Rattle.std.proofs.lemmas.List.Elements.{All-append, All-cons, All-nil, filter-append}
 use Rattle.std.proofs.lemmas.Option.{slice_get_within, get_or_from_slice_get}
@@ -22,7 +23,7 @@ use Rattle.market_model.specs.Dispatch.{Dispatch, places, injection}
 use Rattle.market_model.specs.Overrun.{size_by, size_of, IsFirstMost}
 use Rattle.market_model.specs.declared.limits.Cause.{Cause}
 use Rattle.market_model.specs.declared.limits.Row.{Row}
-use Rattle.market_model.specs.LimitRows.{bears, causes, flow_by, flow_terms, limit, line_flow, rows}
+use Rattle.market_model.specs.LimitRows.{bears, causes, flow_by, flow_terms, limit, line_flow, line_flows, rows}
 use Rattle.market_model.specs.PutIn.{put_in}
 use Rattle.market_model.proofs.MorePlaces.{places_more}
 use Rattle.limit_rows.proofs.FlowSteps.{flow_terms-same}
@@ -143,6 +144,13 @@ row_terms m x fs r market puts c =
 
 pub law_of_row_flows : LawOfRowFlows
 law_of_row_flows m x fs r market puts c = ap total (row_terms m x fs r market puts c)
+
+-- of flows of buses and of lines, what buses put in
+pub buses_before : {N : Type 0} (value : N → Fraction) (m : Parts) (x : Dispatch) (fs : List N) (n : ℕ) → n ≡ length m.buses → map value fs ≡ flows_at m x → map value (take n fs) ≡ map (injection m x) (places (length m.buses))
+buses_before value m x fs n count puts =
+    let front : List Fraction = map (injection m x) (places (length m.buses)) in
+    let long : n ≡ length front = count ∙ sym (length-map-range_with_len (injection m x) 0 (length m.buses)) in
+    sym (take-map value n fs) ∙ ap (take n) puts ∙ ap (λ (k : ℕ). take k (flows_at m x)) long ∙ take-append_seam front (line_flows m x)
 
 -- of flows of buses and of lines, those of lines alone
 pub lines_behind : {N : Type 0} (value : N → Fraction) (m : Parts) (fs : List N) (n : ℕ) → n ≡ length m.buses → put_in (map value (take (length fs - n) (drop n fs))) ≡ line_in m (map value fs)

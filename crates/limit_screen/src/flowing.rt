@@ -1,7 +1,8 @@
 //! What buses put in at a dispatch, and what flows on lines.
 
 ghost use Rattle.std.specs.Prelude.{◌≡◌, ◌+◌, length, map, IfOk, IfErr};
-ghost use Rattle.market_model.specs.PutIn.{dispatch_of, put_in};
+ghost use Rattle.market_model.specs.Dispatch.{Dispatch};
+ghost use Rattle.market_model.specs.PutIn.{AreInjections, dispatch_of, put_in};
 ghost use Rattle.market_model.specs.Stops.{OnPassed};
 ghost use Rattle.market_model.specs.Valued.{passed_at};
 ghost use Rattle.limit_screen.specs.Flows.{flows_at, line_in, IsFlowsRefusal};
@@ -37,6 +38,14 @@ pub fn flows_made<N: Exact>(
     let mut by_place = zeros(alloc, market.buses().len() + market.lines().len())?;
     flows(market, dispatch, &mut by_place)?;
     Ok(by_place)
+}
+
+/// Of the flows by bus and then by line, what buses put in.
+pub fn bus_injections<'a, N: Exact>(market: &Market, flows: &'a [N]) -> &'a [N]
+    requires { length flows.now ≡ length market.now.buses + length market.now.lines }
+    ensures { (x : Dispatch) → map N.value flows.now ≡ flows_at market.now x → AreInjections market.now x (map N.value result.now) }
+{
+    &flows[..market.buses().len()]
 }
 
 /// Of the flows by bus and then by line, those of lines.

@@ -5,5 +5,5 @@ mod flowing;
 pub mod laws;
 mod screening;
 
-pub use flowing::{flows, flows_made, line_flows};
+pub use flowing::{bus_injections, flows, flows_made, line_flows};
 pub use screening::{worst, worst_row};

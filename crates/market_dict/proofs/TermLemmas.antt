@@ -24,33 +24,6 @@ use Rattle.market_model.proofs.MorePlaces.{total-places_more}
 use Rattle.market_model.proofs.SumSteps.{plus_at, terms_at}
 use Rattle.limit_screen.specs.Flows.{flows_at}
 
--- ---- flows where nothing is accepted
-module _ (m : Parts) (x : Dispatch) (fs : List Fraction) (puts : fs ≡ flows_at m x) where
-  pub bus_at_place : (i : ℕ) → i < length m.buses → get_or fs i (whole (pos 0)) ≡ injection m x i
-  bus_at_place i lt =
-      let first : length (map (injection m x) (places (length m.buses))) ≡ length m.buses = length-map-range_with_len (injection m x) 0 (length m.buses) in
-      let from_0 : 0 + i ≡ i = Prim.omega arith in
-      ap (λ (ys : List Fraction). get_or ys i (whole (pos 0))) puts
-      ∙ get_or_append_left (map (injection m x) (places (length m.buses))) (map (line_flow m (injection m x)) (places (length m.lines))) (whole (pos 0)) i (Prim.omega (arith, lt, first))
-      ∙ get_or-map-range_with_len (injection m x) 0 (length m.buses) i i (whole (pos 0)) lt from_0
-
--- ---- the balance, bus by bus
-module _ (m : Parts) (x : Dispatch) where
-  abbrev pub balance_to : ℕ → Fraction
-  balance_to k = total (map (λ i. Plain (injection m x i)) (places k))
-
-  pub balance_step : (k : ℕ) (mw old new : Fraction) → mw ≡ injection m x k → old ≡ balance_to k → new ≡ old +ℚ mw → new ≡ balance_to (k + 1)
-  balance_step k mw old new is before e = e ∙ ap₂ ◌+ℚ◌ before is ∙ sym (total-places_more (λ i. Plain (injection m x i)) k)
-
-  pub balance_refused : (k : ℕ) (mw sum : Fraction) (bound : ℕ) (p : Passed Fraction) → k < length m.buses → mw ≡ injection m x k → sum ≡ balance_to k → IsRefusal Plus sum mw bound p → IsRefusedIn (balance_terms m x) bound p
-  balance_refused k mw sum bound p lt is before h =
-      let r = terms_at (λ i. Plain (injection m x i)) (length m.buses) k lt in
-      plus_at (balance_terms m x) (map (λ i. Plain (injection m x i)) (places k)) r.0 (Plain (injection m x k)) r.1 bound p sum mw before is h
-
-  pub balance_all : (k : ℕ) (mw : Fraction) → k ≡ length m.buses → mw ≡ balance_to k → mw ≡ balance m x
-  unfolding balance
-  balance_all k mw e is = is ∙ ap balance_to e
-
 -- ---- a buy's price
 
 pub priced : (m : Parts) (k : ℕ) (block : Block) (price : Fraction) → block ≡ block_at m k → price ≡ neg_ℚ (signed_by_side block.side (whole block.price)) → price ≡ neg_ℚ (signed_by_side (block_at m k).side (whole (block_at m k).price))

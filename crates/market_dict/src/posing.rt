@@ -15,8 +15,8 @@ ghost use Rattle.market_dict.specs.PricesAndBounds.{ArePricesAndBounds};
 
 use exact_fraction::{Exact, Passed};
 use limit_rows::{limit_at, row_flow};
-use limit_screen::{flows_made, line_flows};
-use market_model::{Market, Row, Stop, block_quantity, block_value, datum, zeros};
+use limit_screen::{bus_injections, flows_made, line_flows};
+use market_model::{Market, Row, Stop, balance, block_quantity, block_value, datum, zeros};
 use plain_list::{List, Memory};
 use simplex_core::Bounds;
 use std::alloc::Global;
@@ -58,10 +58,7 @@ fn residual_demand<N: Exact>(market: &Market, base_flows: &[N]) -> Result<N, Pas
     ensures residual_demand { IfOk result (λ mw. N.value mw ≡ residual_demand_of market.now) }
     ensures cause { IfErr result (λ passed. IsRefusedIn (balance_terms market.now (empty market.now)) N.bound (passed_at N.value passed)) }
 {
-    let mut balance: N = datum(0);
-    for bus in 0..market.buses().len() {
-        balance = balance.plus(base_flows[bus])?;
-    }
+    let balance = balance(market, bus_injections(market, base_flows))?;
     Ok(balance.neg())
 }
 

@@ -7,6 +7,7 @@ use Rattle.fraction_theory.specs.Fraction.{Fraction, whole, over}
 use Rattle.fraction_theory.specs.Sums.{Term, Plain, Product, total}
 use Rattle.market_data.specs.Scales as scales
 use Rattle.market_model.specs.declared.answered.RowId.{RowId}
+use Rattle.market_model.specs.declared.participants.Line.{Line}
 use Rattle.market_model.specs.declared.participants.Parts.{Parts}
 use Rattle.market_model.specs.declared.limits.Cause.{Cause}
 use Rattle.market_model.specs.declared.limits.Cause.TheVariants.{Base, Branch}
@@ -27,10 +28,15 @@ lost_lines m = map (place_of_line m) m.outages
 abbrev pub causes : Parts → List Cause
 causes m = Base ∷ map Branch (lost_lines m)
 
+-- the limit that a line states for a cause, if it does; that after an outage is the same after each
+abbrev pub stated : Line → Cause → Option ℤ
+stated line Base = line.base
+stated line (Branch lost) = line.post
+
 -- whether a line has a limit under a cause; it has none after its own outage
 abbrev pub bears : Parts → Cause → ℕ → Bool
-bears m Base l = is_some (line_at m l).base
-bears m (Branch lost) l = not (l == lost) && is_some (line_at m l).post
+bears m Base l = is_some (stated (line_at m l) Base)
+bears m (Branch lost) l = not (l == lost) && is_some (stated (line_at m l) (Branch lost))
 
 abbrev pub lines_of : Parts → Cause → List ℕ
 lines_of m cause = filter (bears m cause) (places (length m.lines))
@@ -66,8 +72,7 @@ mw_or_zero (Some mw) = whole mw
 mw_or_zero None = zero
 
 abbrev pub limit_in : Parts → ℕ → Cause → Fraction
-limit_in m l Base = mw_or_zero (line_at m l).base
-limit_in m l (Branch lost) = mw_or_zero (line_at m l).post
+limit_in m l cause = mw_or_zero (stated (line_at m l) cause)
 
 -- the limit of its line under its cause
 abbrev pub limit : Parts → Row → Fraction
@@ -103,13 +108,14 @@ line_terms m p l = Plain (line_offset m l) ∷ map (λ i. Product (shift_factor 
 unfoldable pub line_flow : Parts → (ℕ → Fraction) → ℕ → Fraction
 line_flow m p l = total (line_terms m p l)
 
--- the flow of a row, where lines have flows f: that of its own line, and after an outage what goes over to it of the lost one's
-abbrev pub flow_terms_in : Parts → (ℕ → Fraction) → ℕ → Cause → List Term
-flow_terms_in m f l Base = Plain (f l) ∷ []
-flow_terms_in m f l (Branch lost) = Plain (f l) ∷ Product (loss_factor m l lost) (f lost) ∷ []
+-- of an amount f of lines (a flow, an offset, a factor) that of a line under a cause: its own, and after an outage what goes over to it of the lost one's
+abbrev pub terms_under : Parts → (ℕ → Fraction) → ℕ → Cause → List Term
+terms_under m f l Base = Plain (f l) ∷ []
+terms_under m f l (Branch lost) = Plain (f l) ∷ Product (loss_factor m l lost) (f lost) ∷ []
 
+-- the flow of a row, where lines have flows f
 abbrev pub flow_terms : Parts → (ℕ → Fraction) → Row → List Term
-flow_terms m f r = flow_terms_in m f r.line r.cause
+flow_terms m f r = terms_under m f r.line r.cause
 
 abbrev pub flow_by : Parts → (ℕ → Fraction) → Row → Fraction
 flow_by m f r = total (flow_terms m f r)
@@ -119,22 +125,14 @@ abbrev pub row_flow : Parts → (ℕ → Fraction) → Row → Fraction
 row_flow m p r = flow_by m (line_flow m p) r
 
 -- ---- the same by an offset and factors of the row itself
-abbrev pub offset_terms_in : Parts → ℕ → Cause → List Term
-offset_terms_in m l Base = Plain (line_offset m l) ∷ []
-offset_terms_in m l (Branch lost) = Plain (line_offset m l) ∷ Product (loss_factor m l lost) (line_offset m lost) ∷ []
-
 abbrev pub offset_terms : Parts → Row → List Term
-offset_terms m r = offset_terms_in m r.line r.cause
+offset_terms m r = terms_under m (line_offset m) r.line r.cause
 
 unfoldable pub row_offset : Parts → Row → Fraction
 row_offset m r = total (offset_terms m r)
 
-abbrev pub factor_terms_in : Parts → ℕ → Cause → ℕ → List Term
-factor_terms_in m l Base i = Plain (shift_factor m l i) ∷ []
-factor_terms_in m l (Branch lost) i = Plain (shift_factor m l i) ∷ Product (loss_factor m l lost) (shift_factor m lost i) ∷ []
-
 abbrev pub factor_terms : Parts → Row → ℕ → List Term
-factor_terms m r i = factor_terms_in m r.line r.cause i
+factor_terms m r i = terms_under m (λ l. shift_factor m l i) r.line r.cause
 
 unfoldable pub row_factor : Parts → Row → ℕ → Fraction
 row_factor m r i = total (factor_terms m r i)

@@ -23,7 +23,7 @@ pub use limits::{Cause, Row};
 pub use market_data::{Bus, MONEY_PLACES, MW_PLACES, PRICE_PLACES, Unit, UnitList};
 pub use participants::{Block, Factor, Line, Parts, Side};
 pub use plain_list::{List, Memory};
-pub use putting::{injections, output};
+pub use putting::{balance, injections, output};
 pub use stops::Stop;
 
 #[cfg(test)]

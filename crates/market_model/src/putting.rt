@@ -5,7 +5,7 @@ ghost use Rattle.fraction_theory.specs.Fraction.{whole, ◌+ℚ◌, ◌-ℚ◌};
 ghost use Rattle.fraction_theory.specs.Sums.{total};
 ghost use Rattle.exact_fraction.specs.declared.Op.TheVariants as Op;
 ghost use Rattle.market_data.specs.Participants.{IsBus, IsDatum};
-ghost use Rattle.market_model.specs.Dispatch.{zero, signed_by_side, unit_at, units_at, blocks_at, fixed_term, block_term, injection, injection_terms, output as output_of, output_terms};
+ghost use Rattle.market_model.specs.Dispatch.{Dispatch, balance, balance_terms, zero, signed_by_side, unit_at, units_at, blocks_at, fixed_term, block_term, injection, injection_terms, output as output_of, output_terms};
 ghost use Rattle.market_model.specs.NamedSums.{IsRefusedIn, IsRefusal};
 ghost use Rattle.market_model.specs.PutIn.{dispatch_of, AreInjections, IsDemandRefusal};
 ghost use Rattle.market_model.specs.SumTables.{IsRefusedAmong, InjectionSum};
@@ -111,6 +111,18 @@ pub fn injections<N: Exact>(market: &Market, dispatch: &[N], out: &mut [N]) -> R
         *mw = injection(market, bus, dispatch)?;
     }
     Ok(())
+}
+
+/// What all buses put in, of what each puts in, in 10^-9 MW.
+pub fn balance<N: Exact>(market: &Market, injections: &[N]) -> Result<N, Passed<N>>
+    ensures sum { (x : Dispatch) → AreInjections market.now x (map N.value injections.now) → IfOk result (λ sum. N.value sum ≡ balance market.now x) }
+    ensures cause { (x : Dispatch) → AreInjections market.now x (map N.value injections.now) → IfErr result (λ passed. IsRefusedIn (balance_terms market.now x) N.bound (passed_at N.value passed)) }
+{
+    let mut sum: N = datum(0);
+    for mw in injections {
+        sum = sum.plus(*mw)?;
+    }
+    Ok(sum)
 }
 
 /// A unit's fixed part.

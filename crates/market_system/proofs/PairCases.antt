@@ -30,7 +30,7 @@ use Rattle.limit_rows.proofs.FactorLemmas.{IsLost, stands}
 use Rattle.market_model.specs.declared.limits.Cause.{Cause}
 use Rattle.market_model.specs.declared.limits.Row.{Row}
 use Rattle.market_model.specs.declared.limits.Cause.TheVariants.{Base, Branch}
-use Rattle.market_model.specs.LimitRows.{rows, limit, shift_factor, line_offset, line_terms, line_flow, flow_terms, flow_terms_in, offset_terms, offset_terms_in, row_offset, row_factor, factor_terms, factor_terms_in, flow}
+use Rattle.market_model.specs.LimitRows.{rows, limit, shift_factor, line_offset, line_terms, line_flow, flow_terms, terms_under, offset_terms, row_offset, row_factor, factor_terms, flow}
 use Rattle.market_model.specs.Market.{IsMarket}
 use Rattle.market_model.specs.NamedSums.{SameSize, term_at, IsNextTerm, IsSumStep, IsRefusedIn, IsRefusal}
 use Rattle.market_model.specs.Optimality.{net_shadow_price, up_of, down_of, congestion, congestion_by, congestion_terms, price_by, price_terms, bus_price, unit_price}
@@ -221,6 +221,11 @@ module _ (m : Parts) (taken g : List Row) (reached : Growth m taken g) (h : Choi
       let here : get_or (places n) k i ≡ k = get_or-range_with_len 0 n k i inside ∙ Prim.omega arith in
       subst (λ (j : ℕ). j < n) (sym here ∙ e) inside
 
+  -- an amount of lines, under a cause
+  under_scaled : (kind : Kind) (f : ℕ → Fraction) → ((k : ℕ) → k < length m.lines → Number kind (f k)) → (l : ℕ) (cause : Cause) → l < length m.lines → IsLost m cause → AreScaled kind (terms_under m f l cause)
+  under_scaled kind f amounts l Base lt lost = (tt, tt)
+  under_scaled kind f amounts l (Branch k) lt lost = (tt, (inl (is_loss l k lt lost.0, alone (f k) (amounts k lost.0)), tt))
+
   -- ---- where nothing is accepted, or at a best dispatch
   module _ (market : IsMarket m) (x : Dispatch) (injecting : IsInjecting m g h x) where
     injected : (i : ℕ) → i < length m.buses → Number Quantity (injection m x i)
@@ -238,10 +243,6 @@ module _ (m : Parts) (taken g : List Row) (reached : Growth m taken g) (h : Choi
     unfolding balance
     balanced = whole_sum Quantity (balance_terms m x) (of_flow x (balance_terms m x) injecting (flow_in_balance _ balance_of_all))
 
-    after : (l : ℕ) (cause : Cause) → l < length m.lines → IsLost m cause → AreScaled Quantity (flow_terms_in m (line_flow m (injection m x)) l cause)
-    after l Base lt lost = (tt, tt)
-    after l (Branch k) lt lost = (tt, (inl (is_loss l k lt lost.0, alone (line_flow m (injection m x) k) (lined k lost.0)), tt))
-
     flows_scaled : (terms : List Term) → FlowSum m x terms → AreScaled Quantity terms
     flows_scaled terms (flow_in_balance same (balance_from_bus also (injection_at i lt))) =
         scaled_append Quantity (map (fixed_term m) (units_at m i) ++ map (block_term m x) (blocks_at m i)) (Plain (neg_ℚ (whole (bus_at m i).pd)) ∷ Plain (neg_ℚ (whole (bus_at m i).gs)) ∷ [])
@@ -255,7 +256,7 @@ module _ (m : Parts) (taken g : List Row) (reached : Growth m taken g) (h : Choi
           (λ i c. let inside = below (length m.buses) i c in inl (is_shift l i lt inside, alone (injection m x i) (injected i inside))),
     )
     flows_scaled terms (flow_in_balance same balance_of_all) = scaled_map Quantity (λ i. Plain (injection m x i)) (places (length m.buses)) (λ i c. tt)
-    flows_scaled terms (flow_in_limits same (limited_row r also c flow_of_row)) = let s = stands m market r c in after r.line r.cause s.line s.lost
+    flows_scaled terms (flow_in_limits same (limited_row r also c flow_of_row)) = let s = stands m market r c in under_scaled Quantity (line_flow m (injection m x)) lined r.line r.cause s.line s.lost
 
   -- ---- prices
   pub congestion_number : IsRightChoice m g h → (i : ℕ) → i < length m.buses → Number Price (congestion m (choice_duals m g h) i)
@@ -278,14 +279,6 @@ module _ (m : Parts) (taken g : List Row) (reached : Growth m taken g) (h : Choi
   pub row_offset_number : (r : Row) → Contains (rows m) r → Number Quantity (row_offset m r)
   unfolding row_offset
   row_offset_number r c = whole_sum Quantity (offset_terms m r) (offset_of r _ c offset_of_row)
-
-  offset_scaled : (l : ℕ) (cause : Cause) → l < length m.lines → IsLost m cause → AreScaled Quantity (offset_terms_in m l cause)
-  offset_scaled l Base lt lost = (tt, tt)
-  offset_scaled l (Branch k) lt lost = (tt, (inl (is_loss l k lt lost.0, alone (line_offset m k) (is_line_offset k lost.0)), tt))
-
-  factor_scaled : (l : ℕ) (cause : Cause) (i : ℕ) → l < length m.lines → IsLost m cause → i < length m.buses → AreScaled Factor (factor_terms_in m l cause i)
-  factor_scaled l Base i lt lost bus = (tt, tt)
-  factor_scaled l (Branch k) i lt lost bus = (tt, (inl (is_loss l k lt lost.0, alone (shift_factor m k i) (is_shift k i lost.0 bus)), tt))
 
   -- ---- the bound of duals that show that nothing is feasible
   module _ (market : IsMarket m) (d : Duals Fraction) (f : IsFarkasOf m g h d) where
@@ -337,8 +330,8 @@ module _ (m : Parts) (taken g : List Row) (reached : Growth m taken g) (h : Choi
 
   -- ---- every named sum
   by_sum : IsMarket m → (kind : Option Kind) (terms : List Term) → NamedSum m g h kind terms → IsRefusedIn terms bound p → IsRangeOf m taken bound p
-  by_sum market _ terms (offset_of r same c offset_of_row) = let s = stands m market r c in by_steps Quantity terms (offset_of r terms c offset_of_row) (offset_scaled r.line r.cause s.line s.lost)
-  by_sum market _ terms (factor_of r same c (factor_at_bus i lt)) = let s = stands m market r c in by_steps Factor terms (factor_of r terms c (factor_at_bus i lt)) (factor_scaled r.line r.cause i s.line s.lost lt)
+  by_sum market _ terms (offset_of r same c offset_of_row) = let s = stands m market r c in by_steps Quantity terms (offset_of r terms c offset_of_row) (under_scaled Quantity (line_offset m) (λ l inside. is_line_offset l inside) r.line r.cause s.line s.lost)
+  by_sum market _ terms (factor_of r same c (factor_at_bus i lt)) = let s = stands m market r c in by_steps Factor terms (factor_of r terms c (factor_at_bus i lt)) (under_scaled Factor (λ k. shift_factor m k i) (λ k inside. is_shift k i inside lt) r.line r.cause s.line s.lost)
   by_sum market _ terms (of_flow x same injecting flow) = by_steps Quantity terms (of_flow x terms injecting flow) (flows_scaled market x injecting terms flow)
   by_sum market _ terms (output_of same best (output_of_unit u lt)) =
       by_steps Quantity terms (output_of terms best (output_of_unit u lt)) (tt, scaled_map Quantity (block_term m (choice_dispatch m g h)) (blocks_of m u) (λ j c. tt))

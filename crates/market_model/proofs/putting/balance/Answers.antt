@@ -2,9 +2,9 @@ use Rattle.std.proofs.Common.{rules, Err, ◌≡◌, ◌∙◌, refl}
 use Rattle.market_model.specs.Valued.{passed_at}
 use Rattle.exact_fraction.specs.declared.Op.TheVariants as Op
 use Rattle.market_model.proofs.SumSteps.{refusal}
-use Rattle.cert_sums.proofs.BalanceSteps.{balance_is, balance_refused}
+use Rattle.market_model.proofs.BalanceSteps.{balance_is, balance_refused}
 use Rattle.market_model.proofs.ListSteps.{sum_step, sum_end}
-use Rattle.cert_sums.proofs.putting.balance.Goals as goal
+use Rattle.market_model.proofs.putting.balance.Goals as goal
 
 pub loop-mw-preserved : goal.loop-mw-preserved
 loop-mw-preserved g c = sum_step g.N.Exact.value c.args.injections.now c.loop-mw.mw-index c.mw-item.result _ _ c.loop-mw-test.true c.mw-item.is c.loop-mw.invariant c.in_ok-sum.ensures.exact
