@@ -1,3 +1,2 @@
-pub mod BalanceSteps
 pub mod NamedLemmas
 pub mod BoundLemmas

@@ -1,3 +1,4 @@
+mod BalanceSteps
 pub mod ChangeLemmas
 pub mod FarkasLaw
 mod FarkasRows
