@@ -1,31 +1,31 @@
 -- Refused operations as working pairs of a dictionary's own system.
-use Rattle.std.specs.Prelude.{◌≡◌, ◌≢◌, ℕ, ◌<◌, pos, Bool, true, false, List, Option, Result, Ok, Err, IfErr, length, slice_index, if◌then◌else◌, refl}
+use Rattle.std.specs.Prelude.{◌≡◌, ◌≢◌, ℕ, ◌<◌, pos, Bool, true, false, List, [], ◌∷◌, ◌==◌, Result, Ok, Err, IfErr, length, slice_index, if◌then◌else◌, refl}
 use Rattle.std.specs.List.{Contains}
 use Rattle.std.proofs.Common.{arith, ap, sym, ◌∙◌, subst, subst₂, inl, inr}
 use Rattle.exact_fraction.specs.declared.Op.{Op}
 use Rattle.exact_fraction.specs.declared.Op.TheVariants.{Plus, Minus, Times}
 use Rattle.exact_fraction.specs.declared.Passed.{Passed}
 use Rattle.exact_fraction.specs.Passes.{IsPassed, Passes}
-use Rattle.fraction_theory.specs.Fraction.{Fraction, whole, ◌*ℚ◌}
+use Rattle.fraction_theory.specs.Fraction.{Fraction, whole, ◌+ℚ◌, ◌*ℚ◌, neg_ℚ, recip_ℚ}
+use Rattle.fraction_theory.specs.Order.{◌<ℚ◌}
 use Rattle.fraction_theory.specs.Signs.{sign_of}
 use Rattle.fraction_theory.specs.declared.Sign.{Sign}
 use Rattle.fraction_theory.specs.declared.Sign.TheVariants.{Below, Zero, Above}
 use Rattle.fraction_theory.specs.Sums.{prefix, total, Term}
 use Rattle.std.proofs.lemmas.List.{take_all}
-use Rattle.fraction_theory.proofs.FieldLaws.{ring_ℚ}
-use Rattle.fraction_theory.proofs.ListSums.{Contains-filter}
+use Rattle.fraction_theory.proofs.FieldLaws.{ring_ℚ, *ℚ-recip}
+use Rattle.fraction_theory.proofs.OrderLaws.{<ℚ_irrefl}
+use Rattle.fraction_theory.proofs.Ring.{at, by_ring, by_ring2, pmul, pneg, pnil, pone}
+use Rattle.fraction_theory.proofs.ListSums.{Contains-filter, put_at-here}
 use Rattle.linear_system.specs.Systems.{System}
-use Rattle.linear_system.specs.Choices.{Choice, IsChoice, OneExchange, at_bound, reduced, reduced_terms, value, value_terms}
-use Rattle.linear_system.specs.Exchanges.{exchanged}
-use Rattle.linear_system.proofs.ChoiceLaws.{basics_are, others_are}
-use Rattle.linear_system.proofs.ExchangeLaws.{exchanged_once}
+use Rattle.linear_system.specs.Choices.{Choice, IsChoice, OneExchange, at_bound, basics, others, reduced, reduced_terms, value, value_terms}
+use Rattle.linear_system.specs.Exchanges.{entering_entry, exchanged}
+use Rattle.linear_system.proofs.ChoiceLaws.{basics_are, is_basic, is_other, others_are}
+use Rattle.linear_system.proofs.ExchangeLaws.{exchanged_is, exchanged_once}
 use Rattle.simplex_theory.specs.Steps.{abs_by, abs_ℚ, violated_bound, displacement}
 use Rattle.simplex_theory.proofs.PosedNumbers.{posed_reduced, posed_value, value_other}
 use Rattle.simplex_core.specs.States.{IsReady, state_of}
-use Rattle.simplex_core.specs.Searches.{IsSized}
-use Rattle.simplex_core.specs.Operations.{RatioOperation, other_entry, one_entry, LesserOperation, compares, MoveOperation, MovesOperation, of_note, rising, adding_rise, pricing, adding_price}
-use Rattle.simplex_core.specs.declared.enter.Candidate.{Candidate}
-use Rattle.simplex_core.proofs.RatioLemmas.{IsBestSoFar}
+use Rattle.simplex_core.specs.Operations.{MoveOperation, MovesOperation, of_note, rising, adding_rise, pricing, adding_price}
 use Rattle.simplex_core.proofs.StepLemmas.{pivoted_rows, pivoted_columns, pivoted_entering, pivoted_leaving}
 use Rattle.linear_dict.specs.Notes.{Noted}
 use Rattle.linear_dict.specs.Tables.{cell}
@@ -147,6 +147,17 @@ abs_number s c kind x n = by (sign_of x)
     by Zero = n
     by Above = n
 
+-- the inverse of the opposite of a number
+recip_opposite : (x : Fraction) → x ≢ whole (pos 0) → recip_ℚ (neg_ℚ x) ≡ neg_ℚ (recip_ℚ x)
+recip_opposite x n =
+    let y : Fraction = neg_ℚ x in
+    let ny : ¬ (y ≡ whole (pos 0)) = λ e. n (by_ring ring_ℚ (x ∷ []) (at 0) (pneg (pneg (at 0))) refl ∙ ap neg_ℚ e ∙ by_ring ring_ℚ [] (pneg pnil) pnil refl) in
+    by_ring2 ring_ℚ (x ∷ recip_ℚ x ∷ recip_ℚ y ∷ []) (at 2) (pneg (at 1)) (at 2) pone (pmul (at 0) (at 1)) (pneg (at 1)) (pmul (pneg (at 0)) (at 2)) pone (sym (*ℚ-recip x n)) (*ℚ-recip y ny) refl
+
+abs_nil : abs_ℚ (whole (pos 0)) ≡ whole (pos 0)
+unfolding abs_ℚ whole sign_of
+abs_nil = refl
+
 -- Numbers of a ready dictionary: its notes are those of its choice.
 module _ (d : Dictionary) (ready : IsReady d) where
   value_number : (w : ℕ) → Contains d.names w → SystemNumber (system_in d) (choice_of d) Quantity (note_of d w).value
@@ -172,10 +183,6 @@ module _ (d : Dictionary) (ready : IsReady d) where
       (whole_prefix (reduced_terms s h w) ∙ sym (ap (λ (x : Bool). if x then whole (pos 0) else total (reduced_terms s h w)) (others_are s h w (other_in d ready.sound w o)).1) ∙ sym is)
       (is_reduced w (length (reduced_terms s h w)) (other_in d ready.sound w o))
 
-  noted_price : (w : ℕ) → Contains d.others w → SystemNumber (system_in d) (choice_of d) Price ((state_of d).reduced w)
-  unfolding state_of
-  noted_price w o = reduced_number w o
-
   nil_price : (b w : ℕ) → Contains d.basics b → Contains d.others w → SystemNumber (system_in d) (choice_of d) Price (note_of d b).reduced
   unfolding state_of
   nil_price b w m o = subst (SystemNumber (system_in d) (choice_of d) Price) (sym (ready.posed.unpriced b (basic_in d ready.sound b m))) (is_reduced w 0 (other_in d ready.sound w o))
@@ -185,28 +192,55 @@ module _ (d : Dictionary) (ready : IsReady d) where
   violated_number w true m = is_high w m
   violated_number w false m = is_low w m
 
-  -- comparing ratios
-  pub ratio_pair : {N : Type 0} (of : N → Fraction) (bound v : ℕ) (one other : Candidate N) → Contains d.basics v → IsSized of d v one → IsSized of d v other
-      → (op : Op) (x y : Fraction) → RatioOperation of one other op x y → Passes bound op x y → IsSystemPair (system_in d) bound op x y
-  ratio_pair {N} of bound v one other m so st op x y asked passes = lone d ready.sound ready.live bound op x y (case op x y asked) passes
+  -- the ratio of a candidate: the inverse of its entry is that of the leaving variable once the two have changed places
+  pub ratio_pair : (bound v w : ℕ) (t : Fraction) → Contains d.basics v → Contains d.others w → whole (pos 0) <ℚ t → t ≡ abs_ℚ ((choice_of d).entry v w)
+      → Passes bound Times (abs_ℚ (note_of d w).reduced) (recip_ℚ t) → IsSystemPair (system_in d) bound Times (abs_ℚ (note_of d w).reduced) (recip_ℚ t)
+  unfolding exchanged entering_entry abs_ℚ
+  ratio_pair bound v w t basic other above same passes = record {
+    passes = passes;
+    one = h;
+    near = k;
+    is_choice = ready.sound.solutions ready.live;
+    near_is_choice = exchanged_is s (system_is d ready.sound) h v w (ready.sound.solutions ready.live) leaving entering entry_not_nil;
+    are_near = inr (v, w, once);
+    sides = scaled_left Price _ _ (alone _ (inl (abs_number s h Price _ (reduced_number w other)))) (inr (subst (λ x. SystemNumber s k Factor (recip_ℚ x)) (sym same) inverse_size));
+  }
     where
-      entry : (j : Candidate N) → IsSized of d v j → SystemNumber (system_in d) (choice_of d) Factor (of j.entry)
-      entry j z = subst (SystemNumber (system_in d) (choice_of d) Factor) (sym z.entry)
-          (abs_number (system_in d) (choice_of d) Factor _ (entry_number d ready.sound ready.live bound v j.name m (subst (Contains d.others) z.place (Contains-at d.others j.column z.within))))
+      s : System
+      s = system_in d
 
-      price : (j : Candidate N) → IsSized of d v j → SystemNumber (system_in d) (choice_of d) Price (of j.price)
-      price j z = subst (SystemNumber (system_in d) (choice_of d) Price) (sym z.price)
-          (abs_number (system_in d) (choice_of d) Price _ (noted_price j.name (subst (Contains d.others) z.place (Contains-at d.others j.column z.within))))
+      h : Choice
+      h = choice_of d
 
-      case : (op : Op) (x y : Fraction) → RatioOperation of one other op x y → IsPairCase (SystemNumber (system_in d) (choice_of d)) op x y
-      case _ _ _ other_entry = scaled_right Price _ _ (entry other st) (alone _ (price one so))
-      case _ _ _ one_entry = scaled_right Price _ _ (entry one so) (alone _ (price other st))
+      k : Choice
+      k = exchanged h v w
 
-  pub lesser_pair : {N : Type 0} (of : N → Fraction) (bound v : ℕ) (above : Bool) (k : ℕ) (best : Option (Candidate N)) (next : Candidate N) → Contains d.basics v → IsBestSoFar of d v above k best → IsSized of d v next
-      → (op : Op) (x y : Fraction) → LesserOperation of best next op x y → Passes bound op x y → IsSystemPair (system_in d) bound op x y
-  lesser_pair {N} of bound v above k best next m so st _ _ _ (compares kept op x y e asked) passes =
-      let held = subst (λ (b : Option (Candidate N)). IsBestSoFar of d v above k b) e so in
-      ratio_pair of bound v next kept m st held.0 op x y asked passes
+      leaving : Contains (basics s h) v
+      leaving = basic_in d ready.sound v basic
+
+      entering : Contains (others s h) w
+      entering = other_in d ready.sound w other
+
+      once : OneExchange s h k v w
+      once = exchanged_once s (system_is d ready.sound) h v w leaving entering
+
+      entry_not_nil : h.entry v w ≢ whole (pos 0)
+      entry_not_nil e = <ℚ_irrefl (whole (pos 0)) (subst (λ x. whole (pos 0) <ℚ x) (same ∙ ap abs_ℚ e ∙ abs_nil) above)
+
+      turned : k.entry w v ≡ recip_ℚ (h.entry v w)
+      turned = put_at-here w (entering_entry h v w v) (λ x. (if v == v then whole (pos 0) else h.entry x v) +ℚ h.entry x w *ℚ entering_entry h v w v) w refl
+          ∙ put_at-here v (recip_ℚ (h.entry v w)) (λ u. neg_ℚ (h.entry v u) *ℚ recip_ℚ (h.entry v w)) v refl
+
+      inverse : SystemNumber s k Factor (recip_ℚ (h.entry v w))
+      inverse = subst (SystemNumber s k Factor) turned (is_entry w v (is_basic s k w once.entering once.enters.1) (is_other s k v once.leaving once.leaves.1))
+
+      by : (z : Sign) → SystemNumber s k Factor (recip_ℚ (abs_by z (h.entry v w)))
+      by Below = subst (SystemNumber s k Factor) (sym (recip_opposite (h.entry v w) entry_not_nil)) (is_opposite Factor _ inverse)
+      by Zero = inverse
+      by Above = inverse
+
+      inverse_size : SystemNumber s k Factor (recip_ℚ (abs_ℚ (h.entry v w)))
+      inverse_size = by (sign_of (h.entry v w))
 
   -- how far a variable is from its bound
   pub displace_pair : (bound v : ℕ) (above : Bool) → Contains d.names v → Passes bound Minus (violated_bound (system_in d) v above) (note_of d v).value

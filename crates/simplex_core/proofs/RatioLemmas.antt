@@ -1,18 +1,20 @@
 -- The search for the variable that enters: the best candidate of the ranks so far.
-use Rattle.std.specs.Prelude.{◌≡◌, ℕ, ◌+◌, ◌<◌, ◌≤◌, pos, Bool, Option, Some, None, length, slice_index, ◌⊎◌}
+use Rattle.std.specs.Prelude.{◌≡◌, ℕ, ◌+◌, ◌<◌, ◌≤◌, pos, Bool, [], ◌∷◌, Option, Some, None, length, slice_index, ◌⊎◌, refl}
 use Rattle.std.specs.List.{Contains}
-use Rattle.std.proofs.Common.{arith, ap, sym, ◌∙◌, subst, inl, inr}
+use Rattle.std.proofs.Common.{arith, ap, sym, ◌∙◌, subst, subst₂, inl, inr}
 use Rattle.std.proofs.lemmas.Bool.{cases_lt}
-use mathlib.Core.Path.{ap₂}
-use Rattle.fraction_theory.specs.Fraction.{Fraction, whole, ◌*ℚ◌}
-use Rattle.fraction_theory.specs.Order.{◌<ℚ◌}
+use Rattle.fraction_theory.specs.Fraction.{Fraction, whole, ◌*ℚ◌, recip_ℚ}
+use Rattle.fraction_theory.specs.Order.{◌<ℚ◌, ◌≤ℚ◌}
+use Rattle.fraction_theory.proofs.FieldLaws.{ring_ℚ, *ℚ-recip}
+use Rattle.fraction_theory.proofs.OrderLaws.{NonNeg_from, *ℚ-≤ℚ, *ℚ-<ℚ, <ℚ-≤ℚ, <ℚ-not-≤ℚ, <ℚ_irrefl, not-≤ℚ}
+use Rattle.fraction_theory.proofs.Ring.{at, by_ring, by_ring1, pmul, pnil, pone}
 use Rattle.linear_system.proofs.ChoiceLaws.{others_are}
 use Rattle.linear_dict.specs.Dictionaries.{Dictionary, IsDictionary, system_in}
 use Rattle.linear_dict.specs.Places.{place_in}
 use Rattle.simplex_theory.specs.Steps.{abs_ℚ, Helps}
 use Rattle.simplex_theory.proofs.LeastRatio.{IsLeast, least_alone, least_kept, least_replaced, help_above, least_enters}
 use Rattle.simplex_core.specs.States.{state_of}
-use Rattle.simplex_core.specs.Searches.{IsSized, IsBelow, IsLesser, IsEntering}
+use Rattle.simplex_core.specs.Searches.{IsSized, IsLesser, IsEntering}
 use Rattle.simplex_core.specs.declared.enter.Candidate.{Candidate}
 use Rattle.simplex_core.proofs.Ranks.{name_below, rank_of, at_rank}
 
@@ -35,6 +37,30 @@ row_of d v w = abs_ℚ ((state_of d).choice.entry v w)
 abbrev pub IsBestSoFar : {N : Type 0} → (N → Fraction) → Dictionary → ℕ → Bool → ℕ → Option (Candidate N) → Type 0
 IsBestSoFar value d v above k None = (w : ℕ) → ¬ (Earlier d v above k w)
 IsBestSoFar value d v above k (Some j) = IsSized value d v j × IsLeast (Earlier d v above k) (price_of d) (row_of d v) j.name
+
+-- two ratios over numbers above 0, and their products across
+module _ (p e q f : Fraction) (he : whole (pos 0) <ℚ e) (hf : whole (pos 0) <ℚ f) where
+  abbrev both : Fraction
+  both = e *ℚ f
+
+  both_above : whole (pos 0) <ℚ both
+  both_above = subst (λ t. t <ℚ (e *ℚ f)) (by_ring ring_ℚ (e ∷ []) (pmul (at 0) pnil) pnil refl) (*ℚ-<ℚ e (whole (pos 0)) f he hf)
+
+  inverse : (x : Fraction) → whole (pos 0) <ℚ x → x *ℚ recip_ℚ x ≡ whole (pos 1)
+  inverse x h = *ℚ-recip x (λ z. <ℚ_irrefl x (subst (λ t. t <ℚ x) (sym z) h))
+
+  left : both *ℚ (p *ℚ recip_ℚ e) ≡ p *ℚ f
+  left = by_ring1 ring_ℚ (p ∷ e ∷ f ∷ recip_ℚ e ∷ []) (pmul (pmul (at 1) (at 2)) (pmul (at 0) (at 3))) (pmul (at 0) (at 2)) (pmul (at 0) (at 2)) (pmul (at 1) (at 3)) pone (inverse e he) refl
+
+  right : both *ℚ (q *ℚ recip_ℚ f) ≡ q *ℚ e
+  right = by_ring1 ring_ℚ (q ∷ e ∷ f ∷ recip_ℚ f ∷ []) (pmul (pmul (at 1) (at 2)) (pmul (at 0) (at 3))) (pmul (at 0) (at 1)) (pmul (at 0) (at 1)) (pmul (at 2) (at 3)) pone (inverse f hf) refl
+
+  products_of_ratios : (p *ℚ recip_ℚ e) <ℚ (q *ℚ recip_ℚ f) → (p *ℚ f) <ℚ (q *ℚ e)
+  products_of_ratios l = subst₂ ◌<ℚ◌ left right (*ℚ-<ℚ both (p *ℚ recip_ℚ e) (q *ℚ recip_ℚ f) both_above l)
+
+  ratios_of_products : (p *ℚ f) <ℚ (q *ℚ e) → (p *ℚ recip_ℚ e) <ℚ (q *ℚ recip_ℚ f)
+  ratios_of_products l = not-≤ℚ (q *ℚ recip_ℚ f) (p *ℚ recip_ℚ e) (λ h. <ℚ-not-≤ℚ (p *ℚ f) (q *ℚ e) l
+      (subst₂ ◌≤ℚ◌ right left (*ℚ-≤ℚ both (q *ℚ recip_ℚ f) (p *ℚ recip_ℚ e) (NonNeg_from both (<ℚ-≤ℚ (whole (pos 0)) both both_above)) h)))
 
 module _ {N : Type 0} (value : N → Fraction) (d : Dictionary) (h : IsDictionary d) (v : ℕ) (above : Bool) where
   pub best_start : IsBestSoFar value d v above 0 None
@@ -88,11 +114,15 @@ module _ {N : Type 0} (value : N → Fraction) (d : Dictionary) (h : IsDictionar
       or_newest : (w : ℕ) → Earlier d v above (k + 1) w → Earlier d v above k w ⊎ (w ≡ next.name)
       or_newest w e = elim (earlier_cases k w e) [ inl l ↦ inl l | inr q ↦ inr (q ∙ sym name) ]
 
-      -- what is below by the sizes is below by the notes
-      below_is : (one other : Candidate N) → IsSized value d v one → IsSized value d v other
-          → IsBelow value one other ≡ ((price_of d one.name *ℚ row_of d v other.name) <ℚ (price_of d other.name *ℚ row_of d v one.name))
+      -- the ratios are in the order of the products
+      below_by : (one other : Candidate N) → IsSized value d v one → IsSized value d v other → whole (pos 0) <ℚ row_of d v one.name → whole (pos 0) <ℚ row_of d v other.name
+          → (value one.ratio <ℚ value other.ratio → (price_of d one.name *ℚ row_of d v other.name) <ℚ (price_of d other.name *ℚ row_of d v one.name))
+          × ((price_of d one.name *ℚ row_of d v other.name) <ℚ (price_of d other.name *ℚ row_of d v one.name) → value one.ratio <ℚ value other.ratio)
       unfolding state_of
-      below_is one other p q = ap₂ ◌<ℚ◌ (ap₂ ◌*ℚ◌ p.price q.entry) (ap₂ ◌*ℚ◌ q.price p.entry)
+      below_by one other p q h k = (
+        λ l. products_of_ratios (price_of d one.name) (row_of d v one.name) (price_of d other.name) (row_of d v other.name) h k (subst₂ ◌<ℚ◌ p.ratio q.ratio l),
+        λ l. subst₂ ◌<ℚ◌ (sym p.ratio) (sym q.ratio) (ratios_of_products (price_of d one.name) (row_of d v one.name) (price_of d other.name) (row_of d v other.name) h k l),
+      )
 
       pub best_more : (b : Option (Candidate N)) (r : Candidate N) → IsLesser value b next r → IsBestSoFar value d v above k b → IsBestSoFar value d v above (k + 1) (Some r)
       best_more None r e p = subst (λ (x : Candidate N). IsSized value d v x × IsLeast (Earlier d v above (k + 1)) (price_of d) (row_of d v) x.name) (sym e) (
@@ -103,13 +133,13 @@ module _ {N : Type 0} (value : N → Fraction) (d : Dictionary) (h : IsDictionar
         | inl lower ↦ subst (λ (x : Candidate N). IsSized value d v x × IsLeast (Earlier d v above (k + 1)) (price_of d) (row_of d v) x.name) (sym lower.1) (
           sized,
           least_replaced (Earlier d v above k) (Earlier d v above (k + 1)) (price_of d) (row_of d v) j.name next.name p.1 or_newest newest (entry_above (k + 1)) (entry_above k)
-              (subst (λ (t : Type 0). t) (below_is next j sized p.0) lower.0),
+              ((below_by next j sized p.0 (entry_above (k + 1) next.name newest) (entry_above k j.name p.1.one)).0 lower.0),
         )
         | inr kept ↦ subst (λ (x : Candidate N). IsSized value d v x × IsLeast (Earlier d v above (k + 1)) (price_of d) (row_of d v) x.name) (sym kept.1) (
           p.0,
           least_kept (Earlier d v above k) (Earlier d v above (k + 1)) (price_of d) (row_of d v) j.name next.name p.1 or_newest (earlier_more k j.name p.1.one)
               (Prim.omega (arith, name, earlier_below k j.name hk p.1.one))
-              (λ l. kept.0 (subst (λ (t : Type 0). t) (sym (below_is next j sized p.0)) l)),
+              (λ l. kept.0 ((below_by next j sized p.0 (entry_above (k + 1) next.name newest) (entry_above k j.name p.1.one)).1 l)),
         )
       ]
 

@@ -1,12 +1,11 @@
 -- Which operations posing and a step ask.
-use Rattle.std.specs.Prelude.{◌≡◌, ℕ, Option, Some}
+use Rattle.std.specs.Prelude.{ℕ}
 use Rattle.std.specs.List.{Contains}
 use Rattle.exact_fraction.specs.declared.Op.{Op}
 use Rattle.exact_fraction.specs.declared.Op.TheVariants.{Plus, Times}
 use Rattle.fraction_theory.specs.Fraction.{Fraction, ◌*ℚ◌}
 use Rattle.linear_dict.specs.Dictionaries.{Dictionary, choice_of, entry_of, note_of, system_in}
 use Rattle.linear_system.specs.Choices.{at_bound}
-use Rattle.simplex_core.specs.declared.enter.Candidate.{Candidate}
 
 -- what adding the price of j to the reduced prices of d asks: of a basic variable the price times its entry at each other
 -- one, added to the reduced price of that one; of an other variable its price, added to its own
@@ -20,15 +19,6 @@ pub data PriceOperation (d : Dictionary) (j : ℕ) : Op → Fraction → Fractio
 pub data BoundOperation (d : Dictionary) (w : ℕ) : Op → Fraction → Fraction → Type 0 where
   scaling_bound : (b : ℕ) → Contains d.basics b → BoundOperation d w Times ((choice_of d).entry b w) (at_bound (system_in d) (choice_of d) w)
   adding_bound : (b : ℕ) → Contains d.basics b → BoundOperation d w Plus (note_of d b).value ((choice_of d).entry b w *ℚ at_bound (system_in d) (choice_of d) w)
-
--- what comparing the ratios of two candidates asks: each one's entry times the other's price
-pub data RatioOperation {N : Type 0} (value : N → Fraction) (one other : Candidate N) : Op → Fraction → Fraction → Type 0 where
-  other_entry : RatioOperation value one other Times (value other.entry) (value one.price)
-  one_entry : RatioOperation value one other Times (value one.entry) (value other.price)
-
--- the same of a candidate and the best so far
-pub data LesserOperation {N : Type 0} (value : N → Fraction) (best : Option (Candidate N)) (next : Candidate N) : Op → Fraction → Fraction → Type 0 where
-  compares : (kept : Candidate N) (op : Op) (x y : Fraction) → best ≡ Some kept → RatioOperation value next kept op x y → LesserOperation value best next op x y
 
 -- what moving the note of w asks after v has left for k, by the new table of d: for a basic variable its entry at v times how
 -- far v moves, added to its value; for an other one the price that k had times the entry of k, added to its reduced price

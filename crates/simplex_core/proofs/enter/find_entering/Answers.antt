@@ -6,10 +6,9 @@ use Rattle.simplex_theory.specs.Steps.{Helps}
 use Rattle.simplex_core.specs.States.{state_of}
 use Rattle.simplex_core.specs.declared.enter.Candidate.{Candidate}
 use Rattle.simplex_core.proofs.RatioLemmas.{IsBestSoFar, best_start, best_skip, best_more, best_end}
-use Rattle.std.proofs.lemmas.Result.{err_from_is_err_and}
-use Rattle.simplex_core.proofs.Pairs.{lesser_pair}
+use Rattle.simplex_core.specs.Searches.{IsCandidate}
 use Rattle.simplex_core.proofs.enter.find_entering.Goals as goal
-use Rattle.simplex_core.proofs.enter.find_entering.Goals.{in-Column+in-Some+in_ok-lesser, in-Column+in_default-candidate_at, in_default}
+use Rattle.simplex_core.proofs.enter.find_entering.Goals.{in-Column+in_ok-next+in-Some, in-Column+in_ok-next+in_default-2, in_default}
 
 pub loop-rank-init : goal.loop-rank-init
 loop-rank-init g c = best_start g.N.Exact.value c.args.dict.now c.requires.sound c.args.leaving.now.name c.args.leaving.now.above
@@ -24,10 +23,14 @@ loop-rank-preserved g c =
     let k : ℕ = c.loop-rank.rank in
     let hk : k < length d.names = Prim.omega (arith, c.loop-rank-test.true, c.name_count-rank-end.ensures) in
     elim c.match-place_at.branch [
-      | in-Column+in-Some+in_ok-lesser w ↦ subst (λ (b : Option (Candidate g.row.N.Denot)). IsBestSoFar value d v a (k + 1) b) (sym w.best-is)
-          (best_more value d c.requires.sound v a k hk w.in-Some.next w.in-Some.ensures.0 (subst (λ (x : ℕ). Helps (system_in d) (state_of d) v a x) (sym w.in-Some.ensures.0) w.in-Some.ensures.1) w.in-Some.ensures.2 c.loop-rank.best _ w.in_ok-lesser.ensures.lesser c.loop-rank.invariant)
-      | in-Column+in_default-candidate_at w ↦ subst (λ (b : Option (Candidate g.row.N.Denot)). IsBestSoFar value d v a (k + 1) b) (sym w.best-is)
-          (best_skip value d c.requires.sound v a k hk c.loop-rank.best (λ p. w.in_default-candidate_at.ensures p) c.loop-rank.invariant)
+      | in-Column+in_ok-next+in-Some w ↦
+          let found = subst (IsCandidate value d v a (slice_index d.names k)) w.in-Some.is w.in_ok-next.ensures.candidate in
+          subst (λ (b : Option (Candidate g.row.N.Denot)). IsBestSoFar value d v a (k + 1) b) (sym w.best-is)
+          (best_more value d c.requires.sound v a k hk w.in-Some.next found.0 (subst (λ (x : ℕ). Helps (system_in d) (state_of d) v a x) (sym found.0) found.1) found.2 c.loop-rank.best w.lesser.result w.lesser.ensures c.loop-rank.invariant)
+      | in-Column+in_ok-next+in_default-2 w ↦
+          let idle = subst (IsCandidate value d v a (slice_index d.names k)) w.in_default-2.is w.in_ok-next.ensures.candidate in
+          subst (λ (b : Option (Candidate g.row.N.Denot)). IsBestSoFar value d v a (k + 1) b) (sym w.best-is)
+          (best_skip value d c.requires.sound v a k hk c.loop-rank.best idle c.loop-rank.invariant)
       | in_default w ↦ subst (λ (b : Option (Candidate g.row.N.Denot)). IsBestSoFar value d v a (k + 1) b) (sym w.best-is)
           (best_skip value d c.requires.sound v a k hk c.loop-rank.best
           (λ p. c.requires.sound.split.apart (slice_index d.names k) (subst (Contains d.basics) w.in_default.ensures.1 (Contains-at d.basics w.in_default.field-0 w.in_default.ensures.0))
@@ -37,15 +40,3 @@ loop-rank-preserved g c =
 pub returns-clause-found : goal.returns-clause-found
 returns-clause-found g c = best_end g.N.Exact.value c.args.dict.now c.requires.sound c.args.leaving.now.name c.args.leaving.now.above c.loop-rank.rank c.loop-rank.best
     (Prim.omega (arith, c.loop-rank-test.false, c.name_count-rank-end.ensures)) c.loop-rank.invariant
-
-pub returns-in_err-lesser-clause-pair : goal.returns-in_err-lesser-clause-pair
-returns-in_err-lesser-clause-pair g c =
-    let value = g.N.Exact.value in
-    let d : Dictionary = c.args.dict.now in
-    let v : ℕ = c.args.leaving.now.name in
-    let e = c.in_err-lesser.field-0.0 in
-    let p = err_from_is_err_and c.from_residual.result c.from_residual.ensures.1 in
-    let basic : Contains d.basics v = subst (Contains d.basics) c.requires.leaving (Contains-at d.basics c.args.leaving.now.row c.requires.row) in
-    rw (p.1, p.2)
-    (lesser_pair d c.requires.ready value g.N.Exact.bound v c.args.leaving.now.above c.loop-rank.rank c.loop-rank.best c.in-Some.next basic c.loop-rank.invariant c.in-Some.ensures.2
-    e.op (value e.left) (value e.right) c.in_err-lesser.ensures.cause.asked c.in_err-lesser.ensures.cause.passes)
