@@ -146,8 +146,8 @@ fn in_prices(rt: &impl Abort, alloc: Global, by: &Numbers) {
     assert!(rt; names_pair(&end, (Op::Plus, by.half.neg(), by.big)));
 }
 
-/// Running: y, which stands at `-big`, is to go to `big`. And in the ratio test the later column's price, `-big`, is taken
-/// times the entry 2 of the earlier one.
+/// Running: y, which stands at `-big`, is to go to `big`. And in the ratio test the later column's price, `-big`, is divided by its
+/// entry 1/2.
 fn in_steps(rt: &impl Abort, alloc: Global, by: &Numbers) {
     let far = System {
         first: (by.big.neg(), by.big.neg()),
@@ -159,9 +159,9 @@ fn in_steps(rt: &impl Abort, alloc: Global, by: &Numbers) {
     let ratio = System {
         prices: (by.one.neg(), by.big.neg()),
         second: (by.zero, by.two),
-        ..to_one(by, (by.two, by.one))
+        ..to_one(by, (by.one, by.half))
     };
-    refused(rt, alloc, &ratio, (Op::Times, by.two, by.big));
+    refused(rt, alloc, &ratio, (Op::Times, by.big, by.two));
 }
 
 #[test]
