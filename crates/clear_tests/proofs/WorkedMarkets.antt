@@ -1,4 +1,4 @@
--- The market of the tests is one, and edits keep its frame.
+-- The market of the tests is one.
 use Rattle.std.specs.Prelude.{◌≡◌, ℕ, ◌<◌, ◌≤◌, ℤ, pos, List, [], ◌∷◌, slice_index_or, refl}
 use Rattle.std.proofs.Common.{zero, suc, arith}
 use Rattle.std.proofs.lemmas.Int.{ints}
@@ -10,9 +10,7 @@ use Rattle.market_model.specs.declared.participants.Side.TheVariants.{Sell, Buy}
 use Rattle.market_model.specs.Market.{IsMarket, IsBlock, IsLine, HasRoom}
 use Rattle.market_model.specs.Stairs.{stair_in}
 use Rattle.limit_rows.proofs.TestMarkets.{one_is_market}
-use Rattle.clear_loop.specs.Keeping.{Kept, FitsFrame}
-use Rattle.clear_tests.specs.Worked.{IsWorkable, block_of, bus_of, framed, line_free, line_limited, unit_of, worked}
-use Rattle.clear_loop.proofs.FrameLemmas.{law_of_the_start}
+use Rattle.clear_tests.specs.Worked.{IsWorkable, block_of, bus_of, line_free, line_limited, unit_of, worked}
 
 module _ (base post first second load : ℤ) where
   abbrev blocks : List Block
@@ -74,10 +72,3 @@ module _ (base post first second load : ℤ) where
       rows_differ (suc i) zero d p q e = absurd (Prim.omega (arith, p))
       rows_differ (suc i) (suc zero) d p q e = absurd (Prim.omega (arith, p))
       rows_differ (suc i) (suc (suc j)) d p q e = absurd (Prim.omega (arith, q))
-
--- what fits one of them fits all of them
-pub fits_worked : (base post first second load : ℤ) (k : Kept) → FitsFrame framed k → FitsFrame (worked base post first second load) k
-fits_worked base post first second load k = law_of_the_start framed (worked base post first second load) k refl
-
-pub fits_framed : (base post first second load : ℤ) (k : Kept) → FitsFrame (worked base post first second load) k → FitsFrame framed k
-fits_framed base post first second load k = law_of_the_start (worked base post first second load) framed k refl

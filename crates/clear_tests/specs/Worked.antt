@@ -38,10 +38,6 @@ worked base post first second load = record (bare_parts
       loss = factor_of 1 0 (pos 1000000) ∷ [];
     }
 
--- one of its frame
-abbrev pub framed : Parts
-framed = worked (pos 0) (pos 0) (pos 0) (pos 0) (pos 0)
-
 -- limits are at least 0, and numbers are data
 pub record IsWorkable (base post first second load : ℤ) : Type 0 where
   pub least_base : pos 0 ≤ℤ base

@@ -6,7 +6,7 @@ ghost use Rattle.market_model.specs.Fitting.{FitsMarket};
 ghost use Rattle.market_model.specs.RightAnswers.{IsRight};
 ghost use Rattle.market_model.specs.Valued.{answer_at};
 
-use crate::worked::{is, limited};
+use crate::worked::{Data, LIMITED, is, limited, with_limits};
 use bus_prices::prices;
 use clear_loop::Clearer;
 use exact_fraction::{Exact, Frac, Frac63};
@@ -145,6 +145,37 @@ fn worst_limits<N: Exact>(alloc: Global) -> bool {
         && worst_at::<N>(alloc, &market, 50, 10) == Some(None)
 }
 
+/// Both limits are passed, and that after the outage is taken alone.
+fn takes_the_worst<N: Exact>(alloc: Global) -> bool {
+    let both = Data {
+        post: 45 * MW_ONE,
+        ..LIMITED
+    };
+    let Ok(market) = with_limits(alloc, both) else {
+        return false;
+    };
+    let mut clearer: Clearer<N> = Clearer::new(&market);
+    let Ok(answer) = clearer.clear(alloc, &market) else {
+        return false;
+    };
+    let after = RowId {
+        branch: 2,
+        outage: 1,
+    };
+    let taken = clearer.taken() == 1 && clearer.taken_row(0) == after;
+    match (answer.dispatch.slice(), answer.prices.slice()) {
+        ([first, second], [one, two, three]) => {
+            taken
+                && is(*first, 45, MW_ONE as u32)
+                && is(*second, 15, MW_ONE as u32)
+                && is_price(one, 10, 0, 10)
+                && is_price(two, 10, 20, 30)
+                && is_price(three, 10, 20, 30)
+        }
+        _ => false,
+    }
+}
+
 fn is_pay<N: Exact>(pay: &UnitPay<N>, sold: i32, paid: i32) -> bool
     requires { unsigned_abs paid ≤ 5000 }
 {
@@ -202,6 +233,13 @@ fn bus_prices_of_duals(rt: HostRuntime) -> Result<(), Fail> {
 fn the_worst_limit_by_name(rt: HostRuntime) -> Result<(), Fail> {
     assert!(rt; worst_limits::<Frac>(rt.alloc()));
     assert!(rt; worst_limits::<Frac63>(rt.alloc()));
+    Ok(())
+}
+
+#[test]
+fn the_worst_limit_alone(rt: HostRuntime) -> Result<(), Fail> {
+    assert!(rt; takes_the_worst::<Frac>(rt.alloc()));
+    assert!(rt; takes_the_worst::<Frac63>(rt.alloc()));
     Ok(())
 }
 

@@ -146,7 +146,7 @@ fn outages(alloc: Global) -> Result<List<u32>, Memory>
 }
 
 /// The market with these numbers.
-pub(crate) fn market(alloc: Global, numbers: Data) -> Result<Market, Memory>
+fn market(alloc: Global, numbers: Data) -> Result<Market, Memory>
     requires { IsWorkable numbers.base numbers.post numbers.first numbers.second numbers.load }
     ensures { IfOk result (λ market. market ≡ worked numbers.base numbers.post numbers.first numbers.second numbers.load) }
 {
@@ -163,7 +163,7 @@ pub(crate) fn market(alloc: Global, numbers: Data) -> Result<Market, Memory>
 }
 
 /// Whether limits are at least 0, and no number is the least of its type.
-pub(crate) fn is_workable(numbers: &Data) -> bool
+fn is_workable(numbers: &Data) -> bool
     ensures { result ≡ true → IsWorkable numbers.now.base numbers.now.post numbers.now.first numbers.now.second numbers.now.load }
 {
     numbers.base >= 0
@@ -173,13 +173,18 @@ pub(crate) fn is_workable(numbers: &Data) -> bool
         && numbers.load > i64::MIN
 }
 
-/// The market with the limit of 40 in the base.
-pub(crate) fn limited(alloc: Global) -> Result<Market, Memory> {
-    if is_workable(&LIMITED) {
-        market(alloc, LIMITED)
+/// The same, where the numbers are such.
+pub(crate) fn with_limits(alloc: Global, numbers: Data) -> Result<Market, Memory> {
+    if is_workable(&numbers) {
+        market(alloc, numbers)
     } else {
         Err(Memory)
     }
+}
+
+/// The market with the limit of 40 in the base.
+pub(crate) fn limited(alloc: Global) -> Result<Market, Memory> {
+    with_limits(alloc, LIMITED)
 }
 
 /// Whether a number is so many units of this size.
