@@ -18,7 +18,7 @@ ghost use Rattle.cert_sums.specs.Refusals.{IsAboveRefusal, IsBelowRefusal, IsLim
 use crate::{NamedRow, VerifyStop, bus_price, injections, line_flows};
 use exact_fraction::{Exact, Passed, Sign};
 use limit_rows::{limit_at, row_flow};
-use market_model::{Market, block_quantity, by_side, datum, zeros};
+use market_model::{Market, balance, block_quantity, by_side, datum, zeros};
 use std::alloc::Global;
 
 /// A sum with what the price of an upper limit makes of what a flow leaves of it. A price of 0 makes nothing.

@@ -22,7 +22,7 @@ use crate::naming::named_rows;
 use crate::{Reason, VerifyStop};
 use cert_sums::{bus_price, farkas_bound, injections, line_flows};
 use exact_fraction::Exact;
-use market_model::{Dual, List, Market, Memory, datum};
+use market_model::{Dual, List, Market, Memory, balance, datum};
 use std::alloc::Global;
 
 /// What may be wrong with the parts of a certificate before any sum is made of them.
