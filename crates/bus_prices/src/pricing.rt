@@ -32,8 +32,7 @@ fn with_share<N: Exact>(sum: N, price: N, factor: N) -> Result<N, Passed<N>>
     ensures sum { IfOk result (λ more. N.value more ≡ N.value sum +ℚ N.value price *ℚ N.value factor) }
     ensures cause { IfErr result (λ passed. IsShareRefusal (N.value sum) (N.value price) (N.value factor) N.bound (passed_at N.value passed)) }
 {
-    let share = price.times(factor)?;
-    sum.plus(share)
+    sum.plus_product(price, factor)
 }
 
 /// Puts the price of energy at each bus, where limits add nothing yet.

@@ -30,8 +30,7 @@ fn with_above<N: Exact>(sum: N, price: N, limit: N, flow: N) -> Result<N, Passed
         return Ok(sum);
     }
     let room = limit.minus(flow)?;
-    let share = price.times(room)?;
-    sum.plus(share)
+    sum.plus_product(price, room)
 }
 
 /// The same for a lower limit, which is the opposite of the upper one.
@@ -43,8 +42,7 @@ fn with_below<N: Exact>(sum: N, price: N, limit: N, flow: N) -> Result<N, Passed
         return Ok(sum);
     }
     let room = limit.plus(flow)?;
-    let share = price.times(room)?;
-    sum.plus(share)
+    sum.plus_product(price, room)
 }
 
 /// A sum with what the prices that duals give a row make of what its flow leaves of its limit on either side, where nothing is accepted.
@@ -93,10 +91,7 @@ fn with_most<N: Exact>(sum: N, weight: N, quantity: N) -> Result<N, Passed<N>>
 {
     match weight.sign() {
         Sign::Below | Sign::Zero => Ok(sum),
-        Sign::Above => {
-            let share = weight.times(quantity)?;
-            sum.plus(share)
-        }
+        Sign::Above => sum.plus_product(weight, quantity),
     }
 }
 

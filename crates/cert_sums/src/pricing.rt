@@ -32,8 +32,7 @@ fn less_net_price<N: Exact>(sum: N, up: N, down: N, factor: N) -> Result<N, Pass
         return Ok(sum);
     }
     let net_price = up.minus(down)?;
-    let share = net_price.neg().times(factor)?;
-    sum.plus(share)
+    sum.plus_product(net_price.neg(), factor)
 }
 
 /// What the rows add to the price at a bus.

@@ -1,11 +1,9 @@
-use Rattle.std.proofs.Common.{rules, Err, refl, ◌<◌, ◌≡◌, ◌∙◌, ap, length, pos, arith}
+use Rattle.std.proofs.Common.{rules, Err, refl, inl, inr, ◌<◌, ◌≡◌, ◌∙◌, ap, length, pos, arith}
 use Rattle.std.specs.Prelude.{slice_index_or}
 use Rattle.market_model.specs.declared.participants.Side.TheVariants.{Sell}
 use Rattle.market_model.specs.Optimality.{welfare as welfare_of}
 use Rattle.settlement.proofs.PayLemmas.{welfare_step, worth_refused, welfare_refused}
-use Rattle.exact_fraction.specs.declared.Op.TheVariants as Op
 use Rattle.market_model.specs.Valued.{passed_at}
-use Rattle.market_model.proofs.SumSteps.{refusal}
 use Rattle.settlement.proofs.worth.welfare.Goals as goal
 
 pub loop-place-preserved : goal.loop-place-preserved
@@ -14,7 +12,7 @@ loop-place-preserved g c =
     welfare_step g.N.Exact.value c.args.market.now c.args.dispatch.now c.loop-place.place _ c.index-dispatch-place.result _ _ _
     (omega (arith, c.requires, ap length blocks)) c.index-dispatch-place.is
     (ap (λ bs. slice_index_or bs c.loop-place.place (record { unit = 0; side = Sell; quantity = pos 0; price = pos 0 })) blocks)
-    c.loop-place.invariant c.in_ok-worth.ensures.worth c.in_ok-sum.ensures.exact
+    c.loop-place.invariant refl c.in_ok-sum.ensures.worth
 
 pub returns-clause-worth : goal.returns-clause-worth
 unfolding welfare_of
@@ -23,27 +21,19 @@ returns-clause-worth g c =
     let all : c.loop-place.place ≡ length c.args.market.now.blocks = omega (arith, ap length blocks) in
     rw all at c.loop-place.invariant
 
-pub returns-in_err-worth-clause-cause : goal.returns-in_err-worth-clause-cause
-returns-in_err-worth-clause-cause g c =
-    let m = c.args.market.now in
-    let k = c.loop-place.place in
-    let blocks = c.slice-block-items.ensures ∙ c.blocks-2.ensures.list in
-    let given : c.from_residual.result ≡ Err c.in_err-worth.field-0.0 = search rules in
-    let below : k < length m.blocks = omega (arith, c.loop-place-test.true, ap length blocks) in
-    rw given
-    (worth_refused g.N.Exact.value m c.args.dispatch.now g.N.Exact.bound (passed_at g.N.Exact.value c.in_err-worth.field-0.0) k _ c.index-dispatch-place.result
-    below (omega (arith, below, c.requires)) c.index-dispatch-place.is
-    (ap (λ bs. slice_index_or bs k (record { unit = 0; side = Sell; quantity = pos 0; price = pos 0 })) blocks) c.in_err-worth.ensures.cause)
-
 pub returns-in_err-sum-clause-cause : goal.returns-in_err-sum-clause-cause
 returns-in_err-sum-clause-cause g c =
+    let value = g.N.Exact.value in
     let m = c.args.market.now in
     let k = c.loop-place.place in
     let blocks = c.slice-block-items.ensures ∙ c.blocks-2.ensures.list in
-    let given : c.from_residual-in_err-sum.result ≡ Err c.in_err-sum.field-0.0 = search rules in
+    let given : c.from_residual.result ≡ Err c.in_err-sum.field-0.0 = search rules in
     let below : k < length m.blocks = omega (arith, c.loop-place-test.true, ap length blocks) in
+    let same = ap (λ bs. slice_index_or bs k (record { unit = 0; side = Sell; quantity = pos 0; price = pos 0 })) blocks in
+    let inside : k < length c.args.dispatch.now = omega (arith, below, c.requires) in
     rw given
-    (welfare_refused g.N.Exact.value m c.args.dispatch.now g.N.Exact.bound (passed_at g.N.Exact.value c.in_err-sum.field-0.0) k _ c.index-dispatch-place.result (g.N.Exact.value c.loop-place.sum) _
-    below (omega (arith, below, c.requires)) c.index-dispatch-place.is
-    (ap (λ bs. slice_index_or bs k (record { unit = 0; side = Sell; quantity = pos 0; price = pos 0 })) blocks) c.loop-place.invariant c.in_ok-worth.ensures.worth
-    (refusal g.N.Exact.value g.N.Exact.bound Op.Plus c.loop-place.sum c.in_ok-worth.field-0 _ _ c.in_err-sum.field-0.0 refl refl c.in_err-sum.ensures))
+    (elim c.in_err-sum.ensures.cause [
+      | inl h ↦ worth_refused value m c.args.dispatch.now g.N.Exact.bound (passed_at value c.in_err-sum.field-0.0) k _ c.index-dispatch-place.result below inside c.index-dispatch-place.is same h
+      | inr h ↦ welfare_refused value m c.args.dispatch.now g.N.Exact.bound (passed_at value c.in_err-sum.field-0.0) k _ c.index-dispatch-place.result (value c.loop-place.sum) _ below inside c.index-dispatch-place.is same
+          c.loop-place.invariant refl h
+    ])
