@@ -67,3 +67,16 @@ pub record IsPassedWith {N : Type 0} (value : N → Fraction) (bound : ℕ) (x a
 -- the exact sum of x and the product of a and b, or, exactly where that is too large, an operation on the way that passes the bound
 abbrev pub IsExactWith : {N : Type 0} → (N → Fraction) → ℕ → N → N → N → Result N (Passed N) → Type 0
 IsExactWith value bound x a b result = MatchResult result (IsSumWith value x a b) (IsPassedWith value bound x a b)
+
+-- r is the exact outcome
+pub record IsValue {N : Type 0} (value : N → Fraction) (op : Op) (left right r : N) : Type 0 where
+  pub exact : value r ≡ outcome op (value left) (value right)
+
+-- the exact outcome is too large, and e is the operation with its two sides
+pub record IsTooLargeAt {N : Type 0} (value : N → Fraction) (bound : ℕ) (op : Op) (left right : N) (e : Passed N) : Type 0 where
+  pub too_large : IsTooLarge bound (outcome op (value left) (value right))
+  pub passed : IsPassed value bound op left right e
+
+-- the exact outcome, or, exactly where that is too large, the operation with its two sides
+abbrev pub IsExactValue : {N : Type 0} → (N → Fraction) → ℕ → Op → N → N → Result N (Passed N) → Type 0
+IsExactValue value bound op left right result = MatchResult result (IsValue value op left right) (IsTooLargeAt value bound op left right)

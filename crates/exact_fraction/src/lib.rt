@@ -5,10 +5,12 @@ ghost use Rattle.std.specs.Prelude.{◌≡◌, ◌≢◌, ℕ, ◌<◌, ◌≤�
 
 pub use fraction_theory::Sign;
 use std::cmp::Ordering;
+pub use sums::{exact_difference, exact_sum};
 
 mod divisor;
 pub mod laws;
 mod ratio;
+mod sums;
 mod text;
 mod wide_sum;
 mod word;
