@@ -12,7 +12,7 @@ ghost use Rattle.market_model.specs.SumTables.{IsRefusedAmong, PriceSum};
 ghost use Rattle.market_model.specs.Valued.{dual_at, duals_at, passed_at, price_at};
 ghost use Rattle.bus_prices.specs.PriceParts.{HaveParts};
 
-use exact_fraction::{Exact, Passed, Sign};
+use exact_fraction::{Exact, Passed, Sign, exact_sum};
 use limit_rows::{found_row, row_factor};
 use market_model::{Dual, Duals, Market, Price, Row, datum};
 
@@ -79,7 +79,7 @@ fn put_totals<N: Exact>(out: &mut [Price<N>]) -> Result<(), Passed<N>>
     ensures cause { (energy : Fraction) (congestion : ℕ → Fraction) → HaveParts N.value energy congestion out.old → IfErr result (λ passed. (bus : ℕ) × (bus < length out.old) × IsRefusal Plus energy (congestion bus) N.bound (passed_at N.value passed)) }
 {
     for place in out.iter_mut() {
-        let total = place.energy.plus(place.congestion)?;
+        let total = exact_sum(place.energy, place.congestion)?;
         *place = Price {
             energy: place.energy,
             congestion: place.congestion,

@@ -14,7 +14,7 @@ ghost use Rattle.limit_screen.specs.Flows.{line_in};
 ghost use Rattle.limit_screen.specs.Screening.{AllHold, IsWorstNamed, IsOverrunRefusal, IsScreenRefusal, IsWorstOf, overrun_by, rows_to};
 
 use crate::flowing::line_flows;
-use exact_fraction::{Exact, Passed, Sign};
+use exact_fraction::{Exact, Passed, Sign, exact_difference};
 use limit_rows::{cause_at, cause_count, has_row, limit_at, name_at, row_flow};
 use market_model::{Market, Row, RowId, datum};
 use std::cmp::Ordering;
@@ -44,7 +44,7 @@ fn beyond<N: Exact>(flow: N, limit: N) -> Result<Option<N>, Passed<N>>
 {
     let size = size(flow);
     match size.order(limit) {
-        Ordering::Greater => Ok(Some(size.minus(limit)?)),
+        Ordering::Greater => Ok(Some(exact_difference(size, limit)?)),
         Ordering::Less | Ordering::Equal => Ok(None),
     }
 }

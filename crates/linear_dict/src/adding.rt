@@ -11,7 +11,7 @@ ghost use Rattle.linear_dict.specs.Tables.{cell};
 use crate::index::Variable;
 use crate::place::Place;
 use crate::zero::is_zero;
-use exact_fraction::{Exact, Passed};
+use exact_fraction::{Exact, Passed, exact_sum};
 use plain_list::Memory;
 use std::alloc::Global;
 
@@ -155,7 +155,7 @@ fn add_term<N: Exact>(
             match variable.place {
                 Place::Row(r) => add_multiple(sums, table, columns, r, entry),
                 Place::Column(c) => {
-                    let sum = sums[c].plus(entry)?;
+                    let sum = exact_sum(sums[c], entry)?;
                     sums[c] = sum;
                     Ok(())
                 }

@@ -14,7 +14,7 @@ ghost use Rattle.market_model.specs.Valued.{passed_at};
 use crate::amounts::datum;
 use crate::blocks::by_side;
 use crate::{Block, Bus, Market, Unit};
-use exact_fraction::{Exact, Passed};
+use exact_fraction::{Exact, Passed, exact_difference, exact_sum};
 
 /// A sum with the fixed part of a unit, where that counts.
 #[tactic(auto, using(market_data::proofs::Data::datum_read))]
@@ -25,7 +25,7 @@ fn with_unit<N: Exact>(sum: N, unit: &Unit, belongs: bool) -> Result<N, Passed<N
     ensures cause { IfErr result (λ passed. IsRefusal Op.Plus (N.value sum) (whole unit.now.fixed) N.bound (passed_at N.value passed)) }
 {
     if belongs {
-        sum.plus(datum(unit.fixed))
+        exact_sum(sum, datum(unit.fixed))
     } else {
         Ok(sum)
     }
@@ -38,7 +38,7 @@ fn with_block<N: Exact>(sum: N, block: &Block, belongs: bool, mw: N) -> Result<N
     ensures cause { IfErr result (λ passed. IsRefusal Op.Plus (N.value sum) (signed_by_side block.now.side (N.value mw)) N.bound (passed_at N.value passed)) }
 {
     if belongs {
-        sum.plus(by_side(block.side, mw))
+        exact_sum(sum, by_side(block.side, mw))
     } else {
         Ok(sum)
     }
@@ -83,8 +83,8 @@ fn less_demand<N: Exact>(sum: N, bus: &Bus) -> Result<N, Passed<N>>
     ensures left { IfOk result (λ left. N.value left ≡ (N.value sum -ℚ whole bus.now.pd) -ℚ whole bus.now.gs) }
     ensures cause { IfErr result (λ passed. IsDemandRefusal (N.value sum) bus.now N.bound (passed_at N.value passed)) }
 {
-    let unloaded = sum.minus(datum(bus.pd))?;
-    unloaded.minus(datum(bus.gs))
+    let unloaded = exact_difference(sum, datum(bus.pd))?;
+    exact_difference(unloaded, datum(bus.gs))
 }
 
 /// What a bus puts in.
@@ -120,7 +120,7 @@ pub fn balance<N: Exact>(market: &Market, injections: &[N]) -> Result<N, Passed<
 {
     let mut sum: N = datum(0);
     for mw in injections {
-        sum = sum.plus(*mw)?;
+        sum = exact_sum(sum, *mw)?;
     }
     Ok(sum)
 }

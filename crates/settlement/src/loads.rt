@@ -12,7 +12,7 @@ ghost use Rattle.market_model.specs.Settlement.{pay_of_load};
 ghost use Rattle.settlement.specs.Paying.{total_at};
 ghost use Rattle.settlement.specs.Refusals.{IsMoneyStop};
 
-use exact_fraction::{Exact, Passed};
+use exact_fraction::{Exact, Passed, exact_sum};
 use market_model::{Bus, List, Load, Market, Price, Stop, datum};
 use std::alloc::Global;
 
@@ -26,7 +26,7 @@ fn load<N: Exact>(bus: &Bus, price: N) -> Result<Load<N>, Passed<N>>
         ⊎ IsRefusal Times (N.value price) (whole bus.now.pd +ℚ whole bus.now.gs) N.bound (passed_at N.value passed)) }
 {
     let pd: N = datum(bus.pd);
-    let mw = pd.plus(datum(bus.gs))?;
+    let mw = exact_sum(pd, datum(bus.gs))?;
     let pays = price.times(mw)?;
     Ok(Load { mw, pays })
 }

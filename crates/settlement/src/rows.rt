@@ -11,7 +11,7 @@ ghost use Rattle.market_model.specs.SumTables.{IsRefusedAmong, PaidRowSum};
 ghost use Rattle.market_model.specs.Valued.{dual_at, passed_at, rent_at};
 ghost use Rattle.limit_screen.specs.Flows.{line_in};
 
-use exact_fraction::{Exact, Passed, Sign};
+use exact_fraction::{Exact, Passed, Sign, exact_difference, exact_sum};
 use limit_rows::{limit_at, row_flow, row_offset};
 use limit_screen::line_flows;
 use market_model::{Dual, Market, Rent, Row, datum};
@@ -27,11 +27,11 @@ fn earned<N: Exact>(dual: &Dual<N>, limit: N, offset: N) -> Result<N, Passed<N>>
 {
     match dual.down.sign() {
         Sign::Zero => {
-            let room = limit.minus(offset)?;
+            let room = exact_difference(limit, offset)?;
             dual.up.times(room)
         }
         Sign::Below | Sign::Above => {
-            let room = limit.plus(offset)?;
+            let room = exact_sum(limit, offset)?;
             dual.down.times(room)
         }
     }

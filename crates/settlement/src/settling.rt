@@ -18,7 +18,7 @@ ghost use Rattle.settlement.specs.Refusals.{IsMoneyStop, IsSettlementStop};
 use crate::loads::loads;
 use crate::rents::rents;
 use crate::units::unit_pays;
-use exact_fraction::{Exact, Passed};
+use exact_fraction::{Exact, Passed, exact_sum};
 use limit_screen::flows_made;
 use market_model::{Duals, Load, Market, Money, Price, Stop, UnitPay, datum};
 use std::alloc::Global;
@@ -30,10 +30,10 @@ fn surplus<N: Exact>(loads: &[Load<N>], units: &[UnitPay<N>]) -> Result<N, Passe
 {
     let mut surplus: N = datum(0);
     for load in loads {
-        surplus = surplus.plus(load.pays)?;
+        surplus = exact_sum(surplus, load.pays)?;
     }
     for unit in units {
-        surplus = surplus.plus(unit.paid.neg())?;
+        surplus = exact_sum(surplus, unit.paid.neg())?;
     }
     Ok(surplus)
 }

@@ -10,7 +10,7 @@ ghost use Rattle.simplex_core.specs.Turns.{moved_note, noted_anew, turned};
 
 use crate::enter::Candidate;
 use crate::leave::Leaving;
-use exact_fraction::{Exact, Passed};
+use exact_fraction::{Exact, Passed, exact_difference};
 use linear_dict::{Dict, Note, Place};
 
 /// How the notes move: the leaving variable goes to a bound, and all values and reduced prices with it.
@@ -123,7 +123,7 @@ pub(crate) fn step<N: Exact>(
 {
     let note = dict.note(leaving.name);
     let bound = bound_on(&note, leaving.above);
-    let displacement = bound.minus(note.value)?;
+    let displacement = exact_difference(bound, note.value)?;
     let price = dict.note(entering.name).reduced;
     dict.pivot(leaving.row, entering.column)?;
     let step = Move {

@@ -13,7 +13,7 @@ ghost use Rattle.simplex_core.specs.Turns.{noted_anew};
 use crate::bounds::Bounds;
 use crate::exchange::bound_on;
 use crate::solving::Posed;
-use exact_fraction::{Exact, Passed, Sign};
+use exact_fraction::{Exact, Passed, Sign, exact_sum};
 use linear_dict::{Dict, Note, Place};
 
 /// The note of a variable that does not stand at a bound yet.
@@ -101,7 +101,7 @@ fn add_price<N: Exact>(dict: &mut Dict<N>, name: u32) -> Result<(), Passed<N>>
     match dict.place(name) {
         Place::Row(row) => add_basic_price(dict, row, name, note.price),
         Place::Column(_) => {
-            let reduced = note.reduced.plus(note.price)?;
+            let reduced = exact_sum(note.reduced, note.price)?;
             dict.set_note(name, Note { reduced, ..note });
             Ok(())
         }

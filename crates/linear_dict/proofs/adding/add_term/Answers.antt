@@ -48,7 +48,7 @@ returns-in_err-sum-in-Column-place-clause-cause g c =
     let p = err_from_is_err_and c.from_residual.result c.from_residual.ensures.1 in
     rw (p.1, p.2) (λ f s.
     refused value g.N.Exact.bound (TermOperation value c.args.columns c.args.table.now entries c.args.variable f) Plus c.index.result.now entry c.in_err-sum-in-Column-place.field-0.0
-    (f c.in-Column-place.c) (get_or (map value entries) c.in-Column.j (whole (pos 0))) c.in_err-sum-in-Column-place.ensures
+    (f c.in-Column-place.c) (get_or (map value entries) c.in-Column.j (whole (pos 0))) c.in_err-sum-in-Column-place.ensures.passed
     (sums_read value c.args.sums.now.items c.args.columns f c.in-Column-place.c c.index.result.now s hk c.index.ensures)
     (ap value c.index-entries-j.is ∙ sym (get_or-map value entries c.in-Column.j entry (whole (pos 0)) hj))
     (of_other c.in-Column.j c.in-Column-place.c c.in-Column.is c.in-Column-place.is))

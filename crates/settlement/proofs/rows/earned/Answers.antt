@@ -35,7 +35,7 @@ returns-in_err-room-in-Zero-clause-cause g c =
     let given : c.from_residual.result ≡ Err c.in_err-room-in-Zero.field-0.0 = search rules in
     rw given
     (inl (less_refused (dual_at value c.args.dual.now) (value c.args.limit) (value c.args.offset) g.N.Exact.bound (passed_at value c.in_err-room-in-Zero.field-0.0)
-    (refusal value g.N.Exact.bound Minus c.args.limit c.args.offset _ _ c.in_err-room-in-Zero.field-0.0 refl refl c.in_err-room-in-Zero.ensures)))
+    (refusal value g.N.Exact.bound Minus c.args.limit c.args.offset _ _ c.in_err-room-in-Zero.field-0.0 refl refl c.in_err-room-in-Zero.ensures.passed)))
 
 pub returns-in_err-room-in-Below-clause-cause : goal.returns-in_err-room-in-Below-clause-cause
 returns-in_err-room-in-Below-clause-cause g c =
@@ -43,7 +43,7 @@ returns-in_err-room-in-Below-clause-cause g c =
     let given : c.from_residual-in_err-room-in-Below.result ≡ Err c.in_err-room-in-Below.field-0.0 = search rules in
     rw given
     (inr (inl (more_refused (dual_at value c.args.dual.now) (value c.args.limit) (value c.args.offset) g.N.Exact.bound (passed_at value c.in_err-room-in-Below.field-0.0)
-    (refusal value g.N.Exact.bound Plus c.args.limit c.args.offset _ _ c.in_err-room-in-Below.field-0.0 refl refl c.in_err-room-in-Below.ensures))))
+    (refusal value g.N.Exact.bound Plus c.args.limit c.args.offset _ _ c.in_err-room-in-Below.field-0.0 refl refl c.in_err-room-in-Below.ensures.passed))))
 
 pub returns-in_ok-room-in-Below : goal.returns-in_ok-room-in-Below
 returns-in_ok-room-in-Below g c =

@@ -78,7 +78,7 @@ returns-in_err-displacement-clause-pair g c =
     let basic : Contains d.basics v = subst (Contains d.basics) c.requires.leaving (Contains-at d.basics c.args.leaving.now.row c.requires.row) in
     rw (p.1, p.2)
     (pair_by value g.N.Exact.bound (system_in d) Minus c.bound_on-bound.result c.note-note.result.value c.in_err-displacement.field-0.0 (violated_bound (system_in d) v a) (note_of d v).value
-    c.in_err-displacement.ensures bound (ap Noted.value is) (displace_pair d c.requires.ready g.N.Exact.bound v a (c.requires.sound.split.first_named v basic)))
+    c.in_err-displacement.ensures.passed bound (ap Noted.value is) (displace_pair d c.requires.ready g.N.Exact.bound v a (c.requires.sound.split.first_named v basic)))
 
 pub returns-clause-pair : goal.returns-clause-pair
 unfolding displacement

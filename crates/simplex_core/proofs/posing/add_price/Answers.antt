@@ -47,4 +47,4 @@ returns-in_err-reduced-in-Column-clause-cause g c =
     let p = err_from_is_err_and c.from_residual.result c.from_residual.ensures.1 in
     rw (p.1, p.2)
     (refused value g.N.Exact.bound (PriceOperation d j) Plus c.note-note.result.reduced c.note-note.result.price c.in_err-reduced-in-Column.field-0.0
-    (note_of d j).reduced ((system_in d).price j) c.in_err-reduced-in-Column.ensures (ap Noted.reduced c.note-note.ensures) (price_is d j r c.note-note.ensures) (adding_own other))
+    (note_of d j).reduced ((system_in d).price j) c.in_err-reduced-in-Column.ensures.passed (ap Noted.reduced c.note-note.ensures) (price_is d j r c.note-note.ensures) (adding_own other))
