@@ -5,10 +5,10 @@ use Rattle.market_model.specs.Dispatch.{zero}
 use Rattle.limit_screen.proofs.ScreenLemmas.{above_nil, below_nil, not_past}
 use Rattle.limit_screen.proofs.screening.beyond.Goals as goal
 
-pub returns-in_ok-minus-in-Greater-clause-overrun : goal.returns-in_ok-minus-in-Greater-clause-overrun
-returns-in_ok-minus-in-Greater-clause-overrun g c =
-    let is = c.in_ok-minus-in-Greater.ensures.exact ∙ ap (λ (x : Fraction). x -ℚ g.N.Exact.value c.args.limit) c.size-size.ensures in (
-      subst (λ x. zero <ℚ x) (sym c.in_ok-minus-in-Greater.ensures.exact) (above_nil (g.N.Exact.value c.size-size.result) (g.N.Exact.value c.args.limit) c.in-Greater.ensures),
+pub returns-in_ok-exact_difference-in-Greater-clause-overrun : goal.returns-in_ok-exact_difference-in-Greater-clause-overrun
+returns-in_ok-exact_difference-in-Greater-clause-overrun g c =
+    let is = c.in_ok-exact_difference-in-Greater.ensures.exact ∙ ap (λ (x : Fraction). x -ℚ g.N.Exact.value c.args.limit) c.size-size.ensures in (
+      subst (λ x. zero <ℚ x) (sym c.in_ok-exact_difference-in-Greater.ensures.exact) (above_nil (g.N.Exact.value c.size-size.result) (g.N.Exact.value c.args.limit) c.in-Greater.ensures),
       is,
     )
 
