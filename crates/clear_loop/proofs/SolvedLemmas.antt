@@ -27,10 +27,9 @@ use Rattle.market_model.proofs.SumParts.{flow_carried}
 use Rattle.market_model.specs.SumTables.{IsRefusedAmong, balance_of_all, flow_of_row, limited_row, FlowSum, flow_in_balance, flow_in_limits, OutputSum, PriceSum, PaymentSum, left_of_all, rent_of_row, MoneySum, welfare_of_all, payment_at_duals, PaidRowSum, flow_after_outage, paid_offset, upper_of_row, lower_of_row, SettledSum, paid_output, demand_of_bus, payment, paid_row, offset_of_row, output_of_unit}
 use Rattle.market_model.specs.Optimality.{Feasible, Supports, IsOneSided, ProperDuals, named_rows, names_row, same_id, up_in, down_in, bus_price, unit_price, welfare_terms}
 use Rattle.market_model.specs.Settlement.{left_terms, rent_terms, surplus_terms}
-use Rattle.market_system.specs.Growth.{BestFor}
+use Rattle.market_system.specs.Growth.{BestFor, PricesOnly}
 use Rattle.market_system.specs.MarketNumbers.{IsRightChoice, IsInjecting, of_flow, output_of, of_price, of_money, offset_of, MarketNumber, is_load, is_shunt, is_limit, of_opposite, of_sum}
 use Rattle.market_system.specs.MarketSystem.{system_of, balance_name, row_name, is_in, choice_dispatch, choice_duals}
-use Rattle.market_system.specs.Outcomes.{PricesOnly}
 use Rattle.market_system.specs.PairLaw.{RefusalsArePairs}
 use Rattle.market_system.specs.WorkingPairs.{IsRangeOf}
 use Rattle.market_system.proofs.DualLists.{up-made, down-made}

@@ -15,7 +15,7 @@ use Rattle.market_model.specs.LimitRows.{rows as all_rows, limit, shift_factor, 
 use Rattle.market_model.specs.Optimality.{Feasible, Supports, up_of, down_of, net_shadow_price}
 use Rattle.market_model.specs.Infeasibility.{ShowsInfeasible}
 use Rattle.market_system.specs.MarketSystem.{balance_name, row_name, system_of, choice_dispatch, choice_duals}
-use Rattle.market_system.specs.Growth.{BestFor}
+use Rattle.market_system.specs.Growth.{BestFor, PricesOnly}
 use Rattle.market_model.specs.NamedSums.{SameSize}
 use Rattle.market_model.specs.SumTables.{FlowSum, OffsetSum, FactorSum, OutputSum, PriceSum, BoundSum, MoneySum}
 
@@ -37,7 +37,7 @@ pub record IsFarkasOf (m : Parts) (rows : List Row) (h : Choice) (d : Duals Frac
   pub energy : SameSize d.energy (multiplier h basic (balance_name m))
   pub limits : (r : Row) → Contains rows r → SameSize (net_shadow_price m d r) (multiplier h basic (row_name m r))
   pub one_sided : (r : Row) → Contains rows r → (up_of m d r ≡ zero) ⊎ (down_of m d r ≡ zero)
-  pub no_others : (r : Row) → Contains (all_rows m) r → ¬ (Contains rows r) → (up_of m d r ≡ zero) × (down_of m d r ≡ zero)
+  pub no_others : PricesOnly m rows d
 
 -- The sums that may be added up at a choice: each with the kind of its first terms, which money has not, its terms in order, and when it counts.
 pub data NamedSum (m : Parts) (rows : List Row) (h : Choice) : Option Kind → List Term → Type 0 where
