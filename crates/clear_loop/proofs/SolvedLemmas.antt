@@ -29,10 +29,10 @@ use Rattle.market_model.specs.Optimality.{Feasible, Supports, IsOneSided, Proper
 use Rattle.market_model.specs.Settlement.{left_terms, rent_terms, surplus_terms}
 use Rattle.market_system.specs.Growth.{BestFor, PricesOnly}
 use Rattle.market_system.specs.MarketNumbers.{IsRightChoice, IsInjecting, of_flow, output_of, of_price, of_money, offset_of, MarketNumber, is_load, is_shunt, is_limit, of_opposite, of_sum}
-use Rattle.market_system.specs.MarketSystem.{system_of, balance_name, row_name, is_in, choice_dispatch, choice_duals}
+use Rattle.market_system.specs.MarketSystem.{system_of, is_in, choice_dispatch, choice_duals}
 use Rattle.market_system.specs.PairLaw.{RefusalsArePairs}
 use Rattle.market_system.specs.WorkingPairs.{IsRangeOf}
-use Rattle.market_system.proofs.DualLists.{up-made, down-made}
+use Rattle.market_system.proofs.DualLists.{prices_only-made}
 use Rattle.market_system.proofs.GrowthLaws.{growth_none}
 use Rattle.market_system.proofs.PairCases.{law_of_the_pairs, row_flow_number, row_offset_number}
 use Rattle.market_system.proofs.RowOrder.{is_in-in, is_in-from}
@@ -47,22 +47,6 @@ use Rattle.market_dict.specs.Findings.{IsSolvedBy}
 use Rattle.clear_loop.proofs.BrokenLemmas.{row_is, sized_by}
 
 -- ---- prices of rows in hand
-not_in : (g : List Row) (r : Row) → ¬ (Contains g r) → is_in g r ≡ false
-not_in g r out = by (is_in g r) refl
-  where
-    by : (t : Bool) → is_in g r ≡ t → is_in g r ≡ false
-    by true e = absurd (out (is_in-from g r e))
-    by false e = e
-
-pub choice_prices : (m : Parts) (g : List Row) (h : Choice) → IsMarket m → PricesOnly m g (choice_duals m g h)
-choice_prices m g h market r c out =
-    let energy : Fraction = neg_ℚ (reduced (system_of m g) h (balance_name m)) in
-    let cost : Row → Fraction = λ (s : Row). reduced (system_of m g) h (row_name m s) in
-    let no : is_in g r ≡ false = not_in g r out in
-    let up = up-made m (names_apart m market) energy cost g r c in
-    let down = down-made m (names_apart m market) energy cost g r c in
-    (rw no at up, rw no at down)
-
 -- the dual that a list of duals has of a name
 named_dual : (ds : List (Dual Fraction)) (id : RowId) → names_row ds id ≡ true → (e : Dual Fraction) × Contains ds e × (up_in ds id ≡ e.up) × (down_in ds id ≡ e.down)
 named_dual [] id h = absurd cc
@@ -109,7 +93,7 @@ module _ (m : Parts) (g : List Row) (x : Dispatch) (d : Duals Fraction) (market 
   proper = subst (ProperDuals m) (sym solved.duals) solved.answers.proper
 
   pub prices_only : PricesOnly m g d
-  prices_only = subst (PricesOnly m g) (sym solved.duals) (choice_prices m g solved.choice market)
+  prices_only = subst (PricesOnly m g) (sym solved.duals) (prices_only-made m (names_apart m market) (reduced (system_of m g) solved.choice) g)
 
   module _ (bound : ℕ) (p : Passed Fraction) where
     pairs : RefusalsArePairs m g g solved.choice bound p

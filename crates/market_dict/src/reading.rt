@@ -1,7 +1,7 @@
 //! What a dictionary that was run says of its market.
 
 ghost use Rattle.std.specs.Prelude.{◌≡◌, ℕ, ◌<◌, false, not, List, ◌++◌, length, map, slice_index, Contains, IfOk, IfErr};
-ghost use Rattle.fraction_theory.specs.Fraction.{Fraction, neg_ℚ};
+ghost use Rattle.fraction_theory.specs.Fraction.{Fraction};
 ghost use Rattle.fraction_theory.specs.Signs.{sign_of};
 ghost use Rattle.linear_dict.specs.Causes.{IsPairOf};
 ghost use Rattle.linear_dict.specs.Dictionaries.{IsDictionary, choice_of, note_of, system_in};
@@ -12,7 +12,7 @@ ghost use Rattle.market_model.specs.declared.limits.Row.{Row};
 ghost use Rattle.market_model.specs.LimitRows.{rows};
 ghost use Rattle.market_model.specs.Stops.{OnPassed};
 ghost use Rattle.market_model.specs.Valued.{dual_at, duals_at};
-ghost use Rattle.market_system.specs.MarketSystem.{name as name_of, variables, variable_of as variable_named, balance_name, row_name, in_order, dual_by, duals_of_costs as duals_of, choice_dispatch, choice_duals, system_of};
+ghost use Rattle.market_system.specs.MarketSystem.{name as name_of, variables, variable_of as variable_named, dual_by, duals_by_cost, choice_dispatch, choice_duals, system_of};
 ghost use Rattle.market_system.specs.SolvedLaws.{stuck_duals};
 ghost use Rattle.market_model.specs.PutIn.{dispatch_of};
 ghost use Rattle.market_dict.specs.Holding.{HoldsMarket, HoldsSystem};
@@ -89,7 +89,7 @@ fn duals_by<N: Exact>(
     requires holds { (g : List Row) × HoldsMarket market.now g dict.now }
     requires costs { length costs.now ≡ length dict.now.names }
     ensures { (g : List Row) (cost : ℕ → Fraction) → HoldsMarket market.now g dict.now → map N.value costs.now ≡ map cost dict.now.names
-        → IfOk result (λ duals. duals_at N.value duals ≡ duals_of market.now (neg_ℚ (cost (balance_name market.now))) (λ r. cost (row_name market.now r)) (in_order market.now g)) }
+        → IfOk result (λ duals. duals_at N.value duals ≡ duals_by_cost market.now g cost) }
 {
     let _lines = market.lines();
     let mut energy: N = datum(0);
