@@ -12,8 +12,7 @@ use Rattle.market_model.specs.declared.limits.Row.{Row}
 use Rattle.market_model.specs.LimitRows.{rows as rows_of_market, row_id}
 use Rattle.market_model.specs.Market.{IsMarket}
 use Rattle.market_model.specs.Valued.{duals_at, passed_at}
-use Rattle.market_system.specs.Growth.{Growth}
-use Rattle.market_system.specs.Outcomes.{PricesOnly}
+use Rattle.market_system.specs.Growth.{Growth, PricesOnly}
 use Rattle.market_system.specs.SolvedLaws.{AreRows}
 use Rattle.market_system.proofs.GrowthLaws.{growth_none}
 use Rattle.market_model.specs.Stops.{OnPassed}

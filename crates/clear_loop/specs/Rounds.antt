@@ -14,8 +14,7 @@ use Rattle.market_model.specs.Optimality.{AreWithin}
 use Rattle.market_model.specs.Overrun.{IsWorst}
 use Rattle.market_model.specs.RightAnswers.{IsRight}
 use Rattle.market_model.specs.Valued.{answer_at, duals_at, farkas_at, passed_at}
-use Rattle.market_system.specs.Growth.{BestFor, Broken}
-use Rattle.market_system.specs.Outcomes.{PricesOnly}
+use Rattle.market_system.specs.Growth.{BestFor, Broken, PricesOnly}
 use Rattle.market_system.specs.WorkingPairs.{IsRangeOf}
 use Rattle.limit_screen.specs.Flows.{flows_at}
 use Rattle.market_model.specs.Stops.{OnPassed}

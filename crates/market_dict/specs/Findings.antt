@@ -12,7 +12,7 @@ use Rattle.market_model.specs.Stops.{OnPassed}
 use Rattle.market_model.specs.declared.limits.Row.{Row}
 use Rattle.market_model.specs.Valued.{duals_at, farkas_at}
 use Rattle.market_system.specs.MarketSystem.{system_of, choice_dispatch, choice_duals}
-use Rattle.market_system.specs.Outcomes.{PricesOnly}
+use Rattle.market_system.specs.Growth.{PricesOnly}
 use Rattle.market_system.specs.SolvedLaws.{AnswersBy}
 use Rattle.market_model.specs.PutIn.{dispatch_of}
 use Rattle.market_dict.specs.Holding.{HoldsMarket}

@@ -1,4 +1,4 @@
-//! Names of blocks, and what blocks count in the rows of a dictionary.
+//! What blocks count in the rows of a dictionary.
 
 ghost use Rattle.std.specs.Prelude.{◌≡◌, ◌<◌, length, map, Contains, IfOk};
 ghost use Rattle.market_model.specs.Dispatch.{places, signed_by_side};
@@ -10,17 +10,6 @@ use limit_rows::unit_factor;
 use market_model::{Block, Market, Row, by_side, datum};
 use plain_list::{List, Memory};
 use std::alloc::Global;
-
-/// The names of so many blocks.
-pub(crate) fn block_names(alloc: Global, count: u32) -> Result<List<u32>, Memory>
-    ensures { IfOk result (λ names. names ≡ places count) }
-{
-    let mut names = List::new(alloc);
-    for name in 0..count {
-        names.push(name)?;
-    }
-    Ok(names)
-}
 
 /// By how much a MW of each block raises the balance.
 pub(crate) fn balance_entries<N: Exact>(alloc: Global, market: &Market) -> Result<List<N>, Memory>

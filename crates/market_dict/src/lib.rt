@@ -4,6 +4,7 @@
 #![tactic(auto)]
 
 mod entries;
+mod names;
 mod posing;
 mod reading;
 mod rows;

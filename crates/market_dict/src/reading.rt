@@ -1,7 +1,7 @@
 //! What a dictionary that was run says of its market.
 
-ghost use Rattle.std.specs.Prelude.{◌≡◌, ℕ, ◌<◌, false, not, List, ◌++◌, length, map, slice_index, Contains, IfOk, IfErr};
-ghost use Rattle.fraction_theory.specs.Fraction.{Fraction, neg_ℚ};
+ghost use Rattle.std.specs.Prelude.{◌≡◌, ℕ, ◌<◌, false, not, List, ◌++◌, length, map, slice_index, IfOk, IfErr};
+ghost use Rattle.fraction_theory.specs.Fraction.{Fraction};
 ghost use Rattle.fraction_theory.specs.Signs.{sign_of};
 ghost use Rattle.linear_dict.specs.Causes.{IsPairOf};
 ghost use Rattle.linear_dict.specs.Dictionaries.{IsDictionary, choice_of, note_of, system_in};
@@ -9,16 +9,16 @@ ghost use Rattle.simplex_core.specs.Outcomes.{ShowsChoice};
 ghost use Rattle.simplex_theory.specs.Steps.{opposite_if};
 ghost use Rattle.simplex_theory.specs.Stuck.{multiplier as multiplier_of, margin as margin_of};
 ghost use Rattle.market_model.specs.declared.limits.Row.{Row};
-ghost use Rattle.market_model.specs.LimitRows.{rows};
 ghost use Rattle.market_model.specs.Stops.{OnPassed};
 ghost use Rattle.market_model.specs.Valued.{dual_at, duals_at};
-ghost use Rattle.market_system.specs.MarketSystem.{name as name_of, variables, variable_of as variable_named, balance_name, row_name, in_order, dual_by, duals_of_costs as duals_of, choice_dispatch, choice_duals, system_of};
+ghost use Rattle.market_system.specs.MarketSystem.{dual_by, duals_by_cost, choice_dispatch, choice_duals, system_of};
 ghost use Rattle.market_system.specs.SolvedLaws.{stuck_duals};
 ghost use Rattle.market_model.specs.PutIn.{dispatch_of};
 ghost use Rattle.market_dict.specs.Holding.{HoldsMarket, HoldsSystem};
 
+use crate::names::{name_of, variable_of};
 use exact_fraction::{Exact, Passed, Sign};
-use limit_rows::{name_at, row_at};
+use limit_rows::name_at;
 use linear_dict::{Dict, Place};
 use market_model::{Dual, Duals, Farkas, Market, RowId, Stop, datum};
 use market_system::Variable;
@@ -36,8 +36,9 @@ pub(crate) fn dispatch<N: Exact>(
     ensures { (g : List Row) → HoldsSystem market.now g dict.now → IfOk result (λ values. dispatch_of N.value values ≡ choice_dispatch market.now g (choice_of dict.now)) }
 {
     let mut values = List::new(alloc);
-    for block in 0..market.blocks().len() as u32 {
-        values.push(dict.note(block).value)?;
+    for block in 0..market.blocks().len() {
+        let name = name_of(market, Variable::Block(block));
+        values.push(dict.note(name).value)?;
     }
     Ok(values)
 }
@@ -62,23 +63,6 @@ fn push_dual<N: Exact>(limits: &mut List<Dual<N>>, row: RowId, cost: N) -> Resul
     }
 }
 
-/// The variable of a name.
-fn variable_of(market: &Market, name: u32) -> Variable
-    requires { Contains (map (name_of market.now) (variables market.now (rows market.now))) name }
-    ensures { result ≡ variable_named market.now (rows market.now) name }
-{
-    let _lines = market.lines();
-    let blocks = market.blocks().len();
-    let place = name as usize;
-    if place < blocks {
-        return Variable::Block(place);
-    }
-    if place == blocks {
-        return Variable::Balance;
-    }
-    Variable::Limit(row_at(market, place - blocks - 1))
-}
-
 /// The duals of what a MW costs on the balance and on the flow of each limit taken, of what it costs on each variable by rank.
 fn duals_by<N: Exact>(
     alloc: Global,
@@ -89,7 +73,7 @@ fn duals_by<N: Exact>(
     requires holds { (g : List Row) × HoldsMarket market.now g dict.now }
     requires costs { length costs.now ≡ length dict.now.names }
     ensures { (g : List Row) (cost : ℕ → Fraction) → HoldsMarket market.now g dict.now → map N.value costs.now ≡ map cost dict.now.names
-        → IfOk result (λ duals. duals_at N.value duals ≡ duals_of market.now (neg_ℚ (cost (balance_name market.now))) (λ r. cost (row_name market.now r)) (in_order market.now g)) }
+        → IfOk result (λ duals. duals_at N.value duals ≡ duals_by_cost market.now g cost) }
 {
     let _lines = market.lines();
     let mut energy: N = datum(0);

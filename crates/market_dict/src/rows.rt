@@ -1,17 +1,17 @@
 //! The dictionary of a market: its start with the balance alone, and the limits that it takes.
 
-ghost use Rattle.std.specs.Prelude.{◌≡◌, List, [], ◌∷◌, ◌++◌, Contains, IfOk, IfErr};
+ghost use Rattle.std.specs.Prelude.{List, [], ◌∷◌, ◌++◌, Contains, IfOk, IfErr};
 ghost use Rattle.market_model.specs.declared.limits.Row.{Row};
 ghost use Rattle.market_model.specs.LimitRows.{rows};
-ghost use Rattle.market_system.specs.MarketSystem.{row_name as row_name_of};
 ghost use Rattle.market_dict.specs.Findings.{IsPairOver};
 ghost use Rattle.market_dict.specs.Holding.{HoldsMarket};
 
-use crate::entries::{balance_entries, block_names, row_entries};
+use crate::entries::{balance_entries, row_entries};
+use crate::names::{block_names, name_of};
 use exact_fraction::Exact;
-use limit_rows::place_of;
 use linear_dict::{AddStop, Dict};
 use market_model::{Market, Row, Stop};
+use market_system::Variable;
 use plain_list::Memory;
 use std::alloc::Global;
 
@@ -19,20 +19,11 @@ use std::alloc::Global;
 pub fn start<N: Exact>(alloc: Global, market: &Market) -> Result<Dict<N>, Memory>
     ensures { IfOk result (HoldsMarket market.now []) }
 {
-    let blocks = market.blocks().len() as u32;
-    let names = block_names(alloc, blocks)?;
-    let entries = balance_entries(alloc, market)?;
-    Dict::start(alloc, names.slice(), blocks, entries.slice())
-}
-
-/// The name of a limit's variable: its place among the market's limits, behind the blocks and the balance.
-fn row_name(market: &Market, row: Row) -> u32
-    requires { Contains (rows market.now) row }
-    ensures { result ≡ row_name_of market.now row }
-{
     let _lines = market.lines();
-    let place = place_of(market, row);
-    (market.blocks().len() + 1 + place) as u32
+    let names = block_names(alloc, market)?;
+    let balance = name_of(market, Variable::Balance);
+    let entries = balance_entries(alloc, market)?;
+    Dict::start(alloc, names.slice(), balance, entries.slice())
 }
 
 /// Puts in a limit row as the last one.
@@ -49,7 +40,7 @@ pub fn take_limit<N: Exact>(
 {
     let _lines = market.lines();
     let entries = row_entries(alloc, market, row)?;
-    let name = row_name(market, row);
+    let name = name_of(market, Variable::Limit(row));
     match dict.add_row(name, entries.slice()) {
         Ok(()) => Ok(()),
         Err(AddStop::Passed(passed)) => Err(Stop::Passed(passed)),

@@ -1,4 +1,4 @@
--- Duals that are made of what a MW on the flow of each row costs.
+-- Duals that are made of what a MW costs on each variable.
 use Rattle.std.specs.Prelude.{◌≡◌, ◌≢◌, ℕ, ◌<◌, ◌==◌, ◌&&◌, ◌||◌, Bool, true, false, List, [], ◌∷◌, ◌++◌, length, map, filter, if◌then◌else◌, All, AllPairs, Contains, cond, refl, ◌⊎◌}
 use Rattle.std.specs.List.{flat_map}
 use Rattle.std.proofs.Common.{zero, suc, arith, ap, ap₂, sym, ◌∙◌, subst, inl, inr, get_or}
@@ -23,7 +23,8 @@ use Rattle.market_model.specs.Dispatch.{zero as nil}
 use Rattle.market_model.specs.declared.limits.Row.{Row}
 use Rattle.market_model.specs.LimitRows.{rows, row_id}
 use Rattle.market_model.specs.Optimality.{same_id, up_in, down_in, up_of, down_of, net_shadow_price, names_row, IsOneSided, ProperDuals}
-use Rattle.market_system.specs.MarketSystem.{is_in, in_order, dual_by, duals_of_costs}
+use Rattle.market_system.specs.Growth.{PricesOnly}
+use Rattle.market_system.specs.MarketSystem.{row_name, is_in, in_order, dual_by, duals_by_cost}
 use Rattle.market_system.proofs.RowOrder.{RowsApart, row_or_not, is_in-in, is_in-from, in_order-in, in_order-from, and_true, same_number, same_row-not, same_row-itself}
 
 -- rows of a market have different names
@@ -129,7 +130,10 @@ one_is_nil x = by (sign_of x)
     by Above = inr refl
 
 -- ---- lists of duals by rows
-module _ (m : Parts) (names : NamesApart m) (energy : Fraction) (cost : Row → Fraction) where
+module _ (m : Parts) (names : NamesApart m) (cost_of : ℕ → Fraction) where
+  abbrev cost : Row → Fraction
+  cost r = cost_of (row_name m r)
+
   abbrev duals_of : Row → List (Dual Fraction)
   duals_of r = dual_by (row_id m r) (cost r) (sign_of (cost r))
 
@@ -287,7 +291,7 @@ module _ (m : Parts) (names : NamesApart m) (energy : Fraction) (cost : Row → 
   -- ---- duals of the rows of a list
   module _ (g : List Row) where
     abbrev pub made : Duals Fraction
-    made = duals_of_costs m energy cost (in_order m g)
+    made = duals_by_cost m g cost_of
 
     over_rows : (r : Row) → Contains (in_order m g) r → Contains (rows m) r
     over_rows r c = (in_order-from m g r c).0
@@ -316,6 +320,20 @@ module _ (m : Parts) (names : NamesApart m) (energy : Fraction) (cost : Row → 
           by : (b : Bool) → (if b then up_here r else nil) -ℚ (if b then down_here r else nil) ≡ (if b then cost r else nil)
           by true = up_less_down (cost r)
           by false = by_ring ring_ℚ [] (pnil ⊕ pneg pnil) pnil refl
+
+    -- rows that are not in the list have no price
+    pub prices_only-made : PricesOnly m g made
+    prices_only-made r c out = (
+      up-made r c ∙ ap (λ (b : Bool). if b then up_here r else nil) absent,
+      down-made r c ∙ ap (λ (b : Bool). if b then down_here r else nil) absent,
+    )
+      where
+        absent : is_in g r ≡ false
+        absent = by (is_in g r) refl
+          where
+            by : (b : Bool) → is_in g r ≡ b → is_in g r ≡ false
+            by true e = absurd (out (is_in-from g r e))
+            by false e = e
 
     -- what the duals name, in the market's order
     named_rows_of : (rs : List Row) → map (λ d. d.row) (limits_of rs) ≡ map (row_id m) (filter (λ r. named_by (sign_of (cost r))) rs)

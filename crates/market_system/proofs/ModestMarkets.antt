@@ -137,10 +137,10 @@ module _ (m : Parts) (market : IsMarket m) (modest : IsModest m) where
     pub balance_within : (k : ℕ) → IsWholeWithin most_balance (prefix k (balance_terms m x))
     balance_within k = prefix_within 1000 most_injection k (balance_terms m x) (Prim.omega (arith, terms_of_places (λ i. Plain (injection m x i)) (length m.buses), market.bus_count)) balance_each
 
-    output_each : (u : ℕ) → u < length m.units → AreWithin modest_mw (output_terms m x u)
+    pub output_each : (u : ℕ) → u < length m.units → AreWithin modest_mw (output_terms m x u)
     output_each u lt = (fixed_within u lt, blocks_within (λ j. (block_at m j).unit == u))
 
-    output_count : (u : ℕ) → length (output_terms m x u) ≤ 4001
+    pub output_count : (u : ℕ) → length (output_terms m x u) ≤ 4001
     output_count u = Prim.omega (arith, terms_of_some (block_term m x) (λ j. (block_at m j).unit == u) (length m.blocks), market.block_count)
 
     pub output_terms_within : (u k : ℕ) → u < length m.units → IsWholeWithin most_output (prefix k (output_terms m x u))

@@ -15,7 +15,7 @@ use Rattle.fraction_theory.specs.declared.Sign.TheVariants.{Below, Zero, Above}
 use mathlib.Core.Path.{ap₂}
 use Rattle.fraction_theory.proofs.FieldLaws.{ring_ℚ}
 use Rattle.fraction_theory.proofs.Ring.{by_ring, at, pneg, ◌⊗◌}
-use Rattle.fraction_theory.proofs.ListSums.{same_or_not}
+use Rattle.fraction_theory.proofs.ListSums.{same_or_not, Contains-from_filter}
 use Rattle.linear_system.specs.Choices.{Choice, IsChoice}
 use Rattle.linear_system.specs.Numbers.{Kind, Factor, Quantity, Price}
 use Rattle.linear_system.specs.Pairs.{IsCombined, IsSummand, IsPairCase, OfEither, alone, sum, difference, plain, scaled, added, subtracted, scaled_right, scaled_left}
@@ -25,28 +25,28 @@ use Rattle.simplex_theory.proofs.StuckRows.{multiplier-itself, multiplier-basic,
 use Rattle.market_model.specs.declared.answered.Duals.{Duals}
 use Rattle.market_model.specs.declared.participants.Parts.{Parts}
 use Rattle.market_model.specs.Market.{IsMarket}
-use Rattle.market_model.specs.Dispatch.{Dispatch, IsDispatch, places, block_at, unit_at, quantity, accepted, balance, empty, demand, output}
+use Rattle.market_model.specs.Dispatch.{Dispatch, IsDispatch, places, block_at, unit_at, quantity, accepted, balance, empty, demand, demand_terms, output}
 use Rattle.market_model.specs.Infeasibility.{part_above, where_above, block_weight, farkas_terms}
 use Rattle.market_model.specs.declared.limits.Row.{Row}
-use Rattle.market_model.specs.LimitRows.{rows, row_factor}
+use Rattle.market_model.specs.LimitRows.{rows, row_id, row_factor}
 use Rattle.market_model.specs.NamedSums.{SameSize, term_at, IsSumStep}
-use Rattle.market_model.specs.Optimality.{bus_price, block_value, congestion_terms, price_terms, net_shadow_price, unit_price, welfare_terms}
+use Rattle.market_model.specs.Optimality.{bus_price, block_value, congestion_terms, names_row, named_rows, price_terms, net_shadow_price, unit_price, welfare_terms}
 use Rattle.market_model.specs.Settlement.{surplus_terms}
-use Rattle.market_model.specs.SumTables.{injection_at, balance_from_bus, balance_of_all, flow_of_line, limited_line, limited_row, FlowSum, flow_in_balance, flow_in_limits, output_of_unit, BusPriceSum, PriceSum, price_of_bus, congestion_at, price_at, farkas_bound_of_all, PaymentSum, left_of_all, rent_of_row, MoneySum, welfare_of_all, payment_at_duals}
+use Rattle.market_model.specs.SumTables.{injection_at, balance_from_bus, balance_of_all, flow_of_line, limited_line, limited_row, FlowSum, flow_in_balance, flow_in_limits, output_of_unit, BusPriceSum, PriceSum, price_of_bus, congestion_at, price_at, farkas_bound_of_all, left_of_all, rent_of_row, SettledSum, paid_output, demand_of_bus, payment, paid_row}
 use Rattle.market_model.proofs.FarkasLaw.{farkas_terms-bare}
 use Rattle.market_model.proofs.RowLaws.{no_rows, no_row, bus_price-bare, congestion-bare}
 use Rattle.market_system.specs.MarketSystem.{balance_name, system_of, choice_dispatch, choice_duals}
 use Rattle.market_system.specs.MarketNumbers.{MarketNumber, IsRightChoice, IsInjecting, IsFarkasOf}
-use Rattle.market_system.specs.MarketNumbers.{NamedSum, offset_of, factor_of, of_flow, output_of, of_price, of_money, of_farkas_price, farkas_bound_of}
+use Rattle.market_system.specs.MarketNumbers.{NamedSum, offset_of, factor_of, of_flow, output_of, of_price, of_welfare, of_settlement, of_farkas_price, farkas_bound_of}
 use Rattle.market_system.specs.MarketNumbers.{of_system, of_sum, is_fixed, is_up, is_down, is_load, is_shunt, is_limit, is_line_offset, is_shift, is_loss, is_energy, is_up_dual, is_down_dual, is_farkas_energy, is_farkas_up, is_farkas_down, of_opposite}
 use Rattle.market_system.specs.ModestMarkets.{IsModest, LawOfModestMarkets, modest_mw, modest_price}
-use Rattle.market_system.specs.WorkingPairs.{IsMoneyCase, IsWorkingPair}
+use Rattle.market_system.specs.WorkingPairs.{IsSettledCase, IsWorkingPair}
 use Rattle.market_system.specs.Growth.{GrowsBy}
 use Rattle.market_system.proofs.SystemLaws.{variable_in}
 use Rattle.market_system.proofs.VariableLaws.{from_places}
 use Rattle.market_system.proofs.ModestNumbers.{IsWholeWithin, whole_within, nil_within, wider, neg_within, plus_within, times_within, same_within, sum_fits, product_fits, AreWithin, append_within, map_within, prefix_within, term_within}
 use Rattle.market_system.proofs.ModestChoices.{entry_within, energy_within}
-use Rattle.market_system.proofs.ModestMarkets.{most_injection, most_balance, most_value, most_output, most_of, signed_within, load_within, shunt_within, fixed_within, up_within, down_within, quantity_within, price_within, block_value_within, injection_within, balance_within, output_terms_within, output_within, demand_within, empty_small, empty_balance_within, dispatch_small, system_within}
+use Rattle.market_system.proofs.ModestMarkets.{most_injection, most_balance, most_value, most_output, most_of, signed_within, load_within, shunt_within, fixed_within, up_within, down_within, quantity_within, price_within, block_value_within, injection_within, balance_within, output_terms_within, output_within, demand_within, empty_small, empty_balance_within, dispatch_small, system_within, output_count, output_each}
 
 part_above_within : (b : ℕ) (x : Fraction) → IsWholeWithin b x → IsWholeWithin b (part_above x)
 part_above_within b x h = by_sign (sign_of x)
@@ -103,9 +103,9 @@ module _ (N : Kind → Fraction → Type 0) (each : (kind : Kind) (x : Fraction)
   case_fits Times l r (scaled_left kind _ _ c n) p = product_fits most l r (Prim.omega arith) (subst (IsWholeWithin most) (ring_ℚ.times_comm r l) (scaled_fits kind r l n c)) p
 
 -- steps in adding up terms
-module _ (terms : List Term) (b : ℕ) (count : length terms ≤ 4000) (each : AreWithin b terms) (room : 4000 * b ≤ most) where
+module _ (terms : List Term) (b : ℕ) (count : length terms ≤ 4001) (each : AreWithin b terms) (room : 4001 * b ≤ most) where
   first_within : (k : ℕ) (x : Fraction) → SameSize x (prefix k terms) → IsWholeWithin most x
-  first_within k x e = same_within most x (prefix k terms) e (wider (4000 * b) most (prefix k terms) room (prefix_within 4000 b k terms count each))
+  first_within k x e = same_within most x (prefix k terms) e (wider (4001 * b) most (prefix k terms) room (prefix_within 4001 b k terms count each))
 
   next_within : (k : ℕ) (x : Fraction) → SameSize x (term_value (term_at terms k)) → IsWholeWithin most x
   next_within k x e = same_within most x (term_value (term_at terms k)) e (wider b most (term_value (term_at terms k)) (Prim.omega (arith, room)) (term_within b k terms each))
@@ -206,7 +206,8 @@ module _ (m : Parts) (market : IsMarket m) (lines : m.lines ≡ []) (modest : Is
     sum_within _ terms k (of_flow x same j flow) = flow_sum_within x k terms j flow
     sum_within _ terms k (output_of same best (output_of_unit u lt)) = wider most_output most_value (prefix k terms) (Prim.omega arith) (output_terms_within m market modest (choice_dispatch m [] h) (best_small best) u k lt)
     sum_within _ terms k (of_price same best price) = price_sum_within modest_price (4000 * modest_price) k (choice_duals m [] h) terms price (Prim.omega arith) price_is_modest
-    sum_within _ terms k (of_money same best money) = tt
+    sum_within _ _ k (of_welfare best) = tt
+    sum_within _ terms k (of_settlement same best part) = tt
     sum_within _ terms k (of_farkas_price d same f price) = price_sum_within 1 4000 k d terms price (Prim.omega arith) (farkas_energy_within d f)
     sum_within _ terms k (farkas_bound_of d same f farkas_bound_of_all) = farkas_within d k f
 
@@ -231,7 +232,7 @@ module _ (m : Parts) (market : IsMarket m) (lines : m.lines ≡ []) (modest : Is
     number_within kind x (of_sum same terms k named) = sum_within (Some same) terms k named
     number_within kind x (of_opposite same y n) = neg_within (most_of same) y (number_within same y n)
 
-    -- a step in adding up money
+    -- a step in adding up the welfare, or what is settled
     welfare_each : IsRightChoice m [] h → AreWithin (modest_price * most_output) (welfare_terms m (choice_dispatch m [] h))
     welfare_each best = map_within (modest_price * most_output) (λ j. Product (block_value m j) (accepted (choice_dispatch m [] h) j)) (places (length m.blocks))
         (λ j c. let lt = from_places (length m.blocks) j c in
@@ -258,9 +259,18 @@ module _ (m : Parts) (market : IsMarket m) (lines : m.lines ≡ []) (modest : Is
         paid : ℕ → Term
         paid u = Product (neg_ℚ (unit_price m d u)) (output m x u)
 
-    payment_fits : IsRightChoice m [] h → (terms : List Term) → PaymentSum m [] (choice_dispatch m [] h) (bus_price m (choice_duals m [] h)) (choice_duals m [] h) terms → (op : Op) (l r : Fraction) → IsSumStep terms op l r → Passes most op l r → ⊥
-    payment_fits best terms left_of_all op l r step p =
-        step_fits terms (modest_price * most_output)
+    abbrev Fits : List Term → Type 0
+    Fits terms = (op : Op) (l r : Fraction) → IsSumStep terms op l r → Passes most op l r → ⊥
+
+    welfare_fits : IsRightChoice m [] h → Fits (welfare_terms m (choice_dispatch m [] h))
+    welfare_fits best =
+        step_fits (welfare_terms m (choice_dispatch m [] h)) (modest_price * most_output)
+        (Prim.omega (arith, market.block_count, length-map (places (length m.blocks)) (λ j. Product (block_value m j) (accepted (choice_dispatch m [] h) j)), length-range_with_len 0 (length m.blocks)))
+        (welfare_each best) (Prim.omega arith)
+
+    surplus_fits : IsRightChoice m [] h → Fits (surplus_terms m (choice_dispatch m [] h) (choice_duals m [] h))
+    surplus_fits best =
+        step_fits (surplus_terms m (choice_dispatch m [] h) (choice_duals m [] h)) (modest_price * most_output)
         (Prim.omega (
           arith,
           market.bus_count,
@@ -271,29 +281,33 @@ module _ (m : Parts) (market : IsMarket m) (lines : m.lines ≡ []) (modest : Is
           length-range_with_len 0 (length m.buses),
           length-range_with_len 0 (length m.units),
         ))
-        (surplus_each best) (Prim.omega arith) op l r step p
-    payment_fits best terms (rent_of_row r c) op l k step p = absurd (Prim.omega (arith, c.1))
+        (surplus_each best) (Prim.omega arith)
 
-    money_sum_fits : IsRightChoice m [] h → (terms : List Term) → MoneySum m [] (choice_dispatch m [] h) (choice_duals m [] h) terms → (op : Op) (l r : Fraction) → IsSumStep terms op l r → Passes most op l r → ⊥
-    money_sum_fits best terms welfare_of_all op l r step p =
-        step_fits terms (modest_price * most_output)
-        (Prim.omega (arith, market.block_count, length-map (places (length m.blocks)) (λ j. Product (block_value m j) (accepted (choice_dispatch m [] h) j)), length-range_with_len 0 (length m.blocks)))
-        (welfare_each best) (Prim.omega arith) op l r step p
-    money_sum_fits best terms (payment_at_duals _ payment) op l r step p = payment_fits best terms payment op l r step p
+    no_named : (d : Duals Fraction) (r : Row) → Contains (named_rows m d) r → ⊥
+    no_named d r c = no_row m r bare (Contains-from_filter (λ (s : Row). names_row d.limits (row_id m s)) (rows m) r c).0
+
+    settled_fits : IsRightChoice m [] h → (terms : List Term) → SettledSum m (choice_dispatch m [] h) (bus_price m (choice_duals m [] h)) (choice_duals m [] h) terms → Fits terms
+    settled_fits best terms (paid_output same (output_of_unit u lt)) =
+        step_fits terms modest_mw (output_count m market modest (choice_dispatch m [] h) (best_small best) u) (output_each m market modest (choice_dispatch m [] h) (best_small best) u lt) (Prim.omega arith)
+    settled_fits best terms (demand_of_bus i lt) = step_fits (demand_terms m i) modest_mw (Prim.omega arith) (load_within m market modest i lt, (shunt_within m market modest i lt, tt)) (Prim.omega arith)
+    settled_fits best terms (payment same left_of_all) = surplus_fits best
+    settled_fits best terms (payment same (rent_of_row r c)) = absurd (no_named (choice_duals m [] h) r c)
+    settled_fits best terms (paid_row r same c part) = absurd (no_named (choice_duals m [] h) r c)
 
     abbrev FitsOf : Option Kind → List Term → Type 0
     FitsOf (Some kind) terms = Unit {0}
-    FitsOf None terms = (op : Op) (l r : Fraction) → IsSumStep terms op l r → Passes most op l r → ⊥
+    FitsOf None terms = Fits terms
 
-    money_fits : (kind : Option Kind) (terms : List Term) → NamedSum m [] h kind terms → FitsOf kind terms
-    money_fits _ terms (offset_of r same c part) = tt
-    money_fits _ terms (factor_of r same c part) = tt
-    money_fits _ terms (of_flow x same j flow) = tt
-    money_fits _ terms (output_of same best part) = tt
-    money_fits _ terms (of_price same best price) = tt
-    money_fits _ terms (of_money same best money) = money_sum_fits best terms money
-    money_fits _ terms (of_farkas_price d same f price) = tt
-    money_fits _ terms (farkas_bound_of d same f part) = tt
+    named_fits : (kind : Option Kind) (terms : List Term) → NamedSum m [] h kind terms → FitsOf kind terms
+    named_fits _ terms (offset_of r same c part) = tt
+    named_fits _ terms (factor_of r same c part) = tt
+    named_fits _ terms (of_flow x same j flow) = tt
+    named_fits _ terms (output_of same best part) = tt
+    named_fits _ terms (of_price same best price) = tt
+    named_fits _ _ (of_welfare best) = welfare_fits best
+    named_fits _ terms (of_settlement same best part) = settled_fits best terms part
+    named_fits _ terms (of_farkas_price d same f price) = tt
+    named_fits _ terms (farkas_bound_of d same f part) = tt
 
   pair_fits : (op : Op) (l r : Fraction) → IsWorkingPair m [] most op l r → ⊥
   pair_fits op l r pair = of_sides pair.sides
@@ -302,9 +316,9 @@ module _ (m : Parts) (market : IsMarket m) (lines : m.lines ≡ []) (modest : Is
       either_within kind x (inl n) = number_within pair.one pair.is_choice kind x n
       either_within kind x (inr n) = number_within pair.near pair.near_is_choice kind x n
 
-      of_sides : IsPairCase (OfEither (MarketNumber m []) pair.one pair.near) op l r ⊎ IsMoneyCase m [] pair.one op l r → ⊥
+      of_sides : IsPairCase (OfEither (MarketNumber m []) pair.one pair.near) op l r ⊎ IsSettledCase m [] pair.one op l r → ⊥
       of_sides (inl c) = case_fits (OfEither (MarketNumber m []) pair.one pair.near) either_within op l r c pair.passes
-      of_sides (inr c) = money_fits pair.one pair.is_choice None c.terms c.money op l r c.step pair.passes
+      of_sides (inr c) = named_fits pair.one pair.is_choice None c.terms c.sum op l r c.step pair.passes
 
   -- no rows can be taken
   nothing_taken : (more : List Row) → GrowsBy m [] more → more ≡ []

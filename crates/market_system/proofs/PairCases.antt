@@ -30,14 +30,14 @@ use Rattle.limit_rows.proofs.FactorLemmas.{IsLost, stands}
 use Rattle.market_model.specs.declared.limits.Cause.{Cause}
 use Rattle.market_model.specs.declared.limits.Row.{Row}
 use Rattle.market_model.specs.declared.limits.Cause.TheVariants.{Base, Branch}
-use Rattle.market_model.specs.LimitRows.{rows, limit, shift_factor, line_offset, line_terms, line_flow, flow_terms, terms_under, offset_terms, row_offset, row_factor, factor_terms, flow}
+use Rattle.market_model.specs.LimitRows.{rows, limit, shift_factor, line_offset, line_terms, line_flow, flow_terms, terms_under, row_factor, factor_terms, flow}
 use Rattle.market_model.specs.Market.{IsMarket}
 use Rattle.market_model.specs.NamedSums.{SameSize, term_at, IsNextTerm, IsSumStep, IsRefusedIn, IsRefusal}
-use Rattle.market_model.specs.Optimality.{net_shadow_price, up_of, down_of, congestion, congestion_by, congestion_terms, price_by, price_terms, bus_price, unit_price}
+use Rattle.market_model.specs.Optimality.{net_shadow_price, up_of, down_of, congestion, price_by, price_terms, bus_price, unit_price, welfare_terms}
 use Rattle.market_model.specs.Infeasibility.{where_above, part_above, block_weight, limit_terms, farkas_terms}
 use Rattle.market_model.specs.SumTables.{injection_at, balance_from_bus, balance_of_all, flow_of_line, flow_of_row, limited_line, limited_row, FlowSum, flow_in_balance, flow_in_limits, offset_of_row, factor_at_bus, output_of_unit, BusPriceSum, PriceSum, price_of_bus, congestion_at, price_at, farkas_bound_of_all}
 use Rattle.market_system.specs.Growth.{Growth}
-use Rattle.market_system.specs.MarketNumbers.{IsRightChoice, IsInjecting, IsFarkasOf, NamedSum, offset_of, factor_of, of_flow, output_of, of_price, of_money, of_farkas_price, farkas_bound_of, MarketNumber, of_system, of_sum, is_limit, is_line_offset, is_shift, is_loss, is_up_dual, is_down_dual, is_farkas_energy, is_farkas_up, is_farkas_down, of_opposite}
+use Rattle.market_system.specs.MarketNumbers.{IsInjecting, IsFarkasOf, NamedSum, offset_of, factor_of, of_flow, output_of, of_price, of_welfare, of_settlement, of_farkas_price, farkas_bound_of, MarketNumber, of_system, of_sum, is_limit, is_line_offset, is_shift, is_loss, is_up_dual, is_down_dual, is_farkas_energy, is_farkas_up, is_farkas_down, of_opposite}
 use Rattle.market_system.specs.MarketSystem.{system_of, choice_dispatch, choice_duals}
 use Rattle.market_system.specs.PairLaw.{LawOfThePairs}
 use Rattle.market_system.proofs.DualLists.{rows_apart}
@@ -149,8 +149,8 @@ module _ (m : Parts) (taken g : List Row) (reached : Growth m taken g) (h : Choi
     };
   }
 
-  pub by_money : (terms : List Term) → NamedSum m g h None terms → IsRefusedIn terms bound p → IsRangeOf m taken bound p
-  by_money terms money r = record {
+  pub by_settled : (terms : List Term) → NamedSum m g h None terms → IsRefusedIn terms bound p → IsRangeOf m taken bound p
+  by_settled terms named r = record {
     rows = g;
     reached = reached;
     pair = record {
@@ -160,7 +160,7 @@ module _ (m : Parts) (taken g : List Row) (reached : Growth m taken g) (h : Choi
       is_choice = is;
       near_is_choice = is;
       are_near = inl refl;
-      sides = inr (record { terms = terms; money = money; step = r.step });
+      sides = inr (record { terms = terms; sum = named; step = r.step });
     };
   }
 
@@ -259,10 +259,6 @@ module _ (m : Parts) (taken g : List Row) (reached : Growth m taken g) (h : Choi
     flows_scaled terms (flow_in_limits same (limited_row r also c flow_of_row)) = let s = stands m market r c in under_scaled Quantity (line_flow m (injection m x)) lined r.line r.cause s.line s.lost
 
   -- ---- prices
-  pub congestion_number : IsRightChoice m g h → (i : ℕ) → i < length m.buses → Number Price (congestion m (choice_duals m g h) i)
-  unfolding congestion_by
-  congestion_number best i lt = whole_sum Price (congestion_terms m (choice_duals m g h) i) (of_price (congestion_terms m (choice_duals m g h) i) best (price_of_bus i _ lt congestion_at))
-
   module _ (kind : Kind) (d : Duals Fraction) (ups : (r : Row) → Contains (rows m) r → Number kind (up_of m d r)) (downs : (r : Row) → Contains (rows m) r → Number kind (down_of m d r)) where
     bus_prices_scaled : (i : ℕ) → i < length m.buses → (terms : List Term) → BusPriceSum m d i terms → AreScaled kind terms
     unfolding row_factor
@@ -274,11 +270,6 @@ module _ (m : Parts) (taken g : List Row) (reached : Growth m taken g) (h : Choi
 
     prices_scaled : (terms : List Term) → PriceSum m d terms → AreScaled kind terms
     prices_scaled terms (price_of_bus i same lt part) = bus_prices_scaled i lt terms part
-
-  -- ---- the fixed offset and the factor of a row
-  pub row_offset_number : (r : Row) → Contains (rows m) r → Number Quantity (row_offset m r)
-  unfolding row_offset
-  row_offset_number r c = whole_sum Quantity (offset_terms m r) (offset_of r _ c offset_of_row)
 
   -- ---- the bound of duals that show that nothing is feasible
   module _ (market : IsMarket m) (d : Duals Fraction) (f : IsFarkasOf m g h d) where
@@ -336,7 +327,8 @@ module _ (m : Parts) (taken g : List Row) (reached : Growth m taken g) (h : Choi
   by_sum market _ terms (output_of same best (output_of_unit u lt)) =
       by_steps Quantity terms (output_of terms best (output_of_unit u lt)) (tt, scaled_map Quantity (block_term m (choice_dispatch m g h)) (blocks_of m u) (λ j c. tt))
   by_sum market _ terms (of_price same best price) = by_steps Price terms (of_price terms best price) (prices_scaled Price (choice_duals m g h) is_up_dual is_down_dual terms price)
-  by_sum market _ terms (of_money same best money) = by_money terms (of_money terms best money)
+  by_sum market _ _ (of_welfare best) = by_settled (welfare_terms m (choice_dispatch m g h)) (of_welfare best)
+  by_sum market _ terms (of_settlement same best part) = by_settled terms (of_settlement terms best part)
   by_sum market _ terms (of_farkas_price d same f price) =
       by_steps Factor terms (of_farkas_price d terms f price) (prices_scaled Factor d (λ r c. is_farkas_up d r f c) (λ r c. is_farkas_down d r f c) terms price)
   by_sum market _ terms (farkas_bound_of d same f farkas_bound_of_all) = by_steps Quantity terms (farkas_bound_of d terms f farkas_bound_of_all) (bound_scaled market d f)

@@ -25,9 +25,8 @@ use Rattle.market_model.specs.Dispatch.{Dispatch, injection, balance, accepted, 
 use Rattle.market_model.specs.Optimality.{Feasible, Supports, BlockSupported, welfare_terms}
 use Rattle.market_model.proofs.RowLaws.{no_rows, supported_bare, supports_bare, feasible_bare}
 use Rattle.market_model.specs.NamedSums.{term_at}
-use Rattle.market_model.specs.SumTables.{welfare_of_all}
 use Rattle.linear_system.specs.Choices.{Choice}
-use Rattle.market_system.specs.MarketNumbers.{IsRightChoice, NamedSum, of_money}
+use Rattle.market_system.specs.MarketNumbers.{IsRightChoice, NamedSum, of_welfare}
 use Rattle.market_system.specs.MarketSystem.{choice_dispatch, choice_duals}
 use Rattle.market_system.specs.WorkingPairs.{IsRangeOf}
 use Rattle.market_system.proofs.SystemLaws.{block_choice, block_choice_is}
@@ -171,7 +170,7 @@ passes = inr (inr (inl (Prim.omega arith)))
 
 -- the welfare is a sum of money at that choice
 welfare_named : NamedSum big_buses [] chosen None (welfare_terms big_buses all_sold)
-welfare_named = subst (λ (y : Dispatch). NamedSum big_buses [] chosen None (welfare_terms big_buses y)) all_are_sold (of_money (welfare_terms big_buses (choice_dispatch big_buses [] chosen)) chosen-best welfare_of_all)
+welfare_named = subst (λ (y : Dispatch). NamedSum big_buses [] chosen None (welfare_terms big_buses y)) all_are_sold (of_welfare chosen-best)
 
 pub big_buses-range : IsRangeOf big_buses [] (2 ^ 127 - 1) too_large
 big_buses-range =

@@ -25,17 +25,23 @@ use Rattle.market_model.specs.LimitRows.{rows, limit, row_factor, flow, most_flo
 use Rattle.market_model.specs.Market.{IsMarket}
 use Rattle.market_model.specs.Optimality.{Within, Feasible, block_value, price, net_shadow_price, up_of, down_of, bus_price, unit_price, Gains, Loses, BlockSupported, RowSupported, Supports, ProperDuals, congestion_by, price_by}
 use Rattle.market_system.specs.Growth.{BestFor}
-use Rattle.market_system.specs.MarketSystem.{balance_name, row_name, is_in, in_order, block_sign, block_coefficient, system_of, choice_dispatch, duals_of_costs, choice_duals}
+use Rattle.market_system.specs.MarketSystem.{balance_name, row_name, is_in, in_order, block_sign, block_coefficient, system_of, choice_dispatch, duals_by_cost, choice_duals}
 use Rattle.market_system.specs.SolvedLaws.{state_at}
 use Rattle.market_system.proofs.RowOrder.{is_in-from, in_order-in}
 use Rattle.market_system.proofs.DualLists.{NamesApart, rows_apart, up_by, down_by, up_sign, down_sign, up_costs, down_costs, up-made, down-made, net_price-made, proper-made, in_order-filter}
 use Rattle.market_system.proofs.MarketPoints.{is_system_of, both_parts, coefficient-balance, coefficient-row, price-block, low-block, high-block, low-row, high-row, block_in, row_in, point_of, point_meets, point_within, point_welfare, dispatch_at-accepted, dispatch_welfare, dispatch_flow, dispatch_feasible}
 use Rattle.market_system.proofs.VariableLaws.{column_in, sum-rows}
 
--- ---- bus prices of duals that are made by rows
-module _ (m : Parts) (names : NamesApart m) (energy : Fraction) (cost : Row → Fraction) (g : List Row) where
+-- ---- bus prices of duals that are made of costs by name
+module _ (m : Parts) (names : NamesApart m) (cost_of : ℕ → Fraction) (g : List Row) where
   abbrev made : Duals Fraction
-  made = duals_of_costs m energy cost (in_order m g)
+  made = duals_by_cost m g cost_of
+
+  abbrev energy : Fraction
+  energy = neg_ℚ (cost_of (balance_name m))
+
+  abbrev cost : Row → Fraction
+  cost r = cost_of (row_name m r)
 
   -- what the rows of the list take at a bus
   pub price-made : (i : ℕ) → bus_price m made i ≡ energy +ℚ sum_by (λ r. neg_ℚ (cost r) *ℚ row_factor m r i) (in_order m g)
@@ -43,9 +49,9 @@ module _ (m : Parts) (names : NamesApart m) (energy : Fraction) (cost : Row → 
   price-made i = ap (λ t. energy +ℚ t)
       (total-Product (λ r. neg_ℚ (net_shadow_price m made r)) (λ r. row_factor m r i) (rows m)
       ∙ sum_by-members (λ r. neg_ℚ (net_shadow_price m made r) *ℚ row_factor m r i) (λ r. kept (is_in g r) (neg_ℚ (cost r) *ℚ row_factor m r i)) (rows m)
-      (λ r c. ap (λ t. neg_ℚ t *ℚ row_factor m r i) (net_price-made m names energy cost g r c) ∙ by (is_in g r) (cost r) (row_factor m r i))
+      (λ r c. ap (λ t. neg_ℚ t *ℚ row_factor m r i) (net_price-made m names cost_of g r c) ∙ by (is_in g r) (cost r) (row_factor m r i))
       ∙ sym (sum_by-filter (λ r. neg_ℚ (cost r) *ℚ row_factor m r i) (is_in g) (rows m))
-      ∙ ap (sum_by (λ r. neg_ℚ (cost r) *ℚ row_factor m r i)) (sym (in_order-filter m names energy cost g)))
+      ∙ ap (sum_by (λ r. neg_ℚ (cost r) *ℚ row_factor m r i)) (sym (in_order-filter m names cost_of g)))
     where
       by : (b : Bool) (x a : Fraction) → neg_ℚ (if b then x else nil) *ℚ a ≡ kept b (neg_ℚ x *ℚ a)
       by true x a = refl
@@ -113,7 +119,7 @@ module _ (m : Parts) (names : NamesApart m) (g : List Row) where
         let costs : Fraction = sum_by (λ r. reduced s h (row_name m r) *ℚ block_coefficient m r j) (in_order m g) in
         by_ring1 ring_ℚ (block_value m j ∷ reduced s h j ∷ reduced s h (balance_name m) ∷ block_sign m j ∷ costs ∷ []) (at 1) (at 0 ⊕ (pneg (at 2) ⊗ at 3 ⊕ pneg (at 4))) (pneg pone) (at 0) (at 1 ⊕ (at 2 ⊗ at 3 ⊕ at 4))
         (priced j lt ∙ ap (λ t. reduced s h j +ℚ t) (rows-at (reduced s h) j lt)) refl
-        ∙ ap (λ t. block_value m j +ℚ t) (sym (weight-made m names (neg_ℚ (reduced s h (balance_name m))) (λ r. reduced s h (row_name m r)) g j))
+        ∙ ap (λ t. block_value m j +ℚ t) (sym (weight-made m names (reduced s h) g j))
 
     -- ---- a solved choice
     module _ (market : IsMarket m) (all : (r : Row) → Contains g r → Contains (rows m) r) (solved : IsSolved (system_of m g) (state_at (system_of m g) h)) where
@@ -164,17 +170,14 @@ module _ (m : Parts) (names : NamesApart m) (g : List Row) where
       abbrev costs : Row → Fraction
       costs r = reduced s h (row_name m r)
 
-      abbrev energy_price : Fraction
-      energy_price = neg_ℚ (reduced s h (balance_name m))
-
       row_supported : (r : Row) → Contains (rows m) r → RowSupported m dispatch duals r
       row_supported r c = by (is_in g r) refl
         where
           up-is : (b : Bool) → is_in g r ≡ b → up_of m duals r ≡ (if b then up_by (sign_of (costs r)) (costs r) else nil)
-          up-is b e = up-made m names energy_price costs g r c ∙ ap (λ (t : Bool). if t then up_by (sign_of (costs r)) (costs r) else nil) e
+          up-is b e = up-made m names (reduced s h) g r c ∙ ap (λ (t : Bool). if t then up_by (sign_of (costs r)) (costs r) else nil) e
 
           down-is : (b : Bool) → is_in g r ≡ b → down_of m duals r ≡ (if b then down_by (sign_of (costs r)) (costs r) else nil)
-          down-is b e = down-made m names energy_price costs g r c ∙ ap (λ (t : Bool). if t then down_by (sign_of (costs r)) (costs r) else nil) e
+          down-is b e = down-made m names (reduced s h) g r c ∙ ap (λ (t : Bool). if t then down_by (sign_of (costs r)) (costs r) else nil) e
 
           flow-is : (k : Contains (in_order m g) r) → flow m dispatch r ≡ flow m (empty m) r +ℚ value s h (row_name m r)
           flow-is k = dispatch_flow m (rows_apart m names) g market (value s h) solved.best.meets r k
@@ -205,7 +208,7 @@ module _ (m : Parts) (names : NamesApart m) (g : List Row) where
       solved_supports = record { blocks = block_supported; rows = row_supported }
 
       pub solved_proper : ProperDuals m duals
-      solved_proper = proper-made m names energy_price costs g
+      solved_proper = proper-made m names (reduced s h) g
 
       -- so where it breaks no row of the market, it is feasible
       pub solved_feasible : ((r : Row) → Contains (rows m) r → Within (most_flow m r) (flow m dispatch r)) → Feasible m dispatch

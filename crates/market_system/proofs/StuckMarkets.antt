@@ -32,12 +32,12 @@ use Rattle.market_model.specs.LimitRows.{rows, mw_or_zero, limit_in, limit, flow
 use Rattle.market_model.specs.Market.{IsMarket}
 use Rattle.market_model.specs.Optimality.{net_shadow_price, ProperDuals}
 use Rattle.market_model.proofs.FarkasLaw.{farkas_bound-by_parts, left_of}
-use Rattle.market_system.specs.MarketSystem.{name, balance_name, row_name, is_in, in_order, residual_demand, block_sign, block_coefficient, system_of, duals_of_costs}
+use Rattle.market_system.specs.MarketSystem.{name, balance_name, row_name, is_in, in_order, residual_demand, block_sign, block_coefficient, system_of, duals_by_cost}
 use Rattle.limit_rows.proofs.FactorLemmas.{stands}
 use Rattle.market_model.specs.NamedSums.{SameSize}
 use Rattle.market_system.specs.MarketNumbers.{IsFarkasOf}
-use Rattle.market_system.proofs.RowOrder.{in_order-from, is_in-in, is_in-from}
-use Rattle.market_system.proofs.DualLists.{NamesApart, rows_apart, one_is_nil, up_by, down_by, up_sign, down_sign, up-made, down-made, net_price-made, proper-made, in_order-filter}
+use Rattle.market_system.proofs.RowOrder.{in_order-from, is_in-in}
+use Rattle.market_system.proofs.DualLists.{NamesApart, rows_apart, one_is_nil, up_by, down_by, up_sign, down_sign, up-made, down-made, net_price-made, prices_only-made, proper-made, in_order-filter}
 use Rattle.market_system.proofs.MarketPoints.{is_system_of, both_parts, low-block, high-block, low-balance, high-balance, low-row, high-row, block_in, balance_in, row_in}
 use Rattle.market_system.proofs.SolvedMarkets.{rows-at, weight-made}
 use Rattle.market_system.proofs.VariableLaws.{IsOf, by_variable, from_places, column_in, sum-columns, sum-rows}
@@ -119,9 +119,9 @@ module _ (m : Parts) (names : NamesApart m) (market : IsMarket m) (g : List Row)
   abbrev turned : ℕ → Fraction
   turned w = opposite_if (not above) (multiplier h b w)
 
-  -- the duals of the stuck variable: the price of energy is the opposite of the balance's multiplier, and a MW on a row's flow costs the row's
+  -- the duals of the stuck variable
   abbrev pub stuck_duals : Duals Fraction
-  stuck_duals = duals_of_costs m (neg_ℚ (turned (balance_name m))) (λ r. turned (row_name m r)) (in_order m g)
+  stuck_duals = duals_by_cost m g turned
 
   abbrev at_corner : ℕ → Fraction
   at_corner w = corner s h b above w
@@ -166,7 +166,7 @@ module _ (m : Parts) (names : NamesApart m) (market : IsMarket m) (g : List Row)
   pub block_multiplier : (j : ℕ) → j < length m.blocks → block_weight m stuck_duals j ≡ turned j
   block_multiplier j lt =
       let costs : Fraction = sum_by (λ r. turned (row_name m r) *ℚ block_coefficient m r j) (in_order m g) in
-      weight-made m names (neg_ℚ (turned (balance_name m))) (λ r. turned (row_name m r)) g j
+      weight-made m names turned g j
       ∙ by_ring1 ring_ℚ (turned (balance_name m) ∷ block_sign m j ∷ costs ∷ turned j ∷ []) (pneg (at 0) ⊗ at 1 ⊕ pneg (at 2)) (at 3) pone pnil (at 3 ⊕ (at 0 ⊗ at 1 ⊕ at 2))
       (at_column j lt ∙ ap (λ t. turned j +ℚ t) (rows-at m names g turned j lt)) refl
 
@@ -200,8 +200,8 @@ module _ (m : Parts) (names : NamesApart m) (market : IsMarket m) (g : List Row)
   unfolding left_here
   left_of_row r c =
       ap₂ (λ (u d : Fraction). u *ℚ (limit m r -ℚ flow m (empty m) r) +ℚ (d *ℚ (limit m r +ℚ flow m (empty m) r) +ℚ nil))
-      (up-made m names (neg_ℚ (turned (balance_name m))) (λ t. turned (row_name m t)) g r c)
-      (down-made m names (neg_ℚ (turned (balance_name m))) (λ t. turned (row_name m t)) g r c)
+      (up-made m names turned g r c)
+      (down-made m names turned g r c)
       ∙ by (is_in g r)
     where
       by : (t : Bool) → (if t then up_by (sign_of (turned (row_name m r))) (turned (row_name m r)) else nil) *ℚ (limit m r -ℚ flow m (empty m) r)
@@ -215,7 +215,7 @@ module _ (m : Parts) (names : NamesApart m) (market : IsMarket m) (g : List Row)
   rows_most =
       sum_by-members (left_of m stuck_duals (empty m)) (λ r. kept (is_in g r) (left_here r)) (rows m) left_of_row
       ∙ sym (sum_by-filter left_here (is_in g) (rows m))
-      ∙ ap (sum_by left_here) (sym (in_order-filter m names (neg_ℚ (turned (balance_name m))) (λ r. turned (row_name m r)) g))
+      ∙ ap (sum_by left_here) (sym (in_order-filter m names turned g))
       ∙ sum_by-members left_here (λ r. turned (row_name m r) *ℚ at_corner (row_name m r)) (in_order m g) each
     where
       each : (r : Row) → Contains (in_order m g) r → left_here r ≡ turned (row_name m r) *ℚ at_corner (row_name m r)
@@ -245,8 +245,8 @@ module _ (m : Parts) (names : NamesApart m) (market : IsMarket m) (g : List Row)
   -- so they show that nothing is feasible, and they are proper
   pub stuck_shows : ShowsInfeasible m stuck_duals
   stuck_shows = record {
-    up_signs = λ r c. subst (λ t. nil ≤ℚ t) (sym (up-made m names (neg_ℚ (turned (balance_name m))) (λ t. turned (row_name m t)) g r c)) (by (is_in g r) (up_sign (turned (row_name m r))));
-    down_signs = λ r c. subst (λ t. nil ≤ℚ t) (sym (down-made m names (neg_ℚ (turned (balance_name m))) (λ t. turned (row_name m t)) g r c)) (by (is_in g r) (down_sign (turned (row_name m r))));
+    up_signs = λ r c. subst (λ t. nil ≤ℚ t) (sym (up-made m names turned g r c)) (by (is_in g r) (up_sign (turned (row_name m r))));
+    down_signs = λ r c. subst (λ t. nil ≤ℚ t) (sym (down-made m names turned g r c)) (by (is_in g r) (down_sign (turned (row_name m r))));
     below = subst (λ t. t <ℚ nil) (sym stuck_bound) (margin_below s h system b stuck.basic above stuck.violates);
   }
     where
@@ -255,7 +255,7 @@ module _ (m : Parts) (names : NamesApart m) (market : IsMarket m) (g : List Row)
       by false p = ≤ℚ_refl nil
 
   pub stuck_proper : ProperDuals m stuck_duals
-  stuck_proper = proper-made m names (neg_ℚ (turned (balance_name m))) (λ r. turned (row_name m r)) g
+  stuck_proper = proper-made m names turned g
 
   -- and their numbers are those of the choice
   turned_size : (w : ℕ) → SameSize (turned w) (multiplier h b w)
@@ -277,27 +277,14 @@ module _ (m : Parts) (names : NamesApart m) (market : IsMarket m) (g : List Row)
     energy = neg_size (turned (balance_name m)) (multiplier h b (balance_name m)) (turned_size (balance_name m));
     limits = λ r c. subst (λ x. SameSize x (multiplier h b (row_name m r))) (sym (by_net_prices r (all r c) (is_in-in g r c))) (turned_size (row_name m r));
     one_sided = λ r c. elim (one_is_nil (turned (row_name m r))) [
-      | inl e ↦ inl (up-made m names energy_price costs g r (all r c) ∙ ap (λ (t : Bool). if t then up_by (sign_of (costs r)) (costs r) else nil) (is_in-in g r c) ∙ e)
-      | inr e ↦ inr (down-made m names energy_price costs g r (all r c) ∙ ap (λ (t : Bool). if t then down_by (sign_of (costs r)) (costs r) else nil) (is_in-in g r c) ∙ e)
+      | inl e ↦ inl (up-made m names turned g r (all r c) ∙ ap (λ (t : Bool). if t then up_by (sign_of (costs r)) (costs r) else nil) (is_in-in g r c) ∙ e)
+      | inr e ↦ inr (down-made m names turned g r (all r c) ∙ ap (λ (t : Bool). if t then down_by (sign_of (costs r)) (costs r) else nil) (is_in-in g r c) ∙ e)
     ];
-    no_others = λ r c n. (
-      up-made m names energy_price costs g r c ∙ ap (λ (t : Bool). if t then up_by (sign_of (costs r)) (costs r) else nil) (absent r n),
-      down-made m names energy_price costs g r c ∙ ap (λ (t : Bool). if t then down_by (sign_of (costs r)) (costs r) else nil) (absent r n),
-    );
+    no_others = prices_only-made m names turned g;
   }
     where
-      energy_price : Fraction
-      energy_price = neg_ℚ (turned (balance_name m))
-
       costs : Row → Fraction
       costs r = turned (row_name m r)
 
       by_net_prices : (r : Row) → Contains (rows m) r → is_in g r ≡ true → net_shadow_price m stuck_duals r ≡ costs r
-      by_net_prices r c e = net_price-made m names energy_price costs g r c ∙ ap (λ (t : Bool). if t then costs r else nil) e
-
-      absent : (r : Row) → ¬ (Contains g r) → is_in g r ≡ false
-      absent r n = by (is_in g r) refl
-        where
-          by : (t : Bool) → is_in g r ≡ t → is_in g r ≡ false
-          by true e = absurd (n (is_in-from g r e))
-          by false e = e
+      by_net_prices r c e = net_price-made m names turned g r c ∙ ap (λ (t : Bool). if t then costs r else nil) e

@@ -5,9 +5,10 @@ use Rattle.std.specs.Prelude.{◌≡◌, List, [], ◌∷◌, ◌++◌, ◌⊎�
 use Rattle.std.specs.List.{Contains}
 use Rattle.fraction_theory.specs.Fraction.{Fraction, neg_ℚ}
 use Rattle.fraction_theory.specs.Order.{◌≤ℚ◌, ◌<ℚ◌}
+use Rattle.market_model.specs.declared.answered.Duals.{Duals}
 use Rattle.market_model.specs.declared.participants.Parts.{Parts}
-use Rattle.market_model.specs.Dispatch.{Dispatch}
-use Rattle.market_model.specs.Optimality.{FeasibleFor, welfare}
+use Rattle.market_model.specs.Dispatch.{Dispatch, zero}
+use Rattle.market_model.specs.Optimality.{FeasibleFor, welfare, up_of, down_of}
 use Rattle.market_model.specs.declared.limits.Row.{Row}
 use Rattle.market_model.specs.LimitRows.{rows, flow, limit}
 
@@ -32,6 +33,10 @@ GrowsBy m old (r ∷ more) = ((x : Dispatch) × BestFor m old x × Broken m x r)
 -- the old rows, with more behind them
 abbrev pub Growth : Parts → List Row → List Row → Type 0
 Growth m old new = (more : List Row) × (new ≡ old ++ more) × GrowsBy m old more
+
+-- rows that were not taken have no price in these duals
+abbrev pub PricesOnly : Parts → List Row → Duals Fraction → Type 0
+PricesOnly m taken d = (r : Row) → Contains (rows m) r → ¬ (Contains taken r) → (up_of m d r ≡ zero) × (down_of m d r ≡ zero)
 
 -- the rows that a clear may stand on, after those taken before it
 abbrev pub Reached : Parts → List Row → List Row → Type 0

@@ -1,4 +1,4 @@
--- The numbers of a market at a choice of its system, each of a kind. Money is no kind: only its sums may stand in a pair.
+-- The numbers of a market at a choice of its system, each of a kind. Money is of none: only its sums may stand in a pair.
 -- Source: own; the sums are those of the dispatch, of the prices and of the settlement.
 use Rattle.std.specs.Prelude.{◌≡◌, ℕ, ◌<◌, List, length, Option, Some, None, ◌⊎◌}
 use Rattle.std.specs.List.{Contains}
@@ -12,12 +12,12 @@ use Rattle.market_model.specs.declared.answered.Duals.{Duals}
 use Rattle.market_model.specs.Dispatch.{Dispatch, zero, bus_at, unit_at, empty}
 use Rattle.market_model.specs.declared.limits.Row.{Row}
 use Rattle.market_model.specs.LimitRows.{rows as all_rows, limit, shift_factor, loss_factor, line_offset}
-use Rattle.market_model.specs.Optimality.{Feasible, Supports, up_of, down_of, net_shadow_price}
+use Rattle.market_model.specs.Optimality.{Feasible, Supports, up_of, down_of, net_shadow_price, bus_price, welfare_terms}
 use Rattle.market_model.specs.Infeasibility.{ShowsInfeasible}
 use Rattle.market_system.specs.MarketSystem.{balance_name, row_name, system_of, choice_dispatch, choice_duals}
-use Rattle.market_system.specs.Growth.{BestFor}
+use Rattle.market_system.specs.Growth.{BestFor, PricesOnly}
 use Rattle.market_model.specs.NamedSums.{SameSize}
-use Rattle.market_model.specs.SumTables.{FlowSum, OffsetSum, FactorSum, OutputSum, PriceSum, BoundSum, MoneySum}
+use Rattle.market_model.specs.SumTables.{FlowSum, OffsetSum, FactorSum, OutputSum, PriceSum, BoundSum, SettledSum}
 
 -- the choice's dispatch is feasible, and its duals support it
 pub record IsRightChoice (m : Parts) (rows : List Row) (h : Choice) : Type 0 where
@@ -37,19 +37,22 @@ pub record IsFarkasOf (m : Parts) (rows : List Row) (h : Choice) (d : Duals Frac
   pub energy : SameSize d.energy (multiplier h basic (balance_name m))
   pub limits : (r : Row) → Contains rows r → SameSize (net_shadow_price m d r) (multiplier h basic (row_name m r))
   pub one_sided : (r : Row) → Contains rows r → (up_of m d r ≡ zero) ⊎ (down_of m d r ≡ zero)
-  pub no_others : (r : Row) → Contains (all_rows m) r → ¬ (Contains rows r) → (up_of m d r ≡ zero) × (down_of m d r ≡ zero)
+  pub no_others : PricesOnly m rows d
 
--- The sums that may be added up at a choice: each with the kind of its first terms, which money has not, its terms in order, and when it counts.
+-- The sums that may be added up at a choice: each with the kind of its first terms, its terms in order, and when it counts. What has no kind
+-- may stand in a pair only where it is added up.
 pub data NamedSum (m : Parts) (rows : List Row) (h : Choice) : Option Kind → List Term → Type 0 where
   -- the fixed offset of a row, and its factor at a bus
   offset_of : (r : Row) (terms : List Term) → Contains (all_rows m) r → OffsetSum m r terms → NamedSum m rows h (Some Quantity) terms
   factor_of : (r : Row) (terms : List Term) → Contains (all_rows m) r → FactorSum m r terms → NamedSum m rows h (Some Factor) terms
   -- injections and flows
   of_flow : (x : Dispatch) (terms : List Term) → IsInjecting m rows h x → FlowSum m x terms → NamedSum m rows h (Some Quantity) terms
-  -- at a right choice: a unit's output, prices, and money
+  -- at a right choice: a unit's output and prices; and without a kind the welfare, and what its settlement adds up
   output_of : (terms : List Term) → IsRightChoice m rows h → OutputSum m (choice_dispatch m rows h) terms → NamedSum m rows h (Some Quantity) terms
   of_price : (terms : List Term) → IsRightChoice m rows h → PriceSum m (choice_duals m rows h) terms → NamedSum m rows h (Some Price) terms
-  of_money : (terms : List Term) → IsRightChoice m rows h → MoneySum m rows (choice_dispatch m rows h) (choice_duals m rows h) terms → NamedSum m rows h None terms
+  of_welfare : IsRightChoice m rows h → NamedSum m rows h None (welfare_terms m (choice_dispatch m rows h))
+  of_settlement : (terms : List Term) → IsRightChoice m rows h
+      → SettledSum m (choice_dispatch m rows h) (bus_price m (choice_duals m rows h)) (choice_duals m rows h) terms → NamedSum m rows h None terms
   -- at duals that show that nothing is feasible: prices, and the bound
   of_farkas_price : (d : Duals Fraction) (terms : List Term) → IsFarkasOf m rows h d → PriceSum m d terms → NamedSum m rows h (Some Factor) terms
   farkas_bound_of : (d : Duals Fraction) (terms : List Term) → IsFarkasOf m rows h d → BoundSum m d terms → NamedSum m rows h (Some Quantity) terms

@@ -150,12 +150,14 @@ dual_by id x Below = record { row = id; up = zero; down = neg_ℚ x } ∷ []
 dual_by id x Zero = []
 dual_by id x Above = record { row = id; up = x; down = zero } ∷ []
 
--- duals with a price of energy, and for each of these rows the prices of its two sides by what a MW on its flow costs; a row for which that
--- is 0 is not named
-abbrev pub duals_of_costs : Parts → Fraction → (Row → Fraction) → List Row → Duals Fraction
-duals_of_costs m energy cost rs = record { energy = energy; limits = flat_map (λ r. dual_by (row_id m r) (cost r) (sign_of (cost r))) rs }
+-- the duals of what a MW costs on each variable, by name: the price of energy is the opposite of what it costs on the balance, and the prices
+-- of the rows are by what it costs on their flows, in the market's order; a row for which that is 0 is not named
+abbrev pub duals_by_cost : Parts → List Row → (ℕ → Fraction) → Duals Fraction
+duals_by_cost m g cost = record {
+  energy = neg_ℚ (cost (balance_name m));
+  limits = flat_map (λ r. dual_by (row_id m r) (cost (row_name m r)) (sign_of (cost (row_name m r)))) (in_order m g);
+}
 
--- the duals of a choice: the price of energy is the opposite of the reduced price of the balance, and the prices of the rows are by theirs,
--- in the market's order
+-- the duals of a choice are those of its reduced prices
 abbrev pub choice_duals : Parts → List Row → Choice → Duals Fraction
-choice_duals m g h = duals_of_costs m (neg_ℚ (reduced (system_of m g) h (balance_name m))) (λ r. reduced (system_of m g) h (row_name m r)) (in_order m g)
+choice_duals m g h = duals_by_cost m g (reduced (system_of m g) h)

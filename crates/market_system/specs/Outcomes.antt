@@ -1,17 +1,15 @@
 -- What is right to print of a market.
-use Rattle.std.specs.Prelude.{◌≡◌, ℕ, List, [], Contains}
+use Rattle.std.specs.Prelude.{◌≡◌, ℕ, List, []}
 use Rattle.fraction_theory.specs.Fraction.{Fraction}
 use Rattle.market_model.specs.declared.participants.Parts.{Parts}
 use Rattle.market_model.specs.declared.answered.Outcome.{Outcome}
 use Rattle.market_model.specs.declared.answered.Outcome.TheVariants as outcome
-use Rattle.market_model.specs.declared.answered.Duals.{Duals}
-use Rattle.market_model.specs.Dispatch.{Dispatch, zero}
+use Rattle.market_model.specs.Dispatch.{Dispatch}
 use Rattle.market_model.specs.Infeasibility.{IsFarkas}
 use Rattle.market_model.specs.declared.limits.Row.{Row}
-use Rattle.market_model.specs.LimitRows.{rows}
-use Rattle.market_model.specs.Optimality.{Feasible, up_of, down_of}
+use Rattle.market_model.specs.Optimality.{Feasible}
 use Rattle.market_model.specs.RightAnswers.{IsRight}
-use Rattle.market_system.specs.Growth.{Growth}
+use Rattle.market_system.specs.Growth.{Growth, PricesOnly}
 use Rattle.market_system.specs.SolvedLaws.{AreRows}
 use Rattle.market_system.specs.WorkingPairs.{IsRangeOf}
 
@@ -44,11 +42,7 @@ IsTakenAfter m before (outcome.Cleared a) after = Growth m before after
 IsTakenAfter m before (outcome.Infeasible f) after = Growth m before after
 IsTakenAfter m before (outcome.Range p) after = after ≡ []
 
--- rows that were not taken have no price in these duals
-abbrev pub PricesOnly : Parts → List Row → Duals Fraction → Type 0
-PricesOnly m taken d = (r : Row) → Contains (rows m) r → ¬ (Contains taken r) → (up_of m d r ≡ zero) × (down_of m d r ≡ zero)
-
--- the same of those that an outcome has
+-- rows that were not taken have no price in the duals that an outcome has
 abbrev pub IsPricedBy : Parts → List Row → Outcome Fraction → Type 0
 IsPricedBy m taken (outcome.Cleared a) = PricesOnly m taken a.duals
 IsPricedBy m taken (outcome.Infeasible f) = PricesOnly m taken f.duals

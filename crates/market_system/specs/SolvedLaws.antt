@@ -1,7 +1,7 @@
 -- What solving a market's system over some of its limit rows says of the market.
 -- Sources: linear programs with bounded variables (Chvátal, Linear Programming); Farkas; Schweppe and others, Spot Pricing of Electricity.
 use Rattle.std.specs.Prelude.{◌≡◌, ◌≢◌, ℕ, ◌≤◌, Bool, not, List, [], ◌∷◌, ◌++◌, length, map, AllPairs, Contains}
-use Rattle.fraction_theory.specs.Fraction.{Fraction, neg_ℚ, ◌+ℚ◌}
+use Rattle.fraction_theory.specs.Fraction.{Fraction, ◌+ℚ◌}
 use Rattle.linear_system.specs.Systems.{System, IsSystem, MeetsRows, InBounds, objective}
 use Rattle.linear_system.specs.Choices.{Choice, IsChoice, value, reduced}
 use Rattle.simplex_theory.specs.States.{State, IsSolved}
@@ -18,7 +18,7 @@ use Rattle.market_model.specs.Optimality.{FeasibleFor, Feasible, Supports, Prope
 use Rattle.market_model.specs.RightAnswers.{IsRight, answer_of}
 use Rattle.market_system.specs.Growth.{Broken, BestFor, Growth, welfare_for}
 use Rattle.market_system.specs.MarketNumbers.{IsFarkasOf}
-use Rattle.market_system.specs.MarketSystem.{balance_name, row_name, in_order, system_of, choice_dispatch, duals_of_costs, choice_duals}
+use Rattle.market_system.specs.MarketSystem.{system_of, choice_dispatch, duals_by_cost, choice_duals}
 
 -- rows of the market, no two of them one
 pub record AreRows (m : Parts) (g : List Row) : Type 0 where
@@ -66,11 +66,9 @@ abbrev pub LawOfTheAnswer : Type 0
 LawOfTheAnswer = (m : Parts) (x : Dispatch) (d : Duals Fraction) → Feasible m x → Supports m x d → ProperDuals m d → IsRight m (answer_of m x d)
 
 -- ---- nothing is feasible
--- the duals of a stuck variable, with the one sign: the price of energy is the opposite of the balance's multiplier, and a MW on the flow of a
--- row costs the row's
+-- the duals of a stuck variable are those of its multipliers, with the one sign
 abbrev pub stuck_duals : Parts → List Row → Choice → ℕ → Bool → Duals Fraction
-stuck_duals m g h b above =
-    duals_of_costs m (neg_ℚ (opposite_if (not above) (multiplier h b (balance_name m)))) (λ r. opposite_if (not above) (multiplier h b (row_name m r))) (in_order m g)
+stuck_duals m g h b above = duals_by_cost m g (λ w. opposite_if (not above) (multiplier h b w))
 
 -- Where a variable is stuck they show that no dispatch of the market is feasible, and their bound is what it leaves of the bound that it
 -- violates; and they are duals of the choice, so that their numbers are the market's.

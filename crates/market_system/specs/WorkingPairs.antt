@@ -16,14 +16,14 @@ use Rattle.market_system.specs.MarketNumbers.{MarketNumber, NamedSum}
 use Rattle.market_system.specs.Growth.{Reached}
 use Rattle.market_model.specs.NamedSums.{IsSumStep}
 
--- the sides of an operation that adds up money
-pub record IsMoneyCase (m : Parts) (rows : List Row) (h : Choice) (op : Op) (left right : Fraction) : Type 0 where
+-- the sides of an operation that adds up the welfare, or what a settlement adds up
+pub record IsSettledCase (m : Parts) (rows : List Row) (h : Choice) (op : Op) (left right : Fraction) : Type 0 where
   pub terms : List Term
-  pub money : NamedSum m rows h None terms
+  pub sum : NamedSum m rows h None terms
   pub step : IsSumStep terms op left right
 
 -- The pair passes the bound. It is of one choice of the market's system over these rows or of two near ones: two sides of one kind (numbers,
--- sums or differences of two, or factors times these), or a factor and what it scales, or a step in adding up money at the first choice.
+-- sums or differences of two, or factors times these), or a factor and what it scales, or a step in adding up the welfare or the settlement of the first choice.
 pub record IsWorkingPair (m : Parts) (rows : List Row) (bound : ℕ) (op : Op) (left right : Fraction) : Type 0 where
   pub passes : Passes bound op left right
   pub one : Choice
@@ -31,7 +31,7 @@ pub record IsWorkingPair (m : Parts) (rows : List Row) (bound : ℕ) (op : Op) (
   pub is_choice : IsChoice (system_of m rows) one
   pub near_is_choice : IsChoice (system_of m rows) near
   pub are_near : AreNear (system_of m rows) one near
-  pub sides : IsPairCase (OfEither (MarketNumber m rows) one near) op left right ⊎ IsMoneyCase m rows one op left right
+  pub sides : IsPairCase (OfEither (MarketNumber m rows) one near) op left right ⊎ IsSettledCase m rows one op left right
 
 -- a working pair of the market over rows that a clear may stand on, after those taken before it
 pub record IsRangeOf (m : Parts) (taken : List Row) (bound : ℕ) (p : Passed Fraction) : Type 0 where

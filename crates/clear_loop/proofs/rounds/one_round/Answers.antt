@@ -2,7 +2,7 @@ use Rattle.std.proofs.Common.{Err, ◌≡◌, ◌∙◌, ap, sym, subst, refl, l
 use Rattle.std.proofs.lemmas.Result.{err_from_is_err_and}
 use Rattle.market_model.specs.Optimality.{Feasible}
 use Rattle.market_model.specs.Valued.{duals_at}
-use Rattle.market_system.specs.Outcomes.{PricesOnly}
+use Rattle.market_system.specs.Growth.{PricesOnly}
 use Rattle.market_system.proofs.GrowthLaws.{growth_none}
 use Rattle.market_model.specs.PutIn.{dispatch_of}
 use Rattle.market_dict.specs.Findings.{IsFound, IsSolvedBy}

@@ -1,25 +1,34 @@
 use Rattle.std.proofs.Common.{◌≡◌, ◌+◌, ◌∙◌, List, ℕ, map, ap, subst, sym, length, arith}
+use Rattle.std.specs.List.{Contains}
 use Rattle.linear_dict.specs.Dictionaries.{note_of, choice_of}
 use Rattle.linear_dict.specs.Notes.{Noted}
 use Rattle.linear_system.specs.Choices.{value as value_of}
 use Rattle.market_model.specs.Dispatch.{places, dispatch_by}
+use Rattle.market_model.specs.LimitRows.{rows}
 use Rattle.market_system.specs.MarketSystem.{system_of}
-use Rattle.market_system.proofs.VariableLaws.{from_places}
+use Rattle.market_system.specs.declared.variables.Variable.TheVariants.{Block}
+use Rattle.market_system.proofs.VariableLaws.{from_places, is_variable}
 use Rattle.market_dict.proofs.HoldingLaws.{block_named, shown_value}
 use Rattle.market_dict.proofs.ListedLemmas.{map-members, places_filled}
 use Rattle.market_dict.proofs.reading.dispatch.Goals as goal
 
+pub name_of-name-requires : goal.name_of-name-requires
+name_of-name-requires g c =
+    let m = c.args.market.now in
+    is_variable m (rows m) (Block c.loop-block.block) (omega (arith, c.loop-block-test.true, c.len-block-end.ensures, ap length c.blocks-2.ensures.list))
+
 pub note-requires-clause-named : goal.note-requires-clause-named
 note-requires-clause-named g c =
     let h = c.requires.holds in
-    block_named c.args.market.now h.0 c.args.dict.now h.1.holds c.loop-block.block (omega (arith, c.loop-block-test.true, c.len-block-end.ensures, ap length c.blocks-2.ensures.list))
+    subst (Contains c.args.dict.now.names) (sym c.name_of-name.ensures)
+    (block_named c.args.market.now h.0 c.args.dict.now h.1.holds c.loop-block.block (omega (arith, c.loop-block-test.true, c.len-block-end.ensures, ap length c.blocks-2.ensures.list)))
 
 pub loop-block-preserved : goal.loop-block-preserved
 loop-block-preserved g c =
     let d = c.args.dict.now in
     subst (λ (xs : List g.row.N.Denot). map g.N.Exact.value xs ≡ map (λ w. (note_of d w).value) (places (c.loop-block.block + 1))) (sym c.in_ok-push.ensures)
     (places_filled g.N.Exact.value (λ w. (note_of d w).value) c.loop-block.values c.loop-block.block c.note.result.value c.loop-block.invariant
-    (ap Noted.value c.note.ensures))
+    (ap Noted.value (c.note.ensures ∙ ap (note_of d) c.name_of-name.ensures)))
 
 pub returns : goal.returns
 returns g c = λ rs holds.

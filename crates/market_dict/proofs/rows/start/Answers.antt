@@ -1,24 +1,32 @@
-use Rattle.std.proofs.Common.{◌≡◌, ◌≢◌, ◌∙◌, ℕ, List, map, ap, sym, subst, length}
+use Rattle.std.proofs.Common.{◌≢◌, ◌∙◌, ℕ, List, map, ap, sym, subst, length}
 use Rattle.std.specs.List.{AllPairs, Contains}
 use Rattle.std.proofs.lemmas.Result.{IfOk-weaker}
 use Rattle.linear_dict.specs.Dictionaries.{IsStart}
 use Rattle.market_model.specs.Dispatch.{places}
+use Rattle.market_model.specs.LimitRows.{rows}
+use Rattle.market_system.specs.declared.variables.Variable.TheVariants.{Balance}
+use Rattle.market_system.proofs.VariableLaws.{is_variable}
 use Rattle.market_dict.proofs.EntryLemmas.{places_distinct, place_absent}
 use Rattle.market_dict.proofs.HoldingLaws.{holds_start}
 use Rattle.market_dict.proofs.rows.start.Goals as goal
 
+pub name_of-balance-requires : goal.name_of-balance-requires
+name_of-balance-requires g c = let m = c.args.market.now in is_variable m (rows m) Balance tt
+
 pub start-requires-clause-distinct : goal.start-requires-clause-distinct
-start-requires-clause-distinct g c = subst (AllPairs (λ x y. x ≢ y)) (sym (c.slice.ensures ∙ c.in_ok-names.ensures)) (places_distinct c.len-blocks.result)
+start-requires-clause-distinct g c = subst (AllPairs (λ x y. x ≢ y)) (sym (c.slice.ensures ∙ c.in_ok-names.ensures)) (places_distinct (length c.args.market.now.blocks))
 
 pub start-requires-clause-absent : goal.start-requires-clause-absent
-start-requires-clause-absent g c = subst (λ (ns : List ℕ). ¬ (Contains ns c.len-blocks.result)) (sym (c.slice.ensures ∙ c.in_ok-names.ensures)) (place_absent c.len-blocks.result)
+start-requires-clause-absent g c =
+    let n = length c.args.market.now.blocks in
+    subst (λ (ns : List ℕ). ¬ (Contains ns c.name_of-balance.result)) (sym (c.slice.ensures ∙ c.in_ok-names.ensures))
+    (subst (λ (w : ℕ). ¬ (Contains (places n) w)) (sym c.name_of-balance.ensures) (place_absent n))
 
 pub returns : goal.returns
 returns g c =
     let m = c.args.market.now in
-    let blocks : c.len-blocks.result ≡ length m.blocks = c.len-blocks.ensures ∙ ap length c.blocks-2.ensures.list in
     IfOk-weaker c.start.result _ _
-    (λ d is. holds_start g.N.Exact.value m c.slice.result.now c.slice-2.result.now d c.blocks-2.ensures.market (c.slice.ensures ∙ c.in_ok-names.ensures ∙ ap places blocks)
+    (λ d is. holds_start g.N.Exact.value m c.slice.result.now c.slice-2.result.now d c.lines-lines.ensures.market (c.slice.ensures ∙ c.in_ok-names.ensures)
     (ap (map g.N.Exact.value) c.slice-2.ensures ∙ c.in_ok-entries.ensures)
-    (subst (λ (n : ℕ). IsStart g.N.Exact.value c.slice.result.now n c.slice-2.result.now d) blocks is))
+    (subst (λ (n : ℕ). IsStart g.N.Exact.value c.slice.result.now n c.slice-2.result.now d) c.name_of-balance.ensures is))
     c.start.ensures

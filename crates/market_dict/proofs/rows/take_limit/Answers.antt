@@ -2,13 +2,19 @@ use Rattle.std.proofs.Common.{◌∙◌, ℕ, map, ap, sym, subst}
 use Rattle.std.specs.List.{Contains}
 use Rattle.linear_dict.specs.Causes.{IsPairWith}
 use Rattle.linear_dict.specs.Dictionaries.{AddsRow}
+use Rattle.market_model.specs.LimitRows.{rows}
+use Rattle.market_system.specs.declared.variables.Variable.TheVariants.{Limit}
+use Rattle.market_system.proofs.VariableLaws.{is_variable}
 use Rattle.market_dict.proofs.HoldingLaws.{name_is_new, row_named, holds_taken, pair_taken}
 use Rattle.market_dict.proofs.rows.take_limit.Goals as goal
+
+pub name_of-name-requires : goal.name_of-name-requires
+name_of-name-requires g c = let m = c.args.market.now in is_variable m (rows m) (Limit c.args.row) c.requires.row
 
 pub add_row-requires-clause-absent : goal.add_row-requires-clause-absent
 add_row-requires-clause-absent g c =
     let h = c.requires.holds in
-    subst (λ (n : ℕ). ¬ (Contains c.args.dict.now.names n)) (sym c.row_name-name.ensures)
+    subst (λ (n : ℕ). ¬ (Contains c.args.dict.now.names n)) (sym c.name_of-name.ensures)
     (name_is_new c.args.market.now h.0 c.args.dict.now c.args.row c.lines-lines.ensures.market h.1 c.requires.row h.2)
 
 pub returns-in-Ok-clause-taken : goal.returns-in-Ok-clause-taken
@@ -20,7 +26,7 @@ returns-in-Ok-clause-taken g c = λ rs holds.
     let fresh = name_is_new m h.0 d r c.lines-lines.ensures.market h.1 c.requires.row h.2 in
     holds_taken g.N.Exact.value m rs r c.slice.result.now d c.add_row.new.self c.lines-lines.ensures.market holds c.requires.row (λ k. fresh (row_named m rs d holds r k))
     (ap (map g.N.Exact.value) c.slice.ensures ∙ c.in_ok-entries.ensures)
-    (subst (λ (n : ℕ). AddsRow g.N.Exact.value d n c.slice.result.now c.add_row.new.self) c.row_name-name.ensures c.in-Ok.ensures.added)
+    (subst (λ (n : ℕ). AddsRow g.N.Exact.value d n c.slice.result.now c.add_row.new.self) c.name_of-name.ensures c.in-Ok.ensures.added)
 
 pub returns-in-Err-Passed-clause-pair : goal.returns-in-Err-Passed-clause-pair
 returns-in-Err-Passed-clause-pair g c = λ rs holds.
@@ -32,4 +38,4 @@ returns-in-Err-Passed-clause-pair g c = λ rs holds.
     let pair = rw c.in-Err-Passed.field-0-is at c.in-Err-Passed.ensures.pair in
     pair_taken g.N.Exact.value g.N.Exact.bound m rs r c.slice.result.now d c.in-Err-Passed.passed c.lines-lines.ensures.market holds c.requires.row (λ k. fresh (row_named m rs d holds r k))
     (ap (map g.N.Exact.value) c.slice.ensures ∙ c.in_ok-entries.ensures)
-    (subst (λ (n : ℕ). IsPairWith g.N.Exact.value g.N.Exact.bound d n c.slice.result.now c.in-Err-Passed.passed) c.row_name-name.ensures pair)
+    (subst (λ (n : ℕ). IsPairWith g.N.Exact.value g.N.Exact.bound d n c.slice.result.now c.in-Err-Passed.passed) c.name_of-name.ensures pair)

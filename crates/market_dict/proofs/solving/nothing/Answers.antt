@@ -3,7 +3,7 @@ use Rattle.fraction_theory.specs.Fraction.{Fraction}
 use Rattle.market_model.specs.declared.answered.Duals.{Duals}
 use Rattle.market_model.specs.declared.answered.Farkas.{Farkas}
 use Rattle.market_model.specs.Infeasibility.{IsFarkas}
-use Rattle.market_system.specs.Outcomes.{PricesOnly}
+use Rattle.market_system.specs.Growth.{PricesOnly}
 use Rattle.market_dict.proofs.HoldingLaws.{empty_shows}
 use Rattle.market_dict.proofs.solving.nothing.Goals as goal
 

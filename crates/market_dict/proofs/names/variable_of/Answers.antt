@@ -3,7 +3,7 @@ use Rattle.market_model.specs.LimitRows.{rows}
 use Rattle.limit_rows.proofs.PlaceLemmas.{listed}
 use Rattle.market_dict.proofs.EntryLemmas.{name_at_place}
 use Rattle.market_dict.proofs.ReadingLemmas.{named_block, named_balance, named_limit, name_below}
-use Rattle.market_dict.proofs.reading.variable_of.Goals as goal
+use Rattle.market_dict.proofs.names.variable_of.Goals as goal
 
 pub returns-then-place-blocks : goal.returns-then-place-blocks
 returns-then-place-blocks c =

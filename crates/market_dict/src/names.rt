@@ -1,0 +1,55 @@
+//! The names that a market's variables have in its dictionary: those of the blocks are their places, the balance has the next one, and
+//! the limits follow in the market's order.
+
+ghost use Rattle.std.specs.Prelude.{◌≡◌, length, map, Contains, IfOk};
+ghost use Rattle.market_model.specs.Dispatch.{places};
+ghost use Rattle.market_model.specs.LimitRows.{rows};
+ghost use Rattle.market_system.specs.MarketSystem.{name as name_in, variables, variable_of as variable_named};
+
+use limit_rows::{place_of, row_at};
+use market_model::Market;
+use market_system::Variable;
+use plain_list::{List, Memory};
+use std::alloc::Global;
+
+/// The name of a variable.
+pub(crate) fn name_of(market: &Market, variable: Variable) -> u32
+    requires { Contains (variables market.now (rows market.now)) variable }
+    ensures { result ≡ name_in market.now variable }
+{
+    let _lines = market.lines();
+    let blocks = market.blocks().len();
+    match variable {
+        Variable::Block(place) => place as u32,
+        Variable::Balance => blocks as u32,
+        Variable::Limit(row) => (blocks + 1 + place_of(market, row)) as u32,
+    }
+}
+
+/// The variable of a name.
+pub(crate) fn variable_of(market: &Market, name: u32) -> Variable
+    requires { Contains (map (name_in market.now) (variables market.now (rows market.now))) name }
+    ensures { result ≡ variable_named market.now (rows market.now) name }
+{
+    let _lines = market.lines();
+    let blocks = market.blocks().len();
+    let place = name as usize;
+    if place < blocks {
+        return Variable::Block(place);
+    }
+    if place == blocks {
+        return Variable::Balance;
+    }
+    Variable::Limit(row_at(market, place - blocks - 1))
+}
+
+/// The names of the blocks.
+pub(crate) fn block_names(alloc: Global, market: &Market) -> Result<List<u32>, Memory>
+    ensures { IfOk result (λ names. names ≡ places (length market.now.blocks)) }
+{
+    let mut names = List::new(alloc);
+    for place in 0..market.blocks().len() {
+        names.push(name_of(market, Variable::Block(place)))?;
+    }
+    Ok(names)
+}
