@@ -9,7 +9,7 @@ ghost use Rattle.market_model.specs.Valued.{passed_at};
 ghost use Rattle.cert_sums.specs.Named.{AreNamed};
 ghost use Rattle.cert_sums.specs.Refusals.{IsPriceRefusal, IsPricesRefusal, IsNetPriceRefusal};
 
-use exact_fraction::{Exact, Passed, Sign};
+use exact_fraction::{Exact, Passed, Sign, exact_sum};
 use limit_rows::row_factor;
 use market_model::{Market, Row, datum};
 
@@ -73,5 +73,5 @@ pub fn bus_price<N: Exact>(
     ensures cause { (d : Duals Fraction) → N.value energy ≡ d.energy → AreNamed N.value market.now d named.now → IfErr result (λ passed. IsPriceRefusal market.now d bus N.bound (passed_at N.value passed)) }
 {
     let congestion = congestion_at(market, named, bus)?;
-    energy.plus(congestion)
+    exact_sum(energy, congestion)
 }

@@ -11,7 +11,7 @@ use Rattle.cert_sums.proofs.pricing.bus_price.Goals as goal
 
 pub returns-clause-price : goal.returns-clause-price
 unfolding price_by
-returns-clause-price g c = λ d energy are. MatchResult-weaker c.plus.result c.plus.ensures (λ r is. is.exact ∙ ap₂ ◌+ℚ◌ energy (c.in_ok-congestion.ensures.sum d are)) (λ _ _. tt)
+returns-clause-price g c = λ d energy are. MatchResult-weaker c.exact_sum.result c.exact_sum.ensures (λ r is. is.exact ∙ ap₂ ◌+ℚ◌ energy (c.in_ok-congestion.ensures.sum d are)) (λ _ _. tt)
 
 pub returns-in_err-congestion-clause-cause : goal.returns-in_err-congestion-clause-cause
 returns-in_err-congestion-clause-cause g c =
@@ -20,10 +20,10 @@ returns-in_err-congestion-clause-cause g c =
 
 pub returns-clause-cause : goal.returns-clause-cause
 returns-clause-cause g c = λ d energy are.
-    MatchResult-weaker c.plus.result c.plus.ensures (λ _ _. tt)
+    MatchResult-weaker c.exact_sum.result c.exact_sum.ensures (λ _ _. tt)
     (λ p is. inl (
       _,
       price_at,
       price_refused c.args.market.now d c.args.bus g.N.Exact.bound (passed_at g.N.Exact.value p)
-          (refusal g.N.Exact.value g.N.Exact.bound Plus c.args.energy c.in_ok-congestion.congestion d.energy (congestion c.args.market.now d c.args.bus) p energy (c.in_ok-congestion.ensures.sum d are) is),
+          (refusal g.N.Exact.value g.N.Exact.bound Plus c.args.energy c.in_ok-congestion.congestion d.energy (congestion c.args.market.now d c.args.bus) p energy (c.in_ok-congestion.ensures.sum d are) is.passed),
     ))
