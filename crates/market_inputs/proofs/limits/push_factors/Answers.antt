@@ -11,7 +11,7 @@ use Rattle.market_inputs.proofs.limits.push_factors.Goals as goal
 pub loop-of-preserved : goal.loop-of-preserved
 loop-of-preserved g c =
     let i = c.loop-of.of in
-    let d = c.other-item.result in
+    let d = c.index-others-of.result in
     let others : List g.row.T.Denot = c.args.others.now in
     let at : ℕ × g.row.T.Denot → Factor = λ other. record { line = c.args.line; of = other.0; value = factor_at c.args.table.now (c.args.row, g.T.Named.name other.1) } in
     let with = λ (v : ℤ). let f : Factor = record { line = c.args.line; of = i; value = v } in f in
@@ -19,7 +19,7 @@ loop-of-preserved g c =
     let known : to_z w64 (of_z w64 c.factor-value.result) ≡ c.factor-value.result = to_z-of_z w64 c.factor-value.result (record { sfits = c.factor-value.type_inv }) in
     let pushed : c.push_factor.new.factors ≡ c.loop-of.factors ++ unless_0 (with (to_z w64 (of_z w64 c.factor-value.result))) = c.in_ok-push_factor.ensures in
     let more : c.push_factor.new.factors ≡ c.loop-of.factors ++ unless_0 factor = pushed ∙ ap (λ v. c.loop-of.factors ++ unless_0 (with v)) known in
-    let is : factor ≡ at (i, get_or others i d) = ap with (c.factor-value.ensures.is ∙ ap (λ n. factor_at c.args.table.now (c.args.row, n)) (c.name.ensures ∙ ap g.T.Named.name c.other-item.is)) in
+    let is : factor ≡ at (i, get_or others i d) = ap with (c.factor-value.ensures.is ∙ ap (λ n. factor_at c.args.table.now (c.args.row, n)) (c.name.ensures ∙ ap g.T.Named.name c.index-others-of.is)) in
     record {
       small = small-more c.loop-of.factors c.push_factor.new.factors factor c.loop-of.invariant.small c.factor-value.ensures.size more;
       are = flat-step (λ other. unless_0 (at other)) others i d _ c.loop-of.factors c.push_factor.new.factors c.loop-of-test.true (more ∙ ap (λ f. c.loop-of.factors ++ unless_0 f) is) c.loop-of.invariant.are;
