@@ -6,21 +6,15 @@ use Rattle.net_case.specs.declared.live_parts.NetBranch.{NetBranch}
 use Rattle.net_paths.specs.Loops.{kept}
 use Rattle.factor_tables.specs.Factors.{Entry, factor_at}
 use Rattle.factor_residuals.specs.Kirchhoff.{Column, Flows, net_outflow, branches_at}
-use Rattle.factor_residuals.specs.declared.columns.Factors.{Factors}
-use Rattle.factor_residuals.specs.declared.columns.Factors.TheVariants as table
 use Rattle.factor_residuals.specs.declared.columns.Flow.{Flow}
 use Rattle.factor_residuals.specs.declared.loop_sums.LoopSum.{LoopSum}
 use Rattle.factor_residuals.specs.declared.node_sums.Node.{Node}
 
-abbrev pub entries_of : Factors → List Entry
-entries_of (table.Shift shift) = shift.now
-entries_of (table.Loss loss) = loss.now
-
 -- the flow over a branch by its row
-abbrev pub flows_of : Factors → ℕ → Flows
-flows_of factors name = λ row. factor_at (entries_of factors) (row, name)
+abbrev pub flows_of : List Entry → ℕ → Flows
+flows_of factors name = λ row. factor_at factors (row, name)
 
-abbrev pub column_of : LiveNetwork → Factors → Flow → Column
+abbrev pub column_of : LiveNetwork → List Entry → Flow → Column
 column_of network factors flow = record {
   name = flow.name;
   flow = flows_of factors flow.name;

@@ -6,8 +6,9 @@ ghost use Rattle.factor_residuals.specs.Kirchhoff.{loop_spot, reactance_at, dire
 ghost use Rattle.factor_residuals.specs.Columns.{IsLoopSum, with_drop, column_of};
 ghost use Rattle.factor_residuals.specs.Residuals.{AreReactances, IsResidual, loop_spots};
 
-use crate::columns::{Factors, Flow};
+use crate::columns::Flow;
 use crate::spots::{Residual, Spot};
+use factor_tables::{FactorTable, Kind};
 use net_case::{Network, Reactances};
 use net_paths::{Loops, Member};
 
@@ -66,22 +67,22 @@ fn first_branch(members: &[Member]) -> u32
 }
 
 /// The residual of a column round a loop.
-fn loop_spot(
+fn loop_spot<K: Kind>(
     network: &Network,
     reactances: &Reactances,
-    factors: Factors<'_>,
+    factors: &FactorTable<K>,
     column: &Flow,
     members: &[Member],
 ) -> Spot
     requires reactances { AreReactances network.now reactances.now }
     requires few { length members.now ≤ most_buses }
     ensures size { unsigned_abs result.value < 10 ^ 37 }
-    ensures is { result ≡ loop_spot (reactance_at network.now reactances.now) (column_of network.now factors.entry column.now) members.now }
+    ensures is { result ≡ loop_spot (reactance_at network.now reactances.now) (column_of network.now factors.now column.now) members.now }
 {
     let mut loop_sum = LoopSum { miss: 0, sizes: 0 };
     for member in members {
         let reactance = reactance_at(network, reactances, member.branch);
-        let flow = factors.flow(member.branch, column.name);
+        let flow = factors.factor(member.branch, column.name);
         loop_sum = with_drop(loop_sum, reactance, flow, member.forward);
     }
     Spot {
@@ -93,10 +94,10 @@ fn loop_spot(
 }
 
 /// Takes the residuals of a column round the loops in their order.
-pub(crate) fn note_loops(
+pub(crate) fn note_loops<K: Kind>(
     network: &Network,
     reactances: &Reactances,
-    factors: Factors<'_>,
+    factors: &FactorTable<K>,
     column: &Flow,
     loops: &Loops,
     residual: Residual,
@@ -104,7 +105,7 @@ pub(crate) fn note_loops(
     requires reactances { AreReactances network.now reactances.now }
     requires few { All (λ members. length members ≤ most_buses) loops.now }
     ensures { (spots : List Spot) → IsResidual spots residual
-        → IsResidual (spots ++ loop_spots network.now reactances.now loops.now (column_of network.now factors.entry column.now)) result }
+        → IsResidual (spots ++ loop_spots network.now reactances.now loops.now (column_of network.now factors.now column.now)) result }
 {
     let mut residual = residual;
     for members in loops.slice() {

@@ -5,13 +5,14 @@ ghost use Rattle.market_data.specs.Scales.{factor_one, most_factor, most_lines};
 ghost use Rattle.net_case.specs.Networks.{IsNetBranch};
 ghost use Rattle.net_case.specs.declared.live_parts.NetBranch.{NetBranch};
 ghost use Rattle.net_paths.specs.Loops.{kept};
+ghost use Rattle.factor_tables.specs.Factors.{Entry};
 ghost use Rattle.factor_residuals.specs.Kirchhoff.{Flows, bus_spot, one_at};
 ghost use Rattle.factor_residuals.specs.Columns.{HoldNodes, IsWithin, left_by, node_at, column_of, flows_of};
-ghost use Rattle.factor_residuals.specs.declared.columns.Factors.{Factors};
 ghost use Rattle.factor_residuals.specs.Residuals.{IsResidual, bus_spots};
 
-use crate::columns::{Factors, Flow};
+use crate::columns::Flow;
 use crate::spots::{Residual, Spot};
+use factor_tables::{FactorTable, Kind};
 use market_data::FACTOR_ONE;
 use net_case::{NetBranch, Network};
 use net_paths::{bus_number, is_lost};
@@ -61,14 +62,14 @@ fn pass(nodes: &mut Vec<Node>, branch: &NetBranch, flow: i64)
 }
 
 /// What leaves each bus over the branches of a column.
-fn nodes_of(
+fn nodes_of<K: Kind>(
     alloc: Global,
     network: &Network,
-    factors: Factors<'_>,
+    factors: &FactorTable<K>,
     column: &Flow,
 ) -> Result<Vec<Node>, Memory>
     ensures within { IfOk result (λ nodes. (p : ℕ) (d : Node) → p < length network.now.buses → IsWithin most_lines (get_or nodes.items p d)) }
-    ensures nodes { IfOk result (λ nodes. HoldNodes (flows_of factors.entry column.now.name) (kept column.now.lost network.now.branches) (length network.now.buses) nodes.items) }
+    ensures nodes { IfOk result (λ nodes. HoldNodes (flows_of factors.now column.now.name) (kept column.now.lost network.now.branches) (length network.now.buses) nodes.items) }
 {
     let empty = Node {
         outflow: 0,
@@ -80,7 +81,7 @@ fn nodes_of(
     };
     for branch in network.branches().slice() {
         if !is_lost(column.lost, branch) {
-            let flow = factors.flow(branch.row, column.name);
+            let flow = factors.factor(branch.row, column.name);
             pass(&mut nodes, branch, flow);
         }
     }
@@ -119,7 +120,7 @@ fn bus_spot(network: &Network, node: Node, column: &Flow, bus: usize) -> Spot
     requires bus { bus < length network.now.buses }
     requires within { IsWithin most_lines node }
     ensures size { unsigned_abs result.value < 10 ^ 37 }
-    ensures is { (factors : Factors) → node ≡ node_at (flows_of factors column.now.name) (kept column.now.lost network.now.branches) bus
+    ensures is { (factors : List Entry) → node ≡ node_at (flows_of factors column.now.name) (kept column.now.lost network.now.branches) bus
         → result ≡ bus_spot network.now (column_of network.now factors column.now) bus }
 {
     Spot {
@@ -131,15 +132,15 @@ fn bus_spot(network: &Network, node: Node, column: &Flow, bus: usize) -> Spot
 }
 
 /// Takes the residuals of a column at the buses in row order.
-pub(crate) fn note_buses(
+pub(crate) fn note_buses<K: Kind>(
     alloc: Global,
     network: &Network,
-    factors: Factors<'_>,
+    factors: &FactorTable<K>,
     column: &Flow,
     residual: Residual,
 ) -> Result<Residual, Memory>
     ensures { (spots : List Spot) → IsResidual spots residual
-        → IfOk result (IsResidual (spots ++ bus_spots network.now (column_of network.now factors.entry column.now))) }
+        → IfOk result (IsResidual (spots ++ bus_spots network.now (column_of network.now factors.now column.now))) }
 {
     let nodes = nodes_of(alloc, network, factors, column)?;
     let mut residual = residual;

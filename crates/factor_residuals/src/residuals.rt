@@ -1,18 +1,15 @@
 //! The residuals of the tables of factors.
 
-ghost use Rattle.std.specs.Prelude.{◌≡◌, ◌<◌, ◌≤◌, All, IfOk, length};
-ghost use Rattle.std.specs.Borrow.{Bor};
-ghost use Rattle.factor_tables.specs.declared.by_pair.Loss.{Loss};
-ghost use Rattle.factor_tables.specs.declared.by_pair.Shift.{Shift};
+ghost use Rattle.std.specs.Prelude.{◌≡◌, ◌<◌, ◌≤◌, List, All, IfOk, length};
 ghost use Rattle.market_data.specs.Scales.{most_buses};
 ghost use Rattle.net_case.specs.declared.live_parts.NetBranch.{NetBranch};
 ghost use Rattle.net_paths.specs.Loops.{AreLoops, kept};
 ghost use Rattle.net_paths.specs.Detours.{IsLiveRow, IsBranchOf};
+ghost use Rattle.factor_tables.specs.Factors.{Entry};
 ghost use Rattle.factor_residuals.specs.Columns.{column_of};
 ghost use Rattle.factor_residuals.specs.Residuals.{AreReactances, IsBusResidual, IsLoopResidual, IsOutageBusResidual, IsOutageLoopResidual, shift_column, outage_column};
-ghost use Rattle.factor_residuals.specs.declared.columns.Factors.TheVariants as table;
 
-use crate::columns::{Factors, Flow};
+use crate::columns::Flow;
 use crate::loop_sums::note_loops;
 use crate::node_sums::note_buses;
 use crate::spots::Residual;
@@ -26,7 +23,7 @@ use std::alloc::Global;
 /// One MW from the bus at a place to the reference.
 fn shift_flow(network: &Network, place: usize) -> Flow
     requires { place < length network.now.buses }
-    ensures { (shift : Bor Shift) → column_of network.now (table.Shift shift) result ≡ shift_column network.now shift.now place }
+    ensures { (shift : List Entry) → column_of network.now shift result ≡ shift_column network.now shift place }
 {
     Flow {
         name: network.buses().at(place).number,
@@ -39,8 +36,8 @@ fn shift_flow(network: &Network, place: usize) -> Flow
 /// One MW from F_BUS to T_BUS of the live branch of a row, over the others.
 fn outage_flow(network: &Network, row: u32) -> Flow
     requires { IsLiveRow network.now row }
-    ensures { (loss : Bor Loss) → (branch : NetBranch) × IsBranchOf network.now row branch
-        × (column_of network.now (table.Loss loss) result ≡ outage_column network.now loss.now branch) }
+    ensures { (loss : List Entry) → (branch : NetBranch) × IsBranchOf network.now row branch
+        × (column_of network.now loss result ≡ outage_column network.now loss branch) }
 {
     let branch = branch_of(network, row);
     Flow {
@@ -67,7 +64,7 @@ pub fn bus_residual(alloc: Global, network: &Network, shift: &Shift) -> Result<R
     let mut residual = Residual::of_none();
     for place in 0..network.buses().len() {
         let column = shift_flow(network, place);
-        residual = note_buses(alloc, network, Factors::Shift(shift), &column, residual)?;
+        residual = note_buses(alloc, network, shift, &column, residual)?;
     }
     Ok(residual)
 }
@@ -86,8 +83,7 @@ pub fn loop_residual(
     let mut residual = Residual::of_none();
     for place in 0..network.buses().len() {
         let column = shift_flow(network, place);
-        let factors = Factors::Shift(shift);
-        residual = note_loops(network, reactances, factors, &column, &loops, residual);
+        residual = note_loops(network, reactances, shift, &column, &loops, residual);
     }
     Ok(residual)
 }
@@ -105,7 +101,7 @@ pub fn outage_bus_residual(
     let mut residual = Residual::of_none();
     for outage in outages.slice() {
         let column = outage_flow(network, *outage);
-        residual = note_buses(alloc, network, Factors::Loss(loss), &column, residual)?;
+        residual = note_buses(alloc, network, loss, &column, residual)?;
     }
     Ok(residual)
 }
@@ -126,8 +122,7 @@ pub fn outage_loop_residual(
     for outage in outages.slice() {
         let loops = loops_of(alloc, network, Some(*outage))?;
         let column = outage_flow(network, *outage);
-        let factors = Factors::Loss(loss);
-        residual = note_loops(network, reactances, factors, &column, &loops, residual);
+        residual = note_loops(network, reactances, loss, &column, &loops, residual);
     }
     Ok(residual)
 }

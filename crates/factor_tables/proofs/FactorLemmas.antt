@@ -1,8 +1,10 @@
 -- Entries by pair, and the rows that are marked.
-use Rattle.std.proofs.Common.{◌≡◌, ◌≢◌, ℕ, zero, suc, ◌+◌, ap, ◌∙◌, ◌≤◌, ◌<◌, ◌++◌, ◌∷◌, [], ℤ, pos, List, length, get_or, arith, refl, sym, Option, Some, None, Bool, true, false, All, inl, inr, length-append}
+use Rattle.std.proofs.Common.{◌≡◌, ◌≢◌, ℕ, zero, suc, ◌+◌, ap, ◌∙◌, ◌≤◌, ◌<◌, ◌^◌, ◌++◌, ◌∷◌, [], ℤ, pos, List, length, get_or, arith, refl, sym, Option, Some, None, Bool, true, false, All, inl, inr, length-append, w64}
 use Rattle.std.specs.Prelude.{◌==◌, ◌&&◌, ◌||◌, ◌⊎◌, Contains, if◌then◌else◌, is_some, IfSome, slice_set, unsigned_abs, unwrap_or}
 use Rattle.std.specs.List.{list_any}
 use Rattle.std.specs.Map.{lookup}
+use mir.Val.{to_z, of_z}
+use Rattle.std.proofs.lemmas.Int.{to_z-of_z}
 use Rattle.std.proofs.Math.Logic.{⊎_elim}
 use Rattle.std.proofs.Math.Seq.{get_or-append_seam}
 use Rattle.std.proofs.lemmas.Map.Views.{Contains-from_lookup}
@@ -14,6 +16,7 @@ use Rattle.std.proofs.lemmas.Map.Entries.{place_from_lookup}
 use Rattle.std.proofs.lemmas.Option.{slice_get_within, get_or_from_slice_get}
 use Rattle.factor_tables.specs.declared.by_pair.Column.{Column}
 use Rattle.factor_tables.specs.declared.by_pair.Pairs.{Pairs}
+use Rattle.market_data.proofs.Data.{datum_fits}
 use Rattle.market_data.specs.Scales.{most_factor}
 use Rattle.factor_tables.specs.Factors.{ArePairFactors, Entry, HasNoPairTwice, IsFactorOfPair, Pair, factor_at, has_pair, marked_row, same_pair}
 
@@ -40,6 +43,13 @@ factor_at-size entries pair sizes = by (lookup (same_pair pair) entries) (lookup
     by : (o : Option ℤ) → IfSome o (λ f. unsigned_abs f ≤ most_factor) → unsigned_abs (unwrap_or o (pos 0)) ≤ most_factor
     by None small = omega arith
     by (Some f) small = small
+
+-- it is a machine number
+pub factor_at-fits : (entries : List Entry) (pair : Pair) → All (λ entry. unsigned_abs entry.1 ≤ most_factor) entries → to_z w64 (of_z w64 (factor_at entries pair)) ≡ factor_at entries pair
+factor_at-fits entries pair sizes =
+    let small = factor_at-size entries pair sizes in
+    let datum : unsigned_abs (factor_at entries pair) < 2 ^ 63 = omega (arith, small) in
+    to_z-of_z w64 _ (datum_fits _ datum)
 
 -- equal pairs are the same
 one_pair : (p q : Pair) → same_pair p q ≡ true → p ≡ q

@@ -34,21 +34,25 @@ IsFactorOfPair entries pair factor = Contains entries (pair, factor) ⊎ ((has_p
 abbrev pub HasNoPairTwice : List Entry → Type 0
 HasNoPairTwice entries = AllPairs (λ a b. a.0 ≢ b.0) entries
 
--- whether some record is of this branch
-abbrev pub has_branch : List Entry → ℕ → Bool
-has_branch entries row = list_any (λ entry. entry.0.0 == row) entries
-
--- whether some record is of this outage
-abbrev pub has_outage : List Entry → ℕ → Bool
-has_outage entries row = list_any (λ entry. entry.0.1 == row) entries
-
 -- the row of a pair that a table of this kind is asked for
 abbrev pub marked_row : Column → Pair → ℕ
 marked_row column.Bus pair = pair.0
 marked_row column.Outage pair = pair.1
 
+-- whether some record is of this row
+abbrev pub has_row : Column → List Entry → ℕ → Bool
+has_row kind entries row = list_any (λ entry. marked_row kind entry.0 == row) entries
+
+-- whether some record is of this branch
+abbrev pub has_branch : List Entry → ℕ → Bool
+has_branch entries row = has_row column.Bus entries row
+
+-- whether some record is of this outage
+abbrev pub has_outage : List Entry → ℕ → Bool
+has_outage entries row = has_row column.Outage entries row
+
 -- the rows of the records are marked and no others, no pair stands twice, and no factor is too great
 pub record ArePairFactors (kind : Column) (pairs : Pairs) : Type 0 where
-  pub marked : (row : ℕ) → get_or pairs.marked.items row false ≡ list_any (λ entry. marked_row kind entry.0 == row) pairs.by_pair.entries
+  pub marked : (row : ℕ) → get_or pairs.marked.items row false ≡ has_row kind pairs.by_pair.entries row
   pub once : HasNoPairTwice pairs.by_pair.entries
   pub sizes : All (λ entry. unsigned_abs entry.1 ≤ most_factor) pairs.by_pair.entries

@@ -2,12 +2,12 @@
 
 ghost use Rattle.std.specs.Prelude.{◌≡◌, ℕ, ◌≤◌, ◌<◌, ◌+◌, ◌++◌, ◌∷◌, [], List, unsigned_abs, length, get_or, slice_set, IfOk, false, true};
 ghost use Rattle.market_data.specs.Scales.{most_factor, most_lines};
-ghost use Rattle.factor_tables.specs.Factors.{Entry, ArePairFactors, IsFactorOfPair, factor_at, has_branch, has_outage, has_pair, marked_row};
+ghost use Rattle.factor_tables.specs.Factors.{Entry, ArePairFactors, IsFactorOfPair, factor_at, has_pair, has_row, marked_row};
 
 use indexmap::IndexMap;
 use plain_list::Memory;
 use std::alloc::Global;
-use std::marker::Model;
+use std::marker::{Model, PhantomData};
 
 /// What the second column of a table of factors names.
 #[derive(Clone, Copy, Debug, PartialEq, Eq)]
@@ -86,78 +86,69 @@ impl Pairs {
     }
 }
 
-/// The factors of a shift table, in 10^-6: what flows over a branch for each MW put in at a bus. Contracts see it as the list of its
-/// records, also of those that are not used.
-#[derive(Drop)]
-pub struct Shift {
-    pub(crate) pairs: Pairs,
+/// A kind of tables of factors, by what the second column names.
+pub trait Kind {
+    ghost use Rattle.factor_tables.specs.declared.by_pair.Column.{Column};
+
+    ghost column: { Column };
 }
 
-impl Model for Shift {
+/// The column names buses, by their numbers.
+pub struct ByBus;
+
+impl Kind for ByBus {
+    ghost use Rattle.factor_tables.specs.declared.by_pair.Column.TheVariants as names;
+
+    ghost column = { names.Bus };
+}
+
+/// The column names outages, by the rows of their branches.
+pub struct ByOutage;
+
+impl Kind for ByOutage {
+    ghost use Rattle.factor_tables.specs.declared.by_pair.Column.TheVariants as names;
+
+    ghost column = { names.Outage };
+}
+
+/// A table of factors of one kind, in 10^-6. Contracts see it as the list of its records, also of those that are not used.
+#[derive(Drop)]
+pub struct FactorTable<K: Kind> {
+    pub(crate) pairs: Pairs,
+    pub(crate) kind: PhantomData<K>,
+}
+
+/// A shift table: what flows over a branch for each MW put in at a bus.
+pub type Shift = FactorTable<ByBus>;
+
+/// An outage table: how much of a lost branch's flow goes over another.
+pub type Loss = FactorTable<ByOutage>;
+
+impl<K: Kind> Model for FactorTable<K> {
     ghost use Rattle.std.specs.Prelude.{List};
-    ghost use Rattle.market_data.specs.Scales.{most_lines};
     ghost use Rattle.factor_tables.specs.Factors.{Entry, ArePairFactors};
-    ghost use Rattle.factor_tables.specs.declared.by_pair.Column.TheVariants as column;
 
     ghost Value = { List Entry };
 
-    ghost view = { λ shift. shift.pairs.by_pair.entries };
+    ghost view = { λ table. table.pairs.by_pair.entries };
 
-    ghost invariant = { λ shift. ArePairFactors column.Bus shift.pairs };
+    ghost invariant = { λ table. ArePairFactors K.column table.pairs };
 }
 
-impl Shift {
-    /// The factor of a branch's row and a bus's number, 0 where they have no record.
-    pub fn factor(&self, branch: u32, bus: u32) -> i64
+impl<K: Kind> FactorTable<K> {
+    /// The factor of a branch's row and a number of the second column, 0 where they have no record.
+    pub fn factor(&self, branch: u32, of: u32) -> i64
         ensures size { unsigned_abs result ≤ most_factor }
-        ensures means { IsFactorOfPair self.now (branch, bus) result }
-        ensures is { result ≡ factor_at self.now (branch, bus) }
+        ensures means { IsFactorOfPair self.now (branch, of) result }
+        ensures is { result ≡ factor_at self.now (branch, of) }
     {
-        self.pairs.factor((branch, bus))
+        self.pairs.factor((branch, of))
     }
 
-    /// Whether the branch of a row has a record.
-    pub fn has(&self, branch: u32) -> bool
-        ensures { result ≡ has_branch self.now branch }
+    /// Whether some record is of this row: that of a branch in a shift table, that of an outage in an outage table.
+    pub fn has(&self, row: u32) -> bool
+        ensures { result ≡ has_row K.column self.now row }
     {
-        self.pairs.is_marked(branch)
-    }
-}
-
-/// The factors of an outage table, in 10^-6: how much of a lost branch's flow goes over another. Contracts see it as the list of its
-/// records, also of those that are not used.
-#[derive(Drop)]
-pub struct Loss {
-    pub(crate) pairs: Pairs,
-}
-
-impl Model for Loss {
-    ghost use Rattle.std.specs.Prelude.{List};
-    ghost use Rattle.market_data.specs.Scales.{most_lines};
-    ghost use Rattle.factor_tables.specs.Factors.{Entry, ArePairFactors};
-    ghost use Rattle.factor_tables.specs.declared.by_pair.Column.TheVariants as column;
-
-    ghost Value = { List Entry };
-
-    ghost view = { λ loss. loss.pairs.by_pair.entries };
-
-    ghost invariant = { λ loss. ArePairFactors column.Outage loss.pairs };
-}
-
-impl Loss {
-    /// The factor of a branch's row and the row of the lost branch, 0 where they have no record.
-    pub fn factor(&self, branch: u32, outage: u32) -> i64
-        ensures size { unsigned_abs result ≤ most_factor }
-        ensures means { IsFactorOfPair self.now (branch, outage) result }
-        ensures is { result ≡ factor_at self.now (branch, outage) }
-    {
-        self.pairs.factor((branch, outage))
-    }
-
-    /// Whether some record is of the outage of this row.
-    pub fn has(&self, outage: u32) -> bool
-        ensures { result ≡ has_outage self.now outage }
-    {
-        self.pairs.is_marked(outage)
+        self.pairs.is_marked(row)
     }
 }

@@ -10,12 +10,13 @@ ghost use Rattle.factor_tables.specs.Rules.{IsPairOf, loss_faults, record_faults
 ghost use Rattle.factor_tables.specs.Tables.{entry_in, factors_of, header_of, loss_of, shift_of};
 
 use crate::TableFault;
-use crate::by_pair::{Column, Loss, Pairs, Shift, marked_row};
+use crate::by_pair::{Column, FactorTable, Loss, Pairs, Shift, marked_row};
 use crate::cells::{FactorRecord, record_of};
 use crate::names::{is_idle, is_live_branch, is_live_bus, is_row};
 use csv_table::{Table, read_table};
 use net_case::Network;
 use std::alloc::Global;
+use std::marker::PhantomData;
 
 /// The header of the table of shift factors.
 const SHIFT_HEADER: &[&str] = &["branch", "bus", "factor"];
@@ -149,7 +150,10 @@ pub fn shift(alloc: Global, network: &Network, bytes: &[u8]) -> Result<Shift, Ta
     ensures is { result ≢ Err TableFault.Memory → result ≡ shift_of network.now bytes.now }
 {
     let pairs = factors_of(alloc, network, Column::Bus, SHIFT_HEADER, bytes)?;
-    Ok(Shift { pairs })
+    Ok(FactorTable {
+        pairs,
+        kind: PhantomData,
+    })
 }
 
 /// Reads an outage table. Its factors are in 10^-6.
@@ -158,5 +162,8 @@ pub fn outage(alloc: Global, network: &Network, bytes: &[u8]) -> Result<Loss, Ta
     ensures is { result ≢ Err TableFault.Memory → result ≡ loss_of network.now bytes.now }
 {
     let pairs = factors_of(alloc, network, Column::Outage, LOSS_HEADER, bytes)?;
-    Ok(Loss { pairs })
+    Ok(FactorTable {
+        pairs,
+        kind: PhantomData,
+    })
 }

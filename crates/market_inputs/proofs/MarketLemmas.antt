@@ -5,9 +5,11 @@ use Rattle.std.proofs.lemmas.List.{length-map, get_or-map}
 use Rattle.std.proofs.lemmas.List.Elements.{All-map}
 use Rattle.std.proofs.lemmas.Simd.{map-map}
 use Rattle.market_data.specs.Participants.{IsDatum}
+use Rattle.market_data.specs.declared.participants.Bus.{Bus}
 use Rattle.market_data.specs.declared.participants.Unit as unit
+use Rattle.market_model.specs.declared.participants.Factor.{Factor}
 use Rattle.market_model.specs.declared.participants.Line.{Line}
-use Rattle.market_model.specs.Market.{IsLine, IsMarket}
+use Rattle.market_model.specs.Market.{IsLine, IsMarket, bare_parts}
 use Rattle.market_model.proofs.PlainMarkets.{plain_market, distinct_by_rise}
 use Rattle.net_case.specs.Networks.{LiveNetwork, IsNetwork, IsNetBranch, IsLimit}
 use Rattle.net_case.specs.NetworkReading.{unit_within}
@@ -90,6 +92,12 @@ module _ (network : LiveNetwork) (offsets : List OffsetEntry) (net : IsNetwork n
           }
 
 -- ---- the market with limits
+-- parts whose lists are those of a network are its market
+pub market-is : (network : LiveNetwork) (tables : Tables) (offered : Offered) (offsets : List OffsetEntry) (branches : List NetBranch) (buses whole : List Bus) (lines : List Line) (shift loss : List Factor)
+    → branches ≡ network.branches → buses ≡ network.buses → whole ≡ network.buses → lines ≡ map (line_of offsets) branches → shift ≡ shift_by tables.shift branches buses → loss ≡ loss_by tables.loss branches
+    → record (bare_parts whole offered.units offered.blocks) { lines = lines; outages = tables.outages; shift = shift; loss = loss } ≡ market_of network tables offered offsets
+market-is network tables offered offsets branches buses whole lines shift loss branches_are buses_are whole_is lines_are shift_is loss_is = rw (whole_is, lines_are, shift_is, loss_is, branches_are, buses_are) refl
+
 pub clear-market : (network : LiveNetwork) (tables : Tables) (offered : Offered) (offsets : List OffsetEntry) → IsNetwork network → MayBeLost network tables.outages → AreOffered network offered
     → All (λ (l : Line). IsDatum l.offset) (map (line_of offsets) network.branches) → AreSmall (shift_by tables.shift network.branches network.buses) → AreSmall (loss_by tables.loss network.branches)
     → IsMarket (market_of network tables offered offsets)

@@ -12,7 +12,6 @@ use Rattle.net_case.specs.declared.live_parts.PostRating.TheVariants as rating
 use Rattle.net_case.specs.Networks.{AreRows, LiveNetwork}
 use Rattle.net_case.specs.NetworkReading.{network_of}
 use Rattle.net_paths.specs.Connection.{IsSplit, bus_number}
-use Rattle.outage_list.specs.declared.listing.OutageFault.TheVariants as outage
 use Rattle.refusal_text.specs.declared.refusals.Refusal.{Refusal}
 use Rattle.refusal_text.specs.declared.refusals.Refusal.TheVariants as refusal
 use Rattle.market_inputs.specs.Cases.{IsJoined, IsJoinedNetwork, joined, matrices_in, network_in, reactances_in, split}

@@ -38,13 +38,17 @@ factors_of_line value line others = flat_map (λ other. unless_0 (record { line 
 abbrev pub factors_by : {A B : Type 0} → (A → B → ℤ) → List A → List B → List Factor
 factors_by value lines others = flat_map (λ line. factors_of_line (value line.1) line.0 others) (enumerate_from 0 lines)
 
+-- the factors of branches that are not 0, in the columns of others by their names
+abbrev pub named_factors : {B : Type 0} → (B → ℕ) → List Entry → List NetBranch → List B → List Factor
+named_factors name table branches others = factors_by (λ branch other. factor_at table (branch.row, name other)) branches others
+
 -- the shift factors of branches for buses
 abbrev pub shift_by : List Entry → List NetBranch → List Bus → List Factor
-shift_by shift branches buses = factors_by (λ branch bus. factor_at shift (branch.row, bus.number)) branches buses
+shift_by shift branches buses = named_factors (λ bus. bus.number) shift branches buses
 
 -- the factors of branches for lost ones
 abbrev pub loss_by : List Entry → List NetBranch → List Factor
-loss_by loss branches = factors_by (λ branch lost. factor_at loss (branch.row, lost.row)) branches branches
+loss_by loss branches = named_factors (λ lost. lost.row) loss branches branches
 
 -- no factor is too great
 abbrev pub AreSmall : List Factor → Type 0

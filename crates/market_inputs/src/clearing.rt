@@ -10,7 +10,7 @@ ghost use Rattle.market_inputs.specs.Stops.{IsToldAs};
 ghost use Rattle.market_inputs.specs.Tables.{AreOffered, MayBeLost};
 
 use crate::cases::{case_matrices, joined_network};
-use crate::limits::{lines_of, loss_factors, shift_factors};
+use crate::limits::{factors_of, lines_of};
 use crate::offers::{Offered, offer_table};
 use crate::stops::Stop;
 use crate::tables::{Tables, check_cover, offset_table, read_tables};
@@ -36,8 +36,8 @@ fn limited_parts(
 {
     let branches = network.branches().slice();
     let lines = lines_of(alloc, branches, offsets)?;
-    let shift = shift_factors(alloc, branches, network.buses().slice(), &tables.shift)?;
-    let loss = loss_factors(alloc, branches, &tables.loss)?;
+    let shift = factors_of(alloc, branches, network.buses().slice(), &tables.shift)?;
+    let loss = factors_of(alloc, branches, branches, &tables.loss)?;
     Ok(Parts {
         buses: network.into_buses(),
         units: offered.units,

@@ -1,12 +1,12 @@
 //! The lines of a network, and their factors.
 
-ghost use Rattle.std.specs.Prelude.{◌≡◌, ◌++◌, ◌≤◌, All, IfOk, map, unsigned_abs};
+ghost use Rattle.std.specs.Prelude.{◌≡◌, ℕ, ◌++◌, ◌≤◌, All, IfOk, map, unsigned_abs};
 ghost use Rattle.market_data.specs.Participants.{IsDatum};
 ghost use Rattle.market_data.specs.Scales.{most_factor};
 ghost use Rattle.factor_tables.specs.Factors.{factor_at};
-ghost use Rattle.market_inputs.specs.Clearing.{AreSmall, factors_of_line, line_of, loss_by, shift_by, unless_0};
+ghost use Rattle.market_inputs.specs.Clearing.{AreSmall, factors_of_line, line_of, named_factors, unless_0};
 
-use factor_tables::{Loss, Offsets, Shift};
+use factor_tables::{FactorTable, Kind, Offsets};
 use market_model::{Bus, Factor, Line, List, Memory};
 use net_case::NetBranch;
 use std::alloc::Global;
@@ -50,73 +50,63 @@ fn push_factor(factors: &mut List<Factor>, factor: Factor) -> Result<(), Memory>
     factors.push(factor)
 }
 
-/// Adds the shift factors of a line.
-fn push_shift(
+/// What a column of a table of factors is of.
+pub(crate) trait Named {
+    ghost name: { Self → ℕ };
+
+    /// The number of a bus, or the row of a branch.
+    fn name(&self) -> u32
+        ensures { result ≡ name self.now };
+}
+
+impl Named for Bus {
+    ghost name = { λ bus. bus.number };
+
+    fn name(&self) -> u32 {
+        self.number
+    }
+}
+
+impl Named for NetBranch {
+    ghost name = { λ branch. branch.row };
+
+    fn name(&self) -> u32 {
+        self.row
+    }
+}
+
+/// Adds the factors of a line in the columns of these.
+fn push_factors<K: Kind, T: Named>(
     factors: &mut List<Factor>,
     line: usize,
     row: u32,
-    buses: &[Bus],
-    shift: &Shift,
+    others: &[T],
+    table: &FactorTable<K>,
 ) -> Result<(), Memory>
     requires { AreSmall factors.old }
     ensures small { IfOk result (λ _. AreSmall factors.new) }
-    ensures are { IfOk result (λ _. factors.new ≡ factors.old ++ factors_of_line (λ bus. factor_at shift.now (row, bus.number)) line buses.now) }
+    ensures are { IfOk result (λ _. factors.new ≡ factors.old ++ factors_of_line (λ other. factor_at table.now (row, T.name other)) line others.now) }
 {
-    for (of, bus) in buses.iter().enumerate() {
-        let value = shift.factor(row, bus.number);
+    for (of, other) in others.iter().enumerate() {
+        let value = table.factor(row, other.name());
         push_factor(factors, Factor { line, of, value })?;
     }
     Ok(())
 }
 
-/// The shift factors of live branches for live buses.
-pub(crate) fn shift_factors(
+/// The factors of live branches in the columns of these.
+pub(crate) fn factors_of<K: Kind, T: Named>(
     alloc: Global,
     branches: &[NetBranch],
-    buses: &[Bus],
-    shift: &Shift,
+    others: &[T],
+    table: &FactorTable<K>,
 ) -> Result<List<Factor>, Memory>
     ensures small { IfOk result AreSmall }
-    ensures are { IfOk result (λ factors. factors ≡ shift_by shift.now branches.now buses.now) }
+    ensures are { IfOk result (λ factors. factors ≡ named_factors T.name table.now branches.now others.now) }
 {
     let mut factors = List::new(alloc);
     for (line, branch) in branches.iter().enumerate() {
-        push_shift(&mut factors, line, branch.row, buses, shift)?;
-    }
-    Ok(factors)
-}
-
-/// Adds the factors of a line for lost ones.
-fn push_loss(
-    factors: &mut List<Factor>,
-    line: usize,
-    row: u32,
-    branches: &[NetBranch],
-    loss: &Loss,
-) -> Result<(), Memory>
-    requires { AreSmall factors.old }
-    ensures small { IfOk result (λ _. AreSmall factors.new) }
-    ensures are { IfOk result (λ _. factors.new ≡ factors.old ++ factors_of_line (λ lost. factor_at loss.now (row, lost.row)) line branches.now) }
-{
-    for (of, lost) in branches.iter().enumerate() {
-        let value = loss.factor(row, lost.row);
-        push_factor(factors, Factor { line, of, value })?;
-    }
-    Ok(())
-}
-
-/// The factors of live branches for lost ones.
-pub(crate) fn loss_factors(
-    alloc: Global,
-    branches: &[NetBranch],
-    loss: &Loss,
-) -> Result<List<Factor>, Memory>
-    ensures small { IfOk result AreSmall }
-    ensures are { IfOk result (λ factors. factors ≡ loss_by loss.now branches.now) }
-{
-    let mut factors = List::new(alloc);
-    for (line, branch) in branches.iter().enumerate() {
-        push_loss(&mut factors, line, branch.row, branches, loss)?;
+        push_factors(&mut factors, line, branch.row, others, table)?;
     }
     Ok(factors)
 }

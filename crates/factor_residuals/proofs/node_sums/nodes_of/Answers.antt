@@ -11,14 +11,14 @@ use Rattle.factor_residuals.proofs.node_sums.nodes_of.Goals as goal
 use Rattle.factor_residuals.proofs.node_sums.nodes_of.Goals.{then-not-is_lost, else-not-is_lost}
 
 pub loop-branch-preserved : goal.loop-branch-preserved
-loop-branch-preserved c =
+loop-branch-preserved g c =
     let n = length c.args.network.now.buses in
     let items = c.slice-branch-items.result.now in
     let all : items ≡ c.args.network.now.branches = c.slice-branch-items.ensures ∙ c.branches.ensures.list in
     let i = c.loop-branch.branch-index in
     let d : NetBranch = record { row = 0; from = 0; to = 0; base = None; post = None; shifted = false } in
     let b : NetBranch = get_or items i d in
-    let flows = flows_of c.args.factors c.args.column.now.name in
+    let flows = flows_of c.args.factors.now c.args.column.now.name in
     let lost = c.args.column.now.lost in
     let K = kept lost (take i items) in
     let more = ap (kept lost) (take_more items i d c.loop-branch-test.true) in
@@ -29,7 +29,7 @@ loop-branch-preserved c =
           let now = c.loop-branch.nodes.items in
           let after = w.pass.new.nodes.items in
           let before = subst (λ (m : ℕ). HoldNodes flows K m now) (sym inv.count) inv in
-          let flow = to_z-of_z w64 w.flow-flow.result (record { sfits = w.flow-flow.type_inv }) ∙ w.flow-flow.ensures.is in
+          let flow = to_z-of_z w64 w.factor-flow.result (record { sfits = w.factor-flow.type_inv }) ∙ w.factor-flow.ensures.is in
           let passed = subst (λ (m : ℕ). HoldNodes flows (K ++ b ∷ []) m after) inv.count (w.pass.ensures.passed flows K before flow) in
           let all_passed = subst (λ (bs : List NetBranch). HoldNodes flows bs n after) (sym (more ∙ kept-other lost (take i items) b other)) passed in
           let held = subst (λ (bs : List NetBranch). HoldNodes flows (kept lost (take (i + 1) bs)) n after) all all_passed in

@@ -7,12 +7,12 @@ use Rattle.factor_residuals.proofs.ColumnLemmas.{behind, places_more}
 use Rattle.factor_residuals.proofs.node_sums.note_buses.Goals as goal
 
 pub loop-bus-preserved : goal.loop-bus-preserved
-loop-bus-preserved c = λ spots is.
-    let f = bus_spot c.args.network.now (column_of c.args.network.now c.args.factors c.args.column.now) in
+loop-bus-preserved g c = λ spots is.
+    let f = bus_spot c.args.network.now (column_of c.args.network.now c.args.factors.now c.args.column.now) in
     let i = c.loop-bus.bus in
     let before = spots ++ map f (places i) in
     let count : c.len-bus-end.result ≡ length c.args.network.now.buses = c.len-bus-end.ensures ∙ ap length c.buses.ensures.list in
     let node = c.index.ensures ∙ c.in_ok-nodes.ensures.nodes.each i c.index.result.now (omega (arith, count, c.loop-bus-test.true)) in
-    let spot : c.bus_spot.result ≡ f i = c.bus_spot.ensures.is c.args.factors node in
+    let spot : c.bus_spot.result ≡ f i = c.bus_spot.ensures.is c.args.factors.now node in
     subst (λ xs. IsResidual xs c.with-residual.result) (behind f spots (places i) i ∙ ap (λ ps. spots ++ map f ps) (sym (places_more i)))
     (subst (λ (s : Spot). IsResidual (before ++ s ∷ []) c.with-residual.result) spot (c.with-residual.ensures before (c.loop-bus.invariant spots is)))

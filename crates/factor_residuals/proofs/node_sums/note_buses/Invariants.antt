@@ -6,4 +6,4 @@ use Rattle.factor_residuals.specs.Residuals.{IsResidual, places}
 use Rattle.factor_residuals.proofs.node_sums.note_buses.Given as goal
 
 abbrev pub invariant-loop-bus : goal.invariant-loop-bus
-invariant-loop-bus l = (spots : List Spot) → IsResidual spots l.fn.residual → IsResidual (spots ++ map (bus_spot l.network (column_of l.network l.factors l.column)) (places l.bus)) l.residual
+invariant-loop-bus g l = (spots : List Spot) → IsResidual spots l.fn.residual → IsResidual (spots ++ map (bus_spot l.network (column_of l.network l.factors l.column)) (places l.bus)) l.residual

@@ -11,7 +11,7 @@ loop-place-preserved c =
     let f = shift_column network c.args.shift.now in
     let i = c.loop-place.place in
     let before = flat_map (bus_spots network) (map f (places i)) in
-    let column = c.shift_flow-column.ensures c.args.shift in
+    let column = c.shift_flow-column.ensures c.args.shift.now in
     subst (λ xs. IsResidual xs c.in_ok-residual.residual)
     (ap (λ (k : Column). before ++ bus_spots network k) column ∙ columns_last (bus_spots network) (map f (places i)) (f i)
     ∙ ap (flat_map (bus_spots network)) (map_last f (places i) i ∙ ap (map f) (sym (places_more i))))

@@ -12,7 +12,7 @@ loop-place-preserved c =
     let g = loop_spots network c.args.reactances.now c.in_ok-loops.loops in
     let i = c.loop-place.place in
     let before = flat_map g (map f (places i)) in
-    let column = c.shift_flow-column.ensures c.args.shift in
+    let column = c.shift_flow-column.ensures c.args.shift.now in
     subst (λ xs. IsResidual xs c.note_loops-residual.result)
     (ap (λ (k : Column). before ++ g k) column ∙ columns_last g (map f (places i)) (f i) ∙ ap (flat_map g) (map_last f (places i) i ∙ ap (map f) (sym (places_more i))))
     (c.note_loops-residual.ensures before c.loop-place.invariant)

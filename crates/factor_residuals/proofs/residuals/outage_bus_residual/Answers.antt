@@ -26,7 +26,7 @@ loop-outage-preserved c =
     let read : get_or c.slice-outage-items.result.now i 0 ≡ row = ap (λ (rs : List ℕ). get_or rs i 0) items in
     let g = λ (k : NetBranch). bus_spots network (outage_column network c.args.loss.now k) in
     let inv = c.loop-outage.invariant in
-    let of = c.outage_flow-column.ensures c.args.loss in
+    let of = c.outage_flow-column.ensures c.args.loss.now in
     let branch = of.0 in
     let before = flat_map g inv.lost in
     record {

@@ -1,23 +1,21 @@
-use Rattle.std.proofs.Common.{◌≡◌, ◌∙◌, List, subst, ap, All, map}
+use Rattle.std.proofs.Common.{◌∙◌, sym, subst, All}
 use Rattle.market_data.specs.Participants.{IsDatum}
 use Rattle.market_model.specs.declared.participants.Line.{Line}
-use Rattle.net_case.specs.declared.live_parts.NetBranch.{NetBranch}
-use Rattle.market_inputs.specs.Clearing.{AreSmall, line_of, loss_by, shift_by}
-use Rattle.market_inputs.proofs.MarketLemmas.{clear-market}
+use Rattle.market_model.specs.declared.participants.Parts.{Parts}
+use Rattle.market_model.specs.Market.{IsMarket}
+use Rattle.market_inputs.specs.Clearing.{AreSmall}
+use Rattle.market_inputs.proofs.MarketLemmas.{clear-market, market-is}
 use Rattle.market_inputs.proofs.clearing.limited_parts.Goals as goal
+
+pub returns-clause-is : goal.returns-clause-is
+returns-clause-is c =
+    market-is c.args.network c.args.tables c.args.offered c.args.offsets.now c.slice-branches.result.now c.slice.result.now c.into_buses.result c.in_ok-lines.lines c.in_ok-shift.shift c.in_ok-loss.loss
+    (c.slice-branches.ensures ∙ c.branches.ensures.list) (c.slice.ensures ∙ c.buses.ensures.list) c.into_buses.ensures c.in_ok-lines.ensures.are c.in_ok-shift.ensures.are c.in_ok-loss.ensures.are
 
 pub returns-clause-kept : goal.returns-clause-kept
 returns-clause-kept c =
-    let network = c.args.network in
-    let tables = c.args.tables in
-    let offsets = c.args.offsets.now in
-    let branches : c.slice-branches.result.now ≡ network.branches = c.slice-branches.ensures ∙ c.branches.ensures.list in
-    let buses : c.slice.result.now ≡ network.buses = c.slice.ensures ∙ c.buses.ensures.list in
-    let lines : c.in_ok-lines.lines ≡ map (line_of offsets) network.branches = c.in_ok-lines.ensures.are ∙ ap (map (line_of offsets)) branches in
-    let shift : c.in_ok-shift.shift ≡ shift_by tables.shift network.branches network.buses = c.in_ok-shift.ensures.are ∙ ap (λ (bs : List NetBranch). shift_by tables.shift bs c.slice.result.now) branches ∙ ap (shift_by tables.shift network.branches) buses in
-    let loss : c.in_ok-loss.loss ≡ loss_by tables.loss network.branches = c.in_ok-loss.ensures.are ∙ ap (loss_by tables.loss) branches in
-    let data_of = subst (All (λ (l : Line). IsDatum l.offset)) lines c.in_ok-lines.ensures.data in
-    let small_shift = subst AreSmall shift c.in_ok-shift.ensures.small in
-    let small_loss = subst AreSmall loss c.in_ok-loss.ensures.small in
-    rw (c.into_buses.ensures, lines, shift, loss)
-    (clear-market network tables c.args.offered offsets c.requires.network c.requires.outages c.requires.offered data_of small_shift small_loss)
+    let is = returns-clause-is c in
+    subst IsMarket (sym is) (clear-market c.args.network c.args.tables c.args.offered c.args.offsets.now c.requires.network c.requires.outages c.requires.offered
+    (subst (λ (p : Parts). All (λ (l : Line). IsDatum l.offset) p.lines) is c.in_ok-lines.ensures.data)
+    (subst (λ (p : Parts). AreSmall p.shift) is c.in_ok-shift.ensures.small)
+    (subst (λ (p : Parts). AreSmall p.loss) is c.in_ok-loss.ensures.small))
