@@ -6,7 +6,7 @@ ghost use Rattle.market_data.specs.Scales.{most_factor};
 ghost use Rattle.factor_tables.specs.Factors.{factor_at};
 ghost use Rattle.market_inputs.specs.Clearing.{AreSmall, factors_of_line, line_of, named_factors, unless_0};
 
-use factor_tables::{FactorTable, Kind, Offsets};
+use factor_tables::{ByBus, ByOutage, FactorTable, Kind, Offsets};
 use market_model::{Bus, Factor, Line, List, Memory};
 use net_case::NetBranch;
 use std::alloc::Global;
@@ -52,6 +52,9 @@ fn push_factor(factors: &mut List<Factor>, factor: Factor) -> Result<(), Memory>
 
 /// What a column of a table of factors is of.
 pub(crate) trait Named {
+    /// The kind of the tables that have such columns.
+    type Column: Kind;
+
     ghost name: { Self → ℕ };
 
     /// The number of a bus, or the row of a branch.
@@ -60,6 +63,8 @@ pub(crate) trait Named {
 }
 
 impl Named for Bus {
+    type Column = ByBus;
+
     ghost name = { λ bus. bus.number };
 
     fn name(&self) -> u32 {
@@ -68,6 +73,8 @@ impl Named for Bus {
 }
 
 impl Named for NetBranch {
+    type Column = ByOutage;
+
     ghost name = { λ branch. branch.row };
 
     fn name(&self) -> u32 {
@@ -76,12 +83,12 @@ impl Named for NetBranch {
 }
 
 /// Adds the factors of a line in the columns of these.
-fn push_factors<K: Kind, T: Named>(
+fn push_factors<T: Named>(
     factors: &mut List<Factor>,
     line: usize,
     row: u32,
     others: &[T],
-    table: &FactorTable<K>,
+    table: &FactorTable<T::Column>,
 ) -> Result<(), Memory>
     requires { AreSmall factors.old }
     ensures small { IfOk result (λ _. AreSmall factors.new) }
@@ -95,11 +102,11 @@ fn push_factors<K: Kind, T: Named>(
 }
 
 /// The factors of live branches in the columns of these.
-pub(crate) fn factors_of<K: Kind, T: Named>(
+pub(crate) fn factors_of<T: Named>(
     alloc: Global,
     branches: &[NetBranch],
     others: &[T],
-    table: &FactorTable<K>,
+    table: &FactorTable<T::Column>,
 ) -> Result<List<Factor>, Memory>
     ensures small { IfOk result AreSmall }
     ensures are { IfOk result (λ factors. factors ≡ named_factors T.name table.now branches.now others.now) }
