@@ -1,7 +1,7 @@
 -- Limit rows: the limits that a dispatch has to meet, and the flows that they bound.
 -- Wood and Wollenberg, Power Generation, Operation and Control: shift factors, and the flow after an outage by the flow that the lost
 -- branch had.
-use Rattle.std.specs.Prelude.{◌==◌, ◌&&◌, ℕ, ◌<◌, ◌^◌, ℤ, Bool, not, List, [], ◌∷◌, length, map, filter, Option, Some, None, is_some}
+use Rattle.std.specs.Prelude.{◌==◌, ◌&&◌, ℕ, ◌<◌, ◌^◌, ℤ, Bool, true, false, if◌then◌else◌, not, List, [], ◌∷◌, length, map, filter, Option, Some, None, is_some}
 use Rattle.std.specs.List.{flat_map, position_or_len}
 use Rattle.fraction_theory.specs.Fraction.{Fraction, whole, over}
 use Rattle.fraction_theory.specs.Sums.{Term, Plain, Product, total}
@@ -28,10 +28,14 @@ lost_lines m = map (place_of_line m) m.outages
 abbrev pub causes : Parts → List Cause
 causes m = Base ∷ map Branch (lost_lines m)
 
--- the limit that a line states for a cause, if it does; that after an outage is the same after each
+-- the limit of a line after an outage, or else in the base, where it has one
+abbrev pub limit_of : Bool → Line → Option ℤ
+limit_of post line = if post then line.post else line.base
+
+-- the limit that a line states for a cause; that after an outage is the same after each
 abbrev pub stated : Line → Cause → Option ℤ
-stated line Base = line.base
-stated line (Branch lost) = line.post
+stated line Base = limit_of false line
+stated line (Branch lost) = limit_of true line
 
 -- whether a line has a limit under a cause; it has none after its own outage
 abbrev pub bears : Parts → Cause → ℕ → Bool

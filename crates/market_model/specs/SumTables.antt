@@ -12,7 +12,7 @@ use Rattle.market_model.specs.Dispatch.{Dispatch, injection, injection_terms, ba
 use Rattle.market_model.specs.Infeasibility.{farkas_terms}
 use Rattle.market_model.specs.LimitRows.{rows, line_flow, line_terms, flow_by, flow_terms, offset_terms, factor_terms, row_offset}
 use Rattle.market_model.specs.NamedSums.{IsRefusedIn}
-use Rattle.market_model.specs.Optimality.{bus_price, congestion_terms, named_rows, price_terms, welfare_terms}
+use Rattle.market_model.specs.Optimality.{congestion_terms, named_rows, price_terms}
 use Rattle.market_model.specs.Settlement.{left_terms, lower_terms, priced_flow, rent_terms, upper_terms}
 
 -- an operation refused where one of these sums is added up
@@ -83,11 +83,6 @@ pub data BoundSum (m : Parts) (d : Duals Fraction) : List Term → Type 0 where
 pub data PaymentSum (m : Parts) (g : List Row) (x : Dispatch) (price : ℕ → Fraction) (d : Duals Fraction) : List Term → Type 0 where
   left_of_all : PaymentSum m g x price d (left_terms m x price)
   rent_of_row : (r : Row) → Contains g r → PaymentSum m g x price d (rent_terms m x d r)
-
--- money: of a dispatch what it is worth, and payments at the prices of duals
-pub data MoneySum (m : Parts) (g : List Row) (x : Dispatch) (d : Duals Fraction) : List Term → Type 0 where
-  welfare_of_all : MoneySum m g x d (welfare_terms m x)
-  payment_at_duals : (terms : List Term) → PaymentSum m g x (bus_price m d) d terms → MoneySum m g x d terms
 
 -- of a row whose prices are paid, where lines have flows f: its flow after an outage, its fixed offset, and what each of its prices is paid for
 pub data PaidRowSum (m : Parts) (f : ℕ → Fraction) (r : Row) : List Term → Type 0 where

@@ -36,12 +36,12 @@ impl Model for Market {
 }
 
 impl Market {
-    ghost use Rattle.std.specs.Prelude.{◌≡◌, ◌<◌, pos, ◌≤ℤ◌, length, true, is_some, if◌then◌else◌};
+    ghost use Rattle.std.specs.Prelude.{◌≡◌, ◌<◌, pos, ◌≤ℤ◌, length, true, is_some};
     ghost use Rattle.market_data.specs.Participants.{IsDatum};
     ghost use Rattle.market_model.specs.Changes.{with_price, with_quantity, with_demand, with_limit};
     ghost use Rattle.market_model.specs.Dispatch.{unit_at, block_at, line_at};
     ghost use Rattle.market_model.specs.Factors.{factor_in};
-    ghost use Rattle.market_model.specs.LimitRows.{lost_lines, place_of_line};
+    ghost use Rattle.market_model.specs.LimitRows.{limit_of, lost_lines, place_of_line};
     ghost use Rattle.market_model.specs.Market.{IsMarket};
     ghost use Rattle.market_model.specs.Stairs.{stair_in, offered, room_of};
 
@@ -162,7 +162,7 @@ impl Market {
     /// Sets the limit of a line that has one, after an outage or in the base, in 10^-9 MW.
     pub fn set_limit(&mut self, line: usize, post: bool, mw: i64)
         requires line { line < length self.old.lines }
-        requires limit { (if post then is_some (line_at self.old line).post else is_some (line_at self.old line).base) ≡ true }
+        requires limit { is_some (limit_of post (line_at self.old line)) ≡ true }
         requires least { pos 0 ≤ℤ mw }
         ensures { self.new ≡ with_limit self.old line post mw }
     {

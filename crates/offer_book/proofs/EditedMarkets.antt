@@ -15,7 +15,8 @@ use Rattle.market_model.proofs.ChangeLemmas.{kept_price, kept_quantity, kept_dem
 use Rattle.offer_book.specs.declared.edit_parts.Edit.{Edit}
 use Rattle.offer_book.specs.declared.edit_parts.Edit.TheVariants as edit
 use Rattle.offer_book.specs.declared.edit_parts.EditFault.TheVariants as fault
-use Rattle.offer_book.specs.Edits.{number_of, is_block_of, place_of_block, place_of_bus, place_of_limit, limit_of, rival_of, over_capacity, judge_quantity, step_of}
+use Rattle.market_model.specs.LimitRows.{limit_of}
+use Rattle.offer_book.specs.Edits.{number_of, is_block_of, place_of_block, place_of_bus, place_of_limit, rival_of, over_capacity, judge_quantity, step_of}
 use Rattle.offer_book.specs.EditLaws.{LawOfEditedMarkets}
 use Rattle.offer_book.proofs.CapacityLemmas.{within_room}
 

@@ -14,7 +14,8 @@ use Rattle.market_model.specs.Frame.{bus_frame, block_frame, line_frame, frame, 
 use Rattle.market_model.proofs.ChangeLemmas.{map-set_same}
 use Rattle.offer_book.specs.declared.edit_parts.Edit.{Edit}
 use Rattle.offer_book.specs.declared.edit_parts.Edit.TheVariants as edit
-use Rattle.offer_book.specs.Edits.{judge, changed, step_of, limit_of, place_of_block, place_of_bus, place_of_limit}
+use Rattle.market_model.specs.LimitRows.{limit_of}
+use Rattle.offer_book.specs.Edits.{judge, changed, step_of, place_of_block, place_of_bus, place_of_limit}
 use Rattle.offer_book.specs.EditLaws.{LawOfTheEditedFrame, LawOfEditedFrames}
 
 -- ---- one number changed

@@ -8,6 +8,7 @@ use Rattle.market_model.specs.declared.participants.Line.{Line}
 use Rattle.market_model.specs.declared.participants.Parts.{Parts}
 use Rattle.market_model.specs.declared.participants.Side.{Side}
 use Rattle.market_model.specs.Changes.{with_price, with_quantity, with_demand, with_limit}
+use Rattle.market_model.specs.LimitRows.{limit_of}
 use Rattle.market_model.specs.Dispatch.{places, unit_at, block_at}
 use Rattle.market_model.specs.Stairs.{same_side, stair_in, offered, room_of}
 use Rattle.offer_book.specs.declared.edit_parts.Edit.{Edit}
@@ -42,11 +43,7 @@ price_of_block m row side number = option_map (λ j. (block_at m j).price) (plac
 unfoldable pub place_of_bus : Parts → ℤ → Option ℕ
 place_of_bus m number = position (λ bus. int_eq (pos bus.number) number) m.buses
 
--- the limit after an outage, or in the base
-abbrev pub limit_of : Bool → Line → Option ℤ
-limit_of post line = if post then line.post else line.base
-
--- a branch row's line, where it has such a limit
+-- a branch row's line, where it has a limit after an outage, or in the base
 unfoldable pub place_of_limit : Parts → ℤ → Bool → Option ℕ
 place_of_limit m row post = position (λ line. int_eq (pos line.row) row && is_some (limit_of post line)) m.lines
 

@@ -5,7 +5,8 @@ ghost use Rattle.std.specs.List.{slice_get};
 ghost use Rattle.market_data.specs.Participants.{IsDatum};
 ghost use Rattle.market_model.specs.Dispatch.{line_at};
 ghost use Rattle.market_data.specs.Scales.{most_blocks};
-ghost use Rattle.offer_book.specs.Edits.{answer, blocks_of_side, over_capacity, is_block_of, judge, limit_of, number_of, place_of_block, place_of_bus, place_of_limit, price_of_block, rival, rival_of, step_of};
+ghost use Rattle.market_model.specs.LimitRows.{limit_of};
+ghost use Rattle.offer_book.specs.Edits.{answer, blocks_of_side, over_capacity, is_block_of, judge, number_of, place_of_block, place_of_bus, place_of_limit, price_of_block, rival, rival_of, step_of};
 ghost use Rattle.offer_book.specs.declared.edit_parts.Edit.TheVariants as edit;
 
 use crate::edit_parts::{Edit, EditFault};
