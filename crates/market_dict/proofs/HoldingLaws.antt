@@ -35,14 +35,14 @@ use Rattle.limit_rows.proofs.ApartLemmas.{names_apart}
 use Rattle.limit_rows.proofs.FactorLemmas.{stands}
 use Rattle.market_system.specs.declared.variables.Variable.{Variable}
 use Rattle.market_system.specs.declared.variables.Variable.TheVariants.{Block, Balance, Limit}
-use Rattle.market_system.specs.MarketSystem.{balance_name, row_name, in_order, block_sign, residual_demand, block_coefficient, name, coefficient, objective_price, low, high, columns, row_variables, variables, variable_of, system_over, system_of}
+use Rattle.market_system.specs.MarketSystem.{balance_name, row_name, in_order, block_sign, residual_demand, block_coefficient, name, coefficient, objective_price, low, high, columns, row_variables, variables, variable_of, system_over, system_of, IsVariableOf}
 use Rattle.market_system.specs.SolvedLaws.{AreRows, AnswersBy, StuckShows, state_at}
 use Rattle.market_system.proofs.DualLists.{rows_apart}
 use Rattle.market_system.proofs.FrameLaws.{law_of_the_frame, rows_in_turn, same_columns, same_names}
 use Rattle.market_system.proofs.LawsOfSolving.{law_of_the_solved, law_of_the_stuck}
 use Rattle.market_system.proofs.RowOrder.{in_order-in, in_order-from, in_order-ascends, names-ascend, pairs-append}
 use Rattle.market_system.proofs.StuckMarkets.{limit_sign}
-use Rattle.market_system.proofs.VariableLaws.{in_places, mapped, in_mapped, IsOf, of_more, column_names, by_column, by_row, column_is, row_is, limit_in, variable_is, is_variable, by_variable, variable_at, is_system_over, coefficient-at, price-at, low-at, high-at}
+use Rattle.market_system.proofs.VariableLaws.{in_places, mapped, in_mapped, of_more, column_names, by_column, by_row, column_is, row_is, limit_in, variable_is, is_variable, by_variable, variable_at, is_system_over, coefficient-at, price-at, low-at, high-at}
 use Rattle.market_dict.specs.Holding.{HoldsMarket, HoldsSystem, prices, lows, highs}
 use Rattle.market_dict.proofs.NameLists.{ascending_same}
 use Rattle.market_dict.proofs.PutInLemmas.{start_coefficient, kept_coefficient, added_coefficient, same_put_in}
@@ -170,7 +170,7 @@ pub holds_choice : (m : Parts) (g : List Row) (d : Dictionary) → HoldsMarket m
 holds_choice m g d holds = same_rows_choice (system_in d) (system_of m g) holds.same (choice_of d) (holds.sound.solutions holds.live)
 
 -- variables of one name are one
-one_variable : (m : Parts) → IsMarket m → (u v : Variable) → IsOf m (rows m) u → IsOf m (rows m) v → name m u ≡ name m v → u ≡ v
+one_variable : (m : Parts) → IsMarket m → (u v : Variable) → IsVariableOf m (rows m) u → IsVariableOf m (rows m) v → name m u ≡ name m v → u ≡ v
 one_variable m market u v is_u is_v e =
     let at = variable_at m (rows m) (names-ascend m (rows_apart m (names_apart m market))) in
     sym (at u is_u) ∙ ap (variable_of m (rows m)) e ∙ at v is_v
@@ -182,8 +182,8 @@ name_is_new m g d r market holds c absent named = elim (holds.sound.put_in.eithe
   | inr k ↦ let v = taken_column m g d holds.columns holds.rows (row_name m r) k in absent (same v.0 (column_is m g v.0 v.1).0 v.2)
 ]
   where
-    same : (v : Variable) → IsOf m g v → name m v ≡ row_name m r → Contains g r
-    same v is e = subst (IsOf m g) (one_variable m market v (Limit r) (of_more m g (rows m) holds.limits.rows v is) c e) is
+    same : (v : Variable) → IsVariableOf m g v → name m v ≡ row_name m r → Contains g r
+    same v is e = subst (IsVariableOf m g) (one_variable m market v (Limit r) (of_more m g (rows m) holds.limits.rows v is) c e) is
 
 -- ---- the start, a row more, an edit
 pub holds_start : {N : Type 0} (value : N → Fraction) (m : Parts) (names : List ℕ) (entries : List N) (d : Dictionary) → IsMarket m → names ≡ places (length m.blocks)
@@ -294,7 +294,7 @@ module _ {N : Type 0} (value_of : N → Fraction) (m : Parts) (g : List Row) (d 
     column_count : length (map of (columns m)) ≡ length d.columns
     column_count = length-map (columns m) of ∙ sym count
 
-    bound_is : (v : Variable) → IsOf m g v → bound (name m v) ≡ of v
+    bound_is : (v : Variable) → IsVariableOf m g v → bound (name m v) ≡ of v
     bound_is v among = elim (Contains-append_cases (columns m) (row_variables g) v (is_variable m g v among)) [
       | inl c ↦
           ap bound (sym (column_at v c)) ∙ of_column c.0 (Prim.omega (arith, count, c.1)) ∙ ap (λ (xs : List Fraction). get_or xs c.0 nil) in_parts
@@ -307,13 +307,13 @@ module _ {N : Type 0} (value_of : N → Fraction) (m : Parts) (g : List Row) (d 
           ∙ at_member of (row_variables g) v c nil
     ]
 
-  taken_ones : (v : Variable) → IsOf m (in_order m g) v → IsOf m g v
+  taken_ones : (v : Variable) → IsVariableOf m (in_order m g) v → IsVariableOf m g v
   taken_ones = of_more m (in_order m g) g (λ r c. (in_order-from m g r c).1)
 
-  low_is : (v : Variable) → IsOf m (in_order m g) v → (system_in e).low (name m v) ≡ (system_of m g).low (name m v)
+  low_is : (v : Variable) → IsVariableOf m (in_order m g) v → (system_in e).low (name m v) ≡ (system_of m g).low (name m v)
   low_is v among = bound_is (system_in e).low (low m) (map (λ b. value_of b.low) bounds) low_list posing.column_low posing.row_low v (taken_ones v among) ∙ sym (low-at m (in_order m g) (ascend m market g) v among)
 
-  high_is : (v : Variable) → IsOf m (in_order m g) v → (system_in e).high (name m v) ≡ (system_of m g).high (name m v)
+  high_is : (v : Variable) → IsVariableOf m (in_order m g) v → (system_in e).high (name m v) ≡ (system_of m g).high (name m v)
   high_is v among = bound_is (system_in e).high (high m) (map (λ b. value_of b.high) bounds) high_list posing.column_high posing.row_high v (taken_ones v among) ∙ sym (high-at m (in_order m g) (ascend m market g) v among)
 
   price_same : (j : ℕ) → Contains (system_in e).columns j → (system_in e).price j ≡ (system_of m g).price j
@@ -334,7 +334,7 @@ module _ {N : Type 0} (value_of : N → Fraction) (m : Parts) (g : List Row) (d 
   }
 
 -- the low ones are at most the high ones
-variable_order : (m : Parts) (g : List Row) → IsMarket m → AreRows m g → (v : Variable) → IsOf m g v → low m v ≤ℚ high m v
+variable_order : (m : Parts) (g : List Row) → IsMarket m → AreRows m g → (v : Variable) → IsVariableOf m g v → low m v ≤ℚ high m v
 variable_order m g market are (Block j) lt = whole-≤ℚ (pos 0) (block_at m j).quantity (market.blocks j _ lt).quantity
 variable_order m g market are Balance is = ≤ℚ_refl (residual_demand m)
 variable_order m g market are (Limit r) c =

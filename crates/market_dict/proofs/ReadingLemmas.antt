@@ -37,10 +37,10 @@ use Rattle.market_model.specs.LimitRows.{rows, row_id}
 use Rattle.market_model.specs.Market.{IsMarket}
 use Rattle.market_model.specs.NamedSums.{IsRefusal}
 use Rattle.limit_rows.proofs.ApartLemmas.{names_apart}
-use Rattle.market_system.specs.MarketSystem.{name, columns, row_variables, variables, variable_of, system_over, row_name, in_order, dual_by}
+use Rattle.market_system.specs.MarketSystem.{name, columns, row_variables, variables, variable_of, system_over, row_name, in_order, dual_by, IsVariableOf}
 use Rattle.market_system.specs.declared.variables.Variable.{Variable}
 use Rattle.market_system.specs.declared.variables.Variable.TheVariants as variable
-use Rattle.market_system.proofs.VariableLaws.{mapped, in_mapped, IsOf, of_more, variable_is, is_variable, variable_at}
+use Rattle.market_system.proofs.VariableLaws.{mapped, in_mapped, of_more, variable_is, is_variable, variable_at}
 use Rattle.market_system.proofs.DualLists.{rows_apart}
 use Rattle.market_system.proofs.RowOrder.{in_order-from, names-ascend, row_name-at}
 use Rattle.market_dict.specs.Holding.{HoldsMarket}
@@ -73,7 +73,7 @@ module _ (m : Parts) (g : List Row) (d : Dictionary) (market : IsMarket m) (hold
   name_at_rank k lt = ap (λ (ws : List ℕ). slice_index ws k) names_are ∙ get_or-map (name m) listed k variable.Balance 0 (Prim.omega (arith, lt, name_count))
 
   -- it is one over all rows of the market
-  rank_is : (k : ℕ) → k < length d.names → IsOf m (rows m) (at_rank k)
+  rank_is : (k : ℕ) → k < length d.names → IsVariableOf m (rows m) (at_rank k)
   rank_is k lt =
       of_more m (in_order m g) (rows m) (λ r c. (in_order-from m g r c).0) (at_rank k)
       (variable_is m (in_order m g) (at_rank k) (at_place listed k variable.Balance (Prim.omega (arith, lt, name_count))))
@@ -90,7 +90,7 @@ module _ (m : Parts) (g : List Row) (d : Dictionary) (market : IsMarket m) (hold
 
   -- so a limit of a rank is one of the market
   pub rank_row : (k w : ℕ) (read : Variable) (r : Row) → k < length d.names → w ≡ slice_index d.names k → read ≡ variable_of m (rows m) w → read ≡ variable.Limit r → Contains (rows m) r
-  rank_row k w read r lt at of is = subst (IsOf m (rows m)) (rank_read k w read (variable.Limit r) lt at of is) (rank_is k lt)
+  rank_row k w read r lt at of is = subst (IsVariableOf m (rows m)) (rank_read k w read (variable.Limit r) lt at of is) (rank_is k lt)
 
   pub rank_inside : (k : ℕ) → k < length d.names → k < length listed
   rank_inside k lt = Prim.omega (arith, lt, name_count)
@@ -101,7 +101,7 @@ module _ (m : Parts) (g : List Row) (d : Dictionary) (market : IsMarket m) (hold
 
 -- the variable of a name, by kind
 module _ (m : Parts) (market : IsMarket m) where
-  named_one : (v : Variable) → IsOf m (rows m) v → (w : ℕ) → w ≡ name m v → v ≡ variable_of m (rows m) w
+  named_one : (v : Variable) → IsVariableOf m (rows m) v → (w : ℕ) → w ≡ name m v → v ≡ variable_of m (rows m) w
   named_one v is w e = sym (ap (variable_of m (rows m)) e ∙ variable_at m (rows m) (names-ascend m (rows_apart m (names_apart m market))) v is)
 
   pub named_block : (w : ℕ) → w < length m.blocks → variable.Block w ≡ variable_of m (rows m) w
@@ -117,7 +117,7 @@ module _ (m : Parts) (market : IsMarket m) where
   pub name_below : (w : ℕ) → Contains (map (name m) (variables m (rows m))) w → w < length m.blocks + 1 + length (rows m)
   name_below w c = let v = mapped (name m) (variables m (rows m)) w c in subst (λ (x : ℕ). x < length m.blocks + 1 + length (rows m)) v.2 (below v.0 (variable_is m (rows m) v.0 v.1))
     where
-      below : (v : Variable) → IsOf m (rows m) v → name m v < length m.blocks + 1 + length (rows m)
+      below : (v : Variable) → IsVariableOf m (rows m) v → name m v < length m.blocks + 1 + length (rows m)
       below (variable.Block j) lt = Prim.omega (arith, lt)
       below variable.Balance is = Prim.omega arith
       below (variable.Limit r) (i, lt, at) = let named : row_name m r ≡ length m.blocks + 1 + i = ap (row_name m) (sym at) ∙ row_name-at m (rows_apart m (names_apart m market)) i r lt in Prim.omega (arith, named, lt)

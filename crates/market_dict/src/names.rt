@@ -4,7 +4,7 @@
 ghost use Rattle.std.specs.Prelude.{◌≡◌, length, map, Contains, IfOk};
 ghost use Rattle.market_model.specs.Dispatch.{places};
 ghost use Rattle.market_model.specs.LimitRows.{rows};
-ghost use Rattle.market_system.specs.MarketSystem.{name as name_in, variables, variable_of as variable_named};
+ghost use Rattle.market_system.specs.MarketSystem.{name as name_in, IsVariableOf, variables, variable_of as variable_named};
 
 use limit_rows::{place_of, row_at};
 use market_model::Market;
@@ -14,7 +14,7 @@ use std::alloc::Global;
 
 /// The name of a variable.
 pub(crate) fn name_of(market: &Market, variable: Variable) -> u32
-    requires { Contains (variables market.now (rows market.now)) variable }
+    requires { IsVariableOf market.now (rows market.now) variable }
     ensures { result ≡ name_in market.now variable }
 {
     let _lines = market.lines();

@@ -20,10 +20,10 @@ use Rattle.market_model.specs.declared.participants.Parts.{Parts}
 use Rattle.market_model.specs.Market.{IsMarket}
 use Rattle.market_model.specs.Dispatch.{Dispatch, zero, places, block_at, signed_by_side, accepted, quantity, raised_by, balance, empty, dispatch_by}
 use Rattle.market_model.specs.Optimality.{price, block_value}
-use Rattle.market_system.specs.MarketSystem.{name, variable_of, balance_name, block_sign, residual_demand, system_of, choice_dispatch}
+use Rattle.market_system.specs.MarketSystem.{name, variable_of, balance_name, block_sign, residual_demand, system_of, choice_dispatch, IsVariableOf}
 use Rattle.market_model.proofs.MarketSums.{balance-by_empty}
 use Rattle.market_system.proofs.SystemLaws.{none_ascend, balance_row, activity_is, signed-times, variable_in, variable_below, block_or_balance, is_system, raised, from_rows, balance_is, balance_choice, balance_others, balance_choice_is, block_choice, block_choice_is, block_choice_high, block_is_basic, the_block_is_basic, balance_not_basic}
-use Rattle.market_system.proofs.VariableLaws.{from_places, IsOf, column_in, variable_at, variables_are as listed, low-at, high-at, objective-at}
+use Rattle.market_system.proofs.VariableLaws.{from_places, column_in, variable_at, variables_are as listed, low-at, high-at, objective-at}
 use Rattle.market_system.specs.declared.variables.Variable.{Variable}
 use Rattle.market_system.specs.declared.variables.Variable.TheVariants.{Block, Balance, Limit}
 use Rattle.linear_system.proofs.Multipliers.{by_columns, by_columns-column, by_columns-row, by_columns-meets}
@@ -87,7 +87,7 @@ module _ (m : Parts) (p : ℕ) (inside : p < length m.blocks) (h : Choice) (is :
   left_over : ℕ → Fraction
   left_over w = left_of (variable_of m [] w)
 
-  left-at : (v : Variable) → IsOf m [] v → left_over (name m v) ≡ left_of v
+  left-at : (v : Variable) → IsVariableOf m [] v → left_over (name m v) ≡ left_of v
   unfolding left_over
   left-at v is = ap left_of (variable_at m [] (none_ascend m) v is)
 

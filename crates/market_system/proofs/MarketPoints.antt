@@ -27,10 +27,10 @@ use Rattle.market_model.proofs.RowLaws.{law_of_the_flows}
 use Rattle.market_model.proofs.Optimum.{welfare-by_blocks}
 use Rattle.market_system.specs.declared.variables.Variable.{Variable}
 use Rattle.market_system.specs.declared.variables.Variable.TheVariants.{Block, Balance, Limit}
-use Rattle.market_system.specs.MarketSystem.{balance_name, row_name, in_order, block_sign, residual_demand, block_coefficient, least_added, most_added, name, system_of}
+use Rattle.market_system.specs.MarketSystem.{balance_name, row_name, in_order, block_sign, residual_demand, block_coefficient, least_added, most_added, name, system_of, IsVariableOf}
 use Rattle.market_system.proofs.RowOrder.{RowsApart, in_order-in, in_order-from, in_order-ascends}
 use Rattle.market_system.proofs.SystemLaws.{signed-times}
-use Rattle.market_system.proofs.VariableLaws.{row_listed, limit_in, from_places, IsOf, by_variable, variable_in, column_in, sum-variables, is_system_over, coefficient-at, price-at, low-at, high-at, activity-at, objective-at}
+use Rattle.market_system.proofs.VariableLaws.{row_listed, limit_in, from_places, by_variable, variable_in, column_in, sum-variables, is_system_over, coefficient-at, price-at, low-at, high-at, activity-at, objective-at}
 
 -- ---- what blocks add to the flow of a row
 turned : (side : Side) (a x : Fraction) → a *ℚ signed_by_side side x ≡ signed_by_side side a *ℚ x
@@ -168,13 +168,13 @@ module _ (m : Parts) (apart : RowsApart m) (g : List Row) where
         at_balance : point_of x (balance_name m) ≡ residual_demand m
         at_balance = point-balance x ∙ ap (λ t. t +ℚ residual_demand m) f.balanced ∙ by_ring ring_ℚ (residual_demand m ∷ []) (pnil ⊕ at 0) (at 0) refl
 
-        low_of : (v : Variable) → IsOf m over v → s.low (name m v) ≤ℚ point_of x (name m v)
+        low_of : (v : Variable) → IsVariableOf m over v → s.low (name m v) ≤ℚ point_of x (name m v)
         low_of (Block j) h = subst₂ ◌≤ℚ◌ (sym (low-block j h)) (sym (point-block x j h)) (f.blocks.above j h)
         low_of Balance h = ≤ℚ_of_same (s.low (balance_name m)) (point_of x (balance_name m)) (low-balance ∙ sym at_balance)
         low_of (Limit r) c = subst₂ ◌≤ℚ◌ (sym (low-row r c)) (sym (point-row x r c))
             (by_le1 (limit m r ∷ flow m x r ∷ flow m (empty m) r ∷ []) (pneg (at 0) ⊕ pneg (at 2)) (at 1 ⊕ pneg (at 2)) pone (pneg (at 0)) (at 1) NonNeg-one (f.limits r (in_order-from m g r c).1).above refl)
 
-        high_of : (v : Variable) → IsOf m over v → point_of x (name m v) ≤ℚ s.high (name m v)
+        high_of : (v : Variable) → IsVariableOf m over v → point_of x (name m v) ≤ℚ s.high (name m v)
         high_of (Block j) h = subst₂ ◌≤ℚ◌ (sym (point-block x j h)) (sym (high-block j h)) (f.blocks.within j h)
         high_of Balance h = ≤ℚ_of_same (point_of x (balance_name m)) (s.high (balance_name m)) (at_balance ∙ sym high-balance)
         high_of (Limit r) c = subst₂ ◌≤ℚ◌ (sym (point-row x r c)) (sym (high-row r c))

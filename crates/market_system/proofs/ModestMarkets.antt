@@ -21,12 +21,12 @@ use Rattle.market_model.specs.Market.{IsMarket}
 use Rattle.market_model.specs.Dispatch.{Dispatch, IsDispatch, zero, places, bus_at, unit_at, block_at, signed_by_side, accepted, quantity, units_at, blocks_at, fixed_term, block_term, injection_terms, injection, balance_terms, balance, output_terms, output, demand_terms, demand, empty}
 use Rattle.market_model.specs.Optimality.{price, block_value}
 use Rattle.market_model.proofs.WholeDispatch.{from_whole-≤ℚ}
-use Rattle.market_system.specs.MarketSystem.{residual_demand, low, high, system_of, choice_dispatch}
+use Rattle.market_system.specs.MarketSystem.{residual_demand, low, high, system_of, choice_dispatch, IsVariableOf}
 use Rattle.market_system.specs.declared.variables.Variable.{Variable}
 use Rattle.market_system.specs.declared.variables.Variable.TheVariants.{Block, Balance, Limit}
 use Rattle.market_system.specs.ModestMarkets.{IsModest, IsModestBus, IsModestUnit, IsModestBlock, modest_mw, modest_price}
 use Rattle.market_system.proofs.SystemLaws.{none_ascend, variables_are, variable_in, the_row, is_system}
-use Rattle.market_system.proofs.VariableLaws.{from_places, IsOf, by_variable, columns_are, column_below, coefficient-at, price-at, low-at, high-at}
+use Rattle.market_system.proofs.VariableLaws.{from_places, by_variable, columns_are, column_below, coefficient-at, price-at, low-at, high-at}
 use Rattle.market_system.proofs.ModestNumbers.{IsWholeWithin, whole_within, nil_within, wider, neg_within, times_within, AreWithin, append_within, map_within, prefix_within, length-filter_le}
 use Rattle.market_system.proofs.ModestChoices.{block_sign_within, entry_within, column_within}
 
@@ -165,7 +165,7 @@ module _ (m : Parts) (market : IsMarket m) (modest : IsModest m) where
   needed_within : IsWholeWithin most_balance (residual_demand m)
   needed_within = neg_within most_balance (balance m (empty m)) empty_balance_within
 
-  variable_within : (v : Variable) → IsOf m [] v → IsWholeWithin most_balance (low m v) × IsWholeWithin most_balance (high m v)
+  variable_within : (v : Variable) → IsVariableOf m [] v → IsWholeWithin most_balance (low m v) × IsWholeWithin most_balance (high m v)
   variable_within (Block j) lt = (wider modest_mw most_balance zero (Prim.omega arith) (nil_within modest_mw), wider modest_mw most_balance (quantity m j) (Prim.omega arith) (quantity_within j lt))
   variable_within Balance is = (needed_within, needed_within)
   variable_within (Limit r) c = absurd (Prim.omega (arith, c.1))

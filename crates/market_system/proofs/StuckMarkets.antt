@@ -32,7 +32,7 @@ use Rattle.market_model.specs.LimitRows.{rows, mw_or_zero, limit_in, limit, flow
 use Rattle.market_model.specs.Market.{IsMarket}
 use Rattle.market_model.specs.Optimality.{net_shadow_price, ProperDuals}
 use Rattle.market_model.proofs.FarkasLaw.{farkas_bound-by_parts, left_of}
-use Rattle.market_system.specs.MarketSystem.{name, balance_name, row_name, is_in, in_order, residual_demand, block_sign, block_coefficient, system_of, duals_by_cost}
+use Rattle.market_system.specs.MarketSystem.{name, balance_name, row_name, is_in, in_order, residual_demand, block_sign, block_coefficient, system_of, duals_by_cost, IsVariableOf}
 use Rattle.limit_rows.proofs.FactorLemmas.{stands}
 use Rattle.market_model.specs.NamedSums.{SameSize}
 use Rattle.market_system.specs.MarketNumbers.{IsFarkasOf}
@@ -40,7 +40,7 @@ use Rattle.market_system.proofs.RowOrder.{in_order-from, is_in-in}
 use Rattle.market_system.proofs.DualLists.{NamesApart, rows_apart, one_is_nil, up_by, down_by, up_sign, down_sign, up-made, down-made, net_price-made, prices_only-made, proper-made, in_order-filter}
 use Rattle.market_system.proofs.MarketPoints.{is_system_of, both_parts, low-block, high-block, low-balance, high-balance, low-row, high-row, block_in, balance_in, row_in}
 use Rattle.market_system.proofs.SolvedMarkets.{rows-at, weight-made}
-use Rattle.market_system.proofs.VariableLaws.{IsOf, by_variable, from_places, column_in, sum-columns, sum-rows}
+use Rattle.market_system.proofs.VariableLaws.{by_variable, from_places, column_in, sum-columns, sum-rows}
 use Rattle.market_system.specs.declared.variables.Variable.{Variable}
 use Rattle.market_system.specs.declared.variables.Variable.TheVariants.{Block, Balance, Limit}
 
@@ -96,7 +96,7 @@ limit_sign m market r lt = by r.line r.cause lt
 bounds_ordered : (m : Parts) (names : NamesApart m) → IsMarket m → (g : List Row) → (w : ℕ) → Contains (system_of m g).variables w → (system_of m g).low w ≤ℚ (system_of m g).high w
 bounds_ordered m names market g = by_variable m (in_order m g) (λ w. (system_of m g).low w ≤ℚ (system_of m g).high w) by
   where
-    by : (v : Variable) → IsOf m (in_order m g) v → (system_of m g).low (name m v) ≤ℚ (system_of m g).high (name m v)
+    by : (v : Variable) → IsVariableOf m (in_order m g) v → (system_of m g).low (name m v) ≤ℚ (system_of m g).high (name m v)
     by (Block j) lt = subst₂ ◌≤ℚ◌ (sym (low-block m (rows_apart m names) g j lt)) (sym (high-block m (rows_apart m names) g j lt))
         (whole-≤ℚ (pos 0) (block_at m j).quantity (market.blocks j _ lt).quantity)
     by Balance is = ≤ℚ_of_same _ _ (low-balance m (rows_apart m names) g ∙ sym (high-balance m (rows_apart m names) g))

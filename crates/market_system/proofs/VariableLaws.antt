@@ -20,7 +20,7 @@ use Rattle.market_model.specs.Optimality.{block_value}
 use Rattle.market_model.proofs.ListSteps.{map-map}
 use Rattle.market_system.specs.declared.variables.Variable.{Variable}
 use Rattle.market_system.specs.declared.variables.Variable.TheVariants.{Block, Balance, Limit}
-use Rattle.market_system.specs.MarketSystem.{balance_name, row_name, name, coefficient, objective_price, low, high, columns, row_variables, variables, named, variable_of, system_over}
+use Rattle.market_system.specs.MarketSystem.{balance_name, row_name, name, coefficient, objective_price, low, high, columns, row_variables, variables, named, variable_of, system_over, IsVariableOf}
 use Rattle.market_system.proofs.RowOrder.{increasing-from_pairs, pairs-append, pairs-map}
 
 -- ---- members of lists
@@ -99,12 +99,6 @@ module _ (name_of : Variable → ℕ) where
     not_both w c d = let k = mapped name_of cs w c in let l = mapped name_of rs w d in Prim.omega (arith, before k.0 l.0 k.1 l.1, k.2, l.2)
 
 -- ---- the variables of a market
--- what makes a variable one of the market's over these rows
-abbrev pub IsOf : Parts → List Row → Variable → Type 0
-IsOf m rs (Block j) = j < length m.blocks
-IsOf m rs Balance = Unit {0}
-IsOf m rs (Limit r) = Contains rs r
-
 pub column_names : (m : Parts) → map (name m) (columns m) ≡ places (length m.blocks)
 column_names m = map-map Block (name m) (places (length m.blocks)) ∙ self (places (length m.blocks))
   where
@@ -113,7 +107,7 @@ column_names m = map-map Block (name m) (places (length m.blocks)) ∙ self (pla
     self (x ∷ xs) = ap (λ (ys : List ℕ). x ∷ ys) (self xs)
 
 -- over more rows there are more
-pub of_more : (m : Parts) (rs ts : List Row) → ((r : Row) → Contains rs r → Contains ts r) → (v : Variable) → IsOf m rs v → IsOf m ts v
+pub of_more : (m : Parts) (rs ts : List Row) → ((r : Row) → Contains rs r → Contains ts r) → (v : Variable) → IsVariableOf m rs v → IsVariableOf m ts v
 of_more m rs ts more (Block j) h = h
 of_more m rs ts more Balance h = h
 of_more m rs ts more (Limit r) h = more r h
@@ -129,19 +123,19 @@ module _ (m : Parts) (rs : List Row) where
     | inr k ↦ let l = mapped Limit rs v k in subst P l.2 (each l.0 l.1)
   ]
 
-  pub column_is : (v : Variable) → Contains (columns m) v → IsOf m rs v × (name m v < balance_name m)
-  column_is = by_column (λ v. IsOf m rs v × (name m v < balance_name m)) (λ j lt. (lt, lt))
+  pub column_is : (v : Variable) → Contains (columns m) v → IsVariableOf m rs v × (name m v < balance_name m)
+  column_is = by_column (λ v. IsVariableOf m rs v × (name m v < balance_name m)) (λ j lt. (lt, lt))
 
-  pub row_is : (v : Variable) → Contains (row_variables rs) v → IsOf m rs v × (balance_name m ≤ name m v)
-  row_is = by_row (λ v. IsOf m rs v × (balance_name m ≤ name m v)) (tt, Prim.omega arith) (λ r c. (c, Prim.omega arith))
+  pub row_is : (v : Variable) → Contains (row_variables rs) v → IsVariableOf m rs v × (balance_name m ≤ name m v)
+  row_is = by_row (λ v. IsVariableOf m rs v × (balance_name m ≤ name m v)) (tt, Prim.omega arith) (λ r c. (c, Prim.omega arith))
 
-  pub variable_is : (v : Variable) → Contains (variables m rs) v → IsOf m rs v
+  pub variable_is : (v : Variable) → Contains (variables m rs) v → IsVariableOf m rs v
   variable_is v c = elim (Contains-append_cases (columns m) (row_variables rs) v c) [ inl k ↦ (column_is v k).0 | inr k ↦ (row_is v k).0 ]
 
   pub limit_in : (r : Row) → Contains rs r → Contains (row_variables rs) (Limit r)
   limit_in r h = Contains-cons Balance (map Limit rs) (Limit r) (in_mapped Limit rs r h)
 
-  pub is_variable : (v : Variable) → IsOf m rs v → Contains (variables m rs) v
+  pub is_variable : (v : Variable) → IsVariableOf m rs v → Contains (variables m rs) v
   is_variable (Block j) h = Contains-append_left (columns m) (row_variables rs) (Block j) (in_mapped Block (places (length m.blocks)) j (in_places (length m.blocks) j h))
   is_variable Balance h = Contains-append_right (columns m) (row_variables rs) Balance (Contains-head Balance (map Limit rs))
   is_variable (Limit r) h = Contains-append_right (columns m) (row_variables rs) (Limit r) (limit_in r h)
@@ -149,7 +143,7 @@ module _ (m : Parts) (rs : List Row) where
   abbrev s : System
   s = system_over m rs
 
-  pub variable_in : (v : Variable) → IsOf m rs v → Contains s.variables (name m v)
+  pub variable_in : (v : Variable) → IsVariableOf m rs v → Contains s.variables (name m v)
   unfolding system_over
   variable_in v is = in_mapped (name m) (variables m rs) v (is_variable v is)
 
@@ -158,7 +152,7 @@ module _ (m : Parts) (rs : List Row) where
   row_listed v c = in_mapped (name m) (row_variables rs) v c
 
   -- a name of its system is that of a variable, so what holds of each variable holds of each name
-  pub by_variable : (P : ℕ → Type 0) → ((v : Variable) → IsOf m rs v → P (name m v)) → (w : ℕ) → Contains s.variables w → P w
+  pub by_variable : (P : ℕ → Type 0) → ((v : Variable) → IsVariableOf m rs v → P (name m v)) → (w : ℕ) → Contains s.variables w → P w
   unfolding system_over
   by_variable P each w c = let k = mapped (name m) (variables m rs) w c in subst P k.2 (each k.0 (variable_is k.0 k.1))
 
@@ -219,7 +213,7 @@ module _ (m : Parts) (rs : List Row) where
     variables_ascend = pairs-append (λ (u v : Variable). name m u < name m v) (columns m) (row_variables rs) columns_ascend rows_ascend columns_before
 
     -- the variable of its name
-    pub variable_at : (v : Variable) → IsOf m rs v → variable_of m rs (name m v) ≡ v
+    pub variable_at : (v : Variable) → IsVariableOf m rs v → variable_of m rs (name m v) ≡ v
     variable_at v is = named-at (name m) (variables m rs) variables_ascend v (is_variable v is)
 
     pub is_system_over : IsSystem s
@@ -235,24 +229,24 @@ module _ (m : Parts) (rs : List Row) where
     }
 
     -- what the system has at the names of variables
-    pub coefficient-at : (r j : Variable) → IsOf m rs r → IsOf m rs j → s.coefficient (name m r) (name m j) ≡ coefficient m r j
+    pub coefficient-at : (r j : Variable) → IsVariableOf m rs r → IsVariableOf m rs j → s.coefficient (name m r) (name m j) ≡ coefficient m r j
     unfolding system_over
     coefficient-at r j is_row is_column = ap₂ (coefficient m) (variable_at r is_row) (variable_at j is_column)
 
-    pub price-at : (j : Variable) → IsOf m rs j → s.price (name m j) ≡ objective_price m j
+    pub price-at : (j : Variable) → IsVariableOf m rs j → s.price (name m j) ≡ objective_price m j
     unfolding system_over
     price-at j is = ap (objective_price m) (variable_at j is)
 
-    pub low-at : (v : Variable) → IsOf m rs v → s.low (name m v) ≡ low m v
+    pub low-at : (v : Variable) → IsVariableOf m rs v → s.low (name m v) ≡ low m v
     unfolding system_over
     low-at v is = ap (low m) (variable_at v is)
 
-    pub high-at : (v : Variable) → IsOf m rs v → s.high (name m v) ≡ high m v
+    pub high-at : (v : Variable) → IsVariableOf m rs v → s.high (name m v) ≡ high m v
     unfolding system_over
     high-at v is = ap (high m) (variable_at v is)
 
     -- what a row makes of a point, and what a point is worth
-    pub activity-at : (v : ℕ → Fraction) (r : Variable) → IsOf m rs r → activity s v (name m r) ≡ sum_by (λ j. coefficient m r (Block j) *ℚ v j) (places (length m.blocks))
+    pub activity-at : (v : ℕ → Fraction) (r : Variable) → IsVariableOf m rs r → activity s v (name m r) ≡ sum_by (λ j. coefficient m r (Block j) *ℚ v j) (places (length m.blocks))
     unfolding activity
     activity-at v r is = sum-columns (λ j. s.coefficient (name m r) j *ℚ v j) (λ j. coefficient m r (Block j) *ℚ v j) (λ j h. ap (λ t. t *ℚ v j) (coefficient-at r (Block j) is h))
 

@@ -2,7 +2,7 @@
 -- activity of a limit row is what the blocks add to its flow.
 -- Source: linear programs with bounded variables (Chvátal, Linear Programming), for the economic dispatch of Wood and
 -- Wollenberg; the form is own.
-use Rattle.std.specs.Prelude.{ℕ, ◌+◌, pos, Bool, true, false, List, [], ◌∷◌, ◌++◌, ◌==◌, ◌&&◌, ◌||◌, if◌then◌else◌, length, map, filter}
+use Rattle.std.specs.Prelude.{ℕ, ◌+◌, ◌<◌, pos, Bool, true, false, List, [], ◌∷◌, ◌++◌, ◌==◌, ◌&&◌, ◌||◌, if◌then◌else◌, length, map, filter, Contains}
 use Rattle.std.specs.List.{flat_map, position_or_len}
 use Rattle.fraction_theory.specs.Fraction.{Fraction, whole, neg_ℚ, ◌-ℚ◌}
 use Rattle.fraction_theory.specs.Signs.{sign_of}
@@ -115,6 +115,12 @@ row_variables rs = Balance ∷ map Limit rs
 
 abbrev pub variables : Parts → List Row → List Variable
 variables m rs = columns m ++ row_variables rs
+
+-- what makes a variable one of these
+abbrev pub IsVariableOf : Parts → List Row → Variable → Type 0
+IsVariableOf m rs (Block j) = j < length m.blocks
+IsVariableOf m rs Balance = Unit {0}
+IsVariableOf m rs (Limit r) = Contains rs r
 
 -- the variable of a name in a list; a name that none of them has stands for the balance, and nothing is asked of it
 abbrev pub named : (Variable → ℕ) → List Variable → ℕ → Variable

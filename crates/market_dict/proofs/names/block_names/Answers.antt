@@ -1,15 +1,7 @@
 use Rattle.std.proofs.Common.{◌∙◌, ◌++◌, ◌∷◌, [], ap, ap₂, sym, List, ℕ, arith, length}
 use Rattle.market_model.specs.Dispatch.{places}
-use Rattle.market_model.specs.LimitRows.{rows}
 use Rattle.market_model.proofs.MorePlaces.{places_more}
-use Rattle.market_system.specs.declared.variables.Variable.TheVariants.{Block}
-use Rattle.market_system.proofs.VariableLaws.{is_variable}
 use Rattle.market_dict.proofs.names.block_names.Goals as goal
-
-pub name_of-requires : goal.name_of-requires
-name_of-requires c =
-    let m = c.args.market.now in
-    is_variable m (rows m) (Block c.loop-place.place) (omega (arith, c.loop-place-test.true, c.len-place-end.ensures, ap length c.blocks-2.ensures.list))
 
 pub loop-place-preserved : goal.loop-place-preserved
 loop-place-preserved c =

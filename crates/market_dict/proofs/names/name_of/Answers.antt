@@ -1,20 +1,14 @@
 use Rattle.std.proofs.Common.{◌≡◌, ◌<◌, ◌∙◌, ◌+◌, ℕ, ap, sym, subst, arith, length}
 use Rattle.market_model.specs.LimitRows.{rows}
-use Rattle.market_system.specs.MarketSystem.{name}
-use Rattle.market_system.proofs.VariableLaws.{IsOf, variable_is}
+use Rattle.market_system.specs.MarketSystem.{name, IsVariableOf}
 use Rattle.market_dict.proofs.EntryLemmas.{name_at_place, rows_few}
 use Rattle.market_dict.proofs.names.name_of.Goals as goal
 
 pub overflow_cast-result : goal.overflow_cast-result
 overflow_cast-result c =
     let m = c.args.market.now in
-    let inside : c.in-Block.place < length m.blocks = subst (IsOf m (rows m)) c.in-Block.is (variable_is m (rows m) c.args.variable c.requires) in
+    let inside : c.in-Block.place < length m.blocks = subst (IsVariableOf m (rows m)) c.in-Block.is c.requires in
     omega (arith, inside, c.lines-lines.ensures.market.block_count)
-
-pub place_of-requires : goal.place_of-requires
-place_of-requires c =
-    let m = c.args.market.now in
-    subst (IsOf m (rows m)) c.in-Limit.is (variable_is m (rows m) c.args.variable c.requires)
 
 pub overflow_add-result-in-Limit : goal.overflow_add-result-in-Limit
 overflow_add-result-in-Limit c =

@@ -4,18 +4,11 @@ use Rattle.linear_dict.specs.Dictionaries.{note_of, choice_of}
 use Rattle.linear_dict.specs.Notes.{Noted}
 use Rattle.linear_system.specs.Choices.{value as value_of}
 use Rattle.market_model.specs.Dispatch.{places, dispatch_by}
-use Rattle.market_model.specs.LimitRows.{rows}
 use Rattle.market_system.specs.MarketSystem.{system_of}
-use Rattle.market_system.specs.declared.variables.Variable.TheVariants.{Block}
-use Rattle.market_system.proofs.VariableLaws.{from_places, is_variable}
+use Rattle.market_system.proofs.VariableLaws.{from_places}
 use Rattle.market_dict.proofs.HoldingLaws.{block_named, shown_value}
 use Rattle.market_dict.proofs.ListedLemmas.{map-members, places_filled}
 use Rattle.market_dict.proofs.reading.dispatch.Goals as goal
-
-pub name_of-name-requires : goal.name_of-name-requires
-name_of-name-requires g c =
-    let m = c.args.market.now in
-    is_variable m (rows m) (Block c.loop-block.block) (omega (arith, c.loop-block-test.true, c.len-block-end.ensures, ap length c.blocks-2.ensures.list))
 
 pub note-requires-clause-named : goal.note-requires-clause-named
 note-requires-clause-named g c =

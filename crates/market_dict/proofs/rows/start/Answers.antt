@@ -3,15 +3,9 @@ use Rattle.std.specs.List.{AllPairs, Contains}
 use Rattle.std.proofs.lemmas.Result.{IfOk-weaker}
 use Rattle.linear_dict.specs.Dictionaries.{IsStart}
 use Rattle.market_model.specs.Dispatch.{places}
-use Rattle.market_model.specs.LimitRows.{rows}
-use Rattle.market_system.specs.declared.variables.Variable.TheVariants.{Balance}
-use Rattle.market_system.proofs.VariableLaws.{is_variable}
 use Rattle.market_dict.proofs.EntryLemmas.{places_distinct, place_absent}
 use Rattle.market_dict.proofs.HoldingLaws.{holds_start}
 use Rattle.market_dict.proofs.rows.start.Goals as goal
-
-pub name_of-balance-requires : goal.name_of-balance-requires
-name_of-balance-requires g c = let m = c.args.market.now in is_variable m (rows m) Balance tt
 
 pub start-requires-clause-distinct : goal.start-requires-clause-distinct
 start-requires-clause-distinct g c = subst (AllPairs (λ x y. x ≢ y)) (sym (c.slice.ensures ∙ c.in_ok-names.ensures)) (places_distinct (length c.args.market.now.blocks))

@@ -2,14 +2,8 @@ use Rattle.std.proofs.Common.{◌∙◌, ℕ, map, ap, sym, subst}
 use Rattle.std.specs.List.{Contains}
 use Rattle.linear_dict.specs.Causes.{IsPairWith}
 use Rattle.linear_dict.specs.Dictionaries.{AddsRow}
-use Rattle.market_model.specs.LimitRows.{rows}
-use Rattle.market_system.specs.declared.variables.Variable.TheVariants.{Limit}
-use Rattle.market_system.proofs.VariableLaws.{is_variable}
 use Rattle.market_dict.proofs.HoldingLaws.{name_is_new, row_named, holds_taken, pair_taken}
 use Rattle.market_dict.proofs.rows.take_limit.Goals as goal
-
-pub name_of-name-requires : goal.name_of-name-requires
-name_of-name-requires g c = let m = c.args.market.now in is_variable m (rows m) (Limit c.args.row) c.requires.row
 
 pub add_row-requires-clause-absent : goal.add_row-requires-clause-absent
 add_row-requires-clause-absent g c =
