@@ -21,7 +21,6 @@ use Rattle.market_model.specs.Infeasibility.{where_above, part_above, block_weig
 use Rattle.market_model.specs.declared.limits.Row.{Row}
 use Rattle.market_model.specs.LimitRows.{rows, row_id, limit, flow}
 use Rattle.market_model.specs.NamedSums.{IsRefusal, IsRefusedIn, IsShareRefusal}
-use Rattle.market_model.specs.Valued.{passed_at}
 use Rattle.market_model.specs.Optimality.{up_of, down_of, names_row, named_rows}
 use Rattle.market_model.proofs.FarkasLaw.{total-flat_map}
 use Rattle.market_model.proofs.MorePlaces.{sum_by_more, total-places_more}
@@ -30,10 +29,8 @@ use Rattle.limit_rows.proofs.DualLemmas.{up_unnamed, down_unnamed, sum_named}
 use Rattle.cert_sums.specs.Named.{PricedRow, priced_by}
 use Rattle.cert_sums.specs.Pairs.{IsFarkasPair, in_flow as flow_pair, of_empty, in_bound as bound_pair, of_limit_less, of_limit_more}
 use Rattle.market_model.specs.SumTables.{IsRefusedAmong, InjectionSum, balance_from_bus, balance_of_all, LineFlowSum, limited_line, limited_row, flow_in_balance, flow_in_limits, farkas_bound_of_all}
-use Rattle.cert_sums.specs.declared.stops.VerifyStop.{VerifyStop}
-use Rattle.cert_sums.specs.declared.stops.VerifyStop.TheVariants as why
 use Rattle.market_model.specs.PutIn.{dispatch_of}
-use Rattle.cert_sums.specs.Refusals.{OnPassed, IsAboveRefusal, IsBelowRefusal, IsLimitRefusal, in_flow, in_above, in_below}
+use Rattle.cert_sums.specs.Refusals.{IsAboveRefusal, IsBelowRefusal, IsLimitRefusal, in_flow, in_above, in_below}
 use Rattle.cert_sums.proofs.NamedLemmas.{IsNamedAt, is_named_row, is_row}
 
 -- ---- prices of 0 make nothing
@@ -244,11 +241,6 @@ module _ (m : Parts) (d : Duals Fraction) where
 -- ---- where nothing is accepted
 pub nothing_is : {N : Type 0} (value : N → Fraction) (m : Parts) (xs ys : List N) (n : ℕ) → xs ≡ ys → map value ys ≡ replicate n (whole (pos 0)) → n ≡ length m.blocks → dispatch_of value xs ≡ empty m
 nothing_is value m xs ys n same zeros count = ap dispatch_by (ap (map value) same ∙ zeros ∙ ap (λ (k : ℕ). replicate k (whole (pos 0))) count)
-
--- why a sum stops, where each of its refusals is another's
-pub stopped_weaker : {N : Type 0} (value : N → Fraction) (p q : Passed Fraction → Type 0) (s : VerifyStop N) → ((e : Passed Fraction) → p e → q e) → OnPassed value p s → OnPassed value q s
-stopped_weaker value p q (why.Range e) to h = to (passed_at value e) h
-stopped_weaker value p q why.Memory to h = tt
 
 module _ (m : Parts) (d : Duals Fraction) (bound : ℕ) (p : Passed Fraction) where
   pub injection_pair : (x : Dispatch) → x ≡ empty m → IsRefusedAmong (InjectionSum m x) bound p → IsFarkasPair m d bound p
