@@ -71,7 +71,8 @@ AsksVerdict files words m c = AsksToVerify files words (Ok (record { market = m;
 pub record IsDecidedIn (files : Files) (words : List (List ℕ)) (s : Status) : Type 0 where
   pub decided : (m : Parts) → AsksMarket files words m → NoPairPasses m [] most_size → Decides m s
   pub replayed : (m : Parts) (steps : List Step) → AsksSteps files words m steps → NoPairPassesIn m [] steps most_size → s ≢ status.Range
-  pub verified : (m : Parts) (c : Cert Fraction) → AsksVerdict files words m c → ((p : Passed Fraction) → ¬ (IsCertificatePair m most_size c p)) → s ≡ verdict_status (first_reason m c)
+  pub verified : (m : Parts) (c : Cert Fraction) → AsksVerdict files words m c → ((p : Passed Fraction) → ¬ (IsCertificatePair m most_size c p))
+      → s ≡ verdict_status (first_reason m c)
 
 -- so it is where the store tells its files
 abbrev pub IsDecidedOf : Option Files → List (List ℕ) → Status → Type 0
