@@ -1,15 +1,11 @@
 -- The prices and bounds of a market's dictionary, one after the other.
-use Rattle.std.specs.Prelude.{◌≡◌, ℕ, ◌+◌, ◌<◌, pos, List, [], ◌∷◌, ◌++◌, length, map}
-use Rattle.std.proofs.Common.{arith, ap, ap₂, sym, ◌∙◌, get_or, append_assoc}
-use Rattle.std.proofs.lemmas.List.{map-append, get_or_append_left}
-use Rattle.std.proofs.lemmas.List.FromFn.{length-map-range_with_len, get_or-map-range_with_len}
-use Rattle.fraction_theory.specs.Fraction.{Fraction, whole, neg_ℚ, ◌+ℚ◌}
-use Rattle.fraction_theory.specs.Sums.{Plain, total}
-use Rattle.exact_fraction.specs.declared.Op.TheVariants.{Plus}
-use Rattle.exact_fraction.specs.declared.Passed.{Passed}
+use Rattle.std.specs.Prelude.{◌≡◌, ℕ, List, [], ◌∷◌, ◌++◌, length, map}
+use Rattle.std.proofs.Common.{ap, sym, ◌∙◌, append_assoc}
+use Rattle.std.proofs.lemmas.List.{map-append}
+use Rattle.fraction_theory.specs.Fraction.{Fraction, whole, neg_ℚ}
 use Rattle.market_model.specs.declared.participants.Block.{Block}
 use Rattle.market_model.specs.declared.participants.Parts.{Parts}
-use Rattle.market_model.specs.Dispatch.{Dispatch, places, signed_by_side, block_at, quantity, injection, balance, balance_terms}
+use Rattle.market_model.specs.Dispatch.{places, signed_by_side, block_at, quantity}
 use Rattle.market_model.specs.declared.limits.Row.{Row}
 use Rattle.market_model.proofs.ListSteps.{map-map}
 use Rattle.market_system.specs.declared.variables.Variable.{Variable}
@@ -18,11 +14,6 @@ use Rattle.market_system.specs.MarketSystem.{objective_price, columns, row_varia
 use Rattle.market_dict.specs.Holding.{prices}
 use Rattle.market_dict.proofs.ListedLemmas.{map-pushed}
 use Rattle.market_model.specs.Optimality.{block_value}
-use Rattle.market_model.specs.LimitRows.{line_flow}
-use Rattle.market_model.specs.NamedSums.{IsRefusedIn, IsRefusal}
-use Rattle.market_model.proofs.MorePlaces.{total-places_more}
-use Rattle.market_model.proofs.SumSteps.{plus_at, terms_at}
-use Rattle.limit_screen.specs.Flows.{flows_at}
 
 -- ---- a buy's price
 
