@@ -21,19 +21,16 @@ use Rattle.market_model.specs.Infeasibility.{where_above, part_above, block_weig
 use Rattle.market_model.specs.declared.limits.Row.{Row}
 use Rattle.market_model.specs.LimitRows.{rows, row_id, limit, flow}
 use Rattle.market_model.specs.NamedSums.{IsRefusal, IsRefusedIn, IsShareRefusal}
-use Rattle.market_model.specs.Valued.{passed_at}
 use Rattle.market_model.specs.Optimality.{up_of, down_of, names_row, named_rows}
 use Rattle.market_model.proofs.FarkasLaw.{total-flat_map}
 use Rattle.market_model.proofs.MorePlaces.{sum_by_more, total-places_more}
 use Rattle.market_model.proofs.SumSteps.{plus_at, multiplied_at, terms_at, behind}
 use Rattle.limit_rows.proofs.DualLemmas.{up_unnamed, down_unnamed, sum_named}
 use Rattle.cert_sums.specs.Named.{PricedRow, priced_by}
-use Rattle.cert_sums.specs.Pairs.{IsFarkasPair, in_flow as flow_pair, of_empty, in_bound as bound_pair, of_limit_less, of_limit_more}
+use Rattle.cert_sums.specs.Pairs.{IsFarkasPair, in_flow as flow_pair, in_bound as bound_pair, of_limit_less, of_limit_more}
 use Rattle.market_model.specs.SumTables.{IsRefusedAmong, InjectionSum, balance_from_bus, balance_of_all, LineFlowSum, limited_line, limited_row, flow_in_balance, flow_in_limits, farkas_bound_of_all}
-use Rattle.cert_sums.specs.declared.stops.VerifyStop.{VerifyStop}
-use Rattle.cert_sums.specs.declared.stops.VerifyStop.TheVariants as why
 use Rattle.market_model.specs.PutIn.{dispatch_of}
-use Rattle.cert_sums.specs.Refusals.{OnPassed, IsAboveRefusal, IsBelowRefusal, IsLimitRefusal, in_flow, in_above, in_below}
+use Rattle.cert_sums.specs.Refusals.{IsAboveRefusal, IsBelowRefusal, IsLimitRefusal, in_flow, in_above, in_below}
 use Rattle.cert_sums.proofs.NamedLemmas.{IsNamedAt, is_named_row, is_row}
 
 -- ---- prices of 0 make nothing
@@ -194,7 +191,7 @@ module _ (m : Parts) (d : Duals Fraction) where
           (plus_at (farkas_terms m d) (s.front ++ above ∷ []) s.rest below second bound p (sum +ℚ e.up *ℚ room_above) (e.down *ℚ room_below) with_above (ap (λ u. u *ℚ room_below) h.down) c))
 
       pub limit_refused : IsLimitRefusal m (empty m) e sum bound p → IsFarkasPair m d bound p
-      limit_refused (in_flow (terms, part, c)) = of_empty (flow_pair (terms, flow_in_limits terms (limited_row e.row terms (is_row m d k e h) part), c))
+      limit_refused (in_flow (terms, part, c)) = flow_pair (terms, flow_in_limits terms (limited_row e.row terms (is_row m d k e h) part), c)
       limit_refused (in_above c) = above_refused c
       limit_refused (in_below c) = below_refused c
 
@@ -245,18 +242,13 @@ module _ (m : Parts) (d : Duals Fraction) where
 pub nothing_is : {N : Type 0} (value : N → Fraction) (m : Parts) (xs ys : List N) (n : ℕ) → xs ≡ ys → map value ys ≡ replicate n (whole (pos 0)) → n ≡ length m.blocks → dispatch_of value xs ≡ empty m
 nothing_is value m xs ys n same zeros count = ap dispatch_by (ap (map value) same ∙ zeros ∙ ap (λ (k : ℕ). replicate k (whole (pos 0))) count)
 
--- why a sum stops, where each of its refusals is another's
-pub stopped_weaker : {N : Type 0} (value : N → Fraction) (p q : Passed Fraction → Type 0) (s : VerifyStop N) → ((e : Passed Fraction) → p e → q e) → OnPassed value p s → OnPassed value q s
-stopped_weaker value p q (why.Range e) to h = to (passed_at value e) h
-stopped_weaker value p q why.Memory to h = tt
-
 module _ (m : Parts) (d : Duals Fraction) (bound : ℕ) (p : Passed Fraction) where
   pub injection_pair : (x : Dispatch) → x ≡ empty m → IsRefusedAmong (InjectionSum m x) bound p → IsFarkasPair m d bound p
   injection_pair x is h =
-      let sum = subst (λ (y : Dispatch). IsRefusedAmong (InjectionSum m y) bound p) is h in of_empty (flow_pair (sum.0, flow_in_balance sum.0 (balance_from_bus sum.0 sum.1), sum.2))
+      let sum = subst (λ (y : Dispatch). IsRefusedAmong (InjectionSum m y) bound p) is h in flow_pair (sum.0, flow_in_balance sum.0 (balance_from_bus sum.0 sum.1), sum.2)
 
   pub line_pair : IsRefusedAmong (LineFlowSum m (injection m (empty m))) bound p → IsFarkasPair m d bound p
-  line_pair (terms, sum, h) = of_empty (flow_pair (terms, flow_in_limits terms (limited_line terms sum), h))
+  line_pair (terms, sum, h) = flow_pair (terms, flow_in_limits terms (limited_line terms sum), h)
 
   pub balance_pair : IsRefusedIn (balance_terms m (empty m)) bound p → IsFarkasPair m d bound p
-  balance_pair h = of_empty (flow_pair (_, flow_in_balance _ balance_of_all, h))
+  balance_pair h = flow_pair (_, flow_in_balance _ balance_of_all, h)

@@ -1,4 +1,4 @@
--- The operations that may be refused in each sum, and what stops one.
+-- The operations that may be refused in each sum.
 use Rattle.std.specs.Prelude.{◌⊎◌, ℕ, ◌<◌, length, Contains}
 use Rattle.fraction_theory.specs.Fraction.{Fraction, neg_ℚ, ◌+ℚ◌, ◌-ℚ◌, ◌*ℚ◌}
 use Rattle.exact_fraction.specs.declared.Op.TheVariants.{Plus, Minus}
@@ -11,15 +11,7 @@ use Rattle.market_model.specs.LimitRows.{flow, most_flow, line_flow}
 use Rattle.market_model.specs.NamedSums.{IsRefusal, IsShareRefusal}
 use Rattle.market_model.specs.Optimality.{up_of, down_of, named_rows}
 use Rattle.market_model.specs.SumTables.{IsRefusedAmong, RowFlowSum, BusPriceSum}
-use Rattle.market_model.specs.Valued.{passed_at}
-use Rattle.cert_sums.specs.declared.stops.VerifyStop.{VerifyStop}
-use Rattle.cert_sums.specs.declared.stops.VerifyStop.TheVariants as why
 use Rattle.cert_sums.specs.Named.{PricedRow}
-
--- where an operation was refused, this holds of it; nothing is said where memory was
-abbrev pub OnPassed : {N : Type 0} → (N → Fraction) → (Passed Fraction → Type 0) → VerifyStop N → Type 0
-OnPassed value refused (why.Range p) = refused (passed_at value p)
-OnPassed value refused why.Memory = Unit {0}
 
 -- the two prices of a row that duals name
 abbrev pub IsPricesRefusal : Parts → Duals Fraction → ℕ → Passed Fraction → Type 0

@@ -8,17 +8,18 @@ ghost use Rattle.market_model.specs.Dispatch.{Dispatch, balance, empty};
 ghost use Rattle.market_model.specs.Infeasibility.{farkas_bound, limit_terms, nothing_terms, part_above};
 ghost use Rattle.market_model.specs.LimitRows.{IsCauseAmong, flow, limit};
 ghost use Rattle.market_model.specs.Optimality.{unit_price};
+ghost use Rattle.market_model.specs.Stops.{OnPassed};
 ghost use Rattle.market_model.specs.Valued.{passed_at};
 ghost use Rattle.market_model.specs.NamedSums.{IsShareRefusal};
 ghost use Rattle.limit_rows.specs.LineFlows.{AreFlows};
 ghost use Rattle.cert_sums.specs.Named.{AreNamed, priced_at, priced_by};
 ghost use Rattle.cert_sums.specs.Pairs.{IsFarkasPair};
-ghost use Rattle.cert_sums.specs.Refusals.{IsAboveRefusal, IsBelowRefusal, IsLimitRefusal, OnPassed};
+ghost use Rattle.cert_sums.specs.Refusals.{IsAboveRefusal, IsBelowRefusal, IsLimitRefusal};
 
-use crate::{NamedRow, VerifyStop, bus_price, injections, line_flows};
+use crate::{NamedRow, bus_price, injections, line_flows};
 use exact_fraction::{Exact, Passed, Sign};
 use limit_rows::{limit_at, row_flow};
-use market_model::{Market, balance, block_quantity, by_side, datum, zeros};
+use market_model::{Market, Stop, balance, block_quantity, by_side, datum, zeros};
 use std::alloc::Global;
 
 /// A sum with what the price of an upper limit makes of what a flow leaves of it. A price of 0 makes nothing.
@@ -138,10 +139,10 @@ pub fn farkas_bound<N: Exact>(
     market: &Market,
     energy: N,
     named: &[NamedRow<N>],
-) -> Result<N, VerifyStop<N>>
+) -> Result<N, Stop<N>>
     requires { (d : Duals Fraction) × AreNamed N.value market.now d named.now }
     ensures bound { (d : Duals Fraction) → N.value energy ≡ d.energy → AreNamed N.value market.now d named.now → IfOk result (λ bound. N.value bound ≡ farkas_bound market.now d) }
-    ensures cause { (d : Duals Fraction) → N.value energy ≡ d.energy → AreNamed N.value market.now d named.now → IfErr result (OnPassed N.value (IsFarkasPair market.now d N.bound)) }
+    ensures cause { (d : Duals Fraction) → N.value energy ≡ d.energy → AreNamed N.value market.now d named.now → IfErr result (λ stop. OnPassed stop (λ p. IsFarkasPair market.now d N.bound (passed_at N.value p))) }
 {
     let nothing = zeros(alloc, market.blocks().len())?;
     let by_bus = injections(alloc, market, &nothing)?;

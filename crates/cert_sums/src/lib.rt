@@ -6,10 +6,8 @@ mod bounding;
 mod flowing;
 mod pricing;
 mod putting;
-mod stops;
 
 pub use bounding::farkas_bound;
 pub use flowing::line_flows;
 pub use pricing::{NamedRow, bus_price};
 pub use putting::injections;
-pub use stops::VerifyStop;

@@ -6,7 +6,6 @@ use Rattle.std.proofs.lemmas.Bool.{true≢false}
 use Rattle.fraction_theory.specs.Fraction.{Fraction}
 use Rattle.exact_fraction.specs.declared.Passed.{Passed}
 use Rattle.market_model.specs.declared.answered.Dual.{Dual}
-use Rattle.market_model.specs.declared.answered.Duals.{Duals}
 use Rattle.market_model.specs.declared.participants.Parts.{Parts}
 use Rattle.market_model.specs.Dispatch.{Dispatch, balance, injection, zero}
 use Rattle.market_model.specs.declared.limits.Row.{Row}
@@ -18,15 +17,12 @@ use Rattle.market_model.specs.Market.{IsMarket}
 use Rattle.market_model.specs.NamedSums.{IsRefusedIn}
 use Rattle.limit_rows.proofs.ApartLemmas.{same_row}
 use Rattle.limit_rows.proofs.PlaceLemmas.{lost_inside, same_name}
-use Rattle.cert_sums.specs.Pairs.{IsOptimalPair, in_flow, in_price}
-use Rattle.market_model.specs.SumTables.{flow_in_balance, flow_in_limits}
 use Rattle.limit_rows.specs.LineFlows.{AreFlows}
 use Rattle.limit_rows.proofs.FlowSteps.{row_terms_are}
 use Rattle.market_model.specs.PutIn.{put_in}
 use Rattle.limit_rows.specs.Naming.{has_name}
 use Rattle.cert_verify.specs.declared.verdicts.Reason.TheVariants as reason
 use Rattle.cert_verify.specs.Reasons.{NoneOf, balance_reason, differ, has_no_row, has_slack, part_reasons, prices_slack}
-use Rattle.cert_verify.specs.Stops.{IsOptimalStop, at_balance, at_limits, at_support}
 use Rattle.cert_verify.proofs.TestLemmas.{any_of, any_none, none_first, none_join, not_both, not_true, so_none}
 use Rattle.cert_verify.proofs.VerdictLemmas.{named}
 
@@ -86,10 +82,3 @@ pub before_flows : (m : Parts) (x : Dispatch) (ds : List (Dual Fraction)) (all n
 before_flows m x ds all nothing is none same before =
     let balanced : balance_reason m x ≡ None = so_none (differ (balance m x) zero) reason.Balance (sym (ap₂ (λ (a b : Fraction). differ a b) is none) ∙ same) in
     none_join (part_reasons m x ds) (balance_reason m x ∷ []) before (none_first (balance_reason m x ∷ []) (balanced, tt))
-
--- each is of a certificate's pairs
-module _ (m : Parts) (x : Dispatch) (d : Duals Fraction) (bound : ℕ) (p : Passed Fraction) where
-  pub optimal_pair : IsOptimalStop m x d bound p → IsOptimalPair m x d bound p
-  optimal_pair (at_balance (terms, sum, h) none) = in_flow (terms, flow_in_balance terms sum, h)
-  optimal_pair (at_limits (terms, sum, h) none) = in_flow (terms, flow_in_limits terms sum, h)
-  optimal_pair (at_support h none) = in_price h

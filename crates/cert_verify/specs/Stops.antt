@@ -5,13 +5,15 @@ use Rattle.fraction_theory.specs.Fraction.{Fraction}
 use Rattle.exact_fraction.specs.declared.Passed.{Passed}
 use Rattle.market_model.specs.declared.answered.Duals.{Duals}
 use Rattle.market_model.specs.declared.participants.Parts.{Parts}
+use Rattle.market_model.specs.declared.stops.Stop.{Stop}
 use Rattle.market_model.specs.Dispatch.{Dispatch, dispatch_by}
+use Rattle.market_model.specs.Stops.{OnPassed}
 use Rattle.market_model.specs.SumTables.{IsRefusedAmong, BalanceSum, LimitFlowSum}
+use Rattle.market_model.specs.Valued.{passed_at}
 use Rattle.cert_format.specs.declared.certificate.Cert.{Cert}
 use Rattle.cert_format.specs.declared.certificate.Cert.TheVariants.{Optimal, Farkas}
-use Rattle.cert_sums.specs.declared.stops.VerifyStop.{VerifyStop}
 use Rattle.cert_sums.specs.Pairs.{IsFarkasPair}
-use Rattle.cert_sums.specs.Refusals.{IsBusPriceRefusal, OnPassed}
+use Rattle.cert_sums.specs.Refusals.{IsBusPriceRefusal}
 use Rattle.cert_verify.specs.Certificates.{named_duals}
 use Rattle.cert_verify.specs.Reasons.{NoneOf, balance_reason, dual_reasons, flow_reasons, part_reasons}
 
@@ -33,5 +35,5 @@ IsCertificateStop m bound (Optimal blocks energy limits) = IsOptimalStop m (disp
 IsCertificateStop m bound (Farkas energy limits) = IsFarkasStop m (named_duals energy limits) bound
 
 -- that, or memory was refused
-abbrev pub IsVerifyStop : {N : Type 0} → (N → Fraction) → Parts → ℕ → Cert Fraction → VerifyStop N → Type 0
-IsVerifyStop value m bound c = OnPassed value (IsCertificateStop m bound c)
+abbrev pub IsVerifyStop : {N : Type 0} → (N → Fraction) → Parts → ℕ → Cert Fraction → Stop N → Type 0
+IsVerifyStop value m bound c stop = OnPassed stop (λ p. IsCertificateStop m bound c (passed_at value p))

@@ -12,6 +12,8 @@ mod naming;
 mod verdicts;
 mod verifying;
 
-pub use cert_sums::VerifyStop;
 pub use verdicts::{Reason, Verdict};
 pub use verifying::verify;
+
+/// Why a certificate could not be verified.
+pub type VerifyStop<N> = market_model::Stop<N>;

@@ -4,12 +4,9 @@ use Rattle.fraction_theory.specs.Fraction.{Fraction}
 use Rattle.exact_fraction.specs.declared.Passed.{Passed}
 use Rattle.market_model.specs.declared.participants.Parts.{Parts}
 use Rattle.market_model.specs.Market.{IsMarket}
-use Rattle.market_model.specs.Dispatch.{dispatch_by}
 use Rattle.report_text.specs.Reports.{range_text}
 use Rattle.cert_format.specs.declared.certificate.Cert.{Cert}
-use Rattle.cert_format.specs.declared.certificate.Cert.TheVariants.{Optimal, Farkas}
-use Rattle.cert_sums.specs.Pairs.{IsFarkasPair, IsOptimalPair}
-use Rattle.cert_verify.specs.Certificates.{named_duals, first_reason}
+use Rattle.cert_verify.specs.Certificates.{first_reason}
 use Rattle.cert_verify.specs.Stops.{IsCertificateStop}
 use Rattle.cert_verify.specs.declared.verdicts.Reason.{Reason}
 use Rattle.command_answers.specs.declared.status.Status.{Status}
@@ -23,11 +20,6 @@ use Rattle.command_answers.specs.Verdicts.{verdict_line}
 abbrev pub verdict_status : Option Reason → Status
 verdict_status None = status.Done
 verdict_status (Some r) = status.Refuted
-
--- an operation in the sums of the certificate's own dispatch and duals that passes the bound
-abbrev pub IsCertificatePair : Parts → ℕ → Cert Fraction → Passed Fraction → Type 0
-IsCertificatePair m bound (Optimal blocks energy limits) p = IsOptimalPair m (dispatch_by blocks) (named_duals energy limits) bound p
-IsCertificatePair m bound (Farkas energy limits) p = IsFarkasPair m (named_duals energy limits) bound p
 
 -- What is told is whether the certificate holds of the market, with the first reason where it does not; or two numbers of the
 -- certificate's own sums, each within the bound, whose outcome passes it, where none of the reasons before such a sum holds.

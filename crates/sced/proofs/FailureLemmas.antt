@@ -23,7 +23,7 @@ use Rattle.sced.specs.Headline.{LawOfAnswered, LawOfCauses, LawOfCutShort, LawOf
 use Rattle.sced.specs.Runs.{Ends, IsTold, Outside}
 use Rattle.sced.specs.Runs as ending
 use Rattle.sced.specs.Told.{Answers, AnswersTo, checked, cleared, made, pooled, refused, replayed, verified}
-use Rattle.sced.proofs.DecidedLemmas.{no-other, not-refused}
+use Rattle.sced.proofs.AskedLemmas.{no-other, not-refused}
 
 pub silent-or : (s : Status) → IsSilent s ⊎ ¬ (IsSilent s)
 silent-or s = by s

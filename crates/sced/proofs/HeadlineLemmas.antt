@@ -58,7 +58,7 @@ use Rattle.command_answers.specs.Verdicts.{verdict_line}
 use Rattle.command_answers.specs.Verifying.{TellsVerdict, VerifiesTo, judged, passed, verdict_status}
 use Rattle.command_answers.specs.declared.status.Status.{Status}
 use Rattle.command_answers.specs.declared.status.Status.TheVariants as status
-use Rattle.sced.specs.Decided.{AsksSteps, AsksVerdict, as_clear, as_pool}
+use Rattle.sced.specs.Asked.{AsksSteps, AsksVerdict, as_clear, as_pool}
 use Rattle.sced.specs.Headline.{HasCertificate, IsAsked, HasGreatestWelfare, IsFirstFault, IsMade, IsPriced, IsReplayed, IsReported, IsVerdict, LawOfAsked, LawOfCertificate, LawOfCheck, LawOfCleared, LawOfComplete, LawOfFaults, LawOfInfeasible, LawOfLastCertificate, LawOfMake, LawOfOutside, LawOfRange, LawOfReplay, LawOfRoundTrip, LawOfVerify, RefusesEdit, cleared_ring, for_check, for_clear, for_nothing, for_ring, for_steps, for_verdict, no, passes, range_ring, to_check, to_clear, to_replay, to_verify, with_fault, yes}
 use Rattle.sced.specs.Runs.{Keeps, Outside}
 use Rattle.sced.specs.Runs as ending
@@ -66,7 +66,7 @@ use Rattle.sced.specs.Told.{Answers, AnswersTo, checked, cleared, made, named_by
 use Rattle.command_files.specs.Standing.{AreCheckFiles, AreClearFiles, ArePoolFiles, AreReplayFiles, AreVerifyFiles}
 use Rattle.command_answers.specs.Laws.{Certifies, CertifiesLast, IsYesOrRange}
 use Rattle.command_answers.proofs.RoundTripLemmas.{law_of_the_replay, law_of_the_round_trip, law_of_yes}
-use Rattle.sced.proofs.DecidedLemmas.{check-told, clear-told, make-told, no-other, not-refused, replay-told, verify-told}
+use Rattle.sced.proofs.AskedLemmas.{check-told, clear-told, make-told, no-other, not-refused, replay-told, verify-told}
 use Rattle.sced.proofs.FailureLemmas.{silent-or}
 use Rattle.sced.proofs.RunLemmas.{IsPrinted, cleared-at, edit-at, printed, refused-at, refused-status, reported}
 

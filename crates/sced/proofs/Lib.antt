@@ -1,5 +1,5 @@
 pub mod AnswerLemmas
-pub mod DecidedLemmas
+pub mod AskedLemmas
 pub mod EndLemmas
 mod FailureLemmas
 mod HeadlineLemmas

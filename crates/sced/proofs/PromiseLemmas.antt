@@ -3,15 +3,13 @@ use Rattle.std.specs.Prelude.{◌≡◌, ◌⊎◌, ℕ, List}
 use Rattle.std.proofs.Common.{inl, inr, sym, subst, ◌∙◌}
 use Rattle.outside_store.specs.Causes.{Rose, Still}
 use Rattle.outside_store.specs.Files.{SameFiles}
-use Rattle.command_words.specs.Words.{AsksNothing, NamesToWrite}
+use Rattle.command_words.specs.Words.{NamesToWrite}
 use Rattle.command_answers.specs.Tellings.{Telling}
 use Rattle.command_answers.specs.declared.status.Status.{Status}
 use Rattle.command_answers.specs.declared.status.Status.TheVariants as status
-use Rattle.sced.specs.Decided.{IsDecidedOf, IsMadeOf}
 use Rattle.sced.specs.Promise.{Runs}
 use Rattle.sced.specs.Runs.{Ends, IsTold, Outside, TellsUsage}
 use Rattle.sced.specs.Told.{AnswersTo}
-use Rattle.sced.proofs.DecidedLemmas.{answers-decided, answers-made}
 use Rattle.sced.proofs.EndLemmas.{ends-from}
 
 module _ (words : List (List ℕ)) (before between after : Outside) (t : Telling) (w : List (List ℕ × List ℕ)) (s : Status) where
@@ -30,10 +28,6 @@ module _ (words : List (List ℕ)) (before between after : Outside) (t : Telling
   no-memory : IsTold t.status → IsEnd → ¬ (s ≡ status.Memory)
   no-memory told (inl same) is = subst IsTold (sym same ∙ is) told
   no-memory told (inr failed) is = let wrong : status.WriteFailed ≡ status.Memory = sym failed ∙ is in cc wrong
-
-  told-end : (P : Status → Type 0) → P t.status → IsEnd → IsTold s → P s
-  told-end P right (inl same) told = subst P (sym same) right
-  told-end P right (inr failed) told = absurd (subst IsTold failed told)
 
   -- what was only read has its files and its counts
   pub runs-told : TellsUsage words t.status → IsTold t.status → AnswersTo before.files words t w
@@ -59,6 +53,4 @@ module _ (words : List (List ℕ)) (before between after : Outside) (t : Telling
       | inr is ↦ absurd (no-memory told end is)
     ];
     told = λ _. record { telling = t; written = w; right = right; ends = ends-from t w before.files between.files after.files before.taken after.taken s same ends };
-    decided = told-end (IsDecidedOf before.files words) (answers-decided before.files words t w right) end;
-    made = told-end (IsMadeOf words) (answers-made before.files words t w right) end;
   }

@@ -32,12 +32,12 @@ use Rattle.command_answers.specs.Replaying.{AreStepSidesWithin, TellsReplay, is_
 use Rattle.command_answers.specs.Tellings.{Telling}
 use Rattle.command_answers.specs.declared.status.Status.{Status}
 use Rattle.command_answers.specs.declared.status.Status.TheVariants as status
-use Rattle.sced.specs.Decided.{AsksMarket, AsksSteps}
+use Rattle.sced.specs.Asked.{AsksMarket, AsksSteps}
 use Rattle.sced.specs.Headline.{BeginsWith, Prints, Reports, in_clear, in_replay, of_clear, of_step, outcome_of_edit}
 use Rattle.sced.specs.Runs.{Ends, IsTold, Keeps, told, unwritten}
 use Rattle.command_files.specs.OnlyReads.{IsSilent}
 use Rattle.sced.specs.Told.{Answers, AnswersTo}
-use Rattle.sced.proofs.DecidedLemmas.{clear-told, replay-told}
+use Rattle.sced.proofs.AskedLemmas.{clear-told, replay-told}
 
 -- ---- the telling that was put
 pub not-silent : (s : Status) → IsTold s → ¬ (IsSilent s)

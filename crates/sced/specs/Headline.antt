@@ -56,7 +56,7 @@ use Rattle.cert_verify.specs.Stops.{IsCertificateStop}
 use Rattle.command_answers.specs.Verdicts.{verdict_line}
 use Rattle.command_answers.specs.declared.status.Status.{Status}
 use Rattle.command_answers.specs.declared.status.Status.TheVariants as status
-use Rattle.sced.specs.Decided.{AsksMarket, AsksSteps, AsksVerdict, AsksToCheck, AsksToClear, AsksToReplay, AsksToVerify}
+use Rattle.sced.specs.Asked.{AsksMarket, AsksSteps, AsksVerdict, AsksToCheck, AsksToClear, AsksToReplay, AsksToVerify}
 use Rattle.sced.specs.Promise.{Runs}
 use Rattle.command_files.specs.OnlyReads.{IsSilent}
 use Rattle.sced.specs.Runs.{CountsReads, CountsWrites, IsTold, LeavesAll, Outside}

@@ -1,4 +1,4 @@
-pub mod Decided
+pub mod Asked
 pub mod Headline
 pub mod Promise
 pub mod Runs

@@ -2,8 +2,7 @@
 use Rattle.std.specs.Prelude.{◌≡◌, ℕ, List}
 use Rattle.outside_store.specs.Causes.{Still}
 use Rattle.command_answers.specs.declared.status.Status.{Status}
-use Rattle.sced.specs.Decided.{IsDecidedOf, IsMadeOf}
-use Rattle.sced.specs.Runs.{CountsReads, CountsWrites, IsTold, LeavesAll, Outside, TellsUsage}
+use Rattle.sced.specs.Runs.{CountsReads, CountsWrites, LeavesAll, Outside, TellsUsage}
 use Rattle.command_files.specs.OnlyReads.{IsSilent}
 use Rattle.sced.specs.Told.{Answers}
 
@@ -22,7 +21,3 @@ pub record Runs (words : List (List ℕ)) (before after : Outside) (s : Status) 
   -- Else a certificate is written where the words name a file for it, and one text is put, once. They and the status are right for the whole
   -- bytes of the files that the words name, where the store tells its files.
   pub told : ¬ (IsSilent s) → Answers words before after s
-  -- Where no two numbers of a market pass 127 bits together, a status that comes with a text tells whether a dispatch is feasible, or whether
-  -- a certificate holds, and is not that of too large numbers in a replay; a ring is then cleared.
-  pub decided : IsTold s → IsDecidedOf before.files words s
-  pub made : IsTold s → IsMadeOf words s

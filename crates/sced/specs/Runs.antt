@@ -22,7 +22,13 @@ pub record Outside : Type 0 where
 
 -- what this store and this sink are to a run
 abbrev pub outside_of : {S K : Type 0} → Store.Ghosts S → Sink.Ghosts K → S → K → Outside
-outside_of store sink s k = record { files = store.files s; failed_reads = store.failed_reads s; failed_writes = store.failed_writes s; taken = sink.taken k; failed_puts = sink.faults k }
+outside_of store sink s k = record {
+  files = store.files s;
+  failed_reads = store.failed_reads s;
+  failed_writes = store.failed_writes s;
+  taken = sink.taken k;
+  failed_puts = sink.faults k;
+}
 
 -- a status that comes with a text, where that can be put
 abbrev pub IsTold : Status → Type 0
@@ -58,9 +64,10 @@ Keeps failed ((name, bytes) ∷ rest) before now =
 
 -- How a run ends that has something to tell: the files that there are to write are written, and the text is put, and the status is that
 -- which goes with it, or that of a failed put. Or a write failed, and nothing is put.
-pub data Ends (t : Telling) (written : List (List ℕ × List ℕ)) (before now : Option Files) (taken_before taken_now : Option (List ℕ)) (s : Status) : Type 0 where
-  told : Keeps ⊥ written before now → Took (s ≡ status.WriteFailed) t.text taken_before taken_now → (s ≡ t.status) ⊎ (s ≡ status.WriteFailed) → Ends t written before now taken_before taken_now s
-  unwritten : Keeps (Unit {0}) written before now → taken_now ≡ taken_before → s ≡ status.WriteFailed → Ends t written before now taken_before taken_now s
+pub data Ends (t : Telling) (written : List (List ℕ × List ℕ)) (before now : Option Files) (had has : Option (List ℕ)) (s : Status) : Type 0 where
+  told : Keeps ⊥ written before now → Took (s ≡ status.WriteFailed) t.text had has → (s ≡ t.status) ⊎ (s ≡ status.WriteFailed)
+      → Ends t written before now had has s
+  unwritten : Keeps (Unit {0}) written before now → has ≡ had → s ≡ status.WriteFailed → Ends t written before now had has s
 
 -- a failed write of a file that was asked for is counted
 abbrev pub FailedFor : {S : Type 0} → Ghosts S → S → S → (List ℕ → Type 0) → Type 0

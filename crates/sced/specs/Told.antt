@@ -44,8 +44,8 @@ pub data AnswersTo (files : Option Files) (words : List (List ℕ)) (t : Telling
   pooled : (case offers : List ℕ) → AsksPool words case offers → OfFiles files (λ f. ArePoolFiles f case offers) TellsClear t → AnswersTo files words t []
   cleared : (names : MarketNames) (file : Option (List ℕ)) → AsksClear words names file → OfFiles files (λ f. AreClearFiles f names) TellsClear t
       → AnswersTo files words t (named_outputs (certified file) t.outputs)
-  replayed : (names : MarketNames) (edits : List ℕ) (file : Option (List ℕ)) → AsksReplay words names edits file → OfFiles files (λ f. AreReplayFiles f names edits) TellsReplay t
-      → AnswersTo files words t (named_outputs (certified file) t.outputs)
+  replayed : (names : MarketNames) (edits : List ℕ) (file : Option (List ℕ)) → AsksReplay words names edits file
+      → OfFiles files (λ f. AreReplayFiles f names edits) TellsReplay t → AnswersTo files words t (named_outputs (certified file) t.outputs)
   verified : (names : MarketNames) (edits : Option (List ℕ)) (certificate : List ℕ) → AsksVerify words names edits certificate
       → OfFiles files (λ f. AreVerifyFiles f names edits certificate) TellsVerdict t → AnswersTo files words t []
   checked : (names : CheckNames) → AsksCheck words names → OfFiles files (λ f. AreCheckFiles f names) TellsCheck t → AnswersTo files words t []

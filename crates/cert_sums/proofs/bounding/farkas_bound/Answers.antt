@@ -1,14 +1,13 @@
 use Rattle.std.proofs.Common.{rules, Err, refl, ◌≡◌, ◌∙◌, ap, ap₂, subst, length, map}
 use Rattle.fraction_theory.specs.Fraction.{◌*ℚ◌}
 use Rattle.exact_fraction.specs.declared.Op.TheVariants.{Times}
-use Rattle.market_model.specs.Dispatch.{Dispatch, empty, injection}
+use Rattle.market_model.specs.Dispatch.{Dispatch, empty}
 use Rattle.market_model.specs.Valued.{passed_at}
+use Rattle.market_model.proofs.StopLemmas.{on_passed_weaker}
 use Rattle.market_model.proofs.SumSteps.{refusal}
-use Rattle.cert_sums.specs.declared.stops.VerifyStop.TheVariants as why
-use Rattle.cert_sums.specs.Pairs.{IsFarkasPair}
+use Rattle.market_model.specs.declared.stops.Stop.TheVariants as why
 use Rattle.market_model.specs.PutIn.{dispatch_of, AreInjections}
-use Rattle.market_model.specs.SumTables.{IsRefusedAmong, InjectionSum, LineFlowSum}
-use Rattle.cert_sums.proofs.BoundLemmas.{nothing_is, stopped_weaker, injection_pair, line_pair, balance_pair, energy_refused}
+use Rattle.cert_sums.proofs.BoundLemmas.{nothing_is, injection_pair, line_pair, balance_pair, energy_refused}
 use Rattle.cert_sums.proofs.bounding.farkas_bound.Goals as goal
 
 pub returns-in_err-by_bus-clause-cause : goal.returns-in_err-by_bus-clause-cause
@@ -18,8 +17,8 @@ returns-in_err-by_bus-clause-cause g c =
     let is = nothing_is value m c.deref.result.now c.in_ok-nothing.nothing.items _ c.deref.ensures.value c.in_ok-nothing.ensures.zeros (c.len.ensures ∙ ap length c.blocks-2.ensures.list) in
     let given : c.from_residual-in_err-by_bus.result ≡ Err c.in_err-by_bus.field-0.0 = search rules in
     λ d energy are. rw given
-    (stopped_weaker value (IsRefusedAmong (InjectionSum m (dispatch_of value c.deref.result.now)) g.N.Exact.bound) (IsFarkasPair m d g.N.Exact.bound) c.in_err-by_bus.field-0.0
-    (λ p. injection_pair m d g.N.Exact.bound p (dispatch_of value c.deref.result.now) is) c.in_err-by_bus.ensures.cause)
+    (on_passed_weaker c.in_err-by_bus.field-0.0 _ _
+    (λ p. injection_pair m d g.N.Exact.bound (passed_at value p) (dispatch_of value c.deref.result.now) is) c.in_err-by_bus.ensures.cause)
 
 pub returns-in_err-by_line-clause-cause : goal.returns-in_err-by_line-clause-cause
 returns-in_err-by_line-clause-cause g c =
@@ -29,8 +28,8 @@ returns-in_err-by_line-clause-cause g c =
     let puts = subst (λ (x : Dispatch). AreInjections m x (map value c.deref-2.result.now)) is (ap (map value) c.deref-2.ensures.value ∙ c.in_ok-by_bus.ensures.injections) in
     let given : c.from_residual-in_err-by_line.result ≡ Err c.in_err-by_line.field-0.0 = search rules in
     λ d energy are. rw given
-    (stopped_weaker value (IsRefusedAmong (LineFlowSum m (injection m (empty m))) g.N.Exact.bound) (IsFarkasPair m d g.N.Exact.bound) c.in_err-by_line.field-0.0
-    (λ p. line_pair m d g.N.Exact.bound p) (c.in_err-by_line.ensures.cause (empty m) puts))
+    (on_passed_weaker c.in_err-by_line.field-0.0 _ _
+    (λ p. line_pair m d g.N.Exact.bound (passed_at value p)) (c.in_err-by_line.ensures.cause (empty m) puts))
 
 pub returns-in_err-all-clause-cause : goal.returns-in_err-all-clause-cause
 returns-in_err-all-clause-cause g c =
@@ -38,7 +37,7 @@ returns-in_err-all-clause-cause g c =
     let value = g.N.Exact.value in
     let is = nothing_is value m c.deref.result.now c.in_ok-nothing.nothing.items _ c.deref.ensures.value c.in_ok-nothing.ensures.zeros (c.len.ensures ∙ ap length c.blocks-2.ensures.list) in
     let puts = subst (λ (x : Dispatch). AreInjections m x (map value c.deref-3.result.now)) is (ap (map value) c.deref-3.ensures.value ∙ c.in_ok-by_bus.ensures.injections) in
-    let given : c.from_residual-in_err-all.result ≡ Err (why.Range c.in_err-all.field-0.0) = search rules in
+    let given : c.from_residual-in_err-all.result ≡ Err (why.Passed c.in_err-all.field-0.0) = search rules in
     λ d energy are. rw given (balance_pair m d g.N.Exact.bound (passed_at value c.in_err-all.field-0.0) (c.in_err-all.ensures.cause (empty m) puts))
 
 pub returns-in_err-of_energy-clause-cause : goal.returns-in_err-of_energy-clause-cause
@@ -47,7 +46,7 @@ returns-in_err-of_energy-clause-cause g c =
     let value = g.N.Exact.value in
     let is = nothing_is value m c.deref.result.now c.in_ok-nothing.nothing.items _ c.deref.ensures.value c.in_ok-nothing.ensures.zeros (c.len.ensures ∙ ap length c.blocks-2.ensures.list) in
     let puts = subst (λ (x : Dispatch). AreInjections m x (map value c.deref-3.result.now)) is (ap (map value) c.deref-3.ensures.value ∙ c.in_ok-by_bus.ensures.injections) in
-    let given : c.from_residual-in_err-of_energy.result ≡ Err (why.Range c.in_err-of_energy.field-0.0) = search rules in
+    let given : c.from_residual-in_err-of_energy.result ≡ Err (why.Passed c.in_err-of_energy.field-0.0) = search rules in
     λ d energy are. rw given
     (energy_refused m d (value c.in_ok-all.all) g.N.Exact.bound (passed_at value c.in_err-of_energy.field-0.0) (c.in_ok-all.ensures.sum (empty m) puts)
     (refusal value g.N.Exact.bound Times c.args.energy c.in_ok-all.all d.energy _ c.in_err-of_energy.field-0.0 energy refl c.in_err-of_energy.ensures))
@@ -60,7 +59,7 @@ returns-in_err-of_limits-clause-cause g c =
     let puts = subst (λ (x : Dispatch). AreInjections m x (map value c.deref-2.result.now)) is (ap (map value) c.deref-2.ensures.value ∙ c.in_ok-by_bus.ensures.injections) in
     let puts-2 = subst (λ (x : Dispatch). AreInjections m x (map value c.deref-3.result.now)) is (ap (map value) c.deref-3.ensures.value ∙ c.in_ok-by_bus.ensures.injections) in
     let flows = ap (map value) c.deref-4.ensures.value ∙ c.in_ok-by_line.ensures.flows (empty m) puts in
-    let given : c.from_residual-in_err-of_limits.result ≡ Err (why.Range c.in_err-of_limits.field-0.0) = search rules in
+    let given : c.from_residual-in_err-of_limits.result ≡ Err (why.Passed c.in_err-of_limits.field-0.0) = search rules in
     λ d energy are. rw given (c.in_err-of_limits.ensures.cause d are flows (c.in_ok-of_energy.ensures.exact ∙ ap₂ ◌*ℚ◌ energy (c.in_ok-all.ensures.sum (empty m) puts-2)))
 
 pub returns-in_err-with_blocks-clause-cause : goal.returns-in_err-with_blocks-clause-cause
@@ -71,7 +70,7 @@ returns-in_err-with_blocks-clause-cause g c =
     let puts = subst (λ (x : Dispatch). AreInjections m x (map value c.deref-2.result.now)) is (ap (map value) c.deref-2.ensures.value ∙ c.in_ok-by_bus.ensures.injections) in
     let puts-2 = subst (λ (x : Dispatch). AreInjections m x (map value c.deref-3.result.now)) is (ap (map value) c.deref-3.ensures.value ∙ c.in_ok-by_bus.ensures.injections) in
     let flows = ap (map value) c.deref-4.ensures.value ∙ c.in_ok-by_line.ensures.flows (empty m) puts in
-    let given : c.from_residual-in_err-with_blocks.result ≡ Err (why.Range c.in_err-with_blocks.field-0.0) = search rules in
+    let given : c.from_residual-in_err-with_blocks.result ≡ Err (why.Passed c.in_err-with_blocks.field-0.0) = search rules in
     λ d energy are. rw given
     (c.in_err-with_blocks.ensures.cause d energy are
     (c.in_ok-of_limits.ensures.sum d are flows (c.in_ok-of_energy.ensures.exact ∙ ap₂ ◌*ℚ◌ energy (c.in_ok-all.ensures.sum (empty m) puts-2))))

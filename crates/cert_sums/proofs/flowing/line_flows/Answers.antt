@@ -3,7 +3,7 @@ use Rattle.std.proofs.lemmas.List.{take_at}
 use Rattle.market_model.specs.Valued.{passed_at}
 use Rattle.limit_rows.specs.LineFlows.{AreFlows}
 use Rattle.limit_rows.proofs.FlowSteps.{lines_put, line_refusal}
-use Rattle.cert_sums.specs.declared.stops.VerifyStop.TheVariants as why
+use Rattle.market_model.specs.declared.stops.Stop.TheVariants as why
 use Rattle.cert_sums.proofs.flowing.line_flows.Goals as goal
 
 pub returns-clause-flows : goal.returns-clause-flows
@@ -18,6 +18,6 @@ returns-clause-flows g c =
 pub returns-in_err-put_line_flows-clause-cause : goal.returns-in_err-put_line_flows-clause-cause
 returns-in_err-put_line_flows-clause-cause g c =
     let value = g.N.Exact.value in
-    let given : c.from_residual-in_err-put_line_flows.result ≡ Err (why.Range c.in_err-put_line_flows.field-0.0) = search rules in
+    let given : c.from_residual-in_err-put_line_flows.result ≡ Err (why.Passed c.in_err-put_line_flows.field-0.0) = search rules in
     λ x puts. rw given
     (line_refusal c.args.market.now x (map value c.args.injections.now) puts g.N.Exact.bound (passed_at value c.in_err-put_line_flows.field-0.0) c.in_err-put_line_flows.ensures.cause)

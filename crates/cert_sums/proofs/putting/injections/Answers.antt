@@ -1,8 +1,8 @@
 use Rattle.std.proofs.Common.{rules, Err, ◌≡◌}
-use Rattle.cert_sums.specs.declared.stops.VerifyStop.TheVariants as why
+use Rattle.market_model.specs.declared.stops.Stop.TheVariants as why
 use Rattle.cert_sums.proofs.putting.injections.Goals as goal
 
 pub returns-in_err-injections-clause-cause : goal.returns-in_err-injections-clause-cause
 returns-in_err-injections-clause-cause g c =
-    let given : c.from_residual-in_err-injections.result ≡ Err (why.Range c.in_err-injections.field-0.0) = search rules in
+    let given : c.from_residual-in_err-injections.result ≡ Err (why.Passed c.in_err-injections.field-0.0) = search rules in
     rw given c.in_err-injections.ensures.cause

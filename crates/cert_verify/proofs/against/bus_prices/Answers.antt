@@ -2,7 +2,7 @@ use Rattle.std.proofs.Common.{rules, Err, ◌≡◌, ◌<◌, ◌∙◌, List, a
 use Rattle.market_model.specs.Optimality.{bus_price}
 use Rattle.market_model.specs.Valued.{dual_at}
 use Rattle.cert_sums.specs.declared.pricing.NamedRow.{NamedRow}
-use Rattle.cert_sums.specs.declared.stops.VerifyStop.TheVariants as why
+use Rattle.market_model.specs.declared.stops.Stop.TheVariants as why
 use Rattle.cert_sums.specs.Named.{AreNamed}
 use Rattle.cert_verify.specs.Certificates.{named_duals}
 use Rattle.cert_verify.proofs.NamingLemmas.{price_more, pushed}
@@ -18,7 +18,7 @@ returns-in_err-price-clause-cause g c =
     let d = (named_duals (g.N.Exact.value c.args.energy) (map (dual_at g.N.Exact.value) c.args.limits.now)) in
     let are = subst (λ (xs : List (NamedRow g.row.N.Denot)). AreNamed g.N.Exact.value c.args.market.now d xs) (sym c.slice.ensures) (c.in-Ok.ensures (g.N.Exact.value c.args.energy)) in
     let inside : c.loop-bus.bus < length c.args.market.now.buses = omega (arith, c.loop-bus-test.true, c.len-bus-end.ensures, ap length c.buses.ensures.list) in
-    let given : c.from_residual.result ≡ Err (why.Range c.in_err-price.field-0.0) = search rules in
+    let given : c.from_residual.result ≡ Err (why.Passed c.in_err-price.field-0.0) = search rules in
     rw given (c.loop-bus.bus, inside, c.in_err-price.ensures.cause d refl are)
 
 pub loop-bus-preserved : goal.loop-bus-preserved

@@ -1,31 +1,25 @@
 use Rattle.std.proofs.Common.{rules, Err, ◌≡◌, ◌∙◌, ap, map, sym}
-use Rattle.market_model.specs.Dispatch.{injection}
 use Rattle.market_model.specs.Valued.{dual_at}
 use Rattle.market_model.specs.PutIn.{dispatch_of}
-use Rattle.market_model.specs.SumTables.{IsRefusedAmong, InjectionSum, balance_from_bus, balance_of_all, LineFlowSum, limited_line}
-use Rattle.cert_sums.specs.declared.stops.VerifyStop.TheVariants as why
-use Rattle.cert_sums.proofs.BoundLemmas.{stopped_weaker}
-use Rattle.cert_verify.specs.Certificates.{named_duals}
-use Rattle.cert_verify.specs.Stops.{IsOptimalStop, at_balance, at_limits}
+use Rattle.market_model.specs.SumTables.{balance_from_bus, balance_of_all, limited_line}
+use Rattle.market_model.proofs.StopLemmas.{on_passed_weaker}
+use Rattle.market_model.specs.declared.stops.Stop.TheVariants as why
+use Rattle.cert_verify.specs.Stops.{at_balance, at_limits}
 use Rattle.cert_verify.proofs.RowLemmas.{before_flows}
 use Rattle.cert_verify.proofs.against.wrong_flow.Goals as goal
 
 pub returns-in_err-by_bus-clause-cause : goal.returns-in_err-by_bus-clause-cause
 returns-in_err-by_bus-clause-cause g c =
-    let m = c.args.market.now in
-    let value = g.N.Exact.value in
-    let x = dispatch_of value c.args.blocks.now in
-    let ds = map (dual_at value) c.args.limits.now in
     let given : c.from_residual.result ≡ Err c.in_err-by_bus.field-0.0 = search rules in
     λ energy none. rw given
-    (stopped_weaker value (IsRefusedAmong (InjectionSum m x) g.N.Exact.bound) (IsOptimalStop m x (named_duals energy ds) g.N.Exact.bound) c.in_err-by_bus.field-0.0 (λ p h. at_balance (h.0, balance_from_bus h.0 h.1, h.2) none) c.in_err-by_bus.ensures.cause)
+    (on_passed_weaker c.in_err-by_bus.field-0.0 _ _ (λ p h. at_balance (h.0, balance_from_bus h.0 h.1, h.2) none) c.in_err-by_bus.ensures.cause)
 
 pub returns-in_err-balance-clause-cause : goal.returns-in_err-balance-clause-cause
 returns-in_err-balance-clause-cause g c =
     let value = g.N.Exact.value in
     let x = dispatch_of value c.args.blocks.now in
     let puts = ap (map value) c.deref.ensures.value ∙ c.in_ok-by_bus.ensures.injections in
-    let given : c.from_residual-in_err-balance.result ≡ Err (why.Range c.in_err-balance.field-0.0) = search rules in
+    let given : c.from_residual-in_err-balance.result ≡ Err (why.Passed c.in_err-balance.field-0.0) = search rules in
     λ energy none. rw given (at_balance (_, balance_of_all, c.in_err-balance.ensures.cause x puts) none)
 
 pub returns-in_err-by_line-clause-cause : goal.returns-in_err-by_line-clause-cause
@@ -40,7 +34,7 @@ returns-in_err-by_line-clause-cause g c =
     λ energy none.
     let before = before_flows m x ds (value c.in_ok-balance.field-0) (value c.datum.result) (c.in_ok-balance.ensures.sum x puts) c.datum.ensures (sym c.differ.ensures ∙ c.if-differ.false) none in
     rw given
-    (stopped_weaker value (IsRefusedAmong (LineFlowSum m (injection m x)) g.N.Exact.bound) (IsOptimalStop m x (named_duals energy ds) g.N.Exact.bound) c.in_err-by_line.field-0.0 (λ p h. at_limits (h.0, limited_line h.0 h.1, h.2) before) (c.in_err-by_line.ensures.cause x puts_then))
+    (on_passed_weaker c.in_err-by_line.field-0.0 _ _ (λ p h. at_limits (h.0, limited_line h.0 h.1, h.2) before) (c.in_err-by_line.ensures.cause x puts_then))
 
 pub returns-in_err-reason-clause-cause : goal.returns-in_err-reason-clause-cause
 returns-in_err-reason-clause-cause g c =
@@ -51,7 +45,7 @@ returns-in_err-reason-clause-cause g c =
     let puts = ap (map value) c.deref.ensures.value ∙ c.in_ok-by_bus.ensures.injections in
     let puts_then = ap (map value) c.deref-2.ensures.value ∙ c.in_ok-by_bus.ensures.injections in
     let flows = ap (map value) c.deref-3.ensures.value ∙ c.in_ok-by_line.ensures.flows x puts_then in
-    let given : c.from_residual-in_err-reason.result ≡ Err (why.Range c.in_err-reason.field-0.0) = search rules in
+    let given : c.from_residual-in_err-reason.result ≡ Err (why.Passed c.in_err-reason.field-0.0) = search rules in
     λ energy none.
     let before = before_flows m x ds (value c.in_ok-balance.field-0) (value c.datum.result) (c.in_ok-balance.ensures.sum x puts) c.datum.ensures (sym c.differ.ensures ∙ c.if-differ.false) none in
     rw given (at_limits (c.in_err-reason.ensures.cause x flows) before)
@@ -65,7 +59,7 @@ returns-in_err-slack_price-clause-cause g c =
     let puts = ap (map value) c.deref.ensures.value ∙ c.in_ok-by_bus.ensures.injections in
     let puts_then = ap (map value) c.deref-2.ensures.value ∙ c.in_ok-by_bus.ensures.injections in
     let flows = ap (map value) c.deref-4.ensures.value ∙ c.in_ok-by_line.ensures.flows x puts_then in
-    let given : c.from_residual-in_err-slack_price.result ≡ Err (why.Range c.in_err-slack_price.field-0.0) = search rules in
+    let given : c.from_residual-in_err-slack_price.result ≡ Err (why.Passed c.in_err-slack_price.field-0.0) = search rules in
     λ energy none.
     let before = before_flows m x ds (value c.in_ok-balance.field-0) (value c.datum.result) (c.in_ok-balance.ensures.sum x puts) c.datum.ensures (sym c.differ.ensures ∙ c.if-differ.false) none in
     rw given (at_limits (c.in_err-slack_price.ensures.cause x flows) before)

@@ -1,20 +1,10 @@
--- A text and a status that are right decide whether a dispatch is feasible, and whether a certificate holds, where no pair passes the bound.
-use Rattle.std.specs.Prelude.{◌≡◌, ◌≢◌, ℕ, Bool, true, false, if◌then◌else◌, List, [], ◌∷◌, Option, Some, None, codes, slice_get, take, Result, Ok}
+-- What is told is told of the one thing that the words ask.
+use Rattle.std.specs.Prelude.{◌≡◌, ℕ, true, false, List, Option, Some, codes, Result}
 use Rattle.std.specs.Str.{bytes_eq}
-use Rattle.std.proofs.Common.{suc, refl, sym, subst, ap, ◌∙◌}
-use Rattle.fraction_theory.specs.Fraction.{Fraction}
-use Rattle.exact_fraction.specs.declared.Passed.{Passed}
+use Rattle.std.proofs.Common.{refl, sym, subst, ◌∙◌}
 use Rattle.outside_store.specs.Files.{Files}
 use Rattle.clap.specs.Words as clap_words
 use Rattle.market_model.specs.declared.participants.Parts.{Parts}
-use Rattle.market_model.specs.declared.answered.Outcome.{Outcome}
-use Rattle.market_model.specs.declared.answered.Outcome.TheVariants as outcome
-use Rattle.market_system.specs.Outcomes.{IsCleared, IsInfeasible, IsDecided}
-use Rattle.market_system.specs.WorkingPairs.{NoPairPasses}
-use Rattle.market_system.proofs.Completeness.{law_of_completeness}
-use Rattle.case_maker.specs.Rings.{ring_of}
-use Rattle.cert_format.specs.declared.certificate.Cert.{Cert}
-use Rattle.cert_verify.specs.Certificates.{first_reason}
 use Rattle.refusal_text.specs.declared.refusals.Refusal.{Refusal}
 use Rattle.market_inputs.specs.Files.{sized_grid}
 use Rattle.market_inputs.specs.declared.checking.Inputs.{Inputs}
@@ -22,20 +12,14 @@ use Rattle.market_inputs.proofs.OnceLemmas.{OfOne, inputs-once, pool-once}
 use Rattle.command_words.specs.Words.{AsksClear, AsksMake, AsksPool, CheckNames, Enters, MarketNames, refuses}
 use Rattle.command_words.proofs.WordsLemmas.{asks-once, checks-once, clears-once, enters-one, makes-once, names-apart, replays-once, verifies-once}
 use Rattle.command_answers.specs.Checking.{TellsCheck}
-use Rattle.command_answers.specs.Clearing.{TellsClear, most_size, status_of}
+use Rattle.command_answers.specs.Clearing.{TellsClear, most_size}
 use Rattle.command_answers.specs.Inputs.{IsCertified, IsCheck, IsLimited, IsReplayed, MarketCertificate, MarketSteps}
-use Rattle.command_answers.specs.Replaying.{NoPairPassesIn, TellsReplay, is_done, replay_status, step_status}
-use Rattle.edit_replay.specs.Replays.{edited_by}
-use Rattle.edit_replay.specs.declared.step_outcome.StepOutcome.{StepOutcome}
-use Rattle.edit_replay.specs.declared.step_outcome.StepOutcome.TheVariants as reply
-use Rattle.command_answers.specs.Making.{MakesTo, cleared as ring_cleared, passed as ring_passed}
+use Rattle.command_answers.specs.Replaying.{TellsReplay}
+use Rattle.command_answers.specs.Making.{MakesTo}
 use Rattle.command_answers.specs.Tellings.{ComesTo, Telling, Tells}
-use Rattle.command_answers.specs.Verifying.{IsCertificatePair, TellsVerdict, VerifiesTo, judged, passed, verdict_status}
-use Rattle.command_answers.proofs.TellingLemmas.{pair-of}
-use Rattle.command_answers.specs.declared.status.Status.{Status}
+use Rattle.command_answers.specs.Verifying.{TellsVerdict}
 use Rattle.command_answers.proofs.RoundTripLemmas.{certified-once, limited-once, replayed-once}
-use Rattle.command_answers.specs.declared.status.Status.TheVariants as status
-use Rattle.sced.specs.Decided.{AsksToCheck, AsksToClear, AsksToReplay, AsksToVerify, Decides, IsDecidedIn, IsDecidedOf, IsMadeOf, as_clear, as_pool}
+use Rattle.sced.specs.Asked.{AsksToCheck, AsksToClear, AsksToReplay, AsksToVerify, as_clear, as_pool}
 use Rattle.edit_table.specs.EditTable.{header as edit_header}
 use Rattle.market_tables.specs.Tables.{GridTexts, MarketTexts}
 use Rattle.market_tables.proofs.EachLemmas.{same-grid, same-tables}
@@ -85,65 +69,9 @@ verify-files-once files names edits certificate a b h k =
     let edited = subst (λ table. IsCertified names.rating h.texts table k.certificate b) same_edits certified in
     certified-once names.rating h.texts h.edits h.certificate a b h.certified (subst (λ text. IsCertified names.rating h.texts h.edits text b) same_certificate edited)
 
--- ---- a market that is told is decided
-cleared-done : (o : Outcome Fraction) → IsCleared o → status_of o ≡ status.Done
-cleared-done (outcome.Cleared a) h = refl
-cleared-done (outcome.Infeasible f) h = elim h [ ]
-cleared-done (outcome.Range p) h = elim h [ ]
-
-infeasible-told : (o : Outcome Fraction) → IsInfeasible o → status_of o ≡ status.Infeasible
-infeasible-told (outcome.Cleared a) h = elim h [ ]
-infeasible-told (outcome.Infeasible f) h = refl
-infeasible-told (outcome.Range p) h = elim h [ ]
-
-comes-decided : (m : Parts) (t : Telling) → TellsClear m t → NoPairPasses m [] most_size → Decides m t.status
-comes-decided m t (market, clears) none =
-    let decided : IsDecided m clears.outcome = law_of_completeness m [] most_size clears.outcome market none clears.right in
-    record {
-      feasible = λ x holds. clears.status_is ∙ cleared-done clears.outcome (decided.cleared x holds);
-      infeasible = λ empty. clears.status_is ∙ infeasible-told clears.outcome (decided.infeasible empty);
-    }
-
 -- what is told is told of what the files stand for, or of their first fault
 told-of : {A : Type 0} (stand : Result A Refusal → Type 0) (right : A → Telling → Type 0) (r : Result A Refusal) (t : Telling) → OfOne stand → stand r → Tells stand right t → ComesTo right r t
 told-of {A} stand right r t once here tells = subst (λ (x : Result A Refusal). ComesTo right x t) (once tells.told r tells.stands here) tells.comes
-
--- clears that are decided tell of no numbers that are too large
-not-range : (m : Parts) (o : Outcome Fraction) → IsDecided m o → status_of o ≢ status.Range
-not-range m (outcome.Cleared a) decided bad = cc bad
-not-range m (outcome.Infeasible f) decided bad = cc bad
-not-range m (outcome.Range p) decided bad = elim (decided.infeasible decided.cleared) [ ]
-
-abbrev NoClearIsRange : List (StepOutcome Fraction) → Type 0
-NoClearIsRange outcomes = (k : ℕ) (o : Outcome Fraction) → slice_get outcomes k ≡ Some (reply.Clear o) → status_of o ≢ status.Range
-
-step-not-range : (o : StepOutcome Fraction) (outcomes : List (StepOutcome Fraction)) → NoClearIsRange (o ∷ outcomes) → step_status o ≢ status.Range
-step-not-range reply.Accepted outcomes each bad = cc bad
-step-not-range (reply.Refused f) outcomes each bad = cc bad
-step-not-range (reply.Clear o) outcomes each bad = each 0 o refl bad
-
-first-of : (done : Bool) (rest here : Status) → rest ≢ status.Range → here ≢ status.Range → (if done then rest else here) ≢ status.Range
-first-of true rest here no_rest no_here = no_rest
-first-of false rest here no_rest no_here = no_here
-
-no-range : (outcomes : List (StepOutcome Fraction)) → NoClearIsRange outcomes → replay_status outcomes ≢ status.Range
-unfolding replay_status
-no-range [] each bad = cc bad
-no-range (o ∷ outcomes) each bad =
-    first-of (is_done (step_status o)) (replay_status outcomes) (step_status o) (no-range outcomes (λ k p is. each (suc k) p is)) (step-not-range o outcomes each) bad
-
-replay-decided : (r : MarketSteps) (t : Telling) → TellsReplay r t → NoPairPassesIn r.market [] r.steps most_size → t.status ≢ status.Range
-replay-decided r t (market, replays) none bad =
-    no-range replays.outcomes (λ k o is. not-range (edited_by r.market (take k r.steps)) o (replays.decided none k o is)) (sym replays.status_is ∙ bad)
-
--- a certificate of whose sums no pair passes the bound is judged
-verdict-told : (m : Parts) (c : Cert Fraction) (t : Telling) → VerifiesTo most_size m c t → ((p : Passed Fraction) → ¬ (IsCertificatePair m most_size c p)) → t.status ≡ verdict_status (first_reason m c)
-verdict-told m c t (judged is) none = ap (λ (s : Telling). s.status) is
-verdict-told m c t (passed p stop within is) none = absurd (none p (pair-of m most_size c p stop))
-
-ring-told : (buses seed : ℕ) (t : Telling) → MakesTo most_size buses seed t → NoPairPasses (ring_of buses seed) [] most_size → t.status ≡ status.Done
-ring-told buses seed t (ring_cleared a market right is) none = ap (λ (s : Telling). s.status) is
-ring-told buses seed t (ring_passed p pair within is) none = absurd (none p pair)
 
 -- ---- the words
 -- words that enter a subcommand are taken, and enter no other
@@ -233,17 +161,6 @@ module _ (files : Files) (words : List (List ℕ)) (t : Telling) where
       let here : AreCheckFiles files names r = subst (λ (n : CheckNames). AreCheckFiles files n r) (checks-once words asks.names names asks.asks asked) asks.stand in
       told-of (AreCheckFiles files names) TellsCheck r t (check-files-once files names) here told
 
-  pub told-decided : (w : List (List ℕ × List ℕ)) → AnswersTo (Some files) words t w → IsDecidedIn files words t.status
-  told-decided w answers = record {
-    decided = λ m asks none. comes-decided m t (clear-told w (Ok m) answers asks) none;
-    replayed = λ m steps asks none. replay-decided (record { market = m; steps = steps }) t (replay-told w (Ok (record { market = m; steps = steps })) answers asks) none;
-    verified = λ m c asks none. verdict-told m c t (verify-told w (Ok (record { market = m; certificate = c })) answers asks).1 none;
-  }
-
-pub answers-decided : (files : Option Files) (words : List (List ℕ)) (t : Telling) (w : List (List ℕ × List ℕ)) → AnswersTo files words t w → IsDecidedOf files words t.status
-answers-decided None words t w answers = tt
-answers-decided (Some files) words t w answers = told-decided files words t w answers
-
 -- a ring is made of words alone
 module _ (files : Option Files) (words : List (List ℕ)) (t : Telling) (buses seed : ℕ) (asks : AsksMake words buses seed) where
   other-made : (name : List ℕ) (rows : List clap_words.Row) → bytes_eq name (codes "make") ≡ false → Enters words name rows → MakesTo most_size buses seed t
@@ -259,6 +176,3 @@ module _ (files : Option Files) (words : List (List ℕ)) (t : Telling) (buses s
   make-told _ (made n s asked told) =
       let same = makes-once words n buses s seed asked asks in
       subst (λ x. MakesTo most_size buses x t) same.1 (subst (λ x. MakesTo most_size x s t) same.0 told)
-
-pub answers-made : (files : Option Files) (words : List (List ℕ)) (t : Telling) (w : List (List ℕ × List ℕ)) → AnswersTo files words t w → IsMadeOf words t.status
-answers-made files words t w answers = λ buses seed asks none. ring-told buses seed t (make-told files words t buses seed asks w answers) none

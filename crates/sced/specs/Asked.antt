@@ -1,0 +1,49 @@
+-- What the words of a run ask, with what the files that they name stand for, or their first fault.
+use Rattle.std.specs.Prelude.{ℕ, List, Option, Result, Ok}
+use Rattle.fraction_theory.specs.Fraction.{Fraction}
+use Rattle.outside_store.specs.Files.{Files}
+use Rattle.market_model.specs.declared.participants.Parts.{Parts}
+use Rattle.cert_format.specs.declared.certificate.Cert.{Cert}
+use Rattle.edit_table.specs.declared.Step.{Step}
+use Rattle.command_words.specs.Words.{AsksCheck, AsksClear, AsksPool, AsksReplay, AsksVerify, CheckNames, MarketNames}
+use Rattle.market_inputs.specs.declared.checking.Inputs.{Inputs}
+use Rattle.refusal_text.specs.declared.refusals.Refusal.{Refusal}
+use Rattle.command_answers.specs.Inputs.{MarketCertificate, MarketSteps}
+use Rattle.command_files.specs.Standing.{AreCheckFiles, AreClearFiles, ArePoolFiles, AreReplayFiles, AreVerifyFiles}
+
+-- to clear a market, as if no branch had a limit or within the limits
+pub data AsksToClear (files : Files) (words : List (List ℕ)) (told : Result Parts Refusal) : Type 0 where
+  as_pool : (case offers : List ℕ) → AsksPool words case offers → ArePoolFiles files case offers told → AsksToClear files words told
+  as_clear : (names : MarketNames) (file : Option (List ℕ)) → AsksClear words names file → AreClearFiles files names told → AsksToClear files words told
+
+-- steps of a market
+pub record AsksToReplay (files : Files) (words : List (List ℕ)) (told : Result MarketSteps Refusal) : Type 0 where
+  pub names : MarketNames
+  pub edits : List ℕ
+  pub certificate : Option (List ℕ)
+  pub asks : AsksReplay words names edits certificate
+  pub stand : AreReplayFiles files names edits told
+
+-- whether a certificate holds of a market
+pub record AsksToVerify (files : Files) (words : List (List ℕ)) (told : Result MarketCertificate Refusal) : Type 0 where
+  pub names : MarketNames
+  pub edits : Option (List ℕ)
+  pub certificate : List ℕ
+  pub asks : AsksVerify words names edits certificate
+  pub stand : AreVerifyFiles files names edits certificate told
+
+-- how far tables of factors are from those of the network
+pub record AsksToCheck (files : Files) (words : List (List ℕ)) (told : Result Inputs Refusal) : Type 0 where
+  pub names : CheckNames
+  pub asks : AsksCheck words names
+  pub stand : AreCheckFiles files names told
+
+-- this market, these steps of this market, and this certificate of this market
+abbrev pub AsksMarket : Files → List (List ℕ) → Parts → Type 0
+AsksMarket files words m = AsksToClear files words (Ok m)
+
+abbrev pub AsksSteps : Files → List (List ℕ) → Parts → List Step → Type 0
+AsksSteps files words m steps = AsksToReplay files words (Ok (record { market = m; steps = steps }))
+
+abbrev pub AsksVerdict : Files → List (List ℕ) → Parts → Cert Fraction → Type 0
+AsksVerdict files words m c = AsksToVerify files words (Ok (record { market = m; certificate = c }))
