@@ -62,32 +62,32 @@ taken-whole failed t earlier a b was whole took = by b (subst (λ x. Took failed
     by None took = elim took [ ]
     by (Some now) took = ap Some (took.whole whole)
 
+write-or : (s : Status) → (s ≡ status.WriteFailed) ⊎ ¬ (s ≡ status.WriteFailed)
+write-or status.Done = inr (λ e. cc e)
+write-or status.Usage = inr (λ e. cc e)
+write-or status.Refused = inr (λ e. cc e)
+write-or status.Infeasible = inr (λ e. cc e)
+write-or status.Range = inr (λ e. cc e)
+write-or status.ReadFailed = inr (λ e. cc e)
+write-or status.WriteFailed = inl refl
+write-or status.Memory = inr (λ e. cc e)
+write-or status.Refuted = inr (λ e. cc e)
+
 pub law_of_answered : LawOfAnswered
-law_of_answered words before after s earlier runs was none = elim (silent-or s) [
-  | inl silent ↦ inl (memory silent)
-  | inr loud ↦ inr (told-or s loud no-write, put (runs.told loud))
+law_of_answered words before after s earlier runs was = elim (silent-or s) [
+  | inl silent ↦ inl silent
+  | inr loud ↦ elim (write-or s) [
+      | inl failed ↦ inr (inl failed)
+      | inr no-write ↦ inr (inr (told-or s loud no-write, put no-write (runs.told loud)))
+    ]
 ]
   where
-    no-read : ¬ (s ≡ status.ReadFailed)
-    no-read is = let here = runs.reads.failed is in none.reads here.0 here.2
+    put-by : ¬ (s ≡ status.WriteFailed) → (t : Telling) (w : List (List ℕ × List ℕ)) → Ends t w before.files after.files before.taken after.taken s → (text : List ℕ) × (after.taken ≡ Some (earlier ++ text))
+    put-by no-write t w (ending.told kept took right) = (t.text, taken-whole (s ≡ status.WriteFailed) t.text earlier before.taken after.taken was no-write took)
+    put-by no-write t w (ending.unwritten kept none failed) = absurd (no-write failed)
 
-    memory : IsSilent s → s ≡ status.Memory
-    memory (inl is) = absurd (no-read is)
-    memory (inr is) = is
-
-    write-failed : ¬ (((file : List ℕ) × NamesToWrite words file × Rose (before.failed_writes file) (after.failed_writes file)) ⊎ Rose before.failed_puts after.failed_puts)
-    write-failed (inl (file, named, rose)) = none.writes file rose
-    write-failed (inr rose) = none.puts rose
-
-    no-write : ¬ (s ≡ status.WriteFailed)
-    no-write is = write-failed (runs.writes.failed is)
-
-    put-by : (t : Telling) (w : List (List ℕ × List ℕ)) → Ends t w before.files after.files before.taken after.taken s → (text : List ℕ) × (after.taken ≡ Some (earlier ++ text))
-    put-by t w (ending.told kept took right) = (t.text, taken-whole (s ≡ status.WriteFailed) t.text earlier before.taken after.taken was no-write took)
-    put-by t w (ending.unwritten kept none failed) = absurd (no-write failed)
-
-    put : Answers words before after s → (text : List ℕ) × (after.taken ≡ Some (earlier ++ text))
-    put a = put-by a.telling a.written a.ends
+    put : ¬ (s ≡ status.WriteFailed) → Answers words before after s → (text : List ℕ) × (after.taken ≡ Some (earlier ++ text))
+    put no-write a = put-by no-write a.telling a.written a.ends
 
 -- ---- causes
 pub law_of_causes : LawOfCauses

@@ -198,7 +198,7 @@ LawOfRange = (words : List (List ℕ)) (files : Files) (text : List ℕ) (s : St
 
 -- ---- verify
 -- yes where the certificate is true of the market, no with the first reason where it is not, or two numbers of its sums, each within 127 bits,
--- that pass these together, where no reason before their sum holds
+-- that pass these together, where no reason of a kind that is looked at before that of their sum holds
 pub data IsVerdict (m : Parts) (c : Cert Fraction) (text : List ℕ) : Status → Type 0 where
   yes : IsTrueOf m c → text ≡ codes "yes\n" → IsVerdict m c text status.Done
   no : ¬ (IsTrueOf m c) → text ≡ verdict_line (first_reason m c) → IsVerdict m c text status.Refuted
@@ -283,16 +283,11 @@ abbrev pub LawOfOutside : Type 0
 LawOfOutside = (words : List (List ℕ)) (before after : Outside) (s : Status) → Runs words before after s → TouchesOnly words before after
 
 -- ---- answered
--- no failed call is counted, of a read, of a write or of a put
-pub record NoneFails (before after : Outside) : Type 0 where
-  pub reads : (n : List ℕ) → ¬ (Rose (before.failed_reads n) (after.failed_reads n))
-  pub writes : (n : List ℕ) → ¬ (Rose (before.failed_writes n) (after.failed_writes n))
-  pub puts : ¬ (Rose before.failed_puts after.failed_puts)
-
--- where none is, a run puts a text behind what was put before, and its status is one that comes with a text; or memory was refused
+-- a run puts a text behind what was put before, and its status is one that comes with a text; or it is that of a failed read, of a failed
+-- write or put, or of memory that was refused
 abbrev pub LawOfAnswered : Type 0
 LawOfAnswered = (words : List (List ℕ)) (before after : Outside) (s : Status) (earlier : List ℕ) → Runs words before after s
-    → before.taken ≡ Some earlier → NoneFails before after → (s ≡ status.Memory) ⊎ (IsTold s × ((text : List ℕ) × (after.taken ≡ Some (earlier ++ text))))
+    → before.taken ≡ Some earlier → IsSilent s ⊎ (s ≡ status.WriteFailed) ⊎ (IsTold s × ((text : List ℕ) × (after.taken ≡ Some (earlier ++ text))))
 
 -- ---- causes
 -- a run ends for a failed read only where one of a file that the words name for reading is counted, and for a failed write or put only where one
