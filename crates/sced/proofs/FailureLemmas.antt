@@ -77,9 +77,9 @@ pub law_of_answered : LawOfAnswered
 law_of_answered words before after s earlier runs was = elim (silent-or s) [
   | inl silent ↦ inl silent
   | inr loud ↦ elim (write-or s) [
-      | inl failed ↦ inr (inl failed)
-      | inr no-write ↦ inr (inr (told-or s loud no-write, put no-write (runs.told loud)))
-    ]
+    | inl failed ↦ inr (inl failed)
+    | inr no-write ↦ inr (inr (told-or s loud no-write, put no-write (runs.told loud)))
+  ]
 ]
   where
     put-by : ¬ (s ≡ status.WriteFailed) → (t : Telling) (w : List (List ℕ × List ℕ)) → Ends t w before.files after.files before.taken after.taken s → (text : List ℕ) × (after.taken ≡ Some (earlier ++ text))
