@@ -135,15 +135,15 @@ fn in_values(rt: &impl Abort, alloc: Global, by: &Numbers) {
     refused(rt, alloc, &sum, (Op::Plus, by.half, by.big));
 }
 
-/// Posing again where x = y - z, at the prices 1/2 and `big`, in the reduced price of z: the sum of -1/2 and `big`.
+/// Posing again where x = y - z, at the prices 1/2 and `-big`, in the reduced price of z: the sum of -1/2 and `-big`.
 fn in_prices(rt: &impl Abort, alloc: Global, by: &Numbers) {
     let system = to_one(by, (by.one, by.one));
     let again = System {
-        prices: (by.half, by.big),
+        prices: (by.half, by.big.neg()),
         ..system
     };
     let end = run(turned(rt, alloc, &system), &again);
-    assert!(rt; names_pair(&end, (Op::Plus, by.half.neg(), by.big)));
+    assert!(rt; names_pair(&end, (Op::Plus, by.half.neg(), by.big.neg())));
 }
 
 /// Running: y, which stands at `-big`, is to go to `big`. And in the ratio test the later column's price, `-big`, is divided by its
