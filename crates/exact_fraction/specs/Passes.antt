@@ -54,6 +54,13 @@ IsExactOrNone value bound op left right result = MatchOption result (Passes boun
 abbrev pub IsExact : {N : Type 0} → (N → Fraction) → ℕ → Op → N → N → Result N (Passed N) → Type 0
 IsExact value bound op left right result = MatchResult result (IsOutcome value bound op left right) (IsPassed value bound op left right)
 
+-- The sum of x and the product of a and b is too large, and the operation, which is on the way to it, passes the bound: that product, or
+-- the sum of x and it.
+pub record IsShareRefused (bound : ℕ) (x a b : Fraction) (op : Op) (left right : Fraction) : Type 0 where
+  pub too_large : IsTooLarge bound (x +ℚ a *ℚ b)
+  pub passes : Passes bound op left right
+  pub way : ((op ≡ Times) × (left ≡ a) × (right ≡ b)) ⊎ ((op ≡ Plus) × (left ≡ x) × (right ≡ a *ℚ b))
+
 -- r is x plus the product of a and b
 pub record IsSumWith {N : Type 0} (value : N → Fraction) (x a b r : N) : Type 0 where
   pub exact : value r ≡ value x +ℚ value a *ℚ value b

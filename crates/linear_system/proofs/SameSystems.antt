@@ -2,18 +2,19 @@
 -- numbers and working pairs.
 use Rattle.std.specs.Prelude.{◌≡◌, ℕ, List, [], ◌∷◌, map, filter, not, if◌then◌else◌, refl}
 use Rattle.std.specs.List.{Contains}
-use Rattle.std.proofs.Common.{ap, ap₂, sym, ◌∙◌, subst, inl, inr}
-use Rattle.fraction_theory.specs.Fraction.{Fraction, ◌*ℚ◌}
-use Rattle.fraction_theory.specs.Sums.{Term, Product, sum_by, prefix}
+use Rattle.std.proofs.Common.{ap, ap₂, sym, ◌∙◌, subst, subst₂, inl, inr}
+use Rattle.fraction_theory.specs.Fraction.{Fraction, ◌*ℚ◌, ◌-ℚ◌}
+use Rattle.fraction_theory.specs.Order.{◌<ℚ◌, ◌≤ℚ◌}
+use Rattle.fraction_theory.specs.Sums.{Term, Product, sum_by, prefix, total}
 use Rattle.fraction_theory.proofs.ListSums.{Contains-head, Contains-cons, sum_by-members}
 use Rattle.exact_fraction.specs.declared.Op.{Op}
-use Rattle.linear_system.specs.Choices.{Choice, basics, others, MeetsTable, IsChoice, at_bound, value_terms, column_entry, row_entry_terms, reduced_terms}
-use Rattle.linear_system.specs.Numbers.{Kind, Factor, Quantity, Price, SystemNumber, is_zero, is_one, is_coefficient, is_entry, is_row_entry, is_low, is_high, is_value, is_price, is_reduced, is_opposite}
-use Rattle.linear_system.specs.Pairs.{AreNear, OfEither, IsSystemPair}
+use Rattle.linear_system.specs.Choices.{Choice, basics, others, MeetsTable, IsChoice, at_bound, value, value_terms, column_entry, row_entry_terms, reduced_terms}
+use Rattle.linear_system.specs.Numbers.{Kind, Factor, Quantity, Price, SystemNumber, is_zero, is_one, is_coefficient, is_entry, is_row_entry, is_low, is_high, is_value, is_price, is_reduced, is_opposite, IsFirst, SolvingNumber, is_number, is_fall, is_rise, is_turned}
+use Rattle.linear_system.specs.Pairs.{AreNear, AtEither, OfEither, IsSystemPair}
 use Rattle.linear_system.specs.SameSystems.{SameRows, SameSystem}
 use Rattle.linear_system.specs.Systems.{System, MeetsRows, activity}
-use Rattle.linear_system.proofs.ChoiceLaws.{others_are}
-use Rattle.linear_system.proofs.PairLaws.{IsPairCase-each}
+use Rattle.linear_system.proofs.ChoiceLaws.{basics_are, others_are}
+use Rattle.linear_system.proofs.PairLaws.{IsForLarge-each, IsPairCase-each}
 
 map-members : {X Y : Type 0} (f g : X → Y) (xs : List X) → ((x : X) → Contains xs x → f x ≡ g x) → map f xs ≡ map g xs
 map-members f g [] h = refl
@@ -155,6 +156,36 @@ module _ (s t : System) (same : SameSystem s t) where
   same_number h _ _ (is_reduced w n c) = subst (λ (ts : List Term). SystemNumber t h Price (prefix n ts)) (sym (same_reduced_terms h w)) (is_reduced w n (in_others h w c))
   same_number h _ _ (is_opposite kind x n) = is_opposite kind x (same_number h kind x n)
 
+module _ (s t : System) (same : SameSystem s t) (h : Choice) where
+  value_same : (b : ℕ) → Contains (basics s h) b → value s h b ≡ value t h b
+  unfolding value
+  value_same b c =
+      ap (λ (x : _). if x then total (value_terms s h b) else at_bound s h b) (basics_are s h b c).1
+      ∙ ap total (same_value_terms s t same h b)
+      ∙ sym (ap (λ (x : _). if x then total (value_terms t h b) else at_bound t h b) (basics_are s h b c).1)
+
+  first_same : (b : ℕ) → IsFirst s h b → IsFirst t h b
+  first_same b first c at below =
+      let here : Contains (basics s h) c = subst (λ (ws : List ℕ). Contains ws c) (sym (same_basics s t same h)) at in
+      let v = basics_are s h c here in
+      let is = first c here below in (
+        subst₂ ◌≤ℚ◌ (same.low c v.0) (value_same c here) is.0,
+        subst₂ ◌≤ℚ◌ (value_same c here) (same.high c v.0) is.1,
+      )
+
+  -- and what solving writes down
+  pub same_solving : (x : Fraction) → SolvingNumber s h x → SolvingNumber t h x
+  same_solving _ (is_number kind x n) = is_number kind x (same_number s t same h kind x n)
+  same_solving _ (is_fall b c beyond first) =
+      let v = basics_are s h b c in
+      subst (SolvingNumber t h) (sym (ap₂ ◌-ℚ◌ (same.high b v.0) (value_same b c)))
+      (is_fall b (in_basics s t same h b c) (subst₂ ◌<ℚ◌ (same.high b v.0) (value_same b c) beyond) (first_same b first))
+  same_solving _ (is_rise b c beyond first) =
+      let v = basics_are s h b c in
+      subst (SolvingNumber t h) (sym (ap₂ ◌-ℚ◌ (value_same b c) (same.low b v.0)))
+      (is_rise b (in_basics s t same h b c) (subst₂ ◌<ℚ◌ (value_same b c) (same.low b v.0) beyond) (first_same b first))
+  same_solving _ (is_turned x n) = is_turned x (same_solving x n)
+
 pub same_choice_of : (s t : System) → SameSystem s t → (h : Choice) → IsChoice s h → IsChoice t h
 same_choice_of s t same h choice = same_rows_choice s t same.same_rows h choice
 
@@ -182,8 +213,13 @@ same_pair s t same bound op l r pair = record {
   near_is_choice = same_choice_of s t same pair.near pair.near_is_choice;
   are_near = same_near s t same pair.one pair.near pair.are_near;
   sides = IsPairCase-each (λ kind x n. either kind x n) op l r pair.sides;
+  large = IsForLarge-each written bound op l r pair.large;
 }
   where
     either : (kind : Kind) (x : Fraction) → OfEither (SystemNumber s) pair.one pair.near kind x → OfEither (SystemNumber t) pair.one pair.near kind x
     either kind x (inl n) = inl (same_number s t same pair.one kind x n)
     either kind x (inr n) = inr (same_number s t same pair.near kind x n)
+
+    written : (x : Fraction) → AtEither (SolvingNumber s) pair.one pair.near x → AtEither (SolvingNumber t) pair.one pair.near x
+    written x (inl n) = inl (same_solving s t same pair.one x n)
+    written x (inr n) = inr (same_solving s t same pair.near x n)

@@ -5,7 +5,7 @@ use Rattle.fraction_theory.specs.Sums.{Term, Plain, Product, term_value, prefix}
 use Rattle.exact_fraction.specs.declared.Op.{Op}
 use Rattle.exact_fraction.specs.declared.Op.TheVariants.{Plus, Minus, Times}
 use Rattle.exact_fraction.specs.declared.Passed.{Passed}
-use Rattle.exact_fraction.specs.Passes.{Passes, outcome}
+use Rattle.exact_fraction.specs.Passes.{IsShareRefused, IsTooLarge, Passes, outcome}
 
 -- the same number, or its opposite
 abbrev pub SameSize : Fraction → Fraction → Type 0
@@ -29,24 +29,27 @@ pub record AreProductSides (terms : List Term) (l r : Fraction) (k : ℕ) (a b :
   pub product : term_at terms k ≡ Product a b
   pub sides : (SameSize l a × SameSize r b) ⊎ (SameSize l b × SameSize r a)
 
--- the sides of an operation that adds up the terms
-abbrev pub IsSumStep : List Term → Op → Fraction → Fraction → Type 0
-IsSumStep terms Plus l r = (k : ℕ) × IsNextTerm terms Plus l r k
-IsSumStep terms Minus l r = (k : ℕ) × IsNextTerm terms Minus l r k
-IsSumStep terms Times l r = (k : ℕ) × (a : Fraction) × (b : Fraction) × AreProductSides terms l r k a b
+-- the sides of an operation that adds up the terms, at the term k
+abbrev pub IsSumStep : List Term → Op → Fraction → Fraction → ℕ → Type 0
+IsSumStep terms Plus l r k = IsNextTerm terms Plus l r k
+IsSumStep terms Minus l r k = IsNextTerm terms Minus l r k
+IsSumStep terms Times l r k = (a : Fraction) × (b : Fraction) × AreProductSides terms l r k a b
 
--- an operation that passes the bound, where the terms are added up
+-- An operation that passes the bound, where the terms are added up: at a term with which the sum so far is too large.
 pub record IsRefusedIn (terms : List Term) (bound : ℕ) (p : Passed Fraction) : Type 0 where
-  pub step : IsSumStep terms p.op p.left p.right
+  pub place : ℕ
+  pub step : IsSumStep terms p.op p.left p.right place
   pub passes : Passes bound p.op p.left p.right
+  pub too_large : IsTooLarge bound (prefix (place + 1) terms)
 
--- this operation on these two numbers, which passes the bound
+-- this operation on these two numbers, whose outcome is too large
 pub record IsRefusal (op : Op) (left right : Fraction) (bound : ℕ) (p : Passed Fraction) : Type 0 where
   pub same_op : p.op ≡ op
   pub same_left : p.left ≡ left
   pub same_right : p.right ≡ right
   pub passes : Passes bound p.op p.left p.right
+  pub too_large : IsTooLarge bound (outcome op left right)
 
--- a refused product of two numbers, or the refused sum with it
+-- an operation refused on the way to a sum with a product, which is too large
 abbrev pub IsShareRefusal : Fraction → Fraction → Fraction → ℕ → Passed Fraction → Type 0
-IsShareRefusal sum k x bound p = IsRefusal Times k x bound p ⊎ IsRefusal Plus sum (k *ℚ x) bound p
+IsShareRefusal sum k x bound p = IsShareRefused bound sum k x p.op p.left p.right
