@@ -1,13 +1,19 @@
 -- Refused sums with a product, by the values of their parts.
-use Rattle.std.specs.Prelude.{◌≡◌, ℕ, pos, [], ◌∷◌, refl}
+use Rattle.std.specs.Prelude.{◌≡◌, ℕ, ◌<◌, pos, [], ◌∷◌, refl}
 use Rattle.std.proofs.Common.{ap, ap₂, sym, ◌∙◌, subst, subst₂, inl, inr}
-use Rattle.fraction_theory.specs.Fraction.{Fraction, whole, ◌+ℚ◌, ◌*ℚ◌, neg_ℚ}
+use Rattle.fraction_theory.specs.Fraction.{Fraction, whole, ◌+ℚ◌, ◌*ℚ◌, neg_ℚ, unsigned_abs-neg}
 use Rattle.fraction_theory.proofs.FieldLaws.{ring_ℚ}
 use Rattle.fraction_theory.proofs.Ring.{at, by_ring, pmul, pnil, ◌⊕◌}
 use Rattle.exact_fraction.specs.declared.Op.{Op}
 use Rattle.exact_fraction.specs.declared.Op.TheVariants.{Plus, Minus, Times}
 use Rattle.exact_fraction.specs.declared.Passed.{Passed}
 use Rattle.exact_fraction.specs.Passes.{IsPassed, IsPassedWith, IsShareRefused, IsTooLarge, IsTooLargeAt, Passes, ProductPasses, outcome}
+
+-- the size of a number has no sign
+pub too_large_turned : (bound : ℕ) (x : Fraction) → IsTooLarge bound x → IsTooLarge bound (neg_ℚ x)
+unfolding neg_ℚ
+too_large_turned bound x (inl h) = inl (subst (λ (n : ℕ). bound < n) (sym (unsigned_abs-neg x.num)) h)
+too_large_turned bound x (inr h) = inr h
 
 -- what passes does so by its values
 pub passes_at : {N : Type 0} (value : N → Fraction) (bound : ℕ) (op : Op) (l r : N) (e : Passed N) → IsPassed value bound op l r e → Passes bound e.op (value e.left) (value e.right)

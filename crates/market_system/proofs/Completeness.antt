@@ -1,6 +1,7 @@
 -- A right outcome decides whether anything is feasible, where no numbers became too large.
+use Rattle.std.proofs.Common.{inl, inr}
 use Rattle.market_model.specs.declared.answered.Outcome.TheVariants as outcome
-use Rattle.market_system.specs.Completeness.{LawOfCompleteness}
+use Rattle.market_system.specs.Completeness.{LawOfCompleteness, LawOfTheNumbers}
 use Rattle.market_model.specs.RightAnswers.{dispatch_in}
 use Rattle.market_model.proofs.FarkasLaw.{law_of_infeasibility}
 
@@ -8,3 +9,11 @@ pub law_of_completeness : LawOfCompleteness
 law_of_completeness m taken bound (outcome.Cleared a) h fits right = record { cleared = λ x f. tt; infeasible = λ none. absurd (none (dispatch_in a) right.feasible) }
 law_of_completeness m taken bound (outcome.Infeasible f) h fits right = record { cleared = λ x g. absurd (law_of_infeasibility m f.duals x h right.shows g); infeasible = λ none. tt }
 law_of_completeness m taken bound (outcome.Range p) h fits right = absurd (fits p right)
+
+pub law_of_the_numbers : LawOfTheNumbers
+law_of_the_numbers m taken bound fit p range =
+    let pair = range.pair in
+    elim pair.large.is_number [
+      | inl n ↦ fit range.rows pair.one pair.large.number range.reached pair.is_choice n pair.large.too_large
+      | inr n ↦ fit range.rows pair.near pair.large.number range.reached pair.near_is_choice n pair.large.too_large
+    ]

@@ -56,13 +56,6 @@ part_above_within b x h = by_sign (sign_of x)
     by_sign Zero = nil_within b
     by_sign Above = h
 
--- products of numbers of the same sizes
-same_product : (l r a b : Fraction) → SameSize l a → SameSize r b → SameSize (l *ℚ r) (a *ℚ b)
-same_product l r a b (inl e) (inl f) = inl (ap₂ ◌*ℚ◌ e f)
-same_product l r a b (inl e) (inr f) = inr (ap₂ ◌*ℚ◌ e f ∙ by_ring ring_ℚ (a ∷ b ∷ []) (at 0 ⊗ pneg (at 1)) (pneg (at 0 ⊗ at 1)) refl)
-same_product l r a b (inr e) (inl f) = inr (ap₂ ◌*ℚ◌ e f ∙ by_ring ring_ℚ (a ∷ b ∷ []) (pneg (at 0) ⊗ at 1) (pneg (at 0 ⊗ at 1)) refl)
-same_product l r a b (inr e) (inr f) = inl (ap₂ ◌*ℚ◌ e f ∙ by_ring ring_ℚ (a ∷ b ∷ []) (pneg (at 0) ⊗ pneg (at 1)) (at 0 ⊗ at 1) refl)
-
 -- the greatest number of 127 bits
 abbrev most : ℕ
 most = 2 ^ 127 - 1
@@ -110,14 +103,10 @@ module _ (terms : List Term) (b : ℕ) (count : length terms ≤ 4001) (each : A
   next_within : (k : ℕ) (x : Fraction) → SameSize x (term_value (term_at terms k)) → IsWholeWithin most x
   next_within k x e = same_within most x (term_value (term_at terms k)) e (wider b most (term_value (term_at terms k)) (Prim.omega (arith, room)) (term_within b k terms each))
 
-  step_fits : (op : Op) (l r : Fraction) → IsSumStep terms op l r → Passes most op l r → ⊥
-  step_fits Plus l r (k, n) p = sum_fits most l r (Prim.omega arith) (first_within k l n.before) (next_within k r n.next) (first_within (k + 1) (l +ℚ r) n.after) p
-  step_fits Minus l r (k, n) p = sum_fits most l (neg_ℚ r) (Prim.omega arith) (first_within k l n.before) (neg_within most r (next_within k r n.next)) (first_within (k + 1) (l -ℚ r) n.after) p
-  step_fits Times l r (k, x, y, f) p = product_fits most l r (Prim.omega arith) (next_within k (l *ℚ r) (subst (λ (t : Term). SameSize (l *ℚ r) (term_value t)) (sym f.product) (of_sides f.sides))) p
-    where
-      of_sides : (SameSize l x × SameSize r y) ⊎ (SameSize l y × SameSize r x) → SameSize (l *ℚ r) (x *ℚ y)
-      of_sides (inl q) = same_product l r x y q.0 q.1
-      of_sides (inr q) = subst (SameSize (l *ℚ r)) (ring_ℚ.times_comm y x) (same_product l r y x q.0 q.1)
+  step_fits : (op : Op) (l r : Fraction) (k : ℕ) → IsSumStep terms op l r k → Passes most op l r → ⊥
+  step_fits Plus l r k n p = sum_fits most l r (Prim.omega arith) (first_within k l n.before) (next_within k r n.next) (first_within (k + 1) (l +ℚ r) n.after) p
+  step_fits Minus l r k n p = sum_fits most l (neg_ℚ r) (Prim.omega arith) (first_within k l n.before) (neg_within most r (next_within k r n.next)) (first_within (k + 1) (l -ℚ r) n.after) p
+  step_fits Times l r k (x, y, f) p = product_fits most l r (Prim.omega arith) (next_within k (l *ℚ r) (subst (λ (t : Term). SameSize (l *ℚ r) (term_value t)) (sym f.product) (sides_product l r x y f.sides))) p
 
 module _ (m : Parts) (market : IsMarket m) (lines : m.lines ≡ []) (modest : IsModest m) where
   bare : rows m ≡ []
@@ -318,7 +307,7 @@ module _ (m : Parts) (market : IsMarket m) (lines : m.lines ≡ []) (modest : Is
 
       of_sides : IsPairCase (OfEither (MarketNumber m []) pair.one pair.near) op l r ⊎ IsSettledCase m [] pair.one op l r → ⊥
       of_sides (inl c) = case_fits (OfEither (MarketNumber m []) pair.one pair.near) either_within op l r c pair.passes
-      of_sides (inr c) = named_fits pair.one pair.is_choice None c.terms c.sum op l r c.step pair.passes
+      of_sides (inr c) = named_fits pair.one pair.is_choice None c.terms c.sum op l r c.place c.step pair.passes
 
   -- no rows can be taken
   nothing_taken : (more : List Row) → GrowsBy m [] more → more ≡ []

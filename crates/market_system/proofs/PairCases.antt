@@ -1,11 +1,11 @@
 -- What is refused outside the dictionary is a working pair of the market over the rows in hand: each operation by its name.
 use Rattle.std.specs.Prelude.{◌≡◌, ℕ, Contains, ◌+◌, ◌<◌, pos, List, [], ◌∷◌, ◌++◌, length, map, refl, ◌⊎◌, Option, Some, None}
 use Rattle.std.specs.List.{flat_map}
-use Rattle.std.proofs.Common.{zero, suc, arith, sym, ◌∙◌, subst, inl, inr, get_or}
+use Rattle.std.proofs.Common.{zero, suc, arith, ap, ap₂, sym, ◌∙◌, subst, subst₂, inl, inr, get_or}
 use Rattle.std.proofs.lemmas.List.FromFn.{length-range_with_len, get_or-range_with_len}
-use Rattle.fraction_theory.specs.Fraction.{Fraction, whole, neg_ℚ, ◌-ℚ◌}
+use Rattle.fraction_theory.specs.Fraction.{Fraction, whole, neg_ℚ, ◌+ℚ◌, ◌-ℚ◌, ◌*ℚ◌}
 use Rattle.fraction_theory.specs.Sums.{Term, Plain, Product, term_value, prefix, total}
-use Rattle.fraction_theory.proofs.Ring.{by_ring, by_ring1, at, pnil, pone, pneg, ◌⊕◌}
+use Rattle.fraction_theory.proofs.Ring.{by_ring, by_ring1, at, pnil, pone, pneg, ◌⊕◌, ◌⊗◌}
 use Rattle.fraction_theory.proofs.FieldLaws.{ring_ℚ}
 use Rattle.fraction_theory.specs.Signs.{sign_of}
 use Rattle.fraction_theory.specs.declared.Sign.{Sign}
@@ -14,11 +14,12 @@ use Rattle.fraction_theory.proofs.SumLaws.{prefix-more, prefix-all}
 use Rattle.exact_fraction.specs.declared.Op.{Op}
 use Rattle.exact_fraction.specs.declared.Op.TheVariants.{Plus, Minus, Times}
 use Rattle.exact_fraction.specs.declared.Passed.{Passed}
-use Rattle.exact_fraction.specs.Passes.{Passes}
+use Rattle.exact_fraction.specs.Passes.{IsTooLarge, Passes, outcome}
+use Rattle.exact_fraction.proofs.Shares.{too_large_turned}
 use Rattle.linear_system.specs.Choices.{Choice, IsChoice}
-use Rattle.linear_system.specs.Numbers.{Kind, Factor, Quantity, Price, SystemNumber, is_zero, is_high}
-use Rattle.linear_system.specs.Pairs.{IsCombined, alone, sum, difference, IsSummand, plain, IsPairCase, added, subtracted, scaled_right, scaled_left, OfEither, IsSystemPair}
-use Rattle.linear_system.proofs.PairLaws.{IsPairCase-each}
+use Rattle.linear_system.specs.Numbers.{Kind, Factor, Quantity, Price, SolvingNumber, SystemNumber, is_zero, is_high}
+use Rattle.linear_system.specs.Pairs.{IsCombined, alone, sum, difference, IsSummand, plain, IsPairCase, added, subtracted, scaled_right, scaled_left, AtEither, IsForLarge, Makes, added_to, itself, OfEither, IsSystemPair}
+use Rattle.linear_system.proofs.PairLaws.{IsForLarge-each, IsPairCase-each}
 use Rattle.fraction_theory.proofs.ListSums.{Contains-head, Contains-cons}
 use Rattle.market_model.specs.declared.answered.Duals.{Duals}
 use Rattle.market_model.specs.declared.participants.Parts.{Parts}
@@ -37,7 +38,7 @@ use Rattle.market_model.specs.Optimality.{net_shadow_price, up_of, down_of, cong
 use Rattle.market_model.specs.Infeasibility.{where_above, part_above, block_weight, limit_terms, farkas_terms}
 use Rattle.market_model.specs.SumTables.{injection_at, balance_from_bus, balance_of_all, flow_of_line, flow_of_row, limited_line, limited_row, FlowSum, flow_in_balance, flow_in_limits, offset_of_row, factor_at_bus, output_of_unit, BusPriceSum, PriceSum, price_of_bus, congestion_at, price_at, farkas_bound_of_all}
 use Rattle.market_system.specs.Growth.{Growth}
-use Rattle.market_system.specs.MarketNumbers.{IsInjecting, IsFarkasOf, NamedSum, offset_of, factor_of, of_flow, output_of, of_price, of_welfare, of_settlement, of_farkas_price, farkas_bound_of, MarketNumber, of_system, of_sum, is_limit, is_line_offset, is_shift, is_loss, is_up_dual, is_down_dual, is_farkas_energy, is_farkas_up, is_farkas_down, of_opposite}
+use Rattle.market_system.specs.MarketNumbers.{ClearingNumber, of_kind, of_money, of_solving, is_turned, IsInjecting, IsFarkasOf, NamedSum, offset_of, factor_of, of_flow, output_of, of_price, of_welfare, of_settlement, of_farkas_price, farkas_bound_of, MarketNumber, of_system, of_sum, is_limit, is_line_offset, is_shift, is_loss, is_up_dual, is_down_dual, is_farkas_energy, is_farkas_up, is_farkas_down, of_opposite}
 use Rattle.market_system.specs.MarketSystem.{system_of, choice_dispatch, choice_duals}
 use Rattle.market_system.specs.PairLaw.{LawOfThePairs}
 use Rattle.market_system.proofs.DualLists.{rows_apart}
@@ -88,10 +89,10 @@ module _ (N : Kind → Fraction → Type 0) (opposite : (kind : Kind) (x : Fract
     -- and each product among them is of a factor and a number
     module _ (products : (k : ℕ) (a b : Fraction) → k < length terms → term_at terms k ≡ Product a b → (N Factor a × IsCombined N kind b) ⊎ (IsCombined N kind a × N Factor b))
         (factor_sized : (x y : Fraction) → SameSize x y → N Factor y → N Factor x) where
-      step_case : (op : Op) (l r : Fraction) → IsSumStep terms op l r → IsPairCase N op l r
-      step_case Plus l r (k, next) = added_case Plus l r k tt next
-      step_case Minus l r (k, next) = added_case Minus l r k tt next
-      step_case Times l r (k, a, b, f) = elim (products k a b f.inside f.product) [
+      step_case : (op : Op) (l r : Fraction) (k : ℕ) → IsSumStep terms op l r k → IsPairCase N op l r
+      step_case Plus l r k next = added_case Plus l r k tt next
+      step_case Minus l r k next = added_case Minus l r k tt next
+      step_case Times l r k (a, b, f) = elim (products k a b f.inside f.product) [
         | inl n ↦ elim f.sides [
           | inl s ↦ scaled_right kind l r (factor_sized l a s.0 n.0) (combined_sized r b s.1 n.1)
           | inr s ↦ scaled_left kind l r (combined_sized l b s.0 n.1) (factor_sized r a s.1 n.0)
@@ -101,6 +102,69 @@ module _ (N : Kind → Fraction → Type 0) (opposite : (kind : Kind) (x : Fract
           | inr s ↦ scaled_right kind l r (factor_sized l b s.0 n.1) (combined_sized r a s.1 n.0)
         ]
       ]
+
+-- the product of two numbers by their sizes
+same_product : (l r a b : Fraction) → SameSize l a → SameSize r b → SameSize (l *ℚ r) (a *ℚ b)
+same_product l r a b (inl e) (inl f) = inl (ap₂ ◌*ℚ◌ e f)
+same_product l r a b (inl e) (inr f) = inr (ap₂ ◌*ℚ◌ e f ∙ by_ring ring_ℚ (a ∷ b ∷ []) (at 0 ⊗ pneg (at 1)) (pneg (at 0 ⊗ at 1)) refl)
+same_product l r a b (inr e) (inl f) = inr (ap₂ ◌*ℚ◌ e f ∙ by_ring ring_ℚ (a ∷ b ∷ []) (pneg (at 0) ⊗ at 1) (pneg (at 0 ⊗ at 1)) refl)
+same_product l r a b (inr e) (inr f) = inl (ap₂ ◌*ℚ◌ e f ∙ by_ring ring_ℚ (a ∷ b ∷ []) (pneg (at 0) ⊗ pneg (at 1)) (at 0 ⊗ at 1) refl)
+
+pub sides_product : (l r a b : Fraction) → (SameSize l a × SameSize r b) ⊎ (SameSize l b × SameSize r a) → SameSize (l *ℚ r) (a *ℚ b)
+sides_product l r a b (inl q) = same_product l r a b q.0 q.1
+sides_product l r a b (inr q) = subst (SameSize (l *ℚ r)) (ring_ℚ.times_comm b a) (same_product l r b a q.0 q.1)
+
+-- numbers that count with either sign, and the first terms of a sum among them: what is refused in it is on the way to one that is too large
+module _ (M : Fraction → Type 0) (turned : (x : Fraction) → M x → M (neg_ℚ x)) (terms : List Term) (numbers : (k : ℕ) → M (prefix k terms)) where
+  turned_as : (x y : Fraction) → SameSize x y → M y → M x
+  turned_as x y (inl e) h = subst M (sym e) h
+  turned_as x y (inr e) h = subst M (sym e) (turned y h)
+
+  large_as : (bound : ℕ) (x y : Fraction) → SameSize x y → IsTooLarge bound y → IsTooLarge bound x
+  large_as bound x y (inl e) h = subst (IsTooLarge bound) (sym e) h
+  large_as bound x y (inr e) h = subst (IsTooLarge bound) (sym e) (too_large_turned bound y h)
+
+  -- the outcome is the sum with the term
+  outcome_large : (bound k : ℕ) (op : Op) (l r : Fraction) → IsNextTerm terms op l r k → IsTooLarge bound (prefix (k + 1) terms) → IsForLarge M bound op l r
+  outcome_large bound k op l r next large = record {
+    number = outcome op l r;
+    is_number = turned_as (outcome op l r) (prefix (k + 1) terms) next.after (numbers (k + 1));
+    too_large = large_as bound (outcome op l r) (prefix (k + 1) terms) next.after large;
+    made = itself op l r;
+  }
+
+  -- the product is the term, up to sign, so that the sum before it, with the same sign, makes the sum with it
+  product_large : (bound k : ℕ) (l r : Fraction) → k < length terms → SameSize (l *ℚ r) (term_value (term_at terms k)) → IsTooLarge bound (prefix (k + 1) terms) → IsForLarge M bound Times l r
+  product_large bound k l r inside same large = by same
+    where
+      more : prefix (k + 1) terms ≡ prefix k terms +ℚ term_value (term_at terms k)
+      more = prefix-more k terms (Plain (whole (pos 0))) inside
+
+      by : SameSize (l *ℚ r) (term_value (term_at terms k)) → IsForLarge M bound Times l r
+      by (inl e) = let is : prefix (k + 1) terms ≡ prefix k terms +ℚ l *ℚ r = more ∙ ap (λ t. prefix k terms +ℚ t) (sym e) in record {
+        number = prefix k terms +ℚ l *ℚ r;
+        is_number = subst M is (numbers (k + 1));
+        too_large = subst (IsTooLarge bound) is large;
+        made = added_to (prefix k terms) l r (numbers k);
+      }
+      by (inr e) =
+          let is : neg_ℚ (prefix (k + 1) terms) ≡ neg_ℚ (prefix k terms) +ℚ l *ℚ r =
+              ap neg_ℚ more ∙ by_ring ring_ℚ (prefix k terms ∷ term_value (term_at terms k) ∷ []) (pneg (at 0 ⊕ at 1)) (pneg (at 0) ⊕ pneg (at 1)) refl ∙ ap (λ t. neg_ℚ (prefix k terms) +ℚ t) (sym e) in
+          record {
+            number = neg_ℚ (prefix k terms) +ℚ l *ℚ r;
+            is_number = subst M is (turned (prefix (k + 1) terms) (numbers (k + 1)));
+            too_large = subst (IsTooLarge bound) is (too_large_turned bound (prefix (k + 1) terms) large);
+            made = added_to (neg_ℚ (prefix k terms)) l r (turned (prefix k terms) (numbers k));
+          }
+
+  step_large : (bound : ℕ) (op : Op) (l r : Fraction) (k : ℕ) → IsSumStep terms op l r k → IsTooLarge bound (prefix (k + 1) terms) → IsForLarge M bound op l r
+  step_large bound Plus l r k next large = outcome_large bound k Plus l r next large
+  step_large bound Minus l r k next large = outcome_large bound k Minus l r next large
+  step_large bound Times l r k (a, b, f) large =
+      product_large bound k l r f.inside (subst (λ (t : Term). SameSize (l *ℚ r) (term_value t)) (sym f.product) (sides_product l r a b f.sides)) large
+
+  pub sum_large : (bound : ℕ) (p : Passed Fraction) → IsRefusedIn terms bound p → IsForLarge M bound p.op p.left p.right
+  sum_large bound p r = step_large bound p.op p.left p.right r.place r.step r.too_large
 
 -- a working pair of the system is one of the market
 pub of_system_pair : (m : Parts) (taken g : List Row) → Growth m taken g → (bound : ℕ) (p : Passed Fraction) → IsSystemPair (system_of m g) bound p.op p.left p.right → IsRangeOf m taken bound p
@@ -115,9 +179,14 @@ of_system_pair m taken g reached bound p pair = record {
     near_is_choice = pair.near_is_choice;
     are_near = pair.are_near;
     sides = inl (IsPairCase-each each p.op p.left p.right pair.sides);
+    large = IsForLarge-each written bound p.op p.left p.right pair.large;
   };
 }
   where
+    written : (x : Fraction) → AtEither (SolvingNumber (system_of m g)) pair.one pair.near x → AtEither (ClearingNumber m g) pair.one pair.near x
+    written x (inl n) = inl (of_solving x n)
+    written x (inr n) = inr (of_solving x n)
+
     each : (kind : Kind) (x : Fraction) → OfEither (SystemNumber (system_of m g)) pair.one pair.near kind x → OfEither (MarketNumber m g) pair.one pair.near kind x
     each kind x (inl n) = inl (of_system kind x n)
     each kind x (inr n) = inr (of_system kind x n)
@@ -134,8 +203,8 @@ module _ (m : Parts) (taken g : List Row) (reached : Growth m taken g) (h : Choi
   either_opposite kind x (inl n) = inl (of_opposite kind x n)
   either_opposite kind x (inr n) = inr (of_opposite kind x n)
 
-  pub by_numbers : Passes bound p.op p.left p.right → IsPairCase Number p.op p.left p.right → IsRangeOf m taken bound p
-  by_numbers passes c = record {
+  pub by_numbers : Passes bound p.op p.left p.right → IsPairCase Number p.op p.left p.right → IsForLarge (ClearingNumber m g h) bound p.op p.left p.right → IsRangeOf m taken bound p
+  by_numbers passes c large = record {
     rows = g;
     reached = reached;
     pair = record {
@@ -146,6 +215,7 @@ module _ (m : Parts) (taken g : List Row) (reached : Growth m taken g) (h : Choi
       near_is_choice = is;
       are_near = inl refl;
       sides = inl (IsPairCase-each (λ kind x n. inl n) p.op p.left p.right c);
+      large = IsForLarge-each (λ x n. inl n) bound p.op p.left p.right large;
     };
   }
 
@@ -160,7 +230,8 @@ module _ (m : Parts) (taken g : List Row) (reached : Growth m taken g) (h : Choi
       is_choice = is;
       near_is_choice = is;
       are_near = inl refl;
-      sides = inr (record { terms = terms; sum = named; step = r.step });
+      sides = inr (record { terms = terms; sum = named; place = r.place; step = r.step });
+      large = IsForLarge-each (λ x n. inl n) bound p.op p.left p.right (sum_large (ClearingNumber m g h) is_turned terms (λ k. of_money terms k named) bound p r);
     };
   }
 
@@ -171,11 +242,17 @@ module _ (m : Parts) (taken g : List Row) (reached : Growth m taken g) (h : Choi
   summand : (kind : Kind) (x y : Fraction) → x ≡ y → Number kind y → IsSummand Number kind x
   summand kind x y e n = subst (IsSummand Number kind) (sym e) (plain y (alone y n))
 
-  by_two : (kind : Kind) (x y : Fraction) → Number kind x → Number kind y → IsRefusal Plus x y bound p ⊎ IsRefusal Minus x y bound p → IsRangeOf m taken bound p
-  by_two kind x y n k (inl r) = by_numbers r.passes
-      (subst (λ (o : Op). IsPairCase Number o p.left p.right) (sym r.same_op) (added kind p.left p.right (summand kind p.left x r.same_left n) (summand kind p.right y r.same_right k)))
-  by_two kind x y n k (inr r) = by_numbers r.passes
+  by_less : (kind : Kind) (x y : Fraction) → Number kind x → Number kind y → ClearingNumber m g h (x -ℚ y) → IsRefusal Minus x y bound p → IsRangeOf m taken bound p
+  by_less kind x y n k difference r = by_numbers r.passes
       (subst (λ (o : Op). IsPairCase Number o p.left p.right) (sym r.same_op) (subtracted kind p.left p.right (summand kind p.left x r.same_left n) (summand kind p.right y r.same_right k)))
+      (record {
+        number = x -ℚ y;
+        is_number = difference;
+        too_large = r.too_large;
+        made =
+            subst (λ (o : Op). Makes (ClearingNumber m g h) o p.left p.right (x -ℚ y)) (sym r.same_op)
+            (subst₂ (λ (a b : Fraction). Makes (ClearingNumber m g h) Minus a b (x -ℚ y)) (sym r.same_left) (sym r.same_right) (itself Minus x y));
+      })
 
   -- ---- the products among the terms of a sum
   -- a factor and what it scales
@@ -209,7 +286,8 @@ module _ (m : Parts) (taken g : List Row) (reached : Growth m taken g) (h : Choi
 
   by_steps : (kind : Kind) (terms : List Term) → NamedSum m g h (Some kind) terms → AreScaled kind terms → IsRefusedIn terms bound p → IsRangeOf m taken bound p
   by_steps kind terms named scaled r =
-      by_numbers r.passes (step_case Number opposite kind terms (λ k. of_sum kind terms k named) (scaled_at kind terms scaled) (sized Number opposite Factor) p.op p.left p.right r.step)
+      by_numbers r.passes (step_case Number opposite kind terms (λ k. of_sum kind terms k named) (scaled_at kind terms scaled) (sized Number opposite Factor) p.op p.left p.right r.place r.step)
+      (sum_large (ClearingNumber m g h) is_turned terms (λ k. of_kind kind (prefix k terms) (of_sum kind terms k named)) bound p r)
 
   whole_sum : (kind : Kind) (terms : List Term) → NamedSum m g h (Some kind) terms → Number kind (total terms)
   whole_sum kind terms named = subst (Number kind) (prefix-all terms) (of_sum kind terms (length terms) named)
@@ -337,5 +415,5 @@ pub law_of_the_pairs : LawOfThePairs
 law_of_the_pairs m taken g h bound p market reached is = record {
   system = of_system_pair m taken g reached bound p;
   sum = by_sum m taken g reached h is bound p market;
-  two = by_two m taken g reached h is bound p;
+  less = by_less m taken g reached h is bound p;
 }

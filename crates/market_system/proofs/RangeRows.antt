@@ -10,7 +10,7 @@ use Rattle.fraction_theory.proofs.SumLaws.{prefix-more}
 use Rattle.fraction_theory.proofs.OrderLaws.{whole-≤ℚ, <ℚ_irrefl}
 use Rattle.exact_fraction.specs.declared.Op.TheVariants.{Plus}
 use Rattle.exact_fraction.specs.declared.Passed.{Passed}
-use Rattle.exact_fraction.specs.Passes.{SumPasses}
+use Rattle.exact_fraction.specs.Passes.{IsTooLarge, SumPasses}
 use Rattle.market_model.specs.declared.participants.Side.TheVariants.{Sell, Buy}
 use Rattle.market_model.specs.declared.participants.Parts.{Parts}
 use Rattle.market_model.specs.declared.answered.Duals.{Duals}
@@ -168,6 +168,13 @@ passes : SumPasses (2 ^ 127 - 1) too_large.left too_large.right
 unfolding SumPasses lcm gcd gcd_in whole
 passes = inr (inr (inl (Prim.omega arith)))
 
+all_is : too_large.left +ℚ too_large.right ≡ prefix 3 (welfare_terms big_buses all_sold)
+all_is = ap₂ ◌+ℚ◌ (sym left_is) (sym right_is) ∙ sym (prefix-more 2 (welfare_terms big_buses all_sold) (Plain (whole (pos 0))) (Prim.omega arith))
+
+sum_is_large : IsTooLarge (2 ^ 127 - 1) (too_large.left +ℚ too_large.right)
+unfolding ◌+ℚ◌ over whole gcd gcd_in
+sum_is_large = inl (Prim.omega arith)
+
 -- the welfare is a sum of money at that choice
 welfare_named : NamedSum big_buses [] chosen None (welfare_terms big_buses all_sold)
 welfare_named = subst (λ (y : Dispatch). NamedSum big_buses [] chosen None (welfare_terms big_buses y)) all_are_sold (of_welfare chosen-best)
@@ -175,14 +182,13 @@ welfare_named = subst (λ (y : Dispatch). NamedSum big_buses [] chosen None (wel
 pub big_buses-range : IsRangeOf big_buses [] (2 ^ 127 - 1) too_large
 big_buses-range =
     (law_of_the_pairs big_buses [] [] chosen (2 ^ 127 - 1) too_large big_buses-market ([], refl, tt) (block_choice_is big_buses all_high 0 (Prim.omega arith))).sum None (welfare_terms big_buses all_sold) welfare_named (record {
-      step = (
-        2,
-        record {
-          inside = Prim.omega arith;
-          before = inl (sym left_is);
-          next = inl (sym right_is);
-          after = inl (ap₂ ◌+ℚ◌ (sym left_is) (sym right_is) ∙ sym (prefix-more 2 (welfare_terms big_buses all_sold) (Plain (whole (pos 0))) (Prim.omega arith)));
-        },
-      );
+      place = 2;
+      step = record {
+        inside = Prim.omega arith;
+        before = inl (sym left_is);
+        next = inl (sym right_is);
+        after = inl all_is;
+      };
       passes = passes;
+      too_large = subst (IsTooLarge (2 ^ 127 - 1)) all_is sum_is_large;
     })

@@ -1,5 +1,5 @@
 //! Laws of the definitions, each the contract of a function that does nothing.
-ghost use Rattle.market_system.specs.Completeness.{LawOfCompleteness};
+ghost use Rattle.market_system.specs.Completeness.{LawOfCompleteness, LawOfTheNumbers};
 ghost use Rattle.market_system.specs.FrameLaw.{LawOfTheFrame};
 ghost use Rattle.market_system.specs.ModestMarkets.{LawOfModestMarkets};
 ghost use Rattle.market_system.specs.PairLaw.{LawOfThePairs};
@@ -51,6 +51,11 @@ pub fn refusals_are_pairs()
 /// these is cleared where a dispatch is feasible, and infeasible where none is.
 pub fn no_pair_no_range()
     ensures { LawOfCompleteness }
+{}
+
+/// Where no number that a clear has to write down is too large, no working pair passes.
+pub fn no_number_no_pair()
+    ensures { LawOfTheNumbers }
 {}
 
 /// In a market without lines, with no number above ten million MW or a thousand million per MWh, no
