@@ -12,7 +12,7 @@ use Rattle.fraction_theory.proofs.SumLaws.{total-append}
 use Rattle.exact_fraction.specs.declared.Op.{Op}
 use Rattle.exact_fraction.specs.declared.Op.TheVariants.{Plus, Minus, Times}
 use Rattle.exact_fraction.specs.declared.Passed.{Passed}
-use Rattle.exact_fraction.specs.Passes.{outcome}
+use Rattle.exact_fraction.specs.Passes.{IsTooLarge, outcome}
 use Rattle.market_data.specs.declared.participants.Bus.{Bus}
 use Rattle.market_data.specs.declared.participants.Unit as unit
 use Rattle.market_model.specs.declared.participants.Block.{Block}
@@ -100,12 +100,11 @@ next_in_front ts us op l r k next =
       after = subst (SameSize (outcome op l r)) (sym (prefix-front (k + 1) ts us (Prim.omega (arith, inside)))) next.after;
     }
 
-step_in_front : (ts us : List Term) (op : Op) (l r : Fraction) → IsSumStep ts op l r → IsSumStep (ts ++ us) op l r
-step_in_front ts us Plus l r (k, next) = (k, next_in_front ts us Plus l r k next)
-step_in_front ts us Minus l r (k, next) = (k, next_in_front ts us Minus l r k next)
-step_in_front ts us Times l r (k, a, b, factors) =
+step_in_front : (ts us : List Term) (op : Op) (l r : Fraction) (k : ℕ) → IsSumStep ts op l r k → IsSumStep (ts ++ us) op l r k
+step_in_front ts us Plus l r k next = next_in_front ts us Plus l r k next
+step_in_front ts us Minus l r k next = next_in_front ts us Minus l r k next
+step_in_front ts us Times l r k (a, b, factors) =
     let inside : k < length ts = factors.inside in (
-      k,
       a,
       b,
       record {
@@ -115,8 +114,21 @@ step_in_front ts us Times l r (k, a, b, factors) =
       },
     )
 
+-- a step is at one of the terms
+step_inside : (ts : List Term) (op : Op) (l r : Fraction) (k : ℕ) → IsSumStep ts op l r k → k < length ts
+step_inside ts Plus l r k next = next.inside
+step_inside ts Minus l r k next = next.inside
+step_inside ts Times l r k (a, b, factors) = factors.inside
+
 refused_in_front : (ts us : List Term) (bound : ℕ) (p : Passed Fraction) → IsRefusedIn ts bound p → IsRefusedIn (ts ++ us) bound p
-refused_in_front ts us bound p h = record { step = step_in_front ts us p.op p.left p.right h.step; passes = h.passes }
+refused_in_front ts us bound p h =
+    let inside : h.place < length ts = step_inside ts p.op p.left p.right h.place h.step in
+    record {
+      place = h.place;
+      step = step_in_front ts us p.op p.left p.right h.place h.step;
+      passes = h.passes;
+      too_large = subst (IsTooLarge bound) (sym (prefix-front (h.place + 1) ts us (Prim.omega (arith, inside)))) h.too_large;
+    }
 
 -- ---- what a bus puts in
 pub demand_less : (m : Parts) (x : Dispatch) (i : ℕ) (b : Bus) (sum left : Fraction) → b ≡ bus_at m i → sum ≡ total (map (fixed_term m) (units_at m i) ++ map (block_term m x) (blocks_at m i))

@@ -1,11 +1,11 @@
 -- Operations that are refused where terms are added up, one by one.
-use Rattle.std.specs.Prelude.{◌≡◌, ℕ, ◌+◌, ◌<◌, pos, Bool, true, List, [], ◌∷◌, ◌++◌, map, filter, cond, length, refl}
+use Rattle.std.specs.Prelude.{◌≡◌, ◌⊎◌, ℕ, ◌+◌, ◌<◌, pos, Bool, true, List, [], ◌∷◌, ◌++◌, map, filter, cond, length, refl}
 use Rattle.std.specs.List.{range_with_len}
 use Rattle.std.proofs.Common.{zero, suc, arith, ap, ap₂, sym, ◌∙◌, subst, subst₂, inl, inr, append_assoc, length-append, take}
 use Rattle.std.proofs.Math.Seq.{get_or-append_seam}
 use Rattle.std.proofs.lemmas.List.{map-append}
 use Rattle.std.proofs.lemmas.List.Elements.{filter-append}
-use Rattle.fraction_theory.specs.Fraction.{Fraction, whole, neg_ℚ, ◌+ℚ◌, ◌-ℚ◌}
+use Rattle.fraction_theory.specs.Fraction.{Fraction, whole, neg_ℚ, unsigned_abs-neg, ◌+ℚ◌, ◌-ℚ◌, ◌*ℚ◌}
 use Rattle.fraction_theory.specs.Sums.{Term, Plain, Product, term_value, total, prefix}
 use Rattle.fraction_theory.proofs.FieldLaws.{ring_ℚ}
 use Rattle.fraction_theory.proofs.Ring.{by_ring, at, pneg, ◌⊕◌}
@@ -13,27 +13,40 @@ use Rattle.fraction_theory.proofs.SumLaws.{prefix-more}
 use Rattle.exact_fraction.specs.declared.Op.{Op}
 use Rattle.exact_fraction.specs.declared.Op.TheVariants.{Plus, Minus, Times}
 use Rattle.exact_fraction.specs.declared.Passed.{Passed}
-use Rattle.exact_fraction.specs.Passes.{Passes, IsPassed, outcome}
+use Rattle.exact_fraction.specs.Passes.{IsTooLarge, IsTooLargeAt, outcome}
+use Rattle.exact_fraction.proofs.Shares.{passes_at}
 use Rattle.market_model.specs.Dispatch.{places}
-use Rattle.market_model.specs.NamedSums.{SameSize, term_at, IsNextTerm, IsSumStep, IsRefusedIn, IsRefusal}
+use Rattle.market_model.specs.NamedSums.{SameSize, term_at, IsNextTerm, IsSumStep, IsRefusedIn, IsRefusal, IsShareRefusal}
 use Rattle.market_model.specs.Valued.{passed_at}
 
 -- what a refused operation of numbers is of their values
 pub refusal : {N : Type 0} (value : N → Fraction) (bound : ℕ) (op : Op) (l r : N) (x y : Fraction) (e : Passed N) → value l ≡ x → value r ≡ y
-    → IsPassed value bound op l r e → IsRefusal op x y bound (passed_at value e)
+    → IsTooLargeAt value bound op l r e → IsRefusal op x y bound (passed_at value e)
 refusal value bound op l r x y e left right h =
     record {
-      same_op = h.same_op;
-      same_left = ap value h.same_left ∙ left;
-      same_right = ap value h.same_right ∙ right;
-      passes =
-          subst (λ (o : Op). Passes bound o (value e.left) (value e.right)) (sym h.same_op)
-          (subst₂ (λ (a b : Fraction). Passes bound op a b) (sym (ap value h.same_left)) (sym (ap value h.same_right)) h.passes);
+      same_op = h.passed.same_op;
+      same_left = ap value h.passed.same_left ∙ left;
+      same_right = ap value h.passed.same_right ∙ right;
+      passes = passes_at value bound op l r e h.passed;
+      too_large = subst₂ (λ (a b : Fraction). IsTooLarge bound (outcome op a b)) left right h.too_large;
     }
 
 -- the same of sides that have the same values
 pub refusal_same : (op : Op) (x y x' y' : Fraction) (bound : ℕ) (p : Passed Fraction) → x ≡ x' → y ≡ y' → IsRefusal op x y bound p → IsRefusal op x' y' bound p
-refusal_same op x y x' y' bound p e f h = record { same_op = h.same_op; same_left = h.same_left ∙ e; same_right = h.same_right ∙ f; passes = h.passes }
+refusal_same op x y x' y' bound p e f h = record {
+  same_op = h.same_op;
+  same_left = h.same_left ∙ e;
+  same_right = h.same_right ∙ f;
+  passes = h.passes;
+  too_large = subst₂ (λ (a b : Fraction). IsTooLarge bound (outcome op a b)) e f h.too_large;
+}
+
+-- a number is too large where its opposite is
+too_large_same : (bound : ℕ) (x y : Fraction) → SameSize x y → IsTooLarge bound x → IsTooLarge bound y
+unfolding neg_ℚ
+too_large_same bound x y (inl e) h = subst (IsTooLarge bound) e h
+too_large_same bound x y (inr e) h =
+    subst (λ (n : ℕ). (bound < n) ⊎ (bound < y.den)) (unsigned_abs-neg y.num) (subst (IsTooLarge bound) e h)
 
 -- terms with one of them in the middle
 module _ (terms front rest : List Term) (t : Term) (split : terms ≡ front ++ t ∷ rest) where
@@ -61,31 +74,50 @@ module _ (terms front rest : List Term) (t : Term) (split : terms ≡ front ++ t
     after = subst (SameSize (outcome op l r)) (sym all_is) all;
   }
 
-  module _ (bound : ℕ) (p : Passed Fraction) (l r : Fraction) where
-    stepped : (op : Op) → IsSumStep terms op l r → IsRefusal op l r bound p → IsRefusedIn terms bound p
-    stepped op step h = record {
+  module _ (bound : ℕ) (p : Passed Fraction) where
+    stepped : (op : Op) (l r : Fraction) → IsSumStep terms op l r (length front) → SameSize (outcome op l r) (prefix (length front + 1) terms) → IsRefusal op l r bound p → IsRefusedIn terms bound p
+    stepped op l r step after h = record {
+      place = length front;
       step =
-          subst (λ (o : Op). IsSumStep terms o p.left p.right) (sym h.same_op)
-          (subst₂ (λ (a b : Fraction). IsSumStep terms op a b) (sym h.same_left) (sym h.same_right) step);
+          subst (λ (o : Op). IsSumStep terms o p.left p.right (length front)) (sym h.same_op)
+          (subst₂ (λ (a b : Fraction). IsSumStep terms op a b (length front)) (sym h.same_left) (sym h.same_right) step);
       passes = h.passes;
+      too_large = too_large_same bound (outcome op l r) (prefix (length front + 1) terms) after h.too_large;
     }
 
     -- the term is added
-    pub plus_at : l ≡ total front → r ≡ term_value t → IsRefusal Plus l r bound p → IsRefusedIn terms bound p
-    plus_at left right h = stepped Plus (length front, next_is Plus l r (inl left) (inl right) (inl (ap₂ ◌+ℚ◌ left right))) h
+    pub plus_at : (l r : Fraction) → l ≡ total front → r ≡ term_value t → IsRefusal Plus l r bound p → IsRefusedIn terms bound p
+    plus_at l r left right h = let n = next_is Plus l r (inl left) (inl right) (inl (ap₂ ◌+ℚ◌ left right)) in stepped Plus l r n n.after h
 
     -- its opposite is subtracted
-    pub minus_at : l ≡ total front → r ≡ neg_ℚ (term_value t) → IsRefusal Minus l r bound p → IsRefusedIn terms bound p
-    minus_at left right h =
-        stepped Minus (length front, next_is Minus l r (inl left) (inr right) (inl (ap₂ ◌-ℚ◌ left right ∙ by_ring ring_ℚ (total front ∷ term_value t ∷ []) (at 0 ⊕ pneg (pneg (at 1))) (at 0 ⊕ at 1) refl))) h
+    pub minus_at : (l r : Fraction) → l ≡ total front → r ≡ neg_ℚ (term_value t) → IsRefusal Minus l r bound p → IsRefusedIn terms bound p
+    minus_at l r left right h =
+        let all = ap₂ ◌-ℚ◌ left right ∙ by_ring ring_ℚ (total front ∷ term_value t ∷ []) (at 0 ⊕ pneg (pneg (at 1))) (at 0 ⊕ at 1) refl in
+        let n = next_is Minus l r (inl left) (inr right) (inl all) in
+        stepped Minus l r n n.after h
 
-    -- both are turned round
-    pub turned_at : l ≡ neg_ℚ (total front) → r ≡ neg_ℚ (term_value t) → IsRefusal Plus l r bound p → IsRefusedIn terms bound p
-    turned_at left right h =
-        stepped Plus (length front, next_is Plus l r (inr left) (inr right) (inr (ap₂ ◌+ℚ◌ left right ∙ by_ring ring_ℚ (total front ∷ term_value t ∷ []) (pneg (at 0) ⊕ pneg (at 1)) (pneg (at 0 ⊕ at 1)) refl))) h
+    -- a product is added
+    pub share_at : (sum a b : Fraction) → t ≡ Product a b → sum ≡ total front → IsShareRefusal sum a b bound p → IsRefusedIn terms bound p
+    share_at sum a b product is h = record {
+      place = length front;
+      step = by h.way;
+      passes = h.passes;
+      too_large = subst (IsTooLarge bound) (sym sum_is) h.too_large;
+    }
+      where
+        made : term_value t ≡ a *ℚ b
+        made = ap term_value product
 
-    pub multiplied_at : (a b : Fraction) → t ≡ Product a b → SameSize l a → SameSize r b → IsRefusal Times l r bound p → IsRefusedIn terms bound p
-    multiplied_at a b product left right h = stepped Times (length front, a, b, record { inside = inside; product = here ∙ product; sides = inl (left, right) }) h
+        sum_is : prefix (length front + 1) terms ≡ sum +ℚ a *ℚ b
+        sum_is = all_is ∙ ap₂ ◌+ℚ◌ (sym is) made
+
+        by : ((p.op ≡ Times) × (p.left ≡ a) × (p.right ≡ b)) ⊎ ((p.op ≡ Plus) × (p.left ≡ sum) × (p.right ≡ a *ℚ b)) → IsSumStep terms p.op p.left p.right (length front)
+        by (inl (op, left, right)) =
+            subst (λ (o : Op). IsSumStep terms o p.left p.right (length front)) (sym op)
+            (a, b, record { inside = inside; product = here ∙ product; sides = inl (inl left, inl right) })
+        by (inr (op, left, right)) =
+            subst (λ (o : Op). IsSumStep terms o p.left p.right (length front)) (sym op)
+            (next_is Plus p.left p.right (inl (left ∙ is)) (inl (right ∙ sym made)) (inl (ap₂ ◌+ℚ◌ (left ∙ is) (right ∙ sym made))))
 
 -- the places from one on
 range_at : (a n k : ℕ) → k < n → (rest : List ℕ) × (range_with_len a n ≡ range_with_len a k ++ (a + k) ∷ rest)

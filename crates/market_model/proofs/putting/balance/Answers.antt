@@ -18,4 +18,4 @@ returns-in_err-sum-clause-cause g c =
     λ x puts. rw given
     (balance_refused g.N.Exact.value c.args.market.now x c.args.injections.now puts c.loop-mw.mw-index c.mw-item.result (g.N.Exact.value c.loop-mw.sum) g.N.Exact.bound
     (passed_at g.N.Exact.value c.in_err-sum.field-0.0) c.loop-mw-test.true c.mw-item.is c.loop-mw.invariant
-    (refusal g.N.Exact.value g.N.Exact.bound Op.Plus c.loop-mw.sum _ _ _ c.in_err-sum.field-0.0 refl refl c.in_err-sum.ensures.passed))
+    (refusal g.N.Exact.value g.N.Exact.bound Op.Plus c.loop-mw.sum _ _ _ c.in_err-sum.field-0.0 refl refl c.in_err-sum.ensures))
