@@ -17,7 +17,6 @@ use Rattle.market_model.specs.Infeasibility.{ShowsInfeasible}
 use Rattle.market_system.specs.MarketSystem.{balance_name, row_name, system_of, choice_dispatch, choice_duals}
 use Rattle.market_system.specs.Growth.{BestFor, PricesOnly}
 use Rattle.market_model.specs.NamedSums.{SameSize}
-use Rattle.market_model.specs.Overrun.{overrun}
 use Rattle.market_model.specs.SumTables.{FlowSum, OffsetSum, FactorSum, OutputSum, PriceSum, BoundSum, SettledSum}
 
 -- the choice's dispatch is feasible, and its duals support it
@@ -94,7 +93,5 @@ pub data ClearingNumber (m : Parts) (rows : List Row) (h : Choice) : Fraction �
   -- what the flow where nothing is accepted leaves of a limit on either side
   is_room_up : (r : Row) → Contains (all_rows m) r → ClearingNumber m rows h (limit m r -ℚ flow m (empty m) r)
   is_room_down : (r : Row) → Contains (all_rows m) r → ClearingNumber m rows h (neg_ℚ (limit m r) -ℚ flow m (empty m) r)
-  -- how far the flow of the choice's dispatch, where that is best for the rows, passes a limit
-  is_overrun : (r : Row) → BestFor m rows (choice_dispatch m rows h) → Contains (all_rows m) r → ClearingNumber m rows h (overrun m r (flow m (choice_dispatch m rows h) r))
   -- the opposite of a number
   is_turned : (x : Fraction) → ClearingNumber m rows h x → ClearingNumber m rows h (neg_ℚ x)
