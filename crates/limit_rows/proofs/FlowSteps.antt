@@ -1,11 +1,10 @@
 -- Steps of the flows of lines and rows, and of the offsets of rows.
-use Rattle.std.specs.Prelude.{◌≡◌, ◌≢◌, ◌⊎◌, ℕ, ◌+◌, ◌<◌, pos, ℤ, List, [], ◌∷◌, ◌++◌, map, length, refl}
-use Rattle.std.proofs.Common.{arith, inl, inr, ap, ap₂, sym, subst, ◌∙◌}
+use Rattle.std.specs.Prelude.{◌≡◌, ◌≢◌, ℕ, ◌+◌, ◌<◌, pos, ℤ, List, [], ◌∷◌, map, length, refl}
+use Rattle.std.proofs.Common.{arith, ap, ap₂, sym, subst, ◌∙◌}
 use Rattle.fraction_theory.specs.Fraction.{Fraction, whole, over, ◌+ℚ◌, ◌*ℚ◌}
 use Rattle.fraction_theory.specs.Sums.{Term, Plain, Product, total}
 use Rattle.fraction_theory.proofs.FieldLaws.{ring_ℚ, over-same, over-one, +ℚ_nil, +ℚ_assoc, *ℚ_comm}
 use Rattle.fraction_theory.proofs.Ring.{times_nil}
-use Rattle.exact_fraction.specs.declared.Op.TheVariants.{Plus, Times}
 use Rattle.exact_fraction.specs.declared.Passed.{Passed}
 use Rattle.market_data.specs.Scales.{factor_one}
 use Rattle.market_model.specs.declared.limits.Cause.{Cause}
@@ -14,13 +13,13 @@ use Rattle.market_model.specs.declared.limits.Row.{Row}
 use Rattle.market_model.specs.declared.participants.Parts.{Parts}
 use Rattle.market_model.specs.Dispatch.{Dispatch, places, injection}
 use Rattle.market_model.specs.LimitRows.{IsCauseAmong, flow_by, flow_terms, terms_under, line_flow, line_offset, line_terms, loss_factor, offset_terms, row_offset, shift_factor}
-use Rattle.market_model.specs.NamedSums.{IsRefusal, IsRefusedIn, IsShareRefusal}
+use Rattle.market_model.specs.NamedSums.{IsRefusedIn, IsShareRefusal}
 use Rattle.market_model.specs.PutIn.{AreInjections, put_in}
 use Rattle.market_model.specs.SumTables.{IsRefusedAmong, LineFlowSum, flow_of_line}
 use Rattle.market_model.proofs.MorePlaces.{total-places_more}
 use Rattle.market_model.proofs.PlaceLists.{filled_at, map_same}
 use Rattle.market_model.proofs.PutInSteps.{put_is}
-use Rattle.market_model.proofs.SumSteps.{plus_at, multiplied_at, terms_at}
+use Rattle.market_model.proofs.SumSteps.{share_at, terms_at}
 use Rattle.limit_rows.specs.LineFlows.{AreFlows}
 
 -- a factor of 0 takes nothing
@@ -46,22 +45,13 @@ module _ (m : Parts) (p : ℕ → Fraction) (l : ℕ) where
 
   pub line_refused : (k : ℕ) (h x sum : Fraction) (bound : ℕ) (e : Passed Fraction) → k < length m.buses → h ≡ shift_factor m l k → x ≡ p k → sum ≡ total (line_to k) → IsShareRefusal sum h x bound e
       → IsRefusedIn (line_terms m p l) bound e
-  line_refused k h x sum bound e below is at before why = by why
-    where
-      split : (rest : List Term) × (line_terms m p l ≡ line_to k ++ share_term k ∷ rest)
-      split = let r = terms_at share_term (length m.buses) k below in (r.0, ap (λ ts. Plain (line_offset m l) ∷ ts) r.1)
-
-      by : IsRefusal Times h x bound e ⊎ IsRefusal Plus sum (h *ℚ x) bound e → IsRefusedIn (line_terms m p l) bound e
-      by (inl c) = multiplied_at (line_terms m p l) (line_to k) split.0 (share_term k) split.1 bound e h x (shift_factor m l k) (p k) refl (inl is) (inl at) c
-      by (inr c) = (plus_at (line_terms m p l) (line_to k) split.0 (share_term k) split.1 bound e sum (h *ℚ x) before (ap₂ ◌*ℚ◌ is at) c)
+  line_refused k h x sum bound e below is at before why =
+      let r = terms_at share_term (length m.buses) k below in
+      share_at (line_terms m p l) (line_to k) r.0 (share_term k) (ap (λ ts. Plain (line_offset m l) ∷ ts) r.1) bound e sum h x (ap₂ Product (sym is) (sym at)) before why
 
 -- a sum of a number and a share
 pub share_refused : (a h x : Fraction) (bound : ℕ) (e : Passed Fraction) → IsShareRefusal a h x bound e → IsRefusedIn (Plain a ∷ Product h x ∷ []) bound e
-share_refused a h x bound e why = by why
-  where
-    by : IsRefusal Times h x bound e ⊎ IsRefusal Plus a (h *ℚ x) bound e → IsRefusedIn (Plain a ∷ Product h x ∷ []) bound e
-    by (inl c) = multiplied_at (Plain a ∷ Product h x ∷ []) (Plain a ∷ []) [] (Product h x) refl bound e h x h x refl (inl refl) (inl refl) c
-    by (inr c) = (plus_at (Plain a ∷ Product h x ∷ []) (Plain a ∷ []) [] (Product h x) refl bound e a (h *ℚ x) (sym (+ℚ_nil a)) refl c)
+share_refused a h x bound e why = share_at (Plain a ∷ Product h x ∷ []) (Plain a ∷ []) [] (Product h x) refl bound e a h x refl (sym (+ℚ_nil a)) why
 
 -- ---- the flow of a row, where lines have flows f
 module _ (m : Parts) (f : ℕ → Fraction) (l : ℕ) where

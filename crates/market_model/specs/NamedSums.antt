@@ -1,6 +1,6 @@
 -- The operations that add up the terms of a sum in their order.
 use Rattle.std.specs.Prelude.{◌≡◌, ℕ, ◌+◌, ◌<◌, pos, List, length, slice_index_or, ◌⊎◌}
-use Rattle.fraction_theory.specs.Fraction.{Fraction, whole, neg_ℚ, ◌*ℚ◌}
+use Rattle.fraction_theory.specs.Fraction.{Fraction, whole, neg_ℚ}
 use Rattle.fraction_theory.specs.Sums.{Term, Plain, Product, term_value, prefix}
 use Rattle.exact_fraction.specs.declared.Op.{Op}
 use Rattle.exact_fraction.specs.declared.Op.TheVariants.{Plus, Minus, Times}
