@@ -2,10 +2,11 @@
 use Rattle.std.specs.Prelude.{◌≡◌, ℕ, ◌+◌, ◌*◌, ◌<◌, ◌≤◌, Bool, false, pos, List, [], ◌∷◌, ◌++◌, length, map, insert, slice_index, slice_get, Some, refl, take, drop, filter, cond, true}
 use Rattle.std.specs.List.{Contains}
 use Rattle.std.specs.List.Sorted.{IsStrictlyIncreasing}
-use Rattle.std.proofs.Common.{suc, arith, ap, sym, ◌∙◌, subst, inl, inr, get_or, length-append, subst₂}
+use Rattle.std.proofs.Common.{suc, arith, ap, sym, ◌∙◌, subst, inl, inr, get_or, length-append}
 use Rattle.std.proofs.lemmas.List.{get_or_append_left, length-map, map-append, take-append-drop, take-map, length-take, get_or-take}
 use Rattle.std.proofs.lemmas.List.Edits.{get_or-insert_at, get_or-insert_above, get_or-insert_below, length-insert}
 use Rattle.std.proofs.Math.Nat.{mul-le-mul_right}
+use Rattle.std.proofs.Math.Path.{subst₃}
 use Rattle.std.proofs.Math.Seq.{get_or-append_seam, take-append_seam, drop-cons}
 use Rattle.std.proofs.lemmas.Option.{slice_get-get_or, get_or_from_slice_get}
 use mathlib.Core.Path.{ap₂}
@@ -20,14 +21,13 @@ use Rattle.fraction_theory.proofs.SumLaws.{total-Product}
 use Rattle.fraction_theory.proofs.FieldLaws.{ring_ℚ}
 use Rattle.linear_dict.specs.Adding.{AreSums, row_term, AreWithin, IsInTable, IsPutAmong}
 use Rattle.exact_fraction.specs.declared.Op.{Op}
-use Rattle.exact_fraction.specs.Passes.{Passes}
+use Rattle.exact_fraction.specs.Passes.{IsShareRefused}
 use Rattle.linear_system.specs.Pairs.{IsSystemPair}
 use Rattle.linear_system.specs.SameSystems.{SameRows}
 use Rattle.linear_system.specs.Systems.{System}
 use Rattle.std.specs.List.{range_with_len}
 use Rattle.std.proofs.lemmas.List.FromFn.{get_or-map-range_with_len, length-map-range_with_len}
-use Rattle.exact_fraction.specs.declared.Op.TheVariants.{Plus, Times}
-use Rattle.linear_dict.specs.Causes.{AddOperation, RowOperation, TermOperation, MultipleOperation, multiply, increase, of_basic, of_other, of_variable, scaling_entry, adding_term, put_number, put_terms}
+use Rattle.linear_dict.specs.Causes.{AddShare, RowShare, TermShare, MultipleShare, increase, of_basic, of_other, of_variable, adding_term, put_number, put_terms}
 use Rattle.linear_dict.proofs.MovedLemmas.{name_at}
 use Rattle.linear_dict.specs.declared.index.Variable.{Variable}
 use Rattle.linear_dict.specs.declared.place.Place.{Place}
@@ -179,34 +179,28 @@ module _ {N : Type 0} (value : N → Fraction) (columns rows : List ℕ) (coeffi
             m,
           )
 
-      multiple_asks : (j r : ℕ) → v.put ≡ Column j → v.place ≡ Row r → (op : Op) (x y : Fraction)
-          → MultipleOperation (length others) (λ c. sum_by (row_term value (length others) table entries c) (take k vs)) (get_or (map value entries) j (whole (pos 0))) (cell (length others) (map value table) r) op x y
-          → AddOperation d (map value entries) op x y
-      multiple_asks j r put at _ _ _ (multiply c hc) =
-          let n = number_here j put in
-          let e = entry_here r c at hc in
-          subst₂ (AddOperation d (map value entries) Times) n.1 e.1
-          (scaling_entry v.name (slice_index others c) (basic_in d h v.name e.2) (column_in n.0) (other_here c hc))
+      multiple_asks : (j r : ℕ) → v.put ≡ Column j → v.place ≡ Row r → (x a b : Fraction)
+          → MultipleShare (length others) (λ c. sum_by (row_term value (length others) table entries c) (take k vs)) (get_or (map value entries) j (whole (pos 0))) (cell (length others) (map value table) r) x a b
+          → AddShare d (map value entries) x a b
       multiple_asks j r put at _ _ _ (increase c hc) =
           let n = number_here j put in
           let e = entry_here r c at hc in
-          subst₂ (AddOperation d (map value entries) Plus) (prefix_here n.0 c hc) (ap₂ ◌*ℚ◌ n.1 (column_entry-basic (choice_of d) v.name (slice_index others c) e.0 ∙ e.1))
+          subst₃ (AddShare d (map value entries)) (prefix_here n.0 c hc) n.1 (column_entry-basic (choice_of d) v.name (slice_index others c) e.0 ∙ e.1)
           (adding_term (length before) v.name (slice_index others c) (column_here n.0) (other_here c hc))
 
-      variable_asks : (op : Op) (x y : Fraction) → TermOperation value (length others) table entries v (λ c. sum_by (row_term value (length others) table entries c) (take k vs)) op x y → AddOperation d (map value entries) op x y
-      variable_asks _ _ _ (of_basic j r op x y put at o) = multiple_asks j r put at op x y o
+      variable_asks : (x a b : Fraction) → TermShare value (length others) table entries v (λ c. sum_by (row_term value (length others) table entries c) (take k vs)) x a b → AddShare d (map value entries) x a b
+      variable_asks _ _ _ (of_basic j r x a b put at o) = multiple_asks j r put at x a b o
       variable_asks _ _ _ (of_other j c put at) =
           let n = number_here j put in
           let s : StandsAt basics others v.name (Column c) = subst (StandsAt basics others v.name) at (index.stands k v got) in
           let in_others : Contains others v.name = subst (Contains others) s.1 (Contains-at others c s.0) in
           let other : (choice_of d).basic v.name ≡ false = basic_false v.name in_others in
-          subst₂ (AddOperation d (map value entries) Plus) (prefix_here n.0 c s.0)
-          (ap₂ ◌*ℚ◌ n.1 (ap (column_entry (choice_of d) v.name) s.1 ∙ column_entry-itself (choice_of d) v.name other) ∙ ring_ℚ.times_one (get_or (map value entries) j (whole (pos 0))))
+          subst₃ (AddShare d (map value entries)) (prefix_here n.0 c s.0) n.1 (ap (column_entry (choice_of d) v.name) s.1 ∙ column_entry-itself (choice_of d) v.name other)
           (adding_term (length before) v.name (slice_index others c) (column_here n.0) (other_here c s.0))
 
     -- what adding the terms asks is what adding the row asks
-    pub row_asks : (op : Op) (x y : Fraction) → RowOperation value (length others) table entries vs op x y → AddOperation (seen value columns rows coefficients others basics table vs spent) (map value entries) op x y
-    row_asks _ _ _ (of_variable k v op x y got o) = variable_asks k v got op x y o
+    pub row_asks : (x a b : Fraction) → RowShare value (length others) table entries vs x a b → AddShare (seen value columns rows coefficients others basics table vs spent) (map value entries) x a b
+    row_asks _ _ _ (of_variable k v x a b got o) = variable_asks k v got x a b o
 
     -- each variable's places are in the table and among the entries
     pub places_within : length entries ≡ length columns → AreWithin (length table) (length others) (length entries) vs
@@ -364,21 +358,21 @@ module _ {N : Type 0} (value : N → Fraction) (columns rows : List ℕ) (coeffi
 -- Whatever the numbers of the type can hold, a row can be put in; what is refused in doing so is a working pair with it,
 -- whatever the prices and bounds.
 pub row_pair : {N : Type 0} (value : N → Fraction) (d : Dictionary) → IsDictionary d → d.spent ≡ false → (row : ℕ) → ¬ (Contains d.names row) → (entries : List N) → length entries ≡ length d.columns
-    → (bound : ℕ) (op : Op) (x y : Fraction) → AddOperation d (map value entries) op x y → Passes bound op x y
-    → (new : Dictionary) × AddsRow value d row entries new × ((s : System) → SameRows (system_in new) s → IsSystemPair s bound op x y)
+    → (bound : ℕ) (op : Op) (left right x a b : Fraction) → AddShare d (map value entries) x a b → IsShareRefused bound x a b op left right
+    → (new : Dictionary) × AddsRow value d row entries new × ((s : System) → SameRows (system_in new) s → IsSystemPair s bound op left right)
 unfolding note_of
-row_pair value d h live row absent entries count bound op x y asked passes =
+row_pair value d h live row absent entries count bound op left right x a b asked refused =
     let es : List Fraction = map value entries in
-    let b = belongs d.names row h.ascending absent in
+    let at = belongs d.names row h.ascending absent in
     let entry : ℕ → Fraction = λ k. sum_by (λ j. get_or es (place_in d.columns j) (whole (pos 0)) *ℚ column_entry (choice_of d) j (slice_index d.others k)) (system_in d).columns in
     let n : ℕ = length d.others in
     let fresh : List Fraction = map entry (range_with_len 0 n) in
-    let notes : List Noted = insert d.notes b.0 blank in
+    let notes : List Noted = insert d.notes at.0 blank in
     let ec : length es ≡ length d.columns = length-map entries value ∙ count in
     let fc : length fresh ≡ n = length-map-range_with_len entry 0 n in
-    let nc : length notes ≡ length d.names + 1 = length-insert d.notes b.0 blank (Prim.omega (arith, b.1, h.note_count)) ∙ ap (λ (k : ℕ). k + 1) h.note_count in
+    let nc : length notes ≡ length d.names + 1 = length-insert d.notes at.0 blank (Prim.omega (arith, at.1, h.note_count)) ∙ ap (λ (k : ℕ). k + 1) h.note_count in
     let sums : (k : ℕ) → k < length d.others → get_or fresh k (whole (pos 0)) ≡ entry k = λ k l. get_or-map-range_with_len entry 0 n k k (whole (pos 0)) l (Prim.omega arith) in (
-      grown d h live row b.0 absent b.1 b.2 es fresh notes ec fc nc,
+      grown d h live row at.0 absent at.1 at.2 es fresh notes ec fc nc,
       record {
         live = refl;
         columns = refl;
@@ -387,10 +381,10 @@ row_pair value d h live row absent entries count bound op x y asked passes =
         others = refl;
         basics = refl;
         table = take-append_seam d.table fresh;
-        row_entries = grown_entries d h live row b.0 absent b.1 b.2 es fresh notes ec fc nc sums;
-        notes = λ w m. insert_read d.names d.notes b.0 row blank w b.2 b.1 h.note_count m;
-        blank_note = insert_read_new d.names d.notes b.0 row blank b.2 b.1 h.note_count;
-        sound = grown_dictionary d h live row b.0 absent b.1 b.2 es fresh notes ec fc nc sums;
+        row_entries = grown_entries d h live row at.0 absent at.1 at.2 es fresh notes ec fc nc sums;
+        notes = λ w m. insert_read d.names d.notes at.0 row blank w at.2 at.1 h.note_count m;
+        blank_note = insert_read_new d.names d.notes at.0 row blank at.2 at.1 h.note_count;
+        sound = grown_dictionary d h live row at.0 absent at.1 at.2 es fresh notes ec fc nc sums;
       },
-      added_pair d h live row b.0 absent b.1 b.2 es fresh notes ec fc nc sums bound op x y asked passes,
+      added_pair d h live row at.0 absent at.1 at.2 es fresh notes ec fc nc sums bound op left right x a b asked refused,
     )

@@ -9,20 +9,22 @@ use Rattle.fraction_theory.proofs.Ring.{by_ring, at, pnil, padd}
 use Rattle.fraction_theory.proofs.FieldLaws.{ring_ℚ}
 use Rattle.fraction_theory.proofs.ListSums.{same_or_not, put_at-here, put_at-elsewhere}
 use Rattle.exact_fraction.specs.declared.Op.{Op}
-use Rattle.exact_fraction.specs.Passes.{Passes}
+use Rattle.exact_fraction.specs.Passes.{IsShareRefused}
 use Rattle.linear_system.specs.Choices.{Choice, IsChoice, OneExchange, basics, others}
-use Rattle.linear_system.specs.Numbers.{Kind, Factor, SystemNumber, is_entry, is_opposite}
-use Rattle.linear_system.specs.Pairs.{IsPairCase, IsSystemPair, OfEither, alone, plain, scaled, added, scaled_right}
+use Rattle.linear_system.specs.Numbers.{Kind, Factor, SystemNumber, is_zero, is_entry, is_opposite}
+use Rattle.linear_system.specs.Pairs.{IsSystemPair, OfEither, alone}
 use Rattle.linear_system.specs.Exchanges.{exchanged, entering_entry}
 use Rattle.linear_system.specs.Systems.{System}
 use Rattle.linear_system.proofs.ChoiceLaws.{same_choice, others_are, basics_are, is_basic, is_other}
+use Rattle.linear_system.proofs.PairLaws.{IsScaling}
 use Rattle.linear_system.proofs.ExchangeLaws.{exchanged_is, exchanged_once}
 use Rattle.fraction_theory.proofs.ListSums.{Distinct-increasing}
-use Rattle.linear_dict.specs.Causes.{PivotOperation, solving, scaling, adding}
+use Rattle.linear_dict.specs.Causes.{PivotShare, solving, scaling, adding}
 use Rattle.linear_dict.specs.Dictionaries.{Dictionary, IsDictionary, system_in, choice_of, entry_of, note_of, pivoted}
 use Rattle.linear_dict.specs.Places.{IsSplit}
 use Rattle.linear_dict.specs.Places.{place_in, is_among}
 use Rattle.linear_dict.specs.Tables.{cell, table_of, pivoted_cell, pivoted_row}
+use Rattle.linear_dict.proofs.CauseLemmas.{share_pair, written}
 use Rattle.linear_dict.proofs.NameLemmas.{place_in-at, among-tells, among-from, among-not}
 use Rattle.linear_dict.proofs.PivotLemmas.{pivoted-solved, pivoted-column, pivoted-other, row-itself, row-other}
 use Rattle.linear_dict.proofs.SplitLemmas.{Contains-at, set-has, set-keeps, set-cases, set-place_new, set-place_old, split_exchanged, system_is, basic_in, other_in}
@@ -222,6 +224,10 @@ module _ (d : Dictionary) (h : IsDictionary d) (r c : ℕ) (hr : r < length d.ba
   opposite x (inl n) = inl (is_opposite Factor x n)
   opposite x (inr n) = inr (is_opposite Factor x n)
 
+  zero_here : Number Factor (whole (pos 0))
+  unfolding Number
+  zero_here = inl is_zero
+
   -- an entry of the old table is one of the old choice
   entry_here : (i j : ℕ) → i < length d.basics → j < length d.others → Number Factor (f i j)
   unfolding Number old
@@ -250,49 +256,102 @@ module _ (d : Dictionary) (h : IsDictionary d) (r c : ℕ) (hr : r < length d.ba
       let is : k.entry y w ≡ pivoted_row f r c j = near_entry w ∙ solved_entry w j way in
       inr (subst (SystemNumber (system_in d) k Factor) is (is_entry y w (is_basic (system_in d) k y once.entering once.enters.1) cw))
 
-  -- an entry of the solved row is one of the choice after the exchange
-  entry_solved : (j : ℕ) → j < length d.others → Number Factor (pivoted_row f r c j)
+  -- a variable of another column stays an other one
+  other_near : (j : ℕ) → j < length d.others → j ≢ c
+      → Contains (others (system_in d) (exchanged old a b)) (slice_index d.others j) × (slice_index d.others j ≢ a) × (place_in d.others (slice_index d.others j) ≡ j)
   unfolding old a b system_in choice_of
-  entry_solved j hj =
+  other_near j hj n =
       let x : ℕ = slice_index d.basics r in
       let y : ℕ = slice_index d.others c in
       let w : ℕ = slice_index d.others j in
       let k : Choice = exchanged (choice_of d) x y in
       let m : Contains d.others w = Contains-at d.others j hj in
-      let s : System = system_in d in
-      elim (same_or_not j c) [
-        | inl e ↦ entry_near x j (is_other s k x once.leaving once.leaves.1) (inl (refl, e))
-        | inr n ↦
-            let at : place_in d.others w ≡ j = place_in-at d.others j w h.split.second_distinct hj refl in
-            let not_x : w ≢ x = λ e. no_a (subst (Contains d.others) e m) in
-            let not_y : w ≢ y = λ e. n (sym at ∙ ap (place_in d.others) e ∙ b_at) in
-            let named : Contains d.names w = h.split.second_named w m in
-            let stays : k.basic w ≡ false = sym (once.stays w named not_x not_y) ∙ among-not d.basics w (λ q. h.split.apart w q m) in
-            entry_near w j (is_other s k w named stays) (inr (not_x, n, at))
-      ]
+      let at : place_in d.others w ≡ j = place_in-at d.others j w h.split.second_distinct hj refl in
+      let not_x : w ≢ x = λ e. no_a (subst (Contains d.others) e m) in
+      let not_y : w ≢ y = λ e. n (sym at ∙ ap (place_in d.others) e ∙ b_at) in
+      let named : Contains d.names w = h.split.second_named w m in
+      let stays : k.basic w ≡ false = sym (once.stays w named not_x not_y) ∙ among-not d.basics w (λ q. h.split.apart w q m) in
+      (is_other (system_in d) k w named stays, not_x, at)
 
-  pair_case : (op : Op) (x y : Fraction) → PivotOperation (length d.basics) (length d.others) f r c op x y → IsPairCase Number op x y
-  pair_case _ _ _ (solving j hj n) = scaled_right Factor _ _ (opposite _ (entry_here r j hr hj)) (alone _ (subst (Number Factor) (row-itself f r c c refl) (entry_solved c hc)))
-  pair_case _ _ _ (scaling i j hi n hj) = scaled_right Factor _ _ (entry_here i c hi hc) (alone _ (entry_solved j hj))
-  pair_case _ _ _ (adding i j hi n hj m) = added Factor _ _ (plain _ (alone _ (entry_here i j hi hj))) (scaled _ _ (entry_here i c hi hc) (alone _ (entry_solved j hj)))
+  -- a variable of another row stays basic
+  basic_near : (i : ℕ) → i < length d.basics → i ≢ r
+      → Contains (basics (system_in d) (exchanged old a b)) (slice_index d.basics i) × (slice_index d.basics i ≢ b) × (place_in d.basics (slice_index d.basics i) ≡ i)
+  unfolding old a b system_in choice_of
+  basic_near i hi n =
+      let x : ℕ = slice_index d.basics r in
+      let y : ℕ = slice_index d.others c in
+      let w : ℕ = slice_index d.basics i in
+      let k : Choice = exchanged (choice_of d) x y in
+      let m : Contains d.basics w = Contains-at d.basics i hi in
+      let at : place_in d.basics w ≡ i = place_in-at d.basics i w h.split.first_distinct hi refl in
+      let not_x : w ≢ x = λ e. n (sym at ∙ ap (place_in d.basics) e ∙ a_at) in
+      let not_y : w ≢ y = λ e. no_b (subst (Contains d.basics) e m) in
+      let named : Contains d.names w = h.split.first_named w m in
+      let stays : k.basic w ≡ true = sym (once.stays w named not_x not_y) ∙ among-tells d.basics w m in
+      (is_basic (system_in d) k w named stays, not_y, at)
+
+  a_near : Contains (others (system_in d) (exchanged old a b)) a
+  unfolding old a b
+  a_near = is_other (system_in d) (exchanged (choice_of d) (slice_index d.basics r) (slice_index d.others c)) (slice_index d.basics r) once.leaving once.leaves.1
+
+  -- an entry of the solved row is one of the choice after the exchange
+  entry_solved : (j : ℕ) → j < length d.others → Number Factor (pivoted_row f r c j)
+  entry_solved j hj = elim (same_or_not j c) [
+    | inl e ↦ entry_near a j a_near (inl (refl, e))
+    | inr n ↦ let o = other_near j hj n in entry_near (slice_index d.others j) j o.0 (inr (o.1, n, o.2))
+  ]
+
+  other_entry : (v w : ℕ) → v ≢ b → (exchanged old a b).entry v w ≡ (if w == a then whole (pos 0) else old.entry v w) +ℚ old.entry v b *ℚ entering_entry old a b w
+  unfolding exchanged
+  other_entry v w m = put_at-elsewhere b (entering_entry old a b w) (λ y. (if w == a then whole (pos 0) else old.entry y w) +ℚ old.entry y b *ℚ entering_entry old a b w) v m
+
+  -- and so is what another row gets
+  cleared_number : (i w : ℕ) (x y : Fraction) → i < length d.basics → i ≢ r → Contains (others (system_in d) (exchanged old a b)) w
+      → (if w == a then whole (pos 0) else old.entry (slice_index d.basics i) w) ≡ x → entering_entry old a b w ≡ y → Number Factor (x +ℚ f i c *ℚ y)
+  unfolding Number near
+  cleared_number i w x y hi n cw ex ey =
+      let v : ℕ = slice_index d.basics i in
+      let o = basic_near i hi n in
+      let is : (exchanged old a b).entry v w ≡ x +ℚ f i c *ℚ y =
+      other_entry v w o.1 ∙ ap₂ (λ s t. s +ℚ old.entry v b *ℚ t) ex ey ∙ ap (λ t. x +ℚ t *ℚ y) (old_entry v b i c o.2 b_at) in
+      inr (subst (SystemNumber (system_in d) (exchanged old a b) Factor) is (is_entry v w o.0 cw))
+
+  cleared_column : (i : ℕ) → i < length d.basics → i ≢ r → Number Factor (whole (pos 0) +ℚ f i c *ℚ pivoted_row f r c c)
+  cleared_column i hi n = cleared_number i a (whole (pos 0)) (pivoted_row f r c c) hi n a_near (put_at-here a (whole (pos 0)) (old.entry (slice_index d.basics i)) a refl) (solved_entry a c (inl (refl, refl)))
+
+  cleared_entry : (i j : ℕ) → i < length d.basics → i ≢ r → j < length d.others → j ≢ c → Number Factor (f i j +ℚ f i c *ℚ pivoted_row f r c j)
+  cleared_entry i j hi n hj m =
+      let w : ℕ = slice_index d.others j in
+      let o = other_near j hj m in
+      cleared_number i w (f i j) (pivoted_row f r c j) hi n o.0
+      (put_at-elsewhere a (whole (pos 0)) (old.entry (slice_index d.basics i)) w o.1 ∙ old_entry (slice_index d.basics i) w i j (basic_near i hi n).2 o.2)
+      (solved_entry w j (inr (o.1, m, o.2)))
+
+  -- the numbers of what a pivot asks
+  share_numbers : (x p q : Fraction) → PivotShare (length d.basics) (length d.others) f r c x p q → Number Factor x × IsScaling Number Factor p q × Number Factor (x +ℚ p *ℚ q)
+  share_numbers _ _ _ (solving j hj n) = (
+    zero_here,
+    inl (opposite _ (entry_here r j hr hj), alone _ (subst (Number Factor) (row-itself f r c c refl) (entry_solved c hc))),
+    subst (Number Factor) (row-other f r c j n ∙ by_ring ring_ℚ ((neg_ℚ (f r j) *ℚ recip_ℚ (f r c)) ∷ []) (at 0) (padd pnil (at 0)) refl) (entry_solved j hj),
+  )
+  share_numbers _ _ _ (scaling i hi n) = (zero_here, inl (entry_here i c hi hc, alone _ (entry_solved c hc)), cleared_column i hi n)
+  share_numbers _ _ _ (adding i j hi n hj m) = (entry_here i j hi hj, inl (entry_here i c hi hc, alone _ (entry_solved j hj)), cleared_entry i j hi n hj m)
 
   -- A refused operation of a pivot is a working pair of the system: of the choice in hand and the one after the exchange.
-  pub pivot_pair : (bound : ℕ) → d.spent ≡ false → cell (length d.others) d.table r c ≢ whole (pos 0) → (op : Op) (x y : Fraction)
-      → PivotOperation (length d.basics) (length d.others) (cell (length d.others) d.table) r c op x y → Passes bound op x y → IsSystemPair (system_in d) bound op x y
+  pub pivot_pair : (bound : ℕ) → d.spent ≡ false → cell (length d.others) d.table r c ≢ whole (pos 0) → (op : Op) (left right x p q : Fraction)
+      → PivotShare (length d.basics) (length d.others) (cell (length d.others) d.table) r c x p q → IsShareRefused bound x p q op left right → IsSystemPair (system_in d) bound op left right
   unfolding f a b old near Number
-  pivot_pair bound live not_nil op x y asked passes =
+  pivot_pair bound live not_nil op left right x p q asked refused =
       let s : System = system_in d in
       let v : ℕ = slice_index d.basics r in
       let k : ℕ = slice_index d.others c in
-      let pivot : (choice_of d).entry v k ≢ whole (pos 0) = λ e. not_nil (sym (old_entry v k r c a_at b_at) ∙ e) in record {
-        passes = passes;
-        one = choice_of d;
-        near = exchanged (choice_of d) v k;
-        is_choice = h.solutions live;
-        near_is_choice = exchanged_is s (system_is d h) (choice_of d) v k (h.solutions live) (basic_in d h v a_in) (other_in d h k b_in) pivot;
-        are_near = inr (v, k, once);
-        sides = pair_case op x y asked;
-      }
+      let one : Choice = choice_of d in
+      let after : Choice = exchanged one v k in
+      let pivot : one.entry v k ≢ whole (pos 0) = λ e. not_nil (sym (old_entry v k r c a_at b_at) ∙ e) in
+      let n = share_numbers x p q asked in
+      share_pair s one after (h.solutions live)
+      (exchanged_is s (system_is d h) one v k (h.solutions live) (basic_in d h v a_in) (other_in d h k b_in) pivot)
+      (inr (v, k, once)) Factor x p q n.0 n.1 (written s one after Factor (x +ℚ p *ℚ q) n.2) bound op left right refused
 
 -- after a refusal the dictionary is one, whatever its table is
 pub spent_dictionary : (d : Dictionary) (table : List Fraction) → IsDictionary d → length table ≡ length d.table → IsDictionary (record d { table = table; spent = true })

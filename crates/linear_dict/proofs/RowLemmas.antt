@@ -1,33 +1,33 @@
 -- A dictionary after one more row.
-use Rattle.std.specs.Prelude.{◌≡◌, ◌≢◌, ℕ, ◌+◌, ◌*◌, ◌<◌, ◌≤◌, Bool, true, false, not, cond, pos, List, [], ◌∷◌, ◌++◌, length, filter, insert, map, take, drop, refl, slice_index}
+use Rattle.std.specs.Prelude.{◌≡◌, ◌≢◌, ℕ, ◌+◌, ◌*◌, ◌<◌, ◌≤◌, Bool, true, false, not, cond, pos, List, [], ◌∷◌, ◌++◌, length, filter, insert, map, take, drop, refl, slice_index, slice_get, Some}
 use Rattle.std.specs.List.{Contains}
 use Rattle.std.specs.List.Sorted.{IsStrictlyIncreasing}
 use Rattle.std.proofs.Common.{arith, ap, sym, ◌∙◌, subst, inl, inr, get_or, length-append}
-use Rattle.std.proofs.lemmas.List.{get_or_append_left, get_or-append-add, take-append-drop}
+use Rattle.std.proofs.lemmas.List.{get_or_append_left, get_or-append-add, get_or-map, length-map, take-append-drop}
 use Rattle.std.proofs.lemmas.List.Elements.{filter-append, Contains-append_left, Contains-push, Contains-push_cases}
 use Rattle.std.proofs.lemmas.List.Edits.{length-insert}
 use Rattle.std.proofs.Math.Seq.{get_or-append_seam}
-use Rattle.fraction_theory.specs.Fraction.{Fraction, whole, ◌*ℚ◌}
-use Rattle.fraction_theory.specs.Sums.{sum_by, total, prefix, Product}
+use Rattle.fraction_theory.specs.Fraction.{Fraction, whole, ◌+ℚ◌, ◌*ℚ◌}
+use Rattle.fraction_theory.specs.Sums.{sum_by, total, prefix, Term, Product, term_value}
 use mathlib.Core.Path.{ap₂}
-use Rattle.fraction_theory.proofs.SumLaws.{total-Product}
+use Rattle.fraction_theory.proofs.SumLaws.{total-Product, prefix-more}
 use Rattle.fraction_theory.proofs.ListSums.{Contains-head, Contains-cons, Distinct, Distinct-increasing, Contains-filter, Contains-from_filter, filter-members, same_or_not, sum_by-members}
 use Rattle.exact_fraction.specs.declared.Op.{Op}
-use Rattle.exact_fraction.specs.Passes.{Passes}
+use Rattle.exact_fraction.specs.Passes.{IsShareRefused}
 use Rattle.linear_system.specs.Numbers.{Kind, Factor, SystemNumber, is_zero, is_one, is_coefficient, is_entry, is_row_entry}
-use Rattle.linear_system.specs.Pairs.{IsPairCase, IsSystemPair, OfEither, alone, plain, scaled, added, scaled_right}
+use Rattle.linear_system.specs.Pairs.{IsSystemPair, OfEither, alone}
 use Rattle.linear_system.specs.Choices.{Choice, row_entry_terms, IsChoice, MeetsTable, basics, others, column_entry}
 use Rattle.linear_system.specs.Systems.{System, MeetsRows, activity}
 use Rattle.linear_system.specs.SameSystems.{SameRows}
-use Rattle.linear_system.proofs.PairLaws.{IsPairCase-each}
 use Rattle.linear_system.proofs.SameSystems.{same_rows_choice, same_rows_factor}
 use Rattle.linear_system.proofs.ChoiceLaws.{is_basic, basics_are, sum_by_others, column_entry-basic, column_entry-itself, column_entry-other}
-use Rattle.linear_dict.specs.Causes.{AddOperation, scaling_entry, adding_term, put_number, put_terms}
+use Rattle.linear_dict.specs.Causes.{AddShare, adding_term, put_number, put_terms}
 use Rattle.linear_dict.specs.Dictionaries.{Dictionary, IsDictionary, system_in, choice_of, entry_of}
 use Rattle.linear_dict.specs.Notes.{Noted}
 use Rattle.linear_dict.specs.Places.{place_in, is_among}
 use Rattle.linear_dict.specs.Tables.{cell}
 use Rattle.std.proofs.lemmas.Option.{get_or_from_slice_get}
+use Rattle.linear_dict.proofs.CauseLemmas.{share_pair, written}
 use Rattle.linear_dict.proofs.GrowLemmas.{got_below, Contains-insert, Contains-inserted, Distinct-push, split_first}
 use Rattle.linear_dict.proofs.NameLemmas.{place_in-at, place_in-within, among-tells, among-from, among-not}
 use Rattle.linear_dict.proofs.SplitLemmas.{basic_in, in_basics, in_others}
@@ -315,23 +315,35 @@ module _ (d : Dictionary) (h : IsDictionary d) (live : d.spent ≡ false) (row i
         ∙ ap (prefix k) (map-members (λ j. Product (after.coefficient row j) (column_entry later j w)) (λ j. Product (put_number d es j) (column_entry (choice_of d) j w)) (system_in d).columns
         (λ j m. ap₂ Product (coefficient_is j) (column_stays j w (column_named j m) (in_others d h w o))))
 
-    added_case : (op : Op) (x y : Fraction) → AddOperation d es op x y → IsPairCase Number op x y
+    -- the sum with the next term is that of one term more
+    next_prefix : (k j w : ℕ) → slice_get (system_in d).columns k ≡ Some j → prefix (k + 1) (put_terms d es w) ≡ prefix k (put_terms d es w) +ℚ put_number d es j *ℚ column_entry (choice_of d) j w
+    unfolding put_terms
+    next_prefix k j w got =
+        let term : ℕ → Term = λ i. Product (put_number d es i) (column_entry (choice_of d) i w) in
+        let columns : List ℕ = (system_in d).columns in
+        let below : k < length columns = got_below columns k j got in
+        let here : get_or (map term columns) k (term j) ≡ term j = get_or-map term columns k j (term j) below ∙ ap term (get_or_from_slice_get columns k j j got) in
+        prefix-more k (map term columns) (term j) (Prim.omega (arith, below, length-map columns term)) ∙ ap (λ t. prefix k (map term columns) +ℚ term_value t) here
+
+    row_prefix : (k w : ℕ) → Contains (others s c) w → Number Factor (prefix k (put_terms d es w))
+    row_prefix k w o = factor _ (subst (SystemNumber after later Factor) (prefix_stays k w o) (is_row_entry row w k row_in (other_later w o)))
+
+    -- the numbers of what adding the row asks
+    added_numbers : (x p q : Fraction) → AddShare d es x p q → Number Factor x × (Number Factor p × Number Factor q) × Number Factor (x +ℚ p *ℚ q)
     unfolding s c
-    added_case _ _ _ (scaling_entry j w cb k o) = scaled_right Factor _ _ (row_coefficient j k) (alone _ (entry_number j w (in_basics d h j cb) o))
-    added_case _ _ _ (adding_term k j w got o) =
-        let m : Contains (system_in d).columns j = (k, got_below (system_in d).columns k j got, get_or_from_slice_get (system_in d).columns k j j got) in
-        added Factor _ _ (plain _ (alone _ (factor _ (subst (SystemNumber after later Factor) (prefix_stays k w o) (is_row_entry row w k row_in (other_later w o))))))
-        (scaled _ _ (row_coefficient j m) (alone _ (column_number j w (column_named j m) o)))
+    added_numbers _ _ _ (adding_term k j w got o) =
+        let m : Contains (system_in d).columns j = (k, got_below (system_in d).columns k j got, get_or_from_slice_get (system_in d).columns k j j got) in (
+          row_prefix k w o,
+          (row_coefficient j m, column_number j w (column_named j m) o),
+          subst (Number Factor) (next_prefix k j w got) (row_prefix (k + 1) w o),
+        )
 
     -- a refused operation of the row is a working pair of each system with it
-    pub added_pair : (bound : ℕ) (op : Op) (x y : Fraction) → AddOperation d es op x y → Passes bound op x y → (t : System) → SameRows (system_in grown) t → IsSystemPair t bound op x y
+    pub added_pair : (bound : ℕ) (op : Op) (left right x p q : Fraction) → AddShare d es x p q → IsShareRefused bound x p q op left right
+        → (t : System) → SameRows (system_in grown) t → IsSystemPair t bound op left right
     unfolding after later Number
-    added_pair bound op x y asked passes t same = record {
-      passes = passes;
-      one = choice_of grown;
-      near = choice_of grown;
-      is_choice = same_rows_choice (system_in grown) t same (choice_of grown) grown_choice;
-      near_is_choice = same_rows_choice (system_in grown) t same (choice_of grown) grown_choice;
-      are_near = inl refl;
-      sides = IsPairCase-each (λ kind z n. n t same) op x y (added_case op x y asked);
-    }
+    added_pair bound op left right x p q asked refused t same =
+        let h : Choice = choice_of grown in
+        let choice : IsChoice t h = same_rows_choice (system_in grown) t same h grown_choice in
+        let n = added_numbers x p q asked in
+        share_pair t h h choice choice (inl refl) Factor x p q (n.0 t same) (inl (n.1.0 t same, alone q (n.1.1 t same))) (written t h h Factor (x +ℚ p *ℚ q) (n.2 t same)) bound op left right refused

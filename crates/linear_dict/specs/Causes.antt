@@ -1,13 +1,11 @@
--- Which operations a pivot and a row that is added ask, and that one of them was refused.
+-- Which sums x + a * b a pivot and a row that is added ask, a product alone with x = 0, and that one of them was refused.
 use Rattle.std.specs.Prelude.{◌≡◌, ◌≢◌, ℕ, ◌<◌, pos, List, map, take, slice_get, slice_index_or, Some}
 use Rattle.std.specs.List.{Contains}
-use Rattle.exact_fraction.specs.declared.Op.{Op}
-use Rattle.exact_fraction.specs.declared.Op.TheVariants.{Plus, Times}
 use Rattle.exact_fraction.specs.declared.Passed.{Passed}
-use Rattle.exact_fraction.specs.Passes.{Passes}
-use Rattle.fraction_theory.specs.Fraction.{Fraction, whole, ◌*ℚ◌, neg_ℚ, recip_ℚ}
+use Rattle.exact_fraction.specs.Passes.{IsShareRefused}
+use Rattle.fraction_theory.specs.Fraction.{Fraction, whole, neg_ℚ, recip_ℚ}
 use Rattle.fraction_theory.specs.Sums.{sum_by, Term, Product, prefix}
-use Rattle.linear_system.specs.Choices.{basics, others, column_entry}
+use Rattle.linear_system.specs.Choices.{others, column_entry}
 use Rattle.linear_system.specs.Pairs.{IsSystemPair}
 use Rattle.linear_system.specs.SameSystems.{SameRows}
 use Rattle.linear_system.specs.Systems.{System}
@@ -21,41 +19,43 @@ use Rattle.linear_dict.specs.Places.{place_in}
 use Rattle.linear_dict.specs.Tables.{cell, pivoted_row}
 
 -- what solving row r for column c asks: each other entry, turned, times the inverse of the one there
-pub data SolveOperation (columns : ℕ) (f : ℕ → ℕ → Fraction) (r c : ℕ) : Op → Fraction → Fraction → Type 0 where
-  divide : (j : ℕ) → j < columns → j ≢ c → SolveOperation columns f r c Times (neg_ℚ (f r j)) (recip_ℚ (f r c))
+pub data SolveShare (columns : ℕ) (f : ℕ → ℕ → Fraction) (r c : ℕ) : Fraction → Fraction → Fraction → Type 0 where
+  divide : (j : ℕ) → j < columns → j ≢ c → SolveShare columns f r c (whole (pos 0)) (neg_ℚ (f r j)) (recip_ℚ (f r c))
 
 -- what putting the solved row r into row i asks
-pub data ClearOperation (columns : ℕ) (f : ℕ → ℕ → Fraction) (i r c : ℕ) : Op → Fraction → Fraction → Type 0 where
-  scale : (j : ℕ) → j < columns → ClearOperation columns f i r c Times (f i c) (f r j)
-  add : (j : ℕ) → j < columns → j ≢ c → ClearOperation columns f i r c Plus (f i j) (f i c *ℚ f r j)
+pub data ClearShare (columns : ℕ) (f : ℕ → ℕ → Fraction) (i r c : ℕ) : Fraction → Fraction → Fraction → Type 0 where
+  scale : ClearShare columns f i r c (whole (pos 0)) (f i c) (f r c)
+  add : (j : ℕ) → j < columns → j ≢ c → ClearShare columns f i r c (f i j) (f i c) (f r j)
 
 -- what a pivot of the table f asks: the solved row, and in each other row its old entry at the column times the new
 -- row's entries, each added to the old entry
-pub data PivotOperation (rows columns : ℕ) (f : ℕ → ℕ → Fraction) (r c : ℕ) : Op → Fraction → Fraction → Type 0 where
-  solving : (j : ℕ) → j < columns → j ≢ c → PivotOperation rows columns f r c Times (neg_ℚ (f r j)) (recip_ℚ (f r c))
-  scaling : (i j : ℕ) → i < rows → i ≢ r → j < columns → PivotOperation rows columns f r c Times (f i c) (pivoted_row f r c j)
-  adding : (i j : ℕ) → i < rows → i ≢ r → j < columns → j ≢ c → PivotOperation rows columns f r c Plus (f i j) (f i c *ℚ pivoted_row f r c j)
+pub data PivotShare (rows columns : ℕ) (f : ℕ → ℕ → Fraction) (r c : ℕ) : Fraction → Fraction → Fraction → Type 0 where
+  solving : (j : ℕ) → j < columns → j ≢ c → PivotShare rows columns f r c (whole (pos 0)) (neg_ℚ (f r j)) (recip_ℚ (f r c))
+  scaling : (i : ℕ) → i < rows → i ≢ r → PivotShare rows columns f r c (whole (pos 0)) (f i c) (pivoted_row f r c c)
+  adding : (i j : ℕ) → i < rows → i ≢ r → j < columns → j ≢ c → PivotShare rows columns f r c (f i j) (f i c) (pivoted_row f r c j)
 
--- e is one of these operations with its two sides, and passes the bound
-pub record IsRefused {N : Type 0} (value : N → Fraction) (bound : ℕ) (Asked : Op → Fraction → Fraction → Type 0) (e : Passed N) : Type 0 where
-  pub asked : Asked e.op (value e.left) (value e.right)
-  pub passes : Passes bound e.op (value e.left) (value e.right)
+-- One of these sums x + a * b is too large, and e is an operation on the way to it, with its two sides, that passes the bound.
+pub record IsRefused {N : Type 0} (value : N → Fraction) (bound : ℕ) (Asked : Fraction → Fraction → Fraction → Type 0) (e : Passed N) : Type 0 where
+  pub x : Fraction
+  pub a : Fraction
+  pub b : Fraction
+  pub asked : Asked x a b
+  pub refused : IsShareRefused bound x a b e.op (value e.left) (value e.right)
 
 -- what adding a multiple of so many numbers t to those of f asks
-pub data MultipleOperation (count : ℕ) (f : ℕ → Fraction) (a : Fraction) (t : ℕ → Fraction) : Op → Fraction → Fraction → Type 0 where
-  multiply : (c : ℕ) → c < count → MultipleOperation count f a t Times a (t c)
-  increase : (c : ℕ) → c < count → MultipleOperation count f a t Plus (f c) (a *ℚ t c)
+pub data MultipleShare (count : ℕ) (f : ℕ → Fraction) (a : Fraction) (t : ℕ → Fraction) : Fraction → Fraction → Fraction → Type 0 where
+  increase : (c : ℕ) → c < count → MultipleShare count f a t (f c) a (t c)
 
 -- what adding one variable's terms to f asks: a multiple of the row of a basic column, or the entry as put in of an other
-pub data TermOperation {N : Type 0} (value : N → Fraction) (columns : ℕ) (table entries : List N) (v : Variable N) (f : ℕ → Fraction) : Op → Fraction → Fraction → Type 0 where
-  of_basic : (j r : ℕ) (op : Op) (x y : Fraction) → v.put ≡ Column j → v.place ≡ Row r
-      → MultipleOperation columns f (slice_index_or (map value entries) j (whole (pos 0))) (cell columns (map value table) r) op x y → TermOperation value columns table entries v f op x y
-  of_other : (j k : ℕ) → v.put ≡ Column j → v.place ≡ Column k → TermOperation value columns table entries v f Plus (f k) (slice_index_or (map value entries) j (whole (pos 0)))
+pub data TermShare {N : Type 0} (value : N → Fraction) (columns : ℕ) (table entries : List N) (v : Variable N) (f : ℕ → Fraction) : Fraction → Fraction → Fraction → Type 0 where
+  of_basic : (j r : ℕ) (x a b : Fraction) → v.put ≡ Column j → v.place ≡ Row r
+      → MultipleShare columns f (slice_index_or (map value entries) j (whole (pos 0))) (cell columns (map value table) r) x a b → TermShare value columns table entries v f x a b
+  of_other : (j k : ℕ) → v.put ≡ Column j → v.place ≡ Column k → TermShare value columns table entries v f (f k) (slice_index_or (map value entries) j (whole (pos 0))) (whole (pos 1))
 
 -- what the terms of the variables in turn ask
-pub data RowOperation {N : Type 0} (value : N → Fraction) (columns : ℕ) (table entries : List N) (variables : List (Variable N)) : Op → Fraction → Fraction → Type 0 where
-  of_variable : (k : ℕ) (v : Variable N) (op : Op) (x y : Fraction) → slice_get variables k ≡ Some v
-      → TermOperation value columns table entries v (λ c. sum_by (row_term value columns table entries c) (take k variables)) op x y → RowOperation value columns table entries variables op x y
+pub data RowShare {N : Type 0} (value : N → Fraction) (columns : ℕ) (table entries : List N) (variables : List (Variable N)) : Fraction → Fraction → Fraction → Type 0 where
+  of_variable : (k : ℕ) (v : Variable N) (x a b : Fraction) → slice_get variables k ≡ Some v
+      → TermShare value columns table entries v (λ c. sum_by (row_term value columns table entries c) (take k variables)) x a b → RowShare value columns table entries variables x a b
 
 -- the number of column j in a row of these entries, over the columns as put in
 unfoldable pub put_number : Dictionary → List Fraction → ℕ → Fraction
@@ -65,12 +65,10 @@ put_number d entries j = slice_index_or entries (place_in d.columns j) (whole (p
 unfoldable pub put_terms : Dictionary → List Fraction → ℕ → List Term
 put_terms d entries w = map (λ j. Product (put_number d entries j) (column_entry (choice_of d) j w)) (system_in d).columns
 
--- what adding a row asks: its number of a basic column times that one's entry, and a sum of first terms with the next term
-pub data AddOperation (d : Dictionary) (entries : List Fraction) : Op → Fraction → Fraction → Type 0 where
-  scaling_entry : (j w : ℕ) → Contains (basics (system_in d) (choice_of d)) j → Contains (system_in d).columns j → Contains (others (system_in d) (choice_of d)) w
-      → AddOperation d entries Times (put_number d entries j) ((choice_of d).entry j w)
+-- what adding a row asks: a sum of first terms with the next term
+pub data AddShare (d : Dictionary) (entries : List Fraction) : Fraction → Fraction → Fraction → Type 0 where
   adding_term : (k j w : ℕ) → slice_get (system_in d).columns k ≡ Some j → Contains (others (system_in d) (choice_of d)) w
-      → AddOperation d entries Plus (prefix k (put_terms d entries w)) (put_number d entries j *ℚ column_entry (choice_of d) j w)
+      → AddShare d entries (prefix k (put_terms d entries w)) (put_number d entries j) (column_entry (choice_of d) j w)
 
 -- Where the row was not added for a refusal, P holds of it.
 abbrev pub OnPassed : {N : Type 0} → AddStop N → (Passed N → Type 0) → Type 0

@@ -5,7 +5,7 @@ ghost use Rattle.std.specs.Vec.{vec_len, vec_capacity};
 ghost use Rattle.fraction_theory.specs.Fraction.{Fraction, whole, ◌+ℚ◌, ◌*ℚ◌};
 ghost use Rattle.fraction_theory.specs.Sums.{sum_by};
 ghost use Rattle.linear_dict.specs.Adding.{AreSums, AreWithin, IsWithin, row_term};
-ghost use Rattle.linear_dict.specs.Causes.{IsRefused, MultipleOperation, OnPassed, RowOperation, TermOperation};
+ghost use Rattle.linear_dict.specs.Causes.{IsRefused, MultipleShare, OnPassed, RowShare, TermShare};
 ghost use Rattle.linear_dict.specs.Tables.{cell};
 
 use crate::index::Variable;
@@ -115,7 +115,7 @@ fn add_multiple<N: Exact>(
     ensures added { IfOk result (λ _. (f : ℕ → Fraction) → AreSums N.value sums.old.items columns f
         → AreSums N.value sums.new.items columns (λ c. f c +ℚ N.value factor *ℚ cell columns (map N.value table.now) row c)) }
     ensures cause { IfErr result (λ e. (f : ℕ → Fraction) → AreSums N.value sums.old.items columns f
-        → IsRefused N.value N.bound (MultipleOperation columns f (N.value factor) (cell columns (map N.value table.now) row)) e) }
+        → IsRefused N.value N.bound (MultipleShare columns f (N.value factor) (cell columns (map N.value table.now) row)) e) }
 {
     let start = row * columns;
     for c in 0..columns {
@@ -143,7 +143,7 @@ fn add_term<N: Exact>(
     ensures added { IfOk result (λ _. (f : ℕ → Fraction) → AreSums N.value sums.old.items columns f
         → AreSums N.value sums.new.items columns (λ c. f c +ℚ row_term N.value columns table.now entries.now c variable)) }
     ensures cause { IfErr result (λ e. (f : ℕ → Fraction) → AreSums N.value sums.old.items columns f
-        → IsRefused N.value N.bound (TermOperation N.value columns table.now entries.now variable f) e) }
+        → IsRefused N.value N.bound (TermShare N.value columns table.now entries.now variable f) e) }
 {
     match variable.put {
         Place::Row(_) => Ok(()),
@@ -176,7 +176,7 @@ pub(crate) fn row_entries<N: Exact>(
     ensures sums { IfOk result (λ sums. AreSums N.value sums.items columns
         (λ c. sum_by (row_term N.value columns table.now entries.now c) variables.now)) }
     ensures cause { IfErr result (λ stop. OnPassed stop
-        (IsRefused N.value N.bound (RowOperation N.value columns table.now entries.now variables.now))) }
+        (IsRefused N.value N.bound (RowShare N.value columns table.now entries.now variables.now))) }
 {
     let mut sums = zeros(alloc, columns)?;
     for k in 0..variables.len() {

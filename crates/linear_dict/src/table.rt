@@ -1,7 +1,7 @@
 // The pivot of a table in a flat vector, row by row, in place.
 ghost use Rattle.std.specs.Prelude.{◌≡◌, ◌≢◌, ℕ, ◌+◌, ◌*◌, ◌<◌, ◌≤◌, length, map, pos, IfErr, IfOk};
 ghost use Rattle.fraction_theory.specs.Fraction.{whole};
-ghost use Rattle.linear_dict.specs.Causes.{ClearOperation, IsRefused, PivotOperation, SolveOperation};
+ghost use Rattle.linear_dict.specs.Causes.{ClearShare, IsRefused, PivotShare, SolveShare};
 ghost use Rattle.linear_dict.specs.Tables.{cell, table_of, pivoted_cell, solved_cell, cleared_cell, Shows};
 
 use crate::zero::is_zero;
@@ -22,7 +22,7 @@ fn solve_row<N: Exact>(
     ensures solved { IfOk result (λ _. (rows : ℕ) → length table.old.items ≡ rows * columns
         → Shows rows columns (map N.value table.new.items) (solved_cell (cell columns (map N.value table.old.items)) row column)) }
     ensures cause { IfErr result (λ e. (rows : ℕ) → length table.old.items ≡ rows * columns
-        → IsRefused N.value N.bound (SolveOperation columns (cell columns (map N.value table.old.items)) row column) e) }
+        → IsRefused N.value N.bound (SolveShare columns (cell columns (map N.value table.old.items)) row column) e) }
 {
     let start = row * columns;
     let inverse = table[start + column].recip();
@@ -54,7 +54,7 @@ fn clear_row<N: Exact>(
     ensures cleared { IfOk result (λ _. (rows : ℕ) → length table.old.items ≡ rows * columns
         → Shows rows columns (map N.value table.new.items) (cleared_cell (cell columns (map N.value table.old.items)) row solved column)) }
     ensures cause { IfErr result (λ e. (rows : ℕ) → length table.old.items ≡ rows * columns
-        → IsRefused N.value N.bound (ClearOperation columns (cell columns (map N.value table.old.items)) row solved column) e) }
+        → IsRefused N.value N.bound (ClearShare columns (cell columns (map N.value table.old.items)) row solved column) e) }
 {
     let start = row * columns;
     let solved_start = solved * columns;
@@ -89,7 +89,7 @@ pub(crate) fn pivot_table<N: Exact>(
     ensures count { length table.new.items ≡ length table.old.items }
     ensures pivoted { IfOk result (λ _. map N.value table.new.items
         ≡ table_of rows columns (pivoted_cell (cell columns (map N.value table.old.items)) row column)) }
-    ensures cause { IfErr result (IsRefused N.value N.bound (PivotOperation rows columns (cell columns (map N.value table.old.items)) row column)) }
+    ensures cause { IfErr result (IsRefused N.value N.bound (PivotShare rows columns (cell columns (map N.value table.old.items)) row column)) }
 {
     solve_row(table, columns, row, column)?;
     for i in 0..rows {

@@ -4,8 +4,8 @@ use Rattle.fraction_theory.specs.Fraction.{Fraction, ◌*ℚ◌}
 use Rattle.linear_dict.specs.Adding.{AreSums}
 use Rattle.linear_dict.specs.Tables.{cell}
 use Rattle.std.proofs.lemmas.Result.{err_from_is_err_and}
-use Rattle.linear_dict.specs.Causes.{MultipleOperation, increase, multiply}
-use Rattle.linear_dict.proofs.CauseLemmas.{refused_either}
+use Rattle.linear_dict.specs.Causes.{MultipleShare, increase}
+use Rattle.linear_dict.proofs.CauseLemmas.{refused_share}
 use Rattle.linear_dict.proofs.AddingLemmas.{added_to, added-yet, sums_read, added_start, added_keep, added_step, added_end}
 use Rattle.linear_dict.proofs.ProductLemmas.{times_zero}
 use Rattle.linear_dict.proofs.TableLemmas.{cell_read_within}
@@ -53,7 +53,7 @@ returns-in_err-sum-clause-cause g c =
     let p = err_from_is_err_and c.from_residual.result c.from_residual.ensures.1 in
     rw (p.1, p.2) (λ f s.
     let u : ℕ → Fraction = λ j. a *ℚ t j in
-    refused_either value g.N.Exact.bound (MultipleOperation n f a t) c.index.result.now c.args.factor c.index-table-start.result c.in_err-sum.field-0.0
+    refused_share value g.N.Exact.bound (MultipleShare n f a t) c.index.result.now c.args.factor c.index-table-start.result c.in_err-sum.field-0.0
     (f k) a (t k) c.in_err-sum.ensures
     (sums_read value c.loop-c.sums.items n (added_to f u k) k c.index.result.now (c.loop-c.invariant.1 f s) c.loop-c-test.true c.index.ensures ∙ added-yet value n f u k k (Prim.omega arith)) refl number
-    (multiply k c.loop-c-test.true) (increase k c.loop-c-test.true))
+    (increase k c.loop-c-test.true))

@@ -3,11 +3,11 @@ use Rattle.std.proofs.lemmas.Result.{IfOk-weaker}
 use Rattle.linear_dict.specs.Adding.{IsInTable, IsPutAmong}
 use Rattle.std.proofs.lemmas.List.{get_or-map}
 use Rattle.std.proofs.lemmas.Result.{err_from_is_err_and, IfErr-weaker}
-use Rattle.exact_fraction.specs.declared.Op.TheVariants.{Plus}
 use Rattle.fraction_theory.specs.Fraction.{Fraction, whole}
-use Rattle.linear_dict.specs.Causes.{MultipleOperation, TermOperation, of_basic, of_other}
+use Rattle.fraction_theory.proofs.FieldLaws.{ring_ℚ}
+use Rattle.linear_dict.specs.Causes.{MultipleShare, TermShare, of_basic, of_other}
 use Rattle.linear_dict.specs.Tables.{cell}
-use Rattle.linear_dict.proofs.CauseLemmas.{refused, refused_as}
+use Rattle.linear_dict.proofs.CauseLemmas.{refused_as, refused_sum}
 use Rattle.linear_dict.proofs.AddingLemmas.{sums_read, entry_added, multiple_added, nothing_added, zero_added}
 use Rattle.linear_dict.proofs.adding.add_term.Goals as goal
 
@@ -47,10 +47,10 @@ returns-in_err-sum-in-Column-place-clause-cause g c =
     let hk : c.in-Column-place.c < c.args.columns = subst (IsInTable (length c.args.table.now) c.args.columns) c.in-Column-place.is c.requires.within.place in
     let p = err_from_is_err_and c.from_residual.result c.from_residual.ensures.1 in
     rw (p.1, p.2) (λ f s.
-    refused value g.N.Exact.bound (TermOperation value c.args.columns c.args.table.now entries c.args.variable f) Plus c.index.result.now entry c.in_err-sum-in-Column-place.field-0.0
-    (f c.in-Column-place.c) (get_or (map value entries) c.in-Column.j (whole (pos 0))) c.in_err-sum-in-Column-place.ensures.passed
+    refused_sum value g.N.Exact.bound (TermShare value c.args.columns c.args.table.now entries c.args.variable f) c.index.result.now entry c.in_err-sum-in-Column-place.field-0.0
+    (f c.in-Column-place.c) (get_or (map value entries) c.in-Column.j (whole (pos 0))) (whole (pos 1)) c.in_err-sum-in-Column-place.ensures
     (sums_read value c.args.sums.now.items c.args.columns f c.in-Column-place.c c.index.result.now s hk c.index.ensures)
-    (ap value c.index-entries-j.is ∙ sym (get_or-map value entries c.in-Column.j entry (whole (pos 0)) hj))
+    (ap value c.index-entries-j.is ∙ sym (get_or-map value entries c.in-Column.j entry (whole (pos 0)) hj) ∙ sym (ring_ℚ.times_one (get_or (map value entries) c.in-Column.j (whole (pos 0)))))
     (of_other c.in-Column.j c.in-Column-place.c c.in-Column.is c.in-Column-place.is))
 
 pub returns-in-Row-place-clause-cause : goal.returns-in-Row-place-clause-cause
@@ -62,6 +62,6 @@ returns-in-Row-place-clause-cause g c =
     let number : value entry ≡ get_or (map value entries) c.in-Column.j (whole (pos 0)) = ap value c.index-entries-j.is ∙ sym (get_or-map value entries c.in-Column.j entry (whole (pos 0)) hj) in
     let t : ℕ → Fraction = cell c.args.columns (map value c.args.table.now) c.in-Row-place.r in
     IfErr-weaker c.add_multiple.result _ _ (λ e h f s.
-    refused_as value g.N.Exact.bound (MultipleOperation c.args.columns f (value entry) t) (TermOperation value c.args.columns c.args.table.now entries c.args.variable f) e
-    (λ op x y o. of_basic c.in-Column.j c.in-Row-place.r op x y c.in-Column.is c.in-Row-place.is (subst (λ a. MultipleOperation c.args.columns f a t op x y) number o))
+    refused_as value g.N.Exact.bound (MultipleShare c.args.columns f (value entry) t) (TermShare value c.args.columns c.args.table.now entries c.args.variable f) e
+    (λ x a b o. of_basic c.in-Column.j c.in-Row-place.r x a b c.in-Column.is c.in-Row-place.is (subst (λ n. MultipleShare c.args.columns f n t x a b) number o))
     (h f s)) c.add_multiple.ensures.cause

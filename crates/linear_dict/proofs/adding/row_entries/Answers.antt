@@ -6,7 +6,7 @@ use Rattle.linear_dict.specs.Adding.{row_term}
 use Rattle.std.proofs.lemmas.Result.{err_from_is_err_and}
 use Rattle.fraction_theory.specs.Fraction.{Fraction}
 use Rattle.linear_dict.specs.declared.index.Variable.{Variable}
-use Rattle.linear_dict.specs.Causes.{RowOperation, TermOperation, of_variable}
+use Rattle.linear_dict.specs.Causes.{RowShare, TermShare, of_variable}
 use Rattle.linear_dict.proofs.CauseLemmas.{refused_as}
 use Rattle.linear_dict.proofs.AddingLemmas.{sums_more, sums_same}
 use Rattle.linear_dict.proofs.adding.row_entries.Goals as goal
@@ -36,6 +36,6 @@ returns-in_err-add_term-clause-cause g c =
     let f : ℕ → Fraction = λ x. sum_by (row_term value c.args.columns table entries x) (take k vs) in
     let p = err_from_is_err_and c.from_residual-in_err-add_term.result c.from_residual-in_err-add_term.ensures.1 in
     rw (p.1, p.2)
-    (refused_as value g.N.Exact.bound (TermOperation value c.args.columns table entries v f) (RowOperation value c.args.columns table entries vs) c.in_err-add_term.field-0.0
-    (λ op x y o. of_variable k v op x y (slice_get-get_or vs k v c.loop-k-test.true ∙ ap Some (sym c.index-variables-k.is)) o)
+    (refused_as value g.N.Exact.bound (TermShare value c.args.columns table entries v f) (RowShare value c.args.columns table entries vs) c.in_err-add_term.field-0.0
+    (λ x a b o. of_variable k v x a b (slice_get-get_or vs k v c.loop-k-test.true ∙ ap Some (sym c.index-variables-k.is)) o)
     (c.in_err-add_term.ensures.cause f c.loop-k.invariant))

@@ -3,10 +3,9 @@ use mathlib.Core.Path.{ap₂}
 use Rattle.std.proofs.lemmas.List.{length-map}
 use Rattle.fraction_theory.specs.Fraction.{Fraction, ◌+ℚ◌, ◌*ℚ◌}
 use Rattle.std.proofs.lemmas.Result.{err_from_is_err_and}
-use Rattle.exact_fraction.specs.declared.Op.TheVariants.{Times}
-use Rattle.linear_dict.specs.Causes.{ClearOperation, add, scale}
+use Rattle.linear_dict.specs.Causes.{ClearShare, add, scale}
 use Rattle.linear_dict.specs.Tables.{cell, cleared_cell}
-use Rattle.linear_dict.proofs.CauseLemmas.{refused, refused_either}
+use Rattle.linear_dict.proofs.CauseLemmas.{refused_product, refused_share}
 use Rattle.linear_dict.proofs.ProductLemmas.{stays_by_right}
 use Rattle.linear_dict.proofs.TableLemmas.{cell_read_within}
 use Rattle.linear_dict.proofs.PivotLemmas.{clear_nothing, is_stage_start, is_stage_keep, is_stage_skip, is_stage_step, is_stage_end, read_stage, cleared_number, IsStage}
@@ -89,12 +88,12 @@ returns-in_err-entry-clause-cause g c =
     let number : ℕ → Fraction = cleared_number value columns old row solved column in
     let p = err_from_is_err_and c.from_residual.result c.from_residual.ensures.1 in
     rw (p.1, p.2) (λ rows e.
-    refused_either value g.N.Exact.bound (ClearOperation columns f row solved column) c.index.result.now c.index-factor.result.now c.index-other.result.now c.in_err-entry.field-0.0
+    refused_share value g.N.Exact.bound (ClearShare columns f row solved column) c.index.result.now c.index-factor.result.now c.index-other.result.now c.in_err-entry.field-0.0
     (f row j) (f row column) (f solved j) c.in_err-entry.ensures
     (read_stage value columns old cur number row column j row j c.index.result.now c.requires.within c.requires.room c.loop-j-test.true (inr (inl (Prim.omega arith))) c.loop-j.invariant c.index.ensures rows e)
     (cell_read_within value old columns row column c.index-factor.result.now (Prim.omega (arith, c.requires.room, c.requires.within)) c.index-factor.ensures)
     (read_stage value columns old cur number row column j solved j c.index-other.result.now c.requires.within c.requires.solved_room c.loop-j-test.true (inl (λ d. c.requires.other (sym d))) c.loop-j.invariant c.index-other.ensures rows e)
-    (scale j c.loop-j-test.true) (add j c.loop-j-test.true c.if-j-column.true))
+    (add j c.loop-j-test.true c.if-j-column.true))
 
 pub returns-in_err-last-clause-cause : goal.returns-in_err-last-clause-cause
 returns-in_err-last-clause-cause g c =
@@ -112,6 +111,6 @@ returns-in_err-last-clause-cause g c =
     cell_read_within value old columns row column c.index-factor.result.now (Prim.omega (arith, c.requires.room, c.requires.within)) c.index-factor.ensures in
     let p = err_from_is_err_and c.from_residual-in_err-last.result c.from_residual-in_err-last.ensures.1 in
     rw (p.1, p.2) (λ rows e.
-    refused value g.N.Exact.bound (ClearOperation columns f row solved column) Times c.index-factor.result.now c.index-2.result.now c.in_err-last.field-0.0 (f row column) (f solved column) c.in_err-last.ensures factor
+    refused_product value g.N.Exact.bound (ClearShare columns f row solved column) c.index-factor.result.now c.index-2.result.now c.in_err-last.field-0.0 (f row column) (f solved column) c.in_err-last.ensures factor
     (read_stage value columns old cur number row column j solved column c.index-2.result.now c.requires.within c.requires.solved_room c.requires.within (inl (λ d. c.requires.other (sym d))) c.loop-j.invariant c.index-2.ensures rows e)
-    (scale column c.requires.within))
+    scale)

@@ -1,7 +1,7 @@
 use Rattle.std.proofs.Common.{◌≡◌, ◌+◌, ◌∙◌, ℕ, List, Vec, Global, length, map, subst, sym, arith, refl}
 use Rattle.fraction_theory.specs.Fraction.{Fraction}
 use Rattle.std.proofs.lemmas.Result.{err_from_is_err_and}
-use Rattle.linear_dict.specs.Causes.{ClearOperation, PivotOperation, SolveOperation}
+use Rattle.linear_dict.specs.Causes.{ClearShare, PivotShare, SolveShare}
 use Rattle.linear_dict.proofs.CauseLemmas.{clear_of_pivot, refused_as, solve_of_pivot}
 use Rattle.linear_dict.specs.Tables.{cell, pivoted_cell, Shows}
 use Rattle.linear_dict.proofs.TableLemmas.{shows_is}
@@ -46,7 +46,7 @@ returns-in_err-solve_row-clause-cause g c =
     let f : ℕ → ℕ → Fraction = cell c.args.columns (map value c.args.table.now.items) in
     let p = err_from_is_err_and c.from_residual.result c.from_residual.ensures.1 in
     rw (p.1, p.2)
-    (refused_as value g.N.Exact.bound (SolveOperation c.args.columns f c.args.row c.args.column) (PivotOperation c.args.rows c.args.columns f c.args.row c.args.column) c.in_err-solve_row.field-0.0
+    (refused_as value g.N.Exact.bound (SolveShare c.args.columns f c.args.row c.args.column) (PivotShare c.args.rows c.args.columns f c.args.row c.args.column) c.in_err-solve_row.field-0.0
     (solve_of_pivot c.args.rows c.args.columns f c.args.row c.args.column) (c.in_err-solve_row.ensures.cause c.args.rows c.requires.size))
 
 pub returns-in_err-clear_row-clause-cause : goal.returns-in_err-clear_row-clause-cause
@@ -58,7 +58,7 @@ returns-in_err-clear_row-clause-cause g c =
     let s = c.loop-i.invariant.1 in
     let p = err_from_is_err_and c.from_residual-in_err-clear_row.result c.from_residual-in_err-clear_row.ensures.1 in
     rw (p.1, p.2)
-    (refused_as value g.N.Exact.bound (ClearOperation c.args.columns cur i c.args.row c.args.column) (PivotOperation c.args.rows c.args.columns f c.args.row c.args.column) c.in_err-clear_row.field-0.0
+    (refused_as value g.N.Exact.bound (ClearShare c.args.columns cur i c.args.row c.args.column) (PivotShare c.args.rows c.args.columns f c.args.row c.args.column) c.in_err-clear_row.field-0.0
     (clear_of_pivot c.args.rows c.args.columns f cur i c.args.row c.args.column c.loop-i-test.true c.if-i-row.true c.requires.within
     (λ j hj. s.at i j c.loop-i-test.true hj ∙ pivoting-yet f c.args.row c.args.column i i j c.if-i-row.true (Prim.omega arith))
     (λ j hj. s.at c.args.row j c.requires.row hj ∙ pivoting-solved f c.args.row c.args.column i c.args.row j refl))

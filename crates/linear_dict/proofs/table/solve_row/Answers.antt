@@ -2,10 +2,9 @@ use Rattle.std.proofs.Common.{ℕ, ◌≡◌, ◌+◌, ◌*◌, length, ◌∙�
 use mathlib.Core.Path.{ap₂}
 use Rattle.fraction_theory.specs.Fraction.{Fraction, ◌*ℚ◌, neg_ℚ, recip_ℚ}
 use Rattle.std.proofs.lemmas.Result.{err_from_is_err_and}
-use Rattle.exact_fraction.specs.declared.Op.TheVariants.{Times}
-use Rattle.linear_dict.specs.Causes.{SolveOperation, divide}
+use Rattle.linear_dict.specs.Causes.{SolveShare, divide}
 use Rattle.linear_dict.specs.Tables.{cell}
-use Rattle.linear_dict.proofs.CauseLemmas.{refused}
+use Rattle.linear_dict.proofs.CauseLemmas.{refused_product}
 use Rattle.linear_dict.specs.Tables.{solved_cell}
 use Rattle.linear_dict.proofs.ProductLemmas.{zero_divided}
 use Rattle.linear_dict.proofs.TableLemmas.{cell_read_within}
@@ -72,7 +71,7 @@ returns-in_err-divided-clause-cause g c =
     let f : ℕ → ℕ → Fraction = cell columns (map value old) in
     let p = err_from_is_err_and c.from_residual.result c.from_residual.ensures.1 in
     rw (p.1, p.2) (λ rows e.
-    refused value g.N.Exact.bound (SolveOperation columns f row column) Times c.neg.result c.recip-inverse.result c.in_err-divided.field-0.0 (neg_ℚ (f row j)) (recip_ℚ (f row column)) c.in_err-divided.ensures
+    refused_product value g.N.Exact.bound (SolveShare columns f row column) c.neg.result c.recip-inverse.result c.in_err-divided.field-0.0 (neg_ℚ (f row j)) (recip_ℚ (f row column)) c.in_err-divided.ensures
     (c.neg.ensures ∙ ap neg_ℚ (read_stage value columns old c.loop-j.table.items (solved_number value columns old row column) row column j row j c.index-entry.result.now
     c.requires.within c.requires.room c.loop-j-test.true (inr (inl (Prim.omega arith))) c.loop-j.invariant c.index-entry.ensures rows e))
     (c.recip-inverse.ensures ∙ ap recip_ℚ (cell_read_within value old columns row column c.index.result.now (Prim.omega (arith, c.requires.room, c.requires.within)) c.index.ensures))

@@ -6,7 +6,7 @@ use Rattle.linear_dict.specs.Adding.{AreSums, AreWithin, row_term}
 use Rattle.linear_dict.specs.declared.index.Variable.{Variable}
 use Rattle.linear_dict.specs.declared.place.Place.TheVariants.{Row}
 use Rattle.std.proofs.lemmas.Result.{err_from_is_err_and}
-use Rattle.linear_dict.specs.Causes.{AddOperation, IsPairWith, IsRefused, RowOperation}
+use Rattle.linear_dict.specs.Causes.{AddShare, IsPairWith, IsRefused, RowShare}
 use Rattle.linear_dict.proofs.CauseLemmas.{on_passed_as, refused_as}
 use Rattle.linear_dict.specs.Dictionaries.{Dictionary, seen}
 use Rattle.linear_dict.proofs.AddRowLemmas.{row_asks, row_pair, add_row_lists, adds_row_to, places_within}
@@ -95,14 +95,14 @@ returns-in_err-fresh-clause-cause g c =
     let n : c.len.result ≡ length s.others.items = Prim.omega (arith, c.len.ensures, s.others.ok.0) in
     let p = err_from_is_err_and c.from_residual.result c.from_residual.ensures.1 in
     rw (p.1, p.2)
-    (on_passed_as c.in_err-fresh.field-0.0 (IsRefused value g.N.Exact.bound (RowOperation value c.len.result c.deref-2.result.now entries c.deref.result.now)) (IsRefused value g.N.Exact.bound (AddOperation c.args.self.now (map value entries)))
-    (λ e h. refused_as value g.N.Exact.bound (RowOperation value c.len.result c.deref-2.result.now entries c.deref.result.now) (AddOperation c.args.self.now (map value entries)) e
-    (λ op x y o.
-    subst (λ (d : Dictionary). AddOperation d (map value entries) op x y) c.self.view_is
-    (row_asks value s.columns.items s.rows.items s.coefficients.items s.others.items s.basics.items s.table.items vs s.spent c.self.invariant.1 c.self.invariant.0 entries op x y
-    (subst (λ (m : ℕ). RowOperation value m s.table.items entries vs op x y) n
-    (subst (λ (t : List g.row.N.Denot). RowOperation value c.len.result t entries vs op x y) c.deref-2.ensures.value
-    (subst (λ (us : List (Variable g.row.N.Denot)). RowOperation value c.len.result c.deref-2.result.now entries us op x y) c.deref.ensures.value o))))) h)
+    (on_passed_as c.in_err-fresh.field-0.0 (IsRefused value g.N.Exact.bound (RowShare value c.len.result c.deref-2.result.now entries c.deref.result.now)) (IsRefused value g.N.Exact.bound (AddShare c.args.self.now (map value entries)))
+    (λ e h. refused_as value g.N.Exact.bound (RowShare value c.len.result c.deref-2.result.now entries c.deref.result.now) (AddShare c.args.self.now (map value entries)) e
+    (λ x a b o.
+    subst (λ (d : Dictionary). AddShare d (map value entries) x a b) c.self.view_is
+    (row_asks value s.columns.items s.rows.items s.coefficients.items s.others.items s.basics.items s.table.items vs s.spent c.self.invariant.1 c.self.invariant.0 entries x a b
+    (subst (λ (m : ℕ). RowShare value m s.table.items entries vs x a b) n
+    (subst (λ (t : List g.row.N.Denot). RowShare value c.len.result t entries vs x a b) c.deref-2.ensures.value
+    (subst (λ (us : List (Variable g.row.N.Denot)). RowShare value c.len.result c.deref-2.result.now entries us x a b) c.deref.ensures.value o))))) h)
     c.in_err-fresh.ensures.cause)
 
 pub returns-in_err-fresh-clause-pair : goal.returns-in_err-fresh-clause-pair
@@ -116,13 +116,13 @@ returns-in_err-fresh-clause-pair g c =
     let p = err_from_is_err_and c.from_residual.result c.from_residual.ensures.1 in
     let seen_now : Dictionary = seen value s.columns.items s.rows.items s.coefficients.items s.others.items s.basics.items s.table.items vs s.spent in
     rw (p.1, p.2)
-    (on_passed_as c.in_err-fresh.field-0.0 (IsRefused value g.N.Exact.bound (RowOperation value c.len.result c.deref-2.result.now entries c.deref.result.now)) (IsPairWith value g.N.Exact.bound c.args.self.now c.args.row entries)
+    (on_passed_as c.in_err-fresh.field-0.0 (IsRefused value g.N.Exact.bound (RowShare value c.len.result c.deref-2.result.now entries c.deref.result.now)) (IsPairWith value g.N.Exact.bound c.args.self.now c.args.row entries)
     (λ e h.
     subst (λ (d : Dictionary). IsPairWith value g.N.Exact.bound d c.args.row entries e) c.self.view_is
     (row_pair value seen_now c.self.invariant.1 (ap (λ (d : Dictionary). d.spent) c.self.view_is ∙ c.requires.live) c.args.row
-    (λ m. c.requires.absent (subst (λ (d : Dictionary). Contains d.names c.args.row) c.self.view_is m)) entries count g.N.Exact.bound e.op (value e.left) (value e.right)
-    (row_asks value s.columns.items s.rows.items s.coefficients.items s.others.items s.basics.items s.table.items vs s.spent c.self.invariant.1 c.self.invariant.0 entries e.op (value e.left) (value e.right)
-    (subst (λ (m : ℕ). RowOperation value m s.table.items entries vs e.op (value e.left) (value e.right)) n
-    (subst (λ (t : List g.row.N.Denot). RowOperation value c.len.result t entries vs e.op (value e.left) (value e.right)) c.deref-2.ensures.value
-    (subst (λ (us : List (Variable g.row.N.Denot)). RowOperation value c.len.result c.deref-2.result.now entries us e.op (value e.left) (value e.right)) c.deref.ensures.value h.asked)))) h.passes))
+    (λ m. c.requires.absent (subst (λ (d : Dictionary). Contains d.names c.args.row) c.self.view_is m)) entries count g.N.Exact.bound e.op (value e.left) (value e.right) h.x h.a h.b
+    (row_asks value s.columns.items s.rows.items s.coefficients.items s.others.items s.basics.items s.table.items vs s.spent c.self.invariant.1 c.self.invariant.0 entries h.x h.a h.b
+    (subst (λ (m : ℕ). RowShare value m s.table.items entries vs h.x h.a h.b) n
+    (subst (λ (t : List g.row.N.Denot). RowShare value c.len.result t entries vs h.x h.a h.b) c.deref-2.ensures.value
+    (subst (λ (us : List (Variable g.row.N.Denot)). RowShare value c.len.result c.deref-2.result.now entries us h.x h.a h.b) c.deref.ensures.value h.asked)))) h.refused))
     c.in_err-fresh.ensures.cause)

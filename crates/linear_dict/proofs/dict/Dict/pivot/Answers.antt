@@ -6,7 +6,7 @@ use Rattle.std.specs.List.{Contains}
 use Rattle.std.specs.List.Sorted.{IsStrictlyIncreasing}
 use Rattle.fraction_theory.specs.Fraction.{whole}
 use Rattle.linear_dict.specs.declared.index.Variable.{Variable}
-use Rattle.linear_dict.specs.Causes.{IsPairOf, IsRefused, PivotOperation}
+use Rattle.linear_dict.specs.Causes.{IsPairOf, IsRefused, PivotShare}
 use Rattle.linear_dict.specs.Dictionaries.{Dictionary, pivoted, seen, system_in}
 use Rattle.linear_dict.specs.Places.{place_in}
 use Rattle.linear_dict.specs.Tables.{cell, table_of, pivoted_cell}
@@ -37,13 +37,13 @@ returns-in_err-pivot_table-clause-pair g c =
     let rows : c.len.result ≡ length s.basics.items = Prim.omega (arith, c.len.ensures, s.basics.ok.0) in
     let columns : c.len-2.result ≡ length s.others.items = Prim.omega (arith, c.len-2.ensures, s.others.ok.0) in
     let entry : cell (length s.others.items) (map value s.table.items) c.args.r c.args.c ≢ whole (pos 0) = subst (λ (d : Dictionary). cell (length d.others) d.table c.args.r c.args.c ≢ whole (pos 0)) (sym c.self.view_is) c.requires.entry in
-    let refused = subst₂ (λ (m n : ℕ). IsRefused value g.N.Exact.bound (PivotOperation m n (cell n (map value s.table.items)) c.args.r c.args.c) e) rows columns c.in_err-pivot_table.ensures.cause in
+    let refused = subst₂ (λ (m n : ℕ). IsRefused value g.N.Exact.bound (PivotShare m n (cell n (map value s.table.items)) c.args.r c.args.c) e) rows columns c.in_err-pivot_table.ensures.cause in
     let p = err_from_is_err_and c.from_residual.result c.from_residual.ensures.1 in
     rw (p.1, p.2)
     (subst (λ (d : Dictionary). IsPairOf value g.N.Exact.bound (system_in d) e) c.self.view_is
     (pivot_pair (seen value s.columns.items s.rows.items s.coefficients.items s.others.items s.basics.items s.table.items s.variables.items s.spent) c.self.invariant.1 c.args.r c.args.c
     (Prim.omega (arith, lr, c.requires.row)) (Prim.omega (arith, lc, c.requires.column)) g.N.Exact.bound (ap (λ (d : Dictionary). d.spent) c.self.view_is ∙ c.requires.live) entry
-    e.op (value e.left) (value e.right) refused.asked refused.passes))
+    e.op (value e.left) (value e.right) refused.x refused.a refused.b refused.asked refused.refused))
 
 pub rank-leaving_rank-requires-clause-named : goal.rank-leaving_rank-requires-clause-named
 rank-leaving_rank-requires-clause-named g c =
