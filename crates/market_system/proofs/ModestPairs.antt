@@ -44,6 +44,7 @@ use Rattle.market_system.specs.WorkingPairs.{IsSettledCase, IsWorkingPair}
 use Rattle.market_system.specs.Growth.{GrowsBy}
 use Rattle.market_system.proofs.SystemLaws.{variable_in}
 use Rattle.market_system.proofs.VariableLaws.{from_places}
+use Rattle.market_system.proofs.PairCases.{sides_product}
 use Rattle.market_system.proofs.ModestNumbers.{IsWholeWithin, whole_within, nil_within, wider, neg_within, plus_within, times_within, same_within, sum_fits, product_fits, AreWithin, append_within, map_within, prefix_within, term_within}
 use Rattle.market_system.proofs.ModestChoices.{entry_within, energy_within}
 use Rattle.market_system.proofs.ModestMarkets.{most_injection, most_balance, most_value, most_output, most_of, signed_within, load_within, shunt_within, fixed_within, up_within, down_within, quantity_within, price_within, block_value_within, injection_within, balance_within, output_terms_within, output_within, demand_within, empty_small, empty_balance_within, dispatch_small, system_within, output_count, output_each}
@@ -249,7 +250,7 @@ module _ (m : Parts) (market : IsMarket m) (lines : m.lines ≡ []) (modest : Is
         paid u = Product (neg_ℚ (unit_price m d u)) (output m x u)
 
     abbrev Fits : List Term → Type 0
-    Fits terms = (op : Op) (l r : Fraction) → IsSumStep terms op l r → Passes most op l r → ⊥
+    Fits terms = (op : Op) (l r : Fraction) (k : ℕ) → IsSumStep terms op l r k → Passes most op l r → ⊥
 
     welfare_fits : IsRightChoice m [] h → Fits (welfare_terms m (choice_dispatch m [] h))
     welfare_fits best =

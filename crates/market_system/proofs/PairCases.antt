@@ -19,7 +19,7 @@ use Rattle.exact_fraction.proofs.Shares.{too_large_turned}
 use Rattle.linear_system.specs.Choices.{Choice, IsChoice}
 use Rattle.linear_system.specs.Numbers.{Kind, Factor, Quantity, Price, SolvingNumber, SystemNumber, is_zero, is_high}
 use Rattle.linear_system.specs.Pairs.{IsCombined, alone, sum, difference, IsSummand, plain, IsPairCase, added, subtracted, scaled_right, scaled_left, AtEither, IsForLarge, Makes, added_to, itself, OfEither, IsSystemPair}
-use Rattle.linear_system.proofs.PairLaws.{IsForLarge-each, IsPairCase-each}
+use Rattle.linear_system.proofs.PairLaws.{IsForLarge-each, IsPairCase-each, IsScaling}
 use Rattle.fraction_theory.proofs.ListSums.{Contains-head, Contains-cons}
 use Rattle.market_model.specs.declared.answered.Duals.{Duals}
 use Rattle.market_model.specs.declared.participants.Parts.{Parts}
@@ -87,7 +87,7 @@ module _ (N : Kind → Fraction → Type 0) (opposite : (kind : Kind) (x : Fract
         by Times a = absurd a
 
     -- and each product among them is of a factor and a number
-    module _ (products : (k : ℕ) (a b : Fraction) → k < length terms → term_at terms k ≡ Product a b → (N Factor a × IsCombined N kind b) ⊎ (IsCombined N kind a × N Factor b))
+    module _ (products : (k : ℕ) (a b : Fraction) → k < length terms → term_at terms k ≡ Product a b → IsScaling N kind a b)
         (factor_sized : (x y : Fraction) → SameSize x y → N Factor y → N Factor x) where
       step_case : (op : Op) (l r : Fraction) (k : ℕ) → IsSumStep terms op l r k → IsPairCase N op l r
       step_case Plus l r k next = added_case Plus l r k tt next
@@ -243,11 +243,11 @@ module _ (m : Parts) (taken g : List Row) (reached : Growth m taken g) (h : Choi
   summand kind x y e n = subst (IsSummand Number kind) (sym e) (plain y (alone y n))
 
   by_less : (kind : Kind) (x y : Fraction) → Number kind x → Number kind y → ClearingNumber m g h (x -ℚ y) → IsRefusal Minus x y bound p → IsRangeOf m taken bound p
-  by_less kind x y n k difference r = by_numbers r.passes
+  by_less kind x y n k left r = by_numbers r.passes
       (subst (λ (o : Op). IsPairCase Number o p.left p.right) (sym r.same_op) (subtracted kind p.left p.right (summand kind p.left x r.same_left n) (summand kind p.right y r.same_right k)))
       (record {
         number = x -ℚ y;
-        is_number = difference;
+        is_number = left;
         too_large = r.too_large;
         made =
             subst (λ (o : Op). Makes (ClearingNumber m g h) o p.left p.right (x -ℚ y)) (sym r.same_op)
@@ -255,19 +255,15 @@ module _ (m : Parts) (taken g : List Row) (reached : Growth m taken g) (h : Choi
       })
 
   -- ---- the products among the terms of a sum
-  -- a factor and what it scales
-  abbrev IsScaling : Kind → Fraction → Fraction → Type 0
-  IsScaling kind a b = (Number Factor a × IsCombined Number kind b) ⊎ (IsCombined Number kind a × Number Factor b)
-
   abbrev IsScaled : Kind → Term → Type 0
   IsScaled kind (Plain x) = Unit {0}
-  IsScaled kind (Product a b) = IsScaling kind a b
+  IsScaled kind (Product a b) = IsScaling Number kind a b
 
   abbrev AreScaled : Kind → List Term → Type 0
   AreScaled kind [] = Unit {0}
   AreScaled kind (t ∷ ts) = IsScaled kind t × AreScaled kind ts
 
-  scaled_at : (kind : Kind) (terms : List Term) → AreScaled kind terms → (k : ℕ) (a b : Fraction) → k < length terms → term_at terms k ≡ Product a b → IsScaling kind a b
+  scaled_at : (kind : Kind) (terms : List Term) → AreScaled kind terms → (k : ℕ) (a b : Fraction) → k < length terms → term_at terms k ≡ Product a b → IsScaling Number kind a b
   scaled_at kind [] all k a b lt e = absurd (Prim.omega (arith, lt))
   scaled_at kind (t ∷ ts) all zero a b lt e = subst (IsScaled kind) e all.0
   scaled_at kind (t ∷ ts) all (suc k) a b lt e = scaled_at kind ts all.1 k a b (Prim.omega (arith, lt)) e
