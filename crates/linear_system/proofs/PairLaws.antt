@@ -1,7 +1,7 @@
 -- Numbers of more than one origin: what holds of pairs where numbers of one sort are numbers of another.
 use Rattle.std.specs.Prelude.{◌≡◌, ℕ, ◌⊎◌}
 use Rattle.std.proofs.Common.{ap, ap₂, sym, ◌∙◌, subst, subst₂, inl, inr}
-use Rattle.fraction_theory.specs.Fraction.{Fraction, ◌+ℚ◌, ◌*ℚ◌}
+use Rattle.fraction_theory.specs.Fraction.{Fraction, ◌+ℚ◌, ◌-ℚ◌, ◌*ℚ◌}
 use Rattle.fraction_theory.proofs.FieldLaws.{ring_ℚ}
 use Rattle.exact_fraction.specs.declared.Op.{Op}
 use Rattle.exact_fraction.specs.declared.Op.TheVariants.{Plus, Minus, Times}
@@ -65,3 +65,12 @@ module _ (N : Kind → Fraction → Type 0) (kind : Kind) (x a b : Fraction) (nu
         | inr w ↦ subst (λ (o : Op). Makes M o l r (x +ℚ a *ℚ b)) (sym w.0) (subst₂ (λ (y z : Fraction). Makes M Plus y z (x +ℚ a *ℚ b)) (sym w.1) (sym w.2) (itself Plus x (a *ℚ b)))
       ];
     }
+
+-- a difference that is refused is on the way to itself
+pub less_large : (M : Fraction → Type 0) (bound : ℕ) (x y : Fraction) (op : Op) (l r : Fraction) → op ≡ Minus → l ≡ x → r ≡ y → M (x -ℚ y) → IsTooLarge bound (x -ℚ y) → IsForLarge M bound op l r
+less_large M bound x y op l r o left right number large = record {
+  number = x -ℚ y;
+  is_number = number;
+  too_large = large;
+  made = subst (λ (p : Op). Makes M p l r (x -ℚ y)) (sym o) (subst₂ (λ (a b : Fraction). Makes M Minus a b (x -ℚ y)) (sym left) (sym right) (itself Minus x y));
+}

@@ -17,15 +17,16 @@ use Rattle.fraction_theory.proofs.SumLaws.{prefix-all}
 use Rattle.exact_fraction.specs.declared.Op.{Op}
 use Rattle.exact_fraction.specs.declared.Op.TheVariants.{Minus}
 use Rattle.exact_fraction.specs.declared.Passed.{Passed}
-use Rattle.exact_fraction.specs.Passes.{IsExact, IsPassed, outcome}
+use Rattle.exact_fraction.specs.Passes.{IsExactValue, IsTooLargeAt, outcome}
 use Rattle.linear_dict.proofs.NameLemmas.{lt_or_le}
 use Rattle.linear_system.specs.Choices.{Choice, at_bound, basics, value, value_terms}
-use Rattle.linear_system.specs.Numbers.{Quantity, SystemNumber, is_low, is_high, is_value}
-use Rattle.linear_system.specs.Pairs.{IsPairCase, subtracted, IsSummand, plain, alone, OfEither, IsSystemPair}
+use Rattle.linear_system.specs.Numbers.{Quantity, SolvingNumber, SystemNumber, is_fall, is_low, is_high, is_rise, is_value}
+use Rattle.linear_system.specs.Pairs.{IsPairCase, subtracted, IsSummand, plain, alone, AtEither, OfEither, IsSystemPair}
+use Rattle.linear_system.proofs.PairLaws.{less_large}
 use Rattle.linear_system.specs.Systems.{System}
 use Rattle.linear_dict.specs.Dictionaries.{Dictionary, IsDictionary, system_in, choice_of, note_of}
 use Rattle.linear_dict.proofs.SplitLemmas.{Contains-at}
-use Rattle.simplex_core.specs.Outcomes.{ShowsChoice}
+use Rattle.simplex_core.specs.Outcomes.{IsEmptyAt, ShowsChoice}
 use Rattle.simplex_core.specs.States.{state_of}
 use Rattle.simplex_core.proofs.StandLemmas.{choice_basic}
 use Rattle.simplex_theory.specs.Stuck.{multiplier, margin}
@@ -227,9 +228,9 @@ module _ (d : Dictionary) (sound : IsDictionary d) (row : ℕ) (within : row < l
   unfolding system_in
   low_number = is_low (slice_index d.basics row) named
 
-  refused_pair : (x y : Fraction) (bound : ℕ) (p : Passed Fraction) → SystemNumber (system_in d) (choice_of d) Quantity x → SystemNumber (system_in d) (choice_of d) Quantity y → IsRefusal Minus x y bound p
-      → IsSystemPair (system_in d) bound p.op p.left p.right
-  refused_pair x y bound p n k r = record {
+  refused_pair : (x y : Fraction) (bound : ℕ) (p : Passed Fraction) → SystemNumber (system_in d) (choice_of d) Quantity x → SystemNumber (system_in d) (choice_of d) Quantity y
+      → SolvingNumber (system_in d) (choice_of d) (x -ℚ y) → IsRefusal Minus x y bound p → IsSystemPair (system_in d) bound p.op p.left p.right
+  refused_pair x y bound p n k left r = record {
     passes = r.passes;
     one = choice_of d;
     near = choice_of d;
@@ -241,20 +242,26 @@ module _ (d : Dictionary) (sound : IsDictionary d) (row : ℕ) (within : row < l
         (subtracted Quantity p.left p.right
         (subst (IsSummand (OfEither (SystemNumber (system_in d)) (choice_of d) (choice_of d)) Quantity) (sym r.same_left) (plain x (alone x (inl n))))
         (subst (IsSummand (OfEither (SystemNumber (system_in d)) (choice_of d) (choice_of d)) Quantity) (sym r.same_right) (plain y (alone y (inl k)))));
+    large = less_large (AtEither (SolvingNumber (system_in d)) (choice_of d) (choice_of d)) bound x y p.op p.left p.right r.same_op r.same_left r.same_right (inl left) r.too_large;
   }
 
-  pub above_refused : (bound : ℕ) (p : Passed Fraction) → IsRefusal Minus (note_of d (slice_index d.basics row)).high (note_of d (slice_index d.basics row)).value bound p → IsSystemPair (system_in d) bound p.op p.left p.right
-  above_refused bound p = refused_pair (note_of d (slice_index d.basics row)).high (note_of d (slice_index d.basics row)).value bound p high_number value_number
+  module _ (bound : ℕ) (p : Passed Fraction) where
+    pub above_refused : IsEmptyAt d row true → IsRefusal Minus (note_of d (slice_index d.basics row)).high (note_of d (slice_index d.basics row)).value bound p → IsSystemPair (system_in d) bound p.op p.left p.right
+    unfolding system_in
+    above_refused empty = refused_pair (note_of d (slice_index d.basics row)).high (note_of d (slice_index d.basics row)).value bound p high_number value_number
+        (subst (λ v. SolvingNumber (system_in d) (choice_of d) ((note_of d (slice_index d.basics row)).high -ℚ v)) (sym value_is) (is_fall (slice_index d.basics row) empty.stuck.basic empty.stuck.violates empty.first))
 
-  pub below_refused : (bound : ℕ) (p : Passed Fraction) → IsRefusal Minus (note_of d (slice_index d.basics row)).value (note_of d (slice_index d.basics row)).low bound p → IsSystemPair (system_in d) bound p.op p.left p.right
-  below_refused bound p = refused_pair (note_of d (slice_index d.basics row)).value (note_of d (slice_index d.basics row)).low bound p value_number low_number
+    pub below_refused : IsEmptyAt d row false → IsRefusal Minus (note_of d (slice_index d.basics row)).value (note_of d (slice_index d.basics row)).low bound p → IsSystemPair (system_in d) bound p.op p.left p.right
+    unfolding system_in
+    below_refused empty = refused_pair (note_of d (slice_index d.basics row)).value (note_of d (slice_index d.basics row)).low bound p value_number low_number
+        (subst (λ v. SolvingNumber (system_in d) (choice_of d) (v -ℚ (note_of d (slice_index d.basics row)).low)) (sym value_is) (is_rise (slice_index d.basics row) empty.stuck.basic empty.stuck.violates empty.first))
 
 -- ---- an exact number, or two that passed
-pub exact_ok : {N : Type 0} (value : N → Fraction) (bound : ℕ) (op : Op) (l r : N) (result : Result N (Passed N)) (z : Fraction) → IsExact value bound op l r result → outcome op (value l) (value r) ≡ z → IfOk result (λ x. value x ≡ z)
+pub exact_ok : {N : Type 0} (value : N → Fraction) (bound : ℕ) (op : Op) (l r : N) (result : Result N (Passed N)) (z : Fraction) → IsExactValue value bound op l r result → outcome op (value l) (value r) ≡ z → IfOk result (λ x. value x ≡ z)
 exact_ok value bound op l r (Ok x) z h e = h.exact ∙ e
 exact_ok value bound op l r (Err p) z h e = tt
 
-pub exact_err : {N : Type 0} (value : N → Fraction) (bound : ℕ) (op : Op) (l r : N) (result : Result N (Passed N)) (P : Passed N → Type 0) → IsExact value bound op l r result → ((p : Passed N) → IsPassed value bound op l r p → P p) → IfErr result P
+pub exact_err : {N : Type 0} (value : N → Fraction) (bound : ℕ) (op : Op) (l r : N) (result : Result N (Passed N)) (P : Passed N → Type 0) → IsExactValue value bound op l r result → ((p : Passed N) → IsTooLargeAt value bound op l r p → P p) → IfErr result P
 exact_err value bound op l r (Ok x) P h f = tt
 exact_err value bound op l r (Err p) P h f = f p h
 

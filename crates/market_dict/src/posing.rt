@@ -13,7 +13,7 @@ ghost use Rattle.market_dict.specs.Holding.{prices as prices_of, lows, highs};
 ghost use Rattle.market_dict.specs.Refusals.{IsBoundsRefusal};
 ghost use Rattle.market_dict.specs.PricesAndBounds.{ArePricesAndBounds};
 
-use exact_fraction::{Exact, Passed};
+use exact_fraction::{Exact, Passed, exact_difference};
 use limit_rows::{limit_at, row_flow};
 use limit_screen::{bus_injections, flows_made, line_flows};
 use market_model::{Market, Row, Stop, balance, block_quantity, block_value, datum, zeros};
@@ -96,8 +96,8 @@ fn row_bounds<N: Exact>(market: &Market, base_flows: &[N], row: Row) -> Result<B
     let _lines = market.lines();
     let flow = row_flow(market, line_flows(market, base_flows), row)?;
     let limit: N = datum(limit_at(market, row));
-    let high = limit.minus(flow)?;
-    let low = limit.neg().minus(flow)?;
+    let high = exact_difference(limit, flow)?;
+    let low = exact_difference(limit.neg(), flow)?;
     Ok(Bounds { low, high })
 }
 

@@ -5,7 +5,7 @@ ghost use Rattle.fraction_theory.specs.Fraction.{Fraction};
 ghost use Rattle.fraction_theory.specs.Signs.{sign_of};
 ghost use Rattle.linear_dict.specs.Causes.{IsPairOf};
 ghost use Rattle.linear_dict.specs.Dictionaries.{IsDictionary, choice_of, note_of, system_in};
-ghost use Rattle.simplex_core.specs.Outcomes.{ShowsChoice};
+ghost use Rattle.simplex_core.specs.Outcomes.{IsEmptyAt, ShowsChoice};
 ghost use Rattle.simplex_theory.specs.Steps.{opposite_if};
 ghost use Rattle.simplex_theory.specs.Stuck.{multiplier as multiplier_of, margin as margin_of};
 ghost use Rattle.market_model.specs.declared.limits.Row.{Row};
@@ -17,7 +17,7 @@ ghost use Rattle.market_model.specs.PutIn.{dispatch_of};
 ghost use Rattle.market_dict.specs.Holding.{HoldsMarket, HoldsSystem};
 
 use crate::names::{name_of, variable_of};
-use exact_fraction::{Exact, Passed, Sign};
+use exact_fraction::{Exact, Passed, Sign, exact_difference};
 use limit_rows::name_at;
 use linear_dict::{Dict, Place};
 use market_model::{Dual, Duals, Farkas, Market, RowId, Stop, datum};
@@ -155,15 +155,15 @@ fn margin<N: Exact>(dict: &Dict<N>, row: usize, above: bool) -> Result<N, Passed
     requires live { dict.now.spent ≡ false }
     requires sound { IsDictionary dict.now }
     requires shows { ShowsChoice dict.now }
-    requires row { row < length dict.now.basics }
+    requires empty { IsEmptyAt dict.now row above }
     ensures margin { IfOk result (λ margin. N.value margin ≡ margin_of (system_in dict.now) (choice_of dict.now) (slice_index dict.now.basics row) above) }
     ensures pair { IfErr result (IsPairOf N.value N.bound (system_in dict.now)) }
 {
     let note = dict.note(dict.basics(row));
     if above {
-        note.high.minus(note.value)
+        exact_difference(note.high, note.value)
     } else {
-        note.value.minus(note.low)
+        exact_difference(note.value, note.low)
     }
 }
 
@@ -177,7 +177,7 @@ pub(crate) fn farkas<N: Exact>(
 ) -> Result<Farkas<N>, Stop<N>>
     requires holds { (g : List Row) × HoldsSystem market.now g dict.now }
     requires shows { ShowsChoice dict.now }
-    requires row { row < length dict.now.basics }
+    requires empty { IsEmptyAt dict.now row above }
     ensures duals { (g : List Row) → HoldsSystem market.now g dict.now → IfOk result (λ farkas. duals_at N.value farkas.duals ≡ stuck_duals market.now g (choice_of dict.now) (slice_index dict.now.basics row) above) }
     ensures bound { (g : List Row) → HoldsSystem market.now g dict.now → IfOk result (λ farkas. N.value farkas.bound ≡ margin_of (system_of market.now g) (choice_of dict.now) (slice_index dict.now.basics row) above) }
     ensures pair { (g : List Row) → HoldsSystem market.now g dict.now → IfErr result (λ stop. OnPassed stop (IsPairOf N.value N.bound (system_of market.now g))) }

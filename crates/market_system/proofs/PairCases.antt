@@ -19,7 +19,7 @@ use Rattle.exact_fraction.proofs.Shares.{too_large_turned}
 use Rattle.linear_system.specs.Choices.{Choice, IsChoice}
 use Rattle.linear_system.specs.Numbers.{Kind, Factor, Quantity, Price, SolvingNumber, SystemNumber, is_zero, is_high}
 use Rattle.linear_system.specs.Pairs.{IsCombined, alone, sum, difference, IsSummand, plain, IsPairCase, added, subtracted, scaled_right, scaled_left, AtEither, IsForLarge, Makes, added_to, itself, OfEither, IsSystemPair}
-use Rattle.linear_system.proofs.PairLaws.{IsForLarge-each, IsPairCase-each, IsScaling}
+use Rattle.linear_system.proofs.PairLaws.{IsForLarge-each, IsPairCase-each, IsScaling, less_large}
 use Rattle.fraction_theory.proofs.ListSums.{Contains-head, Contains-cons}
 use Rattle.market_model.specs.declared.answered.Duals.{Duals}
 use Rattle.market_model.specs.declared.participants.Parts.{Parts}
@@ -245,14 +245,7 @@ module _ (m : Parts) (taken g : List Row) (reached : Growth m taken g) (h : Choi
   by_less : (kind : Kind) (x y : Fraction) → Number kind x → Number kind y → ClearingNumber m g h (x -ℚ y) → IsRefusal Minus x y bound p → IsRangeOf m taken bound p
   by_less kind x y n k left r = by_numbers r.passes
       (subst (λ (o : Op). IsPairCase Number o p.left p.right) (sym r.same_op) (subtracted kind p.left p.right (summand kind p.left x r.same_left n) (summand kind p.right y r.same_right k)))
-      (record {
-        number = x -ℚ y;
-        is_number = left;
-        too_large = r.too_large;
-        made =
-            subst (λ (o : Op). Makes (ClearingNumber m g h) o p.left p.right (x -ℚ y)) (sym r.same_op)
-            (subst₂ (λ (a b : Fraction). Makes (ClearingNumber m g h) Minus a b (x -ℚ y)) (sym r.same_left) (sym r.same_right) (itself Minus x y));
-      })
+      (less_large (ClearingNumber m g h) bound x y p.op p.left p.right r.same_op r.same_left r.same_right left r.too_large)
 
   -- ---- the products among the terms of a sum
   abbrev IsScaled : Kind → Term → Type 0

@@ -22,7 +22,7 @@ returns-clause-bound g c = λ rs holds.
     let m = c.args.market.now in
     let d = c.args.dict.now in
     let b = slice_index d.basics c.args.row in
-    let named = c.requires.holds.1.holds.sound.split.first_named b (Contains-at d.basics c.args.row c.requires.row) in
+    let named = c.requires.holds.1.holds.sound.split.first_named b (Contains-at d.basics c.args.row c.requires.empty.within) in
     c.in_ok-bound.ensures.margin ∙ same_margin (system_in d) (system_of m rs) holds.same (choice_of d) b c.args.above (known_names d b named)
 
 pub returns-in_err-bound-clause-pair : goal.returns-in_err-bound-clause-pair
