@@ -14,7 +14,7 @@ use Rattle.market_model.specs.Settlement.{surplus}
 use Rattle.market_model.proofs.FarkasLaw.{law_of_infeasibility}
 use Rattle.market_model.proofs.Optimum.{law_of_the_optimum, law_of_the_surplus}
 use Rattle.market_system.specs.WorkingPairs.{IsRangeOf}
-use Rattle.market_system.proofs.Completeness.{law_of_completeness}
+use Rattle.market_system.proofs.Completeness.{law_of_completeness, law_of_the_numbers}
 use Rattle.net_case.specs.declared.live_parts.PostRating.{PostRating}
 use Rattle.case_maker.specs.Rings.{ring_of}
 use Rattle.record_reading.specs.Steps.{or_as}
@@ -120,7 +120,7 @@ law_of_complete words files text s prints =
     let p = printed words files text s prints in (
       λ m asks. market-reported m p.telling text s p.text_is p.status_is (clear-told files words p.telling p.written (Ok m) p.answers asks),
       λ m o place reports. (let is = reported words files text s m o place _ p reports in
-          record { taken = is.taken; begins = is.begins; decided = λ none. law_of_completeness m is.taken most_size o is.market none is.right }),
+          record { taken = is.taken; begins = is.begins; decided = λ fit. law_of_completeness m is.taken most_size o is.market (law_of_the_numbers m is.taken most_size fit) is.right }),
     )
 
 -- ---- replay
