@@ -18,7 +18,6 @@ use Rattle.linear_system.specs.Choices as choices
 use Rattle.linear_system.proofs.ChoiceLaws.{column_entry-basic, column_entry-itself, column_entry-other}
 use Rattle.std.proofs.lemmas.List.Elements.{filter-append}
 use Rattle.fraction_theory.proofs.SumLaws.{total-Product}
-use Rattle.fraction_theory.proofs.FieldLaws.{ring_ℚ}
 use Rattle.linear_dict.specs.Adding.{AreSums, row_term, AreWithin, IsInTable, IsPutAmong}
 use Rattle.exact_fraction.specs.declared.Op.{Op}
 use Rattle.exact_fraction.specs.Passes.{IsShareRefused}
@@ -42,7 +41,7 @@ use Rattle.linear_dict.proofs.GrowLemmas.{index_added, got_below}
 use Rattle.linear_dict.proofs.IndexLemmas.{belongs, map-insert}
 use Rattle.linear_dict.proofs.NameLemmas.{place_in-at, place_in-within, among-tells, among-not, lt_or_le}
 use Rattle.linear_dict.proofs.RowLemmas.{added_pair, grown, grown_dictionary, grown_entries}
-use Rattle.linear_dict.proofs.SplitLemmas.{Contains-at, basic_in, other_in}
+use Rattle.linear_dict.proofs.SplitLemmas.{Contains-at, other_in}
 
 -- a dictionary as it is seen and as it is are one
 pub adds_row_to : {N : Type 0} {value : N → Fraction} {d e new : Dictionary} {row : ℕ} {entries : List N} → d ≡ e → AddsRow value d row entries new → AddsRow value e row entries new

@@ -2,28 +2,29 @@
 use Rattle.std.specs.Prelude.{◌≡◌, ℕ, ◌+◌, ◌<◌, ◌≤◌, pos, Bool, true, false, not, List, [], ◌∷◌, length, take, filter, slice_index, if◌then◌else◌, refl}
 use Rattle.std.specs.List.{Contains}
 use Rattle.std.proofs.Common.{ap, sym, ◌∙◌, subst, subst₂, inl, inr}
+use Rattle.std.proofs.Math.Path.{subst₃}
 use mathlib.Core.Path.{ap₂}
 use Rattle.exact_fraction.specs.declared.Op.{Op}
-use Rattle.exact_fraction.specs.declared.Op.TheVariants.{Plus, Times}
-use Rattle.exact_fraction.specs.Passes.{Passes}
+use Rattle.exact_fraction.specs.Passes.{IsShareRefused}
 use Rattle.fraction_theory.specs.Fraction.{Fraction, whole, ◌+ℚ◌, ◌*ℚ◌}
 use Rattle.fraction_theory.specs.Signs.{sign_of}
-use Rattle.fraction_theory.specs.Sums.{sum_by}
+use Rattle.fraction_theory.specs.Sums.{prefix, sum_by}
 use Rattle.fraction_theory.proofs.FieldLaws.{ring_ℚ}
 use Rattle.fraction_theory.proofs.Ring.{by_ring, at, pnil, pone, ◌⊕◌, ◌⊗◌}
 use Rattle.linear_system.specs.Systems.{System}
-use Rattle.linear_system.specs.Choices.{Choice, at_bound, column_entry, reduced, value}
+use Rattle.linear_system.specs.Choices.{Choice, at_bound, column_entry, reduced, reduced_terms, value, value_terms}
+use Rattle.linear_system.specs.Numbers.{is_one}
 use Rattle.linear_system.specs.Pairs.{IsSystemPair}
-use Rattle.linear_system.proofs.ChoiceLaws.{column_entry-itself, column_entry-other}
+use Rattle.linear_system.proofs.ChoiceLaws.{column_entry-basic, column_entry-itself, column_entry-other}
 use Rattle.linear_dict.specs.Dictionaries.{Dictionary, IsDictionary, system_in, choice_of, note_of, with_note}
 use Rattle.linear_dict.specs.Notes.{Noted}
 use Rattle.linear_dict.specs.Places.{is_among}
-use Rattle.simplex_core.specs.Operations.{PriceOperation, scaling_price, adding_scaled, adding_own, BoundOperation, scaling_bound, adding_bound}
+use Rattle.simplex_core.specs.Operations.{PriceShare, adding_scaled, adding_own, BoundShare, adding_bound}
 use Rattle.simplex_core.specs.Posings.{asks_high, at_asked, asked_note, bound_added, price_added, reduced_note, value_note}
 use Rattle.simplex_core.specs.Turns.{noted_anew}
 use Rattle.simplex_core.proofs.AnewLaws.{anew_sound, anew_system, anew_choice, anew_basics, anew_others, anew_entry, anew_column_entry, anew_same, anew_twice, same_anew, set_anew}
 use Rattle.simplex_core.proofs.NoteLaws.{note_anew}
-use Rattle.simplex_core.proofs.Pairs.{price_times, price_plus, price_plain, value_times, value_plus}
+use Rattle.simplex_core.proofs.Pairs.{entry_number, price_share, value_share}
 use Rattle.simplex_core.proofs.StandLemmas.{choice_basic, choice_other, stand_note, stand-basic, stand-other}
 use Rattle.simplex_core.proofs.SumLemmas.{price_term, bound_term, bound_term-other, bound_term-basic, price_prefix, bound_prefix, reduced_by_names, value_by_names, sum_more, sum_skip, sum_all}
 
@@ -203,33 +204,61 @@ module _ (d : Dictionary) (h : IsDictionary d) (k : ℕ) where
     | inr o ↦ value_so_far-other d h b k o ∙ sym (value_so_far-other d h b (k + 1) o)
   ])
 
-  -- what is refused on the way is a working pair of the system
-  module _ (live : d.spent ≡ false) (bound : ℕ) where
-    pub price_pair : ((w : ℕ) → Contains d.rows w → (system_in d).price w ≡ whole (pos 0)) → (j : ℕ) (op : Op) (x y : Fraction)
-        → PriceOperation (noted_anew d (reduced_so_far d k)) j op x y → Passes bound op x y → IsSystemPair (system_in d) bound op x y
-    price_pair unpriced j _ _ _ (scaling_price w b o) = subst₂ (λ (x y : Fraction). Passes bound Times x y → IsSystemPair (system_in d) bound Times x y)
-        (sym (ap (λ (s : System). s.price j) reduced_system)) (sym (anew_entry d h (reduced_so_far d k) j w))
-        (price_times d h live bound unpriced j w (to_basics j b) (to_others w o))
-    price_pair unpriced j _ _ _ (adding_scaled w b o) = subst₂ (λ (x y : Fraction). Passes bound Plus x y → IsSystemPair (system_in d) bound Plus x y)
-        (sym (ap Noted.reduced (reduced_here w (to_others w o)) ∙ price_prefix d h unpriced w k))
-        (sym (ap₂ ◌*ℚ◌ (ap (λ (s : System). s.price j) reduced_system) (anew_entry d h (reduced_so_far d k) j w)))
-        (price_plus d h live bound unpriced (length (filter (is_among d.columns) (take k d.names))) j w (to_basics j b) (to_others w o))
-    price_pair unpriced j _ _ _ (adding_own o) = subst₂ (λ (x y : Fraction). Passes bound Plus x y → IsSystemPair (system_in d) bound Plus x y)
-        (sym (ap Noted.reduced (reduced_here j (to_others j o)) ∙ price_prefix d h unpriced j k))
-        (sym (ap (λ (s : System). s.price j) reduced_system))
-        (price_plain d h live bound unpriced (length (filter (is_among d.columns) (take k d.names))) j (to_others j o))
+  -- What is refused on the way is a working pair of the system: with the next share the sum is that of more terms.
+  module _ (live : d.spent ≡ false) (j : ℕ) (hk : k < length d.names) (ej : slice_index d.names k ≡ j) where
+    count : ℕ → ℕ
+    count i = length (filter (is_among d.columns) (take i d.names))
 
-    pub bound_pair : (j : ℕ) → Contains d.others j → (op : Op) (x y : Fraction)
-        → BoundOperation (noted_anew d (value_so_far d k)) j op x y → Passes bound op x y → IsSystemPair (system_in d) bound op x y
-    bound_pair j o _ _ _ (scaling_bound b c) = subst₂ (λ (x y : Fraction). Passes bound Times x y → IsSystemPair (system_in d) bound Times x y)
-        (sym (anew_entry d h (value_so_far d k) b j)) (sym (stands_still j))
-        (value_times d h live bound b j (subst (λ (bs : List ℕ). Contains bs b) (anew_basics d h (value_so_far d k)) c) o)
-    bound_pair j o _ _ _ (adding_bound b c) =
+    next_price : ((w : ℕ) → Contains d.rows w → (system_in d).price w ≡ whole (pos 0)) → (w : ℕ) (q : Fraction) → column_entry (choice_of d) j w ≡ q
+        → prefix (count (k + 1)) (reduced_terms (system_in d) (choice_of d) w) ≡ prefix (count k) (reduced_terms (system_in d) (choice_of d) w) +ℚ (system_in d).price j *ℚ q
+    unfolding count price_term
+    next_price unpriced w q is =
+        sym (price_prefix d h unpriced w (k + 1)) ∙ sum_more (price_term d w) d.names k j hk ej
+        ∙ ap₂ (λ x y. x +ℚ (system_in d).price j *ℚ y) (price_prefix d h unpriced w k) is
+
+    -- its values, while the reduced prices are those so far
+    price_read : ((w : ℕ) → Contains d.rows w → (system_in d).price w ≡ whole (pos 0)) → (w : ℕ) → Contains d.others w
+        → (note_of (noted_anew d (reduced_so_far d k)) w).reduced ≡ prefix (count k) (reduced_terms (system_in d) (choice_of d) w)
+    unfolding count
+    price_read unpriced w o = ap Noted.reduced (reduced_here w o) ∙ price_prefix d h unpriced w k
+
+    price_same : (system_in (noted_anew d (reduced_so_far d k))).price j ≡ (system_in d).price j
+    price_same = ap (λ (s : System). s.price j) reduced_system
+
+    pub price_pair : ((w : ℕ) → Contains d.rows w → (system_in d).price w ≡ whole (pos 0)) → (bound : ℕ) (op : Op) (left right x p q : Fraction)
+        → PriceShare (noted_anew d (reduced_so_far d k)) j x p q → IsShareRefused bound x p q op left right → IsSystemPair (system_in d) bound op left right
+    price_pair unpriced bound op left right _ _ _ (adding_scaled w b o) refused =
+        let basic : Contains d.basics j = to_basics j b in
+        let other : Contains d.others w = to_others w o in
+        price_share d h live unpriced (count k) (count (k + 1)) j w ((choice_of d).entry j w) (h.split.first_named j basic) other (entry_number d h live j w basic other)
+        (next_price unpriced w ((choice_of d).entry j w) (column_entry-basic (choice_of d) j w (choice_basic d h j basic))) bound op left right
+        (subst₃ (λ x p q. IsShareRefused bound x p q op left right) (price_read unpriced w other) price_same (anew_entry d h (reduced_so_far d k) j w) refused)
+    price_pair unpriced bound op left right _ _ _ (adding_own o) refused =
+        let other : Contains d.others j = to_others j o in
+        price_share d h live unpriced (count k) (count (k + 1)) j j (whole (pos 1)) (h.split.second_named j other) other is_one
+        (next_price unpriced j (whole (pos 1)) (column_entry-itself (choice_of d) j (choice_other d h j other))) bound op left right
+        (subst₂ (λ x p. IsShareRefused bound x p (whole (pos 1)) op left right) (price_read unpriced j other) price_same refused)
+
+    others_before : ℕ → ℕ
+    others_before i = length (filter (λ w. not ((choice_of d).basic w)) (take i d.names))
+
+    next_bound : Contains d.others j → (b : ℕ) → prefix (others_before (k + 1)) (value_terms (system_in d) (choice_of d) b)
+        ≡ prefix (others_before k) (value_terms (system_in d) (choice_of d) b) +ℚ (choice_of d).entry b j *ℚ at_bound (system_in d) (choice_of d) j
+    unfolding others_before
+    next_bound o b =
+        sym (bound_prefix d h b (k + 1)) ∙ sum_more (bound_term d b) d.names k j hk ej
+        ∙ ap₂ ◌+ℚ◌ (bound_prefix d h b k) (bound_term-other d h b j o)
+
+    value_read : (b : ℕ) → Contains d.basics b → (note_of (noted_anew d (value_so_far d k)) b).value ≡ prefix (others_before k) (value_terms (system_in d) (choice_of d) b)
+    unfolding others_before
+    value_read b m = ap Noted.value (value_here b m) ∙ bound_prefix d h b k
+
+    pub bound_pair : Contains d.others j → (bound : ℕ) (op : Op) (left right x p q : Fraction)
+        → BoundShare (noted_anew d (value_so_far d k)) j x p q → IsShareRefused bound x p q op left right → IsSystemPair (system_in d) bound op left right
+    bound_pair o bound op left right _ _ _ (adding_bound b c) refused =
         let m : Contains d.basics b = subst (λ (bs : List ℕ). Contains bs b) (anew_basics d h (value_so_far d k)) c in
-        subst₂ (λ (x y : Fraction). Passes bound Plus x y → IsSystemPair (system_in d) bound Plus x y)
-        (sym (ap Noted.value (value_here b m) ∙ bound_prefix d h b k))
-        (sym (ap₂ ◌*ℚ◌ (anew_entry d h (value_so_far d k) b j) (stands_still j)))
-        (value_plus d h live bound (length (filter (λ w. not ((choice_of d).basic w)) (take k d.names))) b j m o)
+        value_share d h live (others_before k) (others_before (k + 1)) b j m o (next_bound o b) bound op left right
+        (subst₃ (λ x p q. IsShareRefused bound x p q op left right) (value_read b m) (anew_entry d h (value_so_far d k) b j) (stands_still j) refused)
 
 -- the two ends of each loop
 module _ (d : Dictionary) (h : IsDictionary d) where

@@ -1,69 +1,68 @@
 -- Refused operations as working pairs of a dictionary's own system.
-use Rattle.std.specs.Prelude.{◌≡◌, ◌≢◌, ℕ, ◌<◌, pos, Bool, true, false, List, [], ◌∷◌, ◌==◌, Result, Ok, Err, IfErr, length, slice_index, if◌then◌else◌, refl}
+use Rattle.std.specs.Prelude.{◌≡◌, ◌≢◌, ℕ, pos, Bool, true, false, List, [], ◌∷◌, ◌==◌, Result, Ok, Err, IfErr, length, if◌then◌else◌, refl}
 use Rattle.std.specs.List.{Contains}
-use Rattle.std.proofs.Common.{arith, ap, sym, ◌∙◌, subst, subst₂, inl, inr}
+use Rattle.std.proofs.Common.{arith, ap, ap₂, sym, ◌∙◌, subst, subst₂, inl, inr}
+use Rattle.std.proofs.lemmas.List.{take_all}
 use Rattle.exact_fraction.specs.declared.Op.{Op}
-use Rattle.exact_fraction.specs.declared.Op.TheVariants.{Plus, Minus, Times}
+use Rattle.exact_fraction.specs.declared.Op.TheVariants.{Minus}
 use Rattle.exact_fraction.specs.declared.Passed.{Passed}
-use Rattle.exact_fraction.specs.Passes.{IsPassed, Passes}
-use Rattle.fraction_theory.specs.Fraction.{Fraction, whole, ◌+ℚ◌, ◌*ℚ◌, neg_ℚ, recip_ℚ}
-use Rattle.fraction_theory.specs.Order.{◌<ℚ◌}
+use Rattle.exact_fraction.specs.Passes.{IsShareRefused, IsTooLarge, IsTooLargeAt, Passes, outcome}
+use Rattle.fraction_theory.specs.Fraction.{Fraction, whole, ◌+ℚ◌, ◌-ℚ◌, ◌*ℚ◌, neg_ℚ, recip_ℚ}
+use Rattle.fraction_theory.specs.Order.{◌<ℚ◌, ◌≤ℚ◌}
 use Rattle.fraction_theory.specs.Signs.{sign_of}
 use Rattle.fraction_theory.specs.declared.Sign.{Sign}
 use Rattle.fraction_theory.specs.declared.Sign.TheVariants.{Below, Zero, Above}
 use Rattle.fraction_theory.specs.Sums.{prefix, total, Term}
-use Rattle.std.proofs.lemmas.List.{take_all}
 use Rattle.fraction_theory.proofs.FieldLaws.{ring_ℚ, *ℚ-recip}
 use Rattle.fraction_theory.proofs.OrderLaws.{<ℚ_irrefl}
-use Rattle.fraction_theory.proofs.Ring.{at, by_ring, by_ring2, pmul, pneg, pnil, pone}
-use Rattle.fraction_theory.proofs.ListSums.{Contains-filter, put_at-here}
-use Rattle.linear_system.specs.Systems.{System}
-use Rattle.linear_system.specs.Choices.{Choice, IsChoice, OneExchange, at_bound, basics, others, reduced, reduced_terms, value, value_terms}
+use Rattle.fraction_theory.proofs.Ring.{at, by_ring, by_ring2, pmul, pneg, pnil, pone, ◌⊕◌}
+use Rattle.fraction_theory.proofs.ListSums.{Contains-filter, Distinct, Distinct-increasing, put_at-here, sum_by-one}
+use Rattle.linear_system.specs.Systems.{System, IsSystem, MeetsRows}
+use Rattle.linear_system.specs.Choices.{Choice, IsChoice, OneExchange, at_bound, basics, column_entry, others, reduced, reduced_terms, value, value_terms}
 use Rattle.linear_system.specs.Exchanges.{entering_entry, exchanged}
-use Rattle.linear_system.proofs.ChoiceLaws.{basics_are, is_basic, is_other, others_are}
+use Rattle.linear_system.specs.Numbers.{Kind, Factor, Quantity, Price, SystemNumber, is_entry, is_low, is_high, is_value, is_price, is_reduced, is_opposite, IsFirst, SolvingNumber, is_number, is_fall, is_rise, is_turned}
+use Rattle.linear_system.specs.Pairs.{IsCombined, IsSystemPair, OfEither, alone, difference, plain, subtracted, itself}
+use Rattle.linear_system.proofs.ChoiceLaws.{at_unit, basics_are, column_entry-basic, column_entry-other, is_basic, is_other, objective_by_others, others_are, others_distinct, unit_meets, unit_point}
 use Rattle.linear_system.proofs.ExchangeLaws.{exchanged_is, exchanged_once}
-use Rattle.simplex_theory.specs.Steps.{abs_by, abs_ℚ, violated_bound, displacement}
-use Rattle.simplex_theory.proofs.PosedNumbers.{posed_reduced, posed_value, value_other}
-use Rattle.simplex_core.specs.States.{IsReady, state_of}
-use Rattle.simplex_core.specs.Operations.{MoveOperation, MovesOperation, of_note, rising, adding_rise, pricing, adding_price}
-use Rattle.simplex_core.proofs.StepLemmas.{pivoted_rows, pivoted_columns, pivoted_entering, pivoted_leaving}
-use Rattle.linear_dict.specs.Notes.{Noted}
-use Rattle.linear_dict.specs.Tables.{cell}
-use Rattle.linear_dict.proofs.ExchangeLemmas.{pivoted_basic, pivoted_dictionary}
-use Rattle.linear_system.specs.Numbers.{Kind, Factor, Quantity, Price, SystemNumber, is_entry, is_low, is_high, is_value, is_price, is_reduced, is_opposite}
-use Rattle.linear_system.specs.Pairs.{IsCombined, IsPairCase, IsSummand, IsSystemPair, OfEither, alone, difference, plain, scaled, added, subtracted, scaled_left, scaled_right}
-use Rattle.linear_system.proofs.PairLaws.{IsPairCase-each}
+use Rattle.linear_system.proofs.PairLaws.{IsScaling}
 use Rattle.linear_dict.specs.Causes.{IsPairOf}
 use Rattle.linear_dict.specs.Dictionaries.{Dictionary, IsDictionary, system_in, choice_of, entry_of, note_of, pivoted}
-use Rattle.linear_dict.specs.Places.{is_among}
-use Rattle.linear_dict.proofs.CauseLemmas.{refused}
+use Rattle.linear_dict.specs.Notes.{Noted}
+use Rattle.linear_dict.specs.Places.{is_among, place_in}
+use Rattle.linear_dict.proofs.CauseLemmas.{share_pair, written}
 use Rattle.linear_dict.proofs.NameLemmas.{among-tells}
-use Rattle.linear_dict.proofs.SplitLemmas.{Contains-at, basic_in, other_in, system_is}
+use Rattle.linear_dict.proofs.SplitLemmas.{basic_in, in_basics, in_others, other_in, system_is}
+use Rattle.simplex_theory.specs.Steps.{Enters, IsStep, Leaves, abs_by, abs_ℚ, violated_bound, displacement}
+use Rattle.simplex_theory.proofs.Exchanges.{entering_basic, entering_other, leaving_other, other_after, other_not_leaving}
+use Rattle.simplex_theory.proofs.PosedNumbers.{posed_reduced, posed_value, value_other}
+use Rattle.simplex_core.specs.States.{IsReady, state_of}
+use Rattle.simplex_core.specs.Operations.{MoveShare, MovesShare, of_note, adding_rise, adding_price}
+use Rattle.simplex_core.specs.Turns.{noted_anew, turned}
+use Rattle.simplex_core.proofs.TurnLaws.{turned_names, turned_ready, turned_step, turned_system}
 
 -- a refused operation by the values of its sides
 pub pair_by : {N : Type 0} (value : N → Fraction) (bound : ℕ) (s : System) (op : Op) (left right : N) (e : Passed N) (x y : Fraction)
-    → IsPassed value bound op left right e → value left ≡ x → value right ≡ y → (Passes bound op x y → IsSystemPair s bound op x y) → IsPairOf value bound s e
-pair_by value bound s op left right e x y p ex ey f =
-    (refused value bound (IsSystemPair s bound) op left right e x y p ex ey (f (subst₂ (Passes bound op) ex ey p.passes))).asked
+    → IsTooLargeAt value bound op left right e → value left ≡ x → value right ≡ y → (IsTooLarge bound (outcome op x y) → Passes bound op x y → IsSystemPair s bound op x y) → IsPairOf value bound s e
+pair_by value bound s op left right e x y h ex ey f =
+    let p = h.passed in
+    subst (λ (o : Op). IsSystemPair s bound o (value e.left) (value e.right)) (sym p.same_op)
+    (subst₂ (IsSystemPair s bound op) (sym (ap value p.same_left ∙ ex)) (sym (ap value p.same_right ∙ ey))
+    (f (subst (IsTooLarge bound) (ap₂ (outcome op) ex ey) h.too_large) (subst₂ (Passes bound op) ex ey p.passes)))
 
-module _ (d : Dictionary) (h : IsDictionary d) (live : d.spent ≡ false) (bound : ℕ) where
+module _ (d : Dictionary) (h : IsDictionary d) (live : d.spent ≡ false) where
   s : System
   s = system_in d
 
   c : Choice
   c = choice_of d
 
-  -- a case of the numbers of the choice in hand
-  pub lone : (op : Op) (x y : Fraction) → IsPairCase (SystemNumber (system_in d) (choice_of d)) op x y → Passes bound op x y → IsSystemPair (system_in d) bound op x y
-  lone op x y case passes = record {
-    passes = passes;
-    one = choice_of d;
-    near = choice_of d;
-    is_choice = h.solutions live;
-    near_is_choice = h.solutions live;
-    are_near = inl refl;
-    sides = IsPairCase-each (λ kind z n. inl n) op x y case;
-  }
+  -- a refused sum of numbers of the choice in hand, which is one of its numbers itself
+  lone_share : (kind : Kind) (x p q y : Fraction) → SystemNumber (system_in d) (choice_of d) kind x → IsScaling (OfEither (SystemNumber (system_in d)) (choice_of d) (choice_of d)) kind p q
+      → SystemNumber (system_in d) (choice_of d) kind y → y ≡ x +ℚ p *ℚ q → (bound : ℕ) (op : Op) (left right : Fraction) → IsShareRefused bound x p q op left right
+      → IsSystemPair (system_in d) bound op left right
+  lone_share kind x p q y number product whole_sum is bound op left right refused =
+      share_pair (system_in d) (choice_of d) (choice_of d) (h.solutions live) (h.solutions live) (inl refl) kind x p q (inl number) product
+      (inl (is_number kind (x +ℚ p *ℚ q) (subst (SystemNumber (system_in d) (choice_of d) kind) is whole_sum))) bound op left right refused
 
   pub entry_number : (b w : ℕ) → Contains d.basics b → Contains d.others w → SystemNumber (system_in d) (choice_of d) Factor ((choice_of d).entry b w)
   entry_number b w m o = is_entry b w (basic_in d h b m) (other_in d h w o)
@@ -92,33 +91,23 @@ module _ (d : Dictionary) (h : IsDictionary d) (live : d.spent ≡ false) (bound
     | inr k ↦ is_price j (column j k)
   ]
 
-  -- the operations of a reduced price
-  pub price_times : ((w : ℕ) → Contains d.rows w → (system_in d).price w ≡ whole (pos 0)) → (j w : ℕ) → Contains d.basics j → Contains d.others w
-      → Passes bound Times ((system_in d).price j) ((choice_of d).entry j w) → IsSystemPair (system_in d) bound Times ((system_in d).price j) ((choice_of d).entry j w)
-  price_times unpriced j w m o = lone Times _ _ (scaled_left Price _ _ (alone _ (price_number unpriced j w (h.split.first_named j m) o)) (entry_number j w m o))
+  -- the first k terms of a reduced price with the next share, which are its first n terms
+  pub price_share : ((w : ℕ) → Contains d.rows w → (system_in d).price w ≡ whole (pos 0)) → (k n j w : ℕ) (q : Fraction) → Contains d.names j → Contains d.others w → SystemNumber (system_in d) (choice_of d) Factor q
+      → prefix n (reduced_terms (system_in d) (choice_of d) w) ≡ prefix k (reduced_terms (system_in d) (choice_of d) w) +ℚ (system_in d).price j *ℚ q
+      → (bound : ℕ) (op : Op) (left right : Fraction) → IsShareRefused bound (prefix k (reduced_terms (system_in d) (choice_of d) w)) ((system_in d).price j) q op left right
+      → IsSystemPair (system_in d) bound op left right
+  price_share unpriced k n j w q m o factor is bound op left right refused =
+      let other : Contains (others (system_in d) (choice_of d)) w = other_in d h w o in
+      lone_share Price _ _ _ _ (is_reduced w k other) (inr (alone _ (inl (price_number unpriced j w m o)), inl factor)) (is_reduced w n other) is bound op left right refused
 
-  pub price_plus : ((w : ℕ) → Contains d.rows w → (system_in d).price w ≡ whole (pos 0)) → (k j w : ℕ) → Contains d.basics j → Contains d.others w
-      → let x : Fraction = prefix k (reduced_terms (system_in d) (choice_of d) w) in let y : Fraction = (system_in d).price j *ℚ (choice_of d).entry j w in
-      Passes bound Plus x y → IsSystemPair (system_in d) bound Plus x y
-  price_plus unpriced k j w m o = lone Plus _ _ (added Price _ _ (plain _ (alone _ (is_reduced w k (other_in d h w o))))
-      (subst (IsSummand (SystemNumber (system_in d) (choice_of d)) Price) (ring_ℚ.times_comm ((choice_of d).entry j w) ((system_in d).price j))
-      (scaled _ _ (entry_number j w m o) (alone _ (price_number unpriced j w (h.split.first_named j m) o)))))
-
-  pub price_plain : ((w : ℕ) → Contains d.rows w → (system_in d).price w ≡ whole (pos 0)) → (k w : ℕ) → Contains d.others w
-      → let x : Fraction = prefix k (reduced_terms (system_in d) (choice_of d) w) in
-      Passes bound Plus x ((system_in d).price w) → IsSystemPair (system_in d) bound Plus x ((system_in d).price w)
-  price_plain unpriced k w o = lone Plus _ _ (added Price _ _ (plain _ (alone _ (is_reduced w k (other_in d h w o)))) (plain _ (alone _ (price_number unpriced w w (h.split.second_named w o) o))))
-
-  -- the operations of a value
-  pub value_times : (b w : ℕ) → Contains d.basics b → Contains d.others w
-      → let x : Fraction = (choice_of d).entry b w in let y : Fraction = at_bound (system_in d) (choice_of d) w in
-      Passes bound Times x y → IsSystemPair (system_in d) bound Times x y
-  value_times b w m o = lone Times _ _ (scaled_right Quantity _ _ (entry_number b w m o) (alone _ (bound_number w (h.split.second_named w o))))
-
-  pub value_plus : (k b w : ℕ) → Contains d.basics b → Contains d.others w
-      → let x : Fraction = prefix k (value_terms (system_in d) (choice_of d) b) in let y : Fraction = (choice_of d).entry b w *ℚ at_bound (system_in d) (choice_of d) w in
-      Passes bound Plus x y → IsSystemPair (system_in d) bound Plus x y
-  value_plus k b w m o = lone Plus _ _ (added Quantity _ _ (plain _ (alone _ (is_value b k (basic_in d h b m)))) (scaled _ _ (entry_number b w m o) (alone _ (bound_number w (h.split.second_named w o)))))
+  -- the same of a value
+  pub value_share : (k n b w : ℕ) → Contains d.basics b → Contains d.others w
+      → prefix n (value_terms (system_in d) (choice_of d) b) ≡ prefix k (value_terms (system_in d) (choice_of d) b) +ℚ (choice_of d).entry b w *ℚ at_bound (system_in d) (choice_of d) w
+      → (bound : ℕ) (op : Op) (left right : Fraction) → IsShareRefused bound (prefix k (value_terms (system_in d) (choice_of d) b)) ((choice_of d).entry b w) (at_bound (system_in d) (choice_of d) w) op left right
+      → IsSystemPair (system_in d) bound op left right
+  value_share k n b w m o is bound op left right refused =
+      let basic : Contains (basics (system_in d) (choice_of d)) b = basic_in d h b m in
+      lone_share Quantity _ _ _ _ (is_value b k basic) (inl (inl (entry_number b w m o), alone _ (inl (bound_number w (h.split.second_named w o))))) (is_value b n basic) is bound op left right refused
 
 -- what holds of a refusal
 pub if_err_as : {A E : Type 0} (P Q : E → Type 0) (r : Result A E) → ((e : E) → P e → Q e) → IfErr r P → IfErr r Q
@@ -127,12 +116,10 @@ if_err_as P Q (Err e) f h = f e h
 
 -- a moved note asks nothing of other notes
 pub move_same : (e : Dictionary) (ns : List Noted) (v k : ℕ) (far price : Fraction) (w : ℕ) → note_of (record e { notes = ns }) w ≡ note_of e w
-    → (op : Op) (x y : Fraction) → MoveOperation (record e { notes = ns }) v k far price w op x y → MoveOperation e v k far price w op x y
+    → (x p q : Fraction) → MoveShare (record e { notes = ns }) v k far price w x p q → MoveShare e v k far price w x p q
 unfolding entry_of
-move_same e ns v k far price w same _ _ _ (rising m) = rising m
-move_same e ns v k far price w same _ _ _ (adding_rise m) = subst (λ (n : Noted). MoveOperation e v k far price w Plus n.value (entry_of e w v *ℚ far)) (sym same) (adding_rise m)
-move_same e ns v k far price w same _ _ _ (pricing m) = pricing m
-move_same e ns v k far price w same _ _ _ (adding_price m) = subst (λ (n : Noted). MoveOperation e v k far price w Plus n.reduced (price *ℚ entry_of e k w)) (sym same) (adding_price m)
+move_same e ns v k far price w same _ _ _ (adding_rise m) = subst (λ (n : Noted). MoveShare e v k far price w n.value (entry_of e w v) far) (sym same) (adding_rise m)
+move_same e ns v k far price w same _ _ _ (adding_price m) = subst (λ (n : Noted). MoveShare e v k far price w n.reduced price (entry_of e k w)) (sym same) (adding_price m)
 
 whole_prefix : (ts : List Term) → prefix (length ts) ts ≡ total ts
 whole_prefix ts = ap total (take_all (length ts) ts (Prim.omega arith))
@@ -158,6 +145,25 @@ abs_nil : abs_ℚ (whole (pos 0)) ≡ whole (pos 0)
 unfolding abs_ℚ whole sign_of
 abs_nil = refl
 
+-- the reduced price of an other variable is the sum of its terms
+reduced_other : (s : System) (h : Choice) (w : ℕ) → Contains (others s h) w → reduced s h w ≡ total (reduced_terms s h w)
+unfolding reduced
+reduced_other s h w o = ap (λ (x : Bool). if x then whole (pos 0) else total (reduced_terms s h w)) (others_are s h w o).1
+
+-- That of a variable that leaves is the one of the variable that enters, times that one's new entry.
+leaving_price : (s : System) → IsSystem s → (h g : Choice) (v k : ℕ) → OneExchange s h g v k → IsChoice s h → IsChoice s g → reduced s g v ≡ reduced s h k *ℚ g.entry k v
+unfolding unit_point
+leaving_price s system h g v k once hh hg =
+    let distinct : Distinct s.variables = Distinct-increasing s.variables system.ascending in
+    let other : Contains (others s g) v = leaving_other s h g v k once in
+    let meets : MeetsRows s (unit_point g v) = hg.to_rows (unit_point g v) (unit_meets s distinct g v other) in
+    sym (at_unit s distinct g (reduced s g) v other)
+    ∙ sym (objective_by_others s system g hg (unit_point g v) meets) ∙ objective_by_others s system h hh (unit_point g v) meets
+    ∙ sum_by-one (λ o. reduced s h o *ℚ column_entry g o v) k (others s h) (others_distinct s h distinct) (entering_other s h g v k once)
+    (λ o m n. ap (λ x. reduced s h o *ℚ x) (column_entry-other g o v (others_are s g o (other_after s h g v k once o m n)).1 (other_not_leaving s h g v k once o m))
+    ∙ by_ring ring_ℚ (reduced s h o ∷ []) (pmul (at 0) pnil) pnil refl)
+    ∙ ap (λ x. reduced s h k *ℚ x) (column_entry-basic g k v once.enters.1)
+
 -- Numbers of a ready dictionary: its notes are those of its choice.
 module _ (d : Dictionary) (ready : IsReady d) where
   value_number : (w : ℕ) → Contains d.names w → SystemNumber (system_in d) (choice_of d) Quantity (note_of d w).value
@@ -170,18 +176,19 @@ module _ (d : Dictionary) (ready : IsReady d) where
         | inl b ↦ subst (SystemNumber s h Quantity)
             (whole_prefix (value_terms s h w) ∙ sym (ap (λ (x : Bool). if x then total (value_terms s h w) else at_bound s h w) (basics_are s h w (basic_in d ready.sound w b)).1) ∙ sym is)
             (is_value w (length (value_terms s h w)) (basic_in d ready.sound w b))
-        | inr o ↦ subst (SystemNumber s h Quantity) (sym (is ∙ value_other s h w (other_in d ready.sound w o))) (bound_number d ready.sound ready.live 0 w m)
+        | inr o ↦ subst (SystemNumber s h Quantity) (sym (is ∙ value_other s h w (other_in d ready.sound w o))) (bound_number d ready.sound ready.live w m)
       ]
 
+  price_is : (w : ℕ) → Contains d.others w → (note_of d w).reduced ≡ reduced (system_in d) (choice_of d) w
+  unfolding state_of system_in
+  price_is w o = posed_reduced (system_in d) (state_of d) ready.posed w (ready.sound.split.second_named w o)
+
   pub reduced_number : (w : ℕ) → Contains d.others w → SystemNumber (system_in d) (choice_of d) Price (note_of d w).reduced
-  unfolding state_of system_in reduced
   reduced_number w o =
       let s : System = system_in d in
       let h : Choice = choice_of d in
-      let is : (note_of d w).reduced ≡ reduced s h w = posed_reduced s (state_of d) ready.posed w (ready.sound.split.second_named w o) in
-      subst (SystemNumber s h Price)
-      (whole_prefix (reduced_terms s h w) ∙ sym (ap (λ (x : Bool). if x then whole (pos 0) else total (reduced_terms s h w)) (others_are s h w (other_in d ready.sound w o)).1) ∙ sym is)
-      (is_reduced w (length (reduced_terms s h w)) (other_in d ready.sound w o))
+      let other : Contains (others s h) w = other_in d ready.sound w o in
+      subst (SystemNumber s h Price) (whole_prefix (reduced_terms s h w) ∙ sym (reduced_other s h w other) ∙ sym (price_is w o)) (is_reduced w (length (reduced_terms s h w)) other)
 
   nil_price : (b w : ℕ) → Contains d.basics b → Contains d.others w → SystemNumber (system_in d) (choice_of d) Price (note_of d b).reduced
   unfolding state_of
@@ -192,19 +199,58 @@ module _ (d : Dictionary) (ready : IsReady d) where
   violated_number w true m = is_high w m
   violated_number w false m = is_low w m
 
-  -- the ratio of a candidate: the inverse of its entry is that of the leaving variable once the two have changed places
+  -- the basic variables of lesser names than the leaving one keep their bounds
+  pub first_leaving : (v : ℕ) (above : Bool) → Leaves (system_in d) (state_of d) v above → IsFirst (system_in d) (choice_of d) v
+  unfolding state_of
+  first_leaving v above leaves b basic below =
+      let s : System = system_in d in
+      let is : (note_of d b).value ≡ value s (choice_of d) b = posed_value s (state_of d) ready.posed b (basics_are s (choice_of d) b basic).0 in
+      let inside = leaves.least b basic below in
+      (subst (λ x. s.low b ≤ℚ x) is inside.low, subst (λ x. x ≤ℚ s.high b) is inside.high)
+
+  -- how far the leaving variable goes
+  displaced : (v : ℕ) (above : Bool) → Leaves (system_in d) (state_of d) v above → SolvingNumber (system_in d) (choice_of d) (violated_bound (system_in d) v above -ℚ (note_of d v).value)
+  unfolding state_of violated_bound
+  displaced v true leaves =
+      let s : System = system_in d in
+      let is : (note_of d v).value ≡ value s (choice_of d) v = posed_value s (state_of d) ready.posed v (basics_are s (choice_of d) v leaves.basic).0 in
+      subst (λ x. SolvingNumber s (choice_of d) (s.high v -ℚ x)) (sym is) (is_fall v leaves.basic (subst (λ x. s.high v <ℚ x) is leaves.violates) (first_leaving v true leaves))
+  displaced v false leaves =
+      let s : System = system_in d in
+      let is : (note_of d v).value ≡ value s (choice_of d) v = posed_value s (state_of d) ready.posed v (basics_are s (choice_of d) v leaves.basic).0 in
+      let rise : neg_ℚ (value s (choice_of d) v -ℚ s.low v) ≡ s.low v -ℚ (note_of d v).value =
+      by_ring ring_ℚ (value s (choice_of d) v ∷ s.low v ∷ []) (pneg (at 0 ⊕ pneg (at 1))) (at 1 ⊕ pneg (at 0)) refl ∙ ap (λ x. s.low v -ℚ x) (sym is) in
+      subst (SolvingNumber s (choice_of d)) rise (is_turned _ (is_rise v leaves.basic (subst (λ x. x <ℚ s.low v) is leaves.violates) (first_leaving v false leaves)))
+
+  -- its bound and its value
+  pub displace_pair : (bound v : ℕ) (above : Bool) → Leaves (system_in d) (state_of d) v above → IsTooLarge bound (violated_bound (system_in d) v above -ℚ (note_of d v).value)
+      → Passes bound Minus (violated_bound (system_in d) v above) (note_of d v).value → IsSystemPair (system_in d) bound Minus (violated_bound (system_in d) v above) (note_of d v).value
+  unfolding state_of
+  displace_pair bound v above leaves large passes =
+      let named : Contains d.names v = ready.sound.split.first_named v (in_basics d ready.sound v leaves.basic) in record {
+        passes = passes;
+        one = choice_of d;
+        near = choice_of d;
+        is_choice = ready.sound.solutions ready.live;
+        near_is_choice = ready.sound.solutions ready.live;
+        are_near = inl refl;
+        sides = subtracted Quantity _ _ (plain _ (alone _ (inl (violated_number v above named)))) (plain _ (alone _ (inl (value_number v named))));
+        large = record { number = violated_bound (system_in d) v above -ℚ (note_of d v).value; is_number = inl (displaced v above leaves); too_large = large; made = itself Minus _ _ };
+      }
+
+  -- the ratio of a candidate: the inverse of its entry is that of the leaving variable once the two have changed places, and the ratio is,
+  -- up to its sign, the reduced price of that one then
   pub ratio_pair : (bound v w : ℕ) (t : Fraction) → Contains d.basics v → Contains d.others w → whole (pos 0) <ℚ t → t ≡ abs_ℚ ((choice_of d).entry v w)
-      → Passes bound Times (abs_ℚ (note_of d w).reduced) (recip_ℚ t) → IsSystemPair (system_in d) bound Times (abs_ℚ (note_of d w).reduced) (recip_ℚ t)
+      → (op : Op) (left right : Fraction) → IsShareRefused bound (whole (pos 0)) (abs_ℚ (note_of d w).reduced) (recip_ℚ t) op left right → IsSystemPair (system_in d) bound op left right
   unfolding exchanged entering_entry abs_ℚ
-  ratio_pair bound v w t basic other above same passes = record {
-    passes = passes;
-    one = h;
-    near = k;
-    is_choice = ready.sound.solutions ready.live;
-    near_is_choice = exchanged_is s (system_is d ready.sound) h v w (ready.sound.solutions ready.live) leaving entering entry_not_nil;
-    are_near = inr (v, w, once);
-    sides = scaled_left Price _ _ (alone _ (inl (abs_number s h Price _ (reduced_number w other)))) (inr (subst (λ x. SystemNumber s k Factor (recip_ℚ x)) (sym same) inverse_size));
-  }
+  ratio_pair bound v w t basic other above same op left right refused =
+      let scaling : IsScaling (OfEither (SystemNumber s) h k) Price (abs_ℚ price) (recip_ℚ t) =
+      inr (alone _ (inl (abs_number s h Price _ (reduced_number w other))), inr (subst (λ x. SystemNumber s k Factor (recip_ℚ x)) (sym same) (inverse_size (sign_of (h.entry v w))))) in
+      let whole_sum : SystemNumber s k Price (whole (pos 0) +ℚ abs_ℚ price *ℚ recip_ℚ t) =
+      subst (SystemNumber s k Price) (by_ring ring_ℚ (abs_ℚ price ∷ recip_ℚ t ∷ []) (pmul (at 0) (at 1)) (pnil ⊕ pmul (at 0) (at 1)) refl)
+      (subst (λ x. SystemNumber s k Price (abs_ℚ price *ℚ recip_ℚ x)) (sym same) (ratio_size (sign_of price) _ (ratio (sign_of (h.entry v w))))) in
+      share_pair s h k (ready.sound.solutions ready.live) near_choice (inr (v, w, once)) Price (whole (pos 0)) (abs_ℚ price) (recip_ℚ t)
+      (inl (is_reduced w 0 entering)) scaling (written s h k Price _ (inr whole_sum)) bound op left right refused
     where
       s : System
       s = system_in d
@@ -214,6 +260,9 @@ module _ (d : Dictionary) (ready : IsReady d) where
 
       k : Choice
       k = exchanged h v w
+
+      price : Fraction
+      price = (note_of d w).reduced
 
       leaving : Contains (basics s h) v
       leaving = basic_in d ready.sound v basic
@@ -227,130 +276,165 @@ module _ (d : Dictionary) (ready : IsReady d) where
       entry_not_nil : h.entry v w ≢ whole (pos 0)
       entry_not_nil e = <ℚ_irrefl (whole (pos 0)) (subst (λ x. whole (pos 0) <ℚ x) (same ∙ ap abs_ℚ e ∙ abs_nil) above)
 
-      turned : k.entry w v ≡ recip_ℚ (h.entry v w)
-      turned = put_at-here w (entering_entry h v w v) (λ x. (if v == v then whole (pos 0) else h.entry x v) +ℚ h.entry x w *ℚ entering_entry h v w v) w refl
+      near_choice : IsChoice s k
+      near_choice = exchanged_is s (system_is d ready.sound) h v w (ready.sound.solutions ready.live) leaving entering entry_not_nil
+
+      inverted : k.entry w v ≡ recip_ℚ (h.entry v w)
+      inverted = put_at-here w (entering_entry h v w v) (λ x. (if v == v then whole (pos 0) else h.entry x v) +ℚ h.entry x w *ℚ entering_entry h v w v) w refl
           ∙ put_at-here v (recip_ℚ (h.entry v w)) (λ u. neg_ℚ (h.entry v u) *ℚ recip_ℚ (h.entry v w)) v refl
 
+      left_other : Contains (others s k) v
+      left_other = is_other s k v once.leaving once.leaves.1
+
       inverse : SystemNumber s k Factor (recip_ℚ (h.entry v w))
-      inverse = subst (SystemNumber s k Factor) turned (is_entry w v (is_basic s k w once.entering once.enters.1) (is_other s k v once.leaving once.leaves.1))
+      inverse = subst (SystemNumber s k Factor) inverted (is_entry w v (is_basic s k w once.entering once.enters.1) left_other)
 
-      by : (z : Sign) → SystemNumber s k Factor (recip_ℚ (abs_by z (h.entry v w)))
-      by Below = subst (SystemNumber s k Factor) (sym (recip_opposite (h.entry v w) entry_not_nil)) (is_opposite Factor _ inverse)
-      by Zero = inverse
-      by Above = inverse
+      inverse_size : (z : Sign) → SystemNumber s k Factor (recip_ℚ (abs_by z (h.entry v w)))
+      inverse_size Below = subst (SystemNumber s k Factor) (sym (recip_opposite (h.entry v w) entry_not_nil)) (is_opposite Factor _ inverse)
+      inverse_size Zero = inverse
+      inverse_size Above = inverse
 
-      inverse_size : SystemNumber s k Factor (recip_ℚ (abs_ℚ (h.entry v w)))
-      inverse_size = by (sign_of (h.entry v w))
+      moved : SystemNumber s k Price (price *ℚ recip_ℚ (h.entry v w))
+      moved = subst (SystemNumber s k Price)
+          (whole_prefix (reduced_terms s k v) ∙ sym (reduced_other s k v left_other)
+          ∙ leaving_price s (system_is d ready.sound) h k v w once (ready.sound.solutions ready.live) near_choice
+          ∙ ap₂ ◌*ℚ◌ (sym (price_is w other)) inverted)
+          (is_reduced v (length (reduced_terms s k v)) left_other)
 
-  -- how far a variable is from its bound
-  pub displace_pair : (bound v : ℕ) (above : Bool) → Contains d.names v → Passes bound Minus (violated_bound (system_in d) v above) (note_of d v).value
-      → IsSystemPair (system_in d) bound Minus (violated_bound (system_in d) v above) (note_of d v).value
-  displace_pair bound v above m = lone d ready.sound ready.live bound Minus _ _ (subtracted Quantity _ _ (plain _ (alone _ (violated_number v above m))) (plain _ (alone _ (value_number v m))))
+      ratio : (z : Sign) → SystemNumber s k Price (price *ℚ recip_ℚ (abs_by z (h.entry v w)))
+      ratio Below = subst (SystemNumber s k Price)
+          (by_ring ring_ℚ (price ∷ recip_ℚ (h.entry v w) ∷ []) (pneg (pmul (at 0) (at 1))) (pmul (at 0) (pneg (at 1))) refl ∙ ap (λ x. price *ℚ x) (sym (recip_opposite (h.entry v w) entry_not_nil)))
+          (is_opposite Price _ moved)
+      ratio Zero = moved
+      ratio Above = moved
 
-  module _ (r c : ℕ) (hr : r < length d.basics) (hc : c < length d.others) (v k : ℕ) (ev : slice_index d.basics r ≡ v) (ek : slice_index d.others c ≡ k) (above : Bool)
-      (not_nil : cell (length d.others) d.table r c ≢ whole (pos 0)) where
-    after : Dictionary
-    after = pivoted d r c
+      ratio_size : (z : Sign) (y : Fraction) → SystemNumber s k Price (price *ℚ y) → SystemNumber s k Price (abs_by z price *ℚ y)
+      ratio_size Below y n = subst (SystemNumber s k Price) (by_ring ring_ℚ (price ∷ y ∷ []) (pneg (pmul (at 0) (at 1))) (pmul (pneg (at 0)) (at 1)) refl) (is_opposite Price _ n)
+      ratio_size Zero y n = n
+      ratio_size Above y n = n
 
-    after_sound : IsDictionary after
-    unfolding after
-    after_sound = pivoted_dictionary d ready.sound r c hr hc ready.live not_nil
+-- the notes that move, with the table after the exchange
+module _ (d : Dictionary) (ready : IsReady d) (v k : ℕ) (above : Bool) (leaves : Leaves (system_in d) (state_of d) v above) (enters : Enters (system_in d) (state_of d) v above k) where
+  e : Dictionary
+  e = pivoted d (place_in d.basics v) (place_in d.others k)
 
-    same_system : system_in after ≡ system_in d
-    unfolding after system_in pivoted note_of
-    same_system = refl
+  t : Dictionary
+  t = turned d v k above
 
-    same_note : (w : ℕ) → note_of after w ≡ note_of d w
-    unfolding after pivoted note_of
-    same_note w = refl
+  t_ready : IsReady t
+  unfolding t
+  t_ready = turned_ready d ready v k above leaves enters
 
-    same_names : after.names ≡ d.names
-    unfolding after pivoted
-    same_names = refl
+  step : IsStep (system_in d) (state_of d) (state_of t) v k above
+  unfolding t
+  step = turned_step d ready v k above leaves enters
 
-    after_live : after.spent ≡ false
-    unfolding after pivoted
-    after_live = ready.live
+  t_system : system_in t ≡ system_in d
+  unfolding t
+  t_system = turned_system d ready v k above leaves enters
 
-    v_in : Contains d.basics v
-    v_in = subst (Contains d.basics) ev (Contains-at d.basics r hr)
+  once : OneExchange (system_in d) (choice_of d) (choice_of t) v k
+  unfolding state_of
+  once = step.exchanged.exchange
 
-    k_in : Contains d.others k
-    k_in = subst (Contains d.others) ek (Contains-at d.others c hc)
+  Number : Kind → Fraction → Type 0
+  Number = OfEither (SystemNumber (system_in d)) (choice_of d) (choice_of t)
 
-    once : OneExchange (system_in d) (choice_of d) (choice_of after) v k
-    unfolding after system_in
-    once =
-        let s : System = system_in d in
-        let x : ℕ = slice_index d.basics r in
-        let y : ℕ = slice_index d.others c in
-        let o = exchanged_once s (system_is d ready.sound) (choice_of d) x y (basic_in d ready.sound x (Contains-at d.basics r hr)) (other_in d ready.sound y (Contains-at d.others c hc)) in
-        let same : (w : ℕ) → Contains d.names w → (exchanged (choice_of d) x y).basic w ≡ (choice_of (pivoted d r c)).basic w = pivoted_basic d ready.sound r c hr hc in
-        let found : OneExchange s (choice_of d) (choice_of (pivoted d r c)) x y = record {
-          leaving = o.leaving;
-          entering = o.entering;
-          leaves = (o.leaves.0, sym (same x o.leaving) ∙ o.leaves.1);
-          enters = (o.enters.0, sym (same y o.entering) ∙ o.enters.1);
-          stays = λ w m na nb. o.stays w m na nb ∙ same w m;
-        } in
-        subst₂ (λ (a b : ℕ). OneExchange s (choice_of d) (choice_of (pivoted d r c)) a b) ev ek found
+  near_number : (kind : Kind) (x : Fraction) → SystemNumber (system_in t) (choice_of t) kind x → Number kind x
+  unfolding Number
+  near_number kind x n = inr (subst (λ (s : System). SystemNumber s (choice_of t) kind x) t_system n)
 
-    Number : Kind → Fraction → Type 0
-    Number = OfEither (SystemNumber (system_in d)) (choice_of d) (choice_of after)
+  same_note : (w : ℕ) → note_of e w ≡ note_of d w
+  unfolding e pivoted note_of
+  same_note w = refl
 
-    near_entry : (b w : ℕ) → Contains after.basics b → Contains after.others w → Number Factor (entry_of after b w)
-    unfolding Number choice_of
-    near_entry b w m o = inr (subst (λ (s : System). SystemNumber s (choice_of after) Factor (entry_of after b w)) same_system (entry_number after after_sound after_live 0 b w m o))
+  e_basic : (b : ℕ) → Contains e.basics b → Contains t.basics b
+  unfolding e t turned noted_anew
+  e_basic b m = m
 
-    after_v : Contains after.others v
-    unfolding after
-    after_v = subst (Contains (pivoted d r c).others) (pivoted_leaving d r c hc ∙ ev) (Contains-at (pivoted d r c).others c (Prim.omega (arith, hc, pivoted_columns d r c)))
+  e_other : (w : ℕ) → Contains e.others w → Contains t.others w
+  unfolding e t turned noted_anew
+  e_other w m = m
 
-    after_k : Contains after.basics k
-    unfolding after
-    after_k = subst (Contains (pivoted d r c).basics) (pivoted_entering d r c hr ∙ ek) (Contains-at (pivoted d r c).basics r (Prim.omega (arith, hr, pivoted_rows d r c)))
+  same_entry : (b w : ℕ) → (choice_of t).entry b w ≡ entry_of e b w
+  unfolding e t turned noted_anew choice_of entry_of
+  same_entry b w = refl
 
-    value_before : (w : ℕ) → Contains d.names w → Number Quantity (note_of after w).value
-    unfolding Number
-    value_before w m = inl (subst (λ (n : Noted). SystemNumber (system_in d) (choice_of d) Quantity n.value) (sym (same_note w)) (value_number w m))
+  t_named : (w : ℕ) → Contains t.names w → Contains d.names w
+  unfolding t
+  t_named w m = subst (λ (ns : List ℕ). Contains ns w) (turned_names d ready v k above leaves enters) m
 
-    price_before : Number Price (note_of d k).reduced
-    unfolding Number
-    price_before = inl (reduced_number k k_in)
+  near_basic : (b : ℕ) → Contains t.basics b → Contains (basics (system_in d) (choice_of t)) b
+  near_basic b m = subst (λ (s : System). Contains (basics s (choice_of t)) b) t_system (basic_in t t_ready.sound b m)
 
-    reduced_before : (w : ℕ) → Contains d.names w → Number Price (note_of after w).reduced
-    unfolding Number
-    reduced_before w m = inl (subst (λ (n : Noted). SystemNumber (system_in d) (choice_of d) Price n.reduced) (sym (same_note w)) (elim (ready.sound.split.either w m) [
-      | inl b ↦ nil_price w k b k_in
-      | inr o ↦ reduced_number w o
-    ]))
+  near_other : (w : ℕ) → Contains t.others w → Contains (others (system_in d) (choice_of t)) w
+  near_other w m = subst (λ (s : System). Contains (others s (choice_of t)) w) t_system (other_in t t_ready.sound w m)
 
-    far : Fraction
-    far = displacement (system_in d) (state_of d) v above
+  v_other : Contains t.others v
+  v_other = in_others t t_ready.sound v (subst (λ (s : System). Contains (others s (choice_of t)) v) (sym t_system) (leaving_other (system_in d) (choice_of d) (choice_of t) v k once))
 
-    far_number : IsCombined Number Quantity far
-    unfolding far displacement Number state_of
-    far_number = difference _ _ (inl (violated_number v above (ready.sound.split.first_named v v_in))) (inl (value_number v (ready.sound.split.first_named v v_in)))
+  k_basic : Contains t.basics k
+  k_basic = in_basics t t_ready.sound k (subst (λ (s : System). Contains (basics s (choice_of t)) k) (sym t_system) (entering_basic (system_in d) (choice_of d) (choice_of t) v k once))
 
-    note_case : (w : ℕ) (op : Op) (x y : Fraction) → MoveOperation after v k far (note_of d k).reduced w op x y → IsPairCase Number op x y
-    note_case b _ _ _ (rising m) = scaled_right Quantity _ _ (near_entry b v m after_v) far_number
-    note_case b _ _ _ (adding_rise m) = added Quantity _ _ (plain _ (alone _ (value_before b (subst (λ (ns : List ℕ). Contains ns b) same_names (after_sound.split.first_named b m))))) (scaled _ _ (near_entry b v m after_v) far_number)
-    note_case w _ _ _ (pricing o) = scaled_left Price _ _ (alone _ price_before) (near_entry k w after_k o)
-    note_case w _ _ _ (adding_price o) = added Price _ _ (plain _ (alone _ (reduced_before w (subst (λ (ns : List ℕ). Contains ns w) same_names (after_sound.split.second_named w o)))))
-        (subst (IsSummand Number Price) (ring_ℚ.times_comm (entry_of after k w) (note_of d k).reduced) (scaled _ _ (near_entry k w after_k o) (alone _ price_before)))
+  near_entry : (b w : ℕ) → Contains t.basics b → Contains t.others w → Number Factor (entry_of e b w)
+  near_entry b w m o = subst (Number Factor) (same_entry b w) (near_number Factor _ (entry_number t t_ready.sound t_ready.live b w m o))
 
-    move_case : (op : Op) (x y : Fraction) → MovesOperation after v k far (note_of d k).reduced op x y → IsPairCase Number op x y
-    move_case _ _ _ (of_note w op x y o) = note_case w op x y o
+  value_before : (w : ℕ) → Contains d.names w → Number Quantity (note_of e w).value
+  unfolding Number
+  value_before w m = inl (subst (λ (n : Noted). SystemNumber (system_in d) (choice_of d) Quantity n.value) (sym (same_note w)) (value_number d ready w m))
 
-    pub move_pair : (bound : ℕ) (op : Op) (x y : Fraction) → MovesOperation (pivoted d r c) v k (displacement (system_in d) (state_of d) v above) (note_of d k).reduced op x y → Passes bound op x y
-        → IsSystemPair (system_in d) bound op x y
-    unfolding after far Number
-    move_pair bound op x y asked passes = record {
-      passes = passes;
-      one = choice_of d;
-      near = choice_of (pivoted d r c);
-      is_choice = ready.sound.solutions ready.live;
-      near_is_choice = subst (λ (s : System). IsChoice s (choice_of (pivoted d r c))) same_system (after_sound.solutions after_live);
-      are_near = inr (v, k, once);
-      sides = move_case op x y asked;
-    }
+  k_in : Contains d.others k
+  unfolding state_of
+  k_in = in_others d ready.sound k enters.helps.other
+
+  price_before : Number Price (note_of d k).reduced
+  unfolding Number
+  price_before = inl (reduced_number d ready k k_in)
+
+  reduced_before : (w : ℕ) → Contains d.names w → Number Price (note_of e w).reduced
+  unfolding Number
+  reduced_before w m = inl (subst (λ (n : Noted). SystemNumber (system_in d) (choice_of d) Price n.reduced) (sym (same_note w)) (elim (ready.sound.split.either w m) [
+    | inl b ↦ nil_price d ready w k b k_in
+    | inr o ↦ reduced_number d ready w o
+  ]))
+
+  far : Fraction
+  far = displacement (system_in d) (state_of d) v above
+
+  far_number : IsCombined Number Quantity far
+  unfolding far displacement Number state_of
+  far_number =
+      let named : Contains d.names v = ready.sound.split.first_named v (in_basics d ready.sound v leaves.basic) in
+      difference _ _ (inl (violated_number d ready v above named)) (inl (value_number d ready v named))
+
+  -- what a note becomes is the number of the choice after the exchange
+  moved_value : (b : ℕ) → Contains t.basics b → (note_of t b).value ≡ (note_of e b).value +ℚ entry_of e b v *ℚ far
+  unfolding state_of far
+  moved_value b m = step.moved.basic b (near_basic b m)
+      ∙ ap₂ (λ (n : Noted) (x : Fraction). n.value +ℚ x *ℚ displacement (system_in d) (state_of d) v above) (sym (same_note b)) (same_entry b v)
+
+  moved_reduced : (w : ℕ) → Contains t.others w → (note_of t w).reduced ≡ (note_of e w).reduced +ℚ (note_of d k).reduced *ℚ entry_of e k w
+  unfolding state_of
+  moved_reduced w o = step.moved.priced w (near_other w o) ∙ ap₂ (λ (n : Noted) (x : Fraction). n.reduced +ℚ (note_of d k).reduced *ℚ x) (sym (same_note w)) (same_entry k w)
+
+  note_numbers : (w : ℕ) (x p q : Fraction) → MoveShare e v k far (note_of d k).reduced w x p q → (kind : Kind) × Number kind x × IsScaling Number kind p q × Number kind (x +ℚ p *ℚ q)
+  note_numbers b _ _ _ (adding_rise m) =
+      let c : Contains t.basics b = e_basic b m in
+      let n : Contains t.names b = t_ready.sound.split.first_named b c in
+      (Quantity, value_before b (t_named b n), inl (near_entry b v c v_other, far_number), subst (Number Quantity) (moved_value b c) (near_number Quantity _ (value_number t t_ready b n)))
+  note_numbers w _ _ _ (adding_price m) =
+      let o : Contains t.others w = e_other w m in
+      (Price, reduced_before w (t_named w (t_ready.sound.split.second_named w o)), inr (alone _ price_before, near_entry k w k_basic o), subst (Number Price) (moved_reduced w o) (near_number Price _ (reduced_number t t_ready w o)))
+
+  move_numbers : (x p q : Fraction) → MovesShare e v k far (note_of d k).reduced x p q → (kind : Kind) × Number kind x × IsScaling Number kind p q × Number kind (x +ℚ p *ℚ q)
+  move_numbers _ _ _ (of_note w x p q o) = note_numbers w x p q o
+
+  pub move_pair : (bound : ℕ) (op : Op) (left right x p q : Fraction)
+      → MovesShare (pivoted d (place_in d.basics v) (place_in d.others k)) v k (displacement (system_in d) (state_of d) v above) (note_of d k).reduced x p q
+      → IsShareRefused bound x p q op left right → IsSystemPair (system_in d) bound op left right
+  unfolding e t far Number state_of
+  move_pair bound op left right x p q asked refused =
+      let near : Choice = choice_of (turned d v k above) in
+      let n = move_numbers x p q asked in
+      share_pair (system_in d) (choice_of d) near (ready.sound.solutions ready.live) step.exchanged.choice (inr (v, k, once)) n.0 x p q n.1 n.2
+      (written (system_in d) (choice_of d) near n.0 _ n.3) bound op left right refused

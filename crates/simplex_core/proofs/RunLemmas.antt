@@ -14,6 +14,7 @@ use Rattle.simplex_theory.proofs.Signs.{neg_at_least, not_above}
 use Rattle.simplex_theory.proofs.Outcomes.{solved, out_of_reach, no_point}
 use Rattle.exact_fraction.specs.declared.Op.{Op}
 use Rattle.fraction_theory.specs.Fraction.{Fraction, whole, neg_ℚ}
+use Rattle.linear_system.specs.Numbers.{IsFirst}
 use Rattle.linear_system.specs.Pairs.{IsSystemPair}
 use Rattle.simplex_core.specs.declared.solving.Run.{Run}
 use Rattle.simplex_core.specs.declared.solving.Run.TheVariants.{Solved, Empty, Passed}
@@ -22,6 +23,7 @@ use Rattle.simplex_theory.specs.Stuck.{IsStuck}
 use Rattle.simplex_core.specs.States.{state_of, IsReady}
 use Rattle.simplex_core.specs.Turns.{turned}
 use Rattle.simplex_core.proofs.Nexts.{IsTurn}
+use Rattle.simplex_core.proofs.Pairs.{first_leaving}
 use Rattle.simplex_core.proofs.TurnLaws.{turned_ready, turned_system, turned_columns, turned_rows, turned_coefficients, turned_names}
 
 pub keeps_itself : (d : Dictionary) → IsReady d → Keeps d d
@@ -81,6 +83,7 @@ empty_at d ready v row above leaves idle within e = record {
   none = no_point (system_in d) (state_of d) ready.posed v above leaves.basic leaves.violates idle;
   within = within;
   stuck = subst (λ (w : ℕ). IsStuck (system_in d) (choice_of d) w above) (sym e) (stuck_at d ready v above leaves idle);
+  first = subst (IsFirst (system_in d) (choice_of d)) (sym e) (first_leaving d ready v above leaves);
   out_of_reach = subst (λ (w : ℕ). IsOutOfReach (system_in d) (choice_of d) w) (sym e) (out_of_reach (system_in d) (state_of d) ready.posed v above leaves.basic leaves.violates idle);
 }
 

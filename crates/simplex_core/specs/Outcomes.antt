@@ -3,6 +3,7 @@ use Rattle.std.specs.Prelude.{◌≡◌, ℕ, ◌<◌, Bool, Option, Some, None,
 use Rattle.std.specs.List.{Contains}
 use Rattle.fraction_theory.specs.Fraction.{Fraction}
 use Rattle.linear_system.specs.Choices.{IsChoice, reduced, value}
+use Rattle.linear_system.specs.Numbers.{IsFirst}
 use Rattle.linear_dict.specs.Causes.{IsPairOf}
 use Rattle.linear_dict.specs.Dictionaries.{Dictionary, system_in, choice_of}
 use Rattle.simplex_theory.specs.States.{IsSolved, HasNoPoint, IsOutOfReach}
@@ -28,12 +29,14 @@ pub record ShowsChoice (d : Dictionary) : Type 0 where
   pub values : (w : ℕ) → Contains d.names w → (state_of d).value w ≡ value (system_in d) (choice_of d) w
   pub prices : (w : ℕ) → Contains d.names w → (state_of d).reduced w ≡ reduced (system_in d) (choice_of d) w
 
--- the row place shows that no values are within the bounds: its variable is stuck on this side of its own
+-- the row place shows that no values are within the bounds: its variable is stuck on this side of its own, and is the one of the least
+-- name beyond a bound
 pub record IsEmptyAt (d : Dictionary) (row : ℕ) (above : Bool) : Type 0 where
   pub none : HasNoPoint (system_in d)
   pub within : row < length d.basics
   pub stuck : IsStuck (system_in d) (choice_of d) (slice_index d.basics row) above
   pub out_of_reach : IsOutOfReach (system_in d) (choice_of d) (slice_index d.basics row)
+  pub first : IsFirst (system_in d) (choice_of d) (slice_index d.basics row)
 
 -- The run from d has come to e, solved or with the variable that shows that there is no point.
 abbrev pub IsSettled : Dictionary → Dictionary → Option Leaving → Type 0

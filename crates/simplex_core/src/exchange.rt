@@ -1,11 +1,11 @@
 // A step: the leaving and the entering variable change places, and the notes move by the new table.
-ghost use Rattle.std.specs.Prelude.{◌≡◌, ◌≢◌, ◌<◌, IfErr, IfOk, if◌then◌else◌, false, length, slice_index, pos};
-ghost use Rattle.fraction_theory.specs.Fraction.{whole};
+ghost use Rattle.std.specs.Prelude.{◌≡◌, ◌<◌, IfErr, IfOk, if◌then◌else◌, false, length, slice_index};
 ghost use Rattle.linear_dict.specs.Causes.{IsPairOf, IsRefused};
-ghost use Rattle.linear_dict.specs.Dictionaries.{IsDictionary, entry_of, system_in};
+ghost use Rattle.linear_dict.specs.Dictionaries.{IsDictionary, system_in};
 ghost use Rattle.linear_dict.specs.Notes.{noted};
-ghost use Rattle.simplex_core.specs.Operations.{MoveOperation, MovesOperation};
-ghost use Rattle.simplex_core.specs.States.{IsReady};
+ghost use Rattle.simplex_core.specs.Operations.{MoveShare, MovesShare};
+ghost use Rattle.simplex_theory.specs.Steps.{Enters, Leaves};
+ghost use Rattle.simplex_core.specs.States.{IsReady, state_of};
 ghost use Rattle.simplex_core.specs.Turns.{moved_note, noted_anew, turned};
 
 use crate::enter::Candidate;
@@ -42,7 +42,7 @@ fn note_after<N: Exact>(dict: &Dict<N>, rank: usize, step: &Move<N>) -> Result<N
     ensures note { IfOk result (λ note. noted N.value note ≡ moved_note dict.now step.now.leaving step.now.entering step.now.above
         (N.value step.now.bound) (N.value step.now.displacement) (N.value step.now.price) (slice_index dict.now.names rank)) }
     ensures cause { IfErr result (IsRefused N.value N.bound
-        (MoveOperation dict.now step.now.leaving step.now.entering (N.value step.now.displacement) (N.value step.now.price)
+        (MoveShare dict.now step.now.leaving step.now.entering (N.value step.now.displacement) (N.value step.now.price)
         (slice_index dict.now.names rank))) }
 {
     let name = dict.ranked(rank);
@@ -88,7 +88,7 @@ fn move_notes<N: Exact>(dict: &mut Dict<N>, step: &Move<N>) -> Result<(), Passed
     ensures notes { IfOk result (λ _. dict.new ≡ noted_anew dict.old (moved_note dict.old step.now.leaving step.now.entering step.now.above
         (N.value step.now.bound) (N.value step.now.displacement) (N.value step.now.price))) }
     ensures cause { IfErr result (IsRefused N.value N.bound
-        (MovesOperation dict.old step.now.leaving step.now.entering (N.value step.now.displacement) (N.value step.now.price))) }
+        (MovesShare dict.old step.now.leaving step.now.entering (N.value step.now.displacement) (N.value step.now.price))) }
 {
     for rank in 0..dict.name_count() {
         let note = note_after(dict, rank, step)?;
@@ -117,7 +117,8 @@ pub(crate) fn step<N: Exact>(
     requires leaving { slice_index dict.old.basics leaving.now.row ≡ leaving.now.name }
     requires column { entering.now.column < length dict.old.others }
     requires entering { slice_index dict.old.others entering.now.column ≡ entering.now.name }
-    requires entry { entry_of dict.old leaving.now.name entering.now.name ≢ whole (pos 0) }
+    requires leaves { Leaves (system_in dict.old) (state_of dict.old) leaving.now.name leaving.now.above }
+    requires enters { Enters (system_in dict.old) (state_of dict.old) leaving.now.name leaving.now.above entering.now.name }
     ensures turned { IfOk result (λ _. dict.new ≡ turned dict.old leaving.now.name entering.now.name leaving.now.above) }
     ensures pair { IfErr result (IsPairOf N.value N.bound (system_in dict.old)) }
 {

@@ -5,7 +5,7 @@ use Rattle.simplex_core.specs.Turns.{moved_note}
 use Rattle.simplex_core.proofs.MoveLemmas.{moving_start, moving_sound, moving_same, moving_step, moving_end}
 use Rattle.std.proofs.lemmas.Result.{err_from_is_err_and}
 use Rattle.linear_dict.proofs.CauseLemmas.{refused_as}
-use Rattle.simplex_core.specs.Operations.{MoveOperation, MovesOperation, of_note}
+use Rattle.simplex_core.specs.Operations.{MoveShare, MovesShare, of_note}
 use Rattle.simplex_core.proofs.Pairs.{move_same}
 use Rattle.simplex_core.proofs.MoveLemmas.{moving_note}
 use Rattle.simplex_core.proofs.exchange.move_notes.Goals as goal
@@ -57,9 +57,9 @@ returns-in_err-note-clause-cause g c =
     let name : slice_index d.names k ≡ slice_index e.names k = ap (λ (x : Dictionary). slice_index x.names k) m.is in
     let p = err_from_is_err_and c.from_residual.result c.from_residual.ensures.1 in
     rw (p.1, p.2)
-    (refused_as value g.N.Exact.bound (MoveOperation d s.leaving s.entering far price (slice_index d.names k)) (MovesOperation e s.leaving s.entering far price) c.in_err-note.field-0.0
-    (λ op x y o. of_note (slice_index e.names k) op x y
-    (move_same e m.notes s.leaving s.entering far price (slice_index e.names k) (moving_note e c.requires.sound f k d m hk) op x y
-    (subst (λ (z : Dictionary). MoveOperation z s.leaving s.entering far price (slice_index e.names k) op x y) m.is
-    (subst (λ (w : ℕ). MoveOperation d s.leaving s.entering far price w op x y) name o))))
+    (refused_as value g.N.Exact.bound (MoveShare d s.leaving s.entering far price (slice_index d.names k)) (MovesShare e s.leaving s.entering far price) c.in_err-note.field-0.0
+    (λ x a b o. of_note (slice_index e.names k) x a b
+    (move_same e m.notes s.leaving s.entering far price (slice_index e.names k) (moving_note e c.requires.sound f k d m hk) x a b
+    (subst (λ (z : Dictionary). MoveShare z s.leaving s.entering far price (slice_index e.names k) x a b) m.is
+    (subst (λ (w : ℕ). MoveShare d s.leaving s.entering far price w x a b) name o))))
     c.in_err-note.ensures.cause)

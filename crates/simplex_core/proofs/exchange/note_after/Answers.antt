@@ -8,8 +8,8 @@ use Rattle.linear_dict.specs.Notes.{Noted, noted}
 use Rattle.linear_dict.proofs.SplitLemmas.{Contains-at}
 use Rattle.simplex_core.proofs.MoveLemmas.{note_with, moved-basic, moved-leaving, moved-staying}
 use Rattle.std.proofs.lemmas.Result.{err_from_is_err_and}
-use Rattle.linear_dict.proofs.CauseLemmas.{refused_either}
-use Rattle.simplex_core.specs.Operations.{MoveOperation, rising, adding_rise, pricing, adding_price}
+use Rattle.linear_dict.proofs.CauseLemmas.{refused_share}
+use Rattle.simplex_core.specs.Operations.{MoveShare, adding_rise, adding_price}
 use Rattle.simplex_core.proofs.exchange.note_after.Goals as goal
 
 pub returns-in_ok-value-in-Row-clause-note : goal.returns-in_ok-value-in-Row-clause-note
@@ -71,8 +71,8 @@ returns-in_err-value-in-Row-clause-cause g c =
     let basic : Contains d.basics name = subst (Contains d.basics) c.in-Row.ensures.1 (Contains-at d.basics c.in-Row.row c.in-Row.ensures.0) in
     let entry : value c.entry-entry.result ≡ entry_of d name s.leaving = c.entry-entry.ensures.entry ∙ ap₂ (entry_of d) c.in-Row.ensures.1 c.requires.leaving in
     rw (p.1, p.2)
-    (refused_either value g.N.Exact.bound (MoveOperation d s.leaving s.entering (value s.displacement) (value s.price) name) c.note_at-note.result.value c.entry-entry.result s.displacement c.in_err-value-in-Row.field-0.0
-    (note_of d name).value (entry_of d name s.leaving) (value s.displacement) c.in_err-value-in-Row.ensures (ap Noted.value c.note_at-note.ensures) entry refl (rising basic) (adding_rise basic))
+    (refused_share value g.N.Exact.bound (MoveShare d s.leaving s.entering (value s.displacement) (value s.price) name) c.note_at-note.result.value c.entry-entry.result s.displacement c.in_err-value-in-Row.field-0.0
+    (note_of d name).value (entry_of d name s.leaving) (value s.displacement) c.in_err-value-in-Row.ensures (ap Noted.value c.note_at-note.ensures) entry refl (adding_rise basic))
 
 pub returns-in_err-reduced-in-Column-clause-cause : goal.returns-in_err-reduced-in-Column-clause-cause
 unfolding choice_of
@@ -85,5 +85,5 @@ returns-in_err-reduced-in-Column-clause-cause g c =
     let other : Contains d.others name = subst (Contains d.others) c.in-Column.ensures.1 (Contains-at d.others c.in-Column.column c.in-Column.ensures.0) in
     let entry : value c.entry-entry-in-Column.result ≡ entry_of d s.entering name = c.entry-entry-in-Column.ensures.entry ∙ ap₂ (entry_of d) c.requires.entering c.in-Column.ensures.1 in
     rw (p.1, p.2)
-    (refused_either value g.N.Exact.bound (MoveOperation d s.leaving s.entering (value s.displacement) (value s.price) name) c.note_at-note.result.reduced s.price c.entry-entry-in-Column.result c.in_err-reduced-in-Column.field-0.0
-    (note_of d name).reduced (value s.price) (entry_of d s.entering name) c.in_err-reduced-in-Column.ensures (ap Noted.reduced c.note_at-note.ensures) refl entry (pricing other) (adding_price other))
+    (refused_share value g.N.Exact.bound (MoveShare d s.leaving s.entering (value s.displacement) (value s.price) name) c.note_at-note.result.reduced s.price c.entry-entry-in-Column.result c.in_err-reduced-in-Column.field-0.0
+    (note_of d name).reduced (value s.price) (entry_of d s.entering name) c.in_err-reduced-in-Column.ensures (ap Noted.reduced c.note_at-note.ensures) refl entry (adding_price other))

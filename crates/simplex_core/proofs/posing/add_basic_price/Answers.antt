@@ -5,10 +5,10 @@ use Rattle.fraction_theory.specs.Fraction.{◌+ℚ◌, ◌*ℚ◌}
 use Rattle.linear_system.proofs.ChoiceLaws.{column_entry-basic}
 use Rattle.linear_dict.specs.Dictionaries.{Dictionary, choice_of, note_of, system_in, with_note}
 use Rattle.linear_dict.specs.Notes.{Noted, noted}
-use Rattle.linear_dict.proofs.CauseLemmas.{refused_either}
+use Rattle.linear_dict.proofs.CauseLemmas.{refused_share}
 use Rattle.linear_dict.proofs.SplitLemmas.{Contains-at}
 use Rattle.std.proofs.lemmas.Result.{err_from_is_err_and}
-use Rattle.simplex_core.specs.Operations.{PriceOperation, scaling_price, adding_scaled}
+use Rattle.simplex_core.specs.Operations.{PriceShare, adding_scaled}
 use Rattle.simplex_core.specs.Posings.{price_added}
 use Rattle.simplex_core.proofs.Adding.{with_reduced, price_added-basic, price_added-other}
 use Rattle.simplex_core.proofs.AnewLaws.{entry_read, put_anew}
@@ -88,6 +88,6 @@ returns-in_err-reduced-clause-cause g c =
     let entry : value c.entry.result ≡ (choice_of d).entry j w = c.entry.ensures.entry ∙ entry_read d e m.notes m.is c.args.row k j w c.requires.name refl in
     let p = err_from_is_err_and c.from_residual.result c.from_residual.ensures.1 in
     rw (p.1, p.2)
-    (refused_either value g.N.Exact.bound (PriceOperation d j) c.note_at-note.result.reduced c.args.price c.entry.result c.in_err-reduced.field-0.0
+    (refused_share value g.N.Exact.bound (PriceShare d j) c.note_at-note.result.reduced c.args.price c.entry.result c.in_err-reduced.field-0.0
     (note_of d w).reduced ((system_in d).price j) ((choice_of d).entry j w) c.in_err-reduced.ensures (ap Noted.reduced note) c.requires.price entry
-    (scaling_price w basic (Contains-at d.others k hk)) (adding_scaled w basic (Contains-at d.others k hk)))
+    (adding_scaled w basic (Contains-at d.others k hk)))

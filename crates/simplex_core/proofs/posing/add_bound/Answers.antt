@@ -7,10 +7,10 @@ use Rattle.fraction_theory.proofs.SignLaws.{sign_of_is}
 use Rattle.linear_system.specs.Choices.{at_bound}
 use Rattle.linear_dict.specs.Dictionaries.{Dictionary, choice_of, note_of, system_in, with_note}
 use Rattle.linear_dict.specs.Notes.{Noted, noted}
-use Rattle.linear_dict.proofs.CauseLemmas.{refused_either}
+use Rattle.linear_dict.proofs.CauseLemmas.{refused_share}
 use Rattle.linear_dict.proofs.SplitLemmas.{Contains-at}
 use Rattle.std.proofs.lemmas.Result.{err_from_is_err_and}
-use Rattle.simplex_core.specs.Operations.{BoundOperation, scaling_bound, adding_bound}
+use Rattle.simplex_core.specs.Operations.{BoundShare, adding_bound}
 use Rattle.simplex_core.specs.Posings.{bound_added}
 use Rattle.simplex_core.proofs.Adding.{with_value, bound_added-basic, bound_added-other, bounded_by_nil}
 use Rattle.simplex_core.proofs.AnewLaws.{entry_read, put_anew}
@@ -106,6 +106,6 @@ returns-in_err-value-clause-cause g c =
     let stands : value c.bound_on-bound.result ≡ at_bound (system_in d) (choice_of d) w = stand_is value d w c.note-at.result c.bound_on-bound.result c.note-at.ensures c.bound_on-bound.ensures in
     let p = err_from_is_err_and c.from_residual.result c.from_residual.ensures.1 in
     rw (p.1, p.2)
-    (refused_either value g.N.Exact.bound (BoundOperation d w) c.note_at-note.result.value c.entry.result c.bound_on-bound.result c.in_err-value.field-0.0
+    (refused_share value g.N.Exact.bound (BoundShare d w) c.note_at-note.result.value c.entry.result c.bound_on-bound.result c.in_err-value.field-0.0
     (note_of d b).value ((choice_of d).entry b w) (at_bound (system_in d) (choice_of d) w) c.in_err-value.ensures (ap Noted.value note) entry stands
-    (scaling_bound b (Contains-at d.basics k hk)) (adding_bound b (Contains-at d.basics k hk)))
+    (adding_bound b (Contains-at d.basics k hk)))

@@ -1,16 +1,16 @@
-use Rattle.std.proofs.Common.{◌∙◌, ℕ, ap, sym, subst}
+use Rattle.std.proofs.Common.{◌∙◌, ℕ, ap, pos, sym, subst}
 use Rattle.std.specs.List.{Contains}
 use mathlib.Core.Path.{ap₂}
-use Rattle.exact_fraction.specs.declared.Op.TheVariants.{Plus}
-use Rattle.fraction_theory.specs.Fraction.{◌+ℚ◌}
+use Rattle.fraction_theory.specs.Fraction.{whole, ◌+ℚ◌}
+use Rattle.fraction_theory.proofs.FieldLaws.{ring_ℚ}
 use Rattle.fraction_theory.specs.declared.Sign.TheVariants.{Zero}
 use Rattle.fraction_theory.proofs.SignLaws.{sign_of_is}
 use Rattle.std.proofs.lemmas.Result.{err_from_is_err_and}
 use Rattle.linear_dict.specs.Dictionaries.{Dictionary, note_of, system_in}
 use Rattle.linear_dict.specs.Notes.{Noted, noted}
-use Rattle.linear_dict.proofs.CauseLemmas.{refused}
+use Rattle.linear_dict.proofs.CauseLemmas.{refused_sum}
 use Rattle.linear_dict.proofs.SplitLemmas.{Contains-at}
-use Rattle.simplex_core.specs.Operations.{PriceOperation, adding_own}
+use Rattle.simplex_core.specs.Operations.{PriceShare, adding_own}
 use Rattle.simplex_core.proofs.Adding.{with_reduced, priced_by_nil, priced_own}
 use Rattle.simplex_core.proofs.Helping.{price_is}
 use Rattle.simplex_core.proofs.posing.add_price.Goals as goal
@@ -46,5 +46,6 @@ returns-in_err-reduced-in-Column-clause-cause g c =
     let other : Contains d.others j = subst (Contains d.others) c.in-Column.ensures.1 (Contains-at d.others c.in-Column.field-0 c.in-Column.ensures.0) in
     let p = err_from_is_err_and c.from_residual.result c.from_residual.ensures.1 in
     rw (p.1, p.2)
-    (refused value g.N.Exact.bound (PriceOperation d j) Plus c.note-note.result.reduced c.note-note.result.price c.in_err-reduced-in-Column.field-0.0
-    (note_of d j).reduced ((system_in d).price j) c.in_err-reduced-in-Column.ensures.passed (ap Noted.reduced c.note-note.ensures) (price_is d j r c.note-note.ensures) (adding_own other))
+    (refused_sum value g.N.Exact.bound (PriceShare d j) c.note-note.result.reduced c.note-note.result.price c.in_err-reduced-in-Column.field-0.0
+    (note_of d j).reduced ((system_in d).price j) (whole (pos 1)) c.in_err-reduced-in-Column.ensures (ap Noted.reduced c.note-note.ensures)
+    (price_is d j r c.note-note.ensures ∙ sym (ring_ℚ.times_one ((system_in d).price j))) (adding_own other))

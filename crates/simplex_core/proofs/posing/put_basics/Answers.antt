@@ -3,7 +3,7 @@ use Rattle.std.specs.List.{Contains}
 use Rattle.std.proofs.lemmas.Result.{err_from_is_err_and}
 use Rattle.linear_dict.specs.Dictionaries.{Dictionary, IsDictionary}
 use Rattle.linear_dict.proofs.SplitLemmas.{Contains-at}
-use Rattle.simplex_core.specs.Operations.{BoundOperation}
+use Rattle.simplex_core.specs.Operations.{BoundShare}
 use Rattle.simplex_core.proofs.Adding.{value_so_far, bounds_start, bounds_more, bounds_skip, bounds_end, bound_pair}
 use Rattle.simplex_core.proofs.AnewLaws.{anew_sound, anew_live, anew_names, anew_others, anew_basics}
 use Rattle.simplex_core.proofs.Ranks.{ranked_named}
@@ -78,11 +78,12 @@ returns-in_err-add_bound-clause-pair g c =
     let k : ℕ = c.loop-rank.rank in
     let e : Dictionary = c.loop-rank.dict in
     let q = c.in_err-add_bound.field-0.0 in
+    let r = c.in_err-add_bound.ensures.cause in
     let name : ℕ = c.ranked-name.result in
+    let hk : k < length d.names = Prim.omega (arith, c.loop-rank-test.true, c.name_count-rank-end.ensures) in
+    let at : slice_index d.names k ≡ name = sym (c.ranked-name.ensures ∙ ap (λ (x : Dictionary). slice_index x.names k) c.loop-rank.invariant ∙ ap (λ ns. slice_index ns k) (anew_names d s (value_so_far d k))) in
     let other : Contains e.others name = subst (Contains e.others) c.in-Column.ensures.1 (Contains-at e.others c.in-Column.column c.in-Column.ensures.0) in
     let p = err_from_is_err_and c.from_residual.result c.from_residual.ensures.1 in
     rw (p.1, p.2)
-    (bound_pair d s k c.requires.live g.N.Exact.bound name (subst (λ ws. Contains ws name) (ap Dictionary.others c.loop-rank.invariant ∙ anew_others d s (value_so_far d k)) other)
-    q.op (value q.left) (value q.right)
-    (subst (λ (x : Dictionary). BoundOperation x name q.op (value q.left) (value q.right)) c.loop-rank.invariant c.in_err-add_bound.ensures.cause.asked)
-    c.in_err-add_bound.ensures.cause.passes)
+    (bound_pair d s k c.requires.live name hk at (subst (λ ws. Contains ws name) (ap Dictionary.others c.loop-rank.invariant ∙ anew_others d s (value_so_far d k)) other)
+    g.N.Exact.bound q.op (value q.left) (value q.right) r.x r.a r.b (subst (λ (x : Dictionary). BoundShare x name r.x r.a r.b) c.loop-rank.invariant r.asked) r.refused)

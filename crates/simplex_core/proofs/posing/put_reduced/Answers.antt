@@ -5,7 +5,7 @@ use Rattle.linear_dict.specs.Dictionaries.{Dictionary, IsDictionary}
 use Rattle.simplex_core.proofs.Adding.{reduced_so_far, prices_start, prices_more, prices_end, price_pair}
 use Rattle.simplex_core.proofs.AnewLaws.{anew_sound, anew_live, anew_names}
 use Rattle.simplex_core.proofs.Ranks.{ranked_named}
-use Rattle.simplex_core.specs.Operations.{PriceOperation}
+use Rattle.simplex_core.specs.Operations.{PriceShare}
 use Rattle.simplex_core.proofs.posing.put_reduced.Goals as goal
 
 pub loop-rank-init : goal.loop-rank-init
@@ -56,9 +56,12 @@ pub returns-in_err-add_price-clause-pair : goal.returns-in_err-add_price-clause-
 returns-in_err-add_price-clause-pair g c =
     let value = g.N.Exact.value in
     let d : Dictionary = c.args.dict.now in
+    let k : ℕ = c.loop-rank.rank in
     let e = c.in_err-add_price.field-0.0 in
+    let r = c.in_err-add_price.ensures.cause in
+    let hk : k < length d.names = Prim.omega (arith, c.loop-rank-test.true, c.name_count-rank-end.ensures) in
+    let name : slice_index d.names k ≡ c.ranked-name.result = sym (c.ranked-name.ensures ∙ ap (λ (x : Dictionary). slice_index x.names k) c.loop-rank.invariant ∙ ap (λ ns. slice_index ns k) (anew_names d c.requires.sound (reduced_so_far d k))) in
     let p = err_from_is_err_and c.from_residual.result c.from_residual.ensures.1 in
     rw (p.1, p.2)
-    (price_pair d c.requires.sound c.loop-rank.rank c.requires.live g.N.Exact.bound c.requires.unpriced c.ranked-name.result e.op (value e.left) (value e.right)
-    (subst (λ (x : Dictionary). PriceOperation x c.ranked-name.result e.op (value e.left) (value e.right)) c.loop-rank.invariant c.in_err-add_price.ensures.cause.asked)
-    c.in_err-add_price.ensures.cause.passes)
+    (price_pair d c.requires.sound k c.requires.live c.ranked-name.result hk name c.requires.unpriced g.N.Exact.bound e.op (value e.left) (value e.right) r.x r.a r.b
+    (subst (λ (x : Dictionary). PriceShare x c.ranked-name.result r.x r.a r.b) c.loop-rank.invariant r.asked) r.refused)

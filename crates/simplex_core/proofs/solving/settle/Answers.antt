@@ -5,19 +5,15 @@ use Rattle.simplex_core.specs.Searches.{IsEntering}
 use Rattle.simplex_core.specs.declared.enter.Candidate.{Candidate}
 use Rattle.simplex_core.proofs.Nexts.{IsTurn, to_come, to_come_falls}
 use Rattle.simplex_core.proofs.RunLemmas.{keeps_itself, keeps_turned, shows_choice, solved_at, empty_at}
-use Rattle.simplex_core.proofs.TurnLaws.{pivot_not_nil}
 use Rattle.simplex_core.proofs.solving.settle.Goals as goal
 
 pub loop-variable-init : goal.loop-variable-init
 loop-variable-init g c = keeps_itself c.args.dict.now c.requires
 
-pub step-requires-clause-entry : goal.step-requires-clause-entry
-step-requires-clause-entry g c =
-    let d : Dictionary = c.loop-variable.dict in
-    let v : ℕ = c.in-Some.variable.name in
-    let a : Bool = c.in-Some.variable.above in
-    let found = subst (λ (o : Option (Candidate g.row.N.Denot)). IsEntering d v a o) c.in-Some-2.is c.in_ok-candidate.ensures.found in
-    pivot_not_nil d c.loop-variable.invariant.ready v c.in-Some-2.candidate.name a c.in-Some.ensures.2 found.2
+pub step-requires-clause-enters : goal.step-requires-clause-enters
+step-requires-clause-enters g c =
+    let found = subst (λ (o : Option (Candidate g.row.N.Denot)). IsEntering c.loop-variable.dict c.in-Some.variable.name c.in-Some.variable.above o) c.in-Some-2.is c.in_ok-candidate.ensures.found in
+    found.2
 
 pub loop-variable-smaller : goal.loop-variable-smaller
 loop-variable-smaller g c =
