@@ -1,13 +1,13 @@
 -- Steps of the congestion at a bus, dual by dual, and of prices, bus by bus.
-use Rattle.std.specs.Prelude.{◌≡◌, ◌⊎◌, ℕ, ◌+◌, ◌<◌, ◌≤◌, pos, false, List, [], ◌∷◌, ◌++◌, map, length, take, refl}
-use Rattle.std.proofs.Common.{arith, inl, inr, ap, ap₂, sym, ◌∙◌, get_or, set}
+use Rattle.std.specs.Prelude.{◌≡◌, ℕ, ◌+◌, ◌<◌, ◌≤◌, pos, false, List, [], ◌∷◌, map, length, take, refl}
+use Rattle.std.proofs.Common.{arith, ap, ap₂, sym, ◌∙◌, get_or, set}
 use Rattle.std.proofs.lemmas.List.{take_all, get_or-set_other}
 use Rattle.fraction_theory.specs.Fraction.{Fraction, whole, neg_ℚ, ◌+ℚ◌, ◌-ℚ◌, ◌*ℚ◌}
-use Rattle.fraction_theory.specs.Sums.{sum_by, Term, Plain, Product, term_value, total}
+use Rattle.fraction_theory.specs.Sums.{sum_by, Term, Plain, Product, term_value}
 use Rattle.fraction_theory.proofs.FieldLaws.{ring_ℚ, +ℚ_nil}
 use Rattle.fraction_theory.proofs.Ring.{by_ring, at, padd, pmul, pneg, pnil}
 use Rattle.fraction_theory.proofs.SumLaws.{total-map}
-use Rattle.exact_fraction.specs.declared.Op.TheVariants.{Plus, Times}
+use Rattle.exact_fraction.specs.declared.Op.TheVariants.{Plus}
 use Rattle.exact_fraction.specs.declared.Passed.{Passed}
 use Rattle.market_model.specs.declared.answered.Dual.{Dual}
 use Rattle.market_model.specs.declared.answered.Duals.{Duals}
@@ -21,7 +21,7 @@ use Rattle.market_model.specs.Optimality.{net_shadow_price, names_row, named_row
 use Rattle.market_model.specs.RightAnswers.{price_made, price_of_parts}
 use Rattle.market_model.proofs.MorePlaces.{sum_by_more}
 use Rattle.market_model.proofs.PlaceLists.{put_more, map_same}
-use Rattle.market_model.proofs.SumSteps.{plus_at, multiplied_at}
+use Rattle.market_model.proofs.SumSteps.{plus_at, share_at}
 use Rattle.limit_rows.proofs.DualLemmas.{IsRowOfDual, up_unnamed, down_unnamed, sum_named, terms_named}
 use Rattle.bus_prices.specs.PriceParts.{HaveParts}
 
@@ -54,17 +54,10 @@ module _ (m : Parts) (d : Duals Fraction) (i : ℕ) where
 
   pub congestion_refused : (k : ℕ) (e : Dual Fraction) (r : Row) (price factor sum : Fraction) (bound : ℕ) (p : Passed Fraction) → IsRowOfDual m d k e r → price ≡ neg_ℚ (e.up -ℚ e.down)
       → factor ≡ row_factor m r i → sum ≡ congestion_to k → IsShareRefusal sum price factor bound p → IsRefusedIn (congestion_terms m d i) bound p
-  congestion_refused k e r price factor sum bound p h is share before why = by why
-    where
-      split : (front : List Term) × (rest : List Term) × (map term (rows m) ≡ front ++ term r ∷ rest) × (total front ≡ congestion_to k)
-      split = terms_named m d term unnamed k r h.inside h.at
-
-      price_is : price ≡ neg_ℚ (net_shadow_price m d r)
-      price_is = is ∙ ap₂ (λ u v. neg_ℚ (u -ℚ v)) (sym h.up) (sym h.down)
-
-      by : IsRefusal Times price factor bound p ⊎ IsRefusal Plus sum (price *ℚ factor) bound p → IsRefusedIn (congestion_terms m d i) bound p
-      by (inl c) = multiplied_at (congestion_terms m d i) split.0 split.1 (term r) split.2 bound p price factor (neg_ℚ (net_shadow_price m d r)) (row_factor m r i) refl (inl price_is) (inl share) c
-      by (inr c) = (plus_at (congestion_terms m d i) split.0 split.1 (term r) split.2 bound p sum (price *ℚ factor) (before ∙ sym split.3) (ap₂ ◌*ℚ◌ price_is share) c)
+  congestion_refused k e r price factor sum bound p h is share before why =
+      let split = terms_named m d term unnamed k r h.inside h.at in
+      let price_is : price ≡ neg_ℚ (net_shadow_price m d r) = is ∙ ap₂ (λ u v. neg_ℚ (u -ℚ v)) (sym h.up) (sym h.down) in
+      share_at (congestion_terms m d i) split.0 split.1 (term r) split.2 bound p sum price factor (ap₂ Product (sym price_is) (sym share)) (before ∙ sym split.3) why
 
 -- ---- the price that a row has
 -- the opposite of what a row's flow costs, where one side has no price
