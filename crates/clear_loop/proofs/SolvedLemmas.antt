@@ -67,22 +67,9 @@ module _ (m : Parts) (g : List Row) (x : Dispatch) (d : Duals Fraction) (market 
     pub flows_range : IsFlowsRefusal m x bound p → IsRangeOf m g bound p
     flows_range (terms, sum, a) = flow_sum terms (flow_carried m x terms sum) a
 
-    flow_number : (r : Row) → Contains (rows m) r → MarketNumber m g solved.choice Quantity (flow m x r)
-    flow_number r c = row_flow_number m g g (growth_none m g) solved.choice solved.is_choice bound p market x injecting r c
-
-    sized : (r : Row) → Contains (rows m) r → SameSize (size_of (flow m x r)) (flow m x r) → MarketNumber m g solved.choice Quantity (size_of (flow m x r))
-    sized r c (inl e) = subst (MarketNumber m g solved.choice Quantity) (sym e) (flow_number r c)
-    sized r c (inr e) = subst (MarketNumber m g solved.choice Quantity) (sym e) (of_opposite Quantity (flow m x r) (flow_number r c))
-
-    row_range : (r : Row) → Contains (rows m) r → IsOverrunRefusal m (line_in m (flows_at m x)) bound r p → IsRangeOf m g bound p
-    row_range r c (row_of_flow (_, flow_of_row, a)) =
-        flow_sum (flow_terms m (line_flow m (injection m x)) r) (flow_in_limits _ (limited_row r _ c flow_of_row)) (subst (λ ts. IsRefusedIn ts bound p) (row_terms m x (flows_at m x) r market refl c) a)
-    row_range r c (row_of_limit a) =
-        pairs.two Quantity (size_of (flow m x r)) (limit m r) (sized r c (sized_by (flow m x r) (sign_of (flow m x r)))) (is_limit r c)
-        (inr (subst (λ f. IsRefusal Minus (size_of f) (limit m r) bound p) (row_is m market x (flows_at m x) refl r c) a))
-
     pub screen_range : IsScreenRefusal m (line_in m (flows_at m x)) bound p → IsRangeOf m g bound p
-    screen_range (r, c, a) = row_range r c a
+    screen_range (r, c, (_, flow_of_row, a)) =
+        flow_sum (flow_terms m (line_flow m (injection m x)) r) (flow_in_limits _ (limited_row r _ c flow_of_row)) (subst (λ ts. IsRefusedIn ts bound p) (row_terms m x (flows_at m x) r market refl c) a)
 
     -- where a feasible one is answered
     module _ (feasible : Feasible m x) where

@@ -1,6 +1,6 @@
 //! Rows by the places of their lines.
 
-ghost use Rattle.std.specs.Prelude.{◌≡◌, ◌≢◌, ◌<◌, length, All, Contains, IfSome, MatchOption};
+ghost use Rattle.std.specs.Prelude.{◌≡◌, ◌≢◌, ◌<◌, ◌≤ℤ◌, pos, length, All, Contains, IfSome, MatchOption};
 ghost use Rattle.fraction_theory.specs.Fraction.{whole};
 ghost use Rattle.market_data.specs.Participants.{IsDatum};
 ghost use Rattle.market_model.specs.declared.limits.Row.{Row};
@@ -13,6 +13,7 @@ use market_model::{Cause, Market, Row, RowId};
 pub fn limit_at(market: &Market, row: Row) -> i64
     requires { row.line < length market.now.lines }
     ensures datum { IsDatum result }
+    ensures sign { pos 0 ≤ℤ result }
     ensures limit { whole result ≡ limit market.now row }
 {
     let line = market.lines().at(row.line);

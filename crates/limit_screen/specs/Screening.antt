@@ -3,15 +3,13 @@ use Rattle.std.specs.Prelude.{◌≡◌, ℕ, List, Option, Some, None, All, Con
 use Rattle.std.specs.List.{flat_map}
 use Rattle.fraction_theory.specs.Fraction.{Fraction}
 use Rattle.fraction_theory.specs.Order.{◌≤ℚ◌}
-use Rattle.exact_fraction.specs.declared.Op.TheVariants.{Minus}
 use Rattle.exact_fraction.specs.declared.Passed.{Passed}
 use Rattle.market_model.specs.declared.answered.RowId.{RowId}
 use Rattle.market_model.specs.declared.participants.Parts.{Parts}
 use Rattle.market_model.specs.Dispatch.{zero}
-use Rattle.market_model.specs.Overrun.{overrun, size_of, IsFirstMost, IsWorst}
+use Rattle.market_model.specs.Overrun.{overrun, IsFirstMost, IsWorst}
 use Rattle.market_model.specs.declared.limits.Row.{Row}
 use Rattle.market_model.specs.LimitRows.{causes, flow_by, limit, row_id, rows, rows_of}
-use Rattle.market_model.specs.NamedSums.{IsRefusal}
 use Rattle.market_model.specs.Optimality.{AreWithin}
 use Rattle.market_model.specs.SumTables.{IsRefusedAmong, RowFlowSum}
 use Rattle.limit_screen.specs.declared.screening.Broken.{Broken}
@@ -24,14 +22,9 @@ AllHold m f = AreWithin (rows m) (limit m) (flow_by m f)
 abbrev pub IsWorstNamed : Parts → (ℕ → Fraction) → RowId → Type 0
 IsWorstNamed m f id = (place : ℕ) × (r : Row) × IsWorst m (flow_by m f) place r × (id ≡ row_id m r)
 
--- an operation refused for a row: its flow, or by how much that passes its limit
-pub data IsOverrunRefusal (m : Parts) (f : ℕ → Fraction) (bound : ℕ) (r : Row) (p : Passed Fraction) : Type 0 where
-  of_flow : IsRefusedAmong (RowFlowSum m f r) bound p → IsOverrunRefusal m f bound r p
-  of_limit : IsRefusal Minus (size_of (flow_by m f r)) (limit m r) bound p → IsOverrunRefusal m f bound r p
-
--- an operation refused for a row of the market
+-- an operation refused for the flow of a row of the market; by how much that passes its limit is refused of none
 abbrev pub IsScreenRefusal : Parts → (ℕ → Fraction) → ℕ → Passed Fraction → Type 0
-IsScreenRefusal m f bound p = (r : Row) × Contains (rows m) r × IsOverrunRefusal m f bound r p
+IsScreenRefusal m f bound p = (r : Row) × Contains (rows m) r × IsRefusedAmong (RowFlowSum m f r) bound p
 
 -- ---- the worst of some rows, by their overruns
 abbrev pub overrun_by : Parts → (ℕ → Fraction) → Row → Fraction

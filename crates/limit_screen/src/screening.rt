@@ -1,17 +1,16 @@
 //! Which limit flows pass by the most.
 
-ghost use Rattle.std.specs.Prelude.{◌≡◌, ◌+◌, ◌<◌, ℕ, List, [], ◌∷◌, ◌++◌, length, map, IfOk, IfErr, MatchOption};
-ghost use Rattle.fraction_theory.specs.Fraction.{Fraction, ◌-ℚ◌};
+ghost use Rattle.std.specs.Prelude.{◌≡◌, ◌+◌, ◌<◌, ◌≤ℤ◌, ℕ, ℤ, pos, List, [], ◌∷◌, ◌++◌, length, map, IfOk, IfErr, MatchOption};
+ghost use Rattle.fraction_theory.specs.Fraction.{Fraction, ◌-ℚ◌, whole};
 ghost use Rattle.fraction_theory.specs.Order.{◌<ℚ◌, ◌≤ℚ◌};
-ghost use Rattle.exact_fraction.specs.declared.Op.TheVariants as Op;
 ghost use Rattle.market_model.specs.Valued.{passed_at};
 ghost use Rattle.market_model.specs.Dispatch.{zero};
 ghost use Rattle.market_model.specs.Overrun.{size_of, IsWorst};
 ghost use Rattle.market_model.specs.declared.limits.Row.{Row};
 ghost use Rattle.market_model.specs.LimitRows.{IsCauseAmong, causes, flow_by};
-ghost use Rattle.market_model.specs.NamedSums.{IsRefusal};
+ghost use Rattle.market_model.specs.SumTables.{IsRefusedAmong, RowFlowSum};
 ghost use Rattle.limit_screen.specs.Flows.{line_in};
-ghost use Rattle.limit_screen.specs.Screening.{AllHold, IsWorstNamed, IsOverrunRefusal, IsScreenRefusal, IsWorstOf, overrun_by, rows_to};
+ghost use Rattle.limit_screen.specs.Screening.{AllHold, IsWorstNamed, IsScreenRefusal, IsWorstOf, overrun_by, rows_to};
 
 use crate::flowing::line_flows;
 use exact_fraction::{Exact, Passed, Sign, exact_difference};
@@ -37,10 +36,11 @@ fn size<N: Exact>(flow: N) -> N
     }
 }
 
-/// By how much a flow passes a limit; nothing where it doesn't.
+/// By how much a flow passes a limit; nothing where it doesn't. That is never too large: its parts are no greater than those of the flow.
 fn beyond<N: Exact>(flow: N, limit: N) -> Result<Option<N>, Passed<N>>
+    requires { (mw : ℤ) × (pos 0 ≤ℤ mw) × (N.value limit ≡ whole mw) }
     ensures overrun { IfOk result (λ past. MatchOption past ((size_of (N.value flow) -ℚ N.value limit) ≤ℚ zero) (λ e. (zero <ℚ N.value e) × (N.value e ≡ size_of (N.value flow) -ℚ N.value limit))) }
-    ensures cause { IfErr result (λ passed. IsRefusal Op.Minus (size_of (N.value flow)) (N.value limit) N.bound (passed_at N.value passed)) }
+    ensures fits { IfErr result (λ passed. ⊥) }
 {
     let size = size(flow);
     match size.order(limit) {
@@ -74,7 +74,7 @@ fn with_row<N: Exact>(
     requires line { row.line < length market.now.lines }
     requires lost { IsCauseAmong (length market.now.lines) row.cause }
     ensures worst { (rs : List Row) → IsWorstOf N.value (overrun_by market.now (line_in market.now (map N.value flows.now))) rs worst → IfOk result (IsWorstOf N.value (overrun_by market.now (line_in market.now (map N.value flows.now))) (rs ++ row ∷ [])) }
-    ensures cause { IfErr result (λ passed. IsOverrunRefusal market.now (line_in market.now (map N.value flows.now)) N.bound row (passed_at N.value passed)) }
+    ensures cause { IfErr result (λ passed. IsRefusedAmong (RowFlowSum market.now (line_in market.now (map N.value flows.now)) row) N.bound (passed_at N.value passed)) }
 {
     let flow = row_flow(market, line_flows(market, flows), row)?;
     match beyond(flow, datum(limit_at(market, row)))? {

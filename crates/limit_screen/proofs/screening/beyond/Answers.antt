@@ -1,6 +1,8 @@
 use Rattle.std.proofs.Common.{sym, ap, subst, ◌∙◌}
 use Rattle.fraction_theory.specs.Fraction.{Fraction, ◌-ℚ◌}
 use Rattle.fraction_theory.specs.Order.{◌<ℚ◌, ◌≤ℚ◌}
+use Rattle.exact_fraction.specs.Passes.{IsTooLarge}
+use Rattle.exact_fraction.proofs.Excesses.{excess_fits}
 use Rattle.market_model.specs.Dispatch.{zero}
 use Rattle.limit_screen.proofs.ScreenLemmas.{above_nil, below_nil, not_past}
 use Rattle.limit_screen.proofs.screening.beyond.Goals as goal
@@ -17,5 +19,13 @@ returns-in-Less g c = record {
   overrun =
       subst (λ x. (x -ℚ g.N.Exact.value c.args.limit) ≤ℚ zero) c.size-size.ensures
       (below_nil (g.N.Exact.value c.size-size.result) (g.N.Exact.value c.args.limit) (not_past c.order.result (g.N.Exact.value c.size-size.result) (g.N.Exact.value c.args.limit) c.order.ensures c.in-Less.is));
-  cause = tt;
+  fits = tt;
 }
+
+pub returns-in_err-exact_difference-in-Greater-clause-fits : goal.returns-in_err-exact_difference-in-Greater-clause-fits
+returns-in_err-exact_difference-in-Greater-clause-fits g c =
+    let mw = c.requires.0 in
+    let size = c.size-size.result in
+    let within = g.met.N.Exact.value_fits size in
+    excess_fits g.N.Exact.bound (g.N.Exact.value size) mw c.requires.1 (subst (λ x. x <ℚ g.N.Exact.value size) c.requires.2 c.in-Greater.ensures) within.0 within.1
+    (subst (λ x. IsTooLarge g.N.Exact.bound (g.N.Exact.value size -ℚ x)) c.requires.2 c.in_err-exact_difference-in-Greater.ensures.too_large)

@@ -10,7 +10,7 @@ use Rattle.market_model.specs.Overrun.{size_of}
 use Rattle.market_model.specs.SumTables.{flow_of_row}
 use Rattle.market_model.specs.Valued.{passed_at}
 use Rattle.limit_screen.specs.Flows.{line_in}
-use Rattle.limit_screen.specs.Screening.{of_flow, overrun_by}
+use Rattle.limit_screen.specs.Screening.{overrun_by}
 use Rattle.limit_screen.proofs.ScreenLemmas.{held}
 use Rattle.limit_screen.proofs.screening.with_row.Goals as goal
 
@@ -19,11 +19,19 @@ returns-in_err-flow-clause-cause g c =
     let m = c.args.market.now in
     let given : c.from_residual.result ≡ Err c.in_err-flow.field-0.0 = search rules in
     rw given
-    (of_flow (
+    (
       flow_terms m (line_in m (map g.N.Exact.value c.args.flows.now)) c.args.row,
       flow_of_row,
       subst (λ f. IsRefusedIn (flow_terms m f c.args.row) g.N.Exact.bound (passed_at g.N.Exact.value c.in_err-flow.field-0.0)) c.line_flows.ensures.is c.in_err-flow.ensures.cause,
-    ))
+    )
+
+pub beyond-requires : goal.beyond-requires
+beyond-requires g c =
+    let known : to_z w64 (of_z w64 c.limit_at.result) ≡ c.limit_at.result = to_z-of_z w64 c.limit_at.result (record { sfits = c.limit_at.type_inv }) in
+    (c.limit_at.result, c.limit_at.ensures.sign, c.datum.ensures ∙ ap whole known)
+
+pub returns-in_err-overrun-clause-cause : goal.returns-in_err-overrun-clause-cause
+returns-in_err-overrun-clause-cause g c = absurd c.in_err-overrun.ensures.fits
 
 pub returns-in-Some-clause-worst : goal.returns-in-Some-clause-worst
 returns-in-Some-clause-worst g c = λ rs before.
