@@ -12,7 +12,7 @@ use Rattle.fraction_theory.specs.Sums.{sum_by, Term, Product, total}
 use Rattle.fraction_theory.proofs.FieldLaws.{ring_ℚ, +ℚ_nil, +ℚ_assoc}
 use Rattle.fraction_theory.proofs.Ring.{by_ring, at, padd, pmul, pneg, pnil}
 use Rattle.fraction_theory.proofs.SumLaws.{total-append}
-use Rattle.exact_fraction.specs.declared.Op.TheVariants.{Plus, Times}
+use Rattle.exact_fraction.specs.declared.Op.TheVariants.{Times}
 use Rattle.exact_fraction.specs.declared.Passed.{Passed}
 use Rattle.market_model.specs.declared.answered.Duals.{Duals}
 use Rattle.market_model.specs.declared.participants.Parts.{Parts}
@@ -24,7 +24,7 @@ use Rattle.market_model.specs.NamedSums.{IsRefusal, IsRefusedIn, IsShareRefusal}
 use Rattle.market_model.specs.Optimality.{up_of, down_of, names_row, named_rows}
 use Rattle.market_model.proofs.FarkasLaw.{total-flat_map}
 use Rattle.market_model.proofs.MorePlaces.{sum_by_more, total-places_more}
-use Rattle.market_model.proofs.SumSteps.{plus_at, multiplied_at, terms_at, behind}
+use Rattle.market_model.proofs.SumSteps.{product_at, share_at, terms_at, behind}
 use Rattle.limit_rows.proofs.DualLemmas.{up_unnamed, down_unnamed, sum_named}
 use Rattle.cert_sums.specs.Named.{PricedRow, priced_by}
 use Rattle.cert_sums.specs.Pairs.{IsFarkasPair, in_flow as flow_pair, in_bound as bound_pair, of_limit_less, of_limit_more}
@@ -168,11 +168,8 @@ module _ (m : Parts) (d : Duals Fraction) where
 
       above_refused : IsAboveRefusal sum e.up (limit m e.row) (flow m (empty m) e.row) bound p → IsFarkasPair m d bound p
       above_refused (inl c) = of_limit_less e.row (is_named_row m d k e h) c
-      above_refused (inr (inl c)) = in_bound
-          (multiplied_at (farkas_terms m d) s.front (below ∷ s.rest) above s.split bound p e.up room_above (up_of m d e.row) room_above refl (inl h.up) (inl refl) c)
-      above_refused (inr (inr c)) = in_bound
-          (
-          (plus_at (farkas_terms m d) s.front (below ∷ s.rest) above s.split bound p sum (e.up *ℚ room_above) (before ∙ sym s.sum) (ap (λ u. u *ℚ room_above) h.up) c))
+      above_refused (inr c) = in_bound
+          (share_at (farkas_terms m d) s.front (below ∷ s.rest) above s.split bound p sum e.up room_above (ap (λ u. Product u room_above) (sym h.up)) (before ∙ sym s.sum) c)
 
       second : farkas_terms m d ≡ (s.front ++ above ∷ []) ++ below ∷ s.rest
       second = s.split ∙ sym (append_assoc s.front (above ∷ []) (below ∷ s.rest))
@@ -184,11 +181,8 @@ module _ (m : Parts) (d : Duals Fraction) where
 
       below_refused : IsBelowRefusal (sum +ℚ e.up *ℚ room_above) e.down (limit m e.row) (flow m (empty m) e.row) bound p → IsFarkasPair m d bound p
       below_refused (inl c) = of_limit_more e.row (is_named_row m d k e h) c
-      below_refused (inr (inl c)) = in_bound
-          (multiplied_at (farkas_terms m d) (s.front ++ above ∷ []) s.rest below second bound p e.down room_below (down_of m d e.row) room_below refl (inl h.down) (inl refl) c)
-      below_refused (inr (inr c)) = in_bound
-          (
-          (plus_at (farkas_terms m d) (s.front ++ above ∷ []) s.rest below second bound p (sum +ℚ e.up *ℚ room_above) (e.down *ℚ room_below) with_above (ap (λ u. u *ℚ room_below) h.down) c))
+      below_refused (inr c) = in_bound
+          (share_at (farkas_terms m d) (s.front ++ above ∷ []) s.rest below second bound p (sum +ℚ e.up *ℚ room_above) e.down room_below (ap (λ u. Product u room_below) (sym h.down)) with_above c)
 
       pub limit_refused : IsLimitRefusal m (empty m) e sum bound p → IsFarkasPair m d bound p
       limit_refused (in_flow (terms, part, c)) = flow_pair (terms, flow_in_limits terms (limited_row e.row terms (is_row m d k e h) part), c)
@@ -215,28 +209,19 @@ module _ (m : Parts) (d : Duals Fraction) where
 
   pub block_refused : (k : ℕ) (weight mw sum : Fraction) (bound : ℕ) (p : Passed Fraction) → k < length m.blocks → weight ≡ block_weight m d k → mw ≡ quantity m k → sum ≡ blocks_to k
       → IsShareRefusal sum (part_above weight) mw bound p → IsFarkasPair m d bound p
-  block_refused k weight mw sum bound p inside weighs is before why = bound_pair (_, farkas_bound_of_all, by why)
-    where
-      r : (rest : List Term) × (map block_term (places (length m.blocks)) ≡ map block_term (places k) ++ block_term k ∷ rest)
-      r = terms_at block_term (length m.blocks) k inside
-
-      front : List Term
-      front = nothing_terms m d ++ map block_term (places k)
-
-      split : farkas_terms m d ≡ (nothing_terms m d ++ map block_term (places k)) ++ block_term k ∷ r.0
-      split = behind (nothing_terms m d) block_terms (map block_term (places k)) r.0 (block_term k) r.1
-
-      by : IsRefusal Times (part_above weight) mw bound p ⊎ IsRefusal Plus sum (part_above weight *ℚ mw) bound p → IsRefusedIn (farkas_terms m d) bound p
-      by (inl c) = multiplied_at (farkas_terms m d) (nothing_terms m d ++ map block_term (places k)) r.0 (block_term k) split bound p (part_above weight) mw (part_above (block_weight m d k)) (quantity m k) refl
-          (inl (ap part_above weighs)) (inl is) c
-      by (inr c) = (plus_at (farkas_terms m d) (nothing_terms m d ++ map block_term (places k)) r.0 (block_term k) split bound p sum (part_above weight *ℚ mw)
-          (before ∙ sym (total-append (nothing_terms m d) (map block_term (places k)))) (ap₂ (λ w q. part_above w *ℚ q) weighs is) c)
+  block_refused k weight mw sum bound p inside weighs is before why =
+      let r = terms_at block_term (length m.blocks) k inside in
+      let front : List Term = nothing_terms m d ++ map block_term (places k) in
+      let split : farkas_terms m d ≡ front ++ block_term k ∷ r.0 = behind (nothing_terms m d) block_terms (map block_term (places k)) r.0 (block_term k) r.1 in
+      let made = total-append (nothing_terms m d) (map block_term (places k)) in
+      bound_pair
+      (_, farkas_bound_of_all, share_at (farkas_terms m d) front r.0 (block_term k) split bound p sum (part_above weight) mw (ap₂ (λ w q. Product (part_above w) q) (sym weighs) (sym is)) (before ∙ sym made) why)
 
   -- the price of energy by the balance
   pub energy_refused : (b : Fraction) (bound : ℕ) (p : Passed Fraction) → b ≡ balance m (empty m) → IsRefusal Times d.energy b bound p → IsFarkasPair m d bound p
   energy_refused b bound p is h =
       bound_pair
-      (_, farkas_bound_of_all, multiplied_at (farkas_terms m d) [] (flat_map (limit_terms m d) (rows m) ++ block_terms) energy_term refl bound p d.energy b d.energy (balance m (empty m)) refl (inl refl) (inl is) h)
+      (_, farkas_bound_of_all, product_at (farkas_terms m d) [] (flat_map (limit_terms m d) (rows m) ++ block_terms) energy_term refl bound p d.energy b (ap (Product d.energy) (sym is)) refl h)
 
 -- ---- where nothing is accepted
 pub nothing_is : {N : Type 0} (value : N → Fraction) (m : Parts) (xs ys : List N) (n : ℕ) → xs ≡ ys → map value ys ≡ replicate n (whole (pos 0)) → n ≡ length m.blocks → dispatch_of value xs ≡ empty m

@@ -8,17 +8,17 @@ use Rattle.fraction_theory.proofs.FieldLaws.{ring_ℚ, +ℚ_nil}
 use Rattle.fraction_theory.proofs.ListSums.{Contains-from_filter}
 use Rattle.fraction_theory.proofs.Ring.{by_ring, at, padd, pmul, pneg, pnil, times_nil}
 use Rattle.fraction_theory.proofs.SumLaws.{total-map}
-use Rattle.exact_fraction.specs.declared.Op.TheVariants.{Plus, Minus, Times}
+use Rattle.exact_fraction.specs.declared.Op.TheVariants.{Plus, Minus}
 use Rattle.exact_fraction.specs.declared.Passed.{Passed}
 use Rattle.market_model.specs.declared.answered.Duals.{Duals}
 use Rattle.market_model.specs.declared.participants.Parts.{Parts}
 use Rattle.market_model.specs.declared.limits.Row.{Row}
 use Rattle.market_model.specs.LimitRows.{rows, row_id, row_factor}
-use Rattle.market_model.specs.NamedSums.{IsRefusal, IsRefusedIn}
+use Rattle.market_model.specs.NamedSums.{IsRefusal, IsRefusedIn, IsShareRefusal}
 use Rattle.market_model.specs.Optimality.{up_of, down_of, net_shadow_price, names_row, named_rows, congestion, congestion_terms, congestion_by, price_terms}
 use Rattle.market_model.specs.SumTables.{congestion_at}
 use Rattle.market_model.proofs.MorePlaces.{sum_by_more}
-use Rattle.market_model.proofs.SumSteps.{plus_at, multiplied_at, refusal_same}
+use Rattle.market_model.proofs.SumSteps.{plus_at, refusal_same, share_at}
 use Rattle.limit_rows.proofs.DualLemmas.{up_unnamed, down_unnamed, sum_named, terms_named}
 use Rattle.cert_sums.specs.declared.pricing.NamedRow.{NamedRow}
 use Rattle.cert_sums.specs.Named.{PricedRow, priced_at, priced_by, AreNamed}
@@ -101,14 +101,10 @@ module _ (m : Parts) (d : Duals Fraction) (i : ℕ) where
         split : (front : List Term) × (rest : List Term) × (map term (rows m) ≡ front ++ term e.row ∷ rest) × (total front ≡ congestion_to k)
         split = terms_named m d term unnamed k e.row h.inside h.at
 
-        by : IsRefusal Minus e.up e.down bound p ⊎ IsRefusal Times (neg_ℚ (e.up -ℚ e.down)) factor bound p ⊎ IsRefusal Plus sum (neg_ℚ (e.up -ℚ e.down) *ℚ factor) bound p
-            → IsRefusedIn (congestion_terms m d i) bound p ⊎ IsPricesRefusal m d bound p
+        by : IsRefusal Minus e.up e.down bound p ⊎ IsShareRefusal sum (neg_ℚ (e.up -ℚ e.down)) factor bound p → IsRefusedIn (congestion_terms m d i) bound p ⊎ IsPricesRefusal m d bound p
         by (inl c) = inr (e.row, is_named_row m d k e h, refusal_same Minus e.up e.down (up_of m d e.row) (down_of m d e.row) bound p h.up h.down c)
-        by (inr (inl c)) = inl
-            (multiplied_at (congestion_terms m d i) split.0 split.1 (term e.row) split.2 bound p (neg_ℚ (e.up -ℚ e.down)) factor (neg_ℚ (net_shadow_price m d e.row)) (row_factor m e.row i) refl (inl net_price_is) (inl share) c)
-        by (inr (inr c)) = inl
-            (
-            (plus_at (congestion_terms m d i) split.0 split.1 (term e.row) split.2 bound p sum (neg_ℚ (e.up -ℚ e.down) *ℚ factor) (before ∙ sym split.3) (ap₂ ◌*ℚ◌ net_price_is share) c))
+        by (inr c) = inl
+            (share_at (congestion_terms m d i) split.0 split.1 (term e.row) split.2 bound p sum (neg_ℚ (e.up -ℚ e.down)) factor (ap₂ Product (sym net_price_is) (sym share)) (before ∙ sym split.3) c)
 
 -- what is refused in the congestion is in the price
 pub in_congestion : (m : Parts) (d : Duals Fraction) (i : ℕ) (bound : ℕ) (p : Passed Fraction) → IsRefusedIn (congestion_terms m d i) bound p ⊎ IsPricesRefusal m d bound p → IsPriceRefusal m d i bound p

@@ -17,7 +17,7 @@ ghost use Rattle.cert_sums.specs.Pairs.{IsFarkasPair};
 ghost use Rattle.cert_sums.specs.Refusals.{IsAboveRefusal, IsBelowRefusal, IsLimitRefusal};
 
 use crate::{NamedRow, bus_price, injections, line_flows};
-use exact_fraction::{Exact, Passed, Sign};
+use exact_fraction::{Exact, Passed, Sign, exact_difference, exact_sum};
 use limit_rows::{limit_at, row_flow};
 use market_model::{Market, Stop, balance, block_quantity, by_side, datum, zeros};
 use std::alloc::Global;
@@ -30,7 +30,7 @@ fn with_above<N: Exact>(sum: N, price: N, limit: N, flow: N) -> Result<N, Passed
     if price.sign() == Sign::Zero {
         return Ok(sum);
     }
-    let room = limit.minus(flow)?;
+    let room = exact_difference(limit, flow)?;
     sum.plus_product(price, room)
 }
 
@@ -42,7 +42,7 @@ fn with_below<N: Exact>(sum: N, price: N, limit: N, flow: N) -> Result<N, Passed
     if price.sign() == Sign::Zero {
         return Ok(sum);
     }
-    let room = limit.plus(flow)?;
+    let room = exact_sum(limit, flow)?;
     sum.plus_product(price, room)
 }
 

@@ -9,7 +9,7 @@ ghost use Rattle.market_model.specs.Valued.{passed_at};
 ghost use Rattle.cert_sums.specs.Named.{AreNamed};
 ghost use Rattle.cert_sums.specs.Refusals.{IsPriceRefusal, IsPricesRefusal, IsNetPriceRefusal};
 
-use exact_fraction::{Exact, Passed, Sign, exact_sum};
+use exact_fraction::{Exact, Passed, Sign, exact_difference, exact_sum};
 use limit_rows::row_factor;
 use market_model::{Market, Row, datum};
 
@@ -31,7 +31,7 @@ fn less_net_price<N: Exact>(sum: N, up: N, down: N, factor: N) -> Result<N, Pass
     if factor.sign() == Sign::Zero {
         return Ok(sum);
     }
-    let net_price = up.minus(down)?;
+    let net_price = exact_difference(up, down)?;
     sum.plus_product(net_price.neg(), factor)
 }
 

@@ -8,12 +8,12 @@ use Rattle.std.proofs.lemmas.List.Elements.{filter-append}
 use Rattle.fraction_theory.specs.Fraction.{Fraction, whole, neg_ℚ, unsigned_abs-neg, ◌+ℚ◌, ◌-ℚ◌, ◌*ℚ◌}
 use Rattle.fraction_theory.specs.Sums.{Term, Plain, Product, term_value, total, prefix}
 use Rattle.fraction_theory.proofs.FieldLaws.{ring_ℚ}
-use Rattle.fraction_theory.proofs.Ring.{by_ring, at, pneg, ◌⊕◌}
+use Rattle.fraction_theory.proofs.Ring.{by_ring, at, pmul, pneg, pnil, ◌⊕◌}
 use Rattle.fraction_theory.proofs.SumLaws.{prefix-more}
 use Rattle.exact_fraction.specs.declared.Op.{Op}
 use Rattle.exact_fraction.specs.declared.Op.TheVariants.{Plus, Minus, Times}
 use Rattle.exact_fraction.specs.declared.Passed.{Passed}
-use Rattle.exact_fraction.specs.Passes.{IsTooLarge, IsTooLargeAt, outcome}
+use Rattle.exact_fraction.specs.Passes.{IsPassed, IsTooLarge, IsTooLargeAt, ProductPasses, outcome}
 use Rattle.exact_fraction.proofs.Shares.{passes_at}
 use Rattle.market_model.specs.Dispatch.{places}
 use Rattle.market_model.specs.NamedSums.{SameSize, term_at, IsNextTerm, IsSumStep, IsRefusedIn, IsRefusal, IsShareRefusal}
@@ -30,6 +30,11 @@ refusal value bound op l r x y e left right h =
       passes = passes_at value bound op l r e h.passed;
       too_large = subst₂ (λ (a b : Fraction). IsTooLarge bound (outcome op a b)) left right h.too_large;
     }
+
+-- a product that passes the bound is too large
+pub product_too_large : {N : Type 0} (value : N → Fraction) (bound : ℕ) (l r : N) (e : Passed N) → IsPassed value bound Times l r e → IsTooLargeAt value bound Times l r e
+unfolding ProductPasses
+product_too_large value bound l r e h = record { too_large = h.passes; passed = h }
 
 -- the same of sides that have the same values
 pub refusal_same : (op : Op) (x y x' y' : Fraction) (bound : ℕ) (p : Passed Fraction) → x ≡ x' → y ≡ y' → IsRefusal op x y bound p → IsRefusal op x' y' bound p
@@ -118,6 +123,15 @@ module _ (terms front rest : List Term) (t : Term) (split : terms ≡ front ++ t
         by (inr (op, left, right)) =
             subst (λ (o : Op). IsSumStep terms o p.left p.right (length front)) (sym op)
             (next_is Plus p.left p.right (inl (left ∙ is)) (inl (right ∙ sym made)) (inl (ap₂ ◌+ℚ◌ (left ∙ is) (right ∙ sym made))))
+
+    -- a product is made where nothing is in front
+    pub product_at : (a b : Fraction) → t ≡ Product a b → whole (pos 0) ≡ total front → IsRefusal Times a b bound p → IsRefusedIn terms bound p
+    product_at a b product none h =
+        share_at (whole (pos 0)) a b product none (record {
+          too_large = subst (IsTooLarge bound) (by_ring ring_ℚ (a ∷ b ∷ []) (pmul (at 0) (at 1)) (pnil ⊕ pmul (at 0) (at 1)) refl) h.too_large;
+          passes = h.passes;
+          way = inl (h.same_op, h.same_left, h.same_right);
+        })
 
 -- the places from one on
 range_at : (a n k : ℕ) → k < n → (rest : List ℕ) × (range_with_len a n ≡ range_with_len a k ++ (a + k) ∷ rest)

@@ -4,7 +4,7 @@ use Rattle.exact_fraction.specs.declared.Op.TheVariants.{Times}
 use Rattle.market_model.specs.Dispatch.{Dispatch, empty}
 use Rattle.market_model.specs.Valued.{passed_at}
 use Rattle.market_model.proofs.StopLemmas.{on_passed_weaker}
-use Rattle.market_model.proofs.SumSteps.{refusal}
+use Rattle.market_model.proofs.SumSteps.{product_too_large, refusal}
 use Rattle.market_model.specs.declared.stops.Stop.TheVariants as why
 use Rattle.market_model.specs.PutIn.{dispatch_of, AreInjections}
 use Rattle.cert_sums.proofs.BoundLemmas.{nothing_is, injection_pair, line_pair, balance_pair, energy_refused}
@@ -49,7 +49,8 @@ returns-in_err-of_energy-clause-cause g c =
     let given : c.from_residual-in_err-of_energy.result ≡ Err (why.Passed c.in_err-of_energy.field-0.0) = search rules in
     λ d energy are. rw given
     (energy_refused m d (value c.in_ok-all.all) g.N.Exact.bound (passed_at value c.in_err-of_energy.field-0.0) (c.in_ok-all.ensures.sum (empty m) puts)
-    (refusal value g.N.Exact.bound Times c.args.energy c.in_ok-all.all d.energy _ c.in_err-of_energy.field-0.0 energy refl c.in_err-of_energy.ensures))
+    (refusal value g.N.Exact.bound Times c.args.energy c.in_ok-all.all d.energy _ c.in_err-of_energy.field-0.0 energy refl
+    (product_too_large value g.N.Exact.bound c.args.energy c.in_ok-all.all c.in_err-of_energy.field-0.0 c.in_err-of_energy.ensures)))
 
 pub returns-in_err-of_limits-clause-cause : goal.returns-in_err-of_limits-clause-cause
 returns-in_err-of_limits-clause-cause g c =

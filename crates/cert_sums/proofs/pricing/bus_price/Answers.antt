@@ -25,5 +25,5 @@ returns-clause-cause g c = λ d energy are.
       _,
       price_at,
       price_refused c.args.market.now d c.args.bus g.N.Exact.bound (passed_at g.N.Exact.value p)
-          (refusal g.N.Exact.value g.N.Exact.bound Plus c.args.energy c.in_ok-congestion.congestion d.energy (congestion c.args.market.now d c.args.bus) p energy (c.in_ok-congestion.ensures.sum d are) is.passed),
+          (refusal g.N.Exact.value g.N.Exact.bound Plus c.args.energy c.in_ok-congestion.congestion d.energy (congestion c.args.market.now d c.args.bus) p energy (c.in_ok-congestion.ensures.sum d are) is),
     ))
