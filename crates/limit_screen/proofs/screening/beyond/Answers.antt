@@ -27,5 +27,6 @@ returns-in_err-exact_difference-in-Greater-clause-fits g c =
     let mw = c.requires.0 in
     let size = c.size-size.result in
     let within = g.met.N.Exact.value_fits size in
-    excess_fits g.N.Exact.bound (g.N.Exact.value size) mw c.requires.1 (subst (λ x. x <ℚ g.N.Exact.value size) c.requires.2 c.in-Greater.ensures) within.0 within.1
-    (subst (λ x. IsTooLarge g.N.Exact.bound (g.N.Exact.value size -ℚ x)) c.requires.2 c.in_err-exact_difference-in-Greater.ensures.too_large)
+    absurd
+    (excess_fits g.N.Exact.bound (g.N.Exact.value size) mw c.requires.1 (subst (λ x. x <ℚ g.N.Exact.value size) c.requires.2 c.in-Greater.ensures) within.0 within.1
+    (subst (λ x. IsTooLarge g.N.Exact.bound (g.N.Exact.value size -ℚ x)) c.requires.2 c.in_err-exact_difference-in-Greater.ensures.too_large))
