@@ -6,14 +6,16 @@ use Rattle.exact_fraction.specs.declared.Passed.{Passed}
 use Rattle.market_model.specs.declared.answered.Duals.{Duals}
 use Rattle.market_model.specs.declared.participants.Parts.{Parts}
 use Rattle.market_model.specs.declared.stops.Stop.{Stop}
+use Rattle.market_model.specs.declared.stops.Stop.TheVariants as stop
 use Rattle.market_model.specs.Dispatch.{Dispatch, dispatch_by}
-use Rattle.market_model.specs.Stops.{OnPassed}
 use Rattle.market_model.specs.SumTables.{IsRefusedAmong, BalanceSum, LimitFlowSum}
 use Rattle.market_model.specs.Valued.{passed_at}
 use Rattle.cert_format.specs.declared.certificate.Cert.{Cert}
 use Rattle.cert_format.specs.declared.certificate.Cert.TheVariants.{Optimal, Farkas}
 use Rattle.cert_sums.specs.Pairs.{IsFarkasPair}
 use Rattle.cert_sums.specs.Refusals.{IsBusPriceRefusal}
+use Rattle.cert_verify.specs.declared.verdicts.VerifyStop.{VerifyStop}
+use Rattle.cert_verify.specs.declared.verdicts.VerifyStop.TheVariants as why
 use Rattle.cert_verify.specs.Certificates.{named_duals}
 use Rattle.cert_verify.specs.Reasons.{NoneOf, balance_reason, dual_reasons, flow_reasons, part_reasons}
 
@@ -34,6 +36,12 @@ abbrev pub IsCertificateStop : Parts → ℕ → Cert Fraction → Passed Fracti
 IsCertificateStop m bound (Optimal blocks energy limits) = IsOptimalStop m (dispatch_by blocks) (named_duals energy limits) bound
 IsCertificateStop m bound (Farkas energy limits) = IsFarkasStop m (named_duals energy limits) bound
 
--- that, or memory was refused
-abbrev pub IsVerifyStop : {N : Type 0} → (N → Fraction) → Parts → ℕ → Cert Fraction → Stop N → Type 0
-IsVerifyStop value m bound c stop = OnPassed stop (λ p. IsCertificateStop m bound c (passed_at value p))
+-- what a stop of the work on a market is told as
+abbrev pub told_stop : {N : Type 0} → Stop N → VerifyStop N
+told_stop (stop.Passed p) = why.Range p
+told_stop stop.Memory = why.Memory
+
+-- such two numbers, or memory was refused
+abbrev pub IsVerifyStop : {N : Type 0} → (N → Fraction) → Parts → ℕ → Cert Fraction → VerifyStop N → Type 0
+IsVerifyStop value m bound c (why.Range p) = IsCertificateStop m bound c (passed_at value p)
+IsVerifyStop value m bound c why.Memory = Unit {0}

@@ -15,15 +15,15 @@ ghost use Rattle.cert_verify.specs.declared.verdicts.Reason.TheVariants as reaso
 ghost use Rattle.cert_verify.specs.Reasons.{NoneOf, bound_reason, farkas_reasons, first_of, flow_reasons, is_below, optimal_reasons, part_reasons, support_reason, where_so};
 ghost use Rattle.cert_verify.specs.Stops.{IsFarkasStop, IsOptimalStop};
 
+use crate::Reason;
 use crate::blocks::{other_count, outside_block, unsupported_block};
 use crate::comparing::{differ, is_negative};
 use crate::duals::{missing_row, negative_price, slack_price};
 use crate::limits::broken_limit;
 use crate::naming::named_rows;
-use crate::{Reason, VerifyStop};
 use cert_sums::{bus_price, farkas_bound, injections, line_flows};
 use exact_fraction::Exact;
-use market_model::{Dual, List, Market, Memory, balance, datum};
+use market_model::{Dual, List, Market, Memory, Stop, balance, datum};
 use std::alloc::Global;
 
 /// What may be wrong with the parts of a certificate before any sum is made of them.
@@ -48,7 +48,7 @@ fn wrong_flow<N: Exact>(
     market: &Market,
     blocks: &[N],
     limits: &[Dual<N>],
-) -> Result<Option<Reason>, VerifyStop<N>>
+) -> Result<Option<Reason>, Stop<N>>
     requires { length blocks.now ≡ length market.now.blocks }
     ensures first { IfOk result (λ first. first ≡ first_of (flow_reasons market.now (dispatch_of N.value blocks.now) (map (dual_at N.value) limits.now))) }
     ensures cause { (energy : Fraction) → NoneOf (part_reasons market.now (dispatch_of N.value blocks.now) (map (dual_at N.value) limits.now)) → IfErr result (λ stop. OnPassed stop (λ p. IsOptimalStop market.now (dispatch_of N.value blocks.now) (named_duals energy (map (dual_at N.value) limits.now)) N.bound (passed_at N.value p))) }
@@ -70,20 +70,20 @@ fn bus_prices<N: Exact>(
     market: &Market,
     energy: N,
     limits: &[Dual<N>],
-) -> Result<List<N>, VerifyStop<N>>
+) -> Result<List<N>, Stop<N>>
     requires { NamesNoRowTwice (map (dual_at N.value) limits.now) }
     ensures prices { IfOk result (λ prices. map N.value prices ≡ map (bus_price market.now (named_duals (N.value energy) (map (dual_at N.value) limits.now))) (places (length market.now.buses))) }
     ensures cause { IfErr result (λ stop. OnPassed stop (λ p. IsBusPriceRefusal market.now (named_duals (N.value energy) (map (dual_at N.value) limits.now)) N.bound (passed_at N.value p))) }
 {
     let named = match named_rows(alloc, market, limits) {
         Ok(named) => named,
-        Err(Memory) => return Err(VerifyStop::Memory),
+        Err(Memory) => return Err(Stop::Memory),
     };
     let mut prices = List::new(alloc);
     for bus in 0..market.buses().len() {
         let price = bus_price(market, energy, named.slice(), bus)?;
         if prices.push(price).is_err() {
-            return Err(VerifyStop::Memory);
+            return Err(Stop::Memory);
         }
     }
     Ok(prices)
@@ -96,7 +96,7 @@ fn wrong_support<N: Exact>(
     blocks: &[N],
     energy: N,
     limits: &[Dual<N>],
-) -> Result<Option<Reason>, VerifyStop<N>>
+) -> Result<Option<Reason>, Stop<N>>
     requires blocks { length blocks.now ≡ length market.now.blocks }
     requires distinct { NamesNoRowTwice (map (dual_at N.value) limits.now) }
     ensures first { IfOk result (λ first. first ≡ support_reason market.now (dispatch_of N.value blocks.now) (named_duals (N.value energy) (map (dual_at N.value) limits.now))) }
@@ -113,7 +113,7 @@ pub(crate) fn against_optimal<N: Exact>(
     blocks: &[N],
     energy: N,
     limits: &[Dual<N>],
-) -> Result<Option<Reason>, VerifyStop<N>>
+) -> Result<Option<Reason>, Stop<N>>
     requires { NamesNoRowTwice (map (dual_at N.value) limits.now) }
     ensures first { IfOk result (λ first. first ≡ first_of (optimal_reasons market.now (dispatch_of N.value blocks.now) (named_duals (N.value energy) (map (dual_at N.value) limits.now)))) }
     ensures cause { IfErr result (λ stop. OnPassed stop (λ p. IsOptimalStop market.now (dispatch_of N.value blocks.now) (named_duals (N.value energy) (map (dual_at N.value) limits.now)) N.bound (passed_at N.value p))) }
@@ -144,14 +144,14 @@ fn wrong_bound<N: Exact>(
     market: &Market,
     energy: N,
     limits: &[Dual<N>],
-) -> Result<Option<Reason>, VerifyStop<N>>
+) -> Result<Option<Reason>, Stop<N>>
     requires { NamesNoRowTwice (map (dual_at N.value) limits.now) }
     ensures first { IfOk result (λ first. first ≡ bound_reason market.now (named_duals (N.value energy) (map (dual_at N.value) limits.now))) }
     ensures cause { IfErr result (λ stop. OnPassed stop (λ p. IsFarkasPair market.now (named_duals (N.value energy) (map (dual_at N.value) limits.now)) N.bound (passed_at N.value p))) }
 {
     let named = match named_rows(alloc, market, limits) {
         Ok(named) => named,
-        Err(Memory) => return Err(VerifyStop::Memory),
+        Err(Memory) => return Err(Stop::Memory),
     };
     let bound = farkas_bound(alloc, market, energy, named.slice())?;
     Ok(bound_told(bound))
@@ -163,7 +163,7 @@ pub(crate) fn against_farkas<N: Exact>(
     market: &Market,
     energy: N,
     limits: &[Dual<N>],
-) -> Result<Option<Reason>, VerifyStop<N>>
+) -> Result<Option<Reason>, Stop<N>>
     requires { NamesNoRowTwice (map (dual_at N.value) limits.now) }
     ensures first { IfOk result (λ first. first ≡ first_of (farkas_reasons market.now (named_duals (N.value energy) (map (dual_at N.value) limits.now)))) }
     ensures cause { IfErr result (λ stop. OnPassed stop (λ p. IsFarkasStop market.now (named_duals (N.value energy) (map (dual_at N.value) limits.now)) N.bound (passed_at N.value p))) }

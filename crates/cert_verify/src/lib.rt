@@ -12,8 +12,5 @@ mod naming;
 mod verdicts;
 mod verifying;
 
-pub use verdicts::{Reason, Verdict};
+pub use verdicts::{Reason, Verdict, VerifyStop};
 pub use verifying::verify;
-
-/// Why a certificate could not be verified.
-pub type VerifyStop<N> = market_model::Stop<N>;

@@ -1,6 +1,9 @@
 //! What a certificate is answered by.
 
-use market_model::RowId;
+ghost use Rattle.std.specs.Prelude.{◌≡◌};
+
+use exact_fraction::Passed;
+use market_model::{RowId, Stop};
 
 /// Why a certificate does not hold.
 #[derive(Clone, Copy, PartialEq, Eq, Debug)]
@@ -31,4 +34,24 @@ pub enum Verdict {
     Yes,
     /// With the first reason against it.
     No(Reason),
+}
+
+/// Why there is no verdict: two numbers whose outcome passes the bound of their type, or want of memory.
+#[derive(Drop, Debug)]
+pub enum VerifyStop<N> {
+    Range(Passed<N>),
+    Memory,
+}
+
+impl<N> From<Stop<N>> for VerifyStop<N> {
+    ghost use Rattle.cert_verify.specs.Stops.{told_stop};
+
+    ghost from_gives = { λ stop told. told ≡ told_stop stop };
+
+    fn from(stop: Stop<N>) -> VerifyStop<N> {
+        match stop {
+            Stop::Passed(passed) => VerifyStop::Range(passed),
+            Stop::Memory => VerifyStop::Memory,
+        }
+    }
 }

@@ -99,7 +99,7 @@ fn verdict_told<N: Exact>(
             let text = verdict_text(alloc, verdict)?;
             Ok(uncertified(verdict_status(verdict), text))
         }
-        Err(VerifyStop::Passed(passed)) => {
+        Err(VerifyStop::Range(passed)) => {
             let text = report(alloc, market, &Outcome::Range(passed))?;
             Ok(uncertified(Status::Range, text))
         }

@@ -227,7 +227,7 @@ fn replays_edits(rt: HostRuntime) -> Result<(), Fail> {
         (
             "limit,2,base,,10\nclear,,,,\nlimit,2,base,,40\nclear,,,,\n",
             Status::Infeasible,
-            "step 1 edit accepted\nstep 2 clear\ninfeasible\nbound -",
+            "step 1 edit accepted\nstep 2 clear\ninfeasible\nbound -10\nenergy -1\nlimit 2 base up 2 down 0\nstep 3 edit accepted\n",
             LIMITED,
             None,
         ),

@@ -1,25 +1,34 @@
-use Rattle.std.proofs.Common.{rules, Err, ◌≡◌, map, sym, subst}
+use Rattle.std.proofs.Common.{rules, ◌≡◌, map, ℕ, sym, subst}
+use Rattle.std.proofs.lemmas.Result.{err_from_is_err_and}
+use Rattle.fraction_theory.specs.Fraction.{Fraction}
+use Rattle.market_model.specs.declared.participants.Parts.{Parts}
+use Rattle.market_model.specs.declared.stops.Stop.{Stop}
+use Rattle.market_model.specs.declared.stops.Stop.TheVariants as stop
+use Rattle.market_model.specs.Stops.{OnPassed}
 use Rattle.market_model.specs.Valued.{dual_at, passed_at}
-use Rattle.market_model.proofs.StopLemmas.{on_passed_weaker}
 use Rattle.cert_format.specs.Certificates.{cert_at}
+use Rattle.cert_format.specs.declared.certificate.Cert.{Cert}
 use Rattle.cert_format.specs.declared.certificate.Cert.TheVariants.{Optimal, Farkas}
-use Rattle.cert_verify.specs.Stops.{IsCertificateStop}
+use Rattle.cert_verify.specs.Stops.{IsCertificateStop, IsVerifyStop, told_stop}
 use Rattle.cert_verify.proofs.verifying.verify.Goals as goal
+
+-- what is known of a stop is known of what it is told as
+stopped : {N : Type 0} (value : N → Fraction) (m : Parts) (k : ℕ) (c d : Cert Fraction) → c ≡ d → (s : Stop N) → OnPassed s (λ p. IsCertificateStop m k d (passed_at value p)) → IsVerifyStop value m k c (told_stop s)
+stopped value m k c d same (stop.Passed p) h = subst (λ e. IsCertificateStop m k e (passed_at value p)) (sym same) h
+stopped value m k c d same stop.Memory h = tt
 
 pub returns-in_err-reason-in-Optimal-clause-cause : goal.returns-in_err-reason-in-Optimal-clause-cause
 returns-in_err-reason-in-Optimal-clause-cause g c =
     let value = g.N.Exact.value in
-    let given : c.from_residual.result ≡ Err c.in_err-reason-in-Optimal.field-0.0 = search rules in
+    let p = err_from_is_err_and c.from_residual.result c.from_residual.ensures.1 in
     let same : cert_at value c.args.cert.now ≡ Optimal (map value c.slice.result.now) (value c.in-Optimal.energy) (map (dual_at value) c.slice-in-Optimal.result.now) = search rules in
-    rw given
-    (on_passed_weaker c.in_err-reason-in-Optimal.field-0.0 _ _
-    (λ p h. subst (λ k. IsCertificateStop c.args.market.now g.N.Exact.bound k (passed_at value p)) (sym same) h) c.in_err-reason-in-Optimal.ensures.cause)
+    rw (p.1, p.2)
+    (stopped value c.args.market.now g.N.Exact.bound _ _ same c.in_err-reason-in-Optimal.field-0.0 c.in_err-reason-in-Optimal.ensures.cause)
 
 pub returns-in_err-reason-in-Farkas-clause-cause : goal.returns-in_err-reason-in-Farkas-clause-cause
 returns-in_err-reason-in-Farkas-clause-cause g c =
     let value = g.N.Exact.value in
-    let given : c.from_residual-in_err-reason-in-Farkas.result ≡ Err c.in_err-reason-in-Farkas.field-0.0 = search rules in
+    let p = err_from_is_err_and c.from_residual-in_err-reason-in-Farkas.result c.from_residual-in_err-reason-in-Farkas.ensures.1 in
     let same : cert_at value c.args.cert.now ≡ Farkas (value c.in-Farkas.energy) (map (dual_at value) c.slice-in-Farkas.result.now) = search rules in
-    rw given
-    (on_passed_weaker c.in_err-reason-in-Farkas.field-0.0 _ _
-    (λ p h. subst (λ k. IsCertificateStop c.args.market.now g.N.Exact.bound k (passed_at value p)) (sym same) h) c.in_err-reason-in-Farkas.ensures.cause)
+    rw (p.1, p.2)
+    (stopped value c.args.market.now g.N.Exact.bound _ _ same c.in_err-reason-in-Farkas.field-0.0 c.in_err-reason-in-Farkas.ensures.cause)

@@ -9,10 +9,10 @@ use Rattle.command_answers.specs.declared.status.Status.TheVariants as status
 use Rattle.report_text.specs.Reports.{range_text}
 use Rattle.command_answers.proofs.verifying.verdict_told.Goals as goal
 
-pub returns-in_ok-text-in-Err-Passed-clause-verifies : goal.returns-in_ok-text-in-Err-Passed-clause-verifies
-returns-in_ok-text-in-Err-Passed-clause-verifies g c =
-    let p = passed_at g.N.Exact.value c.in-Err-Passed.passed in
+pub returns-in_ok-text-in-Err-Range-clause-verifies : goal.returns-in_ok-text-in-Err-Range-clause-verifies
+returns-in_ok-text-in-Err-Range-clause-verifies g c =
+    let p = passed_at g.N.Exact.value c.in-Err-Range.passed in
     let within : ArePassedWithin g.N.Exact.bound p = search rules in
-    let is : telling_of c.uncertified-in-Err-Passed.result ≡ uncertified status.Range (range_text p) = search rules in
-    let cause = subst (IsVerifyStop g.N.Exact.value c.args.market.now g.N.Exact.bound (cert_at g.N.Exact.value c.args.certificate.now)) c.in-Err-Passed.field-0-is c.in-Err-Passed.ensures.cause in
+    let is : telling_of c.uncertified-in-Err-Range.result ≡ uncertified status.Range (range_text p) = search rules in
+    let cause = subst (IsVerifyStop g.N.Exact.value c.args.market.now g.N.Exact.bound (cert_at g.N.Exact.value c.args.certificate.now)) c.in-Err-Range.field-0-is c.in-Err-Range.ensures.cause in
     passed p cause within is
