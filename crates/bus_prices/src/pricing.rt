@@ -27,14 +27,6 @@ fn opposite_net_price<N: Exact>(dual: &Dual<N>) -> N
     }
 }
 
-/// A sum with a price's share by a factor.
-fn with_share<N: Exact>(sum: N, price: N, factor: N) -> Result<N, Passed<N>>
-    ensures sum { IfOk result (λ more. N.value more ≡ N.value sum +ℚ N.value price *ℚ N.value factor) }
-    ensures cause { IfErr result (λ passed. IsShareRefusal (N.value sum) (N.value price) (N.value factor) N.bound (passed_at N.value passed)) }
-{
-    sum.plus_product(price, factor)
-}
-
 /// Puts the price of energy at each bus, where limits add nothing yet.
 fn put_energy<N: Exact>(energy: N, out: &mut [Price<N>])
     ensures { HaveParts N.value (N.value energy) (λ bus. zero) out.new }
@@ -63,7 +55,9 @@ fn add_row<N: Exact>(
     ensures cause { (energy : Fraction) (before : ℕ → Fraction) → HaveParts N.value energy before out.old → IfErr result (λ passed. (bus : ℕ) × (bus < length market.now.buses) × IsShareRefusal (before bus) (N.value price) (row_factor market.now row bus) N.bound (passed_at N.value passed)) }
 {
     for (bus, place) in out.iter_mut().enumerate() {
-        let congestion = with_share(place.congestion, price, row_factor(market, row, bus))?;
+        let congestion = place
+            .congestion
+            .plus_product(price, row_factor(market, row, bus))?;
         *place = Price {
             energy: place.energy,
             congestion,

@@ -15,7 +15,7 @@ loop-bus-preserved g c =
       done = λ energy before h.
           part_put value energy (λ bus. before bus +ℚ value c.args.price *ℚ row_factor c.args.market.now c.args.row bus) i c.loop-bus.out _ inside (c.loop-bus.invariant.done energy before h)
           (read_energy value energy before old c.loop-bus.out i c.index-out-bus.result was_inside h c.loop-bus.invariant.left)
-          (c.in_ok-congestion.ensures.sum
+          (c.in_ok-congestion.ensures.exact
           ∙ ap₂ (λ u v. u +ℚ value c.args.price *ℚ v) (read_congestion value energy before old c.loop-bus.out i c.index-out-bus.result was_inside h c.loop-bus.invariant.left) c.row_factor.ensures);
       left = still_left old c.loop-bus.out i _ c.loop-bus.invariant.left;
     }
