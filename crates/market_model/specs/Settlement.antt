@@ -25,6 +25,13 @@ pay_of_unit m x price u = record { mw = output m x u; paid = price_for_unit m pr
 abbrev pub pay_of_load : Parts → (ℕ → Fraction) → ℕ → Load Fraction
 pay_of_load m price i = record { mw = demand m i; pays = price i *ℚ demand m i }
 
+-- what a load pays, as a sum of one product; and what a unit is paid
+abbrev pub load_terms : Parts → (ℕ → Fraction) → ℕ → List Term
+load_terms m price i = Product (price i) (demand m i) ∷ []
+
+abbrev pub unit_terms : Parts → Dispatch → (ℕ → Fraction) → ℕ → List Term
+unit_terms m x price u = Product (price_for_unit m price u) (output m x u) ∷ []
+
 -- what loads pay by bus, and the opposite of what units are paid by unit
 abbrev pub left_terms : Parts → Dispatch → (ℕ → Fraction) → List Term
 left_terms m x price =

@@ -13,7 +13,7 @@ use Rattle.market_model.specs.Infeasibility.{farkas_terms}
 use Rattle.market_model.specs.LimitRows.{rows, line_flow, line_terms, flow_by, flow_terms, offset_terms, factor_terms, row_offset}
 use Rattle.market_model.specs.NamedSums.{IsRefusedIn}
 use Rattle.market_model.specs.Optimality.{congestion_terms, named_rows, price_terms}
-use Rattle.market_model.specs.Settlement.{left_terms, lower_terms, priced_flow, rent_terms, upper_terms}
+use Rattle.market_model.specs.Settlement.{left_terms, load_terms, lower_terms, priced_flow, rent_terms, unit_terms, upper_terms}
 
 -- an operation refused where one of these sums is added up
 abbrev pub IsRefusedAmong : (List Term → Type 0) → ℕ → Passed Fraction → Type 0
@@ -79,8 +79,10 @@ pub data BoundSum (m : Parts) (d : Duals Fraction) : List Term → Type 0 where
   farkas_bound_of_all : BoundSum m d (farkas_terms m d)
 
 -- ---- money
--- of payments at prices by bus: what is left, and with duals the rents of some rows
+-- of payments at prices by bus: what a load pays, what a unit is paid, what is left, and with duals the rents of some rows
 pub data PaymentSum (m : Parts) (g : List Row) (x : Dispatch) (price : ℕ → Fraction) (d : Duals Fraction) : List Term → Type 0 where
+  paid_by_load : (i : ℕ) → i < length m.buses → PaymentSum m g x price d (load_terms m price i)
+  paid_to_unit : (u : ℕ) → u < length m.units → PaymentSum m g x price d (unit_terms m x price u)
   left_of_all : PaymentSum m g x price d (left_terms m x price)
   rent_of_row : (r : Row) → Contains g r → PaymentSum m g x price d (rent_terms m x d r)
 

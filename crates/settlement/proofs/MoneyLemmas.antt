@@ -12,7 +12,7 @@ use Rattle.fraction_theory.proofs.SumLaws.{total-append, total-Plain}
 use Rattle.exact_fraction.specs.declared.Op.{Op}
 use Rattle.exact_fraction.specs.declared.Op.TheVariants.{Plus, Minus, Times}
 use Rattle.exact_fraction.specs.declared.Passed.{Passed}
-use Rattle.exact_fraction.specs.Passes.{outcome}
+use Rattle.exact_fraction.specs.Passes.{IsTooLarge, outcome}
 use Rattle.market_model.specs.declared.answered.Dual.{Dual}
 use Rattle.market_model.specs.declared.answered.Duals.{Duals}
 use Rattle.market_model.specs.declared.answered.Load.{Load}
@@ -95,10 +95,16 @@ no_products f g (x ∷ xs) ys zero a b e = absurd Prim.cc
 no_products f g (x ∷ xs) ys (suc k) a b e = no_products f g xs ys k a b e
 
 pub refused_same : (ts us : List Term) (bound : ℕ) (p : Passed Fraction) → NoProducts ts → map term_value ts ≡ map term_value us → IsRefusedIn ts bound p → IsRefusedIn us bound p
-refused_same ts us bound p none e h = record { step = by p.op p.left p.right h.step; passes = h.passes }
+refused_same ts us bound p none e h = record {
+  place = h.place;
+  step = by p.op p.left p.right h.step;
+  passes = h.passes;
+  too_large = subst (IsTooLarge bound) (prefix-same ts us (h.place + 1) e) h.too_large;
+}
   where
-    next_same : (op : Op) (l r : Fraction) (k : ℕ) → IsNextTerm ts op l r k → IsNextTerm us op l r k
-    next_same op l r k next =
+    next_same : (op : Op) (l r : Fraction) → IsNextTerm ts op l r h.place → IsNextTerm us op l r h.place
+    next_same op l r next =
+        let k : ℕ = h.place in
         let long : length ts ≡ length us = sym (length-map ts term_value) ∙ ap length e ∙ length-map us term_value in
         let inside : k < length us = Prim.omega (arith, next.inside, long) in
         let same : term_value (term_at ts k) ≡ term_value (term_at us k) =
@@ -111,10 +117,10 @@ refused_same ts us bound p none e h = record { step = by p.op p.left p.right h.s
           after = subst (SameSize (outcome op l r)) (prefix-same ts us (k + 1) e) next.after;
         }
 
-    by : (op : Op) (l r : Fraction) → IsSumStep ts op l r → IsSumStep us op l r
-    by Plus l r (k, next) = (k, next_same Plus l r k next)
-    by Minus l r (k, next) = (k, next_same Minus l r k next)
-    by Times l r (k, a, b, factors) = absurd (none k a b factors.product)
+    by : (op : Op) (l r : Fraction) → IsSumStep ts op l r h.place → IsSumStep us op l r h.place
+    by Plus l r next = next_same Plus l r next
+    by Minus l r next = next_same Minus l r next
+    by Times l r (a, b, factors) = absurd (none h.place a b factors.product)
 
 -- ---- what is added up is what loads pay and units are paid
 module _ {N : Type 0} (value : N → Fraction) (m : Parts) (x : Dispatch) (price : ℕ → Fraction) (loads : List (Load N)) (units : List (UnitPay N))

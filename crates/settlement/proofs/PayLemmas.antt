@@ -1,11 +1,10 @@
 -- Outputs, demands and prices, and what is worth, paid and refused of them.
-use Rattle.std.specs.Prelude.{◌≡◌, ◌⊎◌, ℕ, ◌+◌, ◌<◌, List, [], ◌∷◌, ◌++◌, map, length, refl}
+use Rattle.std.specs.Prelude.{◌≡◌, ◌⊎◌, ℕ, ◌+◌, ◌<◌, List, [], ◌∷◌, map, length, refl}
 use Rattle.std.proofs.Common.{ap, ap₂, sym, ◌∙◌, inl, inr, get_or}
 use Rattle.std.proofs.lemmas.List.{get_or-map}
 use Rattle.fraction_theory.specs.Fraction.{Fraction, whole, neg_ℚ, ◌+ℚ◌, ◌*ℚ◌}
 use Rattle.fraction_theory.specs.Sums.{Term, Plain, Product, total}
-use Rattle.fraction_theory.proofs.FieldLaws.{ring_ℚ, +ℚ_nil}
-use Rattle.fraction_theory.proofs.Ring.{neg_neg}
+use Rattle.fraction_theory.proofs.FieldLaws.{+ℚ_nil}
 use Rattle.exact_fraction.specs.declared.Op.TheVariants.{Plus, Times}
 use Rattle.exact_fraction.specs.declared.Passed.{Passed}
 use Rattle.market_data.specs.declared.participants.Bus.{Bus}
@@ -16,15 +15,15 @@ use Rattle.market_model.specs.declared.answered.UnitPay.{UnitPay}
 use Rattle.market_model.specs.declared.participants.Block.{Block}
 use Rattle.market_model.specs.declared.participants.Parts.{Parts}
 use Rattle.market_model.specs.Dispatch.{Dispatch, zero, places, signed_by_side, block_at, bus_at, accepted, output, output_terms, demand, demand_terms}
-use Rattle.market_model.specs.NamedSums.{IsRefusedIn, IsRefusal}
+use Rattle.market_model.specs.NamedSums.{IsRefusedIn, IsRefusal, IsShareRefusal}
 use Rattle.market_model.specs.Optimality.{block_value, welfare_terms}
 use Rattle.market_model.specs.Valued.{load_at, unit_pay_at}
 use Rattle.market_model.proofs.MorePlaces.{total-places_more}
-use Rattle.market_model.proofs.SumSteps.{plus_at, multiplied_at, terms_at, behind, in_front}
+use Rattle.market_model.proofs.SumSteps.{plus_at, product_at, share_at, terms_at}
 use Rattle.market_model.proofs.PutInSteps.{accepted_is}
 use Rattle.market_model.specs.PutIn.{dispatch_of}
-use Rattle.market_model.specs.Settlement.{pay_of_unit, pay_of_load, price_for_unit, left_terms}
-use Rattle.market_model.specs.SumTables.{demand_of_bus, left_of_all, output_of_unit, paid_output, payment}
+use Rattle.market_model.specs.Settlement.{pay_of_unit, pay_of_load, price_for_unit, load_terms, unit_terms}
+use Rattle.market_model.specs.SumTables.{demand_of_bus, output_of_unit, paid_by_load, paid_output, paid_to_unit, payment}
 use Rattle.settlement.specs.Paying.{total_at}
 use Rattle.settlement.specs.Refusals.{IsMoneyRefusal}
 
@@ -42,25 +41,16 @@ module _ {N : Type 0} (value : N → Fraction) (m : Parts) (ds : List N) where
       ∙ sym (total-places_more (λ j. Product (block_value m j) (accepted (dispatch_of value ds) j)) k)
 
   module _ (bound : ℕ) (p : Passed Fraction) where
-    -- what a block is worth, and the sum with that
-    pub worth_refused : (k : ℕ) (block : Block) (d : N) → k < length m.blocks → k < length ds → d ≡ get_or ds k d → block ≡ block_at m k
-        → IsRefusal Times (neg_ℚ (signed_by_side block.side (whole block.price))) (value d) bound p → IsRefusedIn (welfare_terms m (dispatch_of value ds)) bound p
-    worth_refused k block d below lt at same h =
-        let x = dispatch_of value ds in
-        let f : ℕ → Term = λ j. Product (block_value m j) (accepted x j) in
-        let r = terms_at f (length m.blocks) k below in
-        multiplied_at (welfare_terms m x) (map f (places k)) r.0 (f k) r.1 bound p (neg_ℚ (signed_by_side block.side (whole block.price))) (value d) (block_value m k) (accepted x k) refl
-        (inl (ap (λ (b : Block). neg_ℚ (signed_by_side b.side (whole b.price))) same)) (inl (sym (accepted_is value ds k d lt at))) h
-
-    pub welfare_refused : (k : ℕ) (block : Block) (d : N) (sum worth : Fraction) → k < length m.blocks → k < length ds → d ≡ get_or ds k d → block ≡ block_at m k
-        → sum ≡ welfare_to k → worth ≡ neg_ℚ (signed_by_side block.side (whole block.price)) *ℚ value d → IsRefusal Plus sum worth bound p
+    -- what a block is worth is added
+    pub welfare_refused : (k : ℕ) (block : Block) (d : N) (sum : Fraction) → k < length m.blocks → k < length ds → d ≡ get_or ds k d → block ≡ block_at m k
+        → sum ≡ welfare_to k → IsShareRefusal sum (neg_ℚ (signed_by_side block.side (whole block.price))) (value d) bound p
         → IsRefusedIn (welfare_terms m (dispatch_of value ds)) bound p
-    welfare_refused k block d sum worth below lt at same is w h =
+    welfare_refused k block d sum below lt at same is h =
         let x = dispatch_of value ds in
         let f : ℕ → Term = λ j. Product (block_value m j) (accepted x j) in
         let r = terms_at f (length m.blocks) k below in
-        (plus_at (welfare_terms m x) (map f (places k)) r.0 (f k) r.1 bound p sum worth is
-        ((w ∙ ap (λ (b : Block). neg_ℚ (signed_by_side b.side (whole b.price)) *ℚ value d) same ∙ ap (λ v. block_value m k *ℚ v) (sym (accepted_is value ds k d lt at)))) h)
+        share_at (welfare_terms m x) (map f (places k)) r.0 (f k) r.1 bound p sum (neg_ℚ (signed_by_side block.side (whole block.price))) (value d)
+        (ap₂ Product (sym (ap (λ (b : Block). neg_ℚ (signed_by_side b.side (whole b.price))) same)) (accepted_is value ds k d lt at)) is h
 
 -- a price that was read by its place
 pub price_is : {N : Type 0} (value : N → Fraction) (prices : List (Price N)) (i : ℕ) (p : Price N) → i < length prices → total_at value prices i ≡ value (get_or prices i p).total
@@ -89,12 +79,6 @@ pay_is value m x price u t pay is mw paid = same_pay (value pay.mw) (value pay.p
 
 -- ---- refusals of loads and units
 module _ (m : Parts) (x : Dispatch) (price : ℕ → Fraction) (d : Duals Fraction) (bound : ℕ) (p : Passed Fraction) where
-  abbrev load_term : ℕ → Term
-  load_term i = Product (price i) (demand m i)
-
-  abbrev unit_term : ℕ → Term
-  unit_term u = Product (neg_ℚ (price_for_unit m price u)) (output m x u)
-
   pub load_refusal : (i : ℕ) (bus : Bus) (t : Fraction) → i < length m.buses → bus ≡ bus_at m i → t ≡ price i
       → IsRefusal Plus (whole bus.pd) (whole bus.gs) bound p ⊎ IsRefusal Times t (whole bus.pd +ℚ whole bus.gs) bound p → IsMoneyRefusal m x price d bound p
   load_refusal i bus t below at is (inl h) = (
@@ -103,23 +87,17 @@ module _ (m : Parts) (x : Dispatch) (price : ℕ → Fraction) (d : Duals Fracti
     plus_at (demand_terms m i) (Plain (whole (bus_at m i).pd) ∷ []) [] (Plain (whole (bus_at m i).gs)) refl bound p (whole bus.pd) (whole bus.gs)
         (ap (λ (b : Bus). whole b.pd) at ∙ sym (+ℚ_nil (whole (bus_at m i).pd))) (ap (λ (b : Bus). whole b.gs) at) h,
   )
-  load_refusal i bus t below at is (inr h) =
-      let r = terms_at load_term (length m.buses) i below in
-      let rest : List Term = map unit_term (places (length m.units)) in (
-        left_terms m x price,
-        payment _ left_of_all,
-        multiplied_at (left_terms m x price) (map load_term (places i)) (r.0 ++ rest) (load_term i) (in_front (map load_term (places (length m.buses))) (map load_term (places i)) r.0 rest (load_term i) r.1)
-            bound p t (whole bus.pd +ℚ whole bus.gs) (price i) (demand m i) refl (inl is) (inl (demand_is m i bus at)) h,
-      )
+  load_refusal i bus t below at is (inr h) = (
+    load_terms m price i,
+    payment _ (paid_by_load i below),
+    product_at (load_terms m price i) [] [] (Product (price i) (demand m i)) refl bound p t (whole bus.pd +ℚ whole bus.gs) (ap₂ Product (sym is) (sym (demand_is m i bus at))) refl h,
+  )
 
   pub unit_refusal : (u : ℕ) (t : Fraction) → u < length m.units → t ≡ price_for_unit m price u → IsRefusedIn (output_terms m x u) bound p ⊎ IsRefusal Times t (output m x u) bound p
       → IsMoneyRefusal m x price d bound p
   unit_refusal u t below is (inl h) = (output_terms m x u, paid_output _ (output_of_unit u below), h)
-  unit_refusal u t below is (inr h) =
-      let r = terms_at unit_term (length m.units) u below in
-      let front : List Term = map load_term (places (length m.buses)) in (
-        left_terms m x price,
-        payment _ left_of_all,
-        multiplied_at (left_terms m x price) (front ++ map unit_term (places u)) r.0 (unit_term u) (behind front (map unit_term (places (length m.units))) (map unit_term (places u)) r.0 (unit_term u) r.1)
-            bound p t (output m x u) (neg_ℚ (price_for_unit m price u)) (output m x u) refl (inr (is ∙ sym (neg_neg ring_ℚ (price_for_unit m price u)))) (inl refl) h,
-      )
+  unit_refusal u t below is (inr h) = (
+    unit_terms m x price u,
+    payment _ (paid_to_unit u below),
+    product_at (unit_terms m x price u) [] [] (Product (price_for_unit m price u) (output m x u)) refl bound p t (output m x u) (ap (λ (v : Fraction). Product v (output m x u)) (sym is)) refl h,
+  )

@@ -12,7 +12,7 @@ use Rattle.market_model.specs.declared.answered.Duals.{Duals}
 use Rattle.market_model.specs.declared.answered.Rent.{Rent}
 use Rattle.market_model.specs.declared.answered.RowId.{RowId}
 use Rattle.market_model.specs.declared.participants.Parts.{Parts}
-use Rattle.market_model.specs.Dispatch.{Dispatch, injection}
+use Rattle.market_model.specs.Dispatch.{Dispatch, zero, injection}
 use Rattle.market_model.specs.declared.limits.Row.{Row}
 use Rattle.market_model.specs.LimitRows.{flow, flow_by, flow_terms, limit, line_flow, offset_terms, row_id, row_offset}
 use Rattle.market_model.specs.NamedSums.{IsRefusal, IsRefusedIn}
@@ -21,7 +21,7 @@ use Rattle.market_model.specs.RightAnswers.{rent_by, rent_of}
 use Rattle.market_model.specs.Market.{IsMarket}
 use Rattle.market_model.specs.Settlement.{earned_terms, lower_terms, rent_terms, rent_terms_by, upper_terms}
 use Rattle.market_model.specs.SumTables.{IsRefusedAmong, rent_of_row, PaidRowSum, flow_after_outage, flow_of_row, offset_of_row, paid_offset, upper_of_row, lower_of_row, payment, paid_row}
-use Rattle.market_model.proofs.SumSteps.{minus_at, multiplied_at, plus_at}
+use Rattle.market_model.proofs.SumSteps.{minus_at, plus_at, product_at}
 use Rattle.limit_rows.proofs.DualLemmas.{IsRowOfDual}
 use Rattle.limit_screen.proofs.ScreenLemmas.{row_terms}
 use Rattle.limit_screen.specs.Flows.{flows_at, line_in}
@@ -46,13 +46,14 @@ module _ (e : Dual Fraction) (f o : Fraction) where
     pub more_refused : IsRefusal Plus f o bound p → IsRefusedIn (lower_terms f o) bound p
     more_refused h = plus_at (lower_terms f o) (Plain f ∷ []) [] (Plain o) refl bound p f o (sym (+ℚ_nil f)) refl h
 
-    pub upper_refused : (room : Fraction) → room ≡ f -ℚ o → IsRefusal Times e.up room bound p → IsRefusedIn (earned_terms e.up e.down f o) bound p
-    upper_refused room is h =
-        multiplied_at (earned_terms e.up e.down f o) [] (Product e.down (f +ℚ o) ∷ []) (Product e.up (f -ℚ o)) refl bound p e.up room e.up (f -ℚ o) refl (inl refl) (inl is) h
+    pub upper_refused : IsRefusal Times e.up (f -ℚ o) bound p → IsRefusedIn (earned_terms e.up e.down f o) bound p
+    upper_refused h = product_at (earned_terms e.up e.down f o) [] (Product e.down (f +ℚ o) ∷ []) (Product e.up (f -ℚ o)) refl bound p e.up (f -ℚ o) refl refl h
 
-    pub lower_refused : (room : Fraction) → room ≡ f +ℚ o → IsRefusal Times e.down room bound p → IsRefusedIn (earned_terms e.up e.down f o) bound p
-    lower_refused room is h =
-        multiplied_at (earned_terms e.up e.down f o) (Product e.up (f -ℚ o) ∷ []) [] (Product e.down (f +ℚ o)) refl bound p e.down room e.down (f +ℚ o) refl (inl refl) (inl is) h
+    -- an upper price of 0 has earned nothing before
+    pub lower_refused : e.up ≡ zero → IsRefusal Times e.down (f +ℚ o) bound p → IsRefusedIn (earned_terms e.up e.down f o) bound p
+    lower_refused none h =
+        product_at (earned_terms e.up e.down f o) (Product e.up (f -ℚ o) ∷ []) [] (Product e.down (f +ℚ o)) refl bound p e.down (f +ℚ o) refl
+        (by_ring ring_ℚ (f ∷ o ∷ []) pnil (padd (pmul pnil (padd (at 0) (pneg (at 1)))) pnil) refl ∙ ap (λ u. u *ℚ (f -ℚ o) +ℚ zero) (sym none)) h
 
 -- the same for the limit of a row, of its flow where lines have flows f
 pub earning_refused : (m : Parts) (f : ℕ → Fraction) (e : Dual Fraction) (r : Row) (size offset : Fraction) (bound : ℕ) (p : Passed Fraction) → size ≡ limit m r → offset ≡ row_offset m r

@@ -39,7 +39,7 @@ returns-in_err-surplus-clause-cause g c =
     rw given
     (load_refused g.N.Exact.value c.args.loads.now c.args.units.now g.N.Exact.bound (passed_at g.N.Exact.value c.in_err-surplus.field-0.0) c.loop-load.load-index c.load-item.result (g.N.Exact.value c.loop-load.surplus)
     c.loop-load-test.true c.load-item.is c.loop-load.invariant
-    (refusal g.N.Exact.value g.N.Exact.bound Op.Plus c.loop-load.surplus _ _ _ c.in_err-surplus.field-0.0 refl refl c.in_err-surplus.ensures.passed))
+    (refusal g.N.Exact.value g.N.Exact.bound Op.Plus c.loop-load.surplus _ _ _ c.in_err-surplus.field-0.0 refl refl c.in_err-surplus.ensures))
 
 pub returns-in_err-surplus-2-clause-cause : goal.returns-in_err-surplus-2-clause-cause
 returns-in_err-surplus-2-clause-cause g c =
@@ -47,4 +47,4 @@ returns-in_err-surplus-2-clause-cause g c =
     rw given
     (unit_refused g.N.Exact.value c.args.loads.now c.args.units.now g.N.Exact.bound (passed_at g.N.Exact.value c.in_err-surplus-2.field-0.0) c.loop-unit.unit-index c.unit-item.result (g.N.Exact.value c.loop-unit.surplus)
     c.loop-unit-test.true c.unit-item.is c.loop-unit.invariant
-    (refusal g.N.Exact.value g.N.Exact.bound Op.Plus c.loop-unit.surplus c.neg.result _ _ c.in_err-surplus-2.field-0.0 refl c.neg.ensures c.in_err-surplus-2.ensures.passed))
+    (refusal g.N.Exact.value g.N.Exact.bound Op.Plus c.loop-unit.surplus c.neg.result _ _ c.in_err-surplus-2.field-0.0 refl c.neg.ensures c.in_err-surplus-2.ensures))

@@ -1,8 +1,8 @@
-use Rattle.std.proofs.Common.{rules, Err, refl, inl, inr, ◌<◌, ◌≡◌, ◌∙◌, ap, length, pos, arith}
+use Rattle.std.proofs.Common.{rules, Err, refl, ◌<◌, ◌≡◌, ◌∙◌, ap, length, pos, arith}
 use Rattle.std.specs.Prelude.{slice_index_or}
 use Rattle.market_model.specs.declared.participants.Side.TheVariants.{Sell}
 use Rattle.market_model.specs.Optimality.{welfare as welfare_of}
-use Rattle.settlement.proofs.PayLemmas.{welfare_step, worth_refused, welfare_refused}
+use Rattle.settlement.proofs.PayLemmas.{welfare_step, welfare_refused}
 use Rattle.market_model.specs.Valued.{passed_at}
 use Rattle.settlement.proofs.worth.welfare.Goals as goal
 
@@ -32,8 +32,5 @@ returns-in_err-sum-clause-cause g c =
     let same = ap (λ bs. slice_index_or bs k (record { unit = 0; side = Sell; quantity = pos 0; price = pos 0 })) blocks in
     let inside : k < length c.args.dispatch.now = omega (arith, below, c.requires) in
     rw given
-    (elim c.in_err-sum.ensures.cause [
-      | inl h ↦ worth_refused value m c.args.dispatch.now g.N.Exact.bound (passed_at value c.in_err-sum.field-0.0) k _ c.index-dispatch-place.result below inside c.index-dispatch-place.is same h
-      | inr h ↦ welfare_refused value m c.args.dispatch.now g.N.Exact.bound (passed_at value c.in_err-sum.field-0.0) k _ c.index-dispatch-place.result (value c.loop-place.sum) _ below inside c.index-dispatch-place.is same
-          c.loop-place.invariant refl h
-    ])
+    (welfare_refused value m c.args.dispatch.now g.N.Exact.bound (passed_at value c.in_err-sum.field-0.0) k _ c.index-dispatch-place.result (value c.loop-place.sum) below inside
+    c.index-dispatch-place.is same c.loop-place.invariant c.in_err-sum.ensures.cause)
