@@ -1,42 +1,38 @@
 -- What is refused at a dispatch that solves the market over rows in hand is a working pair of the market over these rows.
-use Rattle.std.specs.Prelude.{ℕ, List, Some, None, Contains, refl}
-use Rattle.std.proofs.Common.{inl, inr, sym, subst}
+use Rattle.std.specs.Prelude.{ℕ, List, [], ◌∷◌, Some, None, Contains, refl}
+use Rattle.std.proofs.Common.{ap, inr, sym, subst}
 use Rattle.fraction_theory.specs.Fraction.{Fraction}
-use Rattle.fraction_theory.specs.Signs.{sign_of}
-use Rattle.fraction_theory.specs.Sums.{Term}
+use Rattle.fraction_theory.specs.Sums.{Term, Product}
 use Rattle.exact_fraction.specs.declared.Passed.{Passed}
-use Rattle.exact_fraction.specs.declared.Op.TheVariants.{Minus}
 use Rattle.linear_system.specs.Choices.{reduced}
 use Rattle.linear_system.specs.Numbers.{Quantity, Price}
 use Rattle.market_model.specs.declared.answered.Duals.{Duals}
 use Rattle.market_model.specs.declared.participants.Parts.{Parts}
-use Rattle.market_model.specs.Dispatch.{Dispatch, demand_terms, injection}
-use Rattle.market_model.specs.Overrun.{size_of}
+use Rattle.market_model.specs.Dispatch.{Dispatch, demand, demand_terms, injection, output}
 use Rattle.market_model.specs.declared.limits.Row.{Row}
-use Rattle.market_model.specs.LimitRows.{rows, limit, line_flow, flow, flow_terms}
+use Rattle.market_model.specs.LimitRows.{rows, line_flow, flow_terms}
 use Rattle.market_model.specs.Market.{IsMarket}
-use Rattle.market_model.specs.NamedSums.{SameSize, IsRefusedIn, IsRefusal}
+use Rattle.market_model.specs.NamedSums.{IsRefusedIn}
 use Rattle.market_model.proofs.SumParts.{flow_carried}
-use Rattle.market_model.specs.SumTables.{IsRefusedAmong, flow_of_row, limited_row, FlowSum, flow_in_limits, PriceSum, left_of_all, rent_of_row, SettledSum, paid_output, demand_of_bus, payment, paid_row}
+use Rattle.market_model.specs.SumTables.{IsRefusedAmong, flow_of_row, limited_row, FlowSum, flow_in_limits, PriceSum, left_of_all, paid_by_load, paid_to_unit, rent_of_row, SettledSum, paid_output, demand_of_bus, payment, paid_row}
 use Rattle.market_model.specs.Optimality.{Feasible, Supports, ProperDuals, bus_price, welfare_terms}
-use Rattle.market_model.specs.Settlement.{rent_terms, surplus_terms}
+use Rattle.market_model.specs.Settlement.{load_terms, rent_terms, surplus_terms, unit_terms}
 use Rattle.market_system.specs.Growth.{BestFor, PricesOnly}
-use Rattle.market_system.specs.MarketNumbers.{IsRightChoice, IsInjecting, of_flow, of_price, of_welfare, of_settlement, MarketNumber, is_limit, of_opposite}
+use Rattle.market_system.specs.MarketNumbers.{IsRightChoice, IsInjecting, of_flow, of_price, of_welfare, of_settlement}
 use Rattle.market_system.specs.MarketSystem.{system_of, choice_dispatch}
 use Rattle.market_system.specs.PairLaw.{RefusalsArePairs}
 use Rattle.market_system.specs.WorkingPairs.{IsRangeOf}
 use Rattle.market_system.proofs.DualLists.{prices_only-made}
 use Rattle.market_system.proofs.GrowthLaws.{growth_none}
-use Rattle.market_system.proofs.PairCases.{law_of_the_pairs, row_flow_number}
+use Rattle.market_system.proofs.PairCases.{law_of_the_pairs}
 use Rattle.limit_rows.proofs.ApartLemmas.{names_apart}
 use Rattle.limit_screen.proofs.ScreenLemmas.{row_terms}
 use Rattle.limit_screen.specs.Flows.{flows_at, line_in, IsFlowsRefusal}
-use Rattle.limit_screen.specs.Screening.{IsOverrunRefusal, IsScreenRefusal, of_flow as row_of_flow, of_limit as row_of_limit}
-use Rattle.market_model.proofs.UnitPrices.{left_at}
+use Rattle.limit_screen.specs.Screening.{IsScreenRefusal}
+use Rattle.market_model.proofs.UnitPrices.{at_unit, left_at}
 use Rattle.settlement.specs.Paying.{ArePricesOf}
 use Rattle.settlement.specs.Refusals.{IsMoneyRefusal}
 use Rattle.market_dict.specs.Findings.{IsSolvedBy}
-use Rattle.clear_loop.proofs.BrokenLemmas.{row_is, sized_by}
 
 -- ---- refusals
 module _ (m : Parts) (g : List Row) (x : Dispatch) (d : Duals Fraction) (market : IsMarket m) (solved : IsSolvedBy m g x d) where
@@ -87,6 +83,10 @@ module _ (m : Parts) (g : List Row) (x : Dispatch) (d : Duals Fraction) (market 
         at_duals : (terms : List Term) → SettledSum m x price d terms → IsRefusedIn terms bound p → IsMoneyRefusal m x (bus_price m d) d bound p
         at_duals terms (paid_output same sum) a = (terms, paid_output terms sum, a)
         at_duals terms (demand_of_bus i lt) a = (demand_terms m i, demand_of_bus i lt, a)
+        at_duals terms (payment same (paid_by_load i lt)) a =
+            (load_terms m (bus_price m d) i, payment _ (paid_by_load i lt), subst (λ ts. IsRefusedIn ts bound p) (ap (λ t. Product t (demand m i) ∷ []) (priced i lt)) a)
+        at_duals terms (payment same (paid_to_unit u lt)) a =
+            (unit_terms m x (bus_price m d) u, payment _ (paid_to_unit u lt), subst (λ ts. IsRefusedIn ts bound p) (ap (λ t. Product t (output m x u) ∷ []) (at_unit m d price market priced u lt)) a)
         at_duals terms (payment same left_of_all) a = (surplus_terms m x d, payment _ left_of_all, subst (λ ts. IsRefusedIn ts bound p) (left_at m d price market priced x) a)
         at_duals terms (payment same (rent_of_row r c)) a = (rent_terms m x d r, payment _ (rent_of_row r c), a)
         at_duals terms (paid_row r same c sum) a = (terms, paid_row r terms c sum, a)

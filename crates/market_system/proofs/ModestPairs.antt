@@ -32,7 +32,7 @@ use Rattle.market_model.specs.LimitRows.{rows, row_id, row_factor}
 use Rattle.market_model.specs.NamedSums.{SameSize, term_at, IsSumStep}
 use Rattle.market_model.specs.Optimality.{bus_price, block_value, congestion_terms, names_row, named_rows, price_terms, net_shadow_price, unit_price, welfare_terms}
 use Rattle.market_model.specs.Settlement.{surplus_terms}
-use Rattle.market_model.specs.SumTables.{injection_at, balance_from_bus, balance_of_all, flow_of_line, limited_line, limited_row, FlowSum, flow_in_balance, flow_in_limits, output_of_unit, BusPriceSum, PriceSum, price_of_bus, congestion_at, price_at, farkas_bound_of_all, left_of_all, rent_of_row, SettledSum, paid_output, demand_of_bus, payment, paid_row}
+use Rattle.market_model.specs.SumTables.{injection_at, balance_from_bus, balance_of_all, flow_of_line, limited_line, limited_row, FlowSum, flow_in_balance, flow_in_limits, output_of_unit, BusPriceSum, PriceSum, price_of_bus, congestion_at, price_at, farkas_bound_of_all, left_of_all, paid_by_load, paid_to_unit, rent_of_row, SettledSum, paid_output, demand_of_bus, payment, paid_row}
 use Rattle.market_model.proofs.FarkasLaw.{farkas_terms-bare}
 use Rattle.market_model.proofs.RowLaws.{no_rows, no_row, bus_price-bare, congestion-bare}
 use Rattle.market_system.specs.MarketSystem.{balance_name, system_of, choice_dispatch, choice_duals}
@@ -280,6 +280,13 @@ module _ (m : Parts) (market : IsMarket m) (lines : m.lines ≡ []) (modest : Is
     settled_fits best terms (paid_output same (output_of_unit u lt)) =
         step_fits terms modest_mw (output_count m market modest (choice_dispatch m [] h) (best_small best) u) (output_each m market modest (choice_dispatch m [] h) (best_small best) u lt) (Prim.omega arith)
     settled_fits best terms (demand_of_bus i lt) = step_fits (demand_terms m i) modest_mw (Prim.omega arith) (load_within m market modest i lt, (shunt_within m market modest i lt, tt)) (Prim.omega arith)
+    settled_fits best terms (payment same (paid_by_load i lt)) = step_fits terms (modest_price * most_output) (Prim.omega arith)
+        (times_within modest_price most_output (bus_price m (choice_duals m [] h) i) (demand m i) (bus_price_within modest_price (choice_duals m [] h) i price_is_modest) (demand_within m market modest i lt), tt)
+        (Prim.omega arith)
+    settled_fits best terms (payment same (paid_to_unit u lt)) = step_fits terms (modest_price * most_output) (Prim.omega arith)
+        (times_within modest_price most_output (unit_price m (choice_duals m [] h) u) (output m (choice_dispatch m [] h) u) (bus_price_within modest_price (choice_duals m [] h) (unit_at m u).bus price_is_modest)
+        (output_within m market modest (choice_dispatch m [] h) (best_small best) u lt), tt)
+        (Prim.omega arith)
     settled_fits best terms (payment same left_of_all) = surplus_fits best
     settled_fits best terms (payment same (rent_of_row r c)) = absurd (no_named (choice_duals m [] h) r c)
     settled_fits best terms (paid_row r same c part) = absurd (no_named (choice_duals m [] h) r c)
