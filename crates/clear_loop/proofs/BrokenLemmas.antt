@@ -42,12 +42,6 @@ past_size f F Below h = inr (below_limit f F (above_limit (neg_ℚ f) F h))
 past_size f F Zero h = inl (above_limit f F h)
 past_size f F Above h = inl (above_limit f F h)
 
--- the size of a number is that or its opposite
-pub sized_by : (f : Fraction) (s : Sign) → SameSize (size_by s f) f
-sized_by f Below = inr refl
-sized_by f Zero = inl refl
-sized_by f Above = inl refl
-
 -- ---- the flows of a dispatch
 module _ (m : Parts) (market : IsMarket m) (x : Dispatch) (fs : List Fraction) (puts : fs ≡ flows_at m x) where
   abbrev flow_at : Row → Fraction
