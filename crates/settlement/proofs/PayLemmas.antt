@@ -31,26 +31,26 @@ module _ {N : Type 0} (value : N → Fraction) (m : Parts) (ds : List N) where
   abbrev pub welfare_to : ℕ → Fraction
   welfare_to k = total (map (λ j. Product (block_value m j) (accepted (dispatch_of value ds) j)) (places k))
 
+  -- the value of the block k
+  value_is : (k : ℕ) (block : Block) (worth : Fraction) → block ≡ block_at m k → worth ≡ neg_ℚ (signed_by_side block.side (whole block.price)) → worth ≡ block_value m k
+  value_is k block worth at is = is ∙ ap (λ (b : Block). neg_ℚ (signed_by_side b.side (whole b.price))) at
+
   -- the welfare with one block more
   pub welfare_step : (k : ℕ) (block : Block) (d : N) (worth old new : Fraction) → k < length ds → d ≡ get_or ds k d → block ≡ block_at m k → old ≡ welfare_to k
-      → worth ≡ neg_ℚ (signed_by_side block.side (whole block.price)) *ℚ value d → new ≡ old +ℚ worth → new ≡ welfare_to (k + 1)
+      → worth ≡ neg_ℚ (signed_by_side block.side (whole block.price)) → new ≡ old +ℚ worth *ℚ value d → new ≡ welfare_to (k + 1)
   welfare_step k block d worth old new h is at before w e =
       e
-      ∙ ap (λ t. old +ℚ t) (w ∙ ap (λ (b : Block). neg_ℚ (signed_by_side b.side (whole b.price)) *ℚ value d) at ∙ ap (λ v. block_value m k *ℚ v) (sym (accepted_is value ds k d h is)))
+      ∙ ap₂ (λ u v. old +ℚ u *ℚ v) (value_is k block worth at w) (sym (accepted_is value ds k d h is))
       ∙ ap (λ t. t +ℚ (block_value m k *ℚ accepted (dispatch_of value ds) k)) before
       ∙ sym (total-places_more (λ j. Product (block_value m j) (accepted (dispatch_of value ds) j)) k)
 
-  module _ (bound : ℕ) (p : Passed Fraction) where
-    -- what a block is worth is added
-    pub welfare_refused : (k : ℕ) (block : Block) (d : N) (sum : Fraction) → k < length m.blocks → k < length ds → d ≡ get_or ds k d → block ≡ block_at m k
-        → sum ≡ welfare_to k → IsShareRefusal sum (neg_ℚ (signed_by_side block.side (whole block.price))) (value d) bound p
-        → IsRefusedIn (welfare_terms m (dispatch_of value ds)) bound p
-    welfare_refused k block d sum below lt at same is h =
-        let x = dispatch_of value ds in
-        let f : ℕ → Term = λ j. Product (block_value m j) (accepted x j) in
-        let r = terms_at f (length m.blocks) k below in
-        share_at (welfare_terms m x) (map f (places k)) r.0 (f k) r.1 bound p sum (neg_ℚ (signed_by_side block.side (whole block.price))) (value d)
-        (ap₂ Product (sym (ap (λ (b : Block). neg_ℚ (signed_by_side b.side (whole b.price))) same)) (accepted_is value ds k d lt at)) is h
+  -- what a block is worth is added
+  pub welfare_refused : (k : ℕ) (block : Block) (d : N) (worth sum : Fraction) (bound : ℕ) (p : Passed Fraction) → k < length m.blocks → k < length ds → d ≡ get_or ds k d → block ≡ block_at m k
+      → sum ≡ welfare_to k → worth ≡ neg_ℚ (signed_by_side block.side (whole block.price)) → IsShareRefusal sum worth (value d) bound p → IsRefusedIn (welfare_terms m (dispatch_of value ds)) bound p
+  welfare_refused k block d worth sum bound p below lt at same is w h =
+      let f : ℕ → Term = λ j. Product (block_value m j) (accepted (dispatch_of value ds) j) in
+      let r = terms_at f (length m.blocks) k below in
+      share_at (welfare_terms m (dispatch_of value ds)) (map f (places k)) r.0 (f k) r.1 bound p sum worth (value d) (ap₂ Product (sym (value_is k block worth same w)) (accepted_is value ds k d lt at)) is h
 
 -- a price that was read by its place
 pub price_is : {N : Type 0} (value : N → Fraction) (prices : List (Price N)) (i : ℕ) (p : Price N) → i < length prices → total_at value prices i ≡ value (get_or prices i p).total

@@ -1,5 +1,6 @@
 use Rattle.std.proofs.Common.{rules, Err, refl, ◌<◌, ◌≡◌, ◌∙◌, ap, length, pos, arith}
 use Rattle.std.specs.Prelude.{slice_index_or}
+use Rattle.exact_fraction.proofs.Shares.{share_refused}
 use Rattle.market_model.specs.declared.participants.Side.TheVariants.{Sell}
 use Rattle.market_model.specs.Optimality.{welfare as welfare_of}
 use Rattle.settlement.proofs.PayLemmas.{welfare_step, welfare_refused}
@@ -12,7 +13,7 @@ loop-place-preserved g c =
     welfare_step g.N.Exact.value c.args.market.now c.args.dispatch.now c.loop-place.place _ c.index-dispatch-place.result _ _ _
     (omega (arith, c.requires, ap length blocks)) c.index-dispatch-place.is
     (ap (λ bs. slice_index_or bs c.loop-place.place (record { unit = 0; side = Sell; quantity = pos 0; price = pos 0 })) blocks)
-    c.loop-place.invariant refl c.in_ok-sum.ensures.worth
+    c.loop-place.invariant c.block_value.ensures c.in_ok-sum.ensures.exact
 
 pub returns-clause-worth : goal.returns-clause-worth
 unfolding welfare_of
@@ -32,5 +33,6 @@ returns-in_err-sum-clause-cause g c =
     let same = ap (λ bs. slice_index_or bs k (record { unit = 0; side = Sell; quantity = pos 0; price = pos 0 })) blocks in
     let inside : k < length c.args.dispatch.now = omega (arith, below, c.requires) in
     rw given
-    (welfare_refused value m c.args.dispatch.now g.N.Exact.bound (passed_at value c.in_err-sum.field-0.0) k _ c.index-dispatch-place.result (value c.loop-place.sum) below inside
-    c.index-dispatch-place.is same c.loop-place.invariant c.in_err-sum.ensures.cause)
+    (welfare_refused value m c.args.dispatch.now k _ c.index-dispatch-place.result (value c.block_value.result) (value c.loop-place.sum) g.N.Exact.bound (passed_at value c.in_err-sum.field-0.0) below inside
+    c.index-dispatch-place.is same c.loop-place.invariant c.block_value.ensures
+    (share_refused value g.N.Exact.bound c.loop-place.sum c.block_value.result c.index-dispatch-place.result c.in_err-sum.field-0.0 _ _ _ c.in_err-sum.ensures refl refl refl))
