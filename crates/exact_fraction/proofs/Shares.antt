@@ -26,7 +26,7 @@ pub share_refused : {N : Type 0} (value : N → Fraction) (bound : ℕ) (number 
     → IsPassedWith value bound number first second e → value number ≡ x → value first ≡ a → value second ≡ b → IsShareRefused bound x a b e.op (value e.left) (value e.right)
 share_refused value bound number first second e x a b h ex ea eb = record {
   too_large = subst (IsTooLarge bound) (ap₂ ◌+ℚ◌ ex (ap₂ ◌*ℚ◌ ea eb)) h.too_large;
-  passes = elim h.passed [ | inl p ↦ passes_at value bound Times first second e p | inr p ↦ passes_at value bound Plus number p.0 e p.2 ];
+  passes = elim h.passed [ inl p ↦ passes_at value bound Times first second e p | inr p ↦ passes_at value bound Plus number p.0 e p.2 ];
   way = elim h.passed [
     | inl p ↦ inl (p.same_op, ap value p.same_left ∙ ea, ap value p.same_right ∙ eb)
     | inr p ↦ inr (p.2.same_op, ap value p.2.same_left ∙ ex, ap value p.2.same_right ∙ p.1 ∙ ap₂ ◌*ℚ◌ ea eb)

@@ -41,10 +41,10 @@ IsScaling N kind a b = (N Factor a × IsCombined N kind b) ⊎ (IsCombined N kin
 -- a number x and a product that is added to it
 module _ (N : Kind → Fraction → Type 0) (kind : Kind) (x a b : Fraction) (number : N kind x) (scaling : IsScaling N kind a b) where
   product_case : IsPairCase N Times a b
-  product_case = elim scaling [ | inl n ↦ scaled_right kind a b n.0 n.1 | inr n ↦ scaled_left kind a b n.0 n.1 ]
+  product_case = elim scaling [ inl n ↦ scaled_right kind a b n.0 n.1 | inr n ↦ scaled_left kind a b n.0 n.1 ]
 
   product_summand : IsSummand N kind (a *ℚ b)
-  product_summand = elim scaling [ | inl n ↦ scaled a b n.0 n.1 | inr n ↦ subst (IsSummand N kind) (ring_ℚ.times_comm b a) (scaled b a n.1 n.0) ]
+  product_summand = elim scaling [ inl n ↦ scaled a b n.0 n.1 | inr n ↦ subst (IsSummand N kind) (ring_ℚ.times_comm b a) (scaled b a n.1 n.0) ]
 
   module _ (bound : ℕ) (op : Op) (l r : Fraction) (refused : IsShareRefused bound x a b op l r) where
     -- where their sum is refused, the operation is a case of a pair
