@@ -1,5 +1,5 @@
 -- A number less a whole one that it is above has no greater parts than it has itself.
-use Rattle.std.proofs.Common.{◌≡◌, ℕ, zero, suc, ℤ, pos, negsuc, arith, ap, sym, ◌∙◌, subst, subst₂, inl, inr, [], ◌∷◌, refl, ◌+◌, ◌*◌, ◌≤◌, ◌<◌, ◌/◌}
+use Rattle.std.proofs.Common.{◌≡◌, ℕ, zero, suc, ℤ, pos, negsuc, arith, sym, subst, inl, inr, [], ◌∷◌, refl, ◌*◌, ◌≤◌, ◌<◌}
 use Rattle.std.specs.Prelude.{◌+ℤ◌, ◌*ℤ◌, ◌≤ℤ◌, ◌<ℤ◌, neg_ℤ, unsigned_abs}
 use Rattle.std.proofs.lemmas.Int.{ints}
 use Rattle.std.proofs.Math.Nat.{div-le_self}

@@ -5,9 +5,9 @@ use Rattle.fraction_theory.specs.Fraction.{Fraction, whole, ◌+ℚ◌, ◌*ℚ�
 use Rattle.fraction_theory.proofs.FieldLaws.{ring_ℚ}
 use Rattle.fraction_theory.proofs.Ring.{at, by_ring, pmul, pnil, ◌⊕◌}
 use Rattle.exact_fraction.specs.declared.Op.{Op}
-use Rattle.exact_fraction.specs.declared.Op.TheVariants.{Plus, Minus, Times}
+use Rattle.exact_fraction.specs.declared.Op.TheVariants.{Plus, Times}
 use Rattle.exact_fraction.specs.declared.Passed.{Passed}
-use Rattle.exact_fraction.specs.Passes.{IsPassed, IsPassedWith, IsShareRefused, IsTooLarge, IsTooLargeAt, Passes, ProductPasses, outcome}
+use Rattle.exact_fraction.specs.Passes.{IsPassed, IsPassedWith, IsShareRefused, IsTooLarge, IsTooLargeAt, Passes, ProductPasses}
 
 -- the size of a number has no sign
 pub too_large_turned : (bound : ℕ) (x : Fraction) → IsTooLarge bound x → IsTooLarge bound (neg_ℚ x)

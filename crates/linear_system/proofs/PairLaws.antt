@@ -1,11 +1,11 @@
 -- Numbers of more than one origin: what holds of pairs where numbers of one sort are numbers of another.
 use Rattle.std.specs.Prelude.{◌≡◌, ℕ, ◌⊎◌}
-use Rattle.std.proofs.Common.{ap, ap₂, sym, ◌∙◌, subst, subst₂, inl, inr}
+use Rattle.std.proofs.Common.{sym, subst, subst₂, inl, inr}
 use Rattle.fraction_theory.specs.Fraction.{Fraction, ◌+ℚ◌, ◌-ℚ◌, ◌*ℚ◌}
 use Rattle.fraction_theory.proofs.FieldLaws.{ring_ℚ}
 use Rattle.exact_fraction.specs.declared.Op.{Op}
 use Rattle.exact_fraction.specs.declared.Op.TheVariants.{Plus, Minus, Times}
-use Rattle.exact_fraction.specs.Passes.{IsShareRefused, IsTooLarge, outcome}
+use Rattle.exact_fraction.specs.Passes.{IsShareRefused, IsTooLarge}
 use Rattle.linear_system.specs.Numbers.{Kind, Factor}
 use Rattle.linear_system.specs.Pairs.{IsCombined, alone, sum, difference, IsSummand, plain, scaled, IsPairCase, added, subtracted, scaled_right, scaled_left, Makes, itself, added_to, IsForLarge}
 
