@@ -18,8 +18,7 @@ pub returns-in_err-flow-clause-cause : goal.returns-in_err-flow-clause-cause
 returns-in_err-flow-clause-cause g c =
     let m = c.args.market.now in
     let given : c.from_residual.result ≡ Err c.in_err-flow.field-0.0 = search rules in
-    rw given
-    (
+    rw given (
       flow_terms m (line_in m (map g.N.Exact.value c.args.flows.now)) c.args.row,
       flow_of_row,
       subst (λ f. IsRefusedIn (flow_terms m f c.args.row) g.N.Exact.bound (passed_at g.N.Exact.value c.in_err-flow.field-0.0)) c.line_flows.ensures.is c.in_err-flow.ensures.cause,
