@@ -8,7 +8,7 @@ ghost use Rattle.market_model.specs.Dispatch.{Dispatch, balance, empty};
 ghost use Rattle.market_model.specs.Infeasibility.{farkas_bound, limit_terms, nothing_terms, part_above};
 ghost use Rattle.market_model.specs.LimitRows.{IsCauseAmong, flow, limit};
 ghost use Rattle.market_model.specs.Optimality.{unit_price};
-ghost use Rattle.market_model.specs.Stops.{OnPassed};
+ghost use Rattle.market_model.specs.Stops.{StopsBy};
 ghost use Rattle.market_model.specs.Valued.{passed_at};
 ghost use Rattle.market_model.specs.NamedSums.{IsShareRefusal};
 ghost use Rattle.limit_rows.specs.LineFlows.{AreFlows};
@@ -142,7 +142,7 @@ pub fn farkas_bound<N: Exact>(
 ) -> Result<N, Stop<N>>
     requires { (d : Duals Fraction) × AreNamed N.value market.now d named.now }
     ensures bound { (d : Duals Fraction) → N.value energy ≡ d.energy → AreNamed N.value market.now d named.now → IfOk result (λ bound. N.value bound ≡ farkas_bound market.now d) }
-    ensures cause { (d : Duals Fraction) → N.value energy ≡ d.energy → AreNamed N.value market.now d named.now → IfErr result (λ stop. OnPassed stop (λ p. IsFarkasPair market.now d N.bound (passed_at N.value p))) }
+    ensures cause { (d : Duals Fraction) → N.value energy ≡ d.energy → AreNamed N.value market.now d named.now → IfErr result (StopsBy N.value (IsFarkasPair market.now d N.bound)) }
 {
     let nothing = zeros(alloc, market.blocks().len())?;
     let by_bus = injections(alloc, market, &nothing)?;

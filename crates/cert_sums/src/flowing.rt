@@ -3,9 +3,8 @@
 ghost use Rattle.std.specs.Prelude.{◌≡◌, length, map, vec_len, IfOk, IfErr};
 ghost use Rattle.market_model.specs.Dispatch.{Dispatch, injection};
 ghost use Rattle.market_model.specs.PutIn.{AreInjections};
-ghost use Rattle.market_model.specs.Stops.{OnPassed};
+ghost use Rattle.market_model.specs.Stops.{StopsBy};
 ghost use Rattle.market_model.specs.SumTables.{IsRefusedAmong, LineFlowSum};
-ghost use Rattle.market_model.specs.Valued.{passed_at};
 ghost use Rattle.limit_rows.specs.LineFlows.{AreFlows};
 
 use exact_fraction::Exact;
@@ -22,7 +21,7 @@ pub fn line_flows<N: Exact>(
     requires { length injections.now ≡ length market.now.buses }
     ensures count { IfOk result (λ flows. vec_len flows ≡ length market.now.lines) }
     ensures flows { (x : Dispatch) → AreInjections market.now x (map N.value injections.now) → IfOk result (λ flows. AreFlows market.now x (map N.value flows.items)) }
-    ensures cause { (x : Dispatch) → AreInjections market.now x (map N.value injections.now) → IfErr result (λ stop. OnPassed stop (λ p. IsRefusedAmong (LineFlowSum market.now (injection market.now x)) N.bound (passed_at N.value p))) }
+    ensures cause { (x : Dispatch) → AreInjections market.now x (map N.value injections.now) → IfErr result (StopsBy N.value (IsRefusedAmong (LineFlowSum market.now (injection market.now x)) N.bound)) }
 {
     let mut flows = zeros(alloc, market.lines().len())?;
     put_line_flows(market, injections, &mut flows)?;

@@ -2,9 +2,8 @@
 
 ghost use Rattle.std.specs.Prelude.{◌≡◌, length, map, vec_len, IfOk, IfErr};
 ghost use Rattle.market_model.specs.PutIn.{dispatch_of, AreInjections};
-ghost use Rattle.market_model.specs.Stops.{OnPassed};
+ghost use Rattle.market_model.specs.Stops.{StopsBy};
 ghost use Rattle.market_model.specs.SumTables.{IsRefusedAmong, InjectionSum};
-ghost use Rattle.market_model.specs.Valued.{passed_at};
 
 use exact_fraction::Exact;
 use market_model::{Market, Stop, zeros};
@@ -19,7 +18,7 @@ pub fn injections<N: Exact>(
     requires { length dispatch.now ≡ length market.now.blocks }
     ensures count { IfOk result (λ mws. vec_len mws ≡ length market.now.buses) }
     ensures injections { IfOk result (λ mws. AreInjections market.now (dispatch_of N.value dispatch.now) (map N.value mws.items)) }
-    ensures cause { IfErr result (λ stop. OnPassed stop (λ p. IsRefusedAmong (InjectionSum market.now (dispatch_of N.value dispatch.now)) N.bound (passed_at N.value p))) }
+    ensures cause { IfErr result (StopsBy N.value (IsRefusedAmong (InjectionSum market.now (dispatch_of N.value dispatch.now)) N.bound)) }
 {
     let mut mws = zeros(alloc, market.buses().len())?;
     market_model::injections(market, dispatch, &mut mws)?;

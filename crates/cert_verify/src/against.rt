@@ -4,8 +4,8 @@ ghost use Rattle.std.specs.Prelude.{◌≡◌, length, map, not, IfOk, IfErr};
 ghost use Rattle.fraction_theory.specs.Fraction.{Fraction};
 ghost use Rattle.market_model.specs.Dispatch.{places, zero};
 ghost use Rattle.market_model.specs.Optimality.{bus_price};
-ghost use Rattle.market_model.specs.Stops.{OnPassed};
-ghost use Rattle.market_model.specs.Valued.{dual_at, passed_at};
+ghost use Rattle.market_model.specs.Stops.{StopsBy};
+ghost use Rattle.market_model.specs.Valued.{dual_at};
 ghost use Rattle.cert_format.specs.Certificates.{NamesNoRowTwice};
 ghost use Rattle.cert_sums.specs.Pairs.{IsFarkasPair};
 ghost use Rattle.cert_sums.specs.Refusals.{IsBusPriceRefusal};
@@ -51,7 +51,7 @@ fn wrong_flow<N: Exact>(
 ) -> Result<Option<Reason>, Stop<N>>
     requires { length blocks.now ≡ length market.now.blocks }
     ensures first { IfOk result (λ first. first ≡ first_of (flow_reasons market.now (dispatch_of N.value blocks.now) (map (dual_at N.value) limits.now))) }
-    ensures cause { (energy : Fraction) → NoneOf (part_reasons market.now (dispatch_of N.value blocks.now) (map (dual_at N.value) limits.now)) → IfErr result (λ stop. OnPassed stop (λ p. IsOptimalStop market.now (dispatch_of N.value blocks.now) (named_duals energy (map (dual_at N.value) limits.now)) N.bound (passed_at N.value p))) }
+    ensures cause { (energy : Fraction) → NoneOf (part_reasons market.now (dispatch_of N.value blocks.now) (map (dual_at N.value) limits.now)) → IfErr result (StopsBy N.value (IsOptimalStop market.now (dispatch_of N.value blocks.now) (named_duals energy (map (dual_at N.value) limits.now)) N.bound)) }
 {
     let by_bus = injections(alloc, market, blocks)?;
     if differ(balance(market, &by_bus)?, datum(0)) {
@@ -73,7 +73,7 @@ fn bus_prices<N: Exact>(
 ) -> Result<List<N>, Stop<N>>
     requires { NamesNoRowTwice (map (dual_at N.value) limits.now) }
     ensures prices { IfOk result (λ prices. map N.value prices ≡ map (bus_price market.now (named_duals (N.value energy) (map (dual_at N.value) limits.now))) (places (length market.now.buses))) }
-    ensures cause { IfErr result (λ stop. OnPassed stop (λ p. IsBusPriceRefusal market.now (named_duals (N.value energy) (map (dual_at N.value) limits.now)) N.bound (passed_at N.value p))) }
+    ensures cause { IfErr result (StopsBy N.value (IsBusPriceRefusal market.now (named_duals (N.value energy) (map (dual_at N.value) limits.now)) N.bound)) }
 {
     let named = match named_rows(alloc, market, limits) {
         Ok(named) => named,
@@ -100,7 +100,7 @@ fn wrong_support<N: Exact>(
     requires blocks { length blocks.now ≡ length market.now.blocks }
     requires distinct { NamesNoRowTwice (map (dual_at N.value) limits.now) }
     ensures first { IfOk result (λ first. first ≡ support_reason market.now (dispatch_of N.value blocks.now) (named_duals (N.value energy) (map (dual_at N.value) limits.now))) }
-    ensures cause { IfErr result (λ stop. OnPassed stop (λ p. IsBusPriceRefusal market.now (named_duals (N.value energy) (map (dual_at N.value) limits.now)) N.bound (passed_at N.value p))) }
+    ensures cause { IfErr result (StopsBy N.value (IsBusPriceRefusal market.now (named_duals (N.value energy) (map (dual_at N.value) limits.now)) N.bound)) }
 {
     let prices = bus_prices(alloc, market, energy, limits)?;
     Ok(unsupported_block(market, blocks, prices.slice()))
@@ -116,7 +116,7 @@ pub(crate) fn against_optimal<N: Exact>(
 ) -> Result<Option<Reason>, Stop<N>>
     requires { NamesNoRowTwice (map (dual_at N.value) limits.now) }
     ensures first { IfOk result (λ first. first ≡ first_of (optimal_reasons market.now (dispatch_of N.value blocks.now) (named_duals (N.value energy) (map (dual_at N.value) limits.now)))) }
-    ensures cause { IfErr result (λ stop. OnPassed stop (λ p. IsOptimalStop market.now (dispatch_of N.value blocks.now) (named_duals (N.value energy) (map (dual_at N.value) limits.now)) N.bound (passed_at N.value p))) }
+    ensures cause { IfErr result (StopsBy N.value (IsOptimalStop market.now (dispatch_of N.value blocks.now) (named_duals (N.value energy) (map (dual_at N.value) limits.now)) N.bound)) }
 {
     if let Some(reason) = wrong_part(market, blocks, limits) {
         return Ok(Some(reason));
@@ -147,7 +147,7 @@ fn wrong_bound<N: Exact>(
 ) -> Result<Option<Reason>, Stop<N>>
     requires { NamesNoRowTwice (map (dual_at N.value) limits.now) }
     ensures first { IfOk result (λ first. first ≡ bound_reason market.now (named_duals (N.value energy) (map (dual_at N.value) limits.now))) }
-    ensures cause { IfErr result (λ stop. OnPassed stop (λ p. IsFarkasPair market.now (named_duals (N.value energy) (map (dual_at N.value) limits.now)) N.bound (passed_at N.value p))) }
+    ensures cause { IfErr result (StopsBy N.value (IsFarkasPair market.now (named_duals (N.value energy) (map (dual_at N.value) limits.now)) N.bound)) }
 {
     let named = match named_rows(alloc, market, limits) {
         Ok(named) => named,
@@ -166,7 +166,7 @@ pub(crate) fn against_farkas<N: Exact>(
 ) -> Result<Option<Reason>, Stop<N>>
     requires { NamesNoRowTwice (map (dual_at N.value) limits.now) }
     ensures first { IfOk result (λ first. first ≡ first_of (farkas_reasons market.now (named_duals (N.value energy) (map (dual_at N.value) limits.now)))) }
-    ensures cause { IfErr result (λ stop. OnPassed stop (λ p. IsFarkasStop market.now (named_duals (N.value energy) (map (dual_at N.value) limits.now)) N.bound (passed_at N.value p))) }
+    ensures cause { IfErr result (StopsBy N.value (IsFarkasStop market.now (named_duals (N.value energy) (map (dual_at N.value) limits.now)) N.bound)) }
 {
     if let Some(reason) = missing_row(market, limits) {
         return Ok(Some(reason));

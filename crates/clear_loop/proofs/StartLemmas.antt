@@ -11,11 +11,11 @@ use Rattle.market_model.specs.declared.participants.Parts.{Parts}
 use Rattle.market_model.specs.declared.limits.Row.{Row}
 use Rattle.market_model.specs.LimitRows.{rows as rows_of_market, row_id}
 use Rattle.market_model.specs.Market.{IsMarket}
-use Rattle.market_model.specs.Valued.{duals_at, passed_at}
+use Rattle.market_model.specs.Valued.{duals_at}
 use Rattle.market_system.specs.Growth.{Growth, PricesOnly}
 use Rattle.market_system.specs.SolvedLaws.{AreRows}
 use Rattle.market_system.proofs.GrowthLaws.{growth_none}
-use Rattle.market_model.specs.Stops.{OnPassed}
+use Rattle.market_model.specs.Stops.{StopsBy}
 use Rattle.market_dict.specs.Holding.{HoldsMarket}
 use Rattle.market_dict.specs.Refusals.{IsBoundsRefusal}
 use Rattle.market_dict.specs.PricesAndBounds.{ArePricesAndBounds}
@@ -69,7 +69,7 @@ module _ (m : Parts) (k : Kept) (w : Option Dictionary) (t : Option Taken) (view
       are.rows r (subst (λ (xs : List Row). Contains xs r) same here)
 
   module _ {N : Type 0} (worth : N → Fraction) (warm : Option Dictionary) (start : HoldsStart m k.rows warm) where
-    pub first_stop : (bound : ℕ) (s : Stop N) → IsMarket m → OnPassed s (λ p. IsBoundsRefusal m bound (passed_at worth p)) → StopsInRange worth bound m k.rows s
+    pub first_stop : (bound : ℕ) (s : Stop N) → IsMarket m → StopsBy worth (IsBoundsRefusal m bound) s → StopsInRange worth bound m k.rows s
     first_stop bound s market refused = terms_stop worth bound m k.rows k.rows (choice_of start.0) s market (growth_none m k.rows) (holds_choice m k.rows start.0 start.2) refused
 
     pub first_in_hand : (posing : PricesAndBounds N) (ls : List Row) → ls ≡ taken.rows → ArePricesAndBounds worth m ls posing → IsInHand worth m (record { warm = warm; posing = posing; taken = taken })

@@ -9,7 +9,7 @@ use Rattle.market_model.specs.Dispatch.{Dispatch}
 use Rattle.market_model.specs.declared.limits.Row.{Row}
 use Rattle.market_model.specs.Market.{IsMarket}
 use Rattle.market_model.specs.Optimality.{Feasible}
-use Rattle.market_model.specs.Stops.{OnPassed}
+use Rattle.market_model.specs.Stops.{StopsBy}
 use Rattle.market_model.specs.SumTables.{IsRefusedAmong, PriceSum}
 use Rattle.market_model.specs.Valued.{passed_at}
 use Rattle.market_system.specs.Growth.{Growth}
@@ -34,7 +34,7 @@ module _ {N : Type 0} (value : N → Fraction) (bound : ℕ) (m : Parts) where
   pair_stop t g stop.Memory grown pair = tt
 
   -- where prices and bounds are made
-  pub terms_stop : (t g : List Row) (h : Choice) (s : Stop N) → IsMarket m → Growth m t g → IsChoice (system_of m g) h → OnPassed s (λ p. IsBoundsRefusal m bound (passed_at value p)) → StopsInRange value bound m t s
+  pub terms_stop : (t g : List Row) (h : Choice) (s : Stop N) → IsMarket m → Growth m t g → IsChoice (system_of m g) h → StopsBy value (IsBoundsRefusal m bound) s → StopsInRange value bound m t s
   terms_stop t g h (stop.Passed p) market grown choice refused = posing_range m t g h bound (passed_at value p) market grown choice refused
   terms_stop t g h stop.Memory market grown choice refused = tt
 
@@ -45,14 +45,14 @@ module _ {N : Type 0} (value : N → Fraction) (bound : ℕ) (m : Parts) where
 
   module _ (g : List Row) (x : Dispatch) (d : Duals Fraction) (market : IsMarket m) (solved : IsSolvedBy m g x d) where
     -- where a dispatch is screened
-    pub screen_stop : (s : Stop N) → OnPassed s (λ p. IsFlowsRefusal m x bound (passed_at value p) ⊎ IsScreenRefusal m (line_in m (flows_at m x)) bound (passed_at value p)) → StopsInRange value bound m g s
+    pub screen_stop : (s : Stop N) → StopsBy value (λ p. IsFlowsRefusal m x bound p ⊎ IsScreenRefusal m (line_in m (flows_at m x)) bound p) s → StopsInRange value bound m g s
     screen_stop (stop.Passed p) (inl a) = flows_range m g x d market solved bound (passed_at value p) a
     screen_stop (stop.Passed p) (inr a) = screen_range m g x d market solved bound (passed_at value p) a
     screen_stop stop.Memory a = tt
 
     -- where it is priced and settled
     module _ (feasible : Feasible m x) where
-      pub price_stop : (s : Stop N) → OnPassed s (λ p. IsRefusedAmong (PriceSum m d) bound (passed_at value p)) → StopsInRange value bound m g s
+      pub price_stop : (s : Stop N) → StopsBy value (IsRefusedAmong (PriceSum m d) bound) s → StopsInRange value bound m g s
       price_stop (stop.Passed p) a = price_range m g x d market solved bound (passed_at value p) feasible a
       price_stop stop.Memory a = tt
 

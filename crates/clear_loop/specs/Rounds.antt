@@ -13,11 +13,11 @@ use Rattle.market_model.specs.LimitRows.{flow, most_flow, rows, row_id}
 use Rattle.market_model.specs.Optimality.{AreWithin}
 use Rattle.market_model.specs.Overrun.{IsWorst}
 use Rattle.market_model.specs.RightAnswers.{IsRight}
-use Rattle.market_model.specs.Valued.{answer_at, duals_at, farkas_at, passed_at}
+use Rattle.market_model.specs.Valued.{answer_at, duals_at, farkas_at}
 use Rattle.market_system.specs.Growth.{BestFor, Broken, PricesOnly}
 use Rattle.market_system.specs.WorkingPairs.{IsRangeOf}
 use Rattle.limit_screen.specs.Flows.{flows_at}
-use Rattle.market_model.specs.Stops.{OnPassed}
+use Rattle.market_model.specs.Stops.{StopsBy}
 use Rattle.market_dict.specs.Holding.{HoldsMarket}
 use Rattle.market_dict.specs.PricesAndBounds.{ArePricesAndBounds}
 use Rattle.market_model.specs.declared.stops.Stop.{Stop}
@@ -66,4 +66,4 @@ IsRound value m g (round.Done ended) = IsEnded value m ended × (rows_in ended.t
 
 -- where numbers became too large, the two are a working pair of the market over rows reached from those taken
 abbrev pub StopsInRange : {N : Type 0} → (N → Fraction) → ℕ → Parts → List Row → Stop N → Type 0
-StopsInRange value bound m taken stop = OnPassed stop (λ p. IsRangeOf m taken bound (passed_at value p))
+StopsInRange value bound m taken stop = StopsBy value (IsRangeOf m taken bound) stop

@@ -6,9 +6,9 @@ ghost use Rattle.market_model.specs.Fitting.{FitsMarket};
 ghost use Rattle.market_model.specs.declared.limits.Row.{Row};
 ghost use Rattle.market_model.specs.Optimality.{Feasible, ProperDuals};
 ghost use Rattle.market_model.specs.RightAnswers.{IsRight, price_made};
-ghost use Rattle.market_model.specs.Stops.{OnPassed};
+ghost use Rattle.market_model.specs.Stops.{StopsBy};
 ghost use Rattle.market_model.specs.SumTables.{IsRefusedAmong, PriceSum};
-ghost use Rattle.market_model.specs.Valued.{answer_at, duals_at, passed_at, price_at};
+ghost use Rattle.market_model.specs.Valued.{answer_at, duals_at, price_at};
 ghost use Rattle.market_model.specs.PutIn.{dispatch_of};
 ghost use Rattle.limit_screen.specs.Flows.{flows_at};
 ghost use Rattle.market_dict.specs.Findings.{IsSolvedBy};
@@ -29,7 +29,7 @@ fn bus_prices<N: Exact>(
 ) -> Result<List<Price<N>>, Stop<N>>
     requires { ProperDuals market.now (duals_at N.value duals.now) }
     ensures prices { IfOk result (λ prices. map (price_at N.value) prices ≡ map (price_made market.now (duals_at N.value duals.now)) (places (length market.now.buses))) }
-    ensures cause { IfErr result (λ stop. OnPassed stop (λ p. IsRefusedAmong (PriceSum market.now (duals_at N.value duals.now)) N.bound (passed_at N.value p))) }
+    ensures cause { IfErr result (StopsBy N.value (IsRefusedAmong (PriceSum market.now (duals_at N.value duals.now)) N.bound)) }
 {
     let none: N = datum(0);
     let unpriced = Price {

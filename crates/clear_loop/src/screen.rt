@@ -1,8 +1,7 @@
 //! The limits that a dispatch breaks.
 
 ghost use Rattle.std.specs.Prelude.{◌≡◌, ◌⊎◌, length, IfOk, IfErr};
-ghost use Rattle.market_model.specs.Stops.{OnPassed};
-ghost use Rattle.market_model.specs.Valued.{passed_at};
+ghost use Rattle.market_model.specs.Stops.{StopsBy};
 ghost use Rattle.market_model.specs.PutIn.{dispatch_of};
 ghost use Rattle.limit_screen.specs.Flows.{flows_at, line_in, IsFlowsRefusal};
 ghost use Rattle.limit_screen.specs.Screening.{IsScreenRefusal};
@@ -30,8 +29,8 @@ pub(crate) fn screened_at<N: Exact>(
 ) -> Result<Screened<N>, Stop<N>>
     requires { length dispatch.now ≡ length market.now.blocks }
     ensures screened { IfOk result (IsScreened N.value market.now (dispatch_of N.value dispatch.now)) }
-    ensures cause { IfErr result (λ stop. OnPassed stop (λ p. IsFlowsRefusal market.now (dispatch_of N.value dispatch.now) N.bound (passed_at N.value p)
-        ⊎ IsScreenRefusal market.now (line_in market.now (flows_at market.now (dispatch_of N.value dispatch.now))) N.bound (passed_at N.value p))) }
+    ensures cause { IfErr result (StopsBy N.value (λ p. IsFlowsRefusal market.now (dispatch_of N.value dispatch.now) N.bound p
+        ⊎ IsScreenRefusal market.now (line_in market.now (flows_at market.now (dispatch_of N.value dispatch.now))) N.bound p)) }
 {
     let _lines = market.lines();
     let by_place = flows_made(alloc, market, dispatch)?;

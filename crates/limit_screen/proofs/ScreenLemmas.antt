@@ -29,7 +29,7 @@ use Rattle.market_model.proofs.MorePlaces.{places_more}
 use Rattle.limit_rows.proofs.FlowSteps.{flow_terms-same}
 use Rattle.limit_rows.proofs.NumberingLemmas.{row_on, all_before}
 use Rattle.limit_rows.proofs.PlaceLemmas.{at_places}
-use Rattle.limit_screen.specs.declared.screening.Broken.{Broken}
+use Rattle.limit_screen.specs.declared.screening.RowOverrun.{RowOverrun}
 use Rattle.market_model.specs.Market.{IsMarket}
 use Rattle.limit_screen.specs.Flows.{flows_at, line_in, LawOfRowFlows}
 use Rattle.limit_screen.specs.Screening.{AllHold, IsWorstOf, overrun_by, rows_to}
@@ -92,7 +92,7 @@ old_worst e rs place old r h less =
     }
 
 -- a row that holds changes nothing
-pub held : {N : Type 0} (value : N → Fraction) (e : Row → Fraction) (rs : List Row) (r : Row) (worst : Option (Broken N)) → IsWorstOf value e rs worst → e r ≤ℚ whole (pos 0) → IsWorstOf value e (rs ++ r ∷ []) worst
+pub held : {N : Type 0} (value : N → Fraction) (e : Row → Fraction) (rs : List Row) (r : Row) (worst : Option (RowOverrun N)) → IsWorstOf value e rs worst → e r ≤ℚ whole (pos 0) → IsWorstOf value e (rs ++ r ∷ []) worst
 held value e rs r None before h = all_hold e rs r before h
 held value e rs r (Some b) ((place, worst), is) h = ((place, old_worst e rs place b.row r worst (≤ℚ_trans (e r) (whole (pos 0)) (e b.row) h (<ℚ-≤ℚ (whole (pos 0)) (e b.row) worst.broken))), is)
 

@@ -12,7 +12,7 @@ use Rattle.market_model.specs.declared.limits.Row.{Row}
 use Rattle.market_model.specs.LimitRows.{causes, flow_by, limit, row_id, rows, rows_of}
 use Rattle.market_model.specs.Optimality.{AreWithin}
 use Rattle.market_model.specs.SumTables.{IsRefusedAmong, RowFlowSum}
-use Rattle.limit_screen.specs.declared.screening.Broken.{Broken}
+use Rattle.limit_screen.specs.declared.screening.RowOverrun.{RowOverrun}
 
 -- all limits of the market hold
 abbrev pub AllHold : Parts → (ℕ → Fraction) → Type 0
@@ -31,7 +31,7 @@ abbrev pub overrun_by : Parts → (ℕ → Fraction) → Row → Fraction
 overrun_by m f r = overrun m r (flow_by m f r)
 
 -- the worst of some rows with its overrun, the first of several, or none where all of them hold
-abbrev pub IsWorstOf : {N : Type 0} → (N → Fraction) → (Row → Fraction) → List Row → Option (Broken N) → Type 0
+abbrev pub IsWorstOf : {N : Type 0} → (N → Fraction) → (Row → Fraction) → List Row → Option (RowOverrun N) → Type 0
 IsWorstOf value e rs None = All (λ s. e s ≤ℚ zero) rs
 IsWorstOf value e rs (Some b) = ((place : ℕ) × IsFirstMost e rs place b.row) × (value b.overrun ≡ e b.row)
 

@@ -3,7 +3,7 @@
 ghost use Rattle.std.specs.Prelude.{◌≡◌, ◌+◌, length, map, IfOk, IfErr};
 ghost use Rattle.market_model.specs.Dispatch.{Dispatch};
 ghost use Rattle.market_model.specs.PutIn.{AreInjections, dispatch_of, put_in};
-ghost use Rattle.market_model.specs.Stops.{OnPassed};
+ghost use Rattle.market_model.specs.Stops.{StopsBy};
 ghost use Rattle.market_model.specs.Valued.{passed_at};
 ghost use Rattle.limit_screen.specs.Flows.{flows_at, line_in, IsFlowsRefusal};
 
@@ -33,7 +33,7 @@ pub fn flows_made<N: Exact>(
 ) -> Result<Vec<N>, Stop<N>>
     requires { length dispatch.now ≡ length market.now.blocks }
     ensures flows { IfOk result (λ flows. map N.value flows.items ≡ flows_at market.now (dispatch_of N.value dispatch.now)) }
-    ensures cause { IfErr result (λ stop. OnPassed stop (λ p. IsFlowsRefusal market.now (dispatch_of N.value dispatch.now) N.bound (passed_at N.value p))) }
+    ensures cause { IfErr result (StopsBy N.value (IsFlowsRefusal market.now (dispatch_of N.value dispatch.now) N.bound)) }
 {
     let mut by_place = zeros(alloc, market.buses().len() + market.lines().len())?;
     flows(market, dispatch, &mut by_place)?;

@@ -20,7 +20,7 @@ use std::cmp::Ordering;
 
 /// A row whose limit is passed.
 #[derive(Clone, Copy, Debug)]
-struct Broken<N> {
+struct RowOverrun<N> {
     row: Row,
     /// By how much, in 10^-9 MW.
     overrun: N,
@@ -50,16 +50,16 @@ fn beyond<N: Exact>(flow: N, limit: N) -> Result<Option<N>, Passed<N>>
 }
 
 /// The worse of two rows, and the first where they are as bad.
-fn worse<N: Exact>(worst: Option<Broken<N>>, row: Row, overrun: N) -> Option<Broken<N>>
+fn worse<N: Exact>(worst: Option<RowOverrun<N>>, row: Row, overrun: N) -> Option<RowOverrun<N>>
     requires { zero <ℚ N.value overrun }
     ensures { (e : Row → Fraction) (rs : List Row) → IsWorstOf N.value e rs worst → N.value overrun ≡ e row → IsWorstOf N.value e (rs ++ row ∷ []) result }
 {
     match worst {
         Some(broken) => match overrun.order(broken.overrun) {
-            Ordering::Greater => Some(Broken { row, overrun }),
+            Ordering::Greater => Some(RowOverrun { row, overrun }),
             Ordering::Less | Ordering::Equal => Some(broken),
         },
-        None => Some(Broken { row, overrun }),
+        None => Some(RowOverrun { row, overrun }),
     }
 }
 
@@ -68,8 +68,8 @@ fn with_row<N: Exact>(
     market: &Market,
     flows: &[N],
     row: Row,
-    worst: Option<Broken<N>>,
-) -> Result<Option<Broken<N>>, Passed<N>>
+    worst: Option<RowOverrun<N>>,
+) -> Result<Option<RowOverrun<N>>, Passed<N>>
     requires flows { length flows.now ≡ length market.now.buses + length market.now.lines }
     requires line { row.line < length market.now.lines }
     requires lost { IsCauseAmong (length market.now.lines) row.cause }
@@ -88,8 +88,8 @@ fn with_cause<N: Exact>(
     market: &Market,
     flows: &[N],
     place: usize,
-    before: Option<Broken<N>>,
-) -> Result<Option<Broken<N>>, Passed<N>>
+    before: Option<RowOverrun<N>>,
+) -> Result<Option<RowOverrun<N>>, Passed<N>>
     requires flows { length flows.now ≡ length market.now.buses + length market.now.lines }
     requires place { place < length (causes market.now) }
     requires before { IsWorstOf N.value (overrun_by market.now (line_in market.now (map N.value flows.now))) (rows_to market.now place) before }

@@ -5,7 +5,7 @@ ghost use Rattle.market_model.specs.Dispatch.{empty, balance_terms};
 ghost use Rattle.market_model.specs.declared.limits.Row.{Row};
 ghost use Rattle.market_model.specs.LimitRows.{rows};
 ghost use Rattle.market_model.specs.NamedSums.{IsRefusedIn};
-ghost use Rattle.market_model.specs.Stops.{OnPassed};
+ghost use Rattle.market_model.specs.Stops.{StopsBy};
 ghost use Rattle.market_model.specs.Valued.{passed_at};
 ghost use Rattle.market_system.specs.MarketSystem.{residual_demand as residual_demand_of, least_added, most_added};
 ghost use Rattle.limit_screen.specs.Flows.{flows_at, IsFlowsRefusal};
@@ -46,7 +46,7 @@ fn block_prices<N: Exact>(alloc: Global, market: &Market) -> Result<List<N>, Mem
 /// Where nothing is accepted, what each bus puts in and then what each line carries.
 fn base_flows_of<N: Exact>(alloc: Global, market: &Market) -> Result<Vec<N>, Stop<N>>
     ensures flows { IfOk result (λ base_flows. map N.value base_flows.items ≡ flows_at market.now (empty market.now)) }
-    ensures cause { IfErr result (λ stop. OnPassed stop (λ p. IsFlowsRefusal market.now (empty market.now) N.bound (passed_at N.value p))) }
+    ensures cause { IfErr result (StopsBy N.value (IsFlowsRefusal market.now (empty market.now) N.bound)) }
 {
     let nothing = zeros(alloc, market.blocks().len())?;
     flows_made(alloc, market, &nothing)
@@ -109,7 +109,7 @@ pub fn prices_and_bounds<N: Exact>(
 ) -> Result<PricesAndBounds<N>, Stop<N>>
     requires rows { All (λ r. Contains (rows market.now) r) taken.now }
     ensures posing { IfOk result (ArePricesAndBounds N.value market.now taken.now) }
-    ensures cause { IfErr result (λ stop. OnPassed stop (λ p. IsBoundsRefusal market.now N.bound (passed_at N.value p))) }
+    ensures cause { IfErr result (StopsBy N.value (IsBoundsRefusal market.now N.bound)) }
 {
     let prices = block_prices(alloc, market)?;
     let base_flows = base_flows_of(alloc, market)?;
@@ -135,7 +135,7 @@ pub fn take_bounds<N: Exact>(
     requires row { Contains (rows market.now) row }
     requires posing { (g : List Row) × ArePricesAndBounds N.value market.now g posing.old }
     ensures taken { (g : List Row) → ArePricesAndBounds N.value market.now g posing.old → IfOk result (λ _. ArePricesAndBounds N.value market.now (g ++ row ∷ []) posing.new) }
-    ensures cause { IfErr result (λ stop. OnPassed stop (λ p. IsBoundsRefusal market.now N.bound (passed_at N.value p))) }
+    ensures cause { IfErr result (StopsBy N.value (IsBoundsRefusal market.now N.bound)) }
 {
     let bounds = row_bounds(market, &posing.base_flows, row)?;
     posing.bounds.push(bounds)?;

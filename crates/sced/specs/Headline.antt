@@ -17,8 +17,8 @@ use Rattle.market_model.specs.declared.limits.Row.{Row}
 use Rattle.market_model.specs.declared.participants.Parts.{Parts}
 use Rattle.market_model.specs.Dispatch.{Dispatch, IsDispatch, balance, places, zero}
 use Rattle.market_model.specs.Infeasibility.{IsFarkas}
-use Rattle.market_model.specs.LimitRows.{flow, limit, rows}
-use Rattle.market_model.specs.Optimality.{Feasible, ProperDuals, Supports, Within, bus_price, welfare}
+use Rattle.market_model.specs.LimitRows.{flow, most_flow, rows}
+use Rattle.market_model.specs.Optimality.{AreWithin, Feasible, ProperDuals, Supports, bus_price, welfare}
 use Rattle.market_model.specs.RightAnswers.{dispatch_in, price_made, settlement_at}
 use Rattle.market_model.specs.Settlement.{rent}
 use Rattle.market_system.specs.Outcomes.{IsDecided}
@@ -117,7 +117,7 @@ pub data BeginsWith (words : List (List ℕ)) (files : Files) (text : List ℕ) 
 pub record HasGreatestWelfare (m : Parts) (x : Dispatch) : Type 0 where
   pub offered : IsDispatch m x
   pub balances : balance m x ≡ zero
-  pub within : (r : Row) → Contains (rows m) r → Within (limit m r) (flow m x r)
+  pub within : AreWithin (rows m) (most_flow m) (flow m x)
   pub greatest : (y : Dispatch) → Feasible m y → welfare m y ≤ℚ welfare m x
 
 -- the prices are those of the duals, which support the dispatch and name rows of the market in its order, each with one price; the settlement

@@ -6,9 +6,8 @@ use Rattle.market_model.specs.declared.answered.Duals.{Duals}
 use Rattle.market_model.specs.declared.participants.Parts.{Parts}
 use Rattle.market_model.specs.declared.stops.Stop.{Stop}
 use Rattle.market_model.specs.Dispatch.{Dispatch}
-use Rattle.market_model.specs.Stops.{OnPassed}
+use Rattle.market_model.specs.Stops.{StopsBy}
 use Rattle.market_model.specs.SumTables.{IsRefusedAmong, SettledSum}
-use Rattle.market_model.specs.Valued.{passed_at}
 use Rattle.limit_screen.specs.Flows.{IsFlowsRefusal}
 
 -- an operation refused where a dispatch whose flows are known is settled at prices of the buses
@@ -17,8 +16,8 @@ IsMoneyRefusal m x price d bound p = IsRefusedAmong (SettledSum m x price d) bou
 
 -- why it was not settled: an operation was refused, or memory was
 abbrev pub IsMoneyStop : {N : Type 0} → (N → Fraction) → ℕ → Parts → Dispatch → (ℕ → Fraction) → Duals Fraction → Stop N → Type 0
-IsMoneyStop value bound m x price d stop = OnPassed stop (λ p. IsMoneyRefusal m x price d bound (passed_at value p))
+IsMoneyStop value bound m x price d stop = StopsBy value (IsMoneyRefusal m x price d bound) stop
 
 -- the same where its flows are made too
 abbrev pub IsSettlementStop : {N : Type 0} → (N → Fraction) → ℕ → Parts → Dispatch → (ℕ → Fraction) → Duals Fraction → Stop N → Type 0
-IsSettlementStop value bound m x price d stop = OnPassed stop (λ p. IsFlowsRefusal m x bound (passed_at value p) ⊎ IsMoneyRefusal m x price d bound (passed_at value p))
+IsSettlementStop value bound m x price d stop = StopsBy value (λ p. IsFlowsRefusal m x bound p ⊎ IsMoneyRefusal m x price d bound p) stop

@@ -4,7 +4,7 @@ use Rattle.fraction_theory.specs.Fraction.{Fraction}
 use Rattle.market_model.specs.declared.participants.Parts.{Parts}
 use Rattle.market_model.specs.declared.stops.Stop.{Stop}
 use Rattle.market_model.specs.declared.stops.Stop.TheVariants as stop
-use Rattle.market_model.specs.Stops.{OnPassed}
+use Rattle.market_model.specs.Stops.{StopsBy}
 use Rattle.market_model.specs.Valued.{dual_at, passed_at}
 use Rattle.cert_format.specs.Certificates.{cert_at}
 use Rattle.cert_format.specs.declared.certificate.Cert.{Cert}
@@ -13,7 +13,7 @@ use Rattle.cert_verify.specs.Stops.{IsCertificateStop, IsVerifyStop, told_stop}
 use Rattle.cert_verify.proofs.verifying.verify.Goals as goal
 
 -- what is known of a stop is known of what it is told as
-stopped : {N : Type 0} (value : N → Fraction) (m : Parts) (k : ℕ) (c d : Cert Fraction) → c ≡ d → (s : Stop N) → OnPassed s (λ p. IsCertificateStop m k d (passed_at value p)) → IsVerifyStop value m k c (told_stop s)
+stopped : {N : Type 0} (value : N → Fraction) (m : Parts) (k : ℕ) (c d : Cert Fraction) → c ≡ d → (s : Stop N) → StopsBy value (IsCertificateStop m k d) s → IsVerifyStop value m k c (told_stop s)
 stopped value m k c d same (stop.Passed p) h = subst (λ e. IsCertificateStop m k e (passed_at value p)) (sym same) h
 stopped value m k c d same stop.Memory h = tt
 
