@@ -34,9 +34,10 @@ module _ {N : Type 0} (value : N → Fraction) (bound : ℕ) (m : Parts) where
   pair_stop t g stop.Memory grown pair = tt
 
   -- where prices and bounds are made
-  pub terms_stop : (t g : List Row) (h : Choice) (s : Stop N) → IsMarket m → Growth m t g → IsChoice (system_of m g) h → StopsBy value (IsBoundsRefusal m bound) s → StopsInRange value bound m t s
-  terms_stop t g h (stop.Passed p) market grown choice refused = posing_range m t g h bound (passed_at value p) market grown choice refused
-  terms_stop t g h stop.Memory market grown choice refused = tt
+  pub terms_stop : (t g over : List Row) (h : Choice) (s : Stop N) → IsMarket m → Growth m t g → IsChoice (system_of m g) h → ((r : Row) → Contains over r → Contains g r)
+      → StopsBy value (IsBoundsRefusal m over bound) s → StopsInRange value bound m t s
+  terms_stop t g over h (stop.Passed p) market grown choice inside refused = posing_range m t g h bound (passed_at value p) market grown choice over inside refused
+  terms_stop t g over h stop.Memory market grown choice inside refused = tt
 
   -- rows reached from those in hand are reached from those before
   pub earlier_stop : (t g : List Row) (s : Stop N) → Growth m t g → StopsInRange value bound m g s → StopsInRange value bound m t s

@@ -1,4 +1,4 @@
--- The numbers of a system at a choice, each of a kind: those that solving the system by exchanges has to write down.
+-- The numbers of a system at a choice, each of a kind: those that solving the system by exchanges may have to write down.
 -- They are read off the system and the choice alone, whatever led to it. A number counts with either sign.
 -- Source: own; entries, values and reduced prices are those of dictionaries (Chvátal, Linear Programming).
 use Rattle.std.specs.Prelude.{ℕ, ◌<◌, pos}
@@ -44,7 +44,7 @@ pub data SystemNumber (s : System) (h : Choice) : Kind → Fraction → Type 0 w
 abbrev pub IsFirst : System → Choice → ℕ → Type 0
 IsFirst s h b = (c : ℕ) → Contains (basics s h) c → c < b → (s.low c ≤ℚ value s h c) × (value s h c ≤ℚ s.high c)
 
--- a number that solving the system by exchanges has to write down at a choice: one of its numbers, or how far its leaving variable goes,
+-- a number that solving the system by exchanges may have to write down at a choice: one of its numbers, or how far its leaving variable goes,
 -- which is the basic one of the least name beyond a bound
 pub data SolvingNumber (s : System) (h : Choice) : Fraction → Type 0 where
   is_number : (kind : Kind) (x : Fraction) → SystemNumber s h kind x → SolvingNumber s h x

@@ -1,7 +1,7 @@
 -- Working pairs: two numbers of one choice, or of two neighbouring ones, that an exchange may have to add, subtract or
 -- multiply, and whose outcome passes the bound of a type of numbers, on the way to a number of these choices that is too large itself.
--- So a refusal that names a working pair has its cause in the system: some way of solving it meets those two numbers, and has to write
--- down one that cannot be written.
+-- So a refusal that names a working pair has its cause in the system: some way of solving it meets numbers that these are made of, and
+-- may have to write down one that cannot be written.
 -- Source: own. An exchange with entry p needs 1/p, products with 1/p or with the new row's entries, and for each number
 -- one sum.
 use Rattle.std.specs.Prelude.{◌≡◌, ℕ, ◌⊎◌}

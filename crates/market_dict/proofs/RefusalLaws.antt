@@ -1,7 +1,7 @@
 -- What is refused is a working pair of the market.
 use Rattle.std.specs.Prelude.{ℕ, List, Some, Contains, refl}
-use Rattle.std.proofs.Common.{inl}
-use Rattle.fraction_theory.specs.Fraction.{Fraction, neg_ℚ}
+use Rattle.std.proofs.Common.{inl, subst}
+use Rattle.fraction_theory.specs.Fraction.{Fraction, neg_ℚ, ◌-ℚ◌}
 use Rattle.exact_fraction.specs.declared.Passed.{Passed}
 use Rattle.linear_system.specs.Choices.{Choice, IsChoice}
 use Rattle.linear_dict.specs.Causes.{IsPairOf}
@@ -10,13 +10,17 @@ use Rattle.market_model.specs.Dispatch.{empty}
 use Rattle.market_model.specs.declared.limits.Row.{Row}
 use Rattle.market_model.specs.LimitRows.{rows, limit, flow}
 use Rattle.market_model.specs.Market.{IsMarket}
-use Rattle.linear_system.specs.Numbers.{Quantity}
+use Rattle.linear_system.specs.Numbers.{Quantity, is_high, is_low}
 use Rattle.market_model.specs.Valued.{passed_at}
 use Rattle.market_system.specs.Growth.{Growth}
-use Rattle.market_system.specs.MarketSystem.{system_of}
-use Rattle.market_system.specs.MarketNumbers.{MarketNumber, of_flow as flows_named, is_limit, is_room_up, is_room_down, of_opposite}
+use Rattle.market_system.specs.MarketSystem.{in_order, row_name, system_of}
+use Rattle.market_system.specs.MarketNumbers.{ClearingNumber, of_kind, of_system, MarketNumber, of_flow as flows_named, is_limit, of_opposite}
 use Rattle.market_system.specs.PairLaw.{RefusalsArePairs}
 use Rattle.market_system.specs.WorkingPairs.{IsRangeOf}
+use Rattle.limit_rows.proofs.ApartLemmas.{names_apart}
+use Rattle.market_system.proofs.DualLists.{rows_apart}
+use Rattle.market_system.proofs.MarketPoints.{high-row, low-row, row_in}
+use Rattle.market_system.proofs.RowOrder.{in_order-in}
 use Rattle.market_system.proofs.PairCases.{law_of_the_pairs, of_system_pair, row_flow_number}
 use Rattle.market_dict.specs.Refusals.{IsRoomRefusal, of_high, of_low, IsBoundsRefusal, of_sum, of_bound}
 
@@ -32,10 +36,28 @@ module _ (m : Parts) (t g : List Row) (h : Choice) (bound : ℕ) (p : Passed Fra
   flow_number : (r : Row) → Contains (rows m) r → MarketNumber m g h Quantity (flow m (empty m) r)
   flow_number r c = row_flow_number m t g grown h choice bound p market (empty m) (inl refl) r c
 
-  bound_range : (r : Row) → Contains (rows m) r → IsRoomRefusal m bound r p → IsRangeOf m t bound p
-  bound_range r c (of_high a) = pairs.less Quantity (limit m r) (flow m (empty m) r) (is_limit r c) (flow_number r c) (is_room_up r c) a
-  bound_range r c (of_low a) = pairs.less Quantity (neg_ℚ (limit m r)) (flow m (empty m) r) (of_opposite Quantity (limit m r) (is_limit r c)) (flow_number r c) (is_room_down r c) a
+  -- a bound of a row in hand
+  module _ (r : Row) (c : Contains (rows m) r) (taken : Contains g r) where
+    listed : Contains (in_order m g) r
+    listed = in_order-in m g r c taken
 
-  pub posing_range : IsBoundsRefusal m bound p → IsRangeOf m t bound p
-  posing_range (of_sum (terms, sum, a)) = pairs.sum (Some Quantity) terms (flows_named (empty m) terms (inl refl) sum) a
-  posing_range (of_bound r c a) = bound_range r c a
+    high_number : ClearingNumber m g h (limit m r -ℚ flow m (empty m) r)
+    high_number = subst (ClearingNumber m g h) (high-row m (rows_apart m (names_apart m market)) g r listed)
+        (of_kind Quantity ((system_of m g).high (row_name m r)) (of_system Quantity ((system_of m g).high (row_name m r)) (is_high (row_name m r) (row_in m (rows_apart m (names_apart m market)) g r listed))))
+
+    low_number : ClearingNumber m g h (neg_ℚ (limit m r) -ℚ flow m (empty m) r)
+    low_number = subst (ClearingNumber m g h) (low-row m (rows_apart m (names_apart m market)) g r listed)
+        (of_kind Quantity ((system_of m g).low (row_name m r)) (of_system Quantity ((system_of m g).low (row_name m r)) (is_low (row_name m r) (row_in m (rows_apart m (names_apart m market)) g r listed))))
+
+    bound_range : IsRoomRefusal m bound r p → IsRangeOf m t bound p
+    bound_range (of_high a) = pairs.less Quantity (limit m r) (flow m (empty m) r) (is_limit r c) (flow_number r c) high_number a
+    bound_range (of_low a) = pairs.less Quantity (neg_ℚ (limit m r)) (flow m (empty m) r) (of_opposite Quantity (limit m r) (is_limit r c)) (flow_number r c) low_number a
+
+  pub posing_range : (over : List Row) → ((r : Row) → Contains over r → Contains g r) → IsBoundsRefusal m over bound p → IsRangeOf m t bound p
+  posing_range over inside (of_sum (terms, sum, a)) = pairs.sum (Some Quantity) terms (flows_named (empty m) terms (inl refl) sum) a
+  posing_range over inside (of_bound r c taken a) = bound_range r c (inside r taken) a
+
+-- rows among others
+pub bounds_among : (m : Parts) (over wider : List Row) (bound : ℕ) (p : Passed Fraction) → ((r : Row) → Contains over r → Contains wider r) → IsBoundsRefusal m over bound p → IsBoundsRefusal m wider bound p
+bounds_among m over wider bound p inside (of_sum a) = of_sum a
+bounds_among m over wider bound p inside (of_bound r c k a) = of_bound r c (inside r k) a

@@ -1,5 +1,5 @@
 -- Which operations are refused where the prices and bounds of a market's system are made.
-use Rattle.std.specs.Prelude.{ℕ, Contains}
+use Rattle.std.specs.Prelude.{ℕ, List, Contains}
 use Rattle.fraction_theory.specs.Fraction.{Fraction, neg_ℚ}
 use Rattle.exact_fraction.specs.declared.Op.TheVariants.{Minus}
 use Rattle.exact_fraction.specs.declared.Passed.{Passed}
@@ -15,7 +15,7 @@ pub data IsRoomRefusal (m : Parts) (bound : ℕ) (r : Row) (p : Passed Fraction)
   of_high : IsRefusal Minus (limit m r) (flow m (empty m) r) bound p → IsRoomRefusal m bound r p
   of_low : IsRefusal Minus (neg_ℚ (limit m r)) (flow m (empty m) r) bound p → IsRoomRefusal m bound r p
 
--- an operation refused for prices and bounds: in a sum of what flows where nothing is accepted, or in a bound of a row
-pub data IsBoundsRefusal (m : Parts) (bound : ℕ) (p : Passed Fraction) : Type 0 where
-  of_sum : IsRefusedAmong (FlowSum m (empty m)) bound p → IsBoundsRefusal m bound p
-  of_bound : (r : Row) → Contains (rows m) r → IsRoomRefusal m bound r p → IsBoundsRefusal m bound p
+-- an operation refused for prices and bounds: in a sum of what flows where nothing is accepted, or in a bound of one of these rows
+pub data IsBoundsRefusal (m : Parts) (over : List Row) (bound : ℕ) (p : Passed Fraction) : Type 0 where
+  of_sum : IsRefusedAmong (FlowSum m (empty m)) bound p → IsBoundsRefusal m over bound p
+  of_bound : (r : Row) → Contains (rows m) r → Contains over r → IsRoomRefusal m bound r p → IsBoundsRefusal m over bound p

@@ -91,7 +91,7 @@ fn row_bounds<N: Exact>(market: &Market, base_flows: &[N], row: Row) -> Result<B
     requires base_flows { map N.value base_flows.now ≡ flows_at market.now (empty market.now) }
     ensures low { IfOk result (λ bounds. N.value bounds.low ≡ least_added market.now row) }
     ensures high { IfOk result (λ bounds. N.value bounds.high ≡ most_added market.now row) }
-    ensures cause { IfErr result (λ passed. IsBoundsRefusal market.now N.bound (passed_at N.value passed)) }
+    ensures cause { IfErr result (λ passed. IsBoundsRefusal market.now (row ∷ []) N.bound (passed_at N.value passed)) }
 {
     let _lines = market.lines();
     let flow = row_flow(market, line_flows(market, base_flows), row)?;
@@ -109,7 +109,7 @@ pub fn prices_and_bounds<N: Exact>(
 ) -> Result<PricesAndBounds<N>, Stop<N>>
     requires rows { All (λ r. Contains (rows market.now) r) taken.now }
     ensures posing { IfOk result (ArePricesAndBounds N.value market.now taken.now) }
-    ensures cause { IfErr result (StopsBy N.value (IsBoundsRefusal market.now N.bound)) }
+    ensures cause { IfErr result (StopsBy N.value (IsBoundsRefusal market.now taken.now N.bound)) }
 {
     let prices = block_prices(alloc, market)?;
     let base_flows = base_flows_of(alloc, market)?;
@@ -135,7 +135,7 @@ pub fn take_bounds<N: Exact>(
     requires row { Contains (rows market.now) row }
     requires posing { (g : List Row) × ArePricesAndBounds N.value market.now g posing.old }
     ensures taken { (g : List Row) → ArePricesAndBounds N.value market.now g posing.old → IfOk result (λ _. ArePricesAndBounds N.value market.now (g ++ row ∷ []) posing.new) }
-    ensures cause { IfErr result (StopsBy N.value (IsBoundsRefusal market.now N.bound)) }
+    ensures cause { IfErr result (StopsBy N.value (IsBoundsRefusal market.now (row ∷ []) N.bound)) }
 {
     let bounds = row_bounds(market, &posing.base_flows, row)?;
     posing.bounds.push(bounds)?;

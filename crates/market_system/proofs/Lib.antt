@@ -9,7 +9,7 @@ pub mod MarketPoints
 mod ModestChoices
 mod ModestMarkets
 mod ModestNumbers
-pub mod ModestPairs
+pub mod ModestClears
 pub mod PairCases
 mod RangeRows
 pub mod RowOrder

@@ -6,13 +6,11 @@ use mathlib.Core.Path.{ap₂}
 use Rattle.std.proofs.lemmas.Int.{ints, unsigned_abs-mul}
 use Rattle.std.proofs.lemmas.Nat.{mul-le}
 use Rattle.fraction_theory.specs.Fraction.{Fraction, whole, neg_ℚ, ◌+ℚ◌, ◌*ℚ◌, unsigned_abs-neg}
-use Rattle.fraction_theory.specs.Divisors.{lcm, gcd, gcd_in}
 use Rattle.fraction_theory.specs.Sums.{Term, term_value, prefix}
 use Rattle.fraction_theory.proofs.FieldLaws.{whole-+ℚ, whole-*ℚ, whole-neg}
-use Rattle.fraction_theory.proofs.IntegerLaws.{*ℤ-pos_one}
 use Rattle.fraction_theory.proofs.ListSums.{Contains-head, Contains-cons}
-use Rattle.exact_fraction.specs.Passes.{SumPasses, ProductPasses}
-use Rattle.market_model.specs.NamedSums.{SameSize, term_at}
+use Rattle.exact_fraction.specs.Passes.{IsTooLarge}
+use Rattle.market_model.specs.NamedSums.{SameSize}
 
 -- a whole number of at most this size
 pub record IsWholeWithin (bound : ℕ) (x : Fraction) : Type 0 where
@@ -51,31 +49,14 @@ pub same_within : (b : ℕ) (x y : Fraction) → SameSize x y → IsWholeWithin 
 same_within b x y (inl e) h = subst (IsWholeWithin b) (sym e) h
 same_within b x y (inr e) h = subst (IsWholeWithin b) (sym e) (neg_within b y h)
 
--- a sum does not pass a bound where it and its sides are within it, nor does a product
-whole_sum_fits : (b : ℕ) (a c : ℤ) → 1 ≤ b → unsigned_abs a ≤ b → unsigned_abs c ≤ b → unsigned_abs (a +ℤ c) ≤ b → SumPasses b (whole a) (whole c) → ⊥
-unfolding SumPasses lcm gcd gcd_in whole
-whole_sum_fits b a c one f g s (inl p) = Prim.omega (arith, f, p, ap unsigned_abs (*ℤ-pos_one a))
-whole_sum_fits b a c one f g s (inr (inl p)) = Prim.omega (arith, g, p, ap unsigned_abs (*ℤ-pos_one c))
-whole_sum_fits b a c one f g s (inr (inr (inl p))) = Prim.omega (arith, s, p, ap unsigned_abs (ap₂ ◌+ℤ◌ (*ℤ-pos_one a) (*ℤ-pos_one c)))
-whole_sum_fits b a c one f g s (inr (inr (inr p))) = Prim.omega (arith, one, p)
-
-whole_num : (a c : ℤ) → whole a ≡ whole c → a ≡ c
-unfolding whole
-whole_num a c e = ap (λ (f : Fraction). f.num) e
-
-pub sum_fits : (b : ℕ) (x y : Fraction) → 1 ≤ b → IsWholeWithin b x → IsWholeWithin b y → IsWholeWithin b (x +ℚ y) → SumPasses b x y → ⊥
-sum_fits b x y one h k s p =
-    let e : s.number ≡ h.number +ℤ k.number = whole_num s.number (h.number +ℤ k.number) (sym s.is ∙ ap₂ ◌+ℚ◌ h.is k.is ∙ sym (whole-+ℚ h.number k.number)) in
-    whole_sum_fits b h.number k.number one h.within k.within (subst (λ (t : ℤ). unsigned_abs t ≤ b) e s.within) (subst₂ (SumPasses b) h.is k.is p)
-
-whole_fits : (b : ℕ) (z : ℤ) → 1 ≤ b → unsigned_abs z ≤ b → (b < unsigned_abs (whole z).num) ⊎ (b < (whole z).den) → ⊥
+-- such a number is not too large
+whole_fits : (b : ℕ) (z : ℤ) → 1 ≤ b → unsigned_abs z ≤ b → ¬ (IsTooLarge b (whole z))
 unfolding whole
 whole_fits b z one h (inl p) = Prim.omega (arith, h, p)
 whole_fits b z one h (inr p) = Prim.omega (arith, one, p)
 
-pub product_fits : (b : ℕ) (x y : Fraction) → 1 ≤ b → IsWholeWithin b (x *ℚ y) → ProductPasses b x y → ⊥
-unfolding ProductPasses
-product_fits b x y one h p = whole_fits b h.number one h.within (subst (λ (f : Fraction). (b < unsigned_abs f.num) ⊎ (b < f.den)) h.is p)
+pub number_fits : (b : ℕ) (x : Fraction) → 1 ≤ b → IsWholeWithin b x → ¬ (IsTooLarge b x)
+number_fits b x one h p = whole_fits b h.number one h.within (subst (IsTooLarge b) h.is p)
 
 -- each term of a list is a whole number of at most this size
 abbrev pub AreWithin : ℕ → List Term → Type 0
@@ -100,11 +81,6 @@ prefix_by_length b (suc k) (t ∷ ts) h =
 
 pub prefix_within : (n b k : ℕ) (ts : List Term) → length ts ≤ n → AreWithin b ts → IsWholeWithin (n * b) (prefix k ts)
 prefix_within n b k ts le h = wider (length ts * b) (n * b) (prefix k ts) (mul-le (length ts) b n b le (Prim.omega arith)) (prefix_by_length b k ts h)
-
-pub term_within : (b k : ℕ) (ts : List Term) → AreWithin b ts → IsWholeWithin b (term_value (term_at ts k))
-term_within b k [] h = nil_within b
-term_within b zero (t ∷ ts) h = h.0
-term_within b (suc k) (t ∷ ts) h = term_within b k ts h.1
 
 pub length-filter_le : (p : ℕ → Bool) (xs : List ℕ) → length (filter p xs) ≤ length xs
 length-filter_le p [] = Prim.omega arith

@@ -12,6 +12,6 @@ use Rattle.market_system.specs.WorkingPairs.{AllNumbersFit, NoPairPasses}
 abbrev pub LawOfCompleteness : Type 0
 LawOfCompleteness = (m : Parts) (taken : List Row) (bound : ℕ) (o : Outcome Fraction) → IsMarket m → NoPairPasses m taken bound → IsRightOutcome bound m taken o → IsDecided m o
 
--- where no number that a clear has to write down is too large, no working pair passes the bound
+-- where no number that a clear may have to write down is too large, no working pair passes the bound
 abbrev pub LawOfTheNumbers : Type 0
 LawOfTheNumbers = (m : Parts) (taken : List Row) (bound : ℕ) → AllNumbersFit m taken bound → NoPairPasses m taken bound

@@ -2,7 +2,7 @@
 -- Source: own; the sums are those of the dispatch, of the prices and of the settlement.
 use Rattle.std.specs.Prelude.{◌≡◌, ℕ, ◌<◌, List, length, Option, Some, None, ◌⊎◌}
 use Rattle.std.specs.List.{Contains}
-use Rattle.fraction_theory.specs.Fraction.{Fraction, whole, neg_ℚ, ◌-ℚ◌}
+use Rattle.fraction_theory.specs.Fraction.{Fraction, whole, neg_ℚ}
 use Rattle.fraction_theory.specs.Sums.{Term, prefix}
 use Rattle.linear_system.specs.Choices.{Choice, basics}
 use Rattle.linear_system.specs.Numbers.{Kind, Factor, Quantity, Price, SolvingNumber, SystemNumber}
@@ -11,7 +11,7 @@ use Rattle.market_model.specs.declared.participants.Parts.{Parts}
 use Rattle.market_model.specs.declared.answered.Duals.{Duals}
 use Rattle.market_model.specs.Dispatch.{Dispatch, zero, bus_at, unit_at, empty}
 use Rattle.market_model.specs.declared.limits.Row.{Row}
-use Rattle.market_model.specs.LimitRows.{rows as all_rows, flow, limit, shift_factor, loss_factor, line_offset}
+use Rattle.market_model.specs.LimitRows.{rows as all_rows, limit, shift_factor, loss_factor, line_offset}
 use Rattle.market_model.specs.Optimality.{Feasible, Supports, up_of, down_of, net_shadow_price, bus_price, welfare_terms}
 use Rattle.market_model.specs.Infeasibility.{ShowsInfeasible}
 use Rattle.market_system.specs.MarketSystem.{balance_name, row_name, system_of, choice_dispatch, choice_duals}
@@ -83,15 +83,12 @@ pub data MarketNumber (m : Parts) (rows : List Row) (h : Choice) : Kind → Frac
   -- the opposite of a number, of the same kind
   of_opposite : (kind : Kind) (x : Fraction) → MarketNumber m rows h kind x → MarketNumber m rows h kind (neg_ℚ x)
 
--- A number that a clear has to write down at a choice. What it forms besides these on the way to one of them it may do without.
+-- A number that a clear may have to write down at a choice. The choice is any one of the system.
 pub data ClearingNumber (m : Parts) (rows : List Row) (h : Choice) : Fraction → Type 0 where
   of_kind : (kind : Kind) (x : Fraction) → MarketNumber m rows h kind x → ClearingNumber m rows h x
   -- besides the system's numbers, how far the leaving variable goes
   of_solving : (x : Fraction) → SolvingNumber (system_of m rows) h x → ClearingNumber m rows h x
   -- the first terms of the welfare, and of what the settlement adds up
   of_money : (terms : List Term) (k : ℕ) → NamedSum m rows h None terms → ClearingNumber m rows h (prefix k terms)
-  -- what the flow where nothing is accepted leaves of a limit on either side
-  is_room_up : (r : Row) → Contains (all_rows m) r → ClearingNumber m rows h (limit m r -ℚ flow m (empty m) r)
-  is_room_down : (r : Row) → Contains (all_rows m) r → ClearingNumber m rows h (neg_ℚ (limit m r) -ℚ flow m (empty m) r)
   -- the opposite of a number
   is_turned : (x : Fraction) → ClearingNumber m rows h x → ClearingNumber m rows h (neg_ℚ x)

@@ -1,5 +1,5 @@
 -- Working pairs of a market: two of its numbers that clearing it may have to combine, and whose outcome passes the bound of
--- a type of numbers, on the way to a number that clearing it has to write down and that is too large. An answer that numbers became too
+-- a type of numbers, on the way to a number that clearing it may have to write down and that is too large. An answer that numbers became too
 -- large names one.
 -- Source: own.
 use Rattle.std.specs.Prelude.{ℕ, List, None, ◌⊎◌}
@@ -26,7 +26,7 @@ pub record IsSettledCase (m : Parts) (rows : List Row) (h : Choice) (op : Op) (l
 
 -- The pair passes the bound. It is of one choice of the market's system over these rows or of two near ones: two sides of one kind (numbers,
 -- sums or differences of two, or factors times these), or a factor and what it scales, or a step in adding up the welfare or the settlement of the first choice.
--- And it is on the way to a number that a clear has to write down at one of these choices, and that is too large.
+-- And it is on the way to a number that a clear may have to write down at one of these choices, and that is too large.
 pub record IsWorkingPair (m : Parts) (rows : List Row) (bound : ℕ) (op : Op) (left right : Fraction) : Type 0 where
   pub passes : Passes bound op left right
   pub one : Choice
@@ -47,6 +47,6 @@ pub record IsRangeOf (m : Parts) (taken : List Row) (bound : ℕ) (p : Passed Fr
 abbrev pub NoPairPasses : Parts → List Row → ℕ → Type 0
 NoPairPasses m taken bound = (p : Passed Fraction) → ¬ (IsRangeOf m taken bound p)
 
--- no number that such a clear has to write down, at whatever choice over such rows, is too large
+-- no number that such a clear may have to write down, at whatever choice over such rows, is too large
 abbrev pub AllNumbersFit : Parts → List Row → ℕ → Type 0
 AllNumbersFit m taken bound = (rows : List Row) (h : Choice) (x : Fraction) → Reached m taken rows → IsChoice (system_of m rows) h → ClearingNumber m rows h x → ¬ (IsTooLarge bound x)

@@ -53,13 +53,13 @@ pub fn no_pair_no_range()
     ensures { LawOfCompleteness }
 {}
 
-/// Where no number that a clear has to write down is too large, no working pair passes.
+/// Where no number that a clear may have to write down is too large, no working pair passes.
 pub fn no_number_no_pair()
     ensures { LawOfTheNumbers }
 {}
 
-/// In a market without lines, with no number above ten million MW or a thousand million per MWh, no
-/// working pair passes 127 bits: numbers never become too large.
+/// In a market without lines, with no number above ten million MW or a thousand million per MWh, no number that a clear may have to
+/// write down is above 127 bits: numbers never become too large.
 pub fn modest_markets_fit()
     ensures { LawOfModestMarkets }
 {}

@@ -170,7 +170,7 @@ pub record IsReported (m : Parts) (text : List ℕ) (s : Status) : Type 0 where
   pub text_is : text ≡ report_text m outcome
   pub status_is : s ≡ status_of outcome
 
--- and where all numbers that a clear has to write down, over rows that are reached from those with which it begins, are within 127 bits, what
+-- and where all numbers that a clear may have to write down, over rows that are reached from those with which it begins, are within 127 bits, what
 -- is reported of it is cleared where some dispatch qualifies, and infeasible where none does
 pub record IsDecidedFrom (words : List (List ℕ)) (files : Files) (text : List ℕ) (m : Parts) (o : Outcome Fraction) (place : ℕ) : Type 0 where
   pub taken : List Row
@@ -184,7 +184,7 @@ LawOfComplete = (words : List (List ℕ)) (files : Files) (text : List ℕ) (s :
 
 -- ---- range
 -- Two numbers, each within 127 bits, that are a working pair of the market, over rows that are reached from those with which its clear begins:
--- the pair passes 127 bits, on the way to a number that the clear has to write down and that is above 127 bits itself.
+-- the pair passes 127 bits, on the way to a number that the clear may have to write down and that is above 127 bits itself.
 pub record IsRangeFrom (words : List (List ℕ)) (files : Files) (text : List ℕ) (m : Parts) (p : Passed Fraction) (place : ℕ) : Type 0 where
   pub taken : List Row
   pub begins : BeginsWith words files text m place taken

@@ -17,7 +17,7 @@ returns-in_err-posing-clause-cause g c =
     let given : c.from_residual-in_err-posing.result ≡ Err c.in_err-posing.field-0.0 = p.1 ∙ ap Err p.2 in
     rw given
     (first_stop c.args.market.now c.args.clearer c.clearer.inside.warm c.clearer.inside.taken c.clearer.view_is c.requires c.rows_or_none-taken.result c.rows_or_none-taken.ensures.rows c.rows_or_none-taken.ensures.names
-    g.N.Exact.value c.in_ok-warm.warm start g.N.Exact.bound c.in_err-posing.field-0.0 c.lines-lines.ensures.market c.in_err-posing.ensures.cause)
+    g.N.Exact.value c.in_ok-warm.warm start g.N.Exact.bound c.slice.result.now c.in_err-posing.field-0.0 c.lines-lines.ensures.market c.slice.ensures c.in_err-posing.ensures.cause)
 
 pub returns-clause-hand : goal.returns-clause-hand
 returns-clause-hand g c =

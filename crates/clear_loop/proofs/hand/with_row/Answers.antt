@@ -1,8 +1,8 @@
-use Rattle.std.proofs.Common.{Err, ap, ◌∙◌, ◌≡◌}
+use Rattle.std.proofs.Common.{Err, ap, ◌∙◌, ◌≡◌, ◌++◌, ◌∷◌, []}
+use Rattle.std.proofs.lemmas.List.Elements.{Contains-append_right}
 use Rattle.std.proofs.lemmas.Result.{err_from_is_err_and}
 use Rattle.linear_dict.specs.Dictionaries.{choice_of}
 use Rattle.market_dict.proofs.HoldingLaws.{holds_choice}
-use Rattle.market_system.proofs.GrowthLaws.{growth_none}
 use Rattle.clear_loop.specs.Starts.{rows_in}
 use Rattle.clear_loop.proofs.HandLemmas.{grown_behind, hand_grown, row_is_new}
 use Rattle.clear_loop.proofs.StopLemmas.{pair_stop, terms_stop}
@@ -24,8 +24,10 @@ returns-in_err-take_bounds-clause-cause g c =
     let p = err_from_is_err_and c.from_residual-in_err-take_bounds.result c.from_residual-in_err-take_bounds.ensures.1 in
     let given : c.from_residual-in_err-take_bounds.result ≡ Err c.in_err-take_bounds.field-0.0 = p.1 ∙ ap Err p.2 in
     rw given
-    (terms_stop g.N.Exact.value g.N.Exact.bound c.args.market.now (rows_in c.args.taken) (rows_in c.args.taken) (choice_of c.args.dict) c.in_err-take_bounds.field-0.0
-    c.lines-lines.ensures.market (growth_none c.args.market.now (rows_in c.args.taken)) (holds_choice c.args.market.now (rows_in c.args.taken) c.args.dict c.requires.holds)
+    (terms_stop g.N.Exact.value g.N.Exact.bound c.args.market.now (rows_in c.args.taken) (rows_in c.args.taken ++ c.args.row ∷ []) (c.args.row ∷ []) (choice_of c.take_limit.new.dict) c.in_err-take_bounds.field-0.0
+    c.lines-lines.ensures.market (grown_behind c.args.market.now (rows_in c.args.taken) c.args.row c.requires.row c.requires.broken)
+    (holds_choice c.args.market.now (rows_in c.args.taken ++ c.args.row ∷ []) c.take_limit.new.dict (c.in_ok-take_limit.ensures.taken (rows_in c.args.taken) c.requires.holds))
+    (λ r k. Contains-append_right (rows_in c.args.taken) (c.args.row ∷ []) r k)
     c.in_err-take_bounds.ensures.cause)
 
 pub returns-clause-hand : goal.returns-clause-hand

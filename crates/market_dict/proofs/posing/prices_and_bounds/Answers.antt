@@ -1,5 +1,10 @@
-use Rattle.std.proofs.Common.{rules, Err, ◌+◌, ◌≡◌, ◌++◌, ◌∷◌, [], List, take, sym, subst}
-use Rattle.std.specs.Prelude.{slice_index_or}
+use Rattle.std.proofs.Common.{rules, arith, Err, inl, inr, ◌+◌, ◌≡◌, ◌∙◌, ◌++◌, ◌∷◌, [], List, ap, take, sym, subst}
+use Rattle.std.specs.Prelude.{Contains, slice_index_or}
+use Rattle.std.proofs.lemmas.List.Elements.{Contains-get_or}
+use Rattle.std.proofs.lemmas.Result.{err_from_is_err_and}
+use Rattle.fraction_theory.proofs.ListSums.{Contains-cases}
+use Rattle.market_model.specs.Valued.{passed_at}
+use Rattle.market_dict.proofs.RefusalLaws.{bounds_among}
 use Rattle.std.proofs.lemmas.List.{take_more}
 use Rattle.market_model.specs.declared.limits.Row.{Row}
 use Rattle.market_model.specs.declared.limits.Cause.TheVariants.{Base}
@@ -33,3 +38,15 @@ loop-row-preserved g c =
     let none : Row = record { line = 0; cause = Base } in
     let more : take (k + 1) taken ≡ take k taken ++ slice_index_or taken k none ∷ [] = take_more taken k none c.loop-row-test.true in
     subst (λ (rs : List Row). ArePricesAndBounds g.N.Exact.value m rs c.take_bounds.new.posing) (sym more) (c.in_ok-take_bounds.ensures.taken (take k taken) c.loop-row.invariant)
+
+pub returns-in_err-take_bounds-clause-cause : goal.returns-in_err-take_bounds-clause-cause
+returns-in_err-take_bounds-clause-cause g c =
+    let taken = c.args.taken.now in
+    let row : Row = slice_index_or taken c.loop-row.row-index (record { line = 0; cause = Base }) in
+    let among : (r : Row) → Contains (row ∷ []) r → Contains taken r = λ r k. elim (Contains-cases row [] r k) [
+      | inl e ↦ subst (Contains taken) e (Contains-get_or taken c.loop-row.row-index (record { line = 0; cause = Base }) c.loop-row-test.true)
+      | inr n ↦ absurd (Prim.omega (arith, n.1))
+    ] in
+    let p = err_from_is_err_and c.from_residual-in_err-take_bounds.result c.from_residual-in_err-take_bounds.ensures.1 in
+    let given : c.from_residual-in_err-take_bounds.result ≡ Err c.in_err-take_bounds.field-0.0 = p.1 ∙ ap Err p.2 in
+    rw given (on_passed_weaker c.in_err-take_bounds.field-0.0 _ _ (λ q h. bounds_among c.args.market.now (row ∷ []) taken g.N.Exact.bound (passed_at g.N.Exact.value q) among h) c.in_err-take_bounds.ensures.cause)

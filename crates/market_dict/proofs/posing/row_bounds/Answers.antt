@@ -1,7 +1,8 @@
-use Rattle.std.proofs.Common.{rules, Err, ◌≡◌, ◌∙◌, List, map, ap, ap₂, subst, sym, w64}
+use Rattle.std.proofs.Common.{rules, [], Err, ◌≡◌, ◌∙◌, List, map, ap, ap₂, subst, sym, w64}
 use Rattle.std.proofs.lemmas.Int.{to_z-of_z}
 use Rattle.std.proofs.lemmas.List.{length-map}
 use mir.Val.{to_z, of_z}
+use Rattle.fraction_theory.proofs.ListSums.{Contains-head}
 use Rattle.fraction_theory.specs.Fraction.{whole, neg_ℚ, ◌-ℚ◌}
 use Rattle.fraction_theory.specs.Sums.{Term}
 use Rattle.exact_fraction.specs.declared.Op.TheVariants.{Minus}
@@ -49,7 +50,7 @@ returns-in_err-high-clause-cause g c =
     let limit_is = c.datum-limit.ensures ∙ ap whole known ∙ c.limit_at.ensures.limit in
     let flow_is = c.in_ok-flow.ensures.flow ∙ ap (λ f. flow_by m f r) c.line_flows.ensures.is ∙ law_of_row_flows m (empty m) (map g.N.Exact.value c.args.base_flows.now) r c.lines-lines.ensures.market c.requires.base_flows c.requires.row in
     let given : c.from_residual-in_err-high.result ≡ Err c.in_err-high.field-0.0 = search rules in
-    rw given (of_bound c.args.row c.requires.row (of_high (refusal g.N.Exact.value g.N.Exact.bound Minus c.datum-limit.result c.in_ok-flow.flow (limit m r) (flow m (empty m) r) c.in_err-high.field-0.0 limit_is flow_is c.in_err-high.ensures)))
+    rw given (of_bound c.args.row c.requires.row (Contains-head c.args.row []) (of_high (refusal g.N.Exact.value g.N.Exact.bound Minus c.datum-limit.result c.in_ok-flow.flow (limit m r) (flow m (empty m) r) c.in_err-high.field-0.0 limit_is flow_is c.in_err-high.ensures)))
 
 pub returns-in_err-low-clause-cause : goal.returns-in_err-low-clause-cause
 returns-in_err-low-clause-cause g c =
@@ -59,7 +60,7 @@ returns-in_err-low-clause-cause g c =
     let limit_is = c.datum-limit.ensures ∙ ap whole known ∙ c.limit_at.ensures.limit in
     let flow_is = c.in_ok-flow.ensures.flow ∙ ap (λ f. flow_by m f r) c.line_flows.ensures.is ∙ law_of_row_flows m (empty m) (map g.N.Exact.value c.args.base_flows.now) r c.lines-lines.ensures.market c.requires.base_flows c.requires.row in
     let given : c.from_residual-in_err-low.result ≡ Err c.in_err-low.field-0.0 = search rules in
-    rw given (of_bound c.args.row c.requires.row (of_low (refusal g.N.Exact.value g.N.Exact.bound Minus c.neg.result c.in_ok-flow.flow (neg_ℚ (limit m r)) (flow m (empty m) r) c.in_err-low.field-0.0 (c.neg.ensures ∙ ap neg_ℚ limit_is) flow_is c.in_err-low.ensures)))
+    rw given (of_bound c.args.row c.requires.row (Contains-head c.args.row []) (of_low (refusal g.N.Exact.value g.N.Exact.bound Minus c.neg.result c.in_ok-flow.flow (neg_ℚ (limit m r)) (flow m (empty m) r) c.in_err-low.field-0.0 (c.neg.ensures ∙ ap neg_ℚ limit_is) flow_is c.in_err-low.ensures)))
 
 pub returns-clause-low : goal.returns-clause-low
 returns-clause-low g c =

@@ -1,4 +1,4 @@
-use Rattle.market_system.proofs.ModestPairs.{law_of_modest_markets}
+use Rattle.market_system.proofs.ModestClears.{law_of_modest_markets}
 use Rattle.market_system.proofs.laws.modest_markets_fit.Goals as goal
 
 pub returns : goal.returns

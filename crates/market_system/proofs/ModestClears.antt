@@ -1,23 +1,19 @@
--- No working pair of a modest market without lines passes 127 bits.
-use Rattle.std.specs.Prelude.{◌≡◌, ℕ, Bool, true, false, ◌+◌, ◌*◌, ◌-◌, ◌^◌, ◌≤◌, ◌<◌, pos, List, [], ◌∷◌, ◌⊎◌, length, map, Option, Some, None, refl}
+-- No number that a clear of a modest market without lines may have to write down is above 127 bits.
+use Rattle.std.specs.Prelude.{◌≡◌, ℕ, Bool, true, false, if◌then◌else◌, ◌+◌, ◌*◌, ◌-◌, ◌^◌, ◌≤◌, ◌<◌, pos, List, [], ◌∷◌, ◌⊎◌, length, map, Option, Some, None, refl}
 use Rattle.std.specs.List.{Contains}
 use Rattle.std.proofs.Common.{arith, ap, sym, ◌∙◌, subst, inl, inr}
 use Rattle.std.proofs.lemmas.List.{length-append, length-map}
 use Rattle.std.proofs.lemmas.List.FromFn.{length-range_with_len}
-use Rattle.exact_fraction.specs.declared.Op.{Op}
-use Rattle.exact_fraction.specs.declared.Op.TheVariants.{Plus, Minus, Times}
-use Rattle.exact_fraction.specs.Passes.{Passes}
 use Rattle.fraction_theory.specs.Fraction.{Fraction, neg_ℚ, ◌+ℚ◌, ◌-ℚ◌, ◌*ℚ◌}
 use Rattle.fraction_theory.specs.Signs.{sign_of}
-use Rattle.fraction_theory.specs.Sums.{Term, Product, term_value, prefix}
+use Rattle.fraction_theory.specs.Sums.{Term, Product, prefix, total}
 use Rattle.fraction_theory.specs.declared.Sign.{Sign}
 use Rattle.fraction_theory.specs.declared.Sign.TheVariants.{Below, Zero, Above}
-use Rattle.fraction_theory.proofs.FieldLaws.{ring_ℚ}
+use Rattle.fraction_theory.proofs.SumLaws.{prefix-all}
 use Rattle.fraction_theory.proofs.ListSums.{same_or_not, Contains-from_filter}
-use Rattle.linear_system.specs.Choices.{Choice, IsChoice}
-use Rattle.linear_system.specs.Numbers.{Kind, Factor, Quantity, Price}
-use Rattle.linear_system.specs.Pairs.{IsCombined, IsSummand, IsPairCase, OfEither, alone, sum, difference, plain, scaled, added, subtracted, scaled_right, scaled_left}
-use Rattle.linear_system.proofs.ChoiceLaws.{is_other}
+use Rattle.linear_system.specs.Choices.{Choice, IsChoice, at_bound, basics, value, value_terms}
+use Rattle.linear_system.specs.Numbers.{Kind, Factor, Quantity, Price, is_high, is_low, is_value, SolvingNumber, is_number, is_fall, is_rise, is_turned as turned_in_solving}
+use Rattle.linear_system.proofs.ChoiceLaws.{basics_are, is_other}
 use Rattle.simplex_theory.specs.Stuck.{multiplier}
 use Rattle.simplex_theory.proofs.StuckRows.{multiplier-itself, multiplier-basic, multiplier-other}
 use Rattle.market_model.specs.declared.answered.Duals.{Duals}
@@ -27,23 +23,20 @@ use Rattle.market_model.specs.Dispatch.{Dispatch, IsDispatch, places, block_at, 
 use Rattle.market_model.specs.Infeasibility.{part_above, where_above, block_weight, farkas_terms}
 use Rattle.market_model.specs.declared.limits.Row.{Row}
 use Rattle.market_model.specs.LimitRows.{rows, row_id, row_factor}
-use Rattle.market_model.specs.NamedSums.{SameSize, term_at, IsSumStep}
 use Rattle.market_model.specs.Optimality.{bus_price, block_value, congestion_terms, names_row, named_rows, price_terms, net_shadow_price, unit_price, welfare_terms}
 use Rattle.market_model.specs.Settlement.{surplus_terms}
 use Rattle.market_model.specs.SumTables.{injection_at, balance_from_bus, balance_of_all, flow_of_line, limited_line, limited_row, FlowSum, flow_in_balance, flow_in_limits, output_of_unit, BusPriceSum, PriceSum, price_of_bus, congestion_at, price_at, farkas_bound_of_all, left_of_all, paid_by_load, paid_to_unit, rent_of_row, SettledSum, paid_output, demand_of_bus, payment, paid_row}
 use Rattle.market_model.proofs.FarkasLaw.{farkas_terms-bare}
 use Rattle.market_model.proofs.RowLaws.{no_rows, no_row, bus_price-bare, congestion-bare}
 use Rattle.market_system.specs.MarketSystem.{balance_name, system_of, choice_dispatch, choice_duals}
-use Rattle.market_system.specs.MarketNumbers.{MarketNumber, IsRightChoice, IsInjecting, IsFarkasOf}
+use Rattle.market_system.specs.MarketNumbers.{ClearingNumber, of_kind, of_solving, of_money, is_turned, MarketNumber, IsRightChoice, IsInjecting, IsFarkasOf}
 use Rattle.market_system.specs.MarketNumbers.{NamedSum, offset_of, factor_of, of_flow, output_of, of_price, of_welfare, of_settlement, of_farkas_price, farkas_bound_of}
 use Rattle.market_system.specs.MarketNumbers.{of_system, of_sum, is_fixed, is_up, is_down, is_load, is_shunt, is_limit, is_line_offset, is_shift, is_loss, is_energy, is_up_dual, is_down_dual, is_farkas_energy, is_farkas_up, is_farkas_down, of_opposite}
 use Rattle.market_system.specs.ModestMarkets.{IsModest, LawOfModestMarkets, modest_mw, modest_price}
-use Rattle.market_system.specs.WorkingPairs.{IsSettledCase, IsWorkingPair}
 use Rattle.market_system.specs.Growth.{GrowsBy}
 use Rattle.market_system.proofs.SystemLaws.{variable_in}
 use Rattle.market_system.proofs.VariableLaws.{from_places}
-use Rattle.market_system.proofs.PairCases.{sides_product}
-use Rattle.market_system.proofs.ModestNumbers.{IsWholeWithin, whole_within, nil_within, wider, neg_within, plus_within, times_within, same_within, sum_fits, product_fits, AreWithin, append_within, map_within, prefix_within, term_within}
+use Rattle.market_system.proofs.ModestNumbers.{IsWholeWithin, whole_within, nil_within, wider, neg_within, plus_within, times_within, same_within, number_fits, AreWithin, append_within, map_within, prefix_within}
 use Rattle.market_system.proofs.ModestChoices.{entry_within, energy_within}
 use Rattle.market_system.proofs.ModestMarkets.{most_injection, most_balance, most_value, most_output, most_of, signed_within, load_within, shunt_within, fixed_within, up_within, down_within, quantity_within, price_within, block_value_within, injection_within, balance_within, output_terms_within, output_within, demand_within, empty_small, empty_balance_within, dispatch_small, system_within, output_count, output_each}
 
@@ -59,53 +52,9 @@ part_above_within b x h = by_sign (sign_of x)
 abbrev most : ℕ
 most = 2 ^ 127 - 1
 
--- operations of numbers of such kinds
-module _ (N : Kind → Fraction → Type 0) (each : (kind : Kind) (x : Fraction) → N kind x → IsWholeWithin (most_of kind) x) where
-  abbrev most_sum : Kind → ℕ
-  most_sum kind = most_of kind + most_of kind
-
-  combined_within : (kind : Kind) (x : Fraction) → IsCombined N kind x → IsWholeWithin (most_sum kind) x
-  combined_within kind x (alone _ n) = wider (most_of kind) (most_sum kind) x (Prim.omega arith) (each kind x n)
-  combined_within kind x (sum y z n k) = plus_within (most_of kind) (most_of kind) y z (each kind y n) (each kind z k)
-  combined_within kind x (difference y z n k) = plus_within (most_of kind) (most_of kind) y (neg_ℚ z) (each kind y n) (neg_within (most_of kind) z (each kind z k))
-
-  summand_within : (kind : Kind) (x : Fraction) → IsSummand N kind x → IsWholeWithin (4000 * most_sum kind) x
-  summand_within kind x (plain _ c) = wider (most_sum kind) (4000 * most_sum kind) x (Prim.omega arith) (combined_within kind x c)
-  summand_within kind x (scaled f y n c) = times_within 4000 (most_sum kind) f y (each Factor f n) (combined_within kind y c)
-
-  room : (kind : Kind) → 4000 * most_sum kind + 4000 * most_sum kind ≤ most
-  room Factor = Prim.omega arith
-  room Quantity = Prim.omega arith
-  room Price = Prim.omega arith
-
-  summands_fit : (kind : Kind) (l r : Fraction) → IsWholeWithin (4000 * most_sum kind) l → IsWholeWithin (4000 * most_sum kind) r → Passes most Plus l r → ⊥
-  summands_fit kind l r h k =
-      sum_fits most l r (Prim.omega arith)
-      (wider (4000 * most_sum kind) most l (Prim.omega (arith, room kind)) h)
-      (wider (4000 * most_sum kind) most r (Prim.omega (arith, room kind)) k)
-      (wider (4000 * most_sum kind + 4000 * most_sum kind) most (l +ℚ r) (room kind) (plus_within (4000 * most_sum kind) (4000 * most_sum kind) l r h k))
-
-  scaled_fits : (kind : Kind) (f x : Fraction) → N Factor f → IsCombined N kind x → IsWholeWithin most (f *ℚ x)
-  scaled_fits kind f x n c = wider (4000 * most_sum kind) most (f *ℚ x) (Prim.omega (arith, room kind)) (times_within 4000 (most_sum kind) f x (each Factor f n) (combined_within kind x c))
-
-  case_fits : (op : Op) (l r : Fraction) → IsPairCase N op l r → Passes most op l r → ⊥
-  case_fits Plus l r (added kind _ _ a b) p = summands_fit kind l r (summand_within kind l a) (summand_within kind r b) p
-  case_fits Minus l r (subtracted kind _ _ a b) p = summands_fit kind l (neg_ℚ r) (summand_within kind l a) (neg_within (4000 * most_sum kind) r (summand_within kind r b)) p
-  case_fits Times l r (scaled_right kind _ _ n c) p = product_fits most l r (Prim.omega arith) (scaled_fits kind l r n c) p
-  case_fits Times l r (scaled_left kind _ _ c n) p = product_fits most l r (Prim.omega arith) (subst (IsWholeWithin most) (ring_ℚ.times_comm r l) (scaled_fits kind r l n c)) p
-
--- steps in adding up terms
-module _ (terms : List Term) (b : ℕ) (count : length terms ≤ 4001) (each : AreWithin b terms) (room : 4001 * b ≤ most) where
-  first_within : (k : ℕ) (x : Fraction) → SameSize x (prefix k terms) → IsWholeWithin most x
-  first_within k x e = same_within most x (prefix k terms) e (wider (4001 * b) most (prefix k terms) room (prefix_within 4001 b k terms count each))
-
-  next_within : (k : ℕ) (x : Fraction) → SameSize x (term_value (term_at terms k)) → IsWholeWithin most x
-  next_within k x e = same_within most x (term_value (term_at terms k)) e (wider b most (term_value (term_at terms k)) (Prim.omega (arith, room)) (term_within b k terms each))
-
-  step_fits : (op : Op) (l r : Fraction) (k : ℕ) → IsSumStep terms op l r k → Passes most op l r → ⊥
-  step_fits Plus l r k n p = sum_fits most l r (Prim.omega arith) (first_within k l n.before) (next_within k r n.next) (first_within (k + 1) (l +ℚ r) n.after) p
-  step_fits Minus l r k n p = sum_fits most l (neg_ℚ r) (Prim.omega arith) (first_within k l n.before) (neg_within most r (next_within k r n.next)) (first_within (k + 1) (l -ℚ r) n.after) p
-  step_fits Times l r k (x, y, f) p = product_fits most l r (Prim.omega arith) (next_within k (l *ℚ r) (subst (λ (t : Term). SameSize (l *ℚ r) (term_value t)) (sym f.product) (sides_product l r x y f.sides))) p
+-- the first terms of a sum
+sums_within : (terms : List Term) (b : ℕ) → length terms ≤ 4001 → AreWithin b terms → 4001 * b ≤ most → (k : ℕ) → IsWholeWithin most (prefix k terms)
+sums_within terms b count each room k = wider (4001 * b) most (prefix k terms) room (prefix_within 4001 b k terms count each)
 
 module _ (m : Parts) (market : IsMarket m) (lines : m.lines ≡ []) (modest : IsModest m) where
   bare : rows m ≡ []
@@ -220,7 +169,7 @@ module _ (m : Parts) (market : IsMarket m) (lines : m.lines ≡ []) (modest : Is
     number_within kind x (of_sum same terms k named) = sum_within (Some same) terms k named
     number_within kind x (of_opposite same y n) = neg_within (most_of same) y (number_within same y n)
 
-    -- a step in adding up the welfare, or what is settled
+    -- the first terms of the welfare, and of what is settled
     welfare_each : IsRightChoice m [] h → AreWithin (modest_price * most_output) (welfare_terms m (choice_dispatch m [] h))
     welfare_each best = map_within (modest_price * most_output) (λ j. Product (block_value m j) (accepted (choice_dispatch m [] h) j)) (places (length m.blocks))
         (λ j c. let lt = from_places (length m.blocks) j c in
@@ -248,17 +197,17 @@ module _ (m : Parts) (market : IsMarket m) (lines : m.lines ≡ []) (modest : Is
         paid u = Product (neg_ℚ (unit_price m d u)) (output m x u)
 
     abbrev Fits : List Term → Type 0
-    Fits terms = (op : Op) (l r : Fraction) (k : ℕ) → IsSumStep terms op l r k → Passes most op l r → ⊥
+    Fits terms = (k : ℕ) → IsWholeWithin most (prefix k terms)
 
     welfare_fits : IsRightChoice m [] h → Fits (welfare_terms m (choice_dispatch m [] h))
     welfare_fits best =
-        step_fits (welfare_terms m (choice_dispatch m [] h)) (modest_price * most_output)
+        sums_within (welfare_terms m (choice_dispatch m [] h)) (modest_price * most_output)
         (Prim.omega (arith, market.block_count, length-map (places (length m.blocks)) (λ j. Product (block_value m j) (accepted (choice_dispatch m [] h) j)), length-range_with_len 0 (length m.blocks)))
         (welfare_each best) (Prim.omega arith)
 
     surplus_fits : IsRightChoice m [] h → Fits (surplus_terms m (choice_dispatch m [] h) (choice_duals m [] h))
     surplus_fits best =
-        step_fits (surplus_terms m (choice_dispatch m [] h) (choice_duals m [] h)) (modest_price * most_output)
+        sums_within (surplus_terms m (choice_dispatch m [] h) (choice_duals m [] h)) (modest_price * most_output)
         (Prim.omega (
           arith,
           market.bus_count,
@@ -276,12 +225,12 @@ module _ (m : Parts) (market : IsMarket m) (lines : m.lines ≡ []) (modest : Is
 
     settled_fits : IsRightChoice m [] h → (terms : List Term) → SettledSum m (choice_dispatch m [] h) (bus_price m (choice_duals m [] h)) (choice_duals m [] h) terms → Fits terms
     settled_fits best terms (paid_output same (output_of_unit u lt)) =
-        step_fits terms modest_mw (output_count m market modest (choice_dispatch m [] h) (best_small best) u) (output_each m market modest (choice_dispatch m [] h) (best_small best) u lt) (Prim.omega arith)
-    settled_fits best terms (demand_of_bus i lt) = step_fits (demand_terms m i) modest_mw (Prim.omega arith) (load_within m market modest i lt, (shunt_within m market modest i lt, tt)) (Prim.omega arith)
-    settled_fits best terms (payment same (paid_by_load i lt)) = step_fits terms (modest_price * most_output) (Prim.omega arith)
+        sums_within terms modest_mw (output_count m market modest (choice_dispatch m [] h) (best_small best) u) (output_each m market modest (choice_dispatch m [] h) (best_small best) u lt) (Prim.omega arith)
+    settled_fits best terms (demand_of_bus i lt) = sums_within (demand_terms m i) modest_mw (Prim.omega arith) (load_within m market modest i lt, (shunt_within m market modest i lt, tt)) (Prim.omega arith)
+    settled_fits best terms (payment same (paid_by_load i lt)) = sums_within terms (modest_price * most_output) (Prim.omega arith)
         (times_within modest_price most_output (bus_price m (choice_duals m [] h) i) (demand m i) (bus_price_within modest_price (choice_duals m [] h) i price_is_modest) (demand_within m market modest i lt), tt)
         (Prim.omega arith)
-    settled_fits best terms (payment same (paid_to_unit u lt)) = step_fits terms (modest_price * most_output) (Prim.omega arith) (
+    settled_fits best terms (payment same (paid_to_unit u lt)) = sums_within terms (modest_price * most_output) (Prim.omega arith) (
       times_within modest_price most_output (unit_price m (choice_duals m [] h) u) (output m (choice_dispatch m [] h) u) (bus_price_within modest_price (choice_duals m [] h) (unit_at m u).bus price_is_modest)
           (output_within m market modest (choice_dispatch m [] h) (best_small best) u lt),
       tt,
@@ -306,16 +255,40 @@ module _ (m : Parts) (market : IsMarket m) (lines : m.lines ≡ []) (modest : Is
     named_fits _ terms (of_farkas_price d same f price) = tt
     named_fits _ terms (farkas_bound_of d same f part) = tt
 
-  pair_fits : (op : Op) (l r : Fraction) → IsWorkingPair m [] most op l r → ⊥
-  pair_fits op l r pair = of_sides pair.sides
-    where
-      either_within : (kind : Kind) (x : Fraction) → OfEither (MarketNumber m []) pair.one pair.near kind x → IsWholeWithin (most_of kind) x
-      either_within kind x (inl n) = number_within pair.one pair.is_choice kind x n
-      either_within kind x (inr n) = number_within pair.near pair.near_is_choice kind x n
+    -- and what a clear may have to write down
+    wide : (kind : Kind) → most_of kind + most_of kind ≤ most
+    wide Factor = Prim.omega arith
+    wide Quantity = Prim.omega arith
+    wide Price = Prim.omega arith
 
-      of_sides : IsPairCase (OfEither (MarketNumber m []) pair.one pair.near) op l r ⊎ IsSettledCase m [] pair.one op l r → ⊥
-      of_sides (inl c) = case_fits (OfEither (MarketNumber m []) pair.one pair.near) either_within op l r c pair.passes
-      of_sides (inr c) = named_fits pair.one pair.is_choice None c.terms c.sum op l r c.place c.step pair.passes
+    kind_within : (kind : Kind) (x : Fraction) → IsWholeWithin (most_of kind) x → IsWholeWithin most x
+    kind_within kind x n = wider (most_of kind) most x (Prim.omega (arith, wide kind)) n
+
+    value_within : (b : ℕ) → Contains (basics (system_of m []) h) b → IsWholeWithin most_value (value (system_of m []) h b)
+    unfolding value
+    value_within b c =
+        let s = system_of m [] in
+        subst (IsWholeWithin most_value)
+        (prefix-all (value_terms s h b) ∙ sym (ap (λ (x : Bool). if x then total (value_terms s h b) else at_bound s h b) (basics_are s h b c).1))
+        (system_within m market modest h is Quantity (prefix (length (value_terms s h b)) (value_terms s h b)) (is_value b (length (value_terms s h b)) c))
+
+    solving_within : (x : Fraction) → SolvingNumber (system_of m []) h x → IsWholeWithin most x
+    solving_within _ (is_number kind x n) = kind_within kind x (system_within m market modest h is kind x n)
+    solving_within _ (is_fall b c beyond first) =
+        let s = system_of m [] in
+        wider (most_value + most_value) most (s.high b -ℚ value s h b) (wide Quantity)
+        (plus_within most_value most_value (s.high b) (neg_ℚ (value s h b)) (system_within m market modest h is Quantity (s.high b) (is_high b (basics_are s h b c).0)) (neg_within most_value (value s h b) (value_within b c)))
+    solving_within _ (is_rise b c beyond first) =
+        let s = system_of m [] in
+        wider (most_value + most_value) most (value s h b -ℚ s.low b) (wide Quantity)
+        (plus_within most_value most_value (value s h b) (neg_ℚ (s.low b)) (value_within b c) (neg_within most_value (s.low b) (system_within m market modest h is Quantity (s.low b) (is_low b (basics_are s h b c).0))))
+    solving_within _ (turned_in_solving x n) = neg_within most x (solving_within x n)
+
+    clearing_within : (x : Fraction) → ClearingNumber m [] h x → IsWholeWithin most x
+    clearing_within _ (of_kind kind x n) = kind_within kind x (number_within kind x n)
+    clearing_within _ (of_solving x n) = solving_within x n
+    clearing_within _ (of_money terms k named) = named_fits None terms named k
+    clearing_within _ (is_turned x n) = neg_within most x (clearing_within x n)
 
   -- no rows can be taken
   nothing_taken : (more : List Row) → GrowsBy m [] more → more ≡ []
@@ -323,6 +296,7 @@ module _ (m : Parts) (market : IsMarket m) (lines : m.lines ≡ []) (modest : Is
   nothing_taken (r ∷ more) g = absurd (no_row m r bare g.1)
 
 pub law_of_modest_markets : LawOfModestMarkets
-law_of_modest_markets m market lines modest p range =
-    let none : range.rows ≡ [] = range.reached.1 ∙ nothing_taken m market lines modest range.reached.0 range.reached.2 in
-    pair_fits m market lines modest p.op p.left p.right (subst (λ (rs : List Row). IsWorkingPair m rs most p.op p.left p.right) none range.pair)
+law_of_modest_markets m market lines modest rows h x reached is n =
+    let none : rows ≡ [] = reached.1 ∙ nothing_taken m market lines modest reached.0 reached.2 in
+    number_fits most x (Prim.omega arith)
+    (clearing_within m market lines modest h (subst (λ (rs : List Row). IsChoice (system_of m rs) h) none is) x (subst (λ (rs : List Row). ClearingNumber m rs h x) none n))
