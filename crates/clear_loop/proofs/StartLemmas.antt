@@ -70,7 +70,7 @@ module _ (m : Parts) (k : Kept) (w : Option Dictionary) (t : Option Taken) (view
 
   module _ {N : Type 0} (worth : N → Fraction) (warm : Option Dictionary) (start : HoldsStart m k.rows warm) where
     pub first_stop : (bound : ℕ) (ls : List Row) (s : Stop N) → IsMarket m → ls ≡ taken.rows → StopsBy worth (IsBoundsRefusal m ls bound) s → StopsInRange worth bound m k.rows s
-    first_stop bound ls s market same refused = terms_stop worth bound m k.rows ls (choice_of start.0) s market (growth_none m k.rows) (holds_choice m k.rows start.0 start.2)
+    first_stop bound ls s market same refused = terms_stop worth bound m k.rows k.rows ls (choice_of start.0) s market (growth_none m k.rows) (holds_choice m k.rows start.0 start.2)
         (λ r c. subst (λ (xs : List Row). Contains xs r) (same ∙ first_rows) c) refused
 
     pub first_in_hand : (posing : PricesAndBounds N) (ls : List Row) → ls ≡ taken.rows → ArePricesAndBounds worth m ls posing → IsInHand worth m (record { warm = warm; posing = posing; taken = taken })

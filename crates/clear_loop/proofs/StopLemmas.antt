@@ -1,5 +1,5 @@
 -- What stops a clear is a working pair over rows that are reached.
-use Rattle.std.specs.Prelude.{◌⊎◌, ℕ, List}
+use Rattle.std.specs.Prelude.{Contains, ◌⊎◌, ℕ, List}
 use Rattle.std.proofs.Common.{inl, inr}
 use Rattle.fraction_theory.specs.Fraction.{Fraction}
 use Rattle.linear_system.specs.Choices.{Choice, IsChoice}
