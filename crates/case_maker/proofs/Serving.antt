@@ -21,7 +21,7 @@ use Rattle.market_model.specs.Dispatch.{Dispatch, IsDispatch, accepted, balance,
 use Rattle.market_model.specs.declared.limits.Cause.{Cause}
 use Rattle.market_model.specs.declared.limits.Row.{Row}
 use Rattle.market_model.specs.declared.limits.Cause.TheVariants.{Base, Branch}
-use Rattle.market_model.specs.LimitRows.{flow, limit, limit_in, line_flow, loss_factor, most_flow, mw_or_zero, row_flow, shift_factor}
+use Rattle.market_model.specs.LimitRows.{flow, limit, limit_under, line_flow, loss_factor, most_flow, mw_or_zero, row_flow, shift_factor}
 use Rattle.market_model.specs.Optimality.{Feasible, Within}
 use Rattle.market_model.proofs.MarketSums.{balance-by_injections, demand-by_parts, fixed_part, injection-by_parts}
 use Rattle.market_model.proofs.PlainMarkets.{distinct_by_rise}
@@ -182,7 +182,7 @@ module _ (n seed : ℕ) where
       ∙ ap (λ t. zero +ℚ t) (nil_plus ring_ℚ zero)
       ∙ nil_plus ring_ℚ zero
 
-  limit-least : (l : ℕ) (cause : Cause) → zero ≤ℚ limit_in m l cause
+  limit-least : (l : ℕ) (cause : Cause) → zero ≤ℚ limit_under m l cause
   limit-least l Base = (lines-plain l).base
   limit-least l (Branch lost) = (lines-plain l).post
 

@@ -8,7 +8,7 @@ ghost use Rattle.factor_residuals.specs.Residuals.{AreReactances, IsResidual, lo
 
 use crate::columns::Flow;
 use crate::spots::{Residual, Spot};
-use factor_tables::{FactorTable, Kind};
+use factor_tables::{FactorTable, TableKind};
 use net_case::{Network, Reactances};
 use net_paths::{Loops, Member};
 
@@ -67,7 +67,7 @@ fn first_branch(members: &[Member]) -> u32
 }
 
 /// The residual of a column round a loop.
-fn loop_spot<K: Kind>(
+fn loop_spot<K: TableKind>(
     network: &Network,
     reactances: &Reactances,
     factors: &FactorTable<K>,
@@ -94,7 +94,7 @@ fn loop_spot<K: Kind>(
 }
 
 /// Takes the residuals of a column round the loops in their order.
-pub(crate) fn note_loops<K: Kind>(
+pub(crate) fn note_loops<K: TableKind>(
     network: &Network,
     reactances: &Reactances,
     factors: &FactorTable<K>,

@@ -12,7 +12,7 @@ ghost use Rattle.factor_residuals.specs.Residuals.{IsResidual, bus_spots};
 
 use crate::columns::Flow;
 use crate::spots::{Residual, Spot};
-use factor_tables::{FactorTable, Kind};
+use factor_tables::{FactorTable, TableKind};
 use market_data::FACTOR_ONE;
 use net_case::{NetBranch, Network};
 use net_paths::{bus_number, is_lost};
@@ -62,7 +62,7 @@ fn pass(nodes: &mut Vec<Node>, branch: &NetBranch, flow: i64)
 }
 
 /// What leaves each bus over the branches of a column.
-fn nodes_of<K: Kind>(
+fn nodes_of<K: TableKind>(
     alloc: Global,
     network: &Network,
     factors: &FactorTable<K>,
@@ -132,7 +132,7 @@ fn bus_spot(network: &Network, node: Node, column: &Flow, bus: usize) -> Spot
 }
 
 /// Takes the residuals of a column at the buses in row order.
-pub(crate) fn note_buses<K: Kind>(
+pub(crate) fn note_buses<K: TableKind>(
     alloc: Global,
     network: &Network,
     factors: &FactorTable<K>,

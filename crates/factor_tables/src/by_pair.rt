@@ -87,7 +87,7 @@ impl Pairs {
 }
 
 /// A kind of tables of factors, by what the second column names.
-pub trait Kind {
+pub trait TableKind {
     ghost use Rattle.factor_tables.specs.declared.by_pair.Column.{Column};
 
     ghost column: { Column };
@@ -96,7 +96,7 @@ pub trait Kind {
 /// The column names buses, by their numbers.
 pub struct ByBus;
 
-impl Kind for ByBus {
+impl TableKind for ByBus {
     ghost use Rattle.factor_tables.specs.declared.by_pair.Column.TheVariants as names;
 
     ghost column = { names.Bus };
@@ -105,7 +105,7 @@ impl Kind for ByBus {
 /// The column names outages, by the rows of their branches.
 pub struct ByOutage;
 
-impl Kind for ByOutage {
+impl TableKind for ByOutage {
     ghost use Rattle.factor_tables.specs.declared.by_pair.Column.TheVariants as names;
 
     ghost column = { names.Outage };
@@ -113,7 +113,7 @@ impl Kind for ByOutage {
 
 /// A table of factors of one kind, in 10^-6. Contracts see it as the list of its records, also of those that are not used.
 #[derive(Drop)]
-pub struct FactorTable<K: Kind> {
+pub struct FactorTable<K: TableKind> {
     pub(crate) pairs: Pairs,
     pub(crate) kind: PhantomData<K>,
 }
@@ -124,7 +124,7 @@ pub type Shift = FactorTable<ByBus>;
 /// An outage table: how much of a lost branch's flow goes over another.
 pub type Loss = FactorTable<ByOutage>;
 
-impl<K: Kind> Model for FactorTable<K> {
+impl<K: TableKind> Model for FactorTable<K> {
     ghost use Rattle.std.specs.Prelude.{List};
     ghost use Rattle.factor_tables.specs.Factors.{Entry, ArePairFactors};
 
@@ -135,7 +135,7 @@ impl<K: Kind> Model for FactorTable<K> {
     ghost invariant = { λ table. ArePairFactors K.column table.pairs };
 }
 
-impl<K: Kind> FactorTable<K> {
+impl<K: TableKind> FactorTable<K> {
     /// The factor of a branch's row and a number of the second column, 0 where they have no record.
     pub fn factor(&self, branch: u32, of: u32) -> i64
         ensures size { unsigned_abs result ≤ most_factor }

@@ -14,7 +14,7 @@ mod offset_reading;
 mod outage_numbers;
 mod table_fault;
 
-pub use by_pair::{ByBus, ByOutage, FactorTable, Kind, Loss, Shift};
+pub use by_pair::{ByBus, ByOutage, FactorTable, Loss, Shift, TableKind};
 pub use covering::{Uncovered, cover};
 pub use factor_reading::{LOSS_HEADER, outage, shift};
 pub use names::{is_live_branch, is_row};

@@ -6,7 +6,7 @@ ghost use Rattle.market_data.specs.Scales.{most_factor};
 ghost use Rattle.factor_tables.specs.Factors.{factor_at};
 ghost use Rattle.market_inputs.specs.Clearing.{AreSmall, factors_of_line, line_of, named_factors, unless_0};
 
-use factor_tables::{ByBus, ByOutage, FactorTable, Kind, Offsets};
+use factor_tables::{ByBus, ByOutage, FactorTable, Offsets, TableKind};
 use market_model::{Bus, Factor, Line, List, Memory};
 use net_case::NetBranch;
 use std::alloc::Global;
@@ -53,7 +53,7 @@ fn push_factor(factors: &mut List<Factor>, factor: Factor) -> Result<(), Memory>
 /// What a column of a table of factors is of.
 pub(crate) trait Named {
     /// The kind of the tables that have such columns.
-    type Column: Kind;
+    type Column: TableKind;
 
     ghost name: { Self → ℕ };
 

@@ -75,12 +75,12 @@ abbrev pub mw_or_zero : Option ℤ → Fraction
 mw_or_zero (Some mw) = whole mw
 mw_or_zero None = zero
 
-abbrev pub limit_in : Parts → ℕ → Cause → Fraction
-limit_in m l cause = mw_or_zero (stated (line_at m l) cause)
+abbrev pub limit_under : Parts → ℕ → Cause → Fraction
+limit_under m l cause = mw_or_zero (stated (line_at m l) cause)
 
 -- the limit of its line under its cause
 abbrev pub limit : Parts → Row → Fraction
-limit m r = limit_in m r.line r.cause
+limit m r = limit_under m r.line r.cause
 
 -- the greatest size that its flow may have
 abbrev pub most_flow : Parts → Row → Fraction

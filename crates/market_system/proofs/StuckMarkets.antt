@@ -28,7 +28,7 @@ use Rattle.market_model.specs.Infeasibility.{part_above, where_above, block_weig
 use Rattle.market_model.specs.declared.limits.Cause.{Cause}
 use Rattle.market_model.specs.declared.limits.Row.{Row}
 use Rattle.market_model.specs.declared.limits.Cause.TheVariants.{Base, Branch}
-use Rattle.market_model.specs.LimitRows.{rows, mw_or_zero, limit_in, limit, flow}
+use Rattle.market_model.specs.LimitRows.{rows, mw_or_zero, limit_under, limit, flow}
 use Rattle.market_model.specs.Market.{IsMarket}
 use Rattle.market_model.specs.Optimality.{net_shadow_price, ProperDuals}
 use Rattle.market_model.proofs.FarkasLaw.{farkas_bound-by_parts, left_of}
@@ -89,7 +89,7 @@ at_least_nil (Some mw) h = whole-≤ℚ (pos 0) mw h
 pub limit_sign : (m : Parts) → IsMarket m → (r : Row) → r.line < length m.lines → nil ≤ℚ limit m r
 limit_sign m market r lt = by r.line r.cause lt
   where
-    by : (l : ℕ) (c : Cause) → l < length m.lines → nil ≤ℚ limit_in m l c
+    by : (l : ℕ) (c : Cause) → l < length m.lines → nil ≤ℚ limit_under m l c
     by l Base lt = at_least_nil (line_at m l).base (market.lines l _ lt).base
     by l (Branch lost) lt = at_least_nil (line_at m l).post (market.lines l _ lt).post
 

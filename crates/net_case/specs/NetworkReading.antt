@@ -171,8 +171,8 @@ abbrev pub is_below_all : List ℕ → Bool
 is_below_all cell = bytes_eq cell (codes "-Inf") || bytes_eq cell (codes "-inf")
 
 -- a rating is a limit where it is above 0, and none where it is 0
-unfoldable pub limit_of : ℕ → ℕ → ℤ → Result (Option ℤ) NetFault
-limit_of row col rating =
+unfoldable pub rated_limit : ℕ → ℕ → ℤ → Result (Option ℤ) NetFault
+rated_limit row col rating =
     if lt_z rating (pos 0) then Err (fault.Cell field.Branch row col why.Bounds)
     else if lt_z (pos 0) rating then Ok (Some rating)
     else Ok None
@@ -182,7 +182,7 @@ unfoldable pub limit_in : ℕ → Record → ℕ → Result (Option ℤ) NetFaul
 limit_in row r col =
     if is_infinite (cell_in r col) then Ok None
     else if is_below_all (cell_in r col) then Err (fault.Cell field.Branch row col why.Bounds)
-    else and_then (number_in field.Branch row r col mw_places) (limit_of row col)
+    else and_then (number_in field.Branch row r col mw_places) (rated_limit row col)
 
 abbrev pub is_off_zero : Sign → Bool
 is_off_zero sign.Below = true

@@ -5,7 +5,7 @@ ghost use Rattle.market_data.specs.Participants.{IsDatum};
 ghost use Rattle.market_data.specs.Scales.{most_lines};
 ghost use Rattle.record_reading.specs.Rows.{gather};
 ghost use Rattle.net_case.specs.Networks.{IsNetBranch, IsLimit, AreRows, ArePlaces};
-ghost use Rattle.net_case.specs.NetworkReading.{row_at, cell_in, is_infinite, is_below_all, limit_of, limit_in, shifted_in, post_column, limits_in, branch_where, branch_row, branch_count, branches_in};
+ghost use Rattle.net_case.specs.NetworkReading.{row_at, cell_in, is_infinite, is_below_all, rated_limit, limit_in, shifted_in, post_column, limits_in, branch_where, branch_row, branch_count, branches_in};
 
 use crate::bus_rows::named_place;
 use crate::cells::{cell_fault, in_service, number, row_count, sign};
@@ -36,11 +36,11 @@ fn is_below_all(cell: &[u8]) -> bool
 }
 
 /// The limit that a rating is; 0 is none.
-#[tactic(auto, unfolding(crate::specs::NetworkReading::limit_of))]
-fn limit_of(row: usize, col: usize, rating: i64) -> Result<Option<i64>, NetFault>
+#[tactic(auto, unfolding(crate::specs::NetworkReading::rated_limit))]
+fn rated_limit(row: usize, col: usize, rating: i64) -> Result<Option<i64>, NetFault>
     requires { IsDatum rating }
     ensures limit { IfOk result (λ limit. IfSome limit IsLimit) }
-    ensures is { result ≡ limit_of row col rating }
+    ensures is { result ≡ rated_limit row col rating }
 {
     if rating < 0 {
         return Err(cell_fault(Field::Branch, row, col, Why::Bounds));
@@ -66,7 +66,7 @@ fn limit(case: &RawCase<'_>, row: usize, col: usize) -> Result<Option<i64>, NetF
         return Err(cell_fault(Field::Branch, row, col, Why::Bounds));
     }
     let rating = number(case, Field::Branch, row, col, MW_PLACES)?;
-    limit_of(row, col, rating)
+    rated_limit(row, col, rating)
 }
 
 /// Whether the phase shift angle of a branch row is not 0.
