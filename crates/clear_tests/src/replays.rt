@@ -4,216 +4,120 @@ ghost use Rattle.std.specs.Prelude.{◌≡◌, All, IfOk};
 ghost use Rattle.offer_book.specs.Edits.{number_of};
 ghost use Rattle.edit_table.specs.EditTable.{IsStep};
 
-use crate::worked::{is, limited};
-use edit_replay::{Session, Step, StepOutcome, Steps};
-use exact_fraction::{Exact, Frac, Frac63, Op};
+use crate::worked::{has_taken, is_answer, limit, limited};
+use edit_replay::{Session, StepFault, StepOutcome, Steps, steps};
+use exact_fraction::{Exact, Frac, Frac63, Op, Passed};
 use market_data::{MW_ONE, PRICE_ONE};
-use market_model::{Answer, List, Memory, Outcome, RowId, Side};
+use market_model::{Memory, Outcome, Side};
 use offer_book::{Edit, EditFault};
 use std::alloc::Global;
-use std::cmp::Ordering;
 use std::test::Fail;
 
-/// A new price of a sell block.
-fn price(unit: i64, block: i64, price: i64) -> Edit
+/// A new price of the second unit's block.
+fn price(price: i64) -> Edit
     ensures { number_of result ≡ price }
 {
     Edit::Price {
-        unit,
+        unit: 2,
         side: Side::Sell,
-        block,
+        block: 1,
         price,
     }
 }
 
-/// A new limit of branch 2 in the base.
-fn limit(mw: i64) -> Edit
-    ensures { number_of result ≡ mw }
-{
-    Edit::Limit {
-        branch: 2,
-        post: false,
-        mw,
+/// Whether a clear comes to these MW of the blocks and these prices, with the limit of branch 2 in the base alone taken.
+fn clears_to<N: Exact>(
+    session: &mut Session<N>,
+    alloc: Global,
+    mw: &[i32],
+    congestion: &[i32],
+    totals: &[i32],
+) -> Result<bool, Memory> {
+    match session.clear(alloc)? {
+        Outcome::Cleared(answer) => Ok(
+            has_taken(session.clearer(), 0) && is_answer(&answer, mw, congestion, totals),
+        ),
+        _ => Ok(false),
     }
-}
-
-fn push(steps: &mut Steps, step: Step) -> Result<(), Memory>
-    requires steps { All IsStep steps.old }
-    requires step { IsStep step }
-    ensures { IfOk result (λ _. All IsStep steps.new) }
-{
-    steps.push(step)
-}
-
-/// An edit of a block that is not there and a clear, and then a limit that no dispatch keeps and one of 40, each with a clear.
-fn steps(alloc: Global) -> Result<Steps, Memory>
-    ensures { IfOk result (All IsStep) }
-{
-    let mut steps = List::new(alloc);
-    push(&mut steps, Step::Edit(price(2, 2, 20 * PRICE_ONE)))?;
-    push(&mut steps, Step::Clear)?;
-    push(&mut steps, Step::Edit(limit(10 * MW_ONE)))?;
-    push(&mut steps, Step::Clear)?;
-    push(&mut steps, Step::Edit(limit(40 * MW_ONE)))?;
-    push(&mut steps, Step::Clear)?;
-    Ok(steps)
-}
-
-/// Whether a market is cleared with these MW of its blocks and whole prices at buses 2 and 3.
-fn is_answer<N: Exact>(answer: &Answer<N>, mw: (i32, i32), prices: (i32, i32)) -> bool {
-    match (answer.dispatch.slice(), answer.prices.slice()) {
-        ([first, second], [_, two, three]) => {
-            is(*first, mw.0, MW_ONE as u32)
-                && is(*second, mw.1, MW_ONE as u32)
-                && is(two.total, prices.0, PRICE_ONE as u32)
-                && is(three.total, prices.1, PRICE_ONE as u32)
-        }
-        _ => false,
-    }
-}
-
-fn is_cleared<N: Exact>(outcome: &Outcome<N>, mw: (i32, i32), prices: (i32, i32)) -> bool {
-    match outcome {
-        Outcome::Cleared(answer) => is_answer(answer, mw, prices),
-        _ => false,
-    }
-}
-
-/// Whether the limit of branch 2 in the base alone is taken.
-fn has_taken<N: Exact>(session: &Session<N>) -> bool {
-    let clearer = session.clearer();
-    clearer.taken() == 1
-        && clearer.taken_row(0)
-            == RowId {
-                branch: 2,
-                outage: 0,
-            }
 }
 
 /// A clear, one after another price, and one after a limit that nothing reaches. Each starts from the limit that the first one took.
 fn starts_warm<N: Exact>(alloc: Global) -> Result<bool, Memory> {
     let mut session: Session<N> = Session::new(limited(alloc)?);
-    let first = session.clear(alloc)?;
-    let once = has_taken(&session);
-    let cheaper = session.edit(&price(2, 1, 20 * PRICE_ONE)).is_ok();
-    let second = session.clear(alloc)?;
-    let twice = has_taken(&session);
-    let wider = session.edit(&limit(50 * MW_ONE)).is_ok();
-    let third = session.clear(alloc)?;
-    Ok(
-        once && cheaper
-            && twice
-            && wider
-            && has_taken(&session)
-            && session.market().blocks().len() == 2
-            && is_cleared(&first, (50, 10), (30, 40))
-            && is_cleared(&second, (50, 10), (20, 25))
-            && is_cleared(&third, (60, 0), (10, 10)),
+    let first = clears_to(&mut session, alloc, &[50, 10], &[0, 20, 30], &[10, 30, 40])?;
+    let cheaper = session.edit(&price(20 * PRICE_ONE)).is_ok();
+    let second = clears_to(&mut session, alloc, &[50, 10], &[0, 10, 15], &[10, 20, 25])?;
+    let wider = session.edit(&limit(false, 50 * MW_ONE)).is_ok();
+    let third = clears_to(&mut session, alloc, &[60, 0], &[0, 0, 0], &[10, 10, 10])?;
+    Ok(first && cheaper && second && wider && third && session.market().blocks().len() == 2)
+}
+
+/// An edit of a block that is not there and a clear, and then a limit that no dispatch keeps and one of 40, each with a clear.
+fn few_steps(alloc: Global) -> Result<Steps, StepFault>
+    ensures { IfOk result (All IsStep) }
+{
+    steps(
+        alloc,
+        b"op,target,side,block,value\nprice,2,sell,2,20\nclear,,,,\nlimit,2,base,,10\nclear,,,,\nlimit,2,base,,40\nclear,,,,\n",
     )
 }
 
-fn is_refused<N: Exact>(outcome: &StepOutcome<N>) -> bool {
-    match outcome {
-        StepOutcome::Refused(fault) => *fault == EditFault::NoBlock,
-        _ => false,
-    }
-}
-
-fn is_accepted<N: Exact>(outcome: &StepOutcome<N>) -> bool {
-    match outcome {
-        StepOutcome::Accepted => true,
-        _ => false,
-    }
-}
-
-/// Whether a clear found the dispatch and the prices of the limit of 40.
-fn is_limited<N: Exact>(outcome: &StepOutcome<N>) -> bool {
-    match outcome {
-        StepOutcome::Clear(outcome) => is_cleared(outcome, (50, 10), (30, 40)),
-        _ => false,
-    }
-}
-
-fn is_infeasible<N: Exact>(outcome: &StepOutcome<N>) -> bool {
-    match outcome {
-        StepOutcome::Clear(Outcome::Infeasible(_)) => true,
-        _ => false,
-    }
-}
-
 /// What the steps come to, in a session that has cleared nothing.
-fn replays<N: Exact>(alloc: Global) -> Result<bool, Memory> {
+fn replays<N: Exact>(alloc: Global) -> Result<bool, Fail> {
     let mut session: Session<N> = Session::new(limited(alloc)?);
-    let steps = steps(alloc)?;
+    let steps = few_steps(alloc)?;
     let outcomes = session.replay(alloc, &steps)?;
-    let right = match outcomes.slice() {
-        [refused, first, narrowed, nothing, widened, last] => {
-            is_refused(refused)
-                && is_limited(first)
-                && is_accepted(narrowed)
-                && is_infeasible(nothing)
-                && is_accepted(widened)
-                && is_limited(last)
-        }
-        _ => false,
-    };
-    Ok(right && has_taken(&session))
-}
-
-/// A new load at bus 3.
-fn demand(mw: i64) -> Edit
-    ensures { number_of result ≡ mw }
-{
-    Edit::Demand { bus: 3, mw }
+    match outcomes.slice() {
+        [
+            StepOutcome::Refused(EditFault::NoBlock),
+            StepOutcome::Clear(Outcome::Cleared(first)),
+            StepOutcome::Accepted,
+            StepOutcome::Clear(Outcome::Infeasible(_)),
+            StepOutcome::Accepted,
+            StepOutcome::Clear(Outcome::Cleared(last)),
+        ] => Ok(
+            has_taken(session.clearer(), 0)
+                && is_answer(first, &[50, 10], &[0, 20, 30], &[10, 30, 40])
+                && is_answer(last, &[50, 10], &[0, 20, 30], &[10, 30, 40]),
+        ),
+        _ => Ok(false),
+    }
 }
 
 /// A price of all that 63 bits hold, which nothing is paid by; then prices at which what the first unit is paid is more than they hold; the
 /// first price again; and a load at which what both units are paid together is more.
-fn dear_steps(alloc: Global) -> Result<Steps, Memory>
+fn dear_steps(alloc: Global) -> Result<Steps, StepFault>
     ensures { IfOk result (All IsStep) }
 {
-    let mut steps = List::new(alloc);
-    push(&mut steps, Step::Edit(limit(1_000 * MW_ONE)))?;
-    push(
-        &mut steps,
-        Step::Edit(price(2, 1, 9_000_000_000_000 * PRICE_ONE)),
-    )?;
-    push(&mut steps, Step::Clear)?;
-    push(&mut steps, Step::Edit(price(2, 1, 300 * PRICE_ONE)))?;
-    push(&mut steps, Step::Edit(price(1, 1, 200 * PRICE_ONE)))?;
-    push(&mut steps, Step::Clear)?;
-    push(&mut steps, Step::Edit(price(1, 1, 10 * PRICE_ONE)))?;
-    push(&mut steps, Step::Clear)?;
-    push(&mut steps, Step::Edit(price(2, 1, 200 * PRICE_ONE)))?;
-    push(&mut steps, Step::Edit(price(1, 1, 60 * PRICE_ONE)))?;
-    push(&mut steps, Step::Edit(demand(110 * MW_ONE)))?;
-    push(&mut steps, Step::Clear)?;
-    Ok(steps)
+    steps(
+        alloc,
+        b"op,target,side,block,value\nlimit,2,base,,1000\nprice,2,sell,1,9000000000000\nclear,,,,\nprice,2,sell,1,300\nprice,1,sell,1,200\nclear,,,,\nprice,1,sell,1,10\nclear,,,,\nprice,2,sell,1,200\nprice,1,sell,1,60\ndemand,3,,,110\nclear,,,,\n",
+    )
 }
 
 /// Whether a clear makes 60 MW for 10.
-fn is_free<N: Exact>(outcome: &StepOutcome<N>) -> bool {
+fn is_free(outcome: &StepOutcome<Frac63>) -> bool {
     match outcome {
-        StepOutcome::Clear(outcome) => is_cleared(outcome, (60, 0), (10, 10)),
+        StepOutcome::Clear(Outcome::Cleared(answer)) => {
+            is_answer(answer, &[60, 0], &[0, 0, 0], &[10, 10, 10])
+        }
         _ => false,
     }
 }
 
 /// Whether a clear ended with this operation of two numbers.
-fn is_range<N: Exact>(outcome: &StepOutcome<N>, op: Op, left: N, right: N) -> bool {
+fn is_range(outcome: &StepOutcome<Frac63>, left: Frac63, right: Frac63, op: Op) -> bool {
     match outcome {
-        StepOutcome::Clear(Outcome::Range(passed)) => {
-            passed.op == op
-                && passed.left.order(left) == Ordering::Equal
-                && passed.right.order(right) == Ordering::Equal
-        }
+        StepOutcome::Clear(Outcome::Range(passed)) => *passed == Passed { left, right, op },
         _ => false,
     }
 }
 
 fn passes_63_bits(alloc: Global) -> Result<bool, Memory> {
+    let Ok(steps) = dear_steps(alloc) else {
+        return Ok(false);
+    };
     let mut session: Session<Frac63> = Session::new(limited(alloc)?);
-    let steps = dear_steps(alloc)?;
     let outcomes = session.replay(alloc, &steps)?;
     let told = outcomes.slice();
     let paid = Frac63::of_parts(-200_000_000, 1);
@@ -223,9 +127,9 @@ fn passes_63_bits(alloc: Global) -> Result<bool, Memory> {
     Ok(
         told.len() == 12
             && is_free(&told[2])
-            && is_range(&told[5], Op::Times, paid, made)
+            && is_range(&told[5], paid, made, Op::Times)
             && is_free(&told[7])
-            && is_range(&told[11], Op::Plus, first, second)
+            && is_range(&told[11], first, second, Op::Plus)
             && session.clearer().taken() == 0,
     )
 }

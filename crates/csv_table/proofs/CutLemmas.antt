@@ -4,10 +4,10 @@ use Rattle.std.proofs.lemmas.Bool.{eq-eqb}
 use Rattle.std.proofs.lemmas.List.{drop-append-le, get_or-drop, get_or-take, length-drop, length-take, take-append-le, take_all}
 use Rattle.record_reading.specs.Records.{Record, cell_of, first_ragged}
 use Rattle.csv.specs.Records.{fields_of}
-use Rattle.csv_table.specs.Rows.{IsFlat, IsPushStop, IsRowsStop, cut, first_of, records_in}
-use Rattle.csv_table.specs.declared.Rows.{Rows}
-use Rattle.csv_table.specs.declared.RowsStop.{RowsStop}
-use Rattle.csv_table.specs.declared.RowsStop.TheVariants as stop
+use Rattle.csv_table.specs.Records.{IsFlat, IsPushStop, IsRecordsStop, cut, first_of, records_in}
+use Rattle.csv_table.specs.declared.Records.{Records}
+use Rattle.csv_table.specs.declared.RecordsStop.{RecordsStop}
+use Rattle.csv_table.specs.declared.RecordsStop.TheVariants as stop
 
 -- a run of one record more and those behind it
 more_cells : (width count n : ℕ) → n ≡ suc count * width → width ≤ n
@@ -71,11 +71,11 @@ first_ragged-cut width (suc count) line cells tail is =
     rw (eq-eqb _ _ first, ← same) others
 
 -- the first record has its own width
-first_ragged-first : (width line : ℕ) (r : Record) (rows : List Record) → length r ≡ width → first_ragged (length r) line (r ∷ rows) ≡ first_ragged width (line + 1) rows
+first_ragged-first : (width line : ℕ) (r : Record) (records : List Record) → length r ≡ width → first_ragged (length r) line (r ∷ records) ≡ first_ragged width (line + 1) records
 unfolding first_ragged
-first_ragged-first width line r rows is =
-    let step : first_ragged (length r) line (r ∷ rows) ≡ first_ragged (length r) (line + 1) rows = rw (eq-eqb (length r) (length r) refl) refl in
-    step ∙ ap (λ (w : ℕ). first_ragged w (line + 1) rows) is
+first_ragged-first width line r records is =
+    let step : first_ragged (length r) line (r ∷ records) ≡ first_ragged (length r) (line + 1) records = rw (eq-eqb (length r) (length r) refl) refl in
+    step ∙ ap (λ (w : ℕ). first_ragged w (line + 1) records) is
 
 -- a record of another width behind some of one width is the first such one
 pub first_ragged-behind : (width count : ℕ) (cells : List (List ℕ)) (r : Record) (tail : List Record) → length cells ≡ count * width → 0 < count → length r ≢ width
@@ -104,24 +104,24 @@ length_0 [] is = refl
 length_0 (c ∷ cells) is = absurd (omega arith)
 
 -- ---- the same of the records that are kept
-pub records-count : (rows : Rows) → length (records_in rows) ≡ rows.count
+pub records-count : (records : Records) → length (records_in records) ≡ records.count
 unfolding records_in
-records-count rows = length-cut rows.width rows.count (fields_of rows.cells)
+records-count records = length-cut records.width records.count (fields_of records.cells)
 
-pub records-wide : (rows : Rows) (k : ℕ) → IsFlat rows → k < rows.count → length (get_or (records_in rows) k []) ≡ rows.width
+pub records-wide : (records : Records) (k : ℕ) → IsFlat records → k < records.count → length (get_or (records_in records) k []) ≡ records.width
 unfolding records_in
-records-wide rows k flat lt = wide rows.width rows.count (fields_of rows.cells) k flat.cells lt
+records-wide records k flat lt = wide records.width records.count (fields_of records.cells) k flat.cells lt
 
-pub records-cell : (rows : Rows) (k col : ℕ) → IsFlat rows → k < rows.count → col < rows.width
-    → cell_of (fields_of rows.cells) (k * rows.width + col) ≡ cell_of (get_or (records_in rows) k []) col
+pub records-cell : (records : Records) (k col : ℕ) → IsFlat records → k < records.count → col < records.width
+    → cell_of (fields_of records.cells) (k * records.width + col) ≡ cell_of (get_or (records_in records) k []) col
 unfolding records_in
-records-cell rows k col flat lt below = cell-cut rows.width rows.count (fields_of rows.cells) k col flat.cells lt below
+records-cell records k col flat lt below = cell-cut records.width records.count (fields_of records.cells) k col flat.cells lt below
 
 -- a cell's place among all cells
-pub place_fits : (rows : Rows) (k col : ℕ) → IsFlat rows → k < rows.count → col < rows.width → k * rows.width + col < 2 ^ 64
-place_fits rows k col flat lt below = let rows_before : suc k * rows.width ≤ rows.count * rows.width = mul-le-mul_right rows.width lt in grind (arith, flat.cells, flat.small)
+pub place_fits : (records : Records) (k col : ℕ) → IsFlat records → k < records.count → col < records.width → k * records.width + col < 2 ^ 64
+place_fits records k col flat lt below = let cells_before : suc k * records.width ≤ records.count * records.width = mul-le-mul_right records.width lt in grind (arith, flat.cells, flat.small)
 
-pub records-push : (old new : Rows) (r : Record) → IsFlat old → new.count ≡ old.count + 1 → fields_of new.cells ≡ fields_of old.cells ++ r
+pub records-push : (old new : Records) (r : Record) → IsFlat old → new.count ≡ old.count + 1 → fields_of new.cells ≡ fields_of old.cells ++ r
     → length r ≡ new.width → (0 < old.count → new.width ≡ old.width) → records_in new ≡ records_in old ++ r ∷ []
 unfolding records_in cut
 records-push old new r flat counted cells even same = rw (counted, cells) (by old.count refl)
@@ -136,17 +136,17 @@ records-push old new r flat counted cells even same = rw (counted, cells) (by ol
         let wide : length r ≡ old.width = omega arith in
         rw width (cut-more old.width old.count (fields_of old.cells) r flat.cells wide)
 
-pub records-none : (rows : Rows) → IsFlat rows → first_ragged (length (first_of (records_in rows))) 1 (records_in rows) ≡ None
+pub records-none : (records : Records) → IsFlat records → first_ragged (length (first_of (records_in records))) 1 (records_in records) ≡ None
 unfolding records_in
-records-none rows flat = first_ragged-none rows.width rows.count (fields_of rows.cells) flat.cells
+records-none records flat = first_ragged-none records.width records.count (fields_of records.cells) flat.cells
 
-pub records-odd : (rows : Rows) (r : Record) (tail : List Record) → IsFlat rows → 0 < rows.count → length r ≢ rows.width
-    → first_ragged (length (first_of (records_in rows ++ r ∷ tail))) 1 (records_in rows ++ r ∷ tail) ≡ Some (rows.count + 1)
+pub records-odd : (records : Records) (r : Record) (tail : List Record) → IsFlat records → 0 < records.count → length r ≢ records.width
+    → first_ragged (length (first_of (records_in records ++ r ∷ tail))) 1 (records_in records ++ r ∷ tail) ≡ Some (records.count + 1)
 unfolding records_in
-records-odd rows r tail flat some odd = first_ragged-behind rows.width rows.count (fields_of rows.cells) r tail flat.cells some odd
+records-odd records r tail flat some odd = first_ragged-behind records.width records.count (fields_of records.cells) r tail flat.cells some odd
 
 -- why a record was not added to those of a text that stand before it
-pub push-stops : (rows : Rows) (r : Record) (tail : List Record) (stop : RowsStop) → IsFlat rows → IsPushStop rows r stop → IsRowsStop (records_in rows ++ r ∷ tail) stop
-push-stops rows r tail (stop.Reader e) flat stops = absurd stops
-push-stops rows r tail (stop.Width line) flat stops = rw stops.2 (records-odd rows r tail flat stops.0 stops.1)
-push-stops rows r tail stop.Memory flat stops = tt
+pub push-stops : (records : Records) (r : Record) (tail : List Record) (stop : RecordsStop) → IsFlat records → IsPushStop records r stop → IsRecordsStop (records_in records ++ r ∷ tail) stop
+push-stops records r tail (stop.Reader e) flat stops = absurd stops
+push-stops records r tail (stop.Width line) flat stops = rw stops.2 (records-odd records r tail flat stops.0 stops.1)
+push-stops records r tail stop.Memory flat stops = tt

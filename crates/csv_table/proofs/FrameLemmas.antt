@@ -7,7 +7,7 @@ use Rattle.csv.specs.Records.{field_at}
 use Rattle.csv.proofs.RecordFacts.{field-get}
 use Rattle.record_reading.specs.Records.{Record, cell_of, first_ragged}
 use Rattle.csv_table.specs.Table.{frame_of, is_over, same_record}
-use Rattle.csv_table.specs.Rows.{first_of}
+use Rattle.csv_table.specs.Records.{first_of}
 use Rattle.record_reading.specs.declared.FrameFault.TheVariants as fault
 
 -- a field that is there is the cell
@@ -58,34 +58,34 @@ not-true false fails = refl
 pub frame-none : (header : Record) (most : Option ℕ) (records : List Record) → length records ≡ 0 → frame_of header most records ≡ Err fault.Header
 unfolding frame_of
 frame-none header most [] none = refl
-frame-none header most (row ∷ rows) none = absurd (omega arith)
+frame-none header most (r ∷ records) none = absurd (omega arith)
 
 module _ (header : Record) (most : Option ℕ) where
   pub frame-width : (line : ℕ) (records : List Record) → first_ragged (length (first_of records)) 1 records ≡ Some line → frame_of header most records ≡ Err (fault.Width line)
   unfolding frame_of first_ragged
   frame-width line [] odd = cc odd
-  frame-width line (row ∷ rows) odd = rw odd refl
+  frame-width line (r ∷ records) odd = rw odd refl
 
   pub frame-header : (records : List Record) → first_ragged (length (first_of records)) 1 records ≡ None → same_record (first_of records) header ≡ false
       → frame_of header most records ≡ Err fault.Header
   unfolding frame_of
   frame-header [] even other = refl
-  frame-header (row ∷ rows) even other = rw (even, other) refl
+  frame-header (r ∷ records) even other = rw (even, other) refl
 
   pub frame-many : (count : ℕ) (records : List Record) → first_ragged (length (first_of records)) 1 records ≡ None → same_record (first_of records) header ≡ true
       → length records ≡ count + 1 → is_over most count ≡ true → frame_of header most records ≡ Err (fault.TooMany count)
   unfolding frame_of
   frame-many count [] even same counted many = absurd (omega arith)
-  frame-many count (row ∷ rows) even same counted many =
-      let all : length rows ≡ count = omega arith in
+  frame-many count (r ∷ records) even same counted many =
+      let all : length records ≡ count = omega arith in
       rw (even, same, all, many) refl
 
   pub frame-ok : (count : ℕ) (records : List Record) → first_ragged (length (first_of records)) 1 records ≡ None → same_record (first_of records) header ≡ true
       → length records ≡ count + 1 → is_over most count ≡ false → frame_of header most records ≡ Ok (drop 1 records)
   unfolding frame_of
   frame-ok count [] even same counted few = absurd (omega arith)
-  frame-ok count (row ∷ rows) even same counted few =
-      let all : length rows ≡ count = omega arith in
+  frame-ok count (r ∷ records) even same counted few =
+      let all : length records ≡ count = omega arith in
       rw (even, same, all, few) refl
 
 -- a number that is not above a limit is at most the limit

@@ -28,10 +28,10 @@ is_over (Some most) count = nat_lt most count
 -- of a text's records those under the header, at most so many, or the first fault of the table as a whole
 unfoldable pub frame_of : Record → Option ℕ → List Record → Result (List Record) FrameFault
 frame_of header most [] = Err fault.Header
-frame_of header most (h ∷ rows) =
-    option_map_or (λ line. Err (fault.Width line)) (first_ragged (length h) 1 (h ∷ rows))
+frame_of header most (h ∷ records) =
+    option_map_or (λ line. Err (fault.Width line)) (first_ragged (length h) 1 (h ∷ records))
     (if same_record h header
-    then (if is_over most (length rows) then Err (fault.TooMany (length rows)) else Ok rows)
+    then (if is_over most (length records) then Err (fault.TooMany (length records)) else Ok records)
     else Err fault.Header)
 
 -- the records under a table's header, or the first fault of the table as a whole, seen as another

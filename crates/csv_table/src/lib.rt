@@ -15,7 +15,7 @@ ghost use Rattle.std.specs.Prelude.{◌≡◌, ◌<◌, ◌≤◌, ◌+◌, ◌+
 ghost use Rattle.csv.specs.Records.{fields_of, partial_of};
 ghost use Rattle.record_reading.specs.Records.{Record, cell_of};
 ghost use Rattle.csv_table.specs.Table.{frame_of, header_line, is_over, number_in, same_record, table_of};
-ghost use Rattle.csv_table.specs.Rows.{IsFlat, IsPushStop, IsRowsStop, first_of, records_in};
+ghost use Rattle.csv_table.specs.Records.{IsFlat, IsPushStop, IsRecordsStop, first_of, records_in};
 
 use csv::{ByteRecord, ReaderBuilder};
 use plain_list::Memory;
@@ -26,7 +26,7 @@ use std::marker::Model;
 
 /// Why the records of a text were not all read.
 #[derive(Debug, Drop)]
-enum RowsStop {
+enum RecordsStop {
     /// The reader was refused memory, or its source failed.
     Reader(csv::Error),
     /// A record has another width than the first.
@@ -37,43 +37,43 @@ enum RowsStop {
 
 /// The records of a text, all of one width: their cells, one record after the other.
 #[derive(Drop)]
-struct Rows {
+struct Records {
     cells: ByteRecord,
     width: usize,
     count: usize,
 }
 
 // The bytes of a record's cell, the first being 0, and no bytes beyond the last.
-fn field(row: &ByteRecord, col: usize) -> &[u8]
-    ensures { result.now ≡ cell_of (fields_of row.now) col }
+fn field(cells: &ByteRecord, col: usize) -> &[u8]
+    ensures { result.now ≡ cell_of (fields_of cells.now) col }
 {
-    match row.get(col) {
+    match cells.get(col) {
         Some(field) => field,
         None => &[],
     }
 }
 
 // Adds the cells of a record at the end. After an error some of them may stand there.
-fn append(cells: &mut ByteRecord, row: &ByteRecord) -> Result<(), AllocError>
+fn append(cells: &mut ByteRecord, more: &ByteRecord) -> Result<(), AllocError>
     requires { partial_of cells.old ≡ [] }
-    ensures cells { IfOk result (λ _. fields_of cells.new ≡ fields_of cells.old ++ fields_of row.now) }
+    ensures cells { IfOk result (λ _. fields_of cells.new ≡ fields_of cells.old ++ fields_of more.now) }
     ensures partial { IfOk result (λ _. partial_of cells.new ≡ []) }
     ensures small { IfOk result (λ _. length (fields_of cells.new) < 2 ^ 64) }
 {
-    for col in 0..row.len() {
-        cells.push_field(field(row, col))?;
+    for col in 0..more.len() {
+        cells.push_field(field(more, col))?;
     }
     let _count = cells.len();
     Ok(())
 }
 
-impl Rows {
+impl Records {
     // No records.
-    fn new(alloc: Global) -> Rows
+    fn new(alloc: Global) -> Records
         ensures flat { IsFlat result }
         ensures none { result.count ≡ 0 }
     {
-        Rows {
+        Records {
             cells: ByteRecord::new(alloc),
             width: 0,
             count: 0,
@@ -81,36 +81,36 @@ impl Rows {
     }
 
     // Adds a record at the end, where it has the width of the others.
-    fn push(&mut self, row: &ByteRecord) -> Result<(), RowsStop>
+    fn push(&mut self, more: &ByteRecord) -> Result<(), RecordsStop>
         requires flat { IsFlat self.old }
         requires small { self.old.count + 2 < 2 ^ 64 }
         ensures flat { IfOk result (λ _. IsFlat self.new) }
         ensures count { IfOk result (λ _. self.new.count ≡ self.old.count + 1) }
-        ensures records { IfOk result (λ _. records_in self.new ≡ records_in self.old ++ fields_of row.now ∷ []) }
-        ensures stop { IfErr result (IsPushStop self.old (fields_of row.now)) }
+        ensures records { IfOk result (λ _. records_in self.new ≡ records_in self.old ++ fields_of more.now ∷ []) }
+        ensures stop { IfErr result (IsPushStop self.old (fields_of more.now)) }
     {
         if self.count == 0 {
-            self.width = row.len();
-        } else if row.len() != self.width {
-            return Err(RowsStop::Width {
+            self.width = more.len();
+        } else if more.len() != self.width {
+            return Err(RecordsStop::Width {
                 line: self.count + 1,
             });
         }
-        if append(&mut self.cells, row).is_err() {
-            return Err(RowsStop::Memory);
+        if append(&mut self.cells, more).is_err() {
+            return Err(RecordsStop::Memory);
         }
         self.count += 1;
         Ok(())
     }
 
     // The bytes of a cell, and no bytes beyond the width.
-    fn cell(&self, row: usize, col: usize) -> &[u8]
+    fn cell(&self, place: usize, col: usize) -> &[u8]
         requires flat { IsFlat self.now }
-        requires row { row < self.now.count }
-        ensures { result.now ≡ cell_of (get_or (records_in self.now) row []) col }
+        requires place { place < self.now.count }
+        ensures { result.now ≡ cell_of (get_or (records_in self.now) place []) col }
     {
         if col < self.width {
-            field(&self.cells, row * self.width + col)
+            field(&self.cells, place * self.width + col)
         } else {
             &[]
         }
@@ -135,37 +135,37 @@ impl Rows {
 }
 
 // All records of a text, the header first, where they are of one width.
-fn rows_of(alloc: Global, bytes: &[u8]) -> Result<Rows, RowsStop>
+fn records_of(alloc: Global, bytes: &[u8]) -> Result<Records, RecordsStop>
     ensures flat { IfOk result IsFlat }
-    ensures ok { IfOk result (λ rows. records_in rows ≡ table_of bytes.now) }
-    ensures err { IfErr result (IsRowsStop (table_of bytes.now)) }
+    ensures ok { IfOk result (λ records. records_in records ≡ table_of bytes.now) }
+    ensures err { IfErr result (IsRecordsStop (table_of bytes.now)) }
 {
     let reader = ReaderBuilder::new()
         .has_headers(false)
         .flexible(true)
         .from_reader(alloc, bytes);
-    let mut rows = Rows::new(alloc);
-    for row in reader.into_byte_records() {
-        match row {
-            Ok(row) => rows.push(&row)?,
-            Err(error) => return Err(RowsStop::Reader(error)),
+    let mut records = Records::new(alloc);
+    for item in reader.into_byte_records() {
+        match item {
+            Ok(more) => records.push(&more)?,
+            Err(error) => return Err(RecordsStop::Reader(error)),
         }
     }
-    Ok(rows)
+    Ok(records)
 }
 
 /// The records under a table's header, each as wide as the header. Contracts see it as the list of these records.
 #[derive(Drop)]
 pub struct Table {
-    rows: Rows,
+    records: Records,
 }
 
 impl Model for Table {
     ghost Value = { List Record };
 
-    ghost view = { λ table. drop 1 (records_in table.rows) };
+    ghost view = { λ table. drop 1 (records_in table.records) };
 
-    ghost invariant = { λ table. IsFlat table.rows × (0 < table.rows.count) };
+    ghost invariant = { λ table. IsFlat table.records × (0 < table.records.count) };
 }
 
 impl Table {
@@ -176,31 +176,31 @@ impl Table {
         // So that a record's line, its place + 2, is a `usize`.
         ensures small { result + 2 < 2 ^ 64 }
     {
-        self.rows.count - 1
+        self.records.count - 1
     }
 
-    /// The bytes of a cell with its quotes undone, records and columns counted from 0: the record at place `row` stands on line `row` + 2.
+    /// The bytes of a cell with its quotes undone, records and columns counted from 0: the record at place `place` stands on line `place` + 2.
     /// A column beyond the table's width is empty.
-    pub fn cell(&self, row: usize, col: usize) -> &[u8]
-        requires { row < length self.now }
-        ensures { result.now ≡ cell_of (get_or self.now row []) col }
+    pub fn cell(&self, place: usize, col: usize) -> &[u8]
+        requires { place < length self.now }
+        ensures { result.now ≡ cell_of (get_or self.now place []) col }
     {
-        self.rows.cell(row + 1, col)
+        self.records.cell(place + 1, col)
     }
 
     /// The number of units of `10^-places` that the decimal in a cell is, records and columns counted from 0.
-    pub fn number(&self, row: usize, col: usize, places: u8) -> Result<i64, FrameFault>
-        requires row { row < length self.now }
-        requires line { row + 2 < 2 ^ 64 }
+    pub fn number(&self, place: usize, col: usize, places: u8) -> Result<i64, FrameFault>
+        requires place { place < length self.now }
+        requires line { place + 2 < 2 ^ 64 }
         requires col { col + 1 < 2 ^ 64 }
         requires places { places ≤ 18 }
         ensures small { IfOk result (λ number. unsigned_abs number < 2 ^ 63) }
-        ensures is { result ≡ number_in (row + 2) (get_or self.now row []) col places }
+        ensures is { result ≡ number_in (place + 2) (get_or self.now place []) col places }
     {
-        match read(self.cell(row, col), places) {
+        match read(self.cell(place, col), places) {
             Ok(number) => Ok(number),
             Err(why) => Err(FrameFault::Cell {
-                line: row + 2,
+                line: place + 2,
                 col: col + 1,
                 why: Why::Decimal(why),
             }),
@@ -219,19 +219,19 @@ fn is_above(count: usize, most: Option<usize>) -> bool
 }
 
 // The records under the header, where the first of some records is the header, and they are not too many.
-fn under_header(rows: Rows, header: &[&str], most: Option<usize>) -> Result<Table, FrameFault>
-    requires { IsFlat rows }
-    ensures is { result ≡ frame_of (map (λ name. name.now) header.now) most (records_in rows) }
+fn under_header(records: Records, header: &[&str], most: Option<usize>) -> Result<Table, FrameFault>
+    requires { IsFlat records }
+    ensures is { result ≡ frame_of (map (λ name. name.now) header.now) most (records_in records) }
     ensures few { IfOk result (λ table. IfSome most (λ most. length table ≤ most)) }
 {
-    if rows.count == 0 || !rows.is_header(header) {
+    if records.count == 0 || !records.is_header(header) {
         return Err(FrameFault::Header);
     }
-    let count = rows.count - 1;
+    let count = records.count - 1;
     if is_above(count, most) {
         return Err(FrameFault::TooMany { count });
     }
-    Ok(Table { rows })
+    Ok(Table { records })
 }
 
 /// Reads the table of a text that has this header and at most `most` records under it, or tells the first fault of its frame.
@@ -245,9 +245,9 @@ pub fn read_table(
     ensures is { IfOk result (λ read. read ≡ frame_of (map (λ name. name.now) header.now) most (table_of bytes.now)) }
     ensures few { IfOk result (λ read. IfOk read (λ table. IfSome most (λ most. length table ≤ most))) }
 {
-    match rows_of(alloc, bytes) {
-        Ok(rows) => Ok(under_header(rows, header, most)),
-        Err(RowsStop::Width { line }) => Ok(Err(FrameFault::Width { line })),
+    match records_of(alloc, bytes) {
+        Ok(records) => Ok(under_header(records, header, most)),
+        Err(RecordsStop::Width { line }) => Ok(Err(FrameFault::Width { line })),
         Err(_) => Err(Memory),
     }
 }

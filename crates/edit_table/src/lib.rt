@@ -86,11 +86,11 @@ enum Form {
 
 /// The side of an offer that a record names.
 #[tactic(auto, unfolding(crate::specs::EditTable::side_in))]
-fn side_of(table: &Table, row: usize) -> Option<Side>
-    requires { row < length table.now }
-    ensures { result ≡ side_in (get_or table.now row []) }
+fn side_of(table: &Table, place: usize) -> Option<Side>
+    requires { place < length table.now }
+    ensures { result ≡ side_in (get_or table.now place []) }
 {
-    let side = table.cell(row, SIDE);
+    let side = table.cell(place, SIDE);
     if side == b"sell".as_slice() {
         Some(Side::Sell)
     } else if side == b"buy".as_slice() {
@@ -102,11 +102,11 @@ fn side_of(table: &Table, row: usize) -> Option<Side>
 
 /// Whether the limit that a record names is the one after an outage.
 #[tactic(auto, unfolding(crate::specs::EditTable::post_in))]
-fn post_of(table: &Table, row: usize) -> Option<bool>
-    requires { row < length table.now }
-    ensures { result ≡ post_in (get_or table.now row []) }
+fn post_of(table: &Table, place: usize) -> Option<bool>
+    requires { place < length table.now }
+    ensures { result ≡ post_in (get_or table.now place []) }
 {
-    let side = table.cell(row, SIDE);
+    let side = table.cell(place, SIDE);
     if side == b"base".as_slice() {
         Some(false)
     } else if side == b"post".as_slice() {
@@ -117,46 +117,46 @@ fn post_of(table: &Table, row: usize) -> Option<bool>
 }
 
 /// Whether a cell is empty.
-fn is_empty(table: &Table, row: usize, col: usize) -> bool
-    requires { row < length table.now }
-    ensures { result ≡ is_empty (get_or table.now row []) col }
+fn is_empty(table: &Table, place: usize, col: usize) -> bool
+    requires { place < length table.now }
+    ensures { result ≡ is_empty (get_or table.now place []) col }
 {
-    table.cell(row, col).is_empty()
+    table.cell(place, col).is_empty()
 }
 
 /// Whether a record has its first word alone.
-fn is_bare(table: &Table, row: usize) -> bool
-    requires { row < length table.now }
-    ensures { result ≡ is_bare (get_or table.now row []) }
+fn is_bare(table: &Table, place: usize) -> bool
+    requires { place < length table.now }
+    ensures { result ≡ is_bare (get_or table.now place []) }
 {
-    is_empty(table, row, TARGET)
-        && is_empty(table, row, SIDE)
-        && is_empty(table, row, BLOCK)
-        && is_empty(table, row, VALUE)
+    is_empty(table, place, TARGET)
+        && is_empty(table, place, SIDE)
+        && is_empty(table, place, BLOCK)
+        && is_empty(table, place, VALUE)
 }
 
 /// What a record is, as its words say: the first cell names it, and those that it has no use for are empty.
 #[tactic(auto, unfolding(crate::specs::EditTable::form_in))]
-fn form_of(table: &Table, row: usize) -> Option<Form>
-    requires { row < length table.now }
-    ensures { result ≡ form_in (get_or table.now row []) }
+fn form_of(table: &Table, place: usize) -> Option<Form>
+    requires { place < length table.now }
+    ensures { result ≡ form_in (get_or table.now place []) }
 {
-    let op = table.cell(row, OP);
+    let op = table.cell(place, OP);
     if op == b"price".as_slice() {
-        let side = side_of(table, row)?;
+        let side = side_of(table, place)?;
         Some(Form::Price(side))
     } else if op == b"quantity".as_slice() {
-        let side = side_of(table, row)?;
+        let side = side_of(table, place)?;
         Some(Form::Quantity(side))
     } else if op == b"demand".as_slice()
-        && is_empty(table, row, SIDE)
-        && is_empty(table, row, BLOCK)
+        && is_empty(table, place, SIDE)
+        && is_empty(table, place, BLOCK)
     {
         Some(Form::Demand)
-    } else if op == b"limit".as_slice() && is_empty(table, row, BLOCK) {
-        let post = post_of(table, row)?;
+    } else if op == b"limit".as_slice() && is_empty(table, place, BLOCK) {
+        let post = post_of(table, place)?;
         Some(Form::Limit { post })
-    } else if op == b"clear".as_slice() && is_bare(table, row) {
+    } else if op == b"clear".as_slice() && is_bare(table, place) {
         Some(Form::Clear)
     } else {
         None
@@ -165,14 +165,14 @@ fn form_of(table: &Table, row: usize) -> Option<Form>
 
 /// The step of a new price of a block.
 #[tactic(auto, unfolding(crate::specs::EditTable::numbers_in))]
-fn price_step(table: &Table, row: usize, side: Side) -> Result<Step, StepFault>
-    requires { (row < length table.now) × (row + 2 < 2 ^ 64) }
+fn price_step(table: &Table, place: usize, side: Side) -> Result<Step, StepFault>
+    requires { (place < length table.now) × (place + 2 < 2 ^ 64) }
     ensures kept { IfOk result IsStep }
-    ensures is { result ≡ numbers_in (row + 2) (get_or table.now row []) (form.Price side) }
+    ensures is { result ≡ numbers_in (place + 2) (get_or table.now place []) (form.Price side) }
 {
-    let unit = table.number(row, TARGET, 0)?;
-    let block = table.number(row, BLOCK, 0)?;
-    let price = table.number(row, VALUE, PRICE_PLACES)?;
+    let unit = table.number(place, TARGET, 0)?;
+    let block = table.number(place, BLOCK, 0)?;
+    let price = table.number(place, VALUE, PRICE_PLACES)?;
     Ok(Step::Edit(Edit::Price {
         unit,
         side,
@@ -183,14 +183,14 @@ fn price_step(table: &Table, row: usize, side: Side) -> Result<Step, StepFault>
 
 /// The step of a new quantity of a block.
 #[tactic(auto, unfolding(crate::specs::EditTable::numbers_in))]
-fn quantity_step(table: &Table, row: usize, side: Side) -> Result<Step, StepFault>
-    requires { (row < length table.now) × (row + 2 < 2 ^ 64) }
+fn quantity_step(table: &Table, place: usize, side: Side) -> Result<Step, StepFault>
+    requires { (place < length table.now) × (place + 2 < 2 ^ 64) }
     ensures kept { IfOk result IsStep }
-    ensures is { result ≡ numbers_in (row + 2) (get_or table.now row []) (form.Quantity side) }
+    ensures is { result ≡ numbers_in (place + 2) (get_or table.now place []) (form.Quantity side) }
 {
-    let unit = table.number(row, TARGET, 0)?;
-    let block = table.number(row, BLOCK, 0)?;
-    let mw = table.number(row, VALUE, MW_PLACES)?;
+    let unit = table.number(place, TARGET, 0)?;
+    let block = table.number(place, BLOCK, 0)?;
+    let mw = table.number(place, VALUE, MW_PLACES)?;
     Ok(Step::Edit(Edit::Quantity {
         unit,
         side,
@@ -201,42 +201,42 @@ fn quantity_step(table: &Table, row: usize, side: Side) -> Result<Step, StepFaul
 
 /// The step of a new load of a bus.
 #[tactic(auto, unfolding(crate::specs::EditTable::numbers_in))]
-fn demand_step(table: &Table, row: usize) -> Result<Step, StepFault>
-    requires { (row < length table.now) × (row + 2 < 2 ^ 64) }
+fn demand_step(table: &Table, place: usize) -> Result<Step, StepFault>
+    requires { (place < length table.now) × (place + 2 < 2 ^ 64) }
     ensures kept { IfOk result IsStep }
-    ensures is { result ≡ numbers_in (row + 2) (get_or table.now row []) form.Demand }
+    ensures is { result ≡ numbers_in (place + 2) (get_or table.now place []) form.Demand }
 {
-    let bus = table.number(row, TARGET, 0)?;
-    let mw = table.number(row, VALUE, MW_PLACES)?;
+    let bus = table.number(place, TARGET, 0)?;
+    let mw = table.number(place, VALUE, MW_PLACES)?;
     Ok(Step::Edit(Edit::Demand { bus, mw }))
 }
 
 /// The step of a new limit of a branch.
 #[tactic(auto, unfolding(crate::specs::EditTable::numbers_in))]
-fn limit_step(table: &Table, row: usize, post: bool) -> Result<Step, StepFault>
-    requires { (row < length table.now) × (row + 2 < 2 ^ 64) }
+fn limit_step(table: &Table, place: usize, post: bool) -> Result<Step, StepFault>
+    requires { (place < length table.now) × (place + 2 < 2 ^ 64) }
     ensures kept { IfOk result IsStep }
-    ensures is { result ≡ numbers_in (row + 2) (get_or table.now row []) (form.Limit post) }
+    ensures is { result ≡ numbers_in (place + 2) (get_or table.now place []) (form.Limit post) }
 {
-    let branch = table.number(row, TARGET, 0)?;
-    let mw = table.number(row, VALUE, MW_PLACES)?;
+    let branch = table.number(place, TARGET, 0)?;
+    let mw = table.number(place, VALUE, MW_PLACES)?;
     Ok(Step::Edit(Edit::Limit { branch, post, mw }))
 }
 
 /// The step of a record: its words first, then its numbers from left to right.
 #[tactic(auto, unfolding(crate::specs::EditTable::numbers_in, crate::specs::EditTable::step_in))]
-fn step_of(table: &Table, row: usize) -> Result<Step, StepFault>
-    requires { (row < length table.now) × (row + 2 < 2 ^ 64) }
+fn step_of(table: &Table, place: usize) -> Result<Step, StepFault>
+    requires { (place < length table.now) × (place + 2 < 2 ^ 64) }
     ensures kept { IfOk result IsStep }
-    ensures is { result ≡ step_in (row + 2) (get_or table.now row []) }
+    ensures is { result ≡ step_in (place + 2) (get_or table.now place []) }
 {
-    match form_of(table, row) {
-        Some(Form::Price(side)) => price_step(table, row, side),
-        Some(Form::Quantity(side)) => quantity_step(table, row, side),
-        Some(Form::Demand) => demand_step(table, row),
-        Some(Form::Limit { post }) => limit_step(table, row, post),
+    match form_of(table, place) {
+        Some(Form::Price(side)) => price_step(table, place, side),
+        Some(Form::Quantity(side)) => quantity_step(table, place, side),
+        Some(Form::Demand) => demand_step(table, place),
+        Some(Form::Limit { post }) => limit_step(table, place, post),
         Some(Form::Clear) => Ok(Step::Clear),
-        None => Err(StepFault::Word { line: row + 2 }),
+        None => Err(StepFault::Word { line: place + 2 }),
     }
 }
 
@@ -247,8 +247,8 @@ fn steps_of(alloc: Global, table: &Table) -> Result<Steps, StepFault>
     ensures is { result ≢ Err StepFault.Memory → result ≡ read_rows (λ _. step_in) [] 2 table.now }
 {
     let mut steps = List::new(alloc);
-    for row in 0..table.len() {
-        let step = step_of(table, row)?;
+    for place in 0..table.len() {
+        let step = step_of(table, place)?;
         steps.push(step)?;
     }
     Ok(steps)

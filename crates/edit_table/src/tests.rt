@@ -44,8 +44,8 @@ fn reads_each_step(rt: HostRuntime) -> Result<(), Fail> {
     Ok(())
 }
 
-fn count(alloc: Global, rows: &str) -> Result<usize, StepFault> {
-    let Ok(table) = format!(in alloc; "op,target,side,block,value\n{rows}") else {
+fn count(alloc: Global, records: &str) -> Result<usize, StepFault> {
+    let Ok(table) = format!(in alloc; "op,target,side,block,value\n{records}") else {
         return Err(StepFault::Memory);
     };
     let steps = steps(alloc, table.as_bytes())?;
@@ -61,7 +61,7 @@ fn tells_the_first_fault(rt: HostRuntime) -> Result<(), Fail> {
             why: Why::Decimal(DecimalFault::BadNumber),
         }))
     };
-    for (rows, want) in [
+    for (records, want) in [
         ("", Ok(0)),
         ("clear,,,,\nclear,,,,\n", Ok(2)),
         ("price,1,sell,,5\n", no_number(4)),
@@ -79,7 +79,7 @@ fn tells_the_first_fault(rt: HostRuntime) -> Result<(), Fail> {
             Err(StepFault::Frame(FrameFault::Width { line: 2 })),
         ),
     ] {
-        assert_eq!(rt; count(rt.alloc(), rows), want);
+        assert_eq!(rt; count(rt.alloc(), records), want);
     }
     Ok(())
 }

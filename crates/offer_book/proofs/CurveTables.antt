@@ -23,7 +23,7 @@ use Rattle.offer_book.specs.declared.offer_table.OfferFault.TheVariants as fault
 use Rattle.offer_book.specs.OfferTable.{header, offer_in, row_in, block_after, block_where, block_in, unit_of_place, follows, last_price, blocks_of_table}
 use Rattle.offer_book.specs.EditLaws.{InOrder, prices, LawOfOfferTables}
 use Rattle.offer_book.proofs.CurveLemmas.{last_follows}
-use Rattle.offer_book.proofs.RoomLemmas.{room-none, room-rows}
+use Rattle.offer_book.proofs.RoomLemmas.{room-none, room-records}
 
 -- the prices of each stair are in order
 abbrev AreInOrder : List Block → Type 0
@@ -89,12 +89,12 @@ order-record list blocks line r o e order =
     let second = then-ok (row_in list.rows line first.0.unit) (λ row. block_where list.units blocks line first.0 (position (λ u. u.row == row) list.units)) o first.2 in
     order-where list.units blocks line first.0 (position (λ u. u.row == second.0) list.units) o second.2 order
 
-order-rows : (list : UnitList) (done : List Block) (line : ℕ) (rows : List Record) (all : List Block) → gather (block_in list) done line rows ≡ Ok all → AreInOrder done → AreInOrder all
+order-records : (list : UnitList) (done : List Block) (line : ℕ) (records : List Record) (all : List Block) → gather (block_in list) done line records ≡ Ok all → AreInOrder done → AreInOrder all
 unfolding gather
-order-rows list done line [] all e order = subst AreInOrder (ok-same done all e) order
-order-rows list done line (r ∷ rows) all e order =
-    let t = then-ok (block_in list done line r) (λ x. gather (block_in list) (done ++ listed x) (line + 1) rows) all e in
-    order-rows list (done ++ listed t.0) (line + 1) rows all t.2 (order-record list done line r t.0 t.1 order)
+order-records list done line [] all e order = subst AreInOrder (ok-same done all e) order
+order-records list done line (r ∷ records) all e order =
+    let t = then-ok (block_in list done line r) (λ x. gather (block_in list) (done ++ listed x) (line + 1) records) all e in
+    order-records list (done ++ listed t.0) (line + 1) records all t.2 (order-record list done line r t.0 t.1 order)
 
 -- ---- the whole table
 order-none : AreInOrder []
@@ -104,7 +104,7 @@ order-none place side i j d below inside = absurd (Prim.omega (arith, inside))
 pub law_of_offer_tables : LawOfOfferTables
 unfolding blocks_of_table
 law_of_offer_tables list bytes blocks sides e =
-    let rows = then-ok (framed fault.Frame header (Some most_blocks) bytes) (gather (block_in list) [] 2) blocks e in
-    let order : AreInOrder blocks = order-rows list [] 2 rows.0 blocks rows.2 order-none in
-    let room = room-rows list [] 2 rows.0 blocks rows.2 (room-none list.units sides) in
+    let records = then-ok (framed fault.Frame header (Some most_blocks) bytes) (gather (block_in list) [] 2) blocks e in
+    let order : AreInOrder blocks = order-records list [] 2 records.0 blocks records.2 order-none in
+    let room = room-records list [] 2 records.0 blocks records.2 (room-none list.units sides) in
     λ place side h. record { monotone = order place side; room = room place _ h side }

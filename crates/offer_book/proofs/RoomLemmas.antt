@@ -93,12 +93,12 @@ room-record list blocks line r o e room =
     room-where list.units blocks line first.0 (position (λ u. u.row == second.0) list.units) o
     (λ p is. let found = position-Some (λ u. u.row == second.0) list.units p (record { row = 0; bus = 0; fixed = pos 0; up = pos 0; down = pos 0 }) is in found.0) second.2 room
 
-pub room-rows : (list : UnitList) (done : List Block) (line : ℕ) (rows : List Record) (all : List Block) → gather (block_in list) done line rows ≡ Ok all → HaveRoom list.units done → HaveRoom list.units all
+pub room-records : (list : UnitList) (done : List Block) (line : ℕ) (records : List Record) (all : List Block) → gather (block_in list) done line records ≡ Ok all → HaveRoom list.units done → HaveRoom list.units all
 unfolding gather
-room-rows list done line [] all e room = subst (HaveRoom list.units) (ok-same done all e) room
-room-rows list done line (r ∷ rows) all e room =
-    let t = then-ok (block_in list done line r) (λ x. gather (block_in list) (done ++ listed x) (line + 1) rows) all e in
-    room-rows list (done ++ listed t.0) (line + 1) rows all t.2 (room-record list done line r t.0 t.1 room)
+room-records list done line [] all e room = subst (HaveRoom list.units) (ok-same done all e) room
+room-records list done line (r ∷ records) all e room =
+    let t = then-ok (block_in list done line r) (λ x. gather (block_in list) (done ++ listed x) (line + 1) records) all e in
+    room-records list (done ++ listed t.0) (line + 1) records all t.2 (room-record list done line r t.0 t.1 room)
 
 -- ---- the whole table, where units have a room of at least 0
 pub room-none : (units : List unit.Unit) → All HasSides units → HaveRoom units []

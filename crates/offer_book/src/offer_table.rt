@@ -84,15 +84,15 @@ fn side_of(text: &[u8], line: usize) -> Result<Side, OfferFault>
 
 /// What a record says: its numbers from left to right, then its side.
 #[tactic(auto, unfolding(crate::specs::OfferTable::offer_in))]
-fn offer_of(table: &Table, row: usize) -> Result<Offer, OfferFault>
-    requires { (row < length table.now) × (row + 2 < 2 ^ 64) }
+fn offer_of(table: &Table, place: usize) -> Result<Offer, OfferFault>
+    requires { (place < length table.now) × (place + 2 < 2 ^ 64) }
     ensures read { IfOk result OfferIsRead }
-    ensures is { result ≡ offer_in (row + 2) (get_or table.now row []) }
+    ensures is { result ≡ offer_in (place + 2) (get_or table.now place []) }
 {
-    let unit = table.number(row, 0, 0)?;
-    let quantity = table.number(row, 2, MW_PLACES)?;
-    let price = table.number(row, 3, PRICE_PLACES)?;
-    let side = side_of(table.cell(row, 1), row + 2)?;
+    let unit = table.number(place, 0, 0)?;
+    let quantity = table.number(place, 2, MW_PLACES)?;
+    let price = table.number(place, 3, PRICE_PLACES)?;
+    let side = side_of(table.cell(place, 1), place + 2)?;
     Ok(Offer {
         unit,
         side,
@@ -259,17 +259,17 @@ fn record_block(
     blocks: &[Block],
     units: &UnitList,
     table: &Table,
-    row: usize,
+    place: usize,
 ) -> Result<Option<Block>, OfferFault>
-    requires row { (row < length table.now) × (row + 2 < 2 ^ 64) }
+    requires place { (place < length table.now) × (place + 2 < 2 ^ 64) }
     requires few { length blocks.now ≤ most_blocks }
     ensures block { IfOk result (λ block. IfSome block (IsBlock (length units.now.units))) }
-    ensures is { result ≡ block_in units.now blocks.now (row + 2) (get_or table.now row []) }
+    ensures is { result ≡ block_in units.now blocks.now (place + 2) (get_or table.now place []) }
 {
-    let offer = offer_of(table, row)?;
-    let gen_row = gen_row(units.rows, offer.unit, row + 2)?;
+    let offer = offer_of(table, place)?;
+    let gen_row = gen_row(units.rows, offer.unit, place + 2)?;
     let live = units.units.slice();
-    live_block(live, blocks, place_of(live, gen_row), offer, row + 2)
+    live_block(live, blocks, place_of(live, gen_row), offer, place + 2)
 }
 
 /// The blocks of a table's records.
@@ -279,8 +279,8 @@ fn blocks_of(alloc: Global, units: &UnitList, table: &Table) -> Result<List<Bloc
     ensures is { result ≢ Err OfferFault.Memory → result ≡ gather (block_in units.now) [] 2 table.now }
 {
     let mut blocks = List::new(alloc);
-    for row in 0..table.len() {
-        let block = record_block(blocks.slice(), units, table, row)?;
+    for place in 0..table.len() {
+        let block = record_block(blocks.slice(), units, table, place)?;
         push_some(&mut blocks, block)?;
     }
     Ok(blocks)

@@ -7,27 +7,27 @@ use Rattle.edit_table.proofs.steps_of.Goals as goal
 
 pub returns-in_err-step-clause-is : goal.returns-in_err-step-clause-is
 returns-in_err-step-clause-is c =
-    let lt : c.loop-row.row < length c.args.table.now = omega arith in
-    let here = c.loop-row.invariant.is
-    ∙ read_rows-fault (λ (_ : List Step). step_in) c.loop-row.steps (c.loop-row.row + 2) c.args.table.now c.loop-row.row c.in_err-step.field-0.0 lt (sym c.step_of.ensures.is ∙ c.in_err-step.was) in
+    let lt : c.loop-place.place < length c.args.table.now = omega arith in
+    let here = c.loop-place.invariant.is
+    ∙ read_rows-fault (λ (_ : List Step). step_in) c.loop-place.steps (c.loop-place.place + 2) c.args.table.now c.loop-place.place c.in_err-step.field-0.0 lt (sym c.step_of.ensures.is ∙ c.in_err-step.was) in
     let given : c.from_residual.result ≡ Err c.in_err-step.field-0.0 = search rules in
     λ _. given ∙ sym here
 
-pub loop-row-preserved : goal.loop-row-preserved
-loop-row-preserved c =
-    let lt : c.loop-row.row < length c.args.table.now = omega arith in
-    let here = c.loop-row.invariant.is
-    ∙ read_rows-step (λ (_ : List Step). step_in) c.loop-row.steps (c.loop-row.row + 2) c.args.table.now c.loop-row.row c.in_ok-step.step lt (sym c.step_of.ensures.is ∙ c.in_ok-step.was) in
-    let added : c.push.new.self ≡ c.loop-row.steps ++ c.in_ok-step.step ∷ [] = search rules in
-    let next : c.loop-row.row + 2 + 1 ≡ c.loop-row.row + 1 + 2 = omega arith in
-    let more = All-append IsStep c.loop-row.steps (c.in_ok-step.step ∷ []) c.loop-row.invariant.steps (All-cons IsStep c.in_ok-step.step [] c.in_ok-step.ensures.kept (All-nil IsStep)) in
+pub loop-place-preserved : goal.loop-place-preserved
+loop-place-preserved c =
+    let lt : c.loop-place.place < length c.args.table.now = omega arith in
+    let here = c.loop-place.invariant.is
+    ∙ read_rows-step (λ (_ : List Step). step_in) c.loop-place.steps (c.loop-place.place + 2) c.args.table.now c.loop-place.place c.in_ok-step.step lt (sym c.step_of.ensures.is ∙ c.in_ok-step.was) in
+    let added : c.push.new.self ≡ c.loop-place.steps ++ c.in_ok-step.step ∷ [] = search rules in
+    let next : c.loop-place.place + 2 + 1 ≡ c.loop-place.place + 1 + 2 = omega arith in
+    let more = All-append IsStep c.loop-place.steps (c.in_ok-step.step ∷ []) c.loop-place.invariant.steps (All-cons IsStep c.in_ok-step.step [] c.in_ok-step.ensures.kept (All-nil IsStep)) in
     record {
-      count = omega (arith, ap length added, length-append c.loop-row.steps (c.in_ok-step.step ∷ []));
+      count = omega (arith, ap length added, length-append c.loop-place.steps (c.in_ok-step.step ∷ []));
       steps = rw added more;
       is = rw (added, ← next) here;
     }
 
 pub returns-clause-is : goal.returns-clause-is
 returns-clause-is c =
-    let le : length c.args.table.now ≤ c.loop-row.row = omega arith in
-    λ _. sym (c.loop-row.invariant.is ∙ read_rows-end (λ (_ : List Step). step_in) c.loop-row.steps (c.loop-row.row + 2) c.args.table.now c.loop-row.row le)
+    let le : length c.args.table.now ≤ c.loop-place.place = omega arith in
+    λ _. sym (c.loop-place.invariant.is ∙ read_rows-end (λ (_ : List Step). step_in) c.loop-place.steps (c.loop-place.place + 2) c.args.table.now c.loop-place.place le)

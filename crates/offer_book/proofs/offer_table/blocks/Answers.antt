@@ -8,7 +8,7 @@ use Rattle.offer_book.specs.declared.offer_table.OfferFault.TheVariants as fault
 use Rattle.offer_book.specs.Offers.{HasSides}
 use Rattle.offer_book.specs.OfferTable.{block_in, blocks_of_table, header}
 use Rattle.csv_table.proofs.Framed.{framed-fault, framed-fits}
-use Rattle.offer_book.proofs.RoomLemmas.{room-rows, room-none}
+use Rattle.offer_book.proofs.RoomLemmas.{room-records, room-none}
 use Rattle.offer_book.proofs.offer_table.blocks.Goals as goal
 
 pub returns-in_err-table-clause-is : goal.returns-in_err-table-clause-is
@@ -26,5 +26,5 @@ pub returns-clause-room : goal.returns-clause-room
 returns-clause-room c = λ sides. by c.blocks_of.result (λ fine. c.blocks_of.ensures.is fine) sides
   where
     by : (r : Result (List Block) OfferFault) → (r ≢ Err fault.Memory → r ≡ gather (block_in c.args.units.now) [] 2 c.in_ok-table.table) → All HasSides c.args.units.now.units → IfOk r (HaveRoom c.args.units.now.units)
-    by (Ok all) is sides = room-rows c.args.units.now [] 2 c.in_ok-table.table all (sym (is (λ m. cc m))) (room-none c.args.units.now.units sides)
+    by (Ok all) is sides = room-records c.args.units.now [] 2 c.in_ok-table.table all (sym (is (λ m. cc m))) (room-none c.args.units.now.units sides)
     by (Err f) is sides = tt

@@ -11,5 +11,5 @@ returns-clause-is c =
     let offer = sym c.offer_of.ensures.is ∙ c.in_ok-offer.was in
     let unit : to_z w64 (of_z w64 c.in_ok-offer.offer.unit) ≡ c.in_ok-offer.offer.unit =
     to_z-of_z w64 c.in_ok-offer.offer.unit (datum_fits c.in_ok-offer.offer.unit c.in_ok-offer.ensures.read.unit) in
-    let row : row_in c.args.units.now.rows (c.args.row + 2) c.in_ok-offer.offer.unit ≡ Ok c.in_ok-gen_row.gen_row = rw unit at (sym c.gen_row.ensures ∙ c.in_ok-gen_row.was) in
+    let row : row_in c.args.units.now.rows (c.args.place + 2) c.in_ok-offer.offer.unit ≡ Ok c.in_ok-gen_row.gen_row = rw unit at (sym c.gen_row.ensures ∙ c.in_ok-gen_row.was) in
     rw (offer, row, ← c.slice-live.ensures, ← c.place_of.ensures.is) c.live_block.ensures.is

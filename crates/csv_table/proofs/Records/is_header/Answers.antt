@@ -1,10 +1,10 @@
 use Rattle.std.proofs.Common.{arith, ◌≡◌, ◌≢◌, ◌<◌, sym, map, length, List, ℕ, [], Bor}
 use Rattle.std.proofs.lemmas.List.{length-map}
 use Rattle.std.proofs.Math.ListN.{get_or-map}
-use Rattle.csv_table.specs.Rows.{first_of, records_in}
+use Rattle.csv_table.specs.Records.{first_of, records_in}
 use Rattle.csv_table.proofs.CutLemmas.{records-wide}
 use Rattle.csv_table.proofs.FrameLemmas.{not-true, other-at, other-length, same-at_each}
-use Rattle.csv_table.proofs.Rows.is_header.Goals as goal
+use Rattle.csv_table.proofs.Records.is_header.Goals as goal
 
 pub returns-then-self-header : goal.returns-then-self-header
 returns-then-self-header c =

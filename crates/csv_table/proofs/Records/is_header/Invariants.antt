@@ -1,7 +1,7 @@
 use Rattle.std.proofs.Common.{◌≡◌, ◌<◌, ℕ, [], true, map, get_or}
 use Rattle.std.specs.Str.{bytes_eq}
-use Rattle.csv_table.specs.Rows.{first_of, records_in}
-use Rattle.csv_table.proofs.Rows.is_header.Given as goal
+use Rattle.csv_table.specs.Records.{first_of, records_in}
+use Rattle.csv_table.proofs.Records.is_header.Given as goal
 
 -- the names before this one are those of the first record
 abbrev pub invariant-loop-col : goal.invariant-loop-col
