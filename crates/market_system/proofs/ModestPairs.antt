@@ -283,9 +283,11 @@ module _ (m : Parts) (market : IsMarket m) (lines : m.lines ≡ []) (modest : Is
     settled_fits best terms (payment same (paid_by_load i lt)) = step_fits terms (modest_price * most_output) (Prim.omega arith)
         (times_within modest_price most_output (bus_price m (choice_duals m [] h) i) (demand m i) (bus_price_within modest_price (choice_duals m [] h) i price_is_modest) (demand_within m market modest i lt), tt)
         (Prim.omega arith)
-    settled_fits best terms (payment same (paid_to_unit u lt)) = step_fits terms (modest_price * most_output) (Prim.omega arith)
-        (times_within modest_price most_output (unit_price m (choice_duals m [] h) u) (output m (choice_dispatch m [] h) u) (bus_price_within modest_price (choice_duals m [] h) (unit_at m u).bus price_is_modest)
-        (output_within m market modest (choice_dispatch m [] h) (best_small best) u lt), tt)
+    settled_fits best terms (payment same (paid_to_unit u lt)) = step_fits terms (modest_price * most_output) (Prim.omega arith) (
+      times_within modest_price most_output (unit_price m (choice_duals m [] h) u) (output m (choice_dispatch m [] h) u) (bus_price_within modest_price (choice_duals m [] h) (unit_at m u).bus price_is_modest)
+          (output_within m market modest (choice_dispatch m [] h) (best_small best) u lt),
+      tt,
+    )
         (Prim.omega arith)
     settled_fits best terms (payment same left_of_all) = surplus_fits best
     settled_fits best terms (payment same (rent_of_row r c)) = absurd (no_named (choice_duals m [] h) r c)

@@ -149,7 +149,7 @@ module _ (M : Fraction → Type 0) (turned : (x : Fraction) → M x → M (neg_�
       }
       by (inr e) =
           let is : neg_ℚ (prefix (k + 1) terms) ≡ neg_ℚ (prefix k terms) +ℚ l *ℚ r =
-              ap neg_ℚ more ∙ by_ring ring_ℚ (prefix k terms ∷ term_value (term_at terms k) ∷ []) (pneg (at 0 ⊕ at 1)) (pneg (at 0) ⊕ pneg (at 1)) refl ∙ ap (λ t. neg_ℚ (prefix k terms) +ℚ t) (sym e) in
+          ap neg_ℚ more ∙ by_ring ring_ℚ (prefix k terms ∷ term_value (term_at terms k) ∷ []) (pneg (at 0 ⊕ at 1)) (pneg (at 0) ⊕ pneg (at 1)) refl ∙ ap (λ t. neg_ℚ (prefix k terms) +ℚ t) (sym e) in
           record {
             number = neg_ℚ (prefix k terms) +ℚ l *ℚ r;
             is_number = subst M is (turned (prefix (k + 1) terms) (numbers (k + 1)));
