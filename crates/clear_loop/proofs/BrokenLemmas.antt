@@ -14,7 +14,6 @@ use Rattle.market_model.specs.Overrun.{size_by, overrun, IsWorst}
 use Rattle.market_model.specs.declared.limits.Row.{Row}
 use Rattle.market_model.specs.LimitRows.{rows, limit, flow, flow_by, most_flow}
 use Rattle.market_model.specs.Market.{IsMarket}
-use Rattle.market_model.specs.NamedSums.{SameSize}
 use Rattle.market_model.specs.Optimality.{AreWithin, Within}
 use Rattle.market_model.proofs.ChangeLemmas.{same_default}
 use Rattle.market_system.specs.Growth.{Broken}
