@@ -23,10 +23,10 @@ first_buses n seed k = record (bare_parts
       loss = factors_by loss_of n;
     }
 
-pub no-bus : (n seed : ℕ) (buses : List Bus) (units : List unit.Unit) (blocks : List Block) (lines : List Line) (outages : List ℕ) (shift loss : List Factor)
-    → buses ≡ [] → units ≡ [] → blocks ≡ [] → lines ≡ [] → outages ≡ [] → shift ≡ factors_by (shift_of n) n → loss ≡ factors_by loss_of n
-    → (let m : Parts = record (bare_parts buses units blocks) { lines = lines; outages = outages; shift = shift; loss = loss } in m ≡ first_buses n seed 0)
-no-bus n seed buses units blocks lines outages shift loss a b c d e f g = rw (a, b, c, d, e, f, g) refl
+pub no-bus : (n seed : ℕ) (bare : Parts) (buses : List Bus) (units : List unit.Unit) (blocks : List Block) (shift loss : List Factor)
+    → bare ≡ bare_parts buses units blocks → buses ≡ [] → units ≡ [] → blocks ≡ [] → shift ≡ factors_by (shift_of n) n → loss ≡ factors_by loss_of n
+    → (let m : Parts = record bare { shift = shift; loss = loss } in m ≡ first_buses n seed 0)
+no-bus n seed bare buses units blocks shift loss a b c d e f = rw (a, b, c, d, e, f) refl
 
 pub all-buses : (n seed k : ℕ) (m : Parts) → k ≤ n → n ≤ k → m ≡ first_buses n seed k → m ≡ ring_of n seed
 all-buses n seed k m p q is = is ∙ ap (first_buses n seed) (let e : k ≡ n = omega (arith, p, q) in e)

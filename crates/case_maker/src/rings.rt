@@ -99,13 +99,9 @@ pub fn ring(alloc: Global, buses: usize, seed: u64) -> Result<Market, Memory>
     ensures kept { IfOk result IsMarket }
 {
     let mut parts = Parts {
-        buses: List::new(alloc),
-        units: List::new(alloc),
-        blocks: List::new(alloc),
-        lines: List::new(alloc),
-        outages: List::new(alloc),
         shift: shift_factors(alloc, buses)?,
         loss: loss_factors(alloc, buses)?,
+        ..Parts::bare(alloc, List::new(alloc), List::new(alloc), List::new(alloc))
     };
     let mut draws = Draws::new(seed);
     for place in 0..buses {

@@ -23,7 +23,6 @@ use Rattle.market_dict.specs.Holding.{HoldsMarket}
 use Rattle.market_dict.specs.PricesAndBounds.{ArePricesAndBounds}
 use Rattle.market_dict.specs.declared.posing.PricesAndBounds.{PricesAndBounds}
 use Rattle.clear_loop.specs.Rounds.{GrowsByOne, IsInHand}
-use Rattle.clear_loop.specs.Starts.{rows_in}
 use Rattle.clear_loop.specs.declared.hand.Taken.{Taken}
 
 -- ---- one row more
@@ -37,28 +36,23 @@ pub grown_more : (m : Parts) (t g new : List Row) → Growth m t g → GrowsByOn
 grown_more m t g new grown (r, is, inside, broken) = subst (Growth m t) (sym is) (growth_more m t g broken.0 r grown broken.1 broken.2 inside)
 
 -- rounds come nearer to all rows
-pub comes_nearer : (m : Parts) (old new : Taken) → GrowsByOne m (rows_in old) (rows_in new) → AreRows m (rows_in new) → (length (rows m) - length new.rows) < (length (rows m) - length old.rows)
+pub comes_nearer : (m : Parts) (old new : Taken) → GrowsByOne m old.rows new.rows → AreRows m new.rows → (length (rows m) - length new.rows) < (length (rows m) - length old.rows)
 comes_nearer m old new (r, is, inside, broken) are =
-    let one : length (rows_in new) ≡ length (rows_in old) + 1 = ap length is ∙ length-append (rows_in old) (r ∷ []) in
-    let few : length (rows_in new) ≤ length (rows m) = rows_few m (rows_in new) are in
+    let one : length new.rows ≡ length old.rows + 1 = ap length is ∙ length-append old.rows (r ∷ []) in
+    let few : length new.rows ≤ length (rows m) = rows_few m new.rows are in
     Prim.omega (arith, one, few)
 
 module _ {N : Type 0} (worth : N → Fraction) (m : Parts) where
-  pub rows_grown : (old new : Taken) (row : Row) → new.rows ≡ old.rows ++ row ∷ [] → rows_in new ≡ rows_in old ++ row ∷ []
-  rows_grown old new row put = put
-
   pub hand_grown : (old new : Taken) (row : Row) (warm : Option Dictionary) (d : Dictionary) (posing : PricesAndBounds N) → new.rows ≡ old.rows ++ row ∷ [] → new.names ≡ old.names ++ row_id m row ∷ []
-      → old.names ≡ map (row_id m) (rows_in old) → warm ≡ Some d → HoldsMarket m (rows_in old ++ row ∷ []) d → ArePricesAndBounds worth m (rows_in old ++ row ∷ []) posing
+      → old.names ≡ map (row_id m) old.rows → warm ≡ Some d → HoldsMarket m (old.rows ++ row ∷ []) d → ArePricesAndBounds worth m (old.rows ++ row ∷ []) posing
       → IsInHand worth m (record { warm = warm; posing = posing; taken = new })
-  hand_grown old new row warm d posing put named names is holds are =
-      let grown = rows_grown old new row put in
-      record {
-        start = (d, is, subst (λ g. HoldsMarket m g d) (sym grown) holds);
-        posing = subst (λ g. ArePricesAndBounds worth m g posing) (sym grown) are;
-        names =
-            named ∙ ap (λ (ns : List RowId). ns ++ row_id m row ∷ []) names ∙ sym (map-append (row_id m) (rows_in old) (row ∷ []))
-            ∙ sym (ap (map (row_id m)) grown);
-      }
+  hand_grown old new row warm d posing grown named names is holds are = record {
+    start = (d, is, subst (λ g. HoldsMarket m g d) (sym grown) holds);
+    posing = subst (λ g. ArePricesAndBounds worth m g posing) (sym grown) are;
+    names =
+        named ∙ ap (λ (ns : List RowId). ns ++ row_id m row ∷ []) names ∙ sym (map-append (row_id m) old.rows (row ∷ []))
+        ∙ sym (ap (map (row_id m)) grown);
+  }
 
   -- ---- a dispatch that solves the market over the rows in hand
   pub dispatch_count : (g : List Row) (ds : List N) (d : Duals Fraction) → IsSolvedBy m g (dispatch_of worth ds) d → length ds ≡ length m.blocks

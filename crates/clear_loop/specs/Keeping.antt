@@ -10,25 +10,29 @@ use Rattle.market_model.specs.declared.limits.Row.{Row}
 use Rattle.market_model.specs.declared.limits.Cause.TheVariants.{Base, Branch}
 use Rattle.market_model.specs.LimitRows.{row_id}
 use Rattle.market_dict.specs.Holding.{HoldsMarket}
+use Rattle.clear_loop.specs.declared.hand.Taken.{Taken}
 
 -- the dictionary, and its limit rows in the order in which they were taken, with their names
 pub record Kept : Type 0 where
   pub dict : Option Dictionary
-  pub rows : List Row
-  pub names : List RowId
+  pub taken : Taken
+
+-- no rows are taken
+abbrev pub untaken : Taken
+untaken = record { rows = []; names = [] }
 
 -- nothing is kept
 abbrev pub cold : Kept
-cold = record { dict = None; rows = []; names = [] }
+cold = record { dict = None; taken = untaken }
 
--- a start for a market, with these rows and names: none without rows, or a dictionary that holds the market over the rows
-abbrev pub IsStartOf : Parts → List Row → List RowId → Option Dictionary → Type 0
-IsStartOf m rows names None = (rows ≡ []) × (names ≡ [])
-IsStartOf m rows names (Some d) = HoldsMarket m rows d × (names ≡ map (row_id m) rows)
+-- a start for a market, with these rows taken: none without rows, or a dictionary that holds the market over the rows
+abbrev pub IsStartOf : Parts → Taken → Option Dictionary → Type 0
+IsStartOf m t None = t ≡ untaken
+IsStartOf m t (Some d) = HoldsMarket m t.rows d × (t.names ≡ map (row_id m) t.rows)
 
 -- what is kept is a start for this market
 abbrev pub FitsFrame : Parts → Kept → Type 0
-FitsFrame m k = IsStartOf m k.rows k.names k.dict
+FitsFrame m k = IsStartOf m k.taken k.dict
 
 -- ---- its code
 abbrev pub coded_as : Cause → Option ℕ
@@ -52,4 +56,4 @@ name_code = code_by (ℕ × ℕ) (coded× coded_ℕ coded_ℕ) (λ n. (n.branch,
 
 abbrev pub kept_code : Coded Kept
 kept_code = code_by (Option Dictionary × (List Row × List RowId)) (coded× (coded_option dictionary_code) (coded× (coded_list row_code) (coded_list name_code)))
-    (λ k. (k.dict, (k.rows, k.names))) (λ p. record { dict = p.0; rows = p.1.0; names = p.1.1 }) (λ _. refl)
+    (λ k. (k.dict, (k.taken.rows, k.taken.names))) (λ p. record { dict = p.0; taken = record { rows = p.1.0; names = p.1.1 } }) (λ _. refl)

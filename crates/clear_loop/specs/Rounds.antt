@@ -27,7 +27,6 @@ use Rattle.clear_loop.specs.declared.rounds.Round.{Round}
 use Rattle.clear_loop.specs.declared.rounds.Round.TheVariants as round
 use Rattle.clear_loop.specs.declared.screen.Screened.{Screened}
 use Rattle.clear_loop.specs.declared.screen.Screened.TheVariants as screened
-use Rattle.clear_loop.specs.Starts.{rows_in}
 
 -- a dictionary that holds the market over these rows
 abbrev pub HoldsStart : Parts → List Row → Option Dictionary → Type 0
@@ -35,9 +34,9 @@ HoldsStart m g start = (d : Dictionary) × (start ≡ Some d) × HoldsMarket m g
 
 -- a start over the rows in hand, with the prices and bounds of the market over them, and their names
 pub record IsInHand {N : Type 0} (value : N → Fraction) (m : Parts) (h : Hand N) : Type 0 where
-  pub start : HoldsStart m (rows_in h.taken) h.warm
-  pub posing : ArePricesAndBounds value m (rows_in h.taken) h.posing
-  pub names : h.taken.names ≡ map (row_id m) (rows_in h.taken)
+  pub start : HoldsStart m h.taken.rows h.warm
+  pub posing : ArePricesAndBounds value m h.taken.rows h.posing
+  pub names : h.taken.names ≡ map (row_id m) h.taken.rows
 
 -- the rows with one more of the market behind, which a best dispatch for them breaks
 abbrev pub GrowsByOne : Parts → List Row → List Row → Type 0
@@ -55,14 +54,14 @@ IsEnd value m g (Err f) = IsFarkas m (farkas_at value f) × PricesOnly m g (dual
 
 -- the clear ends so, with a dictionary that holds the market over the rows taken
 pub record IsEnded {N : Type 0} (value : N → Fraction) (m : Parts) (e : Ended N) : Type 0 where
-  pub holds : HoldsMarket m (rows_in e.taken) e.dict
-  pub names : e.taken.names ≡ map (row_id m) (rows_in e.taken)
-  pub end : IsEnd value m (rows_in e.taken) e.answer
+  pub holds : HoldsMarket m e.taken.rows e.dict
+  pub names : e.taken.names ≡ map (row_id m) e.taken.rows
+  pub end : IsEnd value m e.taken.rows e.answer
 
 -- what a round over these rows comes to: one more row, or the end
 abbrev pub IsRound : {N : Type 0} → (N → Fraction) → Parts → List Row → Round N → Type 0
-IsRound value m g (round.Broken hand) = IsInHand value m hand × GrowsByOne m g (rows_in hand.taken)
-IsRound value m g (round.Done ended) = IsEnded value m ended × (rows_in ended.taken ≡ g)
+IsRound value m g (round.Broken hand) = IsInHand value m hand × GrowsByOne m g hand.taken.rows
+IsRound value m g (round.Done ended) = IsEnded value m ended × (ended.taken.rows ≡ g)
 
 -- where numbers became too large, the two are a working pair of the market over rows reached from those taken
 abbrev pub StopsInRange : {N : Type 0} → (N → Fraction) → ℕ → Parts → List Row → Stop N → Type 0

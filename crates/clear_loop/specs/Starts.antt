@@ -1,25 +1,16 @@
 -- The limit rows taken, as a clearer has them.
-use Rattle.std.specs.Prelude.{◌≡◌, Option, Some, None, List, [], length}
+use Rattle.std.specs.Prelude.{◌≡◌, Option, Some, None, length}
 use Rattle.linear_dict.specs.Dictionaries.{Dictionary}
-use Rattle.market_model.specs.declared.answered.RowId.{RowId}
-use Rattle.market_model.specs.declared.limits.Row.{Row}
 use Rattle.clear_loop.specs.declared.hand.Taken.{Taken}
-use Rattle.clear_loop.specs.Keeping.{Kept}
+use Rattle.clear_loop.specs.Keeping.{Kept, untaken}
 
-abbrev pub rows_in : Taken → List Row
-rows_in t = t.rows
-
-abbrev pub rows_taken : Option Taken → List Row
-rows_taken None = []
-rows_taken (Some t) = rows_in t
-
-abbrev pub names_taken : Option Taken → List RowId
-names_taken None = []
-names_taken (Some t) = t.names
+abbrev pub taken_in : Option Taken → Taken
+taken_in None = untaken
+taken_in (Some t) = t
 
 -- what is kept, as callers see it
 abbrev pub kept_as : Option Dictionary → Option Taken → Kept
-kept_as d t = record { dict = d; rows = rows_taken t; names = names_taken t }
+kept_as d t = record { dict = d; taken = taken_in t }
 
 -- a name for each row
 abbrev pub AreNamed : Option Taken → Type 0

@@ -6,7 +6,6 @@ ghost use Rattle.market_model.specs.LimitRows.{row_id};
 ghost use Rattle.clear_loop.specs.Clearing.{ClearComesTo, KeepsStart};
 ghost use Rattle.clear_loop.specs.Keeping.{FitsFrame, Kept, cold};
 ghost use Rattle.clear_loop.specs.Rounds.{HoldsStart, IsInHand, StopsInRange};
-ghost use Rattle.clear_loop.specs.Starts.{rows_in};
 
 use crate::fault::ClearFault;
 use crate::hand::{Hand, Taken, rows_or_none, started};
@@ -57,7 +56,7 @@ fn unused<N: Exact>() -> Clearer<N>
 fn keeping<N: Exact>(dict: Dict<N>, taken: Taken) -> Clearer<N>
     requires live { dict.spent ≡ false }
     requires names { length taken.names ≡ length taken.rows }
-    ensures { result ≡ record { dict = Some dict; rows = rows_in taken; names = taken.names } }
+    ensures { result ≡ record { dict = Some dict; taken = taken } }
 {
     Clearer {
         warm: started(dict),
@@ -67,7 +66,7 @@ fn keeping<N: Exact>(dict: Dict<N>, taken: Taken) -> Clearer<N>
 
 /// The start, or that of a market over none of its limits where there is none.
 fn warmed<N: Exact>(alloc: Global, market: &Market, warm: Warm<N>) -> Result<Warm<N>, Memory>
-    ensures { (k : Kept) → k.dict ≡ warm → FitsFrame market.now k → IfOk result (HoldsStart market.now k.rows) }
+    ensures { (k : Kept) → k.dict ≡ warm → FitsFrame market.now k → IfOk result (HoldsStart market.now k.taken.rows) }
 {
     if warm.is_kept() {
         Ok(warm)
@@ -84,8 +83,8 @@ fn first_hand<N: Exact>(
 ) -> Result<Hand<N>, Stop<N>>
     requires { FitsFrame market.now clearer }
     ensures hand { IfOk result (IsInHand N.value market.now) }
-    ensures rows { IfOk result (λ hand. rows_in hand.taken ≡ clearer.rows) }
-    ensures cause { IfErr result (StopsInRange N.value N.bound market.now clearer.rows) }
+    ensures taken { IfOk result (λ hand. hand.taken ≡ clearer.taken) }
+    ensures cause { IfErr result (StopsInRange N.value N.bound market.now clearer.taken.rows) }
 {
     let _lines = market.lines();
     let warm = warmed(alloc, market, clearer.warm)?;
@@ -109,7 +108,7 @@ impl<N: Exact> Clearer<N> {
 
     /// How many limits the last clear ended with; none where numbers became too large, or memory was refused.
     pub fn taken(&self) -> usize
-        ensures { result ≡ length self.now.rows }
+        ensures { result ≡ length self.now.taken.rows }
     {
         match &self.taken {
             Some(taken) => taken.rows.len(),
@@ -119,8 +118,8 @@ impl<N: Exact> Clearer<N> {
 
     /// The name of one of these, in the order in which they were taken, the first being 0.
     pub fn taken_row(&self, place: usize) -> RowId
-        requires { place < length self.now.rows }
-        ensures { slice_get self.now.names place ≡ Some result }
+        requires { place < length self.now.taken.rows }
+        ensures { slice_get self.now.taken.names place ≡ Some result }
     {
         match &self.taken {
             Some(taken) => *taken.names.at(place),
@@ -136,7 +135,7 @@ impl<N: Exact> Clearer<N> {
     pub fn clear(&mut self, alloc: Global, market: &Market) -> Result<Answer<N>, ClearFault<N>>
         requires frame { FitsFrame market.now self.old }
         ensures fits { IfOk result (FitsMarket market.now) }
-        ensures clear { ClearComesTo N.value N.bound market.now self.old.rows result self.new.rows }
+        ensures clear { ClearComesTo N.value N.bound market.now self.old.taken.rows result self.new.taken.rows }
         ensures frame { FitsFrame market.now self.new }
         ensures kept { KeepsStart result self.new }
     {

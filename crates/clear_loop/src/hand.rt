@@ -7,7 +7,7 @@ ghost use Rattle.market_system.specs.Growth.{BestFor, Broken};
 ghost use Rattle.market_dict.specs.Holding.{HoldsMarket};
 ghost use Rattle.market_dict.specs.PricesAndBounds.{ArePricesAndBounds};
 ghost use Rattle.clear_loop.specs.Rounds.{IsInHand, StopsInRange};
-ghost use Rattle.clear_loop.specs.Starts.{names_taken, rows_in, rows_taken};
+ghost use Rattle.clear_loop.specs.Starts.{taken_in};
 
 use dual_restart::Warm;
 use exact_fraction::Exact;
@@ -35,8 +35,7 @@ pub(crate) struct Hand<N: Exact> {
 
 /// The limits taken, or none.
 pub(crate) fn rows_or_none(alloc: Global, taken: Option<Taken>) -> Taken
-    ensures rows { rows_in result ≡ rows_taken taken }
-    ensures names { result.names ≡ names_taken taken }
+    ensures { result ≡ taken_in taken }
 {
     match taken {
         Some(taken) => taken,
@@ -78,14 +77,14 @@ pub(crate) fn with_row<N: Exact>(
     taken: Taken,
     row: Row,
 ) -> Result<Hand<N>, Stop<N>>
-    requires holds { HoldsMarket market.now (rows_in taken) dict }
-    requires posing { ArePricesAndBounds N.value market.now (rows_in taken) posing }
-    requires names { taken.names ≡ map (row_id market.now) (rows_in taken) }
+    requires holds { HoldsMarket market.now taken.rows dict }
+    requires posing { ArePricesAndBounds N.value market.now taken.rows posing }
+    requires names { taken.names ≡ map (row_id market.now) taken.rows }
     requires row { Contains (rows market.now) row }
-    requires broken { (x : Dispatch) × BestFor market.now (rows_in taken) x × Broken market.now x row }
+    requires broken { (x : Dispatch) × BestFor market.now taken.rows x × Broken market.now x row }
     ensures hand { IfOk result (IsInHand N.value market.now) }
-    ensures rows { IfOk result (λ hand. rows_in hand.taken ≡ rows_in taken ++ row ∷ []) }
-    ensures cause { IfErr result (StopsInRange N.value N.bound market.now (rows_in taken)) }
+    ensures rows { IfOk result (λ hand. hand.taken.rows ≡ taken.rows ++ row ∷ []) }
+    ensures cause { IfErr result (StopsInRange N.value N.bound market.now taken.rows) }
 {
     let _lines = market.lines();
     let mut dict = dict;

@@ -3,7 +3,6 @@
 ghost use Rattle.std.specs.Prelude.{IfOk, IfErr};
 ghost use Rattle.market_system.specs.Growth.{Growth};
 ghost use Rattle.clear_loop.specs.Rounds.{IsEnded, IsInHand, IsRound, StopsInRange};
-ghost use Rattle.clear_loop.specs.Starts.{rows_in};
 
 use crate::answering::answer_of;
 use crate::hand::{Hand, Taken, with_row};
@@ -33,8 +32,8 @@ enum Round<N: Exact> {
 /// One round.
 fn one_round<N: Exact>(alloc: Global, market: &Market, hand: Hand<N>) -> Result<Round<N>, Stop<N>>
     requires { IsInHand N.value market.now hand }
-    ensures round { IfOk result (IsRound N.value market.now (rows_in hand.taken)) }
-    ensures cause { IfErr result (StopsInRange N.value N.bound market.now (rows_in hand.taken)) }
+    ensures round { IfOk result (IsRound N.value market.now hand.taken.rows) }
+    ensures cause { IfErr result (StopsInRange N.value N.bound market.now hand.taken.rows) }
 {
     let _lines = market.lines();
     let posing = hand.posing;
@@ -79,8 +78,8 @@ pub(crate) fn all_rounds<N: Exact>(
 ) -> Result<Ended<N>, Stop<N>>
     requires { IsInHand N.value market.now first }
     ensures ended { IfOk result (IsEnded N.value market.now) }
-    ensures taken { IfOk result (λ ended. Growth market.now (rows_in first.taken) (rows_in ended.taken)) }
-    ensures cause { IfErr result (StopsInRange N.value N.bound market.now (rows_in first.taken)) }
+    ensures taken { IfOk result (λ ended. Growth market.now first.taken.rows ended.taken.rows) }
+    ensures cause { IfErr result (StopsInRange N.value N.bound market.now first.taken.rows) }
 {
     let mut hand = first;
     loop {

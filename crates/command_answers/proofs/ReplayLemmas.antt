@@ -140,20 +140,20 @@ module _ {N : Type 0} (value : N → Fraction) (bound : ℕ) (fits : (x : N) →
 
   pub replays_to : (m : Parts) (steps : List Step) (start now : SessionState) (outcomes : List (StepOutcome N)) (t : Telling) → start ≡ record { market = m; kept = cold }
       → IsMarket m → All IsStep steps
-      → IsReplay bound start.market start.kept.rows steps (map (step_outcome_at value) outcomes) now.kept.rows
+      → IsReplay bound start.market start.kept.taken.rows steps (map (step_outcome_at value) outcomes) now.kept.taken.rows
       → t.status ≡ replay_status (map (step_outcome_at value) outcomes) → t.text ≡ replayed m steps (map (step_outcome_at value) outcomes)
       → t.outputs ≡ certified (option_and_then certificate_of (last_clear None (map (step_outcome_at value) outcomes)))
       → IfSome (option_and_then cert_of_outcome (last_clear None (map (step_outcome_at value) outcomes))) (NumbersFit bound) → ReplaysTo bound m steps t
   replays_to m steps start now outcomes t is market data_ok replay status_is text_is certificate_is certificate_fits =
-      let right : IsReplay bound m [] steps (map (step_outcome_at value) outcomes) now.kept.rows =
-      subst (λ (s : SessionState). IsReplay bound s.market s.kept.rows steps (map (step_outcome_at value) outcomes) now.kept.rows) is replay in
+      let right : IsReplay bound m [] steps (map (step_outcome_at value) outcomes) now.kept.taken.rows =
+      subst (λ (s : SessionState). IsReplay bound s.market s.kept.taken.rows steps (map (step_outcome_at value) outcomes) now.kept.taken.rows) is replay in
       record {
         outcomes = map (step_outcome_at value) outcomes;
-        taken = now.kept.rows;
+        taken = now.kept.taken.rows;
         right = right;
         sides = all_within outcomes;
         markets = λ k. steps_market m (take k steps) market (All-take IsStep k steps data_ok);
-        decided = λ none. are_decided bound m [] now.kept.rows steps (map (step_outcome_at value) outcomes) market data_ok none right;
+        decided = λ none. are_decided bound m [] now.kept.taken.rows steps (map (step_outcome_at value) outcomes) market data_ok none right;
         status_is = status_is;
         text_is = text_is;
         certificate_is = certificate_is;

@@ -79,7 +79,7 @@ impl<N: Exact> Session<N> {
     /// limits taken are kept; where numbers became too large, or memory was refused, nothing is, and the next clear starts without limits.
     pub fn clear(&mut self, alloc: Global) -> Result<Outcome<N>, Memory>
         ensures market { self.new.market ≡ self.old.market }
-        ensures clear { IfOk result (λ outcome. IsClear N.bound self.old.market self.old.kept.rows (outcome_at N.value outcome) self.new.kept.rows) }
+        ensures clear { IfOk result (λ outcome. IsClear N.bound self.old.market self.old.kept.taken.rows (outcome_at N.value outcome) self.new.kept.taken.rows) }
         ensures fits { IfOk result (FitsOutcome self.old.market) }
         ensures kept { IfOk result (λ outcome. KeepsAfter outcome self.new.kept) }
         ensures memory { IfErr result (λ _. self.new.kept ≡ cold) }
@@ -90,7 +90,7 @@ impl<N: Exact> Session<N> {
     /// Does one step.
     fn step(&mut self, alloc: Global, step: &Step) -> Result<StepOutcome<N>, Memory>
         requires { IsStep step.now }
-        ensures reply { IfOk result (λ outcome. IsReply N.bound self.old.market self.old.kept.rows step.now (step_outcome_at N.value outcome) self.new.kept.rows) }
+        ensures reply { IfOk result (λ outcome. IsReply N.bound self.old.market self.old.kept.taken.rows step.now (step_outcome_at N.value outcome) self.new.kept.taken.rows) }
         ensures market { IfOk result (λ _. self.new.market ≡ stepped self.old.market step.now) }
         ensures fits { IfOk result (FitsStep self.old.market) }
         ensures memory { IfErr result (λ _. self.new.market ≡ self.old.market) }
@@ -104,7 +104,7 @@ impl<N: Exact> Session<N> {
     /// Does steps in their order, as long as there is memory.
     fn all_steps(&mut self, alloc: Global, steps: &Steps) -> Result<Outcomes<N>, Memory>
         requires { All IsStep steps.now }
-        ensures replay { IfOk result (λ outcomes. IsReplay N.bound self.old.market self.old.kept.rows steps.now (map (step_outcome_at N.value) outcomes) self.new.kept.rows) }
+        ensures replay { IfOk result (λ outcomes. IsReplay N.bound self.old.market self.old.kept.taken.rows steps.now (map (step_outcome_at N.value) outcomes) self.new.kept.taken.rows) }
         ensures market { IfOk result (λ _. self.new.market ≡ edited_by self.old.market steps.now) }
         ensures fits { IfOk result (λ outcomes. (m : Parts) → SameFrame self.old.market m → All (FitsStep m) outcomes) }
         ensures memory { IfErr result (λ _. IsEditedPart self.old.market steps.now self.new.market) }
@@ -129,7 +129,7 @@ impl<N: Exact> Session<N> {
     /// without limits.
     pub fn replay(&mut self, alloc: Global, steps: &Steps) -> Result<Outcomes<N>, Memory>
         requires { All IsStep steps.now }
-        ensures replay { IfOk result (λ outcomes. IsReplay N.bound self.old.market self.old.kept.rows steps.now (map (step_outcome_at N.value) outcomes) self.new.kept.rows) }
+        ensures replay { IfOk result (λ outcomes. IsReplay N.bound self.old.market self.old.kept.taken.rows steps.now (map (step_outcome_at N.value) outcomes) self.new.kept.taken.rows) }
         ensures count { IfOk result (λ outcomes. length outcomes ≡ length steps.now) }
         ensures market { IfOk result (λ _. self.new.market ≡ edited_by self.old.market steps.now) }
         ensures frame { SameFrame self.old.market self.new.market }

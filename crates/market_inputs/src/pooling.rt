@@ -11,7 +11,7 @@ ghost use Rattle.market_inputs.specs.Stops.{IsToldAs};
 use crate::cases::{case_matrices, case_network};
 use crate::offers::offer_table;
 use crate::stops::Stop;
-use market_model::{List, Market, Parts, assemble};
+use market_model::{Market, Parts, assemble};
 use net_case::Branches;
 use std::alloc::Global;
 
@@ -26,14 +26,6 @@ pub fn pool_market(alloc: Global, case: &[u8], offers: &[u8]) -> Result<Market, 
     let raw = case_matrices(alloc, case)?;
     let network = case_network(alloc, &raw, Branches::Skip)?;
     let offered = offer_table(alloc, &network, offers)?;
-    let parts = Parts {
-        buses: network.into_buses(),
-        units: offered.units,
-        blocks: offered.blocks,
-        lines: List::new(alloc),
-        outages: List::new(alloc),
-        shift: List::new(alloc),
-        loss: List::new(alloc),
-    };
+    let parts = Parts::bare(alloc, network.into_buses(), offered.units, offered.blocks);
     Ok(assemble(alloc, parts)?)
 }

@@ -2,16 +2,20 @@
 use Rattle.std.specs.Prelude.{◌≡◌, ℕ, length, map, slice_index_or}
 use Rattle.fraction_theory.specs.Fraction.{Fraction, ◌+ℚ◌}
 use Rattle.fraction_theory.specs.Sums.{total}
+use Rattle.exact_fraction.specs.declared.Passed.{Passed}
 use Rattle.market_model.specs.declared.participants.Parts.{Parts}
 use Rattle.market_model.specs.declared.answered.Answer.{Answer}
 use Rattle.market_model.specs.declared.answered.Dual.{Dual}
 use Rattle.market_model.specs.declared.answered.Duals.{Duals}
 use Rattle.market_model.specs.declared.answered.Load.{Load}
 use Rattle.market_model.specs.declared.answered.Money.{Money}
+use Rattle.market_model.specs.declared.answered.Outcome.{Outcome}
+use Rattle.market_model.specs.declared.answered.Outcome.TheVariants as outcome
 use Rattle.market_model.specs.declared.answered.Price.{Price}
 use Rattle.market_model.specs.declared.answered.Rent.{Rent}
 use Rattle.market_model.specs.declared.answered.UnitPay.{UnitPay}
 use Rattle.market_model.specs.Dispatch.{Dispatch, zero, places, injection, dispatch_by}
+use Rattle.market_model.specs.Infeasibility.{IsFarkas}
 use Rattle.market_model.specs.declared.limits.Row.{Row}
 use Rattle.market_model.specs.LimitRows.{row_id, line_flow, flow_by}
 use Rattle.market_model.specs.Optimality.{Feasible, Supports, ProperDuals, named_rows, up_of, down_of, welfare, congestion, bus_price}
@@ -76,3 +80,10 @@ pub record IsRight (m : Parts) (a : Answer Fraction) : Type 0 where
   pub supported : Supports m (dispatch_in a) a.duals
   pub proper : ProperDuals m a.duals
   pub made : a ≡ answer_of m (dispatch_in a) a.duals
+
+-- a cleared market has a right answer, and an infeasible one duals that show it, with their bound; where numbers became too large, P holds of
+-- the two
+abbrev pub IsRightBy : (Passed Fraction → Type 0) → Parts → Outcome Fraction → Type 0
+IsRightBy P m (outcome.Cleared a) = IsRight m a
+IsRightBy P m (outcome.Infeasible f) = IsFarkas m f
+IsRightBy P m (outcome.Range p) = P p

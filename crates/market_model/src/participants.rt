@@ -1,7 +1,11 @@
 //! Blocks, and what a market is made of.
 
+ghost use Rattle.std.specs.Prelude.{◌≡◌};
+ghost use Rattle.market_model.specs.Market.{bare_parts};
+
 use market_data::{Bus, Unit};
 use plain_list::List;
+use std::alloc::Global;
 
 /// Whether a block raises its unit's output or lowers it.
 #[derive(Clone, Copy, PartialEq, Eq, Debug)]
@@ -59,4 +63,21 @@ pub struct Parts {
     pub shift: List<Factor>,
     /// How much of the flow of a lost line goes over to another line.
     pub loss: List<Factor>,
+}
+
+impl Parts {
+    /// The parts of a market that has nothing but these.
+    pub fn bare(alloc: Global, buses: List<Bus>, units: List<Unit>, blocks: List<Block>) -> Parts
+        ensures { result ≡ bare_parts buses units blocks }
+    {
+        Parts {
+            buses,
+            units,
+            blocks,
+            lines: List::new(alloc),
+            outages: List::new(alloc),
+            shift: List::new(alloc),
+            loss: List::new(alloc),
+        }
+    }
 }

@@ -25,16 +25,7 @@ fn assembles_its_parts(rt: HostRuntime) -> Result<(), Fail> {
         quantity: 80,
         price: -3,
     })?;
-    let parts = Parts {
-        buses,
-        units,
-        blocks,
-        lines: List::new(alloc),
-        outages: List::new(alloc),
-        shift: List::new(alloc),
-        loss: List::new(alloc),
-    };
-    let market = assemble(alloc, parts)?;
+    let market = assemble(alloc, Parts::bare(alloc, buses, units, blocks))?;
     assert_eq!(rt; market.buses().len(), 1);
     assert_eq!(rt; market.units().len(), 1);
     assert_eq!(rt; market.blocks().len(), 1);

@@ -5,20 +5,16 @@ use Rattle.market_model.specs.declared.participants.Parts.{Parts}
 use Rattle.market_model.specs.declared.answered.Outcome.{Outcome}
 use Rattle.market_model.specs.declared.answered.Outcome.TheVariants as outcome
 use Rattle.market_model.specs.Dispatch.{Dispatch}
-use Rattle.market_model.specs.Infeasibility.{IsFarkas}
 use Rattle.market_model.specs.declared.limits.Row.{Row}
 use Rattle.market_model.specs.Optimality.{Feasible}
-use Rattle.market_model.specs.RightAnswers.{IsRight}
+use Rattle.market_model.specs.RightAnswers.{IsRightBy}
 use Rattle.market_system.specs.Growth.{Growth, PricesOnly}
 use Rattle.market_system.specs.SolvedLaws.{AreRows}
 use Rattle.market_system.specs.WorkingPairs.{IsRangeOf}
 
--- a cleared market has a right answer, and an infeasible one duals that show it, with their bound; where numbers of a type
--- with this bound became too large, the two are a working pair of the market
+-- an outcome is right for its market, and where numbers of a type with this bound became too large, the two are a working pair of it
 abbrev pub IsRightOutcome : ℕ → Parts → List Row → Outcome Fraction → Type 0
-IsRightOutcome bound m taken (outcome.Cleared a) = IsRight m a
-IsRightOutcome bound m taken (outcome.Infeasible f) = IsFarkas m f
-IsRightOutcome bound m taken (outcome.Range p) = IsRangeOf m taken bound p
+IsRightOutcome bound m taken o = IsRightBy (IsRangeOf m taken bound) m o
 
 abbrev pub IsCleared : Outcome Fraction → Type 0
 IsCleared (outcome.Cleared a) = Unit {0}

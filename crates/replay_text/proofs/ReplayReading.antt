@@ -3,18 +3,14 @@ use Rattle.std.specs.Prelude.{◌≡◌, ℕ, ◌+◌, List, [], ◌∷◌, ◌+
 use Rattle.std.proofs.Common.{arith, ap, sym, ◌∙◌, append_assoc}
 use Rattle.std.proofs.lemmas.List.{append_cancel_left}
 use Rattle.fraction_theory.specs.Fraction.{Fraction}
-use Rattle.market_model.specs.declared.answered.Outcome.{Outcome}
-use Rattle.market_model.specs.declared.answered.Outcome.TheVariants as outcome
 use Rattle.market_model.specs.declared.participants.Parts.{Parts}
 use Rattle.market_model.specs.declared.limits.Row.{Row}
-use Rattle.market_system.specs.Outcomes.{IsRightOutcome}
 use Rattle.offer_book.specs.declared.edit_parts.EditFault.{EditFault}
 use Rattle.edit_table.specs.declared.Step.{Step}
 use Rattle.edit_table.specs.declared.Step.TheVariants as step
 use Rattle.edit_replay.specs.declared.step_outcome.StepOutcome.{StepOutcome}
 use Rattle.edit_replay.specs.declared.step_outcome.StepOutcome.TheVariants as reply
 use Rattle.edit_replay.specs.Replays.{IsReplay, IsReply, stepped}
-use Rattle.report_text.specs.ReportLaws.{IsRightIn}
 use Rattle.report_text.specs.Reports.{report_text}
 use Rattle.report_text.proofs.LimitReading.{EndsLimits}
 use Rattle.report_text.proofs.OutcomeReading.{outcome_fits, outcomes_apart}
@@ -85,18 +81,13 @@ replays_read_apart m [] (o ∷ outcomes) others none l e = absurd none
 replays_read_apart m (s ∷ steps) outcomes others k l e = steps_apart 1 m (s ∷ steps) outcomes others k l e
 
 -- ---- right outcomes fit
-pub right_in : (bound : ℕ) (m : Parts) (taken : List Row) (o : Outcome Fraction) → IsRightOutcome bound m taken o → IsRightIn m o
-right_in bound m taken (outcome.Cleared a) right = right
-right_in bound m taken (outcome.Infeasible f) right = right
-right_in bound m taken (outcome.Range p) right = tt
-
 reply_fits : (bound : ℕ) (m : Parts) (before after : List Row) (s : Step) (o : StepOutcome Fraction) → IsReply bound m before s o after → StepOutcomeFits m o
 reply_fits bound m before after (step.Edit e) reply.Accepted is = tt
 reply_fits bound m before after (step.Edit e) (reply.Refused f) is = tt
 reply_fits bound m before after (step.Edit e) (reply.Clear o) none = absurd none
 reply_fits bound m before after step.Clear reply.Accepted none = absurd none
 reply_fits bound m before after step.Clear (reply.Refused f) none = absurd none
-reply_fits bound m before after step.Clear (reply.Clear o) is = outcome_fits m o (right_in bound m before o is.right)
+reply_fits bound m before after step.Clear (reply.Clear o) is = outcome_fits _ m o is.right
 
 pub replay_fits : (bound : ℕ) (m : Parts) (before after : List Row) (steps : List Step) (os : List (StepOutcome Fraction)) → IsReplay bound m before steps os after → OutcomesFit m steps os
 replay_fits bound m before after [] [] replay = tt

@@ -18,10 +18,10 @@ use Rattle.market_model.specs.declared.answered.Outcome.{Outcome}
 use Rattle.market_model.specs.declared.answered.Outcome.TheVariants as outcome
 use Rattle.market_model.specs.declared.answered.Price.{Price}
 use Rattle.market_model.specs.Dispatch.{places}
-use Rattle.market_model.specs.RightAnswers.{IsRight, price_made}
+use Rattle.market_model.specs.RightAnswers.{IsRight, IsRightBy, price_made}
 use Rattle.market_model.proofs.RightFits.{fits_by_right}
 use Rattle.report_text.specs.Reports.{head_text, cleared_text, limit_text, bound_text, plain_energy_text, infeasible_text, op_text, range_text, report_text}
-use Rattle.report_text.specs.ReportLaws.{FitsReport, OutcomeFitsReport, IsRightIn, ReportsApart, RightReportsApart}
+use Rattle.report_text.specs.ReportLaws.{FitsReport, OutcomeFitsReport, ReportsApart, RightReportsApart}
 use Rattle.report_text.proofs.Amounts.{head_of, two_apart, parts_line_apart}
 use Rattle.report_text.proofs.LimitReading.{EndsLimits, limits_apart}
 use Rattle.report_text.proofs.ReportReading.{same_duals, answers_apart}
@@ -114,10 +114,10 @@ answer_fits m a right = record {
       (All-map (λ (p : Price Fraction). p.energy ≡ a.duals.energy) (price_made m a.duals) (places (length m.buses)) (λ k d lt. refl));
 }
 
-pub outcome_fits : (m : Parts) (a : Outcome Fraction) → IsRightIn m a → OutcomeFitsReport m a
-outcome_fits m (outcome.Cleared a) right = answer_fits m a right
-outcome_fits m (outcome.Infeasible f) right = tt
-outcome_fits m (outcome.Range p) right = tt
+pub outcome_fits : (P : Passed Fraction → Type 0) (m : Parts) (a : Outcome Fraction) → IsRightBy P m a → OutcomeFitsReport m a
+outcome_fits P m (outcome.Cleared a) right = answer_fits m a right
+outcome_fits P m (outcome.Infeasible f) right = tt
+outcome_fits P m (outcome.Range p) right = tt
 
 pub right_reports_apart : RightReportsApart
-right_reports_apart m a b p q e = reports_apart m a b (outcome_fits m a p) (outcome_fits m b q) e
+right_reports_apart m a b p q e = reports_apart m a b (outcome_fits _ m a p) (outcome_fits _ m b q) e

@@ -6,8 +6,7 @@ use Rattle.market_model.specs.declared.answered.Answer.{Answer}
 use Rattle.market_model.specs.declared.answered.Outcome.{Outcome}
 use Rattle.market_model.specs.declared.answered.Outcome.TheVariants as outcome
 use Rattle.market_model.specs.Fitting.{FitsMarket}
-use Rattle.market_model.specs.Infeasibility.{IsFarkas}
-use Rattle.market_model.specs.RightAnswers.{IsRight}
+use Rattle.market_model.specs.RightAnswers.{IsRightBy}
 use Rattle.report_text.specs.Reports.{report_text}
 
 -- an entry for each part of the market and a rent for each limit with duals, and each bus price made from the one price of energy
@@ -25,11 +24,9 @@ OutcomeFitsReport m (outcome.Range p) = Unit {0}
 abbrev pub ReportsApart : Type 0
 ReportsApart = (m : Parts) (a b : Outcome Fraction) → OutcomeFitsReport m a → OutcomeFitsReport m b → report_text m a ≡ report_text m b → a ≡ b
 
--- an answer is right, and duals that show that nothing is feasible do so; nothing is asked of numbers that became too large
+-- right, where nothing is asked of numbers that became too large
 abbrev pub IsRightIn : Parts → Outcome Fraction → Type 0
-IsRightIn m (outcome.Cleared a) = IsRight m a
-IsRightIn m (outcome.Infeasible f) = IsFarkas m f
-IsRightIn m (outcome.Range p) = Unit {0}
+IsRightIn m o = IsRightBy (λ p. Unit {0}) m o
 
 -- two outcomes of a market that are right in this sense and have one report are one
 abbrev pub RightReportsApart : Type 0

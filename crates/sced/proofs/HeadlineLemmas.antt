@@ -32,7 +32,7 @@ use Rattle.edit_table.specs.declared.Step.{Step}
 use Rattle.edit_replay.specs.Replays.{edited_by}
 use Rattle.report_text.specs.Reports.{range_text}
 use Rattle.report_text.proofs.OutcomeReading.{outcome_fits, reports_apart}
-use Rattle.replay_text.proofs.ReplayReading.{replay_fits, replays_read_apart, right_in}
+use Rattle.replay_text.proofs.ReplayReading.{replay_fits, replays_read_apart}
 use Rattle.refusal_text.specs.Refusals.{refusal_line}
 use Rattle.refusal_text.specs.declared.refusals.Input.TheVariants as input
 use Rattle.refusal_text.specs.declared.refusals.Refusal.{Refusal}
@@ -110,7 +110,7 @@ law_of_range words files text s m p place prints reports =
 market-reported : (m : Parts) (t : Telling) (text : List ℕ) (s : Status) → t.text ≡ text → t.status ≡ s → TellsClear m t → IsReported m text s
 market-reported m t text s words ends (market, clears) = record {
   outcome = clears.outcome;
-  fits = outcome_fits m clears.outcome (right_in most_size m [] clears.outcome clears.right);
+  fits = outcome_fits _ m clears.outcome clears.right;
   text_is = sym words ∙ clears.text_is;
   status_is = sym ends ∙ clears.status_is;
 }
@@ -308,7 +308,7 @@ pub law_of_certificate : LawOfCertificate
 law_of_certificate words files later text s names file m o clear now asked market fits is =
     let p = printed words files text s clear in
     let tells = clear-told files words p.telling p.written (Ok m) p.answers market in
-    let same : tells.1.outcome ≡ o = reports_apart m tells.1.outcome o (outcome_fits m tells.1.outcome (right_in most_size m [] tells.1.outcome tells.1.right)) fits (sym tells.1.text_is ∙ p.text_is ∙ is) in
+    let same : tells.1.outcome ≡ o = reports_apart m tells.1.outcome o (outcome_fits _ m tells.1.outcome tells.1.right) fits (sym tells.1.text_is ∙ p.text_is ∙ is) in
     let put : p.telling.outputs.certificate ≡ certificate_of o = ap (λ (x : Outputs (List ℕ)). x.certificate) tells.1.certificate_is ∙ ap certificate_of same in
     let written = clear-written files words p.telling p.written names (Some file) asked p.answers ∙ ap (λ c. named_bytes (Some file) c []) put in
     certificate-kept (Certifies m) (cert_of_outcome o) (files file) (later file) (kept-as files later file (certificate_of o) p.written clear.after.files written now p.kept)

@@ -48,13 +48,8 @@ fn market(alloc: Global) -> Result<Market, Memory> {
         offset: 0,
     })?;
     let parts = Parts {
-        buses,
-        units,
-        blocks,
         lines,
-        outages: List::new(alloc),
-        shift: List::new(alloc),
-        loss: List::new(alloc),
+        ..Parts::bare(alloc, buses, units, blocks)
     };
     assemble(alloc, parts)
 }

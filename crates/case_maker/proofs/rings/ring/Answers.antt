@@ -10,8 +10,8 @@ pub loop-place-init : goal.loop-place-init
 unfolding state
 loop-place-init c = record {
   state = c.new-draws.ensures;
-  parts = no-bus c.args.buses c.args.seed c.new.result c.new-2.result c.new-3.result c.new-4.result c.new-5.result c.in_ok-shift_factors.field-0 c.in_ok-loss_factors.field-0
-      c.new.ensures c.new-2.ensures c.new-3.ensures c.new-4.ensures c.new-5.ensures c.in_ok-shift_factors.ensures c.in_ok-loss_factors.ensures;
+  parts = no-bus c.args.buses c.args.seed c.bare.result c.new.result c.new-2.result c.new-3.result c.in_ok-shift_factors.field-0 c.in_ok-loss_factors.field-0
+      c.bare.ensures c.new.ensures c.new-2.ensures c.new-3.ensures c.in_ok-shift_factors.ensures c.in_ok-loss_factors.ensures;
 }
 
 pub loop-place-preserved : goal.loop-place-preserved

@@ -11,7 +11,6 @@ use Rattle.market_dict.specs.declared.solving.Found.TheVariants as found
 use Rattle.market_model.specs.declared.stops.Stop.TheVariants as stop
 use Rattle.limit_screen.specs.Flows.{flows_at}
 use Rattle.clear_loop.specs.Rounds.{IsScreened}
-use Rattle.clear_loop.specs.Starts.{rows_in}
 use Rattle.clear_loop.proofs.BrokenLemmas.{worst_broken, worst_inside}
 use Rattle.clear_loop.proofs.HandLemmas.{dispatch_count, feasible_over_all}
 use Rattle.clear_loop.proofs.PosingLemmas.{bounds_fit, in_order, posed_range, posed_system, prices_fit}
@@ -21,15 +20,15 @@ use Rattle.clear_loop.proofs.rounds.one_round.Goals as goal
 
 pub repose-requires-clause-prices : goal.repose-requires-clause-prices
 repose-requires-clause-prices g c =
-    prices_fit g.N.Exact.value c.args.market.now (rows_in c.args.hand.taken) c.args.hand.posing c.requires.posing c.slice.result.now c.slice-2.result.now c.slice.ensures c.slice-2.ensures c.args.hand.warm c.requires.start
+    prices_fit g.N.Exact.value c.args.market.now c.args.hand.taken.rows c.args.hand.posing c.requires.posing c.slice.result.now c.slice-2.result.now c.slice.ensures c.slice-2.ensures c.args.hand.warm c.requires.start
 
 pub repose-requires-clause-bounds : goal.repose-requires-clause-bounds
 repose-requires-clause-bounds g c =
-    bounds_fit g.N.Exact.value c.args.market.now (rows_in c.args.hand.taken) c.args.hand.posing c.requires.posing c.slice.result.now c.slice-2.result.now c.slice.ensures c.slice-2.ensures c.args.hand.warm c.requires.start
+    bounds_fit g.N.Exact.value c.args.market.now c.args.hand.taken.rows c.args.hand.posing c.requires.posing c.slice.result.now c.slice-2.result.now c.slice.ensures c.slice-2.ensures c.args.hand.warm c.requires.start
 
 pub repose-requires-clause-ordered : goal.repose-requires-clause-ordered
 repose-requires-clause-ordered g c =
-    in_order g.N.Exact.value c.args.market.now (rows_in c.args.hand.taken) c.args.hand.posing c.requires.posing c.slice.result.now c.slice-2.result.now c.slice.ensures c.slice-2.ensures c.args.hand.warm c.requires.start
+    in_order g.N.Exact.value c.args.market.now c.args.hand.taken.rows c.args.hand.posing c.requires.posing c.slice.result.now c.slice-2.result.now c.slice.ensures c.slice-2.ensures c.args.hand.warm c.requires.start
     c.lines-lines.ensures.market
 
 pub returns-in_err-posed-clause-cause : goal.returns-in_err-posed-clause-cause
@@ -37,14 +36,14 @@ returns-in_err-posed-clause-cause g c =
     let p = err_from_is_err_and c.from_residual.result c.from_residual.ensures.1 in
     let given : c.from_residual.result ≡ Err (stop.Passed c.in_err-posed.field-0.0) = p.1 ∙ ap Err p.2 in
     rw given
-    (posed_range g.N.Exact.value c.args.market.now (rows_in c.args.hand.taken) c.args.hand.posing c.requires.posing c.slice.result.now c.slice-2.result.now c.slice.ensures c.slice-2.ensures c.args.hand.warm c.requires.start
+    (posed_range g.N.Exact.value c.args.market.now c.args.hand.taken.rows c.args.hand.posing c.requires.posing c.slice.result.now c.slice-2.result.now c.slice.ensures c.slice-2.ensures c.args.hand.warm c.requires.start
     c.lines-lines.ensures.market g.N.Exact.bound c.in_err-posed.field-0.0 c.in_err-posed.ensures.pair)
 
 pub solve-requires : goal.solve-requires
 solve-requires g c = record {
   holds = (
-    rows_in c.args.hand.taken,
-    posed_system g.N.Exact.value c.args.market.now (rows_in c.args.hand.taken) c.args.hand.posing c.requires.posing c.slice.result.now c.slice-2.result.now c.slice.ensures c.slice-2.ensures c.args.hand.warm c.requires.start
+    c.args.hand.taken.rows,
+    posed_system g.N.Exact.value c.args.market.now c.args.hand.taken.rows c.args.hand.posing c.requires.posing c.slice.result.now c.slice-2.result.now c.slice.ensures c.slice-2.ensures c.args.hand.warm c.requires.start
         c.lines-lines.ensures.market c.in_ok-posed.posed c.in_ok-posed.ensures.posed,
   );
 }
@@ -52,18 +51,18 @@ solve-requires g c = record {
 pub returns-in_err-dict-clause-cause : goal.returns-in_err-dict-clause-cause
 returns-in_err-dict-clause-cause g c =
     let holds =
-    posed_system g.N.Exact.value c.args.market.now (rows_in c.args.hand.taken) c.args.hand.posing c.requires.posing c.slice.result.now c.slice-2.result.now c.slice.ensures c.slice-2.ensures c.args.hand.warm c.requires.start
+    posed_system g.N.Exact.value c.args.market.now c.args.hand.taken.rows c.args.hand.posing c.requires.posing c.slice.result.now c.slice-2.result.now c.slice.ensures c.slice-2.ensures c.args.hand.warm c.requires.start
     c.lines-lines.ensures.market c.in_ok-posed.posed c.in_ok-posed.ensures.posed in
     let p = err_from_is_err_and c.from_residual-in_err-dict.result c.from_residual-in_err-dict.ensures.1 in
     let given : c.from_residual-in_err-dict.result ≡ Err c.in_err-dict.field-0.0 = p.1 ∙ ap Err p.2 in
     rw given
-    (pair_stop g.N.Exact.value g.N.Exact.bound c.args.market.now (rows_in c.args.hand.taken) (rows_in c.args.hand.taken) c.in_err-dict.field-0.0 (growth_none c.args.market.now (rows_in c.args.hand.taken))
-    (c.in_err-dict.ensures.pair (rows_in c.args.hand.taken) holds))
+    (pair_stop g.N.Exact.value g.N.Exact.bound c.args.market.now c.args.hand.taken.rows c.args.hand.taken.rows c.in_err-dict.field-0.0 (growth_none c.args.market.now c.args.hand.taken.rows)
+    (c.in_err-dict.ensures.pair c.args.hand.taken.rows holds))
 
 pub returns-in-Nothing-clause-round : goal.returns-in-Nothing-clause-round
 returns-in-Nothing-clause-round g c =
     let m = c.args.market.now in
-    let rs = rows_in c.args.hand.taken in
+    let rs = c.args.hand.taken.rows in
     let holds =
     posed_system g.N.Exact.value m rs c.args.hand.posing c.requires.posing c.slice.result.now c.slice-2.result.now c.slice.ensures c.slice-2.ensures c.args.hand.warm c.requires.start
     c.lines-lines.ensures.market c.in_ok-posed.posed c.in_ok-posed.ensures.posed in
@@ -74,7 +73,7 @@ returns-in-Nothing-clause-round g c =
 pub screened_at-requires : goal.screened_at-requires
 screened_at-requires g c =
     let m = c.args.market.now in
-    let rs = rows_in c.args.hand.taken in
+    let rs = c.args.hand.taken.rows in
     let holds =
     posed_system g.N.Exact.value m rs c.args.hand.posing c.requires.posing c.slice.result.now c.slice-2.result.now c.slice.ensures c.slice-2.ensures c.args.hand.warm c.requires.start
     c.lines-lines.ensures.market c.in_ok-posed.posed c.in_ok-posed.ensures.posed in
@@ -86,7 +85,7 @@ pub returns-in_err-row-clause-cause : goal.returns-in_err-row-clause-cause
 returns-in_err-row-clause-cause g c =
     let value = g.N.Exact.value in
     let m = c.args.market.now in
-    let rs = rows_in c.args.hand.taken in
+    let rs = c.args.hand.taken.rows in
     let holds =
     posed_system value m rs c.args.hand.posing c.requires.posing c.slice.result.now c.slice-2.result.now c.slice.ensures c.slice-2.ensures c.args.hand.warm c.requires.start
     c.lines-lines.ensures.market c.in_ok-posed.posed c.in_ok-posed.ensures.posed in
@@ -101,7 +100,7 @@ returns-in_err-row-clause-cause g c =
 pub with_row-requires-clause-holds : goal.with_row-requires-clause-holds
 with_row-requires-clause-holds g c =
     let m = c.args.market.now in
-    let rs = rows_in c.args.hand.taken in
+    let rs = c.args.hand.taken.rows in
     let holds =
     posed_system g.N.Exact.value m rs c.args.hand.posing c.requires.posing c.slice.result.now c.slice-2.result.now c.slice.ensures c.slice-2.ensures c.args.hand.warm c.requires.start
     c.lines-lines.ensures.market c.in_ok-posed.posed c.in_ok-posed.ensures.posed in
@@ -122,7 +121,7 @@ pub with_row-requires-clause-broken : goal.with_row-requires-clause-broken
 with_row-requires-clause-broken g c =
     let value = g.N.Exact.value in
     let m = c.args.market.now in
-    let rs = rows_in c.args.hand.taken in
+    let rs = c.args.hand.taken.rows in
     let x = dispatch_of value c.slice-3.result.now in
     let holds =
     posed_system value m rs c.args.hand.posing c.requires.posing c.slice.result.now c.slice-2.result.now c.slice.ensures c.slice-2.ensures c.args.hand.warm c.requires.start
@@ -139,7 +138,7 @@ with_row-requires-clause-broken g c =
 pub answer_of-requires-clause-solved : goal.answer_of-requires-clause-solved
 answer_of-requires-clause-solved g c =
     let m = c.args.market.now in
-    let rs = rows_in c.args.hand.taken in
+    let rs = c.args.hand.taken.rows in
     let holds =
     posed_system g.N.Exact.value m rs c.args.hand.posing c.requires.posing c.slice.result.now c.slice-2.result.now c.slice.ensures c.slice-2.ensures c.args.hand.warm c.requires.start
     c.lines-lines.ensures.market c.in_ok-posed.posed c.in_ok-posed.ensures.posed in
@@ -151,7 +150,7 @@ pub answer_of-requires-clause-feasible : goal.answer_of-requires-clause-feasible
 answer_of-requires-clause-feasible g c =
     let value = g.N.Exact.value in
     let m = c.args.market.now in
-    let rs = rows_in c.args.hand.taken in
+    let rs = c.args.hand.taken.rows in
     let x = dispatch_of value c.slice-3.result.now in
     let d = duals_at value c.in-Best.duals in
     let holds =
@@ -175,7 +174,7 @@ answer_of-requires-clause-flows g c =
 pub returns-in_err-answer-in-Within-clause-cause : goal.returns-in_err-answer-in-Within-clause-cause
 returns-in_err-answer-in-Within-clause-cause g c =
     let m = c.args.market.now in
-    let rs = rows_in c.args.hand.taken in
+    let rs = c.args.hand.taken.rows in
     let holds =
     posed_system g.N.Exact.value m rs c.args.hand.posing c.requires.posing c.slice.result.now c.slice-2.result.now c.slice.ensures c.slice-2.ensures c.args.hand.warm c.requires.start
     c.lines-lines.ensures.market c.in_ok-posed.posed c.in_ok-posed.ensures.posed in
@@ -189,7 +188,7 @@ pub returns-in_ok-with_row-in-Broken-clause-round : goal.returns-in_ok-with_row-
 returns-in_ok-with_row-in-Broken-clause-round g c =
     let value = g.N.Exact.value in
     let m = c.args.market.now in
-    let rs = rows_in c.args.hand.taken in
+    let rs = c.args.hand.taken.rows in
     let x = dispatch_of value c.slice-3.result.now in
     let holds =
     posed_system value m rs c.args.hand.posing c.requires.posing c.slice.result.now c.slice-2.result.now c.slice.ensures c.slice-2.ensures c.args.hand.warm c.requires.start
@@ -215,7 +214,7 @@ pub returns-in_ok-answer-in-Within-clause-round : goal.returns-in_ok-answer-in-W
 returns-in_ok-answer-in-Within-clause-round g c =
     let value = g.N.Exact.value in
     let m = c.args.market.now in
-    let rs = rows_in c.args.hand.taken in
+    let rs = c.args.hand.taken.rows in
     let holds =
     posed_system value m rs c.args.hand.posing c.requires.posing c.slice.result.now c.slice-2.result.now c.slice.ensures c.slice-2.ensures c.args.hand.warm c.requires.start
     c.lines-lines.ensures.market c.in_ok-posed.posed c.in_ok-posed.ensures.posed in

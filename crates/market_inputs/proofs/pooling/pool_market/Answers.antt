@@ -29,5 +29,5 @@ returns-in_err-offered-clause-told c =
 
 pub assemble-requires : goal.assemble-requires
 assemble-requires c =
-    rw (c.into_buses.ensures, c.new.ensures, c.new-2.ensures, c.new-3.ensures, c.new-4.ensures)
+    rw (c.bare-parts.ensures, c.into_buses.ensures)
     (pool-market c.in_ok-network.network c.in_ok-offered.offered c.in_ok-network.ensures.kept c.in_ok-offered.ensures.kept)

@@ -25,7 +25,7 @@ room Buy = Prim.omega (arith, ints)
 
 pub assemble-requires : goal.assemble-requires
 assemble-requires g c =
-    rw (c.in_ok-push.ensures, c.in_ok-push-2.ensures, c.in_ok-push-3.ensures, c.new-buses.ensures, c.new-units.ensures, c.new-blocks.ensures, c.new.ensures, c.new-2.ensures, c.new-3.ensures, c.new-4.ensures)
+    rw (c.bare.ensures, c.in_ok-push.ensures, c.in_ok-push-2.ensures, c.in_ok-push-3.ensures, c.new-buses.ensures, c.new-units.ensures, c.new-blocks.ensures)
     (one_each bus generator block
     (record { load = Prim.omega arith; shunt = Prim.omega arith })
     (record { row = Prim.omega arith; bus = Prim.omega arith; fixed = Prim.omega arith; up = Prim.omega (arith, ints); down = Prim.omega (arith, ints) })

@@ -20,7 +20,7 @@ loop-step-preserved g c =
     let items = c.slice-step-items.ensures in
     let within : k < length steps = omega (arith, c.loop-step-test.true, ap length items) in
     record {
-      replay = replay_more m steps c.slice-step-items.result.now k _ items within (step_outcome_at g.N.Exact.value) g.N.Exact.bound c.args.self.now.kept.rows c.loop-step.self.kept.rows c.step.new.self.kept.rows
+      replay = replay_more m steps c.slice-step-items.result.now k _ items within (step_outcome_at g.N.Exact.value) g.N.Exact.bound c.args.self.now.kept.taken.rows c.loop-step.self.kept.taken.rows c.step.new.self.kept.taken.rows
           c.loop-step.outcomes c.push.new.self c.in_ok-outcome.outcome c.loop-step.self.market c.loop-step.invariant.market c.loop-step.invariant.replay c.in_ok-outcome.ensures.reply c.in_ok-push.ensures;
       market = edited_more m steps c.slice-step-items.result.now k _ items within c.loop-step.self.market c.step.new.self.market c.loop-step.invariant.market c.in_ok-outcome.ensures.market;
       fits = fits_more m steps k c.loop-step.self.market c.loop-step.outcomes c.push.new.self c.in_ok-outcome.outcome c.loop-step.invariant.market c.loop-step.invariant.fits c.in_ok-outcome.ensures.fits c.in_ok-push.ensures;

@@ -8,7 +8,7 @@ use Rattle.edit_replay.proofs.session.Session.all_steps.Given as goal
 -- what the steps so far have come to, and the market that they have left
 abbrev pub invariant-loop-step : goal.invariant-loop-step
 invariant-loop-step g l = record {
-  replay : IsReplay g.N.Exact.bound l.fn.self.market l.fn.self.kept.rows (take l.step-index l.steps) (map (step_outcome_at g.N.Exact.value) l.outcomes) l.self.kept.rows;
+  replay : IsReplay g.N.Exact.bound l.fn.self.market l.fn.self.kept.taken.rows (take l.step-index l.steps) (map (step_outcome_at g.N.Exact.value) l.outcomes) l.self.kept.taken.rows;
   market : l.self.market ≡ edited_by l.fn.self.market (take l.step-index l.steps);
   fits : (m : Parts) → SameFrame l.fn.self.market m → All (FitsStep m) l.outcomes;
 }
