@@ -26,8 +26,8 @@ pub fn replay()
     ensures { LawOfReplay }
 {}
 
-/// A market that is to be cleared is reported. Where no working pair passes, what is reported is cleared where some dispatch qualifies,
-/// and infeasible where none does.
+/// A market that is to be cleared is reported. Where all numbers that may have to be written down fit, what is reported is cleared where
+/// some dispatch qualifies, and infeasible where none does.
 pub fn complete()
     ensures { LawOfComplete }
 {}
