@@ -18,7 +18,7 @@ use Rattle.market_inputs.specs.Pooling.{IsPoolMarket}
 use Rattle.market_inputs.specs.Replaying.{certificate_in, steps_in}
 use Rattle.market_inputs.specs.Steps.{Is, Then}
 use Rattle.market_inputs.specs.declared.checking.Inputs.{Inputs}
-use Rattle.market_inputs.specs.declared.stops.Stop.{Stop}
+use Rattle.market_inputs.specs.declared.stops.InputStop.{InputStop}
 use Rattle.command_answers.specs.declared.replaying.Replayed.{Replayed}
 use Rattle.command_answers.specs.declared.verifying.Certified.{Certified}
 
@@ -40,7 +40,7 @@ pub record MarketSteps : Type 0 where
 abbrev pub market_steps : Replayed → MarketSteps
 market_steps made = record { market = made.market; steps = made.steps }
 
-abbrev pub steps_with : Result Replayed Stop → Result MarketSteps Stop
+abbrev pub steps_with : Result Replayed InputStop → Result MarketSteps InputStop
 steps_with (Ok made) = Ok (market_steps made)
 steps_with (Err stop) = Err stop
 
@@ -57,7 +57,7 @@ pub record MarketCertificate : Type 0 where
   pub certificate : Cert Fraction
 
 -- those that were read
-abbrev pub certificate_with : {N : Type 0} → (N → Fraction) → Result (Certified N) Stop → Result MarketCertificate Stop
+abbrev pub certificate_with : {N : Type 0} → (N → Fraction) → Result (Certified N) InputStop → Result MarketCertificate InputStop
 certificate_with value (Ok made) = Ok (record { market = made.market; certificate = cert_at value made.certificate })
 certificate_with value (Err stop) = Err stop
 

@@ -2,8 +2,8 @@
 use Rattle.std.specs.Prelude.{◌≡◌, ℕ, List, Option, None, option_map, Result, Ok, Err}
 use Rattle.refusal_text.specs.Refusals.{refusal_line}
 use Rattle.refusal_text.specs.declared.refusals.Refusal.{Refusal}
-use Rattle.market_inputs.specs.declared.stops.Stop.{Stop}
-use Rattle.market_inputs.specs.declared.stops.Stop.TheVariants as stop
+use Rattle.market_inputs.specs.declared.stops.InputStop.{InputStop}
+use Rattle.market_inputs.specs.declared.stops.InputStop.TheVariants as stop
 use Rattle.command_answers.specs.declared.status.Status.{Status}
 use Rattle.command_answers.specs.declared.status.Status.TheVariants as status
 use Rattle.command_answers.specs.declared.told.Outputs.{Outputs}
@@ -39,7 +39,7 @@ ComesTo right (Ok x) t = right x t
 ComesTo right (Err r) t = t ≡ refusal_of r
 
 -- the same of what was made of them; for want of memory there is nothing to tell
-abbrev pub MadeTo : {A : Type 0} → (A → Telling → Type 0) → Result A Stop → Telling → Type 0
+abbrev pub MadeTo : {A : Type 0} → (A → Telling → Type 0) → Result A InputStop → Telling → Type 0
 MadeTo right (Ok x) t = right x t
 MadeTo right (Err (stop.Refused r)) t = t ≡ refusal_of r
 MadeTo right (Err stop.Memory) t = ⊥

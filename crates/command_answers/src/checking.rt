@@ -13,7 +13,7 @@ use crate::told::{Told, refused, uncertified};
 use factor_residuals::{
     Residual, bus_residual, loop_residual, outage_bus_residual, outage_loop_residual,
 };
-use market_inputs::{Inputs, Stop, check_inputs};
+use market_inputs::{InputStop, Inputs, check_inputs};
 use market_tables::GridTables;
 use plain_list::Memory;
 use residual_text::residuals_text;
@@ -94,7 +94,7 @@ pub fn check_told(alloc: Global, bytes: &GridTables<&[u8]>) -> Result<Told, Memo
 {
     match check_inputs(alloc, bytes) {
         Ok(inputs) => residuals_told(alloc, &inputs),
-        Err(Stop::Refused(refusal)) => refused(alloc, &refusal),
-        Err(Stop::Memory) => Err(Memory),
+        Err(InputStop::Refused(refusal)) => refused(alloc, &refusal),
+        Err(InputStop::Memory) => Err(Memory),
     }
 }

@@ -16,7 +16,7 @@ use crate::told::{Outputs, Told, refused};
 use cert_format::outcome_json;
 use clear_loop::{Clearer, outcome};
 use exact_fraction::{Exact, Frac};
-use market_inputs::{Stop, clear_market, pool_market};
+use market_inputs::{InputStop, clear_market, pool_market};
 use market_model::{Market, Memory, Outcome};
 use market_tables::MarketTables;
 use net_case::PostRating;
@@ -59,15 +59,15 @@ fn clear_outcome<N: Exact>(alloc: Global, market: &Market) -> Result<Told, Memor
 }
 
 /// What a market comes to, or why none was made.
-fn market_told(alloc: Global, made: Result<Market, Stop>) -> Result<Told, Memory>
+fn market_told(alloc: Global, made: Result<Market, InputStop>) -> Result<Told, Memory>
     requires { IfOk made IsMarket }
     ensures status { IfOk result (λ told. IsOfWork told.status) }
     ensures tells { IfOk result (λ told. MadeTo TellsClear made (telling_of told)) }
 {
     match made {
         Ok(market) => clear_outcome::<Frac>(alloc, &market),
-        Err(Stop::Refused(refusal)) => refused(alloc, &refusal),
-        Err(Stop::Memory) => Err(Memory),
+        Err(InputStop::Refused(refusal)) => refused(alloc, &refusal),
+        Err(InputStop::Memory) => Err(Memory),
     }
 }
 

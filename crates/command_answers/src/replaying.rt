@@ -21,7 +21,7 @@ use crate::told::{Outputs, Told, refused};
 use cert_format::outcome_json;
 use edit_replay::{Outcomes, Session, StepOutcome, Steps};
 use exact_fraction::{Exact, Frac};
-use market_inputs::{Stop, clear_market, edit_steps};
+use market_inputs::{InputStop, clear_market, edit_steps};
 use market_model::{Market, Memory, Outcome};
 use market_tables::MarketTables;
 use net_case::PostRating;
@@ -41,7 +41,7 @@ pub(crate) fn replay_inputs(
     bytes: &MarketTables<&[u8]>,
     rating: PostRating,
     edits: &[u8],
-) -> Result<Replayed, Stop>
+) -> Result<Replayed, InputStop>
     ensures told { IsToldAs (IsReplayed rating (tables_lent bytes.now) edits.now) (steps_with result) }
     ensures kept { IfOk result (λ made. IsMarket made.market × AreSteps made.steps) }
 {
@@ -142,7 +142,7 @@ pub fn replay_told(
 {
     match replay_inputs(alloc, bytes, rating, edits) {
         Ok(replayed) => replay_outcome::<Frac>(alloc, replayed.market, &replayed.steps),
-        Err(Stop::Refused(refusal)) => refused(alloc, &refusal),
-        Err(Stop::Memory) => Err(Memory),
+        Err(InputStop::Refused(refusal)) => refused(alloc, &refusal),
+        Err(InputStop::Memory) => Err(Memory),
     }
 }

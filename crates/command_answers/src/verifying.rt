@@ -24,7 +24,7 @@ use cert_format::Cert;
 use cert_verify::{Verdict, VerifyStop, verify};
 use edit_table::{Step, Steps};
 use exact_fraction::{Exact, Frac};
-use market_inputs::{Stop, read_certificate};
+use market_inputs::{InputStop, read_certificate};
 use market_model::{Market, Memory, Outcome};
 use market_tables::MarketTables;
 use net_case::PostRating;
@@ -60,7 +60,7 @@ fn verify_inputs(
     rating: PostRating,
     edits: &[u8],
     certificate: &[u8],
-) -> Result<Certified<Frac>, Stop>
+) -> Result<Certified<Frac>, InputStop>
     ensures told { IsToldAs (IsCertified rating (tables_lent bytes.now) edits.now certificate.now) (certificate_with ⟦<Frac as Exact>⟧.value result) }
     ensures kept { IfOk result (λ made. IsMarket made.market) }
     ensures distinct { IfOk result (λ made. RowsAreDistinct (cert_at ⟦<Frac as Exact>⟧.value made.certificate)) }
@@ -120,7 +120,7 @@ pub fn verify_told(
 {
     match verify_inputs(alloc, bytes, rating, edits, certificate) {
         Ok(made) => verdict_told(alloc, &made.market, &made.certificate),
-        Err(Stop::Refused(refusal)) => refused(alloc, &refusal),
-        Err(Stop::Memory) => Err(Memory),
+        Err(InputStop::Refused(refusal)) => refused(alloc, &refusal),
+        Err(InputStop::Memory) => Err(Memory),
     }
 }

@@ -7,7 +7,7 @@ use Rattle.net_case.specs.declared.live_parts.PostRating.{PostRating}
 use Rattle.factor_tables.specs.Offsets.{OffsetEntry}
 use Rattle.refusal_text.specs.declared.refusals.Refusal.{Refusal}
 use Rattle.market_inputs.specs.declared.offers.Offered.{Offered}
-use Rattle.market_inputs.specs.declared.stops.Stop.{Stop}
+use Rattle.market_inputs.specs.declared.stops.InputStop.{InputStop}
 use Rattle.market_inputs.specs.declared.tables.Tables.{Tables}
 use Rattle.market_inputs.specs.Cases.{IsJoinedNetwork, matrices_in}
 use Rattle.market_inputs.specs.Clearing.{IsClearMarket, market_of}
@@ -35,23 +35,23 @@ module _ (rating : PostRating) (files : SizedTables) where
   behind_case raw = Then (IsJoinedNetwork rating raw) behind_network
 
   -- the case stops the work
-  pub case-stop : (r : Result CaseMatrices Stop) (out : Result Parts Stop) (e : Stop) → IsToldAs (Is (matrices_in files.grid.case)) r → r ≡ Err e → out ≡ Err e → IsToldAs in_all out
+  pub case-stop : (r : Result CaseMatrices InputStop) (out : Result Parts InputStop) (e : InputStop) → IsToldAs (Is (matrices_in files.grid.case)) r → r ≡ Err e → out ≡ Err e → IsToldAs in_all out
   case-stop r out e told is gives = stops (Is (matrices_in files.grid.case)) behind_case r out e told is gives
 
   module _ (raw : CaseMatrices) (raw-is : matrices_in files.grid.case ≡ Ok raw) where
     -- its rows do
-    pub network-stop : (r : Result LiveNetwork Stop) (out : Result Parts Stop) (e : Stop) → IsToldAs (IsJoinedNetwork rating raw) r → r ≡ Err e → out ≡ Err e → IsToldAs in_all out
+    pub network-stop : (r : Result LiveNetwork InputStop) (out : Result Parts InputStop) (e : InputStop) → IsToldAs (IsJoinedNetwork rating raw) r → r ≡ Err e → out ≡ Err e → IsToldAs in_all out
     network-stop r out e told is gives = goes-on (Is (matrices_in files.grid.case)) behind_case raw out raw-is (stops (IsJoinedNetwork rating raw) behind_network r out e told is gives)
 
     module _ (network : LiveNetwork) (network-is : IsJoinedNetwork rating raw (Ok network)) where
       -- its tables do
-      pub tables-stop : (r : Result Tables Stop) (out : Result Parts Stop) (e : Stop) → IsToldAs (AreTables network files.grid) r → r ≡ Err e → out ≡ Err e → IsToldAs in_all out
+      pub tables-stop : (r : Result Tables InputStop) (out : Result Parts InputStop) (e : InputStop) → IsToldAs (AreTables network files.grid) r → r ≡ Err e → out ≡ Err e → IsToldAs in_all out
       tables-stop r out e told is gives =
           goes-on (Is (matrices_in files.grid.case)) behind_case raw out raw-is
           (goes-on (IsJoinedNetwork rating raw) behind_network network out network-is (stops (AreTables network files.grid) (behind_tables network) r out e told is gives))
 
       -- what these lack does
-      pub cover-stop : (tables : Tables) → AreTables network files.grid (Ok tables) → (r : Result (Unit {0}) Stop) (out : Result Parts Stop) (e : Stop) → IsToldAs (Is (cover_in network tables)) r
+      pub cover-stop : (tables : Tables) → AreTables network files.grid (Ok tables) → (r : Result (Unit {0}) InputStop) (out : Result Parts InputStop) (e : InputStop) → IsToldAs (Is (cover_in network tables)) r
           → r ≡ Err e → out ≡ Err e → IsToldAs in_all out
       cover-stop tables tables-are r out e told is gives =
           goes-on (Is (matrices_in files.grid.case)) behind_case raw out raw-is
@@ -76,17 +76,17 @@ module _ (rating : PostRating) (files : SizedTables) (raw : CaseMatrices) (netwo
   abbrev behind_offers : Offered → Result Parts Refusal → Type 0
   behind_offers offered = Then (Is (offsets_in network files.offsets)) (made offered)
 
-  behind-cover : (out : Result Parts Stop) → IsToldAs (Then (Is (offers_in network files.offers)) behind_offers) out → IsToldAs (IsClearMarket rating files) out
+  behind-cover : (out : Result Parts InputStop) → IsToldAs (Then (Is (offers_in network files.offers)) behind_offers) out → IsToldAs (IsClearMarket rating files) out
   behind-cover out rest = goes-on _ _ raw out covered.raw_is (goes-on _ _ network out covered.network_is (goes-on _ _ tables out covered.tables_are (goes-on _ _ tt out covered.covers rest)))
 
   -- the offers stop the work
-  pub offers-stop : (r : Result Offered Stop) (out : Result Parts Stop) (e : Stop) → IsToldAs (Is (offers_in network files.offers)) r → r ≡ Err e → out ≡ Err e
+  pub offers-stop : (r : Result Offered InputStop) (out : Result Parts InputStop) (e : InputStop) → IsToldAs (Is (offers_in network files.offers)) r → r ≡ Err e → out ≡ Err e
       → IsToldAs (IsClearMarket rating files) out
   offers-stop r out e told is gives = behind-cover out (stops (Is (offers_in network files.offers)) behind_offers r out e told is gives)
 
   module _ (offered : Offered) (offered-is : offers_in network files.offers ≡ Ok offered) where
     -- the offsets stop the work
-    pub offsets-stop : (r : Result (List OffsetEntry) Stop) (out : Result Parts Stop) (e : Stop) → IsToldAs (Is (offsets_in network files.offsets)) r → r ≡ Err e → out ≡ Err e
+    pub offsets-stop : (r : Result (List OffsetEntry) InputStop) (out : Result Parts InputStop) (e : InputStop) → IsToldAs (Is (offsets_in network files.offsets)) r → r ≡ Err e → out ≡ Err e
         → IsToldAs (IsClearMarket rating files) out
     offsets-stop r out e told is gives =
         behind-cover out (goes-on (Is (offers_in network files.offers)) behind_offers offered out offered-is (stops (Is (offsets_in network files.offsets)) (made offered) r out e told is gives))

@@ -6,8 +6,8 @@ use Rattle.net_paths.specs.declared.connection.PathStop.{PathStop}
 use Rattle.net_paths.specs.declared.connection.PathStop.TheVariants as path
 use Rattle.refusal_text.specs.declared.refusals.Refusal.{Refusal}
 use Rattle.market_inputs.specs.Cases.{IsJoined, split}
-use Rattle.market_inputs.specs.declared.stops.Stop.{Stop}
-use Rattle.market_inputs.specs.declared.stops.Stop.TheVariants as stop
+use Rattle.market_inputs.specs.declared.stops.InputStop.{InputStop}
+use Rattle.market_inputs.specs.declared.stops.InputStop.TheVariants as stop
 use Rattle.market_inputs.specs.Steps.{Then}
 use Rattle.market_inputs.specs.Stops.{IsToldAs, split_stop}
 
@@ -16,16 +16,16 @@ module _ {A B : Type 0} (P : Result A Refusal → Type 0) (Q : A → Result B Re
   pub made-then : (x : A) (told : Result B Refusal) → P (Ok x) → Q x told → Then P Q told
   made-then x told first next = record { made = Ok x; is = first; rest = next }
 
-  pub goes-on : (x : A) (out : Result B Stop) → P (Ok x) → IsToldAs (Q x) out → IsToldAs (Then P Q) out
+  pub goes-on : (x : A) (out : Result B InputStop) → P (Ok x) → IsToldAs (Q x) out → IsToldAs (Then P Q) out
   goes-on x (Ok y) first next = made-then x (Ok y) first next
   goes-on x (Err (stop.Refused why)) first next = made-then x (Err why) first next
   goes-on x (Err stop.Memory) first next = tt
 
   -- what stops the work is told
-  pub stops : (r : Result A Stop) (out : Result B Stop) (e : Stop) → IsToldAs P r → r ≡ Err e → out ≡ Err e → IsToldAs (Then P Q) out
+  pub stops : (r : Result A InputStop) (out : Result B InputStop) (e : InputStop) → IsToldAs P r → r ≡ Err e → out ≡ Err e → IsToldAs (Then P Q) out
   stops r out e told is gives = subst (IsToldAs (Then P Q)) (sym gives) (go e (subst (IsToldAs P) is told))
     where
-      go : (e : Stop) → IsToldAs P (Err e) → IsToldAs (Then P Q) (Err e)
+      go : (e : InputStop) → IsToldAs P (Err e) → IsToldAs (Then P Q) (Err e)
       go (stop.Refused why) told = record { made = Err why; is = told; rest = refl }
       go stop.Memory told = tt
 

@@ -9,8 +9,8 @@ use Rattle.edit_table.specs.EditTable.{steps_of_table}
 use Rattle.edit_table.specs.declared.Step.{Step}
 use Rattle.refusal_text.specs.declared.refusals.Refusal.{Refusal}
 use Rattle.refusal_text.specs.declared.refusals.Refusal.TheVariants as refusal
-use Rattle.market_inputs.specs.declared.stops.Stop.{Stop}
-use Rattle.market_inputs.specs.declared.stops.Stop.TheVariants as stop
+use Rattle.market_inputs.specs.declared.stops.InputStop.{InputStop}
+use Rattle.market_inputs.specs.declared.stops.InputStop.TheVariants as stop
 
 -- the steps of a table of edits
 abbrev pub steps_in : Result (List ℕ) Refusal → Result (List Step) Refusal
@@ -21,7 +21,7 @@ abbrev pub certificate_in : Result (List ℕ) Refusal → Result (Cert Fraction)
 certificate_in bytes = and_then bytes (λ text. or_as refusal.Certificate (cert_read text))
 
 -- what was read has this value, or this is the fault; want of memory may come at any time
-abbrev pub IsReadAs : {N : Type 0} → (N → Fraction) → Result (Cert Fraction) Refusal → Result (Cert N) Stop → Type 0
+abbrev pub IsReadAs : {N : Type 0} → (N → Fraction) → Result (Cert Fraction) Refusal → Result (Cert N) InputStop → Type 0
 IsReadAs value stands (Ok cert) = stands ≡ Ok (cert_at value cert)
 IsReadAs value stands (Err (stop.Refused r)) = stands ≡ Err r
 IsReadAs value stands (Err stop.Memory) = Unit {0}

@@ -19,44 +19,44 @@ use Rattle.cert_format.specs.declared.certificate.CertFault.TheVariants as certi
 use Rattle.refusal_text.specs.declared.refusals.Input.{Input}
 use Rattle.refusal_text.specs.declared.refusals.Refusal.{Refusal}
 use Rattle.refusal_text.specs.declared.refusals.Refusal.TheVariants as refusal
-use Rattle.market_inputs.specs.declared.stops.Stop.{Stop}
-use Rattle.market_inputs.specs.declared.stops.Stop.TheVariants as stop
+use Rattle.market_inputs.specs.declared.stops.InputStop.{InputStop}
+use Rattle.market_inputs.specs.declared.stops.InputStop.TheVariants as stop
 
 -- what holds of what is made or refused; want of memory may come at any time
-abbrev pub IsToldAs : {A : Type 0} → (Result A Refusal → Type 0) → Result A Stop → Type 0
+abbrev pub IsToldAs : {A : Type 0} → (Result A Refusal → Type 0) → Result A InputStop → Type 0
 IsToldAs holds (Ok x) = holds (Ok x)
 IsToldAs holds (Err (stop.Refused r)) = holds (Err r)
 IsToldAs holds (Err stop.Memory) = Unit {0}
 
 -- ---- a fault of each kind as a stop
-abbrev pub case_stop : CaseFault → Stop
+abbrev pub case_stop : CaseFault → InputStop
 case_stop case.Memory = stop.Memory
 case_stop f = stop.Refused (refusal.Case f)
 
-abbrev pub net_stop : NetFault → Stop
+abbrev pub net_stop : NetFault → InputStop
 net_stop net.Memory = stop.Memory
 net_stop f = stop.Refused (refusal.Network f)
 
-abbrev pub split_stop : PathStop → Stop
+abbrev pub split_stop : PathStop → InputStop
 split_stop (path.Split bus) = stop.Refused (refusal.Split bus)
 split_stop path.Memory = stop.Memory
 
-abbrev pub table_stop_of : Input → TableFault → Stop
+abbrev pub table_stop_of : Input → TableFault → InputStop
 table_stop_of file table.Memory = stop.Memory
 table_stop_of file f = stop.Refused (refusal.Table file f)
 
-abbrev pub outage_stop : OutageFault → Stop
+abbrev pub outage_stop : OutageFault → InputStop
 outage_stop outage.Memory = stop.Memory
 outage_stop f = stop.Refused (refusal.Outages f)
 
-abbrev pub offer_stop : OfferFault → Stop
+abbrev pub offer_stop : OfferFault → InputStop
 offer_stop offer.Memory = stop.Memory
 offer_stop f = stop.Refused (refusal.Offers f)
 
-abbrev pub step_stop : StepFault → Stop
+abbrev pub step_stop : StepFault → InputStop
 step_stop step.Memory = stop.Memory
 step_stop f = stop.Refused (refusal.Edits f)
 
-abbrev pub certificate_stop : CertFault → Stop
+abbrev pub certificate_stop : CertFault → InputStop
 certificate_stop (certificate.Key key) = stop.Refused (refusal.Certificate key)
 certificate_stop certificate.Memory = stop.Memory

@@ -11,7 +11,7 @@ ghost use Rattle.market_inputs.specs.Steps.{Is};
 ghost use Rattle.market_inputs.specs.Stops.{IsToldAs};
 
 use crate::lengths::check_length;
-use crate::stops::Stop;
+use crate::stops::InputStop;
 use case_text::{RawCase, read_case};
 use net_case::{Branches, Network, PostRating, Reactances, network, reactances};
 use net_paths::connected;
@@ -19,7 +19,7 @@ use refusal_text::Input;
 use std::alloc::Global;
 
 /// The matrices of a case.
-pub(crate) fn case_matrices<'a>(alloc: Global, bytes: &'a [u8]) -> Result<RawCase<'a>, Stop>
+pub(crate) fn case_matrices<'a>(alloc: Global, bytes: &'a [u8]) -> Result<RawCase<'a>, InputStop>
     ensures { IsToldAs (Is (matrices_in (sized (refusal.TooLong input.Case) bytes.now))) result }
 {
     check_length(bytes, Input::Case)?;
@@ -31,7 +31,7 @@ pub(crate) fn case_network(
     alloc: Global,
     raw: &RawCase<'_>,
     branches: Branches,
-) -> Result<Network, Stop>
+) -> Result<Network, InputStop>
     ensures told { IsToldAs (Is (network_in branches raw.now)) result }
     ensures kept { IfOk result IsNetwork }
 {
@@ -43,7 +43,7 @@ pub(crate) fn joined_network(
     alloc: Global,
     raw: &RawCase<'_>,
     rating: PostRating,
-) -> Result<Network, Stop>
+) -> Result<Network, InputStop>
     ensures told { IsToldAs (IsJoinedNetwork rating raw.now) result }
     ensures kept { IfOk result IsNetwork }
 {
@@ -57,7 +57,7 @@ pub(crate) fn case_reactances(
     alloc: Global,
     raw: &RawCase<'_>,
     network: &Network,
-) -> Result<Reactances, Stop>
+) -> Result<Reactances, InputStop>
     ensures told { IsToldAs (Is (reactances_in raw.now network.now)) result }
     ensures fit { IfOk result (AreReactances network.now) }
 {

@@ -7,7 +7,7 @@ ghost use Rattle.market_inputs.specs.Files.{sized_grid};
 ghost use Rattle.market_inputs.specs.Stops.{IsToldAs};
 
 use crate::cases::{case_matrices, case_reactances, joined_network};
-use crate::stops::Stop;
+use crate::stops::InputStop;
 use crate::tables::read_tables;
 use factor_tables::{Loss, Shift};
 use market_tables::GridTables;
@@ -26,7 +26,7 @@ pub struct Inputs {
 }
 
 /// The network, and the tables that are to fit it, of the whole bytes of these.
-pub fn check_inputs(alloc: Global, bytes: &GridTables<&[u8]>) -> Result<Inputs, Stop>
+pub fn check_inputs(alloc: Global, bytes: &GridTables<&[u8]>) -> Result<Inputs, InputStop>
     ensures told { IsToldAs (AreInputs (sized_grid (grid_lent bytes.now))) result }
     ensures fit { IfOk result AreFit }
 {

@@ -12,7 +12,7 @@ ghost use Rattle.market_inputs.specs.Tables.{AreOffered, MayBeLost};
 use crate::cases::{case_matrices, joined_network};
 use crate::limits::{factors_of, lines_of};
 use crate::offers::{Offered, offer_table};
-use crate::stops::Stop;
+use crate::stops::InputStop;
 use crate::tables::{Tables, check_cover, offset_table, read_tables};
 use factor_tables::Offsets;
 use market_model::{Market, Memory, Parts, assemble};
@@ -57,7 +57,7 @@ pub fn clear_market(
     alloc: Global,
     bytes: &MarketTables<&[u8]>,
     rating: PostRating,
-) -> Result<Market, Stop>
+) -> Result<Market, InputStop>
     ensures told { IsToldAs (IsClearMarket rating (sized_tables (tables_lent bytes.now))) result }
     ensures kept { IfOk result IsMarket }
 {

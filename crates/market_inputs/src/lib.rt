@@ -18,4 +18,4 @@ pub use clearing::clear_market;
 pub use lengths::MOST_BYTES;
 pub use pooling::pool_market;
 pub use replays::{edit_steps, read_certificate};
-pub use stops::Stop;
+pub use stops::InputStop;

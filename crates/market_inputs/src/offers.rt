@@ -9,7 +9,7 @@ ghost use Rattle.market_inputs.specs.Stops.{IsToldAs};
 ghost use Rattle.market_inputs.specs.Tables.{AreOffered, offers_in};
 
 use crate::lengths::check_length;
-use crate::stops::Stop;
+use crate::stops::InputStop;
 use market_model::{Block, List, Unit};
 use net_case::Network;
 use offer_book::blocks;
@@ -24,7 +24,11 @@ pub(crate) struct Offered {
 }
 
 /// The units of a network with the blocks of a table of offers.
-pub(crate) fn offer_table(alloc: Global, network: &Network, bytes: &[u8]) -> Result<Offered, Stop>
+pub(crate) fn offer_table(
+    alloc: Global,
+    network: &Network,
+    bytes: &[u8],
+) -> Result<Offered, InputStop>
     ensures told { IsToldAs (Is (offers_in network.now (sized (refusal.TooLong input.Offers) bytes.now))) result }
     ensures kept { IfOk result (AreOffered network.now) }
 {

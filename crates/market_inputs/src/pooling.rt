@@ -10,7 +10,7 @@ ghost use Rattle.market_inputs.specs.Stops.{IsToldAs};
 
 use crate::cases::{case_matrices, case_network};
 use crate::offers::offer_table;
-use crate::stops::Stop;
+use crate::stops::InputStop;
 use market_model::{Market, Parts, assemble};
 use net_case::Branches;
 use std::alloc::Global;
@@ -18,7 +18,7 @@ use std::alloc::Global;
 /// The market of a case and its offers.
 ///
 /// The whole case is read before the offers.
-pub fn pool_market(alloc: Global, case: &[u8], offers: &[u8]) -> Result<Market, Stop>
+pub fn pool_market(alloc: Global, case: &[u8], offers: &[u8]) -> Result<Market, InputStop>
     ensures told { IsToldAs (IsPoolMarket (sized (refusal.TooLong input.Case) case.now) (sized (refusal.TooLong input.Offers) offers.now)) result }
     ensures kept { IfOk result IsMarket }
     ensures bare { IfOk result (λ market. market.lines ≡ []) }

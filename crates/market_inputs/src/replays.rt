@@ -11,7 +11,7 @@ ghost use Rattle.market_inputs.specs.Steps.{Is};
 ghost use Rattle.market_inputs.specs.Stops.{IsToldAs};
 
 use crate::lengths::check_length;
-use crate::stops::Stop;
+use crate::stops::InputStop;
 use cert_format::{Cert, from_json};
 use edit_table::{Steps, steps};
 use exact_fraction::{Exact, Frac};
@@ -19,7 +19,7 @@ use refusal_text::Input;
 use std::alloc::Global;
 
 /// The edits and clears of a table.
-pub fn edit_steps(alloc: Global, bytes: &[u8]) -> Result<Steps, Stop>
+pub fn edit_steps(alloc: Global, bytes: &[u8]) -> Result<Steps, InputStop>
     ensures told { IsToldAs (Is (steps_in (sized (refusal.TooLong input.Edits) bytes.now))) result }
     ensures kept { IfOk result AreSteps }
 {
@@ -28,7 +28,7 @@ pub fn edit_steps(alloc: Global, bytes: &[u8]) -> Result<Steps, Stop>
 }
 
 /// The certificate that a text stands for.
-pub fn read_certificate(alloc: Global, bytes: &[u8]) -> Result<Cert<Frac>, Stop>
+pub fn read_certificate(alloc: Global, bytes: &[u8]) -> Result<Cert<Frac>, InputStop>
     ensures told { IsReadAs ⟦<Frac as Exact>⟧.value (certificate_in (sized (refusal.TooLong input.Certificate) bytes.now)) result }
     ensures distinct { IfOk result (λ cert. RowsAreDistinct (cert_at ⟦<Frac as Exact>⟧.value cert)) }
 {

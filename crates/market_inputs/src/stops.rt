@@ -16,118 +16,118 @@ use refusal_text::{Input, Refusal};
 
 /// Why nothing was made of the files.
 #[derive(Debug, Drop)]
-pub enum Stop {
+pub enum InputStop {
     Refused(Refusal),
     Memory,
 }
 
-impl From<Memory> for Stop {
-    ghost use Rattle.market_inputs.specs.declared.stops.Stop.TheVariants as why;
+impl From<Memory> for InputStop {
+    ghost use Rattle.market_inputs.specs.declared.stops.InputStop.TheVariants as why;
 
     ghost from_gives = { λ _ stop. stop ≡ why.Memory };
 
-    fn from(_refused: Memory) -> Stop {
-        Stop::Memory
+    fn from(_refused: Memory) -> InputStop {
+        InputStop::Memory
     }
 }
 
-impl From<CaseFault> for Stop {
+impl From<CaseFault> for InputStop {
     ghost use Rattle.market_inputs.specs.Stops.{case_stop};
 
     ghost from_gives = { λ fault stop. stop ≡ case_stop fault };
 
-    fn from(fault: CaseFault) -> Stop {
+    fn from(fault: CaseFault) -> InputStop {
         match fault {
-            CaseFault::Memory => Stop::Memory,
-            _ => Stop::Refused(Refusal::Case(fault)),
+            CaseFault::Memory => InputStop::Memory,
+            _ => InputStop::Refused(Refusal::Case(fault)),
         }
     }
 }
 
-impl From<NetFault> for Stop {
+impl From<NetFault> for InputStop {
     ghost use Rattle.market_inputs.specs.Stops.{net_stop};
 
     ghost from_gives = { λ fault stop. stop ≡ net_stop fault };
 
-    fn from(fault: NetFault) -> Stop {
+    fn from(fault: NetFault) -> InputStop {
         match fault {
-            NetFault::Memory => Stop::Memory,
-            _ => Stop::Refused(Refusal::Network(fault)),
+            NetFault::Memory => InputStop::Memory,
+            _ => InputStop::Refused(Refusal::Network(fault)),
         }
     }
 }
 
-impl From<PathStop> for Stop {
+impl From<PathStop> for InputStop {
     ghost use Rattle.market_inputs.specs.Stops.{split_stop};
 
     ghost from_gives = { λ path stop. stop ≡ split_stop path };
 
-    fn from(path: PathStop) -> Stop {
+    fn from(path: PathStop) -> InputStop {
         match path {
-            PathStop::Split { bus } => Stop::Refused(Refusal::Split { bus }),
-            PathStop::Memory => Stop::Memory,
+            PathStop::Split { bus } => InputStop::Refused(Refusal::Split { bus }),
+            PathStop::Memory => InputStop::Memory,
         }
     }
 }
 
-impl From<OutageFault> for Stop {
+impl From<OutageFault> for InputStop {
     ghost use Rattle.market_inputs.specs.Stops.{outage_stop};
 
     ghost from_gives = { λ fault stop. stop ≡ outage_stop fault };
 
-    fn from(fault: OutageFault) -> Stop {
+    fn from(fault: OutageFault) -> InputStop {
         match fault {
-            OutageFault::Memory => Stop::Memory,
-            _ => Stop::Refused(Refusal::Outages(fault)),
+            OutageFault::Memory => InputStop::Memory,
+            _ => InputStop::Refused(Refusal::Outages(fault)),
         }
     }
 }
 
-impl From<OfferFault> for Stop {
+impl From<OfferFault> for InputStop {
     ghost use Rattle.market_inputs.specs.Stops.{offer_stop};
 
     ghost from_gives = { λ fault stop. stop ≡ offer_stop fault };
 
-    fn from(fault: OfferFault) -> Stop {
+    fn from(fault: OfferFault) -> InputStop {
         match fault {
-            OfferFault::Memory => Stop::Memory,
-            _ => Stop::Refused(Refusal::Offers(fault)),
+            OfferFault::Memory => InputStop::Memory,
+            _ => InputStop::Refused(Refusal::Offers(fault)),
         }
     }
 }
 
 /// A table that its reader refused, or that there was no memory for.
-pub(crate) fn table_stop(file: Input, fault: TableFault) -> Stop
+pub(crate) fn table_stop(file: Input, fault: TableFault) -> InputStop
     ensures { result ≡ table_stop_of file fault }
 {
     match fault {
-        TableFault::Memory => Stop::Memory,
-        _ => Stop::Refused(Refusal::Table(file, fault)),
+        TableFault::Memory => InputStop::Memory,
+        _ => InputStop::Refused(Refusal::Table(file, fault)),
     }
 }
 
-impl From<StepFault> for Stop {
+impl From<StepFault> for InputStop {
     ghost use Rattle.market_inputs.specs.Stops.{step_stop};
 
     ghost from_gives = { λ fault stop. stop ≡ step_stop fault };
 
-    fn from(fault: StepFault) -> Stop {
+    fn from(fault: StepFault) -> InputStop {
         match fault {
-            StepFault::Memory => Stop::Memory,
-            _ => Stop::Refused(Refusal::Edits(fault)),
+            StepFault::Memory => InputStop::Memory,
+            _ => InputStop::Refused(Refusal::Edits(fault)),
         }
     }
 }
 
-impl From<CertFault> for Stop {
+impl From<CertFault> for InputStop {
     ghost use Rattle.market_inputs.specs.Stops.{certificate_stop};
 
     ghost from_gives = { λ fault stop. stop ≡ certificate_stop fault };
 
-    fn from(fault: CertFault) -> Stop {
+    fn from(fault: CertFault) -> InputStop {
         match fault {
-            CertFault::Key { key } => Stop::Refused(Refusal::Certificate(key)),
-            CertFault::Memory => Stop::Memory,
+            CertFault::Key { key } => InputStop::Refused(Refusal::Certificate(key)),
+            CertFault::Memory => InputStop::Memory,
         }
     }
 }

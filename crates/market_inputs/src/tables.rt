@@ -11,7 +11,7 @@ ghost use Rattle.market_inputs.specs.Stops.{IsToldAs};
 ghost use Rattle.market_inputs.specs.Tables.{AreOutagesIn, AreTables, MayBeLost, cover_in, loss_in, numbers_in, offsets_in, shift_in};
 
 use crate::lengths::check_length;
-use crate::stops::{Stop, table_stop};
+use crate::stops::{InputStop, table_stop};
 use factor_tables::{Loss, Offsets, OutageRows, Shift, cover, offsets, outage, outage_rows, shift};
 use market_tables::GridTables;
 use net_case::Network;
@@ -28,7 +28,7 @@ pub(crate) struct Tables {
 }
 
 /// The shift factors of a table.
-fn shift_table(alloc: Global, network: &Network, bytes: &[u8]) -> Result<Shift, Stop>
+fn shift_table(alloc: Global, network: &Network, bytes: &[u8]) -> Result<Shift, InputStop>
     ensures { IsToldAs (Is (shift_in network.now (sized (refusal.TooLong input.Ptdf) bytes.now))) result }
 {
     check_length(bytes, Input::Ptdf)?;
@@ -39,7 +39,7 @@ fn shift_table(alloc: Global, network: &Network, bytes: &[u8]) -> Result<Shift, 
 }
 
 /// The outage factors of a table.
-fn loss_table(alloc: Global, network: &Network, bytes: &[u8]) -> Result<Loss, Stop>
+fn loss_table(alloc: Global, network: &Network, bytes: &[u8]) -> Result<Loss, InputStop>
     ensures { IsToldAs (Is (loss_in network.now (sized (refusal.TooLong input.Lodf) bytes.now))) result }
 {
     check_length(bytes, Input::Lodf)?;
@@ -50,7 +50,7 @@ fn loss_table(alloc: Global, network: &Network, bytes: &[u8]) -> Result<Loss, St
 }
 
 /// The numbers of a table of outages.
-fn numbers_table(alloc: Global, bytes: &[u8]) -> Result<OutageRows, Stop>
+fn numbers_table(alloc: Global, bytes: &[u8]) -> Result<OutageRows, InputStop>
     ensures told { IsToldAs (Is (numbers_in (sized (refusal.TooLong input.Contingencies) bytes.now))) result }
     ensures few { IfOk result (λ rows. length rows ≤ most_outages) }
 {
@@ -62,7 +62,7 @@ fn numbers_table(alloc: Global, bytes: &[u8]) -> Result<OutageRows, Stop>
 }
 
 /// The outages of a table.
-fn outage_table(alloc: Global, network: &Network, bytes: &[u8]) -> Result<Outages, Stop>
+fn outage_table(alloc: Global, network: &Network, bytes: &[u8]) -> Result<Outages, InputStop>
     ensures told { IsToldAs (AreOutagesIn network.now (sized (refusal.TooLong input.Contingencies) bytes.now)) result }
     ensures kept { IfOk result (MayBeLost network.now) }
 {
@@ -75,7 +75,7 @@ pub(crate) fn read_tables(
     alloc: Global,
     network: &Network,
     grid: &GridTables<&[u8]>,
-) -> Result<Tables, Stop>
+) -> Result<Tables, InputStop>
     ensures told { IsToldAs (AreTables network.now (sized_grid (grid_lent grid.now))) result }
     ensures kept { IfOk result (λ tables. MayBeLost network.now tables.outages) }
 {
@@ -90,17 +90,21 @@ pub(crate) fn read_tables(
 }
 
 /// Stops at what the tables of factors lack.
-pub(crate) fn check_cover(network: &Network, tables: &Tables) -> Result<(), Stop>
+pub(crate) fn check_cover(network: &Network, tables: &Tables) -> Result<(), InputStop>
     ensures { IsToldAs (Is (cover_in network.now tables.now)) result }
 {
     match cover(network, &tables.shift, &tables.loss, tables.outages.slice()) {
         Ok(()) => Ok(()),
-        Err(lack) => Err(Stop::Refused(Refusal::Uncovered(lack))),
+        Err(lack) => Err(InputStop::Refused(Refusal::Uncovered(lack))),
     }
 }
 
 /// The offsets of a table.
-pub(crate) fn offset_table(alloc: Global, network: &Network, bytes: &[u8]) -> Result<Offsets, Stop>
+pub(crate) fn offset_table(
+    alloc: Global,
+    network: &Network,
+    bytes: &[u8],
+) -> Result<Offsets, InputStop>
     ensures { IsToldAs (Is (offsets_in network.now (sized (refusal.TooLong input.Offsets) bytes.now))) result }
 {
     check_length(bytes, Input::Offsets)?;
