@@ -1,4 +1,5 @@
 pub mod Amount
 pub mod Decimal
+pub mod Plain
 pub mod Reading
 pub mod View

@@ -14,9 +14,11 @@ pub use fraction_theory::Sign;
 
 mod amount;
 pub mod laws;
+mod plain;
 mod text;
 
 use amount::{sign_of_parts, units};
+use plain::plain_units;
 use text::{Numeral, is_not_finite_text, parts_of};
 
 /// Why a text has no number of units.
@@ -55,6 +57,9 @@ pub fn read(bytes: &[u8], places: u8) -> Result<i64, DecimalFault>
     // The same as a function of the text.
     ensures is { result ≡ units_of places bytes.now }
 {
+    if let Some(units) = plain_units(bytes, places) {
+        return Ok(units);
+    }
     let found = decimal(bytes)?;
     units(&found, places)
 }

@@ -69,3 +69,45 @@ fn tells_signs_and_numbers(rt: HostRuntime) {
         assert_eq!(rt; is_number(text), is, "{text:?}");
     }
 }
+
+#[test]
+fn reads_plain_texts(rt: HostRuntime) {
+    let rows: [(&[u8], u8, Option<i64>); 32] = [
+        (b"5", 0, Some(5)),
+        (b"5.", 0, Some(5)),
+        (b".5", 1, Some(5)),
+        (b"+7", 9, Some(7_000_000_000)),
+        (b"-5", 2, Some(-500)),
+        (b"-0", 18, Some(0)),
+        (b"12.50", 2, Some(1250)),
+        (b"-00012.50", 3, Some(-12_500)),
+        (b"-0.000001", 6, Some(-1)),
+        (b"1", 18, Some(1_000_000_000_000_000_000)),
+        (b"0.000000000000000001", 18, None),
+        (b".000000000000000001", 18, Some(1)),
+        (b"123456789012345678", 0, Some(123_456_789_012_345_678)),
+        (b"-123456789.012345678", 9, Some(-123_456_789_012_345_678)),
+        (b"9.223372036854775807", 18, None),
+        (b"9.22337203685477580", 18, Some(9_223_372_036_854_775_800)),
+        (b"9.22337203685477581", 18, None),
+        (b"10", 18, None),
+        (b"99", 18, None),
+        (b"1234567890123456789", 0, None),
+        (b"1.23", 1, None),
+        (b"1.20", 1, None),
+        (b"", 0, None),
+        (b"-", 0, None),
+        (b".", 0, None),
+        (b"-.", 0, None),
+        (b"--5", 0, None),
+        (b"e", 0, None),
+        (b"1e3", 9, None),
+        (b"1.2.3", 9, None),
+        (b"1 2", 0, None),
+        (b"Inf", 0, None),
+    ];
+    for (text, places, want) in rows {
+        assert!(rt; places <= 18);
+        assert_eq!(rt; plain_units(text, places), want, "{text:?}");
+    }
+}

@@ -5,6 +5,7 @@ ghost use Rattle.std.specs.Char.{is_ascii_digit};
 ghost use Rattle.std.specs.List.{position, position_or_len, list_all};
 ghost use Rattle.scaled_decimal.specs.Decimal.{is_mark, is_point};
 ghost use Rattle.scaled_decimal.specs.Reading.{is_negative, without_sign, is_not_finite, decimal_in, cut, has_mark, is_well_formed};
+ghost use Rattle.scaled_decimal.specs.Plain.{IsSigned};
 ghost use Rattle.scaled_decimal.specs.View.{view, HasDigits};
 
 /// The parts of a decimal's text. The slices hold digits alone.
@@ -22,9 +23,10 @@ pub struct Numeral<'a> {
 }
 
 /// Whether a minus stands first, and what follows a sign.
-fn behind_sign(bytes: &[u8]) -> (bool, &[u8])
+pub(crate) fn behind_sign(bytes: &[u8]) -> (bool, &[u8])
     ensures negative { result.0 ≡ is_negative bytes.now }
     ensures rest { result.1.now ≡ without_sign bytes.now }
+    ensures signed { IsSigned bytes.now result.0 result.1.now }
 {
     match bytes {
         [b'-', rest @ ..] => (true, rest),
