@@ -120,7 +120,12 @@ law_of_complete words files text s prints =
     let p = printed words files text s prints in (
       λ m asks. market-reported m p.telling text s p.text_is p.status_is (clear-told files words p.telling p.written (Ok m) p.answers asks),
       λ m o place reports. (let is = reported words files text s m o place _ p reports in
-          record { taken = is.taken; begins = is.begins; decided = λ fit. law_of_completeness m is.taken most_size o is.market (law_of_the_numbers m is.taken most_size fit) is.right }),
+          record {
+            taken = is.taken;
+            begins = is.begins;
+            fits = λ fit. law_of_completeness m is.taken most_size o is.market (law_of_the_numbers m is.taken most_size fit) is.right;
+            decided = λ none. law_of_completeness m is.taken most_size o is.market none is.right;
+          }),
     )
 
 -- ---- replay

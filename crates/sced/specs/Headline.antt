@@ -22,7 +22,7 @@ use Rattle.market_model.specs.Optimality.{AreWithin, Feasible, ProperDuals, Supp
 use Rattle.market_model.specs.RightAnswers.{dispatch_in, price_made, settlement_at}
 use Rattle.market_model.specs.Settlement.{rent}
 use Rattle.market_system.specs.Outcomes.{IsDecided}
-use Rattle.market_system.specs.WorkingPairs.{AllNumbersFit, IsRangeOf}
+use Rattle.market_system.specs.WorkingPairs.{AllNumbersFit, IsRangeOf, NoPairPasses}
 use Rattle.case_maker.specs.Rings.{ring_of}
 use Rattle.cert_format.specs.Certificates.{cert_of_outcome}
 use Rattle.cert_format.specs.Written.{cert_text}
@@ -170,12 +170,13 @@ pub record IsReported (m : Parts) (text : List ℕ) (s : Status) : Type 0 where
   pub text_is : text ≡ report_text m outcome
   pub status_is : s ≡ status_of outcome
 
--- and where all numbers that a clear may have to write down, over rows that are reached from those with which it begins, are within 127 bits, what
--- is reported of it is cleared where some dispatch qualifies, and infeasible where none does
+-- and over rows that are reached from those with which a clear begins, where no working pair passes 127 bits, as where all numbers that it may
+-- have to write down are within them, what is reported of it is cleared where some dispatch qualifies, and infeasible where none does
 pub record IsDecidedFrom (words : List (List ℕ)) (files : Files) (text : List ℕ) (m : Parts) (o : Outcome Fraction) (place : ℕ) : Type 0 where
   pub taken : List Row
   pub begins : BeginsWith words files text m place taken
-  pub decided : AllNumbersFit m taken most_size → IsDecided m o
+  pub fits : AllNumbersFit m taken most_size → IsDecided m o
+  pub decided : NoPairPasses m taken most_size → IsDecided m o
 
 abbrev pub LawOfComplete : Type 0
 LawOfComplete = (words : List (List ℕ)) (files : Files) (text : List ℕ) (s : Status) → Prints words files text s
