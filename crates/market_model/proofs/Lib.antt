@@ -2,6 +2,7 @@ mod BalanceSteps
 pub mod ChangeLemmas
 pub mod FarkasLaw
 mod FarkasRows
+pub mod HardLimits
 pub mod LimitCases
 pub mod ListSteps
 pub mod LostLemmas

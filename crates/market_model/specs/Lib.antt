@@ -7,6 +7,7 @@ pub mod Frame
 pub mod Infeasibility
 pub mod Laws
 pub mod LimitRows
+pub mod Lines
 pub mod LostLines
 pub mod Market
 pub mod NamedSums
