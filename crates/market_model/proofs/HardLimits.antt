@@ -1,8 +1,7 @@
 -- What the words of soft limits come to where all limits are hard.
-use Rattle.std.specs.Prelude.{◌≡◌, ◌⊎◌, ℕ, ◌<◌, ◌≤◌, ℤ, pos, ◌≤ℤ◌, ◌<ℤ◌, Bool, true, false, List, [], ◌∷◌, ◌++◌, length, map, filter, slice_index_or, Option, IfSome, if◌then◌else◌, None, refl}
+use Rattle.std.specs.Prelude.{◌≡◌, ◌⊎◌, ℕ, ◌<◌, ◌≤◌, ℤ, pos, ◌≤ℤ◌, Bool, true, false, List, [], ◌∷◌, ◌++◌, length, map, filter, slice_index_or, Option, IfSome, if◌then◌else◌, None, refl}
 use Rattle.std.specs.Int.{is_positive}
 use Rattle.std.proofs.Common.{arith, sym, ap, ◌∙◌, subst, inl, inr}
-use mathlib.Core.Path.{ap₂}
 use Rattle.std.proofs.lemmas.Bool.{cases_lt}
 use Rattle.std.proofs.lemmas.List.{get_or_past, append-nil}
 use Rattle.fraction_theory.specs.Fraction.{Fraction, whole, neg_ℚ, ◌+ℚ◌}
@@ -17,7 +16,7 @@ use Rattle.market_model.specs.declared.participants.Line.{Line}
 use Rattle.market_model.specs.declared.participants.Parts.{Parts}
 use Rattle.market_model.specs.declared.answered.Duals.{Duals}
 use Rattle.market_model.specs.Dispatch.{Dispatch, zero, line_at}
-use Rattle.market_model.specs.LimitRows.{excess_of, flow, is_outage, is_soft, limit, most_excess, most_flow, penalty, penalty_of}
+use Rattle.market_model.specs.LimitRows.{excess_of, flow, is_outage, is_soft, limit, most_flow, penalty, penalty_of}
 use Rattle.market_model.specs.Lines.{hard_line, IsHard, IsPenalty, HasHardLimits}
 use Rattle.market_model.specs.Market.{IsLine, IsMarket}
 use Rattle.market_model.specs.Optimality.{SideSupported, RowSupported, Within, up_of, down_of, value_terms, welfare_terms_for}

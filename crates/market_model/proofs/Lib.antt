@@ -18,6 +18,7 @@ pub mod PutInSteps
 pub mod RightFits
 pub mod RowLaws
 pub mod Rows
+pub mod SoftCases
 pub mod StopLemmas
 pub mod SumParts
 pub mod SumSteps
