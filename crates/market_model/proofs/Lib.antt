@@ -15,6 +15,7 @@ pub mod PlaceSums
 pub mod PlainMarkets
 pub mod PutInSteps
 pub mod RightFits
+mod RightsCases
 mod RightsLaw
 pub mod RowLaws
 pub mod Rows
