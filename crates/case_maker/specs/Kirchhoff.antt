@@ -7,12 +7,12 @@ use Rattle.market_model.specs.LimitRows.{loss_factor, shift_factor}
 use Rattle.case_maker.specs.Rings.{IsRingSize, ring_of}
 
 -- of a MW that bus i puts in, what is put in at bus j
-abbrev pub put_in : ℕ → ℕ → Fraction
-put_in i j = if i == j then whole (pos 1) else zero
+abbrev pub unit_injection : ℕ → ℕ → Fraction
+unit_injection i j = if i == j then whole (pos 1) else zero
 
 pub record ObeysKirchhoff (n seed : ℕ) : Type 0 where
   -- what leaves a bus behind the first one is what comes to it and what is put in there
-  pub nodes : (j i : ℕ) → j + 1 < n → i < n → shift_factor (ring_of n seed) (j + 1) i ≡ shift_factor (ring_of n seed) j i +ℚ put_in i (j + 1)
+  pub nodes : (j i : ℕ) → j + 1 < n → i < n → shift_factor (ring_of n seed) (j + 1) i ≡ shift_factor (ring_of n seed) j i +ℚ unit_injection i (j + 1)
   -- round the ring the flows come to nothing
   pub loop : (i : ℕ) → i < n → sum_by (λ l. shift_factor (ring_of n seed) l i) (places n) ≡ zero
   -- without a branch each other one carries less by what that one carried

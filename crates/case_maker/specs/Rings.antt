@@ -13,6 +13,7 @@ use Rattle.market_model.specs.declared.participants.Side.TheVariants.{Sell}
 use Rattle.market_model.specs.Dispatch.{places}
 use Rattle.market_model.specs.Market.{bare_parts}
 use Rattle.case_maker.specs.declared.draws.Drawn.{Drawn}
+use Rattle.market_model.specs.Lines.{hard_line}
 
 -- how many buses a ring may have: at these sizes each factor is a whole number of 10^-6
 abbrev pub IsRingSize : ℕ → Type 0
@@ -66,7 +67,7 @@ blocks_of i d = half_sold i d.first_price ∷ half_sold i d.second_price ∷ []
 
 -- the branch from bus i to the next one, and from the last bus to the first
 abbrev pub line_of : ℕ → Drawn → Line
-line_of i d = record { row = i + 1; base = Some (mw d.base_limit); post = Some (mw d.post_limit); offset = pos 0 }
+line_of i d = hard_line (i + 1) (Some (mw d.base_limit)) (Some (mw d.post_limit)) (pos 0)
 
 -- ---- factors
 -- so many of so many parts, in 10^-6

@@ -66,12 +66,12 @@ fn line_of(place: usize, drawn: &Drawn) -> Line
     requires { place < 64 }
     ensures { result ≡ line_of place drawn.now }
 {
-    Line {
-        row: number_of(place),
-        base: Some(mw(drawn.base_limit)),
-        post: Some(mw(drawn.post_limit)),
-        offset: 0,
-    }
+    Line::hard(
+        number_of(place),
+        Some(mw(drawn.base_limit)),
+        Some(mw(drawn.post_limit)),
+        0,
+    )
 }
 
 /// Adds a bus, its unit with two blocks, and the branch that leaves it, which is an outage too.

@@ -5,7 +5,7 @@ use Rattle.std.proofs.Common.{zero, suc, arith, inl, inr, ap, ap₂, sym, subst,
 use Rattle.std.proofs.lemmas.List.{take_all}
 use Rattle.std.proofs.lemmas.Grind.{flat_map-append}
 use Rattle.fraction_theory.specs.Fraction.{Fraction, whole, ◌+ℚ◌, ◌-ℚ◌, ◌*ℚ◌}
-use Rattle.fraction_theory.specs.Signs.{sign_of}
+use Rattle.fraction_theory.specs.Signs.{sign_of, where_above, part_above}
 use Rattle.fraction_theory.specs.declared.Sign.{Sign}
 use Rattle.fraction_theory.specs.declared.Sign.TheVariants.{Below, Zero}
 use Rattle.fraction_theory.specs.Sums.{sum_by, Term, Product, total}
@@ -17,7 +17,7 @@ use Rattle.exact_fraction.specs.declared.Passed.{Passed}
 use Rattle.market_model.specs.declared.answered.Duals.{Duals}
 use Rattle.market_model.specs.declared.participants.Parts.{Parts}
 use Rattle.market_model.specs.Dispatch.{Dispatch, places, injection, balance, balance_terms, empty, quantity, dispatch_by}
-use Rattle.market_model.specs.Infeasibility.{where_above, part_above, block_weight, limit_terms, nothing_terms, farkas_terms, farkas_bound}
+use Rattle.market_model.specs.Infeasibility.{block_weight, limit_terms, nothing_terms, farkas_terms, farkas_bound}
 use Rattle.market_model.specs.declared.limits.Row.{Row}
 use Rattle.market_model.specs.LimitRows.{rows, row_id, limit, flow}
 use Rattle.market_model.specs.NamedSums.{IsRefusal, IsRefusedIn, IsShareRefusal}

@@ -5,7 +5,7 @@ ghost use Rattle.fraction_theory.specs.Fraction.{Fraction, ◌+ℚ◌, ◌-ℚ�
 ghost use Rattle.fraction_theory.specs.Sums.{total};
 ghost use Rattle.market_model.specs.declared.answered.Duals.{Duals};
 ghost use Rattle.market_model.specs.Dispatch.{Dispatch, balance, empty};
-ghost use Rattle.market_model.specs.Infeasibility.{farkas_bound, limit_terms, nothing_terms, part_above};
+ghost use Rattle.market_model.specs.Infeasibility.{farkas_bound, limit_terms, nothing_terms};
 ghost use Rattle.market_model.specs.LimitRows.{IsCauseAmong, flow, limit};
 ghost use Rattle.market_model.specs.Optimality.{unit_price};
 ghost use Rattle.market_model.specs.Stops.{StopsBy};
@@ -15,6 +15,7 @@ ghost use Rattle.limit_rows.specs.LineFlows.{AreFlows};
 ghost use Rattle.cert_sums.specs.Named.{AreNamed, priced_at, priced_by};
 ghost use Rattle.cert_sums.specs.Pairs.{IsFarkasPair};
 ghost use Rattle.cert_sums.specs.Refusals.{IsAboveRefusal, IsBelowRefusal, IsLimitRefusal};
+ghost use Rattle.fraction_theory.specs.Signs.{part_above};
 
 use crate::{NamedRow, bus_price, injections, line_flows};
 use exact_fraction::{Exact, Passed, Sign, exact_difference, exact_sum};

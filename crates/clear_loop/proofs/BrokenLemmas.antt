@@ -3,14 +3,14 @@ use Rattle.std.specs.Prelude.{◌≡◌, ◌⊎◌, ℕ, pos, List, [], ◌∷�
 use Rattle.std.proofs.Common.{inl, inr, ap, subst, get_or}
 use Rattle.fraction_theory.specs.Fraction.{Fraction, whole, neg_ℚ, ◌-ℚ◌}
 use Rattle.fraction_theory.specs.Order.{◌<ℚ◌, ◌≤ℚ◌}
-use Rattle.fraction_theory.specs.Signs.{sign_of}
+use Rattle.fraction_theory.specs.Signs.{sign_of, abs_by}
 use Rattle.fraction_theory.specs.declared.Sign.{Sign}
 use Rattle.fraction_theory.specs.declared.Sign.TheVariants.{Below, Zero, Above}
 use Rattle.fraction_theory.proofs.OrderLaws.{NonNeg-one, by_le1, ≤ℚ-or-<ℚ, <ℚ-not-≤ℚ}
 use Rattle.fraction_theory.proofs.Ring.{at, pneg, pone}
 use Rattle.market_model.specs.declared.participants.Parts.{Parts}
 use Rattle.market_model.specs.Dispatch.{Dispatch}
-use Rattle.market_model.specs.Overrun.{size_by, overrun, IsWorst}
+use Rattle.market_model.specs.Overrun.{overrun, IsWorst}
 use Rattle.market_model.specs.declared.limits.Row.{Row}
 use Rattle.market_model.specs.LimitRows.{rows, limit, flow, flow_by, most_flow}
 use Rattle.market_model.specs.Market.{IsMarket}
@@ -36,7 +36,7 @@ below_limit f F h = by (≤ℚ-or-<ℚ (neg_ℚ F) f)
     by (inl le) = absurd (<ℚ-not-≤ℚ F (neg_ℚ f) h (by_le1 (f ∷ F ∷ []) (pneg (at 0)) (at 1) pone (pneg (at 1)) (at 0) NonNeg-one le refl))
     by (inr lt) = lt
 
-past_size : (f F : Fraction) (s : Sign) → whole (pos 0) <ℚ (size_by s f -ℚ F) → (F <ℚ f) ⊎ (f <ℚ neg_ℚ F)
+past_size : (f F : Fraction) (s : Sign) → whole (pos 0) <ℚ (abs_by s f -ℚ F) → (F <ℚ f) ⊎ (f <ℚ neg_ℚ F)
 past_size f F Below h = inr (below_limit f F (above_limit (neg_ℚ f) F h))
 past_size f F Zero h = inl (above_limit f F h)
 past_size f F Above h = inl (above_limit f F h)

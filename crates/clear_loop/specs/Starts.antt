@@ -13,6 +13,6 @@ abbrev pub kept_as : Option Dictionary → Option Taken → Kept
 kept_as d t = record { dict = d; taken = taken_in t }
 
 -- a name for each row
-abbrev pub AreNamed : Option Taken → Type 0
-AreNamed None = Unit {0}
-AreNamed (Some t) = length t.names ≡ length t.rows
+abbrev pub HaveNames : Option Taken → Type 0
+HaveNames None = Unit {0}
+HaveNames (Some t) = length t.names ≡ length t.rows

@@ -35,11 +35,11 @@ impl<N: Exact> Model for Clearer<N> {
 
     ghost coded = { kept_code };
 
-    ghost use Rattle.clear_loop.specs.Starts.{AreNamed, kept_as};
+    ghost use Rattle.clear_loop.specs.Starts.{HaveNames, kept_as};
 
     ghost view = { λ c. kept_as c.warm c.taken };
 
-    ghost invariant = { λ c. AreNamed c.taken };
+    ghost invariant = { λ c. HaveNames c.taken };
 }
 
 /// Nothing is kept.

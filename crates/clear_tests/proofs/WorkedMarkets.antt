@@ -13,6 +13,7 @@ use Rattle.market_model.specs.declared.participants.Side.TheVariants.{Sell, Buy}
 use Rattle.market_model.specs.Market.{bare_parts, IsMarket, IsBlock, IsLine, HasRoom}
 use Rattle.market_model.specs.Stairs.{stair_in}
 use Rattle.limit_rows.proofs.TestMarkets.{losses, one_is_market, shifts}
+use Rattle.market_model.specs.Lines.{hard_line}
 
 abbrev bus_of : ℕ → ℕ → ℕ → Bus
 bus_of number pd gs = record { number = number; pd = pos pd; gs = pos gs }
@@ -24,10 +25,10 @@ abbrev block_of : ℕ → ℕ → Block
 block_of u price = record { unit = u; side = Sell; quantity = pos 100000000000; price = pos price }
 
 abbrev line_free : ℕ → Line
-line_free row = record { row = row; base = None; post = None; offset = pos 0 }
+line_free row = hard_line row None None (pos 0)
 
 abbrev line_limited : Line
-line_limited = record { row = 2; base = Some (pos 40000000000); post = Some (pos 1000000000000); offset = pos 0 }
+line_limited = hard_line 2 (Some (pos 40000000000)) (Some (pos 1000000000000)) (pos 0)
 
 abbrev blocks : List Block
 blocks = block_of 0 10000000 ∷ block_of 1 30000000 ∷ []

@@ -17,15 +17,15 @@ abbrev pub number : ℕ → Record → ℕ → ℕ → Result ℤ TableFault
 number line r col places = or_as fault.Frame (number_in line r col places)
 
 -- the factor in the third cell, of a size of 1000 at most
-unfoldable pub factor_in : ℕ → Record → Result ℤ TableFault
-factor_in line r = and_then (number line r 2 factor_places) (λ factor. if nat_lt most_factor (unsigned_abs factor) then Err (fault.Frame (frame.Cell line 3 why.Bounds)) else Ok factor)
+unfoldable pub factor_cell : ℕ → Record → Result ℤ TableFault
+factor_cell line r = and_then (number line r 2 factor_places) (λ factor. if nat_lt most_factor (unsigned_abs factor) then Err (fault.Frame (frame.Cell line 3 why.Bounds)) else Ok factor)
 
 -- the numbers of a record of factors, from left to right
 unfoldable pub record_in : ℕ → Record → Result FactorRecord TableFault
 record_in line r =
     and_then (number line r 0 0) (λ branch.
     and_then (number line r 1 0) (λ of.
-    and_then (factor_in line r) (λ factor.
+    and_then (factor_cell line r) (λ factor.
     Ok (record { branch = branch; of = of; factor = factor }))))
 
 -- the numbers of a record of offsets

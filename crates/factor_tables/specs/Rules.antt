@@ -62,7 +62,7 @@ pub record IsRowOf (rows : ℕ) (n : ℤ) : Type 0 where
   pub few : rows ≤ most_lines
 
 -- numbers that name rows, of which there are so many of branches
-pub record IsPairOf (kind : Column) (rows : ℕ) (r : FactorRecord) : Type 0 where
+pub record IsRecordPair (kind : Column) (rows : ℕ) (r : FactorRecord) : Type 0 where
   pub least : pos 1 ≤ℤ r.branch
   pub most : r.branch ≤ℤ pos rows
   pub of : IsSecond kind rows r.of

@@ -2,7 +2,7 @@
 
 ghost use Rattle.std.specs.Prelude.{◌≡◌, ◌+◌, ◌<◌, ◌≤◌, ◌^◌, unsigned_abs, length, get_or, [], IfOk};
 ghost use Rattle.market_data.specs.Scales.{most_factor};
-ghost use Rattle.factor_tables.specs.Records.{FactorIsRead, OffsetIsRead, factor_in, offset_in, record_in};
+ghost use Rattle.factor_tables.specs.Records.{FactorIsRead, OffsetIsRead, factor_cell, offset_in, record_in};
 
 use crate::TableFault;
 use csv_table::Table;
@@ -28,11 +28,11 @@ pub(crate) struct OffsetRecord {
 }
 
 /// The factor in the third cell of a record.
-#[tactic(auto, unfolding(crate::specs::Records::factor_in))]
+#[tactic(auto, unfolding(crate::specs::Records::factor_cell))]
 fn factor_of(table: &Table, row: usize) -> Result<i64, TableFault>
     requires { (row < length table.now) × (row + 2 < 2 ^ 64) }
     ensures size { IfOk result (λ factor. unsigned_abs factor ≤ most_factor) }
-    ensures is { result ≡ factor_in (row + 2) (get_or table.now row []) }
+    ensures is { result ≡ factor_cell (row + 2) (get_or table.now row []) }
 {
     let factor = table.number(row, 2, FACTOR_PLACES)?;
     if factor.unsigned_abs() > MOST_FACTOR {

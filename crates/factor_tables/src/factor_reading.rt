@@ -6,7 +6,7 @@ ghost use Rattle.record_reading.specs.Steps.{checked, fine};
 ghost use Rattle.market_data.specs.Scales.{most_factor};
 ghost use Rattle.factor_tables.specs.Factors.{ArePairFactors, HasNoPairTwice, has_pair, marked_row};
 ghost use Rattle.factor_tables.specs.Records.{FactorIsRead};
-ghost use Rattle.factor_tables.specs.Rules.{IsPairOf, loss_faults, record_faults, shift_faults};
+ghost use Rattle.factor_tables.specs.Rules.{IsRecordPair, loss_faults, record_faults, shift_faults};
 ghost use Rattle.factor_tables.specs.Tables.{entry_in, factors_of, header_of, loss_of, shift_of};
 
 use crate::TableFault;
@@ -28,7 +28,7 @@ pub const LOSS_HEADER: &[&str] = &["branch", "outage", "factor"];
 #[tactic(auto, unfolding(crate::specs::Rules::shift_faults))]
 fn check_shift(network: &Network, numbers: FactorRecord, line: usize) -> Result<(), TableFault>
     requires { FactorIsRead numbers }
-    ensures pair { IfOk result (λ _. IsPairOf Column.Bus network.now.branch_rows numbers) }
+    ensures pair { IfOk result (λ _. IsRecordPair Column.Bus network.now.branch_rows numbers) }
     ensures is { result ≡ checked (shift_faults network.now line numbers) fine }
 {
     if !is_row(network, numbers.branch) {
@@ -50,7 +50,7 @@ fn check_shift(network: &Network, numbers: FactorRecord, line: usize) -> Result<
 #[tactic(auto, unfolding(crate::specs::Rules::loss_faults))]
 fn check_loss(network: &Network, numbers: FactorRecord, line: usize) -> Result<(), TableFault>
     requires { FactorIsRead numbers }
-    ensures pair { IfOk result (λ _. IsPairOf Column.Outage network.now.branch_rows numbers) }
+    ensures pair { IfOk result (λ _. IsRecordPair Column.Outage network.now.branch_rows numbers) }
     ensures is { result ≡ checked (loss_faults network.now line numbers) fine }
 {
     if !is_row(network, numbers.branch) {
@@ -75,7 +75,7 @@ fn check_names(
     line: usize,
 ) -> Result<(), TableFault>
     requires { FactorIsRead numbers }
-    ensures pair { IfOk result (λ _. IsPairOf column network.now.branch_rows numbers) }
+    ensures pair { IfOk result (λ _. IsRecordPair column network.now.branch_rows numbers) }
     ensures is { result ≡ checked (record_faults column network.now line numbers) fine }
 {
     match column {

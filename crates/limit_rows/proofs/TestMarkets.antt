@@ -10,12 +10,13 @@ use Rattle.market_model.specs.declared.participants.Factor.{Factor}
 use Rattle.market_model.specs.declared.participants.Line.{Line}
 use Rattle.market_model.specs.declared.participants.Parts.{Parts}
 use Rattle.market_model.specs.Market.{bare_parts, IsMarket, IsLine, IsTableFactor, AreTableFactors}
+use Rattle.market_model.specs.Lines.{hard_line}
 
 abbrev pub bus_of : ℕ → Bus
 bus_of number = record { number = number; pd = pos 0; gs = pos 0 }
 
 abbrev pub line_of : ℕ → Option ℤ → Option ℤ → Line
-line_of row base post = record { row = row; base = base; post = post; offset = pos 0 }
+line_of row base post = hard_line row base post (pos 0)
 
 abbrev shift_of : ℕ → ℕ → ℤ → Factor
 shift_of line of value = record { line = line; of = of; value = value }

@@ -1,6 +1,7 @@
 //! The rows of a small market, worked by hand.
 
 ghost use Rattle.std.specs.Prelude.{◌≡◌, ◌∷◌, [], pos, negsuc, IfOk};
+ghost use Rattle.market_model.specs.Lines.{hard_line};
 
 use crate::causes::{cause_at, cause_count, has_row};
 use crate::{count, factor, factor_at, id, limit_at, name_at, position, row_named};
@@ -19,14 +20,9 @@ fn bus(number: u32) -> Bus
 }
 
 fn line(row: u32, base: Option<i64>, post: Option<i64>) -> Line
-    ensures { result ≡ record { row = row; base = base; post = post; offset = pos 0 } }
+    ensures { result ≡ hard_line row base post (pos 0) }
 {
-    Line {
-        row,
-        base,
-        post,
-        offset: 0,
-    }
+    Line::hard(row, base, post, 0)
 }
 
 fn factor_for(line: usize, of: usize, value: i64) -> Factor

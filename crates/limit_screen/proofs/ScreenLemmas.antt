@@ -10,7 +10,7 @@ use Rattle.std.proofs.lemmas.List.Elements.{All-append, All-cons, All-nil}
 use Rattle.std.proofs.lemmas.Option.{slice_get_within, get_or_from_slice_get}
 use Rattle.fraction_theory.specs.Fraction.{Fraction, whole, neg_ℚ, ◌-ℚ◌}
 use Rattle.fraction_theory.specs.Order.{◌<ℚ◌, ◌≤ℚ◌}
-use Rattle.fraction_theory.specs.Signs.{sign_of}
+use Rattle.fraction_theory.specs.Signs.{sign_of, abs_ℚ, abs_by}
 use Rattle.fraction_theory.specs.Sums.{total}
 use Rattle.fraction_theory.specs.declared.Sign.{Sign}
 use Rattle.fraction_theory.specs.declared.Sign.TheVariants.{Below, Zero, Above}
@@ -20,7 +20,7 @@ use Rattle.fraction_theory.proofs.Ring.{at, padd, pneg, pnil, pone}
 use Rattle.fraction_theory.proofs.SignLaws.{IsSign, sign_of_is}
 use Rattle.market_model.specs.declared.participants.Parts.{Parts}
 use Rattle.market_model.specs.Dispatch.{Dispatch, places, injection}
-use Rattle.market_model.specs.Overrun.{size_by, size_of, IsFirstMost}
+use Rattle.market_model.specs.Overrun.{IsFirstMost}
 use Rattle.market_model.specs.declared.limits.Row.{Row}
 use Rattle.market_model.specs.LimitRows.{flow_by, flow_terms, limit, line_flow, line_flows, rows}
 use Rattle.market_model.specs.PutIn.{put_in}
@@ -103,10 +103,10 @@ below_opposite f h = ≤ℚ_trans f (whole (pos 0)) (neg_ℚ f) h (by_le1 (f ∷
 opposite_below : (f : Fraction) → whole (pos 0) ≤ℚ f → neg_ℚ f ≤ℚ f
 opposite_below f h = ≤ℚ_trans (neg_ℚ f) (whole (pos 0)) f (by_le1 (f ∷ []) (pneg (at 0)) pnil pone pnil (at 0) NonNeg-one h refl) h
 
-within_size : (f F : Fraction) (s : Sign) → s ≡ sign_of f → size_by s f ≤ℚ F → (neg_ℚ F ≤ℚ f) × (f ≤ℚ F)
+within_size : (f F : Fraction) (s : Sign) → s ≡ sign_of f → abs_by s f ≤ℚ F → (neg_ℚ F ≤ℚ f) × (f ≤ℚ F)
 within_size f F s e h = by s (sign_of_is f s e) h
   where
-    by : (t : Sign) → IsSign t f → size_by t f ≤ℚ F → (neg_ℚ F ≤ℚ f) × (f ≤ℚ F)
+    by : (t : Sign) → IsSign t f → abs_by t f ≤ℚ F → (neg_ℚ F ≤ℚ f) × (f ≤ℚ F)
     by Below is h = (from_opposite f F h, ≤ℚ_trans f (neg_ℚ f) F (below_opposite f (<ℚ-≤ℚ f (whole (pos 0)) is)) h)
     by Zero is h = (from_opposite f F (≤ℚ_trans (neg_ℚ f) f F (opposite_below f (≤ℚ_of_same (whole (pos 0)) f (sym is))) h), h)
     by Above is h = (from_opposite f F (≤ℚ_trans (neg_ℚ f) f F (opposite_below f (<ℚ-≤ℚ (whole (pos 0)) f is)) h), h)
@@ -162,7 +162,7 @@ lines_behind {N} value m fs n count i l = at_line i
 -- ---- the worst of all rows
 pub all_hold_by : (m : Parts) (f : ℕ → Fraction) → All (λ s. overrun_by m f s ≤ℚ whole (pos 0)) (rows m) → AllHold m f
 all_hold_by m f h r c =
-    let size : size_of (flow_by m f r) ≤ℚ limit m r = from_below (size_of (flow_by m f r)) (limit m r) (subst (λ t. overrun_by m f t ≤ℚ whole (pos 0)) c.2 (h c.0 r c.1)) in
+    let size : abs_ℚ (flow_by m f r) ≤ℚ limit m r = from_below (abs_ℚ (flow_by m f r)) (limit m r) (subst (λ t. overrun_by m f t ≤ℚ whole (pos 0)) c.2 (h c.0 r c.1)) in
     let both = within_size (flow_by m f r) (limit m r) (sign_of (flow_by m f r)) refl size in
     record { above = both.0; below = both.1 }
 

@@ -3,9 +3,10 @@
 ghost use Rattle.std.specs.Prelude.{◌≡◌, ◌+◌, ◌<◌, ◌≤ℤ◌, ℕ, ℤ, pos, List, [], ◌∷◌, ◌++◌, length, map, IfOk, IfErr, MatchOption};
 ghost use Rattle.fraction_theory.specs.Fraction.{Fraction, ◌-ℚ◌, whole};
 ghost use Rattle.fraction_theory.specs.Order.{◌<ℚ◌, ◌≤ℚ◌};
+ghost use Rattle.fraction_theory.specs.Signs.{abs_ℚ};
 ghost use Rattle.market_model.specs.Valued.{passed_at};
 ghost use Rattle.market_model.specs.Dispatch.{zero};
-ghost use Rattle.market_model.specs.Overrun.{size_of, IsWorst};
+ghost use Rattle.market_model.specs.Overrun.{IsWorst};
 ghost use Rattle.market_model.specs.declared.limits.Row.{Row};
 ghost use Rattle.market_model.specs.LimitRows.{IsCauseAmong, flow_by};
 ghost use Rattle.market_model.specs.SumTables.{IsRefusedAmong, RowFlowSum};
@@ -28,7 +29,7 @@ struct RowOverrun<N> {
 
 /// The size of a flow.
 fn size<N: Exact>(flow: N) -> N
-    ensures { N.value result ≡ size_of (N.value flow) }
+    ensures { N.value result ≡ abs_ℚ (N.value flow) }
 {
     match flow.sign() {
         Sign::Below => flow.neg(),
@@ -39,7 +40,7 @@ fn size<N: Exact>(flow: N) -> N
 /// By how much a flow passes a limit; nothing where it doesn't. That is never too large: its parts are no greater than those of the flow.
 fn beyond<N: Exact>(flow: N, limit: N) -> Result<Option<N>, Passed<N>>
     requires { (mw : ℤ) × (pos 0 ≤ℤ mw) × (N.value limit ≡ whole mw) }
-    ensures overrun { IfOk result (λ past. MatchOption past ((size_of (N.value flow) -ℚ N.value limit) ≤ℚ zero) (λ e. (zero <ℚ N.value e) × (N.value e ≡ size_of (N.value flow) -ℚ N.value limit))) }
+    ensures overrun { IfOk result (λ past. MatchOption past ((abs_ℚ (N.value flow) -ℚ N.value limit) ≤ℚ zero) (λ e. (zero <ℚ N.value e) × (N.value e ≡ abs_ℚ (N.value flow) -ℚ N.value limit))) }
     ensures fits { IfErr result (λ passed. ⊥) }
 {
     let size = size(flow);

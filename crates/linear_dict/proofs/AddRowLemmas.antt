@@ -18,7 +18,7 @@ use Rattle.linear_system.specs.Choices as choices
 use Rattle.linear_system.proofs.ChoiceLaws.{column_entry-basic, column_entry-itself, column_entry-other}
 use Rattle.std.proofs.lemmas.List.Elements.{filter-append}
 use Rattle.fraction_theory.proofs.SumLaws.{total-Product}
-use Rattle.linear_dict.specs.Adding.{AreSums, row_term, AreWithin, IsInTable, IsPutAmong}
+use Rattle.linear_dict.specs.Adding.{AreSums, row_term, AreInTable, IsInTable, IsPutAmong}
 use Rattle.exact_fraction.specs.declared.Op.{Op}
 use Rattle.exact_fraction.specs.Passes.{IsShareRefused}
 use Rattle.linear_system.specs.Pairs.{IsSystemPair}
@@ -202,7 +202,7 @@ module _ {N : Type 0} (value : N → Fraction) (columns rows : List ℕ) (coeffi
     row_asks _ _ _ (of_variable k v x a b got o) = variable_asks k v got x a b o
 
     -- each variable's places are in the table and among the entries
-    pub places_within : length entries ≡ length columns → AreWithin (length table) (length others) (length entries) vs
+    pub places_within : length entries ≡ length columns → AreInTable (length table) (length others) (length entries) vs
     places_within e = record { each = λ k v got. record { place = in_table v.place v.name (index.stands k v got); put = among v.put v.name (index.was_put k v got) } }
       where
         in_table : (p : Place) (w : ℕ) → StandsAt basics others w p → IsInTable (length table) (length others) p

@@ -38,5 +38,5 @@ put_term entries entry (Column j) = slice_index_or entries j (whole (pos 0)) *�
 unfoldable pub row_term : {N : Type 0} → (N → Fraction) → ℕ → List N → List N → ℕ → Variable N → Fraction
 row_term value columns table entries c v = put_term (map value entries) (entry_at_place columns (map value table) c v.place) v.put
 
-pub record AreWithin {N : Type 0} (size columns count : ℕ) (variables : List (Variable N)) : Type 0 where
+pub record AreInTable {N : Type 0} (size columns count : ℕ) (variables : List (Variable N)) : Type 0 where
   pub each : (k : ℕ) (v : Variable N) → slice_get variables k ≡ Some v → IsWithin size columns count v

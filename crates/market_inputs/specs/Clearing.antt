@@ -19,11 +19,12 @@ use Rattle.market_inputs.specs.Cases.{IsJoinedNetwork, matrices_in}
 use Rattle.market_inputs.specs.Files.{SizedTables}
 use Rattle.market_inputs.specs.Steps.{Is, Then}
 use Rattle.market_inputs.specs.Tables.{AreTables, cover_in, offers_in, offsets_in}
+use Rattle.market_model.specs.Lines.{hard_line}
 
 -- ---- lines
 -- a live branch with its limits, and the offset of its record or 0
 abbrev pub line_of : List OffsetEntry → NetBranch → Line
-line_of offsets branch = record { row = branch.row; base = branch.base; post = branch.post; offset = unwrap_or (offset_at offsets branch.row) (pos 0) }
+line_of offsets branch = hard_line branch.row branch.base branch.post (unwrap_or (offset_at offsets branch.row) (pos 0))
 
 -- ---- factors
 -- a factor, where it is not 0

@@ -16,12 +16,8 @@ fn line_of(branch: &NetBranch, offsets: &Offsets) -> Line
     ensures datum { IsDatum result.offset }
     ensures is { result ≡ line_of offsets.now branch.now }
 {
-    Line {
-        row: branch.row,
-        base: branch.base,
-        post: branch.post,
-        offset: offsets.offset(branch.row).unwrap_or(0),
-    }
+    let offset = offsets.offset(branch.row).unwrap_or(0);
+    Line::hard(branch.row, branch.base, branch.post, offset)
 }
 
 /// The lines of live branches.

@@ -18,6 +18,7 @@ use Rattle.market_model.specs.Changes.{with_price, with_quantity, with_demand, w
 use Rattle.market_model.specs.Dispatch.{bus_at, unit_at, block_at, line_at}
 use Rattle.market_model.specs.Market.{IsMarket, IsBlock, IsLine, AreTableFactors, HasRoom}
 use Rattle.market_model.specs.Stairs.{same_side, is_on_stair, stair_in, offered, room_of}
+use Rattle.market_model.specs.Lines.{hard_line}
 
 -- ---- stairs with one block changed
 -- what a block adds to a stair
@@ -168,7 +169,7 @@ module _ (m : Parts) (market : IsMarket m) where
       let old : IsLine (line_at m l) = market.lines l _ inside in
       let long : length m.lines ≡ length (slice_set m.lines l (line_with (line_at m l) post mw)) = sym (length-set m.lines l (line_with (line_at m l) post mw)) in
       let rows : map (λ (k : Line). k.row) m.lines ≡ map (λ (k : Line). k.row) (slice_set m.lines l (line_with (line_at m l) post mw)) =
-      sym (map-set_same (λ (k : Line). k.row) m.lines l (line_with (line_at m l) post mw) (record { row = 0; base = None; post = None; offset = pos 0 }) (row_is (line_at m l) post)) in
+      sym (map-set_same (λ (k : Line). k.row) m.lines l (line_with (line_at m l) post mw) (hard_line 0 None None (pos 0)) (row_is (line_at m l) post)) in
       record {
         bus_count = market.bus_count;
         unit_count = market.unit_count;
@@ -220,4 +221,4 @@ pub put_limit : (m : Parts) (l : ℕ) (post : Bool) (mw : ℤ) (old : Line) (lin
     → (record m { lines = lines }) ≡ with_limit m l post mw
 put_limit m l post mw old lines at is =
     ap (λ (ls : List Line). record m { lines = ls })
-    (is ∙ ap (λ (k : Line). slice_set m.lines l (line_with k post mw)) (sym (get_or_from_slice_get m.lines l old (record { row = 0; base = None; post = None; offset = pos 0 }) at)))
+    (is ∙ ap (λ (k : Line). slice_set m.lines l (line_with k post mw)) (sym (get_or_from_slice_get m.lines l old (hard_line 0 None None (pos 0)) at)))

@@ -5,7 +5,7 @@ use Rattle.std.proofs.Common.{ap, sym, ◌∙◌, subst, subst₂}
 use mathlib.Core.Path.{ap₂}
 use Rattle.fraction_theory.specs.Fraction.{Fraction, ◌+ℚ◌, ◌-ℚ◌, ◌*ℚ◌, neg_ℚ}
 use Rattle.fraction_theory.specs.Order.{◌≤ℚ◌, NonNeg}
-use Rattle.fraction_theory.specs.Signs.{sign_of}
+use Rattle.fraction_theory.specs.Signs.{sign_of, where_above, part_above}
 use Rattle.fraction_theory.specs.Sums.{Term, Product, sum_by, total}
 use Rattle.fraction_theory.specs.declared.Sign.{Sign}
 use Rattle.fraction_theory.specs.declared.Sign.TheVariants.{Below, Zero, Above}
@@ -23,7 +23,7 @@ use Rattle.market_model.specs.Optimality.{up_of, down_of, net_shadow_price, bus_
 use Rattle.market_model.specs.declared.limits.Row.{Row}
 use Rattle.market_model.specs.LimitRows.{rows, flow, row_offset, limit}
 use Rattle.market_model.specs.Market.{IsMarket}
-use Rattle.market_model.specs.Infeasibility.{where_above, part_above, block_weight, limit_terms, farkas_terms, farkas_bound}
+use Rattle.market_model.specs.Infeasibility.{block_weight, limit_terms, farkas_terms, farkas_bound}
 use Rattle.market_model.specs.Laws.{LawOfInfeasibility}
 use Rattle.market_model.proofs.PlaceSums.{places_all}
 use Rattle.market_model.proofs.MarketSums.{fixed_part, raised_by-empty, priced_injections-by_parts}

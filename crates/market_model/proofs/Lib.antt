@@ -2,6 +2,7 @@ mod BalanceSteps
 pub mod ChangeLemmas
 pub mod FarkasLaw
 mod FarkasRows
+pub mod HardLimits
 pub mod LimitCases
 pub mod ListSteps
 pub mod LostLemmas
@@ -14,6 +15,8 @@ pub mod PlaceSums
 pub mod PlainMarkets
 pub mod PutInSteps
 pub mod RightFits
+mod RightsCases
+mod RightsLaw
 pub mod RowLaws
 pub mod Rows
 pub mod StopLemmas

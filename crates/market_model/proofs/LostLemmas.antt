@@ -21,6 +21,7 @@ use Rattle.market_data.specs.Scales.{most_lines, most_outages}
 use Rattle.market_model.specs.Factors.{factor_in, IsTable}
 use Rattle.market_model.specs.Market.{IsMarket}
 use Rattle.market_model.proofs.ChangeLemmas.{map-set_same}
+use Rattle.market_model.specs.Lines.{hard_line}
 
 -- ---- the line of a branch row
 pub place_at : (n k d : ℕ) → k < n → get_or (places n) k d ≡ k
@@ -36,7 +37,7 @@ place-first m row i most before here =
 
 module _ (m : Parts) (market : IsMarket m) where
   pub row_at : (k : ℕ) (d : ℕ) → k < length m.lines → get_or (map (λ line. line.row) m.lines) k d ≡ (line_at m k).row
-  row_at k d h = get_or-map (λ (line : Line). line.row) m.lines k (record { row = 0; base = None; post = None; offset = pos 0 }) d h
+  row_at k d h = get_or-map (λ (line : Line). line.row) m.lines k (hard_line 0 None None (pos 0)) d h
 
   -- the line of the row of a line is that line
   pub place-own : (k : ℕ) → k < length m.lines → place_of_line m (line_at m k).row ≡ k
@@ -140,7 +141,7 @@ module _ (lines : ℕ) (lost : List ℕ) where
 module _ (m : Parts) (l : ℕ) (post : Bool) (mw : ℤ) where
   row_kept : (k : ℕ) → (line_at (with_limit m l post mw) k).row ≡ (line_at m k).row
   row_kept k =
-      let none : Line = record { row = 0; base = None; post = None; offset = pos 0 } in
+      let none : Line = hard_line 0 None None (pos 0) in
       sym (get_or-mapped (λ (line : Line). line.row) (with_limit m l post mw).lines k none)
       ∙ ap (λ (rows : List ℕ). get_or rows k 0) (map-set_same (λ (line : Line). line.row) m.lines l (line_with (line_at m l) post mw) none (same (line_at m l) post))
       ∙ get_or-mapped (λ (line : Line). line.row) m.lines k none

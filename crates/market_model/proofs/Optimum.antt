@@ -27,7 +27,7 @@ use Rattle.market_model.proofs.MarketSums.{sum_by-neg, fixed_part, priced_inject
 
 -- the welfare as a sum over blocks
 pub welfare-by_blocks : (m : Parts) (x : Dispatch) → welfare m x ≡ sum_by (λ j. block_value m j *ℚ accepted x j) (places (length m.blocks))
-unfolding welfare
+unfolding welfare_for
 welfare-by_blocks m x = total-Product (block_value m) (accepted x) (places (length m.blocks))
 
 -- what a block that takes z adds: its value, and what it raises at the price at its bus

@@ -10,6 +10,7 @@ use Rattle.market_data.specs.declared.participants.Bus.{Bus}
 use Rattle.market_data.specs.declared.participants.Unit as unit
 use Rattle.market_model.specs.declared.participants.Block.{Block}
 use Rattle.market_model.specs.declared.participants.Line.{Line}
+use Rattle.market_model.specs.Lines.{hard_line}
 use Rattle.market_model.specs.declared.participants.Side.{Side}
 use Rattle.market_model.specs.declared.participants.Side.TheVariants.{Sell, Buy}
 use Rattle.market_model.specs.declared.participants.Parts.{Parts}
@@ -32,7 +33,7 @@ abbrev pub block_at : Parts → ℕ → Block
 block_at m j = slice_index_or m.blocks j (record { unit = 0; side = Sell; quantity = pos 0; price = pos 0 })
 
 abbrev pub line_at : Parts → ℕ → Line
-line_at m l = slice_index_or m.lines l (record { row = 0; base = None; post = None; offset = pos 0 })
+line_at m l = slice_index_or m.lines l (hard_line 0 None None (pos 0))
 
 -- the bus of a block's unit
 abbrev pub block_bus : Parts → ℕ → ℕ

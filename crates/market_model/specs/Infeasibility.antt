@@ -1,15 +1,13 @@
 -- Duals that show that no dispatch is feasible.
 -- Farkas: relations that no point meets have a combination that no point can meet. Here it bounds what a price of energy makes of
--- the balance, and prices of limits of what flows leave of these: at a feasible dispatch the first is 0 and the others are at least 0, so
--- a bound below 0 leaves none.
+-- the balance, and prices of limits of what flows leave of the most that they may be: at a feasible dispatch the first is 0 and the others
+-- are at least 0, so a bound below 0 leaves none.
 use Rattle.std.specs.Prelude.{◌≡◌, ℕ, List, [], ◌∷◌, ◌++◌, length, map, Contains}
 use Rattle.std.specs.List.{flat_map}
 use Rattle.fraction_theory.specs.Fraction.{Fraction, ◌+ℚ◌, ◌-ℚ◌}
 use Rattle.fraction_theory.specs.Order.{◌<ℚ◌, ◌≤ℚ◌}
-use Rattle.fraction_theory.specs.Signs.{sign_of}
+use Rattle.fraction_theory.specs.Signs.{part_above}
 use Rattle.fraction_theory.specs.Sums.{Term, Product, total}
-use Rattle.fraction_theory.specs.declared.Sign.{Sign}
-use Rattle.fraction_theory.specs.declared.Sign.TheVariants.{Below, Zero, Above}
 use Rattle.market_model.specs.declared.participants.Parts.{Parts}
 use Rattle.market_model.specs.declared.answered.Duals.{Duals}
 use Rattle.market_model.specs.declared.answered.Farkas.{Farkas}
@@ -17,16 +15,6 @@ use Rattle.market_model.specs.Dispatch.{zero, places, block_at, signed_by_side, 
 use Rattle.market_model.specs.Optimality.{unit_price, up_of, down_of, ProperDuals}
 use Rattle.market_model.specs.declared.limits.Row.{Row}
 use Rattle.market_model.specs.LimitRows.{rows, flow, most_flow}
-
--- a number of this sign, where it is above 0, and else 0
-abbrev pub where_above : Sign → Fraction → Fraction
-where_above Below x = zero
-where_above Zero x = zero
-where_above Above x = x
-
--- the greater of a number and 0
-abbrev pub part_above : Fraction → Fraction
-part_above x = where_above (sign_of x) x
 
 -- what a MW of a block makes at duals: the price of its unit for a sell, the opposite for a buy
 abbrev pub block_weight : Parts → Duals Fraction → ℕ → Fraction

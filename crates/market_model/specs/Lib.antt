@@ -7,12 +7,14 @@ pub mod Frame
 pub mod Infeasibility
 pub mod Laws
 pub mod LimitRows
+pub mod Lines
 pub mod LostLines
 pub mod Market
 pub mod NamedSums
 pub mod Optimality
 pub mod PutIn
 pub mod RightAnswers
+pub mod Rights
 pub mod Settlement
 pub mod Stairs
 pub mod Stops

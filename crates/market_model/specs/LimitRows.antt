@@ -2,8 +2,9 @@
 -- Wood and Wollenberg, Power Generation, Operation and Control: shift factors, and the flow after an outage by the flow that the lost
 -- branch had.
 use Rattle.std.specs.Prelude.{◌==◌, ◌&&◌, ℕ, ◌<◌, ◌^◌, ℤ, Bool, true, false, if◌then◌else◌, not, List, [], ◌∷◌, length, map, filter, Option, Some, None, is_some}
+use Rattle.std.specs.Int.{is_positive}
 use Rattle.std.specs.List.{flat_map, position_or_len}
-use Rattle.fraction_theory.specs.Fraction.{Fraction, whole, over}
+use Rattle.fraction_theory.specs.Fraction.{Fraction, whole, over, ◌+ℚ◌}
 use Rattle.fraction_theory.specs.Sums.{Term, Plain, Product, total}
 use Rattle.market_data.specs.Scales as scales
 use Rattle.market_model.specs.declared.answered.RowId.{RowId}
@@ -32,10 +33,21 @@ causes m = Base ∷ map Branch (lost_lines m)
 abbrev pub limit_of : Bool → Line → Option ℤ
 limit_of post line = if post then line.post else line.base
 
--- the limit that a line states for a cause; that after an outage is the same after each
+-- what a MW beyond that limit costs, and the most by which its flow may exceed it: both 0 where the limit is hard
+abbrev pub penalty_of : Bool → Line → ℤ
+penalty_of post line = if post then line.post_price else line.base_price
+
+abbrev pub excess_of : Bool → Line → ℤ
+excess_of post line = if post then line.post_excess else line.base_excess
+
+-- whether a cause is an outage; limits, penalties and excesses after an outage are the same after each
+abbrev pub is_outage : Cause → Bool
+is_outage Base = false
+is_outage (Branch lost) = true
+
+-- the limit that a line states for a cause
 abbrev pub stated : Line → Cause → Option ℤ
-stated line Base = limit_of false line
-stated line (Branch lost) = limit_of true line
+stated line cause = limit_of (is_outage cause) line
 
 -- whether a line has a limit under a cause; it has none after its own outage
 abbrev pub bears : Parts → Cause → ℕ → Bool
@@ -82,9 +94,21 @@ limit_under m l cause = mw_or_zero (stated (line_at m l) cause)
 abbrev pub limit : Parts → Row → Fraction
 limit m r = limit_under m r.line r.cause
 
+-- what a MW by which its flow exceeds that costs: its penalty (transmission constraint penalty factor)
+abbrev pub penalty : Parts → Row → Fraction
+penalty m r = whole (penalty_of (is_outage r.cause) (line_at m r.line))
+
+-- the most by which its flow may exceed it
+abbrev pub most_excess : Parts → Row → Fraction
+most_excess m r = whole (excess_of (is_outage r.cause) (line_at m r.line))
+
 -- the greatest size that its flow may have
 abbrev pub most_flow : Parts → Row → Fraction
-most_flow m r = limit m r
+most_flow m r = limit m r +ℚ most_excess m r
+
+-- a limit that gives way at a penalty above 0
+abbrev pub is_soft : Parts → Row → Bool
+is_soft m r = is_positive (penalty_of (is_outage r.cause) (line_at m r.line))
 
 -- ---- factors and offsets
 -- how many decimal places a factor has

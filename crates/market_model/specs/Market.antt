@@ -9,6 +9,7 @@ use Rattle.market_model.specs.declared.participants.Factor.{Factor}
 use Rattle.market_model.specs.declared.participants.Line.{Line}
 use Rattle.market_model.specs.declared.participants.Parts.{Parts}
 use Rattle.market_model.specs.declared.participants.Side.{Side}
+use Rattle.market_model.specs.Lines.{IsPenalty}
 use Rattle.market_model.specs.Stairs.{stair_in, offered, room_of}
 
 -- a block of one of so many units
@@ -29,6 +30,8 @@ pub record IsLine (line : Line) : Type 0 where
   pub row : 1 ≤ line.row
   pub base : IfSome line.base (λ mw. pos 0 ≤ℤ mw)
   pub post : IfSome line.post (λ mw. pos 0 ≤ℤ mw)
+  pub base_penalty : IsPenalty line.base_price line.base_excess
+  pub post_penalty : IsPenalty line.post_price line.post_excess
   pub offset : IsDatum line.offset
 
 -- a factor of one of so many lines, for one of so many buses or lost lines

@@ -1,7 +1,7 @@
 -- Feasible dispatches, their welfare, and the duals that support one.
 -- Schweppe, Caramanis, Tabors and Bohn, Spot Pricing of Electricity: a bus price is the price of energy less what the
 -- limits take; a seller whose offer is below it sells all, one whose offer is above it nothing, and a buyer the other way.
-use Rattle.std.specs.Prelude.{◌≡◌, ◌⊎◌, ◌==◌, ◌&&◌, ◌||◌, ℕ, ◌<◌, Bool, false, List, [], ◌∷◌, length, map, filter, All, Contains, if◌then◌else◌}
+use Rattle.std.specs.Prelude.{◌≡◌, ◌⊎◌, ◌==◌, ◌&&◌, ◌||◌, ℕ, ◌<◌, Bool, false, List, [], ◌∷◌, ◌++◌, length, map, filter, All, Contains, if◌then◌else◌}
 use Rattle.fraction_theory.specs.Fraction.{Fraction, whole, neg_ℚ, ◌+ℚ◌, ◌-ℚ◌}
 use Rattle.fraction_theory.specs.Order.{◌<ℚ◌, ◌≤ℚ◌}
 use Rattle.fraction_theory.specs.Sums.{Term, Plain, Product, total}
@@ -13,7 +13,8 @@ use Rattle.market_model.specs.declared.answered.Duals.{Duals}
 use Rattle.market_model.specs.declared.answered.RowId.{RowId}
 use Rattle.market_model.specs.Dispatch.{Dispatch, IsDispatch, zero, places, block_at, signed_by_side, accepted, quantity, balance}
 use Rattle.market_model.specs.declared.limits.Row.{Row}
-use Rattle.market_model.specs.LimitRows.{rows, row_id, limit, most_flow, row_factor, unit_factor, flow}
+use Rattle.market_model.specs.LimitRows.{rows, row_id, limit, most_flow, penalty, is_soft, row_factor, unit_factor, flow}
+use Rattle.market_model.specs.Overrun.{excess}
 
 -- a flow of at most this size on either side
 pub record Within (most : Fraction) (f : Fraction) : Type 0 where
@@ -41,12 +42,26 @@ price m j = whole (block_at m j).price
 abbrev pub block_value : Parts → ℕ → Fraction
 block_value m j = neg_ℚ (signed_by_side (block_at m j).side (price m j))
 
-abbrev pub welfare_terms : Parts → Dispatch → List Term
-welfare_terms m x = map (λ j. Product (block_value m j) (accepted x j)) (places (length m.blocks))
+abbrev pub value_terms : Parts → Dispatch → List Term
+value_terms m x = map (λ j. Product (block_value m j) (accepted x j)) (places (length m.blocks))
 
--- the value of what is bought less the cost of what is sold
-unfoldable pub welfare : Parts → Dispatch → Fraction
-welfare m x = total (welfare_terms m x)
+-- what the soft limits among some rows cost: each its penalty for the excess of its flow
+abbrev pub penalty_terms : Parts → List Row → Dispatch → List Term
+penalty_terms m g x = map (λ r. Product (neg_ℚ (penalty m r)) (excess m x r)) (filter (is_soft m) g)
+
+abbrev pub welfare_terms_for : Parts → List Row → Dispatch → List Term
+welfare_terms_for m g x = value_terms m x ++ penalty_terms m g x
+
+-- the value of what is bought less the cost of what is sold, and less the penalties of these rows
+unfoldable pub welfare_for : Parts → List Row → Dispatch → Fraction
+welfare_for m g x = total (welfare_terms_for m g x)
+
+-- of all rows
+abbrev pub welfare_terms : Parts → Dispatch → List Term
+welfare_terms m x = welfare_terms_for m (rows m) x
+
+abbrev pub welfare : Parts → Dispatch → Fraction
+welfare m x = welfare_for m (rows m) x
 
 -- ---- duals
 abbrev pub same_id : RowId → RowId → Bool
@@ -92,11 +107,11 @@ pub record ProperDuals (m : Parts) (d : Duals Fraction) : Type 0 where
 
 -- ---- prices
 -- what the limits take from the price of a MW, row by row, where so much of it counts for the flow of a row
-abbrev pub taken_terms : Parts → Duals Fraction → (Row → Fraction) → List Term
-taken_terms m d factor = map (λ r. Product (neg_ℚ (net_shadow_price m d r)) (factor r)) (rows m)
+abbrev pub congestion_terms_by : Parts → Duals Fraction → (Row → Fraction) → List Term
+congestion_terms_by m d factor = map (λ r. Product (neg_ℚ (net_shadow_price m d r)) (factor r)) (rows m)
 
 unfoldable pub congestion_by : Parts → Duals Fraction → (Row → Fraction) → Fraction
-congestion_by m d factor = total (taken_terms m d factor)
+congestion_by m d factor = total (congestion_terms_by m d factor)
 
 -- the price of energy, and what congestion adds to it
 unfoldable pub price_by : Parts → Duals Fraction → (Row → Fraction) → Fraction
@@ -104,7 +119,7 @@ price_by m d factor = d.energy +ℚ congestion_by m d factor
 
 -- at a bus, by its factors
 abbrev pub congestion_terms : Parts → Duals Fraction → ℕ → List Term
-congestion_terms m d i = taken_terms m d (λ r. row_factor m r i)
+congestion_terms m d i = congestion_terms_by m d (λ r. row_factor m r i)
 
 abbrev pub congestion : Parts → Duals Fraction → ℕ → Fraction
 congestion m d i = congestion_by m d (λ r. row_factor m r i)
@@ -135,12 +150,18 @@ pub record BlockSupported (m : Parts) (x : Dispatch) (d : Duals Fraction) (j : �
   pub full : Gains (block_at m j).side (price m j) (unit_price m d (block_at m j).unit) → accepted x j ≡ quantity m j
   pub empty : Loses (block_at m j).side (price m j) (unit_price m d (block_at m j).unit) → accepted x j ≡ zero
 
--- prices of a limit are at least 0, and above 0 only where the flow stands at the limit on that side
+-- A price of one side of a limit, where the flow towards that side is f: at least 0, and above 0 only where the flow reaches the limit; at
+-- least the penalty where the flow exceeds the limit, and above it only where the flow has used up the excess.
+pub record SideSupported (m : Parts) (r : Row) (price f : Fraction) : Type 0 where
+  pub sign : zero ≤ℚ price
+  pub reached : zero <ℚ price → limit m r ≤ℚ f
+  pub exceeded : limit m r <ℚ f → penalty m r ≤ℚ price
+  pub used_up : penalty m r <ℚ price → f ≡ most_flow m r
+
+-- the prices of the two sides of a limit
 pub record RowSupported (m : Parts) (x : Dispatch) (d : Duals Fraction) (r : Row) : Type 0 where
-  pub up_sign : zero ≤ℚ up_of m d r
-  pub down_sign : zero ≤ℚ down_of m d r
-  pub up : zero <ℚ up_of m d r → flow m x r ≡ limit m r
-  pub down : zero <ℚ down_of m d r → flow m x r ≡ neg_ℚ (limit m r)
+  pub up : SideSupported m r (up_of m d r) (flow m x r)
+  pub down : SideSupported m r (down_of m d r) (neg_ℚ (flow m x r))
 
 -- duals for which a dispatch is best, seen block by block and row by row
 pub record Supports (m : Parts) (x : Dispatch) (d : Duals Fraction) : Type 0 where

@@ -2,28 +2,25 @@
 -- Source: own; the method is that of taking violated limits alone (Wood and Wollenberg, security-constrained dispatch).
 use Rattle.std.specs.Prelude.{◌≡◌, ℕ, ◌<◌, List, Some, All}
 use Rattle.std.specs.List.{slice_get}
-use Rattle.fraction_theory.specs.Fraction.{Fraction, neg_ℚ, ◌-ℚ◌}
+use Rattle.fraction_theory.specs.Fraction.{Fraction, ◌-ℚ◌}
 use Rattle.fraction_theory.specs.Order.{◌<ℚ◌, ◌≤ℚ◌}
-use Rattle.fraction_theory.specs.Signs.{sign_of}
-use Rattle.fraction_theory.specs.declared.Sign.{Sign}
-use Rattle.fraction_theory.specs.declared.Sign.TheVariants.{Below, Zero, Above}
+use Rattle.fraction_theory.specs.Signs.{abs_ℚ, part_above}
 use Rattle.market_model.specs.declared.participants.Parts.{Parts}
-use Rattle.market_model.specs.Dispatch.{zero}
+use Rattle.market_model.specs.Dispatch.{Dispatch, zero}
 use Rattle.market_model.specs.declared.limits.Row.{Row}
-use Rattle.market_model.specs.LimitRows.{rows, limit}
-
-abbrev pub size_by : Sign → Fraction → Fraction
-size_by Below x = neg_ℚ x
-size_by Zero x = x
-size_by Above x = x
-
--- the size of a number
-abbrev pub size_of : Fraction → Fraction
-size_of x = size_by (sign_of x) x
+use Rattle.market_model.specs.LimitRows.{rows, flow, limit}
 
 -- by how much the size of a flow is above the limit of a row; at most 0 where the limit holds
 abbrev pub overrun : Parts → Row → Fraction → Fraction
-overrun m r f = size_of f -ℚ limit m r
+overrun m r f = abs_ℚ f -ℚ limit m r
+
+-- the excess of a row's flow: by how much it is above the limit, and 0 where the limit holds
+abbrev pub excess_by : Parts → Row → Fraction → Fraction
+excess_by m r f = part_above (overrun m r f)
+
+-- that at a dispatch
+abbrev pub excess : Parts → Dispatch → Row → Fraction
+excess m x r = excess_by m r (flow m x r)
 
 -- Of some rows, with a number e of each, the one at a place has a number above 0, none has a greater one, and none before it has the same.
 pub record IsFirstMost (e : Row → Fraction) (rs : List Row) (place : ℕ) (r : Row) : Type 0 where

@@ -1,8 +1,8 @@
 -- What units are paid, what loads pay, what is left, and what limits earn.
 -- Schweppe and others, Spot Pricing of Electricity: the merchandising surplus. The offsets in rents are own.
 use Rattle.std.specs.Prelude.{ℕ, List, [], ◌∷◌, length, map, ◌++◌}
-use Rattle.fraction_theory.specs.Fraction.{Fraction, neg_ℚ, ◌+ℚ◌, ◌-ℚ◌, ◌*ℚ◌}
-use Rattle.fraction_theory.specs.Sums.{Term, Plain, Product, total}
+use Rattle.fraction_theory.specs.Fraction.{Fraction, neg_ℚ, ◌+ℚ◌, ◌-ℚ◌}
+use Rattle.fraction_theory.specs.Sums.{Term, Plain, Product, term_value, total}
 use Rattle.market_model.specs.declared.answered.Load.{Load}
 use Rattle.market_model.specs.declared.answered.UnitPay.{UnitPay}
 use Rattle.market_model.specs.declared.participants.Parts.{Parts}
@@ -11,31 +11,39 @@ use Rattle.market_model.specs.Dispatch.{Dispatch, places, unit_at, injection, ou
 use Rattle.market_model.specs.Optimality.{bus_price, up_of, down_of}
 use Rattle.market_model.specs.declared.limits.Row.{Row}
 use Rattle.market_model.specs.LimitRows.{flow_by, limit, line_flow, row_offset}
+use Rattle.market_model.specs.Overrun.{excess_by}
 
 -- ---- at prices by bus
 -- what a unit is paid for a MW: the price of its bus
 abbrev pub price_for_unit : Parts → (ℕ → Fraction) → ℕ → Fraction
 price_for_unit m price u = price (unit_at m u).bus
 
--- a unit's output, and its price for that
+-- what a unit is paid: its price for its output
+abbrev pub unit_term : Parts → Dispatch → (ℕ → Fraction) → ℕ → Term
+unit_term m x price u = Product (price_for_unit m price u) (output m x u)
+
+-- what a load pays: the price of its bus for its demand
+abbrev pub load_term : Parts → (ℕ → Fraction) → ℕ → Term
+load_term m price i = Product (price i) (demand m i)
+
+-- the two with their MW
 abbrev pub pay_of_unit : Parts → Dispatch → (ℕ → Fraction) → ℕ → UnitPay Fraction
-pay_of_unit m x price u = record { mw = output m x u; paid = price_for_unit m price u *ℚ output m x u }
+pay_of_unit m x price u = record { mw = output m x u; paid = term_value (unit_term m x price u) }
 
--- a bus's demand, and its price for that
 abbrev pub pay_of_load : Parts → (ℕ → Fraction) → ℕ → Load Fraction
-pay_of_load m price i = record { mw = demand m i; pays = price i *ℚ demand m i }
+pay_of_load m price i = record { mw = demand m i; pays = term_value (load_term m price i) }
 
--- what a load pays, as a sum of one product; and what a unit is paid
+-- each as a sum of one product
 abbrev pub load_terms : Parts → (ℕ → Fraction) → ℕ → List Term
-load_terms m price i = Product (price i) (demand m i) ∷ []
+load_terms m price i = load_term m price i ∷ []
 
 abbrev pub unit_terms : Parts → Dispatch → (ℕ → Fraction) → ℕ → List Term
-unit_terms m x price u = Product (price_for_unit m price u) (output m x u) ∷ []
+unit_terms m x price u = unit_term m x price u ∷ []
 
 -- what loads pay by bus, and the opposite of what units are paid by unit
 abbrev pub left_terms : Parts → Dispatch → (ℕ → Fraction) → List Term
 left_terms m x price =
-    map (λ i. Product (price i) (demand m i)) (places (length m.buses))
+    map (load_term m price) (places (length m.buses))
     ++ map (λ u. Product (neg_ℚ (price_for_unit m price u)) (output m x u)) (places (length m.units))
 
 -- ---- at the prices of duals
@@ -54,9 +62,9 @@ surplus_terms m x d = left_terms m x (bus_price m d)
 unfoldable pub surplus : Parts → Dispatch → Duals Fraction → Fraction
 surplus m x d = total (surplus_terms m x d)
 
--- the MW for which the prices of a row are paid, where its flow is f: its limit
+-- the MW for which the prices of a row are paid, where its flow is f: its limit, and by how much the flow exceeds it
 abbrev pub priced_flow : Parts → Row → Fraction → Fraction
-priced_flow m r f = limit m r
+priced_flow m r f = limit m r +ℚ excess_by m r f
 
 -- what the upper price of a limit is paid for, where flows are paid for at this size and the flow has a fixed offset: the size less the offset
 abbrev pub upper_terms : Fraction → Fraction → List Term

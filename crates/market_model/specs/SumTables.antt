@@ -79,12 +79,12 @@ pub data BoundSum (m : Parts) (d : Duals Fraction) : List Term → Type 0 where
   farkas_bound_of_all : BoundSum m d (farkas_terms m d)
 
 -- ---- money
--- of payments at prices by bus: what a load pays, what a unit is paid, what is left, and with duals the rents of some rows
-pub data PaymentSum (m : Parts) (g : List Row) (x : Dispatch) (price : ℕ → Fraction) (d : Duals Fraction) : List Term → Type 0 where
-  paid_by_load : (i : ℕ) → i < length m.buses → PaymentSum m g x price d (load_terms m price i)
-  paid_to_unit : (u : ℕ) → u < length m.units → PaymentSum m g x price d (unit_terms m x price u)
-  left_of_all : PaymentSum m g x price d (left_terms m x price)
-  rent_of_row : (r : Row) → Contains g r → PaymentSum m g x price d (rent_terms m x d r)
+-- of payments at prices by bus: what a load pays, what a unit is paid, what is left, and the rents of the rows that duals name
+pub data PaymentSum (m : Parts) (x : Dispatch) (price : ℕ → Fraction) (d : Duals Fraction) : List Term → Type 0 where
+  paid_by_load : (i : ℕ) → i < length m.buses → PaymentSum m x price d (load_terms m price i)
+  paid_to_unit : (u : ℕ) → u < length m.units → PaymentSum m x price d (unit_terms m x price u)
+  left_of_all : PaymentSum m x price d (left_terms m x price)
+  rent_of_row : (r : Row) → Contains (named_rows m d) r → PaymentSum m x price d (rent_terms m x d r)
 
 -- of a row whose prices are paid, where lines have flows f: its flow after an outage, its fixed offset, and what each of its prices is paid for
 pub data PaidRowSum (m : Parts) (f : ℕ → Fraction) (r : Row) : List Term → Type 0 where
@@ -97,5 +97,5 @@ pub data PaidRowSum (m : Parts) (f : ℕ → Fraction) (r : Row) : List Term →
 pub data SettledSum (m : Parts) (x : Dispatch) (price : ℕ → Fraction) (d : Duals Fraction) : List Term → Type 0 where
   paid_output : (terms : List Term) → OutputSum m x terms → SettledSum m x price d terms
   demand_of_bus : (i : ℕ) → i < length m.buses → SettledSum m x price d (demand_terms m i)
-  payment : (terms : List Term) → PaymentSum m (named_rows m d) x price d terms → SettledSum m x price d terms
+  payment : (terms : List Term) → PaymentSum m x price d terms → SettledSum m x price d terms
   paid_row : (r : Row) (terms : List Term) → Contains (named_rows m d) r → PaidRowSum m (line_flow m (injection m x)) r terms → SettledSum m x price d terms

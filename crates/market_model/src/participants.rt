@@ -1,6 +1,7 @@
 //! Blocks, and what a market is made of.
 
 ghost use Rattle.std.specs.Prelude.{◌≡◌};
+ghost use Rattle.market_model.specs.Lines.{hard_line};
 ghost use Rattle.market_model.specs.Market.{bare_parts};
 
 use market_data::{Bus, Unit};
@@ -26,17 +27,42 @@ pub struct Block {
     pub price: i64,
 }
 
-/// A live branch. Its limits and its offset are in 10^-9 MW.
+/// A live branch. Its limits, excesses and offset are in 10^-9 MW, its penalties in 10^-6 per MWh. A limit gives way where its penalty
+/// is above 0: its flow may exceed it by so much, at that price for each MW (transmission constraint penalty factor).
 #[derive(Clone, Copy, PartialEq, Eq, Debug)]
 pub struct Line {
     /// Its row in the case's branch matrix, from 1.
     pub row: u32,
-    /// The greatest size of its flow while all branches are there, where that has a limit.
+    /// Its limit while all branches are there: the size that its flow is to keep within, where there is one.
     pub base: Option<i64>,
-    /// The greatest size of its flow after an outage, where that has a limit.
+    /// Its limit after an outage.
     pub post: Option<i64>,
+    /// The penalty of its limit in the base, and the most by which its flow may exceed that.
+    pub base_price: i64,
+    pub base_excess: i64,
+    /// The same of its limit after an outage.
+    pub post_price: i64,
+    pub post_excess: i64,
     /// What is added to its flow, whatever the buses put in.
     pub offset: i64,
+}
+
+impl Line {
+    /// A line whose limits do not give way.
+    pub fn hard(row: u32, base: Option<i64>, post: Option<i64>, offset: i64) -> Line
+        ensures { result ≡ hard_line row base post offset }
+    {
+        Line {
+            row,
+            base,
+            post,
+            base_price: 0,
+            base_excess: 0,
+            post_price: 0,
+            post_excess: 0,
+            offset,
+        }
+    }
 }
 
 /// A factor of a line: its shift factor for a bus, or its loss factor for a line that is lost.

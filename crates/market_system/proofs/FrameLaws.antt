@@ -21,6 +21,7 @@ use Rattle.market_system.specs.declared.variables.Variable.{Variable}
 use Rattle.market_system.specs.declared.variables.Variable.TheVariants as variable
 use Rattle.market_system.specs.FrameLaw.{LawOfTheFrame}
 use Rattle.market_system.specs.MarketSystem.{balance_name, row_name, is_in, in_order, block_sign, block_coefficient, same_row, name, coefficient, columns, row_variables, variables, named, variable_of, system_over, system_of}
+use Rattle.market_model.specs.Lines.{hard_line}
 
 mapped_at : {X Y : Type 0} (f : X → Y) (d : X) (e : Y) → f d ≡ e → (xs : List X) (i : ℕ) → slice_index_or (map f xs) i e ≡ f (slice_index_or xs i d)
 mapped_at f d e h [] i = sym h
@@ -33,7 +34,7 @@ counted f (x ∷ xs) = ap suc (counted f xs)
 
 module _ (m : Parts) where
   line_framed : (l : ℕ) → line_at (frame m) l ≡ line_frame (line_at m l)
-  line_framed l = mapped_at line_frame (record { row = 0; base = None; post = None; offset = pos 0 }) (record { row = 0; base = None; post = None; offset = pos 0 }) refl m.lines l
+  line_framed l = mapped_at line_frame (hard_line 0 None None (pos 0)) (hard_line 0 None None (pos 0)) refl m.lines l
 
   block_framed : (j : ℕ) → block_at (frame m) j ≡ block_frame (block_at m j)
   block_framed j = mapped_at block_frame (record { unit = 0; side = Sell; quantity = pos 0; price = pos 0 }) (record { unit = 0; side = Sell; quantity = pos 0; price = pos 0 }) refl m.blocks j

@@ -5,7 +5,7 @@ use Rattle.std.proofs.Common.{arith, ap, sym, ◌∙◌, subst, inl, inr}
 use Rattle.std.proofs.lemmas.List.{length-append, length-map}
 use Rattle.std.proofs.lemmas.List.FromFn.{length-range_with_len}
 use Rattle.fraction_theory.specs.Fraction.{Fraction, neg_ℚ, ◌+ℚ◌, ◌-ℚ◌, ◌*ℚ◌}
-use Rattle.fraction_theory.specs.Signs.{sign_of}
+use Rattle.fraction_theory.specs.Signs.{sign_of, part_above, where_above}
 use Rattle.fraction_theory.specs.Sums.{Term, Product, prefix, total}
 use Rattle.fraction_theory.specs.declared.Sign.{Sign}
 use Rattle.fraction_theory.specs.declared.Sign.TheVariants.{Below, Zero, Above}
@@ -20,7 +20,7 @@ use Rattle.market_model.specs.declared.answered.Duals.{Duals}
 use Rattle.market_model.specs.declared.participants.Parts.{Parts}
 use Rattle.market_model.specs.Market.{IsMarket}
 use Rattle.market_model.specs.Dispatch.{Dispatch, IsDispatch, places, block_at, unit_at, quantity, accepted, balance, empty, demand, demand_terms, output}
-use Rattle.market_model.specs.Infeasibility.{part_above, where_above, block_weight, farkas_terms}
+use Rattle.market_model.specs.Infeasibility.{block_weight, farkas_terms}
 use Rattle.market_model.specs.declared.limits.Row.{Row}
 use Rattle.market_model.specs.LimitRows.{rows, row_id, row_factor}
 use Rattle.market_model.specs.Optimality.{bus_price, block_value, congestion_terms, names_row, named_rows, price_terms, net_shadow_price, unit_price, welfare_terms}
@@ -36,7 +36,7 @@ use Rattle.market_system.specs.ModestMarkets.{IsModest, LawOfModestMarkets, mode
 use Rattle.market_system.specs.Growth.{GrowsBy}
 use Rattle.market_system.proofs.SystemLaws.{variable_in}
 use Rattle.market_system.proofs.VariableLaws.{from_places}
-use Rattle.market_system.proofs.ModestNumbers.{IsWholeWithin, whole_within, nil_within, wider, neg_within, plus_within, times_within, same_within, number_fits, AreWithin, append_within, map_within, prefix_within}
+use Rattle.market_system.proofs.ModestNumbers.{IsWholeWithin, whole_within, nil_within, wider, neg_within, plus_within, times_within, same_within, number_fits, TermsWithin, append_within, map_within, prefix_within}
 use Rattle.market_system.proofs.ModestChoices.{entry_within, energy_within}
 use Rattle.market_system.proofs.ModestMarkets.{most_injection, most_balance, most_value, most_output, most_of, signed_within, load_within, shunt_within, fixed_within, up_within, down_within, quantity_within, price_within, block_value_within, injection_within, balance_within, output_terms_within, output_within, demand_within, empty_small, empty_balance_within, dispatch_small, system_within, output_count, output_each}
 
@@ -53,7 +53,7 @@ abbrev most : ℕ
 most = 2 ^ 127 - 1
 
 -- the first terms of a sum
-sums_within : (terms : List Term) (b : ℕ) → length terms ≤ 4001 → AreWithin b terms → 4001 * b ≤ most → (k : ℕ) → IsWholeWithin most (prefix k terms)
+sums_within : (terms : List Term) (b : ℕ) → length terms ≤ 4001 → TermsWithin b terms → 4001 * b ≤ most → (k : ℕ) → IsWholeWithin most (prefix k terms)
 sums_within terms b count each room k = wider (4001 * b) most (prefix k terms) room (prefix_within 4001 b k terms count each)
 
 module _ (m : Parts) (market : IsMarket m) (lines : m.lines ≡ []) (modest : IsModest m) where
@@ -170,13 +170,13 @@ module _ (m : Parts) (market : IsMarket m) (lines : m.lines ≡ []) (modest : Is
     number_within kind x (of_opposite same y n) = neg_within (most_of same) y (number_within same y n)
 
     -- the first terms of the welfare, and of what is settled
-    welfare_each : IsRightChoice m [] h → AreWithin (modest_price * most_output) (welfare_terms m (choice_dispatch m [] h))
+    welfare_each : IsRightChoice m [] h → TermsWithin (modest_price * most_output) (welfare_terms m (choice_dispatch m [] h))
     welfare_each best = map_within (modest_price * most_output) (λ j. Product (block_value m j) (accepted (choice_dispatch m [] h) j)) (places (length m.blocks))
         (λ j c. let lt = from_places (length m.blocks) j c in
         times_within modest_price most_output (block_value m j) (accepted (choice_dispatch m [] h) j) (block_value_within m market modest j lt)
         (wider modest_mw most_output (accepted (choice_dispatch m [] h) j) (Prim.omega arith) (best_small best j lt)))
 
-    surplus_each : IsRightChoice m [] h → AreWithin (modest_price * most_output) (surplus_terms m (choice_dispatch m [] h) (choice_duals m [] h))
+    surplus_each : IsRightChoice m [] h → TermsWithin (modest_price * most_output) (surplus_terms m (choice_dispatch m [] h) (choice_duals m [] h))
     surplus_each best = append_within (modest_price * most_output) (map paying (places (length m.buses))) (map paid (places (length m.units)))
         (map_within (modest_price * most_output) paying (places (length m.buses)) (λ i c.
         times_within modest_price most_output (bus_price m d i) (demand m i) (bus_price_within modest_price d i price_is_modest) (demand_within m market modest i (from_places (length m.buses) i c))))

@@ -27,7 +27,7 @@ use Rattle.market_system.specs.declared.variables.Variable.TheVariants.{Block, B
 use Rattle.market_system.specs.ModestMarkets.{IsModest, IsModestBus, IsModestUnit, IsModestBlock, modest_mw, modest_price}
 use Rattle.market_system.proofs.SystemLaws.{none_ascend, variables_are, variable_in, the_row, is_system}
 use Rattle.market_system.proofs.VariableLaws.{from_places, by_variable, columns_are, column_below, coefficient-at, price-at, low-at, high-at}
-use Rattle.market_system.proofs.ModestNumbers.{IsWholeWithin, whole_within, nil_within, wider, neg_within, times_within, AreWithin, append_within, map_within, prefix_within, length-filter_le}
+use Rattle.market_system.proofs.ModestNumbers.{IsWholeWithin, whole_within, nil_within, wider, neg_within, times_within, TermsWithin, append_within, map_within, prefix_within, length-filter_le}
 use Rattle.market_system.proofs.ModestChoices.{block_sign_within, entry_within, column_within}
 
 -- the most of an injection, of a balance and of the value of a variable
@@ -60,7 +60,7 @@ either_within b true x y h k = h
 either_within b false x y h k = k
 
 -- the whole of a sum, by its first terms
-pub total_within : (n b : ℕ) (ts : List Term) → length ts ≤ n → AreWithin b ts → IsWholeWithin (n * b) (total ts)
+pub total_within : (n b : ℕ) (ts : List Term) → length ts ≤ n → TermsWithin b ts → IsWholeWithin (n * b) (total ts)
 total_within n b ts le h = subst (IsWholeWithin (n * b)) (prefix-all ts) (prefix_within n b (length ts) ts le h)
 
 -- how many terms there are
@@ -103,11 +103,11 @@ module _ (m : Parts) (market : IsMarket m) (modest : IsModest m) where
 
   -- what each block has accepted is whole, and at most what it may be
   module _ (x : Dispatch) (small : (j : ℕ) → j < length m.blocks → IsWholeWithin modest_mw (accepted x j)) where
-    blocks_within : (p : ℕ → Bool) → AreWithin modest_mw (map (block_term m x) (filter p (places (length m.blocks))))
+    blocks_within : (p : ℕ → Bool) → TermsWithin modest_mw (map (block_term m x) (filter p (places (length m.blocks))))
     blocks_within p = map_within modest_mw (block_term m x) (filter p (places (length m.blocks)))
         (λ j c. signed_within modest_mw (block_at m j).side (accepted x j) (small j (some_below p (length m.blocks) j c)))
 
-    injection_each : (i : ℕ) → i < length m.buses → AreWithin modest_mw (injection_terms m x i)
+    injection_each : (i : ℕ) → i < length m.buses → TermsWithin modest_mw (injection_terms m x i)
     injection_each i lt =
         append_within modest_mw (map (fixed_term m) (units_at m i) ++ map (block_term m x) (blocks_at m i)) (Plain (neg_ℚ (whole (bus_at m i).pd)) ∷ Plain (neg_ℚ (whole (bus_at m i).gs)) ∷ [])
         (append_within modest_mw (map (fixed_term m) (units_at m i)) (map (block_term m x) (blocks_at m i))
@@ -129,7 +129,7 @@ module _ (m : Parts) (market : IsMarket m) (modest : IsModest m) where
     pub injection_within : (i k : ℕ) → i < length m.buses → IsWholeWithin most_injection (prefix k (injection_terms m x i))
     injection_within i k lt = prefix_within 5002 modest_mw k (injection_terms m x i) (injection_count i) (injection_each i lt)
 
-    balance_each : AreWithin most_injection (balance_terms m x)
+    balance_each : TermsWithin most_injection (balance_terms m x)
     unfolding injection
     balance_each = map_within most_injection (λ i. Plain (injection m x i)) (places (length m.buses))
         (λ i c. let lt = from_places (length m.buses) i c in total_within 5002 modest_mw (injection_terms m x i) (injection_count i) (injection_each i lt))
@@ -137,7 +137,7 @@ module _ (m : Parts) (market : IsMarket m) (modest : IsModest m) where
     pub balance_within : (k : ℕ) → IsWholeWithin most_balance (prefix k (balance_terms m x))
     balance_within k = prefix_within 1000 most_injection k (balance_terms m x) (Prim.omega (arith, terms_of_places (λ i. Plain (injection m x i)) (length m.buses), market.bus_count)) balance_each
 
-    pub output_each : (u : ℕ) → u < length m.units → AreWithin modest_mw (output_terms m x u)
+    pub output_each : (u : ℕ) → u < length m.units → TermsWithin modest_mw (output_terms m x u)
     output_each u lt = (fixed_within u lt, blocks_within (λ j. (block_at m j).unit == u))
 
     pub output_count : (u : ℕ) → length (output_terms m x u) ≤ 4001
@@ -185,7 +185,7 @@ module _ (m : Parts) (market : IsMarket m) (modest : IsModest m) where
     unfolding at_bound
     bound_within w c = either_within most_balance (h.high w) (s.high w) (s.low w) (high_within w c) (low_within w c)
 
-    value_each : (b : ℕ) → Contains (basics s h) b → AreWithin most_balance (value_terms s h b)
+    value_each : (b : ℕ) → Contains (basics s h) b → TermsWithin most_balance (value_terms s h b)
     unfolding value_terms
     value_each b c = map_within most_balance (λ w. Product (h.entry b w) (at_bound s h w)) (others s h)
         (λ w k. times_within 1 most_balance (h.entry b w) (at_bound s h w) (entry_within m h is b w c k) (bound_within w (others_are s h w k).0))
@@ -232,12 +232,12 @@ module _ (m : Parts) (market : IsMarket m) (modest : IsModest m) where
     column_listed : (j : ℕ) → Contains s.columns j → Contains s.variables j
     column_listed = (is_system m).column
 
-    row_each : (r w : ℕ) → Contains s.rows r → Contains (others s h) w → AreWithin 1 (row_entry_terms s h r w)
+    row_each : (r w : ℕ) → Contains s.rows r → Contains (others s h) w → TermsWithin 1 (row_entry_terms s h r w)
     unfolding row_entry_terms
     row_each r w d c = map_within 1 (λ j. Product (s.coefficient r j) (column_entry h j w)) s.columns
         (λ j k. times_within 1 1 (s.coefficient r j) (column_entry h j w) (coefficient_within r j d k) (column_within m h is j w (column_listed j k) c))
 
-    reduced_each : (w : ℕ) → Contains (others s h) w → AreWithin modest_price (reduced_terms s h w)
+    reduced_each : (w : ℕ) → Contains (others s h) w → TermsWithin modest_price (reduced_terms s h w)
     unfolding reduced_terms
     reduced_each w c = map_within modest_price (λ j. Product (s.price j) (column_entry h j w)) s.columns
         (λ j k. times_within modest_price 1 (s.price j) (column_entry h j w) (price_of_within j k) (column_within m h is j w (column_listed j k) c))

@@ -59,27 +59,27 @@ pub number_fits : (b : ℕ) (x : Fraction) → 1 ≤ b → IsWholeWithin b x →
 number_fits b x one h p = whole_fits b h.number one h.within (subst (IsTooLarge b) h.is p)
 
 -- each term of a list is a whole number of at most this size
-abbrev pub AreWithin : ℕ → List Term → Type 0
-AreWithin b [] = Unit {0}
-AreWithin b (t ∷ ts) = IsWholeWithin b (term_value t) × AreWithin b ts
+abbrev pub TermsWithin : ℕ → List Term → Type 0
+TermsWithin b [] = Unit {0}
+TermsWithin b (t ∷ ts) = IsWholeWithin b (term_value t) × TermsWithin b ts
 
-pub append_within : (b : ℕ) (ts us : List Term) → AreWithin b ts → AreWithin b us → AreWithin b (ts ++ us)
+pub append_within : (b : ℕ) (ts us : List Term) → TermsWithin b ts → TermsWithin b us → TermsWithin b (ts ++ us)
 append_within b [] us h k = k
 append_within b (t ∷ ts) us h k = (h.0, append_within b ts us h.1 k)
 
-pub map_within : (b : ℕ) (f : ℕ → Term) (xs : List ℕ) → ((x : ℕ) → Contains xs x → IsWholeWithin b (term_value (f x))) → AreWithin b (map f xs)
+pub map_within : (b : ℕ) (f : ℕ → Term) (xs : List ℕ) → ((x : ℕ) → Contains xs x → IsWholeWithin b (term_value (f x))) → TermsWithin b (map f xs)
 map_within b f [] h = tt
 map_within b f (x ∷ xs) h = (h x (Contains-head x xs), map_within b f xs (λ y c. h y (Contains-cons x xs y c)))
 
 -- the first terms of at most so many
-prefix_by_length : (b k : ℕ) (ts : List Term) → AreWithin b ts → IsWholeWithin (length ts * b) (prefix k ts)
+prefix_by_length : (b k : ℕ) (ts : List Term) → TermsWithin b ts → IsWholeWithin (length ts * b) (prefix k ts)
 prefix_by_length b zero ts h = nil_within (length ts * b)
 prefix_by_length b (suc k) [] h = nil_within (length {A = Term} [] * b)
 prefix_by_length b (suc k) (t ∷ ts) h =
     wider (b + length ts * b) (suc (length ts) * b) (prefix (suc k) (t ∷ ts)) (Prim.omega arith)
     (plus_within b (length ts * b) (term_value t) (prefix k ts) h.0 (prefix_by_length b k ts h.1))
 
-pub prefix_within : (n b k : ℕ) (ts : List Term) → length ts ≤ n → AreWithin b ts → IsWholeWithin (n * b) (prefix k ts)
+pub prefix_within : (n b k : ℕ) (ts : List Term) → length ts ≤ n → TermsWithin b ts → IsWholeWithin (n * b) (prefix k ts)
 prefix_within n b k ts le h = wider (length ts * b) (n * b) (prefix k ts) (mul-le (length ts) b n b le (Prim.omega arith)) (prefix_by_length b k ts h)
 
 pub length-filter_le : (p : ℕ → Bool) (xs : List ℕ) → length (filter p xs) ≤ length xs

@@ -7,7 +7,7 @@ use Rattle.fraction_theory.specs.Fraction.{Fraction, whole, neg_ℚ, ◌+ℚ◌,
 use Rattle.fraction_theory.specs.Sums.{Term, Plain, Product, term_value, prefix, total}
 use Rattle.fraction_theory.proofs.Ring.{by_ring, by_ring1, at, pnil, pone, pneg, ◌⊕◌, ◌⊗◌}
 use Rattle.fraction_theory.proofs.FieldLaws.{ring_ℚ}
-use Rattle.fraction_theory.specs.Signs.{sign_of}
+use Rattle.fraction_theory.specs.Signs.{sign_of, where_above, part_above}
 use Rattle.fraction_theory.specs.declared.Sign.{Sign}
 use Rattle.fraction_theory.specs.declared.Sign.TheVariants.{Below, Zero, Above}
 use Rattle.fraction_theory.proofs.SumLaws.{prefix-more, prefix-all}
@@ -35,7 +35,7 @@ use Rattle.market_model.specs.LimitRows.{rows, limit, shift_factor, line_offset,
 use Rattle.market_model.specs.Market.{IsMarket}
 use Rattle.market_model.specs.NamedSums.{SameSize, term_at, IsNextTerm, IsSumStep, IsRefusedIn, IsRefusal}
 use Rattle.market_model.specs.Optimality.{net_shadow_price, up_of, down_of, congestion, price_by, price_terms, bus_price, unit_price, welfare_terms}
-use Rattle.market_model.specs.Infeasibility.{where_above, part_above, block_weight, limit_terms, farkas_terms}
+use Rattle.market_model.specs.Infeasibility.{block_weight, limit_terms, farkas_terms}
 use Rattle.market_model.specs.SumTables.{injection_at, balance_from_bus, balance_of_all, flow_of_line, flow_of_row, limited_line, limited_row, FlowSum, flow_in_balance, flow_in_limits, offset_of_row, factor_at_bus, output_of_unit, BusPriceSum, PriceSum, price_of_bus, congestion_at, price_at, farkas_bound_of_all}
 use Rattle.market_system.specs.Growth.{Growth}
 use Rattle.market_system.specs.MarketNumbers.{ClearingNumber, of_kind, of_money, of_solving, is_turned, IsInjecting, IsFarkasOf, NamedSum, offset_of, factor_of, of_flow, output_of, of_price, of_welfare, of_settlement, of_farkas_price, farkas_bound_of, MarketNumber, of_system, of_sum, is_limit, is_line_offset, is_shift, is_loss, is_up_dual, is_down_dual, is_farkas_energy, is_farkas_up, is_farkas_down, of_opposite}

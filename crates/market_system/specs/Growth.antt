@@ -8,7 +8,7 @@ use Rattle.fraction_theory.specs.Order.{◌≤ℚ◌, ◌<ℚ◌}
 use Rattle.market_model.specs.declared.answered.Duals.{Duals}
 use Rattle.market_model.specs.declared.participants.Parts.{Parts}
 use Rattle.market_model.specs.Dispatch.{Dispatch, zero}
-use Rattle.market_model.specs.Optimality.{FeasibleFor, welfare, up_of, down_of}
+use Rattle.market_model.specs.Optimality.{FeasibleFor, welfare_for, up_of, down_of}
 use Rattle.market_model.specs.declared.limits.Row.{Row}
 use Rattle.market_model.specs.LimitRows.{rows, flow, limit}
 
@@ -16,19 +16,15 @@ use Rattle.market_model.specs.LimitRows.{rows, flow, limit}
 abbrev pub Broken : Parts → Dispatch → Row → Type 0
 Broken m x r = (limit m r <ℚ flow m x r) ⊎ (flow m x r <ℚ neg_ℚ (limit m r))
 
--- the welfare of a dispatch, as far as these rows bear on it
-abbrev pub welfare_for : Parts → List Row → Dispatch → Fraction
-welfare_for m g x = welfare m x
-
 -- feasible for these rows, and of the greatest welfare of all dispatches that are
 pub record BestFor (m : Parts) (g : List Row) (x : Dispatch) : Type 0 where
   pub feasible : FeasibleFor m g x
   pub best : (y : Dispatch) → FeasibleFor m g y → welfare_for m g y ≤ℚ welfare_for m g x
 
--- rows of the market behind old ones, each broken by a best dispatch of those before it
+-- rows of the market behind old ones, each not among those before it and broken by a best dispatch of these
 abbrev pub GrowsBy : Parts → List Row → List Row → Type 0
 GrowsBy m old [] = Unit {0}
-GrowsBy m old (r ∷ more) = ((x : Dispatch) × BestFor m old x × Broken m x r) × Contains (rows m) r × GrowsBy m (old ++ r ∷ []) more
+GrowsBy m old (r ∷ more) = ((x : Dispatch) × BestFor m old x × Broken m x r) × Contains (rows m) r × (¬ (Contains old r)) × GrowsBy m (old ++ r ∷ []) more
 
 -- the old rows, with more behind them
 abbrev pub Growth : Parts → List Row → List Row → Type 0

@@ -13,10 +13,11 @@ use Rattle.market_model.specs.Dispatch.{Dispatch, accepted, places, block_at, si
 use Rattle.market_model.specs.Infeasibility.{IsFarkas}
 use Rattle.market_model.specs.declared.limits.Row.{Row}
 use Rattle.market_model.specs.LimitRows.{rows}
+use Rattle.market_model.specs.Lines.{HasHardLimits}
 use Rattle.market_model.specs.Market.{IsMarket}
-use Rattle.market_model.specs.Optimality.{FeasibleFor, Feasible, Supports, ProperDuals, block_value, unit_price}
+use Rattle.market_model.specs.Optimality.{FeasibleFor, Feasible, Supports, ProperDuals, block_value, unit_price, welfare_for}
 use Rattle.market_model.specs.RightAnswers.{IsRight, answer_of}
-use Rattle.market_system.specs.Growth.{Broken, BestFor, Growth, welfare_for}
+use Rattle.market_system.specs.Growth.{Broken, BestFor, Growth}
 use Rattle.market_system.specs.MarketNumbers.{IsFarkasOf}
 use Rattle.market_system.specs.MarketSystem.{system_of, choice_dispatch, duals_by_cost, choice_duals}
 
@@ -40,7 +41,7 @@ pub record PointsAreDispatches (m : Parts) (g : List Row) : Type 0 where
       → FeasibleFor m g (dispatch_by (map v (places (length m.blocks)))) × (objective (system_of m g) v ≡ welfare_for m g (dispatch_by (map v (places (length m.blocks)))))
 
 abbrev pub LawOfThePoints : Type 0
-LawOfThePoints = (m : Parts) (g : List Row) → IsMarket m → ((r : Row) → Contains g r → Contains (rows m) r) → PointsAreDispatches m g
+LawOfThePoints = (m : Parts) (g : List Row) → IsMarket m → HasHardLimits m.lines → ((r : Row) → Contains g r → Contains (rows m) r) → PointsAreDispatches m g
 
 -- ---- solved
 -- a choice with its own values and reduced prices
@@ -57,7 +58,7 @@ pub record AnswersBy (m : Parts) (g : List Row) (h : Choice) : Type 0 where
       → reduced (system_of m g) h j ≡ block_value m j +ℚ raised (block_at m j).side (unit_price m (choice_duals m g h) (block_at m j).unit)
 
 abbrev pub LawOfTheSolved : Type 0
-LawOfTheSolved = (m : Parts) (g : List Row) (h : Choice) → IsMarket m → ((r : Row) → Contains g r → Contains (rows m) r)
+LawOfTheSolved = (m : Parts) (g : List Row) (h : Choice) → IsMarket m → HasHardLimits m.lines → ((r : Row) → Contains g r → Contains (rows m) r)
     → IsChoice (system_of m g) h → IsSolved (system_of m g) (state_at (system_of m g) h) → AnswersBy m g h
 
 -- ---- right answers
@@ -77,16 +78,16 @@ pub record StuckShows (m : Parts) (g : List Row) (h : Choice) (b : ℕ) (above :
   pub of_choice : IsFarkasOf m g h (stuck_duals m g h b above)
 
 abbrev pub LawOfTheStuck : Type 0
-LawOfTheStuck = (m : Parts) (g : List Row) (h : Choice) (b : ℕ) (above : Bool) → IsMarket m → ((r : Row) → Contains g r → Contains (rows m) r)
+LawOfTheStuck = (m : Parts) (g : List Row) (h : Choice) (b : ℕ) (above : Bool) → IsMarket m → HasHardLimits m.lines → ((r : Row) → Contains g r → Contains (rows m) r)
     → IsChoice (system_of m g) h → IsStuck (system_of m g) h b above → StuckShows m g h b above
 
 -- ---- growth
 -- what is known of lists of rows that grow
 pub record GrowthLaws (m : Parts) : Type 0 where
-  -- a row that a best dispatch breaks is not in the list, and behind it the list is grown
-  pub broken_is_new : (g : List Row) (x : Dispatch) (r : Row) → BestFor m g x → Broken m x r → ¬ (Contains g r)
+  -- where limits are hard, a row that a best dispatch breaks is not in the list; and with one that is not, the list is grown
+  pub broken_is_new : (g : List Row) (x : Dispatch) (r : Row) → HasHardLimits m.lines → BestFor m g x → Broken m x r → ¬ (Contains g r)
   pub none : (g : List Row) → Growth m g g
-  pub more : (t g : List Row) (x : Dispatch) (r : Row) → Growth m t g → BestFor m g x → Broken m x r → Contains (rows m) r → Growth m t (g ++ r ∷ [])
+  pub more : (t g : List Row) (x : Dispatch) (r : Row) → Growth m t g → BestFor m g x → Broken m x r → Contains (rows m) r → ¬ (Contains g r) → Growth m t (g ++ r ∷ [])
   pub again : (t g h : List Row) → Growth m t g → Growth m g h → Growth m t h
   -- distinct rows of the market stay so, and are no more than all of its rows
   pub distinct : (t g : List Row) → AreRows m t → Growth m t g → AreRows m g

@@ -17,6 +17,7 @@ use Rattle.offer_book.specs.declared.edit_parts.Edit.TheVariants as edit
 use Rattle.market_model.specs.LimitRows.{limit_of}
 use Rattle.offer_book.specs.Edits.{judge, changed, step_of, place_of_block, place_of_bus, place_of_limit}
 use Rattle.offer_book.specs.EditLaws.{LawOfTheEditedFrame, LawOfEditedFrames}
+use Rattle.market_model.specs.Lines.{hard_line}
 
 -- ---- one number changed
 price_frame : (m : Parts) (j : ℕ) (price : ℤ) → SameFrame m (with_price m j price)
@@ -53,7 +54,7 @@ second_true false b e = absurd Prim.cc
 pub limit_there : (m : Parts) (row : ℤ) (post : Bool) (l : ℕ) → place_of_limit m row post ≡ Some l → is_some (limit_of post (line_at m l)) ≡ true
 unfolding place_of_limit
 limit_there m row post l e =
-    let found = position-Some (λ line. int_eq (pos line.row) row && is_some (limit_of post line)) m.lines l (record { row = 0; base = None; post = None; offset = pos 0 }) e in
+    let found = position-Some (λ line. int_eq (pos line.row) row && is_some (limit_of post line)) m.lines l (hard_line 0 None None (pos 0)) e in
     second_true _ _ found.1
 
 -- ---- an edit

@@ -504,17 +504,17 @@ law_of_make words files text s buses seed prints asks =
 
 -- ---- outside
 -- each file that is written is one of these
-abbrev AreNamed : (List ℕ → Type 0) → List (List ℕ × List ℕ) → Type 0
-AreNamed P [] = Unit {0}
-AreNamed P ((name, bytes) ∷ rest) = P name × AreNamed P rest
+abbrev AllNamed : (List ℕ → Type 0) → List (List ℕ × List ℕ) → Type 0
+AllNamed P [] = Unit {0}
+AllNamed P ((name, bytes) ∷ rest) = P name × AllNamed P rest
 
-bytes-named : (P : List ℕ → Type 0) (file certificate : Option (List ℕ)) → ((name : List ℕ) → file ≡ Some name → P name) → AreNamed P (named_bytes file certificate [])
+bytes-named : (P : List ℕ → Type 0) (file certificate : Option (List ℕ)) → ((name : List ℕ) → file ≡ Some name → P name) → AllNamed P (named_bytes file certificate [])
 bytes-named P (Some name) (Some bytes) named = (named name refl, tt)
 bytes-named P (Some name) None named = tt
 bytes-named P None bytes named = tt
 
 -- what is written is named for it
-written-named : (files : Option Files) (words : List (List ℕ)) (t : Telling) (w : List (List ℕ × List ℕ)) → AnswersTo files words t w → AreNamed (NamesToWrite words) w
+written-named : (files : Option Files) (words : List (List ℕ)) (t : Telling) (w : List (List ℕ × List ℕ)) → AnswersTo files words t w → AllNamed (NamesToWrite words) w
 written-named files words t _ (refused nothing usage) = tt
 written-named files words t _ (pooled case offers asked told) = tt
 written-named files words t _ (cleared names file asked told) = bytes-named (NamesToWrite words) file t.outputs.certificate (λ name is. inl (names, subst (AsksClear words names) is asked))
@@ -528,7 +528,7 @@ module _ (P : List ℕ → Type 0) (n : List ℕ) (free : ¬ (P n)) (failed : Ty
   apart : (name : List ℕ) → P name → n ≢ name
   apart name is same = free (subst P (sym same) is)
 
-  kept-at : (w : List (List ℕ × List ℕ)) (f h : Files) → AreNamed P w → Keeps failed w (Some f) (Some h) → h n ≡ f n
+  kept-at : (w : List (List ℕ × List ℕ)) (f h : Files) → AllNamed P w → Keeps failed w (Some f) (Some h) → h n ≡ f n
   kept-at [] f h named (fine, same) = same n
   kept-at ((name, bytes) ∷ rest) f h named (inl (bad, wrote)) = wrote.others n (apart name named.0)
   kept-at ((name, bytes) ∷ rest) f h named (inr (Some g, wrote, kept)) = kept-at rest g h named.1 kept ∙ wrote.others n (apart name named.0)
@@ -544,7 +544,7 @@ module _ (words : List (List ℕ)) (before after : Outside) (s : Status) (f h : 
   answers-at : Answers words before after s → h n ≡ f n
   answers-at a = by a.ends
     where
-      named : AreNamed (NamesToWrite words) a.written
+      named : AllNamed (NamesToWrite words) a.written
       named = written-named before.files words a.telling a.written a.right
 
       by : ending.Ends a.telling a.written before.files after.files before.taken after.taken s → h n ≡ f n

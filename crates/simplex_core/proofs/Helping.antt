@@ -9,9 +9,10 @@ use Rattle.fraction_theory.proofs.OrderLaws.{<ℚ-≤ℚ}
 use Rattle.linear_dict.specs.Dictionaries.{Dictionary, IsDictionary, system_in, choice_of, note_of}
 use Rattle.linear_dict.specs.Notes.{Noted}
 use Rattle.linear_dict.proofs.SplitLemmas.{other_in}
-use Rattle.simplex_theory.specs.Steps.{opposite_if, abs_ℚ, Helps}
+use Rattle.simplex_theory.specs.Steps.{opposite_if, Helps}
 use Rattle.simplex_theory.proofs.Signs.{signed-twice, abs_signed, abs_above}
 use Rattle.simplex_core.specs.States.{state_of}
+use Rattle.fraction_theory.specs.Signs.{abs_ℚ}
 
 pub signed_same : (a f : Bool) (e : Fraction) → beq a f ≡ true → e ≡ opposite_if f (opposite_if a e)
 signed_same true true e h = sym (signed-twice true e)

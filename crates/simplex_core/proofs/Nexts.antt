@@ -14,13 +14,14 @@ use Rattle.linear_system.proofs.ChoiceLaws.{basics_are, others_are}
 use Rattle.linear_dict.specs.Dictionaries.{Dictionary, system_in}
 use Rattle.linear_dict.proofs.NameLemmas.{place_in-within}
 use Rattle.simplex_theory.specs.States.{State, IsWithin, Violates}
-use Rattle.simplex_theory.specs.Steps.{opposite_if, abs_ℚ, Leaves, Helps, Enters, IsStep}
+use Rattle.simplex_theory.specs.Steps.{opposite_if, Leaves, Helps, Enters, IsStep}
 use Rattle.simplex_theory.specs.Trails.{trail_length}
 use Rattle.simplex_theory.proofs.Ending.{IsMethod, method_falls}
 use Rattle.simplex_core.specs.States.{state_of, IsReady}
 use Rattle.simplex_core.specs.Turns.{turned}
 use Rattle.simplex_core.proofs.NoteLaws.{named_or_not}
 use Rattle.simplex_core.proofs.TurnLaws.{turned_step, turned_system, turned_ready}
+use Rattle.fraction_theory.specs.Signs.{abs_ℚ}
 
 abbrev Decision : Type 0 → Type 0
 Decision P = P ⊎ ¬ P

@@ -9,7 +9,7 @@ use Rattle.exact_fraction.specs.declared.Passed.{Passed}
 use Rattle.exact_fraction.specs.Passes.{IsShareRefused, IsTooLarge, IsTooLargeAt, Passes, outcome}
 use Rattle.fraction_theory.specs.Fraction.{Fraction, whole, ◌+ℚ◌, ◌-ℚ◌, ◌*ℚ◌, neg_ℚ, recip_ℚ}
 use Rattle.fraction_theory.specs.Order.{◌<ℚ◌, ◌≤ℚ◌}
-use Rattle.fraction_theory.specs.Signs.{sign_of}
+use Rattle.fraction_theory.specs.Signs.{sign_of, abs_by, abs_ℚ}
 use Rattle.fraction_theory.specs.declared.Sign.{Sign}
 use Rattle.fraction_theory.specs.declared.Sign.TheVariants.{Below, Zero, Above}
 use Rattle.fraction_theory.specs.Sums.{prefix, total, Term}
@@ -32,7 +32,7 @@ use Rattle.linear_dict.specs.Places.{is_among, place_in}
 use Rattle.linear_dict.proofs.CauseLemmas.{share_pair, written}
 use Rattle.linear_dict.proofs.NameLemmas.{among-tells}
 use Rattle.linear_dict.proofs.SplitLemmas.{basic_in, in_basics, in_others, other_in, system_is}
-use Rattle.simplex_theory.specs.Steps.{Enters, IsStep, Leaves, abs_by, abs_ℚ, violated_bound, displacement}
+use Rattle.simplex_theory.specs.Steps.{Enters, IsStep, Leaves, violated_bound, displacement}
 use Rattle.simplex_theory.proofs.Exchanges.{entering_basic, entering_other, leaving_other, other_after, other_not_leaving}
 use Rattle.simplex_theory.proofs.PosedNumbers.{posed_reduced, posed_value, value_other}
 use Rattle.simplex_core.specs.States.{IsReady, state_of}

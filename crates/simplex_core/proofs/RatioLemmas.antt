@@ -11,12 +11,13 @@ use Rattle.fraction_theory.proofs.Ring.{at, by_ring, by_ring1, pmul, pnil, pone}
 use Rattle.linear_system.proofs.ChoiceLaws.{others_are}
 use Rattle.linear_dict.specs.Dictionaries.{Dictionary, IsDictionary, system_in}
 use Rattle.linear_dict.specs.Places.{place_in}
-use Rattle.simplex_theory.specs.Steps.{abs_ℚ, Helps}
+use Rattle.simplex_theory.specs.Steps.{Helps}
 use Rattle.simplex_theory.proofs.LeastRatio.{IsLeast, least_alone, least_kept, least_replaced, help_above, least_enters}
 use Rattle.simplex_core.specs.States.{state_of}
 use Rattle.simplex_core.specs.Searches.{IsSized, IsLesser, IsEntering}
 use Rattle.simplex_core.specs.declared.enter.Candidate.{Candidate}
 use Rattle.simplex_core.proofs.Ranks.{name_below, rank_of, at_rank}
+use Rattle.fraction_theory.specs.Signs.{abs_ℚ}
 
 -- the same candidates have the same least ratio
 pub least_same : (p q : ℕ → Type 0) (d e : ℕ → Fraction) (k : ℕ) → ((w : ℕ) → p w → q w) → ((w : ℕ) → q w → p w) → IsLeast p d e k → IsLeast q d e k

@@ -19,7 +19,7 @@ use Rattle.linear_dict.proofs.NameLemmas.{place_in-within, among-from, among-tel
 use Rattle.linear_dict.proofs.SplitLemmas.{set-has, system_is, in_basics, in_others}
 use Rattle.linear_dict.proofs.ExchangeLemmas.{pivoted_dictionary, pivoted_basic}
 use Rattle.simplex_theory.specs.States.{IsPosed}
-use Rattle.simplex_theory.specs.Steps.{abs_ℚ, Leaves, Enters, IsStep, violated_bound, displacement}
+use Rattle.simplex_theory.specs.Steps.{Leaves, Enters, IsStep, violated_bound, displacement}
 use Rattle.simplex_theory.proofs.Signs.{abs_nil}
 use Rattle.simplex_theory.proofs.LeastRatio.{help_above}
 use Rattle.simplex_theory.proofs.Exchanges.{other_after, other_not_leaving}
@@ -28,6 +28,7 @@ use Rattle.simplex_core.specs.States.{state_of, IsReady}
 use Rattle.simplex_core.specs.Turns.{moved_note, noted_anew, turned}
 use Rattle.simplex_core.proofs.NoteLaws.{named_or_not, note_anew, note_unnamed, system_stays, renoted_dictionary}
 use Rattle.simplex_core.proofs.MoveLemmas.{note_with, moved-basic, moved-leaving, moved-staying}
+use Rattle.fraction_theory.specs.Signs.{abs_ℚ}
 
 -- a move keeps prices and bounds
 module _ (d : Dictionary) (v k : ℕ) (above : Bool) (bound far price : Fraction) (w : ℕ) where

@@ -14,8 +14,8 @@ use Rattle.simplex_core.specs.States.{IsReady}
 use Rattle.simplex_core.specs.declared.bounds.Bounds.{Bounds}
 
 -- the numbers of a place
-abbrev pub price_at : {N : Type 0} → (N → Fraction) → List N → ℕ → Fraction
-price_at value prices k = slice_index_or (map value prices) k (whole (pos 0))
+abbrev pub column_price : {N : Type 0} → (N → Fraction) → List N → ℕ → Fraction
+column_price value prices k = slice_index_or (map value prices) k (whole (pos 0))
 
 abbrev pub low_at : {N : Type 0} → (N → Fraction) → List (Bounds N) → ℕ → Fraction
 low_at value bounds k = slice_index_or (map (λ b. value b.low) bounds) k (whole (pos 0))
@@ -29,7 +29,7 @@ term_note price low high = record { price = price; low = low; high = high; value
 
 -- those of a column and of a row by their places
 abbrev pub column_note : {N : Type 0} → (N → Fraction) → List N → List (Bounds N) → ℕ → Noted
-column_note value prices bounds k = term_note (price_at value prices k) (low_at value bounds k) (high_at value bounds k)
+column_note value prices bounds k = term_note (column_price value prices k) (low_at value bounds k) (high_at value bounds k)
 
 abbrev pub row_note : {N : Type 0} → (N → Fraction) → ℕ → List (Bounds N) → ℕ → Noted
 row_note value columns bounds k = term_note (whole (pos 0)) (low_at value bounds (columns + k)) (high_at value bounds (columns + k))
@@ -85,7 +85,7 @@ pub record IsPosing {N : Type 0} (value : N → Fraction) (d : Dictionary) (pric
   pub others : e.others ≡ d.others
   pub basics : e.basics ≡ d.basics
   pub table : e.table ≡ d.table
-  pub price : (k : ℕ) → k < length d.columns → (system_in e).price (slice_index d.columns k) ≡ price_at value prices k
+  pub price : (k : ℕ) → k < length d.columns → (system_in e).price (slice_index d.columns k) ≡ column_price value prices k
   pub column_low : (k : ℕ) → k < length d.columns → (system_in e).low (slice_index d.columns k) ≡ low_at value bounds k
   pub column_high : (k : ℕ) → k < length d.columns → (system_in e).high (slice_index d.columns k) ≡ high_at value bounds k
   pub row_low : (k : ℕ) → k < length d.rows → (system_in e).low (slice_index d.rows k) ≡ low_at value bounds (length d.columns + k)

@@ -6,10 +6,11 @@ use Rattle.fraction_theory.specs.Order.{◌≤ℚ◌, ◌<ℚ◌}
 use Rattle.linear_system.specs.Choices.{basics}
 use Rattle.linear_dict.specs.Dictionaries.{Dictionary, system_in, choice_of}
 use Rattle.simplex_theory.specs.States.{IsWithin}
-use Rattle.simplex_theory.specs.Steps.{abs_ℚ, Leaves, Helps, Enters}
+use Rattle.simplex_theory.specs.Steps.{Leaves, Helps, Enters}
 use Rattle.simplex_core.specs.States.{state_of}
 use Rattle.simplex_core.specs.declared.leave.Leaving.{Leaving}
 use Rattle.simplex_core.specs.declared.enter.Candidate.{Candidate}
+use Rattle.fraction_theory.specs.Signs.{abs_ℚ}
 
 -- the bound that x violates: the high one where the answer is `true`
 abbrev pub IsSide : Fraction → Fraction → Fraction → Option Bool → Type 0

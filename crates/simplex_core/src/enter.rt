@@ -3,9 +3,9 @@ ghost use Rattle.std.specs.Prelude.{◌≡◌, ◌<◌, IfErr, IfOk, false, leng
 ghost use Rattle.std.specs.List.{Contains};
 ghost use Rattle.linear_dict.specs.Causes.{IsPairOf};
 ghost use Rattle.linear_dict.specs.Dictionaries.{IsDictionary, system_in};
-ghost use Rattle.simplex_theory.specs.Steps.{abs_ℚ};
 ghost use Rattle.simplex_core.specs.States.{IsReady};
 ghost use Rattle.simplex_core.specs.Searches.{IsCandidate, IsLesser, IsEntering};
+ghost use Rattle.fraction_theory.specs.Signs.{abs_ℚ};
 
 use crate::leave::Leaving;
 use exact_fraction::{Exact, Passed, Sign};

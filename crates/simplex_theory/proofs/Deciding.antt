@@ -10,8 +10,9 @@ use Rattle.fraction_theory.proofs.ListSums.{Contains-head, Contains-cons, Contai
 use Rattle.linear_system.specs.Systems.{System, IsSystem}
 use Rattle.linear_system.specs.Choices.{Choice, basics, others}
 use Rattle.simplex_theory.specs.States.{State, IsWithin, Violates}
-use Rattle.simplex_theory.specs.Steps.{opposite_if, abs_ℚ, Leaves, Helps, Enters}
+use Rattle.simplex_theory.specs.Steps.{opposite_if, Leaves, Helps, Enters}
 use Rattle.simplex_theory.proofs.LeastRatio.{IsLeast, least_alone, least_kept, least_replaced, help_above, least_enters}
+use Rattle.fraction_theory.specs.Signs.{abs_ℚ}
 
 abbrev Ascending : List ℕ → Type 0
 Ascending xs = AllPairs (λ x y. x < y) xs

@@ -7,8 +7,9 @@ use Rattle.fraction_theory.proofs.Ring.{at, ◌⊗◌}
 use Rattle.fraction_theory.proofs.OrderLaws.{by_le2, *ℚ-≤ℚ_cancel, ≤ℚ_of_same, ≤ℚ-or-<ℚ, <ℚ-≤ℚ, <ℚ_irrefl, <ℚ-not-≤ℚ, not-≤ℚ, NonNeg_from}
 use Rattle.linear_system.specs.Systems.{System}
 use Rattle.simplex_theory.specs.States.{State}
-use Rattle.simplex_theory.specs.Steps.{opposite_if, abs_ℚ, Helps, Enters}
+use Rattle.simplex_theory.specs.Steps.{opposite_if, Helps, Enters}
 use Rattle.simplex_theory.proofs.Signs.{abs_signed, abs_above}
+use Rattle.fraction_theory.specs.Signs.{abs_ℚ}
 
 -- Of the candidates k has the least d over e, compared by products, and of those that tie with it the least name.
 pub record IsLeast (candidate : ℕ → Type 0) (d e : ℕ → Fraction) (k : ℕ) : Type 0 where

@@ -14,12 +14,13 @@ use Rattle.linear_system.specs.Systems.{System, objective}
 use Rattle.linear_system.specs.Choices.{others, at_bound}
 use Rattle.linear_system.proofs.ChoiceLaws.{others_are, is_other, is_basic}
 use Rattle.simplex_theory.specs.States.{State, IsPosed, IsWithin, Violates}
-use Rattle.simplex_theory.specs.Steps.{opposite_if, abs_ℚ, IsStep}
+use Rattle.simplex_theory.specs.Steps.{opposite_if, IsStep}
 use Rattle.simplex_theory.proofs.Signs.{greatest_at_bound, lower_beyond_bound, abs_nil, neg_below}
 use Rattle.simplex_theory.proofs.NameSums.{sum_by-below, signed-sum}
 use Rattle.simplex_theory.proofs.Stretches.{Stretch, Fickle, fickle_or_not, At, still, Left, left_at, leaving_enters, greatest, by_answer, two_answers}
 use Rattle.simplex_theory.proofs.Posing.{step_posed}
 use Rattle.simplex_theory.proofs.Falling.{objective_step, prices_stand, same_objective, same_stand, stands_high, stands_low}
+use Rattle.fraction_theory.specs.Signs.{abs_ℚ}
 
 module _ (s : System) (p : ℕ → State) (n : ℕ) (leave enter : ℕ → ℕ) (above : ℕ → Bool) (some : 0 < n) (start : IsPosed s (p 0))
     (step : (i : ℕ) → i < n → IsStep s (p i) (p (suc i)) (leave i) (enter i) (above i))

@@ -15,11 +15,12 @@ use Rattle.linear_system.specs.Systems.{System, MeetsRows, objective}
 use Rattle.linear_system.specs.Choices.{basics, others, OneExchange, at_bound}
 use Rattle.linear_system.proofs.ChoiceLaws.{others_are, is_other, is_basic, others_distinct}
 use Rattle.simplex_theory.specs.States.{State, IsPosed}
-use Rattle.simplex_theory.specs.Steps.{opposite_if, abs_ℚ, Helps, IsStep, violated_bound, displacement}
+use Rattle.simplex_theory.specs.Steps.{opposite_if, Helps, IsStep, violated_bound, displacement}
 use Rattle.simplex_theory.proofs.Signs.{nonpositive, neg_at_most, neg_at_least, signed-both, times-signed, signed-minus, abs_signed, abs_above, abs_below}
 use Rattle.simplex_theory.proofs.NameSums.{sum_by-change}
 use Rattle.simplex_theory.proofs.Stretches.{by_answer}
 use Rattle.simplex_theory.proofs.Exchanges.{leaving_basic, leaving_other, entering_other, entering_basic, other_not_entering, other_before, basic_before, pivot_inverse, pivot_row}
+use Rattle.fraction_theory.specs.Signs.{abs_ℚ}
 
 -- The new reduced price of a variable whose own one is d, by its bound: with x that of the entering variable's entry, y that of the variable's, and t how much the price rises against y.
 ratio_keeps : (t x y d : Fraction) → whole (pos 0) <ℚ x → t ≤ℚ whole (pos 0) → d ≤ℚ whole (pos 0) → (whole (pos 0) <ℚ y → (neg_ℚ (t *ℚ x) *ℚ y) ≤ℚ (neg_ℚ d *ℚ x)) → (d -ℚ t *ℚ y) ≤ℚ whole (pos 0)

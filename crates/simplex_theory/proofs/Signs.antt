@@ -3,14 +3,14 @@ use Rattle.std.specs.Prelude.{◌≡◌, pos, Bool, true, false, [], ◌∷◌, 
 use Rattle.std.proofs.Common.{sym, ◌∙◌, subst, subst₂, inl, inr}
 use Rattle.fraction_theory.specs.Fraction.{Fraction, whole, ◌+ℚ◌, ◌-ℚ◌, ◌*ℚ◌, neg_ℚ}
 use Rattle.fraction_theory.specs.Order.{◌≤ℚ◌, ◌<ℚ◌, NonNeg}
-use Rattle.fraction_theory.specs.Signs.{sign_of}
+use Rattle.fraction_theory.specs.Signs.{sign_of, abs_by, abs_ℚ}
 use Rattle.fraction_theory.specs.declared.Sign.{Sign}
 use Rattle.fraction_theory.specs.declared.Sign.TheVariants.{Below, Zero, Above}
 use Rattle.fraction_theory.proofs.Ring.{by_ring, by_ring1, at, pnil, pneg, pone, ◌⊕◌, ◌⊗◌}
 use Rattle.fraction_theory.proofs.FieldLaws.{ring_ℚ}
 use Rattle.fraction_theory.proofs.SignLaws.{sign_of_is, IsSign}
 use Rattle.fraction_theory.proofs.OrderLaws.{by_le1, NonNeg_to, NonNeg-one, not-≤ℚ, ≤ℚ-or-<ℚ, <ℚ-≤ℚ, <ℚ-not-≤ℚ, *ℚ-≤ℚ, *ℚ-≤ℚ_neg, *ℚ-<ℚ, ≤ℚ_refl, le_to}
-use Rattle.simplex_theory.specs.Steps.{opposite_if, abs_by, abs_ℚ}
+use Rattle.simplex_theory.specs.Steps.{opposite_if}
 
 -- what is not above 0 is at most 0
 pub not_above : (x : Fraction) → ¬ (whole (pos 0) <ℚ x) → x ≤ℚ whole (pos 0)

@@ -12,12 +12,13 @@ use Rattle.linear_system.specs.Exchanges.{exchanged}
 use Rattle.linear_system.proofs.ChoiceLaws.{others_are, basics_are}
 use Rattle.linear_system.proofs.ExchangeLaws.{exchanged_is, exchanged_once}
 use Rattle.simplex_theory.specs.States.{State, IsPosed}
-use Rattle.simplex_theory.specs.Steps.{abs_ℚ, Leaves, Enters, IsStep, violated_bound, displacement}
+use Rattle.simplex_theory.specs.Steps.{Leaves, Enters, IsStep, violated_bound, displacement}
 use Rattle.simplex_theory.specs.Stepped.{stepped, stepped_choice}
 use Rattle.simplex_theory.proofs.Signs.{abs_nil}
 use Rattle.simplex_theory.proofs.Stretches.{two_answers}
 use Rattle.simplex_theory.proofs.LeastRatio.{help_above}
 use Rattle.simplex_theory.proofs.Exchanges.{other_not_leaving}
+use Rattle.fraction_theory.specs.Signs.{abs_ℚ}
 
 -- a choice stays one whatever bounds its others stand at
 pub choice_at_bounds : (s : System) (h : Choice) (high : ℕ → Bool) → IsChoice s h → IsChoice s (record h { high = high })

@@ -5,9 +5,7 @@ use Rattle.std.specs.Prelude.{◌≡◌, ℕ, ◌<◌, ◌≤◌, pos, Bool, tru
 use Rattle.std.specs.List.{Contains}
 use Rattle.fraction_theory.specs.Fraction.{Fraction, whole, ◌+ℚ◌, ◌-ℚ◌, ◌*ℚ◌, neg_ℚ}
 use Rattle.fraction_theory.specs.Order.{◌≤ℚ◌, ◌<ℚ◌}
-use Rattle.fraction_theory.specs.Signs.{sign_of}
-use Rattle.fraction_theory.specs.declared.Sign.{Sign}
-use Rattle.fraction_theory.specs.declared.Sign.TheVariants.{Below, Zero, Above}
+use Rattle.fraction_theory.specs.Signs.{abs_ℚ}
 use Rattle.linear_system.specs.Systems.{System}
 use Rattle.linear_system.specs.Choices.{basics, others, IsChoice, OneExchange}
 use Rattle.simplex_theory.specs.States.{State, IsWithin, Violates}
@@ -16,16 +14,6 @@ use Rattle.simplex_theory.specs.States.{State, IsWithin, Violates}
 abbrev pub opposite_if : Bool → Fraction → Fraction
 opposite_if true x = neg_ℚ x
 opposite_if false x = x
-
--- x by its sign, at least 0
-abbrev pub abs_by : Sign → Fraction → Fraction
-abs_by Below x = neg_ℚ x
-abs_by Zero x = x
-abs_by Above x = x
-
--- the absolute value of x
-unfoldable pub abs_ℚ : Fraction → Fraction
-abs_ℚ x = abs_by (sign_of x) x
 
 -- Of the basic variables that violate a bound v has the least name; it is above its high bound where `above` says so, and
 -- else below its low one.

@@ -41,12 +41,7 @@ fn market(alloc: Global) -> Result<Market, Memory> {
         price: 20 * PRICE_ONE,
     })?;
     let mut lines = List::new(alloc);
-    lines.push(Line {
-        row: 2,
-        base: Some(40 * MW_ONE),
-        post: None,
-        offset: 0,
-    })?;
+    lines.push(Line::hard(2, Some(40 * MW_ONE), None, 0))?;
     let parts = Parts {
         lines,
         ..Parts::bare(alloc, buses, units, blocks)

@@ -12,12 +12,13 @@ use Rattle.exact_fraction.proofs.Shares.{product_refused}
 use Rattle.linear_dict.specs.Dictionaries.{choice_of, note_of}
 use Rattle.linear_dict.specs.Notes.{Noted, noted}
 use Rattle.linear_dict.proofs.SplitLemmas.{Contains-at}
-use Rattle.simplex_theory.specs.Steps.{opposite_if, abs_ℚ}
+use Rattle.simplex_theory.specs.Steps.{opposite_if}
 use Rattle.simplex_core.specs.States.{state_of}
 use Rattle.simplex_core.proofs.Helping.{signed_same, signed_apart, size_of_signed, reduced_is, helps_is, helps_free, helps_towards}
 use Rattle.simplex_core.proofs.Pairs.{ratio_pair}
 use Rattle.simplex_core.proofs.enter.candidate_at.Goals as goal
 use Rattle.simplex_core.proofs.enter.candidate_at.Goals.{then-leaving-note, else-leaving-note}
+use Rattle.fraction_theory.specs.Signs.{abs_ℚ}
 
 pub returns-in-Equal-clause-candidate : goal.returns-in-Equal-clause-candidate
 returns-in-Equal-clause-candidate g c = λ h.

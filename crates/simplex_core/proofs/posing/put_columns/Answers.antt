@@ -4,7 +4,7 @@ use Rattle.fraction_theory.specs.Fraction.{whole}
 use Rattle.linear_dict.specs.Dictionaries.{Dictionary, with_note}
 use Rattle.linear_dict.specs.Notes.{Noted, noted}
 use Rattle.linear_dict.proofs.SplitLemmas.{Contains-at}
-use Rattle.simplex_core.specs.Posings.{column_note, price_at, low_at, high_at}
+use Rattle.simplex_core.specs.Posings.{column_note, column_price, low_at, high_at}
 use Rattle.simplex_core.specs.declared.bounds.Bounds.{Bounds}
 use Rattle.simplex_core.proofs.PutLemmas.{putting_start, putting_step, read_at, term_is}
 use Rattle.simplex_core.proofs.posing.put_columns.Goals as goal
@@ -35,7 +35,7 @@ loop-k-preserved g c =
     k c.loop-k.dict c.loop-k.invariant n c.set_note.new.self hk
     (c.set_note.ensures ∙ ap (λ (w : ℕ). with_note c.loop-k.dict w n) name)
     (c.term-note.ensures
-    ∙ term_is (value c.index-prices-k.result) (price_at value c.args.prices.now k) (value c.index-bounds-k.result.low) (low_at value c.args.bounds.now k) (value c.index-bounds-k.result.high) (high_at value c.args.bounds.now k)
+    ∙ term_is (value c.index-prices-k.result) (column_price value c.args.prices.now k) (value c.index-bounds-k.result.low) (low_at value c.args.bounds.now k) (value c.index-bounds-k.result.high) (high_at value c.args.bounds.now k)
     (read_at value c.args.prices.now k c.index-prices-k.result (whole (pos 0)) hp c.index-prices-k.is)
     (read_at (λ (b : Bounds g.row.N.Denot). value b.low) c.args.bounds.now k c.index-bounds-k.result (whole (pos 0)) hb c.index-bounds-k.is)
     (read_at (λ (b : Bounds g.row.N.Denot). value b.high) c.args.bounds.now k c.index-bounds-k.result (whole (pos 0)) hb c.index-bounds-k.is))

@@ -2,7 +2,7 @@ use Rattle.std.proofs.Common.{◌≡◌, ◌∙◌, ◌++◌, ◌∷◌, [], ℕ
 use mathlib.Core.Path.{ap₂}
 use Rattle.std.specs.List.{Contains}
 use Rattle.fraction_theory.specs.Sums.{sum_by}
-use Rattle.linear_dict.specs.Adding.{AreSums, AreWithin, row_term}
+use Rattle.linear_dict.specs.Adding.{AreSums, AreInTable, row_term}
 use Rattle.linear_dict.specs.declared.index.Variable.{Variable}
 use Rattle.linear_dict.specs.declared.place.Place.TheVariants.{Row}
 use Rattle.std.proofs.lemmas.Result.{err_from_is_err_and}
@@ -19,9 +19,9 @@ row_entries-requires g c =
     let n : c.len.result ≡ length s.others.items = Prim.omega (arith, c.len.ensures, s.others.ok.0) in
     let entries : length c.args.entries.now ≡ length s.columns.items = c.requires.entries ∙ sym (ap (λ (d : Dictionary). length d.columns) c.self.view_is) in record {
       within =
-          subst (λ (us : List (Variable g.row.N.Denot)). AreWithin (length c.deref-2.result.now) c.len.result count us) (sym c.deref.ensures.value)
-          (subst (λ (t : List g.row.N.Denot). AreWithin (length t) c.len.result count s.variables.items) (sym c.deref-2.ensures.value)
-          (subst (λ (m : ℕ). AreWithin (length s.table.items) m count s.variables.items) (sym n)
+          subst (λ (us : List (Variable g.row.N.Denot)). AreInTable (length c.deref-2.result.now) c.len.result count us) (sym c.deref.ensures.value)
+          (subst (λ (t : List g.row.N.Denot). AreInTable (length t) c.len.result count s.variables.items) (sym c.deref-2.ensures.value)
+          (subst (λ (m : ℕ). AreInTable (length s.table.items) m count s.variables.items) (sym n)
           (places_within g.N.Exact.value s.columns.items s.rows.items s.coefficients.items s.others.items s.basics.items s.table.items s.variables.items s.spent c.self.invariant.1 c.self.invariant.0 c.args.entries.now entries)));
     }
 

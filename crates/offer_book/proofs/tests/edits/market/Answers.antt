@@ -11,6 +11,7 @@ use Rattle.market_model.specs.declared.participants.Side.TheVariants.{Sell, Buy}
 use Rattle.market_model.specs.Market.{bare_parts, IsMarket, IsBlock, IsLine, HasRoom}
 use Rattle.market_model.specs.Stairs.{stair_in}
 use Rattle.offer_book.proofs.tests.edits.market.Goals as goal
+use Rattle.market_model.specs.Lines.{hard_line}
 
 abbrev the_bus : Bus
 the_bus = record { number = 3; pd = pos 60000000000; gs = pos 5000000000 }
@@ -25,7 +26,7 @@ abbrev dear : Block
 dear = record { unit = 0; side = Sell; quantity = pos 50000000000; price = pos 20000000 }
 
 abbrev the_line : Line
-the_line = record { row = 2; base = Some (pos 40000000000); post = None; offset = pos 0 }
+the_line = hard_line 2 (Some (pos 40000000000)) None (pos 0)
 
 abbrev the_parts : Parts
 the_parts = record (bare_parts (the_bus ∷ []) (the_unit ∷ []) (cheap ∷ dear ∷ [])) { lines = the_line ∷ [] }
