@@ -1,5 +1,6 @@
 mod BalanceSteps
 pub mod ChangeLemmas
+pub mod Excesses
 pub mod FarkasLaw
 mod FarkasRows
 pub mod HardLimits
