@@ -16,6 +16,8 @@ pub mod PlaceSums
 pub mod PlainMarkets
 pub mod PutInSteps
 pub mod RightFits
+mod RightsCases
+mod RightsLaw
 pub mod RowLaws
 pub mod Rows
 pub mod StopLemmas

@@ -131,26 +131,34 @@ by_net_prices rs is q a p =
     ∙ by_ring ring_ℚ (q r ∷ sum_by (λ i. a r i *ℚ p i) is ∷ []) (pneg (at 0) ⊗ at 1) (pneg (at 0 ⊗ at 1)) refl)
     ∙ sum_by-neg (λ r. q r *ℚ sum_by (λ i. a r i *ℚ p i) is) rs
 
--- the rows at their net prices, on what flows beyond their offsets
-abbrev pub row_prices : Parts → Duals Fraction → Dispatch → Fraction
-row_prices m d x = sum_by (λ r. net_shadow_price m d r *ℚ (flow m x r -ℚ row_offset m r)) (rows m)
+-- the rows at their net prices, on what flows beyond their offsets where buses put in p
+abbrev pub row_prices_by : Parts → Duals Fraction → (ℕ → Fraction) → Fraction
+row_prices_by m d p = sum_by (λ r. net_shadow_price m d r *ℚ (row_flow m p r -ℚ row_offset m r)) (rows m)
 
--- injections at bus prices: the balance at the price of energy, less that of the rows
+abbrev pub row_prices : Parts → Duals Fraction → Dispatch → Fraction
+row_prices m d x = row_prices_by m d (injection m x)
+
+-- what is put in at bus prices: all of it at the price of energy, less that of the rows
+pub priced_by_rows : (m : Parts) (d : Duals Fraction) (p : ℕ → Fraction)
+    → sum_by (λ i. bus_price m d i *ℚ p i) (places (length m.buses)) ≡ d.energy *ℚ sum_by p (places (length m.buses)) -ℚ row_prices_by m d p
+unfolding price_by congestion_by
+priced_by_rows m d p =
+    let buses : List ℕ = places (length m.buses) in
+    sum_by-same (λ i. (d.energy +ℚ congestion m d i) *ℚ p i) (λ i. d.energy *ℚ p i +ℚ sum_by (λ r. neg_ℚ (net_shadow_price m d r) *ℚ row_factor m r i) (rows m) *ℚ p i) buses
+    (λ i. by_ring ring_ℚ (d.energy ∷ congestion m d i ∷ p i ∷ []) ((at 0 ⊕ at 1) ⊗ at 2) (at 0 ⊗ at 2 ⊕ at 1 ⊗ at 2) refl
+    ∙ ap (λ t. d.energy *ℚ p i +ℚ t *ℚ p i) (total-Product (λ r. neg_ℚ (net_shadow_price m d r)) (λ r. row_factor m r i) (rows m)))
+    ∙ sum_by-plus (λ i. d.energy *ℚ p i) (λ i. sum_by (λ r. neg_ℚ (net_shadow_price m d r) *ℚ row_factor m r i) (rows m) *ℚ p i) buses
+    ∙ ap₂ ◌+ℚ◌
+    (sum_by-times d.energy p buses)
+    (by_net_prices (rows m) buses (net_shadow_price m d) (row_factor m) p
+    ∙ ap neg_ℚ (sum_by-same (λ r. net_shadow_price m d r *ℚ sum_by (λ i. row_factor m r i *ℚ p i) buses) (λ r. net_shadow_price m d r *ℚ (row_flow m p r -ℚ row_offset m r)) (rows m)
+    (λ r. ap (λ t. net_shadow_price m d r *ℚ t)
+    (by_ring1 ring_ℚ (row_flow m p r ∷ row_offset m r ∷ sum_by (λ i. row_factor m r i *ℚ p i) buses ∷ []) (at 2) (at 0 ⊕ pneg (at 1)) (pneg pone) (at 0) (at 1 ⊕ at 2) (law_of_the_flows m p r) refl))))
+
+-- at a dispatch
 pub priced-by_rows : (m : Parts) (d : Duals Fraction) (x : Dispatch)
     → sum_by (λ i. bus_price m d i *ℚ injection m x i) (places (length m.buses)) ≡ d.energy *ℚ balance m x -ℚ row_prices m d x
-unfolding price_by congestion_by
-priced-by_rows m d x =
-    let buses : List ℕ = places (length m.buses) in
-    sum_by-same (λ i. (d.energy +ℚ congestion m d i) *ℚ injection m x i) (λ i. d.energy *ℚ injection m x i +ℚ sum_by (λ r. neg_ℚ (net_shadow_price m d r) *ℚ row_factor m r i) (rows m) *ℚ injection m x i) buses
-    (λ i. by_ring ring_ℚ (d.energy ∷ congestion m d i ∷ injection m x i ∷ []) ((at 0 ⊕ at 1) ⊗ at 2) (at 0 ⊗ at 2 ⊕ at 1 ⊗ at 2) refl
-    ∙ ap (λ t. d.energy *ℚ injection m x i +ℚ t *ℚ injection m x i) (total-Product (λ r. neg_ℚ (net_shadow_price m d r)) (λ r. row_factor m r i) (rows m)))
-    ∙ sum_by-plus (λ i. d.energy *ℚ injection m x i) (λ i. sum_by (λ r. neg_ℚ (net_shadow_price m d r) *ℚ row_factor m r i) (rows m) *ℚ injection m x i) buses
-    ∙ ap₂ ◌+ℚ◌
-    (sum_by-times d.energy (injection m x) buses ∙ ap (λ t. d.energy *ℚ t) (sym (balance-by_injections m x)))
-    (by_net_prices (rows m) buses (net_shadow_price m d) (row_factor m) (injection m x)
-    ∙ ap neg_ℚ (sum_by-same (λ r. net_shadow_price m d r *ℚ sum_by (λ i. row_factor m r i *ℚ injection m x i) buses) (λ r. net_shadow_price m d r *ℚ (flow m x r -ℚ row_offset m r)) (rows m)
-    (λ r. ap (λ t. net_shadow_price m d r *ℚ t)
-    (by_ring1 ring_ℚ (flow m x r ∷ row_offset m r ∷ sum_by (λ i. row_factor m r i *ℚ injection m x i) buses ∷ []) (at 2) (at 0 ⊕ pneg (at 1)) (pneg pone) (at 0) (at 1 ⊕ at 2) (law_of_the_flows m (injection m x) r) refl))))
+priced-by_rows m d x = priced_by_rows m d (injection m x) ∙ ap (λ t. d.energy *ℚ t -ℚ row_prices m d x) (sym (balance-by_injections m x))
 
 -- ---- along the rows
 pub along : {T : Type 0} (P : T → Type 0) (xs : List T) → ((x : T) → Contains xs x → P x) → AllByRecursion P xs
@@ -158,7 +166,7 @@ along P [] h = tt
 along P (x ∷ xs) h = (h x (Contains-head x xs), along P xs (λ y c. h y (Contains-cons x xs y c)))
 
 -- ---- one row: its prices u and d, its limit, the flow f that they support, another flow g, its offset o
-nil_or_above : (u : Fraction) → zero ≤ℚ u → (u ≡ zero) ⊎ (zero <ℚ u)
+pub nil_or_above : (u : Fraction) → zero ≤ℚ u → (u ≡ zero) ⊎ (zero <ℚ u)
 nil_or_above u h = elim (≤ℚ-or-<ℚ u zero) [ inl below ↦ inl (≤ℚ_antisym u zero below h) | inr above ↦ inr above ]
 
 module _ (u d limit f o : Fraction) (up_sign : zero ≤ℚ u) (down_sign : zero ≤ℚ d) (up : zero <ℚ u → f ≡ limit) (down : zero <ℚ d → f ≡ neg_ℚ limit) where
