@@ -32,16 +32,16 @@ abbrev pub LawOfTheSystem : Type 0
 LawOfTheSystem = (m : Parts) (g : List Row) → IsMarket m → IsSystem (system_of m g)
 
 -- A dispatch that is feasible for the rows gives a point within the bounds, with its MW at the blocks, that is worth its welfare; and the
--- blocks of a point within the bounds are a dispatch that is feasible for them, of its worth.
+-- blocks of a point within the bounds are a dispatch that is feasible for them, worth no less.
 pub record PointsAreDispatches (m : Parts) (g : List Row) : Type 0 where
   pub point : (x : Dispatch) → FeasibleFor m g x
       → (v : ℕ → Fraction) × MeetsRows (system_of m g) v × InBounds (system_of m g) v × (objective (system_of m g) v ≡ welfare_for m g x)
       × ((j : ℕ) → Contains (places (length m.blocks)) j → v j ≡ accepted x j)
   pub dispatch : (v : ℕ → Fraction) → MeetsRows (system_of m g) v → InBounds (system_of m g) v
-      → FeasibleFor m g (dispatch_by (map v (places (length m.blocks)))) × (objective (system_of m g) v ≡ welfare_for m g (dispatch_by (map v (places (length m.blocks)))))
+      → FeasibleFor m g (dispatch_by (map v (places (length m.blocks)))) × (objective (system_of m g) v ≤ℚ welfare_for m g (dispatch_by (map v (places (length m.blocks)))))
 
 abbrev pub LawOfThePoints : Type 0
-LawOfThePoints = (m : Parts) (g : List Row) → IsMarket m → HasHardLimits m.lines → ((r : Row) → Contains g r → Contains (rows m) r) → PointsAreDispatches m g
+LawOfThePoints = (m : Parts) (g : List Row) → IsMarket m → AreRows m g → PointsAreDispatches m g
 
 -- ---- solved
 -- a choice with its own values and reduced prices
@@ -58,7 +58,7 @@ pub record AnswersBy (m : Parts) (g : List Row) (h : Choice) : Type 0 where
       → reduced (system_of m g) h j ≡ block_value m j +ℚ raised (block_at m j).side (unit_price m (choice_duals m g h) (block_at m j).unit)
 
 abbrev pub LawOfTheSolved : Type 0
-LawOfTheSolved = (m : Parts) (g : List Row) (h : Choice) → IsMarket m → HasHardLimits m.lines → ((r : Row) → Contains g r → Contains (rows m) r)
+LawOfTheSolved = (m : Parts) (g : List Row) (h : Choice) → IsMarket m → AreRows m g
     → IsChoice (system_of m g) h → IsSolved (system_of m g) (state_at (system_of m g) h) → AnswersBy m g h
 
 -- ---- right answers
@@ -78,7 +78,7 @@ pub record StuckShows (m : Parts) (g : List Row) (h : Choice) (b : ℕ) (above :
   pub of_choice : IsFarkasOf m g h (stuck_duals m g h b above)
 
 abbrev pub LawOfTheStuck : Type 0
-LawOfTheStuck = (m : Parts) (g : List Row) (h : Choice) (b : ℕ) (above : Bool) → IsMarket m → HasHardLimits m.lines → ((r : Row) → Contains g r → Contains (rows m) r)
+LawOfTheStuck = (m : Parts) (g : List Row) (h : Choice) (b : ℕ) (above : Bool) → IsMarket m → ((r : Row) → Contains g r → Contains (rows m) r)
     → IsChoice (system_of m g) h → IsStuck (system_of m g) h b above → StuckShows m g h b above
 
 -- ---- growth
