@@ -87,6 +87,15 @@ abs_below x h = by_sign (sign_of x) (sign_of_is x (sign_of x) refl)
     by_sign Zero p = by_ring1 ring_ℚ (x ∷ []) (at 0) (pneg (at 0)) (pone ⊕ pone) (at 0) pnil p refl
     by_sign Above p = absurd (<ℚ-not-≤ℚ (whole (pos 0)) x p h)
 
+-- a number and its opposite are of one size
+pub abs_opposite : (x : Fraction) → abs_ℚ (neg_ℚ x) ≡ abs_ℚ x
+abs_opposite x = elim (≤ℚ-or-<ℚ x (whole (pos 0))) [
+  | inl below ↦ abs_above (neg_ℚ x) (by_le1 (x ∷ []) pnil (pneg (at 0)) pone (at 0) pnil NonNeg-one below refl) ∙ sym (abs_below x below)
+  | inr above ↦ let least = <ℚ-≤ℚ (whole (pos 0)) x above in
+      abs_below (neg_ℚ x) (by_le1 (x ∷ []) (pneg (at 0)) pnil pone pnil (at 0) NonNeg-one least refl)
+      ∙ by_ring ring_ℚ (x ∷ []) (pneg (pneg (at 0))) (at 0) refl ∙ sym (abs_above x least)
+]
+
 -- a number between a bound and its opposite is of no greater size
 pub abs_within : (x most : Fraction) → neg_ℚ most ≤ℚ x → x ≤ℚ most → abs_ℚ x ≤ℚ most
 abs_within x most low high = elim (≤ℚ-or-<ℚ x (whole (pos 0))) [

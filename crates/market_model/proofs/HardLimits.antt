@@ -51,12 +51,20 @@ twice_opposite : (f : Fraction) → neg_ℚ (neg_ℚ f) ≡ f
 twice_opposite f = by_ring ring_ℚ (f ∷ []) (pneg (pneg (at 0))) (at 0) refl
 
 -- what holds of each line, and of one that is not there, holds of the line of a row
-of_line : (m : Parts) (P : Line → Type 0) → ((l : ℕ) (d : Line) → l < length m.lines → P (slice_index_or m.lines l d)) → P (hard_line 0 None None (pos 0)) → (l : ℕ) → P (line_at m l)
+pub of_line : (m : Parts) (P : Line → Type 0) → ((l : ℕ) (d : Line) → l < length m.lines → P (slice_index_or m.lines l d)) → P (hard_line 0 None None (pos 0)) → (l : ℕ) → P (line_at m l)
 of_line m P each past l = by (cases_lt l (length m.lines))
   where
     by : (l < length m.lines) ⊎ (length m.lines ≤ l) → P (line_at m l)
     by (inl lt) = each l _ lt
     by (inr ge) = subst P (sym (get_or_past m.lines l _ ge)) past
+
+-- a row's penalty and excess are such ones
+pub penalties : (m : Parts) → IsMarket m → (r : Row) → IsPenalty (penalty_of (is_outage r.cause) (line_at m r.line)) (excess_of (is_outage r.cause) (line_at m r.line))
+penalties m market r = by (is_outage r.cause)
+  where
+    by : (post : Bool) → IsPenalty (penalty_of post (line_at m r.line)) (excess_of post (line_at m r.line))
+    by true = of_line m (λ l. IsPenalty l.post_price l.post_excess) (λ l d lt. (market.lines l d lt).post_penalty) no_cost r.line
+    by false = of_line m (λ l. IsPenalty l.base_price l.base_excess) (λ l d lt. (market.lines l d lt).base_penalty) no_cost r.line
 
 module _ (m : Parts) (hard : HasHardLimits m.lines) where
   pub hard_line_at : (l : ℕ) → IsHard (line_at m l)
@@ -71,16 +79,7 @@ module _ (m : Parts) (hard : HasHardLimits m.lines) where
       by false = (hard_line_at r.line).base
 
   pub hard_excess : IsMarket m → (r : Row) → excess_of (is_outage r.cause) (line_at m r.line) ≡ pos 0
-  hard_excess h r = by (is_outage r.cause)
-    where
-      is_line : IsPenalty (line_at m r.line).base_price (line_at m r.line).base_excess × IsPenalty (line_at m r.line).post_price (line_at m r.line).post_excess
-      is_line =
-          of_line m (λ l. IsPenalty l.base_price l.base_excess × IsPenalty l.post_price l.post_excess)
-          (λ l d lt. ((h.lines l d lt).base_penalty, (h.lines l d lt).post_penalty)) (no_cost, no_cost) r.line
-
-      by : (post : Bool) → excess_of post (line_at m r.line) ≡ pos 0
-      by true = none_unpriced _ _ is_line.1 (hard_line_at r.line).post
-      by false = none_unpriced _ _ is_line.0 (hard_line_at r.line).base
+  hard_excess h r = none_unpriced _ _ (penalties m h r) (hard_penalty r)
 
   -- flows may go to the limit and no further
   pub hard_most : IsMarket m → (r : Row) → most_flow m r ≡ limit m r
