@@ -1,7 +1,8 @@
 -- What solving a market's system over some of its limit rows says of the market.
 -- Sources: linear programs with bounded variables (Chvátal, Linear Programming); Farkas; Schweppe and others, Spot Pricing of Electricity.
-use Rattle.std.specs.Prelude.{◌≡◌, ◌≢◌, ℕ, ◌≤◌, Bool, not, List, [], ◌∷◌, ◌++◌, length, map, AllPairs, Contains}
+use Rattle.std.specs.Prelude.{◌≡◌, ◌≢◌, ◌⊎◌, ℕ, ◌<◌, ◌≤◌, Bool, not, List, [], ◌∷◌, ◌++◌, length, map, AllPairs, Contains}
 use Rattle.fraction_theory.specs.Fraction.{Fraction, ◌+ℚ◌}
+use Rattle.fraction_theory.specs.Order.{◌≤ℚ◌}
 use Rattle.linear_system.specs.Systems.{System, IsSystem, MeetsRows, InBounds, objective}
 use Rattle.linear_system.specs.Choices.{Choice, IsChoice, value, reduced}
 use Rattle.simplex_theory.specs.States.{State, IsSolved}
@@ -12,10 +13,10 @@ use Rattle.market_model.specs.declared.participants.Parts.{Parts}
 use Rattle.market_model.specs.Dispatch.{Dispatch, accepted, places, block_at, signed_by_side as raised, dispatch_by}
 use Rattle.market_model.specs.Infeasibility.{IsFarkas}
 use Rattle.market_model.specs.declared.limits.Row.{Row}
-use Rattle.market_model.specs.LimitRows.{rows}
+use Rattle.market_model.specs.LimitRows.{rows, limit, flow}
 use Rattle.market_model.specs.Lines.{HasHardLimits}
 use Rattle.market_model.specs.Market.{IsMarket}
-use Rattle.market_model.specs.Optimality.{FeasibleFor, Feasible, Supports, ProperDuals, block_value, unit_price, welfare_for}
+use Rattle.market_model.specs.Optimality.{Within, FeasibleFor, Feasible, BlockSupported, RowSupported, Supports, ProperDuals, block_value, unit_price, welfare_for}
 use Rattle.market_model.specs.RightAnswers.{IsRight, answer_of}
 use Rattle.market_system.specs.Growth.{Broken, BestFor, Growth}
 use Rattle.market_system.specs.MarketNumbers.{IsFarkasOf}
@@ -48,12 +49,17 @@ LawOfThePoints = (m : Parts) (g : List Row) → IsMarket m → AreRows m g → P
 abbrev pub state_at : System → Choice → State
 state_at s h = record { choice = h; value = value s h; reduced = reduced s h }
 
--- The choice's dispatch is best for the rows. Its duals are proper and support it over all rows of the market; a block's reduced price is its
--- value, less what it raises at its unit's price.
+-- duals that support a dispatch over the blocks, and over each row that is in the list or whose flow keeps its limit
+pub record SupportsFor (m : Parts) (g : List Row) (x : Dispatch) (d : Duals Fraction) : Type 0 where
+  pub blocks : (j : ℕ) → j < length m.blocks → BlockSupported m x d j
+  pub rows : (r : Row) → Contains (rows m) r → Contains g r ⊎ Within (limit m r) (flow m x r) → RowSupported m x d r
+
+-- The choice's dispatch is best for the rows. Its duals are proper, and support it as far as other rows' limits are kept; a block's reduced
+-- price is its value, less what it raises at its unit's price.
 pub record AnswersBy (m : Parts) (g : List Row) (h : Choice) : Type 0 where
   pub best : BestFor m g (choice_dispatch m g h)
   pub proper : ProperDuals m (choice_duals m g h)
-  pub supported : Supports m (choice_dispatch m g h) (choice_duals m g h)
+  pub supported : SupportsFor m g (choice_dispatch m g h) (choice_duals m g h)
   pub blocks : (j : ℕ) → Contains (places (length m.blocks)) j
       → reduced (system_of m g) h j ≡ block_value m j +ℚ raised (block_at m j).side (unit_price m (choice_duals m g h) (block_at m j).unit)
 
