@@ -23,7 +23,7 @@ use Rattle.market_model.specs.Dispatch.{Dispatch, zero as nil, block_at, block_b
 use Rattle.market_model.specs.declared.limits.Row.{Row}
 use Rattle.market_model.specs.LimitRows.{rows, limit, is_soft, penalty, most_excess, row_factor, flow}
 use Rattle.market_model.specs.Market.{IsMarket}
-use Rattle.market_model.specs.Optimality.{Within, block_value, price, net_shadow_price, up_of, down_of, bus_price, unit_price, welfare_for, Gains, Loses, BlockSupported, SideSupported, RowSupported, ProperDuals, congestion_by, price_by}
+use Rattle.market_model.specs.Optimality.{Within, block_value, price, net_shadow_price, up_of, down_of, bus_price, unit_price, welfare_for, Gains, Loses, BlockSupported, SideSupported, RowSupported, Supports, ProperDuals, congestion_by, price_by}
 use Rattle.market_model.proofs.Excesses.{penalty_least}
 use Rattle.market_system.specs.declared.variables.Variable.TheVariants.{Balance, Limit, Over, Under}
 use Rattle.market_system.specs.Growth.{BestFor}
@@ -45,6 +45,14 @@ less_above x y l = not-≤ℚ (x -ℚ y) nil (λ n. <ℚ-not-≤ℚ y x l (by_le
 
 opposite_above : (x : Fraction) → nil <ℚ neg_ℚ x → x <ℚ nil
 opposite_above x l = not-≤ℚ nil x (λ n. <ℚ-not-≤ℚ nil (neg_ℚ x) l (by_le1 (x ∷ []) (pneg (at 0)) pnil pone pnil (at 0) NonNeg-one n refl))
+
+-- where other rows' limits are kept, duals that support a dispatch so far support it over all rows
+pub supports_by : (m : Parts) (g : List Row) (x : Dispatch) (d : Duals Fraction) → SupportsFor m g x d → ((r : Row) → Contains (rows m) r → ¬ (Contains g r) → Within (limit m r) (flow m x r)) → Supports m x d
+supports_by m g x d s kept = record { blocks = s.blocks; rows = λ r c. by r c (is_in g r) refl }
+  where
+    by : (r : Row) → Contains (rows m) r → (b : Bool) → is_in g r ≡ b → RowSupported m x d r
+    by r c true e = s.rows r c (inl (is_in-from g r e))
+    by r c false e = s.rows r c (inr (kept r c (λ k. let wrong : false ≡ true = sym e ∙ is_in-in g r k in absurd cc)))
 
 -- ---- bus prices of duals that are made of costs by name
 module _ (m : Parts) (names : NamesApart m) (cost_of : ℕ → Fraction) (g : List Row) where
