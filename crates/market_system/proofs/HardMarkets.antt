@@ -15,7 +15,7 @@ use Rattle.market_model.specs.Dispatch.{zero as nil}
 use Rattle.market_model.specs.LimitRows.{rows, is_soft, most_flow, flow, limit}
 use Rattle.market_model.specs.Lines.{HasHardLimits}
 use Rattle.market_model.specs.Market.{IsMarket}
-use Rattle.market_model.specs.Optimality.{Within, SideSupported, RowSupported, Supports, up_of, down_of}
+use Rattle.market_model.specs.Optimality.{SideSupported, RowSupported, Supports, up_of, down_of}
 use Rattle.market_model.proofs.HardLimits.{hard_most, hard_penalty}
 use Rattle.market_system.specs.declared.variables.Variable.{Variable}
 use Rattle.market_system.specs.declared.variables.Variable.TheVariants.{Over, Under}
@@ -23,6 +23,7 @@ use Rattle.market_system.specs.MarketSystem.{is_in, block_columns, excess_column
 use Rattle.market_system.specs.SolvedLaws.{AnswersBy}
 use Rattle.market_system.proofs.DualLists.{prices_only-made}
 use Rattle.market_system.proofs.RowOrder.{is_in-in, is_in-from}
+use Rattle.market_model.specs.Overrun.{Within}
 
 -- flows go to the limit
 pub hard_within : (m : Parts) → IsMarket m → HasHardLimits m.lines → (r : Row) (f : Fraction) → Within (most_flow m r) f → Within (limit m r) f

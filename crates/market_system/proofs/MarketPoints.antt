@@ -22,8 +22,8 @@ use Rattle.market_model.specs.Dispatch.{Dispatch, zero as nil, places, block_at,
 use Rattle.market_model.specs.declared.limits.Row.{Row}
 use Rattle.market_model.specs.LimitRows.{rows, limit, is_soft, penalty, most_excess, most_flow, row_factor, row_offset, flow}
 use Rattle.market_model.specs.Market.{IsMarket}
-use Rattle.market_model.specs.Optimality.{Within, FeasibleFor, block_value, value_terms, penalty_terms, welfare_for}
-use Rattle.market_model.specs.Overrun.{excess, excess_by}
+use Rattle.market_model.specs.Optimality.{FeasibleFor, block_value, value_terms, penalty_terms, welfare_for}
+use Rattle.market_model.specs.Overrun.{excess, excess_by, Within}
 use Rattle.market_model.proofs.Excesses.{penalty_least}
 use Rattle.market_model.proofs.MarketSums.{block_bus-in, injection-by_empty, balance-by_empty}
 use Rattle.market_model.proofs.PlaceSums.{gather_times, places_all}

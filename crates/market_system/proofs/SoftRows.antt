@@ -17,8 +17,8 @@ use Rattle.market_model.specs.Dispatch.{zero}
 use Rattle.market_model.specs.LimitRows.{is_soft, limit, penalty, most_excess, most_flow}
 use Rattle.market_model.specs.Lines.{IsPenalty}
 use Rattle.market_model.specs.Market.{IsMarket}
-use Rattle.market_model.specs.Optimality.{Within, SideSupported}
-use Rattle.market_model.specs.Overrun.{excess_by}
+use Rattle.market_model.specs.Optimality.{SideSupported}
+use Rattle.market_model.specs.Overrun.{excess_by, Within}
 use Rattle.market_model.proofs.Excesses.{limit_least}
 use Rattle.market_model.proofs.HardLimits.{penalties}
 

@@ -23,7 +23,7 @@ use Rattle.market_model.specs.Dispatch.{Dispatch, zero as nil, block_at, block_b
 use Rattle.market_model.specs.declared.limits.Row.{Row}
 use Rattle.market_model.specs.LimitRows.{rows, limit, is_soft, penalty, most_excess, row_factor, flow}
 use Rattle.market_model.specs.Market.{IsMarket}
-use Rattle.market_model.specs.Optimality.{Within, block_value, price, net_shadow_price, up_of, down_of, bus_price, unit_price, welfare_for, Gains, Loses, BlockSupported, SideSupported, RowSupported, Supports, ProperDuals, congestion_by, price_by}
+use Rattle.market_model.specs.Optimality.{block_value, price, net_shadow_price, up_of, down_of, bus_price, unit_price, welfare_for, Gains, Loses, BlockSupported, SideSupported, RowSupported, Supports, ProperDuals, congestion_by, price_by}
 use Rattle.market_model.proofs.Excesses.{penalty_least}
 use Rattle.market_system.specs.declared.variables.Variable.TheVariants.{Balance, Limit, Over, Under}
 use Rattle.market_system.specs.Growth.{BestFor}
@@ -35,6 +35,7 @@ use Rattle.market_system.proofs.MarketPoints.{is_system_of, both_parts, coeffici
 use Rattle.market_system.proofs.RowSums.{sum_by-alone}
 use Rattle.market_system.proofs.SoftRows.{kept_most, kept_nil, side_stands, side_unpriced}
 use Rattle.market_system.proofs.VariableLaws.{column_in, over_in, under_in, sum-rows, coefficient-at}
+use Rattle.market_model.specs.Overrun.{Within}
 
 -- ---- differences by their sign
 less_below : (x y : Fraction) → x <ℚ y → (x -ℚ y) <ℚ nil

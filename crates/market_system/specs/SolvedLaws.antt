@@ -16,11 +16,12 @@ use Rattle.market_model.specs.declared.limits.Row.{Row}
 use Rattle.market_model.specs.LimitRows.{rows, limit, flow}
 use Rattle.market_model.specs.Lines.{HasHardLimits}
 use Rattle.market_model.specs.Market.{IsMarket}
-use Rattle.market_model.specs.Optimality.{Within, FeasibleFor, Feasible, BlockSupported, RowSupported, Supports, ProperDuals, block_value, unit_price, welfare_for}
+use Rattle.market_model.specs.Optimality.{FeasibleFor, Feasible, BlockSupported, RowSupported, Supports, ProperDuals, block_value, unit_price, welfare_for}
 use Rattle.market_model.specs.RightAnswers.{IsRight, answer_of}
 use Rattle.market_system.specs.Growth.{Broken, BestFor, Growth}
 use Rattle.market_system.specs.MarketNumbers.{IsFarkasOf}
 use Rattle.market_system.specs.MarketSystem.{system_of, choice_dispatch, duals_by_cost, choice_duals}
+use Rattle.market_model.specs.Overrun.{Within}
 
 -- rows of the market, no two of them one
 pub record AreRows (m : Parts) (g : List Row) : Type 0 where
