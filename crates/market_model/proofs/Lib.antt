@@ -20,6 +20,7 @@ mod RightsCases
 mod RightsLaw
 pub mod RowLaws
 pub mod Rows
+pub mod SoftCases
 pub mod StopLemmas
 pub mod SumParts
 pub mod SumSteps
