@@ -238,37 +238,38 @@ module _ (m : Parts) (apart : RowsApart m) (g : List Row) where
         (flow-by_blocks m market x r) refl
 
     -- a feasible dispatch is within the bounds
-    pub point_within : (x : Dispatch) → FeasibleFor m g x → InBounds s (point_of x)
-    point_within x f = record { low = by_variable m over (λ w. s.low w ≤ℚ point_of x w) low_of; high = by_variable m over (λ w. point_of x w ≤ℚ s.high w) high_of }
-      where
-        at_balance : point_of x (balance_name m) ≡ residual_demand m
-        at_balance = point-balance x ∙ ap (λ t. t +ℚ residual_demand m) f.balanced ∙ by_ring ring_ℚ (residual_demand m ∷ []) (pnil ⊕ at 0) (at 0) refl
+    module _ (x : Dispatch) (f : FeasibleFor m g x) where
+      point_balanced : point_of x (balance_name m) ≡ residual_demand m
+      point_balanced = point-balance x ∙ ap (λ t. t +ℚ residual_demand m) f.balanced ∙ by_ring ring_ℚ (residual_demand m ∷ []) (pnil ⊕ at 0) (at 0) refl
 
-        flow_within : (r : Row) → Contains over r → Within (most_flow m r) (flow m x r)
-        flow_within r c = f.limits r (in_order-from m g r c).1
+      flow_kept : (r : Row) → Contains over r → Within (most_flow m r) (flow m x r)
+      flow_kept r c = f.limits r (in_order-from m g r c).1
 
-        within : (r : Row) → Contains over r → Within (limit m r) (brought x r)
-        within r c = kept_within m market r (flow m x r) (flow_within r c)
+      point_kept : (r : Row) → Contains over r → Within (limit m r) (brought x r)
+      point_kept r c = kept_within m market r (flow m x r) (flow_kept r c)
 
-        low_of : (v : Variable) → IsVariableOf m over v → s.low (name m v) ≤ℚ point_of x (name m v)
-        low_of (Block j) h = subst₂ ◌≤ℚ◌ (sym (low-block j h)) (sym (point-block x j h)) (f.blocks.above j h)
-        low_of Balance h = ≤ℚ_of_same (s.low (balance_name m)) (point_of x (balance_name m)) (low-balance ∙ sym at_balance)
-        low_of (Limit r) c = subst₂ ◌≤ℚ◌ (sym (low-row r c)) (sym (point-row x r c))
-            (by_le1 (limit m r ∷ brought x r ∷ flow m (empty m) r ∷ []) (pneg (at 0) ⊕ pneg (at 2)) (at 1 ⊕ pneg (at 2)) pone (pneg (at 0)) (at 1) NonNeg-one (within r c).above refl)
-        low_of (Over r) (c, e) = subst₂ ◌≤ℚ◌ (sym (low-over r c e)) (sym (point-over x r c e)) (part_least (flow m x r -ℚ limit m r)).0
-        low_of (Under r) (c, e) = subst₂ ◌≤ℚ◌ (sym (low-under r c e)) (sym (point-under x r c e)) (part_least (neg_ℚ (flow m x r) -ℚ limit m r)).0
+      point_low : (v : Variable) → IsVariableOf m over v → s.low (name m v) ≤ℚ point_of x (name m v)
+      point_low (Block j) h = subst₂ ◌≤ℚ◌ (sym (low-block j h)) (sym (point-block x j h)) (f.blocks.above j h)
+      point_low Balance h = ≤ℚ_of_same (s.low (balance_name m)) (point_of x (balance_name m)) (low-balance ∙ sym point_balanced)
+      point_low (Limit r) c = subst₂ ◌≤ℚ◌ (sym (low-row r c)) (sym (point-row x r c))
+          (by_le1 (limit m r ∷ brought x r ∷ flow m (empty m) r ∷ []) (pneg (at 0) ⊕ pneg (at 2)) (at 1 ⊕ pneg (at 2)) pone (pneg (at 0)) (at 1) NonNeg-one (point_kept r c).above refl)
+      point_low (Over r) (c, e) = subst₂ ◌≤ℚ◌ (sym (low-over r c e)) (sym (point-over x r c e)) (part_least (flow m x r -ℚ limit m r)).0
+      point_low (Under r) (c, e) = subst₂ ◌≤ℚ◌ (sym (low-under r c e)) (sym (point-under x r c e)) (part_least (neg_ℚ (flow m x r) -ℚ limit m r)).0
 
-        high_of : (v : Variable) → IsVariableOf m over v → point_of x (name m v) ≤ℚ s.high (name m v)
-        high_of (Block j) h = subst₂ ◌≤ℚ◌ (sym (point-block x j h)) (sym (high-block j h)) (f.blocks.within j h)
-        high_of Balance h = ≤ℚ_of_same (point_of x (balance_name m)) (s.high (balance_name m)) (at_balance ∙ sym high-balance)
-        high_of (Limit r) c = subst₂ ◌≤ℚ◌ (sym (point-row x r c)) (sym (high-row r c))
-            (by_le1 (limit m r ∷ brought x r ∷ flow m (empty m) r ∷ []) (at 1 ⊕ pneg (at 2)) (at 0 ⊕ pneg (at 2)) pone (at 1) (at 0) NonNeg-one (within r c).below refl)
-        high_of (Over r) (c, e) = subst₂ ◌≤ℚ◌ (sym (point-over x r c e)) (sym (high-over r c e))
-            (part_most (flow m x r -ℚ limit m r) (most_excess m r) (most_excess_least m market r)
-            (by_le1 (limit m r ∷ most_excess m r ∷ flow m x r ∷ []) (at 2 ⊕ pneg (at 0)) (at 1) pone (at 2) (at 0 ⊕ at 1) NonNeg-one (flow_within r c).below refl))
-        high_of (Under r) (c, e) = subst₂ ◌≤ℚ◌ (sym (point-under x r c e)) (sym (high-under r c e))
-            (part_most (neg_ℚ (flow m x r) -ℚ limit m r) (most_excess m r) (most_excess_least m market r)
-            (by_le1 (limit m r ∷ most_excess m r ∷ flow m x r ∷ []) (pneg (at 2) ⊕ pneg (at 0)) (at 1) pone (pneg (at 0 ⊕ at 1)) (at 2) NonNeg-one (flow_within r c).above refl))
+      point_high : (v : Variable) → IsVariableOf m over v → point_of x (name m v) ≤ℚ s.high (name m v)
+      point_high (Block j) h = subst₂ ◌≤ℚ◌ (sym (point-block x j h)) (sym (high-block j h)) (f.blocks.within j h)
+      point_high Balance h = ≤ℚ_of_same (point_of x (balance_name m)) (s.high (balance_name m)) (point_balanced ∙ sym high-balance)
+      point_high (Limit r) c = subst₂ ◌≤ℚ◌ (sym (point-row x r c)) (sym (high-row r c))
+          (by_le1 (limit m r ∷ brought x r ∷ flow m (empty m) r ∷ []) (at 1 ⊕ pneg (at 2)) (at 0 ⊕ pneg (at 2)) pone (at 1) (at 0) NonNeg-one (point_kept r c).below refl)
+      point_high (Over r) (c, e) = subst₂ ◌≤ℚ◌ (sym (point-over x r c e)) (sym (high-over r c e))
+          (part_most (flow m x r -ℚ limit m r) (most_excess m r) (most_excess_least m market r)
+          (by_le1 (limit m r ∷ most_excess m r ∷ flow m x r ∷ []) (at 2 ⊕ pneg (at 0)) (at 1) pone (at 2) (at 0 ⊕ at 1) NonNeg-one (flow_kept r c).below refl))
+      point_high (Under r) (c, e) = subst₂ ◌≤ℚ◌ (sym (point-under x r c e)) (sym (high-under r c e))
+          (part_most (neg_ℚ (flow m x r) -ℚ limit m r) (most_excess m r) (most_excess_least m market r)
+          (by_le1 (limit m r ∷ most_excess m r ∷ flow m x r ∷ []) (pneg (at 2) ⊕ pneg (at 0)) (at 1) pone (pneg (at 0 ⊕ at 1)) (at 2) NonNeg-one (flow_kept r c).above refl))
+
+      pub point_within : InBounds s (point_of x)
+      point_within = record { low = by_variable m over (λ w. s.low w ≤ℚ point_of x w) point_low; high = by_variable m over (λ w. point_of x w ≤ℚ s.high w) point_high }
 
     -- and its objective is its welfare
     pub point_welfare : AreRows m g → (x : Dispatch) → objective s (point_of x) ≡ welfare_for m g x

@@ -29,7 +29,7 @@ use Rattle.market_system.specs.declared.variables.Variable.TheVariants.{Balance,
 use Rattle.market_system.specs.Growth.{BestFor}
 use Rattle.market_system.specs.MarketSystem.{balance_name, row_name, over_name, under_name, at_row, is_in, in_order, block_sign, block_coefficient, system_of, choice_dispatch, duals_by_cost, choice_duals}
 use Rattle.market_system.specs.SolvedLaws.{AreRows, SupportsFor, state_at}
-use Rattle.market_system.proofs.RowOrder.{same_row-itself, same_row-not, is_in-in, is_in-from, in_order-in, in_order-filter, in_order-ordered, ordered-distinct}
+use Rattle.market_system.proofs.RowOrder.{RowsApart, AreOrdered, same_row-itself, same_row-not, is_in-in, is_in-from, in_order-in, in_order-filter, in_order-ordered, ordered-distinct}
 use Rattle.market_system.proofs.DualLists.{NamesApart, rows_apart, up_by, down_by, up_sign, down_sign, up_most, down_most, up_is, down_is, up-made, down-made, net_price-made, proper-made}
 use Rattle.market_system.proofs.MarketPoints.{is_system_of, both_parts, coefficient-balance, coefficient-row, price-block, low-block, high-block, low-row, high-row, over_variable, under_variable, over_column, under_column, price-over, price-under, low-over, low-under, high-over, high-under, block_in, row_in, point_of, point_meets, point_within, point_welfare, dispatch_at-accepted, dispatch_welfare, dispatch_flow, dispatch_feasible, added_within, over_between, under_between}
 use Rattle.market_system.proofs.RowSums.{sum_by-alone}
@@ -115,6 +115,12 @@ module _ (m : Parts) (names : NamesApart m) (cost_of : ℕ → Fraction) (g : Li
 
 -- ---- the system's rows by what they are of
 module _ (m : Parts) (names : NamesApart m) (g : List Row) where
+  abbrev apart : RowsApart m
+  apart = rows_apart m names
+
+  abbrev ordered : AreOrdered m (in_order m g)
+  ordered = in_order-ordered m apart g
+
   abbrev s : System
   s = system_of m g
 
@@ -123,9 +129,9 @@ module _ (m : Parts) (names : NamesApart m) (g : List Row) where
       ≡ c (balance_name m) *ℚ block_sign m j +ℚ sum_by (λ r. c (row_name m r) *ℚ block_coefficient m r j) (in_order m g)
   rows-at c j lt = sum-rows m (in_order m g) (λ r. c r *ℚ s.coefficient r j)
       ∙ ap₂ ◌+ℚ◌
-      (ap (λ t. c (balance_name m) *ℚ t) (coefficient-balance m (rows_apart m names) g j lt))
+      (ap (λ t. c (balance_name m) *ℚ t) (coefficient-balance m apart g j lt))
       (sum_by-members (λ r. c (row_name m r) *ℚ s.coefficient (row_name m r) j) (λ r. c (row_name m r) *ℚ block_coefficient m r j) (in_order m g)
-      (λ r k. ap (λ t. c (row_name m r) *ℚ t) (coefficient-row m (rows_apart m names) g r k j lt)))
+      (λ r k. ap (λ t. c (row_name m r) *ℚ t) (coefficient-row m apart g r k j lt)))
 
   -- and at the columns of a soft row: of its own alone
   own_row : (c : ℕ → Fraction) (r : Row) → Contains (in_order m g) r → (x : Fraction) (w : ℕ) → s.coefficient (balance_name m) w ≡ nil
@@ -133,7 +139,7 @@ module _ (m : Parts) (names : NamesApart m) (g : List Row) where
   own_row c r k x w balanced at_rows = sum-rows m (in_order m g) (λ t. c t *ℚ s.coefficient t w)
       ∙ ap₂ ◌+ℚ◌
       (ap (λ t. c (balance_name m) *ℚ t) balanced)
-      (sum_by-alone (λ q. c (row_name m q) *ℚ s.coefficient (row_name m q) w) r (in_order m g) (ordered-distinct m (in_order m g) (in_order-ordered m (rows_apart m names) g)) k
+      (sum_by-alone (λ q. c (row_name m q) *ℚ s.coefficient (row_name m q) w) r (in_order m g) (ordered-distinct m (in_order m g) ordered) k
       (λ q l n. ap (λ t. c (row_name m q) *ℚ t) (at_rows q l ∙ ap (λ (b : Bool). if b then x else nil) (same_row-not q r n)) ∙ by_ring ring_ℚ (c (row_name m q) ∷ []) (at 0 ⊗ pnil) pnil refl)
       ∙ ap (λ t. c (row_name m r) *ℚ t) (at_rows r k ∙ ap (λ (b : Bool). if b then x else nil) (same_row-itself r)))
       ∙ by_ring ring_ℚ (c (balance_name m) ∷ c (row_name m r) ∷ x ∷ []) (at 0 ⊗ pnil ⊕ at 1 ⊗ at 2) (at 1 ⊗ at 2) refl
@@ -141,11 +147,11 @@ module _ (m : Parts) (names : NamesApart m) (g : List Row) where
   module _ (c : ℕ → Fraction) (r : Row) (k : Contains (in_order m g) r) (e : is_soft m r ≡ true) where
     pub rows-over : sum_by (λ t. c t *ℚ s.coefficient t (over_name m r)) s.rows ≡ c (row_name m r) *ℚ neg_ℚ (whole (pos 1))
     rows-over = own_row c r k (neg_ℚ (whole (pos 1))) (over_name m r)
-        (coefficient-at m (in_order m g) (in_order-ordered m (rows_apart m names) g) Balance (Over r) tt (k, e)) (λ q l. coefficient-at m (in_order m g) (in_order-ordered m (rows_apart m names) g) (Limit q) (Over r) l (k, e))
+        (coefficient-at m (in_order m g) ordered Balance (Over r) tt (k, e)) (λ q l. coefficient-at m (in_order m g) ordered (Limit q) (Over r) l (k, e))
 
     pub rows-under : sum_by (λ t. c t *ℚ s.coefficient t (under_name m r)) s.rows ≡ c (row_name m r) *ℚ whole (pos 1)
     rows-under = own_row c r k (whole (pos 1)) (under_name m r)
-        (coefficient-at m (in_order m g) (in_order-ordered m (rows_apart m names) g) Balance (Under r) tt (k, e)) (λ q l. coefficient-at m (in_order m g) (in_order-ordered m (rows_apart m names) g) (Limit q) (Under r) l (k, e))
+        (coefficient-at m (in_order m g) ordered Balance (Under r) tt (k, e)) (λ q l. coefficient-at m (in_order m g) ordered (Limit q) (Under r) l (k, e))
 
   module _ (h : Choice) (choice : IsChoice (system_of m g) h) where
     abbrev duals : Duals Fraction
@@ -153,8 +159,8 @@ module _ (m : Parts) (names : NamesApart m) (g : List Row) where
 
     priced : (j : ℕ) → j < length m.blocks → block_value m j ≡ reduced s h j +ℚ sum_by (λ r. reduced s h r *ℚ s.coefficient r j) s.rows
     priced j lt =
-        sym (price-block m (rows_apart m names) g j lt)
-        ∙ price_by_rows s (is_system_of m (rows_apart m names) g) (both_parts m (rows_apart m names) g) h choice j (column_in m (in_order m g) j lt)
+        sym (price-block m apart g j lt)
+        ∙ price_by_rows s (is_system_of m apart g) (both_parts m apart g) h choice j (column_in m (in_order m g) j lt)
 
     -- a block's reduced price is its value less what it raises at its unit's price
     pub reduced-block : (j : ℕ) → j < length m.blocks → reduced s h j ≡ block_value m j +ℚ signed_by_side (block_at m j).side (unit_price m duals (block_at m j).unit)
@@ -169,15 +175,15 @@ module _ (m : Parts) (names : NamesApart m) (g : List Row) where
       reduced-over : reduced s h (over_name m r) ≡ reduced s h (row_name m r) -ℚ penalty m r
       reduced-over =
           by_ring1 ring_ℚ (reduced s h (over_name m r) ∷ reduced s h (row_name m r) ∷ penalty m r ∷ []) (at 0) (at 1 ⊕ pneg (at 2)) (pneg pone) (pneg (at 2)) (at 0 ⊕ at 1 ⊗ pneg pone)
-          (sym (price-over m (rows_apart m names) g r k e)
-          ∙ price_by_rows s (is_system_of m (rows_apart m names) g) (both_parts m (rows_apart m names) g) h choice (over_name m r) (over_column m (rows_apart m names) g r k e)
+          (sym (price-over m apart g r k e)
+          ∙ price_by_rows s (is_system_of m apart g) (both_parts m apart g) h choice (over_name m r) (over_column m apart g r k e)
           ∙ ap (λ t. reduced s h (over_name m r) +ℚ t) (rows-over (reduced s h) r k e)) refl
 
       reduced-under : reduced s h (under_name m r) ≡ neg_ℚ (reduced s h (row_name m r)) -ℚ penalty m r
       reduced-under =
           by_ring1 ring_ℚ (reduced s h (under_name m r) ∷ reduced s h (row_name m r) ∷ penalty m r ∷ []) (at 0) (pneg (at 1) ⊕ pneg (at 2)) (pneg pone) (pneg (at 2)) (at 0 ⊕ at 1 ⊗ pone)
-          (sym (price-under m (rows_apart m names) g r k e)
-          ∙ price_by_rows s (is_system_of m (rows_apart m names) g) (both_parts m (rows_apart m names) g) h choice (under_name m r) (under_column m (rows_apart m names) g r k e)
+          (sym (price-under m apart g r k e)
+          ∙ price_by_rows s (is_system_of m apart g) (both_parts m apart g) h choice (under_name m r) (under_column m apart g r k e)
           ∙ ap (λ t. reduced s h (under_name m r) +ℚ t) (rows-under (reduced s h) r k e)) refl
 
     -- ---- a solved choice
@@ -188,11 +194,11 @@ module _ (m : Parts) (names : NamesApart m) (g : List Row) where
       -- the dispatch is best for the list
       pub solved_best : BestFor m g dispatch
       solved_best = record {
-        feasible = dispatch_feasible m (rows_apart m names) g market (value s h) solved.best.meets are.rows solved.best.within;
+        feasible = dispatch_feasible m apart g market (value s h) solved.best.meets are.rows solved.best.within;
         best = λ y f. ≤ℚ_trans (welfare_for m g y) (objective s (value s h)) (welfare_for m g dispatch)
-            (subst (λ t. t ≤ℚ objective s (value s h)) (point_welfare m (rows_apart m names) g market are y)
-            (solved.best.best (point_of m (rows_apart m names) g market y) (point_meets m (rows_apart m names) g market y) (point_within m (rows_apart m names) g market y f)))
-            (dispatch_welfare m (rows_apart m names) g market (value s h) solved.best.meets are solved.best.within);
+            (subst (λ t. t ≤ℚ objective s (value s h)) (point_welfare m apart g market are y)
+            (solved.best.best (point_of m apart g market y) (point_meets m apart g market y) (point_within m apart g market y f)))
+            (dispatch_welfare m apart g market (value s h) solved.best.meets are solved.best.within);
       }
 
       -- a variable whose reduced price is above 0 stands at its high bound, and one below 0 at its low bound
@@ -218,14 +224,14 @@ module _ (m : Parts) (names : NamesApart m) (g : List Row) where
       loss_sign Buy p b r e l = not-≤ℚ nil r (λ n. <ℚ-not-≤ℚ p b l (by_le1 (p ∷ b ∷ []) (at 1) (at 0) pone pnil (pneg (pneg (at 0)) ⊕ pneg (at 1)) NonNeg-one (subst (λ t. nil ≤ℚ t) e n) refl))
 
       taken : (j : ℕ) → j < length m.blocks → accepted dispatch j ≡ value s h j
-      taken j lt = dispatch_at-accepted m (rows_apart m names) g market (value s h) j lt
+      taken j lt = dispatch_at-accepted m apart g market (value s h) j lt
 
       block_supported : (j : ℕ) → j < length m.blocks → BlockSupported m dispatch duals j
       block_supported j lt = record {
-        full = λ gains. taken j lt ∙ stands_high j (block_in m (rows_apart m names) g j lt) (gain_sign (block_at m j).side (price m j) (unit_price m duals (block_at m j).unit) (reduced s h j) (reduced-block j lt) gains)
-            ∙ high-block m (rows_apart m names) g j lt;
-        empty = λ loses. taken j lt ∙ stands_low j (block_in m (rows_apart m names) g j lt) (loss_sign (block_at m j).side (price m j) (unit_price m duals (block_at m j).unit) (reduced s h j) (reduced-block j lt) loses)
-            ∙ low-block m (rows_apart m names) g j lt;
+        full = λ gains. taken j lt ∙ stands_high j (block_in m apart g j lt) (gain_sign (block_at m j).side (price m j) (unit_price m duals (block_at m j).unit) (reduced s h j) (reduced-block j lt) gains)
+            ∙ high-block m apart g j lt;
+        empty = λ loses. taken j lt ∙ stands_low j (block_in m apart g j lt) (loss_sign (block_at m j).side (price m j) (unit_price m duals (block_at m j).unit) (reduced s h j) (reduced-block j lt) loses)
+            ∙ low-block m apart g j lt;
       }
 
       abbrev costs : Row → Fraction
@@ -244,46 +250,46 @@ module _ (m : Parts) (names : NamesApart m) (g : List Row) where
 
         within : Within (limit m r) added
         unfolding added
-        within = added_within m (rows_apart m names) g market (value s h) solved.best.meets solved.best.within r k
+        within = added_within m apart g market (value s h) solved.best.meets solved.best.within r k
 
         flows : flow m dispatch r ≡ added +ℚ (over -ℚ under)
         unfolding added
-        flows = dispatch_flow m (rows_apart m names) g market (value s h) solved.best.meets r k
+        flows = dispatch_flow m apart g market (value s h) solved.best.meets r k
 
         -- what the blocks add goes to the limit on the side that a MW costs
         upper : nil <ℚ costs r → added ≡ limit m r
         unfolding added
         upper l =
-            ap (λ t. flow m (empty m) r +ℚ t) (stands_high (row_name m r) (row_in m (rows_apart m names) g r k) l ∙ high-row m (rows_apart m names) g r k)
+            ap (λ t. flow m (empty m) r +ℚ t) (stands_high (row_name m r) (row_in m apart g r k) l ∙ high-row m apart g r k)
             ∙ by_ring ring_ℚ (flow m (empty m) r ∷ limit m r ∷ []) (at 0 ⊕ (at 1 ⊕ pneg (at 0))) (at 1) refl
 
         lower : nil <ℚ neg_ℚ (costs r) → neg_ℚ added ≡ limit m r
         unfolding added
         lower l =
-            ap (λ t. neg_ℚ (flow m (empty m) r +ℚ t)) (stands_low (row_name m r) (row_in m (rows_apart m names) g r k) (opposite_above (costs r) l) ∙ low-row m (rows_apart m names) g r k)
+            ap (λ t. neg_ℚ (flow m (empty m) r +ℚ t)) (stands_low (row_name m r) (row_in m apart g r k) (opposite_above (costs r) l) ∙ low-row m apart g r k)
             ∙ by_ring ring_ℚ (flow m (empty m) r ∷ limit m r ∷ []) (pneg (at 0 ⊕ (pneg (at 1) ⊕ pneg (at 0)))) (at 1) refl
 
         -- a column of it stands at 0 where that is below the penalty, and at the most where it is above
         no_over : costs r <ℚ penalty m r → over ≡ nil
-        no_over l = kept_nil (is_soft m r) (λ e. stands_low (over_name m r) (over_variable m (rows_apart m names) g r k e)
-            (subst (λ t. t <ℚ nil) (sym (reduced-over r k e)) (less_below (costs r) (penalty m r) l)) ∙ low-over m (rows_apart m names) g r k e)
+        no_over l = kept_nil (is_soft m r) (λ e. stands_low (over_name m r) (over_variable m apart g r k e)
+            (subst (λ t. t <ℚ nil) (sym (reduced-over r k e)) (less_below (costs r) (penalty m r) l)) ∙ low-over m apart g r k e)
 
         no_under : neg_ℚ (costs r) <ℚ penalty m r → under ≡ nil
-        no_under l = kept_nil (is_soft m r) (λ e. stands_low (under_name m r) (under_variable m (rows_apart m names) g r k e)
-            (subst (λ t. t <ℚ nil) (sym (reduced-under r k e)) (less_below (neg_ℚ (costs r)) (penalty m r) l)) ∙ low-under m (rows_apart m names) g r k e)
+        no_under l = kept_nil (is_soft m r) (λ e. stands_low (under_name m r) (under_variable m apart g r k e)
+            (subst (λ t. t <ℚ nil) (sym (reduced-under r k e)) (less_below (neg_ℚ (costs r)) (penalty m r) l)) ∙ low-under m apart g r k e)
 
         all_over : penalty m r <ℚ costs r → over ≡ most_excess m r
-        all_over l = kept_most m market r (λ e. stands_high (over_name m r) (over_variable m (rows_apart m names) g r k e)
-            (subst (λ t. nil <ℚ t) (sym (reduced-over r k e)) (less_above (costs r) (penalty m r) l)) ∙ high-over m (rows_apart m names) g r k e)
+        all_over l = kept_most m market r (λ e. stands_high (over_name m r) (over_variable m apart g r k e)
+            (subst (λ t. nil <ℚ t) (sym (reduced-over r k e)) (less_above (costs r) (penalty m r) l)) ∙ high-over m apart g r k e)
 
         all_under : penalty m r <ℚ neg_ℚ (costs r) → under ≡ most_excess m r
-        all_under l = kept_most m market r (λ e. stands_high (under_name m r) (under_variable m (rows_apart m names) g r k e)
-            (subst (λ t. nil <ℚ t) (sym (reduced-under r k e)) (less_above (neg_ℚ (costs r)) (penalty m r) l)) ∙ high-under m (rows_apart m names) g r k e)
+        all_under l = kept_most m market r (λ e. stands_high (under_name m r) (under_variable m apart g r k e)
+            (subst (λ t. nil <ℚ t) (sym (reduced-under r k e)) (less_above (neg_ℚ (costs r)) (penalty m r) l)) ∙ high-under m apart g r k e)
 
         least : (nil ≤ℚ over) × (nil ≤ℚ under)
         least = (
-          (over_between m (rows_apart m names) g market (value s h) solved.best.meets solved.best.within r k).0,
-          (under_between m (rows_apart m names) g market (value s h) solved.best.meets solved.best.within r k).0,
+          (over_between m apart g market (value s h) solved.best.meets solved.best.within r k).0,
+          (under_between m apart g market (value s h) solved.best.meets solved.best.within r k).0,
         )
 
         taken_up : SideSupported m r (up_by (sign_of (costs r)) (costs r)) (flow m dispatch r)

@@ -34,7 +34,7 @@ use Rattle.market_model.proofs.FarkasLaw.{farkas_bound-by_parts, left_of}
 use Rattle.market_system.specs.MarketSystem.{name, balance_name, row_name, over_name, under_name, is_in, in_order, residual_demand, block_sign, block_coefficient, system_of, duals_by_cost, IsVariableOf}
 use Rattle.market_model.specs.NamedSums.{SameSize}
 use Rattle.market_system.specs.MarketNumbers.{IsFarkasOf}
-use Rattle.market_system.proofs.RowOrder.{in_order-filter, is_in-in}
+use Rattle.market_system.proofs.RowOrder.{RowsApart, in_order-filter, is_in-in}
 use Rattle.market_system.proofs.DualLists.{NamesApart, rows_apart, one_is_nil, up_by, down_by, up_sign, down_sign, up_is_part, down_is_part, up-made, down-made, net_price-made, prices_only-made, proper-made}
 use Rattle.market_system.proofs.MarketPoints.{is_system_of, both_parts, low-block, high-block, low-balance, high-balance, low-row, high-row, low-over, low-under, high-over, high-under, over_column, under_column, over_variable, under_variable, block_in, balance_in, row_in}
 use Rattle.market_system.proofs.SolvedMarkets.{rows-at, rows-over, rows-under, weight-made}
@@ -99,11 +99,14 @@ module _ (m : Parts) (names : NamesApart m) (market : IsMarket m) (g : List Row)
   ordered : (w : ℕ) → Contains (system_of m g).variables w → (system_of m g).low w ≤ℚ (system_of m g).high w
   ordered = bounds_ordered m names market g
 
+  abbrev apart : RowsApart m
+  apart = rows_apart m names
+
   abbrev s : System
   s = system_of m g
 
   system : IsSystem (system_of m g)
-  system = is_system_of m (rows_apart m names) g
+  system = is_system_of m apart g
 
   -- the multipliers with the one sign
   abbrev turned : ℕ → Fraction
@@ -150,7 +153,7 @@ module _ (m : Parts) (names : NamesApart m) (market : IsMarket m) (g : List Row)
       ∙ sym (combined_turned v ∙ ap (opposite_if (not above)) (combined_vanishes s h system b stuck.basic choice v meets) ∙ signed_nil (not above))
 
   at_column : (j : ℕ) → Contains s.columns j → whole (pos 0) ≡ turned j +ℚ sum_by (λ r. turned r *ℚ s.coefficient r j) s.rows
-  at_column j c = multiplied s system (both_parts m (rows_apart m names) g) (λ w. whole (pos 0)) turned vanishes j c
+  at_column j c = multiplied s system (both_parts m apart g) (λ w. whole (pos 0)) turned vanishes j c
 
   -- a block's weight at the duals is its multiplier
   pub block_multiplier : (j : ℕ) → j < length m.blocks → block_weight m stuck_duals j ≡ turned j
@@ -164,11 +167,11 @@ module _ (m : Parts) (names : NamesApart m) (market : IsMarket m) (g : List Row)
   module _ (r : Row) (c : Contains (in_order m g) r) (e : is_soft m r ≡ true) where
     over_multiplier : turned (row_name m r) ≡ turned (over_name m r)
     over_multiplier = by_ring1 ring_ℚ (turned (row_name m r) ∷ turned (over_name m r) ∷ []) (at 0) (at 1) pone pnil (at 1 ⊕ at 0 ⊗ pneg pone)
-        (at_column (over_name m r) (over_column m (rows_apart m names) g r c e) ∙ ap (λ t. turned (over_name m r) +ℚ t) (rows-over m names g turned r c e)) refl
+        (at_column (over_name m r) (over_column m apart g r c e) ∙ ap (λ t. turned (over_name m r) +ℚ t) (rows-over m names g turned r c e)) refl
 
     under_multiplier : neg_ℚ (turned (row_name m r)) ≡ turned (under_name m r)
     under_multiplier = by_ring1 ring_ℚ (turned (row_name m r) ∷ turned (under_name m r) ∷ []) (pneg (at 0)) (at 1) pone pnil (at 1 ⊕ at 0 ⊗ pone)
-        (at_column (under_name m r) (under_column m (rows_apart m names) g r c e) ∙ ap (λ t. turned (under_name m r) +ℚ t) (rows-under m names g turned r c e)) refl
+        (at_column (under_name m r) (under_column m apart g r c e) ∙ ap (λ t. turned (under_name m r) +ℚ t) (rows-under m names g turned r c e)) refl
 
   -- ---- the bound
   column_most : (w : ℕ) → Contains s.variables w → (q : Fraction) → s.low w ≡ nil → s.high w ≡ q → part_above (turned w) *ℚ q ≡ turned w *ℚ at_corner w
@@ -182,15 +185,15 @@ module _ (m : Parts) (names : NamesApart m) (market : IsMarket m) (g : List Row)
     where
       each : (j : ℕ) → j < length m.blocks → part_above (block_weight m stuck_duals j) *ℚ quantity m j ≡ turned j *ℚ at_corner j
       each j lt = ap (λ k. part_above k *ℚ quantity m j) (block_multiplier j lt)
-          ∙ column_most j (block_in m (rows_apart m names) g j lt) (quantity m j) (low-block m (rows_apart m names) g j lt) (high-block m (rows_apart m names) g j lt)
+          ∙ column_most j (block_in m apart g j lt) (quantity m j) (low-block m apart g j lt) (high-block m apart g j lt)
 
   balance_most : neg_ℚ (turned (balance_name m)) *ℚ balance m (empty m) ≡ turned (balance_name m) *ℚ at_corner (balance_name m)
   balance_most =
       by_ring ring_ℚ (turned (balance_name m) ∷ balance m (empty m) ∷ []) (pneg (at 0) ⊗ at 1) (at 0 ⊗ pneg (at 1)) refl
       ∙ ap (λ t. turned (balance_name m) *ℚ t)
       (≤ℚ_antisym (residual_demand m) (at_corner (balance_name m))
-      (subst (λ t. t ≤ℚ at_corner (balance_name m)) (low-balance m (rows_apart m names) g) (within.low (balance_name m) (balance_in m (rows_apart m names) g)))
-      (subst (λ t. at_corner (balance_name m) ≤ℚ t) (high-balance m (rows_apart m names) g) (within.high (balance_name m) (balance_in m (rows_apart m names) g))))
+      (subst (λ t. t ≤ℚ at_corner (balance_name m)) (low-balance m apart g) (within.low (balance_name m) (balance_in m apart g)))
+      (subst (λ t. at_corner (balance_name m) ≤ℚ t) (high-balance m apart g) (within.high (balance_name m) (balance_in m apart g))))
 
   abbrev up : Row → Fraction
   up r = up_by (sign_of (turned (row_name m r))) (turned (row_name m r))
@@ -224,9 +227,9 @@ module _ (m : Parts) (names : NamesApart m) (market : IsMarket m) (g : List Row)
       by : (b : Bool) → is_soft m r ≡ b → up r *ℚ most_excess m r +ℚ down r *ℚ most_excess m r ≡ kept b (column_part r)
       by true e = ap₂ ◌+ℚ◌
           (ap (λ t. t *ℚ most_excess m r) (up_is_part (turned (row_name m r)) ∙ ap part_above (over_multiplier r c e))
-          ∙ column_most (over_name m r) (over_variable m (rows_apart m names) g r c e) (most_excess m r) (low-over m (rows_apart m names) g r c e) (high-over m (rows_apart m names) g r c e))
+          ∙ column_most (over_name m r) (over_variable m apart g r c e) (most_excess m r) (low-over m apart g r c e) (high-over m apart g r c e))
           (ap (λ t. t *ℚ most_excess m r) (down_is_part (turned (row_name m r)) ∙ ap part_above (under_multiplier r c e))
-          ∙ column_most (under_name m r) (under_variable m (rows_apart m names) g r c e) (most_excess m r) (low-under m (rows_apart m names) g r c e) (high-under m (rows_apart m names) g r c e))
+          ∙ column_most (under_name m r) (under_variable m apart g r c e) (most_excess m r) (low-under m apart g r c e) (high-under m apart g r c e))
       by false e = ap (λ t. up r *ℚ t +ℚ down r *ℚ t) (hard_stands m market r e) ∙ by_ring ring_ℚ (up r ∷ down r ∷ []) (at 0 ⊗ pnil ⊕ at 1 ⊗ pnil) pnil refl
 
   rows_most : sum_by (left_of m stuck_duals (empty m)) (rows m) ≡ sum_by (λ r. turned (row_name m r) *ℚ at_corner (row_name m r)) (in_order m g) +ℚ sum_by column_part (soft m (in_order m g))
@@ -241,9 +244,9 @@ module _ (m : Parts) (names : NamesApart m) (market : IsMarket m) (g : List Row)
     where
       each : (r : Row) → Contains (in_order m g) r → left_here r ≡ turned (row_name m r) *ℚ at_corner (row_name m r) +ℚ kept (is_soft m r) (column_part r)
       each r c =
-          let named = row_in m (rows_apart m names) g r c in
-          let low = low-row m (rows_apart m names) g r c in
-          let high = high-row m (rows_apart m names) g r c in
+          let named = row_in m apart g r c in
+          let low = low-row m apart g r c in
+          let high = high-row m apart g r c in
           by_ring ring_ℚ (up r ∷ down r ∷ limit m r ∷ most_excess m r ∷ flow m (empty m) r ∷ []) (at 0 ⊗ ((at 2 ⊕ at 3) ⊕ pneg (at 4)) ⊕ (at 1 ⊗ ((at 2 ⊕ at 3) ⊕ at 4) ⊕ pnil))
           ((at 0 ⊗ (at 2 ⊕ pneg (at 4)) ⊕ (at 1 ⊗ (at 2 ⊕ at 4) ⊕ pnil)) ⊕ (at 0 ⊗ at 3 ⊕ at 1 ⊗ at 3)) refl
           ∙ ap₂ ◌+ℚ◌
@@ -255,7 +258,7 @@ module _ (m : Parts) (names : NamesApart m) (market : IsMarket m) (g : List Row)
 
   all_parts : (f : ℕ → Fraction) → sum_by f s.variables
       ≡ (sum_by f (places (length m.blocks)) +ℚ sum_by (λ r. f (over_name m r) +ℚ f (under_name m r)) (soft m (in_order m g))) +ℚ (f (balance_name m) +ℚ sum_by (λ r. f (row_name m r)) (in_order m g))
-  all_parts f = both_parts m (rows_apart m names) g f ∙ ap₂ ◌+ℚ◌ (sum-columns m (in_order m g) f) (sum-rows m (in_order m g) f)
+  all_parts f = both_parts m apart g f ∙ ap₂ ◌+ℚ◌ (sum-columns m (in_order m g) f) (sum-rows m (in_order m g) f)
 
   -- the bound of the duals is what the variable leaves of the bound that it violates
   pub stuck_bound : farkas_bound m stuck_duals ≡ margin s h b above
