@@ -16,7 +16,7 @@ use Rattle.linear_dict.specs.Notes.{Noted, blank, noted}
 use Rattle.linear_dict.specs.Places.{StandsAt, place_in}
 use Rattle.linear_dict.specs.Tables.{widened}
 use Rattle.linear_dict.proofs.AddRowLemmas.{insert_read, insert_read_new}
-use Rattle.linear_dict.proofs.ColumnLemmas.{IsWider, wider_dictionary}
+use Rattle.linear_dict.proofs.ColumnLemmas.{IsWider, rows_after, rows_before, wider_dictionary}
 use Rattle.linear_dict.proofs.GrowLemmas.{index_added}
 use Rattle.linear_dict.proofs.IndexLemmas.{added_map}
 
@@ -100,5 +100,6 @@ module _ {N : Type 0} (value : N → Fraction) (columns rows : List ℕ) (coeffi
     names = (a.rank, within, names_are);
     notes = λ w m. read_note w ∙ insert_read (map name_of vs) (map note_in vs) a.rank v.name blank w rises within note_size m;
     blank_note = read_note v.name ∙ insert_read_new (map name_of vs) (map note_in vs) a.rank v.name blank rises within note_size;
+    same_solutions = λ x. (rows_before old new v.name h absent wider x, rows_after old new v.name h absent wider x);
     sound = wider_dictionary old new v.name h absent wider live a.ascending (length-map us (λ (x : Variable N). noted value x.note) ∙ sym (length-map us (name_of {N = N})));
   }

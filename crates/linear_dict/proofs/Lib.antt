@@ -2,6 +2,7 @@ pub mod AddColumnLemmas
 pub mod AddRowLemmas
 pub mod AddingLemmas
 pub mod CauseLemmas
+pub mod ColumnLaws
 pub mod ColumnLemmas
 pub mod ExchangeLemmas
 pub mod GrowLemmas
