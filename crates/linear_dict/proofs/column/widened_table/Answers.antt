@@ -1,4 +1,4 @@
-use Rattle.std.proofs.Common.{◌≡◌, ◌+◌, ◌*◌, ◌≤◌, ℕ, List, suc, arith, map, length, subst, sym}
+use Rattle.std.proofs.Common.{◌≡◌, ◌+◌, ◌*◌, ◌≤◌, ℕ, List, suc, arith, map, subst, sym}
 use Rattle.std.proofs.Math.Nat.{mul-le-mul_right}
 use Rattle.linear_dict.specs.Tables.{Shows, cell, widened, widened_cell}
 use Rattle.linear_dict.proofs.ColumnLemmas.{shows_none}

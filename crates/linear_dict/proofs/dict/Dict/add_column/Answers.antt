@@ -1,4 +1,4 @@
-use Rattle.std.proofs.Common.{◌≡◌, ◌∙◌, ◌++◌, ◌∷◌, [], ℕ, List, arith, ap, sym, subst, length, refl, map}
+use Rattle.std.proofs.Common.{◌≡◌, ◌∙◌, ◌++◌, ◌∷◌, [], ℕ, List, arith, ap, subst, length, map}
 use mathlib.Core.Path.{ap₂}
 use Rattle.std.specs.List.{Contains}
 use Rattle.linear_dict.specs.Dictionaries.{AddsColumn, Dictionary, seen}
