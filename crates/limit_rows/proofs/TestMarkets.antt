@@ -7,6 +7,7 @@ use Rattle.std.proofs.lemmas.List.Kept.{AllPairs-cons}
 use Rattle.market_data.specs.Participants.{IsBus}
 use Rattle.market_data.specs.declared.participants.Bus.{Bus}
 use Rattle.market_model.specs.declared.participants.Factor.{Factor}
+use Rattle.market_model.proofs.HardLimits.{no_cost}
 use Rattle.market_model.specs.declared.participants.Line.{Line}
 use Rattle.market_model.specs.declared.participants.Parts.{Parts}
 use Rattle.market_model.specs.Market.{bare_parts, IsMarket, IsLine, IsTableFactor, AreTableFactors}
@@ -86,9 +87,9 @@ is_market third outages limit few rows apart = record {
   unit_rows = λ i j d p q. absurd (Prim.omega (arith, q));
   blocks = λ i d lt. absurd (Prim.omega (arith, lt));
   room = λ place d lt. absurd (Prim.omega (arith, lt));
-  lines = All-cons IsLine (line_of 1 None None) (line_of 2 (Some (pos 40)) (Some (pos 45)) ∷ line_of 3 None third ∷ []) (record { row = Prim.omega arith; base = tt; post = tt; offset = Prim.omega (arith, ints) })
-      (All-cons IsLine (line_of 2 (Some (pos 40)) (Some (pos 45))) (line_of 3 None third ∷ []) (record { row = Prim.omega arith; base = Prim.omega (arith, ints); post = Prim.omega (arith, ints); offset = Prim.omega (arith, ints) })
-      (All-cons IsLine (line_of 3 None third) [] (record { row = Prim.omega arith; base = tt; post = limit; offset = Prim.omega (arith, ints) }) (All-nil IsLine)));
+  lines = All-cons IsLine (line_of 1 None None) (line_of 2 (Some (pos 40)) (Some (pos 45)) ∷ line_of 3 None third ∷ []) (record { row = Prim.omega arith; base = tt; post = tt; base_penalty = no_cost; post_penalty = no_cost; offset = Prim.omega (arith, ints) })
+      (All-cons IsLine (line_of 2 (Some (pos 40)) (Some (pos 45))) (line_of 3 None third ∷ []) (record { row = Prim.omega arith; base = Prim.omega (arith, ints); post = Prim.omega (arith, ints); base_penalty = no_cost; post_penalty = no_cost; offset = Prim.omega (arith, ints) })
+      (All-cons IsLine (line_of 3 None third) [] (record { row = Prim.omega arith; base = tt; post = limit; base_penalty = no_cost; post_penalty = no_cost; offset = Prim.omega (arith, ints) }) (All-nil IsLine)));
   line_rows = numbers;
   outages = rows;
   outages_distinct = apart;

@@ -1,10 +1,8 @@
 -- By how much flows exceed limits, and what prices and penalties make of that.
-use Rattle.std.specs.Prelude.{◌≡◌, ◌⊎◌, ℕ, ◌<◌, ◌≤◌, ℤ, pos, ◌≤ℤ◌, Bool, true, false, List, [], ◌∷◌, length, slice_index_or, Option, Some, None, IfSome, refl}
+use Rattle.std.specs.Prelude.{◌≡◌, ◌⊎◌, ℤ, pos, ◌≤ℤ◌, Bool, true, false, [], ◌∷◌, Option, Some, None, IfSome, refl}
 use Rattle.std.specs.Int.{is_positive}
 use Rattle.std.proofs.Common.{arith, ap, sym, ◌∙◌, subst, subst₂, inl, inr}
-use Rattle.std.proofs.lemmas.Bool.{cases_lt}
 use Rattle.std.proofs.lemmas.Int.{ints}
-use Rattle.std.proofs.lemmas.List.{get_or_past}
 use Rattle.fraction_theory.specs.Fraction.{Fraction, whole, neg_ℚ, ◌+ℚ◌, ◌-ℚ◌, ◌*ℚ◌}
 use Rattle.fraction_theory.specs.Order.{◌≤ℚ◌, ◌<ℚ◌}
 use Rattle.fraction_theory.specs.Signs.{abs_ℚ, part_above}
@@ -13,11 +11,9 @@ use Rattle.fraction_theory.proofs.FieldLaws.{ring_ℚ, +ℚ_nil}
 use Rattle.fraction_theory.proofs.OrderLaws.{by_le1, by_le2, NonNeg-one, NonNeg_from, le_to, <ℚ-≤ℚ, ≤ℚ_refl, ≤ℚ_trans, ≤ℚ_antisym, ≤ℚ-or-<ℚ, ≤ℚ-<ℚ_trans, whole-≤ℚ}
 use Rattle.fraction_theory.proofs.SignLaws.{abs_above, abs_opposite, abs_within, part_at_least, part_at_most, part_least, part_of_abs}
 use Rattle.market_model.specs.declared.limits.Row.{Row}
-use Rattle.market_model.specs.declared.participants.Line.{Line}
 use Rattle.market_model.specs.declared.participants.Parts.{Parts}
 use Rattle.market_model.specs.Dispatch.{zero, line_at}
-use Rattle.market_model.specs.LimitRows.{excess_of, is_outage, is_soft, limit, limit_of, mw_or_zero, penalty, penalty_of}
-use Rattle.market_model.specs.Lines.{hard_line, IsPenalty}
+use Rattle.market_model.specs.LimitRows.{is_outage, is_soft, limit, limit_of, mw_or_zero, penalty}
 use Rattle.market_model.specs.Market.{IsMarket}
 use Rattle.market_model.specs.Optimality.{SideSupported, Within}
 use Rattle.market_model.specs.Overrun.{excess_by, overrun}

@@ -3,16 +3,14 @@ use Rattle.std.specs.Prelude.{◌≡◌, List, [], ◌∷◌, ◌++◌, length, 
 use Rattle.std.specs.List.{flat_map}
 use Rattle.std.proofs.Common.{ap, sym, ◌∙◌, subst, subst₂}
 use mathlib.Core.Path.{ap₂}
-use Rattle.fraction_theory.specs.Fraction.{Fraction, ◌+ℚ◌, ◌-ℚ◌, ◌*ℚ◌, neg_ℚ}
-use Rattle.fraction_theory.specs.Order.{◌≤ℚ◌, NonNeg}
-use Rattle.fraction_theory.specs.Signs.{sign_of, where_above, part_above}
+use Rattle.fraction_theory.specs.Fraction.{Fraction, ◌+ℚ◌, ◌-ℚ◌, ◌*ℚ◌}
+use Rattle.fraction_theory.specs.Order.{◌≤ℚ◌}
+use Rattle.fraction_theory.specs.Signs.{part_above}
 use Rattle.fraction_theory.specs.Sums.{Term, Product, sum_by, total}
-use Rattle.fraction_theory.specs.declared.Sign.{Sign}
-use Rattle.fraction_theory.specs.declared.Sign.TheVariants.{Below, Zero, Above}
 use Rattle.fraction_theory.proofs.Ring.{by_ring, by_ring3, at, pnil, pone, pneg, ◌⊕◌, ◌⊗◌}
 use Rattle.fraction_theory.proofs.FieldLaws.{ring_ℚ}
-use Rattle.fraction_theory.proofs.OrderLaws.{≤ℚ_refl, ≤ℚ_trans, +ℚ-≤ℚ, *ℚ-≤ℚ, *ℚ-≤ℚ_neg, <ℚ-≤ℚ, <ℚ-not-≤ℚ, ≤ℚ_of_same, NonNeg_from, le_to}
-use Rattle.fraction_theory.proofs.SignLaws.{sign_of_is}
+use Rattle.fraction_theory.proofs.OrderLaws.{by_le2, ≤ℚ_refl, ≤ℚ_trans, +ℚ-≤ℚ, <ℚ-not-≤ℚ, NonNeg_from}
+use Rattle.fraction_theory.proofs.SignLaws.{part_least}
 use Rattle.fraction_theory.proofs.SumLaws.{sum_by-≤, sum_by-same, sum_by-plus, sum_by-nil, total-append, total-Product}
 use Rattle.market_model.specs.declared.participants.Parts.{Parts}
 use Rattle.market_model.specs.declared.participants.Side.{Side}
@@ -31,17 +29,9 @@ use Rattle.market_model.proofs.RowLaws.{along, row_prices, priced-by_rows, rent_
 
 -- a block makes no more than the greater of its weight and 0 makes of all that it has
 pub weight-most : (w x q : Fraction) → zero ≤ℚ x → x ≤ℚ q → (w *ℚ x) ≤ℚ (part_above w *ℚ q)
-weight-most w x q low high = by_sign (sign_of w) refl
-  where
-    none : w ≤ℚ zero → (w *ℚ x) ≤ℚ (zero *ℚ q)
-    none below =
-        let sign : NonNeg (neg_ℚ w) = subst NonNeg (by_ring ring_ℚ (w ∷ []) (pnil ⊕ pneg (at 0)) (pneg (at 0)) refl) (le_to w zero below) in
-        subst (λ t. (w *ℚ x) ≤ℚ t) (by_ring ring_ℚ (w ∷ q ∷ []) (at 0 ⊗ pnil) (pnil ⊗ at 1) refl) (*ℚ-≤ℚ_neg w zero x sign low)
-
-    by_sign : (s : Sign) → s ≡ sign_of w → (w *ℚ x) ≤ℚ (where_above s w *ℚ q)
-    by_sign Below is = none (<ℚ-≤ℚ w zero (sign_of_is w Below is))
-    by_sign Zero is = none (≤ℚ_of_same w zero (sign_of_is w Zero is))
-    by_sign Above is = *ℚ-≤ℚ w x q (NonNeg_from w (<ℚ-≤ℚ zero w (sign_of_is w Above is))) high
+weight-most w x q low high =
+    by_le2 (w ∷ part_above w ∷ x ∷ q ∷ []) (at 0 ⊗ at 2) (at 1 ⊗ at 3) (at 1) (at 2) (at 3) (at 2) (at 0) (at 1)
+    (NonNeg_from (part_above w) (part_least w).0) high (NonNeg_from x low) (part_least w).1 refl
 
 weight_signed : (side : Side) (e x : Fraction) → signed_by_side side e *ℚ x ≡ e *ℚ signed_by_side side x
 weight_signed Sell e x = refl

@@ -16,8 +16,11 @@ pub mod PlaceSums
 pub mod PlainMarkets
 pub mod PutInSteps
 pub mod RightFits
+mod RightsCases
+mod RightsLaw
 pub mod RowLaws
 pub mod Rows
+pub mod SoftCases
 pub mod StopLemmas
 pub mod SumParts
 pub mod SumSteps

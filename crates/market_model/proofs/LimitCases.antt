@@ -55,14 +55,14 @@ abbrev pub line : ℕ → Option ℤ → Option ℤ → ℕ → Line
 line row base post offset = hard_line row base post (mw offset)
 
 -- two numbers of MW, of the two sell blocks
-abbrev sold : ℕ → ℕ → Dispatch
+abbrev pub sold : ℕ → ℕ → Dispatch
 sold x y = dispatch_by (whole (mw x) ∷ whole (mw y) ∷ [])
 
 -- the second branch in the base, and after the loss of the first
-abbrev second : Row
+abbrev pub second : Row
 second = record { line = 1; cause = Base }
 
-abbrev second_after : Row
+abbrev pub second_after : Row
 second_after = record { line = 1; cause = Branch 0 }
 
 abbrev pub up_alone : ℕ → ℕ → ℕ → Duals Fraction

@@ -1,5 +1,5 @@
 -- Limit rows: markets that have none, flows by factors, and what bus prices make of injections.
-use Rattle.std.specs.Prelude.{◌≡◌, ◌⊎◌, ℕ, ◌<◌, All, Contains, List, [], ◌∷◌, ◌++◌, length, map, filter, refl}
+use Rattle.std.specs.Prelude.{◌≡◌, ℕ, ◌<◌, All, Contains, List, [], ◌∷◌, ◌++◌, length, map, filter, refl}
 use Rattle.std.specs.List.{flat_map, AllByRecursion}
 use Rattle.std.proofs.Common.{arith, ap, sym, ◌∙◌, subst, subst₂, inl, inr}
 use mathlib.Core.Path.{ap₂}
@@ -8,7 +8,7 @@ use Rattle.fraction_theory.specs.Order.{◌≤ℚ◌, ◌<ℚ◌, NonNeg}
 use Rattle.fraction_theory.specs.Sums.{Product, sum_by, total}
 use Rattle.fraction_theory.proofs.Ring.{by_ring, by_ring1, by_ring2, at, pnil, pone, pneg, ◌⊕◌, ◌⊗◌}
 use Rattle.fraction_theory.proofs.FieldLaws.{ring_ℚ}
-use Rattle.fraction_theory.proofs.OrderLaws.{NonNeg_from, NonNeg_to, NonNeg-plus, NonNeg-times, NonNeg-nil, NonNeg-one, le_to, ≤ℚ_trans, by_le1, by_le2}
+use Rattle.fraction_theory.proofs.OrderLaws.{NonNeg_from, NonNeg_to, NonNeg-plus, NonNeg-times, NonNeg-nil, NonNeg-one, le_to, ≤ℚ_trans, opposite_most, by_le2}
 use Rattle.fraction_theory.proofs.ListSums.{Contains-head, Contains-cons, sum_by-members}
 use Rattle.fraction_theory.proofs.SumLaws.{sum_by-≤, sum_by-plus, sum_by-nil, sum_by-same, sum_by-times, sum_by-exchange, total-Product}
 use Rattle.market_model.specs.declared.participants.Parts.{Parts}
@@ -134,26 +134,34 @@ by_net_prices rs is q a p =
     ∙ by_ring ring_ℚ (q r ∷ sum_by (λ i. a r i *ℚ p i) is ∷ []) (pneg (at 0) ⊗ at 1) (pneg (at 0 ⊗ at 1)) refl)
     ∙ sum_by-neg (λ r. q r *ℚ sum_by (λ i. a r i *ℚ p i) is) rs
 
--- the rows at their net prices, on what flows beyond their offsets
-abbrev pub row_prices : Parts → Duals Fraction → Dispatch → Fraction
-row_prices m d x = sum_by (λ r. net_shadow_price m d r *ℚ (flow m x r -ℚ row_offset m r)) (rows m)
+-- the rows at their net prices, on what flows beyond their offsets where buses put in p
+abbrev pub row_prices_by : Parts → Duals Fraction → (ℕ → Fraction) → Fraction
+row_prices_by m d p = sum_by (λ r. net_shadow_price m d r *ℚ (row_flow m p r -ℚ row_offset m r)) (rows m)
 
--- injections at bus prices: the balance at the price of energy, less that of the rows
+abbrev pub row_prices : Parts → Duals Fraction → Dispatch → Fraction
+row_prices m d x = row_prices_by m d (injection m x)
+
+-- what is put in at bus prices: all of it at the price of energy, less that of the rows
+pub priced_by_rows : (m : Parts) (d : Duals Fraction) (p : ℕ → Fraction)
+    → sum_by (λ i. bus_price m d i *ℚ p i) (places (length m.buses)) ≡ d.energy *ℚ sum_by p (places (length m.buses)) -ℚ row_prices_by m d p
+unfolding price_by congestion_by
+priced_by_rows m d p =
+    let buses : List ℕ = places (length m.buses) in
+    sum_by-same (λ i. (d.energy +ℚ congestion m d i) *ℚ p i) (λ i. d.energy *ℚ p i +ℚ sum_by (λ r. neg_ℚ (net_shadow_price m d r) *ℚ row_factor m r i) (rows m) *ℚ p i) buses
+    (λ i. by_ring ring_ℚ (d.energy ∷ congestion m d i ∷ p i ∷ []) ((at 0 ⊕ at 1) ⊗ at 2) (at 0 ⊗ at 2 ⊕ at 1 ⊗ at 2) refl
+    ∙ ap (λ t. d.energy *ℚ p i +ℚ t *ℚ p i) (total-Product (λ r. neg_ℚ (net_shadow_price m d r)) (λ r. row_factor m r i) (rows m)))
+    ∙ sum_by-plus (λ i. d.energy *ℚ p i) (λ i. sum_by (λ r. neg_ℚ (net_shadow_price m d r) *ℚ row_factor m r i) (rows m) *ℚ p i) buses
+    ∙ ap₂ ◌+ℚ◌
+    (sum_by-times d.energy p buses)
+    (by_net_prices (rows m) buses (net_shadow_price m d) (row_factor m) p
+    ∙ ap neg_ℚ (sum_by-same (λ r. net_shadow_price m d r *ℚ sum_by (λ i. row_factor m r i *ℚ p i) buses) (λ r. net_shadow_price m d r *ℚ (row_flow m p r -ℚ row_offset m r)) (rows m)
+    (λ r. ap (λ t. net_shadow_price m d r *ℚ t)
+    (by_ring1 ring_ℚ (row_flow m p r ∷ row_offset m r ∷ sum_by (λ i. row_factor m r i *ℚ p i) buses ∷ []) (at 2) (at 0 ⊕ pneg (at 1)) (pneg pone) (at 0) (at 1 ⊕ at 2) (law_of_the_flows m p r) refl))))
+
+-- at a dispatch
 pub priced-by_rows : (m : Parts) (d : Duals Fraction) (x : Dispatch)
     → sum_by (λ i. bus_price m d i *ℚ injection m x i) (places (length m.buses)) ≡ d.energy *ℚ balance m x -ℚ row_prices m d x
-unfolding price_by congestion_by
-priced-by_rows m d x =
-    let buses : List ℕ = places (length m.buses) in
-    sum_by-same (λ i. (d.energy +ℚ congestion m d i) *ℚ injection m x i) (λ i. d.energy *ℚ injection m x i +ℚ sum_by (λ r. neg_ℚ (net_shadow_price m d r) *ℚ row_factor m r i) (rows m) *ℚ injection m x i) buses
-    (λ i. by_ring ring_ℚ (d.energy ∷ congestion m d i ∷ injection m x i ∷ []) ((at 0 ⊕ at 1) ⊗ at 2) (at 0 ⊗ at 2 ⊕ at 1 ⊗ at 2) refl
-    ∙ ap (λ t. d.energy *ℚ injection m x i +ℚ t *ℚ injection m x i) (total-Product (λ r. neg_ℚ (net_shadow_price m d r)) (λ r. row_factor m r i) (rows m)))
-    ∙ sum_by-plus (λ i. d.energy *ℚ injection m x i) (λ i. sum_by (λ r. neg_ℚ (net_shadow_price m d r) *ℚ row_factor m r i) (rows m) *ℚ injection m x i) buses
-    ∙ ap₂ ◌+ℚ◌
-    (sum_by-times d.energy (injection m x) buses ∙ ap (λ t. d.energy *ℚ t) (sym (balance-by_injections m x)))
-    (by_net_prices (rows m) buses (net_shadow_price m d) (row_factor m) (injection m x)
-    ∙ ap neg_ℚ (sum_by-same (λ r. net_shadow_price m d r *ℚ sum_by (λ i. row_factor m r i *ℚ injection m x i) buses) (λ r. net_shadow_price m d r *ℚ (flow m x r -ℚ row_offset m r)) (rows m)
-    (λ r. ap (λ t. net_shadow_price m d r *ℚ t)
-    (by_ring1 ring_ℚ (flow m x r ∷ row_offset m r ∷ sum_by (λ i. row_factor m r i *ℚ injection m x i) buses ∷ []) (at 2) (at 0 ⊕ pneg (at 1)) (pneg pone) (at 0) (at 1 ⊕ at 2) (law_of_the_flows m (injection m x) r) refl))))
+priced-by_rows m d x = priced_by_rows m d (injection m x) ∙ ap (λ t. d.energy *ℚ t -ℚ row_prices m d x) (sym (balance-by_injections m x))
 
 -- ---- along the rows
 pub along : {T : Type 0} (P : T → Type 0) (xs : List T) → ((x : T) → Contains xs x → P x) → AllByRecursion P xs
@@ -168,7 +176,7 @@ module _ (m : Parts) (market : IsMarket m) (r : Row) (u d f o : Fraction) (up : 
       sides_most u d (penalty m r) (limit m r) f g o (limit_least m market r)
       (side_most u f (limit m r) (most_flow m r) (penalty m r) (penalty_least m market r) up.sign up.reached up.exceeded up.used_up g w.below)
       (side_most d (neg_ℚ f) (limit m r) (most_flow m r) (penalty m r) (penalty_least m market r) down.sign down.reached down.exceeded down.used_up (neg_ℚ g)
-      (by_le1 (g ∷ most_flow m r ∷ []) (pneg (at 0)) (at 1) pone (pneg (at 1)) (at 0) NonNeg-one w.above refl))
+      (opposite_most (most_flow m r) g w.above))
 
   -- at its net price the flow is the rent
   net_price_rent : (u -ℚ d) *ℚ (f -ℚ o) ≡ u *ℚ (priced_flow m r f -ℚ o) +ℚ (d *ℚ (priced_flow m r f +ℚ o) +ℚ zero)

@@ -1,7 +1,7 @@
 -- What the definitions come to: the best dispatch, what is left after all pay, and when nothing is feasible.
 -- Wood and Wollenberg: a dispatch that balances and is priced at cost is of least cost.
 -- Schweppe and others, Spot Pricing of Electricity: loads pay what units are paid and what the limits earn.
-use Rattle.std.specs.Prelude.{◌≡◌, ◌⊎◌, ℕ, [], length, Contains}
+use Rattle.std.specs.Prelude.{◌≡◌, ◌⊎◌, ℕ, List, [], length, All, Contains}
 use Rattle.fraction_theory.specs.Fraction.{Fraction, ◌+ℚ◌, ◌*ℚ◌}
 use Rattle.fraction_theory.specs.Sums.{sum_by}
 use Rattle.fraction_theory.specs.Order.{◌≤ℚ◌, ◌<ℚ◌}
@@ -14,6 +14,7 @@ use Rattle.market_model.specs.LimitRows.{rows, limit, row_flow, row_offset, row_
 use Rattle.market_model.specs.Optimality.{Feasible, Supports, Within, up_of, down_of, welfare}
 use Rattle.market_model.specs.Settlement.{rent, surplus}
 use Rattle.market_model.specs.Infeasibility.{ShowsInfeasible}
+use Rattle.market_model.specs.Rights.{TransmissionRight, IsTransmissionRight, AreFeasibleTogether, paid_to_rights}
 
 -- a feasible dispatch that duals support has the greatest welfare of all feasible ones
 abbrev pub LawOfTheOptimum : Type 0
@@ -38,6 +39,11 @@ LawOfNoLimits = (m : Parts) (d : Duals Fraction) (x : Dispatch) → IsMarket m �
 -- the flow of a row by branch is its offset and what its factors make of the injections
 abbrev pub LawOfTheFlows : Type 0
 LawOfTheFlows = (m : Parts) (p : ℕ → Fraction) (r : Row) → row_flow m p r ≡ row_offset m r +ℚ sum_by (λ i. row_factor m r i *ℚ p i) (places (length m.buses))
+
+-- where duals support a feasible dispatch, rights that are feasible together are paid at most the surplus
+abbrev pub LawOfTheRights : Type 0
+LawOfTheRights = (m : Parts) (d : Duals Fraction) (x : Dispatch) (rights : List TransmissionRight) → IsMarket m → Feasible m x → Supports m x d
+    → All (IsTransmissionRight (length m.buses)) rights → AreFeasibleTogether m rights → paid_to_rights m d rights ≤ℚ surplus m x d
 
 -- where duals show that nothing is feasible, no dispatch is (Farkas)
 abbrev pub LawOfInfeasibility : Type 0

@@ -1,5 +1,5 @@
 //! Laws of the definitions, each the contract of a function that does nothing.
-ghost use Rattle.market_model.specs.Laws.{LawOfTheOptimum, LawOfTheSurplus, LawOfItsSign, LawOfNoLimits, LawOfTheFlows, LawOfInfeasibility};
+ghost use Rattle.market_model.specs.Laws.{LawOfTheOptimum, LawOfTheSurplus, LawOfTheRights, LawOfItsSign, LawOfNoLimits, LawOfTheFlows, LawOfInfeasibility};
 
 /// A feasible dispatch that duals support has the greatest welfare of all feasible ones.
 pub fn supported_is_best()
@@ -25,6 +25,11 @@ pub fn balance_leaves_nothing()
 /// The flow of a row by branch is the one that its own offset and factors give.
 pub fn flows_agree()
     ensures { LawOfTheFlows }
+{}
+
+/// Rights that limits could carry together are paid at most what is left.
+pub fn rights_are_covered()
+    ensures { LawOfTheRights }
 {}
 
 /// Where duals show that no dispatch is feasible, none is.

@@ -1,0 +1,45 @@
+-- Rights to what limits earn: each pays for MW rights_injection from one bus to another what these are worth more there.
+-- Hogan, Contract Networks for Electric Power Transmission (1992): rights that flows could carry together are covered by the surplus.
+use Rattle.std.specs.Prelude.{◌==◌, ℕ, ◌<◌, ℤ, pos, ◌≤ℤ◌, List, ◌++◌, map, filter}
+use Rattle.fraction_theory.specs.Fraction.{Fraction, whole, neg_ℚ, ◌-ℚ◌}
+use Rattle.fraction_theory.specs.Sums.{Term, Plain, Product, total}
+use Rattle.market_model.specs.declared.answered.Duals.{Duals}
+use Rattle.market_model.specs.declared.participants.Parts.{Parts}
+use Rattle.market_model.specs.LimitRows.{rows, limit, row_flow}
+use Rattle.market_model.specs.Optimality.{AreWithin, bus_price}
+
+-- so many 10^-9 MW from a bus to another, by place
+pub record TransmissionRight : Type 0 where
+  pub from : ℕ
+  pub to : ℕ
+  pub mw : ℤ
+
+-- between two of so many buses
+pub record IsTransmissionRight (buses : ℕ) (t : TransmissionRight) : Type 0 where
+  pub from : t.from < buses
+  pub to : t.to < buses
+  pub mw : pos 0 ≤ℤ t.mw
+
+-- what rights put in at a bus: the MW of those that begin there, less the MW of those that end there
+abbrev pub rights_injection_terms : List TransmissionRight → ℕ → List Term
+rights_injection_terms rights i =
+    map (λ t. Plain (whole t.mw)) (filter (λ t. t.from == i) rights)
+    ++ map (λ t. Plain (neg_ℚ (whole t.mw))) (filter (λ t. t.to == i) rights)
+
+unfoldable pub rights_injection : List TransmissionRight → ℕ → Fraction
+rights_injection rights i = total (rights_injection_terms rights i)
+
+-- put in together and nothing else, rights meet all limits, whose excess is not theirs
+abbrev pub AreFeasibleTogether : Parts → List TransmissionRight → Type 0
+AreFeasibleTogether m rights = AreWithin (rows m) (limit m) (row_flow m (rights_injection rights))
+
+-- what a right is paid: its MW at the price where it ends, less that where it begins
+abbrev pub right_term : (ℕ → Fraction) → TransmissionRight → Term
+right_term price t = Product (whole t.mw) (price t.to -ℚ price t.from)
+
+abbrev pub right_terms : (ℕ → Fraction) → List TransmissionRight → List Term
+right_terms price rights = map (right_term price) rights
+
+-- what rights are paid at the bus prices of duals
+unfoldable pub paid_to_rights : Parts → Duals Fraction → List TransmissionRight → Fraction
+paid_to_rights m d rights = total (right_terms (bus_price m d) rights)
