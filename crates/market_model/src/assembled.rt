@@ -26,14 +26,13 @@ impl Model for Market {
     ghost use Rattle.market_model.specs.declared.participants.Parts.{Parts};
     ghost use Rattle.market_model.specs.Factors.{factor_in, IsTable};
     ghost use Rattle.market_model.specs.LostLines.{AreLostLines};
-    ghost use Rattle.market_model.specs.Lines.{HasHardLimits};
     ghost use Rattle.market_model.specs.Market.{IsMarket};
 
     ghost Value = { Parts };
 
     ghost view = { λ m. m.parts };
 
-    ghost invariant = { λ m. IsMarket m.parts × HasHardLimits m.parts.lines × IsTable (length m.parts.lines) (length m.parts.buses) (factor_in m.parts.shift) m.shift.items × AreLostLines m.parts m.lost m.index.items m.loss.items };
+    ghost invariant = { λ m. IsMarket m.parts × IsTable (length m.parts.lines) (length m.parts.buses) (factor_in m.parts.shift) m.shift.items × AreLostLines m.parts m.lost m.index.items m.loss.items };
 }
 
 impl Market {
@@ -43,7 +42,6 @@ impl Market {
     ghost use Rattle.market_model.specs.Dispatch.{unit_at, block_at, line_at};
     ghost use Rattle.market_model.specs.Factors.{factor_in};
     ghost use Rattle.market_model.specs.LimitRows.{limit_of, lost_lines, place_of_line};
-    ghost use Rattle.market_model.specs.Lines.{HasHardLimits};
     ghost use Rattle.market_model.specs.Market.{IsMarket};
     ghost use Rattle.market_model.specs.Stairs.{stair_in, offered, room_of};
 
@@ -75,7 +73,6 @@ impl Market {
     pub fn lines(&self) -> &List<Line>
         ensures list { result.now ≡ self.now.lines }
         ensures market { IsMarket self.now }
-        ensures hard { HasHardLimits self.now.lines }
     {
         &self.parts.lines
     }
@@ -176,7 +173,6 @@ impl Market {
 
 ghost use Rattle.std.specs.Prelude.{◌≡◌, IfOk};
 ghost use Rattle.market_model.specs.Changes.{line_with};
-ghost use Rattle.market_model.specs.Lines.{HasHardLimits};
 ghost use Rattle.market_model.specs.Market.{IsMarket};
 
 /// A line with another limit.
@@ -196,10 +192,9 @@ fn limited(line: Line, post: bool, mw: i64) -> Line
     }
 }
 
-/// The market of these parts; their limits are hard, until all that clears a market knows soft ones. They are dropped where memory is refused.
+/// The market of these parts. They are dropped where memory is refused.
 pub fn assemble(alloc: Global, parts: Parts) -> Result<Market, Memory>
     requires market { IsMarket parts }
-    requires hard { HasHardLimits parts.lines }
     ensures { IfOk result (λ m. m ≡ parts) }
 {
     let lines = parts.lines.len();
