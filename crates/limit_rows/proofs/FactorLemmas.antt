@@ -10,7 +10,7 @@ use Rattle.fraction_theory.proofs.Ring.{by_ring, at, padd, pmul}
 use Rattle.fraction_theory.proofs.IntegerLaws.{ring_ℤ}
 use Rattle.fraction_theory.proofs.FractionLaws.{Is, same_value, over_is, plus_is, times_is}
 use Rattle.fraction_theory.proofs.FieldLaws.{over-same, widen, +ℚ_nil}
-use Rattle.market_data.specs.Scales.{factor_one, factor_product_one, most_factor}
+use Rattle.market_data.specs.Scales.{market_factor_one, factor_product_one, most_market_factor}
 use Rattle.market_model.specs.declared.participants.Factor.{Factor}
 use Rattle.market_model.specs.declared.participants.Parts.{Parts}
 use Rattle.market_model.specs.Dispatch.{places, line_at}
@@ -37,16 +37,16 @@ factor-two a p h l k =
     same_value (over (h *ℤ pos a +ℤ l *ℤ k) (a * a)) sum ((h *ℤ pos a +ℤ l *ℤ k) *ℤ pos a) ((a * a) * a) (mul-pos (mul-pos p p) p)
     (widen (over (h *ℤ pos a +ℤ l *ℤ k) (a * a)) (h *ℤ pos a +ℤ l *ℤ k) (a * a) a (over_is (h *ℤ pos a +ℤ l *ℤ k) (a * a) (mul-pos p p))) other
 
-pub factor-base : (m : Parts) (l i : ℕ) → over (factor_in m.shift l i *ℤ pos factor_one) factor_product_one ≡ row_factor m (record { line = l; cause = Base }) i
+pub factor-base : (m : Parts) (l i : ℕ) → over (factor_in m.shift l i *ℤ pos market_factor_one) factor_product_one ≡ row_factor m (record { line = l; cause = Base }) i
 unfolding row_factor
-factor-base m l i = factor-one factor_one (Prim.omega arith) (factor_in m.shift l i) ∙ sym (+ℚ_nil (over (factor_in m.shift l i) factor_one))
+factor-base m l i = factor-one market_factor_one (Prim.omega arith) (factor_in m.shift l i) ∙ sym (+ℚ_nil (over (factor_in m.shift l i) market_factor_one))
 
 pub factor-after : (m : Parts) (l lost i : ℕ)
-    → over (factor_in m.shift l i *ℤ pos factor_one +ℤ factor_in m.loss l lost *ℤ factor_in m.shift lost i) factor_product_one ≡ row_factor m (record { line = l; cause = Branch lost }) i
+    → over (factor_in m.shift l i *ℤ pos market_factor_one +ℤ factor_in m.loss l lost *ℤ factor_in m.shift lost i) factor_product_one ≡ row_factor m (record { line = l; cause = Branch lost }) i
 unfolding row_factor
 factor-after m l lost i =
-    factor-two factor_one (Prim.omega arith) (factor_in m.shift l i) (factor_in m.loss l lost) (factor_in m.shift lost i)
-    ∙ ap (λ (f : Fraction). over (factor_in m.shift l i) factor_one +ℚ f) (sym (+ℚ_nil (over (factor_in m.loss l lost) factor_one *ℚ over (factor_in m.shift lost i) factor_one)))
+    factor-two market_factor_one (Prim.omega arith) (factor_in m.shift l i) (factor_in m.loss l lost) (factor_in m.shift lost i)
+    ∙ ap (λ (f : Fraction). over (factor_in m.shift l i) market_factor_one +ℚ f) (sym (+ℚ_nil (over (factor_in m.loss l lost) market_factor_one *ℚ over (factor_in m.shift lost i) market_factor_one)))
 
 -- ---- where the lines of a row stand
 -- a lost line is that of an outage
@@ -85,10 +85,10 @@ module _ (m : Parts) (market : IsMarket m) where
   stands r (k, lt, e) = subst (Stands m) e (rows_stand k r lt)
 
 -- ---- the size of a factor
-pub factor_in-size : (lines others : ℕ) (fs : List Factor) (l o : ℕ) → All (IsTableFactor lines others) fs → unsigned_abs (factor_in fs l o) ≤ most_factor
+pub factor_in-size : (lines others : ℕ) (fs : List Factor) (l o : ℕ) → All (IsTableFactor lines others) fs → unsigned_abs (factor_in fs l o) ≤ most_market_factor
 factor_in-size lines others [] l o all = Prim.omega arith
 factor_in-size lines others (f ∷ fs) l o all = by (is_pair l o f) (all 0 f (Prim.omega arith)).size (factor_in-size lines others fs l o (λ k d lt. all (suc k) d (Prim.omega (arith, lt))))
   where
-    by : (b : Bool) → unsigned_abs f.value ≤ most_factor → unsigned_abs (factor_in fs l o) ≤ most_factor → unsigned_abs (if b then f.value else factor_in fs l o) ≤ most_factor
+    by : (b : Bool) → unsigned_abs f.value ≤ most_market_factor → unsigned_abs (factor_in fs l o) ≤ most_market_factor → unsigned_abs (if b then f.value else factor_in fs l o) ≤ most_market_factor
     by true here rest = here
     by false here rest = rest
