@@ -6,7 +6,7 @@ use Rattle.market_model.specs.declared.limits.Cause.TheVariants.{Base}
 use Rattle.market_model.specs.declared.limits.Row.{Row}
 use Rattle.market_model.specs.LimitRows.{rows, line_flow, row_factor, row_flow}
 use Rattle.market_model.specs.Optimality.{congestion_by, price_by}
-use Rattle.market_model.specs.Rights.{TransmissionRight, carried, paid_to_rights}
+use Rattle.market_model.specs.Rights.{TransmissionRight, rights_injection, paid_to_rights}
 use Rattle.market_model.proofs.LimitCases.{mw, money, shunted, up_alone}
 
 abbrev second : Row
@@ -22,17 +22,17 @@ fitting = right_to 2 50 ∷ right_to 1 5 ∷ []
 abbrev breaking : List TransmissionRight
 breaking = right_to 2 60 ∷ []
 
-fitting-flow : row_flow shunted (carried fitting) second ≡ whole (mw 40)
-unfolding line_flow carried ◌+ℚ◌ ◌*ℚ◌ neg_ℚ over whole gcd gcd_in
-fitting-flow = same_fraction (row_flow shunted (carried fitting) second) (whole (mw 40)) refl refl
+fitting-flow : row_flow shunted (rights_injection fitting) second ≡ whole (mw 40)
+unfolding line_flow rights_injection ◌+ℚ◌ ◌*ℚ◌ neg_ℚ over whole gcd gcd_in
+fitting-flow = same_fraction (row_flow shunted (rights_injection fitting) second) (whole (mw 40)) refl refl
 
 fitting-paid : paid_to_rights shunted (up_alone 10 0 40) fitting ≡ whole (money 1600)
 unfolding rows row_factor congestion_by price_by paid_to_rights ◌+ℚ◌ ◌*ℚ◌ neg_ℚ over whole gcd gcd_in
 fitting-paid = same_fraction (paid_to_rights shunted (up_alone 10 0 40) fitting) (whole (money 1600)) refl refl
 
-breaking-flow : row_flow shunted (carried breaking) second ≡ whole (mw 45)
-unfolding line_flow carried ◌+ℚ◌ ◌*ℚ◌ neg_ℚ over whole gcd gcd_in
-breaking-flow = same_fraction (row_flow shunted (carried breaking) second) (whole (mw 45)) refl refl
+breaking-flow : row_flow shunted (rights_injection breaking) second ≡ whole (mw 45)
+unfolding line_flow rights_injection ◌+ℚ◌ ◌*ℚ◌ neg_ℚ over whole gcd gcd_in
+breaking-flow = same_fraction (row_flow shunted (rights_injection breaking) second) (whole (mw 45)) refl refl
 
 breaking-paid : paid_to_rights shunted (up_alone 10 0 40) breaking ≡ whole (money 1800)
 unfolding rows row_factor congestion_by price_by paid_to_rights ◌+ℚ◌ ◌*ℚ◌ neg_ℚ over whole gcd gcd_in

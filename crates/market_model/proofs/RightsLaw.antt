@@ -18,7 +18,7 @@ use Rattle.market_model.specs.Dispatch.{Dispatch, zero, places}
 use Rattle.market_model.specs.Laws.{LawOfTheRights}
 use Rattle.market_model.specs.LimitRows.{rows, limit, flow, row_flow, row_offset}
 use Rattle.market_model.specs.Optimality.{bus_price, net_shadow_price, up_of, down_of}
-use Rattle.market_model.specs.Rights.{TransmissionRight, IsTransmissionRight, carried, paid_to_rights}
+use Rattle.market_model.specs.Rights.{TransmissionRight, IsTransmissionRight, rights_injection, paid_to_rights}
 use Rattle.market_model.proofs.PlaceSums.{gather_times}
 use Rattle.market_model.proofs.MarketSums.{sum_by-neg}
 use Rattle.market_model.proofs.RowLaws.{along, nil_or_above, priced_by_rows, row_prices_by}
@@ -26,10 +26,10 @@ use Rattle.market_model.proofs.Optimum.{surplus-by_pulls}
 
 -- ---- what rights put in, at a number for each bus
 at_buses : (n : ℕ) (f : ℕ → Fraction) (rights : List TransmissionRight) → All (IsTransmissionRight n) rights
-    → sum_by (λ i. f i *ℚ carried rights i) (places n) ≡ neg_ℚ (sum_by (λ t. whole t.mw *ℚ (f t.to -ℚ f t.from)) rights)
-unfolding carried
+    → sum_by (λ i. f i *ℚ rights_injection rights i) (places n) ≡ neg_ℚ (sum_by (λ t. whole t.mw *ℚ (f t.to -ℚ f t.from)) rights)
+unfolding rights_injection
 at_buses n f rights h =
-    sum_by-same (λ i. f i *ℚ carried rights i)
+    sum_by-same (λ i. f i *ℚ rights_injection rights i)
     (λ i. f i *ℚ sum_by (λ t. whole t.mw) (filter (λ t. t.from == i) rights) +ℚ f i *ℚ sum_by (λ t. neg_ℚ (whole t.mw)) (filter (λ t. t.to == i) rights)) (places n)
     (λ i. ap (λ t. f i *ℚ t)
     (total-append (map (λ t. Plain (whole t.mw)) (filter (λ t. t.from == i) rights)) (map (λ t. Plain (neg_ℚ (whole t.mw))) (filter (λ t. t.to == i) rights))
@@ -46,9 +46,9 @@ at_buses n f rights h =
     ∙ sum_by-neg (λ t. whole t.mw *ℚ (f t.to -ℚ f t.from)) rights
 
 -- in all they put in nothing
-balanced : (n : ℕ) (rights : List TransmissionRight) → All (IsTransmissionRight n) rights → sum_by (carried rights) (places n) ≡ zero
+balanced : (n : ℕ) (rights : List TransmissionRight) → All (IsTransmissionRight n) rights → sum_by (rights_injection rights) (places n) ≡ zero
 balanced n rights h =
-    sum_by-same (carried rights) (λ i. whole (pos 1) *ℚ carried rights i) (places n) (λ i. by_ring ring_ℚ (carried rights i ∷ []) (at 0) (pone ⊗ at 0) refl)
+    sum_by-same (rights_injection rights) (λ i. whole (pos 1) *ℚ rights_injection rights i) (places n) (λ i. by_ring ring_ℚ (rights_injection rights i ∷ []) (at 0) (pone ⊗ at 0) refl)
     ∙ at_buses n (λ i. whole (pos 1)) rights h
     ∙ ap neg_ℚ
     (sum_by-same (λ t. whole t.mw *ℚ (whole (pos 1) -ℚ whole (pos 1))) (λ t. zero) rights (λ t. by_ring ring_ℚ (whole t.mw ∷ []) (at 0 ⊗ (pone ⊕ pneg pone)) pnil refl)
@@ -57,16 +57,16 @@ balanced n rights h =
 
 -- they are paid what the rows count at their net prices
 paid-by_rows : (m : Parts) (d : Duals Fraction) (rights : List TransmissionRight) → All (IsTransmissionRight (length m.buses)) rights
-    → paid_to_rights m d rights ≡ row_prices_by m d (carried rights)
+    → paid_to_rights m d rights ≡ row_prices_by m d (rights_injection rights)
 unfolding paid_to_rights
 paid-by_rows m d rights h =
     let paid : Fraction = sum_by (λ t. whole t.mw *ℚ (bus_price m d t.to -ℚ bus_price m d t.from)) rights in
-    let rows_count : Fraction = row_prices_by m d (carried rights) in
-    let all : Fraction = sum_by (carried rights) (places (length m.buses)) in
+    let rows_count : Fraction = row_prices_by m d (rights_injection rights) in
+    let all : Fraction = sum_by (rights_injection rights) (places (length m.buses)) in
     total-Product (λ (t : TransmissionRight). whole t.mw) (λ t. bus_price m d t.to -ℚ bus_price m d t.from) rights
     ∙ by_ring2 ring_ℚ (paid ∷ rows_count ∷ d.energy ∷ all ∷ []) (at 0) (at 1)
     (pneg pone) (pneg (at 0)) (at 2 ⊗ at 3 ⊕ pneg (at 1)) (pneg (at 2)) (at 3) pnil
-    (sym (at_buses (length m.buses) (bus_price m d) rights h) ∙ priced_by_rows m d (carried rights)) (balanced (length m.buses) rights h) refl
+    (sym (at_buses (length m.buses) (bus_price m d) rights h) ∙ priced_by_rows m d (rights_injection rights)) (balanced (length m.buses) rights h) refl
 
 -- a price that is 0, or above 0 only at the greater of two, counts the greater for no less
 counts_more : (u g f : Fraction) → zero ≤ℚ u → (zero <ℚ u → g ≤ℚ f) → (u *ℚ g) ≤ℚ (u *ℚ f)
@@ -90,7 +90,7 @@ module _ (u d limit f o g : Fraction) (up_sign : zero ≤ℚ u) (down_sign : zer
 pub law_of_the_rights : LawOfTheRights
 law_of_the_rights m d x rights h f s are together =
     subst₂ ◌≤ℚ◌ (sym (paid-by_rows m d rights are)) (sym (surplus-by_pulls m d x h f.balanced))
-    (sum_by-≤ (λ r. net_shadow_price m d r *ℚ (row_flow m (carried rights) r -ℚ row_offset m r)) (λ r. net_shadow_price m d r *ℚ (flow m x r -ℚ row_offset m r)) (rows m)
-    (along (λ r. (net_shadow_price m d r *ℚ (row_flow m (carried rights) r -ℚ row_offset m r)) ≤ℚ (net_shadow_price m d r *ℚ (flow m x r -ℚ row_offset m r))) (rows m)
+    (sum_by-≤ (λ r. net_shadow_price m d r *ℚ (row_flow m (rights_injection rights) r -ℚ row_offset m r)) (λ r. net_shadow_price m d r *ℚ (flow m x r -ℚ row_offset m r)) (rows m)
+    (along (λ r. (net_shadow_price m d r *ℚ (row_flow m (rights_injection rights) r -ℚ row_offset m r)) ≤ℚ (net_shadow_price m d r *ℚ (flow m x r -ℚ row_offset m r))) (rows m)
     (λ r c. let k = s.rows r c in let w = together r c in
-    no_more (up_of m d r) (down_of m d r) (limit m r) (flow m x r) (row_offset m r) (row_flow m (carried rights) r) k.up.sign k.down.sign k.up.reached k.down.reached w.above w.below)))
+    no_more (up_of m d r) (down_of m d r) (limit m r) (flow m x r) (row_offset m r) (row_flow m (rights_injection rights) r) k.up.sign k.down.sign k.up.reached k.down.reached w.above w.below)))

@@ -1,5 +1,5 @@
 -- The frame of a market: what no edit changes. It is the factors, the places and sides of blocks, the units with their fixed parts, the outages,
--- the offsets, and which limits there are.
+-- the offsets, which limits there are, and their penalties and excesses.
 -- Source: own.
 use Rattle.std.specs.Prelude.{◌≡◌, pos, map, option_map}
 use Rattle.market_data.specs.declared.participants.Bus.{Bus}

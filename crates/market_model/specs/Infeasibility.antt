@@ -1,7 +1,7 @@
 -- Duals that show that no dispatch is feasible.
 -- Farkas: relations that no point meets have a combination that no point can meet. Here it bounds what a price of energy makes of
--- the balance, and prices of limits of what flows leave of these: at a feasible dispatch the first is 0 and the others are at least 0, so
--- a bound below 0 leaves none.
+-- the balance, and prices of limits of what flows leave of the most that they may be: at a feasible dispatch the first is 0 and the others
+-- are at least 0, so a bound below 0 leaves none.
 use Rattle.std.specs.Prelude.{◌≡◌, ℕ, List, [], ◌∷◌, ◌++◌, length, map, Contains}
 use Rattle.std.specs.List.{flat_map}
 use Rattle.fraction_theory.specs.Fraction.{Fraction, ◌+ℚ◌, ◌-ℚ◌}

@@ -1,4 +1,4 @@
--- Rights to what limits earn: each pays for MW carried from one bus to another what these are worth more there.
+-- Rights to what limits earn: each pays for MW rights_injection from one bus to another what these are worth more there.
 -- Hogan, Contract Networks for Electric Power Transmission (1992): rights that flows could carry together are covered by the surplus.
 use Rattle.std.specs.Prelude.{◌==◌, ℕ, ◌<◌, ℤ, pos, ◌≤ℤ◌, List, ◌++◌, map, filter}
 use Rattle.fraction_theory.specs.Fraction.{Fraction, whole, neg_ℚ, ◌-ℚ◌}
@@ -21,17 +21,17 @@ pub record IsTransmissionRight (buses : ℕ) (t : TransmissionRight) : Type 0 wh
   pub mw : pos 0 ≤ℤ t.mw
 
 -- what rights put in at a bus: the MW of those that begin there, less the MW of those that end there
-abbrev pub carried_terms : List TransmissionRight → ℕ → List Term
-carried_terms rights i =
+abbrev pub rights_injection_terms : List TransmissionRight → ℕ → List Term
+rights_injection_terms rights i =
     map (λ t. Plain (whole t.mw)) (filter (λ t. t.from == i) rights)
     ++ map (λ t. Plain (neg_ℚ (whole t.mw))) (filter (λ t. t.to == i) rights)
 
-unfoldable pub carried : List TransmissionRight → ℕ → Fraction
-carried rights i = total (carried_terms rights i)
+unfoldable pub rights_injection : List TransmissionRight → ℕ → Fraction
+rights_injection rights i = total (rights_injection_terms rights i)
 
 -- put in together and nothing else, rights meet all limits, whose excess is not theirs
 abbrev pub AreFeasibleTogether : Parts → List TransmissionRight → Type 0
-AreFeasibleTogether m rights = AreWithin (rows m) (limit m) (row_flow m (carried rights))
+AreFeasibleTogether m rights = AreWithin (rows m) (limit m) (row_flow m (rights_injection rights))
 
 -- what a right is paid: its MW at the price where it ends, less that where it begins
 abbrev pub right_term : (ℕ → Fraction) → TransmissionRight → Term

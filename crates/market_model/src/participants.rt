@@ -33,9 +33,9 @@ pub struct Block {
 pub struct Line {
     /// Its row in the case's branch matrix, from 1.
     pub row: u32,
-    /// The greatest size of its flow while all branches are there, where that has a limit.
+    /// Its limit while all branches are there: the size that its flow is to keep within, where there is one.
     pub base: Option<i64>,
-    /// The greatest size of its flow after an outage, where that has a limit.
+    /// Its limit after an outage.
     pub post: Option<i64>,
     /// The penalty of its limit in the base, and the most by which its flow may exceed that.
     pub base_price: i64,
