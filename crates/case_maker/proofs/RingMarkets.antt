@@ -1,5 +1,5 @@
 -- Rings keep what every market keeps.
-use Rattle.std.proofs.Common.{◌≡◌, ◌≢◌, ◌⊎◌, ◌≤◌, ◌<◌, ◌+◌, ◌*◌, ◌∙◌, ℕ, pos, ◌≤ℤ◌, Bool, true, false, cond, ◌==◌, ◌&&◌, List, [], ◌∷◌, length, map, get_or, flat_map, zero, suc, refl, sym, subst, ap, arith, inl, inr, All, AllPairs, Contains}
+use Rattle.std.proofs.Common.{◌≡◌, ◌≢◌, ◌⊎◌, ◌≤◌, ◌<◌, ◌+◌, ◌*◌, ◌∙◌, ℕ, pos, ◌≤ℤ◌, Bool, true, false, cond, ◌==◌, ◌&&◌, List, [], ◌∷◌, Some, length, map, get_or, flat_map, zero, suc, refl, sym, subst, ap, arith, inl, inr, All, AllPairs, Contains}
 use Rattle.std.specs.List.{range_with_len}
 use Rattle.std.proofs.lemmas.Int.{ints}
 use Rattle.std.proofs.lemmas.Simd.{map-map}
@@ -15,8 +15,10 @@ use Rattle.market_model.specs.declared.participants.Line.{Line}
 use Rattle.market_model.specs.declared.participants.Side.{Side}
 use Rattle.market_model.specs.declared.participants.Side.TheVariants.{Sell, Buy}
 use Rattle.market_model.specs.Dispatch.{places}
+use Rattle.market_model.specs.Lines.{HasHardLimits, IsHard}
 use Rattle.market_model.specs.Market.{HasRoom, IsBlock, IsLine, IsMarket}
 use Rattle.market_model.specs.Stairs.{offered, same_side, stair_in}
+use Rattle.market_model.proofs.HardLimits.{hard_is_hard, hard_is_line}
 use Rattle.case_maker.specs.Rings.{IsRingSize, blocks_of, bus_of, drawn, half_sold, line_of, loss_of, mw, ring_of, shift_of, unit_of}
 use Rattle.case_maker.proofs.DrawLemmas.{drawn-small}
 use Rattle.case_maker.proofs.FactorLemmas.{are-factors, loss-small, shift-small}
@@ -99,7 +101,7 @@ half-kept : (n i price : ℕ) → i < n → price ≤ 149 → IsBlock n (half_so
 half-kept n i price lt few = record { unit = lt; quantity = omega (arith, ints); price = omega (arith, few) }
 
 line-kept : (i : ℕ) (seed : ℕ) → IsLine (line_of i (drawn seed i))
-line-kept i seed = record { row = omega arith; base = omega (arith, ints); post = omega (arith, ints); offset = omega arith }
+line-kept i seed = hard_is_line (i + 1) (Some (mw (drawn seed i).base_limit)) (Some (mw (drawn seed i).post_limit)) (pos 0) (omega arith) (omega (arith, ints)) (omega (arith, ints)) (omega arith)
 
 -- ---- the market
 pub ring-kept : (n seed : ℕ) → n ≤ 64 → IsMarket (ring_of n seed)
@@ -140,3 +142,8 @@ ring-kept n seed few =
 
     room : length (ring_of n seed).units ≡ n → (place : ℕ) (d : unit.Unit) → place < length (ring_of n seed).units → HasRoom (ring_of n seed).blocks place (get_or (ring_of n seed).units place d)
     room units place d lt = subst (HasRoom (ring_of n seed).blocks place) (sym (at-place unit_of n place d (omega (arith, lt, units)))) (unit-room place)
+
+-- no limit gives way
+pub ring-hard : (n seed : ℕ) → HasHardLimits (ring_of n seed).lines
+ring-hard n seed =
+    All-places IsHard (λ i. line_of i (drawn seed i)) n (λ i lt. hard_is_hard (i + 1) (Some (mw (drawn seed i).base_limit)) (Some (mw (drawn seed i).post_limit)) (pos 0))

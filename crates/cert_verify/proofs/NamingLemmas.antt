@@ -1,8 +1,7 @@
 -- The duals of rows by their names.
-use Rattle.std.specs.Prelude.{◌≡◌, ◌≢◌, ◌==◌, ◌||◌, ℕ, ◌<◌, ◌≤◌, ◌+◌, Bool, true, false, cond, List, [], ◌∷◌, ◌++◌, length, map, filter, AllPairs, Option, Result, Ok, Err, MatchResult, IfOk, is_err, Some, None, if◌then◌else◌, refl}
-use Rattle.std.specs.List.{slice_get}
+use Rattle.std.specs.Prelude.{◌≡◌, ◌≢◌, ◌==◌, ◌||◌, ℕ, ◌<◌, ◌+◌, Bool, true, false, cond, List, [], ◌∷◌, ◌++◌, length, map, filter, AllPairs, Option, Result, Ok, Err, MatchResult, is_err, Some, None, if◌then◌else◌, refl}
 use Rattle.std.specs.Map.{lookup}
-use Rattle.std.proofs.Common.{zero, suc, arith, ap, ap₂, sym, subst, ◌∙◌, append_assoc, get_or, take}
+use Rattle.std.proofs.Common.{zero, suc, arith, ap, ap₂, sym, subst, ◌∙◌, get_or, take}
 use Rattle.std.proofs.lemmas.Bool.{and_parts, eq-eqb, eqb-true, true≢false}
 use Rattle.std.proofs.lemmas.List.{append-nil, get_or-map, length-map, map-append, take_more}
 use Rattle.std.proofs.lemmas.List.Elements.{filter-append}
@@ -14,21 +13,17 @@ use Rattle.market_model.specs.declared.answered.Duals.{Duals}
 use Rattle.market_model.specs.declared.answered.RowId.{RowId}
 use Rattle.market_model.specs.declared.participants.Parts.{Parts}
 use Rattle.market_model.specs.declared.limits.Row.{Row}
-use Rattle.market_model.specs.declared.limits.Cause.{Cause}
-use Rattle.market_model.specs.LimitRows.{row_id, causes, rows_among, rows_of}
+use Rattle.market_model.specs.LimitRows.{row_id}
 use Rattle.market_model.specs.Optimality.{names_row, same_id, up_in, down_in}
 use Rattle.market_model.specs.Valued.{dual_at}
 use Rattle.market_model.specs.Dispatch.{places}
 use Rattle.market_model.proofs.MorePlaces.{places_more}
-use Rattle.limit_rows.proofs.GroupLemmas.{rows-more}
-use Rattle.limit_rows.proofs.NumberingLemmas.{all_before, rows_before}
 use Rattle.limit_rows.proofs.PlaceLemmas.{same_name}
 use Rattle.cert_format.specs.Certificates.{NamesNoRowTwice, name_of, same_pair}
 use Rattle.cert_sums.specs.declared.pricing.NamedRow.{NamedRow}
-use Rattle.cert_sums.specs.Named.{AreNamed, PricedRow, priced_at, priced_by}
+use Rattle.cert_sums.specs.Named.{PricedRow, priced_at, priced_by}
 use Rattle.cert_verify.specs.Certificates.{named_duals}
 use Rattle.cert_verify.specs.Naming.{IsNamedAt, entry_of, prices_of}
-use Rattle.cert_verify.proofs.FindLemmas.{lines_step, rows_to}
 use Rattle.cert_verify.proofs.VerdictLemmas.{other_id, own_id}
 
 -- pairs are the same where names are
@@ -130,26 +125,13 @@ module _ {N : Type 0} (value : N → Fraction) (m : Parts) where
         ap (map (priced_by m d)) (filter-append (λ r. names_row d.limits (row_id m r)) rs ss)
         ∙ map-append (priced_by m d) (filter (λ r. names_row d.limits (row_id m r)) rs) (filter (λ r. names_row d.limits (row_id m r)) ss)
 
-    pub line_named : (cause : Cause) (k : ℕ) (front old new : List PricedRow) → old ≡ front ++ prices_of m d (rows_to m cause k) → new ≡ old ++ prices_of m d (rows_among m cause (k ∷ [])) → new ≡ front ++ prices_of m d (rows_to m cause (k + 1))
-    line_named cause k front old new before more =
-        more ∙ ap (λ (ys : List PricedRow). ys ++ prices_of m d (rows_among m cause (k ∷ []))) before ∙ append_assoc front (prices_of m d (rows_to m cause k)) (prices_of m d (rows_among m cause (k ∷ [])))
-        ∙ ap (λ (ys : List PricedRow). front ++ ys) (sym (ap (prices_of m d) (lines_step m cause k) ∙ prices_join (rows_to m cause k) (rows_among m cause (k ∷ []))))
-
-    pub cause_named : (i : ℕ) (cause : Cause) (old new : List PricedRow) → slice_get (causes m) i ≡ Some cause → old ≡ prices_of m d (rows_before m i) → new ≡ old ++ prices_of m d (rows_of m cause) → new ≡ prices_of m d (rows_before m (i + 1))
-    cause_named i cause old new at before more =
-        more ∙ ap (λ (ys : List PricedRow). ys ++ prices_of m d (rows_of m cause)) before ∙ sym (ap (prices_of m d) (rows-more m i cause at) ∙ prices_join (rows_before m i) (rows_of m cause))
-
-    pub all_named : (i : ℕ) (xs : List (NamedRow N)) → length (causes m) ≤ i → map (priced_at value) xs ≡ prices_of m d (rows_before m i) → AreNamed value m d xs
-    all_named i xs all h = h ∙ ap (prices_of m d) (all_before m i all)
+    pub row_more : (before : List Row) (r : Row) (old new : List PricedRow) → old ≡ prices_of m d before → new ≡ old ++ prices_of m d (r ∷ []) → new ≡ prices_of m d (before ++ r ∷ [])
+    row_more before r old new so_far more = more ∙ ap (λ (ys : List PricedRow). ys ++ prices_of m d (r ∷ [])) so_far ∙ sym (prices_join before (r ∷ []))
 
 -- what a push leaves
 pub pushed : {A B : Type 0} (r : Result A B) (P Q : Type 0) → MatchResult r (λ _. P) (λ _. Q) → is_err r ≡ false → P
 pushed (Ok a) P Q h e = h
 pushed (Err b) P Q h e = absurd (true≢false e)
-
-pub push_ok : {A B : Type 0} (r : Result A B) (P Q R : Type 0) → MatchResult r (λ _. P) (λ _. Q) → (P → R) → IfOk r (λ _. R)
-push_ok (Ok a) P Q R h to = to h
-push_ok (Err b) P Q R h to = tt
 
 -- so many numbers as places
 pub counted : {N : Type 0} (value : N → Fraction) (f : ℕ → Fraction) (xs : List N) (n : ℕ) → map value xs ≡ map f (places n) → length xs ≡ n

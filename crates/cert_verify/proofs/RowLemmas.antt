@@ -9,14 +9,12 @@ use Rattle.market_model.specs.declared.answered.Dual.{Dual}
 use Rattle.market_model.specs.declared.participants.Parts.{Parts}
 use Rattle.market_model.specs.Dispatch.{Dispatch, balance, injection, zero}
 use Rattle.market_model.specs.declared.limits.Row.{Row}
-use Rattle.market_model.specs.declared.limits.Cause.TheVariants.{Base, Branch}
-use Rattle.market_model.specs.declared.limits.Cause.{Cause}
 use Rattle.fraction_theory.specs.Sums.{total}
-use Rattle.market_model.specs.LimitRows.{IsCauseAmong, rows, row_id, limit, line_flow, flow, flow_by, flow_terms, causes}
+use Rattle.market_model.specs.LimitRows.{IsCauseAmong, rows, row_id, limit, line_flow, flow, flow_by, flow_terms}
 use Rattle.market_model.specs.Market.{IsMarket}
 use Rattle.market_model.specs.NamedSums.{IsRefusedIn}
 use Rattle.limit_rows.proofs.ApartLemmas.{same_row}
-use Rattle.limit_rows.proofs.PlaceLemmas.{lost_inside, same_name}
+use Rattle.limit_rows.proofs.PlaceLemmas.{same_name}
 use Rattle.limit_rows.specs.LineFlows.{AreFlows}
 use Rattle.limit_rows.proofs.FlowSteps.{row_terms_are}
 use Rattle.market_model.specs.PutIn.{put_in}
@@ -61,11 +59,6 @@ slack_named m market x e r c same = by (prices_slack e (flow m x r) (limit m r))
         any_none (λ s. has_name m e.row s && prices_slack e (flow m x s) (limit m s)) (rows m)
         (λ s k. not_both (has_name m e.row s) (prices_slack e (flow m x s) (limit m s))
         (λ u. subst (λ (z : Row). prices_slack e (flow m x z) (limit m z) ≡ false) (same_row m market r s c k (same ∙ sym (same_name (row_id m s) e.row u))) t))
-
--- the lost line of a cause is one of the market
-pub lost_below : (m : Parts) → IsMarket m → (cause : Cause) → Contains (causes m) cause → IsCauseAmong (length m.lines) cause
-lost_below m market Base c = tt
-lost_below m market (Branch k) c = lost_inside m market k c
 
 -- ---- flows of lines that are those of a dispatch
 module _ (m : Parts) (x : Dispatch) (flows : List Fraction) (are : AreFlows m x flows) (r : Row) (line : r.line < length m.lines) (lost : IsCauseAmong (length m.lines) r.cause) where

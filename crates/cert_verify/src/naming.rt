@@ -1,20 +1,20 @@
 //! The rows that duals name, in the market's order.
 
-ghost use Rattle.std.specs.Prelude.{◌≡◌, ◌<◌, List, [], ◌∷◌, ◌++◌, length, map, Contains, IfOk, IfSome, None};
+ghost use Rattle.std.specs.Prelude.{◌≡◌, ◌<◌, List, [], ◌∷◌, ◌++◌, length, map, IfOk, None};
 ghost use Rattle.std.specs.Map.{lookup};
 ghost use Rattle.fraction_theory.specs.Fraction.{Fraction};
 ghost use Rattle.market_model.specs.Valued.{dual_at};
-ghost use Rattle.market_model.specs.LimitRows.{IsCauseAmong, causes, rows_among, rows_of};
+ghost use Rattle.market_model.specs.LimitRows.{IsCauseAmong};
 ghost use Rattle.cert_format.specs.Certificates.{NamesNoRowTwice, name_of, same_pair};
-ghost use Rattle.cert_sums.specs.Named.{AreNamed, priced_at};
+ghost use Rattle.cert_sums.specs.Named.{AreNamed};
 ghost use Rattle.cert_verify.specs.Certificates.{named_duals};
-ghost use Rattle.cert_verify.specs.Naming.{IsNamedAt, entry_of, prices_of};
+ghost use Rattle.cert_verify.specs.Naming.{IsNamedAt, entry_of};
 
 use cert_sums::NamedRow;
 use exact_fraction::Exact;
 use indexmap::IndexMap;
-use limit_rows::{cause_at, cause_count, has_row, name_at};
-use market_model::{Cause, Dual, List, Market, Memory, Row, RowId};
+use limit_rows::{name_at, rows};
+use market_model::{Dual, List, Market, Memory, Row, RowId};
 use std::alloc::Global;
 
 /// Adds a dual under a name that none has yet.
@@ -74,45 +74,6 @@ fn named_at<N: Exact>(
     }
 }
 
-/// Adds the row of a line under a cause, where it has one there and duals name it.
-fn push_row<N: Exact>(
-    market: &Market,
-    duals: &IndexMap<(u32, u32), Dual<N>>,
-    cause: Cause,
-    line: usize,
-    named: &mut List<NamedRow<N>>,
-) -> Result<(), Memory>
-    requires cause { Contains (causes market.now) cause }
-    requires line { line < length market.now.lines }
-    ensures { (ds : List (Dual N)) (energy : Fraction) → duals.now.entries ≡ map entry_of ds → IfOk result (λ _. map (priced_at N.value) named.new ≡ map (priced_at N.value) named.old ++ prices_of market.now (named_duals energy (map (dual_at N.value) ds)) (rows_among market.now cause (line ∷ []))) }
-{
-    let _lines = market.lines();
-    if has_row(market, cause, line) {
-        match named_at(market, duals, Row { line, cause }) {
-            Some(entry) => named.push(entry),
-            None => Ok(()),
-        }
-    } else {
-        Ok(())
-    }
-}
-
-/// Adds the rows under a cause that duals name, in their order.
-fn push_rows<N: Exact>(
-    market: &Market,
-    duals: &IndexMap<(u32, u32), Dual<N>>,
-    cause: Cause,
-    named: &mut List<NamedRow<N>>,
-) -> Result<(), Memory>
-    requires { Contains (causes market.now) cause }
-    ensures { (ds : List (Dual N)) (energy : Fraction) → duals.now.entries ≡ map entry_of ds → IfOk result (λ _. map (priced_at N.value) named.new ≡ map (priced_at N.value) named.old ++ prices_of market.now (named_duals energy (map (dual_at N.value) ds)) (rows_of market.now cause)) }
-{
-    for line in 0..market.lines().len() {
-        push_row(market, duals, cause, line, named)?;
-    }
-    Ok(())
-}
-
 /// The rows of the market that duals name, in its order, each with its two prices.
 pub(crate) fn named_rows<N: Exact>(
     alloc: Global,
@@ -124,8 +85,10 @@ pub(crate) fn named_rows<N: Exact>(
 {
     let duals = by_name(alloc, limits)?;
     let mut named = List::new(alloc);
-    for place in 0..cause_count(market) {
-        push_rows(market, &duals, cause_at(market, place), &mut named)?;
+    for row in rows(market) {
+        if let Some(entry) = named_at(market, &duals, row) {
+            named.push(entry)?;
+        }
     }
     Ok(named)
 }

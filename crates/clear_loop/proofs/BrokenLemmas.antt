@@ -3,7 +3,7 @@ use Rattle.std.specs.Prelude.{◌≡◌, ◌⊎◌, ℕ, pos, List, [], ◌∷�
 use Rattle.std.proofs.Common.{inl, inr, ap, subst, get_or}
 use Rattle.fraction_theory.specs.Fraction.{Fraction, whole, neg_ℚ, ◌-ℚ◌}
 use Rattle.fraction_theory.specs.Order.{◌<ℚ◌, ◌≤ℚ◌}
-use Rattle.fraction_theory.specs.Signs.{sign_of, abs_by}
+use Rattle.fraction_theory.specs.Signs.{sign_of, abs_by, abs_ℚ}
 use Rattle.fraction_theory.specs.declared.Sign.{Sign}
 use Rattle.fraction_theory.specs.declared.Sign.TheVariants.{Below, Zero, Above}
 use Rattle.fraction_theory.proofs.OrderLaws.{NonNeg-one, by_le1, ≤ℚ-or-<ℚ, <ℚ-not-≤ℚ}
@@ -13,10 +13,12 @@ use Rattle.market_model.specs.Dispatch.{Dispatch}
 use Rattle.market_model.specs.Overrun.{overrun, IsWorst}
 use Rattle.market_model.specs.declared.limits.Row.{Row}
 use Rattle.market_model.specs.LimitRows.{rows, limit, flow, flow_by, most_flow}
+use Rattle.market_model.specs.Lines.{HasHardLimits}
 use Rattle.market_model.specs.Market.{IsMarket}
 use Rattle.market_model.specs.Optimality.{AreWithin, Within}
 use Rattle.market_model.proofs.ChangeLemmas.{same_default}
 use Rattle.market_system.specs.Growth.{Broken}
+use Rattle.market_system.proofs.HardMarkets.{within_hard}
 use Rattle.limit_screen.specs.Flows.{flows_at, line_in}
 use Rattle.limit_screen.specs.Screening.{AllHold}
 use Rattle.limit_screen.proofs.ScreenLemmas.{below_nil, law_of_row_flows, listed_row}
@@ -50,8 +52,8 @@ module _ (m : Parts) (market : IsMarket m) (x : Dispatch) (fs : List Fraction) (
   row_is r c = law_of_row_flows m x fs r market puts c
 
   -- where all limits hold, and where one is the worst
-  pub all_within : AllHold m (line_in m fs) → AreWithin (rows m) (most_flow m) (flow m x)
-  all_within hold r c = subst (Within (most_flow m r)) (row_is r c) (hold r c)
+  pub all_within : HasHardLimits m.lines → AllHold m (line_in m fs) → AreWithin (rows m) (most_flow m) (flow m x)
+  all_within hard hold r c = within_hard m market hard r (flow m x r) (subst (Within (limit m r)) (row_is r c) (hold r c))
 
   -- the worst row of the flows is that of the dispatch
   pub worst_at : (place : ℕ) (r : Row) → IsWorst m (flow_by m (line_in m fs)) place r → IsWorst m (flow m x) place r
@@ -74,4 +76,5 @@ pub worst_inside : (m : Parts) (x : Dispatch) (place : ℕ) (r : Row) → IsWors
 worst_inside m x place r worst = listed_row (rows m) place r worst.stands
 
 pub worst_broken : (m : Parts) (x : Dispatch) (place : ℕ) (r : Row) → IsWorst m (flow m x) place r → Broken m x r
+unfolding abs_ℚ
 worst_broken m x place r worst = past_size (flow m x r) (limit m r) (sign_of (flow m x r)) worst.broken

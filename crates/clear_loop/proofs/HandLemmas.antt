@@ -11,6 +11,8 @@ use Rattle.market_model.specs.declared.participants.Parts.{Parts}
 use Rattle.market_model.specs.Dispatch.{Dispatch, places}
 use Rattle.market_model.specs.declared.limits.Row.{Row}
 use Rattle.market_model.specs.LimitRows.{rows, row_id, flow, most_flow}
+use Rattle.market_model.specs.Lines.{HasHardLimits}
+use Rattle.market_model.specs.Market.{IsMarket}
 use Rattle.market_model.specs.Optimality.{Feasible, Within}
 use Rattle.market_system.specs.Growth.{BestFor, Broken, Growth}
 use Rattle.market_system.specs.MarketSystem.{system_of}
@@ -26,18 +28,18 @@ use Rattle.clear_loop.specs.Rounds.{GrowsByOne, IsInHand}
 use Rattle.clear_loop.specs.declared.hand.Taken.{Taken}
 
 -- ---- one row more
-pub row_is_new : (m : Parts) (g : List Row) (r : Row) → ((x : Dispatch) × BestFor m g x × Broken m x r) → ¬ (Contains g r)
-row_is_new m g r (x, best, broken) = broken_is_new m g x r best.feasible broken
+pub row_is_new : (m : Parts) (g : List Row) (r : Row) → IsMarket m → HasHardLimits m.lines → ((x : Dispatch) × BestFor m g x × Broken m x r) → ¬ (Contains g r)
+row_is_new m g r market hard (x, best, broken) = broken_is_new m market hard g x r best.feasible broken
 
-pub grown_behind : (m : Parts) (g : List Row) (r : Row) → Contains (rows m) r → ((x : Dispatch) × BestFor m g x × Broken m x r) → Growth m g (g ++ r ∷ [])
-grown_behind m g r inside (x, best, broken) = growth_more m g g x r (growth_none m g) best broken inside
+pub grown_behind : (m : Parts) (g : List Row) (r : Row) → IsMarket m → HasHardLimits m.lines → Contains (rows m) r → ((x : Dispatch) × BestFor m g x × Broken m x r) → Growth m g (g ++ r ∷ [])
+grown_behind m g r market hard inside (x, best, broken) = growth_more m g g x r (growth_none m g) best broken inside (row_is_new m g r market hard (x, best, broken))
 
 pub grown_more : (m : Parts) (t g new : List Row) → Growth m t g → GrowsByOne m g new → Growth m t new
-grown_more m t g new grown (r, is, inside, broken) = subst (Growth m t) (sym is) (growth_more m t g broken.0 r grown broken.1 broken.2 inside)
+grown_more m t g new grown (r, is, inside, absent, broken) = subst (Growth m t) (sym is) (growth_more m t g broken.0 r grown broken.1 broken.2 inside absent)
 
 -- rounds come nearer to all rows
 pub comes_nearer : (m : Parts) (old new : Taken) → GrowsByOne m old.rows new.rows → AreRows m new.rows → (length (rows m) - length new.rows) < (length (rows m) - length old.rows)
-comes_nearer m old new (r, is, inside, broken) are =
+comes_nearer m old new (r, is, inside, absent, broken) are =
     let one : length new.rows ≡ length old.rows + 1 = ap length is ∙ length-append old.rows (r ∷ []) in
     let few : length new.rows ≤ length (rows m) = rows_few m new.rows are in
     Prim.omega (arith, one, few)

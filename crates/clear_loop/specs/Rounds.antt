@@ -38,9 +38,9 @@ pub record IsInHand {N : Type 0} (value : N → Fraction) (m : Parts) (h : Hand 
   pub posing : ArePricesAndBounds value m h.taken.rows h.posing
   pub names : h.taken.names ≡ map (row_id m) h.taken.rows
 
--- the rows with one more of the market behind, which a best dispatch for them breaks
+-- the rows with one more of the market behind, which is not among them, and which a best dispatch for them breaks
 abbrev pub GrowsByOne : Parts → List Row → List Row → Type 0
-GrowsByOne m g new = (r : Row) × (new ≡ g ++ r ∷ []) × Contains (rows m) r × ((x : Dispatch) × BestFor m g x × Broken m x r)
+GrowsByOne m g new = (r : Row) × (new ≡ g ++ r ∷ []) × Contains (rows m) r × (¬ (Contains g r)) × ((x : Dispatch) × BestFor m g x × Broken m x r)
 
 -- what a look at all limits comes to at a dispatch: the worst of those that are broken, or the flows, where all hold
 abbrev pub IsScreened : {N : Type 0} → (N → Fraction) → Parts → Dispatch → Screened N → Type 0

@@ -9,12 +9,14 @@ use Rattle.std.proofs.Common.{inl, inr}
 use mathlib.Core.Path.{ap₂}
 use Rattle.fraction_theory.specs.Fraction.{Fraction, unsigned_abs-neg, whole, ◌+ℚ◌, ◌-ℚ◌, ◌*ℚ◌, neg_ℚ}
 use Rattle.fraction_theory.specs.Order.{◌≤ℚ◌, NonNeg}
+use Rattle.fraction_theory.specs.Signs.{abs_ℚ}
 use Rattle.fraction_theory.specs.Sums.{sum_by}
 use Rattle.fraction_theory.proofs.Ring.{by_ring, at, padd, pmul, pneg, pnil, nil_plus, times_nil}
 use Rattle.fraction_theory.proofs.FieldLaws.{ring_ℚ, whole_is, one_is, whole-+ℚ, whole-neg, *ℚ_comm, *ℚ_one}
 use Rattle.fraction_theory.proofs.IntegerLaws.{*ℤ-pos_one, zero≤-cancel, zero≤-times}
 use Rattle.fraction_theory.proofs.FractionLaws.{Is, over_is, times_is, same_value}
-use Rattle.fraction_theory.proofs.OrderLaws.{≤ℚ_refl, ≤ℚ_trans, ≤ℚ_of_same, +ℚ-≤ℚ, *ℚ-≤ℚ, whole-≤ℚ}
+use Rattle.fraction_theory.proofs.OrderLaws.{NonNeg_or, by_rest, le_to, ≤ℚ_refl, ≤ℚ_trans, ≤ℚ_of_same, +ℚ-≤ℚ, *ℚ-≤ℚ, whole-≤ℚ}
+use Rattle.fraction_theory.proofs.SignLaws.{abs_above, abs_below, abs_within}
 use Rattle.fraction_theory.proofs.SumLaws.{sum_by-append, sum_by-plus, sum_by-times, sum_by-nil, sum_by-exchange, sum_by-same}
 use Rattle.std.specs.Prelude.{length, map, All, Contains, Option, Some, None, MatchOption}
 use Rattle.std.specs.List.{flat_map}
@@ -30,7 +32,7 @@ use Rattle.factor_residuals.specs.declared.spots.Spot.{Spot}
 use Rattle.factor_residuals.specs.declared.spots.Residual.{Residual}
 use Rattle.factor_residuals.specs.Kirchhoff.{taken, net_outflow, one_at, bus_spot}
 use Rattle.factor_residuals.specs.Residuals.{IsMost, IsResidual, places, shift_column, shift_columns, bus_spots}
-use Rattle.factor_residuals.specs.Injections.{micro, size_by, size, taken_flow, greatest, LawOfInjections}
+use Rattle.factor_residuals.specs.Injections.{micro, taken_flow, greatest, LawOfInjections}
 
 -- the flow over the branch of a row, by factors of rows and places
 abbrev flow_by : (ℕ → ℕ → ℤ) → ℕ → (ℕ → Fraction) → ℕ → Fraction
@@ -158,31 +160,29 @@ below-size (pos n) g h = (Prim.omega (arith, ints, h), Prim.omega (arith, ints, 
 below-size (negsuc n) g h = (Prim.omega (arith, ints, h), Prim.omega (arith, ints, h))
 
 -- a product with a number of millionths of at most this size
-product-≤ : (m : ℤ) (g : ℕ) (x : Fraction) → unsigned_abs m ≤ g → (micro m *ℚ x) ≤ℚ (micro (pos g) *ℚ size x)
-unfolding neg_ℚ
-product-≤ m g x h = by x.num refl
+product-≤ : (m : ℤ) (g : ℕ) (x : Fraction) → unsigned_abs m ≤ g → (micro m *ℚ x) ≤ℚ (micro (pos g) *ℚ abs_ℚ x)
+product-≤ m g x h = by (NonNeg_or x)
   where
-    by : (z : ℤ) → x.num ≡ z → (micro m *ℚ x) ≤ℚ (micro (pos g) *ℚ size_by z x)
-    by (pos n) e =
-        let above : NonNeg x = record { sign = subst (λ z. pos 0 ≤ℤ z) (sym e) (Prim.omega (arith, ints)) } in
-        ≤ℚ_trans _ _ _ (≤ℚ_of_same _ _ (*ℚ_comm (micro m) x)) (≤ℚ_trans _ _ _ (*ℚ-≤ℚ x (micro m) (micro (pos g)) above (micro-≤ m (pos g) (below-size m g h).0)) (≤ℚ_of_same _ _ (*ℚ_comm x (micro (pos g)))))
-    by (negsuc n) e =
-        let above : NonNeg (neg_ℚ x) = record { sign = subst (λ z. pos 0 ≤ℤ neg_ℤ z) (sym e) (Prim.omega (arith, ints)) } in
+    by : NonNeg x ⊎ NonNeg (neg_ℚ x) → (micro m *ℚ x) ≤ℚ (micro (pos g) *ℚ abs_ℚ x)
+    by (inl above) =
+        let size : abs_ℚ x ≡ x = abs_above x (by_rest (x ∷ []) pnil (at 0) (at 0) above refl) in
+        ≤ℚ_trans _ _ _ (≤ℚ_of_same _ _ (*ℚ_comm (micro m) x))
+        (≤ℚ_trans _ _ _ (*ℚ-≤ℚ x (micro m) (micro (pos g)) above (micro-≤ m (pos g) (below-size m g h).0)) (≤ℚ_of_same _ _ (*ℚ_comm x (micro (pos g)) ∙ ap (λ t. micro (pos g) *ℚ t) (sym size))))
+    by (inr below) =
+        let size : abs_ℚ x ≡ neg_ℚ x = abs_below x (by_rest (x ∷ []) (at 0) pnil (pneg (at 0)) below refl) in
         let turned : micro m *ℚ x ≡ neg_ℚ x *ℚ micro (neg_ℤ m) =
         by_ring ring_ℚ (micro m ∷ x ∷ []) (pmul (at 0) (at 1)) (pmul (pneg (at 1)) (pneg (at 0))) refl ∙ ap (λ t. neg_ℚ x *ℚ t) (sym (micro-neg m)) in
-        ≤ℚ_trans _ _ _ (≤ℚ_of_same _ _ turned) (≤ℚ_trans _ _ _ (*ℚ-≤ℚ (neg_ℚ x) (micro (neg_ℤ m)) (micro (pos g)) above (micro-≤ (neg_ℤ m) (pos g) (below-size m g h).1)) (≤ℚ_of_same _ _ (*ℚ_comm (neg_ℚ x) (micro (pos g)))))
+        ≤ℚ_trans _ _ _ (≤ℚ_of_same _ _ turned)
+        (≤ℚ_trans _ _ _ (*ℚ-≤ℚ (neg_ℚ x) (micro (neg_ℤ m)) (micro (pos g)) below (micro-≤ (neg_ℤ m) (pos g) (below-size m g h).1))
+        (≤ℚ_of_same _ _ (*ℚ_comm (neg_ℚ x) (micro (pos g)) ∙ ap (λ t. micro (pos g) *ℚ t) (sym size))))
 
 sum-≤ : (f g : ℕ → Fraction) (n : ℕ) → ((i : ℕ) → i < n → f i ≤ℚ g i) → sum_by f (places n) ≤ℚ sum_by g (places n)
 sum-≤ f g zero h = ≤ℚ_refl (whole (pos 0))
 sum-≤ f g (suc n) h = ≤ℚ_trans _ _ _ (≤ℚ_of_same _ _ (more-places f n))
     (≤ℚ_trans _ _ _ (+ℚ-≤ℚ _ _ _ _ (sum-≤ f g n (λ i l. h i (Prim.omega (arith, l)))) (h n (Prim.omega arith))) (≤ℚ_of_same _ _ (sym (more-places g n))))
 
-size-≤ : (x s : Fraction) → x ≤ℚ s → neg_ℚ x ≤ℚ s → size x ≤ℚ s
-size-≤ x s h k = by x.num
-  where
-    by : (z : ℤ) → size_by z x ≤ℚ s
-    by (pos n) = h
-    by (negsuc n) = k
+size-≤ : (x s : Fraction) → x ≤ℚ s → neg_ℚ x ≤ℚ s → abs_ℚ x ≤ℚ s
+size-≤ x s h k = abs_within x s (by_rest (x ∷ s ∷ []) (pneg (at 1)) (at 0) (padd (at 1) (pneg (pneg (at 0)))) (le_to (neg_ℚ x) s k) refl) h
 
 sum-neg : (f : ℕ → Fraction) (is : List ℕ) → neg_ℚ (sum_by f is) ≡ sum_by (λ i. neg_ℚ (f i)) is
 sum-neg f [] = by_ring ring_ℚ [] (pneg pnil) pnil refl
@@ -224,19 +224,19 @@ module _ (h : ℕ → ℕ → ℤ) (branches : List NetBranch) (n reference : �
 
 core_law : (h : ℕ → ℕ → ℤ) (branches : List NetBranch) (n reference : ℕ) (p : ℕ → Fraction) (g : ℕ) → sum_by p (places n) ≡ whole (pos 0)
     → ((i b : ℕ) → i < n → b < n → unsigned_abs (miss (λ row. h row i) branches i reference b) ≤ g)
-    → (b : ℕ) → b < n → size (outflow_by (flow_by h n p) branches b -ℚ p b) ≤ℚ (micro (pos g) *ℚ sum_by (λ i. size (p i)) (places n))
+    → (b : ℕ) → b < n → abs_ℚ (outflow_by (flow_by h n p) branches b -ℚ p b) ≤ℚ (micro (pos g) *ℚ sum_by (λ i. abs_ℚ (p i)) (places n))
 unfolding missing
 core_law h branches n reference p most_size balanced most b within =
     let f : ℕ → Fraction = λ i. micro (missing h branches n reference p b i) *ℚ p i in
-    let g : ℕ → Fraction = λ i. micro (pos most_size) *ℚ size (p i) in
+    let g : ℕ → Fraction = λ i. micro (pos most_size) *ℚ abs_ℚ (p i) in
     let is = difference h branches n reference p b balanced within in
     let high : sum_by f (places n) ≤ℚ sum_by g (places n) = sum-≤ f g n (λ i l. product-≤ (missing h branches n reference p b i) most_size (p i) (most i b l within)) in
     let low : neg_ℚ (sum_by f (places n)) ≤ℚ sum_by g (places n) =
     ≤ℚ_trans _ _ _ (≤ℚ_of_same _ _ (sum-neg f (places n))) (sum-≤ (λ i. neg_ℚ (f i)) g n (λ i l.
     ≤ℚ_trans _ _ _ (≤ℚ_of_same _ _ (by_ring ring_ℚ (micro (missing h branches n reference p b i) ∷ p i ∷ []) (pneg (pmul (at 0) (at 1))) (pmul (pneg (at 0)) (at 1)) refl ∙ ap (λ t. t *ℚ p i) (sym (micro-neg (missing h branches n reference p b i)))))
     (product-≤ (neg_ℤ (missing h branches n reference p b i)) most_size (p i) (subst (λ k. k ≤ most_size) (sym (unsigned_abs-neg (missing h branches n reference p b i))) (most i b l within))))) in
-    let whole_sum = sum_by-times (micro (pos most_size)) (λ i. size (p i)) (places n) in
-    ≤ℚ_trans _ _ _ (≤ℚ_of_same _ _ (ap size is)) (≤ℚ_trans _ _ _ (size-≤ _ _ high low) (≤ℚ_of_same _ _ whole_sum))
+    let whole_sum = sum_by-times (micro (pos most_size)) (λ i. abs_ℚ (p i)) (places n) in
+    ≤ℚ_trans _ _ _ (≤ℚ_of_same _ _ (ap abs_ℚ is)) (≤ℚ_trans _ _ _ (size-≤ _ _ high low) (≤ℚ_of_same _ _ whole_sum))
 
 -- ---- the residuals of a table
 -- no spot is above the greatest

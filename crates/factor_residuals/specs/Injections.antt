@@ -1,9 +1,10 @@
 -- What the bus residuals of shift factors say of the flows of any injection.
 -- Source: Wood and Wollenberg, on generation shift factors; Kirchhoff's current law.
-use Rattle.std.specs.Prelude.{◌≡◌, ℕ, ◌<◌, ◌==◌, ℤ, pos, negsuc, unsigned_abs, List, length, if◌then◌else◌}
+use Rattle.std.specs.Prelude.{◌≡◌, ℕ, ◌<◌, ◌==◌, ℤ, pos, unsigned_abs, List, length, if◌then◌else◌}
 use Rattle.std.specs.Option.{option_map_or}
-use Rattle.fraction_theory.specs.Fraction.{Fraction, whole, over, ◌-ℚ◌, ◌*ℚ◌, neg_ℚ}
+use Rattle.fraction_theory.specs.Fraction.{Fraction, whole, over, ◌-ℚ◌, ◌*ℚ◌}
 use Rattle.fraction_theory.specs.Order.{◌≤ℚ◌}
+use Rattle.fraction_theory.specs.Signs.{abs_ℚ}
 use Rattle.fraction_theory.specs.Sums.{sum_by}
 use Rattle.market_data.specs.Scales.{factor_one}
 use Rattle.net_case.specs.Networks.{LiveNetwork}
@@ -20,14 +21,6 @@ Injection = ℕ → Fraction
 -- so many parts of a factor of 1
 abbrev pub micro : ℤ → Fraction
 micro n = over n factor_one
-
-abbrev pub size_by : ℤ → Fraction → Fraction
-size_by (pos n) x = x
-size_by (negsuc n) x = neg_ℚ x
-
--- the size of a fraction
-abbrev pub size : Fraction → Fraction
-size x = size_by x.num x
 
 -- the flow over the branch of a row, without offsets: the sum over the buses of its factor times what goes in there
 abbrev pub flow_of : LiveNetwork → List Entry → Injection → ℕ → Fraction
@@ -50,4 +43,4 @@ greatest residual = option_map_or (λ s. unsigned_abs s.value) residual.most 0
 abbrev pub LawOfInjections : Type 0
 LawOfInjections = (network : LiveNetwork) (shift : List Entry) (residual : Residual) (p : Injection) → IsBusResidual network shift residual
     → sum_by p (places (length network.buses)) ≡ whole (pos 0) → (b : ℕ) → b < length network.buses
-    → size (outflow network shift p b -ℚ p b) ≤ℚ (micro (pos (greatest residual)) *ℚ sum_by (λ i. size (p i)) (places (length network.buses)))
+    → abs_ℚ (outflow network shift p b -ℚ p b) ≤ℚ (micro (pos (greatest residual)) *ℚ sum_by (λ i. abs_ℚ (p i)) (places (length network.buses)))

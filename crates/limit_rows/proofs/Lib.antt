@@ -8,3 +8,4 @@ pub mod FlowSteps
 pub mod PositionLemmas
 pub mod NameLemmas
 pub mod TestMarkets
+pub mod WalkLemmas

@@ -1,3 +1,4 @@
 pub mod LineFlows
 pub mod Naming
 pub mod NamesApart
+pub mod Walk

@@ -1,15 +1,14 @@
-//! Causes of limits, and the rows under each.
+//! Causes of limits, and which lines have one under a cause.
 
-ghost use Rattle.std.specs.Prelude.{◌≡◌, ◌≤◌, ◌<◌, ◌+◌, filter, length, Some};
+ghost use Rattle.std.specs.Prelude.{◌≡◌, ◌≤◌, ◌<◌, ◌+◌, length, Some};
 ghost use Rattle.std.specs.List.{slice_get};
-ghost use Rattle.market_data.specs.Scales.{most_lines, most_outages};
-ghost use Rattle.market_model.specs.Dispatch.{places};
-ghost use Rattle.market_model.specs.LimitRows.{bears, causes, lines_of, outage_of, IsCauseAmong};
+ghost use Rattle.market_data.specs.Scales.{most_outages};
+ghost use Rattle.market_model.specs.LimitRows.{bears, causes, outage_of, stated, IsCauseAmong};
 
-use market_model::{Cause, Market};
+use market_model::{Cause, Line, Market};
 
 /// How many causes of limits a market has: the base, and each outage.
-pub fn cause_count(market: &Market) -> usize
+pub(crate) fn cause_count(market: &Market) -> usize
     ensures count { result ≡ length (causes market.now) }
     ensures few { result ≤ most_outages + 1 }
 {
@@ -17,7 +16,7 @@ pub fn cause_count(market: &Market) -> usize
 }
 
 /// The cause at a place: the base first, then the outages as they are listed.
-pub fn cause_at(market: &Market, place: usize) -> Cause
+pub(crate) fn cause_at(market: &Market, place: usize) -> Cause
     requires { place < length (causes market.now) }
     ensures is { slice_get (causes market.now) place ≡ Some result }
     ensures lost { IsCauseAmong (length market.now.lines) result }
@@ -40,55 +39,24 @@ pub(crate) fn outage_of(market: &Market, cause: Cause) -> u32
     }
 }
 
+/// The limit that a line states for a cause, in 10^-9 MW, where it states one.
+pub(crate) fn stated(line: &Line, cause: Cause) -> Option<i64>
+    ensures { result ≡ stated line.now cause }
+{
+    match cause {
+        Cause::Base => line.base,
+        Cause::Branch(_) => line.post,
+    }
+}
+
 /// Whether the line at a place has a limit under a cause.
-pub fn has_row(market: &Market, cause: Cause, place: usize) -> bool
+pub(crate) fn has_row(market: &Market, cause: Cause, place: usize) -> bool
     requires { place < length market.now.lines }
     ensures { result ≡ bears market.now cause place }
 {
-    let line = market.lines().at(place);
+    let has_limit = stated(market.lines().at(place), cause).is_some();
     match cause {
-        Cause::Base => line.base.is_some(),
-        Cause::Branch(lost) => place != lost && line.post.is_some(),
+        Cause::Base => has_limit,
+        Cause::Branch(lost) => place != lost && has_limit,
     }
-}
-
-/// How many rows the lines before a place have under a cause.
-pub(crate) fn count_before(market: &Market, cause: Cause, end: usize) -> usize
-    requires { end ≤ length market.now.lines }
-    ensures count { result ≡ length (filter (bears market.now cause) (places end)) }
-    ensures few { result ≤ end }
-{
-    let mut count = 0;
-    for place in 0..end {
-        if has_row(market, cause, place) {
-            count += 1;
-        }
-    }
-    count
-}
-
-/// How many rows there are under a cause.
-pub(crate) fn count_of(market: &Market, cause: Cause) -> usize
-    ensures count { result ≡ length (lines_of market.now cause) }
-    ensures few { result ≤ most_lines }
-{
-    count_before(market, cause, market.lines().len())
-}
-
-/// The line of a row under a cause, behind so many others.
-pub(crate) fn line_behind(market: &Market, cause: Cause, count: usize) -> usize
-    requires { count < length (lines_of market.now cause) }
-    ensures within { result < length market.now.lines }
-    ensures is { slice_get (lines_of market.now cause) count ≡ Some result }
-{
-    let mut left = count;
-    for place in 0..market.lines().len() {
-        if has_row(market, cause, place) {
-            if left == 0 {
-                return place;
-            }
-            left -= 1;
-        }
-    }
-    unreachable!()
 }

@@ -7,12 +7,13 @@ mod flowing;
 pub mod laws;
 mod numbering;
 mod places;
+mod walk;
 
-pub use causes::{cause_at, cause_count, has_row};
 pub use factors::{coefficient, loss_of, row_factor, shift_of, unit_factor};
 pub use flowing::{put_line_flows, row_flow, row_offset};
 pub use numbering::{count, id, place_of, position, row_at};
 pub use places::{found_row, limit_at, name_at, row_named};
+pub use walk::{RowWalk, rows};
 
 #[cfg(test)]
 mod tests;

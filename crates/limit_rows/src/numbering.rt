@@ -6,19 +6,15 @@ ghost use Rattle.market_model.specs.declared.limits.Row.{Row};
 ghost use Rattle.market_model.specs.LimitRows.{row_id, rows};
 ghost use Rattle.limit_rows.specs.Naming.{has_name};
 
-use crate::causes::{cause_at, cause_count, count_before, count_of, line_behind};
 use crate::places::{name_at, row_named};
+use crate::walk::rows;
 use market_model::{Market, Row, RowId};
 
 /// How many limit rows a market has.
 pub fn count(market: &Market) -> usize
     ensures { result ≡ length (rows market.now) }
 {
-    let mut count = 0;
-    for place in 0..cause_count(market) {
-        count += count_of(market, cause_at(market, place));
-    }
-    count
+    rows(market).count()
 }
 
 /// The row at a place.
@@ -26,17 +22,10 @@ pub fn row_at(market: &Market, place: usize) -> Row
     requires { place < length (rows market.now) }
     ensures { slice_get (rows market.now) place ≡ Some result }
 {
-    let mut left = place;
-    for at in 0..cause_count(market) {
-        let cause = cause_at(market, at);
-        let count = count_of(market, cause);
-        if left < count {
-            let line = line_behind(market, cause, left);
-            return Row { line, cause };
-        }
-        left -= count;
+    match rows(market).nth(place) {
+        Some(row) => row,
+        None => unreachable!(),
     }
-    unreachable!()
 }
 
 /// The place of a row.
@@ -44,16 +33,10 @@ pub fn place_of(market: &Market, row: Row) -> usize
     requires { Contains (rows market.now) row }
     ensures { slice_get (rows market.now) result ≡ Some row }
 {
-    let _lines = market.lines();
-    let mut before = 0;
-    for at in 0..cause_count(market) {
-        let cause = cause_at(market, at);
-        if cause == row.cause {
-            return before + count_before(market, cause, row.line);
-        }
-        before += count_of(market, cause);
+    match rows(market).position(|other| other == row) {
+        Some(place) => place,
+        None => unreachable!(),
     }
-    unreachable!()
 }
 
 /// The name of the row at a place.

@@ -6,7 +6,7 @@ ghost use Rattle.market_data.specs.Participants.{IsDatum};
 ghost use Rattle.market_model.specs.declared.limits.Row.{Row};
 ghost use Rattle.market_model.specs.LimitRows.{causes, limit, outage_of, row_id, rows, IsCauseAmong};
 
-use crate::causes::{has_row, outage_of};
+use crate::causes::{has_row, outage_of, stated};
 use market_model::{Cause, Market, Row, RowId};
 
 /// The limit of a row, in 10^-9 MW; 0 where its line has none.
@@ -16,12 +16,7 @@ pub fn limit_at(market: &Market, row: Row) -> i64
     ensures sign { pos 0 ≤ℤ result }
     ensures limit { whole result ≡ limit market.now row }
 {
-    let line = market.lines().at(row.line);
-    let limit = match row.cause {
-        Cause::Base => line.base,
-        Cause::Branch(_) => line.post,
-    };
-    limit.unwrap_or(0)
+    stated(market.lines().at(row.line), row.cause).unwrap_or(0)
 }
 
 /// The name of a row.

@@ -3,10 +3,8 @@
 ghost use Rattle.std.specs.Prelude.{◌≡◌, ◌∷◌, [], pos, negsuc, IfOk};
 ghost use Rattle.market_model.specs.Lines.{hard_line};
 
-use crate::{
-    cause_at, cause_count, count, factor, factor_at, has_row, id, limit_at, name_at, position,
-    row_named,
-};
+use crate::causes::{cause_at, cause_count, has_row};
+use crate::{count, factor, factor_at, id, limit_at, name_at, position, row_named};
 use market_model::{Bus, Factor, Line, List, Market, Memory, Parts, RowId, assemble};
 use std::alloc::Global;
 use std::test::Fail;

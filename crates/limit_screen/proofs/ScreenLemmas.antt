@@ -1,12 +1,12 @@
 -- The worst of some rows, with one row more.
-use Rattle.std.specs.Prelude.{◌≡◌, ◌⊎◌, ℕ, ◌+◌, ◌-◌, ◌<◌, ◌≤◌, pos, Bool, true, false, cond, List, [], ◌∷◌, ◌++◌, map, filter, length, All, Option, Some, None, Contains, refl}
+use Rattle.std.specs.Prelude.{◌≡◌, ◌⊎◌, ℕ, ◌+◌, ◌-◌, ◌<◌, ◌≤◌, pos, List, [], ◌∷◌, ◌++◌, map, length, All, Option, Some, None, Contains, refl}
 use Rattle.std.specs.List.{slice_get}
 use Rattle.std.specs.Ordering.{MatchOrdering}
-use Rattle.std.proofs.Common.{zero, suc, arith, inl, inr, ap, ap₂, sym, subst, ◌∙◌, get_or, drop, take, append_assoc, Ordering, Less, Equal, Greater}
-use Rattle.std.proofs.lemmas.List.{append-nil, length-append, map-append, get_or-append_right, get_or-drop, drop-map, take-map, take_rest}
+use Rattle.std.proofs.Common.{zero, suc, arith, inl, inr, ap, ap₂, sym, subst, ◌∙◌, get_or, drop, take, Ordering, Less, Equal, Greater}
+use Rattle.std.proofs.lemmas.List.{length-append, get_or-append_right, get_or-drop, drop-map, take-map, take_rest}
 use Rattle.std.proofs.Math.Seq.{take-append_seam}
 use Rattle.std.proofs.lemmas.List.FromFn.{length-map-range_with_len, get_or-map-range_with_len}
-use Rattle.std.proofs.lemmas.List.Elements.{All-append, All-cons, All-nil, filter-append}
+use Rattle.std.proofs.lemmas.List.Elements.{All-append, All-cons, All-nil}
 use Rattle.std.proofs.lemmas.Option.{slice_get_within, get_or_from_slice_get}
 use Rattle.fraction_theory.specs.Fraction.{Fraction, whole, neg_ℚ, ◌-ℚ◌}
 use Rattle.fraction_theory.specs.Order.{◌<ℚ◌, ◌≤ℚ◌}
@@ -21,18 +21,15 @@ use Rattle.fraction_theory.proofs.SignLaws.{IsSign, sign_of_is}
 use Rattle.market_model.specs.declared.participants.Parts.{Parts}
 use Rattle.market_model.specs.Dispatch.{Dispatch, places, injection}
 use Rattle.market_model.specs.Overrun.{IsFirstMost}
-use Rattle.market_model.specs.declared.limits.Cause.{Cause}
 use Rattle.market_model.specs.declared.limits.Row.{Row}
-use Rattle.market_model.specs.LimitRows.{bears, causes, flow_by, flow_terms, limit, line_flow, line_flows, rows}
+use Rattle.market_model.specs.LimitRows.{flow_by, flow_terms, limit, line_flow, line_flows, rows}
 use Rattle.market_model.specs.PutIn.{put_in}
-use Rattle.market_model.proofs.MorePlaces.{places_more}
 use Rattle.limit_rows.proofs.FlowSteps.{flow_terms-same}
-use Rattle.limit_rows.proofs.NumberingLemmas.{row_on, all_before}
 use Rattle.limit_rows.proofs.PlaceLemmas.{at_places}
 use Rattle.limit_screen.specs.declared.screening.RowOverrun.{RowOverrun}
 use Rattle.market_model.specs.Market.{IsMarket}
 use Rattle.limit_screen.specs.Flows.{flows_at, line_in, LawOfRowFlows}
-use Rattle.limit_screen.specs.Screening.{AllHold, IsWorstOf, overrun_by, rows_to}
+use Rattle.limit_screen.specs.Screening.{AllHold, IsWorstOf, overrun_by}
 
 -- ---- orders and differences
 pub not_past : (o : Ordering) (x y : Fraction) → MatchOrdering o (x <ℚ y) (x ≡ y) (y <ℚ x) → (o ≡ Less) ⊎ (o ≡ Equal) → x ≤ℚ y
@@ -162,25 +159,7 @@ lines_behind {N} value m fs n count i l = at_line i
         ∙ ap (λ ys. get_or ys l (whole (pos 0))) (sym (drop-map value n fs)) ∙ get_or-drop n (map value fs) l (whole (pos 0))
         ∙ ap (λ (k : ℕ). get_or (map value fs) (k + l) (whole (pos 0))) count
 
--- ---- rows of a cause, line by line
-pub lines_more : (m : Parts) (cause : Cause) (k : ℕ) (rs : List Row) → bears m cause k ≡ true
-    → rs ++ map (row_on cause) (filter (bears m cause) (places (k + 1))) ≡ (rs ++ map (row_on cause) (filter (bears m cause) (places k))) ++ row_on cause k ∷ []
-lines_more m cause k rs e =
-    ap (λ ls. rs ++ map (row_on cause) ls) (ap (filter (bears m cause)) (places_more k) ∙ filter-append (bears m cause) (places k) (k ∷ []) ∙ ap (λ (b : Bool). filter (bears m cause) (places k) ++ cond b (k ∷ []) []) e)
-    ∙ ap (λ ss. rs ++ ss) (map-append (row_on cause) (filter (bears m cause) (places k)) (k ∷ []))
-    ∙ sym (append_assoc rs (map (row_on cause) (filter (bears m cause) (places k))) (row_on cause k ∷ []))
-
-pub lines_same : (m : Parts) (cause : Cause) (k : ℕ) (rs : List Row) → bears m cause k ≡ false
-    → rs ++ map (row_on cause) (filter (bears m cause) (places (k + 1))) ≡ rs ++ map (row_on cause) (filter (bears m cause) (places k))
-lines_same m cause k rs e =
-    ap (λ ls. rs ++ map (row_on cause) ls)
-    (ap (filter (bears m cause)) (places_more k) ∙ filter-append (bears m cause) (places k) (k ∷ []) ∙ ap (λ (b : Bool). filter (bears m cause) (places k) ++ cond b (k ∷ []) []) e
-    ∙ append-nil (filter (bears m cause) (places k)))
-
 -- ---- the worst of all rows
-pub all_rows : (m : Parts) (k : ℕ) → length (causes m) ≤ k → rows_to m k ≡ rows m
-all_rows m k h = all_before m k h
-
 pub all_hold_by : (m : Parts) (f : ℕ → Fraction) → All (λ s. overrun_by m f s ≤ℚ whole (pos 0)) (rows m) → AllHold m f
 all_hold_by m f h r c =
     let size : abs_ℚ (flow_by m f r) ≤ℚ limit m r = from_below (abs_ℚ (flow_by m f r)) (limit m r) (subst (λ t. overrun_by m f t ≤ℚ whole (pos 0)) c.2 (h c.0 r c.1)) in

@@ -1,6 +1,5 @@
 -- Which limit is passed by the most, where lines have given flows.
-use Rattle.std.specs.Prelude.{◌≡◌, ℕ, List, Option, Some, None, All, Contains, take}
-use Rattle.std.specs.List.{flat_map}
+use Rattle.std.specs.Prelude.{◌≡◌, ℕ, List, Option, Some, None, All, Contains}
 use Rattle.fraction_theory.specs.Fraction.{Fraction}
 use Rattle.fraction_theory.specs.Order.{◌≤ℚ◌}
 use Rattle.exact_fraction.specs.declared.Passed.{Passed}
@@ -9,7 +8,7 @@ use Rattle.market_model.specs.declared.participants.Parts.{Parts}
 use Rattle.market_model.specs.Dispatch.{zero}
 use Rattle.market_model.specs.Overrun.{overrun, IsFirstMost, IsWorst}
 use Rattle.market_model.specs.declared.limits.Row.{Row}
-use Rattle.market_model.specs.LimitRows.{causes, flow_by, limit, row_id, rows, rows_of}
+use Rattle.market_model.specs.LimitRows.{flow_by, limit, row_id, rows}
 use Rattle.market_model.specs.Optimality.{AreWithin}
 use Rattle.market_model.specs.SumTables.{IsRefusedAmong, RowFlowSum}
 use Rattle.limit_screen.specs.declared.screening.RowOverrun.{RowOverrun}
@@ -34,7 +33,3 @@ overrun_by m f r = overrun m r (flow_by m f r)
 abbrev pub IsWorstOf : {N : Type 0} → (N → Fraction) → (Row → Fraction) → List Row → Option (RowOverrun N) → Type 0
 IsWorstOf value e rs None = All (λ s. e s ≤ℚ zero) rs
 IsWorstOf value e rs (Some b) = ((place : ℕ) × IsFirstMost e rs place b.row) × (value b.overrun ≡ e b.row)
-
--- the rows of the first causes
-abbrev pub rows_to : Parts → ℕ → List Row
-rows_to m k = flat_map (rows_of m) (take k (causes m))

@@ -3,19 +3,19 @@
 ghost use Rattle.std.specs.Prelude.{◌≡◌, ◌+◌, ◌<◌, ◌≤ℤ◌, ℕ, ℤ, pos, List, [], ◌∷◌, ◌++◌, length, map, IfOk, IfErr, MatchOption};
 ghost use Rattle.fraction_theory.specs.Fraction.{Fraction, ◌-ℚ◌, whole};
 ghost use Rattle.fraction_theory.specs.Order.{◌<ℚ◌, ◌≤ℚ◌};
+ghost use Rattle.fraction_theory.specs.Signs.{abs_ℚ};
 ghost use Rattle.market_model.specs.Valued.{passed_at};
 ghost use Rattle.market_model.specs.Dispatch.{zero};
 ghost use Rattle.market_model.specs.Overrun.{IsWorst};
 ghost use Rattle.market_model.specs.declared.limits.Row.{Row};
-ghost use Rattle.market_model.specs.LimitRows.{IsCauseAmong, causes, flow_by};
+ghost use Rattle.market_model.specs.LimitRows.{IsCauseAmong, flow_by};
 ghost use Rattle.market_model.specs.SumTables.{IsRefusedAmong, RowFlowSum};
 ghost use Rattle.limit_screen.specs.Flows.{line_in};
-ghost use Rattle.limit_screen.specs.Screening.{AllHold, IsWorstNamed, IsScreenRefusal, IsWorstOf, overrun_by, rows_to};
-ghost use Rattle.fraction_theory.specs.Signs.{abs_ℚ};
+ghost use Rattle.limit_screen.specs.Screening.{AllHold, IsWorstNamed, IsScreenRefusal, IsWorstOf, overrun_by};
 
 use crate::flowing::line_flows;
 use exact_fraction::{Exact, Passed, Sign, exact_difference};
-use limit_rows::{cause_at, cause_count, has_row, limit_at, name_at, row_flow};
+use limit_rows::{limit_at, name_at, row_flow, rows};
 use market_model::{Market, Row, RowId, datum};
 use std::cmp::Ordering;
 
@@ -84,29 +84,6 @@ fn with_row<N: Exact>(
     }
 }
 
-/// The worst with the rows of a cause more.
-fn with_cause<N: Exact>(
-    market: &Market,
-    flows: &[N],
-    place: usize,
-    before: Option<RowOverrun<N>>,
-) -> Result<Option<RowOverrun<N>>, Passed<N>>
-    requires flows { length flows.now ≡ length market.now.buses + length market.now.lines }
-    requires place { place < length (causes market.now) }
-    requires before { IsWorstOf N.value (overrun_by market.now (line_in market.now (map N.value flows.now))) (rows_to market.now place) before }
-    ensures worst { IfOk result (IsWorstOf N.value (overrun_by market.now (line_in market.now (map N.value flows.now))) (rows_to market.now (place + 1))) }
-    ensures cause { IfErr result (λ passed. IsScreenRefusal market.now (line_in market.now (map N.value flows.now)) N.bound (passed_at N.value passed)) }
-{
-    let cause = cause_at(market, place);
-    let mut worst = before;
-    for line in 0..market.lines().len() {
-        if has_row(market, cause, line) {
-            worst = with_row(market, flows, Row { line, cause }, worst)?;
-        }
-    }
-    Ok(worst)
-}
-
 /// The row whose limit the flows pass by the most, and the first of those in the market's order; none where all limits hold. The flows
 /// are those of buses and then of lines, as `flows` puts them.
 pub fn worst_row<N: Exact>(market: &Market, flows: &[N]) -> Result<Option<Row>, Passed<N>>
@@ -116,8 +93,8 @@ pub fn worst_row<N: Exact>(market: &Market, flows: &[N]) -> Result<Option<Row>, 
     ensures cause { IfErr result (λ passed. IsScreenRefusal market.now (line_in market.now (map N.value flows.now)) N.bound (passed_at N.value passed)) }
 {
     let mut worst = None;
-    for place in 0..cause_count(market) {
-        worst = with_cause(market, flows, place, worst)?;
+    for row in rows(market) {
+        worst = with_row(market, flows, row, worst)?;
     }
     match worst {
         Some(broken) => Ok(Some(broken.row)),

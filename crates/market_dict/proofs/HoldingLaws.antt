@@ -30,6 +30,7 @@ use Rattle.market_model.specs.Dispatch.{places, zero as nil, block_at, empty}
 use Rattle.market_model.specs.Frame.{SameFrame}
 use Rattle.market_model.specs.declared.limits.Row.{Row}
 use Rattle.market_model.specs.LimitRows.{rows, limit, flow}
+use Rattle.market_model.specs.Lines.{HasHardLimits}
 use Rattle.market_model.specs.Market.{IsMarket}
 use Rattle.limit_rows.proofs.ApartLemmas.{names_apart}
 use Rattle.limit_rows.proofs.FactorLemmas.{stands}
@@ -397,10 +398,10 @@ module _ (m : Parts) (g : List Row) (e : Dictionary) (holds : HoldsSystem m g e)
         (λ w c. shown_value w (named_here w c)) (λ w c. shown_reduced w (named_here w c))
         (same_solved (system_in e) (system_of m g) holds.same (state_of e) solved)
 
-pub solved_answers : (m : Parts) (g : List Row) (e : Dictionary) → IsMarket m → HoldsSystem m g e → ShowsChoice e → IsSolved (system_in e) (state_of e) → AnswersBy m g (choice_of e)
-solved_answers m g e market holds shows solved = law_of_the_solved m g (choice_of e) market holds.holds.limits.rows (shown_choice m g e holds shows) (solved_at m g e holds shows market solved)
+pub solved_answers : (m : Parts) (g : List Row) (e : Dictionary) → IsMarket m → HasHardLimits m.lines → HoldsSystem m g e → ShowsChoice e → IsSolved (system_in e) (state_of e) → AnswersBy m g (choice_of e)
+solved_answers m g e market hard holds shows solved = law_of_the_solved m g (choice_of e) market hard holds.holds.limits.rows (shown_choice m g e holds shows) (solved_at m g e holds shows market solved)
 
-pub empty_shows : (m : Parts) (g : List Row) (e : Dictionary) (row : ℕ) (above : Bool) → IsMarket m → HoldsSystem m g e → ShowsChoice e → IsEmptyAt e row above → StuckShows m g (choice_of e) (slice_index e.basics row) above
-empty_shows m g e row above market holds shows empty =
-    law_of_the_stuck m g (choice_of e) (slice_index e.basics row) above market holds.holds.limits.rows (shown_choice m g e holds shows)
+pub empty_shows : (m : Parts) (g : List Row) (e : Dictionary) (row : ℕ) (above : Bool) → IsMarket m → HasHardLimits m.lines → HoldsSystem m g e → ShowsChoice e → IsEmptyAt e row above → StuckShows m g (choice_of e) (slice_index e.basics row) above
+empty_shows m g e row above market hard holds shows empty =
+    law_of_the_stuck m g (choice_of e) (slice_index e.basics row) above market hard holds.holds.limits.rows (shown_choice m g e holds shows)
     (same_stuck (system_in e) (system_of m g) holds.same (choice_of e) (slice_index e.basics row) above empty.stuck)

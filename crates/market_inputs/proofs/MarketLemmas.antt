@@ -9,7 +9,9 @@ use Rattle.market_data.specs.declared.participants.Bus.{Bus}
 use Rattle.market_data.specs.declared.participants.Unit as unit
 use Rattle.market_model.specs.declared.participants.Factor.{Factor}
 use Rattle.market_model.specs.declared.participants.Line.{Line}
+use Rattle.market_model.specs.Lines.{HasHardLimits, IsHard}
 use Rattle.market_model.specs.Market.{IsLine, IsMarket, bare_parts}
+use Rattle.market_model.proofs.HardLimits.{hard_is_hard, hard_is_line}
 use Rattle.market_model.proofs.PlainMarkets.{plain_market, distinct_by_rise}
 use Rattle.net_case.specs.Networks.{LiveNetwork, IsNetwork, IsNetBranch, IsLimit}
 use Rattle.net_case.specs.NetworkReading.{unit_within}
@@ -84,12 +86,13 @@ module _ (network : LiveNetwork) (offsets : List OffsetEntry) (net : IsNetwork n
           let range = net.rows_of_branches.range i d.row (omega (arith, lt, length-map network.branches (λ (x : NetBranch). x.row))) in
           let there : get_or lines i (line_of offsets d) ≡ line_of offsets b = get_or-map (line_of offsets) network.branches i d (line_of offsets d) lt in
           let offset : IsDatum (line_of offsets b).offset = subst (λ (l : Line). IsDatum l.offset) there (data_of i (line_of offsets d) (omega (arith, lt, length-map network.branches (line_of offsets)))) in
-          record {
-            row = omega (arith, range.0, row);
-            base = not-below b.base is.base;
-            post = not-below b.post is.post;
-            offset = offset;
-          }
+          hard_is_line b.row b.base b.post (line_of offsets b).offset (omega (arith, range.0, row)) (not-below b.base is.base) (not-below b.post is.post) offset
+
+-- no limit of them gives way
+pub lines-hard : (network : LiveNetwork) (offsets : List OffsetEntry) → HasHardLimits (map (line_of offsets) network.branches)
+lines-hard network offsets =
+    All-map IsHard (line_of offsets) network.branches
+    (λ i d lt. let b : NetBranch = get_or network.branches i d in hard_is_hard b.row b.base b.post (line_of offsets b).offset)
 
 -- ---- the market with limits
 -- parts whose lists are those of a network are its market

@@ -18,7 +18,8 @@ use Rattle.market_model.specs.Changes.{with_price, with_quantity, with_demand, w
 use Rattle.market_model.specs.Dispatch.{bus_at, unit_at, block_at, line_at}
 use Rattle.market_model.specs.Market.{IsMarket, IsBlock, IsLine, AreTableFactors, HasRoom}
 use Rattle.market_model.specs.Stairs.{same_side, is_on_stair, stair_in, offered, room_of}
-use Rattle.market_model.specs.Lines.{hard_line}
+use Rattle.market_model.specs.Lines.{hard_line, IsHard, HasHardLimits}
+use Rattle.market_model.proofs.HardLimits.{hard_line_at}
 
 -- ---- stairs with one block changed
 -- what a block adds to a stair
@@ -195,8 +196,16 @@ module _ (m : Parts) (market : IsMarket m) where
       row_is k false = refl
 
       is_line : (k : Line) (t : Bool) → IsLine k → IsLine (line_with k t mw)
-      is_line k true h = record { row = h.row; base = h.base; post = least; offset = h.offset }
-      is_line k false h = record { row = h.row; base = least; post = h.post; offset = h.offset }
+      is_line k true h = record { row = h.row; base = h.base; post = least; base_penalty = h.base_penalty; post_penalty = h.post_penalty; offset = h.offset }
+      is_line k false h = record { row = h.row; base = least; post = h.post; base_penalty = h.base_penalty; post_penalty = h.post_penalty; offset = h.offset }
+
+-- a line keeps its penalties where its limit changes
+pub hard_with_limit : (m : Parts) (l : ℕ) (post : Bool) (mw : ℤ) → HasHardLimits m.lines → HasHardLimits (with_limit m l post mw).lines
+hard_with_limit m l post mw hard = All-set IsHard m.lines l (line_with (line_at m l) post mw) (by post (line_at m l) (hard_line_at m hard l)) hard
+  where
+    by : (t : Bool) (k : Line) → IsHard k → IsHard (line_with k t mw)
+    by true k h = record { base = h.base; post = h.post }
+    by false k h = record { base = h.base; post = h.post }
 
 -- ---- the changes by what was put
 pub put_price : (m : Parts) (j : ℕ) (p : ℤ) (old : Block) (blocks : List Block) → slice_get m.blocks j ≡ Some old → blocks ≡ slice_set m.blocks j (record old { price = p })

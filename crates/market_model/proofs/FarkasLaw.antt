@@ -3,16 +3,14 @@ use Rattle.std.specs.Prelude.{◌≡◌, List, [], ◌∷◌, ◌++◌, length, 
 use Rattle.std.specs.List.{flat_map}
 use Rattle.std.proofs.Common.{ap, sym, ◌∙◌, subst, subst₂}
 use mathlib.Core.Path.{ap₂}
-use Rattle.fraction_theory.specs.Fraction.{Fraction, ◌+ℚ◌, ◌-ℚ◌, ◌*ℚ◌, neg_ℚ}
-use Rattle.fraction_theory.specs.Order.{◌≤ℚ◌, NonNeg}
-use Rattle.fraction_theory.specs.Signs.{sign_of, where_above, part_above}
+use Rattle.fraction_theory.specs.Fraction.{Fraction, ◌+ℚ◌, ◌-ℚ◌, ◌*ℚ◌}
+use Rattle.fraction_theory.specs.Order.{◌≤ℚ◌}
+use Rattle.fraction_theory.specs.Signs.{part_above}
 use Rattle.fraction_theory.specs.Sums.{Term, Product, sum_by, total}
-use Rattle.fraction_theory.specs.declared.Sign.{Sign}
-use Rattle.fraction_theory.specs.declared.Sign.TheVariants.{Below, Zero, Above}
 use Rattle.fraction_theory.proofs.Ring.{by_ring, by_ring3, at, pnil, pone, pneg, ◌⊕◌, ◌⊗◌}
 use Rattle.fraction_theory.proofs.FieldLaws.{ring_ℚ}
-use Rattle.fraction_theory.proofs.OrderLaws.{≤ℚ_refl, ≤ℚ_trans, +ℚ-≤ℚ, *ℚ-≤ℚ, *ℚ-≤ℚ_neg, <ℚ-≤ℚ, <ℚ-not-≤ℚ, ≤ℚ_of_same, NonNeg_from, le_to}
-use Rattle.fraction_theory.proofs.SignLaws.{sign_of_is}
+use Rattle.fraction_theory.proofs.OrderLaws.{by_le2, ≤ℚ_refl, ≤ℚ_trans, +ℚ-≤ℚ, <ℚ-not-≤ℚ, NonNeg_from}
+use Rattle.fraction_theory.proofs.SignLaws.{part_least}
 use Rattle.fraction_theory.proofs.SumLaws.{sum_by-≤, sum_by-same, sum_by-plus, sum_by-nil, total-append, total-Product}
 use Rattle.market_model.specs.declared.participants.Parts.{Parts}
 use Rattle.market_model.specs.declared.participants.Side.{Side}
@@ -21,7 +19,7 @@ use Rattle.market_model.specs.declared.answered.Duals.{Duals}
 use Rattle.market_model.specs.Dispatch.{Dispatch, zero, places, block_at, unit_at, block_bus, signed_by_side, accepted, quantity, raised_by, demand, balance, empty}
 use Rattle.market_model.specs.Optimality.{up_of, down_of, net_shadow_price, bus_price}
 use Rattle.market_model.specs.declared.limits.Row.{Row}
-use Rattle.market_model.specs.LimitRows.{rows, flow, row_offset, limit}
+use Rattle.market_model.specs.LimitRows.{rows, flow, row_offset, most_flow}
 use Rattle.market_model.specs.Market.{IsMarket}
 use Rattle.market_model.specs.Infeasibility.{block_weight, limit_terms, farkas_terms, farkas_bound}
 use Rattle.market_model.specs.Laws.{LawOfInfeasibility}
@@ -31,17 +29,9 @@ use Rattle.market_model.proofs.RowLaws.{along, row_prices, priced-by_rows, rent_
 
 -- a block makes no more than the greater of its weight and 0 makes of all that it has
 pub weight-most : (w x q : Fraction) → zero ≤ℚ x → x ≤ℚ q → (w *ℚ x) ≤ℚ (part_above w *ℚ q)
-weight-most w x q low high = by_sign (sign_of w) refl
-  where
-    none : w ≤ℚ zero → (w *ℚ x) ≤ℚ (zero *ℚ q)
-    none below =
-        let sign : NonNeg (neg_ℚ w) = subst NonNeg (by_ring ring_ℚ (w ∷ []) (pnil ⊕ pneg (at 0)) (pneg (at 0)) refl) (le_to w zero below) in
-        subst (λ t. (w *ℚ x) ≤ℚ t) (by_ring ring_ℚ (w ∷ q ∷ []) (at 0 ⊗ pnil) (pnil ⊗ at 1) refl) (*ℚ-≤ℚ_neg w zero x sign low)
-
-    by_sign : (s : Sign) → s ≡ sign_of w → (w *ℚ x) ≤ℚ (where_above s w *ℚ q)
-    by_sign Below is = none (<ℚ-≤ℚ w zero (sign_of_is w Below is))
-    by_sign Zero is = none (≤ℚ_of_same w zero (sign_of_is w Zero is))
-    by_sign Above is = *ℚ-≤ℚ w x q (NonNeg_from w (<ℚ-≤ℚ zero w (sign_of_is w Above is))) high
+weight-most w x q low high =
+    by_le2 (w ∷ part_above w ∷ x ∷ q ∷ []) (at 0 ⊗ at 2) (at 1 ⊗ at 3) (at 1) (at 2) (at 3) (at 2) (at 0) (at 1)
+    (NonNeg_from (part_above w) (part_least w).0) high (NonNeg_from x low) (part_least w).1 refl
 
 weight_signed : (side : Side) (e x : Fraction) → signed_by_side side e *ℚ x ≡ e *ℚ signed_by_side side x
 weight_signed Sell e x = refl
@@ -54,9 +44,9 @@ weights-by_raises m d x =
     sum_by-same (λ j. block_weight m d j *ℚ accepted x j) (λ j. bus_price m d (block_bus m j) *ℚ raised_by m x j) (places (length m.blocks))
     (λ j. weight_signed (block_at m j).side (bus_price m d (block_bus m j)) (accepted x j))
 
--- what a dispatch leaves of the limits of a row, at its prices
+-- what the flow of a row leaves of the most that it may be, at its prices
 abbrev pub left_of : Parts → Duals Fraction → Dispatch → Row → Fraction
-left_of m d x r = up_of m d r *ℚ (limit m r -ℚ flow m x r) +ℚ (down_of m d r *ℚ (limit m r +ℚ flow m x r) +ℚ zero)
+left_of m d x r = up_of m d r *ℚ (most_flow m r -ℚ flow m x r) +ℚ (down_of m d r *ℚ (most_flow m r +ℚ flow m x r) +ℚ zero)
 
 -- the total of lists one behind the other
 pub total-flat_map : {T : Type 0} (f : T → List Term) (xs : List T) → total (flat_map f xs) ≡ sum_by (λ x. total (f x)) xs
@@ -89,13 +79,13 @@ left-and-row_prices : (m : Parts) (d : Duals Fraction) (x y : Dispatch) → sum_
 left-and-row_prices m d x y = to_fixed x ∙ sym (to_fixed y)
   where
     fixed : Row → Fraction
-    fixed r = (up_of m d r +ℚ down_of m d r) *ℚ limit m r -ℚ net_shadow_price m d r *ℚ row_offset m r
+    fixed r = (up_of m d r +ℚ down_of m d r) *ℚ most_flow m r -ℚ net_shadow_price m d r *ℚ row_offset m r
 
-    to_fixed : (z : Dispatch) → sum_by (left_of m d z) (rows m) +ℚ row_prices m d z ≡ sum_by (λ r. (up_of m d r +ℚ down_of m d r) *ℚ limit m r -ℚ net_shadow_price m d r *ℚ row_offset m r) (rows m)
+    to_fixed : (z : Dispatch) → sum_by (left_of m d z) (rows m) +ℚ row_prices m d z ≡ sum_by (λ r. (up_of m d r +ℚ down_of m d r) *ℚ most_flow m r -ℚ net_shadow_price m d r *ℚ row_offset m r) (rows m)
     to_fixed z =
         sym (sum_by-plus (left_of m d z) (λ r. net_shadow_price m d r *ℚ (flow m z r -ℚ row_offset m r)) (rows m))
-        ∙ sum_by-same (λ r. left_of m d z r +ℚ net_shadow_price m d r *ℚ (flow m z r -ℚ row_offset m r)) (λ r. (up_of m d r +ℚ down_of m d r) *ℚ limit m r -ℚ net_shadow_price m d r *ℚ row_offset m r) (rows m)
-        (λ r. by_ring ring_ℚ (up_of m d r ∷ down_of m d r ∷ limit m r ∷ flow m z r ∷ row_offset m r ∷ [])
+        ∙ sum_by-same (λ r. left_of m d z r +ℚ net_shadow_price m d r *ℚ (flow m z r -ℚ row_offset m r)) (λ r. (up_of m d r +ℚ down_of m d r) *ℚ most_flow m r -ℚ net_shadow_price m d r *ℚ row_offset m r) (rows m)
+        (λ r. by_ring ring_ℚ (up_of m d r ∷ down_of m d r ∷ most_flow m r ∷ flow m z r ∷ row_offset m r ∷ [])
         ((at 0 ⊗ (at 2 ⊕ pneg (at 3)) ⊕ (at 1 ⊗ (at 2 ⊕ at 3) ⊕ pnil)) ⊕ (at 0 ⊕ pneg (at 1)) ⊗ (at 3 ⊕ pneg (at 4)))
         ((at 0 ⊕ at 1) ⊗ at 2 ⊕ pneg ((at 0 ⊕ pneg (at 1)) ⊗ at 4)) refl)
 
@@ -134,7 +124,7 @@ law_of_infeasibility m d x h shows f =
     let some_left : zero ≤ℚ sum_by (left_of m d x) (rows m) =
     subst (λ t. t ≤ℚ sum_by (left_of m d x) (rows m)) (sum_by-nil (rows m))
     (sum_by-≤ (λ r. zero) (left_of m d x) (rows m) (along (λ r. zero ≤ℚ left_of m d x r) (rows m)
-    (λ r c. let w = f.limits r c in rent_sign (up_of m d r) (down_of m d r) (limit m r) (flow m x r) (shows.up_signs r c) (shows.down_signs r c) (λ a. w.below) (λ a. w.above)))) in
+    (λ r c. let w = f.limits r c in rent_sign (up_of m d r) (down_of m d r) (most_flow m r) (flow m x r) (shows.up_signs r c) (shows.down_signs r c) (λ a. w.below) (λ a. w.above)))) in
     let made : p +ℚ (left_none +ℚ weights) ≡ left =
     by_ring3 ring_ℚ (p ∷ left_none ∷ weights ∷ left ∷ row_prices m d x ∷ row_prices m d (empty m) ∷ d.energy ∷ balance m x ∷ [])
     (at 0 ⊕ (at 1 ⊕ at 2)) (at 3)

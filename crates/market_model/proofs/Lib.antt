@@ -1,5 +1,6 @@
 mod BalanceSteps
 pub mod ChangeLemmas
+pub mod Excesses
 pub mod FarkasLaw
 mod FarkasRows
 pub mod HardLimits
@@ -19,6 +20,7 @@ mod RightsCases
 mod RightsLaw
 pub mod RowLaws
 pub mod Rows
+pub mod SoftCases
 pub mod StopLemmas
 pub mod SumParts
 pub mod SumSteps

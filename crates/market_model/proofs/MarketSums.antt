@@ -32,6 +32,9 @@ pub sum_by-neg : {T : Type 0} (f : T → Fraction) (xs : List T) → sum_by (λ 
 sum_by-neg f [] = by_ring ring_ℚ [] pnil (pneg pnil) refl
 sum_by-neg f (x ∷ xs) = ap (λ t. neg_ℚ (f x) +ℚ t) (sum_by-neg f xs) ∙ by_ring ring_ℚ (f x ∷ sum_by f xs ∷ []) (pneg (at 0) ⊕ pneg (at 1)) (pneg (at 0 ⊕ at 1)) refl
 
+pub sum_by-minus : {T : Type 0} (f g : T → Fraction) (xs : List T) → sum_by (λ x. f x -ℚ g x) xs ≡ sum_by f xs -ℚ sum_by g xs
+sum_by-minus f g xs = sum_by-plus f (λ x. neg_ℚ (g x)) xs ∙ ap (λ t. sum_by f xs +ℚ t) (sum_by-neg g xs)
+
 -- the fixed part of a unit
 abbrev pub fixed_part : Parts → ℕ → Fraction
 fixed_part m u = whole (unit_at m u).fixed

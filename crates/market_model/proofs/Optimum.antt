@@ -1,5 +1,5 @@
 -- A supported dispatch is best, and what is left over is what limits earn.
-use Rattle.std.specs.Prelude.{◌≡◌, ℕ, pos, List, [], ◌∷◌, length, map, refl}
+use Rattle.std.specs.Prelude.{◌≡◌, ℕ, pos, Bool, true, false, List, [], ◌∷◌, length, map, filter, refl}
 use Rattle.std.proofs.Common.{ap, sym, ◌∙◌, subst, subst₂}
 use mathlib.Core.Path.{ap₂}
 use Rattle.fraction_theory.specs.Fraction.{Fraction, whole, ◌+ℚ◌, ◌-ℚ◌, ◌*ℚ◌, neg_ℚ}
@@ -8,6 +8,7 @@ use Rattle.fraction_theory.specs.Sums.{sum_by, Product}
 use Rattle.fraction_theory.proofs.Ring.{neg_times, by_ring, by_ring1, at, pnil, pone, pneg, ◌⊕◌, ◌⊗◌}
 use Rattle.fraction_theory.proofs.FieldLaws.{ring_ℚ}
 use Rattle.fraction_theory.proofs.OrderLaws.{by_le1, by_le2, NonNeg_from, NonNeg-one, not-≤ℚ}
+use Rattle.fraction_theory.proofs.ListSums.{kept, sum_by-filter}
 use Rattle.fraction_theory.proofs.SumLaws.{sum_by-plus, sum_by-same, sum_by-≤, total-append, total-Product}
 use Rattle.fraction_theory.proofs.Duality.{supports_best}
 use Rattle.market_model.specs.declared.participants.Parts.{Parts}
@@ -16,19 +17,36 @@ use Rattle.market_model.specs.declared.participants.Side.TheVariants.{Sell, Buy}
 use Rattle.market_model.specs.declared.answered.Duals.{Duals}
 use Rattle.market_model.specs.Market.{IsMarket}
 use Rattle.market_model.specs.Dispatch.{Dispatch, places, block_at, block_bus, unit_at, signed_by_side, accepted, quantity, raised_by, injection, balance, output, demand}
-use Rattle.market_model.specs.Optimality.{Feasible, Supports, Gains, Loses, price, block_value, welfare, net_shadow_price, bus_price, unit_price}
+use Rattle.market_model.specs.Optimality.{Feasible, Supports, Gains, Loses, price, block_value, value_terms, penalty_terms, welfare_for, welfare, net_shadow_price, bus_price, unit_price}
+use Rattle.market_model.specs.Overrun.{excess}
 use Rattle.market_model.specs.Settlement.{surplus}
 use Rattle.market_model.specs.Laws.{LawOfTheOptimum, LawOfTheSurplus, LawOfItsSign, LawOfNoLimits}
-use Rattle.market_model.proofs.RowLaws.{row_prices, priced-by_rows, row_prices-rents, row_prices-most, rents-sign}
+use Rattle.market_model.proofs.RowLaws.{row_prices, row_penalties, priced-by_rows, row_prices-rents, row_prices-most, rents-sign}
 use Rattle.market_model.specs.declared.limits.Row.{Row}
-use Rattle.market_model.specs.LimitRows.{flow, row_offset}
+use Rattle.market_model.specs.LimitRows.{rows, flow, row_offset, penalty, is_soft}
+use Rattle.market_model.proofs.Excesses.{hard_costs_nothing}
 use Rattle.market_model.proofs.PlaceSums.{places_all}
 use Rattle.market_model.proofs.MarketSums.{sum_by-neg, fixed_part, priced_injections-by_parts, priced_injections-by_outputs}
 
--- the welfare as a sum over blocks
-pub welfare-by_blocks : (m : Parts) (x : Dispatch) → welfare m x ≡ sum_by (λ j. block_value m j *ℚ accepted x j) (places (length m.blocks))
+-- what is bought less what is sold, as a sum over blocks
+abbrev pub value_of_blocks : Parts → Dispatch → Fraction
+value_of_blocks m x = sum_by (λ j. block_value m j *ℚ accepted x j) (places (length m.blocks))
+
+-- the welfare is that, less the penalties of all rows: those of hard limits are 0
+pub welfare-by_parts : (m : Parts) (x : Dispatch) → IsMarket m → welfare m x ≡ value_of_blocks m x -ℚ row_penalties m x
 unfolding welfare_for
-welfare-by_blocks m x = total-Product (block_value m) (accepted x) (places (length m.blocks))
+welfare-by_parts m x market =
+    total-append (value_terms m x) (penalty_terms m (rows m) x)
+    ∙ ap₂ ◌+ℚ◌ (total-Product (block_value m) (accepted x) (places (length m.blocks)))
+    (total-Product (λ r. neg_ℚ (penalty m r)) (excess m x) (filter (is_soft m) (rows m))
+    ∙ sum_by-filter (λ r. neg_ℚ (penalty m r) *ℚ excess m x r) (is_soft m) (rows m)
+    ∙ sum_by-same (λ r. kept (is_soft m r) (neg_ℚ (penalty m r) *ℚ excess m x r)) (λ r. neg_ℚ (penalty m r *ℚ excess m x r)) (rows m)
+    (λ r. of_row (is_soft m r) (penalty m r) (excess m x r) (λ hard. hard_costs_nothing m market r hard))
+    ∙ sum_by-neg (λ r. penalty m r *ℚ excess m x r) (rows m))
+  where
+    of_row : (soft : Bool) (penalty excess : Fraction) → (soft ≡ false → penalty ≡ whole (pos 0)) → kept soft (neg_ℚ penalty *ℚ excess) ≡ neg_ℚ (penalty *ℚ excess)
+    of_row true penalty excess hard = neg_times ring_ℚ penalty excess
+    of_row false penalty excess hard = by_ring1 ring_ℚ (penalty ∷ excess ∷ []) pnil (pneg (at 0 ⊗ at 1)) (at 1) (at 0) pnil (hard refl) refl
 
 -- what a block that takes z adds: its value, and what it raises at the price at its bus
 abbrev pub gain : Side → Fraction → Fraction → Fraction → Fraction
@@ -50,18 +68,16 @@ supported_gains Buy price worth x q z full empty h k =
     as_gain : (t : Fraction) → (price -ℚ worth) *ℚ t ≡ gain Buy price worth t
     as_gain t = by_ring ring_ℚ (worth ∷ price ∷ t ∷ []) ((at 1 ⊕ pneg (at 0)) ⊗ at 2) (pneg (pneg (at 1)) ⊗ at 2 ⊕ at 0 ⊗ pneg (at 2)) refl
 
--- the welfare and what the blocks raise at the prices of their buses
+-- the value and what the blocks raise at the prices of their buses
 pub gains-by_blocks : (m : Parts) (d : Duals Fraction) (x : Dispatch)
     → sum_by (λ j. gain (block_at m j).side (price m j) (unit_price m d (block_at m j).unit) (accepted x j)) (places (length m.blocks))
-    ≡ welfare m x +ℚ sum_by (λ j. bus_price m d (block_bus m j) *ℚ raised_by m x j) (places (length m.blocks))
-gains-by_blocks m d x =
-    sum_by-plus (λ j. block_value m j *ℚ accepted x j) (λ j. bus_price m d (block_bus m j) *ℚ raised_by m x j) (places (length m.blocks))
-    ∙ ap (λ t. t +ℚ sum_by (λ j. bus_price m d (block_bus m j) *ℚ raised_by m x j) (places (length m.blocks))) (sym (welfare-by_blocks m x))
+    ≡ value_of_blocks m x +ℚ sum_by (λ j. bus_price m d (block_bus m j) *ℚ raised_by m x j) (places (length m.blocks))
+gains-by_blocks m d x = sum_by-plus (λ j. block_value m j *ℚ accepted x j) (λ j. bus_price m d (block_bus m j) *ℚ raised_by m x j) (places (length m.blocks))
 
 -- among all dispatches within bounds a supported one has the greatest gains
 pub greatest_gains : (m : Parts) (d : Duals Fraction) (x y : Dispatch) → Feasible m x → Supports m x d → Feasible m y
-    → (welfare m y +ℚ sum_by (λ j. bus_price m d (block_bus m j) *ℚ raised_by m y j) (places (length m.blocks)))
-    ≤ℚ (welfare m x +ℚ sum_by (λ j. bus_price m d (block_bus m j) *ℚ raised_by m x j) (places (length m.blocks)))
+    → (value_of_blocks m y +ℚ sum_by (λ j. bus_price m d (block_bus m j) *ℚ raised_by m y j) (places (length m.blocks)))
+    ≤ℚ (value_of_blocks m x +ℚ sum_by (λ j. bus_price m d (block_bus m j) *ℚ raised_by m x j) (places (length m.blocks)))
 greatest_gains m d x y fx s fy =
     subst₂ ◌≤ℚ◌ (gains-by_blocks m d y) (gains-by_blocks m d x)
     (sum_by-≤ (λ j. of_block y j) (λ j. of_block x j) (places (length m.blocks))
@@ -79,17 +95,22 @@ priced_injections-balanced m d x e =
     priced-by_rows m d x
     ∙ by_ring1 ring_ℚ (d.energy ∷ balance m x ∷ row_prices m d x ∷ []) (at 0 ⊗ at 1 ⊕ pneg (at 2)) (pneg (at 2)) (at 0) (at 1) pnil e refl
 
--- what the blocks raise, at the prices of their buses, is the least where the duals support the dispatch
+-- what the injections make at the prices of their buses, by units, blocks and loads
+abbrev priced_at : Parts → Duals Fraction → Dispatch → Fraction
+priced_at m d x =
+    (sum_by (λ u. bus_price m d (unit_at m u).bus *ℚ fixed_part m u) (places (length m.units)) +ℚ sum_by (λ j. bus_price m d (block_bus m j) *ℚ raised_by m x j) (places (length m.blocks)))
+    -ℚ sum_by (λ i. bus_price m d i *ℚ demand m i) (places (length m.buses))
+
+-- with the penalties of rows it is the least where the duals support the dispatch
 pub priced_raises : (m : Parts) (d : Duals Fraction) (x y : Dispatch) → IsMarket m → Feasible m x → Supports m x d → Feasible m y
-    → ((sum_by (λ u. bus_price m d (unit_at m u).bus *ℚ fixed_part m u) (places (length m.units)) +ℚ sum_by (λ j. bus_price m d (block_bus m j) *ℚ raised_by m x j) (places (length m.blocks)))
-    -ℚ sum_by (λ i. bus_price m d i *ℚ demand m i) (places (length m.buses)))
-    ≤ℚ ((sum_by (λ u. bus_price m d (unit_at m u).bus *ℚ fixed_part m u) (places (length m.units)) +ℚ sum_by (λ j. bus_price m d (block_bus m j) *ℚ raised_by m y j) (places (length m.blocks)))
-    -ℚ sum_by (λ i. bus_price m d i *ℚ demand m i) (places (length m.buses)))
+    → (priced_at m d x +ℚ row_penalties m x) ≤ℚ (priced_at m d y +ℚ row_penalties m y)
 priced_raises m d x y h fx s fy =
-    subst₂ ◌≤ℚ◌
-    (sym (priced_injections-balanced m d x fx.balanced) ∙ priced_injections-by_parts m x (bus_price m d) h)
-    (sym (priced_injections-balanced m d y fy.balanced) ∙ priced_injections-by_parts m y (bus_price m d) h)
-    (by_le1 (row_prices m d x ∷ row_prices m d y ∷ []) (pneg (at 0)) (pneg (at 1)) pone (at 1) (at 0) NonNeg-one (row_prices-most m d x s y fy) refl)
+    subst₂ (λ a b. (a +ℚ row_penalties m x) ≤ℚ (b +ℚ row_penalties m y)) (by_parts x fx.balanced) (by_parts y fy.balanced)
+    (by_le1 (row_prices m d x ∷ row_prices m d y ∷ row_penalties m x ∷ row_penalties m y ∷ []) (pneg (at 0) ⊕ at 2) (pneg (at 1) ⊕ at 3)
+    pone (at 1 ⊕ pneg (at 3)) (at 0 ⊕ pneg (at 2)) NonNeg-one (row_prices-most m h d x s y fy) refl)
+  where
+    by_parts : (z : Dispatch) → balance m z ≡ whole (pos 0) → neg_ℚ (row_prices m d z) ≡ priced_at m d z
+    by_parts z e = sym (priced_injections-balanced m d z e) ∙ priced_injections-by_parts m z (bus_price m d) h
 
 pub law_of_the_optimum : LawOfTheOptimum
 law_of_the_optimum m d x y h fx s fy =
@@ -97,9 +118,10 @@ law_of_the_optimum m d x y h fx s fy =
     let loads : Fraction = sum_by (λ i. bus_price m d i *ℚ demand m i) (places (length m.buses)) in
     let of_x : Fraction = sum_by (λ j. bus_price m d (block_bus m j) *ℚ raised_by m x j) (places (length m.blocks)) in
     let of_y : Fraction = sum_by (λ j. bus_price m d (block_bus m j) *ℚ raised_by m y j) (places (length m.blocks)) in
-    by_le2 (welfare m y ∷ welfare m x ∷ of_x ∷ of_y ∷ units ∷ loads ∷ []) (at 0) (at 1)
-    pone (at 0 ⊕ at 3) (at 1 ⊕ at 2) pone ((at 4 ⊕ at 2) ⊕ pneg (at 5)) ((at 4 ⊕ at 3) ⊕ pneg (at 5))
-    NonNeg-one (greatest_gains m d x y fx s fy) NonNeg-one (priced_raises m d x y h fx s fy) refl
+    subst₂ ◌≤ℚ◌ (sym (welfare-by_parts m y h)) (sym (welfare-by_parts m x h))
+    (by_le2 (value_of_blocks m y ∷ value_of_blocks m x ∷ of_x ∷ of_y ∷ units ∷ loads ∷ row_penalties m x ∷ row_penalties m y ∷ []) (at 0 ⊕ pneg (at 7)) (at 1 ⊕ pneg (at 6))
+    pone (at 0 ⊕ at 3) (at 1 ⊕ at 2) pone (((at 4 ⊕ at 2) ⊕ pneg (at 5)) ⊕ at 6) (((at 4 ⊕ at 3) ⊕ pneg (at 5)) ⊕ at 7)
+    NonNeg-one (greatest_gains m d x y fx s fy) NonNeg-one (priced_raises m d x y h fx s fy) refl)
 
 -- the surplus is the opposite of the injections at bus prices
 pub surplus-by_injections : (m : Parts) (d : Duals Fraction) (x : Dispatch) → IsMarket m
@@ -122,10 +144,10 @@ surplus-by_pulls m d x h e =
     surplus-by_injections m d x h ∙ ap neg_ℚ (priced_injections-balanced m d x e) ∙ by_ring ring_ℚ (row_prices m d x ∷ []) (pneg (pneg (at 0))) (at 0) refl
 
 pub law_of_the_surplus : LawOfTheSurplus
-law_of_the_surplus m d x h f s = surplus-by_pulls m d x h f.balanced ∙ row_prices-rents m d x s
+law_of_the_surplus m d x h f s = surplus-by_pulls m d x h f.balanced ∙ row_prices-rents m h d x s
 
 pub law_of_its_sign : LawOfItsSign
-law_of_its_sign m d x h f s within = subst (λ t. whole (pos 0) ≤ℚ t) (sym (law_of_the_surplus m d x h f s)) (rents-sign m d x s within)
+law_of_its_sign m d x h f s within = subst (λ t. whole (pos 0) ≤ℚ t) (sym (law_of_the_surplus m d x h f s)) (rents-sign m h d x s within)
 
 pub law_of_no_limits : LawOfNoLimits
 law_of_no_limits m d x h none e =

@@ -21,7 +21,8 @@ use Rattle.market_model.specs.Optimality.{bus_price, net_shadow_price, up_of, do
 use Rattle.market_model.specs.Rights.{TransmissionRight, IsTransmissionRight, rights_injection, paid_to_rights}
 use Rattle.market_model.proofs.PlaceSums.{gather_times}
 use Rattle.market_model.proofs.MarketSums.{sum_by-neg}
-use Rattle.market_model.proofs.RowLaws.{along, nil_or_above, priced_by_rows, row_prices_by}
+use Rattle.market_model.proofs.Excesses.{nil_or_above}
+use Rattle.market_model.proofs.RowLaws.{along, priced_by_rows, row_prices_by}
 use Rattle.market_model.proofs.Optimum.{surplus-by_pulls}
 
 -- ---- what rights put in, at a number for each bus

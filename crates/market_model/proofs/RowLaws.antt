@@ -1,14 +1,14 @@
 -- Limit rows: markets that have none, flows by factors, and what bus prices make of injections.
-use Rattle.std.specs.Prelude.{◌≡◌, ◌⊎◌, ℕ, ◌<◌, All, Contains, List, [], ◌∷◌, ◌++◌, length, map, filter, refl}
+use Rattle.std.specs.Prelude.{◌≡◌, ℕ, ◌<◌, All, Contains, List, [], ◌∷◌, ◌++◌, length, map, filter, refl}
 use Rattle.std.specs.List.{flat_map, AllByRecursion}
-use Rattle.std.proofs.Common.{arith, ap, sym, ◌∙◌, subst, inl, inr}
+use Rattle.std.proofs.Common.{arith, ap, sym, ◌∙◌, subst, subst₂, inl, inr}
 use mathlib.Core.Path.{ap₂}
 use Rattle.fraction_theory.specs.Fraction.{Fraction, ◌+ℚ◌, ◌-ℚ◌, ◌*ℚ◌, neg_ℚ}
 use Rattle.fraction_theory.specs.Order.{◌≤ℚ◌, ◌<ℚ◌, NonNeg}
 use Rattle.fraction_theory.specs.Sums.{Product, sum_by, total}
 use Rattle.fraction_theory.proofs.Ring.{by_ring, by_ring1, by_ring2, at, pnil, pone, pneg, ◌⊕◌, ◌⊗◌}
 use Rattle.fraction_theory.proofs.FieldLaws.{ring_ℚ}
-use Rattle.fraction_theory.proofs.OrderLaws.{NonNeg_from, NonNeg_to, NonNeg-plus, NonNeg-times, NonNeg-nil, NonNeg-one, le_to, ≤ℚ-or-<ℚ, ≤ℚ_antisym, ≤ℚ_of_same, *ℚ-≤ℚ, by_le2}
+use Rattle.fraction_theory.proofs.OrderLaws.{NonNeg_from, NonNeg_to, NonNeg-plus, NonNeg-times, NonNeg-nil, NonNeg-one, le_to, ≤ℚ_trans, by_le1, by_le2}
 use Rattle.fraction_theory.proofs.ListSums.{Contains-head, Contains-cons, sum_by-members}
 use Rattle.fraction_theory.proofs.SumLaws.{sum_by-≤, sum_by-plus, sum_by-nil, sum_by-same, sum_by-times, sum_by-exchange, total-Product}
 use Rattle.market_model.specs.declared.participants.Parts.{Parts}
@@ -18,11 +18,14 @@ use Rattle.market_model.specs.Dispatch.{Dispatch, IsDispatch, zero, places, bloc
 use Rattle.market_model.specs.declared.limits.Cause.{Cause}
 use Rattle.market_model.specs.declared.limits.Row.{Row}
 use Rattle.market_model.specs.declared.limits.Cause.TheVariants.{Base, Branch}
-use Rattle.market_model.specs.LimitRows.{causes, bears, rows_of, rows, row_id, limit, row_flow, row_offset, row_factor, line_flow, line_offset, shift_factor, loss_factor, flow}
-use Rattle.market_model.specs.Optimality.{Feasible, Supports, BlockSupported, Gains, Loses, price, IsOneSided, ProperDuals, names_row, named_rows, up_of, down_of, net_shadow_price, congestion, bus_price, congestion_by, price_by}
-use Rattle.market_model.specs.Settlement.{rent}
+use Rattle.market_model.specs.LimitRows.{causes, bears, rows_of, rows, row_id, limit, most_flow, penalty, row_flow, row_offset, row_factor, line_flow, line_offset, shift_factor, loss_factor, flow}
+use Rattle.market_model.specs.Optimality.{Feasible, Supports, SideSupported, Within, BlockSupported, Gains, Loses, price, IsOneSided, ProperDuals, names_row, named_rows, up_of, down_of, net_shadow_price, congestion, bus_price, congestion_by, price_by}
+use Rattle.market_model.specs.Market.{IsMarket}
+use Rattle.market_model.specs.Overrun.{excess, excess_by}
+use Rattle.market_model.specs.Settlement.{priced_flow, rent}
 use Rattle.market_model.specs.Laws.{LawOfTheFlows, HasOffsetsWithin}
-use Rattle.market_model.proofs.MarketSums.{balance-by_injections, sum_by-neg}
+use Rattle.market_model.proofs.Excesses.{limit_least, nil_or_above, paid_down, paid_up, penalty_least, priced_flow-least, side_most, sides_most}
+use Rattle.market_model.proofs.MarketSums.{balance-by_injections, sum_by-minus, sum_by-neg}
 
 -- ---- a market without lines has no rows
 no_items : {X Y : Type 0} (f : X → List Y) (xs : List X) → ((x : X) → f x ≡ []) → flat_map f xs ≡ []
@@ -165,46 +168,21 @@ pub along : {T : Type 0} (P : T → Type 0) (xs : List T) → ((x : T) → Conta
 along P [] h = tt
 along P (x ∷ xs) h = (h x (Contains-head x xs), along P xs (λ y c. h y (Contains-cons x xs y c)))
 
--- ---- one row: its prices u and d, its limit, the flow f that they support, another flow g, its offset o
-pub nil_or_above : (u : Fraction) → zero ≤ℚ u → (u ≡ zero) ⊎ (zero <ℚ u)
-nil_or_above u h = elim (≤ℚ-or-<ℚ u zero) [ inl below ↦ inl (≤ℚ_antisym u zero below h) | inr above ↦ inr above ]
+-- ---- one row whose prices are supported by its flow f: another flow g, its offset o
+module _ (m : Parts) (market : IsMarket m) (r : Row) (u d f o : Fraction) (up : SideSupported m r u f) (down : SideSupported m r d (neg_ℚ f)) where
+  -- no flow up to the greatest counts for more at its net price, less the penalty
+  net_price_most : (g : Fraction) → Within (most_flow m r) g → ((u -ℚ d) *ℚ (g -ℚ o) -ℚ penalty m r *ℚ excess_by m r g) ≤ℚ ((u -ℚ d) *ℚ (f -ℚ o) -ℚ penalty m r *ℚ excess_by m r f)
+  net_price_most g w =
+      sides_most u d (penalty m r) (limit m r) f g o (limit_least m market r)
+      (side_most u f (limit m r) (most_flow m r) (penalty m r) (penalty_least m market r) up.sign up.reached up.exceeded up.used_up g w.below)
+      (side_most d (neg_ℚ f) (limit m r) (most_flow m r) (penalty m r) (penalty_least m market r) down.sign down.reached down.exceeded down.used_up (neg_ℚ g)
+      (by_le1 (g ∷ most_flow m r ∷ []) (pneg (at 0)) (at 1) pone (pneg (at 1)) (at 0) NonNeg-one w.above refl))
 
-module _ (u d limit f o : Fraction) (up_sign : zero ≤ℚ u) (down_sign : zero ≤ℚ d) (up : zero <ℚ u → f ≡ limit) (down : zero <ℚ d → f ≡ neg_ℚ limit) where
-  up_side : (g : Fraction) → g ≤ℚ limit → (u *ℚ g) ≤ℚ (u *ℚ f)
-  up_side g h = elim (nil_or_above u up_sign) [
-    | inl e ↦ ≤ℚ_of_same (u *ℚ g) (u *ℚ f) (ap (λ t. t *ℚ g) e ∙ by_ring ring_ℚ (g ∷ f ∷ []) (pnil ⊗ at 0) (pnil ⊗ at 1) refl ∙ ap (λ t. t *ℚ f) (sym e))
-    | inr a ↦ *ℚ-≤ℚ u g f (NonNeg_from u up_sign) (subst (λ t. g ≤ℚ t) (sym (up a)) h)
-  ]
-
-  down_side : (g : Fraction) → neg_ℚ limit ≤ℚ g → (d *ℚ f) ≤ℚ (d *ℚ g)
-  down_side g h = elim (nil_or_above d down_sign) [
-    | inl e ↦ ≤ℚ_of_same (d *ℚ f) (d *ℚ g) (ap (λ t. t *ℚ f) e ∙ by_ring ring_ℚ (f ∷ g ∷ []) (pnil ⊗ at 0) (pnil ⊗ at 1) refl ∙ ap (λ t. t *ℚ g) (sym e))
-    | inr a ↦ *ℚ-≤ℚ d f g (NonNeg_from d down_sign) (subst (λ t. t ≤ℚ g) (sym (down a)) h)
-  ]
-
-  -- no flow within the limit counts for more at its net price
-  pub net_price_most : (g : Fraction) → neg_ℚ limit ≤ℚ g → g ≤ℚ limit → ((u -ℚ d) *ℚ (g -ℚ o)) ≤ℚ ((u -ℚ d) *ℚ (f -ℚ o))
-  net_price_most g low high =
-      by_le2 (u ∷ d ∷ f ∷ g ∷ o ∷ []) ((at 0 ⊕ pneg (at 1)) ⊗ (at 3 ⊕ pneg (at 4))) ((at 0 ⊕ pneg (at 1)) ⊗ (at 2 ⊕ pneg (at 4)))
-      pone (at 0 ⊗ at 3) (at 0 ⊗ at 2) pone (at 1 ⊗ at 2) (at 1 ⊗ at 3) NonNeg-one (up_side g high) NonNeg-one (down_side g low) refl
-
-  -- at its net price it is the rent
-  pub net_price_rent : (u -ℚ d) *ℚ (f -ℚ o) ≡ u *ℚ (limit -ℚ o) +ℚ (d *ℚ (limit +ℚ o) +ℚ zero)
+  -- at its net price the flow is the rent
+  net_price_rent : (u -ℚ d) *ℚ (f -ℚ o) ≡ u *ℚ (priced_flow m r f -ℚ o) +ℚ (d *ℚ (priced_flow m r f +ℚ o) +ℚ zero)
   net_price_rent =
-      by_ring2 ring_ℚ (u ∷ d ∷ f ∷ o ∷ limit ∷ []) ((at 0 ⊕ pneg (at 1)) ⊗ (at 2 ⊕ pneg (at 3))) (at 0 ⊗ (at 4 ⊕ pneg (at 3)) ⊕ (at 1 ⊗ (at 4 ⊕ at 3) ⊕ pnil))
-      (pneg pone) (at 0 ⊗ at 4) (at 0 ⊗ at 2) pone (at 1 ⊗ pneg (at 4)) (at 1 ⊗ at 2) up_is down_is refl
-    where
-      up_is : u *ℚ limit ≡ u *ℚ f
-      up_is = elim (nil_or_above u up_sign) [
-        | inl e ↦ ap (λ t. t *ℚ limit) e ∙ by_ring ring_ℚ (limit ∷ f ∷ []) (pnil ⊗ at 0) (pnil ⊗ at 1) refl ∙ ap (λ t. t *ℚ f) (sym e)
-        | inr a ↦ ap (λ t. u *ℚ t) (sym (up a))
-      ]
-
-      down_is : d *ℚ neg_ℚ limit ≡ d *ℚ f
-      down_is = elim (nil_or_above d down_sign) [
-        | inl e ↦ ap (λ t. t *ℚ neg_ℚ limit) e ∙ by_ring ring_ℚ (limit ∷ f ∷ []) (pnil ⊗ pneg (at 0)) (pnil ⊗ at 1) refl ∙ ap (λ t. t *ℚ f) (sym e)
-        | inr a ↦ ap (λ t. d *ℚ t) (sym (down a))
-      ]
+      by_ring2 ring_ℚ (u ∷ d ∷ f ∷ o ∷ priced_flow m r f ∷ []) ((at 0 ⊕ pneg (at 1)) ⊗ (at 2 ⊕ pneg (at 3))) (at 0 ⊗ (at 4 ⊕ pneg (at 3)) ⊕ (at 1 ⊗ (at 4 ⊕ at 3) ⊕ pnil))
+      (pneg pone) (at 0 ⊗ at 4) (at 0 ⊗ at 2) (pneg pone) (at 1 ⊗ at 4) (at 1 ⊗ pneg (at 2)) (paid_up m r u f (limit_least m market r) up) (paid_down m r d f (limit_least m market r) down) refl
 
 -- a rent is at least 0 where the offset is within the limits, where a price is above 0
 pub rent_sign : (u d limit o : Fraction) → zero ≤ℚ u → zero ≤ℚ d → (zero <ℚ u → o ≤ℚ limit) → (zero <ℚ d → neg_ℚ limit ≤ℚ o)
@@ -227,23 +205,33 @@ rent_sign u d limit o up_sign down_sign up down =
     ]
 
 -- ---- all rows
-module _ (m : Parts) (d : Duals Fraction) (x : Dispatch) (s : Supports m x d) where
+-- what the penalties of all rows take
+abbrev pub row_penalties : Parts → Dispatch → Fraction
+row_penalties m x = sum_by (λ r. penalty m r *ℚ excess m x r) (rows m)
+
+module _ (m : Parts) (market : IsMarket m) (d : Duals Fraction) (x : Dispatch) (s : Supports m x d) where
   pub row_prices-rents : row_prices m d x ≡ sum_by (rent m x d) (rows m)
   unfolding rent
   row_prices-rents = sum_by-members (λ r. net_shadow_price m d r *ℚ (flow m x r -ℚ row_offset m r)) (rent m x d) (rows m)
-      (λ r c. let h = s.rows r c in net_price_rent (up_of m d r) (down_of m d r) (limit m r) (flow m x r) (row_offset m r) h.up_sign h.down_sign h.up h.down)
+      (λ r c. net_price_rent m market r (up_of m d r) (down_of m d r) (flow m x r) (row_offset m r) (s.rows r c).up (s.rows r c).down)
 
-  pub row_prices-most : (y : Dispatch) → Feasible m y → row_prices m d y ≤ℚ row_prices m d x
+  -- at the rows' net prices, less their penalties, no feasible dispatch counts for more
+  pub row_prices-most : (y : Dispatch) → Feasible m y → (row_prices m d y -ℚ row_penalties m y) ≤ℚ (row_prices m d x -ℚ row_penalties m x)
   row_prices-most y f =
-      sum_by-≤ (λ r. net_shadow_price m d r *ℚ (flow m y r -ℚ row_offset m r)) (λ r. net_shadow_price m d r *ℚ (flow m x r -ℚ row_offset m r)) (rows m)
-      (along (λ r. (net_shadow_price m d r *ℚ (flow m y r -ℚ row_offset m r)) ≤ℚ (net_shadow_price m d r *ℚ (flow m x r -ℚ row_offset m r))) (rows m)
-      (λ r c. let h = s.rows r c in let w = f.limits r c in
-      net_price_most (up_of m d r) (down_of m d r) (limit m r) (flow m x r) (row_offset m r) h.up_sign h.down_sign h.up h.down (flow m y r) w.above w.below))
+      subst₂ ◌≤ℚ◌ (sum_by-minus (counted y) (λ r. penalty m r *ℚ excess m y r) (rows m)) (sum_by-minus (counted x) (λ r. penalty m r *ℚ excess m x r) (rows m))
+      (sum_by-≤ (λ r. counted y r -ℚ penalty m r *ℚ excess m y r) (λ r. counted x r -ℚ penalty m r *ℚ excess m x r) (rows m)
+      (along (λ r. (counted y r -ℚ penalty m r *ℚ excess m y r) ≤ℚ (counted x r -ℚ penalty m r *ℚ excess m x r)) (rows m)
+      (λ r c. net_price_most m market r (up_of m d r) (down_of m d r) (flow m x r) (row_offset m r) (s.rows r c).up (s.rows r c).down (flow m y r) (f.limits r c))))
+    where
+      counted : Dispatch → Row → Fraction
+      counted z r = net_shadow_price m d r *ℚ (flow m z r -ℚ row_offset m r)
 
   pub rents-sign : HasOffsetsWithin m d → zero ≤ℚ sum_by (rent m x d) (rows m)
   unfolding rent
   rents-sign within =
       subst (λ t. t ≤ℚ sum_by (rent m x d) (rows m)) (sum_by-nil (rows m))
       (sum_by-≤ (λ r. zero) (rent m x d) (rows m) (along (λ r. zero ≤ℚ rent m x d r) (rows m)
-      (λ r c. let h = s.rows r c in rent_sign (up_of m d r) (down_of m d r) (limit m r) (row_offset m r) h.up_sign h.down_sign
-      (λ a. let w = within r c (inl a) in w.below) (λ a. let w = within r c (inr a) in w.above))))
+      (λ r c. let paid = priced_flow-least m r (flow m x r) in
+      rent_sign (up_of m d r) (down_of m d r) (priced_flow m r (flow m x r)) (row_offset m r) (s.rows r c).up.sign (s.rows r c).down.sign
+      (λ a. ≤ℚ_trans (row_offset m r) (limit m r) (priced_flow m r (flow m x r)) (within r c (inl a)).below paid)
+      (λ a. by_le2 (priced_flow m r (flow m x r) ∷ limit m r ∷ row_offset m r ∷ []) (pneg (at 0)) (at 2) pone (at 1) (at 0) pone (pneg (at 1)) (at 2) NonNeg-one paid NonNeg-one (within r c (inr a)).above refl))))

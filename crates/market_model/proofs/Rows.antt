@@ -18,7 +18,7 @@ use Rattle.market_model.specs.Stairs.{stair_in}
 use Rattle.market_model.proofs.PlainMarkets.{plain_market, distinct_by_rise}
 use Rattle.market_model.specs.Market.{bare_parts, IsMarket, IsBlock, HasRoom}
 use Rattle.market_model.specs.Dispatch.{Dispatch, places, injection, balance, output, demand, accepted, quantity, dispatch_by}
-use Rattle.market_model.specs.Optimality.{Feasible, Supports, BlockSupported, welfare, congestion_by, price_by}
+use Rattle.market_model.specs.Optimality.{Feasible, Supports, BlockSupported, welfare, congestion_by, price_by, welfare_for}
 use Rattle.market_model.specs.Settlement.{paid, pays, surplus}
 use Rattle.market_model.proofs.MarketSums.{fixed_part, most_raised, needed-at_most}
 use Rattle.market_model.proofs.WholeDispatch.{from_whole-<ℚ, from_whole-≤ℚ}
@@ -46,7 +46,7 @@ abbrev pub energy_at_ten : Duals Fraction
 energy_at_ten = record { energy = whole (pos (10 * 10 ^ 6)); limits = [] }
 
 pub three_buses-welfare : welfare three_buses first_only ≡ whole (neg_ℤ (pos (600 * 10 ^ 15)))
-unfolding welfare_for ◌+ℚ◌ ◌*ℚ◌ neg_ℚ over whole gcd gcd_in
+unfolding welfare_for rows ◌+ℚ◌ ◌*ℚ◌ neg_ℚ over whole gcd gcd_in
 three_buses-welfare = same_fraction (welfare three_buses first_only) (whole (neg_ℤ (pos (600 * 10 ^ 15)))) refl refl
 
 pub three_buses-balance : balance three_buses first_only ≡ whole (pos 0)
@@ -168,7 +168,7 @@ abbrev pub bought : Dispatch
 bought = dispatch_by (whole (pos (90 * 10 ^ 9)) ∷ whole (pos 0) ∷ whole (pos (30 * 10 ^ 9)) ∷ whole (pos 0) ∷ [])
 
 pub with_buyer-welfare : welfare with_buyer bought ≡ whole (pos (300 * 10 ^ 15))
-unfolding welfare_for ◌+ℚ◌ ◌*ℚ◌ neg_ℚ over whole gcd gcd_in
+unfolding welfare_for rows ◌+ℚ◌ ◌*ℚ◌ neg_ℚ over whole gcd gcd_in
 with_buyer-welfare = same_fraction (welfare with_buyer bought) (whole (pos (300 * 10 ^ 15))) refl refl
 
 pub with_buyer-balance : balance with_buyer bought ≡ whole (pos 0)
@@ -235,7 +235,7 @@ abbrev pub less_sold : Dispatch
 less_sold = dispatch_by (whole (pos (45 * 10 ^ 9)) ∷ whole (pos 0) ∷ [])
 
 pub with_shunt-welfare : welfare with_shunt less_sold ≡ whole (neg_ℤ (pos (450 * 10 ^ 15)))
-unfolding welfare_for ◌+ℚ◌ ◌*ℚ◌ neg_ℚ over whole gcd gcd_in
+unfolding welfare_for rows ◌+ℚ◌ ◌*ℚ◌ neg_ℚ over whole gcd gcd_in
 with_shunt-welfare = same_fraction (welfare with_shunt less_sold) (whole (neg_ℤ (pos (450 * 10 ^ 15)))) refl refl
 
 -- the second bus puts in 20 less 5, and all is in balance

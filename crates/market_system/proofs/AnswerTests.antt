@@ -23,8 +23,8 @@ use Rattle.market_model.specs.declared.participants.Side.TheVariants.{Sell, Buy}
 use Rattle.market_model.specs.Dispatch.{Dispatch, zero, places, block_at, accepted, quantity, balance}
 use Rattle.market_model.specs.Infeasibility.{IsFarkas, farkas_bound}
 use Rattle.market_model.specs.declared.limits.Row.{Row}
-use Rattle.market_model.specs.LimitRows.{rows, row_id, limit, flow, most_flow}
-use Rattle.market_model.specs.Optimality.{BlockSupported, Feasible, Gains, IsOneSided, Loses, ProperDuals, RowSupported, Supports, Within, down_of, named_rows, price, same_id, unit_price, up_of}
+use Rattle.market_model.specs.LimitRows.{rows, row_id, limit, penalty, flow, most_flow}
+use Rattle.market_model.specs.Optimality.{BlockSupported, Feasible, Gains, IsOneSided, Loses, ProperDuals, RowSupported, SideSupported, Supports, Within, down_of, named_rows, price, same_id, unit_price, up_of}
 use Rattle.market_model.specs.RightAnswers.{IsRight, answer_of, dispatch_in}
 use Rattle.market_system.proofs.LawsOfSolving.{law_of_the_answer}
 use Rattle.market_system.proofs.VariableLaws.{in_places}
@@ -93,11 +93,11 @@ abbrev is_accepted : Parts → Dispatch → ℕ → Bool
 is_accepted m x j = at_most zero (accepted x j) && at_most (accepted x j) (quantity m j)
 
 abbrev is_within : Parts → Dispatch → Row → Bool
-is_within m x r = at_most (neg_ℚ (limit m r)) (flow m x r) && at_most (flow m x r) (limit m r)
+is_within m x r = at_most (neg_ℚ (most_flow m r)) (flow m x r) && at_most (flow m x r) (most_flow m r)
 
 is_within-true : (m : Parts) (x : Dispatch) (r : Row) → is_within m x r ≡ true → Within (most_flow m r) (flow m x r)
 is_within-true m x r e =
-    let parts = both (at_most-true (neg_ℚ (limit m r)) (flow m x r)) (at_most-true (flow m x r) (limit m r)) e in
+    let parts = both (at_most-true (neg_ℚ (most_flow m r)) (flow m x r)) (at_most-true (flow m x r) (most_flow m r)) e in
     record { above = parts.0; below = parts.1 }
 
 abbrev pub is_feasible : Parts → Dispatch → Bool
@@ -157,16 +157,29 @@ has_prices up down = at_most zero up && at_most zero down
 has_prices-true : (up down : Fraction) → has_prices up down ≡ true → (zero ≤ℚ up) × (zero ≤ℚ down)
 has_prices-true up down e = both (at_most-true zero up) (at_most-true zero down) e
 
+-- either x is at most y, or what asks for that is not so
+at_most_or : (x y : Fraction) {t : Bool} {P : Type 0} → (t ≡ true → ¬ P) → (at_most x y || t) ≡ true → P → x ≤ℚ y
+at_most_or x y {t} refutes e p = elim (or_cases (at_most x y) t e) [ inl h ↦ at_most-true x y h | inr h ↦ absurd (refutes h p) ]
+
+abbrev is_side_supported : Parts → Row → Fraction → Fraction → Bool
+is_side_supported m r price f = at_most zero price
+    && ((at_most (limit m r) f || at_most price zero) && ((at_most (penalty m r) price || at_most f (limit m r)) && (same f (most_flow m r) || at_most price (penalty m r))))
+
+is_side_supported-true : (m : Parts) (r : Row) (price f : Fraction) → is_side_supported m r price f ≡ true → SideSupported m r price f
+is_side_supported-true m r price f e =
+    let reached = at_most_or (limit m r) f (not_below zero price) in
+    let exceeded = at_most_or (penalty m r) price (not_below (limit m r) f) in
+    let used_up = same_or f (most_flow m r) (not_below (penalty m r) price) in
+    let parts = both (at_most-true zero price) (both reached (both exceeded used_up)) e in
+    record { sign = parts.0; reached = parts.1.0; exceeded = parts.1.1.0; used_up = parts.1.1.1 }
+
 abbrev is_row_supported : Parts → Dispatch → Duals Fraction → Row → Bool
-is_row_supported m x d r = has_prices (up_of m d r) (down_of m d r)
-    && ((same (flow m x r) (limit m r) || at_most (up_of m d r) zero) && (same (flow m x r) (neg_ℚ (limit m r)) || at_most (down_of m d r) zero))
+is_row_supported m x d r = is_side_supported m r (up_of m d r) (flow m x r) && is_side_supported m r (down_of m d r) (neg_ℚ (flow m x r))
 
 is_row_supported-true : (m : Parts) (x : Dispatch) (d : Duals Fraction) (r : Row) → is_row_supported m x d r ≡ true → RowSupported m x d r
 is_row_supported-true m x d r e =
-    let up = same_or (flow m x r) (limit m r) (not_below zero (up_of m d r)) in
-    let down = same_or (flow m x r) (neg_ℚ (limit m r)) (not_below zero (down_of m d r)) in
-    let parts = both (has_prices-true (up_of m d r) (down_of m d r)) (both up down) e in
-    record { up_sign = parts.0.0; down_sign = parts.0.1; up = parts.1.0; down = parts.1.1 }
+    let parts = both (is_side_supported-true m r (up_of m d r) (flow m x r)) (is_side_supported-true m r (down_of m d r) (neg_ℚ (flow m x r))) e in
+    record { up = parts.0; down = parts.1 }
 
 abbrev pub is_supported : Parts → Dispatch → Duals Fraction → Bool
 is_supported m x d = list_all (is_block_supported m x d) (places (length m.blocks)) && list_all (is_row_supported m x d) (rows m)

@@ -9,28 +9,33 @@ use Rattle.market_model.specs.declared.participants.Parts.{Parts}
 use Rattle.market_model.specs.Dispatch.{Dispatch}
 use Rattle.market_model.specs.declared.limits.Row.{Row}
 use Rattle.market_model.specs.LimitRows.{rows, limit, flow}
+use Rattle.market_model.specs.Lines.{HasHardLimits}
+use Rattle.market_model.specs.Market.{IsMarket}
 use Rattle.market_model.specs.Optimality.{FeasibleFor}
 use Rattle.market_system.specs.Growth.{Broken, BestFor, GrowsBy, Growth}
 use Rattle.market_system.specs.SolvedLaws.{AreRows}
+use Rattle.market_system.proofs.HardMarkets.{hard_within}
 use Rattle.market_system.proofs.RowOrder.{pairs-append}
 
 -- a row that a feasible dispatch breaks is not in the list
-pub broken_is_new : (m : Parts) (g : List Row) (x : Dispatch) (r : Row) → FeasibleFor m g x → Broken m x r → ¬ (Contains g r)
-broken_is_new m g x r f (inl above) c = <ℚ-not-≤ℚ (limit m r) (flow m x r) above (f.limits r c).below
-broken_is_new m g x r f (inr below) c = <ℚ-not-≤ℚ (flow m x r) (neg_ℚ (limit m r)) below (f.limits r c).above
+pub broken_is_new : (m : Parts) → IsMarket m → HasHardLimits m.lines → (g : List Row) (x : Dispatch) (r : Row) → FeasibleFor m g x → Broken m x r → ¬ (Contains g r)
+broken_is_new m market hard g x r f (inl above) c = <ℚ-not-≤ℚ (limit m r) (flow m x r) above (hard_within m market hard r (flow m x r) (f.limits r c)).below
+broken_is_new m market hard g x r f (inr below) c = <ℚ-not-≤ℚ (flow m x r) (neg_ℚ (limit m r)) below (hard_within m market hard r (flow m x r) (f.limits r c)).above
 
 -- nothing more is grown
 pub growth_none : (m : Parts) (g : List Row) → Growth m g g
 growth_none m g = ([], sym (append-nil g), tt)
 
 -- a row behind a grown list
-pub growth_more : (m : Parts) (t g : List Row) (x : Dispatch) (r : Row) → Growth m t g → BestFor m g x → Broken m x r → Contains (rows m) r → Growth m t (g ++ r ∷ [])
-growth_more m t g x r (more, e, by) best broken c =
-    (more ++ r ∷ [], ap (λ rs. rs ++ r ∷ []) e ∙ append_assoc t more (r ∷ []), grown t more by (subst (λ rs. BestFor m rs x) e best))
+pub growth_more : (m : Parts) (t g : List Row) (x : Dispatch) (r : Row) → Growth m t g → BestFor m g x → Broken m x r → Contains (rows m) r → ¬ (Contains g r) → Growth m t (g ++ r ∷ [])
+growth_more m t g x r (more, e, by) best broken c new =
+    (more ++ r ∷ [], ap (λ rs. rs ++ r ∷ []) e ∙ append_assoc t more (r ∷ []), grown t more by (subst (λ rs. BestFor m rs x) e best) (subst (λ rs. ¬ (Contains rs r)) e new))
   where
-    grown : (old news : List Row) → GrowsBy m old news → BestFor m (old ++ news) x → GrowsBy m old (news ++ r ∷ [])
-    grown old [] by b = ((x, subst (λ rs. BestFor m rs x) (append-nil old) b, broken), c, tt)
-    grown old (s ∷ news) by b = (by.0, by.1, grown (old ++ s ∷ []) news by.2 (subst (λ rs. BestFor m rs x) (sym (append_assoc old (s ∷ []) news)) b))
+    grown : (old news : List Row) → GrowsBy m old news → BestFor m (old ++ news) x → ¬ (Contains (old ++ news) r) → GrowsBy m old (news ++ r ∷ [])
+    grown old [] by b n = ((x, subst (λ rs. BestFor m rs x) (append-nil old) b, broken), c, subst (λ rs. ¬ (Contains rs r)) (append-nil old) n, tt)
+    grown old (s ∷ news) by b n =
+        let along = sym (append_assoc old (s ∷ []) news) in
+        (by.0, by.1, by.2, grown (old ++ s ∷ []) news by.3 (subst (λ rs. BestFor m rs x) along b) (subst (λ rs. ¬ (Contains rs r)) along n))
 
 -- grown from grown is grown
 pub growth_again : (m : Parts) (t g h : List Row) → Growth m t g → Growth m g h → Growth m t h
@@ -39,7 +44,7 @@ growth_again m t g h (first, e, by) (second, f, more) =
   where
     joined : (old news : List Row) → GrowsBy m old news → GrowsBy m (old ++ news) second → GrowsBy m old (news ++ second)
     joined old [] by k = subst (λ rs. GrowsBy m rs second) (append-nil old) k
-    joined old (s ∷ news) by k = (by.0, by.1, joined (old ++ s ∷ []) news by.2 (subst (λ rs. GrowsBy m rs second) (sym (append_assoc old (s ∷ []) news)) k))
+    joined old (s ∷ news) by k = (by.0, by.1, by.2, joined (old ++ s ∷ []) news by.3 (subst (λ rs. GrowsBy m rs second) (sym (append_assoc old (s ∷ []) news)) k))
 
 cases_append : (xs ys : List Row) (r : Row) → Contains (xs ++ ys) r → Contains xs r ⊎ Contains ys r
 cases_append [] ys r c = inr c
@@ -66,7 +71,7 @@ growth_rows m t g are (more, e, by) = subst (AreRows m) (sym e) (grown t more ar
     grown old [] are by = subst (AreRows m) (sym (append-nil old)) are
     grown old (s ∷ news) are by =
         subst (AreRows m) (append_assoc old (s ∷ []) news)
-        (grown (old ++ s ∷ []) news (one_more m old s are by.1 (broken_is_new m old by.0.0 s by.0.1.feasible by.0.2)) by.2)
+        (grown (old ++ s ∷ []) news (one_more m old s are by.1 by.2) by.3)
 
 in_front : (xs ys : List Row) (r : Row) → Contains xs r → Contains (xs ++ ys) r
 in_front [] ys r c = absurd (Prim.omega (arith, c.1))

@@ -14,44 +14,44 @@ pub law_of_the_system : LawOfTheSystem
 law_of_the_system m g market = is_system_of m (rows_apart m (names_apart m market)) g
 
 pub law_of_the_points : LawOfThePoints
-law_of_the_points m g market all =
+law_of_the_points m g market hard all =
     let apart = rows_apart m (names_apart m market) in
     record {
       point = λ x f. (
         point_of m apart g market x,
         point_meets m apart g market x,
-        point_within m apart g market x f,
-        point_welfare m apart g market x,
+        point_within m apart g market hard x f,
+        point_welfare m apart g market hard x,
         λ j c. point-block m apart g market x j (from_places (length m.blocks) j c),
       );
-      dispatch = λ v meets within. (dispatch_feasible m apart g market v meets all within, sym (dispatch_welfare m apart g market v));
+      dispatch = λ v meets within. (dispatch_feasible m apart g market v meets hard all within, sym (dispatch_welfare m apart g market hard v));
     }
 
 pub law_of_the_solved : LawOfTheSolved
-law_of_the_solved m g h market all choice solved =
+law_of_the_solved m g h market hard all choice solved =
     let names = names_apart m market in
     record {
-      best = solved_best m names g h choice market all solved;
-      proper = solved_proper m names g h choice market all solved;
-      supported = solved_supports m names g h choice market all solved;
+      best = solved_best m names g h choice market hard all solved;
+      proper = solved_proper m names g h choice market hard all solved;
+      supported = solved_supports m names g h choice market hard all solved;
       blocks = λ j c. reduced-block m names g h choice j (from_places (length m.blocks) j c);
     }
 
 pub law_of_the_stuck : LawOfTheStuck
-law_of_the_stuck m g h b above market all choice stuck =
+law_of_the_stuck m g h b above market hard all choice stuck =
     let names = names_apart m market in
     record {
       farkas = record {
-        shows = stuck_shows m names market g h choice b above stuck;
-        proper = stuck_proper m names market g h choice b above stuck;
-        bound = sym (stuck_bound m names market g h choice b above stuck);
+        shows = stuck_shows m names market hard g h choice b above stuck;
+        proper = stuck_proper m names market hard g h choice b above stuck;
+        bound = sym (stuck_bound m names market hard g h choice b above stuck);
       };
-      of_choice = stuck_of_choice m names market g h choice b above stuck all;
+      of_choice = stuck_of_choice m names market hard g h choice b above stuck all;
     }
 
 pub law_of_growth : LawOfGrowth
 law_of_growth m = record {
-  broken_is_new = λ g x r best broken. broken_is_new m g x r best.feasible broken;
+  broken_is_new = λ g x r market hard best broken. broken_is_new m market hard g x r best.feasible broken;
   none = growth_none m;
   more = growth_more m;
   again = growth_again m;

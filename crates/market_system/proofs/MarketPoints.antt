@@ -18,16 +18,17 @@ use Rattle.market_model.specs.declared.participants.Side.TheVariants.{Sell, Buy}
 use Rattle.market_model.specs.declared.participants.Parts.{Parts}
 use Rattle.market_model.specs.Dispatch.{Dispatch, zero as nil, places, block_at, block_bus, signed_by_side, accepted, quantity, raised_by, injection, balance, empty, dispatch_by}
 use Rattle.market_model.specs.declared.limits.Row.{Row}
-use Rattle.market_model.specs.LimitRows.{rows, limit, row_factor, row_offset, flow, most_flow}
+use Rattle.market_model.specs.LimitRows.{rows, limit, row_factor, row_offset, flow}
+use Rattle.market_model.specs.Lines.{HasHardLimits}
 use Rattle.market_model.specs.Market.{IsMarket}
-use Rattle.market_model.specs.Optimality.{Within, FeasibleFor, block_value, welfare}
+use Rattle.market_model.specs.Optimality.{Within, FeasibleFor, block_value, welfare_for}
 use Rattle.market_model.proofs.MarketSums.{block_bus-in, injection-by_empty, balance-by_empty}
 use Rattle.market_model.proofs.PlaceSums.{gather_times, places_all}
 use Rattle.market_model.proofs.RowLaws.{law_of_the_flows}
-use Rattle.market_model.proofs.Optimum.{welfare-by_blocks}
 use Rattle.market_system.specs.declared.variables.Variable.{Variable}
 use Rattle.market_system.specs.declared.variables.Variable.TheVariants.{Block, Balance, Limit}
 use Rattle.market_system.specs.MarketSystem.{balance_name, row_name, in_order, block_sign, residual_demand, block_coefficient, least_added, most_added, name, system_of, IsVariableOf}
+use Rattle.market_system.proofs.HardMarkets.{hard_welfare, hard_within, within_hard}
 use Rattle.market_system.proofs.RowOrder.{RowsApart, in_order-in, in_order-from, in_order-ascends}
 use Rattle.market_system.proofs.SystemLaws.{signed-times}
 use Rattle.market_system.proofs.VariableLaws.{row_listed, limit_in, from_places, by_variable, variable_in, column_in, sum-variables, is_system_over, coefficient-at, price-at, low-at, high-at, activity-at, objective-at}
@@ -162,31 +163,34 @@ module _ (m : Parts) (apart : RowsApart m) (g : List Row) where
         (flow-by_blocks m market x r) refl
 
     -- a feasible dispatch is within the bounds
-    pub point_within : (x : Dispatch) → FeasibleFor m g x → InBounds s (point_of x)
-    point_within x f = record { low = by_variable m over (λ w. s.low w ≤ℚ point_of x w) low_of; high = by_variable m over (λ w. point_of x w ≤ℚ s.high w) high_of }
+    pub point_within : HasHardLimits m.lines → (x : Dispatch) → FeasibleFor m g x → InBounds s (point_of x)
+    point_within hard x f = record { low = by_variable m over (λ w. s.low w ≤ℚ point_of x w) low_of; high = by_variable m over (λ w. point_of x w ≤ℚ s.high w) high_of }
       where
         at_balance : point_of x (balance_name m) ≡ residual_demand m
         at_balance = point-balance x ∙ ap (λ t. t +ℚ residual_demand m) f.balanced ∙ by_ring ring_ℚ (residual_demand m ∷ []) (pnil ⊕ at 0) (at 0) refl
+
+        within : (r : Row) → Contains over r → Within (limit m r) (flow m x r)
+        within r c = hard_within m market hard r (flow m x r) (f.limits r (in_order-from m g r c).1)
 
         low_of : (v : Variable) → IsVariableOf m over v → s.low (name m v) ≤ℚ point_of x (name m v)
         low_of (Block j) h = subst₂ ◌≤ℚ◌ (sym (low-block j h)) (sym (point-block x j h)) (f.blocks.above j h)
         low_of Balance h = ≤ℚ_of_same (s.low (balance_name m)) (point_of x (balance_name m)) (low-balance ∙ sym at_balance)
         low_of (Limit r) c = subst₂ ◌≤ℚ◌ (sym (low-row r c)) (sym (point-row x r c))
-            (by_le1 (limit m r ∷ flow m x r ∷ flow m (empty m) r ∷ []) (pneg (at 0) ⊕ pneg (at 2)) (at 1 ⊕ pneg (at 2)) pone (pneg (at 0)) (at 1) NonNeg-one (f.limits r (in_order-from m g r c).1).above refl)
+            (by_le1 (limit m r ∷ flow m x r ∷ flow m (empty m) r ∷ []) (pneg (at 0) ⊕ pneg (at 2)) (at 1 ⊕ pneg (at 2)) pone (pneg (at 0)) (at 1) NonNeg-one (within r c).above refl)
 
         high_of : (v : Variable) → IsVariableOf m over v → point_of x (name m v) ≤ℚ s.high (name m v)
         high_of (Block j) h = subst₂ ◌≤ℚ◌ (sym (point-block x j h)) (sym (high-block j h)) (f.blocks.within j h)
         high_of Balance h = ≤ℚ_of_same (point_of x (balance_name m)) (s.high (balance_name m)) (at_balance ∙ sym high-balance)
         high_of (Limit r) c = subst₂ ◌≤ℚ◌ (sym (point-row x r c)) (sym (high-row r c))
-            (by_le1 (limit m r ∷ flow m x r ∷ flow m (empty m) r ∷ []) (at 1 ⊕ pneg (at 2)) (at 0 ⊕ pneg (at 2)) pone (at 1) (at 0) NonNeg-one (f.limits r (in_order-from m g r c).1).below refl)
+            (by_le1 (limit m r ∷ flow m x r ∷ flow m (empty m) r ∷ []) (at 1 ⊕ pneg (at 2)) (at 0 ⊕ pneg (at 2)) pone (at 1) (at 0) NonNeg-one (within r c).below refl)
 
     -- and its objective is its welfare
-    pub point_welfare : (x : Dispatch) → objective s (point_of x) ≡ welfare m x
-    point_welfare x =
+    pub point_welfare : HasHardLimits m.lines → (x : Dispatch) → objective s (point_of x) ≡ welfare_for m g x
+    point_welfare hard x =
         objective-at m over ascend (point_of x)
         ∙ sum_by-members (λ j. block_value m j *ℚ point_of x j) (λ j. block_value m j *ℚ accepted x j) (places (length m.blocks))
         (λ j c. ap (λ t. block_value m j *ℚ t) (point-block x j (from_places (length m.blocks) j c)))
-        ∙ sym (welfare-by_blocks m x)
+        ∙ sym (hard_welfare m hard g x)
 
     -- ---- a point as a dispatch
     abbrev pub dispatch_at : (ℕ → Fraction) → Dispatch
@@ -202,8 +206,8 @@ module _ (m : Parts) (apart : RowsApart m) (g : List Row) where
     of_dispatch f v = sum_by-members (λ j. f j *ℚ accepted (dispatch_at v) j) (λ j. f j *ℚ v j) (places (length m.blocks))
         (λ j c. ap (λ t. f j *ℚ t) (dispatch_at-accepted v j (from_places (length m.blocks) j c)))
 
-    pub dispatch_welfare : (v : ℕ → Fraction) → welfare m (dispatch_at v) ≡ objective s v
-    dispatch_welfare v = welfare-by_blocks m (dispatch_at v) ∙ of_dispatch (block_value m) v ∙ sym (objective-at m over ascend v)
+    pub dispatch_welfare : HasHardLimits m.lines → (v : ℕ → Fraction) → welfare_for m g (dispatch_at v) ≡ objective s v
+    dispatch_welfare hard v = hard_welfare m hard g (dispatch_at v) ∙ of_dispatch (block_value m) v ∙ sym (objective-at m over ascend v)
 
     module _ (v : ℕ → Fraction) (meets : MeetsRows s v) where
       pub dispatch_balance : balance m (dispatch_at v) ≡ balance m (empty m) +ℚ v (balance_name m)
@@ -217,8 +221,8 @@ module _ (m : Parts) (apart : RowsApart m) (g : List Row) where
           ∙ ap (λ t. flow m (empty m) r +ℚ t) (of_dispatch (block_coefficient m r) v ∙ sym (activity-row v r c) ∙ sym (meets.row (row_name m r) (row_row r c)))
 
       -- a point within the bounds is feasible for rows of the market
-      pub dispatch_feasible : ((r : Row) → Contains g r → Contains (rows m) r) → InBounds s v → FeasibleFor m g (dispatch_at v)
-      dispatch_feasible all within = record {
+      pub dispatch_feasible : HasHardLimits m.lines → ((r : Row) → Contains g r → Contains (rows m) r) → InBounds s v → FeasibleFor m g (dispatch_at v)
+      dispatch_feasible hard all within = record {
         blocks = record {
           count = length-map-places;
           above = λ j h. subst₂ ◌≤ℚ◌ (low-block j h) (sym (dispatch_at-accepted v j h)) (within.low j (block_in j h));
@@ -229,7 +233,7 @@ module _ (m : Parts) (apart : RowsApart m) (g : List Row) where
             ∙ ap (λ t. balance m (empty m) +ℚ t)
             (≤ℚ_antisym (v (balance_name m)) (residual_demand m) (subst (λ t. v (balance_name m) ≤ℚ t) high-balance (within.high (balance_name m) balance_in)) (subst (λ t. t ≤ℚ v (balance_name m)) low-balance (within.low (balance_name m) balance_in)))
             ∙ by_ring ring_ℚ (balance m (empty m) ∷ []) (at 0 ⊕ pneg (at 0)) pnil refl;
-        limits = λ r c. let here : Contains over r = in_order-in m g r (all r c) c in subst (Within (most_flow m r)) (sym (dispatch_flow r here)) (within_of r here);
+        limits = λ r c. let here : Contains over r = in_order-in m g r (all r c) c in within_hard m market hard r (flow m (dispatch_at v) r) (subst (Within (limit m r)) (sym (dispatch_flow r here)) (within_of r here));
       }
         where
           length-map-places : length (map v (places (length m.blocks))) ≡ length m.blocks
@@ -239,7 +243,7 @@ module _ (m : Parts) (apart : RowsApart m) (g : List Row) where
               counted [] = refl
               counted (w ∷ ws) = ap suc (counted ws)
 
-          within_of : (r : Row) → Contains over r → Within (most_flow m r) (flow m (empty m) r +ℚ v (row_name m r))
+          within_of : (r : Row) → Contains over r → Within (limit m r) (flow m (empty m) r +ℚ v (row_name m r))
           within_of r c = record {
             above =
                 by_le1 (limit m r ∷ v (row_name m r) ∷ flow m (empty m) r ∷ []) (pneg (at 0)) (at 2 ⊕ at 1) pone (pneg (at 0) ⊕ pneg (at 2)) (at 1) NonNeg-one

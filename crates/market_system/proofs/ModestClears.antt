@@ -1,10 +1,10 @@
 -- No number that a clear of a modest market without lines may have to write down is above 127 bits.
-use Rattle.std.specs.Prelude.{◌≡◌, ℕ, Bool, true, false, if◌then◌else◌, ◌+◌, ◌*◌, ◌-◌, ◌^◌, ◌≤◌, ◌<◌, pos, List, [], ◌∷◌, ◌⊎◌, length, map, Option, Some, None, refl}
+use Rattle.std.specs.Prelude.{◌≡◌, ℕ, Bool, true, false, if◌then◌else◌, ◌+◌, ◌*◌, ◌-◌, ◌^◌, ◌≤◌, ◌<◌, pos, List, [], ◌∷◌, ◌++◌, length, map, Option, Some, None, refl}
 use Rattle.std.specs.List.{Contains}
 use Rattle.std.proofs.Common.{arith, ap, sym, ◌∙◌, subst, inl, inr}
-use Rattle.std.proofs.lemmas.List.{length-append, length-map}
+use Rattle.std.proofs.lemmas.List.{append-nil, length-append, length-map}
 use Rattle.std.proofs.lemmas.List.FromFn.{length-range_with_len}
-use Rattle.fraction_theory.specs.Fraction.{Fraction, neg_ℚ, ◌+ℚ◌, ◌-ℚ◌, ◌*ℚ◌}
+use Rattle.fraction_theory.specs.Fraction.{Fraction, neg_ℚ, ◌-ℚ◌, ◌*ℚ◌}
 use Rattle.fraction_theory.specs.Signs.{sign_of, part_above, where_above}
 use Rattle.fraction_theory.specs.Sums.{Term, Product, prefix, total}
 use Rattle.fraction_theory.specs.declared.Sign.{Sign}
@@ -23,7 +23,7 @@ use Rattle.market_model.specs.Dispatch.{Dispatch, IsDispatch, places, block_at, 
 use Rattle.market_model.specs.Infeasibility.{block_weight, farkas_terms}
 use Rattle.market_model.specs.declared.limits.Row.{Row}
 use Rattle.market_model.specs.LimitRows.{rows, row_id, row_factor}
-use Rattle.market_model.specs.Optimality.{bus_price, block_value, congestion_terms, names_row, named_rows, price_terms, net_shadow_price, unit_price, welfare_terms}
+use Rattle.market_model.specs.Optimality.{bus_price, block_value, congestion_terms, names_row, named_rows, price_terms, net_shadow_price, penalty_terms, unit_price, value_terms as block_terms, welfare_terms}
 use Rattle.market_model.specs.Settlement.{surplus_terms}
 use Rattle.market_model.specs.SumTables.{injection_at, balance_from_bus, balance_of_all, flow_of_line, limited_line, limited_row, FlowSum, flow_in_balance, flow_in_limits, output_of_unit, BusPriceSum, PriceSum, price_of_bus, congestion_at, price_at, farkas_bound_of_all, left_of_all, paid_by_load, paid_to_unit, rent_of_row, SettledSum, paid_output, demand_of_bus, payment, paid_row}
 use Rattle.market_model.proofs.FarkasLaw.{farkas_terms-bare}
@@ -31,7 +31,7 @@ use Rattle.market_model.proofs.RowLaws.{no_rows, no_row, bus_price-bare, congest
 use Rattle.market_system.specs.MarketSystem.{balance_name, system_of, choice_dispatch, choice_duals}
 use Rattle.market_system.specs.MarketNumbers.{ClearingNumber, of_kind, of_solving, of_money, is_turned, MarketNumber, IsRightChoice, IsInjecting, IsFarkasOf}
 use Rattle.market_system.specs.MarketNumbers.{NamedSum, offset_of, factor_of, of_flow, output_of, of_price, of_welfare, of_settlement, of_farkas_price, farkas_bound_of}
-use Rattle.market_system.specs.MarketNumbers.{of_system, of_sum, is_fixed, is_up, is_down, is_load, is_shunt, is_limit, is_line_offset, is_shift, is_loss, is_energy, is_up_dual, is_down_dual, is_farkas_energy, is_farkas_up, is_farkas_down, of_opposite}
+use Rattle.market_system.specs.MarketNumbers.{of_system, of_sum, is_fixed, is_up, is_down, is_load, is_shunt, is_limit, is_most_flow, is_line_offset, is_shift, is_loss, is_energy, is_up_dual, is_down_dual, is_farkas_energy, is_farkas_up, is_farkas_down, of_opposite}
 use Rattle.market_system.specs.ModestMarkets.{IsModest, LawOfModestMarkets, modest_mw, modest_price}
 use Rattle.market_system.specs.Growth.{GrowsBy}
 use Rattle.market_system.proofs.SystemLaws.{variable_in}
@@ -157,6 +157,7 @@ module _ (m : Parts) (market : IsMarket m) (lines : m.lines ≡ []) (modest : Is
     number_within Quantity x (is_load i lt) = wider modest_mw most_value x (Prim.omega arith) (load_within m market modest i lt)
     number_within Quantity x (is_shunt i lt) = wider modest_mw most_value x (Prim.omega arith) (shunt_within m market modest i lt)
     number_within Quantity x (is_limit r c) = absurd (no_row m r bare c)
+    number_within Quantity x (is_most_flow r c) = absurd (no_row m r bare c)
     number_within Quantity x (is_line_offset l lt) = absurd (no_line l lt)
     number_within Factor x (is_shift l i lt k) = absurd (no_line l lt)
     number_within Factor x (is_loss l lost lt k) = absurd (no_line l lt)
@@ -170,7 +171,7 @@ module _ (m : Parts) (market : IsMarket m) (lines : m.lines ≡ []) (modest : Is
     number_within kind x (of_opposite same y n) = neg_within (most_of same) y (number_within same y n)
 
     -- the first terms of the welfare, and of what is settled
-    welfare_each : IsRightChoice m [] h → TermsWithin (modest_price * most_output) (welfare_terms m (choice_dispatch m [] h))
+    welfare_each : IsRightChoice m [] h → TermsWithin (modest_price * most_output) (block_terms m (choice_dispatch m [] h))
     welfare_each best = map_within (modest_price * most_output) (λ j. Product (block_value m j) (accepted (choice_dispatch m [] h) j)) (places (length m.blocks))
         (λ j c. let lt = from_places (length m.blocks) j c in
         times_within modest_price most_output (block_value m j) (accepted (choice_dispatch m [] h) j) (block_value_within m market modest j lt)
@@ -199,11 +200,15 @@ module _ (m : Parts) (market : IsMarket m) (lines : m.lines ≡ []) (modest : Is
     abbrev Fits : List Term → Type 0
     Fits terms = (k : ℕ) → IsWholeWithin most (prefix k terms)
 
+    -- no limits, no penalties
+    welfare-bare : (x : Dispatch) → welfare_terms m x ≡ block_terms m x
+    welfare-bare x = ap (λ (rs : List Row). block_terms m x ++ penalty_terms m rs x) bare ∙ append-nil (block_terms m x)
+
     welfare_fits : IsRightChoice m [] h → Fits (welfare_terms m (choice_dispatch m [] h))
-    welfare_fits best =
-        sums_within (welfare_terms m (choice_dispatch m [] h)) (modest_price * most_output)
+    welfare_fits best = subst Fits (sym (welfare-bare (choice_dispatch m [] h)))
+        (sums_within (block_terms m (choice_dispatch m [] h)) (modest_price * most_output)
         (Prim.omega (arith, market.block_count, length-map (places (length m.blocks)) (λ j. Product (block_value m j) (accepted (choice_dispatch m [] h) j)), length-range_with_len 0 (length m.blocks)))
-        (welfare_each best) (Prim.omega arith)
+        (welfare_each best) (Prim.omega arith))
 
     surplus_fits : IsRightChoice m [] h → Fits (surplus_terms m (choice_dispatch m [] h) (choice_duals m [] h))
     surplus_fits best =

@@ -31,14 +31,14 @@ use Rattle.limit_rows.proofs.FactorLemmas.{IsLost, stands}
 use Rattle.market_model.specs.declared.limits.Cause.{Cause}
 use Rattle.market_model.specs.declared.limits.Row.{Row}
 use Rattle.market_model.specs.declared.limits.Cause.TheVariants.{Base, Branch}
-use Rattle.market_model.specs.LimitRows.{rows, limit, shift_factor, line_offset, line_terms, line_flow, flow_terms, terms_under, row_factor, factor_terms, flow}
+use Rattle.market_model.specs.LimitRows.{rows, most_flow, shift_factor, line_offset, line_terms, line_flow, flow_terms, terms_under, row_factor, factor_terms, flow}
 use Rattle.market_model.specs.Market.{IsMarket}
 use Rattle.market_model.specs.NamedSums.{SameSize, term_at, IsNextTerm, IsSumStep, IsRefusedIn, IsRefusal}
 use Rattle.market_model.specs.Optimality.{net_shadow_price, up_of, down_of, congestion, price_by, price_terms, bus_price, unit_price, welfare_terms}
 use Rattle.market_model.specs.Infeasibility.{block_weight, limit_terms, farkas_terms}
 use Rattle.market_model.specs.SumTables.{injection_at, balance_from_bus, balance_of_all, flow_of_line, flow_of_row, limited_line, limited_row, FlowSum, flow_in_balance, flow_in_limits, offset_of_row, factor_at_bus, output_of_unit, BusPriceSum, PriceSum, price_of_bus, congestion_at, price_at, farkas_bound_of_all}
 use Rattle.market_system.specs.Growth.{Growth}
-use Rattle.market_system.specs.MarketNumbers.{ClearingNumber, of_kind, of_money, of_solving, is_turned, IsInjecting, IsFarkasOf, NamedSum, offset_of, factor_of, of_flow, output_of, of_price, of_welfare, of_settlement, of_farkas_price, farkas_bound_of, MarketNumber, of_system, of_sum, is_limit, is_line_offset, is_shift, is_loss, is_up_dual, is_down_dual, is_farkas_energy, is_farkas_up, is_farkas_down, of_opposite}
+use Rattle.market_system.specs.MarketNumbers.{ClearingNumber, of_kind, of_money, of_solving, is_turned, IsInjecting, IsFarkasOf, NamedSum, offset_of, factor_of, of_flow, output_of, of_price, of_welfare, of_settlement, of_farkas_price, farkas_bound_of, MarketNumber, of_system, of_sum, is_most_flow, is_line_offset, is_shift, is_loss, is_up_dual, is_down_dual, is_farkas_energy, is_farkas_up, is_farkas_down, of_opposite}
 use Rattle.market_system.specs.MarketSystem.{system_of, choice_dispatch, choice_duals}
 use Rattle.market_system.specs.PairLaw.{LawOfThePairs}
 use Rattle.market_system.proofs.DualLists.{rows_apart}
@@ -345,8 +345,8 @@ module _ (m : Parts) (taken g : List Row) (reached : Growth m taken g) (h : Choi
 
     left_scaled : (r : Row) → Contains (rows m) r → AreScaled Quantity (limit_terms m d r)
     left_scaled r c = (
-      inl (is_farkas_up d r f c, difference (limit m r) (flow m (empty m) r) (is_limit r c) (row_flow_number market (empty m) idle r c)),
-      (inl (is_farkas_down d r f c, sum (limit m r) (flow m (empty m) r) (is_limit r c) (row_flow_number market (empty m) idle r c)), tt),
+      inl (is_farkas_up d r f c, difference (most_flow m r) (flow m (empty m) r) (is_most_flow r c) (row_flow_number market (empty m) idle r c)),
+      (inl (is_farkas_down d r f c, sum (most_flow m r) (flow m (empty m) r) (is_most_flow r c) (row_flow_number market (empty m) idle r c)), tt),
     )
 
     unit_bus : (j : ℕ) → j < length m.blocks → (unit_at m (block_at m j).unit).bus < length m.buses

@@ -21,14 +21,16 @@ use Rattle.market_model.specs.declared.participants.Side.TheVariants.{Sell, Buy}
 use Rattle.market_model.specs.declared.participants.Parts.{Parts}
 use Rattle.market_model.specs.Dispatch.{Dispatch, zero as nil, block_at, block_bus, signed_by_side, accepted, empty}
 use Rattle.market_model.specs.declared.limits.Row.{Row}
-use Rattle.market_model.specs.LimitRows.{rows, limit, row_factor, flow, most_flow}
+use Rattle.market_model.specs.LimitRows.{rows, limit, row_factor, flow}
+use Rattle.market_model.specs.Lines.{HasHardLimits}
 use Rattle.market_model.specs.Market.{IsMarket}
-use Rattle.market_model.specs.Optimality.{Within, Feasible, block_value, price, net_shadow_price, up_of, down_of, bus_price, unit_price, Gains, Loses, BlockSupported, RowSupported, Supports, ProperDuals, congestion_by, price_by}
+use Rattle.market_model.specs.Optimality.{block_value, price, net_shadow_price, up_of, down_of, bus_price, unit_price, Gains, Loses, BlockSupported, RowSupported, Supports, ProperDuals, congestion_by, price_by}
 use Rattle.market_system.specs.Growth.{BestFor}
 use Rattle.market_system.specs.MarketSystem.{balance_name, row_name, is_in, in_order, block_sign, block_coefficient, system_of, choice_dispatch, duals_by_cost, choice_duals}
 use Rattle.market_system.specs.SolvedLaws.{state_at}
 use Rattle.market_system.proofs.RowOrder.{is_in-from, in_order-in}
 use Rattle.market_system.proofs.DualLists.{NamesApart, rows_apart, up_by, down_by, up_sign, down_sign, up_costs, down_costs, up-made, down-made, net_price-made, proper-made, in_order-filter}
+use Rattle.market_system.proofs.HardMarkets.{row_supported as hard_row_supported}
 use Rattle.market_system.proofs.MarketPoints.{is_system_of, both_parts, coefficient-balance, coefficient-row, price-block, low-block, high-block, low-row, high-row, block_in, row_in, point_of, point_meets, point_within, point_welfare, dispatch_at-accepted, dispatch_welfare, dispatch_flow, dispatch_feasible}
 use Rattle.market_system.proofs.VariableLaws.{column_in, sum-rows}
 
@@ -122,16 +124,16 @@ module _ (m : Parts) (names : NamesApart m) (g : List Row) where
         ∙ ap (λ t. block_value m j +ℚ t) (sym (weight-made m names (reduced s h) g j))
 
     -- ---- a solved choice
-    module _ (market : IsMarket m) (all : (r : Row) → Contains g r → Contains (rows m) r) (solved : IsSolved (system_of m g) (state_at (system_of m g) h)) where
+    module _ (market : IsMarket m) (hard : HasHardLimits m.lines) (all : (r : Row) → Contains g r → Contains (rows m) r) (solved : IsSolved (system_of m g) (state_at (system_of m g) h)) where
       abbrev dispatch : Dispatch
       dispatch = choice_dispatch m g h
 
       -- the dispatch is best for the list
       pub solved_best : BestFor m g dispatch
       solved_best = record {
-        feasible = dispatch_feasible m (rows_apart m names) g market (value s h) solved.best.meets all solved.best.within;
-        best = λ y f. subst₂ ◌≤ℚ◌ (point_welfare m (rows_apart m names) g market y) (sym (dispatch_welfare m (rows_apart m names) g market (value s h)))
-            (solved.best.best (point_of m (rows_apart m names) g market y) (point_meets m (rows_apart m names) g market y) (point_within m (rows_apart m names) g market y f));
+        feasible = dispatch_feasible m (rows_apart m names) g market (value s h) solved.best.meets hard all solved.best.within;
+        best = λ y f. subst₂ ◌≤ℚ◌ (point_welfare m (rows_apart m names) g market hard y) (sym (dispatch_welfare m (rows_apart m names) g market hard (value s h)))
+            (solved.best.best (point_of m (rows_apart m names) g market y) (point_meets m (rows_apart m names) g market y) (point_within m (rows_apart m names) g market hard y f));
       }
 
       -- a variable whose reduced price is above 0 stands at its high bound, and one below 0 at its low bound
@@ -186,22 +188,20 @@ module _ (m : Parts) (names : NamesApart m) (g : List Row) where
           by true e =
               let here : Contains (in_order m g) r = in_order-in m g r c (is_in-from g r e) in
               let named = row_in m (rows_apart m names) g r here in
-              record {
-                up_sign = subst (λ t. nil ≤ℚ t) (sym (up-is true e)) (up_sign (costs r));
-                down_sign = subst (λ t. nil ≤ℚ t) (sym (down-is true e)) (down_sign (costs r));
-                up = λ l. flow-is here
-                    ∙ ap (λ t. flow m (empty m) r +ℚ t) (stands_high (row_name m r) named (up_costs (costs r) (subst (λ t. nil <ℚ t) (up-is true e) l)) ∙ high-row m (rows_apart m names) g r here)
-                    ∙ by_ring ring_ℚ (flow m (empty m) r ∷ limit m r ∷ []) (at 0 ⊕ (at 1 ⊕ pneg (at 0))) (at 1) refl;
-                down = λ l. flow-is here
-                    ∙ ap (λ t. flow m (empty m) r +ℚ t) (stands_low (row_name m r) named (down_costs (costs r) (subst (λ t. nil <ℚ t) (down-is true e) l)) ∙ low-row m (rows_apart m names) g r here)
-                    ∙ by_ring ring_ℚ (flow m (empty m) r ∷ limit m r ∷ []) (at 0 ⊕ (pneg (at 1) ⊕ pneg (at 0))) (pneg (at 1)) refl;
-              }
-          by false e = record {
-            up_sign = subst (λ t. nil ≤ℚ t) (sym (up-is false e)) (≤ℚ_refl nil);
-            down_sign = subst (λ t. nil ≤ℚ t) (sym (down-is false e)) (≤ℚ_refl nil);
-            up = λ l. absurd (<ℚ_irrefl nil (subst (λ t. nil <ℚ t) (up-is false e) l));
-            down = λ l. absurd (<ℚ_irrefl nil (subst (λ t. nil <ℚ t) (down-is false e) l));
-          }
+              hard_row_supported m market hard r dispatch duals
+              (subst (λ t. nil ≤ℚ t) (sym (up-is true e)) (up_sign (costs r)))
+              (subst (λ t. nil ≤ℚ t) (sym (down-is true e)) (down_sign (costs r)))
+              (λ l. flow-is here
+              ∙ ap (λ t. flow m (empty m) r +ℚ t) (stands_high (row_name m r) named (up_costs (costs r) (subst (λ t. nil <ℚ t) (up-is true e) l)) ∙ high-row m (rows_apart m names) g r here)
+              ∙ by_ring ring_ℚ (flow m (empty m) r ∷ limit m r ∷ []) (at 0 ⊕ (at 1 ⊕ pneg (at 0))) (at 1) refl)
+              (λ l. flow-is here
+              ∙ ap (λ t. flow m (empty m) r +ℚ t) (stands_low (row_name m r) named (down_costs (costs r) (subst (λ t. nil <ℚ t) (down-is true e) l)) ∙ low-row m (rows_apart m names) g r here)
+              ∙ by_ring ring_ℚ (flow m (empty m) r ∷ limit m r ∷ []) (at 0 ⊕ (pneg (at 1) ⊕ pneg (at 0))) (pneg (at 1)) refl)
+          by false e = hard_row_supported m market hard r dispatch duals
+              (subst (λ t. nil ≤ℚ t) (sym (up-is false e)) (≤ℚ_refl nil))
+              (subst (λ t. nil ≤ℚ t) (sym (down-is false e)) (≤ℚ_refl nil))
+              (λ l. absurd (<ℚ_irrefl nil (subst (λ t. nil <ℚ t) (up-is false e) l)))
+              (λ l. absurd (<ℚ_irrefl nil (subst (λ t. nil <ℚ t) (down-is false e) l)))
 
       -- the duals support it over all rows of the market, and are proper
       pub solved_supports : Supports m dispatch duals
@@ -209,7 +209,3 @@ module _ (m : Parts) (names : NamesApart m) (g : List Row) where
 
       pub solved_proper : ProperDuals m duals
       solved_proper = proper-made m names (reduced s h) g
-
-      -- so where it breaks no row of the market, it is feasible
-      pub solved_feasible : ((r : Row) → Contains (rows m) r → Within (most_flow m r) (flow m dispatch r)) → Feasible m dispatch
-      solved_feasible holds = record { blocks = solved_best.feasible.blocks; balanced = solved_best.feasible.balanced; limits = holds }

@@ -29,8 +29,10 @@ use Rattle.market_model.specs.declared.limits.Cause.{Cause}
 use Rattle.market_model.specs.declared.limits.Row.{Row}
 use Rattle.market_model.specs.declared.limits.Cause.TheVariants.{Base, Branch}
 use Rattle.market_model.specs.LimitRows.{rows, mw_or_zero, limit_under, limit, flow}
+use Rattle.market_model.specs.Lines.{HasHardLimits}
 use Rattle.market_model.specs.Market.{IsMarket}
-use Rattle.market_model.specs.Optimality.{net_shadow_price, ProperDuals}
+use Rattle.market_model.specs.Optimality.{net_shadow_price, up_of, down_of, ProperDuals}
+use Rattle.market_model.proofs.HardLimits.{hard_most}
 use Rattle.market_model.proofs.FarkasLaw.{farkas_bound-by_parts, left_of}
 use Rattle.market_system.specs.MarketSystem.{name, balance_name, row_name, is_in, in_order, residual_demand, block_sign, block_coefficient, system_of, duals_by_cost, IsVariableOf}
 use Rattle.limit_rows.proofs.FactorLemmas.{stands}
@@ -104,7 +106,7 @@ bounds_ordered m names market g = by_variable m (in_order m g) (λ w. (system_of
         (by_le1 (limit m r ∷ flow m (empty m) r ∷ []) (pneg (at 0) ⊕ pneg (at 1)) (at 0 ⊕ pneg (at 1)) (pone ⊕ pone) pnil (at 0) (NonNeg-plus (whole (pos 1)) (whole (pos 1)) NonNeg-one NonNeg-one)
         (limit_sign m market r (stands m market r (in_order-from m g r c).0).line) refl)
 
-module _ (m : Parts) (names : NamesApart m) (market : IsMarket m) (g : List Row) (h : Choice) (choice : IsChoice (system_of m g) h)
+module _ (m : Parts) (names : NamesApart m) (market : IsMarket m) (hard : HasHardLimits m.lines) (g : List Row) (h : Choice) (choice : IsChoice (system_of m g) h)
     (b : ℕ) (above : Bool) (stuck : IsStuck (system_of m g) h b above) where
   ordered : (w : ℕ) → Contains (system_of m g).variables w → (system_of m g).low w ≤ℚ (system_of m g).high w
   ordered = bounds_ordered m names market g
@@ -199,7 +201,8 @@ module _ (m : Parts) (names : NamesApart m) (market : IsMarket m) (g : List Row)
   left_of_row : (r : Row) → Contains (rows m) r → left_of m stuck_duals (empty m) r ≡ kept (is_in g r) (left_here r)
   unfolding left_here
   left_of_row r c =
-      ap₂ (λ (u d : Fraction). u *ℚ (limit m r -ℚ flow m (empty m) r) +ℚ (d *ℚ (limit m r +ℚ flow m (empty m) r) +ℚ nil))
+      ap (λ most. up_of m stuck_duals r *ℚ (most -ℚ flow m (empty m) r) +ℚ (down_of m stuck_duals r *ℚ (most +ℚ flow m (empty m) r) +ℚ nil)) (hard_most m hard market r)
+      ∙ ap₂ (λ (u d : Fraction). u *ℚ (limit m r -ℚ flow m (empty m) r) +ℚ (d *ℚ (limit m r +ℚ flow m (empty m) r) +ℚ nil))
       (up-made m names turned g r c)
       (down-made m names turned g r c)
       ∙ by (is_in g r)

@@ -3,7 +3,7 @@
 use Rattle.std.specs.Prelude.{ℕ, pos, neg_ℤ, List, [], ◌∷◌, Some, None, refl}
 use Rattle.fraction_theory.specs.Divisors.{gcd, gcd_in}
 use Rattle.fraction_theory.specs.Fraction.{Fraction, whole, over, ◌+ℚ◌, ◌*ℚ◌, neg_ℚ}
-use Rattle.fraction_theory.specs.Signs.{sign_of}
+use Rattle.fraction_theory.specs.Signs.{sign_of, abs_ℚ}
 use Rattle.market_model.specs.declared.answered.Answer.{Answer}
 use Rattle.market_model.specs.declared.answered.Farkas.{Farkas}
 use Rattle.market_model.specs.declared.answered.Load.{Load}
@@ -14,7 +14,7 @@ use Rattle.market_model.specs.declared.participants.Parts.{Parts}
 use Rattle.market_model.specs.Dispatch.{injection, balance, output, demand}
 use Rattle.market_model.specs.Infeasibility.{IsFarkas, farkas_bound}
 use Rattle.market_model.specs.LimitRows.{rows, line_flow, row_offset, row_factor}
-use Rattle.market_model.specs.Optimality.{congestion, welfare, congestion_by, price_by}
+use Rattle.market_model.specs.Optimality.{congestion, welfare_for, congestion_by, price_by}
 use Rattle.market_model.specs.RightAnswers.{IsRight}
 use Rattle.market_model.specs.Settlement.{paid, pays, rent, surplus}
 use Rattle.market_model.proofs.LimitCases.{mw, price, money, blocks, buses, line, shifts, losses, up_alone, down_alone, shunted, turned, after_outage, bought, shifted, narrow, narrow_duals}
@@ -60,7 +60,7 @@ limit_40 = record {
 }
 
 limit_40-right : IsRight shunted limit_40
-unfolding rows line_flow row_offset row_factor injection balance output demand welfare_for congestion_by price_by rent surplus paid pays ◌+ℚ◌ ◌*ℚ◌ neg_ℚ over whole gcd gcd_in
+unfolding rows line_flow row_offset row_factor injection balance output demand welfare_for congestion_by price_by rent surplus paid pays abs_ℚ sign_of ◌+ℚ◌ ◌*ℚ◌ neg_ℚ over whole gcd gcd_in
 limit_40-right = right_by shunted limit_40 refl refl refl refl
 
 -- ---- a lower side
@@ -79,7 +79,7 @@ lower_side = record {
 }
 
 lower_side-right : IsRight turned lower_side
-unfolding rows line_flow row_offset row_factor injection balance output demand welfare_for congestion_by price_by rent surplus paid pays ◌+ℚ◌ ◌*ℚ◌ neg_ℚ over whole gcd gcd_in
+unfolding rows line_flow row_offset row_factor injection balance output demand welfare_for congestion_by price_by rent surplus paid pays abs_ℚ sign_of ◌+ℚ◌ ◌*ℚ◌ neg_ℚ over whole gcd gcd_in
 lower_side-right = right_by turned lower_side refl refl refl refl
 
 -- ---- after an outage
@@ -98,7 +98,7 @@ after_loss = record {
 }
 
 after_loss-right : IsRight after_outage after_loss
-unfolding rows line_flow row_offset row_factor injection balance output demand welfare_for congestion_by price_by rent surplus paid pays ◌+ℚ◌ ◌*ℚ◌ neg_ℚ over whole gcd gcd_in
+unfolding rows line_flow row_offset row_factor injection balance output demand welfare_for congestion_by price_by rent surplus paid pays abs_ℚ sign_of ◌+ℚ◌ ◌*ℚ◌ neg_ℚ over whole gcd gcd_in
 after_loss-right = right_by after_outage after_loss refl refl refl refl
 
 -- ---- a buy behind a limit
@@ -117,7 +117,7 @@ part_bought = record {
 }
 
 part_bought-right : IsRight bought part_bought
-unfolding rows line_flow row_offset row_factor injection balance output demand welfare_for congestion_by price_by rent surplus paid pays ◌+ℚ◌ ◌*ℚ◌ neg_ℚ over whole gcd gcd_in
+unfolding rows line_flow row_offset row_factor injection balance output demand welfare_for congestion_by price_by rent surplus paid pays abs_ℚ sign_of ◌+ℚ◌ ◌*ℚ◌ neg_ℚ over whole gcd gcd_in
 part_bought-right = right_by bought part_bought refl refl refl refl
 
 -- ---- an offset beyond the limit
@@ -136,7 +136,7 @@ beyond_limit = record {
 }
 
 beyond_limit-right : IsRight shifted beyond_limit
-unfolding rows line_flow row_offset row_factor injection balance output demand welfare_for congestion_by price_by rent surplus paid pays ◌+ℚ◌ ◌*ℚ◌ neg_ℚ over whole gcd gcd_in
+unfolding rows line_flow row_offset row_factor injection balance output demand welfare_for congestion_by price_by rent surplus paid pays abs_ℚ sign_of ◌+ℚ◌ ◌*ℚ◌ neg_ℚ over whole gcd gcd_in
 beyond_limit-right = right_by shifted beyond_limit refl refl refl refl
 
 -- ---- thirds: a limit of 40 MW on branch 2, with both units where they are but the second, which is at bus 3, as the load of 60 MW is
@@ -175,7 +175,7 @@ thirds = record {
 }
 
 thirds-right : IsRight beside_load thirds
-unfolding rows line_flow row_offset row_factor injection balance output demand welfare_for congestion_by price_by rent surplus paid pays ◌+ℚ◌ ◌*ℚ◌ neg_ℚ over whole gcd gcd_in
+unfolding rows line_flow row_offset row_factor injection balance output demand welfare_for congestion_by price_by rent surplus paid pays abs_ℚ sign_of ◌+ℚ◌ ◌*ℚ◌ neg_ℚ over whole gcd gcd_in
 thirds-right = right_by beside_load thirds refl refl refl refl
 
 -- ---- limit 10: a bound of -10 MW
@@ -183,5 +183,5 @@ abbrev limit_10 : Farkas Fraction
 limit_10 = record { duals = narrow_duals; bound = whole (neg_ℤ (mw 10)) }
 
 limit_10-infeasible : IsFarkas narrow limit_10
-unfolding rows line_flow row_offset row_factor injection balance output demand welfare_for congestion_by price_by rent surplus farkas_bound sign_of ◌+ℚ◌ ◌*ℚ◌ neg_ℚ over whole gcd gcd_in
+unfolding rows line_flow row_offset row_factor injection balance output demand welfare_for congestion_by price_by rent surplus farkas_bound abs_ℚ sign_of ◌+ℚ◌ ◌*ℚ◌ neg_ℚ over whole gcd gcd_in
 limit_10-infeasible = infeasible_by narrow limit_10 refl refl

@@ -11,7 +11,7 @@ use Rattle.market_model.specs.declared.participants.Parts.{Parts}
 use Rattle.market_model.specs.declared.answered.Duals.{Duals}
 use Rattle.market_model.specs.Dispatch.{Dispatch, zero, bus_at, unit_at, empty}
 use Rattle.market_model.specs.declared.limits.Row.{Row}
-use Rattle.market_model.specs.LimitRows.{rows as all_rows, limit, shift_factor, loss_factor, line_offset}
+use Rattle.market_model.specs.LimitRows.{rows as all_rows, limit, most_flow, shift_factor, loss_factor, line_offset}
 use Rattle.market_model.specs.Optimality.{Feasible, Supports, up_of, down_of, net_shadow_price, bus_price, welfare_terms}
 use Rattle.market_model.specs.Infeasibility.{ShowsInfeasible}
 use Rattle.market_system.specs.MarketSystem.{balance_name, row_name, system_of, choice_dispatch, choice_duals}
@@ -69,6 +69,7 @@ pub data MarketNumber (m : Parts) (rows : List Row) (h : Choice) : Kind → Frac
   is_load : (i : ℕ) → i < length m.buses → MarketNumber m rows h Quantity (whole (bus_at m i).pd)
   is_shunt : (i : ℕ) → i < length m.buses → MarketNumber m rows h Quantity (whole (bus_at m i).gs)
   is_limit : (r : Row) → Contains (all_rows m) r → MarketNumber m rows h Quantity (limit m r)
+  is_most_flow : (r : Row) → Contains (all_rows m) r → MarketNumber m rows h Quantity (most_flow m r)
   is_line_offset : (l : ℕ) → l < length m.lines → MarketNumber m rows h Quantity (line_offset m l)
   -- the factors of lines
   is_shift : (l i : ℕ) → l < length m.lines → i < length m.buses → MarketNumber m rows h Factor (shift_factor m l i)

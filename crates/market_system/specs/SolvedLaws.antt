@@ -85,7 +85,7 @@ LawOfTheStuck = (m : Parts) (g : List Row) (h : Choice) (b : ℕ) (above : Bool)
 -- what is known of lists of rows that grow
 pub record GrowthLaws (m : Parts) : Type 0 where
   -- where limits are hard, a row that a best dispatch breaks is not in the list; and with one that is not, the list is grown
-  pub broken_is_new : (g : List Row) (x : Dispatch) (r : Row) → HasHardLimits m.lines → BestFor m g x → Broken m x r → ¬ (Contains g r)
+  pub broken_is_new : (g : List Row) (x : Dispatch) (r : Row) → IsMarket m → HasHardLimits m.lines → BestFor m g x → Broken m x r → ¬ (Contains g r)
   pub none : (g : List Row) → Growth m g g
   pub more : (t g : List Row) (x : Dispatch) (r : Row) → Growth m t g → BestFor m g x → Broken m x r → Contains (rows m) r → ¬ (Contains g r) → Growth m t (g ++ r ∷ [])
   pub again : (t g h : List Row) → Growth m t g → Growth m g h → Growth m t h

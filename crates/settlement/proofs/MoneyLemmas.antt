@@ -23,12 +23,12 @@ use Rattle.market_model.specs.declared.participants.Parts.{Parts}
 use Rattle.market_model.specs.Dispatch.{Dispatch, places, output, demand}
 use Rattle.market_model.specs.Laws.{HasOffsetsWithin}
 use Rattle.market_model.specs.declared.limits.Row.{Row}
-use Rattle.market_model.specs.LimitRows.{rows, row_id, limit, row_offset}
+use Rattle.market_model.specs.LimitRows.{flow, rows, row_id, row_offset}
 use Rattle.market_model.specs.Market.{IsMarket}
 use Rattle.market_model.specs.NamedSums.{SameSize, term_at, IsNextTerm, IsSumStep, IsRefusal, IsRefusedIn}
 use Rattle.market_model.specs.Optimality.{bus_price, names_row, named_rows}
 use Rattle.market_model.specs.RightAnswers.{rent_of, settlement_at}
-use Rattle.market_model.specs.Settlement.{rent, surplus, pay_of_unit, pay_of_load, price_for_unit, left_terms}
+use Rattle.market_model.specs.Settlement.{rent, surplus, pay_of_unit, pay_of_load, price_for_unit, left_terms, priced_flow}
 use Rattle.market_model.specs.Valued.{dual_at, duals_at, load_at, rent_at, unit_pay_at}
 use Rattle.market_model.proofs.Optimum.{law_of_the_surplus, law_of_its_sign}
 use Rattle.market_model.proofs.SumSteps.{plus_at, behind, in_front}
@@ -42,33 +42,33 @@ use Rattle.settlement.proofs.ListLemmas.{sum_by-map}
 
 -- ---- adding up
 module _ {N : Type 0} (value : N → Fraction) (loads : List (Load N)) (units : List (UnitPay N)) where
-  abbrev load_term : Load N → Term
-  load_term l = Plain (value l.pays)
+  abbrev paid_load_term : Load N → Term
+  paid_load_term l = Plain (value l.pays)
 
-  abbrev unit_term : UnitPay N → Term
-  unit_term u = Plain (neg_ℚ (value u.paid))
+  abbrev paid_unit_term : UnitPay N → Term
+  paid_unit_term u = Plain (neg_ℚ (value u.paid))
 
   pub paid_total : sum_by (λ (l : Load N). value l.pays) loads +ℚ sum_by (λ (u : UnitPay N). neg_ℚ (value u.paid)) units ≡ total (paid_terms value loads units)
   paid_total =
-      sym (total-append (map load_term loads) (map unit_term units)
+      sym (total-append (map paid_load_term loads) (map paid_unit_term units)
       ∙ ap₂ ◌+ℚ◌ (total-Plain (λ (l : Load N). value l.pays) loads) (total-Plain (λ (u : UnitPay N). neg_ℚ (value u.paid)) units))
 
   module _ (bound : ℕ) (p : Passed Fraction) where
     pub load_refused : (k : ℕ) (load : Load N) (sum : Fraction) → k < length loads → load ≡ get_or loads k load → sum ≡ sum_by (λ l. value l.pays) (take k loads)
         → IsRefusal Plus sum (value load.pays) bound p → IsRefusedIn (paid_terms value loads units) bound p
     load_refused k load sum below found is h =
-        plus_at (paid_terms value loads units) (map load_term (take k loads)) (map load_term (drop (k + 1) loads) ++ map unit_term units) (load_term load)
-        (in_front (map load_term loads) (map load_term (take k loads)) (map load_term (drop (k + 1) loads)) (map unit_term units) (load_term load) (mapped_at load_term loads k load below found))
+        plus_at (paid_terms value loads units) (map paid_load_term (take k loads)) (map paid_load_term (drop (k + 1) loads) ++ map paid_unit_term units) (paid_load_term load)
+        (in_front (map paid_load_term loads) (map paid_load_term (take k loads)) (map paid_load_term (drop (k + 1) loads)) (map paid_unit_term units) (paid_load_term load) (mapped_at paid_load_term loads k load below found))
         bound p sum (value load.pays) ((is ∙ sym (total-Plain (λ (l : Load N). value l.pays) (take k loads)))) refl h
 
     pub unit_refused : (k : ℕ) (unit : UnitPay N) (sum : Fraction) → k < length units → unit ≡ get_or units k unit
         → sum ≡ sum_by (λ l. value l.pays) loads +ℚ sum_by (λ u. neg_ℚ (value u.paid)) (take k units)
         → IsRefusal Plus sum (neg_ℚ (value unit.paid)) bound p → IsRefusedIn (paid_terms value loads units) bound p
     unit_refused k unit sum below found is h =
-        plus_at (paid_terms value loads units) (map load_term loads ++ map unit_term (take k units)) (map unit_term (drop (k + 1) units)) (unit_term unit)
-        (behind (map load_term loads) (map unit_term units) (map unit_term (take k units)) (map unit_term (drop (k + 1) units)) (unit_term unit) (mapped_at unit_term units k unit below found))
+        plus_at (paid_terms value loads units) (map paid_load_term loads ++ map paid_unit_term (take k units)) (map paid_unit_term (drop (k + 1) units)) (paid_unit_term unit)
+        (behind (map paid_load_term loads) (map paid_unit_term units) (map paid_unit_term (take k units)) (map paid_unit_term (drop (k + 1) units)) (paid_unit_term unit) (mapped_at paid_unit_term units k unit below found))
         bound p sum (neg_ℚ (value unit.paid))
-        ((is ∙ sym (total-append (map load_term loads) (map unit_term (take k units))
+        ((is ∙ sym (total-append (map paid_load_term loads) (map paid_unit_term (take k units))
         ∙ ap₂ ◌+ℚ◌ (total-Plain (λ (l : Load N). value l.pays) loads) (total-Plain (λ (u : UnitPay N). neg_ℚ (value u.paid)) (take k units))))) refl h
 
 -- ---- sums of the same values are one, and are refused at the same operations
@@ -183,8 +183,8 @@ module _ (m : Parts) (x : Dispatch) (d : Duals Fraction) where
   no_rent : (r : Row) → names_row d.limits (row_id m r) ≡ false → rent m x d r ≡ whole (pos 0)
   unfolding rent
   no_rent r h =
-      ap₂ (λ u v. u *ℚ (limit m r -ℚ row_offset m r) +ℚ (v *ℚ (limit m r +ℚ row_offset m r) +ℚ whole (pos 0))) (up_unnamed d.limits (row_id m r) h) (down_unnamed d.limits (row_id m r) h)
-      ∙ by_ring ring_ℚ (limit m r ∷ row_offset m r ∷ []) (padd (pmul pnil (padd (at 0) (pneg (at 1)))) (padd (pmul pnil (padd (at 0) (at 1))) pnil)) pnil refl
+      ap₂ (λ u v. u *ℚ (priced_flow m r (flow m x r) -ℚ row_offset m r) +ℚ (v *ℚ (priced_flow m r (flow m x r) +ℚ row_offset m r) +ℚ whole (pos 0))) (up_unnamed d.limits (row_id m r) h) (down_unnamed d.limits (row_id m r) h)
+      ∙ by_ring ring_ℚ (priced_flow m r (flow m x r) ∷ row_offset m r ∷ []) (padd (pmul pnil (padd (at 0) (pneg (at 1)))) (padd (pmul pnil (padd (at 0) (at 1))) pnil)) pnil refl
 
   rents_of_named : sum_by (rent m x d) (rows m) ≡ sum_by (λ (t : Rent Fraction). t.rent) (map (rent_of m x d) (named_rows m d))
   unfolding rent

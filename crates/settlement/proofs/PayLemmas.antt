@@ -1,6 +1,6 @@
 -- Outputs, demands and prices, and what is worth, paid and refused of them.
 use Rattle.std.specs.Prelude.{◌≡◌, ◌⊎◌, ℕ, ◌+◌, ◌<◌, List, [], ◌∷◌, map, length, refl}
-use Rattle.std.proofs.Common.{ap, ap₂, sym, ◌∙◌, inl, inr, get_or}
+use Rattle.std.proofs.Common.{ap, ap₂, sym, subst, ◌∙◌, inl, inr, get_or}
 use Rattle.std.proofs.lemmas.List.{get_or-map}
 use Rattle.fraction_theory.specs.Fraction.{Fraction, whole, neg_ℚ, ◌+ℚ◌, ◌*ℚ◌}
 use Rattle.fraction_theory.specs.Sums.{Term, Plain, Product, total}
@@ -15,9 +15,12 @@ use Rattle.market_model.specs.declared.answered.UnitPay.{UnitPay}
 use Rattle.market_model.specs.declared.participants.Block.{Block}
 use Rattle.market_model.specs.declared.participants.Parts.{Parts}
 use Rattle.market_model.specs.Dispatch.{Dispatch, zero, places, signed_by_side, block_at, bus_at, accepted, output, output_terms, demand, demand_terms}
+use Rattle.market_model.specs.LimitRows.{rows}
+use Rattle.market_model.specs.Lines.{HasHardLimits}
 use Rattle.market_model.specs.NamedSums.{IsRefusedIn, IsRefusal, IsShareRefusal}
-use Rattle.market_model.specs.Optimality.{block_value, welfare_terms}
+use Rattle.market_model.specs.Optimality.{block_value, value_terms, welfare, welfare_for, welfare_terms}
 use Rattle.market_model.specs.Valued.{load_at, unit_pay_at}
+use Rattle.market_model.proofs.HardLimits.{hard_welfare_terms}
 use Rattle.market_model.proofs.MorePlaces.{total-places_more}
 use Rattle.market_model.proofs.SumSteps.{plus_at, product_at, share_at, terms_at}
 use Rattle.market_model.proofs.PutInSteps.{accepted_is}
@@ -46,11 +49,20 @@ module _ {N : Type 0} (value : N → Fraction) (m : Parts) (ds : List N) where
 
   -- what a block is worth is added
   pub welfare_refused : (k : ℕ) (block : Block) (d : N) (worth sum : Fraction) (bound : ℕ) (p : Passed Fraction) → k < length m.blocks → k < length ds → d ≡ get_or ds k d → block ≡ block_at m k
-      → sum ≡ welfare_to k → worth ≡ neg_ℚ (signed_by_side block.side (whole block.price)) → IsShareRefusal sum worth (value d) bound p → IsRefusedIn (welfare_terms m (dispatch_of value ds)) bound p
+      → sum ≡ welfare_to k → worth ≡ neg_ℚ (signed_by_side block.side (whole block.price)) → IsShareRefusal sum worth (value d) bound p → IsRefusedIn (value_terms m (dispatch_of value ds)) bound p
   welfare_refused k block d worth sum bound p below lt at same is w h =
       let f : ℕ → Term = λ j. Product (block_value m j) (accepted (dispatch_of value ds) j) in
       let r = terms_at f (length m.blocks) k below in
-      share_at (welfare_terms m (dispatch_of value ds)) (map f (places k)) r.0 (f k) r.1 bound p sum worth (value d) (ap₂ Product (sym (value_is k block worth same w)) (accepted_is value ds k d lt at)) is h
+      share_at (value_terms m (dispatch_of value ds)) (map f (places k)) r.0 (f k) r.1 bound p sum worth (value d) (ap₂ Product (sym (value_is k block worth same w)) (accepted_is value ds k d lt at)) is h
+
+-- where no limit gives way, the values of blocks are all that a dispatch is worth
+module _ (m : Parts) (hard : HasHardLimits m.lines) (x : Dispatch) where
+  pub hard_worth : total (value_terms m x) ≡ welfare m x
+  unfolding welfare_for
+  hard_worth = ap total (sym (hard_welfare_terms m hard (rows m) x))
+
+  pub hard_worth_refused : (bound : ℕ) (p : Passed Fraction) → IsRefusedIn (value_terms m x) bound p → IsRefusedIn (welfare_terms m x) bound p
+  hard_worth_refused bound p h = subst (λ ts. IsRefusedIn ts bound p) (sym (hard_welfare_terms m hard (rows m) x)) h
 
 -- a price that was read by its place
 pub price_is : {N : Type 0} (value : N → Fraction) (prices : List (Price N)) (i : ℕ) (p : Price N) → i < length prices → total_at value prices i ≡ value (get_or prices i p).total

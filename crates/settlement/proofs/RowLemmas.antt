@@ -14,12 +14,12 @@ use Rattle.market_model.specs.declared.answered.RowId.{RowId}
 use Rattle.market_model.specs.declared.participants.Parts.{Parts}
 use Rattle.market_model.specs.Dispatch.{Dispatch, zero, injection}
 use Rattle.market_model.specs.declared.limits.Row.{Row}
-use Rattle.market_model.specs.LimitRows.{flow, flow_by, flow_terms, limit, line_flow, offset_terms, row_id, row_offset}
+use Rattle.market_model.specs.LimitRows.{flow, flow_by, flow_terms, line_flow, offset_terms, row_id, row_offset}
 use Rattle.market_model.specs.NamedSums.{IsRefusal, IsRefusedIn}
 use Rattle.market_model.specs.Optimality.{named_rows}
 use Rattle.market_model.specs.RightAnswers.{rent_by, rent_of}
 use Rattle.market_model.specs.Market.{IsMarket}
-use Rattle.market_model.specs.Settlement.{earned_terms, lower_terms, rent_terms, rent_terms_by, upper_terms}
+use Rattle.market_model.specs.Settlement.{earned_terms, lower_terms, priced_flow, rent_terms, rent_terms_by, upper_terms}
 use Rattle.market_model.specs.SumTables.{IsRefusedAmong, rent_of_row, PaidRowSum, flow_after_outage, flow_of_row, offset_of_row, paid_offset, upper_of_row, lower_of_row, payment, paid_row}
 use Rattle.market_model.proofs.SumSteps.{minus_at, plus_at, product_at}
 use Rattle.limit_rows.proofs.DualLemmas.{IsRowOfDual}
@@ -56,11 +56,11 @@ module _ (e : Dual Fraction) (f o : Fraction) where
         (by_ring ring_ℚ (f ∷ o ∷ []) pnil (padd (pmul pnil (padd (at 0) (pneg (at 1)))) pnil) refl ∙ ap (λ u. u *ℚ (f -ℚ o) +ℚ zero) (sym none)) h
 
 -- the same for the limit of a row, of its flow where lines have flows f
-pub earning_refused : (m : Parts) (f : ℕ → Fraction) (e : Dual Fraction) (r : Row) (size offset : Fraction) (bound : ℕ) (p : Passed Fraction) → size ≡ limit m r → offset ≡ row_offset m r
+pub earning_refused : (m : Parts) (f : ℕ → Fraction) (e : Dual Fraction) (r : Row) (size offset : Fraction) (bound : ℕ) (p : Passed Fraction) → size ≡ priced_flow m r (flow_by m f r) → offset ≡ row_offset m r
     → IsRefusedIn (upper_terms size offset) bound p ⊎ IsRefusedIn (lower_terms size offset) bound p ⊎ IsRefusedIn (earned_terms e.up e.down size offset) bound p
     → IsRefusedAmong (PaidRowSum m f r) bound p ⊎ IsRefusedIn (rent_terms_by m f r e.up e.down) bound p
-earning_refused m f e r size offset bound p s o (inl a) = inl (upper_terms (limit m r) (row_offset m r), upper_of_row, subst₂ (λ u v. IsRefusedIn (upper_terms u v) bound p) s o a)
-earning_refused m f e r size offset bound p s o (inr (inl a)) = inl (lower_terms (limit m r) (row_offset m r), lower_of_row, subst₂ (λ u v. IsRefusedIn (lower_terms u v) bound p) s o a)
+earning_refused m f e r size offset bound p s o (inl a) = inl (upper_terms (priced_flow m r (flow_by m f r)) (row_offset m r), upper_of_row, subst₂ (λ u v. IsRefusedIn (upper_terms u v) bound p) s o a)
+earning_refused m f e r size offset bound p s o (inr (inl a)) = inl (lower_terms (priced_flow m r (flow_by m f r)) (row_offset m r), lower_of_row, subst₂ (λ u v. IsRefusedIn (lower_terms u v) bound p) s o a)
 earning_refused m f e r size offset bound p s o (inr (inr a)) = inr (subst₂ (λ u v. IsRefusedIn (earned_terms e.up e.down u v) bound p) s o a)
 
 -- ---- rows of duals, where lines have the flows of a dispatch
@@ -68,10 +68,16 @@ same_rent : (row row' : RowId) (f f' r r' : Fraction) → row ≡ row' → f ≡
 same_rent row row' f f' r r' a b c = Prim.rw a (Prim.rw b (Prim.rw c refl))
 
 module _ (m : Parts) (x : Dispatch) (flows : List Fraction) (are : flows ≡ flows_at m x) (d : Duals Fraction) (k : ℕ) (e : Dual Fraction) (r : Row) (h : IsRowOfDual m d k e r) (market : IsMarket m) where
+  -- its flow is that of the dispatch
+  same_flow : flow_by m (line_in m flows) r ≡ flow m x r
+  same_flow = ap total (row_terms m x flows r market are h.row)
+
   pub rent_is : rent_by m (line_in m flows) e r ≡ rent_of m x d r
   rent_is =
       same_rent e.row (row_id m r) (flow_by m (line_in m flows) r) (flow m x r) (total (rent_terms_by m (line_in m flows) r e.up e.down)) (total (rent_terms m x d r)) (sym h.name)
-      (ap total (row_terms m x flows r market are h.row)) (ap₂ (λ u v. total (rent_terms_by m (line_in m flows) r u v)) (sym h.up) (sym h.down))
+      same_flow
+      (ap (λ f. total (earned_terms e.up e.down (priced_flow m r f) (row_offset m r))) same_flow
+      ∙ ap₂ (λ u v. total (rent_terms_by m (line_flow m (injection m x)) r u v)) (sym h.up) (sym h.down))
 
   module _ (price : ℕ → Fraction) (bound : ℕ) (p : Passed Fraction) where
     named : Contains (named_rows m d) r
@@ -82,8 +88,10 @@ module _ (m : Parts) (x : Dispatch) (flows : List Fraction) (are : flows ≡ flo
     paid_row_same terms (flow_after_outage same after flow_of_row) a =
         (flow_terms m (line_flow m (injection m x)) r, paid_row r _ named (flow_after_outage _ after flow_of_row), subst (λ ts. IsRefusedIn ts bound p) (row_terms m x flows r market are h.row) a)
     paid_row_same terms (paid_offset same offset_of_row) a = (offset_terms m r, paid_row r _ named (paid_offset _ offset_of_row), a)
-    paid_row_same terms upper_of_row a = (upper_terms (limit m r) (row_offset m r), paid_row r _ named upper_of_row, a)
-    paid_row_same terms lower_of_row a = (lower_terms (limit m r) (row_offset m r), paid_row r _ named lower_of_row, a)
+    paid_row_same terms upper_of_row a =
+        (upper_terms (priced_flow m r (flow m x r)) (row_offset m r), paid_row r _ named upper_of_row, subst (λ f. IsRefusedIn (upper_terms (priced_flow m r f) (row_offset m r)) bound p) same_flow a)
+    paid_row_same terms lower_of_row a =
+        (lower_terms (priced_flow m r (flow m x r)) (row_offset m r), paid_row r _ named lower_of_row, subst (λ f. IsRefusedIn (lower_terms (priced_flow m r f) (row_offset m r)) bound p) same_flow a)
 
     pub row_refusal : IsRefusedAmong (PaidRowSum m (line_in m flows) r) bound p ⊎ IsRefusedIn (rent_terms_by m (line_in m flows) r e.up e.down) bound p
         → IsMoneyRefusal m x price d bound p
@@ -91,5 +99,6 @@ module _ (m : Parts) (x : Dispatch) (flows : List Fraction) (are : flows ≡ flo
     row_refusal (inr a) = (
       rent_terms m x d r,
       payment _ (rent_of_row r named),
-      subst₂ (λ u v. IsRefusedIn (rent_terms_by m (line_in m flows) r u v) bound p) (sym h.up) (sym h.down) a,
+      subst₂ (λ u v. IsRefusedIn (rent_terms_by m (line_flow m (injection m x)) r u v) bound p) (sym h.up) (sym h.down)
+          (subst (λ f. IsRefusedIn (earned_terms e.up e.down (priced_flow m r f) (row_offset m r)) bound p) same_flow a),
     )

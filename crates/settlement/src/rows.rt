@@ -1,12 +1,13 @@
 //! What the limits of rows earn.
 
 ghost use Rattle.std.specs.Prelude.{◌≡◌, ◌⊎◌, ◌+◌, ◌<◌, length, map, IfOk, IfErr};
+ghost use Rattle.fraction_theory.specs.Signs.{abs_ℚ};
 ghost use Rattle.fraction_theory.specs.Sums.{total};
 ghost use Rattle.market_model.specs.LimitRows.{IsCauseAmong};
 ghost use Rattle.market_model.specs.NamedSums.{IsRefusedIn};
 ghost use Rattle.market_model.specs.Optimality.{IsOneSided};
 ghost use Rattle.market_model.specs.RightAnswers.{rent_by};
-ghost use Rattle.market_model.specs.Settlement.{earned_terms, lower_terms, rent_terms_by, upper_terms};
+ghost use Rattle.market_model.specs.Settlement.{earned_terms, lower_terms, priced_flow, rent_terms_by, upper_terms};
 ghost use Rattle.market_model.specs.SumTables.{IsRefusedAmong, PaidRowSum};
 ghost use Rattle.market_model.specs.Valued.{dual_at, passed_at, rent_at};
 ghost use Rattle.limit_screen.specs.Flows.{line_in};
@@ -15,23 +16,48 @@ use exact_fraction::{Exact, Passed, Sign, exact_difference, exact_sum};
 use limit_rows::{limit_at, row_flow, row_offset};
 use limit_screen::line_flows;
 use market_model::{Dual, Market, Rent, Row, datum};
+use std::cmp::Ordering;
 
-/// What a limit earns with the one of its two prices that is not 0: on the upper side for the limit less the fixed offset of the
+/// The size of a flow.
+fn size<N: Exact>(flow: N) -> N
+    ensures { N.value result ≡ abs_ℚ (N.value flow) }
+{
+    match flow.sign() {
+        Sign::Below => flow.neg(),
+        Sign::Zero | Sign::Above => flow,
+    }
+}
+
+/// The MW for which the prices of a row are paid: its limit, or the size of its flow where that is greater. Nothing is added up for
+/// it, so nothing is refused.
+fn priced_flow<N: Exact>(market: &Market, row: Row, flow: N) -> N
+    requires { row.line < length market.now.lines }
+    ensures { N.value result ≡ priced_flow market.now row (N.value flow) }
+{
+    let limit: N = datum(limit_at(market, row));
+    let size = size(flow);
+    match size.order(limit) {
+        Ordering::Greater => size,
+        Ordering::Less | Ordering::Equal => limit,
+    }
+}
+
+/// What a limit earns with the one of its two prices that is not 0: on the upper side for so many MW less the fixed offset of the
 /// flow, on the lower side for the two together.
-fn earned<N: Exact>(dual: &Dual<N>, limit: N, offset: N) -> Result<N, Passed<N>>
+fn earned<N: Exact>(dual: &Dual<N>, priced: N, offset: N) -> Result<N, Passed<N>>
     requires { IsOneSided (dual_at N.value dual.now) }
-    ensures rent { IfOk result (λ rent. N.value rent ≡ total (earned_terms (N.value dual.now.up) (N.value dual.now.down) (N.value limit) (N.value offset))) }
-    ensures cause { IfErr result (λ passed. IsRefusedIn (upper_terms (N.value limit) (N.value offset)) N.bound (passed_at N.value passed)
-        ⊎ IsRefusedIn (lower_terms (N.value limit) (N.value offset)) N.bound (passed_at N.value passed)
-        ⊎ IsRefusedIn (earned_terms (N.value dual.now.up) (N.value dual.now.down) (N.value limit) (N.value offset)) N.bound (passed_at N.value passed)) }
+    ensures rent { IfOk result (λ rent. N.value rent ≡ total (earned_terms (N.value dual.now.up) (N.value dual.now.down) (N.value priced) (N.value offset))) }
+    ensures cause { IfErr result (λ passed. IsRefusedIn (upper_terms (N.value priced) (N.value offset)) N.bound (passed_at N.value passed)
+        ⊎ IsRefusedIn (lower_terms (N.value priced) (N.value offset)) N.bound (passed_at N.value passed)
+        ⊎ IsRefusedIn (earned_terms (N.value dual.now.up) (N.value dual.now.down) (N.value priced) (N.value offset)) N.bound (passed_at N.value passed)) }
 {
     match dual.down.sign() {
         Sign::Zero => {
-            let room = exact_difference(limit, offset)?;
+            let room = exact_difference(priced, offset)?;
             dual.up.times(room)
         }
         Sign::Below | Sign::Above => {
-            let room = exact_sum(limit, offset)?;
+            let room = exact_sum(priced, offset)?;
             dual.down.times(room)
         }
     }
@@ -54,7 +80,7 @@ pub fn row_rent<N: Exact>(
 {
     let flow = row_flow(market, line_flows(market, flows), row)?;
     let offset = row_offset(market, row)?;
-    let rent = earned(dual, datum(limit_at(market, row)), offset)?;
+    let rent = earned(dual, priced_flow(market, row, flow), offset)?;
     Ok(Rent {
         row: dual.row,
         flow,

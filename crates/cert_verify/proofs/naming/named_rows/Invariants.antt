@@ -1,12 +1,10 @@
 use Rattle.std.proofs.Common.{◌≡◌, map}
 use Rattle.fraction_theory.specs.Fraction.{Fraction}
 use Rattle.market_model.specs.Valued.{dual_at}
-use Rattle.limit_rows.proofs.NumberingLemmas.{rows_before}
 use Rattle.cert_sums.specs.Named.{priced_at}
 use Rattle.cert_verify.specs.Certificates.{named_duals}
 use Rattle.cert_verify.specs.Naming.{prices_of}
 use Rattle.cert_verify.proofs.naming.named_rows.Given as goal
 
-abbrev pub invariant-loop-place : goal.invariant-loop-place
-invariant-loop-place g l =
-    (energy : Fraction) → map (priced_at g.N.Exact.value) l.named ≡ prices_of l.market (named_duals energy (map (dual_at g.N.Exact.value) l.limits)) (rows_before l.market l.place)
+abbrev pub invariant-loop-row : goal.invariant-loop-row
+invariant-loop-row g l = (energy : Fraction) → map (priced_at g.N.Exact.value) l.named ≡ prices_of l.market (named_duals energy (map (dual_at g.N.Exact.value) l.limits)) l.yielded

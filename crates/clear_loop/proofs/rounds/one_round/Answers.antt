@@ -12,7 +12,7 @@ use Rattle.market_model.specs.declared.stops.Stop.TheVariants as stop
 use Rattle.limit_screen.specs.Flows.{flows_at}
 use Rattle.clear_loop.specs.Rounds.{IsScreened}
 use Rattle.clear_loop.proofs.BrokenLemmas.{worst_broken, worst_inside}
-use Rattle.clear_loop.proofs.HandLemmas.{dispatch_count, feasible_over_all}
+use Rattle.clear_loop.proofs.HandLemmas.{dispatch_count, feasible_over_all, row_is_new}
 use Rattle.clear_loop.proofs.PosingLemmas.{bounds_fit, in_order, posed_range, posed_system, prices_fit}
 use Rattle.clear_loop.proofs.SolvedLemmas.{best_for, prices_only}
 use Rattle.clear_loop.proofs.StopLemmas.{pair_stop, screen_stop}
@@ -196,17 +196,17 @@ returns-in_ok-with_row-in-Broken-clause-round g c =
     let best : IsFound value m rs (found.Best c.in-Best.dict c.in-Best.dispatch c.in-Best.duals) =
     subst (λ (f : Found g.row.N.Denot). IsFound value m rs f) c.in-Best.is (c.in_ok-dict.ensures.found rs holds) in
     let worst =
-    subst (IsScreened value m x) c.in-Broken.is c.in_ok-row.ensures.screened in (
+    subst (IsScreened value m x) c.in-Broken.is c.in_ok-row.ensures.screened in
+    let market = c.lines-lines.ensures.market in
+    let best_x = best_for m rs x (duals_at value c.in-Best.duals) market (subst (λ xs. IsSolvedBy m rs (dispatch_of value xs) (duals_at value c.in-Best.duals)) (sym c.slice-3.ensures) best.1) in
+    let broken = worst_broken m x worst.0 c.in-Broken.row worst.1 in (
       c.in_ok-with_row-in-Broken.ensures.hand,
       (
         c.in-Broken.row,
         c.in_ok-with_row-in-Broken.ensures.rows,
         worst_inside m x worst.0 c.in-Broken.row worst.1,
-        (
-          x,
-          best_for m rs x (duals_at value c.in-Best.duals) c.lines-lines.ensures.market (subst (λ xs. IsSolvedBy m rs (dispatch_of value xs) (duals_at value c.in-Best.duals)) (sym c.slice-3.ensures) best.1),
-          worst_broken m x worst.0 c.in-Broken.row worst.1,
-        ),
+        row_is_new m rs c.in-Broken.row market c.lines-lines.ensures.hard (x, best_x, broken),
+        (x, best_x, broken),
       ),
     )
 

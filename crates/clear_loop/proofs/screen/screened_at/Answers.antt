@@ -58,4 +58,4 @@ returns-in-None-clause-screened g c =
     let fs : map value c.deref.result.now ≡ flows_at m x = ap (map value) c.deref.ensures.value ∙ c.in_ok-by_place.ensures.flows in
     let f = line_in m (map value c.deref.result.now) in
     let hold = subst (λ (o : Option Row). MatchOption o (AllHold m f) (λ row. (place : ℕ) × IsWorst m (flow_by m f) place row)) c.in-None.is c.in_ok-row.ensures.worst in
-    (all_within m c.lines-lines.ensures.market x (map value c.deref.result.now) fs hold, ap (map value) (sym c.deref.ensures.value) ∙ fs)
+    (all_within m c.lines-lines.ensures.market x (map value c.deref.result.now) fs c.lines-lines.ensures.hard hold, ap (map value) (sym c.deref.ensures.value) ∙ fs)

@@ -1,7 +1,10 @@
-use Rattle.std.proofs.Common.{◌≡◌, ◌∙◌, Err, rules}
+use Rattle.std.proofs.Common.{◌≡◌, ◌∙◌, Err, sym, subst, rules}
+use Rattle.market_model.specs.declared.participants.Parts.{Parts}
+use Rattle.market_model.specs.Lines.{HasHardLimits}
 use Rattle.market_tables.specs.Tables.{tables_lent}
 use Rattle.market_inputs.specs.Files.{sized_tables}
 use Rattle.market_inputs.proofs.ClearLemmas.{all-read, case-stop, cover-stop, network-stop, offers-stop, offsets-stop, tables-stop}
+use Rattle.market_inputs.proofs.MarketLemmas.{lines-hard}
 use Rattle.market_inputs.proofs.clearing.clear_market.Goals as goal
 
 pub returns-in_err-raw-clause-told : goal.returns-in_err-raw-clause-told
@@ -71,3 +74,7 @@ returns-clause-told c =
       covers = c.in_ok-check_cover.ensures;
     })
     c.in_ok-offered.offered c.in_ok-offered.ensures.told c.in_ok-offsets.offsets _ c.in_ok-offsets.ensures (c.in_ok-assemble.ensures ∙ c.in_ok-parts.ensures.is)
+
+pub assemble-requires-clause-hard : goal.assemble-requires-clause-hard
+assemble-requires-clause-hard c =
+    subst (λ (p : Parts). HasHardLimits p.lines) (sym c.in_ok-parts.ensures.is) (lines-hard c.in_ok-network.network c.in_ok-offsets.offsets)

@@ -1,9 +1,7 @@
-use Rattle.std.proofs.Common.{rules, Err, ◌≡◌, ◌∙◌, ap, inl, map, subst, w64}
-use Rattle.std.proofs.lemmas.Int.{to_z-of_z}
-use mir.Val.{to_z, of_z}
-use Rattle.fraction_theory.specs.Fraction.{whole}
-use Rattle.market_model.specs.LimitRows.{flow_terms, offset_terms}
+use Rattle.std.proofs.Common.{rules, Err, ◌≡◌, ◌∙◌, ap, inl, map, subst}
+use Rattle.market_model.specs.LimitRows.{flow_by, flow_terms, offset_terms}
 use Rattle.market_model.specs.NamedSums.{IsRefusedIn}
+use Rattle.market_model.specs.Settlement.{priced_flow}
 use Rattle.market_model.specs.SumTables.{flow_after_outage, flow_of_row, offset_of_row, paid_offset}
 use Rattle.market_model.specs.Valued.{dual_at, passed_at}
 use Rattle.limit_screen.specs.Flows.{line_in}
@@ -32,8 +30,9 @@ pub returns-in_err-rent-clause-cause : goal.returns-in_err-rent-clause-cause
 returns-in_err-rent-clause-cause g c =
     let m = c.args.market.now in
     let value = g.N.Exact.value in
-    let known : to_z w64 (of_z w64 c.limit_at.result) ≡ c.limit_at.result = to_z-of_z w64 c.limit_at.result (record { sfits = c.limit_at.type_inv }) in
+    let r = c.args.row in
+    let flow = c.in_ok-flow.ensures.flow ∙ ap (λ f. flow_by m f r) c.line_flows.ensures.is in
     let given : c.from_residual-in_err-rent.result ≡ Err c.in_err-rent.field-0.0 = search rules in
     rw given
-    (earning_refused m (line_in m (map value c.args.flows.now)) (dual_at value c.args.dual.now) c.args.row (value c.datum.result) (value c.in_ok-offset.offset) g.N.Exact.bound (passed_at value c.in_err-rent.field-0.0)
-    (c.datum.ensures ∙ ap whole known ∙ c.limit_at.ensures.limit) c.in_ok-offset.ensures.offset c.in_err-rent.ensures.cause)
+    (earning_refused m (line_in m (map value c.args.flows.now)) (dual_at value c.args.dual.now) c.args.row (value c.priced_flow.result) (value c.in_ok-offset.offset) g.N.Exact.bound (passed_at value c.in_err-rent.field-0.0)
+    (c.priced_flow.ensures ∙ ap (priced_flow m r) flow) c.in_ok-offset.ensures.offset c.in_err-rent.ensures.cause)

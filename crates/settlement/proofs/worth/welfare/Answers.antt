@@ -2,9 +2,9 @@ use Rattle.std.proofs.Common.{rules, Err, refl, ◌<◌, ◌≡◌, ◌∙◌, a
 use Rattle.std.specs.Prelude.{slice_index_or}
 use Rattle.exact_fraction.proofs.Shares.{share_refused}
 use Rattle.market_model.specs.declared.participants.Side.TheVariants.{Sell}
-use Rattle.market_model.specs.Optimality.{welfare as welfare_of}
-use Rattle.settlement.proofs.PayLemmas.{welfare_step, welfare_refused}
+use Rattle.market_model.specs.PutIn.{dispatch_of}
 use Rattle.market_model.specs.Valued.{passed_at}
+use Rattle.settlement.proofs.PayLemmas.{hard_worth, hard_worth_refused, welfare_step, welfare_refused}
 use Rattle.settlement.proofs.worth.welfare.Goals as goal
 
 pub loop-place-preserved : goal.loop-place-preserved
@@ -16,11 +16,10 @@ loop-place-preserved g c =
     c.loop-place.invariant c.block_value.ensures c.in_ok-sum.ensures.exact
 
 pub returns-clause-worth : goal.returns-clause-worth
-unfolding welfare_of
 returns-clause-worth g c =
     let blocks = c.slice-block-items.ensures ∙ c.blocks-2.ensures.list in
     let all : c.loop-place.place ≡ length c.args.market.now.blocks = omega (arith, ap length blocks) in
-    rw all at c.loop-place.invariant
+    (rw all at c.loop-place.invariant) ∙ hard_worth c.args.market.now c.lines-lines.ensures.hard (dispatch_of g.N.Exact.value c.args.dispatch.now)
 
 pub returns-in_err-sum-clause-cause : goal.returns-in_err-sum-clause-cause
 returns-in_err-sum-clause-cause g c =
@@ -33,6 +32,7 @@ returns-in_err-sum-clause-cause g c =
     let same = ap (λ bs. slice_index_or bs k (record { unit = 0; side = Sell; quantity = pos 0; price = pos 0 })) blocks in
     let inside : k < length c.args.dispatch.now = omega (arith, below, c.requires) in
     rw given
+    (hard_worth_refused m c.lines-lines.ensures.hard (dispatch_of value c.args.dispatch.now) g.N.Exact.bound (passed_at value c.in_err-sum.field-0.0)
     (welfare_refused value m c.args.dispatch.now k _ c.index-dispatch-place.result (value c.block_value.result) (value c.loop-place.sum) g.N.Exact.bound (passed_at value c.in_err-sum.field-0.0) below inside
     c.index-dispatch-place.is same c.loop-place.invariant c.block_value.ensures
-    (share_refused value g.N.Exact.bound c.loop-place.sum c.block_value.result c.index-dispatch-place.result c.in_err-sum.field-0.0 _ _ _ c.in_err-sum.ensures refl refl refl))
+    (share_refused value g.N.Exact.bound c.loop-place.sum c.block_value.result c.index-dispatch-place.result c.in_err-sum.field-0.0 _ _ _ c.in_err-sum.ensures refl refl refl)))

@@ -14,10 +14,10 @@ module _ (c : goal.After-len) where
   lost_inside = subst (λ (m : Parts). c.args.lost < length m.lines) (sym c.self.view_is) c.requires.lost
 
   at : (c.in-Some.outage < length c.self.inside.lost) × (slice_index_or c.self.inside.lost c.in-Some.outage 0 ≡ c.args.lost)
-  at = outage_read c.self.inside.parts c.self.invariant.0 c.self.inside.lost c.self.inside.index.items c.self.inside.loss.items c.self.invariant.2 c.args.lost c.in-Some.outage c.index.result.now lost_inside c.index.ensures c.in-Some.is
+  at = outage_read c.self.inside.parts c.self.invariant.0 c.self.inside.lost c.self.inside.index.items c.self.inside.loss.items c.self.invariant.3 c.args.lost c.in-Some.outage c.index.result.now lost_inside c.index.ensures c.in-Some.is
 
   few : length c.self.inside.lost ≤ most_outages
-  few = lost_few c.self.inside.parts c.self.invariant.0 c.self.inside.lost c.self.inside.index.items c.self.inside.loss.items c.self.invariant.2
+  few = lost_few c.self.inside.parts c.self.invariant.0 c.self.inside.lost c.self.inside.index.items c.self.inside.loss.items c.self.invariant.3
 
 pub overflow_mul-outage : goal.overflow_mul-outage
 overflow_mul-outage c =
@@ -31,7 +31,7 @@ overflow_add-outage c =
 
 pub index-requires-in-Some : goal.index-requires-in-Some
 index-requires-in-Some c =
-    let r = place_inside (length c.self.inside.parts.lines) (length c.self.inside.lost) c.self.invariant.0.line_count (few c) c.in-Some.outage c.args.line (at c).0 (line_inside c) c.self.inside.loss.items c.self.invariant.2.factors.count in
+    let r = place_inside (length c.self.inside.parts.lines) (length c.self.inside.lost) c.self.invariant.0.line_count (few c) c.in-Some.outage c.args.line (at c).0 (line_inside c) c.self.inside.loss.items c.self.invariant.3.factors.count in
     let long : vec_len c.self.inside.loss ≡ length c.self.inside.loss.items = search rules in
     rw (c.len.ensures, long) r
 
@@ -42,7 +42,7 @@ returns-in-Some c =
     let lost = c.self.inside.lost in
     let index = c.self.inside.index.items in
     let table = c.self.inside.loss.items in
-    let are = c.self.invariant.2 in
+    let are = c.self.invariant.3 in
     let line_in : c.args.line < length c.self.inside.parts.lines = subst (λ (m : Parts). c.args.line < length m.lines) (sym c.self.view_is) c.requires.line in
     let lost_in : c.args.lost < length c.self.inside.parts.lines = subst (λ (m : Parts). c.args.lost < length m.lines) (sym c.self.view_is) c.requires.lost in
     let known : to_z w64 (of_z w64 c.index-in-Some.result.now) ≡ c.index-in-Some.result.now = search rules in

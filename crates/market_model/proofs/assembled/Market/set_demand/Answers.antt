@@ -22,8 +22,9 @@ invariant_of-self c =
     let long : length c.self.inside.parts.buses ≡ length c.set.new.self = sym (ap length c.set.ensures ∙ length-set c.self.inside.parts.buses c.args.bus _) in (
       subst IsMarket (sym (changed c)) (kept_demand c.self.inside.parts c.self.invariant.0 c.args.bus c.args.pd
           (subst (λ (m : Parts). c.args.bus < length m.buses) (sym c.self.view_is) c.requires.bus) c.requires.load),
-      subst (λ (n : ℕ). IsTable (length c.self.inside.parts.lines) n (factor_in c.self.inside.parts.shift) c.self.inside.shift.items) long c.self.invariant.1,
-      record { lines = c.self.invariant.2.lines; index = c.self.invariant.2.index; factors = c.self.invariant.2.factors },
+      c.self.invariant.1,
+      subst (λ (n : ℕ). IsTable (length c.self.inside.parts.lines) n (factor_in c.self.inside.parts.shift) c.self.inside.shift.items) long c.self.invariant.2,
+      record { lines = c.self.invariant.3.lines; index = c.self.invariant.3.index; factors = c.self.invariant.3.factors },
     )
 
 pub returns : goal.returns

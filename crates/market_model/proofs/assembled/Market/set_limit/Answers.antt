@@ -4,10 +4,11 @@ use Rattle.market_model.specs.declared.participants.Line.{Line}
 use Rattle.market_model.specs.declared.participants.Parts.{Parts}
 use Rattle.market_model.specs.Changes.{with_limit}
 use Rattle.market_model.specs.Factors.{factor_in, IsTable}
+use Rattle.market_model.specs.Lines.{HasHardLimits}
 use Rattle.market_model.specs.LostLines.{AreLostLines}
 use Rattle.market_model.specs.Market.{IsMarket}
 use Rattle.std.proofs.lemmas.List.{length-set}
-use Rattle.market_model.proofs.ChangeLemmas.{put_limit, kept_limit}
+use Rattle.market_model.proofs.ChangeLemmas.{put_limit, kept_limit, hard_with_limit}
 use Rattle.market_model.proofs.LostLemmas.{lost_kept}
 use Rattle.market_model.proofs.assembled.Market.set_limit.Goals as goal
 
@@ -22,9 +23,10 @@ invariant_of-self c =
     let long : length c.self.inside.parts.lines ≡ length c.set.new.self = sym (ap length c.set.ensures ∙ length-set c.self.inside.parts.lines c.args.line _) in (
       subst IsMarket (sym (changed c)) (kept_limit c.self.inside.parts c.self.invariant.0 c.args.line c.args.post c.args.mw
           (subst (λ (m : Parts). c.args.line < length m.lines) (sym c.self.view_is) c.requires.line) c.requires.least),
-      subst (λ (n : ℕ). IsTable n (length c.self.inside.parts.buses) (factor_in c.self.inside.parts.shift) c.self.inside.shift.items) long c.self.invariant.1,
+      subst (λ (m : Parts). HasHardLimits m.lines) (sym (changed c)) (hard_with_limit c.self.inside.parts c.args.line c.args.post c.args.mw c.self.invariant.1),
+      subst (λ (n : ℕ). IsTable n (length c.self.inside.parts.buses) (factor_in c.self.inside.parts.shift) c.self.inside.shift.items) long c.self.invariant.2,
       subst (λ (m : Parts). AreLostLines m c.self.inside.lost c.self.inside.index.items c.self.inside.loss.items) (sym (changed c))
-          (lost_kept c.self.inside.parts c.args.line c.args.post c.args.mw c.self.inside.lost c.self.inside.index.items c.self.inside.loss.items c.self.invariant.2),
+          (lost_kept c.self.inside.parts c.args.line c.args.post c.args.mw c.self.inside.lost c.self.inside.index.items c.self.inside.loss.items c.self.invariant.3),
     )
 
 pub returns : goal.returns

@@ -20,7 +20,8 @@ invariant_of-self c = (
   subst IsMarket (sym (changed c)) (kept_price c.self.inside.parts c.self.invariant.0 c.args.block c.args.price
       (subst (λ (m : Parts). c.args.block < length m.blocks) (sym c.self.view_is) c.requires.block) c.requires.price),
   c.self.invariant.1,
-  record { lines = c.self.invariant.2.lines; index = c.self.invariant.2.index; factors = c.self.invariant.2.factors },
+  c.self.invariant.2,
+  record { lines = c.self.invariant.3.lines; index = c.self.invariant.3.index; factors = c.self.invariant.3.factors },
 )
 
 pub returns : goal.returns

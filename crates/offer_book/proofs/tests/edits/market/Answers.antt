@@ -8,10 +8,11 @@ use Rattle.market_model.specs.declared.participants.Block.{Block}
 use Rattle.market_model.specs.declared.participants.Line.{Line}
 use Rattle.market_model.specs.declared.participants.Parts.{Parts}
 use Rattle.market_model.specs.declared.participants.Side.TheVariants.{Sell, Buy}
+use Rattle.market_model.specs.Lines.{hard_line, IsHard}
 use Rattle.market_model.specs.Market.{bare_parts, IsMarket, IsBlock, IsLine, HasRoom}
 use Rattle.market_model.specs.Stairs.{stair_in}
+use Rattle.market_model.proofs.HardLimits.{hard_is_hard, hard_is_line}
 use Rattle.offer_book.proofs.tests.edits.market.Goals as goal
-use Rattle.market_model.specs.Lines.{hard_line}
 
 abbrev the_bus : Bus
 the_bus = record { number = 3; pd = pos 60000000000; gs = pos 5000000000 }
@@ -49,7 +50,7 @@ is_market = record {
   unit_rows = λ i j d p q. absurd (Prim.omega (arith, p, q));
   blocks = All-cons (IsBlock 1) cheap (dear ∷ []) (record { unit = Prim.omega arith; quantity = Prim.omega (arith, ints); price = Prim.omega (arith, ints) }) (All-cons (IsBlock 1) dear [] (record { unit = Prim.omega arith; quantity = Prim.omega (arith, ints); price = Prim.omega (arith, ints) }) (All-nil (IsBlock 1)));
   room = rooms;
-  lines = All-cons IsLine the_line [] (record { row = Prim.omega arith; base = Prim.omega (arith, ints); post = tt; offset = Prim.omega (arith, ints) }) (All-nil IsLine);
+  lines = All-cons IsLine the_line [] (hard_is_line 2 (Some (pos 40000000000)) None (pos 0) (Prim.omega arith) (Prim.omega (arith, ints)) tt (Prim.omega (arith, ints))) (All-nil IsLine);
   line_rows = λ i j d p q. absurd (Prim.omega (arith, p, q));
   outages = λ i d lt. absurd (Prim.omega (arith, lt));
   outages_distinct = λ i j d p q. absurd (Prim.omega (arith, q));
@@ -66,5 +67,8 @@ assemble-requires c =
     let buses : c.push.new.self ≡ the_bus ∷ [] = rw c.new-buses.ensures at c.in_ok-push.ensures in
     let units : c.push-2.new.self ≡ the_unit ∷ [] = rw c.new-units.ensures at c.in_ok-push-2.ensures in
     let blocks : c.push-4.new.self ≡ cheap ∷ dear ∷ [] = rw (c.in_ok-push-3.ensures, c.new-blocks.ensures) at c.in_ok-push-4.ensures in
-    let lines : c.push-5.new.self ≡ the_line ∷ [] = rw c.new-lines.ensures at c.in_ok-push-5.ensures in
-    rw (c.bare.ensures, buses, units, blocks, lines) is_market
+    let lines : c.push-5.new.self ≡ the_line ∷ [] = rw (c.new-lines.ensures, c.hard.ensures) at c.in_ok-push-5.ensures in
+    record {
+      market = rw (c.bare.ensures, buses, units, blocks, lines) is_market;
+      hard = rw lines (All-cons IsHard the_line [] (hard_is_hard 2 (Some (pos 40000000000)) None (pos 0)) (All-nil IsHard));
+    }
