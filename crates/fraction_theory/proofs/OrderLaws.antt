@@ -107,6 +107,10 @@ pub by_le1 : (vs : List Fraction) (p q k l r : Poly) → NonNeg (value ring_ℚ 
     → normal (padd q (pneg p)) ≡ normal (pmul k (padd r (pneg l))) → value ring_ℚ vs p ≤ℚ value ring_ℚ vs q
 by_le1 vs p q k l r hk h e = by_rest vs p q (pmul k (padd r (pneg l))) (NonNeg-times (value ring_ℚ vs k) (value ring_ℚ vs r -ℚ value ring_ℚ vs l) hk (le_to (value ring_ℚ vs l) (value ring_ℚ vs r) h)) e
 
+-- opposites in the other order
+pub opposite_most : (most x : Fraction) → neg_ℚ most ≤ℚ x → neg_ℚ x ≤ℚ most
+opposite_most most x h = by_le1 (most ∷ x ∷ []) (pneg (at 1)) (at 0) pone (pneg (at 0)) (at 1) NonNeg-one h refl
+
 -- from two others
 pub by_le2 : (vs : List Fraction) (p q k l r k' l' r' : Poly) → NonNeg (value ring_ℚ vs k) → value ring_ℚ vs l ≤ℚ value ring_ℚ vs r → NonNeg (value ring_ℚ vs k') → value ring_ℚ vs l' ≤ℚ value ring_ℚ vs r'
     → normal (padd q (pneg p)) ≡ normal (padd (pmul k (padd r (pneg l))) (pmul k' (padd r' (pneg l')))) → value ring_ℚ vs p ≤ℚ value ring_ℚ vs q

@@ -10,7 +10,7 @@ use Rattle.fraction_theory.specs.Signs.{sign_of, sign_of_int, abs_by, abs_ℚ, w
 use Rattle.fraction_theory.proofs.Ring.{by_ring, by_ring1, at, pnil, pone, pneg, ◌⊕◌}
 use Rattle.fraction_theory.proofs.FractionLaws.{same_value, itself}
 use Rattle.fraction_theory.proofs.FieldLaws.{ring_ℚ, zero_is}
-use Rattle.fraction_theory.proofs.OrderLaws.{≤ℚ-or-<ℚ, <ℚ-≤ℚ, <ℚ-not-≤ℚ, ≤ℚ_refl, by_le1, by_le2, NonNeg-one}
+use Rattle.fraction_theory.proofs.OrderLaws.{≤ℚ-or-<ℚ, <ℚ-≤ℚ, <ℚ-not-≤ℚ, ≤ℚ_refl, opposite_most, by_le1, by_le2, NonNeg-one}
 
 -- by the numerator
 pub sign_zero : (x : Fraction) → x.num ≡ pos 0 → Zero ≡ sign_of x
@@ -99,7 +99,7 @@ abs_opposite x = elim (≤ℚ-or-<ℚ x (whole (pos 0))) [
 -- a number between a bound and its opposite is of no greater size
 pub abs_within : (x most : Fraction) → neg_ℚ most ≤ℚ x → x ≤ℚ most → abs_ℚ x ≤ℚ most
 abs_within x most low high = elim (≤ℚ-or-<ℚ x (whole (pos 0))) [
-  | inl below ↦ subst (λ t. t ≤ℚ most) (sym (abs_below x below)) (by_le1 (x ∷ most ∷ []) (pneg (at 0)) (at 1) pone (pneg (at 1)) (at 0) NonNeg-one low refl)
+  | inl below ↦ subst (λ t. t ≤ℚ most) (sym (abs_below x below)) (opposite_most most x low)
   | inr above ↦ subst (λ t. t ≤ℚ most) (sym (abs_above x (<ℚ-≤ℚ (whole (pos 0)) x above))) high
 ]
 

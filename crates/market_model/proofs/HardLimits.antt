@@ -7,9 +7,9 @@ use Rattle.std.proofs.lemmas.List.{get_or_past, append-nil}
 use Rattle.fraction_theory.specs.Fraction.{Fraction, whole, neg_ℚ, ◌+ℚ◌}
 use Rattle.fraction_theory.specs.Sums.{Product}
 use Rattle.fraction_theory.specs.Order.{◌≤ℚ◌, ◌<ℚ◌}
-use Rattle.fraction_theory.proofs.Ring.{by_ring, at, pone, pneg}
+use Rattle.fraction_theory.proofs.Ring.{by_ring, at, pneg}
 use Rattle.fraction_theory.proofs.FieldLaws.{ring_ℚ, +ℚ_nil}
-use Rattle.fraction_theory.proofs.OrderLaws.{by_le1, NonNeg-one, <ℚ-not-≤ℚ, ≤ℚ_antisym, ≤ℚ_of_same}
+use Rattle.fraction_theory.proofs.OrderLaws.{opposite_most, <ℚ-not-≤ℚ, ≤ℚ_antisym, ≤ℚ_of_same}
 use Rattle.market_data.specs.Participants.{IsDatum}
 use Rattle.market_model.specs.declared.limits.Row.{Row}
 use Rattle.market_model.specs.declared.participants.Line.{Line}
@@ -41,10 +41,6 @@ hard_is_line row base post offset from_one of_base of_post datum = record {
 
 pub hard_is_hard : (row : ℕ) (base post : Option ℤ) (offset : ℤ) → IsHard (hard_line row base post offset)
 hard_is_hard row base post offset = record { base = refl; post = refl }
-
--- opposites
-opposite_most : (most f : Fraction) → neg_ℚ most ≤ℚ f → neg_ℚ f ≤ℚ most
-opposite_most most f h = by_le1 (most ∷ f ∷ []) (pneg (at 1)) (at 0) pone (pneg (at 0)) (at 1) NonNeg-one h refl
 
 twice_opposite : (f : Fraction) → neg_ℚ (neg_ℚ f) ≡ f
 twice_opposite f = by_ring ring_ℚ (f ∷ []) (pneg (pneg (at 0))) (at 0) refl

@@ -1,16 +1,11 @@
 -- Rights over the case of a limit of 40 MW: 50 MW from bus 1 to bus 3 and 5 MW to bus 2 fill it and are paid the surplus, 1600; 60 MW to bus 3 pass it.
 use Rattle.std.specs.Prelude.{◌≡◌, ℕ, List, [], ◌∷◌, refl}
 use Rattle.fraction_theory.specs.Divisors.{gcd, gcd_in}
-use Rattle.fraction_theory.specs.Fraction.{Fraction, whole, over, ◌+ℚ◌, ◌*ℚ◌, neg_ℚ, same_fraction}
-use Rattle.market_model.specs.declared.limits.Cause.TheVariants.{Base}
-use Rattle.market_model.specs.declared.limits.Row.{Row}
+use Rattle.fraction_theory.specs.Fraction.{whole, over, ◌+ℚ◌, ◌*ℚ◌, neg_ℚ, same_fraction}
 use Rattle.market_model.specs.LimitRows.{rows, line_flow, row_factor, row_flow}
 use Rattle.market_model.specs.Optimality.{congestion_by, price_by}
 use Rattle.market_model.specs.Rights.{TransmissionRight, rights_injection, paid_to_rights}
-use Rattle.market_model.proofs.LimitCases.{mw, money, shunted, up_alone}
-
-abbrev second : Row
-second = record { line = 1; cause = Base }
+use Rattle.market_model.proofs.LimitCases.{mw, money, second, shunted, up_alone}
 
 -- MW from bus 1 to another, by place
 abbrev right_to : ℕ → ℕ → TransmissionRight

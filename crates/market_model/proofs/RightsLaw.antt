@@ -1,20 +1,18 @@
 -- Rights that are feasible together are paid at most the surplus.
-use Rattle.std.specs.Prelude.{◌≡◌, ◌⊎◌, ◌==◌, ℕ, ◌<◌, pos, List, [], ◌∷◌, ◌++◌, length, map, filter, All, Contains, refl}
-use Rattle.std.specs.List.{AllByRecursion}
+use Rattle.std.specs.Prelude.{◌≡◌, ◌==◌, ℕ, ◌<◌, pos, List, [], ◌∷◌, length, map, filter, All, refl}
 use Rattle.std.proofs.lemmas.List.Elements.{All-contains}
-use Rattle.std.proofs.Common.{ap, sym, ◌∙◌, subst, subst₂, inl, inr}
+use Rattle.std.proofs.Common.{ap, sym, ◌∙◌, subst₂, inl, inr}
 use mathlib.Core.Path.{ap₂}
 use Rattle.fraction_theory.specs.Fraction.{Fraction, whole, ◌+ℚ◌, ◌-ℚ◌, ◌*ℚ◌, neg_ℚ}
 use Rattle.fraction_theory.specs.Order.{◌≤ℚ◌, ◌<ℚ◌}
-use Rattle.fraction_theory.specs.Sums.{Plain, sum_by, total}
-use Rattle.fraction_theory.proofs.Ring.{by_ring, by_ring1, by_ring2, at, pnil, pone, pneg, ◌⊕◌, ◌⊗◌}
+use Rattle.fraction_theory.specs.Sums.{Plain, sum_by}
+use Rattle.fraction_theory.proofs.Ring.{by_ring, by_ring2, at, pnil, pone, pneg, ◌⊕◌, ◌⊗◌}
 use Rattle.fraction_theory.proofs.FieldLaws.{ring_ℚ}
-use Rattle.fraction_theory.proofs.OrderLaws.{NonNeg_from, NonNeg-one, ≤ℚ_of_same, ≤ℚ_trans, *ℚ-≤ℚ, by_le1, by_le2}
+use Rattle.fraction_theory.proofs.OrderLaws.{NonNeg_from, NonNeg-one, ≤ℚ_of_same, ≤ℚ_trans, *ℚ-≤ℚ, opposite_most, by_le2}
 use Rattle.fraction_theory.proofs.SumLaws.{sum_by-same, sum_by-plus, sum_by-nil, sum_by-≤, total-append, total-Plain, total-Product}
 use Rattle.market_model.specs.declared.answered.Duals.{Duals}
-use Rattle.market_model.specs.declared.limits.Row.{Row}
 use Rattle.market_model.specs.declared.participants.Parts.{Parts}
-use Rattle.market_model.specs.Dispatch.{Dispatch, zero, places}
+use Rattle.market_model.specs.Dispatch.{zero, places}
 use Rattle.market_model.specs.Laws.{LawOfTheRights}
 use Rattle.market_model.specs.LimitRows.{rows, limit, flow, row_flow, row_offset}
 use Rattle.market_model.specs.Optimality.{bus_price, net_shadow_price, up_of, down_of}
@@ -83,10 +81,7 @@ module _ (u d limit f o g : Fraction) (up_sign : zero ≤ℚ u) (down_sign : zer
       by_le2 (u ∷ d ∷ f ∷ g ∷ o ∷ []) ((at 0 ⊕ pneg (at 1)) ⊗ (at 3 ⊕ pneg (at 4))) ((at 0 ⊕ pneg (at 1)) ⊗ (at 2 ⊕ pneg (at 4)))
       pone (at 0 ⊗ at 3) (at 0 ⊗ at 2) pone (at 1 ⊗ pneg (at 3)) (at 1 ⊗ pneg (at 2)) NonNeg-one
       (counts_more u g f up_sign (λ a. ≤ℚ_trans g limit f high (up a))) NonNeg-one
-      (counts_more d (neg_ℚ g) (neg_ℚ f) down_sign (λ a. ≤ℚ_trans (neg_ℚ g) limit (neg_ℚ f) (turned low) (down a))) refl
-    where
-      turned : neg_ℚ limit ≤ℚ g → neg_ℚ g ≤ℚ limit
-      turned h = by_le1 (limit ∷ g ∷ []) (pneg (at 1)) (at 0) pone (pneg (at 0)) (at 1) NonNeg-one h refl
+      (counts_more d (neg_ℚ g) (neg_ℚ f) down_sign (λ a. ≤ℚ_trans (neg_ℚ g) limit (neg_ℚ f) (opposite_most limit g low) (down a))) refl
 
 pub law_of_the_rights : LawOfTheRights
 law_of_the_rights m d x rights h f s are together =

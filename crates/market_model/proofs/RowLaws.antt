@@ -8,7 +8,7 @@ use Rattle.fraction_theory.specs.Order.{◌≤ℚ◌, ◌<ℚ◌, NonNeg}
 use Rattle.fraction_theory.specs.Sums.{Product, sum_by, total}
 use Rattle.fraction_theory.proofs.Ring.{by_ring, by_ring1, by_ring2, at, pnil, pone, pneg, ◌⊕◌, ◌⊗◌}
 use Rattle.fraction_theory.proofs.FieldLaws.{ring_ℚ}
-use Rattle.fraction_theory.proofs.OrderLaws.{NonNeg_from, NonNeg_to, NonNeg-plus, NonNeg-times, NonNeg-nil, NonNeg-one, le_to, ≤ℚ_trans, by_le1, by_le2}
+use Rattle.fraction_theory.proofs.OrderLaws.{NonNeg_from, NonNeg_to, NonNeg-plus, NonNeg-times, NonNeg-nil, NonNeg-one, le_to, ≤ℚ_trans, opposite_most, by_le2}
 use Rattle.fraction_theory.proofs.ListSums.{Contains-head, Contains-cons, sum_by-members}
 use Rattle.fraction_theory.proofs.SumLaws.{sum_by-≤, sum_by-plus, sum_by-nil, sum_by-same, sum_by-times, sum_by-exchange, total-Product}
 use Rattle.market_model.specs.declared.participants.Parts.{Parts}
@@ -176,7 +176,7 @@ module _ (m : Parts) (market : IsMarket m) (r : Row) (u d f o : Fraction) (up : 
       sides_most u d (penalty m r) (limit m r) f g o (limit_least m market r)
       (side_most u f (limit m r) (most_flow m r) (penalty m r) (penalty_least m market r) up.sign up.reached up.exceeded up.used_up g w.below)
       (side_most d (neg_ℚ f) (limit m r) (most_flow m r) (penalty m r) (penalty_least m market r) down.sign down.reached down.exceeded down.used_up (neg_ℚ g)
-      (by_le1 (g ∷ most_flow m r ∷ []) (pneg (at 0)) (at 1) pone (pneg (at 1)) (at 0) NonNeg-one w.above refl))
+      (opposite_most (most_flow m r) g w.above))
 
   -- at its net price the flow is the rent
   net_price_rent : (u -ℚ d) *ℚ (f -ℚ o) ≡ u *ℚ (priced_flow m r f -ℚ o) +ℚ (d *ℚ (priced_flow m r f +ℚ o) +ℚ zero)
