@@ -9,7 +9,7 @@ use crate::hand::{Hand, Taken, with_row};
 use crate::screen::{Screened, screened_at};
 use exact_fraction::Exact;
 use linear_dict::Dict;
-use market_dict::{Found, solve};
+use market_dict::{Found, duals, solve};
 use market_model::{Answer, Farkas, Market, Stop};
 use std::alloc::Global;
 
@@ -41,12 +41,8 @@ fn one_round<N: Exact>(alloc: Global, market: &Market, hand: Hand<N>) -> Result<
     let posed = hand
         .warm
         .repose(posing.prices.slice(), posing.bounds.slice())?;
-    let (dict, dispatch, duals) = match solve(alloc, market, posed)? {
-        Found::Best {
-            dict,
-            dispatch,
-            duals,
-        } => (dict, dispatch, duals),
+    let (dict, dispatch) = match solve(alloc, market, posed)? {
+        Found::Best { dict, dispatch } => (dict, dispatch),
         Found::Nothing { dict, farkas } => {
             return Ok(Round::Done(Ended {
                 dict,
@@ -60,6 +56,7 @@ fn one_round<N: Exact>(alloc: Global, market: &Market, hand: Hand<N>) -> Result<
             alloc, market, dict, posing, taken, row,
         )?)),
         Screened::Within(flows) => {
+            let duals = duals(alloc, market, &dict)?;
             let answer = answer_of(alloc, market, dispatch, &flows, duals)?;
             Ok(Round::Done(Ended {
                 dict,

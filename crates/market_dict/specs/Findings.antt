@@ -3,6 +3,8 @@ use Rattle.std.specs.Prelude.{◌≡◌, ℕ, List}
 use Rattle.fraction_theory.specs.Fraction.{Fraction}
 use Rattle.linear_system.specs.Choices.{Choice, IsChoice}
 use Rattle.linear_dict.specs.Causes.{IsPairOf}
+use Rattle.linear_dict.specs.Dictionaries.{choice_of}
+use Rattle.simplex_core.specs.Outcomes.{ShowsChoice}
 use Rattle.market_model.specs.declared.participants.Parts.{Parts}
 use Rattle.market_model.specs.declared.stops.Stop.{Stop}
 use Rattle.market_model.specs.declared.answered.Duals.{Duals}
@@ -15,7 +17,7 @@ use Rattle.market_system.specs.MarketSystem.{system_of, choice_dispatch, choice_
 use Rattle.market_system.specs.Growth.{PricesOnly}
 use Rattle.market_system.specs.SolvedLaws.{AnswersBy}
 use Rattle.market_model.specs.PutIn.{dispatch_of}
-use Rattle.market_dict.specs.Holding.{HoldsMarket}
+use Rattle.market_dict.specs.Holding.{HoldsMarket, HoldsSystem}
 use Rattle.market_dict.specs.declared.solving.Found.{Found}
 use Rattle.market_dict.specs.declared.solving.Found.TheVariants.{Best, Nothing}
 
@@ -27,10 +29,10 @@ pub record IsSolvedBy (m : Parts) (g : List Row) (x : Dispatch) (d : Duals Fract
   pub duals : d ≡ choice_duals m g choice
   pub answers : AnswersBy m g choice
 
--- a best dispatch for these rows with duals that support it, or duals that show that no dispatch of the market is feasible; with a
--- dictionary that still holds the market over these rows
+-- a dictionary that holds the market over these rows and a best dispatch for them, which the duals of its choice support; or one that still
+-- holds it, and duals that show that no dispatch of the market is feasible
 abbrev pub IsFound : {N : Type 0} → (N → Fraction) → Parts → List Row → Found N → Type 0
-IsFound value m g (Best d xs duals) = HoldsMarket m g d × IsSolvedBy m g (dispatch_of value xs) (duals_at value duals)
+IsFound value m g (Best d xs) = HoldsSystem m g d × ShowsChoice d × IsSolvedBy m g (dispatch_of value xs) (choice_duals m g (choice_of d))
 IsFound value m g (Nothing d farkas) = HoldsMarket m g d × IsFarkas m (farkas_at value farkas) × PricesOnly m g (duals_at value farkas.duals)
 
 -- where numbers became too large, they are a working pair of the market's system over these rows

@@ -11,5 +11,6 @@ mod rows;
 mod solving;
 
 pub use posing::{PricesAndBounds, prices_and_bounds, take_bounds};
+pub use reading::duals;
 pub use rows::{start, take_limit};
 pub use solving::{Found, solve};

@@ -101,11 +101,7 @@ fn reduced<N: Exact>(alloc: Global, dict: &Dict<N>) -> Result<List<N>, Memory>
 }
 
 /// The duals of the reduced prices noted: the price of energy is the opposite of that of the balance, and a limit whose own is 0 is not named.
-pub(crate) fn duals<N: Exact>(
-    alloc: Global,
-    market: &Market,
-    dict: &Dict<N>,
-) -> Result<Duals<N>, Memory>
+pub fn duals<N: Exact>(alloc: Global, market: &Market, dict: &Dict<N>) -> Result<Duals<N>, Memory>
     requires holds { (g : List Row) × HoldsSystem market.now g dict.now }
     requires shows { ShowsChoice dict.now }
     ensures { (g : List Row) → HoldsSystem market.now g dict.now → IfOk result (λ duals. duals_at N.value duals ≡ choice_duals market.now g (choice_of dict.now)) }

@@ -9,10 +9,10 @@ ghost use Rattle.market_model.specs.declared.limits.Row.{Row};
 ghost use Rattle.market_dict.specs.Findings.{IsFound, IsPairOver};
 ghost use Rattle.market_dict.specs.Holding.{HoldsSystem};
 
-use crate::reading::{dispatch, duals, farkas};
+use crate::reading::{dispatch, farkas};
 use exact_fraction::Exact;
 use linear_dict::Dict;
-use market_model::{Duals, Farkas, Market, Stop};
+use market_model::{Farkas, Market, Stop};
 use plain_list::{List, Memory};
 use simplex_core::{Posed, Run};
 use std::alloc::Global;
@@ -20,20 +20,13 @@ use std::alloc::Global;
 /// What a market comes to over the limits taken, with the dictionary as it can be posed again.
 #[derive(Drop)]
 pub enum Found<N: Exact> {
-    /// The accepted MW of each block of a best dispatch for these limits, and duals that support it.
-    Best {
-        dict: Dict<N>,
-        dispatch: List<N>,
-        duals: Duals<N>,
-    },
+    /// The accepted MW of each block of a best dispatch for these limits. The duals that the dictionary has support it.
+    Best { dict: Dict<N>, dispatch: List<N> },
     /// No dispatch of the market is feasible: these duals show it.
-    Nothing {
-        dict: Dict<N>,
-        farkas: Farkas<N>,
-    },
+    Nothing { dict: Dict<N>, farkas: Farkas<N> },
 }
 
-/// The best dispatch that a solved dictionary shows, with its duals.
+/// The best dispatch that a solved dictionary shows.
 fn best<N: Exact>(alloc: Global, market: &Market, dict: Dict<N>) -> Result<Found<N>, Memory>
     requires holds { (g : List Row) × HoldsSystem market.now g dict }
     requires shows { ShowsChoice dict }
@@ -42,12 +35,7 @@ fn best<N: Exact>(alloc: Global, market: &Market, dict: Dict<N>) -> Result<Found
 {
     let _lines = market.lines();
     let dispatch = dispatch(alloc, market, &dict)?;
-    let duals = duals(alloc, market, &dict)?;
-    Ok(Found::Best {
-        dict,
-        dispatch,
-        duals,
-    })
+    Ok(Found::Best { dict, dispatch })
 }
 
 /// The duals that a dictionary with a stuck variable shows, at a row place.

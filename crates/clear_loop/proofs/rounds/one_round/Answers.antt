@@ -1,8 +1,11 @@
-use Rattle.std.proofs.Common.{Err, ◌≡◌, ◌∙◌, ap, sym, subst, refl, length, map}
+use Rattle.std.proofs.Common.{Err, ◌≡◌, ◌∙◌, ap, sym, subst, refl, map}
 use Rattle.std.proofs.lemmas.Result.{err_from_is_err_and}
 use Rattle.market_model.specs.Optimality.{Feasible}
 use Rattle.market_model.specs.Valued.{duals_at}
-use Rattle.market_system.specs.Growth.{PricesOnly}
+use Rattle.std.specs.Prelude.{Contains}
+use Rattle.market_model.specs.Dispatch.{Dispatch}
+use Rattle.market_model.specs.LimitRows.{rows}
+use Rattle.market_system.specs.Growth.{BestFor, Broken, PricesOnly}
 use Rattle.market_system.proofs.GrowthLaws.{growth_none}
 use Rattle.market_model.specs.PutIn.{dispatch_of}
 use Rattle.market_dict.specs.Findings.{IsFound, IsSolvedBy}
@@ -16,7 +19,11 @@ use Rattle.clear_loop.proofs.HandLemmas.{dispatch_count, feasible_over_all, row_
 use Rattle.clear_loop.proofs.PosingLemmas.{bounds_fit, in_order, posed_range, posed_system, prices_fit}
 use Rattle.clear_loop.proofs.SolvedLemmas.{best_for, prices_only}
 use Rattle.clear_loop.proofs.StopLemmas.{pair_stop, screen_stop}
+use Rattle.clear_loop.proofs.rounds.one_round.Given.{Over}
 use Rattle.clear_loop.proofs.rounds.one_round.Goals as goal
+use Rattle.clear_loop.proofs.rounds.one_round.Goals.{In-Broken, After-slice-3, After-deref}
+use Rattle.linear_dict.specs.Dictionaries.{choice_of}
+use Rattle.market_system.specs.MarketSystem.{choice_duals}
 
 pub repose-requires-clause-prices : goal.repose-requires-clause-prices
 repose-requires-clause-prices g c =
@@ -70,81 +77,91 @@ returns-in-Nothing-clause-round g c =
     subst (λ (f : Found g.row.N.Denot). IsFound g.N.Exact.value m rs f) c.in-Nothing.is (c.in_ok-dict.ensures.found rs holds) in
     (record { holds = none.0; names = c.requires.names; end = (none.1, none.2) }, refl)
 
-pub screened_at-requires : goal.screened_at-requires
-screened_at-requires g c =
+-- what solving found, at the dispatch as it is looked at
+found_best : (g : Over) (c : After-slice-3 g) → IsFound g.N.Exact.value c.args.market.now c.args.hand.taken.rows (found.Best c.in-Best.dict c.slice-3.result.now)
+found_best g c =
     let m = c.args.market.now in
     let rs = c.args.hand.taken.rows in
     let holds =
     posed_system g.N.Exact.value m rs c.args.hand.posing c.requires.posing c.slice.result.now c.slice-2.result.now c.slice.ensures c.slice-2.ensures c.args.hand.warm c.requires.start
     c.lines-lines.ensures.market c.in_ok-posed.posed c.in_ok-posed.ensures.posed in
-    let best : IsFound g.N.Exact.value m rs (found.Best c.in-Best.dict c.in-Best.dispatch c.in-Best.duals) =
-    subst (λ (f : Found g.row.N.Denot). IsFound g.N.Exact.value m rs f) c.in-Best.is (c.in_ok-dict.ensures.found rs holds) in
-    ap length c.slice-3.ensures ∙ dispatch_count g.N.Exact.value m rs c.in-Best.dispatch (duals_at g.N.Exact.value c.in-Best.duals) best.1
+    subst (λ xs. IsFound g.N.Exact.value m rs (found.Best c.in-Best.dict xs)) (sym c.slice-3.ensures)
+    (subst (λ (f : Found g.row.N.Denot). IsFound g.N.Exact.value m rs f) c.in-Best.is (c.in_ok-dict.ensures.found rs holds))
+
+pub screened_at-requires : goal.screened_at-requires
+screened_at-requires g c =
+    let m = c.args.market.now in
+    let rs = c.args.hand.taken.rows in
+    dispatch_count g.N.Exact.value m rs c.slice-3.result.now (choice_duals m rs (choice_of c.in-Best.dict)) (found_best g (goal.at.screened_at-requires g c).After-slice-3).2
 
 pub returns-in_err-row-clause-cause : goal.returns-in_err-row-clause-cause
 returns-in_err-row-clause-cause g c =
     let value = g.N.Exact.value in
     let m = c.args.market.now in
     let rs = c.args.hand.taken.rows in
-    let holds =
-    posed_system value m rs c.args.hand.posing c.requires.posing c.slice.result.now c.slice-2.result.now c.slice.ensures c.slice-2.ensures c.args.hand.warm c.requires.start
-    c.lines-lines.ensures.market c.in_ok-posed.posed c.in_ok-posed.ensures.posed in
-    let best : IsFound value m rs (found.Best c.in-Best.dict c.in-Best.dispatch c.in-Best.duals) =
-    subst (λ (f : Found g.row.N.Denot). IsFound value m rs f) c.in-Best.is (c.in_ok-dict.ensures.found rs holds) in
     let p = err_from_is_err_and c.from_residual-in_err-row.result c.from_residual-in_err-row.ensures.1 in
     let given : c.from_residual-in_err-row.result ≡ Err c.in_err-row.field-0.0 = p.1 ∙ ap Err p.2 in
     rw given
-    (screen_stop value g.N.Exact.bound m rs (dispatch_of value c.slice-3.result.now) (duals_at value c.in-Best.duals) c.lines-lines.ensures.market
-    (subst (λ xs. IsSolvedBy m rs (dispatch_of value xs) (duals_at value c.in-Best.duals)) (sym c.slice-3.ensures) best.1) c.in_err-row.field-0.0 c.in_err-row.ensures.cause)
+    (screen_stop value g.N.Exact.bound m rs (dispatch_of value c.slice-3.result.now) (choice_duals m rs (choice_of c.in-Best.dict)) c.lines-lines.ensures.market
+    (found_best g (goal.at.returns-in_err-row-clause-cause g c).After-slice-3).2 c.in_err-row.field-0.0 c.in_err-row.ensures.cause)
 
-pub with_row-requires-clause-holds : goal.with_row-requires-clause-holds
-with_row-requires-clause-holds g c =
+-- ---- where a limit is broken
+broken_row : (g : Over) (c : In-Broken g) → let m = c.args.market.now in let rs = c.args.hand.taken.rows in
+    IsFound g.N.Exact.value m rs (found.Best c.in-Best.dict c.slice-3.result.now) → Contains (rows m) c.in-Broken.row × ((x : Dispatch) × BestFor m rs x × Broken m x c.in-Broken.row)
+broken_row g c best =
     let m = c.args.market.now in
     let rs = c.args.hand.taken.rows in
-    let holds =
-    posed_system g.N.Exact.value m rs c.args.hand.posing c.requires.posing c.slice.result.now c.slice-2.result.now c.slice.ensures c.slice-2.ensures c.args.hand.warm c.requires.start
-    c.lines-lines.ensures.market c.in_ok-posed.posed c.in_ok-posed.ensures.posed in
-    let best : IsFound g.N.Exact.value m rs (found.Best c.in-Best.dict c.in-Best.dispatch c.in-Best.duals) =
-    subst (λ (f : Found g.row.N.Denot). IsFound g.N.Exact.value m rs f) c.in-Best.is (c.in_ok-dict.ensures.found rs holds) in
-    best.0
-
-pub with_row-requires-clause-row : goal.with_row-requires-clause-row
-with_row-requires-clause-row g c =
-    let value = g.N.Exact.value in
-    let m = c.args.market.now in
-    let x = dispatch_of value c.slice-3.result.now in
-    let worst =
-    subst (IsScreened value m x) c.in-Broken.is c.in_ok-row.ensures.screened in
-    worst_inside m x worst.0 c.in-Broken.row worst.1
-
-pub with_row-requires-clause-broken : goal.with_row-requires-clause-broken
-with_row-requires-clause-broken g c =
-    let value = g.N.Exact.value in
-    let m = c.args.market.now in
-    let rs = c.args.hand.taken.rows in
-    let x = dispatch_of value c.slice-3.result.now in
-    let holds =
-    posed_system value m rs c.args.hand.posing c.requires.posing c.slice.result.now c.slice-2.result.now c.slice.ensures c.slice-2.ensures c.args.hand.warm c.requires.start
-    c.lines-lines.ensures.market c.in_ok-posed.posed c.in_ok-posed.ensures.posed in
-    let best : IsFound value m rs (found.Best c.in-Best.dict c.in-Best.dispatch c.in-Best.duals) =
-    subst (λ (f : Found g.row.N.Denot). IsFound value m rs f) c.in-Best.is (c.in_ok-dict.ensures.found rs holds) in
-    let worst =
-    subst (IsScreened value m x) c.in-Broken.is c.in_ok-row.ensures.screened in (
-      x,
-      best_for m rs x (duals_at value c.in-Best.duals) c.lines-lines.ensures.market (subst (λ xs. IsSolvedBy m rs (dispatch_of value xs) (duals_at value c.in-Best.duals)) (sym c.slice-3.ensures) best.1),
-      worst_broken m x worst.0 c.in-Broken.row worst.1,
+    let x = dispatch_of g.N.Exact.value c.slice-3.result.now in
+    let worst = subst (IsScreened g.N.Exact.value m x) c.in-Broken.is c.in_ok-row.ensures.screened in (
+      worst_inside m x worst.0 c.in-Broken.row worst.1,
+      (
+        x,
+        best_for m rs x (choice_duals m rs (choice_of c.in-Best.dict)) c.lines-lines.ensures.market best.2,
+        worst_broken m x worst.0 c.in-Broken.row worst.1,
+      ),
     )
 
-pub answer_of-requires-clause-solved : goal.answer_of-requires-clause-solved
-answer_of-requires-clause-solved g c =
+pub with_row-requires-clause-holds : goal.with_row-requires-clause-holds
+with_row-requires-clause-holds g c = (found_best g (goal.at.with_row-requires-clause-holds g c).After-slice-3).0.holds
+
+pub with_row-requires-clause-row : goal.with_row-requires-clause-row
+with_row-requires-clause-row g c = let at = goal.at.with_row-requires-clause-row g c in (broken_row g at.In-Broken (found_best g at.After-slice-3)).0
+
+pub with_row-requires-clause-broken : goal.with_row-requires-clause-broken
+with_row-requires-clause-broken g c = let at = goal.at.with_row-requires-clause-broken g c in (broken_row g at.In-Broken (found_best g at.After-slice-3)).1
+
+pub returns-in_ok-with_row-in-Broken-clause-round : goal.returns-in_ok-with_row-in-Broken-clause-round
+returns-in_ok-with_row-in-Broken-clause-round g c =
+    let at = goal.at.returns-in_ok-with_row-in-Broken-clause-round g c in
+    let broken = broken_row g at.In-Broken (found_best g at.After-slice-3) in (
+      c.in_ok-with_row-in-Broken.ensures.hand,
+      (
+        c.in-Broken.row,
+        c.in_ok-with_row-in-Broken.ensures.rows,
+        broken.0,
+        row_is_new c.args.market.now c.args.hand.taken.rows c.in-Broken.row c.lines-lines.ensures.market c.lines-lines.ensures.hard broken.1,
+        broken.1,
+      ),
+    )
+
+-- ---- where all limits hold
+pub duals-requires-clause-holds : goal.duals-requires-clause-holds
+duals-requires-clause-holds g c = (c.args.hand.taken.rows, (found_best g (goal.at.duals-requires-clause-holds g c).After-slice-3).0)
+
+pub duals-requires-clause-shows : goal.duals-requires-clause-shows
+duals-requires-clause-shows g c = (found_best g (goal.at.duals-requires-clause-shows g c).After-slice-3).1
+
+-- the duals that are read support the dispatch
+solved_by_duals : (g : Over) (c : After-deref g) → let m = c.args.market.now in let rs = c.args.hand.taken.rows in
+    IsFound g.N.Exact.value m rs (found.Best c.in-Best.dict c.slice-3.result.now) → IsSolvedBy m rs (dispatch_of g.N.Exact.value c.in-Best.dispatch) (duals_at g.N.Exact.value c.in_ok-duals-in-Within.duals)
+solved_by_duals g c best =
     let m = c.args.market.now in
     let rs = c.args.hand.taken.rows in
-    let holds =
-    posed_system g.N.Exact.value m rs c.args.hand.posing c.requires.posing c.slice.result.now c.slice-2.result.now c.slice.ensures c.slice-2.ensures c.args.hand.warm c.requires.start
-    c.lines-lines.ensures.market c.in_ok-posed.posed c.in_ok-posed.ensures.posed in
-    let best : IsFound g.N.Exact.value m rs (found.Best c.in-Best.dict c.in-Best.dispatch c.in-Best.duals) =
-    subst (λ (f : Found g.row.N.Denot). IsFound g.N.Exact.value m rs f) c.in-Best.is (c.in_ok-dict.ensures.found rs holds) in
-    (rs, best.1)
+    subst (λ xs. IsSolvedBy m rs (dispatch_of g.N.Exact.value xs) (duals_at g.N.Exact.value c.in_ok-duals-in-Within.duals)) c.slice-3.ensures
+    (subst (IsSolvedBy m rs (dispatch_of g.N.Exact.value c.slice-3.result.now)) (sym (c.in_ok-duals-in-Within.ensures rs best.0)) best.2)
+
+pub answer_of-requires-clause-solved : goal.answer_of-requires-clause-solved
+answer_of-requires-clause-solved g c = let at = goal.at.answer_of-requires-clause-solved g c in (c.args.hand.taken.rows, solved_by_duals g at.After-deref (found_best g at.After-slice-3))
 
 pub answer_of-requires-clause-feasible : goal.answer_of-requires-clause-feasible
 answer_of-requires-clause-feasible g c =
@@ -152,16 +169,10 @@ answer_of-requires-clause-feasible g c =
     let m = c.args.market.now in
     let rs = c.args.hand.taken.rows in
     let x = dispatch_of value c.slice-3.result.now in
-    let d = duals_at value c.in-Best.duals in
-    let holds =
-    posed_system value m rs c.args.hand.posing c.requires.posing c.slice.result.now c.slice-2.result.now c.slice.ensures c.slice-2.ensures c.args.hand.warm c.requires.start
-    c.lines-lines.ensures.market c.in_ok-posed.posed c.in_ok-posed.ensures.posed in
-    let best : IsFound value m rs (found.Best c.in-Best.dict c.in-Best.dispatch c.in-Best.duals) =
-    subst (λ (f : Found g.row.N.Denot). IsFound value m rs f) c.in-Best.is (c.in_ok-dict.ensures.found rs holds) in
-    let all =
-    subst (IsScreened value m x) c.in-Within.is c.in_ok-row.ensures.screened in
+    let all = subst (IsScreened value m x) c.in-Within.is c.in_ok-row.ensures.screened in
+    let best = (found_best g (goal.at.answer_of-requires-clause-feasible g c).After-slice-3).2 in
     subst (λ xs. Feasible m (dispatch_of value xs)) c.slice-3.ensures
-    (feasible_over_all m rs x (best_for m rs x d c.lines-lines.ensures.market (subst (λ xs. IsSolvedBy m rs (dispatch_of value xs) d) (sym c.slice-3.ensures) best.1)) all.0)
+    (feasible_over_all m rs x (best_for m rs x (choice_duals m rs (choice_of c.in-Best.dict)) c.lines-lines.ensures.market best) all.0)
 
 pub answer_of-requires-clause-flows : goal.answer_of-requires-clause-flows
 answer_of-requires-clause-flows g c =
@@ -173,61 +184,26 @@ answer_of-requires-clause-flows g c =
 
 pub returns-in_err-answer-in-Within-clause-cause : goal.returns-in_err-answer-in-Within-clause-cause
 returns-in_err-answer-in-Within-clause-cause g c =
-    let m = c.args.market.now in
-    let rs = c.args.hand.taken.rows in
-    let holds =
-    posed_system g.N.Exact.value m rs c.args.hand.posing c.requires.posing c.slice.result.now c.slice-2.result.now c.slice.ensures c.slice-2.ensures c.args.hand.warm c.requires.start
-    c.lines-lines.ensures.market c.in_ok-posed.posed c.in_ok-posed.ensures.posed in
-    let best : IsFound g.N.Exact.value m rs (found.Best c.in-Best.dict c.in-Best.dispatch c.in-Best.duals) =
-    subst (λ (f : Found g.row.N.Denot). IsFound g.N.Exact.value m rs f) c.in-Best.is (c.in_ok-dict.ensures.found rs holds) in
+    let at = goal.at.returns-in_err-answer-in-Within-clause-cause g c in
     let p = err_from_is_err_and c.from_residual-in_err-answer-in-Within.result c.from_residual-in_err-answer-in-Within.ensures.1 in
     let given : c.from_residual-in_err-answer-in-Within.result ≡ Err c.in_err-answer-in-Within.field-0.0 = p.1 ∙ ap Err p.2 in
-    rw given (c.in_err-answer-in-Within.ensures.cause rs best.1)
-
-pub returns-in_ok-with_row-in-Broken-clause-round : goal.returns-in_ok-with_row-in-Broken-clause-round
-returns-in_ok-with_row-in-Broken-clause-round g c =
-    let value = g.N.Exact.value in
-    let m = c.args.market.now in
-    let rs = c.args.hand.taken.rows in
-    let x = dispatch_of value c.slice-3.result.now in
-    let holds =
-    posed_system value m rs c.args.hand.posing c.requires.posing c.slice.result.now c.slice-2.result.now c.slice.ensures c.slice-2.ensures c.args.hand.warm c.requires.start
-    c.lines-lines.ensures.market c.in_ok-posed.posed c.in_ok-posed.ensures.posed in
-    let best : IsFound value m rs (found.Best c.in-Best.dict c.in-Best.dispatch c.in-Best.duals) =
-    subst (λ (f : Found g.row.N.Denot). IsFound value m rs f) c.in-Best.is (c.in_ok-dict.ensures.found rs holds) in
-    let worst =
-    subst (IsScreened value m x) c.in-Broken.is c.in_ok-row.ensures.screened in
-    let market = c.lines-lines.ensures.market in
-    let best_x = best_for m rs x (duals_at value c.in-Best.duals) market (subst (λ xs. IsSolvedBy m rs (dispatch_of value xs) (duals_at value c.in-Best.duals)) (sym c.slice-3.ensures) best.1) in
-    let broken = worst_broken m x worst.0 c.in-Broken.row worst.1 in (
-      c.in_ok-with_row-in-Broken.ensures.hand,
-      (
-        c.in-Broken.row,
-        c.in_ok-with_row-in-Broken.ensures.rows,
-        worst_inside m x worst.0 c.in-Broken.row worst.1,
-        row_is_new m rs c.in-Broken.row market c.lines-lines.ensures.hard (x, best_x, broken),
-        (x, best_x, broken),
-      ),
-    )
+    rw given (c.in_err-answer-in-Within.ensures.cause c.args.hand.taken.rows (solved_by_duals g at.After-deref (found_best g at.After-slice-3)))
 
 pub returns-in_ok-answer-in-Within-clause-round : goal.returns-in_ok-answer-in-Within-clause-round
 returns-in_ok-answer-in-Within-clause-round g c =
     let value = g.N.Exact.value in
     let m = c.args.market.now in
     let rs = c.args.hand.taken.rows in
-    let holds =
-    posed_system value m rs c.args.hand.posing c.requires.posing c.slice.result.now c.slice-2.result.now c.slice.ensures c.slice-2.ensures c.args.hand.warm c.requires.start
-    c.lines-lines.ensures.market c.in_ok-posed.posed c.in_ok-posed.ensures.posed in
-    let best : IsFound value m rs (found.Best c.in-Best.dict c.in-Best.dispatch c.in-Best.duals) =
-    subst (λ (f : Found g.row.N.Denot). IsFound value m rs f) c.in-Best.is (c.in_ok-dict.ensures.found rs holds) in (
+    let at = goal.at.returns-in_ok-answer-in-Within-clause-round g c in
+    let best = found_best g at.After-slice-3 in (
       record {
-        holds = best.0;
+        holds = best.0.holds;
         names = c.requires.names;
         end = (
           c.in_ok-answer-in-Within.ensures.fits,
           c.in_ok-answer-in-Within.ensures.right,
           subst (λ ds. PricesOnly m rs (duals_at value ds)) (sym c.in_ok-answer-in-Within.ensures.duals)
-              (prices_only m rs (dispatch_of value c.in-Best.dispatch) (duals_at value c.in-Best.duals) c.lines-lines.ensures.market best.1),
+              (prices_only m rs (dispatch_of value c.in-Best.dispatch) (duals_at value c.in_ok-duals-in-Within.duals) c.lines-lines.ensures.market (solved_by_duals g at.After-deref best)),
         );
       },
       refl,
