@@ -75,7 +75,7 @@ module _ (m : Parts) (g : List Row) (x : Dispatch) (d : Duals Fraction) (market 
 
       pub price_range : IsRefusedInPrices m d bound p → IsRangeOf m g bound p
       price_range (inl (terms, sum, a)) = pairs.sum (Some Price) terms (of_price terms best (subst (λ (e : Duals Fraction). PriceSum m e terms) solved.duals sum)) a
-      price_range (inr (r, named, terms, sum, a)) =
+      price_range (inr (r, named, (terms, sum, a))) =
           pairs.sum (Some Factor) terms (factor_of r terms (Contains-from_filter (λ s. names_row d.limits (row_id m s)) (rows m) r named).0 sum) a
 
       pub welfare_range : IsRefusedIn (welfare_terms m x) bound p → IsRangeOf m g bound p
