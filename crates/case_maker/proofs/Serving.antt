@@ -22,7 +22,7 @@ use Rattle.market_model.specs.declared.limits.Cause.{Cause}
 use Rattle.market_model.specs.declared.limits.Row.{Row}
 use Rattle.market_model.specs.declared.limits.Cause.TheVariants.{Base, Branch}
 use Rattle.market_model.specs.LimitRows.{flow, limit, limit_under, line_flow, loss_factor, mw_or_zero, row_flow, shift_factor}
-use Rattle.market_model.specs.Optimality.{Feasible, Within}
+use Rattle.market_model.specs.Optimality.{Feasible}
 use Rattle.market_model.proofs.HardLimits.{hard_most}
 use Rattle.market_model.proofs.MarketSums.{balance-by_injections, demand-by_parts, fixed_part, injection-by_parts}
 use Rattle.market_model.proofs.PlainMarkets.{distinct_by_rise}
@@ -32,6 +32,7 @@ use Rattle.case_maker.proofs.DrawLemmas.{drawn-small}
 use Rattle.case_maker.proofs.PlaceLists.{All-flat, All-places, Contains-place, at-any, first-of, halves, length-flat, place-below, places-rise, second-of}
 use Rattle.case_maker.proofs.RingMarkets.{ring-hard, ring-kept}
 use Rattle.case_maker.proofs.RingParts.{bus-at, first-block, second-block, unit-at}
+use Rattle.market_model.specs.Overrun.{Within}
 
 module _ (n seed : ℕ) where
   abbrev m : Parts

@@ -7,7 +7,7 @@ use Rattle.market_model.specs.declared.answered.Duals.{Duals}
 use Rattle.market_model.specs.declared.participants.Parts.{Parts}
 use Rattle.market_model.specs.Dispatch.{Dispatch, injection}
 use Rattle.market_model.specs.declared.limits.Row.{Row}
-use Rattle.market_model.specs.LimitRows.{flow, most_flow, line_flow}
+use Rattle.market_model.specs.LimitRows.{flow, limit, most_excess, most_flow, line_flow}
 use Rattle.market_model.specs.NamedSums.{IsRefusal, IsShareRefusal}
 use Rattle.market_model.specs.Optimality.{up_of, down_of, named_rows}
 use Rattle.market_model.specs.SumTables.{IsRefusedAmong, RowFlowSum, BusPriceSum, IsFactorRefusal}
@@ -37,8 +37,9 @@ IsAboveRefusal sum price limit flow bound p = IsRefusal Minus limit flow bound p
 abbrev pub IsBelowRefusal : Fraction → Fraction → Fraction → Fraction → ℕ → Passed Fraction → Type 0
 IsBelowRefusal sum price limit flow bound p = IsRefusal Plus limit flow bound p ⊎ IsShareRefusal sum price (limit +ℚ flow) bound p
 
--- the flow of a row, or what its prices make of what that leaves of the most that it may be, on either side
+-- the flow of a row, the most that it may be, or what its prices make of what the flow leaves of that, on either side
 pub data IsLimitRefusal (m : Parts) (x : Dispatch) (e : PricedRow) (sum : Fraction) (bound : ℕ) (p : Passed Fraction) : Type 0 where
+  in_most : IsRefusal Plus (limit m e.row) (most_excess m e.row) bound p → IsLimitRefusal m x e sum bound p
   in_flow : IsRefusedAmong (RowFlowSum m (line_flow m (injection m x)) e.row) bound p → IsLimitRefusal m x e sum bound p
   in_above : IsAboveRefusal sum e.up (most_flow m e.row) (flow m x e.row) bound p → IsLimitRefusal m x e sum bound p
   in_below : IsBelowRefusal (sum +ℚ e.up *ℚ (most_flow m e.row -ℚ flow m x e.row)) e.down (most_flow m e.row) (flow m x e.row) bound p → IsLimitRefusal m x e sum bound p

@@ -18,13 +18,14 @@ use Rattle.market_model.specs.Dispatch.{Dispatch, zero, places, block_at, accept
 use Rattle.market_model.specs.Infeasibility.{farkas_bound}
 use Rattle.market_model.specs.declared.limits.Row.{Row}
 use Rattle.market_model.specs.LimitRows.{rows, row_id, limit, flow, most_flow}
-use Rattle.market_model.specs.Optimality.{BlockSupported, Gains, Loses, RowSupported, Supports, Within, same_id, up_in, down_in, up_of, down_of, price, unit_price}
+use Rattle.market_model.specs.Optimality.{BlockSupported, Gains, Loses, RowSupported, Supports, same_id, up_in, down_in, up_of, down_of, price, unit_price}
 use Rattle.limit_rows.proofs.PlaceLemmas.{same_name}
 use Rattle.cert_verify.specs.declared.verdicts.Reason.TheVariants as reason
 use Rattle.cert_verify.specs.Certificates.{ProvesInfeasible, IsOptimum, NamesRows}
 use Rattle.limit_rows.specs.Naming.{has_name}
 use Rattle.cert_verify.specs.Reasons.{bound_reason, block_reason, count_reason, balance_reason, differ, farkas_reasons, first_of, gains, has_negative, has_no_row, has_slack, is_below, is_beyond, is_overloaded, is_unsupported, limit_reason, loses, optimal_reasons, prices_slack, row_reason, sign_reason, slack_reason, support_reason}
 use Rattle.cert_verify.proofs.TestLemmas.{below_true, below_of, not_below, below_not, same_by, same_not, neither, not_both, then_not, not_false, not_true, any_true, any_of, any_false, any_none, all_by, in_places, from_places, none_of, of_none, not_so, so_none, all_none, none_first}
+use Rattle.market_model.specs.Overrun.{Within}
 
 -- ---- names and their prices
 pub own_id : (a : RowId) → same_id a a ≡ true

@@ -12,8 +12,8 @@ use Rattle.market_model.specs.declared.participants.Side.TheVariants.{Sell, Buy}
 use Rattle.market_model.specs.Dispatch.{Dispatch, zero, places, block_at, accepted, quantity, balance}
 use Rattle.market_model.specs.Infeasibility.{farkas_bound}
 use Rattle.market_model.specs.declared.limits.Row.{Row}
-use Rattle.market_model.specs.LimitRows.{rows, row_id, limit, most_flow, flow}
-use Rattle.market_model.specs.Optimality.{price, unit_price}
+use Rattle.market_model.specs.LimitRows.{rows, row_id, limit, most_flow, flow, penalty}
+use Rattle.market_model.specs.Optimality.{price, unit_price, names_row}
 use Rattle.limit_rows.specs.Naming.{has_name}
 use Rattle.cert_verify.specs.declared.verdicts.Reason.{Reason}
 use Rattle.cert_verify.specs.declared.verdicts.Reason.TheVariants as reason
@@ -39,10 +39,6 @@ is_outside mw quantity = is_below mw zero || is_below quantity mw
 abbrev pub has_negative : Dual Fraction → Bool
 has_negative e = is_below e.up zero || is_below e.down zero
 
--- a dual prices a side of a limit at which a flow does not stand
-abbrev pub prices_slack : Dual Fraction → Fraction → Fraction → Bool
-prices_slack e flow limit = (is_below zero e.up && differ flow limit) || (is_below zero e.down && differ flow (neg_ℚ limit))
-
 -- more of a block of this side and price gains, where the price at its bus is `worth`; any of it loses
 abbrev pub gains : Side → Fraction → Fraction → Bool
 gains Sell price worth = is_below price worth
@@ -64,8 +60,24 @@ has_no_row m e = not (list_any (has_name m e.row) (rows m))
 abbrev pub is_overloaded : Parts → Dispatch → Row → Bool
 is_overloaded m x r = passes (flow m x r) (most_flow m r)
 
+-- a price of one side of a limit does not support the flow towards that side: it is of a flow that does not reach the limit, less than
+-- the penalty of one that exceeds it, or more than that of one that has excess left
+abbrev pub breaks_side : Parts → Row → Fraction → Fraction → Bool
+breaks_side m r price f =
+    (is_below zero price && is_below f (limit m r))
+    || (is_below (limit m r) f && is_below price (penalty m r))
+    || (is_below (penalty m r) price && differ f (most_flow m r))
+
+-- one of two prices of a row does not
+abbrev pub breaks_row : Parts → Row → Fraction → Fraction → Fraction → Bool
+breaks_row m r up down f = breaks_side m r up f || breaks_side m r down (neg_ℚ f)
+
 abbrev pub has_slack : Parts → Dispatch → Dual Fraction → Bool
-has_slack m x e = list_any (λ r. has_name m e.row r && prices_slack e (flow m x r) (limit m r)) (rows m)
+has_slack m x e = list_any (λ r. has_name m e.row r && breaks_row m r e.up e.down (flow m x r)) (rows m)
+
+-- a row that no dual names has no price, and its flow exceeds its limit all the same
+abbrev pub is_unpriced : Parts → Dispatch → List (Dual Fraction) → Row → Bool
+is_unpriced m x ds r = not (names_row ds (row_id m r)) && breaks_row m r zero zero (flow m x r)
 
 abbrev pub is_beyond : Parts → Dispatch → ℕ → Bool
 is_beyond m x j = is_outside (accepted x j) (quantity m j)
@@ -104,6 +116,10 @@ limit_reason m x = of_first (λ r. reason.Limit (row_id m r)) (is_overloaded m x
 abbrev pub slack_reason : Parts → Dispatch → List (Dual Fraction) → Option Reason
 slack_reason m x ds = of_first (λ e. reason.Slack e.row) (has_slack m x) ds
 
+-- behind those that are named, in the market's order
+abbrev pub unpriced_reason : Parts → Dispatch → List (Dual Fraction) → Option Reason
+unpriced_reason m x ds = of_first (λ r. reason.Slack (row_id m r)) (is_unpriced m x ds) (rows m)
+
 abbrev pub support_reason : Parts → Dispatch → Duals Fraction → Option Reason
 support_reason m x d = of_first (λ j. reason.Support (j + 1)) (is_unsupported m x d) (places (length m.blocks))
 
@@ -129,7 +145,7 @@ part_reasons m x ds = count_reason m x ∷ (dual_reasons m ds ++ block_reason m 
 
 -- against its flows
 abbrev pub flow_reasons : Parts → Dispatch → List (Dual Fraction) → List (Option Reason)
-flow_reasons m x ds = balance_reason m x ∷ limit_reason m x ∷ slack_reason m x ds ∷ []
+flow_reasons m x ds = balance_reason m x ∷ limit_reason m x ∷ slack_reason m x ds ∷ unpriced_reason m x ds ∷ []
 
 -- against a dispatch and duals that support it
 abbrev pub optimal_reasons : Parts → Dispatch → Duals Fraction → List (Option Reason)

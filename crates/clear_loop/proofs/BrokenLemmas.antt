@@ -10,12 +10,12 @@ use Rattle.fraction_theory.proofs.OrderLaws.{NonNeg-one, by_le1, ≤ℚ-or-<ℚ,
 use Rattle.fraction_theory.proofs.Ring.{at, pneg, pone}
 use Rattle.market_model.specs.declared.participants.Parts.{Parts}
 use Rattle.market_model.specs.Dispatch.{Dispatch}
-use Rattle.market_model.specs.Overrun.{overrun, IsWorst}
+use Rattle.market_model.specs.Overrun.{overrun, IsWorst, Within}
 use Rattle.market_model.specs.declared.limits.Row.{Row}
 use Rattle.market_model.specs.LimitRows.{rows, limit, flow, flow_by, most_flow}
 use Rattle.market_model.specs.Lines.{HasHardLimits}
 use Rattle.market_model.specs.Market.{IsMarket}
-use Rattle.market_model.specs.Optimality.{AreWithin, Within}
+use Rattle.market_model.specs.Optimality.{AreWithin}
 use Rattle.market_model.proofs.ChangeLemmas.{same_default}
 use Rattle.market_system.specs.Growth.{Broken}
 use Rattle.market_system.proofs.HardMarkets.{within_hard}

@@ -13,7 +13,7 @@ use Rattle.market_model.specs.declared.limits.Row.{Row}
 use Rattle.market_model.specs.LimitRows.{rows, row_id, flow, most_flow}
 use Rattle.market_model.specs.Lines.{HasHardLimits}
 use Rattle.market_model.specs.Market.{IsMarket}
-use Rattle.market_model.specs.Optimality.{Feasible, Within}
+use Rattle.market_model.specs.Optimality.{Feasible}
 use Rattle.market_system.specs.Growth.{BestFor, Broken, Growth}
 use Rattle.market_system.specs.MarketSystem.{system_of}
 use Rattle.market_system.specs.SolvedLaws.{AreRows}
@@ -26,6 +26,7 @@ use Rattle.market_dict.specs.PricesAndBounds.{ArePricesAndBounds}
 use Rattle.market_dict.specs.declared.posing.PricesAndBounds.{PricesAndBounds}
 use Rattle.clear_loop.specs.Rounds.{GrowsByOne, IsInHand}
 use Rattle.clear_loop.specs.declared.hand.Taken.{Taken}
+use Rattle.market_model.specs.Overrun.{Within}
 
 -- ---- one row more
 pub row_is_new : (m : Parts) (g : List Row) (r : Row) → IsMarket m → HasHardLimits m.lines → ((x : Dispatch) × BestFor m g x × Broken m x r) → ¬ (Contains g r)

@@ -9,9 +9,8 @@ use Rattle.market_model.specs.Dispatch.{Dispatch}
 use Rattle.market_model.specs.Fitting.{FitsMarket}
 use Rattle.market_model.specs.Infeasibility.{IsFarkas}
 use Rattle.market_model.specs.declared.limits.Row.{Row}
-use Rattle.market_model.specs.LimitRows.{flow, most_flow, rows, row_id}
-use Rattle.market_model.specs.Optimality.{AreWithin}
-use Rattle.market_model.specs.Overrun.{IsWorst}
+use Rattle.market_model.specs.LimitRows.{flow, rows, row_id}
+use Rattle.market_model.specs.Overrun.{IsWorst, Keeps}
 use Rattle.market_model.specs.RightAnswers.{IsRight}
 use Rattle.market_model.specs.Valued.{answer_at, duals_at, farkas_at}
 use Rattle.market_system.specs.Growth.{BestFor, Broken, PricesOnly}
@@ -42,10 +41,14 @@ pub record IsInHand {N : Type 0} (value : N → Fraction) (m : Parts) (h : Hand 
 abbrev pub GrowsByOne : Parts → List Row → List Row → Type 0
 GrowsByOne m g new = (r : Row) × (new ≡ g ++ r ∷ []) × Contains (rows m) r × (¬ (Contains g r)) × ((x : Dispatch) × BestFor m g x × Broken m x r)
 
--- what a look at all limits comes to at a dispatch: the worst of those that are broken, or the flows, where all hold
-abbrev pub IsScreened : {N : Type 0} → (N → Fraction) → Parts → Dispatch → Screened N → Type 0
-IsScreened value m x (screened.Broken row) = (place : ℕ) × IsWorst m (flow m x) place row
-IsScreened value m x (screened.Within flows) = AreWithin (rows m) (most_flow m) (flow m x) × (map value flows.items ≡ flows_at m x)
+-- where some rows are taken, all rows of the market keep at a dispatch what they may be
+abbrev pub AllKept : Parts → List Row → Dispatch → Type 0
+AllKept m taken x = (r : Row) → Contains (rows m) r → Keeps m taken r (flow m x r)
+
+-- what a look at all limits comes to at a dispatch: the worst of those that are broken, or the flows, where all are kept
+abbrev pub IsScreened : {N : Type 0} → (N → Fraction) → Parts → List Row → Dispatch → Screened N → Type 0
+IsScreened value m taken x (screened.Broken row) = (place : ℕ) × IsWorst m taken (flow m x) place row
+IsScreened value m taken x (screened.Within flows) = AllKept m taken x × (map value flows.items ≡ flows_at m x)
 
 -- a right answer, or duals that show that nothing is feasible, with prices of no other rows
 abbrev pub IsEnd : {N : Type 0} → (N → Fraction) → Parts → List Row → Result (Answer N) (Farkas N) → Type 0

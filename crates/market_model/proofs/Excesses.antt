@@ -15,8 +15,8 @@ use Rattle.market_model.specs.declared.participants.Parts.{Parts}
 use Rattle.market_model.specs.Dispatch.{zero, line_at}
 use Rattle.market_model.specs.LimitRows.{is_outage, is_soft, limit, limit_of, mw_or_zero, penalty}
 use Rattle.market_model.specs.Market.{IsMarket}
-use Rattle.market_model.specs.Optimality.{SideSupported, Within}
-use Rattle.market_model.specs.Overrun.{excess_by, overrun}
+use Rattle.market_model.specs.Optimality.{SideSupported}
+use Rattle.market_model.specs.Overrun.{excess_by, overrun, Within}
 use Rattle.market_model.specs.Settlement.{priced_flow}
 use Rattle.market_model.proofs.HardLimits.{of_line, penalties}
 

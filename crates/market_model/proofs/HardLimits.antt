@@ -19,8 +19,8 @@ use Rattle.market_model.specs.Dispatch.{Dispatch, zero, line_at}
 use Rattle.market_model.specs.LimitRows.{excess_of, flow, is_outage, is_soft, limit, most_flow, penalty, penalty_of}
 use Rattle.market_model.specs.Lines.{hard_line, IsHard, IsPenalty, HasHardLimits}
 use Rattle.market_model.specs.Market.{IsLine, IsMarket}
-use Rattle.market_model.specs.Optimality.{SideSupported, RowSupported, Within, up_of, down_of, value_terms, welfare_terms_for}
-use Rattle.market_model.specs.Overrun.{excess}
+use Rattle.market_model.specs.Optimality.{SideSupported, RowSupported, up_of, down_of, value_terms, welfare_terms_for}
+use Rattle.market_model.specs.Overrun.{excess, Within}
 
 -- an excess at no penalty is 0
 none_unpriced : (price excess : ℤ) → IsPenalty price excess → price ≡ pos 0 → excess ≡ pos 0

@@ -19,9 +19,9 @@ use Rattle.market_model.specs.declared.limits.Cause.{Cause}
 use Rattle.market_model.specs.declared.limits.Row.{Row}
 use Rattle.market_model.specs.declared.limits.Cause.TheVariants.{Base, Branch}
 use Rattle.market_model.specs.LimitRows.{causes, bears, rows_of, rows, row_id, limit, most_flow, penalty, row_flow, row_offset, row_factor, line_flow, line_offset, shift_factor, loss_factor, flow}
-use Rattle.market_model.specs.Optimality.{Feasible, Supports, SideSupported, Within, BlockSupported, Gains, Loses, price, IsOneSided, ProperDuals, names_row, named_rows, up_of, down_of, net_shadow_price, congestion, bus_price, congestion_by, price_by}
+use Rattle.market_model.specs.Optimality.{Feasible, Supports, SideSupported, BlockSupported, Gains, Loses, price, IsOneSided, ProperDuals, names_row, named_rows, up_of, down_of, net_shadow_price, congestion, bus_price, congestion_by, price_by}
 use Rattle.market_model.specs.Market.{IsMarket}
-use Rattle.market_model.specs.Overrun.{excess, excess_by}
+use Rattle.market_model.specs.Overrun.{excess, excess_by, Within}
 use Rattle.market_model.specs.Settlement.{priced_flow, rent}
 use Rattle.market_model.specs.Laws.{LawOfTheFlows, HasOffsetsWithin}
 use Rattle.market_model.proofs.Excesses.{limit_least, nil_or_above, paid_down, paid_up, penalty_least, priced_flow-least, side_most, sides_most}

@@ -11,10 +11,11 @@ use Rattle.market_model.specs.Market.{IsMarket}
 use Rattle.market_model.specs.Dispatch.{Dispatch, zero, places, balance}
 use Rattle.market_model.specs.declared.limits.Row.{Row}
 use Rattle.market_model.specs.LimitRows.{rows, limit, row_flow, row_offset, row_factor}
-use Rattle.market_model.specs.Optimality.{Feasible, Supports, Within, up_of, down_of, welfare}
+use Rattle.market_model.specs.Optimality.{Feasible, Supports, up_of, down_of, welfare}
 use Rattle.market_model.specs.Settlement.{rent, surplus}
 use Rattle.market_model.specs.Infeasibility.{ShowsInfeasible}
 use Rattle.market_model.specs.Rights.{TransmissionRight, IsTransmissionRight, AreFeasibleTogether, paid_to_rights}
+use Rattle.market_model.specs.Overrun.{Within}
 
 -- a feasible dispatch that duals support has the greatest welfare of all feasible ones
 abbrev pub LawOfTheOptimum : Type 0

@@ -14,12 +14,7 @@ use Rattle.market_model.specs.declared.answered.RowId.{RowId}
 use Rattle.market_model.specs.Dispatch.{Dispatch, IsDispatch, zero, places, block_at, signed_by_side, accepted, quantity, balance}
 use Rattle.market_model.specs.declared.limits.Row.{Row}
 use Rattle.market_model.specs.LimitRows.{rows, row_id, limit, most_flow, penalty, is_soft, row_factor, unit_factor, flow}
-use Rattle.market_model.specs.Overrun.{excess}
-
--- a flow of at most this size on either side
-pub record Within (most : Fraction) (f : Fraction) : Type 0 where
-  pub above : neg_ℚ most ≤ℚ f
-  pub below : f ≤ℚ most
+use Rattle.market_model.specs.Overrun.{excess, Within}
 
 -- the flow f of each of these rows is at most so much on either side
 abbrev pub AreWithin : List Row → (Row → Fraction) → (Row → Fraction) → Type 0

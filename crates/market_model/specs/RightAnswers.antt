@@ -20,6 +20,7 @@ use Rattle.market_model.specs.declared.limits.Row.{Row}
 use Rattle.market_model.specs.LimitRows.{row_id, line_flow, flow_by}
 use Rattle.market_model.specs.Optimality.{Feasible, Supports, ProperDuals, named_rows, up_of, down_of, welfare, congestion, bus_price}
 use Rattle.market_model.specs.Settlement.{pay_of_unit, pay_of_load, left_terms, rent_terms_by}
+use Rattle.market_model.specs.Overrun.{excess_by}
 
 -- an answer's entries by place; one past the end stands for zeros
 abbrev pub mw_of : Answer Fraction → ℕ → Fraction
@@ -38,9 +39,9 @@ load_of a i = slice_index_or a.money.loads i (record { mw = zero; pays = zero })
 abbrev pub dispatch_in : Answer Fraction → Dispatch
 dispatch_in a = dispatch_by a.dispatch
 
--- the flow of a row where lines have flows f, and what its limit earns at the prices of a dual
+-- the flow of a row where lines have flows f, by how much it exceeds its limit, and what that earns at the prices of a dual
 abbrev pub rent_by : Parts → (ℕ → Fraction) → Dual Fraction → Row → Rent Fraction
-rent_by m f e r = record { row = e.row; flow = flow_by m f r; rent = total (rent_terms_by m f r e.up e.down) }
+rent_by m f e r = record { row = e.row; flow = flow_by m f r; over = excess_by m r (flow_by m f r); rent = total (rent_terms_by m f r e.up e.down) }
 
 -- the same of a row at a dispatch and the prices that duals give it
 abbrev pub rent_of : Parts → Dispatch → Duals Fraction → Row → Rent Fraction

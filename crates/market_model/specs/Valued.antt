@@ -30,7 +30,7 @@ abbrev pub load_at : {N : Type 0} → (N → Fraction) → Load N → Load Fract
 load_at value l = record { mw = value l.mw; pays = value l.pays }
 
 abbrev pub rent_at : {N : Type 0} → (N → Fraction) → Rent N → Rent Fraction
-rent_at value r = record { row = r.row; flow = value r.flow; rent = value r.rent }
+rent_at value r = record { row = r.row; flow = value r.flow; over = value r.over; rent = value r.rent }
 
 abbrev pub money_at : {N : Type 0} → (N → Fraction) → Money N → Money Fraction
 money_at value m = record {

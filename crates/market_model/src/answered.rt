@@ -54,6 +54,8 @@ pub struct Load<N> {
 pub struct Rent<N> {
     pub row: RowId,
     pub flow: N,
+    /// By how much the flow exceeds the limit; 0 where it does not.
+    pub over: N,
     pub rent: N,
 }
 

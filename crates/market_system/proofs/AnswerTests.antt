@@ -24,10 +24,11 @@ use Rattle.market_model.specs.Dispatch.{Dispatch, zero, places, block_at, accept
 use Rattle.market_model.specs.Infeasibility.{IsFarkas, farkas_bound}
 use Rattle.market_model.specs.declared.limits.Row.{Row}
 use Rattle.market_model.specs.LimitRows.{rows, row_id, limit, penalty, flow, most_flow}
-use Rattle.market_model.specs.Optimality.{BlockSupported, Feasible, Gains, IsOneSided, Loses, ProperDuals, RowSupported, SideSupported, Supports, Within, down_of, named_rows, price, same_id, unit_price, up_of}
+use Rattle.market_model.specs.Optimality.{BlockSupported, Feasible, Gains, IsOneSided, Loses, ProperDuals, RowSupported, SideSupported, Supports, down_of, named_rows, price, same_id, unit_price, up_of}
 use Rattle.market_model.specs.RightAnswers.{IsRight, answer_of, dispatch_in}
 use Rattle.market_system.proofs.LawsOfSolving.{law_of_the_answer}
 use Rattle.market_system.proofs.VariableLaws.{in_places}
+use Rattle.market_model.specs.Overrun.{Within}
 
 -- ---- tests of numbers, and of two things at once
 both : {s t : Bool} {P Q : Type 0} → (s ≡ true → P) → (t ≡ true → Q) → (s && t) ≡ true → P × Q

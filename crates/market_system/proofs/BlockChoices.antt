@@ -22,10 +22,10 @@ use Rattle.market_model.specs.Dispatch.{Dispatch, zero, places, block_at, signed
 use Rattle.market_model.specs.Optimality.{price, block_value}
 use Rattle.market_system.specs.MarketSystem.{name, variable_of, balance_name, block_sign, residual_demand, system_of, choice_dispatch, IsVariableOf}
 use Rattle.market_model.proofs.MarketSums.{balance-by_empty}
-use Rattle.market_system.proofs.SystemLaws.{none_ascend, balance_row, activity_is, signed-times, variable_in, variable_below, block_or_balance, is_system, raised, from_rows, balance_is, balance_choice, balance_others, balance_choice_is, block_choice, block_choice_is, block_choice_high, block_is_basic, the_block_is_basic, balance_not_basic}
-use Rattle.market_system.proofs.VariableLaws.{from_places, column_in, variable_at, variables_are as listed, low-at, high-at, objective-at}
+use Rattle.market_system.proofs.SystemLaws.{none_ordered, balance_row, activity_is, signed-times, variable_in, variable_below, block_or_balance, is_system, raised, from_rows, objective_is, alone, balance_is, balance_choice, balance_others, balance_choice_is, block_choice, block_choice_is, block_choice_high, block_is_basic, the_block_is_basic, balance_not_basic}
+use Rattle.market_system.proofs.VariableLaws.{from_places, column_in, variable_at, low-at, high-at}
 use Rattle.market_system.specs.declared.variables.Variable.{Variable}
-use Rattle.market_system.specs.declared.variables.Variable.TheVariants.{Block, Balance, Limit}
+use Rattle.market_system.specs.declared.variables.Variable.TheVariants.{Block, Balance, Limit, Over, Under}
 use Rattle.linear_system.proofs.Multipliers.{by_columns, by_columns-column, by_columns-row, by_columns-meets}
 use Rattle.fraction_theory.proofs.ListSums.{Distinct-increasing}
 
@@ -83,13 +83,15 @@ module _ (m : Parts) (p : ℕ) (inside : p < length m.blocks) (h : Choice) (is :
   left_of (Block j) = block_sign m j *ℚ (price m p -ℚ price m j)
   left_of Balance = neg_ℚ (price m p)
   left_of (Limit r) = zero
+  left_of (Over r) = zero
+  left_of (Under r) = zero
 
   left_over : ℕ → Fraction
   left_over w = left_of (variable_of m [] w)
 
   left-at : (v : Variable) → IsVariableOf m [] v → left_over (name m v) ≡ left_of v
   unfolding left_over
-  left-at v is = ap left_of (variable_at m [] (none_ascend m) v is)
+  left-at v is = ap left_of (variable_at m [] (none_ordered m) v is)
 
   by_left_over : (v : ℕ → Fraction) → MeetsRows (system_of m []) v → objective (system_of m []) v ≡ sum_by (λ w. left_over w *ℚ v w) (others (system_of m []) h)
   unfolding objective left_of others
@@ -97,7 +99,7 @@ module _ (m : Parts) (p : ℕ) (inside : p < length m.blocks) (h : Choice) (is :
       let e : Fraction = price m p in
       let blocks : List ℕ = places (length m.blocks) in
       let f : ℕ → Fraction = λ w. left_over w *ℚ v w in
-      objective-at m [] (none_ascend m) v
+      objective_is m v
       ∙ sum_by-same (λ j. block_value m j *ℚ v j) (λ j. block_sign m j *ℚ (e -ℚ price m j) *ℚ v j +ℚ neg_ℚ e *ℚ (block_sign m j *ℚ v j)) blocks
       (λ j. ap (λ t. t *ℚ v j) (block_value-by_sign (block_at m j).side (price m j))
       ∙ by_ring ring_ℚ (block_sign m j ∷ price m j ∷ v j ∷ e ∷ []) (pneg (at 0 ⊗ at 1) ⊗ at 2) (((at 0 ⊗ (at 3 ⊕ pneg (at 1))) ⊗ at 2) ⊕ (pneg (at 3) ⊗ (at 0 ⊗ at 2))) refl)
@@ -113,7 +115,7 @@ module _ (m : Parts) (p : ℕ) (inside : p < length m.blocks) (h : Choice) (is :
       ∙ sym
       (sum_by-filter f (λ w. not (h.basic w)) (system_of m []).variables
       ∙ sum_by-members (λ w. kept (not (h.basic w)) (f w)) f (system_of m []).variables nothing_lost
-      ∙ ap (sum_by f) (listed m []))
+      ∙ ap (sum_by f) (alone m))
     where
       nothing_lost : (w : ℕ) → Contains (system_of m []).variables w → kept (not (h.basic w)) (left_over w *ℚ v w) ≡ left_over w *ℚ v w
       nothing_lost w c = by_test (h.basic w) refl
@@ -144,14 +146,14 @@ module _ (m : Parts) (market : IsMarket m) (x : Dispatch) (count : length x.bloc
   unfolding at_bound
   at_place h flags w lt e =
       ap (λ (b : Bool). if b then (system_of m []).high w else (system_of m []).low w) (flags w)
-      ∙ ap₂ (λ (a b : Fraction). if high w then a else b) (high-at m [] (none_ascend m) (Block w) lt) (low-at m [] (none_ascend m) (Block w) lt)
+      ∙ ap₂ (λ (a b : Fraction). if high w then a else b) (high-at m [] (none_ordered m) (Block w) lt) (low-at m [] (none_ordered m) (Block w) lt)
       ∙ sym e
       ∙ sym (point-block m market x count balanced w lt)
 
   at_balance : (h : Choice) → at_bound (system_of m []) h (balance_name m) ≡ point m market x count balanced (balance_name m)
   unfolding at_bound
   at_balance h =
-      ap₂ (λ (a b : Fraction). if h.high (balance_name m) then a else b) (high-at m [] (none_ascend m) Balance tt) (low-at m [] (none_ascend m) Balance tt)
+      ap₂ (λ (a b : Fraction). if h.high (balance_name m) then a else b) (high-at m [] (none_ordered m) Balance tt) (low-at m [] (none_ordered m) Balance tt)
       ∙ either (h.high (balance_name m)) (residual_demand m)
       ∙ sym (point-balance m market x count balanced)
     where

@@ -6,13 +6,13 @@ use Rattle.std.proofs.lemmas.Bool.Decides.{eqb_tells}
 use Rattle.std.proofs.lemmas.List.Elements.{All-append, All-cons, All-nil}
 use Rattle.fraction_theory.specs.Fraction.{Fraction, neg_ℚ, ◌-ℚ◌}
 use Rattle.fraction_theory.specs.Order.{◌≤ℚ◌, ◌<ℚ◌}
-use Rattle.fraction_theory.specs.Signs.{sign_of}
+use Rattle.fraction_theory.specs.Signs.{sign_of, where_above, part_above}
 use Rattle.fraction_theory.specs.declared.Sign.{Sign}
 use Rattle.fraction_theory.specs.declared.Sign.TheVariants.{Below, Zero, Above}
-use Rattle.fraction_theory.proofs.Ring.{by_ring, at, pnil, pneg, ◌⊕◌}
+use Rattle.fraction_theory.proofs.Ring.{by_ring, at, pnil, pone, pneg, ◌⊕◌}
 use Rattle.fraction_theory.proofs.FieldLaws.{ring_ℚ}
-use Rattle.fraction_theory.proofs.OrderLaws.{≤ℚ_refl, <ℚ-≤ℚ, <ℚ_irrefl}
-use Rattle.fraction_theory.proofs.SignLaws.{sign_of_is}
+use Rattle.fraction_theory.proofs.OrderLaws.{≤ℚ_refl, ≤ℚ_of_same, <ℚ-≤ℚ, <ℚ_irrefl, by_le1, NonNeg-one}
+use Rattle.fraction_theory.proofs.SignLaws.{sign_of_is, part_at_least, part_at_most, part_least}
 use Rattle.fraction_theory.proofs.ListSums.{Contains-head, Contains-cons, filter-members}
 use Rattle.simplex_theory.proofs.Signs.{neg_above}
 use Rattle.market_model.specs.declared.answered.Dual.{Dual}
@@ -25,7 +25,7 @@ use Rattle.market_model.specs.LimitRows.{rows, row_id}
 use Rattle.market_model.specs.Optimality.{same_id, up_in, down_in, up_of, down_of, net_shadow_price, names_row, IsOneSided, ProperDuals}
 use Rattle.market_system.specs.Growth.{PricesOnly}
 use Rattle.market_system.specs.MarketSystem.{row_name, is_in, in_order, dual_by, duals_by_cost}
-use Rattle.market_system.proofs.RowOrder.{RowsApart, row_or_not, is_in-in, is_in-from, in_order-in, in_order-from, and_true, same_number, same_row-not, same_row-itself}
+use Rattle.market_system.proofs.RowOrder.{RowsApart, row_or_not, is_in-in, is_in-from, in_order-in, in_order-from, in_order-filter, and_true, same_number, same_row-not, same_row-itself}
 
 -- rows of a market have different names
 abbrev pub NamesApart : Parts → Type 0
@@ -82,42 +82,55 @@ up_less_down x = by (sign_of x) refl
 neg_is_above : (x : Fraction) → x <ℚ nil → nil <ℚ neg_ℚ x
 neg_is_above x l = subst (λ t. t <ℚ neg_ℚ x) (by_ring ring_ℚ [] (pneg pnil) pnil refl) (neg_above x nil l)
 
-pub up_sign : (x : Fraction) → nil ≤ℚ up_by (sign_of x) x
+-- they are the parts above 0 of the cost and of its opposite
+pub up_is_part : (x : Fraction) → up_by (sign_of x) x ≡ part_above x
 unfolding up_by
-up_sign x = by (sign_of x) refl
+up_is_part x = by (sign_of x)
   where
-    by : (s : Sign) → s ≡ sign_of x → nil ≤ℚ up_by s x
-    by Below e = ≤ℚ_refl nil
-    by Zero e = ≤ℚ_refl nil
-    by Above e = <ℚ-≤ℚ nil x (sign_of_is x Above e)
+    by : (s : Sign) → up_by s x ≡ where_above s x
+    by Below = refl
+    by Zero = refl
+    by Above = refl
+
+pub down_is_part : (x : Fraction) → down_by (sign_of x) x ≡ part_above (neg_ℚ x)
+unfolding down_by
+down_is_part x = by (sign_of x) refl
+  where
+    by : (s : Sign) → s ≡ sign_of x → down_by s x ≡ part_above (neg_ℚ x)
+    by Below e = sym (part_at_least (neg_ℚ x) (<ℚ-≤ℚ nil (neg_ℚ x) (neg_is_above x (sign_of_is x Below e))))
+    by Zero e = sym (part_at_most (neg_ℚ x) (≤ℚ_of_same (neg_ℚ x) nil (ap neg_ℚ (sign_of_is x Zero e) ∙ by_ring ring_ℚ [] (pneg pnil) pnil refl)))
+    by Above e = sym (part_at_most (neg_ℚ x) (by_le1 (x ∷ []) (pneg (at 0)) pnil pone pnil (at 0) NonNeg-one (<ℚ-≤ℚ nil x (sign_of_is x Above e)) refl))
+
+pub up_sign : (x : Fraction) → nil ≤ℚ up_by (sign_of x) x
+up_sign x = subst (λ t. nil ≤ℚ t) (sym (up_is_part x)) (part_least x).0
 
 pub down_sign : (x : Fraction) → nil ≤ℚ down_by (sign_of x) x
-unfolding down_by
-down_sign x = by (sign_of x) refl
-  where
-    by : (s : Sign) → s ≡ sign_of x → nil ≤ℚ down_by s x
-    by Below e = <ℚ-≤ℚ nil (neg_ℚ x) (neg_is_above x (sign_of_is x Below e))
-    by Zero e = ≤ℚ_refl nil
-    by Above e = ≤ℚ_refl nil
+down_sign x = subst (λ t. nil ≤ℚ t) (sym (down_is_part x)) (part_least (neg_ℚ x)).0
 
--- a price of the upper side is that of a cost above 0, one of the lower side that of a cost below 0
-pub up_costs : (x : Fraction) → nil <ℚ up_by (sign_of x) x → nil <ℚ x
+-- a price is no less than what a MW costs on its side, and where it is above 0 it is that
+pub up_most : (x : Fraction) → x ≤ℚ up_by (sign_of x) x
+up_most x = subst (λ t. x ≤ℚ t) (sym (up_is_part x)) (part_least x).1
+
+pub down_most : (x : Fraction) → neg_ℚ x ≤ℚ down_by (sign_of x) x
+down_most x = subst (λ t. neg_ℚ x ≤ℚ t) (sym (down_is_part x)) (part_least (neg_ℚ x)).1
+
+pub up_is : (x : Fraction) → nil <ℚ up_by (sign_of x) x → up_by (sign_of x) x ≡ x
 unfolding up_by
-up_costs x = by (sign_of x) refl
+up_is x = by (sign_of x)
   where
-    by : (s : Sign) → s ≡ sign_of x → nil <ℚ up_by s x → nil <ℚ x
-    by Below e l = absurd (<ℚ_irrefl nil l)
-    by Zero e l = absurd (<ℚ_irrefl nil l)
-    by Above e l = l
+    by : (s : Sign) → nil <ℚ up_by s x → up_by s x ≡ x
+    by Below l = absurd (<ℚ_irrefl nil l)
+    by Zero l = absurd (<ℚ_irrefl nil l)
+    by Above l = refl
 
-pub down_costs : (x : Fraction) → nil <ℚ down_by (sign_of x) x → x <ℚ nil
+pub down_is : (x : Fraction) → nil <ℚ down_by (sign_of x) x → down_by (sign_of x) x ≡ neg_ℚ x
 unfolding down_by
-down_costs x = by (sign_of x) refl
+down_is x = by (sign_of x)
   where
-    by : (s : Sign) → s ≡ sign_of x → nil <ℚ down_by s x → x <ℚ nil
-    by Below e l = sign_of_is x Below e
-    by Zero e l = absurd (<ℚ_irrefl nil l)
-    by Above e l = absurd (<ℚ_irrefl nil l)
+    by : (s : Sign) → nil <ℚ down_by s x → down_by s x ≡ neg_ℚ x
+    by Below l = refl
+    by Zero l = absurd (<ℚ_irrefl nil l)
+    by Above l = absurd (<ℚ_irrefl nil l)
 
 -- one of the two is 0
 pub one_is_nil : (x : Fraction) → (up_by (sign_of x) x ≡ nil) ⊎ (down_by (sign_of x) x ≡ nil)
@@ -355,17 +368,6 @@ module _ (m : Parts) (names : NamesApart m) (cost_of : ℕ → Fraction) where
         by true more = ap (λ (rest : List Row). cond (q r) (r ∷ rest) rest) more
         by false more = more
 
-    pub in_order-filter : in_order m g ≡ filter (is_in g) (rows m)
-    in_order-filter = by g
-      where
-        none : (rs : List Row) → [] ≡ filter (λ (r : Row). false) rs
-        none [] = refl
-        none (r ∷ rs) = none rs
-
-        by : (h : List Row) → in_order m h ≡ filter (is_in h) (rows m)
-        by [] = none (rows m)
-        by (t ∷ ts) = refl
-
     sides : (rs : List Row) → All IsOneSided (limits_of rs)
     sides [] = All-nil IsOneSided
     sides (r ∷ rs) = All-append IsOneSided (duals_of r) (limits_of rs) (by (sign_of (cost r)) refl) (sides rs)
@@ -384,7 +386,7 @@ module _ (m : Parts) (names : NamesApart m) (cost_of : ℕ → Fraction) where
     proper-made = record {
       named =
           named_rows_of (in_order m g)
-          ∙ ap (λ rs. map (row_id m) (filter (λ r. named_by (sign_of (cost r))) rs)) in_order-filter
+          ∙ ap (λ rs. map (row_id m) (filter (λ r. named_by (sign_of (cost r))) rs)) (in_order-filter m g)
           ∙ ap (map (row_id m))
           (both_filters (is_in g) (λ r. named_by (sign_of (cost r))) (rows m)
           ∙ filter-members (λ r. is_in g r && named_by (sign_of (cost r))) (λ r. names_row (limits_of (in_order m g)) (row_id m r)) (rows m)

@@ -1,5 +1,6 @@
 -- The rows of a market's system are of its frame alone.
-use Rattle.std.specs.Prelude.{◌≡◌, ℕ, ℤ, ◌+◌, ◌==◌, ◌&&◌, pos, Bool, not, List, [], ◌∷◌, ◌++◌, length, map, filter, Option, Some, None, is_some, option_map, slice_index_or, refl}
+use Rattle.std.specs.Prelude.{◌≡◌, ℕ, ℤ, ◌+◌, ◌*◌, ◌==◌, ◌&&◌, pos, Bool, not, List, [], ◌∷◌, ◌++◌, length, map, filter, Option, Some, None, is_some, option_map, slice_index_or, refl}
+use Rattle.std.specs.Int.{is_positive}
 use Rattle.std.specs.List.{Contains, flat_map, position_or_len}
 use Rattle.std.proofs.Common.{zero, suc, ap, ap₂, sym, subst, ◌∙◌}
 use mathlib.Core.Path.{fun_ext}
@@ -15,12 +16,12 @@ use Rattle.market_model.specs.Frame.{block_frame, line_frame, frame, SameFrame}
 use Rattle.market_model.specs.declared.limits.Cause.{Cause}
 use Rattle.market_model.specs.declared.limits.Row.{Row}
 use Rattle.market_model.specs.declared.limits.Cause.TheVariants.{Base, Branch}
-use Rattle.market_model.specs.LimitRows.{bears, causes, outage_of, row_id, rows, rows_of, place_of_line, row_factor}
+use Rattle.market_model.specs.LimitRows.{is_outage, is_soft, penalty_of, bears, causes, outage_of, row_id, rows, rows_of, place_of_line, row_factor}
 use Rattle.linear_system.proofs.SameSystems.{rows_turned_round}
 use Rattle.market_system.specs.declared.variables.Variable.{Variable}
 use Rattle.market_system.specs.declared.variables.Variable.TheVariants as variable
 use Rattle.market_system.specs.FrameLaw.{LawOfTheFrame}
-use Rattle.market_system.specs.MarketSystem.{balance_name, row_name, is_in, in_order, block_sign, block_coefficient, same_row, name, coefficient, columns, row_variables, variables, named, variable_of, system_over, system_of}
+use Rattle.market_system.specs.MarketSystem.{balance_name, row_name, is_in, in_order, block_sign, block_coefficient, same_row, over_name, name, balance_coefficient, limit_coefficient, coefficient, block_columns, excess_columns, columns, row_variables, variables, named, variable_of, system_over, system_of}
 use Rattle.market_model.specs.Lines.{hard_line}
 
 mapped_at : {X Y : Type 0} (f : X → Y) (d : X) (e : Y) → f d ≡ e → (xs : List X) (i : ℕ) → slice_index_or (map f xs) i e ≡ f (slice_index_or xs i d)
@@ -88,7 +89,13 @@ module _ (m : Parts) where
   in_order_framed [] = refl
   in_order_framed (t ∷ ts) = ap (filter (is_in (t ∷ ts))) rows_framed
 
+  soft_framed : is_soft (frame m) ≡ is_soft m
+  soft_framed = fun_ext (λ r. ap (λ (k : Line). is_positive (penalty_of (is_outage r.cause) k)) (line_framed r.line))
+
   -- the variables, their names and their coefficients
+  over_framed : over_name (frame m) ≡ over_name m
+  over_framed = fun_ext (λ r. ap₂ (λ (n : ℕ) (rs : List Row). n + 1 + length rs + 2 * position_or_len (same_row r) rs) block_count rows_framed)
+
   names_framed : name (frame m) ≡ name m
   names_framed = fun_ext by
     where
@@ -96,24 +103,46 @@ module _ (m : Parts) where
       by (variable.Block j) = refl
       by variable.Balance = block_count
       by (variable.Limit r) = ap (λ (f : Row → ℕ). f r) name_framed
+      by (variable.Over r) = ap (λ (f : Row → ℕ). f r) over_framed
+      by (variable.Under r) = ap (λ (f : Row → ℕ). f r + 1) over_framed
 
   entries_framed : coefficient (frame m) ≡ coefficient m
   entries_framed = fun_ext (λ r. fun_ext (by r))
     where
+      in_balance : (j : Variable) → balance_coefficient (frame m) j ≡ balance_coefficient m j
+      in_balance (variable.Block j) = ap (λ (f : ℕ → Fraction). f j) sign_framed
+      in_balance variable.Balance = refl
+      in_balance (variable.Limit q) = refl
+      in_balance (variable.Over q) = refl
+      in_balance (variable.Under q) = refl
+
+      in_limit : (r : Row) (j : Variable) → limit_coefficient (frame m) r j ≡ limit_coefficient m r j
+      in_limit r (variable.Block j) = ap (λ (f : Row → ℕ → Fraction). f r j) coefficient_framed
+      in_limit r variable.Balance = refl
+      in_limit r (variable.Limit q) = refl
+      in_limit r (variable.Over q) = refl
+      in_limit r (variable.Under q) = refl
+
       by : (r j : Variable) → coefficient (frame m) r j ≡ coefficient m r j
       by (variable.Block i) j = refl
-      by variable.Balance (variable.Block j) = ap (λ (f : ℕ → Fraction). f j) sign_framed
-      by variable.Balance variable.Balance = refl
-      by variable.Balance (variable.Limit q) = refl
-      by (variable.Limit r) (variable.Block j) = ap (λ (f : Row → ℕ → Fraction). f r j) coefficient_framed
-      by (variable.Limit r) variable.Balance = refl
-      by (variable.Limit r) (variable.Limit q) = refl
+      by variable.Balance j = in_balance j
+      by (variable.Limit r) j = in_limit r j
+      by (variable.Over q) j = refl
+      by (variable.Under q) j = refl
 
-  columns_framed : columns (frame m) ≡ columns m
-  columns_framed = ap (λ (n : ℕ). map variable.Block (places n)) block_count
+  blocks_framed : block_columns (frame m) ≡ block_columns m
+  blocks_framed = ap (λ (n : ℕ). map variable.Block (places n)) block_count
+
+  excess_framed : (rs : List Row) → excess_columns (frame m) rs ≡ excess_columns m rs
+  excess_framed rs = ap (λ (soft : Row → Bool). flat_map (λ (r : Row). variable.Over r ∷ variable.Under r ∷ []) (filter soft rs)) soft_framed
+
+  columns_framed : (rs : List Row) → columns (frame m) rs ≡ columns m rs
+  columns_framed rs = ap₂ ◌++◌ blocks_framed (excess_framed rs)
 
   variables_framed : (g : List Row) → variables (frame m) (in_order (frame m) g) ≡ variables m (in_order m g)
-  variables_framed g = ap₂ (λ (cs : List Variable) (rs : List Row). cs ++ row_variables rs) columns_framed (in_order_framed g)
+  variables_framed g =
+      ap (variables (frame m)) (in_order_framed g)
+      ∙ ap₂ (λ (bs es : List Variable). bs ++ row_variables (in_order m g) ++ es) blocks_framed (excess_framed (in_order m g))
 
   variable_framed : (g : List Row) → variable_of (frame m) (in_order (frame m) g) ≡ variable_of m (in_order m g)
   variable_framed g = ap₂ named names_framed (variables_framed g)
@@ -123,7 +152,7 @@ module _ (m : Parts) where
   unfolding system_over
   frame_rows g = record {
     variables = ap₂ map names_framed (variables_framed g);
-    columns = ap₂ map names_framed columns_framed;
+    columns = ap₂ map names_framed (ap (columns (frame m)) (in_order_framed g) ∙ columns_framed (in_order m g));
     rows = ap₂ (λ (f : Variable → ℕ) (rs : List Row). map f (row_variables rs)) names_framed (in_order_framed g);
     coefficient = λ r j _ _. ap₂ (λ (f : Variable → Variable → Fraction) (v : ℕ → Variable). f (v r) (v j)) entries_framed (variable_framed g);
   }
@@ -144,8 +173,8 @@ same_rows m n g same =
     (frame_rows n g)
 
 -- they have the same columns, and the same names of variables
-pub same_columns : (m n : Parts) → SameFrame m n → columns m ≡ columns n
-same_columns m n same = sym (columns_framed m) ∙ ap columns same ∙ columns_framed n
+pub same_columns : (m n : Parts) → SameFrame m n → (rs : List Row) → columns m rs ≡ columns n rs
+same_columns m n same rs = sym (columns_framed m rs) ∙ ap (λ (p : Parts). columns p rs) same ∙ columns_framed n rs
 
 pub same_names : (m n : Parts) → SameFrame m n → name m ≡ name n
 same_names m n same = sym (names_framed m) ∙ ap name same ∙ names_framed n

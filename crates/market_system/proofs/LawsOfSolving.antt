@@ -14,39 +14,39 @@ pub law_of_the_system : LawOfTheSystem
 law_of_the_system m g market = is_system_of m (rows_apart m (names_apart m market)) g
 
 pub law_of_the_points : LawOfThePoints
-law_of_the_points m g market hard all =
+law_of_the_points m g market are =
     let apart = rows_apart m (names_apart m market) in
     record {
       point = λ x f. (
         point_of m apart g market x,
         point_meets m apart g market x,
-        point_within m apart g market hard x f,
-        point_welfare m apart g market hard x,
+        point_within m apart g market x f,
+        point_welfare m apart g market are x,
         λ j c. point-block m apart g market x j (from_places (length m.blocks) j c),
       );
-      dispatch = λ v meets within. (dispatch_feasible m apart g market v meets hard all within, sym (dispatch_welfare m apart g market hard v));
+      dispatch = λ v meets within. (dispatch_feasible m apart g market v meets are.rows within, dispatch_welfare m apart g market v meets are within);
     }
 
 pub law_of_the_solved : LawOfTheSolved
-law_of_the_solved m g h market hard all choice solved =
+law_of_the_solved m g h market are choice solved =
     let names = names_apart m market in
     record {
-      best = solved_best m names g h choice market hard all solved;
-      proper = solved_proper m names g h choice market hard all solved;
-      supported = solved_supports m names g h choice market hard all solved;
+      best = solved_best m names g h choice market are solved;
+      proper = solved_proper m names g h choice market are solved;
+      supported = solved_supports m names g h choice market are solved;
       blocks = λ j c. reduced-block m names g h choice j (from_places (length m.blocks) j c);
     }
 
 pub law_of_the_stuck : LawOfTheStuck
-law_of_the_stuck m g h b above market hard all choice stuck =
+law_of_the_stuck m g h b above market all choice stuck =
     let names = names_apart m market in
     record {
       farkas = record {
-        shows = stuck_shows m names market hard g h choice b above stuck;
-        proper = stuck_proper m names market hard g h choice b above stuck;
-        bound = sym (stuck_bound m names market hard g h choice b above stuck);
+        shows = stuck_shows m names market g h choice b above stuck;
+        proper = stuck_proper m names market g h choice b above stuck;
+        bound = sym (stuck_bound m names market g h choice b above stuck);
       };
-      of_choice = stuck_of_choice m names market hard g h choice b above stuck all;
+      of_choice = stuck_of_choice m names market g h choice b above stuck all;
     }
 
 pub law_of_growth : LawOfGrowth

@@ -14,6 +14,8 @@ pub mod ModestClears
 pub mod PairCases
 mod RangeRows
 pub mod RowOrder
+pub mod RowSums
+pub mod SoftRows
 pub mod SolvedMarkets
 pub mod StuckMarkets
 pub mod SystemLaws

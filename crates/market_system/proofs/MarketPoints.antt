@@ -1,37 +1,42 @@
 -- The points of a market's system over a list of limit rows are the dispatches that are feasible for the list.
-use Rattle.std.specs.Prelude.{◌≡◌, ℕ, ◌<◌, ◌==◌, List, [], ◌∷◌, length, map, filter, Contains, AllPairs, refl}
-use Rattle.std.proofs.Common.{suc, arith, ap, sym, ◌∙◌, subst, subst₂, get_or}
+use Rattle.std.specs.Prelude.{◌≡◌, ℕ, ◌<◌, ◌==◌, Bool, true, List, [], ◌∷◌, length, map, filter, Contains, refl}
+use Rattle.std.proofs.Common.{suc, arith, ap, ap₂, sym, ◌∙◌, subst, subst₂, get_or}
 use Rattle.std.proofs.lemmas.List.{get_or-map}
 use Rattle.std.proofs.lemmas.List.FromFn.{length-range_with_len, get_or-range_with_len}
-use Rattle.fraction_theory.specs.Fraction.{Fraction, ◌+ℚ◌, ◌-ℚ◌, ◌*ℚ◌}
+use Rattle.fraction_theory.specs.Fraction.{Fraction, neg_ℚ, ◌+ℚ◌, ◌-ℚ◌, ◌*ℚ◌}
 use Rattle.fraction_theory.specs.Order.{◌≤ℚ◌}
+use Rattle.fraction_theory.specs.Signs.{part_above}
 use Rattle.fraction_theory.specs.Sums.{sum_by}
 use Rattle.fraction_theory.proofs.Ring.{by_ring, by_ring1, at, pnil, pone, pneg, ◌⊕◌, ◌⊗◌}
 use Rattle.fraction_theory.proofs.FieldLaws.{ring_ℚ}
-use Rattle.fraction_theory.proofs.OrderLaws.{≤ℚ_of_same, ≤ℚ_antisym, by_le1, NonNeg-one}
-use Rattle.fraction_theory.proofs.SumLaws.{sum_by-plus, sum_by-same}
-use Rattle.fraction_theory.proofs.ListSums.{Contains-head, sum_by-members}
-use Rattle.linear_system.specs.Systems.{System, IsSystem, MeetsRows, InBounds, activity, objective}
-use Rattle.linear_system.proofs.Multipliers.{by_columns, by_columns-column, by_columns-row, by_columns-meets}
+use Rattle.fraction_theory.proofs.OrderLaws.{≤ℚ_of_same, ≤ℚ_antisym, +ℚ-≤ℚ, by_le1, NonNeg-one, NonNeg_from}
+use Rattle.fraction_theory.proofs.SignLaws.{part_least}
+use Rattle.fraction_theory.proofs.SumLaws.{sum_by-plus, sum_by-same, sum_by-≤, total-append, total-Product}
+use Rattle.fraction_theory.proofs.ListSums.{kept, Contains-head, Contains-from_filter, sum_by-members}
+use Rattle.linear_system.specs.Systems.{System, IsSystem, MeetsRows, InBounds, objective}
+use Rattle.linear_system.proofs.Multipliers.{by_columns, by_columns-column, by_columns-meets}
 use Rattle.market_model.specs.declared.participants.Side.{Side}
 use Rattle.market_model.specs.declared.participants.Side.TheVariants.{Sell, Buy}
 use Rattle.market_model.specs.declared.participants.Parts.{Parts}
 use Rattle.market_model.specs.Dispatch.{Dispatch, zero as nil, places, block_at, block_bus, signed_by_side, accepted, quantity, raised_by, injection, balance, empty, dispatch_by}
 use Rattle.market_model.specs.declared.limits.Row.{Row}
-use Rattle.market_model.specs.LimitRows.{rows, limit, row_factor, row_offset, flow}
-use Rattle.market_model.specs.Lines.{HasHardLimits}
+use Rattle.market_model.specs.LimitRows.{rows, limit, is_soft, penalty, most_excess, most_flow, row_factor, row_offset, flow}
 use Rattle.market_model.specs.Market.{IsMarket}
-use Rattle.market_model.specs.Optimality.{Within, FeasibleFor, block_value, welfare_for}
+use Rattle.market_model.specs.Optimality.{FeasibleFor, block_value, value_terms, penalty_terms, welfare_for}
+use Rattle.market_model.specs.Overrun.{excess, excess_by, Within}
+use Rattle.market_model.proofs.Excesses.{penalty_least}
 use Rattle.market_model.proofs.MarketSums.{block_bus-in, injection-by_empty, balance-by_empty}
 use Rattle.market_model.proofs.PlaceSums.{gather_times, places_all}
-use Rattle.market_model.proofs.RowLaws.{law_of_the_flows}
+use Rattle.market_model.proofs.RowLaws.{along, law_of_the_flows}
 use Rattle.market_system.specs.declared.variables.Variable.{Variable}
-use Rattle.market_system.specs.declared.variables.Variable.TheVariants.{Block, Balance, Limit}
-use Rattle.market_system.specs.MarketSystem.{balance_name, row_name, in_order, block_sign, residual_demand, block_coefficient, least_added, most_added, name, system_of, IsVariableOf}
-use Rattle.market_system.proofs.HardMarkets.{hard_welfare, hard_within, within_hard}
-use Rattle.market_system.proofs.RowOrder.{RowsApart, in_order-in, in_order-from, in_order-ascends}
+use Rattle.market_system.specs.declared.variables.Variable.TheVariants.{Block, Balance, Limit, Over, Under}
+use Rattle.market_system.specs.MarketSystem.{balance_name, row_name, over_name, under_name, in_order, block_sign, residual_demand, block_coefficient, least_added, most_added, name, variable_of, system_of, IsVariableOf}
+use Rattle.market_system.specs.SolvedLaws.{AreRows}
+use Rattle.market_system.proofs.RowSums.{sum_by-in_order}
+use Rattle.market_system.proofs.SoftRows.{excess-parts, kept_between, kept_where, kept_within, most_excess_least, part_most, spread_over, spread_under, spread_within}
+use Rattle.market_system.proofs.RowOrder.{RowsApart, AreOrdered, in_order-in, in_order-from, in_order-ordered}
 use Rattle.market_system.proofs.SystemLaws.{signed-times}
-use Rattle.market_system.proofs.VariableLaws.{row_listed, limit_in, from_places, by_variable, variable_in, column_in, sum-variables, is_system_over, coefficient-at, price-at, low-at, high-at, activity-at, objective-at}
+use Rattle.market_system.proofs.VariableLaws.{row_listed, column_listed, excess_listed, limit_in, from_places, by_variable, variable_in, variable_at, soft, over_in, under_in, column_in, sum-variables, is_system_over, coefficient-at, price-at, low-at, high-at, activity-balance, activity-limit, objective-at}
 
 -- ---- what blocks add to the flow of a row
 turned : (side : Side) (a x : Fraction) → a *ℚ signed_by_side side x ≡ signed_by_side side a *ℚ x
@@ -70,8 +75,8 @@ module _ (m : Parts) (apart : RowsApart m) (g : List Row) where
   over = in_order m g
 
   -- what the system is over
-  ascend : AllPairs (λ (a b : Row). row_name m a < row_name m b) over
-  ascend = in_order-ascends m apart g
+  ordered : AreOrdered m over
+  ordered = in_order-ordered m apart g
 
   abbrev pub s : System
   s = system_of m g
@@ -93,104 +98,188 @@ module _ (m : Parts) (apart : RowsApart m) (g : List Row) where
 
   -- the names of a market's system ascend, whatever the order of the list
   pub is_system_of : IsSystem s
-  is_system_of = is_system_over m over ascend
+  is_system_of = is_system_over m over ordered
 
-  -- a sum over the variables is one over the blocks and one over the rows
+  -- a sum over the variables is one over the columns and one over the rows
   pub both_parts : (f : ℕ → Fraction) → sum_by f s.variables ≡ sum_by f s.columns +ℚ sum_by f s.rows
   both_parts f = sum-variables m over f
 
   -- ---- coefficients and bounds by what a name is of
   pub coefficient-balance : (j : ℕ) → j < length m.blocks → s.coefficient (balance_name m) j ≡ block_sign m j
-  coefficient-balance j h = coefficient-at m over ascend Balance (Block j) tt h
+  coefficient-balance j h = coefficient-at m over ordered Balance (Block j) tt h
 
   pub coefficient-row : (r : Row) → Contains over r → (j : ℕ) → j < length m.blocks → s.coefficient (row_name m r) j ≡ block_coefficient m r j
-  coefficient-row r c j h = coefficient-at m over ascend (Limit r) (Block j) c h
+  coefficient-row r c j h = coefficient-at m over ordered (Limit r) (Block j) c h
 
   pub price-block : (j : ℕ) → j < length m.blocks → s.price j ≡ block_value m j
-  price-block j h = price-at m over ascend (Block j) h
+  price-block j h = price-at m over ordered (Block j) h
 
   pub low-block : (j : ℕ) → j < length m.blocks → s.low j ≡ nil
-  low-block j h = low-at m over ascend (Block j) h
+  low-block j h = low-at m over ordered (Block j) h
 
   pub high-block : (j : ℕ) → j < length m.blocks → s.high j ≡ quantity m j
-  high-block j h = high-at m over ascend (Block j) h
+  high-block j h = high-at m over ordered (Block j) h
 
   pub low-balance : s.low (balance_name m) ≡ residual_demand m
-  low-balance = low-at m over ascend Balance tt
+  low-balance = low-at m over ordered Balance tt
 
   pub high-balance : s.high (balance_name m) ≡ residual_demand m
-  high-balance = high-at m over ascend Balance tt
+  high-balance = high-at m over ordered Balance tt
 
   pub low-row : (r : Row) → Contains over r → s.low (row_name m r) ≡ least_added m r
-  low-row r c = low-at m over ascend (Limit r) c
+  low-row r c = low-at m over ordered (Limit r) c
 
   pub high-row : (r : Row) → Contains over r → s.high (row_name m r) ≡ most_added m r
-  high-row r c = high-at m over ascend (Limit r) c
+  high-row r c = high-at m over ordered (Limit r) c
 
-  pub activity-balance : (v : ℕ → Fraction) → activity s v (balance_name m) ≡ sum_by (λ j. block_sign m j *ℚ v j) (places (length m.blocks))
-  activity-balance v = activity-at m over ascend v Balance tt
+  -- the columns of a soft row
+  module _ (r : Row) (c : Contains over r) (e : is_soft m r ≡ true) where
+    pub over_variable : Contains s.variables (over_name m r)
+    over_variable = variable_in m over (Over r) (c, e)
 
-  pub activity-row : (v : ℕ → Fraction) (r : Row) → Contains over r → activity s v (row_name m r) ≡ sum_by (λ j. block_coefficient m r j *ℚ v j) (places (length m.blocks))
-  activity-row v r c = activity-at m over ascend v (Limit r) c
+    pub under_variable : Contains s.variables (under_name m r)
+    under_variable = variable_in m over (Under r) (c, e)
+
+    pub over_column : Contains s.columns (over_name m r)
+    over_column = column_listed m over (Over r) (excess_listed m over r c e).0
+
+    pub under_column : Contains s.columns (under_name m r)
+    under_column = column_listed m over (Under r) (excess_listed m over r c e).1
+
+    pub price-over : s.price (over_name m r) ≡ neg_ℚ (penalty m r)
+    price-over = price-at m over ordered (Over r) (c, e)
+
+    pub price-under : s.price (under_name m r) ≡ neg_ℚ (penalty m r)
+    price-under = price-at m over ordered (Under r) (c, e)
+
+    pub low-over : s.low (over_name m r) ≡ nil
+    low-over = low-at m over ordered (Over r) (c, e)
+
+    pub low-under : s.low (under_name m r) ≡ nil
+    low-under = low-at m over ordered (Under r) (c, e)
+
+    pub high-over : s.high (over_name m r) ≡ most_excess m r
+    high-over = high-at m over ordered (Over r) (c, e)
+
+    pub high-under : s.high (under_name m r) ≡ most_excess m r
+    high-under = high-at m over ordered (Under r) (c, e)
+
+  -- ---- what the blocks are worth, less the penalties of the soft rows
+  pub welfare-in_order : AreRows m g → (x : Dispatch) → welfare_for m g x
+      ≡ sum_by (λ j. block_value m j *ℚ accepted x j) (places (length m.blocks)) +ℚ sum_by (λ r. neg_ℚ (penalty m r) *ℚ excess m x r) (soft m over)
+  unfolding welfare_for
+  welfare-in_order are x =
+      total-append (value_terms m x) (penalty_terms m g x)
+      ∙ ap₂ ◌+ℚ◌
+      (total-Product (block_value m) (accepted x) (places (length m.blocks)))
+      (total-Product (λ r. neg_ℚ (penalty m r)) (excess m x) (filter (is_soft m) g) ∙ sum_by-in_order m apart (λ r. neg_ℚ (penalty m r) *ℚ excess m x r) (is_soft m) g are)
 
   -- ---- a dispatch as a point
+  -- what a column is at it: the columns of a soft row are what its flow is above its limit, and below the opposite
+  column_at : Dispatch → Variable → Fraction
+  column_at x (Block j) = accepted x j
+  column_at x Balance = nil
+  column_at x (Limit r) = nil
+  column_at x (Over r) = part_above (flow m x r -ℚ limit m r)
+  column_at x (Under r) = part_above (neg_ℚ (flow m x r) -ℚ limit m r)
+
+  by_name : Dispatch → ℕ → Fraction
+  by_name x w = column_at x (variable_of m over w)
+
+  named-at : (x : Dispatch) (v : Variable) → IsVariableOf m over v → by_name x (name m v) ≡ column_at x v
+  unfolding by_name
+  named-at x v is = ap (column_at x) (variable_at m over ordered v is)
+
   module _ (market : IsMarket m) where
     pub point_of : Dispatch → ℕ → Fraction
-    point_of x = by_columns s is_system_of (accepted x)
+    point_of x = by_columns s is_system_of (by_name x)
 
     pub point_meets : (x : Dispatch) → MeetsRows s (point_of x)
     unfolding point_of
-    point_meets x = by_columns-meets s is_system_of (accepted x)
+    point_meets x = by_columns-meets s is_system_of (by_name x)
 
     pub point-block : (x : Dispatch) (j : ℕ) → j < length m.blocks → point_of x j ≡ accepted x j
-    unfolding point_of
-    point-block x j h = by_columns-column s is_system_of (accepted x) j (column_in m over j h)
+    unfolding point_of column_at
+    point-block x j h = by_columns-column s is_system_of (by_name x) j (column_in m over j h) ∙ named-at x (Block j) h
+
+    pub point-over : (x : Dispatch) (r : Row) → Contains over r → is_soft m r ≡ true → point_of x (over_name m r) ≡ part_above (flow m x r -ℚ limit m r)
+    unfolding point_of column_at
+    point-over x r c e = by_columns-column s is_system_of (by_name x) (over_name m r) (over_column r c e) ∙ named-at x (Over r) (c, e)
+
+    pub point-under : (x : Dispatch) (r : Row) → Contains over r → is_soft m r ≡ true → point_of x (under_name m r) ≡ part_above (neg_ℚ (flow m x r) -ℚ limit m r)
+    unfolding point_of column_at
+    point-under x r c e = by_columns-column s is_system_of (by_name x) (under_name m r) (under_column r c e) ∙ named-at x (Under r) (c, e)
+
+    -- a sum over the blocks
+    of_blocks : (f v : ℕ → Fraction) (x : Dispatch) → ((j : ℕ) → j < length m.blocks → v j ≡ accepted x j)
+        → sum_by (λ j. f j *ℚ v j) (places (length m.blocks)) ≡ sum_by (λ j. f j *ℚ accepted x j) (places (length m.blocks))
+    of_blocks f v x same = sum_by-members (λ j. f j *ℚ v j) (λ j. f j *ℚ accepted x j) (places (length m.blocks)) (λ j c. ap (λ t. f j *ℚ t) (same j (from_places (length m.blocks) j c)))
 
     pub point-balance : (x : Dispatch) → point_of x (balance_name m) ≡ balance m x +ℚ residual_demand m
-    unfolding point_of
     point-balance x =
-        by_columns-row s is_system_of (accepted x) (balance_name m) balance_row
-        ∙ activity-balance (accepted x)
+        (point_meets x).row (balance_name m) balance_row
+        ∙ activity-balance m over ordered (point_of x)
+        ∙ of_blocks (block_sign m) (point_of x) x (point-block x)
         ∙ by_ring1 ring_ℚ (balance m x ∷ balance m (empty m) ∷ sum_by (λ j. block_sign m j *ℚ accepted x j) (places (length m.blocks)) ∷ []) (at 2) (at 0 ⊕ pneg (at 1)) (pneg pone) (at 0) (at 1 ⊕ at 2)
         (balance-by_blocks m market x) refl
 
-    pub point-row : (x : Dispatch) (r : Row) → Contains over r → point_of x (row_name m r) ≡ flow m x r -ℚ flow m (empty m) r
-    unfolding point_of
+    -- what the blocks add to a flow, brought back within the limit
+    abbrev brought : Dispatch → Row → Fraction
+    brought x r = flow m x r +ℚ (kept (is_soft m r) (part_above (neg_ℚ (flow m x r) -ℚ limit m r)) -ℚ kept (is_soft m r) (part_above (flow m x r -ℚ limit m r)))
+
+    pub point-row : (x : Dispatch) (r : Row) → Contains over r → point_of x (row_name m r) ≡ brought x r -ℚ flow m (empty m) r
     point-row x r c =
-        by_columns-row s is_system_of (accepted x) (row_name m r) (row_row r c)
-        ∙ activity-row (accepted x) r c
-        ∙ by_ring1 ring_ℚ (flow m x r ∷ flow m (empty m) r ∷ sum_by (λ j. block_coefficient m r j *ℚ accepted x j) (places (length m.blocks)) ∷ []) (at 2) (at 0 ⊕ pneg (at 1)) (pneg pone) (at 0) (at 1 ⊕ at 2)
+        (point_meets x).row (row_name m r) (row_row r c)
+        ∙ activity-limit m over ordered (point_of x) r c
+        ∙ ap₂ (λ (a b : Fraction). a +ℚ b) (of_blocks (block_coefficient m r) (point_of x) x (point-block x))
+        (ap₂ (λ (a b : Fraction). a -ℚ b) (kept_where (is_soft m r) (point-under x r c)) (kept_where (is_soft m r) (point-over x r c)))
+        ∙ by_ring1 ring_ℚ (flow m x r ∷ flow m (empty m) r ∷ sum_by (λ j. block_coefficient m r j *ℚ accepted x j) (places (length m.blocks)) ∷ kept (is_soft m r) (part_above (neg_ℚ (flow m x r) -ℚ limit m r)) ∷ kept (is_soft m r) (part_above (flow m x r -ℚ limit m r)) ∷ [])
+        (at 2 ⊕ (at 3 ⊕ pneg (at 4))) ((at 0 ⊕ (at 3 ⊕ pneg (at 4))) ⊕ pneg (at 1)) (pneg pone) (at 0) (at 1 ⊕ at 2)
         (flow-by_blocks m market x r) refl
 
     -- a feasible dispatch is within the bounds
-    pub point_within : HasHardLimits m.lines → (x : Dispatch) → FeasibleFor m g x → InBounds s (point_of x)
-    point_within hard x f = record { low = by_variable m over (λ w. s.low w ≤ℚ point_of x w) low_of; high = by_variable m over (λ w. point_of x w ≤ℚ s.high w) high_of }
-      where
-        at_balance : point_of x (balance_name m) ≡ residual_demand m
-        at_balance = point-balance x ∙ ap (λ t. t +ℚ residual_demand m) f.balanced ∙ by_ring ring_ℚ (residual_demand m ∷ []) (pnil ⊕ at 0) (at 0) refl
+    module _ (x : Dispatch) (f : FeasibleFor m g x) where
+      point_balanced : point_of x (balance_name m) ≡ residual_demand m
+      point_balanced = point-balance x ∙ ap (λ t. t +ℚ residual_demand m) f.balanced ∙ by_ring ring_ℚ (residual_demand m ∷ []) (pnil ⊕ at 0) (at 0) refl
 
-        within : (r : Row) → Contains over r → Within (limit m r) (flow m x r)
-        within r c = hard_within m market hard r (flow m x r) (f.limits r (in_order-from m g r c).1)
+      flow_kept : (r : Row) → Contains over r → Within (most_flow m r) (flow m x r)
+      flow_kept r c = f.limits r (in_order-from m g r c).1
 
-        low_of : (v : Variable) → IsVariableOf m over v → s.low (name m v) ≤ℚ point_of x (name m v)
-        low_of (Block j) h = subst₂ ◌≤ℚ◌ (sym (low-block j h)) (sym (point-block x j h)) (f.blocks.above j h)
-        low_of Balance h = ≤ℚ_of_same (s.low (balance_name m)) (point_of x (balance_name m)) (low-balance ∙ sym at_balance)
-        low_of (Limit r) c = subst₂ ◌≤ℚ◌ (sym (low-row r c)) (sym (point-row x r c))
-            (by_le1 (limit m r ∷ flow m x r ∷ flow m (empty m) r ∷ []) (pneg (at 0) ⊕ pneg (at 2)) (at 1 ⊕ pneg (at 2)) pone (pneg (at 0)) (at 1) NonNeg-one (within r c).above refl)
+      point_kept : (r : Row) → Contains over r → Within (limit m r) (brought x r)
+      point_kept r c = kept_within m market r (flow m x r) (flow_kept r c)
 
-        high_of : (v : Variable) → IsVariableOf m over v → point_of x (name m v) ≤ℚ s.high (name m v)
-        high_of (Block j) h = subst₂ ◌≤ℚ◌ (sym (point-block x j h)) (sym (high-block j h)) (f.blocks.within j h)
-        high_of Balance h = ≤ℚ_of_same (point_of x (balance_name m)) (s.high (balance_name m)) (at_balance ∙ sym high-balance)
-        high_of (Limit r) c = subst₂ ◌≤ℚ◌ (sym (point-row x r c)) (sym (high-row r c))
-            (by_le1 (limit m r ∷ flow m x r ∷ flow m (empty m) r ∷ []) (at 1 ⊕ pneg (at 2)) (at 0 ⊕ pneg (at 2)) pone (at 1) (at 0) NonNeg-one (within r c).below refl)
+      point_low : (v : Variable) → IsVariableOf m over v → s.low (name m v) ≤ℚ point_of x (name m v)
+      point_low (Block j) h = subst₂ ◌≤ℚ◌ (sym (low-block j h)) (sym (point-block x j h)) (f.blocks.above j h)
+      point_low Balance h = ≤ℚ_of_same (s.low (balance_name m)) (point_of x (balance_name m)) (low-balance ∙ sym point_balanced)
+      point_low (Limit r) c = subst₂ ◌≤ℚ◌ (sym (low-row r c)) (sym (point-row x r c))
+          (by_le1 (limit m r ∷ brought x r ∷ flow m (empty m) r ∷ []) (pneg (at 0) ⊕ pneg (at 2)) (at 1 ⊕ pneg (at 2)) pone (pneg (at 0)) (at 1) NonNeg-one (point_kept r c).above refl)
+      point_low (Over r) (c, e) = subst₂ ◌≤ℚ◌ (sym (low-over r c e)) (sym (point-over x r c e)) (part_least (flow m x r -ℚ limit m r)).0
+      point_low (Under r) (c, e) = subst₂ ◌≤ℚ◌ (sym (low-under r c e)) (sym (point-under x r c e)) (part_least (neg_ℚ (flow m x r) -ℚ limit m r)).0
+
+      point_high : (v : Variable) → IsVariableOf m over v → point_of x (name m v) ≤ℚ s.high (name m v)
+      point_high (Block j) h = subst₂ ◌≤ℚ◌ (sym (point-block x j h)) (sym (high-block j h)) (f.blocks.within j h)
+      point_high Balance h = ≤ℚ_of_same (point_of x (balance_name m)) (s.high (balance_name m)) (point_balanced ∙ sym high-balance)
+      point_high (Limit r) c = subst₂ ◌≤ℚ◌ (sym (point-row x r c)) (sym (high-row r c))
+          (by_le1 (limit m r ∷ brought x r ∷ flow m (empty m) r ∷ []) (at 1 ⊕ pneg (at 2)) (at 0 ⊕ pneg (at 2)) pone (at 1) (at 0) NonNeg-one (point_kept r c).below refl)
+      point_high (Over r) (c, e) = subst₂ ◌≤ℚ◌ (sym (point-over x r c e)) (sym (high-over r c e))
+          (part_most (flow m x r -ℚ limit m r) (most_excess m r) (most_excess_least m market r)
+          (by_le1 (limit m r ∷ most_excess m r ∷ flow m x r ∷ []) (at 2 ⊕ pneg (at 0)) (at 1) pone (at 2) (at 0 ⊕ at 1) NonNeg-one (flow_kept r c).below refl))
+      point_high (Under r) (c, e) = subst₂ ◌≤ℚ◌ (sym (point-under x r c e)) (sym (high-under r c e))
+          (part_most (neg_ℚ (flow m x r) -ℚ limit m r) (most_excess m r) (most_excess_least m market r)
+          (by_le1 (limit m r ∷ most_excess m r ∷ flow m x r ∷ []) (pneg (at 2) ⊕ pneg (at 0)) (at 1) pone (pneg (at 0 ⊕ at 1)) (at 2) NonNeg-one (flow_kept r c).above refl))
+
+      pub point_within : InBounds s (point_of x)
+      point_within = record { low = by_variable m over (λ w. s.low w ≤ℚ point_of x w) point_low; high = by_variable m over (λ w. point_of x w ≤ℚ s.high w) point_high }
 
     -- and its objective is its welfare
-    pub point_welfare : HasHardLimits m.lines → (x : Dispatch) → objective s (point_of x) ≡ welfare_for m g x
-    point_welfare hard x =
-        objective-at m over ascend (point_of x)
-        ∙ sum_by-members (λ j. block_value m j *ℚ point_of x j) (λ j. block_value m j *ℚ accepted x j) (places (length m.blocks))
-        (λ j c. ap (λ t. block_value m j *ℚ t) (point-block x j (from_places (length m.blocks) j c)))
-        ∙ sym (hard_welfare m hard g x)
+    pub point_welfare : AreRows m g → (x : Dispatch) → objective s (point_of x) ≡ welfare_for m g x
+    point_welfare are x =
+        objective-at m over ordered (point_of x)
+        ∙ ap₂ ◌+ℚ◌ (of_blocks (block_value m) (point_of x) x (point-block x))
+        (sum_by-members (λ r. neg_ℚ (penalty m r) *ℚ (point_of x (over_name m r) +ℚ point_of x (under_name m r))) (λ r. neg_ℚ (penalty m r) *ℚ excess m x r) (soft m over)
+        (λ r k. let c = Contains-from_filter (is_soft m) over r k in
+        ap (λ t. neg_ℚ (penalty m r) *ℚ t) (ap₂ (λ (a b : Fraction). a +ℚ b) (point-over x r c.0 c.1) (point-under x r c.0 c.1) ∙ sym (excess-parts m market r (flow m x r)))))
+        ∙ sym (welfare-in_order are x)
 
     -- ---- a point as a dispatch
     abbrev pub dispatch_at : (ℕ → Fraction) → Dispatch
@@ -203,26 +292,64 @@ module _ (m : Parts) (apart : RowsApart m) (g : List Row) where
         get_or-map v (places (length m.blocks)) j 0 nil (Prim.omega (arith, h, long)) ∙ ap v at_place
 
     of_dispatch : (f v : ℕ → Fraction) → sum_by (λ j. f j *ℚ accepted (dispatch_at v) j) (places (length m.blocks)) ≡ sum_by (λ j. f j *ℚ v j) (places (length m.blocks))
-    of_dispatch f v = sum_by-members (λ j. f j *ℚ accepted (dispatch_at v) j) (λ j. f j *ℚ v j) (places (length m.blocks))
-        (λ j c. ap (λ t. f j *ℚ t) (dispatch_at-accepted v j (from_places (length m.blocks) j c)))
-
-    pub dispatch_welfare : HasHardLimits m.lines → (v : ℕ → Fraction) → welfare_for m g (dispatch_at v) ≡ objective s v
-    dispatch_welfare hard v = hard_welfare m hard g (dispatch_at v) ∙ of_dispatch (block_value m) v ∙ sym (objective-at m over ascend v)
+    of_dispatch f v = sym (of_blocks f v (dispatch_at v) (λ j h. sym (dispatch_at-accepted v j h)))
 
     module _ (v : ℕ → Fraction) (meets : MeetsRows s v) where
       pub dispatch_balance : balance m (dispatch_at v) ≡ balance m (empty m) +ℚ v (balance_name m)
       dispatch_balance =
           balance-by_blocks m market (dispatch_at v)
-          ∙ ap (λ t. balance m (empty m) +ℚ t) (of_dispatch (block_sign m) v ∙ sym (activity-balance v) ∙ sym (meets.row (balance_name m) balance_row))
+          ∙ ap (λ t. balance m (empty m) +ℚ t) (of_dispatch (block_sign m) v ∙ sym (activity-balance m over ordered v) ∙ sym (meets.row (balance_name m) balance_row))
 
-      pub dispatch_flow : (r : Row) → Contains over r → flow m (dispatch_at v) r ≡ flow m (empty m) r +ℚ v (row_name m r)
+      -- the flow of a row is what it has within the limit, with what is over it less what is under
+      pub dispatch_flow : (r : Row) → Contains over r → flow m (dispatch_at v) r ≡ (flow m (empty m) r +ℚ v (row_name m r)) +ℚ (over_in m v r -ℚ under_in m v r)
       dispatch_flow r c =
           flow-by_blocks m market (dispatch_at v) r
-          ∙ ap (λ t. flow m (empty m) r +ℚ t) (of_dispatch (block_coefficient m r) v ∙ sym (activity-row v r c) ∙ sym (meets.row (row_name m r) (row_row r c)))
+          ∙ ap (λ t. flow m (empty m) r +ℚ t) (of_dispatch (block_coefficient m r) v)
+          ∙ by_ring1 ring_ℚ (flow m (empty m) r ∷ sum_by (λ j. block_coefficient m r j *ℚ v j) (places (length m.blocks)) ∷ v (row_name m r) ∷ over_in m v r ∷ under_in m v r ∷ [])
+          (at 0 ⊕ at 1) ((at 0 ⊕ at 2) ⊕ (at 3 ⊕ pneg (at 4))) (pneg pone) (at 2) (at 1 ⊕ (at 4 ⊕ pneg (at 3)))
+          (meets.row (row_name m r) (row_row r c) ∙ activity-limit m over ordered v r c) refl
+
+      module _ (within : InBounds s v) (r : Row) (c : Contains over r) where
+        pub added_within : Within (limit m r) (flow m (empty m) r +ℚ v (row_name m r))
+        added_within = record {
+          above =
+              by_le1 (limit m r ∷ v (row_name m r) ∷ flow m (empty m) r ∷ []) (pneg (at 0)) (at 2 ⊕ at 1) pone (pneg (at 0) ⊕ pneg (at 2)) (at 1) NonNeg-one
+              (subst (λ t. t ≤ℚ v (row_name m r)) (low-row r c) (within.low (row_name m r) (row_in r c))) refl;
+          below =
+              by_le1 (limit m r ∷ v (row_name m r) ∷ flow m (empty m) r ∷ []) (at 2 ⊕ at 1) (at 0) pone (at 1) (at 0 ⊕ pneg (at 2)) NonNeg-one
+              (subst (λ t. v (row_name m r) ≤ℚ t) (high-row r c) (within.high (row_name m r) (row_in r c))) refl;
+        }
+
+        pub over_between : (nil ≤ℚ over_in m v r) × (over_in m v r ≤ℚ most_excess m r)
+        over_between = kept_between (is_soft m r) (v (over_name m r)) (most_excess m r) (most_excess_least m market r)
+            (λ e. subst (λ t. t ≤ℚ v (over_name m r)) (low-over r c e) (within.low (over_name m r) (over_variable r c e)))
+            (λ e. subst (λ t. v (over_name m r) ≤ℚ t) (high-over r c e) (within.high (over_name m r) (over_variable r c e)))
+
+        pub under_between : (nil ≤ℚ under_in m v r) × (under_in m v r ≤ℚ most_excess m r)
+        under_between = kept_between (is_soft m r) (v (under_name m r)) (most_excess m r) (most_excess_least m market r)
+            (λ e. subst (λ t. t ≤ℚ v (under_name m r)) (low-under r c e) (within.low (under_name m r) (under_variable r c e)))
+            (λ e. subst (λ t. v (under_name m r) ≤ℚ t) (high-under r c e) (within.high (under_name m r) (under_variable r c e)))
+
+        flow_within : Within (most_flow m r) (flow m (dispatch_at v) r)
+        flow_within = subst (Within (most_flow m r)) (sym (dispatch_flow r c))
+            (spread_within (limit m r) (most_excess m r) (flow m (empty m) r +ℚ v (row_name m r)) (over_in m v r) (under_in m v r) added_within over_between.0 under_between.0 over_between.1 under_between.1)
+
+        -- its excess is no more than what is over and under
+        excess_least : excess m (dispatch_at v) r ≤ℚ (over_in m v r +ℚ under_in m v r)
+        excess_least = subst (λ t. t ≤ℚ (over_in m v r +ℚ under_in m v r)) (sym (ap (excess_by m r) (dispatch_flow r c) ∙ excess-parts m market r flows))
+            (+ℚ-≤ℚ (part_above (flows -ℚ limit m r)) (over_in m v r) (part_above (neg_ℚ flows -ℚ limit m r)) (under_in m v r)
+            (spread_over (limit m r) (most_excess m r) added (over_in m v r) (under_in m v r) added_within over_between.0 under_between.0)
+            (spread_under (limit m r) (most_excess m r) added (over_in m v r) (under_in m v r) added_within over_between.0 under_between.0))
+          where
+            added : Fraction
+            added = flow m (empty m) r +ℚ v (row_name m r)
+
+            flows : Fraction
+            flows = (flow m (empty m) r +ℚ v (row_name m r)) +ℚ (over_in m v r -ℚ under_in m v r)
 
       -- a point within the bounds is feasible for rows of the market
-      pub dispatch_feasible : HasHardLimits m.lines → ((r : Row) → Contains g r → Contains (rows m) r) → InBounds s v → FeasibleFor m g (dispatch_at v)
-      dispatch_feasible hard all within = record {
+      pub dispatch_feasible : ((r : Row) → Contains g r → Contains (rows m) r) → InBounds s v → FeasibleFor m g (dispatch_at v)
+      dispatch_feasible all within = record {
         blocks = record {
           count = length-map-places;
           above = λ j h. subst₂ ◌≤ℚ◌ (low-block j h) (sym (dispatch_at-accepted v j h)) (within.low j (block_in j h));
@@ -233,7 +360,7 @@ module _ (m : Parts) (apart : RowsApart m) (g : List Row) where
             ∙ ap (λ t. balance m (empty m) +ℚ t)
             (≤ℚ_antisym (v (balance_name m)) (residual_demand m) (subst (λ t. v (balance_name m) ≤ℚ t) high-balance (within.high (balance_name m) balance_in)) (subst (λ t. t ≤ℚ v (balance_name m)) low-balance (within.low (balance_name m) balance_in)))
             ∙ by_ring ring_ℚ (balance m (empty m) ∷ []) (at 0 ⊕ pneg (at 0)) pnil refl;
-        limits = λ r c. let here : Contains over r = in_order-in m g r (all r c) c in within_hard m market hard r (flow m (dispatch_at v) r) (subst (Within (limit m r)) (sym (dispatch_flow r here)) (within_of r here));
+        limits = λ r c. flow_within within r (in_order-in m g r (all r c) c);
       }
         where
           length-map-places : length (map v (places (length m.blocks))) ≡ length m.blocks
@@ -243,12 +370,14 @@ module _ (m : Parts) (apart : RowsApart m) (g : List Row) where
               counted [] = refl
               counted (w ∷ ws) = ap suc (counted ws)
 
-          within_of : (r : Row) → Contains over r → Within (limit m r) (flow m (empty m) r +ℚ v (row_name m r))
-          within_of r c = record {
-            above =
-                by_le1 (limit m r ∷ v (row_name m r) ∷ flow m (empty m) r ∷ []) (pneg (at 0)) (at 2 ⊕ at 1) pone (pneg (at 0) ⊕ pneg (at 2)) (at 1) NonNeg-one
-                (subst (λ t. t ≤ℚ v (row_name m r)) (low-row r c) (within.low (row_name m r) (row_in r c))) refl;
-            below =
-                by_le1 (limit m r ∷ v (row_name m r) ∷ flow m (empty m) r ∷ []) (at 2 ⊕ at 1) (at 0) pone (at 1) (at 0 ⊕ pneg (at 2)) NonNeg-one
-                (subst (λ t. v (row_name m r) ≤ℚ t) (high-row r c) (within.high (row_name m r) (row_in r c))) refl;
-          }
+      -- and worth no less
+      pub dispatch_welfare : AreRows m g → InBounds s v → objective s v ≤ℚ welfare_for m g (dispatch_at v)
+      dispatch_welfare are within = subst₂ ◌≤ℚ◌ (sym (objective-at m over ordered v)) (sym (welfare-in_order are (dispatch_at v)))
+          (+ℚ-≤ℚ (sum_by (λ j. block_value m j *ℚ v j) (places (length m.blocks))) (sum_by (λ j. block_value m j *ℚ accepted (dispatch_at v) j) (places (length m.blocks)))
+          (sum_by (λ r. neg_ℚ (penalty m r) *ℚ (v (over_name m r) +ℚ v (under_name m r))) (soft m over)) (sum_by (λ r. neg_ℚ (penalty m r) *ℚ excess m (dispatch_at v) r) (soft m over))
+          (≤ℚ_of_same _ _ (sym (of_dispatch (block_value m) v)))
+          (sum_by-≤ (λ r. neg_ℚ (penalty m r) *ℚ (v (over_name m r) +ℚ v (under_name m r))) (λ r. neg_ℚ (penalty m r) *ℚ excess m (dispatch_at v) r) (soft m over)
+          (along (λ r. (neg_ℚ (penalty m r) *ℚ (v (over_name m r) +ℚ v (under_name m r))) ≤ℚ (neg_ℚ (penalty m r) *ℚ excess m (dispatch_at v) r)) (soft m over)
+          (λ r k. let c = Contains-from_filter (is_soft m) over r k in
+          by_le1 (penalty m r ∷ (v (over_name m r) +ℚ v (under_name m r)) ∷ excess m (dispatch_at v) r ∷ []) (pneg (at 0) ⊗ at 1) (pneg (at 0) ⊗ at 2) (at 0) (at 2) (at 1) (NonNeg_from (penalty m r) (penalty_least m market r))
+          (subst (λ (b : Bool). excess m (dispatch_at v) r ≤ℚ (kept b (v (over_name m r)) +ℚ kept b (v (under_name m r)))) c.1 (excess_least within r c.0)) refl))))

@@ -23,10 +23,10 @@ use Rattle.market_model.specs.Optimality.{price, block_value}
 use Rattle.market_model.proofs.WholeDispatch.{from_whole-≤ℚ}
 use Rattle.market_system.specs.MarketSystem.{residual_demand, low, high, system_of, choice_dispatch, IsVariableOf}
 use Rattle.market_system.specs.declared.variables.Variable.{Variable}
-use Rattle.market_system.specs.declared.variables.Variable.TheVariants.{Block, Balance, Limit}
+use Rattle.market_system.specs.declared.variables.Variable.TheVariants.{Block, Balance, Limit, Over, Under}
 use Rattle.market_system.specs.ModestMarkets.{IsModest, IsModestBus, IsModestUnit, IsModestBlock, modest_mw, modest_price}
-use Rattle.market_system.proofs.SystemLaws.{none_ascend, variables_are, variable_in, the_row, is_system}
-use Rattle.market_system.proofs.VariableLaws.{from_places, by_variable, columns_are, column_below, coefficient-at, price-at, low-at, high-at}
+use Rattle.market_system.proofs.SystemLaws.{none_ordered, columns_are, column_below, variables_are, variable_in, the_row, is_system}
+use Rattle.market_system.proofs.VariableLaws.{from_places, by_variable, coefficient-at, price-at, low-at, high-at}
 use Rattle.market_system.proofs.ModestNumbers.{IsWholeWithin, whole_within, nil_within, wider, neg_within, times_within, TermsWithin, append_within, map_within, prefix_within, length-filter_le}
 use Rattle.market_system.proofs.ModestChoices.{block_sign_within, entry_within, column_within}
 
@@ -169,12 +169,14 @@ module _ (m : Parts) (market : IsMarket m) (modest : IsModest m) where
   variable_within (Block j) lt = (wider modest_mw most_balance zero (Prim.omega arith) (nil_within modest_mw), wider modest_mw most_balance (quantity m j) (Prim.omega arith) (quantity_within j lt))
   variable_within Balance is = (needed_within, needed_within)
   variable_within (Limit r) c = absurd (Prim.omega (arith, c.1))
+  variable_within (Over r) c = absurd (Prim.omega (arith, c.0.1))
+  variable_within (Under r) c = absurd (Prim.omega (arith, c.0.1))
 
   pub low_within : (w : ℕ) → Contains (system_of m []).variables w → IsWholeWithin most_balance ((system_of m []).low w)
-  low_within = by_variable m [] (λ w. IsWholeWithin most_balance ((system_of m []).low w)) (λ v is. subst (IsWholeWithin most_balance) (sym (low-at m [] (none_ascend m) v is)) (variable_within v is).0)
+  low_within = by_variable m [] (λ w. IsWholeWithin most_balance ((system_of m []).low w)) (λ v is. subst (IsWholeWithin most_balance) (sym (low-at m [] (none_ordered m) v is)) (variable_within v is).0)
 
   pub high_within : (w : ℕ) → Contains (system_of m []).variables w → IsWholeWithin most_balance ((system_of m []).high w)
-  high_within = by_variable m [] (λ w. IsWholeWithin most_balance ((system_of m []).high w)) (λ v is. subst (IsWholeWithin most_balance) (sym (high-at m [] (none_ascend m) v is)) (variable_within v is).1)
+  high_within = by_variable m [] (λ w. IsWholeWithin most_balance ((system_of m []).high w)) (λ v is. subst (IsWholeWithin most_balance) (sym (high-at m [] (none_ordered m) v is)) (variable_within v is).1)
 
   -- at a choice of the system
   module _ (h : Choice) (is : IsChoice (system_of m []) h) where
@@ -224,10 +226,10 @@ module _ (m : Parts) (market : IsMarket m) (modest : IsModest m) where
     coefficient_within : (r j : ℕ) → Contains s.rows r → Contains s.columns j → IsWholeWithin 1 (s.coefficient r j)
     coefficient_within r j c k =
         subst (λ (u : ℕ). IsWholeWithin 1 (s.coefficient u j)) (sym (the_row m r c))
-        (subst (IsWholeWithin 1) (sym (coefficient-at m [] (none_ascend m) Balance (Block j) tt (column_below m [] j k))) (block_sign_within m j))
+        (subst (IsWholeWithin 1) (sym (coefficient-at m [] (none_ordered m) Balance (Block j) tt (column_below m j k))) (block_sign_within m j))
 
     price_of_within : (j : ℕ) → Contains s.columns j → IsWholeWithin modest_price (s.price j)
-    price_of_within j k = let lt = column_below m [] j k in subst (IsWholeWithin modest_price) (sym (price-at m [] (none_ascend m) (Block j) lt)) (block_value_within j lt)
+    price_of_within j k = let lt = column_below m j k in subst (IsWholeWithin modest_price) (sym (price-at m [] (none_ordered m) (Block j) lt)) (block_value_within j lt)
 
     column_listed : (j : ℕ) → Contains s.columns j → Contains s.variables j
     column_listed = (is_system m).column
@@ -243,7 +245,7 @@ module _ (m : Parts) (market : IsMarket m) (modest : IsModest m) where
         (λ j k. times_within modest_price 1 (s.price j) (column_entry h j w) (price_of_within j k) (column_within m h is j w (column_listed j k) c))
 
     columns_count : (f : ℕ → Term) → length (map f s.columns) ≤ 4000
-    columns_count f = Prim.omega (arith, ap (λ (ws : List ℕ). length (map f ws)) (columns_are m []), terms_of_places f (length m.blocks), market.block_count)
+    columns_count f = Prim.omega (arith, ap (λ (ws : List ℕ). length (map f ws)) (columns_are m), terms_of_places f (length m.blocks), market.block_count)
 
     -- the numbers of the system
     pub system_within : (kind : Kind) (x : Fraction) → SystemNumber s h kind x → IsWholeWithin (most_of kind) x

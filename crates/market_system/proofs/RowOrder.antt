@@ -1,18 +1,19 @@
 -- The rows of a list in the market's order, and their names.
-use Rattle.std.specs.Prelude.{◌≡◌, ◌≢◌, ℕ, ◌+◌, ◌<◌, ◌==◌, ◌&&◌, ◌||◌, Bool, true, false, List, [], ◌∷◌, ◌++◌, length, map, AllPairs, Contains, refl, ◌⊎◌}
+use Rattle.std.specs.Prelude.{◌≡◌, ◌≢◌, ℕ, ◌+◌, ◌<◌, ◌==◌, ◌&&◌, ◌||◌, Bool, true, false, List, [], ◌∷◌, ◌++◌, length, map, filter, AllPairs, Contains, refl, ◌⊎◌}
 use Rattle.std.specs.List.Sorted.{IsStrictlyIncreasing}
 use Rattle.std.proofs.Common.{zero, suc, arith, ap, ap₂, sym, ◌∙◌, subst, inl, inr, get_or}
+use Rattle.std.proofs.lemmas.Bool.{cases_lt}
 use Rattle.std.proofs.lemmas.Bool.Decides.{eqb_tells}
 use Rattle.std.proofs.lemmas.List.Elements.{All-append, All-map}
 use Rattle.std.proofs.lemmas.List.Kept.{AllPairs-cons, AllPairs-filter}
-use Rattle.std.proofs.lemmas.List.Sums.{position_or_len_is}
+use Rattle.std.proofs.lemmas.List.Sums.{position_or_len_is, fails_before_first}
 use Rattle.fraction_theory.proofs.ListSums.{Contains-head, Contains-cons, Contains-cases, Contains-filter, Contains-from_filter}
 use Rattle.market_model.specs.declared.participants.Parts.{Parts}
 use Rattle.market_model.specs.declared.limits.Cause.{Cause}
 use Rattle.market_model.specs.declared.limits.Row.{Row}
 use Rattle.market_model.specs.declared.limits.Cause.TheVariants.{Base, Branch}
 use Rattle.market_model.specs.LimitRows.{rows}
-use Rattle.market_system.specs.MarketSystem.{same_cause, same_row, is_in, in_order, row_name}
+use Rattle.market_system.specs.MarketSystem.{same_cause, same_row, is_in, in_order, row_place, row_name}
 
 -- ---- rows that are one
 pub and_true : (b c : Bool) → (b && c) ≡ true → (b ≡ true) × (c ≡ true)
@@ -86,6 +87,14 @@ pub in_order-from : (m : Parts) (g : List Row) (r : Row) → Contains (in_order 
 in_order-from m [] r c = absurd (Prim.omega (arith, c.1))
 in_order-from m (t ∷ ts) r c = let both = Contains-from_filter (is_in (t ∷ ts)) (rows m) r c in (both.0, is_in-from (t ∷ ts) r both.1)
 
+pub in_order-filter : (m : Parts) (g : List Row) → in_order m g ≡ filter (is_in g) (rows m)
+in_order-filter m [] = none (rows m)
+  where
+    none : (rs : List Row) → [] ≡ filter (λ (r : Row). false) rs
+    none [] = refl
+    none (r ∷ rs) = none rs
+in_order-filter m (t ∷ ts) = refl
+
 -- ---- pairs of lists
 pub pairs-append : {X : Type 0} (R : X → X → Type 0) (xs ys : List X) → AllPairs R xs → AllPairs R ys → ((x y : X) → Contains xs x → Contains ys y → R x y) → AllPairs R (xs ++ ys)
 pairs-append R [] ys p q cross = q
@@ -111,7 +120,21 @@ pairs-map {X} {Y} R f (x ∷ xs) p =
     (All-map (R (f x)) f xs (λ k d lt. p 0 (suc k) d (Prim.omega arith) (Prim.omega (arith, lt))))
     (pairs-map R f xs (λ i j d lt h. p (suc i) (suc j) d (Prim.omega (arith, lt)) (Prim.omega (arith, h))))
 
+-- ---- rows of the market in its order, by their names
+pub record AreOrdered (m : Parts) (rs : List Row) : Type 0 where
+  pub rows : (r : Row) → Contains rs r → Contains (rows m) r
+  pub ascend : AllPairs (λ (a b : Row). row_name m a < row_name m b) rs
+
+pub ordered-distinct : (m : Parts) (rs : List Row) → AreOrdered m rs → AllPairs (λ (a b : Row). a ≢ b) rs
+ordered-distinct m rs ordered i j d lt h e = Prim.omega (arith, ordered.ascend i j d lt h, ap (row_name m) e)
+
 -- ---- names of rows, where the rows of the market are distinct
+pub row_place-below : (m : Parts) (r : Row) → Contains (rows m) r → row_place m r < length (rows m)
+row_place-below m r (k, inside, is) = elim (cases_lt k (row_place m r)) [
+  | inl lt ↦ let wrong : false ≡ true = sym (fails_before_first (same_row r) (rows m) k r lt) ∙ ap (same_row r) is ∙ same_row-itself r in absurd cc
+  | inr ge ↦ Prim.omega (arith, inside, ge)
+]
+
 abbrev pub RowsApart : Parts → Type 0
 RowsApart m = AllPairs (λ (a b : Row). a ≢ b) (rows m)
 
@@ -131,3 +154,6 @@ module _ (m : Parts) (apart : RowsApart m) where
   pub in_order-ascends : (g : List Row) → AllPairs (λ (a b : Row). row_name m a < row_name m b) (in_order m g)
   in_order-ascends [] = λ i j d lt h. absurd (Prim.omega (arith, h))
   in_order-ascends (t ∷ ts) = AllPairs-filter (λ (a b : Row). row_name m a < row_name m b) (is_in (t ∷ ts)) (rows m) names-ascend
+
+  pub in_order-ordered : (g : List Row) → AreOrdered m (in_order m g)
+  in_order-ordered g = record { rows = λ r c. (in_order-from m g r c).0; ascend = in_order-ascends g }

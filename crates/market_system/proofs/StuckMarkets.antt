@@ -1,6 +1,6 @@
 -- A basic variable of a market's system that is stuck beyond a bound: its duals, up to the one sign, show that no dispatch of the market is
 -- feasible, and their bound is what the variable lacks.
-use Rattle.std.specs.Prelude.{◌≡◌, ℕ, ◌<◌, ℤ, pos, ◌≤ℤ◌, Option, Some, None, IfSome, Bool, true, false, not, List, [], ◌∷◌, length, if◌then◌else◌, Contains, refl}
+use Rattle.std.specs.Prelude.{◌≡◌, ℕ, ◌<◌, pos, Bool, true, false, not, List, [], ◌∷◌, length, if◌then◌else◌, Contains, refl}
 use Rattle.std.proofs.Common.{ap, ap₂, sym, ◌∙◌, subst, subst₂, inl, inr}
 use Rattle.fraction_theory.specs.Fraction.{Fraction, whole, neg_ℚ, ◌+ℚ◌, ◌-ℚ◌, ◌*ℚ◌}
 use Rattle.fraction_theory.specs.Order.{NonNeg, ◌≤ℚ◌, ◌<ℚ◌}
@@ -12,7 +12,7 @@ use Rattle.fraction_theory.proofs.Ring.{by_ring, by_ring1, at, pnil, pone, pneg,
 use Rattle.fraction_theory.proofs.FieldLaws.{ring_ℚ}
 use Rattle.fraction_theory.proofs.OrderLaws.{≤ℚ_refl, ≤ℚ_trans, ≤ℚ_of_same, ≤ℚ_antisym, <ℚ-≤ℚ, *ℚ-≤ℚ, *ℚ-≤ℚ_neg, NonNeg_from, NonNeg-plus, le_to, by_le1, NonNeg-one, whole-≤ℚ}
 use Rattle.fraction_theory.proofs.SignLaws.{sign_of_is}
-use Rattle.fraction_theory.proofs.SumLaws.{sum_by-same, sum_by-nil}
+use Rattle.fraction_theory.proofs.SumLaws.{sum_by-same, sum_by-nil, sum_by-plus}
 use Rattle.fraction_theory.proofs.ListSums.{kept, put_at, put_at-here, put_at-elsewhere, same_or_not, sum_by-filter, sum_by-members}
 use Rattle.linear_system.specs.Systems.{System, IsSystem, MeetsRows, InBounds}
 use Rattle.linear_system.specs.Choices.{Choice, IsChoice}
@@ -23,28 +23,25 @@ use Rattle.simplex_theory.proofs.NameSums.{signed-sum}
 use Rattle.simplex_theory.proofs.StuckRows.{combined, corner, combined_vanishes, corner_reaches, corner_within, margin_below, each_most}
 use Rattle.market_model.specs.declared.answered.Duals.{Duals}
 use Rattle.market_model.specs.declared.participants.Parts.{Parts}
-use Rattle.market_model.specs.Dispatch.{zero as nil, places, block_at, line_at, quantity, balance, empty}
+use Rattle.market_model.specs.Dispatch.{zero as nil, places, block_at, quantity, balance, empty}
 use Rattle.market_model.specs.Infeasibility.{block_weight, farkas_bound, ShowsInfeasible}
-use Rattle.market_model.specs.declared.limits.Cause.{Cause}
 use Rattle.market_model.specs.declared.limits.Row.{Row}
-use Rattle.market_model.specs.declared.limits.Cause.TheVariants.{Base, Branch}
-use Rattle.market_model.specs.LimitRows.{rows, mw_or_zero, limit_under, limit, flow}
-use Rattle.market_model.specs.Lines.{HasHardLimits}
+use Rattle.market_model.specs.LimitRows.{rows, is_soft, limit, most_excess, most_flow, flow}
 use Rattle.market_model.specs.Market.{IsMarket}
-use Rattle.market_model.specs.Optimality.{net_shadow_price, up_of, down_of, ProperDuals}
-use Rattle.market_model.proofs.HardLimits.{hard_most}
+use Rattle.market_model.specs.Optimality.{net_shadow_price, ProperDuals}
+use Rattle.market_model.proofs.Excesses.{limit_least}
 use Rattle.market_model.proofs.FarkasLaw.{farkas_bound-by_parts, left_of}
-use Rattle.market_system.specs.MarketSystem.{name, balance_name, row_name, is_in, in_order, residual_demand, block_sign, block_coefficient, system_of, duals_by_cost, IsVariableOf}
-use Rattle.limit_rows.proofs.FactorLemmas.{stands}
+use Rattle.market_system.specs.MarketSystem.{name, balance_name, row_name, over_name, under_name, is_in, in_order, residual_demand, block_sign, block_coefficient, system_of, duals_by_cost, IsVariableOf}
 use Rattle.market_model.specs.NamedSums.{SameSize}
 use Rattle.market_system.specs.MarketNumbers.{IsFarkasOf}
-use Rattle.market_system.proofs.RowOrder.{in_order-from, is_in-in}
-use Rattle.market_system.proofs.DualLists.{NamesApart, rows_apart, one_is_nil, up_by, down_by, up_sign, down_sign, up-made, down-made, net_price-made, prices_only-made, proper-made, in_order-filter}
-use Rattle.market_system.proofs.MarketPoints.{is_system_of, both_parts, low-block, high-block, low-balance, high-balance, low-row, high-row, block_in, balance_in, row_in}
-use Rattle.market_system.proofs.SolvedMarkets.{rows-at, weight-made}
-use Rattle.market_system.proofs.VariableLaws.{by_variable, from_places, column_in, sum-columns, sum-rows}
+use Rattle.market_system.proofs.RowOrder.{RowsApart, in_order-filter, is_in-in}
+use Rattle.market_system.proofs.DualLists.{NamesApart, rows_apart, one_is_nil, up_by, down_by, up_sign, down_sign, up_is_part, down_is_part, up-made, down-made, net_price-made, prices_only-made, proper-made}
+use Rattle.market_system.proofs.MarketPoints.{is_system_of, both_parts, low-block, high-block, low-balance, high-balance, low-row, high-row, low-over, low-under, high-over, high-under, over_column, under_column, over_variable, under_variable, block_in, balance_in, row_in}
+use Rattle.market_system.proofs.SolvedMarkets.{rows-at, rows-over, rows-under, weight-made}
+use Rattle.market_system.proofs.SoftRows.{hard_stands, most_excess_least}
+use Rattle.market_system.proofs.VariableLaws.{by_variable, from_places, column_in, soft, sum-columns, sum-rows}
 use Rattle.market_system.specs.declared.variables.Variable.{Variable}
-use Rattle.market_system.specs.declared.variables.Variable.TheVariants.{Block, Balance, Limit}
+use Rattle.market_system.specs.declared.variables.Variable.TheVariants.{Block, Balance, Limit, Over, Under}
 
 -- ---- the most that a factor makes of a number between two bounds
 module _ (k low high c : Fraction) (above_low : low ≤ℚ c) (below_high : c ≤ℚ high) (most : (t : Fraction) → low ≤ℚ t → t ≤ℚ high → (k *ℚ t) ≤ℚ (k *ℚ c)) where
@@ -84,17 +81,6 @@ row_most k l f c low high most = by (sign_of k) refl
         ∙ sym (most_high k (neg_ℚ l -ℚ f) (l -ℚ f) c low high most (<ℚ-≤ℚ nil k (sign_of_is k Above e)))
 
 -- ---- in a market low bounds are at most the high ones
-at_least_nil : (o : Option ℤ) → IfSome o (λ mw. pos 0 ≤ℤ mw) → nil ≤ℚ mw_or_zero o
-at_least_nil None h = ≤ℚ_refl nil
-at_least_nil (Some mw) h = whole-≤ℚ (pos 0) mw h
-
-pub limit_sign : (m : Parts) → IsMarket m → (r : Row) → r.line < length m.lines → nil ≤ℚ limit m r
-limit_sign m market r lt = by r.line r.cause lt
-  where
-    by : (l : ℕ) (c : Cause) → l < length m.lines → nil ≤ℚ limit_under m l c
-    by l Base lt = at_least_nil (line_at m l).base (market.lines l _ lt).base
-    by l (Branch lost) lt = at_least_nil (line_at m l).post (market.lines l _ lt).post
-
 bounds_ordered : (m : Parts) (names : NamesApart m) → IsMarket m → (g : List Row) → (w : ℕ) → Contains (system_of m g).variables w → (system_of m g).low w ≤ℚ (system_of m g).high w
 bounds_ordered m names market g = by_variable m (in_order m g) (λ w. (system_of m g).low w ≤ℚ (system_of m g).high w) by
   where
@@ -104,18 +90,23 @@ bounds_ordered m names market g = by_variable m (in_order m g) (λ w. (system_of
     by Balance is = ≤ℚ_of_same _ _ (low-balance m (rows_apart m names) g ∙ sym (high-balance m (rows_apart m names) g))
     by (Limit r) c = subst₂ ◌≤ℚ◌ (sym (low-row m (rows_apart m names) g r c)) (sym (high-row m (rows_apart m names) g r c))
         (by_le1 (limit m r ∷ flow m (empty m) r ∷ []) (pneg (at 0) ⊕ pneg (at 1)) (at 0 ⊕ pneg (at 1)) (pone ⊕ pone) pnil (at 0) (NonNeg-plus (whole (pos 1)) (whole (pos 1)) NonNeg-one NonNeg-one)
-        (limit_sign m market r (stands m market r (in_order-from m g r c).0).line) refl)
+        (limit_least m market r) refl)
+    by (Over r) (c, e) = subst₂ ◌≤ℚ◌ (sym (low-over m (rows_apart m names) g r c e)) (sym (high-over m (rows_apart m names) g r c e)) (most_excess_least m market r)
+    by (Under r) (c, e) = subst₂ ◌≤ℚ◌ (sym (low-under m (rows_apart m names) g r c e)) (sym (high-under m (rows_apart m names) g r c e)) (most_excess_least m market r)
 
-module _ (m : Parts) (names : NamesApart m) (market : IsMarket m) (hard : HasHardLimits m.lines) (g : List Row) (h : Choice) (choice : IsChoice (system_of m g) h)
+module _ (m : Parts) (names : NamesApart m) (market : IsMarket m) (g : List Row) (h : Choice) (choice : IsChoice (system_of m g) h)
     (b : ℕ) (above : Bool) (stuck : IsStuck (system_of m g) h b above) where
   ordered : (w : ℕ) → Contains (system_of m g).variables w → (system_of m g).low w ≤ℚ (system_of m g).high w
   ordered = bounds_ordered m names market g
+
+  abbrev apart : RowsApart m
+  apart = rows_apart m names
 
   abbrev s : System
   s = system_of m g
 
   system : IsSystem (system_of m g)
-  system = is_system_of m (rows_apart m names) g
+  system = is_system_of m apart g
 
   -- the multipliers with the one sign
   abbrev turned : ℕ → Fraction
@@ -161,8 +152,8 @@ module _ (m : Parts) (names : NamesApart m) (market : IsMarket m) (hard : HasHar
       sum_by-same (λ j. whole (pos 0) *ℚ v j) (λ j. whole (pos 0)) s.columns (λ j. by_ring ring_ℚ (v j ∷ []) (pnil ⊗ at 0) pnil refl) ∙ sum_by-nil s.columns
       ∙ sym (combined_turned v ∙ ap (opposite_if (not above)) (combined_vanishes s h system b stuck.basic choice v meets) ∙ signed_nil (not above))
 
-  at_column : (j : ℕ) → j < length m.blocks → whole (pos 0) ≡ turned j +ℚ sum_by (λ r. turned r *ℚ s.coefficient r j) s.rows
-  at_column j lt = multiplied s system (both_parts m (rows_apart m names) g) (λ w. whole (pos 0)) turned vanishes j (column_in m (in_order m g) j lt)
+  at_column : (j : ℕ) → Contains s.columns j → whole (pos 0) ≡ turned j +ℚ sum_by (λ r. turned r *ℚ s.coefficient r j) s.rows
+  at_column j c = multiplied s system (both_parts m apart g) (λ w. whole (pos 0)) turned vanishes j c
 
   -- a block's weight at the duals is its multiplier
   pub block_multiplier : (j : ℕ) → j < length m.blocks → block_weight m stuck_duals j ≡ turned j
@@ -170,69 +161,104 @@ module _ (m : Parts) (names : NamesApart m) (market : IsMarket m) (hard : HasHar
       let costs : Fraction = sum_by (λ r. turned (row_name m r) *ℚ block_coefficient m r j) (in_order m g) in
       weight-made m names turned g j
       ∙ by_ring1 ring_ℚ (turned (balance_name m) ∷ block_sign m j ∷ costs ∷ turned j ∷ []) (pneg (at 0) ⊗ at 1 ⊕ pneg (at 2)) (at 3) pone pnil (at 3 ⊕ (at 0 ⊗ at 1 ⊕ at 2))
-      (at_column j lt ∙ ap (λ t. turned j +ℚ t) (rows-at m names g turned j lt)) refl
+      (at_column j (column_in m (in_order m g) j lt) ∙ ap (λ t. turned j +ℚ t) (rows-at m names g turned j lt)) refl
+
+  -- those of the columns of a soft row are the row's, and its opposite
+  module _ (r : Row) (c : Contains (in_order m g) r) (e : is_soft m r ≡ true) where
+    over_multiplier : turned (row_name m r) ≡ turned (over_name m r)
+    over_multiplier = by_ring1 ring_ℚ (turned (row_name m r) ∷ turned (over_name m r) ∷ []) (at 0) (at 1) pone pnil (at 1 ⊕ at 0 ⊗ pneg pone)
+        (at_column (over_name m r) (over_column m apart g r c e) ∙ ap (λ t. turned (over_name m r) +ℚ t) (rows-over m names g turned r c e)) refl
+
+    under_multiplier : neg_ℚ (turned (row_name m r)) ≡ turned (under_name m r)
+    under_multiplier = by_ring1 ring_ℚ (turned (row_name m r) ∷ turned (under_name m r) ∷ []) (pneg (at 0)) (at 1) pone pnil (at 1 ⊕ at 0 ⊗ pone)
+        (at_column (under_name m r) (under_column m apart g r c e) ∙ ap (λ t. turned (under_name m r) +ℚ t) (rows-under m names g turned r c e)) refl
 
   -- ---- the bound
+  column_most : (w : ℕ) → Contains s.variables w → (q : Fraction) → s.low w ≡ nil → s.high w ≡ q → part_above (turned w) *ℚ q ≡ turned w *ℚ at_corner w
+  column_most w named q low high =
+      block_most (turned w) q (at_corner w) (subst (λ t. t ≤ℚ at_corner w) low (within.low w named)) (subst (λ t. at_corner w ≤ℚ t) high (within.high w named))
+      (λ t a b. most_at w named t (subst (λ x. x ≤ℚ t) (sym low) a) (subst (λ x. t ≤ℚ x) (sym high) b))
+
   blocks_most : sum_by (λ j. part_above (block_weight m stuck_duals j) *ℚ quantity m j) (places (length m.blocks)) ≡ sum_by (λ w. turned w *ℚ at_corner w) (places (length m.blocks))
   blocks_most = sum_by-members (λ j. part_above (block_weight m stuck_duals j) *ℚ quantity m j) (λ w. turned w *ℚ at_corner w) (places (length m.blocks))
       (λ j c. each j (from_places (length m.blocks) j c))
     where
       each : (j : ℕ) → j < length m.blocks → part_above (block_weight m stuck_duals j) *ℚ quantity m j ≡ turned j *ℚ at_corner j
-      each j lt =
-          let named = block_in m (rows_apart m names) g j lt in
-          let low = low-block m (rows_apart m names) g j lt in
-          let high = high-block m (rows_apart m names) g j lt in
-          ap (λ k. part_above k *ℚ quantity m j) (block_multiplier j lt)
-          ∙ block_most (turned j) (quantity m j) (at_corner j) (subst (λ t. t ≤ℚ at_corner j) low (within.low j named)) (subst (λ t. at_corner j ≤ℚ t) high (within.high j named))
-          (λ t p q. most_at j named t (subst (λ x. x ≤ℚ t) (sym low) p) (subst (λ x. t ≤ℚ x) (sym high) q))
+      each j lt = ap (λ k. part_above k *ℚ quantity m j) (block_multiplier j lt)
+          ∙ column_most j (block_in m apart g j lt) (quantity m j) (low-block m apart g j lt) (high-block m apart g j lt)
 
   balance_most : neg_ℚ (turned (balance_name m)) *ℚ balance m (empty m) ≡ turned (balance_name m) *ℚ at_corner (balance_name m)
   balance_most =
       by_ring ring_ℚ (turned (balance_name m) ∷ balance m (empty m) ∷ []) (pneg (at 0) ⊗ at 1) (at 0 ⊗ pneg (at 1)) refl
       ∙ ap (λ t. turned (balance_name m) *ℚ t)
       (≤ℚ_antisym (residual_demand m) (at_corner (balance_name m))
-      (subst (λ t. t ≤ℚ at_corner (balance_name m)) (low-balance m (rows_apart m names) g) (within.low (balance_name m) (balance_in m (rows_apart m names) g)))
-      (subst (λ t. at_corner (balance_name m) ≤ℚ t) (high-balance m (rows_apart m names) g) (within.high (balance_name m) (balance_in m (rows_apart m names) g))))
+      (subst (λ t. t ≤ℚ at_corner (balance_name m)) (low-balance m apart g) (within.low (balance_name m) (balance_in m apart g)))
+      (subst (λ t. at_corner (balance_name m) ≤ℚ t) (high-balance m apart g) (within.high (balance_name m) (balance_in m apart g))))
+
+  abbrev up : Row → Fraction
+  up r = up_by (sign_of (turned (row_name m r))) (turned (row_name m r))
+
+  abbrev down : Row → Fraction
+  down r = down_by (sign_of (turned (row_name m r))) (turned (row_name m r))
 
   left_here : Row → Fraction
-  left_here r = up_by (sign_of (turned (row_name m r))) (turned (row_name m r)) *ℚ (limit m r -ℚ flow m (empty m) r)
-      +ℚ (down_by (sign_of (turned (row_name m r))) (turned (row_name m r)) *ℚ (limit m r +ℚ flow m (empty m) r) +ℚ nil)
+  left_here r = up r *ℚ (most_flow m r -ℚ flow m (empty m) r) +ℚ (down r *ℚ (most_flow m r +ℚ flow m (empty m) r) +ℚ nil)
 
   left_of_row : (r : Row) → Contains (rows m) r → left_of m stuck_duals (empty m) r ≡ kept (is_in g r) (left_here r)
   unfolding left_here
   left_of_row r c =
-      ap (λ most. up_of m stuck_duals r *ℚ (most -ℚ flow m (empty m) r) +ℚ (down_of m stuck_duals r *ℚ (most +ℚ flow m (empty m) r) +ℚ nil)) (hard_most m hard market r)
-      ∙ ap₂ (λ (u d : Fraction). u *ℚ (limit m r -ℚ flow m (empty m) r) +ℚ (d *ℚ (limit m r +ℚ flow m (empty m) r) +ℚ nil))
+      ap₂ (λ (u d : Fraction). u *ℚ (most_flow m r -ℚ flow m (empty m) r) +ℚ (d *ℚ (most_flow m r +ℚ flow m (empty m) r) +ℚ nil))
       (up-made m names turned g r c)
       (down-made m names turned g r c)
       ∙ by (is_in g r)
     where
-      by : (t : Bool) → (if t then up_by (sign_of (turned (row_name m r))) (turned (row_name m r)) else nil) *ℚ (limit m r -ℚ flow m (empty m) r)
-          +ℚ ((if t then down_by (sign_of (turned (row_name m r))) (turned (row_name m r)) else nil) *ℚ (limit m r +ℚ flow m (empty m) r) +ℚ nil)
+      by : (t : Bool) → (if t then up r else nil) *ℚ (most_flow m r -ℚ flow m (empty m) r) +ℚ ((if t then down r else nil) *ℚ (most_flow m r +ℚ flow m (empty m) r) +ℚ nil)
           ≡ kept t (left_here r)
       by true = refl
-      by false = by_ring ring_ℚ (limit m r ∷ flow m (empty m) r ∷ []) (pnil ⊗ (at 0 ⊕ pneg (at 1)) ⊕ (pnil ⊗ (at 0 ⊕ at 1) ⊕ pnil)) pnil refl
+      by false = by_ring ring_ℚ (most_flow m r ∷ flow m (empty m) r ∷ []) (pnil ⊗ (at 0 ⊕ pneg (at 1)) ⊕ (pnil ⊗ (at 0 ⊕ at 1) ⊕ pnil)) pnil refl
 
-  rows_most : sum_by (left_of m stuck_duals (empty m)) (rows m) ≡ sum_by (λ r. turned (row_name m r) *ℚ at_corner (row_name m r)) (in_order m g)
+  -- what the columns of a row make of its multiplier, where it is soft
+  abbrev column_part : Row → Fraction
+  column_part r = turned (over_name m r) *ℚ at_corner (over_name m r) +ℚ turned (under_name m r) *ℚ at_corner (under_name m r)
+
+  columns_most : (r : Row) → Contains (in_order m g) r → up r *ℚ most_excess m r +ℚ down r *ℚ most_excess m r ≡ kept (is_soft m r) (column_part r)
+  columns_most r c = by (is_soft m r) refl
+    where
+      by : (b : Bool) → is_soft m r ≡ b → up r *ℚ most_excess m r +ℚ down r *ℚ most_excess m r ≡ kept b (column_part r)
+      by true e = ap₂ ◌+ℚ◌
+          (ap (λ t. t *ℚ most_excess m r) (up_is_part (turned (row_name m r)) ∙ ap part_above (over_multiplier r c e))
+          ∙ column_most (over_name m r) (over_variable m apart g r c e) (most_excess m r) (low-over m apart g r c e) (high-over m apart g r c e))
+          (ap (λ t. t *ℚ most_excess m r) (down_is_part (turned (row_name m r)) ∙ ap part_above (under_multiplier r c e))
+          ∙ column_most (under_name m r) (under_variable m apart g r c e) (most_excess m r) (low-under m apart g r c e) (high-under m apart g r c e))
+      by false e = ap (λ t. up r *ℚ t +ℚ down r *ℚ t) (hard_stands m market r e) ∙ by_ring ring_ℚ (up r ∷ down r ∷ []) (at 0 ⊗ pnil ⊕ at 1 ⊗ pnil) pnil refl
+
+  rows_most : sum_by (left_of m stuck_duals (empty m)) (rows m) ≡ sum_by (λ r. turned (row_name m r) *ℚ at_corner (row_name m r)) (in_order m g) +ℚ sum_by column_part (soft m (in_order m g))
   unfolding left_here
   rows_most =
       sum_by-members (left_of m stuck_duals (empty m)) (λ r. kept (is_in g r) (left_here r)) (rows m) left_of_row
       ∙ sym (sum_by-filter left_here (is_in g) (rows m))
-      ∙ ap (sum_by left_here) (sym (in_order-filter m names turned g))
-      ∙ sum_by-members left_here (λ r. turned (row_name m r) *ℚ at_corner (row_name m r)) (in_order m g) each
+      ∙ ap (sum_by left_here) (sym (in_order-filter m g))
+      ∙ sum_by-members left_here (λ r. turned (row_name m r) *ℚ at_corner (row_name m r) +ℚ kept (is_soft m r) (column_part r)) (in_order m g) each
+      ∙ sum_by-plus (λ r. turned (row_name m r) *ℚ at_corner (row_name m r)) (λ r. kept (is_soft m r) (column_part r)) (in_order m g)
+      ∙ ap (λ t. sum_by (λ r. turned (row_name m r) *ℚ at_corner (row_name m r)) (in_order m g) +ℚ t) (sym (sum_by-filter column_part (is_soft m) (in_order m g)))
     where
-      each : (r : Row) → Contains (in_order m g) r → left_here r ≡ turned (row_name m r) *ℚ at_corner (row_name m r)
+      each : (r : Row) → Contains (in_order m g) r → left_here r ≡ turned (row_name m r) *ℚ at_corner (row_name m r) +ℚ kept (is_soft m r) (column_part r)
       each r c =
-          let named = row_in m (rows_apart m names) g r c in
-          let low = low-row m (rows_apart m names) g r c in
-          let high = high-row m (rows_apart m names) g r c in
-          row_most (turned (row_name m r)) (limit m r) (flow m (empty m) r) (at_corner (row_name m r))
+          let named = row_in m apart g r c in
+          let low = low-row m apart g r c in
+          let high = high-row m apart g r c in
+          by_ring ring_ℚ (up r ∷ down r ∷ limit m r ∷ most_excess m r ∷ flow m (empty m) r ∷ []) (at 0 ⊗ ((at 2 ⊕ at 3) ⊕ pneg (at 4)) ⊕ (at 1 ⊗ ((at 2 ⊕ at 3) ⊕ at 4) ⊕ pnil))
+          ((at 0 ⊗ (at 2 ⊕ pneg (at 4)) ⊕ (at 1 ⊗ (at 2 ⊕ at 4) ⊕ pnil)) ⊕ (at 0 ⊗ at 3 ⊕ at 1 ⊗ at 3)) refl
+          ∙ ap₂ ◌+ℚ◌
+          (row_most (turned (row_name m r)) (limit m r) (flow m (empty m) r) (at_corner (row_name m r))
           (subst (λ t. t ≤ℚ at_corner (row_name m r)) low (within.low (row_name m r) named))
           (subst (λ t. at_corner (row_name m r) ≤ℚ t) high (within.high (row_name m r) named))
-          (λ t p q. most_at (row_name m r) named t (subst (λ x. x ≤ℚ t) (sym low) p) (subst (λ x. t ≤ℚ x) (sym high) q))
+          (λ t p q. most_at (row_name m r) named t (subst (λ x. x ≤ℚ t) (sym low) p) (subst (λ x. t ≤ℚ x) (sym high) q)))
+          (columns_most r c)
 
-  all_parts : (f : ℕ → Fraction) → sum_by f s.variables ≡ sum_by f (places (length m.blocks)) +ℚ (f (balance_name m) +ℚ sum_by (λ r. f (row_name m r)) (in_order m g))
-  all_parts f = both_parts m (rows_apart m names) g f ∙ ap₂ ◌+ℚ◌ (sum-columns m (in_order m g) f f (λ j lt. refl)) (sum-rows m (in_order m g) f)
+  all_parts : (f : ℕ → Fraction) → sum_by f s.variables
+      ≡ (sum_by f (places (length m.blocks)) +ℚ sum_by (λ r. f (over_name m r) +ℚ f (under_name m r)) (soft m (in_order m g))) +ℚ (f (balance_name m) +ℚ sum_by (λ r. f (row_name m r)) (in_order m g))
+  all_parts f = both_parts m apart g f ∙ ap₂ ◌+ℚ◌ (sum-columns m (in_order m g) f) (sum-rows m (in_order m g) f)
 
   -- the bound of the duals is what the variable leaves of the bound that it violates
   pub stuck_bound : farkas_bound m stuck_duals ≡ margin s h b above
@@ -240,7 +266,8 @@ module _ (m : Parts) (names : NamesApart m) (market : IsMarket m) (hard : HasHar
       let f : ℕ → Fraction = λ w. turned w *ℚ at_corner w in
       farkas_bound-by_parts m stuck_duals
       ∙ ap₂ (λ (x y : Fraction). x +ℚ y) balance_most (ap₂ (λ (x y : Fraction). x +ℚ y) rows_most blocks_most)
-      ∙ by_ring ring_ℚ (f (balance_name m) ∷ sum_by (λ r. f (row_name m r)) (in_order m g) ∷ sum_by f (places (length m.blocks)) ∷ []) (at 0 ⊕ (at 1 ⊕ at 2)) (at 2 ⊕ (at 0 ⊕ at 1)) refl
+      ∙ by_ring ring_ℚ (f (balance_name m) ∷ sum_by (λ r. f (row_name m r)) (in_order m g) ∷ sum_by column_part (soft m (in_order m g)) ∷ sum_by f (places (length m.blocks)) ∷ [])
+      (at 0 ⊕ ((at 1 ⊕ at 2) ⊕ at 3)) ((at 3 ⊕ at 2) ⊕ (at 0 ⊕ at 1)) refl
       ∙ sym (all_parts f)
       ∙ combined_turned (corner s h b above)
       ∙ corner_reaches s h system b stuck.basic above

@@ -1,6 +1,6 @@
 -- A market is a system, with the balance as its one row.
 use Rattle.std.specs.Prelude.{◌≡◌, ◌≢◌, ℕ, ◌+◌, ◌<◌, ◌==◌, pos, Bool, true, false, not, List, [], ◌∷◌, ◌++◌, ◌⊎◌, length, filter, cond, if◌then◌else◌, refl}
-use Rattle.std.specs.List.{AllPairs, Contains}
+use Rattle.std.specs.List.{Contains}
 use mathlib.Core.Path.{ap₂}
 use Rattle.std.proofs.lemmas.List.{append-nil}
 use Rattle.std.proofs.Common.{arith, ap, sym, ◌∙◌, subst, inl, inr}
@@ -12,7 +12,7 @@ use Rattle.fraction_theory.specs.Sums.{sum_by}
 use Rattle.fraction_theory.proofs.Ring.{by_ring, by_ring1, at, pnil, pone, pneg, ◌⊗◌}
 use Rattle.fraction_theory.proofs.FieldLaws.{ring_ℚ}
 use Rattle.fraction_theory.proofs.ListSums.{Contains-head, Contains-cases, same_or_not, filter-members}
-use Rattle.linear_system.specs.Systems.{IsSystem, MeetsRows, activity}
+use Rattle.linear_system.specs.Systems.{IsSystem, MeetsRows, activity, objective}
 use Rattle.linear_system.specs.Choices.{Choice, others, basics, IsChoice, OneExchange}
 use Rattle.linear_system.specs.Exchanges.{exchanged}
 use Rattle.linear_system.proofs.ChoiceLaws.{basics_are, is_basic}
@@ -21,11 +21,12 @@ use Rattle.market_model.specs.declared.participants.Side.{Side}
 use Rattle.market_model.specs.declared.participants.Side.TheVariants.{Sell, Buy}
 use Rattle.market_model.specs.declared.participants.Parts.{Parts}
 use Rattle.market_model.specs.Dispatch.{places, block_at, signed_by_side}
-use Rattle.market_model.specs.declared.limits.Row.{Row}
+use Rattle.market_model.specs.Optimality.{block_value}
 use Rattle.market_system.specs.declared.variables.Variable.TheVariants.{Balance}
-use Rattle.market_system.specs.MarketSystem.{balance_name, row_name, block_sign, system_of}
+use Rattle.market_system.specs.MarketSystem.{balance_name, block_sign, system_of}
 use Rattle.market_model.proofs.MorePlaces.{places_more}
-use Rattle.market_system.proofs.VariableLaws.{row_listed, in_places, from_places, variables_are as listed, rows_are, is_system_over, activity-at}
+use Rattle.market_system.proofs.VariableLaws.{row_listed, in_places, from_places, variables_are as listed, columns_are as columns_listed, rows_are, is_system_over, activity-balance, objective-at}
+use Rattle.market_system.proofs.RowOrder.{AreOrdered}
 
 all_kept : {T : Type 0} (xs : List T) → filter (λ x. true) xs ≡ xs
 all_kept [] = refl
@@ -42,11 +43,21 @@ one_not_nil e = let wrong : pos 1 ≡ pos 0 = ap (λ (f : Fraction). f.num) e in
 
 module _ (m : Parts) where
   -- there are no limit rows
-  pub none_ascend : AllPairs (λ (a b : Row). row_name m a < row_name m b) []
-  none_ascend = λ i j d lt h. absurd (Prim.omega (arith, h))
+  pub none_ordered : AreOrdered m []
+  none_ordered = record { rows = λ r c. absurd (Prim.omega (arith, c.1)); ascend = λ i j d lt h. absurd (Prim.omega (arith, h)) }
+
+  -- the blocks alone are columns
+  pub alone : (system_of m []).variables ≡ places (length m.blocks) ++ balance_name m ∷ []
+  alone = listed m [] ∙ append-nil (places (length m.blocks) ++ balance_name m ∷ [])
+
+  pub columns_are : (system_of m []).columns ≡ places (length m.blocks)
+  columns_are = columns_listed m [] ∙ append-nil (places (length m.blocks))
+
+  pub column_below : (j : ℕ) → Contains (system_of m []).columns j → j < length m.blocks
+  column_below j c = from_places (length m.blocks) j (subst (λ (ws : List ℕ). Contains ws j) columns_are c)
 
   pub variables_are : (system_of m []).variables ≡ places (length m.blocks + 1)
-  variables_are = listed m [] ∙ sym (places_more (length m.blocks))
+  variables_are = alone ∙ sym (places_more (length m.blocks))
 
   pub variable_in : (w : ℕ) → w < length m.blocks + 1 → Contains (system_of m []).variables w
   variable_in w h = subst (λ (ws : List ℕ). Contains ws w) (sym variables_are) (in_places (length m.blocks + 1) w h)
@@ -61,7 +72,7 @@ module _ (m : Parts) where
   block_or_balance w h = elim (same_or_not w (length m.blocks)) [ inl e ↦ inr e | inr n ↦ inl (Prim.omega (arith, h, n)) ]
 
   pub is_system : IsSystem (system_of m [])
-  is_system = is_system_over m [] none_ascend
+  is_system = is_system_over m [] none_ordered
 
   -- what a point raises the balance by
   abbrev pub raised : (ℕ → Fraction) → Fraction
@@ -71,7 +82,11 @@ module _ (m : Parts) where
   balance_row = row_listed m [] Balance (Contains-head Balance [])
 
   pub activity_is : (v : ℕ → Fraction) → activity (system_of m []) v (balance_name m) ≡ raised v
-  activity_is v = activity-at m [] none_ascend v Balance tt
+  activity_is v = activity-balance m [] none_ordered v
+
+  -- and what it is worth
+  pub objective_is : (v : ℕ → Fraction) → objective (system_of m []) v ≡ sum_by (λ j. block_value m j *ℚ v j) (places (length m.blocks))
+  objective_is v = objective-at m [] none_ordered v ∙ ring_ℚ.plus_nil (sum_by (λ j. block_value m j *ℚ v j) (places (length m.blocks)))
 
   pub meets_rows : (v : ℕ → Fraction) → v (balance_name m) ≡ raised v → MeetsRows (system_of m []) v
   meets_rows v e = record { row = λ r c. ap v (the_row r c) ∙ e ∙ sym (activity_is v) ∙ ap (activity (system_of m []) v) (sym (the_row r c)) }
@@ -93,7 +108,7 @@ module _ (m : Parts) where
     pub balance_others : others (system_of m []) (balance_choice high) ≡ places (length m.blocks)
     unfolding others
     balance_others =
-        ap (filter (λ w. not (w == balance_name m))) (listed m [])
+        ap (filter (λ w. not (w == balance_name m))) alone
         ∙ filter-append (λ w. not (w == balance_name m)) (places (length m.blocks)) (balance_name m ∷ [])
         ∙ ap₂ ◌++◌
         (filter-members (λ w. not (w == balance_name m)) (λ w. true) (places (length m.blocks)) (λ w c. ap not (not_balance w (from_places (length m.blocks) w c)))

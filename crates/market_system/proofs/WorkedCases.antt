@@ -1,6 +1,6 @@
 -- The worked cases with limits as whole answers, with their numbers written out: each is right for its market, and the duals of a limit
 -- that no dispatch meets show it.
-use Rattle.std.specs.Prelude.{ℕ, pos, neg_ℤ, List, [], ◌∷◌, Some, None, refl}
+use Rattle.std.specs.Prelude.{ℕ, ◌*◌, ◌^◌, pos, neg_ℤ, List, [], ◌∷◌, Some, None, refl}
 use Rattle.fraction_theory.specs.Divisors.{gcd, gcd_in}
 use Rattle.fraction_theory.specs.Fraction.{Fraction, whole, over, ◌+ℚ◌, ◌*ℚ◌, neg_ℚ}
 use Rattle.fraction_theory.specs.Signs.{sign_of, abs_ℚ}
@@ -27,6 +27,10 @@ mws n = whole (mw n)
 
 abbrev prices : ℕ → Fraction
 prices n = whole (price n)
+
+-- hundredths of a price
+abbrev price_parts : ℕ → Fraction
+price_parts n = whole (pos (n * 10 ^ 4))
 
 abbrev sums : ℕ → Fraction
 sums n = whole (money n)
@@ -62,6 +66,49 @@ limit_40 = record {
 limit_40-right : IsRight shunted limit_40
 unfolding rows line_flow row_offset row_factor injection balance output demand welfare_for congestion_by price_by rent surplus paid pays abs_ℚ sign_of ◌+ℚ◌ ◌*ℚ◌ neg_ℚ over whole gcd gcd_in
 limit_40-right = right_by shunted limit_40 refl refl refl refl
+
+-- ---- limits on branch 2 that give way at 25
+abbrev giving_way : Parts → ℕ → ℕ → Parts
+giving_way m limit excess = record m { lines = line 1 None None 0 ∷ record (line 2 (Some (mw limit)) None 0) { base_price = price 25; base_excess = mw excess } ∷ line 3 None None 0 ∷ [] }
+
+-- limit 40, by up to 10 MW: 5 of these are taken, and the price is paid for the flow
+
+abbrev limit_exceeded : Answer Fraction
+limit_exceeded = record {
+  dispatch = mws 60 ∷ mws 0 ∷ [];
+  duals = up_alone 10 0 25;
+  prices = at_bus (prices 10) (prices 0) (prices 10) ∷ at_bus (prices 10) (price_parts 1250) (price_parts 2250) ∷ at_bus (prices 10) (price_parts 1875) (price_parts 2875) ∷ [];
+  welfare = whole (neg_ℤ (money 725));
+  money = record {
+    units = unit (mws 60) (sums 600) ∷ unit (mws 0) (sums 0) ∷ [];
+    loads = load (mws 0) (sums 0) ∷ load (mws 0) (sums 0) ∷ load (mws 60) (sums 1725) ∷ [];
+    rents = rent_of_second 0 (mws 45) (sums 1125);
+    surplus = sums 1125;
+  };
+}
+
+limit_exceeded-right : IsRight (giving_way shunted 40 10) limit_exceeded
+unfolding rows line_flow row_offset row_factor injection balance output demand welfare_for congestion_by price_by rent surplus paid pays abs_ℚ sign_of ◌+ℚ◌ ◌*ℚ◌ neg_ℚ over whole gcd gcd_in
+limit_exceeded-right = right_by (giving_way shunted 40 10) limit_exceeded refl refl refl refl
+
+-- by up to 3 MW: these are used up, at a price above the penalty
+abbrev excess_used_up : Answer Fraction
+excess_used_up = record {
+  dispatch = mws 56 ∷ mws 4 ∷ [];
+  duals = up_alone 10 0 40;
+  prices = at_bus (prices 10) (prices 0) (prices 10) ∷ at_bus (prices 10) (prices 20) (prices 30) ∷ at_bus (prices 10) (prices 30) (prices 40) ∷ [];
+  welfare = whole (neg_ℤ (money 755));
+  money = record {
+    units = unit (mws 56) (sums 560) ∷ unit (mws 4) (sums 120) ∷ [];
+    loads = load (mws 0) (sums 0) ∷ load (mws 0) (sums 0) ∷ load (mws 60) (sums 2400) ∷ [];
+    rents = rent_of_second 0 (mws 43) (sums 1720);
+    surplus = sums 1720;
+  };
+}
+
+excess_used_up-right : IsRight (giving_way shunted 40 3) excess_used_up
+unfolding rows line_flow row_offset row_factor injection balance output demand welfare_for congestion_by price_by rent surplus paid pays abs_ℚ sign_of ◌+ℚ◌ ◌*ℚ◌ neg_ℚ over whole gcd gcd_in
+excess_used_up-right = right_by (giving_way shunted 40 3) excess_used_up refl refl refl refl
 
 -- ---- a lower side
 abbrev lower_side : Answer Fraction
@@ -185,3 +232,11 @@ limit_10 = record { duals = narrow_duals; bound = whole (neg_ℤ (mw 10)) }
 limit_10-infeasible : IsFarkas narrow limit_10
 unfolding rows line_flow row_offset row_factor injection balance output demand welfare_for congestion_by price_by rent surplus farkas_bound abs_ℚ sign_of ◌+ℚ◌ ◌*ℚ◌ neg_ℚ over whole gcd gcd_in
 limit_10-infeasible = infeasible_by narrow limit_10 refl refl
+
+-- giving way by up to 4 MW: the bound is 8 MW higher
+abbrev limit_14 : Farkas Fraction
+limit_14 = record { duals = narrow_duals; bound = whole (neg_ℤ (mw 2)) }
+
+limit_14-infeasible : IsFarkas (giving_way narrow 10 4) limit_14
+unfolding rows line_flow row_offset row_factor injection balance output demand welfare_for congestion_by price_by rent surplus farkas_bound abs_ℚ sign_of ◌+ℚ◌ ◌*ℚ◌ neg_ℚ over whole gcd gcd_in
+limit_14-infeasible = infeasible_by (giving_way narrow 10 4) limit_14 refl refl

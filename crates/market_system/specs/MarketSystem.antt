@@ -1,8 +1,9 @@
--- A market as a linear system over a list of its limit rows: its blocks are columns, and the balance and the limit rows are rows. The
--- activity of a limit row is what the blocks add to its flow.
+-- A market as a linear system over a list of its limit rows: its blocks are columns, and the balance and the limit rows are rows. A soft
+-- row has two columns more, by which its flow is above its limit or below the opposite of that. The activity of a limit row is what the
+-- blocks add to its flow, less the first and with the second, so that it keeps within the limit.
 -- Source: linear programs with bounded variables (Chvátal, Linear Programming), for the economic dispatch of Wood and
 -- Wollenberg; the form is own.
-use Rattle.std.specs.Prelude.{ℕ, ◌+◌, ◌<◌, pos, Bool, true, false, List, [], ◌∷◌, ◌++◌, ◌==◌, ◌&&◌, ◌||◌, if◌then◌else◌, length, map, filter, Contains}
+use Rattle.std.specs.Prelude.{◌≡◌, ℕ, ◌+◌, ◌*◌, ◌<◌, pos, Bool, true, false, List, [], ◌∷◌, ◌++◌, ◌==◌, ◌&&◌, ◌||◌, if◌then◌else◌, length, map, filter, Contains}
 use Rattle.std.specs.List.{flat_map, position_or_len}
 use Rattle.fraction_theory.specs.Fraction.{Fraction, whole, neg_ℚ, ◌-ℚ◌}
 use Rattle.fraction_theory.specs.Signs.{sign_of}
@@ -18,10 +19,10 @@ use Rattle.market_model.specs.Dispatch.{Dispatch, zero, places, block_at, signed
 use Rattle.market_model.specs.declared.limits.Cause.{Cause}
 use Rattle.market_model.specs.declared.limits.Row.{Row}
 use Rattle.market_model.specs.declared.limits.Cause.TheVariants.{Base, Branch}
-use Rattle.market_model.specs.LimitRows.{rows, row_id, unit_factor, flow, limit}
+use Rattle.market_model.specs.LimitRows.{rows, row_id, unit_factor, flow, limit, penalty, most_excess, is_soft}
 use Rattle.market_model.specs.Optimality.{block_value}
 use Rattle.market_system.specs.declared.variables.Variable.{Variable}
-use Rattle.market_system.specs.declared.variables.Variable.TheVariants.{Block, Balance, Limit}
+use Rattle.market_system.specs.declared.variables.Variable.TheVariants.{Block, Balance, Limit, Over, Under}
 
 -- the balance's name, behind the places of the blocks
 abbrev pub balance_name : Parts → ℕ
@@ -46,9 +47,20 @@ abbrev pub in_order : Parts → List Row → List Row
 in_order m [] = []
 in_order m (t ∷ ts) = filter (is_in (t ∷ ts)) (rows m)
 
--- a row's name: its place among those of the market, behind the blocks and the balance
+-- a row's place among those of the market
+abbrev pub row_place : Parts → Row → ℕ
+row_place m r = position_or_len (same_row r) (rows m)
+
+-- its name: that, behind the blocks and the balance
 abbrev pub row_name : Parts → Row → ℕ
-row_name m r = length m.blocks + 1 + position_or_len (same_row r) (rows m)
+row_name m r = length m.blocks + 1 + row_place m r
+
+-- the names of its columns: two for each row, behind all rows
+abbrev pub over_name : Parts → Row → ℕ
+over_name m r = length m.blocks + 1 + length (rows m) + 2 * row_place m r
+
+abbrev pub under_name : Parts → Row → ℕ
+under_name m r = over_name m r + 1
 
 -- by how much a MW of a block raises the balance
 abbrev pub block_sign : Parts → ℕ → Fraction
@@ -70,57 +82,89 @@ abbrev pub most_added : Parts → Row → Fraction
 most_added m r = limit m r -ℚ flow m (empty m) r
 
 -- ---- what a variable has, by kind
--- Its name: a block's is its place, the balance's is the next, and limit rows follow in the market's order. So names ascend in the order in
--- which sums over variables are added.
+-- Its name: a block's is its place, the balance's is the next, and limit rows follow in the market's order, then the columns of soft rows.
+-- So names ascend in the order in which sums over variables are added.
 abbrev pub name : Parts → Variable → ℕ
 name m (Block j) = j
 name m Balance = balance_name m
 name m (Limit r) = row_name m r
+name m (Over r) = over_name m r
+name m (Under r) = under_name m r
 
--- by how much a MW of a column raises a row; blocks are the columns, and the balance and limit rows the rows
+-- a number at the row itself, and 0 at others
+abbrev pub at_row : Row → Row → Fraction → Fraction
+at_row r s x = if same_row r s then x else zero
+
+-- by how much a MW of a column raises the balance, and a limit row
+abbrev pub balance_coefficient : Parts → Variable → Fraction
+balance_coefficient m (Block j) = block_sign m j
+balance_coefficient m Balance = zero
+balance_coefficient m (Limit s) = zero
+balance_coefficient m (Over s) = zero
+balance_coefficient m (Under s) = zero
+
+abbrev pub limit_coefficient : Parts → Row → Variable → Fraction
+limit_coefficient m r (Block j) = block_coefficient m r j
+limit_coefficient m r Balance = zero
+limit_coefficient m r (Limit s) = zero
+limit_coefficient m r (Over s) = at_row r s (neg_ℚ (whole (pos 1)))
+limit_coefficient m r (Under s) = at_row r s (whole (pos 1))
+
+-- by how much a MW of a column raises a row; the balance and limit rows are the rows
 abbrev pub coefficient : Parts → Variable → Variable → Fraction
-coefficient m Balance (Block j) = block_sign m j
-coefficient m Balance Balance = zero
-coefficient m Balance (Limit s) = zero
-coefficient m (Limit r) (Block j) = block_coefficient m r j
-coefficient m (Limit r) Balance = zero
-coefficient m (Limit r) (Limit s) = zero
-coefficient m (Block k) (Block j) = zero
-coefficient m (Block k) Balance = zero
-coefficient m (Block k) (Limit s) = zero
+coefficient m Balance v = balance_coefficient m v
+coefficient m (Limit r) v = limit_coefficient m r v
+coefficient m (Block k) v = zero
+coefficient m (Over r) v = zero
+coefficient m (Under r) v = zero
 
 -- what a MW of it is worth
 abbrev pub objective_price : Parts → Variable → Fraction
 objective_price m (Block j) = block_value m j
 objective_price m Balance = zero
 objective_price m (Limit r) = zero
+objective_price m (Over r) = neg_ℚ (penalty m r)
+objective_price m (Under r) = neg_ℚ (penalty m r)
 
 -- its bounds
 abbrev pub low : Parts → Variable → Fraction
 low m (Block j) = zero
 low m Balance = residual_demand m
 low m (Limit r) = least_added m r
+low m (Over r) = zero
+low m (Under r) = zero
 
 abbrev pub high : Parts → Variable → Fraction
 high m (Block j) = quantity m j
 high m Balance = residual_demand m
 high m (Limit r) = most_added m r
+high m (Over r) = most_excess m r
+high m (Under r) = most_excess m r
 
 -- ---- the variables over limit rows that are in the market's order
-abbrev pub columns : Parts → List Variable
-columns m = map Block (places (length m.blocks))
+abbrev pub block_columns : Parts → List Variable
+block_columns m = map Block (places (length m.blocks))
+
+-- the columns of the soft rows
+abbrev pub excess_columns : Parts → List Row → List Variable
+excess_columns m rs = flat_map (λ r. Over r ∷ Under r ∷ []) (filter (is_soft m) rs)
+
+abbrev pub columns : Parts → List Row → List Variable
+columns m rs = block_columns m ++ excess_columns m rs
 
 abbrev pub row_variables : List Row → List Variable
 row_variables rs = Balance ∷ map Limit rs
 
 abbrev pub variables : Parts → List Row → List Variable
-variables m rs = columns m ++ row_variables rs
+variables m rs = block_columns m ++ row_variables rs ++ excess_columns m rs
 
 -- what makes a variable one of these
 abbrev pub IsVariableOf : Parts → List Row → Variable → Type 0
 IsVariableOf m rs (Block j) = j < length m.blocks
 IsVariableOf m rs Balance = Unit {0}
 IsVariableOf m rs (Limit r) = Contains rs r
+IsVariableOf m rs (Over r) = Contains rs r × (is_soft m r ≡ true)
+IsVariableOf m rs (Under r) = Contains rs r × (is_soft m r ≡ true)
 
 -- the variable of a name in a list; a name that none of them has stands for the balance, and nothing is asked of it
 abbrev pub named : (Variable → ℕ) → List Variable → ℕ → Variable
@@ -134,7 +178,7 @@ variable_of m rs w = named (name m) (variables m rs) w
 unfoldable pub system_over : Parts → List Row → System
 system_over m rs = record {
   variables = map (name m) (variables m rs);
-  columns = map (name m) (columns m);
+  columns = map (name m) (columns m rs);
   rows = map (name m) (row_variables rs);
   coefficient = λ r j. coefficient m (variable_of m rs r) (variable_of m rs j);
   price = λ j. objective_price m (variable_of m rs j);

@@ -15,13 +15,14 @@ pub fn rows_are_of_the_frame()
     ensures { LawOfTheFrame }
 {}
 
-/// The points of this system are the dispatches that are feasible for these limits.
+/// The points of this system are the dispatches that are feasible for these limits, and a point is worth at most
+/// the welfare of its dispatch.
 pub fn points_are_dispatches()
     ensures { LawOfThePoints }
 {}
 
-/// Where the system is solved, the dispatch is best for these limits, and the duals support it over
-/// all limits of the market.
+/// Where the system is solved, the dispatch is best for these limits, and the duals support it
+/// over these and over all other limits that it keeps.
 pub fn solved_is_supported()
     ensures { LawOfTheSolved }
 {}

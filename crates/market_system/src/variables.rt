@@ -9,6 +9,10 @@ pub enum Variable {
     Block(usize),
     /// What the blocks raise the balance by.
     Balance,
-    /// What the blocks add to the flow of a limit row.
+    /// What the blocks add to the flow of a limit row, less what is above its limit and with what is below.
     Limit(Row),
+    /// By how much the flow of a soft row is above its limit.
+    Over(Row),
+    /// By how much the flow of a soft row is below the opposite of its limit.
+    Under(Row),
 }
