@@ -15,10 +15,9 @@ use Rattle.market_model.specs.declared.participants.Line.{Line}
 use Rattle.market_model.specs.declared.participants.Side.{Side}
 use Rattle.market_model.specs.declared.participants.Side.TheVariants.{Sell, Buy}
 use Rattle.market_model.specs.Dispatch.{places}
-use Rattle.market_model.specs.Lines.{HasHardLimits, IsHard}
 use Rattle.market_model.specs.Market.{HasRoom, IsBlock, IsLine, IsMarket}
 use Rattle.market_model.specs.Stairs.{offered, same_side, stair_in}
-use Rattle.market_model.proofs.HardLimits.{hard_is_hard, hard_is_line}
+use Rattle.market_model.proofs.HardLimits.{hard_is_line}
 use Rattle.case_maker.specs.Rings.{IsRingSize, blocks_of, bus_of, drawn, half_sold, line_of, loss_of, mw, ring_of, shift_of, unit_of}
 use Rattle.case_maker.proofs.DrawLemmas.{drawn-small}
 use Rattle.case_maker.proofs.FactorLemmas.{are-factors, loss-small, shift-small}
@@ -142,8 +141,3 @@ ring-kept n seed few =
 
     room : length (ring_of n seed).units ≡ n → (place : ℕ) (d : unit.Unit) → place < length (ring_of n seed).units → HasRoom (ring_of n seed).blocks place (get_or (ring_of n seed).units place d)
     room units place d lt = subst (HasRoom (ring_of n seed).blocks place) (sym (at-place unit_of n place d (omega (arith, lt, units)))) (unit-room place)
-
--- no limit gives way
-pub ring-hard : (n seed : ℕ) → HasHardLimits (ring_of n seed).lines
-ring-hard n seed =
-    All-places IsHard (λ i. line_of i (drawn seed i)) n (λ i lt. hard_is_hard (i + 1) (Some (mw (drawn seed i).base_limit)) (Some (mw (drawn seed i).post_limit)) (pos 0))

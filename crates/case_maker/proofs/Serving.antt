@@ -23,14 +23,14 @@ use Rattle.market_model.specs.declared.limits.Row.{Row}
 use Rattle.market_model.specs.declared.limits.Cause.TheVariants.{Base, Branch}
 use Rattle.market_model.specs.LimitRows.{flow, limit, limit_under, line_flow, loss_factor, mw_or_zero, row_flow, shift_factor}
 use Rattle.market_model.specs.Optimality.{Feasible}
-use Rattle.market_model.proofs.HardLimits.{hard_most}
+use Rattle.market_model.proofs.Excesses.{within_most}
 use Rattle.market_model.proofs.MarketSums.{balance-by_injections, demand-by_parts, fixed_part, injection-by_parts}
 use Rattle.market_model.proofs.PlainMarkets.{distinct_by_rise}
 use Rattle.market_model.proofs.WholeDispatch.{is_dispatch-by_whole}
 use Rattle.case_maker.specs.Rings.{blocks_of, bus_of, drawn, half_sold, line_of, mw, ring_of, unit_of}
 use Rattle.case_maker.proofs.DrawLemmas.{drawn-small}
 use Rattle.case_maker.proofs.PlaceLists.{All-flat, All-places, Contains-place, at-any, first-of, halves, length-flat, place-below, places-rise, second-of}
-use Rattle.case_maker.proofs.RingMarkets.{ring-hard, ring-kept}
+use Rattle.case_maker.proofs.RingMarkets.{ring-kept}
 use Rattle.case_maker.proofs.RingParts.{bus-at, first-block, second-block, unit-at}
 use Rattle.market_model.specs.Overrun.{Within}
 
@@ -199,5 +199,5 @@ module _ (n seed : ℕ) where
   is-feasible few = record {
     blocks = is-dispatch;
     balanced = in-balance;
-    limits = λ r c. subst (λ most. Within most (flow m serving r)) (sym (hard_most m (ring-hard n seed) (ring-kept n seed few) r)) (within r);
+    limits = λ r c. within_most m (ring-kept n seed few) r (flow m serving r) (within r);
   }

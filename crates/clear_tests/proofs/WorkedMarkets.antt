@@ -10,10 +10,10 @@ use Rattle.market_model.specs.declared.participants.Block.{Block}
 use Rattle.market_model.specs.declared.participants.Line.{Line}
 use Rattle.market_model.specs.declared.participants.Parts.{Parts}
 use Rattle.market_model.specs.declared.participants.Side.TheVariants.{Sell, Buy}
-use Rattle.market_model.specs.Lines.{HasHardLimits, IsHard, hard_line}
+use Rattle.market_model.specs.Lines.{hard_line}
 use Rattle.market_model.specs.Market.{bare_parts, IsMarket, IsBlock, IsLine, HasRoom}
 use Rattle.market_model.specs.Stairs.{stair_in}
-use Rattle.market_model.proofs.HardLimits.{hard_is_hard, hard_is_line}
+use Rattle.market_model.proofs.HardLimits.{hard_is_line}
 use Rattle.limit_rows.proofs.TestMarkets.{losses, one_is_market, shifts}
 
 abbrev bus_of : ℕ → ℕ → ℕ → Bus
@@ -95,11 +95,3 @@ worked_is_market = record {
     rows_differ (suc i) zero d p q e = absurd (Prim.omega (arith, p))
     rows_differ (suc i) (suc zero) d p q e = absurd (Prim.omega (arith, p))
     rows_differ (suc i) (suc (suc j)) d p q e = absurd (Prim.omega (arith, q))
-
-pub worked_is_hard : HasHardLimits worked.lines
-worked_is_hard =
-    All-cons IsHard (line_free 1) (line_limited ∷ line_free 3 ∷ []) (free 1)
-    (All-cons IsHard line_limited (line_free 3 ∷ []) (hard_is_hard 2 (Some (pos 40000000000)) (Some (pos 1000000000000)) (pos 0)) (All-cons IsHard (line_free 3) [] (free 3) (All-nil IsHard)))
-  where
-    free : (row : ℕ) → IsHard (line_free row)
-    free row = hard_is_hard row None None (pos 0)

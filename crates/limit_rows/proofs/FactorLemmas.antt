@@ -1,15 +1,9 @@
 -- Where the lines of rows stand, and the sizes of factors.
-use Rattle.std.specs.Prelude.{◌≡◌, ℕ, ◌*◌, ◌<◌, ◌≤◌, Bool, true, false, if◌then◌else◌, unsigned_abs, ℤ, pos, ◌+ℤ◌, ◌*ℤ◌, List, [], ◌∷◌, map, filter, length, All, Contains, refl}
+use Rattle.std.specs.Prelude.{ℕ, ◌<◌, ◌≤◌, Bool, true, false, if◌then◌else◌, unsigned_abs, List, [], ◌∷◌, map, filter, length, All, Contains}
 use Rattle.std.specs.List.{flat_map}
-use Rattle.std.proofs.Common.{suc, arith, ap, sym, subst, ◌∙◌, get_or}
-use Rattle.std.proofs.Math.Nat.{mul-pos, mul_comm}
+use Rattle.std.proofs.Common.{suc, arith, sym, subst, get_or}
 use Rattle.std.proofs.lemmas.List.FromFn.{length-range_with_len}
 use Rattle.std.proofs.lemmas.List.Elements.{All-append, All-cons, All-filter, All-map, All-nil}
-use Rattle.fraction_theory.specs.Fraction.{Fraction, over, ◌+ℚ◌, ◌*ℚ◌}
-use Rattle.fraction_theory.proofs.Ring.{by_ring, at, padd, pmul}
-use Rattle.fraction_theory.proofs.IntegerLaws.{ring_ℤ}
-use Rattle.fraction_theory.proofs.FractionLaws.{Is, same_value, over_is, plus_is, times_is}
-use Rattle.fraction_theory.proofs.FieldLaws.{over-same, widen, +ℚ_nil}
 use Rattle.market_data.specs.Scales.{most_market_factor}
 use Rattle.market_model.specs.declared.participants.Factor.{Factor}
 use Rattle.market_model.specs.declared.participants.Parts.{Parts}
@@ -18,7 +12,7 @@ use Rattle.market_model.specs.Factors.{factor_in, is_pair}
 use Rattle.market_model.specs.declared.limits.Cause.{Cause}
 use Rattle.market_model.specs.declared.limits.Row.{Row}
 use Rattle.market_model.specs.declared.limits.Cause.TheVariants.{Base, Branch}
-use Rattle.market_model.specs.LimitRows.{bears, causes, lost_lines, place_of_line, rows, rows_of, row_factor}
+use Rattle.market_model.specs.LimitRows.{bears, causes, lost_lines, place_of_line, rows, rows_of}
 use Rattle.market_model.specs.Market.{IsMarket, IsTableFactor}
 use Rattle.market_model.proofs.LostLemmas.{outage_line, place_at}
 

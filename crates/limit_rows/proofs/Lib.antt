@@ -1,4 +1,5 @@
 pub mod GroupLemmas
+pub mod LineLemmas
 pub mod NumberingLemmas
 pub mod ApartLemmas
 pub mod PlaceLemmas

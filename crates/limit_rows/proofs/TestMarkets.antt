@@ -10,8 +10,8 @@ use Rattle.market_model.specs.declared.participants.Factor.{Factor}
 use Rattle.market_model.specs.declared.participants.Line.{Line}
 use Rattle.market_model.specs.declared.participants.Parts.{Parts}
 use Rattle.market_model.specs.Market.{bare_parts, IsMarket, IsLine, IsTableFactor, AreTableFactors}
-use Rattle.market_model.specs.Lines.{hard_line, IsHard, HasHardLimits}
-use Rattle.market_model.proofs.HardLimits.{hard_is_hard, hard_is_line}
+use Rattle.market_model.specs.Lines.{hard_line}
+use Rattle.market_model.proofs.HardLimits.{hard_is_line}
 
 abbrev pub bus_of : ℕ → Bus
 bus_of number = record { number = number; pd = pos 0; gs = pos 0 }
@@ -102,12 +102,6 @@ is_market third outages limit few rows apart = record {
 
     numbers : AllPairs Apart (1 ∷ 2 ∷ 3 ∷ [])
     numbers = three_apart Apart 1 2 3 (λ e. absurd (Prim.omega (arith, e))) (λ e. absurd (Prim.omega (arith, e))) (λ e. absurd (Prim.omega (arith, e)))
-
-pub lines_are_hard : (third : Option ℤ) → HasHardLimits (lines third)
-lines_are_hard third =
-    All-cons IsHard (line_of 1 None None) (line_of 2 (Some (pos 40)) (Some (pos 45)) ∷ line_of 3 None third ∷ []) (hard_is_hard 1 None None (pos 0))
-    (All-cons IsHard (line_of 2 (Some (pos 40)) (Some (pos 45))) (line_of 3 None third ∷ []) (hard_is_hard 2 (Some (pos 40)) (Some (pos 45)) (pos 0))
-    (All-cons IsHard (line_of 3 None third) [] (hard_is_hard 3 None third (pos 0)) (All-nil IsHard)))
 
 pub one_is_market : IsMarket (parts None (1 ∷ []))
 one_is_market = is_market None (1 ∷ []) tt (Prim.omega arith) (All-cons (Contains (1 ∷ 2 ∷ 3 ∷ [])) 1 [] (0, Prim.omega arith, refl) (All-nil (Contains (1 ∷ 2 ∷ 3 ∷ [])))) (one_alone Apart 1)

@@ -13,7 +13,7 @@ use Rattle.fraction_theory.proofs.SignLaws.{abs_above, abs_opposite, abs_within,
 use Rattle.market_model.specs.declared.limits.Row.{Row}
 use Rattle.market_model.specs.declared.participants.Parts.{Parts}
 use Rattle.market_model.specs.Dispatch.{zero, line_at}
-use Rattle.market_model.specs.LimitRows.{is_outage, is_soft, limit, limit_of, mw_or_zero, penalty}
+use Rattle.market_model.specs.LimitRows.{is_outage, is_soft, limit, limit_of, most_excess, most_flow, mw_or_zero, penalty}
 use Rattle.market_model.specs.Market.{IsMarket}
 use Rattle.market_model.specs.Optimality.{SideSupported}
 use Rattle.market_model.specs.Overrun.{excess_by, overrun, Within}
@@ -53,6 +53,19 @@ module _ (m : Parts) (market : IsMarket m) (r : Row) where
 
   pub penalty_least : zero ≤ℚ penalty m r
   penalty_least = whole-≤ℚ (pos 0) _ (penalties m market r).costs
+
+  -- a flow may have at least the limit
+  limit_most : limit m r ≤ℚ most_flow m r
+  limit_most =
+      by_le1 (limit m r ∷ most_excess m r ∷ []) (at 0) (at 0 ⊕ at 1) pone pnil (at 1) NonNeg-one (whole-≤ℚ (pos 0) _ (penalties m market r).exceeds) refl
+
+  -- what is within the limit is within the most that it may be
+  pub within_most : (f : Fraction) → Within (limit m r) f → Within (most_flow m r) f
+  within_most f w = record {
+    above = ≤ℚ_trans (neg_ℚ (most_flow m r)) (neg_ℚ (limit m r)) f
+        (by_le1 (limit m r ∷ most_flow m r ∷ []) (pneg (at 1)) (pneg (at 0)) pone (at 0) (at 1) NonNeg-one limit_most refl) w.above;
+    below = ≤ℚ_trans f (limit m r) (most_flow m r) w.below limit_most;
+  }
 
   -- a limit that does not give way costs nothing
   pub hard_costs_nothing : is_soft m r ≡ false → penalty m r ≡ zero

@@ -194,7 +194,7 @@ fn limited(line: Line, post: bool, mw: i64) -> Line
 
 /// The market of these parts. They are dropped where memory is refused.
 pub fn assemble(alloc: Global, parts: Parts) -> Result<Market, Memory>
-    requires market { IsMarket parts }
+    requires { IsMarket parts }
     ensures { IfOk result (λ m. m ≡ parts) }
 {
     let lines = parts.lines.len();

@@ -4,7 +4,6 @@ use Rattle.std.specs.Int.Signed.{lt_z}
 use Rattle.std.specs.List.{position, slice_get}
 use Rattle.std.specs.Option.{option_map_or}
 use Rattle.std.specs.Ordering.{int_eq}
-use Rattle.market_model.specs.declared.participants.Line.{Line}
 use Rattle.market_model.specs.declared.participants.Parts.{Parts}
 use Rattle.market_model.specs.declared.participants.Side.{Side}
 use Rattle.market_model.specs.Changes.{with_price, with_quantity, with_demand, with_limit}

@@ -1,9 +1,8 @@
 use Rattle.std.proofs.Common.{◌≡◌, ◌*◌, ◌∙◌, ap, sym, subst, IfOk}
 use Rattle.market_model.specs.declared.participants.Parts.{Parts}
-use Rattle.market_model.specs.Lines.{HasHardLimits}
 use Rattle.market_model.specs.Market.{IsMarket}
 use Rattle.case_maker.specs.Rings.{state, with_bus}
-use Rattle.case_maker.proofs.RingMarkets.{ring-hard, ring-kept, size-few}
+use Rattle.case_maker.proofs.RingMarkets.{ring-kept, size-few}
 use Rattle.case_maker.proofs.RingParts.{all-buses, no-bus, one-bus_more}
 use Rattle.case_maker.proofs.rings.ring.Goals as goal
 
@@ -28,10 +27,7 @@ loop-place-preserved c =
 pub assemble-requires : goal.assemble-requires
 assemble-requires c =
     let whole = all-buses c.args.buses c.args.seed c.loop-place.place c.loop-place.parts c.loop-place.auto.place-end c.loop-place-test.false c.loop-place.invariant.parts in
-    record {
-      market = subst IsMarket (sym whole) (ring-kept c.args.buses c.args.seed (size-few c.args.buses c.requires.size));
-      hard = subst (λ (parts : Parts). HasHardLimits parts.lines) (sym whole) (ring-hard c.args.buses c.args.seed);
-    }
+    subst IsMarket (sym whole) (ring-kept c.args.buses c.args.seed (size-few c.args.buses c.requires.size))
 
 pub returns-clause-ring : goal.returns-clause-ring
 returns-clause-ring c =

@@ -6,7 +6,7 @@ use mir.Val.{to_z, of_z}
 use Rattle.fraction_theory.specs.Fraction.{over}
 use Rattle.market_data.specs.Scales.{market_factor_one, most_market_factor}
 use Rattle.market_model.specs.declared.limits.Cause.{Cause}
-use Rattle.market_model.specs.LimitRows.{factor_terms, row_factor, shift_factor}
+use Rattle.market_model.specs.LimitRows.{factor_terms, row_factor}
 use Rattle.market_model.specs.NamedSums.{IsRefusedIn}
 use Rattle.market_model.specs.Valued.{passed_at}
 use Rattle.limit_rows.proofs.FlowSteps.{base_factor, factor_after, factor_refused}

@@ -8,10 +8,10 @@ use Rattle.market_model.specs.declared.participants.Block.{Block}
 use Rattle.market_model.specs.declared.participants.Line.{Line}
 use Rattle.market_model.specs.declared.participants.Parts.{Parts}
 use Rattle.market_model.specs.declared.participants.Side.TheVariants.{Sell, Buy}
-use Rattle.market_model.specs.Lines.{hard_line, IsHard}
+use Rattle.market_model.specs.Lines.{hard_line}
 use Rattle.market_model.specs.Market.{bare_parts, IsMarket, IsBlock, IsLine, HasRoom}
 use Rattle.market_model.specs.Stairs.{stair_in}
-use Rattle.market_model.proofs.HardLimits.{hard_is_hard, hard_is_line}
+use Rattle.market_model.proofs.HardLimits.{hard_is_line}
 use Rattle.offer_book.proofs.tests.edits.market.Goals as goal
 
 abbrev the_bus : Bus
@@ -68,7 +68,4 @@ assemble-requires c =
     let units : c.push-2.new.self ≡ the_unit ∷ [] = rw c.new-units.ensures at c.in_ok-push-2.ensures in
     let blocks : c.push-4.new.self ≡ cheap ∷ dear ∷ [] = rw (c.in_ok-push-3.ensures, c.new-blocks.ensures) at c.in_ok-push-4.ensures in
     let lines : c.push-5.new.self ≡ the_line ∷ [] = rw (c.new-lines.ensures, c.hard.ensures) at c.in_ok-push-5.ensures in
-    record {
-      market = rw (c.bare.ensures, buses, units, blocks, lines) is_market;
-      hard = rw lines (All-cons IsHard the_line [] (hard_is_hard 2 (Some (pos 40000000000)) None (pos 0)) (All-nil IsHard));
-    }
+    rw (c.bare.ensures, buses, units, blocks, lines) is_market
