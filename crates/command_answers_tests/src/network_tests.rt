@@ -162,6 +162,7 @@ fn clears_five_buses(rt: HostRuntime) -> Result<(), Fail> {
         grid,
         offers: OFFERS,
         offsets: b"branch,mw\n".as_slice(),
+        penalties: b"branch,limit,price,excess\n".as_slice(),
     };
     let cleared = clear_told(alloc, &bytes, PostRating::C)?;
     assert_eq!(rt; cleared.status, Status::Done);

@@ -55,6 +55,7 @@ fn tells_of_each_command(rt: HostRuntime) -> Result<(), Fail> {
         grid,
         offers: OFFERS,
         offsets: b"branch,mw\n".as_slice(),
+        penalties: b"branch,limit,price,excess\n".as_slice(),
     };
     let edits = b"op,target,side,block,value\nclear,,,,\n";
     let done = Status::Done;

@@ -6,6 +6,7 @@ use Rattle.command_words.specs.Words.{CheckNames, MarketNames}
 use Rattle.csv_table.specs.Table.{header_line}
 use Rattle.factor_tables.specs.Offsets.{offset_header}
 use Rattle.factor_tables.specs.OutageNumbers.{outage_header}
+use Rattle.factor_tables.specs.Penalties.{penalty_header}
 use Rattle.factor_tables.specs.Tables.{loss_header}
 use Rattle.market_tables.specs.Tables.{EachOf, EachOfGrid, GridTexts, MarketTexts}
 use Rattle.market_tables.specs.declared.GridTables.{GridTables}
@@ -38,6 +39,7 @@ table_sources names = record {
   grid = grid_sources names.tables.grid;
   offers = in_file names.tables.offers;
   offsets = source_of offset_header names.tables.offsets;
+  penalties = source_of penalty_header names.tables.penalties;
 }
 
 -- ---- the texts

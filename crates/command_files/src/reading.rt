@@ -12,7 +12,7 @@ ghost use Rattle.command_files.specs.OnlyReads.{IsSilent, OnlyReads};
 use command_answers::Status;
 use command_words::{CheckNames, MarketNames};
 use csv_table::header_line;
-use factor_tables::{LOSS_HEADER, OFFSET_HEADER, OUTAGE_HEADER};
+use factor_tables::{LOSS_HEADER, OFFSET_HEADER, OUTAGE_HEADER, PENALTY_HEADER};
 use market_inputs::MOST_BYTES;
 use market_tables::{GridTables, MarketTables};
 use outside_store::{ReadStop, Store};
@@ -88,9 +88,11 @@ pub fn read_market<S: Store>(
     let grid = read_grid(alloc, &files.tables.grid, store)?;
     let offers = read_file(alloc, store, files.tables.offers)?;
     let offsets = read_table(alloc, store, files.tables.offsets, OFFSET_HEADER)?;
+    let penalties = read_table(alloc, store, files.tables.penalties, PENALTY_HEADER)?;
     Ok(MarketTables {
         grid,
         offers,
         offsets,
+        penalties,
     })
 }

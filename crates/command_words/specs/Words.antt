@@ -62,9 +62,9 @@ pool_app = with_file (with_file (new_app (codes "pool")) (codes "case")) (codes 
 abbrev pub with_needed : App → App
 with_needed a = with_file (with_file (with_file a (codes "case")) (codes "ptdf")) (codes "offers")
 
--- and where they are named `--lodf FILE`, `--contingencies FILE`, `--offsets FILE` and `--post-rating LETTER`
+-- and where they are named `--lodf FILE`, `--contingencies FILE`, `--offsets FILE`, `--penalties FILE` and `--post-rating LETTER`
 abbrev pub with_market : App → NameList → App
-with_market a ratings = with_rule (with_table (with_table (with_table (with_needed a) (codes "lodf")) (codes "contingencies")) (codes "offsets"))
+with_market a ratings = with_rule (with_table (with_table (with_table (with_table (with_needed a) (codes "lodf")) (codes "contingencies")) (codes "offsets")) (codes "penalties"))
     (choice_rule (codes "post-rating") ratings)
 
 -- `clear` with the files of a market, and where it is named `--certificate FILE`
@@ -168,6 +168,7 @@ market_names rows = record {
     grid = check_names rows;
     offers = file_of (codes "offers") rows;
     offsets = first_of (codes "offsets") rows;
+    penalties = first_of (codes "penalties") rows;
   };
   rating = rating_of rows;
 }
@@ -253,7 +254,7 @@ IsCheckFile names file = (file ≡ names.case) ⊎ (file ≡ names.ptdf) ⊎ (na
 
 -- this is a file of the market of these names
 abbrev pub IsMarketFile : MarketNames → Text → Type 0
-IsMarketFile names file = IsCheckFile names.tables.grid file ⊎ (file ≡ names.tables.offers) ⊎ (names.tables.offsets ≡ Some file)
+IsMarketFile names file = IsCheckFile names.tables.grid file ⊎ (file ≡ names.tables.offers) ⊎ (names.tables.offsets ≡ Some file) ⊎ (names.tables.penalties ≡ Some file)
 
 -- `replay` reads this file, of those of the market and the edits
 abbrev pub IsReplayFile : MarketNames → Text → Text → Type 0

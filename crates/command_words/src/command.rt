@@ -21,6 +21,8 @@ const CONTINGENCIES: &str = "The list of the branches whose loss the market is t
 
 const OFFSETS: &str = "The table of the flows that phase shift angles cause";
 
+const PENALTIES: &str = "The table of the limits that give way, and of what that costs";
+
 const POST_RATING: &str = "The rating of a branch after an outage; c where this is left out";
 
 const EDITS: &str = "The table of edits of the market";
@@ -144,6 +146,7 @@ fn with_market<'a>(
     let command = with_table(alloc, command, "lodf", LODF)?;
     let command = with_table(alloc, command, "contingencies", CONTINGENCIES)?;
     let command = with_table(alloc, command, "offsets", OFFSETS)?;
+    let command = with_table(alloc, command, "penalties", PENALTIES)?;
     command.arg(rating_option(alloc, ratings))
 }
 

@@ -147,6 +147,7 @@ fn market_files<'a>(matches: &ArgMatches<'a>) -> MarketNames<'a>
             grid: check_files(matches),
             offers: named_file(matches, "offers"),
             offsets: named_table(matches, "offsets"),
+            penalties: named_table(matches, "penalties"),
         },
         rating: named_rating(matches),
     }

@@ -5,6 +5,7 @@ use Rattle.market_model.specs.declared.participants.Parts.{Parts}
 use Rattle.net_case.specs.Networks.{LiveNetwork}
 use Rattle.net_case.specs.declared.live_parts.PostRating.{PostRating}
 use Rattle.factor_tables.specs.Offsets.{OffsetEntry}
+use Rattle.factor_tables.specs.Penalties.{PenaltyEntry}
 use Rattle.refusal_text.specs.declared.refusals.Refusal.{Refusal}
 use Rattle.market_inputs.specs.declared.offers.Offered.{Offered}
 use Rattle.market_inputs.specs.declared.stops.InputStop.{InputStop}
@@ -14,7 +15,7 @@ use Rattle.market_inputs.specs.Clearing.{IsClearMarket, market_of}
 use Rattle.market_inputs.specs.Files.{SizedTables}
 use Rattle.market_inputs.specs.Steps.{Is, Then}
 use Rattle.market_inputs.specs.Stops.{IsToldAs}
-use Rattle.market_inputs.specs.Tables.{AreTables, cover_in, offers_in, offsets_in}
+use Rattle.market_inputs.specs.Tables.{AreTables, cover_in, offers_in, offsets_in, penalties_in}
 use Rattle.market_inputs.proofs.StepLemmas.{goes-on, stops}
 
 -- ---- before the tables are read
@@ -23,7 +24,9 @@ module _ (rating : PostRating) (files : SizedTables) where
   in_all = IsClearMarket rating files
 
   abbrev behind_cover : LiveNetwork → Tables → Result Parts Refusal → Type 0
-  behind_cover network tables = Then (Is (offers_in network files.offers)) (λ offered. Then (Is (offsets_in network files.offsets)) (λ moved. Is (Ok (market_of network tables offered moved))))
+  behind_cover network tables = Then (Is (offers_in network files.offers)) (λ offered.
+      Then (Is (offsets_in network files.offsets)) (λ moved.
+      Then (Is (penalties_in network files.penalties)) (λ priced. Is (Ok (market_of network tables offered moved priced)))))
 
   abbrev behind_tables : LiveNetwork → Tables → Result Parts Refusal → Type 0
   behind_tables network tables = Then (Is (cover_in network tables)) (λ _. behind_cover network tables)
@@ -69,12 +72,15 @@ pub record IsCovered (rating : PostRating) (files : SizedTables) (raw : CaseMatr
 
 module _ (rating : PostRating) (files : SizedTables) (raw : CaseMatrices) (network : LiveNetwork) (tables : Tables)
     (covered : IsCovered rating files raw network tables) where
-  -- the market, once the offers and the offsets are read
-  abbrev made : Offered → List OffsetEntry → Result Parts Refusal → Type 0
-  made offered moved = Is (Ok (market_of network tables offered moved))
+  -- the market, once the offers, the offsets and the penalties are read
+  abbrev made : Offered → List OffsetEntry → List PenaltyEntry → Result Parts Refusal → Type 0
+  made offered moved priced = Is (Ok (market_of network tables offered moved priced))
+
+  abbrev behind_offsets : Offered → List OffsetEntry → Result Parts Refusal → Type 0
+  behind_offsets offered moved = Then (Is (penalties_in network files.penalties)) (made offered moved)
 
   abbrev behind_offers : Offered → Result Parts Refusal → Type 0
-  behind_offers offered = Then (Is (offsets_in network files.offsets)) (made offered)
+  behind_offers offered = Then (Is (offsets_in network files.offsets)) (behind_offsets offered)
 
   behind-cover : (out : Result Parts InputStop) → IsToldAs (Then (Is (offers_in network files.offers)) behind_offers) out → IsToldAs (IsClearMarket rating files) out
   behind-cover out rest = goes-on _ _ raw out covered.raw_is (goes-on _ _ network out covered.network_is (goes-on _ _ tables out covered.tables_are (goes-on _ _ tt out covered.covers rest)))
@@ -89,11 +95,21 @@ module _ (rating : PostRating) (files : SizedTables) (raw : CaseMatrices) (netwo
     pub offsets-stop : (r : Result (List OffsetEntry) InputStop) (out : Result Parts InputStop) (e : InputStop) → IsToldAs (Is (offsets_in network files.offsets)) r → r ≡ Err e → out ≡ Err e
         → IsToldAs (IsClearMarket rating files) out
     offsets-stop r out e told is gives =
-        behind-cover out (goes-on (Is (offers_in network files.offers)) behind_offers offered out offered-is (stops (Is (offsets_in network files.offsets)) (made offered) r out e told is gives))
+        behind-cover out (goes-on (Is (offers_in network files.offers)) behind_offers offered out offered-is (stops (Is (offsets_in network files.offsets)) (behind_offsets offered) r out e told is gives))
 
-    -- nothing does
-    pub all-read : (moved : List OffsetEntry) (market : Parts) → offsets_in network files.offsets ≡ Ok moved → market ≡ market_of network tables offered moved
-        → IsClearMarket rating files (Ok market)
-    all-read moved market is same =
-        behind-cover (Ok market) (goes-on (Is (offers_in network files.offers)) behind_offers offered (Ok market) offered-is
-        (goes-on (Is (offsets_in network files.offsets)) (made offered) moved (Ok market) is (ap Ok (sym same))))
+    module _ (moved : List OffsetEntry) (moved-is : offsets_in network files.offsets ≡ Ok moved) where
+      behind-offsets : (out : Result Parts InputStop) → IsToldAs (behind_offsets offered moved) out → IsToldAs (IsClearMarket rating files) out
+      behind-offsets out rest =
+          behind-cover out (goes-on (Is (offers_in network files.offers)) behind_offers offered out offered-is
+          (goes-on (Is (offsets_in network files.offsets)) (behind_offsets offered) moved out moved-is rest))
+
+      -- the penalties do
+      pub penalties-stop : (r : Result (List PenaltyEntry) InputStop) (out : Result Parts InputStop) (e : InputStop) → IsToldAs (Is (penalties_in network files.penalties)) r → r ≡ Err e → out ≡ Err e
+          → IsToldAs (IsClearMarket rating files) out
+      penalties-stop r out e told is gives = behind-offsets out (stops (Is (penalties_in network files.penalties)) (made offered moved) r out e told is gives)
+
+      -- nothing does
+      pub all-read : (priced : List PenaltyEntry) (market : Parts) → penalties_in network files.penalties ≡ Ok priced → market ≡ market_of network tables offered moved priced
+          → IsClearMarket rating files (Ok market)
+      all-read priced market is same =
+          behind-offsets (Ok market) (goes-on (Is (penalties_in network files.penalties)) (made offered moved) priced (Ok market) is (ap Ok (sym same)))

@@ -48,4 +48,5 @@ alike-tables a b h = λ i. record {
   grid = alike-grid a.grid b.grid h.grid i;
   offers = h.offers (refusal.TooLong input.Offers) i;
   offsets = h.offsets (refusal.TooLong input.Offsets) i;
+  penalties = h.penalties (refusal.TooLong input.Penalties) i;
 }

@@ -1,17 +1,17 @@
 -- The markets of files keep what every market keeps.
 use Rattle.std.proofs.Common.{◌≡◌, ◌≢◌, ℕ, ℤ, pos, List, [], ◌∷◌, length, map, get_or, refl, sym, subst, ap, ◌∙◌, arith}
-use Rattle.std.specs.Prelude.{All, AllPairs, Contains, IfSome, Option, Some, None, ◌≤ℤ◌}
+use Rattle.std.specs.Prelude.{unwrap_or, All, AllPairs, Contains, IfSome, Option, Some, None, ◌≤ℤ◌}
+use Rattle.std.proofs.lemmas.Int.{ints}
 use Rattle.std.proofs.lemmas.List.{length-map, get_or-map}
 use Rattle.std.proofs.lemmas.List.Elements.{All-map}
 use Rattle.std.proofs.lemmas.Simd.{map-map}
-use Rattle.market_data.specs.Participants.{IsDatum}
 use Rattle.market_data.specs.declared.participants.Bus.{Bus}
 use Rattle.market_data.specs.declared.participants.Unit as unit
 use Rattle.market_model.specs.declared.participants.Factor.{Factor}
 use Rattle.market_model.specs.declared.participants.Line.{Line}
-use Rattle.market_model.specs.Lines.{HasHardLimits, IsHard}
+use Rattle.market_model.specs.Lines.{IsPenalty}
 use Rattle.market_model.specs.Market.{IsLine, IsMarket, bare_parts}
-use Rattle.market_model.proofs.HardLimits.{hard_is_hard, hard_is_line}
+use Rattle.market_model.proofs.HardLimits.{no_cost}
 use Rattle.market_model.proofs.PlainMarkets.{plain_market, distinct_by_rise}
 use Rattle.net_case.specs.Networks.{LiveNetwork, IsNetwork, IsNetBranch, IsLimit}
 use Rattle.net_case.specs.NetworkReading.{unit_within}
@@ -20,9 +20,11 @@ use Rattle.net_case.specs.declared.live_parts.NetUnit.{NetUnit}
 use Rattle.net_paths.specs.Detours.{IsLiveRow}
 use Rattle.factor_tables.specs.Factors.{factor_at}
 use Rattle.factor_tables.specs.Offsets.{OffsetEntry}
+use Rattle.factor_tables.specs.Penalties.{GivesWay, PenaltyEntry}
+use Rattle.factor_tables.specs.declared.penalty_list.Penalty.{Penalty}
 use Rattle.market_inputs.specs.declared.offers.Offered.{Offered}
 use Rattle.market_inputs.specs.declared.tables.Tables.{Tables}
-use Rattle.market_inputs.specs.Clearing.{AreSmall, line_of, loss_by, market_of, shift_by, market_factor}
+use Rattle.market_inputs.specs.Clearing.{AreSmall, IsTabled, line_of, loss_by, market_of, shift_by, market_factor}
 use Rattle.market_inputs.specs.Pooling.{pool_of}
 use Rattle.market_inputs.specs.Tables.{AreOffered, MayBeLost}
 use Rattle.market_inputs.proofs.FactorLemmas.{factors_by-are}
@@ -58,6 +60,11 @@ pub live-rows : (network : LiveNetwork) (rows : List ℕ) → MayBeLost network 
 live-rows network rows lost i d lt = let o = lost.are.each i d lt in (o.branch, o.live)
 
 -- ---- lines
+-- the penalty of a record, or of nothing
+pub penalty_is : (given : Option Penalty) → IfSome given GivesWay → IsPenalty (unwrap_or given (record { price = pos 0; excess = pos 0 })).price (unwrap_or given (record { price = pos 0; excess = pos 0 })).excess
+penalty_is None h = no_cost
+penalty_is (Some penalty) h = let above = h.costs in record { costs = Prim.grind (arith, ints, above); exceeds = h.exceeds; priced = λ _. h.costs }
+
 not-below : (limit : Option ℤ) → IfSome limit IsLimit → IfSome limit (λ mw. pos 0 ≤ℤ mw)
 not-below None h = tt
 not-below (Some mw) h = h.least
@@ -65,48 +72,49 @@ not-below (Some mw) h = h.least
 Contains-map : {X Y : Type 0} (f : X → Y) (xs : List X) (x : X) → Contains xs x → Contains (map f xs) (f x)
 Contains-map f xs x (k, lt, e) = (k, omega (arith, lt, length-map xs f), get_or-map f xs k x (f x) lt ∙ ap f e)
 
-module _ (network : LiveNetwork) (offsets : List OffsetEntry) (net : IsNetwork network) where
+module _ (network : LiveNetwork) (offsets : List OffsetEntry) (penalties : List PenaltyEntry) (net : IsNetwork network) where
   abbrev lines : List Line
-  lines = map (line_of offsets) network.branches
+  lines = map (line_of offsets penalties) network.branches
 
   abbrev branch_rows : List ℕ
   branch_rows = map (λ (b : NetBranch). b.row) network.branches
 
   line-rows : map (λ (l : Line). l.row) lines ≡ branch_rows
-  line-rows = map-map (λ (l : Line). l.row) (line_of offsets) network.branches
+  line-rows = map-map (λ (l : Line). l.row) (line_of offsets penalties) network.branches
 
-  are-lines : All (λ (l : Line). IsDatum l.offset) lines → All IsLine lines
-  are-lines data_of = All-map IsLine (line_of offsets) network.branches each
+  are-lines : All IsTabled lines → All IsLine lines
+  are-lines tabled = All-map IsLine (line_of offsets penalties) network.branches each
     where
-      each : All (λ (b : NetBranch). IsLine (line_of offsets b)) network.branches
+      each : All (λ (b : NetBranch). IsLine (line_of offsets penalties b)) network.branches
       each i d lt =
           let b : NetBranch = get_or network.branches i d in
           let is : IsNetBranch (length network.buses) b = net.branches i d lt in
           let row : get_or branch_rows i d.row ≡ b.row = get_or-map (λ (x : NetBranch). x.row) network.branches i d d.row lt in
           let range = net.rows_of_branches.range i d.row (omega (arith, lt, length-map network.branches (λ (x : NetBranch). x.row))) in
-          let there : get_or lines i (line_of offsets d) ≡ line_of offsets b = get_or-map (line_of offsets) network.branches i d (line_of offsets d) lt in
-          let offset : IsDatum (line_of offsets b).offset = subst (λ (l : Line). IsDatum l.offset) there (data_of i (line_of offsets d) (omega (arith, lt, length-map network.branches (line_of offsets)))) in
-          hard_is_line b.row b.base b.post (line_of offsets b).offset (omega (arith, range.0, row)) (not-below b.base is.base) (not-below b.post is.post) offset
-
--- no limit of them gives way
-pub lines-hard : (network : LiveNetwork) (offsets : List OffsetEntry) → HasHardLimits (map (line_of offsets) network.branches)
-lines-hard network offsets =
-    All-map IsHard (line_of offsets) network.branches
-    (λ i d lt. let b : NetBranch = get_or network.branches i d in hard_is_hard b.row b.base b.post (line_of offsets b).offset)
+          let there : get_or lines i (line_of offsets penalties d) ≡ line_of offsets penalties b = get_or-map (line_of offsets penalties) network.branches i d (line_of offsets penalties d) lt in
+          let given : IsTabled (line_of offsets penalties b) = subst IsTabled there (tabled i (line_of offsets penalties d) (omega (arith, lt, length-map network.branches (line_of offsets penalties)))) in
+          record {
+            row = omega (arith, range.0, row);
+            base = not-below b.base is.base;
+            post = not-below b.post is.post;
+            base_penalty = given.base;
+            post_penalty = given.post;
+            offset = given.offset;
+          }
 
 -- ---- the market with limits
 -- parts whose lists are those of a network are its market
-pub market-is : (network : LiveNetwork) (tables : Tables) (offered : Offered) (offsets : List OffsetEntry) (branches : List NetBranch) (buses whole : List Bus) (lines : List Line) (shift loss : List Factor)
-    → branches ≡ network.branches → buses ≡ network.buses → whole ≡ network.buses → lines ≡ map (line_of offsets) branches → shift ≡ shift_by tables.shift branches buses → loss ≡ loss_by tables.loss branches
-    → record (bare_parts whole offered.units offered.blocks) { lines = lines; outages = tables.outages; shift = shift; loss = loss } ≡ market_of network tables offered offsets
-market-is network tables offered offsets branches buses whole lines shift loss branches_are buses_are whole_is lines_are shift_is loss_is = rw (whole_is, lines_are, shift_is, loss_is, branches_are, buses_are) refl
+pub market-is : (network : LiveNetwork) (tables : Tables) (offered : Offered) (offsets : List OffsetEntry) (penalties : List PenaltyEntry) (branches : List NetBranch) (buses whole : List Bus) (lines : List Line) (shift loss : List Factor)
+    → branches ≡ network.branches → buses ≡ network.buses → whole ≡ network.buses → lines ≡ map (line_of offsets penalties) branches → shift ≡ shift_by tables.shift branches buses → loss ≡ loss_by tables.loss branches
+    → record (bare_parts whole offered.units offered.blocks) { lines = lines; outages = tables.outages; shift = shift; loss = loss } ≡ market_of network tables offered offsets penalties
+market-is network tables offered offsets penalties branches buses whole lines shift loss branches_are buses_are whole_is lines_are shift_is loss_is = rw (whole_is, lines_are, shift_is, loss_is, branches_are, buses_are) refl
 
-pub clear-market : (network : LiveNetwork) (tables : Tables) (offered : Offered) (offsets : List OffsetEntry) → IsNetwork network → MayBeLost network tables.outages → AreOffered network offered
-    → All (λ (l : Line). IsDatum l.offset) (map (line_of offsets) network.branches) → AreSmall (shift_by tables.shift network.branches network.buses) → AreSmall (loss_by tables.loss network.branches)
-    → IsMarket (market_of network tables offered offsets)
-clear-market network tables offered offsets net lost given data_of small_shift small_loss =
-    let count : length (map (line_of offsets) network.branches) ≡ length network.branches = length-map network.branches (line_of offsets) in
-    let rows : map (λ (l : Line). l.row) (map (line_of offsets) network.branches) ≡ map (λ (b : NetBranch). b.row) network.branches = line-rows network offsets net in
+pub clear-market : (network : LiveNetwork) (tables : Tables) (offered : Offered) (offsets : List OffsetEntry) (penalties : List PenaltyEntry) → IsNetwork network → MayBeLost network tables.outages → AreOffered network offered
+    → All IsTabled (map (line_of offsets penalties) network.branches) → AreSmall (shift_by tables.shift network.branches network.buses) → AreSmall (loss_by tables.loss network.branches)
+    → IsMarket (market_of network tables offered offsets penalties)
+clear-market network tables offered offsets penalties net lost given tabled small_shift small_loss =
+    let count : length (map (line_of offsets penalties) network.branches) ≡ length network.branches = length-map network.branches (line_of offsets penalties) in
+    let rows : map (λ (l : Line). l.row) (map (line_of offsets penalties) network.branches) ≡ map (λ (b : NetBranch). b.row) network.branches = line-rows network offsets penalties net in
     record {
       bus_count = net.bus_count;
       unit_count = given.count;
@@ -119,7 +127,7 @@ clear-market network tables offered offsets net lost given data_of small_shift s
       unit_rows = rows-distinct network offered net given;
       blocks = given.blocks.blocks;
       room = given.room;
-      lines = are-lines network offsets net data_of;
+      lines = are-lines network offsets penalties net tabled;
       line_rows = subst (AllPairs (λ a b. a ≢ b)) (sym rows) (distinct_by_rise (map (λ (b : NetBranch). b.row) network.branches) net.rows_of_branches.rise);
       outages = subst (λ rs. All (Contains rs) tables.outages) (sym rows) (λ i d lt.
           let o = lost.are.each i d lt in

@@ -1,7 +1,8 @@
 -- What the bytes of the files of a clear stand for.
-use Rattle.std.specs.Prelude.{ℕ, ◌≤◌, ◌==◌, ℤ, pos, ◌*ℤ◌, List, [], ◌∷◌, All, map, unwrap_or, unsigned_abs, if◌then◌else◌, Result, Ok}
+use Rattle.std.specs.Prelude.{true, false, Bool, ℕ, ◌≤◌, ◌==◌, ℤ, pos, ◌*ℤ◌, List, [], ◌∷◌, All, map, unwrap_or, unsigned_abs, if◌then◌else◌, Result, Ok}
 use Rattle.std.specs.List.{enumerate_from, flat_map}
 use Rattle.market_data.specs.declared.participants.Bus.{Bus}
+use Rattle.market_data.specs.Participants.{IsDatum}
 use Rattle.market_data.specs.Scales.{factor_step, most_market_factor}
 use Rattle.market_model.specs.declared.participants.Factor.{Factor}
 use Rattle.market_model.specs.declared.participants.Line.{Line}
@@ -12,19 +13,40 @@ use Rattle.net_case.specs.declared.live_parts.NetBranch.{NetBranch}
 use Rattle.net_case.specs.declared.live_parts.PostRating.{PostRating}
 use Rattle.factor_tables.specs.Factors.{Entry, factor_at}
 use Rattle.factor_tables.specs.Offsets.{OffsetEntry, offset_at}
+use Rattle.factor_tables.specs.Penalties.{PenaltyEntry, penalty_at}
+use Rattle.factor_tables.specs.declared.penalty_list.Penalty.{Penalty}
 use Rattle.refusal_text.specs.declared.refusals.Refusal.{Refusal}
 use Rattle.market_inputs.specs.declared.offers.Offered.{Offered}
 use Rattle.market_inputs.specs.declared.tables.Tables.{Tables}
 use Rattle.market_inputs.specs.Cases.{IsJoinedNetwork, matrices_in}
 use Rattle.market_inputs.specs.Files.{SizedTables}
 use Rattle.market_inputs.specs.Steps.{Is, Then}
-use Rattle.market_inputs.specs.Tables.{AreTables, cover_in, offers_in, offsets_in}
-use Rattle.market_model.specs.Lines.{hard_line}
+use Rattle.market_inputs.specs.Tables.{AreTables, cover_in, offers_in, offsets_in, penalties_in}
+use Rattle.market_model.specs.Lines.{IsPenalty}
 
 -- ---- lines
--- a live branch with its limits, and the offset of its record or 0
-abbrev pub line_of : List OffsetEntry → NetBranch → Line
-line_of offsets branch = hard_line branch.row branch.base branch.post (unwrap_or (offset_at offsets branch.row) (pos 0))
+-- the penalty of the record of a branch's limit, after an outage or in the base; one of nothing where it has none
+abbrev pub penalty_for : List PenaltyEntry → ℕ → Bool → Penalty
+penalty_for penalties row post = unwrap_or (penalty_at penalties (row, post)) (record { price = pos 0; excess = pos 0 })
+
+-- a live branch with its limits and their penalties, and the offset of its record or 0
+abbrev pub line_of : List OffsetEntry → List PenaltyEntry → NetBranch → Line
+line_of offsets penalties branch = record {
+  row = branch.row;
+  base = branch.base;
+  post = branch.post;
+  base_price = (penalty_for penalties branch.row false).price;
+  base_excess = (penalty_for penalties branch.row false).excess;
+  post_price = (penalty_for penalties branch.row true).price;
+  post_excess = (penalty_for penalties branch.row true).excess;
+  offset = unwrap_or (offset_at offsets branch.row) (pos 0);
+}
+
+-- what tables give to a line is as every line of a market has it
+pub record IsTabled (line : Line) : Type 0 where
+  pub base : IsPenalty line.base_price line.base_excess
+  pub post : IsPenalty line.post_price line.post_excess
+  pub offset : IsDatum line.offset
 
 -- ---- factors
 -- a factor, where it is not 0
@@ -60,17 +82,17 @@ abbrev pub AreSmall : List Factor → Type 0
 AreSmall factors = All (λ factor. unsigned_abs factor.value ≤ most_market_factor) factors
 
 -- ---- the market
--- the market of a network with its tables, its offers and its offsets
-abbrev pub market_of : LiveNetwork → Tables → Offered → List OffsetEntry → Parts
-market_of network tables offered offsets = record (bare_parts network.buses offered.units offered.blocks) {
-  lines = map (line_of offsets) network.branches;
+-- the market of a network with its tables, its offers, its offsets and its penalties
+abbrev pub market_of : LiveNetwork → Tables → Offered → List OffsetEntry → List PenaltyEntry → Parts
+market_of network tables offered offsets penalties = record (bare_parts network.buses offered.units offered.blocks) {
+  lines = map (line_of offsets penalties) network.branches;
   outages = tables.outages;
   shift = shift_by tables.shift network.branches network.buses;
   loss = loss_by tables.loss network.branches;
 }
 
 -- What the bytes of the files of a clear stand for, or the first fault. The case comes first, then the three tables and what they
--- lack, the offers and the offsets.
+-- lack, the offers, the offsets and the penalties.
 abbrev pub IsClearMarket : PostRating → SizedTables → Result Parts Refusal → Type 0
 IsClearMarket rating files told =
     Then (Is (matrices_in files.grid.case)) (λ matrices.
@@ -79,4 +101,5 @@ IsClearMarket rating files told =
     Then (Is (cover_in network tables)) (λ _.
     Then (Is (offers_in network files.offers)) (λ offered.
     Then (Is (offsets_in network files.offsets)) (λ moved.
-    Is (Ok (market_of network tables offered moved)))))))) told
+    Then (Is (penalties_in network files.penalties)) (λ priced.
+    Is (Ok (market_of network tables offered moved priced))))))))) told

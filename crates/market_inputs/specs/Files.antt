@@ -35,4 +35,5 @@ sized_tables texts = record {
   grid = sized_grid texts.grid;
   offers = sized (refusal.TooLong input.Offers) texts.offers;
   offsets = sized (refusal.TooLong input.Offsets) texts.offsets;
+  penalties = sized (refusal.TooLong input.Penalties) texts.penalties;
 }

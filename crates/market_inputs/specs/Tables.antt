@@ -10,6 +10,7 @@ use Rattle.factor_tables.specs.Covering.{cover_of}
 use Rattle.factor_tables.specs.Factors.{Entry}
 use Rattle.factor_tables.specs.Offsets.{OffsetEntry, offsets_of}
 use Rattle.factor_tables.specs.OutageNumbers.{outage_rows_of}
+use Rattle.factor_tables.specs.Penalties.{PenaltyEntry, penalties_of}
 use Rattle.factor_tables.specs.Tables.{shift_of, loss_of}
 use Rattle.outage_list.specs.Listing.{AreOutages, IsListed}
 use Rattle.outage_list.specs.declared.listing.OutageFault.{OutageFault}
@@ -61,7 +62,7 @@ AreTables network grid told =
 abbrev pub cover_in : LiveNetwork → Tables → Result (Unit {0}) Refusal
 cover_in network tables = or_as refusal.Uncovered (cover_of network tables.shift tables.loss tables.outages)
 
--- ---- the tables of offers and of offsets
+-- ---- the tables of offers, of offsets and of penalties
 -- the units of a network, and their blocks
 abbrev pub offers_in : LiveNetwork → Result (List ℕ) Refusal → Result Offered Refusal
 offers_in network bytes =
@@ -79,3 +80,6 @@ pub record AreOffered (network : LiveNetwork) (offered : Offered) : Type 0 where
 
 abbrev pub offsets_in : LiveNetwork → Result (List ℕ) Refusal → Result (List OffsetEntry) Refusal
 offsets_in network bytes = and_then bytes (λ text. or_as (refusal.Table input.Offsets) (offsets_of network text))
+
+abbrev pub penalties_in : LiveNetwork → Result (List ℕ) Refusal → Result (List PenaltyEntry) Refusal
+penalties_in network bytes = and_then bytes (λ text. or_as (refusal.Table input.Penalties) (penalties_of network text))

@@ -1,4 +1,4 @@
-//! The market of a case with its tables, its offers and its offsets.
+//! The market of a case with its tables, its offers, its offsets and its penalties.
 
 ghost use Rattle.std.specs.Prelude.{◌≡◌, IfOk};
 ghost use Rattle.market_model.specs.Market.{IsMarket};
@@ -13,8 +13,8 @@ use crate::cases::{case_matrices, joined_network};
 use crate::limits::{factors_of, lines_of};
 use crate::offers::{Offered, offer_table};
 use crate::stops::InputStop;
-use crate::tables::{Tables, check_cover, offset_table, read_tables};
-use factor_tables::Offsets;
+use crate::tables::{Tables, check_cover, offset_table, penalty_table, read_tables};
+use factor_tables::{Offsets, Penalties};
 use market_model::{Market, Memory, Parts, assemble};
 use market_tables::MarketTables;
 use net_case::{Network, PostRating};
@@ -27,15 +27,16 @@ fn limited_parts(
     tables: Tables,
     offered: Offered,
     offsets: &Offsets,
+    penalties: &Penalties,
 ) -> Result<Parts, Memory>
     requires network { IsNetwork network }
     requires outages { MayBeLost network tables.outages }
     requires offered { AreOffered network offered }
     ensures kept { IfOk result IsMarket }
-    ensures is { IfOk result (λ parts. parts ≡ market_of network tables offered offsets.now) }
+    ensures is { IfOk result (λ parts. parts ≡ market_of network tables offered offsets.now penalties.now) }
 {
     let branches = network.branches().slice();
-    let lines = lines_of(alloc, branches, offsets)?;
+    let lines = lines_of(alloc, branches, offsets, penalties)?;
     let shift = factors_of(alloc, branches, network.buses().slice(), &tables.shift)?;
     let loss = factors_of(alloc, branches, branches, &tables.loss)?;
     Ok(Parts {
@@ -49,10 +50,10 @@ fn limited_parts(
     })
 }
 
-/// The market of a case with its tables, its offers and its offsets, of the whole bytes of these. The limits after an outage are of the
-/// rating that is asked for.
+/// The market of a case with its tables, its offers, its offsets and its penalties, of the whole bytes of these. The limits after an
+/// outage are of the rating that is asked for.
 ///
-/// The whole case is read first, then the tables of factors, the outages, the offers and the offsets.
+/// The whole case is read first, then the tables of factors, the outages, the offers, the offsets and the penalties.
 pub fn clear_market(
     alloc: Global,
     bytes: &MarketTables<&[u8]>,
@@ -67,6 +68,7 @@ pub fn clear_market(
     check_cover(&network, &tables)?;
     let offered = offer_table(alloc, &network, bytes.offers)?;
     let offsets = offset_table(alloc, &network, bytes.offsets)?;
-    let parts = limited_parts(alloc, network, tables, offered, &offsets)?;
+    let penalties = penalty_table(alloc, &network, bytes.penalties)?;
+    let parts = limited_parts(alloc, network, tables, offered, &offsets, &penalties)?;
     Ok(assemble(alloc, parts)?)
 }

@@ -1,24 +1,46 @@
 //! The lines of a network, and their factors.
 
 ghost use Rattle.std.specs.Prelude.{◌≡◌, ℕ, ◌++◌, ◌≤◌, All, IfOk, map, unsigned_abs};
-ghost use Rattle.market_data.specs.Participants.{IsDatum};
 ghost use Rattle.market_data.specs.Scales.{most_factor, most_market_factor};
 ghost use Rattle.factor_tables.specs.Factors.{factor_at};
-ghost use Rattle.market_inputs.specs.Clearing.{AreSmall, factors_of_line, line_of, market_factor, named_factors, unless_0};
+ghost use Rattle.market_model.specs.Lines.{IsPenalty};
+ghost use Rattle.market_inputs.specs.Clearing.{AreSmall, IsTabled, factors_of_line, line_of, penalty_for, market_factor, named_factors, unless_0};
 
-use factor_tables::{ByBus, ByOutage, FactorTable, Offsets, TableKind};
+use factor_tables::{ByBus, ByOutage, FactorTable, Offsets, Penalties, Penalty, TableKind};
 use market_data::FACTOR_STEP;
 use market_model::{Bus, Factor, Line, List, Memory};
 use net_case::NetBranch;
 use std::alloc::Global;
 
-/// A live branch as a line.
-fn line_of(branch: &NetBranch, offsets: &Offsets) -> Line
-    ensures datum { IsDatum result.offset }
-    ensures is { result ≡ line_of offsets.now branch.now }
+/// The penalty of a branch's limit, after an outage or in the base; one of nothing where it has no record.
+#[tactic(auto, using(crate::proofs::MarketLemmas::penalty_is))]
+fn penalty_for(penalties: &Penalties, row: u32, post: bool) -> Penalty
+    ensures penalty { IsPenalty result.price result.excess }
+    ensures is { result ≡ penalty_for penalties.now row post }
 {
-    let offset = offsets.offset(branch.row).unwrap_or(0);
-    Line::hard(branch.row, branch.base, branch.post, offset)
+    penalties.penalty(row, post).unwrap_or(Penalty {
+        price: 0,
+        excess: 0,
+    })
+}
+
+/// A live branch as a line.
+fn line_of(branch: &NetBranch, offsets: &Offsets, penalties: &Penalties) -> Line
+    ensures tabled { IsTabled result }
+    ensures is { result ≡ line_of offsets.now penalties.now branch.now }
+{
+    let base = penalty_for(penalties, branch.row, false);
+    let post = penalty_for(penalties, branch.row, true);
+    Line {
+        row: branch.row,
+        base: branch.base,
+        post: branch.post,
+        base_price: base.price,
+        base_excess: base.excess,
+        post_price: post.price,
+        post_excess: post.excess,
+        offset: offsets.offset(branch.row).unwrap_or(0),
+    }
 }
 
 /// The lines of live branches.
@@ -26,13 +48,14 @@ pub(crate) fn lines_of(
     alloc: Global,
     branches: &[NetBranch],
     offsets: &Offsets,
+    penalties: &Penalties,
 ) -> Result<List<Line>, Memory>
-    ensures data { IfOk result (All (λ line. IsDatum line.offset)) }
-    ensures are { IfOk result (λ lines. lines ≡ map (line_of offsets.now) branches.now) }
+    ensures tabled { IfOk result (All IsTabled) }
+    ensures are { IfOk result (λ lines. lines ≡ map (line_of offsets.now penalties.now) branches.now) }
 {
     let mut lines = List::new(alloc);
     for branch in branches {
-        lines.push(line_of(branch, offsets))?;
+        lines.push(line_of(branch, offsets, penalties))?;
     }
     Ok(lines)
 }

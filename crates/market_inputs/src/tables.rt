@@ -8,11 +8,14 @@ ghost use Rattle.market_tables.specs.Tables.{grid_lent};
 ghost use Rattle.market_inputs.specs.Files.{sized, sized_grid};
 ghost use Rattle.market_inputs.specs.Steps.{Is};
 ghost use Rattle.market_inputs.specs.Stops.{IsToldAs};
-ghost use Rattle.market_inputs.specs.Tables.{AreOutagesIn, AreTables, MayBeLost, cover_in, loss_in, numbers_in, offsets_in, shift_in};
+ghost use Rattle.market_inputs.specs.Tables.{AreOutagesIn, AreTables, MayBeLost, cover_in, loss_in, numbers_in, offsets_in, penalties_in, shift_in};
 
 use crate::lengths::check_length;
 use crate::stops::{InputStop, table_stop};
-use factor_tables::{Loss, Offsets, OutageRows, Shift, cover, offsets, outage, outage_rows, shift};
+use factor_tables::{
+    Loss, Offsets, OutageRows, Penalties, Shift, cover, offsets, outage, outage_rows, penalties,
+    shift,
+};
 use market_tables::GridTables;
 use net_case::Network;
 use outage_list::{Outages, listed};
@@ -111,5 +114,20 @@ pub(crate) fn offset_table(
     match offsets(alloc, network, bytes) {
         Ok(offsets) => Ok(offsets),
         Err(fault) => Err(table_stop(Input::Offsets, fault)),
+    }
+}
+
+/// The penalties of a table.
+pub(crate) fn penalty_table(
+    alloc: Global,
+    network: &Network,
+    bytes: &[u8],
+) -> Result<Penalties, InputStop>
+    ensures { IsToldAs (Is (penalties_in network.now (sized (refusal.TooLong input.Penalties) bytes.now))) result }
+{
+    check_length(bytes, Input::Penalties)?;
+    match penalties(alloc, network, bytes) {
+        Ok(penalties) => Ok(penalties),
+        Err(fault) => Err(table_stop(Input::Penalties, fault)),
     }
 }

@@ -19,6 +19,7 @@ module _ {T U : Type 0} (R : T → U → Type 0) (once : (t : T) (x y : U) → R
     grid = same-grid a.grid b.grid c.grid h.grid k.grid i;
     offers = once a.offers b.offers c.offers h.offers k.offers i;
     offsets = once a.offsets b.offsets c.offsets h.offsets k.offsets i;
+    penalties = once a.penalties b.penalties c.penalties h.penalties k.penalties i;
   }
 
 -- ---- what stands for each table, where something does
@@ -51,8 +52,9 @@ module _ {T U V : Type 0} (R : T → U → Type 0) (P : T → V → Type 0) (Q :
       let grid = found-grid a.grid b.grid h.grid in
       let offers = one a.offers b.offers h.offers in
       let offsets = one a.offsets b.offsets h.offsets in
+      let penalties = one a.penalties b.penalties h.penalties in
       record {
-        found = record { grid = grid.found; offers = offers.0; offsets = offsets.0 };
-        first = record { grid = grid.first; offers = offers.1; offsets = offsets.1 };
-        second = record { grid = grid.second; offers = offers.2; offsets = offsets.2 };
+        found = record { grid = grid.found; offers = offers.0; offsets = offsets.0; penalties = penalties.0 };
+        first = record { grid = grid.first; offers = offers.1; offsets = offsets.1; penalties = penalties.1 };
+        second = record { grid = grid.second; offers = offers.2; offsets = offsets.2; penalties = penalties.2 };
       }

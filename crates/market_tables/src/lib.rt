@@ -23,6 +23,8 @@ pub struct MarketTables<T, O = T> {
     pub offers: T,
     /// The flows that phase shift angles cause.
     pub offsets: O,
+    /// What limits give way for.
+    pub penalties: O,
 }
 
 impl GridTables<Vec<u8>> {
@@ -48,6 +50,7 @@ impl MarketTables<Vec<u8>> {
             grid: self.grid.as_slices(),
             offers: self.offers.as_slice(),
             offsets: self.offsets.as_slice(),
+            penalties: self.penalties.as_slice(),
         }
     }
 }

@@ -136,6 +136,7 @@ input_name input.Lodf = codes "lodf "
 input_name input.Contingencies = codes "contingencies "
 input_name input.Offers = codes "offers "
 input_name input.Offsets = codes "offsets "
+input_name input.Penalties = codes "penalties "
 input_name input.Edits = codes "edits "
 input_name input.Certificate = codes "certificate "
 

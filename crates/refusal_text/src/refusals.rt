@@ -29,6 +29,8 @@ pub enum Input {
     Offers,
     /// The table of offsets.
     Offsets,
+    /// The table of penalties.
+    Penalties,
     /// The table of edits and clears.
     Edits,
     /// What shows that a clear came to what it did.
@@ -304,6 +306,7 @@ fn input_word(input: Input) -> &'static [u8]
         Input::Contingencies => b"contingencies ",
         Input::Offers => b"offers ",
         Input::Offsets => b"offsets ",
+        Input::Penalties => b"penalties ",
         Input::Edits => b"edits ",
         Input::Certificate => b"certificate ",
     }

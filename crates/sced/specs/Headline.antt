@@ -113,7 +113,8 @@ pub data BeginsWith (words : List (List ℕ)) (files : Files) (text : List ℕ) 
       → IsReplay most_size start [] (take k steps) (take k outcomes) taken → BeginsWith words files text m k taken
 
 -- ---- cleared
--- within the offers, in balance, and within every limit of the base and after every listed outage; and no dispatch that is so is worth more
+-- within the offers, in balance, and within every limit of the base and after every listed outage, up to its excess, whose penalty the welfare
+-- bears; and no dispatch that is so is worth more
 pub record HasGreatestWelfare (m : Parts) (x : Dispatch) : Type 0 where
   pub offered : IsDispatch m x
   pub balances : balance m x ≡ zero

@@ -10,8 +10,8 @@ pub fn asked()
 {}
 
 /// What is printed as cleared balances, is within the offers, meets every limit of the base and after every listed outage of the
-/// market as edited, and has the greatest welfare of all dispatches that do; its prices are those of its duals, which support it,
-/// and its surplus is the sum of its rents.
+/// market as edited, up to its excess, whose penalty its welfare bears, and has the greatest welfare of all dispatches that do; its
+/// prices are those of its duals, which support it, and its surplus is the sum of its rents.
 pub fn cleared()
     ensures { LawOfCleared }
 {}

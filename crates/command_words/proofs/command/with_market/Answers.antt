@@ -12,4 +12,5 @@ returns-clause-app c =
     let lodf = c.in_ok-command-4.ensures.app ∙ ap (λ a. with_table a (codes "lodf")) offers in
     let contingencies = c.in_ok-command-5.ensures.app ∙ ap (λ a. with_table a (codes "contingencies")) lodf in
     let offsets = c.in_ok-command-6.ensures.app ∙ ap (λ a. with_table a (codes "offsets")) contingencies in
-    IfOk-weaker c.arg.result _ _ (λ r h. h.shape c.rating_option.ensures.local ∙ ap₂ with_rule offsets c.rating_option.ensures.rule) c.arg.ensures
+    let penalties = c.in_ok-command-7.ensures.app ∙ ap (λ a. with_table a (codes "penalties")) offsets in
+    IfOk-weaker c.arg.result _ _ (λ r h. h.shape c.rating_option.ensures.local ∙ ap₂ with_rule penalties c.rating_option.ensures.rule) c.arg.ensures

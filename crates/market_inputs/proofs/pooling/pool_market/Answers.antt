@@ -1,6 +1,4 @@
 use Rattle.std.proofs.Common.{◌≡◌, Ok, Err, rules}
-use Rattle.std.proofs.lemmas.List.Elements.{All-nil}
-use Rattle.market_model.specs.Lines.{IsHard}
 use Rattle.net_case.specs.Networks.{LiveNetwork}
 use Rattle.net_case.specs.declared.live_parts.Branches.TheVariants as branches
 use Rattle.refusal_text.specs.declared.refusals.Input.TheVariants as input
@@ -29,10 +27,7 @@ returns-in_err-offered-clause-told c =
     (goes-on (Is (network_in branches.Skip c.in_ok-raw.raw)) behind network out c.in_ok-network.ensures.told
     (stops (Is (offers_in network offers)) (made network) c.offer_table.result out c.in_err-offered.field-0.0 c.offer_table.ensures.told c.in_err-offered.was given))
 
-pub assemble-requires-clause-market : goal.assemble-requires-clause-market
-assemble-requires-clause-market c =
+pub assemble-requires : goal.assemble-requires
+assemble-requires c =
     rw (c.bare-parts.ensures, c.into_buses.ensures)
     (pool-market c.in_ok-network.network c.in_ok-offered.offered c.in_ok-network.ensures.kept c.in_ok-offered.ensures.kept)
-
-pub assemble-requires-clause-hard : goal.assemble-requires-clause-hard
-assemble-requires-clause-hard c = rw c.bare-parts.ensures (All-nil IsHard)
