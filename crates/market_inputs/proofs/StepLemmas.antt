@@ -1,5 +1,6 @@
 -- One step of the work behind the other.
-use Rattle.std.proofs.Common.{◌≡◌, refl, sym, subst, Result, Ok, Err}
+use Rattle.std.proofs.Common.{◌≡◌, ap, refl, sym, subst, Result, Ok, Err}
+use Rattle.std.specs.Result.{IsErrAnd}
 use Rattle.net_case.specs.Networks.{LiveNetwork}
 use Rattle.net_paths.specs.Connection.{IsPathStop}
 use Rattle.net_paths.specs.declared.connection.PathStop.{PathStop}
@@ -33,3 +34,8 @@ module _ {A B : Type 0} (P : Result A Refusal → Type 0) (Q : A → Result B Re
 pub split-told : (network : LiveNetwork) (stop : PathStop) → IsPathStop network stop → IsToldAs (IsJoined network) (Err (split_stop stop))
 split-told network (path.Split bus) apart = split bus apart
 split-told network path.Memory apart = tt
+
+-- ---- what an error is told as
+pub err-of : {A E : Type 0} (r : Result A E) (e : E) → IsErrAnd r (λ (told : E). told ≡ e) → r ≡ Err e
+err-of (Ok x) e h = absurd h
+err-of (Err told) e h = ap Err h

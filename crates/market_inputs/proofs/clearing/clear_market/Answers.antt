@@ -1,7 +1,8 @@
-use Rattle.std.proofs.Common.{◌≡◌, ◌∙◌, Err, sym, subst, rules}
+use Rattle.std.proofs.Common.{◌≡◌, ◌∙◌, Err, rules}
 use Rattle.market_tables.specs.Tables.{tables_lent}
 use Rattle.market_inputs.specs.Files.{sized_tables}
 use Rattle.market_inputs.proofs.ClearLemmas.{all-read, case-stop, cover-stop, network-stop, offers-stop, offsets-stop, penalties-stop, tables-stop}
+use Rattle.market_inputs.proofs.StepLemmas.{err-of}
 use Rattle.market_inputs.proofs.clearing.clear_market.Goals as goal
 
 pub returns-in_err-raw-clause-told : goal.returns-in_err-raw-clause-told
@@ -60,11 +61,13 @@ returns-in_err-offsets-clause-told c =
     })
     c.in_ok-offered.offered c.in_ok-offered.ensures.told c.offset_table.result out c.in_err-offsets.field-0.0 c.offset_table.ensures c.in_err-offsets.was given
 
+penalties-given : (c : goal.After-drop-raw-inside-in_err-penalties-3) → c.from_residual-in_err-penalties.result ≡ Err c.in_err-penalties.field-0.0
+penalties-given c = err-of c.from_residual-in_err-penalties.result c.in_err-penalties.field-0.0 c.from_residual-in_err-penalties.ensures.1
+
 pub returns-in_err-penalties-clause-told : goal.returns-in_err-penalties-clause-told
 returns-in_err-penalties-clause-told c =
     let files = sized_tables (tables_lent c.args.bytes.now) in
     let out = c.from_residual-in_err-penalties.result in
-    let given : out ≡ Err c.in_err-penalties.field-0.0 = search rules in
     penalties-stop c.args.rating files c.in_ok-raw.raw
     c.in_ok-network.network c.in_ok-tables.tables (record {
       raw_is = c.in_ok-raw.ensures;
@@ -72,7 +75,7 @@ returns-in_err-penalties-clause-told c =
       tables_are = c.in_ok-tables.ensures.told;
       covers = c.in_ok-check_cover.ensures;
     })
-    c.in_ok-offered.offered c.in_ok-offered.ensures.told c.in_ok-offsets.offsets c.in_ok-offsets.ensures c.penalty_table.result out c.in_err-penalties.field-0.0 c.penalty_table.ensures c.in_err-penalties.was given
+    c.in_ok-offered.offered c.in_ok-offered.ensures.told c.in_ok-offsets.offsets c.in_ok-offsets.ensures c.penalty_table.result out c.in_err-penalties.field-0.0 c.penalty_table.ensures c.in_err-penalties.was (penalties-given c)
 
 pub returns-clause-told : goal.returns-clause-told
 returns-clause-told c =
