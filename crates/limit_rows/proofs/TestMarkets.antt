@@ -26,10 +26,10 @@ abbrev pub buses : List Bus
 buses = bus_of 1 ∷ bus_of 2 ∷ bus_of 3 ∷ []
 
 abbrev pub shifts : List Factor
-shifts = shift_of 0 1 (negsuc 499999) ∷ shift_of 0 2 (negsuc 249999) ∷ shift_of 1 1 (negsuc 499999) ∷ shift_of 1 2 (negsuc 749999) ∷ []
+shifts = shift_of 0 1 (negsuc 499999999) ∷ shift_of 0 2 (negsuc 249999999) ∷ shift_of 1 1 (negsuc 499999999) ∷ shift_of 1 2 (negsuc 749999999) ∷ []
 
 abbrev pub losses : List Factor
-losses = shift_of 1 0 (pos 1000000) ∷ []
+losses = shift_of 1 0 (pos 1000000000) ∷ []
 
 abbrev pub lines : Option ℤ → List Line
 lines third = line_of 1 None None ∷ line_of 2 (Some (pos 40)) (Some (pos 45)) ∷ line_of 3 None third ∷ []
@@ -55,22 +55,22 @@ OtherPair f g = f.line ≡ g.line → f.of ≢ g.of
 
 shifts-are : AreTableFactors 3 3 shifts
 shifts-are = record {
-  each = All-cons (IsTableFactor 3 3) (shift_of 0 1 (negsuc 499999)) (shift_of 0 2 (negsuc 249999) ∷ shift_of 1 1 (negsuc 499999) ∷ shift_of 1 2 (negsuc 749999) ∷ []) (record { line = Prim.omega arith; of = Prim.omega arith; size = Prim.omega (arith, ints) })
-      (All-cons (IsTableFactor 3 3) (shift_of 0 2 (negsuc 249999)) (shift_of 1 1 (negsuc 499999) ∷ shift_of 1 2 (negsuc 749999) ∷ []) (record { line = Prim.omega arith; of = Prim.omega arith; size = Prim.omega (arith, ints) })
-      (All-cons (IsTableFactor 3 3) (shift_of 1 1 (negsuc 499999)) (shift_of 1 2 (negsuc 749999) ∷ []) (record { line = Prim.omega arith; of = Prim.omega arith; size = Prim.omega (arith, ints) })
-      (All-cons (IsTableFactor 3 3) (shift_of 1 2 (negsuc 749999)) ([]) (record { line = Prim.omega arith; of = Prim.omega arith; size = Prim.omega (arith, ints) })
+  each = All-cons (IsTableFactor 3 3) (shift_of 0 1 (negsuc 499999999)) (shift_of 0 2 (negsuc 249999999) ∷ shift_of 1 1 (negsuc 499999999) ∷ shift_of 1 2 (negsuc 749999999) ∷ []) (record { line = Prim.omega arith; of = Prim.omega arith; size = Prim.omega (arith, ints) })
+      (All-cons (IsTableFactor 3 3) (shift_of 0 2 (negsuc 249999999)) (shift_of 1 1 (negsuc 499999999) ∷ shift_of 1 2 (negsuc 749999999) ∷ []) (record { line = Prim.omega arith; of = Prim.omega arith; size = Prim.omega (arith, ints) })
+      (All-cons (IsTableFactor 3 3) (shift_of 1 1 (negsuc 499999999)) (shift_of 1 2 (negsuc 749999999) ∷ []) (record { line = Prim.omega arith; of = Prim.omega arith; size = Prim.omega (arith, ints) })
+      (All-cons (IsTableFactor 3 3) (shift_of 1 2 (negsuc 749999999)) ([]) (record { line = Prim.omega arith; of = Prim.omega arith; size = Prim.omega (arith, ints) })
       (All-nil (IsTableFactor 3 3)))));
-  distinct = AllPairs-cons OtherPair (shift_of 0 1 (negsuc 499999)) (shift_of 0 2 (negsuc 249999) ∷ shift_of 1 1 (negsuc 499999) ∷ shift_of 1 2 (negsuc 749999) ∷ [])
-      (All-cons (OtherPair (shift_of 0 1 (negsuc 499999))) (shift_of 0 2 (negsuc 249999)) (shift_of 1 1 (negsuc 499999) ∷ shift_of 1 2 (negsuc 749999) ∷ []) (λ e f. absurd (Prim.omega (arith, f)))
-      (All-cons (OtherPair (shift_of 0 1 (negsuc 499999))) (shift_of 1 1 (negsuc 499999)) (shift_of 1 2 (negsuc 749999) ∷ []) (λ e. absurd (Prim.omega (arith, e)))
-      (All-cons (OtherPair (shift_of 0 1 (negsuc 499999))) (shift_of 1 2 (negsuc 749999)) [] (λ e. absurd (Prim.omega (arith, e))) (All-nil (OtherPair (shift_of 0 1 (negsuc 499999)))))))
-      (three_apart OtherPair (shift_of 0 2 (negsuc 249999)) (shift_of 1 1 (negsuc 499999)) (shift_of 1 2 (negsuc 749999)) (λ e. absurd (Prim.omega (arith, e))) (λ e. absurd (Prim.omega (arith, e))) (λ e f. absurd (Prim.omega (arith, f))));
+  distinct = AllPairs-cons OtherPair (shift_of 0 1 (negsuc 499999999)) (shift_of 0 2 (negsuc 249999999) ∷ shift_of 1 1 (negsuc 499999999) ∷ shift_of 1 2 (negsuc 749999999) ∷ [])
+      (All-cons (OtherPair (shift_of 0 1 (negsuc 499999999))) (shift_of 0 2 (negsuc 249999999)) (shift_of 1 1 (negsuc 499999999) ∷ shift_of 1 2 (negsuc 749999999) ∷ []) (λ e f. absurd (Prim.omega (arith, f)))
+      (All-cons (OtherPair (shift_of 0 1 (negsuc 499999999))) (shift_of 1 1 (negsuc 499999999)) (shift_of 1 2 (negsuc 749999999) ∷ []) (λ e. absurd (Prim.omega (arith, e)))
+      (All-cons (OtherPair (shift_of 0 1 (negsuc 499999999))) (shift_of 1 2 (negsuc 749999999)) [] (λ e. absurd (Prim.omega (arith, e))) (All-nil (OtherPair (shift_of 0 1 (negsuc 499999999)))))))
+      (three_apart OtherPair (shift_of 0 2 (negsuc 249999999)) (shift_of 1 1 (negsuc 499999999)) (shift_of 1 2 (negsuc 749999999)) (λ e. absurd (Prim.omega (arith, e))) (λ e. absurd (Prim.omega (arith, e))) (λ e f. absurd (Prim.omega (arith, f))));
 }
 
 losses-are : AreTableFactors 3 3 losses
 losses-are = record {
-  each = All-cons (IsTableFactor 3 3) (shift_of 1 0 (pos 1000000)) [] (record { line = Prim.omega arith; of = Prim.omega arith; size = Prim.omega (arith, ints) }) (All-nil (IsTableFactor 3 3));
-  distinct = one_alone OtherPair (shift_of 1 0 (pos 1000000));
+  each = All-cons (IsTableFactor 3 3) (shift_of 1 0 (pos 1000000000)) [] (record { line = Prim.omega arith; of = Prim.omega arith; size = Prim.omega (arith, ints) }) (All-nil (IsTableFactor 3 3));
+  distinct = one_alone OtherPair (shift_of 1 0 (pos 1000000000));
 }
 
 -- outages that are rows of the three branches make a market
