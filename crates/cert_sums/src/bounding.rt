@@ -60,6 +60,7 @@ fn with_limit<N: Exact>(
     ensures sum { (d : Duals Fraction) → priced_at N.value entry.now ≡ priced_by market.now d entry.now.row → AreFlows market.now (empty market.now) (map N.value flows.now) → IfOk result (λ more. N.value more ≡ N.value sum +ℚ total (limit_terms market.now d entry.now.row)) }
     ensures cause { (x : Dispatch) → AreFlows market.now x (map N.value flows.now) → IfErr result (λ passed. IsLimitRefusal market.now x (priced_at N.value entry.now) (N.value sum) N.bound (passed_at N.value passed)) }
 {
+    let _lines = market.lines();
     let flow = row_flow(market, flows, entry.row)?;
     let limit: N = datum(limit_at(market, entry.row));
     let above = with_above(sum, entry.up, limit, flow)?;

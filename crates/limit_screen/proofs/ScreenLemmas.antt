@@ -161,7 +161,7 @@ lines_behind {N} value m fs n count i l = at_line i
 
 -- ---- the worst of all rows
 pub all_hold_by : (m : Parts) (f : ℕ → Fraction) → All (λ s. overrun_by m f s ≤ℚ whole (pos 0)) (rows m) → AllHold m f
-unfolding sign_of abs_ℚ
+unfolding abs_ℚ
 all_hold_by m f h r c =
     let size : abs_ℚ (flow_by m f r) ≤ℚ limit m r = from_below (abs_ℚ (flow_by m f r)) (limit m r) (subst (λ t. overrun_by m f t ≤ℚ whole (pos 0)) c.2 (h c.0 r c.1)) in
     let both = within_size (flow_by m f r) (limit m r) (sign_of (flow_by m f r)) refl size in

@@ -1,4 +1,4 @@
-use Rattle.std.proofs.Common.{rules, Err, ◌≡◌, ◌∙◌, List, ap, map, subst, w64}
+use Rattle.std.proofs.Common.{rules, Err, ◌≡◌, ◌∙◌, List, ap, map, subst, sym, w64}
 use Rattle.std.proofs.lemmas.Int.{to_z-of_z}
 use Rattle.std.proofs.lemmas.Result.{IfOk-weaker, IfErr-weaker}
 use mir.Val.{to_z, of_z}
@@ -9,6 +9,7 @@ use Rattle.market_model.specs.Dispatch.{empty}
 use Rattle.market_model.specs.NamedSums.{IsRefusedIn}
 use Rattle.market_model.specs.SumTables.{flow_of_row}
 use Rattle.market_model.specs.Valued.{passed_at}
+use Rattle.market_model.proofs.HardLimits.{hard_most}
 use Rattle.limit_rows.proofs.FlowSteps.{row_terms_are}
 use Rattle.cert_sums.specs.Named.{priced_at}
 use Rattle.cert_sums.specs.Refusals.{in_flow}
@@ -30,7 +31,7 @@ returns-clause-sum g c = λ d priced are.
     let terms = row_terms_are m (empty m) (map value c.args.flows.now) are c.args.entry.now.row c.requires.line c.requires.lost in
     IfOk-weaker c.with_below.result _ _
     (λ more e. left_sum m d (priced_at value c.args.entry.now) (value c.args.sum) (value c.in_ok-above.above) (value more) (value c.datum-limit.result) (value c.in_ok-flow.flow) priced
-    (c.datum-limit.ensures ∙ ap whole known ∙ c.limit_at.ensures.limit) (c.in_ok-flow.ensures.flow ∙ ap total terms) c.in_ok-above.ensures.sum e)
+    (c.datum-limit.ensures ∙ ap whole known ∙ c.limit_at.ensures.limit ∙ sym (hard_most c.args.market.now c.lines-lines.ensures.hard c.lines-lines.ensures.market c.args.entry.now.row)) (c.in_ok-flow.ensures.flow ∙ ap total terms) c.in_ok-above.ensures.sum e)
     c.with_below.ensures.sum
 
 pub returns-in_err-above-clause-cause : goal.returns-in_err-above-clause-cause
@@ -41,7 +42,7 @@ returns-in_err-above-clause-cause g c = λ x are.
     let terms = row_terms_are c.args.market.now x (map value c.args.flows.now) are c.args.entry.now.row c.requires.line c.requires.lost in
     rw given
     (above_side c.args.market.now x (priced_at value c.args.entry.now) (value c.args.sum) (value c.datum-limit.result) (value c.in_ok-flow.flow) g.N.Exact.bound (passed_at value c.in_err-above.field-0.0)
-    (c.datum-limit.ensures ∙ ap whole known ∙ c.limit_at.ensures.limit) (c.in_ok-flow.ensures.flow ∙ ap total terms) c.in_err-above.ensures.cause)
+    (c.datum-limit.ensures ∙ ap whole known ∙ c.limit_at.ensures.limit ∙ sym (hard_most c.args.market.now c.lines-lines.ensures.hard c.lines-lines.ensures.market c.args.entry.now.row)) (c.in_ok-flow.ensures.flow ∙ ap total terms) c.in_err-above.ensures.cause)
 
 pub returns-clause-cause : goal.returns-clause-cause
 returns-clause-cause g c = λ x are.
@@ -50,5 +51,5 @@ returns-clause-cause g c = λ x are.
     let terms = row_terms_are c.args.market.now x (map value c.args.flows.now) are c.args.entry.now.row c.requires.line c.requires.lost in
     IfErr-weaker c.with_below.result _ _
     (λ p h. below_side c.args.market.now x (priced_at value c.args.entry.now) (value c.args.sum) (value c.datum-limit.result) (value c.in_ok-flow.flow) g.N.Exact.bound (passed_at value p)
-    (c.datum-limit.ensures ∙ ap whole known ∙ c.limit_at.ensures.limit) (c.in_ok-flow.ensures.flow ∙ ap total terms) (value c.in_ok-above.above) c.in_ok-above.ensures.sum h)
+    (c.datum-limit.ensures ∙ ap whole known ∙ c.limit_at.ensures.limit ∙ sym (hard_most c.args.market.now c.lines-lines.ensures.hard c.lines-lines.ensures.market c.args.entry.now.row)) (c.in_ok-flow.ensures.flow ∙ ap total terms) (value c.in_ok-above.above) c.in_ok-above.ensures.sum h)
     c.with_below.ensures.cause
