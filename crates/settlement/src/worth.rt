@@ -55,7 +55,7 @@ pub fn welfare<N: Exact>(market: &Market, dispatch: &[N], flows: &[N]) -> Result
     ensures worth { IfOk result (λ worth. N.value worth ≡ welfare_of market.now (dispatch_of N.value dispatch.now)) }
     ensures cause { IfErr result (λ passed. IsWelfareRefusal market.now (dispatch_of N.value dispatch.now) N.bound (passed_at N.value passed)) }
 {
-    let _lines = market.lines();
+    let _buses = market.buses();
     let mut sum = values(market, dispatch)?;
     for row in rows(market) {
         if is_soft(market, row) {

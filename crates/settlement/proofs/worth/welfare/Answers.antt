@@ -1,7 +1,12 @@
-use Rattle.std.proofs.Common.{◌∙◌, sym}
+use Rattle.std.proofs.Common.{rules, Err, ◌≡◌, ◌∙◌, map, sym}
+use Rattle.std.specs.Prelude.{Contains}
+use Rattle.std.proofs.lemmas.List.{length-map}
+use Rattle.market_model.specs.LimitRows.{rows}
 use Rattle.market_model.specs.PutIn.{dispatch_of}
-use Rattle.limit_rows.proofs.WalkLemmas.{taken_listed}
-use Rattle.settlement.proofs.WorthLemmas.{worth_of_values, worth_same}
+use Rattle.market_model.specs.Valued.{passed_at}
+use Rattle.limit_rows.proofs.WalkLemmas.{taken_listed, taken_next}
+use Rattle.limit_screen.proofs.ScreenLemmas.{flow_count}
+use Rattle.settlement.proofs.WorthLemmas.{cost_refused, worth_less, worth_of_values, worth_same}
 use Rattle.settlement.proofs.worth.welfare.Goals as goal
 
 pub loop-row-init : goal.loop-row-init
@@ -12,6 +17,36 @@ is_soft-requires g c =
     (c.rows-row-items.ensures.stand c.in-Some.row
     (taken_listed c.args.market.now _ _ _ c.loop-row.yielded (c.into_iter-row-iterator.ensures.into_iter_gives ∙ c.rows-row-items.ensures.rows) c.loop-row.yielded_by c.next.result c.in-Some.row c.in-Some.is c.next.ensures.steps)).0
 
+pub less_penalty-requires-clause-lost : goal.less_penalty-requires-clause-lost
+less_penalty-requires-clause-lost g c =
+    (c.rows-row-items.ensures.stand c.in-Some.row
+    (taken_listed c.args.market.now _ _ _ c.loop-row.yielded (c.into_iter-row-iterator.ensures.into_iter_gives ∙ c.rows-row-items.ensures.rows) c.loop-row.yielded_by c.next.result c.in-Some.row c.in-Some.is c.next.ensures.steps)).1
+
+pub less_penalty-requires-clause-flows : goal.less_penalty-requires-clause-flows
+less_penalty-requires-clause-flows g c =
+    sym (length-map c.args.flows.now g.N.Exact.value) ∙ flow_count c.args.market.now (dispatch_of g.N.Exact.value c.args.dispatch.now) (map g.N.Exact.value c.args.flows.now) c.requires.flows
+
 pub loop-row-preserved : goal.loop-row-preserved
 loop-row-preserved g c =
     worth_same c.args.market.now (dispatch_of g.N.Exact.value c.args.dispatch.now) c.loop-row.yielded c.in-Some.row (sym c.is_soft.ensures ∙ c.if-is_soft.false) (g.N.Exact.value c.loop-row.sum) c.loop-row.invariant
+
+pub loop-row-preserved-then-is_soft : goal.loop-row-preserved-then-is_soft
+loop-row-preserved-then-is_soft g c =
+    let m = c.args.market.now in
+    let value = g.N.Exact.value in
+    let listed : Contains (rows m) c.in-Some.row =
+    taken_listed m _ _ _ c.loop-row.yielded (c.into_iter-row-iterator.ensures.into_iter_gives ∙ c.rows-row-items.ensures.rows) c.loop-row.yielded_by c.next.result c.in-Some.row c.in-Some.is c.next.ensures.steps in
+    worth_less m (dispatch_of value c.args.dispatch.now) c.loop-row.yielded c.in-Some.row (sym c.is_soft.ensures ∙ c.if-is_soft.true) (map value c.args.flows.now) c.requires.flows c.buses-buses.ensures.market listed
+    (value c.loop-row.sum) (value c.in_ok-sum-2.sum) c.loop-row.invariant c.in_ok-sum-2.ensures.less
+
+pub returns-in_err-sum-2-clause-cause : goal.returns-in_err-sum-2-clause-cause
+returns-in_err-sum-2-clause-cause g c =
+    let m = c.args.market.now in
+    let value = g.N.Exact.value in
+    let start = c.into_iter-row-iterator.ensures.into_iter_gives ∙ c.rows-row-items.ensures.rows in
+    let listed : Contains (rows m) c.in-Some.row = taken_listed m _ _ _ c.loop-row.yielded start c.loop-row.yielded_by c.next.result c.in-Some.row c.in-Some.is c.next.ensures.steps in
+    let given : c.from_residual-in_err-sum-2.result ≡ Err c.in_err-sum-2.field-0.0 = search rules in
+    rw given
+    (cost_refused m (dispatch_of value c.args.dispatch.now) c.loop-row.yielded c.in-Some.row (sym c.is_soft.ensures ∙ c.if-is_soft.true) (map value c.args.flows.now) c.requires.flows c.buses-buses.ensures.market listed
+    _ (value c.loop-row.sum) g.N.Exact.bound (passed_at value c.in_err-sum-2.field-0.0)
+    (taken_next m _ _ _ c.loop-row.yielded start c.loop-row.yielded_by c.next.result c.in-Some.row c.in-Some.is c.next.ensures.steps) c.loop-row.invariant c.in_err-sum-2.ensures.cause)
