@@ -6,6 +6,7 @@ ghost use Rattle.fraction_theory.specs.Sums.{total};
 ghost use Rattle.market_model.specs.LimitRows.{IsCauseAmong};
 ghost use Rattle.market_model.specs.NamedSums.{IsRefusedIn};
 ghost use Rattle.market_model.specs.Optimality.{IsOneSided};
+ghost use Rattle.market_model.specs.Overrun.{excess_by};
 ghost use Rattle.market_model.specs.RightAnswers.{rent_by};
 ghost use Rattle.market_model.specs.Settlement.{earned_terms, lower_terms, priced_flow, rent_terms_by, upper_terms};
 ghost use Rattle.market_model.specs.SumTables.{IsRefusedAmong, PaidRowSum};
@@ -25,6 +26,21 @@ fn size<N: Exact>(flow: N) -> N
     match flow.sign() {
         Sign::Below => flow.neg(),
         Sign::Zero | Sign::Above => flow,
+    }
+}
+
+/// By how much a flow exceeds the limit of a row; 0 where it does not. That is never too large: its parts are no greater than those of
+/// the flow.
+pub fn excess<N: Exact>(market: &Market, row: Row, flow: N) -> Result<N, Passed<N>>
+    requires { row.line < length market.now.lines }
+    ensures excess { IfOk result (λ excess. N.value excess ≡ excess_by market.now row (N.value flow)) }
+    ensures fits { IfErr result (λ passed. ⊥) }
+{
+    let limit: N = datum(limit_at(market, row));
+    let size = size(flow);
+    match size.order(limit) {
+        Ordering::Greater => exact_difference(size, limit),
+        Ordering::Less | Ordering::Equal => Ok(datum(0)),
     }
 }
 
@@ -63,7 +79,7 @@ fn earned<N: Exact>(dual: &Dual<N>, priced: N, offset: N) -> Result<N, Passed<N>
     }
 }
 
-/// The flow of a row, of flows by bus and then by line, and what its limit earns at the prices of a dual.
+/// The flow of a row, of flows by bus and then by line, by how much it exceeds the limit, and what that earns at the prices of a dual.
 pub fn row_rent<N: Exact>(
     market: &Market,
     row: Row,
@@ -79,11 +95,13 @@ pub fn row_rent<N: Exact>(
         ⊎ IsRefusedIn (rent_terms_by market.now lines row (N.value dual.now.up) (N.value dual.now.down)) N.bound (passed_at N.value passed)) }
 {
     let flow = row_flow(market, line_flows(market, flows), row)?;
+    let over = excess(market, row, flow)?;
     let offset = row_offset(market, row)?;
     let rent = earned(dual, priced_flow(market, row, flow), offset)?;
     Ok(Rent {
         row: dual.row,
         flow,
+        over,
         rent,
     })
 }
