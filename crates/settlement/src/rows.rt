@@ -1,7 +1,6 @@
 //! What the limits of rows earn.
 
 ghost use Rattle.std.specs.Prelude.{◌≡◌, ◌⊎◌, ◌+◌, ◌<◌, length, map, IfOk, IfErr};
-ghost use Rattle.fraction_theory.specs.Signs.{abs_ℚ};
 ghost use Rattle.fraction_theory.specs.Sums.{total};
 ghost use Rattle.market_model.specs.LimitRows.{IsCauseAmong};
 ghost use Rattle.market_model.specs.NamedSums.{IsRefusedIn};
@@ -13,21 +12,11 @@ ghost use Rattle.market_model.specs.SumTables.{IsRefusedAmong, PaidRowSum};
 ghost use Rattle.market_model.specs.Valued.{dual_at, passed_at, rent_at};
 ghost use Rattle.limit_screen.specs.Flows.{line_in};
 
-use exact_fraction::{Exact, Passed, Sign, exact_difference, exact_sum};
+use exact_fraction::{Exact, Passed, Sign, exact_difference, exact_sum, size};
 use limit_rows::{limit_at, row_flow, row_offset};
 use limit_screen::line_flows;
 use market_model::{Dual, Market, Rent, Row, datum};
 use std::cmp::Ordering;
-
-/// The size of a flow.
-fn size<N: Exact>(flow: N) -> N
-    ensures { N.value result ≡ abs_ℚ (N.value flow) }
-{
-    match flow.sign() {
-        Sign::Below => flow.neg(),
-        Sign::Zero | Sign::Above => flow,
-    }
-}
 
 /// By how much a flow exceeds the limit of a row; 0 where it does not. That is never too large: its parts are no greater than those of
 /// the flow.
