@@ -1,6 +1,6 @@
 -- Steps of the congestion at a bus, dual by dual, and of prices, bus by bus.
-use Rattle.std.specs.Prelude.{◌≡◌, ℕ, ◌+◌, ◌<◌, ◌≤◌, pos, false, List, [], ◌∷◌, map, length, take, refl}
-use Rattle.std.proofs.Common.{arith, ap, ap₂, sym, ◌∙◌, get_or, set}
+use Rattle.std.specs.Prelude.{◌≡◌, ◌⊎◌, ℕ, ◌+◌, ◌<◌, ◌≤◌, pos, false, List, [], ◌∷◌, map, length, take, refl}
+use Rattle.std.proofs.Common.{arith, ap, ap₂, inl, inr, sym, subst, ◌∙◌, get_or, set}
 use Rattle.std.proofs.lemmas.List.{take_all, get_or-set_other}
 use Rattle.fraction_theory.specs.Fraction.{Fraction, whole, neg_ℚ, ◌+ℚ◌, ◌-ℚ◌, ◌*ℚ◌}
 use Rattle.fraction_theory.specs.Sums.{sum_by, Term, Plain, Product, term_value}
@@ -19,6 +19,7 @@ use Rattle.market_model.specs.LimitRows.{rows, row_id, row_factor}
 use Rattle.market_model.specs.NamedSums.{IsRefusal, IsRefusedIn, IsShareRefusal}
 use Rattle.market_model.specs.Optimality.{net_shadow_price, names_row, named_rows, congestion, congestion_terms, congestion_by, price_terms}
 use Rattle.market_model.specs.RightAnswers.{price_made, price_of_parts}
+use Rattle.market_model.specs.SumTables.{FactorSum, IsRefusedAmong, IsRefusedInPrices, congestion_at, price_of_bus}
 use Rattle.market_model.proofs.MorePlaces.{sum_by_more}
 use Rattle.market_model.proofs.PlaceLists.{put_more, map_same}
 use Rattle.market_model.proofs.SumSteps.{plus_at, share_at}
@@ -115,3 +116,13 @@ module _ (m : Parts) (d : Duals Fraction) where
   pub total_refused : (i : ℕ) (sum : Fraction) (bound : ℕ) (p : Passed Fraction) → sum ≡ congestion m d i → IsRefusal Plus d.energy sum bound p → IsRefusedIn (price_terms m d i) bound p
   total_refused i sum bound p is h =
       plus_at (price_terms m d i) (Plain d.energy ∷ []) [] (Plain (congestion m d i)) refl bound p d.energy sum (sym (+ℚ_nil d.energy)) is h
+
+  -- what a row adds to prices is refused at a bus, or in its factor there
+  pub added_refused : (k : ℕ) (e : Dual Fraction) (r s : Row) (price : Fraction) (bound : ℕ) (p : Passed Fraction) → IsRowOfDual m d k e r → price ≡ neg_ℚ (e.up -ℚ e.down) → s ≡ r
+      → ((bus : ℕ) × (bus < length m.buses) × IsShareRefusal (congestion_to m d bus k) price (row_factor m s bus) bound p) ⊎ IsRefusedAmong (FactorSum m s) bound p → IsRefusedInPrices m d bound p
+  added_refused k e r s price bound p h is same (inl (bus, inside, why)) = inl (
+    congestion_terms m d bus,
+    price_of_bus bus _ inside congestion_at,
+    congestion_refused m d bus k e r price (row_factor m s bus) (congestion_to m d bus k) bound p h is (ap (λ (t : Row). row_factor m t bus) same) refl why,
+  )
+  added_refused k e r s price bound p h is same (inr why) = inr (r, (k, h.inside, sym h.at), subst (λ (t : Row). IsRefusedAmong (FactorSum m t) bound p) same why)

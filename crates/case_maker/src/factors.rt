@@ -3,18 +3,18 @@
 ghost use Rattle.std.specs.Prelude.{◌≡◌, ◌<◌, ◌≤◌, IfOk};
 ghost use Rattle.case_maker.specs.Rings.{factor_by, factors_by, loss_of, share, shift_of};
 
-use market_data::FACTOR_ONE;
+use market_data::MARKET_FACTOR_ONE;
 use market_model::{Factor, List, Memory};
 use std::alloc::Global;
 
-/// So many of so many parts, in 10^-6.
+/// So many of so many parts, in 10^-9.
 fn share(parts: usize, size: usize) -> i64
     requires parts { parts ≤ size }
     requires some { 0 < size }
     requires few { size ≤ 64 }
     ensures { result ≡ share parts size }
 {
-    (parts * FACTOR_ONE as usize / size) as i64
+    (parts * MARKET_FACTOR_ONE as usize / size) as i64
 }
 
 /// What flows on a line of all that a bus puts in.
@@ -42,7 +42,7 @@ fn loss_factor(line: usize, lost: usize) -> Factor
     let value = if line == lost {
         0
     } else {
-        -(FACTOR_ONE as i64)
+        -(MARKET_FACTOR_ONE as i64)
     };
     Factor {
         line,

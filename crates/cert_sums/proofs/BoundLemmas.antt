@@ -19,7 +19,7 @@ use Rattle.market_model.specs.declared.participants.Parts.{Parts}
 use Rattle.market_model.specs.Dispatch.{Dispatch, places, injection, balance, balance_terms, empty, quantity, dispatch_by}
 use Rattle.market_model.specs.Infeasibility.{block_weight, limit_terms, nothing_terms, farkas_terms, farkas_bound}
 use Rattle.market_model.specs.declared.limits.Row.{Row}
-use Rattle.market_model.specs.LimitRows.{rows, row_id, limit, flow}
+use Rattle.market_model.specs.LimitRows.{rows, row_id, most_flow, flow}
 use Rattle.market_model.specs.NamedSums.{IsRefusal, IsRefusedIn, IsShareRefusal}
 use Rattle.market_model.specs.Optimality.{up_of, down_of, names_row, named_rows}
 use Rattle.market_model.proofs.FarkasLaw.{total-flat_map}
@@ -27,10 +27,10 @@ use Rattle.market_model.proofs.MorePlaces.{sum_by_more, total-places_more}
 use Rattle.market_model.proofs.SumSteps.{product_at, share_at, terms_at, behind}
 use Rattle.limit_rows.proofs.DualLemmas.{up_unnamed, down_unnamed, sum_named}
 use Rattle.cert_sums.specs.Named.{PricedRow, priced_by}
-use Rattle.cert_sums.specs.Pairs.{IsFarkasPair, in_flow as flow_pair, in_bound as bound_pair, of_limit_less, of_limit_more}
+use Rattle.cert_sums.specs.Pairs.{IsFarkasPair, in_flow as flow_pair, in_bound as bound_pair, of_limit_less, of_limit_more, of_most}
 use Rattle.market_model.specs.SumTables.{IsRefusedAmong, InjectionSum, balance_from_bus, balance_of_all, LineFlowSum, limited_line, limited_row, flow_in_balance, flow_in_limits, farkas_bound_of_all}
 use Rattle.market_model.specs.PutIn.{dispatch_of}
-use Rattle.cert_sums.specs.Refusals.{IsAboveRefusal, IsBelowRefusal, IsLimitRefusal, in_flow, in_above, in_below}
+use Rattle.cert_sums.specs.Refusals.{IsAboveRefusal, IsBelowRefusal, IsLimitRefusal, in_most, in_flow, in_above, in_below}
 use Rattle.cert_sums.proofs.NamedLemmas.{IsNamedAt, is_named_row, is_row}
 
 -- ---- prices of 0 make nothing
@@ -47,16 +47,16 @@ none_above s w room t is some = nothing_made s (part_above w) room (sym (ap (λ 
     by (inr e) = ap (λ (u : Sign). where_above u w) e
 
 -- what the two prices of a row make, one added behind the other
-pub left_sum : (m : Parts) (d : Duals Fraction) (e : PricedRow) (sum above more l f : Fraction) → e ≡ priced_by m d e.row → l ≡ limit m e.row → f ≡ flow m (empty m) e.row → above ≡ sum +ℚ e.up *ℚ (l -ℚ f)
+pub left_sum : (m : Parts) (d : Duals Fraction) (e : PricedRow) (sum above more l f : Fraction) → e ≡ priced_by m d e.row → l ≡ most_flow m e.row → f ≡ flow m (empty m) e.row → above ≡ sum +ℚ e.up *ℚ (l -ℚ f)
     → more ≡ above +ℚ e.down *ℚ (l +ℚ f) → more ≡ sum +ℚ total (limit_terms m d e.row)
 left_sum m d e sum above more l f priced is flows first second =
     second ∙ ap (λ t. t +ℚ e.down *ℚ (l +ℚ f)) first ∙ +ℚ_assoc sum (e.up *ℚ (l -ℚ f)) (e.down *ℚ (l +ℚ f))
     ∙ ap₂ (λ a b. sum +ℚ (e.up *ℚ (a -ℚ b) +ℚ e.down *ℚ (a +ℚ b))) is flows
-    ∙ ap₂ (λ u v. sum +ℚ (u *ℚ (limit m e.row -ℚ flow m (empty m) e.row) +ℚ v *ℚ (limit m e.row +ℚ flow m (empty m) e.row))) (ap (λ (t : PricedRow). t.up) priced) (ap (λ (t : PricedRow). t.down) priced)
-    ∙ ap (λ t. sum +ℚ (up_of m d e.row *ℚ (limit m e.row -ℚ flow m (empty m) e.row) +ℚ t)) (sym (+ℚ_nil (down_of m d e.row *ℚ (limit m e.row +ℚ flow m (empty m) e.row))))
+    ∙ ap₂ (λ u v. sum +ℚ (u *ℚ (most_flow m e.row -ℚ flow m (empty m) e.row) +ℚ v *ℚ (most_flow m e.row +ℚ flow m (empty m) e.row))) (ap (λ (t : PricedRow). t.up) priced) (ap (λ (t : PricedRow). t.down) priced)
+    ∙ ap (λ t. sum +ℚ (up_of m d e.row *ℚ (most_flow m e.row -ℚ flow m (empty m) e.row) +ℚ t)) (sym (+ℚ_nil (down_of m d e.row *ℚ (most_flow m e.row +ℚ flow m (empty m) e.row))))
 
--- a refusal on either side of a row, by the limit and the flow that were read
-module _ (m : Parts) (x : Dispatch) (e : PricedRow) (sum l f : Fraction) (bound : ℕ) (p : Passed Fraction) (is : l ≡ limit m e.row) (flows : f ≡ flow m x e.row) where
+-- a refusal on either side of a row, by the most that its flow may be and the flow that were read
+module _ (m : Parts) (x : Dispatch) (e : PricedRow) (sum l f : Fraction) (bound : ℕ) (p : Passed Fraction) (is : l ≡ most_flow m e.row) (flows : f ≡ flow m x e.row) where
   pub above_side : IsAboveRefusal sum e.up l f bound p → IsLimitRefusal m x e sum bound p
   above_side h = in_above (subst₂ (λ a b. IsAboveRefusal sum e.up a b bound p) is flows h)
 
@@ -99,8 +99,8 @@ module _ (m : Parts) (d : Duals Fraction) where
   -- a row without prices makes nothing
   unnamed : (r : Row) → names_row d.limits (row_id m r) ≡ false → left r ≡ whole (pos 0)
   unnamed r h =
-      ap₂ (λ u v. u *ℚ (limit m r -ℚ flow m (empty m) r) +ℚ (v *ℚ (limit m r +ℚ flow m (empty m) r) +ℚ whole (pos 0))) (up_unnamed d.limits (row_id m r) h) (down_unnamed d.limits (row_id m r) h)
-      ∙ by_ring ring_ℚ (limit m r ∷ flow m (empty m) r ∷ []) (padd (pmul pnil (padd (at 0) (pneg (at 1)))) (padd (pmul pnil (padd (at 0) (at 1))) pnil)) pnil refl
+      ap₂ (λ u v. u *ℚ (most_flow m r -ℚ flow m (empty m) r) +ℚ (v *ℚ (most_flow m r +ℚ flow m (empty m) r) +ℚ whole (pos 0))) (up_unnamed d.limits (row_id m r) h) (down_unnamed d.limits (row_id m r) h)
+      ∙ by_ring ring_ℚ (most_flow m r ∷ flow m (empty m) r ∷ []) (padd (pmul pnil (padd (at 0) (pneg (at 1)))) (padd (pmul pnil (padd (at 0) (at 1))) pnil)) pnil refl
 
   -- what the price of energy makes, with the first rows that duals name
   abbrev pub limits_to : ℕ → Fraction
@@ -149,10 +149,10 @@ module _ (m : Parts) (d : Duals Fraction) where
 
     module _ (sum : Fraction) (bound : ℕ) (p : Passed Fraction) (before : sum ≡ limits_to k) where
       abbrev room_above : Fraction
-      room_above = limit m e.row -ℚ flow m (empty m) e.row
+      room_above = most_flow m e.row -ℚ flow m (empty m) e.row
 
       abbrev room_below : Fraction
-      room_below = limit m e.row +ℚ flow m (empty m) e.row
+      room_below = most_flow m e.row +ℚ flow m (empty m) e.row
 
       abbrev above : Term
       above = Product (up_of m d e.row) room_above
@@ -166,7 +166,7 @@ module _ (m : Parts) (d : Duals Fraction) where
       in_bound : IsRefusedIn (farkas_terms m d) bound p → IsFarkasPair m d bound p
       in_bound why = bound_pair (_, farkas_bound_of_all, why)
 
-      above_refused : IsAboveRefusal sum e.up (limit m e.row) (flow m (empty m) e.row) bound p → IsFarkasPair m d bound p
+      above_refused : IsAboveRefusal sum e.up (most_flow m e.row) (flow m (empty m) e.row) bound p → IsFarkasPair m d bound p
       above_refused (inl c) = of_limit_less e.row (is_named_row m d k e h) c
       above_refused (inr c) = in_bound
           (share_at (farkas_terms m d) s.front (below ∷ s.rest) above s.split bound p sum e.up room_above (ap (λ u. Product u room_above) (sym h.up)) (before ∙ sym s.sum) c)
@@ -179,13 +179,14 @@ module _ (m : Parts) (d : Duals Fraction) where
           ap₂ ◌+ℚ◌ (before ∙ sym s.sum) (ap (λ u. u *ℚ room_above) h.up ∙ sym (+ℚ_nil (up_of m d e.row *ℚ room_above)))
           ∙ sym (total-append s.front (above ∷ []))
 
-      below_refused : IsBelowRefusal (sum +ℚ e.up *ℚ room_above) e.down (limit m e.row) (flow m (empty m) e.row) bound p → IsFarkasPair m d bound p
+      below_refused : IsBelowRefusal (sum +ℚ e.up *ℚ room_above) e.down (most_flow m e.row) (flow m (empty m) e.row) bound p → IsFarkasPair m d bound p
       below_refused (inl c) = of_limit_more e.row (is_named_row m d k e h) c
       below_refused (inr c) = in_bound
           (share_at (farkas_terms m d) (s.front ++ above ∷ []) s.rest below second bound p (sum +ℚ e.up *ℚ room_above) e.down room_below (ap (λ u. Product u room_below) (sym h.down)) with_above c)
 
       pub limit_refused : IsLimitRefusal m (empty m) e sum bound p → IsFarkasPair m d bound p
       limit_refused (in_flow (terms, part, c)) = flow_pair (terms, flow_in_limits terms (limited_row e.row terms (is_row m d k e h) part), c)
+      limit_refused (in_most c) = of_most e.row (is_named_row m d k e h) c
       limit_refused (in_above c) = above_refused c
       limit_refused (in_below c) = below_refused c
 

@@ -13,10 +13,10 @@ use Rattle.exact_fraction.specs.declared.Passed.{Passed}
 use Rattle.market_model.specs.declared.answered.Duals.{Duals}
 use Rattle.market_model.specs.declared.participants.Parts.{Parts}
 use Rattle.market_model.specs.declared.limits.Row.{Row}
-use Rattle.market_model.specs.LimitRows.{rows, row_id, row_factor}
+use Rattle.market_model.specs.LimitRows.{factor_terms, rows, row_id, row_factor}
 use Rattle.market_model.specs.NamedSums.{IsRefusal, IsRefusedIn, IsShareRefusal}
 use Rattle.market_model.specs.Optimality.{up_of, down_of, net_shadow_price, names_row, named_rows, congestion, congestion_terms, congestion_by, price_terms}
-use Rattle.market_model.specs.SumTables.{congestion_at}
+use Rattle.market_model.specs.SumTables.{congestion_at, factor_at_bus, IsFactorRefusal}
 use Rattle.market_model.proofs.MorePlaces.{sum_by_more}
 use Rattle.market_model.proofs.SumSteps.{plus_at, refusal_same, share_at}
 use Rattle.limit_rows.proofs.DualLemmas.{up_unnamed, down_unnamed, sum_named, terms_named}
@@ -64,6 +64,10 @@ is_row m d k e h = (Contains-from_filter (λ s. names_row d.limits (row_id m s))
 pub no_net_price : (s u v k : Fraction) → k ≡ whole (pos 0) → s ≡ s +ℚ neg_ℚ (u -ℚ v) *ℚ k
 no_net_price s u v k e = sym (ap (λ t. s +ℚ neg_ℚ (u -ℚ v) *ℚ t) e ∙ ap (λ t. s +ℚ t) (times_nil ring_ℚ (neg_ℚ (u -ℚ v))) ∙ +ℚ_nil s)
 
+-- in one of its sums, in two prices, or in the factor of a row
+abbrev IsCongestionRefusal : Parts → Duals Fraction → ℕ → ℕ → Passed Fraction → Type 0
+IsCongestionRefusal m d i bound p = IsRefusedIn (congestion_terms m d i) bound p ⊎ IsPricesRefusal m d bound p ⊎ IsFactorRefusal m (named_rows m d) bound p
+
 module _ (m : Parts) (d : Duals Fraction) (i : ℕ) where
   abbrev term : Row → Term
   term r = Product (neg_ℚ (net_shadow_price m d r)) (row_factor m r i)
@@ -95,19 +99,23 @@ module _ (m : Parts) (d : Duals Fraction) (i : ℕ) where
         ∙ sym (sum_by_more (λ s. term_value (term s)) (named_rows m d) k e.row h.inside)
 
     pub congestion_refused : (factor sum : Fraction) (bound : ℕ) (p : Passed Fraction) → factor ≡ row_factor m e.row i → sum ≡ congestion_to k → IsNetPriceRefusal sum e.up e.down factor bound p
-        → IsRefusedIn (congestion_terms m d i) bound p ⊎ IsPricesRefusal m d bound p
+        → IsCongestionRefusal m d i bound p
     congestion_refused factor sum bound p share before why = by why
       where
         split : (front : List Term) × (rest : List Term) × (map term (rows m) ≡ front ++ term e.row ∷ rest) × (total front ≡ congestion_to k)
         split = terms_named m d term unnamed k e.row h.inside h.at
 
-        by : IsRefusal Minus e.up e.down bound p ⊎ IsShareRefusal sum (neg_ℚ (e.up -ℚ e.down)) factor bound p → IsRefusedIn (congestion_terms m d i) bound p ⊎ IsPricesRefusal m d bound p
-        by (inl c) = inr (e.row, is_named_row m d k e h, refusal_same Minus e.up e.down (up_of m d e.row) (down_of m d e.row) bound p h.up h.down c)
+        by : IsRefusal Minus e.up e.down bound p ⊎ IsShareRefusal sum (neg_ℚ (e.up -ℚ e.down)) factor bound p → IsCongestionRefusal m d i bound p
+        by (inl c) = inr (inl (e.row, is_named_row m d k e h, refusal_same Minus e.up e.down (up_of m d e.row) (down_of m d e.row) bound p h.up h.down c))
         by (inr c) = inl
             (share_at (congestion_terms m d i) split.0 split.1 (term e.row) split.2 bound p sum (neg_ℚ (e.up -ℚ e.down)) factor (ap₂ Product (sym net_price_is) (sym share)) (before ∙ sym split.3) c)
 
+    -- the factor of the row
+    pub factor_stops : (bound : ℕ) (p : Passed Fraction) → i < length m.buses → IsRefusedIn (factor_terms m e.row i) bound p → IsCongestionRefusal m d i bound p
+    factor_stops bound p inside why = inr (inr (e.row, is_named_row m d k e h, (factor_terms m e.row i, factor_at_bus i inside, why)))
+
 -- what is refused in the congestion is in the price
-pub in_congestion : (m : Parts) (d : Duals Fraction) (i : ℕ) (bound : ℕ) (p : Passed Fraction) → IsRefusedIn (congestion_terms m d i) bound p ⊎ IsPricesRefusal m d bound p → IsPriceRefusal m d i bound p
+pub in_congestion : (m : Parts) (d : Duals Fraction) (i : ℕ) (bound : ℕ) (p : Passed Fraction) → IsCongestionRefusal m d i bound p → IsPriceRefusal m d i bound p
 in_congestion m d i bound p (inl h) = inl (congestion_terms m d i, congestion_at, h)
 in_congestion m d i bound p (inr h) = inr h
 

@@ -10,16 +10,16 @@ use Rattle.market_model.specs.declared.limits.Row.{Row}
 use Rattle.market_model.specs.LimitRows.{flow, limit, most_excess, most_flow, line_flow}
 use Rattle.market_model.specs.NamedSums.{IsRefusal, IsShareRefusal}
 use Rattle.market_model.specs.Optimality.{up_of, down_of, named_rows}
-use Rattle.market_model.specs.SumTables.{IsRefusedAmong, RowFlowSum, BusPriceSum}
+use Rattle.market_model.specs.SumTables.{IsRefusedAmong, RowFlowSum, BusPriceSum, IsFactorRefusal}
 use Rattle.cert_sums.specs.Named.{PricedRow}
 
 -- the two prices of a row that duals name
 abbrev pub IsPricesRefusal : Parts → Duals Fraction → ℕ → Passed Fraction → Type 0
 IsPricesRefusal m d bound p = (r : Row) × Contains (named_rows m d) r × IsRefusal Minus (up_of m d r) (down_of m d r) bound p
 
--- in the price at a bus: of one of its sums, or of two prices of which it is made
+-- in the price at a bus: of one of its sums, or of two prices or in a factor of which it is made
 abbrev pub IsPriceRefusal : Parts → Duals Fraction → ℕ → ℕ → Passed Fraction → Type 0
-IsPriceRefusal m d i bound p = IsRefusedAmong (BusPriceSum m d i) bound p ⊎ IsPricesRefusal m d bound p
+IsPriceRefusal m d i bound p = IsRefusedAmong (BusPriceSum m d i) bound p ⊎ IsPricesRefusal m d bound p ⊎ IsFactorRefusal m (named_rows m d) bound p
 
 -- in the price at some bus
 abbrev pub IsBusPriceRefusal : Parts → Duals Fraction → ℕ → Passed Fraction → Type 0

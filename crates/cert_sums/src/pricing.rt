@@ -4,7 +4,8 @@ ghost use Rattle.std.specs.Prelude.{◌≡◌, ◌⊎◌, ◌<◌, length, IfOk,
 ghost use Rattle.fraction_theory.specs.Fraction.{Fraction, neg_ℚ, ◌+ℚ◌, ◌-ℚ◌, ◌*ℚ◌};
 ghost use Rattle.market_model.specs.declared.answered.Duals.{Duals};
 ghost use Rattle.market_model.specs.NamedSums.{IsRefusedIn};
-ghost use Rattle.market_model.specs.Optimality.{bus_price, congestion, congestion_terms};
+ghost use Rattle.market_model.specs.Optimality.{bus_price, congestion, congestion_terms, named_rows};
+ghost use Rattle.market_model.specs.SumTables.{IsFactorRefusal};
 ghost use Rattle.market_model.specs.Valued.{passed_at};
 ghost use Rattle.cert_sums.specs.Named.{AreNamed};
 ghost use Rattle.cert_sums.specs.Refusals.{IsPriceRefusal, IsPricesRefusal, IsNetPriceRefusal};
@@ -44,17 +45,13 @@ fn congestion_at<N: Exact>(
     requires named { (d : Duals Fraction) × AreNamed N.value market.now d named.now }
     requires bus { bus < length market.now.buses }
     ensures sum { (d : Duals Fraction) → AreNamed N.value market.now d named.now → IfOk result (λ sum. N.value sum ≡ congestion market.now d bus) }
-    ensures cause { (d : Duals Fraction) → AreNamed N.value market.now d named.now → IfErr result (λ passed. IsRefusedIn (congestion_terms market.now d bus) N.bound (passed_at N.value passed) ⊎ IsPricesRefusal market.now d N.bound (passed_at N.value passed)) }
+    ensures cause { (d : Duals Fraction) → AreNamed N.value market.now d named.now → IfErr result (λ passed. IsRefusedIn (congestion_terms market.now d bus) N.bound (passed_at N.value passed) ⊎ IsPricesRefusal market.now d N.bound (passed_at N.value passed) ⊎ IsFactorRefusal market.now (named_rows market.now d) N.bound (passed_at N.value passed)) }
 {
     let _lines = market.lines();
     let mut sum: N = datum(0);
     for entry in named {
-        sum = less_net_price(
-            sum,
-            entry.up,
-            entry.down,
-            row_factor(market, entry.row, bus),
-        )?;
+        let factor = row_factor(market, entry.row, bus)?;
+        sum = less_net_price(sum, entry.up, entry.down, factor)?;
     }
     Ok(sum)
 }

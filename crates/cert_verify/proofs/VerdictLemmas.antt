@@ -19,6 +19,9 @@ use Rattle.market_model.specs.Infeasibility.{farkas_bound}
 use Rattle.market_model.specs.declared.limits.Row.{Row}
 use Rattle.market_model.specs.LimitRows.{rows, row_id, limit, flow, most_flow}
 use Rattle.market_model.specs.Optimality.{BlockSupported, Gains, Loses, RowSupported, Supports, same_id, up_in, down_in, up_of, down_of, price, unit_price}
+use Rattle.market_model.specs.Lines.{HasHardLimits}
+use Rattle.market_model.specs.Market.{IsMarket}
+use Rattle.market_model.proofs.HardLimits.{hard_down, hard_most, hard_supported, hard_up}
 use Rattle.limit_rows.proofs.PlaceLemmas.{same_name}
 use Rattle.cert_verify.specs.declared.verdicts.Reason.TheVariants as reason
 use Rattle.cert_verify.specs.Certificates.{ProvesInfeasible, IsOptimum, NamesRows}
@@ -201,13 +204,13 @@ module _ (m : Parts) (x : Dispatch) where
 
   limits_to : limit_reason m x ≡ None → (r : Row) → Contains (rows m) r → Within (most_flow m r) (flow m x r)
   limits_to h r c =
-      let parts = or_parts (is_below (flow m x r) (neg_ℚ (limit m r))) (is_below (limit m r) (flow m x r)) (none_of (λ r. reason.Limit (row_id m r)) (is_overloaded m x) (rows m) h r c) in
-      record { above = not_below (flow m x r) (neg_ℚ (limit m r)) parts.0; below = not_below (limit m r) (flow m x r) parts.1 }
+      let parts = or_parts (is_below (flow m x r) (neg_ℚ (most_flow m r))) (is_below (most_flow m r) (flow m x r)) (none_of (λ r. reason.Limit (row_id m r)) (is_overloaded m x) (rows m) h r c) in
+      record { above = not_below (flow m x r) (neg_ℚ (most_flow m r)) parts.0; below = not_below (most_flow m r) (flow m x r) parts.1 }
 
   limits_from : ((r : Row) → Contains (rows m) r → Within (most_flow m r) (flow m x r)) → limit_reason m x ≡ None
   limits_from h =
       of_none (λ r. reason.Limit (row_id m r)) (is_overloaded m x) (rows m)
-      (λ r c. let w = h r c in neither (is_below (flow m x r) (neg_ℚ (limit m r))) (is_below (limit m r) (flow m x r)) (below_not (flow m x r) (neg_ℚ (limit m r)) w.above) (below_not (limit m r) (flow m x r) w.below))
+      (λ r c. let w = h r c in neither (is_below (flow m x r) (neg_ℚ (most_flow m r))) (is_below (most_flow m r) (flow m x r)) (below_not (flow m x r) (neg_ℚ (most_flow m r)) w.above) (below_not (most_flow m r) (flow m x r) w.below))
 
   inside_to : block_reason m x ≡ None → (j : ℕ) → j < length m.blocks → (zero ≤ℚ accepted x j) × (accepted x j ≤ℚ quantity m j)
   inside_to h j lt =
@@ -237,15 +240,15 @@ module _ (m : Parts) (d : Duals Fraction) where
       by : (e : Dual Fraction) → (r : Row) × Contains (rows m) r × (up_of m d r ≡ e.up) × (down_of m d r ≡ e.down) → HasSigns e
       by e (r, k, up, down) = record { up = subst (λ y. zero ≤ℚ y) up (ups r k); down = subst (λ y. zero ≤ℚ y) down (downs r k) }
 
--- ---- a dispatch and duals that support it
-module _ (m : Parts) (x : Dispatch) (d : Duals Fraction) where
-  row_to : sign_reason d.limits ≡ None → slack_reason m x d.limits ≡ None → (r : Row) → Contains (rows m) r → RowSupported m x d r
-  row_to s h r c = record {
-    up_sign = up_sign d.limits (row_id m r) (signs_to d.limits s);
-    down_sign = down_sign d.limits (row_id m r) (signs_to d.limits s);
-    up = λ p. up (priced d.limits (row_id m r)) p;
-    down = λ p. down (priced d.limits (row_id m r)) p;
-  }
+-- ---- a dispatch and duals that support it, where limits are hard
+module _ (m : Parts) (market : IsMarket m) (hard : HasHardLimits m.lines) (x : Dispatch) (d : Duals Fraction) where
+  within_limit : (r : Row) → Within (most_flow m r) (flow m x r) → Within (limit m r) (flow m x r)
+  within_limit r within = subst (λ most. Within most (flow m x r)) (hard_most m hard market r) within
+
+  row_to : sign_reason d.limits ≡ None → slack_reason m x d.limits ≡ None → (r : Row) → Contains (rows m) r → Within (most_flow m r) (flow m x r) → RowSupported m x d r
+  row_to s h r c within =
+      hard_supported m hard market x d r (within_limit r within) (up_sign d.limits (row_id m r) (signs_to d.limits s)) (down_sign d.limits (row_id m r) (signs_to d.limits s))
+      (λ p. up (priced d.limits (row_id m r)) p) (λ p. down (priced d.limits (row_id m r)) p)
     where
       up : IsFree d.limits (row_id m r) ⊎ ((e : Dual Fraction) × IsPriced d.limits (row_id m r) e) → zero <ℚ up_in d.limits (row_id m r) → flow m x r ≡ limit m r
       up (inl f) p = absurd (<ℚ_irrefl zero (subst (λ y. zero <ℚ y) f.0 p))
@@ -255,15 +258,15 @@ module _ (m : Parts) (x : Dispatch) (d : Duals Fraction) where
       down (inl f) p = absurd (<ℚ_irrefl zero (subst (λ y. zero <ℚ y) f.1 p))
       down (inr (e, is)) p = (slacks_to m x d.limits h e is.listed r c (sym is.name)).below (subst (λ y. zero <ℚ y) is.down p)
 
-  slacks_of : Apart d.limits → Supports m x d → slack_reason m x d.limits ≡ None
-  slacks_of apart s = slacks_from m x d.limits by
+  slacks_of : Apart d.limits → ((r : Row) → Contains (rows m) r → Within (most_flow m r) (flow m x r)) → Supports m x d → slack_reason m x d.limits ≡ None
+  slacks_of apart within s = slacks_from m x d.limits by
     where
       by : (e : Dual Fraction) → Contains d.limits e → (r : Row) → Contains (rows m) r → row_id m r ≡ e.row → Stands m x e.up e.down r
       by e c r k same =
           let own = own_prices d.limits apart e c in
-          let here = s.rows r k in record {
-            above = λ p. here.up (subst (λ y. zero <ℚ y) (sym (ap (up_in d.limits) same ∙ own.0)) p);
-            below = λ p. here.down (subst (λ y. zero <ℚ y) (sym (ap (down_in d.limits) same ∙ own.1)) p);
+          let inside = within_limit r (within r k) in record {
+            above = λ p. hard_up m hard market x d r inside (s.rows r k) (subst (λ y. zero <ℚ y) (sym (ap (up_in d.limits) same ∙ own.0)) p);
+            below = λ p. hard_down m hard market x d r inside (s.rows r k) (subst (λ y. zero <ℚ y) (sym (ap (down_in d.limits) same ∙ own.1)) p);
           }
 
   pub optimal_to : first_of (optimal_reasons m x d) ≡ None → IsOptimum m x d
@@ -279,7 +282,7 @@ module _ (m : Parts) (x : Dispatch) (d : Duals Fraction) where
         };
         supported = record {
           blocks = λ j lt. block_to m x d j (none_of (λ j. reason.Support (j + 1)) (is_unsupported m x d) (places (length m.blocks)) all.1.1.1.1.1.1.1.0 j (in_places (length m.blocks) j lt));
-          rows = row_to all.1.1.0 all.1.1.1.1.1.1.0;
+          rows = λ r c. row_to all.1.1.0 all.1.1.1.1.1.1.0 r c (limits_to m x all.1.1.1.1.1.0 r c);
         };
       }
 
@@ -287,11 +290,11 @@ module _ (m : Parts) (x : Dispatch) (d : Duals Fraction) where
   optimal_from apart h =
       let count : count_reason m x ≡ None = so_none (not (length x.blocks == length m.blocks)) reason.Count (not_true (length x.blocks == length m.blocks) (eq-eqb (length x.blocks) (length m.blocks) h.feasible.blocks.count)) in
       let names : row_reason m d.limits ≡ None = names_from m d.limits h.rows in
-      let signs : sign_reason d.limits ≡ None = signs_of m d apart h.rows (λ r c. (h.supported.rows r c).up_sign) (λ r c. (h.supported.rows r c).down_sign) in
+      let signs : sign_reason d.limits ≡ None = signs_of m d apart h.rows (λ r c. (h.supported.rows r c).up.sign) (λ r c. (h.supported.rows r c).down.sign) in
       let inside : block_reason m x ≡ None = inside_from m x (λ j lt. (h.feasible.blocks.above j lt, h.feasible.blocks.within j lt)) in
       let balanced : balance_reason m x ≡ None = so_none (differ (balance m x) zero) reason.Balance (same_not (balance m x) zero h.feasible.balanced) in
       let limits : limit_reason m x ≡ None = limits_from m x h.feasible.limits in
-      let slack : slack_reason m x d.limits ≡ None = slacks_of apart h.supported in
+      let slack : slack_reason m x d.limits ≡ None = slacks_of apart h.feasible.limits h.supported in
       let support : support_reason m x d ≡ None = of_none (λ j. reason.Support (j + 1)) (is_unsupported m x d) (places (length m.blocks)) (λ j c. block_from m x d j (h.supported.blocks j (from_places (length m.blocks) j c))) in
       none_first (optimal_reasons m x d) (count, (names, (signs, (inside, (balanced, (limits, (slack, (support, tt))))))))
 

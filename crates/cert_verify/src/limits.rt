@@ -24,6 +24,7 @@ fn is_overloaded<N: Exact>(market: &Market, flows: &[N], row: Row) -> Result<boo
     ensures broken { (x : Dispatch) → AreFlows market.now x (map N.value flows.now) → IfOk result (λ broken. broken ≡ is_overloaded market.now x row) }
     ensures cause { (x : Dispatch) → AreFlows market.now x (map N.value flows.now) → IfErr result (λ passed. IsRefusedIn (flow_terms market.now (line_flow market.now (injection market.now x)) row) N.bound (passed_at N.value passed)) }
 {
+    let _lines = market.lines();
     let flow = row_flow(market, flows, row)?;
     Ok(passes(flow, datum(limit_at(market, row))))
 }

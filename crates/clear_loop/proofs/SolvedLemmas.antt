@@ -1,24 +1,25 @@
 -- What is refused at a dispatch that solves the market over rows in hand is a working pair of the market over these rows.
 use Rattle.std.specs.Prelude.{ℕ, List, [], ◌∷◌, Some, None, refl}
-use Rattle.std.proofs.Common.{ap, inr, sym, subst}
+use Rattle.std.proofs.Common.{ap, inl, inr, sym, subst}
 use Rattle.fraction_theory.specs.Fraction.{Fraction}
 use Rattle.fraction_theory.specs.Sums.{Term, Product}
 use Rattle.exact_fraction.specs.declared.Passed.{Passed}
+use Rattle.fraction_theory.proofs.ListSums.{Contains-from_filter}
 use Rattle.linear_system.specs.Choices.{reduced}
-use Rattle.linear_system.specs.Numbers.{Quantity, Price}
+use Rattle.linear_system.specs.Numbers.{Factor, Quantity, Price}
 use Rattle.market_model.specs.declared.answered.Duals.{Duals}
 use Rattle.market_model.specs.declared.participants.Parts.{Parts}
 use Rattle.market_model.specs.Dispatch.{Dispatch, demand, demand_terms, injection, output}
 use Rattle.market_model.specs.declared.limits.Row.{Row}
-use Rattle.market_model.specs.LimitRows.{line_flow, flow_terms}
+use Rattle.market_model.specs.LimitRows.{line_flow, flow_terms, row_id, rows}
 use Rattle.market_model.specs.Market.{IsMarket}
 use Rattle.market_model.specs.NamedSums.{IsRefusedIn}
 use Rattle.market_model.proofs.SumParts.{flow_carried}
-use Rattle.market_model.specs.SumTables.{IsRefusedAmong, flow_of_row, limited_row, FlowSum, flow_in_limits, PriceSum, left_of_all, paid_by_load, paid_to_unit, rent_of_row, SettledSum, paid_output, demand_of_bus, payment, paid_row}
-use Rattle.market_model.specs.Optimality.{Feasible, Supports, ProperDuals, bus_price, welfare_terms}
+use Rattle.market_model.specs.SumTables.{IsRefusedAmong, flow_of_row, limited_row, FlowSum, flow_in_limits, PriceSum, IsRefusedInPrices, left_of_all, paid_by_load, paid_to_unit, rent_of_row, SettledSum, paid_output, demand_of_bus, payment, paid_row}
+use Rattle.market_model.specs.Optimality.{names_row, Feasible, Supports, ProperDuals, bus_price, welfare_terms}
 use Rattle.market_model.specs.Settlement.{load_terms, rent_terms, surplus_terms, unit_terms}
 use Rattle.market_system.specs.Growth.{BestFor, PricesOnly}
-use Rattle.market_system.specs.MarketNumbers.{IsRightChoice, IsInjecting, of_flow, of_price, of_welfare, of_settlement}
+use Rattle.market_system.specs.MarketNumbers.{IsRightChoice, IsInjecting, factor_of, of_flow, of_price, of_welfare, of_settlement}
 use Rattle.market_system.specs.MarketSystem.{system_of, choice_dispatch}
 use Rattle.market_system.specs.PairLaw.{RefusalsArePairs}
 use Rattle.market_system.specs.WorkingPairs.{IsRangeOf}
@@ -72,8 +73,10 @@ module _ (m : Parts) (g : List Row) (x : Dispatch) (d : Duals Fraction) (market 
       best : IsRightChoice m g solved.choice
       best = record { feasible = subst (Feasible m) solved.dispatch feasible; supported = solved.answers.supported }
 
-      pub price_range : IsRefusedAmong (PriceSum m d) bound p → IsRangeOf m g bound p
-      price_range (terms, sum, a) = pairs.sum (Some Price) terms (of_price terms best (subst (λ (e : Duals Fraction). PriceSum m e terms) solved.duals sum)) a
+      pub price_range : IsRefusedInPrices m d bound p → IsRangeOf m g bound p
+      price_range (inl (terms, sum, a)) = pairs.sum (Some Price) terms (of_price terms best (subst (λ (e : Duals Fraction). PriceSum m e terms) solved.duals sum)) a
+      price_range (inr (r, named, (terms, sum, a))) =
+          pairs.sum (Some Factor) terms (factor_of r terms (Contains-from_filter (λ s. names_row d.limits (row_id m s)) (rows m) r named).0 sum) a
 
       pub welfare_range : IsRefusedIn (welfare_terms m x) bound p → IsRangeOf m g bound p
       welfare_range a = pairs.sum None (welfare_terms m (choice_dispatch m g solved.choice)) (of_welfare best) (subst (λ y. IsRefusedIn (welfare_terms m y) bound p) solved.dispatch a)

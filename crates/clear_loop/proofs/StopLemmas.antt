@@ -1,20 +1,25 @@
 -- What stops a clear is a working pair over rows that are reached.
-use Rattle.std.specs.Prelude.{Contains, ◌⊎◌, ℕ, List}
+use Rattle.std.specs.Prelude.{Contains, ◌⊎◌, ℕ, List, [], ◌∷◌, ◌++◌, Some}
 use Rattle.std.proofs.Common.{inl, inr}
 use Rattle.fraction_theory.specs.Fraction.{Fraction}
 use Rattle.linear_system.specs.Choices.{Choice, IsChoice}
+use Rattle.linear_system.specs.Numbers.{Factor}
+use Rattle.linear_dict.specs.Causes.{IsPairOf}
 use Rattle.market_model.specs.declared.answered.Duals.{Duals}
 use Rattle.market_model.specs.declared.participants.Parts.{Parts}
 use Rattle.market_model.specs.Dispatch.{Dispatch}
 use Rattle.market_model.specs.declared.limits.Row.{Row}
+use Rattle.market_model.specs.LimitRows.{rows}
 use Rattle.market_model.specs.Market.{IsMarket}
 use Rattle.market_model.specs.Optimality.{Feasible}
-use Rattle.market_model.specs.Stops.{StopsBy}
-use Rattle.market_model.specs.SumTables.{IsRefusedAmong, PriceSum}
+use Rattle.market_model.specs.Stops.{OnPassed, StopsBy}
+use Rattle.market_model.specs.SumTables.{FactorSum, IsRefusedAmong, IsRefusedInPrices}
 use Rattle.market_model.specs.Valued.{passed_at}
 use Rattle.market_system.specs.Growth.{Growth}
 use Rattle.market_system.specs.MarketSystem.{system_of}
-use Rattle.market_system.proofs.GrowthLaws.{growth_again}
+use Rattle.market_system.proofs.GrowthLaws.{growth_again, growth_none}
+use Rattle.market_system.proofs.PairCases.{law_of_the_pairs}
+use Rattle.market_system.specs.MarketNumbers.{factor_of}
 use Rattle.limit_screen.specs.Flows.{flows_at, line_in, IsFlowsRefusal}
 use Rattle.limit_screen.specs.Screening.{IsScreenRefusal}
 use Rattle.settlement.specs.Paying.{ArePricesOf}
@@ -32,6 +37,14 @@ module _ {N : Type 0} (value : N → Fraction) (bound : ℕ) (m : Parts) where
   pub pair_stop : (t g : List Row) (s : Stop N) → Growth m t g → IsPairOver value bound m g s → StopsInRange value bound m t s
   pair_stop t g (stop.Passed p) grown pair = pair_range value bound m t g p grown pair
   pair_stop t g stop.Memory grown pair = tt
+
+  -- a pair of the dictionary with one row more, or in the factor of that row
+  pub taken_stop : (t : List Row) (r : Row) (h : Choice) (s : Stop N) → IsMarket m → Growth m t (t ++ r ∷ []) → IsChoice (system_of m t) h → Contains (rows m) r
+      → OnPassed s (λ p. IsPairOf value bound (system_of m (t ++ r ∷ [])) p ⊎ IsRefusedAmong (FactorSum m r) bound (passed_at value p)) → StopsInRange value bound m t s
+  taken_stop t r h (stop.Passed p) market grown choice row (inl pair) = pair_range value bound m t (t ++ r ∷ []) p grown pair
+  taken_stop t r h (stop.Passed p) market grown choice row (inr (terms, sum, a)) =
+      (law_of_the_pairs m t t h bound (passed_at value p) market (growth_none m t) choice).sum (Some Factor) terms (factor_of r terms row sum) a
+  taken_stop t r h stop.Memory market grown choice row why = tt
 
   -- where prices and bounds are made
   pub terms_stop : (t g over : List Row) (h : Choice) (s : Stop N) → IsMarket m → Growth m t g → IsChoice (system_of m g) h → ((r : Row) → Contains over r → Contains g r)
@@ -53,7 +66,7 @@ module _ {N : Type 0} (value : N → Fraction) (bound : ℕ) (m : Parts) where
 
     -- where it is priced and settled
     module _ (feasible : Feasible m x) where
-      pub price_stop : (s : Stop N) → StopsBy value (IsRefusedAmong (PriceSum m d) bound) s → StopsInRange value bound m g s
+      pub price_stop : (s : Stop N) → StopsBy value (IsRefusedInPrices m d bound) s → StopsInRange value bound m g s
       price_stop (stop.Passed p) a = price_range m g x d market solved bound (passed_at value p) feasible a
       price_stop stop.Memory a = tt
 

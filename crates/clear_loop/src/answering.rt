@@ -7,7 +7,7 @@ ghost use Rattle.market_model.specs.declared.limits.Row.{Row};
 ghost use Rattle.market_model.specs.Optimality.{Feasible, ProperDuals};
 ghost use Rattle.market_model.specs.RightAnswers.{IsRight, price_made};
 ghost use Rattle.market_model.specs.Stops.{StopsBy};
-ghost use Rattle.market_model.specs.SumTables.{IsRefusedAmong, PriceSum};
+ghost use Rattle.market_model.specs.SumTables.{IsRefusedInPrices};
 ghost use Rattle.market_model.specs.Valued.{answer_at, duals_at, price_at};
 ghost use Rattle.market_model.specs.PutIn.{dispatch_of};
 ghost use Rattle.limit_screen.specs.Flows.{flows_at};
@@ -29,7 +29,7 @@ fn bus_prices<N: Exact>(
 ) -> Result<List<Price<N>>, Stop<N>>
     requires { ProperDuals market.now (duals_at N.value duals.now) }
     ensures prices { IfOk result (λ prices. map (price_at N.value) prices ≡ map (price_made market.now (duals_at N.value duals.now)) (places (length market.now.buses))) }
-    ensures cause { IfErr result (StopsBy N.value (IsRefusedAmong (PriceSum market.now (duals_at N.value duals.now)) N.bound)) }
+    ensures cause { IfErr result (StopsBy N.value (IsRefusedInPrices market.now (duals_at N.value duals.now) N.bound)) }
 {
     let none: N = datum(0);
     let unpriced = Price {

@@ -10,10 +10,11 @@ use Rattle.market_model.specs.declared.participants.Block.{Block}
 use Rattle.market_model.specs.declared.participants.Line.{Line}
 use Rattle.market_model.specs.declared.participants.Parts.{Parts}
 use Rattle.market_model.specs.declared.participants.Side.TheVariants.{Sell, Buy}
+use Rattle.market_model.specs.Lines.{HasHardLimits, IsHard, hard_line}
 use Rattle.market_model.specs.Market.{bare_parts, IsMarket, IsBlock, IsLine, HasRoom}
 use Rattle.market_model.specs.Stairs.{stair_in}
+use Rattle.market_model.proofs.HardLimits.{hard_is_hard, hard_is_line}
 use Rattle.limit_rows.proofs.TestMarkets.{losses, one_is_market, shifts}
-use Rattle.market_model.specs.Lines.{hard_line}
 
 abbrev bus_of : ℕ → ℕ → ℕ → Bus
 bus_of number pd gs = record { number = number; pd = pos pd; gs = pos gs }
@@ -72,7 +73,7 @@ worked_is_market = record {
       (All-cons (IsBlock 2) (block_of 1 30000000) [] (record { unit = Prim.omega arith; quantity = Prim.omega (arith, ints); price = Prim.omega (arith, ints) }) (All-nil (IsBlock 2)));
   room = room_at;
   lines = All-cons IsLine (line_free 1) (line_limited ∷ line_free 3 ∷ []) (free 1 (Prim.omega arith))
-      (All-cons IsLine line_limited (line_free 3 ∷ []) (record { row = Prim.omega arith; base = Prim.omega (arith, ints); post = Prim.omega (arith, ints); offset = Prim.omega (arith, ints) })
+      (All-cons IsLine line_limited (line_free 3 ∷ []) (hard_is_line 2 (Some (pos 40000000000)) (Some (pos 1000000000000)) (pos 0) (Prim.omega arith) (Prim.omega (arith, ints)) (Prim.omega (arith, ints)) (Prim.omega (arith, ints)))
       (All-cons IsLine (line_free 3) [] (free 3 (Prim.omega arith)) (All-nil IsLine)));
   line_rows = one_is_market.line_rows;
   outages = one_is_market.outages;
@@ -85,7 +86,7 @@ worked_is_market = record {
     unit_fits row bus p q = record { row = p; bus = q; fixed = Prim.omega (arith, ints); up = Prim.omega (arith, ints); down = Prim.omega (arith, ints) }
 
     free : (row : ℕ) → 1 ≤ row → IsLine (line_free row)
-    free row p = record { row = p; base = tt; post = tt; offset = Prim.omega (arith, ints) }
+    free row p = hard_is_line row None None (pos 0) p tt tt (Prim.omega (arith, ints))
 
     rows_differ : (i j d : ℕ) → i < j → j < 2 → slice_index_or (1 ∷ 2 ∷ []) i d ≡ slice_index_or (1 ∷ 2 ∷ []) j d → ⊥
     rows_differ zero zero d p q e = absurd (Prim.omega (arith, p))
@@ -94,3 +95,11 @@ worked_is_market = record {
     rows_differ (suc i) zero d p q e = absurd (Prim.omega (arith, p))
     rows_differ (suc i) (suc zero) d p q e = absurd (Prim.omega (arith, p))
     rows_differ (suc i) (suc (suc j)) d p q e = absurd (Prim.omega (arith, q))
+
+pub worked_is_hard : HasHardLimits worked.lines
+worked_is_hard =
+    All-cons IsHard (line_free 1) (line_limited ∷ line_free 3 ∷ []) (free 1)
+    (All-cons IsHard line_limited (line_free 3 ∷ []) (hard_is_hard 2 (Some (pos 40000000000)) (Some (pos 1000000000000)) (pos 0)) (All-cons IsHard (line_free 3) [] (free 3) (All-nil IsHard)))
+  where
+    free : (row : ℕ) → IsHard (line_free row)
+    free row = hard_is_hard row None None (pos 0)

@@ -102,29 +102,29 @@ const SHIFT: [Factor; 4] = [
     Factor {
         line: 0,
         of: 1,
-        value: -500_000,
+        value: -500_000_000,
     },
     Factor {
         line: 0,
         of: 2,
-        value: -250_000,
+        value: -250_000_000,
     },
     Factor {
         line: 1,
         of: 1,
-        value: -500_000,
+        value: -500_000_000,
     },
     Factor {
         line: 1,
         of: 2,
-        value: -750_000,
+        value: -750_000_000,
     },
 ];
 
 const LOSS: [Factor; 1] = [Factor {
     line: 1,
     of: 0,
-    value: 1_000_000,
+    value: 1_000_000_000,
 }];
 
 /// A list of these.

@@ -11,7 +11,7 @@ use Rattle.fraction_theory.proofs.Ring.{at, by_ring, pmul, pneg, pone, ◌⊕◌
 use Rattle.exact_fraction.specs.Passes.{IsTooLarge}
 
 -- lowest terms are no greater
-over_within : (n : ℤ) (d : ℕ) → 0 < d → (unsigned_abs (over n d).num ≤ unsigned_abs n) × ((over n d).den ≤ d)
+pub over_within : (n : ℤ) (d : ℕ) → 0 < d → (unsigned_abs (over n d).num ≤ unsigned_abs n) × ((over n d).den ≤ d)
 unfolding over
 over_within n zero h = absurd (Prim.omega (arith, h))
 over_within n (suc d) h = (

@@ -1,15 +1,13 @@
 -- Entries by pair, and the rows that are marked.
-use Rattle.std.proofs.Common.{◌≡◌, ◌≢◌, ℕ, zero, suc, ◌+◌, ap, ◌∙◌, ◌≤◌, ◌<◌, ◌^◌, ◌++◌, ◌∷◌, [], ℤ, pos, List, length, get_or, arith, refl, sym, Option, Some, None, Bool, true, false, All, inl, inr, length-append, w64}
-use Rattle.std.specs.Prelude.{◌==◌, ◌&&◌, ◌||◌, ◌⊎◌, Contains, if◌then◌else◌, is_some, IfSome, slice_set, unsigned_abs, unwrap_or}
+use Rattle.std.proofs.Common.{◌≡◌, ◌≢◌, ℕ, ◌≤◌, ◌<◌, ◌^◌, ◌++◌, ◌∷◌, [], ℤ, pos, List, length, get_or, arith, refl, sym, Option, Some, None, Bool, true, false, All, inl, inr, w64}
+use Rattle.std.specs.Prelude.{◌==◌, ◌&&◌, ◌||◌, ◌⊎◌, Contains, is_some, IfSome, slice_set, unsigned_abs, unwrap_or}
 use Rattle.std.specs.List.{list_any}
 use Rattle.std.specs.Map.{lookup}
 use mir.Val.{to_z, of_z}
 use Rattle.std.proofs.lemmas.Int.{to_z-of_z}
-use Rattle.std.proofs.Math.Logic.{⊎_elim}
-use Rattle.std.proofs.Math.Seq.{get_or-append_seam}
 use Rattle.std.proofs.lemmas.Map.Views.{Contains-from_lookup}
-use Rattle.std.proofs.lemmas.Bool.{cases_lt, eq-eqb, eqb-true, eqb-false}
-use Rattle.std.proofs.lemmas.List.{get_or_append_left, get_or-set_same, get_or-set_other}
+use Rattle.std.proofs.lemmas.Bool.{eq-eqb, eqb-true, eqb-false}
+use Rattle.std.proofs.lemmas.List.{get_or-set_same, get_or-set_other}
 use Rattle.std.proofs.lemmas.List.Folds.{list_any-append}
 use Rattle.std.proofs.lemmas.List.Elements.{All-append, All-cons, All-nil}
 use Rattle.std.proofs.lemmas.Map.Entries.{place_from_lookup}
@@ -18,7 +16,8 @@ use Rattle.factor_tables.specs.declared.by_pair.Column.{Column}
 use Rattle.factor_tables.specs.declared.by_pair.Pairs.{Pairs}
 use Rattle.market_data.proofs.Data.{datum_fits}
 use Rattle.market_data.specs.Scales.{most_factor}
-use Rattle.factor_tables.specs.Factors.{ArePairFactors, Entry, HasNoPairTwice, IsFactorOfPair, Pair, factor_at, has_pair, marked_row, same_pair}
+use Rattle.factor_tables.proofs.KeyLemmas.{once-push}
+use Rattle.factor_tables.specs.Factors.{ArePairFactors, Entry, IsFactorOfPair, Pair, factor_at, has_pair, marked_row, same_pair}
 
 pub is-none : {X : Type 0} (o : Option X) → is_some o ≡ false → o ≡ None
 is-none None none = refl
@@ -74,33 +73,6 @@ factor_at-means entries pair = by (lookup (same_pair pair) entries) refl
 its_own : (p : Pair) → same_pair p p ≡ true
 its_own (a, b) = let first = eq-eqb a a refl in let second = eq-eqb b b refl in rw (first, second) refl
 
-behind : (passes : Bool) (f : ℤ) (rest : Option ℤ) → is_some (if passes then Some f else rest) ≡ false → is_some rest ≡ false
-behind true f rest none = cc
-behind false f rest none = none
-
--- a pair that has no record is apart from those of the records
-new_pair : (entries : List Entry) (pair : Pair) (i : ℕ) (d : Entry) → has_pair entries pair ≡ false → i < length entries → (get_or entries i d).0 ≢ pair
-new_pair [] pair i d new lt same = absurd (omega (arith, lt))
-new_pair (e ∷ entries) pair zero d new lt same =
-    let found : same_pair pair e.0 ≡ true = rw same (its_own pair) in
-    let here : is_some (lookup (same_pair pair) (e ∷ entries)) ≡ true = rw found refl in
-    cc (here, new)
-new_pair (e ∷ entries) pair (suc i) d new lt same = new_pair entries pair i d (behind (same_pair pair e.0) e.1 (lookup (same_pair pair) entries) new) (omega (arith, lt)) same
-
-once-push : (entries : List Entry) (entry : Entry) → HasNoPairTwice entries → has_pair entries entry.0 ≡ false → HasNoPairTwice (entries ++ entry ∷ [])
-once-push entries entry once new i j d lt within same =
-    let size : length (entries ++ entry ∷ []) ≡ length entries + 1 = length-append entries (entry ∷ []) in
-    let early : i < length entries = omega (arith, lt, within, size) in
-    let first = get_or_append_left entries (entry ∷ []) d i early in
-    let pair_of_first = ap (λ (e : Entry). e.0) first in
-    ⊎_elim
-    (λ old. once i j d lt old (sym pair_of_first ∙ same ∙ ap (λ (e : Entry). e.0) (get_or_append_left entries (entry ∷ []) d j old)))
-    (λ past.
-    let last : j ≡ length entries = omega (arith, past, within, size) in
-    let second : get_or (entries ++ entry ∷ []) j d ≡ entry = rw last (get_or-append_seam entries entry [] d) in
-    new_pair entries entry.0 i d new early (sym pair_of_first ∙ same ∙ ap (λ (e : Entry). e.0) second))
-    (cases_lt j (length entries))
-
 -- one record more, and its row marked
 marked-push : (kind : Column) (rows : List Bool) (entries : List Entry) (entry : Entry) (row : ℕ) → row ≡ marked_row kind entry.0 → row < length rows
     → ((k : ℕ) → get_or rows k false ≡ list_any (λ e. marked_row kind e.0 == k) entries)
@@ -123,7 +95,7 @@ pub factors-push : (kind : Column) (old new : Pairs) (entry : Entry) (row : ℕ)
     → unsigned_abs entry.1 ≤ most_factor → new.by_pair.entries ≡ old.by_pair.entries ++ entry ∷ [] → new.marked.items ≡ slice_set old.marked.items row true → ArePairFactors kind new
 factors-push kind old new entry row are fresh is lt small entries marked = record {
   marked = λ k. rw (entries, marked) (marked-push kind old.marked.items old.by_pair.entries entry row is lt are.marked k);
-  once = rw entries (once-push old.by_pair.entries entry are.once fresh);
+  once = rw entries (once-push same_pair its_own old.by_pair.entries entry are.once fresh);
   sizes = rw entries (All-append (λ (e : Entry). unsigned_abs e.1 ≤ most_factor) old.by_pair.entries (entry ∷ []) are.sizes (All-cons (λ (e : Entry). unsigned_abs e.1 ≤ most_factor) entry [] small (All-nil _)));
 }
 

@@ -1,4 +1,6 @@
 pub mod FactorLemmas
 pub mod FindLemmas
+pub mod KeyLemmas
 pub mod NameLemmas
 pub mod OffsetLemmas
+pub mod PenaltyLemmas

@@ -1,15 +1,17 @@
 -- A record of a table: the numbers in its cells.
-use Rattle.std.specs.Prelude.{ℕ, ◌<◌, ◌≤◌, ◌^◌, ℤ, nat_lt, unsigned_abs, if◌then◌else◌, Result, Ok, Err}
-use Rattle.record_reading.specs.Records.{Record}
+use Rattle.std.specs.Prelude.{ℕ, ◌<◌, ◌≤◌, ◌^◌, ℤ, Bool, true, false, codes, nat_lt, unsigned_abs, if◌then◌else◌, Result, Ok, Err}
+use Rattle.std.specs.Str.{bytes_eq}
+use Rattle.record_reading.specs.Records.{Record, cell_of}
 use Rattle.record_reading.specs.Steps.{and_then, or_as}
 use Rattle.csv_table.specs.Table.{number_in}
 use Rattle.record_reading.specs.declared.FrameFault.TheVariants as frame
 use Rattle.record_reading.specs.declared.Why.TheVariants as why
 use Rattle.factor_tables.specs.declared.cells.FactorRecord.{FactorRecord}
 use Rattle.factor_tables.specs.declared.cells.OffsetRecord.{OffsetRecord}
+use Rattle.factor_tables.specs.declared.cells.PenaltyRecord.{PenaltyRecord}
 use Rattle.factor_tables.specs.declared.table_fault.TableFault.{TableFault}
 use Rattle.factor_tables.specs.declared.table_fault.TableFault.TheVariants as fault
-use Rattle.market_data.specs.Scales.{factor_places, most_factor, mw_places}
+use Rattle.market_data.specs.Scales.{factor_places, most_factor, mw_places, price_places}
 
 -- ---- the numbers of a record
 -- the number in a cell, in units of so many places
@@ -35,6 +37,19 @@ offset_in line r =
     and_then (number line r 1 mw_places) (λ mw.
     Ok (record { branch = branch; mw = mw })))
 
+-- whether the second cell of a record of penalties names the limit after an outage, or that in the base
+unfoldable pub post_in : ℕ → Record → Result Bool TableFault
+post_in line r = if bytes_eq (cell_of r 1) (codes "base") then Ok false else if bytes_eq (cell_of r 1) (codes "post") then Ok true else Err (fault.Kind line)
+
+-- a record of penalties: which limit it names, then its numbers
+unfoldable pub penalty_in : ℕ → Record → Result PenaltyRecord TableFault
+penalty_in line r =
+    and_then (post_in line r) (λ post.
+    and_then (number line r 0 0) (λ branch.
+    and_then (number line r 2 price_places) (λ price.
+    and_then (number line r 3 mw_places) (λ excess.
+    Ok (record { branch = branch; post = post; penalty = record { price = price; excess = excess } })))))
+
 -- ---- what is known of numbers that were read
 pub record FactorIsRead (r : FactorRecord) : Type 0 where
   pub branch : unsigned_abs r.branch < 2 ^ 63
@@ -44,3 +59,8 @@ pub record FactorIsRead (r : FactorRecord) : Type 0 where
 pub record OffsetIsRead (r : OffsetRecord) : Type 0 where
   pub branch : unsigned_abs r.branch < 2 ^ 63
   pub mw : unsigned_abs r.mw < 2 ^ 63
+
+pub record PenaltyIsRead (r : PenaltyRecord) : Type 0 where
+  pub branch : unsigned_abs r.branch < 2 ^ 63
+  pub price : unsigned_abs r.penalty.price < 2 ^ 63
+  pub excess : unsigned_abs r.penalty.excess < 2 ^ 63

@@ -2,11 +2,12 @@
 
 ghost use Rattle.std.specs.Prelude.{◌≡◌, ◌+◌, ◌<◌, ◌≤◌, ◌^◌, unsigned_abs, length, get_or, [], IfOk};
 ghost use Rattle.market_data.specs.Scales.{most_factor};
-ghost use Rattle.factor_tables.specs.Records.{FactorIsRead, OffsetIsRead, factor_cell, offset_in, record_in};
+ghost use Rattle.factor_tables.specs.Records.{FactorIsRead, OffsetIsRead, PenaltyIsRead, factor_cell, offset_in, penalty_in, post_in, record_in};
 
 use crate::TableFault;
+use crate::penalty_list::Penalty;
 use csv_table::Table;
-use market_data::{FACTOR_PLACES, MOST_FACTOR, MW_PLACES};
+use market_data::{FACTOR_PLACES, MOST_FACTOR, MW_PLACES, PRICE_PLACES};
 use record_reading::{FrameFault, Why};
 
 /// A record of a table of factors as it is written.
@@ -25,6 +26,15 @@ pub(crate) struct OffsetRecord {
     pub(crate) branch: i64,
     /// In 10^-9 MW.
     pub(crate) mw: i64,
+}
+
+/// A record of the table of penalties as it is written.
+#[derive(Clone, Copy, Debug)]
+pub(crate) struct PenaltyRecord {
+    pub(crate) branch: i64,
+    /// Whether it is of the limit after an outage.
+    pub(crate) post: bool,
+    pub(crate) penalty: Penalty,
 }
 
 /// The factor in the third cell of a record.
@@ -68,4 +78,38 @@ pub(crate) fn offset_of(table: &Table, row: usize) -> Result<OffsetRecord, Table
     let branch = table.number(row, 0, 0)?;
     let mw = table.number(row, 1, MW_PLACES)?;
     Ok(OffsetRecord { branch, mw })
+}
+
+/// Whether the second cell of a record of penalties names the limit after an outage, or that in the base.
+#[tactic(auto, unfolding(crate::specs::Records::post_in))]
+fn post_of(table: &Table, row: usize) -> Result<bool, TableFault>
+    requires { (row < length table.now) × (row + 2 < 2 ^ 64) }
+    ensures { result ≡ post_in (row + 2) (get_or table.now row []) }
+{
+    let kind = table.cell(row, 1);
+    if kind == b"base".as_slice() {
+        Ok(false)
+    } else if kind == b"post".as_slice() {
+        Ok(true)
+    } else {
+        Err(TableFault::Kind { line: row + 2 })
+    }
+}
+
+/// Which limit a record of the table of penalties names, and then its numbers.
+#[tactic(auto, unfolding(crate::specs::Records::penalty_in))]
+pub(crate) fn penalty_of(table: &Table, row: usize) -> Result<PenaltyRecord, TableFault>
+    requires { (row < length table.now) × (row + 2 < 2 ^ 64) }
+    ensures read { IfOk result PenaltyIsRead }
+    ensures is { result ≡ penalty_in (row + 2) (get_or table.now row []) }
+{
+    let post = post_of(table, row)?;
+    let branch = table.number(row, 0, 0)?;
+    let price = table.number(row, 2, PRICE_PLACES)?;
+    let excess = table.number(row, 3, MW_PLACES)?;
+    Ok(PenaltyRecord {
+        branch,
+        post,
+        penalty: Penalty { price, excess },
+    })
 }

@@ -23,6 +23,15 @@ pub enum TableFault {
     DeadBus { line: usize },
     #[error("line {line} repeats an earlier one")]
     Twice { line: usize },
+    /// The word for a limit's kind is neither `base` nor `post`.
+    #[error("no kind of limit in line {line}")]
+    Kind { line: usize },
+    /// No live branch of that row has such a limit.
+    #[error("no limit of that branch and kind in line {line}")]
+    NoLimit { line: usize },
+    /// A price that is not above 0, or an excess below 0.
+    #[error("line {line} has no penalty")]
+    Penalty { line: usize },
     /// A live branch whose phase shift angle is not 0 has no record.
     #[error("branch {branch} shifts phases and has no offset")]
     NoOffset { branch: u32 },

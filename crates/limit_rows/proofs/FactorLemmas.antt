@@ -1,4 +1,4 @@
--- The factor of a row in units of 10^-12, and where the lines of rows stand.
+-- Where the lines of rows stand, and the sizes of factors.
 use Rattle.std.specs.Prelude.{◌≡◌, ℕ, ◌*◌, ◌<◌, ◌≤◌, Bool, true, false, if◌then◌else◌, unsigned_abs, ℤ, pos, ◌+ℤ◌, ◌*ℤ◌, List, [], ◌∷◌, map, filter, length, All, Contains, refl}
 use Rattle.std.specs.List.{flat_map}
 use Rattle.std.proofs.Common.{suc, arith, ap, sym, subst, ◌∙◌, get_or}
@@ -10,7 +10,7 @@ use Rattle.fraction_theory.proofs.Ring.{by_ring, at, padd, pmul}
 use Rattle.fraction_theory.proofs.IntegerLaws.{ring_ℤ}
 use Rattle.fraction_theory.proofs.FractionLaws.{Is, same_value, over_is, plus_is, times_is}
 use Rattle.fraction_theory.proofs.FieldLaws.{over-same, widen, +ℚ_nil}
-use Rattle.market_data.specs.Scales.{factor_one, factor_product_one, most_factor}
+use Rattle.market_data.specs.Scales.{most_market_factor}
 use Rattle.market_model.specs.declared.participants.Factor.{Factor}
 use Rattle.market_model.specs.declared.participants.Parts.{Parts}
 use Rattle.market_model.specs.Dispatch.{places, line_at}
@@ -21,32 +21,6 @@ use Rattle.market_model.specs.declared.limits.Cause.TheVariants.{Base, Branch}
 use Rattle.market_model.specs.LimitRows.{bears, causes, lost_lines, place_of_line, rows, rows_of, row_factor}
 use Rattle.market_model.specs.Market.{IsMarket, IsTableFactor}
 use Rattle.market_model.proofs.LostLemmas.{outage_line, place_at}
-
--- ---- factors of one width
-factor-one : (a : ℕ) → 0 < a → (h : ℤ) → over (h *ℤ pos a) (a * a) ≡ over h a
-factor-one a p h = over-same (h *ℤ pos a) h (a * a) a (mul-pos p p) p (by_ring ring_ℤ (h ∷ pos a ∷ []) (pmul (pmul (at 0) (at 1)) (at 1)) (pmul (at 0) (pmul (at 1) (at 1))) refl)
-
-factor-two : (a : ℕ) → 0 < a → (h l k : ℤ) → over (h *ℤ pos a +ℤ l *ℤ k) (a * a) ≡ over h a +ℚ over l a *ℚ over k a
-factor-two a p h l k =
-    let sum : Fraction = over h a +ℚ over l a *ℚ over k a in
-    let both = plus_is (over h a) (over l a *ℚ over k a) h (l *ℤ k) a (a * a) (over_is h a p) (times_is (over l a) (over k a) l k a a (over_is l a p) (over_is k a p)) in
-    let tops : h *ℤ pos (a * a) +ℤ (l *ℤ k) *ℤ pos a ≡ (h *ℤ pos a +ℤ l *ℤ k) *ℤ pos a =
-    by_ring ring_ℤ (h ∷ pos a ∷ l ∷ k ∷ []) (padd (pmul (at 0) (pmul (at 1) (at 1))) (pmul (pmul (at 2) (at 3)) (at 1))) (pmul (padd (pmul (at 0) (at 1)) (pmul (at 2) (at 3))) (at 1)) refl in
-    let other : Is sum ((h *ℤ pos a +ℤ l *ℤ k) *ℤ pos a) ((a * a) * a) =
-    subst (λ (d : ℕ). Is sum ((h *ℤ pos a +ℤ l *ℤ k) *ℤ pos a) d) (mul_comm a (a * a)) (subst (λ (n : ℤ). Is sum n (a * (a * a))) tops both) in
-    same_value (over (h *ℤ pos a +ℤ l *ℤ k) (a * a)) sum ((h *ℤ pos a +ℤ l *ℤ k) *ℤ pos a) ((a * a) * a) (mul-pos (mul-pos p p) p)
-    (widen (over (h *ℤ pos a +ℤ l *ℤ k) (a * a)) (h *ℤ pos a +ℤ l *ℤ k) (a * a) a (over_is (h *ℤ pos a +ℤ l *ℤ k) (a * a) (mul-pos p p))) other
-
-pub factor-base : (m : Parts) (l i : ℕ) → over (factor_in m.shift l i *ℤ pos factor_one) factor_product_one ≡ row_factor m (record { line = l; cause = Base }) i
-unfolding row_factor
-factor-base m l i = factor-one factor_one (Prim.omega arith) (factor_in m.shift l i) ∙ sym (+ℚ_nil (over (factor_in m.shift l i) factor_one))
-
-pub factor-after : (m : Parts) (l lost i : ℕ)
-    → over (factor_in m.shift l i *ℤ pos factor_one +ℤ factor_in m.loss l lost *ℤ factor_in m.shift lost i) factor_product_one ≡ row_factor m (record { line = l; cause = Branch lost }) i
-unfolding row_factor
-factor-after m l lost i =
-    factor-two factor_one (Prim.omega arith) (factor_in m.shift l i) (factor_in m.loss l lost) (factor_in m.shift lost i)
-    ∙ ap (λ (f : Fraction). over (factor_in m.shift l i) factor_one +ℚ f) (sym (+ℚ_nil (over (factor_in m.loss l lost) factor_one *ℚ over (factor_in m.shift lost i) factor_one)))
 
 -- ---- where the lines of a row stand
 -- a lost line is that of an outage
@@ -85,10 +59,10 @@ module _ (m : Parts) (market : IsMarket m) where
   stands r (k, lt, e) = subst (Stands m) e (rows_stand k r lt)
 
 -- ---- the size of a factor
-pub factor_in-size : (lines others : ℕ) (fs : List Factor) (l o : ℕ) → All (IsTableFactor lines others) fs → unsigned_abs (factor_in fs l o) ≤ most_factor
+pub factor_in-size : (lines others : ℕ) (fs : List Factor) (l o : ℕ) → All (IsTableFactor lines others) fs → unsigned_abs (factor_in fs l o) ≤ most_market_factor
 factor_in-size lines others [] l o all = Prim.omega arith
 factor_in-size lines others (f ∷ fs) l o all = by (is_pair l o f) (all 0 f (Prim.omega arith)).size (factor_in-size lines others fs l o (λ k d lt. all (suc k) d (Prim.omega (arith, lt))))
   where
-    by : (b : Bool) → unsigned_abs f.value ≤ most_factor → unsigned_abs (factor_in fs l o) ≤ most_factor → unsigned_abs (if b then f.value else factor_in fs l o) ≤ most_factor
+    by : (b : Bool) → unsigned_abs f.value ≤ most_market_factor → unsigned_abs (factor_in fs l o) ≤ most_market_factor → unsigned_abs (if b then f.value else factor_in fs l o) ≤ most_market_factor
     by true here rest = here
     by false here rest = rest

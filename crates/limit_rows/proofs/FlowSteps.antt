@@ -6,13 +6,13 @@ use Rattle.fraction_theory.specs.Sums.{Term, Plain, Product, total}
 use Rattle.fraction_theory.proofs.FieldLaws.{ring_ℚ, over-same, over-one, +ℚ_nil, +ℚ_assoc, *ℚ_comm}
 use Rattle.fraction_theory.proofs.Ring.{times_nil}
 use Rattle.exact_fraction.specs.declared.Passed.{Passed}
-use Rattle.market_data.specs.Scales.{factor_one}
+use Rattle.market_data.specs.Scales.{market_factor_one}
 use Rattle.market_model.specs.declared.limits.Cause.{Cause}
 use Rattle.market_model.specs.declared.limits.Cause.TheVariants.{Base, Branch}
 use Rattle.market_model.specs.declared.limits.Row.{Row}
 use Rattle.market_model.specs.declared.participants.Parts.{Parts}
 use Rattle.market_model.specs.Dispatch.{Dispatch, places, injection}
-use Rattle.market_model.specs.LimitRows.{IsCauseAmong, flow_by, flow_terms, terms_under, line_flow, line_offset, line_terms, loss_factor, offset_terms, row_offset, shift_factor}
+use Rattle.market_model.specs.LimitRows.{IsCauseAmong, factor_terms, flow_by, flow_terms, terms_under, line_flow, line_offset, line_terms, loss_factor, offset_terms, row_factor, row_offset, shift_factor}
 use Rattle.market_model.specs.NamedSums.{IsRefusedIn, IsShareRefusal}
 use Rattle.market_model.specs.PutIn.{AreInjections, put_in}
 use Rattle.market_model.specs.SumTables.{IsRefusedAmong, LineFlowSum, flow_of_line}
@@ -23,9 +23,9 @@ use Rattle.market_model.proofs.SumSteps.{share_at, terms_at}
 use Rattle.limit_rows.specs.LineFlows.{AreFlows}
 
 -- a factor of 0 takes nothing
-pub no_share : (s x : Fraction) (k : ℤ) → k ≡ pos 0 → s ≡ s +ℚ over k factor_one *ℚ x
+pub no_share : (s x : Fraction) (k : ℤ) → k ≡ pos 0 → s ≡ s +ℚ over k market_factor_one *ℚ x
 no_share s x k e =
-    let nil : over k factor_one ≡ whole (pos 0) = ap (λ (n : ℤ). over n factor_one) e ∙ over-same (pos 0) (pos 0) factor_one 1 (Prim.omega arith) (Prim.omega arith) refl ∙ over-one (pos 0) in
+    let nil : over k market_factor_one ≡ whole (pos 0) = ap (λ (n : ℤ). over n market_factor_one) e ∙ over-same (pos 0) (pos 0) market_factor_one 1 (Prim.omega arith) (Prim.omega arith) refl ∙ over-one (pos 0) in
     sym (ap (λ t. s +ℚ t *ℚ x) nil ∙ ap (λ t. s +ℚ t) (*ℚ_comm (whole (pos 0)) x ∙ times_nil ring_ℚ x) ∙ +ℚ_nil s)
 
 -- ---- the flow of a line
@@ -80,6 +80,20 @@ module _ (m : Parts) (l k : ℕ) (own h gone : Fraction) (own_is : own ≡ line_
 
   pub offset_refused : (bound : ℕ) (e : Passed Fraction) → IsShareRefusal own h gone bound e → IsRefusedIn (offset_terms m (record { line = l; cause = Branch k })) bound e
   offset_refused bound e why = flow_refused m (line_offset m) l k own h gone own_is factor_is gone_is bound e why
+
+-- ---- the factor of a row at a bus: its flow where those of lines are their shift factors for it
+module _ (m : Parts) (l i : ℕ) (own : Fraction) (own_is : own ≡ shift_factor m l i) where
+  pub base_factor : own ≡ row_factor m (record { line = l; cause = Base }) i
+  unfolding row_factor
+  base_factor = base_flow m (λ n. shift_factor m n i) l own own_is
+
+  module _ (k : ℕ) (h gone : Fraction) (factor_is : h ≡ loss_factor m l k) (gone_is : gone ≡ shift_factor m k i) where
+    pub factor_after : (more : Fraction) → more ≡ own +ℚ h *ℚ gone → more ≡ row_factor m (record { line = l; cause = Branch k }) i
+    unfolding row_factor
+    factor_after more e = flow_after m (λ n. shift_factor m n i) l k own h gone own_is factor_is gone_is more e
+
+    pub factor_refused : (bound : ℕ) (e : Passed Fraction) → IsShareRefusal own h gone bound e → IsRefusedIn (factor_terms m (record { line = l; cause = Branch k }) i) bound e
+    factor_refused bound e why = flow_refused m (λ n. shift_factor m n i) l k own h gone own_is factor_is gone_is bound e why
 
 -- ---- the same flows of lines make the same flow of a row
 module _ (m : Parts) (f g : ℕ → Fraction) (same : (l : ℕ) → l < length m.lines → f l ≡ g l) where

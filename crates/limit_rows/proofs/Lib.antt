@@ -9,3 +9,4 @@ pub mod PositionLemmas
 pub mod NameLemmas
 pub mod TestMarkets
 pub mod WalkLemmas
+pub mod WideFactors

@@ -7,11 +7,11 @@ use Rattle.std.proofs.lemmas.List.Kept.{AllPairs-cons}
 use Rattle.market_data.specs.Participants.{IsBus}
 use Rattle.market_data.specs.declared.participants.Bus.{Bus}
 use Rattle.market_model.specs.declared.participants.Factor.{Factor}
-use Rattle.market_model.proofs.HardLimits.{no_cost}
 use Rattle.market_model.specs.declared.participants.Line.{Line}
 use Rattle.market_model.specs.declared.participants.Parts.{Parts}
 use Rattle.market_model.specs.Market.{bare_parts, IsMarket, IsLine, IsTableFactor, AreTableFactors}
-use Rattle.market_model.specs.Lines.{hard_line}
+use Rattle.market_model.specs.Lines.{hard_line, IsHard, HasHardLimits}
+use Rattle.market_model.proofs.HardLimits.{hard_is_hard, hard_is_line}
 
 abbrev pub bus_of : ℕ → Bus
 bus_of number = record { number = number; pd = pos 0; gs = pos 0 }
@@ -26,10 +26,10 @@ abbrev pub buses : List Bus
 buses = bus_of 1 ∷ bus_of 2 ∷ bus_of 3 ∷ []
 
 abbrev pub shifts : List Factor
-shifts = shift_of 0 1 (negsuc 499999) ∷ shift_of 0 2 (negsuc 249999) ∷ shift_of 1 1 (negsuc 499999) ∷ shift_of 1 2 (negsuc 749999) ∷ []
+shifts = shift_of 0 1 (negsuc 499999999) ∷ shift_of 0 2 (negsuc 249999999) ∷ shift_of 1 1 (negsuc 499999999) ∷ shift_of 1 2 (negsuc 749999999) ∷ []
 
 abbrev pub losses : List Factor
-losses = shift_of 1 0 (pos 1000000) ∷ []
+losses = shift_of 1 0 (pos 1000000000) ∷ []
 
 abbrev pub lines : Option ℤ → List Line
 lines third = line_of 1 None None ∷ line_of 2 (Some (pos 40)) (Some (pos 45)) ∷ line_of 3 None third ∷ []
@@ -55,22 +55,22 @@ OtherPair f g = f.line ≡ g.line → f.of ≢ g.of
 
 shifts-are : AreTableFactors 3 3 shifts
 shifts-are = record {
-  each = All-cons (IsTableFactor 3 3) (shift_of 0 1 (negsuc 499999)) (shift_of 0 2 (negsuc 249999) ∷ shift_of 1 1 (negsuc 499999) ∷ shift_of 1 2 (negsuc 749999) ∷ []) (record { line = Prim.omega arith; of = Prim.omega arith; size = Prim.omega (arith, ints) })
-      (All-cons (IsTableFactor 3 3) (shift_of 0 2 (negsuc 249999)) (shift_of 1 1 (negsuc 499999) ∷ shift_of 1 2 (negsuc 749999) ∷ []) (record { line = Prim.omega arith; of = Prim.omega arith; size = Prim.omega (arith, ints) })
-      (All-cons (IsTableFactor 3 3) (shift_of 1 1 (negsuc 499999)) (shift_of 1 2 (negsuc 749999) ∷ []) (record { line = Prim.omega arith; of = Prim.omega arith; size = Prim.omega (arith, ints) })
-      (All-cons (IsTableFactor 3 3) (shift_of 1 2 (negsuc 749999)) ([]) (record { line = Prim.omega arith; of = Prim.omega arith; size = Prim.omega (arith, ints) })
+  each = All-cons (IsTableFactor 3 3) (shift_of 0 1 (negsuc 499999999)) (shift_of 0 2 (negsuc 249999999) ∷ shift_of 1 1 (negsuc 499999999) ∷ shift_of 1 2 (negsuc 749999999) ∷ []) (record { line = Prim.omega arith; of = Prim.omega arith; size = Prim.omega (arith, ints) })
+      (All-cons (IsTableFactor 3 3) (shift_of 0 2 (negsuc 249999999)) (shift_of 1 1 (negsuc 499999999) ∷ shift_of 1 2 (negsuc 749999999) ∷ []) (record { line = Prim.omega arith; of = Prim.omega arith; size = Prim.omega (arith, ints) })
+      (All-cons (IsTableFactor 3 3) (shift_of 1 1 (negsuc 499999999)) (shift_of 1 2 (negsuc 749999999) ∷ []) (record { line = Prim.omega arith; of = Prim.omega arith; size = Prim.omega (arith, ints) })
+      (All-cons (IsTableFactor 3 3) (shift_of 1 2 (negsuc 749999999)) ([]) (record { line = Prim.omega arith; of = Prim.omega arith; size = Prim.omega (arith, ints) })
       (All-nil (IsTableFactor 3 3)))));
-  distinct = AllPairs-cons OtherPair (shift_of 0 1 (negsuc 499999)) (shift_of 0 2 (negsuc 249999) ∷ shift_of 1 1 (negsuc 499999) ∷ shift_of 1 2 (negsuc 749999) ∷ [])
-      (All-cons (OtherPair (shift_of 0 1 (negsuc 499999))) (shift_of 0 2 (negsuc 249999)) (shift_of 1 1 (negsuc 499999) ∷ shift_of 1 2 (negsuc 749999) ∷ []) (λ e f. absurd (Prim.omega (arith, f)))
-      (All-cons (OtherPair (shift_of 0 1 (negsuc 499999))) (shift_of 1 1 (negsuc 499999)) (shift_of 1 2 (negsuc 749999) ∷ []) (λ e. absurd (Prim.omega (arith, e)))
-      (All-cons (OtherPair (shift_of 0 1 (negsuc 499999))) (shift_of 1 2 (negsuc 749999)) [] (λ e. absurd (Prim.omega (arith, e))) (All-nil (OtherPair (shift_of 0 1 (negsuc 499999)))))))
-      (three_apart OtherPair (shift_of 0 2 (negsuc 249999)) (shift_of 1 1 (negsuc 499999)) (shift_of 1 2 (negsuc 749999)) (λ e. absurd (Prim.omega (arith, e))) (λ e. absurd (Prim.omega (arith, e))) (λ e f. absurd (Prim.omega (arith, f))));
+  distinct = AllPairs-cons OtherPair (shift_of 0 1 (negsuc 499999999)) (shift_of 0 2 (negsuc 249999999) ∷ shift_of 1 1 (negsuc 499999999) ∷ shift_of 1 2 (negsuc 749999999) ∷ [])
+      (All-cons (OtherPair (shift_of 0 1 (negsuc 499999999))) (shift_of 0 2 (negsuc 249999999)) (shift_of 1 1 (negsuc 499999999) ∷ shift_of 1 2 (negsuc 749999999) ∷ []) (λ e f. absurd (Prim.omega (arith, f)))
+      (All-cons (OtherPair (shift_of 0 1 (negsuc 499999999))) (shift_of 1 1 (negsuc 499999999)) (shift_of 1 2 (negsuc 749999999) ∷ []) (λ e. absurd (Prim.omega (arith, e)))
+      (All-cons (OtherPair (shift_of 0 1 (negsuc 499999999))) (shift_of 1 2 (negsuc 749999999)) [] (λ e. absurd (Prim.omega (arith, e))) (All-nil (OtherPair (shift_of 0 1 (negsuc 499999999)))))))
+      (three_apart OtherPair (shift_of 0 2 (negsuc 249999999)) (shift_of 1 1 (negsuc 499999999)) (shift_of 1 2 (negsuc 749999999)) (λ e. absurd (Prim.omega (arith, e))) (λ e. absurd (Prim.omega (arith, e))) (λ e f. absurd (Prim.omega (arith, f))));
 }
 
 losses-are : AreTableFactors 3 3 losses
 losses-are = record {
-  each = All-cons (IsTableFactor 3 3) (shift_of 1 0 (pos 1000000)) [] (record { line = Prim.omega arith; of = Prim.omega arith; size = Prim.omega (arith, ints) }) (All-nil (IsTableFactor 3 3));
-  distinct = one_alone OtherPair (shift_of 1 0 (pos 1000000));
+  each = All-cons (IsTableFactor 3 3) (shift_of 1 0 (pos 1000000000)) [] (record { line = Prim.omega arith; of = Prim.omega arith; size = Prim.omega (arith, ints) }) (All-nil (IsTableFactor 3 3));
+  distinct = one_alone OtherPair (shift_of 1 0 (pos 1000000000));
 }
 
 -- outages that are rows of the three branches make a market
@@ -87,9 +87,9 @@ is_market third outages limit few rows apart = record {
   unit_rows = λ i j d p q. absurd (Prim.omega (arith, q));
   blocks = λ i d lt. absurd (Prim.omega (arith, lt));
   room = λ place d lt. absurd (Prim.omega (arith, lt));
-  lines = All-cons IsLine (line_of 1 None None) (line_of 2 (Some (pos 40)) (Some (pos 45)) ∷ line_of 3 None third ∷ []) (record { row = Prim.omega arith; base = tt; post = tt; base_penalty = no_cost; post_penalty = no_cost; offset = Prim.omega (arith, ints) })
-      (All-cons IsLine (line_of 2 (Some (pos 40)) (Some (pos 45))) (line_of 3 None third ∷ []) (record { row = Prim.omega arith; base = Prim.omega (arith, ints); post = Prim.omega (arith, ints); base_penalty = no_cost; post_penalty = no_cost; offset = Prim.omega (arith, ints) })
-      (All-cons IsLine (line_of 3 None third) [] (record { row = Prim.omega arith; base = tt; post = limit; base_penalty = no_cost; post_penalty = no_cost; offset = Prim.omega (arith, ints) }) (All-nil IsLine)));
+  lines = All-cons IsLine (line_of 1 None None) (line_of 2 (Some (pos 40)) (Some (pos 45)) ∷ line_of 3 None third ∷ []) (hard_is_line 1 None None (pos 0) (Prim.omega arith) tt tt (Prim.omega (arith, ints)))
+      (All-cons IsLine (line_of 2 (Some (pos 40)) (Some (pos 45))) (line_of 3 None third ∷ []) (hard_is_line 2 (Some (pos 40)) (Some (pos 45)) (pos 0) (Prim.omega arith) (Prim.omega (arith, ints)) (Prim.omega (arith, ints)) (Prim.omega (arith, ints)))
+      (All-cons IsLine (line_of 3 None third) [] (hard_is_line 3 None third (pos 0) (Prim.omega arith) tt limit (Prim.omega (arith, ints))) (All-nil IsLine)));
   line_rows = numbers;
   outages = rows;
   outages_distinct = apart;
@@ -102,6 +102,12 @@ is_market third outages limit few rows apart = record {
 
     numbers : AllPairs Apart (1 ∷ 2 ∷ 3 ∷ [])
     numbers = three_apart Apart 1 2 3 (λ e. absurd (Prim.omega (arith, e))) (λ e. absurd (Prim.omega (arith, e))) (λ e. absurd (Prim.omega (arith, e)))
+
+pub lines_are_hard : (third : Option ℤ) → HasHardLimits (lines third)
+lines_are_hard third =
+    All-cons IsHard (line_of 1 None None) (line_of 2 (Some (pos 40)) (Some (pos 45)) ∷ line_of 3 None third ∷ []) (hard_is_hard 1 None None (pos 0))
+    (All-cons IsHard (line_of 2 (Some (pos 40)) (Some (pos 45))) (line_of 3 None third ∷ []) (hard_is_hard 2 (Some (pos 40)) (Some (pos 45)) (pos 0))
+    (All-cons IsHard (line_of 3 None third) [] (hard_is_hard 3 None third (pos 0)) (All-nil IsHard)))
 
 pub one_is_market : IsMarket (parts None (1 ∷ []))
 one_is_market = is_market None (1 ∷ []) tt (Prim.omega arith) (All-cons (Contains (1 ∷ 2 ∷ 3 ∷ [])) 1 [] (0, Prim.omega arith, refl) (All-nil (Contains (1 ∷ 2 ∷ 3 ∷ [])))) (one_alone Apart 1)

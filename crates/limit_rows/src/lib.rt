@@ -10,7 +10,7 @@ mod places;
 mod softness;
 mod walk;
 
-pub use factors::{factor, factor_at, loss_of, row_factor, shift_of, unit_factor};
+pub use factors::{coefficient, loss_of, row_factor, shift_of, unit_factor};
 pub use flowing::{put_line_flows, row_flow, row_offset};
 pub use numbering::{count, id, place_of, position, row_at};
 pub use places::{found_row, limit_at, name_at, row_named};

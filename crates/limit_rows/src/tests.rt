@@ -4,9 +4,12 @@ ghost use Rattle.std.specs.Prelude.{◌≡◌, ◌∷◌, [], pos, negsuc, IfOk}
 ghost use Rattle.market_model.specs.Lines.{hard_line};
 
 use crate::causes::{cause_at, cause_count, has_row};
-use crate::{count, factor, factor_at, id, limit_at, name_at, position, row_named};
+use crate::{coefficient, count, id, limit_at, name_at, position, row_named};
+use exact_fraction::{Exact, Frac};
+use market_data::MARKET_FACTOR_ONE;
 use market_model::{Bus, Factor, Line, List, Market, Memory, Parts, RowId, assemble};
 use std::alloc::Global;
+use std::cmp::Ordering;
 use std::test::Fail;
 
 fn bus(number: u32) -> Bus
@@ -43,22 +46,22 @@ fn three_buses(alloc: Global) -> Result<List<Bus>, Memory>
 
 /// The shift factors of branches 1 and 2 of the triangle.
 fn shift_factors(alloc: Global) -> Result<List<Factor>, Memory>
-    ensures { IfOk result (λ list. list ≡ record { line = 0; of = 1; value = negsuc 499999 } ∷ record { line = 0; of = 2; value = negsuc 249999 } ∷ record { line = 1; of = 1; value = negsuc 499999 } ∷ record { line = 1; of = 2; value = negsuc 749999 } ∷ []) }
+    ensures { IfOk result (λ list. list ≡ record { line = 0; of = 1; value = negsuc 499999999 } ∷ record { line = 0; of = 2; value = negsuc 249999999 } ∷ record { line = 1; of = 1; value = negsuc 499999999 } ∷ record { line = 1; of = 2; value = negsuc 749999999 } ∷ []) }
 {
     let mut list = List::new(alloc);
-    list.push(factor_for(0, 1, -500_000))?;
-    list.push(factor_for(0, 2, -250_000))?;
-    list.push(factor_for(1, 1, -500_000))?;
-    list.push(factor_for(1, 2, -750_000))?;
+    list.push(factor_for(0, 1, -500_000_000))?;
+    list.push(factor_for(0, 2, -250_000_000))?;
+    list.push(factor_for(1, 1, -500_000_000))?;
+    list.push(factor_for(1, 2, -750_000_000))?;
     Ok(list)
 }
 
 /// All of the flow of branch 1 goes over to branch 2.
 fn loss_factors(alloc: Global) -> Result<List<Factor>, Memory>
-    ensures { IfOk result (λ list. list ≡ record { line = 1; of = 0; value = pos 1000000 } ∷ []) }
+    ensures { IfOk result (λ list. list ≡ record { line = 1; of = 0; value = pos 1000000000 } ∷ []) }
 {
     let mut list = List::new(alloc);
-    list.push(factor_for(1, 0, 1_000_000))?;
+    list.push(factor_for(1, 0, 1_000_000_000))?;
     Ok(list)
 }
 
@@ -116,23 +119,28 @@ fn name_of(market: &Market, place: usize) -> Option<RowId> {
     }
 }
 
-/// The factor of the row of a name, where there is one.
-fn factor_of(market: &Market, row: RowId, bus: usize) -> Option<i64> {
+/// Whether a number is this one, in 10^-9.
+fn is_number(number: Frac, of: i32) -> bool {
+    number.order(Frac::of_parts(i64::from(of), MARKET_FACTOR_ONE)) == Ordering::Equal
+}
+
+/// Whether the row of a name has this factor at a bus, in 10^-9.
+fn has_factor(market: &Market, row: RowId, bus: usize, factor: i32) -> bool {
     match position(market, row) {
-        Some(_) if bus < market.buses().len() => Some(factor(market, row, bus)),
-        _ => None,
+        Some(_) if bus < market.buses().len() => match coefficient(market, row, bus) {
+            Ok(number) => is_number(number, factor),
+            Err(_) => false,
+        },
+        _ => false,
     }
 }
 
-/// The name and the limit of the row of a name, and its factor at a bus, by place.
-fn by_place(market: &Market, name: RowId, bus: usize) -> Option<(RowId, i64, i64)> {
+/// The name and the limit of the row of a name, by place.
+fn by_place(market: &Market, name: RowId) -> Option<(RowId, i64)> {
+    let _lines = market.lines();
     match row_named(market, name) {
-        Some(row) if bus < market.buses().len() => Some((
-            name_at(market, row),
-            limit_at(market, row),
-            factor_at(market, row, bus),
-        )),
-        _ => None,
+        Some(row) => Some((name_at(market, row), limit_at(market, row))),
+        None => None,
     }
 }
 
@@ -171,11 +179,11 @@ fn rows_and_factors_after_one_outage(rt: HostRuntime) -> Result<(), Fail> {
     assert!(rt; count(&market) == 2);
     assert!(rt; name_of(&market, 0) == Some(row(2, 0)));
     assert!(rt; name_of(&market, 1) == Some(row(2, 1)));
-    assert!(rt; factor_of(&market, row(2, 0), 2) == Some(-750_000_000_000));
-    assert!(rt; factor_of(&market, row(2, 1), 0) == Some(0));
-    assert!(rt; factor_of(&market, row(2, 1), 1) == Some(-1_000_000_000_000));
-    assert!(rt; factor_of(&market, row(2, 1), 2) == Some(-1_000_000_000_000));
-    assert!(rt; by_place(&market, row(2, 1), 2) == Some((row(2, 1), 45, -1_000_000_000_000)));
-    assert!(rt; by_place(&market, row(3, 1), 2).is_none());
+    assert!(rt; has_factor(&market, row(2, 0), 2, -750_000_000));
+    assert!(rt; has_factor(&market, row(2, 1), 0, 0));
+    assert!(rt; has_factor(&market, row(2, 1), 1, -1_000_000_000));
+    assert!(rt; has_factor(&market, row(2, 1), 2, -1_000_000_000));
+    assert!(rt; by_place(&market, row(2, 1)) == Some((row(2, 1), 45)));
+    assert!(rt; by_place(&market, row(3, 1)).is_none());
     Ok(())
 }

@@ -216,7 +216,7 @@ module _ {N : Type 0} (value : N → Fraction) (columns rows : List ℕ) (coeffi
         among (Column j) w s = Prim.omega (arith, s.0, e)
 
 -- what is read by name after one more name is put in
-insert_read : (names : List ℕ) (notes : List Noted) (i row : ℕ) (n : Noted) (w : ℕ) → IsStrictlyIncreasing (insert names i row) → i ≤ length names → length notes ≡ length names → Contains names w
+pub insert_read : (names : List ℕ) (notes : List Noted) (i row : ℕ) (n : Noted) (w : ℕ) → IsStrictlyIncreasing (insert names i row) → i ≤ length names → length notes ≡ length names → Contains names w
     → get_or (insert notes i n) (place_in (insert names i row) w) blank ≡ get_or notes (place_in names w) blank
 insert_read names notes i row n w rises h l m =
     let p = place_in-within names w m in
@@ -230,7 +230,7 @@ insert_read names notes i row n w rises h l m =
           ∙ get_or-insert_above notes i n blank k b (Prim.omega (arith, h, l))
     ]
 
-insert_read_new : (names : List ℕ) (notes : List Noted) (i row : ℕ) (n : Noted) → IsStrictlyIncreasing (insert names i row) → i ≤ length names → length notes ≡ length names
+pub insert_read_new : (names : List ℕ) (notes : List Noted) (i row : ℕ) (n : Noted) → IsStrictlyIncreasing (insert names i row) → i ≤ length names → length notes ≡ length names
     → get_or (insert notes i n) (place_in (insert names i row) row) blank ≡ n
 insert_read_new names notes i row n rises h l =
     ap (λ (x : ℕ). get_or (insert notes i n) x blank)

@@ -70,6 +70,12 @@ Distinct-push xs y d absent i j e p q =
           absent (i, hi, get_or_default_zero xs i y hi ∙ sym (get_or_default_zero xs i e hi) ∙ sym (get_or_append_left xs (y ∷ []) e i hi) ∙ s ∙ ap (λ (t : ℕ). get_or (xs ++ y ∷ []) t e) last ∙ get_or-append_seam xs y [] e)
     ]
 
+-- a name behind distinct names is none of these
+pub Distinct-last : (xs : List ℕ) (y : ℕ) → Distinct (xs ++ y ∷ []) → ¬ (Contains xs y)
+Distinct-last xs y d c =
+    d c.0 (length xs) y c.1 (Prim.omega (arith, length-append xs (y ∷ [])))
+    (get_or_append_left xs (y ∷ []) y c.0 c.1 ∙ c.2 ∙ sym (get_or-append_seam xs y [] y))
+
 -- a split after one more name of the second, or of the first
 pub split_second : (names first second : List ℕ) (i w : ℕ) → i ≤ length names → ¬ (Contains names w) → IsSplit names first second → IsSplit (insert names i w) first (second ++ w ∷ [])
 split_second names first second i w h absent s = record {

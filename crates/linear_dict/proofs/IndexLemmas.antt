@@ -129,6 +129,9 @@ adds_here {N} vs v i rises within low high = record {
   ascending = subst IsStrictlyIncreasing (sym (map-insert name_of vs i v)) (rises-insert (map name_of vs) i v.name rises within low high);
 }
 
+pub added_map : {N Y : Type 0} (f : Variable N → Y) (vs us : List (Variable N)) (v : Variable N) (a : AddsVariable vs v us) → map f us ≡ insert (map f vs) a.rank (f v)
+added_map f vs us v a = ap (map f) a.is ∙ map-insert f vs a.rank v
+
 -- another name than those there are
 pub absent_not_found : (names : List ℕ) (x i : ℕ) → ¬ (Contains names x) → (i < length names) → slice_index names i ≡ x → ⊥
 absent_not_found names x i absent h e = absent (i, h, get_or_default_zero names i x h ∙ e)

@@ -1,6 +1,9 @@
+pub mod AddColumnLemmas
 pub mod AddRowLemmas
 pub mod AddingLemmas
 pub mod CauseLemmas
+pub mod ColumnLaws
+pub mod ColumnLemmas
 pub mod ExchangeLemmas
 pub mod GrowLemmas
 pub mod IndexLemmas

@@ -34,18 +34,18 @@ use Rattle.linear_dict.proofs.SplitLemmas.{basic_in, in_basics, in_others}
 use Rattle.linear_dict.proofs.TableLemmas.{within}
 
 -- a filter drops a name that is put in where its test says so
-filter-insert : (test : ℕ → Bool) (xs : List ℕ) (i x : ℕ) → test x ≡ false → filter test (insert xs i x) ≡ filter test xs
+pub filter-insert : (test : ℕ → Bool) (xs : List ℕ) (i x : ℕ) → test x ≡ false → filter test (insert xs i x) ≡ filter test xs
 filter-insert test xs i x e =
     filter-append test (take i xs) (x ∷ drop i xs)
     ∙ ap (λ (b : Bool). filter test (take i xs) ++ cond b (x ∷ filter test (drop i xs)) (filter test (drop i xs))) e
     ∙ sym (filter-append test (take i xs) (drop i xs)) ∙ ap (filter test) (take-append-drop i xs)
 
-place-push_old : (xs : List ℕ) (y w : ℕ) → Distinct xs → ¬ (Contains xs y) → Contains xs w → place_in (xs ++ y ∷ []) w ≡ place_in xs w
+pub place-push_old : (xs : List ℕ) (y w : ℕ) → Distinct xs → ¬ (Contains xs y) → Contains xs w → place_in (xs ++ y ∷ []) w ≡ place_in xs w
 place-push_old xs y w d n c =
     let p = place_in-within xs w c in
     place_in-at (xs ++ y ∷ []) (place_in xs w) w (Distinct-push xs y d n) (Prim.omega (arith, p.0, length-append xs (y ∷ []))) (get_or_append_left xs (y ∷ []) 0 (place_in xs w) p.0 ∙ p.1)
 
-place-push_new : (xs : List ℕ) (y : ℕ) → Distinct xs → ¬ (Contains xs y) → place_in (xs ++ y ∷ []) y ≡ length xs
+pub place-push_new : (xs : List ℕ) (y : ℕ) → Distinct xs → ¬ (Contains xs y) → place_in (xs ++ y ∷ []) y ≡ length xs
 place-push_new xs y d n = place_in-at (xs ++ y ∷ []) (length xs) y (Distinct-push xs y d n) (Prim.omega (arith, length-append xs (y ∷ []))) (get_or-append_seam xs y [] 0)
 
 map-members : {S T : Type 0} (f g : S → T) (xs : List S) → ((x : S) → Contains xs x → f x ≡ g x) → map f xs ≡ map g xs
@@ -53,11 +53,11 @@ map-members f g [] e = refl
 map-members f g (x ∷ xs) e = ap₂ ◌∷◌ (e x (Contains-head x xs)) (map-members f g xs (λ y m. e y (Contains-cons x xs y m)))
 
 -- the cells of a table with one more row
-cell-old : (columns : ℕ) (xs ys : List Fraction) (rows i j : ℕ) → length xs ≡ rows * columns → i < rows → j < columns → cell columns (xs ++ ys) i j ≡ cell columns xs i j
+pub cell-old : (columns : ℕ) (xs ys : List Fraction) (rows i j : ℕ) → length xs ≡ rows * columns → i < rows → j < columns → cell columns (xs ++ ys) i j ≡ cell columns xs i j
 unfolding cell
 cell-old columns xs ys rows i j e hi hj = get_or_append_left xs ys (whole (pos 0)) (i * columns + j) (Prim.omega (arith, within rows columns i j hi hj, e))
 
-cell-new : (columns : ℕ) (xs ys : List Fraction) (rows j : ℕ) → length xs ≡ rows * columns → cell columns (xs ++ ys) rows j ≡ get_or ys j (whole (pos 0))
+pub cell-new : (columns : ℕ) (xs ys : List Fraction) (rows j : ℕ) → length xs ≡ rows * columns → cell columns (xs ++ ys) rows j ≡ get_or ys j (whole (pos 0))
 unfolding cell
 cell-new columns xs ys rows j e = ap (λ (k : ℕ). get_or (xs ++ ys) (k + j) (whole (pos 0))) (sym e) ∙ get_or-append-add xs ys j (whole (pos 0))
 

@@ -1,6 +1,6 @@
 -- A dictionary as callers see it: the rows as put in, and beside them the table that gives the basic variables by the
 -- others. Source: Chvátal, Linear Programming.
-use Rattle.std.specs.Prelude.{◌≡◌, ℕ, ◌*◌, Bool, false, List, [], ◌∷◌, ◌++◌, ◌<◌, length, map, take, filter, slice_index, slice_index_or, slice_set, refl}
+use Rattle.std.specs.Prelude.{◌≡◌, ◌↔◌, ℕ, ◌*◌, Bool, false, List, [], ◌∷◌, ◌++◌, ◌<◌, ◌≤◌, length, map, take, filter, insert, slice_index, slice_index_or, slice_set, refl}
 use Rattle.std.specs.Coded.{Coded, code_by, coded×, coded_ℕ, coded_bool, coded_list}
 use Rattle.std.specs.List.{Contains}
 use Rattle.std.specs.List.Sorted.{IsStrictlyIncreasing}
@@ -8,10 +8,10 @@ use Rattle.fraction_theory.specs.Code.{fraction_code}
 use Rattle.fraction_theory.specs.Fraction.{Fraction}
 use Rattle.linear_system.specs.Choices.{Choice, IsChoice, row_entry_terms}
 use Rattle.fraction_theory.specs.Sums.{total}
-use Rattle.linear_system.specs.Systems.{System}
+use Rattle.linear_system.specs.Systems.{System, MeetsRows}
 use Rattle.linear_dict.specs.Notes.{Noted, noted, noted_code, blank}
 use Rattle.linear_dict.specs.Places.{place_in, is_among, IsSplit}
-use Rattle.linear_dict.specs.Tables.{cell, table_of, pivoted_cell}
+use Rattle.linear_dict.specs.Tables.{cell, table_of, pivoted_cell, widened}
 use Rattle.linear_dict.specs.declared.index.Variable.{Variable}
 use Rattle.linear_dict.specs.Indexes.{name_of}
 
@@ -137,4 +137,20 @@ pub record AddsRow {N : Type 0} (value : N → Fraction) (old : Dictionary) (row
       → cell (length old.others) new.table (length old.basics) c ≡ total (row_entry_terms (system_in new) (choice_of old) row (slice_index old.others c))
   pub notes : (w : ℕ) → Contains old.names w → note_of new w ≡ note_of old w
   pub blank_note : note_of new row ≡ blank
+  pub sound : IsDictionary new
+
+-- The dictionary with one more column, an other variable at a new last place, where nothing is noted of it. Its entries
+-- are 0 in each row, so a point meets the rows exactly where it met them before; all else stays.
+pub record AddsColumn (old : Dictionary) (column : ℕ) (new : Dictionary) : Type 0 where
+  pub live : new.spent ≡ false
+  pub columns : new.columns ≡ old.columns ++ column ∷ []
+  pub rows : new.rows ≡ old.rows
+  pub coefficients : new.coefficients ≡ widened (length old.rows) (length old.columns) old.coefficients
+  pub others : new.others ≡ old.others ++ column ∷ []
+  pub basics : new.basics ≡ old.basics
+  pub table : new.table ≡ widened (length old.basics) (length old.others) old.table
+  pub names : (rank : ℕ) × (rank ≤ length old.names) × (new.names ≡ insert old.names rank column)
+  pub notes : (w : ℕ) → Contains old.names w → note_of new w ≡ note_of old w
+  pub blank_note : note_of new column ≡ blank
+  pub same_solutions : (v : ℕ → Fraction) → MeetsRows (system_in new) v ↔ MeetsRows (system_in old) v
   pub sound : IsDictionary new

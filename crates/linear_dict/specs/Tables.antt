@@ -34,6 +34,13 @@ solved_cell f r c = with_row (λ j. neg_ℚ (f r j) *ℚ recip_ℚ (f r c)) (rec
 unfoldable pub cleared_cell : (ℕ → ℕ → Fraction) → ℕ → ℕ → ℕ → ℕ → ℕ → Fraction
 cleared_cell f row r c = with_row (λ j. f row j +ℚ f row c *ℚ f r j) (f row c *ℚ f r c) f row c
 
+-- the table with one more column at the end, of zeros
+unfoldable pub widened_cell : (ℕ → ℕ → Fraction) → ℕ → ℕ → ℕ → Fraction
+widened_cell f columns i j = if j == columns then whole (pos 0) else f i j
+
+unfoldable pub widened : ℕ → ℕ → List Fraction → List Fraction
+widened rows columns xs = table_of rows (columns + 1) (widened_cell (cell columns xs) columns)
+
 -- the list xs is the table of f
 pub record Shows (rows columns : ℕ) (xs : List Fraction) (f : ℕ → ℕ → Fraction) : Type 0 where
   pub count : length xs ≡ rows * columns

@@ -45,6 +45,17 @@ impl<N> From<Passed<N>> for AddStop<N> {
     }
 }
 
+/// Makes room for one more name. The names stay, whatever the answer.
+pub(crate) fn make_room_for_name(names: &mut Vec<u32>) -> Result<(), Memory>
+    ensures same { names.new.items ≡ names.old.items }
+    ensures room { OnOk result (vec_len names.new < vec_capacity names.new) }
+{
+    match names.reserve(1) {
+        Ok(()) => Ok(()),
+        Err(_) => Err(Memory),
+    }
+}
+
 /// Makes room for one more row. The items stay, whatever the answer.
 pub(crate) fn make_room<N: Exact>(
     rows: &mut Vec<u32>,
@@ -58,14 +69,8 @@ pub(crate) fn make_room<N: Exact>(
     ensures room { OnOk result ((vec_len rows.new < vec_capacity rows.new) × (vec_len basics.new < vec_capacity basics.new)
         × (vec_len coefficients.new + columns ≤ vec_capacity coefficients.new) × (vec_len table.new + columns ≤ vec_capacity table.new)) }
 {
-    match rows.reserve(1) {
-        Ok(()) => {}
-        Err(_) => return Err(Memory),
-    }
-    match basics.reserve(1) {
-        Ok(()) => {}
-        Err(_) => return Err(Memory),
-    }
+    make_room_for_name(rows)?;
+    make_room_for_name(basics)?;
     match coefficients.reserve(columns) {
         Ok(()) => {}
         Err(_) => return Err(Memory),

@@ -4,12 +4,13 @@ ghost use Rattle.linear_dict.specs.Indexes.{IsStartedIndex, name_of};
 ghost use Rattle.linear_system.specs.Choices.{IsChoice};
 ghost use Rattle.fraction_theory.specs.Fraction.{whole};
 ghost use Rattle.linear_dict.specs.Causes.{AddShare, IsPairOf, IsPairWith, IsRefused, OnStoppedBy, PivotShare};
-ghost use Rattle.linear_dict.specs.Dictionaries.{AddsRow, IsDictionary, IsStart, choice_of, note_of, pivoted, system_in, with_note};
+ghost use Rattle.linear_dict.specs.Dictionaries.{AddsColumn, AddsRow, IsDictionary, IsStart, choice_of, note_of, pivoted, system_in, with_note};
 ghost use Rattle.linear_dict.specs.Notes.{noted};
 ghost use Rattle.linear_dict.specs.Places.{StandsAt};
 ghost use Rattle.linear_dict.specs.Tables.{cell};
 
-use crate::adding::{AddStop, append, make_room, row_entries};
+use crate::adding::{AddStop, append, make_room, make_room_for_name, row_entries};
+use crate::column::widened_table;
 use crate::index::{Variable, add_variable, rank};
 use crate::note::{Note, blank_note};
 use crate::place::Place;
@@ -314,6 +315,33 @@ impl<N: Exact> Dict<N> {
         self.basics.push_reserved(row);
         append(&mut self.coefficients, entries);
         append(&mut self.table, &fresh);
+        Ok(())
+    }
+
+    /// Adds a column at a new last column place, whose entries are 0 in all rows, so that no solution changes. All is as
+    /// before where there is no memory.
+    pub fn add_column(&mut self, column: u32) -> Result<(), Memory>
+        requires live { self.old.spent ≡ false }
+        requires absent { ¬ (Contains self.old.names column) }
+        ensures { MatchResult result (λ _. AddsColumn self.old column self.new) (λ _. self.new ≡ self.old) }
+    {
+        let alloc = *self.table.allocator();
+        let (rows, columns) = (self.rows.len(), self.columns.len());
+        let coefficients = widened_table(alloc, &self.coefficients, rows, columns)?;
+        let table = widened_table(alloc, &self.table, self.basics.len(), self.others.len())?;
+        make_room_for_name(&mut self.columns)?;
+        make_room_for_name(&mut self.others)?;
+        let variable = Variable {
+            name: column,
+            place: Place::Column(self.others.len()),
+            put: Place::Column(columns),
+            note: blank_note(),
+        };
+        add_variable(&mut self.names, &mut self.variables, variable)?;
+        self.columns.push_reserved(column);
+        self.others.push_reserved(column);
+        self.coefficients = coefficients;
+        self.table = table;
         Ok(())
     }
 

@@ -3,6 +3,7 @@
 #![tactic(auto)]
 
 mod adding;
+mod column;
 mod dict;
 mod index;
 mod note;

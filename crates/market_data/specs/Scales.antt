@@ -21,21 +21,33 @@ price_one = 10 ^ price_places
 abbrev pub money_places : ℕ
 money_places = 15
 
--- decimals of factors: a datum is a number of 10^-6
+-- decimals of factors in tables: a datum is a number of 10^-6
 abbrev pub factor_places : ℕ
 factor_places = 6
 
--- a factor of 1 as a datum: of how many parts a factor is a number
+-- a factor of 1 as such a datum: of how many parts a factor is a number
 abbrev pub factor_one : ℕ
 factor_one = 10 ^ factor_places
 
--- the same for a product of two factors
-abbrev pub factor_product_one : ℕ
-factor_product_one = 10 ^ (2 * factor_places)
-
--- the greatest size of a factor as a datum: that of 1000
+-- the greatest size of a factor as such a datum: that of 1000
 abbrev pub most_factor : ℕ
 most_factor = 10 ^ 9
+
+-- decimals of factors in a market: a datum is a number of 10^-9
+abbrev pub market_factor_places : ℕ
+market_factor_places = 9
+
+-- a factor of 1 as such a datum
+abbrev pub market_factor_one : ℕ
+market_factor_one = 10 ^ market_factor_places
+
+-- the greatest size of a factor as such a datum: that of 1000
+abbrev pub most_market_factor : ℕ
+most_market_factor = 10 ^ 12
+
+-- how many of these data one of a table's makes
+abbrev pub factor_step : ℕ
+factor_step = 1000
 
 -- decimals of reactances and of ratios: of both a datum is a number of 10^-9
 abbrev pub reactance_places : ℕ

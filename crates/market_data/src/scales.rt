@@ -15,17 +15,20 @@ pub const PRICE_ONE: i64 = 1_000_000;
 /// Decimal places of money and welfare, a product of the two.
 pub const MONEY_PLACES: u8 = 15;
 
-/// Decimal places of factors: a datum is a number of 10^-6.
+/// Decimal places of factors in tables: a datum is a number of 10^-6.
 pub const FACTOR_PLACES: u8 = 6;
 
-/// A factor of 1 as a datum: of how many parts a factor is a number.
+/// A factor of 1 as such a datum: of how many parts a factor is a number.
 pub const FACTOR_ONE: u64 = 1_000_000;
 
-/// The same for a product of two factors.
-pub const FACTOR_PRODUCT_ONE: u64 = 1_000_000_000_000;
-
-/// The greatest size of a factor as a datum: that of 1000.
+/// The greatest size of a factor as such a datum: that of 1000.
 pub const MOST_FACTOR: u64 = 1_000_000_000;
+
+/// A factor of 1 in a market, where a datum is a number of 10^-9.
+pub const MARKET_FACTOR_ONE: u64 = 1_000_000_000;
+
+/// How many of a market's data for factors one of a table's makes.
+pub const FACTOR_STEP: i64 = 1_000;
 
 /// Decimal places of reactances and of ratios: of both a datum is a number of 10^-9.
 pub const REACTANCE_PLACES: u8 = 9;

@@ -1,9 +1,13 @@
 //! The dictionary of a market: its start with the balance alone, and the limits that it takes.
 
-ghost use Rattle.std.specs.Prelude.{List, [], ◌∷◌, ◌++◌, Contains, IfOk, IfErr};
+ghost use Rattle.std.specs.Prelude.{◌⊎◌, List, [], ◌∷◌, ◌++◌, Contains, IfOk, IfErr};
 ghost use Rattle.market_model.specs.declared.limits.Row.{Row};
 ghost use Rattle.market_model.specs.LimitRows.{rows};
-ghost use Rattle.market_dict.specs.Findings.{IsPairOver};
+ghost use Rattle.linear_dict.specs.Causes.{IsPairOf};
+ghost use Rattle.market_model.specs.Stops.{OnPassed};
+ghost use Rattle.market_model.specs.SumTables.{FactorSum, IsRefusedAmong};
+ghost use Rattle.market_model.specs.Valued.{passed_at};
+ghost use Rattle.market_system.specs.MarketSystem.{system_of};
 ghost use Rattle.market_dict.specs.Holding.{HoldsMarket};
 
 use crate::entries::{balance_entries, row_entries};
@@ -36,7 +40,7 @@ pub fn take_limit<N: Exact>(
     requires row { Contains (rows market.now) row }
     requires holds { (g : List Row) × HoldsMarket market.now g dict.old × ¬ (Contains g row) }
     ensures taken { (g : List Row) → HoldsMarket market.now g dict.old → IfOk result (λ _. HoldsMarket market.now (g ++ row ∷ []) dict.new) }
-    ensures pair { (g : List Row) → HoldsMarket market.now g dict.old → IfErr result (IsPairOver N.value N.bound market.now (g ++ row ∷ [])) }
+    ensures cause { (g : List Row) → HoldsMarket market.now g dict.old → IfErr result (λ stop. OnPassed stop (λ p. IsPairOf N.value N.bound (system_of market.now (g ++ row ∷ [])) p ⊎ IsRefusedAmong (FactorSum market.now row) N.bound (passed_at N.value p))) }
 {
     let _lines = market.lines();
     let entries = row_entries(alloc, market, row)?;

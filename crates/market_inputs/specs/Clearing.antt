@@ -1,8 +1,8 @@
 -- What the bytes of the files of a clear stand for.
-use Rattle.std.specs.Prelude.{ℕ, ◌≤◌, ◌==◌, ℤ, pos, List, [], ◌∷◌, All, map, unwrap_or, unsigned_abs, if◌then◌else◌, Result, Ok}
+use Rattle.std.specs.Prelude.{ℕ, ◌≤◌, ◌==◌, ℤ, pos, ◌*ℤ◌, List, [], ◌∷◌, All, map, unwrap_or, unsigned_abs, if◌then◌else◌, Result, Ok}
 use Rattle.std.specs.List.{enumerate_from, flat_map}
 use Rattle.market_data.specs.declared.participants.Bus.{Bus}
-use Rattle.market_data.specs.Scales.{most_factor}
+use Rattle.market_data.specs.Scales.{factor_step, most_market_factor}
 use Rattle.market_model.specs.declared.participants.Factor.{Factor}
 use Rattle.market_model.specs.declared.participants.Line.{Line}
 use Rattle.market_model.specs.declared.participants.Parts.{Parts}
@@ -39,9 +39,13 @@ factors_of_line value line others = flat_map (λ other. unless_0 (record { line 
 abbrev pub factors_by : {A B : Type 0} → (A → B → ℤ) → List A → List B → List Factor
 factors_by value lines others = flat_map (λ line. factors_of_line (value line.1) line.0 others) (enumerate_from 0 lines)
 
+-- a table's factor as a market has it
+abbrev pub market_factor : ℤ → ℤ
+market_factor value = value *ℤ pos factor_step
+
 -- the factors of branches that are not 0, in the columns of others by their names
 abbrev pub named_factors : {B : Type 0} → (B → ℕ) → List Entry → List NetBranch → List B → List Factor
-named_factors name table branches others = factors_by (λ branch other. factor_at table (branch.row, name other)) branches others
+named_factors name table branches others = factors_by (λ branch other. market_factor (factor_at table (branch.row, name other))) branches others
 
 -- the shift factors of branches for buses
 abbrev pub shift_by : List Entry → List NetBranch → List Bus → List Factor
@@ -53,7 +57,7 @@ loss_by loss branches = named_factors (λ lost. lost.row) loss branches branches
 
 -- no factor is too great
 abbrev pub AreSmall : List Factor → Type 0
-AreSmall factors = All (λ factor. unsigned_abs factor.value ≤ most_factor) factors
+AreSmall factors = All (λ factor. unsigned_abs factor.value ≤ most_market_factor) factors
 
 -- ---- the market
 -- the market of a network with its tables, its offers and its offsets

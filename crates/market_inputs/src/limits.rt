@@ -2,11 +2,12 @@
 
 ghost use Rattle.std.specs.Prelude.{◌≡◌, ℕ, ◌++◌, ◌≤◌, All, IfOk, map, unsigned_abs};
 ghost use Rattle.market_data.specs.Participants.{IsDatum};
-ghost use Rattle.market_data.specs.Scales.{most_factor};
+ghost use Rattle.market_data.specs.Scales.{most_factor, most_market_factor};
 ghost use Rattle.factor_tables.specs.Factors.{factor_at};
-ghost use Rattle.market_inputs.specs.Clearing.{AreSmall, factors_of_line, line_of, named_factors, unless_0};
+ghost use Rattle.market_inputs.specs.Clearing.{AreSmall, factors_of_line, line_of, market_factor, named_factors, unless_0};
 
 use factor_tables::{ByBus, ByOutage, FactorTable, Offsets, TableKind};
+use market_data::FACTOR_STEP;
 use market_model::{Bus, Factor, Line, List, Memory};
 use net_case::NetBranch;
 use std::alloc::Global;
@@ -78,6 +79,15 @@ impl Named for NetBranch {
     }
 }
 
+/// A table's factor as a market has it.
+fn market_factor(value: i64) -> i64
+    requires { unsigned_abs value ≤ most_factor }
+    ensures size { unsigned_abs result ≤ most_market_factor }
+    ensures is { result ≡ market_factor value }
+{
+    value * FACTOR_STEP
+}
+
 /// Adds the factors of a line in the columns of these.
 fn push_factors<T: Named>(
     factors: &mut List<Factor>,
@@ -88,10 +98,10 @@ fn push_factors<T: Named>(
 ) -> Result<(), Memory>
     requires { AreSmall factors.old }
     ensures small { IfOk result (λ _. AreSmall factors.new) }
-    ensures are { IfOk result (λ _. factors.new ≡ factors.old ++ factors_of_line (λ other. factor_at table.now (row, T.name other)) line others.now) }
+    ensures are { IfOk result (λ _. factors.new ≡ factors.old ++ factors_of_line (λ other. market_factor (factor_at table.now (row, T.name other))) line others.now) }
 {
     for (of, other) in others.iter().enumerate() {
-        let value = table.factor(row, other.name());
+        let value = market_factor(table.factor(row, other.name()));
         push_factor(factors, Factor { line, of, value })?;
     }
     Ok(())

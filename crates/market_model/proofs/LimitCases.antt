@@ -33,12 +33,12 @@ money n = pos (n * 10 ^ 15)
 
 -- ---- the three-bus network: branches 1: 1-2, 2: 1-3, 3: 2-3, of which the first has twice the reactance of the others
 abbrev pub shifts : List Factor
-shifts = record { line = 0; of = 1; value = neg_ℤ (pos 500000) } ∷ record { line = 1; of = 1; value = neg_ℤ (pos 500000) } ∷ record { line = 2; of = 1; value = pos 500000 }
-    ∷ record { line = 0; of = 2; value = neg_ℤ (pos 250000) } ∷ record { line = 1; of = 2; value = neg_ℤ (pos 750000) } ∷ record { line = 2; of = 2; value = neg_ℤ (pos 250000) } ∷ []
+shifts = record { line = 0; of = 1; value = neg_ℤ (pos 500000000) } ∷ record { line = 1; of = 1; value = neg_ℤ (pos 500000000) } ∷ record { line = 2; of = 1; value = pos 500000000 }
+    ∷ record { line = 0; of = 2; value = neg_ℤ (pos 250000000) } ∷ record { line = 1; of = 2; value = neg_ℤ (pos 750000000) } ∷ record { line = 2; of = 2; value = neg_ℤ (pos 250000000) } ∷ []
 
 abbrev pub losses : List Factor
-losses = record { line = 1; of = 0; value = pos 1000000 } ∷ record { line = 2; of = 0; value = neg_ℤ (pos 1000000) } ∷ record { line = 0; of = 1; value = pos 1000000 }
-    ∷ record { line = 2; of = 1; value = pos 1000000 } ∷ record { line = 0; of = 2; value = neg_ℤ (pos 1000000) } ∷ record { line = 1; of = 2; value = pos 1000000 } ∷ []
+losses = record { line = 1; of = 0; value = pos 1000000000 } ∷ record { line = 2; of = 0; value = neg_ℤ (pos 1000000000) } ∷ record { line = 0; of = 1; value = pos 1000000000 }
+    ∷ record { line = 2; of = 1; value = pos 1000000000 } ∷ record { line = 0; of = 2; value = neg_ℤ (pos 1000000000) } ∷ record { line = 1; of = 2; value = pos 1000000000 } ∷ []
 
 -- loads of the first and the third bus, and the shunt of the third
 abbrev pub buses : ℕ → ℕ → ℕ → List Bus

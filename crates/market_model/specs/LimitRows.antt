@@ -113,7 +113,7 @@ is_soft m r = is_positive (penalty_of (is_outage r.cause) (line_at m r.line))
 -- ---- factors and offsets
 -- how many decimal places a factor has
 abbrev pub factor_places : Parts → ℕ
-factor_places m = scales.factor_places
+factor_places m = scales.market_factor_places
 
 -- what a factor stands for
 abbrev pub factor_value : Parts → ℤ → Fraction

@@ -1,7 +1,7 @@
 -- What every market keeps.
 use Rattle.std.specs.Prelude.{◌≡◌, ◌≢◌, ℕ, ◌<◌, ◌≤◌, pos, ◌≤ℤ◌, List, [], length, map, slice_index_or, All, AllPairs, IfSome, Contains, unsigned_abs}
 use Rattle.market_data.specs.Participants.{IsDatum, IsBus, IsUnit}
-use Rattle.market_data.specs.Scales.{most_blocks, most_buses, most_factor, most_lines, most_outages, most_units}
+use Rattle.market_data.specs.Scales.{most_blocks, most_buses, most_market_factor, most_lines, most_outages, most_units}
 use Rattle.market_data.specs.declared.participants.Bus.{Bus}
 use Rattle.market_data.specs.declared.participants.Unit as unit
 use Rattle.market_model.specs.declared.participants.Block.{Block}
@@ -38,7 +38,7 @@ pub record IsLine (line : Line) : Type 0 where
 pub record IsTableFactor (lines others : ℕ) (factor : Factor) : Type 0 where
   pub line : factor.line < lines
   pub of : factor.of < others
-  pub size : unsigned_abs factor.value ≤ most_factor
+  pub size : unsigned_abs factor.value ≤ most_market_factor
 
 -- factors of which no two are of one pair
 pub record AreTableFactors (lines others : ℕ) (factors : List Factor) : Type 0 where

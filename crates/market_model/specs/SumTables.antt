@@ -1,6 +1,6 @@
 -- The sums of a market that are added up, each by its terms in order and in one place. A part is some of them, or other parts together.
 -- Wood and Wollenberg: injections and flows; Schweppe and others, Spot Pricing of Electricity: prices and money.
-use Rattle.std.specs.Prelude.{◌≢◌, ℕ, ◌<◌, List, length, Contains}
+use Rattle.std.specs.Prelude.{◌≢◌, ◌⊎◌, ℕ, ◌<◌, List, length, Contains}
 use Rattle.fraction_theory.specs.Fraction.{Fraction}
 use Rattle.fraction_theory.specs.Sums.{Term}
 use Rattle.exact_fraction.specs.declared.Passed.{Passed}
@@ -60,6 +60,10 @@ pub data OffsetSum (m : Parts) (r : Row) : List Term → Type 0 where
 pub data FactorSum (m : Parts) (r : Row) : List Term → Type 0 where
   factor_at_bus : (i : ℕ) → i < length m.buses → FactorSum m r (factor_terms m r i)
 
+-- an operation refused in the factor of one of these rows
+abbrev pub IsFactorRefusal : Parts → List Row → ℕ → Passed Fraction → Type 0
+IsFactorRefusal m g bound p = (r : Row) × Contains g r × IsRefusedAmong (FactorSum m r) bound p
+
 -- of a dispatch: the output of a unit
 pub data OutputSum (m : Parts) (x : Dispatch) : List Term → Type 0 where
   output_of_unit : (u : ℕ) → u < length m.units → OutputSum m x (output_terms m x u)
@@ -73,6 +77,10 @@ pub data BusPriceSum (m : Parts) (d : Duals Fraction) (i : ℕ) : List Term → 
 -- the same at every bus
 pub data PriceSum (m : Parts) (d : Duals Fraction) : List Term → Type 0 where
   price_of_bus : (i : ℕ) (terms : List Term) → i < length m.buses → BusPriceSum m d i terms → PriceSum m d terms
+
+-- an operation refused in the prices at buses: in one of their sums, or in the factor of a row that duals name
+abbrev pub IsRefusedInPrices : Parts → Duals Fraction → ℕ → Passed Fraction → Type 0
+IsRefusedInPrices m d bound p = IsRefusedAmong (PriceSum m d) bound p ⊎ IsFactorRefusal m (named_rows m d) bound p
 
 -- the bound of duals that are to show that nothing is feasible
 pub data BoundSum (m : Parts) (d : Duals Fraction) : List Term → Type 0 where

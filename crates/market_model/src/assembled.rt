@@ -103,7 +103,7 @@ impl Market {
         place_of_line(&self.parts, row)
     }
 
-    /// The shift factor of a line for a bus, both by place, in 10^-6.
+    /// The shift factor of a line for a bus, both by place, in 10^-9.
     pub fn shift(&self, line: usize, bus: usize) -> i64
         requires line { line < length self.now.lines }
         requires bus { bus < length self.now.buses }
@@ -112,7 +112,7 @@ impl Market {
         self.shift[line * self.parts.buses.len() + bus]
     }
 
-    /// The loss factor of a line for a line that is lost, both by place, in 10^-6. It is read at once where an outage loses that line;
+    /// The loss factor of a line for a line that is lost, both by place, in 10^-9. It is read at once where an outage loses that line;
     /// limit rows ask for no other, for which it is looked up in the list.
     pub fn loss(&self, line: usize, lost: usize) -> i64
         requires line { line < length self.now.lines }

@@ -72,7 +72,7 @@ pub struct Factor {
     pub line: usize,
     /// The place of the bus, or of the lost line.
     pub of: usize,
-    /// In 10^-6.
+    /// In 10^-9.
     pub value: i64,
 }
 

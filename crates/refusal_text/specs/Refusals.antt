@@ -93,6 +93,9 @@ table_words (table_fault.NoBus line) = codes "NoBus" ++ codes " line " ++ decima
 table_words (table_fault.DeadBranch line) = codes "DeadBranch" ++ codes " line " ++ decimal line
 table_words (table_fault.DeadBus line) = codes "DeadBus" ++ codes " line " ++ decimal line
 table_words (table_fault.Twice line) = codes "Twice" ++ codes " line " ++ decimal line
+table_words (table_fault.Kind line) = codes "Kind" ++ codes " line " ++ decimal line
+table_words (table_fault.NoLimit line) = codes "NoLimit" ++ codes " line " ++ decimal line
+table_words (table_fault.Penalty line) = codes "Penalty" ++ codes " line " ++ decimal line
 table_words (table_fault.NoOffset branch) = codes "NoOffset branch " ++ decimal branch
 table_words table_fault.Memory = []
 

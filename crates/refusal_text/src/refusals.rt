@@ -235,6 +235,9 @@ fn write_table_fault(text: &mut Text, fault: TableFault) -> Result<(), Memory>
         TableFault::DeadBranch { line } => at_line(text, b"DeadBranch", line),
         TableFault::DeadBus { line } => at_line(text, b"DeadBus", line),
         TableFault::Twice { line } => at_line(text, b"Twice", line),
+        TableFault::Kind { line } => at_line(text, b"Kind", line),
+        TableFault::NoLimit { line } => at_line(text, b"NoLimit", line),
+        TableFault::Penalty { line } => at_line(text, b"Penalty", line),
         TableFault::NoOffset { branch } => numbered(text, b"NoOffset branch ", branch as usize),
         TableFault::Memory => Ok(()),
     }

@@ -142,6 +142,44 @@ fn more_rows<N: Exact>(rt: &impl Abort, alloc: Global) {
     );
 }
 
+/// y = first x + second z, with a column w more, and a row of x, z and w.
+fn with_column<N: Exact>(alloc: Global, first: (N, N), second: (N, N), last: N) -> Option<Dict<N>> {
+    let entries = pair(alloc, first)?;
+    let mut more = pair(alloc, second)?;
+    more.push(last).ok()?;
+    let mut dict = match Dict::start(alloc, &[7, 3], 8, &entries) {
+        Ok(dict) => dict,
+        Err(_) => return None,
+    };
+    match dict.add_column(9) {
+        Ok(()) => {}
+        Err(_) => return None,
+    }
+    match dict.add_row(10, &more) {
+        Ok(()) => Some(dict),
+        Err(_) => None,
+    }
+}
+
+/// y = 2x - 3z, and then 4x + 5z + 2w, solved for w as a half of it - 2x - 5z/2; and then for x = y/2 + 3z/2, with which w is
+/// a half of it - y - 11z/2.
+fn columns_more<N: Exact>(rt: &impl Abort, alloc: Global) {
+    let first = (N::of_parts(2, 1), N::of_parts(-3, 1));
+    let second = (N::of_parts(4, 1), N::of_parts(5, 1));
+    let mut dict = with_column(alloc, first, second, N::of_parts(2, 1)).expect(rt, "memory");
+    let (zero, half) = (N::of_parts(0, 1), N::of_parts(1, 2));
+    assert!(rt; are_names(&dict, 0, 8, 2, 9) && are_names(&dict, 1, 10, 2, 9));
+    assert!(rt; is_entry(&dict, 0, 1, first.1) && is_entry(&dict, 0, 2, zero));
+    assert!(rt; is_entry(&dict, 1, 0, second.0) && is_entry(&dict, 1, 2, N::of_parts(2, 1)));
+    assert!(rt; pivoted(&mut dict, 1, 2) && are_names(&dict, 1, 9, 2, 10));
+    assert!(rt; is_entry(&dict, 0, 0, first.0) && is_entry(&dict, 0, 2, zero));
+    assert!(rt; is_entry(&dict, 1, 0, N::of_parts(-2, 1)) && is_entry(&dict, 1, 2, half));
+    assert!(rt; pivoted(&mut dict, 0, 0) && are_names(&dict, 0, 7, 0, 8));
+    assert!(rt; is_entry(&dict, 0, 1, N::of_parts(3, 2)) && is_entry(&dict, 0, 2, zero));
+    assert!(rt; is_entry(&dict, 1, 0, N::of_parts(-1, 1)) && is_entry(&dict, 1, 2, half));
+    assert!(rt; is_entry(&dict, 1, 1, N::of_parts(-11, 2)));
+}
+
 /// 2^62 in 63 bits: twice it passes.
 fn big_63() -> Frac63 {
     Frac63::of_parts(1 << 62, 1)
@@ -301,6 +339,12 @@ fn pivots_there_and_back(rt: HostRuntime) {
 fn adds_rows(rt: HostRuntime) {
     more_rows::<Frac>(&rt, rt.alloc());
     more_rows::<Frac63>(&rt, rt.alloc());
+}
+
+#[test]
+fn adds_columns(rt: HostRuntime) {
+    columns_more::<Frac>(&rt, rt.alloc());
+    columns_more::<Frac63>(&rt, rt.alloc());
 }
 
 #[test]

@@ -1,15 +1,15 @@
-use Rattle.std.proofs.Common.{rules, Err, ℕ, ◌≡◌, ◌∙◌, ◌<◌, ◌≤◌, ◌+◌, ap, arith, length, map, refl}
+use Rattle.std.proofs.Common.{rules, Err, ℕ, ◌≡◌, ◌∙◌, ◌<◌, ◌≤◌, ◌+◌, ap, arith, inl, length, map, refl}
 use Rattle.std.proofs.lemmas.Result.{IfErr-weaker, IfOk-weaker}
 use Rattle.std.proofs.lemmas.List.{length-map}
 use Rattle.market_model.specs.Dispatch.{places}
 use Rattle.market_model.specs.declared.limits.Row.{Row}
 use Rattle.market_model.specs.LimitRows.{row_factor}
-use Rattle.market_model.specs.Optimality.{named_rows, price_terms, congestion_terms}
+use Rattle.market_model.specs.Optimality.{named_rows, price_terms}
 use Rattle.market_model.specs.RightAnswers.{price_of_parts}
-use Rattle.market_model.specs.SumTables.{congestion_at, price_at as total_at, price_of_bus}
+use Rattle.market_model.specs.SumTables.{price_at as total_at, price_of_bus}
 use Rattle.market_model.specs.Valued.{dual_at, duals_at, passed_at}
 use Rattle.limit_rows.proofs.DualLemmas.{named_count, dual_one_sided, dual_row}
-use Rattle.bus_prices.proofs.PriceLemmas.{congestion_all, congestion_refused, congestion_step, congestion_to, made_of_parts, same_parts, total_refused}
+use Rattle.bus_prices.proofs.PriceLemmas.{added_refused, congestion_all, congestion_step, congestion_to, made_of_parts, same_parts, total_refused}
 use Rattle.bus_prices.proofs.pricing.prices.Goals as goal
 
 pub found_row-row-requires : goal.found_row-row-requires
@@ -44,14 +44,9 @@ returns-in_err-add_row-clause-cause g c =
     let k = c.loop-dual.dual-index in
     let r = dual_row value m c.args.duals.now c.requires.duals c.slice-dual-items.result.now k c.dual-item.result c.slice-dual-items.ensures c.loop-dual-test.true c.dual-item.is c.lines-lines.ensures.market in
     let is = c.found_row-row.ensures.is r.0 r.1.row r.1.name in
-    let why = c.in_err-add_row.ensures.cause d.energy (λ bus. congestion_to m d bus k) c.loop-dual.invariant in
     let given : c.from_residual.result ≡ Err c.in_err-add_row.field-0.0 = search rules in
-    rw given (
-      congestion_terms m d why.0,
-      price_of_bus why.0 _ why.1 congestion_at,
-      congestion_refused m d why.0 k (dual_at value c.dual-item.result) r.0 (value c.opposite_net_price.result) (row_factor m c.found_row-row.result why.0) (congestion_to m d why.0 k) g.N.Exact.bound
-          (passed_at value c.in_err-add_row.field-0.0) r.1 c.opposite_net_price.ensures (ap (λ (s : Row). row_factor m s why.0) is) refl why.2,
-    )
+    rw given (added_refused m d k (dual_at value c.dual-item.result) r.0 c.found_row-row.result (value c.opposite_net_price.result) g.N.Exact.bound (passed_at value c.in_err-add_row.field-0.0) r.1
+    c.opposite_net_price.ensures is (c.in_err-add_row.ensures.cause d.energy (λ bus. congestion_to m d bus k) c.loop-dual.invariant))
 
 pub returns-clause-prices : goal.returns-clause-prices
 returns-clause-prices g c =
@@ -76,5 +71,5 @@ returns-clause-cause g c =
     IfErr-weaker c.put_totals.result _ _
     (λ p why.
     let inside : why.0 < length m.buses = omega (arith, why.1, c.loop-dual.auto.out, c.requires.out) in
-    (price_terms m d why.0, price_of_bus why.0 _ inside total_at, total_refused m d why.0 (congestion_to m d why.0 k) g.N.Exact.bound (passed_at g.N.Exact.value p) (congestion_all m d why.0 k all) why.2))
+    inl (price_terms m d why.0, price_of_bus why.0 _ inside total_at, total_refused m d why.0 (congestion_to m d why.0 k) g.N.Exact.bound (passed_at g.N.Exact.value p) (congestion_all m d why.0 k all) why.2))
     (c.put_totals.ensures.cause d.energy (λ bus. congestion_to m d bus k) c.loop-dual.invariant)

@@ -2,7 +2,7 @@ use Rattle.std.proofs.Common.{rules, Err, ◌≡◌, ◌∙◌, arith}
 use Rattle.market_model.specs.Valued.{passed_at}
 use Rattle.limit_rows.proofs.PlaceLemmas.{at_places}
 use Rattle.cert_sums.specs.Named.{priced_at}
-use Rattle.cert_sums.proofs.NamedLemmas.{named_at, named_count, is_row, congestion_step, congestion_all, congestion_refused}
+use Rattle.cert_sums.proofs.NamedLemmas.{named_at, named_count, is_row, congestion_step, congestion_all, congestion_refused, factor_stops}
 use Rattle.cert_sums.proofs.pricing.congestion_at.Goals as goal
 
 pub loop-entry-init : goal.loop-entry-init
@@ -27,7 +27,7 @@ loop-entry-preserved g c = λ d are.
     let m = c.args.market.now in
     let k = c.loop-entry.entry-index in
     congestion_step m d c.args.bus k (priced_at g.N.Exact.value c.entry-item.result) (named_at g.N.Exact.value m d c.args.named.now are k c.entry-item.result c.loop-entry-test.true c.entry-item.is)
-    _ (g.N.Exact.value c.loop-entry.sum) _ c.row_factor.ensures (c.loop-entry.invariant d are) c.in_ok-sum.ensures.sum
+    _ (g.N.Exact.value c.loop-entry.sum) _ c.in_ok-factor.ensures.factor (c.loop-entry.invariant d are) c.in_ok-sum.ensures.sum
 
 pub returns-clause-sum : goal.returns-clause-sum
 returns-clause-sum g c = λ d are.
@@ -38,8 +38,17 @@ pub returns-in_err-sum-clause-cause : goal.returns-in_err-sum-clause-cause
 returns-in_err-sum-clause-cause g c =
     let m = c.args.market.now in
     let k = c.loop-entry.entry-index in
-    let given : c.from_residual.result ≡ Err c.in_err-sum.field-0.0 = search rules in
+    let given : c.from_residual-in_err-sum.result ≡ Err c.in_err-sum.field-0.0 = search rules in
     λ d are. rw given
     (congestion_refused m d c.args.bus k (priced_at g.N.Exact.value c.entry-item.result) (named_at g.N.Exact.value m d c.args.named.now are k c.entry-item.result c.loop-entry-test.true c.entry-item.is)
     _ (g.N.Exact.value c.loop-entry.sum) g.N.Exact.bound (passed_at g.N.Exact.value c.in_err-sum.field-0.0)
-    c.row_factor.ensures (c.loop-entry.invariant d are) c.in_err-sum.ensures.cause)
+    c.in_ok-factor.ensures.factor (c.loop-entry.invariant d are) c.in_err-sum.ensures.cause)
+
+pub returns-in_err-factor-clause-cause : goal.returns-in_err-factor-clause-cause
+returns-in_err-factor-clause-cause g c =
+    let m = c.args.market.now in
+    let k = c.loop-entry.entry-index in
+    let given : c.from_residual.result ≡ Err c.in_err-factor.field-0.0 = search rules in
+    λ d are. rw given
+    (factor_stops m d c.args.bus k (priced_at g.N.Exact.value c.entry-item.result) (named_at g.N.Exact.value m d c.args.named.now are k c.entry-item.result c.loop-entry-test.true c.entry-item.is)
+    g.N.Exact.bound (passed_at g.N.Exact.value c.in_err-factor.field-0.0) c.requires.bus c.in_err-factor.ensures.cause)

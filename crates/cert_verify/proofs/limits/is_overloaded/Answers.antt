@@ -1,7 +1,8 @@
-use Rattle.std.proofs.Common.{rules, Err, ◌≡◌, ◌∙◌, ap, ap₂, map, w64}
+use Rattle.std.proofs.Common.{rules, Err, ◌≡◌, ◌∙◌, ap, ap₂, map, sym, w64}
 use Rattle.std.proofs.lemmas.Int.{to_z-of_z}
 use mir.Val.{to_z, of_z}
 use Rattle.fraction_theory.specs.Fraction.{Fraction, whole}
+use Rattle.market_model.proofs.HardLimits.{hard_most}
 use Rattle.market_model.specs.Valued.{passed_at}
 use Rattle.cert_verify.specs.Reasons.{passes}
 use Rattle.cert_verify.proofs.RowLemmas.{flow_there, refused_there}
@@ -18,4 +19,4 @@ returns-clause-broken g c = λ x are.
     c.passes.ensures
     ∙ ap₂ (λ (f l : Fraction). passes f l)
     (c.in_ok-flow.ensures.flow ∙ flow_there c.args.market.now x (map g.N.Exact.value c.args.flows.now) are c.args.row c.requires.line c.requires.lost)
-    (c.datum.ensures ∙ ap whole known ∙ c.limit_at.ensures.limit)
+    (c.datum.ensures ∙ ap whole known ∙ c.limit_at.ensures.limit ∙ sym (hard_most c.args.market.now c.lines-lines.ensures.hard c.lines-lines.ensures.market c.args.row))

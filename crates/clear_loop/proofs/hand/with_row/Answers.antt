@@ -4,7 +4,7 @@ use Rattle.std.proofs.lemmas.Result.{err_from_is_err_and}
 use Rattle.linear_dict.specs.Dictionaries.{choice_of}
 use Rattle.market_dict.proofs.HoldingLaws.{holds_choice}
 use Rattle.clear_loop.proofs.HandLemmas.{grown_behind, hand_grown, row_is_new}
-use Rattle.clear_loop.proofs.StopLemmas.{pair_stop, terms_stop}
+use Rattle.clear_loop.proofs.StopLemmas.{taken_stop, terms_stop}
 use Rattle.clear_loop.proofs.hand.with_row.Goals as goal
 
 pub take_limit-requires-clause-holds : goal.take_limit-requires-clause-holds
@@ -15,8 +15,9 @@ returns-in_err-take_limit-clause-cause g c =
     let p = err_from_is_err_and c.from_residual.result c.from_residual.ensures.1 in
     let given : c.from_residual.result ≡ Err c.in_err-take_limit.field-0.0 = p.1 ∙ ap Err p.2 in
     rw given
-    (pair_stop g.N.Exact.value g.N.Exact.bound c.args.market.now c.args.taken.rows _ c.in_err-take_limit.field-0.0
-    (grown_behind c.args.market.now c.args.taken.rows c.args.row c.lines-lines.ensures.market c.lines-lines.ensures.hard c.requires.row c.requires.broken) (c.in_err-take_limit.ensures.pair c.args.taken.rows c.requires.holds))
+    (taken_stop g.N.Exact.value g.N.Exact.bound c.args.market.now c.args.taken.rows c.args.row (choice_of c.args.dict) c.in_err-take_limit.field-0.0 c.lines-lines.ensures.market
+    (grown_behind c.args.market.now c.args.taken.rows c.args.row c.lines-lines.ensures.market c.lines-lines.ensures.hard c.requires.row c.requires.broken)
+    (holds_choice c.args.market.now c.args.taken.rows c.args.dict c.requires.holds) c.requires.row (c.in_err-take_limit.ensures.cause c.args.taken.rows c.requires.holds))
 
 pub returns-in_err-take_bounds-clause-cause : goal.returns-in_err-take_bounds-clause-cause
 returns-in_err-take_bounds-clause-cause g c =

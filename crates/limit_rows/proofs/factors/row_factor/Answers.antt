@@ -1,11 +1,65 @@
-use Rattle.std.proofs.Common.{◌≡◌, ◌∙◌, ℤ, ap, w64}
+use Rattle.std.proofs.Common.{◌≡◌, ◌∙◌, ℤ, ap, subst, sym, w64}
 use Rattle.std.proofs.lemmas.Int.{to_z-of_z}
+use Rattle.std.proofs.lemmas.Result.{IfOk-weaker, IfErr-weaker}
+use Rattle.std.specs.Prelude.{unsigned_abs, ◌≤◌}
 use mir.Val.{to_z, of_z}
 use Rattle.fraction_theory.specs.Fraction.{over}
-use Rattle.market_data.specs.Scales.{factor_product_one}
+use Rattle.market_data.specs.Scales.{market_factor_one, most_market_factor}
+use Rattle.market_model.specs.declared.limits.Cause.{Cause}
+use Rattle.market_model.specs.LimitRows.{factor_terms, row_factor, shift_factor}
+use Rattle.market_model.specs.NamedSums.{IsRefusedIn}
+use Rattle.market_model.specs.Valued.{passed_at}
+use Rattle.limit_rows.proofs.FlowSteps.{base_factor, factor_after, factor_refused}
+use Rattle.limit_rows.proofs.WideFactors.{factor_fits}
 use Rattle.limit_rows.proofs.factors.row_factor.Goals as goal
 
-pub returns : goal.returns
-returns g c =
-    let known : to_z w64 (of_z w64 c.factor_at.result) ≡ c.factor_at.result = to_z-of_z w64 c.factor_at.result (record { sfits = c.factor_at.type_inv }) in
-    c.of_parts.ensures ∙ ap (λ (z : ℤ). over z factor_product_one) known ∙ c.factor_at.ensures.is
+pub returns-in-Base-clause-factor : goal.returns-in-Base-clause-factor
+returns-in-Base-clause-factor g c =
+    let m = c.args.market.now in
+    let shift : to_z w64 (of_z w64 c.shift_of.result) ≡ c.shift_of.result = to_z-of_z w64 c.shift_of.result (record { sfits = c.shift_of.type_inv }) in
+    base_factor m c.args.row.line c.args.bus _ (c.as_number-own.ensures ∙ ap (λ (z : ℤ). over z market_factor_one) (shift ∙ c.shift_of.ensures.is))
+    ∙ ap (λ (o : Cause). row_factor m (record { line = c.args.row.line; cause = o }) c.args.bus) (sym c.in-Base.is)
+
+pub returns-in-Branch-clause-factor : goal.returns-in-Branch-clause-factor
+returns-in-Branch-clause-factor g c =
+    let m = c.args.market.now in
+    let shift : to_z w64 (of_z w64 c.shift_of.result) ≡ c.shift_of.result = to_z-of_z w64 c.shift_of.result (record { sfits = c.shift_of.type_inv }) in
+    let loss : to_z w64 (of_z w64 c.loss_of.result) ≡ c.loss_of.result = to_z-of_z w64 c.loss_of.result (record { sfits = c.loss_of.type_inv }) in
+    let lost : to_z w64 (of_z w64 c.shift_of-in-Branch.result) ≡ c.shift_of-in-Branch.result = to_z-of_z w64 c.shift_of-in-Branch.result (record { sfits = c.shift_of-in-Branch.type_inv }) in
+    let own = c.as_number-own.ensures ∙ ap (λ (z : ℤ). over z market_factor_one) (shift ∙ c.shift_of.ensures.is) in
+    let gone = c.as_number.ensures ∙ ap (λ (z : ℤ). over z market_factor_one) (lost ∙ c.shift_of-in-Branch.ensures.is) in
+    IfOk-weaker c.with_share.result _ _
+    (λ more is.
+    factor_after m c.args.row.line c.args.bus _ own c.in-Branch.lost _ _ (ap (λ (z : ℤ). over z market_factor_one) (loss ∙ c.loss_of.ensures.is)) gone (g.N.Exact.value more) is
+    ∙ ap (λ (o : Cause). row_factor m (record { line = c.args.row.line; cause = o }) c.args.bus) (sym c.in-Branch.is))
+    c.with_share.ensures.sum
+
+pub returns-in-Branch-clause-cause : goal.returns-in-Branch-clause-cause
+returns-in-Branch-clause-cause g c =
+    let m = c.args.market.now in
+    let value = g.N.Exact.value in
+    let shift : to_z w64 (of_z w64 c.shift_of.result) ≡ c.shift_of.result = to_z-of_z w64 c.shift_of.result (record { sfits = c.shift_of.type_inv }) in
+    let loss : to_z w64 (of_z w64 c.loss_of.result) ≡ c.loss_of.result = to_z-of_z w64 c.loss_of.result (record { sfits = c.loss_of.type_inv }) in
+    let lost : to_z w64 (of_z w64 c.shift_of-in-Branch.result) ≡ c.shift_of-in-Branch.result = to_z-of_z w64 c.shift_of-in-Branch.result (record { sfits = c.shift_of-in-Branch.type_inv }) in
+    let own = c.as_number-own.ensures ∙ ap (λ (z : ℤ). over z market_factor_one) (shift ∙ c.shift_of.ensures.is) in
+    let gone = c.as_number.ensures ∙ ap (λ (z : ℤ). over z market_factor_one) (lost ∙ c.shift_of-in-Branch.ensures.is) in
+    IfErr-weaker c.with_share.result _ _
+    (λ e h.
+    subst (λ (o : Cause). IsRefusedIn (factor_terms m (record { line = c.args.row.line; cause = o }) c.args.bus) g.N.Exact.bound (passed_at value e)) (sym c.in-Branch.is)
+    (factor_refused m c.args.row.line c.args.bus _ own c.in-Branch.lost _ _ (ap (λ (z : ℤ). over z market_factor_one) (loss ∙ c.loss_of.ensures.is)) gone g.N.Exact.bound (passed_at value e) h))
+    c.with_share.ensures.cause
+
+pub returns-in-Branch-clause-wide : goal.returns-in-Branch-clause-wide
+returns-in-Branch-clause-wide g c =
+    let shift : to_z w64 (of_z w64 c.shift_of.result) ≡ c.shift_of.result = to_z-of_z w64 c.shift_of.result (record { sfits = c.shift_of.type_inv }) in
+    let loss : to_z w64 (of_z w64 c.loss_of.result) ≡ c.loss_of.result = to_z-of_z w64 c.loss_of.result (record { sfits = c.loss_of.type_inv }) in
+    let lost : to_z w64 (of_z w64 c.shift_of-in-Branch.result) ≡ c.shift_of-in-Branch.result = to_z-of_z w64 c.shift_of-in-Branch.result (record { sfits = c.shift_of-in-Branch.type_inv }) in
+    λ wide.
+    IfErr-weaker c.with_share.result _ _
+    (λ e h.
+    factor_fits g.N.Exact.bound _ _ _ wide
+    (subst (λ (z : ℤ). unsigned_abs z ≤ most_market_factor) (sym shift) c.shift_of.ensures.size)
+    (subst (λ (z : ℤ). unsigned_abs z ≤ most_market_factor) (sym loss) c.loss_of.ensures.size)
+    (subst (λ (z : ℤ). unsigned_abs z ≤ most_market_factor) (sym lost) c.shift_of-in-Branch.ensures.size)
+    c.as_number-own.ensures c.as_number.ensures h.too_large)
+    c.with_share.ensures.cause

@@ -2,16 +2,10 @@ use Rattle.limit_rows.proofs.PlaceLemmas.{at_places}
 use Rattle.limit_rows.proofs.tests.by_place.Goals as goal
 
 pub name_at-requires-clause-line : goal.name_at-requires-clause-line
-name_at-requires-clause-line c = (at_places c.args.market.now c.buses.ensures.market c.in-Some.row c.in-Some.ensures.0).0
+name_at-requires-clause-line c = (at_places c.args.market.now c.lines-lines.ensures.market c.in-Some.row c.in-Some.ensures.0).0
 
 pub name_at-requires-clause-lost : goal.name_at-requires-clause-lost
-name_at-requires-clause-lost c = (at_places c.args.market.now c.buses.ensures.market c.in-Some.row c.in-Some.ensures.0).1
+name_at-requires-clause-lost c = (at_places c.args.market.now c.lines-lines.ensures.market c.in-Some.row c.in-Some.ensures.0).1
 
 pub limit_at-requires : goal.limit_at-requires
-limit_at-requires c = (at_places c.args.market.now c.buses.ensures.market c.in-Some.row c.in-Some.ensures.0).0
-
-pub factor_at-requires-clause-line : goal.factor_at-requires-clause-line
-factor_at-requires-clause-line c = (at_places c.args.market.now c.buses.ensures.market c.in-Some.row c.in-Some.ensures.0).0
-
-pub factor_at-requires-clause-lost : goal.factor_at-requires-clause-lost
-factor_at-requires-clause-lost c = (at_places c.args.market.now c.buses.ensures.market c.in-Some.row c.in-Some.ensures.0).1
+limit_at-requires c = (at_places c.args.market.now c.lines-lines.ensures.market c.in-Some.row c.in-Some.ensures.0).0

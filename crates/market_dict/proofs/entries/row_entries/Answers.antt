@@ -15,11 +15,11 @@ loop-block-preserved g c =
     let blocks = c.slice-block-items.ensures ∙ c.blocks-2.ensures.list in
     let read = ap (λ (bs : List Block). slice_index_or bs k (record { unit = 0; side = Sell; quantity = pos 0; price = pos 0 })) blocks in
     subst (λ (xs : List g.row.N.Denot). map g.N.Exact.value xs ≡ map (block_coefficient m c.args.row) (places (k + 1))) (sym c.in_ok-push.ensures)
-    (places_filled g.N.Exact.value (block_coefficient m c.args.row) c.loop-block.entries k c.row_entry.result c.loop-block.invariant
-    (c.row_entry.ensures ∙ row_entry_is m c.args.row k _ read))
+    (places_filled g.N.Exact.value (block_coefficient m c.args.row) c.loop-block.entries k _ c.loop-block.invariant
+    (c.in_ok-row_entry.ensures.entry ∙ row_entry_is m c.args.row k _ read))
 
-pub returns : goal.returns
-returns g c =
+pub returns-clause-entries : goal.returns-clause-entries
+returns-clause-entries g c =
     let m = c.args.market.now in
     let blocks = c.slice-block-items.ensures ∙ c.blocks-2.ensures.list in
     let all : c.loop-block.block-index ≡ length m.blocks = omega (arith, ap length blocks) in

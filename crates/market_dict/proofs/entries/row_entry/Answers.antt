@@ -1,5 +1,7 @@
-use Rattle.std.proofs.Common.{◌∙◌, ap}
-use Rattle.market_model.specs.Dispatch.{signed_by_side}
+use Rattle.std.proofs.Common.{rules, Err, ◌≡◌, ◌∙◌, ap}
+use Rattle.market_model.specs.Dispatch.{signed_by_side, unit_at}
+use Rattle.market_model.specs.SumTables.{factor_at_bus}
+use Rattle.market_model.proofs.MarketSums.{unit_bus-in}
 use Rattle.limit_rows.proofs.PlaceLemmas.{at_places}
 use Rattle.market_dict.proofs.entries.row_entry.Goals as goal
 
@@ -9,5 +11,11 @@ unit_factor-requires-clause-line g c = (at_places c.args.market.now c.lines-line
 pub unit_factor-requires-clause-lost : goal.unit_factor-requires-clause-lost
 unit_factor-requires-clause-lost g c = (at_places c.args.market.now c.lines-lines.ensures.market c.args.row c.requires.row).1
 
-pub returns : goal.returns
-returns g c = c.by_side.ensures ∙ ap (signed_by_side c.args.block.now.side) c.unit_factor.ensures
+pub returns-clause-entry : goal.returns-clause-entry
+returns-clause-entry g c = c.by_side.ensures ∙ ap (signed_by_side c.args.block.now.side) c.in_ok-unit_factor.ensures.factor
+
+pub returns-in_err-unit_factor-clause-cause : goal.returns-in_err-unit_factor-clause-cause
+returns-in_err-unit_factor-clause-cause g c =
+    let m = c.args.market.now in
+    let given : c.from_residual.result ≡ Err c.in_err-unit_factor.field-0.0 = search rules in
+    rw given (_, factor_at_bus (unit_at m c.args.block.now.unit).bus (unit_bus-in m c.lines-lines.ensures.market c.args.block.now.unit c.requires.unit), c.in_err-unit_factor.ensures.cause)

@@ -1,0 +1,11 @@
+use Rattle.std.proofs.Common.{◌≡◌, ◌+◌, [], drop}
+use Rattle.record_reading.specs.Rows.{read_rows}
+use Rattle.factor_tables.specs.Penalties.{ArePenalties, penalty_entry}
+use Rattle.factor_tables.proofs.penalty_reading.entries_of.Given as goal
+
+-- the records so far, and those that are left
+abbrev pub invariant-loop-row : goal.invariant-loop-row
+invariant-loop-row l = record {
+  kept : ArePenalties l.by_limit.entries;
+  is : read_rows (penalty_entry l.network) [] 2 l.table ≡ read_rows (penalty_entry l.network) l.by_limit.entries (l.row + 2) (drop l.row l.table);
+}

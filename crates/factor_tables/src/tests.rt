@@ -1,0 +1,141 @@
+use crate::{Penalties, Penalty, TableFault, penalties};
+use case_text::read_case;
+use net_case::{Branches, Network, PostRating, network};
+use record_reading::FrameFault;
+use std::alloc::Global;
+use std::test::Fail;
+
+/// Branch 1 has limits in the base and after an outage, branch 2 in the base alone and branch 3 none. Branch 4 has both and is out of
+/// service.
+const CASE: &str = "function mpc = triangle
+mpc.version = '2';
+mpc.baseMVA = 100;
+mpc.bus = [
+1 3 0 0 0 0 1 1 0 230 1 1.1 0.9;
+2 1 0 0 0 0 1 1 0 230 1 1.1 0.9;
+3 1 60 0 0 0 1 1 0 230 1 1.1 0.9;
+];
+mpc.gen = [
+1 0 0 0 0 1 100 1 100 0;
+];
+mpc.branch = [
+1 2 0 0.1 0 30 0 40 0 0 1 -360 360;
+1 3 0 0.1 0 40 0 0 0 0 1 -360 360;
+2 3 0 0.1 0 0 0 0 0 0 1 -360 360;
+2 3 0 0.1 0 30 0 40 0 0 0 -360 360;
+];
+";
+
+fn triangle(alloc: Global) -> Result<Network, Fail> {
+    let case = read_case(alloc, CASE.as_bytes())?;
+    Ok(network(alloc, &case, Branches::Read(PostRating::C))?)
+}
+
+fn read(alloc: Global, network: &Network, records: &str) -> Result<Penalties, TableFault> {
+    let Ok(table) = format!(in alloc; "branch,limit,price,excess\n{records}") else {
+        return Err(TableFault::Memory);
+    };
+    penalties(alloc, network, table.as_bytes())
+}
+
+#[test]
+fn reads_penalties(rt: HostRuntime) -> Result<(), Fail> {
+    let network = triangle(rt.alloc())?;
+    let penalties = read(
+        rt.alloc(),
+        &network,
+        "1,post,0.000001,0\n2,base,25,10\n1,base,1e3,2.5\n",
+    )?;
+    for (branch, post, want) in [
+        (1, false, Some((1_000_000_000, 2_500_000_000))),
+        (1, true, Some((1, 0))),
+        (2, false, Some((25_000_000, 10_000_000_000))),
+        (2, true, None),
+        (3, false, None),
+    ] {
+        let told = match penalties.penalty(branch, post) {
+            Some(Penalty { price, excess }) => Some((price, excess)),
+            None => None,
+        };
+        assert_eq!(rt; told, want, "branch {branch}, post {post}");
+    }
+    Ok(())
+}
+
+/// Records that are refused, each list with its first fault.
+const FAULTS: &[(&str, &str)] = &[
+    ("1,base,25\n", "Frame(Width { line: 2 })"),
+    // The word comes before the numbers of its record.
+    ("x,Base,x,x\n", "Kind { line: 2 }"),
+    ("1,base,25,10\n1,,25,10\n", "Kind { line: 3 }"),
+    (
+        "1.5,base,x,10\n",
+        "Frame(Cell { line: 2, col: 1, why: Decimal(TooFine) })",
+    ),
+    (
+        "1,base,0.0000001,x\n",
+        "Frame(Cell { line: 2, col: 3, why: Decimal(TooFine) })",
+    ),
+    (
+        "9,base,25,\n",
+        "Frame(Cell { line: 2, col: 4, why: Decimal(BadNumber) })",
+    ),
+    ("0,base,0,10\n", "NoBranch { line: 2 }"),
+    ("1,base,25,10\n5,base,25,10\n", "NoBranch { line: 3 }"),
+    // A branch without this limit, one without any, and one out of service.
+    ("2,post,0,10\n", "NoLimit { line: 2 }"),
+    ("3,base,25,10\n", "NoLimit { line: 2 }"),
+    ("4,base,25,10\n", "NoLimit { line: 2 }"),
+    ("1,base,0,10\n", "Penalty { line: 2 }"),
+    ("1,base,-25,10\n", "Penalty { line: 2 }"),
+    ("1,base,25,-0.000000001\n", "Penalty { line: 2 }"),
+    ("1,base,25,10\n1,base,0,5\n", "Penalty { line: 3 }"),
+    (
+        "1,base,25,10\n1,post,25,10\n1,base,30,5\n",
+        "Twice { line: 4 }",
+    ),
+];
+
+#[test]
+fn tells_the_first_fault(rt: HostRuntime) -> Result<(), Fail> {
+    let network = triangle(rt.alloc())?;
+    for (records, want) in FAULTS {
+        match read(rt.alloc(), &network, *records) {
+            Err(fault) => {
+                let told = format!(in rt.alloc(); "{fault:?}")?;
+                assert_eq!(rt; told.as_str(), *want, "{records}");
+            }
+            Ok(_) => assert!(rt; false, "{records}"),
+        }
+    }
+    Ok(())
+}
+
+#[test]
+fn counts_records(rt: HostRuntime) -> Result<(), Fail> {
+    let network = triangle(rt.alloc())?;
+    for (count, want) in [
+        (4000, "Twice { line: 3 }"),
+        (4001, "Frame(TooMany { count: 4001 })"),
+    ] {
+        let records = "1,base,25,10\n".repeat(rt.alloc(), count)?;
+        match read(rt.alloc(), &network, records.as_str()) {
+            Err(fault) => {
+                let told = format!(in rt.alloc(); "{fault:?}")?;
+                assert_eq!(rt; told.as_str(), want);
+            }
+            Ok(_) => assert!(rt; false),
+        }
+    }
+    Ok(())
+}
+
+#[test]
+fn wants_its_header(rt: HostRuntime) -> Result<(), Fail> {
+    let network = triangle(rt.alloc())?;
+    match penalties(rt.alloc(), &network, b"branch,limit,excess,price\n") {
+        Err(fault) => assert_eq!(rt; fault, TableFault::Frame(FrameFault::Header)),
+        Ok(_) => assert!(rt; false),
+    }
+    Ok(())
+}
