@@ -8,7 +8,6 @@ use Rattle.market_model.specs.declared.participants.Parts.{Parts}
 use Rattle.market_model.specs.Dispatch.{Dispatch}
 use Rattle.market_model.specs.declared.limits.Row.{Row}
 use Rattle.market_model.specs.Market.{IsMarket}
-use Rattle.market_model.specs.Optimality.{Feasible}
 use Rattle.market_model.specs.Stops.{StopsBy}
 use Rattle.market_model.specs.SumTables.{IsRefusedAmong, PriceSum}
 use Rattle.market_model.specs.Valued.{passed_at}
@@ -24,7 +23,7 @@ use Rattle.market_dict.specs.Refusals.{IsBoundsRefusal}
 use Rattle.market_model.specs.declared.stops.Stop.{Stop}
 use Rattle.market_model.specs.declared.stops.Stop.TheVariants as stop
 use Rattle.market_dict.proofs.RefusalLaws.{pair_range, posing_range}
-use Rattle.clear_loop.specs.Rounds.{StopsInRange}
+use Rattle.clear_loop.specs.Rounds.{AllKept, StopsInRange}
 use Rattle.clear_loop.proofs.SolvedLemmas.{flows_range, price_range, screen_range, money_range}
 
 module _ {N : Type 0} (value : N → Fraction) (bound : ℕ) (m : Parts) where
@@ -52,11 +51,11 @@ module _ {N : Type 0} (value : N → Fraction) (bound : ℕ) (m : Parts) where
     screen_stop stop.Memory a = tt
 
     -- where it is priced and settled
-    module _ (feasible : Feasible m x) where
+    module _ (kept : AllKept m g x) where
       pub price_stop : (s : Stop N) → StopsBy value (IsRefusedAmong (PriceSum m d) bound) s → StopsInRange value bound m g s
-      price_stop (stop.Passed p) a = price_range m g x d market solved bound (passed_at value p) feasible a
+      price_stop (stop.Passed p) a = price_range m g x d market solved bound (passed_at value p) kept a
       price_stop stop.Memory a = tt
 
       pub money_stop : (price : ℕ → Fraction) → ArePricesOf m d price → (s : Stop N) → IsMoneyStop value bound m x price d s → StopsInRange value bound m g s
-      money_stop price priced (stop.Passed p) a = money_range m g x d market solved bound (passed_at value p) feasible price priced a
+      money_stop price priced (stop.Passed p) a = money_range m g x d market solved bound (passed_at value p) kept price priced a
       money_stop price priced stop.Memory a = tt
