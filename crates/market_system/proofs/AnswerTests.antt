@@ -239,12 +239,12 @@ same_load-true : (a b : Load Fraction) → same_load a b ≡ true → a ≡ b
 same_load-true a b e = let parts = both (same-true a.mw b.mw) (same-true a.pays b.pays) e in λ i. record { mw = parts.0 i; pays = parts.1 i }
 
 abbrev same_rent : Rent Fraction → Rent Fraction → Bool
-same_rent a b = same_id a.row b.row && (same a.flow b.flow && same a.rent b.rent)
+same_rent a b = same_id a.row b.row && (same a.flow b.flow && (same a.over b.over && same a.rent b.rent))
 
 same_rent-true : (a b : Rent Fraction) → same_rent a b ≡ true → a ≡ b
 same_rent-true a b e =
-    let parts = both (same_id-true a.row b.row) (both (same-true a.flow b.flow) (same-true a.rent b.rent)) e in
-    λ i. record { row = parts.0 i; flow = parts.1.0 i; rent = parts.1.1 i }
+    let parts = both (same_id-true a.row b.row) (both (same-true a.flow b.flow) (both (same-true a.over b.over) (same-true a.rent b.rent))) e in
+    λ i. record { row = parts.0 i; flow = parts.1.0 i; over = parts.1.1.0 i; rent = parts.1.1.1 i }
 
 -- prices, welfare and settlement are the same
 abbrev pub same_money : Answer Fraction → Answer Fraction → Bool

@@ -44,9 +44,12 @@ unit mw paid = record { mw = mw; paid = paid }
 abbrev load : Fraction → Fraction → Load Fraction
 load mw pays = record { mw = mw; pays = pays }
 
--- the one rent, of branch 2 in the base or after an outage
+-- the one rent, of branch 2 in the base or after an outage, with by how much the flow exceeds the limit
+abbrev rent_over : ℕ → Fraction → ℕ → Fraction → List (Rent Fraction)
+rent_over outage flow over rent = record { row = record { branch = 2; outage = outage }; flow = flow; over = mws over; rent = rent } ∷ []
+
 abbrev rent_of_second : ℕ → Fraction → Fraction → List (Rent Fraction)
-rent_of_second outage flow rent = record { row = record { branch = 2; outage = outage }; flow = flow; rent = rent } ∷ []
+rent_of_second outage flow rent = rent_over outage flow 0 rent
 
 -- ---- limit 40
 abbrev limit_40 : Answer Fraction
@@ -82,7 +85,7 @@ limit_exceeded = record {
   money = record {
     units = unit (mws 60) (sums 600) ∷ unit (mws 0) (sums 0) ∷ [];
     loads = load (mws 0) (sums 0) ∷ load (mws 0) (sums 0) ∷ load (mws 60) (sums 1725) ∷ [];
-    rents = rent_of_second 0 (mws 45) (sums 1125);
+    rents = rent_over 0 (mws 45) 5 (sums 1125);
     surplus = sums 1125;
   };
 }
@@ -101,7 +104,7 @@ excess_used_up = record {
   money = record {
     units = unit (mws 56) (sums 560) ∷ unit (mws 4) (sums 120) ∷ [];
     loads = load (mws 0) (sums 0) ∷ load (mws 0) (sums 0) ∷ load (mws 60) (sums 2400) ∷ [];
-    rents = rent_of_second 0 (mws 43) (sums 1720);
+    rents = rent_over 0 (mws 43) 3 (sums 1720);
     surplus = sums 1720;
   };
 }
