@@ -117,7 +117,7 @@ size_kept : (most f : Fraction) → abs_ℚ f ≤ℚ most → Within most f
 unfolding sign_of abs_ℚ
 size_kept most f h = let both = within_size f most (sign_of f) refl h in record { above = both.0; below = both.1 }
 
-not_passed : (most f : Fraction) → Within most f → ¬ (most <ℚ abs_ℚ f)
+pub not_passed : (most f : Fraction) → Within most f → ¬ (most <ℚ abs_ℚ f)
 not_passed most f within h = <ℚ-not-≤ℚ most (abs_ℚ f) h (abs_within f most within.above within.below)
 
 -- the excess is at least 0
