@@ -43,6 +43,6 @@ fn makes_a_ring_of_four(rt: HostRuntime) -> Result<(), Fail> {
     assert_eq!(rt; market.buses().at(3).pd, 21_000_000_000);
     assert_eq!(rt; market.blocks().at(7).price, 141_000_000);
     assert_eq!(rt; market.lines().at(3).post, Some(42_000_000_000));
-    assert_eq!(rt; market.shift(2, 3), -250_000);
+    assert_eq!(rt; market.shift(2, 3), -250_000_000);
     Ok(())
 }

@@ -27,10 +27,10 @@ use Rattle.market_model.proofs.MorePlaces.{sum_by_more, total-places_more}
 use Rattle.market_model.proofs.SumSteps.{product_at, share_at, terms_at, behind}
 use Rattle.limit_rows.proofs.DualLemmas.{up_unnamed, down_unnamed, sum_named}
 use Rattle.cert_sums.specs.Named.{PricedRow, priced_by}
-use Rattle.cert_sums.specs.Pairs.{IsFarkasPair, in_flow as flow_pair, in_bound as bound_pair, of_limit_less, of_limit_more}
+use Rattle.cert_sums.specs.Pairs.{IsFarkasPair, in_flow as flow_pair, in_bound as bound_pair, of_limit_less, of_limit_more, of_most}
 use Rattle.market_model.specs.SumTables.{IsRefusedAmong, InjectionSum, balance_from_bus, balance_of_all, LineFlowSum, limited_line, limited_row, flow_in_balance, flow_in_limits, farkas_bound_of_all}
 use Rattle.market_model.specs.PutIn.{dispatch_of}
-use Rattle.cert_sums.specs.Refusals.{IsAboveRefusal, IsBelowRefusal, IsLimitRefusal, in_flow, in_above, in_below}
+use Rattle.cert_sums.specs.Refusals.{IsAboveRefusal, IsBelowRefusal, IsLimitRefusal, in_most, in_flow, in_above, in_below}
 use Rattle.cert_sums.proofs.NamedLemmas.{IsNamedAt, is_named_row, is_row}
 
 -- ---- prices of 0 make nothing
@@ -186,6 +186,7 @@ module _ (m : Parts) (d : Duals Fraction) where
 
       pub limit_refused : IsLimitRefusal m (empty m) e sum bound p → IsFarkasPair m d bound p
       limit_refused (in_flow (terms, part, c)) = flow_pair (terms, flow_in_limits terms (limited_row e.row terms (is_row m d k e h) part), c)
+      limit_refused (in_most c) = of_most e.row (is_named_row m d k e h) c
       limit_refused (in_above c) = above_refused c
       limit_refused (in_below c) = below_refused c
 

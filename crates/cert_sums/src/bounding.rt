@@ -19,7 +19,7 @@ ghost use Rattle.fraction_theory.specs.Signs.{part_above};
 
 use crate::{NamedRow, bus_price, injections, line_flows};
 use exact_fraction::{Exact, Passed, Sign, exact_difference, exact_sum};
-use limit_rows::{limit_at, row_flow};
+use limit_rows::{most_flow, row_flow};
 use market_model::{Market, Stop, balance, block_quantity, by_side, datum, zeros};
 use std::alloc::Global;
 
@@ -47,7 +47,8 @@ fn with_below<N: Exact>(sum: N, price: N, limit: N, flow: N) -> Result<N, Passed
     sum.plus_product(price, room)
 }
 
-/// A sum with what the prices that duals give a row make of what its flow leaves of its limit on either side, where nothing is accepted.
+/// A sum with what the prices that duals give a row make of what its flow leaves of the most that it may be on either side, where nothing is
+/// accepted.
 fn with_limit<N: Exact>(
     market: &Market,
     sum: N,
@@ -60,14 +61,13 @@ fn with_limit<N: Exact>(
     ensures sum { (d : Duals Fraction) → priced_at N.value entry.now ≡ priced_by market.now d entry.now.row → AreFlows market.now (empty market.now) (map N.value flows.now) → IfOk result (λ more. N.value more ≡ N.value sum +ℚ total (limit_terms market.now d entry.now.row)) }
     ensures cause { (x : Dispatch) → AreFlows market.now x (map N.value flows.now) → IfErr result (λ passed. IsLimitRefusal market.now x (priced_at N.value entry.now) (N.value sum) N.bound (passed_at N.value passed)) }
 {
-    let _lines = market.lines();
     let flow = row_flow(market, flows, entry.row)?;
-    let limit: N = datum(limit_at(market, entry.row));
-    let above = with_above(sum, entry.up, limit, flow)?;
-    with_below(above, entry.down, limit, flow)
+    let most = most_flow(market, entry.row)?;
+    let above = with_above(sum, entry.up, most, flow)?;
+    with_below(above, entry.down, most, flow)
 }
 
-/// A sum with what the prices of the rows make of what is left of their limits where nothing is accepted.
+/// A sum with what the prices of the rows make of what their flows leave of the most that they may be, where nothing is accepted.
 fn with_limits<N: Exact>(
     market: &Market,
     of_energy: N,

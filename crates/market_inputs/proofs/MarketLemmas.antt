@@ -22,7 +22,7 @@ use Rattle.factor_tables.specs.Factors.{factor_at}
 use Rattle.factor_tables.specs.Offsets.{OffsetEntry}
 use Rattle.market_inputs.specs.declared.offers.Offered.{Offered}
 use Rattle.market_inputs.specs.declared.tables.Tables.{Tables}
-use Rattle.market_inputs.specs.Clearing.{AreSmall, line_of, loss_by, market_of, shift_by}
+use Rattle.market_inputs.specs.Clearing.{AreSmall, line_of, loss_by, market_of, shift_by, market_factor}
 use Rattle.market_inputs.specs.Pooling.{pool_of}
 use Rattle.market_inputs.specs.Tables.{AreOffered, MayBeLost}
 use Rattle.market_inputs.proofs.FactorLemmas.{factors_by-are}
@@ -125,6 +125,6 @@ clear-market network tables offered offsets net lost given data_of small_shift s
           let o = lost.are.each i d lt in
           subst (Contains (map (λ (b : NetBranch). b.row) network.branches)) o.live.row_is (Contains-map (λ (b : NetBranch). b.row) network.branches o.branch o.live.live));
       outages_distinct = lost.are.distinct;
-      shift = rw count (factors_by-are (λ branch bus. factor_at tables.shift (branch.row, bus.number)) network.buses network.branches small_shift);
-      loss = rw count (factors_by-are (λ branch other. factor_at tables.loss (branch.row, other.row)) network.branches network.branches small_loss);
+      shift = rw count (factors_by-are (λ branch bus. market_factor (factor_at tables.shift (branch.row, bus.number))) network.buses network.branches small_shift);
+      loss = rw count (factors_by-are (λ branch other. market_factor (factor_at tables.loss (branch.row, other.row))) network.branches network.branches small_loss);
     }

@@ -2,7 +2,7 @@
 
 ghost use Rattle.std.specs.Prelude.{◌≡◌, ℕ, ◌++◌, ◌≤◌, All, IfOk, map, unsigned_abs};
 ghost use Rattle.market_data.specs.Participants.{IsDatum};
-ghost use Rattle.market_data.specs.Scales.{most_market_factor};
+ghost use Rattle.market_data.specs.Scales.{most_factor, most_market_factor};
 ghost use Rattle.factor_tables.specs.Factors.{factor_at};
 ghost use Rattle.market_inputs.specs.Clearing.{AreSmall, factors_of_line, line_of, market_factor, named_factors, unless_0};
 
@@ -79,6 +79,15 @@ impl Named for NetBranch {
     }
 }
 
+/// A table's factor as a market has it.
+fn market_factor(value: i64) -> i64
+    requires { unsigned_abs value ≤ most_factor }
+    ensures size { unsigned_abs result ≤ most_market_factor }
+    ensures is { result ≡ market_factor value }
+{
+    value * FACTOR_STEP
+}
+
 /// Adds the factors of a line in the columns of these.
 fn push_factors<T: Named>(
     factors: &mut List<Factor>,
@@ -92,7 +101,7 @@ fn push_factors<T: Named>(
     ensures are { IfOk result (λ _. factors.new ≡ factors.old ++ factors_of_line (λ other. market_factor (factor_at table.now (row, T.name other))) line others.now) }
 {
     for (of, other) in others.iter().enumerate() {
-        let value = table.factor(row, other.name()) * FACTOR_STEP;
+        let value = market_factor(table.factor(row, other.name()));
         push_factor(factors, Factor { line, of, value })?;
     }
     Ok(())
