@@ -32,7 +32,7 @@ use Rattle.limit_screen.specs.Flows.{flows_at, line_in, IsFlowsRefusal}
 use Rattle.limit_screen.specs.Screening.{IsScreenRefusal}
 use Rattle.market_model.proofs.UnitPrices.{at_unit, left_at}
 use Rattle.settlement.specs.Paying.{ArePricesOf}
-use Rattle.settlement.specs.Refusals.{IsMoneyRefusal}
+use Rattle.settlement.specs.Refusals.{IsMoneyRefusal, IsWelfareRefusal}
 use Rattle.market_dict.specs.Findings.{IsSolvedBy}
 
 -- ---- refusals
@@ -78,8 +78,9 @@ module _ (m : Parts) (g : List Row) (x : Dispatch) (d : Duals Fraction) (market 
       price_range (inr (r, named, (terms, sum, a))) =
           pairs.sum (Some Factor) terms (factor_of r terms (Contains-from_filter (λ s. names_row d.limits (row_id m s)) (rows m) r named).0 sum) a
 
-      pub welfare_range : IsRefusedIn (welfare_terms m x) bound p → IsRangeOf m g bound p
-      welfare_range a = pairs.sum None (welfare_terms m (choice_dispatch m g solved.choice)) (of_welfare best) (subst (λ y. IsRefusedIn (welfare_terms m y) bound p) solved.dispatch a)
+      pub welfare_range : IsWelfareRefusal m x bound p → IsRangeOf m g bound p
+      welfare_range (inr (r, c, _, (_, flow_of_row, a))) = flow_sum (flow_terms m (line_flow m (injection m x)) r) (flow_in_limits _ (limited_row r _ c flow_of_row)) a
+      welfare_range (inl a) = pairs.sum None (welfare_terms m (choice_dispatch m g solved.choice)) (of_welfare best) (subst (λ y. IsRefusedIn (welfare_terms m y) bound p) solved.dispatch a)
 
       module _ (price : ℕ → Fraction) (priced : ArePricesOf m d price) where
         -- what is settled at these prices is at those of the duals

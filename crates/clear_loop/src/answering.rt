@@ -64,7 +64,7 @@ pub(crate) fn answer_of<N: Exact>(
 {
     let _lines = market.lines();
     let prices = bus_prices(alloc, market, &duals)?;
-    let welfare = welfare(market, dispatch.slice())?;
+    let welfare = welfare(market, dispatch.slice(), flows)?;
     let money = settle_flows(
         alloc,
         market,

@@ -1,12 +1,11 @@
 use Rattle.std.proofs.Common.{Err, ◌≡◌, ◌∙◌, ap, subst, length}
 use Rattle.std.proofs.lemmas.Result.{err_from_is_err_and}
-use Rattle.market_model.specs.Optimality.{welfare, welfare_terms}
-use Rattle.market_model.specs.NamedSums.{IsRefusedIn}
+use Rattle.market_model.specs.Optimality.{welfare}
 use Rattle.market_model.specs.Valued.{duals_at, money_at, passed_at}
 use Rattle.market_model.specs.PutIn.{dispatch_of}
 use Rattle.market_model.specs.RightAnswers.{settlement_at}
 use Rattle.settlement.specs.Paying.{total_at}
-use Rattle.settlement.specs.Refusals.{IsMoneyStop}
+use Rattle.settlement.specs.Refusals.{IsMoneyStop, IsWelfareRefusal}
 use Rattle.settlement.proofs.MoneyLemmas.{law_of_right_money}
 use Rattle.market_model.specs.declared.stops.Stop.TheVariants as stop
 use Rattle.clear_loop.proofs.AnswerLemmas.{price_count, prices_of, right_answer}
@@ -31,7 +30,7 @@ returns-in_err-welfare-clause-cause g c = λ rows solved.
     let given : c.from_residual-in_err-welfare.result ≡ Err (stop.Passed c.in_err-welfare.field-0.0) = p.1 ∙ ap Err p.2 in
     rw given
     (welfare_range m rows (dispatch_of value c.args.dispatch) (duals_at value c.args.duals) c.lines-lines.ensures.market solved g.N.Exact.bound (passed_at value c.in_err-welfare.field-0.0) c.requires.feasible
-    (subst (λ xs. IsRefusedIn (welfare_terms m (dispatch_of value xs)) g.N.Exact.bound (passed_at value c.in_err-welfare.field-0.0)) c.slice.ensures c.in_err-welfare.ensures.cause))
+    (subst (λ xs. IsWelfareRefusal m (dispatch_of value xs) g.N.Exact.bound (passed_at value c.in_err-welfare.field-0.0)) c.slice.ensures c.in_err-welfare.ensures.cause))
 
 pub settle_flows-requires-clause-prices : goal.settle_flows-requires-clause-prices
 settle_flows-requires-clause-prices g c = ap length c.slice-3.ensures ∙ price_count g.N.Exact.value c.args.market.now (duals_at g.N.Exact.value c.args.duals) c.in_ok-prices.prices c.in_ok-prices.ensures.prices
