@@ -38,9 +38,8 @@ fn one_round<N: Exact>(alloc: Global, market: &Market, hand: Hand<N>) -> Result<
     let _lines = market.lines();
     let posing = hand.posing;
     let taken = hand.taken;
-    let posed = hand
-        .warm
-        .repose(posing.prices.slice(), posing.bounds.slice())?;
+    let bounds = posing.bounds(alloc)?;
+    let posed = hand.warm.repose(posing.prices.slice(), bounds.slice())?;
     let (dict, dispatch) = match solve(alloc, market, posed)? {
         Found::Best { dict, dispatch } => (dict, dispatch),
         Found::Nothing { dict, farkas } => {

@@ -27,30 +27,30 @@ use Rattle.market_system.specs.MarketSystem.{choice_duals}
 
 pub repose-requires-clause-prices : goal.repose-requires-clause-prices
 repose-requires-clause-prices g c =
-    prices_fit g.N.Exact.value c.args.market.now c.args.hand.taken.rows c.args.hand.posing c.requires.posing c.slice.result.now c.slice-2.result.now c.slice.ensures c.slice-2.ensures c.args.hand.warm c.requires.start
+    prices_fit g.N.Exact.value c.args.market.now c.args.hand.taken.rows c.args.hand.posing c.requires.posing c.slice.result.now c.slice-2.result.now c.slice.ensures (c.slice-2.ensures ∙ c.in_ok-bounds.ensures) c.args.hand.warm c.requires.start
 
 pub repose-requires-clause-bounds : goal.repose-requires-clause-bounds
 repose-requires-clause-bounds g c =
-    bounds_fit g.N.Exact.value c.args.market.now c.args.hand.taken.rows c.args.hand.posing c.requires.posing c.slice.result.now c.slice-2.result.now c.slice.ensures c.slice-2.ensures c.args.hand.warm c.requires.start
+    bounds_fit g.N.Exact.value c.args.market.now c.args.hand.taken.rows c.args.hand.posing c.requires.posing c.slice.result.now c.slice-2.result.now c.slice.ensures (c.slice-2.ensures ∙ c.in_ok-bounds.ensures) c.args.hand.warm c.requires.start
 
 pub repose-requires-clause-ordered : goal.repose-requires-clause-ordered
 repose-requires-clause-ordered g c =
-    in_order g.N.Exact.value c.args.market.now c.args.hand.taken.rows c.args.hand.posing c.requires.posing c.slice.result.now c.slice-2.result.now c.slice.ensures c.slice-2.ensures c.args.hand.warm c.requires.start
+    in_order g.N.Exact.value c.args.market.now c.args.hand.taken.rows c.args.hand.posing c.requires.posing c.slice.result.now c.slice-2.result.now c.slice.ensures (c.slice-2.ensures ∙ c.in_ok-bounds.ensures) c.args.hand.warm c.requires.start
     c.lines-lines.ensures.market
 
 pub returns-in_err-posed-clause-cause : goal.returns-in_err-posed-clause-cause
 returns-in_err-posed-clause-cause g c =
-    let p = err_from_is_err_and c.from_residual.result c.from_residual.ensures.1 in
-    let given : c.from_residual.result ≡ Err (stop.Passed c.in_err-posed.field-0.0) = p.1 ∙ ap Err p.2 in
+    let p = err_from_is_err_and c.from_residual-in_err-posed.result c.from_residual-in_err-posed.ensures.1 in
+    let given : c.from_residual-in_err-posed.result ≡ Err (stop.Passed c.in_err-posed.field-0.0) = p.1 ∙ ap Err p.2 in
     rw given
-    (posed_range g.N.Exact.value c.args.market.now c.args.hand.taken.rows c.args.hand.posing c.requires.posing c.slice.result.now c.slice-2.result.now c.slice.ensures c.slice-2.ensures c.args.hand.warm c.requires.start
+    (posed_range g.N.Exact.value c.args.market.now c.args.hand.taken.rows c.args.hand.posing c.requires.posing c.slice.result.now c.slice-2.result.now c.slice.ensures (c.slice-2.ensures ∙ c.in_ok-bounds.ensures) c.args.hand.warm c.requires.start
     c.lines-lines.ensures.market g.N.Exact.bound c.in_err-posed.field-0.0 c.in_err-posed.ensures.pair)
 
 pub solve-requires : goal.solve-requires
 solve-requires g c = record {
   holds = (
     c.args.hand.taken.rows,
-    posed_system g.N.Exact.value c.args.market.now c.args.hand.taken.rows c.args.hand.posing c.requires.posing c.slice.result.now c.slice-2.result.now c.slice.ensures c.slice-2.ensures c.args.hand.warm c.requires.start
+    posed_system g.N.Exact.value c.args.market.now c.args.hand.taken.rows c.args.hand.posing c.requires.posing c.slice.result.now c.slice-2.result.now c.slice.ensures (c.slice-2.ensures ∙ c.in_ok-bounds.ensures) c.args.hand.warm c.requires.start
         c.lines-lines.ensures.market c.in_ok-posed.posed c.in_ok-posed.ensures.posed,
   );
 }
@@ -58,7 +58,7 @@ solve-requires g c = record {
 pub returns-in_err-dict-clause-cause : goal.returns-in_err-dict-clause-cause
 returns-in_err-dict-clause-cause g c =
     let holds =
-    posed_system g.N.Exact.value c.args.market.now c.args.hand.taken.rows c.args.hand.posing c.requires.posing c.slice.result.now c.slice-2.result.now c.slice.ensures c.slice-2.ensures c.args.hand.warm c.requires.start
+    posed_system g.N.Exact.value c.args.market.now c.args.hand.taken.rows c.args.hand.posing c.requires.posing c.slice.result.now c.slice-2.result.now c.slice.ensures (c.slice-2.ensures ∙ c.in_ok-bounds.ensures) c.args.hand.warm c.requires.start
     c.lines-lines.ensures.market c.in_ok-posed.posed c.in_ok-posed.ensures.posed in
     let p = err_from_is_err_and c.from_residual-in_err-dict.result c.from_residual-in_err-dict.ensures.1 in
     let given : c.from_residual-in_err-dict.result ≡ Err c.in_err-dict.field-0.0 = p.1 ∙ ap Err p.2 in
@@ -71,7 +71,7 @@ returns-in-Nothing-clause-round g c =
     let m = c.args.market.now in
     let rs = c.args.hand.taken.rows in
     let holds =
-    posed_system g.N.Exact.value m rs c.args.hand.posing c.requires.posing c.slice.result.now c.slice-2.result.now c.slice.ensures c.slice-2.ensures c.args.hand.warm c.requires.start
+    posed_system g.N.Exact.value m rs c.args.hand.posing c.requires.posing c.slice.result.now c.slice-2.result.now c.slice.ensures (c.slice-2.ensures ∙ c.in_ok-bounds.ensures) c.args.hand.warm c.requires.start
     c.lines-lines.ensures.market c.in_ok-posed.posed c.in_ok-posed.ensures.posed in
     let none : IsFound g.N.Exact.value m rs (found.Nothing c.in-Nothing.dict c.in-Nothing.farkas) =
     subst (λ (f : Found g.row.N.Denot). IsFound g.N.Exact.value m rs f) c.in-Nothing.is (c.in_ok-dict.ensures.found rs holds) in
@@ -83,7 +83,7 @@ found_best g c =
     let m = c.args.market.now in
     let rs = c.args.hand.taken.rows in
     let holds =
-    posed_system g.N.Exact.value m rs c.args.hand.posing c.requires.posing c.slice.result.now c.slice-2.result.now c.slice.ensures c.slice-2.ensures c.args.hand.warm c.requires.start
+    posed_system g.N.Exact.value m rs c.args.hand.posing c.requires.posing c.slice.result.now c.slice-2.result.now c.slice.ensures (c.slice-2.ensures ∙ c.in_ok-bounds.ensures) c.args.hand.warm c.requires.start
     c.lines-lines.ensures.market c.in_ok-posed.posed c.in_ok-posed.ensures.posed in
     subst (λ xs. IsFound g.N.Exact.value m rs (found.Best c.in-Best.dict xs)) (sym c.slice-3.ensures)
     (subst (λ (f : Found g.row.N.Denot). IsFound g.N.Exact.value m rs f) c.in-Best.is (c.in_ok-dict.ensures.found rs holds))
@@ -116,7 +116,7 @@ screened_broken g c =
 
 broken_row : (g : Over) (c : In-Broken g) → let m = c.args.market.now in let rs = c.args.hand.taken.rows in
     IsFound g.N.Exact.value m rs (found.Best c.in-Best.dict c.slice-3.result.now)
-      → Contains (rows m) c.in-Broken.row × (¬ (Contains rs c.in-Broken.row)) × ((x : Dispatch) × BestFor m rs x × Broken m x c.in-Broken.row)
+    → Contains (rows m) c.in-Broken.row × (¬ (Contains rs c.in-Broken.row)) × ((x : Dispatch) × BestFor m rs x × Broken m x c.in-Broken.row)
 broken_row g c best =
     let m = c.args.market.now in
     let rs = c.args.hand.taken.rows in
@@ -171,7 +171,7 @@ solved_by_duals g c best =
 
 solution_by_duals : (g : Over) (c : After-deref g) → let m = c.args.market.now in let rs = c.args.hand.taken.rows in
     IsFound g.N.Exact.value m rs (found.Best c.in-Best.dict c.slice-3.result.now) → AllKept m rs (dispatch_of g.N.Exact.value c.slice-3.result.now)
-      → IsSolution m rs (dispatch_of g.N.Exact.value c.in-Best.dispatch) (duals_at g.N.Exact.value c.in_ok-duals-in-Within.duals)
+    → IsSolution m rs (dispatch_of g.N.Exact.value c.in-Best.dispatch) (duals_at g.N.Exact.value c.in_ok-duals-in-Within.duals)
 solution_by_duals g c best kept = record { solved = solved_by_duals g c best; kept = subst (λ xs. AllKept c.args.market.now c.args.hand.taken.rows (dispatch_of g.N.Exact.value xs)) c.slice-3.ensures kept }
 
 pub answer_of-requires-clause-solved : goal.answer_of-requires-clause-solved
