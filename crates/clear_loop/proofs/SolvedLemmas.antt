@@ -15,7 +15,7 @@ use Rattle.market_model.specs.LimitRows.{line_flow, flow_terms, row_id, rows}
 use Rattle.market_model.specs.Market.{IsMarket}
 use Rattle.market_model.specs.NamedSums.{IsRefusedIn}
 use Rattle.market_model.proofs.SumParts.{flow_carried}
-use Rattle.market_model.specs.SumTables.{IsRefusedAmong, flow_of_row, limited_row, FlowSum, flow_in_limits, PriceSum, IsRefusedInPrices, left_of_all, paid_by_load, paid_to_unit, rent_of_row, SettledSum, paid_output, demand_of_bus, payment, paid_row}
+use Rattle.market_model.specs.SumTables.{flow_of_row, limited_row, FlowSum, flow_in_limits, PriceSum, IsRefusedInPrices, left_of_all, paid_by_load, paid_to_unit, rent_of_row, SettledSum, paid_output, demand_of_bus, payment, paid_row}
 use Rattle.market_model.specs.Optimality.{names_row, Feasible, Supports, ProperDuals, bus_price, welfare_terms}
 use Rattle.market_model.specs.Settlement.{load_terms, rent_terms, surplus_terms, unit_terms}
 use Rattle.market_system.specs.Growth.{BestFor, PricesOnly}

@@ -116,7 +116,7 @@ screened_broken g c =
 
 broken_row : (g : Over) (c : In-Broken g) → let m = c.args.market.now in let rs = c.args.hand.taken.rows in
     IsFound g.N.Exact.value m rs (found.Best c.in-Best.dict c.slice-3.result.now)
-      → Contains (rows m) c.in-Broken.row × (¬ (Contains rs c.in-Broken.row)) × ((x : Dispatch) × BestFor m rs x × Broken m x c.in-Broken.row)
+    → Contains (rows m) c.in-Broken.row × (¬ (Contains rs c.in-Broken.row)) × ((x : Dispatch) × BestFor m rs x × Broken m x c.in-Broken.row)
 broken_row g c best =
     let m = c.args.market.now in
     let rs = c.args.hand.taken.rows in
@@ -171,7 +171,7 @@ solved_by_duals g c best =
 
 solution_by_duals : (g : Over) (c : After-deref g) → let m = c.args.market.now in let rs = c.args.hand.taken.rows in
     IsFound g.N.Exact.value m rs (found.Best c.in-Best.dict c.slice-3.result.now) → AllKept m rs (dispatch_of g.N.Exact.value c.slice-3.result.now)
-      → IsSolution m rs (dispatch_of g.N.Exact.value c.in-Best.dispatch) (duals_at g.N.Exact.value c.in_ok-duals-in-Within.duals)
+    → IsSolution m rs (dispatch_of g.N.Exact.value c.in-Best.dispatch) (duals_at g.N.Exact.value c.in_ok-duals-in-Within.duals)
 solution_by_duals g c best kept = record { solved = solved_by_duals g c best; kept = subst (λ xs. AllKept c.args.market.now c.args.hand.taken.rows (dispatch_of g.N.Exact.value xs)) c.slice-3.ensures kept }
 
 pub answer_of-requires-clause-solved : goal.answer_of-requires-clause-solved
