@@ -83,11 +83,11 @@ fn worst_limits<N: Exact + Debug>(alloc: Global) -> Result<bool, Fail> {
     }
     dispatch[0] = N::of_parts(60 * MW_ONE, 1);
     flows(&market, &dispatch, &mut by_place)?;
-    let broken = worst(&market, &by_place)?;
+    let broken = worst(&market, &by_place, &[])?;
     dispatch[0] = N::of_parts(50 * MW_ONE, 1);
     dispatch[1] = N::of_parts(10 * MW_ONE, 1);
     flows(&market, &dispatch, &mut by_place)?;
-    let held = worst(&market, &by_place)?;
+    let held = worst(&market, &by_place, &[])?;
     let named = RowId {
         branch: 2,
         outage: 0,
