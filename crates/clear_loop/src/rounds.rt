@@ -51,7 +51,7 @@ fn one_round<N: Exact>(alloc: Global, market: &Market, hand: Hand<N>) -> Result<
             }));
         }
     };
-    match screened_at(alloc, market, dispatch.slice())? {
+    match screened_at(alloc, market, dispatch.slice(), taken.rows.slice())? {
         Screened::Broken(row) => Ok(Round::Broken(with_row(
             alloc, market, dict, posing, taken, row,
         )?)),

@@ -1,6 +1,7 @@
 use crate::{Penalties, Penalty, TableFault, penalties};
 use case_text::read_case;
 use net_case::{Branches, Network, PostRating, network};
+use record_reading::FrameFault;
 use std::alloc::Global;
 use std::test::Fail;
 
@@ -61,45 +62,48 @@ fn reads_penalties(rt: HostRuntime) -> Result<(), Fail> {
     Ok(())
 }
 
+/// Records that are refused, each list with its first fault.
+const FAULTS: &[(&str, &str)] = &[
+    ("1,base,25\n", "Frame(Width { line: 2 })"),
+    // The word comes before the numbers of its record.
+    ("x,Base,x,x\n", "Kind { line: 2 }"),
+    ("1,base,25,10\n1,,25,10\n", "Kind { line: 3 }"),
+    (
+        "1.5,base,x,10\n",
+        "Frame(Cell { line: 2, col: 1, why: Decimal(TooFine) })",
+    ),
+    (
+        "1,base,0.0000001,x\n",
+        "Frame(Cell { line: 2, col: 3, why: Decimal(TooFine) })",
+    ),
+    (
+        "9,base,25,\n",
+        "Frame(Cell { line: 2, col: 4, why: Decimal(BadNumber) })",
+    ),
+    ("0,base,0,10\n", "NoBranch { line: 2 }"),
+    ("1,base,25,10\n5,base,25,10\n", "NoBranch { line: 3 }"),
+    // A branch without this limit, one without any, and one out of service.
+    ("2,post,0,10\n", "NoLimit { line: 2 }"),
+    ("3,base,25,10\n", "NoLimit { line: 2 }"),
+    ("4,base,25,10\n", "NoLimit { line: 2 }"),
+    ("1,base,0,10\n", "Penalty { line: 2 }"),
+    ("1,base,-25,10\n", "Penalty { line: 2 }"),
+    ("1,base,25,-0.000000001\n", "Penalty { line: 2 }"),
+    ("1,base,25,10\n1,base,0,5\n", "Penalty { line: 3 }"),
+    (
+        "1,base,25,10\n1,post,25,10\n1,base,30,5\n",
+        "Twice { line: 4 }",
+    ),
+];
+
 #[test]
 fn tells_the_first_fault(rt: HostRuntime) -> Result<(), Fail> {
     let network = triangle(rt.alloc())?;
-    for (records, want) in [
-        ("1,base,25\n", "Frame(Width { line: 2 })"),
-        // The word comes before the numbers of its record.
-        ("x,Base,x,x\n", "Kind { line: 2 }"),
-        ("1,base,25,10\n1,,25,10\n", "Kind { line: 3 }"),
-        (
-            "1.5,base,x,10\n",
-            "Frame(Cell { line: 2, col: 1, why: Decimal(TooFine) })",
-        ),
-        (
-            "1,base,0.0000001,x\n",
-            "Frame(Cell { line: 2, col: 3, why: Decimal(TooFine) })",
-        ),
-        (
-            "9,base,25,\n",
-            "Frame(Cell { line: 2, col: 4, why: Decimal(BadNumber) })",
-        ),
-        ("0,base,0,10\n", "NoBranch { line: 2 }"),
-        ("1,base,25,10\n5,base,25,10\n", "NoBranch { line: 3 }"),
-        // A branch without this limit, one without any, and one out of service.
-        ("2,post,0,10\n", "NoLimit { line: 2 }"),
-        ("3,base,25,10\n", "NoLimit { line: 2 }"),
-        ("4,base,25,10\n", "NoLimit { line: 2 }"),
-        ("1,base,0,10\n", "Penalty { line: 2 }"),
-        ("1,base,-25,10\n", "Penalty { line: 2 }"),
-        ("1,base,25,-0.000000001\n", "Penalty { line: 2 }"),
-        ("1,base,25,10\n1,base,0,5\n", "Penalty { line: 3 }"),
-        (
-            "1,base,25,10\n1,post,25,10\n1,base,30,5\n",
-            "Twice { line: 4 }",
-        ),
-    ] {
-        match read(rt.alloc(), &network, records) {
+    for (records, want) in FAULTS {
+        match read(rt.alloc(), &network, *records) {
             Err(fault) => {
                 let told = format!(in rt.alloc(); "{fault:?}")?;
-                assert_eq!(rt; told.as_str(), want, "{records}");
+                assert_eq!(rt; told.as_str(), *want, "{records}");
             }
             Ok(_) => assert!(rt; false, "{records}"),
         }
@@ -122,6 +126,16 @@ fn counts_records(rt: HostRuntime) -> Result<(), Fail> {
             }
             Ok(_) => assert!(rt; false),
         }
+    }
+    Ok(())
+}
+
+#[test]
+fn wants_its_header(rt: HostRuntime) -> Result<(), Fail> {
+    let network = triangle(rt.alloc())?;
+    match penalties(rt.alloc(), &network, b"branch,limit,excess,price\n") {
+        Err(fault) => assert_eq!(rt; fault, TableFault::Frame(FrameFault::Header)),
+        Ok(_) => assert!(rt; false),
     }
     Ok(())
 }
