@@ -21,7 +21,7 @@ use limit_rows::{is_soft, limit_at, name_at, row_flow, rows};
 use market_model::{Dual, Market, Memory, Row, Stop, datum};
 use std::alloc::Global;
 
-/// Whether no dual names a row and its flow exceeds its limit. At a hard limit it does not. Flows are by line, and duals by name.
+/// Whether no dual names a row and its flow exceeds its limit at a penalty; a hard limit has none. Flows are by line, and duals by name.
 fn is_unpriced<N: Exact>(
     market: &Market,
     flows: &[N],
