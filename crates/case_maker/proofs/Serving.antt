@@ -1,5 +1,5 @@
 -- In a ring each bus can serve itself by its unit's first block: nothing flows, so all limits hold.
-use Rattle.std.proofs.Common.{◌≡◌, ◌≢◌, ◌<◌, ◌≤◌, ◌+◌, ◌*◌, ◌∙◌, ℕ, ℤ, pos, ◌+ℤ◌, ◌≤ℤ◌, ◌==◌, List, [], ◌∷◌, length, map, flat_map, get_or, refl, ap, ap₂, sym, subst, arith, eq-eqb, eqb-true, All, Contains, inl, inr}
+use Rattle.std.proofs.Common.{◌≡◌, ◌≢◌, ◌<◌, ◌+◌, ◌*◌, ◌∙◌, ℕ, ℤ, pos, ◌+ℤ◌, ◌≤ℤ◌, ◌==◌, List, [], ◌∷◌, length, map, flat_map, get_or, refl, ap, ap₂, sym, subst, arith, eq-eqb, eqb-true, All, Contains, inl, inr}
 use Rattle.std.proofs.lemmas.Int.{ints}
 use Rattle.std.proofs.lemmas.List.{length-map, get_or-map}
 use Rattle.std.proofs.lemmas.List.Elements.{All-cons, All-nil}
@@ -22,6 +22,7 @@ use Rattle.market_model.specs.declared.limits.Cause.{Cause}
 use Rattle.market_model.specs.declared.limits.Row.{Row}
 use Rattle.market_model.specs.declared.limits.Cause.TheVariants.{Base, Branch}
 use Rattle.market_model.specs.LimitRows.{flow, limit, limit_under, line_flow, loss_factor, mw_or_zero, row_flow, shift_factor}
+use Rattle.market_model.specs.Market.{IsMarket}
 use Rattle.market_model.specs.Optimality.{Feasible}
 use Rattle.market_model.proofs.Excesses.{within_most}
 use Rattle.market_model.proofs.MarketSums.{balance-by_injections, demand-by_parts, fixed_part, injection-by_parts}
@@ -30,7 +31,6 @@ use Rattle.market_model.proofs.WholeDispatch.{is_dispatch-by_whole}
 use Rattle.case_maker.specs.Rings.{blocks_of, bus_of, drawn, half_sold, line_of, mw, ring_of, unit_of}
 use Rattle.case_maker.proofs.DrawLemmas.{drawn-small}
 use Rattle.case_maker.proofs.PlaceLists.{All-flat, All-places, Contains-place, at-any, first-of, halves, length-flat, place-below, places-rise, second-of}
-use Rattle.case_maker.proofs.RingMarkets.{ring-kept}
 use Rattle.case_maker.proofs.RingParts.{bus-at, first-block, second-block, unit-at}
 use Rattle.market_model.specs.Overrun.{Within}
 
@@ -195,9 +195,9 @@ module _ (n seed : ℕ) where
     below = limit-least r.line r.cause;
   })
 
-  pub is-feasible : n ≤ 64 → Feasible m serving
-  is-feasible few = record {
+  pub is-feasible : IsMarket m → Feasible m serving
+  is-feasible market = record {
     blocks = is-dispatch;
     balanced = in-balance;
-    limits = λ r c. within_most m (ring-kept n seed few) r (flow m serving r) (within r);
+    limits = λ r c. within_most m market r (flow m serving r) (within r);
   }

@@ -24,18 +24,18 @@ use Rattle.cert_verify.proofs.TestLemmas.{yes_none, none_yes}
 use Rattle.cert_verify.proofs.VerdictLemmas.{Apart, optimal_to, optimal_from, farkas_to, farkas_from}
 
 pub law_of_the_verdict : LawOfTheVerdict
-law_of_the_verdict m (Optimal blocks energy limits) market hard apart = (
-  λ e. optimal_to m market hard (dispatch_by blocks) (named_duals energy limits) (yes_none (first_reason m (Optimal blocks energy limits)) e),
-  λ h. none_yes (first_reason m (Optimal blocks energy limits)) (optimal_from m market hard (dispatch_by blocks) (named_duals energy limits) apart h),
+law_of_the_verdict m (Optimal blocks energy limits) market apart = (
+  λ e. optimal_to m (dispatch_by blocks) (named_duals energy limits) (yes_none (first_reason m (Optimal blocks energy limits)) e),
+  λ h. none_yes (first_reason m (Optimal blocks energy limits)) (optimal_from m (dispatch_by blocks) (named_duals energy limits) apart h),
 )
-law_of_the_verdict m (Farkas energy limits) market hard apart = (
+law_of_the_verdict m (Farkas energy limits) market apart = (
   λ e. farkas_to m (named_duals energy limits) (yes_none (first_reason m (Farkas energy limits)) e),
   λ h. none_yes (first_reason m (Farkas energy limits)) (farkas_from m (named_duals energy limits) apart h),
 )
 
 pub law_of_the_best : LawOfTheBest
-law_of_the_best m blocks energy limits market hard apart told =
-    let h = optimal_to m market hard (dispatch_by blocks) (named_duals energy limits) (yes_none (first_reason m (Optimal blocks energy limits)) told) in
+law_of_the_best m blocks energy limits market apart told =
+    let h = optimal_to m (dispatch_by blocks) (named_duals energy limits) (yes_none (first_reason m (Optimal blocks energy limits)) told) in
     (h.feasible, λ y f. law_of_the_optimum m (named_duals energy limits) (dispatch_by blocks) y market h.feasible h.supported f)
 
 pub law_of_nothing_feasible : LawOfNothingFeasible
@@ -66,10 +66,10 @@ module _ (m : Parts) (market : IsMarket m) (d : Duals Fraction) (proper : Proper
       (name_is i e none (Prim.omega (arith, p, q)) ∙ same ∙ sym (name_is j e none q))
 
 pub law_of_right_answers : LawOfRightAnswers
-law_of_right_answers m a market hard right =
+law_of_right_answers m a market right =
     let apart = apart_by m market a.duals right.proper in (
       apart,
-      (law_of_the_verdict m (Optimal a.dispatch a.duals.energy a.duals.limits) market hard apart).1
+      (law_of_the_verdict m (Optimal a.dispatch a.duals.energy a.duals.limits) market apart).1
           (record { rows = names_by m market a.duals right.proper; feasible = right.feasible; supported = right.supported }),
     )
 

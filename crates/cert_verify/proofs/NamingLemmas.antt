@@ -1,5 +1,5 @@
 -- The duals of rows by their names.
-use Rattle.std.specs.Prelude.{◌≡◌, ◌≢◌, ◌==◌, ◌||◌, ℕ, ◌<◌, ◌+◌, Bool, true, false, cond, List, [], ◌∷◌, ◌++◌, length, map, filter, AllPairs, Option, Result, Ok, Err, MatchResult, is_err, Some, None, if◌then◌else◌, refl}
+use Rattle.std.specs.Prelude.{◌≡◌, ◌≢◌, ◌==◌, ◌||◌, ℕ, ◌<◌, ◌+◌, Bool, true, false, cond, List, [], ◌∷◌, ◌++◌, length, map, filter, AllPairs, Option, Result, Ok, Err, MatchResult, is_err, is_some, Some, None, if◌then◌else◌, refl}
 use Rattle.std.specs.Map.{lookup}
 use Rattle.std.proofs.Common.{zero, suc, arith, ap, ap₂, sym, subst, ◌∙◌, get_or, take}
 use Rattle.std.proofs.lemmas.Bool.{and_parts, eq-eqb, eqb-true, true≢false}
@@ -109,6 +109,11 @@ module _ {N : Type 0} (value : N → Fraction) (m : Parts) where
   named_is ds energy row e found =
       let is = dual_named value (row_id m row) ds e found in
       (is.named, ap₂ (λ (u w : Fraction). record { row = row; up = u; down = w }) (sym is.up) (sym is.down))
+
+  -- whether duals name a row, where it was looked for among them
+  pub names_by : (d : Duals Fraction) (row : Row) (found : Option (NamedRow N)) → IsNamedAt value m d row found → names_row d.limits (row_id m row) ≡ is_some found
+  names_by d row None is = is
+  names_by d row (Some e) is = is.0
 
   module _ (d : Duals Fraction) where
     pub row_kept : (r : Row) (xs : List (NamedRow N)) (e : NamedRow N) → IsNamedAt value m d r (Some e) → map (priced_at value) (xs ++ e ∷ []) ≡ map (priced_at value) xs ++ prices_of m d (r ∷ [])

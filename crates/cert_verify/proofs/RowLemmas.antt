@@ -1,18 +1,22 @@
 -- What is looked up of a row by its name, and the operations refused.
-use Rattle.std.specs.Prelude.{◌≡◌, ◌≢◌, ◌&&◌, ◌<◌, ℕ, Bool, true, false, not, List, [], ◌∷◌, ◌++◌, length, Contains, Option, Some, None, MatchOption, is_some, refl}
+use Rattle.std.specs.Prelude.{◌≡◌, ◌≢◌, ◌&&◌, ◌||◌, ◌<◌, pos, ℕ, Bool, true, false, not, List, [], ◌∷◌, ◌++◌, length, Contains, Option, Some, None, MatchOption, is_some, refl}
 use Rattle.std.specs.List.{list_any}
 use Rattle.std.proofs.Common.{ap, ap₂, sym, subst, ◌∙◌}
 use Rattle.std.proofs.lemmas.Bool.{true≢false}
-use Rattle.fraction_theory.specs.Fraction.{Fraction}
+use Rattle.fraction_theory.specs.Fraction.{Fraction, neg_ℚ}
+use Rattle.fraction_theory.proofs.OrderLaws.{≤ℚ_of_same, ≤ℚ_refl, opposite_most}
 use Rattle.exact_fraction.specs.declared.Passed.{Passed}
 use Rattle.market_model.specs.declared.answered.Dual.{Dual}
 use Rattle.market_model.specs.declared.participants.Parts.{Parts}
 use Rattle.market_model.specs.Dispatch.{Dispatch, balance, injection, zero}
 use Rattle.market_model.specs.declared.limits.Row.{Row}
 use Rattle.fraction_theory.specs.Sums.{total}
-use Rattle.market_model.specs.LimitRows.{IsCauseAmong, rows, row_id, limit, line_flow, flow, flow_by, flow_terms}
+use Rattle.market_model.specs.LimitRows.{IsCauseAmong, rows, row_id, limit, penalty, is_soft, most_flow, line_flow, flow, flow_by, flow_terms}
 use Rattle.market_model.specs.Market.{IsMarket}
 use Rattle.market_model.specs.NamedSums.{IsRefusedIn}
+use Rattle.market_model.specs.Optimality.{names_row}
+use Rattle.market_model.proofs.Excesses.{hard_costs_nothing, penalty_least}
+use Rattle.market_model.proofs.WholeDispatch.{whole-<ℚ}
 use Rattle.limit_rows.proofs.ApartLemmas.{same_row}
 use Rattle.limit_rows.proofs.PlaceLemmas.{same_name}
 use Rattle.limit_rows.specs.LineFlows.{AreFlows}
@@ -20,8 +24,8 @@ use Rattle.limit_rows.proofs.FlowSteps.{row_terms_are}
 use Rattle.market_model.specs.PutIn.{put_in}
 use Rattle.limit_rows.specs.Naming.{has_name}
 use Rattle.cert_verify.specs.declared.verdicts.Reason.TheVariants as reason
-use Rattle.cert_verify.specs.Reasons.{NoneOf, balance_reason, differ, has_no_row, has_slack, part_reasons, prices_slack}
-use Rattle.cert_verify.proofs.TestLemmas.{any_of, any_none, none_first, none_join, not_both, not_true, so_none}
+use Rattle.cert_verify.specs.Reasons.{NoneOf, balance_reason, differ, has_no_row, has_slack, is_below, is_unpriced, passes, breaks_row, breaks_side, part_reasons}
+use Rattle.cert_verify.proofs.TestLemmas.{any_of, any_none, below_not, below_of, int_lt-true, neither, not_below, none_first, none_join, not_both, not_true, so_none}
 use Rattle.cert_verify.proofs.VerdictLemmas.{named}
 
 -- ---- a row by its name
@@ -46,19 +50,83 @@ no_row_by m e (Some row) h false none = not_true (list_any (has_name m e.row) (r
 
 pub no_slack : (m : Parts) (x : Dispatch) (e : Dual Fraction) → IsUnknown m e → has_slack m x e ≡ false
 no_slack m x e none =
-    any_none (λ r. has_name m e.row r && prices_slack e (flow m x r) (limit m r)) (rows m)
-    (λ r c. not_both (has_name m e.row r) (prices_slack e (flow m x r) (limit m r)) (λ t. absurd (true≢false (sym t ∙ not_of m e none r c))))
+    any_none (λ r. has_name m e.row r && breaks_row m r e.up e.down (flow m x r)) (rows m)
+    (λ r c. not_both (has_name m e.row r) (breaks_row m r e.up e.down (flow m x r)) (λ t. absurd (true≢false (sym t ∙ not_of m e none r c))))
 
 -- of the row of its name alone
-pub slack_named : (m : Parts) → IsMarket m → (x : Dispatch) (e : Dual Fraction) (r : Row) → Contains (rows m) r → row_id m r ≡ e.row → has_slack m x e ≡ prices_slack e (flow m x r) (limit m r)
-slack_named m market x e r c same = by (prices_slack e (flow m x r) (limit m r)) refl
+pub slack_named : (m : Parts) → IsMarket m → (x : Dispatch) (e : Dual Fraction) (r : Row) → Contains (rows m) r → row_id m r ≡ e.row → has_slack m x e ≡ breaks_row m r e.up e.down (flow m x r)
+slack_named m market x e r c same = by (breaks_row m r e.up e.down (flow m x r)) refl
   where
-    by : (b : Bool) → prices_slack e (flow m x r) (limit m r) ≡ b → has_slack m x e ≡ b
-    by true t = any_of (λ s. has_name m e.row s && prices_slack e (flow m x s) (limit m s)) (rows m) r c (Prim.rw (named (row_id m r) e.row same, t) refl)
+    by : (b : Bool) → breaks_row m r e.up e.down (flow m x r) ≡ b → has_slack m x e ≡ b
+    by true t = any_of (λ s. has_name m e.row s && breaks_row m s e.up e.down (flow m x s)) (rows m) r c (Prim.rw (named (row_id m r) e.row same, t) refl)
     by false t =
-        any_none (λ s. has_name m e.row s && prices_slack e (flow m x s) (limit m s)) (rows m)
-        (λ s k. not_both (has_name m e.row s) (prices_slack e (flow m x s) (limit m s))
-        (λ u. subst (λ (z : Row). prices_slack e (flow m x z) (limit m z) ≡ false) (same_row m market r s c k (same ∙ sym (same_name (row_id m s) e.row u))) t))
+        any_none (λ s. has_name m e.row s && breaks_row m s e.up e.down (flow m x s)) (rows m)
+        (λ s k. not_both (has_name m e.row s) (breaks_row m s e.up e.down (flow m x s))
+        (λ u. subst (λ (z : Row). breaks_row m z e.up e.down (flow m x z) ≡ false) (same_row m market r s c k (same ∙ sym (same_name (row_id m s) e.row u))) t))
+
+-- ---- a row that no dual names
+-- where neither price is above 0, what is left to test of a side is that the flow exceeds the limit at a penalty
+side_free : (exceeds costs : Bool) → costs ≡ true → (exceeds && costs) || false ≡ exceeds
+side_free true costs e = Prim.rw e refl
+side_free false costs e = refl
+
+side_hard : (exceeds costs : Bool) → costs ≡ false → (exceeds && costs) || false ≡ false
+side_hard true costs e = Prim.rw e refl
+side_hard false costs e = refl
+
+-- a flow passes a limit on the lower side where its opposite passes it on the upper one
+opposite_below : (f l : Fraction) → is_below f (neg_ℚ l) ≡ is_below l (neg_ℚ f)
+opposite_below f l = by (is_below f (neg_ℚ l)) (is_below l (neg_ℚ f)) refl refl
+  where
+    by : (a b : Bool) → is_below f (neg_ℚ l) ≡ a → is_below l (neg_ℚ f) ≡ b → a ≡ b
+    by true true e g = refl
+    by false b e g = sym (below_not l (neg_ℚ f) (opposite_most l f (not_below f (neg_ℚ l) e))) ∙ g
+    by true false e g = sym e ∙ below_not f (neg_ℚ l) (opposite_most f l (not_below l (neg_ℚ f) g))
+
+either_side : (f l : Fraction) → passes f l ≡ (is_below l f || is_below l (neg_ℚ f))
+either_side f l = ap (λ (b : Bool). b || is_below l f) (opposite_below f l) ∙ swapped (is_below l (neg_ℚ f)) (is_below l f)
+  where
+    swapped : (a b : Bool) → (a || b) ≡ (b || a)
+    swapped true true = refl
+    swapped true false = refl
+    swapped false true = refl
+    swapped false false = refl
+
+-- a row that some dual names
+pub unpriced_named : (m : Parts) (x : Dispatch) (ds : List (Dual Fraction)) (r : Row) → names_row ds (row_id m r) ≡ true → is_unpriced m x ds r ≡ false
+unpriced_named m x ds r e = ap (λ (b : Bool). not b && breaks_row m r zero zero (flow m x r)) e
+
+module _ (m : Parts) (market : IsMarket m) (x : Dispatch) (ds : List (Dual Fraction)) (r : Row) where
+  -- no price of 0 is below a penalty of 0, and none is above a penalty
+  not_nil : is_below zero zero ≡ false
+  not_nil = below_not zero zero (≤ℚ_refl zero)
+
+  not_over : is_below (penalty m r) zero ≡ false
+  not_over = below_not (penalty m r) zero (penalty_least m market r)
+
+  -- what is left of the tests of a side
+  exceeds_only : (f : Fraction) → breaks_side m r zero f ≡ ((is_below (limit m r) f && is_below zero (penalty m r)) || false)
+  exceeds_only f = ap₂ (λ (a b : Bool). (a && is_below f (limit m r)) || (is_below (limit m r) f && is_below zero (penalty m r)) || (b && differ f (most_flow m r))) not_nil not_over
+
+  free_side : (f : Fraction) → is_soft m r ≡ true → breaks_side m r zero f ≡ is_below (limit m r) f
+  free_side f soft = exceeds_only f ∙ side_free (is_below (limit m r) f) (is_below zero (penalty m r)) (below_of zero (penalty m r) (whole-<ℚ (pos 0) _ (int_lt-true (pos 0) _ soft)))
+
+  hard_side : (f : Fraction) → is_soft m r ≡ false → breaks_side m r zero f ≡ false
+  hard_side f hard =
+      exceeds_only f
+      ∙ side_hard (is_below (limit m r) f) (is_below zero (penalty m r)) (below_not zero (penalty m r) (≤ℚ_of_same (penalty m r) zero (hard_costs_nothing m market r hard)))
+
+  pub unpriced_hard : is_soft m r ≡ false → is_unpriced m x ds r ≡ false
+  unpriced_hard hard =
+      not_both (not (names_row ds (row_id m r))) (breaks_row m r zero zero (flow m x r))
+      (λ t. neither (breaks_side m r zero (flow m x r)) (breaks_side m r zero (neg_ℚ (flow m x r))) (hard_side (flow m x r) hard) (hard_side (neg_ℚ (flow m x r)) hard))
+
+  -- a flow passes the limit
+  pub unpriced_free : is_soft m r ≡ true → names_row ds (row_id m r) ≡ false → passes (flow m x r) (limit m r) ≡ is_unpriced m x ds r
+  unpriced_free soft free =
+      either_side (flow m x r) (limit m r)
+      ∙ sym (ap₂ (λ (a b : Bool). a || b) (free_side (flow m x r) soft) (free_side (neg_ℚ (flow m x r)) soft))
+      ∙ sym (ap (λ (b : Bool). not b && breaks_row m r zero zero (flow m x r)) free)
 
 -- ---- flows of lines that are those of a dispatch
 module _ (m : Parts) (x : Dispatch) (flows : List Fraction) (are : AreFlows m x flows) (r : Row) (line : r.line < length m.lines) (lost : IsCauseAmong (length m.lines) r.cause) where

@@ -18,7 +18,7 @@ use Rattle.cert_verify.specs.Reasons.{NoneOf, breaks_support, is_below, is_outsi
 use Rattle.cert_verify.specs.declared.verdicts.Verdict.TheVariants.{Yes}
 
 -- ---- numbers
-int_lt-true : (a b : ℤ) → int_lt a b ≡ true → a <ℤ b
+pub int_lt-true : (a b : ℤ) → int_lt a b ≡ true → a <ℤ b
 int_lt-true a b e = Prim.grind (arith, ints)
 
 int_lt-of : (a b : ℤ) → a <ℤ b → int_lt a b ≡ true

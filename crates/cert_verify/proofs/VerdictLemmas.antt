@@ -1,13 +1,13 @@
 -- A certificate has no reason against it exactly where it is true of the market.
-use Rattle.std.specs.Prelude.{◌≡◌, ◌≢◌, ◌⊎◌, ◌==◌, ◌&&◌, ◌<◌, ◌+◌, ℕ, Bool, true, false, not, List, [], ◌∷◌, length, AllPairs, Contains, None, if◌then◌else◌, refl}
+use Rattle.std.specs.Prelude.{◌≡◌, ◌≢◌, ◌⊎◌, ◌==◌, ◌&&◌, ◌||◌, ◌<◌, ◌+◌, ℕ, Bool, true, false, not, List, [], ◌∷◌, length, AllPairs, Contains, None, if◌then◌else◌, refl}
 use Rattle.std.specs.List.{list_any}
-use Rattle.std.proofs.Common.{suc, arith, inl, inr, ap, sym, subst, ◌∙◌}
+use Rattle.std.proofs.Common.{suc, arith, inl, inr, ap, sym, subst, subst₂, ◌∙◌}
 use Rattle.std.proofs.lemmas.Bool.{or_parts, eq-eqb, eqb-true}
 use Rattle.std.proofs.lemmas.List.Elements.{All-contains}
 use Rattle.fraction_theory.specs.Fraction.{Fraction, neg_ℚ}
-use Rattle.fraction_theory.specs.Order.{◌≤ℚ◌, ◌<ℚ◌}
+use Rattle.fraction_theory.specs.Order.{◌≤ℚ◌}
 use Rattle.fraction_theory.proofs.ListSums.{Contains-head, Contains-cons, Contains-cases}
-use Rattle.fraction_theory.proofs.OrderLaws.{≤ℚ_refl, <ℚ_irrefl}
+use Rattle.fraction_theory.proofs.OrderLaws.{≤ℚ_refl}
 use Rattle.market_model.specs.declared.answered.Dual.{Dual}
 use Rattle.market_model.specs.declared.answered.Duals.{Duals}
 use Rattle.market_model.specs.declared.answered.RowId.{RowId}
@@ -17,16 +17,14 @@ use Rattle.market_model.specs.declared.participants.Side.TheVariants.{Sell, Buy}
 use Rattle.market_model.specs.Dispatch.{Dispatch, zero, places, block_at, accepted, quantity, balance}
 use Rattle.market_model.specs.Infeasibility.{farkas_bound}
 use Rattle.market_model.specs.declared.limits.Row.{Row}
-use Rattle.market_model.specs.LimitRows.{rows, row_id, limit, flow, most_flow}
-use Rattle.market_model.specs.Optimality.{BlockSupported, Gains, Loses, RowSupported, Supports, same_id, up_in, down_in, up_of, down_of, price, unit_price}
-use Rattle.market_model.specs.Lines.{HasHardLimits}
-use Rattle.market_model.specs.Market.{IsMarket}
-use Rattle.market_model.proofs.HardLimits.{hard_down, hard_most, hard_supported, hard_up}
+use Rattle.market_model.specs.LimitRows.{rows, row_id, limit, flow, most_flow, penalty}
+use Rattle.market_model.specs.Optimality.{BlockSupported, Gains, Loses, RowSupported, SideSupported, Supports, same_id, names_row, up_in, down_in, up_of, down_of, price, unit_price}
+use Rattle.limit_rows.proofs.DualLemmas.{up_unnamed, down_unnamed}
 use Rattle.limit_rows.proofs.PlaceLemmas.{same_name}
 use Rattle.cert_verify.specs.declared.verdicts.Reason.TheVariants as reason
 use Rattle.cert_verify.specs.Certificates.{ProvesInfeasible, IsOptimum, NamesRows}
 use Rattle.limit_rows.specs.Naming.{has_name}
-use Rattle.cert_verify.specs.Reasons.{bound_reason, block_reason, count_reason, balance_reason, differ, farkas_reasons, first_of, gains, has_negative, has_no_row, has_slack, is_below, is_beyond, is_overloaded, is_unsupported, limit_reason, loses, optimal_reasons, prices_slack, row_reason, sign_reason, slack_reason, support_reason}
+use Rattle.cert_verify.specs.Reasons.{bound_reason, block_reason, breaks_row, breaks_side, count_reason, balance_reason, differ, farkas_reasons, first_of, gains, has_negative, has_no_row, has_slack, is_below, is_beyond, is_overloaded, is_unpriced, is_unsupported, limit_reason, loses, optimal_reasons, row_reason, sign_reason, slack_reason, support_reason, unpriced_reason}
 use Rattle.cert_verify.proofs.TestLemmas.{below_true, below_of, not_below, below_not, same_by, same_not, neither, not_both, then_not, not_false, not_true, any_true, any_of, any_false, any_none, all_by, in_places, from_places, none_of, of_none, not_so, so_none, all_none, none_first}
 use Rattle.market_model.specs.Overrun.{Within}
 
@@ -52,10 +50,10 @@ record IsPriced (ds : List (Dual Fraction)) (id : RowId) (e : Dual Fraction) : T
   pub down : down_in ds id ≡ e.down
 
 abbrev IsFree : List (Dual Fraction) → RowId → Type 0
-IsFree ds id = (up_in ds id ≡ zero) × (down_in ds id ≡ zero)
+IsFree ds id = names_row ds id ≡ false
 
 priced : (ds : List (Dual Fraction)) (id : RowId) → IsFree ds id ⊎ ((e : Dual Fraction) × IsPriced ds id e)
-priced [] id = inl (refl, refl)
+priced [] id = inl refl
 priced (d ∷ ds) id = by (same_id d.row id) refl (priced ds id)
   where
     up_by : (b : Bool) → same_id d.row id ≡ b → up_in (d ∷ ds) id ≡ (if b then d.up else up_in ds id)
@@ -66,7 +64,7 @@ priced (d ∷ ds) id = by (same_id d.row id) refl (priced ds id)
 
     by : (b : Bool) → same_id d.row id ≡ b → IsFree ds id ⊎ ((e : Dual Fraction) × IsPriced ds id e) → IsFree (d ∷ ds) id ⊎ ((e : Dual Fraction) × IsPriced (d ∷ ds) id e)
     by true t h = inr (d, record { listed = Contains-head d ds; name = same_name d.row id t; up = up_by true t; down = down_by true t })
-    by false t (inl h) = inl (up_by false t ∙ h.0, down_by false t ∙ h.1)
+    by false t (inl h) = inl (ap (λ (c : Bool). c || names_row ds id) t ∙ h)
     by false t (inr (e, p)) = inr (e, record { listed = Contains-cons d ds e p.listed; name = p.name; up = up_by false t ∙ p.up; down = down_by false t ∙ p.down })
 
 abbrev pub Apart : List (Dual Fraction) → Type 0
@@ -160,47 +158,76 @@ up_sign : (ds : List (Dual Fraction)) (id : RowId) → ((e : Dual Fraction) → 
 up_sign ds id h = by (priced ds id)
   where
     by : IsFree ds id ⊎ ((e : Dual Fraction) × IsPriced ds id e) → zero ≤ℚ up_in ds id
-    by (inl f) = subst (λ y. zero ≤ℚ y) (sym f.0) (≤ℚ_refl zero)
+    by (inl f) = subst (λ y. zero ≤ℚ y) (sym (up_unnamed ds id f)) (≤ℚ_refl zero)
     by (inr (e, p)) = subst (λ y. zero ≤ℚ y) (sym p.up) (h e p.listed).up
 
 down_sign : (ds : List (Dual Fraction)) (id : RowId) → ((e : Dual Fraction) → Contains ds e → HasSigns e) → zero ≤ℚ down_in ds id
 down_sign ds id h = by (priced ds id)
   where
     by : IsFree ds id ⊎ ((e : Dual Fraction) × IsPriced ds id e) → zero ≤ℚ down_in ds id
-    by (inl f) = subst (λ y. zero ≤ℚ y) (sym f.1) (≤ℚ_refl zero)
+    by (inl f) = subst (λ y. zero ≤ℚ y) (sym (down_unnamed ds id f)) (≤ℚ_refl zero)
     by (inr (e, p)) = subst (λ y. zero ≤ℚ y) (sym p.down) (h e p.listed).down
 
 -- ---- rows
--- the flow of a row stands where these prices are above 0
-record Stands (m : Parts) (x : Dispatch) (up down : Fraction) (r : Row) : Type 0 where
-  pub above : zero <ℚ up → flow m x r ≡ limit m r
-  pub below : zero <ℚ down → flow m x r ≡ neg_ℚ (limit m r)
+-- one side of a row
+module _ (m : Parts) (r : Row) (price f : Fraction) where
+  abbrev unreached : Bool
+  unreached = is_below zero price && is_below f (limit m r)
 
-module _ (m : Parts) (x : Dispatch) where
-  slack_to : (e : Dual Fraction) (r : Row) → prices_slack e (flow m x r) (limit m r) ≡ false → Stands m x e.up e.down r
-  slack_to e r h =
-      let parts = or_parts (is_below zero e.up && differ (flow m x r) (limit m r)) (is_below zero e.down && differ (flow m x r) (neg_ℚ (limit m r))) h in record {
-        above = λ p. same_by (flow m x r) (limit m r) (then_not (is_below zero e.up) (differ (flow m x r) (limit m r)) parts.0 (below_of zero e.up p));
-        below = λ p. same_by (flow m x r) (neg_ℚ (limit m r)) (then_not (is_below zero e.down) (differ (flow m x r) (neg_ℚ (limit m r))) parts.1 (below_of zero e.down p));
+  abbrev underpriced : Bool
+  underpriced = is_below (limit m r) f && is_below price (penalty m r)
+
+  abbrev overpriced : Bool
+  overpriced = is_below (penalty m r) price && differ f (most_flow m r)
+
+  side_to : zero ≤ℚ price → breaks_side m r price f ≡ false → SideSupported m r price f
+  side_to sign e =
+      let parts = or_parts (unreached || underpriced) overpriced e in
+      let reach = or_parts unreached underpriced parts.0 in record {
+        sign = sign;
+        reached = λ h. not_below f (limit m r) (then_not (is_below zero price) (is_below f (limit m r)) reach.0 (below_of zero price h));
+        exceeded = λ h. not_below price (penalty m r) (then_not (is_below (limit m r) f) (is_below price (penalty m r)) reach.1 (below_of (limit m r) f h));
+        used_up = λ h. same_by f (most_flow m r) (then_not (is_below (penalty m r) price) (differ f (most_flow m r)) parts.1 (below_of (penalty m r) price h));
       }
 
-  slack_from : (e : Dual Fraction) (r : Row) → Stands m x e.up e.down r → prices_slack e (flow m x r) (limit m r) ≡ false
-  slack_from e r h =
-      neither (is_below zero e.up && differ (flow m x r) (limit m r)) (is_below zero e.down && differ (flow m x r) (neg_ℚ (limit m r)))
-      (not_both (is_below zero e.up) (differ (flow m x r) (limit m r)) (λ t. same_not (flow m x r) (limit m r) (h.above (below_true zero e.up t))))
-      (not_both (is_below zero e.down) (differ (flow m x r) (neg_ℚ (limit m r))) (λ t. same_not (flow m x r) (neg_ℚ (limit m r)) (h.below (below_true zero e.down t))))
+  side_from : SideSupported m r price f → breaks_side m r price f ≡ false
+  side_from s =
+      neither (unreached || underpriced) overpriced
+      (neither unreached underpriced
+      (not_both (is_below zero price) (is_below f (limit m r)) (λ t. below_not f (limit m r) (s.reached (below_true zero price t))))
+      (not_both (is_below (limit m r) f) (is_below price (penalty m r)) (λ t. below_not price (penalty m r) (s.exceeded (below_true (limit m r) f t)))))
+      (not_both (is_below (penalty m r) price) (differ f (most_flow m r)) (λ t. same_not f (most_flow m r) (s.used_up (below_true (penalty m r) price t))))
 
-  -- a dual prices no slack where the flow of no row of its name stands off
-  slacks_to : (ds : List (Dual Fraction)) → slack_reason m x ds ≡ None → (e : Dual Fraction) → Contains ds e → (r : Row) → Contains (rows m) r → row_id m r ≡ e.row → Stands m x e.up e.down r
+module _ (m : Parts) (x : Dispatch) where
+  -- these prices of a row support its flow as far as is tested
+  abbrev Unbroken : Row → Fraction → Fraction → Type 0
+  Unbroken r up down = breaks_row m r up down (flow m x r) ≡ false
+
+  -- so do those of each dual of a row of the market
+  slacks_to : (ds : List (Dual Fraction)) → slack_reason m x ds ≡ None → (e : Dual Fraction) → Contains ds e → (r : Row) → Contains (rows m) r → row_id m r ≡ e.row → Unbroken r e.up e.down
   slacks_to ds h e c r k same =
-      let none = any_false (λ r. has_name m e.row r && prices_slack e (flow m x r) (limit m r)) (rows m) (none_of (λ e. reason.Slack e.row) (has_slack m x) ds h e c) r k in
-      slack_to e r (then_not (has_name m e.row r) (prices_slack e (flow m x r) (limit m r)) none (named (row_id m r) e.row same))
+      let none = any_false (λ r. has_name m e.row r && breaks_row m r e.up e.down (flow m x r)) (rows m) (none_of (λ e. reason.Slack e.row) (has_slack m x) ds h e c) r k in
+      then_not (has_name m e.row r) (breaks_row m r e.up e.down (flow m x r)) none (named (row_id m r) e.row same)
 
-  slacks_from : (ds : List (Dual Fraction)) → ((e : Dual Fraction) → Contains ds e → (r : Row) → Contains (rows m) r → row_id m r ≡ e.row → Stands m x e.up e.down r) → slack_reason m x ds ≡ None
+  slacks_from : (ds : List (Dual Fraction)) → ((e : Dual Fraction) → Contains ds e → (r : Row) → Contains (rows m) r → row_id m r ≡ e.row → Unbroken r e.up e.down) → slack_reason m x ds ≡ None
   slacks_from ds h =
       of_none (λ e. reason.Slack e.row) (has_slack m x) ds
-      (λ e c. any_none (λ r. has_name m e.row r && prices_slack e (flow m x r) (limit m r)) (rows m)
-      (λ r k. not_both (has_name m e.row r) (prices_slack e (flow m x r) (limit m r)) (λ t. slack_from e r (h e c r k (same_name (row_id m r) e.row t)))))
+      (λ e c. any_none (λ r. has_name m e.row r && breaks_row m r e.up e.down (flow m x r)) (rows m)
+      (λ r k. not_both (has_name m e.row r) (breaks_row m r e.up e.down (flow m x r)) (λ t. h e c r k (same_name (row_id m r) e.row t))))
+
+  -- and no price, of a row that none names
+  unpriced_to : (ds : List (Dual Fraction)) → unpriced_reason m x ds ≡ None → (r : Row) → Contains (rows m) r → names_row ds (row_id m r) ≡ false → Unbroken r zero zero
+  unpriced_to ds h r c free =
+      then_not (not (names_row ds (row_id m r))) (breaks_row m r zero zero (flow m x r)) (none_of (λ r. reason.Slack (row_id m r)) (is_unpriced m x ds) (rows m) h r c) (ap not free)
+
+  unpriced_from : (ds : List (Dual Fraction)) → ((r : Row) → Contains (rows m) r → names_row ds (row_id m r) ≡ false → Unbroken r zero zero) → unpriced_reason m x ds ≡ None
+  unpriced_from ds h =
+      of_none (λ r. reason.Slack (row_id m r)) (is_unpriced m x ds) (rows m)
+      (λ r c. not_both (not (names_row ds (row_id m r))) (breaks_row m r zero zero (flow m x r)) (λ t. h r c (not_so_named (names_row ds (row_id m r)) t)))
+    where
+      not_so_named : (b : Bool) → not b ≡ true → b ≡ false
+      not_so_named false e = refl
+      not_so_named true e = sym e
 
   limits_to : limit_reason m x ≡ None → (r : Row) → Contains (rows m) r → Within (most_flow m r) (flow m x r)
   limits_to h r c =
@@ -240,34 +267,40 @@ module _ (m : Parts) (d : Duals Fraction) where
       by : (e : Dual Fraction) → (r : Row) × Contains (rows m) r × (up_of m d r ≡ e.up) × (down_of m d r ≡ e.down) → HasSigns e
       by e (r, k, up, down) = record { up = subst (λ y. zero ≤ℚ y) up (ups r k); down = subst (λ y. zero ≤ℚ y) down (downs r k) }
 
--- ---- a dispatch and duals that support it, where limits are hard
-module _ (m : Parts) (market : IsMarket m) (hard : HasHardLimits m.lines) (x : Dispatch) (d : Duals Fraction) where
-  within_limit : (r : Row) → Within (most_flow m r) (flow m x r) → Within (limit m r) (flow m x r)
-  within_limit r within = subst (λ most. Within most (flow m x r)) (hard_most m hard market r) within
-
-  row_to : sign_reason d.limits ≡ None → slack_reason m x d.limits ≡ None → (r : Row) → Contains (rows m) r → Within (most_flow m r) (flow m x r) → RowSupported m x d r
-  row_to s h r c within =
-      hard_supported m hard market x d r (within_limit r within) (up_sign d.limits (row_id m r) (signs_to d.limits s)) (down_sign d.limits (row_id m r) (signs_to d.limits s))
-      (λ p. up (priced d.limits (row_id m r)) p) (λ p. down (priced d.limits (row_id m r)) p)
+-- ---- a dispatch and duals that support it
+module _ (m : Parts) (x : Dispatch) (d : Duals Fraction) where
+  -- the prices of each row support its flow as far as is tested
+  unbroken : slack_reason m x d.limits ≡ None → unpriced_reason m x d.limits ≡ None → (r : Row) → Contains (rows m) r → Unbroken m x r (up_of m d r) (down_of m d r)
+  unbroken slack unpriced r c = by (priced d.limits (row_id m r))
     where
-      up : IsFree d.limits (row_id m r) ⊎ ((e : Dual Fraction) × IsPriced d.limits (row_id m r) e) → zero <ℚ up_in d.limits (row_id m r) → flow m x r ≡ limit m r
-      up (inl f) p = absurd (<ℚ_irrefl zero (subst (λ y. zero <ℚ y) f.0 p))
-      up (inr (e, is)) p = (slacks_to m x d.limits h e is.listed r c (sym is.name)).above (subst (λ y. zero <ℚ y) is.up p)
+      by : IsFree d.limits (row_id m r) ⊎ ((e : Dual Fraction) × IsPriced d.limits (row_id m r) e) → Unbroken m x r (up_of m d r) (down_of m d r)
+      by (inl free) = subst₂ (Unbroken m x r) (sym (up_unnamed d.limits (row_id m r) free)) (sym (down_unnamed d.limits (row_id m r) free)) (unpriced_to m x d.limits unpriced r c free)
+      by (inr (e, is)) = subst₂ (Unbroken m x r) (sym is.up) (sym is.down) (slacks_to m x d.limits slack e is.listed r c (sym is.name))
 
-      down : IsFree d.limits (row_id m r) ⊎ ((e : Dual Fraction) × IsPriced d.limits (row_id m r) e) → zero <ℚ down_in d.limits (row_id m r) → flow m x r ≡ neg_ℚ (limit m r)
-      down (inl f) p = absurd (<ℚ_irrefl zero (subst (λ y. zero <ℚ y) f.1 p))
-      down (inr (e, is)) p = (slacks_to m x d.limits h e is.listed r c (sym is.name)).below (subst (λ y. zero <ℚ y) is.down p)
+  row_to : sign_reason d.limits ≡ None → slack_reason m x d.limits ≡ None → unpriced_reason m x d.limits ≡ None → (r : Row) → Contains (rows m) r → RowSupported m x d r
+  row_to signs slack unpriced r c =
+      let parts = or_parts (breaks_side m r (up_of m d r) (flow m x r)) (breaks_side m r (down_of m d r) (neg_ℚ (flow m x r))) (unbroken slack unpriced r c) in record {
+        up = side_to m r (up_of m d r) (flow m x r) (up_sign d.limits (row_id m r) (signs_to d.limits signs)) parts.0;
+        down = side_to m r (down_of m d r) (neg_ℚ (flow m x r)) (down_sign d.limits (row_id m r) (signs_to d.limits signs)) parts.1;
+      }
 
-  slacks_of : Apart d.limits → ((r : Row) → Contains (rows m) r → Within (most_flow m r) (flow m x r)) → Supports m x d → slack_reason m x d.limits ≡ None
-  slacks_of apart within s = slacks_from m x d.limits by
+  row_from : (r : Row) → RowSupported m x d r → Unbroken m x r (up_of m d r) (down_of m d r)
+  row_from r s =
+      neither (breaks_side m r (up_of m d r) (flow m x r)) (breaks_side m r (down_of m d r) (neg_ℚ (flow m x r)))
+      (side_from m r (up_of m d r) (flow m x r) s.up) (side_from m r (down_of m d r) (neg_ℚ (flow m x r)) s.down)
+
+  slacks_of : Apart d.limits → Supports m x d → slack_reason m x d.limits ≡ None
+  slacks_of apart s = slacks_from m x d.limits by
     where
-      by : (e : Dual Fraction) → Contains d.limits e → (r : Row) → Contains (rows m) r → row_id m r ≡ e.row → Stands m x e.up e.down r
+      by : (e : Dual Fraction) → Contains d.limits e → (r : Row) → Contains (rows m) r → row_id m r ≡ e.row → Unbroken m x r e.up e.down
       by e c r k same =
           let own = own_prices d.limits apart e c in
-          let inside = within_limit r (within r k) in record {
-            above = λ p. hard_up m hard market x d r inside (s.rows r k) (subst (λ y. zero <ℚ y) (sym (ap (up_in d.limits) same ∙ own.0)) p);
-            below = λ p. hard_down m hard market x d r inside (s.rows r k) (subst (λ y. zero <ℚ y) (sym (ap (down_in d.limits) same ∙ own.1)) p);
-          }
+          subst₂ (Unbroken m x r) (ap (up_in d.limits) same ∙ own.0) (ap (down_in d.limits) same ∙ own.1) (row_from r (s.rows r k))
+
+  unpriced_of : Supports m x d → unpriced_reason m x d.limits ≡ None
+  unpriced_of s =
+      unpriced_from m x d.limits
+      (λ r c free. subst₂ (Unbroken m x r) (up_unnamed d.limits (row_id m r) free) (down_unnamed d.limits (row_id m r) free) (row_from r (s.rows r c)))
 
   pub optimal_to : first_of (optimal_reasons m x d) ≡ None → IsOptimum m x d
   optimal_to none =
@@ -281,8 +314,8 @@ module _ (m : Parts) (market : IsMarket m) (hard : HasHardLimits m.lines) (x : D
           limits = limits_to m x all.1.1.1.1.1.0;
         };
         supported = record {
-          blocks = λ j lt. block_to m x d j (none_of (λ j. reason.Support (j + 1)) (is_unsupported m x d) (places (length m.blocks)) all.1.1.1.1.1.1.1.0 j (in_places (length m.blocks) j lt));
-          rows = λ r c. row_to all.1.1.0 all.1.1.1.1.1.1.0 r c (limits_to m x all.1.1.1.1.1.0 r c);
+          blocks = λ j lt. block_to m x d j (none_of (λ j. reason.Support (j + 1)) (is_unsupported m x d) (places (length m.blocks)) all.1.1.1.1.1.1.1.1.0 j (in_places (length m.blocks) j lt));
+          rows = row_to all.1.1.0 all.1.1.1.1.1.1.0 all.1.1.1.1.1.1.1.0;
         };
       }
 
@@ -294,9 +327,10 @@ module _ (m : Parts) (market : IsMarket m) (hard : HasHardLimits m.lines) (x : D
       let inside : block_reason m x ≡ None = inside_from m x (λ j lt. (h.feasible.blocks.above j lt, h.feasible.blocks.within j lt)) in
       let balanced : balance_reason m x ≡ None = so_none (differ (balance m x) zero) reason.Balance (same_not (balance m x) zero h.feasible.balanced) in
       let limits : limit_reason m x ≡ None = limits_from m x h.feasible.limits in
-      let slack : slack_reason m x d.limits ≡ None = slacks_of apart h.feasible.limits h.supported in
+      let slack : slack_reason m x d.limits ≡ None = slacks_of apart h.supported in
+      let unpriced : unpriced_reason m x d.limits ≡ None = unpriced_of h.supported in
       let support : support_reason m x d ≡ None = of_none (λ j. reason.Support (j + 1)) (is_unsupported m x d) (places (length m.blocks)) (λ j c. block_from m x d j (h.supported.blocks j (from_places (length m.blocks) j c))) in
-      none_first (optimal_reasons m x d) (count, (names, (signs, (inside, (balanced, (limits, (slack, (support, tt))))))))
+      none_first (optimal_reasons m x d) (count, (names, (signs, (inside, (balanced, (limits, (slack, (unpriced, (support, tt)))))))))
 
 -- ---- duals that show that nothing is feasible
 module _ (m : Parts) (d : Duals Fraction) where

@@ -1,4 +1,4 @@
--- What the verdict on a certificate means. Reasons know hard limits alone, so what is said of optimal certificates is said of markets with such limits.
+-- What the verdict on a certificate means.
 use Rattle.std.specs.Prelude.{◌≡◌, ◌↔◌, List}
 use Rattle.fraction_theory.specs.Fraction.{Fraction}
 use Rattle.fraction_theory.specs.Order.{◌≤ℚ◌}
@@ -8,7 +8,6 @@ use Rattle.market_model.specs.declared.answered.Farkas as infeasible
 use Rattle.market_model.specs.declared.participants.Parts.{Parts}
 use Rattle.market_model.specs.Dispatch.{Dispatch, dispatch_by}
 use Rattle.market_model.specs.Infeasibility.{IsFarkas}
-use Rattle.market_model.specs.Lines.{HasHardLimits}
 use Rattle.market_model.specs.Market.{IsMarket}
 use Rattle.market_model.specs.Optimality.{Feasible, welfare}
 use Rattle.market_model.specs.RightAnswers.{IsRight}
@@ -21,12 +20,12 @@ use Rattle.cert_verify.specs.declared.verdicts.Verdict.TheVariants.{Yes}
 
 -- a certificate that names no row twice is answered by yes exactly where it is true of the market
 abbrev pub LawOfTheVerdict : Type 0
-LawOfTheVerdict = (m : Parts) (c : Cert Fraction) → IsMarket m → HasHardLimits m.lines → RowsAreDistinct c → (verdict_of (first_reason m c) ≡ Yes) ↔ IsTrueOf m c
+LawOfTheVerdict = (m : Parts) (c : Cert Fraction) → IsMarket m → RowsAreDistinct c → (verdict_of (first_reason m c) ≡ Yes) ↔ IsTrueOf m c
 
 -- its dispatch is then feasible, and no feasible one is worth more
 abbrev pub LawOfTheBest : Type 0
 LawOfTheBest =
-    (m : Parts) (blocks : List Fraction) (energy : Fraction) (limits : List (Dual Fraction)) → IsMarket m → HasHardLimits m.lines → RowsAreDistinct (Optimal blocks energy limits)
+    (m : Parts) (blocks : List Fraction) (energy : Fraction) (limits : List (Dual Fraction)) → IsMarket m → RowsAreDistinct (Optimal blocks energy limits)
     → verdict_of (first_reason m (Optimal blocks energy limits)) ≡ Yes → Feasible m (dispatch_by blocks) × ((y : Dispatch) → Feasible m y → welfare m y ≤ℚ welfare m (dispatch_by blocks))
 
 -- or, of the other kind, nothing is feasible
@@ -37,7 +36,7 @@ LawOfNothingFeasible =
 
 -- the certificate of a right answer is answered by yes
 abbrev pub LawOfRightAnswers : Type 0
-LawOfRightAnswers = (m : Parts) (a : Answer Fraction) → IsMarket m → HasHardLimits m.lines → IsRight m a → RowsAreDistinct (cert_of a) × (verdict_of (first_reason m (cert_of a)) ≡ Yes)
+LawOfRightAnswers = (m : Parts) (a : Answer Fraction) → IsMarket m → IsRight m a → RowsAreDistinct (cert_of a) × (verdict_of (first_reason m (cert_of a)) ≡ Yes)
 
 -- and that of duals that show a market infeasible
 abbrev pub LawOfFarkasDuals : Type 0

@@ -21,6 +21,7 @@ use crate::comparing::{differ, is_negative};
 use crate::duals::{missing_row, negative_price, slack_price};
 use crate::limits::broken_limit;
 use crate::naming::named_rows;
+use crate::unpriced::unpriced_row;
 use cert_sums::{bus_price, farkas_bound, injections, line_flows};
 use exact_fraction::Exact;
 use market_model::{Dual, List, Market, Memory, Stop, balance, datum};
@@ -49,7 +50,8 @@ fn wrong_flow<N: Exact>(
     blocks: &[N],
     limits: &[Dual<N>],
 ) -> Result<Option<Reason>, Stop<N>>
-    requires { length blocks.now ≡ length market.now.blocks }
+    requires blocks { length blocks.now ≡ length market.now.blocks }
+    requires distinct { NamesNoRowTwice (map (dual_at N.value) limits.now) }
     ensures first { IfOk result (λ first. first ≡ first_of (flow_reasons market.now (dispatch_of N.value blocks.now) (map (dual_at N.value) limits.now))) }
     ensures cause { (energy : Fraction) → NoneOf (part_reasons market.now (dispatch_of N.value blocks.now) (map (dual_at N.value) limits.now)) → IfErr result (StopsBy N.value (IsOptimalStop market.now (dispatch_of N.value blocks.now) (named_duals energy (map (dual_at N.value) limits.now)) N.bound)) }
 {
@@ -61,7 +63,10 @@ fn wrong_flow<N: Exact>(
     if let Some(reason) = broken_limit(market, &by_line)? {
         return Ok(Some(reason));
     }
-    Ok(slack_price(market, &by_line, limits)?)
+    if let Some(reason) = slack_price(market, &by_line, limits)? {
+        return Ok(Some(reason));
+    }
+    unpriced_row(alloc, market, &by_line, limits)
 }
 
 /// The price at each bus.

@@ -4,13 +4,13 @@ ghost use Rattle.std.specs.Prelude.{◌≡◌, pos};
 ghost use Rattle.fraction_theory.specs.Fraction.{whole};
 ghost use Rattle.market_data.specs.Participants.{IsDatum};
 ghost use Rattle.market_model.specs.Valued.{dual_at};
-ghost use Rattle.cert_verify.specs.Reasons.{breaks_support, differ, gains, has_negative, is_below, is_outside, loses, passes, prices_slack};
+ghost use Rattle.cert_verify.specs.Reasons.{breaks_support, differ, gains, has_negative, is_below, is_outside, loses, passes};
 
 use exact_fraction::Exact;
 use market_model::{Dual, Side, datum};
 use std::cmp::Ordering;
 
-fn is_below<N: Exact>(left: N, right: N) -> bool
+pub(crate) fn is_below<N: Exact>(left: N, right: N) -> bool
     ensures { result ≡ is_below (N.value left) (N.value right) }
 {
     match left.order(right) {
@@ -54,15 +54,6 @@ pub(crate) fn has_negative<N: Exact>(dual: &Dual<N>) -> bool
     ensures { result ≡ has_negative (dual_at N.value dual.now) }
 {
     is_negative(dual.up) || is_negative(dual.down)
-}
-
-/// Whether a dual prices a side of a limit at which a flow does not stand.
-pub(crate) fn prices_slack<N: Exact>(dual: &Dual<N>, flow: N, limit: N) -> bool
-    ensures { result ≡ prices_slack (dual_at N.value dual.now) (N.value flow) (N.value limit) }
-{
-    let nothing: N = datum(0);
-    (is_below(nothing, dual.up) && differ(flow, limit))
-        || (is_below(nothing, dual.down) && differ(flow, limit.neg()))
 }
 
 /// Whether more of a block of this side and price gains, where the price at its bus is so much.

@@ -2,16 +2,17 @@
 
 ghost use Rattle.std.specs.Prelude.{◌≡◌, length, map, IfOk, IfErr};
 ghost use Rattle.market_model.specs.Dispatch.{Dispatch};
-ghost use Rattle.market_model.specs.SumTables.{IsRefusedAmong, LimitFlowSum};
 ghost use Rattle.market_model.specs.Valued.{dual_at, passed_at};
 ghost use Rattle.limit_rows.specs.LineFlows.{AreFlows};
 ghost use Rattle.cert_verify.specs.Reasons.{has_slack, row_reason, sign_reason, slack_reason};
+ghost use Rattle.cert_verify.specs.Stops.{IsLimitPair};
 
 use crate::Reason;
-use crate::comparing::{has_negative, prices_slack};
+use crate::comparing::has_negative;
+use crate::sides::breaks_row;
 use exact_fraction::{Exact, Passed};
-use limit_rows::{limit_at, row_flow, row_named};
-use market_model::{Dual, Market, datum};
+use limit_rows::{row_flow, row_named};
+use market_model::{Dual, Market};
 
 /// The first dual whose row the market has not.
 pub(crate) fn missing_row<N: Exact>(market: &Market, limits: &[Dual<N>]) -> Option<Reason>
@@ -37,23 +38,23 @@ pub(crate) fn negative_price<N: Exact>(limits: &[Dual<N>]) -> Option<Reason>
     None
 }
 
-/// Whether a dual prices a side of its row at which the flow does not stand. Flows are by line.
+/// Whether a price of a dual does not support the flow of its row. Flows are by line.
 fn has_slack<N: Exact>(market: &Market, flows: &[N], dual: &Dual<N>) -> Result<bool, Passed<N>>
     requires { length flows.now ≡ length market.now.lines }
     ensures slack { (x : Dispatch) → AreFlows market.now x (map N.value flows.now) → IfOk result (λ slack. slack ≡ has_slack market.now x (dual_at N.value dual.now)) }
-    ensures cause { (x : Dispatch) → AreFlows market.now x (map N.value flows.now) → IfErr result (λ passed. IsRefusedAmong (LimitFlowSum market.now x) N.bound (passed_at N.value passed)) }
+    ensures cause { (x : Dispatch) → AreFlows market.now x (map N.value flows.now) → IfErr result (λ passed. IsLimitPair market.now x N.bound (passed_at N.value passed)) }
 {
     let _lines = market.lines();
     match row_named(market, dual.row) {
         Some(row) => {
             let flow = row_flow(market, flows, row)?;
-            Ok(prices_slack(dual, flow, datum(limit_at(market, row))))
+            breaks_row(market, row, dual.up, dual.down, flow)
         }
         None => Ok(false),
     }
 }
 
-/// The first dual that prices a side of its row at which the flow does not stand.
+/// The first dual with such a price.
 pub(crate) fn slack_price<N: Exact>(
     market: &Market,
     flows: &[N],
@@ -61,7 +62,7 @@ pub(crate) fn slack_price<N: Exact>(
 ) -> Result<Option<Reason>, Passed<N>>
     requires { length flows.now ≡ length market.now.lines }
     ensures first { (x : Dispatch) → AreFlows market.now x (map N.value flows.now) → IfOk result (λ reason. reason ≡ slack_reason market.now x (map (dual_at N.value) limits.now)) }
-    ensures cause { (x : Dispatch) → AreFlows market.now x (map N.value flows.now) → IfErr result (λ passed. IsRefusedAmong (LimitFlowSum market.now x) N.bound (passed_at N.value passed)) }
+    ensures cause { (x : Dispatch) → AreFlows market.now x (map N.value flows.now) → IfErr result (λ passed. IsLimitPair market.now x N.bound (passed_at N.value passed)) }
 {
     for dual in limits {
         let slack = has_slack(market, flows, dual)?;

@@ -1,4 +1,4 @@
-//! Laws of the definitions, each the contract of a function that does nothing. Those of optimal certificates are of markets with hard limits.
+//! Laws of the definitions, each the contract of a function that does nothing.
 
 ghost use Rattle.cert_verify.specs.Laws.{LawOfFarkasDuals, LawOfNothingFeasible, LawOfRightAnswers, LawOfTheBest, LawOfTheVerdict};
 

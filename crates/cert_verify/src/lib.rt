@@ -9,6 +9,8 @@ mod duals;
 pub mod laws;
 mod limits;
 mod naming;
+mod sides;
+mod unpriced;
 mod verdicts;
 mod verifying;
 

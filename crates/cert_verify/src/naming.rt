@@ -40,7 +40,7 @@ fn dual_of<N: Exact>(duals: &IndexMap<(u32, u32), Dual<N>>, row: RowId) -> Optio
 }
 
 /// Duals by the names of their rows.
-fn by_name<N: Exact>(
+pub(crate) fn by_name<N: Exact>(
     alloc: Global,
     limits: &[Dual<N>],
 ) -> Result<IndexMap<(u32, u32), Dual<N>>, Memory>
@@ -55,7 +55,7 @@ fn by_name<N: Exact>(
 }
 
 /// A row with its two prices, where duals name it.
-fn named_at<N: Exact>(
+pub(crate) fn named_at<N: Exact>(
     market: &Market,
     duals: &IndexMap<(u32, u32), Dual<N>>,
     row: Row,

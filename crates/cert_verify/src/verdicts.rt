@@ -18,9 +18,10 @@ pub enum Reason {
     Block { n: usize },
     /// The dispatch does not balance.
     Balance,
-    /// The flow of the row passes its limit.
+    /// The flow of the row passes the most that it may be: its limit, and by how much that gives way.
     Limit { row: RowId },
-    /// A side of the row has a price, and the flow does not stand at its limit there.
+    /// A price of the row does not support its flow: it is above 0 and the flow does not reach the limit, or below the penalty of a flow that
+    /// exceeds it, or above that and the flow could exceed it by more. A row that no dual names has the price 0.
     Slack { row: RowId },
     /// A block gains at the price of its bus and is not accepted whole, or loses and is accepted. The first block is 1.
     Support { n: usize },

@@ -1,36 +1,30 @@
--- The limit that is broken by the most, of the flows of a dispatch.
-use Rattle.std.specs.Prelude.{◌≡◌, ◌⊎◌, ℕ, pos, List, [], ◌∷◌, Contains, refl}
-use Rattle.std.proofs.Common.{inl, inr, ap, subst, get_or}
-use Rattle.fraction_theory.specs.Fraction.{Fraction, whole, neg_ℚ, ◌-ℚ◌}
+-- The limits that a dispatch doesn't keep where some rows are taken, and what follows where all are kept.
+use Rattle.std.specs.Prelude.{◌≡◌, ◌⊎◌, ℕ, Bool, true, false, List, [], ◌∷◌, Contains, refl}
+use Rattle.std.proofs.Common.{inl, inr, ap, sym, subst, subst₂, ◌∙◌, get_or}
+use Rattle.fraction_theory.specs.Fraction.{Fraction, neg_ℚ}
 use Rattle.fraction_theory.specs.Order.{◌<ℚ◌, ◌≤ℚ◌}
 use Rattle.fraction_theory.specs.Signs.{sign_of, abs_by, abs_ℚ}
 use Rattle.fraction_theory.specs.declared.Sign.{Sign}
 use Rattle.fraction_theory.specs.declared.Sign.TheVariants.{Below, Zero, Above}
-use Rattle.fraction_theory.proofs.OrderLaws.{NonNeg-one, by_le1, ≤ℚ-or-<ℚ, <ℚ-not-≤ℚ}
+use Rattle.fraction_theory.proofs.OrderLaws.{NonNeg-one, by_le1, ≤ℚ_trans, ≤ℚ-<ℚ_trans, ≤ℚ-or-<ℚ, <ℚ-not-≤ℚ}
 use Rattle.fraction_theory.proofs.Ring.{at, pneg, pone}
 use Rattle.market_model.specs.declared.participants.Parts.{Parts}
 use Rattle.market_model.specs.Dispatch.{Dispatch}
-use Rattle.market_model.specs.Overrun.{overrun, IsWorst, Within}
+use Rattle.market_model.specs.Overrun.{overrun, IsBeyond, IsWorst, Keeps, Within}
 use Rattle.market_model.specs.declared.limits.Row.{Row}
 use Rattle.market_model.specs.LimitRows.{rows, limit, flow, flow_by, most_flow}
-use Rattle.market_model.specs.Lines.{HasHardLimits}
 use Rattle.market_model.specs.Market.{IsMarket}
-use Rattle.market_model.specs.Optimality.{AreWithin}
+use Rattle.market_model.specs.Optimality.{Feasible, FeasibleFor}
 use Rattle.market_model.proofs.ChangeLemmas.{same_default}
-use Rattle.market_system.specs.Growth.{Broken}
-use Rattle.market_system.proofs.HardMarkets.{within_hard}
+use Rattle.market_system.specs.Growth.{BestFor, Broken}
+use Rattle.market_system.specs.MarketSystem.{is_in}
+use Rattle.market_system.proofs.RowOrder.{is_in-from, is_in-in}
 use Rattle.limit_screen.specs.Flows.{flows_at, line_in}
-use Rattle.limit_screen.specs.Screening.{AllHold}
-use Rattle.limit_screen.proofs.ScreenLemmas.{below_nil, law_of_row_flows, listed_row}
+use Rattle.limit_screen.specs.Screening.{AllKeep}
+use Rattle.limit_screen.proofs.ScreenLemmas.{law_of_row_flows, limit_most, listed_row, not_passed}
+use Rattle.clear_loop.specs.Rounds.{AllKept}
 
 -- ---- a limit that is passed
-above_limit : (s F : Fraction) → whole (pos 0) <ℚ (s -ℚ F) → F <ℚ s
-above_limit s F h = by (≤ℚ-or-<ℚ s F)
-  where
-    by : (s ≤ℚ F) ⊎ (F <ℚ s) → F <ℚ s
-    by (inl le) = absurd (<ℚ-not-≤ℚ (whole (pos 0)) (s -ℚ F) h (below_nil s F le))
-    by (inr lt) = lt
-
 below_limit : (f F : Fraction) → F <ℚ neg_ℚ f → f <ℚ neg_ℚ F
 below_limit f F h = by (≤ℚ-or-<ℚ (neg_ℚ F) f)
   where
@@ -38,43 +32,89 @@ below_limit f F h = by (≤ℚ-or-<ℚ (neg_ℚ F) f)
     by (inl le) = absurd (<ℚ-not-≤ℚ F (neg_ℚ f) h (by_le1 (f ∷ F ∷ []) (pneg (at 0)) (at 1) pone (pneg (at 1)) (at 0) NonNeg-one le refl))
     by (inr lt) = lt
 
-past_size : (f F : Fraction) (s : Sign) → whole (pos 0) <ℚ (abs_by s f -ℚ F) → (F <ℚ f) ⊎ (f <ℚ neg_ℚ F)
-past_size f F Below h = inr (below_limit f F (above_limit (neg_ℚ f) F h))
-past_size f F Zero h = inl (above_limit f F h)
-past_size f F Above h = inl (above_limit f F h)
+past_size : (f F : Fraction) (s : Sign) → F <ℚ abs_by s f → (F <ℚ f) ⊎ (f <ℚ neg_ℚ F)
+past_size f F Below h = inr (below_limit f F h)
+past_size f F Zero h = inl h
+past_size f F Above h = inl h
+
+passed_size : (f F : Fraction) → F <ℚ abs_ℚ f → (F <ℚ f) ⊎ (f <ℚ neg_ℚ F)
+unfolding abs_ℚ
+passed_size f F h = past_size f F (sign_of f) h
+
+within_more : (F G f : Fraction) → F ≤ℚ G → Within F f → Within G f
+within_more F G f h w = record {
+  above = ≤ℚ_trans (neg_ℚ G) (neg_ℚ F) f (by_le1 (F ∷ G ∷ []) (pneg (at 1)) (pneg (at 0)) pone (at 0) (at 1) NonNeg-one h refl) w.above;
+  below = ≤ℚ_trans f F G w.below h;
+}
+
+-- ---- rows that are taken
+taken_or_not : (g : List Row) (r : Row) → Contains g r ⊎ (¬ (Contains g r))
+taken_or_not g r = by (is_in g r) refl
+  where
+    by : (b : Bool) → is_in g r ≡ b → Contains g r ⊎ (¬ (Contains g r))
+    by true e = inl (is_in-from g r e)
+    by false e = inr (λ k. let wrong : false ≡ true = sym e ∙ is_in-in g r k in absurd Prim.cc)
+
+module _ (m : Parts) (market : IsMarket m) (g : List Row) (x : Dispatch) where
+  -- a flow beyond what it may be breaks its limit
+  beyond_broken : (r : Row) → IsBeyond m g r (flow m x r) → Broken m x r
+  beyond_broken r beyond = passed_size (flow m x r) (limit m r) (above (taken_or_not g r))
+    where
+      above : Contains g r ⊎ (¬ (Contains g r)) → limit m r <ℚ abs_ℚ (flow m x r)
+      above (inl c) = ≤ℚ-<ℚ_trans (limit m r) (most_flow m r) (abs_ℚ (flow m x r)) (limit_most m market r) (beyond.most c)
+      above (inr new) = beyond.limit new
+
+  -- and its row is not among those for which the dispatch is feasible
+  beyond_new : FeasibleFor m g x → (r : Row) → IsBeyond m g r (flow m x r) → ¬ (Contains g r)
+  beyond_new feasible r beyond c = not_passed (most_flow m r) (flow m x r) (feasible.limits r c) (beyond.most c)
+
+  -- where all rows keep what they may be, a dispatch that is best for those taken is feasible
+  pub kept_feasible : BestFor m g x → AllKept m g x → Feasible m x
+  kept_feasible best kept = record { blocks = best.feasible.blocks; balanced = best.feasible.balanced; limits = λ r c. within r (kept r c) (taken_or_not g r) }
+    where
+      within : (r : Row) → Keeps m g r (flow m x r) → Contains g r ⊎ (¬ (Contains g r)) → Within (most_flow m r) (flow m x r)
+      within r keeps (inl c) = keeps.most c
+      within r keeps (inr new) = within_more (limit m r) (most_flow m r) (flow m x r) (limit_most m market r) (keeps.limit new)
+
+  -- the worst row is one of the market's, is new, and is broken
+  module _ (place : ℕ) (r : Row) (worst : IsWorst m g (flow m x) place r) where
+    pub worst_inside : Contains (rows m) r
+    worst_inside = listed_row (rows m) place r worst.stands
+
+    pub worst_new : BestFor m g x → ¬ (Contains g r)
+    worst_new best = beyond_new best.feasible r worst.counts
+
+    pub worst_broken : Broken m x r
+    worst_broken = beyond_broken r worst.counts
 
 -- ---- the flows of a dispatch
-module _ (m : Parts) (market : IsMarket m) (x : Dispatch) (fs : List Fraction) (puts : fs ≡ flows_at m x) where
+module _ (m : Parts) (market : IsMarket m) (g : List Row) (x : Dispatch) (fs : List Fraction) (puts : fs ≡ flows_at m x) where
   abbrev flow_at : Row → Fraction
   flow_at = flow_by m (line_in m fs)
 
-  pub row_is : (r : Row) → Contains (rows m) r → flow_by m (line_in m fs) r ≡ flow m x r
+  row_is : (r : Row) → Contains (rows m) r → flow_at r ≡ flow m x r
   row_is r c = law_of_row_flows m x fs r market puts c
 
-  -- where all limits hold, and where one is the worst
-  pub all_within : HasHardLimits m.lines → AllHold m (line_in m fs) → AreWithin (rows m) (most_flow m) (flow m x)
-  all_within hard hold r c = within_hard m market hard r (flow m x r) (subst (Within (limit m r)) (row_is r c) (hold r c))
+  -- where all limits are kept, and where one is the worst
+  pub all_kept : AllKeep m g (line_in m fs) → AllKept m g x
+  all_kept keep r c = subst (Keeps m g r) (row_is r c) (keep r c)
 
   -- the worst row of the flows is that of the dispatch
-  pub worst_at : (place : ℕ) (r : Row) → IsWorst m (flow_by m (line_in m fs)) place r → IsWorst m (flow m x) place r
+  pub worst_at : (place : ℕ) (r : Row) → IsWorst m g flow_at place r → IsWorst m g (flow m x) place r
   worst_at place r worst =
       let c : Contains (rows m) r = listed_row (rows m) place r worst.stands in
       record {
         stands = worst.stands;
-        broken = subst (λ e. whole (pos 0) <ℚ e) (same r c) worst.broken;
-        most = λ k d lt.
+        counts = subst (IsBeyond m g r) (row_is r c) worst.counts;
+        most = λ k d lt beyond.
             let s : Row = get_or (rows m) k d in
-            subst (λ e. e ≤ℚ overrun m r (flow m x r)) (same s (k, lt, same_default (rows m) k s d lt)) (subst (λ e. overrun m s (flow_at s) ≤ℚ e) (same r c) (worst.most k d lt));
-        first = λ i s lt stands. subst (λ e. e <ℚ overrun m r (flow m x r)) (same s (listed_row (rows m) i s stands)) (subst (λ e. overrun m s (flow_at s) <ℚ e) (same r c) (worst.first i s lt stands));
+            let cs : Contains (rows m) s = (k, lt, same_default (rows m) k s d lt) in
+            subst₂ (λ e f. e ≤ℚ f) (same s cs) (same r c) (worst.most k d lt (back s cs beyond));
+        first = λ i s lt stands beyond. let cs : Contains (rows m) s = listed_row (rows m) i s stands in subst₂ (λ e f. e <ℚ f) (same s cs) (same r c) (worst.first i s lt stands (back s cs beyond));
       }
     where
       same : (s : Row) → Contains (rows m) s → overrun m s (flow_at s) ≡ overrun m s (flow m x s)
       same s c = ap (overrun m s) (row_is s c)
 
--- it is broken
-pub worst_inside : (m : Parts) (x : Dispatch) (place : ℕ) (r : Row) → IsWorst m (flow m x) place r → Contains (rows m) r
-worst_inside m x place r worst = listed_row (rows m) place r worst.stands
-
-pub worst_broken : (m : Parts) (x : Dispatch) (place : ℕ) (r : Row) → IsWorst m (flow m x) place r → Broken m x r
-unfolding abs_ℚ
-worst_broken m x place r worst = past_size (flow m x r) (limit m r) (sign_of (flow m x r)) worst.broken
+      back : (s : Row) → Contains (rows m) s → IsBeyond m g s (flow m x s) → IsBeyond m g s (flow_at s)
+      back s c beyond = subst (IsBeyond m g s) (sym (row_is s c)) beyond

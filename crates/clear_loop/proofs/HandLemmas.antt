@@ -10,15 +10,12 @@ use Rattle.market_model.specs.declared.answered.RowId.{RowId}
 use Rattle.market_model.specs.declared.participants.Parts.{Parts}
 use Rattle.market_model.specs.Dispatch.{Dispatch, places}
 use Rattle.market_model.specs.declared.limits.Row.{Row}
-use Rattle.market_model.specs.LimitRows.{rows, row_id, flow, most_flow}
-use Rattle.market_model.specs.Lines.{HasHardLimits}
-use Rattle.market_model.specs.Market.{IsMarket}
-use Rattle.market_model.specs.Optimality.{Feasible}
+use Rattle.market_model.specs.LimitRows.{rows, row_id}
 use Rattle.market_system.specs.Growth.{BestFor, Broken, Growth}
 use Rattle.market_system.specs.MarketSystem.{system_of}
 use Rattle.market_system.specs.SolvedLaws.{AreRows}
 use Rattle.linear_system.specs.Choices.{value}
-use Rattle.market_system.proofs.GrowthLaws.{broken_is_new, growth_none, growth_more, rows_few}
+use Rattle.market_system.proofs.GrowthLaws.{growth_none, growth_more, rows_few}
 use Rattle.market_model.specs.PutIn.{dispatch_of}
 use Rattle.market_dict.specs.Findings.{IsSolvedBy}
 use Rattle.market_dict.specs.Holding.{HoldsMarket}
@@ -26,14 +23,10 @@ use Rattle.market_dict.specs.PricesAndBounds.{ArePricesAndBounds}
 use Rattle.market_dict.specs.declared.posing.PricesAndBounds.{PricesAndBounds}
 use Rattle.clear_loop.specs.Rounds.{GrowsByOne, IsInHand}
 use Rattle.clear_loop.specs.declared.hand.Taken.{Taken}
-use Rattle.market_model.specs.Overrun.{Within}
 
 -- ---- one row more
-pub row_is_new : (m : Parts) (g : List Row) (r : Row) → IsMarket m → HasHardLimits m.lines → ((x : Dispatch) × BestFor m g x × Broken m x r) → ¬ (Contains g r)
-row_is_new m g r market hard (x, best, broken) = broken_is_new m market hard g x r best.feasible broken
-
-pub grown_behind : (m : Parts) (g : List Row) (r : Row) → IsMarket m → HasHardLimits m.lines → Contains (rows m) r → ((x : Dispatch) × BestFor m g x × Broken m x r) → Growth m g (g ++ r ∷ [])
-grown_behind m g r market hard inside (x, best, broken) = growth_more m g g x r (growth_none m g) best broken inside (row_is_new m g r market hard (x, best, broken))
+pub grown_behind : (m : Parts) (g : List Row) (r : Row) → Contains (rows m) r → ¬ (Contains g r) → ((x : Dispatch) × BestFor m g x × Broken m x r) → Growth m g (g ++ r ∷ [])
+grown_behind m g r inside new (x, best, broken) = growth_more m g g x r (growth_none m g) best broken inside new
 
 pub grown_more : (m : Parts) (t g new : List Row) → Growth m t g → GrowsByOne m g new → Growth m t new
 grown_more m t g new grown (r, is, inside, absent, broken) = subst (Growth m t) (sym is) (growth_more m t g broken.0 r grown broken.1 broken.2 inside absent)
@@ -62,6 +55,3 @@ module _ {N : Type 0} (worth : N → Fraction) (m : Parts) where
   dispatch_count g ds d solved =
       sym (length-map ds worth) ∙ ap (λ (x : Dispatch). length x.blocks) solved.dispatch
       ∙ length-map (places (length m.blocks)) (value (system_of m g) solved.choice) ∙ length-range_with_len 0 (length m.blocks)
-
-pub feasible_over_all : (m : Parts) (g : List Row) (x : Dispatch) → BestFor m g x → ((r : Row) → Contains (rows m) r → Within (most_flow m r) (flow m x r)) → Feasible m x
-feasible_over_all m g x best all = record { blocks = best.feasible.blocks; balanced = best.feasible.balanced; limits = all }

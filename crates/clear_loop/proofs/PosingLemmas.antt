@@ -1,5 +1,5 @@
 -- A start is posed at the prices and bounds of the market.
-use Rattle.std.specs.Prelude.{◌≡◌, ℕ, ◌+◌, List, length, map, All, Option, IfSome}
+use Rattle.std.specs.Prelude.{◌≡◌, ℕ, ◌+◌, List, ◌++◌, length, map, All, Option, IfSome}
 use Rattle.std.proofs.Common.{ap, sym, subst, ◌∙◌}
 use Rattle.fraction_theory.specs.Fraction.{Fraction}
 use Rattle.fraction_theory.specs.Order.{◌≤ℚ◌}
@@ -17,27 +17,27 @@ use Rattle.market_dict.specs.Holding.{HoldsMarket, HoldsSystem, prices as prices
 use Rattle.market_dict.specs.PricesAndBounds.{ArePricesAndBounds}
 use Rattle.market_dict.specs.declared.posing.PricesAndBounds.{PricesAndBounds}
 use Rattle.market_dict.proofs.HoldingLaws.{bounds_ordered, holds_posed, pair_posed}
-use Rattle.market_dict.proofs.PosingLemmas.{price_count, bound_count}
+use Rattle.market_dict.proofs.PosingLemmas.{price_count, bound_count, lows_joined, highs_joined}
 use Rattle.market_dict.proofs.RefusalLaws.{pair_range}
 use Rattle.clear_loop.specs.Rounds.{HoldsStart}
 
 module _ {N : Type 0} (value : N → Fraction) (m : Parts) (g : List Row) (posing : PricesAndBounds N) (are : ArePricesAndBounds value m g posing) (prices : List N) (bounds : List (Bounds N))
-    (priced : prices ≡ posing.prices) (bounded : bounds ≡ posing.bounds) where
+    (priced : prices ≡ posing.prices) (bounded : bounds ≡ posing.column_bounds ++ posing.row_bounds) where
   module _ (d : Dictionary) (holds : HoldsMarket m g d) where
     prices_for : length prices ≡ length d.columns
     prices_for = ap length priced ∙ price_count value m g d posing holds are
 
     bounds_for : length bounds ≡ length d.columns + length d.rows
-    bounds_for = ap length bounded ∙ bound_count value m g d posing holds are
+    bounds_for = bound_count value m g d posing holds are bounds bounded
 
-    price_values : map value prices ≡ prices_of m
+    price_values : map value prices ≡ prices_of m g
     price_values = ap (map value) priced ∙ are.prices
 
     low_values : map (λ (b : Bounds N). value b.low) bounds ≡ lows m g
-    low_values = ap (map (λ (b : Bounds N). value b.low)) bounded ∙ are.lows
+    low_values = lows_joined value m g d posing holds are bounds bounded
 
     high_values : map (λ (b : Bounds N). value b.high) bounds ≡ highs m g
-    high_values = ap (map (λ (b : Bounds N). value b.high)) bounded ∙ are.highs
+    high_values = highs_joined value m g d posing holds are bounds bounded
 
   module _ (warm : Option Dictionary) (start : HoldsStart m g warm) where
     at_start : (P : Dictionary → Type 0) → ((d : Dictionary) → HoldsMarket m g d → P d) → IfSome warm P

@@ -1,6 +1,6 @@
 -- What is refused at a dispatch that solves the market over rows in hand is a working pair of the market over these rows.
 use Rattle.std.specs.Prelude.{ℕ, List, [], ◌∷◌, Some, None, refl}
-use Rattle.std.proofs.Common.{ap, inl, inr, sym, subst}
+use Rattle.std.proofs.Common.{ap, inl, inr, sym, subst, subst₂}
 use Rattle.fraction_theory.specs.Fraction.{Fraction}
 use Rattle.fraction_theory.specs.Sums.{Term, Product}
 use Rattle.exact_fraction.specs.declared.Passed.{Passed}
@@ -15,33 +15,38 @@ use Rattle.market_model.specs.LimitRows.{line_flow, flow_terms, row_id, rows}
 use Rattle.market_model.specs.Market.{IsMarket}
 use Rattle.market_model.specs.NamedSums.{IsRefusedIn}
 use Rattle.market_model.proofs.SumParts.{flow_carried}
-use Rattle.market_model.specs.SumTables.{IsRefusedAmong, flow_of_row, limited_row, FlowSum, flow_in_limits, PriceSum, IsRefusedInPrices, left_of_all, paid_by_load, paid_to_unit, rent_of_row, SettledSum, paid_output, demand_of_bus, payment, paid_row}
+use Rattle.market_model.specs.SumTables.{flow_of_row, limited_row, FlowSum, flow_in_limits, PriceSum, IsRefusedInPrices, left_of_all, paid_by_load, paid_to_unit, rent_of_row, SettledSum, paid_output, demand_of_bus, payment, paid_row}
 use Rattle.market_model.specs.Optimality.{names_row, Feasible, Supports, ProperDuals, bus_price, welfare_terms}
 use Rattle.market_model.specs.Settlement.{load_terms, rent_terms, surplus_terms, unit_terms}
 use Rattle.market_system.specs.Growth.{BestFor, PricesOnly}
 use Rattle.market_system.specs.MarketNumbers.{IsRightChoice, IsInjecting, factor_of, of_flow, of_price, of_welfare, of_settlement}
 use Rattle.market_system.specs.MarketSystem.{system_of, choice_dispatch}
 use Rattle.market_system.specs.PairLaw.{RefusalsArePairs}
+use Rattle.market_system.specs.SolvedLaws.{SupportsFor}
 use Rattle.market_system.specs.WorkingPairs.{IsRangeOf}
 use Rattle.market_system.proofs.DualLists.{prices_only-made}
 use Rattle.market_system.proofs.GrowthLaws.{growth_none}
 use Rattle.market_system.proofs.PairCases.{law_of_the_pairs}
+use Rattle.market_system.proofs.SolvedMarkets.{supports_by}
 use Rattle.limit_rows.proofs.ApartLemmas.{names_apart}
 use Rattle.limit_screen.proofs.ScreenLemmas.{row_terms}
 use Rattle.limit_screen.specs.Flows.{flows_at, line_in, IsFlowsRefusal}
 use Rattle.limit_screen.specs.Screening.{IsScreenRefusal}
 use Rattle.market_model.proofs.UnitPrices.{at_unit, left_at}
 use Rattle.settlement.specs.Paying.{ArePricesOf}
-use Rattle.settlement.specs.Refusals.{IsMoneyRefusal}
+use Rattle.settlement.specs.Refusals.{IsMoneyRefusal, IsWelfareRefusal}
 use Rattle.market_dict.specs.Findings.{IsSolvedBy}
+use Rattle.clear_loop.specs.Rounds.{AllKept}
+use Rattle.clear_loop.proofs.BrokenLemmas.{kept_feasible}
 
 -- ---- refusals
 module _ (m : Parts) (g : List Row) (x : Dispatch) (d : Duals Fraction) (market : IsMarket m) (solved : IsSolvedBy m g x d) where
   pub best_for : BestFor m g x
   best_for = subst (BestFor m g) (sym solved.dispatch) solved.answers.best
 
-  pub supports : Supports m x d
-  supports = subst (λ y. Supports m y d) (sym solved.dispatch) (subst (Supports m (choice_dispatch m g solved.choice)) (sym solved.duals) solved.answers.supported)
+  pub supports : AllKept m g x → Supports m x d
+  supports kept =
+      supports_by m g x d (subst₂ (SupportsFor m g) (sym solved.dispatch) (sym solved.duals) solved.answers.supported) (λ r c new. (kept r c).limit new)
 
   pub proper : ProperDuals m d
   proper = subst (ProperDuals m) (sym solved.duals) solved.answers.proper
@@ -68,18 +73,22 @@ module _ (m : Parts) (g : List Row) (x : Dispatch) (d : Duals Fraction) (market 
     screen_range (r, c, (_, flow_of_row, a)) =
         flow_sum (flow_terms m (line_flow m (injection m x)) r) (flow_in_limits _ (limited_row r _ c flow_of_row)) (subst (λ ts. IsRefusedIn ts bound p) (row_terms m x (flows_at m x) r market refl c) a)
 
-    -- where a feasible one is answered
-    module _ (feasible : Feasible m x) where
+    -- where all limits are kept, and it is answered
+    module _ (kept : AllKept m g x) where
       best : IsRightChoice m g solved.choice
-      best = record { feasible = subst (Feasible m) solved.dispatch feasible; supported = solved.answers.supported }
+      best = record {
+        feasible = subst (Feasible m) solved.dispatch (kept_feasible m market g x best_for kept);
+        supported = subst₂ (Supports m) solved.dispatch solved.duals (supports kept);
+      }
 
       pub price_range : IsRefusedInPrices m d bound p → IsRangeOf m g bound p
       price_range (inl (terms, sum, a)) = pairs.sum (Some Price) terms (of_price terms best (subst (λ (e : Duals Fraction). PriceSum m e terms) solved.duals sum)) a
       price_range (inr (r, named, (terms, sum, a))) =
           pairs.sum (Some Factor) terms (factor_of r terms (Contains-from_filter (λ s. names_row d.limits (row_id m s)) (rows m) r named).0 sum) a
 
-      pub welfare_range : IsRefusedIn (welfare_terms m x) bound p → IsRangeOf m g bound p
-      welfare_range a = pairs.sum None (welfare_terms m (choice_dispatch m g solved.choice)) (of_welfare best) (subst (λ y. IsRefusedIn (welfare_terms m y) bound p) solved.dispatch a)
+      pub welfare_range : IsWelfareRefusal m x bound p → IsRangeOf m g bound p
+      welfare_range (inr (r, c, soft, (_, flow_of_row, a))) = flow_sum (flow_terms m (line_flow m (injection m x)) r) (flow_in_limits _ (limited_row r _ c flow_of_row)) a
+      welfare_range (inl a) = pairs.sum None (welfare_terms m (choice_dispatch m g solved.choice)) (of_welfare best) (subst (λ y. IsRefusedIn (welfare_terms m y) bound p) solved.dispatch a)
 
       module _ (price : ℕ → Fraction) (priced : ArePricesOf m d price) where
         -- what is settled at these prices is at those of the duals

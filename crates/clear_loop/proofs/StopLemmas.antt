@@ -11,7 +11,6 @@ use Rattle.market_model.specs.Dispatch.{Dispatch}
 use Rattle.market_model.specs.declared.limits.Row.{Row}
 use Rattle.market_model.specs.LimitRows.{rows}
 use Rattle.market_model.specs.Market.{IsMarket}
-use Rattle.market_model.specs.Optimality.{Feasible}
 use Rattle.market_model.specs.Stops.{OnPassed, StopsBy}
 use Rattle.market_model.specs.SumTables.{FactorSum, IsRefusedAmong, IsRefusedInPrices}
 use Rattle.market_model.specs.Valued.{passed_at}
@@ -29,7 +28,7 @@ use Rattle.market_dict.specs.Refusals.{IsBoundsRefusal}
 use Rattle.market_model.specs.declared.stops.Stop.{Stop}
 use Rattle.market_model.specs.declared.stops.Stop.TheVariants as stop
 use Rattle.market_dict.proofs.RefusalLaws.{pair_range, posing_range}
-use Rattle.clear_loop.specs.Rounds.{StopsInRange}
+use Rattle.clear_loop.specs.Rounds.{AllKept, StopsInRange}
 use Rattle.clear_loop.proofs.SolvedLemmas.{flows_range, price_range, screen_range, money_range}
 
 module _ {N : Type 0} (value : N → Fraction) (bound : ℕ) (m : Parts) where
@@ -65,11 +64,11 @@ module _ {N : Type 0} (value : N → Fraction) (bound : ℕ) (m : Parts) where
     screen_stop stop.Memory a = tt
 
     -- where it is priced and settled
-    module _ (feasible : Feasible m x) where
+    module _ (kept : AllKept m g x) where
       pub price_stop : (s : Stop N) → StopsBy value (IsRefusedInPrices m d bound) s → StopsInRange value bound m g s
-      price_stop (stop.Passed p) a = price_range m g x d market solved bound (passed_at value p) feasible a
+      price_stop (stop.Passed p) a = price_range m g x d market solved bound (passed_at value p) kept a
       price_stop stop.Memory a = tt
 
       pub money_stop : (price : ℕ → Fraction) → ArePricesOf m d price → (s : Stop N) → IsMoneyStop value bound m x price d s → StopsInRange value bound m g s
-      money_stop price priced (stop.Passed p) a = money_range m g x d market solved bound (passed_at value p) feasible price priced a
+      money_stop price priced (stop.Passed p) a = money_range m g x d market solved bound (passed_at value p) kept price priced a
       money_stop price priced stop.Memory a = tt

@@ -3,6 +3,7 @@ use Rattle.std.specs.Prelude.{◌≡◌, ℕ, Option, Some, List, [], ◌∷◌,
 use Rattle.fraction_theory.specs.Fraction.{Fraction}
 use Rattle.linear_dict.specs.Dictionaries.{Dictionary}
 use Rattle.market_model.specs.declared.answered.Answer.{Answer}
+use Rattle.market_model.specs.declared.answered.Duals.{Duals}
 use Rattle.market_model.specs.declared.answered.Farkas.{Farkas}
 use Rattle.market_model.specs.declared.participants.Parts.{Parts}
 use Rattle.market_model.specs.Dispatch.{Dispatch}
@@ -17,6 +18,7 @@ use Rattle.market_system.specs.Growth.{BestFor, Broken, PricesOnly}
 use Rattle.market_system.specs.WorkingPairs.{IsRangeOf}
 use Rattle.limit_screen.specs.Flows.{flows_at}
 use Rattle.market_model.specs.Stops.{StopsBy}
+use Rattle.market_dict.specs.Findings.{IsSolvedBy}
 use Rattle.market_dict.specs.Holding.{HoldsMarket}
 use Rattle.market_dict.specs.PricesAndBounds.{ArePricesAndBounds}
 use Rattle.market_model.specs.declared.stops.Stop.{Stop}
@@ -44,6 +46,11 @@ GrowsByOne m g new = (r : Row) × (new ≡ g ++ r ∷ []) × Contains (rows m) r
 -- where some rows are taken, all rows of the market keep at a dispatch what they may be
 abbrev pub AllKept : Parts → List Row → Dispatch → Type 0
 AllKept m taken x = (r : Row) → Contains (rows m) r → Keeps m taken r (flow m x r)
+
+-- a dispatch and duals solve the market over some rows, and where these are taken all rows keep what they may be
+pub record IsSolution (m : Parts) (g : List Row) (x : Dispatch) (d : Duals Fraction) : Type 0 where
+  pub solved : IsSolvedBy m g x d
+  pub kept : AllKept m g x
 
 -- what a look at all limits comes to at a dispatch: the worst of those that are broken, or the flows, where all are kept
 abbrev pub IsScreened : {N : Type 0} → (N → Fraction) → Parts → List Row → Dispatch → Screened N → Type 0

@@ -4,15 +4,14 @@ ghost use Rattle.std.specs.Prelude.{◌≡◌, List, length, map, IfOk, IfErr};
 ghost use Rattle.market_model.specs.Dispatch.{places};
 ghost use Rattle.market_model.specs.Fitting.{FitsMarket};
 ghost use Rattle.market_model.specs.declared.limits.Row.{Row};
-ghost use Rattle.market_model.specs.Optimality.{Feasible, ProperDuals};
+ghost use Rattle.market_model.specs.Optimality.{ProperDuals};
 ghost use Rattle.market_model.specs.RightAnswers.{IsRight, price_made};
 ghost use Rattle.market_model.specs.Stops.{StopsBy};
 ghost use Rattle.market_model.specs.SumTables.{IsRefusedInPrices};
 ghost use Rattle.market_model.specs.Valued.{answer_at, duals_at, price_at};
 ghost use Rattle.market_model.specs.PutIn.{dispatch_of};
 ghost use Rattle.limit_screen.specs.Flows.{flows_at};
-ghost use Rattle.market_dict.specs.Findings.{IsSolvedBy};
-ghost use Rattle.clear_loop.specs.Rounds.{StopsInRange};
+ghost use Rattle.clear_loop.specs.Rounds.{IsSolution, StopsInRange};
 
 use bus_prices::prices;
 use exact_fraction::Exact;
@@ -45,8 +44,8 @@ fn bus_prices<N: Exact>(
     Ok(by_bus)
 }
 
-/// The answer of a feasible dispatch that solves the market over some of its limits, with its flows, by bus and then by line, and its
-/// duals: bus prices, welfare and settlement.
+/// The answer of a dispatch that solves the market over some of its limits and keeps all of them, with its flows, by bus and then by line,
+/// and its duals: bus prices, welfare and settlement.
 pub(crate) fn answer_of<N: Exact>(
     alloc: Global,
     market: &Market,
@@ -54,17 +53,16 @@ pub(crate) fn answer_of<N: Exact>(
     flows: &[N],
     duals: Duals<N>,
 ) -> Result<Answer<N>, Stop<N>>
-    requires solved { (g : List Row) × IsSolvedBy market.now g (dispatch_of N.value dispatch) (duals_at N.value duals) }
-    requires feasible { Feasible market.now (dispatch_of N.value dispatch) }
+    requires solved { (g : List Row) × IsSolution market.now g (dispatch_of N.value dispatch) (duals_at N.value duals) }
     requires flows { map N.value flows.now ≡ flows_at market.now (dispatch_of N.value dispatch) }
     ensures fits { IfOk result (FitsMarket market.now) }
     ensures right { IfOk result (λ answer. IsRight market.now (answer_at N.value answer)) }
     ensures duals { IfOk result (λ answer. answer.duals ≡ duals) }
-    ensures cause { (g : List Row) → IsSolvedBy market.now g (dispatch_of N.value dispatch) (duals_at N.value duals) → IfErr result (StopsInRange N.value N.bound market.now g) }
+    ensures cause { (g : List Row) → IsSolution market.now g (dispatch_of N.value dispatch) (duals_at N.value duals) → IfErr result (StopsInRange N.value N.bound market.now g) }
 {
     let _lines = market.lines();
     let prices = bus_prices(alloc, market, &duals)?;
-    let welfare = welfare(market, dispatch.slice())?;
+    let welfare = welfare(market, dispatch.slice(), flows)?;
     let money = settle_flows(
         alloc,
         market,

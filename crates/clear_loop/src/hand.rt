@@ -68,7 +68,7 @@ fn put_row(market: &Market, taken: &mut Taken, row: Row) -> Result<(), Memory>
     taken.names.push(name)
 }
 
-/// What is in hand with one limit more, which a best dispatch for those in hand breaks.
+/// What is in hand with one limit more, which is not among those in hand, and which a best dispatch for them breaks.
 pub(crate) fn with_row<N: Exact>(
     alloc: Global,
     market: &Market,
@@ -81,6 +81,7 @@ pub(crate) fn with_row<N: Exact>(
     requires posing { ArePricesAndBounds N.value market.now taken.rows posing }
     requires names { taken.names ≡ map (row_id market.now) taken.rows }
     requires row { Contains (rows market.now) row }
+    requires new { ¬ (Contains taken.rows row) }
     requires broken { (x : Dispatch) × BestFor market.now taken.rows x × Broken market.now x row }
     ensures hand { IfOk result (IsInHand N.value market.now) }
     ensures rows { IfOk result (λ hand. hand.taken.rows ≡ taken.rows ++ row ∷ []) }

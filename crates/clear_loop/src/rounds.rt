@@ -38,9 +38,8 @@ fn one_round<N: Exact>(alloc: Global, market: &Market, hand: Hand<N>) -> Result<
     let _lines = market.lines();
     let posing = hand.posing;
     let taken = hand.taken;
-    let posed = hand
-        .warm
-        .repose(posing.prices.slice(), posing.bounds.slice())?;
+    let bounds = posing.bounds(alloc)?;
+    let posed = hand.warm.repose(posing.prices.slice(), bounds.slice())?;
     let (dict, dispatch) = match solve(alloc, market, posed)? {
         Found::Best { dict, dispatch } => (dict, dispatch),
         Found::Nothing { dict, farkas } => {
@@ -51,7 +50,7 @@ fn one_round<N: Exact>(alloc: Global, market: &Market, hand: Hand<N>) -> Result<
             }));
         }
     };
-    match screened_at(alloc, market, dispatch.slice())? {
+    match screened_at(alloc, market, dispatch.slice(), taken.rows.slice())? {
         Screened::Broken(row) => Ok(Round::Broken(with_row(
             alloc, market, dict, posing, taken, row,
         )?)),

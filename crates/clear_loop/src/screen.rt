@@ -1,4 +1,4 @@
-//! The limits that a dispatch breaks.
+//! The limits that a dispatch does not keep.
 
 ghost use Rattle.std.specs.Prelude.{◌≡◌, ◌⊎◌, length, IfOk, IfErr};
 ghost use Rattle.market_model.specs.Stops.{StopsBy};
@@ -15,26 +15,27 @@ use std::alloc::Global;
 /// What a look at all limits comes to.
 #[derive(Drop)]
 pub(crate) enum Screened<N> {
-    /// The limit that is broken by the most, and the first of those in the market's order.
+    /// Of the limits that are not kept that which is passed by the most, and the first of those in the market's order.
     Broken(Row),
-    /// All limits hold. What each bus puts in, and then what each line carries, in 10^-9 MW.
+    /// All limits are kept. What each bus puts in, and then what each line carries, in 10^-9 MW.
     Within(Vec<N>),
 }
 
-/// A look at all limits at a dispatch.
+/// A look at all limits at a dispatch, where some are taken: of these the excess counts too.
 pub(crate) fn screened_at<N: Exact>(
     alloc: Global,
     market: &Market,
     dispatch: &[N],
+    taken: &[Row],
 ) -> Result<Screened<N>, Stop<N>>
     requires { length dispatch.now ≡ length market.now.blocks }
-    ensures screened { IfOk result (IsScreened N.value market.now (dispatch_of N.value dispatch.now)) }
+    ensures screened { IfOk result (IsScreened N.value market.now taken.now (dispatch_of N.value dispatch.now)) }
     ensures cause { IfErr result (StopsBy N.value (λ p. IsFlowsRefusal market.now (dispatch_of N.value dispatch.now) N.bound p
         ⊎ IsScreenRefusal market.now (line_in market.now (flows_at market.now (dispatch_of N.value dispatch.now))) N.bound p)) }
 {
     let _lines = market.lines();
     let by_place = flows_made(alloc, market, dispatch)?;
-    match worst_row(market, &by_place)? {
+    match worst_row(market, &by_place, taken)? {
         Some(row) => Ok(Screened::Broken(row)),
         None => Ok(Screened::Within(by_place)),
     }

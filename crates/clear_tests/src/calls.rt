@@ -34,7 +34,7 @@ fn is_settled<N: Exact>(money: &Money<N>) -> bool {
                 && are(&[first.paid, second.paid], &[500, 300], MONEY_ONE)
                 && are(&[one.mw, two.mw, three.mw], &[0, 0, 60], MW_ONE)
                 && are(&[one.pays, two.pays, three.pays], &[0, 0, 2400], MONEY_ONE)
-                && are(&[rent.flow], &[40], MW_ONE)
+                && are(&[rent.flow, rent.over], &[40, 0], MW_ONE)
                 && are(&[rent.rent, money.surplus], &[1600, 1600], MONEY_ONE)
         }
         _ => false,
@@ -83,11 +83,11 @@ fn worst_limits<N: Exact + Debug>(alloc: Global) -> Result<bool, Fail> {
     }
     dispatch[0] = N::of_parts(60 * MW_ONE, 1);
     flows(&market, &dispatch, &mut by_place)?;
-    let broken = worst(&market, &by_place)?;
+    let broken = worst(&market, &by_place, &[])?;
     dispatch[0] = N::of_parts(50 * MW_ONE, 1);
     dispatch[1] = N::of_parts(10 * MW_ONE, 1);
     flows(&market, &dispatch, &mut by_place)?;
-    let held = worst(&market, &by_place)?;
+    let held = worst(&market, &by_place, &[])?;
     let named = RowId {
         branch: 2,
         outage: 0,

@@ -37,4 +37,4 @@ module _ {N : Type 0} (value : N → Fraction) (bound : ℕ) (buses seed : ℕ) 
   pub ring_served : (f : Farkas N) → o ≡ outcome.Infeasible f → IsMarket m → ⊥
   ring_served f is market =
       let here = subst (λ (x : Outcome N). IsRightOutcome bound m [] (outcome_at value x)) is right in
-      law_of_infeasibility m (farkas_at value f).duals (serving buses seed) market here.shows (subst (λ x. Feasible x (serving buses seed)) (sym ring) (is-feasible buses seed))
+      law_of_infeasibility m (farkas_at value f).duals (serving buses seed) market here.shows (subst (λ x. Feasible x (serving buses seed)) (sym ring) (is-feasible buses seed (subst IsMarket ring market)))

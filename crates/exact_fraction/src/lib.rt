@@ -4,12 +4,14 @@
 ghost use Rattle.std.specs.Prelude.{◌≡◌, ◌≢◌, ℕ, ◌<◌, ◌≤◌, ◌^◌, pos, unsigned_abs, take};
 
 pub use fraction_theory::Sign;
+pub use sizes::size;
 use std::cmp::Ordering;
 pub use sums::{exact_difference, exact_sum};
 
 mod divisor;
 pub mod laws;
 mod ratio;
+mod sizes;
 mod sums;
 mod text;
 mod wide_sum;

@@ -37,9 +37,9 @@ too_large_over : (bound : ℕ) (n : ℤ) (d : ℕ) → 0 < d → unsigned_abs n 
 too_large_over bound n d p num den (inl h) = Prim.omega (arith, (over_within n d p).0, num, h)
 too_large_over bound n d p num den (inr h) = Prim.omega (arith, (over_within n d p).1, den, h)
 
-pub factor_fits : (bound : ℕ) (h l k : ℤ) → 2 ^ 127 ≤ bound + 1 → unsigned_abs h ≤ most_market_factor → unsigned_abs l ≤ most_market_factor → unsigned_abs k ≤ most_market_factor
+pub row_factor_fits : (bound : ℕ) (h l k : ℤ) → 2 ^ 127 ≤ bound + 1 → unsigned_abs h ≤ most_market_factor → unsigned_abs l ≤ most_market_factor → unsigned_abs k ≤ most_market_factor
     → {own gone : Fraction} → own ≡ over h market_factor_one → gone ≡ over k market_factor_one → IsTooLarge bound (own +ℚ over l market_factor_one *ℚ gone) → ⊥
-factor_fits bound h l k wide hs ls ks own_is gone_is large =
+row_factor_fits bound h l k wide hs ls ks own_is gone_is large =
     let own = product_size h (pos market_factor_one) most_market_factor market_factor_one hs (Prim.omega arith) in
     let lost = product_size l k most_market_factor most_market_factor ls ks in
     let all = sum_size (h *ℤ pos market_factor_one) (l *ℤ k) in

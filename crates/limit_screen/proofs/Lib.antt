@@ -1,1 +1,2 @@
 pub mod ScreenLemmas
+pub mod TakenLemmas

@@ -8,28 +8,29 @@ use Rattle.std.proofs.Math.Seq.{take-append_seam}
 use Rattle.std.proofs.lemmas.List.FromFn.{length-map-range_with_len, get_or-map-range_with_len}
 use Rattle.std.proofs.lemmas.List.Elements.{All-append, All-cons, All-nil}
 use Rattle.std.proofs.lemmas.Option.{slice_get_within, get_or_from_slice_get}
-use Rattle.fraction_theory.specs.Fraction.{Fraction, whole, neg_ℚ, ◌-ℚ◌}
+use Rattle.fraction_theory.specs.Fraction.{Fraction, whole, neg_ℚ, ◌+ℚ◌, ◌-ℚ◌}
 use Rattle.fraction_theory.specs.Order.{◌<ℚ◌, ◌≤ℚ◌}
 use Rattle.fraction_theory.specs.Signs.{sign_of, abs_ℚ, abs_by}
 use Rattle.fraction_theory.specs.Sums.{total}
 use Rattle.fraction_theory.specs.declared.Sign.{Sign}
 use Rattle.fraction_theory.specs.declared.Sign.TheVariants.{Below, Zero, Above}
 use Rattle.fraction_theory.proofs.FieldLaws.{+ℚ_neg}
-use Rattle.fraction_theory.proofs.OrderLaws.{NonNeg-one, by_le1, ≤ℚ_refl, ≤ℚ_trans, <ℚ-≤ℚ, ≤ℚ_of_same, ≤ℚ-<ℚ_trans, +ℚ-≤ℚ, +ℚ-<ℚ}
+use Rattle.fraction_theory.proofs.OrderLaws.{NonNeg-one, by_le1, not-≤ℚ, <ℚ-not-≤ℚ, ≤ℚ_refl, ≤ℚ_trans, <ℚ-≤ℚ, ≤ℚ_of_same, ≤ℚ-<ℚ_trans, +ℚ-≤ℚ, +ℚ-<ℚ, whole-≤ℚ}
 use Rattle.fraction_theory.proofs.Ring.{at, padd, pneg, pnil, pone}
-use Rattle.fraction_theory.proofs.SignLaws.{IsSign, sign_of_is}
+use Rattle.fraction_theory.proofs.SignLaws.{IsSign, abs_within, sign_of_is}
 use Rattle.market_model.specs.declared.participants.Parts.{Parts}
 use Rattle.market_model.specs.Dispatch.{Dispatch, places, injection}
-use Rattle.market_model.specs.Overrun.{IsFirstMost}
+use Rattle.market_model.specs.Overrun.{IsBeyond, IsFirstMost, Keeps, Within, overrun}
 use Rattle.market_model.specs.declared.limits.Row.{Row}
-use Rattle.market_model.specs.LimitRows.{flow_by, flow_terms, limit, line_flow, line_flows, rows}
+use Rattle.market_model.specs.LimitRows.{flow_by, flow_terms, limit, line_flow, line_flows, most_excess, most_flow, rows}
 use Rattle.market_model.specs.PutIn.{put_in}
+use Rattle.market_model.proofs.HardLimits.{penalties}
 use Rattle.limit_rows.proofs.FlowSteps.{flow_terms-same}
 use Rattle.limit_rows.proofs.PlaceLemmas.{at_places}
 use Rattle.limit_screen.specs.declared.screening.RowOverrun.{RowOverrun}
 use Rattle.market_model.specs.Market.{IsMarket}
 use Rattle.limit_screen.specs.Flows.{flows_at, line_in, LawOfRowFlows}
-use Rattle.limit_screen.specs.Screening.{AllHold, IsWorstOf, overrun_by}
+use Rattle.limit_screen.specs.Screening.{AllKeep, IsWorstOf}
 
 -- ---- orders and differences
 pub not_past : (o : Ordering) (x y : Fraction) → MatchOrdering o (x <ℚ y) (x ≡ y) (y <ℚ x) → (o ≡ Less) ⊎ (o ≡ Equal) → x ≤ℚ y
@@ -60,38 +61,29 @@ slice_get-left (x ∷ xs) ys (suc i) h = slice_get-left xs ys i (Prim.omega (ari
 All-one : (P : Row → Type 0) (r : Row) → P r → All P (r ∷ [])
 All-one P r h = All-cons P r [] h (All-nil P)
 
-all_hold : (e : Row → Fraction) (rs : List Row) (r : Row) → All (λ s. e s ≤ℚ whole (pos 0)) rs → e r ≤ℚ whole (pos 0) → All (λ s. e s ≤ℚ whole (pos 0)) (rs ++ r ∷ [])
-all_hold e rs r all here = All-append (λ s. e s ≤ℚ whole (pos 0)) rs (r ∷ []) all (All-one (λ s. e s ≤ℚ whole (pos 0)) r here)
-
 -- the new row is the worst
-pub new_worst : (e : Row → Fraction) (rs : List Row) (r : Row) → All (λ s. e s <ℚ e r) rs → whole (pos 0) <ℚ e r → IsFirstMost e (rs ++ r ∷ []) (length rs) r
-new_worst e rs r less above = record {
-  stands = slice_get-seam rs r;
-  broken = above;
-  most = All-append (λ s. e s ≤ℚ e r) rs (r ∷ []) (λ k d lt. <ℚ-≤ℚ (e (get_or rs k d)) (e r) (less k d lt)) (All-one (λ s. e s ≤ℚ e r) r (≤ℚ_refl (e r)));
-  first = λ i s lt at. subst (λ t. e t <ℚ e r) (get_or_from_slice_get rs i s s (sym (slice_get-left rs (r ∷ []) i lt) ∙ at)) (less i s lt);
-}
+module _ (Counts : Row → Type 0) (e : Row → Fraction) (rs : List Row) (r : Row) where
+  pub new_worst : All (λ s. Counts s → e s <ℚ e r) rs → Counts r → IsFirstMost Counts e (rs ++ r ∷ []) (length rs) r
+  new_worst less counts = record {
+    stands = slice_get-seam rs r;
+    counts = counts;
+    most = All-append (λ s. Counts s → e s ≤ℚ e r) rs (r ∷ []) (λ k d lt c. <ℚ-≤ℚ (e (get_or rs k d)) (e r) (less k d lt c)) (All-one (λ s. Counts s → e s ≤ℚ e r) r (λ _. ≤ℚ_refl (e r)));
+    first = λ i s lt at. subst (λ t. Counts t → e t <ℚ e r) (get_or_from_slice_get rs i s s (sym (slice_get-left rs (r ∷ []) i lt) ∙ at)) (less i s lt);
+  }
 
-pub worse_than_old : (e : Row → Fraction) (rs : List Row) (place : ℕ) (old r : Row) → IsFirstMost e rs place old → e old <ℚ e r → All (λ s. e s <ℚ e r) rs
-worse_than_old e rs place old r h more k d lt = ≤ℚ-<ℚ_trans (e (get_or rs k d)) (e old) (e r) (h.most k d lt) more
+  module _ (place : ℕ) (old : Row) (h : IsFirstMost Counts e rs place old) where
+    pub worse_than_old : e old <ℚ e r → All (λ s. Counts s → e s <ℚ e r) rs
+    worse_than_old more k d lt c = ≤ℚ-<ℚ_trans (e (get_or rs k d)) (e old) (e r) (h.most k d lt c) more
 
-pub worse_than_held : (e : Row → Fraction) (rs : List Row) (r : Row) → All (λ s. e s ≤ℚ whole (pos 0)) rs → whole (pos 0) <ℚ e r → All (λ s. e s <ℚ e r) rs
-worse_than_held e rs r h more k d lt = ≤ℚ-<ℚ_trans (e (get_or rs k d)) (whole (pos 0)) (e r) (h k d lt) more
-
--- the old one stays the worst
-pub old_worst : (e : Row → Fraction) (rs : List Row) (place : ℕ) (old r : Row) → IsFirstMost e rs place old → e r ≤ℚ e old → IsFirstMost e (rs ++ r ∷ []) place old
-old_worst e rs place old r h less =
-    let inside : place < length rs = slice_get_within rs place old h.stands in record {
-      stands = slice_get-left rs (r ∷ []) place inside ∙ h.stands;
-      broken = h.broken;
-      most = All-append (λ s. e s ≤ℚ e old) rs (r ∷ []) h.most (All-one (λ s. e s ≤ℚ e old) r less);
-      first = λ i s lt at. h.first i s lt (sym (slice_get-left rs (r ∷ []) i (Prim.omega (arith, lt, inside))) ∙ at);
-    }
-
--- a row that holds changes nothing
-pub held : {N : Type 0} (value : N → Fraction) (e : Row → Fraction) (rs : List Row) (r : Row) (worst : Option (RowOverrun N)) → IsWorstOf value e rs worst → e r ≤ℚ whole (pos 0) → IsWorstOf value e (rs ++ r ∷ []) worst
-held value e rs r None before h = all_hold e rs r before h
-held value e rs r (Some b) ((place, worst), is) h = ((place, old_worst e rs place b.row r worst (≤ℚ_trans (e r) (whole (pos 0)) (e b.row) h (<ℚ-≤ℚ (whole (pos 0)) (e b.row) worst.broken))), is)
+    -- the old one stays the worst
+    pub old_worst : (Counts r → e r ≤ℚ e old) → IsFirstMost Counts e (rs ++ r ∷ []) place old
+    old_worst less =
+        let inside : place < length rs = slice_get_within rs place old h.stands in record {
+          stands = slice_get-left rs (r ∷ []) place inside ∙ h.stands;
+          counts = h.counts;
+          most = All-append (λ s. Counts s → e s ≤ℚ e old) rs (r ∷ []) h.most (All-one (λ s. Counts s → e s ≤ℚ e old) r less);
+          first = λ i s lt at. h.first i s lt (sym (slice_get-left rs (r ∷ []) i (Prim.omega (arith, lt, inside))) ∙ at);
+        }
 
 -- ---- a limit that holds
 from_opposite : (f F : Fraction) → neg_ℚ f ≤ℚ F → neg_ℚ F ≤ℚ f
@@ -110,6 +102,67 @@ within_size f F s e h = by s (sign_of_is f s e) h
     by Below is h = (from_opposite f F h, ≤ℚ_trans f (neg_ℚ f) F (below_opposite f (<ℚ-≤ℚ f (whole (pos 0)) is)) h)
     by Zero is h = (from_opposite f F (≤ℚ_trans (neg_ℚ f) f F (opposite_below f (≤ℚ_of_same (whole (pos 0)) f (sym is))) h), h)
     by Above is h = (from_opposite f F (≤ℚ_trans (neg_ℚ f) f F (opposite_below f (<ℚ-≤ℚ (whole (pos 0)) f is)) h), h)
+
+-- ---- what a flow may be
+pub limit_passed : (s F : Fraction) → whole (pos 0) <ℚ (s -ℚ F) → F <ℚ s
+limit_passed s F h = not-≤ℚ s F (λ n. <ℚ-not-≤ℚ (whole (pos 0)) (s -ℚ F) h (below_nil s F n))
+
+most_passed : (s F e : Fraction) → e <ℚ (s -ℚ F) → (F +ℚ e) <ℚ s
+most_passed s F e h = not-≤ℚ s (F +ℚ e) (λ n. <ℚ-not-≤ℚ e (s -ℚ F) h (by_le1 (s ∷ F ∷ e ∷ []) (padd (at 0) (pneg (at 1))) (at 2) pone (at 0) (padd (at 1) (at 2)) NonNeg-one n refl))
+
+most_kept : (s F e : Fraction) → (s -ℚ F) ≤ℚ e → s ≤ℚ (F +ℚ e)
+most_kept s F e h = by_le1 (s ∷ F ∷ e ∷ []) (at 0) (padd (at 1) (at 2)) pone (padd (at 0) (pneg (at 1))) (at 2) NonNeg-one h refl
+
+size_kept : (most f : Fraction) → abs_ℚ f ≤ℚ most → Within most f
+unfolding sign_of abs_ℚ
+size_kept most f h = let both = within_size f most (sign_of f) refl h in record { above = both.0; below = both.1 }
+
+pub not_passed : (most f : Fraction) → Within most f → ¬ (most <ℚ abs_ℚ f)
+not_passed most f within h = <ℚ-not-≤ℚ most (abs_ℚ f) h (abs_within f most within.above within.below)
+
+-- the excess is at least 0
+more_kept : (F e : Fraction) → whole (pos 0) ≤ℚ e → F ≤ℚ (F +ℚ e)
+more_kept F e h = by_le1 (F ∷ e ∷ []) (at 0) (padd (at 0) (at 1)) pone pnil (at 1) NonNeg-one h refl
+
+pub limit_most : (m : Parts) → IsMarket m → (r : Row) → limit m r ≤ℚ most_flow m r
+limit_most m market r = more_kept (limit m r) (most_excess m r) (whole-≤ℚ (pos 0) _ (penalties m market r).exceeds)
+
+-- where some rows are taken, a flow f of a row
+module _ (m : Parts) (taken : List Row) (r : Row) (f : Fraction) where
+  pub keeps_not_beyond : Keeps m taken r f → ¬ (IsBeyond m taken r f)
+  keeps_not_beyond keeps beyond =
+      let new : ¬ (Contains taken r) = λ c. not_passed (most_flow m r) f (keeps.most c) (beyond.most c) in
+      not_passed (limit m r) f (keeps.limit new) (beyond.limit new)
+
+  -- it doesn't pass its limit
+  pub keeps_limit : IsMarket m → overrun m r f ≤ℚ whole (pos 0) → Keeps m taken r f
+  keeps_limit market h =
+      let size : abs_ℚ f ≤ℚ limit m r = from_below (abs_ℚ f) (limit m r) h in
+      record {
+        limit = λ _. size_kept (limit m r) f size;
+        most = λ _. size_kept (most_flow m r) f (≤ℚ_trans (abs_ℚ f) (limit m r) (most_flow m r) size (limit_most m market r));
+      }
+
+  -- it passes that, by no more than its excess or by more
+  pub keeps_most : Contains taken r → overrun m r f ≤ℚ most_excess m r → Keeps m taken r f
+  keeps_most c h = record { limit = λ new. absurd (new c); most = λ _. size_kept (most_flow m r) f (most_kept (abs_ℚ f) (limit m r) (most_excess m r) h) }
+
+  pub beyond_limit : ¬ (Contains taken r) → whole (pos 0) <ℚ overrun m r f → IsBeyond m taken r f
+  beyond_limit new h = record { limit = λ _. limit_passed (abs_ℚ f) (limit m r) h; most = λ c. absurd (new c) }
+
+  pub beyond_most : whole (pos 0) <ℚ overrun m r f → most_excess m r <ℚ overrun m r f → IsBeyond m taken r f
+  beyond_most h more = record { limit = λ _. limit_passed (abs_ℚ f) (limit m r) h; most = λ _. most_passed (abs_ℚ f) (limit m r) (most_excess m r) more }
+
+-- ---- the worst of some rows, with one more
+module _ {N : Type 0} (value : N → Fraction) (m : Parts) (taken : List Row) (f : Row → Fraction) (rs : List Row) (r : Row) where
+  pub worse_than_kept : All (λ s. Keeps m taken s (f s)) rs → All (λ s. IsBeyond m taken s (f s) → overrun m s (f s) <ℚ overrun m r (f r)) rs
+  worse_than_kept all k d lt beyond = let s : Row = get_or rs k d in absurd (keeps_not_beyond m taken s (f s) (all k d lt) beyond)
+
+  -- one that keeps what it may be changes nothing
+  pub kept : (worst : Option (RowOverrun N)) → IsWorstOf value m taken f rs worst → Keeps m taken r (f r) → IsWorstOf value m taken f (rs ++ r ∷ []) worst
+  kept None before keeps = All-append (λ s. Keeps m taken s (f s)) rs (r ∷ []) before (All-one (λ s. Keeps m taken s (f s)) r keeps)
+  kept (Some b) ((place, worst), is) keeps =
+      ((place, old_worst (λ s. IsBeyond m taken s (f s)) (λ s. overrun m s (f s)) rs r place b.row worst (λ beyond. absurd (keeps_not_beyond m taken r (f r) keeps beyond))), is)
 
 -- ---- the flows of a dispatch
 line_at_place : (m : Parts) (x : Dispatch) (fs : List Fraction) (l : ℕ) → fs ≡ flows_at m x → l < length m.lines → line_in m fs l ≡ line_flow m (injection m x) l
@@ -160,12 +213,8 @@ lines_behind {N} value m fs n count i l = at_line i
         ∙ ap (λ (k : ℕ). get_or (map value fs) (k + l) (whole (pos 0))) count
 
 -- ---- the worst of all rows
-pub all_hold_by : (m : Parts) (f : ℕ → Fraction) → All (λ s. overrun_by m f s ≤ℚ whole (pos 0)) (rows m) → AllHold m f
-unfolding abs_ℚ
-all_hold_by m f h r c =
-    let size : abs_ℚ (flow_by m f r) ≤ℚ limit m r = from_below (abs_ℚ (flow_by m f r)) (limit m r) (subst (λ t. overrun_by m f t ≤ℚ whole (pos 0)) c.2 (h c.0 r c.1)) in
-    let both = within_size (flow_by m f r) (limit m r) (sign_of (flow_by m f r)) refl size in
-    record { above = both.0; below = both.1 }
+pub all_keep_by : (m : Parts) (taken : List Row) (f : ℕ → Fraction) → All (λ s. Keeps m taken s (flow_by m f s)) (rows m) → AllKeep m taken f
+all_keep_by m taken f all r c = subst (λ s. Keeps m taken s (flow_by m f s)) c.2 (all c.0 r c.1)
 
 pub listed_row : (rs : List Row) (place : ℕ) (r : Row) → slice_get rs place ≡ Some r → Contains rs r
 listed_row rs place r e = (place, slice_get_within rs place r e, get_or_from_slice_get rs place r r e)

@@ -1,13 +1,16 @@
 -- Which limit is passed by the most, where lines have given flows.
-use Rattle.std.specs.Prelude.{◌≡◌, ℕ, List, Option, Some, None, All, Contains}
+use Rattle.std.specs.Prelude.{◌≡◌, ℕ, List, Option, Some, None, map, All, Contains}
 use Rattle.fraction_theory.specs.Fraction.{Fraction}
 use Rattle.exact_fraction.specs.declared.Passed.{Passed}
+use Rattle.market_model.specs.declared.answered.RowId.{RowId}
 use Rattle.market_model.specs.declared.participants.Parts.{Parts}
 use Rattle.market_model.specs.Overrun.{overrun, IsBeyond, IsFirstMost, IsWorst, Keeps}
 use Rattle.market_model.specs.declared.limits.Row.{Row}
-use Rattle.market_model.specs.LimitRows.{flow_by, rows}
+use Rattle.market_model.specs.LimitRows.{flow_by, row_id, rows}
 use Rattle.market_model.specs.SumTables.{IsRefusedAmong, RowFlowSum}
 use Rattle.limit_screen.specs.declared.screening.RowOverrun.{RowOverrun}
+use Rattle.limit_screen.specs.declared.taking.Taken.{Taken}
+use Rattle.limit_screen.specs.declared.taking.Taken.TheVariants.{Rows, Names}
 
 -- where some rows are taken, all rows of the market keep what they may be
 abbrev pub AllKeep : Parts → List Row → (ℕ → Fraction) → Type 0
@@ -16,6 +19,19 @@ AllKeep m taken f = (r : Row) → Contains (rows m) r → Keeps m taken r (flow_
 -- the worst of those that do not, the first of several
 abbrev pub IsWorstBy : Parts → List Row → (ℕ → Fraction) → Row → Type 0
 IsWorstBy m taken f r = (place : ℕ) × IsWorst m taken (flow_by m f) place r
+
+-- its name
+abbrev pub IsWorstNamed : Parts → List Row → (ℕ → Fraction) → RowId → Type 0
+IsWorstNamed m taken f name = (r : Row) × IsWorstBy m taken f r × (name ≡ row_id m r)
+
+-- the rows that are taken are rows of the market, and these are their names
+abbrev pub AreNamed : Parts → List Row → List RowId → Type 0
+AreNamed m taken names = ((r : Row) → Contains taken r → Contains (rows m) r) × (names ≡ map (row_id m) taken)
+
+-- they are these, or those of these names
+abbrev pub AreTaken : Parts → List Row → Taken → Type 0
+AreTaken m taken (Rows given) = given.now ≡ taken
+AreTaken m taken (Names given) = AreNamed m taken given.now
 
 -- an operation refused for the flow of a row of the market; by how much that passes its limit is refused of none
 abbrev pub IsScreenRefusal : Parts → (ℕ → Fraction) → ℕ → Passed Fraction → Type 0

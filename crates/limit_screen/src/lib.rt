@@ -4,6 +4,7 @@
 mod flowing;
 pub mod laws;
 mod screening;
+mod taking;
 
 pub use flowing::{bus_injections, flows, flows_made, line_flows};
 pub use screening::{worst, worst_row};

@@ -1,21 +1,23 @@
 //! Which limit flows pass by the most.
 
-ghost use Rattle.std.specs.Prelude.{◌≡◌, ◌+◌, ◌<◌, ◌≤ℤ◌, ℕ, ℤ, pos, List, [], ◌∷◌, ◌++◌, length, map, IfOk, IfErr, MatchOption};
+ghost use Rattle.std.specs.Prelude.{◌≡◌, ◌+◌, ◌≤ℤ◌, ℤ, pos, List, [], ◌∷◌, ◌++◌, length, map, Contains, IfOk, IfErr, MatchBool, MatchOption};
 ghost use Rattle.fraction_theory.specs.Fraction.{Fraction, ◌-ℚ◌, whole};
 ghost use Rattle.fraction_theory.specs.Order.{◌<ℚ◌, ◌≤ℚ◌};
 ghost use Rattle.fraction_theory.specs.Signs.{abs_ℚ};
 ghost use Rattle.market_model.specs.Valued.{passed_at};
 ghost use Rattle.market_model.specs.Dispatch.{zero};
-ghost use Rattle.market_model.specs.Overrun.{IsWorst};
+ghost use Rattle.market_model.specs.Overrun.{IsBeyond, Keeps, overrun as overrun_of};
 ghost use Rattle.market_model.specs.declared.limits.Row.{Row};
-ghost use Rattle.market_model.specs.LimitRows.{IsCauseAmong, flow_by};
+ghost use Rattle.market_model.specs.declared.participants.Parts.{Parts};
+ghost use Rattle.market_model.specs.LimitRows.{flow_by, rows};
 ghost use Rattle.market_model.specs.SumTables.{IsRefusedAmong, RowFlowSum};
 ghost use Rattle.limit_screen.specs.Flows.{line_in};
-ghost use Rattle.limit_screen.specs.Screening.{AllHold, IsWorstNamed, IsScreenRefusal, IsWorstOf, overrun_by};
+ghost use Rattle.limit_screen.specs.Screening.{AllKeep, AreNamed, AreTaken, IsScreenRefusal, IsWorstBy, IsWorstNamed, IsWorstOf};
 
 use crate::flowing::line_flows;
-use exact_fraction::{Exact, Passed, Sign, exact_difference};
-use limit_rows::{limit_at, name_at, row_flow, rows};
+use crate::taking::{Taken, is_taken};
+use exact_fraction::{Exact, Passed, exact_difference, size};
+use limit_rows::{excess_at, limit_at, name_at, row_flow, rows};
 use market_model::{Market, Row, RowId, datum};
 use std::cmp::Ordering;
 
@@ -25,16 +27,6 @@ struct RowOverrun<N> {
     row: Row,
     /// By how much, in 10^-9 MW.
     overrun: N,
-}
-
-/// The size of a flow.
-fn size<N: Exact>(flow: N) -> N
-    ensures { N.value result ≡ abs_ℚ (N.value flow) }
-{
-    match flow.sign() {
-        Sign::Below => flow.neg(),
-        Sign::Zero | Sign::Above => flow,
-    }
 }
 
 /// By how much a flow passes a limit; nothing where it doesn't. That is never too large: its parts are no greater than those of the flow.
@@ -50,10 +42,24 @@ fn beyond<N: Exact>(flow: N, limit: N) -> Result<Option<N>, Passed<N>>
     }
 }
 
+/// Whether a row keeps what it may be all the same, where its flow passes its limit by so much: it is taken, and this is no more than its
+/// excess.
+fn keeps_excess<N: Exact>(market: &Market, taken: Taken<'_>, row: Row, overrun: N) -> bool
+    requires row { Contains (rows market.now) row }
+    requires passed { zero <ℚ N.value overrun }
+    ensures { (g : List Row) (f : Fraction) → AreTaken market.now g taken.entry → N.value overrun ≡ overrun_of market.now row f → MatchBool result (Keeps market.now g row f) (IsBeyond market.now g row f) }
+{
+    let _lines = market.lines();
+    match overrun.order(datum(excess_at(market, row))) {
+        Ordering::Greater => false,
+        Ordering::Less | Ordering::Equal => is_taken(market, taken, row),
+    }
+}
+
 /// The worse of two rows, and the first where they are as bad.
 fn worse<N: Exact>(worst: Option<RowOverrun<N>>, row: Row, overrun: N) -> Option<RowOverrun<N>>
-    requires { zero <ℚ N.value overrun }
-    ensures { (e : Row → Fraction) (rs : List Row) → IsWorstOf N.value e rs worst → N.value overrun ≡ e row → IsWorstOf N.value e (rs ++ row ∷ []) result }
+    ensures { (m : Parts) (g : List Row) (f : Row → Fraction) (rs : List Row) → IsWorstOf N.value m g f rs worst → IsBeyond m g row (f row) → N.value overrun ≡ overrun_of m row (f row)
+        → IsWorstOf N.value m g f (rs ++ row ∷ []) result }
 {
     match worst {
         Some(broken) => match overrun.order(broken.overrun) {
@@ -68,33 +74,44 @@ fn worse<N: Exact>(worst: Option<RowOverrun<N>>, row: Row, overrun: N) -> Option
 fn with_row<N: Exact>(
     market: &Market,
     flows: &[N],
+    taken: Taken<'_>,
     row: Row,
     worst: Option<RowOverrun<N>>,
 ) -> Result<Option<RowOverrun<N>>, Passed<N>>
     requires flows { length flows.now ≡ length market.now.buses + length market.now.lines }
-    requires line { row.line < length market.now.lines }
-    requires lost { IsCauseAmong (length market.now.lines) row.cause }
-    ensures worst { (rs : List Row) → IsWorstOf N.value (overrun_by market.now (line_in market.now (map N.value flows.now))) rs worst → IfOk result (IsWorstOf N.value (overrun_by market.now (line_in market.now (map N.value flows.now))) (rs ++ row ∷ [])) }
+    requires row { Contains (rows market.now) row }
+    ensures worst { (g rs : List Row) → AreTaken market.now g taken.entry → IsWorstOf N.value market.now g (flow_by market.now (line_in market.now (map N.value flows.now))) rs worst
+        → IfOk result (IsWorstOf N.value market.now g (flow_by market.now (line_in market.now (map N.value flows.now))) (rs ++ row ∷ [])) }
     ensures cause { IfErr result (λ passed. IsRefusedAmong (RowFlowSum market.now (line_in market.now (map N.value flows.now)) row) N.bound (passed_at N.value passed)) }
 {
+    let _lines = market.lines();
     let flow = row_flow(market, line_flows(market, flows), row)?;
     match beyond(flow, datum(limit_at(market, row)))? {
-        Some(overrun) => Ok(worse(worst, row, overrun)),
+        Some(overrun) => {
+            if keeps_excess(market, taken, row, overrun) {
+                Ok(worst)
+            } else {
+                Ok(worse(worst, row, overrun))
+            }
+        }
         None => Ok(worst),
     }
 }
 
-/// The row whose limit the flows pass by the most, and the first of those in the market's order; none where all limits hold. The flows
-/// are those of buses and then of lines, as `flows` puts them.
-pub fn worst_row<N: Exact>(market: &Market, flows: &[N]) -> Result<Option<Row>, Passed<N>>
+/// The worst of all rows.
+fn worst_taken<N: Exact>(
+    market: &Market,
+    flows: &[N],
+    taken: Taken<'_>,
+) -> Result<Option<Row>, Passed<N>>
     requires { length flows.now ≡ length market.now.buses + length market.now.lines }
-    ensures worst { IfOk result (λ worst. MatchOption worst (AllHold market.now (line_in market.now (map N.value flows.now)))
-        (λ row. (place : ℕ) × IsWorst market.now (flow_by market.now (line_in market.now (map N.value flows.now))) place row)) }
+    ensures worst { (g : List Row) → AreTaken market.now g taken.entry → IfOk result (λ worst. MatchOption worst (AllKeep market.now g (line_in market.now (map N.value flows.now)))
+        (IsWorstBy market.now g (line_in market.now (map N.value flows.now)))) }
     ensures cause { IfErr result (λ passed. IsScreenRefusal market.now (line_in market.now (map N.value flows.now)) N.bound (passed_at N.value passed)) }
 {
     let mut worst = None;
     for row in rows(market) {
-        worst = with_row(market, flows, row, worst)?;
+        worst = with_row(market, flows, taken, row, worst)?;
     }
     match worst {
         Some(broken) => Ok(Some(broken.row)),
@@ -102,14 +119,35 @@ pub fn worst_row<N: Exact>(market: &Market, flows: &[N]) -> Result<Option<Row>, 
     }
 }
 
-/// Its name.
-pub fn worst<N: Exact>(market: &Market, flows: &[N]) -> Result<Option<RowId>, Passed<N>>
+/// Where some rows are taken, the row that is beyond what it may be and whose flow passes its limit by the most, and the first of those in
+/// the market's order; none where all rows keep what they may be: a row its limit, and one that is taken that and its excess. The flows
+/// are those of buses and then of lines, as `flows` puts them.
+pub fn worst_row<N: Exact>(
+    market: &Market,
+    flows: &[N],
+    taken: &[Row],
+) -> Result<Option<Row>, Passed<N>>
     requires { length flows.now ≡ length market.now.buses + length market.now.lines }
-    ensures worst { IfOk result (λ worst. MatchOption worst (AllHold market.now (line_in market.now (map N.value flows.now))) (IsWorstNamed market.now (line_in market.now (map N.value flows.now)))) }
+    ensures worst { IfOk result (λ worst. MatchOption worst (AllKeep market.now taken.now (line_in market.now (map N.value flows.now))) (IsWorstBy market.now taken.now (line_in market.now (map N.value flows.now)))) }
+    ensures cause { IfErr result (λ passed. IsScreenRefusal market.now (line_in market.now (map N.value flows.now)) N.bound (passed_at N.value passed)) }
+{
+    worst_taken(market, flows, Taken::Rows(taken))
+}
+
+/// The same by names.
+pub fn worst<N: Exact>(
+    market: &Market,
+    flows: &[N],
+    taken: &[RowId],
+) -> Result<Option<RowId>, Passed<N>>
+    requires flows { length flows.now ≡ length market.now.buses + length market.now.lines }
+    requires taken { (g : List Row) × AreNamed market.now g taken.now }
+    ensures worst { (g : List Row) → AreNamed market.now g taken.now → IfOk result (λ worst. MatchOption worst (AllKeep market.now g (line_in market.now (map N.value flows.now)))
+        (IsWorstNamed market.now g (line_in market.now (map N.value flows.now)))) }
     ensures cause { IfErr result (λ passed. IsScreenRefusal market.now (line_in market.now (map N.value flows.now)) N.bound (passed_at N.value passed)) }
 {
     let _lines = market.lines();
-    match worst_row(market, flows)? {
+    match worst_taken(market, flows, Taken::Names(taken))? {
         Some(row) => Ok(Some(name_at(market, row))),
         None => Ok(None),
     }

@@ -19,9 +19,9 @@ use Rattle.market_model.specs.Market.{IsMarket}
 use Rattle.limit_rows.proofs.ApartLemmas.{names_apart}
 use Rattle.limit_rows.proofs.GroupLemmas.{rows-causes}
 use Rattle.limit_rows.proofs.NumberingLemmas.{length-rows_of}
-use Rattle.market_system.specs.MarketSystem.{row_name, block_sign, block_coefficient}
+use Rattle.market_system.specs.MarketSystem.{row_name, over_name, block_sign, block_coefficient}
 use Rattle.market_system.proofs.DualLists.{rows_apart}
-use Rattle.market_system.proofs.RowOrder.{row_name-at}
+use Rattle.market_system.proofs.RowOrder.{AreOrdered, names-ascend, row_name-at, row_place-below}
 use Rattle.market_system.proofs.VariableLaws.{from_places}
 
 pub sign_entry : (m : Parts) (k : ℕ) (block : Block) (one entry : Fraction) → block ≡ block_at m k → one ≡ whole (pos 1) → entry ≡ signed_by_side block.side one → entry ≡ block_sign m k
@@ -69,6 +69,10 @@ rows_few m market =
     let same : length (rows m) ≡ length (flat_map (rows_of m) (causes m)) = ap length (rows-causes m) in
     Prim.omega (arith, all, causes_few, same)
 
+-- all rows of a market are in its order
+pub all_ordered : (m : Parts) → IsMarket m → AreOrdered m (rows m)
+all_ordered m market = record { rows = λ r c. c; ascend = names-ascend m (rows_apart m (names_apart m market)) }
+
 -- ---- the name of a row by its place
 pub name_at_place : (m : Parts) → IsMarket m → (r : Row) (place : ℕ) → slice_get (rows m) place ≡ Some r → (place < length (rows m)) × (row_name m r ≡ length m.blocks + 1 + place)
 name_at_place m market r place e =
@@ -76,3 +80,10 @@ name_at_place m market r place e =
       inside,
       ap (row_name m) (sym (get_or_from_slice_get (rows m) place r r e)) ∙ row_name-at m (rows_apart m (names_apart m market)) place r inside,
     )
+
+-- its first column's too, and no name is large
+pub over_at_place : (m : Parts) → IsMarket m → (r : Row) (place : ℕ) → slice_get (rows m) place ≡ Some r → over_name m r ≡ length m.blocks + 1 + length (rows m) + 2 * place
+over_at_place m market r place e = let at = (name_at_place m market r place e).1 in Prim.omega (arith, at)
+
+pub over_small : (m : Parts) → IsMarket m → (r : Row) → Contains (rows m) r → over_name m r + 1 < 4000000
+over_small m market r c = Prim.omega (arith, row_place-below m r c, rows_few m market, market.block_count)

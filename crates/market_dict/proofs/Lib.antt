@@ -1,3 +1,4 @@
+pub mod ColumnLists
 pub mod EntryLemmas
 pub mod HoldingLaws
 pub mod ListedLemmas

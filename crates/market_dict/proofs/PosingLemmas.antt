@@ -1,28 +1,35 @@
 -- PricesAndBounds fit the dictionary that they are posed at.
-use Rattle.std.specs.Prelude.{◌≡◌, ◌+◌, List, length}
+use Rattle.std.specs.Prelude.{◌≡◌, ◌+◌, List, ◌++◌, length, map}
 use Rattle.std.proofs.Common.{ap, ap₂, sym, ◌∙◌}
-use Rattle.std.proofs.lemmas.List.{length-append, length-map}
+use Rattle.std.proofs.lemmas.List.{length-append, length-map, map-append}
 use Rattle.fraction_theory.specs.Fraction.{Fraction}
 use Rattle.linear_dict.specs.Dictionaries.{Dictionary}
 use Rattle.simplex_core.specs.declared.bounds.Bounds.{Bounds}
 use Rattle.market_model.specs.declared.participants.Parts.{Parts}
 use Rattle.market_model.specs.declared.limits.Row.{Row}
-use Rattle.market_system.specs.MarketSystem.{name, objective_price, low, columns, row_variables, variables}
-use Rattle.market_dict.specs.Holding.{HoldsMarket}
+use Rattle.market_system.specs.MarketSystem.{name, objective_price, low, high, columns, row_variables}
+use Rattle.market_dict.specs.Holding.{HoldsMarket, lows, highs}
 use Rattle.market_dict.specs.PricesAndBounds.{ArePricesAndBounds}
 use Rattle.market_dict.specs.declared.posing.PricesAndBounds.{PricesAndBounds}
 
 module _ {N : Type 0} (value : N → Fraction) (m : Parts) (g : List Row) (d : Dictionary) (t : PricesAndBounds N) (holds : HoldsMarket m g d) (are : ArePricesAndBounds value m g t) where
-  column_count : length d.columns ≡ length (columns m)
-  column_count = ap length holds.columns ∙ length-map (columns m) (name m)
-
-  row_count : length d.rows ≡ length (row_variables g)
-  row_count = ap length holds.rows ∙ length-map (row_variables g) (name m)
-
   pub price_count : length t.prices ≡ length d.columns
-  price_count = sym (length-map t.prices value) ∙ ap length are.prices ∙ length-map (columns m) (objective_price m) ∙ sym column_count
+  price_count =
+      sym (length-map t.prices value) ∙ ap length are.prices ∙ length-map (columns m g) (objective_price m) ∙ sym (ap length holds.columns ∙ length-map (columns m g) (name m))
 
-  pub bound_count : length t.bounds ≡ length d.columns + length d.rows
-  bound_count =
-      sym (length-map t.bounds (λ (b : Bounds N). value b.low)) ∙ ap length are.lows ∙ length-map (variables m g) (low m) ∙ length-append (columns m) (row_variables g)
-      ∙ ap₂ ◌+◌ (sym column_count) (sym row_count)
+  -- those of columns and then of rows
+  module _ (bounds : List (Bounds N)) (joined : bounds ≡ t.column_bounds ++ t.row_bounds) where
+    pub lows_joined : map (λ (b : Bounds N). value b.low) bounds ≡ lows m g
+    lows_joined =
+        let low_of : Bounds N → Fraction = λ b. value b.low in
+        ap (map low_of) joined ∙ map-append low_of t.column_bounds t.row_bounds ∙ ap₂ (λ (xs ys : List Fraction). xs ++ ys) are.column_lows are.row_lows ∙ sym (map-append (low m) (columns m g) (row_variables g))
+
+    pub highs_joined : map (λ (b : Bounds N). value b.high) bounds ≡ highs m g
+    highs_joined =
+        let high_of : Bounds N → Fraction = λ b. value b.high in
+        ap (map high_of) joined ∙ map-append high_of t.column_bounds t.row_bounds ∙ ap₂ (λ (xs ys : List Fraction). xs ++ ys) are.column_highs are.row_highs ∙ sym (map-append (high m) (columns m g) (row_variables g))
+
+    pub bound_count : length bounds ≡ length d.columns + length d.rows
+    bound_count =
+        sym (length-map bounds (λ (b : Bounds N). value b.low)) ∙ ap length lows_joined ∙ length-map (columns m g ++ row_variables g) (low m) ∙ length-append (columns m g) (row_variables g)
+        ∙ ap₂ ◌+◌ (sym (ap length holds.columns ∙ length-map (columns m g) (name m))) (sym (ap length holds.rows ∙ length-map (row_variables g) (name m)))

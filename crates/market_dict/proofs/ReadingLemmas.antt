@@ -7,12 +7,12 @@ use Rattle.std.proofs.lemmas.Bool.Decides.{eqb_tells}
 use Rattle.std.proofs.lemmas.Grind.{flat_map-append}
 use Rattle.std.proofs.lemmas.List.Concat.{flat_map-cons}
 use Rattle.std.proofs.lemmas.List.Folds.{flat_map-map}
-use Rattle.std.proofs.lemmas.List.Elements.{Contains-append_cases}
+use Rattle.std.proofs.lemmas.List.Elements.{Contains-append_left, Contains-append_right, Contains-append_cases}
 use Rattle.std.proofs.lemmas.List.{append-nil, length-map, take_more, take_all, get_or-map}
 use Rattle.fraction_theory.specs.Fraction.{Fraction, whole, neg_ℚ, ◌-ℚ◌}
 use Rattle.fraction_theory.specs.Signs.{sign_of}
 use Rattle.fraction_theory.specs.Sums.{prefix, total}
-use Rattle.fraction_theory.proofs.ListSums.{Contains-filter, Contains-cases}
+use Rattle.fraction_theory.proofs.ListSums.{Contains-filter, Contains-cases, Contains-cons, Contains-head}
 use Rattle.fraction_theory.proofs.SumLaws.{prefix-all}
 use Rattle.exact_fraction.specs.declared.Op.{Op}
 use Rattle.exact_fraction.specs.declared.Op.TheVariants.{Minus}
@@ -37,14 +37,13 @@ use Rattle.market_model.specs.declared.limits.Row.{Row}
 use Rattle.market_model.specs.LimitRows.{rows, row_id}
 use Rattle.market_model.specs.Market.{IsMarket}
 use Rattle.market_model.specs.NamedSums.{IsRefusal}
-use Rattle.limit_rows.proofs.ApartLemmas.{names_apart}
-use Rattle.market_system.specs.MarketSystem.{name, columns, row_variables, variables, variable_of, system_over, row_name, in_order, dual_by, IsVariableOf}
+use Rattle.market_system.specs.MarketSystem.{name, block_columns, excess_columns, row_variables, variables, variable_of, system_over, row_name, in_order, dual_by, IsVariableOf}
 use Rattle.market_system.specs.declared.variables.Variable.{Variable}
 use Rattle.market_system.specs.declared.variables.Variable.TheVariants as variable
-use Rattle.market_system.proofs.VariableLaws.{mapped, in_mapped, of_more, variable_is, is_variable, variable_at}
-use Rattle.market_system.proofs.DualLists.{rows_apart}
-use Rattle.market_system.proofs.RowOrder.{in_order-from, names-ascend, row_name-at}
+use Rattle.market_system.proofs.VariableLaws.{mapped, in_mapped, in_places, of_more, by_block, by_excess, by_row, limit_in, variable_is, is_variable, variable_at}
+use Rattle.market_system.proofs.RowOrder.{in_order-from, row_place-below}
 use Rattle.market_dict.specs.Holding.{HoldsMarket}
+use Rattle.market_dict.proofs.EntryLemmas.{all_ordered}
 use Rattle.market_dict.proofs.HoldingLaws.{at_place}
 
 -- a number that was read, by rank
@@ -56,6 +55,15 @@ cost_at value cost xs names k x same lt is =
     ∙ get_or-map cost names k 0 (whole (pos 0)) (Prim.omega (arith, lt, long))
 
 -- ---- the variables by rank
+-- one whose name is before those of the columns of soft limits
+early : (m : Parts) (v : Variable) → IsVariableOf m (rows m) v → name m v < length m.blocks + 1 + length (rows m) → Contains (block_columns m ++ row_variables (rows m)) v
+early m (variable.Block j) is lt =
+    Contains-append_left (block_columns m) (row_variables (rows m)) (variable.Block j) (in_mapped variable.Block (places (length m.blocks)) j (in_places (length m.blocks) j is))
+early m variable.Balance is lt = Contains-append_right (block_columns m) (row_variables (rows m)) variable.Balance (Contains-head variable.Balance (map variable.Limit (rows m)))
+early m (variable.Limit r) is lt = Contains-append_right (block_columns m) (row_variables (rows m)) (variable.Limit r) (limit_in m (rows m) r is)
+early m (variable.Over r) is lt = absurd (Prim.omega (arith, lt))
+early m (variable.Under r) is lt = absurd (Prim.omega (arith, lt))
+
 module _ (m : Parts) (g : List Row) (d : Dictionary) (market : IsMarket m) (holds : HoldsMarket m g d) where
   abbrev pub listed : List Variable
   listed = variables m (in_order m g)
@@ -74,16 +82,23 @@ module _ (m : Parts) (g : List Row) (d : Dictionary) (market : IsMarket m) (hold
   name_at_rank k lt = ap (λ (ws : List ℕ). slice_index ws k) names_are ∙ get_or-map (name m) listed k variable.Balance 0 (Prim.omega (arith, lt, name_count))
 
   -- it is one over all rows of the market
-  rank_is : (k : ℕ) → k < length d.names → IsVariableOf m (rows m) (at_rank k)
+  pub rank_is : (k : ℕ) → k < length d.names → IsVariableOf m (rows m) (at_rank k)
   rank_is k lt =
       of_more m (in_order m g) (rows m) (λ r c. (in_order-from m g r c).0) (at_rank k)
       (variable_is m (in_order m g) (at_rank k) (at_place listed k variable.Balance (Prim.omega (arith, lt, name_count))))
 
-  pub rank_known : (k : ℕ) → k < length d.names → Contains (map (name m) (variables m (rows m))) (slice_index d.names k)
-  rank_known k lt = subst (Contains (map (name m) (variables m (rows m)))) (sym (name_at_rank k lt)) (in_mapped (name m) (variables m (rows m)) (at_rank k) (is_variable m (rows m) (at_rank k) (rank_is k lt)))
+  pub rank_known : (k w : ℕ) → k < length d.names → w ≡ slice_index d.names k → w < length m.blocks + 1 + length (rows m) → Contains (map (name m) (block_columns m ++ row_variables (rows m))) w
+  rank_known k w lt at below =
+      let is : w ≡ name m (at_rank k) = at ∙ name_at_rank k lt in
+      subst (Contains (map (name m) (block_columns m ++ row_variables (rows m)))) (sym is)
+      (in_mapped (name m) (block_columns m ++ row_variables (rows m)) (at_rank k) (early m (at_rank k) (rank_is k lt) (subst (λ (x : ℕ). x < length m.blocks + 1 + length (rows m)) is below)))
+
+  -- or a column of a soft limit, which costs nothing
+  pub rank_late : (k w : ℕ) → k < length d.names → w ≡ slice_index d.names k → length m.blocks + 1 + length (rows m) ≤ w → length m.blocks + 1 + length (rows m) ≤ name m (at_rank k)
+  rank_late k w lt at behind = subst (λ (x : ℕ). length m.blocks + 1 + length (rows m) ≤ x) (at ∙ name_at_rank k lt) behind
 
   rank_variable : (k : ℕ) → k < length d.names → variable_of m (rows m) (slice_index d.names k) ≡ at_rank k
-  rank_variable k lt = ap (variable_of m (rows m)) (name_at_rank k lt) ∙ variable_at m (rows m) (names-ascend m (rows_apart m (names_apart m market))) (at_rank k) (rank_is k lt)
+  rank_variable k lt = ap (variable_of m (rows m)) (name_at_rank k lt) ∙ variable_at m (rows m) (all_ordered m market) (at_rank k) (rank_is k lt)
 
   -- as it was read
   pub rank_read : (k w : ℕ) (read v : Variable) → k < length d.names → w ≡ slice_index d.names k → read ≡ variable_of m (rows m) w → read ≡ v → at_rank k ≡ v
@@ -103,7 +118,7 @@ module _ (m : Parts) (g : List Row) (d : Dictionary) (market : IsMarket m) (hold
 -- the variable of a name, by kind
 module _ (m : Parts) (market : IsMarket m) where
   named_one : (v : Variable) → IsVariableOf m (rows m) v → (w : ℕ) → w ≡ name m v → v ≡ variable_of m (rows m) w
-  named_one v is w e = sym (ap (variable_of m (rows m)) e ∙ variable_at m (rows m) (names-ascend m (rows_apart m (names_apart m market))) v is)
+  named_one v is w e = sym (ap (variable_of m (rows m)) e ∙ variable_at m (rows m) (all_ordered m market) v is)
 
   pub named_block : (w : ℕ) → w < length m.blocks → variable.Block w ≡ variable_of m (rows m) w
   named_block w lt = named_one (variable.Block w) lt w refl
@@ -114,14 +129,15 @@ module _ (m : Parts) (market : IsMarket m) where
   pub named_limit : (w : ℕ) (r : Row) → Contains (rows m) r → w ≡ row_name m r → variable.Limit r ≡ variable_of m (rows m) w
   named_limit w r c e = named_one (variable.Limit r) c w e
 
-  -- a name is below the count of all
-  pub name_below : (w : ℕ) → Contains (map (name m) (variables m (rows m))) w → w < length m.blocks + 1 + length (rows m)
-  name_below w c = let v = mapped (name m) (variables m (rows m)) w c in subst (λ (x : ℕ). x < length m.blocks + 1 + length (rows m)) v.2 (below v.0 (variable_is m (rows m) v.0 v.1))
-    where
-      below : (v : Variable) → IsVariableOf m (rows m) v → name m v < length m.blocks + 1 + length (rows m)
-      below (variable.Block j) lt = Prim.omega (arith, lt)
-      below variable.Balance is = Prim.omega arith
-      below (variable.Limit r) (i, lt, at) = let named : row_name m r ≡ length m.blocks + 1 + i = ap (row_name m) (sym at) ∙ row_name-at m (rows_apart m (names_apart m market)) i r lt in Prim.omega (arith, named, lt)
+-- a name before those of the columns of soft limits
+pub name_below : (m : Parts) (w : ℕ) → Contains (map (name m) (block_columns m ++ row_variables (rows m))) w → w < length m.blocks + 1 + length (rows m)
+name_below m w c = let v = mapped (name m) (block_columns m ++ row_variables (rows m)) w c in subst (λ (x : ℕ). x < length m.blocks + 1 + length (rows m)) v.2 (below v.0 v.1)
+  where
+    below : (v : Variable) → Contains (block_columns m ++ row_variables (rows m)) v → name m v < length m.blocks + 1 + length (rows m)
+    below v k = elim (Contains-append_cases (block_columns m) (row_variables (rows m)) v k) [
+      | inl h ↦ by_block m (rows m) (λ (u : Variable). name m u < length m.blocks + 1 + length (rows m)) (λ j lt. Prim.omega (arith, lt)) v h
+      | inr h ↦ by_row m (rows m) (λ (u : Variable). name m u < length m.blocks + 1 + length (rows m)) (Prim.omega arith) (λ r q. Prim.omega (arith, row_place-below m r q)) v h
+    ]
 
 -- ---- the duals of variables by what a MW costs on each
 module _ (m : Parts) (cost : ℕ → Fraction) where
@@ -129,6 +145,16 @@ module _ (m : Parts) (cost : ℕ → Fraction) where
   dual_of (variable.Block j) = []
   dual_of variable.Balance = []
   dual_of (variable.Limit r) = dual_by (row_id m r) (cost (row_name m r)) (sign_of (cost (row_name m r)))
+  dual_of (variable.Over r) = []
+  dual_of (variable.Under r) = []
+
+  -- those of the columns of soft limits are none
+  pub late_nothing : (v : Variable) → IsVariableOf m (rows m) v → length m.blocks + 1 + length (rows m) ≤ name m v → (dual_of v ≡ []) × (v ≢ variable.Balance)
+  late_nothing (variable.Block j) is late = absurd (Prim.omega (arith, is, late))
+  late_nothing variable.Balance is late = absurd (Prim.omega (arith, late))
+  late_nothing (variable.Limit r) is late = absurd (Prim.omega (arith, row_place-below m r is, late))
+  late_nothing (variable.Over r) is late = (refl, λ e. absurd Prim.cc)
+  late_nothing (variable.Under r) is late = (refl, λ e. absurd Prim.cc)
 
   abbrev pub duals_to : List Variable → ℕ → List (Dual Fraction)
   duals_to vs k = flat_map dual_of (take k vs)
@@ -144,15 +170,19 @@ module _ (m : Parts) (cost : ℕ → Fraction) where
   pub limits_step : (vs : List Variable) (k : ℕ) (v : Variable) (old new es : List (Dual Fraction)) → k < length vs → get_or vs k variable.Balance ≡ v → old ≡ duals_to vs k → new ≡ old ++ es → es ≡ dual_of v → new ≡ duals_to vs (k + 1)
   limits_step vs k v old new es lt at before more is = more ∙ ap₂ (λ (ds fs : List (Dual Fraction)). ds ++ fs) before (is ∙ ap dual_of (sym at)) ∙ sym (duals_more vs k lt)
 
-  no_duals : (js : List ℕ) → flat_map dual_of (map variable.Block js) ≡ []
-  no_duals [] = refl
-  no_duals (j ∷ js) = flat_map-cons dual_of (variable.Block j) (map variable.Block js) ∙ no_duals js
+  no_duals : (vs : List Variable) → ((v : Variable) → Contains vs v → dual_of v ≡ []) → flat_map dual_of vs ≡ []
+  no_duals [] none = refl
+  no_duals (v ∷ vs) none =
+      flat_map-cons dual_of v vs ∙ ap₂ (λ (ds es : List (Dual Fraction)). ds ++ es) (none v (Contains-head v vs)) (no_duals vs (λ u c. none u (Contains-cons v vs u c)))
 
   pub duals_all : (rs : List Row) (k : ℕ) → length (variables m rs) ≤ k → duals_to (variables m rs) k ≡ flat_map (λ r. dual_of (variable.Limit r)) rs
   duals_all rs k h =
       ap (flat_map dual_of) (take_all k (variables m rs) h)
-      ∙ flat_map-append dual_of (columns m) (row_variables rs)
-      ∙ ap (λ (ds : List (Dual Fraction)). ds ++ flat_map dual_of (row_variables rs)) (no_duals (places (length m.blocks)))
+      ∙ flat_map-append dual_of (block_columns m ++ row_variables rs) (excess_columns m rs)
+      ∙ ap (λ (ds : List (Dual Fraction)). flat_map dual_of (block_columns m ++ row_variables rs) ++ ds) (no_duals (excess_columns m rs) (by_excess m rs (λ (v : Variable). dual_of v ≡ []) (λ r c e. (refl, refl))))
+      ∙ append-nil (flat_map dual_of (block_columns m ++ row_variables rs))
+      ∙ flat_map-append dual_of (block_columns m) (row_variables rs)
+      ∙ ap (λ (ds : List (Dual Fraction)). ds ++ flat_map dual_of (row_variables rs)) (no_duals (block_columns m) (by_block m rs (λ (v : Variable). dual_of v ≡ []) (λ j lt. refl)))
       ∙ flat_map-cons dual_of variable.Balance (map variable.Limit rs)
       ∙ flat_map-map dual_of variable.Limit rs
 

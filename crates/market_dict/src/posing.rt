@@ -7,14 +7,14 @@ ghost use Rattle.market_model.specs.LimitRows.{rows};
 ghost use Rattle.market_model.specs.NamedSums.{IsRefusedIn};
 ghost use Rattle.market_model.specs.Stops.{StopsBy};
 ghost use Rattle.market_model.specs.Valued.{passed_at};
-ghost use Rattle.market_system.specs.MarketSystem.{residual_demand as residual_demand_of, least_added, most_added};
+ghost use Rattle.market_system.specs.MarketSystem.{residual_demand as residual_demand_of, least_added, most_added, objective_price, low, high, columns, row_variables, excess_columns};
 ghost use Rattle.limit_screen.specs.Flows.{flows_at, IsFlowsRefusal};
-ghost use Rattle.market_dict.specs.Holding.{prices as prices_of, lows, highs};
+ghost use Rattle.market_dict.specs.Holding.{prices as prices_of};
 ghost use Rattle.market_dict.specs.Refusals.{IsBoundsRefusal};
 ghost use Rattle.market_dict.specs.PricesAndBounds.{ArePricesAndBounds};
 
 use exact_fraction::{Exact, Passed, exact_difference};
-use limit_rows::{limit_at, row_flow};
+use limit_rows::{excess_at, is_soft, limit_at, penalty_at, row_flow};
 use limit_screen::{bus_injections, flows_made, line_flows};
 use market_model::{Market, Row, Stop, balance, block_quantity, block_value, datum, zeros};
 use plain_list::{List, Memory};
@@ -24,17 +24,36 @@ use std::alloc::Global;
 /// Prices and bounds as the market has them now.
 #[derive(Drop)]
 pub struct PricesAndBounds<N> {
-    /// Of the blocks, in 10^-6 per MWh: the price of a buy, and the opposite of that of a sell.
+    /// In 10^-6 per MWh: of the blocks, the price of a buy, and the opposite of that of a sell; then, for each soft limit in the order
+    /// taken, twice the opposite of its penalty.
     pub prices: List<N>,
-    /// Of the blocks, the balance and the limits in the order taken, in 10^-9 MW: by how much blocks may raise these.
-    pub bounds: List<Bounds<N>>,
+    /// Of the same, in 10^-9 MW: what a block may have accepted, and by how much a limit may be exceeded on either side.
+    pub column_bounds: List<Bounds<N>>,
+    /// Of the balance and the limits in the order taken, in 10^-9 MW: by how much blocks may raise these.
+    pub row_bounds: List<Bounds<N>>,
     /// Where nothing is accepted, what each bus puts in and then what each line carries, in 10^-9 MW.
     pub base_flows: Vec<N>,
 }
 
+impl<N: Exact> PricesAndBounds<N> {
+    /// The bounds of the columns and then of the rows.
+    pub fn bounds(&self, alloc: Global) -> Result<List<Bounds<N>>, Memory>
+        ensures { IfOk result (λ bounds. bounds ≡ self.now.column_bounds ++ self.now.row_bounds) }
+    {
+        let mut bounds = List::new(alloc);
+        for column in self.column_bounds.slice() {
+            bounds.push(*column)?;
+        }
+        for row in self.row_bounds.slice() {
+            bounds.push(*row)?;
+        }
+        Ok(bounds)
+    }
+}
+
 /// What a MW of each block is worth.
 fn block_prices<N: Exact>(alloc: Global, market: &Market) -> Result<List<N>, Memory>
-    ensures { IfOk result (λ prices. map N.value prices ≡ prices_of market.now) }
+    ensures { IfOk result (λ prices. map N.value prices ≡ prices_of market.now []) }
 {
     let mut prices = List::new(alloc);
     for block in market.blocks().slice() {
@@ -62,15 +81,10 @@ fn residual_demand<N: Exact>(market: &Market, base_flows: &[N]) -> Result<N, Pas
     Ok(balance.neg())
 }
 
-/// The bounds of the blocks and of the balance.
-fn first_bounds<N: Exact>(
-    alloc: Global,
-    market: &Market,
-    residual_demand: N,
-) -> Result<List<Bounds<N>>, Memory>
-    requires { N.value residual_demand ≡ residual_demand_of market.now }
-    ensures lows { IfOk result (λ bounds. map (λ b. N.value b.low) bounds ≡ lows market.now []) }
-    ensures highs { IfOk result (λ bounds. map (λ b. N.value b.high) bounds ≡ highs market.now []) }
+/// What each block may have accepted.
+fn block_bounds<N: Exact>(alloc: Global, market: &Market) -> Result<List<Bounds<N>>, Memory>
+    ensures lows { IfOk result (λ bounds. map (λ b. N.value b.low) bounds ≡ map (low market.now) (columns market.now [])) }
+    ensures highs { IfOk result (λ bounds. map (λ b. N.value b.high) bounds ≡ map (high market.now) (columns market.now [])) }
 {
     let low: N = datum(0);
     let mut bounds = List::new(alloc);
@@ -78,6 +92,22 @@ fn first_bounds<N: Exact>(
         let high = block_quantity(block);
         bounds.push(Bounds { low, high })?;
     }
+    Ok(bounds)
+}
+
+/// The bounds of the balance.
+fn balance_bounds<N: Exact>(
+    alloc: Global,
+    market: &Market,
+    base_flows: &[N],
+) -> Result<List<Bounds<N>>, Stop<N>>
+    requires { map N.value base_flows.now ≡ flows_at market.now (empty market.now) }
+    ensures lows { IfOk result (λ bounds. map (λ b. N.value b.low) bounds ≡ map (low market.now) (row_variables [])) }
+    ensures highs { IfOk result (λ bounds. map (λ b. N.value b.high) bounds ≡ map (high market.now) (row_variables [])) }
+    ensures cause { IfErr result (StopsBy N.value (IsRefusedIn (balance_terms market.now (empty market.now)) N.bound)) }
+{
+    let residual_demand = residual_demand(market, base_flows)?;
+    let mut bounds = List::new(alloc);
     bounds.push(Bounds {
         low: residual_demand,
         high: residual_demand,
@@ -113,11 +143,12 @@ pub fn prices_and_bounds<N: Exact>(
 {
     let prices = block_prices(alloc, market)?;
     let base_flows = base_flows_of(alloc, market)?;
-    let residual_demand = residual_demand(market, &base_flows)?;
-    let bounds = first_bounds(alloc, market, residual_demand)?;
+    let column_bounds = block_bounds(alloc, market)?;
+    let row_bounds = balance_bounds(alloc, market, &base_flows)?;
     let mut posing = PricesAndBounds {
         prices,
-        bounds,
+        column_bounds,
+        row_bounds,
         base_flows,
     };
     for row in taken {
@@ -126,7 +157,35 @@ pub fn prices_and_bounds<N: Exact>(
     Ok(posing)
 }
 
-/// The same with the bounds of one limit more.
+/// Adds the prices and bounds of the two columns of a soft limit.
+fn take_columns<N: Exact>(
+    market: &Market,
+    posing: &mut PricesAndBounds<N>,
+    row: Row,
+) -> Result<(), Memory>
+    requires row { Contains (rows market.now) row }
+    ensures prices { IfOk result (λ _. map N.value posing.new.prices ≡ map N.value posing.old.prices ++ map (objective_price market.now) (excess_columns market.now (row ∷ []))) }
+    ensures lows { IfOk result (λ _. map (λ b. N.value b.low) posing.new.column_bounds ≡ map (λ b. N.value b.low) posing.old.column_bounds ++ map (low market.now) (excess_columns market.now (row ∷ []))) }
+    ensures highs { IfOk result (λ _. map (λ b. N.value b.high) posing.new.column_bounds ≡ map (λ b. N.value b.high) posing.old.column_bounds ++ map (high market.now) (excess_columns market.now (row ∷ []))) }
+    ensures rest { (posing.new.row_bounds ≡ posing.old.row_bounds) × (posing.new.base_flows ≡ posing.old.base_flows) }
+{
+    let _lines = market.lines();
+    if !is_soft(market, row) {
+        return Ok(());
+    }
+    let penalty: N = datum(penalty_at(market, row));
+    let bounds = Bounds {
+        low: datum(0),
+        high: datum(excess_at(market, row)),
+    };
+    posing.prices.push(penalty.neg())?;
+    posing.prices.push(penalty.neg())?;
+    posing.column_bounds.push(bounds)?;
+    posing.column_bounds.push(bounds)?;
+    Ok(())
+}
+
+/// The same with one limit more: its bounds, and the prices and bounds of its columns where it is soft.
 pub fn take_bounds<N: Exact>(
     market: &Market,
     posing: &mut PricesAndBounds<N>,
@@ -138,6 +197,7 @@ pub fn take_bounds<N: Exact>(
     ensures cause { IfErr result (StopsBy N.value (IsBoundsRefusal market.now (row ∷ []) N.bound)) }
 {
     let bounds = row_bounds(market, &posing.base_flows, row)?;
-    posing.bounds.push(bounds)?;
+    take_columns(market, posing, row)?;
+    posing.row_bounds.push(bounds)?;
     Ok(())
 }

@@ -18,7 +18,7 @@ ghost use Rattle.market_dict.specs.Holding.{HoldsMarket, HoldsSystem};
 
 use crate::names::{name_of, variable_of};
 use exact_fraction::{Exact, Passed, Sign, exact_difference};
-use limit_rows::name_at;
+use limit_rows::{count, name_at};
 use linear_dict::{Dict, Place};
 use market_model::{Dual, Duals, Farkas, Market, RowId, Stop, datum};
 use market_system::Variable;
@@ -63,7 +63,8 @@ fn push_dual<N: Exact>(limits: &mut List<Dual<N>>, row: RowId, cost: N) -> Resul
     }
 }
 
-/// The duals of what a MW costs on the balance and on the flow of each limit taken, of what it costs on each variable by rank.
+/// The duals of what a MW costs on the balance and on the flow of each limit taken, of what it costs on each variable by rank. The
+/// columns of soft limits are behind these, and none of theirs is read.
 fn duals_by<N: Exact>(
     alloc: Global,
     market: &Market,
@@ -78,11 +79,18 @@ fn duals_by<N: Exact>(
     let _lines = market.lines();
     let mut energy: N = datum(0);
     let mut limits = List::new(alloc);
+    let behind = market.blocks().len() + 1 + count(market);
     for rank in 0..costs.len() {
-        match variable_of(market, dict.ranked(rank)) {
+        let name = dict.ranked(rank);
+        if name as usize >= behind {
+            continue;
+        }
+        match variable_of(market, name) {
             Variable::Block(_) => {}
             Variable::Balance => energy = costs[rank].neg(),
             Variable::Limit(row) => push_dual(&mut limits, name_at(market, row), costs[rank])?,
+            Variable::Over(_) => {}
+            Variable::Under(_) => {}
         }
     }
     Ok(Duals { energy, limits })

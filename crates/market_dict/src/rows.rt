@@ -7,12 +7,13 @@ ghost use Rattle.linear_dict.specs.Causes.{IsPairOf};
 ghost use Rattle.market_model.specs.Stops.{OnPassed};
 ghost use Rattle.market_model.specs.SumTables.{FactorSum, IsRefusedAmong};
 ghost use Rattle.market_model.specs.Valued.{passed_at};
-ghost use Rattle.market_system.specs.MarketSystem.{system_of};
-ghost use Rattle.market_dict.specs.Holding.{HoldsMarket};
+ghost use Rattle.market_system.specs.MarketSystem.{columns as columns_of, system_of};
+ghost use Rattle.market_dict.specs.Holding.{HasPutIn, HoldsMarket};
 
 use crate::entries::{balance_entries, row_entries};
 use crate::names::{block_names, name_of};
 use exact_fraction::Exact;
+use limit_rows::is_soft;
 use linear_dict::{AddStop, Dict};
 use market_model::{Market, Row, Stop};
 use market_system::Variable;
@@ -30,7 +31,22 @@ pub fn start<N: Exact>(alloc: Global, market: &Market) -> Result<Dict<N>, Memory
     Dict::start(alloc, names.slice(), balance, entries.slice())
 }
 
-/// Puts in a limit row as the last one.
+/// Puts in the two columns of a soft limit, which count nothing in the rows so far; of a hard one there are none.
+fn put_columns<N: Exact>(market: &Market, dict: &mut Dict<N>, row: Row) -> Result<(), Memory>
+    requires row { Contains (rows market.now) row }
+    requires holds { (g : List Row) × HoldsMarket market.now g dict.old × ¬ (Contains g row) }
+    ensures { (g : List Row) → HoldsMarket market.now g dict.old → ¬ (Contains g row) → IfOk result (λ _. HasPutIn market.now (columns_of market.now (g ++ row ∷ [])) g dict.new) }
+{
+    let _lines = market.lines();
+    if !is_soft(market, row) {
+        return Ok(());
+    }
+    dict.add_column(name_of(market, Variable::Over(row)))?;
+    dict.add_column(name_of(market, Variable::Under(row)))?;
+    Ok(())
+}
+
+/// Puts in a limit row as the last one, and before it its columns where it is soft. After an error the dictionary is of no use.
 pub fn take_limit<N: Exact>(
     alloc: Global,
     market: &Market,
@@ -43,7 +59,8 @@ pub fn take_limit<N: Exact>(
     ensures cause { (g : List Row) → HoldsMarket market.now g dict.old → IfErr result (λ stop. OnPassed stop (λ p. IsPairOf N.value N.bound (system_of market.now (g ++ row ∷ [])) p ⊎ IsRefusedAmong (FactorSum market.now row) N.bound (passed_at N.value p))) }
 {
     let _lines = market.lines();
-    let entries = row_entries(alloc, market, row)?;
+    let entries = row_entries(alloc, market, row, dict.column_count())?;
+    put_columns(market, dict, row)?;
     let name = name_of(market, Variable::Limit(row));
     match dict.add_row(name, entries.slice()) {
         Ok(()) => Ok(()),

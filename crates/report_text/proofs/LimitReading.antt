@@ -1,17 +1,25 @@
 -- The lines of limits are of the limits that they tell.
-use Rattle.std.specs.Prelude.{◌≡◌, ◌≢◌, ℕ, ◌==◌, Bool, true, false, List, [], ◌∷◌, ◌++◌, length, map, codes, if◌then◌else◌, refl}
+use Rattle.std.specs.Prelude.{◌≡◌, ◌≢◌, ℕ, ◌==◌, All, Bool, true, false, List, [], ◌∷◌, ◌++◌, length, map, codes, if◌then◌else◌, refl}
 use Rattle.std.specs.List.{AllByRecursion, flat_map, zip}
 use Rattle.std.proofs.Common.{arith, ap, sym, ◌∙◌, subst, append_assoc}
 use Rattle.std.proofs.lemmas.Bool.Decides.{nat_tests}
 use Rattle.std.proofs.lemmas.List.{append_cancel_left, length-map}
+use Rattle.std.proofs.lemmas.List.Elements.{All-tail}
 use Rattle.std.proofs.lemmas.Slice.Zip.{firsts-zip, seconds-zip}
 use Rattle.fraction_theory.specs.Fraction.{Fraction}
+use Rattle.fraction_theory.specs.Order.{◌≤ℚ◌}
+use Rattle.fraction_theory.specs.Signs.{sign_of}
+use Rattle.fraction_theory.specs.declared.Sign.{Sign}
+use Rattle.fraction_theory.specs.declared.Sign.TheVariants.{Below, Zero, Above}
+use Rattle.fraction_theory.proofs.OrderLaws.{<ℚ-not-≤ℚ}
+use Rattle.fraction_theory.proofs.SignLaws.{IsSign, sign_of_is}
 use Rattle.exact_fraction.specs.Written.{number_text, written}
 use Rattle.market_data.specs.Scales.{money_places, mw_places, price_places}
 use Rattle.market_model.specs.declared.answered.Dual.{Dual}
 use Rattle.market_model.specs.declared.answered.Rent.{Rent}
 use Rattle.market_model.specs.declared.answered.RowId.{RowId}
-use Rattle.report_text.specs.Reports.{outage_text, row_text, rent_text, limit_text}
+use Rattle.market_model.specs.Dispatch.{zero}
+use Rattle.report_text.specs.Reports.{outage_text, over_text, over_text_by, row_text, rent_text, limit_text}
 use Rattle.report_text.proofs.Amounts.{head_of, named_apart, number_apart}
 
 -- ---- the name of a limit
@@ -71,42 +79,72 @@ limit_apart d e us vs h =
     in_order : (r a x b y n ts : List ℕ) → (r ++ a ++ x ++ b ++ y ++ n) ++ ts ≡ r ++ (a ++ (x ++ (b ++ (y ++ (n ++ ts)))))
     in_order r a x b y n ts = Prim.simp append_assoc
 
--- a limit's duals and its rent, which are of one row
+-- a limit's duals and its rent
 abbrev Entry : Type 0
 Entry = Dual Fraction × Rent Fraction
 
-abbrev OfOneRow : Entry → Type 0
-OfOneRow p = p.1.row ≡ p.0.row
+-- they are of one row, and the flow exceeds its limit by no less than 0
+record IsEntry (p : Entry) : Type 0 where
+  row : p.1.row ≡ p.0.row
+  over : zero ≤ℚ p.1.over
 
 abbrev entry_text : Entry → List ℕ
 entry_text p = rent_text p.0 p.1
 
-same_rent : (r s : Rent Fraction) → r.row ≡ s.row → r.flow ≡ s.flow → r.rent ≡ s.rent → r ≡ s
-same_rent r s p q t =
-    let make : RowId → Fraction → Fraction → Rent Fraction = λ u v w. record { row = u; flow = v; rent = w } in
-    ap (λ u. make u r.flow r.rent) p ∙ ap (λ v. make s.row v r.rent) q ∙ ap (make s.row s.flow) t
+same_rent : (r s : Rent Fraction) → r.row ≡ s.row → r.flow ≡ s.flow → r.over ≡ s.over → r.rent ≡ s.rent → r ≡ s
+same_rent r s p q o t =
+    let make : RowId → Fraction → Fraction → Fraction → Rent Fraction = λ u v x w. record { row = u; flow = v; over = x; rent = w } in
+    ap (λ u. make u r.flow r.over r.rent) p ∙ ap (λ v. make s.row v r.over r.rent) q ∙ ap (λ x. make s.row s.flow x r.rent) o ∙ ap (make s.row s.flow s.over) t
 
 same_entry : (p q : Entry) → p.0 ≡ q.0 → p.1 ≡ q.1 → p ≡ q
 same_entry p q e f = ap (λ (d : Dual Fraction). (d, p.1)) e ∙ ap (λ (r : Rent Fraction). (q.0, r)) f
 
--- what stands behind the name of a limit
-abbrev behind_name : Entry → List ℕ → List ℕ
-behind_name p ts = codes "flow " ++ (written mw_places p.1.flow ++ 32 ∷ (codes "up " ++ (written price_places p.0.up ++ 32 ∷ (codes "down " ++ (written price_places p.0.down ++ 32 ∷ (codes "rent " ++ (written money_places p.1.rent ++ 10 ∷ ts)))))))
+-- what stands behind the blank after a flow: by how much it exceeds its limit, or at once what comes next
+abbrev over_behind : Sign → Fraction → List ℕ → List ℕ
+over_behind Below over ts = ts
+over_behind Zero over ts = ts
+over_behind Above over ts = codes "over " ++ (written mw_places over ++ 32 ∷ ts)
 
-entry_apart : (p q : Entry) → OfOneRow p → OfOneRow q → (us vs : List ℕ) → entry_text p ++ us ≡ entry_text q ++ vs → (p ≡ q) × (us ≡ vs)
+blank_first : (s : Sign) (over : Fraction) (ts : List ℕ) → over_text_by s over ++ 32 ∷ ts ≡ 32 ∷ over_behind s over ts
+blank_first Below over ts = refl
+blank_first Zero over ts = refl
+blank_first Above over ts = append_assoc (codes " over ") (written mw_places over) (32 ∷ ts)
+
+-- it is read back where another word than `over` comes next, and where it is no less than 0
+overs_apart : (s t : Sign) (x y : Fraction) → IsSign s x → IsSign t y → zero ≤ℚ x → zero ≤ℚ y → (us vs : List ℕ) → over_behind s x (codes "up " ++ us) ≡ over_behind t y (codes "up " ++ vs)
+    → (x ≡ y) × (codes "up " ++ us ≡ codes "up " ++ vs)
+overs_apart Below t x y p q g h us vs e = absurd (<ℚ-not-≤ℚ x zero p g)
+overs_apart s Below x y p q g h us vs e = absurd (<ℚ-not-≤ℚ y zero q h)
+overs_apart Zero Zero x y p q g h us vs e = (p ∙ sym q, e)
+overs_apart Zero Above x y p q g h us vs e = absurd (Prim.omega (arith, head_of 117 111 _ _ e))
+overs_apart Above Zero x y p q g h us vs e = absurd (Prim.omega (arith, head_of 111 117 _ _ e))
+overs_apart Above Above x y p q g h us vs e = named_apart (codes "over ") mw_places 32 x y (codes "up " ++ us) (codes "up " ++ vs) (Prim.omega arith) e
+
+-- what stands behind the prices' first word, and behind the name of a limit
+abbrev behind_up : Entry → List ℕ → List ℕ
+behind_up p ts = written price_places p.0.up ++ 32 ∷ (codes "down " ++ (written price_places p.0.down ++ 32 ∷ (codes "rent " ++ (written money_places p.1.rent ++ 10 ∷ ts))))
+
+abbrev behind_name : Entry → List ℕ → List ℕ
+behind_name p ts = codes "flow " ++ (written mw_places p.1.flow ++ 32 ∷ over_behind (sign_of p.1.over) p.1.over (codes "up " ++ behind_up p ts))
+
+entry_opened : (x : Entry) (ts : List ℕ) → entry_text x ++ ts ≡ row_text x.0.row ++ 32 ∷ behind_name x ts
 unfolding rent_text
+entry_opened x ts =
+    in_order (row_text x.0.row) (codes " flow ") (written mw_places x.1.flow) (over_text x.1.over) (codes " up ") (written price_places x.0.up) (codes " down ") (written price_places x.0.down) (codes " rent ") (written money_places x.1.rent) (codes "\n") ts
+    ∙ ap (λ o. row_text x.0.row ++ (codes " flow " ++ (written mw_places x.1.flow ++ o))) (blank_first (sign_of x.1.over) x.1.over (codes "up " ++ behind_up x ts))
+  where
+    in_order : (r a f o b x c y d z n ts : List ℕ) → (r ++ a ++ f ++ o ++ b ++ x ++ c ++ y ++ d ++ z ++ n) ++ ts ≡ r ++ (a ++ (f ++ (o ++ (b ++ (x ++ (c ++ (y ++ (d ++ (z ++ (n ++ ts))))))))))
+    in_order r a f o b x c y d z n ts = Prim.simp append_assoc
+
+entry_apart : (p q : Entry) → IsEntry p → IsEntry q → (us vs : List ℕ) → entry_text p ++ us ≡ entry_text q ++ vs → (p ≡ q) × (us ≡ vs)
 entry_apart p q g h us vs e =
-    let opened = λ (x : Entry) (ts : List ℕ).
-    in_order (row_text x.0.row) (codes " flow ") (written mw_places x.1.flow) (codes " up ") (written price_places x.0.up) (codes " down ") (written price_places x.0.down) (codes " rent ") (written money_places x.1.rent) (codes "\n") ts in
-    let row = rows_apart p.0.row q.0.row (behind_name p us) (behind_name q vs) (sym (opened p us) ∙ e ∙ opened q vs) in
+    let row = rows_apart p.0.row q.0.row (behind_name p us) (behind_name q vs) (sym (entry_opened p us) ∙ e ∙ entry_opened q vs) in
     let flow = named_apart (codes "flow ") mw_places 32 p.1.flow q.1.flow _ _ (Prim.omega arith) row.1 in
-    let up = named_apart (codes "up ") price_places 32 p.0.up q.0.up _ _ (Prim.omega arith) flow.1 in
+    let over = overs_apart (sign_of p.1.over) (sign_of q.1.over) p.1.over q.1.over (sign_of_is p.1.over _ refl) (sign_of_is q.1.over _ refl) g.over h.over (behind_up p us) (behind_up q vs) flow.1 in
+    let up = named_apart (codes "up ") price_places 32 p.0.up q.0.up _ _ (Prim.omega arith) over.1 in
     let down = named_apart (codes "down ") price_places 32 p.0.down q.0.down _ _ (Prim.omega arith) up.1 in
     let rent = named_apart (codes "rent ") money_places 10 p.1.rent q.1.rent us vs (Prim.omega arith) down.1 in
-    (same_entry p q (same_dual p.0 q.0 row.0 up.0 down.0) (same_rent p.1 q.1 (g ∙ row.0 ∙ sym h) flow.0 rent.0), rent.1)
-  where
-    in_order : (r a f b x c y d z n ts : List ℕ) → (r ++ a ++ f ++ b ++ x ++ c ++ y ++ d ++ z ++ n) ++ ts ≡ r ++ (a ++ (f ++ (b ++ (x ++ (c ++ (y ++ (d ++ (z ++ (n ++ ts)))))))))
-    in_order r a f b x c y d z n ts = Prim.simp append_assoc
+    (same_entry p q (same_dual p.0 q.0 row.0 up.0 down.0) (same_rent p.1 q.1 (g.row ∙ row.0 ∙ sym h.row) flow.0 over.0 rent.0), rent.1)
 
 -- ---- all lines of limits, and what comes after them
 -- the second letter is not that of `limit`
@@ -148,19 +186,21 @@ limits_apart ds es us vs p q e = lines_end limit_text (λ d. Unit {0}) (λ d f g
     all [] = tt
     all (d ∷ ds) = (tt, all ds)
 
-of_one_row : (ds : List (Dual Fraction)) (rs : List (Rent Fraction)) → map (λ r. r.row) rs ≡ map (λ d. d.row) ds → AllByRecursion OfOneRow (zip ds rs)
-of_one_row [] rs e = tt
-of_one_row (d ∷ ds) [] e = tt
-of_one_row (d ∷ ds) (r ∷ rs) e = (Prim.cc, of_one_row ds rs Prim.cc)
+are_entries : (ds : List (Dual Fraction)) (rs : List (Rent Fraction)) → map (λ r. r.row) rs ≡ map (λ d. d.row) ds → All (λ (r : Rent Fraction). zero ≤ℚ r.over) rs → AllByRecursion IsEntry (zip ds rs)
+are_entries [] rs e o = tt
+are_entries (d ∷ ds) [] e o = tt
+are_entries (d ∷ ds) (r ∷ rs) e o =
+    let behind : map (λ r. r.row) rs ≡ map (λ d. d.row) ds = Prim.cc in
+    (record { row = Prim.cc; over = o 0 r (Prim.omega arith) }, are_entries ds rs behind (All-tail (λ (s : Rent Fraction). zero ≤ℚ s.over) r rs o))
 
 pub as_many : (ds : List (Dual Fraction)) (rs : List (Rent Fraction)) → map (λ r. r.row) rs ≡ map (λ d. d.row) ds → length rs ≡ length ds
 as_many ds rs e = sym (length-map rs (λ (r : Rent Fraction). r.row)) ∙ ap length e ∙ length-map ds (λ (d : Dual Fraction). d.row)
 
 -- the limits of an answer
-pub rents_apart : (ds es : List (Dual Fraction)) (rs ss : List (Rent Fraction)) → map (λ r. r.row) rs ≡ map (λ d. d.row) ds → map (λ r. r.row) ss ≡ map (λ d. d.row) es → (us vs : List ℕ) → EndsLimits us → EndsLimits vs
+pub rents_apart : (ds es : List (Dual Fraction)) (rs ss : List (Rent Fraction)) → map (λ r. r.row) rs ≡ map (λ d. d.row) ds → map (λ r. r.row) ss ≡ map (λ d. d.row) es → All (λ (r : Rent Fraction). zero ≤ℚ r.over) rs → All (λ (r : Rent Fraction). zero ≤ℚ r.over) ss → (us vs : List ℕ) → EndsLimits us → EndsLimits vs
     → flat_map entry_text (zip ds rs) ++ us ≡ flat_map entry_text (zip es ss) ++ vs → (ds ≡ es) × (rs ≡ ss) × (us ≡ vs)
-rents_apart ds es rs ss p q us vs g h e =
-    let t = lines_end entry_text OfOneRow entry_apart entry_begins (zip ds rs) (zip es ss) (of_one_row ds rs p) (of_one_row es ss q) us vs g h e in (
+rents_apart ds es rs ss p q o w us vs g h e =
+    let t = lines_end entry_text IsEntry entry_apart entry_begins (zip ds rs) (zip es ss) (are_entries ds rs p o) (are_entries es ss q w) us vs g h e in (
       sym (firsts-zip ds rs (as_many ds rs p)) ∙ ap (map (λ (x : Entry). x.0)) t.0 ∙ firsts-zip es ss (as_many es ss q),
       sym (seconds-zip ds rs (as_many ds rs p)) ∙ ap (map (λ (x : Entry). x.1)) t.0 ∙ seconds-zip es ss (as_many es ss q),
       t.1,

@@ -5,6 +5,8 @@ use Rattle.std.proofs.Common.{ap, sym, subst, ◌∙◌, arith, append_assoc}
 use Rattle.std.proofs.lemmas.List.{append_cancel_left}
 use Rattle.std.proofs.lemmas.List.Elements.{All-map}
 use Rattle.fraction_theory.specs.Fraction.{Fraction}
+use Rattle.fraction_theory.specs.Order.{◌≤ℚ◌}
+use Rattle.fraction_theory.proofs.SignLaws.{part_least}
 use Rattle.exact_fraction.specs.Written.{written, parts_text}
 use Rattle.exact_fraction.specs.declared.Op.{Op}
 use Rattle.exact_fraction.specs.declared.Op.TheVariants as op
@@ -17,8 +19,10 @@ use Rattle.market_model.specs.declared.answered.Farkas.{Farkas}
 use Rattle.market_model.specs.declared.answered.Outcome.{Outcome}
 use Rattle.market_model.specs.declared.answered.Outcome.TheVariants as outcome
 use Rattle.market_model.specs.declared.answered.Price.{Price}
-use Rattle.market_model.specs.Dispatch.{places}
-use Rattle.market_model.specs.RightAnswers.{IsRight, IsRightBy, price_made}
+use Rattle.market_model.specs.declared.answered.Rent.{Rent}
+use Rattle.market_model.specs.Dispatch.{places, zero}
+use Rattle.market_model.specs.Optimality.{named_rows}
+use Rattle.market_model.specs.RightAnswers.{IsRight, IsRightBy, dispatch_in, price_made, rent_of}
 use Rattle.market_model.proofs.RightFits.{fits_by_right}
 use Rattle.report_text.specs.Reports.{head_text, cleared_text, limit_text, bound_text, plain_energy_text, infeasible_text, op_text, range_text, report_text}
 use Rattle.report_text.specs.ReportLaws.{FitsReport, OutcomeFitsReport, ReportsApart, RightReportsApart}
@@ -112,6 +116,8 @@ answer_fits m a right = record {
   fits = fits_by_right m a right;
   energy = subst (All (λ (p : Price Fraction). p.energy ≡ a.duals.energy)) (sym (ap (λ (b : Answer Fraction). b.prices) right.made))
       (All-map (λ (p : Price Fraction). p.energy ≡ a.duals.energy) (price_made m a.duals) (places (length m.buses)) (λ k d lt. refl));
+  over = subst (All (λ (r : Rent Fraction). zero ≤ℚ r.over)) (sym (ap (λ (b : Answer Fraction). b.money.rents) right.made))
+      (All-map (λ (r : Rent Fraction). zero ≤ℚ r.over) (rent_of m (dispatch_in a) a.duals) (named_rows m a.duals) (λ k d lt. (part_least _).0));
 }
 
 pub outcome_fits : (P : Passed Fraction → Type 0) (m : Parts) (a : Outcome Fraction) → IsRightBy P m a → OutcomeFitsReport m a

@@ -64,9 +64,9 @@ count_push p xs x =
     by_test false e = Prim.rw e (length-append (filter p xs) [] ∙ ap (λ n. n + 0) (length-filter p xs))
 
 -- the line of a limit, part by part
-pub line_grown : (t r a f b x c y d z n u₀ u₁ u₂ u₃ u₄ : List ℕ) → u₀ ≡ t ++ r → u₁ ≡ u₀ ++ a ++ f → u₂ ≡ u₁ ++ b ++ x → u₃ ≡ u₂ ++ c ++ y → u₄ ≡ u₃ ++ d ++ z
-    → u₄ ++ n ≡ t ++ (r ++ a ++ f ++ b ++ x ++ c ++ y ++ d ++ z ++ n)
-line_grown t r a f b x c y d z n u₀ u₁ u₂ u₃ u₄ e₀ e₁ e₂ e₃ e₄ = Prim.rw (e₄, e₃, e₂, e₁, e₀) Prim.simp append_assoc
+pub line_grown : (t r a f o b x c y d z n u₀ u₁ u₂ u₃ u₄ u₅ : List ℕ) → u₀ ≡ t ++ r → u₁ ≡ u₀ ++ a ++ f → u₂ ≡ u₁ ++ o → u₃ ≡ u₂ ++ b ++ x → u₄ ≡ u₃ ++ c ++ y → u₅ ≡ u₄ ++ d ++ z
+    → u₅ ++ n ≡ t ++ (r ++ a ++ f ++ o ++ b ++ x ++ c ++ y ++ d ++ z ++ n)
+line_grown t r a f o b x c y d z n u₀ u₁ u₂ u₃ u₄ u₅ e₀ e₁ e₂ e₃ e₄ e₅ = Prim.rw (e₅, e₄, e₃, e₂, e₁, e₀) Prim.simp append_assoc
 
 -- the places that pass a test, with one place more
 pub count_more : (p : ℕ → Bool) (k : ℕ) (b : Bool) → p k ≡ b → count_by p (places (k + 1)) ≡ count_by p (places k) + (if b then 1 else 0)

@@ -160,7 +160,7 @@ answers_apart m a b p q us vs e =
     let prices = lines_apart (bus_line_at m a) (bus_line_at m b) (λ k. SamePrice (price_of a k) (price_of b k)) (λ k. bus_apart (bus_at m k).number (price_of a k) (price_of b k)) buses _ _ head.2 in
     let dispatch = lines_apart (block_line_at m a) (block_line_at m b) (λ k. mw_of a k ≡ mw_of b k)
     (λ k. block_apart (unit_at m (block_at m k).unit).row (block_at m k).side (block_number m k) (mw_of a k) (mw_of b k)) blocks _ _ prices.1 in
-    let rents = rents_apart a.duals.limits b.duals.limits a.money.rents b.money.rents p.fits.money.rents q.fits.money.rents (last_lines m a us) (last_lines m b vs) (last_ends m a us) (last_ends m b vs) dispatch.1 in
+    let rents = rents_apart a.duals.limits b.duals.limits a.money.rents b.money.rents p.fits.money.rents q.fits.money.rents p.over q.over (last_lines m a us) (last_lines m b vs) (last_ends m a us) (last_ends m b vs) dispatch.1 in
     let pays = lines_apart (unit_line_at m a) (unit_line_at m b) (λ k. pay_of a k ≡ pay_of b k) (λ k. unit_apart (unit_at m k).row (pay_of a k) (pay_of b k)) units _ _ rents.2 in
     let loads = lines_apart (load_line_at m a) (load_line_at m b) (λ k. load_of a k ≡ load_of b k) (λ k. load_apart (bus_at m k).number (load_of a k) (load_of b k)) buses _ _ pays.1 in
     let last = surplus_apart a.money.surplus b.money.surplus us vs loads.1 in (

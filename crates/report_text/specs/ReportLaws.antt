@@ -1,18 +1,22 @@
 -- A report has one reading.
 use Rattle.std.specs.Prelude.{◌≡◌, All}
 use Rattle.fraction_theory.specs.Fraction.{Fraction}
+use Rattle.fraction_theory.specs.Order.{◌≤ℚ◌}
 use Rattle.market_model.specs.declared.participants.Parts.{Parts}
 use Rattle.market_model.specs.declared.answered.Answer.{Answer}
 use Rattle.market_model.specs.declared.answered.Outcome.{Outcome}
 use Rattle.market_model.specs.declared.answered.Outcome.TheVariants as outcome
+use Rattle.market_model.specs.Dispatch.{zero}
 use Rattle.market_model.specs.Fitting.{FitsMarket}
 use Rattle.market_model.specs.RightAnswers.{IsRightBy}
 use Rattle.report_text.specs.Reports.{report_text}
 
--- an entry for each part of the market and a rent for each limit with duals, and each bus price made from the one price of energy
+-- An entry for each part of the market and a rent for each limit with duals, and each bus price made from the one price of energy. No flow
+-- exceeds its limit by less than 0: a report is silent where it does not exceed it.
 pub record FitsReport (m : Parts) (a : Answer Fraction) : Type 0 where
   pub fits : FitsMarket m a
   pub energy : All (λ p. p.energy ≡ a.duals.energy) a.prices
+  pub over : All (λ r. zero ≤ℚ r.over) a.money.rents
 
 -- an answer in an outcome does
 abbrev pub OutcomeFitsReport : Parts → Outcome Fraction → Type 0

@@ -1,7 +1,10 @@
 -- The report of what a clear came to, line by line.
-use Rattle.std.specs.Prelude.{ℕ, ◌+◌, Bool, ◌&&◌, ◌==◌, List, ◌++◌, length, count_by, codes, decimal, if◌then◌else◌}
+use Rattle.std.specs.Prelude.{ℕ, ◌+◌, Bool, ◌&&◌, ◌==◌, List, [], ◌++◌, length, count_by, codes, decimal, if◌then◌else◌}
 use Rattle.std.specs.List.{flat_map, zip}
 use Rattle.fraction_theory.specs.Fraction.{Fraction}
+use Rattle.fraction_theory.specs.Signs.{sign_of}
+use Rattle.fraction_theory.specs.declared.Sign.{Sign}
+use Rattle.fraction_theory.specs.declared.Sign.TheVariants.{Below, Zero, Above}
 use Rattle.exact_fraction.specs.Written.{number_text, written, parts_text}
 use Rattle.exact_fraction.specs.declared.Op.{Op}
 use Rattle.exact_fraction.specs.declared.Op.TheVariants as op
@@ -57,9 +60,18 @@ outage_text row = if row == 0 then codes " base" else codes " after " ++ number_
 unfoldable pub row_text : RowId → List ℕ
 row_text id = codes "limit " ++ number_text id.branch ++ outage_text id.outage
 
--- the flow of a limit, its two prices and what it earns
+-- by how much a flow exceeds its limit, where it does
+abbrev pub over_text_by : Sign → Fraction → List ℕ
+over_text_by Below over = []
+over_text_by Zero over = []
+over_text_by Above over = codes " over " ++ written mw_places over
+
+abbrev pub over_text : Fraction → List ℕ
+over_text over = over_text_by (sign_of over) over
+
+-- the flow of a limit, by how much it exceeds it, its two prices and what it earns
 unfoldable pub rent_text : Dual Fraction → Rent Fraction → List ℕ
-rent_text d r = row_text d.row ++ codes " flow " ++ written mw_places r.flow ++ codes " up " ++ written price_places d.up ++ codes " down " ++ written price_places d.down ++ codes " rent " ++ written money_places r.rent ++ codes "\n"
+rent_text d r = row_text d.row ++ codes " flow " ++ written mw_places r.flow ++ over_text r.over ++ codes " up " ++ written price_places d.up ++ codes " down " ++ written price_places d.down ++ codes " rent " ++ written money_places r.rent ++ codes "\n"
 
 -- a unit's output and what it is paid
 unfoldable pub unit_text : ℕ → UnitPay Fraction → List ℕ

@@ -3,10 +3,10 @@
 ghost use Rattle.std.specs.Prelude.{◌≡◌, ◌++◌, length, map, IfOk};
 ghost use Rattle.std.specs.List.{flat_map};
 ghost use Rattle.exact_fraction.specs.Written.{number_text};
-ghost use Rattle.report_text.specs.Reports.{outage_text, row_text, rent_text, lines_of_limits, limit_text};
+ghost use Rattle.report_text.specs.Reports.{outage_text, over_text, row_text, rent_text, lines_of_limits, limit_text};
 ghost use Rattle.market_model.specs.Valued.{dual_at, rent_at, answer_at};
 
-use exact_fraction::Exact;
+use exact_fraction::{Exact, Sign};
 use line_text::Text;
 use market_model::{
     Answer, Dual, List, MONEY_PLACES, MW_PLACES, Memory, PRICE_PLACES, Rent, RowId,
@@ -39,13 +39,24 @@ fn row_words(text: &mut Text, row: RowId) -> Result<(), Memory>
     outage_words(text, row.outage)
 }
 
-/// The flow of a limit, its duals and what it earns.
+/// By how much a flow exceeds its limit; nothing where it does not.
+fn over_words<N: Exact>(text: &mut Text, over: N) -> Result<(), Memory>
+    ensures { IfOk result (λ _. text.new ≡ text.old ++ over_text (N.value over)) }
+{
+    match over.sign() {
+        Sign::Above => text.named(b" over ", over, MW_PLACES),
+        Sign::Below | Sign::Zero => Ok(()),
+    }
+}
+
+/// The flow of a limit, by how much it exceeds it, its duals and what it earns.
 fn rent_line<N: Exact>(text: &mut Text, dual: &Dual<N>, rent: &Rent<N>) -> Result<(), Memory>
     ensures { IfOk result (λ _. text.new ≡ text.old
         ++ rent_text (dual_at N.value dual.now) (rent_at N.value rent.now)) }
 {
     row_words(text, dual.row)?;
     text.named(b" flow ", rent.flow, MW_PLACES)?;
+    over_words(text, rent.over)?;
     text.named(b" up ", dual.up, PRICE_PLACES)?;
     text.named(b" down ", dual.down, PRICE_PLACES)?;
     text.named(b" rent ", rent.rent, MONEY_PLACES)?;

@@ -2,3 +2,4 @@ pub mod ListLemmas
 pub mod PayLemmas
 pub mod RowLemmas
 pub mod MoneyLemmas
+pub mod WorthLemmas

@@ -1,9 +1,9 @@
--- Outputs, demands and prices, and what is worth, paid and refused of them.
-use Rattle.std.specs.Prelude.{◌≡◌, ◌⊎◌, ℕ, ◌+◌, ◌<◌, List, [], ◌∷◌, map, length, refl}
-use Rattle.std.proofs.Common.{ap, ap₂, sym, subst, ◌∙◌, inl, inr, get_or}
+-- Outputs, demands and prices, and what is paid and refused of them.
+use Rattle.std.specs.Prelude.{◌≡◌, ◌⊎◌, ℕ, ◌<◌, List, [], ◌∷◌, length, refl}
+use Rattle.std.proofs.Common.{ap, ap₂, sym, ◌∙◌, inl, inr, get_or}
 use Rattle.std.proofs.lemmas.List.{get_or-map}
-use Rattle.fraction_theory.specs.Fraction.{Fraction, whole, neg_ℚ, ◌+ℚ◌, ◌*ℚ◌}
-use Rattle.fraction_theory.specs.Sums.{Term, Plain, Product, total}
+use Rattle.fraction_theory.specs.Fraction.{Fraction, whole, ◌+ℚ◌, ◌*ℚ◌}
+use Rattle.fraction_theory.specs.Sums.{Plain, Product}
 use Rattle.fraction_theory.proofs.FieldLaws.{+ℚ_nil}
 use Rattle.exact_fraction.specs.declared.Op.TheVariants.{Plus, Times}
 use Rattle.exact_fraction.specs.declared.Passed.{Passed}
@@ -12,57 +12,15 @@ use Rattle.market_model.specs.declared.answered.Duals.{Duals}
 use Rattle.market_model.specs.declared.answered.Load.{Load}
 use Rattle.market_model.specs.declared.answered.Price.{Price}
 use Rattle.market_model.specs.declared.answered.UnitPay.{UnitPay}
-use Rattle.market_model.specs.declared.participants.Block.{Block}
 use Rattle.market_model.specs.declared.participants.Parts.{Parts}
-use Rattle.market_model.specs.Dispatch.{Dispatch, zero, places, signed_by_side, block_at, bus_at, accepted, output, output_terms, demand, demand_terms}
-use Rattle.market_model.specs.LimitRows.{rows}
-use Rattle.market_model.specs.Lines.{HasHardLimits}
-use Rattle.market_model.specs.NamedSums.{IsRefusedIn, IsRefusal, IsShareRefusal}
-use Rattle.market_model.specs.Optimality.{block_value, value_terms, welfare, welfare_for, welfare_terms}
+use Rattle.market_model.specs.Dispatch.{Dispatch, zero, bus_at, output, output_terms, demand, demand_terms}
+use Rattle.market_model.specs.NamedSums.{IsRefusedIn, IsRefusal}
 use Rattle.market_model.specs.Valued.{load_at, unit_pay_at}
-use Rattle.market_model.proofs.HardLimits.{hard_welfare_terms}
-use Rattle.market_model.proofs.MorePlaces.{total-places_more}
-use Rattle.market_model.proofs.SumSteps.{plus_at, product_at, share_at, terms_at}
-use Rattle.market_model.proofs.PutInSteps.{accepted_is}
-use Rattle.market_model.specs.PutIn.{dispatch_of}
+use Rattle.market_model.proofs.SumSteps.{plus_at, product_at}
 use Rattle.market_model.specs.Settlement.{pay_of_unit, pay_of_load, price_for_unit, load_terms, unit_terms}
 use Rattle.market_model.specs.SumTables.{demand_of_bus, output_of_unit, paid_by_load, paid_output, paid_to_unit, payment}
 use Rattle.settlement.specs.Paying.{total_at}
 use Rattle.settlement.specs.Refusals.{IsMoneyRefusal}
-
-module _ {N : Type 0} (value : N → Fraction) (m : Parts) (ds : List N) where
-  abbrev pub welfare_to : ℕ → Fraction
-  welfare_to k = total (map (λ j. Product (block_value m j) (accepted (dispatch_of value ds) j)) (places k))
-
-  -- the value of the block k
-  value_is : (k : ℕ) (block : Block) (worth : Fraction) → block ≡ block_at m k → worth ≡ neg_ℚ (signed_by_side block.side (whole block.price)) → worth ≡ block_value m k
-  value_is k block worth at is = is ∙ ap (λ (b : Block). neg_ℚ (signed_by_side b.side (whole b.price))) at
-
-  -- the welfare with one block more
-  pub welfare_step : (k : ℕ) (block : Block) (d : N) (worth old new : Fraction) → k < length ds → d ≡ get_or ds k d → block ≡ block_at m k → old ≡ welfare_to k
-      → worth ≡ neg_ℚ (signed_by_side block.side (whole block.price)) → new ≡ old +ℚ worth *ℚ value d → new ≡ welfare_to (k + 1)
-  welfare_step k block d worth old new h is at before w e =
-      e
-      ∙ ap₂ (λ u v. old +ℚ u *ℚ v) (value_is k block worth at w) (sym (accepted_is value ds k d h is))
-      ∙ ap (λ t. t +ℚ (block_value m k *ℚ accepted (dispatch_of value ds) k)) before
-      ∙ sym (total-places_more (λ j. Product (block_value m j) (accepted (dispatch_of value ds) j)) k)
-
-  -- what a block is worth is added
-  pub welfare_refused : (k : ℕ) (block : Block) (d : N) (worth sum : Fraction) (bound : ℕ) (p : Passed Fraction) → k < length m.blocks → k < length ds → d ≡ get_or ds k d → block ≡ block_at m k
-      → sum ≡ welfare_to k → worth ≡ neg_ℚ (signed_by_side block.side (whole block.price)) → IsShareRefusal sum worth (value d) bound p → IsRefusedIn (value_terms m (dispatch_of value ds)) bound p
-  welfare_refused k block d worth sum bound p below lt at same is w h =
-      let f : ℕ → Term = λ j. Product (block_value m j) (accepted (dispatch_of value ds) j) in
-      let r = terms_at f (length m.blocks) k below in
-      share_at (value_terms m (dispatch_of value ds)) (map f (places k)) r.0 (f k) r.1 bound p sum worth (value d) (ap₂ Product (sym (value_is k block worth same w)) (accepted_is value ds k d lt at)) is h
-
--- where no limit gives way, the values of blocks are all that a dispatch is worth
-module _ (m : Parts) (hard : HasHardLimits m.lines) (x : Dispatch) where
-  pub hard_worth : total (value_terms m x) ≡ welfare m x
-  unfolding welfare_for
-  hard_worth = ap total (sym (hard_welfare_terms m hard (rows m) x))
-
-  pub hard_worth_refused : (bound : ℕ) (p : Passed Fraction) → IsRefusedIn (value_terms m x) bound p → IsRefusedIn (welfare_terms m x) bound p
-  hard_worth_refused bound p h = subst (λ ts. IsRefusedIn ts bound p) (sym (hard_welfare_terms m hard (rows m) x)) h
 
 -- a price that was read by its place
 pub price_is : {N : Type 0} (value : N → Fraction) (prices : List (Price N)) (i : ℕ) (p : Price N) → i < length prices → total_at value prices i ≡ value (get_or prices i p).total

@@ -2,9 +2,13 @@
 use Rattle.std.specs.Prelude.{◌≡◌, ◌⊎◌, ℕ, pos, List, [], ◌∷◌, Contains, refl}
 use Rattle.std.proofs.Common.{inl, inr, ap, ap₂, sym, subst, subst₂, ◌∙◌}
 use Rattle.fraction_theory.specs.Fraction.{Fraction, whole, neg_ℚ, ◌+ℚ◌, ◌-ℚ◌, ◌*ℚ◌}
+use Rattle.fraction_theory.specs.Order.{◌<ℚ◌, ◌≤ℚ◌}
+use Rattle.fraction_theory.specs.Signs.{abs_ℚ}
 use Rattle.fraction_theory.specs.Sums.{Term, Plain, Product, total}
 use Rattle.fraction_theory.proofs.FieldLaws.{ring_ℚ, +ℚ_nil}
-use Rattle.fraction_theory.proofs.Ring.{by_ring, at, neg_neg, padd, pmul, pneg, pnil}
+use Rattle.fraction_theory.proofs.OrderLaws.{NonNeg-one, by_le1, <ℚ-≤ℚ}
+use Rattle.fraction_theory.proofs.Ring.{by_ring, at, neg_neg, padd, pmul, pneg, pnil, pone}
+use Rattle.fraction_theory.proofs.SignLaws.{part_at_least, part_at_most}
 use Rattle.exact_fraction.specs.declared.Op.TheVariants.{Plus, Minus, Times}
 use Rattle.exact_fraction.specs.declared.Passed.{Passed}
 use Rattle.market_model.specs.declared.answered.Dual.{Dual}
@@ -14,9 +18,10 @@ use Rattle.market_model.specs.declared.answered.RowId.{RowId}
 use Rattle.market_model.specs.declared.participants.Parts.{Parts}
 use Rattle.market_model.specs.Dispatch.{Dispatch, zero, injection}
 use Rattle.market_model.specs.declared.limits.Row.{Row}
-use Rattle.market_model.specs.LimitRows.{flow, flow_by, flow_terms, line_flow, offset_terms, row_id, row_offset}
+use Rattle.market_model.specs.LimitRows.{flow, flow_by, flow_terms, limit, line_flow, offset_terms, row_id, row_offset}
 use Rattle.market_model.specs.NamedSums.{IsRefusal, IsRefusedIn}
 use Rattle.market_model.specs.Optimality.{named_rows}
+use Rattle.market_model.specs.Overrun.{excess, excess_by, overrun}
 use Rattle.market_model.specs.RightAnswers.{rent_by, rent_of}
 use Rattle.market_model.specs.Market.{IsMarket}
 use Rattle.market_model.specs.Settlement.{earned_terms, lower_terms, priced_flow, rent_terms, rent_terms_by, upper_terms}
@@ -26,6 +31,16 @@ use Rattle.limit_rows.proofs.DualLemmas.{IsRowOfDual}
 use Rattle.limit_screen.proofs.ScreenLemmas.{row_terms}
 use Rattle.limit_screen.specs.Flows.{flows_at, line_in}
 use Rattle.settlement.specs.Refusals.{IsMoneyRefusal}
+
+-- ---- by how much a flow exceeds a limit
+module _ (m : Parts) (r : Row) (f : Fraction) where
+  pub excess_none : abs_ℚ f ≤ℚ limit m r → excess_by m r f ≡ zero
+  excess_none h = part_at_most (overrun m r f) (by_le1 (abs_ℚ f ∷ limit m r ∷ []) (padd (at 0) (pneg (at 1))) pnil pone (at 0) (at 1) NonNeg-one h refl)
+
+  pub excess_beyond : limit m r <ℚ abs_ℚ f → excess_by m r f ≡ abs_ℚ f -ℚ limit m r
+  excess_beyond h =
+      part_at_least (overrun m r f)
+      (by_le1 (abs_ℚ f ∷ limit m r ∷ []) pnil (padd (at 0) (pneg (at 1))) pone (at 1) (at 0) NonNeg-one (<ℚ-≤ℚ (limit m r) (abs_ℚ f) h) refl)
 
 -- ---- what a limit earns with one price
 module _ (e : Dual Fraction) (f o : Fraction) where
@@ -64,8 +79,9 @@ earning_refused m f e r size offset bound p s o (inr (inl a)) = inl (lower_terms
 earning_refused m f e r size offset bound p s o (inr (inr a)) = inr (subst₂ (λ u v. IsRefusedIn (earned_terms e.up e.down u v) bound p) s o a)
 
 -- ---- rows of duals, where lines have the flows of a dispatch
-same_rent : (row row' : RowId) (f f' r r' : Fraction) → row ≡ row' → f ≡ f' → r ≡ r' → ◌≡◌ {A = Rent Fraction} (record { row = row; flow = f; rent = r }) (record { row = row'; flow = f'; rent = r' })
-same_rent row row' f f' r r' a b c = Prim.rw a (Prim.rw b (Prim.rw c refl))
+same_rent : (row row' : RowId) (f f' o o' r r' : Fraction) → row ≡ row' → f ≡ f' → o ≡ o' → r ≡ r'
+    → ◌≡◌ {A = Rent Fraction} (record { row = row; flow = f; over = o; rent = r }) (record { row = row'; flow = f'; over = o'; rent = r' })
+same_rent row row' f f' o o' r r' a b c d = Prim.rw a (Prim.rw b (Prim.rw c (Prim.rw d refl)))
 
 module _ (m : Parts) (x : Dispatch) (flows : List Fraction) (are : flows ≡ flows_at m x) (d : Duals Fraction) (k : ℕ) (e : Dual Fraction) (r : Row) (h : IsRowOfDual m d k e r) (market : IsMarket m) where
   -- its flow is that of the dispatch
@@ -74,8 +90,8 @@ module _ (m : Parts) (x : Dispatch) (flows : List Fraction) (are : flows ≡ flo
 
   pub rent_is : rent_by m (line_in m flows) e r ≡ rent_of m x d r
   rent_is =
-      same_rent e.row (row_id m r) (flow_by m (line_in m flows) r) (flow m x r) (total (rent_terms_by m (line_in m flows) r e.up e.down)) (total (rent_terms m x d r)) (sym h.name)
-      same_flow
+      same_rent e.row (row_id m r) (flow_by m (line_in m flows) r) (flow m x r) (excess_by m r (flow_by m (line_in m flows) r)) (excess m x r) (total (rent_terms_by m (line_in m flows) r e.up e.down)) (total (rent_terms m x d r)) (sym h.name)
+      same_flow (ap (excess_by m r) same_flow)
       (ap (λ f. total (earned_terms e.up e.down (priced_flow m r f) (row_offset m r))) same_flow
       ∙ ap₂ (λ u v. total (rent_terms_by m (line_flow m (injection m x)) r u v)) (sym h.up) (sym h.down))
 

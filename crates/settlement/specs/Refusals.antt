@@ -1,13 +1,17 @@
 -- The operations that may be refused where a dispatch is settled.
-use Rattle.std.specs.Prelude.{◌⊎◌, ℕ}
+use Rattle.std.specs.Prelude.{◌≡◌, ◌⊎◌, ℕ, true, Contains}
 use Rattle.fraction_theory.specs.Fraction.{Fraction}
 use Rattle.exact_fraction.specs.declared.Passed.{Passed}
 use Rattle.market_model.specs.declared.answered.Duals.{Duals}
 use Rattle.market_model.specs.declared.participants.Parts.{Parts}
 use Rattle.market_model.specs.declared.stops.Stop.{Stop}
-use Rattle.market_model.specs.Dispatch.{Dispatch}
+use Rattle.market_model.specs.Dispatch.{Dispatch, injection}
+use Rattle.market_model.specs.declared.limits.Row.{Row}
+use Rattle.market_model.specs.LimitRows.{is_soft, line_flow, rows}
+use Rattle.market_model.specs.NamedSums.{IsRefusedIn}
+use Rattle.market_model.specs.Optimality.{welfare_terms}
 use Rattle.market_model.specs.Stops.{StopsBy}
-use Rattle.market_model.specs.SumTables.{IsRefusedAmong, SettledSum}
+use Rattle.market_model.specs.SumTables.{IsRefusedAmong, RowFlowSum, SettledSum}
 use Rattle.limit_screen.specs.Flows.{IsFlowsRefusal}
 
 -- an operation refused where a dispatch whose flows are known is settled at prices of the buses
@@ -21,3 +25,9 @@ IsMoneyStop value bound m x price d stop = StopsBy value (IsMoneyRefusal m x pri
 -- the same where its flows are made too
 abbrev pub IsSettlementStop : {N : Type 0} → (N → Fraction) → ℕ → Parts → Dispatch → (ℕ → Fraction) → Duals Fraction → Stop N → Type 0
 IsSettlementStop value bound m x price d stop = StopsBy value (λ p. IsFlowsRefusal m x bound p ⊎ IsMoneyRefusal m x price d bound p) stop
+
+-- an operation refused where its welfare is added up: at one of the terms, or for the flow of a row whose limit gives way
+abbrev pub IsWelfareRefusal : Parts → Dispatch → ℕ → Passed Fraction → Type 0
+IsWelfareRefusal m x bound p =
+    IsRefusedIn (welfare_terms m x) bound p
+    ⊎ ((r : Row) × Contains (rows m) r × (is_soft m r ≡ true) × IsRefusedAmong (RowFlowSum m (line_flow m (injection m x)) r) bound p)

@@ -1,30 +1,35 @@
 //! What the limits of rows earn.
 
 ghost use Rattle.std.specs.Prelude.{◌≡◌, ◌⊎◌, ◌+◌, ◌<◌, length, map, IfOk, IfErr};
-ghost use Rattle.fraction_theory.specs.Signs.{abs_ℚ};
 ghost use Rattle.fraction_theory.specs.Sums.{total};
 ghost use Rattle.market_model.specs.LimitRows.{IsCauseAmong};
 ghost use Rattle.market_model.specs.NamedSums.{IsRefusedIn};
 ghost use Rattle.market_model.specs.Optimality.{IsOneSided};
+ghost use Rattle.market_model.specs.Overrun.{excess_by};
 ghost use Rattle.market_model.specs.RightAnswers.{rent_by};
 ghost use Rattle.market_model.specs.Settlement.{earned_terms, lower_terms, priced_flow, rent_terms_by, upper_terms};
 ghost use Rattle.market_model.specs.SumTables.{IsRefusedAmong, PaidRowSum};
 ghost use Rattle.market_model.specs.Valued.{dual_at, passed_at, rent_at};
 ghost use Rattle.limit_screen.specs.Flows.{line_in};
 
-use exact_fraction::{Exact, Passed, Sign, exact_difference, exact_sum};
+use exact_fraction::{Exact, Passed, Sign, exact_difference, exact_sum, size};
 use limit_rows::{limit_at, row_flow, row_offset};
 use limit_screen::line_flows;
 use market_model::{Dual, Market, Rent, Row, datum};
 use std::cmp::Ordering;
 
-/// The size of a flow.
-fn size<N: Exact>(flow: N) -> N
-    ensures { N.value result ≡ abs_ℚ (N.value flow) }
+/// By how much a flow exceeds the limit of a row; 0 where it does not. That is never too large: its parts are no greater than those of
+/// the flow.
+pub fn excess<N: Exact>(market: &Market, row: Row, flow: N) -> Result<N, Passed<N>>
+    requires { row.line < length market.now.lines }
+    ensures excess { IfOk result (λ excess. N.value excess ≡ excess_by market.now row (N.value flow)) }
+    ensures fits { IfErr result (λ passed. ⊥) }
 {
-    match flow.sign() {
-        Sign::Below => flow.neg(),
-        Sign::Zero | Sign::Above => flow,
+    let limit: N = datum(limit_at(market, row));
+    let size = size(flow);
+    match size.order(limit) {
+        Ordering::Greater => exact_difference(size, limit),
+        Ordering::Less | Ordering::Equal => Ok(datum(0)),
     }
 }
 
@@ -63,7 +68,7 @@ fn earned<N: Exact>(dual: &Dual<N>, priced: N, offset: N) -> Result<N, Passed<N>
     }
 }
 
-/// The flow of a row, of flows by bus and then by line, and what its limit earns at the prices of a dual.
+/// The flow of a row, of flows by bus and then by line, by how much it exceeds the limit, and what that earns at the prices of a dual.
 pub fn row_rent<N: Exact>(
     market: &Market,
     row: Row,
@@ -79,11 +84,13 @@ pub fn row_rent<N: Exact>(
         ⊎ IsRefusedIn (rent_terms_by market.now lines row (N.value dual.now.up) (N.value dual.now.down)) N.bound (passed_at N.value passed)) }
 {
     let flow = row_flow(market, line_flows(market, flows), row)?;
+    let over = excess(market, row, flow)?;
     let offset = row_offset(market, row)?;
     let rent = earned(dual, priced_flow(market, row, flow), offset)?;
     Ok(Rent {
         row: dual.row,
         flow,
+        over,
         rent,
     })
 }

@@ -5,10 +5,9 @@ ghost use Rattle.linear_dict.specs.Causes.{IsPairOf};
 ghost use Rattle.linear_dict.specs.Dictionaries.{IsDictionary, system_in};
 ghost use Rattle.simplex_core.specs.States.{IsReady};
 ghost use Rattle.simplex_core.specs.Searches.{IsCandidate, IsLesser, IsEntering};
-ghost use Rattle.fraction_theory.specs.Signs.{abs_ℚ};
 
 use crate::leave::Leaving;
-use exact_fraction::{Exact, Passed, Sign};
+use exact_fraction::{Exact, Passed, Sign, size};
 use linear_dict::{Dict, Place};
 use std::cmp::Ordering;
 
@@ -19,16 +18,6 @@ pub(crate) struct Candidate<N> {
     pub(crate) name: u32,
     /// Its reduced price over its entry, by size: what the reduced price of the leaving one becomes, by size, where this one enters.
     pub(crate) ratio: N,
-}
-
-/// The size of a number.
-fn size<N: Exact>(x: N) -> N
-    ensures { N.value result ≡ abs_ℚ (N.value x) }
-{
-    match x.sign() {
-        Sign::Below => x.neg(),
-        Sign::Zero | Sign::Above => x,
-    }
 }
 
 /// The other variable of a column place, which has this rank, where it can move off its bound and this takes the leaving one

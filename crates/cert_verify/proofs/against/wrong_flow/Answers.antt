@@ -4,7 +4,7 @@ use Rattle.market_model.specs.PutIn.{dispatch_of}
 use Rattle.market_model.specs.SumTables.{balance_from_bus, balance_of_all, limited_line}
 use Rattle.market_model.proofs.StopLemmas.{on_passed_weaker}
 use Rattle.market_model.specs.declared.stops.Stop.TheVariants as why
-use Rattle.cert_verify.specs.Stops.{at_balance, at_limits}
+use Rattle.cert_verify.specs.Stops.{at_balance, at_limits, of_flow}
 use Rattle.cert_verify.proofs.RowLemmas.{before_flows}
 use Rattle.cert_verify.proofs.against.wrong_flow.Goals as goal
 
@@ -34,7 +34,7 @@ returns-in_err-by_line-clause-cause g c =
     λ energy none.
     let before = before_flows m x ds (value c.in_ok-balance.field-0) (value c.datum.result) (c.in_ok-balance.ensures.sum x puts) c.datum.ensures (sym c.differ.ensures ∙ c.if-differ.false) none in
     rw given
-    (on_passed_weaker c.in_err-by_line.field-0.0 _ _ (λ p h. at_limits (h.0, limited_line h.0 h.1, h.2) before) (c.in_err-by_line.ensures.cause x puts_then))
+    (on_passed_weaker c.in_err-by_line.field-0.0 _ _ (λ p h. at_limits (of_flow (h.0, limited_line h.0 h.1, h.2)) before) (c.in_err-by_line.ensures.cause x puts_then))
 
 pub returns-in_err-reason-clause-cause : goal.returns-in_err-reason-clause-cause
 returns-in_err-reason-clause-cause g c =
@@ -50,8 +50,8 @@ returns-in_err-reason-clause-cause g c =
     let before = before_flows m x ds (value c.in_ok-balance.field-0) (value c.datum.result) (c.in_ok-balance.ensures.sum x puts) c.datum.ensures (sym c.differ.ensures ∙ c.if-differ.false) none in
     rw given (at_limits (c.in_err-reason.ensures.cause x flows) before)
 
-pub returns-in_err-slack_price-clause-cause : goal.returns-in_err-slack_price-clause-cause
-returns-in_err-slack_price-clause-cause g c =
+pub returns-in_err-reason-2-clause-cause : goal.returns-in_err-reason-2-clause-cause
+returns-in_err-reason-2-clause-cause g c =
     let m = c.args.market.now in
     let value = g.N.Exact.value in
     let x = dispatch_of value c.args.blocks.now in
@@ -59,7 +59,7 @@ returns-in_err-slack_price-clause-cause g c =
     let puts = ap (map value) c.deref.ensures.value ∙ c.in_ok-by_bus.ensures.injections in
     let puts_then = ap (map value) c.deref-2.ensures.value ∙ c.in_ok-by_bus.ensures.injections in
     let flows = ap (map value) c.deref-4.ensures.value ∙ c.in_ok-by_line.ensures.flows x puts_then in
-    let given : c.from_residual-in_err-slack_price.result ≡ Err (why.Passed c.in_err-slack_price.field-0.0) = search rules in
+    let given : c.from_residual-in_err-reason-2.result ≡ Err (why.Passed c.in_err-reason-2.field-0.0) = search rules in
     λ energy none.
     let before = before_flows m x ds (value c.in_ok-balance.field-0) (value c.datum.result) (c.in_ok-balance.ensures.sum x puts) c.datum.ensures (sym c.differ.ensures ∙ c.if-differ.false) none in
-    rw given (at_limits (c.in_err-slack_price.ensures.cause x flows) before)
+    rw given (at_limits (c.in_err-reason-2.ensures.cause x flows) before)

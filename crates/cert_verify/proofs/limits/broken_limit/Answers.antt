@@ -2,7 +2,6 @@ use Rattle.std.proofs.Common.{rules, Err, Some, ◌≡◌, ◌∙◌, ap, sym}
 use Rattle.market_model.specs.declared.answered.RowId.{RowId}
 use Rattle.market_model.specs.declared.limits.Row.{Row}
 use Rattle.market_model.specs.LimitRows.{row_id, rows}
-use Rattle.market_model.specs.SumTables.{flow_of_row, limited_row}
 use Rattle.limit_rows.proofs.WalkLemmas.{taken_listed, taken_next}
 use Rattle.cert_verify.specs.declared.verdicts.Reason.TheVariants as reason
 use Rattle.cert_verify.specs.Reasons.{is_overloaded}
@@ -19,6 +18,10 @@ is_overloaded-requires-clause-lost g c =
     (c.rows-row-items.ensures.stand c.in-Some.row
     (taken_listed c.args.market.now _ _ _ c.loop-row.yielded (c.into_iter-row-iterator.ensures.into_iter_gives ∙ c.rows-row-items.ensures.rows) c.loop-row.yielded_by c.next.result c.in-Some.row c.in-Some.is c.next.ensures.steps)).1
 
+pub is_overloaded-requires-clause-listed : goal.is_overloaded-requires-clause-listed
+is_overloaded-requires-clause-listed g c =
+    taken_listed c.args.market.now _ _ _ c.loop-row.yielded (c.into_iter-row-iterator.ensures.into_iter_gives ∙ c.rows-row-items.ensures.rows) c.loop-row.yielded_by c.next.result c.in-Some.row c.in-Some.is c.next.ensures.steps
+
 pub name_at-requires-clause-line : goal.name_at-requires-clause-line
 name_at-requires-clause-line g c =
     (c.rows-row-items.ensures.stand c.in-Some.row
@@ -32,8 +35,7 @@ name_at-requires-clause-lost g c =
 pub returns-in_err-is_overloaded-clause-cause : goal.returns-in_err-is_overloaded-clause-cause
 returns-in_err-is_overloaded-clause-cause g c =
     let given : c.from_residual.result ≡ Err c.in_err-is_overloaded.field-0.0 = search rules in
-    let listed = taken_listed c.args.market.now _ _ _ c.loop-row.yielded (c.into_iter-row-iterator.ensures.into_iter_gives ∙ c.rows-row-items.ensures.rows) c.loop-row.yielded_by c.next.result c.in-Some.row c.in-Some.is c.next.ensures.steps in
-    λ x are. rw given (_, limited_row c.in-Some.row _ listed flow_of_row, c.in_err-is_overloaded.ensures.cause x are)
+    λ x are. rw given (c.in_err-is_overloaded.ensures.cause x are)
 
 pub returns-then-branch-clause-first : goal.returns-then-branch-clause-first
 returns-then-branch-clause-first g c =

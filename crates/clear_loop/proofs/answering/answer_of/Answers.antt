@@ -1,43 +1,47 @@
-use Rattle.std.proofs.Common.{Err, ◌≡◌, ◌∙◌, ap, subst, length}
+use Rattle.std.proofs.Common.{Err, ◌≡◌, ◌∙◌, ap, sym, subst, length}
 use Rattle.std.proofs.lemmas.Result.{err_from_is_err_and}
-use Rattle.market_model.specs.Optimality.{welfare, welfare_terms}
-use Rattle.market_model.specs.NamedSums.{IsRefusedIn}
+use Rattle.market_model.specs.Optimality.{welfare}
 use Rattle.market_model.specs.Valued.{duals_at, money_at, passed_at}
 use Rattle.market_model.specs.PutIn.{dispatch_of}
 use Rattle.market_model.specs.RightAnswers.{settlement_at}
+use Rattle.limit_screen.specs.Flows.{flows_at}
 use Rattle.settlement.specs.Paying.{total_at}
-use Rattle.settlement.specs.Refusals.{IsMoneyStop}
+use Rattle.settlement.specs.Refusals.{IsMoneyStop, IsWelfareRefusal}
 use Rattle.settlement.proofs.MoneyLemmas.{law_of_right_money}
 use Rattle.market_model.specs.declared.stops.Stop.TheVariants as stop
 use Rattle.clear_loop.proofs.AnswerLemmas.{price_count, prices_of, right_answer}
+use Rattle.clear_loop.proofs.BrokenLemmas.{kept_feasible}
 use Rattle.clear_loop.proofs.HandLemmas.{dispatch_count}
-use Rattle.clear_loop.proofs.SolvedLemmas.{proper, supports, welfare_range}
+use Rattle.clear_loop.proofs.SolvedLemmas.{best_for, proper, supports, welfare_range}
 use Rattle.clear_loop.proofs.StopLemmas.{money_stop, price_stop}
 use Rattle.clear_loop.proofs.answering.answer_of.Goals as goal
 
 pub returns-in_err-prices-clause-cause : goal.returns-in_err-prices-clause-cause
-returns-in_err-prices-clause-cause g c = λ rows solved.
+returns-in_err-prices-clause-cause g c = λ rows solution.
     let p = err_from_is_err_and c.from_residual.result c.from_residual.ensures.1 in
     let given : c.from_residual.result ≡ Err c.in_err-prices.field-0.0 = p.1 ∙ ap Err p.2 in
     rw given
-    (price_stop g.N.Exact.value g.N.Exact.bound c.args.market.now rows (dispatch_of g.N.Exact.value c.args.dispatch) (duals_at g.N.Exact.value c.args.duals) c.lines-lines.ensures.market solved c.requires.feasible
+    (price_stop g.N.Exact.value g.N.Exact.bound c.args.market.now rows (dispatch_of g.N.Exact.value c.args.dispatch) (duals_at g.N.Exact.value c.args.duals) c.lines-lines.ensures.market solution.solved solution.kept
     c.in_err-prices.field-0.0 c.in_err-prices.ensures.cause)
 
 pub returns-in_err-welfare-clause-cause : goal.returns-in_err-welfare-clause-cause
-returns-in_err-welfare-clause-cause g c = λ rows solved.
+returns-in_err-welfare-clause-cause g c = λ rows solution.
     let value = g.N.Exact.value in
     let m = c.args.market.now in
     let p = err_from_is_err_and c.from_residual-in_err-welfare.result c.from_residual-in_err-welfare.ensures.1 in
     let given : c.from_residual-in_err-welfare.result ≡ Err (stop.Passed c.in_err-welfare.field-0.0) = p.1 ∙ ap Err p.2 in
     rw given
-    (welfare_range m rows (dispatch_of value c.args.dispatch) (duals_at value c.args.duals) c.lines-lines.ensures.market solved g.N.Exact.bound (passed_at value c.in_err-welfare.field-0.0) c.requires.feasible
-    (subst (λ xs. IsRefusedIn (welfare_terms m (dispatch_of value xs)) g.N.Exact.bound (passed_at value c.in_err-welfare.field-0.0)) c.slice.ensures c.in_err-welfare.ensures.cause))
+    (welfare_range m rows (dispatch_of value c.args.dispatch) (duals_at value c.args.duals) c.lines-lines.ensures.market solution.solved g.N.Exact.bound (passed_at value c.in_err-welfare.field-0.0) solution.kept
+    (subst (λ xs. IsWelfareRefusal m (dispatch_of value xs) g.N.Exact.bound (passed_at value c.in_err-welfare.field-0.0)) c.slice.ensures c.in_err-welfare.ensures.cause))
+
+pub welfare-requires-clause-flows : goal.welfare-requires-clause-flows
+welfare-requires-clause-flows g c = c.requires.flows ∙ ap (λ xs. flows_at c.args.market.now (dispatch_of g.N.Exact.value xs)) (sym c.slice.ensures)
 
 pub settle_flows-requires-clause-prices : goal.settle_flows-requires-clause-prices
 settle_flows-requires-clause-prices g c = ap length c.slice-3.ensures ∙ price_count g.N.Exact.value c.args.market.now (duals_at g.N.Exact.value c.args.duals) c.in_ok-prices.prices c.in_ok-prices.ensures.prices
 
 pub returns-in_err-money-clause-cause : goal.returns-in_err-money-clause-cause
-returns-in_err-money-clause-cause g c = λ rows solved.
+returns-in_err-money-clause-cause g c = λ rows solution.
     let value = g.N.Exact.value in
     let m = c.args.market.now in
     let d = duals_at value c.args.duals in
@@ -45,7 +49,7 @@ returns-in_err-money-clause-cause g c = λ rows solved.
     let p = err_from_is_err_and c.from_residual-in_err-money.result c.from_residual-in_err-money.ensures.1 in
     let given : c.from_residual-in_err-money.result ≡ Err stop = p.1 ∙ ap Err p.2 in
     rw given
-    (money_stop value g.N.Exact.bound m rows (dispatch_of value c.args.dispatch) d c.lines-lines.ensures.market solved c.requires.feasible (total_at value c.in_ok-prices.prices)
+    (money_stop value g.N.Exact.bound m rows (dispatch_of value c.args.dispatch) d c.lines-lines.ensures.market solution.solved solution.kept (total_at value c.in_ok-prices.prices)
     (prices_of value m d c.in_ok-prices.prices c.in_ok-prices.ensures.prices) stop
     (subst (λ xs. IsMoneyStop value g.N.Exact.bound m (dispatch_of value xs) (total_at value c.in_ok-prices.prices) d stop) c.slice-2.ensures
     (subst (λ ps. IsMoneyStop value g.N.Exact.bound m (dispatch_of value c.slice-2.result.now) (total_at value ps) d stop) c.slice-3.ensures c.in_err-money.ensures.cause)))
@@ -55,7 +59,7 @@ returns-clause-fits g c =
     let value = g.N.Exact.value in
     let m = c.args.market.now in
     record {
-      dispatch = dispatch_count value m c.requires.solved.0 c.args.dispatch (duals_at value c.args.duals) c.requires.solved.1;
+      dispatch = dispatch_count value m c.requires.solved.0 c.args.dispatch (duals_at value c.args.duals) c.requires.solved.1.solved;
       prices = price_count value m (duals_at value c.args.duals) c.in_ok-prices.prices c.in_ok-prices.ensures.prices;
       money = c.in_ok-money.ensures.fits;
     }
@@ -67,8 +71,11 @@ returns-clause-right g c =
     let x = dispatch_of value c.args.dispatch in
     let d = duals_at value c.args.duals in
     let market = c.lines-lines.ensures.market in
-    right_answer value m c.args.dispatch c.args.duals c.in_ok-prices.prices c.in_ok-welfare.welfare c.in_ok-money.money law_of_right_money market c.requires.feasible
-    (supports m c.requires.solved.0 x d market c.requires.solved.1) (proper m c.requires.solved.0 x d market c.requires.solved.1) c.in_ok-prices.ensures.prices
+    let rows = c.requires.solved.0 in
+    let solved = c.requires.solved.1.solved in
+    let kept = c.requires.solved.1.kept in
+    right_answer value m c.args.dispatch c.args.duals c.in_ok-prices.prices c.in_ok-welfare.welfare c.in_ok-money.money law_of_right_money market
+    (kept_feasible m market rows x (best_for m rows x d market solved) kept) (supports m rows x d market solved kept) (proper m rows x d market solved) c.in_ok-prices.ensures.prices
     (c.in_ok-welfare.ensures.worth ∙ ap (λ xs. welfare m (dispatch_of value xs)) c.slice.ensures)
     (subst (λ xs. money_at value c.in_ok-money.money ≡ settlement_at m (dispatch_of value xs) (total_at value c.in_ok-prices.prices) d) c.slice-2.ensures
     (subst (λ ps. money_at value c.in_ok-money.money ≡ settlement_at m (dispatch_of value c.slice-2.result.now) (total_at value ps) d) c.slice-3.ensures c.in_ok-money.ensures.money))

@@ -3,12 +3,12 @@ use Rattle.std.proofs.lemmas.List.Elements.{Contains-append_right}
 use Rattle.std.proofs.lemmas.Result.{err_from_is_err_and}
 use Rattle.linear_dict.specs.Dictionaries.{choice_of}
 use Rattle.market_dict.proofs.HoldingLaws.{holds_choice}
-use Rattle.clear_loop.proofs.HandLemmas.{grown_behind, hand_grown, row_is_new}
+use Rattle.clear_loop.proofs.HandLemmas.{grown_behind, hand_grown}
 use Rattle.clear_loop.proofs.StopLemmas.{taken_stop, terms_stop}
 use Rattle.clear_loop.proofs.hand.with_row.Goals as goal
 
 pub take_limit-requires-clause-holds : goal.take_limit-requires-clause-holds
-take_limit-requires-clause-holds g c = (c.args.taken.rows, c.requires.holds, row_is_new c.args.market.now c.args.taken.rows c.args.row c.lines-lines.ensures.market c.lines-lines.ensures.hard c.requires.broken)
+take_limit-requires-clause-holds g c = (c.args.taken.rows, c.requires.holds, c.requires.new)
 
 pub returns-in_err-take_limit-clause-cause : goal.returns-in_err-take_limit-clause-cause
 returns-in_err-take_limit-clause-cause g c =
@@ -16,7 +16,7 @@ returns-in_err-take_limit-clause-cause g c =
     let given : c.from_residual.result ≡ Err c.in_err-take_limit.field-0.0 = p.1 ∙ ap Err p.2 in
     rw given
     (taken_stop g.N.Exact.value g.N.Exact.bound c.args.market.now c.args.taken.rows c.args.row (choice_of c.args.dict) c.in_err-take_limit.field-0.0 c.lines-lines.ensures.market
-    (grown_behind c.args.market.now c.args.taken.rows c.args.row c.lines-lines.ensures.market c.lines-lines.ensures.hard c.requires.row c.requires.broken)
+    (grown_behind c.args.market.now c.args.taken.rows c.args.row c.requires.row c.requires.new c.requires.broken)
     (holds_choice c.args.market.now c.args.taken.rows c.args.dict c.requires.holds) c.requires.row (c.in_err-take_limit.ensures.cause c.args.taken.rows c.requires.holds))
 
 pub returns-in_err-take_bounds-clause-cause : goal.returns-in_err-take_bounds-clause-cause
@@ -25,7 +25,7 @@ returns-in_err-take_bounds-clause-cause g c =
     let given : c.from_residual-in_err-take_bounds.result ≡ Err c.in_err-take_bounds.field-0.0 = p.1 ∙ ap Err p.2 in
     rw given
     (terms_stop g.N.Exact.value g.N.Exact.bound c.args.market.now c.args.taken.rows (c.args.taken.rows ++ c.args.row ∷ []) (c.args.row ∷ []) (choice_of c.take_limit.new.dict) c.in_err-take_bounds.field-0.0
-    c.lines-lines.ensures.market (grown_behind c.args.market.now c.args.taken.rows c.args.row c.lines-lines.ensures.market c.lines-lines.ensures.hard c.requires.row c.requires.broken)
+    c.lines-lines.ensures.market (grown_behind c.args.market.now c.args.taken.rows c.args.row c.requires.row c.requires.new c.requires.broken)
     (holds_choice c.args.market.now (c.args.taken.rows ++ c.args.row ∷ []) c.take_limit.new.dict (c.in_ok-take_limit.ensures.taken c.args.taken.rows c.requires.holds))
     (λ r k. Contains-append_right c.args.taken.rows (c.args.row ∷ []) r k)
     c.in_err-take_bounds.ensures.cause)

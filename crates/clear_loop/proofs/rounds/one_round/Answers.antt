@@ -1,6 +1,5 @@
 use Rattle.std.proofs.Common.{Err, ◌≡◌, ◌∙◌, ap, sym, subst, refl, map}
 use Rattle.std.proofs.lemmas.Result.{err_from_is_err_and}
-use Rattle.market_model.specs.Optimality.{Feasible}
 use Rattle.market_model.specs.Valued.{duals_at}
 use Rattle.std.specs.Prelude.{Contains}
 use Rattle.market_model.specs.Dispatch.{Dispatch}
@@ -13,44 +12,45 @@ use Rattle.market_dict.specs.declared.solving.Found.{Found}
 use Rattle.market_dict.specs.declared.solving.Found.TheVariants as found
 use Rattle.market_model.specs.declared.stops.Stop.TheVariants as stop
 use Rattle.limit_screen.specs.Flows.{flows_at}
-use Rattle.clear_loop.specs.Rounds.{IsScreened}
-use Rattle.clear_loop.proofs.BrokenLemmas.{worst_broken, worst_inside}
-use Rattle.clear_loop.proofs.HandLemmas.{dispatch_count, feasible_over_all, row_is_new}
+use Rattle.clear_loop.specs.Rounds.{AllKept, IsScreened, IsSolution}
+use Rattle.clear_loop.specs.declared.screen.Screened.TheVariants as screened
+use Rattle.clear_loop.proofs.BrokenLemmas.{worst_broken, worst_inside, worst_new}
+use Rattle.clear_loop.proofs.HandLemmas.{dispatch_count}
 use Rattle.clear_loop.proofs.PosingLemmas.{bounds_fit, in_order, posed_range, posed_system, prices_fit}
 use Rattle.clear_loop.proofs.SolvedLemmas.{best_for, prices_only}
 use Rattle.clear_loop.proofs.StopLemmas.{pair_stop, screen_stop}
 use Rattle.clear_loop.proofs.rounds.one_round.Given.{Over}
 use Rattle.clear_loop.proofs.rounds.one_round.Goals as goal
-use Rattle.clear_loop.proofs.rounds.one_round.Goals.{In-Broken, After-slice-3, After-deref}
+use Rattle.clear_loop.proofs.rounds.one_round.Goals.{In-Broken, In-Within, After-slice-3, After-deref}
 use Rattle.linear_dict.specs.Dictionaries.{choice_of}
 use Rattle.market_system.specs.MarketSystem.{choice_duals}
 
 pub repose-requires-clause-prices : goal.repose-requires-clause-prices
 repose-requires-clause-prices g c =
-    prices_fit g.N.Exact.value c.args.market.now c.args.hand.taken.rows c.args.hand.posing c.requires.posing c.slice.result.now c.slice-2.result.now c.slice.ensures c.slice-2.ensures c.args.hand.warm c.requires.start
+    prices_fit g.N.Exact.value c.args.market.now c.args.hand.taken.rows c.args.hand.posing c.requires.posing c.slice.result.now c.slice-2.result.now c.slice.ensures (c.slice-2.ensures ∙ c.in_ok-bounds.ensures) c.args.hand.warm c.requires.start
 
 pub repose-requires-clause-bounds : goal.repose-requires-clause-bounds
 repose-requires-clause-bounds g c =
-    bounds_fit g.N.Exact.value c.args.market.now c.args.hand.taken.rows c.args.hand.posing c.requires.posing c.slice.result.now c.slice-2.result.now c.slice.ensures c.slice-2.ensures c.args.hand.warm c.requires.start
+    bounds_fit g.N.Exact.value c.args.market.now c.args.hand.taken.rows c.args.hand.posing c.requires.posing c.slice.result.now c.slice-2.result.now c.slice.ensures (c.slice-2.ensures ∙ c.in_ok-bounds.ensures) c.args.hand.warm c.requires.start
 
 pub repose-requires-clause-ordered : goal.repose-requires-clause-ordered
 repose-requires-clause-ordered g c =
-    in_order g.N.Exact.value c.args.market.now c.args.hand.taken.rows c.args.hand.posing c.requires.posing c.slice.result.now c.slice-2.result.now c.slice.ensures c.slice-2.ensures c.args.hand.warm c.requires.start
+    in_order g.N.Exact.value c.args.market.now c.args.hand.taken.rows c.args.hand.posing c.requires.posing c.slice.result.now c.slice-2.result.now c.slice.ensures (c.slice-2.ensures ∙ c.in_ok-bounds.ensures) c.args.hand.warm c.requires.start
     c.lines-lines.ensures.market
 
 pub returns-in_err-posed-clause-cause : goal.returns-in_err-posed-clause-cause
 returns-in_err-posed-clause-cause g c =
-    let p = err_from_is_err_and c.from_residual.result c.from_residual.ensures.1 in
-    let given : c.from_residual.result ≡ Err (stop.Passed c.in_err-posed.field-0.0) = p.1 ∙ ap Err p.2 in
+    let p = err_from_is_err_and c.from_residual-in_err-posed.result c.from_residual-in_err-posed.ensures.1 in
+    let given : c.from_residual-in_err-posed.result ≡ Err (stop.Passed c.in_err-posed.field-0.0) = p.1 ∙ ap Err p.2 in
     rw given
-    (posed_range g.N.Exact.value c.args.market.now c.args.hand.taken.rows c.args.hand.posing c.requires.posing c.slice.result.now c.slice-2.result.now c.slice.ensures c.slice-2.ensures c.args.hand.warm c.requires.start
+    (posed_range g.N.Exact.value c.args.market.now c.args.hand.taken.rows c.args.hand.posing c.requires.posing c.slice.result.now c.slice-2.result.now c.slice.ensures (c.slice-2.ensures ∙ c.in_ok-bounds.ensures) c.args.hand.warm c.requires.start
     c.lines-lines.ensures.market g.N.Exact.bound c.in_err-posed.field-0.0 c.in_err-posed.ensures.pair)
 
 pub solve-requires : goal.solve-requires
 solve-requires g c = record {
   holds = (
     c.args.hand.taken.rows,
-    posed_system g.N.Exact.value c.args.market.now c.args.hand.taken.rows c.args.hand.posing c.requires.posing c.slice.result.now c.slice-2.result.now c.slice.ensures c.slice-2.ensures c.args.hand.warm c.requires.start
+    posed_system g.N.Exact.value c.args.market.now c.args.hand.taken.rows c.args.hand.posing c.requires.posing c.slice.result.now c.slice-2.result.now c.slice.ensures (c.slice-2.ensures ∙ c.in_ok-bounds.ensures) c.args.hand.warm c.requires.start
         c.lines-lines.ensures.market c.in_ok-posed.posed c.in_ok-posed.ensures.posed,
   );
 }
@@ -58,7 +58,7 @@ solve-requires g c = record {
 pub returns-in_err-dict-clause-cause : goal.returns-in_err-dict-clause-cause
 returns-in_err-dict-clause-cause g c =
     let holds =
-    posed_system g.N.Exact.value c.args.market.now c.args.hand.taken.rows c.args.hand.posing c.requires.posing c.slice.result.now c.slice-2.result.now c.slice.ensures c.slice-2.ensures c.args.hand.warm c.requires.start
+    posed_system g.N.Exact.value c.args.market.now c.args.hand.taken.rows c.args.hand.posing c.requires.posing c.slice.result.now c.slice-2.result.now c.slice.ensures (c.slice-2.ensures ∙ c.in_ok-bounds.ensures) c.args.hand.warm c.requires.start
     c.lines-lines.ensures.market c.in_ok-posed.posed c.in_ok-posed.ensures.posed in
     let p = err_from_is_err_and c.from_residual-in_err-dict.result c.from_residual-in_err-dict.ensures.1 in
     let given : c.from_residual-in_err-dict.result ≡ Err c.in_err-dict.field-0.0 = p.1 ∙ ap Err p.2 in
@@ -71,7 +71,7 @@ returns-in-Nothing-clause-round g c =
     let m = c.args.market.now in
     let rs = c.args.hand.taken.rows in
     let holds =
-    posed_system g.N.Exact.value m rs c.args.hand.posing c.requires.posing c.slice.result.now c.slice-2.result.now c.slice.ensures c.slice-2.ensures c.args.hand.warm c.requires.start
+    posed_system g.N.Exact.value m rs c.args.hand.posing c.requires.posing c.slice.result.now c.slice-2.result.now c.slice.ensures (c.slice-2.ensures ∙ c.in_ok-bounds.ensures) c.args.hand.warm c.requires.start
     c.lines-lines.ensures.market c.in_ok-posed.posed c.in_ok-posed.ensures.posed in
     let none : IsFound g.N.Exact.value m rs (found.Nothing c.in-Nothing.dict c.in-Nothing.farkas) =
     subst (λ (f : Found g.row.N.Denot). IsFound g.N.Exact.value m rs f) c.in-Nothing.is (c.in_ok-dict.ensures.found rs holds) in
@@ -83,7 +83,7 @@ found_best g c =
     let m = c.args.market.now in
     let rs = c.args.hand.taken.rows in
     let holds =
-    posed_system g.N.Exact.value m rs c.args.hand.posing c.requires.posing c.slice.result.now c.slice-2.result.now c.slice.ensures c.slice-2.ensures c.args.hand.warm c.requires.start
+    posed_system g.N.Exact.value m rs c.args.hand.posing c.requires.posing c.slice.result.now c.slice-2.result.now c.slice.ensures (c.slice-2.ensures ∙ c.in_ok-bounds.ensures) c.args.hand.warm c.requires.start
     c.lines-lines.ensures.market c.in_ok-posed.posed c.in_ok-posed.ensures.posed in
     subst (λ xs. IsFound g.N.Exact.value m rs (found.Best c.in-Best.dict xs)) (sym c.slice-3.ensures)
     (subst (λ (f : Found g.row.N.Denot). IsFound g.N.Exact.value m rs f) c.in-Best.is (c.in_ok-dict.ensures.found rs holds))
@@ -106,20 +106,25 @@ returns-in_err-row-clause-cause g c =
     (found_best g (goal.at.returns-in_err-row-clause-cause g c).After-slice-3).2 c.in_err-row.field-0.0 c.in_err-row.ensures.cause)
 
 -- ---- where a limit is broken
+-- what the look at all limits found, at the rows in hand
+screened_broken : (g : Over) (c : In-Broken g) → IsScreened g.N.Exact.value c.args.market.now c.args.hand.taken.rows (dispatch_of g.N.Exact.value c.slice-3.result.now) (screened.Broken c.in-Broken.row)
+screened_broken g c =
+    let value = g.N.Exact.value in
+    let m = c.args.market.now in
+    let x = dispatch_of value c.slice-3.result.now in
+    subst (λ rs. IsScreened value m rs x (screened.Broken c.in-Broken.row)) c.slice-4.ensures (subst (IsScreened value m c.slice-4.result.now x) c.in-Broken.is c.in_ok-row.ensures.screened)
+
 broken_row : (g : Over) (c : In-Broken g) → let m = c.args.market.now in let rs = c.args.hand.taken.rows in
-    IsFound g.N.Exact.value m rs (found.Best c.in-Best.dict c.slice-3.result.now) → Contains (rows m) c.in-Broken.row × ((x : Dispatch) × BestFor m rs x × Broken m x c.in-Broken.row)
+    IsFound g.N.Exact.value m rs (found.Best c.in-Best.dict c.slice-3.result.now)
+    → Contains (rows m) c.in-Broken.row × (¬ (Contains rs c.in-Broken.row)) × ((x : Dispatch) × BestFor m rs x × Broken m x c.in-Broken.row)
 broken_row g c best =
     let m = c.args.market.now in
     let rs = c.args.hand.taken.rows in
     let x = dispatch_of g.N.Exact.value c.slice-3.result.now in
-    let worst = subst (IsScreened g.N.Exact.value m x) c.in-Broken.is c.in_ok-row.ensures.screened in (
-      worst_inside m x worst.0 c.in-Broken.row worst.1,
-      (
-        x,
-        best_for m rs x (choice_duals m rs (choice_of c.in-Best.dict)) c.lines-lines.ensures.market best.2,
-        worst_broken m x worst.0 c.in-Broken.row worst.1,
-      ),
-    )
+    let market = c.lines-lines.ensures.market in
+    let best_x = best_for m rs x (choice_duals m rs (choice_of c.in-Best.dict)) market best.2 in
+    let worst = screened_broken g c in
+    (worst_inside m market rs x worst.0 c.in-Broken.row worst.1, worst_new m market rs x worst.0 c.in-Broken.row worst.1 best_x, (x, best_x, worst_broken m market rs x worst.0 c.in-Broken.row worst.1))
 
 pub with_row-requires-clause-holds : goal.with_row-requires-clause-holds
 with_row-requires-clause-holds g c = (found_best g (goal.at.with_row-requires-clause-holds g c).After-slice-3).0.holds
@@ -127,24 +132,28 @@ with_row-requires-clause-holds g c = (found_best g (goal.at.with_row-requires-cl
 pub with_row-requires-clause-row : goal.with_row-requires-clause-row
 with_row-requires-clause-row g c = let at = goal.at.with_row-requires-clause-row g c in (broken_row g at.In-Broken (found_best g at.After-slice-3)).0
 
+pub with_row-requires-clause-new : goal.with_row-requires-clause-new
+with_row-requires-clause-new g c = let at = goal.at.with_row-requires-clause-new g c in (broken_row g at.In-Broken (found_best g at.After-slice-3)).1
+
 pub with_row-requires-clause-broken : goal.with_row-requires-clause-broken
-with_row-requires-clause-broken g c = let at = goal.at.with_row-requires-clause-broken g c in (broken_row g at.In-Broken (found_best g at.After-slice-3)).1
+with_row-requires-clause-broken g c = let at = goal.at.with_row-requires-clause-broken g c in (broken_row g at.In-Broken (found_best g at.After-slice-3)).2
 
 pub returns-in_ok-with_row-in-Broken-clause-round : goal.returns-in_ok-with_row-in-Broken-clause-round
 returns-in_ok-with_row-in-Broken-clause-round g c =
     let at = goal.at.returns-in_ok-with_row-in-Broken-clause-round g c in
     let broken = broken_row g at.In-Broken (found_best g at.After-slice-3) in (
       c.in_ok-with_row-in-Broken.ensures.hand,
-      (
-        c.in-Broken.row,
-        c.in_ok-with_row-in-Broken.ensures.rows,
-        broken.0,
-        row_is_new c.args.market.now c.args.hand.taken.rows c.in-Broken.row c.lines-lines.ensures.market c.lines-lines.ensures.hard broken.1,
-        broken.1,
-      ),
+      (c.in-Broken.row, c.in_ok-with_row-in-Broken.ensures.rows, broken.0, broken.1, broken.2),
     )
 
--- ---- where all limits hold
+-- ---- where all limits are kept
+screened_within : (g : Over) (c : In-Within g) → IsScreened g.N.Exact.value c.args.market.now c.args.hand.taken.rows (dispatch_of g.N.Exact.value c.slice-3.result.now) (screened.Within c.in-Within.flows)
+screened_within g c =
+    let value = g.N.Exact.value in
+    let m = c.args.market.now in
+    let x = dispatch_of value c.slice-3.result.now in
+    subst (λ rs. IsScreened value m rs x (screened.Within c.in-Within.flows)) c.slice-4.ensures (subst (IsScreened value m c.slice-4.result.now x) c.in-Within.is c.in_ok-row.ensures.screened)
+
 pub duals-requires-clause-holds : goal.duals-requires-clause-holds
 duals-requires-clause-holds g c = (c.args.hand.taken.rows, (found_best g (goal.at.duals-requires-clause-holds g c).After-slice-3).0)
 
@@ -160,34 +169,28 @@ solved_by_duals g c best =
     subst (λ xs. IsSolvedBy m rs (dispatch_of g.N.Exact.value xs) (duals_at g.N.Exact.value c.in_ok-duals-in-Within.duals)) c.slice-3.ensures
     (subst (IsSolvedBy m rs (dispatch_of g.N.Exact.value c.slice-3.result.now)) (sym (c.in_ok-duals-in-Within.ensures rs best.0)) best.2)
 
-pub answer_of-requires-clause-solved : goal.answer_of-requires-clause-solved
-answer_of-requires-clause-solved g c = let at = goal.at.answer_of-requires-clause-solved g c in (c.args.hand.taken.rows, solved_by_duals g at.After-deref (found_best g at.After-slice-3))
+solution_by_duals : (g : Over) (c : After-deref g) → let m = c.args.market.now in let rs = c.args.hand.taken.rows in
+    IsFound g.N.Exact.value m rs (found.Best c.in-Best.dict c.slice-3.result.now) → AllKept m rs (dispatch_of g.N.Exact.value c.slice-3.result.now)
+    → IsSolution m rs (dispatch_of g.N.Exact.value c.in-Best.dispatch) (duals_at g.N.Exact.value c.in_ok-duals-in-Within.duals)
+solution_by_duals g c best kept = record { solved = solved_by_duals g c best; kept = subst (λ xs. AllKept c.args.market.now c.args.hand.taken.rows (dispatch_of g.N.Exact.value xs)) c.slice-3.ensures kept }
 
-pub answer_of-requires-clause-feasible : goal.answer_of-requires-clause-feasible
-answer_of-requires-clause-feasible g c =
-    let value = g.N.Exact.value in
-    let m = c.args.market.now in
-    let rs = c.args.hand.taken.rows in
-    let x = dispatch_of value c.slice-3.result.now in
-    let all = subst (IsScreened value m x) c.in-Within.is c.in_ok-row.ensures.screened in
-    let best = (found_best g (goal.at.answer_of-requires-clause-feasible g c).After-slice-3).2 in
-    subst (λ xs. Feasible m (dispatch_of value xs)) c.slice-3.ensures
-    (feasible_over_all m rs x (best_for m rs x (choice_duals m rs (choice_of c.in-Best.dict)) c.lines-lines.ensures.market best) all.0)
+pub answer_of-requires-clause-solved : goal.answer_of-requires-clause-solved
+answer_of-requires-clause-solved g c =
+    let at = goal.at.answer_of-requires-clause-solved g c in
+    (c.args.hand.taken.rows, solution_by_duals g at.After-deref (found_best g at.After-slice-3) (screened_within g at.In-Within).0)
 
 pub answer_of-requires-clause-flows : goal.answer_of-requires-clause-flows
 answer_of-requires-clause-flows g c =
     let value = g.N.Exact.value in
-    let m = c.args.market.now in
-    let x = dispatch_of value c.slice-3.result.now in
-    let all = subst (IsScreened value m x) c.in-Within.is c.in_ok-row.ensures.screened in
-    ap (map value) c.deref.ensures.value ∙ all.1 ∙ ap (λ xs. flows_at m (dispatch_of value xs)) c.slice-3.ensures
+    let all = screened_within g (goal.at.answer_of-requires-clause-flows g c).In-Within in
+    ap (map value) c.deref.ensures.value ∙ all.1 ∙ ap (λ xs. flows_at c.args.market.now (dispatch_of value xs)) c.slice-3.ensures
 
 pub returns-in_err-answer-in-Within-clause-cause : goal.returns-in_err-answer-in-Within-clause-cause
 returns-in_err-answer-in-Within-clause-cause g c =
     let at = goal.at.returns-in_err-answer-in-Within-clause-cause g c in
     let p = err_from_is_err_and c.from_residual-in_err-answer-in-Within.result c.from_residual-in_err-answer-in-Within.ensures.1 in
     let given : c.from_residual-in_err-answer-in-Within.result ≡ Err c.in_err-answer-in-Within.field-0.0 = p.1 ∙ ap Err p.2 in
-    rw given (c.in_err-answer-in-Within.ensures.cause c.args.hand.taken.rows (solved_by_duals g at.After-deref (found_best g at.After-slice-3)))
+    rw given (c.in_err-answer-in-Within.ensures.cause c.args.hand.taken.rows (solution_by_duals g at.After-deref (found_best g at.After-slice-3) (screened_within g at.In-Within).0))
 
 pub returns-in_ok-answer-in-Within-clause-round : goal.returns-in_ok-answer-in-Within-clause-round
 returns-in_ok-answer-in-Within-clause-round g c =

@@ -1,19 +1,17 @@
 use Rattle.std.proofs.lemmas.List.{length-map}
-use Rattle.std.proofs.Common.{rules, Err, inl, inr, ap, sym, subst, ◌∙◌, ◌≡◌, ℕ, map}
+use Rattle.std.proofs.Common.{rules, Err, inl, inr, ap, sym, subst, ◌∙◌, ◌≡◌, map}
 use Rattle.std.specs.Prelude.{List, MatchOption, Option}
 use Rattle.std.proofs.lemmas.Result.{err_from_is_err_and}
 use Rattle.fraction_theory.specs.Fraction.{Fraction}
 use Rattle.market_model.specs.declared.limits.Row.{Row}
-use Rattle.market_model.specs.LimitRows.{flow_by}
-use Rattle.market_model.specs.Overrun.{IsWorst}
 use Rattle.market_model.specs.Valued.{passed_at}
 use Rattle.market_model.specs.PutIn.{dispatch_of}
 use Rattle.market_model.proofs.StopLemmas.{on_passed_weaker}
 use Rattle.limit_screen.specs.Flows.{flows_at, line_in, IsFlowsRefusal}
-use Rattle.limit_screen.specs.Screening.{AllHold, IsScreenRefusal}
+use Rattle.limit_screen.specs.Screening.{AllKeep, IsScreenRefusal, IsWorstBy}
 use Rattle.market_model.specs.declared.stops.Stop.TheVariants as stop
 use Rattle.limit_screen.proofs.ScreenLemmas.{flow_count}
-use Rattle.clear_loop.proofs.BrokenLemmas.{all_within, worst_at}
+use Rattle.clear_loop.proofs.BrokenLemmas.{all_kept, worst_at}
 use Rattle.clear_loop.proofs.screen.screened_at.Goals as goal
 
 pub returns-in_err-by_place-clause-cause : goal.returns-in_err-by_place-clause-cause
@@ -47,8 +45,9 @@ returns-in-Some-clause-screened g c =
     let x = dispatch_of value c.args.dispatch.now in
     let fs : map value c.deref.result.now ≡ flows_at m x = ap (map value) c.deref.ensures.value ∙ c.in_ok-by_place.ensures.flows in
     let f = line_in m (map value c.deref.result.now) in
-    let worst = subst (λ (o : Option Row). MatchOption o (AllHold m f) (λ row. (place : ℕ) × IsWorst m (flow_by m f) place row)) c.in-Some.is c.in_ok-row.ensures.worst in
-    (worst.0, worst_at m c.lines-lines.ensures.market x (map value c.deref.result.now) fs worst.0 c.in-Some.row worst.1)
+    let g = c.args.taken.now in
+    let worst = subst (λ (o : Option Row). MatchOption o (AllKeep m g f) (IsWorstBy m g f)) c.in-Some.is c.in_ok-row.ensures.worst in
+    (worst.0, worst_at m c.lines-lines.ensures.market g x (map value c.deref.result.now) fs worst.0 c.in-Some.row worst.1)
 
 pub returns-in-None-clause-screened : goal.returns-in-None-clause-screened
 returns-in-None-clause-screened g c =
@@ -57,5 +56,6 @@ returns-in-None-clause-screened g c =
     let x = dispatch_of value c.args.dispatch.now in
     let fs : map value c.deref.result.now ≡ flows_at m x = ap (map value) c.deref.ensures.value ∙ c.in_ok-by_place.ensures.flows in
     let f = line_in m (map value c.deref.result.now) in
-    let hold = subst (λ (o : Option Row). MatchOption o (AllHold m f) (λ row. (place : ℕ) × IsWorst m (flow_by m f) place row)) c.in-None.is c.in_ok-row.ensures.worst in
-    (all_within m c.lines-lines.ensures.market x (map value c.deref.result.now) fs c.lines-lines.ensures.hard hold, ap (map value) (sym c.deref.ensures.value) ∙ fs)
+    let g = c.args.taken.now in
+    let keep = subst (λ (o : Option Row). MatchOption o (AllKeep m g f) (IsWorstBy m g f)) c.in-None.is c.in_ok-row.ensures.worst in
+    (all_kept m c.lines-lines.ensures.market g x (map value c.deref.result.now) fs keep, ap (map value) (sym c.deref.ensures.value) ∙ fs)

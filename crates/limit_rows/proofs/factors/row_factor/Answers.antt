@@ -10,7 +10,7 @@ use Rattle.market_model.specs.LimitRows.{factor_terms, row_factor}
 use Rattle.market_model.specs.NamedSums.{IsRefusedIn}
 use Rattle.market_model.specs.Valued.{passed_at}
 use Rattle.limit_rows.proofs.FlowSteps.{base_factor, factor_after, factor_refused}
-use Rattle.limit_rows.proofs.WideFactors.{factor_fits}
+use Rattle.limit_rows.proofs.WideFactors.{row_factor_fits}
 use Rattle.limit_rows.proofs.factors.row_factor.Goals as goal
 
 pub returns-in-Base-clause-factor : goal.returns-in-Base-clause-factor
@@ -57,7 +57,7 @@ returns-in-Branch-clause-wide g c =
     λ wide.
     IfErr-weaker c.with_share.result _ _
     (λ e h.
-    factor_fits g.N.Exact.bound _ _ _ wide
+    row_factor_fits g.N.Exact.bound _ _ _ wide
     (subst (λ (z : ℤ). unsigned_abs z ≤ most_market_factor) (sym shift) c.shift_of.ensures.size)
     (subst (λ (z : ℤ). unsigned_abs z ≤ most_market_factor) (sym loss) c.loss_of.ensures.size)
     (subst (λ (z : ℤ). unsigned_abs z ≤ most_market_factor) (sym lost) c.shift_of-in-Branch.ensures.size)

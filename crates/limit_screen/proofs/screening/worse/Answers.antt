@@ -1,29 +1,35 @@
 use Rattle.std.proofs.Common.{length, subst, subst₂}
 use Rattle.fraction_theory.specs.Order.{◌<ℚ◌, ◌≤ℚ◌}
-use Rattle.market_model.specs.Dispatch.{zero}
+use Rattle.market_model.specs.Overrun.{IsBeyond, overrun}
+use Rattle.market_model.specs.declared.limits.Row.{Row}
 use Rattle.limit_screen.specs.Screening.{IsWorstOf}
-use Rattle.limit_screen.proofs.ScreenLemmas.{not_past, new_worst, old_worst, worse_than_old, worse_than_held}
+use Rattle.limit_screen.proofs.ScreenLemmas.{not_past, new_worst, old_worst, worse_than_old, worse_than_kept}
 use Rattle.limit_screen.proofs.screening.worse.Goals as goal
 
 pub returns-in-Greater : goal.returns-in-Greater
-returns-in-Greater g c = λ e rs before is.
+returns-in-Greater g c = λ m taken f rs before beyond is.
     let r = c.args.row in
     let old = c.in-Some.broken.row in
-    let h = subst (IsWorstOf g.N.Exact.value e rs) c.in-Some.is before in
+    let counts = λ (s : Row). IsBeyond m taken s (f s) in
+    let e = λ (s : Row). overrun m s (f s) in
+    let h = subst (IsWorstOf g.N.Exact.value m taken f rs) c.in-Some.is before in
     let more : e old <ℚ e r = subst₂ (λ x y. x <ℚ y) h.1 is c.in-Greater.ensures in
-    ((length rs, new_worst e rs r (worse_than_old e rs h.0.0 old r h.0.1 more) (subst (λ x. zero <ℚ x) is c.requires)), is)
+    ((length rs, new_worst counts e rs r (worse_than_old counts e rs r h.0.0 old h.0.1 more) beyond), is)
 
 pub returns-in-Less : goal.returns-in-Less
-returns-in-Less g c = λ e rs before is.
+returns-in-Less g c = λ m taken f rs before beyond is.
     let r = c.args.row in
     let old = c.in-Some.broken.row in
-    let h = subst (IsWorstOf g.N.Exact.value e rs) c.in-Some.is before in
+    let counts = λ (s : Row). IsBeyond m taken s (f s) in
+    let e = λ (s : Row). overrun m s (f s) in
+    let h = subst (IsWorstOf g.N.Exact.value m taken f rs) c.in-Some.is before in
     let less : e r ≤ℚ e old = subst₂ (λ x y. x ≤ℚ y) is h.1 (not_past c.order.result (g.N.Exact.value c.args.overrun) (g.N.Exact.value c.in-Some.broken.overrun) c.order.ensures c.in-Less.is) in
-    ((h.0.0, old_worst e rs h.0.0 old r h.0.1 less), h.1)
+    ((h.0.0, old_worst counts e rs r h.0.0 old h.0.1 (λ _. less)), h.1)
 
 pub returns-in-None : goal.returns-in-None
-returns-in-None g c = λ e rs before is.
+returns-in-None g c = λ m taken f rs before beyond is.
     let r = c.args.row in
-    let h = subst (IsWorstOf g.N.Exact.value e rs) c.in-None.is before in
-    let above : zero <ℚ e r = subst (λ x. zero <ℚ x) is c.requires in
-    ((length rs, new_worst e rs r (worse_than_held e rs r h above) above), is)
+    let counts = λ (s : Row). IsBeyond m taken s (f s) in
+    let e = λ (s : Row). overrun m s (f s) in
+    let h = subst (IsWorstOf g.N.Exact.value m taken f rs) c.in-None.is before in
+    ((length rs, new_worst counts e rs r (worse_than_kept g.N.Exact.value m taken f rs r h) beyond), is)

@@ -1,37 +1,31 @@
-use Rattle.std.proofs.Common.{ℕ, map, subst}
-use Rattle.std.specs.Prelude.{MatchOption}
+use Rattle.std.proofs.Common.{map, subst}
+use Rattle.std.specs.Prelude.{MatchOption, Option}
 use Rattle.market_model.specs.declared.limits.Row.{Row}
-use Rattle.market_model.specs.LimitRows.{flow_by, rows}
-use Rattle.market_model.specs.Overrun.{IsWorst}
+use Rattle.market_model.specs.LimitRows.{rows}
 use Rattle.limit_rows.proofs.PlaceLemmas.{at_places}
 use Rattle.limit_screen.specs.Flows.{line_in}
-use Rattle.limit_screen.specs.Screening.{AllHold}
+use Rattle.limit_screen.specs.Screening.{AllKeep, IsWorstBy}
 use Rattle.limit_screen.proofs.ScreenLemmas.{listed_row}
+use Rattle.limit_screen.proofs.screening.worst.Given.{Over}
 use Rattle.limit_screen.proofs.screening.worst.Goals as goal
+use Rattle.limit_screen.proofs.screening.worst.Goals.{In-Some}
+
+-- the worst of the rows of these names
+worst_of_named : (g : Over) (c : In-Some g) → let m = c.args.market.now in IsWorstBy m c.requires.taken.0 (line_in m (map g.N.Exact.value c.args.flows.now)) c.in-Some.row
+worst_of_named g c =
+    let m = c.args.market.now in
+    let taken = c.requires.taken.0 in
+    let f = line_in m (map g.N.Exact.value c.args.flows.now) in
+    subst (λ (o : Option Row). MatchOption o (AllKeep m taken f) (IsWorstBy m taken f)) c.in-Some.is (c.in_ok-row.ensures.worst taken c.requires.taken.1)
 
 pub name_at-requires-clause-line : goal.name_at-requires-clause-line
 name_at-requires-clause-line g c =
     let m = c.args.market.now in
-    let f = line_in m (map g.N.Exact.value c.args.flows.now) in
-    let worst = subst (λ o. MatchOption o (AllHold m f) (λ (row : Row). (place : ℕ) × IsWorst m (flow_by m f) place row)) c.in-Some.is c.in_ok-row.ensures.worst in
+    let worst = worst_of_named g (goal.at.name_at-requires-clause-line g c).In-Some in
     (at_places m c.lines-lines.ensures.market c.in-Some.row (listed_row (rows m) worst.0 c.in-Some.row worst.1.stands)).0
 
 pub name_at-requires-clause-lost : goal.name_at-requires-clause-lost
 name_at-requires-clause-lost g c =
     let m = c.args.market.now in
-    let f = line_in m (map g.N.Exact.value c.args.flows.now) in
-    let worst = subst (λ o. MatchOption o (AllHold m f) (λ (row : Row). (place : ℕ) × IsWorst m (flow_by m f) place row)) c.in-Some.is c.in_ok-row.ensures.worst in
+    let worst = worst_of_named g (goal.at.name_at-requires-clause-lost g c).In-Some in
     (at_places m c.lines-lines.ensures.market c.in-Some.row (listed_row (rows m) worst.0 c.in-Some.row worst.1.stands)).1
-
-pub returns-in-Some-clause-worst : goal.returns-in-Some-clause-worst
-returns-in-Some-clause-worst g c =
-    let m = c.args.market.now in
-    let f = line_in m (map g.N.Exact.value c.args.flows.now) in
-    let worst = subst (λ o. MatchOption o (AllHold m f) (λ (row : Row). (place : ℕ) × IsWorst m (flow_by m f) place row)) c.in-Some.is c.in_ok-row.ensures.worst in
-    (worst.0, c.in-Some.row, worst.1, c.name_at.ensures)
-
-pub returns-in-None-clause-worst : goal.returns-in-None-clause-worst
-returns-in-None-clause-worst g c =
-    let m = c.args.market.now in
-    let f = line_in m (map g.N.Exact.value c.args.flows.now) in
-    subst (λ o. MatchOption o (AllHold m f) (λ (row : Row). (place : ℕ) × IsWorst m (flow_by m f) place row)) c.in-None.is c.in_ok-row.ensures.worst

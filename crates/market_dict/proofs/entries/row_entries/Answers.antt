@@ -1,26 +1,16 @@
-use Rattle.std.proofs.Common.{◌≡◌, ◌∙◌, ◌+◌, List, map, ap, subst, sym, length, arith, pos, ℕ}
-use Rattle.std.specs.Prelude.{slice_index_or}
-use Rattle.market_model.specs.declared.participants.Block.{Block}
-use Rattle.market_model.specs.declared.participants.Side.TheVariants.{Sell}
-use Rattle.market_model.specs.Dispatch.{places}
-use Rattle.market_system.specs.MarketSystem.{block_coefficient}
-use Rattle.market_dict.proofs.EntryLemmas.{row_entry_is}
-use Rattle.market_dict.proofs.ListedLemmas.{places_filled}
+use Rattle.std.proofs.Common.{◌≡◌, ◌-◌, ◌∙◌, ◌++◌, List, arith, ap, map, length, refl}
+use Rattle.fraction_theory.specs.Fraction.{Fraction}
+use Rattle.market_system.specs.MarketSystem.{excess_columns, limit_coefficient}
+use Rattle.market_dict.proofs.ColumnLists.{excess_count, limit_entries}
 use Rattle.market_dict.proofs.entries.row_entries.Goals as goal
-
-pub loop-block-preserved : goal.loop-block-preserved
-loop-block-preserved g c =
-    let m = c.args.market.now in
-    let k = c.loop-block.block-index in
-    let blocks = c.slice-block-items.ensures ∙ c.blocks-2.ensures.list in
-    let read = ap (λ (bs : List Block). slice_index_or bs k (record { unit = 0; side = Sell; quantity = pos 0; price = pos 0 })) blocks in
-    subst (λ (xs : List g.row.N.Denot). map g.N.Exact.value xs ≡ map (block_coefficient m c.args.row) (places (k + 1))) (sym c.in_ok-push.ensures)
-    (places_filled g.N.Exact.value (block_coefficient m c.args.row) c.loop-block.entries k _ c.loop-block.invariant
-    (c.in_ok-row_entry.ensures.entry ∙ row_entry_is m c.args.row k _ read))
+use Rattle.std.specs.Prelude.{[], ◌∷◌}
 
 pub returns-clause-entries : goal.returns-clause-entries
-returns-clause-entries g c =
+returns-clause-entries g c = λ rs absent count.
     let m = c.args.market.now in
-    let blocks = c.slice-block-items.ensures ∙ c.blocks-2.ensures.list in
-    let all : c.loop-block.block-index ≡ length m.blocks = omega (arith, ap length blocks) in
-    subst (λ (n : ℕ). map g.N.Exact.value c.loop-block.entries ≡ map (block_coefficient m c.args.row) (places n)) all c.loop-block.invariant
+    let value = g.N.Exact.value in
+    let blocks : c.len.result ≡ length m.blocks = c.len.ensures ∙ ap length c.blocks-2.ensures.list in
+    let others : c.args.columns - c.len.result ≡ length (excess_columns m rs) = omega (arith, count, blocks, excess_count m rs) in
+    limit_entries m rs c.args.row absent (map value c.in_ok-entries.entries) (map (limit_coefficient m c.args.row) (excess_columns m (c.args.row ∷ []))) (map value c.push_own.new.entries) (c.args.columns - c.len.result) others
+    c.in_ok-entries.ensures.entries refl
+    (c.in_ok-push_own.ensures ∙ ap (λ (xs : List Fraction). xs ++ map (limit_coefficient m c.args.row) (excess_columns m (c.args.row ∷ []))) c.in_ok-push_others.ensures)

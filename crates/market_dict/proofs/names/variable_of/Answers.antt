@@ -16,7 +16,7 @@ returns-then-place-blocks-2 c = named_balance c.args.market.now c.lines-lines.en
 pub row_at-requires : goal.row_at-requires
 row_at-requires c =
     let blocks = c.len-blocks.ensures ∙ ap length c.blocks-2.ensures.list in
-    let below = name_below c.args.market.now c.lines-lines.ensures.market c.args.name c.requires in
+    let below = name_below c.args.market.now c.args.name c.requires in
     omega (arith, below, blocks, c.if-place-blocks.false, c.if-place-blocks-2.false)
 
 pub returns : goal.returns

@@ -13,7 +13,6 @@ use Rattle.market_model.specs.SumTables.{balance_of_all, flow_in_balance}
 use Rattle.market_model.proofs.SumParts.{flow_carried}
 use Rattle.market_dict.specs.Refusals.{of_sum}
 use Rattle.market_dict.specs.PricesAndBounds.{ArePricesAndBounds}
-use Rattle.market_model.specs.declared.stops.Stop.TheVariants.{Passed as StoppedBy}
 use Rattle.market_model.proofs.StopLemmas.{on_passed_weaker}
 use Rattle.market_dict.proofs.posing.prices_and_bounds.Goals as goal
 
@@ -22,10 +21,10 @@ returns-in_err-base_flows-clause-cause g c =
     let given : c.from_residual-in_err-base_flows.result ≡ Err c.in_err-base_flows.field-0.0 = search rules in
     rw given (on_passed_weaker c.in_err-base_flows.field-0.0 _ _ (λ p h. of_sum (h.0, flow_carried c.args.market.now (empty c.args.market.now) h.0 h.1, h.2)) c.in_err-base_flows.ensures.cause)
 
-pub returns-in_err-residual_demand-clause-cause : goal.returns-in_err-residual_demand-clause-cause
-returns-in_err-residual_demand-clause-cause g c =
-    let given : c.from_residual-in_err-residual_demand.result ≡ Err (StoppedBy c.in_err-residual_demand.field-0.0) = search rules in
-    rw given (of_sum (_, flow_in_balance _ balance_of_all, c.in_err-residual_demand.ensures.cause))
+pub returns-in_err-row_bounds-clause-cause : goal.returns-in_err-row_bounds-clause-cause
+returns-in_err-row_bounds-clause-cause g c =
+    let given : c.from_residual-in_err-row_bounds.result ≡ Err c.in_err-row_bounds.field-0.0 = search rules in
+    rw given (on_passed_weaker c.in_err-row_bounds.field-0.0 _ _ (λ p h. of_sum (_, flow_in_balance _ balance_of_all, h)) c.in_err-row_bounds.ensures.cause)
 
 pub take_bounds-requires-clause-row : goal.take_bounds-requires-clause-row
 take_bounds-requires-clause-row g c = c.requires.rows c.loop-row.row-index (record { line = 0; cause = Base }) c.loop-row-test.true

@@ -1,40 +1,66 @@
-use Rattle.std.proofs.Common.{◌≡◌, ◌∙◌, Err, ℕ, inl, inr, map, ap, sym, subst}
+use Rattle.std.proofs.Common.{◌≡◌, ◌∙◌, Err, ℕ, arith, inl, inr, map, ap, sym, subst}
 use Rattle.std.proofs.lemmas.Result.{err_from_is_err_and}
 use Rattle.std.specs.List.{Contains}
 use Rattle.linear_dict.specs.Causes.{IsPairWith}
 use Rattle.linear_dict.specs.Dictionaries.{AddsRow}
 use Rattle.market_model.proofs.StopLemmas.{on_passed_weaker}
-use Rattle.market_dict.proofs.HoldingLaws.{name_is_new, row_named, holds_taken, pair_taken}
+use Rattle.market_dict.proofs.ColumnLists.{excess_count}
+use Rattle.market_dict.proofs.HoldingLaws.{absent_from, put_count, row_is_new, entry_count, holds_taken, pair_taken}
 use Rattle.market_dict.proofs.rows.take_limit.Goals as goal
+
+pub row_entries-requires-clause-columns : goal.row_entries-requires-clause-columns
+row_entries-requires-clause-columns g c =
+    let m = c.args.market.now in
+    let h = c.requires.holds in
+    let count = put_count m c.lines-lines.ensures.market h.0 c.args.dict.now c.args.row h.1 c.requires.row h.2 c.column_count.result c.column_count.ensures in
+    omega (arith, count, excess_count m h.0)
+
+pub add_row-requires-clause-live : goal.add_row-requires-clause-live
+add_row-requires-clause-live g c = let h = c.requires.holds in (c.in_ok-put_columns.ensures h.0 h.1 h.2).live
 
 pub add_row-requires-clause-absent : goal.add_row-requires-clause-absent
 add_row-requires-clause-absent g c =
+    let m = c.args.market.now in
     let h = c.requires.holds in
-    subst (λ (n : ℕ). ¬ (Contains c.args.dict.now.names n)) (sym c.name_of-name.ensures)
-    (name_is_new c.args.market.now h.0 c.args.dict.now c.args.row c.lines-lines.ensures.market h.1 c.requires.row h.2)
+    let put = c.put_columns.new.dict in
+    subst (λ (n : ℕ). ¬ (Contains put.names n)) (sym c.name_of-name.ensures)
+    (row_is_new m c.lines-lines.ensures.market h.0 c.args.dict.now c.args.row h.1 c.requires.row h.2 put (c.in_ok-put_columns.ensures h.0 h.1 h.2))
+
+pub add_row-requires-clause-entries : goal.add_row-requires-clause-entries
+add_row-requires-clause-entries g c =
+    let m = c.args.market.now in
+    let market = c.lines-lines.ensures.market in
+    let h = c.requires.holds in
+    let count = put_count m market h.0 c.args.dict.now c.args.row h.1 c.requires.row h.2 c.column_count.result c.column_count.ensures in
+    entry_count m market h.0 c.args.dict.now c.args.row h.1 c.requires.row h.2 c.put_columns.new.dict (c.in_ok-put_columns.ensures h.0 h.1 h.2) g.N.Exact.value c.slice.result.now
+    (ap (map g.N.Exact.value) c.slice.ensures ∙ c.in_ok-entries.ensures.entries h.0 h.2 count)
 
 pub returns-in-Ok-clause-taken : goal.returns-in-Ok-clause-taken
 returns-in-Ok-clause-taken g c = λ rs holds.
     let m = c.args.market.now in
+    let market = c.lines-lines.ensures.market in
     let d = c.args.dict.now in
     let r = c.args.row in
     let h = c.requires.holds in
-    let fresh = name_is_new m h.0 d r c.lines-lines.ensures.market h.1 c.requires.row h.2 in
-    holds_taken g.N.Exact.value m rs r c.slice.result.now d c.add_row.new.self c.lines-lines.ensures.market holds c.requires.row (λ k. fresh (row_named m rs d holds r k))
-    (ap (map g.N.Exact.value) c.slice.ensures ∙ c.in_ok-entries.ensures.entries)
-    (subst (λ (n : ℕ). AddsRow g.N.Exact.value d n c.slice.result.now c.add_row.new.self) c.name_of-name.ensures c.in-Ok.ensures.added)
+    let absent = absent_from m market h.0 d r h.1 c.requires.row h.2 rs holds in
+    let count = put_count m market rs d r holds c.requires.row absent c.column_count.result c.column_count.ensures in
+    holds_taken m market rs d r holds c.requires.row absent c.put_columns.new.dict (c.in_ok-put_columns.ensures rs holds absent) g.N.Exact.value c.slice.result.now
+    (ap (map g.N.Exact.value) c.slice.ensures ∙ c.in_ok-entries.ensures.entries rs absent count) c.add_row.new.self
+    (subst (λ (n : ℕ). AddsRow g.N.Exact.value c.put_columns.new.dict n c.slice.result.now c.add_row.new.self) c.name_of-name.ensures c.in-Ok.ensures.added)
 
 pub returns-in-Err-Passed-clause-cause : goal.returns-in-Err-Passed-clause-cause
 returns-in-Err-Passed-clause-cause g c = λ rs holds.
     let m = c.args.market.now in
+    let market = c.lines-lines.ensures.market in
     let d = c.args.dict.now in
     let r = c.args.row in
     let h = c.requires.holds in
-    let fresh = name_is_new m h.0 d r c.lines-lines.ensures.market h.1 c.requires.row h.2 in
+    let absent = absent_from m market h.0 d r h.1 c.requires.row h.2 rs holds in
+    let count = put_count m market rs d r holds c.requires.row absent c.column_count.result c.column_count.ensures in
     let pair = rw c.in-Err-Passed.field-0-is at c.in-Err-Passed.ensures.pair in
-    inl (pair_taken g.N.Exact.value g.N.Exact.bound m rs r c.slice.result.now d c.in-Err-Passed.passed c.lines-lines.ensures.market holds c.requires.row (λ k. fresh (row_named m rs d holds r k))
-    (ap (map g.N.Exact.value) c.slice.ensures ∙ c.in_ok-entries.ensures.entries)
-    (subst (λ (n : ℕ). IsPairWith g.N.Exact.value g.N.Exact.bound d n c.slice.result.now c.in-Err-Passed.passed) c.name_of-name.ensures pair))
+    inl (pair_taken m market rs d r holds c.requires.row absent c.put_columns.new.dict (c.in_ok-put_columns.ensures rs holds absent) g.N.Exact.value c.slice.result.now
+    (ap (map g.N.Exact.value) c.slice.ensures ∙ c.in_ok-entries.ensures.entries rs absent count) g.N.Exact.bound c.in-Err-Passed.passed
+    (subst (λ (n : ℕ). IsPairWith g.N.Exact.value g.N.Exact.bound c.put_columns.new.dict n c.slice.result.now c.in-Err-Passed.passed) c.name_of-name.ensures pair))
 
 pub returns-in_err-entries-clause-cause : goal.returns-in_err-entries-clause-cause
 returns-in_err-entries-clause-cause g c = λ rs holds.

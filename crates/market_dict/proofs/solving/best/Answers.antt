@@ -13,6 +13,6 @@ returns g c = λ rs holds.
         is_choice = shown_choice m rs c.args.dict holds c.requires.shows;
         dispatch = c.in_ok-dispatch.ensures rs holds;
         duals = refl;
-        answers = solved_answers m rs c.args.dict c.lines-lines.ensures.market c.lines-lines.ensures.hard holds c.requires.shows c.requires.solved;
+        answers = solved_answers m rs c.args.dict c.lines-lines.ensures.market holds c.requires.shows c.requires.solved;
       },
     )

@@ -16,7 +16,7 @@ pub returns-clause-found : goal.returns-clause-found
 returns-clause-found g c = λ rs holds.
     let m = c.args.market.now in
     let d = c.args.dict in
-    let shows = empty_shows m rs d c.args.row c.args.above c.lines-lines.ensures.market c.lines-lines.ensures.hard holds c.requires.shows c.requires.empty in
+    let shows = empty_shows m rs d c.args.row c.args.above c.lines-lines.ensures.market holds c.requires.shows c.requires.empty in
     let duals = c.in_ok-farkas.ensures.duals rs holds in
     let bound = c.in_ok-farkas.ensures.bound rs holds in
     let same = ap₂ (λ (ds : Duals Fraction) (x : Fraction). let y : Farkas Fraction = record { duals = ds; bound = x } in y) duals bound in (

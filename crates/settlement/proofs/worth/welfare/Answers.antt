@@ -1,38 +1,52 @@
-use Rattle.std.proofs.Common.{rules, Err, refl, ◌<◌, ◌≡◌, ◌∙◌, ap, length, pos, arith}
-use Rattle.std.specs.Prelude.{slice_index_or}
-use Rattle.exact_fraction.proofs.Shares.{share_refused}
-use Rattle.market_model.specs.declared.participants.Side.TheVariants.{Sell}
+use Rattle.std.proofs.Common.{rules, Err, ◌≡◌, ◌∙◌, map, sym}
+use Rattle.std.specs.Prelude.{Contains}
+use Rattle.std.proofs.lemmas.List.{length-map}
+use Rattle.market_model.specs.LimitRows.{rows}
 use Rattle.market_model.specs.PutIn.{dispatch_of}
 use Rattle.market_model.specs.Valued.{passed_at}
-use Rattle.settlement.proofs.PayLemmas.{hard_worth, hard_worth_refused, welfare_step, welfare_refused}
+use Rattle.limit_rows.proofs.WalkLemmas.{taken_listed, taken_next}
+use Rattle.limit_screen.proofs.ScreenLemmas.{flow_count}
+use Rattle.settlement.proofs.WorthLemmas.{cost_refused, worth_less, worth_of_values, worth_same}
 use Rattle.settlement.proofs.worth.welfare.Goals as goal
 
-pub loop-place-preserved : goal.loop-place-preserved
-loop-place-preserved g c =
-    let blocks = c.slice-block-items.ensures ∙ c.blocks-2.ensures.list in
-    welfare_step g.N.Exact.value c.args.market.now c.args.dispatch.now c.loop-place.place _ c.index-dispatch-place.result _ _ _
-    (omega (arith, c.requires, ap length blocks)) c.index-dispatch-place.is
-    (ap (λ bs. slice_index_or bs c.loop-place.place (record { unit = 0; side = Sell; quantity = pos 0; price = pos 0 })) blocks)
-    c.loop-place.invariant c.block_value.ensures c.in_ok-sum.ensures.exact
+pub loop-row-init : goal.loop-row-init
+loop-row-init g c = c.in_ok-sum.ensures.values ∙ worth_of_values c.args.market.now (dispatch_of g.N.Exact.value c.args.dispatch.now)
 
-pub returns-clause-worth : goal.returns-clause-worth
-returns-clause-worth g c =
-    let blocks = c.slice-block-items.ensures ∙ c.blocks-2.ensures.list in
-    let all : c.loop-place.place ≡ length c.args.market.now.blocks = omega (arith, ap length blocks) in
-    (rw all at c.loop-place.invariant) ∙ hard_worth c.args.market.now c.lines-lines.ensures.hard (dispatch_of g.N.Exact.value c.args.dispatch.now)
+pub is_soft-requires : goal.is_soft-requires
+is_soft-requires g c =
+    (c.rows-row-items.ensures.stand c.in-Some.row
+    (taken_listed c.args.market.now _ _ _ c.loop-row.yielded (c.into_iter-row-iterator.ensures.into_iter_gives ∙ c.rows-row-items.ensures.rows) c.loop-row.yielded_by c.next.result c.in-Some.row c.in-Some.is c.next.ensures.steps)).0
 
-pub returns-in_err-sum-clause-cause : goal.returns-in_err-sum-clause-cause
-returns-in_err-sum-clause-cause g c =
-    let value = g.N.Exact.value in
+pub less_penalty-requires-clause-lost : goal.less_penalty-requires-clause-lost
+less_penalty-requires-clause-lost g c =
+    (c.rows-row-items.ensures.stand c.in-Some.row
+    (taken_listed c.args.market.now _ _ _ c.loop-row.yielded (c.into_iter-row-iterator.ensures.into_iter_gives ∙ c.rows-row-items.ensures.rows) c.loop-row.yielded_by c.next.result c.in-Some.row c.in-Some.is c.next.ensures.steps)).1
+
+pub less_penalty-requires-clause-flows : goal.less_penalty-requires-clause-flows
+less_penalty-requires-clause-flows g c =
+    sym (length-map c.args.flows.now g.N.Exact.value) ∙ flow_count c.args.market.now (dispatch_of g.N.Exact.value c.args.dispatch.now) (map g.N.Exact.value c.args.flows.now) c.requires.flows
+
+pub loop-row-preserved : goal.loop-row-preserved
+loop-row-preserved g c =
+    worth_same c.args.market.now (dispatch_of g.N.Exact.value c.args.dispatch.now) c.loop-row.yielded c.in-Some.row (sym c.is_soft.ensures ∙ c.if-is_soft.false) (g.N.Exact.value c.loop-row.sum) c.loop-row.invariant
+
+pub loop-row-preserved-then-is_soft : goal.loop-row-preserved-then-is_soft
+loop-row-preserved-then-is_soft g c =
     let m = c.args.market.now in
-    let k = c.loop-place.place in
-    let blocks = c.slice-block-items.ensures ∙ c.blocks-2.ensures.list in
-    let given : c.from_residual.result ≡ Err c.in_err-sum.field-0.0 = search rules in
-    let below : k < length m.blocks = omega (arith, c.loop-place-test.true, ap length blocks) in
-    let same = ap (λ bs. slice_index_or bs k (record { unit = 0; side = Sell; quantity = pos 0; price = pos 0 })) blocks in
-    let inside : k < length c.args.dispatch.now = omega (arith, below, c.requires) in
+    let value = g.N.Exact.value in
+    let listed : Contains (rows m) c.in-Some.row =
+    taken_listed m _ _ _ c.loop-row.yielded (c.into_iter-row-iterator.ensures.into_iter_gives ∙ c.rows-row-items.ensures.rows) c.loop-row.yielded_by c.next.result c.in-Some.row c.in-Some.is c.next.ensures.steps in
+    worth_less m (dispatch_of value c.args.dispatch.now) c.loop-row.yielded c.in-Some.row (sym c.is_soft.ensures ∙ c.if-is_soft.true) (map value c.args.flows.now) c.requires.flows c.buses-buses.ensures.market listed
+    (value c.loop-row.sum) (value c.in_ok-sum-2.sum) c.loop-row.invariant c.in_ok-sum-2.ensures.less
+
+pub returns-in_err-sum-2-clause-cause : goal.returns-in_err-sum-2-clause-cause
+returns-in_err-sum-2-clause-cause g c =
+    let m = c.args.market.now in
+    let value = g.N.Exact.value in
+    let start = c.into_iter-row-iterator.ensures.into_iter_gives ∙ c.rows-row-items.ensures.rows in
+    let listed : Contains (rows m) c.in-Some.row = taken_listed m _ _ _ c.loop-row.yielded start c.loop-row.yielded_by c.next.result c.in-Some.row c.in-Some.is c.next.ensures.steps in
+    let given : c.from_residual-in_err-sum-2.result ≡ Err c.in_err-sum-2.field-0.0 = search rules in
     rw given
-    (hard_worth_refused m c.lines-lines.ensures.hard (dispatch_of value c.args.dispatch.now) g.N.Exact.bound (passed_at value c.in_err-sum.field-0.0)
-    (welfare_refused value m c.args.dispatch.now k _ c.index-dispatch-place.result (value c.block_value.result) (value c.loop-place.sum) g.N.Exact.bound (passed_at value c.in_err-sum.field-0.0) below inside
-    c.index-dispatch-place.is same c.loop-place.invariant c.block_value.ensures
-    (share_refused value g.N.Exact.bound c.loop-place.sum c.block_value.result c.index-dispatch-place.result c.in_err-sum.field-0.0 _ _ _ c.in_err-sum.ensures refl refl refl)))
+    (cost_refused m (dispatch_of value c.args.dispatch.now) c.loop-row.yielded c.in-Some.row (sym c.is_soft.ensures ∙ c.if-is_soft.true) (map value c.args.flows.now) c.requires.flows c.buses-buses.ensures.market listed
+    _ (value c.loop-row.sum) g.N.Exact.bound (passed_at value c.in_err-sum-2.field-0.0)
+    (taken_next m _ _ _ c.loop-row.yielded start c.loop-row.yielded_by c.next.result c.in-Some.row c.in-Some.is c.next.ensures.steps) c.loop-row.invariant c.in_err-sum-2.ensures.cause)

@@ -4,10 +4,11 @@ use Rattle.market_model.specs.declared.participants.Block.{Block}
 use Rattle.market_model.specs.declared.participants.Side.TheVariants.{Sell}
 use Rattle.market_model.specs.Dispatch.{places, quantity, zero}
 use Rattle.simplex_core.specs.declared.bounds.Bounds.{Bounds}
-use Rattle.market_dict.proofs.ListedLemmas.{places_filled, map-pushed}
-use Rattle.market_dict.proofs.TermLemmas.{quantity_read, first_ones}
+use Rattle.market_dict.proofs.ListedLemmas.{places_filled}
+use Rattle.market_dict.proofs.TermLemmas.{quantity_read}
+use Rattle.market_dict.proofs.ColumnLists.{mapped_none}
 use Rattle.market_system.specs.MarketSystem.{low as low_of, high as high_of}
-use Rattle.market_dict.proofs.posing.first_bounds.Goals as goal
+use Rattle.market_dict.proofs.posing.block_bounds.Goals as goal
 
 pub block_quantity-high-requires : goal.block_quantity-high-requires
 block_quantity-high-requires g c =
@@ -40,10 +41,7 @@ returns-clause-lows g c =
     let low = λ (b : Bounds g.row.N.Denot). g.N.Exact.value b.low in
     let blocks = c.slice-block-items.ensures ∙ c.blocks-2.ensures.list in
     let all : c.loop-block.block-index ≡ length m.blocks = omega (arith, ap length blocks) in
-    ap (map low) c.in_ok-push-2.ensures
-    ∙ map-pushed low c.loop-block.bounds (map (λ j. zero) (places (length m.blocks))) (record { low = c.args.residual_demand; high = c.args.residual_demand }) _
-    (subst (λ (n : ℕ). map low c.loop-block.bounds ≡ map (λ j. zero) (places n)) all c.loop-block.invariant.lows) c.requires
-    ∙ sym (first_ones m (low_of m))
+    subst (λ (n : ℕ). map low c.loop-block.bounds ≡ map (λ j. zero) (places n)) all c.loop-block.invariant.lows ∙ sym (mapped_none m (low_of m))
 
 pub returns-clause-highs : goal.returns-clause-highs
 returns-clause-highs g c =
@@ -51,7 +49,4 @@ returns-clause-highs g c =
     let high = λ (b : Bounds g.row.N.Denot). g.N.Exact.value b.high in
     let blocks = c.slice-block-items.ensures ∙ c.blocks-2.ensures.list in
     let all : c.loop-block.block-index ≡ length m.blocks = omega (arith, ap length blocks) in
-    ap (map high) c.in_ok-push-2.ensures
-    ∙ map-pushed high c.loop-block.bounds (map (quantity m) (places (length m.blocks))) (record { low = c.args.residual_demand; high = c.args.residual_demand }) _
-    (subst (λ (n : ℕ). map high c.loop-block.bounds ≡ map (quantity m) (places n)) all c.loop-block.invariant.highs) c.requires
-    ∙ sym (first_ones m (high_of m))
+    subst (λ (n : ℕ). map high c.loop-block.bounds ≡ map (quantity m) (places n)) all c.loop-block.invariant.highs ∙ sym (mapped_none m (high_of m))

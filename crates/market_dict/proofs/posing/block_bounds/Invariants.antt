@@ -1,7 +1,7 @@
 use Rattle.std.proofs.Common.{◌≡◌, map}
 use Rattle.market_model.specs.Dispatch.{places, quantity, zero}
 use Rattle.simplex_core.specs.declared.bounds.Bounds.{Bounds}
-use Rattle.market_dict.proofs.posing.first_bounds.Given as goal
+use Rattle.market_dict.proofs.posing.block_bounds.Given as goal
 
 abbrev pub invariant-loop-block : goal.invariant-loop-block
 invariant-loop-block g l = record {

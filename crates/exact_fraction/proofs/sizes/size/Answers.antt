@@ -1,7 +1,7 @@
 use Rattle.std.proofs.Common.{ap, sym, ◌∙◌, inl, inr}
+use Rattle.fraction_theory.specs.Signs.{abs_by, abs_ℚ}
 use Rattle.fraction_theory.specs.declared.Sign.{Sign}
-use Rattle.simplex_core.proofs.enter.size.Goals as goal
-use Rattle.fraction_theory.specs.Signs.{abs_ℚ, abs_by}
+use Rattle.exact_fraction.proofs.sizes.size.Goals as goal
 
 pub returns-in-Below : goal.returns-in-Below
 unfolding abs_ℚ

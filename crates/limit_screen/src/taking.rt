@@ -1,0 +1,28 @@
+//! Rows that are taken.
+
+ghost use Rattle.std.specs.Prelude.{◌↔◌, IsTrue, List, Contains};
+ghost use Rattle.market_model.specs.declared.limits.Row.{Row};
+ghost use Rattle.market_model.specs.LimitRows.{rows};
+ghost use Rattle.limit_screen.specs.Screening.{AreTaken};
+
+use limit_rows::name_at;
+use market_model::{Market, Row, RowId};
+
+/// Rows that are taken, as they are or by their names.
+#[derive(Clone, Copy)]
+pub(crate) enum Taken<'a> {
+    Rows(&'a [Row]),
+    Names(&'a [RowId]),
+}
+
+/// Whether a row of the market is one of them.
+pub(crate) fn is_taken(market: &Market, taken: Taken<'_>, row: Row) -> bool
+    requires { Contains (rows market.now) row }
+    ensures { (g : List Row) → AreTaken market.now g taken.entry → IsTrue result ↔ Contains g row }
+{
+    let _lines = market.lines();
+    match taken {
+        Taken::Rows(rows) => rows.contains(&row),
+        Taken::Names(names) => names.contains(&name_at(market, row)),
+    }
+}
