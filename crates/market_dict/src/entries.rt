@@ -72,7 +72,8 @@ fn push_own<N: Exact>(market: &Market, entries: &mut List<N>, row: Row) -> Resul
     }
     let one: N = datum(1);
     entries.push(one.neg())?;
-    entries.push(one)
+    entries.push(one)?;
+    Ok(())
 }
 
 /// By how much a MW of each column raises a limit that is taken as the next one, where so many columns stand for those taken before it.
