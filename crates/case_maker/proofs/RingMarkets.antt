@@ -17,7 +17,7 @@ use Rattle.market_model.specs.declared.participants.Side.TheVariants.{Sell, Buy}
 use Rattle.market_model.specs.Dispatch.{places}
 use Rattle.market_model.specs.Market.{HasRoom, IsBlock, IsLine, IsMarket}
 use Rattle.market_model.specs.Stairs.{offered, same_side, stair_in}
-use Rattle.market_model.proofs.HardLimits.{hard_is_line}
+use Rattle.market_model.proofs.LinePenalties.{hard_is_line}
 use Rattle.case_maker.specs.Rings.{IsRingSize, blocks_of, bus_of, drawn, half_sold, line_of, loss_of, mw, ring_of, shift_of, unit_of}
 use Rattle.case_maker.proofs.DrawLemmas.{drawn-small}
 use Rattle.case_maker.proofs.FactorLemmas.{are-factors, loss-small, shift-small}

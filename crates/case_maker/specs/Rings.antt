@@ -70,7 +70,7 @@ abbrev pub line_of : ℕ → Drawn → Line
 line_of i d = hard_line (i + 1) (Some (mw d.base_limit)) (Some (mw d.post_limit)) (pos 0)
 
 -- ---- factors
--- so many of so many parts, in 10^-6
+-- so many of so many parts, in 10^-9
 abbrev pub share : ℕ → ℕ → ℤ
 share parts n = pos (parts * market_factor_one / n)
 

@@ -24,11 +24,11 @@ use Rattle.cert_verify.proofs.TestLemmas.{yes_none, none_yes}
 use Rattle.cert_verify.proofs.VerdictLemmas.{Apart, optimal_to, optimal_from, farkas_to, farkas_from}
 
 pub law_of_the_verdict : LawOfTheVerdict
-law_of_the_verdict m (Optimal blocks energy limits) market apart = (
+law_of_the_verdict m (Optimal blocks energy limits) apart = (
   λ e. optimal_to m (dispatch_by blocks) (named_duals energy limits) (yes_none (first_reason m (Optimal blocks energy limits)) e),
   λ h. none_yes (first_reason m (Optimal blocks energy limits)) (optimal_from m (dispatch_by blocks) (named_duals energy limits) apart h),
 )
-law_of_the_verdict m (Farkas energy limits) market apart = (
+law_of_the_verdict m (Farkas energy limits) apart = (
   λ e. farkas_to m (named_duals energy limits) (yes_none (first_reason m (Farkas energy limits)) e),
   λ h. none_yes (first_reason m (Farkas energy limits)) (farkas_from m (named_duals energy limits) apart h),
 )
@@ -69,7 +69,7 @@ pub law_of_right_answers : LawOfRightAnswers
 law_of_right_answers m a market right =
     let apart = apart_by m market a.duals right.proper in (
       apart,
-      (law_of_the_verdict m (Optimal a.dispatch a.duals.energy a.duals.limits) market apart).1
+      (law_of_the_verdict m (Optimal a.dispatch a.duals.energy a.duals.limits) apart).1
           (record { rows = names_by m market a.duals right.proper; feasible = right.feasible; supported = right.supported }),
     )
 

@@ -20,7 +20,7 @@ use Rattle.cert_verify.specs.declared.verdicts.Verdict.TheVariants.{Yes}
 
 -- a certificate that names no row twice is answered by yes exactly where it is true of the market
 abbrev pub LawOfTheVerdict : Type 0
-LawOfTheVerdict = (m : Parts) (c : Cert Fraction) → IsMarket m → RowsAreDistinct c → (verdict_of (first_reason m c) ≡ Yes) ↔ IsTrueOf m c
+LawOfTheVerdict = (m : Parts) (c : Cert Fraction) → RowsAreDistinct c → (verdict_of (first_reason m c) ≡ Yes) ↔ IsTrueOf m c
 
 -- its dispatch is then feasible, and no feasible one is worth more
 abbrev pub LawOfTheBest : Type 0

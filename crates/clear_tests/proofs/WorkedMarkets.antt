@@ -13,7 +13,7 @@ use Rattle.market_model.specs.declared.participants.Side.TheVariants.{Sell, Buy}
 use Rattle.market_model.specs.Lines.{hard_line}
 use Rattle.market_model.specs.Market.{bare_parts, IsMarket, IsBlock, IsLine, HasRoom}
 use Rattle.market_model.specs.Stairs.{stair_in}
-use Rattle.market_model.proofs.HardLimits.{hard_is_line}
+use Rattle.market_model.proofs.LinePenalties.{hard_is_line}
 use Rattle.limit_rows.proofs.TestMarkets.{losses, one_is_market, shifts}
 
 abbrev bus_of : ℕ → ℕ → ℕ → Bus

@@ -47,19 +47,19 @@ use Rattle.command_answers.proofs.ReplayLemmas.{last_first, last_none}
 
 -- ---- of one clear
 -- the text of a certificate that fits and holds
-certified : (m : Parts) (c : Cert Fraction) (text : List ℕ) → IsMarket m → RowsAreDistinct c × (verdict_of (first_reason m c) ≡ Yes) → NumbersFit most_part c → Some (cert_text c) ≡ Some text → Certifies m text c
-certified m c text market right fits is =
+certified : (m : Parts) (c : Cert Fraction) (text : List ℕ) → RowsAreDistinct c × (verdict_of (first_reason m c) ≡ Yes) → NumbersFit most_part c → Some (cert_text c) ≡ Some text → Certifies m text c
+certified m c text right fits is =
     let text_is : cert_text c ≡ text = cc is in record {
       read = sym (ap cert_read text_is) ∙ reads-back c (record { numbers = fits; distinct = right.0 });
-      holds = (law_of_the_verdict m c market right.0).0 right.1;
+      holds = (law_of_the_verdict m c right.0).0 right.1;
       yes = right.1;
     }
 
 -- that of a right outcome
 of_outcome : (m : Parts) (taken : List Row) (o : Outcome Fraction) (text : List ℕ) → IsMarket m → IsRightOutcome most_size m taken o → IfSome (cert_of_outcome o) (NumbersFit most_size) → certificate_of o ≡ Some text
     → (c : Cert Fraction) × (cert_of_outcome o ≡ Some c) × Certifies m text c
-of_outcome m taken (outcome.Cleared a) text market right fits is = (cert_of a, refl, certified m (cert_of a) text market (law_of_right_answers m a market right) fits is)
-of_outcome m taken (outcome.Infeasible f) text market right fits is = (cert_against f, refl, certified m (cert_against f) text market (law_of_farkas_duals m f market right) fits is)
+of_outcome m taken (outcome.Cleared a) text market right fits is = (cert_of a, refl, certified m (cert_of a) text (law_of_right_answers m a market right) fits is)
+of_outcome m taken (outcome.Infeasible f) text market right fits is = (cert_against f, refl, certified m (cert_against f) text (law_of_farkas_duals m f market right) fits is)
 of_outcome m taken (outcome.Range p) text market right fits is = cc is
 
 pub law_of_the_round_trip : LawOfTheRoundTrip

@@ -11,7 +11,7 @@ use Rattle.market_model.specs.declared.participants.Line.{Line}
 use Rattle.market_model.specs.declared.participants.Parts.{Parts}
 use Rattle.market_model.specs.Market.{bare_parts, IsMarket, IsLine, IsTableFactor, AreTableFactors}
 use Rattle.market_model.specs.Lines.{hard_line}
-use Rattle.market_model.proofs.HardLimits.{hard_is_line}
+use Rattle.market_model.proofs.LinePenalties.{hard_is_line}
 
 abbrev pub bus_of : ℕ → Bus
 bus_of number = record { number = number; pd = pos 0; gs = pos 0 }

@@ -24,7 +24,7 @@ use Rattle.market_model.specs.Overrun.{IsBeyond, IsFirstMost, Keeps, Within, ove
 use Rattle.market_model.specs.declared.limits.Row.{Row}
 use Rattle.market_model.specs.LimitRows.{flow_by, flow_terms, limit, line_flow, line_flows, most_excess, most_flow, rows}
 use Rattle.market_model.specs.PutIn.{put_in}
-use Rattle.market_model.proofs.HardLimits.{penalties}
+use Rattle.market_model.proofs.LinePenalties.{penalties}
 use Rattle.limit_rows.proofs.FlowSteps.{flow_terms-same}
 use Rattle.limit_rows.proofs.PlaceLemmas.{at_places}
 use Rattle.limit_screen.specs.declared.screening.RowOverrun.{RowOverrun}

@@ -12,11 +12,11 @@ use Rattle.market_model.specs.Market.{IsMarket}
 use Rattle.market_model.specs.Overrun.{IsBeyond, Keeps, overrun}
 use Rattle.market_model.proofs.ChangeLemmas.{same_default}
 use Rattle.limit_rows.proofs.ApartLemmas.{same_row}
-use Rattle.limit_screen.specs.Screening.{AreNamed}
+use Rattle.limit_screen.specs.Screening.{AreNamesOf}
 use Rattle.limit_screen.proofs.ScreenLemmas.{beyond_limit, keeps_most}
 
 -- a row is among rows of the market where its name is among theirs
-pub named_iff : (m : Parts) → IsMarket m → (taken : List Row) (names : List RowId) (r : Row) (b : Bool) → AreNamed m taken names → Contains (rows m) r → (IsTrue b ↔ Contains names (row_id m r)) → (IsTrue b ↔ Contains taken r)
+pub named_iff : (m : Parts) → IsMarket m → (taken : List Row) (names : List RowId) (r : Row) (b : Bool) → AreNamesOf m taken names → Contains (rows m) r → (IsTrue b ↔ Contains names (row_id m r)) → (IsTrue b ↔ Contains taken r)
 named_iff m market taken names r b named c is =
     (λ t. from (subst (λ ns. Contains ns (row_id m r)) named.1 (is.0 t)), λ k. is.1 (subst (λ ns. Contains ns (row_id m r)) (sym named.1) (to k)))
   where

@@ -25,13 +25,13 @@ abbrev pub IsWorstNamed : Parts → List Row → (ℕ → Fraction) → RowId �
 IsWorstNamed m taken f name = (r : Row) × IsWorstBy m taken f r × (name ≡ row_id m r)
 
 -- the rows that are taken are rows of the market, and these are their names
-abbrev pub AreNamed : Parts → List Row → List RowId → Type 0
-AreNamed m taken names = ((r : Row) → Contains taken r → Contains (rows m) r) × (names ≡ map (row_id m) taken)
+abbrev pub AreNamesOf : Parts → List Row → List RowId → Type 0
+AreNamesOf m taken names = ((r : Row) → Contains taken r → Contains (rows m) r) × (names ≡ map (row_id m) taken)
 
 -- they are these, or those of these names
 abbrev pub AreTaken : Parts → List Row → Taken → Type 0
 AreTaken m taken (Rows given) = given.now ≡ taken
-AreTaken m taken (Names given) = AreNamed m taken given.now
+AreTaken m taken (Names given) = AreNamesOf m taken given.now
 
 -- an operation refused for the flow of a row of the market; by how much that passes its limit is refused of none
 abbrev pub IsScreenRefusal : Parts → (ℕ → Fraction) → ℕ → Passed Fraction → Type 0

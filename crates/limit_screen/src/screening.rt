@@ -12,7 +12,7 @@ ghost use Rattle.market_model.specs.declared.participants.Parts.{Parts};
 ghost use Rattle.market_model.specs.LimitRows.{flow_by, rows};
 ghost use Rattle.market_model.specs.SumTables.{IsRefusedAmong, RowFlowSum};
 ghost use Rattle.limit_screen.specs.Flows.{line_in};
-ghost use Rattle.limit_screen.specs.Screening.{AllKeep, AreNamed, AreTaken, IsScreenRefusal, IsWorstBy, IsWorstNamed, IsWorstOf};
+ghost use Rattle.limit_screen.specs.Screening.{AllKeep, AreNamesOf, AreTaken, IsScreenRefusal, IsWorstBy, IsWorstNamed, IsWorstOf};
 
 use crate::flowing::line_flows;
 use crate::taking::{Taken, is_taken};
@@ -141,8 +141,8 @@ pub fn worst<N: Exact>(
     taken: &[RowId],
 ) -> Result<Option<RowId>, Passed<N>>
     requires flows { length flows.now ≡ length market.now.buses + length market.now.lines }
-    requires taken { (g : List Row) × AreNamed market.now g taken.now }
-    ensures worst { (g : List Row) → AreNamed market.now g taken.now → IfOk result (λ worst. MatchOption worst (AllKeep market.now g (line_in market.now (map N.value flows.now)))
+    requires taken { (g : List Row) × AreNamesOf market.now g taken.now }
+    ensures worst { (g : List Row) → AreNamesOf market.now g taken.now → IfOk result (λ worst. MatchOption worst (AllKeep market.now g (line_in market.now (map N.value flows.now)))
         (IsWorstNamed market.now g (line_in market.now (map N.value flows.now)))) }
     ensures cause { IfErr result (λ passed. IsScreenRefusal market.now (line_in market.now (map N.value flows.now)) N.bound (passed_at N.value passed)) }
 {

@@ -11,7 +11,7 @@ use Rattle.market_model.specs.declared.participants.Factor.{Factor}
 use Rattle.market_model.specs.declared.participants.Line.{Line}
 use Rattle.market_model.specs.Lines.{IsPenalty}
 use Rattle.market_model.specs.Market.{IsLine, IsMarket, bare_parts}
-use Rattle.market_model.proofs.HardLimits.{no_cost}
+use Rattle.market_model.proofs.LinePenalties.{no_cost}
 use Rattle.market_model.proofs.PlainMarkets.{plain_market, distinct_by_rise}
 use Rattle.net_case.specs.Networks.{LiveNetwork, IsNetwork, IsNetBranch, IsLimit}
 use Rattle.net_case.specs.NetworkReading.{unit_within}

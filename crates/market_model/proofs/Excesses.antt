@@ -18,7 +18,7 @@ use Rattle.market_model.specs.Market.{IsMarket}
 use Rattle.market_model.specs.Optimality.{SideSupported}
 use Rattle.market_model.specs.Overrun.{excess_by, overrun, Within}
 use Rattle.market_model.specs.Settlement.{priced_flow}
-use Rattle.market_model.proofs.HardLimits.{of_line, penalties}
+use Rattle.market_model.proofs.LinePenalties.{of_line, penalties}
 
 -- ---- plain numbers
 pub nil_or_above : (u : Fraction) → zero ≤ℚ u → (u ≡ zero) ⊎ (zero <ℚ u)

@@ -3,8 +3,8 @@ pub mod ChangeLemmas
 pub mod Excesses
 pub mod FarkasLaw
 mod FarkasRows
-pub mod HardLimits
 pub mod LimitCases
+pub mod LinePenalties
 pub mod ListSteps
 pub mod LostLemmas
 pub mod MarketSums

@@ -1,6 +1,6 @@
 -- Lines with hard limits, and with limits that give way at a penalty.
 -- Transmission constraint penalty factors: what operators let a limit be exceeded for.
-use Rattle.std.specs.Prelude.{◌≡◌, ℕ, ℤ, pos, ◌≤ℤ◌, ◌<ℤ◌, List, Option, All}
+use Rattle.std.specs.Prelude.{ℕ, ℤ, pos, ◌≤ℤ◌, ◌<ℤ◌, Option}
 use Rattle.market_model.specs.declared.participants.Line.{Line}
 
 -- a line whose limits are hard
@@ -21,11 +21,3 @@ pub record IsPenalty (price excess : ℤ) : Type 0 where
   pub costs : pos 0 ≤ℤ price
   pub exceeds : pos 0 ≤ℤ excess
   pub priced : pos 0 <ℤ excess → pos 0 <ℤ price
-
-pub record IsHard (line : Line) : Type 0 where
-  pub base : line.base_price ≡ pos 0
-  pub post : line.post_price ≡ pos 0
-
--- no limit gives way
-abbrev pub HasHardLimits : List Line → Type 0
-HasHardLimits lines = All IsHard lines

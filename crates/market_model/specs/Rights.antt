@@ -1,4 +1,5 @@
--- Rights to what limits earn: each pays for MW rights_injection from one bus to another what these are worth more there.
+-- Rights to what limits earn (financial transmission rights): each is paid, for so many MW from one bus to another, what these are worth
+-- more there.
 -- Hogan, Contract Networks for Electric Power Transmission (1992): rights that flows could carry together are covered by the surplus.
 use Rattle.std.specs.Prelude.{◌==◌, ℕ, ◌<◌, ℤ, pos, ◌≤ℤ◌, List, ◌++◌, map, filter}
 use Rattle.fraction_theory.specs.Fraction.{Fraction, whole, neg_ℚ, ◌-ℚ◌}

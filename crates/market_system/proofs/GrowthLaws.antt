@@ -2,25 +2,24 @@
 use Rattle.std.specs.Prelude.{◌≡◌, ◌≢◌, ◌+◌, ◌≤◌, List, [], ◌∷◌, ◌++◌, length, AllPairs, Contains, ◌⊎◌}
 use Rattle.std.proofs.Common.{suc, arith, ap, sym, ◌∙◌, subst, inl, inr, append_assoc, length-append}
 use Rattle.std.proofs.lemmas.List.{append-nil}
-use Rattle.fraction_theory.specs.Fraction.{neg_ℚ}
 use Rattle.fraction_theory.proofs.OrderLaws.{<ℚ-not-≤ℚ}
 use Rattle.fraction_theory.proofs.ListSums.{Contains-head, Contains-cons, Contains-cases}
 use Rattle.market_model.specs.declared.participants.Parts.{Parts}
 use Rattle.market_model.specs.Dispatch.{Dispatch}
 use Rattle.market_model.specs.declared.limits.Row.{Row}
-use Rattle.market_model.specs.LimitRows.{rows, limit, flow}
-use Rattle.market_model.specs.Lines.{HasHardLimits}
-use Rattle.market_model.specs.Market.{IsMarket}
+use Rattle.market_model.specs.LimitRows.{rows, flow, most_flow}
 use Rattle.market_model.specs.Optimality.{FeasibleFor}
 use Rattle.market_system.specs.Growth.{Broken, BestFor, GrowsBy, Growth}
 use Rattle.market_system.specs.SolvedLaws.{AreRows}
-use Rattle.market_system.proofs.HardMarkets.{hard_within}
 use Rattle.market_system.proofs.RowOrder.{pairs-append}
+use Rattle.market_model.specs.Overrun.{IsBeyond}
+use Rattle.fraction_theory.specs.Signs.{abs_ℚ}
+use Rattle.fraction_theory.proofs.SignLaws.{abs_within}
 
--- a row that a feasible dispatch breaks is not in the list
-pub broken_is_new : (m : Parts) → IsMarket m → HasHardLimits m.lines → (g : List Row) (x : Dispatch) (r : Row) → FeasibleFor m g x → Broken m x r → ¬ (Contains g r)
-broken_is_new m market hard g x r f (inl above) c = <ℚ-not-≤ℚ (limit m r) (flow m x r) above (hard_within m market hard r (flow m x r) (f.limits r c)).below
-broken_is_new m market hard g x r f (inr below) c = <ℚ-not-≤ℚ (flow m x r) (neg_ℚ (limit m r)) below (hard_within m market hard r (flow m x r) (f.limits r c)).above
+-- a row whose flow at a feasible dispatch is beyond what it may be is not in the list
+pub beyond_is_new : (m : Parts) (g : List Row) (x : Dispatch) (r : Row) → FeasibleFor m g x → IsBeyond m g r (flow m x r) → ¬ (Contains g r)
+beyond_is_new m g x r f beyond c =
+    let w = f.limits r c in <ℚ-not-≤ℚ (most_flow m r) (abs_ℚ (flow m x r)) (beyond.most c) (abs_within (flow m x r) (most_flow m r) w.above w.below)
 
 -- nothing more is grown
 pub growth_none : (m : Parts) (g : List Row) → Growth m g g

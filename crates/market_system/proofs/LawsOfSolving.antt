@@ -4,7 +4,7 @@ use Rattle.std.proofs.Common.{sym}
 use Rattle.market_system.specs.SolvedLaws.{LawOfTheSystem, LawOfThePoints, LawOfTheSolved, LawOfTheAnswer, LawOfTheStuck, LawOfGrowth}
 use Rattle.limit_rows.proofs.ApartLemmas.{names_apart}
 use Rattle.market_system.proofs.DualLists.{rows_apart}
-use Rattle.market_system.proofs.GrowthLaws.{broken_is_new, growth_none, growth_more, growth_again, growth_rows, rows_few}
+use Rattle.market_system.proofs.GrowthLaws.{beyond_is_new, growth_none, growth_more, growth_again, growth_rows, rows_few}
 use Rattle.market_system.proofs.MarketPoints.{is_system_of, point_of, point_meets, point_within, point_welfare, point-block, dispatch_feasible, dispatch_welfare}
 use Rattle.market_system.proofs.SolvedMarkets.{solved_best, solved_proper, solved_supports, reduced-block}
 use Rattle.market_system.proofs.StuckMarkets.{stuck_bound, stuck_shows, stuck_proper, stuck_of_choice}
@@ -51,7 +51,7 @@ law_of_the_stuck m g h b above market all choice stuck =
 
 pub law_of_growth : LawOfGrowth
 law_of_growth m = record {
-  broken_is_new = λ g x r market hard best broken. broken_is_new m market hard g x r best.feasible broken;
+  beyond_is_new = λ g x r best beyond. beyond_is_new m g x r best.feasible beyond;
   none = growth_none m;
   more = growth_more m;
   again = growth_again m;

@@ -4,7 +4,6 @@ pub mod Completeness
 pub mod DualLists
 pub mod FrameLaws
 pub mod GrowthLaws
-pub mod HardMarkets
 pub mod LawsOfSolving
 pub mod MarketPoints
 mod ModestChoices

@@ -20,7 +20,7 @@ use Rattle.market_model.specs.Market.{IsMarket}
 use Rattle.market_model.specs.Optimality.{SideSupported}
 use Rattle.market_model.specs.Overrun.{excess_by, Within}
 use Rattle.market_model.proofs.Excesses.{limit_least}
-use Rattle.market_model.proofs.HardLimits.{penalties}
+use Rattle.market_model.proofs.LinePenalties.{penalties}
 
 -- ---- plain numbers
 -- a part above 0 is no more than what the number and 0 are

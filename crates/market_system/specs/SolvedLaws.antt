@@ -14,14 +14,13 @@ use Rattle.market_model.specs.Dispatch.{Dispatch, accepted, places, block_at, si
 use Rattle.market_model.specs.Infeasibility.{IsFarkas}
 use Rattle.market_model.specs.declared.limits.Row.{Row}
 use Rattle.market_model.specs.LimitRows.{rows, limit, flow}
-use Rattle.market_model.specs.Lines.{HasHardLimits}
 use Rattle.market_model.specs.Market.{IsMarket}
 use Rattle.market_model.specs.Optimality.{FeasibleFor, Feasible, BlockSupported, RowSupported, Supports, ProperDuals, block_value, unit_price, welfare_for}
 use Rattle.market_model.specs.RightAnswers.{IsRight, answer_of}
 use Rattle.market_system.specs.Growth.{Broken, BestFor, Growth}
 use Rattle.market_system.specs.MarketNumbers.{IsFarkasOf}
 use Rattle.market_system.specs.MarketSystem.{system_of, choice_dispatch, duals_by_cost, choice_duals}
-use Rattle.market_model.specs.Overrun.{Within}
+use Rattle.market_model.specs.Overrun.{Within, IsBeyond}
 
 -- rows of the market, no two of them one
 pub record AreRows (m : Parts) (g : List Row) : Type 0 where
@@ -91,8 +90,8 @@ LawOfTheStuck = (m : Parts) (g : List Row) (h : Choice) (b : ℕ) (above : Bool)
 -- ---- growth
 -- what is known of lists of rows that grow
 pub record GrowthLaws (m : Parts) : Type 0 where
-  -- where limits are hard, a row that a best dispatch breaks is not in the list; and with one that is not, the list is grown
-  pub broken_is_new : (g : List Row) (x : Dispatch) (r : Row) → IsMarket m → HasHardLimits m.lines → BestFor m g x → Broken m x r → ¬ (Contains g r)
+  -- a row whose flow at a best dispatch is beyond what it may be is not in the list; and with a broken one that is not, the list is grown
+  pub beyond_is_new : (g : List Row) (x : Dispatch) (r : Row) → BestFor m g x → IsBeyond m g r (flow m x r) → ¬ (Contains g r)
   pub none : (g : List Row) → Growth m g g
   pub more : (t g : List Row) (x : Dispatch) (r : Row) → Growth m t g → BestFor m g x → Broken m x r → Contains (rows m) r → ¬ (Contains g r) → Growth m t (g ++ r ∷ [])
   pub again : (t g h : List Row) → Growth m t g → Growth m g h → Growth m t h

@@ -220,13 +220,13 @@ verdict-line-yes : verdict_line None ≡ codes "yes\n"
 unfolding verdict_line
 verdict-line-yes = refl
 
-module _ (m : Parts) (c : Cert Fraction) (market : IsMarket m) (apart : RowsAreDistinct c) (text : List ℕ) where
+module _ (m : Parts) (c : Cert Fraction) (apart : RowsAreDistinct c) (text : List ℕ) where
   no-yes : (why : Reason) → verdict_of (Some why) ≡ verdict_of None → ⊥
   no-yes why bad = cc bad
 
   verdict-by : (r : Option Reason) → first_reason m c ≡ r → text ≡ verdict_line r → IsVerdict m c text (verdict_status r)
-  verdict-by None is line = yes ((law_of_the_verdict m c market apart).0 (ap verdict_of is)) (line ∙ verdict-line-yes)
-  verdict-by (Some why) is line = no (λ holds. no-yes why (sym (ap verdict_of is) ∙ (law_of_the_verdict m c market apart).1 holds)) (line ∙ ap verdict_line (sym is))
+  verdict-by None is line = yes ((law_of_the_verdict m c apart).0 (ap verdict_of is)) (line ∙ verdict-line-yes)
+  verdict-by (Some why) is line = no (λ holds. no-yes why (sym (ap verdict_of is) ∙ (law_of_the_verdict m c apart).1 holds)) (line ∙ ap verdict_line (sym is))
 
   verdict-of : (t : Telling) (s : Status) → t.text ≡ text → t.status ≡ s → VerifiesTo most_size m c t → IsVerdict m c text s
   verdict-of t s words ends (judged is) =
@@ -240,7 +240,7 @@ pub law_of_verify : LawOfVerify
 law_of_verify words files text s m c prints asks =
     let p = printed words files text s prints in
     let told = verify-told files words p.telling p.written (Ok (record { market = m; certificate = c })) p.answers asks in
-    verdict-of m c told.0 (cert_read-distinct asks.stand.certificate c (asked-read files words m c asks)) text p.telling s p.text_is p.status_is told.1
+    verdict-of m c (cert_read-distinct asks.stand.certificate c (asked-read files words m c asks)) text p.telling s p.text_is p.status_is told.1
 
 -- ---- round trip
 -- what is written of a clear is its certificate, where a file is named for it

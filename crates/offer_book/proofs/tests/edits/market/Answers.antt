@@ -11,7 +11,7 @@ use Rattle.market_model.specs.declared.participants.Side.TheVariants.{Sell, Buy}
 use Rattle.market_model.specs.Lines.{hard_line}
 use Rattle.market_model.specs.Market.{bare_parts, IsMarket, IsBlock, IsLine, HasRoom}
 use Rattle.market_model.specs.Stairs.{stair_in}
-use Rattle.market_model.proofs.HardLimits.{hard_is_line}
+use Rattle.market_model.proofs.LinePenalties.{hard_is_line}
 use Rattle.offer_book.proofs.tests.edits.market.Goals as goal
 
 abbrev the_bus : Bus

@@ -1,23 +1,16 @@
--- What the words of soft limits come to where all limits are hard.
+-- The penalties of lines and of rows.
 use Rattle.std.specs.Prelude.{◌≡◌, ◌⊎◌, ℕ, ◌<◌, ◌≤◌, ℤ, pos, ◌≤ℤ◌, Bool, true, false, length, slice_index_or, Option, IfSome, None, refl}
 use Rattle.std.proofs.Common.{arith, sym, ap, ◌∙◌, subst, inl, inr}
 use Rattle.std.proofs.lemmas.Bool.{cases_lt}
 use Rattle.std.proofs.lemmas.List.{get_or_past}
-use Rattle.fraction_theory.specs.Fraction.{whole, ◌+ℚ◌}
-use Rattle.fraction_theory.proofs.FieldLaws.{+ℚ_nil}
 use Rattle.market_data.specs.Participants.{IsDatum}
 use Rattle.market_model.specs.declared.limits.Row.{Row}
 use Rattle.market_model.specs.declared.participants.Line.{Line}
 use Rattle.market_model.specs.declared.participants.Parts.{Parts}
 use Rattle.market_model.specs.Dispatch.{line_at}
-use Rattle.market_model.specs.LimitRows.{excess_of, is_outage, limit, most_flow, penalty_of}
-use Rattle.market_model.specs.Lines.{hard_line, IsHard, IsPenalty, HasHardLimits}
+use Rattle.market_model.specs.LimitRows.{excess_of, is_outage, penalty_of}
+use Rattle.market_model.specs.Lines.{hard_line, IsPenalty}
 use Rattle.market_model.specs.Market.{IsLine, IsMarket}
-use Rattle.market_model.specs.Overrun.{excess}
-
--- an excess at no penalty is 0
-none_unpriced : (price excess : ℤ) → IsPenalty price excess → price ≡ pos 0 → excess ≡ pos 0
-none_unpriced price excess h e = let low = h.exceeds in let priced = h.priced in Prim.grind (arith, low, priced, e)
 
 pub no_cost : IsPenalty (pos 0) (pos 0)
 no_cost = record { costs = Prim.grind arith; exceeds = Prim.grind arith; priced = λ above. Prim.grind (arith, above) }
@@ -47,22 +40,3 @@ penalties m market r = by (is_outage r.cause)
     by : (post : Bool) → IsPenalty (penalty_of post (line_at m r.line)) (excess_of post (line_at m r.line))
     by true = of_line m (λ l. IsPenalty l.post_price l.post_excess) (λ l d lt. (market.lines l d lt).post_penalty) no_cost r.line
     by false = of_line m (λ l. IsPenalty l.base_price l.base_excess) (λ l d lt. (market.lines l d lt).base_penalty) no_cost r.line
-
-module _ (m : Parts) (hard : HasHardLimits m.lines) where
-  pub hard_line_at : (l : ℕ) → IsHard (line_at m l)
-  hard_line_at = of_line m IsHard hard (record { base = refl; post = refl })
-
-  -- the penalty of a row, and the most by which its flow may exceed its limit
-  pub hard_penalty : (r : Row) → penalty_of (is_outage r.cause) (line_at m r.line) ≡ pos 0
-  hard_penalty r = by (is_outage r.cause)
-    where
-      by : (post : Bool) → penalty_of post (line_at m r.line) ≡ pos 0
-      by true = (hard_line_at r.line).post
-      by false = (hard_line_at r.line).base
-
-  pub hard_excess : IsMarket m → (r : Row) → excess_of (is_outage r.cause) (line_at m r.line) ≡ pos 0
-  hard_excess h r = none_unpriced _ _ (penalties m h r) (hard_penalty r)
-
-  -- flows may go to the limit and no further
-  pub hard_most : IsMarket m → (r : Row) → most_flow m r ≡ limit m r
-  hard_most h r = ap (λ mw. limit m r +ℚ whole mw) (hard_excess h r) ∙ +ℚ_nil (limit m r)
