@@ -1,7 +1,8 @@
 use Rattle.std.proofs.Common.{◌≡◌, ◌<◌, ◌∙◌, ◌+◌, ℕ, ap, sym, subst, arith, length}
 use Rattle.market_model.specs.LimitRows.{rows}
 use Rattle.market_system.specs.MarketSystem.{name, IsVariableOf}
-use Rattle.market_dict.proofs.EntryLemmas.{name_at_place, rows_few}
+use Rattle.market_system.specs.declared.variables.Variable.TheVariants.{Over, Under}
+use Rattle.market_dict.proofs.EntryLemmas.{name_at_place, over_small, rows_few}
 use Rattle.market_dict.proofs.names.name_of.Goals as goal
 
 pub overflow_cast-result : goal.overflow_cast-result
@@ -32,3 +33,21 @@ returns-in-Limit c =
     let at = name_at_place m c.lines-lines.ensures.market c.in-Limit.row c.place_of.result c.place_of.ensures in
     let blocks : c.len-blocks.result ≡ length m.blocks = c.len-blocks.ensures ∙ ap length c.blocks-2.ensures.list in
     ap (λ (n : ℕ). n + 1 + c.place_of.result) blocks ∙ sym at.1 ∙ ap (name m) (sym c.in-Limit.is)
+
+pub overflow_cast-result-in-Over : goal.overflow_cast-result-in-Over
+overflow_cast-result-in-Over c =
+    let m = c.args.market.now in
+    let here : IsVariableOf m (rows m) (Over c.in-Over.row) = subst (IsVariableOf m (rows m)) c.in-Over.is c.requires in
+    omega (arith, over_small m c.lines-lines.ensures.market c.in-Over.row here.0, c.over_name.ensures)
+
+pub overflow_add-result-in-Under : goal.overflow_add-result-in-Under
+overflow_add-result-in-Under c =
+    let m = c.args.market.now in
+    let here : IsVariableOf m (rows m) (Under c.in-Under.row) = subst (IsVariableOf m (rows m)) c.in-Under.is c.requires in
+    omega (arith, over_small m c.lines-lines.ensures.market c.in-Under.row here.0, c.over_name-in-Under.ensures)
+
+pub overflow_cast-result-in-Under : goal.overflow_cast-result-in-Under
+overflow_cast-result-in-Under c =
+    let m = c.args.market.now in
+    let here : IsVariableOf m (rows m) (Under c.in-Under.row) = subst (IsVariableOf m (rows m)) c.in-Under.is c.requires in
+    omega (arith, over_small m c.lines-lines.ensures.market c.in-Under.row here.0, c.over_name-in-Under.ensures)
