@@ -23,8 +23,8 @@ unfolding stair_in
 room Sell = Prim.omega (arith, ints)
 room Buy = Prim.omega (arith, ints)
 
-pub assemble-requires-clause-market : goal.assemble-requires-clause-market
-assemble-requires-clause-market g c =
+pub assemble-requires : goal.assemble-requires
+assemble-requires g c =
     rw (c.bare.ensures, c.in_ok-push.ensures, c.in_ok-push-2.ensures, c.in_ok-push-3.ensures, c.new-buses.ensures, c.new-units.ensures, c.new-blocks.ensures)
     (one_each bus generator block
     (record { load = Prim.omega arith; shunt = Prim.omega arith })
