@@ -1,13 +1,14 @@
-use Rattle.std.proofs.Common.{subst}
-use Rattle.std.specs.Prelude.{vec_items}
+use Rattle.std.proofs.Common.{◌≡◌, ◌∙◌, Ok, subst}
+use Rattle.std.specs.Prelude.{MatchResult, vec_items}
 use Rattle.market_tables.specs.Tables.{map_tables}
 use Rattle.outside_store.specs.Files.{Reads}
 use Rattle.command_answers.specs.Inputs.{IsReplayed}
 use Rattle.command_answers.specs.Replaying.{TellsReplay}
 use Rattle.command_answers.specs.Tellings.{Tells, telling_of}
+use Rattle.command_answers.specs.declared.status.Status.TheVariants as status
 use Rattle.command_words.specs.Requests.{names_of_market}
 use Rattle.command_files.proofs.FileLemmas.{files-replay}
-use Rattle.command_files.proofs.ReadingLemmas.{if_ok-map, reads-same, told-ok}
+use Rattle.command_files.proofs.ReadingLemmas.{if_ok-map, reads-same, same_then, told-ok}
 use Rattle.command_files.proofs.commands.replay_files.Goals as goal
 
 pub returns-clause-right : goal.returns-clause-right
@@ -20,3 +21,17 @@ returns-clause-right g c =
     (λ told is. files-replay files names _ (map_tables vec_items vec_items c.in_ok-bytes.bytes) _ (telling_of told) c.in_ok-bytes.ensures.bytes edits
     (subst (λ x. Tells (IsReplayed names.rating x c.as_slice.result.now) TellsReplay (telling_of told)) c.as_slices.ensures is))
     c.replay_told-told.ensures.tells)
+
+pub returns-clause-reads : goal.returns-clause-reads
+returns-clause-reads g c =
+    let first = c.read_market.ensures.reads in
+    let second = c.read_file.ensures.reads in
+    record {
+      same = same_then _ _ _ first.same second.same;
+      failed_read = λ bad. absurd (not-memory (subst (λ r. MatchResult r (λ made. c.replay_told-told.result ≡ Ok made) (λ s. s ≡ status.Memory)) bad c.or_memory.ensures));
+      reads = λ _ n. second.reads (λ bad. let was = c.in_ok-edits.was in cc (was, bad)) n ∙ first.reads (λ bad. let was = c.in_ok-bytes.was in cc (was, bad)) n;
+      writes = λ n. second.writes n ∙ first.writes n;
+    }
+  where
+    not-memory : status.ReadFailed ≡ status.Memory → ⊥
+    not-memory bad = cc
