@@ -73,21 +73,32 @@ fn prices_and_money<N: Exact + Debug>(alloc: Global) -> Result<bool, Fail> {
     Ok(are_prices(&out, &[0, 20, 30], &[10, 30, 40]) && is_settled(&money))
 }
 
+/// The worst limit by its name, where the two blocks have these MW accepted.
+fn worst_at<N: Exact + Debug>(
+    alloc: Global,
+    market: &Market,
+    first: N,
+    second: N,
+) -> Result<Option<RowId>, Fail> {
+    let mut dispatch = zeros(alloc, market.blocks().len())?;
+    if dispatch.len() != 2 {
+        return Ok(None);
+    }
+    dispatch[0] = first;
+    dispatch[1] = second;
+    let places = market.buses().len() + market.lines().len();
+    let mut by_place: Vec<N> = zeros(alloc, places)?;
+    flows(market, &dispatch, &mut by_place)?;
+    Ok(worst(market, &by_place, &[])?)
+}
+
 /// With 60 MW of the first unit branch 2 carries 45, and with 50 it carries 40.
 fn worst_limits<N: Exact + Debug>(alloc: Global) -> Result<bool, Fail> {
     let market = limited(alloc)?;
-    let mut dispatch = zeros(alloc, market.blocks().len())?;
-    let mut by_place: Vec<N> = zeros(alloc, market.buses().len() + market.lines().len())?;
-    if dispatch.len() != 2 {
-        return Ok(false);
-    }
-    dispatch[0] = N::of_parts(60 * MW_ONE, 1);
-    flows(&market, &dispatch, &mut by_place)?;
-    let broken = worst(&market, &by_place, &[])?;
-    dispatch[0] = N::of_parts(50 * MW_ONE, 1);
-    dispatch[1] = N::of_parts(10 * MW_ONE, 1);
-    flows(&market, &dispatch, &mut by_place)?;
-    let held = worst(&market, &by_place, &[])?;
+    let none = N::of_parts(0, 1);
+    let broken = worst_at(alloc, &market, N::of_parts(60 * MW_ONE, 1), none)?;
+    let ten = N::of_parts(10 * MW_ONE, 1);
+    let held = worst_at(alloc, &market, N::of_parts(50 * MW_ONE, 1), ten)?;
     let named = RowId {
         branch: 2,
         outage: 0,

@@ -1,7 +1,8 @@
 //! Clears with a limit of 40 on branch 2 that gives way, with texts worked by hand.
 
-use crate::fixture::{BUSES, OFFERS, SHIFT, UNITS, Want, case, expect, whole};
+use crate::fixture::{BUSES, OFFERS, SHIFT, UNITS, Want, answers, case, room, whole};
 use command_answers::Status;
+use outside_store::MemoryStore;
 use std::process::Abort;
 use std::test::Fail;
 
@@ -23,14 +24,12 @@ fn expect_soft<R: Abort + AllocGlobal>(
     want: Want<'_>,
 ) -> Result<(), Fail> {
     let case = case(rt, BUSES, UNITS, "40 0 0 0 0")?;
-    let files: [(&str, &[u8]); 4] = [
-        ("case.m", case.as_bytes()),
-        ("shift.csv", SHIFT.as_bytes()),
-        ("offers.csv", OFFERS.as_bytes()),
-        ("penalties.csv", penalties),
-    ];
-    let all = ([].as_slice(), [].as_slice());
-    expect(rt, LINE, files.as_slice(), all, want)
+    let mut store = MemoryStore::new(rt.alloc(), room(65_536), &[])?;
+    assert!(rt; store.add("case.m", case.as_bytes()).is_ok());
+    assert!(rt; store.add("shift.csv", SHIFT.as_bytes()).is_ok());
+    assert!(rt; store.add("offers.csv", OFFERS.as_bytes()).is_ok());
+    assert!(rt; store.add("penalties.csv", penalties).is_ok());
+    answers(rt, LINE, &mut store, &[], want)
 }
 
 #[test]
