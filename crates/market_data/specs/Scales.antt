@@ -90,3 +90,7 @@ most_lines = 2000
 
 abbrev pub most_outages : ℕ
 most_outages = 500
+
+-- records of what is picked up of the outputs of lost units
+abbrev pub most_pickups : ℕ
+most_pickups = 5000

@@ -59,3 +59,6 @@ pub const MOST_LINES: usize = 2000;
 
 /// The most outages.
 pub const MOST_OUTAGES: usize = 500;
+
+/// The most records of what is picked up of the outputs of lost units.
+pub const MOST_PICKUPS: usize = 5000;

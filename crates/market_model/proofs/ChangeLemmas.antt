@@ -99,6 +99,7 @@ module _ (m : Parts) (market : IsMarket m) where
     outages_distinct = market.outages_distinct;
     shift = market.shift;
     loss = market.loss;
+    unit_outages = market.unit_outages;
   }
 
   -- a block in place of another of its unit and side
@@ -162,6 +163,7 @@ module _ (m : Parts) (market : IsMarket m) where
         outages_distinct = market.outages_distinct;
         shift = subst (λ (n : ℕ). AreTableFactors (length m.lines) n m.shift) long market.shift;
         loss = market.loss;
+        unit_outages = market.unit_outages;
       }
 
   pub kept_limit : (l : ℕ) (post : Bool) (mw : ℤ) → l < length m.lines → pos 0 ≤ℤ mw → IsMarket (with_limit m l post mw)
@@ -188,6 +190,7 @@ module _ (m : Parts) (market : IsMarket m) where
         outages_distinct = market.outages_distinct;
         shift = subst (λ (n : ℕ). AreTableFactors n (length m.buses) m.shift) long market.shift;
         loss = subst (λ (n : ℕ). AreTableFactors n n m.loss) long market.loss;
+        unit_outages = market.unit_outages;
       }
     where
       row_is : (k : Line) (t : Bool) → (line_with k t mw).row ≡ k.row

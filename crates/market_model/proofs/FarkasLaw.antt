@@ -16,15 +16,15 @@ use Rattle.market_model.specs.declared.participants.Parts.{Parts}
 use Rattle.market_model.specs.declared.participants.Side.{Side}
 use Rattle.market_model.specs.declared.participants.Side.TheVariants.{Sell, Buy}
 use Rattle.market_model.specs.declared.answered.Duals.{Duals}
-use Rattle.market_model.specs.Dispatch.{Dispatch, zero, places, block_at, unit_at, block_bus, signed_by_side, accepted, quantity, raised_by, demand, balance, empty}
-use Rattle.market_model.specs.Optimality.{up_of, down_of, net_shadow_price, bus_price}
+use Rattle.market_model.specs.Dispatch.{Dispatch, zero, places, block_at, signed_by_side, accepted, quantity, raised_by, demand, balance, empty}
+use Rattle.market_model.specs.Optimality.{up_of, down_of, net_shadow_price, bus_price, unit_price}
 use Rattle.market_model.specs.declared.limits.Row.{Row}
 use Rattle.market_model.specs.LimitRows.{rows, flow, row_offset, most_flow}
 use Rattle.market_model.specs.Market.{IsMarket}
 use Rattle.market_model.specs.Infeasibility.{block_weight, limit_terms, farkas_terms, farkas_bound}
 use Rattle.market_model.specs.Laws.{LawOfInfeasibility}
 use Rattle.market_model.proofs.PlaceSums.{places_all}
-use Rattle.market_model.proofs.MarketSums.{fixed_part, raised_by-empty, priced_injections-by_parts}
+use Rattle.market_model.proofs.MarketSums.{fixed_part, raised_by-empty, priced_outputs-by_parts}
 use Rattle.market_model.proofs.RowLaws.{along, row_prices, priced-by_rows, rent_sign}
 
 -- a block makes no more than the greater of its weight and 0 makes of all that it has
@@ -37,12 +37,12 @@ weight_signed : (side : Side) (e x : Fraction) → signed_by_side side e *ℚ x 
 weight_signed Sell e x = refl
 weight_signed Buy e x = by_ring ring_ℚ (e ∷ x ∷ []) (pneg (at 0) ⊗ at 1) (at 0 ⊗ pneg (at 1)) refl
 
--- what the blocks make is what they raise, at the prices of their buses
+-- what the blocks make is what they raise, at the prices of their units
 weights-by_raises : (m : Parts) (d : Duals Fraction) (x : Dispatch)
-    → sum_by (λ j. block_weight m d j *ℚ accepted x j) (places (length m.blocks)) ≡ sum_by (λ j. bus_price m d (block_bus m j) *ℚ raised_by m x j) (places (length m.blocks))
+    → sum_by (λ j. block_weight m d j *ℚ accepted x j) (places (length m.blocks)) ≡ sum_by (λ j. unit_price m d (block_at m j).unit *ℚ raised_by m x j) (places (length m.blocks))
 weights-by_raises m d x =
-    sum_by-same (λ j. block_weight m d j *ℚ accepted x j) (λ j. bus_price m d (block_bus m j) *ℚ raised_by m x j) (places (length m.blocks))
-    (λ j. weight_signed (block_at m j).side (bus_price m d (block_bus m j)) (accepted x j))
+    sum_by-same (λ j. block_weight m d j *ℚ accepted x j) (λ j. unit_price m d (block_at m j).unit *ℚ raised_by m x j) (places (length m.blocks))
+    (λ j. weight_signed (block_at m j).side (unit_price m d (block_at m j).unit) (accepted x j))
 
 -- what the flow of a row leaves of the most that it may be, at its prices
 abbrev pub left_of : Parts → Duals Fraction → Dispatch → Row → Fraction
@@ -55,7 +55,7 @@ total-flat_map f (x ∷ xs) = total-append (f x) (flat_map f xs) ∙ ap (λ t. t
 
 pub farkas_bound-by_parts : (m : Parts) (d : Duals Fraction)
     → farkas_bound m d ≡ d.energy *ℚ balance m (empty m) +ℚ (sum_by (left_of m d (empty m)) (rows m) +ℚ sum_by (λ j. part_above (block_weight m d j) *ℚ quantity m j) (places (length m.blocks)))
-unfolding farkas_bound
+unfolding farkas_bound unit_price
 farkas_bound-by_parts m d =
     ap (λ t. d.energy *ℚ balance m (empty m) +ℚ t)
     (total-append (flat_map (limit_terms m d) (rows m)) (map (λ j. Product (part_above (block_weight m d j)) (quantity m j)) (places (length m.blocks)))
@@ -94,13 +94,13 @@ weights-by_rows : (m : Parts) (d : Duals Fraction) (x : Dispatch) → IsMarket m
     → sum_by (λ j. block_weight m d j *ℚ accepted x j) (places (length m.blocks))
     ≡ (d.energy *ℚ balance m x -ℚ row_prices m d x) -ℚ (d.energy *ℚ balance m (empty m) -ℚ row_prices m d (empty m))
 weights-by_rows m d x h =
-    let units : Fraction = sum_by (λ u. bus_price m d (unit_at m u).bus *ℚ fixed_part m u) (places (length m.units)) in
+    let units : Fraction = sum_by (λ u. unit_price m d u *ℚ fixed_part m u) (places (length m.units)) in
     let loads : Fraction = sum_by (λ i. bus_price m d i *ℚ demand m i) (places (length m.buses)) in
-    let of_x : Fraction = sum_by (λ j. bus_price m d (block_bus m j) *ℚ raised_by m x j) (places (length m.blocks)) in
-    let of_none : Fraction = sum_by (λ j. bus_price m d (block_bus m j) *ℚ raised_by m (empty m) j) (places (length m.blocks)) in
-    let none : sum_by (λ j. bus_price m d (block_bus m j) *ℚ raised_by m (empty m) j) (places (length m.blocks)) ≡ zero =
-    sum_by-same (λ j. bus_price m d (block_bus m j) *ℚ raised_by m (empty m) j) (λ j. zero) (places (length m.blocks))
-    (λ j. ap (λ t. bus_price m d (block_bus m j) *ℚ t) (raised_by-empty m j) ∙ by_ring ring_ℚ (bus_price m d (block_bus m j) ∷ []) (at 0 ⊗ pnil) pnil refl)
+    let of_x : Fraction = sum_by (λ j. unit_price m d (block_at m j).unit *ℚ raised_by m x j) (places (length m.blocks)) in
+    let of_none : Fraction = sum_by (λ j. unit_price m d (block_at m j).unit *ℚ raised_by m (empty m) j) (places (length m.blocks)) in
+    let none : sum_by (λ j. unit_price m d (block_at m j).unit *ℚ raised_by m (empty m) j) (places (length m.blocks)) ≡ zero =
+    sum_by-same (λ j. unit_price m d (block_at m j).unit *ℚ raised_by m (empty m) j) (λ j. zero) (places (length m.blocks))
+    (λ j. ap (λ t. unit_price m d (block_at m j).unit *ℚ t) (raised_by-empty m j) ∙ by_ring ring_ℚ (unit_price m d (block_at m j).unit ∷ []) (at 0 ⊗ pnil) pnil refl)
     ∙ sum_by-nil (places (length m.blocks)) in
     weights-by_raises m d x
     ∙ by_ring3 ring_ℚ (of_x ∷ of_none ∷ units ∷ loads ∷ (d.energy *ℚ balance m x -ℚ row_prices m d x) ∷ (d.energy *ℚ balance m (empty m) -ℚ row_prices m d (empty m)) ∷ [])
@@ -108,9 +108,13 @@ weights-by_rows m d x h =
     (pneg pone) (at 4) ((at 2 ⊕ at 0) ⊕ pneg (at 3))
     pone (at 5) ((at 2 ⊕ at 1) ⊕ pneg (at 3))
     pone (at 1) pnil
-    (sym (priced-by_rows m d x) ∙ priced_injections-by_parts m x (bus_price m d) h)
-    (sym (priced-by_rows m d (empty m)) ∙ priced_injections-by_parts m (empty m) (bus_price m d) h)
+    (by_parts x) (by_parts (empty m))
     none refl
+  where
+    by_parts : (z : Dispatch) → d.energy *ℚ balance m z -ℚ row_prices m d z
+        ≡ (sum_by (λ u. unit_price m d u *ℚ fixed_part m u) (places (length m.units)) +ℚ sum_by (λ j. unit_price m d (block_at m j).unit *ℚ raised_by m z j) (places (length m.blocks)))
+        -ℚ sum_by (λ i. bus_price m d i *ℚ demand m i) (places (length m.buses))
+    by_parts z = sym (priced-by_rows m h d z) ∙ ap (λ t. t -ℚ sum_by (λ i. bus_price m d i *ℚ demand m i) (places (length m.buses))) (priced_outputs-by_parts m z (unit_price m d) h)
 
 pub law_of_infeasibility : LawOfInfeasibility
 law_of_infeasibility m d x h shows f =

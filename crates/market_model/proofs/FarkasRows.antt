@@ -6,7 +6,7 @@ use Rattle.fraction_theory.specs.Signs.{sign_of}
 use Rattle.market_model.specs.declared.participants.Parts.{Parts}
 use Rattle.market_model.specs.declared.answered.Duals.{Duals}
 use Rattle.market_model.specs.Dispatch.{injection, balance}
-use Rattle.market_model.specs.Optimality.{congestion_by, price_by}
+use Rattle.market_model.specs.Optimality.{congestion_by, price_by, unit_price}
 use Rattle.market_model.specs.LimitRows.{rows}
 use Rattle.market_model.specs.Infeasibility.{farkas_bound}
 use Rattle.market_model.proofs.Rows.{short}
@@ -18,7 +18,7 @@ energy_at e = record { energy = whole e; limits = [] }
 
 -- The short row: all that can be sold leaves 50 MW of the load.
 short-bound : farkas_bound short (energy_at (pos 1)) ≡ whole (neg_ℤ (pos (50 * 10 ^ 9)))
-unfolding farkas_bound balance injection price_by congestion_by rows sign_of ◌+ℚ◌ ◌*ℚ◌ neg_ℚ over whole gcd gcd_in
+unfolding farkas_bound unit_price balance injection price_by congestion_by rows sign_of ◌+ℚ◌ ◌*ℚ◌ neg_ℚ over whole gcd gcd_in
 short-bound = same_fraction (farkas_bound short (energy_at (pos 1))) (whole (neg_ℤ (pos (50 * 10 ^ 9)))) refl refl
 
 -- The row of a unit that is held at 60 MW, with no blocks: with a load of 10^-9 MW more the bound is that, below 0.
@@ -29,9 +29,9 @@ held load = bare_parts
     []
 
 held-bound : farkas_bound (held (pos 60000000001)) (energy_at (pos 1)) ≡ whole (negsuc 0)
-unfolding farkas_bound balance injection congestion_by price_by rows ◌+ℚ◌ ◌*ℚ◌ neg_ℚ over whole gcd gcd_in
+unfolding farkas_bound unit_price balance injection congestion_by price_by rows ◌+ℚ◌ ◌*ℚ◌ neg_ℚ over whole gcd gcd_in
 held-bound = same_fraction (farkas_bound (held (pos 60000000001)) (energy_at (pos 1))) (whole (negsuc 0)) refl refl
 
 held-bound-over : farkas_bound (held (pos 0)) (energy_at (negsuc 0)) ≡ whole (neg_ℤ (pos (60 * 10 ^ 9)))
-unfolding farkas_bound balance injection congestion_by price_by rows ◌+ℚ◌ ◌*ℚ◌ neg_ℚ over whole gcd gcd_in
+unfolding farkas_bound unit_price balance injection congestion_by price_by rows ◌+ℚ◌ ◌*ℚ◌ neg_ℚ over whole gcd gcd_in
 held-bound-over = same_fraction (farkas_bound (held (pos 0)) (energy_at (negsuc 0))) (whole (neg_ℤ (pos (60 * 10 ^ 9)))) refl refl

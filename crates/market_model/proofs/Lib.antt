@@ -19,6 +19,7 @@ pub mod RightFits
 mod RightsCases
 mod RightsLaw
 pub mod RowLaws
+pub mod RowMembers
 pub mod Rows
 pub mod SoftCases
 pub mod StopLemmas

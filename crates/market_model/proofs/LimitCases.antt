@@ -15,7 +15,7 @@ use Rattle.market_model.specs.Dispatch.{Dispatch, injection, balance, output, de
 use Rattle.market_model.specs.declared.limits.Row.{Row}
 use Rattle.market_model.specs.declared.limits.Cause.TheVariants.{Base, Branch}
 use Rattle.market_model.specs.LimitRows.{rows, row_id, line_flow, row_offset, row_factor, flow}
-use Rattle.market_model.specs.Optimality.{bus_price, welfare, congestion_by, price_by, welfare_for}
+use Rattle.market_model.specs.Optimality.{bus_price, welfare, congestion_by, price_by, welfare_for, unit_price}
 use Rattle.market_model.specs.Infeasibility.{farkas_bound}
 use Rattle.market_model.specs.Settlement.{rent, surplus}
 use Rattle.market_model.specs.Market.{bare_parts}
@@ -66,10 +66,10 @@ abbrev pub second_after : Row
 second_after = record { line = 1; cause = Branch 0 }
 
 abbrev pub up_alone : ℕ → ℕ → ℕ → Duals Fraction
-up_alone e outage u = record { energy = whole (price e); limits = record { row = record { branch = 2; outage = outage }; up = whole (price u); down = whole (pos 0) } ∷ [] }
+up_alone e outage u = record { energy = whole (price e); limits = record { row = record { branch = 2; outage = outage; unit = 0 }; up = whole (price u); down = whole (pos 0) } ∷ [] }
 
 abbrev pub down_alone : ℕ → ℕ → Duals Fraction
-down_alone e d = record { energy = whole (price e); limits = record { row = record { branch = 2; outage = 0 }; up = whole (pos 0); down = whole (price d) } ∷ [] }
+down_alone e d = record { energy = whole (price e); limits = record { row = record { branch = 2; outage = 0; unit = 0 }; up = whole (pos 0); down = whole (price d) } ∷ [] }
 
 -- ---- a limit of 40 MW on branch 2, with a load of 50 MW and a shunt of 10 MW at bus 3
 abbrev pub shunted : Parts
@@ -80,27 +80,27 @@ shunted = record (bare_parts (buses 0 50 10) (units 0) blocks) {
 }
 
 shunted-flow : flow shunted (sold 50 10) second ≡ whole (mw 40)
-unfolding rows line_flow row_offset row_factor injection balance output demand welfare_for congestion_by price_by rent surplus farkas_bound sign_of abs_ℚ ◌+ℚ◌ ◌*ℚ◌ neg_ℚ over whole gcd gcd_in
+unfolding rows line_flow row_offset row_factor injection balance output demand welfare_for congestion_by price_by rent surplus farkas_bound unit_price sign_of abs_ℚ ◌+ℚ◌ ◌*ℚ◌ neg_ℚ over whole gcd gcd_in
 shunted-flow = same_fraction (flow shunted (sold 50 10) second) (whole (mw 40)) refl refl
 
 shunted-price_1 : bus_price shunted (up_alone 10 0 40) 0 ≡ whole (price 10)
-unfolding rows line_flow row_offset row_factor injection balance output demand welfare_for congestion_by price_by rent surplus farkas_bound sign_of abs_ℚ ◌+ℚ◌ ◌*ℚ◌ neg_ℚ over whole gcd gcd_in
+unfolding rows line_flow row_offset row_factor injection balance output demand welfare_for congestion_by price_by rent surplus farkas_bound unit_price sign_of abs_ℚ ◌+ℚ◌ ◌*ℚ◌ neg_ℚ over whole gcd gcd_in
 shunted-price_1 = same_fraction (bus_price shunted (up_alone 10 0 40) 0) (whole (price 10)) refl refl
 
 shunted-price_2 : bus_price shunted (up_alone 10 0 40) 1 ≡ whole (price 30)
-unfolding rows line_flow row_offset row_factor injection balance output demand welfare_for congestion_by price_by rent surplus farkas_bound sign_of abs_ℚ ◌+ℚ◌ ◌*ℚ◌ neg_ℚ over whole gcd gcd_in
+unfolding rows line_flow row_offset row_factor injection balance output demand welfare_for congestion_by price_by rent surplus farkas_bound unit_price sign_of abs_ℚ ◌+ℚ◌ ◌*ℚ◌ neg_ℚ over whole gcd gcd_in
 shunted-price_2 = same_fraction (bus_price shunted (up_alone 10 0 40) 1) (whole (price 30)) refl refl
 
 shunted-price_3 : bus_price shunted (up_alone 10 0 40) 2 ≡ whole (price 40)
-unfolding rows line_flow row_offset row_factor injection balance output demand welfare_for congestion_by price_by rent surplus farkas_bound sign_of abs_ℚ ◌+ℚ◌ ◌*ℚ◌ neg_ℚ over whole gcd gcd_in
+unfolding rows line_flow row_offset row_factor injection balance output demand welfare_for congestion_by price_by rent surplus farkas_bound unit_price sign_of abs_ℚ ◌+ℚ◌ ◌*ℚ◌ neg_ℚ over whole gcd gcd_in
 shunted-price_3 = same_fraction (bus_price shunted (up_alone 10 0 40) 2) (whole (price 40)) refl refl
 
 shunted-rent : rent shunted (sold 50 10) (up_alone 10 0 40) second ≡ whole (money 1600)
-unfolding rows line_flow row_offset row_factor injection balance output demand welfare_for congestion_by price_by rent surplus farkas_bound sign_of abs_ℚ ◌+ℚ◌ ◌*ℚ◌ neg_ℚ over whole gcd gcd_in
+unfolding rows line_flow row_offset row_factor injection balance output demand welfare_for congestion_by price_by rent surplus farkas_bound unit_price sign_of abs_ℚ ◌+ℚ◌ ◌*ℚ◌ neg_ℚ over whole gcd gcd_in
 shunted-rent = same_fraction (rent shunted (sold 50 10) (up_alone 10 0 40) second) (whole (money 1600)) refl refl
 
 shunted-surplus : surplus shunted (sold 50 10) (up_alone 10 0 40) ≡ whole (money 1600)
-unfolding rows line_flow row_offset row_factor injection balance output demand welfare_for congestion_by price_by rent surplus farkas_bound sign_of abs_ℚ ◌+ℚ◌ ◌*ℚ◌ neg_ℚ over whole gcd gcd_in
+unfolding rows line_flow row_offset row_factor injection balance output demand welfare_for congestion_by price_by rent surplus farkas_bound unit_price sign_of abs_ℚ ◌+ℚ◌ ◌*ℚ◌ neg_ℚ over whole gcd gcd_in
 shunted-surplus = same_fraction (surplus shunted (sold 50 10) (up_alone 10 0 40)) (whole (money 1600)) refl refl
 
 -- ---- the load at bus 1 and the cheap unit at bus 3: the flow stands at the lower side of the limit
@@ -112,27 +112,27 @@ turned = record (bare_parts (buses 60 0 0) (units 2) blocks) {
 }
 
 turned-flow : flow turned (sold 40 20) second ≡ whole (neg_ℤ (mw 40))
-unfolding rows line_flow row_offset row_factor injection balance output demand welfare_for congestion_by price_by rent surplus farkas_bound sign_of abs_ℚ ◌+ℚ◌ ◌*ℚ◌ neg_ℚ over whole gcd gcd_in
+unfolding rows line_flow row_offset row_factor injection balance output demand welfare_for congestion_by price_by rent surplus farkas_bound unit_price sign_of abs_ℚ ◌+ℚ◌ ◌*ℚ◌ neg_ℚ over whole gcd gcd_in
 turned-flow = same_fraction (flow turned (sold 40 20) second) (whole (neg_ℤ (mw 40))) refl refl
 
 turned-price_1 : bus_price turned (down_alone 70 80) 0 ≡ whole (price 70)
-unfolding rows line_flow row_offset row_factor injection balance output demand welfare_for congestion_by price_by rent surplus farkas_bound sign_of abs_ℚ ◌+ℚ◌ ◌*ℚ◌ neg_ℚ over whole gcd gcd_in
+unfolding rows line_flow row_offset row_factor injection balance output demand welfare_for congestion_by price_by rent surplus farkas_bound unit_price sign_of abs_ℚ ◌+ℚ◌ ◌*ℚ◌ neg_ℚ over whole gcd gcd_in
 turned-price_1 = same_fraction (bus_price turned (down_alone 70 80) 0) (whole (price 70)) refl refl
 
 turned-price_2 : bus_price turned (down_alone 70 80) 1 ≡ whole (price 30)
-unfolding rows line_flow row_offset row_factor injection balance output demand welfare_for congestion_by price_by rent surplus farkas_bound sign_of abs_ℚ ◌+ℚ◌ ◌*ℚ◌ neg_ℚ over whole gcd gcd_in
+unfolding rows line_flow row_offset row_factor injection balance output demand welfare_for congestion_by price_by rent surplus farkas_bound unit_price sign_of abs_ℚ ◌+ℚ◌ ◌*ℚ◌ neg_ℚ over whole gcd gcd_in
 turned-price_2 = same_fraction (bus_price turned (down_alone 70 80) 1) (whole (price 30)) refl refl
 
 turned-price_3 : bus_price turned (down_alone 70 80) 2 ≡ whole (price 10)
-unfolding rows line_flow row_offset row_factor injection balance output demand welfare_for congestion_by price_by rent surplus farkas_bound sign_of abs_ℚ ◌+ℚ◌ ◌*ℚ◌ neg_ℚ over whole gcd gcd_in
+unfolding rows line_flow row_offset row_factor injection balance output demand welfare_for congestion_by price_by rent surplus farkas_bound unit_price sign_of abs_ℚ ◌+ℚ◌ ◌*ℚ◌ neg_ℚ over whole gcd gcd_in
 turned-price_3 = same_fraction (bus_price turned (down_alone 70 80) 2) (whole (price 10)) refl refl
 
 turned-rent : rent turned (sold 40 20) (down_alone 70 80) second ≡ whole (money 3200)
-unfolding rows line_flow row_offset row_factor injection balance output demand welfare_for congestion_by price_by rent surplus farkas_bound sign_of abs_ℚ ◌+ℚ◌ ◌*ℚ◌ neg_ℚ over whole gcd gcd_in
+unfolding rows line_flow row_offset row_factor injection balance output demand welfare_for congestion_by price_by rent surplus farkas_bound unit_price sign_of abs_ℚ ◌+ℚ◌ ◌*ℚ◌ neg_ℚ over whole gcd gcd_in
 turned-rent = same_fraction (rent turned (sold 40 20) (down_alone 70 80) second) (whole (money 3200)) refl refl
 
 turned-surplus : surplus turned (sold 40 20) (down_alone 70 80) ≡ whole (money 3200)
-unfolding rows line_flow row_offset row_factor injection balance output demand welfare_for congestion_by price_by rent surplus farkas_bound sign_of abs_ℚ ◌+ℚ◌ ◌*ℚ◌ neg_ℚ over whole gcd gcd_in
+unfolding rows line_flow row_offset row_factor injection balance output demand welfare_for congestion_by price_by rent surplus farkas_bound unit_price sign_of abs_ℚ ◌+ℚ◌ ◌*ℚ◌ neg_ℚ over whole gcd gcd_in
 turned-surplus = same_fraction (surplus turned (sold 40 20) (down_alone 70 80)) (whole (money 3200)) refl refl
 
 -- ---- outages of branches 3 and 1, in this order; branch 1 has no base limit, and an offset of 4 MW
@@ -145,32 +145,32 @@ listed = record (bare_parts (buses 0 60 0) (units 0) blocks) {
 }
 
 -- no row of branch 1 in the base, nor after its own outage
-listed-rows : map (row_id listed) (rows listed) ≡ record { branch = 2; outage = 0 } ∷ record { branch = 1; outage = 3 } ∷ record { branch = 2; outage = 3 } ∷ record { branch = 2; outage = 1 } ∷ []
+listed-rows : map (row_id listed) (rows listed) ≡ record { branch = 2; outage = 0; unit = 0 } ∷ record { branch = 1; outage = 3; unit = 0 } ∷ record { branch = 2; outage = 3; unit = 0 } ∷ record { branch = 2; outage = 1; unit = 0 } ∷ []
 unfolding rows
 listed-rows = refl
 
 listed-offset : row_offset listed second_after ≡ whole (mw 4)
-unfolding rows line_flow row_offset row_factor injection balance output demand welfare_for congestion_by price_by rent surplus farkas_bound sign_of abs_ℚ ◌+ℚ◌ ◌*ℚ◌ neg_ℚ over whole gcd gcd_in
+unfolding rows line_flow row_offset row_factor injection balance output demand welfare_for congestion_by price_by rent surplus farkas_bound unit_price sign_of abs_ℚ ◌+ℚ◌ ◌*ℚ◌ neg_ℚ over whole gcd gcd_in
 listed-offset = same_fraction (row_offset listed second_after) (whole (mw 4)) refl refl
 
 listed-factor_1 : row_factor listed second_after 0 ≡ whole (pos 0)
-unfolding rows line_flow row_offset row_factor injection balance output demand welfare_for congestion_by price_by rent surplus farkas_bound sign_of abs_ℚ ◌+ℚ◌ ◌*ℚ◌ neg_ℚ over whole gcd gcd_in
+unfolding rows line_flow row_offset row_factor injection balance output demand welfare_for congestion_by price_by rent surplus farkas_bound unit_price sign_of abs_ℚ ◌+ℚ◌ ◌*ℚ◌ neg_ℚ over whole gcd gcd_in
 listed-factor_1 = same_fraction (row_factor listed second_after 0) (whole (pos 0)) refl refl
 
 listed-factor_2 : row_factor listed second_after 1 ≡ whole (neg_ℤ (pos 1))
-unfolding rows line_flow row_offset row_factor injection balance output demand welfare_for congestion_by price_by rent surplus farkas_bound sign_of abs_ℚ ◌+ℚ◌ ◌*ℚ◌ neg_ℚ over whole gcd gcd_in
+unfolding rows line_flow row_offset row_factor injection balance output demand welfare_for congestion_by price_by rent surplus farkas_bound unit_price sign_of abs_ℚ ◌+ℚ◌ ◌*ℚ◌ neg_ℚ over whole gcd gcd_in
 listed-factor_2 = same_fraction (row_factor listed second_after 1) (whole (neg_ℤ (pos 1))) refl refl
 
 listed-factor_3 : row_factor listed second_after 2 ≡ whole (neg_ℤ (pos 1))
-unfolding rows line_flow row_offset row_factor injection balance output demand welfare_for congestion_by price_by rent surplus farkas_bound sign_of abs_ℚ ◌+ℚ◌ ◌*ℚ◌ neg_ℚ over whole gcd gcd_in
+unfolding rows line_flow row_offset row_factor injection balance output demand welfare_for congestion_by price_by rent surplus farkas_bound unit_price sign_of abs_ℚ ◌+ℚ◌ ◌*ℚ◌ neg_ℚ over whole gcd gcd_in
 listed-factor_3 = same_fraction (row_factor listed second_after 2) (whole (neg_ℤ (pos 1))) refl refl
 
 listed-base : flow listed (sold 50 10) second ≡ whole (mw 40)
-unfolding rows line_flow row_offset row_factor injection balance output demand welfare_for congestion_by price_by rent surplus farkas_bound sign_of abs_ℚ ◌+ℚ◌ ◌*ℚ◌ neg_ℚ over whole gcd gcd_in
+unfolding rows line_flow row_offset row_factor injection balance output demand welfare_for congestion_by price_by rent surplus farkas_bound unit_price sign_of abs_ℚ ◌+ℚ◌ ◌*ℚ◌ neg_ℚ over whole gcd gcd_in
 listed-base = same_fraction (flow listed (sold 50 10) second) (whole (mw 40)) refl refl
 
 listed-after : flow listed (sold 50 10) second_after ≡ whole (mw 54)
-unfolding rows line_flow row_offset row_factor injection balance output demand welfare_for congestion_by price_by rent surplus farkas_bound sign_of abs_ℚ ◌+ℚ◌ ◌*ℚ◌ neg_ℚ over whole gcd gcd_in
+unfolding rows line_flow row_offset row_factor injection balance output demand welfare_for congestion_by price_by rent surplus farkas_bound unit_price sign_of abs_ℚ ◌+ℚ◌ ◌*ℚ◌ neg_ℚ over whole gcd gcd_in
 listed-after = same_fraction (flow listed (sold 50 10) second_after) (whole (mw 54)) refl refl
 
 -- ---- a limit of 45 MW on branch 2 after the loss of branch 1
@@ -183,27 +183,27 @@ after_outage = record (bare_parts (buses 0 60 0) (units 0) blocks) {
 }
 
 after_outage-flow : flow after_outage (sold 45 15) second_after ≡ whole (mw 45)
-unfolding rows line_flow row_offset row_factor injection balance output demand welfare_for congestion_by price_by rent surplus farkas_bound sign_of abs_ℚ ◌+ℚ◌ ◌*ℚ◌ neg_ℚ over whole gcd gcd_in
+unfolding rows line_flow row_offset row_factor injection balance output demand welfare_for congestion_by price_by rent surplus farkas_bound unit_price sign_of abs_ℚ ◌+ℚ◌ ◌*ℚ◌ neg_ℚ over whole gcd gcd_in
 after_outage-flow = same_fraction (flow after_outage (sold 45 15) second_after) (whole (mw 45)) refl refl
 
 after_outage-price_1 : bus_price after_outage (up_alone 10 1 20) 0 ≡ whole (price 10)
-unfolding rows line_flow row_offset row_factor injection balance output demand welfare_for congestion_by price_by rent surplus farkas_bound sign_of abs_ℚ ◌+ℚ◌ ◌*ℚ◌ neg_ℚ over whole gcd gcd_in
+unfolding rows line_flow row_offset row_factor injection balance output demand welfare_for congestion_by price_by rent surplus farkas_bound unit_price sign_of abs_ℚ ◌+ℚ◌ ◌*ℚ◌ neg_ℚ over whole gcd gcd_in
 after_outage-price_1 = same_fraction (bus_price after_outage (up_alone 10 1 20) 0) (whole (price 10)) refl refl
 
 after_outage-price_2 : bus_price after_outage (up_alone 10 1 20) 1 ≡ whole (price 30)
-unfolding rows line_flow row_offset row_factor injection balance output demand welfare_for congestion_by price_by rent surplus farkas_bound sign_of abs_ℚ ◌+ℚ◌ ◌*ℚ◌ neg_ℚ over whole gcd gcd_in
+unfolding rows line_flow row_offset row_factor injection balance output demand welfare_for congestion_by price_by rent surplus farkas_bound unit_price sign_of abs_ℚ ◌+ℚ◌ ◌*ℚ◌ neg_ℚ over whole gcd gcd_in
 after_outage-price_2 = same_fraction (bus_price after_outage (up_alone 10 1 20) 1) (whole (price 30)) refl refl
 
 after_outage-price_3 : bus_price after_outage (up_alone 10 1 20) 2 ≡ whole (price 30)
-unfolding rows line_flow row_offset row_factor injection balance output demand welfare_for congestion_by price_by rent surplus farkas_bound sign_of abs_ℚ ◌+ℚ◌ ◌*ℚ◌ neg_ℚ over whole gcd gcd_in
+unfolding rows line_flow row_offset row_factor injection balance output demand welfare_for congestion_by price_by rent surplus farkas_bound unit_price sign_of abs_ℚ ◌+ℚ◌ ◌*ℚ◌ neg_ℚ over whole gcd gcd_in
 after_outage-price_3 = same_fraction (bus_price after_outage (up_alone 10 1 20) 2) (whole (price 30)) refl refl
 
 after_outage-rent : rent after_outage (sold 45 15) (up_alone 10 1 20) second_after ≡ whole (money 900)
-unfolding rows line_flow row_offset row_factor injection balance output demand welfare_for congestion_by price_by rent surplus farkas_bound sign_of abs_ℚ ◌+ℚ◌ ◌*ℚ◌ neg_ℚ over whole gcd gcd_in
+unfolding rows line_flow row_offset row_factor injection balance output demand welfare_for congestion_by price_by rent surplus farkas_bound unit_price sign_of abs_ℚ ◌+ℚ◌ ◌*ℚ◌ neg_ℚ over whole gcd gcd_in
 after_outage-rent = same_fraction (rent after_outage (sold 45 15) (up_alone 10 1 20) second_after) (whole (money 900)) refl refl
 
 after_outage-surplus : surplus after_outage (sold 45 15) (up_alone 10 1 20) ≡ whole (money 900)
-unfolding rows line_flow row_offset row_factor injection balance output demand welfare_for congestion_by price_by rent surplus farkas_bound sign_of abs_ℚ ◌+ℚ◌ ◌*ℚ◌ neg_ℚ over whole gcd gcd_in
+unfolding rows line_flow row_offset row_factor injection balance output demand welfare_for congestion_by price_by rent surplus farkas_bound unit_price sign_of abs_ℚ ◌+ℚ◌ ◌*ℚ◌ neg_ℚ over whole gcd gcd_in
 after_outage-surplus = same_fraction (surplus after_outage (sold 45 15) (up_alone 10 1 20)) (whole (money 900)) refl refl
 
 -- ---- a unit at bus 3 buys up to 20 MW at 40, behind a limit of 45 MW
@@ -221,19 +221,19 @@ abbrev half_bought : Dispatch
 half_bought = dispatch_by (whole (mw 60) ∷ whole (mw 0) ∷ whole (mw 10) ∷ [])
 
 bought-flow : flow bought half_bought second ≡ whole (mw 45)
-unfolding rows line_flow row_offset row_factor injection balance output demand welfare_for congestion_by price_by rent surplus farkas_bound sign_of abs_ℚ ◌+ℚ◌ ◌*ℚ◌ neg_ℚ over whole gcd gcd_in
+unfolding rows line_flow row_offset row_factor injection balance output demand welfare_for congestion_by price_by rent surplus farkas_bound unit_price sign_of abs_ℚ ◌+ℚ◌ ◌*ℚ◌ neg_ℚ over whole gcd gcd_in
 bought-flow = same_fraction (flow bought half_bought second) (whole (mw 45)) refl refl
 
 bought-welfare : welfare bought half_bought ≡ whole (neg_ℤ (money 200))
-unfolding rows line_flow row_offset row_factor injection balance output demand welfare_for congestion_by price_by rent surplus farkas_bound sign_of abs_ℚ ◌+ℚ◌ ◌*ℚ◌ neg_ℚ over whole gcd gcd_in
+unfolding rows line_flow row_offset row_factor injection balance output demand welfare_for congestion_by price_by rent surplus farkas_bound unit_price sign_of abs_ℚ ◌+ℚ◌ ◌*ℚ◌ neg_ℚ over whole gcd gcd_in
 bought-welfare = same_fraction (welfare bought half_bought) (whole (neg_ℤ (money 200))) refl refl
 
 bought-price : bus_price bought (up_alone 10 0 40) 2 ≡ whole (price 40)
-unfolding rows line_flow row_offset row_factor injection balance output demand welfare_for congestion_by price_by rent surplus farkas_bound sign_of abs_ℚ ◌+ℚ◌ ◌*ℚ◌ neg_ℚ over whole gcd gcd_in
+unfolding rows line_flow row_offset row_factor injection balance output demand welfare_for congestion_by price_by rent surplus farkas_bound unit_price sign_of abs_ℚ ◌+ℚ◌ ◌*ℚ◌ neg_ℚ over whole gcd gcd_in
 bought-price = same_fraction (bus_price bought (up_alone 10 0 40) 2) (whole (price 40)) refl refl
 
 bought-surplus : surplus bought half_bought (up_alone 10 0 40) ≡ whole (money 1800)
-unfolding rows line_flow row_offset row_factor injection balance output demand welfare_for congestion_by price_by rent surplus farkas_bound sign_of abs_ℚ ◌+ℚ◌ ◌*ℚ◌ neg_ℚ over whole gcd gcd_in
+unfolding rows line_flow row_offset row_factor injection balance output demand welfare_for congestion_by price_by rent surplus farkas_bound unit_price sign_of abs_ℚ ◌+ℚ◌ ◌*ℚ◌ neg_ℚ over whole gcd gcd_in
 bought-surplus = same_fraction (surplus bought half_bought (up_alone 10 0 40)) (whole (money 1800)) refl refl
 
 -- ---- an offset of 10 MW on branch 2, which has a limit of 5 MW: the surplus is below 0
@@ -245,15 +245,15 @@ shifted = record (bare_parts (buses 40 0 0) (units 0) blocks) {
 }
 
 shifted-flow : flow shifted (sold 30 10) second ≡ whole (mw 5)
-unfolding rows line_flow row_offset row_factor injection balance output demand welfare_for congestion_by price_by rent surplus farkas_bound sign_of abs_ℚ ◌+ℚ◌ ◌*ℚ◌ neg_ℚ over whole gcd gcd_in
+unfolding rows line_flow row_offset row_factor injection balance output demand welfare_for congestion_by price_by rent surplus farkas_bound unit_price sign_of abs_ℚ ◌+ℚ◌ ◌*ℚ◌ neg_ℚ over whole gcd gcd_in
 shifted-flow = same_fraction (flow shifted (sold 30 10) second) (whole (mw 5)) refl refl
 
 shifted-rent : rent shifted (sold 30 10) (up_alone 10 0 40) second ≡ whole (neg_ℤ (money 200))
-unfolding rows line_flow row_offset row_factor injection balance output demand welfare_for congestion_by price_by rent surplus farkas_bound sign_of abs_ℚ ◌+ℚ◌ ◌*ℚ◌ neg_ℚ over whole gcd gcd_in
+unfolding rows line_flow row_offset row_factor injection balance output demand welfare_for congestion_by price_by rent surplus farkas_bound unit_price sign_of abs_ℚ ◌+ℚ◌ ◌*ℚ◌ neg_ℚ over whole gcd gcd_in
 shifted-rent = same_fraction (rent shifted (sold 30 10) (up_alone 10 0 40) second) (whole (neg_ℤ (money 200))) refl refl
 
 shifted-surplus : surplus shifted (sold 30 10) (up_alone 10 0 40) ≡ whole (neg_ℤ (money 200))
-unfolding rows line_flow row_offset row_factor injection balance output demand welfare_for congestion_by price_by rent surplus farkas_bound sign_of abs_ℚ ◌+ℚ◌ ◌*ℚ◌ neg_ℚ over whole gcd gcd_in
+unfolding rows line_flow row_offset row_factor injection balance output demand welfare_for congestion_by price_by rent surplus farkas_bound unit_price sign_of abs_ℚ ◌+ℚ◌ ◌*ℚ◌ neg_ℚ over whole gcd gcd_in
 shifted-surplus = same_fraction (surplus shifted (sold 30 10) (up_alone 10 0 40)) (whole (neg_ℤ (money 200))) refl refl
 
 -- ---- a limit of 10 MW on branch 2: even 60 MW at bus 2 leave 15
@@ -265,8 +265,8 @@ narrow = record (bare_parts (buses 0 60 0) (units 0) blocks) {
 }
 
 abbrev pub narrow_duals : Duals Fraction
-narrow_duals = record { energy = whole (neg_ℤ (pos 1)); limits = record { row = record { branch = 2; outage = 0 }; up = whole (pos 2); down = whole (pos 0) } ∷ [] }
+narrow_duals = record { energy = whole (neg_ℤ (pos 1)); limits = record { row = record { branch = 2; outage = 0; unit = 0 }; up = whole (pos 2); down = whole (pos 0) } ∷ [] }
 
 narrow-bound : farkas_bound narrow narrow_duals ≡ whole (neg_ℤ (mw 10))
-unfolding rows line_flow row_offset row_factor injection balance output demand welfare_for congestion_by price_by rent surplus farkas_bound sign_of abs_ℚ ◌+ℚ◌ ◌*ℚ◌ neg_ℚ over whole gcd gcd_in
+unfolding rows line_flow row_offset row_factor injection balance output demand welfare_for congestion_by price_by rent surplus farkas_bound unit_price sign_of abs_ℚ ◌+ℚ◌ ◌*ℚ◌ neg_ℚ over whole gcd gcd_in
 narrow-bound = same_fraction (farkas_bound narrow narrow_duals) (whole (neg_ℤ (mw 10))) refl refl

@@ -16,7 +16,7 @@ use Rattle.market_model.specs.declared.participants.Side.{Side}
 use Rattle.market_model.specs.declared.participants.Side.TheVariants.{Sell, Buy}
 use Rattle.market_model.specs.declared.answered.Duals.{Duals}
 use Rattle.market_model.specs.Market.{IsMarket}
-use Rattle.market_model.specs.Dispatch.{Dispatch, places, block_at, block_bus, unit_at, signed_by_side, accepted, quantity, raised_by, injection, balance, output, demand}
+use Rattle.market_model.specs.Dispatch.{Dispatch, places, block_at, signed_by_side, accepted, quantity, raised_by, balance, output, demand}
 use Rattle.market_model.specs.Optimality.{Feasible, Supports, Gains, Loses, price, block_value, value_terms, penalty_terms, welfare_for, welfare, net_shadow_price, bus_price, unit_price}
 use Rattle.market_model.specs.Overrun.{excess}
 use Rattle.market_model.specs.Settlement.{surplus}
@@ -26,7 +26,7 @@ use Rattle.market_model.specs.declared.limits.Row.{Row}
 use Rattle.market_model.specs.LimitRows.{rows, flow, row_offset, penalty, is_soft}
 use Rattle.market_model.proofs.Excesses.{hard_costs_nothing}
 use Rattle.market_model.proofs.PlaceSums.{places_all}
-use Rattle.market_model.proofs.MarketSums.{sum_by-neg, fixed_part, priced_injections-by_parts, priced_injections-by_outputs}
+use Rattle.market_model.proofs.MarketSums.{sum_by-neg, fixed_part, priced_outputs-by_parts}
 
 -- what is bought less what is sold, as a sum over blocks
 abbrev pub value_of_blocks : Parts → Dispatch → Fraction
@@ -71,13 +71,13 @@ supported_gains Buy price worth x q z full empty h k =
 -- the value and what the blocks raise at the prices of their buses
 pub gains-by_blocks : (m : Parts) (d : Duals Fraction) (x : Dispatch)
     → sum_by (λ j. gain (block_at m j).side (price m j) (unit_price m d (block_at m j).unit) (accepted x j)) (places (length m.blocks))
-    ≡ value_of_blocks m x +ℚ sum_by (λ j. bus_price m d (block_bus m j) *ℚ raised_by m x j) (places (length m.blocks))
-gains-by_blocks m d x = sum_by-plus (λ j. block_value m j *ℚ accepted x j) (λ j. bus_price m d (block_bus m j) *ℚ raised_by m x j) (places (length m.blocks))
+    ≡ value_of_blocks m x +ℚ sum_by (λ j. unit_price m d (block_at m j).unit *ℚ raised_by m x j) (places (length m.blocks))
+gains-by_blocks m d x = sum_by-plus (λ j. block_value m j *ℚ accepted x j) (λ j. unit_price m d (block_at m j).unit *ℚ raised_by m x j) (places (length m.blocks))
 
 -- among all dispatches within bounds a supported one has the greatest gains
 pub greatest_gains : (m : Parts) (d : Duals Fraction) (x y : Dispatch) → Feasible m x → Supports m x d → Feasible m y
-    → (value_of_blocks m y +ℚ sum_by (λ j. bus_price m d (block_bus m j) *ℚ raised_by m y j) (places (length m.blocks)))
-    ≤ℚ (value_of_blocks m x +ℚ sum_by (λ j. bus_price m d (block_bus m j) *ℚ raised_by m x j) (places (length m.blocks)))
+    → (value_of_blocks m y +ℚ sum_by (λ j. unit_price m d (block_at m j).unit *ℚ raised_by m y j) (places (length m.blocks)))
+    ≤ℚ (value_of_blocks m x +ℚ sum_by (λ j. unit_price m d (block_at m j).unit *ℚ raised_by m x j) (places (length m.blocks)))
 greatest_gains m d x y fx s fy =
     subst₂ ◌≤ℚ◌ (gains-by_blocks m d y) (gains-by_blocks m d x)
     (sum_by-≤ (λ j. of_block y j) (λ j. of_block x j) (places (length m.blocks))
@@ -88,17 +88,17 @@ greatest_gains m d x y fx s fy =
     of_block : Dispatch → ℕ → Fraction
     of_block t j = gain (block_at m j).side (price m j) (unit_price m d (block_at m j).unit) (accepted t j)
 
--- the injections of a dispatch in balance, at bus prices, are the opposite of what the rows net_shadow_price
-pub priced_injections-balanced : (m : Parts) (d : Duals Fraction) (x : Dispatch) → balance m x ≡ whole (pos 0)
-    → sum_by (λ i. bus_price m d i *ℚ injection m x i) (places (length m.buses)) ≡ neg_ℚ (row_prices m d x)
-priced_injections-balanced m d x e =
-    priced-by_rows m d x
+-- the outputs of a dispatch in balance, at the prices of units, less demands at those of buses, are the opposite of what the rows take
+pub priced-balanced : (m : Parts) → IsMarket m → (d : Duals Fraction) (x : Dispatch) → balance m x ≡ whole (pos 0)
+    → sum_by (λ u. unit_price m d u *ℚ output m x u) (places (length m.units)) -ℚ sum_by (λ i. bus_price m d i *ℚ demand m i) (places (length m.buses)) ≡ neg_ℚ (row_prices m d x)
+priced-balanced m h d x e =
+    priced-by_rows m h d x
     ∙ by_ring1 ring_ℚ (d.energy ∷ balance m x ∷ row_prices m d x ∷ []) (at 0 ⊗ at 1 ⊕ pneg (at 2)) (pneg (at 2)) (at 0) (at 1) pnil e refl
 
--- what the injections make at the prices of their buses, by units, blocks and loads
+-- what is put out and taken makes at these prices, by units, blocks and loads
 abbrev priced_at : Parts → Duals Fraction → Dispatch → Fraction
 priced_at m d x =
-    (sum_by (λ u. bus_price m d (unit_at m u).bus *ℚ fixed_part m u) (places (length m.units)) +ℚ sum_by (λ j. bus_price m d (block_bus m j) *ℚ raised_by m x j) (places (length m.blocks)))
+    (sum_by (λ u. unit_price m d u *ℚ fixed_part m u) (places (length m.units)) +ℚ sum_by (λ j. unit_price m d (block_at m j).unit *ℚ raised_by m x j) (places (length m.blocks)))
     -ℚ sum_by (λ i. bus_price m d i *ℚ demand m i) (places (length m.buses))
 
 -- with the penalties of rows it is the least where the duals support the dispatch
@@ -110,24 +110,24 @@ priced_raises m d x y h fx s fy =
     pone (at 1 ⊕ pneg (at 3)) (at 0 ⊕ pneg (at 2)) NonNeg-one (row_prices-most m h d x s y fy) refl)
   where
     by_parts : (z : Dispatch) → balance m z ≡ whole (pos 0) → neg_ℚ (row_prices m d z) ≡ priced_at m d z
-    by_parts z e = sym (priced_injections-balanced m d z e) ∙ priced_injections-by_parts m z (bus_price m d) h
+    by_parts z e = sym (priced-balanced m h d z e) ∙ ap (λ t. t -ℚ sum_by (λ i. bus_price m d i *ℚ demand m i) (places (length m.buses))) (priced_outputs-by_parts m z (unit_price m d) h)
 
 pub law_of_the_optimum : LawOfTheOptimum
 law_of_the_optimum m d x y h fx s fy =
-    let units : Fraction = sum_by (λ u. bus_price m d (unit_at m u).bus *ℚ fixed_part m u) (places (length m.units)) in
+    let units : Fraction = sum_by (λ u. unit_price m d u *ℚ fixed_part m u) (places (length m.units)) in
     let loads : Fraction = sum_by (λ i. bus_price m d i *ℚ demand m i) (places (length m.buses)) in
-    let of_x : Fraction = sum_by (λ j. bus_price m d (block_bus m j) *ℚ raised_by m x j) (places (length m.blocks)) in
-    let of_y : Fraction = sum_by (λ j. bus_price m d (block_bus m j) *ℚ raised_by m y j) (places (length m.blocks)) in
+    let of_x : Fraction = sum_by (λ j. unit_price m d (block_at m j).unit *ℚ raised_by m x j) (places (length m.blocks)) in
+    let of_y : Fraction = sum_by (λ j. unit_price m d (block_at m j).unit *ℚ raised_by m y j) (places (length m.blocks)) in
     subst₂ ◌≤ℚ◌ (sym (welfare-by_parts m y h)) (sym (welfare-by_parts m x h))
     (by_le2 (value_of_blocks m y ∷ value_of_blocks m x ∷ of_x ∷ of_y ∷ units ∷ loads ∷ row_penalties m x ∷ row_penalties m y ∷ []) (at 0 ⊕ pneg (at 7)) (at 1 ⊕ pneg (at 6))
     pone (at 0 ⊕ at 3) (at 1 ⊕ at 2) pone (((at 4 ⊕ at 2) ⊕ pneg (at 5)) ⊕ at 6) (((at 4 ⊕ at 3) ⊕ pneg (at 5)) ⊕ at 7)
     NonNeg-one (greatest_gains m d x y fx s fy) NonNeg-one (priced_raises m d x y h fx s fy) refl)
 
--- the surplus is the opposite of the injections at bus prices
-pub surplus-by_injections : (m : Parts) (d : Duals Fraction) (x : Dispatch) → IsMarket m
-    → surplus m x d ≡ neg_ℚ (sum_by (λ i. bus_price m d i *ℚ injection m x i) (places (length m.buses)))
-unfolding surplus
-surplus-by_injections m d x h =
+-- the surplus is the opposite of the outputs at the prices of units, less demands at those of buses
+pub surplus-by_outputs : (m : Parts) (d : Duals Fraction) (x : Dispatch)
+    → surplus m x d ≡ neg_ℚ (sum_by (λ u. unit_price m d u *ℚ output m x u) (places (length m.units)) -ℚ sum_by (λ i. bus_price m d i *ℚ demand m i) (places (length m.buses)))
+unfolding surplus unit_price
+surplus-by_outputs m d x =
     let loads : Fraction = sum_by (λ i. bus_price m d i *ℚ demand m i) (places (length m.buses)) in
     let units : Fraction = sum_by (λ u. unit_price m d u *ℚ output m x u) (places (length m.units)) in
     total-append (map (λ i. Product (bus_price m d i) (demand m i)) (places (length m.buses))) (map (λ u. Product (neg_ℚ (unit_price m d u)) (output m x u)) (places (length m.units)))
@@ -136,12 +136,11 @@ surplus-by_injections m d x h =
     ∙ sum_by-same (λ u. neg_ℚ (unit_price m d u) *ℚ output m x u) (λ u. neg_ℚ (unit_price m d u *ℚ output m x u)) (places (length m.units)) (λ u. neg_times ring_ℚ (unit_price m d u) (output m x u))
     ∙ sum_by-neg (λ u. unit_price m d u *ℚ output m x u) (places (length m.units)))
     ∙ by_ring ring_ℚ (loads ∷ units ∷ []) (at 0 ⊕ pneg (at 1)) (pneg (at 1 ⊕ pneg (at 0))) refl
-    ∙ ap neg_ℚ (sym (priced_injections-by_outputs m x (bus_price m d) h))
 
 -- in balance the surplus is what the rows net_shadow_price
 pub surplus-by_pulls : (m : Parts) (d : Duals Fraction) (x : Dispatch) → IsMarket m → balance m x ≡ whole (pos 0) → surplus m x d ≡ row_prices m d x
 surplus-by_pulls m d x h e =
-    surplus-by_injections m d x h ∙ ap neg_ℚ (priced_injections-balanced m d x e) ∙ by_ring ring_ℚ (row_prices m d x ∷ []) (pneg (pneg (at 0))) (at 0) refl
+    surplus-by_outputs m d x ∙ ap neg_ℚ (priced-balanced m h d x e) ∙ by_ring ring_ℚ (row_prices m d x ∷ []) (pneg (pneg (at 0))) (at 0) refl
 
 pub law_of_the_surplus : LawOfTheSurplus
 law_of_the_surplus m d x h f s = surplus-by_pulls m d x h f.balanced ∙ row_prices-rents m h d x s

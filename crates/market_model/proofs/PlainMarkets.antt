@@ -7,11 +7,21 @@ use Rattle.market_data.specs.Scales.{most_blocks, most_buses, most_units}
 use Rattle.market_data.specs.declared.participants.Bus.{Bus}
 use Rattle.market_data.specs.declared.participants.Unit as unit
 use Rattle.market_model.specs.declared.participants.Block.{Block}
-use Rattle.market_model.specs.Market.{bare_parts, IsMarket, IsBlock, HasRoom}
+use Rattle.market_model.specs.Market.{bare_parts, AreUnitOutages, IsMarket, IsBlock, HasRoom}
 
 -- numbers that rise are distinct
 pub distinct_by_rise : (xs : List ℕ) → AllPairs (λ a b. a < b) xs → AllPairs (λ a b. a ≢ b) xs
 distinct_by_rise xs h i j d p q e = let less = h i j d p q in Prim.omega (arith, less, e)
+
+-- no unit is lost
+pub no_unit_outages : (units : ℕ) → AreUnitOutages units [] []
+no_unit_outages units = record {
+  count = Prim.omega arith;
+  each = λ i d lt. absurd (Prim.omega (arith, lt));
+  distinct = λ i j d p q. absurd (Prim.omega (arith, q));
+  record_count = Prim.omega arith;
+  pickups = λ i d lt. absurd (Prim.omega (arith, lt));
+}
 
 pub record IsPlain (bs : List Bus) (us : List unit.Unit) (ks : List Block) : Type 0 where
   pub bus_count : length bs ≤ most_buses
@@ -43,6 +53,7 @@ plain_market buses units blocks h = record {
   outages_distinct = λ i j d p q. absurd (Prim.omega (arith, q));
   shift = record { each = λ i d lt. absurd (Prim.omega (arith, lt)); distinct = λ i j d p q. absurd (Prim.omega (arith, q)) };
   loss = record { each = λ i d lt. absurd (Prim.omega (arith, lt)); distinct = λ i j d p q. absurd (Prim.omega (arith, q)) };
+  unit_outages = no_unit_outages (length units);
 }
 
 -- a market of one bus, unit and block, and one of nothing

@@ -14,13 +14,13 @@ use Rattle.market_model.specs.declared.answered.Duals.{Duals}
 use Rattle.market_model.specs.declared.participants.Parts.{Parts}
 use Rattle.market_model.specs.Dispatch.{zero, places}
 use Rattle.market_model.specs.Laws.{LawOfTheRights}
-use Rattle.market_model.specs.LimitRows.{rows, limit, flow, row_flow, row_offset}
+use Rattle.market_model.specs.LimitRows.{rows, limit, flow, picked_up, row_flow, row_offset}
 use Rattle.market_model.specs.Optimality.{bus_price, net_shadow_price, up_of, down_of}
 use Rattle.market_model.specs.Rights.{TransmissionRight, IsTransmissionRight, rights_injection, paid_to_rights}
 use Rattle.market_model.proofs.PlaceSums.{gather_times}
 use Rattle.market_model.proofs.MarketSums.{sum_by-neg}
 use Rattle.market_model.proofs.Excesses.{nil_or_above}
-use Rattle.market_model.proofs.RowLaws.{along, priced_by_rows, row_prices_by}
+use Rattle.market_model.proofs.RowLaws.{along, picked_up-none, pickup_prices, priced_by_rows, row_prices_by}
 use Rattle.market_model.proofs.Optimum.{surplus-by_pulls}
 
 -- ---- what rights put in, at a number for each bus
@@ -54,18 +54,26 @@ balanced n rights h =
     ∙ sum_by-nil rights)
     ∙ by_ring ring_ℚ [] (pneg pnil) pnil refl
 
+-- rights put out nothing of what a lost unit puts out
+nothing_picked : (m : Parts) (d : Duals Fraction) → pickup_prices m d (λ k. zero) ≡ zero
+nothing_picked m d =
+    sum_by-same (λ r. net_shadow_price m d r *ℚ picked_up m (λ k. zero) r) (λ r. zero) (rows m)
+    (λ r. ap (λ t. net_shadow_price m d r *ℚ t) (picked_up-none m r) ∙ by_ring ring_ℚ (net_shadow_price m d r ∷ []) (at 0 ⊗ pnil) pnil refl)
+    ∙ sum_by-nil (rows m)
+
 -- they are paid what the rows count at their net prices
 paid-by_rows : (m : Parts) (d : Duals Fraction) (rights : List TransmissionRight) → All (IsTransmissionRight (length m.buses)) rights
-    → paid_to_rights m d rights ≡ row_prices_by m d (rights_injection rights)
+    → paid_to_rights m d rights ≡ row_prices_by m d (rights_injection rights) (λ k. zero)
 unfolding paid_to_rights
 paid-by_rows m d rights h =
     let paid : Fraction = sum_by (λ t. whole t.mw *ℚ (bus_price m d t.to -ℚ bus_price m d t.from)) rights in
-    let rows_count : Fraction = row_prices_by m d (rights_injection rights) in
+    let rows_count : Fraction = row_prices_by m d (rights_injection rights) (λ k. zero) in
     let all : Fraction = sum_by (rights_injection rights) (places (length m.buses)) in
     total-Product (λ (t : TransmissionRight). whole t.mw) (λ t. bus_price m d t.to -ℚ bus_price m d t.from) rights
     ∙ by_ring2 ring_ℚ (paid ∷ rows_count ∷ d.energy ∷ all ∷ []) (at 0) (at 1)
     (pneg pone) (pneg (at 0)) (at 2 ⊗ at 3 ⊕ pneg (at 1)) (pneg (at 2)) (at 3) pnil
-    (sym (at_buses (length m.buses) (bus_price m d) rights h) ∙ priced_by_rows m d (rights_injection rights)) (balanced (length m.buses) rights h) refl
+    (sym (at_buses (length m.buses) (bus_price m d) rights h) ∙ priced_by_rows m d (rights_injection rights) (λ k. zero)
+    ∙ ap (λ t. (d.energy *ℚ all -ℚ rows_count) +ℚ t) (nothing_picked m d) ∙ by_ring ring_ℚ (d.energy ∷ all ∷ rows_count ∷ []) ((at 0 ⊗ at 1 ⊕ pneg (at 2)) ⊕ pnil) (at 0 ⊗ at 1 ⊕ pneg (at 2)) refl) (balanced (length m.buses) rights h) refl
 
 -- a price that is 0, or above 0 only at the greater of two, counts the greater for no less
 counts_more : (u g f : Fraction) → zero ≤ℚ u → (zero <ℚ u → g ≤ℚ f) → (u *ℚ g) ≤ℚ (u *ℚ f)
@@ -86,7 +94,7 @@ module _ (u d limit f o g : Fraction) (up_sign : zero ≤ℚ u) (down_sign : zer
 pub law_of_the_rights : LawOfTheRights
 law_of_the_rights m d x rights h f s are together =
     subst₂ ◌≤ℚ◌ (sym (paid-by_rows m d rights are)) (sym (surplus-by_pulls m d x h f.balanced))
-    (sum_by-≤ (λ r. net_shadow_price m d r *ℚ (row_flow m (rights_injection rights) r -ℚ row_offset m r)) (λ r. net_shadow_price m d r *ℚ (flow m x r -ℚ row_offset m r)) (rows m)
-    (along (λ r. (net_shadow_price m d r *ℚ (row_flow m (rights_injection rights) r -ℚ row_offset m r)) ≤ℚ (net_shadow_price m d r *ℚ (flow m x r -ℚ row_offset m r))) (rows m)
+    (sum_by-≤ (λ r. net_shadow_price m d r *ℚ (row_flow m (rights_injection rights) (λ k. zero) r -ℚ row_offset m r)) (λ r. net_shadow_price m d r *ℚ (flow m x r -ℚ row_offset m r)) (rows m)
+    (along (λ r. (net_shadow_price m d r *ℚ (row_flow m (rights_injection rights) (λ k. zero) r -ℚ row_offset m r)) ≤ℚ (net_shadow_price m d r *ℚ (flow m x r -ℚ row_offset m r))) (rows m)
     (λ r c. let k = s.rows r c in let w = together r c in
-    no_more (up_of m d r) (down_of m d r) (limit m r) (flow m x r) (row_offset m r) (row_flow m (rights_injection rights) r) k.up.sign k.down.sign k.up.reached k.down.reached w.above w.below)))
+    no_more (up_of m d r) (down_of m d r) (limit m r) (flow m x r) (row_offset m r) (row_flow m (rights_injection rights) (λ k. zero) r) k.up.sign k.down.sign k.up.reached k.down.reached w.above w.below)))

@@ -1,31 +1,34 @@
 -- Limit rows: markets that have none, flows by factors, and what bus prices make of injections.
-use Rattle.std.specs.Prelude.{◌≡◌, ℕ, ◌<◌, All, Contains, List, [], ◌∷◌, ◌++◌, length, map, filter, refl}
+use Rattle.std.specs.Prelude.{◌≡◌, ◌==◌, ℕ, ◌<◌, Bool, true, false, All, Contains, List, [], ◌∷◌, ◌++◌, length, map, filter, refl}
 use Rattle.std.specs.List.{flat_map, AllByRecursion}
 use Rattle.std.proofs.Common.{arith, ap, sym, ◌∙◌, subst, subst₂, inl, inr}
 use mathlib.Core.Path.{ap₂}
 use Rattle.fraction_theory.specs.Fraction.{Fraction, ◌+ℚ◌, ◌-ℚ◌, ◌*ℚ◌, neg_ℚ}
 use Rattle.fraction_theory.specs.Order.{◌≤ℚ◌, ◌<ℚ◌, NonNeg}
-use Rattle.fraction_theory.specs.Sums.{Product, sum_by, total}
+use Rattle.fraction_theory.specs.Sums.{Plain, Product, sum_by, total}
 use Rattle.fraction_theory.proofs.Ring.{by_ring, by_ring1, by_ring2, at, pnil, pone, pneg, ◌⊕◌, ◌⊗◌}
 use Rattle.fraction_theory.proofs.FieldLaws.{ring_ℚ}
 use Rattle.fraction_theory.proofs.OrderLaws.{NonNeg_from, NonNeg_to, NonNeg-plus, NonNeg-times, NonNeg-nil, NonNeg-one, le_to, ≤ℚ_trans, opposite_most, by_le2}
-use Rattle.fraction_theory.proofs.ListSums.{Contains-head, Contains-cons, sum_by-members}
-use Rattle.fraction_theory.proofs.SumLaws.{sum_by-≤, sum_by-plus, sum_by-nil, sum_by-same, sum_by-times, sum_by-exchange, total-Product}
+use Rattle.fraction_theory.proofs.ListSums.{Contains-head, Contains-cons, kept, sum_by-filter, sum_by-members}
+use Rattle.fraction_theory.proofs.SumLaws.{sum_by-≤, sum_by-plus, sum_by-nil, sum_by-same, sum_by-times, sum_by-exchange, total-append, total-Product}
 use Rattle.market_model.specs.declared.participants.Parts.{Parts}
 use Rattle.market_model.specs.declared.answered.Dual.{Dual}
 use Rattle.market_model.specs.declared.answered.Duals.{Duals}
-use Rattle.market_model.specs.Dispatch.{Dispatch, IsDispatch, zero, places, block_at, block_bus, accepted, quantity, injection, balance}
+use Rattle.market_model.specs.Dispatch.{Dispatch, IsDispatch, zero, places, unit_at, block_at, accepted, quantity, injection, balance, demand, output}
 use Rattle.market_model.specs.declared.limits.Cause.{Cause}
 use Rattle.market_model.specs.declared.limits.Row.{Row}
-use Rattle.market_model.specs.declared.limits.Cause.TheVariants.{Base, Branch}
-use Rattle.market_model.specs.LimitRows.{causes, bears, rows_of, rows, row_id, limit, most_flow, penalty, row_flow, row_offset, row_factor, line_flow, line_offset, shift_factor, loss_factor, flow}
-use Rattle.market_model.specs.Optimality.{Feasible, Supports, SideSupported, BlockSupported, Gains, Loses, price, IsOneSided, ProperDuals, names_row, named_rows, up_of, down_of, net_shadow_price, congestion, bus_price, congestion_by, price_by}
+use Rattle.market_model.specs.declared.limits.Cause.TheVariants.{Base, Branch, UnitOutage}
+use Rattle.market_model.specs.LimitRows.{IsCauseOf, causes, bears, rows_of, rows, row_id, limit, lost_output, lost_unit, loses, most_flow, penalty, picked_up, pickup_factor, row_flow, row_offset, row_factor, row_pickup, line_flow, line_offset, shift_factor, loss_factor, flow, taker_factor, taker_terms, unit_factor}
+use Rattle.market_model.specs.Optimality.{Feasible, Supports, SideSupported, BlockSupported, Gains, Loses, price, IsOneSided, ProperDuals, names_row, named_rows, own_terms, up_of, down_of, net_shadow_price, congestion, bus_price, congestion_by, price_by, unit_price}
 use Rattle.market_model.specs.Market.{IsMarket}
 use Rattle.market_model.specs.Overrun.{excess, excess_by, Within}
 use Rattle.market_model.specs.Settlement.{priced_flow, rent}
 use Rattle.market_model.specs.Laws.{LawOfTheFlows, HasOffsetsWithin}
 use Rattle.market_model.proofs.Excesses.{limit_least, nil_or_above, paid_down, paid_up, penalty_least, priced_flow-least, side_most, sides_most}
-use Rattle.market_model.proofs.MarketSums.{balance-by_injections, sum_by-minus, sum_by-neg}
+use Rattle.market_model.proofs.MarketSums.{balance-by_injections, priced_injections-by_outputs, sum_by-minus, sum_by-neg}
+use Rattle.market_model.proofs.PlaceSums.{sum_by-one_place}
+use Rattle.market_model.proofs.RowMembers.{at_places, lost_unit-in}
+use Rattle.std.proofs.lemmas.Bool.Decides.{eqb_tells}
 
 -- ---- a market without lines has no rows
 no_items : {X Y : Type 0} (f : X → List Y) (xs : List X) → ((x : X) → f x ≡ []) → flat_map f xs ≡ []
@@ -47,21 +50,28 @@ pub bus_price-bare : (m : Parts) (d : Duals Fraction) (i : ℕ) → rows m ≡ [
 unfolding price_by
 bus_price-bare m d i e = ap (λ t. d.energy +ℚ t) (congestion-bare m d i e) ∙ by_ring ring_ℚ (d.energy ∷ []) (at 0 ⊕ pnil) (at 0) refl
 
+pub unit_price-bare : (m : Parts) (d : Duals Fraction) (u : ℕ) → rows m ≡ [] → unit_price m d u ≡ d.energy
+unfolding unit_price
+unit_price-bare m d u e =
+    ap (λ (rs : List Row). total (Plain (bus_price m d (unit_at m u).bus) ∷ map (λ r. Product (neg_ℚ (net_shadow_price m d r)) (row_pickup m r.line r.cause)) (filter (λ r. loses m u r.cause) rs))) e
+    ∙ by_ring ring_ℚ (bus_price m d (unit_at m u).bus ∷ []) (at 0 ⊕ pnil) (at 0) refl
+    ∙ bus_price-bare m d (unit_at m u).bus e
+
 module _ (m : Parts) (d : Duals Fraction) (x : Dispatch) (bare : rows m ≡ []) where
   pub supported_bare : (j : ℕ) → (Gains (block_at m j).side (price m j) d.energy → accepted x j ≡ quantity m j) → (Loses (block_at m j).side (price m j) d.energy → accepted x j ≡ zero) → BlockSupported m x d j
   supported_bare j full empty = record {
-    full = λ g. full (subst (Gains (block_at m j).side (price m j)) (bus_price-bare m d (block_bus m j) bare) g);
-    empty = λ g. empty (subst (Loses (block_at m j).side (price m j)) (bus_price-bare m d (block_bus m j) bare) g);
+    full = λ g. full (subst (Gains (block_at m j).side (price m j)) (unit_price-bare m d (block_at m j).unit bare) g);
+    empty = λ g. empty (subst (Loses (block_at m j).side (price m j)) (unit_price-bare m d (block_at m j).unit bare) g);
   }
 
   pub supports_bare : ((j : ℕ) → j < length m.blocks → BlockSupported m x d j) → Supports m x d
   supports_bare h = record { blocks = h; rows = λ r c. let k : Contains [] r = subst (λ (rs : List Row). Contains rs r) bare c in absurd (Prim.omega (arith, k.1)) }
 
   pub full_bare : (j : ℕ) → BlockSupported m x d j → Gains (block_at m j).side (price m j) d.energy → accepted x j ≡ quantity m j
-  full_bare j s g = s.full (subst (Gains (block_at m j).side (price m j)) (sym (bus_price-bare m d (block_bus m j) bare)) g)
+  full_bare j s g = s.full (subst (Gains (block_at m j).side (price m j)) (sym (unit_price-bare m d (block_at m j).unit bare)) g)
 
   pub empty_bare : (j : ℕ) → BlockSupported m x d j → Loses (block_at m j).side (price m j) d.energy → accepted x j ≡ zero
-  empty_bare j s g = s.empty (subst (Loses (block_at m j).side (price m j)) (sym (bus_price-bare m d (block_bus m j) bare)) g)
+  empty_bare j s g = s.empty (subst (Loses (block_at m j).side (price m j)) (sym (unit_price-bare m d (block_at m j).unit bare)) g)
 
 pub feasible_bare : (m : Parts) (x : Dispatch) → rows m ≡ [] → IsDispatch m x → balance m x ≡ zero → Feasible m x
 feasible_bare m x bare h e = record {
@@ -92,18 +102,26 @@ line_flow-by_factors : (m : Parts) (p : ℕ → Fraction) (l : ℕ) → line_flo
 unfolding line_flow
 line_flow-by_factors m p l = ap (λ t. line_offset m l +ℚ t) (total-Product (shift_factor m l) p (places (length m.buses)))
 
+-- the same by the factors and the offset of a row that nothing goes over to
+line_flow-by_row : (m : Parts) (p : ℕ → Fraction) (l : ℕ)
+    → line_flow m p l ≡ (line_offset m l +ℚ zero) +ℚ sum_by (λ i. (shift_factor m l i +ℚ zero) *ℚ p i) (places (length m.buses))
+line_flow-by_row m p l =
+    line_flow-by_factors m p l
+    ∙ ap₂ ◌+ℚ◌ (by_ring ring_ℚ (line_offset m l ∷ []) (at 0) (at 0 ⊕ pnil) refl)
+    (sum_by-same (λ i. shift_factor m l i *ℚ p i) (λ i. (shift_factor m l i +ℚ zero) *ℚ p i) (places (length m.buses))
+    (λ i. by_ring ring_ℚ (shift_factor m l i ∷ p i ∷ []) (at 0 ⊗ at 1) ((at 0 ⊕ pnil) ⊗ at 1) refl))
+
 pub law_of_the_flows : LawOfTheFlows
 unfolding row_offset row_factor
-law_of_the_flows m p r = by r.line r.cause
+law_of_the_flows m p lost r = by r.line r.cause
   where
-    by : (l : ℕ) (c : Cause) → row_flow m p (record { line = l; cause = c })
-        ≡ row_offset m (record { line = l; cause = c }) +ℚ sum_by (λ i. row_factor m (record { line = l; cause = c }) i *ℚ p i) (places (length m.buses))
+    by : (l : ℕ) (c : Cause) → row_flow m p lost (record { line = l; cause = c })
+        ≡ (row_offset m (record { line = l; cause = c }) +ℚ sum_by (λ i. row_factor m (record { line = l; cause = c }) i *ℚ p i) (places (length m.buses)))
+        +ℚ picked_up m lost (record { line = l; cause = c })
     by l Base =
-        by_ring ring_ℚ (line_flow m p l ∷ []) (at 0 ⊕ pnil) (at 0) refl
-        ∙ line_flow-by_factors m p l
-        ∙ ap₂ ◌+ℚ◌ (by_ring ring_ℚ (line_offset m l ∷ []) (at 0) (at 0 ⊕ pnil) refl)
-        (sum_by-same (λ i. shift_factor m l i *ℚ p i) (λ i. (shift_factor m l i +ℚ zero) *ℚ p i) (places (length m.buses))
-        (λ i. by_ring ring_ℚ (shift_factor m l i ∷ p i ∷ []) (at 0 ⊗ at 1) ((at 0 ⊕ pnil) ⊗ at 1) refl))
+        ap (λ t. t +ℚ zero) (line_flow-by_row m p l)
+    by l (UnitOutage k) =
+        ap (λ t. t +ℚ (pickup_factor m l k *ℚ lost k +ℚ zero)) (line_flow-by_row m p l)
     by l (Branch k) =
         let k_l : Fraction = loss_factor m l k in
         let o : Fraction = line_offset m l in
@@ -111,13 +129,21 @@ law_of_the_flows m p r = by r.line r.cause
         let s : Fraction = sum_by (λ i. shift_factor m l i *ℚ p i) (places (length m.buses)) in
         let s_k : Fraction = sum_by (λ i. shift_factor m k i *ℚ p i) (places (length m.buses)) in
         ap₂ (λ (t u : Fraction). t +ℚ (loss_factor m l k *ℚ u +ℚ zero)) (line_flow-by_factors m p l) (line_flow-by_factors m p k)
-        ∙ by_ring ring_ℚ (o ∷ s ∷ k_l ∷ o_k ∷ s_k ∷ []) ((at 0 ⊕ at 1) ⊕ (at 2 ⊗ (at 3 ⊕ at 4) ⊕ pnil)) ((at 0 ⊕ (at 2 ⊗ at 3 ⊕ pnil)) ⊕ (at 1 ⊕ at 2 ⊗ at 4)) refl
-        ∙ ap (λ t. (o +ℚ (k_l *ℚ o_k +ℚ zero)) +ℚ t)
+        ∙ by_ring ring_ℚ (o ∷ s ∷ k_l ∷ o_k ∷ s_k ∷ []) ((at 0 ⊕ at 1) ⊕ (at 2 ⊗ (at 3 ⊕ at 4) ⊕ pnil)) (((at 0 ⊕ (at 2 ⊗ at 3 ⊕ pnil)) ⊕ (at 1 ⊕ at 2 ⊗ at 4)) ⊕ pnil) refl
+        ∙ ap (λ t. ((o +ℚ (k_l *ℚ o_k +ℚ zero)) +ℚ t) +ℚ zero)
         (ap (λ t. s +ℚ t) (sym (sum_by-times (loss_factor m l k) (λ i. shift_factor m k i *ℚ p i) (places (length m.buses))))
         ∙ sym (sum_by-plus (λ i. shift_factor m l i *ℚ p i) (λ i. loss_factor m l k *ℚ (shift_factor m k i *ℚ p i)) (places (length m.buses)))
         ∙ sum_by-same (λ i. shift_factor m l i *ℚ p i +ℚ loss_factor m l k *ℚ (shift_factor m k i *ℚ p i))
         (λ i. (shift_factor m l i +ℚ (loss_factor m l k *ℚ shift_factor m k i +ℚ zero)) *ℚ p i) (places (length m.buses))
         (λ i. by_ring ring_ℚ (shift_factor m l i ∷ p i ∷ loss_factor m l k ∷ shift_factor m k i ∷ []) (at 0 ⊗ at 1 ⊕ at 2 ⊗ (at 3 ⊗ at 1)) ((at 0 ⊕ (at 2 ⊗ at 3 ⊕ pnil)) ⊗ at 1) refl))
+
+-- what rows take from a unit's price, row by row
+pickups-by_rows : (m : Parts) (d : Duals Fraction) (u : ℕ)
+    → total (map (λ r. Product (neg_ℚ (net_shadow_price m d r)) (row_pickup m r.line r.cause)) (filter (λ r. loses m u r.cause) (rows m)))
+    ≡ sum_by (λ r. kept (loses m u r.cause) (neg_ℚ (net_shadow_price m d r) *ℚ row_pickup m r.line r.cause)) (rows m)
+pickups-by_rows m d u =
+    total-Product (λ r. neg_ℚ (net_shadow_price m d r)) (λ r. row_pickup m r.line r.cause) (filter (λ r. loses m u r.cause) (rows m))
+    ∙ sum_by-filter (λ r. neg_ℚ (net_shadow_price m d r) *ℚ row_pickup m r.line r.cause) (λ r. loses m u r.cause) (rows m)
 
 -- ---- sums over buses and rows, exchanged
 -- what prices of buses, made of the net prices of rows, make of injections
@@ -134,18 +160,22 @@ by_net_prices rs is q a p =
     ∙ by_ring ring_ℚ (q r ∷ sum_by (λ i. a r i *ℚ p i) is ∷ []) (pneg (at 0) ⊗ at 1) (pneg (at 0 ⊗ at 1)) refl)
     ∙ sum_by-neg (λ r. q r *ℚ sum_by (λ i. a r i *ℚ p i) is) rs
 
--- the rows at their net prices, on what flows beyond their offsets where buses put in p
-abbrev pub row_prices_by : Parts → Duals Fraction → (ℕ → Fraction) → Fraction
-row_prices_by m d p = sum_by (λ r. net_shadow_price m d r *ℚ (row_flow m p r -ℚ row_offset m r)) (rows m)
+-- the rows at their net prices, on what flows beyond their offsets where buses put in p, and lost units so much of it
+abbrev pub row_prices_by : Parts → Duals Fraction → (ℕ → Fraction) → (ℕ → Fraction) → Fraction
+row_prices_by m d p lost = sum_by (λ r. net_shadow_price m d r *ℚ (row_flow m p lost r -ℚ row_offset m r)) (rows m)
 
 abbrev pub row_prices : Parts → Duals Fraction → Dispatch → Fraction
-row_prices m d x = row_prices_by m d (injection m x)
+row_prices m d x = row_prices_by m d (injection m x) (lost_output m x)
 
--- what is put in at bus prices: all of it at the price of energy, less that of the rows
-pub priced_by_rows : (m : Parts) (d : Duals Fraction) (p : ℕ → Fraction)
-    → sum_by (λ i. bus_price m d i *ℚ p i) (places (length m.buses)) ≡ d.energy *ℚ sum_by p (places (length m.buses)) -ℚ row_prices_by m d p
+-- the rows at their net prices, on what is picked up of the outputs of lost units
+abbrev pub pickup_prices : Parts → Duals Fraction → (ℕ → Fraction) → Fraction
+pickup_prices m d lost = sum_by (λ r. net_shadow_price m d r *ℚ picked_up m lost r) (rows m)
+
+-- what is put in at bus prices: all of it at the price of energy, less that of the rows, but for what is picked up
+pub priced_by_rows : (m : Parts) (d : Duals Fraction) (p lost : ℕ → Fraction)
+    → sum_by (λ i. bus_price m d i *ℚ p i) (places (length m.buses)) ≡ (d.energy *ℚ sum_by p (places (length m.buses)) -ℚ row_prices_by m d p lost) +ℚ pickup_prices m d lost
 unfolding price_by congestion_by
-priced_by_rows m d p =
+priced_by_rows m d p lost =
     let buses : List ℕ = places (length m.buses) in
     sum_by-same (λ i. (d.energy +ℚ congestion m d i) *ℚ p i) (λ i. d.energy *ℚ p i +ℚ sum_by (λ r. neg_ℚ (net_shadow_price m d r) *ℚ row_factor m r i) (rows m) *ℚ p i) buses
     (λ i. by_ring ring_ℚ (d.energy ∷ congestion m d i ∷ p i ∷ []) ((at 0 ⊕ at 1) ⊗ at 2) (at 0 ⊗ at 2 ⊕ at 1 ⊗ at 2) refl
@@ -154,14 +184,125 @@ priced_by_rows m d p =
     ∙ ap₂ ◌+ℚ◌
     (sum_by-times d.energy p buses)
     (by_net_prices (rows m) buses (net_shadow_price m d) (row_factor m) p
-    ∙ ap neg_ℚ (sum_by-same (λ r. net_shadow_price m d r *ℚ sum_by (λ i. row_factor m r i *ℚ p i) buses) (λ r. net_shadow_price m d r *ℚ (row_flow m p r -ℚ row_offset m r)) (rows m)
-    (λ r. ap (λ t. net_shadow_price m d r *ℚ t)
-    (by_ring1 ring_ℚ (row_flow m p r ∷ row_offset m r ∷ sum_by (λ i. row_factor m r i *ℚ p i) buses ∷ []) (at 2) (at 0 ⊕ pneg (at 1)) (pneg pone) (at 0) (at 1 ⊕ at 2) (law_of_the_flows m p r) refl))))
+    ∙ ap neg_ℚ (sum_by-same (λ r. net_shadow_price m d r *ℚ sum_by (λ i. row_factor m r i *ℚ p i) buses)
+    (λ r. net_shadow_price m d r *ℚ (row_flow m p lost r -ℚ row_offset m r) -ℚ net_shadow_price m d r *ℚ picked_up m lost r) (rows m)
+    (λ r.
+    by_ring1 ring_ℚ (row_flow m p lost r ∷ row_offset m r ∷ sum_by (λ i. row_factor m r i *ℚ p i) buses ∷ picked_up m lost r ∷ net_shadow_price m d r ∷ [])
+    (at 4 ⊗ at 2) (at 4 ⊗ (at 0 ⊕ pneg (at 1)) ⊕ pneg (at 4 ⊗ at 3)) (pneg (at 4)) (at 0) ((at 1 ⊕ at 2) ⊕ at 3) (law_of_the_flows m p lost r) refl)
+    ∙ sum_by-minus (λ r. net_shadow_price m d r *ℚ (row_flow m p lost r -ℚ row_offset m r)) (λ r. net_shadow_price m d r *ℚ picked_up m lost r) (rows m)))
+    ∙ by_ring ring_ℚ ((d.energy *ℚ sum_by p buses) ∷ row_prices_by m d p lost ∷ pickup_prices m d lost ∷ []) (at 0 ⊕ pneg (at 1 ⊕ pneg (at 2))) ((at 0 ⊕ pneg (at 1)) ⊕ at 2) refl
 
--- at a dispatch
-pub priced-by_rows : (m : Parts) (d : Duals Fraction) (x : Dispatch)
-    → sum_by (λ i. bus_price m d i *ℚ injection m x i) (places (length m.buses)) ≡ d.energy *ℚ balance m x -ℚ row_prices m d x
-priced-by_rows m d x = priced_by_rows m d (injection m x) ∙ ap (λ t. d.energy *ℚ t -ℚ row_prices m d x) (sym (balance-by_injections m x))
+-- where nothing of it is lost, nothing is picked up
+pub picked_up-none : (m : Parts) (r : Row) → picked_up m (λ k. zero) r ≡ zero
+picked_up-none m r = by r.line r.cause
+  where
+    by : (l : ℕ) (c : Cause) → picked_up m (λ k. zero) (record { line = l; cause = c }) ≡ zero
+    by l Base = refl
+    by l (Branch k) = refl
+    by l (UnitOutage k) = by_ring ring_ℚ (pickup_factor m l k ∷ []) (at 0 ⊗ pnil ⊕ pnil) pnil refl
+
+-- ---- at the own prices of units
+-- what a unit's output counts for a row, by its bus and by what is picked up of it
+pub unit_factor-parts : (m : Parts) (r : Row) (u : ℕ) → unit_factor m r u ≡ row_factor m r (unit_at m u).bus +ℚ kept (loses m u r.cause) (row_pickup m r.line r.cause)
+unfolding row_factor pickup_factor taker_factor
+unit_factor-parts m r u = by r.line r.cause
+  where
+    by : (l : ℕ) (c : Cause) → unit_factor m (record { line = l; cause = c }) u ≡ row_factor m (record { line = l; cause = c }) (unit_at m u).bus +ℚ kept (loses m u c) (row_pickup m l c)
+    by l Base = by_ring ring_ℚ (shift_factor m l (unit_at m u).bus ∷ []) (at 0 ⊕ pnil) ((at 0 ⊕ pnil) ⊕ pnil) refl
+    by l (Branch k) =
+        by_ring ring_ℚ (shift_factor m l (unit_at m u).bus ∷ loss_factor m l k ∷ shift_factor m k (unit_at m u).bus ∷ []) (at 0 ⊕ (at 1 ⊗ at 2 ⊕ pnil)) ((at 0 ⊕ (at 1 ⊗ at 2 ⊕ pnil)) ⊕ pnil) refl
+    by l (UnitOutage k) = elim (eqb_tells (lost_unit m k) u) [
+      | inl t ↦ Prim.rw (t.0) (lost t.1)
+      | inr t ↦ Prim.rw (t.0) (by_ring ring_ℚ (shift_factor m l (unit_at m u).bus ∷ []) (at 0 ⊕ pnil) ((at 0 ⊕ pnil) ⊕ pnil) refl)
+    ]
+      where
+        lost : lost_unit m k ≡ u → taker_factor m l k ≡ (shift_factor m l (unit_at m u).bus +ℚ zero) +ℚ pickup_factor m l k
+        lost e =
+            by_ring1 ring_ℚ (taker_factor m l k ∷ shift_factor m l (unit_at m u).bus ∷ pickup_factor m l k ∷ []) (at 0) ((at 1 ⊕ pnil) ⊕ at 2)
+            (pneg pone) (at 2) (at 0 ⊕ (pneg (at 1) ⊕ pnil))
+            (total-append (taker_terms m l k) (Plain (neg_ℚ (shift_factor m l (unit_at m (lost_unit m k)).bus)) ∷ [])
+            ∙ ap (λ (v : ℕ). taker_factor m l k +ℚ (neg_ℚ (shift_factor m l (unit_at m v).bus) +ℚ zero)) e) refl
+
+-- a unit's price: that of energy, and what all rows take by its own factors
+pub unit_price-by_factors : (m : Parts) (d : Duals Fraction) (u : ℕ) → unit_price m d u ≡ price_by m d (λ r. unit_factor m r u)
+unfolding unit_price price_by congestion_by
+unit_price-by_factors m d u =
+    let at_bus : Fraction = sum_by (λ r. neg_ℚ (net_shadow_price m d r) *ℚ row_factor m r (unit_at m u).bus) (rows m) in
+    let taken : Fraction = sum_by (λ r. kept (loses m u r.cause) (neg_ℚ (net_shadow_price m d r) *ℚ row_pickup m r.line r.cause)) (rows m) in
+    ap₂ (λ (s t : Fraction). (d.energy +ℚ s) +ℚ t)
+    (total-Product (λ r. neg_ℚ (net_shadow_price m d r)) (λ r. row_factor m r (unit_at m u).bus) (rows m))
+    (pickups-by_rows m d u)
+    ∙ by_ring ring_ℚ (d.energy ∷ at_bus ∷ taken ∷ []) ((at 0 ⊕ at 1) ⊕ at 2) (at 0 ⊕ (at 1 ⊕ at 2)) refl
+    ∙ ap (λ t. d.energy +ℚ t)
+    (sym (sum_by-plus (λ r. neg_ℚ (net_shadow_price m d r) *ℚ row_factor m r (unit_at m u).bus) (λ r. kept (loses m u r.cause) (neg_ℚ (net_shadow_price m d r) *ℚ row_pickup m r.line r.cause)) (rows m))
+    ∙ sum_by-same (λ r. neg_ℚ (net_shadow_price m d r) *ℚ row_factor m r (unit_at m u).bus +ℚ kept (loses m u r.cause) (neg_ℚ (net_shadow_price m d r) *ℚ row_pickup m r.line r.cause))
+    (λ r. neg_ℚ (net_shadow_price m d r) *ℚ unit_factor m r u) (rows m)
+    (λ r. each (loses m u r.cause) (net_shadow_price m d r) (row_factor m r (unit_at m u).bus) (row_pickup m r.line r.cause) ∙ ap (λ t. neg_ℚ (net_shadow_price m d r) *ℚ t) (sym (unit_factor-parts m r u)))
+    ∙ sym (total-Product (λ r. neg_ℚ (net_shadow_price m d r)) (λ r. unit_factor m r u) (rows m)))
+  where
+    each : (b : Bool) (n a k : Fraction) → neg_ℚ n *ℚ a +ℚ kept b (neg_ℚ n *ℚ k) ≡ neg_ℚ n *ℚ (a +ℚ kept b k)
+    each true n a k = by_ring ring_ℚ (n ∷ a ∷ k ∷ []) (pneg (at 0) ⊗ at 1 ⊕ pneg (at 0) ⊗ at 2) (pneg (at 0) ⊗ (at 1 ⊕ at 2)) refl
+    each false n a k = by_ring ring_ℚ (n ∷ a ∷ k ∷ []) (pneg (at 0) ⊗ at 1 ⊕ pnil) (pneg (at 0) ⊗ (at 1 ⊕ pnil)) refl
+
+-- at the net price n of a row, what is picked up of the outputs P of units is what the one that is lost takes from its price
+picked_up-by_units : (m : Parts) → IsMarket m → (n : Fraction) (P : ℕ → Fraction) (l : ℕ) (c : Cause) → IsCauseOf m c
+    → sum_by (λ u. kept (loses m u c) (neg_ℚ n *ℚ row_pickup m l c) *ℚ P u) (places (length m.units)) ≡ neg_ℚ (n *ℚ picked_up m (λ k. P (lost_unit m k)) (record { line = l; cause = c }))
+picked_up-by_units m market n P l Base is =
+    sum_by-same (λ u. zero *ℚ P u) (λ u. zero) (places (length m.units)) (λ u. by_ring ring_ℚ (P u ∷ []) (pnil ⊗ at 0) pnil refl)
+    ∙ sum_by-nil (places (length m.units)) ∙ by_ring ring_ℚ (n ∷ []) pnil (pneg (at 0 ⊗ pnil)) refl
+picked_up-by_units m market n P l (Branch k) is =
+    sum_by-same (λ u. zero *ℚ P u) (λ u. zero) (places (length m.units)) (λ u. by_ring ring_ℚ (P u ∷ []) (pnil ⊗ at 0) pnil refl)
+    ∙ sum_by-nil (places (length m.units)) ∙ by_ring ring_ℚ (n ∷ []) pnil (pneg (at 0 ⊗ pnil)) refl
+picked_up-by_units m market n P l (UnitOutage k) is =
+    sum_by-same (λ u. kept (lost_unit m k == u) (neg_ℚ n *ℚ pickup_factor m l k) *ℚ P u) (λ u. kept (lost_unit m k == u) ((neg_ℚ n *ℚ pickup_factor m l k) *ℚ P u)) (places (length m.units))
+    (λ u. kept-times (lost_unit m k == u) (neg_ℚ n *ℚ pickup_factor m l k) (P u))
+    ∙ sum_by-one_place (λ u. (neg_ℚ n *ℚ pickup_factor m l k) *ℚ P u) (lost_unit m k) (length m.units) (lost_unit-in m market k is)
+    ∙ by_ring ring_ℚ (n ∷ pickup_factor m l k ∷ P (lost_unit m k) ∷ []) ((pneg (at 0) ⊗ at 1) ⊗ at 2) (pneg (at 0 ⊗ (at 1 ⊗ at 2 ⊕ pnil))) refl
+  where
+    kept-times : (b : Bool) (a p : Fraction) → kept b a *ℚ p ≡ kept b (a *ℚ p)
+    kept-times true a p = refl
+    kept-times false a p = by_ring ring_ℚ (p ∷ []) (pnil ⊗ at 0) pnil refl
+
+-- amounts of units at their own prices: at the prices of their buses, less what rows take of what is picked up
+pub at_own_prices : (m : Parts) → IsMarket m → (d : Duals Fraction) (P : ℕ → Fraction)
+    → sum_by (λ u. unit_price m d u *ℚ P u) (places (length m.units))
+    ≡ sum_by (λ u. bus_price m d (unit_at m u).bus *ℚ P u) (places (length m.units)) -ℚ pickup_prices m d (λ k. P (lost_unit m k))
+unfolding unit_price
+at_own_prices m market d P =
+    let units : List ℕ = places (length m.units) in
+    let taken : ℕ → Row → Fraction = λ u r. kept (loses m u r.cause) (neg_ℚ (net_shadow_price m d r) *ℚ row_pickup m r.line r.cause) *ℚ P u in
+    sum_by-same (λ u. unit_price m d u *ℚ P u)
+    (λ u. bus_price m d (unit_at m u).bus *ℚ P u +ℚ sum_by (λ r. kept (loses m u r.cause) (neg_ℚ (net_shadow_price m d r) *ℚ row_pickup m r.line r.cause) *ℚ P u) (rows m)) units
+    (λ u. ap (λ t. (bus_price m d (unit_at m u).bus +ℚ t) *ℚ P u) (pickups-by_rows m d u)
+    ∙ by_ring ring_ℚ (bus_price m d (unit_at m u).bus ∷ sum_by (λ r. kept (loses m u r.cause) (neg_ℚ (net_shadow_price m d r) *ℚ row_pickup m r.line r.cause)) (rows m) ∷ P u ∷ [])
+    ((at 0 ⊕ at 1) ⊗ at 2) (at 0 ⊗ at 2 ⊕ at 2 ⊗ at 1) refl
+    ∙ ap (λ t. bus_price m d (unit_at m u).bus *ℚ P u +ℚ t)
+    (sym (sum_by-times (P u) (λ r. kept (loses m u r.cause) (neg_ℚ (net_shadow_price m d r) *ℚ row_pickup m r.line r.cause)) (rows m))
+    ∙ sum_by-same (λ r. P u *ℚ kept (loses m u r.cause) (neg_ℚ (net_shadow_price m d r) *ℚ row_pickup m r.line r.cause))
+    (λ r. kept (loses m u r.cause) (neg_ℚ (net_shadow_price m d r) *ℚ row_pickup m r.line r.cause) *ℚ P u) (rows m)
+    (λ r. by_ring ring_ℚ (P u ∷ kept (loses m u r.cause) (neg_ℚ (net_shadow_price m d r) *ℚ row_pickup m r.line r.cause) ∷ []) (at 0 ⊗ at 1) (at 1 ⊗ at 0) refl)))
+    ∙ sum_by-plus (λ u. bus_price m d (unit_at m u).bus *ℚ P u) (λ u. sum_by (λ r. kept (loses m u r.cause) (neg_ℚ (net_shadow_price m d r) *ℚ row_pickup m r.line r.cause) *ℚ P u) (rows m)) units
+    ∙ ap (λ t. sum_by (λ u. bus_price m d (unit_at m u).bus *ℚ P u) units +ℚ t)
+    (sum_by-exchange taken units (rows m)
+    ∙ sum_by-members (λ r. sum_by (λ u. taken u r) units) (λ r. neg_ℚ (net_shadow_price m d r *ℚ picked_up m (λ k. P (lost_unit m k)) r)) (rows m)
+    (λ r c. picked_up-by_units m market (net_shadow_price m d r) P r.line r.cause (at_places m market r c).1)
+    ∙ sum_by-neg (λ r. net_shadow_price m d r *ℚ picked_up m (λ k. P (lost_unit m k)) r) (rows m))
+
+-- at a dispatch: outputs at own prices less demands at bus prices are the balance at the price of energy, less what the rows take
+pub priced-by_rows : (m : Parts) → IsMarket m → (d : Duals Fraction) (x : Dispatch)
+    → sum_by (λ u. unit_price m d u *ℚ output m x u) (places (length m.units)) -ℚ sum_by (λ i. bus_price m d i *ℚ demand m i) (places (length m.buses))
+    ≡ d.energy *ℚ balance m x -ℚ row_prices m d x
+priced-by_rows m market d x =
+    let at_buses : Fraction = sum_by (λ u. bus_price m d (unit_at m u).bus *ℚ output m x u) (places (length m.units)) in
+    let loads : Fraction = sum_by (λ i. bus_price m d i *ℚ demand m i) (places (length m.buses)) in
+    let picked : Fraction = pickup_prices m d (lost_output m x) in
+    let put : Fraction = sum_by (λ i. bus_price m d i *ℚ injection m x i) (places (length m.buses)) in
+    let made : Fraction = d.energy *ℚ balance m x -ℚ row_prices m d x in
+    ap (λ t. t -ℚ loads) (at_own_prices m market d (output m x))
+    ∙ by_ring2 ring_ℚ (at_buses ∷ loads ∷ picked ∷ put ∷ made ∷ []) ((at 0 ⊕ pneg (at 2)) ⊕ pneg (at 1)) (at 4)
+    (pneg pone) (at 3) (at 0 ⊕ pneg (at 1)) pone (at 3) (at 4 ⊕ at 2)
+    (priced_injections-by_outputs m x (bus_price m d) market)
+    (priced_by_rows m d (injection m x) (lost_output m x) ∙ ap (λ t. (d.energy *ℚ t -ℚ row_prices m d x) +ℚ picked) (sym (balance-by_injections m x))) refl
 
 -- ---- along the rows
 pub along : {T : Type 0} (P : T → Type 0) (xs : List T) → ((x : T) → Contains xs x → P x) → AllByRecursion P xs

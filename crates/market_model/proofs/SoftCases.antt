@@ -15,7 +15,7 @@ use Rattle.market_model.specs.declared.participants.Parts.{Parts}
 use Rattle.market_model.specs.Dispatch.{Dispatch, injection, balance, output, demand}
 use Rattle.market_model.specs.Infeasibility.{farkas_bound}
 use Rattle.market_model.specs.LimitRows.{rows, line_flow, row_offset, row_factor, flow, limit, most_flow, penalty}
-use Rattle.market_model.specs.Optimality.{SideSupported, RowSupported, up_of, down_of, bus_price, welfare, welfare_for, congestion_by, price_by}
+use Rattle.market_model.specs.Optimality.{SideSupported, RowSupported, up_of, down_of, bus_price, welfare, welfare_for, congestion_by, price_by, unit_price}
 use Rattle.market_model.specs.Settlement.{rent, surplus}
 use Rattle.market_model.proofs.LimitCases.{mw, price, money, line, narrow, narrow_duals, turned, after_outage, sold, second, second_after, up_alone, down_alone}
 
@@ -55,33 +55,33 @@ soft limit penalty excess = with_second narrow (base_line limit penalty excess)
 
 -- ---- at 25, where it costs 40 to keep the limit of 40 MW: the first unit sells all, and of the 10 MW of excess 5 are taken
 priced-flow : flow (soft 40 25 10) (sold 60 0) second ≡ whole (mw 45)
-unfolding rows line_flow row_offset row_factor injection balance output demand welfare_for congestion_by price_by rent surplus farkas_bound sign_of abs_ℚ ◌+ℚ◌ ◌*ℚ◌ neg_ℚ over whole gcd gcd_in
+unfolding rows line_flow row_offset row_factor injection balance output demand welfare_for congestion_by price_by rent surplus farkas_bound unit_price sign_of abs_ℚ ◌+ℚ◌ ◌*ℚ◌ neg_ℚ over whole gcd gcd_in
 priced-flow = same_fraction (flow (soft 40 25 10) (sold 60 0) second) (whole (mw 45)) refl refl
 
 -- the blocks cost 600, and the excess 125
 priced-welfare : welfare (soft 40 25 10) (sold 60 0) ≡ whole (neg_ℤ (money 725))
-unfolding rows line_flow row_offset row_factor injection balance output demand welfare_for congestion_by price_by rent surplus farkas_bound sign_of abs_ℚ ◌+ℚ◌ ◌*ℚ◌ neg_ℚ over whole gcd gcd_in
+unfolding rows line_flow row_offset row_factor injection balance output demand welfare_for congestion_by price_by rent surplus farkas_bound unit_price sign_of abs_ℚ ◌+ℚ◌ ◌*ℚ◌ neg_ℚ over whole gcd gcd_in
 priced-welfare = same_fraction (welfare (soft 40 25 10) (sold 60 0)) (whole (neg_ℤ (money 725))) refl refl
 
 priced-price_1 : bus_price (soft 40 25 10) (up_alone 10 0 25) 0 ≡ whole (price 10)
-unfolding rows line_flow row_offset row_factor injection balance output demand welfare_for congestion_by price_by rent surplus farkas_bound sign_of abs_ℚ ◌+ℚ◌ ◌*ℚ◌ neg_ℚ over whole gcd gcd_in
+unfolding rows line_flow row_offset row_factor injection balance output demand welfare_for congestion_by price_by rent surplus farkas_bound unit_price sign_of abs_ℚ ◌+ℚ◌ ◌*ℚ◌ neg_ℚ over whole gcd gcd_in
 priced-price_1 = same_fraction (bus_price (soft 40 25 10) (up_alone 10 0 25) 0) (whole (price 10)) refl refl
 
 priced-price_2 : bus_price (soft 40 25 10) (up_alone 10 0 25) 1 ≡ whole (pos (2250 * 10 ^ 4))
-unfolding rows line_flow row_offset row_factor injection balance output demand welfare_for congestion_by price_by rent surplus farkas_bound sign_of abs_ℚ ◌+ℚ◌ ◌*ℚ◌ neg_ℚ over whole gcd gcd_in
+unfolding rows line_flow row_offset row_factor injection balance output demand welfare_for congestion_by price_by rent surplus farkas_bound unit_price sign_of abs_ℚ ◌+ℚ◌ ◌*ℚ◌ neg_ℚ over whole gcd gcd_in
 priced-price_2 = same_fraction (bus_price (soft 40 25 10) (up_alone 10 0 25) 1) (whole (pos (2250 * 10 ^ 4))) refl refl
 
 priced-price_3 : bus_price (soft 40 25 10) (up_alone 10 0 25) 2 ≡ whole (pos (2875 * 10 ^ 4))
-unfolding rows line_flow row_offset row_factor injection balance output demand welfare_for congestion_by price_by rent surplus farkas_bound sign_of abs_ℚ ◌+ℚ◌ ◌*ℚ◌ neg_ℚ over whole gcd gcd_in
+unfolding rows line_flow row_offset row_factor injection balance output demand welfare_for congestion_by price_by rent surplus farkas_bound unit_price sign_of abs_ℚ ◌+ℚ◌ ◌*ℚ◌ neg_ℚ over whole gcd gcd_in
 priced-price_3 = same_fraction (bus_price (soft 40 25 10) (up_alone 10 0 25) 2) (whole (pos (2875 * 10 ^ 4))) refl refl
 
 -- 25 for each of 45 MW: the load pays 1725, and the unit is paid 600
 priced-rent : rent (soft 40 25 10) (sold 60 0) (up_alone 10 0 25) second ≡ whole (money 1125)
-unfolding rows line_flow row_offset row_factor injection balance output demand welfare_for congestion_by price_by rent surplus farkas_bound sign_of abs_ℚ ◌+ℚ◌ ◌*ℚ◌ neg_ℚ over whole gcd gcd_in
+unfolding rows line_flow row_offset row_factor injection balance output demand welfare_for congestion_by price_by rent surplus farkas_bound unit_price sign_of abs_ℚ ◌+ℚ◌ ◌*ℚ◌ neg_ℚ over whole gcd gcd_in
 priced-rent = same_fraction (rent (soft 40 25 10) (sold 60 0) (up_alone 10 0 25) second) (whole (money 1125)) refl refl
 
 priced-surplus : surplus (soft 40 25 10) (sold 60 0) (up_alone 10 0 25) ≡ whole (money 1125)
-unfolding rows line_flow row_offset row_factor injection balance output demand welfare_for congestion_by price_by rent surplus farkas_bound sign_of abs_ℚ ◌+ℚ◌ ◌*ℚ◌ neg_ℚ over whole gcd gcd_in
+unfolding rows line_flow row_offset row_factor injection balance output demand welfare_for congestion_by price_by rent surplus farkas_bound unit_price sign_of abs_ℚ ◌+ℚ◌ ◌*ℚ◌ neg_ℚ over whole gcd gcd_in
 priced-surplus = same_fraction (surplus (soft 40 25 10) (sold 60 0) (up_alone 10 0 25)) (whole (money 1125)) refl refl
 
 priced-supported : RowSupported (soft 40 25 10) (sold 60 0) (up_alone 10 0 25) second
@@ -91,33 +91,33 @@ priced-supported =
 
 -- ---- at 25 for 3 MW at most: these are used up, and the price is above the penalty
 used_up-flow : flow (soft 40 25 3) (sold 56 4) second ≡ whole (mw 43)
-unfolding rows line_flow row_offset row_factor injection balance output demand welfare_for congestion_by price_by rent surplus farkas_bound sign_of abs_ℚ ◌+ℚ◌ ◌*ℚ◌ neg_ℚ over whole gcd gcd_in
+unfolding rows line_flow row_offset row_factor injection balance output demand welfare_for congestion_by price_by rent surplus farkas_bound unit_price sign_of abs_ℚ ◌+ℚ◌ ◌*ℚ◌ neg_ℚ over whole gcd gcd_in
 used_up-flow = same_fraction (flow (soft 40 25 3) (sold 56 4) second) (whole (mw 43)) refl refl
 
 -- the blocks cost 560 and 120, and the excess 75
 used_up-welfare : welfare (soft 40 25 3) (sold 56 4) ≡ whole (neg_ℤ (money 755))
-unfolding rows line_flow row_offset row_factor injection balance output demand welfare_for congestion_by price_by rent surplus farkas_bound sign_of abs_ℚ ◌+ℚ◌ ◌*ℚ◌ neg_ℚ over whole gcd gcd_in
+unfolding rows line_flow row_offset row_factor injection balance output demand welfare_for congestion_by price_by rent surplus farkas_bound unit_price sign_of abs_ℚ ◌+ℚ◌ ◌*ℚ◌ neg_ℚ over whole gcd gcd_in
 used_up-welfare = same_fraction (welfare (soft 40 25 3) (sold 56 4)) (whole (neg_ℤ (money 755))) refl refl
 
 used_up-price_1 : bus_price (soft 40 25 3) (up_alone 10 0 40) 0 ≡ whole (price 10)
-unfolding rows line_flow row_offset row_factor injection balance output demand welfare_for congestion_by price_by rent surplus farkas_bound sign_of abs_ℚ ◌+ℚ◌ ◌*ℚ◌ neg_ℚ over whole gcd gcd_in
+unfolding rows line_flow row_offset row_factor injection balance output demand welfare_for congestion_by price_by rent surplus farkas_bound unit_price sign_of abs_ℚ ◌+ℚ◌ ◌*ℚ◌ neg_ℚ over whole gcd gcd_in
 used_up-price_1 = same_fraction (bus_price (soft 40 25 3) (up_alone 10 0 40) 0) (whole (price 10)) refl refl
 
 used_up-price_2 : bus_price (soft 40 25 3) (up_alone 10 0 40) 1 ≡ whole (price 30)
-unfolding rows line_flow row_offset row_factor injection balance output demand welfare_for congestion_by price_by rent surplus farkas_bound sign_of abs_ℚ ◌+ℚ◌ ◌*ℚ◌ neg_ℚ over whole gcd gcd_in
+unfolding rows line_flow row_offset row_factor injection balance output demand welfare_for congestion_by price_by rent surplus farkas_bound unit_price sign_of abs_ℚ ◌+ℚ◌ ◌*ℚ◌ neg_ℚ over whole gcd gcd_in
 used_up-price_2 = same_fraction (bus_price (soft 40 25 3) (up_alone 10 0 40) 1) (whole (price 30)) refl refl
 
 used_up-price_3 : bus_price (soft 40 25 3) (up_alone 10 0 40) 2 ≡ whole (price 40)
-unfolding rows line_flow row_offset row_factor injection balance output demand welfare_for congestion_by price_by rent surplus farkas_bound sign_of abs_ℚ ◌+ℚ◌ ◌*ℚ◌ neg_ℚ over whole gcd gcd_in
+unfolding rows line_flow row_offset row_factor injection balance output demand welfare_for congestion_by price_by rent surplus farkas_bound unit_price sign_of abs_ℚ ◌+ℚ◌ ◌*ℚ◌ neg_ℚ over whole gcd gcd_in
 used_up-price_3 = same_fraction (bus_price (soft 40 25 3) (up_alone 10 0 40) 2) (whole (price 40)) refl refl
 
 -- 40 for each of 43 MW: the load pays 2400, and the units are paid 560 and 120
 used_up-rent : rent (soft 40 25 3) (sold 56 4) (up_alone 10 0 40) second ≡ whole (money 1720)
-unfolding rows line_flow row_offset row_factor injection balance output demand welfare_for congestion_by price_by rent surplus farkas_bound sign_of abs_ℚ ◌+ℚ◌ ◌*ℚ◌ neg_ℚ over whole gcd gcd_in
+unfolding rows line_flow row_offset row_factor injection balance output demand welfare_for congestion_by price_by rent surplus farkas_bound unit_price sign_of abs_ℚ ◌+ℚ◌ ◌*ℚ◌ neg_ℚ over whole gcd gcd_in
 used_up-rent = same_fraction (rent (soft 40 25 3) (sold 56 4) (up_alone 10 0 40) second) (whole (money 1720)) refl refl
 
 used_up-surplus : surplus (soft 40 25 3) (sold 56 4) (up_alone 10 0 40) ≡ whole (money 1720)
-unfolding rows line_flow row_offset row_factor injection balance output demand welfare_for congestion_by price_by rent surplus farkas_bound sign_of abs_ℚ ◌+ℚ◌ ◌*ℚ◌ neg_ℚ over whole gcd gcd_in
+unfolding rows line_flow row_offset row_factor injection balance output demand welfare_for congestion_by price_by rent surplus farkas_bound unit_price sign_of abs_ℚ ◌+ℚ◌ ◌*ℚ◌ neg_ℚ over whole gcd gcd_in
 used_up-surplus = same_fraction (surplus (soft 40 25 3) (sold 56 4) (up_alone 10 0 40)) (whole (money 1720)) refl refl
 
 used_up-supported : RowSupported (soft 40 25 3) (sold 56 4) (up_alone 10 0 40) second
@@ -128,7 +128,7 @@ used_up-supported =
 -- ---- a limit of 10 MW and an excess of 4: even 60 MW at bus 2 leave a flow of 15. Where nothing is accepted the balance is -60, which makes
 -- 60 at -1, and the flow is 45, which leaves 14 - 45 MW, or -62 at 2. Both units' prices are at most 0, so no block adds to the -2.
 short-bound : farkas_bound (soft 10 25 4) narrow_duals ≡ whole (neg_ℤ (mw 2))
-unfolding rows line_flow row_offset row_factor injection balance output demand welfare_for congestion_by price_by rent surplus farkas_bound sign_of abs_ℚ ◌+ℚ◌ ◌*ℚ◌ neg_ℚ over whole gcd gcd_in
+unfolding rows line_flow row_offset row_factor injection balance output demand welfare_for congestion_by price_by rent surplus farkas_bound unit_price sign_of abs_ℚ ◌+ℚ◌ ◌*ℚ◌ neg_ℚ over whole gcd gcd_in
 short-bound = same_fraction (farkas_bound (soft 10 25 4) narrow_duals) (whole (neg_ℤ (mw 2))) refl refl
 
 -- ---- the lower side: the load at bus 1 and the cheap unit at bus 3, at 60 where it costs 80 to keep the limit
@@ -136,21 +136,21 @@ abbrev soft_turned : Parts
 soft_turned = with_second turned (base_line 40 60 10)
 
 turned-flow : flow soft_turned (sold 60 0) second ≡ whole (neg_ℤ (mw 45))
-unfolding rows line_flow row_offset row_factor injection balance output demand welfare_for congestion_by price_by rent surplus farkas_bound sign_of abs_ℚ ◌+ℚ◌ ◌*ℚ◌ neg_ℚ over whole gcd gcd_in
+unfolding rows line_flow row_offset row_factor injection balance output demand welfare_for congestion_by price_by rent surplus farkas_bound unit_price sign_of abs_ℚ ◌+ℚ◌ ◌*ℚ◌ neg_ℚ over whole gcd gcd_in
 turned-flow = same_fraction (flow soft_turned (sold 60 0) second) (whole (neg_ℤ (mw 45))) refl refl
 
 -- the blocks cost 600, and 5 MW of excess 300
 turned-welfare : welfare soft_turned (sold 60 0) ≡ whole (neg_ℤ (money 900))
-unfolding rows line_flow row_offset row_factor injection balance output demand welfare_for congestion_by price_by rent surplus farkas_bound sign_of abs_ℚ ◌+ℚ◌ ◌*ℚ◌ neg_ℚ over whole gcd gcd_in
+unfolding rows line_flow row_offset row_factor injection balance output demand welfare_for congestion_by price_by rent surplus farkas_bound unit_price sign_of abs_ℚ ◌+ℚ◌ ◌*ℚ◌ neg_ℚ over whole gcd gcd_in
 turned-welfare = same_fraction (welfare soft_turned (sold 60 0)) (whole (neg_ℤ (money 900))) refl refl
 
 -- the load pays 55 for each of 60 MW, and the unit is paid 600
 turned-rent : rent soft_turned (sold 60 0) (down_alone 55 60) second ≡ whole (money 2700)
-unfolding rows line_flow row_offset row_factor injection balance output demand welfare_for congestion_by price_by rent surplus farkas_bound sign_of abs_ℚ ◌+ℚ◌ ◌*ℚ◌ neg_ℚ over whole gcd gcd_in
+unfolding rows line_flow row_offset row_factor injection balance output demand welfare_for congestion_by price_by rent surplus farkas_bound unit_price sign_of abs_ℚ ◌+ℚ◌ ◌*ℚ◌ neg_ℚ over whole gcd gcd_in
 turned-rent = same_fraction (rent soft_turned (sold 60 0) (down_alone 55 60) second) (whole (money 2700)) refl refl
 
 turned-surplus : surplus soft_turned (sold 60 0) (down_alone 55 60) ≡ whole (money 2700)
-unfolding rows line_flow row_offset row_factor injection balance output demand welfare_for congestion_by price_by rent surplus farkas_bound sign_of abs_ℚ ◌+ℚ◌ ◌*ℚ◌ neg_ℚ over whole gcd gcd_in
+unfolding rows line_flow row_offset row_factor injection balance output demand welfare_for congestion_by price_by rent surplus farkas_bound unit_price sign_of abs_ℚ ◌+ℚ◌ ◌*ℚ◌ neg_ℚ over whole gcd gcd_in
 turned-surplus = same_fraction (surplus soft_turned (sold 60 0) (down_alone 55 60)) (whole (money 2700)) refl refl
 
 -- ---- after an outage: the limit of 45 MW gives way at 5, and that of 40 MW in the base does not
@@ -158,22 +158,22 @@ abbrev soft_after : Parts
 soft_after = with_second after_outage (record (line 2 (Some (mw 40)) (Some (mw 45)) 0) { post_price = price 5; post_excess = mw 20 })
 
 abbrev both_prices : Duals Fraction
-both_prices = record { energy = whole (price 10); limits = record { row = record { branch = 2; outage = 0 }; up = whole (price 30); down = whole (pos 0) } ∷ record { row = record { branch = 2; outage = 1 }; up = whole (price 5); down = whole (pos 0) } ∷ [] }
+both_prices = record { energy = whole (price 10); limits = record { row = record { branch = 2; outage = 0; unit = 0 }; up = whole (price 30); down = whole (pos 0) } ∷ record { row = record { branch = 2; outage = 1; unit = 0 }; up = whole (price 5); down = whole (pos 0) } ∷ [] }
 
 after-flow : flow soft_after (sold 50 10) second_after ≡ whole (mw 50)
-unfolding rows line_flow row_offset row_factor injection balance output demand welfare_for congestion_by price_by rent surplus farkas_bound sign_of abs_ℚ ◌+ℚ◌ ◌*ℚ◌ neg_ℚ over whole gcd gcd_in
+unfolding rows line_flow row_offset row_factor injection balance output demand welfare_for congestion_by price_by rent surplus farkas_bound unit_price sign_of abs_ℚ ◌+ℚ◌ ◌*ℚ◌ neg_ℚ over whole gcd gcd_in
 after-flow = same_fraction (flow soft_after (sold 50 10) second_after) (whole (mw 50)) refl refl
 
 -- the blocks cost 500 and 300, and 5 MW of excess 25
 after-welfare : welfare soft_after (sold 50 10) ≡ whole (neg_ℤ (money 825))
-unfolding rows line_flow row_offset row_factor injection balance output demand welfare_for congestion_by price_by rent surplus farkas_bound sign_of abs_ℚ ◌+ℚ◌ ◌*ℚ◌ neg_ℚ over whole gcd gcd_in
+unfolding rows line_flow row_offset row_factor injection balance output demand welfare_for congestion_by price_by rent surplus farkas_bound unit_price sign_of abs_ℚ ◌+ℚ◌ ◌*ℚ◌ neg_ℚ over whole gcd gcd_in
 after-welfare = same_fraction (welfare soft_after (sold 50 10)) (whole (neg_ℤ (money 825))) refl refl
 
 after-rent : rent soft_after (sold 50 10) both_prices second_after ≡ whole (money 250)
-unfolding rows line_flow row_offset row_factor injection balance output demand welfare_for congestion_by price_by rent surplus farkas_bound sign_of abs_ℚ ◌+ℚ◌ ◌*ℚ◌ neg_ℚ over whole gcd gcd_in
+unfolding rows line_flow row_offset row_factor injection balance output demand welfare_for congestion_by price_by rent surplus farkas_bound unit_price sign_of abs_ℚ ◌+ℚ◌ ◌*ℚ◌ neg_ℚ over whole gcd gcd_in
 after-rent = same_fraction (rent soft_after (sold 50 10) both_prices second_after) (whole (money 250)) refl refl
 
 -- that and 30 for each of 40 MW: the load pays 37.5 for each of 60 MW, and the units are paid 800
 after-surplus : surplus soft_after (sold 50 10) both_prices ≡ whole (money 1450)
-unfolding rows line_flow row_offset row_factor injection balance output demand welfare_for congestion_by price_by rent surplus farkas_bound sign_of abs_ℚ ◌+ℚ◌ ◌*ℚ◌ neg_ℚ over whole gcd gcd_in
+unfolding rows line_flow row_offset row_factor injection balance output demand welfare_for congestion_by price_by rent surplus farkas_bound unit_price sign_of abs_ℚ ◌+ℚ◌ ◌*ℚ◌ neg_ℚ over whole gcd gcd_in
 after-surplus = same_fraction (surplus soft_after (sold 50 10) both_prices) (whole (money 1450)) refl refl

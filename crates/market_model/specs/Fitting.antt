@@ -7,9 +7,10 @@ use Rattle.market_model.specs.declared.answered.Money.{Money}
 use Rattle.market_model.specs.declared.answered.Outcome.{Outcome}
 use Rattle.market_model.specs.declared.answered.Outcome.TheVariants as outcome
 
--- of a settlement: an entry for each unit and each bus; the rents are of the same limits as the duals, in the same order
+-- of a settlement: an entry for each unit and each bus, and an own price for each outage of a unit; the rents are of the same limits as the duals, in the same order
 pub record FitsMoney {N : Type 0} (market : Parts) (duals : Duals N) (money : Money N) : Type 0 where
   pub units : length money.units ≡ length market.units
+  pub own : length money.own ≡ length market.unit_outages
   pub loads : length money.loads ≡ length market.buses
   pub rents : map (λ r. r.row) money.rents ≡ map (λ d. d.row) duals.limits
 

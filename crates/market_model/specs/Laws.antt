@@ -10,7 +10,7 @@ use Rattle.market_model.specs.declared.answered.Duals.{Duals}
 use Rattle.market_model.specs.Market.{IsMarket}
 use Rattle.market_model.specs.Dispatch.{Dispatch, zero, places, balance}
 use Rattle.market_model.specs.declared.limits.Row.{Row}
-use Rattle.market_model.specs.LimitRows.{rows, limit, row_flow, row_offset, row_factor}
+use Rattle.market_model.specs.LimitRows.{rows, limit, picked_up, row_flow, row_offset, row_factor}
 use Rattle.market_model.specs.Optimality.{Feasible, Supports, up_of, down_of, welfare}
 use Rattle.market_model.specs.Settlement.{rent, surplus}
 use Rattle.market_model.specs.Infeasibility.{ShowsInfeasible}
@@ -37,9 +37,10 @@ LawOfItsSign = (m : Parts) (d : Duals Fraction) (x : Dispatch) → IsMarket m �
 abbrev pub LawOfNoLimits : Type 0
 LawOfNoLimits = (m : Parts) (d : Duals Fraction) (x : Dispatch) → IsMarket m → rows m ≡ [] → balance m x ≡ zero → surplus m x d ≡ zero
 
--- the flow of a row by branch is its offset and what its factors make of the injections
+-- the flow of a row by branch is its offset, what its factors make of the injections, and what is picked up of a lost unit's output
 abbrev pub LawOfTheFlows : Type 0
-LawOfTheFlows = (m : Parts) (p : ℕ → Fraction) (r : Row) → row_flow m p r ≡ row_offset m r +ℚ sum_by (λ i. row_factor m r i *ℚ p i) (places (length m.buses))
+LawOfTheFlows = (m : Parts) (p lost : ℕ → Fraction) (r : Row)
+    → row_flow m p lost r ≡ (row_offset m r +ℚ sum_by (λ i. row_factor m r i *ℚ p i) (places (length m.buses))) +ℚ picked_up m lost r
 
 -- where duals support a feasible dispatch, rights that are feasible together are paid at most the surplus
 abbrev pub LawOfTheRights : Type 0

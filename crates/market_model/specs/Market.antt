@@ -1,13 +1,14 @@
 -- What every market keeps.
-use Rattle.std.specs.Prelude.{◌≡◌, ◌≢◌, ℕ, ◌<◌, ◌≤◌, pos, ◌≤ℤ◌, List, [], length, map, slice_index_or, All, AllPairs, IfSome, Contains, unsigned_abs}
+use Rattle.std.specs.Prelude.{◌≡◌, ◌≢◌, ℕ, ◌<◌, ◌≤◌, pos, ◌≤ℤ◌, ◌<ℤ◌, List, [], length, map, slice_index_or, All, AllPairs, IfSome, Contains, unsigned_abs}
 use Rattle.market_data.specs.Participants.{IsDatum, IsBus, IsUnit}
-use Rattle.market_data.specs.Scales.{most_blocks, most_buses, most_market_factor, most_lines, most_outages, most_units}
+use Rattle.market_data.specs.Scales.{factor_one, most_blocks, most_buses, most_market_factor, most_lines, most_outages, most_pickups, most_units}
 use Rattle.market_data.specs.declared.participants.Bus.{Bus}
 use Rattle.market_data.specs.declared.participants.Unit as unit
 use Rattle.market_model.specs.declared.participants.Block.{Block}
 use Rattle.market_model.specs.declared.participants.Factor.{Factor}
 use Rattle.market_model.specs.declared.participants.Line.{Line}
 use Rattle.market_model.specs.declared.participants.Parts.{Parts}
+use Rattle.market_model.specs.declared.participants.Pickup.{Pickup}
 use Rattle.market_model.specs.declared.participants.Side.{Side}
 use Rattle.market_model.specs.Lines.{IsPenalty}
 use Rattle.market_model.specs.Stairs.{stair_in, offered, room_of}
@@ -45,9 +46,24 @@ pub record AreTableFactors (lines others : ℕ) (factors : List Factor) : Type 0
   pub each : All (IsTableFactor lines others) factors
   pub distinct : AllPairs (λ f g. f.line ≡ g.line → f.of ≢ g.of) factors
 
+-- what one of so many units picks up at one of so many outages: a part of the output above 0, and no more than all of it
+pub record IsPickup (outages units : ℕ) (pickup : Pickup) : Type 0 where
+  pub outage : pickup.outage < outages
+  pub taker : pickup.taker < units
+  pub above : pos 0 <ℤ pickup.share
+  pub most : pickup.share ≤ℤ pos factor_one
+
+-- outages of some of so many units, none of them twice, and what is picked up at these
+pub record AreUnitOutages (units : ℕ) (outages : List ℕ) (records : List Pickup) : Type 0 where
+  pub count : length outages ≤ most_units
+  pub each : All (λ u. u < units) outages
+  pub distinct : AllPairs (λ a b. a ≢ b) outages
+  pub record_count : length records ≤ most_pickups
+  pub pickups : All (IsPickup (length outages) units) records
+
 -- the parts of a market that has nothing but buses, units and blocks
 abbrev pub bare_parts : List Bus → List unit.Unit → List Block → Parts
-bare_parts buses units blocks = record { buses = buses; units = units; blocks = blocks; lines = []; outages = []; shift = []; loss = [] }
+bare_parts buses units blocks = record { buses = buses; units = units; blocks = blocks; lines = []; outages = []; shift = []; loss = []; unit_outages = []; pickups = [] }
 
 pub record IsMarket (parts : Parts) : Type 0 where
   pub bus_count : length parts.buses ≤ most_buses
@@ -67,3 +83,4 @@ pub record IsMarket (parts : Parts) : Type 0 where
   pub outages_distinct : AllPairs (λ a b. a ≢ b) parts.outages
   pub shift : AreTableFactors (length parts.lines) (length parts.buses) parts.shift
   pub loss : AreTableFactors (length parts.lines) (length parts.lines) parts.loss
+  pub unit_outages : AreUnitOutages (length parts.units) parts.unit_outages parts.pickups

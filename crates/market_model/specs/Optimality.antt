@@ -11,9 +11,9 @@ use Rattle.market_model.specs.declared.participants.Parts.{Parts}
 use Rattle.market_model.specs.declared.answered.Dual.{Dual}
 use Rattle.market_model.specs.declared.answered.Duals.{Duals}
 use Rattle.market_model.specs.declared.answered.RowId.{RowId}
-use Rattle.market_model.specs.Dispatch.{Dispatch, IsDispatch, zero, places, block_at, signed_by_side, accepted, quantity, balance}
+use Rattle.market_model.specs.Dispatch.{Dispatch, IsDispatch, zero, places, block_at, unit_at, signed_by_side, accepted, quantity, balance}
 use Rattle.market_model.specs.declared.limits.Row.{Row}
-use Rattle.market_model.specs.LimitRows.{rows, row_id, limit, most_flow, penalty, is_soft, row_factor, unit_factor, flow}
+use Rattle.market_model.specs.LimitRows.{rows, row_id, limit, loses, most_flow, penalty, is_soft, row_factor, row_pickup, flow}
 use Rattle.market_model.specs.Overrun.{excess, Within}
 
 -- the flow f of each of these rows is at most so much on either side
@@ -60,7 +60,7 @@ welfare m x = welfare_for m (rows m) x
 
 -- ---- duals
 abbrev pub same_id : RowId → RowId → Bool
-same_id a b = (a.branch == b.branch) && (a.outage == b.outage)
+same_id a b = (a.branch == b.branch) && (a.outage == b.outage) && (a.unit == b.unit)
 
 -- the prices of a row by its name, which are 0 where it is not named
 abbrev pub up_in : List (Dual Fraction) → RowId → Fraction
@@ -126,9 +126,18 @@ bus_price m d i = price_by m d (λ r. row_factor m r i)
 abbrev pub price_terms : Parts → Duals Fraction → ℕ → List Term
 price_terms m d i = Plain d.energy ∷ Plain (congestion m d i) ∷ []
 
--- the price that a unit is paid, by its own factors
-abbrev pub unit_price : Parts → Duals Fraction → ℕ → Fraction
-unit_price m d u = price_by m d (λ r. unit_factor m r u)
+-- the own price of a unit, where buses have prices: that of its bus, less what the rows after its loss take, each by its pickup factor
+abbrev pub own_terms : Parts → Duals Fraction → (ℕ → Fraction) → ℕ → List Term
+own_terms m d price u =
+    Plain (price (unit_at m u).bus)
+    ∷ map (λ r. Product (neg_ℚ (net_shadow_price m d r)) (row_pickup m r.line r.cause)) (filter (λ r. loses m u r.cause) (rows m))
+
+abbrev pub own_price : Parts → Duals Fraction → (ℕ → Fraction) → ℕ → Fraction
+own_price m d price u = total (own_terms m d price u)
+
+-- at the bus prices of duals
+unfoldable pub unit_price : Parts → Duals Fraction → ℕ → Fraction
+unit_price m d u = own_price m d (bus_price m d) u
 
 -- accepting more of a block of this side and price gains, where the price at its bus is `worth`
 abbrev pub Gains : Side → Fraction → Fraction → Type 0

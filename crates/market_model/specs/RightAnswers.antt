@@ -14,11 +14,11 @@ use Rattle.market_model.specs.declared.answered.Outcome.TheVariants as outcome
 use Rattle.market_model.specs.declared.answered.Price.{Price}
 use Rattle.market_model.specs.declared.answered.Rent.{Rent}
 use Rattle.market_model.specs.declared.answered.UnitPay.{UnitPay}
-use Rattle.market_model.specs.Dispatch.{Dispatch, zero, places, injection, dispatch_by}
+use Rattle.market_model.specs.Dispatch.{Dispatch, zero, places, dispatch_by}
 use Rattle.market_model.specs.Infeasibility.{IsFarkas}
 use Rattle.market_model.specs.declared.limits.Row.{Row}
-use Rattle.market_model.specs.LimitRows.{row_id, line_flow, flow_by}
-use Rattle.market_model.specs.Optimality.{Feasible, Supports, ProperDuals, named_rows, up_of, down_of, welfare, congestion, bus_price}
+use Rattle.market_model.specs.LimitRows.{Carried, carried, row_id, flow_by, lost_unit}
+use Rattle.market_model.specs.Optimality.{Feasible, Supports, ProperDuals, named_rows, own_price, up_of, down_of, welfare, congestion, bus_price}
 use Rattle.market_model.specs.Settlement.{pay_of_unit, pay_of_load, left_terms, rent_terms_by}
 use Rattle.market_model.specs.Overrun.{excess_by}
 
@@ -39,22 +39,23 @@ load_of a i = slice_index_or a.money.loads i (record { mw = zero; pays = zero })
 abbrev pub dispatch_in : Answer Fraction → Dispatch
 dispatch_in a = dispatch_by a.dispatch
 
--- the flow of a row where lines have flows f, by how much it exceeds its limit, and what that earns at the prices of a dual
-abbrev pub rent_by : Parts → (ℕ → Fraction) → Dual Fraction → Row → Rent Fraction
-rent_by m f e r = record { row = e.row; flow = flow_by m f r; over = excess_by m r (flow_by m f r); rent = total (rent_terms_by m f r e.up e.down) }
+-- the flow of a row where this is carried, by how much it exceeds its limit, and what that earns at the prices of a dual
+abbrev pub rent_by : Parts → Carried → Dual Fraction → Row → Rent Fraction
+rent_by m c e r = record { row = e.row; flow = flow_by m c r; over = excess_by m r (flow_by m c r); rent = total (rent_terms_by m c r e.up e.down) }
 
 -- the same of a row at a dispatch and the prices that duals give it
 abbrev pub rent_of : Parts → Dispatch → Duals Fraction → Row → Rent Fraction
-rent_of m x d r = rent_by m (line_flow m (injection m x)) (record { row = row_id m r; up = up_of m d r; down = down_of m d r }) r
+rent_of m x d r = rent_by m (carried m x) (record { row = row_id m r; up = up_of m d r; down = down_of m d r }) r
 
--- the settlement of a dispatch at prices by bus: units and buses in their order, the rows that duals name in theirs, and what loads pay less
--- what units are paid
+-- the settlement of a dispatch at prices by bus: units and buses in their order, the own prices of lost units, the rows that duals name in
+-- theirs, and what loads pay less what units are paid
 abbrev pub settlement_at : Parts → Dispatch → (ℕ → Fraction) → Duals Fraction → Money Fraction
 settlement_at m x price d = record {
-  units = map (pay_of_unit m x price) (places (length m.units));
+  units = map (pay_of_unit m x price d) (places (length m.units));
+  own = map (λ k. own_price m d price (lost_unit m k)) (places (length m.unit_outages));
   loads = map (pay_of_load m price) (places (length m.buses));
   rents = map (rent_of m x d) (named_rows m d);
-  surplus = total (left_terms m x price);
+  surplus = total (left_terms m x price d);
 }
 
 -- a price of its two parts

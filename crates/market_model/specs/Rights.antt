@@ -6,6 +6,7 @@ use Rattle.fraction_theory.specs.Fraction.{Fraction, whole, neg_ℚ, ◌-ℚ◌}
 use Rattle.fraction_theory.specs.Sums.{Term, Plain, Product, total}
 use Rattle.market_model.specs.declared.answered.Duals.{Duals}
 use Rattle.market_model.specs.declared.participants.Parts.{Parts}
+use Rattle.market_model.specs.Dispatch.{zero}
 use Rattle.market_model.specs.LimitRows.{rows, limit, row_flow}
 use Rattle.market_model.specs.Optimality.{AreWithin, bus_price}
 
@@ -30,9 +31,9 @@ rights_injection_terms rights i =
 unfoldable pub rights_injection : List TransmissionRight → ℕ → Fraction
 rights_injection rights i = total (rights_injection_terms rights i)
 
--- put in together and nothing else, rights meet all limits, whose excess is not theirs
+-- put in together and nothing else, rights meet all limits, whose excess is not theirs; a unit that is lost puts out nothing of them
 abbrev pub AreFeasibleTogether : Parts → List TransmissionRight → Type 0
-AreFeasibleTogether m rights = AreWithin (rows m) (limit m) (row_flow m (rights_injection rights))
+AreFeasibleTogether m rights = AreWithin (rows m) (limit m) (row_flow m (rights_injection rights) (λ k. zero))
 
 -- what a right is paid: its MW at the price where it ends, less that where it begins
 abbrev pub right_term : (ℕ → Fraction) → TransmissionRight → Term

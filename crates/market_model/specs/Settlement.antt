@@ -7,28 +7,24 @@ use Rattle.market_model.specs.declared.answered.Load.{Load}
 use Rattle.market_model.specs.declared.answered.UnitPay.{UnitPay}
 use Rattle.market_model.specs.declared.participants.Parts.{Parts}
 use Rattle.market_model.specs.declared.answered.Duals.{Duals}
-use Rattle.market_model.specs.Dispatch.{Dispatch, places, unit_at, injection, output, demand}
-use Rattle.market_model.specs.Optimality.{bus_price, up_of, down_of}
+use Rattle.market_model.specs.Dispatch.{Dispatch, places, output, demand}
+use Rattle.market_model.specs.Optimality.{bus_price, own_price, up_of, down_of}
 use Rattle.market_model.specs.declared.limits.Row.{Row}
-use Rattle.market_model.specs.LimitRows.{flow_by, limit, line_flow, row_offset}
+use Rattle.market_model.specs.LimitRows.{Carried, carried, flow_by, limit, row_offset}
 use Rattle.market_model.specs.Overrun.{excess_by}
 
--- ---- at prices by bus
--- what a unit is paid for a MW: the price of its bus
-abbrev pub price_for_unit : Parts → (ℕ → Fraction) → ℕ → Fraction
-price_for_unit m price u = price (unit_at m u).bus
-
--- what a unit is paid: its price for its output
-abbrev pub unit_term : Parts → Dispatch → (ℕ → Fraction) → ℕ → Term
-unit_term m x price u = Product (price_for_unit m price u) (output m x u)
+-- ---- at prices by bus, and the prices of rows
+-- what a unit is paid: its own price for its output
+abbrev pub unit_term : Parts → Dispatch → (ℕ → Fraction) → Duals Fraction → ℕ → Term
+unit_term m x price d u = Product (own_price m d price u) (output m x u)
 
 -- what a load pays: the price of its bus for its demand
 abbrev pub load_term : Parts → (ℕ → Fraction) → ℕ → Term
 load_term m price i = Product (price i) (demand m i)
 
 -- the two with their MW
-abbrev pub pay_of_unit : Parts → Dispatch → (ℕ → Fraction) → ℕ → UnitPay Fraction
-pay_of_unit m x price u = record { mw = output m x u; paid = term_value (unit_term m x price u) }
+abbrev pub pay_of_unit : Parts → Dispatch → (ℕ → Fraction) → Duals Fraction → ℕ → UnitPay Fraction
+pay_of_unit m x price d u = record { mw = output m x u; paid = term_value (unit_term m x price d u) }
 
 abbrev pub pay_of_load : Parts → (ℕ → Fraction) → ℕ → Load Fraction
 pay_of_load m price i = record { mw = demand m i; pays = term_value (load_term m price i) }
@@ -37,26 +33,26 @@ pay_of_load m price i = record { mw = demand m i; pays = term_value (load_term m
 abbrev pub load_terms : Parts → (ℕ → Fraction) → ℕ → List Term
 load_terms m price i = load_term m price i ∷ []
 
-abbrev pub unit_terms : Parts → Dispatch → (ℕ → Fraction) → ℕ → List Term
-unit_terms m x price u = unit_term m x price u ∷ []
+abbrev pub unit_terms : Parts → Dispatch → (ℕ → Fraction) → Duals Fraction → ℕ → List Term
+unit_terms m x price d u = unit_term m x price d u ∷ []
 
 -- what loads pay by bus, and the opposite of what units are paid by unit
-abbrev pub left_terms : Parts → Dispatch → (ℕ → Fraction) → List Term
-left_terms m x price =
+abbrev pub left_terms : Parts → Dispatch → (ℕ → Fraction) → Duals Fraction → List Term
+left_terms m x price d =
     map (load_term m price) (places (length m.buses))
-    ++ map (λ u. Product (neg_ℚ (price_for_unit m price u)) (output m x u)) (places (length m.units))
+    ++ map (λ u. Product (neg_ℚ (own_price m d price u)) (output m x u)) (places (length m.units))
 
 -- ---- at the prices of duals
 -- what a unit is paid for its output
 unfoldable pub paid : Parts → Dispatch → Duals Fraction → ℕ → Fraction
-paid m x d u = (pay_of_unit m x (bus_price m d) u).paid
+paid m x d u = (pay_of_unit m x (bus_price m d) d u).paid
 
 -- what a load pays for its demand
 unfoldable pub pays : Parts → Duals Fraction → ℕ → Fraction
 pays m d i = (pay_of_load m (bus_price m d) i).pays
 
 abbrev pub surplus_terms : Parts → Dispatch → Duals Fraction → List Term
-surplus_terms m x d = left_terms m x (bus_price m d)
+surplus_terms m x d = left_terms m x (bus_price m d) d
 
 -- what loads pay less what units are paid
 unfoldable pub surplus : Parts → Dispatch → Duals Fraction → Fraction
@@ -78,13 +74,13 @@ lower_terms size offset = Plain size ∷ Plain offset ∷ []
 abbrev pub earned_terms : Fraction → Fraction → Fraction → Fraction → List Term
 earned_terms up down size offset = Product up (size -ℚ offset) ∷ Product down (size +ℚ offset) ∷ []
 
--- what the limit of a row earns at two prices, where lines have flows f
-abbrev pub rent_terms_by : Parts → (ℕ → Fraction) → Row → Fraction → Fraction → List Term
-rent_terms_by m f r up down = earned_terms up down (priced_flow m r (flow_by m f r)) (row_offset m r)
+-- what the limit of a row earns at two prices, where this is carried
+abbrev pub rent_terms_by : Parts → Carried → Row → Fraction → Fraction → List Term
+rent_terms_by m c r up down = earned_terms up down (priced_flow m r (flow_by m c r)) (row_offset m r)
 
 -- the same at a dispatch and the prices of duals
 abbrev pub rent_terms : Parts → Dispatch → Duals Fraction → Row → List Term
-rent_terms m x d r = rent_terms_by m (line_flow m (injection m x)) r (up_of m d r) (down_of m d r)
+rent_terms m x d r = rent_terms_by m (carried m x) r (up_of m d r) (down_of m d r)
 
 unfoldable pub rent : Parts → Dispatch → Duals Fraction → Row → Fraction
 rent m x d r = total (rent_terms m x d r)

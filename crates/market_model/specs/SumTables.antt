@@ -1,18 +1,18 @@
 -- The sums of a market that are added up, each by its terms in order and in one place. A part is some of them, or other parts together.
 -- Wood and Wollenberg: injections and flows; Schweppe and others, Spot Pricing of Electricity: prices and money.
-use Rattle.std.specs.Prelude.{◌≢◌, ◌⊎◌, ℕ, ◌<◌, List, length, Contains}
+use Rattle.std.specs.Prelude.{◌≡◌, ◌≢◌, ◌⊎◌, ℕ, ◌<◌, List, length, Contains}
 use Rattle.fraction_theory.specs.Fraction.{Fraction}
 use Rattle.fraction_theory.specs.Sums.{Term}
 use Rattle.exact_fraction.specs.declared.Passed.{Passed}
 use Rattle.market_model.specs.declared.answered.Duals.{Duals}
-use Rattle.market_model.specs.declared.limits.Cause.TheVariants.{Base}
+use Rattle.market_model.specs.declared.limits.Cause.TheVariants.{Base, UnitOutage}
 use Rattle.market_model.specs.declared.limits.Row.{Row}
 use Rattle.market_model.specs.declared.participants.Parts.{Parts}
 use Rattle.market_model.specs.Dispatch.{Dispatch, injection, injection_terms, balance_terms, output_terms, demand_terms}
 use Rattle.market_model.specs.Infeasibility.{farkas_terms}
-use Rattle.market_model.specs.LimitRows.{rows, line_flow, line_terms, flow_by, flow_terms, offset_terms, factor_terms, row_offset}
+use Rattle.market_model.specs.LimitRows.{Carried, carried, rows, line_terms, flow_by, flow_terms, lost_unit, offset_terms, factor_terms, pickup_terms, row_offset}
 use Rattle.market_model.specs.NamedSums.{IsRefusedIn}
-use Rattle.market_model.specs.Optimality.{congestion_terms, named_rows, price_terms}
+use Rattle.market_model.specs.Optimality.{bus_price, congestion_terms, named_rows, own_terms, price_terms}
 use Rattle.market_model.specs.Settlement.{left_terms, load_terms, lower_terms, priced_flow, rent_terms, unit_terms, upper_terms}
 
 -- an operation refused where one of these sums is added up
@@ -33,19 +33,25 @@ pub data BalanceSum (m : Parts) (x : Dispatch) : List Term → Type 0 where
 pub data LineFlowSum (m : Parts) (p : ℕ → Fraction) : List Term → Type 0 where
   flow_of_line : (l : ℕ) → l < length m.lines → LineFlowSum m p (line_terms m p l)
 
--- where lines have flows f: the flow of a row
-pub data RowFlowSum (m : Parts) (f : ℕ → Fraction) (r : Row) : List Term → Type 0 where
-  flow_of_row : RowFlowSum m f r (flow_terms m f r)
+-- where this is carried: the flow of a row
+pub data RowFlowSum (m : Parts) (c : Carried) (r : Row) : List Term → Type 0 where
+  flow_of_row : RowFlowSum m c r (flow_terms m c r)
 
--- of a dispatch: what a bus puts in, and the flow of a line
+-- of a dispatch: the output of the unit of an outage
+pub data LostOutputSum (m : Parts) (x : Dispatch) : List Term → Type 0 where
+  output_of_lost : (k : ℕ) → k < length m.unit_outages → LostOutputSum m x (output_terms m x (lost_unit m k))
+
+-- what a bus puts in, the flow of a line, and the output of a lost unit
 pub data CarriedSum (m : Parts) (x : Dispatch) : List Term → Type 0 where
   carried_from_bus : (terms : List Term) → InjectionSum m x terms → CarriedSum m x terms
   carried_on_line : (terms : List Term) → LineFlowSum m (injection m x) terms → CarriedSum m x terms
+  carried_by_unit : (terms : List Term) → LostOutputSum m x terms → CarriedSum m x terms
 
--- the flow of a line, and of a row of the market
+-- the flow of a line, the output of a lost unit, and the flow of a row of the market
 pub data LimitFlowSum (m : Parts) (x : Dispatch) : List Term → Type 0 where
   limited_line : (terms : List Term) → LineFlowSum m (injection m x) terms → LimitFlowSum m x terms
-  limited_row : (r : Row) (terms : List Term) → Contains (rows m) r → RowFlowSum m (line_flow m (injection m x)) r terms → LimitFlowSum m x terms
+  limited_unit : (terms : List Term) → LostOutputSum m x terms → LimitFlowSum m x terms
+  limited_row : (r : Row) (terms : List Term) → Contains (rows m) r → RowFlowSum m (carried m x) r terms → LimitFlowSum m x terms
 
 -- all of these
 pub data FlowSum (m : Parts) (x : Dispatch) : List Term → Type 0 where
@@ -56,9 +62,18 @@ pub data FlowSum (m : Parts) (x : Dispatch) : List Term → Type 0 where
 pub data OffsetSum (m : Parts) (r : Row) : List Term → Type 0 where
   offset_of_row : OffsetSum m r (offset_terms m r)
 
--- its factor at a bus
+-- after the loss of a unit its pickup factor
+pub data PickupSum (m : Parts) (r : Row) : List Term → Type 0 where
+  pickup_of_row : (k : ℕ) → r.cause ≡ UnitOutage k → PickupSum m r (pickup_terms m r.line k)
+
+-- an operation refused where the flow of a row is added up, or its pickup factor
+abbrev pub IsFlowRefusal : Parts → Carried → Row → ℕ → Passed Fraction → Type 0
+IsFlowRefusal m c r bound p = IsRefusedAmong (RowFlowSum m c r) bound p ⊎ IsRefusedAmong (PickupSum m r) bound p
+
+-- its factor at a bus, and its pickup factor
 pub data FactorSum (m : Parts) (r : Row) : List Term → Type 0 where
   factor_at_bus : (i : ℕ) → i < length m.buses → FactorSum m r (factor_terms m r i)
+  factor_of_pickup : (terms : List Term) → PickupSum m r terms → FactorSum m r terms
 
 -- an operation refused in the factor of one of these rows
 abbrev pub IsFactorRefusal : Parts → List Row → ℕ → Passed Fraction → Type 0
@@ -74,11 +89,16 @@ pub data BusPriceSum (m : Parts) (d : Duals Fraction) (i : ℕ) : List Term → 
   congestion_at : BusPriceSum m d i (congestion_terms m d i)
   price_at : BusPriceSum m d i (price_terms m d i)
 
--- the same at every bus
+-- where buses have prices: the own price of a unit
+pub data OwnPriceSum (m : Parts) (d : Duals Fraction) (price : ℕ → Fraction) : List Term → Type 0 where
+  own_price_of_unit : (u : ℕ) → u < length m.units → OwnPriceSum m d price (own_terms m d price u)
+
+-- the prices at every bus, and of every unit
 pub data PriceSum (m : Parts) (d : Duals Fraction) : List Term → Type 0 where
   price_of_bus : (i : ℕ) (terms : List Term) → i < length m.buses → BusPriceSum m d i terms → PriceSum m d terms
+  price_of_unit : (terms : List Term) → OwnPriceSum m d (bus_price m d) terms → PriceSum m d terms
 
--- an operation refused in the prices at buses: in one of their sums, or in the factor of a row that duals name
+-- an operation refused in the prices at buses and of units: in one of their sums, or in the factor of a row that duals name
 abbrev pub IsRefusedInPrices : Parts → Duals Fraction → ℕ → Passed Fraction → Type 0
 IsRefusedInPrices m d bound p = IsRefusedAmong (PriceSum m d) bound p ⊎ IsFactorRefusal m (named_rows m d) bound p
 
@@ -90,20 +110,21 @@ pub data BoundSum (m : Parts) (d : Duals Fraction) : List Term → Type 0 where
 -- of payments at prices by bus: what a load pays, what a unit is paid, what is left, and the rents of the rows that duals name
 pub data PaymentSum (m : Parts) (x : Dispatch) (price : ℕ → Fraction) (d : Duals Fraction) : List Term → Type 0 where
   paid_by_load : (i : ℕ) → i < length m.buses → PaymentSum m x price d (load_terms m price i)
-  paid_to_unit : (u : ℕ) → u < length m.units → PaymentSum m x price d (unit_terms m x price u)
-  left_of_all : PaymentSum m x price d (left_terms m x price)
+  paid_to_unit : (u : ℕ) → u < length m.units → PaymentSum m x price d (unit_terms m x price d u)
+  left_of_all : PaymentSum m x price d (left_terms m x price d)
   rent_of_row : (r : Row) → Contains (named_rows m d) r → PaymentSum m x price d (rent_terms m x d r)
 
--- of a row whose prices are paid, where lines have flows f: its flow after an outage, its fixed offset, and what each of its prices is paid for
-pub data PaidRowSum (m : Parts) (f : ℕ → Fraction) (r : Row) : List Term → Type 0 where
-  flow_after_outage : (terms : List Term) → r.cause ≢ Base → RowFlowSum m f r terms → PaidRowSum m f r terms
-  paid_offset : (terms : List Term) → OffsetSum m r terms → PaidRowSum m f r terms
-  upper_of_row : PaidRowSum m f r (upper_terms (priced_flow m r (flow_by m f r)) (row_offset m r))
-  lower_of_row : PaidRowSum m f r (lower_terms (priced_flow m r (flow_by m f r)) (row_offset m r))
+-- of a row whose prices are paid, where this is carried: its flow after an outage, its fixed offset, and what each of its prices is paid for
+pub data PaidRowSum (m : Parts) (c : Carried) (r : Row) : List Term → Type 0 where
+  flow_after_outage : (terms : List Term) → r.cause ≢ Base → RowFlowSum m c r terms → PaidRowSum m c r terms
+  paid_offset : (terms : List Term) → OffsetSum m r terms → PaidRowSum m c r terms
+  upper_of_row : PaidRowSum m c r (upper_terms (priced_flow m r (flow_by m c r)) (row_offset m r))
+  lower_of_row : PaidRowSum m c r (lower_terms (priced_flow m r (flow_by m c r)) (row_offset m r))
 
--- of a settlement at prices by bus: the outputs of units, the demands of buses, payments, and of each row that the duals name what is paid for
+-- of a settlement at prices by bus: the outputs and the own prices of units, the demands of buses, payments, and of each row that the duals name what is paid for
 pub data SettledSum (m : Parts) (x : Dispatch) (price : ℕ → Fraction) (d : Duals Fraction) : List Term → Type 0 where
   paid_output : (terms : List Term) → OutputSum m x terms → SettledSum m x price d terms
+  paid_price : (terms : List Term) → OwnPriceSum m d price terms → SettledSum m x price d terms
   demand_of_bus : (i : ℕ) → i < length m.buses → SettledSum m x price d (demand_terms m i)
   payment : (terms : List Term) → PaymentSum m x price d terms → SettledSum m x price d terms
-  paid_row : (r : Row) (terms : List Term) → Contains (named_rows m d) r → PaidRowSum m (line_flow m (injection m x)) r terms → SettledSum m x price d terms
+  paid_row : (r : Row) (terms : List Term) → Contains (named_rows m d) r → PaidRowSum m (carried m x) r terms → SettledSum m x price d terms

@@ -1,5 +1,5 @@
 -- An answer with each number as the fraction that it stands for.
-use Rattle.std.specs.Prelude.{map}
+use Rattle.std.specs.Prelude.{ℕ, List, map, slice_index_or}
 use Rattle.fraction_theory.specs.Fraction.{Fraction}
 use Rattle.market_model.specs.declared.answered.Dual.{Dual}
 use Rattle.market_model.specs.declared.answered.Duals.{Duals}
@@ -13,6 +13,7 @@ use Rattle.market_model.specs.declared.answered.Farkas.{Farkas}
 use Rattle.market_model.specs.declared.answered.Outcome.{Outcome}
 use Rattle.market_model.specs.declared.answered.Outcome.TheVariants as outcome
 use Rattle.exact_fraction.specs.declared.Passed.{Passed}
+use Rattle.market_model.specs.Dispatch.{zero}
 
 abbrev pub dual_at : {N : Type 0} → (N → Fraction) → Dual N → Dual Fraction
 dual_at value d = record { row = d.row; up = value d.up; down = value d.down }
@@ -22,6 +23,10 @@ duals_at value d = record { energy = value d.energy; limits = map (dual_at value
 
 abbrev pub price_at : {N : Type 0} → (N → Fraction) → Price N → Price Fraction
 price_at value p = record { energy = value p.energy; congestion = value p.congestion; total = value p.total }
+
+-- the whole price at a bus; 0 past the end
+abbrev pub total_at : {N : Type 0} → (N → Fraction) → List (Price N) → ℕ → Fraction
+total_at value prices bus = slice_index_or (map (λ p. value p.total) prices) bus zero
 
 abbrev pub unit_pay_at : {N : Type 0} → (N → Fraction) → UnitPay N → UnitPay Fraction
 unit_pay_at value p = record { mw = value p.mw; paid = value p.paid }
@@ -35,6 +40,7 @@ rent_at value r = record { row = r.row; flow = value r.flow; over = value r.over
 abbrev pub money_at : {N : Type 0} → (N → Fraction) → Money N → Money Fraction
 money_at value m = record {
   units = map (unit_pay_at value) m.units;
+  own = map value m.own;
   loads = map (load_at value) m.loads;
   rents = map (rent_at value) m.rents;
   surplus = value m.surplus;

@@ -4,12 +4,13 @@
 use exact_fraction::Passed;
 use plain_list::List;
 
-/// A limit: of a branch in the base, where the outage is 0, or after the loss of another branch.
-/// Both are rows of the case's branch matrix.
+/// A limit: of a branch in the base, where outage and unit are 0, after the loss of another branch, or after that of a unit. Branch and
+/// outage are rows of the case's branch matrix, the unit one of its gen matrix.
 #[derive(Clone, Copy, PartialEq, Eq, Debug)]
 pub struct RowId {
     pub branch: u32,
     pub outage: u32,
+    pub unit: u32,
 }
 
 /// The prices of a limit: of its upper and of its lower side, of which one is 0.
@@ -63,6 +64,8 @@ pub struct Rent<N> {
 #[derive(Drop, Debug)]
 pub struct Money<N> {
     pub units: List<UnitPay<N>>,
+    /// The own price of the unit of each outage of a unit: what it is paid for a MW.
+    pub own: List<N>,
     pub loads: List<Load<N>>,
     pub rents: List<Rent<N>>,
     /// What loads pay less what units are paid.

@@ -2,7 +2,7 @@
 
 use crate::factor_table::{listed_factor, loss_table, table_of};
 use crate::outages::{lost_lines, outage_index, place_of_line};
-use crate::{Block, Bus, Line, Parts, Unit};
+use crate::{Block, Bus, Line, Parts, Pickup, Unit};
 use plain_list::{List, Memory};
 use std::alloc::Global;
 use std::marker::Model;
@@ -91,6 +91,22 @@ impl Market {
         ensures market { IsMarket self.now }
     {
         &self.lost
+    }
+
+    /// The place of the unit that each outage of a unit loses, in the order in which these are listed.
+    pub fn unit_outages(&self) -> &List<usize>
+        ensures list { result.now ≡ self.now.unit_outages }
+        ensures market { IsMarket self.now }
+    {
+        &self.parts.unit_outages
+    }
+
+    /// What others pick up then, in the order in which that was given.
+    pub fn pickups(&self) -> &List<Pickup>
+        ensures list { result.now ≡ self.now.pickups }
+        ensures market { IsMarket self.now }
+    {
+        &self.parts.pickups
     }
 
     /// The place of the line of a branch row; the number of lines where none has it.

@@ -6,6 +6,8 @@ pub enum Cause {
     Base,
     /// The line at this place is lost.
     Branch(usize),
+    /// The unit of the outage at this place among those of units is lost, and others pick up its output.
+    UnitOutage(usize),
 }
 
 /// A limit row: the limit of a line, by its place, under a cause.

@@ -76,6 +76,17 @@ pub struct Factor {
     pub value: i64,
 }
 
+/// What a unit picks up of the output of a unit that is lost.
+#[derive(Clone, Copy, PartialEq, Eq, Debug)]
+pub struct Pickup {
+    /// The place of the outage among those of units.
+    pub outage: usize,
+    /// The place of the unit that picks up.
+    pub taker: usize,
+    /// Its part of the lost output, in 10^-6.
+    pub share: i64,
+}
+
 /// What a market is made of.
 #[derive(Drop, Debug)]
 pub struct Parts {
@@ -89,6 +100,10 @@ pub struct Parts {
     pub shift: List<Factor>,
     /// How much of the flow of a lost line goes over to another line.
     pub loss: List<Factor>,
+    /// The place of the unit that each outage of a unit loses.
+    pub unit_outages: List<usize>,
+    /// What others pick up then.
+    pub pickups: List<Pickup>,
 }
 
 impl Parts {
@@ -104,6 +119,8 @@ impl Parts {
             outages: List::new(alloc),
             shift: List::new(alloc),
             loss: List::new(alloc),
+            unit_outages: List::new(alloc),
+            pickups: List::new(alloc),
         }
     }
 }
