@@ -28,69 +28,10 @@ use Rattle.market_model.proofs.LostLemmas.{place_at, place-own, row-of_outage}
 use Rattle.limit_rows.proofs.GroupLemmas.{length-map, rows-causes}
 use Rattle.limit_rows.proofs.NumberingLemmas.{row_on}
 
--- ---- members of lists
-Contains-map : {X Y : Type 0} (f : X → Y) (xs : List X) (x : X) → Contains xs x → Contains (map f xs) (f x)
-Contains-map f xs x (k, lt, e) = (k, Prim.omega (arith, lt, length-map f xs), get_or-map f xs k x (f x) lt ∙ ap f e)
-
-Contains-from_map : {X Y : Type 0} (f : X → Y) (xs : List X) (y : Y) → Contains (map f xs) y → (x : X) × Contains xs x × (f x ≡ y)
-Contains-from_map f [] y (k, lt, e) = absurd (Prim.omega (arith, lt))
-Contains-from_map {X} f (x ∷ xs) y c = by (Contains-from_map f xs y) (Contains-cases (f x) (map f xs) y c)
-  where
-    by : (Contains (map f xs) y → (z : X) × Contains xs z × (f z ≡ y)) → (f x ≡ y) ⊎ Contains (map f xs) y → (z : X) × Contains (x ∷ xs) z × (f z ≡ y)
-    by more (inl e) = (x, Contains-head x xs, e)
-    by more (inr d) = let r = more d in (r.0, Contains-cons x xs r.0 r.1, r.2)
-
-Contains-flat : {X Y : Type 0} (f : X → List Y) (xs : List X) (x : X) (y : Y) → Contains xs x → Contains (f x) y → Contains (flat_map f xs) y
-Contains-flat f [] x y (k, lt, e) d = absurd (Prim.omega (arith, lt))
-Contains-flat f (z ∷ xs) x y c d = by (λ h. Contains-flat f xs x y h d) (Contains-cases z xs x c)
-  where
-    by : (Contains xs x → Contains (flat_map f xs) y) → (z ≡ x) ⊎ Contains xs x → Contains (flat_map f (z ∷ xs)) y
-    by more (inl e) = Contains-append_left (f z) (flat_map f xs) y (subst (λ w. Contains (f w) y) (sym e) d)
-    by more (inr h) = Contains-append_right (f z) (flat_map f xs) y (more h)
-
-Contains-from_flat : {X Y : Type 0} (f : X → List Y) (xs : List X) (y : Y) → Contains (flat_map f xs) y → (x : X) × Contains xs x × Contains (f x) y
-Contains-from_flat f [] y (k, lt, e) = absurd (Prim.omega (arith, lt))
-Contains-from_flat {X} f (x ∷ xs) y c = by (Contains-from_flat f xs y) (Contains-append_cases (f x) (flat_map f xs) y c)
-  where
-    by : (Contains (flat_map f xs) y → (z : X) × Contains xs z × Contains (f z) y) → Contains (f x) y ⊎ Contains (flat_map f xs) y → (z : X) × Contains (x ∷ xs) z × Contains (f z) y
-    by more (inl d) = (x, Contains-head x xs, d)
-    by more (inr d) = let r = more d in (r.0, Contains-cons x xs r.0 r.1, r.2)
-
-Contains-places : (n l : ℕ) → l < n → Contains (places n) l
-Contains-places n l h = (l, Prim.omega (arith, h, length-range_with_len 0 n), place_at n l l h)
-
-Contains-from_places : (n l : ℕ) → Contains (places n) l → l < n
-Contains-from_places n l (k, lt, e) =
-    let inside : k < n = Prim.omega (arith, lt, length-range_with_len 0 n) in
-    subst (λ (i : ℕ). i < n) (sym (place_at n k l inside) ∙ e) inside
-
 pub listed : {X : Type 0} (xs : List X) (k : ℕ) (x : X) → slice_get xs k ≡ Some x → Contains xs x
 listed xs k x e = (k, slice_get_within xs k x e, get_or_from_slice_get xs k x x e)
 
--- ---- the rows are those of the lines that have one under a cause
--- a line that has a row under a cause of the market
-pub record IsRowOf (m : Parts) (cause : Cause) (l : ℕ) : Type 0 where
-  pub group : Contains (causes m) cause
-  pub line : l < length m.lines
-  pub bears : bears m cause l ≡ true
-
-pub row_to : (m : Parts) (cause : Cause) (l : ℕ) → IsRowOf m cause l → Contains (rows m) (row_on cause l)
-row_to m cause l h =
-    subst (λ rs. Contains rs (row_on cause l)) (sym (rows-causes m))
-    (Contains-flat (rows_of m) (causes m) cause (row_on cause l) h.group
-    (Contains-map (row_on cause) (lines_of m cause) l (Contains-filter (bears m cause) (places (length m.lines)) l (Contains-places (length m.lines) l h.line) h.bears)))
-
-pub row_from : (m : Parts) (r : Row) → Contains (rows m) r → (cause : Cause) × (l : ℕ) × IsRowOf m cause l × (row_on cause l ≡ r)
-row_from m r c =
-    let g = Contains-from_flat (rows_of m) (causes m) r (subst (λ rs. Contains rs r) (rows-causes m) c) in
-    let l = Contains-from_map (row_on g.0) (lines_of m g.0) r g.2 in
-    let kept = Contains-from_filter (bears m g.0) (places (length m.lines)) l.0 l.1 in
-    (g.0, l.0, record { group = g.1; line = Contains-from_places (length m.lines) l.0 kept.0; bears = kept.1 }, l.2)
-
--- a row of the market has its line under its cause
-pub row_parts : (m : Parts) (r : Row) → Contains (rows m) r → IsRowOf m r.cause r.line
-row_parts m r c = let f = row_from m r c in subst (λ (s : Row). IsRowOf m s.cause s.line) f.3 f.2
-
+-- ---- rows by causes
 pub none_of_outage : (m : Parts) (name : RowId) → All (λ cause. outage_in m cause ≢ name.outage) (causes m) → (r : Row) → Contains (rows m) r → row_id m r ≢ name
 none_of_outage m name none r c = λ e. by (row_from m r c) e
   where

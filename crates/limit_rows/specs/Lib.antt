@@ -1,4 +1,3 @@
-pub mod LineFlows
 pub mod Naming
 pub mod NamesApart
 pub mod Walk

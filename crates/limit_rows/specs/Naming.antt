@@ -1,10 +1,16 @@
 -- Limit rows by their names.
-use Rattle.std.specs.Prelude.{Bool}
+use Rattle.std.specs.Prelude.{◌≡◌, ℕ, Bool}
 use Rattle.market_model.specs.declared.answered.RowId.{RowId}
+use Rattle.market_model.specs.declared.limits.Cause.{Cause}
 use Rattle.market_model.specs.declared.limits.Row.{Row}
 use Rattle.market_model.specs.declared.participants.Parts.{Parts}
-use Rattle.market_model.specs.LimitRows.{row_id}
+use Rattle.market_model.specs.LimitRows.{outage_of, row_id, unit_of}
 use Rattle.market_model.specs.Optimality.{same_id}
+
+-- a cause that loses the branch and the unit of these rows, of which 0 is none
+pub record Loses (m : Parts) (cause : Cause) (outage unit : ℕ) : Type 0 where
+  pub branch : outage_of m cause ≡ outage
+  pub unit : unit_of m cause ≡ unit
 
 -- a row of this name
 abbrev pub has_name : Parts → RowId → Row → Bool

@@ -2,40 +2,55 @@
 
 ghost use Rattle.std.specs.Prelude.{◌≡◌, ◌≤◌, ◌<◌, ◌+◌, length, Some};
 ghost use Rattle.std.specs.List.{slice_get};
-ghost use Rattle.market_data.specs.Scales.{most_outages};
-ghost use Rattle.market_model.specs.LimitRows.{bears, causes, outage_of, stated, IsCauseAmong};
+ghost use Rattle.market_data.specs.Scales.{most_outages, most_units};
+ghost use Rattle.market_model.specs.LimitRows.{bears, causes, outage_of, stated, unit_of, IsCauseOf};
 
 use market_model::{Cause, Line, Market};
 
-/// How many causes of limits a market has: the base, and each outage.
+/// How many causes of limits a market has: the base, and each outage of a branch or of a unit.
 pub(crate) fn cause_count(market: &Market) -> usize
     ensures count { result ≡ length (causes market.now) }
-    ensures few { result ≤ most_outages + 1 }
+    ensures few { result ≤ most_outages + 1 + most_units }
 {
-    market.outages().len() + 1
+    market.outages().len() + 1 + market.unit_outages().len()
 }
 
-/// The cause at a place: the base first, then the outages as they are listed.
+/// The cause at a place: the base first, then the outages as they are listed, those of branches before those of units.
 pub(crate) fn cause_at(market: &Market, place: usize) -> Cause
     requires { place < length (causes market.now) }
     ensures is { slice_get (causes market.now) place ≡ Some result }
-    ensures lost { IsCauseAmong (length market.now.lines) result }
+    ensures lost { IsCauseOf market.now result }
 {
+    let lost = market.lost_lines();
     if place == 0 {
         Cause::Base
+    } else if place <= lost.len() {
+        Cause::Branch(*lost.at(place - 1))
     } else {
-        Cause::Branch(*market.lost_lines().at(place - 1))
+        Cause::UnitOutage(place - 1 - lost.len())
     }
 }
 
-/// The branch row of the lost line of a cause; 0 in the base.
+/// The branch row of the lost line of a cause; 0 where none is lost.
 pub(crate) fn outage_of(market: &Market, cause: Cause) -> u32
-    requires { IsCauseAmong (length market.now.lines) cause }
+    requires { IsCauseOf market.now cause }
     ensures { result ≡ outage_of market.now cause }
 {
     match cause {
         Cause::Base => 0,
         Cause::Branch(lost) => market.lines().at(lost).row,
+        Cause::UnitOutage(_) => 0,
+    }
+}
+
+/// The gen row of the lost unit of a cause; 0 where none is lost.
+pub(crate) fn unit_of(market: &Market, cause: Cause) -> u32
+    requires { IsCauseOf market.now cause }
+    ensures { result ≡ unit_of market.now cause }
+{
+    match cause {
+        Cause::Base | Cause::Branch(_) => 0,
+        Cause::UnitOutage(outage) => { market.units().at(*market.unit_outages().at(outage)).row }
     }
 }
 
@@ -45,7 +60,7 @@ pub(crate) fn stated(line: &Line, cause: Cause) -> Option<i64>
 {
     match cause {
         Cause::Base => line.base,
-        Cause::Branch(_) => line.post,
+        Cause::Branch(_) | Cause::UnitOutage(_) => line.post,
     }
 }
 
@@ -56,7 +71,7 @@ pub(crate) fn has_row(market: &Market, cause: Cause, place: usize) -> bool
 {
     let has_limit = stated(market.lines().at(place), cause).is_some();
     match cause {
-        Cause::Base => has_limit,
+        Cause::Base | Cause::UnitOutage(_) => has_limit,
         Cause::Branch(lost) => place != lost && has_limit,
     }
 }

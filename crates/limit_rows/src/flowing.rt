@@ -1,20 +1,20 @@
 //! What flows on lines and counts for rows.
 
-ghost use Rattle.std.specs.Prelude.{◌≡◌, ◌≢◌, ◌<◌, ◌≤◌, ◌^◌, unsigned_abs, length, map, IfOk, IfErr};
+ghost use Rattle.std.specs.Prelude.{◌≡◌, ◌≢◌, ◌<◌, ◌≤◌, ◌+◌, ◌^◌, unsigned_abs, length, map, IfOk, IfErr};
 ghost use Rattle.fraction_theory.specs.Fraction.{over, ◌+ℚ◌, ◌*ℚ◌};
 ghost use Rattle.market_data.specs.Scales.{market_factor_one, most_market_factor};
 ghost use Rattle.market_model.specs.declared.limits.Cause.TheVariants as cause;
 ghost use Rattle.market_model.specs.Dispatch.{places};
-ghost use Rattle.market_model.specs.LimitRows.{IsCauseAmong, flow_by, flow_terms, line_flow, line_offset, line_terms, offset_terms, row_offset};
+ghost use Rattle.market_model.specs.LimitRows.{IsCauseOf, flow_by, line_flow, line_offset, line_terms, lost_output, offset_terms, row_offset};
 ghost use Rattle.market_model.specs.NamedSums.{IsRefusedIn, IsShareRefusal};
-ghost use Rattle.market_model.specs.PutIn.{put_in};
-ghost use Rattle.market_model.specs.SumTables.{IsRefusedAmong, LineFlowSum};
+ghost use Rattle.market_model.specs.PutIn.{carried_in, dispatch_of, put_in};
+ghost use Rattle.market_model.specs.SumTables.{IsFlowRefusal, IsRefusedAmong, LineFlowSum, LostOutputSum};
 ghost use Rattle.market_model.specs.Valued.{passed_at};
 
-use crate::factors::{loss_of, shift_of};
+use crate::factors::{loss_of, pickup_factor, shift_of};
 use exact_fraction::{Exact, Passed};
 use market_data::MARKET_FACTOR_ONE;
-use market_model::{Cause, Market, Row, datum};
+use market_model::{Cause, Market, Row, datum, output};
 
 /// A sum plus a number times a factor, of shift or outage, in 10^-9. A factor of 0 adds nothing.
 pub(crate) fn with_share<N: Exact>(sum: N, share: i64, number: N) -> Result<N, Passed<N>>
@@ -69,33 +69,56 @@ pub fn put_line_flows<N: Exact>(
     Ok(())
 }
 
-/// The flow of a row, of the flow of each line, in 10^-9 MW. After an outage the part of the lost line's flow that goes over to the row's
-/// line is added.
-pub fn row_flow<N: Exact>(market: &Market, flows: &[N], row: Row) -> Result<N, Passed<N>>
-    requires flows { length flows.now ≡ length market.now.lines }
-    requires line { row.line < length market.now.lines }
-    requires lost { IsCauseAmong (length market.now.lines) row.cause }
-    ensures flow { IfOk result (λ mw. N.value mw ≡ flow_by market.now (put_in (map N.value flows.now)) row) }
-    ensures after { IfErr result (λ _. row.cause ≢ cause.Base) }
-    ensures cause { IfErr result (λ passed. IsRefusedIn (flow_terms market.now (put_in (map N.value flows.now)) row) N.bound (passed_at N.value passed)) }
+/// Puts in the output of the unit of each outage of a unit at a dispatch, in 10^-9 MW.
+pub fn put_lost_outputs<N: Exact>(
+    market: &Market,
+    dispatch: &[N],
+    out: &mut [N],
+) -> Result<(), Passed<N>>
+    requires dispatch { length dispatch.now ≡ length market.now.blocks }
+    requires out { length out.old ≡ length market.now.unit_outages }
+    ensures count { length out.new ≡ length out.old }
+    ensures outputs { IfOk result (λ _. map N.value out.new ≡ map (lost_output market.now (dispatch_of N.value dispatch.now)) (places (length market.now.unit_outages))) }
+    ensures cause { IfErr result (λ passed. IsRefusedAmong (LostOutputSum market.now (dispatch_of N.value dispatch.now)) N.bound (passed_at N.value passed)) }
 {
-    let own = flows[row.line];
+    for (outage, mw) in out.iter_mut().enumerate() {
+        *mw = output(market, *market.unit_outages().at(outage), dispatch)?;
+    }
+    Ok(())
+}
+
+/// The flow of a row, of what the network carries: the flow of each line and then the output of the unit of each outage of a unit, in
+/// 10^-9 MW. After an outage of a branch the part of the lost line's flow that goes over to the row's line is added, and after one of a unit
+/// what others pick up of its output adds there.
+pub fn row_flow<N: Exact>(market: &Market, carried: &[N], row: Row) -> Result<N, Passed<N>>
+    requires carried { length carried.now ≡ length market.now.lines + length market.now.unit_outages }
+    requires line { row.line < length market.now.lines }
+    requires lost { IsCauseOf market.now row.cause }
+    ensures flow { IfOk result (λ mw. N.value mw ≡ flow_by market.now (carried_in market.now (map N.value carried.now)) row) }
+    ensures after { IfErr result (λ _. row.cause ≢ cause.Base) }
+    ensures cause { IfErr result (λ passed. IsFlowRefusal market.now (carried_in market.now (map N.value carried.now)) row N.bound (passed_at N.value passed)) }
+{
+    let own = carried[row.line];
     match row.cause {
         Cause::Base => Ok(own),
-        Cause::Branch(lost) => with_share(own, loss_of(market, row.line, lost), flows[lost]),
+        Cause::Branch(lost) => with_share(own, loss_of(market, row.line, lost), carried[lost]),
+        Cause::UnitOutage(outage) => {
+            let factor = pickup_factor(market, row.line, outage)?;
+            own.plus_product(factor, carried[market.lines().len() + outage])
+        }
     }
 }
 
 /// What the flow of a row has whatever buses put in, in 10^-9 MW.
 pub fn row_offset<N: Exact>(market: &Market, row: Row) -> Result<N, Passed<N>>
     requires line { row.line < length market.now.lines }
-    requires lost { IsCauseAmong (length market.now.lines) row.cause }
+    requires lost { IsCauseOf market.now row.cause }
     ensures offset { IfOk result (λ mw. N.value mw ≡ row_offset market.now row) }
     ensures cause { IfErr result (λ passed. IsRefusedIn (offset_terms market.now row) N.bound (passed_at N.value passed)) }
 {
     let own = offset_of(market, row.line);
     match row.cause {
-        Cause::Base => Ok(own),
+        Cause::Base | Cause::UnitOutage(_) => Ok(own),
         Cause::Branch(lost) => with_share(
             own,
             loss_of(market, row.line, lost),

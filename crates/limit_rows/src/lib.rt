@@ -10,8 +10,10 @@ mod places;
 mod softness;
 mod walk;
 
-pub use factors::{coefficient, loss_of, row_factor, shift_of, unit_factor};
-pub use flowing::{put_line_flows, row_flow, row_offset};
+pub use factors::{
+    coefficient, loss_of, pickup_factor, row_factor, shift_of, taker_factor, unit_factor,
+};
+pub use flowing::{put_line_flows, put_lost_outputs, row_flow, row_offset};
 pub use numbering::{count, id, place_of, position, row_at};
 pub use places::{found_row, limit_at, name_at, row_named};
 pub use softness::{excess_at, is_soft, most_flow, penalty_at};

@@ -18,7 +18,7 @@ fn is_outage(cause: Cause) -> bool
 {
     match cause {
         Cause::Base => false,
-        Cause::Branch(_) => true,
+        Cause::Branch(_) | Cause::UnitOutage(_) => true,
     }
 }
 

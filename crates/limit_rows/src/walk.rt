@@ -2,9 +2,9 @@
 
 ghost use Rattle.std.specs.Prelude.{◌≡◌, ◌<◌, ◌≤◌, ◌+◌, ◌*◌, length, Contains, IfSome};
 ghost use Rattle.std.specs.Iterator.{YieldsFirst, item_count};
-ghost use Rattle.market_data.specs.Scales.{most_lines, most_outages};
+ghost use Rattle.market_data.specs.Scales.{most_lines, most_outages, most_units};
 ghost use Rattle.market_model.specs.declared.limits.Row.{Row};
-ghost use Rattle.market_model.specs.LimitRows.{rows, IsCauseAmong};
+ghost use Rattle.market_model.specs.LimitRows.{rows, IsCauseOf};
 ghost use Rattle.limit_rows.specs.Walk.{IsNextLine};
 
 use crate::causes::{cause_at, cause_count, has_row};
@@ -68,8 +68,8 @@ impl<'a> Iterator for RowWalk<'a> {
 /// The rows of a market, in its order.
 pub fn rows(market: &Market) -> RowWalk<'_>
     ensures rows { result ≡ rows market.now }
-    ensures few { length (rows market.now) ≤ (most_outages + 1) * most_lines }
-    ensures stand { (r : Row) → Contains (rows market.now) r → (r.line < length market.now.lines) × IsCauseAmong (length market.now.lines) r.cause }
+    ensures few { length (rows market.now) ≤ (most_outages + 1 + most_units) * most_lines }
+    ensures stand { (r : Row) → Contains (rows market.now) r → (r.line < length market.now.lines) × IsCauseOf market.now r.cause }
 {
     let _lines = market.lines();
     RowWalk {
