@@ -1,9 +1,14 @@
-//! The outages that a market is to stand, out of the numbers that are asked for.
+//! The outages that a market is to stand: of branches, out of the numbers that are asked for, and of units, by their table.
 #![tactic(auto)]
 
 mod listing;
+mod takings;
+mod unit_fault;
+mod unit_listing;
 
 pub use listing::{OutageFault, Outages, listed};
+pub use unit_fault::UnitOutageFault;
+pub use unit_listing::{UNIT_OUTAGE_HEADER, UnitOutages, unit_outages};
 
 #[cfg(test)]
 mod tests;

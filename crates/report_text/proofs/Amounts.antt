@@ -77,17 +77,27 @@ tail_of : (c d : ℕ) (cs ds : List ℕ) → c ∷ cs ≡ d ∷ ds → cs ≡ ds
 tail_of c d cs ds e = Prim.cc
 
 -- bytes above the blank, up to one that is not
-cut : (c : ℕ) (xs ys us vs : List ℕ) → c ≤ 32 → AllAbove xs → AllAbove ys → xs ++ c ∷ us ≡ ys ++ c ∷ vs → (xs ≡ ys) × (us ≡ vs)
-cut c [] [] us vs h p q e = (refl, tail_of c c us vs e)
-cut c [] (y ∷ ys) us vs h p q e = absurd (Prim.omega (arith, q.0, head_of c y us (ys ++ c ∷ vs) e))
-cut c (x ∷ xs) [] us vs h p q e = absurd (Prim.omega (arith, p.0, head_of x c (xs ++ c ∷ us) vs e))
-cut c (x ∷ xs) (y ∷ ys) us vs h p q e =
-    let first = head_of x y (xs ++ c ∷ us) (ys ++ c ∷ vs) e in
-    let rest = cut c xs ys us vs h p.1 q.1 (tail_of x y (xs ++ c ∷ us) (ys ++ c ∷ vs) e) in
+cut_at : (c d : ℕ) (xs ys us vs : List ℕ) → c ≤ 32 → d ≤ 32 → AllAbove xs → AllAbove ys → xs ++ c ∷ us ≡ ys ++ d ∷ vs → (xs ≡ ys) × (c ∷ us ≡ d ∷ vs)
+cut_at c d [] [] us vs h k p q e = (refl, e)
+cut_at c d [] (y ∷ ys) us vs h k p q e = absurd (Prim.omega (arith, q.0, head_of c y us (ys ++ d ∷ vs) e))
+cut_at c d (x ∷ xs) [] us vs h k p q e = absurd (Prim.omega (arith, p.0, head_of x d (xs ++ c ∷ us) vs e))
+cut_at c d (x ∷ xs) (y ∷ ys) us vs h k p q e =
+    let first = head_of x y (xs ++ c ∷ us) (ys ++ d ∷ vs) e in
+    let rest = cut_at c d xs ys us vs h k p.1 q.1 (tail_of x y (xs ++ c ∷ us) (ys ++ d ∷ vs) e) in
     (Prim.cc (first, rest.0), rest.1)
 
+-- where that is the same one
+cut : (c : ℕ) (xs ys us vs : List ℕ) → c ≤ 32 → AllAbove xs → AllAbove ys → xs ++ c ∷ us ≡ ys ++ c ∷ vs → (xs ≡ ys) × (us ≡ vs)
+cut c xs ys us vs h p q e = let t = cut_at c c xs ys us vs h h p q e in (t.0, tail_of c c us vs t.1)
+
+-- an amount and what comes after it, behind which another byte may stand
+pub amount_ends : (k c d : ℕ) (x y : Fraction) (us vs : List ℕ) → c ≤ 32 → d ≤ 32 → written k x ++ c ∷ us ≡ written k y ++ d ∷ vs → (x ≡ y) × (c ∷ us ≡ d ∷ vs)
+amount_ends k c d x y us vs h j e =
+    let t = cut_at c d (written k x) (written k y) us vs h j (AllAbove-written k x) (AllAbove-written k y) e in
+    (written_apart k x y t.0, t.1)
+
 -- an amount and what comes after it
-amount_apart : (k c : ℕ) (x y : Fraction) (us vs : List ℕ) → c ≤ 32 → written k x ++ c ∷ us ≡ written k y ++ c ∷ vs → (x ≡ y) × (us ≡ vs)
+pub amount_apart : (k c : ℕ) (x y : Fraction) (us vs : List ℕ) → c ≤ 32 → written k x ++ c ∷ us ≡ written k y ++ c ∷ vs → (x ≡ y) × (us ≡ vs)
 amount_apart k c x y us vs h e =
     let t = cut c (written k x) (written k y) us vs h (AllAbove-written k x) (AllAbove-written k y) e in
     (written_apart k x y t.0, t.1)

@@ -1,5 +1,5 @@
 -- The lines of limits are of the limits that they tell.
-use Rattle.std.specs.Prelude.{◌≡◌, ◌≢◌, ℕ, ◌==◌, All, Bool, true, false, List, [], ◌∷◌, ◌++◌, length, map, codes, if◌then◌else◌, refl}
+use Rattle.std.specs.Prelude.{◌≡◌, ◌≢◌, ◌&&◌, ℕ, ◌==◌, All, Bool, true, false, List, [], ◌∷◌, ◌++◌, length, map, codes, if◌then◌else◌, refl}
 use Rattle.std.specs.List.{AllByRecursion, flat_map, zip}
 use Rattle.std.proofs.Common.{arith, ap, sym, ◌∙◌, subst, append_assoc}
 use Rattle.std.proofs.lemmas.Bool.Decides.{nat_tests}
@@ -23,41 +23,78 @@ use Rattle.report_text.specs.Reports.{outage_text, over_text, over_text_by, row_
 use Rattle.report_text.proofs.Amounts.{head_of, named_apart, number_apart}
 
 -- ---- the name of a limit
--- what stands behind the blank: of the base or of an outage
-abbrev words : Bool → ℕ → List ℕ
-words b row = if b then codes "base" else codes "after " ++ number_text row
+-- what stands behind the blank: of a unit that is lost, and of the base, or of a branch that is lost and then of a unit
+abbrev unit_words : Bool → ℕ → List ℕ → List ℕ
+unit_words true unit ts = ts
+unit_words false unit ts = codes "lost " ++ (number_text unit ++ 32 ∷ ts)
 
-words_behind : (row : ℕ) → outage_text row ≡ 32 ∷ words (row == 0) row
-words_behind row = by_test (row == 0)
+abbrev words : Bool → Bool → ℕ → ℕ → List ℕ → List ℕ
+words true true outage unit ts = codes "base " ++ ts
+words true false outage unit ts = unit_words false unit ts
+words false b outage unit ts = codes "after " ++ (number_text outage ++ 32 ∷ unit_words b unit ts)
+
+words_behind : (outage unit : ℕ) (ts : List ℕ) → outage_text outage unit ++ 32 ∷ ts ≡ 32 ∷ words (outage == 0) (unit == 0) outage unit ts
+words_behind outage unit ts = by_test (outage == 0) (unit == 0)
   where
-    by_test : (b : Bool) → ◌≡◌ {A = List ℕ} (if b then codes " base" else codes " after " ++ number_text row) (32 ∷ words b row)
-    by_test true = refl
-    by_test false = refl
+    by_test : (b c : Bool)
+        → (if b && c then codes " base" else (if b then [] else codes " after " ++ number_text outage) ++ (if c then [] else codes " lost " ++ number_text unit)) ++ 32 ∷ ts ≡ 32 ∷ words b c outage unit ts
+    by_test true true = refl
+    by_test true false = append_assoc (codes " lost ") (number_text unit) (32 ∷ ts)
+    by_test false true = Prim.simp append_assoc
+    by_test false false = Prim.simp append_assoc
 
 is_zero : (n : ℕ) → (n == 0) ≡ true → n ≡ 0
 is_zero n e = Prim.grind (arith, nat_tests)
 
-words_apart : (b c : Bool) (j k : ℕ) (us vs : List ℕ) → (j == 0) ≡ b → (k == 0) ≡ c → words b j ++ 32 ∷ us ≡ words c k ++ 32 ∷ vs → (j ≡ k) × (us ≡ vs)
-words_apart true true j k us vs p q e = (is_zero j p ∙ sym (is_zero k q), append_cancel_left (codes "base ") us vs e)
-words_apart true false j k us vs p q e = absurd (Prim.omega (arith, head_of 98 97 _ _ e))
-words_apart false true j k us vs p q e = absurd (Prim.omega (arith, head_of 97 98 _ _ e))
-words_apart false false j k us vs p q e = number_apart j k us vs (append_cancel_left (codes "after ") (number_text j ++ 32 ∷ us) (number_text k ++ 32 ∷ vs) e)
+-- another word than `lost` comes next
+abbrev Next : List ℕ → Type 0
+Next [] = ⊥
+Next (c ∷ us) = c ≢ 108
 
-same_row : (a b : RowId) → a.branch ≡ b.branch → a.outage ≡ b.outage → a ≡ b
-same_row a b e f =
-    let make : ℕ → ℕ → RowId = λ v w. record { branch = v; outage = w } in
-    ap (λ v. make v a.outage) e ∙ ap (make b.branch) f
+next_not : (us vs : List ℕ) → Next us → us ≡ codes "lost " ++ vs → ⊥
+next_not [] vs h e = h
+next_not (c ∷ us) vs h e = h (head_of c 108 us _ e)
 
-rows_apart : (a b : RowId) (us vs : List ℕ) → row_text a ++ 32 ∷ us ≡ row_text b ++ 32 ∷ vs → (a ≡ b) × (us ≡ vs)
+units_apart : (b c : Bool) (j k : ℕ) (us vs : List ℕ) → (j == 0) ≡ b → (k == 0) ≡ c → Next us → Next vs → unit_words b j us ≡ unit_words c k vs → (j ≡ k) × (us ≡ vs)
+units_apart true true j k us vs p q g h e = (is_zero j p ∙ sym (is_zero k q), e)
+units_apart true false j k us vs p q g h e = absurd (next_not us (number_text k ++ 32 ∷ vs) g e)
+units_apart false true j k us vs p q g h e = absurd (next_not vs (number_text j ++ 32 ∷ us) h (sym e))
+units_apart false false j k us vs p q g h e = number_apart j k us vs (append_cancel_left (codes "lost ") (number_text j ++ 32 ∷ us) (number_text k ++ 32 ∷ vs) e)
+
+record SameLoss (j k l n : ℕ) (us vs : List ℕ) : Type 0 where
+  outage : j ≡ k
+  unit : l ≡ n
+  rest : us ≡ vs
+
+words_apart : (b c d f : Bool) (j k l n : ℕ) (us vs : List ℕ) → (j == 0) ≡ b → (k == 0) ≡ c → (l == 0) ≡ d → (n == 0) ≡ f → Next us → Next vs → words b d j l us ≡ words c f k n vs → SameLoss j k l n us vs
+words_apart true true true true j k l n us vs p q r s g h e =
+    record { outage = is_zero j p ∙ sym (is_zero k q); unit = is_zero l r ∙ sym (is_zero n s); rest = append_cancel_left (codes "base ") us vs e }
+words_apart true true true false j k l n us vs p q r s g h e = absurd (Prim.omega (arith, head_of 98 108 _ _ e))
+words_apart true true false true j k l n us vs p q r s g h e = absurd (Prim.omega (arith, head_of 108 98 _ _ e))
+words_apart true true false false j k l n us vs p q r s g h e =
+    let t = units_apart false false l n us vs r s g h e in record { outage = is_zero j p ∙ sym (is_zero k q); unit = t.0; rest = t.1 }
+words_apart true false true f j k l n us vs p q r s g h e = absurd (Prim.omega (arith, head_of 98 97 _ _ e))
+words_apart true false false f j k l n us vs p q r s g h e = absurd (Prim.omega (arith, head_of 108 97 _ _ e))
+words_apart false true d true j k l n us vs p q r s g h e = absurd (Prim.omega (arith, head_of 97 98 _ _ e))
+words_apart false true d false j k l n us vs p q r s g h e = absurd (Prim.omega (arith, head_of 97 108 _ _ e))
+words_apart false false d f j k l n us vs p q r s g h e =
+    let first = number_apart j k (unit_words d l us) (unit_words f n vs) (append_cancel_left (codes "after ") (number_text j ++ 32 ∷ unit_words d l us) (number_text k ++ 32 ∷ unit_words f n vs) e) in
+    let t = units_apart d f l n us vs r s g h first.1 in
+    record { outage = first.0; unit = t.0; rest = t.1 }
+
+same_row : (a b : RowId) → a.branch ≡ b.branch → a.outage ≡ b.outage → a.unit ≡ b.unit → a ≡ b
+same_row a b e f g = λ i. record { branch = e i; outage = f i; unit = g i }
+
+rows_apart : (a b : RowId) (us vs : List ℕ) → Next us → Next vs → row_text a ++ 32 ∷ us ≡ row_text b ++ 32 ∷ vs → (a ≡ b) × (us ≡ vs)
 unfolding row_text
-rows_apart a b us vs e =
-    let opened = λ (r : RowId) (ts : List ℕ). ap (λ o. (codes "limit " ++ number_text r.branch ++ o) ++ 32 ∷ ts) (words_behind r.outage) ∙ in_order (codes "limit ") (number_text r.branch) (words (r.outage == 0) r.outage) (32 ∷ ts) in
-    let first = number_apart a.branch b.branch (words (a.outage == 0) a.outage ++ 32 ∷ us) (words (b.outage == 0) b.outage ++ 32 ∷ vs)
-    (append_cancel_left (codes "limit ") _ _ (sym (opened a us) ∙ e ∙ opened b vs)) in
-    let second = words_apart (a.outage == 0) (b.outage == 0) a.outage b.outage us vs refl refl first.1 in
-    (same_row a b first.0 second.0, second.1)
+rows_apart a b us vs g h e =
+    let behind = λ (r : RowId) (ts : List ℕ). words (r.outage == 0) (r.unit == 0) r.outage r.unit ts in
+    let opened = λ (r : RowId) (ts : List ℕ). in_order (codes "limit ") (number_text r.branch) (outage_text r.outage r.unit) (32 ∷ ts) ∙ ap (λ o. codes "limit " ++ (number_text r.branch ++ o)) (words_behind r.outage r.unit ts) in
+    let first = number_apart a.branch b.branch (behind a us) (behind b vs) (append_cancel_left (codes "limit ") _ _ (sym (opened a us) ∙ e ∙ opened b vs)) in
+    let second = words_apart (a.outage == 0) (b.outage == 0) (a.unit == 0) (b.unit == 0) a.outage b.outage a.unit b.unit us vs refl refl refl refl g h first.1 in
+    (same_row a b first.0 second.outage second.unit, second.rest)
   where
-    in_order : (front n o ts : List ℕ) → (front ++ n ++ 32 ∷ o) ++ ts ≡ front ++ (n ++ 32 ∷ (o ++ ts))
+    in_order : (front n o ts : List ℕ) → (front ++ n ++ o) ++ ts ≡ front ++ (n ++ (o ++ ts))
     in_order front n o ts = Prim.simp append_assoc
 
 -- ---- the lines
@@ -71,7 +108,7 @@ unfolding limit_text
 limit_apart d e us vs h =
     let opened = λ (x : Dual Fraction) (ts : List ℕ). in_order (row_text x.row) (codes " up ") (written 0 x.up) (codes " down ") (written 0 x.down) (codes "\n") ts in
     let row = rows_apart d.row e.row (codes "up " ++ (written 0 d.up ++ 32 ∷ (codes "down " ++ (written 0 d.down ++ 10 ∷ us)))) (codes "up " ++ (written 0 e.up ++ 32 ∷ (codes "down " ++ (written 0 e.down ++ 10 ∷ vs))))
-    (sym (opened d us) ∙ h ∙ opened e vs) in
+    (λ z. Prim.omega (arith, z)) (λ z. Prim.omega (arith, z)) (sym (opened d us) ∙ h ∙ opened e vs) in
     let up = named_apart (codes "up ") 0 32 d.up e.up _ _ (Prim.omega arith) row.1 in
     let down = named_apart (codes "down ") 0 10 d.down e.down us vs (Prim.omega arith) up.1 in
     (same_dual d e row.0 up.0 down.0, down.1)
@@ -138,7 +175,7 @@ entry_opened x ts =
 
 entry_apart : (p q : Entry) → IsEntry p → IsEntry q → (us vs : List ℕ) → entry_text p ++ us ≡ entry_text q ++ vs → (p ≡ q) × (us ≡ vs)
 entry_apart p q g h us vs e =
-    let row = rows_apart p.0.row q.0.row (behind_name p us) (behind_name q vs) (sym (entry_opened p us) ∙ e ∙ entry_opened q vs) in
+    let row = rows_apart p.0.row q.0.row (behind_name p us) (behind_name q vs) (λ z. Prim.omega (arith, z)) (λ z. Prim.omega (arith, z)) (sym (entry_opened p us) ∙ e ∙ entry_opened q vs) in
     let flow = named_apart (codes "flow ") mw_places 32 p.1.flow q.1.flow _ _ (Prim.omega arith) row.1 in
     let over = overs_apart (sign_of p.1.over) (sign_of q.1.over) p.1.over q.1.over (sign_of_is p.1.over _ refl) (sign_of_is q.1.over _ refl) g.over h.over (behind_up p us) (behind_up q vs) flow.1 in
     let up = named_apart (codes "up ") price_places 32 p.0.up q.0.up _ _ (Prim.omega arith) over.1 in

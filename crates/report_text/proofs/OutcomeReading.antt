@@ -1,7 +1,7 @@
 -- Equal reports are of equal outcomes, and what comes after them is then the same.
 use Rattle.std.specs.Prelude.{◌≡◌, ℕ, All, List, [], ◌∷◌, ◌++◌, codes, length, refl}
 use Rattle.std.specs.List.{flat_map}
-use Rattle.std.proofs.Common.{ap, sym, subst, ◌∙◌, arith, append_assoc}
+use Rattle.std.proofs.Common.{ap, sym, subst, ◌∙◌, arith, append_assoc, inr}
 use Rattle.std.proofs.lemmas.List.{append_cancel_left}
 use Rattle.std.proofs.lemmas.List.Elements.{All-map}
 use Rattle.fraction_theory.specs.Fraction.{Fraction}
@@ -21,11 +21,11 @@ use Rattle.market_model.specs.declared.answered.Outcome.TheVariants as outcome
 use Rattle.market_model.specs.declared.answered.Price.{Price}
 use Rattle.market_model.specs.declared.answered.Rent.{Rent}
 use Rattle.market_model.specs.Dispatch.{places, zero}
-use Rattle.market_model.specs.Optimality.{named_rows}
+use Rattle.market_model.specs.Optimality.{named_rows, unit_price}
 use Rattle.market_model.specs.RightAnswers.{IsRight, IsRightBy, dispatch_in, price_made, rent_of}
 use Rattle.market_model.proofs.RightFits.{fits_by_right}
 use Rattle.report_text.specs.Reports.{head_text, cleared_text, limit_text, bound_text, plain_energy_text, infeasible_text, op_text, range_text, report_text}
-use Rattle.report_text.specs.ReportLaws.{FitsReport, OutcomeFitsReport, ReportsApart, RightReportsApart}
+use Rattle.report_text.specs.ReportLaws.{FitsReport, MakesOwnPrices, OutcomeFitsReport, ReportsApart, RightReportsApart}
 use Rattle.report_text.proofs.Amounts.{head_of, two_apart, parts_line_apart}
 use Rattle.report_text.proofs.LimitReading.{EndsLimits, limits_apart}
 use Rattle.report_text.proofs.ReportReading.{same_duals, answers_apart}
@@ -111,6 +111,10 @@ pub reports_apart : ReportsApart
 reports_apart m a b p q e = (outcomes_apart m a b p q [] [] tt tt (ap (λ t. t ++ []) e)).0
 
 -- ---- right outcomes fit
+own_made : (m : Parts) (a : Answer Fraction) → IsRight m a → MakesOwnPrices m a
+unfolding unit_price
+own_made m a right = ap (λ (b : Answer Fraction). b.money.own) right.made
+
 answer_fits : (m : Parts) (a : Answer Fraction) → IsRight m a → FitsReport m a
 answer_fits m a right = record {
   fits = fits_by_right m a right;
@@ -118,6 +122,7 @@ answer_fits m a right = record {
       (All-map (λ (p : Price Fraction). p.energy ≡ a.duals.energy) (price_made m a.duals) (places (length m.buses)) (λ k d lt. refl));
   over = subst (All (λ (r : Rent Fraction). zero ≤ℚ r.over)) (sym (ap (λ (b : Answer Fraction). b.money.rents) right.made))
       (All-map (λ (r : Rent Fraction). zero ≤ℚ r.over) (rent_of m (dispatch_in a) a.duals) (named_rows m a.duals) (λ k d lt. (part_least _).0));
+  own = inr (own_made m a right);
 }
 
 pub outcome_fits : (P : Passed Fraction → Type 0) (m : Parts) (a : Outcome Fraction) → IsRightBy P m a → OutcomeFitsReport m a

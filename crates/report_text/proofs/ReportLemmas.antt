@@ -1,12 +1,15 @@
 -- The lines of a report, one place more.
-use Rattle.std.specs.Prelude.{◌≡◌, ℕ, ◌+◌, ◌<◌, ◌≤◌, List, [], ◌∷◌, ◌++◌, length, map, take, count_by, filter, Bool, true, false, if◌then◌else◌, refl}
+use Rattle.std.specs.Prelude.{◌≡◌, ◌==◌, ℕ, ◌+◌, ◌<◌, ◌≤◌, Option, None, List, [], ◌∷◌, ◌++◌, length, map, take, drop, count_by, filter, Bool, true, false, if◌then◌else◌, refl}
 use Rattle.std.specs.List.{flat_map, zip}
+use Rattle.std.specs.Map.{lookup}
 use Rattle.std.proofs.Common.{zero, suc, ap, sym, ◌∙◌, get_or, slice_get, Some, arith, append_assoc}
-use Rattle.std.proofs.lemmas.List.{flat_map_more, get_or-map, length-append, length-map, take_more, take_all, append-nil}
+use Rattle.std.proofs.lemmas.List.{drop_all, drop_more, flat_map_more, get_or-map, get_or_default, length-append, length-map, take_more, take_all, append-nil}
 use Rattle.std.proofs.lemmas.List.Elements.{filter-append}
 use Rattle.std.proofs.lemmas.List.FromFn.{length-range_with_len}
+use Rattle.std.proofs.lemmas.Map.Entries.{lookup_head, lookup_tail}
 use Rattle.std.proofs.lemmas.Slice.Zip.{firsts-zip, get_or-zip}
 use Rattle.std.proofs.lemmas.List.Sums.{length-filter, count_by-le-length}
+use Rattle.fraction_theory.specs.Fraction.{Fraction}
 use Rattle.market_model.specs.Dispatch.{places}
 use Rattle.market_model.proofs.MorePlaces.{places_more}
 
@@ -32,6 +35,28 @@ module _ {X : Type 0} (f : X → List ℕ) (start : List ℕ) (xs : List X) wher
 -- as many pairs as entries of two lists of one length
 pub length_of_pairs : {A B : Type 0} (xs : List A) (ys : List B) → length ys ≡ length xs → length (zip xs ys) ≡ length xs
 length_of_pairs xs ys e = sym (length-map (zip xs ys) (λ p. p.0)) ∙ ap length (firsts-zip xs ys e)
+
+-- ---- the own price of a unit, in a list beside that of the units that are lost
+-- what is found from i on
+abbrev pub own_from : List ℕ → List Fraction → ℕ → ℕ → Option Fraction
+own_from lost owns u i = lookup (λ v. v == u) (drop i (zip lost owns))
+
+module _ (lost : List ℕ) (owns : List Fraction) (same : length owns ≡ length lost) (u i : ℕ) where
+  own-step : (v : ℕ) (own : Fraction) → i < length lost → v ≡ get_or lost i v → own ≡ get_or owns i own → own_from lost owns u i ≡ lookup (λ w. w == u) ((v, own) ∷ drop (i + 1) (zip lost owns))
+  own-step v own lt at there =
+      let pair : ◌≡◌ {A = ℕ × Fraction} (get_or (zip lost owns) i (v, own)) (v, own) =
+      get_or-zip lost owns i (v, own) lt (Prim.omega (arith, lt, same)) ∙ ap (λ (z : ℕ). (z, get_or owns i own)) (sym at) ∙ ap (λ (z : Fraction). (v, z)) (sym there) in
+      ap (lookup (λ w. w == u)) (drop_more (zip lost owns) i (v, own) (Prim.omega (arith, lt, length_of_pairs lost owns same)) ∙ ap (λ (e : ℕ × Fraction). e ∷ drop (i + 1) (zip lost owns)) pair)
+
+  pub own-here : (v : ℕ) (own : Fraction) → i < length lost → v ≡ get_or lost i v → own ≡ get_or owns i own → (v == u) ≡ true → own_from lost owns u i ≡ Some own
+  own-here v own lt at there e = own-step v own lt at there ∙ lookup_head (λ w. w == u) (v, own) (drop (i + 1) (zip lost owns)) e
+
+  pub own-later : (v : ℕ) (own : Fraction) → i < length lost → v ≡ get_or lost i v → (v == u) ≡ false → own_from lost owns u i ≡ own_from lost owns u (i + 1)
+  own-later v own lt at e =
+      own-step v (get_or owns i own) lt at (get_or_default owns i own (get_or owns i own) (Prim.omega (arith, lt, same))) ∙ lookup_tail (λ w. w == u) (v, get_or owns i own) (drop (i + 1) (zip lost owns)) e
+
+  pub own-none : length lost ≤ i → own_from lost owns u i ≡ None
+  own-none le = ap (lookup (λ w. w == u)) (drop_all i (zip lost owns) (Prim.omega (arith, le, length_of_pairs lost owns same)))
 
 -- a text that grows by what each pair of entries of two lists gives
 pub pairs_more : {A B : Type 0} (f : A × B → List ℕ) (start : List ℕ) (xs : List A) (ys : List B) (before after : List ℕ) (k : ℕ) (x : A) (y : B)

@@ -1,9 +1,14 @@
 -- Equal reports of cleared markets are of equal answers, and what comes after them is then the same.
-use Rattle.std.specs.Prelude.{◌≡◌, ℕ, ◌+◌, ◌<◌, List, [], ◌∷◌, ◌++◌, length, codes, decimal, slice_index_or}
-use Rattle.std.specs.List.{AllByRecursion, flat_map, range_with_len}
-use Rattle.std.proofs.Common.{zero, suc, arith, ap, sym, ◌∙◌, subst, append_assoc}
-use Rattle.std.proofs.lemmas.List.{ext_get_or}
+use Rattle.std.specs.Prelude.{◌≡◌, ◌≢◌, ◌⊎◌, ◌==◌, ℕ, ◌+◌, ◌<◌, AllPairs, List, [], ◌∷◌, ◌++◌, true, false, length, map, codes, decimal, slice_index_or, Option, Some, None, refl}
+use Rattle.std.specs.List.{AllByRecursion, flat_map, range_with_len, zip}
+use Rattle.std.specs.Map.{lookup}
+use Rattle.std.proofs.Common.{zero, suc, arith, ap, sym, ◌∙◌, subst, append_assoc, get_or, inl, inr}
+use Rattle.std.proofs.lemmas.Bool.{eq-eqb, eqb-true, false_from_ne_true}
+use Rattle.std.proofs.lemmas.List.{append_cancel_left, ext_get_or}
+use Rattle.std.proofs.lemmas.Map.Entries.{lookup_head, lookup_tail}
+use Rattle.std.proofs.lemmas.Option.{same_Some}
 use Rattle.fraction_theory.specs.Fraction.{Fraction}
+use Rattle.exact_fraction.specs.Written.{written}
 use Rattle.market_data.specs.Scales.{money_places, mw_places, price_places}
 use Rattle.market_model.specs.declared.participants.Side.{Side}
 use Rattle.market_model.specs.declared.participants.Parts.{Parts}
@@ -12,14 +17,15 @@ use Rattle.market_model.specs.declared.answered.UnitPay.{UnitPay}
 use Rattle.market_model.specs.declared.answered.Load.{Load}
 use Rattle.market_model.specs.declared.answered.Dual.{Dual}
 use Rattle.market_model.specs.declared.answered.Duals.{Duals}
-use Rattle.market_model.specs.declared.answered.Rent.{Rent}
 use Rattle.market_model.specs.declared.answered.Money.{Money}
 use Rattle.market_model.specs.declared.answered.Answer.{Answer}
 use Rattle.market_model.specs.Dispatch.{zero as none, places, bus_at, unit_at, block_at}
+use Rattle.market_model.specs.LimitRows.{lost_unit}
+use Rattle.market_model.specs.Optimality.{unit_price}
 use Rattle.market_model.specs.RightAnswers.{mw_of, price_of, pay_of, load_of}
-use Rattle.report_text.specs.Reports.{side_text, block_number, head_text, bus_text, block_text, unit_text, load_text, surplus_text, bus_line_at, block_line_at, unit_line_at, load_line_at, lines_of_buses, lines_of_blocks, lines_of_limits, lines_of_units, lines_of_loads, cleared_text}
-use Rattle.report_text.specs.ReportLaws.{FitsReport}
-use Rattle.report_text.proofs.Amounts.{one_apart, two_apart}
+use Rattle.report_text.specs.Reports.{side_text, block_number, head_text, bus_text, block_text, own_of, own_text, unit_text, load_text, surplus_text, bus_line_at, block_line_at, unit_line_at, load_line_at, lines_of_buses, lines_of_blocks, lines_of_limits, lines_of_units, lines_of_loads, cleared_text}
+use Rattle.report_text.specs.ReportLaws.{FitsReport, LosesUnitsOnce, MakesOwnPrices}
+use Rattle.report_text.proofs.Amounts.{amount_apart, amount_ends, head_of, named_apart, one_apart, two_apart}
 use Rattle.report_text.proofs.LimitReading.{EndsLimits, rents_apart}
 
 head_apart : (w x e f : Fraction) (us vs : List ℕ) → head_text w e ++ us ≡ head_text x f ++ vs → (w ≡ x) × (e ≡ f) × (us ≡ vs)
@@ -45,11 +51,42 @@ same_pay p q e f =
     let make : Fraction → Fraction → UnitPay Fraction = λ v w. record { mw = v; paid = w } in
     ap (λ v. make v p.paid) e ∙ ap (make q.mw) f
 
-unit_apart : (row : ℕ) (p q : UnitPay Fraction) (us vs : List ℕ) → unit_text row p ++ us ≡ unit_text row q ++ vs → (p ≡ q) × (us ≡ vs)
+-- what stands behind what a unit is paid: its own price, or at once the end of the line
+abbrev own_behind : Option Fraction → List ℕ → List ℕ
+own_behind None ts = 10 ∷ ts
+own_behind (Some own) ts = 32 ∷ (codes "own " ++ (written price_places own ++ 10 ∷ ts))
+
+own_first : (own : Option Fraction) (ts : List ℕ) → own_text own ++ 10 ∷ ts ≡ own_behind own ts
+own_first None ts = refl
+own_first (Some own) ts = append_assoc (codes " own ") (written price_places own) (10 ∷ ts)
+
+owns_apart : (k : ℕ) (x y : Fraction) (s t : Option Fraction) (us vs : List ℕ) → written k x ++ own_behind s us ≡ written k y ++ own_behind t vs → (x ≡ y) × (s ≡ t) × (us ≡ vs)
+owns_apart k x y None None us vs e = let t = amount_apart k 10 x y us vs (Prim.omega arith) e in (t.0, refl, t.1)
+owns_apart k x y None (Some w) us vs e = let t = amount_ends k 10 32 x y us _ (Prim.omega arith) (Prim.omega arith) e in absurd (Prim.omega (arith, head_of 10 32 _ _ t.1))
+owns_apart k x y (Some v) None us vs e = let t = amount_ends k 32 10 x y _ vs (Prim.omega arith) (Prim.omega arith) e in absurd (Prim.omega (arith, head_of 32 10 _ _ t.1))
+owns_apart k x y (Some v) (Some w) us vs e =
+    let first = amount_apart k 32 x y _ _ (Prim.omega arith) e in
+    let second = named_apart (codes "own ") price_places 10 v w us vs (Prim.omega arith) first.1 in
+    (first.0, ap Some second.0, second.1)
+
+abbrev unit_front : ℕ → List ℕ
+unit_front row = codes "unit " ++ decimal row ++ codes " mw "
+
+unit_opened : (row : ℕ) (p : UnitPay Fraction) (own : Option Fraction) (ts : List ℕ)
+    → unit_text row p own ++ ts ≡ unit_front row ++ (written mw_places p.mw ++ 32 ∷ (codes "paid " ++ (written money_places p.paid ++ own_behind own ts)))
 unfolding unit_text
-unit_apart row p q us vs h =
-    let t = two_apart (codes "unit " ++ decimal row ++ codes " mw ") mw_places money_places 32 (codes "paid ") p.mw q.mw p.paid q.paid us vs (Prim.omega arith) h in
-    (same_pay p q t.0 t.1, t.2)
+unit_opened row p own ts =
+    in_order (codes "unit ") (decimal row) (codes " mw ") (written mw_places p.mw) (codes " paid ") (written money_places p.paid) (own_text own) (codes "\n") ts
+    ∙ ap (λ o. unit_front row ++ (written mw_places p.mw ++ (codes " paid " ++ (written money_places p.paid ++ o)))) (own_first own ts)
+  where
+    in_order : (a b c x d y o n ts : List ℕ) → (a ++ b ++ c ++ x ++ d ++ y ++ o ++ n) ++ ts ≡ (a ++ b ++ c) ++ (x ++ (d ++ (y ++ (o ++ (n ++ ts)))))
+    in_order a b c x d y o n ts = Prim.simp append_assoc
+
+unit_apart : (row : ℕ) (p q : UnitPay Fraction) (s t : Option Fraction) (us vs : List ℕ) → unit_text row p s ++ us ≡ unit_text row q t ++ vs → ((p ≡ q) × (s ≡ t)) × (us ≡ vs)
+unit_apart row p q s t us vs h =
+    let mw = named_apart (unit_front row) mw_places 32 p.mw q.mw _ _ (Prim.omega arith) (sym (unit_opened row p s us) ∙ h ∙ unit_opened row q t vs) in
+    let rest = owns_apart money_places p.paid q.paid s t us vs (append_cancel_left (codes "paid ") _ _ mw.1) in
+    ((same_pay p q mw.0 rest.0, rest.1), rest.2)
 
 same_load : (p q : Load Fraction) → p.mw ≡ q.mw → p.pays ≡ q.pays → p ≡ q
 same_load p q e f =
@@ -105,11 +142,48 @@ same_duals d e p q =
     let make : Fraction → List (Dual Fraction) → Duals Fraction = λ u v. record { energy = u; limits = v } in
     ap (λ u. make u d.limits) p ∙ ap (make e.energy) q
 
-same_money : (d e : Money Fraction) → d.units ≡ e.units → d.loads ≡ e.loads → d.rents ≡ e.rents → d.surplus ≡ e.surplus → d ≡ e
-same_money d e p q r s =
-    let make : List (UnitPay Fraction) → List (Load Fraction) → List (Rent Fraction) → Fraction → Money Fraction = λ t u v w. record { units = t; loads = u; rents = v; surplus = w } in
-    ap (λ t. make t d.loads d.rents d.surplus) p ∙ ap (λ u. make e.units u d.rents d.surplus) q
-    ∙ ap (λ v. make e.units e.loads v d.surplus) r ∙ ap (make e.units e.loads e.rents) s
+same_money : (d e : Money Fraction) → d.units ≡ e.units → d.own ≡ e.own → d.loads ≡ e.loads → d.rents ≡ e.rents → d.surplus ≡ e.surplus → d ≡ e
+same_money d e p o q r s = λ i. record { units = p i; own = o i; loads = q i; rents = r i; surplus = s i }
+
+-- ---- own prices
+-- prices of one list of units, none of which is there twice, are one where they are the same by each unit
+owns_by_unit : (lost : List ℕ) (ps qs : List Fraction) → length ps ≡ length lost → length qs ≡ length lost → AllPairs (λ a b. a ≢ b) lost
+    → ((k d : ℕ) → k < length lost → lookup (λ u. u == get_or lost k d) (zip lost ps) ≡ lookup (λ u. u == get_or lost k d) (zip lost qs)) → ps ≡ qs
+owns_by_unit [] [] [] p q once same = refl
+owns_by_unit [] (x ∷ ps) qs p q once same = absurd (Prim.omega (arith, p))
+owns_by_unit [] [] (y ∷ qs) p q once same = absurd (Prim.omega (arith, q))
+owns_by_unit (u ∷ lost) [] qs p q once same = absurd (Prim.omega (arith, p))
+owns_by_unit (u ∷ lost) (x ∷ ps) [] p q once same = absurd (Prim.omega (arith, q))
+owns_by_unit (u ∷ lost) (x ∷ ps) (y ∷ qs) p q once same =
+    let it : (u == u) ≡ true = eq-eqb u u refl in
+    let first = sym (lookup_head (λ v. v == u) (u, x) (zip lost ps) it) ∙ same 0 u (Prim.omega arith) ∙ lookup_head (λ v. v == u) (u, y) (zip lost qs) it in
+    let rest = owns_by_unit lost ps qs (Prim.omega (arith, p)) (Prim.omega (arith, q)) (λ i j d lt within. once (suc i) (suc j) d (Prim.omega (arith, lt)) (Prim.omega (arith, within))) (λ k d lt.
+    let other : (u == get_or lost k d) ≡ false = false_from_ne_true _ (λ e. once 0 (suc k) d (Prim.omega arith) (Prim.omega (arith, lt)) (eqb-true u (get_or lost k d) e)) in
+    sym (lookup_tail (λ v. v == get_or lost k d) (u, x) (zip lost ps) other) ∙ same (suc k) d (Prim.omega (arith, lt)) ∙ lookup_tail (λ v. v == get_or lost k d) (u, y) (zip lost qs) other) in
+    let head : x ≡ y = same_Some x y first in
+    Prim.cc (head, rest)
+
+owns_told : (m : Parts) (a b : Answer Fraction) → FitsReport m a → FitsReport m b → LosesUnitsOnce m → AllByRecursion (λ k. own_of m a k ≡ own_of m b k) (places (length m.units)) → a.money.own ≡ b.money.own
+owns_told m a b p q told all =
+    owns_by_unit m.unit_outages a.money.own b.money.own p.fits.money.own q.fits.money.own told.once
+    (λ k d lt. at_places (λ u. own_of m a u ≡ own_of m b u) (length m.units) (get_or m.unit_outages k d) all (told.each k d lt))
+
+same_owns : (m : Parts) (a b : Answer Fraction) → FitsReport m a → FitsReport m b → a.duals ≡ b.duals → AllByRecursion (λ k. own_of m a k ≡ own_of m b k) (places (length m.units)) → a.money.own ≡ b.money.own
+same_owns m a b p q duals all = by p.own q.own
+  where
+    by : LosesUnitsOnce m ⊎ MakesOwnPrices m a → LosesUnitsOnce m ⊎ MakesOwnPrices m b → a.money.own ≡ b.money.own
+    by (inl told) other = owns_told m a b p q told all
+    by (inr made) (inl told) = owns_told m a b p q told all
+    by (inr made) (inr too) = made ∙ ap (λ (d : Duals Fraction). map (λ k. unit_price m d (lost_unit m k)) (places (length m.unit_outages))) duals ∙ sym too
+
+-- two things that hold of each
+firsts : (P Q : ℕ → Type 0) (ks : List ℕ) → AllByRecursion (λ k. P k × Q k) ks → AllByRecursion P ks
+firsts P Q [] h = tt
+firsts P Q (k ∷ ks) h = (h.0.0, firsts P Q ks h.1)
+
+seconds : (P Q : ℕ → Type 0) (ks : List ℕ) → AllByRecursion (λ k. P k × Q k) ks → AllByRecursion Q ks
+seconds P Q [] h = tt
+seconds P Q (k ∷ ks) h = (h.0.1, seconds P Q ks h.1)
 
 same_answer : (a b : Answer Fraction) → a.dispatch ≡ b.dispatch → a.duals ≡ b.duals → a.prices ≡ b.prices → a.welfare ≡ b.welfare → a.money ≡ b.money → a ≡ b
 same_answer a b p q r s t =
@@ -120,9 +194,9 @@ same_answer a b p q r s t =
     ∙ ap (make b.dispatch b.duals b.prices b.welfare) t
 
 -- ---- what follows the lines of limits
-unit_ends : (row : ℕ) (pay : UnitPay Fraction) (us : List ℕ) → EndsLimits (unit_text row pay ++ us)
+unit_ends : (row : ℕ) (pay : UnitPay Fraction) (own : Option Fraction) (us : List ℕ) → EndsLimits (unit_text row pay own ++ us)
 unfolding unit_text
-unit_ends row pay us = λ e. Prim.omega (arith, e)
+unit_ends row pay own us = λ e. Prim.omega (arith, e)
 
 load_ends : (n : ℕ) (load : Load Fraction) (us : List ℕ) → EndsLimits (load_text n load ++ us)
 unfolding load_text
@@ -142,7 +216,7 @@ last_lines m a us = lines_of_units m a ++ (lines_of_loads m a ++ (surplus_text a
 
 last_ends : (m : Parts) (a : Answer Fraction) (us : List ℕ) → EndsLimits (last_lines m a us)
 last_ends m a us =
-    lines_end (unit_line_at m a) (λ k. unit_ends (unit_at m k).row (pay_of a k)) (places (length m.units)) (lines_of_loads m a ++ (surplus_text a.money.surplus ++ us))
+    lines_end (unit_line_at m a) (λ k. unit_ends (unit_at m k).row (pay_of a k) (own_of m a k)) (places (length m.units)) (lines_of_loads m a ++ (surplus_text a.money.surplus ++ us))
     (lines_end (load_line_at m a) (λ k. load_ends (bus_at m k).number (load_of a k)) (places (length m.buses)) (surplus_text a.money.surplus ++ us) (surplus_ends a.money.surplus us))
 
 in_order : (h b k r u l s us : List ℕ) → (h ++ b ++ k ++ r ++ u ++ l ++ s) ++ us ≡ h ++ (b ++ (k ++ (r ++ (u ++ (l ++ (s ++ us))))))
@@ -161,16 +235,20 @@ answers_apart m a b p q us vs e =
     let dispatch = lines_apart (block_line_at m a) (block_line_at m b) (λ k. mw_of a k ≡ mw_of b k)
     (λ k. block_apart (unit_at m (block_at m k).unit).row (block_at m k).side (block_number m k) (mw_of a k) (mw_of b k)) blocks _ _ prices.1 in
     let rents = rents_apart a.duals.limits b.duals.limits a.money.rents b.money.rents p.fits.money.rents q.fits.money.rents p.over q.over (last_lines m a us) (last_lines m b vs) (last_ends m a us) (last_ends m b vs) dispatch.1 in
-    let pays = lines_apart (unit_line_at m a) (unit_line_at m b) (λ k. pay_of a k ≡ pay_of b k) (λ k. unit_apart (unit_at m k).row (pay_of a k) (pay_of b k)) units _ _ rents.2 in
+    let pays = lines_apart (unit_line_at m a) (unit_line_at m b) (λ k. (pay_of a k ≡ pay_of b k) × (own_of m a k ≡ own_of m b k)) (λ k. unit_apart (unit_at m k).row (pay_of a k) (pay_of b k) (own_of m a k) (own_of m b k)) units _ _ rents.2 in
+    let paid = firsts (λ k. pay_of a k ≡ pay_of b k) (λ k. own_of m a k ≡ own_of m b k) units pays.0 in
+    let owns = seconds (λ k. pay_of a k ≡ pay_of b k) (λ k. own_of m a k ≡ own_of m b k) units pays.0 in
+    let duals = same_duals a.duals b.duals head.1 rents.0 in
     let loads = lines_apart (load_line_at m a) (load_line_at m b) (λ k. load_of a k ≡ load_of b k) (λ k. load_apart (bus_at m k).number (load_of a k) (load_of b k)) buses _ _ pays.1 in
     let last = surplus_apart a.money.surplus b.money.surplus us vs loads.1 in (
       same_answer a b
           (same_entries none a.dispatch b.dispatch (length m.blocks) p.fits.dispatch q.fits.dispatch dispatch.0)
-          (same_duals a.duals b.duals head.1 rents.0)
+          duals
           (same_prices m a b p q head.1 prices.0)
           head.0
           (same_money a.money b.money
-          (same_entries (record { mw = none; paid = none }) a.money.units b.money.units (length m.units) p.fits.money.units q.fits.money.units pays.0)
+          (same_entries (record { mw = none; paid = none }) a.money.units b.money.units (length m.units) p.fits.money.units q.fits.money.units paid)
+          (same_owns m a b p q duals owns)
           (same_entries (record { mw = none; pays = none }) a.money.loads b.money.loads (length m.buses) p.fits.money.loads q.fits.money.loads loads.0)
           rents.1
           last.0),

@@ -1,22 +1,35 @@
 -- A report has one reading.
-use Rattle.std.specs.Prelude.{◌≡◌, All}
+use Rattle.std.specs.Prelude.{◌≡◌, ◌≢◌, ◌⊎◌, ◌<◌, All, AllPairs, length, map}
 use Rattle.fraction_theory.specs.Fraction.{Fraction}
 use Rattle.fraction_theory.specs.Order.{◌≤ℚ◌}
 use Rattle.market_model.specs.declared.participants.Parts.{Parts}
 use Rattle.market_model.specs.declared.answered.Answer.{Answer}
 use Rattle.market_model.specs.declared.answered.Outcome.{Outcome}
 use Rattle.market_model.specs.declared.answered.Outcome.TheVariants as outcome
-use Rattle.market_model.specs.Dispatch.{zero}
+use Rattle.market_model.specs.Dispatch.{places, zero}
 use Rattle.market_model.specs.Fitting.{FitsMarket}
+use Rattle.market_model.specs.LimitRows.{lost_unit}
+use Rattle.market_model.specs.Optimality.{unit_price}
 use Rattle.market_model.specs.RightAnswers.{IsRightBy}
 use Rattle.report_text.specs.Reports.{report_text}
 
+-- each outage of a unit is of a unit of the market, and none is lost twice, as in every market
+pub record LosesUnitsOnce (m : Parts) : Type 0 where
+  pub each : All (λ u. u < length m.units) m.unit_outages
+  pub once : AllPairs (λ a b. a ≢ b) m.unit_outages
+
+-- own prices are those that the duals make
+abbrev pub MakesOwnPrices : Parts → Answer Fraction → Type 0
+MakesOwnPrices m a = a.money.own ≡ map (λ k. unit_price m a.duals (lost_unit m k)) (places (length m.unit_outages))
+
 -- An entry for each part of the market and a rent for each limit with duals, and each bus price made from the one price of energy. No flow
--- exceeds its limit by less than 0: a report is silent where it does not exceed it.
+-- exceeds its limit by less than 0: a report is silent where it does not exceed it. Each own price has the line of a unit of its own, or is
+-- what the duals make it.
 pub record FitsReport (m : Parts) (a : Answer Fraction) : Type 0 where
   pub fits : FitsMarket m a
   pub energy : All (λ p. p.energy ≡ a.duals.energy) a.prices
   pub over : All (λ r. zero ≤ℚ r.over) a.money.rents
+  pub own : LosesUnitsOnce m ⊎ MakesOwnPrices m a
 
 -- an answer in an outcome does
 abbrev pub OutcomeFitsReport : Parts → Outcome Fraction → Type 0

@@ -1,6 +1,7 @@
 -- The report of what a clear came to, line by line.
-use Rattle.std.specs.Prelude.{ℕ, ◌+◌, Bool, ◌&&◌, ◌==◌, List, [], ◌++◌, length, count_by, codes, decimal, if◌then◌else◌}
+use Rattle.std.specs.Prelude.{ℕ, ◌+◌, Bool, ◌&&◌, ◌==◌, List, [], ◌++◌, length, count_by, codes, decimal, if◌then◌else◌, Option, Some, None}
 use Rattle.std.specs.List.{flat_map, zip}
+use Rattle.std.specs.Map.{lookup}
 use Rattle.fraction_theory.specs.Fraction.{Fraction}
 use Rattle.fraction_theory.specs.Signs.{sign_of}
 use Rattle.fraction_theory.specs.declared.Sign.{Sign}
@@ -52,13 +53,17 @@ bus_text number price = codes "bus " ++ decimal number ++ codes " price " ++ wri
 unfoldable pub block_text : ℕ → Side → ℕ → Fraction → List ℕ
 block_text row side number mw = codes "block " ++ decimal row ++ side_text side ++ decimal number ++ codes " mw " ++ written mw_places mw ++ codes "\n"
 
--- a limit in the base, or after the loss of a branch
-abbrev pub outage_text : ℕ → List ℕ
-outage_text row = if row == 0 then codes " base" else codes " after " ++ number_text row
+-- what is lost, behind this word; nothing where nothing is
+abbrev pub loss_text : List ℕ → ℕ → List ℕ
+loss_text word row = if row == 0 then [] else word ++ number_text row
+
+-- a limit in the base, or after the loss of a branch or a unit
+abbrev pub outage_text : ℕ → ℕ → List ℕ
+outage_text outage unit = if (outage == 0) && (unit == 0) then codes " base" else loss_text (codes " after ") outage ++ loss_text (codes " lost ") unit
 
 -- the limit of a branch
 unfoldable pub row_text : RowId → List ℕ
-row_text id = codes "limit " ++ number_text id.branch ++ outage_text id.outage
+row_text id = codes "limit " ++ number_text id.branch ++ outage_text id.outage id.unit
 
 -- by how much a flow exceeds its limit, where it does
 abbrev pub over_text_by : Sign → Fraction → List ℕ
@@ -73,9 +78,14 @@ over_text over = over_text_by (sign_of over) over
 unfoldable pub rent_text : Dual Fraction → Rent Fraction → List ℕ
 rent_text d r = row_text d.row ++ codes " flow " ++ written mw_places r.flow ++ over_text r.over ++ codes " up " ++ written price_places d.up ++ codes " down " ++ written price_places d.down ++ codes " rent " ++ written money_places r.rent ++ codes "\n"
 
--- a unit's output and what it is paid
-unfoldable pub unit_text : ℕ → UnitPay Fraction → List ℕ
-unit_text row pay = codes "unit " ++ decimal row ++ codes " mw " ++ written mw_places pay.mw ++ codes " paid " ++ written money_places pay.paid ++ codes "\n"
+-- an own price, where there is one
+abbrev pub own_text : Option Fraction → List ℕ
+own_text None = []
+own_text (Some own) = codes " own " ++ written price_places own
+
+-- a unit's output and what it is paid, with its own price where an outage loses it
+unfoldable pub unit_text : ℕ → UnitPay Fraction → Option Fraction → List ℕ
+unit_text row pay own = codes "unit " ++ decimal row ++ codes " mw " ++ written mw_places pay.mw ++ codes " paid " ++ written money_places pay.paid ++ own_text own ++ codes "\n"
 
 -- a bus's demand and what it pays
 unfoldable pub load_text : ℕ → Load Fraction → List ℕ
@@ -92,8 +102,12 @@ bus_line_at m a i = bus_text (bus_at m i).number (price_of a i)
 abbrev pub block_line_at : Parts → Answer Fraction → ℕ → List ℕ
 block_line_at m a j = block_text (unit_at m (block_at m j).unit).row (block_at m j).side (block_number m j) (mw_of a j)
 
+-- the own price of the unit at a place, where an outage loses it
+abbrev pub own_of : Parts → Answer Fraction → ℕ → Option Fraction
+own_of m a u = lookup (λ lost. lost == u) (zip m.unit_outages a.money.own)
+
 abbrev pub unit_line_at : Parts → Answer Fraction → ℕ → List ℕ
-unit_line_at m a u = unit_text (unit_at m u).row (pay_of a u)
+unit_line_at m a u = unit_text (unit_at m u).row (pay_of a u) (own_of m a u)
 
 abbrev pub load_line_at : Parts → Answer Fraction → ℕ → List ℕ
 load_line_at m a i = load_text (bus_at m i).number (load_of a i)

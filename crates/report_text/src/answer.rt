@@ -1,8 +1,8 @@
 //! The report of a cleared market.
 
-ghost use Rattle.std.specs.Prelude.{◌≡◌, ◌<◌, ◌++◌, length, IfOk};
+ghost use Rattle.std.specs.Prelude.{◌≡◌, ◌<◌, ◌++◌, length, option_map, IfOk};
 ghost use Rattle.report_text.specs.Reports.{side_text, alike, block_number, head_text};
-ghost use Rattle.report_text.specs.Reports.{bus_text, block_text, unit_text, load_text};
+ghost use Rattle.report_text.specs.Reports.{bus_text, block_text, own_of, own_text, unit_text, load_text};
 ghost use Rattle.report_text.specs.Reports.{lines_of_buses, lines_of_blocks, lines_of_units, lines_of_loads, cleared_text};
 ghost use Rattle.market_model.specs.Valued.{price_at, unit_pay_at, load_at, answer_at};
 ghost use Rattle.market_model.specs.Fitting.{FitsMarket};
@@ -76,14 +76,43 @@ fn block_line<N: Exact>(
     text.word(b"\n")
 }
 
-/// A unit's output and what it is paid.
-fn unit_line<N: Exact>(text: &mut Text, row: u32, pay: &UnitPay<N>) -> Result<(), Memory>
-    ensures { IfOk result (λ _. text.new ≡ text.old ++ unit_text row (unit_pay_at N.value pay.now)) }
+/// The own price of the unit at a place, where an outage loses it.
+fn own_of<N: Exact>(market: &Market, answer: &Answer<N>, place: usize) -> Option<N>
+    requires { FitsMarket market.now answer.now }
+    ensures { option_map N.value result ≡ own_of market.now (answer_at N.value answer.now) place }
+{
+    for (outage, lost) in market.unit_outages().slice().iter().enumerate() {
+        if *lost == place {
+            return Some(*answer.money.own.at(outage));
+        }
+    }
+    None
+}
+
+/// An own price, where there is one.
+fn own_words<N: Exact>(text: &mut Text, own: Option<N>) -> Result<(), Memory>
+    ensures { IfOk result (λ _. text.new ≡ text.old ++ own_text (option_map N.value own)) }
+{
+    match own {
+        Some(price) => text.named(b" own ", price, PRICE_PLACES),
+        None => Ok(()),
+    }
+}
+
+/// A unit's output and what it is paid, with its own price where an outage loses it.
+fn unit_line<N: Exact>(
+    text: &mut Text,
+    row: u32,
+    pay: &UnitPay<N>,
+    own: Option<N>,
+) -> Result<(), Memory>
+    ensures { IfOk result (λ _. text.new ≡ text.old ++ unit_text row (unit_pay_at N.value pay.now) (option_map N.value own)) }
 {
     text.word(b"unit ")?;
     text.number(row as usize)?;
     text.named(b" mw ", pay.mw, MW_PLACES)?;
     text.named(b" paid ", pay.paid, MONEY_PLACES)?;
+    own_words(text, own)?;
     text.word(b"\n")
 }
 
@@ -127,7 +156,8 @@ fn unit_lines<N: Exact>(text: &mut Text, market: &Market, answer: &Answer<N>) ->
     ensures { IfOk result (λ _. text.new ≡ text.old ++ lines_of_units market.now (answer_at N.value answer.now)) }
 {
     for (place, unit) in market.units().slice().iter().enumerate() {
-        unit_line(text, unit.row, answer.money.units.at(place))?;
+        let own = own_of(market, answer, place);
+        unit_line(text, unit.row, answer.money.units.at(place), own)?;
     }
     Ok(())
 }

@@ -3,7 +3,7 @@
 ghost use Rattle.std.specs.Prelude.{◌≡◌, ◌++◌, length, map, IfOk};
 ghost use Rattle.std.specs.List.{flat_map};
 ghost use Rattle.exact_fraction.specs.Written.{number_text};
-ghost use Rattle.report_text.specs.Reports.{outage_text, over_text, row_text, rent_text, lines_of_limits, limit_text};
+ghost use Rattle.report_text.specs.Reports.{loss_text, outage_text, over_text, row_text, rent_text, lines_of_limits, limit_text};
 ghost use Rattle.market_model.specs.Valued.{dual_at, rent_at, answer_at};
 
 use exact_fraction::{Exact, Sign};
@@ -12,22 +12,33 @@ use market_model::{
     Answer, Dual, List, MONEY_PLACES, MW_PLACES, Memory, PRICE_PLACES, Rent, RowId,
 };
 
-/// The row of a branch.
-fn branch_words(text: &mut Text, row: u32) -> Result<(), Memory>
+/// A row of the branch matrix, or of the gen matrix.
+fn row_number(text: &mut Text, row: u32) -> Result<(), Memory>
     ensures { IfOk result (λ _. text.new ≡ text.old ++ number_text row) }
 {
     text.number(row as usize)
 }
 
-/// Whether a limit is of the base, or after which outage it is.
-fn outage_words(text: &mut Text, outage: u32) -> Result<(), Memory>
-    ensures { IfOk result (λ _. text.new ≡ text.old ++ outage_text outage) }
+/// What is lost, behind this word; nothing where nothing is.
+fn loss_words(text: &mut Text, word: &[u8], row: u32) -> Result<(), Memory>
+    ensures { IfOk result (λ _. text.new ≡ text.old ++ loss_text word.now row) }
 {
-    if outage == 0 {
+    if row == 0 {
+        return Ok(());
+    }
+    text.word(word)?;
+    row_number(text, row)
+}
+
+/// Whether a limit is of the base, or after the loss of which branch or unit it is.
+fn outage_words(text: &mut Text, outage: u32, unit: u32) -> Result<(), Memory>
+    ensures { IfOk result (λ _. text.new ≡ text.old ++ outage_text outage unit) }
+{
+    if outage == 0 && unit == 0 {
         return text.word(b" base");
     }
-    text.word(b" after ")?;
-    branch_words(text, outage)
+    loss_words(text, b" after ", outage)?;
+    loss_words(text, b" lost ", unit)
 }
 
 /// The name of a limit.
@@ -35,8 +46,8 @@ fn row_words(text: &mut Text, row: RowId) -> Result<(), Memory>
     ensures { IfOk result (λ _. text.new ≡ text.old ++ row_text row) }
 {
     text.word(b"limit ")?;
-    branch_words(text, row.branch)?;
-    outage_words(text, row.outage)
+    row_number(text, row.branch)?;
+    outage_words(text, row.outage, row.unit)
 }
 
 /// By how much a flow exceeds its limit; nothing where it does not.

@@ -1,6 +1,6 @@
 use Rattle.std.proofs.Common.{◌≡◌, ◌++◌, List, ℕ, IfOk, arith, subst}
 use Rattle.exact_fraction.proofs.Digits.{decimal_short}
-use Rattle.report_text.proofs.limits.branch_words.Goals as goal
+use Rattle.report_text.proofs.limits.row_number.Goals as goal
 
 pub returns : goal.returns
 returns c =

@@ -1,0 +1,192 @@
+//! The records of the table of outages of units.
+
+ghost use Rattle.std.specs.Prelude.{◌≡◌, ◌≢◌, ◌+◌, ◌<◌, ◌≤◌, ◌^◌, pos, ◌<ℤ◌, length, get_or, unsigned_abs, All, [], true, Ok, Err, IfOk, IfErr};
+ghost use Rattle.record_reading.specs.Rows.{read_rows};
+ghost use Rattle.record_reading.specs.Steps.{checked, fine};
+ghost use Rattle.market_data.specs.Scales.{most_factor};
+ghost use Rattle.outage_list.specs.Takings.{IsTaking, are_gen_rows, are_live, is_gen_row, is_live_unit, place_named, record_in, share_cell, stands, taking_faults, taking_in, unit_place};
+
+use crate::UnitOutageFault;
+use csv_table::Table;
+use market_data::{FACTOR_PLACES, MOST_FACTOR};
+use net_case::Network;
+use plain_list::List;
+use record_reading::{FrameFault, Why};
+use std::alloc::Global;
+
+/// A record as it is written.
+#[derive(Clone, Copy, Debug)]
+struct TakerRecord {
+    unit: i64,
+    taker: i64,
+    /// In 10^-6.
+    share: i64,
+}
+
+/// What a unit picks up of the output of a unit that is lost, both by their places among the live units.
+#[derive(Clone, Copy, Debug, PartialEq, Eq)]
+pub(crate) struct Taking {
+    pub(crate) lost: usize,
+    pub(crate) taker: usize,
+    /// In 10^-6.
+    pub(crate) share: i64,
+}
+
+/// The share in the third cell of a record.
+#[tactic(auto, unfolding(crate::specs::Takings::share_cell))]
+fn share_of(table: &Table, row: usize) -> Result<i64, UnitOutageFault>
+    requires { (row < length table.now) × (row + 2 < 2 ^ 64) }
+    ensures size { IfOk result (λ share. unsigned_abs share ≤ most_factor) }
+    ensures is { result ≡ share_cell (row + 2) (get_or table.now row []) }
+{
+    let share = table.number(row, 2, FACTOR_PLACES)?;
+    if share.unsigned_abs() > MOST_FACTOR {
+        return Err(UnitOutageFault::Frame(FrameFault::Cell {
+            line: row + 2,
+            col: 3,
+            why: Why::Bounds,
+        }));
+    }
+    Ok(share)
+}
+
+/// The numbers of a record, from left to right.
+#[tactic(auto, unfolding(crate::specs::Takings::record_in))]
+fn record_of(table: &Table, row: usize) -> Result<TakerRecord, UnitOutageFault>
+    requires { (row < length table.now) × (row + 2 < 2 ^ 64) }
+    ensures size { IfOk result (λ numbers. unsigned_abs numbers.share ≤ most_factor) }
+    ensures is { result ≡ record_in (row + 2) (get_or table.now row []) }
+{
+    let unit = table.number(row, 0, 0)?;
+    let taker = table.number(row, 1, 0)?;
+    let share = share_of(table, row)?;
+    Ok(TakerRecord { unit, taker, share })
+}
+
+/// Whether a gen row has this number.
+fn is_gen_row(network: &Network, number: i64) -> bool
+    ensures { result ≡ is_gen_row network.now number }
+{
+    let last = network.gen_rows() as i64;
+    1 <= number && number <= last
+}
+
+/// The place of the live unit of this row.
+#[tactic(auto, unfolding(crate::specs::Takings::unit_place))]
+fn unit_place(network: &Network, number: i64) -> Option<usize>
+    ensures { result ≡ unit_place network.now number }
+{
+    let units = network.units().slice();
+    units.iter().position(|unit| i64::from(unit.row) == number)
+}
+
+/// Whether a live unit has this row.
+fn is_live_unit(network: &Network, number: i64) -> bool
+    ensures { result ≡ is_live_unit network.now number }
+{
+    unit_place(network, number).is_some()
+}
+
+/// The place of the unit of a row that a live unit has.
+fn place_named(network: &Network, number: i64) -> usize
+    requires { is_live_unit network.now number ≡ true }
+    ensures live { result < length network.now.units }
+    ensures is { result ≡ place_named network.now number }
+{
+    match unit_place(network, number) {
+        Some(place) => place,
+        None => 0,
+    }
+}
+
+/// Whether both units of a record are gen rows.
+fn are_gen_rows(network: &Network, numbers: TakerRecord) -> bool
+    ensures { result ≡ are_gen_rows network.now numbers }
+{
+    is_gen_row(network, numbers.unit) && is_gen_row(network, numbers.taker)
+}
+
+/// Whether both units of a record are live.
+fn are_live(network: &Network, numbers: TakerRecord) -> bool
+    ensures { result ≡ are_live network.now numbers }
+{
+    is_live_unit(network, numbers.unit) && is_live_unit(network, numbers.taker)
+}
+
+/// Refuses a record that names no two live units, or has no share.
+#[tactic(auto, unfolding(crate::specs::Takings::taking_faults))]
+fn check_taking(
+    network: &Network,
+    numbers: TakerRecord,
+    line: usize,
+) -> Result<(), UnitOutageFault>
+    ensures live { IfOk result (λ _. are_live network.now numbers ≡ true) }
+    ensures share { IfOk result (λ _. pos 0 <ℤ numbers.share) }
+    ensures is { result ≡ checked (taking_faults network.now line numbers) fine }
+{
+    if !are_gen_rows(network, numbers) {
+        return Err(UnitOutageFault::NoUnit { line });
+    }
+    if !are_live(network, numbers) {
+        return Err(UnitOutageFault::DeadUnit { line });
+    }
+    if numbers.unit == numbers.taker {
+        return Err(UnitOutageFault::SameUnit { line });
+    }
+    if numbers.share <= 0 {
+        return Err(UnitOutageFault::Share { line });
+    }
+    Ok(())
+}
+
+/// Whether a record of these units stands among others.
+fn stands(done: &[Taking], taking: Taking) -> bool
+    ensures { result ≡ stands done.now taking }
+{
+    done.iter()
+        .any(|other| other.lost == taking.lost && other.taker == taking.taker)
+}
+
+/// What a record says, in the light of those before it.
+#[tactic(auto, unfolding(crate::specs::Takings::taking_in))]
+fn taking_of(
+    network: &Network,
+    done: &[Taking],
+    table: &Table,
+    row: usize,
+) -> Result<Taking, UnitOutageFault>
+    requires { (row < length table.now) × (row + 2 < 2 ^ 64) }
+    ensures kept { IfOk result (IsTaking (length network.now.units)) }
+    ensures is { result ≡ taking_in network.now done.now (row + 2) (get_or table.now row []) }
+{
+    let numbers = record_of(table, row)?;
+    check_taking(network, numbers, row + 2)?;
+    let taking = Taking {
+        lost: place_named(network, numbers.unit),
+        taker: place_named(network, numbers.taker),
+        share: numbers.share,
+    };
+    if stands(done, taking) {
+        return Err(UnitOutageFault::Twice { line: row + 2 });
+    }
+    Ok(taking)
+}
+
+/// What the records of a table say.
+pub(crate) fn takings_of(
+    alloc: Global,
+    network: &Network,
+    table: &Table,
+) -> Result<List<Taking>, UnitOutageFault>
+    ensures count { IfOk result (λ takings. length takings ≤ length table.now) }
+    ensures kept { IfOk result (All (IsTaking (length network.now.units))) }
+    ensures ok { IfOk result (λ takings. read_rows (taking_in network.now) [] 2 table.now ≡ Ok takings) }
+    ensures err { IfErr result (λ fault. fault ≢ UnitOutageFault.Memory → read_rows (taking_in network.now) [] 2 table.now ≡ Err fault) }
+{
+    let mut takings = List::new(alloc);
+    for row in 0..table.len() {
+        let taking = taking_of(network, takings.slice(), table, row)?;
+        takings.push(taking)?;
+    }
+    Ok(takings)
+}
