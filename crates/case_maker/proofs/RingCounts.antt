@@ -1,10 +1,11 @@
 -- How many limits a ring has.
-use Rattle.std.proofs.Common.{◌≡◌, ◌<◌, ◌+◌, ◌-◌, ◌*◌, ◌∙◌, ℕ, Bool, true, false, not, ◌==◌, ◌&&◌, is_some, length, map, filter, flat_map, get_or, refl, ap, sym, subst, arith, eq-eqb, ne_eqb, length-append}
+use Rattle.std.proofs.Common.{◌≡◌, ◌<◌, ◌+◌, ◌-◌, ◌*◌, ◌∙◌, ℕ, Bool, true, false, not, ◌==◌, ◌&&◌, is_some, length, map, filter, flat_map, get_or, refl, ap, sym, subst, arith, eq-eqb, ne_eqb, length-append, List, ◌++◌}
 use Rattle.std.proofs.lemmas.List.{length-map}
 use Rattle.std.proofs.lemmas.List.Folds.{flat_map-map}
 use Rattle.std.proofs.lemmas.List.FromFn.{length-map-range_with_len, length-range_with_len}
 use Rattle.std.proofs.lemmas.List.Sums.{position_or_len_is}
 use Rattle.std.specs.List.{position_or_len}
+use Rattle.std.proofs.lemmas.List.{append-nil}
 use Rattle.market_model.specs.declared.participants.Line.{Line}
 use Rattle.market_model.specs.declared.participants.Parts.{Parts}
 use Rattle.market_model.specs.Dispatch.{places, line_at}
@@ -74,7 +75,8 @@ module _ (n seed : ℕ) where
       let one : length (rows_of m (lost_in (i + 1))) ≡ length (rows_of m (Branch i)) = ap (λ (k : ℕ). length (rows_of m (Branch k))) (row-place i lt) in
       let others : length (rows_of m (Branch i)) + 1 ≡ n = after-count i lt in
       omega (arith, one, others)) in
-      let both : length (rows m) ≡ length (rows_of m Base) + length (flat_map (rows_of m) (map Branch (lost_lines m))) = length-append (rows_of m Base) (flat_map (rows_of m) (map Branch (lost_lines m))) in
+      let both : length (rows m) ≡ length (rows_of m Base) + length (flat_map (rows_of m) (map Branch (lost_lines m))) =
+      ap (λ (causes : List Cause). length (rows_of m Base ++ flat_map (rows_of m) causes)) (append-nil (map Branch (lost_lines m))) ∙ length-append (rows_of m Base) (flat_map (rows_of m) (map Branch (lost_lines m))) in
       let base : length (rows_of m Base) ≡ n = base-count in
       square (n - 1) n (length (rows m)) (omega (arith, some)) (omega (arith, both, base, after))
     where

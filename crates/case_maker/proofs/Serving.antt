@@ -20,8 +20,9 @@ use Rattle.market_model.specs.declared.participants.Parts.{Parts}
 use Rattle.market_model.specs.Dispatch.{Dispatch, IsDispatch, accepted, balance, block_at, block_bus, blocks_at, demand, injection, line_at, places, raised_by, signed_by_side, unit_at, units_at, zero, dispatch_by}
 use Rattle.market_model.specs.declared.limits.Cause.{Cause}
 use Rattle.market_model.specs.declared.limits.Row.{Row}
-use Rattle.market_model.specs.declared.limits.Cause.TheVariants.{Base, Branch}
-use Rattle.market_model.specs.LimitRows.{flow, limit, limit_under, line_flow, loss_factor, mw_or_zero, row_flow, shift_factor}
+use Rattle.market_model.specs.declared.limits.Cause.TheVariants.{Base, Branch, UnitOutage}
+use Rattle.market_model.specs.LimitRows.{IsCauseOf, flow, limit, limit_under, line_flow, loss_factor, mw_or_zero, shift_factor}
+use Rattle.market_model.proofs.RowMembers.{at_places}
 use Rattle.market_model.specs.Market.{IsMarket}
 use Rattle.market_model.specs.Optimality.{Feasible}
 use Rattle.market_model.proofs.Excesses.{within_most}
@@ -177,9 +178,10 @@ module _ (n seed : ℕ) where
       ∙ sum_by-nil (places (length m.buses)))
       ∙ nil_plus ring_ℚ zero
 
-  no-flow : (l : ℕ) (cause : Cause) → row_flow m (injection m serving) (record { line = l; cause = cause }) ≡ zero
-  no-flow l Base = ap (λ a. a +ℚ zero) (no-line_flow l) ∙ nil_plus ring_ℚ zero
-  no-flow l (Branch lost) =
+  no-flow : (l : ℕ) (cause : Cause) → IsCauseOf m cause → flow m serving (record { line = l; cause = cause }) ≡ zero
+  no-flow l Base is = ap (λ a. a +ℚ zero) (no-line_flow l) ∙ nil_plus ring_ℚ zero
+  no-flow l (UnitOutage k) is = absurd (omega (arith, is))
+  no-flow l (Branch lost) is =
       ap₂ (λ a b. a +ℚ (loss_factor m l lost *ℚ b +ℚ zero)) (no-line_flow l) (no-line_flow lost)
       ∙ ap (λ t. zero +ℚ (t +ℚ zero)) (times_nil ring_ℚ (loss_factor m l lost))
       ∙ ap (λ t. zero +ℚ t) (nil_plus ring_ℚ zero)
@@ -188,9 +190,10 @@ module _ (n seed : ℕ) where
   limit-least : (l : ℕ) (cause : Cause) → zero ≤ℚ limit_under m l cause
   limit-least l Base = (lines-plain l).base
   limit-least l (Branch lost) = (lines-plain l).post
+  limit-least l (UnitOutage k) = (lines-plain l).post
 
-  within : (r : Row) → Within (limit m r) (flow m serving r)
-  within r = subst (Within (limit m r)) (sym (no-flow r.line r.cause)) (record {
+  within : (r : Row) → IsCauseOf m r.cause → Within (limit m r) (flow m serving r)
+  within r is = subst (Within (limit m r)) (sym (no-flow r.line r.cause is)) (record {
     above = by_le1 (limit m r ∷ []) (pneg (at 0)) pnil pone pnil (at 0) NonNeg-one (limit-least r.line r.cause) refl;
     below = limit-least r.line r.cause;
   })
@@ -199,5 +202,5 @@ module _ (n seed : ℕ) where
   is-feasible market = record {
     blocks = is-dispatch;
     balanced = in-balance;
-    limits = λ r c. within_most m market r (flow m serving r) (within r);
+    limits = λ r c. within_most m market r (flow m serving r) (within r (at_places m market r c).1);
   }

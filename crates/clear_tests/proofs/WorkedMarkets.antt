@@ -6,6 +6,7 @@ use Rattle.std.proofs.lemmas.List.Elements.{All-cons, All-nil}
 use Rattle.market_data.specs.Participants.{IsBus, IsUnit}
 use Rattle.market_data.specs.declared.participants.Bus.{Bus}
 use Rattle.market_data.specs.declared.participants.Unit as unit
+use Rattle.market_model.proofs.PlainMarkets.{no_unit_outages}
 use Rattle.market_model.specs.declared.participants.Block.{Block}
 use Rattle.market_model.specs.declared.participants.Line.{Line}
 use Rattle.market_model.specs.declared.participants.Parts.{Parts}
@@ -80,6 +81,7 @@ worked_is_market = record {
   outages_distinct = one_is_market.outages_distinct;
   shift = one_is_market.shift;
   loss = one_is_market.loss;
+  unit_outages = no_unit_outages 2;
 }
   where
     unit_fits : (row bus : ℕ) → 1 ≤ row → bus < 3 → IsUnit 3 (unit_of row bus)

@@ -102,6 +102,7 @@ fn worst_limits<N: Exact + Debug>(alloc: Global) -> Result<bool, Fail> {
     let named = RowId {
         branch: 2,
         outage: 0,
+        unit: 0,
     };
     Ok(broken == Some(named) && held == None)
 }

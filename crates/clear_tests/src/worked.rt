@@ -148,6 +148,8 @@ pub(crate) fn limited(alloc: Global) -> Result<Market, Memory> {
         outages: listed(alloc, &[1])?,
         shift: listed(alloc, &SHIFT)?,
         loss: listed(alloc, &LOSS)?,
+        unit_outages: List::new(alloc),
+        pickups: List::new(alloc),
     };
     assemble(alloc, parts)
 }
@@ -210,5 +212,11 @@ pub(crate) fn is_answer<N: Exact>(
 
 /// Whether the limit of branch 2 alone is taken, in the base or after an outage.
 pub(crate) fn has_taken<N: Exact>(clearer: &Clearer<N>, outage: u32) -> bool {
-    clearer.taken() == 1 && clearer.taken_row(0) == RowId { branch: 2, outage }
+    clearer.taken() == 1
+        && clearer.taken_row(0)
+            == RowId {
+                branch: 2,
+                outage,
+                unit: 0,
+            }
 }

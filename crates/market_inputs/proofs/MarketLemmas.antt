@@ -12,7 +12,7 @@ use Rattle.market_model.specs.declared.participants.Line.{Line}
 use Rattle.market_model.specs.Lines.{IsPenalty}
 use Rattle.market_model.specs.Market.{IsLine, IsMarket, bare_parts}
 use Rattle.market_model.proofs.LinePenalties.{no_cost}
-use Rattle.market_model.proofs.PlainMarkets.{plain_market, distinct_by_rise}
+use Rattle.market_model.proofs.PlainMarkets.{no_unit_outages, plain_market, distinct_by_rise}
 use Rattle.net_case.specs.Networks.{LiveNetwork, IsNetwork, IsNetBranch, IsLimit}
 use Rattle.net_case.specs.NetworkReading.{unit_within}
 use Rattle.net_case.specs.declared.live_parts.NetBranch.{NetBranch}
@@ -135,4 +135,5 @@ clear-market network tables offered offsets penalties net lost given tabled smal
       outages_distinct = lost.are.distinct;
       shift = rw count (factors_by-are (λ branch bus. market_factor (factor_at tables.shift (branch.row, bus.number))) network.buses network.branches small_shift);
       loss = rw count (factors_by-are (λ branch other. market_factor (factor_at tables.loss (branch.row, other.row))) network.branches network.branches small_loss);
+      unit_outages = no_unit_outages (length offered.units);
     }

@@ -15,7 +15,7 @@ use crate::offers::{Offered, offer_table};
 use crate::stops::InputStop;
 use crate::tables::{Tables, check_cover, offset_table, penalty_table, read_tables};
 use factor_tables::{Offsets, Penalties};
-use market_model::{Market, Memory, Parts, assemble};
+use market_model::{List, Market, Memory, Parts, assemble};
 use market_tables::MarketTables;
 use net_case::{Network, PostRating};
 use std::alloc::Global;
@@ -47,6 +47,8 @@ fn limited_parts(
         outages: tables.outages,
         shift,
         loss,
+        unit_outages: List::new(alloc),
+        pickups: List::new(alloc),
     })
 }
 
