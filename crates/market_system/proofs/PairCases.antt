@@ -37,7 +37,7 @@ use Rattle.market_model.specs.Market.{IsMarket, IsPickup}
 use Rattle.market_model.specs.NamedSums.{SameSize, term_at, IsNextTerm, IsSumStep, IsRefusedIn, IsRefusal}
 use Rattle.market_model.specs.Optimality.{net_shadow_price, up_of, down_of, bus_price, own_terms, unit_price, welfare_terms}
 use Rattle.market_model.specs.Infeasibility.{block_weight, limit_terms, farkas_terms}
-use Rattle.market_model.specs.SumTables.{injection_at, balance_from_bus, balance_of_all, flow_of_line, flow_of_row, output_of_lost, limited_line, limited_unit, limited_row, FlowSum, flow_in_balance, flow_in_limits, offset_of_row, pickup_of_row, factor_at_bus, factor_of_pickup, output_of_unit, BusPriceSum, OwnPriceSum, own_price_of_unit, PriceSum, price_of_bus, price_of_unit, congestion_at, price_at, farkas_bound_of_all}
+use Rattle.market_model.specs.SumTables.{injection_at, balance_from_bus, balance_of_all, flow_of_line, flow_of_row, output_of_lost, limited_line, limited_unit, limited_row, FlowSum, flow_in_balance, flow_in_limits, offset_of_row, pickup_of_row, factor_at_bus, factor_of_pickup, output_of_unit, BusPriceSum, own_price_of_unit, PickupSum, PriceSum, price_of_bus, price_of_unit, congestion_at, price_at, farkas_bound_of_all}
 use Rattle.market_model.proofs.MarketSums.{block_unit-in, unit_bus-in}
 use Rattle.market_model.proofs.RowMembers.{at_places}
 use Rattle.market_system.specs.Growth.{Growth}
@@ -310,6 +310,9 @@ module _ (m : Parts) (taken g : List Row) (reached : Growth m taken g) (h : Choi
           let is_pickup = All-contains (IsPickup (length m.unit_outages) (length m.units)) m.pickups p market.unit_outages.pickups listed in
           inl (is_share p listed, alone (shift_factor m l (unit_at m p.taker).bus) (is_shift l (unit_at m p.taker).bus lt (unit_bus-in m market p.taker is_pickup.taker)))
 
+  pickup_scaled : IsMarket m → (r : Row) → Contains (rows m) r → (terms : List Term) → PickupSum m r terms → AreScaled Factor terms
+  pickup_scaled market r c _ (pickup_of_row k e) = pickups_scaled market r.line k (at_places m market r c).0
+
   -- the pickup factor of a row
   pickup_number : (r : Row) → Contains (rows m) r → (k : ℕ) → r.cause ≡ UnitOutage k → Number Factor (pickup_factor m r.line k)
   unfolding pickup_factor
@@ -438,8 +441,7 @@ module _ (m : Parts) (taken g : List Row) (reached : Growth m taken g) (h : Choi
   by_sum : IsMarket m → (kind : Option Kind) (terms : List Term) → NamedSum m g h kind terms → IsRefusedIn terms bound p → IsRangeOf m taken bound p
   by_sum market _ terms (offset_of r same c offset_of_row) = let s = at_places m market r c in by_steps Quantity terms (offset_of r terms c offset_of_row) (under_scaled Quantity (line_offset m) (λ l inside. is_line_offset l inside) r.line r.cause s.0 s.1)
   by_sum market _ terms (factor_of r same c (factor_at_bus i lt)) = let s = at_places m market r c in by_steps Factor terms (factor_of r terms c (factor_at_bus i lt)) (under_scaled Factor (λ k. shift_factor m k i) (λ k inside. is_shift k i inside lt) r.line r.cause s.0 s.1)
-  by_sum market _ terms (factor_of r same c (factor_of_pickup also (pickup_of_row k e))) =
-      by_steps Factor terms (factor_of r terms c (factor_of_pickup _ (pickup_of_row k e))) (pickups_scaled market r.line k (at_places m market r c).0)
+  by_sum market _ terms (factor_of r same c (factor_of_pickup also part)) = by_steps Factor terms (factor_of r terms c (factor_of_pickup terms part)) (pickup_scaled market r c terms part)
   by_sum market _ terms (of_flow x same injecting flow) = by_steps Quantity terms (of_flow x terms injecting flow) (flows_scaled market x injecting terms flow)
   by_sum market _ terms (output_of same best (output_of_unit u lt)) =
       by_steps Quantity terms (output_of terms best (output_of_unit u lt)) (tt, scaled_map Quantity (block_term m (choice_dispatch m g h)) (blocks_of m u) (λ j c. tt))
