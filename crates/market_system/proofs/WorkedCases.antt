@@ -10,10 +10,12 @@ use Rattle.market_model.specs.declared.answered.Load.{Load}
 use Rattle.market_model.specs.declared.answered.Price.{Price}
 use Rattle.market_model.specs.declared.answered.Rent.{Rent}
 use Rattle.market_model.specs.declared.answered.UnitPay.{UnitPay}
+use Rattle.market_model.specs.declared.participants.Block.{Block}
 use Rattle.market_model.specs.declared.participants.Parts.{Parts}
+use Rattle.market_model.specs.declared.participants.Side.TheVariants.{Sell}
 use Rattle.market_model.specs.Dispatch.{injection, balance, output, demand}
 use Rattle.market_model.specs.Infeasibility.{IsFarkas, farkas_bound}
-use Rattle.market_model.specs.LimitRows.{rows, line_flow, row_offset, row_factor}
+use Rattle.market_model.specs.LimitRows.{rows, line_flow, row_offset, row_factor, taker_factor, pickup_factor}
 use Rattle.market_model.specs.Optimality.{congestion, welfare_for, congestion_by, price_by, unit_price}
 use Rattle.market_model.specs.RightAnswers.{IsRight}
 use Rattle.market_model.specs.Settlement.{paid, pays, rent, surplus}
@@ -235,6 +237,43 @@ thirds = record {
 thirds-right : IsRight beside_load thirds
 unfolding rows line_flow row_offset row_factor injection balance output demand welfare_for congestion_by price_by unit_price rent surplus paid pays abs_ℚ sign_of ◌+ℚ◌ ◌*ℚ◌ neg_ℚ over whole gcd gcd_in
 thirds-right = right_by beside_load thirds refl refl refl refl
+
+-- ---- the loss of a unit: the first, whose output the second picks up, with a limit of 30 MW on branch 3 then; a third at the load of 60 MW
+-- sells at 40. A MW of the third in place of one of the first takes 0.75 MW off that flow.
+abbrev sells : ℕ → ℕ → Block
+sells place at = record { unit = place; side = Sell; quantity = mw 100; price = price at }
+
+abbrev one_lost : Parts
+one_lost = record (bare_parts
+    (buses 0 60 0)
+    (record { row = 1; bus = 0; fixed = pos 0; up = mw 100; down = pos 0 } ∷ record { row = 2; bus = 1; fixed = pos 0; up = mw 100; down = pos 0 } ∷ record { row = 3; bus = 2; fixed = pos 0; up = mw 100; down = pos 0 } ∷ [])
+    (sells 0 10 ∷ sells 1 30 ∷ sells 2 40 ∷ [])) {
+      lines = line 1 None None 0 ∷ line 2 None None 0 ∷ line 3 None (Some (mw 30)) 0 ∷ [];
+      shift = shifts;
+      loss = losses;
+      unit_outages = 0 ∷ [];
+      pickups = record { outage = 0; taker = 1; share = pos (10 ^ 6) } ∷ [];
+    }
+
+-- the first is paid 10, where its bus has a price of 30
+abbrev after_unit : Answer Fraction
+after_unit = record {
+  dispatch = mws 40 ∷ mws 0 ∷ mws 20 ∷ [];
+  duals = record { energy = prices 30; limits = record { row = record { branch = 3; outage = 0; unit = 1 }; up = prices 40; down = prices 0 } ∷ [] };
+  prices = at_bus (prices 30) (prices 0) (prices 30) ∷ at_bus (prices 30) (whole (neg_ℤ (price 20))) (prices 10) ∷ at_bus (prices 30) (prices 10) (prices 40) ∷ [];
+  welfare = whole (neg_ℤ (money 1200));
+  money = record {
+    units = unit (mws 40) (sums 400) ∷ unit (mws 0) (sums 0) ∷ unit (mws 20) (sums 800) ∷ [];
+    own = prices 10 ∷ [];
+    loads = load (mws 0) (sums 0) ∷ load (mws 0) (sums 0) ∷ load (mws 60) (sums 2400) ∷ [];
+    rents = record { row = record { branch = 3; outage = 0; unit = 1 }; flow = mws 30; over = mws 0; rent = sums 1200 } ∷ [];
+    surplus = sums 1200;
+  };
+}
+
+after_unit-right : IsRight one_lost after_unit
+unfolding rows line_flow row_offset row_factor taker_factor pickup_factor injection balance output demand welfare_for congestion_by price_by unit_price rent surplus paid pays abs_ℚ sign_of ◌+ℚ◌ ◌*ℚ◌ neg_ℚ over whole gcd gcd_in
+after_unit-right = right_by one_lost after_unit refl refl refl refl
 
 -- ---- limit 10: a bound of -10 MW
 abbrev limit_10 : Farkas Fraction
