@@ -1,5 +1,5 @@
 -- What is refused is a working pair of the market.
-use Rattle.std.specs.Prelude.{◌≡◌, ◌⊎◌, ℕ, List, [], ◌∷◌, Some, Contains, refl}
+use Rattle.std.specs.Prelude.{◌≡◌, ℕ, List, [], ◌∷◌, Some, Contains, refl}
 use Rattle.std.proofs.Common.{inl, inr, subst}
 use Rattle.fraction_theory.specs.Fraction.{Fraction, neg_ℚ, ◌-ℚ◌}
 use Rattle.fraction_theory.specs.Sums.{Term}

@@ -11,7 +11,7 @@ use Rattle.market_model.specs.declared.participants.Block.{Block}
 use Rattle.market_model.specs.declared.participants.Line.{Line}
 use Rattle.market_model.specs.declared.participants.Parts.{Parts}
 use Rattle.market_model.specs.declared.participants.Side.TheVariants.{Sell}
-use Rattle.market_model.specs.Dispatch.{places, block_at, line_at, unit_at, signed_by_side}
+use Rattle.market_model.specs.Dispatch.{places, block_at, line_at, signed_by_side}
 use Rattle.market_model.specs.Frame.{block_frame, line_frame, frame, SameFrame}
 use Rattle.market_model.specs.declared.limits.Cause.{Cause}
 use Rattle.market_model.specs.declared.limits.Row.{Row}

@@ -1,4 +1,4 @@
-use Rattle.std.proofs.Common.{rules, [], Err, ◌≡◌, ◌∙◌, List, map, ap, ap₂, subst, sym, w64}
+use Rattle.std.proofs.Common.{rules, [], Err, ◌≡◌, ◌∙◌, map, ap, ap₂, subst, sym, w64}
 use Rattle.std.proofs.lemmas.Int.{to_z-of_z}
 use Rattle.std.proofs.lemmas.List.{length-map}
 use mir.Val.{to_z, of_z}
