@@ -43,7 +43,7 @@ pub record IsFarkasOf (m : Parts) (rows : List Row) (h : Choice) (d : Duals Frac
 -- The sums that may be added up at a choice: each with the kind of its first terms, its terms in order, and when it counts. What has no kind
 -- may stand in a pair only where it is added up.
 pub data NamedSum (m : Parts) (rows : List Row) (h : Choice) : Option Kind → List Term → Type 0 where
-  -- the fixed offset of a row, and its factor at a bus
+  -- the fixed offset of a row, its factor at a bus, and its pickup factor
   offset_of : (r : Row) (terms : List Term) → Contains (all_rows m) r → OffsetSum m r terms → NamedSum m rows h (Some Quantity) terms
   factor_of : (r : Row) (terms : List Term) → Contains (all_rows m) r → FactorSum m r terms → NamedSum m rows h (Some Factor) terms
   -- injections and flows
