@@ -1,5 +1,5 @@
 -- Steps of the own price of a unit, dual by dual.
-use Rattle.std.specs.Prelude.{◌≡◌, ◌≢◌, ℕ, ◌+◌, ◌<◌, ◌≤◌, ◌==◌, pos, Bool, true, false, cond, List, [], ◌∷◌, ◌++◌, map, filter, length, take, if◌then◌else◌, refl}
+use Rattle.std.specs.Prelude.{◌≡◌, ◌≢◌, ◌⊎◌, ℕ, ◌+◌, ◌<◌, ◌≤◌, ◌==◌, pos, Bool, true, false, cond, List, [], ◌∷◌, ◌++◌, map, filter, length, take, if◌then◌else◌, refl}
 use Rattle.std.proofs.Common.{zero, suc, arith, ap, ap₂, inl, inr, sym, subst, ◌∙◌, get_or, set}
 use Rattle.std.proofs.lemmas.Bool.{eq-eqb, ne_eqb}
 use Rattle.std.proofs.lemmas.List.{get_or-map, get_or-set_same, get_or-set_other, length-set, map-append, take_all}
@@ -23,6 +23,7 @@ use Rattle.market_model.specs.LimitRows.{IsCauseOf, loses, lost_unit, pickup_fac
 use Rattle.market_model.specs.Market.{IsMarket}
 use Rattle.market_model.specs.NamedSums.{IsRefusedIn, IsShareRefusal}
 use Rattle.market_model.specs.Optimality.{names_row, named_rows, net_shadow_price, own_price, own_terms}
+use Rattle.market_model.specs.SumTables.{IsFactorRefusal, IsRefusedAmong, OwnPriceSum, PickupSum, factor_of_pickup, own_price_of_unit}
 use Rattle.market_model.specs.Valued.{total_at}
 use Rattle.market_model.proofs.MorePlaces.{sum_by_more}
 use Rattle.market_model.proofs.PlaceLists.{all_put, filled_at}
@@ -177,3 +178,13 @@ module _ (m : Parts) (d : Duals Fraction) (price : ℕ → Fraction) (u : ℕ) w
       ap (λ t. price (unit_at m u).bus +ℚ t)
       (ap (sum_by share) (take_all k (named_rows m d) most) ∙ sym (sum_named m d share (rows m) unnamed)
       ∙ sym (sum_by-filter (λ t. term_value (taken_term t)) lost_in (rows m)) ∙ sym (total-map taken_term (filter lost_in (rows m))))
+
+-- what a row adds is refused at the unit that it loses, or in its pickup factor
+pub share_refused : (m : Parts) (d : Duals Fraction) (price : ℕ → Fraction) (k : ℕ) (e : Dual Fraction) (r s : Row) (net : Fraction) (bound : ℕ) (p : Passed Fraction) → IsRowOfDual m d k e r
+    → net ≡ neg_ℚ (e.up -ℚ e.down) → s ≡ r
+    → ((u : ℕ) × (u < length m.units) × (loses m u s.cause ≡ true) × IsShareRefusal (own_to m d price u k) net (row_pickup m s.line s.cause) bound p) ⊎ IsRefusedAmong (PickupSum m s) bound p
+    → IsRefusedAmong (OwnPriceSum m d price) bound p ⊎ IsFactorRefusal m (named_rows m d) bound p
+share_refused m d price k e r s net bound p h is same (inl (u, inside, lost, why)) =
+    inl (own_terms m d price u, own_price_of_unit u inside, own_refused m d price u k e r h s net is same bound p lost why)
+share_refused m d price k e r s net bound p h is same (inr why) =
+    let at_row = subst (λ (t : Row). IsRefusedAmong (PickupSum m t) bound p) same why in inr (r, (k, h.inside, sym h.at), (at_row.0, factor_of_pickup at_row.0 at_row.1, at_row.2))

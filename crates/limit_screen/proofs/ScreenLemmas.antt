@@ -169,7 +169,7 @@ module _ {N : Type 0} (value : N → Fraction) (m : Parts) (taken : List Row) (f
 
 -- ---- the flows of a dispatch
 module _ (m : Parts) (x : Dispatch) (fs : List Fraction) (puts : fs ≡ flows_at m x) where
-  bus_part : List Fraction
+  abbrev bus_part : List Fraction
   bus_part = map (injection m x) (places (length m.buses))
 
   buses_count : length bus_part ≡ length m.buses

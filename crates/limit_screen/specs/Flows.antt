@@ -13,7 +13,7 @@ use Rattle.market_model.specs.SumTables.{IsRefusedAmong, CarriedSum}
 
 -- what each bus puts in at a dispatch, then the flow of each line, and then the output of the unit of each outage of a unit
 abbrev pub flows_at : Parts → Dispatch → List Fraction
-flows_at m x = map (injection m x) (places (length m.buses)) ++ line_flows m x ++ lost_outputs m x
+flows_at m x = map (injection m x) (places (length m.buses)) ++ (line_flows m x ++ lost_outputs m x)
 
 -- of numbers for each bus, then for each line and then for each outage of a unit, what is carried by the last two
 abbrev pub carried_at : Parts → List Fraction → Carried
