@@ -1,1 +1,2 @@
 pub mod PriceLemmas
+pub mod OwnLemmas

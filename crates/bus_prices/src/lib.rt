@@ -1,6 +1,8 @@
-//! Bus prices of the duals of an answer.
+//! Bus prices and own prices of units, of the duals of an answer.
 #![tactic(auto)]
 
+mod owning;
 mod pricing;
 
+pub use owning::own;
 pub use pricing::prices;

@@ -4,7 +4,7 @@ ghost use Rattle.std.specs.Prelude.{◌≡◌, ◌⊎◌, ◌<◌, ℕ, length, 
 ghost use Rattle.fraction_theory.specs.Fraction.{Fraction, neg_ℚ, ◌+ℚ◌, ◌-ℚ◌, ◌*ℚ◌};
 ghost use Rattle.exact_fraction.specs.declared.Op.TheVariants.{Plus};
 ghost use Rattle.market_model.specs.Dispatch.{places, zero};
-ghost use Rattle.market_model.specs.LimitRows.{row_factor, IsCauseAmong};
+ghost use Rattle.market_model.specs.LimitRows.{row_factor, IsCauseOf};
 ghost use Rattle.market_model.specs.NamedSums.{IsRefusal, IsShareRefusal};
 ghost use Rattle.market_model.specs.Optimality.{IsOneSided, ProperDuals};
 ghost use Rattle.market_model.specs.RightAnswers.{price_made, price_of_parts};
@@ -17,7 +17,7 @@ use limit_rows::{found_row, row_factor};
 use market_model::{Dual, Duals, Market, Price, Row, datum};
 
 /// The opposite of what a MW on the flow of a dual's row costs: the price of its lower side, or less that of its upper one.
-fn opposite_net_price<N: Exact>(dual: &Dual<N>) -> N
+pub(crate) fn opposite_net_price<N: Exact>(dual: &Dual<N>) -> N
     requires { IsOneSided (dual_at N.value dual.now) }
     ensures { N.value result ≡ neg_ℚ (N.value dual.now.up -ℚ N.value dual.now.down) }
 {
@@ -49,7 +49,7 @@ fn add_row<N: Exact>(
     out: &mut [Price<N>],
 ) -> Result<(), Passed<N>>
     requires line { row.line < length market.now.lines }
-    requires lost { IsCauseAmong (length market.now.lines) row.cause }
+    requires lost { IsCauseOf market.now row.cause }
     requires out { length out.old ≡ length market.now.buses }
     ensures parts { (energy : Fraction) (before : ℕ → Fraction) → HaveParts N.value energy before out.old → IfOk result (λ _. HaveParts N.value energy (λ bus. before bus +ℚ N.value price *ℚ row_factor market.now row bus) out.new) }
     ensures cause { (energy : Fraction) (before : ℕ → Fraction) → HaveParts N.value energy before out.old → IfErr result (λ passed. ((bus : ℕ) × (bus < length market.now.buses) × IsShareRefusal (before bus) (N.value price) (row_factor market.now row bus) N.bound (passed_at N.value passed))

@@ -19,7 +19,7 @@ use Rattle.market_model.proofs.ChangeLemmas.{same_default}
 use Rattle.market_system.specs.Growth.{BestFor, Broken}
 use Rattle.market_system.specs.MarketSystem.{is_in}
 use Rattle.market_system.proofs.RowOrder.{is_in-from, is_in-in}
-use Rattle.limit_screen.specs.Flows.{flows_at, line_in}
+use Rattle.limit_screen.specs.Flows.{carried_at, flows_at}
 use Rattle.limit_screen.specs.Screening.{AllKeep}
 use Rattle.limit_screen.proofs.ScreenLemmas.{law_of_row_flows, limit_most, listed_row, not_passed}
 use Rattle.clear_loop.specs.Rounds.{AllKept}
@@ -90,13 +90,13 @@ module _ (m : Parts) (market : IsMarket m) (g : List Row) (x : Dispatch) where
 -- ---- the flows of a dispatch
 module _ (m : Parts) (market : IsMarket m) (g : List Row) (x : Dispatch) (fs : List Fraction) (puts : fs ≡ flows_at m x) where
   abbrev flow_at : Row → Fraction
-  flow_at = flow_by m (line_in m fs)
+  flow_at = flow_by m (carried_at m fs)
 
   row_is : (r : Row) → Contains (rows m) r → flow_at r ≡ flow m x r
   row_is r c = law_of_row_flows m x fs r market puts c
 
   -- where all limits are kept, and where one is the worst
-  pub all_kept : AllKeep m g (line_in m fs) → AllKept m g x
+  pub all_kept : AllKeep m g (carried_at m fs) → AllKept m g x
   all_kept keep r c = subst (Keeps m g r) (row_is r c) (keep r c)
 
   -- the worst row of the flows is that of the dispatch

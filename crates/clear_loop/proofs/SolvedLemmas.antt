@@ -1,5 +1,5 @@
 -- What is refused at a dispatch that solves the market over rows in hand is a working pair of the market over these rows.
-use Rattle.std.specs.Prelude.{ℕ, List, [], ◌∷◌, Some, None, refl}
+use Rattle.std.specs.Prelude.{Contains, ℕ, List, [], ◌∷◌, Some, None, refl}
 use Rattle.std.proofs.Common.{ap, inl, inr, sym, subst, subst₂}
 use Rattle.fraction_theory.specs.Fraction.{Fraction}
 use Rattle.fraction_theory.specs.Sums.{Term, Product}
@@ -9,14 +9,14 @@ use Rattle.linear_system.specs.Choices.{reduced}
 use Rattle.linear_system.specs.Numbers.{Factor, Quantity, Price}
 use Rattle.market_model.specs.declared.answered.Duals.{Duals}
 use Rattle.market_model.specs.declared.participants.Parts.{Parts}
-use Rattle.market_model.specs.Dispatch.{Dispatch, demand, demand_terms, injection, output}
+use Rattle.market_model.specs.Dispatch.{Dispatch, demand, demand_terms, output}
 use Rattle.market_model.specs.declared.limits.Row.{Row}
-use Rattle.market_model.specs.LimitRows.{line_flow, flow_terms, row_id, rows}
+use Rattle.market_model.specs.LimitRows.{carried, flow_terms, row_id, rows}
 use Rattle.market_model.specs.Market.{IsMarket}
 use Rattle.market_model.specs.NamedSums.{IsRefusedIn}
 use Rattle.market_model.proofs.SumParts.{flow_carried}
-use Rattle.market_model.specs.SumTables.{flow_of_row, limited_row, FlowSum, flow_in_limits, PriceSum, IsRefusedInPrices, left_of_all, paid_by_load, paid_to_unit, rent_of_row, SettledSum, paid_output, demand_of_bus, payment, paid_row}
-use Rattle.market_model.specs.Optimality.{names_row, Feasible, Supports, ProperDuals, bus_price, welfare_terms}
+use Rattle.market_model.specs.SumTables.{IsFlowRefusal, IsRefusedAmong, factor_of_pickup, flow_of_row, limited_row, FlowSum, flow_in_limits, PriceSum, IsRefusedInPrices, left_of_all, paid_by_load, paid_to_unit, rent_of_row, SettledSum, own_price_of_unit, paid_output, paid_price, demand_of_bus, payment, paid_row}
+use Rattle.market_model.specs.Optimality.{names_row, Feasible, Supports, ProperDuals, bus_price, own_terms, welfare_terms}
 use Rattle.market_model.specs.Settlement.{load_terms, rent_terms, surplus_terms, unit_terms}
 use Rattle.market_system.specs.Growth.{BestFor, PricesOnly}
 use Rattle.market_system.specs.MarketNumbers.{IsRightChoice, IsInjecting, factor_of, of_flow, of_price, of_welfare, of_settlement}
@@ -29,10 +29,10 @@ use Rattle.market_system.proofs.GrowthLaws.{growth_none}
 use Rattle.market_system.proofs.PairCases.{law_of_the_pairs}
 use Rattle.market_system.proofs.SolvedMarkets.{supports_by}
 use Rattle.limit_rows.proofs.ApartLemmas.{names_apart}
-use Rattle.limit_screen.proofs.ScreenLemmas.{row_terms}
-use Rattle.limit_screen.specs.Flows.{flows_at, line_in, IsFlowsRefusal}
+use Rattle.limit_screen.proofs.ScreenLemmas.{flow_refusal_same, row_terms}
+use Rattle.limit_screen.specs.Flows.{carried_at, flows_at, IsFlowsRefusal}
 use Rattle.limit_screen.specs.Screening.{IsScreenRefusal}
-use Rattle.market_model.proofs.UnitPrices.{at_unit, left_at}
+use Rattle.market_model.proofs.UnitPrices.{at_unit, left_at, own_at}
 use Rattle.settlement.specs.Paying.{ArePricesOf}
 use Rattle.settlement.specs.Refusals.{IsMoneyRefusal, IsWelfareRefusal}
 use Rattle.market_dict.specs.Findings.{IsSolvedBy}
@@ -65,13 +65,17 @@ module _ (m : Parts) (g : List Row) (x : Dispatch) (d : Duals Fraction) (market 
     flow_sum : (terms : List Term) → FlowSum m x terms → IsRefusedIn terms bound p → IsRangeOf m g bound p
     flow_sum terms sum a = pairs.sum (Some Quantity) terms (of_flow x terms injecting sum) a
 
+    -- the flow of a row, or its pickup factor
+    row_sum : (r : Row) → Contains (rows m) r → IsFlowRefusal m (carried m x) r bound p → IsRangeOf m g bound p
+    row_sum r c (inl (_, flow_of_row, a)) = flow_sum (flow_terms m (carried m x) r) (flow_in_limits _ (limited_row r _ c flow_of_row)) a
+    row_sum r c (inr (terms, sum, a)) = pairs.sum (Some Factor) terms (factor_of r terms c (factor_of_pickup terms sum)) a
+
     -- where a dispatch is screened
     pub flows_range : IsFlowsRefusal m x bound p → IsRangeOf m g bound p
     flows_range (terms, sum, a) = flow_sum terms (flow_carried m x terms sum) a
 
-    pub screen_range : IsScreenRefusal m (line_in m (flows_at m x)) bound p → IsRangeOf m g bound p
-    screen_range (r, c, (_, flow_of_row, a)) =
-        flow_sum (flow_terms m (line_flow m (injection m x)) r) (flow_in_limits _ (limited_row r _ c flow_of_row)) (subst (λ ts. IsRefusedIn ts bound p) (row_terms m x (flows_at m x) r market refl c) a)
+    pub screen_range : IsScreenRefusal m (carried_at m (flows_at m x)) bound p → IsRangeOf m g bound p
+    screen_range (r, c, why) = row_sum r c (flow_refusal_same m (carried_at m (flows_at m x)) (carried m x) r bound p (row_terms m x (flows_at m x) refl r market c) why)
 
     -- where all limits are kept, and it is answered
     module _ (kept : AllKept m g x) where
@@ -87,25 +91,29 @@ module _ (m : Parts) (g : List Row) (x : Dispatch) (d : Duals Fraction) (market 
           pairs.sum (Some Factor) terms (factor_of r terms (Contains-from_filter (λ s. names_row d.limits (row_id m s)) (rows m) r named).0 sum) a
 
       pub welfare_range : IsWelfareRefusal m x bound p → IsRangeOf m g bound p
-      welfare_range (inr (r, c, soft, (_, flow_of_row, a))) = flow_sum (flow_terms m (line_flow m (injection m x)) r) (flow_in_limits _ (limited_row r _ c flow_of_row)) a
+      welfare_range (inr (r, c, soft, why)) = row_sum r c why
       welfare_range (inl a) = pairs.sum None (welfare_terms m (choice_dispatch m g solved.choice)) (of_welfare best) (subst (λ y. IsRefusedIn (welfare_terms m y) bound p) solved.dispatch a)
 
       module _ (price : ℕ → Fraction) (priced : ArePricesOf m d price) where
         -- what is settled at these prices is at those of the duals
-        at_duals : (terms : List Term) → SettledSum m x price d terms → IsRefusedIn terms bound p → IsMoneyRefusal m x (bus_price m d) d bound p
+        at_duals : (terms : List Term) → SettledSum m x price d terms → IsRefusedIn terms bound p → IsRefusedAmong (SettledSum m x (bus_price m d) d) bound p
         at_duals terms (paid_output same sum) a = (terms, paid_output terms sum, a)
+        at_duals terms (paid_price same (own_price_of_unit u lt)) a =
+            (own_terms m d (bus_price m d) u, paid_price _ (own_price_of_unit u lt), subst (λ ts. IsRefusedIn ts bound p) (own_at m d price market priced u lt) a)
         at_duals terms (demand_of_bus i lt) a = (demand_terms m i, demand_of_bus i lt, a)
         at_duals terms (payment same (paid_by_load i lt)) a =
             (load_terms m (bus_price m d) i, payment _ (paid_by_load i lt), subst (λ ts. IsRefusedIn ts bound p) (ap (λ t. Product t (demand m i) ∷ []) (priced i lt)) a)
         at_duals terms (payment same (paid_to_unit u lt)) a =
-            (unit_terms m x (bus_price m d) u, payment _ (paid_to_unit u lt), subst (λ ts. IsRefusedIn ts bound p) (ap (λ t. Product t (output m x u) ∷ []) (at_unit m d price market priced u lt)) a)
+            (unit_terms m x (bus_price m d) d u, payment _ (paid_to_unit u lt), subst (λ ts. IsRefusedIn ts bound p) (ap (λ t. Product t (output m x u) ∷ []) (at_unit m d price market priced u lt)) a)
         at_duals terms (payment same left_of_all) a = (surplus_terms m x d, payment _ left_of_all, subst (λ ts. IsRefusedIn ts bound p) (left_at m d price market priced x) a)
         at_duals terms (payment same (rent_of_row r c)) a = (rent_terms m x d r, payment _ (rent_of_row r c), a)
         at_duals terms (paid_row r same c sum) a = (terms, paid_row r terms c sum, a)
 
         pub money_range : IsMoneyRefusal m x price d bound p → IsRangeOf m g bound p
-        money_range (terms, sum, a) =
+        money_range (inr (r, named, (terms, sum, a))) =
+            pairs.sum (Some Factor) terms (factor_of r terms (Contains-from_filter (λ s. names_row d.limits (row_id m s)) (rows m) r named).0 sum) a
+        money_range (inl (terms, sum, a)) =
             let at_choice =
-            subst (λ (e : Duals Fraction). IsMoneyRefusal m (choice_dispatch m g solved.choice) (bus_price m e) e bound p) solved.duals
-            (subst (λ (y : Dispatch). IsMoneyRefusal m y (bus_price m d) d bound p) solved.dispatch (at_duals terms sum a)) in
+            subst (λ (e : Duals Fraction). IsRefusedAmong (SettledSum m (choice_dispatch m g solved.choice) (bus_price m e) e) bound p) solved.duals
+            (subst (λ (y : Dispatch). IsRefusedAmong (SettledSum m y (bus_price m d) d) bound p) solved.dispatch (at_duals terms sum a)) in
             pairs.sum None at_choice.0 (of_settlement at_choice.0 best at_choice.1) at_choice.2

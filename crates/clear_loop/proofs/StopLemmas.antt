@@ -19,7 +19,7 @@ use Rattle.market_system.specs.MarketSystem.{system_of}
 use Rattle.market_system.proofs.GrowthLaws.{growth_again, growth_none}
 use Rattle.market_system.proofs.PairCases.{law_of_the_pairs}
 use Rattle.market_system.specs.MarketNumbers.{factor_of}
-use Rattle.limit_screen.specs.Flows.{flows_at, line_in, IsFlowsRefusal}
+use Rattle.limit_screen.specs.Flows.{carried_at, flows_at, IsFlowsRefusal}
 use Rattle.limit_screen.specs.Screening.{IsScreenRefusal}
 use Rattle.settlement.specs.Paying.{ArePricesOf}
 use Rattle.settlement.specs.Refusals.{IsMoneyStop}
@@ -58,7 +58,7 @@ module _ {N : Type 0} (value : N → Fraction) (bound : ℕ) (m : Parts) where
 
   module _ (g : List Row) (x : Dispatch) (d : Duals Fraction) (market : IsMarket m) (solved : IsSolvedBy m g x d) where
     -- where a dispatch is screened
-    pub screen_stop : (s : Stop N) → StopsBy value (λ p. IsFlowsRefusal m x bound p ⊎ IsScreenRefusal m (line_in m (flows_at m x)) bound p) s → StopsInRange value bound m g s
+    pub screen_stop : (s : Stop N) → StopsBy value (λ p. IsFlowsRefusal m x bound p ⊎ IsScreenRefusal m (carried_at m (flows_at m x)) bound p) s → StopsInRange value bound m g s
     screen_stop (stop.Passed p) (inl a) = flows_range m g x d market solved bound (passed_at value p) a
     screen_stop (stop.Passed p) (inr a) = screen_range m g x d market solved bound (passed_at value p) a
     screen_stop stop.Memory a = tt

@@ -44,8 +44,8 @@ fn bus_prices<N: Exact>(
     Ok(by_bus)
 }
 
-/// The answer of a dispatch that solves the market over some of its limits and keeps all of them, with its flows, by bus and then by line,
-/// and its duals: bus prices, welfare and settlement.
+/// The answer of a dispatch that solves the market over some of its limits and keeps all of them, with its flows, by bus, by line and by
+/// outage of a unit, and its duals: bus prices, welfare and settlement.
 pub(crate) fn answer_of<N: Exact>(
     alloc: Global,
     market: &Market,

@@ -3,7 +3,7 @@
 ghost use Rattle.std.specs.Prelude.{◌≡◌, ◌⊎◌, length, IfOk, IfErr};
 ghost use Rattle.market_model.specs.Stops.{StopsBy};
 ghost use Rattle.market_model.specs.PutIn.{dispatch_of};
-ghost use Rattle.limit_screen.specs.Flows.{flows_at, line_in, IsFlowsRefusal};
+ghost use Rattle.limit_screen.specs.Flows.{carried_at, flows_at, IsFlowsRefusal};
 ghost use Rattle.limit_screen.specs.Screening.{IsScreenRefusal};
 ghost use Rattle.clear_loop.specs.Rounds.{IsScreened};
 
@@ -17,7 +17,7 @@ use std::alloc::Global;
 pub(crate) enum Screened<N> {
     /// Of the limits that are not kept that which is passed by the most, and the first of those in the market's order.
     Broken(Row),
-    /// All limits are kept. What each bus puts in, and then what each line carries, in 10^-9 MW.
+    /// All limits are kept. What each bus puts in, then what each line carries, and then what each lost unit puts out, in 10^-9 MW.
     Within(Vec<N>),
 }
 
@@ -31,7 +31,7 @@ pub(crate) fn screened_at<N: Exact>(
     requires { length dispatch.now ≡ length market.now.blocks }
     ensures screened { IfOk result (IsScreened N.value market.now taken.now (dispatch_of N.value dispatch.now)) }
     ensures cause { IfErr result (StopsBy N.value (λ p. IsFlowsRefusal market.now (dispatch_of N.value dispatch.now) N.bound p
-        ⊎ IsScreenRefusal market.now (line_in market.now (flows_at market.now (dispatch_of N.value dispatch.now))) N.bound p)) }
+        ⊎ IsScreenRefusal market.now (carried_at market.now (flows_at market.now (dispatch_of N.value dispatch.now))) N.bound p)) }
 {
     let _lines = market.lines();
     let by_place = flows_made(alloc, market, dispatch)?;

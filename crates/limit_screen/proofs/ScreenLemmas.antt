@@ -3,7 +3,7 @@ use Rattle.std.specs.Prelude.{◌≡◌, ◌⊎◌, ℕ, ◌+◌, ◌-◌, ◌<�
 use Rattle.std.specs.List.{slice_get}
 use Rattle.std.specs.Ordering.{MatchOrdering}
 use Rattle.std.proofs.Common.{zero, suc, arith, inl, inr, ap, ap₂, sym, subst, ◌∙◌, get_or, drop, take, Ordering, Less, Equal, Greater}
-use Rattle.std.proofs.lemmas.List.{length-append, get_or-append_right, get_or-drop, drop-map, take-map, take_rest}
+use Rattle.std.proofs.lemmas.List.{length-append, get_or_append_left, get_or-append_right, get_or-drop, drop-map, take-map, take_rest}
 use Rattle.std.proofs.Math.Seq.{take-append_seam}
 use Rattle.std.proofs.lemmas.List.FromFn.{length-map-range_with_len, get_or-map-range_with_len}
 use Rattle.std.proofs.lemmas.List.Elements.{All-append, All-cons, All-nil}
@@ -18,18 +18,21 @@ use Rattle.fraction_theory.proofs.FieldLaws.{+ℚ_neg}
 use Rattle.fraction_theory.proofs.OrderLaws.{NonNeg-one, by_le1, not-≤ℚ, <ℚ-not-≤ℚ, ≤ℚ_refl, ≤ℚ_trans, <ℚ-≤ℚ, ≤ℚ_of_same, ≤ℚ-<ℚ_trans, +ℚ-≤ℚ, +ℚ-<ℚ, whole-≤ℚ}
 use Rattle.fraction_theory.proofs.Ring.{at, padd, pneg, pnil, pone}
 use Rattle.fraction_theory.proofs.SignLaws.{IsSign, abs_within, sign_of_is}
+use Rattle.exact_fraction.specs.declared.Passed.{Passed}
 use Rattle.market_model.specs.declared.participants.Parts.{Parts}
 use Rattle.market_model.specs.Dispatch.{Dispatch, places, injection}
 use Rattle.market_model.specs.Overrun.{IsBeyond, IsFirstMost, Keeps, Within, overrun}
 use Rattle.market_model.specs.declared.limits.Row.{Row}
-use Rattle.market_model.specs.LimitRows.{flow_by, flow_terms, limit, line_flow, line_flows, most_excess, most_flow, rows}
-use Rattle.market_model.specs.PutIn.{put_in}
+use Rattle.market_model.specs.LimitRows.{Carried, carried, flow_by, flow_terms, limit, line_flow, line_flows, lost_output, lost_outputs, most_excess, most_flow, rows}
+use Rattle.market_model.specs.NamedSums.{IsRefusedIn}
+use Rattle.market_model.specs.PutIn.{carried_in, put_in}
+use Rattle.market_model.specs.SumTables.{IsFlowRefusal, flow_of_row}
 use Rattle.market_model.proofs.LinePenalties.{penalties}
 use Rattle.limit_rows.proofs.FlowSteps.{flow_terms-same}
-use Rattle.limit_rows.proofs.PlaceLemmas.{at_places}
+use Rattle.market_model.proofs.RowMembers.{at_places}
 use Rattle.limit_screen.specs.declared.screening.RowOverrun.{RowOverrun}
 use Rattle.market_model.specs.Market.{IsMarket}
-use Rattle.limit_screen.specs.Flows.{flows_at, line_in, LawOfRowFlows}
+use Rattle.limit_screen.specs.Flows.{carried_at, flows_at, LawOfRowFlows}
 use Rattle.limit_screen.specs.Screening.{AllKeep, IsWorstOf}
 
 -- ---- orders and differences
@@ -165,56 +168,86 @@ module _ {N : Type 0} (value : N → Fraction) (m : Parts) (taken : List Row) (f
       ((place, old_worst (λ s. IsBeyond m taken s (f s)) (λ s. overrun m s (f s)) rs r place b.row worst (λ beyond. absurd (keeps_not_beyond m taken r (f r) keeps beyond))), is)
 
 -- ---- the flows of a dispatch
-line_at_place : (m : Parts) (x : Dispatch) (fs : List Fraction) (l : ℕ) → fs ≡ flows_at m x → l < length m.lines → line_in m fs l ≡ line_flow m (injection m x) l
-line_at_place m x fs l puts h =
-    let front : List Fraction = map (injection m x) (places (length m.buses)) in
-    let back : List Fraction = map (line_flow m (injection m x)) (places (length m.lines)) in
-    let count : length front ≡ length m.buses = length-map-range_with_len (injection m x) 0 (length m.buses) in
-    let past : length m.buses ≤ length m.buses + l = Prim.omega arith in
-    let left : (length m.buses + l) - length m.buses ≡ l = Prim.omega arith in
-    let from_0 : 0 + l ≡ l = Prim.omega arith in
-    ap (λ (ys : List Fraction). get_or ys (length m.buses + l) (whole (pos 0))) puts
-    ∙ get_or-append_right front back (length m.buses) (length m.buses + l) (whole (pos 0)) count past
-    ∙ ap (λ (i : ℕ). get_or back i (whole (pos 0))) left
-    ∙ get_or-map-range_with_len (line_flow m (injection m x)) 0 (length m.lines) l l (whole (pos 0)) h from_0
+module _ (m : Parts) (x : Dispatch) (fs : List Fraction) (puts : fs ≡ flows_at m x) where
+  abbrev bus_part : List Fraction
+  bus_part = map (injection m x) (places (length m.buses))
 
-pub flow_count : (m : Parts) (x : Dispatch) (fs : List Fraction) → fs ≡ flows_at m x → length fs ≡ length m.buses + length m.lines
-flow_count m x fs puts =
-    let front : List Fraction = map (injection m x) (places (length m.buses)) in
-    let back : List Fraction = map (line_flow m (injection m x)) (places (length m.lines)) in
-    ap length puts ∙ length-append front back
-    ∙ ap₂ ◌+◌ (length-map-range_with_len (injection m x) 0 (length m.buses)) (length-map-range_with_len (line_flow m (injection m x)) 0 (length m.lines))
+  buses_count : length bus_part ≡ length m.buses
+  buses_count = length-map-range_with_len (injection m x) 0 (length m.buses)
 
--- the terms of a row's flow
-pub row_terms : (m : Parts) (x : Dispatch) (fs : List Fraction) (r : Row) → IsMarket m → fs ≡ flows_at m x → Contains (rows m) r
-    → flow_terms m (line_in m fs) r ≡ flow_terms m (line_flow m (injection m x)) r
-row_terms m x fs r market puts c =
-    let places = at_places m market r c in
-    flow_terms-same m (line_in m fs) (line_flow m (injection m x)) (λ l lt. line_at_place m x fs l puts lt) r places.0 places.1
+  lines_count : length (line_flows m x) ≡ length m.lines
+  lines_count = length-map-range_with_len (line_flow m (injection m x)) 0 (length m.lines)
+
+  behind_buses : (place there : ℕ) → there ≡ length m.buses + place → get_or fs there (whole (pos 0)) ≡ get_or (line_flows m x ++ lost_outputs m x) place (whole (pos 0))
+  behind_buses place there e =
+      let past : length m.buses ≤ there = Prim.omega (arith, e) in
+      let left : there - length m.buses ≡ place = Prim.omega (arith, e) in
+      ap (λ (ys : List Fraction). get_or ys there (whole (pos 0))) puts
+      ∙ get_or-append_right bus_part (line_flows m x ++ lost_outputs m x) (length m.buses) there (whole (pos 0)) buses_count past
+      ∙ ap (λ (i : ℕ). get_or (line_flows m x ++ lost_outputs m x) i (whole (pos 0))) left
+
+  line_at_place : (l : ℕ) → l < length m.lines → (carried_at m fs).line l ≡ line_flow m (injection m x) l
+  line_at_place l h =
+      let from_0 : 0 + l ≡ l = Prim.omega arith in
+      behind_buses l (length m.buses + l) refl
+      ∙ get_or_append_left (line_flows m x) (lost_outputs m x) (whole (pos 0)) l (Prim.omega (arith, h, lines_count))
+      ∙ get_or-map-range_with_len (line_flow m (injection m x)) 0 (length m.lines) l l (whole (pos 0)) h from_0
+
+  lost_at_place : (k : ℕ) → k < length m.unit_outages → (carried_at m fs).lost k ≡ lost_output m x k
+  lost_at_place k h =
+      let past : length m.lines ≤ length m.lines + k = Prim.omega arith in
+      let left : (length m.lines + k) - length m.lines ≡ k = Prim.omega arith in
+      let from_0 : 0 + k ≡ k = Prim.omega arith in
+      behind_buses (length m.lines + k) (length m.buses + length m.lines + k) (Prim.omega arith)
+      ∙ get_or-append_right (line_flows m x) (lost_outputs m x) (length m.lines) (length m.lines + k) (whole (pos 0)) lines_count past
+      ∙ ap (λ (i : ℕ). get_or (lost_outputs m x) i (whole (pos 0))) left
+      ∙ get_or-map-range_with_len (lost_output m x) 0 (length m.unit_outages) k k (whole (pos 0)) h from_0
+
+  pub flow_count : length fs ≡ length m.buses + length m.lines + length m.unit_outages
+  flow_count =
+      let lost : length (lost_outputs m x) ≡ length m.unit_outages = length-map-range_with_len (lost_output m x) 0 (length m.unit_outages) in
+      let all : length fs ≡ length bus_part + (length (line_flows m x) + length (lost_outputs m x)) =
+      ap length puts ∙ length-append bus_part (line_flows m x ++ lost_outputs m x) ∙ ap (λ (n : ℕ). length bus_part + n) (length-append (line_flows m x) (lost_outputs m x)) in
+      Prim.omega (arith, all, buses_count, lines_count, lost)
+
+  -- the terms of a row's flow
+  pub row_terms : (r : Row) → IsMarket m → Contains (rows m) r → flow_terms m (carried_at m fs) r ≡ flow_terms m (carried m x) r
+  row_terms r market c =
+      let places = at_places m market r c in
+      flow_terms-same m (carried_at m fs) (carried m x) line_at_place lost_at_place r places.0 places.1
 
 pub law_of_row_flows : LawOfRowFlows
-law_of_row_flows m x fs r market puts c = ap total (row_terms m x fs r market puts c)
+law_of_row_flows m x fs r market puts c = ap total (row_terms m x fs puts r market c)
 
--- of flows of buses and of lines, what buses put in
+-- of flows of buses, of lines and of lost units, what buses put in
 pub buses_before : {N : Type 0} (value : N → Fraction) (m : Parts) (x : Dispatch) (fs : List N) (n : ℕ) → n ≡ length m.buses → map value fs ≡ flows_at m x → map value (take n fs) ≡ map (injection m x) (places (length m.buses))
 buses_before value m x fs n count puts =
     let front : List Fraction = map (injection m x) (places (length m.buses)) in
     let long : n ≡ length front = count ∙ sym (length-map-range_with_len (injection m x) 0 (length m.buses)) in
-    sym (take-map value n fs) ∙ ap (take n) puts ∙ ap (λ (k : ℕ). take k (flows_at m x)) long ∙ take-append_seam front (line_flows m x)
+    sym (take-map value n fs) ∙ ap (take n) puts ∙ ap (λ (k : ℕ). take k (flows_at m x)) long ∙ take-append_seam front (line_flows m x ++ lost_outputs m x)
 
--- of flows of buses and of lines, those of lines alone
-pub lines_behind : {N : Type 0} (value : N → Fraction) (m : Parts) (fs : List N) (n : ℕ) → n ≡ length m.buses → put_in (map value (take (length fs - n) (drop n fs))) ≡ line_in m (map value fs)
-lines_behind {N} value m fs n count i l = at_line i
+-- and what is carried
+pub carried_behind : {N : Type 0} (value : N → Fraction) (m : Parts) (fs : List N) (n : ℕ) → n ≡ length m.buses → carried_in m (map value (take (length fs - n) (drop n fs))) ≡ carried_at m (map value fs)
+carried_behind {N} value m fs n count i = record {
+  line = λ l. at_place l (length m.buses + l) refl i;
+  lost = λ k. at_place (length m.lines + k) (length m.buses + length m.lines + k) (Prim.omega arith) i;
+}
   where
-    at_line : put_in (map value (take (length fs - n) (drop n fs))) l ≡ line_in m (map value fs) l
-    at_line =
-        ap (λ (ys : List N). put_in (map value ys) l) (take_rest fs n)
-        ∙ ap (λ ys. get_or ys l (whole (pos 0))) (sym (drop-map value n fs)) ∙ get_or-drop n (map value fs) l (whole (pos 0))
-        ∙ ap (λ (k : ℕ). get_or (map value fs) (k + l) (whole (pos 0))) count
+    at_place : (place there : ℕ) → there ≡ length m.buses + place → put_in (map value (take (length fs - n) (drop n fs))) place ≡ get_or (map value fs) there (whole (pos 0))
+    at_place place there e =
+        let behind : n + place ≡ there = Prim.omega (arith, count, e) in
+        ap (λ (ys : List N). put_in (map value ys) place) (take_rest fs n)
+        ∙ ap (λ ys. get_or ys place (whole (pos 0))) (sym (drop-map value n fs)) ∙ get_or-drop n (map value fs) place (whole (pos 0))
+        ∙ ap (λ (k : ℕ). get_or (map value fs) k (whole (pos 0))) behind
+
+-- where the flow of a row is refused
+pub flow_refusal_same : (m : Parts) (a b : Carried) (r : Row) (bound : ℕ) (p : Passed Fraction) → flow_terms m a r ≡ flow_terms m b r → IsFlowRefusal m a r bound p → IsFlowRefusal m b r bound p
+flow_refusal_same m a b r bound p e (inl (_, flow_of_row, why)) = inl (_, flow_of_row, subst (λ ts. IsRefusedIn ts bound p) e why)
+flow_refusal_same m a b r bound p e (inr why) = inr why
 
 -- ---- the worst of all rows
-pub all_keep_by : (m : Parts) (taken : List Row) (f : ℕ → Fraction) → All (λ s. Keeps m taken s (flow_by m f s)) (rows m) → AllKeep m taken f
-all_keep_by m taken f all r c = subst (λ s. Keeps m taken s (flow_by m f s)) c.2 (all c.0 r c.1)
+pub all_keep_by : (m : Parts) (taken : List Row) (by : Carried) → All (λ s. Keeps m taken s (flow_by m by s)) (rows m) → AllKeep m taken by
+all_keep_by m taken by all r c = subst (λ s. Keeps m taken s (flow_by m by s)) c.2 (all c.0 r c.1)
 
 pub listed_row : (rs : List Row) (place : ℕ) (r : Row) → slice_get rs place ≡ Some r → Contains rs r
 listed_row rs place r e = (place, slice_get_within rs place r e, get_or_from_slice_get rs place r r e)

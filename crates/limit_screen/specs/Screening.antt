@@ -1,4 +1,4 @@
--- Which limit is passed by the most, where lines have given flows.
+-- Which limit is passed by the most, where so much is carried.
 use Rattle.std.specs.Prelude.{◌≡◌, ℕ, List, Option, Some, None, map, All, Contains}
 use Rattle.fraction_theory.specs.Fraction.{Fraction}
 use Rattle.exact_fraction.specs.declared.Passed.{Passed}
@@ -6,23 +6,23 @@ use Rattle.market_model.specs.declared.answered.RowId.{RowId}
 use Rattle.market_model.specs.declared.participants.Parts.{Parts}
 use Rattle.market_model.specs.Overrun.{overrun, IsBeyond, IsFirstMost, IsWorst, Keeps}
 use Rattle.market_model.specs.declared.limits.Row.{Row}
-use Rattle.market_model.specs.LimitRows.{flow_by, row_id, rows}
-use Rattle.market_model.specs.SumTables.{IsRefusedAmong, RowFlowSum}
+use Rattle.market_model.specs.LimitRows.{Carried, flow_by, row_id, rows}
+use Rattle.market_model.specs.SumTables.{IsFlowRefusal}
 use Rattle.limit_screen.specs.declared.screening.RowOverrun.{RowOverrun}
 use Rattle.limit_screen.specs.declared.taking.Taken.{Taken}
 use Rattle.limit_screen.specs.declared.taking.Taken.TheVariants.{Rows, Names}
 
 -- where some rows are taken, all rows of the market keep what they may be
-abbrev pub AllKeep : Parts → List Row → (ℕ → Fraction) → Type 0
-AllKeep m taken f = (r : Row) → Contains (rows m) r → Keeps m taken r (flow_by m f r)
+abbrev pub AllKeep : Parts → List Row → Carried → Type 0
+AllKeep m taken c = (r : Row) → Contains (rows m) r → Keeps m taken r (flow_by m c r)
 
 -- the worst of those that do not, the first of several
-abbrev pub IsWorstBy : Parts → List Row → (ℕ → Fraction) → Row → Type 0
-IsWorstBy m taken f r = (place : ℕ) × IsWorst m taken (flow_by m f) place r
+abbrev pub IsWorstBy : Parts → List Row → Carried → Row → Type 0
+IsWorstBy m taken c r = (place : ℕ) × IsWorst m taken (flow_by m c) place r
 
 -- its name
-abbrev pub IsWorstNamed : Parts → List Row → (ℕ → Fraction) → RowId → Type 0
-IsWorstNamed m taken f name = (r : Row) × IsWorstBy m taken f r × (name ≡ row_id m r)
+abbrev pub IsWorstNamed : Parts → List Row → Carried → RowId → Type 0
+IsWorstNamed m taken c name = (r : Row) × IsWorstBy m taken c r × (name ≡ row_id m r)
 
 -- the rows that are taken are rows of the market, and these are their names
 abbrev pub AreNamesOf : Parts → List Row → List RowId → Type 0
@@ -34,8 +34,8 @@ AreTaken m taken (Rows given) = given.now ≡ taken
 AreTaken m taken (Names given) = AreNamesOf m taken given.now
 
 -- an operation refused for the flow of a row of the market; by how much that passes its limit is refused of none
-abbrev pub IsScreenRefusal : Parts → (ℕ → Fraction) → ℕ → Passed Fraction → Type 0
-IsScreenRefusal m f bound p = (r : Row) × Contains (rows m) r × IsRefusedAmong (RowFlowSum m f r) bound p
+abbrev pub IsScreenRefusal : Parts → Carried → ℕ → Passed Fraction → Type 0
+IsScreenRefusal m c bound p = (r : Row) × Contains (rows m) r × IsFlowRefusal m c r bound p
 
 -- the worst of some rows with its overrun, the first of several, or none where all of them keep what they may be
 abbrev pub IsWorstOf : {N : Type 0} → (N → Fraction) → Parts → List Row → (Row → Fraction) → List Row → Option (RowOverrun N) → Type 0

@@ -6,5 +6,5 @@ pub mod laws;
 mod screening;
 mod taking;
 
-pub use flowing::{bus_injections, flows, flows_made, line_flows};
+pub use flowing::{bus_injections, carried_flows, flows, flows_made};
 pub use screening::{worst, worst_row};

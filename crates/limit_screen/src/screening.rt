@@ -10,11 +10,11 @@ ghost use Rattle.market_model.specs.Overrun.{IsBeyond, Keeps, overrun as overrun
 ghost use Rattle.market_model.specs.declared.limits.Row.{Row};
 ghost use Rattle.market_model.specs.declared.participants.Parts.{Parts};
 ghost use Rattle.market_model.specs.LimitRows.{flow_by, rows};
-ghost use Rattle.market_model.specs.SumTables.{IsRefusedAmong, RowFlowSum};
-ghost use Rattle.limit_screen.specs.Flows.{line_in};
+ghost use Rattle.market_model.specs.SumTables.{IsFlowRefusal};
+ghost use Rattle.limit_screen.specs.Flows.{carried_at};
 ghost use Rattle.limit_screen.specs.Screening.{AllKeep, AreNamesOf, AreTaken, IsScreenRefusal, IsWorstBy, IsWorstNamed, IsWorstOf};
 
-use crate::flowing::line_flows;
+use crate::flowing::carried_flows;
 use crate::taking::{Taken, is_taken};
 use exact_fraction::{Exact, Passed, exact_difference, size};
 use limit_rows::{excess_at, limit_at, name_at, row_flow, rows};
@@ -78,14 +78,14 @@ fn with_row<N: Exact>(
     row: Row,
     worst: Option<RowOverrun<N>>,
 ) -> Result<Option<RowOverrun<N>>, Passed<N>>
-    requires flows { length flows.now ≡ length market.now.buses + length market.now.lines }
+    requires flows { length flows.now ≡ length market.now.buses + length market.now.lines + length market.now.unit_outages }
     requires row { Contains (rows market.now) row }
-    ensures worst { (g rs : List Row) → AreTaken market.now g taken.entry → IsWorstOf N.value market.now g (flow_by market.now (line_in market.now (map N.value flows.now))) rs worst
-        → IfOk result (IsWorstOf N.value market.now g (flow_by market.now (line_in market.now (map N.value flows.now))) (rs ++ row ∷ [])) }
-    ensures cause { IfErr result (λ passed. IsRefusedAmong (RowFlowSum market.now (line_in market.now (map N.value flows.now)) row) N.bound (passed_at N.value passed)) }
+    ensures worst { (g rs : List Row) → AreTaken market.now g taken.entry → IsWorstOf N.value market.now g (flow_by market.now (carried_at market.now (map N.value flows.now))) rs worst
+        → IfOk result (IsWorstOf N.value market.now g (flow_by market.now (carried_at market.now (map N.value flows.now))) (rs ++ row ∷ [])) }
+    ensures cause { IfErr result (λ passed. IsFlowRefusal market.now (carried_at market.now (map N.value flows.now)) row N.bound (passed_at N.value passed)) }
 {
     let _lines = market.lines();
-    let flow = row_flow(market, line_flows(market, flows), row)?;
+    let flow = row_flow(market, carried_flows(market, flows), row)?;
     match beyond(flow, datum(limit_at(market, row)))? {
         Some(overrun) => {
             if keeps_excess(market, taken, row, overrun) {
@@ -104,10 +104,10 @@ fn worst_taken<N: Exact>(
     flows: &[N],
     taken: Taken<'_>,
 ) -> Result<Option<Row>, Passed<N>>
-    requires { length flows.now ≡ length market.now.buses + length market.now.lines }
-    ensures worst { (g : List Row) → AreTaken market.now g taken.entry → IfOk result (λ worst. MatchOption worst (AllKeep market.now g (line_in market.now (map N.value flows.now)))
-        (IsWorstBy market.now g (line_in market.now (map N.value flows.now)))) }
-    ensures cause { IfErr result (λ passed. IsScreenRefusal market.now (line_in market.now (map N.value flows.now)) N.bound (passed_at N.value passed)) }
+    requires { length flows.now ≡ length market.now.buses + length market.now.lines + length market.now.unit_outages }
+    ensures worst { (g : List Row) → AreTaken market.now g taken.entry → IfOk result (λ worst. MatchOption worst (AllKeep market.now g (carried_at market.now (map N.value flows.now)))
+        (IsWorstBy market.now g (carried_at market.now (map N.value flows.now)))) }
+    ensures cause { IfErr result (λ passed. IsScreenRefusal market.now (carried_at market.now (map N.value flows.now)) N.bound (passed_at N.value passed)) }
 {
     let mut worst = None;
     for row in rows(market) {
@@ -121,15 +121,15 @@ fn worst_taken<N: Exact>(
 
 /// Where some rows are taken, the row that is beyond what it may be and whose flow passes its limit by the most, and the first of those in
 /// the market's order; none where all rows keep what they may be: a row its limit, and one that is taken that and its excess. The flows
-/// are those of buses and then of lines, as `flows` puts them.
+/// are those of buses and then of lines, and then the outputs of lost units, as `flows` puts them.
 pub fn worst_row<N: Exact>(
     market: &Market,
     flows: &[N],
     taken: &[Row],
 ) -> Result<Option<Row>, Passed<N>>
-    requires { length flows.now ≡ length market.now.buses + length market.now.lines }
-    ensures worst { IfOk result (λ worst. MatchOption worst (AllKeep market.now taken.now (line_in market.now (map N.value flows.now))) (IsWorstBy market.now taken.now (line_in market.now (map N.value flows.now)))) }
-    ensures cause { IfErr result (λ passed. IsScreenRefusal market.now (line_in market.now (map N.value flows.now)) N.bound (passed_at N.value passed)) }
+    requires { length flows.now ≡ length market.now.buses + length market.now.lines + length market.now.unit_outages }
+    ensures worst { IfOk result (λ worst. MatchOption worst (AllKeep market.now taken.now (carried_at market.now (map N.value flows.now))) (IsWorstBy market.now taken.now (carried_at market.now (map N.value flows.now)))) }
+    ensures cause { IfErr result (λ passed. IsScreenRefusal market.now (carried_at market.now (map N.value flows.now)) N.bound (passed_at N.value passed)) }
 {
     worst_taken(market, flows, Taken::Rows(taken))
 }
@@ -140,11 +140,11 @@ pub fn worst<N: Exact>(
     flows: &[N],
     taken: &[RowId],
 ) -> Result<Option<RowId>, Passed<N>>
-    requires flows { length flows.now ≡ length market.now.buses + length market.now.lines }
+    requires flows { length flows.now ≡ length market.now.buses + length market.now.lines + length market.now.unit_outages }
     requires taken { (g : List Row) × AreNamesOf market.now g taken.now }
-    ensures worst { (g : List Row) → AreNamesOf market.now g taken.now → IfOk result (λ worst. MatchOption worst (AllKeep market.now g (line_in market.now (map N.value flows.now)))
-        (IsWorstNamed market.now g (line_in market.now (map N.value flows.now)))) }
-    ensures cause { IfErr result (λ passed. IsScreenRefusal market.now (line_in market.now (map N.value flows.now)) N.bound (passed_at N.value passed)) }
+    ensures worst { (g : List Row) → AreNamesOf market.now g taken.now → IfOk result (λ worst. MatchOption worst (AllKeep market.now g (carried_at market.now (map N.value flows.now)))
+        (IsWorstNamed market.now g (carried_at market.now (map N.value flows.now)))) }
+    ensures cause { IfErr result (λ passed. IsScreenRefusal market.now (carried_at market.now (map N.value flows.now)) N.bound (passed_at N.value passed)) }
 {
     let _lines = market.lines();
     match worst_taken(market, flows, Taken::Names(taken))? {

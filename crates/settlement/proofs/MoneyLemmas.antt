@@ -23,14 +23,15 @@ use Rattle.market_model.specs.declared.participants.Parts.{Parts}
 use Rattle.market_model.specs.Dispatch.{Dispatch, places, output, demand}
 use Rattle.market_model.specs.Laws.{HasOffsetsWithin}
 use Rattle.market_model.specs.declared.limits.Row.{Row}
-use Rattle.market_model.specs.LimitRows.{flow, rows, row_id, row_offset}
+use Rattle.market_model.specs.LimitRows.{flow, lost_unit, rows, row_id, row_offset}
 use Rattle.market_model.specs.Market.{IsMarket}
 use Rattle.market_model.specs.NamedSums.{SameSize, term_at, IsNextTerm, IsSumStep, IsRefusal, IsRefusedIn}
-use Rattle.market_model.specs.Optimality.{bus_price, names_row, named_rows}
+use Rattle.market_model.specs.Optimality.{bus_price, names_row, named_rows, own_price}
 use Rattle.market_model.specs.RightAnswers.{rent_of, settlement_at}
-use Rattle.market_model.specs.Settlement.{rent, surplus, pay_of_unit, pay_of_load, price_for_unit, left_terms, priced_flow}
+use Rattle.market_model.specs.Settlement.{rent, surplus, pay_of_unit, pay_of_load, left_terms, priced_flow}
 use Rattle.market_model.specs.Valued.{dual_at, duals_at, load_at, rent_at, unit_pay_at}
 use Rattle.market_model.proofs.Optimum.{law_of_the_surplus, law_of_its_sign}
+use Rattle.market_model.proofs.RowMembers.{lost_unit-in}
 use Rattle.market_model.proofs.SumSteps.{plus_at, behind, in_front}
 use Rattle.market_model.proofs.UnitPrices.{at_unit, left_at}
 use Rattle.limit_rows.proofs.DualLemmas.{up_unnamed, down_unnamed, sum_named}
@@ -123,8 +124,8 @@ refused_same ts us bound p none e h = record {
     by Times l r (a, b, factors) = absurd (none h.place a b factors.product)
 
 -- ---- what is added up is what loads pay and units are paid
-module _ {N : Type 0} (value : N → Fraction) (m : Parts) (x : Dispatch) (price : ℕ → Fraction) (loads : List (Load N)) (units : List (UnitPay N))
-    (load_each : map (load_at value) loads ≡ map (pay_of_load m price) (places (length m.buses))) (unit_each : map (unit_pay_at value) units ≡ map (pay_of_unit m x price) (places (length m.units))) where
+module _ {N : Type 0} (value : N → Fraction) (m : Parts) (x : Dispatch) (price : ℕ → Fraction) (d : Duals Fraction) (loads : List (Load N)) (units : List (UnitPay N))
+    (load_each : map (load_at value) loads ≡ map (pay_of_load m price) (places (length m.buses))) (unit_each : map (unit_pay_at value) units ≡ map (pay_of_unit m x price d) (places (length m.units))) where
   load_values : map term_value (map (λ (l : Load N). Plain (value l.pays)) loads) ≡ map term_value (map (λ i. Product (price i) (demand m i)) (places (length m.buses)))
   load_values =
       map-map (λ (l : Load N). Plain (value l.pays)) term_value loads
@@ -133,37 +134,42 @@ module _ {N : Type 0} (value : N → Fraction) (m : Parts) (x : Dispatch) (price
       ∙ map-map (pay_of_load m price) (λ (l : Load Fraction). l.pays) (places (length m.buses))
       ∙ sym (map-map (λ i. Product (price i) (demand m i)) term_value (places (length m.buses)))
 
-  unit_values : map term_value (map (λ (u : UnitPay N). Plain (neg_ℚ (value u.paid))) units) ≡ map term_value (map (λ u. Product (neg_ℚ (price_for_unit m price u)) (output m x u)) (places (length m.units)))
+  unit_values : map term_value (map (λ (u : UnitPay N). Plain (neg_ℚ (value u.paid))) units) ≡ map term_value (map (λ u. Product (neg_ℚ (own_price m d price u)) (output m x u)) (places (length m.units)))
   unit_values =
       map-map (λ (u : UnitPay N). Plain (neg_ℚ (value u.paid))) term_value units
       ∙ sym (map-map (unit_pay_at value) (λ (u : UnitPay Fraction). neg_ℚ u.paid) units)
       ∙ ap (map (λ (u : UnitPay Fraction). neg_ℚ u.paid)) unit_each
-      ∙ map-map (pay_of_unit m x price) (λ (u : UnitPay Fraction). neg_ℚ u.paid) (places (length m.units))
-      ∙ map_same (λ u. neg_ℚ (price_for_unit m price u *ℚ output m x u)) (λ u. neg_ℚ (price_for_unit m price u) *ℚ output m x u) (length m.units)
-      (λ u lt. sym (neg_times ring_ℚ (price_for_unit m price u) (output m x u)))
-      ∙ sym (map-map (λ u. Product (neg_ℚ (price_for_unit m price u)) (output m x u)) term_value (places (length m.units)))
+      ∙ map-map (pay_of_unit m x price d) (λ (u : UnitPay Fraction). neg_ℚ u.paid) (places (length m.units))
+      ∙ map_same (λ u. neg_ℚ (own_price m d price u *ℚ output m x u)) (λ u. neg_ℚ (own_price m d price u) *ℚ output m x u) (length m.units)
+      (λ u lt. sym (neg_times ring_ℚ (own_price m d price u) (output m x u)))
+      ∙ sym (map-map (λ u. Product (neg_ℚ (own_price m d price u)) (output m x u)) term_value (places (length m.units)))
 
-  paid_is : map term_value (paid_terms value loads units) ≡ map term_value (left_terms m x price)
+  paid_is : map term_value (paid_terms value loads units) ≡ map term_value (left_terms m x price d)
   paid_is =
       map-append term_value (map (λ (l : Load N). Plain (value l.pays)) loads) (map (λ (u : UnitPay N). Plain (neg_ℚ (value u.paid))) units)
       ∙ ap₂ ◌++◌ load_values unit_values
-      ∙ sym (map-append term_value (map (λ i. Product (price i) (demand m i)) (places (length m.buses))) (map (λ u. Product (neg_ℚ (price_for_unit m price u)) (output m x u)) (places (length m.units))))
+      ∙ sym (map-append term_value (map (λ i. Product (price i) (demand m i)) (places (length m.buses))) (map (λ u. Product (neg_ℚ (own_price m d price u)) (output m x u)) (places (length m.units))))
 
-  pub surplus_is : (s : Fraction) → s ≡ total (paid_terms value loads units) → s ≡ total (left_terms m x price)
-  surplus_is s e = e ∙ total-same (paid_terms value loads units) (left_terms m x price) paid_is
+  pub surplus_is : (s : Fraction) → s ≡ total (paid_terms value loads units) → s ≡ total (left_terms m x price d)
+  surplus_is s e = e ∙ total-same (paid_terms value loads units) (left_terms m x price d) paid_is
 
-  pub surplus_refused : (bound : ℕ) (p : Passed Fraction) → IsRefusedIn (paid_terms value loads units) bound p → IsRefusedIn (left_terms m x price) bound p
+  pub surplus_refused : (bound : ℕ) (p : Passed Fraction) → IsRefusedIn (paid_terms value loads units) bound p → IsRefusedIn (left_terms m x price d) bound p
   surplus_refused bound p h =
-      refused_same (paid_terms value loads units) (left_terms m x price) bound p (no_products (λ (l : Load N). value l.pays) (λ (u : UnitPay N). neg_ℚ (value u.paid)) loads units) paid_is h
+      refused_same (paid_terms value loads units) (left_terms m x price d) bound p (no_products (λ (l : Load N). value l.pays) (λ (u : UnitPay N). neg_ℚ (value u.paid)) loads units) paid_is h
 
 -- ---- at the prices of duals
 module _ (m : Parts) (x : Dispatch) (price : ℕ → Fraction) (d : Duals Fraction) (market : IsMarket m) (priced : ArePricesOf m d price) where
-  left_is_surplus : total (left_terms m x price) ≡ surplus m x d
+  left_is_surplus : total (left_terms m x price d) ≡ surplus m x d
   unfolding surplus
   left_is_surplus = ap total (left_at m d price market priced x)
 
-  units_same : map (pay_of_unit m x price) (places (length m.units)) ≡ map (pay_of_unit m x (bus_price m d)) (places (length m.units))
-  units_same = map_same (pay_of_unit m x price) (pay_of_unit m x (bus_price m d)) (length m.units) (λ u lt. ap (λ t. record { mw = output m x u; paid = t *ℚ output m x u }) (at_unit m d price market priced u lt))
+  units_same : map (pay_of_unit m x price d) (places (length m.units)) ≡ map (pay_of_unit m x (bus_price m d) d) (places (length m.units))
+  units_same = map_same (pay_of_unit m x price d) (pay_of_unit m x (bus_price m d) d) (length m.units) (λ u lt. ap (λ t. record { mw = output m x u; paid = t *ℚ output m x u }) (at_unit m d price market priced u lt))
+
+  own_same : map (λ k. own_price m d price (lost_unit m k)) (places (length m.unit_outages)) ≡ map (λ k. own_price m d (bus_price m d) (lost_unit m k)) (places (length m.unit_outages))
+  own_same =
+      map_same (λ k. own_price m d price (lost_unit m k)) (λ k. own_price m d (bus_price m d) (lost_unit m k)) (length m.unit_outages)
+      (λ k lt. at_unit m d price market priced (lost_unit m k) (lost_unit-in m market k lt))
 
   loads_same : map (pay_of_load m price) (places (length m.buses)) ≡ map (pay_of_load m (bus_price m d)) (places (length m.buses))
   loads_same = map_same (pay_of_load m price) (pay_of_load m (bus_price m d)) (length m.buses) (λ i lt. ap (λ t. record { mw = demand m i; pays = t *ℚ demand m i }) (priced i lt))
@@ -173,6 +179,7 @@ pub law_of_right_money : LawOfRightMoney
 unfolding surplus
 law_of_right_money m x price d market priced = λ i. record {
   units = units_same m x price d market priced i;
+  own = own_same m x price d market priced i;
   loads = loads_same m x price d market priced i;
   rents = map (rent_of m x d) (named_rows m d);
   surplus = left_is_surplus m x price d market priced i;

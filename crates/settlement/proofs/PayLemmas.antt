@@ -1,7 +1,6 @@
 -- Outputs, demands and prices, and what is paid and refused of them.
 use Rattle.std.specs.Prelude.{◌≡◌, ◌⊎◌, ℕ, ◌<◌, List, [], ◌∷◌, length, refl}
-use Rattle.std.proofs.Common.{ap, ap₂, sym, ◌∙◌, inl, inr, get_or}
-use Rattle.std.proofs.lemmas.List.{get_or-map}
+use Rattle.std.proofs.Common.{ap, ap₂, sym, ◌∙◌, inl, inr}
 use Rattle.fraction_theory.specs.Fraction.{Fraction, whole, ◌+ℚ◌, ◌*ℚ◌}
 use Rattle.fraction_theory.specs.Sums.{Plain, Product}
 use Rattle.fraction_theory.proofs.FieldLaws.{+ℚ_nil}
@@ -10,21 +9,16 @@ use Rattle.exact_fraction.specs.declared.Passed.{Passed}
 use Rattle.market_data.specs.declared.participants.Bus.{Bus}
 use Rattle.market_model.specs.declared.answered.Duals.{Duals}
 use Rattle.market_model.specs.declared.answered.Load.{Load}
-use Rattle.market_model.specs.declared.answered.Price.{Price}
 use Rattle.market_model.specs.declared.answered.UnitPay.{UnitPay}
 use Rattle.market_model.specs.declared.participants.Parts.{Parts}
-use Rattle.market_model.specs.Dispatch.{Dispatch, zero, bus_at, output, output_terms, demand, demand_terms}
+use Rattle.market_model.specs.Dispatch.{Dispatch, bus_at, output, output_terms, demand, demand_terms}
 use Rattle.market_model.specs.NamedSums.{IsRefusedIn, IsRefusal}
+use Rattle.market_model.specs.Optimality.{named_rows, own_price}
 use Rattle.market_model.specs.Valued.{load_at, unit_pay_at}
 use Rattle.market_model.proofs.SumSteps.{plus_at, product_at}
-use Rattle.market_model.specs.Settlement.{pay_of_unit, pay_of_load, price_for_unit, load_terms, unit_terms}
-use Rattle.market_model.specs.SumTables.{demand_of_bus, output_of_unit, paid_by_load, paid_output, paid_to_unit, payment}
-use Rattle.settlement.specs.Paying.{total_at}
+use Rattle.market_model.specs.Settlement.{pay_of_unit, pay_of_load, load_terms, unit_terms}
+use Rattle.market_model.specs.SumTables.{IsFactorRefusal, IsRefusedAmong, OwnPriceSum, demand_of_bus, output_of_unit, paid_by_load, paid_output, paid_price, paid_to_unit, payment}
 use Rattle.settlement.specs.Refusals.{IsMoneyRefusal}
-
--- a price that was read by its place
-pub price_is : {N : Type 0} (value : N → Fraction) (prices : List (Price N)) (i : ℕ) (p : Price N) → i < length prices → total_at value prices i ≡ value (get_or prices i p).total
-price_is value prices i p h = get_or-map (λ (q : Price _). value q.total) prices i p zero h
 
 pub demand_is : (m : Parts) (i : ℕ) (bus : Bus) → bus ≡ bus_at m i → whole bus.pd +ℚ whole bus.gs ≡ demand m i
 unfolding demand
@@ -43,31 +37,36 @@ load_is value m price i bus t load at is mw pays =
     let d : value load.mw ≡ demand m i = mw ∙ demand_is m i bus at in
     same_load (value load.mw) (value load.pays) (demand m i) (price i *ℚ demand m i) d (pays ∙ ap₂ ◌*ℚ◌ is d)
 
-pub pay_is : {N : Type 0} (value : N → Fraction) (m : Parts) (x : Dispatch) (price : ℕ → Fraction) (u : ℕ) (t : Fraction) (pay : UnitPay N) → t ≡ price_for_unit m price u
-    → value pay.mw ≡ output m x u → value pay.paid ≡ t *ℚ value pay.mw → unit_pay_at value pay ≡ pay_of_unit m x price u
-pay_is value m x price u t pay is mw paid = same_pay (value pay.mw) (value pay.paid) (output m x u) (price_for_unit m price u *ℚ output m x u) mw (paid ∙ ap₂ ◌*ℚ◌ is mw)
+pub pay_is : {N : Type 0} (value : N → Fraction) (m : Parts) (x : Dispatch) (price : ℕ → Fraction) (d : Duals Fraction) (u : ℕ) (t : Fraction) (pay : UnitPay N) → t ≡ own_price m d price u
+    → value pay.mw ≡ output m x u → value pay.paid ≡ t *ℚ value pay.mw → unit_pay_at value pay ≡ pay_of_unit m x price d u
+pay_is value m x price d u t pay is mw paid = same_pay (value pay.mw) (value pay.paid) (output m x u) (own_price m d price u *ℚ output m x u) mw (paid ∙ ap₂ ◌*ℚ◌ is mw)
 
 -- ---- refusals of loads and units
 module _ (m : Parts) (x : Dispatch) (price : ℕ → Fraction) (d : Duals Fraction) (bound : ℕ) (p : Passed Fraction) where
   pub load_refusal : (i : ℕ) (bus : Bus) (t : Fraction) → i < length m.buses → bus ≡ bus_at m i → t ≡ price i
       → IsRefusal Plus (whole bus.pd) (whole bus.gs) bound p ⊎ IsRefusal Times t (whole bus.pd +ℚ whole bus.gs) bound p → IsMoneyRefusal m x price d bound p
-  load_refusal i bus t below at is (inl h) = (
+  load_refusal i bus t below at is (inl h) = inl (
     demand_terms m i,
     demand_of_bus i below,
     plus_at (demand_terms m i) (Plain (whole (bus_at m i).pd) ∷ []) [] (Plain (whole (bus_at m i).gs)) refl bound p (whole bus.pd) (whole bus.gs)
         (ap (λ (b : Bus). whole b.pd) at ∙ sym (+ℚ_nil (whole (bus_at m i).pd))) (ap (λ (b : Bus). whole b.gs) at) h,
   )
-  load_refusal i bus t below at is (inr h) = (
+  load_refusal i bus t below at is (inr h) = inl (
     load_terms m price i,
     payment _ (paid_by_load i below),
     product_at (load_terms m price i) [] [] (Product (price i) (demand m i)) refl bound p t (whole bus.pd +ℚ whole bus.gs) (ap₂ Product (sym is) (sym (demand_is m i bus at))) refl h,
   )
 
-  pub unit_refusal : (u : ℕ) (t : Fraction) → u < length m.units → t ≡ price_for_unit m price u → IsRefusedIn (output_terms m x u) bound p ⊎ IsRefusal Times t (output m x u) bound p
+  pub unit_refusal : (u : ℕ) (t : Fraction) → u < length m.units → t ≡ own_price m d price u → IsRefusedIn (output_terms m x u) bound p ⊎ IsRefusal Times t (output m x u) bound p
       → IsMoneyRefusal m x price d bound p
-  unit_refusal u t below is (inl h) = (output_terms m x u, paid_output _ (output_of_unit u below), h)
-  unit_refusal u t below is (inr h) = (
-    unit_terms m x price u,
+  unit_refusal u t below is (inl h) = inl (output_terms m x u, paid_output _ (output_of_unit u below), h)
+  unit_refusal u t below is (inr h) = inl (
+    unit_terms m x price d u,
     payment _ (paid_to_unit u below),
-    product_at (unit_terms m x price u) [] [] (Product (price_for_unit m price u) (output m x u)) refl bound p t (output m x u) (ap (λ (v : Fraction). Product v (output m x u)) (sym is)) refl h,
+    product_at (unit_terms m x price d u) [] [] (Product (own_price m d price u) (output m x u)) refl bound p t (output m x u) (ap (λ (v : Fraction). Product v (output m x u)) (sym is)) refl h,
   )
+
+  -- own prices of units
+  pub own_refusal : IsRefusedAmong (OwnPriceSum m d price) bound p ⊎ IsFactorRefusal m (named_rows m d) bound p → IsMoneyRefusal m x price d bound p
+  own_refusal (inl (terms, sum, a)) = inl (terms, paid_price terms sum, a)
+  own_refusal (inr a) = inr a

@@ -1,5 +1,5 @@
 -- What rows earn, and what is refused of that.
-use Rattle.std.specs.Prelude.{◌≡◌, ◌⊎◌, ℕ, pos, List, [], ◌∷◌, Contains, refl}
+use Rattle.std.specs.Prelude.{◌≡◌, ◌≢◌, ◌⊎◌, ℕ, pos, List, [], ◌∷◌, Contains, refl}
 use Rattle.std.proofs.Common.{inl, inr, ap, ap₂, sym, subst, subst₂, ◌∙◌}
 use Rattle.fraction_theory.specs.Fraction.{Fraction, whole, neg_ℚ, ◌+ℚ◌, ◌-ℚ◌, ◌*ℚ◌}
 use Rattle.fraction_theory.specs.Order.{◌<ℚ◌, ◌≤ℚ◌}
@@ -16,20 +16,21 @@ use Rattle.market_model.specs.declared.answered.Duals.{Duals}
 use Rattle.market_model.specs.declared.answered.Rent.{Rent}
 use Rattle.market_model.specs.declared.answered.RowId.{RowId}
 use Rattle.market_model.specs.declared.participants.Parts.{Parts}
-use Rattle.market_model.specs.Dispatch.{Dispatch, zero, injection}
+use Rattle.market_model.specs.Dispatch.{Dispatch, zero}
+use Rattle.market_model.specs.declared.limits.Cause.TheVariants.{Base}
 use Rattle.market_model.specs.declared.limits.Row.{Row}
-use Rattle.market_model.specs.LimitRows.{flow, flow_by, flow_terms, limit, line_flow, offset_terms, row_id, row_offset}
+use Rattle.market_model.specs.LimitRows.{Carried, carried, flow, flow_by, flow_terms, limit, offset_terms, row_id, row_offset}
 use Rattle.market_model.specs.NamedSums.{IsRefusal, IsRefusedIn}
 use Rattle.market_model.specs.Optimality.{named_rows}
 use Rattle.market_model.specs.Overrun.{excess, excess_by, overrun}
 use Rattle.market_model.specs.RightAnswers.{rent_by, rent_of}
 use Rattle.market_model.specs.Market.{IsMarket}
 use Rattle.market_model.specs.Settlement.{earned_terms, lower_terms, priced_flow, rent_terms, rent_terms_by, upper_terms}
-use Rattle.market_model.specs.SumTables.{IsRefusedAmong, rent_of_row, PaidRowSum, flow_after_outage, flow_of_row, offset_of_row, paid_offset, upper_of_row, lower_of_row, payment, paid_row}
+use Rattle.market_model.specs.SumTables.{IsFlowRefusal, IsRefusedAmong, rent_of_row, PaidRowSum, PickupSum, factor_of_pickup, flow_after_outage, flow_of_row, offset_of_row, paid_offset, upper_of_row, lower_of_row, payment, paid_row}
 use Rattle.market_model.proofs.SumSteps.{minus_at, plus_at, product_at}
 use Rattle.limit_rows.proofs.DualLemmas.{IsRowOfDual}
 use Rattle.limit_screen.proofs.ScreenLemmas.{row_terms}
-use Rattle.limit_screen.specs.Flows.{flows_at, line_in}
+use Rattle.limit_screen.specs.Flows.{carried_at, flows_at}
 use Rattle.settlement.specs.Refusals.{IsMoneyRefusal}
 
 -- ---- by how much a flow exceeds a limit
@@ -70,51 +71,58 @@ module _ (e : Dual Fraction) (f o : Fraction) where
         product_at (earned_terms e.up e.down f o) (Product e.up (f -ℚ o) ∷ []) [] (Product e.down (f +ℚ o)) refl bound p e.down (f +ℚ o) refl
         (by_ring ring_ℚ (f ∷ o ∷ []) pnil (padd (pmul pnil (padd (at 0) (pneg (at 1)))) pnil) refl ∙ ap (λ u. u *ℚ (f -ℚ o) +ℚ zero) (sym none)) h
 
--- the same for the limit of a row, of its flow where lines have flows f
-pub earning_refused : (m : Parts) (f : ℕ → Fraction) (e : Dual Fraction) (r : Row) (size offset : Fraction) (bound : ℕ) (p : Passed Fraction) → size ≡ priced_flow m r (flow_by m f r) → offset ≡ row_offset m r
+-- the same for the limit of a row, of its flow where so much is carried
+pub earning_refused : (m : Parts) (f : Carried) (e : Dual Fraction) (r : Row) (size offset : Fraction) (bound : ℕ) (p : Passed Fraction) → size ≡ priced_flow m r (flow_by m f r) → offset ≡ row_offset m r
     → IsRefusedIn (upper_terms size offset) bound p ⊎ IsRefusedIn (lower_terms size offset) bound p ⊎ IsRefusedIn (earned_terms e.up e.down size offset) bound p
-    → IsRefusedAmong (PaidRowSum m f r) bound p ⊎ IsRefusedIn (rent_terms_by m f r e.up e.down) bound p
+    → IsRefusedAmong (PaidRowSum m f r) bound p ⊎ IsRefusedIn (rent_terms_by m f r e.up e.down) bound p ⊎ IsRefusedAmong (PickupSum m r) bound p
 earning_refused m f e r size offset bound p s o (inl a) = inl (upper_terms (priced_flow m r (flow_by m f r)) (row_offset m r), upper_of_row, subst₂ (λ u v. IsRefusedIn (upper_terms u v) bound p) s o a)
 earning_refused m f e r size offset bound p s o (inr (inl a)) = inl (lower_terms (priced_flow m r (flow_by m f r)) (row_offset m r), lower_of_row, subst₂ (λ u v. IsRefusedIn (lower_terms u v) bound p) s o a)
-earning_refused m f e r size offset bound p s o (inr (inr a)) = inr (subst₂ (λ u v. IsRefusedIn (earned_terms e.up e.down u v) bound p) s o a)
+earning_refused m f e r size offset bound p s o (inr (inr a)) = inr (inl (subst₂ (λ u v. IsRefusedIn (earned_terms e.up e.down u v) bound p) s o a))
 
--- ---- rows of duals, where lines have the flows of a dispatch
+-- its flow is refused
+pub flow_not_paid : (m : Parts) (f : Carried) (e : Dual Fraction) (r : Row) (bound : ℕ) (p : Passed Fraction) → r.cause ≢ Base → IsFlowRefusal m f r bound p
+    → IsRefusedAmong (PaidRowSum m f r) bound p ⊎ IsRefusedIn (rent_terms_by m f r e.up e.down) bound p ⊎ IsRefusedAmong (PickupSum m r) bound p
+flow_not_paid m f e r bound p after (inl (terms, sum, a)) = inl (terms, flow_after_outage terms after sum, a)
+flow_not_paid m f e r bound p after (inr a) = inr (inr a)
+
+-- ---- rows of duals, where what a dispatch makes is carried
 same_rent : (row row' : RowId) (f f' o o' r r' : Fraction) → row ≡ row' → f ≡ f' → o ≡ o' → r ≡ r'
     → ◌≡◌ {A = Rent Fraction} (record { row = row; flow = f; over = o; rent = r }) (record { row = row'; flow = f'; over = o'; rent = r' })
 same_rent row row' f f' o o' r r' a b c d = Prim.rw a (Prim.rw b (Prim.rw c (Prim.rw d refl)))
 
 module _ (m : Parts) (x : Dispatch) (flows : List Fraction) (are : flows ≡ flows_at m x) (d : Duals Fraction) (k : ℕ) (e : Dual Fraction) (r : Row) (h : IsRowOfDual m d k e r) (market : IsMarket m) where
   -- its flow is that of the dispatch
-  same_flow : flow_by m (line_in m flows) r ≡ flow m x r
-  same_flow = ap total (row_terms m x flows r market are h.row)
+  same_flow : flow_by m (carried_at m flows) r ≡ flow m x r
+  same_flow = ap total (row_terms m x flows are r market h.row)
 
-  pub rent_is : rent_by m (line_in m flows) e r ≡ rent_of m x d r
+  pub rent_is : rent_by m (carried_at m flows) e r ≡ rent_of m x d r
   rent_is =
-      same_rent e.row (row_id m r) (flow_by m (line_in m flows) r) (flow m x r) (excess_by m r (flow_by m (line_in m flows) r)) (excess m x r) (total (rent_terms_by m (line_in m flows) r e.up e.down)) (total (rent_terms m x d r)) (sym h.name)
+      same_rent e.row (row_id m r) (flow_by m (carried_at m flows) r) (flow m x r) (excess_by m r (flow_by m (carried_at m flows) r)) (excess m x r) (total (rent_terms_by m (carried_at m flows) r e.up e.down)) (total (rent_terms m x d r)) (sym h.name)
       same_flow (ap (excess_by m r) same_flow)
       (ap (λ f. total (earned_terms e.up e.down (priced_flow m r f) (row_offset m r))) same_flow
-      ∙ ap₂ (λ u v. total (rent_terms_by m (line_flow m (injection m x)) r u v)) (sym h.up) (sym h.down))
+      ∙ ap₂ (λ u v. total (rent_terms_by m (carried m x) r u v)) (sym h.up) (sym h.down))
 
   module _ (price : ℕ → Fraction) (bound : ℕ) (p : Passed Fraction) where
     named : Contains (named_rows m d) r
     named = (k, h.inside, sym h.at)
 
-    -- the sums of the row are those where lines have the flows of the dispatch
-    paid_row_same : (terms : List Term) → PaidRowSum m (line_in m flows) r terms → IsRefusedIn terms bound p → IsMoneyRefusal m x price d bound p
+    -- the sums of the row are those at the dispatch
+    paid_row_same : (terms : List Term) → PaidRowSum m (carried_at m flows) r terms → IsRefusedIn terms bound p → IsMoneyRefusal m x price d bound p
     paid_row_same terms (flow_after_outage same after flow_of_row) a =
-        (flow_terms m (line_flow m (injection m x)) r, paid_row r _ named (flow_after_outage _ after flow_of_row), subst (λ ts. IsRefusedIn ts bound p) (row_terms m x flows r market are h.row) a)
-    paid_row_same terms (paid_offset same offset_of_row) a = (offset_terms m r, paid_row r _ named (paid_offset _ offset_of_row), a)
+        inl (flow_terms m (carried m x) r, paid_row r _ named (flow_after_outage _ after flow_of_row), subst (λ ts. IsRefusedIn ts bound p) (row_terms m x flows are r market h.row) a)
+    paid_row_same terms (paid_offset same offset_of_row) a = inl (offset_terms m r, paid_row r _ named (paid_offset _ offset_of_row), a)
     paid_row_same terms upper_of_row a =
-        (upper_terms (priced_flow m r (flow m x r)) (row_offset m r), paid_row r _ named upper_of_row, subst (λ f. IsRefusedIn (upper_terms (priced_flow m r f) (row_offset m r)) bound p) same_flow a)
+        inl (upper_terms (priced_flow m r (flow m x r)) (row_offset m r), paid_row r _ named upper_of_row, subst (λ f. IsRefusedIn (upper_terms (priced_flow m r f) (row_offset m r)) bound p) same_flow a)
     paid_row_same terms lower_of_row a =
-        (lower_terms (priced_flow m r (flow m x r)) (row_offset m r), paid_row r _ named lower_of_row, subst (λ f. IsRefusedIn (lower_terms (priced_flow m r f) (row_offset m r)) bound p) same_flow a)
+        inl (lower_terms (priced_flow m r (flow m x r)) (row_offset m r), paid_row r _ named lower_of_row, subst (λ f. IsRefusedIn (lower_terms (priced_flow m r f) (row_offset m r)) bound p) same_flow a)
 
-    pub row_refusal : IsRefusedAmong (PaidRowSum m (line_in m flows) r) bound p ⊎ IsRefusedIn (rent_terms_by m (line_in m flows) r e.up e.down) bound p
+    pub row_refusal : IsRefusedAmong (PaidRowSum m (carried_at m flows) r) bound p ⊎ IsRefusedIn (rent_terms_by m (carried_at m flows) r e.up e.down) bound p ⊎ IsRefusedAmong (PickupSum m r) bound p
         → IsMoneyRefusal m x price d bound p
     row_refusal (inl (terms, sum, a)) = paid_row_same terms sum a
-    row_refusal (inr a) = (
+    row_refusal (inr (inr (terms, sum, a))) = inr (r, named, (terms, factor_of_pickup terms sum, a))
+    row_refusal (inr (inl a)) = inl (
       rent_terms m x d r,
       payment _ (rent_of_row r named),
-      subst₂ (λ u v. IsRefusedIn (rent_terms_by m (line_flow m (injection m x)) r u v) bound p) (sym h.up) (sym h.down)
+      subst₂ (λ u v. IsRefusedIn (rent_terms_by m (carried m x) r u v) bound p) (sym h.up) (sym h.down)
           (subst (λ f. IsRefusedIn (earned_terms e.up e.down (priced_flow m r f) (row_offset m r)) bound p) same_flow a),
     )

@@ -11,19 +11,19 @@ use Rattle.exact_fraction.specs.declared.Passed.{Passed}
 use Rattle.market_model.specs.declared.limits.Row.{Row}
 use Rattle.market_model.specs.declared.participants.Block.{Block}
 use Rattle.market_model.specs.declared.participants.Parts.{Parts}
-use Rattle.market_model.specs.Dispatch.{Dispatch, injection, places, signed_by_side, block_at, accepted}
-use Rattle.market_model.specs.LimitRows.{flow_by, flow_terms, is_soft, line_flow, penalty, rows}
+use Rattle.market_model.specs.Dispatch.{Dispatch, places, signed_by_side, block_at, accepted}
+use Rattle.market_model.specs.LimitRows.{carried, flow_by, is_soft, penalty, rows}
 use Rattle.market_model.specs.Market.{IsMarket}
 use Rattle.market_model.specs.NamedSums.{IsRefusedIn, IsShareRefusal}
 use Rattle.market_model.specs.Optimality.{block_value, penalty_terms, value_terms, welfare_for, welfare_terms, welfare_terms_for}
 use Rattle.market_model.specs.Overrun.{excess, excess_by}
 use Rattle.market_model.specs.PutIn.{dispatch_of}
-use Rattle.market_model.specs.SumTables.{IsRefusedAmong, RowFlowSum, flow_of_row}
+use Rattle.market_model.specs.SumTables.{IsFlowRefusal}
 use Rattle.market_model.proofs.MorePlaces.{total-places_more}
 use Rattle.market_model.proofs.PutInSteps.{accepted_is}
 use Rattle.market_model.proofs.SumSteps.{behind, in_front, share_at, terms_at}
-use Rattle.limit_screen.proofs.ScreenLemmas.{law_of_row_flows, row_terms}
-use Rattle.limit_screen.specs.Flows.{flows_at, line_in}
+use Rattle.limit_screen.proofs.ScreenLemmas.{flow_refusal_same, law_of_row_flows, row_terms}
+use Rattle.limit_screen.specs.Flows.{carried_at, flows_at}
 use Rattle.settlement.specs.Refusals.{IsWelfareRefusal}
 
 -- ---- blocks
@@ -78,10 +78,10 @@ module _ (m : Parts) (x : Dispatch) where
     worth_same e sum is = is ∙ sym (ap total (terms_more false e ∙ append-nil (welfare_terms_for m g x)))
 
     module _ (soft : is_soft m r ≡ true) (fs : List Fraction) (are : fs ≡ flows_at m x) (market : IsMarket m) (c : Contains (rows m) r) where
-      excess_is : excess_by m r (flow_by m (line_in m fs) r) ≡ excess m x r
+      excess_is : excess_by m r (flow_by m (carried_at m fs) r) ≡ excess m x r
       excess_is = ap (excess_by m r) (law_of_row_flows m x fs r market are c)
 
-      pub worth_less : (old new : Fraction) → old ≡ welfare_for m g x → new ≡ old +ℚ neg_ℚ (penalty m r) *ℚ excess_by m r (flow_by m (line_in m fs) r) → new ≡ welfare_for m (g ++ r ∷ []) x
+      pub worth_less : (old new : Fraction) → old ≡ welfare_for m g x → new ≡ old +ℚ neg_ℚ (penalty m r) *ℚ excess_by m r (flow_by m (carried_at m fs) r) → new ≡ welfare_for m (g ++ r ∷ []) x
       unfolding welfare_for
       worth_less old new is e =
           e ∙ ap₂ (λ s t. s +ℚ neg_ℚ (penalty m r) *ℚ t) is excess_is
@@ -90,13 +90,13 @@ module _ (m : Parts) (x : Dispatch) where
 
       -- its flow is refused, or what it costs
       pub cost_refused : (left : List Row) (sum : Fraction) (bound : ℕ) (p : Passed Fraction) → rows m ≡ g ++ r ∷ left → sum ≡ welfare_for m g x
-          → IsRefusedAmong (RowFlowSum m (line_in m fs) r) bound p ⊎ IsShareRefusal sum (neg_ℚ (penalty m r)) (excess_by m r (flow_by m (line_in m fs) r)) bound p
+          → IsFlowRefusal m (carried_at m fs) r bound p ⊎ IsShareRefusal sum (neg_ℚ (penalty m r)) (excess_by m r (flow_by m (carried_at m fs) r)) bound p
           → IsWelfareRefusal m x bound p
       unfolding welfare_for
-      cost_refused left sum bound p all is (inl (_, flow_of_row, a)) =
-          inr (r, c, soft, (flow_terms m (line_flow m (injection m x)) r, flow_of_row, subst (λ ts. IsRefusedIn ts bound p) (row_terms m x fs r market are c) a))
+      cost_refused left sum bound p all is (inl a) =
+          inr (r, c, soft, flow_refusal_same m (carried_at m fs) (carried m x) r bound p (row_terms m x fs are r market c) a)
       cost_refused left sum bound p all is (inr a) =
-          inl (share_at (welfare_terms m x) (welfare_terms_for m g x) (penalty_terms m left x) (cost_term r) split bound p sum (neg_ℚ (penalty m r)) (excess_by m r (flow_by m (line_in m fs) r))
+          inl (share_at (welfare_terms m x) (welfare_terms_for m g x) (penalty_terms m left x) (cost_term r) split bound p sum (neg_ℚ (penalty m r)) (excess_by m r (flow_by m (carried_at m fs) r))
           (ap (Product (neg_ℚ (penalty m r))) (sym excess_is)) is a)
         where
           kept : filter (is_soft m) (rows m) ≡ filter (is_soft m) g ++ r ∷ filter (is_soft m) left

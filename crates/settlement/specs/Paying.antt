@@ -1,19 +1,14 @@
 -- What units are paid, loads pay and limits earn at prices for the buses.
 -- Schweppe and others, Spot Pricing of Electricity: the merchandising surplus.
-use Rattle.std.specs.Prelude.{◌≡◌, ℕ, ◌<◌, List, ◌++◌, length, map, slice_index_or}
+use Rattle.std.specs.Prelude.{◌≡◌, ℕ, ◌<◌, List, ◌++◌, length, map}
 use Rattle.fraction_theory.specs.Fraction.{Fraction, neg_ℚ}
 use Rattle.fraction_theory.specs.Sums.{Term, Plain}
 use Rattle.market_model.specs.declared.answered.Duals.{Duals}
 use Rattle.market_model.specs.declared.answered.Load.{Load}
-use Rattle.market_model.specs.declared.answered.Price.{Price}
 use Rattle.market_model.specs.declared.answered.UnitPay.{UnitPay}
 use Rattle.market_model.specs.declared.participants.Parts.{Parts}
-use Rattle.market_model.specs.Dispatch.{Dispatch, zero}
+use Rattle.market_model.specs.Dispatch.{Dispatch}
 use Rattle.market_model.specs.Optimality.{Feasible, Supports, bus_price}
-
--- the whole price at a bus; 0 past the end
-abbrev pub total_at : {N : Type 0} → (N → Fraction) → List (Price N) → ℕ → Fraction
-total_at value prices bus = slice_index_or (map (λ p. value p.total) prices) bus zero
 
 -- the prices are those of the duals
 abbrev pub ArePricesOf : Parts → Duals Fraction → (ℕ → Fraction) → Type 0

@@ -5,18 +5,19 @@ use Rattle.exact_fraction.specs.declared.Passed.{Passed}
 use Rattle.market_model.specs.declared.answered.Duals.{Duals}
 use Rattle.market_model.specs.declared.participants.Parts.{Parts}
 use Rattle.market_model.specs.declared.stops.Stop.{Stop}
-use Rattle.market_model.specs.Dispatch.{Dispatch, injection}
+use Rattle.market_model.specs.Dispatch.{Dispatch}
 use Rattle.market_model.specs.declared.limits.Row.{Row}
-use Rattle.market_model.specs.LimitRows.{is_soft, line_flow, rows}
+use Rattle.market_model.specs.LimitRows.{carried, is_soft, rows}
 use Rattle.market_model.specs.NamedSums.{IsRefusedIn}
-use Rattle.market_model.specs.Optimality.{welfare_terms}
+use Rattle.market_model.specs.Optimality.{named_rows, welfare_terms}
 use Rattle.market_model.specs.Stops.{StopsBy}
-use Rattle.market_model.specs.SumTables.{IsRefusedAmong, RowFlowSum, SettledSum}
+use Rattle.market_model.specs.SumTables.{IsFactorRefusal, IsFlowRefusal, IsRefusedAmong, SettledSum}
 use Rattle.limit_screen.specs.Flows.{IsFlowsRefusal}
 
--- an operation refused where a dispatch whose flows are known is settled at prices of the buses
+-- an operation refused where a dispatch whose flows are known is settled at prices of the buses: in one of the sums of that, or in a factor of
+-- a row that the duals name
 abbrev pub IsMoneyRefusal : Parts → Dispatch → (ℕ → Fraction) → Duals Fraction → ℕ → Passed Fraction → Type 0
-IsMoneyRefusal m x price d bound p = IsRefusedAmong (SettledSum m x price d) bound p
+IsMoneyRefusal m x price d bound p = IsRefusedAmong (SettledSum m x price d) bound p ⊎ IsFactorRefusal m (named_rows m d) bound p
 
 -- why it was not settled: an operation was refused, or memory was
 abbrev pub IsMoneyStop : {N : Type 0} → (N → Fraction) → ℕ → Parts → Dispatch → (ℕ → Fraction) → Duals Fraction → Stop N → Type 0
@@ -30,4 +31,4 @@ IsSettlementStop value bound m x price d stop = StopsBy value (λ p. IsFlowsRefu
 abbrev pub IsWelfareRefusal : Parts → Dispatch → ℕ → Passed Fraction → Type 0
 IsWelfareRefusal m x bound p =
     IsRefusedIn (welfare_terms m x) bound p
-    ⊎ ((r : Row) × Contains (rows m) r × (is_soft m r ≡ true) × IsRefusedAmong (RowFlowSum m (line_flow m (injection m x)) r) bound p)
+    ⊎ ((r : Row) × Contains (rows m) r × (is_soft m r ≡ true) × IsFlowRefusal m (carried m x) r bound p)

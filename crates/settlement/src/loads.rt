@@ -7,9 +7,8 @@ ghost use Rattle.market_model.specs.declared.answered.Duals.{Duals as DualsOf};
 ghost use Rattle.exact_fraction.specs.declared.Op.TheVariants.{Plus, Times};
 ghost use Rattle.market_model.specs.Dispatch.{Dispatch, places};
 ghost use Rattle.market_model.specs.NamedSums.{IsRefusal};
-ghost use Rattle.market_model.specs.Valued.{passed_at, load_at};
+ghost use Rattle.market_model.specs.Valued.{passed_at, load_at, total_at};
 ghost use Rattle.market_model.specs.Settlement.{pay_of_load};
-ghost use Rattle.settlement.specs.Paying.{total_at};
 ghost use Rattle.settlement.specs.Refusals.{IsMoneyStop};
 
 use exact_fraction::{Exact, Passed, exact_sum};

@@ -15,14 +15,14 @@ use limit_rows::found_row;
 use market_model::{Duals, List, Market, Rent, Stop};
 use std::alloc::Global;
 
-/// The flow and the rent of each row with a dual, in the order of the duals, of the flows of a dispatch by bus and then by line.
+/// The flow and the rent of each row with a dual, in the order of the duals, of the flows of a dispatch by bus, by line and by outage of a unit.
 pub fn rents<N: Exact>(
     alloc: Global,
     market: &Market,
     flows: &[N],
     duals: &Duals<N>,
 ) -> Result<List<Rent<N>>, Stop<N>>
-    requires flows { length flows.now ≡ length market.now.buses + length market.now.lines }
+    requires flows { length flows.now ≡ length market.now.buses + length market.now.lines + length market.now.unit_outages }
     requires duals { ProperDuals market.now (duals_at N.value duals.now) }
     ensures cause { (x : Dispatch) (price : ℕ → Fraction) → map N.value flows.now ≡ flows_at market.now x → IfErr result (IsMoneyStop N.value N.bound market.now x price (duals_at N.value duals.now)) }
     ensures rents { (x : Dispatch) → map N.value flows.now ≡ flows_at market.now x → IfOk result (λ rents. map (rent_at N.value) rents ≡ map (rent_of market.now x (duals_at N.value duals.now)) (named_rows market.now (duals_at N.value duals.now))) }

@@ -2,19 +2,19 @@
 
 ghost use Rattle.std.specs.Prelude.{◌≡◌, ◌⊎◌, ◌+◌, ◌<◌, length, map, IfOk, IfErr};
 ghost use Rattle.fraction_theory.specs.Sums.{total};
-ghost use Rattle.market_model.specs.LimitRows.{IsCauseAmong};
+ghost use Rattle.market_model.specs.LimitRows.{IsCauseOf};
 ghost use Rattle.market_model.specs.NamedSums.{IsRefusedIn};
 ghost use Rattle.market_model.specs.Optimality.{IsOneSided};
 ghost use Rattle.market_model.specs.Overrun.{excess_by};
 ghost use Rattle.market_model.specs.RightAnswers.{rent_by};
 ghost use Rattle.market_model.specs.Settlement.{earned_terms, lower_terms, priced_flow, rent_terms_by, upper_terms};
-ghost use Rattle.market_model.specs.SumTables.{IsRefusedAmong, PaidRowSum};
+ghost use Rattle.market_model.specs.SumTables.{IsRefusedAmong, PaidRowSum, PickupSum};
 ghost use Rattle.market_model.specs.Valued.{dual_at, passed_at, rent_at};
-ghost use Rattle.limit_screen.specs.Flows.{line_in};
+ghost use Rattle.limit_screen.specs.Flows.{carried_at};
 
 use exact_fraction::{Exact, Passed, Sign, exact_difference, exact_sum, size};
 use limit_rows::{limit_at, row_flow, row_offset};
-use limit_screen::line_flows;
+use limit_screen::carried_flows;
 use market_model::{Dual, Market, Rent, Row, datum};
 use std::cmp::Ordering;
 
@@ -68,7 +68,7 @@ fn earned<N: Exact>(dual: &Dual<N>, priced: N, offset: N) -> Result<N, Passed<N>
     }
 }
 
-/// The flow of a row, of flows by bus and then by line, by how much it exceeds the limit, and what that earns at the prices of a dual.
+/// The flow of a row, of flows by bus, by line and by outage of a unit, by how much it exceeds the limit, and what that earns at the prices of a dual.
 pub fn row_rent<N: Exact>(
     market: &Market,
     row: Row,
@@ -76,14 +76,15 @@ pub fn row_rent<N: Exact>(
     flows: &[N],
 ) -> Result<Rent<N>, Passed<N>>
     requires line { row.line < length market.now.lines }
-    requires lost { IsCauseAmong (length market.now.lines) row.cause }
+    requires lost { IsCauseOf market.now row.cause }
     requires one_sided { IsOneSided (dual_at N.value dual.now) }
-    requires flows { length flows.now ≡ length market.now.buses + length market.now.lines }
-    ensures rent { IfOk result (λ rent. rent_at N.value rent ≡ rent_by market.now (line_in market.now (map N.value flows.now)) (dual_at N.value dual.now) row) }
-    ensures cause { let lines = line_in market.now (map N.value flows.now) in IfErr result (λ passed. IsRefusedAmong (PaidRowSum market.now lines row) N.bound (passed_at N.value passed)
-        ⊎ IsRefusedIn (rent_terms_by market.now lines row (N.value dual.now.up) (N.value dual.now.down)) N.bound (passed_at N.value passed)) }
+    requires flows { length flows.now ≡ length market.now.buses + length market.now.lines + length market.now.unit_outages }
+    ensures rent { IfOk result (λ rent. rent_at N.value rent ≡ rent_by market.now (carried_at market.now (map N.value flows.now)) (dual_at N.value dual.now) row) }
+    ensures cause { let carried = carried_at market.now (map N.value flows.now) in IfErr result (λ passed. IsRefusedAmong (PaidRowSum market.now carried row) N.bound (passed_at N.value passed)
+        ⊎ IsRefusedIn (rent_terms_by market.now carried row (N.value dual.now.up) (N.value dual.now.down)) N.bound (passed_at N.value passed)
+        ⊎ IsRefusedAmong (PickupSum market.now row) N.bound (passed_at N.value passed)) }
 {
-    let flow = row_flow(market, line_flows(market, flows), row)?;
+    let flow = row_flow(market, carried_flows(market, flows), row)?;
     let over = excess(market, row, flow)?;
     let offset = row_offset(market, row)?;
     let rent = earned(dual, priced_flow(market, row, flow), offset)?;

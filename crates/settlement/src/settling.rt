@@ -8,16 +8,16 @@ ghost use Rattle.market_model.specs.Fitting.{FitsMoney};
 ghost use Rattle.market_model.specs.Laws.{HasOffsetsWithin};
 ghost use Rattle.market_model.specs.NamedSums.{IsRefusedIn};
 ghost use Rattle.market_model.specs.Optimality.{ProperDuals};
-ghost use Rattle.market_model.specs.Valued.{duals_at, money_at, passed_at};
+ghost use Rattle.market_model.specs.Valued.{duals_at, money_at, passed_at, total_at};
 ghost use Rattle.market_model.specs.PutIn.{dispatch_of};
 ghost use Rattle.market_model.specs.RightAnswers.{settlement_at};
 ghost use Rattle.limit_screen.specs.Flows.{flows_at};
-ghost use Rattle.settlement.specs.Paying.{total_at, paid_terms, IsSupportedAt};
+ghost use Rattle.settlement.specs.Paying.{paid_terms, IsSupportedAt};
 ghost use Rattle.settlement.specs.Refusals.{IsMoneyStop, IsSettlementStop};
 
 use crate::loads::loads;
 use crate::rents::rents;
-use crate::units::unit_pays;
+use crate::units::{lost_prices, own_prices, unit_pays};
 use exact_fraction::{Exact, Passed, exact_sum};
 use limit_screen::flows_made;
 use market_model::{Duals, Load, Market, Money, Price, Stop, UnitPay, datum};
@@ -38,8 +38,8 @@ fn surplus<N: Exact>(loads: &[Load<N>], units: &[UnitPay<N>]) -> Result<N, Passe
     Ok(surplus)
 }
 
-/// The settlement of a dispatch whose flows are known: what each bus puts in, and then what each line carries, as `limit_screen::flows`
-/// puts them, in 10^-9 MW. The rest as in `settle`.
+/// The settlement of a dispatch whose flows are known: what each bus puts in, then what each line carries, and then what the unit of each
+/// outage of a unit puts out, as `limit_screen::flows` puts them, in 10^-9 MW. The rest as in `settle`.
 pub fn settle_flows<N: Exact>(
     alloc: Global,
     market: &Market,
@@ -59,21 +59,24 @@ pub fn settle_flows<N: Exact>(
     ensures cause { IfErr result (IsMoneyStop N.value N.bound market.now (dispatch_of N.value dispatch.now) (total_at N.value prices.now) (duals_at N.value duals.now)) }
 {
     let _lines = market.lines();
-    let units = unit_pays(alloc, market, dispatch, prices)?;
+    let by_unit = own_prices(alloc, market, prices, duals)?;
+    let units = unit_pays(alloc, market, dispatch, &by_unit)?;
+    let own = lost_prices(alloc, market, &by_unit)?;
     let loads = loads(alloc, market, prices)?;
     let rents = rents(alloc, market, flows, duals)?;
     let surplus = surplus(loads.slice(), units.slice())?;
     Ok(Money {
         units,
+        own,
         loads,
         rents,
         surplus,
     })
 }
 
-/// The settlement of a dispatch at bus prices, one for each bus, with duals as an answer has them: what units are paid, loads pay and
-/// limits with duals earn. MW are in 10^-9, prices in 10^-6 per MWh, money in 10^-15. The prices may be any; where they are those of the
-/// duals, the money is that of a right answer (`laws::money_is_right`).
+/// The settlement of a dispatch at bus prices, one for each bus, with duals as an answer has them: what units are paid, each at its own
+/// price, what loads pay and limits with duals earn. MW are in 10^-9, prices in 10^-6 per MWh, money in 10^-15. The prices may be any;
+/// where they are those of the duals, the money is that of a right answer (`laws::money_is_right`).
 pub fn settle<N: Exact>(
     alloc: Global,
     market: &Market,

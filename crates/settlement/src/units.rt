@@ -1,28 +1,55 @@
 //! What units put out, and what they are paid for that.
 
-ghost use Rattle.std.specs.Prelude.{◌≡◌, ◌⊎◌, ◌<◌, length, map, IfOk, IfErr};
+ghost use Rattle.std.specs.Prelude.{◌≡◌, ◌⊎◌, ◌<◌, ℕ, length, map, IfOk, IfErr};
 ghost use Rattle.fraction_theory.specs.Fraction.{Fraction, ◌*ℚ◌};
 ghost use Rattle.market_model.specs.declared.answered.Duals.{Duals as DualsOf};
 ghost use Rattle.exact_fraction.specs.declared.Op.TheVariants.{Times};
-ghost use Rattle.market_model.specs.Dispatch.{places, output as output_of, output_terms};
+ghost use Rattle.market_model.specs.Dispatch.{Dispatch, places, output as output_of, output_terms};
+ghost use Rattle.market_model.specs.LimitRows.{lost_unit};
 ghost use Rattle.market_model.specs.NamedSums.{IsRefusal, IsRefusedIn};
+ghost use Rattle.market_model.specs.Optimality.{own_price, ProperDuals};
 ghost use Rattle.market_model.specs.PutIn.{dispatch_of};
-ghost use Rattle.market_model.specs.Valued.{passed_at, unit_pay_at};
-ghost use Rattle.market_model.specs.Settlement.{pay_of_unit, price_for_unit};
-ghost use Rattle.settlement.specs.Paying.{total_at};
+ghost use Rattle.market_model.specs.Valued.{duals_at, passed_at, total_at, unit_pay_at};
+ghost use Rattle.market_model.specs.Settlement.{pay_of_unit};
 ghost use Rattle.settlement.specs.Refusals.{IsMoneyStop};
 
+use bus_prices::own;
 use exact_fraction::{Exact, Passed};
-use market_model::{List, Market, Price, Stop, UnitPay, output};
+use market_model::{Duals, List, Market, Memory, Price, Stop, UnitPay, output, zeros};
 use std::alloc::Global;
 
-/// What a unit is paid for a MW: the price of its bus.
-fn price_for<N: Exact>(market: &Market, place: usize, prices: &[Price<N>]) -> N
-    requires place { place < length market.now.units }
+/// The own price of each unit, where buses have these prices: what it is paid for a MW.
+pub fn own_prices<N: Exact>(
+    alloc: Global,
+    market: &Market,
+    prices: &[Price<N>],
+    duals: &Duals<N>,
+) -> Result<Vec<N>, Stop<N>>
     requires prices { length prices.now ≡ length market.now.buses }
-    ensures { N.value result ≡ price_for_unit market.now (total_at N.value prices.now) place }
+    requires duals { ProperDuals market.now (duals_at N.value duals.now) }
+    ensures cause { (x : Dispatch) → IfErr result (IsMoneyStop N.value N.bound market.now x (total_at N.value prices.now) (duals_at N.value duals.now)) }
+    ensures own { IfOk result (λ own. map N.value own.items ≡ map (own_price market.now (duals_at N.value duals.now) (total_at N.value prices.now)) (places (length market.now.units))) }
 {
-    prices[market.units().at(place).bus].total
+    let mut by_unit = zeros(alloc, market.units().len())?;
+    own(market, duals, prices, &mut by_unit)?;
+    Ok(by_unit)
+}
+
+/// The own price of the unit of each outage of a unit, in the order in which these are listed.
+pub fn lost_prices<N: Exact>(
+    alloc: Global,
+    market: &Market,
+    own: &[N],
+) -> Result<List<N>, Memory>
+    requires { length own.now ≡ length market.now.units }
+    ensures { (price : ℕ → Fraction) → map N.value own.now ≡ map price (places (length market.now.units))
+        → IfOk result (λ lost. map N.value lost ≡ map (λ k. price (lost_unit market.now k)) (places (length market.now.unit_outages))) }
+{
+    let mut lost = List::new(alloc);
+    for unit in market.unit_outages().slice() {
+        lost.push(own[*unit])?;
+    }
+    Ok(lost)
 }
 
 /// What a unit puts out, and what it is paid for that at its price.
@@ -44,22 +71,23 @@ fn unit_pay<N: Exact>(
     Ok(UnitPay { mw, paid })
 }
 
-/// What each unit is paid.
+/// What each unit is paid at its own price.
 pub fn unit_pays<N: Exact>(
     alloc: Global,
     market: &Market,
     dispatch: &[N],
-    prices: &[Price<N>],
+    own: &[N],
 ) -> Result<List<UnitPay<N>>, Stop<N>>
     requires dispatch { length dispatch.now ≡ length market.now.blocks }
-    requires prices { length prices.now ≡ length market.now.buses }
-    ensures cause { (d : DualsOf Fraction) → IfErr result (IsMoneyStop N.value N.bound market.now (dispatch_of N.value dispatch.now) (total_at N.value prices.now) d) }
-    ensures pays { IfOk result (λ pays. map (unit_pay_at N.value) pays ≡ map (pay_of_unit market.now (dispatch_of N.value dispatch.now) (total_at N.value prices.now)) (places (length market.now.units))) }
+    requires own { length own.now ≡ length market.now.units }
+    ensures cause { (price : ℕ → Fraction) (d : DualsOf Fraction) → map N.value own.now ≡ map (own_price market.now d price) (places (length market.now.units))
+        → IfErr result (IsMoneyStop N.value N.bound market.now (dispatch_of N.value dispatch.now) price d) }
+    ensures pays { (price : ℕ → Fraction) (d : DualsOf Fraction) → map N.value own.now ≡ map (own_price market.now d price) (places (length market.now.units))
+        → IfOk result (λ pays. map (unit_pay_at N.value) pays ≡ map (pay_of_unit market.now (dispatch_of N.value dispatch.now) price d) (places (length market.now.units))) }
 {
     let mut pays = List::new(alloc);
-    for place in 0..market.units().len() {
-        let pay = unit_pay(market, place, dispatch, price_for(market, place, prices))?;
-        pays.push(pay)?;
+    for (place, price) in own.iter().enumerate() {
+        pays.push(unit_pay(market, place, dispatch, *price)?)?;
     }
     Ok(pays)
 }

@@ -3,20 +3,20 @@
 ghost use Rattle.std.specs.Prelude.{◌≡◌, ◌⊎◌, ◌+◌, ◌<◌, length, map, IfOk, IfErr};
 ghost use Rattle.fraction_theory.specs.Fraction.{neg_ℚ, ◌+ℚ◌, ◌*ℚ◌};
 ghost use Rattle.fraction_theory.specs.Sums.{total};
-ghost use Rattle.market_model.specs.LimitRows.{IsCauseAmong, flow_by, penalty};
+ghost use Rattle.market_model.specs.LimitRows.{IsCauseOf, flow_by, penalty};
 ghost use Rattle.market_model.specs.NamedSums.{IsRefusedIn, IsShareRefusal};
 ghost use Rattle.market_model.specs.Optimality.{value_terms, welfare as welfare_of, welfare_terms};
 ghost use Rattle.market_model.specs.Overrun.{excess_by};
 ghost use Rattle.market_model.specs.PutIn.{dispatch_of};
-ghost use Rattle.market_model.specs.SumTables.{IsRefusedAmong, RowFlowSum};
+ghost use Rattle.market_model.specs.SumTables.{IsFlowRefusal};
 ghost use Rattle.market_model.specs.Valued.{passed_at};
-ghost use Rattle.limit_screen.specs.Flows.{flows_at, line_in};
+ghost use Rattle.limit_screen.specs.Flows.{carried_at, flows_at};
 ghost use Rattle.settlement.specs.Refusals.{IsWelfareRefusal};
 
 use crate::rows::excess;
 use exact_fraction::{Exact, Passed};
 use limit_rows::{is_soft, penalty_at, row_flow, rows};
-use limit_screen::line_flows;
+use limit_screen::carried_flows;
 use market_model::{Market, Row, block_value, datum};
 
 /// The value of what is bought less the cost of what is sold, in block order.
@@ -35,19 +35,19 @@ fn values<N: Exact>(market: &Market, dispatch: &[N]) -> Result<N, Passed<N>>
 /// A sum less what the limit of a row costs: its penalty for the excess of its flow.
 fn less_penalty<N: Exact>(market: &Market, row: Row, flows: &[N], sum: N) -> Result<N, Passed<N>>
     requires line { row.line < length market.now.lines }
-    requires lost { IsCauseAmong (length market.now.lines) row.cause }
-    requires flows { length flows.now ≡ length market.now.buses + length market.now.lines }
-    ensures less { let lines = line_in market.now (map N.value flows.now) in IfOk result (λ less. N.value less ≡ N.value sum +ℚ neg_ℚ (penalty market.now row) *ℚ excess_by market.now row (flow_by market.now lines row)) }
-    ensures cause { let lines = line_in market.now (map N.value flows.now) in IfErr result (λ passed. IsRefusedAmong (RowFlowSum market.now lines row) N.bound (passed_at N.value passed)
-        ⊎ IsShareRefusal (N.value sum) (neg_ℚ (penalty market.now row)) (excess_by market.now row (flow_by market.now lines row)) N.bound (passed_at N.value passed)) }
+    requires lost { IsCauseOf market.now row.cause }
+    requires flows { length flows.now ≡ length market.now.buses + length market.now.lines + length market.now.unit_outages }
+    ensures less { let carried = carried_at market.now (map N.value flows.now) in IfOk result (λ less. N.value less ≡ N.value sum +ℚ neg_ℚ (penalty market.now row) *ℚ excess_by market.now row (flow_by market.now carried row)) }
+    ensures cause { let carried = carried_at market.now (map N.value flows.now) in IfErr result (λ passed. IsFlowRefusal market.now carried row N.bound (passed_at N.value passed)
+        ⊎ IsShareRefusal (N.value sum) (neg_ℚ (penalty market.now row)) (excess_by market.now row (flow_by market.now carried row)) N.bound (passed_at N.value passed)) }
 {
-    let flow = row_flow(market, line_flows(market, flows), row)?;
+    let flow = row_flow(market, carried_flows(market, flows), row)?;
     let excess = excess(market, row, flow)?;
     let penalty: N = datum(penalty_at(market, row));
     sum.plus_product(penalty.neg(), excess)
 }
 
-/// What a dispatch is worth whose flows are known, by bus and then by line: the value of what is bought less the cost of what is sold, in
+/// What a dispatch is worth whose flows are known, by bus, by line and by outage of a unit: the value of what is bought less the cost of what is sold, in
 /// block order, and less the penalties of the limits that give way, in row order; in 10^-15. A limit that does not costs no arithmetic.
 pub fn welfare<N: Exact>(market: &Market, dispatch: &[N], flows: &[N]) -> Result<N, Passed<N>>
     requires dispatch { length dispatch.now ≡ length market.now.blocks }

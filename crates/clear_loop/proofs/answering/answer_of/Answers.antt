@@ -1,11 +1,10 @@
 use Rattle.std.proofs.Common.{Err, ◌≡◌, ◌∙◌, ap, sym, subst, length}
 use Rattle.std.proofs.lemmas.Result.{err_from_is_err_and}
 use Rattle.market_model.specs.Optimality.{welfare}
-use Rattle.market_model.specs.Valued.{duals_at, money_at, passed_at}
+use Rattle.market_model.specs.Valued.{duals_at, money_at, passed_at, total_at}
 use Rattle.market_model.specs.PutIn.{dispatch_of}
 use Rattle.market_model.specs.RightAnswers.{settlement_at}
 use Rattle.limit_screen.specs.Flows.{flows_at}
-use Rattle.settlement.specs.Paying.{total_at}
 use Rattle.settlement.specs.Refusals.{IsMoneyStop, IsWelfareRefusal}
 use Rattle.settlement.proofs.MoneyLemmas.{law_of_right_money}
 use Rattle.market_model.specs.declared.stops.Stop.TheVariants as stop

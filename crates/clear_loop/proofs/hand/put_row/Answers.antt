@@ -1,4 +1,4 @@
-use Rattle.limit_rows.proofs.PlaceLemmas.{at_places}
+use Rattle.market_model.proofs.RowMembers.{at_places}
 use Rattle.clear_loop.proofs.hand.put_row.Goals as goal
 
 pub name_at-name-requires-clause-line : goal.name_at-name-requires-clause-line

@@ -7,7 +7,7 @@ use Rattle.market_model.specs.declared.limits.Row.{Row}
 use Rattle.market_model.specs.Valued.{passed_at}
 use Rattle.market_model.specs.PutIn.{dispatch_of}
 use Rattle.market_model.proofs.StopLemmas.{on_passed_weaker}
-use Rattle.limit_screen.specs.Flows.{flows_at, line_in, IsFlowsRefusal}
+use Rattle.limit_screen.specs.Flows.{carried_at, flows_at, IsFlowsRefusal}
 use Rattle.limit_screen.specs.Screening.{AllKeep, IsScreenRefusal, IsWorstBy}
 use Rattle.market_model.specs.declared.stops.Stop.TheVariants as stop
 use Rattle.limit_screen.proofs.ScreenLemmas.{flow_count}
@@ -36,7 +36,7 @@ returns-in_err-row-clause-cause g c =
     let fs : map value c.deref.result.now ≡ flows_at m (dispatch_of value c.args.dispatch.now) = ap (map value) c.deref.ensures.value ∙ c.in_ok-by_place.ensures.flows in
     let p = err_from_is_err_and c.from_residual-in_err-row.result c.from_residual-in_err-row.ensures.1 in
     let given : c.from_residual-in_err-row.result ≡ Err (stop.Passed c.in_err-row.field-0.0) = p.1 ∙ ap Err p.2 in
-    rw given (inr (subst (λ (ys : List Fraction). IsScreenRefusal m (line_in m ys) g.N.Exact.bound (passed_at value c.in_err-row.field-0.0)) fs c.in_err-row.ensures.cause))
+    rw given (inr (subst (λ (ys : List Fraction). IsScreenRefusal m (carried_at m ys) g.N.Exact.bound (passed_at value c.in_err-row.field-0.0)) fs c.in_err-row.ensures.cause))
 
 pub returns-in-Some-clause-screened : goal.returns-in-Some-clause-screened
 returns-in-Some-clause-screened g c =
@@ -44,7 +44,7 @@ returns-in-Some-clause-screened g c =
     let m = c.args.market.now in
     let x = dispatch_of value c.args.dispatch.now in
     let fs : map value c.deref.result.now ≡ flows_at m x = ap (map value) c.deref.ensures.value ∙ c.in_ok-by_place.ensures.flows in
-    let f = line_in m (map value c.deref.result.now) in
+    let f = carried_at m (map value c.deref.result.now) in
     let g = c.args.taken.now in
     let worst = subst (λ (o : Option Row). MatchOption o (AllKeep m g f) (IsWorstBy m g f)) c.in-Some.is c.in_ok-row.ensures.worst in
     (worst.0, worst_at m c.lines-lines.ensures.market g x (map value c.deref.result.now) fs worst.0 c.in-Some.row worst.1)
@@ -55,7 +55,7 @@ returns-in-None-clause-screened g c =
     let m = c.args.market.now in
     let x = dispatch_of value c.args.dispatch.now in
     let fs : map value c.deref.result.now ≡ flows_at m x = ap (map value) c.deref.ensures.value ∙ c.in_ok-by_place.ensures.flows in
-    let f = line_in m (map value c.deref.result.now) in
+    let f = carried_at m (map value c.deref.result.now) in
     let g = c.args.taken.now in
     let keep = subst (λ (o : Option Row). MatchOption o (AllKeep m g f) (IsWorstBy m g f)) c.in-None.is c.in_ok-row.ensures.worst in
     (all_kept m c.lines-lines.ensures.market g x (map value c.deref.result.now) fs keep, ap (map value) (sym c.deref.ensures.value) ∙ fs)

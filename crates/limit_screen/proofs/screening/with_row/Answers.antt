@@ -4,12 +4,11 @@ use mir.Val.{to_z, of_z}
 use Rattle.fraction_theory.specs.Fraction.{whole, ◌-ℚ◌}
 use Rattle.fraction_theory.specs.Order.{◌<ℚ◌, ◌≤ℚ◌}
 use Rattle.market_model.specs.Dispatch.{zero}
-use Rattle.market_model.specs.LimitRows.{flow_by, flow_terms}
-use Rattle.market_model.specs.NamedSums.{IsRefusedIn}
-use Rattle.market_model.specs.SumTables.{flow_of_row}
+use Rattle.market_model.specs.LimitRows.{Carried, flow_by}
+use Rattle.market_model.specs.SumTables.{IsFlowRefusal}
 use Rattle.market_model.specs.Valued.{passed_at}
-use Rattle.limit_screen.specs.Flows.{line_in}
-use Rattle.limit_rows.proofs.PlaceLemmas.{at_places}
+use Rattle.limit_screen.specs.Flows.{carried_at}
+use Rattle.market_model.proofs.RowMembers.{at_places}
 use Rattle.limit_screen.proofs.ScreenLemmas.{kept, keeps_limit}
 use Rattle.limit_screen.proofs.screening.with_row.Given.{Over}
 use Rattle.limit_screen.proofs.screening.with_row.Goals as goal
@@ -30,11 +29,8 @@ pub returns-in_err-flow-clause-cause : goal.returns-in_err-flow-clause-cause
 returns-in_err-flow-clause-cause g c =
     let m = c.args.market.now in
     let given : c.from_residual.result ≡ Err c.in_err-flow.field-0.0 = search rules in
-    rw given (
-      flow_terms m (line_in m (map g.N.Exact.value c.args.flows.now)) c.args.row,
-      flow_of_row,
-      subst (λ f. IsRefusedIn (flow_terms m f c.args.row) g.N.Exact.bound (passed_at g.N.Exact.value c.in_err-flow.field-0.0)) c.line_flows.ensures.is c.in_err-flow.ensures.cause,
-    )
+    rw given
+    (subst (λ (f : Carried). IsFlowRefusal m f c.args.row g.N.Exact.bound (passed_at g.N.Exact.value c.in_err-flow.field-0.0)) c.carried_flows.ensures.is c.in_err-flow.ensures.cause)
 
 pub beyond-requires : goal.beyond-requires
 beyond-requires g c =
@@ -46,19 +42,19 @@ returns-in_err-overrun-clause-cause g c = absurd c.in_err-overrun.ensures.fits
 
 -- the flow passes the limit by the overrun
 is_overrun : (g : Over) (c : After-keeps_excess g) → let m = c.args.market.now in
-    (zero <ℚ g.N.Exact.value c.in-Some.overrun) × (g.N.Exact.value c.in-Some.overrun ≡ overrun_of m c.args.row (flow_by m (line_in m (map g.N.Exact.value c.args.flows.now)) c.args.row))
+    (zero <ℚ g.N.Exact.value c.in-Some.overrun) × (g.N.Exact.value c.in-Some.overrun ≡ overrun_of m c.args.row (flow_by m (carried_at m (map g.N.Exact.value c.args.flows.now)) c.args.row))
 is_overrun g c =
     let m = c.args.market.now in
     let r = c.args.row in
     let known : to_z w64 (of_z w64 c.limit_at.result) ≡ c.limit_at.result = to_z-of_z w64 c.limit_at.result (record { sfits = c.limit_at.type_inv }) in
     let past = rw c.in-Some.is at c.in_ok-overrun.ensures.overrun in
-    (past.0, past.1 ∙ ap₂ (λ f l. abs_ℚ f -ℚ l) (c.in_ok-flow.ensures.flow ∙ ap (λ f. flow_by m f r) c.line_flows.ensures.is) (c.datum.ensures ∙ ap whole known ∙ c.limit_at.ensures.limit))
+    (past.0, past.1 ∙ ap₂ (λ f l. abs_ℚ f -ℚ l) (c.in_ok-flow.ensures.flow ∙ ap (λ (f : Carried). flow_by m f r) c.carried_flows.ensures.is) (c.datum.ensures ∙ ap whole known ∙ c.limit_at.ensures.limit))
 
 pub returns-then-keeps_excess-clause-worst : goal.returns-then-keeps_excess-clause-worst
 returns-then-keeps_excess-clause-worst g c = λ taken rs are before.
     let m = c.args.market.now in
     let r = c.args.row in
-    let f = flow_by m (line_in m (map g.N.Exact.value c.args.flows.now)) in
+    let f = flow_by m (carried_at m (map g.N.Exact.value c.args.flows.now)) in
     let past = is_overrun g (goal.at.returns-then-keeps_excess-clause-worst g c).After-keeps_excess in
     kept g.N.Exact.value m taken f rs r c.args.worst before (c.if-keeps_excess.ensures taken (f r) are past.1)
 
@@ -66,7 +62,7 @@ pub returns-else-keeps_excess-clause-worst : goal.returns-else-keeps_excess-clau
 returns-else-keeps_excess-clause-worst g c = λ taken rs are before.
     let m = c.args.market.now in
     let r = c.args.row in
-    let f = flow_by m (line_in m (map g.N.Exact.value c.args.flows.now)) in
+    let f = flow_by m (carried_at m (map g.N.Exact.value c.args.flows.now)) in
     let past = is_overrun g (goal.at.returns-else-keeps_excess-clause-worst g c).After-keeps_excess in
     c.worse.ensures m taken f rs before (c.if-keeps_excess.ensures taken (f r) are past.1) past.1
 
@@ -74,9 +70,9 @@ pub returns-in-None-clause-worst : goal.returns-in-None-clause-worst
 returns-in-None-clause-worst g c = λ taken rs are before.
     let m = c.args.market.now in
     let r = c.args.row in
-    let f = line_in m (map g.N.Exact.value c.args.flows.now) in
+    let f = carried_at m (map g.N.Exact.value c.args.flows.now) in
     let known : to_z w64 (of_z w64 c.limit_at.result) ≡ c.limit_at.result = to_z-of_z w64 c.limit_at.result (record { sfits = c.limit_at.type_inv }) in
     let past = rw c.in-None.is at c.in_ok-overrun.ensures.overrun in
     kept g.N.Exact.value m taken (flow_by m f) rs r c.args.worst before
     (keeps_limit m taken r (flow_by m f r) c.lines-lines.ensures.market
-    (subst (λ x. x ≤ℚ zero) (ap₂ (λ f l. abs_ℚ f -ℚ l) (c.in_ok-flow.ensures.flow ∙ ap (λ f. flow_by m f r) c.line_flows.ensures.is) (c.datum.ensures ∙ ap whole known ∙ c.limit_at.ensures.limit)) past))
+    (subst (λ x. x ≤ℚ zero) (ap₂ (λ f l. abs_ℚ f -ℚ l) (c.in_ok-flow.ensures.flow ∙ ap (λ (f : Carried). flow_by m f r) c.carried_flows.ensures.is) (c.datum.ensures ∙ ap whole known ∙ c.limit_at.ensures.limit)) past))

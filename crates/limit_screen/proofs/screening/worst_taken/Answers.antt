@@ -1,8 +1,8 @@
-use Rattle.std.proofs.Common.{List, None, Some, ◌∙◌, map, subst}
+use Rattle.std.proofs.Common.{rules, Err, List, None, Some, ◌≡◌, ◌∙◌, map, subst}
 use Rattle.market_model.specs.LimitRows.{flow_by}
 use Rattle.market_model.specs.declared.limits.Row.{Row}
 use Rattle.limit_rows.proofs.WalkLemmas.{all_taken, taken_listed}
-use Rattle.limit_screen.specs.Flows.{line_in}
+use Rattle.limit_screen.specs.Flows.{carried_at}
 use Rattle.limit_screen.specs.Screening.{IsWorstOf}
 use Rattle.limit_screen.proofs.ScreenLemmas.{all_keep_by}
 use Rattle.limit_screen.proofs.screening.worst_taken.Goals as goal
@@ -14,10 +14,17 @@ with_row-requires-clause-row g c =
 pub loop-row-preserved : goal.loop-row-preserved
 loop-row-preserved g c = λ taken are. c.in_ok-worst.ensures.worst taken c.loop-row.yielded are (c.loop-row.invariant taken are)
 
+pub returns-in_err-worst-clause-cause : goal.returns-in_err-worst-clause-cause
+returns-in_err-worst-clause-cause g c =
+    let m = c.args.market.now in
+    let listed = taken_listed m _ _ _ c.loop-row.yielded (c.into_iter-row-iterator.ensures.into_iter_gives ∙ c.rows-row-items.ensures.rows) c.loop-row.yielded_by c.next.result c.in-Some.row c.in-Some.is c.next.ensures.steps in
+    let given : c.from_residual.result ≡ Err c.in_err-worst.field-0.0 = search rules in
+    rw given (c.in-Some.row, listed, c.in_err-worst.ensures.cause)
+
 pub returns-in-Some-worst-clause-worst : goal.returns-in-Some-worst-clause-worst
 returns-in-Some-worst-clause-worst g c = λ taken are.
     let m = c.args.market.now in
-    let f = line_in m (map g.N.Exact.value c.args.flows.now) in
+    let f = carried_at m (map g.N.Exact.value c.args.flows.now) in
     let all = all_taken m _ _ _ c.loop-row.yielded (c.into_iter-row-iterator.ensures.into_iter_gives ∙ c.rows-row-items.ensures.rows) c.loop-row.yielded_by c.next.result c.in-None.is c.next.ensures.steps in
     let some = rw c.in-Some-worst.is at c.loop-row.invariant taken are in
     (subst (λ (rs : List Row). IsWorstOf g.N.Exact.value m taken (flow_by m f) rs (Some c.in-Some-worst.broken)) all some).0
@@ -25,7 +32,7 @@ returns-in-Some-worst-clause-worst g c = λ taken are.
 pub returns-in-None-worst-clause-worst : goal.returns-in-None-worst-clause-worst
 returns-in-None-worst-clause-worst g c = λ taken are.
     let m = c.args.market.now in
-    let f = line_in m (map g.N.Exact.value c.args.flows.now) in
+    let f = carried_at m (map g.N.Exact.value c.args.flows.now) in
     let all = all_taken m _ _ _ c.loop-row.yielded (c.into_iter-row-iterator.ensures.into_iter_gives ∙ c.rows-row-items.ensures.rows) c.loop-row.yielded_by c.next.result c.in-None.is c.next.ensures.steps in
     let none = rw c.in-None-worst.is at c.loop-row.invariant taken are in
     all_keep_by m taken f (subst (λ (rs : List Row). IsWorstOf g.N.Exact.value m taken (flow_by m f) rs None) all none)

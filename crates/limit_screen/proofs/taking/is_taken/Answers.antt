@@ -1,7 +1,7 @@
 use Rattle.std.proofs.Common.{rules, ◌↔◌, IsTrue, Contains, subst}
 use Rattle.market_model.specs.LimitRows.{row_id}
 use Rattle.limit_screen.specs.Screening.{AreTaken}
-use Rattle.limit_rows.proofs.PlaceLemmas.{at_places}
+use Rattle.market_model.proofs.RowMembers.{at_places}
 use Rattle.limit_screen.proofs.TakenLemmas.{named_iff}
 use Rattle.limit_screen.proofs.taking.is_taken.Goals as goal
 

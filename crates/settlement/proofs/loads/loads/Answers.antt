@@ -1,12 +1,12 @@
 use Rattle.std.proofs.Common.{rules, Err, ◌≡◌, ◌<◌, ◌∙◌, ap, sym, arith, length, pos, List}
 use Rattle.std.specs.Prelude.{slice_index_or}
 use Rattle.market_data.specs.declared.participants.Bus.{Bus}
-use Rattle.market_model.specs.Valued.{passed_at, load_at}
+use Rattle.market_model.specs.Valued.{passed_at, load_at, total_at}
 use Rattle.market_model.specs.declared.stops.Stop.TheVariants as why
 use Rattle.market_model.specs.Settlement.{pay_of_load}
-use Rattle.settlement.specs.Paying.{total_at}
 use Rattle.settlement.proofs.ListLemmas.{put_place}
-use Rattle.settlement.proofs.PayLemmas.{price_is, load_is, load_refusal}
+use Rattle.bus_prices.proofs.OwnLemmas.{price_is}
+use Rattle.settlement.proofs.PayLemmas.{load_is, load_refusal}
 use Rattle.settlement.proofs.loads.loads.Goals as goal
 
 pub loop-place-preserved : goal.loop-place-preserved

@@ -1,8 +1,7 @@
 use Rattle.std.proofs.Common.{◌≡◌, map}
 use Rattle.market_model.specs.Dispatch.{places}
-use Rattle.market_model.specs.Valued.{load_at}
+use Rattle.market_model.specs.Valued.{load_at, total_at}
 use Rattle.market_model.specs.Settlement.{pay_of_load}
-use Rattle.settlement.specs.Paying.{total_at}
 use Rattle.settlement.proofs.loads.loads.Given as goal
 
 abbrev pub invariant-loop-place : goal.invariant-loop-place

@@ -1,11 +1,10 @@
 use Rattle.std.proofs.Common.{rules, Err, ◌≡◌, ◌∙◌, ap, inl, map, subst}
-use Rattle.market_model.specs.LimitRows.{flow_by, flow_terms, offset_terms}
-use Rattle.market_model.specs.NamedSums.{IsRefusedIn}
+use Rattle.market_model.specs.LimitRows.{Carried, flow_by, offset_terms}
 use Rattle.market_model.specs.Settlement.{priced_flow}
-use Rattle.market_model.specs.SumTables.{flow_after_outage, flow_of_row, offset_of_row, paid_offset}
+use Rattle.market_model.specs.SumTables.{IsFlowRefusal, offset_of_row, paid_offset}
 use Rattle.market_model.specs.Valued.{dual_at, passed_at}
-use Rattle.limit_screen.specs.Flows.{line_in}
-use Rattle.settlement.proofs.RowLemmas.{earning_refused}
+use Rattle.limit_screen.specs.Flows.{carried_at}
+use Rattle.settlement.proofs.RowLemmas.{earning_refused, flow_not_paid}
 use Rattle.settlement.proofs.rows.row_rent.Goals as goal
 
 pub returns-in_err-flow-clause-cause : goal.returns-in_err-flow-clause-cause
@@ -15,11 +14,8 @@ returns-in_err-flow-clause-cause g c =
     let r = c.args.row in
     let given : c.from_residual.result ≡ Err c.in_err-flow.field-0.0 = search rules in
     rw given
-    (inl (
-      flow_terms m (line_in m (map value c.args.flows.now)) r,
-      flow_after_outage _ c.in_err-flow.ensures.after flow_of_row,
-      subst (λ f. IsRefusedIn (flow_terms m f r) g.N.Exact.bound (passed_at value c.in_err-flow.field-0.0)) c.line_flows.ensures.is c.in_err-flow.ensures.cause,
-    ))
+    (flow_not_paid m (carried_at m (map value c.args.flows.now)) (dual_at value c.args.dual.now) r g.N.Exact.bound (passed_at value c.in_err-flow.field-0.0) c.in_err-flow.ensures.after
+    (subst (λ (f : Carried). IsFlowRefusal m f r g.N.Exact.bound (passed_at value c.in_err-flow.field-0.0)) c.carried_flows.ensures.is c.in_err-flow.ensures.cause))
 
 pub returns-in_err-offset-clause-cause : goal.returns-in_err-offset-clause-cause
 returns-in_err-offset-clause-cause g c =
@@ -31,8 +27,8 @@ returns-in_err-rent-clause-cause g c =
     let m = c.args.market.now in
     let value = g.N.Exact.value in
     let r = c.args.row in
-    let flow = c.in_ok-flow.ensures.flow ∙ ap (λ f. flow_by m f r) c.line_flows.ensures.is in
+    let flow = c.in_ok-flow.ensures.flow ∙ ap (λ (f : Carried). flow_by m f r) c.carried_flows.ensures.is in
     let given : c.from_residual-in_err-rent.result ≡ Err c.in_err-rent.field-0.0 = search rules in
     rw given
-    (earning_refused m (line_in m (map value c.args.flows.now)) (dual_at value c.args.dual.now) c.args.row (value c.priced_flow.result) (value c.in_ok-offset.offset) g.N.Exact.bound (passed_at value c.in_err-rent.field-0.0)
+    (earning_refused m (carried_at m (map value c.args.flows.now)) (dual_at value c.args.dual.now) c.args.row (value c.priced_flow.result) (value c.in_ok-offset.offset) g.N.Exact.bound (passed_at value c.in_err-rent.field-0.0)
     (c.priced_flow.ensures ∙ ap (priced_flow m r) flow) c.in_ok-offset.ensures.offset c.in_err-rent.ensures.cause)

@@ -1,8 +1,7 @@
 use Rattle.std.proofs.Common.{rules, Err, ◌≡◌, ◌∙◌, ap, inl, inr, map}
 use Rattle.std.proofs.lemmas.Result.{IfErr-weaker}
-use Rattle.market_model.specs.Valued.{duals_at, passed_at}
+use Rattle.market_model.specs.Valued.{duals_at, passed_at, total_at}
 use Rattle.market_model.specs.PutIn.{dispatch_of}
-use Rattle.settlement.specs.Paying.{total_at}
 use Rattle.market_model.proofs.StopLemmas.{on_passed_weaker}
 use Rattle.limit_screen.specs.Flows.{IsFlowsRefusal}
 use Rattle.settlement.specs.Refusals.{IsMoneyRefusal}

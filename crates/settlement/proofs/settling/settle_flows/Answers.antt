@@ -1,4 +1,4 @@
-use Rattle.std.proofs.Common.{rules, Err, subst₂, ◌≡◌, ◌∙◌, List, map, sym}
+use Rattle.std.proofs.Common.{rules, Err, inl, subst₂, ◌≡◌, ◌∙◌, List, ap, map, sym}
 use Rattle.std.proofs.lemmas.List.{length-map}
 use Rattle.fraction_theory.specs.Fraction.{Fraction}
 use Rattle.fraction_theory.specs.Sums.{total}
@@ -6,22 +6,37 @@ use Rattle.market_model.specs.declared.answered.Load.{Load}
 use Rattle.market_model.specs.declared.answered.Money.{Money}
 use Rattle.market_model.specs.declared.answered.Rent.{Rent}
 use Rattle.market_model.specs.declared.answered.UnitPay.{UnitPay}
+use Rattle.market_model.specs.LimitRows.{lost_unit}
 use Rattle.market_model.specs.NamedSums.{IsRefusedIn}
-use Rattle.market_model.specs.Valued.{duals_at, load_at, money_at, passed_at, rent_at, unit_pay_at}
+use Rattle.market_model.specs.Optimality.{own_price}
+use Rattle.market_model.specs.Valued.{duals_at, load_at, money_at, passed_at, rent_at, total_at, unit_pay_at}
 use Rattle.market_model.specs.PutIn.{dispatch_of}
 use Rattle.limit_screen.proofs.ScreenLemmas.{flow_count}
 use Rattle.market_model.specs.declared.stops.Stop.TheVariants as why
 use Rattle.market_model.specs.Settlement.{left_terms, pay_of_load, pay_of_unit}
 use Rattle.market_model.specs.SumTables.{left_of_all, payment}
-use Rattle.settlement.specs.Paying.{total_at, paid_terms}
+use Rattle.settlement.specs.Paying.{paid_terms}
 use Rattle.settlement.proofs.ListLemmas.{sum_by-map}
 use Rattle.settlement.proofs.MoneyLemmas.{surplus_is, surplus_refused, rents_are_left, left_not_negative, count_fits, rows_fit}
 use Rattle.settlement.proofs.settling.settle_flows.Goals as goal
 
+pub returns-in_err-by_unit-clause-cause : goal.returns-in_err-by_unit-clause-cause
+returns-in_err-by_unit-clause-cause g c =
+    let given : c.from_residual.result ≡ Err c.in_err-by_unit.field-0.0 = search rules in
+    rw given (c.in_err-by_unit.ensures.cause (dispatch_of g.N.Exact.value c.args.dispatch.now))
+
+pub unit_pays-units-requires-clause-own : goal.unit_pays-units-requires-clause-own
+unit_pays-units-requires-clause-own g c = count_fits g.N.Exact.value _ _ _ (ap (map g.N.Exact.value) c.deref.ensures.value ∙ c.in_ok-by_unit.ensures.own)
+
 pub returns-in_err-units-clause-cause : goal.returns-in_err-units-clause-cause
 returns-in_err-units-clause-cause g c =
-    let given : c.from_residual.result ≡ Err c.in_err-units.field-0.0 = search rules in
-    rw given (c.in_err-units.ensures.cause (duals_at g.N.Exact.value c.args.duals.now))
+    let given : c.from_residual-in_err-units.result ≡ Err c.in_err-units.field-0.0 = search rules in
+    rw given
+    (c.in_err-units.ensures.cause (total_at g.N.Exact.value c.args.prices.now) (duals_at g.N.Exact.value c.args.duals.now)
+    (ap (map g.N.Exact.value) c.deref.ensures.value ∙ c.in_ok-by_unit.ensures.own))
+
+pub lost_prices-own-requires : goal.lost_prices-own-requires
+lost_prices-own-requires g c = count_fits g.N.Exact.value _ _ _ (ap (map g.N.Exact.value) c.deref-2.ensures.value ∙ c.in_ok-by_unit.ensures.own)
 
 pub returns-in_err-loads-clause-cause : goal.returns-in_err-loads-clause-cause
 returns-in_err-loads-clause-cause g c =
@@ -45,21 +60,31 @@ returns-in_err-surplus-clause-cause g c =
     let price = total_at value c.args.prices.now in
     let p = passed_at value c.in_err-surplus.field-0.0 in
     let given : c.from_residual-in_err-surplus.result ≡ Err (why.Passed c.in_err-surplus.field-0.0) = search rules in
-    rw given (
-      left_terms m x price,
+    let d = duals_at value c.args.duals.now in
+    let pays = c.in_ok-units.ensures.pays price d (ap (map value) c.deref.ensures.value ∙ c.in_ok-by_unit.ensures.own) in
+    rw given
+    (inl (
+      left_terms m x price d,
       payment _ left_of_all,
-      surplus_refused value m x price c.in_ok-loads.loads c.in_ok-units.units c.in_ok-loads.ensures.loads c.in_ok-units.ensures.pays g.N.Exact.bound p
+      surplus_refused value m x price d c.in_ok-loads.loads c.in_ok-units.units c.in_ok-loads.ensures.loads pays g.N.Exact.bound p
           (subst₂ (λ (ls : List (Load g.row.N.Denot)) (us : List (UnitPay g.row.N.Denot)). IsRefusedIn (paid_terms value ls us) g.N.Exact.bound p) c.slice.ensures c.slice-2.ensures c.in_err-surplus.ensures.cause),
-    )
+    ))
 
 pub returns-clause-money : goal.returns-clause-money
 returns-clause-money g c =
+    let m = c.args.market.now in
     let value = g.N.Exact.value in
+    let x = dispatch_of value c.args.dispatch.now in
+    let price = total_at value c.args.prices.now in
+    let d = duals_at value c.args.duals.now in
+    let pays = c.in_ok-units.ensures.pays price d (ap (map value) c.deref.ensures.value ∙ c.in_ok-by_unit.ensures.own) in
+    let lost = c.in_ok-own.ensures (own_price m d price) (ap (map value) c.deref-2.ensures.value ∙ c.in_ok-by_unit.ensures.own) in
     λ i. record {
-      units = c.in_ok-units.ensures.pays i;
+      units = pays i;
+      own = lost i;
       loads = c.in_ok-loads.ensures.loads i;
-      rents = c.in_ok-rents.ensures.rents (dispatch_of value c.args.dispatch.now) c.requires.flows i;
-      surplus = surplus_is value c.args.market.now (dispatch_of value c.args.dispatch.now) (total_at value c.args.prices.now) c.in_ok-loads.loads c.in_ok-units.units c.in_ok-loads.ensures.loads c.in_ok-units.ensures.pays
+      rents = c.in_ok-rents.ensures.rents x c.requires.flows i;
+      surplus = surplus_is value m x price d c.in_ok-loads.loads c.in_ok-units.units c.in_ok-loads.ensures.loads pays
           (value c.in_ok-surplus.surplus)
           (subst₂ (λ (ls : List (Load g.row.N.Denot)) (us : List (UnitPay g.row.N.Denot)). value c.in_ok-surplus.surplus ≡ total (paid_terms value ls us)) c.slice.ensures c.slice-2.ensures c.in_ok-surplus.ensures.left) i;
     }
@@ -70,8 +95,12 @@ returns-clause-fits g c =
     let value = g.N.Exact.value in
     let x = dispatch_of value c.args.dispatch.now in
     let price = total_at value c.args.prices.now in
+    let d = duals_at value c.args.duals.now in
+    let pays = c.in_ok-units.ensures.pays price d (ap (map value) c.deref.ensures.value ∙ c.in_ok-by_unit.ensures.own) in
+    let lost = c.in_ok-own.ensures (own_price m d price) (ap (map value) c.deref-2.ensures.value ∙ c.in_ok-by_unit.ensures.own) in
     record {
-      units = count_fits (unit_pay_at value) (pay_of_unit m x price) c.in_ok-units.units _ c.in_ok-units.ensures.pays;
+      units = count_fits (unit_pay_at value) (pay_of_unit m x price d) c.in_ok-units.units _ pays;
+      own = count_fits value (λ k. own_price m d price (lost_unit m k)) c.in_ok-own.own _ lost;
       loads = count_fits (load_at value) (pay_of_load m price) c.in_ok-loads.loads _ c.in_ok-loads.ensures.loads;
       rents = rows_fit value m x c.args.duals.now c.in_ok-rents.rents c.requires.duals.named (c.in_ok-rents.ensures.rents x c.requires.flows);
     }
@@ -81,7 +110,7 @@ returns-clause-surplus_is_rents g c =
     let m = c.args.market.now in
     let value = g.N.Exact.value in
     let x = dispatch_of value c.args.dispatch.now in
-    let money : Money g.row.N.Denot = record { units = c.in_ok-units.units; loads = c.in_ok-loads.loads; rents = c.in_ok-rents.rents; surplus = c.in_ok-surplus.surplus } in
+    let money : Money g.row.N.Denot = record { units = c.in_ok-units.units; own = c.in_ok-own.own; loads = c.in_ok-loads.loads; rents = c.in_ok-rents.rents; surplus = c.in_ok-surplus.surplus } in
     λ best.
     rents_are_left m x (duals_at value c.args.duals.now) (total_at value c.args.prices.now) c.lines-lines.ensures.market (money_at value money) (returns-clause-money g c) best
     ∙ sum_by-map (rent_at value) (λ (r : Rent Fraction). r.rent) c.in_ok-rents.rents
@@ -91,6 +120,6 @@ returns-clause-not_negative g c =
     let m = c.args.market.now in
     let value = g.N.Exact.value in
     let x = dispatch_of value c.args.dispatch.now in
-    let money : Money g.row.N.Denot = record { units = c.in_ok-units.units; loads = c.in_ok-loads.loads; rents = c.in_ok-rents.rents; surplus = c.in_ok-surplus.surplus } in
+    let money : Money g.row.N.Denot = record { units = c.in_ok-units.units; own = c.in_ok-own.own; loads = c.in_ok-loads.loads; rents = c.in_ok-rents.rents; surplus = c.in_ok-surplus.surplus } in
     λ best.
     left_not_negative m x (duals_at value c.args.duals.now) (total_at value c.args.prices.now) c.lines-lines.ensures.market (money_at value money) (returns-clause-money g c) best
