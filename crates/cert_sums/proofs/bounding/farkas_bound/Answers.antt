@@ -7,7 +7,7 @@ use Rattle.market_model.proofs.StopLemmas.{on_passed_weaker}
 use Rattle.market_model.proofs.SumSteps.{product_too_large, refusal}
 use Rattle.market_model.specs.declared.stops.Stop.TheVariants as why
 use Rattle.market_model.specs.PutIn.{dispatch_of, AreInjections}
-use Rattle.cert_sums.proofs.BoundLemmas.{nothing_is, injection_pair, line_pair, balance_pair, energy_refused}
+use Rattle.cert_sums.proofs.BoundLemmas.{nothing_is, injection_pair, carried_pair_of, balance_pair, energy_refused}
 use Rattle.cert_sums.proofs.bounding.farkas_bound.Goals as goal
 
 pub returns-in_err-by_bus-clause-cause : goal.returns-in_err-by_bus-clause-cause
@@ -20,16 +20,14 @@ returns-in_err-by_bus-clause-cause g c =
     (on_passed_weaker c.in_err-by_bus.field-0.0 _ _
     (λ p. injection_pair m d g.N.Exact.bound (passed_at value p) (dispatch_of value c.deref.result.now) is) c.in_err-by_bus.ensures.cause)
 
-pub returns-in_err-by_line-clause-cause : goal.returns-in_err-by_line-clause-cause
-returns-in_err-by_line-clause-cause g c =
+pub returns-in_err-carried-clause-cause : goal.returns-in_err-carried-clause-cause
+returns-in_err-carried-clause-cause g c =
     let m = c.args.market.now in
     let value = g.N.Exact.value in
-    let is = nothing_is value m c.deref.result.now c.in_ok-nothing.nothing.items _ c.deref.ensures.value c.in_ok-nothing.ensures.zeros (c.len.ensures ∙ ap length c.blocks-2.ensures.list) in
-    let puts = subst (λ (x : Dispatch). AreInjections m x (map value c.deref-2.result.now)) is (ap (map value) c.deref-2.ensures.value ∙ c.in_ok-by_bus.ensures.injections) in
-    let given : c.from_residual-in_err-by_line.result ≡ Err c.in_err-by_line.field-0.0 = search rules in
+    let is = nothing_is value m c.deref-2.result.now c.in_ok-nothing.nothing.items _ c.deref-2.ensures.value c.in_ok-nothing.ensures.zeros (c.len.ensures ∙ ap length c.blocks-2.ensures.list) in
+    let given : c.from_residual-in_err-carried.result ≡ Err c.in_err-carried.field-0.0 = search rules in
     λ d energy are. rw given
-    (on_passed_weaker c.in_err-by_line.field-0.0 _ _
-    (λ p. line_pair m d g.N.Exact.bound (passed_at value p)) (c.in_err-by_line.ensures.cause (empty m) puts))
+    (on_passed_weaker c.in_err-carried.field-0.0 _ _ (λ p. carried_pair_of m d g.N.Exact.bound (passed_at value p) (dispatch_of value c.deref-2.result.now) is) (c.in_err-carried.ensures.cause TODO))
 
 pub returns-in_err-all-clause-cause : goal.returns-in_err-all-clause-cause
 returns-in_err-all-clause-cause g c =
