@@ -1,8 +1,8 @@
 -- The value of a certificate is in the grammar, and gives the certificate again.
-use Rattle.std.specs.Prelude.{◌≡◌, ℕ, ◌≤◌, List, [], ◌∷◌, map, Bool, true, false, codes, All, Option, Some, None, option_map, Result, Ok, Err, IfOk, IsOk, OnOk, IsUtf8, unsigned_abs}
+use Rattle.std.specs.Prelude.{◌≡◌, ℕ, ◌<◌, ◌≤◌, ◌^◌, List, [], ◌∷◌, map, Bool, true, false, codes, All, Option, Some, None, option_map, Result, Ok, Err, IfOk, IsOk, OnOk, IsUtf8, unsigned_abs}
 use Rattle.std.specs.Str.{is_utf8}
-use Rattle.std.proofs.Common.{suc, arith, ap, get_or, ◌∙◌, refl, subst}
-use Rattle.std.proofs.lemmas.Bool.{lt-ltb}
+use Rattle.std.proofs.Common.{zero, suc, arith, ap, get_or, ◌∙◌, refl, subst}
+use Rattle.std.proofs.lemmas.Bool.{lt-ltb, or_from}
 use Rattle.std.proofs.lemmas.List.Elements.{All-cons, All-nil}
 use Rattle.market_model.specs.Valued.{dual_at}
 use Rattle.std.proofs.lemmas.Str.{IsUtf8-from_is_utf8, is_utf8-from_IsUtf8}
@@ -11,10 +11,10 @@ use Rattle.exact_fraction.specs.Written.{parts_text}
 use Rattle.market_model.specs.declared.answered.Dual.{Dual}
 use Rattle.json.specs.Tree as tree
 use Rattle.json.proofs.Printed.Utf8.{IsUtf8-are_ascii, are_ascii}
-use Rattle.serde_json.specs.Data.{Data}
+use Rattle.serde_json.specs.Data.{Data, Members, no_members, member}
 use Rattle.serde_json.specs.Read.{max_depth, of_items, of_json, read}
 use Rattle.serde_json.specs.View.{items_of}
-use Rattle.serde_json.specs.Written.{has_float, items_have_float, items_outline, outline}
+use Rattle.serde_json.specs.Written.{has_float, items_have_float, items_outline, members_have_float, members_outline, outline}
 use Rattle.serde_json.proofs.Numbers.{number_of-decimal}
 use Rattle.serde_json.proofs.OnLiterals.{serde_json_on_literals}
 use Rattle.cert_format.specs.declared.certificate.Cert.{Cert}
@@ -23,10 +23,10 @@ use Rattle.cert_format.specs.declared.certificate.Key.TheVariants as key
 use Rattle.cert_format.specs.Certificates.{CertFits, DualFits, Fits, NumbersFit, RowFits, RowsAreDistinct, cert_at, limits_of, most_part}
 use Rattle.cert_format.specs.FractionTexts.{fraction_of}
 use Rattle.cert_format.specs.Grammar.{cert_in, cert_read, each, farkas_in, fraction_in, limit_in, optimal_in}
-use Rattle.cert_format.specs.Written.{cert_data, cert_text, fraction_data, limit_data}
+use Rattle.cert_format.specs.Written.{cert_data, cert_text, fraction_data, limit_data, with_unit}
 use Rattle.cert_format.proofs.FractionLemmas.{fraction_of-read}
-use Rattle.cert_format.proofs.RowLemmas.{names-distinct}
-use Rattle.cert_format.proofs.TextLemmas.{IsPlain, ItemsArePlain, read-compact_text, utf8-data, utf8-parts_text}
+use Rattle.cert_format.proofs.RowLemmas.{names-distinct, not_0}
+use Rattle.cert_format.proofs.TextLemmas.{IsPlain, ItemsArePlain, MembersArePlain, read-compact_text, utf8-data, utf8-parts_text}
 
 -- ---- what is written has no floats, and texts in UTF-8
 plain-blocks : (xs : List Fraction) → ItemsArePlain (items_of (map fraction_data xs))
@@ -35,6 +35,14 @@ plain-blocks (x ∷ xs) = (utf8-parts_text x, plain-blocks xs)
 
 key_utf8 : (cs : List ℕ) → are_ascii cs ≡ true → IsUtf8 cs
 key_utf8 cs h = IsUtf8-are_ascii cs h
+
+-- the member of a row that stands after the unit's
+abbrev up_of : Dual Fraction → Members
+up_of d = member (codes "up") (fraction_data d.up) no_members
+
+plain-unit : (unit : ℕ) → unit < 2 ^ 32 → (ms : Members) → MembersArePlain ms → MembersArePlain (with_unit unit ms)
+plain-unit zero fits ms plain = plain
+plain-unit (suc unit) fits ms plain = rw (not_0 unit) (key_utf8 (codes "unit") refl, omega (arith, fits), plain)
 
 plain-limits : (ds : List (Dual Fraction)) → All (λ d. RowFits d.row) ds → ItemsArePlain (items_of (map limit_data ds))
 plain-limits [] h = tt
@@ -49,7 +57,7 @@ plain-limits (d ∷ ds) h =
           (
             key_utf8 (codes "outage") refl,
             omega (arith, row.outage),
-            (key_utf8 (codes "up") refl, utf8-parts_text d.up, tt),
+            plain-unit d.row.unit row.unit (up_of d) (key_utf8 (codes "up") refl, utf8-parts_text d.up, tt),
           ),
         ),
       ),
@@ -96,9 +104,13 @@ float-blocks : (xs : List Fraction) → items_have_float (items_of (map fraction
 float-blocks [] = refl
 float-blocks (x ∷ xs) = float-blocks xs
 
+float-unit : (unit : ℕ) (ms : Members) → members_have_float ms ≡ false → members_have_float (with_unit unit ms) ≡ false
+float-unit zero ms h = h
+float-unit (suc unit) ms h = rw (not_0 unit) h
+
 float-limits : (ds : List (Dual Fraction)) → items_have_float (items_of (map limit_data ds)) ≡ false
 float-limits [] = refl
-float-limits (d ∷ ds) = float-limits ds
+float-limits (d ∷ ds) = or_from _ _ (float-unit d.row.unit (up_of d) refl) (float-limits ds)
 
 pub no-float : (c : Cert Fraction) → has_float (cert_data c) ≡ false
 no-float (cert.Optimal blocks energy limits) = rw (float-blocks blocks, float-limits limits) refl
@@ -109,9 +121,13 @@ flat-blocks : (xs : List Fraction) → tree.items_depth (items_outline (items_of
 flat-blocks [] = omega arith
 flat-blocks (x ∷ xs) = let h = flat-blocks xs in omega (arith, h)
 
+flat-unit : (unit : ℕ) (ms : Members) → tree.members_depth (members_outline ms) ≤ 0 → tree.members_depth (members_outline (with_unit unit ms)) ≤ 0
+flat-unit zero ms h = h
+flat-unit (suc unit) ms h = rw (not_0 unit) (omega (arith, h))
+
 flat-limits : (ds : List (Dual Fraction)) → tree.items_depth (items_outline (items_of (map limit_data ds))) ≤ 1
 flat-limits [] = omega arith
-flat-limits (d ∷ ds) = let h = flat-limits ds in omega (arith, h)
+flat-limits (d ∷ ds) = let h = flat-limits ds in let k = flat-unit d.row.unit (up_of d) (omega arith) in omega (arith, h, k)
 
 flat-cert : (c : Cert Fraction) → tree.depth (outline (cert_data c)) ≤ max_depth
 flat-cert (cert.Optimal blocks energy limits) = let h = flat-blocks blocks in let k = flat-limits limits in omega (arith, h, k)
@@ -122,9 +138,18 @@ blocks-again : (xs : List Fraction) → of_items (items_outline (items_of (map f
 blocks-again [] = refl
 blocks-again (x ∷ xs) = rw (blocks-again xs) refl
 
+-- the duals of a limit by the unit that is lost
+module _ (branch outage : ℕ) (up down : Fraction) where
+  abbrev after_unit : ℕ → Dual Fraction
+  after_unit unit = record { row = record { branch = branch; outage = outage; unit = unit }; up = up; down = down }
+
+  unit-again : branch < 2 ^ 32 → outage < 2 ^ 32 → (unit : ℕ) → unit < 2 ^ 32 → of_json (outline (limit_data (after_unit unit))) ≡ Some (limit_data (after_unit unit))
+  unfolding serde_json_on_literals
+  unit-again b o zero u = rw (number_of-decimal branch (omega (arith, b)), number_of-decimal outage (omega (arith, o))) refl
+  unit-again b o (suc unit) u = rw (not_0 unit, number_of-decimal branch (omega (arith, b)), number_of-decimal outage (omega (arith, o)), number_of-decimal (suc unit) (omega (arith, u))) refl
+
 limit-again : (d : Dual Fraction) → RowFits d.row → of_json (outline (limit_data d)) ≡ Some (limit_data d)
-unfolding serde_json_on_literals
-limit-again d row = rw (number_of-decimal d.row.branch (omega (arith, row.branch)), number_of-decimal d.row.outage (omega (arith, row.outage))) refl
+limit-again d row = unit-again d.row.branch d.row.outage d.up d.down row.branch row.outage d.row.unit row.unit
 
 limits-again : (ds : List (Dual Fraction)) → All (λ d. RowFits d.row) ds → of_items (items_outline (items_of (map limit_data ds))) ≡ Some (items_of (map limit_data ds))
 limits-again [] h = refl
@@ -152,9 +177,14 @@ unfolding each
 blocks-back [] h = refl
 blocks-back (x ∷ xs) h = rw (fraction-back most_part x (h 0 x (omega arith)), blocks-back xs (λ k d lt. h (suc k) d (omega (arith, lt)))) refl
 
-limit-back : (d : Dual Fraction) → DualFits most_part d → limit_in most_part (limit_data d) ≡ Some d
+unit-back : (branch outage : ℕ) (up down : Fraction) → branch < 2 ^ 32 → outage < 2 ^ 32 → Fits most_part up → Fits most_part down
+    → (unit : ℕ) → unit < 2 ^ 32 → limit_in most_part (limit_data (after_unit branch outage up down unit)) ≡ Some (after_unit branch outage up down unit)
 unfolding serde_json_on_literals limit_in
-limit-back d h = rw (lt-ltb _ _ h.row.branch, lt-ltb _ _ h.row.outage, fraction-back most_part d.up h.up, fraction-back most_part d.down h.down) refl
+unit-back branch outage up down b o hu hd zero u = rw (lt-ltb _ _ b, lt-ltb _ _ o, fraction-back most_part up hu, fraction-back most_part down hd) refl
+unit-back branch outage up down b o hu hd (suc unit) u = rw (not_0 unit, lt-ltb _ _ b, lt-ltb _ _ o, lt-ltb _ _ u, fraction-back most_part up hu, fraction-back most_part down hd, not_0 unit, not_0 unit) refl
+
+limit-back : (d : Dual Fraction) → DualFits most_part d → limit_in most_part (limit_data d) ≡ Some d
+limit-back d h = unit-back d.row.branch d.row.outage d.up d.down h.row.branch h.row.outage h.up h.down d.row.unit h.row.unit
 
 limits-back : (ds : List (Dual Fraction)) → All (DualFits most_part) ds → each (limit_in most_part) (items_of (map limit_data ds)) ≡ Some ds
 unfolding each

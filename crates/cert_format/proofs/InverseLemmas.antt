@@ -1,6 +1,6 @@
 -- What is read fits.
-use Rattle.std.specs.Prelude.{◌≡◌, ℕ, ◌<◌, ◌^◌, List, [], ◌∷◌, Bool, true, false, codes, nat_lt, All, Option, Some, None, Result, Ok, option_and_then, is_some, is_none}
-use Rattle.std.proofs.Common.{refl, subst}
+use Rattle.std.specs.Prelude.{◌≡◌, ℕ, ◌<◌, ◌^◌, List, [], ◌∷◌, Bool, true, false, codes, nat_lt, All, Option, Some, None, Result, Ok, option_and_then, is_some, is_none, if◌then◌else◌}
+use Rattle.std.proofs.Common.{arith, refl, subst, zero, suc}
 use Rattle.std.proofs.lemmas.Bool.{ltb-true}
 use Rattle.std.proofs.lemmas.List.Elements.{All-cons, All-nil}
 use Rattle.std.proofs.lemmas.Option.{cond_some, option_and_then_some}
@@ -16,9 +16,9 @@ use Rattle.cert_format.specs.declared.reading.Kind.{Kind}
 use Rattle.cert_format.specs.declared.reading.Kind.TheVariants as kind
 use Rattle.cert_format.specs.Certificates.{CertFits, DualFits, Fits, NamesNoRowTwice, RowsAreDistinct, most_part}
 use Rattle.cert_format.specs.FractionTexts.{fraction_of}
-use Rattle.cert_format.specs.Grammar.{blocks_in, cert_in, cert_read, check, distinct, each, farkas_in, fraction_at, fraction_in, has_size, has_version, if_distinct, in_32, json_of, kind_in, limit_in, limits_in, need, number_at, of_kind, optimal_in}
+use Rattle.cert_format.specs.Grammar.{above_0, blocks_in, cert_in, cert_read, check, distinct, each, farkas_in, fraction_at, fraction_in, has_size, has_version, if_distinct, in_32, json_of, kind_in, limit_in, limits_in, members_with, need, number_at, of_kind, optimal_in, unit_at}
 use Rattle.cert_format.proofs.FractionLemmas.{fraction_of-spells}
-use Rattle.cert_format.proofs.RowLemmas.{distinct-names}
+use Rattle.cert_format.proofs.RowLemmas.{distinct-names, not_0}
 
 -- ---- parts that are there
 record Had {A B : Type 0} (o : Option A) (f : A → Result B Key) (y : B) : Type 0 where
@@ -48,18 +48,35 @@ in_32-fits : (o : Option ℕ) (n : ℕ) → in_32 o ≡ Some n → n < 2 ^ 32
 in_32-fits None n h = cc
 in_32-fits (Some m) n h = let p = cond_some (nat_lt m (2 ^ 32)) m n h in subst (λ k. k < 2 ^ 32) p.1 (ltb-true _ _ p.0)
 
+above_0-fits : (o : Option ℕ) (n : ℕ) → above_0 o ≡ Some n → ((m : ℕ) → o ≡ Some m → m < 2 ^ 32) → n < 2 ^ 32
+above_0-fits None n h fits = cc
+above_0-fits (Some zero) n h fits = cc
+above_0-fits (Some (suc m)) n h fits = fits n (rw (not_0 m) at h)
+
+unit_at-fits : (d : Data) (n : ℕ) → unit_at d ≡ Some n → n < 2 ^ 32
+unit_at-fits d n h = by (is_none (get (codes "unit") d)) h
+  where
+    by : (none : Bool) → (if none then Some 0 else above_0 (in_32 (number_at (codes "unit") d))) ≡ Some n → n < 2 ^ 32
+    by true is = let here : 0 ≡ n = cc in omega (arith, here)
+    by false is = above_0-fits (in_32 (number_at (codes "unit") d)) n is (λ m. in_32-fits (number_at (codes "unit") d) m)
+
 limit_in-fits : (d : Data) (x : Dual Fraction) → limit_in most_part d ≡ Some x → DualFits most_part x
 unfolding limit_in
 limit_in-fits d x h =
     option_and_then_some _ (in_32 (number_at (codes "branch") d)) x h (λ branch e1 h1.
     option_and_then_some _ (in_32 (number_at (codes "outage") d)) x h1 (λ outage e2 h2.
-    option_and_then_some _ (fraction_at most_part (codes "up") d) x h2 (λ up e3 h3.
-    option_and_then_some _ (fraction_at most_part (codes "down") d) x h3 (λ down e4 h4.
-    subst (DualFits most_part) (cond_some (has_size 4 d) (record { row = record { branch = branch; outage = outage }; up = up; down = down }) x h4).1 (record {
-      row = record { branch = in_32-fits (number_at (codes "branch") d) branch e1; outage = in_32-fits (number_at (codes "outage") d) outage e2 };
-      up = fraction_at-fits most_part (codes "up") d up e3;
-      down = fraction_at-fits most_part (codes "down") d down e4;
-    })))))
+    option_and_then_some _ (unit_at d) x h2 (λ unit e3 h3.
+    option_and_then_some _ (fraction_at most_part (codes "up") d) x h3 (λ up e4 h4.
+    option_and_then_some _ (fraction_at most_part (codes "down") d) x h4 (λ down e5 h5.
+    subst (DualFits most_part) (cond_some (has_size (members_with unit) d) (record { row = record { branch = branch; outage = outage; unit = unit }; up = up; down = down }) x h5).1 (record {
+      row = record {
+        branch = in_32-fits (number_at (codes "branch") d) branch e1;
+        outage = in_32-fits (number_at (codes "outage") d) outage e2;
+        unit = unit_at-fits d unit e3;
+      };
+      up = fraction_at-fits most_part (codes "up") d up e4;
+      down = fraction_at-fits most_part (codes "down") d down e5;
+    }))))))
 
 -- ---- lists
 each-all : {A : Type 0} (P : A → Type 0) (read : Data → Option A) → ((d : Data) (x : A) → read d ≡ Some x → P x) → (ds : Items) (xs : List A) → each read ds ≡ Some xs → All P xs

@@ -9,22 +9,27 @@ use Rattle.fraction_theory.specs.Fraction.{Fraction}
 use Rattle.market_model.specs.declared.answered.Dual.{Dual}
 use Rattle.market_model.specs.declared.answered.RowId.{RowId}
 use Rattle.market_model.specs.Valued.{dual_at}
-use Rattle.cert_format.specs.Certificates.{NamesNoRowTwice, name_of, same_pair}
+use Rattle.cert_format.specs.Certificates.{NamesNoRowTwice, name_of, same_triple}
 use Rattle.cert_format.specs.Grammar.{distinct, if_distinct, is_of}
 
 abbrev Duals : Type 0
 Duals = List (Dual Fraction)
 
+pub not_0 : (n : ℕ) → (suc n == 0) ≡ false
+not_0 n = false_from_ne_true (suc n == 0) (λ e. let same = eqb-true (suc n) 0 e in absurd (omega (arith, same)))
+
 -- ---- the test and the relation
 one_row : (row : RowId) (d : Dual Fraction) → is_of row d ≡ true → row ≡ d.row
 one_row row d h =
     let p = and_parts _ _ h in
-    let branch : row.branch ≡ d.row.branch = eqb-true _ _ p.0 in
-    let outage : row.outage ≡ d.row.outage = eqb-true _ _ p.1 in
-    λ i. record { branch = branch i; outage = outage i }
+    let q = and_parts _ _ p.0 in
+    let branch : row.branch ≡ d.row.branch = eqb-true _ _ q.0 in
+    let outage : row.outage ≡ d.row.outage = eqb-true _ _ q.1 in
+    let unit : row.unit ≡ d.row.unit = eqb-true _ _ p.1 in
+    λ i. record { branch = branch i; outage = outage i; unit = unit i }
 
 its_own : (row : RowId) (d : Dual Fraction) → row ≡ d.row → is_of row d ≡ true
-its_own row d e = and_from _ _ (eq-eqb _ _ (ap (λ (r : RowId). r.branch) e)) (eq-eqb _ _ (ap (λ (r : RowId). r.outage) e))
+its_own row d e = and_from _ _ (and_from _ _ (eq-eqb _ _ (ap (λ (r : RowId). r.branch) e)) (eq-eqb _ _ (ap (λ (r : RowId). r.outage) e))) (eq-eqb _ _ (ap (λ (r : RowId). r.unit) e))
 
 -- no dual of a list is of the row
 apart : (row : RowId) (ds : Duals) → list_any (is_of row) ds ≡ false → (i : ℕ) (d : Dual Fraction) → i < length ds → row ≢ (get_or ds i d).row
@@ -101,21 +106,21 @@ repeated done x None h = refl
 repeated done x (Some xs) h = rw (distinct-twice done x xs h) refl
 
 -- ---- the rows of duals with any numbers
-same_test : {N : Type 0} (value : N → Fraction) (limits : List (Dual N)) (row : RowId) → list_any (same_pair (name_of row)) (map (λ d. name_of d.row) limits) ≡ list_any (is_of row) (map (dual_at value) limits)
+same_test : {N : Type 0} (value : N → Fraction) (limits : List (Dual N)) (row : RowId) → list_any (same_triple (name_of row)) (map (λ d. name_of d.row) limits) ≡ list_any (is_of row) (map (dual_at value) limits)
 same_test value [] row = refl
-same_test value (d ∷ limits) row = ap (λ b. ((row.branch == d.row.branch) && (row.outage == d.row.outage)) || b) (same_test value limits row)
+same_test value (d ∷ limits) row = ap (λ b. ((row.branch == d.row.branch) && (row.outage == d.row.outage) && (row.unit == d.row.unit)) || b) (same_test value limits row)
 
-module _ {N : Type 0} (value : N → Fraction) (limits : List (Dual N)) (x : Dual N) (keys : List (ℕ × ℕ)) (rows : keys ≡ map (λ d. name_of d.row) limits) where
+module _ {N : Type 0} (value : N → Fraction) (limits : List (Dual N)) (x : Dual N) (keys : List (ℕ × ℕ × ℕ)) (rows : keys ≡ map (λ d. name_of d.row) limits) where
   abbrev has : Bool
-  has = list_any (same_pair (name_of x.row)) keys
+  has = list_any (same_triple (name_of x.row)) keys
 
   -- whether the row is there
   pub test_is : has ≡ list_any (is_of x.row) (map (dual_at value) limits)
-  test_is = ap (λ ks. list_any (same_pair (name_of x.row)) ks) rows ∙ same_test value limits x.row
+  test_is = ap (λ ks. list_any (same_triple (name_of x.row)) ks) rows ∙ same_test value limits x.row
 
   module _ (fresh : has ≡ false) (next : List (Dual N)) (pushed : next ≡ limits ++ x ∷ []) where
     -- the rows with one more
-    pub rows-push : (more : List (ℕ × ℕ)) → more ≡ keys ++ name_of x.row ∷ [] → more ≡ map (λ d. name_of d.row) next
+    pub rows-push : (more : List (ℕ × ℕ × ℕ)) → more ≡ keys ++ name_of x.row ∷ [] → more ≡ map (λ d. name_of d.row) next
     rows-push more e = e ∙ ap (λ ks. ks ++ name_of x.row ∷ []) rows ∙ sym (map-append (λ d. name_of d.row) limits (x ∷ [])) ∙ ap (map (λ d. name_of d.row)) (sym pushed)
 
     pub seen-push : map (dual_at value) next ≡ map (dual_at value) limits ++ dual_at value x ∷ []

@@ -21,12 +21,12 @@ abbrev pub limits_of : {N : Type 0} → Cert N → List (Dual N)
 limits_of (cert.Optimal blocks energy limits) = limits
 limits_of (cert.Farkas energy limits) = limits
 
--- the name of a row as a pair: the branch row, and that of its outage
-abbrev pub name_of : RowId → ℕ × ℕ
-name_of row = (row.branch, row.outage)
+-- the name of a row as a triple: the branch row, that of its outage, and the row of the unit that is lost
+abbrev pub name_of : RowId → ℕ × ℕ × ℕ
+name_of row = (row.branch, row.outage, row.unit)
 
-abbrev pub same_pair : ℕ × ℕ → ℕ × ℕ → Bool
-same_pair p q = (p.0 == q.0) && (p.1 == q.1)
+abbrev pub same_triple : ℕ × ℕ × ℕ → ℕ × ℕ × ℕ → Bool
+same_triple p q = (p.0 == q.0) && (p.1 == q.1) && (p.2 == q.2)
 
 -- no row is named twice
 abbrev pub NamesNoRowTwice : List (Dual Fraction) → Type 0
@@ -48,6 +48,7 @@ most_part = 2 ^ 127 - 1
 pub record RowFits (row : RowId) : Type 0 where
   pub branch : row.branch < 2 ^ 32
   pub outage : row.outage < 2 ^ 32
+  pub unit : row.unit < 2 ^ 32
 
 pub record DualFits (most : ℕ) (d : Dual Fraction) : Type 0 where
   pub row : RowFits d.row

@@ -54,16 +54,31 @@ abbrev pub in_32 : Option ℕ → Option ℕ
 in_32 None = None
 in_32 (Some n) = if nat_lt n (2 ^ 32) then Some n else None
 
--- the duals of a row: branch, outage, up and down, and nothing else
+-- a number that is not 0
+abbrev pub above_0 : Option ℕ → Option ℕ
+above_0 None = None
+above_0 (Some n) = if n == 0 then None else Some n
+
+-- the unit that is lost: 0 where there is no such member, and never 0 where there is one
+abbrev pub unit_at : Data → Option ℕ
+unit_at d = if is_none (get (codes "unit") d) then Some 0 else above_0 (in_32 (number_at (codes "unit") d))
+
+-- how many members the duals of a row have: the unit's is there where it is not 0
+abbrev pub members_with : ℕ → ℕ
+members_with unit = if unit == 0 then 4 else 5
+
+-- the duals of a row: branch, outage, unit where it is not 0, up and down, and nothing else
 unfoldable pub limit_in : ℕ → Data → Option (Dual Fraction)
 limit_in most d =
     option_and_then (λ branch.
     option_and_then (λ outage.
+    option_and_then (λ unit.
     option_and_then (λ up.
     option_and_then (λ down.
-    if has_size 4 d then Some (record { row = record { branch = branch; outage = outage }; up = up; down = down }) else None)
+    if has_size (members_with unit) d then Some (record { row = record { branch = branch; outage = outage; unit = unit }; up = up; down = down }) else None)
     (fraction_at most (codes "down") d))
     (fraction_at most (codes "up") d))
+    (unit_at d))
     (in_32 (number_at (codes "outage") d)))
     (in_32 (number_at (codes "branch") d))
 

@@ -1,10 +1,10 @@
 -- The text of a certificate: compact JSON, the members in the order of their names.
-use Rattle.std.specs.Prelude.{ℕ, List, map, codes, Option, option_map}
+use Rattle.std.specs.Prelude.{ℕ, ◌==◌, if◌then◌else◌, List, map, codes, Option, option_map}
 use Rattle.fraction_theory.specs.Fraction.{Fraction}
 use Rattle.exact_fraction.specs.Written.{parts_text}
 use Rattle.market_model.specs.declared.answered.Dual.{Dual}
 use Rattle.market_model.specs.declared.answered.Outcome.{Outcome}
-use Rattle.serde_json.specs.Data.{Data, number, string, array, object, no_members, member, unsigned}
+use Rattle.serde_json.specs.Data.{Data, Members, number, string, array, object, no_members, member, unsigned}
 use Rattle.serde_json.specs.View.{items_of}
 use Rattle.serde_json.specs.Written.{compact_text}
 use Rattle.cert_format.specs.declared.certificate.Cert.{Cert}
@@ -15,13 +15,17 @@ use Rattle.cert_format.specs.Certificates.{cert_of_outcome}
 abbrev pub fraction_data : Fraction → Data
 fraction_data x = string (parts_text x)
 
+-- a member for the unit, where it is not 0
+abbrev pub with_unit : ℕ → Members → Members
+with_unit unit members = if unit == 0 then members else member (codes "unit") (number (unsigned unit)) members
+
 -- the duals of a row
 abbrev pub limit_data : Dual Fraction → Data
 limit_data d = object
     (member (codes "branch") (number (unsigned d.row.branch))
     (member (codes "down") (fraction_data d.down)
     (member (codes "outage") (number (unsigned d.row.outage))
-    (member (codes "up") (fraction_data d.up) no_members))))
+    (with_unit d.row.unit (member (codes "up") (fraction_data d.up) no_members)))))
 
 abbrev pub blocks_data : List Fraction → Data
 blocks_data blocks = array (items_of (map fraction_data blocks))

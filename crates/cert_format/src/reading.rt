@@ -8,8 +8,8 @@ ghost use Rattle.market_model.specs.Valued.{dual_at};
 ghost use Rattle.cert_format.specs.declared.certificate.CertFault.TheVariants as fault;
 ghost use Rattle.cert_format.specs.declared.certificate.Key.{Key};
 ghost use Rattle.cert_format.specs.declared.certificate.Key.TheVariants as key;
-ghost use Rattle.cert_format.specs.Certificates.{RowsAreDistinct, cert_at, name_of, same_pair};
-ghost use Rattle.cert_format.specs.Grammar.{Gives, blocks_in, cert_in, cert_read, each, farkas_in, fraction_at, fraction_in, has_size, has_version, if_distinct, in_32, kind_in, limit_in, limits_in, need, number_at, optimal_in, size_of, text_at};
+ghost use Rattle.cert_format.specs.Certificates.{RowsAreDistinct, cert_at, name_of, same_triple};
+ghost use Rattle.cert_format.specs.Grammar.{Gives, blocks_in, cert_in, cert_read, each, farkas_in, fraction_at, fraction_in, has_size, has_version, if_distinct, in_32, kind_in, limit_in, limits_in, members_with, need, number_at, optimal_in, size_of, text_at, unit_at};
 
 use crate::fractions::fraction;
 use crate::{Cert, CertFault, Key};
@@ -69,7 +69,7 @@ fn fraction_at<N: Exact>(value: &Value, name: &str) -> Option<N>
     fraction_in(value.get(name)?)
 }
 
-/// A row of the branch matrix.
+/// A row of the branch matrix, or of the gen matrix.
 fn row_at(value: &Value, name: &str) -> Option<u32>
     ensures { result ≡ in_32 (number_at name.now (view value.now)) }
 {
@@ -79,19 +79,44 @@ fn row_at(value: &Value, name: &str) -> Option<u32>
     }
 }
 
+/// The row of the gen matrix of the unit that is lost, 0 where there is no such member.
+fn unit_at(value: &Value) -> Option<u32>
+    ensures { result ≡ unit_at (view value.now) }
+{
+    if value.get("unit").is_none() {
+        return Some(0);
+    }
+    match row_at(value, "unit") {
+        Some(unit) if unit != 0 => Some(unit),
+        _ => None,
+    }
+}
+
+/// How many members the duals of a row have: that of the unit is there where it is not 0.
+fn members_with(unit: u32) -> usize
+    ensures { result ≡ members_with unit }
+{
+    if unit == 0 { 4 } else { 5 }
+}
+
 /// The duals of a row.
 fn limit_in<N: Exact>(value: &Value) -> Option<Dual<N>>
     ensures { option_map (dual_at N.value) result ≡ limit_in N.bound (view value.now) }
 {
     let branch = row_at(value, "branch")?;
     let outage = row_at(value, "outage")?;
+    let unit = unit_at(value)?;
     let up = fraction_at(value, "up")?;
     let down = fraction_at(value, "down")?;
-    if !has_size(value, 4) {
+    if !has_size(value, members_with(unit)) {
         return None;
     }
     Some(Dual {
-        row: RowId { branch, outage },
+        row: RowId {
+            branch,
+            outage,
+            unit,
+        },
         up,
         down,
     })
@@ -120,11 +145,11 @@ fn blocks_in<N: Exact>(alloc: Global, value: &Value) -> Result<List<N>, CertFaul
 }
 
 /// Adds a row to those that were named, and tells whether it is new.
-fn add_row(rows: &mut IndexSet<(u32, u32)>, row: RowId) -> Result<bool, Memory>
-    ensures is_new { IfOk result (λ is_new. is_new ≡ not (list_any (same_pair (name_of row)) rows.old.keys)) }
+fn add_row(rows: &mut IndexSet<(u32, u32, u32)>, row: RowId) -> Result<bool, Memory>
+    ensures is_new { IfOk result (λ is_new. is_new ≡ not (list_any (same_triple (name_of row)) rows.old.keys)) }
     ensures keys { IfOk result (λ is_new. rows.new.keys ≡ (if is_new then rows.old.keys ++ name_of row ∷ [] else rows.old.keys)) }
 {
-    match rows.insert((row.branch, row.outage)) {
+    match rows.insert((row.branch, row.outage, row.unit)) {
         Ok(is_new) => Ok(is_new),
         Err(_) => Err(Memory),
     }

@@ -36,7 +36,12 @@ fn limit_value<N: Exact>(alloc: Global, dual: &Dual<N>) -> Result<Value, AllocEr
     let down = fraction_value(alloc, dual.down)?;
     let branch = dual.row.branch;
     let outage = dual.row.outage;
-    json!(in alloc; {"branch": branch, "down": down, "outage": outage, "up": up})
+    let unit = dual.row.unit;
+    if unit == 0 {
+        json!(in alloc; {"branch": branch, "down": down, "outage": outage, "up": up})
+    } else {
+        json!(in alloc; {"branch": branch, "down": down, "outage": outage, "unit": unit, "up": up})
+    }
 }
 
 fn blocks_value<N: Exact>(alloc: Global, blocks: &List<N>) -> Result<Value, AllocError>

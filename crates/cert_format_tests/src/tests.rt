@@ -11,8 +11,11 @@ const OPTIMAL: &str =
 const FARKAS: &str =
     r#"{"energy":"-1/1","kind":"farkas","limits":[{"branch":2,"down":"0/1","outage":0,"up":"2/1"}],"version":1}"#;
 
+/// Limits of one branch in the base and after the losses of two units, of which the last has the greatest row.
+const LOST: &str = r#"{"energy":"-1/1","kind":"farkas","limits":[{"branch":2,"down":"0/1","outage":0,"up":"2/1"},{"branch":2,"down":"0/1","outage":0,"unit":1,"up":"2/1"},{"branch":2,"down":"0/1","outage":0,"unit":4294967295,"up":"2/1"}],"version":1}"#;
+
 /// Texts that are no certificates, each with the first part that is not in the grammar.
-static FAULTS: [(&str, Key); 22] = [
+static FAULTS: [(&str, Key); 25] = [
     ("{", Key::Json),
     ("[]", Key::Json),
     (r#"{"version":1.0}"#, Key::Version),
@@ -73,6 +76,18 @@ static FAULTS: [(&str, Key); 22] = [
         Key::Limits,
     ),
     (
+        r#"{"version":1,"kind":"farkas","energy":"1/2","limits":[{"branch":1,"outage":0,"unit":0,"up":"0/1","down":"0/1"}]}"#,
+        Key::Limits,
+    ),
+    (
+        r#"{"version":1,"kind":"farkas","energy":"1/2","limits":[{"branch":1,"outage":0,"unit":4294967296,"up":"0/1","down":"0/1"}]}"#,
+        Key::Limits,
+    ),
+    (
+        r#"{"version":1,"kind":"farkas","energy":"1/2","limits":[{"branch":1,"outage":0,"unit":3,"up":"0/1","down":"0/1"},{"branch":1,"outage":0,"unit":3,"up":"1/1","down":"0/1"}]}"#,
+        Key::Limits,
+    ),
+    (
         r#"{"version":1,"kind":"farkas","energy":"1/2","limits":[],"x":0}"#,
         Key::Extra,
     ),
@@ -84,7 +99,7 @@ static FAULTS: [(&str, Key); 22] = [
 
 #[test]
 fn writes_what_it_reads(rt: HostRuntime) -> Result<(), Fail> {
-    for text in [OPTIMAL, FARKAS] {
+    for text in [OPTIMAL, FARKAS, LOST] {
         let cert = from_json(rt.alloc(), text.as_bytes())?;
         let written = to_json(rt.alloc(), &cert)?;
         assert_eq!(rt; written.as_slice(), text.as_bytes());
@@ -123,6 +138,7 @@ fn writes_outcomes(rt: HostRuntime) -> Result<(), Fail> {
         row: RowId {
             branch: 2,
             outage: 0,
+            unit: 0,
         },
         up: Frac63::of_parts(2, 1),
         down: Frac63::of_parts(0, 1),
