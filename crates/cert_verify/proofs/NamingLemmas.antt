@@ -35,13 +35,13 @@ same_triple-id id row = by (same_id row id) (same_triple (name_of id) (name_of r
     by false false e f = refl
     by true false e f = absurd (true≢false (sym (subst (λ (r : RowId). same_triple (name_of id) (name_of r) ≡ true) (sym (same_name row id e)) (own_id id)) ∙ f))
     by false true e f =
-        let parts = and_parts (id.branch == row.branch) ((id.outage == row.outage) && (id.unit == row.unit)) f in
-        let behind = and_parts (id.outage == row.outage) (id.unit == row.unit) parts.1 in
+        let parts = and_parts ((id.branch == row.branch) && (id.outage == row.outage)) (id.unit == row.unit) f in
+        let front = and_parts (id.branch == row.branch) (id.outage == row.outage) parts.0 in
         absurd
         (true≢false
         (sym
         (Prim.rw
-        (eq-eqb row.branch id.branch (sym (eqb-true id.branch row.branch parts.0)), eq-eqb row.outage id.outage (sym (eqb-true id.outage row.outage behind.0)), eq-eqb row.unit id.unit (sym (eqb-true id.unit row.unit behind.1))) refl)
+        (eq-eqb row.branch id.branch (sym (eqb-true id.branch row.branch front.0)), eq-eqb row.outage id.outage (sym (eqb-true id.outage row.outage front.1)), eq-eqb row.unit id.unit (sym (eqb-true id.unit row.unit parts.1))) refl)
         ∙ e))
 
 -- what a name has among duals

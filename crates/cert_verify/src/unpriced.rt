@@ -25,7 +25,7 @@ use std::alloc::Global;
 fn is_unpriced<N: Exact>(
     market: &Market,
     carried: &[N],
-    duals: &IndexMap<(u32, u32), Dual<N>>,
+    duals: &IndexMap<(u32, u32, u32), Dual<N>>,
     row: Row,
 ) -> Result<bool, Passed<N>>
     requires carried { length carried.now ≡ length market.now.lines + length market.now.unit_outages }
@@ -49,7 +49,7 @@ fn is_unpriced<N: Exact>(
 fn first_unpriced<N: Exact>(
     market: &Market,
     carried: &[N],
-    duals: &IndexMap<(u32, u32), Dual<N>>,
+    duals: &IndexMap<(u32, u32, u32), Dual<N>>,
 ) -> Result<Option<Reason>, Passed<N>>
     requires { length carried.now ≡ length market.now.lines + length market.now.unit_outages }
     ensures first { (x : Dispatch) (ds : List (Dual N)) → AreCarried market.now x (map N.value carried.now) → duals.now.entries ≡ map entry_of ds → IfOk result (λ first. first ≡ unpriced_reason market.now x (map (dual_at N.value) ds)) }

@@ -1,4 +1,5 @@
 use Rattle.std.proofs.Common.{rules, Err, ◌≡◌, ◌∙◌, ap, map, sym}
+use Rattle.std.proofs.lemmas.Result.{IfErr-weaker}
 use Rattle.market_model.specs.Valued.{dual_at, passed_at}
 use Rattle.market_model.specs.PutIn.{dispatch_of}
 use Rattle.market_model.specs.SumTables.{balance_from_bus, balance_of_all}
@@ -63,3 +64,16 @@ returns-in_err-reason-2-clause-cause g c =
     λ energy none.
     let before = before_flows m x ds (value c.in_ok-balance.field-0) (value c.datum.result) (c.in_ok-balance.ensures.sum x puts) c.datum.ensures (sym c.differ.ensures ∙ c.if-differ.false) none in
     rw given (at_limits (c.in_err-reason-2.ensures.cause x flows) before)
+
+pub returns-clause-cause : goal.returns-clause-cause
+returns-clause-cause g c =
+    let m = c.args.market.now in
+    let value = g.N.Exact.value in
+    let x = dispatch_of value c.args.blocks.now in
+    let ds = map (dual_at value) c.args.limits.now in
+    let puts = ap (map value) c.deref.ensures.value ∙ c.in_ok-by_bus.ensures.injections in
+    let puts_then = ap (map value) c.deref-2.ensures.value ∙ c.in_ok-by_bus.ensures.injections in
+    let flows = ap (map value) c.deref-5.ensures.value ∙ c.in_ok-carried.ensures.carried puts_then in
+    λ energy none.
+    let before = before_flows m x ds (value c.in_ok-balance.field-0) (value c.datum.result) (c.in_ok-balance.ensures.sum x puts) c.datum.ensures (sym c.differ.ensures ∙ c.if-differ.false) none in
+    IfErr-weaker c.unpriced_row.result _ _ (λ stop h. on_passed_weaker stop _ _ (λ p pair. at_limits pair before) h) (c.unpriced_row.ensures.cause x flows)

@@ -16,9 +16,6 @@ use Rattle.cert_verify.proofs.FindLemmas.{place_here, place_more}
 use Rattle.cert_verify.proofs.TestLemmas.{support_same}
 use Rattle.cert_verify.proofs.blocks.unsupported_block.Goals as goal
 
-pub index-prices-unit-in_range : goal.index-prices-unit-in_range
-index-prices-unit-in_range g c = TODO
-
 pub block_price-requires : goal.block_price-requires
 block_price-requires g c =
     let k = c.loop-at.at in
@@ -42,10 +39,13 @@ returns-then-breaks_support g c =
     let blocks = c.slice-block-items.ensures ∙ c.blocks-2.ensures.list in
     let read = ap (λ (bs : List Block). slice_index_or bs k (record { unit = 0; side = Sell; quantity = pos 0; price = pos 0 })) blocks in
     let inside : k < length m.blocks = omega (arith, c.loop-at-test.true, ap length blocks) in
+    let none : Block = record { unit = 0; side = Sell; quantity = pos 0; price = pos 0 } in
+    let unit = subst (λ (bs : List Block). (slice_index_or bs k none).unit < length m.units) (sym blocks) (c.units-units.ensures.market.blocks k none inside).unit in
+    let at_unit : (slice_index_or c.slice-block-items.result.now k none).unit < length c.args.prices.now = omega (arith, c.requires.prices, unit) in
     let here = λ (d : Duals Fraction) (all : map value c.args.prices.now ≡ map (unit_price m d) (places (length m.units))).
-    support_same _ (block_at m k).side (value c.block_price.result) (price m k) (value c.index-prices-unit.result) (unit_price m d (block_at m k).unit) (value c.block_quantity.result) (quantity m k) (value c.index-blocks-at.result) (accepted x k)
+    support_same _ (block_at m k).side (value c.block_price.result) (price m k) (value c.index-prices-block.result) (unit_price m d (block_at m k).unit) (value c.block_quantity.result) (quantity m k) (value c.index-blocks-at.result) (accepted x k)
     (ap (λ (b : Block). b.side) read) (c.block_price.ensures ∙ ap (λ (b : Block). whole b.price) read)
-    (put_read value c.args.prices.now _ c.index-prices-unit.result at_unit c.index-prices-unit.is ∙ ap (λ (b : Block). put_in (map value c.args.prices.now) b.unit) read
+    (put_read value c.args.prices.now _ c.index-prices-block.result at_unit c.index-prices-block.is ∙ ap (λ (b : Block). put_in (map value c.args.prices.now) b.unit) read
     ∙ filled_at (unit_price m d) (map value c.args.prices.now) (length m.units) zero all (block_at m k).unit (block_unit-in m c.units-units.ensures.market k inside))
     (c.block_quantity.ensures ∙ ap (λ (b : Block). whole b.quantity) read)
     (put_read value c.args.blocks.now k c.index-blocks-at.result (omega (arith, inside, c.requires.blocks)) c.index-blocks-at.is) in
@@ -60,10 +60,13 @@ loop-at-preserved g c =
     let blocks = c.slice-block-items.ensures ∙ c.blocks-2.ensures.list in
     let read = ap (λ (bs : List Block). slice_index_or bs k (record { unit = 0; side = Sell; quantity = pos 0; price = pos 0 })) blocks in
     let inside : k < length m.blocks = omega (arith, c.loop-at-test.true, ap length blocks) in
+    let none : Block = record { unit = 0; side = Sell; quantity = pos 0; price = pos 0 } in
+    let unit = subst (λ (bs : List Block). (slice_index_or bs k none).unit < length m.units) (sym blocks) (c.units-units.ensures.market.blocks k none inside).unit in
+    let at_unit : (slice_index_or c.slice-block-items.result.now k none).unit < length c.args.prices.now = omega (arith, c.requires.prices, unit) in
     let here = λ (d : Duals Fraction) (all : map value c.args.prices.now ≡ map (unit_price m d) (places (length m.units))).
-    support_same _ (block_at m k).side (value c.block_price.result) (price m k) (value c.index-prices-unit.result) (unit_price m d (block_at m k).unit) (value c.block_quantity.result) (quantity m k) (value c.index-blocks-at.result) (accepted x k)
+    support_same _ (block_at m k).side (value c.block_price.result) (price m k) (value c.index-prices-block.result) (unit_price m d (block_at m k).unit) (value c.block_quantity.result) (quantity m k) (value c.index-blocks-at.result) (accepted x k)
     (ap (λ (b : Block). b.side) read) (c.block_price.ensures ∙ ap (λ (b : Block). whole b.price) read)
-    (put_read value c.args.prices.now _ c.index-prices-unit.result at_unit c.index-prices-unit.is ∙ ap (λ (b : Block). put_in (map value c.args.prices.now) b.unit) read
+    (put_read value c.args.prices.now _ c.index-prices-block.result at_unit c.index-prices-block.is ∙ ap (λ (b : Block). put_in (map value c.args.prices.now) b.unit) read
     ∙ filled_at (unit_price m d) (map value c.args.prices.now) (length m.units) zero all (block_at m k).unit (block_unit-in m c.units-units.ensures.market k inside))
     (c.block_quantity.ensures ∙ ap (λ (b : Block). whole b.quantity) read)
     (put_read value c.args.blocks.now k c.index-blocks-at.result (omega (arith, inside, c.requires.blocks)) c.index-blocks-at.is) in
