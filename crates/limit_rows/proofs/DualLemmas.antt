@@ -24,11 +24,11 @@ use Rattle.limit_rows.proofs.GroupLemmas.{length-map}
 use Rattle.limit_rows.proofs.PlaceLemmas.{same_name}
 
 no_dual : Dual Fraction
-no_dual = record { row = record { branch = 0; outage = 0 }; up = whole (pos 0); down = whole (pos 0) }
+no_dual = record { row = record { branch = 0; outage = 0; unit = 0 }; up = whole (pos 0); down = whole (pos 0) }
 
 -- ---- the prices of a name
 own_id : (a : RowId) → same_id a a ≡ true
-own_id a = Prim.rw (eq-eqb a.branch a.branch refl, eq-eqb a.outage a.outage refl) refl
+own_id a = Prim.rw (eq-eqb a.branch a.branch refl, eq-eqb a.outage a.outage refl, eq-eqb a.unit a.unit refl) refl
 
 other_id : (a b : RowId) → a ≢ b → same_id a b ≡ false
 other_id a b h = by (same_id a b) refl

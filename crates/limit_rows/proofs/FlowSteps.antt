@@ -1,6 +1,6 @@
 -- Steps of the flows of lines and rows, and of the offsets of rows.
-use Rattle.std.specs.Prelude.{◌≡◌, ◌≢◌, ℕ, ◌+◌, ◌<◌, pos, ℤ, List, [], ◌∷◌, map, length, refl}
-use Rattle.std.proofs.Common.{arith, ap, ap₂, sym, subst, ◌∙◌}
+use Rattle.std.specs.Prelude.{◌≡◌, ◌≢◌, ℕ, ◌+◌, ◌<◌, pos, ℤ, List, [], ◌∷◌, ◌++◌, map, length, refl}
+use Rattle.std.proofs.Common.{arith, ap, ap₂, sym, subst, ◌∙◌, get_or}
 use Rattle.fraction_theory.specs.Fraction.{Fraction, whole, over, ◌+ℚ◌, ◌*ℚ◌}
 use Rattle.fraction_theory.specs.Sums.{Term, Plain, Product, total}
 use Rattle.fraction_theory.proofs.FieldLaws.{ring_ℚ, over-same, over-one, +ℚ_nil, +ℚ_assoc, *ℚ_comm}
@@ -8,19 +8,20 @@ use Rattle.fraction_theory.proofs.Ring.{times_nil}
 use Rattle.exact_fraction.specs.declared.Passed.{Passed}
 use Rattle.market_data.specs.Scales.{market_factor_one}
 use Rattle.market_model.specs.declared.limits.Cause.{Cause}
-use Rattle.market_model.specs.declared.limits.Cause.TheVariants.{Base, Branch}
+use Rattle.market_model.specs.declared.limits.Cause.TheVariants.{Base, Branch, UnitOutage}
 use Rattle.market_model.specs.declared.limits.Row.{Row}
 use Rattle.market_model.specs.declared.participants.Parts.{Parts}
 use Rattle.market_model.specs.Dispatch.{Dispatch, places, injection}
-use Rattle.market_model.specs.LimitRows.{IsCauseAmong, factor_terms, flow_by, flow_terms, terms_under, line_flow, line_offset, line_terms, loss_factor, offset_terms, row_factor, row_offset, shift_factor}
+use Rattle.market_model.specs.LimitRows.{Carried, IsCauseOf, carried, factor_terms, flow_by, flow_terms, terms_under, line_flow, line_flows, line_offset, line_terms, loss_factor, lost_output, lost_outputs, offset_terms, picked_up_terms, pickup_factor, row_factor, row_offset, shift_factor}
 use Rattle.market_model.specs.NamedSums.{IsRefusedIn, IsShareRefusal}
-use Rattle.market_model.specs.PutIn.{AreInjections, put_in}
+use Rattle.market_model.specs.PutIn.{AreCarried, AreInjections, carried_in, put_in}
 use Rattle.market_model.specs.SumTables.{IsRefusedAmong, LineFlowSum, flow_of_line}
 use Rattle.market_model.proofs.MorePlaces.{total-places_more}
 use Rattle.market_model.proofs.PlaceLists.{filled_at, map_same}
 use Rattle.market_model.proofs.PutInSteps.{put_is}
 use Rattle.market_model.proofs.SumSteps.{share_at, terms_at}
-use Rattle.limit_rows.specs.LineFlows.{AreFlows}
+use Rattle.std.proofs.lemmas.List.{get_or_append_left, get_or-append-add}
+use Rattle.std.proofs.lemmas.List.FromFn.{length-map-range_with_len}
 
 -- a factor of 0 takes nothing
 pub no_share : (s x : Fraction) (k : ℤ) → k ≡ pos 0 → s ≡ s +ℚ over k market_factor_one *ℚ x
@@ -53,56 +54,87 @@ module _ (m : Parts) (p : ℕ → Fraction) (l : ℕ) where
 pub share_refused : (a h x : Fraction) (bound : ℕ) (e : Passed Fraction) → IsShareRefusal a h x bound e → IsRefusedIn (Plain a ∷ Product h x ∷ []) bound e
 share_refused a h x bound e why = share_at (Plain a ∷ Product h x ∷ []) (Plain a ∷ []) [] (Product h x) refl bound e a h x refl (sym (+ℚ_nil a)) why
 
--- ---- the flow of a row, where lines have flows f
+-- ---- an amount f of lines, under a cause
 module _ (m : Parts) (f : ℕ → Fraction) (l : ℕ) where
-  pub base_flow : (own : Fraction) → own ≡ f l → own ≡ flow_by m f (record { line = l; cause = Base })
-  base_flow own is = is ∙ sym (+ℚ_nil (f l))
+  alone : (own : Fraction) → own ≡ f l → own ≡ total (Plain (f l) ∷ [])
+  alone own is = is ∙ sym (+ℚ_nil (f l))
 
   module _ (k : ℕ) (own h gone : Fraction) (own_is : own ≡ f l) (factor_is : h ≡ loss_factor m l k) (gone_is : gone ≡ f k) where
-    pub flow_after : (mw : Fraction) → mw ≡ own +ℚ h *ℚ gone → mw ≡ flow_by m f (record { line = l; cause = Branch k })
-    flow_after mw e = e ∙ ap₂ (λ a b. a +ℚ b) own_is (ap₂ ◌*ℚ◌ factor_is gone_is ∙ sym (+ℚ_nil (loss_factor m l k *ℚ f k)))
+    with_lost : (mw : Fraction) → mw ≡ own +ℚ h *ℚ gone → mw ≡ total (terms_under m f l (Branch k))
+    with_lost mw e = e ∙ ap₂ (λ a b. a +ℚ b) own_is (ap₂ ◌*ℚ◌ factor_is gone_is ∙ sym (+ℚ_nil (loss_factor m l k *ℚ f k)))
 
-    pub flow_refused : (bound : ℕ) (e : Passed Fraction) → IsShareRefusal own h gone bound e → IsRefusedIn (flow_terms m f (record { line = l; cause = Branch k })) bound e
-    flow_refused bound e why = subst (λ ts. IsRefusedIn ts bound e) (ap₂ (λ (a : Fraction) (t : Term). Plain a ∷ t ∷ []) own_is (ap₂ Product factor_is gone_is)) (share_refused own h gone bound e why)
+    lost_refused : (bound : ℕ) (e : Passed Fraction) → IsShareRefusal own h gone bound e → IsRefusedIn (terms_under m f l (Branch k)) bound e
+    lost_refused bound e why = subst (λ ts. IsRefusedIn ts bound e) (ap₂ (λ (a : Fraction) (t : Term). Plain a ∷ t ∷ []) own_is (ap₂ Product factor_is gone_is)) (share_refused own h gone bound e why)
+
+-- ---- the flow of a row, of what is carried
+module _ (m : Parts) (c : Carried) (l : ℕ) where
+  pub base_flow : (own : Fraction) → own ≡ c.line l → own ≡ flow_by m c (record { line = l; cause = Base })
+  base_flow own is = alone m c.line l own is
+
+  module _ (k : ℕ) (own h gone : Fraction) (own_is : own ≡ c.line l) (factor_is : h ≡ loss_factor m l k) (gone_is : gone ≡ c.line k) where
+    pub flow_after : (mw : Fraction) → mw ≡ own +ℚ h *ℚ gone → mw ≡ flow_by m c (record { line = l; cause = Branch k })
+    flow_after mw e = with_lost m c.line l k own h gone own_is factor_is gone_is mw e
+
+    pub flow_refused : (bound : ℕ) (e : Passed Fraction) → IsShareRefusal own h gone bound e → IsRefusedIn (flow_terms m c (record { line = l; cause = Branch k })) bound e
+    flow_refused bound e why = lost_refused m c.line l k own h gone own_is factor_is gone_is bound e why
+
+  module _ (k : ℕ) (own h gone : Fraction) (own_is : own ≡ c.line l) (factor_is : h ≡ pickup_factor m l k) (gone_is : gone ≡ c.lost k) where
+    pub flow_picked : (mw : Fraction) → mw ≡ own +ℚ h *ℚ gone → mw ≡ flow_by m c (record { line = l; cause = UnitOutage k })
+    flow_picked mw e = e ∙ ap₂ (λ a b. a +ℚ b) own_is (ap₂ ◌*ℚ◌ factor_is gone_is ∙ sym (+ℚ_nil (pickup_factor m l k *ℚ c.lost k)))
+
+    pub picked_refused : (bound : ℕ) (e : Passed Fraction) → IsShareRefusal own h gone bound e → IsRefusedIn (flow_terms m c (record { line = l; cause = UnitOutage k })) bound e
+    picked_refused bound e why = subst (λ ts. IsRefusedIn ts bound e) (ap₂ (λ (a : Fraction) (t : Term). Plain a ∷ t ∷ []) own_is (ap₂ Product factor_is gone_is)) (share_refused own h gone bound e why)
 
 pub not_base : (cause : Cause) (k : ℕ) → cause ≡ Branch k → cause ≢ Base
 not_base cause k is e = Prim.cc
 
--- ---- the offset of a row: its flow where those of lines are their offsets
+pub unit_not_base : (cause : Cause) (k : ℕ) → cause ≡ UnitOutage k → cause ≢ Base
+unit_not_base cause k is e = Prim.cc
+
+-- ---- the offset of a row: that of its line, and after an outage what goes over of the lost one's
 pub base_offset : (m : Parts) (l : ℕ) → line_offset m l ≡ row_offset m (record { line = l; cause = Base })
 unfolding row_offset
-base_offset m l = base_flow m (line_offset m) l (line_offset m l) refl
+base_offset m l = alone m (line_offset m) l (line_offset m l) refl
+
+pub unit_offset : (m : Parts) (l k : ℕ) → line_offset m l ≡ row_offset m (record { line = l; cause = UnitOutage k })
+unfolding row_offset
+unit_offset m l k = alone m (line_offset m) l (line_offset m l) refl
 
 module _ (m : Parts) (l k : ℕ) (own h gone : Fraction) (own_is : own ≡ line_offset m l) (factor_is : h ≡ loss_factor m l k) (gone_is : gone ≡ line_offset m k) where
   pub offset_after : (mw : Fraction) → mw ≡ own +ℚ h *ℚ gone → mw ≡ row_offset m (record { line = l; cause = Branch k })
   unfolding row_offset
-  offset_after mw e = flow_after m (line_offset m) l k own h gone own_is factor_is gone_is mw e
+  offset_after mw e = with_lost m (line_offset m) l k own h gone own_is factor_is gone_is mw e
 
   pub offset_refused : (bound : ℕ) (e : Passed Fraction) → IsShareRefusal own h gone bound e → IsRefusedIn (offset_terms m (record { line = l; cause = Branch k })) bound e
-  offset_refused bound e why = flow_refused m (line_offset m) l k own h gone own_is factor_is gone_is bound e why
+  offset_refused bound e why = lost_refused m (line_offset m) l k own h gone own_is factor_is gone_is bound e why
 
--- ---- the factor of a row at a bus: its flow where those of lines are their shift factors for it
+-- ---- the factor of a row at a bus: that of its line, and after an outage what goes over of the lost one's
 module _ (m : Parts) (l i : ℕ) (own : Fraction) (own_is : own ≡ shift_factor m l i) where
   pub base_factor : own ≡ row_factor m (record { line = l; cause = Base }) i
   unfolding row_factor
-  base_factor = base_flow m (λ n. shift_factor m n i) l own own_is
+  base_factor = alone m (λ n. shift_factor m n i) l own own_is
+
+  pub unit_outage_factor : (k : ℕ) → own ≡ row_factor m (record { line = l; cause = UnitOutage k }) i
+  unfolding row_factor
+  unit_outage_factor k = alone m (λ n. shift_factor m n i) l own own_is
 
   module _ (k : ℕ) (h gone : Fraction) (factor_is : h ≡ loss_factor m l k) (gone_is : gone ≡ shift_factor m k i) where
     pub factor_after : (more : Fraction) → more ≡ own +ℚ h *ℚ gone → more ≡ row_factor m (record { line = l; cause = Branch k }) i
     unfolding row_factor
-    factor_after more e = flow_after m (λ n. shift_factor m n i) l k own h gone own_is factor_is gone_is more e
+    factor_after more e = with_lost m (λ n. shift_factor m n i) l k own h gone own_is factor_is gone_is more e
 
     pub factor_refused : (bound : ℕ) (e : Passed Fraction) → IsShareRefusal own h gone bound e → IsRefusedIn (factor_terms m (record { line = l; cause = Branch k }) i) bound e
-    factor_refused bound e why = flow_refused m (λ n. shift_factor m n i) l k own h gone own_is factor_is gone_is bound e why
+    factor_refused bound e why = lost_refused m (λ n. shift_factor m n i) l k own h gone own_is factor_is gone_is bound e why
 
--- ---- the same flows of lines make the same flow of a row
-module _ (m : Parts) (f g : ℕ → Fraction) (same : (l : ℕ) → l < length m.lines → f l ≡ g l) where
-  pub flow_terms-same : (r : Row) → r.line < length m.lines → IsCauseAmong (length m.lines) r.cause → flow_terms m f r ≡ flow_terms m g r
-  flow_terms-same r inside among = by r.cause among
+-- ---- what is carried the same makes the same flow of a row
+module _ (m : Parts) (c d : Carried) (same : (l : ℕ) → l < length m.lines → c.line l ≡ d.line l) (same_lost : (k : ℕ) → k < length m.unit_outages → c.lost k ≡ d.lost k) where
+  pub flow_terms-same : (r : Row) → r.line < length m.lines → IsCauseOf m r.cause → flow_terms m c r ≡ flow_terms m d r
+  flow_terms-same r inside is = by r.cause is
     where
-      by : (cause : Cause) → IsCauseAmong (length m.lines) cause → terms_under m f r.line cause ≡ terms_under m g r.line cause
+      by : (cause : Cause) → IsCauseOf m cause → terms_under m c.line r.line cause ++ picked_up_terms m c.lost r.line cause ≡ terms_under m d.line r.line cause ++ picked_up_terms m d.lost r.line cause
       by Base h = ap (λ (a : Fraction). Plain a ∷ []) (same r.line inside)
       by (Branch k) h = ap₂ (λ (a b : Fraction). Plain a ∷ Product (loss_factor m r.line k) b ∷ []) (same r.line inside) (same k h)
+      by (UnitOutage k) h = ap₂ (λ (a b : Fraction). Plain a ∷ Product (pickup_factor m r.line k) b ∷ []) (same r.line inside) (same_lost k h)
 
 -- ---- the flows of a dispatch
 module _ (m : Parts) (p q : ℕ → Fraction) (same : (i : ℕ) → i < length m.buses → p i ≡ q i) where
@@ -115,16 +147,29 @@ module _ (m : Parts) (p q : ℕ → Fraction) (same : (i : ℕ) → i < length m
 
 -- where buses put in what a dispatch makes them
 module _ (m : Parts) (x : Dispatch) (mws : List Fraction) (puts : AreInjections m x mws) where
-  pub lines_put : (flows : List Fraction) → flows ≡ map (line_flow m (put_in mws)) (places (length m.lines)) → AreFlows m x flows
+  pub lines_put : (flows : List Fraction) → flows ≡ map (line_flow m (put_in mws)) (places (length m.lines)) → flows ≡ line_flows m x
   lines_put flows e = e ∙ map_same (line_flow m (put_in mws)) (line_flow m (injection m x)) (length m.lines) (λ l lt. line_flow-same m (put_in mws) (injection m x) (put_is m x mws puts) l)
 
   pub line_refusal : (bound : ℕ) (e : Passed Fraction) → IsRefusedAmong (LineFlowSum m (put_in mws)) bound e → IsRefusedAmong (LineFlowSum m (injection m x)) bound e
   line_refusal bound e (_, flow_of_line l lt, why) = (_, flow_of_line l lt, subst (λ ts. IsRefusedIn ts bound e) (line_terms-same m (put_in mws) (injection m x) (put_is m x mws puts) l) why)
 
--- and lines have the flows of that
-module _ (m : Parts) (x : Dispatch) (flows : List Fraction) (are : AreFlows m x flows) where
-  pub flow_is : (l : ℕ) → l < length m.lines → put_in flows l ≡ line_flow m (injection m x) l
-  flow_is = filled_at (line_flow m (injection m x)) flows (length m.lines) (whole (pos 0)) are
+-- what is carried at a dispatch, read off its list
+module _ (m : Parts) (x : Dispatch) (mws : List Fraction) (are : AreCarried m x mws) where
+  pub flow_is : (l : ℕ) → l < length m.lines → put_in mws l ≡ line_flow m (injection m x) l
+  flow_is l lt =
+      let count : length (line_flows m x) ≡ length m.lines = length-map-range_with_len (line_flow m (injection m x)) 0 (length m.lines) in
+      ap (λ (ys : List Fraction). get_or ys l (whole (pos 0))) are
+      ∙ get_or_append_left (line_flows m x) (lost_outputs m x) (whole (pos 0)) l (Prim.omega (arith, lt, count))
+      ∙ filled_at (line_flow m (injection m x)) (line_flows m x) (length m.lines) (whole (pos 0)) refl l lt
 
-  pub row_terms_are : (r : Row) → r.line < length m.lines → IsCauseAmong (length m.lines) r.cause → flow_terms m (put_in flows) r ≡ flow_terms m (line_flow m (injection m x)) r
-  row_terms_are r inside among = flow_terms-same m (put_in flows) (line_flow m (injection m x)) flow_is r inside among
+  pub lost_is : (k : ℕ) → k < length m.unit_outages → put_in mws (length m.lines + k) ≡ lost_output m x k
+  lost_is k lt =
+      let count : length (line_flows m x) ≡ length m.lines = length-map-range_with_len (line_flow m (injection m x)) 0 (length m.lines) in
+      let at : length m.lines + k ≡ length (line_flows m x) + k = Prim.omega (arith, count) in
+      ap (λ (ys : List Fraction). get_or ys (length m.lines + k) (whole (pos 0))) are
+      ∙ ap (λ (n : ℕ). get_or (line_flows m x ++ lost_outputs m x) n (whole (pos 0))) at
+      ∙ get_or-append-add (line_flows m x) (lost_outputs m x) k (whole (pos 0))
+      ∙ filled_at (lost_output m x) (lost_outputs m x) (length m.unit_outages) (whole (pos 0)) refl k lt
+
+  pub row_terms_are : (r : Row) → r.line < length m.lines → IsCauseOf m r.cause → flow_terms m (carried_in m mws) r ≡ flow_terms m (carried m x) r
+  row_terms_are r inside is = flow_terms-same m (carried_in m mws) (carried m x) flow_is lost_is r inside is

@@ -2,6 +2,7 @@ pub mod GroupLemmas
 pub mod LineLemmas
 pub mod NumberingLemmas
 pub mod ApartLemmas
+mod PickupSteps
 pub mod PlaceLemmas
 pub mod DualLemmas
 pub mod FactorLemmas

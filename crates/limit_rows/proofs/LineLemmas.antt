@@ -6,7 +6,7 @@ use Rattle.std.proofs.lemmas.Int.{ints}
 use Rattle.std.proofs.lemmas.Option.{slice_get_within, get_or_from_slice_get}
 use Rattle.fraction_theory.specs.Fraction.{whole}
 use Rattle.market_model.specs.declared.limits.Cause.{Cause}
-use Rattle.market_model.specs.declared.limits.Cause.TheVariants.{Base, Branch}
+use Rattle.market_model.specs.declared.limits.Cause.TheVariants.{Base, Branch, UnitOutage}
 use Rattle.market_model.specs.declared.participants.Line.{Line}
 use Rattle.market_model.specs.declared.participants.Parts.{Parts}
 use Rattle.market_model.specs.Dispatch.{line_at}
@@ -34,14 +34,11 @@ module _ (m : Parts) (lines : List Line) (l : ℕ) (line : Line) (listed : lines
       of (Some mw) = refl
 
 -- a stated limit is not below 0
+not_below : (mw : Option ℤ) → IfSome mw (λ n. pos 0 ≤ℤ n) → pos 0 ≤ℤ unwrap_or mw (pos 0)
+not_below None h = Prim.omega (arith, ints)
+not_below (Some n) h = h
+
 pub stated_least : (line : Line) → IsLine line → (cause : Cause) → pos 0 ≤ℤ unwrap_or (stated line cause) (pos 0)
-stated_least line is Base = of line.base is.base
-  where
-    of : (mw : Option ℤ) → IfSome mw (λ n. pos 0 ≤ℤ n) → pos 0 ≤ℤ unwrap_or mw (pos 0)
-    of None h = Prim.omega (arith, ints)
-    of (Some n) h = h
-stated_least line is (Branch lost) = of line.post is.post
-  where
-    of : (mw : Option ℤ) → IfSome mw (λ n. pos 0 ≤ℤ n) → pos 0 ≤ℤ unwrap_or mw (pos 0)
-    of None h = Prim.omega (arith, ints)
-    of (Some n) h = h
+stated_least line is Base = not_below line.base is.base
+stated_least line is (Branch lost) = not_below line.post is.post
+stated_least line is (UnitOutage k) = not_below line.post is.post

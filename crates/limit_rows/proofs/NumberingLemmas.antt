@@ -1,13 +1,10 @@
 -- The rows under a cause.
 use Rattle.std.specs.Prelude.{◌≡◌, ℕ, length}
 use Rattle.market_model.specs.declared.participants.Parts.{Parts}
-use Rattle.market_model.specs.declared.limits.Row.{Row}
 use Rattle.market_model.specs.declared.limits.Cause.{Cause}
 use Rattle.market_model.specs.LimitRows.{lines_of, rows_of}
+use Rattle.market_model.proofs.RowMembers.{row_on}
 use Rattle.limit_rows.proofs.GroupLemmas.{length-map}
-
-abbrev pub row_on : Cause → ℕ → Row
-row_on cause l = record { line = l; cause = cause }
 
 pub length-rows_of : (m : Parts) (cause : Cause) → length (rows_of m cause) ≡ length (lines_of m cause)
 length-rows_of m cause = length-map (row_on cause) (lines_of m cause)

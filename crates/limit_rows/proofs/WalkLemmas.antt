@@ -9,18 +9,17 @@ use Rattle.std.proofs.lemmas.List.Elements.{Contains-append_right}
 use Rattle.std.proofs.lemmas.List.FromFn.{length-range_with_len}
 use Rattle.std.proofs.lemmas.Option.{slice_get_within, get_or_from_slice_get}
 use Rattle.fraction_theory.proofs.ListSums.{Contains-head}
-use Rattle.market_data.specs.Scales.{most_lines, most_outages}
+use Rattle.market_data.specs.Scales.{most_lines, most_outages, most_units}
 use Rattle.market_model.specs.declared.participants.Parts.{Parts}
 use Rattle.market_model.specs.Dispatch.{places}
 use Rattle.market_model.specs.declared.limits.Cause.{Cause}
-use Rattle.market_model.specs.declared.limits.Cause.TheVariants.{Branch}
 use Rattle.market_model.specs.declared.limits.Row.{Row}
-use Rattle.market_model.specs.LimitRows.{bears, causes, lost_lines, place_of_line, rows, rows_of}
+use Rattle.market_model.specs.LimitRows.{bears, causes, rows, rows_of}
 use Rattle.market_model.specs.Market.{IsMarket}
 use Rattle.market_model.proofs.LostLemmas.{place_at}
 use Rattle.limit_rows.specs.Walk.{lines_from, rows_from, rows_under}
-use Rattle.limit_rows.proofs.GroupLemmas.{length-map, rows-causes}
-use Rattle.limit_rows.proofs.NumberingLemmas.{row_on}
+use Rattle.limit_rows.proofs.GroupLemmas.{length-causes, length-map, rows-causes}
+use Rattle.market_model.proofs.RowMembers.{row_on}
 
 module _ (m : Parts) where
   -- ---- lines under a cause, one more
@@ -88,11 +87,9 @@ module _ (m : Parts) where
   under_few [] = Prim.omega arith
   under_few (cause ∷ gs) = Prim.omega (arith, lines_few cause, under_few gs, length-append (rows_of m cause) (flat_map (rows_of m) gs))
 
-  pub rows_few : IsMarket m → length (rows m) ≤ (most_outages + 1) * most_lines
+  pub rows_few : IsMarket m → length (rows m) ≤ (most_outages + 1 + most_units) * most_lines
   rows_few market =
-      let counted = length-map Branch (lost_lines m) in
-      let lost = length-map (place_of_line m) m.outages in
-      let causes_few : length (causes m) ≤ most_outages + 1 = Prim.omega (arith, counted, lost, market.outage_count) in
+      let causes_few : length (causes m) ≤ most_outages + 1 + most_units = Prim.omega (arith, length-causes m, market.outage_count, market.unit_outages.count) in
       Prim.omega (arith, ap length (rows-causes m), under_few (causes m), mul-le-mul causes_few market.line_count)
 
   -- ---- a loop over the rows, which has taken some

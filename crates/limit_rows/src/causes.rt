@@ -3,7 +3,7 @@
 ghost use Rattle.std.specs.Prelude.{◌≡◌, ◌≤◌, ◌<◌, ◌+◌, length, Some};
 ghost use Rattle.std.specs.List.{slice_get};
 ghost use Rattle.market_data.specs.Scales.{most_outages, most_units};
-ghost use Rattle.market_model.specs.LimitRows.{bears, causes, outage_of, stated, unit_of, IsCauseOf};
+ghost use Rattle.market_model.specs.LimitRows.{bears, causes, lost_unit, outage_of, stated, unit_of, IsCauseOf};
 
 use market_model::{Cause, Line, Market};
 
@@ -43,6 +43,15 @@ pub(crate) fn outage_of(market: &Market, cause: Cause) -> u32
     }
 }
 
+/// The unit that an outage loses, by the place of the outage among those of units.
+pub fn lost_unit(market: &Market, outage: usize) -> usize
+    requires { outage < length market.now.unit_outages }
+    ensures is { result ≡ lost_unit market.now outage }
+    ensures inside { result < length market.now.units }
+{
+    *market.unit_outages().at(outage)
+}
+
 /// The gen row of the lost unit of a cause; 0 where none is lost.
 pub(crate) fn unit_of(market: &Market, cause: Cause) -> u32
     requires { IsCauseOf market.now cause }
@@ -50,7 +59,7 @@ pub(crate) fn unit_of(market: &Market, cause: Cause) -> u32
 {
     match cause {
         Cause::Base | Cause::Branch(_) => 0,
-        Cause::UnitOutage(outage) => { market.units().at(*market.unit_outages().at(outage)).row }
+        Cause::UnitOutage(outage) => market.units().at(lost_unit(market, outage)).row,
     }
 }
 

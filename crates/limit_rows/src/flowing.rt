@@ -11,7 +11,8 @@ ghost use Rattle.market_model.specs.PutIn.{carried_in, dispatch_of, put_in};
 ghost use Rattle.market_model.specs.SumTables.{IsFlowRefusal, IsRefusedAmong, LineFlowSum, LostOutputSum};
 ghost use Rattle.market_model.specs.Valued.{passed_at};
 
-use crate::factors::{loss_of, pickup_factor, shift_of};
+use crate::causes::lost_unit;
+use crate::factors::{loss_of, pickup_factor, shift_of, with_product};
 use exact_fraction::{Exact, Passed};
 use market_data::MARKET_FACTOR_ONE;
 use market_model::{Cause, Market, Row, datum, output};
@@ -82,7 +83,7 @@ pub fn put_lost_outputs<N: Exact>(
     ensures cause { IfErr result (λ passed. IsRefusedAmong (LostOutputSum market.now (dispatch_of N.value dispatch.now)) N.bound (passed_at N.value passed)) }
 {
     for (outage, mw) in out.iter_mut().enumerate() {
-        *mw = output(market, *market.unit_outages().at(outage), dispatch)?;
+        *mw = output(market, lost_unit(market, outage), dispatch)?;
     }
     Ok(())
 }
@@ -104,7 +105,8 @@ pub fn row_flow<N: Exact>(market: &Market, carried: &[N], row: Row) -> Result<N,
         Cause::Branch(lost) => with_share(own, loss_of(market, row.line, lost), carried[lost]),
         Cause::UnitOutage(outage) => {
             let factor = pickup_factor(market, row.line, outage)?;
-            own.plus_product(factor, carried[market.lines().len() + outage])
+            let lost = carried[market.lines().len() + outage];
+            with_product(own, factor, lost)
         }
     }
 }

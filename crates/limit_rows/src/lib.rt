@@ -10,6 +10,7 @@ mod places;
 mod softness;
 mod walk;
 
+pub use causes::lost_unit;
 pub use factors::{
     coefficient, loss_of, pickup_factor, row_factor, shift_of, taker_factor, unit_factor,
 };

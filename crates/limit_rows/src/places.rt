@@ -52,10 +52,10 @@ fn unit_outage(market: &Market, row: u32) -> Option<Cause>
     requires { row ≢ 0 }
     ensures { MatchOption result (All (λ cause. ¬ (Loses market.now cause 0 row)) (causes market.now)) (λ cause. Contains (causes market.now) cause × Loses market.now cause 0 row) }
 {
-    let units = market.unit_outages().slice();
-    for (place, unit) in units.iter().enumerate() {
-        if market.units().at(*unit).row == row {
-            return Some(Cause::UnitOutage(place));
+    for outage in 0..market.unit_outages().len() {
+        let cause = Cause::UnitOutage(outage);
+        if unit_of(market, cause) == row {
+            return Some(cause);
         }
     }
     None

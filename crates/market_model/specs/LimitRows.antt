@@ -165,8 +165,11 @@ abbrev pub share_value : Pickup → Fraction
 share_value p = over p.share scales.factor_one
 
 -- how much of the lost output flows on a line where its takers put it in: each its share
+abbrev pub taker_term : Parts → ℕ → Pickup → Term
+taker_term m l p = Product (share_value p) (shift_factor m l (unit_at m p.taker).bus)
+
 abbrev pub taker_terms : Parts → ℕ → ℕ → List Term
-taker_terms m l k = map (λ p. Product (share_value p) (shift_factor m l (unit_at m p.taker).bus)) (pickups_of m k)
+taker_terms m l k = map (taker_term m l) (pickups_of m k)
 
 unfoldable pub taker_factor : Parts → ℕ → ℕ → Fraction
 taker_factor m l k = total (taker_terms m l k)

@@ -1,4 +1,4 @@
-use Rattle.std.proofs.Common.{◌≡◌, ◌∙◌, ℤ, ap, subst, sym, w64}
+use Rattle.std.proofs.Common.{◌≡◌, ◌∙◌, ℤ, ap, subst, sym, inl, inr, w64}
 use Rattle.std.proofs.lemmas.Int.{to_z-of_z}
 use Rattle.std.proofs.lemmas.Result.{IfOk-weaker, IfErr-weaker}
 use Rattle.std.specs.Prelude.{unsigned_abs, ◌≤◌}
@@ -9,7 +9,7 @@ use Rattle.market_model.specs.declared.limits.Cause.{Cause}
 use Rattle.market_model.specs.LimitRows.{factor_terms, row_factor}
 use Rattle.market_model.specs.NamedSums.{IsRefusedIn}
 use Rattle.market_model.specs.Valued.{passed_at}
-use Rattle.limit_rows.proofs.FlowSteps.{base_factor, factor_after, factor_refused}
+use Rattle.limit_rows.proofs.FlowSteps.{base_factor, factor_after, factor_refused, unit_outage_factor}
 use Rattle.limit_rows.proofs.WideFactors.{row_factor_fits}
 use Rattle.limit_rows.proofs.factors.row_factor.Goals as goal
 
@@ -17,8 +17,12 @@ pub returns-in-Base-clause-factor : goal.returns-in-Base-clause-factor
 returns-in-Base-clause-factor g c =
     let m = c.args.market.now in
     let shift : to_z w64 (of_z w64 c.shift_of.result) ≡ c.shift_of.result = to_z-of_z w64 c.shift_of.result (record { sfits = c.shift_of.type_inv }) in
-    base_factor m c.args.row.line c.args.bus _ (c.as_number-own.ensures ∙ ap (λ (z : ℤ). over z market_factor_one) (shift ∙ c.shift_of.ensures.is))
-    ∙ ap (λ (o : Cause). row_factor m (record { line = c.args.row.line; cause = o }) c.args.bus) (sym c.in-Base.is)
+    let l = c.args.row.line in
+    let own = c.as_number-own.ensures ∙ ap (λ (z : ℤ). over z market_factor_one) (shift ∙ c.shift_of.ensures.is) in
+    elim c.in-Base.is [
+      | inl e ↦ base_factor m l c.args.bus _ own ∙ ap (λ (o : Cause). row_factor m (record { line = l; cause = o }) c.args.bus) (sym e)
+      | inr u ↦ unit_outage_factor m l c.args.bus _ own u.0 ∙ ap (λ (o : Cause). row_factor m (record { line = l; cause = o }) c.args.bus) (sym u.1)
+    ]
 
 pub returns-in-Branch-clause-factor : goal.returns-in-Branch-clause-factor
 returns-in-Branch-clause-factor g c =

@@ -1,12 +1,34 @@
-use Rattle.std.specs.Prelude.{◌≡◌, ◌<◌, IfErr, IfOk, length, refl}
-use Rattle.std.proofs.Common.{subst, sym}
+use Rattle.std.specs.Prelude.{◌≡◌, ◌<◌, length, IfErr, IfOk, [], ◌∷◌, refl}
+use Rattle.std.proofs.Common.{◌∙◌, ap, subst, sym}
+use Rattle.std.proofs.lemmas.Result.{IfOk-weaker, IfErr-weaker}
+use Rattle.fraction_theory.specs.Fraction.{neg_ℚ}
+use Rattle.fraction_theory.specs.Sums.{Plain}
 use Rattle.market_data.specs.declared.participants.Unit as unit
-use Rattle.market_model.specs.LimitRows.{factor_terms, row_factor}
-use Rattle.market_model.specs.NamedSums.{IsRefusedIn}
+use Rattle.market_model.specs.Dispatch.{unit_at}
+use Rattle.market_model.specs.LimitRows.{lost_unit, row_factor, shift_factor, taker_terms}
+use Rattle.market_model.specs.SumTables.{factor_at_bus, factor_of_pickup, pickup_of_row}
 use Rattle.market_model.specs.Valued.{passed_at}
 use Rattle.market_model.proofs.MarketSums.{unit_bus-in}
 use Rattle.market_model.proofs.PutInSteps.{unit_read}
+use Rattle.limit_rows.proofs.PickupSteps.{factor_lost, factor_not_lost, refused_in_front}
 use Rattle.limit_rows.proofs.factors.unit_factor.Goals as goal
+
+pub returns-in-Some-clause-factor : goal.returns-in-Some-clause-factor
+returns-in-Some-clause-factor g c =
+    IfOk-weaker c.taker_factor.result _ _ (λ factor e. e ∙ factor_lost c.args.market.now c.args.row c.args.unit c.in-Some.outage c.in-Some.ensures.0 c.in-Some.ensures.2) c.taker_factor.ensures.factor
+
+pub returns-in-Some-clause-cause : goal.returns-in-Some-clause-cause
+returns-in-Some-clause-cause g c =
+    let m = c.args.market.now in
+    let l = c.args.row.line in
+    let k = c.in-Some.outage in
+    IfErr-weaker c.taker_factor.result _ _
+    (λ e why. (
+      _,
+      factor_of_pickup _ (pickup_of_row k c.in-Some.ensures.0),
+      refused_in_front (taker_terms m l k) (Plain (neg_ℚ (shift_factor m l (unit_at m (lost_unit m k)).bus)) ∷ []) g.N.Exact.bound (passed_at g.N.Exact.value e) why,
+    ))
+    c.taker_factor.ensures.cause
 
 pub row_factor-requires-clause-bus : goal.row_factor-requires-clause-bus
 row_factor-requires-clause-bus g c =
@@ -14,14 +36,16 @@ row_factor-requires-clause-bus g c =
     let read = unit_read m c.units.result.now c.args.unit c.args.unit c.at.result.now c.units.ensures.list refl c.at.ensures in
     subst (λ (v : unit.Unit). v.bus < length m.buses) (sym read) (unit_bus-in m c.units.ensures.market c.args.unit c.requires.unit)
 
-pub returns-clause-factor : goal.returns-clause-factor
-returns-clause-factor g c =
+pub returns-in-None-clause-factor : goal.returns-in-None-clause-factor
+returns-in-None-clause-factor g c =
     let m = c.args.market.now in
     let read = unit_read m c.units.result.now c.args.unit c.args.unit c.at.result.now c.units.ensures.list refl c.at.ensures in
-    subst (λ (v : unit.Unit). IfOk c.row_factor.result (λ factor. g.N.Exact.value factor ≡ row_factor m c.args.row v.bus)) read c.row_factor.ensures.factor
+    IfOk-weaker c.row_factor.result _ _
+    (λ factor e. e ∙ ap (λ (v : unit.Unit). row_factor m c.args.row v.bus) read ∙ factor_not_lost m c.args.row c.args.unit c.in-None.ensures) c.row_factor.ensures.factor
 
-pub returns-clause-cause : goal.returns-clause-cause
-returns-clause-cause g c =
+pub returns-in-None-clause-cause : goal.returns-in-None-clause-cause
+returns-in-None-clause-cause g c =
     let m = c.args.market.now in
     let read = unit_read m c.units.result.now c.args.unit c.args.unit c.at.result.now c.units.ensures.list refl c.at.ensures in
-    subst (λ (v : unit.Unit). IfErr c.row_factor.result (λ passed. IsRefusedIn (factor_terms m c.args.row v.bus) g.N.Exact.bound (passed_at g.N.Exact.value passed))) read c.row_factor.ensures.cause
+    let inside = subst (λ (v : unit.Unit). v.bus < length m.buses) (sym read) (unit_bus-in m c.units.ensures.market c.args.unit c.requires.unit) in
+    IfErr-weaker c.row_factor.result _ _ (λ e why. (_, factor_at_bus c.at.result.now.bus inside, why)) c.row_factor.ensures.cause

@@ -1,4 +1,4 @@
-use Rattle.std.proofs.Common.{◌≡◌, ◌∙◌, ℤ, ap, subst, sym, w64}
+use Rattle.std.proofs.Common.{◌≡◌, ◌∙◌, ℤ, ap, subst, sym, inl, inr, w64}
 use Rattle.std.proofs.lemmas.Int.{to_z-of_z}
 use Rattle.std.proofs.lemmas.Result.{IfOk-weaker, IfErr-weaker}
 use mir.Val.{to_z, of_z}
@@ -8,13 +8,18 @@ use Rattle.market_model.specs.declared.limits.Cause.{Cause}
 use Rattle.market_model.specs.LimitRows.{row_offset, offset_terms}
 use Rattle.market_model.specs.NamedSums.{IsRefusedIn}
 use Rattle.market_model.specs.Valued.{passed_at}
-use Rattle.limit_rows.proofs.FlowSteps.{base_offset, offset_after, offset_refused}
+use Rattle.limit_rows.proofs.FlowSteps.{base_offset, offset_after, offset_refused, unit_offset}
 use Rattle.limit_rows.proofs.flowing.row_offset.Goals as goal
 
 pub returns-in-Base-clause-offset : goal.returns-in-Base-clause-offset
 returns-in-Base-clause-offset g c =
-    c.offset_of-own.ensures ∙ base_offset c.args.market.now c.args.row.line
-    ∙ ap (λ (o : Cause). row_offset c.args.market.now (record { line = c.args.row.line; cause = o })) (sym c.in-Base.is)
+    let m = c.args.market.now in
+    let l = c.args.row.line in
+    c.offset_of-own.ensures
+    ∙ (elim c.in-Base.is [
+      | inl e ↦ base_offset m l ∙ ap (λ (o : Cause). row_offset m (record { line = l; cause = o })) (sym e)
+      | inr u ↦ unit_offset m l u.0 ∙ ap (λ (o : Cause). row_offset m (record { line = l; cause = o })) (sym u.1)
+    ])
 
 pub returns-in-Branch-clause-offset : goal.returns-in-Branch-clause-offset
 returns-in-Branch-clause-offset g c =

@@ -1,6 +1,7 @@
 use Rattle.std.proofs.Common.{◌≡◌, Some, sym, ap, ◌∙◌}
 use Rattle.market_model.specs.LimitRows.{row_id, rows}
-use Rattle.limit_rows.proofs.PlaceLemmas.{at_places, listed, position_named}
+use Rattle.market_model.proofs.RowMembers.{at_places}
+use Rattle.limit_rows.proofs.PlaceLemmas.{listed, position_named}
 use Rattle.limit_rows.proofs.numbering.id.Goals as goal
 
 pub name_at-requires-clause-line : goal.name_at-requires-clause-line

@@ -1,5 +1,5 @@
 use Rattle.limit_rows.proofs.ApartLemmas.{same_row}
-use Rattle.limit_rows.proofs.PlaceLemmas.{at_places}
+use Rattle.market_model.proofs.RowMembers.{at_places}
 use Rattle.std.proofs.Common.{sym, ◌∙◌}
 use Rattle.limit_rows.proofs.places.found_row.Goals as goal
 

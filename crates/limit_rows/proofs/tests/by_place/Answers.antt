@@ -1,4 +1,4 @@
-use Rattle.limit_rows.proofs.PlaceLemmas.{at_places}
+use Rattle.market_model.proofs.RowMembers.{at_places}
 use Rattle.limit_rows.proofs.tests.by_place.Goals as goal
 
 pub name_at-requires-clause-line : goal.name_at-requires-clause-line

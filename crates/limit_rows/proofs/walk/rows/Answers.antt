@@ -1,4 +1,4 @@
-use Rattle.limit_rows.proofs.PlaceLemmas.{at_places}
+use Rattle.market_model.proofs.RowMembers.{at_places}
 use Rattle.limit_rows.proofs.WalkLemmas.{all_from_start, rows_few}
 use Rattle.limit_rows.proofs.walk.rows.Goals as goal
 

@@ -1,6 +1,6 @@
 use Rattle.std.proofs.Common.{rules, ◌≡◌, ◌∙◌, ◌+◌, ◌∷◌}
 use Rattle.limit_rows.specs.Walk.{rows_from}
-use Rattle.limit_rows.proofs.NumberingLemmas.{row_on}
+use Rattle.market_model.proofs.RowMembers.{row_on}
 use Rattle.limit_rows.proofs.WalkLemmas.{cause_over, row_next}
 use Rattle.limit_rows.proofs.walk.RowWalkIterator.next.Goals as goal
 
