@@ -1,4 +1,3 @@
-use Rattle.std.proofs.Common.{rules, ◌≡◌, sym}
 use Rattle.std.proofs.lemmas.Result.{IfErr-weaker}
 use Rattle.market_model.specs.SumTables.{pickup_of_row}
 use Rattle.cert_sums.proofs.own_pricing.row_pickup.Goals as goal

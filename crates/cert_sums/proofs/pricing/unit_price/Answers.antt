@@ -1,5 +1,5 @@
 use Rattle.std.proofs.Common.{rules, Err, ◌≡◌, ◌<◌, ◌∙◌, ap, length, refl, subst, sym}
-use Rattle.std.proofs.lemmas.Result.{IfOk-weaker, IfErr-weaker}
+use Rattle.std.proofs.lemmas.Result.{IfErr-weaker}
 use Rattle.market_data.specs.declared.participants.Unit as unit
 use Rattle.market_model.specs.Optimality.{bus_price, unit_price}
 use Rattle.market_model.specs.Valued.{passed_at}
