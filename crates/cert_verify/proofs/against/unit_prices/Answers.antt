@@ -1,4 +1,4 @@
-use Rattle.std.proofs.Common.{rules, Err, ◌≡◌, ◌<◌, ◌∙◌, List, ap, sym, subst, refl, map, length, arith}
+use Rattle.std.proofs.Common.{rules, Err, ◌≡◌, ◌∙◌, List, ap, sym, subst, refl, map}
 use Rattle.market_model.specs.Optimality.{unit_price}
 use Rattle.market_model.specs.Valued.{dual_at}
 use Rattle.cert_sums.specs.declared.pricing.NamedRow.{NamedRow}
