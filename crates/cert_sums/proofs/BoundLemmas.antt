@@ -1,7 +1,7 @@
 -- Steps of the Farkas bound: row by row, and block by block.
-use Rattle.std.specs.Prelude.{◌≡◌, ◌⊎◌, ℕ, ◌+◌, ◌<◌, ◌≤◌, pos, Bool, true, false, cond, List, [], ◌∷◌, ◌++◌, map, filter, length, take, replicate, refl}
+use Rattle.std.specs.Prelude.{◌≡◌, ◌⊎◌, ℕ, ◌+◌, ◌<◌, ◌≤◌, pos, false, List, [], ◌∷◌, ◌++◌, map, length, take, replicate, refl}
 use Rattle.std.specs.List.{flat_map}
-use Rattle.std.proofs.Common.{zero, suc, arith, inl, inr, ap, ap₂, sym, subst, subst₂, ◌∙◌, get_or, append_assoc}
+use Rattle.std.proofs.Common.{inl, inr, ap, ap₂, sym, subst, subst₂, ◌∙◌, append_assoc}
 use Rattle.std.proofs.lemmas.List.{take_all}
 use Rattle.std.proofs.lemmas.Grind.{flat_map-append}
 use Rattle.fraction_theory.specs.Fraction.{Fraction, whole, ◌+ℚ◌, ◌-ℚ◌, ◌*ℚ◌}
@@ -16,7 +16,7 @@ use Rattle.exact_fraction.specs.declared.Op.TheVariants.{Times}
 use Rattle.exact_fraction.specs.declared.Passed.{Passed}
 use Rattle.market_model.specs.declared.answered.Duals.{Duals}
 use Rattle.market_model.specs.declared.participants.Parts.{Parts}
-use Rattle.market_model.specs.Dispatch.{Dispatch, places, injection, balance, balance_terms, empty, quantity, dispatch_by}
+use Rattle.market_model.specs.Dispatch.{Dispatch, places, balance, balance_terms, empty, quantity, dispatch_by}
 use Rattle.market_model.specs.Infeasibility.{block_weight, limit_terms, nothing_terms, farkas_terms, farkas_bound}
 use Rattle.market_model.specs.declared.limits.Row.{Row}
 use Rattle.market_model.specs.LimitRows.{rows, row_id, most_flow, flow}
@@ -27,11 +27,11 @@ use Rattle.market_model.proofs.MorePlaces.{sum_by_more, total-places_more}
 use Rattle.market_model.proofs.SumSteps.{product_at, share_at, terms_at, behind}
 use Rattle.limit_rows.proofs.DualLemmas.{up_unnamed, down_unnamed, sum_named}
 use Rattle.cert_sums.specs.Named.{PricedRow, priced_by}
-use Rattle.cert_sums.specs.Pairs.{IsFarkasPair, in_flow as flow_pair, in_bound as bound_pair, of_limit_less, of_limit_more, of_most}
-use Rattle.market_model.specs.SumTables.{IsRefusedAmong, InjectionSum, balance_from_bus, balance_of_all, LineFlowSum, limited_line, limited_row, flow_in_balance, flow_in_limits, farkas_bound_of_all}
+use Rattle.cert_sums.specs.Pairs.{IsFarkasPair, in_flow as flow_pair, in_bound as bound_pair, in_pickup, of_limit_less, of_limit_more, of_most}
+use Rattle.market_model.specs.SumTables.{IsRefusedAmong, InjectionSum, balance_from_bus, balance_of_all, limited_line, limited_row, limited_unit, flow_in_balance, flow_in_limits, farkas_bound_of_all}
 use Rattle.market_model.specs.PutIn.{dispatch_of}
-use Rattle.cert_sums.specs.Refusals.{IsAboveRefusal, IsBelowRefusal, IsLimitRefusal, in_most, in_flow, in_above, in_below}
-use Rattle.cert_sums.proofs.NamedLemmas.{IsNamedAt, is_named_row, is_row}
+use Rattle.cert_sums.specs.Refusals.{IsAboveRefusal, IsBelowRefusal, IsCarriedRefusal, IsLimitRefusal, in_most, in_flow, in_above, in_below}
+use Rattle.cert_sums.proofs.NamedLemmas.{IsNamedAt, filter_at, is_named_row, is_row}
 
 -- ---- prices of 0 make nothing
 pub nothing_made : (s price room : Fraction) → price ≡ whole (pos 0) → s ≡ s +ℚ price *ℚ room
@@ -63,24 +63,6 @@ module _ (m : Parts) (x : Dispatch) (e : PricedRow) (sum l f : Fraction) (bound 
   pub below_side : (above : Fraction) → above ≡ sum +ℚ e.up *ℚ (l -ℚ f) → IsBelowRefusal above e.down l f bound p → IsLimitRefusal m x e sum bound p
   below_side above first h =
       in_below (subst₂ (λ a b. IsBelowRefusal (sum +ℚ e.up *ℚ (a -ℚ b)) e.down a b bound p) is flows (subst (λ t. IsBelowRefusal t e.down l f bound p) first h))
-
--- ---- a list round one of those that pass a test
-filter_at : {X : Type 0} (p : X → Bool) (xs : List X) (k : ℕ) (e : X) → k < length (filter p xs)
-    → (front : List X) × (rest : List X) × (xs ≡ front ++ get_or (filter p xs) k e ∷ rest) × (filter p front ≡ take k (filter p xs))
-filter_at p [] k e h = absurd (Prim.omega (arith, h))
-filter_at {X} p (x ∷ xs) k e h = by (p x) refl k (λ j lt. filter_at p xs j e lt) h
-  where
-    by : (b : Bool) → p x ≡ b → (j : ℕ)
-        → ((i : ℕ) → i < length (filter p xs) → (front : List X) × (rest : List X) × (xs ≡ front ++ get_or (filter p xs) i e ∷ rest) × (filter p front ≡ take i (filter p xs)))
-        → j < length (cond b (x ∷ filter p xs) (filter p xs))
-        → (front : List X) × (rest : List X) × (x ∷ xs ≡ front ++ get_or (cond b (x ∷ filter p xs) (filter p xs)) j e ∷ rest) × (filter p front ≡ take j (cond b (x ∷ filter p xs) (filter p xs)))
-    by true t zero more lt = ([], xs, refl, refl)
-    by true t (suc j) more lt =
-        let r = more j (Prim.omega (arith, lt)) in
-        (x ∷ r.0, r.1, ap (λ ys. x ∷ ys) r.2, ap (λ (b : Bool). cond b (x ∷ filter p r.0) (filter p r.0)) t ∙ ap (λ ys. x ∷ ys) r.3)
-    by false t j more lt =
-        let r = more j lt in
-        (x ∷ r.0, r.1, ap (λ ys. x ∷ ys) r.2, ap (λ (b : Bool). cond b (x ∷ filter p r.0) (filter p r.0)) t ∙ r.3)
 
 -- ---- the rows of the bound
 module _ (m : Parts) (d : Duals Fraction) where
@@ -185,7 +167,8 @@ module _ (m : Parts) (d : Duals Fraction) where
           (share_at (farkas_terms m d) (s.front ++ above ∷ []) s.rest below second bound p (sum +ℚ e.up *ℚ room_above) e.down room_below (ap (λ u. Product u room_below) (sym h.down)) with_above c)
 
       pub limit_refused : IsLimitRefusal m (empty m) e sum bound p → IsFarkasPair m d bound p
-      limit_refused (in_flow (terms, part, c)) = flow_pair (terms, flow_in_limits terms (limited_row e.row terms (is_row m d k e h) part), c)
+      limit_refused (in_flow (inl (terms, part, c))) = flow_pair (terms, flow_in_limits terms (limited_row e.row terms (is_row m d k e h) part), c)
+      limit_refused (in_flow (inr c)) = in_pickup e.row (is_named_row m d k e h) c
       limit_refused (in_most c) = of_most e.row (is_named_row m d k e h) c
       limit_refused (in_above c) = above_refused c
       limit_refused (in_below c) = below_refused c
@@ -233,8 +216,12 @@ module _ (m : Parts) (d : Duals Fraction) (bound : ℕ) (p : Passed Fraction) wh
   injection_pair x is h =
       let sum = subst (λ (y : Dispatch). IsRefusedAmong (InjectionSum m y) bound p) is h in flow_pair (sum.0, flow_in_balance sum.0 (balance_from_bus sum.0 sum.1), sum.2)
 
-  pub line_pair : IsRefusedAmong (LineFlowSum m (injection m (empty m))) bound p → IsFarkasPair m d bound p
-  line_pair (terms, sum, h) = flow_pair (terms, flow_in_limits terms (limited_line terms sum), h)
+  carried_pair : IsCarriedRefusal m (empty m) bound p → IsFarkasPair m d bound p
+  carried_pair (inl (terms, sum, h)) = flow_pair (terms, flow_in_limits terms (limited_line terms sum), h)
+  carried_pair (inr (terms, sum, h)) = flow_pair (terms, flow_in_limits terms (limited_unit terms sum), h)
+
+  pub carried_pair_of : (x : Dispatch) → x ≡ empty m → IsCarriedRefusal m x bound p → IsFarkasPair m d bound p
+  carried_pair_of x is h = carried_pair (subst (λ (y : Dispatch). IsCarriedRefusal m y bound p) is h)
 
   pub balance_pair : IsRefusedIn (balance_terms m (empty m)) bound p → IsFarkasPair m d bound p
   balance_pair h = flow_pair (_, flow_in_balance _ balance_of_all, h)

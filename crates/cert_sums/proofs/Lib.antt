@@ -1,2 +1,4 @@
 pub mod NamedLemmas
+pub mod CarriedLemmas
+pub mod OwnLemmas
 pub mod BoundLemmas

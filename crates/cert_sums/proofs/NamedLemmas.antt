@@ -1,6 +1,6 @@
 -- The named rows of duals, and the congestion at a bus row by row.
-use Rattle.std.specs.Prelude.{◌≡◌, ◌⊎◌, ℕ, ◌+◌, ◌<◌, ◌≤◌, pos, false, List, [], ◌∷◌, ◌++◌, map, length, take, Contains, refl}
-use Rattle.std.proofs.Common.{inl, inr, arith, ap, ap₂, sym, ◌∙◌, get_or}
+use Rattle.std.specs.Prelude.{◌≡◌, ◌⊎◌, ℕ, ◌+◌, ◌<◌, ◌≤◌, pos, Bool, true, false, cond, List, [], ◌∷◌, ◌++◌, map, filter, length, take, Contains, refl}
+use Rattle.std.proofs.Common.{zero, suc, inl, inr, arith, ap, ap₂, sym, ◌∙◌, get_or}
 use Rattle.std.proofs.lemmas.List.{get_or-map, length-map, take_all}
 use Rattle.fraction_theory.specs.Fraction.{Fraction, whole, neg_ℚ, ◌+ℚ◌, ◌-ℚ◌, ◌*ℚ◌}
 use Rattle.fraction_theory.specs.Sums.{sum_by, Term, Plain, Product, term_value, total}
@@ -15,14 +15,32 @@ use Rattle.market_model.specs.declared.participants.Parts.{Parts}
 use Rattle.market_model.specs.declared.limits.Row.{Row}
 use Rattle.market_model.specs.LimitRows.{factor_terms, rows, row_id, row_factor}
 use Rattle.market_model.specs.NamedSums.{IsRefusal, IsRefusedIn, IsShareRefusal}
-use Rattle.market_model.specs.Optimality.{up_of, down_of, net_shadow_price, names_row, named_rows, congestion, congestion_terms, congestion_by, price_terms}
-use Rattle.market_model.specs.SumTables.{congestion_at, factor_at_bus, IsFactorRefusal}
+use Rattle.market_model.specs.Optimality.{bus_price, up_of, down_of, net_shadow_price, names_row, named_rows, congestion, congestion_terms, congestion_by, price_terms}
+use Rattle.market_model.specs.SumTables.{BusPriceSum, congestion_at, factor_at_bus, IsFactorRefusal, OwnPriceSum, price_of_bus, price_of_unit}
 use Rattle.market_model.proofs.MorePlaces.{sum_by_more}
 use Rattle.market_model.proofs.SumSteps.{plus_at, refusal_same, share_at}
 use Rattle.limit_rows.proofs.DualLemmas.{up_unnamed, down_unnamed, sum_named, terms_named}
 use Rattle.cert_sums.specs.declared.pricing.NamedRow.{NamedRow}
 use Rattle.cert_sums.specs.Named.{PricedRow, priced_at, priced_by, AreNamed}
-use Rattle.cert_sums.specs.Refusals.{IsNetPriceRefusal, IsPriceRefusal, IsPricesRefusal}
+use Rattle.cert_sums.specs.Refusals.{IsNetPriceRefusal, IsPriceRefusal, IsPricesRefusal, IsUnitPriceRefusal}
+
+-- ---- a list round one of those that pass a test
+pub filter_at : {X : Type 0} (p : X → Bool) (xs : List X) (k : ℕ) (e : X) → k < length (filter p xs)
+    → (front : List X) × (rest : List X) × (xs ≡ front ++ get_or (filter p xs) k e ∷ rest) × (filter p front ≡ take k (filter p xs))
+filter_at p [] k e h = absurd (Prim.omega (arith, h))
+filter_at {X} p (x ∷ xs) k e h = by (p x) refl k (λ j lt. filter_at p xs j e lt) h
+  where
+    by : (b : Bool) → p x ≡ b → (j : ℕ)
+        → ((i : ℕ) → i < length (filter p xs) → (front : List X) × (rest : List X) × (xs ≡ front ++ get_or (filter p xs) i e ∷ rest) × (filter p front ≡ take i (filter p xs)))
+        → j < length (cond b (x ∷ filter p xs) (filter p xs))
+        → (front : List X) × (rest : List X) × (x ∷ xs ≡ front ++ get_or (cond b (x ∷ filter p xs) (filter p xs)) j e ∷ rest) × (filter p front ≡ take j (cond b (x ∷ filter p xs) (filter p xs)))
+    by true t zero more lt = ([], xs, refl, refl)
+    by true t (suc j) more lt =
+        let r = more j (Prim.omega (arith, lt)) in
+        (x ∷ r.0, r.1, ap (λ ys. x ∷ ys) r.2, ap (λ (b : Bool). cond b (x ∷ filter p r.0) (filter p r.0)) t ∙ ap (λ ys. x ∷ ys) r.3)
+    by false t j more lt =
+        let r = more j lt in
+        (x ∷ r.0, r.1, ap (λ ys. x ∷ ys) r.2, ap (λ (b : Bool). cond b (x ∷ filter p r.0) (filter p r.0)) t ∙ r.3)
 
 -- the row that duals name at a place, with its prices
 pub record IsNamedAt (m : Parts) (d : Duals Fraction) (k : ℕ) (e : PricedRow) : Type 0 where
@@ -64,7 +82,7 @@ is_row m d k e h = (Contains-from_filter (λ s. names_row d.limits (row_id m s))
 pub no_net_price : (s u v k : Fraction) → k ≡ whole (pos 0) → s ≡ s +ℚ neg_ℚ (u -ℚ v) *ℚ k
 no_net_price s u v k e = sym (ap (λ t. s +ℚ neg_ℚ (u -ℚ v) *ℚ t) e ∙ ap (λ t. s +ℚ t) (times_nil ring_ℚ (neg_ℚ (u -ℚ v))) ∙ +ℚ_nil s)
 
--- in one of its sums, in two prices, or in the factor of a row
+-- in its sum, in two prices, or in the factor of a row
 abbrev IsCongestionRefusal : Parts → Duals Fraction → ℕ → ℕ → Passed Fraction → Type 0
 IsCongestionRefusal m d i bound p = IsRefusedIn (congestion_terms m d i) bound p ⊎ IsPricesRefusal m d bound p ⊎ IsFactorRefusal m (named_rows m d) bound p
 
@@ -115,7 +133,7 @@ module _ (m : Parts) (d : Duals Fraction) (i : ℕ) where
     factor_stops bound p inside why = inr (inr (e.row, is_named_row m d k e h, (factor_terms m e.row i, factor_at_bus i inside, why)))
 
 -- what is refused in the congestion is in the price
-pub in_congestion : (m : Parts) (d : Duals Fraction) (i : ℕ) (bound : ℕ) (p : Passed Fraction) → IsCongestionRefusal m d i bound p → IsPriceRefusal m d i bound p
+pub in_congestion : (m : Parts) (d : Duals Fraction) (i : ℕ) (bound : ℕ) (p : Passed Fraction) → IsCongestionRefusal m d i bound p → IsPriceRefusal m d (BusPriceSum m d i) bound p
 in_congestion m d i bound p (inl h) = inl (congestion_terms m d i, congestion_at, h)
 in_congestion m d i bound p (inr h) = inr h
 
@@ -123,3 +141,12 @@ in_congestion m d i bound p (inr h) = inr h
 pub price_refused : (m : Parts) (d : Duals Fraction) (i : ℕ) (bound : ℕ) (p : Passed Fraction) → IsRefusal Plus d.energy (congestion m d i) bound p → IsRefusedIn (price_terms m d i) bound p
 price_refused m d i bound p h =
     (plus_at (price_terms m d i) (Plain d.energy ∷ []) [] (Plain (congestion m d i)) refl bound p d.energy (congestion m d i) (sym (+ℚ_nil d.energy)) refl h)
+
+-- ---- what is refused in the price at a bus, or in what a unit's loss takes from that, is in the price of a unit
+pub bus_in_unit : (m : Parts) (d : Duals Fraction) (i : ℕ) (bound : ℕ) (p : Passed Fraction) → i < length m.buses → IsPriceRefusal m d (BusPriceSum m d i) bound p → IsUnitPriceRefusal m d bound p
+bus_in_unit m d i bound p inside (inl (terms, sum, why)) = inl (terms, price_of_bus i terms inside sum, why)
+bus_in_unit m d i bound p inside (inr why) = inr why
+
+pub own_in_unit : (m : Parts) (d : Duals Fraction) (bound : ℕ) (p : Passed Fraction) → IsPriceRefusal m d (OwnPriceSum m d (bus_price m d)) bound p → IsUnitPriceRefusal m d bound p
+own_in_unit m d bound p (inl (terms, sum, why)) = inl (terms, price_of_unit terms sum, why)
+own_in_unit m d bound p (inr why) = inr why

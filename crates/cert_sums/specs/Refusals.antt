@@ -1,29 +1,34 @@
 -- The operations that may be refused in each sum.
-use Rattle.std.specs.Prelude.{◌⊎◌, ℕ, ◌<◌, length, Contains}
+use Rattle.std.specs.Prelude.{◌⊎◌, ℕ, List, Contains}
 use Rattle.fraction_theory.specs.Fraction.{Fraction, neg_ℚ, ◌+ℚ◌, ◌-ℚ◌, ◌*ℚ◌}
+use Rattle.fraction_theory.specs.Sums.{Term}
 use Rattle.exact_fraction.specs.declared.Op.TheVariants.{Plus, Minus}
 use Rattle.exact_fraction.specs.declared.Passed.{Passed}
 use Rattle.market_model.specs.declared.answered.Duals.{Duals}
 use Rattle.market_model.specs.declared.participants.Parts.{Parts}
 use Rattle.market_model.specs.Dispatch.{Dispatch, injection}
 use Rattle.market_model.specs.declared.limits.Row.{Row}
-use Rattle.market_model.specs.LimitRows.{flow, limit, most_excess, most_flow, line_flow}
+use Rattle.market_model.specs.LimitRows.{carried, flow, limit, most_excess, most_flow}
 use Rattle.market_model.specs.NamedSums.{IsRefusal, IsShareRefusal}
 use Rattle.market_model.specs.Optimality.{up_of, down_of, named_rows}
-use Rattle.market_model.specs.SumTables.{IsRefusedAmong, RowFlowSum, BusPriceSum, IsFactorRefusal}
+use Rattle.market_model.specs.SumTables.{IsFactorRefusal, IsFlowRefusal, IsRefusedAmong, LineFlowSum, LostOutputSum, PriceSum}
 use Rattle.cert_sums.specs.Named.{PricedRow}
 
 -- the two prices of a row that duals name
 abbrev pub IsPricesRefusal : Parts → Duals Fraction → ℕ → Passed Fraction → Type 0
 IsPricesRefusal m d bound p = (r : Row) × Contains (named_rows m d) r × IsRefusal Minus (up_of m d r) (down_of m d r) bound p
 
--- in the price at a bus: of one of its sums, or of two prices or in a factor of which it is made
-abbrev pub IsPriceRefusal : Parts → Duals Fraction → ℕ → ℕ → Passed Fraction → Type 0
-IsPriceRefusal m d i bound p = IsRefusedAmong (BusPriceSum m d i) bound p ⊎ IsPricesRefusal m d bound p ⊎ IsFactorRefusal m (named_rows m d) bound p
+-- in a price: in one of these sums, or in two prices or in a factor of which it is made
+abbrev pub IsPriceRefusal : Parts → Duals Fraction → (List Term → Type 0) → ℕ → Passed Fraction → Type 0
+IsPriceRefusal m d IsSum bound p = IsRefusedAmong IsSum bound p ⊎ IsPricesRefusal m d bound p ⊎ IsFactorRefusal m (named_rows m d) bound p
 
--- in the price at some bus
-abbrev pub IsBusPriceRefusal : Parts → Duals Fraction → ℕ → Passed Fraction → Type 0
-IsBusPriceRefusal m d bound p = (i : ℕ) × (i < length m.buses) × IsPriceRefusal m d i bound p
+-- in the price of some unit: in the price at a bus, or in what the rows after the unit's loss take from that
+abbrev pub IsUnitPriceRefusal : Parts → Duals Fraction → ℕ → Passed Fraction → Type 0
+IsUnitPriceRefusal m d bound p = IsPriceRefusal m d (PriceSum m d) bound p
+
+-- in what the network carries at a dispatch: the flow of a line, or the output of a lost unit
+abbrev pub IsCarriedRefusal : Parts → Dispatch → ℕ → Passed Fraction → Type 0
+IsCarriedRefusal m x bound p = IsRefusedAmong (LineFlowSum m (injection m x)) bound p ⊎ IsRefusedAmong (LostOutputSum m x) bound p
 
 -- ---- the same step by step
 -- the two prices of a row, or what they take by a factor
@@ -37,9 +42,9 @@ IsAboveRefusal sum price limit flow bound p = IsRefusal Minus limit flow bound p
 abbrev pub IsBelowRefusal : Fraction → Fraction → Fraction → Fraction → ℕ → Passed Fraction → Type 0
 IsBelowRefusal sum price limit flow bound p = IsRefusal Plus limit flow bound p ⊎ IsShareRefusal sum price (limit +ℚ flow) bound p
 
--- the flow of a row, the most that it may be, or what its prices make of what the flow leaves of that, on either side
+-- the flow of a row or its pickup factor, the most that the flow may be, or what its prices make of what the flow leaves of that, on either side
 pub data IsLimitRefusal (m : Parts) (x : Dispatch) (e : PricedRow) (sum : Fraction) (bound : ℕ) (p : Passed Fraction) : Type 0 where
   in_most : IsRefusal Plus (limit m e.row) (most_excess m e.row) bound p → IsLimitRefusal m x e sum bound p
-  in_flow : IsRefusedAmong (RowFlowSum m (line_flow m (injection m x)) e.row) bound p → IsLimitRefusal m x e sum bound p
+  in_flow : IsFlowRefusal m (carried m x) e.row bound p → IsLimitRefusal m x e sum bound p
   in_above : IsAboveRefusal sum e.up (most_flow m e.row) (flow m x e.row) bound p → IsLimitRefusal m x e sum bound p
   in_below : IsBelowRefusal (sum +ℚ e.up *ℚ (most_flow m e.row -ℚ flow m x e.row)) e.down (most_flow m e.row) (flow m x e.row) bound p → IsLimitRefusal m x e sum bound p

@@ -1,23 +1,22 @@
 //! The Farkas bound: the most that any dispatch within the blocks' bounds makes of the balance and of what is left of the limits.
 
-ghost use Rattle.std.specs.Prelude.{◌≡◌, ◌<◌, length, map, IfOk, IfErr};
+ghost use Rattle.std.specs.Prelude.{◌≡◌, ◌<◌, ◌+◌, length, map, IfOk, IfErr};
 ghost use Rattle.fraction_theory.specs.Fraction.{Fraction, ◌+ℚ◌, ◌-ℚ◌, ◌*ℚ◌};
 ghost use Rattle.fraction_theory.specs.Sums.{total};
 ghost use Rattle.market_model.specs.declared.answered.Duals.{Duals};
 ghost use Rattle.market_model.specs.Dispatch.{Dispatch, balance, empty};
 ghost use Rattle.market_model.specs.Infeasibility.{farkas_bound, limit_terms, nothing_terms};
-ghost use Rattle.market_model.specs.LimitRows.{IsCauseAmong, flow, limit};
-ghost use Rattle.market_model.specs.Optimality.{unit_price};
+ghost use Rattle.market_model.specs.LimitRows.{IsCauseOf, flow, limit};
 ghost use Rattle.market_model.specs.Stops.{StopsBy};
 ghost use Rattle.market_model.specs.Valued.{passed_at};
 ghost use Rattle.market_model.specs.NamedSums.{IsShareRefusal};
-ghost use Rattle.limit_rows.specs.LineFlows.{AreFlows};
+ghost use Rattle.market_model.specs.PutIn.{AreCarried};
 ghost use Rattle.cert_sums.specs.Named.{AreNamed, priced_at, priced_by};
 ghost use Rattle.cert_sums.specs.Pairs.{IsFarkasPair};
 ghost use Rattle.cert_sums.specs.Refusals.{IsAboveRefusal, IsBelowRefusal, IsLimitRefusal};
 ghost use Rattle.fraction_theory.specs.Signs.{part_above};
 
-use crate::{NamedRow, bus_price, injections, line_flows};
+use crate::{NamedRow, carried_flows, injections, unit_price};
 use exact_fraction::{Exact, Passed, Sign, exact_difference, exact_sum};
 use limit_rows::{most_flow, row_flow};
 use market_model::{Market, Stop, balance, block_quantity, by_side, datum, zeros};
@@ -52,16 +51,16 @@ fn with_below<N: Exact>(sum: N, price: N, limit: N, flow: N) -> Result<N, Passed
 fn with_limit<N: Exact>(
     market: &Market,
     sum: N,
-    flows: &[N],
+    carried: &[N],
     entry: &NamedRow<N>,
 ) -> Result<N, Passed<N>>
-    requires flows { length flows.now ≡ length market.now.lines }
+    requires carried { length carried.now ≡ length market.now.lines + length market.now.unit_outages }
     requires line { entry.now.row.line < length market.now.lines }
-    requires lost { IsCauseAmong (length market.now.lines) entry.now.row.cause }
-    ensures sum { (d : Duals Fraction) → priced_at N.value entry.now ≡ priced_by market.now d entry.now.row → AreFlows market.now (empty market.now) (map N.value flows.now) → IfOk result (λ more. N.value more ≡ N.value sum +ℚ total (limit_terms market.now d entry.now.row)) }
-    ensures cause { (x : Dispatch) → AreFlows market.now x (map N.value flows.now) → IfErr result (λ passed. IsLimitRefusal market.now x (priced_at N.value entry.now) (N.value sum) N.bound (passed_at N.value passed)) }
+    requires lost { IsCauseOf market.now entry.now.row.cause }
+    ensures sum { (d : Duals Fraction) → priced_at N.value entry.now ≡ priced_by market.now d entry.now.row → AreCarried market.now (empty market.now) (map N.value carried.now) → IfOk result (λ more. N.value more ≡ N.value sum +ℚ total (limit_terms market.now d entry.now.row)) }
+    ensures cause { (x : Dispatch) → AreCarried market.now x (map N.value carried.now) → IfErr result (λ passed. IsLimitRefusal market.now x (priced_at N.value entry.now) (N.value sum) N.bound (passed_at N.value passed)) }
 {
-    let flow = row_flow(market, flows, entry.row)?;
+    let flow = row_flow(market, carried, entry.row)?;
     let most = most_flow(market, entry.row)?;
     let above = with_above(sum, entry.up, most, flow)?;
     with_below(above, entry.down, most, flow)
@@ -71,18 +70,18 @@ fn with_limit<N: Exact>(
 fn with_limits<N: Exact>(
     market: &Market,
     of_energy: N,
-    flows: &[N],
+    carried: &[N],
     named: &[NamedRow<N>],
 ) -> Result<N, Passed<N>>
-    requires flows { length flows.now ≡ length market.now.lines }
+    requires carried { length carried.now ≡ length market.now.lines + length market.now.unit_outages }
     requires named { (d : Duals Fraction) × AreNamed N.value market.now d named.now }
-    ensures sum { (d : Duals Fraction) → AreNamed N.value market.now d named.now → AreFlows market.now (empty market.now) (map N.value flows.now) → N.value of_energy ≡ d.energy *ℚ balance market.now (empty market.now) → IfOk result (λ sum. N.value sum ≡ total (nothing_terms market.now d)) }
-    ensures cause { (d : Duals Fraction) → AreNamed N.value market.now d named.now → AreFlows market.now (empty market.now) (map N.value flows.now) → N.value of_energy ≡ d.energy *ℚ balance market.now (empty market.now) → IfErr result (λ passed. IsFarkasPair market.now d N.bound (passed_at N.value passed)) }
+    ensures sum { (d : Duals Fraction) → AreNamed N.value market.now d named.now → AreCarried market.now (empty market.now) (map N.value carried.now) → N.value of_energy ≡ d.energy *ℚ balance market.now (empty market.now) → IfOk result (λ sum. N.value sum ≡ total (nothing_terms market.now d)) }
+    ensures cause { (d : Duals Fraction) → AreNamed N.value market.now d named.now → AreCarried market.now (empty market.now) (map N.value carried.now) → N.value of_energy ≡ d.energy *ℚ balance market.now (empty market.now) → IfErr result (λ passed. IsFarkasPair market.now d N.bound (passed_at N.value passed)) }
 {
     let _lines = market.lines();
     let mut sum = of_energy;
     for entry in named {
-        sum = with_limit(market, sum, flows, entry)?;
+        sum = with_limit(market, sum, carried, entry)?;
     }
     Ok(sum)
 }
@@ -96,21 +95,6 @@ fn with_most<N: Exact>(sum: N, weight: N, quantity: N) -> Result<N, Passed<N>>
         Sign::Below | Sign::Zero => Ok(sum),
         Sign::Above => sum.plus_product(weight, quantity),
     }
-}
-
-/// The price of the unit at a place: that of its bus.
-fn unit_price<N: Exact>(
-    market: &Market,
-    energy: N,
-    named: &[NamedRow<N>],
-    unit: usize,
-) -> Result<N, Passed<N>>
-    requires named { (d : Duals Fraction) × AreNamed N.value market.now d named.now }
-    requires unit { unit < length market.now.units }
-    ensures price { (d : Duals Fraction) → N.value energy ≡ d.energy → AreNamed N.value market.now d named.now → IfOk result (λ price. N.value price ≡ unit_price market.now d unit) }
-    ensures cause { (d : Duals Fraction) → N.value energy ≡ d.energy → AreNamed N.value market.now d named.now → IfErr result (λ passed. IsFarkasPair market.now d N.bound (passed_at N.value passed)) }
-{
-    bus_price(market, energy, named, market.units().at(unit).bus)
 }
 
 /// A sum with the most that the blocks make at the prices of their units.
@@ -148,9 +132,9 @@ pub fn farkas_bound<N: Exact>(
 {
     let nothing = zeros(alloc, market.blocks().len())?;
     let by_bus = injections(alloc, market, &nothing)?;
-    let by_line = line_flows(alloc, market, &by_bus)?;
+    let carried = carried_flows(alloc, market, &nothing, &by_bus)?;
     let all = balance(market, &by_bus)?;
     let of_energy = energy.times(all)?;
-    let of_limits = with_limits(market, of_energy, &by_line, named)?;
+    let of_limits = with_limits(market, of_energy, &carried, named)?;
     Ok(with_blocks(market, of_limits, energy, named)?)
 }

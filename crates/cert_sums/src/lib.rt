@@ -1,13 +1,14 @@
 //! What the numbers of a certificate add up to at a market: the arithmetic of a verifier. It shares no code with the clearing but
-//! the exact numbers, the market and its limit rows, with their injections and flows.
+//! the exact numbers, the market and its limit rows, with their injections, outputs and flows.
 #![tactic(auto)]
 
 mod bounding;
 mod flowing;
+mod own_pricing;
 mod pricing;
 mod putting;
 
 pub use bounding::farkas_bound;
-pub use flowing::line_flows;
-pub use pricing::{NamedRow, bus_price};
+pub use flowing::carried_flows;
+pub use pricing::{NamedRow, unit_price};
 pub use putting::injections;

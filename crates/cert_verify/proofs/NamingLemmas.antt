@@ -1,5 +1,5 @@
 -- The duals of rows by their names.
-use Rattle.std.specs.Prelude.{◌≡◌, ◌≢◌, ◌==◌, ◌||◌, ℕ, ◌<◌, ◌+◌, Bool, true, false, cond, List, [], ◌∷◌, ◌++◌, length, map, filter, AllPairs, Option, Result, Ok, Err, MatchResult, is_err, is_some, Some, None, if◌then◌else◌, refl}
+use Rattle.std.specs.Prelude.{◌≡◌, ◌≢◌, ◌==◌, ◌&&◌, ◌||◌, ℕ, ◌<◌, ◌+◌, Bool, true, false, cond, List, [], ◌∷◌, ◌++◌, length, map, filter, AllPairs, Option, Result, Ok, Err, MatchResult, is_err, is_some, Some, None, if◌then◌else◌, refl}
 use Rattle.std.specs.Map.{lookup}
 use Rattle.std.proofs.Common.{zero, suc, arith, ap, ap₂, sym, subst, ◌∙◌, get_or, take}
 use Rattle.std.proofs.lemmas.Bool.{and_parts, eq-eqb, eqb-true, true≢false}
@@ -19,24 +19,30 @@ use Rattle.market_model.specs.Valued.{dual_at}
 use Rattle.market_model.specs.Dispatch.{places}
 use Rattle.market_model.proofs.MorePlaces.{places_more}
 use Rattle.limit_rows.proofs.PlaceLemmas.{same_name}
-use Rattle.cert_format.specs.Certificates.{NamesNoRowTwice, name_of, same_pair}
+use Rattle.cert_format.specs.Certificates.{NamesNoRowTwice, name_of, same_triple}
 use Rattle.cert_sums.specs.declared.pricing.NamedRow.{NamedRow}
 use Rattle.cert_sums.specs.Named.{PricedRow, priced_at, priced_by}
 use Rattle.cert_verify.specs.Certificates.{named_duals}
 use Rattle.cert_verify.specs.Naming.{IsNamedAt, entry_of, prices_of}
 use Rattle.cert_verify.proofs.VerdictLemmas.{other_id, own_id}
 
--- pairs are the same where names are
-same_pair-id : (id row : RowId) → same_pair (name_of id) (name_of row) ≡ same_id row id
-same_pair-id id row = by (same_id row id) (same_pair (name_of id) (name_of row)) refl refl
+-- triples are the same where names are
+same_triple-id : (id row : RowId) → same_triple (name_of id) (name_of row) ≡ same_id row id
+same_triple-id id row = by (same_id row id) (same_triple (name_of id) (name_of row)) refl refl
   where
-    by : (a b : Bool) → same_id row id ≡ a → same_pair (name_of id) (name_of row) ≡ b → b ≡ a
+    by : (a b : Bool) → same_id row id ≡ a → same_triple (name_of id) (name_of row) ≡ b → b ≡ a
     by true true e f = refl
     by false false e f = refl
-    by true false e f = absurd (true≢false (sym (subst (λ (r : RowId). same_pair (name_of id) (name_of r) ≡ true) (sym (same_name row id e)) (own_id id)) ∙ f))
+    by true false e f = absurd (true≢false (sym (subst (λ (r : RowId). same_triple (name_of id) (name_of r) ≡ true) (sym (same_name row id e)) (own_id id)) ∙ f))
     by false true e f =
-        let parts = and_parts (id.branch == row.branch) (id.outage == row.outage) f in
-        absurd (true≢false (sym (Prim.rw (eq-eqb row.branch id.branch (sym (eqb-true id.branch row.branch parts.0)), eq-eqb row.outage id.outage (sym (eqb-true id.outage row.outage parts.1))) refl) ∙ e))
+        let parts = and_parts ((id.branch == row.branch) && (id.outage == row.outage)) (id.unit == row.unit) f in
+        let front = and_parts (id.branch == row.branch) (id.outage == row.outage) parts.0 in
+        absurd
+        (true≢false
+        (sym
+        (Prim.rw
+        (eq-eqb row.branch id.branch (sym (eqb-true id.branch row.branch front.0)), eq-eqb row.outage id.outage (sym (eqb-true id.outage row.outage front.1)), eq-eqb row.unit id.unit (sym (eqb-true id.unit row.unit parts.1))) refl)
+        ∙ e))
 
 -- what a name has among duals
 pub record IsDualOf {N : Type 0} (value : N → Fraction) (ds : List (Dual N)) (id : RowId) (e : Dual N) : Type 0 where
@@ -46,11 +52,11 @@ pub record IsDualOf {N : Type 0} (value : N → Fraction) (ds : List (Dual N)) (
 
 module _ {N : Type 0} (value : N → Fraction) (id : RowId) where
   abbrev found : List (Dual N) → Option (Dual N)
-  found ds = lookup (same_pair (name_of id)) (map entry_of ds)
+  found ds = lookup (same_triple (name_of id)) (map entry_of ds)
 
   pub not_named : (ds : List (Dual N)) → found ds ≡ None → names_row (map (dual_at value) ds) id ≡ false
   not_named [] e = refl
-  not_named (d ∷ ds) e = by (same_id d.row id) refl (subst (λ (b : Bool). (if b then Some d else found ds) ≡ None) (same_pair-id id d.row) e) (λ h. not_named ds h)
+  not_named (d ∷ ds) e = by (same_id d.row id) refl (subst (λ (b : Bool). (if b then Some d else found ds) ≡ None) (same_triple-id id d.row) e) (λ h. not_named ds h)
     where
       by : (b : Bool) → same_id d.row id ≡ b → (if b then Some d else found ds) ≡ None → (found ds ≡ None → names_row (map (dual_at value) ds) id ≡ false) → (same_id d.row id || names_row (map (dual_at value) ds) id) ≡ false
       by true t h more = absurd Prim.cc
@@ -58,7 +64,7 @@ module _ {N : Type 0} (value : N → Fraction) (id : RowId) where
 
   pub dual_named : (ds : List (Dual N)) (e : Dual N) → found ds ≡ Some e → IsDualOf value ds id e
   dual_named [] e h = absurd Prim.cc
-  dual_named (d ∷ ds) e h = by (same_id d.row id) refl (subst (λ (b : Bool). (if b then Some d else found ds) ≡ Some e) (same_pair-id id d.row) h) (λ g. dual_named ds e g)
+  dual_named (d ∷ ds) e h = by (same_id d.row id) refl (subst (λ (b : Bool). (if b then Some d else found ds) ≡ Some e) (same_triple-id id d.row) h) (λ g. dual_named ds e g)
     where
       by : (b : Bool) → same_id d.row id ≡ b → (if b then Some d else found ds) ≡ Some e → (found ds ≡ Some e → IsDualOf value ds id e) → IsDualOf value (d ∷ ds) id e
       by true t g more =
@@ -86,15 +92,15 @@ apart_of {N} value ds h i j d p q = λ same.
     (ap (λ (e : Dual Fraction). e.row) (get_or-map (dual_at value) ds i d (dual_at value d) (Prim.omega (arith, p, q))) ∙ same
     ∙ sym (ap (λ (e : Dual Fraction). e.row) (get_or-map (dual_at value) ds j d (dual_at value d) q)))
 
-absent_by : {N : Type 0} (ds : List (Dual N)) → Apart ds → (i : ℕ) (e : Dual N) → i < length ds → e ≡ get_or ds i e → lookup (same_pair (name_of e.row)) (map entry_of (take i ds)) ≡ None
+absent_by : {N : Type 0} (ds : List (Dual N)) → Apart ds → (i : ℕ) (e : Dual N) → i < length ds → e ≡ get_or ds i e → lookup (same_triple (name_of e.row)) (map entry_of (take i ds)) ≡ None
 absent_by [] apart i e lt at = absurd (Prim.omega (arith, lt))
 absent_by (d ∷ ds) apart zero e lt at = refl
 absent_by {N} (d ∷ ds) apart (suc i) e lt at =
-    let other = same_pair-id e.row d.row ∙ other_id d.row e.row (λ same. apart 0 (suc i) e (Prim.omega arith) lt (same ∙ ap (λ (f : Dual N). f.row) at)) in
-    lookup_tail (same_pair (name_of e.row)) (entry_of d) (map entry_of (take i ds)) other ∙ absent_by ds (λ k j f p q. apart (suc k) (suc j) f (Prim.omega (arith, p)) (Prim.omega (arith, q))) i e (Prim.omega (arith, lt)) at
+    let other = same_triple-id e.row d.row ∙ other_id d.row e.row (λ same. apart 0 (suc i) e (Prim.omega arith) lt (same ∙ ap (λ (f : Dual N). f.row) at)) in
+    lookup_tail (same_triple (name_of e.row)) (entry_of d) (map entry_of (take i ds)) other ∙ absent_by ds (λ k j f p q. apart (suc k) (suc j) f (Prim.omega (arith, p)) (Prim.omega (arith, q))) i e (Prim.omega (arith, lt)) at
 
 pub absent : {N : Type 0} (value : N → Fraction) (ds : List (Dual N)) (i : ℕ) (e : Dual N) → NamesNoRowTwice (map (dual_at value) ds) → i < length ds → e ≡ get_or ds i e
-    → lookup (same_pair (name_of e.row)) (map entry_of (take i ds)) ≡ None
+    → lookup (same_triple (name_of e.row)) (map entry_of (take i ds)) ≡ None
 absent value ds i e h lt at = absent_by ds (apart_of value ds h) i e lt at
 
 pub entries_more : {N : Type 0} (ds : List (Dual N)) (i : ℕ) (e : Dual N) → i < length ds → e ≡ get_or ds i e → map entry_of (take i ds) ++ entry_of e ∷ [] ≡ map entry_of (take (i + 1) ds)
@@ -104,7 +110,7 @@ entries_more {N} ds i e lt at =
 -- ---- the rows that are named, one by one
 module _ {N : Type 0} (value : N → Fraction) (m : Parts) where
   -- what is found under the name of a row
-  pub named_is : (ds : List (Dual N)) (energy : Fraction) (row : Row) (e : Dual N) → lookup (same_pair (name_of (row_id m row))) (map entry_of ds) ≡ Some e
+  pub named_is : (ds : List (Dual N)) (energy : Fraction) (row : Row) (e : Dual N) → lookup (same_triple (name_of (row_id m row))) (map entry_of ds) ≡ Some e
       → IsNamedAt value m (named_duals energy (map (dual_at value) ds)) row (Some (record { row = row; up = e.up; down = e.down }))
   named_is ds energy row e found =
       let is = dual_named value (row_id m row) ds e found in

@@ -1,30 +1,28 @@
 -- What is looked up of a row by its name, and the operations refused.
-use Rattle.std.specs.Prelude.{◌≡◌, ◌≢◌, ◌&&◌, ◌||◌, ◌<◌, pos, ℕ, Bool, true, false, not, List, [], ◌∷◌, ◌++◌, length, Contains, Option, Some, None, MatchOption, is_some, refl}
+use Rattle.std.specs.Prelude.{◌≡◌, ◌≢◌, ◌&&◌, ◌||◌, pos, ℕ, Bool, true, false, not, List, [], ◌∷◌, ◌++◌, Contains, Option, Some, None, MatchOption, is_some, refl}
 use Rattle.std.specs.List.{list_any}
-use Rattle.std.proofs.Common.{ap, ap₂, sym, subst, ◌∙◌}
+use Rattle.std.proofs.Common.{inl, inr, ap, ap₂, sym, subst, ◌∙◌}
 use Rattle.std.proofs.lemmas.Bool.{true≢false}
 use Rattle.fraction_theory.specs.Fraction.{Fraction, neg_ℚ}
 use Rattle.fraction_theory.proofs.OrderLaws.{≤ℚ_of_same, ≤ℚ_refl, opposite_most}
 use Rattle.exact_fraction.specs.declared.Passed.{Passed}
 use Rattle.market_model.specs.declared.answered.Dual.{Dual}
 use Rattle.market_model.specs.declared.participants.Parts.{Parts}
-use Rattle.market_model.specs.Dispatch.{Dispatch, balance, injection, zero}
+use Rattle.market_model.specs.Dispatch.{Dispatch, balance, zero}
 use Rattle.market_model.specs.declared.limits.Row.{Row}
-use Rattle.fraction_theory.specs.Sums.{total}
-use Rattle.market_model.specs.LimitRows.{IsCauseAmong, rows, row_id, limit, penalty, is_soft, most_flow, line_flow, flow, flow_by, flow_terms}
+use Rattle.market_model.specs.LimitRows.{carried, rows, row_id, limit, penalty, is_soft, most_flow, flow}
 use Rattle.market_model.specs.Market.{IsMarket}
-use Rattle.market_model.specs.NamedSums.{IsRefusedIn}
 use Rattle.market_model.specs.Optimality.{names_row}
+use Rattle.market_model.specs.SumTables.{IsFlowRefusal, limited_line, limited_row, limited_unit}
 use Rattle.market_model.proofs.Excesses.{hard_costs_nothing, penalty_least}
 use Rattle.market_model.proofs.WholeDispatch.{whole-<ℚ}
 use Rattle.limit_rows.proofs.ApartLemmas.{same_row}
 use Rattle.limit_rows.proofs.PlaceLemmas.{same_name}
-use Rattle.limit_rows.specs.LineFlows.{AreFlows}
-use Rattle.limit_rows.proofs.FlowSteps.{row_terms_are}
-use Rattle.market_model.specs.PutIn.{put_in}
 use Rattle.limit_rows.specs.Naming.{has_name}
+use Rattle.cert_sums.specs.Refusals.{IsCarriedRefusal}
 use Rattle.cert_verify.specs.declared.verdicts.Reason.TheVariants as reason
 use Rattle.cert_verify.specs.Reasons.{NoneOf, balance_reason, differ, has_no_row, has_slack, is_below, is_unpriced, passes, breaks_row, breaks_side, part_reasons}
+use Rattle.cert_verify.specs.Stops.{IsLimitPair, of_flow, of_pickup}
 use Rattle.cert_verify.proofs.TestLemmas.{any_of, any_none, below_not, below_of, int_lt-true, neither, not_below, none_first, none_join, not_both, not_true, so_none}
 use Rattle.cert_verify.proofs.VerdictLemmas.{named}
 
@@ -128,15 +126,17 @@ module _ (m : Parts) (market : IsMarket m) (x : Dispatch) (ds : List (Dual Fract
       ∙ sym (ap₂ (λ (a b : Bool). a || b) (free_side (flow m x r) soft) (free_side (neg_ℚ (flow m x r)) soft))
       ∙ sym (ap (λ (b : Bool). not b && breaks_row m r zero zero (flow m x r)) free)
 
--- ---- flows of lines that are those of a dispatch
-module _ (m : Parts) (x : Dispatch) (flows : List Fraction) (are : AreFlows m x flows) (r : Row) (line : r.line < length m.lines) (lost : IsCauseAmong (length m.lines) r.cause) where
-  pub flow_there : flow_by m (put_in flows) r ≡ flow m x r
-  flow_there = ap total (row_terms_are m x flows are r line lost)
-
-  pub refused_there : (bound : ℕ) (p : Passed Fraction) → IsRefusedIn (flow_terms m (put_in flows) r) bound p → IsRefusedIn (flow_terms m (line_flow m (injection m x)) r) bound p
-  refused_there bound p h = subst (λ ts. IsRefusedIn ts bound p) (row_terms_are m x flows are r line lost) h
-
 -- ---- refusals
+-- what is carried at a dispatch
+pub carried_pair : (m : Parts) (x : Dispatch) (bound : ℕ) (p : Passed Fraction) → IsCarriedRefusal m x bound p → IsLimitPair m x bound p
+carried_pair m x bound p (inl (terms, sum, why)) = of_flow (terms, limited_line terms sum, why)
+carried_pair m x bound p (inr (terms, sum, why)) = of_flow (terms, limited_unit terms sum, why)
+
+-- a flow of a row of the market, of what is carried at a dispatch
+pub limit_pair : (m : Parts) (x : Dispatch) (r : Row) (bound : ℕ) (p : Passed Fraction) → Contains (rows m) r → IsFlowRefusal m (carried m x) r bound p → IsLimitPair m x bound p
+limit_pair m x r bound p listed (inl (terms, sum, why)) = of_flow (terms, limited_row r terms listed sum, why)
+limit_pair m x r bound p listed (inr why) = of_pickup r listed why
+
 -- the reasons before flows do not hold where a dispatch balances, as was seen by numbers
 pub before_flows : (m : Parts) (x : Dispatch) (ds : List (Dual Fraction)) (all nothing : Fraction) → all ≡ balance m x → nothing ≡ zero → differ all nothing ≡ false → NoneOf (part_reasons m x ds)
     → NoneOf (part_reasons m x ds ++ balance_reason m x ∷ [])

@@ -30,7 +30,7 @@ use Rattle.market_model.specs.Overrun.{Within}
 
 -- ---- names and their prices
 pub own_id : (a : RowId) → same_id a a ≡ true
-own_id a = Prim.rw (eq-eqb a.branch a.branch refl, eq-eqb a.outage a.outage refl) refl
+own_id a = Prim.rw (eq-eqb a.branch a.branch refl, eq-eqb a.outage a.outage refl, eq-eqb a.unit a.unit refl) refl
 
 pub named : (a b : RowId) → a ≡ b → same_id a b ≡ true
 named a b e = subst (λ (c : RowId). same_id a c ≡ true) e (own_id a)

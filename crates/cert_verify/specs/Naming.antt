@@ -12,7 +12,7 @@ use Rattle.cert_sums.specs.declared.pricing.NamedRow.{NamedRow}
 use Rattle.cert_sums.specs.Named.{PricedRow, priced_at, priced_by}
 
 -- a dual with the name of its row
-abbrev pub entry_of : {N : Type 0} → Dual N → (ℕ × ℕ) × Dual N
+abbrev pub entry_of : {N : Type 0} → Dual N → (ℕ × ℕ × ℕ) × Dual N
 entry_of e = (name_of e.row, e)
 
 -- a row with its prices, where duals name it

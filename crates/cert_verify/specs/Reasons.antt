@@ -39,7 +39,7 @@ is_outside mw quantity = is_below mw zero || is_below quantity mw
 abbrev pub has_negative : Dual Fraction → Bool
 has_negative e = is_below e.up zero || is_below e.down zero
 
--- more of a block of this side and price gains, where the price at its bus is `worth`; any of it loses
+-- more of a block of this side and price gains, where the price of its unit is `worth`; any of it loses
 abbrev pub gains : Side → Fraction → Fraction → Bool
 gains Sell price worth = is_below price worth
 gains Buy price worth = is_below worth price

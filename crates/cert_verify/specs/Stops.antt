@@ -12,20 +12,22 @@ use Rattle.market_model.specs.declared.stops.Stop.TheVariants as stop
 use Rattle.market_model.specs.Dispatch.{Dispatch, dispatch_by}
 use Rattle.market_model.specs.LimitRows.{rows, limit, most_excess}
 use Rattle.market_model.specs.NamedSums.{IsRefusal}
-use Rattle.market_model.specs.SumTables.{IsRefusedAmong, BalanceSum, LimitFlowSum}
+use Rattle.market_model.specs.SumTables.{IsRefusedAmong, BalanceSum, LimitFlowSum, PickupSum}
 use Rattle.market_model.specs.Valued.{passed_at}
 use Rattle.cert_format.specs.declared.certificate.Cert.{Cert}
 use Rattle.cert_format.specs.declared.certificate.Cert.TheVariants.{Optimal, Farkas}
 use Rattle.cert_sums.specs.Pairs.{IsFarkasPair}
-use Rattle.cert_sums.specs.Refusals.{IsBusPriceRefusal}
+use Rattle.cert_sums.specs.Refusals.{IsUnitPriceRefusal}
 use Rattle.cert_verify.specs.declared.verdicts.VerifyStop.{VerifyStop}
 use Rattle.cert_verify.specs.declared.verdicts.VerifyStop.TheVariants as why
 use Rattle.cert_verify.specs.Certificates.{named_duals}
 use Rattle.cert_verify.specs.Reasons.{NoneOf, balance_reason, dual_reasons, flow_reasons, part_reasons}
 
--- in the flow of a line or of a row of the market, or of the limit of such a row and its most excess
+-- in the flow of a line or of a row of the market, in the output of a lost unit, in the pickup factor of such a row, or of its limit and
+-- its most excess
 pub data IsLimitPair (m : Parts) (x : Dispatch) (bound : ℕ) (p : Passed Fraction) : Type 0 where
   of_flow : IsRefusedAmong (LimitFlowSum m x) bound p → IsLimitPair m x bound p
+  of_pickup : (r : Row) → Contains (rows m) r → IsRefusedAmong (PickupSum m r) bound p → IsLimitPair m x bound p
   of_most : (r : Row) → Contains (rows m) r → IsRefusal Plus (limit m r) (most_excess m r) bound p → IsLimitPair m x bound p
 
 -- An operation is refused that a reason asks for, and none of the reasons before that one holds: the balance is added up where nothing is
@@ -33,7 +35,7 @@ pub data IsLimitPair (m : Parts) (x : Dispatch) (bound : ℕ) (p : Passed Fracti
 pub data IsOptimalStop (m : Parts) (x : Dispatch) (d : Duals Fraction) (bound : ℕ) (p : Passed Fraction) : Type 0 where
   at_balance : IsRefusedAmong (BalanceSum m x) bound p → NoneOf (part_reasons m x d.limits) → IsOptimalStop m x d bound p
   at_limits : IsLimitPair m x bound p → NoneOf (part_reasons m x d.limits ++ balance_reason m x ∷ []) → IsOptimalStop m x d bound p
-  at_support : IsBusPriceRefusal m d bound p → NoneOf (part_reasons m x d.limits ++ flow_reasons m x d.limits) → IsOptimalStop m x d bound p
+  at_support : IsUnitPriceRefusal m d bound p → NoneOf (part_reasons m x d.limits ++ flow_reasons m x d.limits) → IsOptimalStop m x d bound p
 
 -- the same of duals alone: the bound is added up where nothing is wrong with what they name
 pub record IsFarkasStop (m : Parts) (d : Duals Fraction) (bound : ℕ) (p : Passed Fraction) : Type 0 where

@@ -3,12 +3,12 @@
 ghost use Rattle.std.specs.Prelude.{◌≡◌, length, map, not, IfOk, IfErr};
 ghost use Rattle.fraction_theory.specs.Fraction.{Fraction};
 ghost use Rattle.market_model.specs.Dispatch.{places, zero};
-ghost use Rattle.market_model.specs.Optimality.{bus_price};
+ghost use Rattle.market_model.specs.Optimality.{unit_price};
 ghost use Rattle.market_model.specs.Stops.{StopsBy};
 ghost use Rattle.market_model.specs.Valued.{dual_at};
 ghost use Rattle.cert_format.specs.Certificates.{NamesNoRowTwice};
 ghost use Rattle.cert_sums.specs.Pairs.{IsFarkasPair};
-ghost use Rattle.cert_sums.specs.Refusals.{IsBusPriceRefusal};
+ghost use Rattle.cert_sums.specs.Refusals.{IsUnitPriceRefusal};
 ghost use Rattle.market_model.specs.PutIn.{dispatch_of};
 ghost use Rattle.cert_verify.specs.Certificates.{named_duals};
 ghost use Rattle.cert_verify.specs.declared.verdicts.Reason.TheVariants as reason;
@@ -22,7 +22,7 @@ use crate::duals::{missing_row, negative_price, slack_price};
 use crate::limits::broken_limit;
 use crate::naming::named_rows;
 use crate::unpriced::unpriced_row;
-use cert_sums::{bus_price, farkas_bound, injections, line_flows};
+use cert_sums::{carried_flows, farkas_bound, injections, unit_price};
 use exact_fraction::Exact;
 use market_model::{Dual, List, Market, Memory, Stop, balance, datum};
 use std::alloc::Global;
@@ -59,34 +59,34 @@ fn wrong_flow<N: Exact>(
     if differ(balance(market, &by_bus)?, datum(0)) {
         return Ok(Some(Reason::Balance));
     }
-    let by_line = line_flows(alloc, market, &by_bus)?;
-    if let Some(reason) = broken_limit(market, &by_line)? {
+    let carried = carried_flows(alloc, market, blocks, &by_bus)?;
+    if let Some(reason) = broken_limit(market, &carried)? {
         return Ok(Some(reason));
     }
-    if let Some(reason) = slack_price(market, &by_line, limits)? {
+    if let Some(reason) = slack_price(market, &carried, limits)? {
         return Ok(Some(reason));
     }
-    unpriced_row(alloc, market, &by_line, limits)
+    unpriced_row(alloc, market, &carried, limits)
 }
 
-/// The price at each bus.
-fn bus_prices<N: Exact>(
+/// The price of each unit.
+fn unit_prices<N: Exact>(
     alloc: Global,
     market: &Market,
     energy: N,
     limits: &[Dual<N>],
 ) -> Result<List<N>, Stop<N>>
     requires { NamesNoRowTwice (map (dual_at N.value) limits.now) }
-    ensures prices { IfOk result (λ prices. map N.value prices ≡ map (bus_price market.now (named_duals (N.value energy) (map (dual_at N.value) limits.now))) (places (length market.now.buses))) }
-    ensures cause { IfErr result (StopsBy N.value (IsBusPriceRefusal market.now (named_duals (N.value energy) (map (dual_at N.value) limits.now)) N.bound)) }
+    ensures prices { IfOk result (λ prices. map N.value prices ≡ map (unit_price market.now (named_duals (N.value energy) (map (dual_at N.value) limits.now))) (places (length market.now.units))) }
+    ensures cause { IfErr result (StopsBy N.value (IsUnitPriceRefusal market.now (named_duals (N.value energy) (map (dual_at N.value) limits.now)) N.bound)) }
 {
     let named = match named_rows(alloc, market, limits) {
         Ok(named) => named,
         Err(Memory) => return Err(Stop::Memory),
     };
     let mut prices = List::new(alloc);
-    for bus in 0..market.buses().len() {
-        let price = bus_price(market, energy, named.slice(), bus)?;
+    for unit in 0..market.units().len() {
+        let price = unit_price(market, energy, named.slice(), unit)?;
         if prices.push(price).is_err() {
             return Err(Stop::Memory);
         }
@@ -105,9 +105,9 @@ fn wrong_support<N: Exact>(
     requires blocks { length blocks.now ≡ length market.now.blocks }
     requires distinct { NamesNoRowTwice (map (dual_at N.value) limits.now) }
     ensures first { IfOk result (λ first. first ≡ support_reason market.now (dispatch_of N.value blocks.now) (named_duals (N.value energy) (map (dual_at N.value) limits.now))) }
-    ensures cause { IfErr result (StopsBy N.value (IsBusPriceRefusal market.now (named_duals (N.value energy) (map (dual_at N.value) limits.now)) N.bound)) }
+    ensures cause { IfErr result (StopsBy N.value (IsUnitPriceRefusal market.now (named_duals (N.value energy) (map (dual_at N.value) limits.now)) N.bound)) }
 {
-    let prices = bus_prices(alloc, market, energy, limits)?;
+    let prices = unit_prices(alloc, market, energy, limits)?;
     Ok(unsupported_block(market, blocks, prices.slice()))
 }
 

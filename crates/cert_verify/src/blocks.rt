@@ -1,12 +1,11 @@
 //! What may be wrong with the quantities of a certificate, the first in block order.
 
-ghost use Rattle.std.specs.Prelude.{◌≡◌, ◌<◌, length, map};
+ghost use Rattle.std.specs.Prelude.{◌≡◌, length, map};
 ghost use Rattle.fraction_theory.specs.Fraction.{Fraction};
 ghost use Rattle.market_model.specs.declared.answered.Duals.{Duals};
 ghost use Rattle.market_model.specs.Dispatch.{places};
-ghost use Rattle.market_model.specs.Optimality.{bus_price};
-ghost use Rattle.market_model.specs.PutIn.{dispatch_of, put_in};
-ghost use Rattle.market_model.specs.Settlement.{price_for_unit};
+ghost use Rattle.market_model.specs.Optimality.{unit_price};
+ghost use Rattle.market_model.specs.PutIn.{dispatch_of};
 ghost use Rattle.cert_verify.specs.Reasons.{block_reason, count_reason, support_reason};
 
 use crate::Reason;
@@ -25,15 +24,6 @@ pub(crate) fn other_count<N: Exact>(market: &Market, blocks: &[N]) -> Option<Rea
     }
 }
 
-/// The price of the unit at a place: that of its bus.
-fn unit_price<N: Exact>(market: &Market, prices: &[N], unit: usize) -> N
-    requires prices { length prices.now ≡ length market.now.buses }
-    requires unit { unit < length market.now.units }
-    ensures { N.value result ≡ price_for_unit market.now (put_in (map N.value prices.now)) unit }
-{
-    prices[market.units().at(unit).bus]
-}
-
 /// The first block whose quantity is below 0 or above what it offers.
 pub(crate) fn outside_block<N: Exact>(market: &Market, blocks: &[N]) -> Option<Reason>
     requires { length blocks.now ≡ length market.now.blocks }
@@ -47,23 +37,22 @@ pub(crate) fn outside_block<N: Exact>(market: &Market, blocks: &[N]) -> Option<R
     None
 }
 
-/// The first block that gains at the price of its unit and is not accepted whole, or loses and is accepted. Prices are by bus.
+/// The first block that gains at the price of its unit and is not accepted whole, or loses and is accepted. Prices are by unit.
 pub(crate) fn unsupported_block<N: Exact>(
     market: &Market,
     blocks: &[N],
     prices: &[N],
 ) -> Option<Reason>
     requires blocks { length blocks.now ≡ length market.now.blocks }
-    requires prices { length prices.now ≡ length market.now.buses }
-    ensures { (d : Duals Fraction) → map N.value prices.now ≡ map (bus_price market.now d) (places (length market.now.buses)) → result ≡ support_reason market.now (dispatch_of N.value blocks.now) d }
+    requires prices { length prices.now ≡ length market.now.units }
+    ensures { (d : Duals Fraction) → map N.value prices.now ≡ map (unit_price market.now d) (places (length market.now.units)) → result ≡ support_reason market.now (dispatch_of N.value blocks.now) d }
 {
     let _units = market.units();
     for (at, block) in market.blocks().slice().iter().enumerate() {
-        let worth = unit_price(market, prices, block.unit);
         if breaks_support(
             block.side,
             block_price(block),
-            worth,
+            prices[block.unit],
             block_quantity(block),
             blocks[at],
         ) {

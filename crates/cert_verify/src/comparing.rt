@@ -56,7 +56,7 @@ pub(crate) fn has_negative<N: Exact>(dual: &Dual<N>) -> bool
     is_negative(dual.up) || is_negative(dual.down)
 }
 
-/// Whether more of a block of this side and price gains, where the price at its bus is so much.
+/// Whether more of a block of this side and price gains, where the price of its unit is so much.
 fn gains<N: Exact>(side: Side, price: N, worth: N) -> bool
     ensures { result ≡ gains side (N.value price) (N.value worth) }
 {

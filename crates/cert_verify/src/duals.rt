@@ -1,9 +1,9 @@
 //! What may be wrong with the duals of a certificate, the first in its own order.
 
-ghost use Rattle.std.specs.Prelude.{◌≡◌, length, map, IfOk, IfErr};
+ghost use Rattle.std.specs.Prelude.{◌≡◌, ◌+◌, length, map, IfOk, IfErr};
 ghost use Rattle.market_model.specs.Dispatch.{Dispatch};
+ghost use Rattle.market_model.specs.PutIn.{AreCarried};
 ghost use Rattle.market_model.specs.Valued.{dual_at, passed_at};
-ghost use Rattle.limit_rows.specs.LineFlows.{AreFlows};
 ghost use Rattle.cert_verify.specs.Reasons.{has_slack, row_reason, sign_reason, slack_reason};
 ghost use Rattle.cert_verify.specs.Stops.{IsLimitPair};
 
@@ -38,16 +38,16 @@ pub(crate) fn negative_price<N: Exact>(limits: &[Dual<N>]) -> Option<Reason>
     None
 }
 
-/// Whether a price of a dual does not support the flow of its row. Flows are by line.
-fn has_slack<N: Exact>(market: &Market, flows: &[N], dual: &Dual<N>) -> Result<bool, Passed<N>>
-    requires { length flows.now ≡ length market.now.lines }
-    ensures slack { (x : Dispatch) → AreFlows market.now x (map N.value flows.now) → IfOk result (λ slack. slack ≡ has_slack market.now x (dual_at N.value dual.now)) }
-    ensures cause { (x : Dispatch) → AreFlows market.now x (map N.value flows.now) → IfErr result (λ passed. IsLimitPair market.now x N.bound (passed_at N.value passed)) }
+/// Whether a price of a dual does not support the flow of its row. Flows are of what is carried.
+fn has_slack<N: Exact>(market: &Market, carried: &[N], dual: &Dual<N>) -> Result<bool, Passed<N>>
+    requires { length carried.now ≡ length market.now.lines + length market.now.unit_outages }
+    ensures slack { (x : Dispatch) → AreCarried market.now x (map N.value carried.now) → IfOk result (λ slack. slack ≡ has_slack market.now x (dual_at N.value dual.now)) }
+    ensures cause { (x : Dispatch) → AreCarried market.now x (map N.value carried.now) → IfErr result (λ passed. IsLimitPair market.now x N.bound (passed_at N.value passed)) }
 {
     let _lines = market.lines();
     match row_named(market, dual.row) {
         Some(row) => {
-            let flow = row_flow(market, flows, row)?;
+            let flow = row_flow(market, carried, row)?;
             breaks_row(market, row, dual.up, dual.down, flow)
         }
         None => Ok(false),
@@ -57,15 +57,15 @@ fn has_slack<N: Exact>(market: &Market, flows: &[N], dual: &Dual<N>) -> Result<b
 /// The first dual with such a price.
 pub(crate) fn slack_price<N: Exact>(
     market: &Market,
-    flows: &[N],
+    carried: &[N],
     limits: &[Dual<N>],
 ) -> Result<Option<Reason>, Passed<N>>
-    requires { length flows.now ≡ length market.now.lines }
-    ensures first { (x : Dispatch) → AreFlows market.now x (map N.value flows.now) → IfOk result (λ reason. reason ≡ slack_reason market.now x (map (dual_at N.value) limits.now)) }
-    ensures cause { (x : Dispatch) → AreFlows market.now x (map N.value flows.now) → IfErr result (λ passed. IsLimitPair market.now x N.bound (passed_at N.value passed)) }
+    requires { length carried.now ≡ length market.now.lines + length market.now.unit_outages }
+    ensures first { (x : Dispatch) → AreCarried market.now x (map N.value carried.now) → IfOk result (λ reason. reason ≡ slack_reason market.now x (map (dual_at N.value) limits.now)) }
+    ensures cause { (x : Dispatch) → AreCarried market.now x (map N.value carried.now) → IfErr result (λ passed. IsLimitPair market.now x N.bound (passed_at N.value passed)) }
 {
     for dual in limits {
-        let slack = has_slack(market, flows, dual)?;
+        let slack = has_slack(market, carried, dual)?;
         if slack {
             return Ok(Some(Reason::Slack { row: dual.row }));
         }

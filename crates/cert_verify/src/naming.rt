@@ -4,8 +4,8 @@ ghost use Rattle.std.specs.Prelude.{◌≡◌, ◌<◌, List, [], ◌∷◌, ◌
 ghost use Rattle.std.specs.Map.{lookup};
 ghost use Rattle.fraction_theory.specs.Fraction.{Fraction};
 ghost use Rattle.market_model.specs.Valued.{dual_at};
-ghost use Rattle.market_model.specs.LimitRows.{IsCauseAmong};
-ghost use Rattle.cert_format.specs.Certificates.{NamesNoRowTwice, name_of, same_pair};
+ghost use Rattle.market_model.specs.LimitRows.{IsCauseOf};
+ghost use Rattle.cert_format.specs.Certificates.{NamesNoRowTwice, name_of, same_triple};
 ghost use Rattle.cert_sums.specs.Named.{AreNamed};
 ghost use Rattle.cert_verify.specs.Certificates.{named_duals};
 ghost use Rattle.cert_verify.specs.Naming.{IsNamedAt, entry_of};
@@ -19,11 +19,11 @@ use std::alloc::Global;
 
 /// Adds a dual under a name that none has yet.
 fn add<N: Exact>(
-    duals: &mut IndexMap<(u32, u32), Dual<N>>,
-    name: (u32, u32),
+    duals: &mut IndexMap<(u32, u32, u32), Dual<N>>,
+    name: (u32, u32, u32),
     dual: Dual<N>,
 ) -> Result<(), Memory>
-    requires { lookup (same_pair name) duals.old.entries ≡ None }
+    requires { lookup (same_triple name) duals.old.entries ≡ None }
     ensures { IfOk result (λ _. duals.new.entries ≡ duals.old.entries ++ (name, dual) ∷ []) }
 {
     if duals.insert(name, dual).is_err() {
@@ -33,23 +33,24 @@ fn add<N: Exact>(
 }
 
 /// The dual of a row, by its name.
-fn dual_of<N: Exact>(duals: &IndexMap<(u32, u32), Dual<N>>, row: RowId) -> Option<Dual<N>>
-    ensures { result ≡ lookup (same_pair (name_of row)) duals.now.entries }
+fn dual_of<N: Exact>(duals: &IndexMap<(u32, u32, u32), Dual<N>>, row: RowId) -> Option<Dual<N>>
+    ensures { result ≡ lookup (same_triple (name_of row)) duals.now.entries }
 {
-    duals.get(&(row.branch, row.outage)).copied()
+    duals.get(&(row.branch, row.outage, row.unit)).copied()
 }
 
 /// Duals by the names of their rows.
 pub(crate) fn by_name<N: Exact>(
     alloc: Global,
     limits: &[Dual<N>],
-) -> Result<IndexMap<(u32, u32), Dual<N>>, Memory>
+) -> Result<IndexMap<(u32, u32, u32), Dual<N>>, Memory>
     requires { NamesNoRowTwice (map (dual_at N.value) limits.now) }
     ensures { IfOk result (λ duals. duals.entries ≡ map entry_of limits.now) }
 {
     let mut duals = IndexMap::new(alloc);
     for dual in limits {
-        add(&mut duals, (dual.row.branch, dual.row.outage), *dual)?;
+        let row = dual.row;
+        add(&mut duals, (row.branch, row.outage, row.unit), *dual)?;
     }
     Ok(duals)
 }
@@ -57,11 +58,11 @@ pub(crate) fn by_name<N: Exact>(
 /// A row with its two prices, where duals name it.
 pub(crate) fn named_at<N: Exact>(
     market: &Market,
-    duals: &IndexMap<(u32, u32), Dual<N>>,
+    duals: &IndexMap<(u32, u32, u32), Dual<N>>,
     row: Row,
 ) -> Option<NamedRow<N>>
     requires line { row.line < length market.now.lines }
-    requires lost { IsCauseAmong (length market.now.lines) row.cause }
+    requires lost { IsCauseOf market.now row.cause }
     ensures { (ds : List (Dual N)) (energy : Fraction) → duals.now.entries ≡ map entry_of ds → IsNamedAt N.value market.now (named_duals energy (map (dual_at N.value) ds)) row result }
 {
     match dual_of(duals, name_at(market, row)) {

@@ -23,7 +23,7 @@ pub enum Reason {
     /// A price of the row does not support its flow: it is above 0 and the flow does not reach the limit, or below the penalty of a flow that
     /// exceeds it, or above that and the flow could exceed it by more. A row that no dual names has the price 0.
     Slack { row: RowId },
-    /// A block gains at the price of its bus and is not accepted whole, or loses and is accepted. The first block is 1.
+    /// A block gains at the price of its unit and is not accepted whole, or loses and is accepted. The first block is 1.
     Support { n: usize },
     /// The bound is not below 0.
     Bound,

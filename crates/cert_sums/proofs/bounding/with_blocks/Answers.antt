@@ -6,6 +6,7 @@ use Rattle.market_model.specs.declared.participants.Side.TheVariants.{Sell}
 use Rattle.market_model.specs.Dispatch.{block_at, signed_by_side}
 use Rattle.market_model.specs.Optimality.{unit_price}
 use Rattle.market_model.specs.Valued.{passed_at}
+use Rattle.cert_sums.specs.Pairs.{in_price}
 use Rattle.cert_sums.proofs.BoundLemmas.{blocks_none, blocks_all, block_step, block_refused}
 use Rattle.cert_sums.proofs.bounding.with_blocks.Goals as goal
 
@@ -33,7 +34,7 @@ block_quantity-requires g c =
 pub returns-in_err-price-clause-cause : goal.returns-in_err-price-clause-cause
 returns-in_err-price-clause-cause g c =
     let given : c.from_residual.result ≡ Err c.in_err-price.field-0.0 = search rules in
-    λ d energy are start. rw given (c.in_err-price.ensures.cause d energy are)
+    λ d energy are start. rw given (in_price (c.in_err-price.ensures.cause d energy are))
 
 pub loop-at-preserved : goal.loop-at-preserved
 loop-at-preserved g c = λ d energy are start.

@@ -1,7 +1,7 @@
 use Rattle.std.proofs.Common.{rules, Err, ◌≡◌, ◌∙◌, arith}
 use Rattle.market_model.specs.Dispatch.{empty}
 use Rattle.market_model.specs.Valued.{passed_at}
-use Rattle.limit_rows.proofs.PlaceLemmas.{at_places}
+use Rattle.market_model.proofs.RowMembers.{at_places}
 use Rattle.cert_sums.specs.Named.{priced_at}
 use Rattle.cert_sums.proofs.BoundLemmas.{limits_none, limits_all, limits_step, limit_refused}
 use Rattle.cert_sums.proofs.NamedLemmas.{named_at, named_count, is_row, priced_is}

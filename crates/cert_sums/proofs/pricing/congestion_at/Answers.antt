@@ -1,6 +1,6 @@
 use Rattle.std.proofs.Common.{rules, Err, ◌≡◌, ◌∙◌, arith}
 use Rattle.market_model.specs.Valued.{passed_at}
-use Rattle.limit_rows.proofs.PlaceLemmas.{at_places}
+use Rattle.market_model.proofs.RowMembers.{at_places}
 use Rattle.cert_sums.specs.Named.{priced_at}
 use Rattle.cert_sums.proofs.NamedLemmas.{named_at, named_count, is_row, congestion_step, congestion_all, congestion_refused, factor_stops}
 use Rattle.cert_sums.proofs.pricing.congestion_at.Goals as goal

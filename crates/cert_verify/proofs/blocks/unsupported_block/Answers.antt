@@ -6,25 +6,15 @@ use Rattle.market_model.specs.declared.answered.Duals.{Duals}
 use Rattle.market_model.specs.declared.participants.Block.{Block}
 use Rattle.market_model.specs.declared.participants.Side.TheVariants.{Sell}
 use Rattle.market_model.specs.Dispatch.{accepted, block_at, places, quantity, zero}
-use Rattle.market_model.specs.Optimality.{bus_price, price, unit_price}
+use Rattle.market_model.specs.Optimality.{price, unit_price}
 use Rattle.market_model.specs.PutIn.{dispatch_of, put_in}
-use Rattle.market_model.specs.Settlement.{price_for_unit}
 use Rattle.market_model.proofs.MarketSums.{block_unit-in}
 use Rattle.market_model.proofs.PlaceLists.{filled_at, put_read}
-use Rattle.market_model.proofs.UnitPrices.{at_unit}
 use Rattle.cert_verify.specs.declared.verdicts.Reason.TheVariants as reason
 use Rattle.cert_verify.specs.Reasons.{is_unsupported}
 use Rattle.cert_verify.proofs.FindLemmas.{place_here, place_more}
 use Rattle.cert_verify.proofs.TestLemmas.{support_same}
 use Rattle.cert_verify.proofs.blocks.unsupported_block.Goals as goal
-
-pub unit_price-worth-requires-clause-unit : goal.unit_price-worth-requires-clause-unit
-unit_price-worth-requires-clause-unit g c =
-    let m = c.args.market.now in
-    let k = c.loop-at.at in
-    let none : Block = record { unit = 0; side = Sell; quantity = pos 0; price = pos 0 } in
-    let blocks = c.slice-block-items.ensures ∙ c.blocks-2.ensures.list in
-    subst (λ (bs : List Block). (slice_index_or bs k none).unit < length m.units) (sym blocks) (c.units-units.ensures.market.blocks k none (omega (arith, c.loop-at-test.true, ap length blocks))).unit
 
 pub block_price-requires : goal.block_price-requires
 block_price-requires g c =
@@ -49,11 +39,14 @@ returns-then-breaks_support g c =
     let blocks = c.slice-block-items.ensures ∙ c.blocks-2.ensures.list in
     let read = ap (λ (bs : List Block). slice_index_or bs k (record { unit = 0; side = Sell; quantity = pos 0; price = pos 0 })) blocks in
     let inside : k < length m.blocks = omega (arith, c.loop-at-test.true, ap length blocks) in
-    let here = λ (d : Duals Fraction) (all : map value c.args.prices.now ≡ map (bus_price m d) (places (length m.buses))).
-    support_same _ (block_at m k).side (value c.block_price.result) (price m k) (value c.unit_price-worth.result) (unit_price m d (block_at m k).unit) (value c.block_quantity.result) (quantity m k) (value c.index-blocks-at.result) (accepted x k)
+    let none : Block = record { unit = 0; side = Sell; quantity = pos 0; price = pos 0 } in
+    let unit = subst (λ (bs : List Block). (slice_index_or bs k none).unit < length m.units) (sym blocks) (c.units-units.ensures.market.blocks k none inside).unit in
+    let at_unit : (slice_index_or c.slice-block-items.result.now k none).unit < length c.args.prices.now = omega (arith, c.requires.prices, unit) in
+    let here = λ (d : Duals Fraction) (all : map value c.args.prices.now ≡ map (unit_price m d) (places (length m.units))).
+    support_same _ (block_at m k).side (value c.block_price.result) (price m k) (value c.index-prices-block.result) (unit_price m d (block_at m k).unit) (value c.block_quantity.result) (quantity m k) (value c.index-blocks-at.result) (accepted x k)
     (ap (λ (b : Block). b.side) read) (c.block_price.ensures ∙ ap (λ (b : Block). whole b.price) read)
-    (c.unit_price-worth.ensures ∙ ap (λ (b : Block). price_for_unit m (put_in (map value c.args.prices.now)) b.unit) read
-    ∙ at_unit m d (put_in (map value c.args.prices.now)) c.units-units.ensures.market (filled_at (bus_price m d) (map value c.args.prices.now) (length m.buses) zero all) (block_at m k).unit (block_unit-in m c.units-units.ensures.market k inside))
+    (put_read value c.args.prices.now _ c.index-prices-block.result at_unit c.index-prices-block.is ∙ ap (λ (b : Block). put_in (map value c.args.prices.now) b.unit) read
+    ∙ filled_at (unit_price m d) (map value c.args.prices.now) (length m.units) zero all (block_at m k).unit (block_unit-in m c.units-units.ensures.market k inside))
     (c.block_quantity.ensures ∙ ap (λ (b : Block). whole b.quantity) read)
     (put_read value c.args.blocks.now k c.index-blocks-at.result (omega (arith, inside, c.requires.blocks)) c.index-blocks-at.is) in
     λ d all. place_here (λ (j : ℕ). reason.Support (j + 1)) (is_unsupported m x d) (length m.blocks) k (c.loop-at.invariant d all) inside (sym (here d all) ∙ sym c.breaks_support.ensures ∙ c.if-breaks_support.true)
@@ -67,11 +60,14 @@ loop-at-preserved g c =
     let blocks = c.slice-block-items.ensures ∙ c.blocks-2.ensures.list in
     let read = ap (λ (bs : List Block). slice_index_or bs k (record { unit = 0; side = Sell; quantity = pos 0; price = pos 0 })) blocks in
     let inside : k < length m.blocks = omega (arith, c.loop-at-test.true, ap length blocks) in
-    let here = λ (d : Duals Fraction) (all : map value c.args.prices.now ≡ map (bus_price m d) (places (length m.buses))).
-    support_same _ (block_at m k).side (value c.block_price.result) (price m k) (value c.unit_price-worth.result) (unit_price m d (block_at m k).unit) (value c.block_quantity.result) (quantity m k) (value c.index-blocks-at.result) (accepted x k)
+    let none : Block = record { unit = 0; side = Sell; quantity = pos 0; price = pos 0 } in
+    let unit = subst (λ (bs : List Block). (slice_index_or bs k none).unit < length m.units) (sym blocks) (c.units-units.ensures.market.blocks k none inside).unit in
+    let at_unit : (slice_index_or c.slice-block-items.result.now k none).unit < length c.args.prices.now = omega (arith, c.requires.prices, unit) in
+    let here = λ (d : Duals Fraction) (all : map value c.args.prices.now ≡ map (unit_price m d) (places (length m.units))).
+    support_same _ (block_at m k).side (value c.block_price.result) (price m k) (value c.index-prices-block.result) (unit_price m d (block_at m k).unit) (value c.block_quantity.result) (quantity m k) (value c.index-blocks-at.result) (accepted x k)
     (ap (λ (b : Block). b.side) read) (c.block_price.ensures ∙ ap (λ (b : Block). whole b.price) read)
-    (c.unit_price-worth.ensures ∙ ap (λ (b : Block). price_for_unit m (put_in (map value c.args.prices.now)) b.unit) read
-    ∙ at_unit m d (put_in (map value c.args.prices.now)) c.units-units.ensures.market (filled_at (bus_price m d) (map value c.args.prices.now) (length m.buses) zero all) (block_at m k).unit (block_unit-in m c.units-units.ensures.market k inside))
+    (put_read value c.args.prices.now _ c.index-prices-block.result at_unit c.index-prices-block.is ∙ ap (λ (b : Block). put_in (map value c.args.prices.now) b.unit) read
+    ∙ filled_at (unit_price m d) (map value c.args.prices.now) (length m.units) zero all (block_at m k).unit (block_unit-in m c.units-units.ensures.market k inside))
     (c.block_quantity.ensures ∙ ap (λ (b : Block). whole b.quantity) read)
     (put_read value c.args.blocks.now k c.index-blocks-at.result (omega (arith, inside, c.requires.blocks)) c.index-blocks-at.is) in
     λ d all. place_more (λ (j : ℕ). reason.Support (j + 1)) (is_unsupported m x d) k (c.loop-at.invariant d all) (sym (here d all) ∙ sym c.breaks_support.ensures ∙ c.if-breaks_support.false)

@@ -1,12 +1,12 @@
 use Rattle.std.proofs.Common.{rules, Err, ◌≡◌, ◌∙◌, ap, sym, map}
 use Rattle.std.proofs.lemmas.Result.{IfOk-weaker, IfErr-weaker}
 use Rattle.fraction_theory.specs.Fraction.{Fraction}
-use Rattle.market_model.specs.SumTables.{flow_of_row, limited_row}
 use Rattle.market_model.specs.Valued.{dual_at, passed_at}
-use Rattle.limit_rows.proofs.PlaceLemmas.{at_places}
+use Rattle.market_model.proofs.RowMembers.{at_places}
+use Rattle.cert_sums.proofs.CarriedLemmas.{flow_there, refused_there}
 use Rattle.cert_verify.specs.Reasons.{breaks_row}
-use Rattle.cert_verify.specs.Stops.{of_flow, of_most}
-use Rattle.cert_verify.proofs.RowLemmas.{flow_there, no_slack, refused_there, slack_named}
+use Rattle.cert_verify.specs.Stops.{of_most}
+use Rattle.cert_verify.proofs.RowLemmas.{limit_pair, no_slack, slack_named}
 use Rattle.cert_verify.proofs.duals.has_slack.Goals as goal
 
 pub row_flow-requires-clause-line : goal.row_flow-requires-clause-line
@@ -20,7 +20,8 @@ returns-in_err-flow-in-Some-clause-cause g c =
     let given : c.from_residual.result ≡ Err c.in_err-flow-in-Some.field-0.0 = search rules in
     let places = at_places c.args.market.now c.lines-lines.ensures.market c.in-Some.row c.in-Some.ensures.0 in
     λ x are. rw given
-    (of_flow (_, limited_row c.in-Some.row _ c.in-Some.ensures.0 flow_of_row, refused_there c.args.market.now x (map g.N.Exact.value c.args.flows.now) are c.in-Some.row places.0 places.1 g.N.Exact.bound (passed_at g.N.Exact.value c.in_err-flow-in-Some.field-0.0) c.in_err-flow-in-Some.ensures.cause))
+    (limit_pair c.args.market.now x c.in-Some.row g.N.Exact.bound (passed_at g.N.Exact.value c.in_err-flow-in-Some.field-0.0) c.in-Some.ensures.0
+    (refused_there c.args.market.now x (map g.N.Exact.value c.args.carried.now) are c.in-Some.row places.0 places.1 g.N.Exact.bound (passed_at g.N.Exact.value c.in_err-flow-in-Some.field-0.0) c.in_err-flow-in-Some.ensures.cause))
 
 pub breaks_row-requires : goal.breaks_row-requires
 breaks_row-requires g c = (at_places c.args.market.now c.lines-lines.ensures.market c.in-Some.row c.in-Some.ensures.0).0
@@ -31,7 +32,7 @@ returns-in_ok-flow-in-Some-clause-slack g c =
     let e = dual_at g.N.Exact.value c.args.dual.now in
     let places = at_places m c.lines-lines.ensures.market c.in-Some.row c.in-Some.ensures.0 in
     λ x are.
-    let flow = c.in_ok-flow-in-Some.ensures.flow ∙ flow_there m x (map g.N.Exact.value c.args.flows.now) are c.in-Some.row places.0 places.1 in
+    let flow = c.in_ok-flow-in-Some.ensures.flow ∙ flow_there m x (map g.N.Exact.value c.args.carried.now) are c.in-Some.row places.0 places.1 in
     let named = slack_named m c.lines-lines.ensures.market x e c.in-Some.row c.in-Some.ensures.0 c.in-Some.ensures.1 in
     IfOk-weaker c.breaks_row.result _ _ (λ b h. h ∙ ap (λ (f : Fraction). breaks_row m c.in-Some.row e.up e.down f) flow ∙ sym named) c.breaks_row.ensures.broken
 

@@ -2,12 +2,12 @@ use Rattle.std.proofs.Common.{rules, Err, Some, ◌≡◌, ◌∙◌, ap, map, s
 use Rattle.market_model.specs.declared.answered.RowId.{RowId}
 use Rattle.market_model.specs.declared.limits.Row.{Row}
 use Rattle.market_model.specs.LimitRows.{row_id, rows}
-use Rattle.market_model.specs.SumTables.{flow_of_row, limited_row}
-use Rattle.market_model.specs.Valued.{dual_at}
+use Rattle.market_model.specs.Valued.{dual_at, passed_at}
 use Rattle.limit_rows.proofs.WalkLemmas.{taken_listed, taken_next}
 use Rattle.cert_verify.specs.declared.verdicts.Reason.TheVariants as reason
 use Rattle.cert_verify.specs.Reasons.{is_unpriced}
 use Rattle.cert_verify.proofs.FindLemmas.{found_behind, none_more}
+use Rattle.cert_verify.proofs.RowLemmas.{limit_pair}
 use Rattle.cert_verify.proofs.unpriced.first_unpriced.Goals as goal
 
 pub is_unpriced-requires-clause-line : goal.is_unpriced-requires-clause-line
@@ -34,7 +34,7 @@ pub returns-in_err-is_unpriced-clause-cause : goal.returns-in_err-is_unpriced-cl
 returns-in_err-is_unpriced-clause-cause g c =
     let given : c.from_residual.result ≡ Err c.in_err-is_unpriced.field-0.0 = search rules in
     let listed = taken_listed c.args.market.now _ _ _ c.loop-row.yielded (c.into_iter-row-iterator.ensures.into_iter_gives ∙ c.rows-row-items.ensures.rows) c.loop-row.yielded_by c.next.result c.in-Some.row c.in-Some.is c.next.ensures.steps in
-    λ x are. rw given (_, limited_row c.in-Some.row _ listed flow_of_row, c.in_err-is_unpriced.ensures.cause x are)
+    λ x are. rw given (limit_pair c.args.market.now x c.in-Some.row g.N.Exact.bound (passed_at g.N.Exact.value c.in_err-is_unpriced.field-0.0) listed (c.in_err-is_unpriced.ensures.cause x are))
 
 pub returns-then-branch-clause-first : goal.returns-then-branch-clause-first
 returns-then-branch-clause-first g c =

@@ -4,10 +4,11 @@ use mir.Val.{to_z, of_z}
 use Rattle.fraction_theory.specs.Fraction.{Fraction, whole}
 use Rattle.market_model.specs.Dispatch.{zero}
 use Rattle.market_model.specs.Valued.{dual_at, passed_at}
+use Rattle.cert_sums.proofs.CarriedLemmas.{flow_there, refused_there}
 use Rattle.cert_verify.specs.Certificates.{named_duals}
 use Rattle.cert_verify.specs.Reasons.{passes}
 use Rattle.cert_verify.proofs.NamingLemmas.{names_by}
-use Rattle.cert_verify.proofs.RowLemmas.{flow_there, refused_there, unpriced_free, unpriced_hard, unpriced_named}
+use Rattle.cert_verify.proofs.RowLemmas.{unpriced_free, unpriced_hard, unpriced_named}
 use Rattle.cert_verify.proofs.unpriced.is_unpriced.Goals as goal
 
 pub returns-then-not-is_soft-clause-unpriced : goal.returns-then-not-is_soft-clause-unpriced
@@ -24,7 +25,7 @@ returns-then-is_some-clause-unpriced g c = λ x ds are is.
 pub returns-in_err-flow-clause-cause : goal.returns-in_err-flow-clause-cause
 returns-in_err-flow-clause-cause g c =
     let given : c.from_residual.result ≡ Err c.in_err-flow.field-0.0 = search rules in
-    λ x are. rw given (refused_there c.args.market.now x (map g.N.Exact.value c.args.flows.now) are c.args.row c.requires.line c.requires.lost g.N.Exact.bound (passed_at g.N.Exact.value c.in_err-flow.field-0.0) c.in_err-flow.ensures.cause)
+    λ x are. rw given (refused_there c.args.market.now x (map g.N.Exact.value c.args.carried.now) are c.args.row c.requires.line c.requires.lost g.N.Exact.bound (passed_at g.N.Exact.value c.in_err-flow.field-0.0) c.in_err-flow.ensures.cause)
 
 pub returns-clause-unpriced : goal.returns-clause-unpriced
 returns-clause-unpriced g c = λ x ds are is.
@@ -35,5 +36,5 @@ returns-clause-unpriced g c = λ x ds are is.
     let named = names_by value m (named_duals zero limits) c.args.row c.named_at.result (c.named_at.ensures ds zero is) in
     c.passes.ensures
     ∙ ap₂ (λ (f l : Fraction). passes f l)
-    (c.in_ok-flow.ensures.flow ∙ flow_there m x (map value c.args.flows.now) are c.args.row c.requires.line c.requires.lost) (c.datum.ensures ∙ ap whole known ∙ c.limit_at.ensures.limit)
+    (c.in_ok-flow.ensures.flow ∙ flow_there m x (map value c.args.carried.now) are c.args.row c.requires.line c.requires.lost) (c.datum.ensures ∙ ap whole known ∙ c.limit_at.ensures.limit)
     ∙ unpriced_free m c.lines-lines.ensures.market x limits c.args.row (sym c.is_soft.ensures ∙ c.if-not-is_soft.false) (named ∙ sym c.is_some.ensures ∙ c.if-is_some.false)
