@@ -1,7 +1,11 @@
 //! The market of the tests: two units that sell 100 MW each at buses 1 and 2 for 10 and 30, a load of 50 and a shunt of 10 at bus 3, and
-//! branch 2 with a limit of 40 in the base and one after the loss of branch 1, all of whose flow goes over to it, that is far off.
+//! branch 2 with a limit of 40 in the base and one after the loss of branch 1, all of whose flow goes over to it, that is far off. The
+//! limit in the base may give way.
 
-ghost use Rattle.std.specs.Prelude.{◌≡◌, IfOk};
+ghost use Rattle.std.specs.Prelude.{◌≡◌, List, [], ◌∷◌, IfOk};
+ghost use Rattle.limit_screen.specs.Screening.{AreNamesOf};
+ghost use Rattle.market_model.specs.Lines.{IsPenalty};
+ghost use Rattle.market_model.specs.declared.limits.Row.{Row};
 ghost use Rattle.offer_book.specs.Edits.{number_of};
 
 use clear_loop::Clearer;
@@ -138,18 +142,32 @@ fn listed<T: Copy>(alloc: Global, items: &[T]) -> Result<List<T>, Memory>
     Ok(list)
 }
 
-/// The market.
-pub(crate) fn limited(alloc: Global) -> Result<Market, Memory> {
+/// The market, whose limit in the base may be exceeded by so much at a price.
+pub(crate) fn soft(alloc: Global, price: i64, excess: i64) -> Result<Market, Memory>
+    requires { IsPenalty price excess }
+    ensures { IfOk result (λ market. (g : List Row) × AreNamesOf market g (record { branch = 2; outage = 0 } ∷ [])) }
+{
+    let [first, second, third] = LINES;
+    let second = Line {
+        base_price: price,
+        base_excess: excess,
+        ..second
+    };
     let parts = Parts {
         buses: listed(alloc, &BUSES)?,
         units: listed(alloc, &UNITS)?,
         blocks: listed(alloc, &BLOCKS)?,
-        lines: listed(alloc, &LINES)?,
+        lines: listed(alloc, &[first, second, third])?,
         outages: listed(alloc, &[1])?,
         shift: listed(alloc, &SHIFT)?,
         loss: listed(alloc, &LOSS)?,
     };
     assemble(alloc, parts)
+}
+
+/// The market, whose limits are hard.
+pub(crate) fn limited(alloc: Global) -> Result<Market, Memory> {
+    soft(alloc, 0, 0)
 }
 
 /// A new limit of branch 2, in the base or after the outage.
