@@ -2,9 +2,9 @@
 //! branch 2 with a limit of 40 in the base and one after the loss of branch 1, all of whose flow goes over to it, that is far off. The
 //! limit in the base may give way.
 
-ghost use Rattle.std.specs.Prelude.{◌≡◌, List, [], ◌∷◌, IfOk};
+ghost use Rattle.std.specs.Prelude.{◌≡◌, pos, List, [], ◌∷◌, None, Some, IfOk};
 ghost use Rattle.limit_screen.specs.Screening.{AreNamesOf};
-ghost use Rattle.market_model.specs.Lines.{IsPenalty};
+ghost use Rattle.market_model.specs.Lines.{hard_line, IsPenalty};
 ghost use Rattle.market_model.specs.declared.limits.Row.{Row};
 ghost use Rattle.offer_book.specs.Edits.{number_of};
 
@@ -69,38 +69,27 @@ const BLOCKS: [Block; 2] = [
     },
 ];
 
-const LINES: [Line; 3] = [
-    Line {
-        row: 1,
-        base: None,
-        post: None,
-        base_price: 0,
-        base_excess: 0,
-        post_price: 0,
-        post_excess: 0,
-        offset: 0,
-    },
-    Line {
-        row: 2,
-        base: Some(40_000_000_000),
-        post: Some(1_000_000_000_000),
-        base_price: 0,
-        base_excess: 0,
-        post_price: 0,
-        post_excess: 0,
-        offset: 0,
-    },
-    Line {
-        row: 3,
-        base: None,
-        post: None,
-        base_price: 0,
-        base_excess: 0,
-        post_price: 0,
-        post_excess: 0,
-        offset: 0,
-    },
-];
+const FIRST_LINE: Line = Line {
+    row: 1,
+    base: None,
+    post: None,
+    base_price: 0,
+    base_excess: 0,
+    post_price: 0,
+    post_excess: 0,
+    offset: 0,
+};
+
+const THIRD_LINE: Line = Line {
+    row: 3,
+    base: None,
+    post: None,
+    base_price: 0,
+    base_excess: 0,
+    post_price: 0,
+    post_excess: 0,
+    offset: 0,
+};
 
 const SHIFT: [Factor; 4] = [
     Factor {
@@ -142,22 +131,38 @@ fn listed<T: Copy>(alloc: Global, items: &[T]) -> Result<List<T>, Memory>
     Ok(list)
 }
 
-/// The market, whose limit in the base may be exceeded by so much at a price.
+/// The branches, where the limit of branch 2 in the base may be exceeded by so much at a price.
+fn lines(alloc: Global, price: i64, excess: i64) -> Result<List<Line>, Memory>
+    ensures { IfOk result (λ lines. lines ≡ hard_line 1 None None (pos 0)
+        ∷ record (hard_line 2 (Some (pos 40000000000)) (Some (pos 1000000000000)) (pos 0)) { base_price = price; base_excess = excess }
+        ∷ hard_line 3 None None (pos 0) ∷ []) }
+{
+    let mut lines = List::new(alloc);
+    lines.push(FIRST_LINE)?;
+    lines.push(Line {
+        row: 2,
+        base: Some(40_000_000_000),
+        post: Some(1_000_000_000_000),
+        base_price: price,
+        base_excess: excess,
+        post_price: 0,
+        post_excess: 0,
+        offset: 0,
+    })?;
+    lines.push(THIRD_LINE)?;
+    Ok(lines)
+}
+
+/// The market with these branches.
 pub(crate) fn soft(alloc: Global, price: i64, excess: i64) -> Result<Market, Memory>
     requires { IsPenalty price excess }
     ensures { IfOk result (λ market. (g : List Row) × AreNamesOf market g (record { branch = 2; outage = 0 } ∷ [])) }
 {
-    let [first, second, third] = LINES;
-    let second = Line {
-        base_price: price,
-        base_excess: excess,
-        ..second
-    };
     let parts = Parts {
         buses: listed(alloc, &BUSES)?,
         units: listed(alloc, &UNITS)?,
         blocks: listed(alloc, &BLOCKS)?,
-        lines: listed(alloc, &[first, second, third])?,
+        lines: lines(alloc, price, excess)?,
         outages: listed(alloc, &[1])?,
         shift: listed(alloc, &SHIFT)?,
         loss: listed(alloc, &LOSS)?,
