@@ -134,7 +134,7 @@ fn expect<R: Abort + AllocGlobal>(
 ) -> Result<(), Fail> {
     let told = cleared(rt.alloc(), ratings, records)?;
     assert!(rt; tells(&told, status, text));
-    if let Some(certificate) = told.outputs.certificate {
+    if let Some(certificate) = &told.outputs.certificate {
         let verdict = verified(rt.alloc(), ratings, records, certificate.as_slice())?;
         assert!(rt; tells(&verdict, Status::Done, "yes\n"));
     }
