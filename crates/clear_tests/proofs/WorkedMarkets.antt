@@ -1,21 +1,25 @@
--- The market of the tests is one.
-use Rattle.std.specs.Prelude.{◌≡◌, ℕ, ◌<◌, ◌≤◌, pos, List, [], ◌∷◌, Some, None, slice_index_or}
-use Rattle.std.proofs.Common.{zero, suc, arith}
+-- The market of the tests is one, and the limit of its branch 2 in the base is a row of it.
+use Rattle.std.specs.Prelude.{◌≡◌, ℕ, ◌<◌, ◌≤◌, ℤ, pos, List, [], ◌∷◌, Contains, Some, None, slice_index_or, refl}
+use Rattle.std.proofs.Common.{zero, suc, arith, inl, inr, subst}
 use Rattle.std.proofs.lemmas.Int.{ints}
-use Rattle.std.proofs.lemmas.List.Elements.{All-cons, All-nil}
+use Rattle.std.proofs.lemmas.List.Elements.{All-cons, All-nil, Contains-push_cases}
 use Rattle.market_data.specs.Participants.{IsBus, IsUnit}
 use Rattle.market_data.specs.declared.participants.Bus.{Bus}
 use Rattle.market_data.specs.declared.participants.Unit as unit
 use Rattle.market_model.proofs.PlainMarkets.{no_unit_outages}
+use Rattle.market_model.specs.declared.limits.Cause.TheVariants.{Base}
+use Rattle.market_model.specs.declared.limits.Row.{Row}
 use Rattle.market_model.specs.declared.participants.Block.{Block}
 use Rattle.market_model.specs.declared.participants.Line.{Line}
 use Rattle.market_model.specs.declared.participants.Parts.{Parts}
 use Rattle.market_model.specs.declared.participants.Side.TheVariants.{Sell, Buy}
-use Rattle.market_model.specs.Lines.{hard_line}
+use Rattle.market_model.specs.LimitRows.{rows}
+use Rattle.market_model.specs.Lines.{hard_line, IsPenalty}
 use Rattle.market_model.specs.Market.{bare_parts, IsMarket, IsBlock, IsLine, HasRoom}
 use Rattle.market_model.specs.Stairs.{stair_in}
-use Rattle.market_model.proofs.LinePenalties.{hard_is_line}
+use Rattle.market_model.proofs.LinePenalties.{hard_is_line, no_cost}
 use Rattle.limit_rows.proofs.TestMarkets.{losses, one_is_market, shifts}
+use Rattle.limit_screen.specs.Screening.{AreNamesOf}
 
 abbrev bus_of : ℕ → ℕ → ℕ → Bus
 bus_of number pd gs = record { number = number; pd = pos pd; gs = pos gs }
@@ -29,15 +33,15 @@ block_of u price = record { unit = u; side = Sell; quantity = pos 100000000000; 
 abbrev line_free : ℕ → Line
 line_free row = hard_line row None None (pos 0)
 
-abbrev line_limited : Line
-line_limited = hard_line 2 (Some (pos 40000000000)) (Some (pos 1000000000000)) (pos 0)
+abbrev line_limited : ℤ → ℤ → Line
+line_limited price excess = record (hard_line 2 (Some (pos 40000000000)) (Some (pos 1000000000000)) (pos 0)) { base_price = price; base_excess = excess }
 
 abbrev blocks : List Block
 blocks = block_of 0 10000000 ∷ block_of 1 30000000 ∷ []
 
-abbrev pub worked : Parts
-worked = record (bare_parts (bus_of 1 0 0 ∷ bus_of 2 0 0 ∷ bus_of 3 50000000000 10000000000 ∷ []) (unit_of 1 0 ∷ unit_of 2 1 ∷ []) blocks) {
-  lines = line_free 1 ∷ line_limited ∷ line_free 3 ∷ [];
+abbrev pub worked : ℤ → ℤ → Parts
+worked price excess = record (bare_parts (bus_of 1 0 0 ∷ bus_of 2 0 0 ∷ bus_of 3 50000000000 10000000000 ∷ []) (unit_of 1 0 ∷ unit_of 2 1 ∷ []) blocks) {
+  lines = line_free 1 ∷ line_limited price excess ∷ line_free 3 ∷ [];
   outages = 1 ∷ [];
   shift = shifts;
   loss = losses;
@@ -58,8 +62,8 @@ room_at zero d h = room_first
 room_at (suc zero) d h = room_second
 room_at (suc (suc n)) d h = absurd (Prim.omega (arith, h))
 
-pub worked_is_market : IsMarket worked
-worked_is_market = record {
+pub worked_is_market : (price excess : ℤ) → IsPenalty price excess → IsMarket (worked price excess)
+worked_is_market price excess penalty = record {
   bus_count = Prim.omega arith;
   unit_count = Prim.omega arith;
   block_count = Prim.omega arith;
@@ -73,8 +77,8 @@ worked_is_market = record {
   blocks = All-cons (IsBlock 2) (block_of 0 10000000) (block_of 1 30000000 ∷ []) (record { unit = Prim.omega arith; quantity = Prim.omega (arith, ints); price = Prim.omega (arith, ints) })
       (All-cons (IsBlock 2) (block_of 1 30000000) [] (record { unit = Prim.omega arith; quantity = Prim.omega (arith, ints); price = Prim.omega (arith, ints) }) (All-nil (IsBlock 2)));
   room = room_at;
-  lines = All-cons IsLine (line_free 1) (line_limited ∷ line_free 3 ∷ []) (free 1 (Prim.omega arith))
-      (All-cons IsLine line_limited (line_free 3 ∷ []) (hard_is_line 2 (Some (pos 40000000000)) (Some (pos 1000000000000)) (pos 0) (Prim.omega arith) (Prim.omega (arith, ints)) (Prim.omega (arith, ints)) (Prim.omega (arith, ints)))
+  lines = All-cons IsLine (line_free 1) (line_limited price excess ∷ line_free 3 ∷ []) (free 1 (Prim.omega arith))
+      (All-cons IsLine (line_limited price excess) (line_free 3 ∷ []) limited
       (All-cons IsLine (line_free 3) [] (free 3 (Prim.omega arith)) (All-nil IsLine)));
   line_rows = one_is_market.line_rows;
   outages = one_is_market.outages;
@@ -87,6 +91,9 @@ worked_is_market = record {
     unit_fits : (row bus : ℕ) → 1 ≤ row → bus < 3 → IsUnit 3 (unit_of row bus)
     unit_fits row bus p q = record { row = p; bus = q; fixed = Prim.omega (arith, ints); up = Prim.omega (arith, ints); down = Prim.omega (arith, ints) }
 
+    limited : IsLine (line_limited price excess)
+    limited = record { row = Prim.omega arith; base = Prim.omega (arith, ints); post = Prim.omega (arith, ints); base_penalty = penalty; post_penalty = no_cost; offset = Prim.omega (arith, ints) }
+
     free : (row : ℕ) → 1 ≤ row → IsLine (line_free row)
     free row p = hard_is_line row None None (pos 0) p tt tt (Prim.omega (arith, ints))
 
@@ -97,3 +104,20 @@ worked_is_market = record {
     rows_differ (suc i) zero d p q e = absurd (Prim.omega (arith, p))
     rows_differ (suc i) (suc zero) d p q e = absurd (Prim.omega (arith, p))
     rows_differ (suc i) (suc (suc j)) d p q e = absurd (Prim.omega (arith, q))
+
+-- the limit of branch 2 in the base
+abbrev pub base_row : Row
+base_row = record { line = 1; cause = Base }
+
+pub base_is_named : (price excess : ℤ) → AreNamesOf (worked price excess) (base_row ∷ []) (record { branch = 2; outage = 0; unit = 0 } ∷ [])
+unfolding rows
+base_is_named price excess = (among, refl)
+  where
+    stands : Contains (rows (worked price excess)) base_row
+    stands = (0, Prim.omega arith, refl)
+
+    among : (r : Row) → Contains (base_row ∷ []) r → Contains (rows (worked price excess)) r
+    among r k = elim (Contains-push_cases [] base_row r k) [
+      | inl n ↦ absurd (Prim.omega (arith, n.1))
+      | inr e ↦ subst (Contains (rows (worked price excess))) e stands
+    ]

@@ -1,12 +1,14 @@
 //! Calls that a clear does not make in this form: the prices of duals, the worst limit by its name, and a settlement that makes its
 //! flows. In the market bus prices are 10, 30 and 40, and the rent is all of the surplus.
 
-ghost use Rattle.std.specs.Prelude.{IfOk};
+ghost use Rattle.std.specs.Prelude.{◌≤ℤ◌, pos, List, IfOk};
+ghost use Rattle.limit_screen.specs.Screening.{AreNamesOf};
 ghost use Rattle.market_model.specs.Fitting.{FitsMarket};
 ghost use Rattle.market_model.specs.RightAnswers.{IsRight};
 ghost use Rattle.market_model.specs.Valued.{answer_at};
+ghost use Rattle.market_model.specs.declared.limits.Row.{Row};
 
-use crate::worked::{are, are_prices, has_taken, is_answer, limit, limited};
+use crate::worked::{are, are_prices, has_taken, is_answer, limit, limited, soft};
 use bus_prices::prices;
 use clear_loop::{ClearFault, Clearer};
 use exact_fraction::{Exact, Frac, Frac63};
@@ -21,6 +23,13 @@ use std::test::Fail;
 
 /// One of money, as a product of MW and a price.
 const MONEY_ONE: i64 = MW_ONE * PRICE_ONE;
+
+/// The limit of branch 2 in the base.
+const IN_THE_BASE: RowId = RowId {
+    branch: 2,
+    outage: 0,
+    unit: 0,
+};
 
 /// Whether units are paid 500 and 300 for 50 and 10 MW, the load pays 2400 for 60 and a limit earns 1600 by 40.
 fn is_settled<N: Exact>(money: &Money<N>) -> bool {
@@ -73,13 +82,16 @@ fn prices_and_money<N: Exact + Debug>(alloc: Global) -> Result<bool, Fail> {
     Ok(are_prices(&out, &[0, 20, 30], &[10, 30, 40]) && is_settled(&money))
 }
 
-/// The worst limit by its name, where the two blocks have these MW accepted.
+/// The worst limit by its name, where some are taken and the two blocks have these MW accepted.
 fn worst_at<N: Exact + Debug>(
     alloc: Global,
     market: &Market,
+    taken: &[RowId],
     first: N,
     second: N,
-) -> Result<Option<RowId>, Fail> {
+) -> Result<Option<RowId>, Fail>
+    requires { (g : List Row) × AreNamesOf market.now g taken.now }
+{
     let mut dispatch = zeros(alloc, market.blocks().len())?;
     if dispatch.len() != 2 {
         return Ok(None);
@@ -89,22 +101,40 @@ fn worst_at<N: Exact + Debug>(
     let places = market.buses().len() + market.lines().len();
     let mut by_place: Vec<N> = zeros(alloc, places)?;
     flows(market, &dispatch, &mut by_place)?;
-    Ok(worst(market, &by_place, &[])?)
+    Ok(worst(market, &by_place, taken)?)
 }
 
 /// With 60 MW of the first unit branch 2 carries 45, and with 50 it carries 40.
 fn worst_limits<N: Exact + Debug>(alloc: Global) -> Result<bool, Fail> {
     let market = limited(alloc)?;
     let none = N::of_parts(0, 1);
-    let broken = worst_at(alloc, &market, N::of_parts(60 * MW_ONE, 1), none)?;
+    let broken = worst_at(alloc, &market, &[], N::of_parts(60 * MW_ONE, 1), none)?;
     let ten = N::of_parts(10 * MW_ONE, 1);
-    let held = worst_at(alloc, &market, N::of_parts(50 * MW_ONE, 1), ten)?;
-    let named = RowId {
-        branch: 2,
-        outage: 0,
-        unit: 0,
-    };
-    Ok(broken == Some(named) && held == None)
+    let held = worst_at(alloc, &market, &[], N::of_parts(50 * MW_ONE, 1), ten)?;
+    Ok(broken == Some(IN_THE_BASE) && held == None)
+}
+
+/// The worst limit at 60 MW of the first unit, where branch 2 carries 45 and its limit of 40 in the base may be exceeded by so much: where
+/// that limit is taken, and where it is not.
+fn worst_soft<N: Exact + Debug>(
+    alloc: Global,
+    excess: i64,
+) -> Result<(Option<RowId>, Option<RowId>), Fail>
+    requires { pos 0 ≤ℤ excess }
+{
+    let market = soft(alloc, PRICE_ONE, excess)?;
+    let all = N::of_parts(60 * MW_ONE, 1);
+    let none = N::of_parts(0, 1);
+    let taken = worst_at(alloc, &market, &[IN_THE_BASE], all, none)?;
+    let untaken = worst_at(alloc, &market, &[], all, none)?;
+    Ok((taken, untaken))
+}
+
+/// An excess of 5 is enough where the limit is taken, and one of 4 is not; where it is not taken neither counts.
+fn worst_by_excess<N: Exact + Debug>(alloc: Global) -> Result<bool, Fail> {
+    let enough = worst_soft::<N>(alloc, 5 * MW_ONE)?;
+    let less = worst_soft::<N>(alloc, 4 * MW_ONE)?;
+    Ok(enough == (None, Some(IN_THE_BASE)) && less == (Some(IN_THE_BASE), Some(IN_THE_BASE)))
 }
 
 /// Both limits are passed, and that of 45 after the outage is taken alone.
@@ -120,6 +150,13 @@ fn takes_the_worst<N: Exact + Debug>(alloc: Global) -> Result<bool, Fail> {
 fn prices_of_duals_and_a_settlement(rt: HostRuntime) -> Result<(), Fail> {
     assert!(rt; prices_and_money::<Frac>(rt.alloc())?);
     assert!(rt; prices_and_money::<Frac63>(rt.alloc())?);
+    Ok(())
+}
+
+#[test]
+fn the_worst_limit_where_one_gives_way(rt: HostRuntime) -> Result<(), Fail> {
+    assert!(rt; worst_by_excess::<Frac>(rt.alloc())?);
+    assert!(rt; worst_by_excess::<Frac63>(rt.alloc())?);
     Ok(())
 }
 

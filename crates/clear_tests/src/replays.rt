@@ -1,10 +1,10 @@
-//! Clears between edits of the market with the limit of 40, at both types.
+//! Clears between edits of the market with the limit of 40, at both types, where it is hard and where it gives way.
 
 ghost use Rattle.std.specs.Prelude.{◌≡◌, All, IfOk};
 ghost use Rattle.offer_book.specs.Edits.{number_of};
 ghost use Rattle.edit_table.specs.EditTable.{IsStep};
 
-use crate::worked::{has_taken, is_answer, limit, limited};
+use crate::worked::{has_taken, is_answer, limit, limited, soft};
 use edit_replay::{Session, StepFault, StepOutcome, Steps, steps};
 use exact_fraction::{Exact, Frac, Frac63, Op, Passed};
 use market_data::{MW_ONE, PRICE_ONE};
@@ -25,8 +25,8 @@ fn price(price: i64) -> Edit
     }
 }
 
-/// Whether a clear comes to these MW of the blocks and these prices, with the limit of branch 2 in the base alone taken.
-fn clears_to<N: Exact>(
+/// Whether a clear comes to these MW of the blocks and these prices.
+fn clears<N: Exact>(
     session: &mut Session<N>,
     alloc: Global,
     mw: &[i32],
@@ -34,11 +34,21 @@ fn clears_to<N: Exact>(
     totals: &[i32],
 ) -> Result<bool, Memory> {
     match session.clear(alloc)? {
-        Outcome::Cleared(answer) => Ok(
-            has_taken(session.clearer(), 0) && is_answer(&answer, mw, congestion, totals),
-        ),
+        Outcome::Cleared(answer) => Ok(is_answer(&answer, mw, congestion, totals)),
         _ => Ok(false),
     }
+}
+
+/// The same, with the limit of branch 2 in the base alone taken.
+fn clears_to<N: Exact>(
+    session: &mut Session<N>,
+    alloc: Global,
+    mw: &[i32],
+    congestion: &[i32],
+    totals: &[i32],
+) -> Result<bool, Memory> {
+    let cleared = clears(session, alloc, mw, congestion, totals)?;
+    Ok(cleared && has_taken(session.clearer(), 0))
 }
 
 /// A clear, one after another price, and one after a limit that nothing reaches. Each starts from the limit that the first one took.
@@ -50,6 +60,41 @@ fn starts_warm<N: Exact>(alloc: Global) -> Result<bool, Memory> {
     let wider = session.edit(&limit(false, 50 * MW_ONE)).is_ok();
     let third = clears_to(&mut session, alloc, &[60, 0], &[0, 0, 0], &[10, 10, 10])?;
     Ok(first && cheaper && second && wider && third && session.market().blocks().len() == 2)
+}
+
+/// A first clear where the limit is 50: unit 1 makes all, with a flow of 45, and no limit is taken.
+fn is_slack<N: Exact>(session: &mut Session<N>, alloc: Global) -> Result<bool, Memory> {
+    let wide = session.edit(&limit(false, 50 * MW_ONE)).is_ok();
+    let cleared = clears(session, alloc, &[60, 0], &[0, 0, 0], &[10, 10, 10])?;
+    Ok(wide && cleared && session.clearer().taken() == 0)
+}
+
+/// A clear where the limit is 44: it is exceeded by 1, as 24 for a MW of flow is less than the 40 that unit 2 costs more for one. Prices
+/// are 10, and half and three quarters of 24 above it.
+fn is_exceeded<N: Exact>(session: &mut Session<N>, alloc: Global) -> Result<bool, Memory> {
+    let edited = session.edit(&limit(false, 44 * MW_ONE)).is_ok();
+    let cleared = clears_to(session, alloc, &[60, 0], &[0, 12, 18], &[10, 22, 28])?;
+    Ok(edited && cleared)
+}
+
+/// A clear where it is 40: the flow is 43, so unit 2 makes 4, and prices go by the 40 that a MW of flow is worth.
+fn is_used_up<N: Exact>(session: &mut Session<N>, alloc: Global) -> Result<bool, Memory> {
+    let edited = session.edit(&limit(false, 40 * MW_ONE)).is_ok();
+    let cleared = clears_to(session, alloc, &[56, 4], &[0, 20, 30], &[10, 30, 40])?;
+    Ok(edited && cleared)
+}
+
+/// A limit that gives way by 3 MW at 24 is tightened from one that nothing reaches until its excess is used up, and widened again. From
+/// the second clear on it is in hand, and at last too, where the first clear took nothing.
+fn tightens<N: Exact>(alloc: Global) -> Result<bool, Memory> {
+    let mut session: Session<N> = Session::new(soft(alloc, 24 * PRICE_ONE, 3 * MW_ONE)?);
+    let slack = is_slack(&mut session, alloc)?;
+    let exceeded = is_exceeded(&mut session, alloc)?;
+    let used_up = is_used_up(&mut session, alloc)?;
+    let again = is_exceeded(&mut session, alloc)?;
+    let wide = session.edit(&limit(false, 50 * MW_ONE)).is_ok();
+    let back = clears_to(&mut session, alloc, &[60, 0], &[0, 0, 0], &[10, 10, 10])?;
+    Ok(slack && exceeded && used_up && again && wide && back)
 }
 
 /// An edit of a block that is not there and a clear, and then a limit that no dispatch keeps and one of 40, each with a clear.
@@ -134,10 +179,28 @@ fn passes_63_bits(alloc: Global) -> Result<bool, Memory> {
     )
 }
 
+/// With unit 2 at 2000 a MW of flow is worth 3980, so 5 MW beyond the limit at 3000 are cheaper: 15,000, where 63 bits hold 9,223.
+fn a_penalty_passes_63_bits(alloc: Global) -> Result<bool, Memory> {
+    let market = soft(alloc, 3000 * PRICE_ONE, 10 * MW_ONE)?;
+    let mut session: Session<Frac63> = Session::new(market);
+    let dear = session.edit(&price(2000 * PRICE_ONE)).is_ok();
+    let outcome = StepOutcome::Clear(session.clear(alloc)?);
+    let penalty = Frac63::of_parts(-3_000_000_000, 1);
+    let excess = Frac63::of_parts(5_000_000_000, 1);
+    Ok(dear && is_range(&outcome, penalty, excess, Op::Times) && session.clearer().taken() == 0)
+}
+
 #[test]
 fn clears_between_edits(rt: HostRuntime) -> Result<(), Fail> {
     assert!(rt; starts_warm::<Frac>(rt.alloc())?);
     assert!(rt; starts_warm::<Frac63>(rt.alloc())?);
+    Ok(())
+}
+
+#[test]
+fn a_limit_that_gives_way_between_edits(rt: HostRuntime) -> Result<(), Fail> {
+    assert!(rt; tightens::<Frac>(rt.alloc())?);
+    assert!(rt; tightens::<Frac63>(rt.alloc())?);
     Ok(())
 }
 
@@ -151,5 +214,6 @@ fn refused_and_infeasible(rt: HostRuntime) -> Result<(), Fail> {
 #[test]
 fn numbers_too_large(rt: HostRuntime) -> Result<(), Fail> {
     assert!(rt; passes_63_bits(rt.alloc())?);
+    assert!(rt; a_penalty_passes_63_bits(rt.alloc())?);
     Ok(())
 }

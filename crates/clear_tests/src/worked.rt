@@ -1,7 +1,11 @@
 //! The market of the tests: two units that sell 100 MW each at buses 1 and 2 for 10 and 30, a load of 50 and a shunt of 10 at bus 3, and
-//! branch 2 with a limit of 40 in the base and one after the loss of branch 1, all of whose flow goes over to it, that is far off.
+//! branch 2 with a limit of 40 in the base and one after the loss of branch 1, all of whose flow goes over to it, that is far off. The
+//! limit in the base may give way.
 
-ghost use Rattle.std.specs.Prelude.{◌≡◌, IfOk};
+ghost use Rattle.std.specs.Prelude.{◌≡◌, pos, List, [], ◌∷◌, None, Some, IfOk};
+ghost use Rattle.limit_screen.specs.Screening.{AreNamesOf};
+ghost use Rattle.market_model.specs.Lines.{hard_line, IsPenalty};
+ghost use Rattle.market_model.specs.declared.limits.Row.{Row};
 ghost use Rattle.offer_book.specs.Edits.{number_of};
 
 use clear_loop::Clearer;
@@ -65,38 +69,27 @@ const BLOCKS: [Block; 2] = [
     },
 ];
 
-const LINES: [Line; 3] = [
-    Line {
-        row: 1,
-        base: None,
-        post: None,
-        base_price: 0,
-        base_excess: 0,
-        post_price: 0,
-        post_excess: 0,
-        offset: 0,
-    },
-    Line {
-        row: 2,
-        base: Some(40_000_000_000),
-        post: Some(1_000_000_000_000),
-        base_price: 0,
-        base_excess: 0,
-        post_price: 0,
-        post_excess: 0,
-        offset: 0,
-    },
-    Line {
-        row: 3,
-        base: None,
-        post: None,
-        base_price: 0,
-        base_excess: 0,
-        post_price: 0,
-        post_excess: 0,
-        offset: 0,
-    },
-];
+const FIRST_LINE: Line = Line {
+    row: 1,
+    base: None,
+    post: None,
+    base_price: 0,
+    base_excess: 0,
+    post_price: 0,
+    post_excess: 0,
+    offset: 0,
+};
+
+const THIRD_LINE: Line = Line {
+    row: 3,
+    base: None,
+    post: None,
+    base_price: 0,
+    base_excess: 0,
+    post_price: 0,
+    post_excess: 0,
+    offset: 0,
+};
 
 const SHIFT: [Factor; 4] = [
     Factor {
@@ -138,13 +131,38 @@ fn listed<T: Copy>(alloc: Global, items: &[T]) -> Result<List<T>, Memory>
     Ok(list)
 }
 
-/// The market.
-pub(crate) fn limited(alloc: Global) -> Result<Market, Memory> {
+/// The branches, where the limit of branch 2 in the base may be exceeded by so much at a price.
+fn lines(alloc: Global, price: i64, excess: i64) -> Result<List<Line>, Memory>
+    ensures { IfOk result (λ lines. lines ≡ hard_line 1 None None (pos 0)
+        ∷ record (hard_line 2 (Some (pos 40000000000)) (Some (pos 1000000000000)) (pos 0)) { base_price = price; base_excess = excess }
+        ∷ hard_line 3 None None (pos 0) ∷ []) }
+{
+    let mut lines = List::new(alloc);
+    lines.push(FIRST_LINE)?;
+    lines.push(Line {
+        row: 2,
+        base: Some(40_000_000_000),
+        post: Some(1_000_000_000_000),
+        base_price: price,
+        base_excess: excess,
+        post_price: 0,
+        post_excess: 0,
+        offset: 0,
+    })?;
+    lines.push(THIRD_LINE)?;
+    Ok(lines)
+}
+
+/// The market with these branches.
+pub(crate) fn soft(alloc: Global, price: i64, excess: i64) -> Result<Market, Memory>
+    requires { IsPenalty price excess }
+    ensures { IfOk result (λ market. (g : List Row) × AreNamesOf market g (record { branch = 2; outage = 0; unit = 0 } ∷ [])) }
+{
     let parts = Parts {
         buses: listed(alloc, &BUSES)?,
         units: listed(alloc, &UNITS)?,
         blocks: listed(alloc, &BLOCKS)?,
-        lines: listed(alloc, &LINES)?,
+        lines: lines(alloc, price, excess)?,
         outages: listed(alloc, &[1])?,
         shift: listed(alloc, &SHIFT)?,
         loss: listed(alloc, &LOSS)?,
@@ -152,6 +170,11 @@ pub(crate) fn limited(alloc: Global) -> Result<Market, Memory> {
         pickups: List::new(alloc),
     };
     assemble(alloc, parts)
+}
+
+/// The market, whose limits are hard.
+pub(crate) fn limited(alloc: Global) -> Result<Market, Memory> {
+    soft(alloc, 0, 0)
 }
 
 /// A new limit of branch 2, in the base or after the outage.
@@ -217,6 +240,7 @@ pub(crate) fn has_taken<N: Exact>(clearer: &Clearer<N>, outage: u32) -> bool {
             == RowId {
                 branch: 2,
                 outage,
+                unit: 0,
                 unit: 0,
             }
 }

@@ -59,8 +59,6 @@ mod clear_tests;
 #[cfg(test)]
 mod fixture;
 #[cfg(test)]
-mod soft_tests;
-#[cfg(test)]
 mod task_tests;
 #[cfg(test)]
 mod tests;
