@@ -2,7 +2,7 @@ use Rattle.std.proofs.Common.{◌≡◌, ◌≤◌, ◌+◌, ◌-◌, ◌*◌, �
 use Rattle.std.specs.Char.{is_ascii_digit}
 use Rattle.std.proofs.Math.Nat.{pow-le-pow_right}
 use Rattle.std.proofs.lemmas.Grind.{pow_more}
-use Rattle.scaled_decimal.proofs.PlainLemmas.{digits_more, number_more}
+use Rattle.scaled_decimal.proofs.PlainLemmas.{digits_more, number_more, size_more}
 use Rattle.scaled_decimal.proofs.plain.digits_run.Goals as goal
 
 pub overflow_mul-number : goal.overflow_mul-number
@@ -28,6 +28,7 @@ loop-byte-preserved c =
     record {
       count = Prim.omega arith;
       digits = digits_more bytes place c.loop-byte-test.true c.loop-byte.invariant.digits is;
-      number = number_more c.args.front bytes place c.loop-byte.number c.from.result c.loop-byte-test.true range c.from.ensures c.loop-byte.invariant.number;
+      number = number_more c.args.front bytes place c.loop-byte.number (c.from.result - 48) c.loop-byte-test.true range (Prim.omega (arith, c.from.ensures)) c.loop-byte.invariant.number;
       low = Prim.omega (arith, range, c.from.ensures, more);
+      size = λ k below. size_more k place c.loop-byte.number (c.from.result - 48) (Prim.omega (arith, range, c.from.ensures)) (c.loop-byte.invariant.size k below);
     }
