@@ -1,6 +1,7 @@
 -- What is read in one pass is the reading of the text.
-use Rattle.std.specs.Prelude.{◌≡◌, ◌≤◌, ◌<◌, ℕ, ◌+◌, ◌*◌, ◌-◌, ◌^◌, Bool, true, List, [], ◌∷◌, ◌++◌, length, take, drop}
+use Rattle.std.specs.Prelude.{◌≡◌, ◌≤◌, ◌<◌, ℕ, ◌+◌, ◌*◌, ◌-◌, ◌^◌, ◌%◌, refl, Bool, true, List, [], ◌∷◌, ◌++◌, length, take, drop}
 use Rattle.std.proofs.Common.{zero, suc, inr, arith, ap, sym, subst, ◌∙◌, get_or}
+use Rattle.std.proofs.lemmas.Bool.{le-leb}
 use Rattle.std.proofs.Math.Nat.{mul_assoc, mul-le-mul_right, pow-le-pow_right}
 use Rattle.std.proofs.lemmas.Nat.{pow-add}
 use Rattle.std.proofs.lemmas.Grind.{pow_more}
@@ -113,3 +114,10 @@ few_digits number whole behind places low within few most =
     let room : whole + behind ≤ 18 - (places - behind) = Prim.omega arith in
     let more : 10 ^ (whole + behind) ≤ 10 ^ (18 - (places - behind)) = pow-le-pow_right (Prim.omega arith) room in
     Prim.omega (arith, low, more)
+
+-- a byte that is at most 9 above the code of 0, where bytes before it wrap round
+pub digit_code : (byte digit : ℕ) → byte < 2 ^ 64 → digit ≡ (byte + (2 ^ 64 - 48)) % 2 ^ 64 → digit ≤ 9 → IsInRange 48 57 byte × (digit ≡ byte - 48)
+digit_code byte digit fits is below = ((Prim.omega arith, Prim.omega arith), Prim.omega arith)
+
+pub digit_in_range : (byte : ℕ) → IsInRange 48 57 byte → is_ascii_digit byte ≡ true
+digit_in_range byte range = Prim.rw (le-leb 48 byte range.0, le-leb byte 57 range.1) refl

@@ -51,10 +51,12 @@ fn digits_run(bytes: &[u8], front: u64) -> (u64, usize)
     let mut number = front;
     let mut count = 0;
     for byte in bytes {
-        if !byte.is_ascii_digit() {
+        // Bytes before `0` wrap round to numbers far above 9.
+        let digit = u64::from(*byte).wrapping_sub(48);
+        if digit > 9 {
             return (number, count);
         }
-        number = number * 10 + (u64::from(*byte) - 48);
+        number = number * 10 + digit;
         count += 1;
     }
     (number, count)
