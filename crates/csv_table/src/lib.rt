@@ -140,18 +140,20 @@ fn records_of(alloc: Global, bytes: &[u8]) -> Result<Records, RecordsStop>
     ensures ok { IfOk result (λ records. records_in records ≡ table_of bytes.now) }
     ensures err { IfErr result (IsRecordsStop (table_of bytes.now)) }
 {
-    let reader = ReaderBuilder::new()
+    let mut reader = ReaderBuilder::new()
         .has_headers(false)
         .flexible(true)
         .from_reader(alloc, bytes);
     let mut records = Records::new(alloc);
-    for item in reader.into_byte_records() {
-        match item {
-            Ok(more) => records.push(&more)?,
+    let mut row = ByteRecord::new(alloc);
+    'rows: for _ in 0..usize::MAX {
+        match reader.read_byte_record(&mut row) {
+            Ok(true) => records.push(&row)?,
+            Ok(false) => return Ok(records),
             Err(error) => return Err(RecordsStop::Reader(error)),
         }
     }
-    Ok(records)
+    Err(RecordsStop::Memory)
 }
 
 /// The records under a table's header, each as wide as the header. Contracts see it as the list of these records.

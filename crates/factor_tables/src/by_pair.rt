@@ -34,20 +34,20 @@ pub(crate) struct Pairs {
 }
 
 impl Pairs {
-    // No factors, and no row of so many marked.
-    pub(crate) fn new(alloc: Global, rows: usize) -> Result<Pairs, Memory>
+    // No factors, with room for so many, and no row of so many marked.
+    pub(crate) fn new(alloc: Global, rows: usize, room: usize) -> Result<Pairs, Memory>
         requires { rows ≤ most_lines }
         ensures none { IfOk result (λ pairs. pairs.by_pair.entries ≡ []) }
         ensures unmarked { IfOk result (λ pairs. (row : ℕ) → get_or pairs.marked.items row false ≡ false) }
         ensures rows { IfOk result (λ pairs. length pairs.marked.items ≡ rows + 1) }
     {
-        match vec![in alloc; false; rows + 1] {
-            Ok(marked) => Ok(Pairs {
-                by_pair: IndexMap::new(alloc),
-                marked,
-            }),
-            Err(_) => Err(Memory),
-        }
+        let Ok(marked) = vec![in alloc; false; rows + 1] else {
+            return Err(Memory);
+        };
+        let Ok(by_pair) = IndexMap::with_capacity(alloc, room) else {
+            return Err(Memory);
+        };
+        Ok(Pairs { by_pair, marked })
     }
 
     // Whether a pair has a factor.
@@ -69,6 +69,19 @@ impl Pairs {
         ensures { result ≡ factor_at self.now.by_pair.entries pair }
     {
         self.by_pair.get(&pair).copied().unwrap_or(0)
+    }
+
+    // The same, where the record at a place is looked at first, and the place behind the record that is found.
+    pub(crate) fn factor_near(&self, place: usize, pair: (u32, u32)) -> (i64, usize)
+        ensures { result.0 ≡ factor_at self.now.by_pair.entries pair }
+    {
+        match self.by_pair.get_index(place) {
+            Some((here, factor)) if *here == pair => (*factor, place.wrapping_add(1)),
+            _ => match self.by_pair.get_full(&pair) {
+                Some((found, _, factor)) => (*factor, found.wrapping_add(1)),
+                None => (0, place),
+            },
+        }
     }
 
     // Adds the factor of a pair that has none, and marks a row.
@@ -143,6 +156,16 @@ impl<K: TableKind> FactorTable<K> {
         ensures is { result ≡ factor_at self.now (branch, of) }
     {
         self.pairs.factor((branch, of))
+    }
+
+    /// The same, and the place behind the record of the factor, or `place` where there is none. The record at `place` is looked at
+    /// before all others: where factors are asked for in the order of the records, each is found at once.
+    pub fn factor_near(&self, place: usize, branch: u32, of: u32) -> (i64, usize)
+        ensures size { unsigned_abs result.0 ≤ most_factor }
+        ensures means { IsFactorOfPair self.now (branch, of) result.0 }
+        ensures is { result.0 ≡ factor_at self.now (branch, of) }
+    {
+        self.pairs.factor_near(place, (branch, of))
     }
 
     /// Whether some record is of this row: that of a branch in a shift table, that of an outage in an outage table.

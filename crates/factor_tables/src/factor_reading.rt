@@ -119,7 +119,7 @@ fn pairs_of(
     ensures ok { IfOk result (λ pairs. read_rows (entry_in network.now column) [] 2 table.now ≡ Ok pairs.by_pair.entries) }
     ensures err { IfErr result (λ fault. fault ≢ TableFault.Memory → read_rows (entry_in network.now column) [] 2 table.now ≡ Err fault) }
 {
-    let mut pairs = Pairs::new(alloc, network.branch_rows())?;
+    let mut pairs = Pairs::new(alloc, network.branch_rows(), table.len())?;
     for row in 0..table.len() {
         let (pair, factor) = entry_of(network, column, &pairs, table, row)?;
         pairs.add(pair, factor, marked_row(column, pair))?;

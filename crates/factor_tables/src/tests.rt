@@ -1,4 +1,4 @@
-use crate::{Penalties, Penalty, TableFault, penalties};
+use crate::{Penalties, Penalty, TableFault, penalties, shift};
 use case_text::read_case;
 use net_case::{Branches, Network, PostRating, network};
 use record_reading::FrameFault;
@@ -136,6 +136,31 @@ fn wants_its_header(rt: HostRuntime) -> Result<(), Fail> {
     match penalties(rt.alloc(), &network, b"branch,limit,excess,price\n") {
         Err(fault) => assert_eq!(rt; fault, TableFault::Frame(FrameFault::Header)),
         Ok(_) => assert!(rt; false),
+    }
+    Ok(())
+}
+
+/// Factors that are looked for from a place among the records on: in their order, out of it, and where there is none.
+#[test]
+fn finds_factors_from_a_place(rt: HostRuntime) -> Result<(), Fail> {
+    let network = triangle(rt.alloc())?;
+    let shift = shift(
+        rt.alloc(),
+        &network,
+        b"branch,bus,factor\n1,2,-0.5\n1,3,0.25\n2,1,0\n3,3,1\n",
+    )?;
+    for (place, branch, bus, want) in [
+        (0, 1, 2, (-500_000, 1)),
+        (1, 1, 3, (250_000, 2)),
+        (2, 1, 1, (0, 2)),
+        (2, 2, 1, (0, 3)),
+        (3, 1, 2, (-500_000, 1)),
+        (0, 3, 3, (1_000_000, 4)),
+        (4, 3, 3, (1_000_000, 4)),
+        (4, 3, 1, (0, 4)),
+        (usize::MAX, 1, 3, (250_000, 2)),
+    ] {
+        assert_eq!(rt; shift.factor_near(place, branch, bus), want, "{place}: {branch}, {bus}");
     }
     Ok(())
 }

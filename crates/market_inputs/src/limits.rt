@@ -111,23 +111,28 @@ fn market_factor(value: i64) -> i64
     value * FACTOR_STEP
 }
 
-/// Adds the factors of a line in the columns of these.
+/// Adds the factors of a line in the columns of these. The records are looked for from a place on, and that behind the last one found
+/// is the answer.
 fn push_factors<T: Named>(
     factors: &mut List<Factor>,
     line: usize,
     row: u32,
     others: &[T],
     table: &FactorTable<T::Column>,
-) -> Result<(), Memory>
+    place: usize,
+) -> Result<usize, Memory>
     requires { AreSmall factors.old }
     ensures small { IfOk result (λ _. AreSmall factors.new) }
     ensures are { IfOk result (λ _. factors.new ≡ factors.old ++ factors_of_line (λ other. market_factor (factor_at table.now (row, T.name other))) line others.now) }
 {
+    let mut place = place;
     for (of, other) in others.iter().enumerate() {
-        let value = market_factor(table.factor(row, other.name()));
+        let (factor, behind) = table.factor_near(place, row, other.name());
+        place = behind;
+        let value = market_factor(factor);
         push_factor(factors, Factor { line, of, value })?;
     }
-    Ok(())
+    Ok(place)
 }
 
 /// The factors of live branches in the columns of these.
@@ -141,8 +146,9 @@ pub(crate) fn factors_of<T: Named>(
     ensures are { IfOk result (λ factors. factors ≡ named_factors T.name table.now branches.now others.now) }
 {
     let mut factors = List::new(alloc);
+    let mut place = 0;
     for (line, branch) in branches.iter().enumerate() {
-        push_factors(&mut factors, line, branch.row, others, table)?;
+        place = push_factors(&mut factors, line, branch.row, others, table, place)?;
     }
     Ok(factors)
 }

@@ -1,7 +1,9 @@
 -- What is read in one pass is the reading of the text.
-use Rattle.std.specs.Prelude.{◌≡◌, ◌≤◌, ◌<◌, ℕ, ◌+◌, ◌*◌, ◌-◌, ◌^◌, Bool, true, List, [], ◌∷◌, ◌++◌, length, take, drop}
+use Rattle.std.specs.Prelude.{◌≡◌, ◌≤◌, ◌<◌, ℕ, ◌+◌, ◌*◌, ◌-◌, ◌^◌, ◌%◌, refl, Bool, true, List, [], ◌∷◌, ◌++◌, length, take, drop}
 use Rattle.std.proofs.Common.{zero, suc, inr, arith, ap, sym, subst, ◌∙◌, get_or}
-use Rattle.std.proofs.Math.Nat.{mul_assoc, pow-le-pow_right}
+use Rattle.std.proofs.lemmas.Bool.{le-leb}
+use Rattle.std.proofs.Math.Nat.{mul_assoc, mul-le-mul_right, pow-le-pow_right}
+use Rattle.std.proofs.lemmas.Nat.{pow-add}
 use Rattle.std.proofs.lemmas.Grind.{pow_more}
 use Rattle.std.specs.Int.{IsInRange}
 use Rattle.std.specs.Char.{is_ascii_digit}
@@ -90,3 +92,32 @@ plain_point body count behind first number some point =
     let text : body ≡ take count body ++ 46 ∷ part_of count body =
     sym (take-append-drop count body) ∙ ap (λ t. take count body ++ t) (sym (rest_is count body) ∙ first_byte (rest_of count body) 46 some point) in
     plain_behind body (part_of count body) count behind first number text
+
+-- one digit more, of any number of digits
+pub size_more : (k count number digit : ℕ) → digit < 10 → number < 10 ^ (k + count) → number * 10 + digit < 10 ^ (k + (count + 1))
+size_more k count number digit below low =
+    let more : 10 ^ (k + (count + 1)) ≡ 10 ^ (k + count) * 10 = ap (λ n. 10 ^ n) (Prim.omega arith) ∙ pow_more 10 (k + count) in
+    Prim.omega (arith, more, low, below)
+
+-- a number of few digits with powers of ten behind it is in range
+pub raised_fits : (number tens : ℕ) → tens ≤ 18 → number < 10 ^ (18 - tens) → number * 10 ^ tens < 2 ^ 63
+raised_fits number tens within few =
+    let together : 18 - tens + tens ≡ 18 = Prim.omega arith in
+    let all : 10 ^ (18 - tens) * 10 ^ tens ≡ 10 ^ 18 = sym (pow-add 10 (18 - tens) tens) ∙ ap (λ (n : ℕ). 10 ^ n) together in
+    let below : number ≤ 10 ^ (18 - tens) = Prim.omega (arith, few) in
+    let less : number * 10 ^ tens ≤ 10 ^ (18 - tens) * 10 ^ tens = mul-le-mul_right (10 ^ tens) below in
+    Prim.omega (arith, all, less)
+
+-- so many digits leave room for the powers of ten behind them
+pub few_digits : (number whole behind places : ℕ) → number < 10 ^ (whole + behind) → behind ≤ places → whole ≤ 18 - places → places ≤ 18 → number < 10 ^ (18 - (places - behind))
+few_digits number whole behind places low within few most =
+    let room : whole + behind ≤ 18 - (places - behind) = Prim.omega arith in
+    let more : 10 ^ (whole + behind) ≤ 10 ^ (18 - (places - behind)) = pow-le-pow_right (Prim.omega arith) room in
+    Prim.omega (arith, low, more)
+
+-- a byte that is at most 9 above the code of 0, where bytes before it wrap round
+pub digit_code : (byte digit : ℕ) → byte < 2 ^ 64 → digit ≡ (byte + (2 ^ 64 - 48)) % 2 ^ 64 → digit ≤ 9 → IsInRange 48 57 byte × (digit ≡ byte - 48)
+digit_code byte digit fits is below = ((Prim.omega arith, Prim.omega arith), Prim.omega arith)
+
+pub digit_in_range : (byte : ℕ) → IsInRange 48 57 byte → is_ascii_digit byte ≡ true
+digit_in_range byte range = Prim.rw (le-leb 48 byte range.0, le-leb byte 57 range.1) refl

@@ -47,6 +47,18 @@ fn decimal(bytes: &[u8]) -> Result<Numeral<'_>, DecimalFault>
     }
 }
 
+/// The same as `read`, whatever the text.
+#[cold]
+#[inline(never)]
+fn cut_units(bytes: &[u8], places: u8) -> Result<i64, DecimalFault>
+    requires { places ≤ 18 }
+    ensures means { Reads places bytes.now result }
+    ensures is { result ≡ units_of places bytes.now }
+{
+    let found = decimal(bytes)?;
+    units(&found, places)
+}
+
 /// The number of units of `10^-places` that the decimal's value is.
 pub fn read(bytes: &[u8], places: u8) -> Result<i64, DecimalFault>
     requires { places ≤ 18 }
@@ -57,11 +69,10 @@ pub fn read(bytes: &[u8], places: u8) -> Result<i64, DecimalFault>
     // The same as a function of the text.
     ensures is { result ≡ units_of places bytes.now }
 {
-    if let Some(units) = plain_units(bytes, places) {
-        return Ok(units);
+    match plain_units(bytes, places) {
+        Some(units) => Ok(units),
+        None => cut_units(bytes, places),
     }
-    let found = decimal(bytes)?;
-    units(&found, places)
 }
 
 /// The sign of the decimal's value; only `BadNumber` and `NotFinite` come.

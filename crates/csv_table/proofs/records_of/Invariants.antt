@@ -1,4 +1,4 @@
-use Rattle.std.proofs.Common.{◌≡◌, ◌<◌, ℕ, List, Some, true}
+use Rattle.std.proofs.Common.{◌≡◌, ℕ, List, Some, true}
 use Rattle.csv.specs.Reading.{default_config, is_flexible, source_of, strip_bom, Reached, Ready}
 use Rattle.csv.specs.declared.parser.State.TheVariants as st
 use Rattle.csv.specs.declared.reader.Trim.TheVariants as trim
@@ -7,9 +7,9 @@ use Rattle.csv_table.proofs.records_of.Given as goal
 
 -- the records so far are the records up to where the reader stands, and the reader is as it was set up: it trims nothing, takes no
 -- record for a header, and lets records of any width by
-abbrev pub invariant-loop-item : goal.invariant-loop-item
-invariant-loop-item l = (l.item-iterator.rdr.trim ≡ trim.None) × Ready l.item-iterator.rdr × (0 < l.item-iterator.left) × (l.item-iterator.rdr.config ≡ default_config)
-    × (left : List ℕ) × (source_of (λ rest. Some rest.now) l.item-iterator.rdr ≡ Some left)
-    × Reached default_config st.StartRecord (strip_bom l.fn.bytes) (records_in l.records) l.item-iterator.rdr.state left
-    × (is_flexible l.item-iterator.rdr ≡ true)
+abbrev pub invariant-rows : goal.invariant-rows
+invariant-rows l = (l.reader.trim ≡ trim.None) × Ready l.reader × (l.reader.config ≡ default_config)
+    × (left : List ℕ) × (source_of (λ rest. Some rest.now) l.reader ≡ Some left)
+    × Reached default_config st.StartRecord (strip_bom l.fn.bytes) (records_in l.records) l.reader.state left
+    × (is_flexible l.reader ≡ true)
     × IsFlat l.records

@@ -9,7 +9,7 @@ pub loop-line-preserved : goal.loop-line-preserved
 loop-line-preserved g c =
     let d : NetBranch = record { row = 0; from = 0; to = 0; base = None; post = None; shifted = false } in
     record {
-      small = c.in_ok-push_factors.ensures.small;
+      small = c.in_ok-place.ensures.small;
       are = flat-step (λ (line : ℕ × NetBranch). factors_of_line (λ (other : g.row.T.Denot). market_factor (factor_at c.args.table.now (line.1.row, g.T.Named.name other))) line.0 c.args.others.now) c.args.branches.now c.loop-line.line d
-          _ c.loop-line.factors c.push_factors.new.factors c.loop-line-test.true c.in_ok-push_factors.ensures.are c.loop-line.invariant.are;
+          _ c.loop-line.factors c.push_factors.new.factors c.loop-line-test.true c.in_ok-place.ensures.are c.loop-line.invariant.are;
     }

@@ -1,4 +1,6 @@
-use Rattle.std.proofs.Common.{◌≡◌, ◌++◌, ◌∙◌, ap, ℕ, ℤ, List, get_or}
+use Rattle.std.proofs.Common.{◌≡◌, ◌<◌, ◌^◌, ◌++◌, ◌∙◌, ap, arith, ℕ, ℤ, List, get_or}
+use Rattle.std.specs.Prelude.{unsigned_abs}
+use Rattle.market_data.proofs.Data.{datum_fits}
 use Rattle.std.proofs.lemmas.Int.{to_z-of_z}
 use mir.Syntax.{w64}
 use mir.Val.{to_z, of_z}
@@ -19,8 +21,10 @@ loop-of-preserved g c =
     let known : to_z w64 (of_z w64 c.market_factor-value.result) ≡ c.market_factor-value.result = to_z-of_z w64 c.market_factor-value.result (record { sfits = c.market_factor-value.type_inv }) in
     let pushed : c.push_factor.new.factors ≡ c.loop-of.factors ++ unless_0 (with (to_z w64 (of_z w64 c.market_factor-value.result))) = c.in_ok-push_factor.ensures in
     let more : c.push_factor.new.factors ≡ c.loop-of.factors ++ unless_0 factor = pushed ∙ ap (λ v. c.loop-of.factors ++ unless_0 (with v)) known in
-    let read : to_z w64 (of_z w64 c.factor.result) ≡ c.factor.result = to_z-of_z w64 c.factor.result (record { sfits = c.factor.type_inv }) in
-    let is : factor ≡ at (i, get_or others i d) = ap with (c.market_factor-value.ensures.is ∙ ap market_factor (read ∙ c.factor.ensures.is) ∙ ap (λ n. market_factor (factor_at c.args.table.now (c.args.row, n))) (c.name.ensures ∙ ap g.T.Named.name c.index-others-of.is)) in
+    let value = c.factor_near-factor.result.0 in
+    let datum : unsigned_abs value < 2 ^ 63 = omega (arith, c.factor_near-factor.ensures.size) in
+    let read : to_z w64 (of_z w64 value) ≡ value = to_z-of_z w64 value (datum_fits value datum) in
+    let is : factor ≡ at (i, get_or others i d) = ap with (c.market_factor-value.ensures.is ∙ ap market_factor (read ∙ c.factor_near-factor.ensures.is) ∙ ap (λ n. market_factor (factor_at c.args.table.now (c.args.row, n))) (c.name.ensures ∙ ap g.T.Named.name c.index-others-of.is)) in
     record {
       small = small-more c.loop-of.factors c.push_factor.new.factors factor c.loop-of.invariant.small c.market_factor-value.ensures.size more;
       are = flat-step (λ other. unless_0 (at other)) others i d _ c.loop-of.factors c.push_factor.new.factors c.loop-of-test.true (more ∙ ap (λ f. c.loop-of.factors ++ unless_0 f) is) c.loop-of.invariant.are;

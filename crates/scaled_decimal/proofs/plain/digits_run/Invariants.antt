@@ -1,4 +1,4 @@
-use Rattle.std.proofs.Common.{◌≡◌, ◌<◌, ◌+◌, ◌-◌, ◌^◌, length, take}
+use Rattle.std.proofs.Common.{ℕ, ◌≡◌, ◌<◌, ◌+◌, ◌-◌, ◌^◌, length, take}
 use Rattle.std.specs.Char.{is_ascii_digit}
 use Rattle.std.specs.List.{AllPass}
 use Rattle.std.specs.Str.Parse.{digits_value_after}
@@ -10,4 +10,5 @@ invariant-loop-byte l = record {
   digits : AllPass is_ascii_digit (take l.byte-index l.bytes);
   number : l.number ≡ digits_value_after 10 l.fn.front (take l.byte-index l.bytes);
   low : l.number < 10 ^ (19 - length l.bytes + l.byte-index);
+  size : (k : ℕ) → l.fn.front < 10 ^ k → l.number < 10 ^ (k + l.byte-index);
 }

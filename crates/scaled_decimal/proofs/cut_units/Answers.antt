@@ -3,7 +3,7 @@ use Rattle.std.proofs.lemmas.Result.{err_from_is_err_and}
 use Rattle.scaled_decimal.specs.Reading.{Reads}
 use Rattle.scaled_decimal.specs.View.{view}
 use Rattle.scaled_decimal.proofs.ReadingLaws.{units_of-Some, units_of-None, Reads-units_of}
-use Rattle.scaled_decimal.proofs.read.Goals as goal
+use Rattle.scaled_decimal.proofs.cut_units.Goals as goal
 
 pub returns-in_err-found-clause-is : goal.returns-in_err-found-clause-is
 returns-in_err-found-clause-is c =
