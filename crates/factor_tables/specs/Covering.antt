@@ -12,16 +12,16 @@ use Rattle.factor_tables.specs.Factors.{Entry, has_branch, has_outage}
 abbrev pub is_listed : List ℕ → ℕ → Bool
 is_listed outages row = list_any (λ outage. outage == row) outages
 
--- a base limit, an outage of its own, or a post-outage limit while some outage is listed
-unfoldable pub needs_shift : List ℕ → NetBranch → Bool
-needs_shift outages branch = is_some branch.base || is_listed outages branch.row || (is_some branch.post && nat_lt 0 (length outages))
+-- a base limit, an outage of its own, or a post-outage limit while some outage is listed, of a branch or of a unit
+unfoldable pub needs_shift : List ℕ → Bool → NetBranch → Bool
+needs_shift outages units branch = is_some branch.base || is_listed outages branch.row || (is_some branch.post && (nat_lt 0 (length outages) || units))
 
 -- a branch that needs a record in the shift table and has none
-abbrev pub lacks_shift : List Entry → List ℕ → NetBranch → Bool
-lacks_shift shift outages branch = needs_shift outages branch && not (has_branch shift branch.row)
+abbrev pub lacks_shift : List Entry → List ℕ → Bool → NetBranch → Bool
+lacks_shift shift outages units branch = needs_shift outages units branch && not (has_branch shift branch.row)
 
 -- the first live branch that lacks a record in the shift table, and else the first outage that has none in the outage table
-unfoldable pub cover_of : LiveNetwork → List Entry → List Entry → List ℕ → Result (Unit {0}) Uncovered
-cover_of network shift loss outages =
-    option_map_or (λ branch. Err (uncovered.NoShift branch.row)) (find (lacks_shift shift outages) network.branches)
+unfoldable pub cover_of : LiveNetwork → List Entry → List Entry → List ℕ → Bool → Result (Unit {0}) Uncovered
+cover_of network shift loss outages units =
+    option_map_or (λ branch. Err (uncovered.NoShift branch.row)) (find (lacks_shift shift outages units) network.branches)
     (option_map_or (λ outage. Err (uncovered.NoLoss outage)) (find (λ outage. not (has_outage loss outage)) outages) (Ok tt))

@@ -19,27 +19,27 @@ pub enum Uncovered {
 
 /// Whether a branch has to have a record in the shift table.
 #[tactic(auto, unfolding(crate::specs::Covering::needs_shift))]
-fn needs_shift(branch: &NetBranch, outages: &[u32]) -> bool
-    ensures { result ≡ needs_shift outages.now branch.now }
+fn needs_shift(branch: &NetBranch, outages: &[u32], units: bool) -> bool
+    ensures { result ≡ needs_shift outages.now units branch.now }
 {
     branch.base.is_some()
         || outages.contains(&branch.row)
-        || (branch.post.is_some() && !outages.is_empty())
+        || (branch.post.is_some() && (!outages.is_empty() || units))
 }
 
 /// Whether a branch has to have a record in the shift table and has none.
-fn lacks_shift(shift: &Shift, branch: &NetBranch, outages: &[u32]) -> bool
-    ensures { result ≡ lacks_shift shift.now outages.now branch.now }
+fn lacks_shift(shift: &Shift, branch: &NetBranch, outages: &[u32], units: bool) -> bool
+    ensures { result ≡ lacks_shift shift.now outages.now units branch.now }
 {
-    needs_shift(branch, outages) && !shift.has(branch.row)
+    needs_shift(branch, outages, units) && !shift.has(branch.row)
 }
 
 /// The row of the first branch that has to have a record in the shift table and has none.
-fn without_shift(branches: &[NetBranch], shift: &Shift, outages: &[u32]) -> Option<u32>
-    ensures { result ≡ option_map (λ branch. branch.row) (find (lacks_shift shift.now outages.now) branches.now) }
+fn without_shift(branches: &[NetBranch], shift: &Shift, outages: &[u32], units: bool) -> Option<u32>
+    ensures { result ≡ option_map (λ branch. branch.row) (find (lacks_shift shift.now outages.now units) branches.now) }
 {
     for branch in branches {
-        if lacks_shift(shift, branch, outages) {
+        if lacks_shift(shift, branch, outages, units) {
             return Some(branch.row);
         }
     }
@@ -59,17 +59,20 @@ fn without_loss(loss: &Loss, outages: &[u32]) -> Option<u32>
 }
 
 /// Whether each live branch that needs a record in the shift table has one, and each outage of the list one in the outage table. A
-/// branch needs one where it has a base limit, where it is listed, and where it has a post-outage limit and some outage is listed.
+/// branch needs one where it has a base limit, where it is listed, and where it has a post-outage limit and some outage is listed;
+/// `units` tells whether one of a unit is.
 #[tactic(auto, unfolding(crate::specs::Covering::cover_of))]
 pub fn cover(
     network: &Network,
     shift: &Shift,
     loss: &Loss,
     outages: &[u32],
+    units: bool,
 ) -> Result<(), Uncovered>
-    ensures { result ≡ cover_of network.now shift.now loss.now outages.now }
+    ensures { result ≡ cover_of network.now shift.now loss.now outages.now units }
 {
-    if let Some(branch) = without_shift(network.branches().slice(), shift, outages) {
+    let branches = network.branches().slice();
+    if let Some(branch) = without_shift(branches, shift, outages, units) {
         return Err(Uncovered::NoShift { branch });
     }
     if let Some(branch) = without_loss(loss, outages) {

@@ -1,5 +1,5 @@
 -- Outages, one more of them, and the first number at fault.
-use Rattle.std.proofs.Common.{◌≡◌, ◌≢◌, ◌≤◌, ◌<◌, ◌+◌, ◌∷◌, ◌++◌, ℕ, zero, suc, ℤ, pos, negsuc, List, [], Bool, true, false, Option, Some, None, Err, length, map, get_or, refl, sym, arith, ◌∙◌, length-append}
+use Rattle.std.proofs.Common.{◌≡◌, ◌≢◌, ◌<◌, ◌+◌, ◌∷◌, ◌++◌, ℕ, zero, suc, ℤ, pos, negsuc, List, [], Bool, true, false, Option, Some, None, Err, length, map, get_or, refl, sym, arith, ◌∙◌, length-append}
 use Rattle.std.specs.Prelude.{◌≤ℤ◌, ◌==◌, ◌||◌, unsigned_abs, is_some, position, AllPairs, Contains}
 use Rattle.std.specs.List.{list_any}
 use Rattle.std.proofs.lemmas.Bool.{eqb-true, eq-eqb, cases_lt}
@@ -62,7 +62,7 @@ pub island-side : (network : LiveNetwork) (row : ℕ) (side : List ℕ) → (bra
 island-side network row side (branch, live, (islands, is, off)) = record { branch = branch; live = live; islands = islands; side = is; off = off }
 
 -- ---- one outage more
-apart-push : (rows : List ℕ) (row : ℕ) → AllPairs (λ a b. a ≢ b) rows → ¬ Contains rows row → AllPairs (λ a b. a ≢ b) (rows ++ row ∷ [])
+pub apart-push : (rows : List ℕ) (row : ℕ) → AllPairs (λ a b. a ≢ b) rows → ¬ Contains rows row → AllPairs (λ a b. a ≢ b) (rows ++ row ∷ [])
 apart-push rows row apart new i j d lt within same =
     let size : length (rows ++ row ∷ []) ≡ length rows + 1 = length-append rows (row ∷ []) in
     let early : i < length rows = omega (arith, lt, within, size) in

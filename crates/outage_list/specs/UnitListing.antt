@@ -1,5 +1,5 @@
 -- What the table of outages of units stands for: the outages, each with what is picked up then, or the first fault.
-use Rattle.std.specs.Prelude.{ℕ, ◌==◌, not, ℤ, pos, Bool, List, [], ◌∷◌, ◌++◌, map, codes, position, slice_get, unwrap_or, if◌then◌else◌, option_map, Some, Result, Ok, Err}
+use Rattle.std.specs.Prelude.{ℕ, ◌==◌, not, ℤ, pos, Bool, List, [], ◌∷◌, ◌++◌, map, codes, position, slice_get, unwrap_or, if◌then◌else◌, Some, Result, Ok, Err}
 use Rattle.std.specs.List.{find, list_any}
 use Rattle.std.specs.Option.{option_map_or}
 use Rattle.std.specs.Ordering.{int_eq}

@@ -115,11 +115,7 @@ fn are_live(network: &Network, numbers: TakerRecord) -> bool
 
 /// Refuses a record that names no two live units, or has no share.
 #[tactic(auto, unfolding(crate::specs::Takings::taking_faults))]
-fn check_taking(
-    network: &Network,
-    numbers: TakerRecord,
-    line: usize,
-) -> Result<(), UnitOutageFault>
+fn check_taking(network: &Network, numbers: TakerRecord, line: usize) -> Result<(), UnitOutageFault>
     ensures live { IfOk result (λ _. are_live network.now numbers ≡ true) }
     ensures share { IfOk result (λ _. pos 0 <ℤ numbers.share) }
     ensures is { result ≡ checked (taking_faults network.now line numbers) fine }
@@ -143,8 +139,7 @@ fn check_taking(
 fn stands(done: &[Taking], taking: Taking) -> bool
     ensures { result ≡ stands done.now taking }
 {
-    done.iter()
-        .any(|other| other.lost == taking.lost && other.taker == taking.taker)
+    done.iter().any(|other| other.lost == taking.lost && other.taker == taking.taker)
 }
 
 /// What a record says, in the light of those before it.

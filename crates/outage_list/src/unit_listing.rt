@@ -151,6 +151,7 @@ fn listed_by(
     ensures kept { IfOk result (λ outages. AreUnitOutages (length network.now.units) outages.lost outages.pickups) }
     ensures is { result ≢ Err UnitOutageFault.Memory → result ≡ listed_by network.now takings.now }
 {
+    let _units = network.units();
     let lost = lost_units(alloc, takings)?;
     if let Some(unit) = uneven(takings, lost.slice()) {
         return Err(UnitOutageFault::ShareSum {

@@ -1,4 +1,4 @@
-use Rattle.std.proofs.Common.{arith, ◌<◌, ◌≤◌, ◌+◌, ◌∙◌, [], sym, ap, drop, length, pos}
+use Rattle.std.proofs.Common.{arith, ◌<◌, ◌≤◌, ◌+◌, ◌∙◌, sym, ap, drop, length, pos}
 use Rattle.outage_list.specs.UnitListing.{with_lost}
 use Rattle.outage_list.proofs.UnitLemmas.{lost-end, lost-step}
 use Rattle.outage_list.proofs.unit_listing.lost_units.Goals as goal

@@ -1,0 +1,156 @@
+-- The outages of units that records list are those of a market.
+use Rattle.std.proofs.Common.{◌≡◌, ◌≢◌, ◌<◌, ◌≤◌, ◌*◌, ◌∷◌, ◌++◌, ◌∙◌, ℕ, zero, suc, ℤ, pos, List, [], Bool, true, false, All, None, Some, length, map, get_or, refl, sym, ap, subst, arith, w64}
+use Rattle.std.specs.Prelude.{◌==◌, ◌≤ℤ◌, AllPairs, cond, nat_lt, unwrap_or, if◌then◌else◌}
+use Rattle.std.specs.List.{find, list_any, position_or_len}
+use mir.Val.{to_z, of_z}
+use Rattle.std.proofs.lemmas.Bool.{eq-eqb, eqb-true, ltb-true, not-false}
+use Rattle.std.proofs.lemmas.Bool.Decides.{Decides-eqb, Decides-int_eq}
+use Rattle.std.proofs.lemmas.Int.{ints}
+use Rattle.std.proofs.lemmas.List.{length-map}
+use Rattle.std.proofs.lemmas.List.Elements.{All-append, All-cons, All-contains, All-map, All-nil, All-tail}
+use Rattle.std.proofs.lemmas.List.Folds.{Any-from_list_any, list_any-append}
+use Rattle.std.proofs.lemmas.Map.Made.{IsDistinct-from_AllPairs}
+use Rattle.std.proofs.lemmas.Map.Steps.{length-le_from_distinct_below}
+use Rattle.market_data.specs.Scales.{factor_one}
+use Rattle.market_data.specs.WholeSums.{int_sum}
+use Rattle.market_model.specs.Market.{AreUnitOutages, IsPickup}
+use Rattle.outage_list.specs.declared.takings.Taking.{Taking}
+use Rattle.outage_list.specs.Takings.{IsTaking}
+use Rattle.outage_list.specs.UnitListing.{is_uneven, lost_units, outage_of, pickup_of, share_in, share_sum, with_lost, with_unit}
+use Rattle.outage_list.proofs.ListingLemmas.{among, apart-push, not_among}
+use Rattle.outage_list.proofs.UnitLemmas.{exact, share-range}
+
+-- ---- the units that are lost are units, none twice
+record AreLost (units : ℕ) (us : List ℕ) : Type 0 where
+  each : All (λ u. u < units) us
+  once : AllPairs (λ a b. a ≢ b) us
+
+lost-more : (units : ℕ) (us : List ℕ) (u : ℕ) → AreLost units us → u < units → AreLost units (with_unit us u)
+lost-more units us u are lt = by (list_any (λ v. v == u) us) refl
+  where
+    by : (b : Bool) → list_any (λ v. v == u) us ≡ b → AreLost units (if b then us else us ++ u ∷ [])
+    by true e = are
+    by false e = record {
+      each = All-append (λ v. v < units) us (u ∷ []) are.each (All-cons (λ v. v < units) u [] lt (All-nil _));
+      once = apart-push us u are.once (not_among us u e);
+    }
+
+all-lost : (units : ℕ) (us : List ℕ) (ts : List Taking) → AreLost units us → All (IsTaking units) ts → AreLost units (with_lost us ts)
+unfolding with_lost
+all-lost units us [] are all = are
+all-lost units us (t ∷ ts) are all = all-lost units (with_unit us t.lost) ts (lost-more units us t.lost are (all 0 t (omega arith)).lost) (All-tail (IsTaking units) t ts all)
+
+-- ---- each unit that a record loses is among them
+has-more : (us : List ℕ) (u v : ℕ) → list_any (λ w. w == v) us ≡ true → list_any (λ w. w == v) (with_unit us u) ≡ true
+has-more us u v h = by (list_any (λ w. w == u) us)
+  where
+    by : (b : Bool) → list_any (λ w. w == v) (if b then us else us ++ u ∷ []) ≡ true
+    by true = h
+    by false = list_any-append (λ w. w == v) us (u ∷ []) ∙ rw h refl
+
+has-it : (us : List ℕ) (u : ℕ) → list_any (λ w. w == u) (with_unit us u) ≡ true
+has-it us u = by (list_any (λ w. w == u) us) refl
+  where
+    by : (b : Bool) → list_any (λ w. w == u) us ≡ b → list_any (λ w. w == u) (if b then us else us ++ u ∷ []) ≡ true
+    by true e = e
+    by false e = let it = eq-eqb u u refl in list_any-append (λ w. w == u) us (u ∷ []) ∙ rw (e, it) refl
+
+has-kept : (us : List ℕ) (ts : List Taking) (v : ℕ) → list_any (λ w. w == v) us ≡ true → list_any (λ w. w == v) (with_lost us ts) ≡ true
+unfolding with_lost
+has-kept us [] v h = h
+has-kept us (t ∷ ts) v h = has-kept (with_unit us t.lost) ts v (has-more us t.lost v h)
+
+has-lost : (us : List ℕ) (ts : List Taking) (k : ℕ) (d : Taking) → k < length ts → list_any (λ w. w == (get_or ts k d).lost) (with_lost us ts) ≡ true
+unfolding with_lost
+has-lost us [] k d lt = absurd (omega (arith, lt))
+has-lost us (t ∷ ts) zero d lt = has-kept (with_unit us t.lost) ts t.lost (has-it us t.lost)
+has-lost us (t ∷ ts) (suc k) d lt = has-lost (with_unit us t.lost) ts k d (omega (arith, lt))
+
+some-long : (us : List ℕ) (u : ℕ) → list_any (λ v. v == u) us ≡ true → 0 < length us
+some-long [] u found = cc
+some-long (v ∷ us) u found = omega arith
+
+outage-range : (us : List ℕ) (u : ℕ) → list_any (λ v. v == u) us ≡ true → outage_of us u < length us
+outage-range us u found = by (nat_lt (position_or_len (λ v. v == u) us) (length us)) refl
+  where
+    by : (b : Bool) → nat_lt (position_or_len (λ v. v == u) us) (length us) ≡ b → unwrap_or (cond b (Some (position_or_len (λ v. v == u) us)) None) 0 < length us
+    by true e = ltb-true _ _ e
+    by false e = some-long us u found
+
+few-lost : (units : ℕ) (us : List ℕ) → AreLost units us → length us ≤ units
+few-lost units us are =
+    length-le_from_distinct_below us units (IsDistinct-from_AllPairs Decides-eqb us are.once) (λ q found.
+    let (k, y, lt, at, passes) = Any-from_list_any (λ y. q == y) us found in
+    let same : q ≡ y = eqb-true q y passes in
+    subst (λ (n : ℕ). n < units) (sym same) (All-contains (λ u. u < units) us y are.each (k, lt, at)))
+
+-- ---- what is picked up
+sum-least : (units u : ℕ) (ts : List Taking) → All (IsTaking units) ts → pos 0 ≤ℤ int_sum (share_in u) ts
+sum-least units u [] all = omega (arith, ints)
+sum-least units u (t ∷ ts) all =
+    let first = share-range units u t (all 0 t (omega arith)) in
+    let rest = sum-least units u ts (All-tail (IsTaking units) t ts all) in
+    omega (arith, ints, first.0, rest)
+
+sum-most : (units u : ℕ) (ts : List Taking) → All (IsTaking units) ts → int_sum (share_in u) ts ≤ℤ pos (length ts * 1000000000)
+sum-most units u [] all = omega (arith, ints)
+sum-most units u (t ∷ ts) all =
+    let first = share-range units u t (all 0 t (omega arith)) in
+    let rest = sum-most units u ts (All-tail (IsTaking units) t ts all) in
+    omega (arith, ints, first.1, rest)
+
+-- the sum is a machine number
+pub sum-exact : (units u : ℕ) (ts : List Taking) (s : ℤ) → All (IsTaking units) ts → length ts ≤ 5000 → s ≡ share_sum ts u → to_z w64 (of_z w64 s) ≡ share_sum ts u
+sum-exact units u ts s all few is =
+    ap (λ z. to_z w64 (of_z w64 z)) is ∙ exact (share_sum ts u) (sum-least units u ts all) (omega (arith, ints, sum-most units u ts all, few))
+
+-- a share is at most the sum of those of its outage
+share-le : (units : ℕ) (ts : List Taking) (k : ℕ) (d : Taking) → All (IsTaking units) ts → k < length ts → (get_or ts k d).share ≤ℤ share_sum ts (get_or ts k d).lost
+share-le units [] k d all lt = absurd (omega (arith, lt))
+share-le units (t ∷ ts) zero d all lt =
+    let rest = sum-least units t.lost ts (All-tail (IsTaking units) t ts all) in
+    let it = eq-eqb t.lost t.lost refl in
+    let here : share_in t.lost t ≡ t.share = rw it refl in
+    omega (arith, ints, rest, here)
+share-le units (t ∷ ts) (suc k) d all lt =
+    let first = share-range units (get_or ts k d).lost t (all 0 t (omega arith)) in
+    let rest = share-le units ts k d (All-tail (IsTaking units) t ts all) (omega (arith, lt)) in
+    omega (arith, ints, first.0, rest)
+
+-- where none passes, each fails
+none-all : {X : Type 0} (test : X → Bool) (xs : List X) → find test xs ≡ None → All (λ x. test x ≡ false) xs
+none-all test [] e = All-nil _
+none-all {X} test (x ∷ xs) e = by (none-all test xs) (test x) refl
+  where
+    by : (find test xs ≡ None → All (λ (y : X). test y ≡ false) xs) → (b : Bool) → test x ≡ b → All (λ (y : X). test y ≡ false) (x ∷ xs)
+    by rest true h = let found : ◌≡◌ (Some x) None = rw h at e in cc
+    by rest false h = All-cons (λ (y : X). test y ≡ false) x xs h (rest (rw h at e))
+
+whole-sum : (ts : List Taking) (u : ℕ) → is_uneven ts u ≡ false → share_sum ts u ≡ pos factor_one
+whole-sum ts u even = (Decides-int_eq (share_sum ts u) (pos factor_one)).0 (not-false _ even)
+
+-- ---- the outages that are listed
+module _ (units : ℕ) (ts : List Taking) (most : units ≤ 1000) (few : length ts ≤ 5000) (all : All (IsTaking units) ts) (even : find (is_uneven ts) (lost_units ts) ≡ None) where
+  lost-are : AreLost units (lost_units ts)
+  lost-are = all-lost units [] ts (record { each = All-nil _; once = λ i j d lt within. absurd (omega (arith, within)) }) all
+
+  pickup-is : (k : ℕ) (d : Taking) → k < length ts → IsPickup (length (lost_units ts)) units (pickup_of (lost_units ts) (get_or ts k d))
+  pickup-is k d lt =
+      let t = get_or ts k d in
+      let has = has-lost [] ts k d lt in
+      let sum = whole-sum ts t.lost (All-contains (λ u. is_uneven ts u ≡ false) (lost_units ts) t.lost (none-all (is_uneven ts) (lost_units ts) even) (among (lost_units ts) t.lost has)) in
+      record {
+        outage = outage-range (lost_units ts) t.lost has;
+        taker = (all k d lt).taker;
+        above = (all k d lt).above;
+        most = subst (λ z. t.share ≤ℤ z) sum (share-le units ts k d all lt);
+      }
+
+  pub outages-kept : AreUnitOutages units (lost_units ts) (map (pickup_of (lost_units ts)) ts)
+  outages-kept = record {
+    count = omega (arith, most, few-lost units (lost_units ts) lost-are);
+    each = lost-are.each;
+    distinct = lost-are.once;
+    record_count = omega (arith, few, length-map ts (pickup_of (lost_units ts)));
+    pickups = All-map (IsPickup (length (lost_units ts)) units) (pickup_of (lost_units ts)) ts pickup-is;
+  }
