@@ -17,6 +17,7 @@ module _ {T U : Type 0} (R : T → U → Type 0) (once : (t : T) (x y : U) → R
   pub same-tables : (a : MarketTables T T) (b c : MarketTables U U) → EachOf R a b → EachOf R a c → b ≡ c
   same-tables a b c h k = λ i. record {
     grid = same-grid a.grid b.grid c.grid h.grid k.grid i;
+    unit_outages = once a.unit_outages b.unit_outages c.unit_outages h.unit_outages k.unit_outages i;
     offers = once a.offers b.offers c.offers h.offers k.offers i;
     offsets = once a.offsets b.offsets c.offsets h.offsets k.offsets i;
     penalties = once a.penalties b.penalties c.penalties h.penalties k.penalties i;
@@ -50,11 +51,12 @@ module _ {T U V : Type 0} (R : T → U → Type 0) (P : T → V → Type 0) (Q :
   pub found-tables : (a : MarketTables T T) (b : MarketTables U U) → EachOf R a b → Found P Q a b
   found-tables a b h =
       let grid = found-grid a.grid b.grid h.grid in
+      let unit_outages = one a.unit_outages b.unit_outages h.unit_outages in
       let offers = one a.offers b.offers h.offers in
       let offsets = one a.offsets b.offsets h.offsets in
       let penalties = one a.penalties b.penalties h.penalties in
       record {
-        found = record { grid = grid.found; offers = offers.0; offsets = offsets.0; penalties = penalties.0 };
-        first = record { grid = grid.first; offers = offers.1; offsets = offsets.1; penalties = penalties.1 };
-        second = record { grid = grid.second; offers = offers.2; offsets = offsets.2; penalties = penalties.2 };
+        found = record { grid = grid.found; unit_outages = unit_outages.0; offers = offers.0; offsets = offsets.0; penalties = penalties.0 };
+        first = record { grid = grid.first; unit_outages = unit_outages.1; offers = offers.1; offsets = offsets.1; penalties = penalties.1 };
+        second = record { grid = grid.second; unit_outages = unit_outages.2; offers = offers.2; offsets = offsets.2; penalties = penalties.2 };
       }

@@ -20,6 +20,8 @@ pub struct GridTables<T, O = T> {
 #[derive(Clone, Copy, Debug, Drop)]
 pub struct MarketTables<T, O = T> {
     pub grid: GridTables<T, O>,
+    /// The units whose loss the market is to stand, with the shares of those that pick up their output.
+    pub unit_outages: O,
     pub offers: T,
     /// The flows that phase shift angles cause.
     pub offsets: O,
@@ -48,6 +50,7 @@ impl MarketTables<Vec<u8>> {
     {
         MarketTables {
             grid: self.grid.as_slices(),
+            unit_outages: self.unit_outages.as_slice(),
             offers: self.offers.as_slice(),
             offsets: self.offsets.as_slice(),
             penalties: self.penalties.as_slice(),
