@@ -112,8 +112,8 @@ abbrev pool_rules : List Rule
 pool_rules = file (codes "case") ∷ file (codes "offers") ∷ filled help_rule ∷ []
 
 abbrev market_rules : List Rule → List Rule
-market_rules more = file (codes "case") ∷ file (codes "ptdf") ∷ file (codes "offers") ∷ table (codes "lodf") ∷ table (codes "contingencies") ∷ table (codes "offsets")
-    ∷ table (codes "penalties")
+market_rules more = file (codes "case") ∷ file (codes "ptdf") ∷ file (codes "offers") ∷ table (codes "lodf") ∷ table (codes "contingencies")
+    ∷ table (codes "unit-outages") ∷ table (codes "offsets") ∷ table (codes "penalties")
     ∷ filled (choice_rule (codes "post-rating") (spelled rating_words)) ∷ more
 
 abbrev clear_rules : List Rule
@@ -163,7 +163,7 @@ make-has = refl
 
 market-ones : (more : List Rule) → Each TakesOne more → Each TakesOne (market_rules more)
 market-ones more ones =
-    (one-value, (one-value, (one-value, (one-value, (one-value, (one-value, (one-value, (one-value, ones))))))))
+    (one-value, (one-value, (one-value, (one-value, (one-value, (one-value, (one-value, (one-value, (one-value, ones)))))))))
 
 check-ones : Each TakesOne check_rules
 check-ones = (one-value, (one-value, (one-value, (one-value, (one-help, tt)))))
@@ -193,7 +193,7 @@ replay-given words rows enters =
     let ones = market-ones (file (codes "edits") ∷ table (codes "certificate") ∷ filled help_rule ∷ []) (one-value, (one-value, (one-help, tt))) in
     let given : (a : Rule) → Among (λ b. b ≡ a) replay_rules → a.required ≡ true → is_some (first_of a.id rows) ≡ true =
     λ a among required. is-some replay_rules a.id rows (leaf-given words (codes "replay") rows replay_rules a replay-has ones enters among required) in
-    let edits = given (file (codes "edits")) (inr (inr (inr (inr (inr (inr (inr (inr (inl refl))))))))) refl in
+    let edits = given (file (codes "edits")) (inr (inr (inr (inr (inr (inr (inr (inr (inr (inl refl)))))))))) refl in
     (given (file (codes "case")) (inl refl) refl, (given (file (codes "ptdf")) (inr (inl refl)) refl, (given (file (codes "offers")) (inr (inr (inl refl))) refl, (edits, tt))))
 
 pub verify-given : (words : List Text) (rows : List Row) → Enters words (codes "verify") rows → AreGiven (codes "case" ∷ codes "ptdf" ∷ codes "offers" ∷ codes "certificate" ∷ []) rows
@@ -201,7 +201,7 @@ verify-given words rows enters =
     let ones = market-ones (table (codes "edits") ∷ file (codes "certificate") ∷ filled help_rule ∷ []) (one-value, (one-value, (one-help, tt))) in
     let given : (a : Rule) → Among (λ b. b ≡ a) verify_rules → a.required ≡ true → is_some (first_of a.id rows) ≡ true =
     λ a among required. is-some verify_rules a.id rows (leaf-given words (codes "verify") rows verify_rules a verify-has ones enters among required) in
-    let certificate = given (file (codes "certificate")) (inr (inr (inr (inr (inr (inr (inr (inr (inr (inl refl)))))))))) refl in
+    let certificate = given (file (codes "certificate")) (inr (inr (inr (inr (inr (inr (inr (inr (inr (inr (inl refl))))))))))) refl in
     (given (file (codes "case")) (inl refl) refl, (given (file (codes "ptdf")) (inr (inl refl)) refl, (given (file (codes "offers")) (inr (inr (inl refl))) refl, (certificate, tt))))
 
 pub check-given : (words : List Text) (rows : List Row) → Enters words (codes "check") rows → AreGiven (codes "case" ∷ codes "ptdf" ∷ []) rows

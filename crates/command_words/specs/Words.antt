@@ -62,9 +62,10 @@ pool_app = with_file (with_file (new_app (codes "pool")) (codes "case")) (codes 
 abbrev pub with_needed : App → App
 with_needed a = with_file (with_file (with_file a (codes "case")) (codes "ptdf")) (codes "offers")
 
--- and where they are named `--lodf FILE`, `--contingencies FILE`, `--offsets FILE`, `--penalties FILE` and `--post-rating LETTER`
+-- and where they are named `--lodf FILE`, `--contingencies FILE`, `--unit-outages FILE`, `--offsets FILE`, `--penalties FILE` and `--post-rating LETTER`
 abbrev pub with_market : App → NameList → App
-with_market a ratings = with_rule (with_table (with_table (with_table (with_table (with_needed a) (codes "lodf")) (codes "contingencies")) (codes "offsets")) (codes "penalties"))
+with_market a ratings = with_rule (with_table (with_table (with_table (with_table (with_table (with_needed a) (codes "lodf")) (codes "contingencies")) (codes "unit-outages")) (codes "offsets"))
+    (codes "penalties"))
     (choice_rule (codes "post-rating") ratings)
 
 -- `clear` with the files of a market, and where it is named `--certificate FILE`
@@ -166,6 +167,7 @@ abbrev pub market_names : List Row → MarketNames
 market_names rows = record {
   tables = record {
     grid = check_names rows;
+    unit_outages = first_of (codes "unit-outages") rows;
     offers = file_of (codes "offers") rows;
     offsets = first_of (codes "offsets") rows;
     penalties = first_of (codes "penalties") rows;
@@ -254,7 +256,8 @@ IsCheckFile names file = (file ≡ names.case) ⊎ (file ≡ names.ptdf) ⊎ (na
 
 -- this is a file of the market of these names
 abbrev pub IsMarketFile : MarketNames → Text → Type 0
-IsMarketFile names file = IsCheckFile names.tables.grid file ⊎ (file ≡ names.tables.offers) ⊎ (names.tables.offsets ≡ Some file) ⊎ (names.tables.penalties ≡ Some file)
+IsMarketFile names file = IsCheckFile names.tables.grid file ⊎ (names.tables.unit_outages ≡ Some file) ⊎ (file ≡ names.tables.offers)
+    ⊎ (names.tables.offsets ≡ Some file) ⊎ (names.tables.penalties ≡ Some file)
 
 -- `replay` reads this file, of those of the market and the edits
 abbrev pub IsReplayFile : MarketNames → Text → Text → Type 0

@@ -19,6 +19,8 @@ const LODF: &str = "The table of outage factors";
 
 const CONTINGENCIES: &str = "The list of the branches whose loss the market is to stand";
 
+const UNIT_OUTAGES: &str = "The table of the units whose loss the market is to stand";
+
 const OFFSETS: &str = "The table of the flows that phase shift angles cause";
 
 const PENALTIES: &str = "The table of the limits that give way, and of what that costs";
@@ -145,6 +147,7 @@ fn with_market<'a>(
     let command = with_file(alloc, command, "offers", OFFERS)?;
     let command = with_table(alloc, command, "lodf", LODF)?;
     let command = with_table(alloc, command, "contingencies", CONTINGENCIES)?;
+    let command = with_table(alloc, command, "unit-outages", UNIT_OUTAGES)?;
     let command = with_table(alloc, command, "offsets", OFFSETS)?;
     let command = with_table(alloc, command, "penalties", PENALTIES)?;
     command.arg(rating_option(alloc, ratings))

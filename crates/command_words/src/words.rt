@@ -145,6 +145,7 @@ fn market_files<'a>(matches: &ArgMatches<'a>) -> MarketNames<'a>
     MarketFiles {
         tables: MarketTables {
             grid: check_files(matches),
+            unit_outages: named_table(matches, "unit-outages"),
             offers: named_file(matches, "offers"),
             offsets: named_table(matches, "offsets"),
             penalties: named_table(matches, "penalties"),

@@ -11,6 +11,7 @@ returns-clause-app c =
     let offers = c.in_ok-command-3.ensures.app ∙ ap (λ a. with_file a (codes "offers")) ptdf in
     let lodf = c.in_ok-command-4.ensures.app ∙ ap (λ a. with_table a (codes "lodf")) offers in
     let contingencies = c.in_ok-command-5.ensures.app ∙ ap (λ a. with_table a (codes "contingencies")) lodf in
-    let offsets = c.in_ok-command-6.ensures.app ∙ ap (λ a. with_table a (codes "offsets")) contingencies in
-    let penalties = c.in_ok-command-7.ensures.app ∙ ap (λ a. with_table a (codes "penalties")) offsets in
+    let unit_outages = c.in_ok-command-6.ensures.app ∙ ap (λ a. with_table a (codes "unit-outages")) contingencies in
+    let offsets = c.in_ok-command-7.ensures.app ∙ ap (λ a. with_table a (codes "offsets")) unit_outages in
+    let penalties = c.in_ok-command-8.ensures.app ∙ ap (λ a. with_table a (codes "penalties")) offsets in
     IfOk-weaker c.arg.result _ _ (λ r h. h.shape c.rating_option.ensures.local ∙ ap₂ with_rule penalties c.rating_option.ensures.rule) c.arg.ensures
