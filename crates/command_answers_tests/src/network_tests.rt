@@ -160,6 +160,7 @@ fn clears_five_buses(rt: HostRuntime) -> Result<(), Fail> {
     };
     let bytes = MarketTables {
         grid,
+        unit_outages: b"unit,taker,share\n".as_slice(),
         offers: OFFERS,
         offsets: b"branch,mw\n".as_slice(),
         penalties: b"branch,limit,price,excess\n".as_slice(),

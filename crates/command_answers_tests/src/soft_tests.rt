@@ -91,6 +91,7 @@ fn tables<'a>(case: &'a [u8], penalties: &'a [u8]) -> MarketTables<&'a [u8]> {
     };
     MarketTables {
         grid,
+        unit_outages: b"unit,taker,share\n".as_slice(),
         offers: OFFERS,
         offsets: b"branch,mw\n".as_slice(),
         penalties,

@@ -53,6 +53,7 @@ fn tells_of_each_command(rt: HostRuntime) -> Result<(), Fail> {
     };
     let bytes = MarketTables {
         grid,
+        unit_outages: b"unit,taker,share\n".as_slice(),
         offers: OFFERS,
         offsets: b"branch,mw\n".as_slice(),
         penalties: b"branch,limit,price,excess\n".as_slice(),

@@ -15,6 +15,7 @@ use csv_table::header_line;
 use factor_tables::{LOSS_HEADER, OFFSET_HEADER, OUTAGE_HEADER, PENALTY_HEADER};
 use market_inputs::MOST_BYTES;
 use market_tables::{GridTables, MarketTables};
+use outage_list::UNIT_OUTAGE_HEADER;
 use outside_store::{ReadStop, Store};
 use std::alloc::Global;
 
@@ -86,11 +87,13 @@ pub fn read_market<S: Store>(
     ensures reads { OnlyReads S.Store store.old store.new (IsMarketFile (names_of_market files.now)) (result ≡ Err Status.ReadFailed) }
 {
     let grid = read_grid(alloc, &files.tables.grid, store)?;
+    let unit_outages = read_table(alloc, store, files.tables.unit_outages, UNIT_OUTAGE_HEADER)?;
     let offers = read_file(alloc, store, files.tables.offers)?;
     let offsets = read_table(alloc, store, files.tables.offsets, OFFSET_HEADER)?;
     let penalties = read_table(alloc, store, files.tables.penalties, PENALTY_HEADER)?;
     Ok(MarketTables {
         grid,
+        unit_outages,
         offers,
         offsets,
         penalties,
