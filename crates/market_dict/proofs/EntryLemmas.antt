@@ -1,24 +1,18 @@
 -- What blocks count in the rows of a dictionary, and the names of its variables.
-use Rattle.std.specs.Prelude.{◌≡◌, ◌≢◌, ℕ, ◌<◌, ◌≤◌, ◌+◌, ◌*◌, pos, Bool, true, false, cond, List, [], ◌∷◌, length, filter, AllPairs, Contains, Some}
-use Rattle.std.specs.List.{flat_map, slice_get}
-use Rattle.std.proofs.Common.{suc, arith, ap, ap₂, sym, ◌∙◌, get_or}
-use Rattle.std.proofs.lemmas.List.{length-append, length-map}
-use Rattle.std.proofs.lemmas.List.Concat.{flat_map-cons}
+use Rattle.std.specs.Prelude.{◌≡◌, ◌≢◌, ℕ, ◌<◌, ◌+◌, ◌*◌, pos, length, AllPairs, Contains, Some}
+use Rattle.std.specs.List.{slice_get}
+use Rattle.std.proofs.Common.{arith, ap, ap₂, sym, ◌∙◌, get_or}
 use Rattle.std.proofs.lemmas.List.FromFn.{length-range_with_len, get_or-range_with_len}
 use Rattle.std.proofs.lemmas.Option.{slice_get_within, get_or_from_slice_get}
 use Rattle.fraction_theory.specs.Fraction.{Fraction, whole}
-use Rattle.market_data.specs.Scales.{most_lines, most_outages}
 use Rattle.market_model.specs.declared.participants.Block.{Block}
 use Rattle.market_model.specs.declared.participants.Parts.{Parts}
 use Rattle.market_model.specs.Dispatch.{places, signed_by_side, block_at}
 use Rattle.market_model.specs.declared.limits.Row.{Row}
-use Rattle.market_model.specs.declared.limits.Cause.{Cause}
-use Rattle.market_model.specs.declared.limits.Cause.TheVariants.{Branch}
-use Rattle.market_model.specs.LimitRows.{rows, place_of_line, unit_factor, bears, causes, lines_of, lost_lines, rows_of}
+use Rattle.market_model.specs.LimitRows.{rows, unit_factor}
 use Rattle.market_model.specs.Market.{IsMarket}
 use Rattle.limit_rows.proofs.ApartLemmas.{names_apart}
-use Rattle.limit_rows.proofs.GroupLemmas.{rows-causes}
-use Rattle.limit_rows.proofs.NumberingLemmas.{length-rows_of}
+use Rattle.limit_rows.proofs.WalkLemmas.{rows_few}
 use Rattle.market_system.specs.MarketSystem.{row_name, over_name, block_sign, block_coefficient}
 use Rattle.market_system.proofs.DualLists.{rows_apart}
 use Rattle.market_system.proofs.RowOrder.{AreOrdered, names-ascend, row_name-at, row_place-below}
@@ -41,34 +35,7 @@ places_distinct n i j d lt h e =
 pub place_absent : (n : ℕ) → ¬ (Contains (places n) n)
 place_absent n c = absurd (Prim.omega (arith, from_places n n c))
 
--- ---- how many rows a market has
-filtered_few : {X : Type 0} (p : X → Bool) (xs : List X) → length (filter p xs) ≤ length xs
-filtered_few p [] = Prim.omega arith
-filtered_few p (x ∷ xs) =
-    let rest : length (filter p xs) ≤ length xs = filtered_few p xs in
-    elim (p x) as (λ (b : Bool). length (cond b (x ∷ filter p xs) (filter p xs)) ≤ length (x ∷ xs)) [ true ↦ Prim.omega (arith, rest) | false ↦ Prim.omega (arith, rest) ]
-
-flat_few : {X Y : Type 0} (f : X → List Y) (n : ℕ) → ((x : X) → length (f x) ≤ n) → (xs : List X) → length (flat_map f xs) ≤ length xs * n
-flat_few f n few [] = Prim.omega arith
-flat_few f n few (x ∷ xs) =
-    let rest : length (flat_map f xs) ≤ length xs * n = flat_few f n few xs in
-    let here : length (f x) ≤ n = few x in
-    let all : length (flat_map f (x ∷ xs)) ≡ length (f x) + length (flat_map f xs) = ap length (flat_map-cons f x xs) ∙ length-append (f x) (flat_map f xs) in
-    let more : suc (length xs) * n ≡ n + length xs * n = Prim.omega arith in
-    Prim.omega (arith, rest, here, all, more)
-
-pub rows_few : (m : Parts) → IsMarket m → length (rows m) ≤ (most_outages + 1) * most_lines
-rows_few m market =
-    let each : (cause : Cause) → length (rows_of m cause) ≤ most_lines = λ cause.
-    let long : length (rows_of m cause) ≡ length (lines_of m cause) = length-rows_of m cause in
-    let few : length (lines_of m cause) ≤ length (places (length m.lines)) = filtered_few (bears m cause) (places (length m.lines)) in
-    let counted : length (places (length m.lines)) ≡ length m.lines = length-range_with_len 0 (length m.lines) in
-    Prim.omega (arith, long, few, counted, market.line_count) in
-    let all : length (flat_map (rows_of m) (causes m)) ≤ length (causes m) * most_lines = flat_few (rows_of m) most_lines each (causes m) in
-    let causes_few : length (causes m) ≤ most_outages + 1 = Prim.omega (arith, market.outage_count, length-map (lost_lines m) Branch, length-map m.outages (place_of_line m)) in
-    let same : length (rows m) ≡ length (flat_map (rows_of m) (causes m)) = ap length (rows-causes m) in
-    Prim.omega (arith, all, causes_few, same)
-
+-- ---- the rows of a market
 -- all rows of a market are in its order
 pub all_ordered : (m : Parts) → IsMarket m → AreOrdered m (rows m)
 all_ordered m market = record { rows = λ r c. c; ascend = names-ascend m (rows_apart m (names_apart m market)) }
@@ -85,5 +52,5 @@ name_at_place m market r place e =
 pub over_at_place : (m : Parts) → IsMarket m → (r : Row) (place : ℕ) → slice_get (rows m) place ≡ Some r → over_name m r ≡ length m.blocks + 1 + length (rows m) + 2 * place
 over_at_place m market r place e = let at = (name_at_place m market r place e).1 in Prim.omega (arith, at)
 
-pub over_small : (m : Parts) → IsMarket m → (r : Row) → Contains (rows m) r → over_name m r + 1 < 4000000
+pub over_small : (m : Parts) → IsMarket m → (r : Row) → Contains (rows m) r → over_name m r + 1 < 10000000
 over_small m market r c = Prim.omega (arith, row_place-below m r c, rows_few m market, market.block_count)

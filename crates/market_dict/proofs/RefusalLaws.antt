@@ -1,20 +1,24 @@
 -- What is refused is a working pair of the market.
-use Rattle.std.specs.Prelude.{ℕ, List, Some, Contains, refl}
-use Rattle.std.proofs.Common.{inl, subst}
+use Rattle.std.specs.Prelude.{◌≡◌, ℕ, List, [], ◌∷◌, Some, Contains, refl}
+use Rattle.std.proofs.Common.{inl, inr, subst}
 use Rattle.fraction_theory.specs.Fraction.{Fraction, neg_ℚ, ◌-ℚ◌}
+use Rattle.fraction_theory.specs.Sums.{Term}
+use Rattle.fraction_theory.proofs.ListSums.{Contains-head}
 use Rattle.exact_fraction.specs.declared.Passed.{Passed}
 use Rattle.linear_system.specs.Choices.{Choice, IsChoice}
 use Rattle.linear_dict.specs.Causes.{IsPairOf}
 use Rattle.market_model.specs.declared.participants.Parts.{Parts}
 use Rattle.market_model.specs.Dispatch.{empty}
 use Rattle.market_model.specs.declared.limits.Row.{Row}
-use Rattle.market_model.specs.LimitRows.{rows, limit, flow}
+use Rattle.market_model.specs.LimitRows.{Carried, carried, rows, limit, flow, flow_terms}
 use Rattle.market_model.specs.Market.{IsMarket}
-use Rattle.linear_system.specs.Numbers.{Quantity, is_high, is_low}
+use Rattle.market_model.specs.NamedSums.{IsRefusedIn}
+use Rattle.linear_system.specs.Numbers.{Factor, Quantity, is_high, is_low}
+use Rattle.market_model.specs.SumTables.{IsFlowRefusal, factor_of_pickup, flow_in_limits, flow_of_row, limited_row}
 use Rattle.market_model.specs.Valued.{passed_at}
 use Rattle.market_system.specs.Growth.{Growth}
 use Rattle.market_system.specs.MarketSystem.{in_order, row_name, system_of}
-use Rattle.market_system.specs.MarketNumbers.{ClearingNumber, of_kind, of_system, MarketNumber, of_flow as flows_named, is_limit, of_opposite}
+use Rattle.market_system.specs.MarketNumbers.{ClearingNumber, of_kind, of_system, MarketNumber, factor_of, of_flow as flows_named, is_limit, of_opposite}
 use Rattle.market_system.specs.PairLaw.{RefusalsArePairs}
 use Rattle.market_system.specs.WorkingPairs.{IsRangeOf}
 use Rattle.limit_rows.proofs.ApartLemmas.{names_apart}
@@ -22,7 +26,7 @@ use Rattle.market_system.proofs.DualLists.{rows_apart}
 use Rattle.market_system.proofs.MarketPoints.{high-row, low-row, row_in}
 use Rattle.market_system.proofs.RowOrder.{in_order-in}
 use Rattle.market_system.proofs.PairCases.{law_of_the_pairs, of_system_pair, row_flow_number}
-use Rattle.market_dict.specs.Refusals.{IsRoomRefusal, of_high, of_low, IsBoundsRefusal, of_sum, of_bound}
+use Rattle.market_dict.specs.Refusals.{IsRoomRefusal, of_high, of_low, IsBoundsRefusal, of_sum, of_pickup, of_bound}
 
 -- of the market's system
 pub pair_range : {N : Type 0} (value : N → Fraction) (bound : ℕ) (m : Parts) (t g : List Row) (p : Passed N) → Growth m t g → IsPairOf value bound (system_of m g) p → IsRangeOf m t bound (passed_at value p)
@@ -55,9 +59,17 @@ module _ (m : Parts) (t g : List Row) (h : Choice) (bound : ℕ) (p : Passed Fra
 
   pub posing_range : (over : List Row) → ((r : Row) → Contains over r → Contains g r) → IsBoundsRefusal m over bound p → IsRangeOf m t bound p
   posing_range over inside (of_sum (terms, sum, a)) = pairs.sum (Some Quantity) terms (flows_named (empty m) terms (inl refl) sum) a
+  posing_range over inside (of_pickup r c taken (terms, sum, a)) = pairs.sum (Some Factor) terms (factor_of r terms c (factor_of_pickup terms sum)) a
   posing_range over inside (of_bound r c taken a) = bound_range r c (inside r taken) a
 
 -- rows among others
 pub bounds_among : (m : Parts) (over wider : List Row) (bound : ℕ) (p : Passed Fraction) → ((r : Row) → Contains over r → Contains wider r) → IsBoundsRefusal m over bound p → IsBoundsRefusal m wider bound p
 bounds_among m over wider bound p inside (of_sum a) = of_sum a
+bounds_among m over wider bound p inside (of_pickup r c k a) = of_pickup r c (inside r k) a
 bounds_among m over wider bound p inside (of_bound r c k a) = of_bound r c (inside r k) a
+
+-- where the flow of a row is refused, of what is carried where nothing is accepted
+pub bounds_refused : (m : Parts) (k : Carried) (r : Row) (bound : ℕ) (p : Passed Fraction) → Contains (rows m) r → flow_terms m k r ≡ flow_terms m (carried m (empty m)) r
+    → IsFlowRefusal m k r bound p → IsBoundsRefusal m (r ∷ []) bound p
+bounds_refused m k r bound p c same (inl (_, flow_of_row, why)) = of_sum (_, flow_in_limits _ (limited_row r _ c flow_of_row), subst (λ (ts : List Term). IsRefusedIn ts bound p) same why)
+bounds_refused m k r bound p c same (inr why) = of_pickup r c (Contains-head r []) why

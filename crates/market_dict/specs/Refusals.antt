@@ -8,14 +8,16 @@ use Rattle.market_model.specs.Dispatch.{empty}
 use Rattle.market_model.specs.declared.limits.Row.{Row}
 use Rattle.market_model.specs.LimitRows.{rows, limit, flow}
 use Rattle.market_model.specs.NamedSums.{IsRefusal}
-use Rattle.market_model.specs.SumTables.{IsRefusedAmong, FlowSum}
+use Rattle.market_model.specs.SumTables.{IsRefusedAmong, FlowSum, PickupSum}
 
 -- an operation refused for what the flow of a row, where nothing is accepted, leaves of its limit on either side
 pub data IsRoomRefusal (m : Parts) (bound : ℕ) (r : Row) (p : Passed Fraction) : Type 0 where
   of_high : IsRefusal Minus (limit m r) (flow m (empty m) r) bound p → IsRoomRefusal m bound r p
   of_low : IsRefusal Minus (neg_ℚ (limit m r)) (flow m (empty m) r) bound p → IsRoomRefusal m bound r p
 
--- an operation refused for prices and bounds: in a sum of what flows where nothing is accepted, or in a bound of one of these rows
+-- an operation refused for prices and bounds: in a sum of what flows where nothing is accepted, or in the pickup factor or a bound of one
+-- of these rows
 pub data IsBoundsRefusal (m : Parts) (over : List Row) (bound : ℕ) (p : Passed Fraction) : Type 0 where
   of_sum : IsRefusedAmong (FlowSum m (empty m)) bound p → IsBoundsRefusal m over bound p
+  of_pickup : (r : Row) → Contains (rows m) r → Contains over r → IsRefusedAmong (PickupSum m r) bound p → IsBoundsRefusal m over bound p
   of_bound : (r : Row) → Contains (rows m) r → Contains over r → IsRoomRefusal m bound r p → IsBoundsRefusal m over bound p

@@ -15,7 +15,7 @@ ghost use Rattle.market_dict.specs.PricesAndBounds.{ArePricesAndBounds};
 
 use exact_fraction::{Exact, Passed, exact_difference};
 use limit_rows::{excess_at, is_soft, limit_at, penalty_at, row_flow};
-use limit_screen::{bus_injections, flows_made, line_flows};
+use limit_screen::{bus_injections, carried_flows, flows_made};
 use market_model::{Market, Row, Stop, balance, block_quantity, block_value, datum, zeros};
 use plain_list::{List, Memory};
 use simplex_core::Bounds;
@@ -31,7 +31,8 @@ pub struct PricesAndBounds<N> {
     pub column_bounds: List<Bounds<N>>,
     /// Of the balance and the limits in the order taken, in 10^-9 MW: by how much blocks may raise these.
     pub row_bounds: List<Bounds<N>>,
-    /// Where nothing is accepted, what each bus puts in and then what each line carries, in 10^-9 MW.
+    /// Where nothing is accepted, what each bus puts in, then what each line carries and then what the unit of each outage of a unit puts
+    /// out, in 10^-9 MW.
     pub base_flows: Vec<N>,
 }
 
@@ -62,7 +63,7 @@ fn block_prices<N: Exact>(alloc: Global, market: &Market) -> Result<List<N>, Mem
     Ok(prices)
 }
 
-/// Where nothing is accepted, what each bus puts in and then what each line carries.
+/// Where nothing is accepted, what each bus puts in, what each line carries and what lost units put out.
 fn base_flows_of<N: Exact>(alloc: Global, market: &Market) -> Result<Vec<N>, Stop<N>>
     ensures flows { IfOk result (λ base_flows. map N.value base_flows.items ≡ flows_at market.now (empty market.now)) }
     ensures cause { IfErr result (StopsBy N.value (IsFlowsRefusal market.now (empty market.now) N.bound)) }
@@ -124,7 +125,7 @@ fn row_bounds<N: Exact>(market: &Market, base_flows: &[N], row: Row) -> Result<B
     ensures cause { IfErr result (λ passed. IsBoundsRefusal market.now (row ∷ []) N.bound (passed_at N.value passed)) }
 {
     let _lines = market.lines();
-    let flow = row_flow(market, line_flows(market, base_flows), row)?;
+    let flow = row_flow(market, carried_flows(market, base_flows), row)?;
     let limit: N = datum(limit_at(market, row));
     let high = exact_difference(limit, flow)?;
     let low = exact_difference(limit.neg(), flow)?;

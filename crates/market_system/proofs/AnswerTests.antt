@@ -195,8 +195,8 @@ is_supported-true m x d e =
 -- ---- proper duals
 same_id-true : (a b : RowId) → same_id a b ≡ true → a ≡ b
 same_id-true a b e =
-    let parts = both (eqb-true a.branch b.branch) (eqb-true a.outage b.outage) e in
-    λ i. record { branch = parts.0 i; outage = parts.1 i }
+    let parts = both (both (eqb-true a.branch b.branch) (eqb-true a.outage b.outage)) (eqb-true a.unit b.unit) e in
+    λ i. record { branch = parts.0.0 i; outage = parts.0.1 i; unit = parts.1 i }
 
 abbrev is_one_sided : Dual Fraction → Bool
 is_one_sided d = has_prices d.up d.down && ((below zero d.up && same d.down zero) || (same d.up zero && below zero d.down))
@@ -249,7 +249,7 @@ same_rent-true a b e =
 -- prices, welfare and settlement are the same
 abbrev pub same_money : Answer Fraction → Answer Fraction → Bool
 same_money a b = same_list same_price a.prices b.prices && (same a.welfare b.welfare && (same_list same_pay a.money.units b.money.units
-    && (same_list same_load a.money.loads b.money.loads && (same_list same_rent a.money.rents b.money.rents && same a.money.surplus b.money.surplus))))
+    && (same_list same a.money.own b.money.own && (same_list same_load a.money.loads b.money.loads && (same_list same_rent a.money.rents b.money.rents && same a.money.surplus b.money.surplus)))))
 
 -- an answer with the prices, the welfare and the settlement that its dispatch and duals make
 abbrev pub made_of : Parts → Answer Fraction → Answer Fraction
@@ -260,16 +260,17 @@ same_money-true m a e =
     let b = made_of m a in
     let prices = same_list-true same_price same_price-true b.prices a.prices in
     let units = same_list-true same_pay same_pay-true b.money.units a.money.units in
+    let own = same_list-true same same-true b.money.own a.money.own in
     let loads = same_list-true same_load same_load-true b.money.loads a.money.loads in
     let rents = same_list-true same_rent same_rent-true b.money.rents a.money.rents in
-    let settled = both units (both loads (both rents (same-true b.money.surplus a.money.surplus))) in
+    let settled = both units (both own (both loads (both rents (same-true b.money.surplus a.money.surplus)))) in
     let parts = both prices (both (same-true b.welfare a.welfare) settled) e in
     λ i. record {
       dispatch = a.dispatch;
       duals = a.duals;
       prices = parts.0 i;
       welfare = parts.1.0 i;
-      money = record { units = parts.1.1.0 i; loads = parts.1.1.1.0 i; rents = parts.1.1.1.1.0 i; surplus = parts.1.1.1.1.1 i };
+      money = record { units = parts.1.1.0 i; own = parts.1.1.1.0 i; loads = parts.1.1.1.1.0 i; rents = parts.1.1.1.1.1.0 i; surplus = parts.1.1.1.1.1.1 i };
     }
 
 -- an answer that passes all of these is right

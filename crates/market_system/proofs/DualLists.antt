@@ -36,12 +36,15 @@ rows_apart m names i j d lt h e = names i j d lt h (ap (row_id m) e)
 
 same_id-is : (a b : RowId) → same_id a b ≡ true → a ≡ b
 same_id-is a b h =
-    let both = and_true (a.branch == b.branch) (a.outage == b.outage) h in
-    let make : ℕ → ℕ → RowId = λ x y. record { branch = x; outage = y } in
-    ap₂ make (same_number a.branch b.branch both.0) (same_number a.outage b.outage both.1)
+    let both = and_true ((a.branch == b.branch) && (a.outage == b.outage)) (a.unit == b.unit) h in
+    let lines = and_true (a.branch == b.branch) (a.outage == b.outage) both.0 in
+    let branches = same_number a.branch b.branch lines.0 in
+    let outages = same_number a.outage b.outage lines.1 in
+    let units = same_number a.unit b.unit both.1 in
+    λ i. record { branch = branches i; outage = outages i; unit = units i }
 
 same_id-itself : (a : RowId) → same_id a a ≡ true
-same_id-itself a = ap₂ ◌&&◌ (itself a.branch) (itself a.outage)
+same_id-itself a = ap₂ ◌&&◌ (ap₂ ◌&&◌ (itself a.branch) (itself a.outage)) (itself a.unit)
   where
     itself : (n : ℕ) → (n == n) ≡ true
     itself n = elim (eqb_tells n n) [ inl t ↦ t.0 | inr t ↦ absurd (t.1 refl) ]

@@ -11,12 +11,12 @@ use Rattle.market_model.specs.declared.participants.Block.{Block}
 use Rattle.market_model.specs.declared.participants.Line.{Line}
 use Rattle.market_model.specs.declared.participants.Parts.{Parts}
 use Rattle.market_model.specs.declared.participants.Side.TheVariants.{Sell}
-use Rattle.market_model.specs.Dispatch.{places, block_at, line_at, unit_at, signed_by_side}
+use Rattle.market_model.specs.Dispatch.{places, block_at, line_at, signed_by_side}
 use Rattle.market_model.specs.Frame.{block_frame, line_frame, frame, SameFrame}
 use Rattle.market_model.specs.declared.limits.Cause.{Cause}
 use Rattle.market_model.specs.declared.limits.Row.{Row}
-use Rattle.market_model.specs.declared.limits.Cause.TheVariants.{Base, Branch}
-use Rattle.market_model.specs.LimitRows.{is_outage, is_soft, penalty_of, bears, causes, outage_of, row_id, rows, rows_of, place_of_line, row_factor}
+use Rattle.market_model.specs.declared.limits.Cause.TheVariants.{Base, Branch, UnitOutage}
+use Rattle.market_model.specs.LimitRows.{is_outage, is_soft, penalty_of, bears, causes, outage_of, unit_of, row_id, rows, rows_of, place_of_line, row_factor, taker_factor, unit_factor}
 use Rattle.linear_system.proofs.SameSystems.{rows_turned_round}
 use Rattle.market_system.specs.declared.variables.Variable.{Variable}
 use Rattle.market_system.specs.declared.variables.Variable.TheVariants as variable
@@ -53,13 +53,14 @@ module _ (m : Parts) where
   bears_framed : (cause : Cause) → bears (frame m) cause ≡ bears m cause
   bears_framed Base = fun_ext (λ l. ap (λ (k : Line). is_some k.base) (line_framed l) ∙ some_or_none (line_at m l).base)
   bears_framed (Branch lost) = fun_ext (λ l. ap (λ (b : Bool). not (l == lost) && b) (ap (λ (k : Line). is_some k.post) (line_framed l) ∙ some_or_none (line_at m l).post))
+  bears_framed (UnitOutage k) = fun_ext (λ l. ap (λ (k : Line). is_some k.post) (line_framed l) ∙ some_or_none (line_at m l).post)
 
   place_framed : (row : ℕ) → place_of_line (frame m) row ≡ place_of_line m row
   place_framed row =
       ap₂ (λ (p : ℕ → Bool) (n : ℕ). position_or_len p (places n)) (fun_ext (λ l. ap (λ (k : Line). k.row == row) (line_framed l))) line_count
 
   causes_framed : causes (frame m) ≡ causes m
-  causes_framed = ap (λ (f : ℕ → ℕ). Base ∷ map Branch (map f m.outages)) (fun_ext place_framed)
+  causes_framed = ap (λ (f : ℕ → ℕ). Base ∷ (map Branch (map f m.outages) ++ map UnitOutage (places (length m.unit_outages)))) (fun_ext place_framed)
 
   under_framed : (cause : Cause) → rows_of (frame m) cause ≡ rows_of m cause
   under_framed cause = ap₂ (λ (p : ℕ → Bool) (n : ℕ). map (λ l. record { line = l; cause = cause }) (filter p (places n))) (bears_framed cause) line_count
@@ -74,16 +75,22 @@ module _ (m : Parts) where
   outage_framed : (c : Cause) → outage_of (frame m) c ≡ outage_of m c
   outage_framed Base = refl
   outage_framed (Branch lost) = ap (λ (k : Line). k.row) (line_framed lost)
+  outage_framed (UnitOutage k) = refl
+
+  unit_framed : (c : Cause) → unit_of (frame m) c ≡ unit_of m c
+  unit_framed Base = refl
+  unit_framed (Branch lost) = refl
+  unit_framed (UnitOutage k) = refl
 
   id_framed : row_id (frame m) ≡ row_id m
-  id_framed = fun_ext (λ r. ap₂ (λ (b o : ℕ). record { branch = b; outage = o }) (ap (λ (k : Line). k.row) (line_framed r.line)) (outage_framed r.cause))
+  id_framed = fun_ext (λ r. λ i. record { branch = (line_framed r.line i).row; outage = outage_framed r.cause i; unit = unit_framed r.cause i })
 
   pub sign_framed : block_sign (frame m) ≡ block_sign m
   sign_framed = fun_ext (λ j. ap (λ (b : Block). signed_by_side b.side (whole (pos 1))) (block_framed j))
 
   pub coefficient_framed : block_coefficient (frame m) ≡ block_coefficient m
-  unfolding row_factor
-  coefficient_framed = fun_ext (λ r. fun_ext (λ j. ap (λ (b : Block). signed_by_side b.side (row_factor m r (unit_at m b.unit).bus)) (block_framed j)))
+  unfolding row_factor taker_factor
+  coefficient_framed = fun_ext (λ r. fun_ext (λ j. ap (λ (b : Block). signed_by_side b.side (unit_factor m r b.unit)) (block_framed j)))
 
   in_order_framed : (g : List Row) → in_order (frame m) g ≡ in_order m g
   in_order_framed [] = refl

@@ -1,6 +1,7 @@
 -- The points of a market's system over a list of limit rows are the dispatches that are feasible for the list.
-use Rattle.std.specs.Prelude.{◌≡◌, ℕ, ◌<◌, ◌==◌, Bool, true, List, [], ◌∷◌, length, map, filter, Contains, refl}
-use Rattle.std.proofs.Common.{suc, arith, ap, ap₂, sym, ◌∙◌, subst, subst₂, get_or}
+use Rattle.std.specs.Prelude.{◌≡◌, ℕ, ◌<◌, ◌==◌, Bool, true, false, List, [], ◌∷◌, length, map, filter, Contains, refl}
+use Rattle.std.proofs.Common.{suc, arith, ap, ap₂, sym, ◌∙◌, subst, subst₂, inl, inr, get_or}
+use Rattle.std.proofs.lemmas.Bool.Decides.{eqb_tells}
 use Rattle.std.proofs.lemmas.List.{get_or-map}
 use Rattle.std.proofs.lemmas.List.FromFn.{length-range_with_len, get_or-range_with_len}
 use Rattle.fraction_theory.specs.Fraction.{Fraction, neg_ℚ, ◌+ℚ◌, ◌-ℚ◌, ◌*ℚ◌}
@@ -11,23 +12,25 @@ use Rattle.fraction_theory.proofs.Ring.{by_ring, by_ring1, at, pnil, pone, pneg,
 use Rattle.fraction_theory.proofs.FieldLaws.{ring_ℚ}
 use Rattle.fraction_theory.proofs.OrderLaws.{≤ℚ_of_same, ≤ℚ_antisym, +ℚ-≤ℚ, by_le1, NonNeg-one, NonNeg_from}
 use Rattle.fraction_theory.proofs.SignLaws.{part_least}
-use Rattle.fraction_theory.proofs.SumLaws.{sum_by-plus, sum_by-same, sum_by-≤, total-append, total-Product}
-use Rattle.fraction_theory.proofs.ListSums.{kept, Contains-head, Contains-from_filter, sum_by-members}
+use Rattle.fraction_theory.proofs.SumLaws.{sum_by-nil, sum_by-plus, sum_by-same, sum_by-times, sum_by-≤, total-append, total-Product}
+use Rattle.fraction_theory.proofs.ListSums.{kept, Contains-head, Contains-from_filter, sum_by-filter, sum_by-members}
 use Rattle.linear_system.specs.Systems.{System, IsSystem, MeetsRows, InBounds, objective}
 use Rattle.linear_system.proofs.Multipliers.{by_columns, by_columns-column, by_columns-meets}
 use Rattle.market_model.specs.declared.participants.Side.{Side}
 use Rattle.market_model.specs.declared.participants.Side.TheVariants.{Sell, Buy}
 use Rattle.market_model.specs.declared.participants.Parts.{Parts}
-use Rattle.market_model.specs.Dispatch.{Dispatch, zero as nil, places, block_at, block_bus, signed_by_side, accepted, quantity, raised_by, injection, balance, empty, dispatch_by}
+use Rattle.market_model.specs.Dispatch.{Dispatch, zero as nil, places, block_at, block_bus, blocks_of, signed_by_side, accepted, quantity, raised_by, injection, output, balance, empty, dispatch_by}
+use Rattle.market_model.specs.declared.limits.Cause.{Cause}
+use Rattle.market_model.specs.declared.limits.Cause.TheVariants.{Base, Branch, UnitOutage}
 use Rattle.market_model.specs.declared.limits.Row.{Row}
-use Rattle.market_model.specs.LimitRows.{rows, limit, is_soft, penalty, most_excess, most_flow, row_factor, row_offset, flow}
+use Rattle.market_model.specs.LimitRows.{rows, limit, is_soft, loses, lost_output, lost_unit, penalty, picked_up, pickup_factor, most_excess, most_flow, row_factor, row_offset, row_pickup, unit_factor, flow}
 use Rattle.market_model.specs.Market.{IsMarket}
 use Rattle.market_model.specs.Optimality.{FeasibleFor, block_value, value_terms, penalty_terms, welfare_for}
 use Rattle.market_model.specs.Overrun.{excess, excess_by, Within}
 use Rattle.market_model.proofs.Excesses.{penalty_least}
-use Rattle.market_model.proofs.MarketSums.{block_bus-in, injection-by_empty, balance-by_empty}
+use Rattle.market_model.proofs.MarketSums.{block_bus-in, fixed_part, injection-by_empty, output-by_parts, balance-by_empty, raised_by-empty}
 use Rattle.market_model.proofs.PlaceSums.{gather_times, places_all}
-use Rattle.market_model.proofs.RowLaws.{along, law_of_the_flows}
+use Rattle.market_model.proofs.RowLaws.{along, law_of_the_flows, unit_factor-parts}
 use Rattle.market_system.specs.declared.variables.Variable.{Variable}
 use Rattle.market_system.specs.declared.variables.Variable.TheVariants.{Block, Balance, Limit, Over, Under}
 use Rattle.market_system.specs.MarketSystem.{balance_name, row_name, over_name, under_name, in_order, block_sign, residual_demand, block_coefficient, least_added, most_added, name, variable_of, system_of, IsVariableOf}
@@ -39,10 +42,59 @@ use Rattle.market_system.proofs.SystemLaws.{signed-times}
 use Rattle.market_system.proofs.VariableLaws.{row_listed, column_listed, excess_listed, limit_in, from_places, by_variable, variable_in, variable_at, soft, over_in, under_in, column_in, sum-variables, is_system_over, coefficient-at, price-at, low-at, high-at, activity-balance, activity-limit, objective-at}
 
 -- ---- what blocks add to the flow of a row
+-- an output by that of nothing accepted
+output-by_empty : (m : Parts) (x : Dispatch) (u : ℕ) → output m x u ≡ output m (empty m) u +ℚ sum_by (raised_by m x) (blocks_of m u)
+output-by_empty m x u =
+    let raised : Fraction = sum_by (raised_by m x) (blocks_of m u) in
+    output-by_parts m x u
+    ∙ by_ring ring_ℚ (fixed_part m u ∷ raised ∷ []) (at 0 ⊕ at 1) ((at 0 ⊕ pnil) ⊕ at 1) refl
+    ∙ ap (λ t. (fixed_part m u +ℚ t) +ℚ raised) (sym (sum_by-same (raised_by m (empty m)) (λ j. nil) (blocks_of m u) (raised_by-empty m) ∙ sum_by-nil (blocks_of m u)))
+    ∙ ap (λ t. t +ℚ raised) (sym (output-by_parts m (empty m) u))
+
+-- what is picked up of it: of each block of the lost unit what it raises, by the pickup factor
+picked_up-by_blocks : (m : Parts) (x : Dispatch) (l : ℕ) (c : Cause) → picked_up m (lost_output m x) (record { line = l; cause = c })
+    ≡ picked_up m (lost_output m (empty m)) (record { line = l; cause = c })
+    +ℚ sum_by (λ j. kept (loses m (block_at m j).unit c) (row_pickup m l c) *ℚ raised_by m x j) (places (length m.blocks))
+picked_up-by_blocks m x l c = by c
+  where
+    none : nil ≡ nil +ℚ sum_by (λ j. nil *ℚ raised_by m x j) (places (length m.blocks))
+    none =
+        sym (ring_ℚ.plus_nil nil)
+        ∙ ap (λ t. nil +ℚ t)
+        (sym (sum_by-same (λ j. nil *ℚ raised_by m x j) (λ j. nil) (places (length m.blocks)) (λ j. by_ring ring_ℚ (raised_by m x j ∷ []) (pnil ⊗ at 0) pnil refl) ∙ sum_by-nil (places (length m.blocks))))
+
+    kept-times : (b : Bool) (f y : Fraction) → f *ℚ kept b y ≡ kept b f *ℚ y
+    kept-times true f y = refl
+    kept-times false f y = by_ring ring_ℚ (f ∷ y ∷ []) (at 0 ⊗ pnil) (pnil ⊗ at 1) refl
+
+    either_way : (a b : ℕ) → (a == b) ≡ (b == a)
+    either_way a b = elim (eqb_tells a b) [
+      | inl t ↦ elim (eqb_tells b a) [ inl s ↦ t.0 ∙ sym s.0 | inr s ↦ absurd (s.1 (sym t.1)) ]
+      | inr t ↦ elim (eqb_tells b a) [ inl s ↦ absurd (t.1 (sym s.1)) | inr s ↦ t.0 ∙ sym s.0 ]
+    ]
+
+    by : (c : Cause) → picked_up m (lost_output m x) (record { line = l; cause = c })
+        ≡ picked_up m (lost_output m (empty m)) (record { line = l; cause = c })
+        +ℚ sum_by (λ j. kept (loses m (block_at m j).unit c) (row_pickup m l c) *ℚ raised_by m x j) (places (length m.blocks))
+    by Base = none
+    by (Branch k) = none
+    by (UnitOutage k) =
+        let u : ℕ = lost_unit m k in
+        let f : Fraction = pickup_factor m l k in
+        let raised : Fraction = sum_by (raised_by m x) (blocks_of m u) in
+        ap (λ t. f *ℚ t +ℚ nil) (output-by_empty m x u)
+        ∙ by_ring ring_ℚ (f ∷ output m (empty m) u ∷ raised ∷ []) (at 0 ⊗ (at 1 ⊕ at 2) ⊕ pnil) ((at 0 ⊗ at 1 ⊕ pnil) ⊕ at 0 ⊗ at 2) refl
+        ∙ ap (λ t. (f *ℚ output m (empty m) u +ℚ nil) +ℚ t)
+        (ap (λ t. f *ℚ t) (sum_by-filter (raised_by m x) (λ j. (block_at m j).unit == u) (places (length m.blocks)))
+        ∙ sym (sum_by-times f (λ j. kept ((block_at m j).unit == u) (raised_by m x j)) (places (length m.blocks)))
+        ∙ sum_by-same (λ j. f *ℚ kept ((block_at m j).unit == u) (raised_by m x j)) (λ j. kept (u == (block_at m j).unit) f *ℚ raised_by m x j) (places (length m.blocks))
+        (λ j. kept-times ((block_at m j).unit == u) f (raised_by m x j) ∙ ap (λ (b : Bool). kept b f *ℚ raised_by m x j) (either_way (block_at m j).unit u)))
+
 turned : (side : Side) (a x : Fraction) → a *ℚ signed_by_side side x ≡ signed_by_side side a *ℚ x
 turned Sell a x = refl
 turned Buy a x = by_ring ring_ℚ (a ∷ x ∷ []) (at 0 ⊗ pneg (at 1)) (pneg (at 0) ⊗ at 1) refl
 
+-- of each block what it raises, by the factor of its unit
 pub flow-by_blocks : (m : Parts) → IsMarket m → (x : Dispatch) (r : Row)
     → flow m x r ≡ flow m (empty m) r +ℚ sum_by (λ j. block_coefficient m r j *ℚ accepted x j) (places (length m.blocks))
 flow-by_blocks m market x r =
@@ -51,16 +103,25 @@ flow-by_blocks m market x r =
     let a : ℕ → Fraction = row_factor m r in
     let at_bus : ℕ → Fraction = λ i. sum_by (raised_by m x) (filter (λ j. block_bus m j == i) blocks) in
     let start : Fraction = sum_by (λ i. a i *ℚ injection m (empty m) i) buses in
-    law_of_the_flows m (injection m x) r
-    ∙ ap (λ t. row_offset m r +ℚ t)
+    let taken : ℕ → Fraction = λ j. kept (loses m (block_at m j).unit r.cause) (row_pickup m r.line r.cause) in
+    let by_bus : Fraction = sum_by (λ j. a (block_bus m j) *ℚ raised_by m x j) blocks in
+    let by_loss : Fraction = sum_by (λ j. taken j *ℚ raised_by m x j) blocks in
+    let picked : Fraction = picked_up m (lost_output m (empty m)) r in
+    law_of_the_flows m (injection m x) (lost_output m x) r
+    ∙ ap₂ (λ (s t : Fraction). (row_offset m r +ℚ s) +ℚ t)
     (sum_by-same (λ i. a i *ℚ injection m x i) (λ i. a i *ℚ injection m (empty m) i +ℚ a i *ℚ at_bus i) buses
     (λ i. ap (λ t. a i *ℚ t) (injection-by_empty m x i) ∙ by_ring ring_ℚ (a i ∷ injection m (empty m) i ∷ at_bus i ∷ []) (at 0 ⊗ (at 1 ⊕ at 2)) (at 0 ⊗ at 1 ⊕ at 0 ⊗ at 2) refl)
     ∙ sum_by-plus (λ i. a i *ℚ injection m (empty m) i) (λ i. a i *ℚ at_bus i) buses
     ∙ ap (λ t. start +ℚ t)
-    (gather_times a (raised_by m x) (block_bus m) (length m.buses) blocks (places_all (λ j. block_bus m j < length m.buses) (length m.blocks) (block_bus-in m market))
-    ∙ sum_by-same (λ j. a (block_bus m j) *ℚ raised_by m x j) (λ j. block_coefficient m r j *ℚ accepted x j) blocks (λ j. turned (block_at m j).side (a (block_bus m j)) (accepted x j))))
-    ∙ by_ring ring_ℚ (row_offset m r ∷ start ∷ sum_by (λ j. block_coefficient m r j *ℚ accepted x j) blocks ∷ []) (at 0 ⊕ (at 1 ⊕ at 2)) ((at 0 ⊕ at 1) ⊕ at 2) refl
-    ∙ ap (λ t. t +ℚ sum_by (λ j. block_coefficient m r j *ℚ accepted x j) blocks) (sym (law_of_the_flows m (injection m (empty m)) r))
+    (gather_times a (raised_by m x) (block_bus m) (length m.buses) blocks (places_all (λ j. block_bus m j < length m.buses) (length m.blocks) (block_bus-in m market))))
+    (picked_up-by_blocks m x r.line r.cause)
+    ∙ by_ring ring_ℚ (row_offset m r ∷ start ∷ by_bus ∷ picked ∷ by_loss ∷ []) ((at 0 ⊕ (at 1 ⊕ at 2)) ⊕ (at 3 ⊕ at 4)) (((at 0 ⊕ at 1) ⊕ at 3) ⊕ (at 2 ⊕ at 4)) refl
+    ∙ ap₂ ◌+ℚ◌ (sym (law_of_the_flows m (injection m (empty m)) (lost_output m (empty m)) r))
+    (sym (sum_by-plus (λ j. a (block_bus m j) *ℚ raised_by m x j) (λ j. taken j *ℚ raised_by m x j) blocks)
+    ∙ sum_by-same (λ j. a (block_bus m j) *ℚ raised_by m x j +ℚ taken j *ℚ raised_by m x j) (λ j. block_coefficient m r j *ℚ accepted x j) blocks
+    (λ j. by_ring ring_ℚ (a (block_bus m j) ∷ taken j ∷ raised_by m x j ∷ []) (at 0 ⊗ at 2 ⊕ at 1 ⊗ at 2) ((at 0 ⊕ at 1) ⊗ at 2) refl
+    ∙ ap (λ t. t *ℚ raised_by m x j) (sym (unit_factor-parts m r (block_at m j).unit))
+    ∙ turned (block_at m j).side (unit_factor m r (block_at m j).unit) (accepted x j)))
 
 pub balance-by_blocks : (m : Parts) → IsMarket m → (x : Dispatch)
     → balance m x ≡ balance m (empty m) +ℚ sum_by (λ j. block_sign m j *ℚ accepted x j) (places (length m.blocks))

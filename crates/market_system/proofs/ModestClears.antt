@@ -1,14 +1,16 @@
 -- No number that a clear of a modest market without lines may have to write down is above 127 bits.
-use Rattle.std.specs.Prelude.{◌≡◌, ℕ, Bool, true, false, if◌then◌else◌, ◌+◌, ◌*◌, ◌-◌, ◌^◌, ◌≤◌, ◌<◌, pos, List, [], ◌∷◌, ◌++◌, length, map, Option, Some, None, refl}
+use Rattle.std.specs.Prelude.{◌≡◌, ℕ, Bool, true, false, if◌then◌else◌, ◌+◌, ◌*◌, ◌-◌, ◌^◌, ◌≤◌, ◌<◌, pos, List, [], ◌∷◌, ◌++◌, length, map, filter, Option, Some, None, refl}
 use Rattle.std.specs.List.{Contains}
 use Rattle.std.proofs.Common.{arith, ap, sym, ◌∙◌, subst, inl, inr}
 use Rattle.std.proofs.lemmas.List.{append-nil, length-append, length-map}
 use Rattle.std.proofs.lemmas.List.FromFn.{length-range_with_len}
 use Rattle.fraction_theory.specs.Fraction.{Fraction, neg_ℚ, ◌-ℚ◌, ◌*ℚ◌}
 use Rattle.fraction_theory.specs.Signs.{sign_of, part_above, where_above}
-use Rattle.fraction_theory.specs.Sums.{Term, Product, prefix, total}
+use Rattle.fraction_theory.specs.Sums.{Term, Plain, Product, prefix, total}
 use Rattle.fraction_theory.specs.declared.Sign.{Sign}
 use Rattle.fraction_theory.specs.declared.Sign.TheVariants.{Below, Zero, Above}
+use Rattle.fraction_theory.proofs.Ring.{by_ring, at, pneg}
+use Rattle.fraction_theory.proofs.FieldLaws.{ring_ℚ}
 use Rattle.fraction_theory.proofs.SumLaws.{prefix-all}
 use Rattle.fraction_theory.proofs.ListSums.{same_or_not, Contains-from_filter}
 use Rattle.linear_system.specs.Choices.{Choice, IsChoice, at_bound, basics, value, value_terms}
@@ -18,20 +20,28 @@ use Rattle.simplex_theory.specs.Stuck.{multiplier}
 use Rattle.simplex_theory.proofs.StuckRows.{multiplier-itself, multiplier-basic, multiplier-other}
 use Rattle.market_model.specs.declared.answered.Duals.{Duals}
 use Rattle.market_model.specs.declared.participants.Parts.{Parts}
-use Rattle.market_model.specs.Market.{IsMarket}
+use Rattle.market_model.specs.declared.participants.Pickup.{Pickup}
+use Rattle.market_data.specs.Scales.{factor_one}
+use Rattle.exact_fraction.specs.Passes.{IsTooLarge}
+use Rattle.exact_fraction.proofs.Excesses.{over_within}
+use Rattle.exact_fraction.proofs.Shares.{too_large_turned}
+use Rattle.std.proofs.lemmas.Int.{ints}
+use Rattle.std.proofs.lemmas.List.Elements.{All-contains}
+use Rattle.market_model.specs.Market.{IsMarket, IsPickup}
 use Rattle.market_model.specs.Dispatch.{Dispatch, IsDispatch, places, block_at, unit_at, quantity, accepted, balance, empty, demand, demand_terms, output}
 use Rattle.market_model.specs.Infeasibility.{block_weight, farkas_terms}
 use Rattle.market_model.specs.declared.limits.Row.{Row}
-use Rattle.market_model.specs.LimitRows.{rows, row_id, row_factor}
-use Rattle.market_model.specs.Optimality.{bus_price, block_value, congestion_terms, names_row, named_rows, price_terms, net_shadow_price, penalty_terms, unit_price, value_terms as block_terms, welfare_terms}
+use Rattle.market_model.specs.LimitRows.{rows, row_id, loses, lost_unit, row_factor, row_pickup, share_value}
+use Rattle.market_model.specs.Optimality.{bus_price, block_value, congestion_terms, names_row, named_rows, own_price, own_terms, price_terms, net_shadow_price, penalty_terms, unit_price, value_terms as block_terms, welfare_terms}
 use Rattle.market_model.specs.Settlement.{surplus_terms}
-use Rattle.market_model.specs.SumTables.{injection_at, balance_from_bus, balance_of_all, flow_of_line, limited_line, limited_row, FlowSum, flow_in_balance, flow_in_limits, output_of_unit, BusPriceSum, PriceSum, price_of_bus, congestion_at, price_at, farkas_bound_of_all, left_of_all, paid_by_load, paid_to_unit, rent_of_row, SettledSum, paid_output, demand_of_bus, payment, paid_row}
+use Rattle.market_model.specs.SumTables.{injection_at, balance_from_bus, balance_of_all, flow_of_line, limited_line, limited_row, output_of_lost, limited_unit, FlowSum, flow_in_balance, flow_in_limits, output_of_unit, BusPriceSum, own_price_of_unit, PriceSum, price_of_bus, price_of_unit, congestion_at, price_at, farkas_bound_of_all, left_of_all, paid_by_load, paid_to_unit, rent_of_row, SettledSum, paid_output, paid_price, demand_of_bus, payment, paid_row}
 use Rattle.market_model.proofs.FarkasLaw.{farkas_terms-bare}
-use Rattle.market_model.proofs.RowLaws.{no_rows, no_row, bus_price-bare, congestion-bare}
+use Rattle.market_model.proofs.RowLaws.{no_rows, no_row, bus_price-bare, congestion-bare, unit_price-bare}
+use Rattle.market_model.proofs.RowMembers.{lost_unit-in}
 use Rattle.market_system.specs.MarketSystem.{balance_name, system_of, choice_dispatch, choice_duals}
 use Rattle.market_system.specs.MarketNumbers.{ClearingNumber, of_kind, of_solving, of_money, is_turned, MarketNumber, IsRightChoice, IsInjecting, IsFarkasOf}
 use Rattle.market_system.specs.MarketNumbers.{NamedSum, offset_of, factor_of, of_flow, output_of, of_price, of_welfare, of_settlement, of_farkas_price, farkas_bound_of}
-use Rattle.market_system.specs.MarketNumbers.{of_system, of_sum, is_fixed, is_up, is_down, is_load, is_shunt, is_limit, is_most_flow, is_line_offset, is_shift, is_loss, is_energy, is_up_dual, is_down_dual, is_farkas_energy, is_farkas_up, is_farkas_down, of_opposite}
+use Rattle.market_system.specs.MarketNumbers.{of_system, of_sum, is_fixed, is_up, is_down, is_load, is_shunt, is_limit, is_most_flow, is_line_offset, is_shift, is_loss, is_share, is_energy, is_up_dual, is_down_dual, is_farkas_energy, is_farkas_up, is_farkas_down, of_opposite}
 use Rattle.market_system.specs.ModestMarkets.{IsModest, LawOfModestMarkets, modest_mw, modest_price}
 use Rattle.market_system.specs.Growth.{GrowsBy}
 use Rattle.market_system.proofs.SystemLaws.{variable_in}
@@ -51,6 +61,12 @@ part_above_within b x h = by_sign (sign_of x)
 -- the greatest number of 127 bits
 abbrev most : ℕ
 most = 2 ^ 127 - 1
+
+abbrev NotTooLarge : Fraction → Type 0
+NotTooLarge x = ¬ (IsTooLarge most x)
+
+turned_small : (x : Fraction) → NotTooLarge x → NotTooLarge (neg_ℚ x)
+turned_small x small large = small (subst (IsTooLarge most) (by_ring ring_ℚ (x ∷ []) (pneg (pneg (at 0))) (at 0) refl) (too_large_turned most (neg_ℚ x) large))
 
 -- the first terms of a sum
 sums_within : (terms : List Term) (b : ℕ) → length terms ≤ 4001 → TermsWithin b terms → 4001 * b ≤ most → (k : ℕ) → IsWholeWithin most (prefix k terms)
@@ -85,6 +101,20 @@ module _ (m : Parts) (market : IsMarket m) (lines : m.lines ≡ []) (modest : Is
     bus_price_within : (b : ℕ) (d : Duals Fraction) (i : ℕ) → IsWholeWithin b d.energy → IsWholeWithin b (bus_price m d i)
     bus_price_within b d i e = subst (IsWholeWithin b) (sym (bus_price-bare m d i bare)) e
 
+    unit_price_within : (b : ℕ) (d : Duals Fraction) (u : ℕ) → IsWholeWithin b d.energy → IsWholeWithin b (unit_price m d u)
+    unit_price_within b d u e = subst (IsWholeWithin b) (sym (unit_price-bare m d u bare)) e
+
+    -- the own price of a unit, at the bus prices: with no row after its loss, that of its bus
+    own_price_within : (b : ℕ) (d : Duals Fraction) (u : ℕ) → IsWholeWithin b d.energy → IsWholeWithin b (own_price m d (bus_price m d) u)
+    unfolding unit_price
+    own_price_within b d u e = unit_price_within b d u e
+
+    own_terms_within : (b most k : ℕ) (d : Duals Fraction) (u : ℕ) → 2 * b ≤ most → IsWholeWithin b d.energy → IsWholeWithin most (prefix k (own_terms m d (bus_price m d) u))
+    own_terms_within b most k d u wide e =
+        subst (λ (rs : List Row). IsWholeWithin most (prefix k (Plain (bus_price m d (unit_at m u).bus) ∷ map (λ r. Product (neg_ℚ (net_shadow_price m d r)) (row_pickup m r.line r.cause)) (filter (λ r. loses m u r.cause) rs)))) (sym bare)
+        (wider (1 * b) most (prefix k (Plain (bus_price m d (unit_at m u).bus) ∷ [])) (Prim.omega (arith, wide))
+        (prefix_within 1 b k (Plain (bus_price m d (unit_at m u).bus) ∷ []) (Prim.omega arith) (bus_price_within b d (unit_at m u).bus e, tt)))
+
     -- at duals that show that nothing is feasible
     farkas_energy_within : (d : Duals Fraction) → IsFarkasOf m [] h d → IsWholeWithin 1 d.energy
     farkas_energy_within d f = same_within 1 d.energy (multiplier h f.basic (balance_name m)) f.energy at_balance
@@ -111,7 +141,7 @@ module _ (m : Parts) (market : IsMarket m) (lines : m.lines ≡ []) (modest : Is
           map_within most_balance weighed (places (length m.blocks)) (λ j c. let lt = from_places (length m.blocks) j c in
               wider modest_mw most_balance (part_above (block_weight m d j) *ℚ quantity m j) (Prim.omega arith)
               (times_within 1 modest_mw (part_above (block_weight m d j)) (quantity m j)
-              (part_above_within 1 (block_weight m d j) (signed_within 1 (block_at m j).side (unit_price m d (block_at m j).unit) (bus_price_within 1 d (unit_at m (block_at m j).unit).bus (farkas_energy_within d f))))
+              (part_above_within 1 (block_weight m d j) (signed_within 1 (block_at m j).side (unit_price m d (block_at m j).unit) (unit_price_within 1 d (block_at m j).unit (farkas_energy_within d f))))
               (quantity_within m market modest j lt))),
         ))
       where
@@ -130,11 +160,14 @@ module _ (m : Parts) (market : IsMarket m) (lines : m.lines ≡ []) (modest : Is
 
     price_sum_within : (b most k : ℕ) (d : Duals Fraction) (terms : List Term) → PriceSum m d terms → 2 * b ≤ most → IsWholeWithin b d.energy → IsWholeWithin most (prefix k terms)
     price_sum_within b most k d terms (price_of_bus i same lt part) wide e = bus_price_sum_within b most k d i terms part wide e
+    price_sum_within b most k d terms (price_of_unit same (own_price_of_unit u lt)) wide e = own_terms_within b most k d u wide e
 
     flow_sum_within : (x : Dispatch) (k : ℕ) (terms : List Term) → IsInjecting m [] h x → FlowSum m x terms → IsWholeWithin most_value (prefix k terms)
     flow_sum_within x k terms j (flow_in_balance same (balance_from_bus also (injection_at i lt))) = wider most_injection most_value (prefix k terms) (Prim.omega arith) (injection_within m market modest x (injecting_small x j) i k lt)
     flow_sum_within x k terms j (flow_in_balance same balance_of_all) = wider most_balance most_value (prefix k terms) (Prim.omega arith) (balance_within m market modest x (injecting_small x j) k)
     flow_sum_within x k terms j (flow_in_limits same (limited_line also (flow_of_line l lt))) = absurd (no_line l lt)
+    flow_sum_within x k terms j (flow_in_limits same (limited_unit also (output_of_lost o lt))) =
+        wider most_output most_value (prefix k terms) (Prim.omega arith) (output_terms_within m market modest x (injecting_small x j) (lost_unit m o) k (lost_unit-in m market o lt))
     flow_sum_within x k terms j (flow_in_limits same (limited_row r also c part)) = absurd (no_row m r bare c)
 
     sum_within : (kind : Option Kind) (terms : List Term) (k : ℕ) → NamedSum m [] h kind terms → WithinOf kind (prefix k terms)
@@ -148,27 +181,49 @@ module _ (m : Parts) (market : IsMarket m) (lines : m.lines ≡ []) (modest : Is
     sum_within _ terms k (of_farkas_price d same f price) = price_sum_within 1 4000 k d terms price (Prim.omega arith) (farkas_energy_within d f)
     sum_within _ terms k (farkas_bound_of d same f farkas_bound_of_all) = farkas_within d k f
 
-    -- each number of the market
-    number_within : (kind : Kind) (x : Fraction) → MarketNumber m [] h kind x → IsWholeWithin (most_of kind) x
-    number_within kind x (of_system same y n) = system_within m market modest h is same y n
-    number_within Quantity x (is_fixed u lt) = wider modest_mw most_value x (Prim.omega arith) (fixed_within m market modest u lt)
-    number_within Quantity x (is_up u lt) = wider modest_mw most_value x (Prim.omega arith) (up_within m market modest u lt)
-    number_within Quantity x (is_down u lt) = wider modest_mw most_value x (Prim.omega arith) (down_within m market modest u lt)
-    number_within Quantity x (is_load i lt) = wider modest_mw most_value x (Prim.omega arith) (load_within m market modest i lt)
-    number_within Quantity x (is_shunt i lt) = wider modest_mw most_value x (Prim.omega arith) (shunt_within m market modest i lt)
-    number_within Quantity x (is_limit r c) = absurd (no_row m r bare c)
-    number_within Quantity x (is_most_flow r c) = absurd (no_row m r bare c)
-    number_within Quantity x (is_line_offset l lt) = absurd (no_line l lt)
-    number_within Factor x (is_shift l i lt k) = absurd (no_line l lt)
-    number_within Factor x (is_loss l lost lt k) = absurd (no_line l lt)
-    number_within Price x is_energy = wider modest_price (4000 * modest_price) x (Prim.omega arith) price_is_modest
-    number_within Price x (is_up_dual r c) = absurd (no_row m r bare c)
-    number_within Price x (is_down_dual r c) = absurd (no_row m r bare c)
-    number_within Factor x (is_farkas_energy d f) = wider 1 4000 x (Prim.omega arith) (farkas_energy_within d f)
-    number_within Factor x (is_farkas_up d r f c) = absurd (no_row m r bare c)
-    number_within Factor x (is_farkas_down d r f c) = absurd (no_row m r bare c)
-    number_within kind x (of_sum same terms k named) = sum_within (Some same) terms k named
-    number_within kind x (of_opposite same y n) = neg_within (most_of same) y (number_within same y n)
+    -- a number of a kind, or two of them, are small
+    wide : (kind : Kind) → most_of kind + most_of kind ≤ most
+    wide Factor = Prim.omega arith
+    wide Quantity = Prim.omega arith
+    wide Price = Prim.omega arith
+
+    kind_within : (kind : Kind) (x : Fraction) → IsWholeWithin (most_of kind) x → IsWholeWithin most x
+    kind_within kind x n = wider (most_of kind) most x (Prim.omega (arith, wide kind)) n
+
+    -- each number of the market is whole and small, but for the shares of what is picked up
+    kind_fits : (kind : Kind) (x : Fraction) → IsWholeWithin (most_of kind) x → NotTooLarge x
+    kind_fits kind x n = number_fits most x (Prim.omega arith) (kind_within kind x n)
+
+    share_fits : (p : Pickup) → Contains m.pickups p → NotTooLarge (share_value p)
+    share_fits p c large =
+        let is_pickup = All-contains (IsPickup (length m.unit_outages) (length m.units)) m.pickups p market.unit_outages.pickups c in
+        let size = over_within p.share factor_one (Prim.omega arith) in
+        elim large [
+          | inl n ↦ Prim.omega (arith, ints, is_pickup.above, is_pickup.most, size.0, n)
+          | inr n ↦ Prim.omega (arith, size.1, n)
+        ]
+
+    number_small : (kind : Kind) (x : Fraction) → MarketNumber m [] h kind x → NotTooLarge x
+    number_small kind x (of_system same y n) = kind_fits same y (system_within m market modest h is same y n)
+    number_small Quantity x (is_fixed u lt) = kind_fits Quantity x (wider modest_mw most_value x (Prim.omega arith) (fixed_within m market modest u lt))
+    number_small Quantity x (is_up u lt) = kind_fits Quantity x (wider modest_mw most_value x (Prim.omega arith) (up_within m market modest u lt))
+    number_small Quantity x (is_down u lt) = kind_fits Quantity x (wider modest_mw most_value x (Prim.omega arith) (down_within m market modest u lt))
+    number_small Quantity x (is_load i lt) = kind_fits Quantity x (wider modest_mw most_value x (Prim.omega arith) (load_within m market modest i lt))
+    number_small Quantity x (is_shunt i lt) = kind_fits Quantity x (wider modest_mw most_value x (Prim.omega arith) (shunt_within m market modest i lt))
+    number_small Quantity x (is_limit r c) = absurd (no_row m r bare c)
+    number_small Quantity x (is_most_flow r c) = absurd (no_row m r bare c)
+    number_small Quantity x (is_line_offset l lt) = absurd (no_line l lt)
+    number_small Factor x (is_shift l i lt k) = absurd (no_line l lt)
+    number_small Factor x (is_loss l lost lt k) = absurd (no_line l lt)
+    number_small Factor x (is_share p c) = share_fits p c
+    number_small Price x is_energy = kind_fits Price x (wider modest_price (4000 * modest_price) x (Prim.omega arith) price_is_modest)
+    number_small Price x (is_up_dual r c) = absurd (no_row m r bare c)
+    number_small Price x (is_down_dual r c) = absurd (no_row m r bare c)
+    number_small Factor x (is_farkas_energy d f) = kind_fits Factor x (wider 1 4000 x (Prim.omega arith) (farkas_energy_within d f))
+    number_small Factor x (is_farkas_up d r f c) = absurd (no_row m r bare c)
+    number_small Factor x (is_farkas_down d r f c) = absurd (no_row m r bare c)
+    number_small kind x (of_sum same terms k named) = kind_fits same x (sum_within (Some same) terms k named)
+    number_small kind x (of_opposite same y n) = turned_small y (number_small same y n)
 
     -- the first terms of the welfare, and of what is settled
     welfare_each : IsRightChoice m [] h → TermsWithin (modest_price * most_output) (block_terms m (choice_dispatch m [] h))
@@ -182,7 +237,7 @@ module _ (m : Parts) (market : IsMarket m) (lines : m.lines ≡ []) (modest : Is
         (map_within (modest_price * most_output) paying (places (length m.buses)) (λ i c.
         times_within modest_price most_output (bus_price m d i) (demand m i) (bus_price_within modest_price d i price_is_modest) (demand_within m market modest i (from_places (length m.buses) i c))))
         (map_within (modest_price * most_output) paid (places (length m.units)) (λ u c.
-        times_within modest_price most_output (neg_ℚ (unit_price m d u)) (output m x u) (neg_within modest_price (unit_price m d u) (bus_price_within modest_price d (unit_at m u).bus price_is_modest))
+        times_within modest_price most_output (neg_ℚ (own_price m d (bus_price m d) u)) (output m x u) (neg_within modest_price (own_price m d (bus_price m d) u) (own_price_within modest_price d u price_is_modest))
         (output_within m market modest x (best_small best) u (from_places (length m.units) u c))))
       where
         x : Dispatch
@@ -195,7 +250,7 @@ module _ (m : Parts) (market : IsMarket m) (lines : m.lines ≡ []) (modest : Is
         paying i = Product (bus_price m d i) (demand m i)
 
         paid : ℕ → Term
-        paid u = Product (neg_ℚ (unit_price m d u)) (output m x u)
+        paid u = Product (neg_ℚ (own_price m d (bus_price m d) u)) (output m x u)
 
     abbrev Fits : List Term → Type 0
     Fits terms = (k : ℕ) → IsWholeWithin most (prefix k terms)
@@ -217,9 +272,9 @@ module _ (m : Parts) (market : IsMarket m) (lines : m.lines ≡ []) (modest : Is
           arith,
           market.bus_count,
           market.unit_count,
-          length-append (map (λ i. Product (bus_price m (choice_duals m [] h) i) (demand m i)) (places (length m.buses))) (map (λ u. Product (neg_ℚ (unit_price m (choice_duals m [] h) u)) (output m (choice_dispatch m [] h) u)) (places (length m.units))),
+          length-append (map (λ i. Product (bus_price m (choice_duals m [] h) i) (demand m i)) (places (length m.buses))) (map (λ u. Product (neg_ℚ (own_price m (choice_duals m [] h) (bus_price m (choice_duals m [] h)) u)) (output m (choice_dispatch m [] h) u)) (places (length m.units))),
           length-map (places (length m.buses)) (λ i. Product (bus_price m (choice_duals m [] h) i) (demand m i)),
-          length-map (places (length m.units)) (λ u. Product (neg_ℚ (unit_price m (choice_duals m [] h) u)) (output m (choice_dispatch m [] h) u)),
+          length-map (places (length m.units)) (λ u. Product (neg_ℚ (own_price m (choice_duals m [] h) (bus_price m (choice_duals m [] h)) u)) (output m (choice_dispatch m [] h) u)),
           length-range_with_len 0 (length m.buses),
           length-range_with_len 0 (length m.units),
         ))
@@ -231,12 +286,13 @@ module _ (m : Parts) (market : IsMarket m) (lines : m.lines ≡ []) (modest : Is
     settled_fits : IsRightChoice m [] h → (terms : List Term) → SettledSum m (choice_dispatch m [] h) (bus_price m (choice_duals m [] h)) (choice_duals m [] h) terms → Fits terms
     settled_fits best terms (paid_output same (output_of_unit u lt)) =
         sums_within terms modest_mw (output_count m market modest (choice_dispatch m [] h) (best_small best) u) (output_each m market modest (choice_dispatch m [] h) (best_small best) u lt) (Prim.omega arith)
+    settled_fits best terms (paid_price same (own_price_of_unit u lt)) = λ k. own_terms_within modest_price most k (choice_duals m [] h) u (Prim.omega arith) price_is_modest
     settled_fits best terms (demand_of_bus i lt) = sums_within (demand_terms m i) modest_mw (Prim.omega arith) (load_within m market modest i lt, (shunt_within m market modest i lt, tt)) (Prim.omega arith)
     settled_fits best terms (payment same (paid_by_load i lt)) = sums_within terms (modest_price * most_output) (Prim.omega arith)
         (times_within modest_price most_output (bus_price m (choice_duals m [] h) i) (demand m i) (bus_price_within modest_price (choice_duals m [] h) i price_is_modest) (demand_within m market modest i lt), tt)
         (Prim.omega arith)
     settled_fits best terms (payment same (paid_to_unit u lt)) = sums_within terms (modest_price * most_output) (Prim.omega arith) (
-      times_within modest_price most_output (unit_price m (choice_duals m [] h) u) (output m (choice_dispatch m [] h) u) (bus_price_within modest_price (choice_duals m [] h) (unit_at m u).bus price_is_modest)
+      times_within modest_price most_output (own_price m (choice_duals m [] h) (bus_price m (choice_duals m [] h)) u) (output m (choice_dispatch m [] h) u) (own_price_within modest_price (choice_duals m [] h) u price_is_modest)
           (output_within m market modest (choice_dispatch m [] h) (best_small best) u lt),
       tt,
     )
@@ -261,14 +317,6 @@ module _ (m : Parts) (market : IsMarket m) (lines : m.lines ≡ []) (modest : Is
     named_fits _ terms (farkas_bound_of d same f part) = tt
 
     -- and what a clear may have to write down
-    wide : (kind : Kind) → most_of kind + most_of kind ≤ most
-    wide Factor = Prim.omega arith
-    wide Quantity = Prim.omega arith
-    wide Price = Prim.omega arith
-
-    kind_within : (kind : Kind) (x : Fraction) → IsWholeWithin (most_of kind) x → IsWholeWithin most x
-    kind_within kind x n = wider (most_of kind) most x (Prim.omega (arith, wide kind)) n
-
     value_within : (b : ℕ) → Contains (basics (system_of m []) h) b → IsWholeWithin most_value (value (system_of m []) h b)
     unfolding value
     value_within b c =
@@ -289,11 +337,11 @@ module _ (m : Parts) (market : IsMarket m) (lines : m.lines ≡ []) (modest : Is
         (plus_within most_value most_value (value s h b) (neg_ℚ (s.low b)) (value_within b c) (neg_within most_value (s.low b) (system_within m market modest h is Quantity (s.low b) (is_low b (basics_are s h b c).0))))
     solving_within _ (turned_in_solving x n) = neg_within most x (solving_within x n)
 
-    clearing_within : (x : Fraction) → ClearingNumber m [] h x → IsWholeWithin most x
-    clearing_within _ (of_kind kind x n) = kind_within kind x (number_within kind x n)
-    clearing_within _ (of_solving x n) = solving_within x n
-    clearing_within _ (of_money terms k named) = named_fits None terms named k
-    clearing_within _ (is_turned x n) = neg_within most x (clearing_within x n)
+    clearing_small : (x : Fraction) → ClearingNumber m [] h x → NotTooLarge x
+    clearing_small _ (of_kind kind x n) = number_small kind x n
+    clearing_small _ (of_solving x n) = number_fits most x (Prim.omega arith) (solving_within x n)
+    clearing_small _ (of_money terms k named) = number_fits most (prefix k terms) (Prim.omega arith) (named_fits None terms named k)
+    clearing_small _ (is_turned x n) = turned_small x (clearing_small x n)
 
   -- no rows can be taken
   nothing_taken : (more : List Row) → GrowsBy m [] more → more ≡ []
@@ -303,5 +351,4 @@ module _ (m : Parts) (market : IsMarket m) (lines : m.lines ≡ []) (modest : Is
 pub law_of_modest_markets : LawOfModestMarkets
 law_of_modest_markets m market lines modest rows h x reached is n =
     let none : rows ≡ [] = reached.1 ∙ nothing_taken m market lines modest reached.0 reached.2 in
-    number_fits most x (Prim.omega arith)
-    (clearing_within m market lines modest h (subst (λ (rs : List Row). IsChoice (system_of m rs) h) none is) x (subst (λ (rs : List Row). ClearingNumber m rs h x) none n))
+    clearing_small m market lines modest h (subst (λ (rs : List Row). IsChoice (system_of m rs) h) none is) x (subst (λ (rs : List Row). ClearingNumber m rs h x) none n)

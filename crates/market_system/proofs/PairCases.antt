@@ -1,11 +1,11 @@
 -- What is refused outside the dictionary is a working pair of the market over the rows in hand: each operation by its name.
-use Rattle.std.specs.Prelude.{◌≡◌, ℕ, Contains, ◌+◌, ◌<◌, pos, List, [], ◌∷◌, ◌++◌, length, map, refl, ◌⊎◌, Option, Some, None}
+use Rattle.std.specs.Prelude.{◌≡◌, ℕ, Contains, ◌+◌, ◌<◌, ◌==◌, pos, List, [], ◌∷◌, ◌++◌, length, map, filter, refl, ◌⊎◌, Option, Some, None}
 use Rattle.std.specs.List.{flat_map}
 use Rattle.std.proofs.Common.{zero, suc, arith, ap, ap₂, sym, ◌∙◌, subst, inl, inr, get_or}
 use Rattle.std.proofs.lemmas.List.FromFn.{length-range_with_len, get_or-range_with_len}
 use Rattle.fraction_theory.specs.Fraction.{Fraction, whole, neg_ℚ, ◌+ℚ◌, ◌-ℚ◌, ◌*ℚ◌}
 use Rattle.fraction_theory.specs.Sums.{Term, Plain, Product, term_value, prefix, total}
-use Rattle.fraction_theory.proofs.Ring.{by_ring, by_ring1, at, pnil, pone, pneg, ◌⊕◌, ◌⊗◌}
+use Rattle.fraction_theory.proofs.Ring.{by_ring, by_ring1, at, pone, pneg, ◌⊕◌, ◌⊗◌}
 use Rattle.fraction_theory.proofs.FieldLaws.{ring_ℚ}
 use Rattle.fraction_theory.specs.Signs.{sign_of, where_above, part_above}
 use Rattle.fraction_theory.specs.declared.Sign.{Sign}
@@ -20,25 +20,28 @@ use Rattle.linear_system.specs.Choices.{Choice, IsChoice}
 use Rattle.linear_system.specs.Numbers.{Kind, Factor, Quantity, Price, SolvingNumber, SystemNumber, is_zero, is_high}
 use Rattle.linear_system.specs.Pairs.{IsCombined, alone, sum, difference, IsSummand, plain, IsPairCase, added, subtracted, scaled_right, scaled_left, AtEither, IsForLarge, added_to, itself, OfEither, IsSystemPair}
 use Rattle.linear_system.proofs.PairLaws.{IsForLarge-each, IsPairCase-each, IsScaling, less_large}
-use Rattle.fraction_theory.proofs.ListSums.{Contains-head, Contains-cons}
+use Rattle.fraction_theory.proofs.ListSums.{Contains-head, Contains-cons, Contains-from_filter}
+use Rattle.std.proofs.lemmas.List.Elements.{All-contains}
 use Rattle.market_model.specs.declared.answered.Duals.{Duals}
 use Rattle.market_model.specs.declared.participants.Parts.{Parts}
+use Rattle.market_model.specs.declared.participants.Pickup.{Pickup}
 use Rattle.market_model.specs.declared.participants.Side.{Side}
 use Rattle.market_model.specs.declared.participants.Side.TheVariants.{Sell, Buy}
-use Rattle.market_model.specs.Dispatch.{Dispatch, places, bus_at, unit_at, block_at, units_at, blocks_at, blocks_of, fixed_term, block_term, signed_by_side, quantity, injection, injection_terms, balance, balance_terms, empty}
+use Rattle.market_model.specs.Dispatch.{Dispatch, places, bus_at, unit_at, block_at, units_at, blocks_at, blocks_of, fixed_term, block_term, signed_by_side, quantity, injection, injection_terms, output, output_terms, balance, balance_terms, empty}
 use Rattle.limit_rows.proofs.ApartLemmas.{names_apart}
-use Rattle.limit_rows.proofs.FactorLemmas.{IsLost, stands}
 use Rattle.market_model.specs.declared.limits.Cause.{Cause}
 use Rattle.market_model.specs.declared.limits.Row.{Row}
-use Rattle.market_model.specs.declared.limits.Cause.TheVariants.{Base, Branch}
-use Rattle.market_model.specs.LimitRows.{rows, most_flow, shift_factor, line_offset, line_terms, line_flow, flow_terms, terms_under, row_factor, factor_terms, flow}
-use Rattle.market_model.specs.Market.{IsMarket}
+use Rattle.market_model.specs.declared.limits.Cause.TheVariants.{Base, Branch, UnitOutage}
+use Rattle.market_model.specs.LimitRows.{IsCauseOf, carried, rows, loses, lost_output, lost_unit, most_flow, picked_up_terms, pickup_factor, pickup_terms, pickups_of, row_pickup, shift_factor, share_value, taker_terms, line_offset, line_terms, line_flow, flow_terms, terms_under, row_factor, factor_terms, flow}
+use Rattle.market_model.specs.Market.{IsMarket, IsPickup}
 use Rattle.market_model.specs.NamedSums.{SameSize, term_at, IsNextTerm, IsSumStep, IsRefusedIn, IsRefusal}
-use Rattle.market_model.specs.Optimality.{net_shadow_price, up_of, down_of, congestion, price_by, price_terms, bus_price, unit_price, welfare_terms}
+use Rattle.market_model.specs.Optimality.{net_shadow_price, up_of, down_of, bus_price, own_terms, unit_price, welfare_terms}
 use Rattle.market_model.specs.Infeasibility.{block_weight, limit_terms, farkas_terms}
-use Rattle.market_model.specs.SumTables.{injection_at, balance_from_bus, balance_of_all, flow_of_line, flow_of_row, limited_line, limited_row, FlowSum, flow_in_balance, flow_in_limits, offset_of_row, factor_at_bus, output_of_unit, BusPriceSum, PriceSum, price_of_bus, congestion_at, price_at, farkas_bound_of_all}
+use Rattle.market_model.specs.SumTables.{injection_at, balance_from_bus, balance_of_all, flow_of_line, flow_of_row, output_of_lost, limited_line, limited_unit, limited_row, FlowSum, flow_in_balance, flow_in_limits, offset_of_row, pickup_of_row, factor_at_bus, factor_of_pickup, output_of_unit, BusPriceSum, own_price_of_unit, PickupSum, PriceSum, price_of_bus, price_of_unit, congestion_at, price_at, farkas_bound_of_all}
+use Rattle.market_model.proofs.MarketSums.{block_unit-in, unit_bus-in}
+use Rattle.market_model.proofs.RowMembers.{at_places}
 use Rattle.market_system.specs.Growth.{Growth}
-use Rattle.market_system.specs.MarketNumbers.{ClearingNumber, of_kind, of_money, of_solving, is_turned, IsInjecting, IsFarkasOf, NamedSum, offset_of, factor_of, of_flow, output_of, of_price, of_welfare, of_settlement, of_farkas_price, farkas_bound_of, MarketNumber, of_system, of_sum, is_most_flow, is_line_offset, is_shift, is_loss, is_up_dual, is_down_dual, is_farkas_energy, is_farkas_up, is_farkas_down, of_opposite}
+use Rattle.market_system.specs.MarketNumbers.{ClearingNumber, of_kind, of_money, of_solving, is_turned, IsInjecting, IsFarkasOf, NamedSum, offset_of, factor_of, of_flow, output_of, of_price, of_welfare, of_settlement, of_farkas_price, farkas_bound_of, MarketNumber, of_system, of_sum, is_most_flow, is_line_offset, is_shift, is_loss, is_share, is_up_dual, is_down_dual, is_farkas_energy, is_farkas_up, is_farkas_down, of_opposite}
 use Rattle.market_system.specs.MarketSystem.{system_of, choice_dispatch, choice_duals}
 use Rattle.market_system.specs.PairLaw.{LawOfThePairs}
 use Rattle.market_system.proofs.DualLists.{rows_apart}
@@ -289,9 +292,39 @@ module _ (m : Parts) (taken g : List Row) (reached : Growth m taken g) (h : Choi
       subst (λ (j : ℕ). j < n) (sym here ∙ e) inside
 
   -- an amount of lines, under a cause
-  under_scaled : (kind : Kind) (f : ℕ → Fraction) → ((k : ℕ) → k < length m.lines → Number kind (f k)) → (l : ℕ) (cause : Cause) → l < length m.lines → IsLost m cause → AreScaled kind (terms_under m f l cause)
+  under_scaled : (kind : Kind) (f : ℕ → Fraction) → ((k : ℕ) → k < length m.lines → Number kind (f k)) → (l : ℕ) (cause : Cause) → l < length m.lines → IsCauseOf m cause → AreScaled kind (terms_under m f l cause)
   under_scaled kind f amounts l Base lt lost = (tt, tt)
-  under_scaled kind f amounts l (Branch k) lt lost = (tt, (inl (is_loss l k lt lost.0, alone (f k) (amounts k lost.0)), tt))
+  under_scaled kind f amounts l (Branch k) lt lost = (tt, (inl (is_loss l k lt lost, alone (f k) (amounts k lost)), tt))
+  under_scaled kind f amounts l (UnitOutage k) lt lost = (tt, tt)
+
+  -- what takers pick up, and what a lost unit put in
+  pickups_scaled : IsMarket m → (l k : ℕ) → l < length m.lines → AreScaled Factor (pickup_terms m l k)
+  pickups_scaled market l k lt =
+      scaled_append Factor (taker_terms m l k) (Plain (neg_ℚ (shift_factor m l (unit_at m (lost_unit m k)).bus)) ∷ [])
+      (scaled_map Factor (λ p. Product (share_value p) (shift_factor m l (unit_at m p.taker).bus)) (pickups_of m k) each)
+      (tt, tt)
+    where
+      each : (p : Pickup) → Contains (pickups_of m k) p → IsScaled Factor (Product (share_value p) (shift_factor m l (unit_at m p.taker).bus))
+      each p c =
+          let listed : Contains m.pickups p = (Contains-from_filter (λ q. q.outage == k) m.pickups p c).0 in
+          let is_pickup = All-contains (IsPickup (length m.unit_outages) (length m.units)) m.pickups p market.unit_outages.pickups listed in
+          inl (is_share p listed, alone (shift_factor m l (unit_at m p.taker).bus) (is_shift l (unit_at m p.taker).bus lt (unit_bus-in m market p.taker is_pickup.taker)))
+
+  pickup_scaled : IsMarket m → (r : Row) → Contains (rows m) r → (terms : List Term) → PickupSum m r terms → AreScaled Factor terms
+  pickup_scaled market r c _ (pickup_of_row k e) = pickups_scaled market r.line k (at_places m market r c).0
+
+  -- the pickup factor of a row
+  pickup_number : (r : Row) → Contains (rows m) r → (k : ℕ) → r.cause ≡ UnitOutage k → Number Factor (pickup_factor m r.line k)
+  unfolding pickup_factor
+  pickup_number r c k e = whole_sum Factor (pickup_terms m r.line k) (factor_of r _ c (factor_of_pickup _ (pickup_of_row k e)))
+
+  row_pickup_number : (r : Row) → Contains (rows m) r → Number Factor (row_pickup m r.line r.cause)
+  row_pickup_number r c = by r.cause refl
+    where
+      by : (cause : Cause) → r.cause ≡ cause → Number Factor (row_pickup m r.line cause)
+      by Base e = of_system Factor (whole (pos 0)) is_zero
+      by (Branch k) e = of_system Factor (whole (pos 0)) is_zero
+      by (UnitOutage k) e = pickup_number r c k e
 
   -- ---- where nothing is accepted, or at a best dispatch
   module _ (market : IsMarket m) (x : Dispatch) (injecting : IsInjecting m g h x) where
@@ -304,7 +337,20 @@ module _ (m : Parts) (taken g : List Row) (reached : Growth m taken g) (h : Choi
     lined l lt = whole_sum Quantity (line_terms m (injection m x) l) (of_flow x (line_terms m (injection m x) l) injecting (flow_in_limits _ (limited_line _ (flow_of_line l lt))))
 
     pub row_flow_number : (r : Row) → Contains (rows m) r → Number Quantity (flow m x r)
-    row_flow_number r c = whole_sum Quantity (flow_terms m (line_flow m (injection m x)) r) (of_flow x (flow_terms m (line_flow m (injection m x)) r) injecting (flow_in_limits _ (limited_row r _ c flow_of_row)))
+    row_flow_number r c = whole_sum Quantity (flow_terms m (carried m x) r) (of_flow x (flow_terms m (carried m x) r) injecting (flow_in_limits _ (limited_row r _ c flow_of_row)))
+
+    lost_number : (k : ℕ) → k < length m.unit_outages → Number Quantity (lost_output m x k)
+    unfolding output
+    lost_number k lt = whole_sum Quantity (output_terms m x (lost_unit m k)) (of_flow x (output_terms m x (lost_unit m k)) injecting (flow_in_limits _ (limited_unit _ (output_of_lost k lt))))
+
+    -- what is picked up of the output that a row's cause loses
+    picked_up_scaled : (r : Row) → Contains (rows m) r → AreScaled Quantity (picked_up_terms m (lost_output m x) r.line r.cause)
+    picked_up_scaled r c = by r.cause refl (at_places m market r c).1
+      where
+        by : (cause : Cause) → r.cause ≡ cause → IsCauseOf m cause → AreScaled Quantity (picked_up_terms m (lost_output m x) r.line cause)
+        by Base e is = tt
+        by (Branch k) e is = tt
+        by (UnitOutage k) e is = (inl (pickup_number r c k e, alone (lost_output m x k) (lost_number k is)), tt)
 
     balanced : Number Quantity (balance m x)
     unfolding balance
@@ -323,20 +369,31 @@ module _ (m : Parts) (taken g : List Row) (reached : Growth m taken g) (h : Choi
           (λ i c. let inside = below (length m.buses) i c in inl (is_shift l i lt inside, alone (injection m x i) (injected i inside))),
     )
     flows_scaled terms (flow_in_balance same balance_of_all) = scaled_map Quantity (λ i. Plain (injection m x i)) (places (length m.buses)) (λ i c. tt)
-    flows_scaled terms (flow_in_limits same (limited_row r also c flow_of_row)) = let s = stands m market r c in under_scaled Quantity (line_flow m (injection m x)) lined r.line r.cause s.line s.lost
+    flows_scaled terms (flow_in_limits same (limited_unit also (output_of_lost k lt))) = (tt, scaled_map Quantity (block_term m x) (blocks_of m (lost_unit m k)) (λ j c. tt))
+    flows_scaled terms (flow_in_limits same (limited_row r also c flow_of_row)) =
+        let s = at_places m market r c in
+        scaled_append Quantity (terms_under m (line_flow m (injection m x)) r.line r.cause) (picked_up_terms m (lost_output m x) r.line r.cause)
+        (under_scaled Quantity (line_flow m (injection m x)) lined r.line r.cause s.0 s.1)
+        (picked_up_scaled r c)
 
   -- ---- prices
   module _ (kind : Kind) (d : Duals Fraction) (ups : (r : Row) → Contains (rows m) r → Number kind (up_of m d r)) (downs : (r : Row) → Contains (rows m) r → Number kind (down_of m d r)) where
+    opposite_net : (r : Row) → Contains (rows m) r → IsCombined Number kind (neg_ℚ (net_shadow_price m d r))
+    opposite_net r c = combined_opposite Number opposite kind (net_shadow_price m d r) (difference (up_of m d r) (down_of m d r) (ups r c) (downs r c))
+
     bus_prices_scaled : (i : ℕ) → i < length m.buses → (terms : List Term) → BusPriceSum m d i terms → AreScaled kind terms
     unfolding row_factor
-    bus_prices_scaled i lt terms congestion_at = scaled_map kind (λ r. Product (neg_ℚ (net_shadow_price m d r)) (row_factor m r i)) (rows m) (λ r c. inr (
-      combined_opposite Number opposite kind (net_shadow_price m d r) (difference (up_of m d r) (down_of m d r) (ups r c) (downs r c)),
-      whole_sum Factor (factor_terms m r i) (factor_of r _ c (factor_at_bus i lt)),
-    ))
+    bus_prices_scaled i lt terms congestion_at = scaled_map kind (λ r. Product (neg_ℚ (net_shadow_price m d r)) (row_factor m r i)) (rows m)
+        (λ r c. inr (opposite_net r c, whole_sum Factor (factor_terms m r i) (factor_of r _ c (factor_at_bus i lt))))
     bus_prices_scaled i lt terms price_at = (tt, (tt, tt))
 
     prices_scaled : (terms : List Term) → PriceSum m d terms → AreScaled kind terms
     prices_scaled terms (price_of_bus i same lt part) = bus_prices_scaled i lt terms part
+    prices_scaled terms (price_of_unit same (own_price_of_unit u lt)) = (
+      tt,
+      scaled_map kind (λ r. Product (neg_ℚ (net_shadow_price m d r)) (row_pickup m r.line r.cause)) (filter (λ r. loses m u r.cause) (rows m))
+          (λ r k. let c = (Contains-from_filter (λ s. loses m u s.cause) (rows m) r k).0 in inr (opposite_net r c, row_pickup_number r c)),
+    )
 
   -- ---- the bound of duals that show that nothing is feasible
   module _ (market : IsMarket m) (d : Duals Fraction) (f : IsFarkasOf m g h d) where
@@ -349,15 +406,9 @@ module _ (m : Parts) (taken g : List Row) (reached : Growth m taken g) (h : Choi
       (inl (is_farkas_down d r f c, sum (most_flow m r) (flow m (empty m) r) (is_most_flow r c) (row_flow_number market (empty m) idle r c)), tt),
     )
 
-    unit_bus : (j : ℕ) → j < length m.blocks → (unit_at m (block_at m j).unit).bus < length m.buses
-    unit_bus j lt =
-        let unit = (market.blocks j (record { unit = 0; side = Sell; quantity = pos 0; price = pos 0 }) lt).unit in
-        (market.units (block_at m j).unit (record { row = 0; bus = 0; fixed = pos 0; up = pos 0; down = pos 0 }) unit).bus
-
-    price_number : (i : ℕ) → i < length m.buses → Number Factor (bus_price m d i)
-    unfolding price_by
-    price_number i lt = subst (Number Factor) (by_ring ring_ℚ (d.energy ∷ congestion m d i ∷ []) (at 0 ⊕ (at 1 ⊕ pnil)) (at 0 ⊕ at 1) refl)
-        (whole_sum Factor (price_terms m d i) (of_farkas_price d (price_terms m d i) f (price_of_bus i _ lt price_at)))
+    price_number : (u : ℕ) → u < length m.units → Number Factor (unit_price m d u)
+    unfolding unit_price
+    price_number u lt = whole_sum Factor (own_terms m d (bus_price m d) u) (of_farkas_price d (own_terms m d (bus_price m d) u) f (price_of_unit _ (own_price_of_unit u lt)))
 
     signed_number : (side : Side) (x : Fraction) → Number Factor x → Number Factor (signed_by_side side x)
     signed_number Sell x n = n
@@ -376,7 +427,7 @@ module _ (m : Parts) (taken g : List Row) (reached : Growth m taken g) (h : Choi
           (scaled_map Quantity (λ j. Product (part_above (block_weight m d j)) (quantity m j)) (places (length m.blocks)) (λ j c.
           let lt = below (length m.blocks) j c in
           inl (
-            above_number (sign_of (block_weight m d j)) (block_weight m d j) (signed_number (block_at m j).side (unit_price m d (block_at m j).unit) (price_number (unit_at m (block_at m j).unit).bus (unit_bus j lt))),
+            above_number (sign_of (block_weight m d j)) (block_weight m d j) (signed_number (block_at m j).side (unit_price m d (block_at m j).unit) (price_number (block_at m j).unit (block_unit-in m market j lt))),
             alone (quantity m j) (quantity_number j lt),
           ))),
     )
@@ -388,8 +439,9 @@ module _ (m : Parts) (taken g : List Row) (reached : Growth m taken g) (h : Choi
 
   -- ---- every named sum
   by_sum : IsMarket m → (kind : Option Kind) (terms : List Term) → NamedSum m g h kind terms → IsRefusedIn terms bound p → IsRangeOf m taken bound p
-  by_sum market _ terms (offset_of r same c offset_of_row) = let s = stands m market r c in by_steps Quantity terms (offset_of r terms c offset_of_row) (under_scaled Quantity (line_offset m) (λ l inside. is_line_offset l inside) r.line r.cause s.line s.lost)
-  by_sum market _ terms (factor_of r same c (factor_at_bus i lt)) = let s = stands m market r c in by_steps Factor terms (factor_of r terms c (factor_at_bus i lt)) (under_scaled Factor (λ k. shift_factor m k i) (λ k inside. is_shift k i inside lt) r.line r.cause s.line s.lost)
+  by_sum market _ terms (offset_of r same c offset_of_row) = let s = at_places m market r c in by_steps Quantity terms (offset_of r terms c offset_of_row) (under_scaled Quantity (line_offset m) (λ l inside. is_line_offset l inside) r.line r.cause s.0 s.1)
+  by_sum market _ terms (factor_of r same c (factor_at_bus i lt)) = let s = at_places m market r c in by_steps Factor terms (factor_of r terms c (factor_at_bus i lt)) (under_scaled Factor (λ k. shift_factor m k i) (λ k inside. is_shift k i inside lt) r.line r.cause s.0 s.1)
+  by_sum market _ terms (factor_of r same c (factor_of_pickup also part)) = by_steps Factor terms (factor_of r terms c (factor_of_pickup terms part)) (pickup_scaled market r c terms part)
   by_sum market _ terms (of_flow x same injecting flow) = by_steps Quantity terms (of_flow x terms injecting flow) (flows_scaled market x injecting terms flow)
   by_sum market _ terms (output_of same best (output_of_unit u lt)) =
       by_steps Quantity terms (output_of terms best (output_of_unit u lt)) (tt, scaled_map Quantity (block_term m (choice_dispatch m g h)) (blocks_of m u) (λ j c. tt))

@@ -11,7 +11,7 @@ use Rattle.fraction_theory.proofs.ListSums.{Contains-head, Contains-cons, Contai
 use Rattle.market_model.specs.declared.participants.Parts.{Parts}
 use Rattle.market_model.specs.declared.limits.Cause.{Cause}
 use Rattle.market_model.specs.declared.limits.Row.{Row}
-use Rattle.market_model.specs.declared.limits.Cause.TheVariants.{Base, Branch}
+use Rattle.market_model.specs.declared.limits.Cause.TheVariants.{Base, Branch, UnitOutage}
 use Rattle.market_model.specs.LimitRows.{rows}
 use Rattle.market_system.specs.MarketSystem.{same_cause, same_row, is_in, in_order, row_place, row_name}
 
@@ -29,12 +29,18 @@ number_itself a = elim (eqb_tells a a) [ inl t ↦ t.0 | inr t ↦ absurd (t.1 r
 same_cause-is : (a b : Cause) → same_cause a b ≡ true → a ≡ b
 same_cause-is Base Base h = refl
 same_cause-is Base (Branch k) h = absurd Prim.cc
+same_cause-is Base (UnitOutage k) h = absurd Prim.cc
 same_cause-is (Branch j) Base h = absurd Prim.cc
 same_cause-is (Branch j) (Branch k) h = ap Branch (same_number j k h)
+same_cause-is (Branch j) (UnitOutage k) h = absurd Prim.cc
+same_cause-is (UnitOutage j) Base h = absurd Prim.cc
+same_cause-is (UnitOutage j) (Branch k) h = absurd Prim.cc
+same_cause-is (UnitOutage j) (UnitOutage k) h = ap UnitOutage (same_number j k h)
 
 same_cause-itself : (a : Cause) → same_cause a a ≡ true
 same_cause-itself Base = refl
 same_cause-itself (Branch k) = number_itself k
+same_cause-itself (UnitOutage k) = number_itself k
 
 pub same_row-is : (a b : Row) → same_row a b ≡ true → a ≡ b
 same_row-is a b h =

@@ -19,12 +19,13 @@ use Rattle.market_model.specs.declared.answered.Duals.{Duals}
 use Rattle.market_model.specs.declared.participants.Side.{Side}
 use Rattle.market_model.specs.declared.participants.Side.TheVariants.{Sell, Buy}
 use Rattle.market_model.specs.declared.participants.Parts.{Parts}
-use Rattle.market_model.specs.Dispatch.{Dispatch, zero as nil, block_at, block_bus, signed_by_side, accepted, empty}
+use Rattle.market_model.specs.Dispatch.{Dispatch, zero as nil, block_at, signed_by_side, accepted, empty}
 use Rattle.market_model.specs.declared.limits.Row.{Row}
-use Rattle.market_model.specs.LimitRows.{rows, limit, is_soft, penalty, most_excess, row_factor, flow}
+use Rattle.market_model.specs.LimitRows.{rows, limit, is_soft, penalty, most_excess, unit_factor, flow}
 use Rattle.market_model.specs.Market.{IsMarket}
-use Rattle.market_model.specs.Optimality.{block_value, price, net_shadow_price, up_of, down_of, bus_price, unit_price, welfare_for, Gains, Loses, BlockSupported, SideSupported, RowSupported, Supports, ProperDuals, congestion_by, price_by}
+use Rattle.market_model.specs.Optimality.{block_value, price, net_shadow_price, up_of, down_of, unit_price, welfare_for, Gains, Loses, BlockSupported, SideSupported, RowSupported, Supports, ProperDuals, congestion_by, price_by}
 use Rattle.market_model.proofs.Excesses.{penalty_least}
+use Rattle.market_model.proofs.RowLaws.{unit_price-by_factors}
 use Rattle.market_system.specs.declared.variables.Variable.TheVariants.{Balance, Limit, Over, Under}
 use Rattle.market_system.specs.Growth.{BestFor}
 use Rattle.market_system.specs.MarketSystem.{balance_name, row_name, over_name, under_name, at_row, is_in, in_order, block_sign, block_coefficient, system_of, choice_dispatch, duals_by_cost, choice_duals}
@@ -55,7 +56,7 @@ supports_by m g x d s kept = record { blocks = s.blocks; rows = λ r c. by r c (
     by r c true e = s.rows r c (inl (is_in-from g r e))
     by r c false e = s.rows r c (inr (kept r c (λ k. let wrong : false ≡ true = sym e ∙ is_in-in g r k in absurd cc)))
 
--- ---- bus prices of duals that are made of costs by name
+-- ---- prices of duals that are made of costs by name
 module _ (m : Parts) (names : NamesApart m) (cost_of : ℕ → Fraction) (g : List Row) where
   abbrev made : Duals Fraction
   made = duals_by_cost m g cost_of
@@ -66,15 +67,15 @@ module _ (m : Parts) (names : NamesApart m) (cost_of : ℕ → Fraction) (g : Li
   abbrev cost : Row → Fraction
   cost r = cost_of (row_name m r)
 
-  -- what the rows of the list take at a bus
-  pub price-made : (i : ℕ) → bus_price m made i ≡ energy +ℚ sum_by (λ r. neg_ℚ (cost r) *ℚ row_factor m r i) (in_order m g)
+  -- what the rows of the list take, by factors
+  pub price-made : (factor : Row → Fraction) → price_by m made factor ≡ energy +ℚ sum_by (λ r. neg_ℚ (cost r) *ℚ factor r) (in_order m g)
   unfolding price_by congestion_by
-  price-made i = ap (λ t. energy +ℚ t)
-      (total-Product (λ r. neg_ℚ (net_shadow_price m made r)) (λ r. row_factor m r i) (rows m)
-      ∙ sum_by-members (λ r. neg_ℚ (net_shadow_price m made r) *ℚ row_factor m r i) (λ r. kept (is_in g r) (neg_ℚ (cost r) *ℚ row_factor m r i)) (rows m)
-      (λ r c. ap (λ t. neg_ℚ t *ℚ row_factor m r i) (net_price-made m names cost_of g r c) ∙ by (is_in g r) (cost r) (row_factor m r i))
-      ∙ sym (sum_by-filter (λ r. neg_ℚ (cost r) *ℚ row_factor m r i) (is_in g) (rows m))
-      ∙ ap (sum_by (λ r. neg_ℚ (cost r) *ℚ row_factor m r i)) (sym (in_order-filter m g)))
+  price-made factor = ap (λ t. energy +ℚ t)
+      (total-Product (λ r. neg_ℚ (net_shadow_price m made r)) factor (rows m)
+      ∙ sum_by-members (λ r. neg_ℚ (net_shadow_price m made r) *ℚ factor r) (λ r. kept (is_in g r) (neg_ℚ (cost r) *ℚ factor r)) (rows m)
+      (λ r c. ap (λ t. neg_ℚ t *ℚ factor r) (net_price-made m names cost_of g r c) ∙ by (is_in g r) (cost r) (factor r))
+      ∙ sym (sum_by-filter (λ r. neg_ℚ (cost r) *ℚ factor r) (is_in g) (rows m))
+      ∙ ap (sum_by (λ r. neg_ℚ (cost r) *ℚ factor r)) (sym (in_order-filter m g)))
     where
       by : (b : Bool) (x a : Fraction) → neg_ℚ (if b then x else nil) *ℚ a ≡ kept b (neg_ℚ x *ℚ a)
       by true x a = refl
@@ -84,14 +85,14 @@ module _ (m : Parts) (names : NamesApart m) (cost_of : ℕ → Fraction) (g : Li
   pub weight-made : (j : ℕ) → signed_by_side (block_at m j).side (unit_price m made (block_at m j).unit)
       ≡ energy *ℚ block_sign m j -ℚ sum_by (λ r. cost r *ℚ block_coefficient m r j) (in_order m g)
   weight-made j =
-      ap (signed_by_side (block_at m j).side) (price-made (block_bus m j))
+      ap (signed_by_side (block_at m j).side) (unit_price-by_factors m made (block_at m j).unit ∙ price-made factor)
       ∙ by (block_at m j).side
     where
       over : List Row
       over = in_order m g
 
       factor : Row → Fraction
-      factor r = row_factor m r (block_bus m j)
+      factor r = unit_factor m r (block_at m j).unit
 
       turned : sum_by (λ r. neg_ℚ (cost r) *ℚ factor r) over ≡ neg_ℚ (whole (pos 1)) *ℚ sum_by (λ r. cost r *ℚ factor r) over
       turned =

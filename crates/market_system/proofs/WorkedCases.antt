@@ -10,11 +10,13 @@ use Rattle.market_model.specs.declared.answered.Load.{Load}
 use Rattle.market_model.specs.declared.answered.Price.{Price}
 use Rattle.market_model.specs.declared.answered.Rent.{Rent}
 use Rattle.market_model.specs.declared.answered.UnitPay.{UnitPay}
+use Rattle.market_model.specs.declared.participants.Block.{Block}
 use Rattle.market_model.specs.declared.participants.Parts.{Parts}
+use Rattle.market_model.specs.declared.participants.Side.TheVariants.{Sell}
 use Rattle.market_model.specs.Dispatch.{injection, balance, output, demand}
 use Rattle.market_model.specs.Infeasibility.{IsFarkas, farkas_bound}
-use Rattle.market_model.specs.LimitRows.{rows, line_flow, row_offset, row_factor}
-use Rattle.market_model.specs.Optimality.{congestion, welfare_for, congestion_by, price_by}
+use Rattle.market_model.specs.LimitRows.{rows, line_flow, row_offset, row_factor, taker_factor, pickup_factor}
+use Rattle.market_model.specs.Optimality.{congestion, welfare_for, congestion_by, price_by, unit_price}
 use Rattle.market_model.specs.RightAnswers.{IsRight}
 use Rattle.market_model.specs.Settlement.{paid, pays, rent, surplus}
 use Rattle.market_model.proofs.LimitCases.{mw, price, money, blocks, buses, line, shifts, losses, up_alone, down_alone, shunted, turned, after_outage, bought, shifted, narrow, narrow_duals}
@@ -46,7 +48,7 @@ load mw pays = record { mw = mw; pays = pays }
 
 -- the one rent, of branch 2 in the base or after an outage, with by how much the flow exceeds the limit
 abbrev rent_over : ℕ → Fraction → ℕ → Fraction → List (Rent Fraction)
-rent_over outage flow over rent = record { row = record { branch = 2; outage = outage }; flow = flow; over = mws over; rent = rent } ∷ []
+rent_over outage flow over rent = record { row = record { branch = 2; outage = outage; unit = 0 }; flow = flow; over = mws over; rent = rent } ∷ []
 
 abbrev rent_of_second : ℕ → Fraction → Fraction → List (Rent Fraction)
 rent_of_second outage flow rent = rent_over outage flow 0 rent
@@ -60,6 +62,7 @@ limit_40 = record {
   welfare = whole (neg_ℤ (money 800));
   money = record {
     units = unit (mws 50) (sums 500) ∷ unit (mws 10) (sums 300) ∷ [];
+    own = [];
     loads = load (mws 0) (sums 0) ∷ load (mws 0) (sums 0) ∷ load (mws 60) (sums 2400) ∷ [];
     rents = rent_of_second 0 (mws 40) (sums 1600);
     surplus = sums 1600;
@@ -67,7 +70,7 @@ limit_40 = record {
 }
 
 limit_40-right : IsRight shunted limit_40
-unfolding rows line_flow row_offset row_factor injection balance output demand welfare_for congestion_by price_by rent surplus paid pays abs_ℚ sign_of ◌+ℚ◌ ◌*ℚ◌ neg_ℚ over whole gcd gcd_in
+unfolding rows line_flow row_offset row_factor injection balance output demand welfare_for congestion_by price_by unit_price rent surplus paid pays abs_ℚ sign_of ◌+ℚ◌ ◌*ℚ◌ neg_ℚ over whole gcd gcd_in
 limit_40-right = right_by shunted limit_40 refl refl refl refl
 
 -- ---- limits on branch 2 that give way at 25
@@ -84,6 +87,7 @@ limit_exceeded = record {
   welfare = whole (neg_ℤ (money 725));
   money = record {
     units = unit (mws 60) (sums 600) ∷ unit (mws 0) (sums 0) ∷ [];
+    own = [];
     loads = load (mws 0) (sums 0) ∷ load (mws 0) (sums 0) ∷ load (mws 60) (sums 1725) ∷ [];
     rents = rent_over 0 (mws 45) 5 (sums 1125);
     surplus = sums 1125;
@@ -91,7 +95,7 @@ limit_exceeded = record {
 }
 
 limit_exceeded-right : IsRight (giving_way shunted 40 10) limit_exceeded
-unfolding rows line_flow row_offset row_factor injection balance output demand welfare_for congestion_by price_by rent surplus paid pays abs_ℚ sign_of ◌+ℚ◌ ◌*ℚ◌ neg_ℚ over whole gcd gcd_in
+unfolding rows line_flow row_offset row_factor injection balance output demand welfare_for congestion_by price_by unit_price rent surplus paid pays abs_ℚ sign_of ◌+ℚ◌ ◌*ℚ◌ neg_ℚ over whole gcd gcd_in
 limit_exceeded-right = right_by (giving_way shunted 40 10) limit_exceeded refl refl refl refl
 
 -- by up to 3 MW: these are used up, at a price above the penalty
@@ -103,6 +107,7 @@ excess_used_up = record {
   welfare = whole (neg_ℤ (money 755));
   money = record {
     units = unit (mws 56) (sums 560) ∷ unit (mws 4) (sums 120) ∷ [];
+    own = [];
     loads = load (mws 0) (sums 0) ∷ load (mws 0) (sums 0) ∷ load (mws 60) (sums 2400) ∷ [];
     rents = rent_over 0 (mws 43) 3 (sums 1720);
     surplus = sums 1720;
@@ -110,7 +115,7 @@ excess_used_up = record {
 }
 
 excess_used_up-right : IsRight (giving_way shunted 40 3) excess_used_up
-unfolding rows line_flow row_offset row_factor injection balance output demand welfare_for congestion_by price_by rent surplus paid pays abs_ℚ sign_of ◌+ℚ◌ ◌*ℚ◌ neg_ℚ over whole gcd gcd_in
+unfolding rows line_flow row_offset row_factor injection balance output demand welfare_for congestion_by price_by unit_price rent surplus paid pays abs_ℚ sign_of ◌+ℚ◌ ◌*ℚ◌ neg_ℚ over whole gcd gcd_in
 excess_used_up-right = right_by (giving_way shunted 40 3) excess_used_up refl refl refl refl
 
 -- ---- a lower side
@@ -122,6 +127,7 @@ lower_side = record {
   welfare = whole (neg_ℤ (money 1000));
   money = record {
     units = unit (mws 40) (sums 400) ∷ unit (mws 20) (sums 600) ∷ [];
+    own = [];
     loads = load (mws 60) (sums 4200) ∷ load (mws 0) (sums 0) ∷ load (mws 0) (sums 0) ∷ [];
     rents = rent_of_second 0 (whole (neg_ℤ (mw 40))) (sums 3200);
     surplus = sums 3200;
@@ -129,7 +135,7 @@ lower_side = record {
 }
 
 lower_side-right : IsRight turned lower_side
-unfolding rows line_flow row_offset row_factor injection balance output demand welfare_for congestion_by price_by rent surplus paid pays abs_ℚ sign_of ◌+ℚ◌ ◌*ℚ◌ neg_ℚ over whole gcd gcd_in
+unfolding rows line_flow row_offset row_factor injection balance output demand welfare_for congestion_by price_by unit_price rent surplus paid pays abs_ℚ sign_of ◌+ℚ◌ ◌*ℚ◌ neg_ℚ over whole gcd gcd_in
 lower_side-right = right_by turned lower_side refl refl refl refl
 
 -- ---- after an outage
@@ -141,6 +147,7 @@ after_loss = record {
   welfare = whole (neg_ℤ (money 900));
   money = record {
     units = unit (mws 45) (sums 450) ∷ unit (mws 15) (sums 450) ∷ [];
+    own = [];
     loads = load (mws 0) (sums 0) ∷ load (mws 0) (sums 0) ∷ load (mws 60) (sums 1800) ∷ [];
     rents = rent_of_second 1 (mws 45) (sums 900);
     surplus = sums 900;
@@ -148,7 +155,7 @@ after_loss = record {
 }
 
 after_loss-right : IsRight after_outage after_loss
-unfolding rows line_flow row_offset row_factor injection balance output demand welfare_for congestion_by price_by rent surplus paid pays abs_ℚ sign_of ◌+ℚ◌ ◌*ℚ◌ neg_ℚ over whole gcd gcd_in
+unfolding rows line_flow row_offset row_factor injection balance output demand welfare_for congestion_by price_by unit_price rent surplus paid pays abs_ℚ sign_of ◌+ℚ◌ ◌*ℚ◌ neg_ℚ over whole gcd gcd_in
 after_loss-right = right_by after_outage after_loss refl refl refl refl
 
 -- ---- a buy behind a limit
@@ -160,6 +167,7 @@ part_bought = record {
   welfare = whole (neg_ℤ (money 200));
   money = record {
     units = unit (mws 60) (sums 600) ∷ unit (mws 0) (sums 0) ∷ unit (whole (neg_ℤ (mw 10))) (whole (neg_ℤ (money 400))) ∷ [];
+    own = [];
     loads = load (mws 0) (sums 0) ∷ load (mws 0) (sums 0) ∷ load (mws 50) (sums 2000) ∷ [];
     rents = rent_of_second 0 (mws 45) (sums 1800);
     surplus = sums 1800;
@@ -167,7 +175,7 @@ part_bought = record {
 }
 
 part_bought-right : IsRight bought part_bought
-unfolding rows line_flow row_offset row_factor injection balance output demand welfare_for congestion_by price_by rent surplus paid pays abs_ℚ sign_of ◌+ℚ◌ ◌*ℚ◌ neg_ℚ over whole gcd gcd_in
+unfolding rows line_flow row_offset row_factor injection balance output demand welfare_for congestion_by price_by unit_price rent surplus paid pays abs_ℚ sign_of ◌+ℚ◌ ◌*ℚ◌ neg_ℚ over whole gcd gcd_in
 part_bought-right = right_by bought part_bought refl refl refl refl
 
 -- ---- an offset beyond the limit
@@ -179,6 +187,7 @@ beyond_limit = record {
   welfare = whole (neg_ℤ (money 600));
   money = record {
     units = unit (mws 30) (sums 300) ∷ unit (mws 10) (sums 300) ∷ [];
+    own = [];
     loads = load (mws 40) (sums 400) ∷ load (mws 0) (sums 0) ∷ load (mws 0) (sums 0) ∷ [];
     rents = rent_of_second 0 (mws 5) (whole (neg_ℤ (money 200)));
     surplus = whole (neg_ℤ (money 200));
@@ -186,7 +195,7 @@ beyond_limit = record {
 }
 
 beyond_limit-right : IsRight shifted beyond_limit
-unfolding rows line_flow row_offset row_factor injection balance output demand welfare_for congestion_by price_by rent surplus paid pays abs_ℚ sign_of ◌+ℚ◌ ◌*ℚ◌ neg_ℚ over whole gcd gcd_in
+unfolding rows line_flow row_offset row_factor injection balance output demand welfare_for congestion_by price_by unit_price rent surplus paid pays abs_ℚ sign_of ◌+ℚ◌ ◌*ℚ◌ neg_ℚ over whole gcd gcd_in
 beyond_limit-right = right_by shifted beyond_limit refl refl refl refl
 
 -- ---- thirds: a limit of 40 MW on branch 2, with both units where they are but the second, which is at bus 3, as the load of 60 MW is
@@ -213,11 +222,12 @@ money_thirds n = over (money n) 3
 abbrev thirds : Answer Fraction
 thirds = record {
   dispatch = mw_thirds 160 ∷ mw_thirds 20 ∷ [];
-  duals = record { energy = prices 10; limits = record { row = record { branch = 2; outage = 0 }; up = price_thirds 80; down = prices 0 } ∷ [] };
+  duals = record { energy = prices 10; limits = record { row = record { branch = 2; outage = 0; unit = 0 }; up = price_thirds 80; down = prices 0 } ∷ [] };
   prices = at_bus (prices 10) (prices 0) (prices 10) ∷ at_bus (prices 10) (price_thirds 40) (price_thirds 70) ∷ at_bus (prices 10) (prices 20) (prices 30) ∷ [];
   welfare = over (neg_ℤ (money 2200)) 3;
   money = record {
     units = unit (mw_thirds 160) (money_thirds 1600) ∷ unit (mw_thirds 20) (sums 200) ∷ [];
+    own = [];
     loads = load (mws 0) (sums 0) ∷ load (mws 0) (sums 0) ∷ load (mws 60) (sums 1800) ∷ [];
     rents = rent_of_second 0 (mws 40) (money_thirds 3200);
     surplus = money_thirds 3200;
@@ -225,15 +235,52 @@ thirds = record {
 }
 
 thirds-right : IsRight beside_load thirds
-unfolding rows line_flow row_offset row_factor injection balance output demand welfare_for congestion_by price_by rent surplus paid pays abs_ℚ sign_of ◌+ℚ◌ ◌*ℚ◌ neg_ℚ over whole gcd gcd_in
+unfolding rows line_flow row_offset row_factor injection balance output demand welfare_for congestion_by price_by unit_price rent surplus paid pays abs_ℚ sign_of ◌+ℚ◌ ◌*ℚ◌ neg_ℚ over whole gcd gcd_in
 thirds-right = right_by beside_load thirds refl refl refl refl
+
+-- ---- the loss of a unit: the first, whose output the second picks up, with a limit of 30 MW on branch 3 then; a third at the load of 60 MW
+-- sells at 40. A MW of the third in place of one of the first takes 0.75 MW off that flow.
+abbrev sells : ℕ → ℕ → Block
+sells place at = record { unit = place; side = Sell; quantity = mw 100; price = price at }
+
+abbrev one_lost : Parts
+one_lost = record (bare_parts
+    (buses 0 60 0)
+    (record { row = 1; bus = 0; fixed = pos 0; up = mw 100; down = pos 0 } ∷ record { row = 2; bus = 1; fixed = pos 0; up = mw 100; down = pos 0 } ∷ record { row = 3; bus = 2; fixed = pos 0; up = mw 100; down = pos 0 } ∷ [])
+    (sells 0 10 ∷ sells 1 30 ∷ sells 2 40 ∷ [])) {
+      lines = line 1 None None 0 ∷ line 2 None None 0 ∷ line 3 None (Some (mw 30)) 0 ∷ [];
+      shift = shifts;
+      loss = losses;
+      unit_outages = 0 ∷ [];
+      pickups = record { outage = 0; taker = 1; share = pos (10 ^ 6) } ∷ [];
+    }
+
+-- the first is paid 10, where its bus has a price of 30
+abbrev after_unit : Answer Fraction
+after_unit = record {
+  dispatch = mws 40 ∷ mws 0 ∷ mws 20 ∷ [];
+  duals = record { energy = prices 30; limits = record { row = record { branch = 3; outage = 0; unit = 1 }; up = prices 40; down = prices 0 } ∷ [] };
+  prices = at_bus (prices 30) (prices 0) (prices 30) ∷ at_bus (prices 30) (whole (neg_ℤ (price 20))) (prices 10) ∷ at_bus (prices 30) (prices 10) (prices 40) ∷ [];
+  welfare = whole (neg_ℤ (money 1200));
+  money = record {
+    units = unit (mws 40) (sums 400) ∷ unit (mws 0) (sums 0) ∷ unit (mws 20) (sums 800) ∷ [];
+    own = prices 10 ∷ [];
+    loads = load (mws 0) (sums 0) ∷ load (mws 0) (sums 0) ∷ load (mws 60) (sums 2400) ∷ [];
+    rents = record { row = record { branch = 3; outage = 0; unit = 1 }; flow = mws 30; over = mws 0; rent = sums 1200 } ∷ [];
+    surplus = sums 1200;
+  };
+}
+
+after_unit-right : IsRight one_lost after_unit
+unfolding rows line_flow row_offset row_factor taker_factor pickup_factor injection balance output demand welfare_for congestion_by price_by unit_price rent surplus paid pays abs_ℚ sign_of ◌+ℚ◌ ◌*ℚ◌ neg_ℚ over whole gcd gcd_in
+after_unit-right = right_by one_lost after_unit refl refl refl refl
 
 -- ---- limit 10: a bound of -10 MW
 abbrev limit_10 : Farkas Fraction
 limit_10 = record { duals = narrow_duals; bound = whole (neg_ℤ (mw 10)) }
 
 limit_10-infeasible : IsFarkas narrow limit_10
-unfolding rows line_flow row_offset row_factor injection balance output demand welfare_for congestion_by price_by rent surplus farkas_bound abs_ℚ sign_of ◌+ℚ◌ ◌*ℚ◌ neg_ℚ over whole gcd gcd_in
+unfolding rows line_flow row_offset row_factor injection balance output demand welfare_for congestion_by price_by unit_price rent surplus farkas_bound abs_ℚ sign_of ◌+ℚ◌ ◌*ℚ◌ neg_ℚ over whole gcd gcd_in
 limit_10-infeasible = infeasible_by narrow limit_10 refl refl
 
 -- giving way by up to 4 MW: the bound is 8 MW higher
@@ -241,5 +288,5 @@ abbrev limit_14 : Farkas Fraction
 limit_14 = record { duals = narrow_duals; bound = whole (neg_ℤ (mw 2)) }
 
 limit_14-infeasible : IsFarkas (giving_way narrow 10 4) limit_14
-unfolding rows line_flow row_offset row_factor injection balance output demand welfare_for congestion_by price_by rent surplus farkas_bound abs_ℚ sign_of ◌+ℚ◌ ◌*ℚ◌ neg_ℚ over whole gcd gcd_in
+unfolding rows line_flow row_offset row_factor injection balance output demand welfare_for congestion_by price_by unit_price rent surplus farkas_bound abs_ℚ sign_of ◌+ℚ◌ ◌*ℚ◌ neg_ℚ over whole gcd gcd_in
 limit_14-infeasible = infeasible_by (giving_way narrow 10 4) limit_14 refl refl

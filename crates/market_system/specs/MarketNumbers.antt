@@ -8,10 +8,11 @@ use Rattle.linear_system.specs.Choices.{Choice, basics}
 use Rattle.linear_system.specs.Numbers.{Kind, Factor, Quantity, Price, SolvingNumber, SystemNumber}
 use Rattle.simplex_theory.specs.Stuck.{multiplier}
 use Rattle.market_model.specs.declared.participants.Parts.{Parts}
+use Rattle.market_model.specs.declared.participants.Pickup.{Pickup}
 use Rattle.market_model.specs.declared.answered.Duals.{Duals}
 use Rattle.market_model.specs.Dispatch.{Dispatch, zero, bus_at, unit_at, empty}
 use Rattle.market_model.specs.declared.limits.Row.{Row}
-use Rattle.market_model.specs.LimitRows.{rows as all_rows, limit, most_flow, shift_factor, loss_factor, line_offset}
+use Rattle.market_model.specs.LimitRows.{rows as all_rows, limit, most_flow, shift_factor, loss_factor, share_value, line_offset}
 use Rattle.market_model.specs.Optimality.{Feasible, Supports, up_of, down_of, net_shadow_price, bus_price, welfare_terms}
 use Rattle.market_model.specs.Infeasibility.{ShowsInfeasible}
 use Rattle.market_system.specs.MarketSystem.{balance_name, row_name, system_of, choice_dispatch, choice_duals}
@@ -42,7 +43,7 @@ pub record IsFarkasOf (m : Parts) (rows : List Row) (h : Choice) (d : Duals Frac
 -- The sums that may be added up at a choice: each with the kind of its first terms, its terms in order, and when it counts. What has no kind
 -- may stand in a pair only where it is added up.
 pub data NamedSum (m : Parts) (rows : List Row) (h : Choice) : Option Kind → List Term → Type 0 where
-  -- the fixed offset of a row, and its factor at a bus
+  -- the fixed offset of a row, its factor at a bus, and its pickup factor
   offset_of : (r : Row) (terms : List Term) → Contains (all_rows m) r → OffsetSum m r terms → NamedSum m rows h (Some Quantity) terms
   factor_of : (r : Row) (terms : List Term) → Contains (all_rows m) r → FactorSum m r terms → NamedSum m rows h (Some Factor) terms
   -- injections and flows
@@ -74,6 +75,8 @@ pub data MarketNumber (m : Parts) (rows : List Row) (h : Choice) : Kind → Frac
   -- the factors of lines
   is_shift : (l i : ℕ) → l < length m.lines → i < length m.buses → MarketNumber m rows h Factor (shift_factor m l i)
   is_loss : (l lost : ℕ) → l < length m.lines → lost < length m.lines → MarketNumber m rows h Factor (loss_factor m l lost)
+  -- what takers pick up at an outage of a unit
+  is_share : (p : Pickup) → Contains m.pickups p → MarketNumber m rows h Factor (share_value p)
   -- the duals of the choice, and those that show that nothing is feasible
   is_energy : MarketNumber m rows h Price (choice_duals m rows h).energy
   is_up_dual : (r : Row) → Contains (all_rows m) r → MarketNumber m rows h Price (up_of m (choice_duals m rows h) r)

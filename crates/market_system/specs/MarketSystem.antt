@@ -18,7 +18,7 @@ use Rattle.market_model.specs.declared.answered.RowId.{RowId}
 use Rattle.market_model.specs.Dispatch.{Dispatch, zero, places, block_at, signed_by_side, quantity, balance, empty, dispatch_by}
 use Rattle.market_model.specs.declared.limits.Cause.{Cause}
 use Rattle.market_model.specs.declared.limits.Row.{Row}
-use Rattle.market_model.specs.declared.limits.Cause.TheVariants.{Base, Branch}
+use Rattle.market_model.specs.declared.limits.Cause.TheVariants.{Base, Branch, UnitOutage}
 use Rattle.market_model.specs.LimitRows.{rows, row_id, unit_factor, flow, limit, penalty, most_excess, is_soft}
 use Rattle.market_model.specs.Optimality.{block_value}
 use Rattle.market_system.specs.declared.variables.Variable.{Variable}
@@ -31,8 +31,13 @@ balance_name m = length m.blocks
 abbrev pub same_cause : Cause → Cause → Bool
 same_cause Base Base = true
 same_cause Base (Branch k) = false
+same_cause Base (UnitOutage k) = false
 same_cause (Branch j) Base = false
 same_cause (Branch j) (Branch k) = j == k
+same_cause (Branch j) (UnitOutage k) = false
+same_cause (UnitOutage j) Base = false
+same_cause (UnitOutage j) (Branch k) = false
+same_cause (UnitOutage j) (UnitOutage k) = j == k
 
 abbrev pub same_row : Row → Row → Bool
 same_row a b = (a.line == b.line) && same_cause a.cause b.cause

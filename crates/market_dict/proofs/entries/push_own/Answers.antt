@@ -3,7 +3,7 @@ use Rattle.std.specs.Prelude.{if◌then◌else◌}
 use Rattle.std.proofs.lemmas.List.{append-nil}
 use Rattle.fraction_theory.specs.Fraction.{whole, neg_ℚ}
 use Rattle.market_model.specs.Dispatch.{zero}
-use Rattle.limit_rows.proofs.PlaceLemmas.{at_places}
+use Rattle.market_model.proofs.RowMembers.{at_places}
 use Rattle.market_system.specs.declared.variables.Variable.{Variable}
 use Rattle.market_system.specs.MarketSystem.{limit_coefficient}
 use Rattle.market_system.proofs.RowOrder.{same_row-itself}

@@ -1,8 +1,6 @@
 use Rattle.std.proofs.Common.{rules, Err, ◌≡◌, ◌∙◌, ap}
-use Rattle.market_model.specs.Dispatch.{signed_by_side, unit_at}
-use Rattle.market_model.specs.SumTables.{factor_at_bus}
-use Rattle.market_model.proofs.MarketSums.{unit_bus-in}
-use Rattle.limit_rows.proofs.PlaceLemmas.{at_places}
+use Rattle.market_model.specs.Dispatch.{signed_by_side}
+use Rattle.market_model.proofs.RowMembers.{at_places}
 use Rattle.market_dict.proofs.entries.row_entry.Goals as goal
 
 pub unit_factor-requires-clause-line : goal.unit_factor-requires-clause-line
@@ -16,6 +14,5 @@ returns-clause-entry g c = c.by_side.ensures ∙ ap (signed_by_side c.args.block
 
 pub returns-in_err-unit_factor-clause-cause : goal.returns-in_err-unit_factor-clause-cause
 returns-in_err-unit_factor-clause-cause g c =
-    let m = c.args.market.now in
     let given : c.from_residual.result ≡ Err c.in_err-unit_factor.field-0.0 = search rules in
-    rw given (_, factor_at_bus (unit_at m c.args.block.now.unit).bus (unit_bus-in m c.lines-lines.ensures.market c.args.block.now.unit c.requires.unit), c.in_err-unit_factor.ensures.cause)
+    rw given c.in_err-unit_factor.ensures.cause

@@ -2,7 +2,8 @@ use Rattle.std.proofs.Common.{◌≡◌, ◌<◌, ◌∙◌, ◌+◌, ℕ, ap, s
 use Rattle.market_model.specs.LimitRows.{rows}
 use Rattle.market_system.specs.MarketSystem.{name, IsVariableOf}
 use Rattle.market_system.specs.declared.variables.Variable.TheVariants.{Over, Under}
-use Rattle.market_dict.proofs.EntryLemmas.{name_at_place, over_small, rows_few}
+use Rattle.market_dict.proofs.EntryLemmas.{name_at_place, over_small}
+use Rattle.limit_rows.proofs.WalkLemmas.{rows_few}
 use Rattle.market_dict.proofs.names.name_of.Goals as goal
 
 pub overflow_cast-result : goal.overflow_cast-result

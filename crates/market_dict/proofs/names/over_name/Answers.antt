@@ -1,5 +1,6 @@
 use Rattle.std.proofs.Common.{◌≡◌, ◌∙◌, arith, ap, length}
-use Rattle.market_dict.proofs.EntryLemmas.{name_at_place, over_at_place, rows_few}
+use Rattle.market_dict.proofs.EntryLemmas.{name_at_place, over_at_place}
+use Rattle.limit_rows.proofs.WalkLemmas.{rows_few}
 use Rattle.market_dict.proofs.names.over_name.Goals as goal
 
 pub overflow_add-result-2 : goal.overflow_add-result-2

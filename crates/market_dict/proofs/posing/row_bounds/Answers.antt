@@ -1,24 +1,24 @@
-use Rattle.std.proofs.Common.{rules, [], Err, ◌≡◌, ◌∙◌, List, map, ap, ap₂, subst, sym, w64}
+use Rattle.std.proofs.Common.{rules, [], Err, ◌≡◌, ◌∙◌, map, ap, ap₂, subst, sym, w64}
 use Rattle.std.proofs.lemmas.Int.{to_z-of_z}
 use Rattle.std.proofs.lemmas.List.{length-map}
 use mir.Val.{to_z, of_z}
 use Rattle.fraction_theory.proofs.ListSums.{Contains-head}
 use Rattle.fraction_theory.specs.Fraction.{whole, neg_ℚ, ◌-ℚ◌}
-use Rattle.fraction_theory.specs.Sums.{Term}
 use Rattle.exact_fraction.specs.declared.Op.TheVariants.{Minus}
 use Rattle.market_model.specs.Dispatch.{empty}
-use Rattle.market_model.specs.LimitRows.{flow, flow_by, flow_terms, limit}
-use Rattle.market_model.specs.NamedSums.{IsRefusedIn}
-use Rattle.market_model.specs.SumTables.{flow_in_limits, flow_of_row, limited_row}
+use Rattle.market_model.specs.LimitRows.{Carried, flow, flow_by, limit}
+use Rattle.market_model.specs.SumTables.{IsFlowRefusal}
 use Rattle.market_model.specs.Valued.{passed_at}
 use Rattle.market_model.proofs.SumSteps.{refusal}
-use Rattle.limit_rows.proofs.PlaceLemmas.{at_places}
+use Rattle.market_model.proofs.RowMembers.{at_places}
 use Rattle.limit_screen.proofs.ScreenLemmas.{flow_count, law_of_row_flows, row_terms}
-use Rattle.market_dict.specs.Refusals.{of_high, of_low, of_sum, of_bound}
+use Rattle.limit_screen.specs.Flows.{carried_at}
+use Rattle.market_dict.proofs.RefusalLaws.{bounds_refused}
+use Rattle.market_dict.specs.Refusals.{of_high, of_low, of_bound}
 use Rattle.market_dict.proofs.posing.row_bounds.Goals as goal
 
-pub line_flows-requires : goal.line_flows-requires
-line_flows-requires g c = sym (length-map c.args.base_flows.now g.N.Exact.value) ∙ flow_count c.args.market.now (empty c.args.market.now) (map g.N.Exact.value c.args.base_flows.now) c.requires.base_flows
+pub carried_flows-requires : goal.carried_flows-requires
+carried_flows-requires g c = sym (length-map c.args.base_flows.now g.N.Exact.value) ∙ flow_count c.args.market.now (empty c.args.market.now) (map g.N.Exact.value c.args.base_flows.now) c.requires.base_flows
 
 pub row_flow-requires-clause-line : goal.row_flow-requires-clause-line
 row_flow-requires-clause-line g c = (at_places c.args.market.now c.lines-lines.ensures.market c.args.row c.requires.row).0
@@ -33,14 +33,12 @@ pub returns-in_err-flow-clause-cause : goal.returns-in_err-flow-clause-cause
 returns-in_err-flow-clause-cause g c =
     let m = c.args.market.now in
     let given : c.from_residual.result ≡ Err c.in_err-flow.field-0.0 = search rules in
+    let p = passed_at g.N.Exact.value c.in_err-flow.field-0.0 in
+    let here : IsFlowRefusal m (carried_at m (map g.N.Exact.value c.args.base_flows.now)) c.args.row g.N.Exact.bound p =
+    subst (λ (k : Carried). IsFlowRefusal m k c.args.row g.N.Exact.bound p) c.carried_flows.ensures.is c.in_err-flow.ensures.cause in
     rw given
-    (of_sum (
-      _,
-      flow_in_limits _ (limited_row c.args.row _ c.requires.row flow_of_row),
-      subst (λ (ts : List Term). IsRefusedIn ts g.N.Exact.bound (passed_at g.N.Exact.value c.in_err-flow.field-0.0))
-          (row_terms m (empty m) (map g.N.Exact.value c.args.base_flows.now) c.args.row c.lines-lines.ensures.market c.requires.base_flows c.requires.row)
-          (subst (λ f. IsRefusedIn (flow_terms m f c.args.row) g.N.Exact.bound (passed_at g.N.Exact.value c.in_err-flow.field-0.0)) c.line_flows.ensures.is c.in_err-flow.ensures.cause),
-    ))
+    (bounds_refused m (carried_at m (map g.N.Exact.value c.args.base_flows.now)) c.args.row g.N.Exact.bound p c.requires.row
+    (row_terms m (empty m) (map g.N.Exact.value c.args.base_flows.now) c.requires.base_flows c.args.row c.lines-lines.ensures.market c.requires.row) here)
 
 pub returns-in_err-high-clause-cause : goal.returns-in_err-high-clause-cause
 returns-in_err-high-clause-cause g c =
@@ -48,7 +46,7 @@ returns-in_err-high-clause-cause g c =
     let r = c.args.row in
     let known : to_z w64 (of_z w64 c.limit_at.result) ≡ c.limit_at.result = to_z-of_z w64 c.limit_at.result (record { sfits = c.limit_at.type_inv }) in
     let limit_is = c.datum-limit.ensures ∙ ap whole known ∙ c.limit_at.ensures.limit in
-    let flow_is = c.in_ok-flow.ensures.flow ∙ ap (λ f. flow_by m f r) c.line_flows.ensures.is ∙ law_of_row_flows m (empty m) (map g.N.Exact.value c.args.base_flows.now) r c.lines-lines.ensures.market c.requires.base_flows c.requires.row in
+    let flow_is = c.in_ok-flow.ensures.flow ∙ ap (λ k. flow_by m k r) c.carried_flows.ensures.is ∙ law_of_row_flows m (empty m) (map g.N.Exact.value c.args.base_flows.now) r c.lines-lines.ensures.market c.requires.base_flows c.requires.row in
     let given : c.from_residual-in_err-high.result ≡ Err c.in_err-high.field-0.0 = search rules in
     rw given (of_bound c.args.row c.requires.row (Contains-head c.args.row []) (of_high (refusal g.N.Exact.value g.N.Exact.bound Minus c.datum-limit.result c.in_ok-flow.flow (limit m r) (flow m (empty m) r) c.in_err-high.field-0.0 limit_is flow_is c.in_err-high.ensures)))
 
@@ -58,7 +56,7 @@ returns-in_err-low-clause-cause g c =
     let r = c.args.row in
     let known : to_z w64 (of_z w64 c.limit_at.result) ≡ c.limit_at.result = to_z-of_z w64 c.limit_at.result (record { sfits = c.limit_at.type_inv }) in
     let limit_is = c.datum-limit.ensures ∙ ap whole known ∙ c.limit_at.ensures.limit in
-    let flow_is = c.in_ok-flow.ensures.flow ∙ ap (λ f. flow_by m f r) c.line_flows.ensures.is ∙ law_of_row_flows m (empty m) (map g.N.Exact.value c.args.base_flows.now) r c.lines-lines.ensures.market c.requires.base_flows c.requires.row in
+    let flow_is = c.in_ok-flow.ensures.flow ∙ ap (λ k. flow_by m k r) c.carried_flows.ensures.is ∙ law_of_row_flows m (empty m) (map g.N.Exact.value c.args.base_flows.now) r c.lines-lines.ensures.market c.requires.base_flows c.requires.row in
     let given : c.from_residual-in_err-low.result ≡ Err c.in_err-low.field-0.0 = search rules in
     rw given (of_bound c.args.row c.requires.row (Contains-head c.args.row []) (of_low (refusal g.N.Exact.value g.N.Exact.bound Minus c.neg.result c.in_ok-flow.flow (neg_ℚ (limit m r)) (flow m (empty m) r) c.in_err-low.field-0.0 (c.neg.ensures ∙ ap neg_ℚ limit_is) flow_is c.in_err-low.ensures)))
 
@@ -68,7 +66,7 @@ returns-clause-low g c =
     let r = c.args.row in
     let known : to_z w64 (of_z w64 c.limit_at.result) ≡ c.limit_at.result = to_z-of_z w64 c.limit_at.result (record { sfits = c.limit_at.type_inv }) in
     let limit_is = c.datum-limit.ensures ∙ ap whole known ∙ c.limit_at.ensures.limit in
-    let flow_is = c.in_ok-flow.ensures.flow ∙ ap (λ f. flow_by m f r) c.line_flows.ensures.is ∙ law_of_row_flows m (empty m) (map g.N.Exact.value c.args.base_flows.now) r c.lines-lines.ensures.market c.requires.base_flows c.requires.row in
+    let flow_is = c.in_ok-flow.ensures.flow ∙ ap (λ k. flow_by m k r) c.carried_flows.ensures.is ∙ law_of_row_flows m (empty m) (map g.N.Exact.value c.args.base_flows.now) r c.lines-lines.ensures.market c.requires.base_flows c.requires.row in
     c.in_ok-low.ensures.exact ∙ ap₂ ◌-ℚ◌ (c.neg.ensures ∙ ap neg_ℚ limit_is) flow_is
 
 pub returns-clause-high : goal.returns-clause-high
@@ -77,5 +75,5 @@ returns-clause-high g c =
     let r = c.args.row in
     let known : to_z w64 (of_z w64 c.limit_at.result) ≡ c.limit_at.result = to_z-of_z w64 c.limit_at.result (record { sfits = c.limit_at.type_inv }) in
     let limit_is = c.datum-limit.ensures ∙ ap whole known ∙ c.limit_at.ensures.limit in
-    let flow_is = c.in_ok-flow.ensures.flow ∙ ap (λ f. flow_by m f r) c.line_flows.ensures.is ∙ law_of_row_flows m (empty m) (map g.N.Exact.value c.args.base_flows.now) r c.lines-lines.ensures.market c.requires.base_flows c.requires.row in
+    let flow_is = c.in_ok-flow.ensures.flow ∙ ap (λ k. flow_by m k r) c.carried_flows.ensures.is ∙ law_of_row_flows m (empty m) (map g.N.Exact.value c.args.base_flows.now) r c.lines-lines.ensures.market c.requires.base_flows c.requires.row in
     c.in_ok-high.ensures.exact ∙ ap₂ ◌-ℚ◌ limit_is flow_is

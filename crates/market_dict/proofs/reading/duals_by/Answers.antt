@@ -7,11 +7,11 @@ use Rattle.market_model.specs.declared.answered.Duals.{Duals}
 use Rattle.market_model.specs.declared.answered.RowId.{RowId}
 use Rattle.market_model.specs.LimitRows.{rows}
 use Rattle.market_model.specs.Valued.{dual_at}
-use Rattle.limit_rows.proofs.PlaceLemmas.{at_places}
+use Rattle.market_model.proofs.RowMembers.{at_places}
 use Rattle.market_system.specs.declared.variables.Variable.TheVariants as variable
 use Rattle.market_system.specs.MarketSystem.{variables, in_order, dual_by}
 use Rattle.market_dict.proofs.ReadingLemmas.{at_rank, name_count, rank_is, rank_known, rank_late, late_nothing, rank_read, rank_row, rank_inside, rank_cost, limits_step, energy_step, duals_all, balance_all}
-use Rattle.market_dict.proofs.EntryLemmas.{rows_few}
+use Rattle.limit_rows.proofs.WalkLemmas.{rows_few}
 use Rattle.market_dict.proofs.reading.duals_by.Goals as goal
 use Rattle.market_dict.proofs.reading.duals_by.Goals.{in-Block, in-Balance, in-Limit+in_ok-push_dual-in-Limit, in-Over, in-Under}
 

@@ -2,7 +2,7 @@ use Rattle.std.proofs.Common.{◌≡◌, ◌∙◌, ℕ, true, false, sym, subst
 use Rattle.std.specs.List.{Contains}
 use Rattle.linear_dict.specs.Dictionaries.{AddsColumn}
 use Rattle.market_model.specs.LimitRows.{is_soft}
-use Rattle.limit_rows.proofs.PlaceLemmas.{at_places}
+use Rattle.market_model.proofs.RowMembers.{at_places}
 use Rattle.market_system.specs.MarketSystem.{over_name}
 use Rattle.market_dict.proofs.HoldingLaws.{over_is_new, under_is_new, soft_put, hard_put}
 use Rattle.market_dict.proofs.rows.put_columns.Goals as goal
