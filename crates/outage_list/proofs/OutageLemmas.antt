@@ -1,6 +1,6 @@
 -- The outages of units that records list are those of a market.
 use Rattle.std.proofs.Common.{◌≡◌, ◌≢◌, ◌<◌, ◌≤◌, ◌*◌, ◌∷◌, ◌++◌, ◌∙◌, ℕ, zero, suc, ℤ, pos, ◌+ℤ◌, List, [], Bool, true, false, All, None, Some, length, map, get_or, refl, sym, ap, ap₂, subst, arith, w64}
-use Rattle.std.specs.Prelude.{◌==◌, ◌≤ℤ◌, AllPairs, cond, nat_lt, unwrap_or, if◌then◌else◌}
+use Rattle.std.specs.Prelude.{◌==◌, ◌≤ℤ◌, AllPairs, cond, unwrap_or, if◌then◌else◌}
 use Rattle.std.specs.List.{find, list_any, position, position_or_len}
 use mir.Val.{to_z, of_z}
 use Rattle.std.proofs.lemmas.Bool.{cases_lt, eq-eqb, eqb-true, false_from_ne_true, lt-ltb, not-false, true≢false}
