@@ -1,12 +1,16 @@
 -- The line that tells whether a certificate holds.
-use Rattle.std.specs.Prelude.{ℕ, List, ◌++◌, codes, decimal, Option, Some, None}
+use Rattle.std.specs.Prelude.{ℕ, ◌==◌, List, [], ◌++◌, codes, decimal, if◌then◌else◌, Option, Some, None}
 use Rattle.market_model.specs.declared.answered.RowId.{RowId}
 use Rattle.cert_verify.specs.declared.verdicts.Reason.{Reason}
 use Rattle.cert_verify.specs.declared.verdicts.Reason.TheVariants as reason
 
--- a limit by the rows of its branch and of the lost one
+-- the gen row of the unit that is lost; nothing where none is
+abbrev pub unit_words : ℕ → List ℕ
+unit_words unit = if unit == 0 then [] else codes " unit " ++ decimal unit
+
+-- a limit by the rows of its branch and of the lost one, 0 where none is, and of the lost unit
 unfoldable pub row_words : RowId → List ℕ
-row_words id = codes " branch " ++ decimal id.branch ++ codes " outage " ++ decimal id.outage
+row_words id = codes " branch " ++ decimal id.branch ++ codes " outage " ++ decimal id.outage ++ unit_words id.unit
 
 -- a reason by its name, and where it is
 unfoldable pub reason_words : Reason → List ℕ

@@ -3,12 +3,23 @@
 ghost use Rattle.std.specs.Prelude.{◌≡◌, ◌++◌, IfOk, Option, decimal};
 ghost use Rattle.cert_verify.specs.Reasons.{verdict_of};
 ghost use Rattle.cert_verify.specs.declared.verdicts.Reason.{Reason};
-ghost use Rattle.command_answers.specs.Verdicts.{reason_words, row_words, verdict_line};
+ghost use Rattle.command_answers.specs.Verdicts.{reason_words, row_words, unit_words, verdict_line};
 
 use cert_verify::{Reason, Verdict};
 use line_text::Text;
 use market_model::{Memory, RowId};
 use std::alloc::Global;
+
+/// The unit that is lost; nothing where none is.
+fn unit_words(text: &mut Text, unit: u32) -> Result<(), Memory>
+    ensures { IfOk result (λ _. text.new ≡ text.old ++ unit_words unit) }
+{
+    if unit == 0 {
+        return Ok(());
+    }
+    text.word(b" unit ")?;
+    text.number(unit as usize)
+}
 
 /// A reason by its name, and the limit that it is of.
 #[tactic(auto, using(std::proofs::Common::append_assoc), unfolding(crate::specs::Verdicts::row_words))]
@@ -19,7 +30,8 @@ fn at_row(text: &mut Text, name: &[u8], row: RowId) -> Result<(), Memory>
     text.word(b" branch ")?;
     text.number(row.branch as usize)?;
     text.word(b" outage ")?;
-    text.number(row.outage as usize)
+    text.number(row.outage as usize)?;
+    unit_words(text, row.unit)
 }
 
 /// A reason by its name, and the block that it is of.
