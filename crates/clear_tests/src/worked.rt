@@ -241,6 +241,5 @@ pub(crate) fn has_taken<N: Exact>(clearer: &Clearer<N>, outage: u32) -> bool {
                 branch: 2,
                 outage,
                 unit: 0,
-                unit: 0,
             }
 }
