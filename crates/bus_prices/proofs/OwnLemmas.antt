@@ -26,7 +26,7 @@ use Rattle.market_model.specs.Optimality.{names_row, named_rows, net_shadow_pric
 use Rattle.market_model.specs.SumTables.{IsFactorRefusal, IsRefusedAmong, OwnPriceSum, PickupSum, factor_of_pickup, own_price_of_unit}
 use Rattle.market_model.specs.Valued.{total_at}
 use Rattle.market_model.proofs.MorePlaces.{sum_by_more}
-use Rattle.market_model.proofs.PlaceLists.{all_put, filled_at}
+use Rattle.market_model.proofs.PlaceLists.{all_put, filled_at, put_read}
 use Rattle.market_model.proofs.RowMembers.{lost_unit-in}
 use Rattle.market_model.proofs.SumSteps.{share_at}
 use Rattle.limit_rows.proofs.DualLemmas.{IsRowOfDual, up_unnamed, down_unnamed, sum_named}
@@ -44,35 +44,42 @@ one_set value before after n i out x count inside all here others = all_put valu
     each : (k : ℕ) (d : _) → k < n → value (get_or (set out i x) k d) ≡ after k
     each k d lt = elim (same_or_not k i) [
       | inl e ↦ ap (λ (j : ℕ). value (get_or (set out i x) j d)) e ∙ ap value (get_or-set_same out i x d (Prim.omega (arith, inside, count))) ∙ here ∙ ap after (sym e)
-      | inr no ↦
-          ap value (get_or-set_other out i k x d no) ∙ sym (get_or-map value out k d (whole (pos 0)) (Prim.omega (arith, lt, count)))
-          ∙ filled_at before (map value out) n (whole (pos 0)) all k lt ∙ sym (others k no)
+      | inr other ↦
+          ap value (get_or-set_other out i k x d other) ∙ sym (get_or-map value out k d (whole (pos 0)) (Prim.omega (arith, lt, count)))
+          ∙ filled_at before (map value out) n (whole (pos 0)) all k lt ∙ sym (others k other)
     ]
+
+-- a number of such a list, read
+pub own_read : {N : Type 0} (value : N → Fraction) (f : ℕ → Fraction) (n i : ℕ) (out : List N) (x : N) → length out ≡ n → i < n → map value out ≡ map f (places n) → x ≡ get_or out i x → value x ≡ f i
+own_read value f n i out x count inside all is = put_read value out i x (Prim.omega (arith, inside, count)) is ∙ filled_at f (map value out) n (whole (pos 0)) all i inside
 
 -- ---- what a price of a row adds
 module _ (m : Parts) (r : Row) (price : Fraction) where
-  added_under : Cause → ℕ → Fraction
-  added_under cause u = if loses m u cause then price *ℚ row_pickup m r.line cause else whole (pos 0)
-
   module _ (k : ℕ) (is : r.cause ≡ UnitOutage k) where
-    pub added_here : added_to_own m r price (lost_unit m k) ≡ price *ℚ pickup_factor m r.line k
-    added_here =
-        ap (λ (cause : Cause). if loses m (lost_unit m k) cause then price *ℚ row_pickup m r.line cause else whole (pos 0)) is
-        ∙ ap (λ (b : Bool). if b then price *ℚ pickup_factor m r.line k else whole (pos 0)) (eq-eqb (lost_unit m k) (lost_unit m k) refl)
+    added_at : (u : ℕ) → added_to_own m r price u ≡ (if lost_unit m k == u then price *ℚ pickup_factor m r.line k else whole (pos 0))
+    added_at u = ap (λ (cause : Cause). if loses m u cause then price *ℚ row_pickup m r.line cause else whole (pos 0)) is
 
-    pub added_elsewhere : (u : ℕ) → u ≢ lost_unit m k → added_to_own m r price u ≡ whole (pos 0)
-    added_elsewhere u other =
-        ap (λ (cause : Cause). if loses m u cause then price *ℚ row_pickup m r.line cause else whole (pos 0)) is
-        ∙ ap (λ (b : Bool). if b then price *ℚ pickup_factor m r.line k else whole (pos 0)) (ne_eqb (lost_unit m k) u (λ e. other (sym e)))
+    pub added_here : (u : ℕ) → u ≡ lost_unit m k → added_to_own m r price u ≡ price *ℚ pickup_factor m r.line k
+    added_here u e = added_at u ∙ ap (λ (b : Bool). if b then price *ℚ pickup_factor m r.line k else whole (pos 0)) (eq-eqb (lost_unit m k) u (sym e))
 
-    pub loses_here : loses m (lost_unit m k) r.cause ≡ true
-    loses_here = ap (loses m (lost_unit m k)) is ∙ eq-eqb (lost_unit m k) (lost_unit m k) refl
+    pub added_elsewhere : (u v : ℕ) → v ≡ lost_unit m k → u ≢ v → added_to_own m r price u ≡ whole (pos 0)
+    added_elsewhere u v e other =
+        added_at u ∙ ap (λ (b : Bool). if b then price *ℚ pickup_factor m r.line k else whole (pos 0)) (ne_eqb (lost_unit m k) u (λ same. other (sym (e ∙ same))))
+
+    pub loses_here : (u : ℕ) → u ≡ lost_unit m k → loses m u r.cause ≡ true
+    loses_here u e = ap (loses m u) is ∙ eq-eqb (lost_unit m k) u (sym e)
 
     pub pickup_here : row_pickup m r.line r.cause ≡ pickup_factor m r.line k
     pickup_here = ap (row_pickup m r.line) is
 
   pub none_added : (u : ℕ) → loses m u r.cause ≡ false → added_to_own m r price u ≡ whole (pos 0)
   none_added u e = ap (λ (b : Bool). if b then price *ℚ row_pickup m r.line r.cause else whole (pos 0)) e
+
+-- a cause that is no loss of a unit loses none
+pub no_loss : (m : Parts) (cause : Cause) → ((k : ℕ) → cause ≢ UnitOutage k) → (u : ℕ) → loses m u cause ≡ false
+no_loss m Base none u = refl
+no_loss m (Branch lost) none u = refl
+no_loss m (UnitOutage k) none u = absurd (none k refl)
 
 -- a cause of which the name tells no unit loses none
 pub no_unit : (m : Parts) → IsMarket m → (cause : Cause) → IsCauseOf m cause → unit_of m cause ≡ 0 → (u : ℕ) → loses m u cause ≡ false
@@ -138,7 +145,7 @@ module _ (m : Parts) (d : Duals Fraction) (price : ℕ → Fraction) (u : ℕ) w
 
     -- after no loss of the unit nothing is added
     pub own_same : loses m u r.cause ≡ false → own_to k ≡ own_to (k + 1)
-    own_same no = sym (+ℚ_nil (own_to k)) ∙ ap (λ t. own_to k +ℚ t) (sym (ap (λ (b : Bool). kept b (term_value (taken_term r))) no)) ∙ next_share
+    own_same none = sym (+ℚ_nil (own_to k)) ∙ ap (λ t. own_to k +ℚ t) (sym (ap (λ (b : Bool). kept b (term_value (taken_term r))) none)) ∙ next_share
 
     module _ (s : Row) (net : Fraction) (net_is : net ≡ neg_ℚ (e.up -ℚ e.down)) (same : s ≡ r) where
       net_price : net ≡ neg_ℚ (net_shadow_price m d r)

@@ -12,7 +12,7 @@ ghost use Rattle.bus_prices.specs.PriceParts.{added_to_own};
 
 use crate::pricing::opposite_net_price;
 use exact_fraction::{Exact, Passed};
-use limit_rows::{found_row, pickup_factor};
+use limit_rows::{found_row, lost_unit, pickup_factor};
 use market_model::{Cause, Duals, Market, Price, Row};
 
 /// Puts at each unit the price of its bus, where limits take nothing yet.
@@ -30,12 +30,7 @@ fn put_bus_prices<N: Exact>(market: &Market, prices: &[Price<N>], out: &mut [N])
 
 /// Adds to the own price of the unit that a row's cause loses what the row adds there: a price by the row's pickup factor. A row after no
 /// loss of a unit adds nothing.
-fn add_pickup<N: Exact>(
-    market: &Market,
-    row: Row,
-    price: N,
-    out: &mut [N],
-) -> Result<(), Passed<N>>
+fn add_pickup<N: Exact>(market: &Market, row: Row, price: N, out: &mut [N]) -> Result<(), Passed<N>>
     requires line { row.line < length market.now.lines }
     requires lost { IsCauseOf market.now row.cause }
     requires out { length out.old ≡ length market.now.units }
@@ -46,12 +41,12 @@ fn add_pickup<N: Exact>(
         → IfErr result (λ passed. ((unit : ℕ) × (unit < length market.now.units) × (loses market.now unit row.cause ≡ true) × IsShareRefusal (before unit) (N.value price) (row_pickup market.now row.line row.cause) N.bound (passed_at N.value passed))
         ⊎ IsRefusedAmong (PickupSum market.now row) N.bound (passed_at N.value passed)) }
 {
-    let _lines = market.lines();
-    if let Cause::UnitOutage(outage) = row.cause {
-        let unit = *market.unit_outages().at(outage);
-        let factor = pickup_factor(market, row.line, outage)?;
-        out[unit] = out[unit].plus_product(price, factor)?;
-    }
+    let Cause::UnitOutage(outage) = row.cause else {
+        return Ok(());
+    };
+    let unit = lost_unit(market, outage);
+    let factor = pickup_factor(market, row.line, outage)?;
+    out[unit] = out[unit].plus_product(price, factor)?;
     Ok(())
 }
 

@@ -26,5 +26,6 @@ pub mod StopLemmas
 pub mod SumParts
 pub mod SumSteps
 pub mod TableLemmas
+mod UnitCases
 pub mod UnitPrices
 pub mod WholeDispatch

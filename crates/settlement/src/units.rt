@@ -15,6 +15,7 @@ ghost use Rattle.settlement.specs.Refusals.{IsMoneyStop};
 
 use bus_prices::own;
 use exact_fraction::{Exact, Passed};
+use limit_rows::lost_unit;
 use market_model::{Duals, List, Market, Memory, Price, Stop, UnitPay, output, zeros};
 use std::alloc::Global;
 
@@ -36,18 +37,14 @@ pub fn own_prices<N: Exact>(
 }
 
 /// The own price of the unit of each outage of a unit, in the order in which these are listed.
-pub fn lost_prices<N: Exact>(
-    alloc: Global,
-    market: &Market,
-    own: &[N],
-) -> Result<List<N>, Memory>
+pub fn lost_prices<N: Exact>(alloc: Global, market: &Market, own: &[N]) -> Result<List<N>, Memory>
     requires { length own.now ≡ length market.now.units }
     ensures { (price : ℕ → Fraction) → map N.value own.now ≡ map price (places (length market.now.units))
         → IfOk result (λ lost. map N.value lost ≡ map (λ k. price (lost_unit market.now k)) (places (length market.now.unit_outages))) }
 {
     let mut lost = List::new(alloc);
-    for unit in market.unit_outages().slice() {
-        lost.push(own[*unit])?;
+    for outage in 0..market.unit_outages().len() {
+        lost.push(own[lost_unit(market, outage)])?;
     }
     Ok(lost)
 }

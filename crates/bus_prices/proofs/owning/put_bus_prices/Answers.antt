@@ -1,4 +1,4 @@
-use Rattle.std.proofs.Common.{◌∙◌, ap, arith, length, refl, sym}
+use Rattle.std.proofs.Common.{◌∙◌, ◌<◌, ap, arith, length, refl, sym}
 use Rattle.market_data.specs.declared.participants.Unit as unit
 use Rattle.market_model.specs.Dispatch.{unit_at}
 use Rattle.market_model.specs.Valued.{total_at}
@@ -14,7 +14,7 @@ loop-unit-preserved g c =
     let value = g.N.Exact.value in
     let prices = c.args.prices.now in
     let k = c.loop-unit.unit in
-    let inside = omega (arith, c.loop-unit-test.true, c.loop-unit.auto.out, c.requires.out) in
+    let inside : k < length m.units = omega (arith, c.loop-unit-test.true, c.loop-unit.auto.out, c.requires.out) in
     let read = unit_read m c.units.result.now k k c.at.result.now c.units.ensures.list refl c.at.ensures in
     let bus = unit_bus-in m c.units.ensures.market k inside in
     let at = ap (λ (v : unit.Unit). v.bus) read in

@@ -25,8 +25,8 @@ returns-in_err-by_unit-clause-cause g c =
     let given : c.from_residual.result ≡ Err c.in_err-by_unit.field-0.0 = search rules in
     rw given (c.in_err-by_unit.ensures.cause (dispatch_of g.N.Exact.value c.args.dispatch.now))
 
-pub unit_pays-units-requires-clause-own : goal.unit_pays-units-requires-clause-own
-unit_pays-units-requires-clause-own g c = count_fits g.N.Exact.value _ _ _ (ap (map g.N.Exact.value) c.deref.ensures.value ∙ c.in_ok-by_unit.ensures.own)
+pub unit_pays-requires-clause-own : goal.unit_pays-requires-clause-own
+unit_pays-requires-clause-own g c = count_fits g.N.Exact.value _ _ _ (ap (map g.N.Exact.value) c.deref.ensures.value ∙ c.in_ok-by_unit.ensures.own)
 
 pub returns-in_err-units-clause-cause : goal.returns-in_err-units-clause-cause
 returns-in_err-units-clause-cause g c =
@@ -35,8 +35,8 @@ returns-in_err-units-clause-cause g c =
     (c.in_err-units.ensures.cause (total_at g.N.Exact.value c.args.prices.now) (duals_at g.N.Exact.value c.args.duals.now)
     (ap (map g.N.Exact.value) c.deref.ensures.value ∙ c.in_ok-by_unit.ensures.own))
 
-pub lost_prices-own-requires : goal.lost_prices-own-requires
-lost_prices-own-requires g c = count_fits g.N.Exact.value _ _ _ (ap (map g.N.Exact.value) c.deref-2.ensures.value ∙ c.in_ok-by_unit.ensures.own)
+pub lost_prices-requires : goal.lost_prices-requires
+lost_prices-requires g c = count_fits g.N.Exact.value _ _ _ (ap (map g.N.Exact.value) c.deref-2.ensures.value ∙ c.in_ok-by_unit.ensures.own)
 
 pub returns-in_err-loads-clause-cause : goal.returns-in_err-loads-clause-cause
 returns-in_err-loads-clause-cause g c =

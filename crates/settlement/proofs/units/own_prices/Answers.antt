@@ -1,4 +1,4 @@
-use Rattle.std.proofs.Common.{rules, Err, ◌≡◌, ap, map, sym, ◌∙◌}
+use Rattle.std.proofs.Common.{rules, Err, ◌≡◌}
 use Rattle.market_model.specs.Valued.{duals_at, passed_at, total_at}
 use Rattle.market_model.specs.declared.stops.Stop.TheVariants as why
 use Rattle.settlement.proofs.PayLemmas.{own_refusal}

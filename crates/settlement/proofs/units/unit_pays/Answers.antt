@@ -16,7 +16,7 @@ loop-place-preserved g c =
     let value = g.N.Exact.value in
     let x = dispatch_of value c.args.dispatch.now in
     let i = c.loop-place.place in
-    let inside = omega (arith, c.loop-place-test.true, c.requires.own) in
+    let inside : i < length m.units = omega (arith, c.loop-place-test.true, c.requires.own) in
     λ price d own.
     put_place (unit_pay_at value) (pay_of_unit m x price d) c.loop-place.pays c.push.new.self c.in_ok-unit_pay.field-0 i c.in_ok-push.ensures (c.loop-place.invariant price d own)
     (pay_is value m x price d i _ c.in_ok-unit_pay.field-0
