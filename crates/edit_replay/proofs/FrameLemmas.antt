@@ -55,6 +55,7 @@ outcome_fits m n (outcome.Cleared a) same fits = record {
   prices = fits.prices ∙ as_many_buses m n same;
   money = record {
     units = fits.money.units ∙ as_many_units m n same;
+    own = fits.money.own ∙ ap (λ (p : Parts). length p.unit_outages) same;
     loads = fits.money.loads ∙ as_many_buses m n same;
     rents = fits.money.rents;
   };

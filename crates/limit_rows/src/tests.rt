@@ -81,6 +81,8 @@ fn one_outage(alloc: Global) -> Result<Market, Memory> {
         outages,
         shift: shift_factors(alloc)?,
         loss: loss_factors(alloc)?,
+        unit_outages: List::new(alloc),
+        pickups: List::new(alloc),
     };
     assemble(alloc, parts)
 }
@@ -102,12 +104,18 @@ fn two_outages(alloc: Global) -> Result<Market, Memory> {
         outages,
         shift: shift_factors(alloc)?,
         loss: loss_factors(alloc)?,
+        unit_outages: List::new(alloc),
+        pickups: List::new(alloc),
     };
     assemble(alloc, parts)
 }
 
 fn row(branch: u32, outage: u32) -> RowId {
-    RowId { branch, outage }
+    RowId {
+        branch,
+        outage,
+        unit: 0,
+    }
 }
 
 /// The name of the row at a place, where there is one.

@@ -1,14 +1,16 @@
 -- The outages of units that records list are those of a market.
-use Rattle.std.proofs.Common.{◌≡◌, ◌≢◌, ◌<◌, ◌≤◌, ◌*◌, ◌∷◌, ◌++◌, ◌∙◌, ℕ, zero, suc, ℤ, pos, List, [], Bool, true, false, All, None, Some, length, map, get_or, refl, sym, ap, subst, arith, w64}
-use Rattle.std.specs.Prelude.{◌==◌, ◌≤ℤ◌, AllPairs, cond, nat_lt, unwrap_or, if◌then◌else◌}
-use Rattle.std.specs.List.{find, list_any, position_or_len}
+use Rattle.std.proofs.Common.{◌≡◌, ◌≢◌, ◌<◌, ◌≤◌, ◌*◌, ◌∷◌, ◌++◌, ◌∙◌, ℕ, zero, suc, ℤ, pos, ◌+ℤ◌, List, [], Bool, true, false, All, None, Some, length, map, get_or, refl, sym, ap, ap₂, subst, arith, w64}
+use Rattle.std.specs.Prelude.{◌==◌, ◌≤ℤ◌, AllPairs, cond, unwrap_or, if◌then◌else◌}
+use Rattle.std.specs.List.{find, list_any, position, position_or_len}
 use mir.Val.{to_z, of_z}
-use Rattle.std.proofs.lemmas.Bool.{eq-eqb, eqb-true, ltb-true, not-false}
+use Rattle.std.proofs.lemmas.Bool.{cases_lt, eq-eqb, eqb-true, false_from_ne_true, lt-ltb, not-false, true≢false}
 use Rattle.std.proofs.lemmas.Bool.Decides.{Decides-eqb, Decides-int_eq}
 use Rattle.std.proofs.lemmas.Int.{ints}
 use Rattle.std.proofs.lemmas.List.{length-map}
 use Rattle.std.proofs.lemmas.List.Elements.{All-append, All-cons, All-contains, All-map, All-nil, All-tail}
 use Rattle.std.proofs.lemmas.List.Folds.{Any-from_list_any, list_any-append}
+use Rattle.std.proofs.lemmas.List.Quantifiers.{position-Some}
+use Rattle.std.proofs.Math.Logic.{⊎_elim}
 use Rattle.std.proofs.lemmas.Map.Made.{IsDistinct-from_AllPairs}
 use Rattle.std.proofs.lemmas.Map.Steps.{length-le_from_distinct_below}
 use Rattle.market_data.specs.Scales.{factor_one}
@@ -16,7 +18,7 @@ use Rattle.market_data.specs.WholeSums.{int_sum}
 use Rattle.market_model.specs.Market.{AreUnitOutages, IsPickup}
 use Rattle.outage_list.specs.declared.takings.Taking.{Taking}
 use Rattle.outage_list.specs.Takings.{IsTaking}
-use Rattle.outage_list.specs.UnitListing.{is_uneven, lost_units, outage_of, pickup_of, share_in, share_sum, with_lost, with_unit}
+use Rattle.outage_list.specs.UnitListing.{PicksUpAll, is_uneven, lost_units, outage_of, pickup_of, share_in, share_sum, with_lost, with_unit}
 use Rattle.outage_list.proofs.ListingLemmas.{among, apart-push, not_among}
 use Rattle.outage_list.proofs.UnitLemmas.{exact, share-range}
 
@@ -66,16 +68,47 @@ has-lost us [] k d lt = absurd (omega (arith, lt))
 has-lost us (t ∷ ts) zero d lt = has-kept (with_unit us t.lost) ts t.lost (has-it us t.lost)
 has-lost us (t ∷ ts) (suc k) d lt = has-lost (with_unit us t.lost) ts k d (omega (arith, lt))
 
-some-long : (us : List ℕ) (u : ℕ) → list_any (λ v. v == u) us ≡ true → 0 < length us
-some-long [] u found = cc
-some-long (v ∷ us) u found = omega arith
-
-outage-range : (us : List ℕ) (u : ℕ) → list_any (λ v. v == u) us ≡ true → outage_of us u < length us
-outage-range us u found = by (nat_lt (position_or_len (λ v. v == u) us) (length us)) refl
+-- ---- the place of a unit among those that are lost
+any-below : (p : ℕ → Bool) (us : List ℕ) → list_any p us ≡ true → position_or_len p us < length us
+any-below p [] found = cc
+any-below p (u ∷ us) found = by (any-below p us) (p u) refl
   where
-    by : (b : Bool) → nat_lt (position_or_len (λ v. v == u) us) (length us) ≡ b → unwrap_or (cond b (Some (position_or_len (λ v. v == u) us)) None) 0 < length us
-    by true e = ltb-true _ _ e
-    by false e = some-long us u found
+    by : (list_any p us ≡ true → position_or_len p us < length us) → (b : Bool) → p u ≡ b → position_or_len p (u ∷ us) < length (u ∷ us)
+    by rest true e = rw e (omega arith)
+    by rest false e = let r = rest (rw e at found) in rw e (omega (arith, r))
+
+module _ (us : List ℕ) (u : ℕ) (found : list_any (λ v. v == u) us ≡ true) where
+  stands-at : position (λ v. v == u) us ≡ Some (position_or_len (λ v. v == u) us)
+  stands-at = ap (λ b. cond b (Some (position_or_len (λ v. v == u) us)) None) (lt-ltb _ _ (any-below (λ v. v == u) us found))
+
+  outage-is : outage_of us u ≡ position_or_len (λ v. v == u) us
+  outage-is = ap (λ o. unwrap_or o 0) stands-at
+
+  outage-range : outage_of us u < length us
+  outage-range = omega (arith, outage-is, any-below (λ v. v == u) us found)
+
+  outage-at : get_or us (outage_of us u) 0 ≡ u
+  outage-at =
+      let (within, same, first) = position-Some (λ v. v == u) us (position_or_len (λ v. v == u) us) 0 stands-at in
+      ap (λ (i : ℕ). get_or us i 0) outage-is ∙ eqb-true _ _ same
+
+  -- its outage is that of the unit at a place where it is that unit
+  outage-test : AllPairs (λ a b. a ≢ b) us → (k : ℕ) → k < length us → (outage_of us u == k) ≡ (u == get_or us k 0)
+  outage-test once k lt = by (u == get_or us k 0) refl
+    where
+      place : u ≡ get_or us k 0 → outage_of us u ≡ k
+      place same =
+          ⊎_elim
+          (λ before. absurd (once (outage_of us u) k 0 before lt (outage-at ∙ same)))
+          (λ other. ⊎_elim
+          (λ behind. absurd (once k (outage_of us u) 0 behind outage-range (sym (outage-at ∙ same))))
+          (λ le. omega (arith, other, le))
+          (cases_lt k (outage_of us u)))
+          (cases_lt (outage_of us u) k)
+
+      by : (b : Bool) → (u == get_or us k 0) ≡ b → (outage_of us u == k) ≡ b
+      by true e = eq-eqb _ _ (place (eqb-true _ _ e))
+      by false e = false_from_ne_true _ (λ h. true≢false (sym (eq-eqb u (get_or us k 0) (sym outage-at ∙ ap (λ (i : ℕ). get_or us i 0) (eqb-true _ _ h))) ∙ e))
 
 few-lost : (units : ℕ) (us : List ℕ) → AreLost units us → length us ≤ units
 few-lost units us are =
@@ -129,6 +162,13 @@ none-all {X} test (x ∷ xs) e = by (none-all test xs) (test x) refl
 whole-sum : (ts : List Taking) (u : ℕ) → is_uneven ts u ≡ false → share_sum ts u ≡ pos factor_one
 whole-sum ts u even = (Decides-int_eq (share_sum ts u) (pos factor_one)).0 (not-false _ even)
 
+-- the shares of an outage are those of its unit
+shares-by : (lost : List ℕ) (k v : ℕ) (ts : List Taking) → ((j : ℕ) (d : Taking) → j < length ts → (outage_of lost (get_or ts j d).lost == k) ≡ ((get_or ts j d).lost == v))
+    → int_sum (λ p. if p.outage == k then p.share else pos 0) (map (pickup_of lost) ts) ≡ share_sum ts v
+shares-by lost k v [] same = refl
+shares-by lost k v (t ∷ ts) same =
+    ap₂ ◌+ℤ◌ (ap (λ (b : Bool). if b then t.share else pos 0) (same 0 t (omega arith))) (shares-by lost k v ts (λ j d lt. same (suc j) d (omega (arith, lt))))
+
 -- ---- the outages that are listed
 module _ (units : ℕ) (ts : List Taking) (most : units ≤ 1000) (few : length ts ≤ 5000) (all : All (IsTaking units) ts) (even : find (is_uneven ts) (lost_units ts) ≡ None) where
   lost-are : AreLost units (lost_units ts)
@@ -145,6 +185,11 @@ module _ (units : ℕ) (ts : List Taking) (most : units ≤ 1000) (few : length 
         above = (all k d lt).above;
         most = subst (λ z. t.share ≤ℤ z) sum (share-le units ts k d all lt);
       }
+
+  pub outages-whole : PicksUpAll (record { lost = lost_units ts; pickups = map (pickup_of (lost_units ts)) ts })
+  outages-whole k lt =
+      shares-by (lost_units ts) k (get_or (lost_units ts) k 0) ts (λ j d within. outage-test (lost_units ts) (get_or ts j d).lost (has-lost [] ts j d within) lost-are.once k lt)
+      ∙ whole-sum ts (get_or (lost_units ts) k 0) (none-all (is_uneven ts) (lost_units ts) even k 0 lt)
 
   pub outages-kept : AreUnitOutages units (lost_units ts) (map (pickup_of (lost_units ts)) ts)
   outages-kept = record {

@@ -1,5 +1,5 @@
 -- What the table of outages of units stands for: the outages, each with what is picked up then, or the first fault.
-use Rattle.std.specs.Prelude.{ℕ, ◌==◌, not, ℤ, pos, Bool, List, [], ◌∷◌, ◌++◌, map, codes, position, slice_get, unwrap_or, if◌then◌else◌, Some, Result, Ok, Err}
+use Rattle.std.specs.Prelude.{◌≡◌, ℕ, ◌<◌, ◌==◌, length, not, ℤ, pos, Bool, List, [], ◌∷◌, ◌++◌, map, codes, position, slice_get, unwrap_or, if◌then◌else◌, Some, Result, Ok, Err}
 use Rattle.std.specs.List.{find, list_any}
 use Rattle.std.specs.Option.{option_map_or}
 use Rattle.std.specs.Ordering.{int_eq}
@@ -51,6 +51,11 @@ outage_of lost u = unwrap_or (position (λ v. v == u) lost) 0
 -- a record by the place of its outage
 abbrev pub pickup_of : List ℕ → Taking → Pickup
 pickup_of lost t = record { outage = outage_of lost t.lost; taker = t.taker; share = t.share }
+
+-- ---- the outages
+-- at each outage shares that sum to 1 are picked up
+abbrev pub PicksUpAll : UnitOutages → Type 0
+PicksUpAll outages = (k : ℕ) → k < length outages.lost → int_sum (λ p. if p.outage == k then p.share else pos 0) outages.pickups ≡ pos factor_one
 
 -- ---- the table
 -- the gen row of the live unit at a place

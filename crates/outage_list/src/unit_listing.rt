@@ -5,7 +5,7 @@ ghost use Rattle.std.specs.List.{find};
 ghost use Rattle.market_data.specs.Scales.{most_pickups};
 ghost use Rattle.market_model.specs.Market.{AreUnitOutages};
 ghost use Rattle.outage_list.specs.Takings.{IsTaking};
-ghost use Rattle.outage_list.specs.UnitListing.{is_uneven, listed_by, lost_units, outage_of, pickup_of, row_at, share_in, share_sum, unit_outages_of, with_unit};
+ghost use Rattle.outage_list.specs.UnitListing.{PicksUpAll, is_uneven, listed_by, lost_units, outage_of, pickup_of, row_at, share_in, share_sum, unit_outages_of, with_unit};
 
 use crate::UnitOutageFault;
 use crate::takings::{Taking, takings_of};
@@ -149,6 +149,7 @@ fn listed_by(
     requires few { length takings.now ≤ most_pickups }
     requires kept { All (IsTaking (length network.now.units)) takings.now }
     ensures kept { IfOk result (λ outages. AreUnitOutages (length network.now.units) outages.lost outages.pickups) }
+    ensures whole { IfOk result PicksUpAll }
     ensures is { result ≢ Err UnitOutageFault.Memory → result ≡ listed_by network.now takings.now }
 {
     let _units = network.units();
@@ -170,6 +171,7 @@ pub fn unit_outages(
     bytes: &[u8],
 ) -> Result<UnitOutages, UnitOutageFault>
     ensures kept { IfOk result (λ outages. AreUnitOutages (length network.now.units) outages.lost outages.pickups) }
+    ensures whole { IfOk result PicksUpAll }
     ensures is { result ≢ Err UnitOutageFault.Memory → result ≡ unit_outages_of network.now bytes.now }
 {
     let table = read_table(alloc, bytes, UNIT_OUTAGE_HEADER, Some(MOST_PICKUPS))??;

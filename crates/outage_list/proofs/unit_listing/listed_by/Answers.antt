@@ -2,7 +2,7 @@ use Rattle.std.proofs.Common.{◌≡◌, ◌∙◌, Some, None, length, map, sym
 use Rattle.std.specs.List.{find}
 use mir.Val.{to_z, of_z}
 use Rattle.outage_list.specs.UnitListing.{is_uneven, listed_by, lost_units, pickup_of, share_sum}
-use Rattle.outage_list.proofs.OutageLemmas.{outages-kept, sum-exact}
+use Rattle.outage_list.proofs.OutageLemmas.{outages-kept, outages-whole, sum-exact}
 use Rattle.outage_list.proofs.unit_listing.listed_by.Goals as goal
 
 pub returns-in-Some-clause-is : goal.returns-in-Some-clause-is
@@ -27,3 +27,10 @@ returns-clause-kept c =
     let found : find (is_uneven ts) (lost_units ts) ≡ None = ap (find (is_uneven ts)) (sym (c.slice.ensures ∙ c.in_ok-lost.ensures)) ∙ sym c.uneven.ensures ∙ c.in_default.is in
     let pickups = c.in_ok-pickups.ensures ∙ ap (λ lost. map (pickup_of lost) ts) (c.slice-2.ensures ∙ c.in_ok-lost.ensures) in
     rw (c.in_ok-lost.ensures, pickups) (outages-kept (length c.args.network.now.units) ts c.units-units.ensures.network.unit_count c.requires.few c.requires.kept found)
+
+pub returns-clause-whole : goal.returns-clause-whole
+returns-clause-whole c =
+    let ts = c.args.takings.now in
+    let found : find (is_uneven ts) (lost_units ts) ≡ None = ap (find (is_uneven ts)) (sym (c.slice.ensures ∙ c.in_ok-lost.ensures)) ∙ sym c.uneven.ensures ∙ c.in_default.is in
+    let pickups = c.in_ok-pickups.ensures ∙ ap (λ lost. map (pickup_of lost) ts) (c.slice-2.ensures ∙ c.in_ok-lost.ensures) in
+    rw (c.in_ok-lost.ensures, pickups) (outages-whole (length c.args.network.now.units) ts c.units-units.ensures.network.unit_count c.requires.few c.requires.kept found)
