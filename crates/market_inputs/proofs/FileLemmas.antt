@@ -46,6 +46,7 @@ alike-grid a b h = λ i. record {
 pub alike-tables : (a b : MarketTexts) → EachOf AreAlike a b → sized_tables a ≡ sized_tables b
 alike-tables a b h = λ i. record {
   grid = alike-grid a.grid b.grid h.grid i;
+  unit_outages = h.unit_outages (refusal.TooLong input.UnitOutages) i;
   offers = h.offers (refusal.TooLong input.Offers) i;
   offsets = h.offsets (refusal.TooLong input.Offsets) i;
   penalties = h.penalties (refusal.TooLong input.Penalties) i;

@@ -10,9 +10,9 @@ use Rattle.market_data.specs.declared.participants.Unit as unit
 use Rattle.market_model.specs.declared.participants.Factor.{Factor}
 use Rattle.market_model.specs.declared.participants.Line.{Line}
 use Rattle.market_model.specs.Lines.{IsPenalty}
-use Rattle.market_model.specs.Market.{IsLine, IsMarket, bare_parts}
+use Rattle.market_model.specs.Market.{AreUnitOutages, IsLine, IsMarket, bare_parts}
 use Rattle.market_model.proofs.LinePenalties.{no_cost}
-use Rattle.market_model.proofs.PlainMarkets.{no_unit_outages, plain_market, distinct_by_rise}
+use Rattle.market_model.proofs.PlainMarkets.{plain_market, distinct_by_rise}
 use Rattle.net_case.specs.Networks.{LiveNetwork, IsNetwork, IsNetBranch, IsLimit}
 use Rattle.net_case.specs.NetworkReading.{unit_within}
 use Rattle.net_case.specs.declared.live_parts.NetBranch.{NetBranch}
@@ -22,11 +22,12 @@ use Rattle.factor_tables.specs.Factors.{factor_at}
 use Rattle.factor_tables.specs.Offsets.{OffsetEntry}
 use Rattle.factor_tables.specs.Penalties.{GivesWay, PenaltyEntry}
 use Rattle.factor_tables.specs.declared.penalty_list.Penalty.{Penalty}
+use Rattle.outage_list.specs.declared.unit_listing.UnitOutages.{UnitOutages}
 use Rattle.market_inputs.specs.declared.offers.Offered.{Offered}
 use Rattle.market_inputs.specs.declared.tables.Tables.{Tables}
 use Rattle.market_inputs.specs.Clearing.{AreSmall, IsTabled, line_of, loss_by, market_of, shift_by, market_factor}
 use Rattle.market_inputs.specs.Pooling.{pool_of}
-use Rattle.market_inputs.specs.Tables.{AreOffered, MayBeLost}
+use Rattle.market_inputs.specs.Tables.{AreOffered, MayBeLost, MayLoseUnits}
 use Rattle.market_inputs.proofs.FactorLemmas.{factors_by-are}
 
 -- ---- units
@@ -39,6 +40,12 @@ rows-distinct : (network : LiveNetwork) (offered : Offered) → IsNetwork networ
 rows-distinct network offered net given =
     let rows : map (λ (u : unit.Unit). u.row) offered.units ≡ map (λ (u : NetUnit). u.row) network.units = ap (map (λ (u : unit.Unit). u.row)) given.units_are ∙ unit_rows network.units in
     subst (AllPairs (λ a b. a ≢ b)) (sym rows) (distinct_by_rise (map (λ (u : NetUnit). u.row) network.units) net.unit_rows.rise)
+
+-- outages of a network's units are outages of the units that have offers
+lost-units : (network : LiveNetwork) (offered : Offered) (lost : UnitOutages) → AreOffered network offered → MayLoseUnits network lost → AreUnitOutages (length offered.units) lost.lost lost.pickups
+lost-units network offered lost given may =
+    let count : length offered.units ≡ length network.units = ap length given.units_are ∙ length-map network.units unit_within in
+    subst (λ (n : ℕ). AreUnitOutages n lost.lost lost.pickups) (sym count) may
 
 -- ---- the market without branches
 pub pool-market : (network : LiveNetwork) (offered : Offered) → IsNetwork network → AreOffered network offered → IsMarket (pool_of network offered)
@@ -104,15 +111,15 @@ module _ (network : LiveNetwork) (offsets : List OffsetEntry) (penalties : List 
 
 -- ---- the market with limits
 -- parts whose lists are those of a network are its market
-pub market-is : (network : LiveNetwork) (tables : Tables) (offered : Offered) (offsets : List OffsetEntry) (penalties : List PenaltyEntry) (branches : List NetBranch) (buses whole : List Bus) (lines : List Line) (shift loss : List Factor)
+pub market-is : (network : LiveNetwork) (tables : Tables) (lost : UnitOutages) (offered : Offered) (offsets : List OffsetEntry) (penalties : List PenaltyEntry) (branches : List NetBranch) (buses whole : List Bus) (lines : List Line) (shift loss : List Factor)
     → branches ≡ network.branches → buses ≡ network.buses → whole ≡ network.buses → lines ≡ map (line_of offsets penalties) branches → shift ≡ shift_by tables.shift branches buses → loss ≡ loss_by tables.loss branches
-    → record (bare_parts whole offered.units offered.blocks) { lines = lines; outages = tables.outages; shift = shift; loss = loss } ≡ market_of network tables offered offsets penalties
-market-is network tables offered offsets penalties branches buses whole lines shift loss branches_are buses_are whole_is lines_are shift_is loss_is = rw (whole_is, lines_are, shift_is, loss_is, branches_are, buses_are) refl
+    → record (bare_parts whole offered.units offered.blocks) { lines = lines; outages = tables.outages; shift = shift; loss = loss; unit_outages = lost.lost; pickups = lost.pickups } ≡ market_of network tables lost offered offsets penalties
+market-is network tables lost offered offsets penalties branches buses whole lines shift loss branches_are buses_are whole_is lines_are shift_is loss_is = rw (whole_is, lines_are, shift_is, loss_is, branches_are, buses_are) refl
 
-pub clear-market : (network : LiveNetwork) (tables : Tables) (offered : Offered) (offsets : List OffsetEntry) (penalties : List PenaltyEntry) → IsNetwork network → MayBeLost network tables.outages → AreOffered network offered
+pub clear-market : (network : LiveNetwork) (tables : Tables) (lost : UnitOutages) (offered : Offered) (offsets : List OffsetEntry) (penalties : List PenaltyEntry) → IsNetwork network → MayBeLost network tables.outages → MayLoseUnits network lost → AreOffered network offered
     → All IsTabled (map (line_of offsets penalties) network.branches) → AreSmall (shift_by tables.shift network.branches network.buses) → AreSmall (loss_by tables.loss network.branches)
-    → IsMarket (market_of network tables offered offsets penalties)
-clear-market network tables offered offsets penalties net lost given tabled small_shift small_loss =
+    → IsMarket (market_of network tables lost offered offsets penalties)
+clear-market network tables lost offered offsets penalties net may units given tabled small_shift small_loss =
     let count : length (map (line_of offsets penalties) network.branches) ≡ length network.branches = length-map network.branches (line_of offsets penalties) in
     let rows : map (λ (l : Line). l.row) (map (line_of offsets penalties) network.branches) ≡ map (λ (b : NetBranch). b.row) network.branches = line-rows network offsets penalties net in
     record {
@@ -120,7 +127,7 @@ clear-market network tables offered offsets penalties net lost given tabled smal
       unit_count = given.count;
       block_count = given.blocks.count;
       line_count = omega (arith, count, net.branch_count);
-      outage_count = lost.count;
+      outage_count = may.count;
       buses = net.buses;
       bus_numbers = net.distinct;
       units = given.units;
@@ -130,10 +137,10 @@ clear-market network tables offered offsets penalties net lost given tabled smal
       lines = are-lines network offsets penalties net tabled;
       line_rows = subst (AllPairs (λ a b. a ≢ b)) (sym rows) (distinct_by_rise (map (λ (b : NetBranch). b.row) network.branches) net.rows_of_branches.rise);
       outages = subst (λ rs. All (Contains rs) tables.outages) (sym rows) (λ i d lt.
-          let o = lost.are.each i d lt in
+          let o = may.are.each i d lt in
           subst (Contains (map (λ (b : NetBranch). b.row) network.branches)) o.live.row_is (Contains-map (λ (b : NetBranch). b.row) network.branches o.branch o.live.live));
-      outages_distinct = lost.are.distinct;
+      outages_distinct = may.are.distinct;
       shift = rw count (factors_by-are (λ branch bus. market_factor (factor_at tables.shift (branch.row, bus.number))) network.buses network.branches small_shift);
       loss = rw count (factors_by-are (λ branch other. market_factor (factor_at tables.loss (branch.row, other.row))) network.branches network.branches small_loss);
-      unit_outages = no_unit_outages (length offered.units);
+      unit_outages = lost-units network offered lost given units;
     }

@@ -20,7 +20,7 @@ use Rattle.market_inputs.specs.Clearing.{IsClearMarket, market_of}
 use Rattle.market_inputs.specs.Files.{SizedGrid, SizedTables}
 use Rattle.market_inputs.specs.Pooling.{IsPoolMarket, pool_of}
 use Rattle.market_inputs.specs.Steps.{Is, Onward, Then}
-use Rattle.market_inputs.specs.Tables.{AreListed, AreOutagesIn, AreTables, cover_in, loss_in, numbers_in, offers_in, offsets_in, penalties_in, shift_in}
+use Rattle.market_inputs.specs.Tables.{AreListed, AreOutagesIn, AreTables, cover_in, loss_in, numbers_in, offers_in, offsets_in, penalties_in, shift_in, unit_outages_in}
 use Rattle.market_inputs.proofs.ListingOnce.{list-once}
 use Rattle.market_inputs.proofs.NetworkRows.{network-rows}
 
@@ -100,10 +100,11 @@ clear-once rating files =
     then-once _ _ (is-once (matrices_in files.grid.case))
     (λ matrices _. then-once _ _ (joined-network-once rating matrices)
     (λ network is. then-once _ _ (tables-once network (joined-rows rating matrices network is) files.grid)
-    (λ tables _. then-once _ _ (is-once (cover_in network tables))
+    (λ tables _. then-once _ _ (is-once (unit_outages_in network files.unit_outages))
+    (λ lost _. then-once _ _ (is-once (cover_in network tables lost))
     (λ _ _. then-once _ _ (is-once (offers_in network files.offers))
     (λ offered _. then-once _ _ (is-once (offsets_in network files.offsets))
-    (λ moved _. then-once _ _ (is-once (penalties_in network files.penalties)) (λ priced _. is-once (Ok (market_of network tables offered moved priced)))))))))
+    (λ moved _. then-once _ _ (is-once (penalties_in network files.penalties)) (λ priced _. is-once (Ok (market_of network tables lost offered moved priced))))))))))
 
 -- ---- what a check works on
 pub inputs-once : (files : SizedGrid) → OfOne (AreInputs files)

@@ -15,13 +15,14 @@ use Rattle.factor_tables.specs.Factors.{Entry, factor_at}
 use Rattle.factor_tables.specs.Offsets.{OffsetEntry, offset_at}
 use Rattle.factor_tables.specs.Penalties.{PenaltyEntry, penalty_at}
 use Rattle.factor_tables.specs.declared.penalty_list.Penalty.{Penalty}
+use Rattle.outage_list.specs.declared.unit_listing.UnitOutages.{UnitOutages}
 use Rattle.refusal_text.specs.declared.refusals.Refusal.{Refusal}
 use Rattle.market_inputs.specs.declared.offers.Offered.{Offered}
 use Rattle.market_inputs.specs.declared.tables.Tables.{Tables}
 use Rattle.market_inputs.specs.Cases.{IsJoinedNetwork, matrices_in}
 use Rattle.market_inputs.specs.Files.{SizedTables}
 use Rattle.market_inputs.specs.Steps.{Is, Then}
-use Rattle.market_inputs.specs.Tables.{AreTables, cover_in, offers_in, offsets_in, penalties_in}
+use Rattle.market_inputs.specs.Tables.{AreTables, cover_in, offers_in, offsets_in, penalties_in, unit_outages_in}
 use Rattle.market_model.specs.Lines.{IsPenalty}
 
 -- ---- lines
@@ -82,24 +83,27 @@ abbrev pub AreSmall : List Factor → Type 0
 AreSmall factors = All (λ factor. unsigned_abs factor.value ≤ most_market_factor) factors
 
 -- ---- the market
--- the market of a network with its tables, its offers, its offsets and its penalties
-abbrev pub market_of : LiveNetwork → Tables → Offered → List OffsetEntry → List PenaltyEntry → Parts
-market_of network tables offered offsets penalties = record (bare_parts network.buses offered.units offered.blocks) {
+-- the market of a network with its tables, its outages of units, its offers, its offsets and its penalties
+abbrev pub market_of : LiveNetwork → Tables → UnitOutages → Offered → List OffsetEntry → List PenaltyEntry → Parts
+market_of network tables lost offered offsets penalties = record (bare_parts network.buses offered.units offered.blocks) {
   lines = map (line_of offsets penalties) network.branches;
   outages = tables.outages;
   shift = shift_by tables.shift network.branches network.buses;
   loss = loss_by tables.loss network.branches;
+  unit_outages = lost.lost;
+  pickups = lost.pickups;
 }
 
--- What the bytes of the files of a clear stand for, or the first fault. The case comes first, then the three tables and what they
--- lack, the offers, the offsets and the penalties.
+-- What the bytes of the files of a clear stand for, or the first fault. The case comes first, then the three tables, the outages of
+-- units and what the tables lack for all outages, the offers, the offsets and the penalties.
 abbrev pub IsClearMarket : PostRating → SizedTables → Result Parts Refusal → Type 0
 IsClearMarket rating files told =
     Then (Is (matrices_in files.grid.case)) (λ matrices.
     Then (IsJoinedNetwork rating matrices) (λ network.
     Then (AreTables network files.grid) (λ tables.
-    Then (Is (cover_in network tables)) (λ _.
+    Then (Is (unit_outages_in network files.unit_outages)) (λ lost.
+    Then (Is (cover_in network tables lost)) (λ _.
     Then (Is (offers_in network files.offers)) (λ offered.
     Then (Is (offsets_in network files.offsets)) (λ moved.
     Then (Is (penalties_in network files.penalties)) (λ priced.
-    Is (Ok (market_of network tables offered moved priced))))))))) told
+    Is (Ok (market_of network tables lost offered moved priced)))))))))) told

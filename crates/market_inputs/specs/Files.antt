@@ -33,6 +33,7 @@ sized_grid texts = record {
 abbrev pub sized_tables : MarketTexts → SizedTables
 sized_tables texts = record {
   grid = sized_grid texts.grid;
+  unit_outages = sized (refusal.TooLong input.UnitOutages) texts.unit_outages;
   offers = sized (refusal.TooLong input.Offers) texts.offers;
   offsets = sized (refusal.TooLong input.Offsets) texts.offsets;
   penalties = sized (refusal.TooLong input.Penalties) texts.penalties;

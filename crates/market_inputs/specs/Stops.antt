@@ -10,6 +10,8 @@ use Rattle.factor_tables.specs.declared.table_fault.TableFault.{TableFault}
 use Rattle.factor_tables.specs.declared.table_fault.TableFault.TheVariants as table
 use Rattle.outage_list.specs.declared.listing.OutageFault.{OutageFault}
 use Rattle.outage_list.specs.declared.listing.OutageFault.TheVariants as outage
+use Rattle.outage_list.specs.declared.unit_fault.UnitOutageFault.{UnitOutageFault}
+use Rattle.outage_list.specs.declared.unit_fault.UnitOutageFault.TheVariants as unit_outage
 use Rattle.offer_book.specs.declared.offer_table.OfferFault.{OfferFault}
 use Rattle.offer_book.specs.declared.offer_table.OfferFault.TheVariants as offer
 use Rattle.edit_table.specs.declared.StepFault.{StepFault}
@@ -48,6 +50,10 @@ table_stop_of file f = stop.Refused (refusal.Table file f)
 abbrev pub outage_stop : OutageFault → InputStop
 outage_stop outage.Memory = stop.Memory
 outage_stop f = stop.Refused (refusal.Outages f)
+
+abbrev pub unit_outage_stop : UnitOutageFault → InputStop
+unit_outage_stop unit_outage.Memory = stop.Memory
+unit_outage_stop f = stop.Refused (refusal.UnitOutages f)
 
 abbrev pub offer_stop : OfferFault → InputStop
 offer_stop offer.Memory = stop.Memory

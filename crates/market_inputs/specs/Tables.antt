@@ -1,9 +1,9 @@
 -- What the bytes of the tables of a network stand for.
-use Rattle.std.specs.Prelude.{◌≡◌, ◌≢◌, ℕ, ◌≤◌, ℤ, List, length, All, Result, Ok, Err}
+use Rattle.std.specs.Prelude.{◌≡◌, ◌≢◌, ℕ, ◌≤◌, nat_lt, ℤ, List, length, All, Result, Ok, Err}
 use Rattle.record_reading.specs.Steps.{and_then, or_as}
 use Rattle.market_data.specs.Participants.{IsUnit}
 use Rattle.market_data.specs.Scales.{most_outages, most_units}
-use Rattle.market_model.specs.Market.{HaveRoom}
+use Rattle.market_model.specs.Market.{AreUnitOutages, HaveRoom}
 use Rattle.net_case.specs.Networks.{LiveNetwork}
 use Rattle.net_case.specs.NetworkReading.{unit_list_of}
 use Rattle.factor_tables.specs.Covering.{cover_of}
@@ -15,6 +15,8 @@ use Rattle.factor_tables.specs.Tables.{shift_of, loss_of}
 use Rattle.outage_list.specs.Listing.{AreOutages, IsListed}
 use Rattle.outage_list.specs.declared.listing.OutageFault.{OutageFault}
 use Rattle.outage_list.specs.declared.listing.OutageFault.TheVariants as outage
+use Rattle.outage_list.specs.UnitListing.{unit_outages_of}
+use Rattle.outage_list.specs.declared.unit_listing.UnitOutages.{UnitOutages}
 use Rattle.offer_book.specs.Offers.{AreBlocks}
 use Rattle.offer_book.specs.OfferTable.{blocks_of_table}
 use Rattle.refusal_text.specs.declared.refusals.Input.TheVariants as input
@@ -58,9 +60,18 @@ AreTables network grid told =
     Then (AreOutagesIn network grid.contingencies) (λ outages.
     Is (Ok (record { shift = shift; loss = loss; outages = outages }))))) told
 
--- what the two tables of factors lack
-abbrev pub cover_in : LiveNetwork → Tables → Result (Unit {0}) Refusal
-cover_in network tables = or_as refusal.Uncovered (cover_of network tables.shift tables.loss tables.outages)
+-- ---- the table of outages of units
+abbrev pub unit_outages_in : LiveNetwork → Result (List ℕ) Refusal → Result UnitOutages Refusal
+unit_outages_in network bytes = and_then bytes (λ text. or_as refusal.UnitOutages (unit_outages_of network text))
+
+-- outages of units that a market may be asked to stand
+abbrev pub MayLoseUnits : LiveNetwork → UnitOutages → Type 0
+MayLoseUnits network lost = AreUnitOutages (length network.units) lost.lost lost.pickups
+
+-- ---- what the two tables of factors lack
+-- for the outages that are listed, of branches and of units
+abbrev pub cover_in : LiveNetwork → Tables → UnitOutages → Result (Unit {0}) Refusal
+cover_in network tables lost = or_as refusal.Uncovered (cover_of network tables.shift tables.loss tables.outages (nat_lt 0 (length lost.lost)))
 
 -- ---- the tables of offers, of offsets and of penalties
 -- the units of a network, and their blocks

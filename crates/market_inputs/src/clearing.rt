@@ -1,4 +1,4 @@
-//! The market of a case with its tables, its offers, its offsets and its penalties.
+//! The market of a case with its tables, its outages of units, its offers, its offsets and its penalties.
 
 ghost use Rattle.std.specs.Prelude.{◌≡◌, IfOk};
 ghost use Rattle.market_model.specs.Market.{IsMarket};
@@ -7,17 +7,20 @@ ghost use Rattle.market_tables.specs.Tables.{tables_lent};
 ghost use Rattle.market_inputs.specs.Clearing.{IsClearMarket, market_of};
 ghost use Rattle.market_inputs.specs.Files.{sized_tables};
 ghost use Rattle.market_inputs.specs.Stops.{IsToldAs};
-ghost use Rattle.market_inputs.specs.Tables.{AreOffered, MayBeLost};
+ghost use Rattle.market_inputs.specs.Tables.{AreOffered, MayBeLost, MayLoseUnits};
 
 use crate::cases::{case_matrices, joined_network};
 use crate::limits::{factors_of, lines_of};
 use crate::offers::{Offered, offer_table};
 use crate::stops::InputStop;
-use crate::tables::{Tables, check_cover, offset_table, penalty_table, read_tables};
+use crate::tables::{
+    Tables, check_cover, offset_table, penalty_table, read_tables, unit_outage_table,
+};
 use factor_tables::{Offsets, Penalties};
-use market_model::{List, Market, Memory, Parts, assemble};
+use market_model::{Market, Memory, Parts, assemble};
 use market_tables::MarketTables;
 use net_case::{Network, PostRating};
+use outage_list::UnitOutages;
 use std::alloc::Global;
 
 /// The parts of a market with limits.
@@ -25,15 +28,17 @@ fn limited_parts(
     alloc: Global,
     network: Network,
     tables: Tables,
+    lost: UnitOutages,
     offered: Offered,
     offsets: &Offsets,
     penalties: &Penalties,
 ) -> Result<Parts, Memory>
     requires network { IsNetwork network }
     requires outages { MayBeLost network tables.outages }
+    requires lost { MayLoseUnits network lost }
     requires offered { AreOffered network offered }
     ensures kept { IfOk result IsMarket }
-    ensures is { IfOk result (λ parts. parts ≡ market_of network tables offered offsets.now penalties.now) }
+    ensures is { IfOk result (λ parts. parts ≡ market_of network tables lost offered offsets.now penalties.now) }
 {
     let branches = network.branches().slice();
     let lines = lines_of(alloc, branches, offsets, penalties)?;
@@ -47,15 +52,16 @@ fn limited_parts(
         outages: tables.outages,
         shift,
         loss,
-        unit_outages: List::new(alloc),
-        pickups: List::new(alloc),
+        unit_outages: lost.lost,
+        pickups: lost.pickups,
     })
 }
 
-/// The market of a case with its tables, its offers, its offsets and its penalties, of the whole bytes of these. The limits after an
-/// outage are of the rating that is asked for.
+/// The market of a case with its tables, its outages of units, its offers, its offsets and its penalties, of the whole bytes of these.
+/// The limits after an outage are of the rating that is asked for.
 ///
-/// The whole case is read first, then the tables of factors, the outages, the offers, the offsets and the penalties.
+/// The whole case is read first, then the tables of factors, the outages of branches and of units, the offers, the offsets and the
+/// penalties.
 pub fn clear_market(
     alloc: Global,
     bytes: &MarketTables<&[u8]>,
@@ -67,10 +73,11 @@ pub fn clear_market(
     let raw = case_matrices(alloc, bytes.grid.case)?;
     let network = joined_network(alloc, &raw, rating)?;
     let tables = read_tables(alloc, &network, &bytes.grid)?;
-    check_cover(&network, &tables)?;
+    let lost = unit_outage_table(alloc, &network, bytes.unit_outages)?;
+    check_cover(&network, &tables, &lost)?;
     let offered = offer_table(alloc, &network, bytes.offers)?;
     let offsets = offset_table(alloc, &network, bytes.offsets)?;
     let penalties = penalty_table(alloc, &network, bytes.penalties)?;
-    let parts = limited_parts(alloc, network, tables, offered, &offsets, &penalties)?;
+    let parts = limited_parts(alloc, network, tables, lost, offered, &offsets, &penalties)?;
     Ok(assemble(alloc, parts)?)
 }

@@ -10,7 +10,7 @@ use factor_tables::TableFault;
 use net_case::NetFault;
 use net_paths::PathStop;
 use offer_book::OfferFault;
-use outage_list::OutageFault;
+use outage_list::{OutageFault, UnitOutageFault};
 use plain_list::Memory;
 use refusal_text::{Input, Refusal};
 
@@ -79,6 +79,19 @@ impl From<OutageFault> for InputStop {
         match fault {
             OutageFault::Memory => InputStop::Memory,
             _ => InputStop::Refused(Refusal::Outages(fault)),
+        }
+    }
+}
+
+impl From<UnitOutageFault> for InputStop {
+    ghost use Rattle.market_inputs.specs.Stops.{unit_outage_stop};
+
+    ghost from_gives = { λ fault stop. stop ≡ unit_outage_stop fault };
+
+    fn from(fault: UnitOutageFault) -> InputStop {
+        match fault {
+            UnitOutageFault::Memory => InputStop::Memory,
+            _ => InputStop::Refused(Refusal::UnitOutages(fault)),
         }
     }
 }

@@ -8,7 +8,7 @@ ghost use Rattle.market_tables.specs.Tables.{grid_lent};
 ghost use Rattle.market_inputs.specs.Files.{sized, sized_grid};
 ghost use Rattle.market_inputs.specs.Steps.{Is};
 ghost use Rattle.market_inputs.specs.Stops.{IsToldAs};
-ghost use Rattle.market_inputs.specs.Tables.{AreOutagesIn, AreTables, MayBeLost, cover_in, loss_in, numbers_in, offsets_in, penalties_in, shift_in};
+ghost use Rattle.market_inputs.specs.Tables.{AreOutagesIn, AreTables, MayBeLost, MayLoseUnits, cover_in, loss_in, numbers_in, offsets_in, penalties_in, shift_in, unit_outages_in};
 
 use crate::lengths::check_length;
 use crate::stops::{InputStop, table_stop};
@@ -18,7 +18,7 @@ use factor_tables::{
 };
 use market_tables::GridTables;
 use net_case::Network;
-use outage_list::{Outages, listed};
+use outage_list::{Outages, UnitOutages, listed, unit_outages};
 use refusal_text::{Input, Refusal};
 use std::alloc::Global;
 
@@ -92,11 +92,30 @@ pub(crate) fn read_tables(
     })
 }
 
-/// Stops at what the tables of factors lack.
-pub(crate) fn check_cover(network: &Network, tables: &Tables) -> Result<(), InputStop>
-    ensures { IsToldAs (Is (cover_in network.now tables.now)) result }
+/// The outages of units of a table.
+pub(crate) fn unit_outage_table(
+    alloc: Global,
+    network: &Network,
+    bytes: &[u8],
+) -> Result<UnitOutages, InputStop>
+    ensures told { IsToldAs (Is (unit_outages_in network.now (sized (refusal.TooLong input.UnitOutages) bytes.now))) result }
+    ensures kept { IfOk result (MayLoseUnits network.now) }
 {
-    match cover(network, &tables.shift, &tables.loss, tables.outages.slice()) {
+    check_length(bytes, Input::UnitOutages)?;
+    Ok(unit_outages(alloc, network, bytes)?)
+}
+
+/// Stops at what the tables of factors lack for the outages that are listed.
+pub(crate) fn check_cover(
+    network: &Network,
+    tables: &Tables,
+    lost: &UnitOutages,
+) -> Result<(), InputStop>
+    ensures { IsToldAs (Is (cover_in network.now tables.now lost.now)) result }
+{
+    let outages = tables.outages.slice();
+    let units = !lost.lost.slice().is_empty();
+    match cover(network, &tables.shift, &tables.loss, outages, units) {
         Ok(()) => Ok(()),
         Err(lack) => Err(InputStop::Refused(Refusal::Uncovered(lack))),
     }

@@ -2,6 +2,7 @@
 use Rattle.std.specs.Prelude.{ℕ, List, [], ◌++◌, codes, decimal}
 use Rattle.std.specs.List.{flat_map}
 use Rattle.scaled_decimal.specs.declared.DecimalFault.TheVariants as decimal_fault
+use Rattle.line_text.specs.Decimals.{decimal_text}
 use Rattle.case_text.specs.declared.Field.{Field}
 use Rattle.case_text.specs.declared.Field.TheVariants as field
 use Rattle.case_text.specs.declared.CaseFault.{CaseFault}
@@ -18,6 +19,8 @@ use Rattle.factor_tables.specs.declared.covering.Uncovered.{Uncovered}
 use Rattle.factor_tables.specs.declared.covering.Uncovered.TheVariants as uncovered
 use Rattle.outage_list.specs.declared.listing.OutageFault.{OutageFault}
 use Rattle.outage_list.specs.declared.listing.OutageFault.TheVariants as outage_fault
+use Rattle.outage_list.specs.declared.unit_fault.UnitOutageFault.{UnitOutageFault}
+use Rattle.outage_list.specs.declared.unit_fault.UnitOutageFault.TheVariants as unit_outage_fault
 use Rattle.offer_book.specs.declared.offer_table.OfferFault.{OfferFault}
 use Rattle.offer_book.specs.declared.offer_table.OfferFault.TheVariants as offer_fault
 use Rattle.edit_table.specs.declared.StepFault.{StepFault}
@@ -110,6 +113,17 @@ outage_words (outage_fault.Twice line) = codes "Twice" ++ codes " line " ++ deci
 outage_words (outage_fault.Islands branch side) = codes "Islands branch " ++ decimal branch ++ codes " side" ++ side_text side
 outage_words outage_fault.Memory = []
 
+-- a sum of shares is a decimal, of at most six places
+unfoldable pub unit_outage_words : UnitOutageFault → List ℕ
+unit_outage_words (unit_outage_fault.Frame f) = frame_words f
+unit_outage_words (unit_outage_fault.NoUnit line) = codes "NoUnit" ++ codes " line " ++ decimal line
+unit_outage_words (unit_outage_fault.DeadUnit line) = codes "DeadUnit" ++ codes " line " ++ decimal line
+unit_outage_words (unit_outage_fault.SameUnit line) = codes "SameUnit" ++ codes " line " ++ decimal line
+unit_outage_words (unit_outage_fault.Share line) = codes "Share" ++ codes " line " ++ decimal line
+unit_outage_words (unit_outage_fault.Twice line) = codes "Twice" ++ codes " line " ++ decimal line
+unit_outage_words (unit_outage_fault.ShareSum unit sum) = codes "ShareSum unit " ++ decimal unit ++ codes " sum " ++ decimal_text 6 sum
+unit_outage_words unit_outage_fault.Memory = []
+
 -- what the two tables of factors lack
 unfoldable pub lack_words : Uncovered → List ℕ
 lack_words (uncovered.NoShift branch) = codes "NoShift branch " ++ decimal branch
@@ -134,6 +148,7 @@ input_name input.Case = codes "case "
 input_name input.Ptdf = codes "ptdf "
 input_name input.Lodf = codes "lodf "
 input_name input.Contingencies = codes "contingencies "
+input_name input.UnitOutages = codes "unit-outages "
 input_name input.Offers = codes "offers "
 input_name input.Offsets = codes "offsets "
 input_name input.Penalties = codes "penalties "
@@ -148,6 +163,7 @@ refusal_words (refusal.Network f) = codes "case " ++ net_words f
 refusal_words (refusal.Split bus) = codes "case " ++ codes "Split bus " ++ decimal bus
 refusal_words (refusal.Table i f) = input_name i ++ table_words f
 refusal_words (refusal.Outages f) = codes "contingencies " ++ outage_words f
+refusal_words (refusal.UnitOutages f) = codes "unit-outages " ++ unit_outage_words f
 refusal_words (refusal.Uncovered lack) = codes "factors " ++ lack_words lack
 refusal_words (refusal.Offers f) = codes "offers " ++ offer_words f
 refusal_words (refusal.Edits f) = codes "edits " ++ step_words f

@@ -1,7 +1,8 @@
 //! Why a file is refused, and the line that says so.
 
 ghost use Rattle.std.specs.Prelude.{◌≡◌, ◌++◌, codes, decimal, IfOk};
-ghost use Rattle.refusal_text.specs.Refusals.{field_name, why_name, case_words, net_words, frame_words, table_words, side_text, outage_words, lack_words, offer_words, step_words, key_name, input_name, refusal_words, refusal_line};
+ghost use Rattle.line_text.specs.Decimals.{decimal_text};
+ghost use Rattle.refusal_text.specs.Refusals.{field_name, why_name, case_words, net_words, frame_words, table_words, side_text, outage_words, unit_outage_words, lack_words, offer_words, step_words, key_name, input_name, refusal_words, refusal_line};
 
 use case_text::{CaseFault, Field};
 use cert_format::Key;
@@ -10,7 +11,7 @@ use factor_tables::{TableFault, Uncovered};
 use line_text::Text;
 use net_case::NetFault;
 use offer_book::OfferFault;
-use outage_list::OutageFault;
+use outage_list::{OutageFault, UnitOutageFault};
 use plain_list::{List, Memory};
 use record_reading::{FrameFault, Why};
 use scaled_decimal::DecimalFault;
@@ -26,6 +27,8 @@ pub enum Input {
     Lodf,
     /// The table of listed outages.
     Contingencies,
+    /// The table of outages of units.
+    UnitOutages,
     Offers,
     /// The table of offsets.
     Offsets,
@@ -51,6 +54,8 @@ pub enum Refusal {
     Table(Input, TableFault),
     /// The outages that are asked for.
     Outages(OutageFault),
+    /// The outages of units.
+    UnitOutages(UnitOutageFault),
     /// What the two tables of factors lack together.
     Uncovered(Uncovered),
     Offers(OfferFault),
@@ -272,6 +277,32 @@ fn write_outage_fault(text: &mut Text, fault: &OutageFault) -> Result<(), Memory
     }
 }
 
+/// A unit, and the sum of the shares of what is picked up of its output, in 10^-6.
+#[tactic(auto, using(std::proofs::Common::append_assoc))]
+fn write_share_sum(text: &mut Text, unit: u32, sum: i64) -> Result<(), Memory>
+    ensures { IfOk result (λ _. text.new ≡ text.old ++ codes "ShareSum unit " ++ decimal unit ++ codes " sum " ++ decimal_text 6 sum) }
+{
+    numbered(text, b"ShareSum unit ", unit as usize)?;
+    text.word(b" sum ")?;
+    text.decimal(i128::from(sum), 6)
+}
+
+#[tactic(auto, using(std::proofs::Common::append_assoc), unfolding(crate::specs::Refusals::unit_outage_words))]
+fn write_unit_outage_fault(text: &mut Text, fault: UnitOutageFault) -> Result<(), Memory>
+    ensures { IfOk result (λ _. text.new ≡ text.old ++ unit_outage_words fault) }
+{
+    match fault {
+        UnitOutageFault::Frame(fault) => write_frame_fault(text, fault),
+        UnitOutageFault::NoUnit { line } => at_line(text, b"NoUnit", line),
+        UnitOutageFault::DeadUnit { line } => at_line(text, b"DeadUnit", line),
+        UnitOutageFault::SameUnit { line } => at_line(text, b"SameUnit", line),
+        UnitOutageFault::Share { line } => at_line(text, b"Share", line),
+        UnitOutageFault::Twice { line } => at_line(text, b"Twice", line),
+        UnitOutageFault::ShareSum { unit, sum } => write_share_sum(text, unit, sum),
+        UnitOutageFault::Memory => Ok(()),
+    }
+}
+
 #[tactic(auto, using(std::proofs::Common::append_assoc), unfolding(crate::specs::Refusals::lack_words))]
 fn write_lack(text: &mut Text, lack: Uncovered) -> Result<(), Memory>
     ensures { IfOk result (λ _. text.new ≡ text.old ++ lack_words lack) }
@@ -304,6 +335,7 @@ fn input_word(input: Input) -> &'static [u8]
         Input::Ptdf => b"ptdf ",
         Input::Lodf => b"lodf ",
         Input::Contingencies => b"contingencies ",
+        Input::UnitOutages => b"unit-outages ",
         Input::Offers => b"offers ",
         Input::Offsets => b"offsets ",
         Input::Penalties => b"penalties ",
@@ -342,6 +374,10 @@ fn write_refusal(text: &mut Text, refusal: &Refusal) -> Result<(), Memory>
         Refusal::Outages(fault) => {
             text.word(b"contingencies ")?;
             write_outage_fault(text, fault)
+        }
+        Refusal::UnitOutages(fault) => {
+            text.word(b"unit-outages ")?;
+            write_unit_outage_fault(text, *fault)
         }
         Refusal::Uncovered(lack) => {
             text.word(b"factors ")?;

@@ -1,7 +1,7 @@
 use Rattle.std.proofs.Common.{◌≡◌, ◌∙◌, Err, rules}
 use Rattle.market_tables.specs.Tables.{tables_lent}
 use Rattle.market_inputs.specs.Files.{sized_tables}
-use Rattle.market_inputs.proofs.ClearLemmas.{all-read, case-stop, cover-stop, network-stop, offers-stop, offsets-stop, penalties-stop, tables-stop}
+use Rattle.market_inputs.proofs.ClearLemmas.{all-read, case-stop, cover-stop, network-stop, offers-stop, offsets-stop, penalties-stop, tables-stop, units-stop}
 use Rattle.market_inputs.proofs.StepLemmas.{err-of}
 use Rattle.market_inputs.proofs.clearing.clear_market.Goals as goal
 
@@ -26,12 +26,21 @@ returns-in_err-tables-clause-told c =
     let given : out ≡ Err c.in_err-tables.field-0.0 = search rules in
     tables-stop c.args.rating files c.in_ok-raw.raw c.in_ok-raw.ensures c.in_ok-network.network c.in_ok-network.ensures.told c.read_tables.result out c.in_err-tables.field-0.0 c.read_tables.ensures.told c.in_err-tables.was given
 
+pub returns-in_err-lost-clause-told : goal.returns-in_err-lost-clause-told
+returns-in_err-lost-clause-told c =
+    let files = sized_tables (tables_lent c.args.bytes.now) in
+    let out = c.from_residual-in_err-lost.result in
+    let given : out ≡ Err c.in_err-lost.field-0.0 = search rules in
+    units-stop c.args.rating files c.in_ok-raw.raw c.in_ok-raw.ensures c.in_ok-network.network c.in_ok-network.ensures.told c.in_ok-tables.tables c.in_ok-tables.ensures.told
+    c.unit_outage_table.result out c.in_err-lost.field-0.0 c.unit_outage_table.ensures.told c.in_err-lost.was given
+
 pub returns-in_err-check_cover-clause-told : goal.returns-in_err-check_cover-clause-told
 returns-in_err-check_cover-clause-told c =
     let files = sized_tables (tables_lent c.args.bytes.now) in
     let out = c.from_residual-in_err-check_cover.result in
     let given : out ≡ Err c.in_err-check_cover.field-0.0 = search rules in
-    cover-stop c.args.rating files c.in_ok-raw.raw c.in_ok-raw.ensures c.in_ok-network.network c.in_ok-network.ensures.told c.in_ok-tables.tables c.in_ok-tables.ensures.told c.check_cover.result out c.in_err-check_cover.field-0.0 c.check_cover.ensures c.in_err-check_cover.was given
+    cover-stop c.args.rating files c.in_ok-raw.raw c.in_ok-raw.ensures c.in_ok-network.network c.in_ok-network.ensures.told c.in_ok-tables.tables c.in_ok-tables.ensures.told
+    c.in_ok-lost.lost c.in_ok-lost.ensures.told c.check_cover.result out c.in_err-check_cover.field-0.0 c.check_cover.ensures c.in_err-check_cover.was given
 
 pub returns-in_err-offered-clause-told : goal.returns-in_err-offered-clause-told
 returns-in_err-offered-clause-told c =
@@ -39,10 +48,11 @@ returns-in_err-offered-clause-told c =
     let out = c.from_residual-in_err-offered.result in
     let given : out ≡ Err c.in_err-offered.field-0.0 = search rules in
     offers-stop c.args.rating files c.in_ok-raw.raw
-    c.in_ok-network.network c.in_ok-tables.tables (record {
+    c.in_ok-network.network c.in_ok-tables.tables c.in_ok-lost.lost (record {
       raw_is = c.in_ok-raw.ensures;
       network_is = c.in_ok-network.ensures.told;
       tables_are = c.in_ok-tables.ensures.told;
+      lost_is = c.in_ok-lost.ensures.told;
       covers = c.in_ok-check_cover.ensures;
     })
     c.offer_table.result out c.in_err-offered.field-0.0 c.offer_table.ensures.told c.in_err-offered.was given
@@ -53,10 +63,11 @@ returns-in_err-offsets-clause-told c =
     let out = c.from_residual-in_err-offsets.result in
     let given : out ≡ Err c.in_err-offsets.field-0.0 = search rules in
     offsets-stop c.args.rating files c.in_ok-raw.raw
-    c.in_ok-network.network c.in_ok-tables.tables (record {
+    c.in_ok-network.network c.in_ok-tables.tables c.in_ok-lost.lost (record {
       raw_is = c.in_ok-raw.ensures;
       network_is = c.in_ok-network.ensures.told;
       tables_are = c.in_ok-tables.ensures.told;
+      lost_is = c.in_ok-lost.ensures.told;
       covers = c.in_ok-check_cover.ensures;
     })
     c.in_ok-offered.offered c.in_ok-offered.ensures.told c.offset_table.result out c.in_err-offsets.field-0.0 c.offset_table.ensures c.in_err-offsets.was given
@@ -69,10 +80,11 @@ returns-in_err-penalties-clause-told c =
     let files = sized_tables (tables_lent c.args.bytes.now) in
     let out = c.from_residual-in_err-penalties.result in
     penalties-stop c.args.rating files c.in_ok-raw.raw
-    c.in_ok-network.network c.in_ok-tables.tables (record {
+    c.in_ok-network.network c.in_ok-tables.tables c.in_ok-lost.lost (record {
       raw_is = c.in_ok-raw.ensures;
       network_is = c.in_ok-network.ensures.told;
       tables_are = c.in_ok-tables.ensures.told;
+      lost_is = c.in_ok-lost.ensures.told;
       covers = c.in_ok-check_cover.ensures;
     })
     c.in_ok-offered.offered c.in_ok-offered.ensures.told c.in_ok-offsets.offsets c.in_ok-offsets.ensures c.penalty_table.result out c.in_err-penalties.field-0.0 c.penalty_table.ensures c.in_err-penalties.was (penalties-given c)
@@ -81,10 +93,11 @@ pub returns-clause-told : goal.returns-clause-told
 returns-clause-told c =
     let files = sized_tables (tables_lent c.args.bytes.now) in
     all-read c.args.rating files c.in_ok-raw.raw
-    c.in_ok-network.network c.in_ok-tables.tables (record {
+    c.in_ok-network.network c.in_ok-tables.tables c.in_ok-lost.lost (record {
       raw_is = c.in_ok-raw.ensures;
       network_is = c.in_ok-network.ensures.told;
       tables_are = c.in_ok-tables.ensures.told;
+      lost_is = c.in_ok-lost.ensures.told;
       covers = c.in_ok-check_cover.ensures;
     })
     c.in_ok-offered.offered c.in_ok-offered.ensures.told c.in_ok-offsets.offsets c.in_ok-offsets.ensures c.in_ok-penalties.penalties _ c.in_ok-penalties.ensures
