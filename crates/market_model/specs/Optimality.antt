@@ -1,6 +1,7 @@
 -- Feasible dispatches, their welfare, and the duals that support one.
 -- Schweppe, Caramanis, Tabors and Bohn, Spot Pricing of Electricity: a bus price is the price of energy less what the
--- limits take; a seller whose offer is below it sells all, one whose offer is above it nothing, and a buyer the other way.
+-- limits take. A unit's own price is that at its bus, less what the limits after its loss take. A seller whose offer is below it
+-- sells all, one whose offer is above it nothing, and a buyer the other way.
 use Rattle.std.specs.Prelude.{◌≡◌, ◌⊎◌, ◌==◌, ◌&&◌, ◌||◌, ℕ, ◌<◌, Bool, false, List, [], ◌∷◌, ◌++◌, length, map, filter, All, Contains, if◌then◌else◌}
 use Rattle.fraction_theory.specs.Fraction.{Fraction, whole, neg_ℚ, ◌+ℚ◌, ◌-ℚ◌}
 use Rattle.fraction_theory.specs.Order.{◌<ℚ◌, ◌≤ℚ◌}
@@ -139,7 +140,7 @@ own_price m d price u = total (own_terms m d price u)
 unfoldable pub unit_price : Parts → Duals Fraction → ℕ → Fraction
 unit_price m d u = own_price m d (bus_price m d) u
 
--- accepting more of a block of this side and price gains, where the price at its bus is `worth`
+-- accepting more of a block of this side and price gains, where the own price of its unit is `worth`
 abbrev pub Gains : Side → Fraction → Fraction → Type 0
 Gains Sell price worth = price <ℚ worth
 Gains Buy price worth = worth <ℚ price
