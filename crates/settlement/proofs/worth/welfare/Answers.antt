@@ -17,6 +17,11 @@ is_soft-requires g c =
     (c.rows-row-items.ensures.stand c.in-Some.row
     (taken_listed c.args.market.now _ _ _ c.loop-row.yielded (c.into_iter-row-iterator.ensures.into_iter_gives ∙ c.rows-row-items.ensures.rows) c.loop-row.yielded_by c.next.result c.in-Some.row c.in-Some.is c.next.ensures.steps)).0
 
+pub less_penalty-requires-clause-line : goal.less_penalty-requires-clause-line
+less_penalty-requires-clause-line g c =
+    (c.rows-row-items.ensures.stand c.in-Some.row
+    (taken_listed c.args.market.now _ _ _ c.loop-row.yielded (c.into_iter-row-iterator.ensures.into_iter_gives ∙ c.rows-row-items.ensures.rows) c.loop-row.yielded_by c.next.result c.in-Some.row c.in-Some.is c.next.ensures.steps)).0
+
 pub less_penalty-requires-clause-lost : goal.less_penalty-requires-clause-lost
 less_penalty-requires-clause-lost g c =
     (c.rows-row-items.ensures.stand c.in-Some.row
