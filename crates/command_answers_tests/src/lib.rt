@@ -1,5 +1,5 @@
-//! Tests of `command_answers`: each command on a case of three buses, the texts of the five-bus system, and limits that give way at a
-//! penalty.
+//! Tests of `command_answers`: each command on a case of three buses, the texts of the five-bus system, limits that give way at a
+//! penalty, and outages of units.
 #![tactic(auto)]
 
 #[cfg(test)]
@@ -8,3 +8,5 @@ mod network_tests;
 mod soft_tests;
 #[cfg(test)]
 mod tests;
+#[cfg(test)]
+mod unit_tests;
