@@ -12,7 +12,8 @@ const FARKAS: &str =
     r#"{"energy":"-1/1","kind":"farkas","limits":[{"branch":2,"down":"0/1","outage":0,"up":"2/1"}],"version":1}"#;
 
 /// Limits of one branch in the base and after the losses of two units, of which the last has the greatest row.
-const LOST: &str = r#"{"energy":"-1/1","kind":"farkas","limits":[{"branch":2,"down":"0/1","outage":0,"up":"2/1"},{"branch":2,"down":"0/1","outage":0,"unit":1,"up":"2/1"},{"branch":2,"down":"0/1","outage":0,"unit":4294967295,"up":"2/1"}],"version":1}"#;
+const LOST: &str =
+    r#"{"energy":"-1/1","kind":"farkas","limits":[{"branch":2,"down":"0/1","outage":0,"up":"2/1"},{"branch":2,"down":"0/1","outage":0,"unit":1,"up":"2/1"},{"branch":2,"down":"0/1","outage":0,"unit":4294967295,"up":"2/1"}],"version":1}"#;
 
 /// Texts that are no certificates, each with the first part that is not in the grammar.
 static FAULTS: [(&str, Key); 25] = [

@@ -121,9 +121,18 @@ struct Texts {
 
 impl Texts {
     fn new(alloc: Global, example: &Example) -> Result<Texts, Fail> {
-        let Example { units, limits: [first, second, third], outages, lost, offers, penalties } = *example;
+        let Example {
+            units,
+            limits: [first, second, third],
+            outages,
+            lost,
+            offers,
+            penalties,
+        } = *example;
         Ok(Texts {
-            case: format!(in alloc; "{BUSES}{units}];\nmpc.branch = [\n1 2 0 0.2 0 0 0 {first} 0 0 1 -360 360;\n1 3 0 0.1 0 0 0 {second} 0 0 1 -360 360;\n2 3 0 0.1 0 0 0 {third} 0 0 1 -360 360;\n];\n")?,
+            case: format!(in alloc;
+                "{BUSES}{units}];\nmpc.branch = [\n1 2 0 0.2 0 0 0 {first} 0 0 1 -360 360;\n1 3 0 0.1 0 0 0 {second} 0 0 1 -360 360;\n2 3 0 0.1 0 0 0 {third} 0 0 1 -360 360;\n];\n"
+            )?,
             outages: format!(in alloc; "branch\n{outages}")?,
             lost: format!(in alloc; "unit,taker,share\n{lost}")?,
             offers: format!(in alloc; "unit,side,mw,price\n{offers}")?,
@@ -155,12 +164,39 @@ fn tells(told: &Told, status: Status, text: &str) -> bool {
 
 #[test]
 fn clears_with_outages_of_units(rt: HostRuntime) -> Result<(), Fail> {
-    let must_run = Example { units: MUST_RUN, offers: "1,sell,80,10\n2,sell,100,30\n3,sell,100,40\n", ..WORKED };
-    let soft = Example { penalties: "3,post,30,10\n", ..WORKED };
-    let same_bus = Example { units: TWO_AT_ONE, lost: "1,4,1\n", ..WORKED };
-    let two_prices = Example { units: TWO_AT_ONE, lost: "1,2,1\n4,3,1\n", offers: "1,sell,100,10\n2,sell,100,30\n3,sell,100,40\n4,sell,100,11\n", ..WORKED };
-    let load = Example { units: WITH_LOAD, limits: [20, 0, 0], lost: "4,2,1\n", offers: "1,sell,100,10\n2,sell,100,30\n4,buy,30,50\n", ..WORKED };
-    let both = Example { limits: [0, 50, 21], outages: "1\n", offers: "1,sell,100,10\n2,sell,100,30\n3,sell,100,45\n", ..WORKED };
+    let must_run = Example {
+        units: MUST_RUN,
+        offers: "1,sell,80,10\n2,sell,100,30\n3,sell,100,40\n",
+        ..WORKED
+    };
+    let soft = Example {
+        penalties: "3,post,30,10\n",
+        ..WORKED
+    };
+    let same_bus = Example {
+        units: TWO_AT_ONE,
+        lost: "1,4,1\n",
+        ..WORKED
+    };
+    let two_prices = Example {
+        units: TWO_AT_ONE,
+        lost: "1,2,1\n4,3,1\n",
+        offers: "1,sell,100,10\n2,sell,100,30\n3,sell,100,40\n4,sell,100,11\n",
+        ..WORKED
+    };
+    let load = Example {
+        units: WITH_LOAD,
+        limits: [20, 0, 0],
+        lost: "4,2,1\n",
+        offers: "1,sell,100,10\n2,sell,100,30\n4,buy,30,50\n",
+        ..WORKED
+    };
+    let both = Example {
+        limits: [0, 50, 21],
+        outages: "1\n",
+        offers: "1,sell,100,10\n2,sell,100,30\n3,sell,100,45\n",
+        ..WORKED
+    };
     for (example, text) in [
         (WORKED, HALVES),
         (must_run, FIXED),
@@ -182,9 +218,21 @@ fn clears_with_outages_of_units(rt: HostRuntime) -> Result<(), Fail> {
 }
 
 /// Compares what a verification tells.
-fn verifies<R: Abort + AllocGlobal>(rt: &R, texts: &Texts, certificate: &[u8], status: Status, text: &str) -> Result<(), Fail> {
+fn verifies<R: Abort + AllocGlobal>(
+    rt: &R,
+    texts: &Texts,
+    certificate: &[u8],
+    status: Status,
+    text: &str,
+) -> Result<(), Fail> {
     let edits = b"op,target,side,block,value\n".as_slice();
-    let verdict = verify_told(rt.alloc(), &texts.tables(), PostRating::C, edits, certificate)?;
+    let verdict = verify_told(
+        rt.alloc(),
+        &texts.tables(),
+        PostRating::C,
+        edits,
+        certificate,
+    )?;
     assert!(rt; tells(&verdict, status, text));
     Ok(())
 }
@@ -193,12 +241,30 @@ fn verifies<R: Abort + AllocGlobal>(rt: &R, texts: &Texts, certificate: &[u8], s
 fn refuses_with_outages_of_units(rt: HostRuntime) -> Result<(), Fail> {
     let texts = Texts::new(rt.alloc(), &WORKED)?;
     verifies(&rt, &texts, AT_ITS_BUS, Status::Refuted, "no Support 1\n")?;
-    verifies(&rt, &texts, ALL_OF_ONE, Status::Refuted, "no Limit branch 3 outage 0 unit 1\n")?;
+    verifies(
+        &rt,
+        &texts,
+        ALL_OF_ONE,
+        Status::Refuted,
+        "no Limit branch 3 outage 0 unit 1\n",
+    )?;
     let edits = b"op,target,side,block,value\nprice,2,sell,1,31\nquantity,1,sell,1,30\nclear,,,,\n";
     let replayed = replay_told(rt.alloc(), &texts.tables(), PostRating::C, edits)?;
     assert!(rt; tells(&replayed, Status::Done, FEWER));
-    let short = Texts::new(rt.alloc(), &Example { lost: "1,2,0.5\n1,3,0.4\n", ..WORKED })?;
+    let short = Texts::new(
+        rt.alloc(),
+        &Example {
+            lost: "1,2,0.5\n1,3,0.4\n",
+            ..WORKED
+        },
+    )?;
     let told = clear_told(rt.alloc(), &short.tables(), PostRating::C)?;
-    assert!(rt; tells(&told, Status::Refused, "refused unit-outages ShareSum unit 1 sum 0.9\n"));
+    assert!(rt;
+        tells(
+            &told,
+            Status::Refused,
+            "refused unit-outages ShareSum unit 1 sum 0.9\n"
+        )
+    );
     Ok(())
 }

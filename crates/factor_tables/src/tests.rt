@@ -160,7 +160,11 @@ fn finds_factors_from_a_place(rt: HostRuntime) -> Result<(), Fail> {
         (4, 3, 1, (0, 4)),
         (usize::MAX, 1, 3, (250_000, 2)),
     ] {
-        assert_eq!(rt; shift.factor_near(place, branch, bus), want, "{place}: {branch}, {bus}");
+        assert_eq!(rt;
+            shift.factor_near(place, branch, bus),
+            want,
+            "{place}: {branch}, {bus}"
+        );
     }
     Ok(())
 }

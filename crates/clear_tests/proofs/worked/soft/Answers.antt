@@ -8,8 +8,17 @@ use Rattle.clear_tests.proofs.worked.soft.Goals as goal
 
 pub assemble-requires : goal.assemble-requires
 assemble-requires c =
-    rw (c.in_ok-listed.ensures, c.in_ok-listed-2.ensures, c.in_ok-listed-3.ensures, c.in_ok-lines.ensures, c.in_ok-listed-4.ensures, c.in_ok-listed-5.ensures, c.in_ok-listed-6.ensures,
-        to_z-of_z w64 c.args.price c.ranges.price, to_z-of_z w64 c.args.excess c.ranges.excess)
+    rw (
+      c.in_ok-listed.ensures,
+      c.in_ok-listed-2.ensures,
+      c.in_ok-listed-3.ensures,
+      c.in_ok-lines.ensures,
+      c.in_ok-listed-4.ensures,
+      c.in_ok-listed-5.ensures,
+      c.in_ok-listed-6.ensures,
+      to_z-of_z w64 c.args.price c.ranges.price,
+      to_z-of_z w64 c.args.excess c.ranges.excess,
+    )
     (worked_is_market c.args.price c.args.excess c.requires)
 
 pub returns : goal.returns
@@ -17,6 +26,15 @@ returns c =
     let price = c.args.price in
     let excess = c.args.excess in
     let named = base_is_named price excess in
-    let same = rw (c.in_ok-listed.ensures, c.in_ok-listed-2.ensures, c.in_ok-listed-3.ensures, c.in_ok-lines.ensures, c.in_ok-listed-4.ensures, c.in_ok-listed-5.ensures, c.in_ok-listed-6.ensures,
-        to_z-of_z w64 price c.ranges.price, to_z-of_z w64 excess c.ranges.excess) at c.assemble.ensures in
+    let same = rw (
+      c.in_ok-listed.ensures,
+      c.in_ok-listed-2.ensures,
+      c.in_ok-listed-3.ensures,
+      c.in_ok-lines.ensures,
+      c.in_ok-listed-4.ensures,
+      c.in_ok-listed-5.ensures,
+      c.in_ok-listed-6.ensures,
+      to_z-of_z w64 price c.ranges.price,
+      to_z-of_z w64 excess c.ranges.excess,
+    ) at c.assemble.ensures in
     IfOk-weaker c.assemble.result (λ (m : Parts). m ≡ worked price excess) _ (λ m e. (base_row ∷ [], subst (λ (p : Parts). AreNamesOf p (base_row ∷ []) (record { branch = 2; outage = 0 } ∷ [])) (sym e) named)) same
