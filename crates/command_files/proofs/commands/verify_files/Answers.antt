@@ -1,7 +1,8 @@
-use Rattle.std.proofs.Common.{◌≡◌, ◌∙◌, Ok, subst}
+use Rattle.std.proofs.Common.{◌≡◌, ◌∙◌, ℕ, List, Err, Ok, inr, rules, subst}
 use Rattle.std.specs.Prelude.{MatchResult, option_map, vec_items}
 use Rattle.edit_table.specs.EditTable.{header as edit_header}
 use Rattle.market_tables.specs.Tables.{map_tables}
+use Rattle.outside_store.specs.Causes.{Rose, Still}
 use Rattle.outside_store.specs.Files.{Reads, SameFiles}
 use Rattle.command_answers.specs.Inputs.{IsCertified}
 use Rattle.command_answers.specs.Tellings.{Tells, telling_of}
@@ -26,6 +27,24 @@ returns-clause-right g c =
     (λ told is. files-verify files names _ _ (map_tables vec_items vec_items c.in_ok-bytes.bytes) _ _ (telling_of told) c.in_ok-bytes.ensures.bytes edits certificate
     (subst (λ x. Tells (IsCertified names.rating x c.as_slice.result.now c.as_slice-2.result.now) TellsVerdict (telling_of told)) c.as_slices.ensures is))
     c.verify_told.ensures.tells)
+
+pub returns-in_err-certificate-clause-reads : goal.returns-in_err-certificate-clause-reads
+returns-in_err-certificate-clause-reads g c =
+    let first = c.read_market.ensures.reads in
+    let second = c.read_table.ensures.reads in
+    let third = c.read_file.ensures.reads in
+    let was = c.in_err-certificate.was in
+    let given : c.from_residual-in_err-certificate.result ≡ Err c.in_err-certificate.field-0.0 = search rules in
+    let still : Still (g.S.Store.failed_reads c.args.store.now) (g.S.Store.failed_reads c.read_table.new.store) =
+    λ n. second.reads (λ bad. let was = c.in_ok-edits.was in cc (was, bad)) n ∙ first.reads (λ bad. let was = c.in_ok-bytes.was in cc (was, bad)) n in
+    record {
+      same = same_then _ _ _ (same_then _ _ _ first.same second.same) third.same;
+      failed_read = λ bad.
+          let (file, is, rose) = third.failed_read (let e_is : c.in_err-certificate.field-0.0 ≡ status.ReadFailed = cc (given, bad) in cc (was, e_is)) in
+          (file, inr (inr is), subst (λ (n : ℕ). Rose n (g.S.Store.failed_reads c.read_file.new.store file)) (still file) rose);
+      reads = λ good n. third.reads (λ bad. good (let e_is : c.in_err-certificate.field-0.0 ≡ status.ReadFailed = cc (was, bad) in cc (given, e_is))) n ∙ still n;
+      writes = λ n. third.writes n ∙ second.writes n ∙ first.writes n;
+    }
 
 pub returns-clause-reads : goal.returns-clause-reads
 returns-clause-reads g c =
