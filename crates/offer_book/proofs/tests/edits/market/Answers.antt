@@ -12,6 +12,7 @@ use Rattle.market_model.specs.Lines.{hard_line}
 use Rattle.market_model.specs.Market.{bare_parts, IsMarket, IsBlock, IsLine, HasRoom}
 use Rattle.market_model.specs.Stairs.{stair_in}
 use Rattle.market_model.proofs.LinePenalties.{hard_is_line}
+use Rattle.market_model.proofs.PlainMarkets.{no_unit_outages}
 use Rattle.offer_book.proofs.tests.edits.market.Goals as goal
 
 abbrev the_bus : Bus
@@ -56,6 +57,7 @@ is_market = record {
   outages_distinct = λ i j d p q. absurd (Prim.omega (arith, q));
   shift = record { each = λ i d lt. absurd (Prim.omega (arith, lt)); distinct = λ i j d p q. absurd (Prim.omega (arith, q)) };
   loss = record { each = λ i d lt. absurd (Prim.omega (arith, lt)); distinct = λ i j d p q. absurd (Prim.omega (arith, q)) };
+  unit_outages = no_unit_outages 1;
 }
   where
     rooms : (place : ℕ) (d : unit.Unit) → place < 1 → HasRoom (cheap ∷ dear ∷ []) place (get_or (the_unit ∷ []) place d)
