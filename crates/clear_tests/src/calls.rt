@@ -98,7 +98,7 @@ fn worst_at<N: Exact + Debug>(
     }
     dispatch[0] = first;
     dispatch[1] = second;
-    let places = market.buses().len() + market.lines().len();
+    let places = market.buses().len() + market.lines().len() + market.unit_outages().len();
     let mut by_place: Vec<N> = zeros(alloc, places)?;
     flows(market, &dispatch, &mut by_place)?;
     Ok(worst(market, &by_place, taken)?)

@@ -16,6 +16,8 @@ assemble-requires c =
       c.in_ok-listed-4.ensures,
       c.in_ok-listed-5.ensures,
       c.in_ok-listed-6.ensures,
+      c.new.ensures,
+      c.new-2.ensures,
       to_z-of_z w64 c.args.price c.ranges.price,
       to_z-of_z w64 c.args.excess c.ranges.excess,
     )
@@ -34,7 +36,9 @@ returns c =
       c.in_ok-listed-4.ensures,
       c.in_ok-listed-5.ensures,
       c.in_ok-listed-6.ensures,
+      c.new.ensures,
+      c.new-2.ensures,
       to_z-of_z w64 price c.ranges.price,
       to_z-of_z w64 excess c.ranges.excess,
     ) at c.assemble.ensures in
-    IfOk-weaker c.assemble.result (λ (m : Parts). m ≡ worked price excess) _ (λ m e. (base_row ∷ [], subst (λ (p : Parts). AreNamesOf p (base_row ∷ []) (record { branch = 2; outage = 0 } ∷ [])) (sym e) named)) same
+    IfOk-weaker c.assemble.result (λ (m : Parts). m ≡ worked price excess) _ (λ m e. (base_row ∷ [], subst (λ (p : Parts). AreNamesOf p (base_row ∷ []) (record { branch = 2; outage = 0; unit = 0 } ∷ [])) (sym e) named)) same
