@@ -3,7 +3,7 @@ use Rattle.std.proofs.Common.{◌≡◌, ◌≢◌, ◌⊎◌, ◌≤◌, ◌<�
 use Rattle.std.specs.List.{range_with_len}
 use Rattle.std.proofs.lemmas.Int.{ints}
 use Rattle.std.proofs.lemmas.Bool.Decides.{eqb_tells}
-use Rattle.market_data.specs.Scales.{market_factor_one}
+use Rattle.market_data.specs.Scales.{factor_one}
 use Rattle.market_data.specs.WholeSums.{int_sum}
 use Rattle.market_model.specs.declared.participants.Factor.{Factor}
 use Rattle.market_model.specs.Dispatch.{places}
@@ -58,8 +58,8 @@ factor-of value n l i p q = lines-from value l i n 0 n q (omega arith) (omega (a
 -- ---- one of n parts is whole
 pub record HasParts (n : ℕ) : Type 0 where
   pub part : ℕ
-  pub all : n * part ≡ market_factor_one
-  pub shares : (k : ℕ) → k * market_factor_one / n ≡ k * part
+  pub all : n * part ≡ factor_one
+  pub shares : (k : ℕ) → k * factor_one / n ≡ k * part
 
 pub size-parts : (n : ℕ) → IsRingSize n → HasParts n
 size-parts n h =
@@ -78,21 +78,21 @@ module _ (n : ℕ) (parts : HasParts n) (i : ℕ) (lt : i < n) where
   abbrev against : ℕ
   against = (n - i) * parts.part
 
-  pub both-ways : along + against ≡ market_factor_one
+  pub both-ways : along + against ≡ factor_one
   both-ways =
       let all : i + (n - i) ≡ n = omega (arith, lt) in
       let sum : (i + (n - i)) * parts.part ≡ i * parts.part + (n - i) * parts.part = omega arith in
       sym sum ∙ ap (λ (k : ℕ). k * parts.part) all ∙ parts.all
 
   pub before : (l : ℕ) → l < i → shift_of n l i ≡ neg_ℤ (pos against)
-  before l h = ap (λ (b : Bool). if b then neg_ℤ (pos ((n - i) * market_factor_one / n)) else pos (i * market_factor_one / n)) (lt-ltb l i h) ∙ ap (λ (k : ℕ). neg_ℤ (pos k)) (parts.shares (n - i))
+  before l h = ap (λ (b : Bool). if b then neg_ℤ (pos ((n - i) * factor_one / n)) else pos (i * factor_one / n)) (lt-ltb l i h) ∙ ap (λ (k : ℕ). neg_ℤ (pos k)) (parts.shares (n - i))
 
   pub behind : (l : ℕ) → i ≤ l → shift_of n l i ≡ pos along
-  behind l h = ap (λ (b : Bool). if b then neg_ℤ (pos ((n - i) * market_factor_one / n)) else pos (i * market_factor_one / n)) (le-ltb l i h) ∙ ap pos (parts.shares i)
+  behind l h = ap (λ (b : Bool). if b then neg_ℤ (pos ((n - i) * factor_one / n)) else pos (i * factor_one / n)) (le-ltb l i h) ∙ ap pos (parts.shares i)
 
   -- at a bus
   abbrev pub put_whole : ℕ → ℤ
-  put_whole j = if i == j then pos market_factor_one else pos 0
+  put_whole j = if i == j then pos factor_one else pos 0
 
   pub node : (j : ℕ) → shift_of n (j + 1) i ≡ shift_of n j i +ℤ put_whole (j + 1)
   node j = by (eqb_tells i (j + 1)) (order i j)
@@ -104,18 +104,18 @@ module _ (n : ℕ) (parts : HasParts n) (i : ℕ) (lt : i < n) where
 
       by : ((i == (j + 1) ≡ true) × (i ≡ j + 1)) ⊎ ((i == (j + 1) ≡ false) × (i ≢ j + 1)) → (i ≤ j) ⊎ (j < i) → shift_of n (j + 1) i ≡ shift_of n j i +ℤ put_whole (j + 1)
       by (inl t) h =
-          let sum : along + against ≡ market_factor_one = both-ways in
-          let step : pos along ≡ neg_ℤ (pos against) +ℤ pos market_factor_one = omega (arith, ints, sum) in
+          let sum : along + against ≡ factor_one = both-ways in
+          let step : pos along ≡ neg_ℤ (pos against) +ℤ pos factor_one = omega (arith, ints, sum) in
           behind (j + 1) (omega (arith, t.1)) ∙ step
-          ∙ ap₂ (λ (u v : ℤ). u +ℤ v) (sym (before j (omega (arith, t.1)))) (ap (λ (b : Bool). if b then pos market_factor_one else pos 0) (sym t.0))
+          ∙ ap₂ (λ (u v : ℤ). u +ℤ v) (sym (before j (omega (arith, t.1)))) (ap (λ (b : Bool). if b then pos factor_one else pos 0) (sym t.0))
       by (inr t) (inl h) =
           let step : pos along ≡ pos along +ℤ pos 0 = omega (arith, ints) in
           behind (j + 1) (omega (arith, h)) ∙ step
-          ∙ ap₂ (λ (u v : ℤ). u +ℤ v) (sym (behind j h)) (ap (λ (b : Bool). if b then pos market_factor_one else pos 0) (sym t.0))
+          ∙ ap₂ (λ (u v : ℤ). u +ℤ v) (sym (behind j h)) (ap (λ (b : Bool). if b then pos factor_one else pos 0) (sym t.0))
       by (inr t) (inr h) =
           let step : neg_ℤ (pos against) ≡ neg_ℤ (pos against) +ℤ pos 0 = omega (arith, ints) in
           before (j + 1) (omega (arith, h, t.1)) ∙ step
-          ∙ ap₂ (λ (u v : ℤ). u +ℤ v) (sym (before j h)) (ap (λ (b : Bool). if b then pos market_factor_one else pos 0) (sym t.0))
+          ∙ ap₂ (λ (u v : ℤ). u +ℤ v) (sym (before j h)) (ap (λ (b : Bool). if b then pos factor_one else pos 0) (sym t.0))
 
   -- round the ring
   sum-behind : (a m : ℕ) → i ≤ a → int_sum (λ l. shift_of n l i) (range_with_len a m) ≡ pos (m * along)

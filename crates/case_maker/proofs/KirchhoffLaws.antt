@@ -8,7 +8,7 @@ use Rattle.fraction_theory.proofs.FractionLaws.{Is, over_is, plus_is, same_value
 use Rattle.fraction_theory.proofs.IntegerLaws.{ring_ℤ}
 use Rattle.fraction_theory.proofs.ListSums.{sum_by-members}
 use Rattle.fraction_theory.proofs.Ring.{at, by_ring, ◌⊕◌, ◌⊗◌}
-use Rattle.market_data.specs.Scales.{market_factor_one}
+use Rattle.market_data.specs.Scales.{factor_one}
 use Rattle.market_data.specs.WholeSums.{int_sum}
 use Rattle.market_model.specs.Dispatch.{places, zero}
 use Rattle.market_model.specs.LimitRows.{shift_factor}
@@ -32,31 +32,31 @@ sum-over f d h [] = sym (over-zero d h)
 sum-over f d h (l ∷ ls) = ap (λ t. over (f l) d +ℚ t) (sum-over f d h ls) ∙ sym (over-plus (f l) (int_sum f ls) d h)
 
 -- one MW, and none
-over-put : (b : Bool) → over (if b then pos market_factor_one else pos 0) market_factor_one ≡ (if b then whole (pos 1) else zero)
-over-put true = over-same (pos market_factor_one) (pos 1) market_factor_one 1 (omega arith) (omega arith) refl ∙ over-one (pos 1)
-over-put false = over-zero market_factor_one (omega arith)
+over-put : (b : Bool) → over (if b then pos factor_one else pos 0) factor_one ≡ (if b then whole (pos 1) else zero)
+over-put true = over-same (pos factor_one) (pos 1) factor_one 1 (omega arith) (omega arith) refl ∙ over-one (pos 1)
+over-put false = over-zero factor_one (omega arith)
 
-over-less : over (neg_ℤ (pos market_factor_one)) market_factor_one ≡ neg_ℚ (whole (pos 1))
-over-less = over-same (neg_ℤ (pos market_factor_one)) (neg_ℤ (pos 1)) market_factor_one 1 (omega arith) (omega arith) refl ∙ over-one (neg_ℤ (pos 1)) ∙ whole-neg (pos 1)
+over-less : over (neg_ℤ (pos factor_one)) factor_one ≡ neg_ℚ (whole (pos 1))
+over-less = over-same (neg_ℤ (pos factor_one)) (neg_ℤ (pos 1)) factor_one 1 (omega arith) (omega arith) refl ∙ over-one (neg_ℤ (pos 1)) ∙ whole-neg (pos 1)
 
 module _ (n seed : ℕ) (parts : HasParts n) where
-  shift-at : (l i : ℕ) → l < n → i < n → shift_factor (ring_of n seed) l i ≡ over (shift_of n l i) market_factor_one
-  shift-at l i p q = ap (λ (v : ℤ). over v market_factor_one) (factor-of (shift_of n) n l i p q)
+  shift-at : (l i : ℕ) → l < n → i < n → shift_factor (ring_of n seed) l i ≡ over (shift_of n l i) factor_one
+  shift-at l i p q = ap (λ (v : ℤ). over v factor_one) (factor-of (shift_of n) n l i p q)
 
   pub obeys : ObeysKirchhoff n seed
   obeys = record {
     nodes = λ j i p q.
         shift-at (j + 1) i p q
-        ∙ ap (λ (v : ℤ). over v market_factor_one) (node n parts i q j)
-        ∙ over-plus (shift_of n j i) (put_whole n parts i q (j + 1)) market_factor_one (omega arith)
+        ∙ ap (λ (v : ℤ). over v factor_one) (node n parts i q j)
+        ∙ over-plus (shift_of n j i) (put_whole n parts i q (j + 1)) factor_one (omega arith)
         ∙ ap₂ ◌+ℚ◌ (sym (shift-at j i (omega (arith, p)) q)) (over-put (i == (j + 1)));
     loop = λ i q.
-        sum_by-members (λ l. shift_factor (ring_of n seed) l i) (λ l. over (shift_of n l i) market_factor_one) (places n) (λ l c. shift-at l i (place-below n l c) q)
-        ∙ sum-over (λ l. shift_of n l i) market_factor_one (omega arith) (places n)
-        ∙ ap (λ (v : ℤ). over v market_factor_one) (round n parts i q)
-        ∙ over-zero market_factor_one (omega arith);
+        sum_by-members (λ l. shift_factor (ring_of n seed) l i) (λ l. over (shift_of n l i) factor_one) (places n) (λ l c. shift-at l i (place-below n l c) q)
+        ∙ sum-over (λ l. shift_of n l i) factor_one (omega arith) (places n)
+        ∙ ap (λ (v : ℤ). over v factor_one) (round n parts i q)
+        ∙ over-zero factor_one (omega arith);
     lost = λ l k p q other.
-        ap (λ (v : ℤ). over v market_factor_one) (factor-of loss_of n l k p q ∙ ap (λ (b : Bool). if b then pos 0 else neg_ℤ (pos market_factor_one)) (ne_eqb l k other))
+        ap (λ (v : ℤ). over v factor_one) (factor-of loss_of n l k p q ∙ ap (λ (b : Bool). if b then pos 0 else neg_ℤ (pos factor_one)) (ne_eqb l k other))
         ∙ over-less;
   }
 

@@ -2,7 +2,7 @@
 use Rattle.std.specs.Prelude.{◌≡◌, ◌⊎◌, ℕ, ◌+◌, ◌-◌, ◌*◌, ◌/◌, ◌%◌, ◌^◌, ◌==◌, nat_lt, ℤ, pos, neg_ℤ, Some, List, [], ◌∷◌, ◌++◌, map, if◌then◌else◌}
 use Rattle.std.specs.List.{flat_map}
 use Rattle.std.proofs.Common.{zero, suc}
-use Rattle.market_data.specs.Scales.{market_factor_one, mw_one, price_one}
+use Rattle.market_data.specs.Scales.{factor_one, mw_one, price_one}
 use Rattle.market_data.specs.declared.participants.Bus.{Bus}
 use Rattle.market_data.specs.declared.participants.Unit as unit
 use Rattle.market_model.specs.declared.participants.Block.{Block}
@@ -72,7 +72,7 @@ line_of i d = hard_line (i + 1) (Some (mw d.base_limit)) (Some (mw d.post_limit)
 -- ---- factors
 -- so many of so many parts, in 10^-9
 abbrev pub share : ℕ → ℕ → ℤ
-share parts n = pos (parts * market_factor_one / n)
+share parts n = pos (parts * factor_one / n)
 
 -- All branches are alike, and what bus i puts in leaves at the first bus. Two ways lead there, and each carries the part of the ring that the
 -- other one is: against the i branches before the bus, and along the n - i from it on.
@@ -81,7 +81,7 @@ shift_of n l i = if nat_lt l i then neg_ℤ (share (n - i) n) else share i n
 
 -- what a lost branch carried goes the other way round, over all the others
 abbrev pub loss_of : ℕ → ℕ → ℤ
-loss_of l lost = if l == lost then pos 0 else neg_ℤ (pos (market_factor_one))
+loss_of l lost = if l == lost then pos 0 else neg_ℤ (pos (factor_one))
 
 abbrev pub factor_by : (ℕ → ℕ → ℤ) → ℕ → ℕ → Factor
 factor_by value l i = record { line = l; of = i; value = value l i }

@@ -3,7 +3,7 @@
 ghost use Rattle.std.specs.Prelude.{◌≡◌, ◌<◌, ◌≤◌, IfOk};
 ghost use Rattle.case_maker.specs.Rings.{factor_by, factors_by, loss_of, share, shift_of};
 
-use market_data::MARKET_FACTOR_ONE;
+use market_data::FACTOR_ONE;
 use market_model::{Factor, List, Memory};
 use std::alloc::Global;
 
@@ -14,7 +14,7 @@ fn share(parts: usize, size: usize) -> i64
     requires few { size ≤ 64 }
     ensures { result ≡ share parts size }
 {
-    (parts * MARKET_FACTOR_ONE as usize / size) as i64
+    (parts * FACTOR_ONE as usize / size) as i64
 }
 
 /// What flows on a line of all that a bus puts in.
@@ -42,7 +42,7 @@ fn loss_factor(line: usize, lost: usize) -> Factor
     let value = if line == lost {
         0
     } else {
-        -(MARKET_FACTOR_ONE as i64)
+        -(FACTOR_ONE as i64)
     };
     Factor {
         line,

@@ -10,7 +10,7 @@ ghost use Rattle.offer_book.specs.Edits.{number_of};
 
 use clear_loop::Clearer;
 use exact_fraction::Exact;
-use market_data::{MW_ONE, PRICE_ONE};
+use market_data::{FactorPlaces, MW_ONE, PRICE_ONE};
 use market_model::{
     Answer, Block, Bus, Factor, Line, List, Market, Memory, Parts, Price, RowId, Side, Unit,
     assemble,
@@ -168,6 +168,7 @@ pub(crate) fn soft(alloc: Global, price: i64, excess: i64) -> Result<Market, Mem
         loss: listed(alloc, &LOSS)?,
         unit_outages: List::new(alloc),
         pickups: List::new(alloc),
+        places: FactorPlaces::Six,
     };
     assemble(alloc, parts)
 }

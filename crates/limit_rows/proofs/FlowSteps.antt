@@ -6,7 +6,7 @@ use Rattle.fraction_theory.specs.Sums.{Term, Plain, Product, total}
 use Rattle.fraction_theory.proofs.FieldLaws.{ring_ℚ, over-same, over-one, +ℚ_nil, +ℚ_assoc, *ℚ_comm}
 use Rattle.fraction_theory.proofs.Ring.{times_nil}
 use Rattle.exact_fraction.specs.declared.Passed.{Passed}
-use Rattle.market_data.specs.Scales.{market_factor_one}
+use Rattle.market_data.specs.Scales.{factor_one}
 use Rattle.market_model.specs.declared.limits.Cause.{Cause}
 use Rattle.market_model.specs.declared.limits.Cause.TheVariants.{Base, Branch, UnitOutage}
 use Rattle.market_model.specs.declared.limits.Row.{Row}
@@ -24,9 +24,9 @@ use Rattle.std.proofs.lemmas.List.{get_or_append_left, get_or-append-add}
 use Rattle.std.proofs.lemmas.List.FromFn.{length-map-range_with_len}
 
 -- a factor of 0 takes nothing
-pub no_share : (s x : Fraction) (k : ℤ) → k ≡ pos 0 → s ≡ s +ℚ over k market_factor_one *ℚ x
+pub no_share : (s x : Fraction) (k : ℤ) → k ≡ pos 0 → s ≡ s +ℚ over k factor_one *ℚ x
 no_share s x k e =
-    let nil : over k market_factor_one ≡ whole (pos 0) = ap (λ (n : ℤ). over n market_factor_one) e ∙ over-same (pos 0) (pos 0) market_factor_one 1 (Prim.omega arith) (Prim.omega arith) refl ∙ over-one (pos 0) in
+    let nil : over k factor_one ≡ whole (pos 0) = ap (λ (n : ℤ). over n factor_one) e ∙ over-same (pos 0) (pos 0) factor_one 1 (Prim.omega arith) (Prim.omega arith) refl ∙ over-one (pos 0) in
     sym (ap (λ t. s +ℚ t *ℚ x) nil ∙ ap (λ t. s +ℚ t) (*ℚ_comm (whole (pos 0)) x ∙ times_nil ring_ℚ x) ∙ +ℚ_nil s)
 
 -- ---- the flow of a line

@@ -6,7 +6,7 @@ use Rattle.std.proofs.lemmas.List.Elements.{filter-append}
 use Rattle.fraction_theory.specs.Fraction.{Fraction, whole, over, neg_ℚ, ◌+ℚ◌, ◌-ℚ◌}
 use Rattle.fraction_theory.specs.Sums.{Term, Plain, Product, term_value, prefix, total}
 use Rattle.fraction_theory.proofs.FieldLaws.{ring_ℚ, +ℚ_nil, over-same, over-one}
-use Rattle.market_data.specs.Scales.{market_factor_one}
+use Rattle.market_data.specs.Scales.{factor_one}
 use Rattle.fraction_theory.proofs.SumLaws.{total-append}
 use Rattle.exact_fraction.specs.declared.Op.{Op}
 use Rattle.exact_fraction.specs.declared.Op.TheVariants.{Plus, Minus, Times}
@@ -24,8 +24,8 @@ use Rattle.market_model.specs.Dispatch.{unit_at}
 use Rattle.market_model.specs.LimitRows.{loses, lost_unit, pickup_factor, pickup_terms, row_factor, shift_factor, taker_factor, taker_terms, unit_factor, unit_factor_under}
 
 -- a factor of 0
-pub no_factor : over (pos 0) market_factor_one ≡ whole (pos 0)
-no_factor = over-same (pos 0) (pos 0) market_factor_one 1 (Prim.omega arith) (Prim.omega arith) refl ∙ over-one (pos 0)
+pub no_factor : over (pos 0) factor_one ≡ whole (pos 0)
+no_factor = over-same (pos 0) (pos 0) factor_one 1 (Prim.omega arith) (Prim.omega arith) refl ∙ over-one (pos 0)
 
 -- ---- terms of what passes a test, one element more
 module _ {T : Type 0} (test : T → Bool) (term : T → Term) (xs : List T) (i : ℕ) (x : T) (inside : i < length xs) (at : x ≡ get_or xs i x) where

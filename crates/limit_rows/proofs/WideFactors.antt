@@ -10,7 +10,7 @@ use Rattle.fraction_theory.proofs.FractionLaws.{Is, same_value, over_is, plus_is
 use Rattle.fraction_theory.proofs.FieldLaws.{widen}
 use Rattle.exact_fraction.specs.Passes.{IsTooLarge}
 use Rattle.exact_fraction.proofs.Excesses.{over_within}
-use Rattle.market_data.specs.Scales.{market_factor_one, most_market_factor}
+use Rattle.market_data.specs.Scales.{factor_one, most_factor}
 
 -- a number plus a product of two, all over a, over the square of a
 factor_sum : (a : ℕ) → 0 < a → (h l k : ℤ) → over (h *ℤ pos a +ℤ l *ℤ k) (a * a) ≡ over h a +ℚ over l a *ℚ over k a
@@ -37,11 +37,11 @@ too_large_over : (bound : ℕ) (n : ℤ) (d : ℕ) → 0 < d → unsigned_abs n 
 too_large_over bound n d p num den (inl h) = Prim.omega (arith, (over_within n d p).0, num, h)
 too_large_over bound n d p num den (inr h) = Prim.omega (arith, (over_within n d p).1, den, h)
 
-pub row_factor_fits : (bound : ℕ) (h l k : ℤ) → 2 ^ 127 ≤ bound + 1 → unsigned_abs h ≤ most_market_factor → unsigned_abs l ≤ most_market_factor → unsigned_abs k ≤ most_market_factor
-    → {own gone : Fraction} → own ≡ over h market_factor_one → gone ≡ over k market_factor_one → IsTooLarge bound (own +ℚ over l market_factor_one *ℚ gone) → ⊥
+pub row_factor_fits : (bound : ℕ) (h l k : ℤ) → 2 ^ 127 ≤ bound + 1 → unsigned_abs h ≤ most_factor → unsigned_abs l ≤ most_factor → unsigned_abs k ≤ most_factor
+    → {own gone : Fraction} → own ≡ over h factor_one → gone ≡ over k factor_one → IsTooLarge bound (own +ℚ over l factor_one *ℚ gone) → ⊥
 row_factor_fits bound h l k wide hs ls ks own_is gone_is large =
-    let own = product_size h (pos market_factor_one) most_market_factor market_factor_one hs (Prim.omega arith) in
-    let lost = product_size l k most_market_factor most_market_factor ls ks in
-    let all = sum_size (h *ℤ pos market_factor_one) (l *ℤ k) in
-    too_large_over bound (h *ℤ pos market_factor_one +ℤ l *ℤ k) (market_factor_one * market_factor_one) (Prim.omega arith) (Prim.omega (arith, own, lost, all, wide)) (Prim.omega (arith, wide))
-    (subst (IsTooLarge bound) (ap₂ (λ (a b : Fraction). a +ℚ over l market_factor_one *ℚ b) own_is gone_is ∙ sym (factor_sum market_factor_one (Prim.omega arith) h l k)) large)
+    let own = product_size h (pos factor_one) most_factor factor_one hs (Prim.omega arith) in
+    let lost = product_size l k most_factor most_factor ls ks in
+    let all = sum_size (h *ℤ pos factor_one) (l *ℤ k) in
+    too_large_over bound (h *ℤ pos factor_one +ℤ l *ℤ k) (factor_one * factor_one) (Prim.omega arith) (Prim.omega (arith, own, lost, all, wide)) (Prim.omega (arith, wide))
+    (subst (IsTooLarge bound) (ap₂ (λ (a b : Fraction). a +ℚ over l factor_one *ℚ b) own_is gone_is ∙ sym (factor_sum factor_one (Prim.omega arith) h l k)) large)

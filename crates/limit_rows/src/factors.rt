@@ -4,7 +4,7 @@ ghost use Rattle.std.specs.Prelude.{◌≡◌, ◌+◌, ◌<◌, ◌≤◌, ◌^
 ghost use Rattle.fraction_theory.specs.Fraction.{over, ◌+ℚ◌, ◌-ℚ◌, ◌*ℚ◌};
 ghost use Rattle.exact_fraction.specs.declared.Op.TheVariants.{Minus};
 ghost use Rattle.fraction_theory.specs.Sums.{term_value};
-ghost use Rattle.market_data.specs.Scales.{factor_one, market_factor_one, most_market_factor};
+ghost use Rattle.market_data.specs.Scales.{share_one, factor_one, most_factor};
 ghost use Rattle.market_model.specs.Factors.{factor_in};
 ghost use Rattle.market_model.specs.declared.limits.Row.{Row};
 ghost use Rattle.market_model.specs.LimitRows.{factor_terms, loses, lost_unit, pickup_factor, pickup_terms, row_factor, row_id, rows, share_value, shift_factor, taker_factor, taker_term, taker_terms, unit_factor, IsCauseOf};
@@ -19,14 +19,14 @@ use crate::causes::lost_unit;
 use crate::flowing::with_share;
 use crate::places::found_row;
 use exact_fraction::{Exact, Passed, exact_difference};
-use market_data::{FACTOR_ONE, MARKET_FACTOR_ONE};
+use market_data::{SHARE_ONE, FACTOR_ONE};
 use market_model::{Cause, Market, Pickup, Row, RowId};
 
 /// The shift factor of a line for a bus, in 10^-9, with its size.
 pub fn shift_of(market: &Market, line: usize, bus: usize) -> i64
     requires line { line < length market.now.lines }
     requires bus { bus < length market.now.buses }
-    ensures size { unsigned_abs result ≤ most_market_factor }
+    ensures size { unsigned_abs result ≤ most_factor }
     ensures is { result ≡ factor_in market.now.shift line bus }
 {
     let _lines = market.lines();
@@ -37,7 +37,7 @@ pub fn shift_of(market: &Market, line: usize, bus: usize) -> i64
 pub fn loss_of(market: &Market, line: usize, lost: usize) -> i64
     requires line { line < length market.now.lines }
     requires lost { lost < length market.now.lines }
-    ensures size { unsigned_abs result ≤ most_market_factor }
+    ensures size { unsigned_abs result ≤ most_factor }
     ensures is { result ≡ factor_in market.now.loss line lost }
 {
     let _lines = market.lines();
@@ -46,10 +46,10 @@ pub fn loss_of(market: &Market, line: usize, lost: usize) -> i64
 
 /// A factor of a market as a number.
 fn as_number<N: Exact>(factor: i64) -> N
-    requires { unsigned_abs factor ≤ most_market_factor }
-    ensures { N.value result ≡ over factor market_factor_one }
+    requires { unsigned_abs factor ≤ most_factor }
+    ensures { N.value result ≡ over factor factor_one }
 {
-    N::of_parts(factor, MARKET_FACTOR_ONE)
+    N::of_parts(factor, FACTOR_ONE)
 }
 
 /// How much of what the bus at a place puts in counts for the flow of a row: the shift factor of its line, and after an outage what goes
@@ -113,7 +113,7 @@ fn with_taker<N: Exact>(
     ensures cause { IfErr result (λ passed. IsShareRefusal (N.value sum) (share_value pickup.now) (shift_factor market.now line (unit_at market.now pickup.now.taker).bus) N.bound (passed_at N.value passed)) }
 {
     if belongs {
-        let share = N::of_parts(pickup.share, FACTOR_ONE);
+        let share = N::of_parts(pickup.share, SHARE_ONE);
         with_product(sum, share, shift_for_unit(market, line, pickup.taker))
     } else {
         Ok(sum)

@@ -2,7 +2,7 @@
 
 ghost use Rattle.std.specs.Prelude.{◌≡◌, ◌≢◌, ◌<◌, ◌≤◌, ◌+◌, ◌^◌, unsigned_abs, length, map, IfOk, IfErr};
 ghost use Rattle.fraction_theory.specs.Fraction.{over, ◌+ℚ◌, ◌*ℚ◌};
-ghost use Rattle.market_data.specs.Scales.{market_factor_one, most_market_factor};
+ghost use Rattle.market_data.specs.Scales.{factor_one, most_factor};
 ghost use Rattle.market_model.specs.declared.limits.Cause.TheVariants as cause;
 ghost use Rattle.market_model.specs.Dispatch.{places};
 ghost use Rattle.market_model.specs.LimitRows.{IsCauseOf, flow_by, line_flow, line_offset, line_terms, lost_output, offset_terms, row_offset};
@@ -14,19 +14,19 @@ ghost use Rattle.market_model.specs.Valued.{passed_at};
 use crate::causes::lost_unit;
 use crate::factors::{loss_of, pickup_factor, shift_of, with_product};
 use exact_fraction::{Exact, Passed};
-use market_data::MARKET_FACTOR_ONE;
+use market_data::FACTOR_ONE;
 use market_model::{Cause, Market, Row, datum, output};
 
 /// A sum plus a number times a factor, of shift or outage, in 10^-9. A factor of 0 adds nothing.
 pub(crate) fn with_share<N: Exact>(sum: N, share: i64, number: N) -> Result<N, Passed<N>>
-    requires { unsigned_abs share ≤ most_market_factor }
-    ensures sum { IfOk result (λ more. N.value more ≡ N.value sum +ℚ over share market_factor_one *ℚ N.value number) }
-    ensures cause { IfErr result (λ passed. IsShareRefusal (N.value sum) (over share market_factor_one) (N.value number) N.bound (passed_at N.value passed)) }
+    requires { unsigned_abs share ≤ most_factor }
+    ensures sum { IfOk result (λ more. N.value more ≡ N.value sum +ℚ over share factor_one *ℚ N.value number) }
+    ensures cause { IfErr result (λ passed. IsShareRefusal (N.value sum) (over share factor_one) (N.value number) N.bound (passed_at N.value passed)) }
 {
     if share == 0 {
         Ok(sum)
     } else {
-        sum.plus_product(N::of_parts(share, MARKET_FACTOR_ONE), number)
+        sum.plus_product(N::of_parts(share, FACTOR_ONE), number)
     }
 }
 

@@ -6,7 +6,7 @@ ghost use Rattle.market_model.specs.Lines.{hard_line};
 use crate::causes::{cause_at, cause_count, has_row};
 use crate::{coefficient, count, id, limit_at, name_at, position, row_named};
 use exact_fraction::{Exact, Frac};
-use market_data::MARKET_FACTOR_ONE;
+use market_data::{FACTOR_ONE, FactorPlaces};
 use market_model::{Bus, Factor, Line, List, Market, Memory, Parts, RowId, assemble};
 use std::alloc::Global;
 use std::cmp::Ordering;
@@ -83,6 +83,7 @@ fn one_outage(alloc: Global) -> Result<Market, Memory> {
         loss: loss_factors(alloc)?,
         unit_outages: List::new(alloc),
         pickups: List::new(alloc),
+        places: FactorPlaces::Six,
     };
     assemble(alloc, parts)
 }
@@ -106,6 +107,7 @@ fn two_outages(alloc: Global) -> Result<Market, Memory> {
         loss: loss_factors(alloc)?,
         unit_outages: List::new(alloc),
         pickups: List::new(alloc),
+        places: FactorPlaces::Six,
     };
     assemble(alloc, parts)
 }
@@ -129,7 +131,7 @@ fn name_of(market: &Market, place: usize) -> Option<RowId> {
 
 /// Whether a number is this one, in 10^-9.
 fn is_number(number: Frac, of: i32) -> bool {
-    number.order(Frac::of_parts(i64::from(of), MARKET_FACTOR_ONE)) == Ordering::Equal
+    number.order(Frac::of_parts(i64::from(of), FACTOR_ONE)) == Ordering::Equal
 }
 
 /// Whether the row of a name has this factor at a bus, in 10^-9.

@@ -1,5 +1,7 @@
 -- The units in which data are whole numbers, and the most of what is given.
 use Rattle.std.specs.Prelude.{ℕ, ◌*◌, ◌^◌}
+use Rattle.market_data.specs.declared.scales.FactorPlaces.{FactorPlaces}
+use Rattle.market_data.specs.declared.scales.FactorPlaces.TheVariants.{Six, Nine}
 
 -- decimals of MW: a datum is a number of 10^-9 MW
 abbrev pub mw_places : ℕ
@@ -21,33 +23,39 @@ price_one = 10 ^ price_places
 abbrev pub money_places : ℕ
 money_places = 15
 
--- decimals of factors in tables: a datum is a number of 10^-6
+-- decimals of factors: a datum is a number of 10^-9
 abbrev pub factor_places : ℕ
-factor_places = 6
+factor_places = 9
 
--- a factor of 1 as such a datum: of how many parts a factor is a number
+-- a factor of 1 as a datum: of how many parts a factor is a number
 abbrev pub factor_one : ℕ
 factor_one = 10 ^ factor_places
 
--- the greatest size of a factor as such a datum: that of 1000
+-- the greatest size of a factor as a datum: that of 1000
 abbrev pub most_factor : ℕ
-most_factor = 10 ^ 9
+most_factor = 10 ^ 12
 
--- decimals of factors in a market: a datum is a number of 10^-9
-abbrev pub market_factor_places : ℕ
-market_factor_places = 9
+-- how many decimals the factors of tables have at the most
+abbrev pub place_count : FactorPlaces → ℕ
+place_count Six = 6
+place_count Nine = 9
 
--- a factor of 1 as such a datum
-abbrev pub market_factor_one : ℕ
-market_factor_one = 10 ^ market_factor_places
+-- how many data make one of the last of these places
+abbrev pub place_step : FactorPlaces → ℕ
+place_step Six = 1000
+place_step Nine = 1
 
--- the greatest size of a factor as such a datum: that of 1000
-abbrev pub most_market_factor : ℕ
-most_market_factor = 10 ^ 12
+-- decimals of shares of a lost unit's output: a datum is a number of 10^-6
+abbrev pub share_places : ℕ
+share_places = 6
 
--- how many of these data one of a table's makes
-abbrev pub factor_step : ℕ
-factor_step = 1000
+-- a share of 1, all of it, as a datum
+abbrev pub share_one : ℕ
+share_one = 10 ^ share_places
+
+-- the greatest size of a share that a table may state, as a datum: that of 1000
+abbrev pub most_share : ℕ
+most_share = 10 ^ 9
 
 -- decimals of reactances and of ratios: of both a datum is a number of 10^-9
 abbrev pub reactance_places : ℕ

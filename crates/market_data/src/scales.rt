@@ -1,5 +1,8 @@
 //! The units in which data are whole numbers, and the most of what is given.
 
+ghost use Rattle.std.specs.Prelude.{◌≡◌, pos};
+ghost use Rattle.market_data.specs.Scales.{place_count, place_step};
+
 /// Decimal places of MW: a datum is a number of 10^-9 MW.
 pub const MW_PLACES: u8 = 9;
 
@@ -15,20 +18,53 @@ pub const PRICE_ONE: i64 = 1_000_000;
 /// Decimal places of money and welfare, a product of the two.
 pub const MONEY_PLACES: u8 = 15;
 
-/// Decimal places of factors in tables: a datum is a number of 10^-6.
-pub const FACTOR_PLACES: u8 = 6;
+/// Decimal places of factors: a datum is a number of 10^-9.
+pub const FACTOR_PLACES: u8 = 9;
 
-/// A factor of 1 as such a datum: of how many parts a factor is a number.
-pub const FACTOR_ONE: u64 = 1_000_000;
+/// A factor of 1 as a datum: of how many parts a factor is a number.
+pub const FACTOR_ONE: u64 = 1_000_000_000;
 
-/// The greatest size of a factor as such a datum: that of 1000.
-pub const MOST_FACTOR: u64 = 1_000_000_000;
+/// The greatest size of a factor as a datum: that of 1000.
+pub const MOST_FACTOR: u64 = 1_000_000_000_000;
 
-/// A factor of 1 in a market, where a datum is a number of 10^-9.
-pub const MARKET_FACTOR_ONE: u64 = 1_000_000_000;
+/// How many decimal places the factors of tables have at the most. A factor that is rounded to these misses the network's by up to half
+/// a unit of the last one.
+#[derive(Clone, Copy, PartialEq, Eq, Debug)]
+pub enum FactorPlaces {
+    Six,
+    Nine,
+}
 
-/// How many of a market's data for factors one of a table's makes.
-pub const FACTOR_STEP: i64 = 1_000;
+impl FactorPlaces {
+    /// Their number.
+    pub fn count(self) -> u8
+        ensures { result ≡ place_count self }
+    {
+        match self {
+            FactorPlaces::Six => 6,
+            FactorPlaces::Nine => 9,
+        }
+    }
+
+    /// A unit of the last place as a datum of factors, which is a number of 10^-9.
+    pub fn step(self) -> i64
+        ensures { result ≡ pos (place_step self) }
+    {
+        match self {
+            FactorPlaces::Six => 1_000,
+            FactorPlaces::Nine => 1,
+        }
+    }
+}
+
+/// Decimal places of the shares of a lost unit's output: a datum is a number of 10^-6.
+pub const SHARE_PLACES: u8 = 6;
+
+/// A share of 1, all of it, as a datum.
+pub const SHARE_ONE: u64 = 1_000_000;
+
+/// The greatest size of a share that a table may state, as a datum: that of 1000.
+pub const MOST_SHARE: u64 = 1_000_000_000;
 
 /// Decimal places of reactances and of ratios: of both a datum is a number of 10^-9.
 pub const REACTANCE_PLACES: u8 = 9;

@@ -7,7 +7,7 @@ use Rattle.std.proofs.lemmas.List.Elements.{All-append, All-cons, All-nil, All-w
 use Rattle.std.proofs.lemmas.List.Kept.{AllPairs-cons}
 use Rattle.market_model.specs.Market.{AreTableFactors}
 use Rattle.market_model.specs.declared.participants.Factor.{Factor}
-use Rattle.market_data.specs.Scales.{most_market_factor}
+use Rattle.market_data.specs.Scales.{most_factor}
 use Rattle.market_inputs.specs.Clearing.{AreSmall, factors_by, factors_of_line, unless_0}
 
 -- ---- lists that are built piece by piece
@@ -39,9 +39,9 @@ unless-all P f h = by (unsigned_abs f.value == 0)
     by false = All-cons P f [] h (All-nil P)
 
 -- small factors with one more
-pub small-more : (done more : List Factor) (f : Factor) → AreSmall done → unsigned_abs f.value ≤ most_market_factor → more ≡ done ++ unless_0 f → AreSmall more
+pub small-more : (done more : List Factor) (f : Factor) → AreSmall done → unsigned_abs f.value ≤ most_factor → more ≡ done ++ unless_0 f → AreSmall more
 small-more done more f small size is =
-    let P : Factor → Type 0 = λ g. unsigned_abs g.value ≤ most_market_factor in
+    let P : Factor → Type 0 = λ g. unsigned_abs g.value ≤ most_factor in
     subst (All P) (sym is) (All-append P done (unless_0 f) small (unless-all P f size))
 
 unless-pairs : (R : Factor → Factor → Type 0) (f : Factor) → AllPairs R (unless_0 f)

@@ -3,7 +3,7 @@ use Rattle.std.specs.Prelude.{true, false, Bool, ℕ, ◌≤◌, ◌==◌, ℤ, 
 use Rattle.std.specs.List.{enumerate_from, flat_map}
 use Rattle.market_data.specs.declared.participants.Bus.{Bus}
 use Rattle.market_data.specs.Participants.{IsDatum}
-use Rattle.market_data.specs.Scales.{factor_step, most_market_factor}
+use Rattle.market_data.specs.Scales.{factor_step, most_factor}
 use Rattle.market_model.specs.declared.participants.Factor.{Factor}
 use Rattle.market_model.specs.declared.participants.Line.{Line}
 use Rattle.market_model.specs.declared.participants.Parts.{Parts}
@@ -80,7 +80,7 @@ loss_by loss branches = named_factors (λ lost. lost.row) loss branches branches
 
 -- no factor is too great
 abbrev pub AreSmall : List Factor → Type 0
-AreSmall factors = All (λ factor. unsigned_abs factor.value ≤ most_market_factor) factors
+AreSmall factors = All (λ factor. unsigned_abs factor.value ≤ most_factor) factors
 
 -- ---- the market
 -- the market of a network with its tables, its outages of units, its offers, its offsets and its penalties

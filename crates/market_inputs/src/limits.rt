@@ -1,7 +1,7 @@
 //! The lines of a network, and their factors.
 
 ghost use Rattle.std.specs.Prelude.{◌≡◌, ℕ, ◌++◌, ◌≤◌, All, IfOk, map, unsigned_abs};
-ghost use Rattle.market_data.specs.Scales.{most_factor, most_market_factor};
+ghost use Rattle.market_data.specs.Scales.{most_factor, most_factor};
 ghost use Rattle.factor_tables.specs.Factors.{factor_at};
 ghost use Rattle.market_model.specs.Lines.{IsPenalty};
 ghost use Rattle.market_inputs.specs.Clearing.{AreSmall, IsTabled, factors_of_line, line_of, penalty_for, market_factor, named_factors, unless_0};
@@ -105,7 +105,7 @@ impl Named for NetBranch {
 /// A table's factor as a market has it.
 fn market_factor(value: i64) -> i64
     requires { unsigned_abs value ≤ most_factor }
-    ensures size { unsigned_abs result ≤ most_market_factor }
+    ensures size { unsigned_abs result ≤ most_factor }
     ensures is { result ≡ market_factor value }
 {
     value * FACTOR_STEP

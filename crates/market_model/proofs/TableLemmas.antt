@@ -7,7 +7,7 @@ use mir.Val.{SFits}
 use Rattle.std.proofs.lemmas.Int.{ints}
 use Rattle.std.proofs.lemmas.Nat.{div-mul-add, mod-mul-add, mul-add-lt}
 use Rattle.market_model.specs.declared.participants.Factor.{Factor}
-use Rattle.market_data.specs.Scales.{most_market_factor}
+use Rattle.market_data.specs.Scales.{most_factor}
 use Rattle.market_model.specs.Factors.{is_pair, factor_in, IsTable}
 use Rattle.market_model.specs.LostLines.{factor_after, IsOutageIndex}
 use Rattle.market_model.proofs.LostLemmas.{none_some}
@@ -151,5 +151,5 @@ search_on l o fs i d lt other = ap (λ (gs : List Factor). factor_in gs l o) (dr
     by false e = refl
 
 -- a factor is a signed number of 64 bits
-pub factor_fits : (n : ℤ) → unsigned_abs n ≤ most_market_factor → SFits w64 n
+pub factor_fits : (n : ℤ) → unsigned_abs n ≤ most_factor → SFits w64 n
 factor_fits n h = Prim.omega (arith, ints)

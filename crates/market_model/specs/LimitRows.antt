@@ -1,7 +1,7 @@
 -- Limit rows: the limits that a dispatch has to meet, and the flows that they bound.
 -- Wood and Wollenberg, Power Generation, Operation and Control: shift factors, and the flow after an outage by the flow that the lost
 -- branch had; after the loss of a unit by the output that others pick up.
-use Rattle.std.specs.Prelude.{◌==◌, ◌&&◌, ℕ, ◌<◌, ◌^◌, ℤ, Bool, true, false, if◌then◌else◌, not, List, [], ◌∷◌, ◌++◌, length, map, filter, slice_index_or, Option, Some, None, is_some}
+use Rattle.std.specs.Prelude.{◌==◌, ◌&&◌, ℕ, ◌<◌, ℤ, Bool, true, false, if◌then◌else◌, not, List, [], ◌∷◌, ◌++◌, length, map, filter, slice_index_or, Option, Some, None, is_some}
 use Rattle.std.specs.Int.{is_positive}
 use Rattle.std.specs.List.{flat_map, position_or_len}
 use Rattle.fraction_theory.specs.Fraction.{Fraction, whole, over, neg_ℚ, ◌+ℚ◌}
@@ -125,19 +125,15 @@ abbrev pub is_soft : Parts → Row → Bool
 is_soft m r = is_positive (penalty_of (is_outage r.cause) (line_at m r.line))
 
 -- ---- factors and offsets
--- how many decimal places a factor has
-abbrev pub factor_places : Parts → ℕ
-factor_places m = scales.market_factor_places
-
 -- what a factor stands for
-abbrev pub factor_value : Parts → ℤ → Fraction
-factor_value m n = over n (10 ^ factor_places m)
+abbrev pub factor_value : ℤ → Fraction
+factor_value n = over n scales.factor_one
 
 abbrev pub shift_factor : Parts → ℕ → ℕ → Fraction
-shift_factor m l i = factor_value m (factor_in m.shift l i)
+shift_factor m l i = factor_value (factor_in m.shift l i)
 
 abbrev pub loss_factor : Parts → ℕ → ℕ → Fraction
-loss_factor m l lost = factor_value m (factor_in m.loss l lost)
+loss_factor m l lost = factor_value (factor_in m.loss l lost)
 
 abbrev pub line_offset : Parts → ℕ → Fraction
 line_offset m l = whole (line_at m l).offset
@@ -162,7 +158,7 @@ abbrev pub pickups_of : Parts → ℕ → List Pickup
 pickups_of m k = filter (λ p. p.outage == k) m.pickups
 
 abbrev pub share_value : Pickup → Fraction
-share_value p = over p.share scales.factor_one
+share_value p = over p.share scales.share_one
 
 -- how much of the lost output flows on a line where its takers put it in: each its share
 abbrev pub taker_term : Parts → ℕ → Pickup → Term

@@ -1,9 +1,10 @@
 -- What every market keeps.
 use Rattle.std.specs.Prelude.{◌≡◌, ◌≢◌, ℕ, ◌<◌, ◌≤◌, pos, ◌≤ℤ◌, ◌<ℤ◌, List, [], length, map, slice_index_or, All, AllPairs, IfSome, Contains, unsigned_abs}
 use Rattle.market_data.specs.Participants.{IsDatum, IsBus, IsUnit}
-use Rattle.market_data.specs.Scales.{factor_one, most_blocks, most_buses, most_market_factor, most_lines, most_outages, most_pickups, most_units}
+use Rattle.market_data.specs.Scales.{share_one, most_blocks, most_buses, most_factor, most_lines, most_outages, most_pickups, most_units}
 use Rattle.market_data.specs.declared.participants.Bus.{Bus}
 use Rattle.market_data.specs.declared.participants.Unit as unit
+use Rattle.market_data.specs.declared.scales.FactorPlaces.TheVariants.{Six}
 use Rattle.market_model.specs.declared.participants.Block.{Block}
 use Rattle.market_model.specs.declared.participants.Factor.{Factor}
 use Rattle.market_model.specs.declared.participants.Line.{Line}
@@ -39,7 +40,7 @@ pub record IsLine (line : Line) : Type 0 where
 pub record IsTableFactor (lines others : ℕ) (factor : Factor) : Type 0 where
   pub line : factor.line < lines
   pub of : factor.of < others
-  pub size : unsigned_abs factor.value ≤ most_market_factor
+  pub size : unsigned_abs factor.value ≤ most_factor
 
 -- factors of which no two are of one pair
 pub record AreTableFactors (lines others : ℕ) (factors : List Factor) : Type 0 where
@@ -51,7 +52,7 @@ pub record IsPickup (outages units : ℕ) (pickup : Pickup) : Type 0 where
   pub outage : pickup.outage < outages
   pub taker : pickup.taker < units
   pub above : pos 0 <ℤ pickup.share
-  pub most : pickup.share ≤ℤ pos factor_one
+  pub most : pickup.share ≤ℤ pos share_one
 
 -- outages of some of so many units, none of them twice, and what is picked up at these
 pub record AreUnitOutages (units : ℕ) (outages : List ℕ) (records : List Pickup) : Type 0 where
@@ -61,9 +62,9 @@ pub record AreUnitOutages (units : ℕ) (outages : List ℕ) (records : List Pic
   pub record_count : length records ≤ most_pickups
   pub pickups : All (IsPickup (length outages) units) records
 
--- the parts of a market that has nothing but buses, units and blocks
+-- the parts of a market that has nothing but buses, units and blocks, and tables of six places
 abbrev pub bare_parts : List Bus → List unit.Unit → List Block → Parts
-bare_parts buses units blocks = record { buses = buses; units = units; blocks = blocks; lines = []; outages = []; shift = []; loss = []; unit_outages = []; pickups = [] }
+bare_parts buses units blocks = record { buses = buses; units = units; blocks = blocks; lines = []; outages = []; shift = []; loss = []; unit_outages = []; pickups = []; places = Six }
 
 pub record IsMarket (parts : Parts) : Type 0 where
   pub bus_count : length parts.buses ≤ most_buses

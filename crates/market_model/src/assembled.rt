@@ -2,7 +2,7 @@
 
 use crate::factor_table::{listed_factor, loss_table, table_of};
 use crate::outages::{lost_lines, outage_index, place_of_line};
-use crate::{Block, Bus, Line, Parts, Pickup, Unit};
+use crate::{Block, Bus, FactorPlaces, Line, Parts, Pickup, Unit};
 use plain_list::{List, Memory};
 use std::alloc::Global;
 use std::marker::Model;
@@ -107,6 +107,13 @@ impl Market {
         ensures market { IsMarket self.now }
     {
         &self.parts.pickups
+    }
+
+    /// How many decimal places the tables had in which the factors stood.
+    pub fn places(&self) -> FactorPlaces
+        ensures { result ≡ self.now.places }
+    {
+        self.parts.places
     }
 
     /// The place of the line of a branch row; the number of lines where none has it.

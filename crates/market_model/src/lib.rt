@@ -20,7 +20,7 @@ pub use answered::{
 pub use assembled::{Market, assemble};
 pub use blocks::{block_price, block_quantity, block_value, by_side};
 pub use limits::{Cause, Row};
-pub use market_data::{Bus, MONEY_PLACES, MW_PLACES, PRICE_PLACES, Unit, UnitList};
+pub use market_data::{Bus, FactorPlaces, MONEY_PLACES, MW_PLACES, PRICE_PLACES, Unit, UnitList};
 pub use participants::{Block, Factor, Line, Parts, Pickup, Side};
 pub use plain_list::{List, Memory};
 pub use putting::{balance, injections, output};

@@ -4,7 +4,7 @@ ghost use Rattle.std.specs.Prelude.{◌≡◌};
 ghost use Rattle.market_model.specs.Lines.{hard_line};
 ghost use Rattle.market_model.specs.Market.{bare_parts};
 
-use market_data::{Bus, Unit};
+use market_data::{Bus, FactorPlaces, Unit};
 use plain_list::List;
 use std::alloc::Global;
 
@@ -104,6 +104,8 @@ pub struct Parts {
     pub unit_outages: List<usize>,
     /// What others pick up then.
     pub pickups: List<Pickup>,
+    /// How many decimal places the tables had in which the factors stood.
+    pub places: FactorPlaces,
 }
 
 impl Parts {
@@ -121,6 +123,7 @@ impl Parts {
             loss: List::new(alloc),
             unit_outages: List::new(alloc),
             pickups: List::new(alloc),
+            places: FactorPlaces::Six,
         }
     }
 }

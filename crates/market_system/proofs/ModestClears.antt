@@ -21,7 +21,7 @@ use Rattle.simplex_theory.proofs.StuckRows.{multiplier-itself, multiplier-basic,
 use Rattle.market_model.specs.declared.answered.Duals.{Duals}
 use Rattle.market_model.specs.declared.participants.Parts.{Parts}
 use Rattle.market_model.specs.declared.participants.Pickup.{Pickup}
-use Rattle.market_data.specs.Scales.{factor_one}
+use Rattle.market_data.specs.Scales.{share_one}
 use Rattle.exact_fraction.specs.Passes.{IsTooLarge}
 use Rattle.exact_fraction.proofs.Excesses.{over_within}
 use Rattle.exact_fraction.proofs.Shares.{too_large_turned}
@@ -197,7 +197,7 @@ module _ (m : Parts) (market : IsMarket m) (lines : m.lines ≡ []) (modest : Is
     share_fits : (p : Pickup) → Contains m.pickups p → NotTooLarge (share_value p)
     share_fits p c large =
         let is_pickup = All-contains (IsPickup (length m.unit_outages) (length m.units)) m.pickups p market.unit_outages.pickups c in
-        let size = over_within p.share factor_one (Prim.omega arith) in
+        let size = over_within p.share share_one (Prim.omega arith) in
         elim large [
           | inl n ↦ Prim.omega (arith, ints, is_pickup.above, is_pickup.most, size.0, n)
           | inr n ↦ Prim.omega (arith, size.1, n)

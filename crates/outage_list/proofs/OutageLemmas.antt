@@ -13,7 +13,7 @@ use Rattle.std.proofs.lemmas.List.Quantifiers.{position-Some}
 use Rattle.std.proofs.Math.Logic.{⊎_elim}
 use Rattle.std.proofs.lemmas.Map.Made.{IsDistinct-from_AllPairs}
 use Rattle.std.proofs.lemmas.Map.Steps.{length-le_from_distinct_below}
-use Rattle.market_data.specs.Scales.{factor_one}
+use Rattle.market_data.specs.Scales.{share_one}
 use Rattle.market_data.specs.WholeSums.{int_sum}
 use Rattle.market_model.specs.Market.{AreUnitOutages, IsPickup}
 use Rattle.outage_list.specs.declared.takings.Taking.{Taking}
@@ -159,8 +159,8 @@ none-all {X} test (x ∷ xs) e = by (none-all test xs) (test x) refl
     by rest true h = let found : ◌≡◌ (Some x) None = rw h at e in cc
     by rest false h = All-cons (λ (y : X). test y ≡ false) x xs h (rest (rw h at e))
 
-whole-sum : (ts : List Taking) (u : ℕ) → is_uneven ts u ≡ false → share_sum ts u ≡ pos factor_one
-whole-sum ts u even = (Decides-int_eq (share_sum ts u) (pos factor_one)).0 (not-false _ even)
+whole-sum : (ts : List Taking) (u : ℕ) → is_uneven ts u ≡ false → share_sum ts u ≡ pos share_one
+whole-sum ts u even = (Decides-int_eq (share_sum ts u) (pos share_one)).0 (not-false _ even)
 
 -- the shares of an outage are those of its unit
 shares-by : (lost : List ℕ) (k v : ℕ) (ts : List Taking) → ((j : ℕ) (d : Taking) → j < length ts → (outage_of lost (get_or ts j d).lost == k) ≡ ((get_or ts j d).lost == v))

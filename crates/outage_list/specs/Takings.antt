@@ -8,7 +8,7 @@ use Rattle.record_reading.specs.Steps.{and_then, checked, fine, or_as}
 use Rattle.record_reading.specs.declared.FrameFault.TheVariants as frame
 use Rattle.record_reading.specs.declared.Why.TheVariants as why
 use Rattle.csv_table.specs.Table.{number_in}
-use Rattle.market_data.specs.Scales.{factor_places, most_factor}
+use Rattle.market_data.specs.Scales.{share_places, most_share}
 use Rattle.net_case.specs.Networks.{LiveNetwork}
 use Rattle.outage_list.specs.declared.takings.TakerRecord.{TakerRecord}
 use Rattle.outage_list.specs.declared.takings.Taking.{Taking}
@@ -22,7 +22,7 @@ number line r col places = or_as fault.Frame (number_in line r col places)
 
 -- the share in the third cell, a factor of a size of 1000 at most
 unfoldable pub share_cell : ℕ → Record → Result ℤ UnitOutageFault
-share_cell line r = and_then (number line r 2 factor_places) (λ share. if nat_lt most_factor (unsigned_abs share) then Err (fault.Frame (frame.Cell line 3 why.Bounds)) else Ok share)
+share_cell line r = and_then (number line r 2 share_places) (λ share. if nat_lt most_share (unsigned_abs share) then Err (fault.Frame (frame.Cell line 3 why.Bounds)) else Ok share)
 
 -- the numbers from left to right
 unfoldable pub record_in : ℕ → Record → Result TakerRecord UnitOutageFault
@@ -84,4 +84,4 @@ pub record IsTaking (units : ℕ) (t : Taking) : Type 0 where
   pub lost : t.lost < units
   pub taker : t.taker < units
   pub above : pos 0 <ℤ t.share
-  pub size : unsigned_abs t.share ≤ most_factor
+  pub size : unsigned_abs t.share ≤ most_share

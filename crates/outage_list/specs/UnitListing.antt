@@ -7,7 +7,7 @@ use Rattle.record_reading.specs.Records.{Record}
 use Rattle.record_reading.specs.Rows.{read_rows}
 use Rattle.record_reading.specs.Steps.{and_then}
 use Rattle.csv_table.specs.Table.{framed}
-use Rattle.market_data.specs.Scales.{factor_one, most_pickups}
+use Rattle.market_data.specs.Scales.{share_one, most_pickups}
 use Rattle.market_data.specs.WholeSums.{int_sum}
 use Rattle.market_model.specs.declared.participants.Pickup.{Pickup}
 use Rattle.net_case.specs.Networks.{LiveNetwork}
@@ -42,7 +42,7 @@ share_sum takings u = int_sum (share_in u) takings
 
 -- that is not all of it
 abbrev pub is_uneven : List Taking → ℕ → Bool
-is_uneven takings u = not (int_eq (share_sum takings u) (pos factor_one))
+is_uneven takings u = not (int_eq (share_sum takings u) (pos share_one))
 
 -- the place of a unit among those that are lost
 abbrev pub outage_of : List ℕ → ℕ → ℕ
@@ -55,7 +55,7 @@ pickup_of lost t = record { outage = outage_of lost t.lost; taker = t.taker; sha
 -- ---- the outages
 -- at each outage shares that sum to 1 are picked up
 abbrev pub PicksUpAll : UnitOutages → Type 0
-PicksUpAll outages = (k : ℕ) → k < length outages.lost → int_sum (λ p. if p.outage == k then p.share else pos 0) outages.pickups ≡ pos factor_one
+PicksUpAll outages = (k : ℕ) → k < length outages.lost → int_sum (λ p. if p.outage == k then p.share else pos 0) outages.pickups ≡ pos share_one
 
 -- ---- the table
 -- the gen row of the live unit at a place

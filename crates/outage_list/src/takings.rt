@@ -3,12 +3,12 @@
 ghost use Rattle.std.specs.Prelude.{◌≡◌, ◌≢◌, ◌+◌, ◌<◌, ◌≤◌, ◌^◌, pos, ◌<ℤ◌, length, get_or, unsigned_abs, All, [], true, Ok, Err, IfOk, IfErr};
 ghost use Rattle.record_reading.specs.Rows.{read_rows};
 ghost use Rattle.record_reading.specs.Steps.{checked, fine};
-ghost use Rattle.market_data.specs.Scales.{most_factor};
+ghost use Rattle.market_data.specs.Scales.{most_share};
 ghost use Rattle.outage_list.specs.Takings.{IsTaking, are_gen_rows, are_live, is_gen_row, is_live_unit, place_named, record_in, share_cell, stands, taking_faults, taking_in, unit_place};
 
 use crate::UnitOutageFault;
 use csv_table::Table;
-use market_data::{FACTOR_PLACES, MOST_FACTOR};
+use market_data::{SHARE_PLACES, MOST_SHARE};
 use net_case::Network;
 use plain_list::List;
 use record_reading::{FrameFault, Why};
@@ -36,11 +36,11 @@ pub(crate) struct Taking {
 #[tactic(auto, unfolding(crate::specs::Takings::share_cell))]
 fn share_of(table: &Table, row: usize) -> Result<i64, UnitOutageFault>
     requires { (row < length table.now) × (row + 2 < 2 ^ 64) }
-    ensures size { IfOk result (λ share. unsigned_abs share ≤ most_factor) }
+    ensures size { IfOk result (λ share. unsigned_abs share ≤ most_share) }
     ensures is { result ≡ share_cell (row + 2) (get_or table.now row []) }
 {
-    let share = table.number(row, 2, FACTOR_PLACES)?;
-    if share.unsigned_abs() > MOST_FACTOR {
+    let share = table.number(row, 2, SHARE_PLACES)?;
+    if share.unsigned_abs() > MOST_SHARE {
         return Err(UnitOutageFault::Frame(FrameFault::Cell {
             line: row + 2,
             col: 3,
@@ -54,7 +54,7 @@ fn share_of(table: &Table, row: usize) -> Result<i64, UnitOutageFault>
 #[tactic(auto, unfolding(crate::specs::Takings::record_in))]
 fn record_of(table: &Table, row: usize) -> Result<TakerRecord, UnitOutageFault>
     requires { (row < length table.now) × (row + 2 < 2 ^ 64) }
-    ensures size { IfOk result (λ numbers. unsigned_abs numbers.share ≤ most_factor) }
+    ensures size { IfOk result (λ numbers. unsigned_abs numbers.share ≤ most_share) }
     ensures is { result ≡ record_in (row + 2) (get_or table.now row []) }
 {
     let unit = table.number(row, 0, 0)?;

@@ -10,7 +10,7 @@ ghost use Rattle.outage_list.specs.UnitListing.{PicksUpAll, is_uneven, listed_by
 use crate::UnitOutageFault;
 use crate::takings::{Taking, takings_of};
 use csv_table::read_table;
-use market_data::{FACTOR_ONE, MOST_PICKUPS};
+use market_data::{SHARE_ONE, MOST_PICKUPS};
 use market_model::Pickup;
 use net_case::Network;
 use plain_list::{List, Memory};
@@ -75,7 +75,7 @@ fn is_uneven(takings: &[Taking], lost: usize) -> bool
     requires kept { (units : ℕ) × All (IsTaking units) takings.now }
     ensures { result ≡ is_uneven takings.now lost }
 {
-    share_sum(takings, lost) != FACTOR_ONE as i64
+    share_sum(takings, lost) != SHARE_ONE as i64
 }
 
 /// The first of these units whose shares are not all of its output.

@@ -4,7 +4,7 @@ use Rattle.std.proofs.lemmas.Int.{ints, to_z-of_z}
 use mir.Val.{to_z, of_z}
 use Rattle.fraction_theory.specs.Fraction.{over}
 use Rattle.fraction_theory.proofs.FieldLaws.{+ℚ_nil}
-use Rattle.market_data.specs.Scales.{factor_one}
+use Rattle.market_data.specs.Scales.{share_one}
 use Rattle.market_model.specs.LimitRows.{share_value}
 use Rattle.market_model.specs.NamedSums.{IsShareRefusal}
 use Rattle.market_model.specs.Valued.{passed_at}
@@ -15,7 +15,7 @@ returns-then-belongs-clause-cause g c =
     let value = g.N.Exact.value in
     let p = c.args.pickup.now in
     let fits : to_z w64 (of_z w64 p.share) ≡ p.share = to_z-of_z w64 p.share (record { sfits = omega (arith, ints, c.requires.pickup.above, c.requires.pickup.most) }) in
-    let share : value c.of_parts-share.result ≡ share_value p = c.of_parts-share.ensures ∙ ap (λ (z : ℤ). over z factor_one) fits in
+    let share : value c.of_parts-share.result ≡ share_value p = c.of_parts-share.ensures ∙ ap (λ (z : ℤ). over z share_one) fits in
     subst₂ (λ a b. IfErr c.with_product.result (λ passed. IsShareRefusal (value c.args.sum) a b g.N.Exact.bound (passed_at value passed))) share c.shift_for_unit.ensures c.with_product.ensures.cause
 
 pub returns-else-belongs-clause-sum : goal.returns-else-belongs-clause-sum

@@ -3,7 +3,7 @@ use Rattle.std.proofs.lemmas.Int.{to_z-of_z}
 use Rattle.std.proofs.lemmas.Result.{IfOk-weaker, IfErr-weaker}
 use mir.Val.{to_z, of_z}
 use Rattle.fraction_theory.specs.Fraction.{over}
-use Rattle.market_data.specs.Scales.{market_factor_one}
+use Rattle.market_data.specs.Scales.{factor_one}
 use Rattle.market_model.specs.declared.limits.Cause.{Cause}
 use Rattle.market_model.specs.LimitRows.{flow_by, flow_terms}
 use Rattle.market_model.specs.NamedSums.{IsRefusedIn}
@@ -36,7 +36,7 @@ returns-in-Branch-clause-flow g c =
     let known : to_z w64 (of_z w64 c.loss_of.result) ≡ c.loss_of.result = to_z-of_z w64 c.loss_of.result (record { sfits = c.loss_of.type_inv }) in
     IfOk-weaker c.with_share.result _ _
     (λ mw is.
-    flow_after m f l k _ _ _ own (ap (λ (z : ℤ). over z market_factor_one) (known ∙ c.loss_of.ensures.is)) gone (value mw) is
+    flow_after m f l k _ _ _ own (ap (λ (z : ℤ). over z factor_one) (known ∙ c.loss_of.ensures.is)) gone (value mw) is
     ∙ ap (λ (o : Cause). flow_by m f (record { line = l; cause = o })) (sym c.in-Branch.is))
     c.with_share.ensures.sum
 
@@ -61,7 +61,7 @@ returns-in-Branch-clause-cause g c =
       _,
       flow_of_row,
       subst (λ (o : Cause). IsRefusedIn (flow_terms m f (record { line = l; cause = o })) g.N.Exact.bound (passed_at value e)) (sym c.in-Branch.is)
-          (flow_refused m f l k _ _ _ own (ap (λ (z : ℤ). over z market_factor_one) (known ∙ c.loss_of.ensures.is)) gone g.N.Exact.bound (passed_at value e) h),
+          (flow_refused m f l k _ _ _ own (ap (λ (z : ℤ). over z factor_one) (known ∙ c.loss_of.ensures.is)) gone g.N.Exact.bound (passed_at value e) h),
     ))
     c.with_share.ensures.cause
 

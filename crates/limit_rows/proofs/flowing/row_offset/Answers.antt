@@ -3,7 +3,7 @@ use Rattle.std.proofs.lemmas.Int.{to_z-of_z}
 use Rattle.std.proofs.lemmas.Result.{IfOk-weaker, IfErr-weaker}
 use mir.Val.{to_z, of_z}
 use Rattle.fraction_theory.specs.Fraction.{over}
-use Rattle.market_data.specs.Scales.{market_factor_one}
+use Rattle.market_data.specs.Scales.{factor_one}
 use Rattle.market_model.specs.declared.limits.Cause.{Cause}
 use Rattle.market_model.specs.LimitRows.{row_offset, offset_terms}
 use Rattle.market_model.specs.NamedSums.{IsRefusedIn}
@@ -27,7 +27,7 @@ returns-in-Branch-clause-offset g c =
     let known : to_z w64 (of_z w64 c.loss_of.result) ≡ c.loss_of.result = to_z-of_z w64 c.loss_of.result (record { sfits = c.loss_of.type_inv }) in
     IfOk-weaker c.with_share.result _ _
     (λ mw is.
-    offset_after m c.args.row.line c.in-Branch.lost _ _ _ c.offset_of-own.ensures (ap (λ (z : ℤ). over z market_factor_one) (known ∙ c.loss_of.ensures.is)) c.offset_of.ensures (g.N.Exact.value mw) is
+    offset_after m c.args.row.line c.in-Branch.lost _ _ _ c.offset_of-own.ensures (ap (λ (z : ℤ). over z factor_one) (known ∙ c.loss_of.ensures.is)) c.offset_of.ensures (g.N.Exact.value mw) is
     ∙ ap (λ (o : Cause). row_offset m (record { line = c.args.row.line; cause = o })) (sym c.in-Branch.is))
     c.with_share.ensures.sum
 
@@ -39,5 +39,5 @@ returns-in-Branch-clause-cause g c =
     IfErr-weaker c.with_share.result _ _
     (λ e h.
     subst (λ (o : Cause). IsRefusedIn (offset_terms m (record { line = c.args.row.line; cause = o })) g.N.Exact.bound (passed_at value e)) (sym c.in-Branch.is)
-    (offset_refused m c.args.row.line c.in-Branch.lost _ _ _ c.offset_of-own.ensures (ap (λ (z : ℤ). over z market_factor_one) (known ∙ c.loss_of.ensures.is)) c.offset_of.ensures g.N.Exact.bound (passed_at value e) h))
+    (offset_refused m c.args.row.line c.in-Branch.lost _ _ _ c.offset_of-own.ensures (ap (λ (z : ℤ). over z factor_one) (known ∙ c.loss_of.ensures.is)) c.offset_of.ensures g.N.Exact.bound (passed_at value e) h))
     c.with_share.ensures.cause
