@@ -4,7 +4,8 @@ use Rattle.fraction_theory.specs.Divisors.{gcd, gcd_in}
 use Rattle.fraction_theory.specs.Fraction.{whole, over, ◌+ℚ◌, ◌*ℚ◌, neg_ℚ, same_fraction}
 use Rattle.market_model.specs.LimitRows.{rows, line_flow, row_factor, row_flow}
 use Rattle.market_model.specs.Optimality.{congestion_by, price_by}
-use Rattle.market_model.specs.Rights.{TransmissionRight, rights_injection, paid_to_rights}
+use Rattle.market_model.specs.declared.participants.TransmissionRight.{TransmissionRight}
+use Rattle.market_model.specs.Rights.{rights_injection, paid_to_rights}
 use Rattle.market_model.proofs.LimitCases.{mw, money, second, shunted, up_alone}
 
 -- MW from bus 1 to another, by place

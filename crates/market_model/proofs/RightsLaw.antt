@@ -16,7 +16,8 @@ use Rattle.market_model.specs.Dispatch.{zero, places}
 use Rattle.market_model.specs.Laws.{LawOfTheRights}
 use Rattle.market_model.specs.LimitRows.{rows, limit, flow, picked_up, row_flow, row_offset}
 use Rattle.market_model.specs.Optimality.{bus_price, net_shadow_price, up_of, down_of}
-use Rattle.market_model.specs.Rights.{TransmissionRight, IsTransmissionRight, rights_injection, paid_to_rights}
+use Rattle.market_model.specs.declared.participants.TransmissionRight.{TransmissionRight}
+use Rattle.market_model.specs.Rights.{IsTransmissionRight, rights_injection, paid_to_rights}
 use Rattle.market_model.proofs.PlaceSums.{gather_times}
 use Rattle.market_model.proofs.MarketSums.{sum_by-neg}
 use Rattle.market_model.proofs.Excesses.{nil_or_above}

@@ -14,7 +14,8 @@ use Rattle.market_model.specs.LimitRows.{rows, limit, picked_up, row_flow, row_o
 use Rattle.market_model.specs.Optimality.{Feasible, Supports, up_of, down_of, welfare}
 use Rattle.market_model.specs.Settlement.{rent, surplus}
 use Rattle.market_model.specs.Infeasibility.{ShowsInfeasible}
-use Rattle.market_model.specs.Rights.{TransmissionRight, IsTransmissionRight, AreFeasibleTogether, paid_to_rights}
+use Rattle.market_model.specs.declared.participants.TransmissionRight.{TransmissionRight}
+use Rattle.market_model.specs.Rights.{IsTransmissionRight, AreFeasibleTogether, paid_to_rights}
 use Rattle.market_model.specs.Overrun.{Within}
 
 -- a feasible dispatch that duals support has the greatest welfare of all feasible ones

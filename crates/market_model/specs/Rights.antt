@@ -1,20 +1,15 @@
 -- Rights to what limits earn (financial transmission rights): each is paid, for so many MW from one bus to another, what these are worth
 -- more there.
 -- Hogan, Contract Networks for Electric Power Transmission (1992): rights that flows could carry together are covered by the surplus.
-use Rattle.std.specs.Prelude.{◌==◌, ℕ, ◌<◌, ℤ, pos, ◌≤ℤ◌, List, ◌++◌, map, filter}
+use Rattle.std.specs.Prelude.{◌==◌, ℕ, ◌<◌, pos, ◌≤ℤ◌, List, ◌++◌, map, filter}
 use Rattle.fraction_theory.specs.Fraction.{Fraction, whole, neg_ℚ, ◌-ℚ◌}
 use Rattle.fraction_theory.specs.Sums.{Term, Plain, Product, total}
 use Rattle.market_model.specs.declared.answered.Duals.{Duals}
 use Rattle.market_model.specs.declared.participants.Parts.{Parts}
+use Rattle.market_model.specs.declared.participants.TransmissionRight.{TransmissionRight}
 use Rattle.market_model.specs.Dispatch.{zero}
 use Rattle.market_model.specs.LimitRows.{rows, limit, row_flow}
 use Rattle.market_model.specs.Optimality.{AreWithin, bus_price}
-
--- so many 10^-9 MW from a bus to another, by place
-pub record TransmissionRight : Type 0 where
-  pub from : ℕ
-  pub to : ℕ
-  pub mw : ℤ
 
 -- between two of so many buses
 pub record IsTransmissionRight (buses : ℕ) (t : TransmissionRight) : Type 0 where

@@ -87,6 +87,18 @@ pub struct Pickup {
     pub share: i64,
 }
 
+/// A right to what limits earn (financial transmission right): it is paid, for so many MW, the price where it ends less that where it
+/// begins.
+#[derive(Clone, Copy, PartialEq, Eq, Debug)]
+pub struct TransmissionRight {
+    /// The place of the bus where it begins.
+    pub from: usize,
+    /// The place of the bus where it ends.
+    pub to: usize,
+    /// In 10^-9 MW, at least 0.
+    pub mw: i64,
+}
+
 /// What a market is made of.
 #[derive(Drop, Debug)]
 pub struct Parts {
