@@ -6,16 +6,16 @@ use Rattle.market_model.specs.declared.stops.Stop.{Stop}
 use Rattle.market_model.specs.declared.stops.Stop.TheVariants as stop
 use Rattle.market_model.specs.Stops.{StopsBy}
 use Rattle.market_model.specs.Valued.{dual_at, passed_at}
-use Rattle.cert_format.specs.Certificates.{cert_at}
+use Rattle.cert_format.specs.Certificates.{cert_at, places_of}
 use Rattle.cert_format.specs.declared.certificate.Cert.{Cert}
 use Rattle.cert_format.specs.declared.certificate.Cert.TheVariants.{Optimal, Farkas}
-use Rattle.cert_verify.specs.Stops.{IsCertificateStop, IsVerifyStop, told_stop}
+use Rattle.cert_verify.specs.Stops.{IsKindStop, IsVerifyStop, told_stop}
 use Rattle.cert_verify.proofs.verifying.verify.Goals as goal
 
 -- what is known of a stop is known of what it is told as
-stopped : {N : Type 0} (value : N → Fraction) (m : Parts) (k : ℕ) (c d : Cert Fraction) → c ≡ d → (s : Stop N) → StopsBy value (IsCertificateStop m k d) s → IsVerifyStop value m k c (told_stop s)
-stopped value m k c d same (stop.Passed p) h = subst (λ e. IsCertificateStop m k e (passed_at value p)) (sym same) h
-stopped value m k c d same stop.Memory h = tt
+stopped : {N : Type 0} (value : N → Fraction) (m : Parts) (k : ℕ) (c d : Cert Fraction) → places_of c ≡ m.places → c ≡ d → (s : Stop N) → StopsBy value (IsKindStop m k d) s → IsVerifyStop value m k c (told_stop s)
+stopped value m k c d places same (stop.Passed p) h = record { places = places; refused = subst (λ e. IsKindStop m k e (passed_at value p)) (sym same) h }
+stopped value m k c d places same stop.Memory h = tt
 
 pub returns-in_err-reason-in-Optimal-clause-cause : goal.returns-in_err-reason-in-Optimal-clause-cause
 returns-in_err-reason-in-Optimal-clause-cause g c =
