@@ -1,6 +1,6 @@
 -- The places of factors that a certificate tells, and those of a market.
 use Rattle.std.specs.Prelude.{◌≡◌, ◌==◌, true, None, Option, List, ◌∷◌, refl}
-use Rattle.std.proofs.Common.{ap, sym, ◌∙◌}
+use Rattle.std.proofs.Common.{ap, sym}
 use Rattle.std.proofs.lemmas.Bool.{eq-eqb, true≢false}
 use Rattle.fraction_theory.specs.Fraction.{Fraction}
 use Rattle.market_data.specs.Scales.{place_count}
