@@ -70,11 +70,11 @@ const BOTH: &str =
 const INFEASIBLE: &str = "infeasible\nbound -2\nenergy -1\nlimit 2 base up 2 down 0\n";
 
 const FARKAS: &[u8] =
-    b"{\"energy\":\"-1/1\",\"kind\":\"farkas\",\"limits\":[{\"branch\":2,\"down\":\"0/1\",\"outage\":0,\"up\":\"2/1\"}],\"version\":1}";
+    b"{\"energy\":\"-1/1\",\"kind\":\"farkas\",\"limits\":[{\"branch\":2,\"down\":\"0/1\",\"outage\":0,\"up\":\"2/1\"}],\"places\":6,\"version\":2}";
 
 /// A dispatch of 60 and 0 that names no limit.
 const UNNAMED: &[u8] =
-    b"{\"blocks\":[\"60000000000/1\",\"0/1\"],\"energy\":\"10000000/1\",\"kind\":\"optimal\",\"limits\":[],\"version\":1}";
+    b"{\"blocks\":[\"60000000000/1\",\"0/1\"],\"energy\":\"10000000/1\",\"kind\":\"optimal\",\"limits\":[],\"places\":6,\"version\":2}";
 
 /// Whether a command ended with a status and a text.
 fn tells(told: &Told, status: Status, text: &str) -> bool {

@@ -34,7 +34,7 @@ const OFFERS: &[u8] = b"unit,side,mw,price\n1,sell,100,10\n2,sell,100,30\n";
 
 /// Prices of 40 at the limit.
 const CERTIFICATE: &[u8] =
-    b"{\"blocks\":[\"50000000000/1\",\"10000000000/1\"],\"energy\":\"10000000/1\",\"kind\":\"optimal\",\"limits\":[{\"branch\":2,\"down\":\"0/1\",\"outage\":0,\"up\":\"40000000/1\"}],\"version\":1}";
+    b"{\"blocks\":[\"50000000000/1\",\"10000000000/1\"],\"energy\":\"10000000/1\",\"kind\":\"optimal\",\"limits\":[{\"branch\":2,\"down\":\"0/1\",\"outage\":0,\"up\":\"40000000/1\"}],\"places\":6,\"version\":2}";
 
 /// Compares a status, and how the text begins.
 fn expect<R: Abort>(rt: &R, told: &Told, status: Status, start: &[u8]) {

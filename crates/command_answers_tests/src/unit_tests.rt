@@ -76,11 +76,11 @@ const FEWER: &str =
 
 /// The dispatch of the worked market at prices that would support it if unit 1 were paid the price at its bus.
 const AT_ITS_BUS: &[u8] =
-    b"{\"blocks\":[\"56000000000/1\",\"0/1\",\"4000000000/1\"],\"energy\":\"10000000/1\",\"kind\":\"optimal\",\"limits\":[{\"branch\":3,\"down\":\"0/1\",\"outage\":0,\"unit\":1,\"up\":\"120000000/1\"}],\"version\":1}";
+    b"{\"blocks\":[\"56000000000/1\",\"0/1\",\"4000000000/1\"],\"energy\":\"10000000/1\",\"kind\":\"optimal\",\"limits\":[{\"branch\":3,\"down\":\"0/1\",\"outage\":0,\"unit\":1,\"up\":\"120000000/1\"}],\"places\":6,\"version\":2}";
 
 /// A dispatch that unit 1's loss does not stand.
 const ALL_OF_ONE: &[u8] =
-    b"{\"blocks\":[\"60000000000/1\",\"0/1\",\"0/1\"],\"energy\":\"10000000/1\",\"kind\":\"optimal\",\"limits\":[],\"version\":1}";
+    b"{\"blocks\":[\"60000000000/1\",\"0/1\",\"0/1\"],\"energy\":\"10000000/1\",\"kind\":\"optimal\",\"limits\":[],\"places\":6,\"version\":2}";
 
 const OFFERS: &str = "1,sell,100,10\n2,sell,100,30\n3,sell,100,40\n";
 

@@ -137,6 +137,7 @@ key_name key.Kind = codes "kind"
 key_name key.Energy = codes "energy"
 key_name key.Blocks = codes "blocks"
 key_name key.Limits = codes "limits"
+key_name key.Places = codes "places"
 key_name key.Extra = codes "extra"
 
 -- a file that is too long, with the most bytes of a file

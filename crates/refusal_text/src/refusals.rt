@@ -323,6 +323,7 @@ fn key_word(key: Key) -> &'static [u8]
         Key::Energy => b"energy",
         Key::Blocks => b"blocks",
         Key::Limits => b"limits",
+        Key::Places => b"places",
         Key::Extra => b"extra",
     }
 }
